@@ -1,0 +1,6 @@
+//! The outside of the program: where bytes come from and where they go.
+#![tactic(auto)]
+
+mod errors;
+
+pub use errors::{Failed, NoMemory};
