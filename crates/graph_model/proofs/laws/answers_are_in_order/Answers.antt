@@ -1,0 +1,5 @@
+use Rattle.graph_model.proofs.RunLemmas.{run-append}
+use Rattle.graph_model.proofs.laws.answers_are_in_order.Goals as goal
+
+pub returns : goal.returns
+returns c = run-append

@@ -1,0 +1,12 @@
+pub mod Limits
+pub mod Rooms
+pub mod Graphs
+pub mod States
+pub mod Commands
+pub mod Refusals
+pub mod Changes
+pub mod Replies
+pub mod Steps
+pub mod Lines
+pub mod Runs
+pub mod Laws

@@ -1,0 +1,13 @@
+//! Laws over the definitions, each the contract of a function that does nothing.
+ghost use Rattle.graph_model.specs.Laws.{AnswersAreInOrder, RefusedChangesNothing};
+
+/// No answer is lost or out of order: a run over lines that come one after the other is the run over
+/// the first of them, and then over the others.
+pub fn answers_are_in_order()
+    ensures { AnswersAreInOrder }
+{}
+
+/// A refused command leaves the whole state.
+pub fn refused_changes_nothing()
+    ensures { RefusedChangesNothing }
+{}

@@ -1,0 +1,13 @@
+//! What a transaction graph is: its definitions, and the plain types that every layer speaks of.
+//!
+//! The definitions stand in `specs/`, one file a subject: limits, graphs, states, commands, refusals,
+//! changes, replies, steps, lines and runs.
+#![tactic(auto)]
+
+mod ids;
+mod laws;
+mod names;
+
+pub use ids::{IdBuf, IdList};
+pub use laws::{answers_are_in_order, refused_changes_nothing};
+pub use names::{Level, Limits, Refusal, TxId};

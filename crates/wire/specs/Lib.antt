@@ -1,0 +1,5 @@
+pub mod Fields
+pub mod Readings
+pub mod Digits
+pub mod Forms
+pub mod Pieces

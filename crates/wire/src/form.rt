@@ -1,0 +1,26 @@
+ghost use Rattle.wire.specs.Fields.{ReadsAs, Always};
+ghost use Rattle.wire.specs.Forms.{form_word};
+
+/// Which command a line is, by its first word.
+#[derive(Clone, Copy, Debug, PartialEq, Eq)]
+pub(crate) enum Form {
+    Add,
+    Dep,
+    Ancestors,
+    Descendants,
+    Count,
+}
+
+/// The command whose first word this is.
+pub(crate) fn form_of(word: &[u8]) -> Option<Form>
+    ensures { ReadsAs form_word Always word.now result }
+{
+    match word {
+        b"add" => Some(Form::Add),
+        b"dep" => Some(Form::Dep),
+        b"ancestors" => Some(Form::Ancestors),
+        b"descendants" => Some(Form::Descendants),
+        b"count" => Some(Form::Count),
+        _ => None,
+    }
+}

@@ -1,0 +1,11 @@
+//! The text of commands and replies: what a line says, and the bytes of each reply.
+#![tactic(auto)]
+
+mod form;
+mod line;
+mod numbers;
+mod words;
+mod write;
+
+pub use line::{Line, read_line};
+pub use write::{write_refusal, write_word};

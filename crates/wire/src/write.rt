@@ -1,0 +1,95 @@
+ghost use Rattle.std.specs.Prelude.{◌≡◌, ℕ, ◌∷◌, ◌++◌, Option, decimal};
+ghost use Rattle.outside.specs.Transfers.{Writes};
+ghost use Rattle.graph_model.specs.Replies.{line_text, refusal_text, refusal_words};
+ghost use Rattle.graph_model.specs.Commands.{spaced};
+ghost use Rattle.wire.specs.Pieces.{GoesOn, number_after, kept_of};
+
+use graph_model::Refusal;
+use itoa::Buffer;
+use outside::{Failed, Sink};
+
+/// Writes a word as a line.
+pub fn write_word<K: Sink>(sink: &mut K, word: &str) -> Result<(), Failed>
+    ensures { Writes (K.written sink.old) (K.written sink.new) (K.faults sink.old) (K.faults sink.new) result (line_text word.now) }
+{
+    let so_far = sink.write_all(word.as_bytes());
+    more(so_far, sink, b"\n")
+}
+
+/// Goes on with the next piece of a line where all so far was written.
+fn more<K: Sink>(so_far: Result<(), Failed>, sink: &mut K, piece: &[u8]) -> Result<(), Failed>
+    ensures { GoesOn so_far (K.written sink.old) (K.written sink.new) (K.faults sink.old) (K.faults sink.new) result piece.now }
+{
+    match so_far {
+        Ok(()) => sink.write_all(piece),
+        Err(failed) => Err(failed),
+    }
+}
+
+/// Goes on with a space and a number.
+fn more_number<K: Sink>(so_far: Result<(), Failed>, sink: &mut K, n: u64) -> Result<(), Failed>
+    ensures { GoesOn so_far (K.written sink.old) (K.written sink.new) (K.faults sink.old) (K.faults sink.new) result (32 ∷ decimal n) }
+{
+    let mut buffer = Buffer::new();
+    let so_far = more(so_far, sink, b" ");
+    more(so_far, sink, buffer.format(n).as_bytes())
+}
+
+/// Goes on with a space and a number where there is one.
+fn more_kept<K: Sink>(
+    so_far: Result<(), Failed>,
+    sink: &mut K,
+    kept: Option<u64>,
+) -> Result<(), Failed>
+    ensures { GoesOn so_far (K.written sink.old) (K.written sink.new) (K.faults sink.old) (K.faults sink.new) result (number_after kept) }
+{
+    match kept {
+        Some(n) => more_number(so_far, sink, n),
+        None => more(so_far, sink, b""),
+    }
+}
+
+/// Writes a refusal as a line.
+pub fn write_refusal<K: Sink>(sink: &mut K, refusal: &Refusal) -> Result<(), Failed>
+    ensures { Writes (K.written sink.old) (K.written sink.new) (K.faults sink.old) (K.faults sink.new) result (refusal_text refusal.now) }
+{
+    let so_far = sink.write_all(b"refused ");
+    let so_far = more(so_far, sink, refusal_word(refusal).as_bytes());
+    let so_far = more_kept(so_far, sink, kept_number(refusal));
+    more(so_far, sink, b"\n")
+}
+
+/// The word that names a refusal.
+fn refusal_word(refusal: &Refusal) -> &'static str
+    ensures { (kept : Option ℕ) → kept ≡ kept_of refusal.now → spaced (refusal_words refusal.now) ≡ result.now ++ number_after kept }
+{
+    match refusal {
+        Refusal::Late => "late",
+        Refusal::Range => "range",
+        Refusal::Fee => "fee",
+        Refusal::Size => "size",
+        Refusal::Taken => "taken",
+        Refusal::ClusterSize(_) => "clustersize",
+        Refusal::Full => "full",
+        Refusal::Unknown(_) => "unknown",
+        Refusal::Cycle => "cycle",
+        Refusal::Count(_) => "count",
+        Refusal::Staging => "staging",
+        Refusal::Twice(_) => "twice",
+        Refusal::Parent(_) => "parent",
+        Refusal::Empty => "empty",
+        Refusal::NoStaging => "nostaging",
+        Refusal::Memory => "memory",
+    }
+}
+
+/// The number that a refusal keeps.
+fn kept_number(refusal: &Refusal) -> Option<u64>
+    ensures { result ≡ kept_of refusal.now }
+{
+    match refusal {
+        Refusal::ClusterSize(n) | Refusal::Unknown(n) | Refusal::Count(n) => Some(*n),
+        Refusal::Twice(n) | Refusal::Parent(n) => Some(*n),
+        _ => None,
+    }
+}
