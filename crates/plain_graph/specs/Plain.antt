@@ -1,0 +1,50 @@
+-- The plain graph: a list of transactions and a list of pairs. It is the slow program that the
+-- definitions name, and stands for their states.
+use Rattle.std.specs.Prelude.{◌≡◌, ℕ, ◌+◌, Bool, true, false, List, [], ◌∷◌, map, find, length, option_and_then, Option, None, Some, Ok, Err, Result, ◌==◌, if◌then◌else◌}
+use Rattle.std.specs.FinMap as finmap
+use Rattle.graph_model.specs.declared.names.Limits.{Limits}
+use Rattle.graph_model.specs.declared.names.Refusal.{Refusal}
+use Rattle.graph_model.specs.States.{State, Entry}
+use Rattle.graph_model.specs.Commands.{Command}
+use Rattle.graph_model.specs.Replies.{Reply, Refused, Done, Ids}
+use Rattle.graph_model.specs.Steps.{Step}
+use Rattle.plain_graph.specs.declared.tx.Tx.{Tx}
+
+-- what the plain graph keeps
+pub record Kept : Type 0 where
+  pub limits : Limits
+  pub begun : Bool
+  pub txs : List Tx
+  pub pairs : List (ℕ × ℕ)
+  -- the names that the last reading found
+  pub found : List ℕ
+  -- how many additions were accepted
+  pub additions : ℕ
+
+-- the entry of a name in a list of transactions
+abbrev pub entry_in : List Tx → ℕ → Option Entry
+entry_in [] id = None
+entry_in (tx ∷ txs) id = if tx.id == id then Some (record { fee = tx.fee; size = tx.size }) else entry_in txs id
+
+-- a plain graph stands for the state with its names in their order, its pairs and its table
+pub record StandsFor (kept : Kept) (state : State) : Type 0 where
+  pub limits : state.limits ≡ kept.limits
+  pub begun : state.begun ≡ kept.begun
+  pub table : (id : ℕ) → finmap.get state.table id ≡ entry_in kept.txs id
+  pub live : finmap.len state.table ≡ length kept.txs
+  pub names : state.main.graph.names ≡ map (λ tx. tx.id) kept.txs
+  pub pairs : state.main.graph.pairs ≡ kept.pairs
+  pub staging : state.staging ≡ None
+
+-- From every state that the graph stood for, the call is a step of the machine to one that it stands for now.
+abbrev pub Steps : Kept → Kept → Command → Reply → Type 0
+Steps old new command reply = (state : State) → StandsFor old state → (next : State) × StandsFor new next × Step state command reply next
+
+-- the reply of a change, and of a reading of names
+abbrev pub change_reply : {T : Type 0} → Result T Refusal → Reply
+change_reply (Ok done) = Done
+change_reply (Err why) = Refused why
+
+abbrev pub names_reply : {T : Type 0} → Result T Refusal → List ℕ → Reply
+names_reply (Ok done) found = Ids found
+names_reply (Err why) found = Refused why

@@ -1,0 +1,8 @@
+//! The plain graph: transactions and dependencies as two lists. It is slow, and easy to read: the
+//! program that the definitions name, beside which every faster one is tested.
+#![tactic(auto)]
+
+mod plain;
+mod tx;
+
+pub use plain::Plain;
