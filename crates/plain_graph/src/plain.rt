@@ -50,6 +50,13 @@ impl Plain {
         })
     }
 
+    /// How many additions were accepted.
+    pub fn additions(&self) -> u64
+        ensures { result ≡ self.now.additions }
+    {
+        self.additions
+    }
+
     /// `add`
     pub fn add(&mut self, id: TxId, fee: i64, size: u64) -> Result<(), Refusal>
         requires { self.old.additions < 2 ^ 64 - 1 }

@@ -1,9 +1,9 @@
 -- Pieces that are written one after the other.
-use Rattle.std.proofs.Common.{◌≡◌, ℕ, ◌≤◌, List, ◌++◌, Option, Ok, Err, Result, refl, sym, arith, append_assoc, ◌∙◌, ap, ◌∷◌, codes}
+use Rattle.std.proofs.Common.{◌≡◌, ℕ, ◌≤◌, List, ◌++◌, Option, Ok, Err, Result, refl, sym, arith, append_assoc, ◌∙◌, ap, ◌∷◌, [], codes, map, decimal, append-nil}
 use Rattle.std.specs.Io.KnownBytes.{Appends}
 use Rattle.std.proofs.KnownBytes.{Appends-trans}
 use Rattle.outside.specs.Transfers.{Writes, AppendsFront}
-use Rattle.wire.specs.Pieces.{GoesOn}
+use Rattle.wire.specs.Pieces.{GoesOn, numbers_text}
 use Rattle.graph_model.specs.Commands.{spaced}
 use Rattle.graph_model.specs.Replies.{refusal_words}
 use Rattle.graph_model.specs.declared.names.Refusal.{Refusal}
@@ -61,3 +61,8 @@ refusal_line (Parent n) = refl
 refusal_line Empty = refl
 refusal_line NoStaging = refl
 refusal_line Memory = refl
+
+-- a word and numbers with one space between them
+pub spaced_numbers : (head : List ℕ) (ids : List ℕ) → spaced (head ∷ map decimal ids) ≡ head ++ numbers_text ids
+spaced_numbers head [] = sym (append-nil head)
+spaced_numbers head (id ∷ ids) = ap (λ (xs : List ℕ). head ++ 32 ∷ xs) (spaced_numbers (decimal id) ids)

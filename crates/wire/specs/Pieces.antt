@@ -1,5 +1,5 @@
 -- A line that is written in pieces.
-use Rattle.std.specs.Prelude.{◌≡◌, ℕ, List, [], ◌∷◌, decimal, Option, None, Some, Ok, Err, Result}
+use Rattle.std.specs.Prelude.{◌≡◌, ℕ, List, [], ◌∷◌, decimal, Option, None, Some, Ok, Err, Result, flat_map}
 use Rattle.outside.specs.Transfers.{Writes}
 use Rattle.graph_model.specs.declared.names.Refusal.{Refusal}
 use Rattle.graph_model.specs.declared.names.Refusal.TheVariants.{Late, Range, Fee, Size, Taken, ClusterSize, Full, Unknown, Cycle, Count, Staging, Twice, Parent, Empty, NoStaging, Memory}
@@ -32,3 +32,7 @@ kept_of (Parent id) = Some id
 kept_of Empty = None
 kept_of NoStaging = None
 kept_of Memory = None
+
+-- numbers, each after a space
+abbrev pub numbers_text : List ℕ → List ℕ
+numbers_text ids = flat_map (λ id. 32 ∷ decimal id) ids

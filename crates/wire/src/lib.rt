@@ -8,4 +8,4 @@ mod words;
 mod write;
 
 pub use line::{Line, read_line};
-pub use write::{write_refusal, write_word};
+pub use write::{write_ids, write_refusal, write_word};

@@ -1,8 +1,8 @@
-ghost use Rattle.std.specs.Prelude.{◌≡◌, ℕ, ◌∷◌, ◌++◌, Option, decimal};
+ghost use Rattle.std.specs.Prelude.{◌≡◌, ℕ, ◌∷◌, ◌++◌, Option, decimal, map};
 ghost use Rattle.outside.specs.Transfers.{Writes};
 ghost use Rattle.graph_model.specs.Replies.{line_text, refusal_text, refusal_words};
 ghost use Rattle.graph_model.specs.Commands.{spaced};
-ghost use Rattle.wire.specs.Pieces.{GoesOn, number_after, kept_of};
+ghost use Rattle.wire.specs.Pieces.{GoesOn, number_after, numbers_text, kept_of};
 
 use graph_model::Refusal;
 use itoa::Buffer;
@@ -92,4 +92,28 @@ fn kept_number(refusal: &Refusal) -> Option<u64>
         Refusal::Twice(n) | Refusal::Parent(n) => Some(*n),
         _ => None,
     }
+}
+
+/// Goes on with a space and a number for each of these.
+fn more_numbers<K: Sink>(
+    so_far: Result<(), Failed>,
+    sink: &mut K,
+    ids: &[u64],
+) -> Result<(), Failed>
+    ensures { GoesOn so_far (K.written sink.old) (K.written sink.new) (K.faults sink.old) (K.faults sink.new) result (numbers_text ids.now) }
+{
+    let mut so_far = so_far;
+    for id in ids {
+        so_far = more_number(so_far, sink, *id);
+    }
+    so_far
+}
+
+/// Writes a line of a word and numbers: names in their order, or a count.
+pub fn write_ids<K: Sink>(sink: &mut K, head: &str, ids: &[u64]) -> Result<(), Failed>
+    ensures { Writes (K.written sink.old) (K.written sink.new) (K.faults sink.old) (K.faults sink.new) result (line_text (spaced (head.now ∷ map decimal ids.now))) }
+{
+    let so_far = sink.write_all(head.as_bytes());
+    let so_far = more_numbers(so_far, sink, ids);
+    more(so_far, sink, b"\n")
 }

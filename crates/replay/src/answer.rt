@@ -1,0 +1,63 @@
+ghost use Rattle.std.specs.Prelude.{◌≡◌};
+ghost use Rattle.graph_model.specs.Runs.{answer_text};
+ghost use Rattle.outside.specs.Transfers.{Writes};
+ghost use Rattle.replay.specs.Answers.{answer_of, outcome_of};
+
+use graph_model::{Refusal, TxId};
+use outside::{Failed, Sink};
+use wire::{write_ids, write_refusal, write_word};
+
+/// How a line was answered.
+#[derive(Clone, Copy, Debug, PartialEq, Eq)]
+pub enum Outcome {
+    /// The line was empty or a comment, and got no reply.
+    Quiet,
+    /// The command was accepted.
+    Accepted,
+    /// The line was refused, with the number of the refusal: 1 where it was too long, 2 where it
+    /// was no command, else the number of `Refusal`.
+    Refused(u8),
+}
+
+/// The answer to a line, before it is written.
+#[derive(Clone, Copy, Debug, PartialEq, Eq)]
+pub(crate) enum Answer {
+    Silence,
+    TooLong,
+    Unread,
+    Refused(Refusal),
+    Done,
+    /// the names that the graph found
+    Names,
+    Number(u64),
+}
+
+impl Answer {
+    /// What is told of the answer beside its text.
+    pub(crate) fn outcome(&self, found: &[TxId]) -> Outcome
+        ensures { result ≡ outcome_of (answer_of self.now found.now) }
+    {
+        match self {
+            Answer::Silence => Outcome::Quiet,
+            Answer::TooLong => Outcome::Refused(1),
+            Answer::Unread => Outcome::Refused(2),
+            Answer::Refused(why) => Outcome::Refused(why.number()),
+            Answer::Done | Answer::Names | Answer::Number(_) => Outcome::Accepted,
+        }
+    }
+
+    /// Writes the text of the answer.
+    pub(crate) fn write<K: Sink>(&self, found: &[TxId], sink: &mut K) -> Result<(), Failed>
+        ensures { Writes (K.written sink.old) (K.written sink.new) (K.faults sink.old) (K.faults sink.new) result (answer_text (answer_of self.now found.now)) }
+    {
+        match self {
+            Answer::Silence => Ok(()),
+            Answer::TooLong => write_word(sink, "refused line"),
+            Answer::Unread => write_word(sink, "refused syntax"),
+            Answer::Refused(why) => write_refusal(sink, why),
+            Answer::Done => write_word(sink, "ok"),
+            Answer::Names => write_ids(sink, "ids", found),
+            Answer::Number(n) => write_ids(sink, "count", &[*n]),
+        }
+    }
+}
