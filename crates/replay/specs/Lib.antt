@@ -1,2 +1,6 @@
 pub mod Answers
 pub mod Sessions
+pub mod Inputs
+pub mod Outputs
+pub mod Statuses
+pub mod Progress

@@ -1,4 +1,4 @@
-ghost use Rattle.std.specs.Prelude.{◌≡◌};
+ghost use Rattle.std.specs.Prelude.{◌≡◌, IfOk};
 ghost use Rattle.graph_model.specs.Runs.{answer_text};
 ghost use Rattle.outside.specs.Transfers.{Writes};
 ghost use Rattle.replay.specs.Answers.{answer_of, outcome_of};
@@ -33,8 +33,19 @@ pub(crate) enum Answer {
 }
 
 impl Answer {
+    /// Writes the text of the answer, and tells the outcome.
+    pub(crate) fn tell<K: Sink>(&self, found: &[TxId], sink: &mut K) -> Result<Outcome, Failed>
+        ensures written { Writes (K.written sink.old) (K.written sink.new) (K.faults sink.old) (K.faults sink.new) result (answer_text (answer_of self.now found.now)) }
+        ensures told { IfOk result (λ outcome. outcome ≡ outcome_of (answer_of self.now found.now)) }
+    {
+        match self.write(found, sink) {
+            Ok(()) => Ok(self.outcome(found)),
+            Err(failed) => Err(failed),
+        }
+    }
+
     /// What is told of the answer beside its text.
-    pub(crate) fn outcome(&self, found: &[TxId]) -> Outcome
+    fn outcome(&self, found: &[TxId]) -> Outcome
         ensures { result ≡ outcome_of (answer_of self.now found.now) }
     {
         match self {
@@ -47,7 +58,7 @@ impl Answer {
     }
 
     /// Writes the text of the answer.
-    pub(crate) fn write<K: Sink>(&self, found: &[TxId], sink: &mut K) -> Result<(), Failed>
+    fn write<K: Sink>(&self, found: &[TxId], sink: &mut K) -> Result<(), Failed>
         ensures { Writes (K.written sink.old) (K.written sink.new) (K.faults sink.old) (K.faults sink.new) result (answer_text (answer_of self.now found.now)) }
     {
         match self {

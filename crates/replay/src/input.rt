@@ -1,0 +1,46 @@
+ghost use Rattle.std.specs.Prelude.{◌≡◌, ◌≤◌, IfOk};
+ghost use Rattle.outside.specs.Faults.{Rose};
+ghost use Rattle.replay.specs.Inputs.{ReadsTo};
+
+use outside::{NoMemory, Source};
+use std::alloc::Global;
+
+/// The most bytes that are read.
+const MAX_INPUT: usize = 268_435_456;
+
+/// How reading ended.
+#[derive(Clone, Copy, Debug, PartialEq, Eq)]
+pub(crate) enum End {
+    /// The source answered its end.
+    Told,
+    /// A read failed.
+    Fault,
+    /// A byte past the limit came.
+    Limit,
+}
+
+/// What was read, within the limit.
+#[derive(Drop)]
+pub(crate) struct Input {
+    pub(crate) bytes: Vec<u8>,
+    pub(crate) end: End,
+}
+
+/// Reads a source to its end, to a fault, or past the limit.
+pub(crate) fn read_input<S: Source>(alloc: Global, source: &mut S) -> Result<Input, NoMemory>
+    ensures reads { IfOk result (λ input. ReadsTo input.end (S.left source.old) (S.left source.new) input.bytes.items) }
+    ensures cause { IfOk result (λ input. input.end ≡ End.Fault → Rose (S.faults source.old) (S.faults source.new)) }
+    ensures later { S.faults source.old ≤ S.faults source.new }
+{
+    let mut bytes = Vec::new(alloc);
+    let mut chunk = [0; 65_536];
+    while bytes.len() <= MAX_INPUT {
+        match source.read(&mut chunk) {
+            Ok(0) => return Ok(Input { bytes, end: End::Told }),
+            Ok(count) => bytes.extend_from_slice(&chunk[..count])?,
+            Err(_) => return Ok(Input { bytes, end: End::Fault }),
+        }
+    }
+    bytes.truncate(MAX_INPUT);
+    Ok(Input { bytes, end: End::Limit })
+}

@@ -4,8 +4,11 @@
 mod answer;
 mod input;
 mod lines;
-mod run;
 mod session;
+#[cfg(test)]
+mod tests;
+mod top;
 
 pub use answer::Outcome;
 pub use session::{Piece, Session};
+pub use top::{Status, run};

@@ -1,6 +1,8 @@
 ghost use Rattle.std.specs.Prelude.{◌≡◌, ℕ, ◌+◌, ◌-◌, ◌^◌, ◌<◌, ◌≤◌, List, length, IfOk};
 ghost use Rattle.graph_model.specs.Runs.{answer_text};
 ghost use Rattle.graph_model.specs.Runs as runs;
+ghost use Rattle.graph_model.specs.Lines.{max_line, Means};
+ghost use Rattle.wire.specs.Readings.{meaning_of};
 ghost use Rattle.outside.specs.Transfers.{Writes};
 ghost use Rattle.replay.specs.Answers.{answer_of};
 ghost use Rattle.plain_graph.specs.Plain.{change_reply, names_reply};
@@ -83,9 +85,7 @@ impl<const W: usize> Session<W> {
         ensures additions { self.new.additions ≤ self.old.additions + 1 }
     {
         let answer = self.answer(piece);
-        let found = self.graph.found();
-        answer.write(found, sink)?;
-        Ok(answer.outcome(found))
+        answer.tell(self.graph.found(), sink)
     }
 
     /// The answer to a line, after the graph has changed.
@@ -95,19 +95,31 @@ impl<const W: usize> Session<W> {
         ensures additions { self.new.additions ≤ self.old.additions + 1 }
     {
         match piece {
-            Piece::Whole(bytes) if bytes.len() <= MAX_LINE => self.read(bytes),
-            _ => Answer::TooLong,
+            Piece::Whole(bytes) => self.read(bytes),
+            Piece::TooLong => Answer::TooLong,
         }
     }
 
-    /// The answer to a line that isn't too long.
+    /// The answer to a line of these bytes.
     fn read(&mut self, bytes: &[u8]) -> Answer
-        requires few { self.old.additions < 2 ^ 64 - 1 }
-        requires short { length bytes.now ≤ 65536 }
+        requires { self.old.additions < 2 ^ 64 - 1 }
         ensures line { Answers self.old self.new bytes.now (answer_of result self.new.found) }
         ensures additions { self.new.additions ≤ self.old.additions + 1 }
     {
-        match read_line(bytes, &mut self.ids) {
+        if bytes.len() > MAX_LINE {
+            return Answer::TooLong;
+        }
+        let line = read_line(bytes, &mut self.ids);
+        self.follow(line)
+    }
+
+    /// The answer to what a line says.
+    fn follow(&mut self, line: Line) -> Answer
+        requires { self.old.additions < 2 ^ 64 - 1 }
+        ensures line { (bytes : List ℕ) → length bytes ≤ max_line → Means bytes (meaning_of line) → Answers self.old self.new bytes (answer_of result self.new.found) }
+        ensures additions { self.new.additions ≤ self.old.additions + 1 }
+    {
+        match line {
             Line::Quiet => Answer::Silence,
             Line::Syntax => Answer::Unread,
             Line::Add(id, fee, size) => changed(self.graph.add(id, fee, size)),

@@ -3,28 +3,21 @@ use Rattle.std.proofs.Common.{◌≡◌, ℕ, ◌≤◌, List, ◌++◌, Option,
 use Rattle.std.specs.Io.KnownBytes.{Appends}
 use Rattle.std.proofs.KnownBytes.{Appends-trans}
 use Rattle.outside.specs.Transfers.{Writes, AppendsFront}
+use Rattle.outside.proofs.Fronts.{AppendsFront-after, AppendsFront-longer}
 use Rattle.wire.specs.Pieces.{GoesOn, numbers_text}
 use Rattle.graph_model.specs.Commands.{spaced}
 use Rattle.graph_model.specs.Replies.{refusal_words}
 use Rattle.graph_model.specs.declared.names.Refusal.{Refusal}
 use Rattle.graph_model.specs.declared.names.Refusal.TheVariants.{Late, Range, Fee, Size, Taken, ClusterSize, Full, Unknown, Cycle, Count, Staging, Twice, Parent, Empty, NoStaging, Memory}
 
-later_front : (a b c : Option (List ℕ)) (first second : List ℕ) → Appends a b first → AppendsFront b c second → AppendsFront a c (first ++ second)
-later_front a b c first second done more =
-    (first ++ more.0, (more.1.0, append_assoc first more.0 more.1.0 ∙ ap (λ (xs : List ℕ). first ++ xs) more.1.1), Appends-trans a b c first more.0 done more.2)
-
-front_of_first : (a b : Option (List ℕ)) (first second : List ℕ) → AppendsFront a b first → AppendsFront a b (first ++ second)
-front_of_first a b first second part =
-    (part.0, (part.1.0 ++ second, sym (append_assoc part.0 part.1.0 second) ∙ ap (λ (xs : List ℕ). xs ++ second) part.1.1), part.2)
-
 after_ok : {T E : Type 0} (a b c : Option (List ℕ)) (p q s : ℕ) (done : T) (result : Result T E) (first second : List ℕ) → Appends a b first → p ≤ q → Writes b c q s result second → Writes a c p s result (first ++ second)
 after_ok a b c p q s done (Ok value) first second was le more = record { ok = Appends-trans a b c first second was more.ok; err = tt; cause = record { later = omega (arith, more.cause.later); failed = tt } }
 after_ok a b c p q s done (Err error) first second was le more =
-    record { ok = tt; err = later_front a b c first second was more.err; cause = record { later = omega (arith, more.cause.later); failed = omega (arith, more.cause.failed, more.cause.later) } }
+    record { ok = tt; err = AppendsFront-after a b c first second was more.err; cause = record { later = omega (arith, more.cause.later); failed = omega (arith, more.cause.failed, more.cause.later) } }
 
 stopped : {T E : Type 0} (a b c : Option (List ℕ)) (p q s : ℕ) (error : E) (result : Result T E) (first second : List ℕ) → Writes {T = T} a b p q (Err error) first → GoesOn {T = T} (Err error) b c q s result second → Writes a c p s result (first ++ second)
 stopped a b c p q s error result first second was more =
-    rw (more.0, more.1, more.2) (record { ok = tt; err = front_of_first a b first second was.err; cause = record { later = was.cause.later; failed = was.cause.failed } })
+    rw (more.0, more.1, more.2) (record { ok = tt; err = AppendsFront-longer a b first second was.err; cause = record { later = was.cause.later; failed = was.cause.failed } })
 
 on : {T E : Type 0} (a b c : Option (List ℕ)) (p q s : ℕ) (so_far result : Result T E) (first second : List ℕ) → Writes a b p q so_far first → GoesOn so_far b c q s result second → Writes a c p s result (first ++ second)
 on a b c p q s (Ok done) result first second was more = after_ok a b c p q s done result first second was.ok was.cause.later more

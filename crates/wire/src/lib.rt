@@ -8,4 +8,5 @@ mod words;
 mod write;
 
 pub use line::{Line, read_line};
+pub use words::split_at_byte;
 pub use write::{write_ids, write_refusal, write_word};

@@ -10,7 +10,7 @@ ghost use Rattle.wire.specs.Readings.{meaning_of, TextMeans};
 
 use crate::form::{Form, form_of};
 use crate::numbers::{number, signed_number};
-use crate::words::split_once;
+use crate::words::split_at_byte;
 use graph_model::{IdBuf, Level, TxId};
 
 /// What a line says. Fees are in satoshis, sizes in virtual bytes.
@@ -69,7 +69,7 @@ fn before_return(bytes: &[u8]) -> Option<&[u8]>
 fn read_text(text: &[u8]) -> Line
     ensures { TextMeans text.now (meaning_of result) }
 {
-    match split_once(text) {
+    match split_at_byte(text, b' ') {
         Some((word, rest)) => read_form(word, rest),
         None => Line::Syntax,
     }
@@ -153,7 +153,7 @@ fn count(rest: &[u8]) -> Line
 fn id_fee_size(text: &[u8]) -> Option<(TxId, (i64, u64))>
     ensures { ReadsAs (pair_spelling decimal (pair_spelling signed_decimal decimal)) (BothFit IsWide (BothFit (FitsSigned w64) IsWide)) text.now result }
 {
-    match split_once(text) {
+    match split_at_byte(text, b' ') {
         Some((id, rest)) => number(id).zip(fee_size(rest)),
         None => None,
     }
@@ -163,7 +163,7 @@ fn id_fee_size(text: &[u8]) -> Option<(TxId, (i64, u64))>
 fn fee_size(text: &[u8]) -> Option<(i64, u64)>
     ensures { ReadsAs (pair_spelling signed_decimal decimal) (BothFit (FitsSigned w64) IsWide) text.now result }
 {
-    match split_once(text) {
+    match split_at_byte(text, b' ') {
         Some((fee, size)) => signed_number(fee).zip(number(size)),
         None => None,
     }
@@ -173,7 +173,7 @@ fn fee_size(text: &[u8]) -> Option<(i64, u64)>
 fn two_ids(text: &[u8]) -> Option<(TxId, TxId)>
     ensures { ReadsAs (pair_spelling decimal decimal) (BothFit IsWide IsWide) text.now result }
 {
-    match split_once(text) {
+    match split_at_byte(text, b' ') {
         Some((first, second)) => number(first).zip(number(second)),
         None => None,
     }
@@ -183,7 +183,7 @@ fn two_ids(text: &[u8]) -> Option<(TxId, TxId)>
 fn id_level(text: &[u8]) -> Option<(TxId, Level)>
     ensures { ReadsAs (pair_spelling decimal level_word) (BothFit IsWide Always) text.now result }
 {
-    match split_once(text) {
+    match split_at_byte(text, b' ') {
         Some((id, word)) => number(id).zip(level(word)),
         None => None,
     }

@@ -1,14 +1,13 @@
-ghost use Rattle.std.specs.Prelude.{◌≡◌, ◌∷◌, ◌++◌, IfSome, IfNone};
-ghost use Rattle.wire.specs.Fields.{IsOneWord};
+ghost use Rattle.std.specs.Prelude.{◌≡◌, ◌≢◌, ◌∷◌, ◌++◌, All, IfSome, IfNone};
 
 use memchr::memchr;
 
-/// The bytes before the first space, and those after it.
-pub(crate) fn split_once(bytes: &[u8]) -> Option<(&[u8], &[u8])>
-    ensures found { IfSome result (λ parts. (bytes.now ≡ parts.0.now ++ 32 ∷ parts.1.now) × IsOneWord parts.0.now) }
-    ensures none { IfNone result (IsOneWord bytes.now) }
+/// The bytes before the first byte of this value, and those after it.
+pub fn split_at_byte(bytes: &[u8], byte: u8) -> Option<(&[u8], &[u8])>
+    ensures found { IfSome result (λ parts. (bytes.now ≡ parts.0.now ++ byte ∷ parts.1.now) × All (λ other. other ≢ byte) parts.0.now) }
+    ensures none { IfNone result (All (λ other. other ≢ byte) bytes.now) }
 {
-    let at = memchr(b' ', bytes)?;
+    let at = memchr(byte, bytes)?;
     let (front, back) = bytes.split_at(at);
     match back {
         [_, rest @ ..] => Some((front, rest)),

@@ -1,0 +1,10 @@
+use Rattle.std.proofs.Common.{◌≡◌, subst, refl}
+use Rattle.replay.specs.declared.session.Piece.{Piece}
+use Rattle.replay.specs.Sessions.{IsLine}
+use Rattle.replay.proofs.session.Session.answer.Goals as goal
+
+pub returns-in-Whole-clause-line : goal.returns-in-Whole-clause-line
+returns-in-Whole-clause-line g c line is = let e : line ≡ c.in-Whole.bytes.now = subst (λ (p : Piece). IsLine p line) c.in-Whole.is is in rw e c.read.ensures.line
+
+pub returns-in-TooLong-clause-line : goal.returns-in-TooLong-clause-line
+returns-in-TooLong-clause-line g c line is state stands = (state, stands, (subst (λ (p : Piece). IsLine p line) c.in-TooLong.is is, refl))

@@ -1,0 +1,31 @@
+use Rattle.std.proofs.Common.{◌≡◌, ◌∙◌, refl, sym, ap, rules, ℤ, FitsSigned}
+use Rattle.std.specs.Int.{w64}
+use Rattle.std.proofs.lemmas.Int.{to_z-of_z}
+use Rattle.graph_model.specs.Commands.{Add}
+use Rattle.graph_model.specs.Lines.{Quiet, NoForm, Says}
+use Rattle.graph_model.specs.Runs.{Silence, Unread}
+use Rattle.wire.specs.Readings.{meaning_of}
+use Rattle.replay.proofs.SessionLemmas.{command_answers, nothing_answers, reading_answers}
+use Rattle.replay.proofs.session.Session.follow.Goals as goal
+
+pub returns-in-Quiet-clause-line : goal.returns-in-Quiet-clause-line
+returns-in-Quiet-clause-line g c bytes short means = nothing_answers _ _ bytes _ Quiet Silence short means (ap meaning_of c.in-Quiet.is) refl (λ state quiet. (short, quiet, refl))
+
+pub returns-in-Syntax-clause-line : goal.returns-in-Syntax-clause-line
+returns-in-Syntax-clause-line g c bytes short means = nothing_answers _ _ bytes _ NoForm Unread short means (ap meaning_of c.in-Syntax.is) refl (λ state none. (short, none, refl))
+
+pub returns-in-Add-clause-line : goal.returns-in-Add-clause-line
+returns-in-Add-clause-line g c bytes short means = command_answers _ _ _ bytes _ _ _ _ short means 
+    (ap meaning_of c.in-Add.is ∙ ap (λ (fee : ℤ). Says (Add c.in-Add.id fee c.in-Add.size)) (let fits : FitsSigned w64 c.in-Add.fee = search rules in sym (to_z-of_z w64 c.in-Add.fee fits))) c.add.ensures.step c.self.view_is (c.changed.ensures _)
+
+pub returns-in-Dep-clause-line : goal.returns-in-Dep-clause-line
+returns-in-Dep-clause-line g c bytes short means = command_answers _ _ _ bytes _ _ _ _ short means (ap meaning_of c.in-Dep.is) c.dep.ensures.step c.self.view_is (c.changed-in-Dep.ensures _)
+
+pub returns-in-Ancestors-clause-line : goal.returns-in-Ancestors-clause-line
+returns-in-Ancestors-clause-line g c bytes short means = command_answers _ _ _ bytes _ _ _ _ short means (ap meaning_of c.in-Ancestors.is) c.ancestors.ensures.step c.self.view_is (c.named.ensures _)
+
+pub returns-in-Descendants-clause-line : goal.returns-in-Descendants-clause-line
+returns-in-Descendants-clause-line g c bytes short means = command_answers _ _ _ bytes _ _ _ _ short means (ap meaning_of c.in-Descendants.is) c.descendants.ensures.step c.self.view_is (c.named-in-Descendants.ensures _)
+
+pub returns-in-Count-clause-line : goal.returns-in-Count-clause-line
+returns-in-Count-clause-line g c bytes short means = reading_answers _ _ bytes _ _ _ _ short means (ap meaning_of c.in-Count.is) c.count.ensures c.self.view_is refl

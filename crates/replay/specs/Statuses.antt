@@ -1,0 +1,55 @@
+-- How the program ends.
+use Rattle.std.specs.Prelude.{◌≡◌, ℕ, ◌≤◌, ◌<◌, List, [], ◌∷◌, ◌++◌, take, length, codes, ◌⊎◌, Bool, true, false}
+use Rattle.std.specs.Io.KnownBytes.{Appends, Keeps, Consumes}
+use Rattle.std.specs.declared.option.Option.{Option}
+use Rattle.outside.specs.Faults.{Rose}
+use Rattle.graph_model.specs.Replies.{line_text}
+use Rattle.graph_model.specs.Lines.{max_input}
+use Rattle.replay.specs.declared.input.End.{End}
+use Rattle.replay.specs.declared.input.End.TheVariants.{Told, Fault, Limit}
+use Rattle.replay.specs.declared.top.Status.{Status}
+use Rattle.replay.specs.declared.top.Status.TheVariants as statuses
+use Rattle.replay.specs.Inputs.{ReadsTo}
+use Rattle.replay.specs.Outputs.{WritesOutput, WritesFront}
+
+-- the words are the program's name and `replay`, and nothing else
+abbrev pub AreReplay : List (List ℕ) → Type 0
+AreReplay words = (name : List ℕ) × (words ≡ name ∷ codes "replay" ∷ [])
+
+abbrev pub usage_text : List ℕ
+usage_text = line_text (codes "usage: txgraph replay | check | gen SEED COUNT")
+
+-- the last line without a line feed counts where the source answered its end
+abbrev pub is_told : End → Bool
+is_told Told = true
+is_told Fault = false
+is_told Limit = false
+
+-- The source was read so far, and the output for what was read was written whole.
+pub record IsAnswered (end : End) (left_old left_new written_old written_new : Option (List ℕ)) : Type 0 where
+  pub input : List ℕ
+  pub read : ReadsTo end left_old left_new input
+  pub output : WritesOutput (is_told end) input written_old written_new
+
+-- The source was read somehow, and a front of the output for what was read was written.
+pub record IsCutOff (left_old left_new written_old written_new : Option (List ℕ)) : Type 0 where
+  pub end : End
+  pub input : List ℕ
+  pub read : ReadsTo end left_old left_new input
+  pub output : WritesFront (is_told end) input written_old written_new
+
+-- the status where everything that was read was answered
+abbrev pub end_status : End → Status
+end_status Told = statuses.Done
+end_status Fault = statuses.ReadFault
+end_status Limit = statuses.InputLimit
+
+-- the exit status of the program
+abbrev pub status_code : Status → ℕ
+status_code statuses.Done = 0
+status_code statuses.No = 1
+status_code statuses.Usage = 2
+status_code statuses.ReadFault = 3
+status_code statuses.WriteFault = 4
+status_code statuses.NoMemory = 5
+status_code statuses.InputLimit = 6

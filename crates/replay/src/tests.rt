@@ -1,0 +1,103 @@
+use super::*;
+use outside::{MemSink, MemSource};
+use std::alloc::{AllocError, Global};
+use std::test::Fail;
+
+/// The words of a command line.
+fn words(alloc: Global, words: &[&str]) -> Result<Vec<String>, AllocError> {
+    let mut all = Vec::new(alloc);
+    for word in words {
+        all.push(String::from_str(alloc, word)?)?;
+    }
+    Ok(all)
+}
+
+/// Inputs of `replay` with their outputs.
+const RUNS: [(&str, &str); 10] = [
+    ("", ""),
+    ("add 1 1000 200\n", "ok\n"),
+    (
+        "add 1 1 1\nadd 2 1 1\nadd 3 1 1\ndep 1 2\ndep 2 1\ndep 1 1\ndep 1 3\ndep 2 3\ndescendants 1 main\n",
+        "ok\nok\nok\nok\nrefused cycle\nrefused cycle\nok\nok\nids 1 2 3\n",
+    ),
+    (
+        "add 1 1 404001\nadd 2 1 404000\nadd 3 1 1\ndep 2 3\nancestors 9 top\ncount top\n",
+        "refused clustersize 404001\nok\nok\nrefused clustersize 404001\nrefused unknown 9\ncount 2\n",
+    ),
+    ("# c\n\nadd 1 5 5\r\ncount main", "ok\ncount 1\n"),
+    (
+        "add 1 2100000000000000 1\nadd 2 -2100000000000000 404000\nadd 3 2100000000000001 1\nadd 3 -2100000000000001 1\nadd 4 0 0\nadd 5 0 4000001\nadd 1 0 1\n",
+        "ok\nok\nrefused fee\nrefused fee\nrefused size\nrefused size\nrefused taken\n",
+    ),
+    (
+        "add 18446744073709551615 9223372036854775807 18446744073709551615\nadd 18446744073709551616 0 1\nadd 1 9223372036854775808 1\nadd 1 -9223372036854775808 1\nadd 1 -9223372036854775809 1\n",
+        "refused fee\nrefused syntax\nrefused syntax\nrefused fee\nrefused syntax\n",
+    ),
+    (
+        "add 1 01 1\nadd 1 -0 1\nadd  1 1 1\nadd 1 1 1 \nadd 1 +1 1\nadd 1 1\nadd\n add 1 1 1\ncount bottom\ncount main\r\r\n",
+        "refused syntax\nrefused syntax\nrefused syntax\nrefused syntax\nrefused syntax\nrefused syntax\nrefused syntax\nrefused syntax\nrefused syntax\nrefused syntax\n",
+    ),
+    (
+        "add 7 1 1\nadd 5 1 1\nadd 6 1 1\ndep 7 6\ndep 6 5\nancestors 5 main\ndescendants 7 top\nancestors 7 main\ndep 7 5\ndep 8 5\ndep 5 8\n",
+        "ok\nok\nok\nok\nok\nids 5 6 7\nids 5 6 7\nids 7\nok\nrefused unknown 8\nrefused unknown 8\n",
+    ),
+    ("limits 1 1 1\norder main\nstage\n", "refused syntax\nrefused syntax\nrefused syntax\n"),
+];
+
+#[test]
+fn replies_are_the_same_whatever_the_pieces(rt: HostRuntime) -> Result<(), Fail> {
+    let alloc = rt.alloc();
+    let words = words(alloc, &["txgraph", "replay"])?;
+    for (input, output) in RUNS {
+        for piece in [1, 2, 4096] {
+            let mut source = MemSource::new(alloc, input.as_bytes(), piece, &[], None)?;
+            let mut sink = MemSink::new(alloc, piece, &[], 4096)?;
+            let status = run(alloc, &words, &mut source, &mut sink);
+            assert_eq!(rt; status, Status::Done, "at {input:?}");
+            assert_eq!(rt; sink.written(), output.as_bytes(), "at {input:?}");
+        }
+    }
+    Ok(())
+}
+
+#[test]
+fn faults_and_words_give_their_status(rt: HostRuntime) -> Result<(), Fail> {
+    let alloc = rt.alloc();
+    let replay = words(alloc, &["txgraph", "replay"])?;
+    let input = b"count main\ncount main\ncou";
+    let mut source = MemSource::new(alloc, input, 25, &[2], None)?;
+    let mut sink = MemSink::new(alloc, 64, &[], 4096)?;
+    assert_eq!(rt; run(alloc, &replay, &mut source, &mut sink).code(), 3);
+    assert_eq!(rt; sink.written(), b"count 0\ncount 0\n".as_slice());
+
+    let mut source = MemSource::new(alloc, b"add 1 1 1\nadd 2 1 1\n", 64, &[], None)?;
+    let mut sink = MemSink::new(alloc, 64, &[], 3)?;
+    assert_eq!(rt; run(alloc, &replay, &mut source, &mut sink).code(), 4);
+    assert_eq!(rt; sink.written(), b"ok\n".as_slice());
+
+    for refused in [&["txgraph", "replay", "x"].as_slice(), &["txgraph"].as_slice(), &["txgraph", "check"].as_slice()] {
+        let mut source = MemSource::new(alloc, b"add 1 1 1\n", 64, &[], None)?;
+        let mut sink = MemSink::new(alloc, 64, &[], 4096)?;
+        let refused = words(alloc, refused)?;
+        assert_eq!(rt; run(alloc, &refused, &mut source, &mut sink).code(), 2);
+        assert_eq!(rt; sink.written(), b"usage: txgraph replay | check | gen SEED COUNT\n".as_slice());
+    }
+    Ok(())
+}
+
+#[test]
+fn a_line_has_at_most_65536_bytes(rt: HostRuntime) -> Result<(), Fail> {
+    let alloc = rt.alloc();
+    let mut input = vec![in alloc; b'x'; 65_537]?;
+    input.push(b'\n')?;
+    for _ in 0..65_536 {
+        input.push(b'x')?;
+    }
+    input.extend_from_slice(b"\ncount main\n")?;
+    let mut source = MemSource::new(alloc, &input, 4096, &[], None)?;
+    let mut sink = MemSink::new(alloc, 4096, &[], 4096)?;
+    let words = words(alloc, &["txgraph", "replay"])?;
+    assert_eq!(rt; run(alloc, &words, &mut source, &mut sink).code(), 0);
+    assert_eq!(rt; sink.written(), b"refused line\nrefused syntax\ncount 0\n".as_slice());
+    Ok(())
+}
