@@ -1,13 +1,14 @@
-// A library with one function.
+//! Fees over sizes, compared exactly.
+//!
+//! A fee is in satoshis and may be negative, a size in virtual bytes and at least 1. Rates are compared by
+//! cross-multiplication in 128 bits, so nothing is rounded. This is the order of Bitcoin Core's `FeeFrac`.
 #![tactic(auto)]
 
-ghost use Rattle.std.specs.Prelude.{◌≡◌};
-ghost use Rattle.fee_rate.specs.Echo.{echo_of};
+mod laws;
+mod rates;
 
-// The `ensures` clause is the contract: what `echo` returns is `echo_of` of its argument, a definition
-// in `specs/Echo.antt`, which a caller's clause can cite too.
-pub fn echo(x: usize) -> usize
-    ensures { result ≡ echo_of x }
-{
-    x
-}
+pub use laws::{full_order_is_an_order, rate_order_is_an_order, sums_lie_between};
+pub use rates::{FeeRate, Sum, add, cmp_full, cmp_rate, minus};
+
+#[cfg(test)]
+mod tests;
