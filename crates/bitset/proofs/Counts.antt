@@ -1,30 +1,14 @@
 -- How many places a set has, by the count of each word's bits.
-use Rattle.std.proofs.Common.{◌≡◌, ℕ, zero, suc, ◌+◌, ◌-◌, ◌*◌, ◌/◌, ◌%◌, ◌^◌, ◌<◌, ◌≤◌, Bool, true, false, cond, ◌&&◌, ◌||◌, ◌⊎◌, nat_eq, nat_lt, List, length, slice_index, inl, inr, refl, sym, ap, ap₂, ◌∙◌, subst, arith, lt-ltb, le-ltb, add-suc, pow-suc, mod-lt, pow_pos, add-zero, one-add, mod-eq_of_lt}
+use Rattle.std.proofs.Common.{◌≡◌, ℕ, zero, suc, ◌+◌, ◌-◌, ◌*◌, ◌/◌, ◌%◌, ◌^◌, ◌<◌, ◌≤◌, Bool, cond, nat_eq, List, length, slice_index, refl, sym, ap, ap₂, ◌∙◌, arith, add-suc, pow_pos, add-zero, one-add, mod-eq_of_lt}
 use Rattle.std.specs.Int.Count.{ones}
 use Rattle.std.proofs.lemmas.Nat.{ones_cat, shr_split, mod_below, shr_below}
-use Rattle.std.specs.Ordering.{nat_cmp}
-use Rattle.std.specs.Cmp.{nat_cmp_total}
 use Rattle.std.specs.FinSet as fin
 use Rattle.std.specs.Int.{bit_at}
-use Rattle.std.proofs.lemmas.Nat.Bits.{bit_at_cat_low, bit_at_cat_high, bit_at_lowest, bit_at-lt}
+use Rattle.std.proofs.lemmas.Nat.Bits.{bit_at_cat_low, bit_at_cat_high, bit_at_lowest}
 use Rattle.bitset.specs.Places.{where_below}
-use Rattle.bitset.specs.Sets.{contains-where_below}
+use Rattle.bitset.specs.Sets.{len-where_below-suc}
 use Rattle.bitset.specs.WordSets.{is_place-at}
 use Rattle.bitset.specs.Words.{is_set, is_place, members_of, AreWords}
-
--- one more place that passes the test
-pub len-where_below-suc : (f : ℕ → Bool) (n : ℕ) → fin.len (where_below f (suc n)) ≡ cond (f n) 1 0 + fin.len (where_below f n)
-unfolding where_below
-len-where_below-suc f n = elim (f n) as (λ b. fin.len (cond b (fin.insert (where_below f n) n) (where_below f n)) ≡ cond b 1 0 + fin.len (where_below f n)) [
-    | true ↦
-        let absent : fin.contains (where_below f n) n ≡ false = contains-where_below f n n ∙ ap (λ b. b && f n) (le-ltb n n (omega arith)) in
-        fin.len-insert nat_cmp_total (where_below f n) n ∙ ap (λ b. cond b (fin.len (where_below f n)) (fin.len (where_below f n) + 1)) absent ∙ omega arith
-    | false ↦ omega arith
-  ]
-
-pub len-where_below-zero : (f : ℕ → Bool) → fin.len (where_below f 0) ≡ 0
-unfolding where_below
-len-where_below-zero f = fin.len-empty nat_cmp
 
 bit_count : (b : ℕ) → b < 2 → ones b ≡ cond (nat_eq b 1) 1 0
 unfolding ones
@@ -43,13 +27,15 @@ len-where_below-add f n (suc d) v h same =
   where
     below : v % 2 ^ d < 2 ^ d
     below = mod_below v (2 ^ d) (pow_pos d)
+
     small : v / 2 ^ d < 2
     small = let twice : v < 2 ^ (1 + d) = rw one-add h in shr_below v 1 d twice
+
     top : cond (f (n + d)) 1 0 ≡ ones (v / 2 ^ d)
     top =
         let none : d - d ≡ 0 = omega arith in
         ap (λ b. cond b 1 0) (same d (omega arith) ∙ ap (λ m. is_set m d) (sym (shr_split v d)) ∙ ap (λ m. nat_eq m 1) (bit_at_cat_high (v / 2 ^ d) d (v % 2 ^ d) d below (omega arith)
-          ∙ ap (λ i. bit_at (v / 2 ^ d) i) none ∙ bit_at_lowest (v / 2 ^ d) ∙ mod-eq_of_lt small))
+        ∙ ap (λ i. bit_at (v / 2 ^ d) i) none ∙ bit_at_lowest (v / 2 ^ d) ∙ mod-eq_of_lt small))
         ∙ sym (bit_count (v / 2 ^ d) small)
 
 -- one more word

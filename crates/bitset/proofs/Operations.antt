@@ -1,15 +1,14 @@
 -- Each operation on words is the operation on the sets that they stand for.
-use Rattle.std.proofs.Common.{◌≡◌, ℕ, zero, suc, ◌+◌, ◌-◌, ◌*◌, ◌/◌, ◌%◌, ◌^◌, ◌<◌, ◌≤◌, Bool, true, false, cond, not, ◌&&◌, ◌||◌, ◌⊎◌, ◌≢◌, nat_eq, nat_lt, List, length, set, replicate, bit_and, bit_or, slice_index, inl, inr, refl, sym, ap, ap₂, ◌∙◌, subst, arith, w64, lt-ltb, le-ltb, eq-eqb, ne_eqb, length-set, true≢false, below_more, lt_of_le_of_lt}
-use Rattle.std.proofs.lemmas.Bool.{cases_lt, cases_eq, cases_Bool, false_from_ne_true, and_parts}
+use Rattle.std.proofs.Common.{◌≡◌, ℕ, ◌+◌, ◌-◌, ◌*◌, ◌/◌, ◌%◌, ◌^◌, ◌<◌, ◌≤◌, Bool, true, false, not, ◌&&◌, ◌||◌, ◌≢◌, nat_eq, nat_lt, List, length, set, replicate, bit_and, bit_or, slice_index, inl, inr, refl, sym, ap, ap₂, ◌∙◌, arith, w64, lt-ltb, le-ltb, eq-eqb, ne_eqb, length-set, true≢false, below_more, lt_of_le_of_lt}
+use Rattle.std.proofs.lemmas.Bool.{cases_lt, cases_eq, false_from_ne_true, and_parts}
 use Rattle.std.proofs.lemmas.List.{get_or_past, get_or-set_same, get_or-set_other, get_or-replicate, length-replicate}
 use Rattle.std.proofs.lemmas.Nat.{one_shl, pow_below, or_lt, and_le_l}
 use Rattle.std.proofs.lemmas.Nat.Bits.{bit_at-pow_same, bit_at-pow_other, shr_and_one, bit_at_ones, bit_at_ones_above, bit_at-trailing_zeros}
-use Rattle.std.specs.Int.Bits.{and_zero_l}
 use Rattle.std.specs.Int.{bit_at, trailing_zeros}
 use Rattle.std.specs.Ordering.{nat_cmp}
 use Rattle.std.specs.Cmp.{nat_cmp_total}
 use Rattle.std.specs.FinSet as fin
-use Rattle.bitset.specs.Places.{where_below, first_places, IsWithin, IsLeast}
+use Rattle.bitset.specs.Places.{first_places, IsWithin, IsLeast}
 use Rattle.bitset.specs.Words.{is_set, is_place, members_of, AreWords}
 use Rattle.bitset.specs.OneBit.{is_set-zero, is_set-and, is_set-or, is_set-not, same_from_set}
 use Rattle.bitset.specs.Sets.{contains-empty, contains-insert, contains-remove, contains-union, contains-intersection, contains-difference, contains-first_places}
@@ -28,9 +27,9 @@ members_of-within w words long q e =
 
 zeros : (w i : ℕ) → slice_index (replicate w 0) i ≡ 0
 zeros w i = elim (cases_lt i w) as (λ _. slice_index (replicate w 0) i ≡ 0) [
-    | inl h ↦ get_or-replicate w i 0 0 h
-    | inr h ↦ get_or_past (replicate w 0) i 0 (omega (arith, length-replicate {A = ℕ} w 0))
-  ]
+  | inl h ↦ get_or-replicate w i 0 0 h
+  | inr h ↦ get_or_past (replicate w 0) i 0 (omega (arith, length-replicate {A = ℕ} w 0))
+]
 
 -- ---- one place
 
@@ -61,9 +60,9 @@ written words p v now h here there q =
 -- bit k of the word of p is p itself at one k
 same_place : (p k : ℕ) → k < 64 → nat_eq k (p % 64) ≡ nat_eq (64 * (p / 64) + k) p
 same_place p k h = elim (cases_eq k (p % 64)) as (λ _. nat_eq k (p % 64) ≡ nat_eq (64 * (p / 64) + k) p) [
-    | inl e ↦ eq-eqb k (p % 64) e ∙ sym (eq-eqb (64 * (p / 64) + k) p (omega arith))
-    | inr e ↦ ne_eqb k (p % 64) e ∙ sym (ne_eqb (64 * (p / 64) + k) p (λ f. e (omega arith)))
-  ]
+  | inl e ↦ eq-eqb k (p % 64) e ∙ sym (eq-eqb (64 * (p / 64) + k) p (omega arith))
+  | inr e ↦ ne_eqb k (p % 64) e ∙ sym (ne_eqb (64 * (p / 64) + k) p (λ f. e (omega arith)))
+]
 
 or_swap : (a b : Bool) → (a || b) ≡ (b || a)
 or_swap true true = refl
@@ -83,23 +82,23 @@ elsewhere p q other = ne_eqb q p (λ e. other (ap (λ n. n / 64) e))
 pub insert_is : (words : List ℕ) (p : ℕ) → p < 64 * length words → members_of (set words (p / 64) (bit_or (slice_index words (p / 64)) (1 * 2 ^ (p % 64) % 2 ^ 64))) ≡ fin.insert (members_of words) p
 insert_is words p h = members_from _ _ (written words p _ (λ q. fin.contains (fin.insert (members_of words) p) q) h
     (λ k below.
-      let bit : p % 64 < 64 = omega arith in
-      is_set-or (slice_index words (p / 64)) (1 * 2 ^ (p % 64) % 2 ^ 64) k
-      ∙ ap₂ (λ a b. a || b) (sym (is_place-at words (p / 64) k below)) (is_set-one (p % 64) k bit ∙ same_place p k below)
-      ∙ or_swap (is_place words (64 * (p / 64) + k)) (nat_eq (64 * (p / 64) + k) p)
-      ∙ ap (λ b. nat_eq (64 * (p / 64) + k) p || b) (sym (contains-members_of words (64 * (p / 64) + k)))
-      ∙ sym (contains-insert (members_of words) p (64 * (p / 64) + k)))
+    let bit : p % 64 < 64 = omega arith in
+    is_set-or (slice_index words (p / 64)) (1 * 2 ^ (p % 64) % 2 ^ 64) k
+    ∙ ap₂ (λ a b. a || b) (sym (is_place-at words (p / 64) k below)) (is_set-one (p % 64) k bit ∙ same_place p k below)
+    ∙ or_swap (is_place words (64 * (p / 64) + k)) (nat_eq (64 * (p / 64) + k) p)
+    ∙ ap (λ b. nat_eq (64 * (p / 64) + k) p || b) (sym (contains-members_of words (64 * (p / 64) + k)))
+    ∙ sym (contains-insert (members_of words) p (64 * (p / 64) + k)))
     (λ q other. sym (contains-insert (members_of words) p q ∙ ap₂ (λ a b. a || b) (elsewhere p q other) (contains-members_of words q))))
 
 pub remove_is : (words : List ℕ) (p : ℕ) → p < 64 * length words → members_of (set words (p / 64) (bit_and (slice_index words (p / 64)) (2 ^ 64 - 1 - 1 * 2 ^ (p % 64) % 2 ^ 64))) ≡ fin.remove (members_of words) p
 remove_is words p h = members_from _ _ (written words p _ (λ q. fin.contains (fin.remove (members_of words) p) q) h
     (λ k below.
-      let bit : p % 64 < 64 = omega arith in
-      is_set-and (slice_index words (p / 64)) (2 ^ 64 - 1 - 1 * 2 ^ (p % 64) % 2 ^ 64) k
-      ∙ ap₂ (λ a b. a && b) (sym (is_place-at words (p / 64) k below)) (is_set-not _ k (one_below (p % 64) bit) below ∙ ap not (is_set-one (p % 64) k bit ∙ same_place p k below))
-      ∙ and_swap (is_place words (64 * (p / 64) + k)) (not (nat_eq (64 * (p / 64) + k) p))
-      ∙ ap (λ b. not (nat_eq (64 * (p / 64) + k) p) && b) (sym (contains-members_of words (64 * (p / 64) + k)))
-      ∙ sym (contains-remove (members_of words) p (64 * (p / 64) + k)))
+    let bit : p % 64 < 64 = omega arith in
+    is_set-and (slice_index words (p / 64)) (2 ^ 64 - 1 - 1 * 2 ^ (p % 64) % 2 ^ 64) k
+    ∙ ap₂ (λ a b. a && b) (sym (is_place-at words (p / 64) k below)) (is_set-not _ k (one_below (p % 64) bit) below ∙ ap not (is_set-one (p % 64) k bit ∙ same_place p k below))
+    ∙ and_swap (is_place words (64 * (p / 64) + k)) (not (nat_eq (64 * (p / 64) + k) p))
+    ∙ ap (λ b. not (nat_eq (64 * (p / 64) + k) p) && b) (sym (contains-members_of words (64 * (p / 64) + k)))
+    ∙ sym (contains-remove (members_of words) p (64 * (p / 64) + k)))
     (λ q other. sym (contains-remove (members_of words) p q ∙ ap₂ (λ a b. not a && b) (elsewhere p q other) (contains-members_of words q))))
 
 pub has_is : (words : List ℕ) (p : ℕ) → nat_eq (bit_and (slice_index words (p / 64) / 2 ^ (p % 64)) 1) 1 ≡ fin.contains (members_of words) p
@@ -113,7 +112,7 @@ AreWords-set w words p v h inside fits below = record {
     | inl e ↦ let here : p / 64 < length words = omega (arith, h.long) in rw (e, get_or-set_same words (p / 64) v 0 here) below
     | inr e ↦ rw (get_or-set_other words (p / 64) i v 0 e) (h.fit i)
   ];
-  empty_behind = λ i far. get_or-set_other words (p / 64) i v 0 (λ e. omega arith) ∙ h.empty_behind i far
+  empty_behind = λ i far. get_or-set_other words (p / 64) i v 0 (λ e. omega arith) ∙ h.empty_behind i far;
 }
 
 -- ---- all words
@@ -134,7 +133,7 @@ module _ (f : ℕ → ℕ → ℕ) where
     made = below_more (λ k. slice_index (set words i (f (slice_index words i) (slice_index ys i))) k ≡ f (slice_index xs k) (slice_index ys k)) i
         (λ k below. get_or-set_other words i k _ 0 (λ e. omega arith) ∙ so_far.made k below)
         (get_or-set_same words i _ 0 (omega (arith, so_far.long)) ∙ ap (λ n. f n (slice_index ys i)) (so_far.rest i (omega arith)));
-    rest = λ k behind. get_or-set_other words i k _ 0 (λ e. omega arith) ∙ so_far.rest k (omega arith)
+    rest = λ k behind. get_or-set_other words i k _ 0 (λ e. omega arith) ∙ so_far.rest k (omega arith);
   }
 
   -- where f leaves two empty words empty, all words are made
@@ -151,7 +150,7 @@ module _ (f : ℕ → ℕ → ℕ) where
   MadeUpTo-words none small w n xs ys words h k end all = record {
     long = all.long;
     fit = λ i. rw (MadeUpTo-all none w n xs ys words h k end all i) (small _ _ (h.fit i) (k.fit i));
-    empty_behind = λ i far. MadeUpTo-all none w n xs ys words h k end all i ∙ ap₂ f (h.empty_behind i far) (k.empty_behind i far) ∙ none
+    empty_behind = λ i far. MadeUpTo-all none w n xs ys words h k end all i ∙ ap₂ f (h.empty_behind i far) (k.empty_behind i far) ∙ none;
   }
 
 pub union_is : (xs ys words : List ℕ) → ((i : ℕ) → slice_index words i ≡ bit_or (slice_index xs i) (slice_index ys i)) → members_of words ≡ fin.union (members_of xs) (members_of ys)
@@ -211,8 +210,8 @@ not_subset_is w i xs ys h some fits =
         let parts : (is_set (slice_index xs i) k ≡ true) × (is_set (2 ^ 64 - 1 - slice_index ys i) k ≡ true) = and_parts _ _ (sym (is_set-and (slice_index xs i) (2 ^ 64 - 1 - slice_index ys i) k) ∙ here) in
         let absent : is_set (slice_index ys i) k ≡ false = not_true _ (sym (is_set-not (slice_index ys i) k (h.fit i) below) ∙ parts.1) in
         false_from_ne_true _ (λ e. true≢false (
-          sym (fin.is_subset-contains nat_cmp_total (members_of xs) (members_of ys) e (64 * i + k) (contains-members_of xs (64 * i + k) ∙ is_place-at xs i k below ∙ parts.0))
-          ∙ contains-members_of ys (64 * i + k) ∙ is_place-at ys i k below ∙ absent))
+        sym (fin.is_subset-contains nat_cmp_total (members_of xs) (members_of ys) e (64 * i + k) (contains-members_of xs (64 * i + k) ∙ is_place-at xs i k below ∙ parts.0))
+        ∙ contains-members_of ys (64 * i + k) ∙ is_place-at ys i k below ∙ absent))
 
 -- ---- the least place
 
@@ -229,14 +228,14 @@ least_is w i words h none some =
               let same : q / 64 ≡ i = omega (arith, low.0) in
               ap (λ n. is_set (slice_index words n) (q % 64)) same ∙ low.2 (q % 64) (omega arith)
         ]))
-      ]
+      ];
     }
 
 pub none_is : (w : ℕ) (words : List ℕ) → length words ≡ w → ((k : ℕ) → k < w → slice_index words k ≡ 0) → members_of words ≡ fin.empty
 none_is w words long none = members_from _ _ (λ q. elim (cases_lt (q / 64) w) as (λ _. is_place words q ≡ fin.contains {R = nat_cmp} fin.empty q) [
-    | inl h ↦ ap (λ n. is_set n (q % 64)) (none (q / 64) h) ∙ is_set-zero (q % 64) ∙ sym (contains-empty q)
-    | inr h ↦ is_place-past words q (omega arith) ∙ sym (contains-empty q)
-  ])
+  | inl h ↦ ap (λ n. is_set n (q % 64)) (none (q / 64) h) ∙ is_set-zero (q % 64) ∙ sym (contains-empty q)
+  | inr h ↦ is_place-past words q (omega arith) ∙ sym (contains-empty q)
+])
 
 -- ---- the first places
 
@@ -258,14 +257,14 @@ FirstUpTo-more w n words i v h small so_far here = record {
   ];
   low = below_more (λ j. (k : ℕ) → k < 64 → is_set (slice_index (set words i v) j) k ≡ nat_lt (64 * j + k) n) i
       (λ j below k bit. ap (λ m. is_set m k) (get_or-set_other words i j v 0 (λ e. omega arith)) ∙ so_far.low j below k bit)
-      (λ k bit. ap (λ m. is_set m k) (get_or-set_same words i v 0 (omega (arith, so_far.long))) ∙ here k bit)
+      (λ k bit. ap (λ m. is_set m k) (get_or-set_same words i v 0 (omega (arith, so_far.long))) ∙ here k bit);
 }
 
 pub first_is : (w m n : ℕ) (words : List ℕ) → n ≤ 64 * w → w ≤ m → FirstUpTo w n words m → members_of words ≡ first_places n
 first_is w m n words within end all = members_from _ _ (λ q. elim (cases_lt (q / 64) w) as (λ _. is_place words q ≡ fin.contains (first_places n) q) [
-    | inl h ↦ all.low (q / 64) (omega arith) (q % 64) (omega arith) ∙ ap (λ p. nat_lt p n) (split_place q) ∙ sym (contains-first_places n q)
-    | inr h ↦ is_place-past words q (omega (arith, all.long)) ∙ sym (contains-first_places n q ∙ le-ltb q n (omega arith))
-  ])
+  | inl h ↦ all.low (q / 64) (omega arith) (q % 64) (omega arith) ∙ ap (λ p. nat_lt p n) (split_place q) ∙ sym (contains-first_places n q)
+  | inr h ↦ is_place-past words q (omega (arith, all.long)) ∙ sym (contains-first_places n q ∙ le-ltb q n (omega arith))
+])
 
 pub AreWords-first : (w m n : ℕ) (words : List ℕ) → n < 2 ^ 64 → w ≤ m → FirstUpTo w n words m → AreWords w words
 AreWords-first w m n words small end all = record {
@@ -274,7 +273,7 @@ AreWords-first w m n words small end all = record {
   empty_behind = λ i far. elim (cases_lt i w) as (λ _. slice_index words i ≡ 0) [
     | inl h ↦ same_from_set 64 (slice_index words i) 0 (all.fit i) (omega arith) (λ k bit. all.low i (omega arith) k bit ∙ le-ltb (64 * i + k) n (omega arith) ∙ sym (is_set-zero k))
     | inr h ↦ get_or_past words i 0 (omega (arith, all.long))
-  ]
+  ];
 }
 
 -- the words of the three forms

@@ -1,9 +1,11 @@
 -- Sets of numbers: what `where_below` holds, the members as a rising list, the least member.
-use Rattle.std.proofs.Common.{◌≡◌, ℕ, zero, suc, ◌+◌, ◌-◌, ◌*◌, ◌<◌, ◌≤◌, Bool, true, false, cond, not, ◌&&◌, ◌||◌, ◌⊎◌, ◌≢◌, nat_eq, nat_lt, List, [], ◌∷◌, ◌++◌, length, filter, inl, inr, refl, sym, ap, ap₂, ◌∙◌, subst, arith, T, lt-ltb, ltb-false, eq-eqb, ne_eqb, le-ltb, add-one, true≢false, lt_irrefl}
+use Rattle.std.proofs.Common.{◌≡◌, ℕ, zero, suc, ◌+◌, ◌<◌, ◌≤◌, Bool, true, false, cond, not, ◌&&◌, ◌||◌, nat_eq, nat_lt, List, [], ◌∷◌, ◌++◌, length, get_or, filter, All, Contains, inl, inr, refl, sym, ap, ◌∙◌, subst, arith, lt-ltb, eq-eqb, ne_eqb, le-ltb, add-one, add-zero, zero-add, length-append}
 use Rattle.std.proofs.lemmas.Bool.{cases_eq, cases_lt, false_from_ne_true}
+use Rattle.std.proofs.lemmas.List.Elements.{All-contains, All-filter, All-from_get_or, filter_passes, filter-append, Contains-append_right, Contains-append_cases}
+use Rattle.std.proofs.lemmas.List.FromFn.{length-range_with_len, get_or-range_with_len}
 use Rattle.std.specs.List.{range_with_len}
 use Rattle.std.proofs.lemmas.Bool.Decides.{nat_tests}
-use Rattle.std.specs.Ordering.{nat_cmp, eq_by_cmp}
+use Rattle.std.specs.Ordering.{nat_cmp}
 use Rattle.std.specs.Cmp.{unsigned_tied, nat_cmp_total}
 use Rattle.std.specs.FinSet as set
 use Rattle.bitset.specs.Places.{where_below, first_places, places, IsWithin, IsLeast, AllAbove, IsRising}
@@ -82,7 +84,7 @@ least_first s p a (suc n) least low high =
           let here : set.contains s a ≡ true = ap (set.contains s) same ∙ least.member in
           let gone : set.contains (set.remove s p) a ≡ false = contains-remove s p a ∙ ap (λ b. not b && set.contains s a) (eq-eqb a p same) in
           let later : filter (set.contains s) (range_with_len (a + 1) n) ≡ filter (set.contains (set.remove s p)) (range_with_len (a + 1) n) =
-              filter_agree_from _ _ (a + 1) n (λ k h. sym (contains-remove s p k ∙ ap (λ b. not b && set.contains s k) (ne_eqb k p (λ e. omega arith)))) in
+          filter_agree_from _ _ (a + 1) n (λ k h. sym (contains-remove s p k ∙ ap (λ b. not b && set.contains s k) (ne_eqb k p (λ e. omega arith)))) in
           ap (λ b. cond b (a ∷ filter (set.contains s) (range_with_len (a + 1) n)) (filter (set.contains s) (range_with_len (a + 1) n))) here
           ∙ ap (λ x. x ∷ filter (set.contains s) (range_with_len (a + 1) n)) same
           ∙ ap (λ xs. p ∷ xs) later
@@ -110,3 +112,107 @@ none_pass f a (suc n) none = ap (λ b. cond b (a ∷ filter f (range_with_len (a
 
 pub places-empty : (n : ℕ) → places n set.empty ≡ []
 places-empty n = none_pass _ 0 n contains-empty
+
+-- ---- what the list of the members says of them
+
+pub IsRising-filter : (f : ℕ → Bool) (a n : ℕ) → IsRising (filter f (range_with_len a n))
+IsRising-filter f a zero = tt
+IsRising-filter f a (suc n) = elim (f a) as (λ b. IsRising (cond b (a ∷ filter f (range_with_len (a + 1) n)) (filter f (range_with_len (a + 1) n)))) [
+  | true ↦ (above f a (a + 1) n (omega arith), IsRising-filter f (a + 1) n)
+  | false ↦ IsRising-filter f (a + 1) n
+]
+  where
+    above : (f : ℕ → Bool) (x a n : ℕ) → x < a → AllAbove x (filter f (range_with_len a n))
+    above f x a zero h = tt
+    above f x a (suc n) h = elim (f a) as (λ b. AllAbove x (cond b (a ∷ filter f (range_with_len (a + 1) n)) (filter f (range_with_len (a + 1) n)))) [
+      | true ↦ (h, above f x (a + 1) n (omega arith))
+      | false ↦ above f x (a + 1) n (omega arith)
+    ]
+
+pub IsRising-places : (n : ℕ) (s : set.FinSet nat_cmp) → IsRising (places n s)
+IsRising-places n s = IsRising-filter (set.contains s) 0 n
+
+in_range : (f : ℕ → Bool) (a n p : ℕ) → f p ≡ true → a ≤ p → p < a + n → Contains (filter f (range_with_len a n)) p
+in_range f a zero p passes low high = absurd (omega arith)
+in_range f a (suc n) p passes low high = elim (cases_eq a p) as (λ _. Contains (filter f (range_with_len a (suc n))) p) [
+  | inl same ↦
+      let here : f a ≡ true = ap f same ∙ passes in
+      subst (λ b. Contains (cond b (a ∷ filter f (range_with_len (a + 1) n)) (filter f (range_with_len (a + 1) n))) p) (sym here) (0, omega arith, same)
+  | inr other ↦ elim (f a) as (λ b. Contains (cond b (a ∷ filter f (range_with_len (a + 1) n)) (filter f (range_with_len (a + 1) n))) p) [
+    | true ↦ Contains-append_right (a ∷ []) (filter f (range_with_len (a + 1) n)) p (in_range f (a + 1) n p passes (omega arith) (omega arith))
+    | false ↦ in_range f (a + 1) n p passes (omega arith) (omega arith)
+  ]
+]
+
+-- the list has each member below n, and no other number
+pub Contains-places : (n : ℕ) (s : set.FinSet nat_cmp) (p : ℕ) → p < n → set.contains s p ≡ true → Contains (places n s) p
+Contains-places n s p h member = in_range (set.contains s) 0 n p member (omega arith) (omega arith)
+
+range_below : (a n : ℕ) → All (λ p. p < a + n) (range_with_len a n)
+range_below a n = All-from_get_or (λ p. p < a + n) (range_with_len a n) 0 (λ i h.
+    let inside : i < n = omega (arith, length-range_with_len a n) in
+    rw (get_or-range_with_len a n i 0 inside) (omega arith))
+
+pub places-Contains : (n : ℕ) (s : set.FinSet nat_cmp) (p : ℕ) → Contains (places n s) p → (p < n) × (set.contains s p ≡ true)
+places-Contains n s p h = (
+  (let below : p < 0 + n = All-contains (λ p. p < 0 + n) (places n s) p (All-filter (set.contains s) (λ p. p < 0 + n) (range_with_len 0 n) (range_below 0 n)) h in omega arith),
+  All-contains (λ p. set.contains s p ≡ true) (places n s) p (filter_passes (set.contains s) (range_with_len 0 n)) h,
+)
+
+-- in the course of a loop over the members: p is one, those before it are below it and those after it above
+pub places-here : (n : ℕ) (s : set.FinSet nat_cmp) (ys zs : List ℕ) (p : ℕ) → places n s ≡ ys ++ p ∷ zs → (p < n) × (set.contains s p ≡ true)
+places-here n s ys zs p e = places-Contains n s p (subst (λ xs. Contains xs p) (sym e) (Contains-append_right ys (p ∷ zs) p (0, omega arith, refl)))
+
+pub IsRising-split : (ys zs : List ℕ) (p : ℕ) → IsRising (ys ++ p ∷ zs) → ((q : ℕ) → Contains ys q → q < p) × AllAbove p zs
+IsRising-split [] zs p h = (λ q c. absurd (omega (arith, c.1)), h.0)
+IsRising-split (y ∷ ys) zs p h =
+    let rest : ((q : ℕ) → Contains ys q → q < p) × AllAbove p zs = IsRising-split ys zs p h.1 in (
+      λ q c. elim (Contains-append_cases (y ∷ []) ys q c) as (λ _. q < p) [
+        | inl first ↦ let same : y ≡ q = only y q first in let low : y < p = above_at y ys zs p h.0 in omega arith
+        | inr later ↦ rest.0 q later
+      ],
+      rest.1,
+    )
+  where
+    only : (y q : ℕ) → Contains (y ∷ []) q → y ≡ q
+    only y q c = elim (cases_eq c.0 0) as (λ _. y ≡ q) [
+      | inl e ↦ subst (λ k. get_or (y ∷ []) k q ≡ q) e c.2
+      | inr e ↦ absurd (omega (arith, c.1))
+    ]
+
+    above_at : (x : ℕ) (ys zs : List ℕ) (p : ℕ) → AllAbove x (ys ++ p ∷ zs) → x < p
+    above_at x [] zs p h = h.0
+    above_at x (y ∷ ys) zs p h = above_at x ys zs p h.1
+
+-- one more place that passes the test
+pub len-where_below-suc : (f : ℕ → Bool) (n : ℕ) → set.len (where_below f (suc n)) ≡ cond (f n) 1 0 + set.len (where_below f n)
+unfolding where_below
+len-where_below-suc f n = elim (f n) as (λ b. set.len (cond b (set.insert (where_below f n) n) (where_below f n)) ≡ cond b 1 0 + set.len (where_below f n)) [
+  | true ↦
+      let absent : set.contains (where_below f n) n ≡ false = contains-where_below f n n ∙ ap (λ b. b && f n) (le-ltb n n (omega arith)) in
+      set.len-insert nat_cmp_total (where_below f n) n ∙ ap (λ b. cond b (set.len (where_below f n)) (set.len (where_below f n) + 1)) absent ∙ omega arith
+  | false ↦ omega arith
+]
+
+pub len-where_below-zero : (f : ℕ → Bool) → set.len (where_below f 0) ≡ 0
+unfolding where_below
+len-where_below-zero f = set.len-empty nat_cmp
+
+range-more : (a n : ℕ) → range_with_len a (suc n) ≡ range_with_len a n ++ (a + n) ∷ []
+range-more a zero = ap (λ m. m ∷ []) (sym (add-zero a))
+range-more a (suc n) = ap (λ xs. a ∷ xs) (range-more (a + 1) n ∙ ap (λ m. range_with_len (a + 1) n ++ m ∷ []) (omega arith))
+
+-- how many numbers below n pass the test
+pub len-where_below : (f : ℕ → Bool) (n : ℕ) → set.len (where_below f n) ≡ length (filter f (range_with_len 0 n))
+len-where_below f zero = len-where_below-zero f
+len-where_below f (suc n) =
+    len-where_below-suc f n ∙ ap (λ m. cond (f n) 1 0 + m) (len-where_below f n)
+    ∙ sym (ap (λ xs. length (filter f xs)) (range-more 0 n ∙ ap (λ m. range_with_len 0 n ++ m ∷ []) (zero-add n)) ∙ ap length (filter-append f (range_with_len 0 n) (n ∷ [])) ∙ length-append _ _ ∙ last (f n))
+  where
+    last : (b : Bool) → length (filter f (range_with_len 0 n)) + length (cond b (n ∷ []) []) ≡ cond b 1 0 + length (filter f (range_with_len 0 n))
+    last true = omega arith
+    last false = omega arith
+
+-- as many as there are members
+pub len-places : (n : ℕ) (s : set.FinSet nat_cmp) → IsWithin n s → set.len s ≡ length (places n s)
+len-places n s within = ap set.len (sym (where_below-contains n s within)) ∙ len-where_below (set.contains s) n

@@ -1,14 +1,12 @@
 -- What is done with words is done with the sets that they stand for.
-use Rattle.std.proofs.Common.{◌≡◌, ℕ, zero, suc, ◌+◌, ◌-◌, ◌*◌, ◌/◌, ◌%◌, ◌^◌, ◌<◌, ◌≤◌, Bool, true, false, cond, not, ◌&&◌, ◌||◌, ◌⊎◌, ◌≢◌, nat_eq, nat_lt, List, length, map, set, bit_and, bit_or, slice_index, inl, inr, refl, sym, ap, ◌∙◌, subst, arith, lt-ltb, le-ltb, length-set, get_or-set_same, get_or-set_other}
-use Rattle.std.proofs.lemmas.Bool.{cases_lt, cases_eq}
+use Rattle.std.proofs.Common.{◌≡◌, ℕ, ◌+◌, ◌*◌, ◌/◌, ◌%◌, ◌<◌, ◌≤◌, false, ◌&&◌, nat_lt, List, length, slice_index, inl, inr, refl, sym, ap, ◌∙◌, arith, lt-ltb, le-ltb}
+use Rattle.std.proofs.lemmas.Bool.{cases_lt}
 use Rattle.std.proofs.lemmas.List.{get_or_past}
 use Rattle.std.proofs.lemmas.List.FromFn.{fill_by_all}
-use Rattle.std.specs.List.{range_with_len}
 use Rattle.std.specs.Ordering.{nat_cmp}
 use Rattle.std.specs.FinSet as fin
-use Rattle.bitset.specs.Places.{where_below, first_places, IsLeast}
 use Rattle.bitset.specs.Words.{is_set, is_place, members_of, number_of, words_of, AreWords}
-use Rattle.bitset.specs.OneBit.{is_set-zero, is_set-and, is_set-or, is_set-not, is_set-number_of, number_of_lt, same_from_set}
+use Rattle.bitset.specs.OneBit.{is_set-zero, is_set-number_of, number_of_lt, same_from_set}
 use Rattle.bitset.specs.Sets.{contains-where_below, same_members}
 
 -- no place lies behind the words

@@ -6,3 +6,6 @@
 mod bits;
 
 pub use bits::{Bits, BitsIter};
+
+#[cfg(test)]
+mod tests;

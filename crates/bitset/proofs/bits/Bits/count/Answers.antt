@@ -1,8 +1,9 @@
-use Rattle.std.proofs.Common.{sym, subst, ap, ◌∙◌, ◌*◌, ◌+◌, ◌≡◌, length, slice_index, count_ones, arith, min, ◌^◌, ◌-◌}
+use Rattle.std.proofs.Common.{subst, ap, ◌∙◌, ◌*◌, arith, min, ◌^◌, ◌-◌}
 use Rattle.std.specs.FinSet as fin
-use Rattle.bitset.specs.Places.{IsWithin, where_below}
-use Rattle.bitset.specs.Words.{is_place, members_of}
-use Rattle.bitset.proofs.Counts.{len-where_below-zero, len-where_below-word, len-members_of}
+use Rattle.bitset.specs.Places.{IsWithin}
+use Rattle.bitset.specs.Words.{is_place}
+use Rattle.bitset.specs.Sets.{len-where_below-zero}
+use Rattle.bitset.proofs.Counts.{len-where_below-word, len-members_of}
 use Rattle.bitset.proofs.Operations.{members_of-within}
 use Rattle.bitset.proofs.bits.Bits.count.Goals as goal
 

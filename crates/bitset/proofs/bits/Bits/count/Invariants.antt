@@ -1,4 +1,4 @@
-use Rattle.std.proofs.Common.{◌≡◌, ℕ, ◌*◌, ◌-◌, ◌^◌, min}
+use Rattle.std.proofs.Common.{◌≡◌, ◌*◌, ◌-◌, ◌^◌, min}
 use Rattle.std.specs.FinSet as fin
 use Rattle.bitset.specs.Places.{where_below}
 use Rattle.bitset.specs.Words.{is_place}

@@ -1,4 +1,4 @@
-use Rattle.std.proofs.Common.{rules, ◌<◌, ◌*◌, ◌/◌, length, slice_index, ap, ◌∙◌, arith}
+use Rattle.std.proofs.Common.{rules, ◌<◌, ◌*◌, ◌/◌, length, ap, ◌∙◌, arith}
 use Rattle.std.proofs.lemmas.Nat.{or_lt}
 use Rattle.std.specs.FinSet as fin
 use Rattle.bitset.proofs.Operations.{insert_is, AreWords-set}

@@ -1,5 +1,4 @@
-use Rattle.std.proofs.Common.{rules, sym, ap, ◌∙◌, ◌*◌, arith, ◌≡◌, length, List, ℕ, [], ◌∷◌, ◌<◌}
-use Rattle.std.specs.FinSet as fin
+use Rattle.std.proofs.Common.{rules, sym, ap, ◌∙◌, ◌*◌, arith, ◌≡◌, length, [], ◌∷◌, ◌<◌}
 use Rattle.bitset.specs.Places.{places}
 use Rattle.bitset.specs.Sets.{places-least, places-empty}
 use Rattle.bitset.proofs.bits.BitsIterIterator.next.Goals as goal
