@@ -1,0 +1,4 @@
+pub mod Products
+pub mod Rates
+pub mod Sums
+pub mod Bounds

@@ -1,0 +1,69 @@
+-- Laws of sums of integers over lists.
+use Rattle.std.proofs.Common.{◌≡◌, List, [], ◌∷◌, ◌++◌, Bool, true, false, not, cond, ℤ, pos, ◌+ℤ◌, ◌-ℤ◌, ◌*ℤ◌, neg_ℤ, ◌≤ℤ◌, refl, sym, ap, ◌∙◌, arith}
+use Rattle.std.specs.List.{filter}
+use Rattle.std.proofs.lemmas.Int.{ints}
+use Rattle.arithmetic.specs.Sums.{total}
+use Rattle.arithmetic.proofs.Products.{mul-add_left}
+
+-- ---- over `++`, over a filter, over a permuted pair of sums
+pub total-append : {A : Type 0} (f : A → ℤ) (xs ys : List A) → total f (xs ++ ys) ≡ total f xs +ℤ total f ys
+total-append f [] ys = omega (arith, ints)
+total-append f (x ∷ xs) ys = omega (arith, ints, total-append f xs ys)
+
+split_step : {A : Type 0} (f : A → ℤ) (x : A) (all : ℤ) (ys zs : List A) (b : Bool) → all ≡ total f ys +ℤ total f zs → f x +ℤ all ≡ total f (cond b (x ∷ ys) ys) +ℤ total f (cond (not b) (x ∷ zs) zs)
+split_step f x all ys zs true e = omega (arith, ints)
+split_step f x all ys zs false e = omega (arith, ints)
+
+-- the entries that pass a test and those that don't
+pub total-filter : {A : Type 0} (f : A → ℤ) (p : A → Bool) (xs : List A) → total f xs ≡ total f (filter p xs) +ℤ total f (filter (λ x. not (p x)) xs)
+total-filter f p [] = refl
+total-filter f p (x ∷ xs) = split_step f x (total f xs) (filter p xs) (filter (λ y. not (p y)) xs) (p x) (total-filter f p xs)
+
+cond_step : {A : Type 0} (f : A → ℤ) (x : A) (all : ℤ) (ys : List A) (b : Bool) → total f ys ≡ all → total f (cond b (x ∷ ys) ys) ≡ cond b (f x) (pos 0) +ℤ all
+cond_step f x all ys true e = omega (arith, ints)
+cond_step f x all ys false e = omega (arith, ints)
+
+-- a sum over the entries that pass a test is a sum with 0 at the others
+pub total-filter_cond : {A : Type 0} (f : A → ℤ) (p : A → Bool) (xs : List A) → total f (filter p xs) ≡ total (λ x. cond (p x) (f x) (pos 0)) xs
+total-filter_cond f p [] = refl
+total-filter_cond f p (x ∷ xs) = cond_step f x (total (λ y. cond (p y) (f y) (pos 0)) xs) (filter p xs) (p x) (total-filter_cond f p xs)
+
+pub total-add : {A : Type 0} (f g : A → ℤ) (xs : List A) → total (λ x. f x +ℤ g x) xs ≡ total f xs +ℤ total g xs
+total-add f g [] = refl
+total-add f g (x ∷ xs) = omega (arith, ints, total-add f g xs)
+
+pub total-neg : {A : Type 0} (f : A → ℤ) (xs : List A) → total (λ x. neg_ℤ (f x)) xs ≡ neg_ℤ (total f xs)
+total-neg f [] = refl
+total-neg f (x ∷ xs) = omega (arith, ints, total-neg f xs)
+
+pub total-sub : {A : Type 0} (f g : A → ℤ) (xs : List A) → total (λ x. f x -ℤ g x) xs ≡ total f xs -ℤ total g xs
+total-sub f g [] = refl
+total-sub f g (x ∷ xs) = omega (arith, ints, total-sub f g xs)
+
+pub total-scale : {A : Type 0} (f : A → ℤ) (k : ℤ) (xs : List A) → total (λ x. f x *ℤ k) xs ≡ total f xs *ℤ k
+total-scale f k [] = omega (arith, ints)
+total-scale f k (x ∷ xs) = omega (arith, ints, total-scale f k xs, mul-add_left (f x) (total f xs) k)
+
+pub total-zero : {A : Type 0} (xs : List A) → total {A = A} (λ x. pos 0) xs ≡ pos 0
+total-zero [] = refl
+total-zero {A} (x ∷ xs) = omega (arith, ints, total-zero {A = A} xs)
+
+-- the two orders of a double sum
+pub total_swap : {A B : Type 0} (f : A → B → ℤ) (xs : List A) (ys : List B) → total (λ x. total (λ y. f x y) ys) xs ≡ total (λ y. total (λ x. f x y) xs) ys
+total_swap f [] ys = sym (total-zero ys)
+total_swap f (x ∷ xs) ys =
+    ap (λ (n : ℤ). total (λ y. f x y) ys +ℤ n) (total_swap f xs ys) ∙ sym (total-add (λ y. f x y) (λ y. total (λ x. f x y) xs) ys)
+
+-- ---- order
+pub total_same : {A : Type 0} (f g : A → ℤ) (xs : List A) → ((x : A) → f x ≡ g x) → total f xs ≡ total g xs
+total_same f g [] e = refl
+total_same f g (x ∷ xs) e = omega (arith, ints, e x, total_same f g xs e)
+
+pub total_keeps : {A : Type 0} (f g : A → ℤ) (xs : List A) → ((x : A) → f x ≤ℤ g x) → total f xs ≤ℤ total g xs
+total_keeps f g [] h = omega (arith, ints)
+total_keeps f g (x ∷ xs) h = omega (arith, ints, h x, total_keeps f g xs h)
+
+-- terms of at least 0 whose sum is 0 are each 0
+pub total_at_least_zero : {A : Type 0} (f : A → ℤ) (xs : List A) → ((x : A) → pos 0 ≤ℤ f x) → pos 0 ≤ℤ total f xs
+total_at_least_zero f [] h = omega (arith, ints)
+total_at_least_zero f (x ∷ xs) h = omega (arith, ints, h x, total_at_least_zero f xs h)

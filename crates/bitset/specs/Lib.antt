@@ -1,0 +1,5 @@
+pub mod OneBit
+pub mod Places
+pub mod Sets
+pub mod WordSets
+pub mod Words

@@ -1,0 +1,95 @@
+ghost use Rattle.std.specs.Prelude.{◌≡◌, ◌+◌, ◌-◌, ◌^◌, ◌<◌, ◌≤◌, pos, ◌+ℤ◌, ◌-ℤ◌, ◌*ℤ◌, unsigned_abs};
+ghost use Rattle.fee_rate.specs.Limits.{InRange, IsSum};
+ghost use Rattle.fee_rate.specs.Rates.{ComparesFully, ComparesRates};
+
+use std::cmp::Ordering;
+
+/// The fee of a transaction, in satoshis, and its size, in virtual bytes.
+#[derive(Clone, Copy, Debug, PartialEq, Eq)]
+pub struct FeeRate {
+    pub fee: i64,
+    pub size: u64,
+}
+
+/// The total fee of some transactions, in satoshis, and their total size, in virtual bytes.
+#[derive(Clone, Copy, Debug, PartialEq, Eq)]
+pub struct Sum {
+    pub fee: i128,
+    pub size: u64,
+}
+
+impl From<FeeRate> for Sum {
+    ghost from_gives = { λ rate sum. (sum.fee ≡ rate.fee) × (sum.size ≡ rate.size) };
+
+    fn from(rate: FeeRate) -> Sum {
+        Sum {
+            fee: i128::from(rate.fee),
+            size: rate.size,
+        }
+    }
+}
+
+/// Which rate is the lower one, fee over size. Both sizes are at least 1.
+pub fn cmp_rate(a: Sum, b: Sum) -> Ordering
+    requires a_in { IsSum a }
+    requires b_in { IsSum b }
+    requires a_some { 1 ≤ a.size }
+    requires b_some { 1 ≤ b.size }
+    ensures { ComparesRates a b result }
+{
+    crossed(a.fee, b.size).cmp(&crossed(b.fee, a.size))
+}
+
+/// Which sum stands first by rising rate and, among equal rates, by falling size. Both sizes are at least 1.
+/// It answers `Equal` only for equal numbers.
+pub fn cmp_full(a: Sum, b: Sum) -> Ordering
+    requires a_in { IsSum a }
+    requires b_in { IsSum b }
+    requires a_some { 1 ≤ a.size }
+    requires b_some { 1 ≤ b.size }
+    ensures { ComparesFully a b result }
+{
+    match cmp_rate(a, b) {
+        Ordering::Less => Ordering::Less,
+        Ordering::Equal => b.size.cmp(&a.size),
+        Ordering::Greater => Ordering::Greater,
+    }
+}
+
+/// The sum of both. The result is in range.
+pub fn add(a: Sum, b: Sum) -> Sum
+    requires a_in { IsSum a }
+    requires b_in { IsSum b }
+    requires in_range { InRange (a.fee +ℤ b.fee) (a.size + b.size) }
+    ensures fee { result.fee ≡ a.fee +ℤ b.fee }
+    ensures size { result.size ≡ a.size + b.size }
+{
+    Sum {
+        fee: a.fee + b.fee,
+        size: a.size + b.size,
+    }
+}
+
+/// What is left of `a` without `b`. The result is in range, so `b` is not larger than `a`.
+pub fn minus(a: Sum, b: Sum) -> Sum
+    requires a_in { IsSum a }
+    requires b_in { IsSum b }
+    requires not_larger { b.size ≤ a.size }
+    requires in_range { InRange (a.fee -ℤ b.fee) (a.size - b.size) }
+    ensures fee { result.fee ≡ a.fee -ℤ b.fee }
+    ensures size { result.size + b.size ≡ a.size }
+{
+    Sum {
+        fee: a.fee - b.fee,
+        size: a.size - b.size,
+    }
+}
+
+/// A fee times a size. Below 2^114 in absolute value.
+fn crossed(fee: i128, size: u64) -> i128
+    requires { InRange fee size }
+    ensures product { result ≡ fee *ℤ pos size }
+    ensures bound { unsigned_abs result < 2 ^ 114 }
+{
+    fee * i128::from(size)
+}
