@@ -67,8 +67,8 @@ impl Answer {
             Answer::Unread => write_word(sink, "refused syntax"),
             Answer::Refused(why) => write_refusal(sink, why),
             Answer::Done => write_word(sink, "ok"),
-            Answer::Names => write_ids(sink, "ids", found),
-            Answer::Number(n) => write_ids(sink, "count", &[*n]),
+            Answer::Names => write_ids(sink, "ids", None, found),
+            Answer::Number(n) => write_ids(sink, "count", None, &[*n]),
         }
     }
 }

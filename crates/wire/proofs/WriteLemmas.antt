@@ -4,7 +4,7 @@ use Rattle.std.specs.Io.KnownBytes.{Appends}
 use Rattle.std.proofs.KnownBytes.{Appends-trans}
 use Rattle.outside.specs.Transfers.{Writes, AppendsFront}
 use Rattle.outside.proofs.Fronts.{AppendsFront-after, AppendsFront-longer}
-use Rattle.wire.specs.Pieces.{GoesOn, numbers_text}
+use Rattle.wire.specs.Pieces.{GoesOn, words_text}
 use Rattle.graph_model.specs.Commands.{spaced}
 use Rattle.graph_model.specs.Replies.{refusal_words}
 use Rattle.graph_model.specs.declared.names.Refusal.{Refusal}
@@ -55,7 +55,11 @@ refusal_line Empty = refl
 refusal_line NoStaging = refl
 refusal_line Memory = refl
 
--- a word and numbers with one space between them
-pub spaced_numbers : (head : List ℕ) (ids : List ℕ) → spaced (head ∷ map decimal ids) ≡ head ++ numbers_text ids
-spaced_numbers head [] = sym (append-nil head)
-spaced_numbers head (id ∷ ids) = ap (λ (xs : List ℕ). head ++ 32 ∷ xs) (spaced_numbers (decimal id) ids)
+-- words with one space between them are the first, and each of the others after a space
+pub spaced_words : (head : List ℕ) (words : List (List ℕ)) → spaced (head ∷ words) ≡ head ++ words_text words
+spaced_words head [] = sym (append-nil head)
+spaced_words head (word ∷ words) = ap (λ (xs : List ℕ). head ++ 32 ∷ xs) (spaced_words word words)
+
+pub words_text-append : (words more : List (List ℕ)) → words_text (words ++ more) ≡ words_text words ++ words_text more
+words_text-append [] more = refl
+words_text-append (word ∷ words) more = ap (λ (xs : List ℕ). (32 ∷ word) ++ xs) (words_text-append words more) ∙ sym (append_assoc (32 ∷ word) (words_text words) (words_text more))

@@ -1,5 +1,7 @@
 -- A line that is written in pieces.
 use Rattle.std.specs.Prelude.{◌≡◌, ℕ, List, [], ◌∷◌, decimal, Option, None, Some, Ok, Err, Result, flat_map}
+use Rattle.std.specs.Fmt.{signed_decimal}
+use Rattle.fee_rate.specs.declared.rates.Sum.{Sum}
 use Rattle.outside.specs.Transfers.{Writes}
 use Rattle.graph_model.specs.declared.names.Refusal.{Refusal}
 use Rattle.graph_model.specs.declared.names.Refusal.TheVariants.{Late, Range, Fee, Size, Taken, ClusterSize, Full, Unknown, Cycle, Count, Staging, Twice, Parent, Empty, NoStaging, Memory}
@@ -33,6 +35,11 @@ kept_of Empty = None
 kept_of NoStaging = None
 kept_of Memory = None
 
--- numbers, each after a space
-abbrev pub numbers_text : List ℕ → List ℕ
-numbers_text ids = flat_map (λ id. 32 ∷ decimal id) ids
+-- words, each after a space
+abbrev pub words_text : List (List ℕ) → List ℕ
+words_text words = flat_map (λ word. 32 ∷ word) words
+
+-- the words of sums, where there are some: the fee, then the size
+abbrev pub sum_words : Option Sum → List (List ℕ)
+sum_words None = []
+sum_words (Some sums) = signed_decimal sums.fee ∷ decimal sums.size ∷ []

@@ -1,9 +1,11 @@
 ghost use Rattle.std.specs.Prelude.{◌≡◌, ℕ, ◌∷◌, ◌++◌, Option, decimal, map};
+ghost use Rattle.std.specs.Fmt.{signed_decimal};
 ghost use Rattle.outside.specs.Transfers.{Writes};
 ghost use Rattle.graph_model.specs.Replies.{line_text, refusal_text, refusal_words};
 ghost use Rattle.graph_model.specs.Commands.{spaced};
-ghost use Rattle.wire.specs.Pieces.{GoesOn, number_after, numbers_text, kept_of};
+ghost use Rattle.wire.specs.Pieces.{GoesOn, number_after, words_text, sum_words, kept_of};
 
+use fee_rate::Sum;
 use graph_model::Refusal;
 use itoa::Buffer;
 use outside::{Failed, Sink};
@@ -100,7 +102,7 @@ fn more_numbers<K: Sink>(
     sink: &mut K,
     ids: &[u64],
 ) -> Result<(), Failed>
-    ensures { GoesOn so_far (K.written sink.old) (K.written sink.new) (K.faults sink.old) (K.faults sink.new) result (numbers_text ids.now) }
+    ensures { GoesOn so_far (K.written sink.old) (K.written sink.new) (K.faults sink.old) (K.faults sink.new) result (words_text (map decimal ids.now)) }
 {
     let mut so_far = so_far;
     for id in ids {
@@ -109,11 +111,44 @@ fn more_numbers<K: Sink>(
     so_far
 }
 
-/// Writes a line of a word and numbers: names in their order, or a count.
-pub fn write_ids<K: Sink>(sink: &mut K, head: &str, ids: &[u64]) -> Result<(), Failed>
-    ensures { Writes (K.written sink.old) (K.written sink.new) (K.faults sink.old) (K.faults sink.new) result (line_text (spaced (head.now ∷ map decimal ids.now))) }
+/// Goes on with a space and the fee, and a space and the size, where there are sums.
+fn more_sums<K: Sink>(
+    so_far: Result<(), Failed>,
+    sink: &mut K,
+    sums: Option<Sum>,
+) -> Result<(), Failed>
+    ensures { GoesOn so_far (K.written sink.old) (K.written sink.new) (K.faults sink.old) (K.faults sink.new) result (words_text (sum_words sums)) }
+{
+    match sums {
+        Some(sums) => {
+            let so_far = more_signed(so_far, sink, sums.fee);
+            more_number(so_far, sink, sums.size)
+        }
+        None => more(so_far, sink, b""),
+    }
+}
+
+/// Goes on with a space and a number that may have a sign.
+fn more_signed<K: Sink>(so_far: Result<(), Failed>, sink: &mut K, n: i128) -> Result<(), Failed>
+    ensures { GoesOn so_far (K.written sink.old) (K.written sink.new) (K.faults sink.old) (K.faults sink.new) result (32 ∷ signed_decimal n) }
+{
+    let mut buffer = Buffer::new();
+    let so_far = more(so_far, sink, b" ");
+    more(so_far, sink, buffer.format(n).as_bytes())
+}
+
+/// Writes a line of a word, sums where there are some (the fee in satoshis, then the size in
+/// virtual bytes), and numbers: names in their order, or a count.
+pub fn write_ids<K: Sink>(
+    sink: &mut K,
+    head: &str,
+    sums: Option<Sum>,
+    ids: &[u64],
+) -> Result<(), Failed>
+    ensures { Writes (K.written sink.old) (K.written sink.new) (K.faults sink.old) (K.faults sink.new) result (line_text (spaced (head.now ∷ (sum_words sums ++ map decimal ids.now)))) }
 {
     let so_far = sink.write_all(head.as_bytes());
+    let so_far = more_sums(so_far, sink, sums);
     let so_far = more_numbers(so_far, sink, ids);
     more(so_far, sink, b"\n")
 }
