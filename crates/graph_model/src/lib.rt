@@ -7,6 +7,8 @@
 mod ids;
 mod laws;
 mod names;
+#[cfg(test)]
+mod tests;
 
 pub use ids::{IdBuf, IdList};
 pub use laws::{answers_are_in_order, refused_changes_nothing};

@@ -1,8 +1,8 @@
 -- Texts of which a front was written.
-use Rattle.std.proofs.Common.{◌≡◌, ℕ, List, ◌++◌, Option, refl, sym, ap, ◌∙◌, append_assoc}
+use Rattle.std.proofs.Common.{ℕ, List, ◌++◌, Option, sym, ap, ◌∙◌, append_assoc}
 use Rattle.std.specs.Io.KnownBytes.{Appends}
 use Rattle.std.proofs.KnownBytes.{Appends-trans}
-use Rattle.outside.specs.Transfers.{AppendsFront, IsFront}
+use Rattle.outside.specs.Transfers.{AppendsFront}
 
 -- a text was written, and then a front of the next
 pub AppendsFront-after : (a b c : Option (List ℕ)) (first second : List ℕ) → Appends a b first → AppendsFront b c second → AppendsFront a c (first ++ second)

@@ -11,6 +11,8 @@ mod sink;
 mod source;
 mod std_io;
 mod sure;
+#[cfg(test)]
+mod tests;
 
 pub use errors::{Failed, NoMemory};
 pub use mem_sink::MemSink;

@@ -5,29 +5,39 @@ ghost use Rattle.outside.specs.Faults.{HasCause};
 ghost use Rattle.outside.specs.Transfers.{TakesSome};
 
 use crate::{Failed, Sink, Source};
+use std::marker::Model;
 
 /// A source over a slice. It never fails, and tells its bytes.
+#[derive(Debug, Drop)]
 pub struct SureSource<'a> {
     rest: &'a [u8],
+}
+
+impl<'a> Model for SureSource<'a> {
+    ghost use Rattle.std.specs.Prelude.{List, ℕ};
+
+    ghost Value = { List ℕ };
+
+    ghost view = { λ a. a.rest.now };
 }
 
 impl<'a> SureSource<'a> {
     /// A source that gives these bytes.
     pub fn new(bytes: &'a [u8]) -> SureSource<'a>
-        ensures { result.rest.now ≡ bytes.now }
+        ensures { result ≡ bytes.now }
     {
         SureSource { rest: bytes }
     }
 }
 
 impl Source for SureSource<'_> {
-    ghost left = { λ source. Some source.rest.now };
+    ghost left = { λ source. Some source };
 
     ghost faults = { λ _. 0 };
 
     fn read(&mut self, buf: &mut [u8]) -> Result<usize, Failed>
         ensures bound { ReadsAtMost result buf.new }
-        ensures bytes { ReadConsumes (Some self.old.rest.now) (Some self.new.rest.now) result buf.new }
+        ensures bytes { ReadConsumes (Some self.old) (Some self.new) result buf.new }
         ensures cause { HasCause 0 0 result }
         ensures sure { IsOk result }
     {

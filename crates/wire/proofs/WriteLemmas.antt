@@ -1,8 +1,8 @@
 -- Pieces that are written one after the other.
-use Rattle.std.proofs.Common.{◌≡◌, ℕ, ◌≤◌, List, ◌++◌, Option, Ok, Err, Result, refl, sym, arith, append_assoc, ◌∙◌, ap, ◌∷◌, [], codes, map, decimal, append-nil}
+use Rattle.std.proofs.Common.{◌≡◌, ℕ, ◌≤◌, List, ◌++◌, Option, Ok, Err, Result, refl, sym, arith, append_assoc, ◌∙◌, ap, ◌∷◌, [], codes, append-nil}
 use Rattle.std.specs.Io.KnownBytes.{Appends}
 use Rattle.std.proofs.KnownBytes.{Appends-trans}
-use Rattle.outside.specs.Transfers.{Writes, AppendsFront}
+use Rattle.outside.specs.Transfers.{Writes}
 use Rattle.outside.proofs.Fronts.{AppendsFront-after, AppendsFront-longer}
 use Rattle.wire.specs.Pieces.{GoesOn, words_text}
 use Rattle.graph_model.specs.Commands.{spaced}

@@ -4,6 +4,8 @@
 mod form;
 mod line;
 mod numbers;
+#[cfg(test)]
+mod tests;
 mod words;
 mod write;
 

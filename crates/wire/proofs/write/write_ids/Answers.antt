@@ -1,4 +1,4 @@
-use Rattle.std.proofs.Common.{◌≡◌, List, ℕ, ◌++◌, ◌∷◌, [], ap, sym, ◌∙◌, refl, map, decimal}
+use Rattle.std.proofs.Common.{◌≡◌, List, ℕ, ◌++◌, ◌∷◌, [], ap, ◌∙◌, refl, map, decimal}
 use Rattle.graph_model.specs.Commands.{spaced}
 use Rattle.wire.specs.Pieces.{words_text, sum_words}
 use Rattle.wire.proofs.WriteLemmas.{writes_on, goes_further, spaced_words, words_text-append}
