@@ -4,7 +4,10 @@ use Rattle.graph_model.specs.declared.names.Refusal.{Refusal}
 use Rattle.graph_model.specs.States.{State}
 use Rattle.graph_model.specs.Commands.{Command, Add, Dep, Ancestors, Descendants, Count}
 use Rattle.graph_model.specs.Replies.{Refused}
-use Rattle.graph_model.specs.Steps.{Step, Accepts}
+use Rattle.graph_model.specs.Steps.{Step, Accepts, MayLackMemory}
+use Rattle.graph_model.specs.Refusals.{RefusalIs}
+use Rattle.graph_model.specs.declared.names.Refusal.TheVariants.{Memory}
+use Rattle.std.proofs.Common.{Some, None, sym}
 use Rattle.graph_model.specs.Runs.{Answer, Run}
 use Rattle.std.proofs.Common.{inl, inr}
 
@@ -29,3 +32,23 @@ refused_keeps_state old new command why step = elim step [
     | inr accepted ↦ absurd (no_accepted_refusal old new command why accepted.accepts)
   ]
 ]
+
+-- no row of refusals has `memory`
+no_memory_in_row : (state : State) (command : Command) → (MayLackMemory command → ⊥) → RefusalIs state command (Some Memory) → ⊥
+no_memory_in_row state (Add id fee size) reads refused = reads tt
+no_memory_in_row state (Dep parent child) reads refused = reads tt
+no_memory_in_row state (Ancestors id level) reads refused = elim refused [ inl first ↦ let e = first.1 in cc | inr later ↦ let e = later.1 in cc ]
+no_memory_in_row state (Descendants id level) reads refused = elim refused [ inl first ↦ let e = first.1 in cc | inr later ↦ let e = later.1 in cc ]
+no_memory_in_row state (Count level) reads refused = cc
+
+reason : (why : Refusal) → Refused why ≡ Refused Memory → why ≡ Memory
+reason why is = cc
+
+pub readings_lack_none : (old new : State) (command : Command) → (MayLackMemory command → ⊥) → Step old command (Refused Memory) new → ⊥
+readings_lack_none old new command reads step = elim step [
+  | inl refused ↦ no_memory_in_row old command reads (subst (λ (why : Refusal). RefusalIs old command (Some why)) (reason refused.why (sym refused.told)) refused.first)
+  | inr rest ↦ elim rest [
+    | inl lacks ↦ reads lacks.may
+    | inr accepted ↦ no_accepted_refusal old new command Memory accepted.accepts
+    ]
+  ]

@@ -1,5 +1,5 @@
 //! Laws over the definitions, each the contract of a function that does nothing.
-ghost use Rattle.graph_model.specs.Laws.{AnswersAreInOrder, RefusedChangesNothing};
+ghost use Rattle.graph_model.specs.Laws.{AnswersAreInOrder, ReadingsLackNoMemory, RefusedChangesNothing};
 
 /// No answer is lost or out of order: a run over lines that come one after the other is the run over
 /// the first of them, and then over the others.
@@ -11,3 +11,9 @@ pub fn answers_are_in_order()
 pub fn refused_changes_nothing()
     ensures { RefusedChangesNothing }
 {}
+
+/// A reading is never refused for want of memory.
+pub fn readings_lack_no_memory()
+    ensures { ReadingsLackNoMemory }
+{
+}

@@ -11,5 +11,5 @@ mod names;
 mod tests;
 
 pub use ids::{IdBuf, IdList};
-pub use laws::{answers_are_in_order, refused_changes_nothing};
+pub use laws::{answers_are_in_order, readings_lack_no_memory, refused_changes_nothing};
 pub use names::{Level, Limits, Refusal, TxId};

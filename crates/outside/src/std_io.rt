@@ -1,4 +1,4 @@
-ghost use Rattle.std.specs.Prelude.{◌≤◌, None};
+ghost use Rattle.std.specs.Prelude.{◌≡◌, ◌≤◌, None};
 ghost use Rattle.outside.specs.Faults.{Rose};
 
 use crate::{Failed, Sink, Source};
@@ -13,7 +13,9 @@ pub struct ReadSource<R> {
 
 impl<R: Read> ReadSource<R> {
     /// A source over this reader, without faults so far.
-    pub fn new(inner: R) -> ReadSource<R> {
+    pub fn new(inner: R) -> ReadSource<R>
+        ensures { ⟦<ReadSource<R> as Source>⟧.faults result ≡ 0 }
+    {
         ReadSource { inner, faults: 0 }
     }
 }
@@ -44,7 +46,9 @@ pub struct WriteSink<W> {
 
 impl<W: Write> WriteSink<W> {
     /// A sink over this writer, without faults so far.
-    pub fn new(inner: W) -> WriteSink<W> {
+    pub fn new(inner: W) -> WriteSink<W>
+        ensures { ⟦<WriteSink<W> as Sink>⟧.faults result ≡ 0 }
+    {
         WriteSink { inner, faults: 0 }
     }
 
