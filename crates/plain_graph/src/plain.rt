@@ -1,4 +1,4 @@
-ghost use Rattle.std.specs.Prelude.{◌≡◌, ◌+◌, ◌-◌, ◌^◌, ◌<◌, false, [], length, IfOk, if◌then◌else◌, is_ok};
+ghost use Rattle.std.specs.Prelude.{◌≡◌, ◌+◌, ◌-◌, ◌*◌, ◌^◌, ◌<◌, ◌≤◌, false, [], length, IfOk, OnOk, if◌then◌else◌, is_ok, max};
 ghost use Rattle.graph_model.specs.Limits.{default_limits};
 ghost use Rattle.graph_model.specs.Commands.{Add, Dep, Ancestors, Descendants, Count};
 ghost use Rattle.graph_model.specs.Replies.{Number};
@@ -9,6 +9,13 @@ use std::alloc::Global;
 use std::marker::Model;
 
 use crate::tx::Tx;
+use crate::txs::is_live;
+
+/// What a transaction may pay at most, and as a negative fee at least, in satoshis.
+const MAX_FEE: i64 = 2_100_000_000_000_000;
+
+/// How large a transaction may be, in virtual bytes.
+const MAX_SIZE: u64 = 4_000_000;
 
 /// The plain graph: every call walks its lists.
 #[derive(Drop)]
@@ -23,16 +30,33 @@ pub struct Plain {
 }
 
 impl Model for Plain {
+    ghost use Rattle.std.specs.Prelude.{◌+◌, length};
     ghost use Rattle.plain_graph.specs.Plain.{Kept};
+    ghost use Rattle.plain_graph.specs.Sound.{IsSound};
 
     ghost Value = { Kept };
 
     ghost view = { λ a. record { limits = a.limits; begun = a.begun; txs = a.txs.items; pairs = a.pairs.items; found = a.found.ids; additions = a.additions } };
+
+    ghost invariant = { λ a. IsSound a.limits a.txs.items a.pairs.items (length a.found.ids + a.found.room) };
+}
+
+/// Makes room for at least this many names, where there is less. The list is empty then.
+fn make_room(found: &mut IdBuf, alloc: Global, names: usize) -> Result<(), NoMemory>
+    ensures ok { OnOk result (names ≤ length found.new.ids + found.new.room) }
+    ensures kept { length found.old.ids + found.old.room ≤ length found.new.ids + found.new.room }
+{
+    let most = found.capacity();
+    if names > most {
+        *found = IdBuf::new(alloc, names.max(most.saturating_mul(2)))?;
+    }
+    Ok(())
 }
 
 impl Plain {
-    ghost use Rattle.plain_graph.specs.Plain.{Kept, StandsFor, Steps, change_reply, names_reply};
-    ghost use Rattle.graph_model.specs.States.{start};
+    ghost use Rattle.plain_graph.specs.Plain.{Kept, StandsFor, Steps, entry_in, change_reply, names_reply};
+    ghost use Rattle.graph_model.specs.States.{State, start};
+    ghost use Rattle.graph_model.specs.Refusals.{RefusalIs};
 
     /// An empty graph with the default limits. Takes room.
     pub fn new(alloc: Global) -> Result<Plain, NoMemory>
@@ -41,7 +65,11 @@ impl Plain {
     {
         Ok(Plain {
             alloc,
-            limits: Limits { count: 64, size: 404_000, total: 1_048_576 },
+            limits: Limits {
+                count: 64,
+                size: 404_000,
+                total: 1_048_576,
+            },
             begun: false,
             txs: Vec::new(alloc),
             pairs: Vec::new(alloc),
@@ -50,13 +78,56 @@ impl Plain {
         })
     }
 
+    /// How many additions were accepted.
+    pub fn additions(&self) -> u64
+        ensures { result ≡ self.now.additions }
+    {
+        self.additions
+    }
+
+    /// Why `add` is refused, other than for want of memory.
+    fn refused_add(&self, id: TxId, fee: i64, size: u64) -> Option<Refusal>
+        ensures first { (state : State) → StandsFor self.now state → RefusalIs state (Add id fee size) result }
+        ensures new_name { result ≡ None → entry_in self.now.txs id ≡ None }
+        ensures small { result ≡ None → size ≤ 4000000 }
+    {
+        if fee < -MAX_FEE || fee > MAX_FEE {
+            return Some(Refusal::Fee);
+        }
+        if size < 1 || size > MAX_SIZE {
+            return Some(Refusal::Size);
+        }
+        if is_live(&self.txs, id) {
+            return Some(Refusal::Taken);
+        }
+        if size > self.limits.size {
+            return Some(Refusal::ClusterSize(size));
+        }
+        if self.txs.len() as u64 >= self.limits.total {
+            return Some(Refusal::Full);
+        }
+        None
+    }
+
     /// `add`
     pub fn add(&mut self, id: TxId, fee: i64, size: u64) -> Result<(), Refusal>
         requires { self.old.additions < 2 ^ 64 - 1 }
         ensures step { Steps self.old self.new (Add id fee size) (change_reply result) }
         ensures additions { self.new.additions ≡ self.old.additions + (if is_ok result then 1 else 0) }
     {
-        Err(Refusal::Memory)
+        if let Some(why) = self.refused_add(id, fee, size) {
+            return Err(why);
+        }
+        let names = self.txs.len() + 1;
+        if make_room(&mut self.found, self.alloc, names).is_err() {
+            return Err(Refusal::Memory);
+        }
+        if self.txs.push(Tx { id, fee, size }).is_err() {
+            return Err(Refusal::Memory);
+        }
+        self.begun = true;
+        self.additions += 1;
+        Ok(())
     }
 
     /// `dep`
