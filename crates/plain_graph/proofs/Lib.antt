@@ -1,3 +1,4 @@
 mod Ways
 mod Entries
 mod Standing
+mod Spreads

@@ -1,5 +1,8 @@
 -- Walks one way or both: how they begin, go on and stay within a closed list.
-use Rattle.std.proofs.Common.{◌≡◌, ℕ, suc, zero, true, false, List, sym, refl, subst, inl, inr, ◌⊎◌}
+use Rattle.std.proofs.Common.{◌≡◌, ℕ, suc, zero, ◌+◌, ◌<◌, ◌≤◌, true, false, List, [], ◌∷◌, ◌++◌, length, get_or, take, sym, refl, subst, inl, inr, ◌⊎◌, arith}
+use Rattle.std.proofs.lemmas.List.{take_more, take_all}
+use Rattle.std.proofs.lemmas.List.Elements.{Contains-push_cases, Contains-get_or}
+use Rattle.graph_model.proofs.ListLemmas.{Contains-cases}
 use Rattle.std.specs.Prelude.{Contains}
 use Rattle.graph_model.specs.Graphs.{Walk, Trail}
 use Rattle.graph_model.proofs.WalkLemmas.{walk_cons}
@@ -56,3 +59,25 @@ pub reached_next : (way : Way) (pairs : List (ℕ × ℕ)) (starts ids : List �
 reached_next way pairs starts ids id reached out =
     let walk : ReachesFrom way pairs starts out.from = reached out.from out.inside in
     (walk.0, walk.1, reaches_on way pairs walk.0 out.from id walk.2 out.lead)
+
+pub leads_out_among : (way : Way) (pairs others : List (ℕ × ℕ)) (ids : List ℕ) (id : ℕ) → ((p c : ℕ) → Contains pairs (p, c) → Contains others (p, c)) → LeadsOut way pairs ids id → LeadsOut way others ids id
+leads_out_among way pairs others ids id within out = record { from = out.from; inside = out.inside; lead = leads_among way pairs others out.from id within out.lead; outside = out.outside }
+
+same_pair : (way : Way) (ids : List ℕ) (pair : ℕ × ℕ) (parent child : ℕ) → ◌≡◌ {A = ℕ × ℕ} pair (parent, child) → PairStays way ids pair.0 pair.1 → PairStays way ids parent child
+same_pair way ids pair parent child same stay = subst (λ (pair : ℕ × ℕ). PairStays way ids pair.0 pair.1) same stay
+
+pub closed_none : (way : Way) (ids : List ℕ) → IsClosed way [] ids
+closed_none way ids parent child pair = absurd (omega (arith, pair.1))
+
+pub closed_push : (way : Way) (pairs : List (ℕ × ℕ)) (ids : List ℕ) (pair : ℕ × ℕ) → IsClosed way pairs ids → PairStays way ids pair.0 pair.1 → IsClosed way (pairs ++ pair ∷ []) ids
+closed_push way pairs ids pair closed stay parent child here = elim (Contains-push_cases pairs pair (parent, child) here) [
+  | inl before ↦ closed parent child before
+  | inr same ↦ same_pair way ids pair parent child same stay
+]
+
+pub closed_more : (way : Way) (pairs : List (ℕ × ℕ)) (ids : List ℕ) (i : ℕ) (d : ℕ × ℕ) → i < length pairs → IsClosed way (take i pairs) ids → PairStays way ids (get_or pairs i d).0 (get_or pairs i d).1 → IsClosed way (take (i + 1) pairs) ids
+closed_more way pairs ids i d below closed stay =
+    subst (λ (front : List (ℕ × ℕ)). IsClosed way front ids) (sym (take_more pairs i d below)) (closed_push way (take i pairs) ids (get_or pairs i d) closed stay)
+
+pub closed_all : (way : Way) (pairs : List (ℕ × ℕ)) (ids : List ℕ) (i : ℕ) → length pairs ≤ i → IsClosed way (take i pairs) ids → IsClosed way pairs ids
+closed_all way pairs ids i past closed = subst (λ (front : List (ℕ × ℕ)). IsClosed way front ids) (take_all i pairs past) closed
