@@ -1,5 +1,5 @@
 -- Walks along pairs, and trails, which take pairs in either direction.
-use Rattle.std.proofs.Common.{ℕ, suc, zero, List, sym, refl, subst, inl, inr, ◌⊎◌}
+use Rattle.std.proofs.Common.{◌≡◌, ℕ, suc, zero, List, sym, refl, subst, inl, inr, ◌⊎◌}
 use Rattle.std.specs.Prelude.{Contains}
 use Rattle.graph_model.specs.Graphs.{Walk, IsAncestor, Trail, AreConnected}
 
@@ -42,3 +42,9 @@ connected_trans pairs a b c first (suc n) trail =
 
 pub AreConnected-trans : (pairs : List (ℕ × ℕ)) (a b c : ℕ) → AreConnected pairs a b → AreConnected pairs b c → AreConnected pairs a c
 AreConnected-trans pairs a b c first second = connected_trans pairs a b c first second.0 second.1
+
+pub IsAncestor-itself : (pairs : List (ℕ × ℕ)) (a b : ℕ) → a ≡ b → IsAncestor pairs a b
+IsAncestor-itself pairs a b same = (0, same)
+
+pub AreConnected-itself : (pairs : List (ℕ × ℕ)) (a b : ℕ) → a ≡ b → AreConnected pairs a b
+AreConnected-itself pairs a b same = (0, same)

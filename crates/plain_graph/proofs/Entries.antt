@@ -1,6 +1,6 @@
 -- The entry of a name in a list of transactions.
-use Rattle.std.proofs.Common.{◌≡◌, ℕ, ◌+◌, ◌<◌, ◌≤◌, Bool, true, false, cond, eqb, List, [], ◌∷◌, ◌++◌, length, map, drop, get_or, sym, refl, ap, subst, ◌∙◌, inl, inr, ◌⊎◌, arith, Option, None, Some}
-use Rattle.std.specs.Prelude.{Contains, is_some, IsSome, All}
+use Rattle.std.proofs.Common.{◌≡◌, ℕ, ◌+◌, ◌<◌, ◌≤◌, Bool, true, false, cond, eqb, List, [], ◌∷◌, ◌++◌, length, map, drop, get_or, sym, refl, ap, subst, ◌∙◌, inl, inr, ◌⊎◌, arith, Option, None, Some, ◌↔◌}
+use Rattle.std.specs.Prelude.{Contains, is_some, IsSome, IsTrue, All}
 use Rattle.std.proofs.lemmas.Bool.Decides.{Decides-eqb, nat_tests}
 use Rattle.std.proofs.lemmas.List.{at_drop_more}
 use Rattle.std.proofs.lemmas.List.Elements.{All-head, All-tail}
@@ -67,3 +67,12 @@ pub size-small : (txs : List Tx) (id : ℕ) → AreSmall txs → size_in (entry_
 size-small [] id small = omega arith
 size-small (tx ∷ txs) id small =
     small_one tx (eqb tx.id id) (entry_in txs id) (All-head (λ (tx : Tx). tx.size ≤ 4000000) tx txs small) (size-small txs id (All-tail (λ (tx : Tx). tx.size ≤ 4000000) tx txs small))
+
+pub live_named : (txs : List Tx) (id : ℕ) (live : Bool) → live ≡ is_some (entry_in txs id) → IsTrue live ↔ Contains (names_of txs) id
+live_named txs id live is = (λ holds. entry-Contains txs id (sym is ∙ holds), λ here. is ∙ Contains-entry txs id here)
+
+pub not_so : (test : Bool) {P : Type 0} → IsTrue test ↔ P → test ≡ false → P → ⊥
+not_so test means fails holds = true_not_false test (means.1 holds) fails
+
+pub so : (test : Bool) {P : Type 0} → IsTrue test ↔ P → test ≡ true → P
+so test means holds = means.0 holds

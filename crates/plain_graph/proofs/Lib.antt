@@ -2,3 +2,5 @@ mod Ways
 mod Entries
 mod Standing
 mod Spreads
+mod Starts
+mod JoinLemmas

@@ -1,5 +1,9 @@
-ghost use Rattle.std.specs.Prelude.{◌≡◌, ◌+◌, ◌-◌, ◌*◌, ◌^◌, ◌<◌, ◌≤◌, false, [], length, IfOk, OnOk, if◌then◌else◌, is_ok, max};
-ghost use Rattle.graph_model.specs.Limits.{default_limits};
+ghost use Rattle.std.specs.Prelude.{◌≡◌, ◌+◌, ◌-◌, ◌*◌, ◌^◌, ◌<◌, ◌≤◌, false, [], ◌∷◌, length, IfOk, OnOk, if◌then◌else◌, is_ok, MatchResult, Contains};
+ghost use Rattle.graph_model.specs.Limits.{default_limits, AreInRange};
+ghost use Rattle.graph_model.specs.Graphs.{AreConnected};
+ghost use Rattle.plain_graph.specs.Walks.{HoldsAll};
+ghost use Rattle.plain_graph.specs.Sound.{AreSmall};
+ghost use Rattle.plain_graph.specs.Joins.{JoinRefusalIs};
 ghost use Rattle.graph_model.specs.Commands.{Add, Dep, Ancestors, Descendants, Count};
 ghost use Rattle.graph_model.specs.Replies.{Number};
 
@@ -9,7 +13,8 @@ use std::alloc::Global;
 use std::marker::Model;
 
 use crate::tx::Tx;
-use crate::txs::is_live;
+use crate::txs::{is_live, total_size};
+use crate::walk::{Way, has_pair, leads, reach};
 
 /// What a transaction may pay at most, and as a negative fee at least, in satoshis.
 const MAX_FEE: i64 = 2_100_000_000_000_000;
@@ -53,10 +58,34 @@ fn make_room(found: &mut IdBuf, alloc: Global, names: usize) -> Result<(), NoMem
     Ok(())
 }
 
+/// Which limit the component breaks that a pair would make of two. Takes no memory.
+fn refused_join(limits: &Limits, txs: &[Tx], pairs: &[(TxId, TxId)], found: &mut IdBuf, parent: TxId, child: TxId) -> Option<Refusal>
+    requires in_range { AreInRange limits.now }
+    requires small { AreSmall txs.now }
+    requires apart { AreConnected pairs.now parent child → ⊥ }
+    requires room { HoldsAll pairs.now (parent ∷ child ∷ []) (length found.old.ids + found.old.room) }
+    ensures first { JoinRefusalIs limits.now txs.now pairs.now parent child result }
+    ensures room { length found.new.ids + found.new.room ≡ length found.old.ids + found.old.room }
+{
+    reach(found, pairs, &[parent, child], Way::Either);
+    let count = found.ids().len() as u64;
+    if count > limits.count {
+        return Some(Refusal::Count(count));
+    }
+    let size = total_size(txs, found.ids());
+    if size > limits.size {
+        return Some(Refusal::ClusterSize(size));
+    }
+    None
+}
+
 impl Plain {
     ghost use Rattle.plain_graph.specs.Plain.{Kept, StandsFor, Steps, entry_in, change_reply, names_reply};
     ghost use Rattle.graph_model.specs.States.{State, start};
     ghost use Rattle.graph_model.specs.Refusals.{RefusalIs};
+    ghost use Rattle.graph_model.specs.Graphs.{Lists};
+    ghost use Rattle.plain_graph.specs.Sound.{names_of};
+    ghost use Rattle.plain_graph.specs.Walks.{Reaches};
 
     /// An empty graph with the default limits. Takes room.
     pub fn new(alloc: Global) -> Result<Plain, NoMemory>
@@ -130,12 +159,56 @@ impl Plain {
         Ok(())
     }
 
+    /// Why `dep` is refused, other than for want of memory. Takes no memory.
+    fn refused_dep(&mut self, parent: TxId, child: TxId) -> Option<Refusal>
+        ensures first { (state : State) → StandsFor self.old state → RefusalIs state (Dep parent child) result }
+        ensures ends { result ≡ None → Contains (names_of self.old.txs) parent × Contains (names_of self.old.txs) child }
+        ensures same { self.new ≡ record self.old { found = self.new.found } }
+    {
+        if !is_live(&self.txs, parent) {
+            return Some(Refusal::Unknown(parent));
+        }
+        if !is_live(&self.txs, child) {
+            return Some(Refusal::Unknown(child));
+        }
+        if leads(&mut self.found, &self.pairs, parent, child, Way::Up) {
+            return Some(Refusal::Cycle);
+        }
+        if leads(&mut self.found, &self.pairs, parent, child, Way::Either) {
+            return None;
+        }
+        refused_join(&self.limits, &self.txs, &self.pairs, &mut self.found, parent, child)
+    }
+
     /// `dep`
     pub fn dep(&mut self, parent: TxId, child: TxId) -> Result<(), Refusal>
         ensures step { Steps self.old self.new (Dep parent child) (change_reply result) }
         ensures additions { self.new.additions ≡ self.old.additions }
     {
-        Err(Refusal::Memory)
+        if let Some(why) = self.refused_dep(parent, child) {
+            return Err(why);
+        }
+        if has_pair(&self.pairs, parent, child) {
+            self.begun = true;
+            return Ok(());
+        }
+        if self.pairs.push((parent, child)).is_err() {
+            return Err(Refusal::Memory);
+        }
+        self.begun = true;
+        Ok(())
+    }
+
+    /// The names that walks lead to from a name, in `found`. Takes no memory.
+    fn walk(&mut self, id: TxId, way: Way) -> Result<(), Refusal>
+        ensures found { MatchResult result (λ _. Contains (names_of self.old.txs) id × Lists (Reaches way self.old.pairs id) self.new.found) (λ why. (Contains (names_of self.old.txs) id → ⊥) × (why ≡ Refusal.Unknown id)) }
+        ensures same { self.new ≡ record self.old { found = self.new.found } }
+    {
+        if !is_live(&self.txs, id) {
+            return Err(Refusal::Unknown(id));
+        }
+        reach(&mut self.found, &self.pairs, &[id], way);
+        Ok(())
     }
 
     /// `ancestors`: the names are in `found` then.
@@ -143,7 +216,8 @@ impl Plain {
         ensures step { Steps self.old self.new (Ancestors id level) (names_reply result self.new.found) }
         ensures additions { self.new.additions ≡ self.old.additions }
     {
-        Err(Refusal::Cycle)
+        let _main_without_staging = level;
+        self.walk(id, Way::Up)
     }
 
     /// `descendants`: the names are in `found` then.
@@ -151,7 +225,8 @@ impl Plain {
         ensures step { Steps self.old self.new (Descendants id level) (names_reply result self.new.found) }
         ensures additions { self.new.additions ≡ self.old.additions }
     {
-        Err(Refusal::Cycle)
+        let _main_without_staging = level;
+        self.walk(id, Way::Down)
     }
 
     /// The names that the last reading found, rising.

@@ -1,7 +1,7 @@
-ghost use Rattle.std.specs.Prelude.{◌≡◌, ℕ, ◌≤◌, is_some, sum_by, length};
+ghost use Rattle.std.specs.Prelude.{◌≡◌, ◌≤◌, ◌↔◌, is_some, sum_by, length, IsTrue, Contains};
 ghost use Rattle.graph_model.specs.States.{size_in};
 ghost use Rattle.plain_graph.specs.Plain.{entry_in};
-ghost use Rattle.plain_graph.specs.Sound.{AreSmall};
+ghost use Rattle.plain_graph.specs.Sound.{names_of, AreSmall};
 
 use graph_model::TxId;
 
@@ -9,7 +9,8 @@ use crate::tx::Tx;
 
 /// Whether a transaction has the name.
 pub fn is_live(txs: &[Tx], id: TxId) -> bool
-    ensures { result ≡ is_some (entry_in txs.now id) }
+    ensures entry { result ≡ is_some (entry_in txs.now id) }
+    ensures named { IsTrue result ↔ Contains (names_of txs.now) id }
 {
     for tx in txs {
         if tx.id == id {

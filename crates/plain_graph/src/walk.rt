@@ -1,7 +1,7 @@
 ghost use Rattle.std.specs.Prelude.{◌≡◌, ◌+◌, ◌↔◌, [], ◌∷◌, length, nat_eq, MatchOption, IsTrue, Contains};
 ghost use Rattle.std.specs.List.{IsDistinct};
 ghost use Rattle.graph_model.specs.Graphs.{Lists};
-ghost use Rattle.plain_graph.specs.Walks.{goes_up, goes_down, ReachesFrom, PairStays, IsClosed, LeadsOut, HoldsAll};
+ghost use Rattle.plain_graph.specs.Walks.{goes_up, goes_down, Reaches, ReachesFrom, PairStays, IsClosed, LeadsOut, HoldsAll};
 
 use graph_model::{IdBuf, TxId};
 
@@ -43,6 +43,18 @@ pub fn has(ids: &[TxId], id: TxId) -> bool
     ensures { IsTrue result ↔ Contains ids.now id }
 {
     ids.contains(&id)
+}
+
+/// Whether the list has the pair.
+pub fn has_pair(pairs: &[(TxId, TxId)], parent: TxId, child: TxId) -> bool
+    ensures { IsTrue result ↔ Contains pairs.now (parent, child) }
+{
+    for (p, c) in pairs {
+        if *p == parent && *c == child {
+            return true;
+        }
+    }
+    false
 }
 
 /// The end of the pair that it leads to from the list and that isn't in the list.
@@ -97,4 +109,14 @@ pub fn reach(found: &mut IdBuf, pairs: &[(TxId, TxId)], starts: &[TxId], way: Wa
         found.push(*id);
     }
     spread(found, pairs, way);
+}
+
+/// Whether walks lead this way from one name to another. Takes no memory.
+pub fn leads(found: &mut IdBuf, pairs: &[(TxId, TxId)], from: TxId, to: TxId, way: Way) -> bool
+    requires { HoldsAll pairs.now (from ∷ []) (length found.old.ids + found.old.room) }
+    ensures walk { IsTrue result ↔ Reaches way pairs.now from to }
+    ensures room { length found.new.ids + found.new.room ≡ length found.old.ids + found.old.room }
+{
+    reach(found, pairs, &[from], way);
+    has(found.ids(), to)
 }
