@@ -1,6 +1,6 @@
 -- The entry of a name in a list of transactions.
-use Rattle.std.proofs.Common.{◌≡◌, ℕ, ◌+◌, ◌<◌, ◌≤◌, Bool, true, false, cond, eqb, List, [], ◌∷◌, ◌++◌, length, map, drop, get_or, sym, refl, ap, subst, ◌∙◌, inl, inr, ◌⊎◌, arith, Option, None, Some, ◌↔◌}
-use Rattle.std.specs.Prelude.{Contains, is_some, IsSome, IsTrue, All}
+use Rattle.std.proofs.Common.{◌≡◌, ℕ, ◌+◌, ◌<◌, ◌≤◌, Bool, true, false, cond, eqb, List, [], ◌∷◌, ◌++◌, length, drop, get_or, sym, refl, ap, subst, ◌∙◌, inl, inr, arith, Option, None, Some, ◌↔◌}
+use Rattle.std.specs.Prelude.{Contains, is_some, IsSome, IsTrue}
 use Rattle.std.proofs.lemmas.Bool.Decides.{Decides-eqb, nat_tests}
 use Rattle.std.proofs.lemmas.List.{at_drop_more}
 use Rattle.std.proofs.lemmas.List.Elements.{All-head, All-tail}

@@ -1,20 +1,19 @@
 -- Refusals of a pair: the rows in which they come.
-use Rattle.std.proofs.Common.{◌≡◌, ℕ, ◌+◌, ◌<◌, ◌≤◌, true, false, List, [], ◌∷◌, length, sym, refl, subst, ap, ◌∙◌, inl, inr, ◌⊎◌, arith, Option, None, Some}
+use Rattle.std.proofs.Common.{◌≡◌, ℕ, ◌<◌, ◌≤◌, List, length, sym, refl, subst, ap, inl, inr, ◌⊎◌, arith, Option, None, Some}
 use Rattle.std.specs.Prelude.{Contains, sum_by}
-use Rattle.std.specs.FinMap as finmap
 use Rattle.graph_model.specs.declared.names.Limits.{Limits}
 use Rattle.graph_model.specs.declared.names.Refusal.{Refusal}
 use Rattle.graph_model.specs.declared.names.Refusal.TheVariants.{Unknown, Cycle, Count, ClusterSize}
-use Rattle.graph_model.specs.Graphs.{IsAncestor, AreConnected, Lists}
+use Rattle.graph_model.specs.Graphs.{IsAncestor, AreConnected}
 use Rattle.graph_model.specs.States.{State, Table, size_of, size_in}
 use Rattle.graph_model.specs.Commands.{Dep}
-use Rattle.graph_model.specs.Refusals.{RefusalIs, JoinsTo, OverCount, OverSize, NoRefusal, FirstAt}
+use Rattle.graph_model.specs.Refusals.{RefusalIs, JoinsTo, NoRefusal, FirstAt}
 use Rattle.graph_model.proofs.ListLemmas.{Lists-same}
 use Rattle.plain_graph.specs.declared.tx.Tx.{Tx}
 use Rattle.plain_graph.specs.Plain.{Kept, StandsFor, entry_in}
 use Rattle.plain_graph.specs.Sound.{names_of}
 use Rattle.plain_graph.specs.Joins.{JoinsTooMany, JoinsTooLarge, JoinRefusalIs}
-use Rattle.plain_graph.proofs.Standing.{HasTable, state_of, of_states}
+use Rattle.plain_graph.proofs.Standing.{HasTable, of_states}
 
 -- two lists of a joined component are equal
 same_members : (pairs : List (ℕ × ℕ)) (a b : ℕ) (one other : List ℕ) → JoinsTo pairs a b one → JoinsTo pairs a b other → one ≡ other
@@ -62,9 +61,17 @@ same_total_of txs table has = λ i ids. same_totals txs table has ids i
 pub dep_join : (kept : Kept) (a b : ℕ) (found : Option Refusal) → Contains (names_of kept.txs) a → Contains (names_of kept.txs) b → (IsAncestor kept.pairs b a → ⊥) → JoinRefusalIs kept.limits kept.txs kept.pairs a b found → (state : State) → StandsFor kept state → RefusalIs state (Dep a b) found
 dep_join kept a b found here there no_cycle join =
     of_states kept (λ (state : State). RefusalIs state (Dep a b) found)
-    (λ table has. inr (λ absent. absent here, inr (λ absent. absent there, inr (no_cycle,
-      subst (λ (total : List ℕ → ℕ). FirstAt (JoinsTooMany kept.limits kept.pairs a b) Count (FirstAt (λ n. (members : List ℕ) × JoinsTo kept.pairs a b members × (n ≡ total members) × (kept.limits.size < n)) ClusterSize NoRefusal) found)
-      (sym (same_total_of kept.txs table has)) join))))
+    (λ table has. inr (
+      λ absent. absent here,
+      inr (
+        λ absent. absent there,
+        inr (
+          no_cycle,
+          subst (λ (total : List ℕ → ℕ). FirstAt (JoinsTooMany kept.limits kept.pairs a b) Count (FirstAt (λ n. (members : List ℕ) × JoinsTo kept.pairs a b members × (n ≡ total members) × (kept.limits.size < n)) ClusterSize NoRefusal) found)
+              (sym (same_total_of kept.txs table has)) join,
+        ),
+      ),
+    ))
 
 pub dep_cycle : (kept : Kept) (a b : ℕ) → Contains (names_of kept.txs) a → Contains (names_of kept.txs) b → IsAncestor kept.pairs b a → (state : State) → StandsFor kept state → RefusalIs state (Dep a b) (Some Cycle)
 dep_cycle kept a b here there cycle =

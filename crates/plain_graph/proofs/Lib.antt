@@ -4,3 +4,4 @@ mod Standing
 mod Spreads
 mod Starts
 mod JoinLemmas
+mod Readings

@@ -1,7 +1,7 @@
 -- The list of names found so far, while names that pairs lead to are added.
-use Rattle.std.proofs.Common.{◌≡◌, ℕ, ◌+◌, ◌-◌, ◌<◌, ◌≤◌, Bool, true, false, List, [], ◌∷◌, ◌++◌, length, sym, refl, subst, ap, inl, inr, ◌⊎◌, arith}
+use Rattle.std.proofs.Common.{◌≡◌, ℕ, ◌+◌, ◌-◌, ◌<◌, ◌≤◌, Bool, true, false, List, [], ◌∷◌, ◌++◌, length, refl, subst, inl, inr, arith}
 use Rattle.std.specs.Prelude.{Contains, nat_eq}
-use Rattle.std.specs.List.{IsDistinct, list_any}
+use Rattle.std.specs.List.{IsDistinct}
 use Rattle.std.specs.List.Sorted.{IsPermutation, IsNonDecreasing}
 use Rattle.std.specs.Cmp.{nat_eq_equiv}
 use Rattle.std.proofs.lemmas.List.{length_push}
@@ -14,8 +14,7 @@ use Rattle.graph_model.specs.Rooms.{Room}
 use Rattle.graph_model.specs.Graphs.{Lists}
 use Rattle.graph_model.proofs.ListLemmas.{length-within}
 use Rattle.plain_graph.specs.declared.walk.Way.{Way}
-use Rattle.plain_graph.specs.declared.walk.Way.TheVariants.{Up, Down, Either}
-use Rattle.plain_graph.specs.Walks.{Leads, Reaches, ReachesFrom, IsClosed, LeadsOut, EndsAreAmong, HoldsAll}
+use Rattle.plain_graph.specs.Walks.{Leads, ReachesFrom, IsClosed, LeadsOut, EndsAreAmong, HoldsAll}
 use Rattle.plain_graph.proofs.Ways.{reaches_itself, reached_next, stays}
 
 -- The list begins with the starts, holds names that walks lead to, each once, and has room for all of them.
@@ -56,7 +55,7 @@ inside_push way pairs ids names id ends inside out q here = elim (Contains-push_
 pub room_left : (way : Way) (pairs : List (ℕ × ℕ)) (first now : Room) (id : ℕ) → Spreading way pairs first now → LeadsOut way pairs now.ids id → 0 < now.room
 room_left way pairs first now id so out =
     let within : length (now.ids ++ id ∷ []) ≤ length so.held.names =
-        length-within (now.ids ++ id ∷ []) so.held.names (distinct_push now.ids id so.distinct out.outside) (inside_push way pairs now.ids so.held.names id so.held.ends so.held.inside out) in
+    length-within (now.ids ++ id ∷ []) so.held.names (distinct_push now.ids id so.distinct out.outside) (inside_push way pairs now.ids so.held.names id so.held.ends so.held.inside out) in
     let longer : length (now.ids ++ id ∷ []) ≡ length now.ids + 1 = length_push now.ids id in
     let enough : length so.held.names ≤ length now.ids + now.room = so.held.enough in
     omega arith
@@ -82,7 +81,8 @@ spreading_on way pairs first now id so out =
 pub spread_lists : (way : Way) (pairs : List (ℕ × ℕ)) (first now : Room) (sorted : List ℕ) → Spreading way pairs first now → IsClosed way pairs now.ids → IsPermutation now.ids sorted → IsNonDecreasing sorted → Lists (ReachesFrom way pairs first.ids) sorted
 spread_lists way pairs first now sorted so closed moved rising = record {
   rising = IsStrictlyIncreasing-from_distinct sorted rising (IsDistinct-IsPermutation nat_eq nat_eq_equiv.symm now.ids sorted moved so.distinct);
-  exact = λ id.
-      (λ here. so.reached id (Contains-permutation sorted now.ids id (IsPermutation-sym now.ids sorted moved) here),
-      λ walk. Contains-permutation now.ids sorted id moved (stays way pairs now.ids walk.0 id closed (so.starts walk.0 walk.1) walk.2));
+  exact = λ id. (
+    λ here. so.reached id (Contains-permutation sorted now.ids id (IsPermutation-sym now.ids sorted moved) here),
+    λ walk. Contains-permutation now.ids sorted id moved (stays way pairs now.ids walk.0 id closed (so.starts walk.0 walk.1) walk.2),
+  );
 }

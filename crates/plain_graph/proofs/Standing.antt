@@ -1,15 +1,15 @@
 -- Which states a plain graph stands for, and the steps of the machine that its calls are.
-use Rattle.std.proofs.Common.{◌≡◌, ℕ, ℤ, ◌+◌, ◌≤◌, Bool, true, false, cond, eqb, List, [], ◌∷◌, ◌++◌, length, map, sym, refl, ap, subst, ◌∙◌, inl, inr, ◌⊎◌, arith, Option, None, Some}
+use Rattle.std.proofs.Common.{◌≡◌, ℕ, ℤ, ◌+◌, ◌≤◌, true, false, cond, eqb, List, [], ◌∷◌, ◌++◌, length, sym, refl, ap, subst, ◌∙◌, inl, inr, Option, None, Some}
 use Rattle.std.proofs.lemmas.List.Elements.{All-push, Contains-append_left}
 use Rattle.graph_model.specs.declared.names.Limits.{Limits}
-use Rattle.std.specs.Prelude.{Contains, is_some, IsSome, sum_by}
+use Rattle.std.specs.Prelude.{Contains, is_some}
 use Rattle.std.specs.FinMap as finmap
 use Rattle.std.specs.Ordering.{nat_cmp}
 use Rattle.std.specs.Cmp.{nat_cmp_total, unsigned_tied}
 use Rattle.std.proofs.lemmas.List.{map_push, length_push, length-map}
 use Rattle.graph_model.specs.declared.names.Refusal.{Refusal}
 use Rattle.graph_model.specs.declared.names.Refusal.TheVariants.{Memory}
-use Rattle.graph_model.specs.States.{State, LevelState, Table, Entry, level_of, start, size_of, size_in}
+use Rattle.graph_model.specs.States.{State, LevelState, Table, Entry, level_of, start}
 use Rattle.graph_model.specs.Changes.{added}
 use Rattle.graph_model.specs.Commands.{Command, Add, Count}
 use Rattle.graph_model.specs.Limits.{default_limits}
@@ -17,7 +17,7 @@ use Rattle.graph_model.specs.declared.names.Level.{Level}
 use Rattle.graph_model.specs.declared.names.Level.TheVariants.{Main, Top}
 use Rattle.graph_model.specs.Refusals.{RefusalIs}
 use Rattle.graph_model.specs.Replies.{Reply, Refused, Done, Number}
-use Rattle.graph_model.specs.Steps.{Step, Accepts, MayLackMemory}
+use Rattle.graph_model.specs.Steps.{Accepts, MayLackMemory}
 use Rattle.plain_graph.specs.declared.tx.Tx.{Tx}
 use Rattle.plain_graph.specs.Plain.{Kept, StandsFor, Steps, entry_in}
 use Rattle.plain_graph.specs.Sound.{names_of, IsSound}
@@ -40,7 +40,7 @@ stands_for kept table has = record { limits = refl; begun = refl; table = has.ge
 pub of_states : (kept : Kept) (P : State → Type 0) → ((table : Table) → HasTable kept.txs table → P (state_of kept table)) → (state : State) → StandsFor kept state → P state
 of_states kept P holds state stands =
     let same : state_of kept state.table ≡ state =
-        λ i. record { limits = sym stands.limits i; begun = sym stands.begun i; table = state.table; main = record { graph = record { names = sym stands.names i; pairs = sym stands.pairs i } }; staging = sym stands.staging i } in
+    λ i. record { limits = sym stands.limits i; begun = sym stands.begun i; table = state.table; main = record { graph = record { names = sym stands.names i; pairs = sym stands.pairs i } }; staging = sym stands.staging i } in
     subst P same (holds state.table (record { gets = stands.table; live = stands.live }))
 
 -- two graphs that differ at most in what the last reading found and in the count of additions
@@ -99,18 +99,19 @@ pub steps_added : (old new : Kept) (tx : Tx) → new.limits ≡ old.limits → n
 steps_added old new tx limits begun txs pairs none unrefused =
     steps_accepted old new (Add tx.id tx.fee tx.size) Done unrefused
     (λ table has.
-      let more : HasTable (old.txs ++ tx ∷ []) (finmap.insert table tx.id (entry_of tx)) = has_one_more old.txs tx table none has in
-      (added (state_of old table) tx.id tx.fee tx.size,
-        record {
-          limits = sym limits;
-          begun = sym begun;
-          table = λ id. more.gets id ∙ ap (λ txs. entry_in txs id) (sym txs);
-          live = more.live ∙ ap length (sym txs);
-          names = sym (ap names_of txs ∙ map_push (λ (tx : Tx). tx.id) old.txs tx);
-          pairs = sym pairs;
-          staging = refl
-        },
-        (refl, refl)))
+    let more : HasTable (old.txs ++ tx ∷ []) (finmap.insert table tx.id (entry_of tx)) = has_one_more old.txs tx table none has in (
+      added (state_of old table) tx.id tx.fee tx.size,
+      record {
+        limits = sym limits;
+        begun = sym begun;
+        table = λ id. more.gets id ∙ ap (λ txs. entry_in txs id) (sym txs);
+        live = more.live ∙ ap length (sym txs);
+        names = sym (ap names_of txs ∙ map_push (λ (tx : Tx). tx.id) old.txs tx);
+        pairs = sym pairs;
+        staging = refl;
+      },
+      (refl, refl),
+    ))
 
 pub stands_at_start : (kept : Kept) → kept.limits ≡ default_limits → kept.begun ≡ false → kept.txs ≡ [] → kept.pairs ≡ [] → StandsFor kept start
 stands_at_start kept limits begun txs pairs = record {
@@ -131,8 +132,11 @@ level-main kept table Top = refl
 pub steps_counted : (kept : Kept) (level : Level) (n : ℕ) → n ≡ length kept.txs → Steps kept kept (Count level) (Number n)
 steps_counted kept level n same =
     steps_accepted kept kept (Count level) (Number n) (λ state stands. refl)
-    (λ table has. (state_of kept table, stands_for kept table has,
-      (refl, ap Number (same ∙ sym (length-map kept.txs (λ (tx : Tx). tx.id)) ∙ ap (λ (of : LevelState). length of.graph.names) (sym (level-main kept table level))))))
+    (λ table has. (
+      state_of kept table,
+      stands_for kept table has,
+      (refl, ap Number (same ∙ sym (length-map kept.txs (λ (tx : Tx). tx.id)) ∙ ap (λ (of : LevelState). length of.graph.names) (sym (level-main kept table level)))),
+    ))
 
 among_more : (txs : List Tx) (tx : Tx) (id : ℕ) → Contains (names_of txs) id → Contains (names_of (txs ++ tx ∷ [])) id
 among_more txs tx id here = subst (λ (ids : List ℕ). Contains ids id) (sym (map_push (λ (tx : Tx). tx.id) txs tx)) (Contains-append_left (names_of txs) (tx.id ∷ []) id here)

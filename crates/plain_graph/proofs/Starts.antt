@@ -1,16 +1,16 @@
 -- Walks from one name and from two, and the places that they need.
-use Rattle.std.proofs.Common.{◌≡◌, ◌≢◌, ℕ, ◌+◌, ◌<◌, ◌≤◌, Bool, true, false, List, [], ◌∷◌, length, map, sym, refl, subst, ap, inl, inr, ◌⊎◌, arith, ◌↔◌, eqb}
+use Rattle.std.proofs.Common.{◌≡◌, ℕ, ◌≤◌, Bool, true, false, List, [], ◌∷◌, length, sym, refl, subst, inl, inr, ◌⊎◌, arith, eqb}
 use Rattle.std.specs.Prelude.{Contains, nat_eq}
 use Rattle.std.specs.List.{IsDistinct}
 use Rattle.std.proofs.lemmas.List.{length-map}
 use Rattle.std.proofs.lemmas.Bool.Decides.{Decides-eqb}
 use Rattle.graph_model.specs.declared.names.Limits.{Limits}
-use Rattle.graph_model.specs.Graphs.{IsAncestor, AreConnected, Lists}
+use Rattle.graph_model.specs.Graphs.{AreConnected, Lists}
 use Rattle.graph_model.proofs.ListLemmas.{Contains-head, Contains-later, Contains-cases, Lists-for}
 use Rattle.graph_model.proofs.WalkLemmas.{AreConnected-sym}
 use Rattle.plain_graph.specs.declared.tx.Tx.{Tx}
 use Rattle.plain_graph.specs.declared.walk.Way.{Way}
-use Rattle.plain_graph.specs.declared.walk.Way.TheVariants.{Up, Down, Either}
+use Rattle.plain_graph.specs.declared.walk.Way.TheVariants.{Either}
 use Rattle.plain_graph.specs.Walks.{Reaches, ReachesFrom, HoldsAll}
 use Rattle.plain_graph.specs.Sound.{names_of, IsSound}
 

@@ -7,14 +7,13 @@ ghost use Rattle.plain_graph.specs.Joins.{JoinRefusalIs};
 ghost use Rattle.graph_model.specs.Commands.{Add, Dep, Ancestors, Descendants, Count};
 ghost use Rattle.graph_model.specs.Replies.{Number};
 
+use crate::tx::Tx;
+use crate::txs::{is_live, total_size};
+use crate::walk::{Way, has_pair, leads, reach};
 use graph_model::{IdBuf, Level, Limits, Refusal, TxId};
 use outside::NoMemory;
 use std::alloc::Global;
 use std::marker::Model;
-
-use crate::tx::Tx;
-use crate::txs::{is_live, total_size};
-use crate::walk::{Way, has_pair, leads, reach};
 
 /// What a transaction may pay at most, and as a negative fee at least, in satoshis.
 const MAX_FEE: i64 = 2_100_000_000_000_000;
@@ -59,7 +58,14 @@ fn make_room(found: &mut IdBuf, alloc: Global, names: usize) -> Result<(), NoMem
 }
 
 /// Which limit the component breaks that a pair would make of two. Takes no memory.
-fn refused_join(limits: &Limits, txs: &[Tx], pairs: &[(TxId, TxId)], found: &mut IdBuf, parent: TxId, child: TxId) -> Option<Refusal>
+fn refused_join(
+    limits: &Limits,
+    txs: &[Tx],
+    pairs: &[(TxId, TxId)],
+    found: &mut IdBuf,
+    parent: TxId,
+    child: TxId,
+) -> Option<Refusal>
     requires in_range { AreInRange limits.now }
     requires small { AreSmall txs.now }
     requires apart { AreConnected pairs.now parent child → ⊥ }
@@ -177,7 +183,14 @@ impl Plain {
         if leads(&mut self.found, &self.pairs, parent, child, Way::Either) {
             return None;
         }
-        refused_join(&self.limits, &self.txs, &self.pairs, &mut self.found, parent, child)
+        refused_join(
+            &self.limits,
+            &self.txs,
+            &self.pairs,
+            &mut self.found,
+            parent,
+            child,
+        )
     }
 
     /// `dep`

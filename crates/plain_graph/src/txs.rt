@@ -3,9 +3,8 @@ ghost use Rattle.graph_model.specs.States.{size_in};
 ghost use Rattle.plain_graph.specs.Plain.{entry_in};
 ghost use Rattle.plain_graph.specs.Sound.{names_of, AreSmall};
 
-use graph_model::TxId;
-
 use crate::tx::Tx;
+use graph_model::TxId;
 
 /// Whether a transaction has the name.
 pub fn is_live(txs: &[Tx], id: TxId) -> bool

@@ -1,6 +1,4 @@
-use Rattle.std.proofs.Common.{◌≡◌, ◌≤◌, ◌<◌, ◌⊎◌, arith, refl, length, subst}
-use Rattle.std.specs.Prelude.{sum_by}
-use Rattle.graph_model.specs.Graphs.{Lists, AreConnected}
+use Rattle.std.proofs.Common.{refl}
 use Rattle.graph_model.specs.Refusals.{JoinsTo}
 use Rattle.graph_model.proofs.WalkLemmas.{AreConnected-itself}
 use Rattle.plain_graph.proofs.Starts.{distinct_two, lists_from_two}
@@ -13,19 +11,19 @@ reach-requires-clause-distinct c = distinct_two c.args.parent c.args.child (λ s
 pub returns-then-count-limits-clause-first : goal.returns-then-count-limits-clause-first
 returns-then-count-limits-clause-first c =
     let lists : JoinsTo c.args.pairs.now c.args.parent c.args.child c.ids.result.now =
-        rw c.ids.ensures (c.requires.apart, lists_from_two c.args.pairs.now c.args.parent c.args.child c.reach.new.found.ids c.reach.ensures.lists) in
+    rw c.ids.ensures (c.requires.apart, lists_from_two c.args.pairs.now c.args.parent c.args.child c.reach.new.found.ids c.reach.ensures.lists) in
     join_too_many c.args.limits.now c.args.txs.now c.args.pairs.now c.args.parent c.args.child c.ids.result.now _ lists refl c.if-count-limits.true
 
 pub returns-then-size-limits-clause-first : goal.returns-then-size-limits-clause-first
 returns-then-size-limits-clause-first c =
     let lists : JoinsTo c.args.pairs.now c.args.parent c.args.child c.reach.new.found.ids =
-        (c.requires.apart, lists_from_two c.args.pairs.now c.args.parent c.args.child c.reach.new.found.ids c.reach.ensures.lists) in
+    (c.requires.apart, lists_from_two c.args.pairs.now c.args.parent c.args.child c.reach.new.found.ids c.reach.ensures.lists) in
     join_too_large c.args.limits.now c.args.txs.now c.args.pairs.now c.args.parent c.args.child c.reach.new.found.ids _ lists (rw (← c.ids.ensures) c.if-count-limits.false)
     (rw (← c.ids-2.ensures) c.total_size-size.ensures) c.if-size-limits.true
 
 pub returns-clause-first : goal.returns-clause-first
 returns-clause-first c =
     let lists : JoinsTo c.args.pairs.now c.args.parent c.args.child c.reach.new.found.ids =
-        (c.requires.apart, lists_from_two c.args.pairs.now c.args.parent c.args.child c.reach.new.found.ids c.reach.ensures.lists) in
+    (c.requires.apart, lists_from_two c.args.pairs.now c.args.parent c.args.child c.reach.new.found.ids c.reach.ensures.lists) in
     join_fits c.args.limits.now c.args.txs.now c.args.pairs.now c.args.parent c.args.child c.reach.new.found.ids lists (rw (← c.ids.ensures) c.if-count-limits.false)
     (rw (← c.ids-2.ensures) (rw (← c.total_size-size.ensures) c.if-size-limits.false))

@@ -1,7 +1,5 @@
-use Rattle.std.proofs.Common.{ℕ, ◌≤◌, ◌<◌, arith, length}
+use Rattle.std.proofs.Common.{◌≤◌, arith}
 use Rattle.std.proofs.lemmas.Grind.{common_steps}
-use Rattle.graph_model.specs.States.{size_in}
-use Rattle.plain_graph.specs.Plain.{entry_in}
 use Rattle.plain_graph.proofs.Entries.{size-small}
 use Rattle.plain_graph.proofs.txs.total_size.Goals as goal
 

@@ -1,5 +1,3 @@
-use Rattle.std.proofs.Common.{◌∙◌}
-use Rattle.std.specs.Prelude.{Contains}
 use Rattle.graph_model.specs.Graphs.{Lists}
 use Rattle.plain_graph.specs.Walks.{Reaches}
 use Rattle.plain_graph.proofs.Starts.{distinct_one, lists_from_one}
@@ -11,5 +9,5 @@ reach-requires-clause-distinct c = distinct_one c.args.from
 pub returns-clause-walk : goal.returns-clause-walk
 returns-clause-walk c =
     let lists : Lists (Reaches c.args.way c.args.pairs.now c.args.from) c.ids.result.now =
-        rw c.ids.ensures (lists_from_one c.args.way c.args.pairs.now c.args.from c.reach.new.found.ids c.reach.ensures.lists) in
+    rw c.ids.ensures (lists_from_one c.args.way c.args.pairs.now c.args.from c.reach.new.found.ids c.reach.ensures.lists) in
     (λ holds. (lists.exact c.args.to).0 (c.has.ensures.0 holds), λ walk. c.has.ensures.1 ((lists.exact c.args.to).1 walk))

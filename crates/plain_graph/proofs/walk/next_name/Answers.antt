@@ -1,5 +1,5 @@
 use Rattle.plain_graph.proofs.Ways.{closed_more, closed_all}
-use Rattle.std.proofs.Common.{rules, ◌<◌, ◌≤◌, length, arith}
+use Rattle.std.proofs.Common.{rules}
 use Rattle.plain_graph.proofs.walk.next_name.Goals as goal
 
 pub loop-parent-preserved : goal.loop-parent-preserved

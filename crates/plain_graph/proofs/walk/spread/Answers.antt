@@ -1,4 +1,4 @@
-use Rattle.std.proofs.Common.{◌≡◌, ◌+◌, ◌<◌, arith, length, rules}
+use Rattle.std.proofs.Common.{◌<◌, arith}
 use Rattle.std.proofs.lemmas.List.Sorted.{length_permutation}
 use Rattle.plain_graph.specs.Walks.{LeadsOut}
 use Rattle.plain_graph.proofs.Spreads.{room_left, spreading_on, spread_lists}

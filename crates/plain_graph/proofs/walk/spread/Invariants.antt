@@ -1,4 +1,3 @@
-use Rattle.std.proofs.Common.{ℕ}
 use Rattle.plain_graph.proofs.Spreads.{Spreading}
 use Rattle.plain_graph.proofs.walk.spread.Given as goal
 

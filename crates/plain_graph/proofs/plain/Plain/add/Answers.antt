@@ -1,8 +1,8 @@
-use Rattle.std.proofs.Common.{◌≡◌, ◌+◌, ◌∙◌, ◌++◌, ◌∷◌, [], ℕ, refl, to_z-of_z, rules, None, Some, ap, arith, ◌≤◌, length}
+use Rattle.std.proofs.Common.{◌≡◌, ◌+◌, ◌∙◌, ◌++◌, ◌∷◌, [], refl, to_z-of_z, rules, ap, arith, ◌≤◌, length}
 use Rattle.graph_model.specs.Commands.{Add}
 use Rattle.plain_graph.specs.declared.tx.Tx.{Tx}
 use Rattle.plain_graph.specs.Plain.{Kept}
-use Rattle.plain_graph.proofs.Standing.{IsSameGraph, at_fee, same_as, itself, steps_refused, steps_without_memory, steps_added, sound_added}
+use Rattle.plain_graph.proofs.Standing.{at_fee, same_as, itself, steps_refused, steps_without_memory, steps_added, sound_added}
 use Rattle.plain_graph.proofs.plain.Plain.add.Goals as goal
 
 pub returns-in-Some-clause-step : goal.returns-in-Some-clause-step

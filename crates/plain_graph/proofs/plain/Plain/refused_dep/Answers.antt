@@ -1,8 +1,7 @@
-use Rattle.std.proofs.Common.{◌≡◌, ◌↔◌, ◌+◌, List, refl, ℕ, ap, sym, ◌∙◌, length}
-use Rattle.std.specs.Prelude.{Contains, IsTrue, Option, None}
+use Rattle.std.proofs.Common.{◌≡◌, ◌↔◌, ◌+◌, ◌∙◌, length}
+use Rattle.std.specs.Prelude.{Contains, IsTrue, None}
 use Rattle.graph_model.specs.Graphs.{IsAncestor, AreConnected}
 use Rattle.plain_graph.specs.Sound.{names_of}
-use Rattle.plain_graph.specs.Walks.{HoldsAll}
 use Rattle.plain_graph.specs.Joins.{JoinRefusalIs}
 use Rattle.plain_graph.proofs.Entries.{so, not_so}
 use Rattle.plain_graph.proofs.Starts.{holds_one, holds_two}
@@ -67,7 +66,7 @@ returns-clause-first c =
     let other : IsTrue c.is_live-2.result ↔ Contains (names_of c.args.self.now.txs) c.args.child = rw (← c.self.view_is) (rw c.deref-2.ensures.value at c.is_live-2.ensures.named) in
     let cycle : IsTrue c.leads.result ↔ IsAncestor c.args.self.now.pairs c.args.child c.args.parent = rw (← c.self.view_is) (rw c.deref-3.ensures.value at c.leads.ensures.walk) in
     let join : JoinRefusalIs c.args.self.now.limits c.args.self.now.txs c.args.self.now.pairs c.args.parent c.args.child c.refused_join.result =
-        rw (← c.self.view_is) (rw (c.deref-5.ensures.value, c.deref-6.ensures.value) at c.refused_join.ensures.first) in
+    rw (← c.self.view_is) (rw (c.deref-5.ensures.value, c.deref-6.ensures.value) at c.refused_join.ensures.first) in
     dep_join c.args.self.now c.args.parent c.args.child c.refused_join.result (so c.is_live.result named c.if-not-is_live.false) (so c.is_live-2.result other c.if-not-is_live-2.false)
     (not_so c.leads.result cycle c.if-leads.false) join
 

@@ -1,4 +1,4 @@
-use Rattle.std.proofs.Common.{◌↔◌, List, refl, ℕ}
+use Rattle.std.proofs.Common.{◌↔◌, refl}
 use Rattle.std.specs.Prelude.{Contains, IsTrue}
 use Rattle.graph_model.specs.Graphs.{Lists}
 use Rattle.plain_graph.specs.Sound.{names_of}
@@ -24,5 +24,5 @@ pub returns-clause-found : goal.returns-clause-found
 returns-clause-found c =
     let named : IsTrue c.is_live.result ↔ Contains (names_of c.args.self.now.txs) c.args.id = rw (← c.self.view_is) (rw c.deref.ensures.value at c.is_live.ensures.named) in
     let lists : Lists (Reaches c.args.way c.self.inside.pairs.items c.args.id) c.reach.new.found.ids =
-        lists_from_one c.args.way c.self.inside.pairs.items c.args.id c.reach.new.found.ids (rw c.deref-2.ensures.value at c.reach.ensures.lists) in
+    lists_from_one c.args.way c.self.inside.pairs.items c.args.id c.reach.new.found.ids (rw c.deref-2.ensures.value at c.reach.ensures.lists) in
     (so c.is_live.result named c.if-not-is_live.false, rw (← c.self.view_is) lists)
