@@ -62,6 +62,7 @@ impl Model for IdBuf {
 }
 
 impl IdBuf {
+    ghost use Rattle.std.specs.List.Sorted.{IsPermutation, IsNonDecreasing};
     ghost use Rattle.graph_model.specs.Rooms.{Room};
 
     /// An empty list with room for this many names.
@@ -95,5 +96,21 @@ impl IdBuf {
         ensures { result.now ≡ self.now.ids }
     {
         self.ids.as_slice()
+    }
+
+    /// How many names there is room for, those that are held among them.
+    pub fn capacity(&self) -> usize
+        ensures { result ≡ length self.now.ids + self.now.room }
+    {
+        self.most
+    }
+
+    /// Puts the names into rising order. Takes no memory.
+    pub fn sort(&mut self)
+        ensures room { self.new.room ≡ self.old.room }
+        ensures permutation { IsPermutation self.old.ids self.new.ids }
+        ensures sorted { IsNonDecreasing self.new.ids }
+    {
+        self.ids.sort_unstable();
     }
 }

@@ -1,1 +1,4 @@
 pub mod Plain
+pub mod Walks
+pub mod Sound
+pub mod Joins

@@ -1,6 +1,6 @@
 -- The plain graph: a list of transactions and a list of pairs. It is the slow program that the
 -- definitions name, and stands for their states.
-use Rattle.std.specs.Prelude.{◌≡◌, ℕ, ◌+◌, Bool, true, false, List, [], ◌∷◌, map, find, length, option_and_then, Option, None, Some, Ok, Err, Result, ◌==◌, if◌then◌else◌}
+use Rattle.std.specs.Prelude.{◌≡◌, ℕ, Bool, List, [], ◌∷◌, map, length, Option, None, Some, Ok, Err, Result, ◌==◌, if◌then◌else◌}
 use Rattle.std.specs.FinMap as finmap
 use Rattle.graph_model.specs.declared.names.Limits.{Limits}
 use Rattle.graph_model.specs.declared.names.Refusal.{Refusal}

@@ -4,5 +4,7 @@
 
 mod plain;
 mod tx;
+mod txs;
+mod walk;
 
 pub use plain::Plain;

@@ -1,14 +1,25 @@
-ghost use Rattle.std.specs.Prelude.{◌≡◌, ◌+◌, ◌-◌, ◌^◌, ◌<◌, false, [], length, IfOk, if◌then◌else◌, is_ok};
-ghost use Rattle.graph_model.specs.Limits.{default_limits};
+ghost use Rattle.std.specs.Prelude.{◌≡◌, ◌+◌, ◌-◌, ◌*◌, ◌^◌, ◌<◌, ◌≤◌, false, [], ◌∷◌, length, IfOk, OnOk, if◌then◌else◌, is_ok, MatchResult, Contains};
+ghost use Rattle.graph_model.specs.Limits.{default_limits, AreInRange};
+ghost use Rattle.graph_model.specs.Graphs.{AreConnected};
+ghost use Rattle.plain_graph.specs.Walks.{HoldsAll};
+ghost use Rattle.plain_graph.specs.Sound.{AreSmall};
+ghost use Rattle.plain_graph.specs.Joins.{JoinRefusalIs};
 ghost use Rattle.graph_model.specs.Commands.{Add, Dep, Ancestors, Descendants, Count};
 ghost use Rattle.graph_model.specs.Replies.{Number};
 
+use crate::tx::Tx;
+use crate::txs::{is_live, total_size};
+use crate::walk::{Way, has_pair, leads, reach};
 use graph_model::{IdBuf, Level, Limits, Refusal, TxId};
 use outside::NoMemory;
 use std::alloc::Global;
 use std::marker::Model;
 
-use crate::tx::Tx;
+/// What a transaction may pay at most, and as a negative fee at least, in satoshis.
+const MAX_FEE: i64 = 2_100_000_000_000_000;
+
+/// How large a transaction may be, in virtual bytes.
+const MAX_SIZE: u64 = 4_000_000;
 
 /// The plain graph: every call walks its lists.
 #[derive(Drop)]
@@ -23,16 +34,64 @@ pub struct Plain {
 }
 
 impl Model for Plain {
+    ghost use Rattle.std.specs.Prelude.{◌+◌, length};
     ghost use Rattle.plain_graph.specs.Plain.{Kept};
+    ghost use Rattle.plain_graph.specs.Sound.{IsSound};
 
     ghost Value = { Kept };
 
     ghost view = { λ a. record { limits = a.limits; begun = a.begun; txs = a.txs.items; pairs = a.pairs.items; found = a.found.ids; additions = a.additions } };
+
+    ghost invariant = { λ a. IsSound a.limits a.txs.items a.pairs.items (length a.found.ids + a.found.room) };
+}
+
+/// Makes room for at least this many names, where there is less. The list is empty then.
+fn make_room(found: &mut IdBuf, alloc: Global, names: usize) -> Result<(), NoMemory>
+    ensures ok { OnOk result (names ≤ length found.new.ids + found.new.room) }
+    ensures kept { length found.old.ids + found.old.room ≤ length found.new.ids + found.new.room }
+{
+    let most = found.capacity();
+    if names > most {
+        *found = IdBuf::new(alloc, names.max(most.saturating_mul(2)))?;
+    }
+    Ok(())
+}
+
+/// Which limit the component breaks that a pair would make of two. Takes no memory.
+fn refused_join(
+    limits: &Limits,
+    txs: &[Tx],
+    pairs: &[(TxId, TxId)],
+    found: &mut IdBuf,
+    parent: TxId,
+    child: TxId,
+) -> Option<Refusal>
+    requires in_range { AreInRange limits.now }
+    requires small { AreSmall txs.now }
+    requires apart { AreConnected pairs.now parent child → ⊥ }
+    requires room { HoldsAll pairs.now (parent ∷ child ∷ []) (length found.old.ids + found.old.room) }
+    ensures first { JoinRefusalIs limits.now txs.now pairs.now parent child result }
+    ensures room { length found.new.ids + found.new.room ≡ length found.old.ids + found.old.room }
+{
+    reach(found, pairs, &[parent, child], Way::Either);
+    let count = found.ids().len() as u64;
+    if count > limits.count {
+        return Some(Refusal::Count(count));
+    }
+    let size = total_size(txs, found.ids());
+    if size > limits.size {
+        return Some(Refusal::ClusterSize(size));
+    }
+    None
 }
 
 impl Plain {
-    ghost use Rattle.plain_graph.specs.Plain.{Kept, StandsFor, Steps, change_reply, names_reply};
-    ghost use Rattle.graph_model.specs.States.{start};
+    ghost use Rattle.plain_graph.specs.Plain.{Kept, StandsFor, Steps, entry_in, change_reply, names_reply};
+    ghost use Rattle.graph_model.specs.States.{State, start};
+    ghost use Rattle.graph_model.specs.Refusals.{RefusalIs};
+    ghost use Rattle.graph_model.specs.Graphs.{Lists};
+    ghost use Rattle.plain_graph.specs.Sound.{names_of};
+    ghost use Rattle.plain_graph.specs.Walks.{Reaches};
 
     /// An empty graph with the default limits. Takes room.
     pub fn new(alloc: Global) -> Result<Plain, NoMemory>
@@ -41,7 +100,11 @@ impl Plain {
     {
         Ok(Plain {
             alloc,
-            limits: Limits { count: 64, size: 404_000, total: 1_048_576 },
+            limits: Limits {
+                count: 64,
+                size: 404_000,
+                total: 1_048_576,
+            },
             begun: false,
             txs: Vec::new(alloc),
             pairs: Vec::new(alloc),
@@ -57,13 +120,77 @@ impl Plain {
         self.additions
     }
 
+    /// Why `add` is refused, other than for want of memory.
+    fn refused_add(&self, id: TxId, fee: i64, size: u64) -> Option<Refusal>
+        ensures first { (state : State) → StandsFor self.now state → RefusalIs state (Add id fee size) result }
+        ensures new_name { result ≡ None → entry_in self.now.txs id ≡ None }
+        ensures small { result ≡ None → size ≤ 4000000 }
+    {
+        if fee < -MAX_FEE || fee > MAX_FEE {
+            return Some(Refusal::Fee);
+        }
+        if size < 1 || size > MAX_SIZE {
+            return Some(Refusal::Size);
+        }
+        if is_live(&self.txs, id) {
+            return Some(Refusal::Taken);
+        }
+        if size > self.limits.size {
+            return Some(Refusal::ClusterSize(size));
+        }
+        if self.txs.len() as u64 >= self.limits.total {
+            return Some(Refusal::Full);
+        }
+        None
+    }
+
     /// `add`
     pub fn add(&mut self, id: TxId, fee: i64, size: u64) -> Result<(), Refusal>
         requires { self.old.additions < 2 ^ 64 - 1 }
         ensures step { Steps self.old self.new (Add id fee size) (change_reply result) }
         ensures additions { self.new.additions ≡ self.old.additions + (if is_ok result then 1 else 0) }
     {
-        Err(Refusal::Memory)
+        if let Some(why) = self.refused_add(id, fee, size) {
+            return Err(why);
+        }
+        let names = self.txs.len() + 1;
+        if make_room(&mut self.found, self.alloc, names).is_err() {
+            return Err(Refusal::Memory);
+        }
+        if self.txs.push(Tx { id, fee, size }).is_err() {
+            return Err(Refusal::Memory);
+        }
+        self.begun = true;
+        self.additions += 1;
+        Ok(())
+    }
+
+    /// Why `dep` is refused, other than for want of memory. Takes no memory.
+    fn refused_dep(&mut self, parent: TxId, child: TxId) -> Option<Refusal>
+        ensures first { (state : State) → StandsFor self.old state → RefusalIs state (Dep parent child) result }
+        ensures ends { result ≡ None → Contains (names_of self.old.txs) parent × Contains (names_of self.old.txs) child }
+        ensures same { self.new ≡ record self.old { found = self.new.found } }
+    {
+        if !is_live(&self.txs, parent) {
+            return Some(Refusal::Unknown(parent));
+        }
+        if !is_live(&self.txs, child) {
+            return Some(Refusal::Unknown(child));
+        }
+        if leads(&mut self.found, &self.pairs, parent, child, Way::Up) {
+            return Some(Refusal::Cycle);
+        }
+        if leads(&mut self.found, &self.pairs, parent, child, Way::Either) {
+            return None;
+        }
+        refused_join(
+            &self.limits,
+            &self.txs,
+            &self.pairs,
+            &mut self.found,
+            parent,
+            child,
+        )
     }
 
     /// `dep`
@@ -71,7 +198,30 @@ impl Plain {
         ensures step { Steps self.old self.new (Dep parent child) (change_reply result) }
         ensures additions { self.new.additions ≡ self.old.additions }
     {
-        Err(Refusal::Memory)
+        if let Some(why) = self.refused_dep(parent, child) {
+            return Err(why);
+        }
+        if has_pair(&self.pairs, parent, child) {
+            self.begun = true;
+            return Ok(());
+        }
+        if self.pairs.push((parent, child)).is_err() {
+            return Err(Refusal::Memory);
+        }
+        self.begun = true;
+        Ok(())
+    }
+
+    /// The names that walks lead to from a name, in `found`. Takes no memory.
+    fn walk(&mut self, id: TxId, way: Way) -> Result<(), Refusal>
+        ensures found { MatchResult result (λ _. Contains (names_of self.old.txs) id × Lists (Reaches way self.old.pairs id) self.new.found) (λ why. (Contains (names_of self.old.txs) id → ⊥) × (why ≡ Refusal.Unknown id)) }
+        ensures same { self.new ≡ record self.old { found = self.new.found } }
+    {
+        if !is_live(&self.txs, id) {
+            return Err(Refusal::Unknown(id));
+        }
+        reach(&mut self.found, &self.pairs, &[id], way);
+        Ok(())
     }
 
     /// `ancestors`: the names are in `found` then.
@@ -79,7 +229,8 @@ impl Plain {
         ensures step { Steps self.old self.new (Ancestors id level) (names_reply result self.new.found) }
         ensures additions { self.new.additions ≡ self.old.additions }
     {
-        Err(Refusal::Cycle)
+        let _main_without_staging = level;
+        self.walk(id, Way::Up)
     }
 
     /// `descendants`: the names are in `found` then.
@@ -87,7 +238,8 @@ impl Plain {
         ensures step { Steps self.old self.new (Descendants id level) (names_reply result self.new.found) }
         ensures additions { self.new.additions ≡ self.old.additions }
     {
-        Err(Refusal::Cycle)
+        let _main_without_staging = level;
+        self.walk(id, Way::Down)
     }
 
     /// The names that the last reading found, rising.

@@ -1,0 +1,7 @@
+mod Ways
+mod Entries
+mod Standing
+mod Spreads
+mod Starts
+mod JoinLemmas
+mod Readings

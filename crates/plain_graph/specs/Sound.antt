@@ -1,0 +1,20 @@
+-- What a plain graph's fields keep.
+use Rattle.std.specs.Prelude.{ℕ, ◌≤◌, List, map, length, All}
+use Rattle.graph_model.specs.declared.names.Limits.{Limits}
+use Rattle.graph_model.specs.Limits.{AreInRange}
+use Rattle.plain_graph.specs.declared.tx.Tx.{Tx}
+use Rattle.plain_graph.specs.Walks.{EndsAreAmong}
+
+abbrev pub names_of : List Tx → List ℕ
+names_of txs = map (λ tx. tx.id) txs
+
+-- no transaction is larger than may be
+abbrev pub AreSmall : List Tx → Type 0
+AreSmall txs = All (λ tx. tx.size ≤ 4000000) txs
+
+-- The limits are in range, sizes are, pairs are of names, and there are places for all names.
+pub record IsSound (set : Limits) (txs : List Tx) (pairs : List (ℕ × ℕ)) (places : ℕ) : Type 0 where
+  pub in_range : AreInRange set
+  pub small : AreSmall txs
+  pub ends : EndsAreAmong (names_of txs) pairs
+  pub enough : length txs ≤ places
