@@ -2,14 +2,14 @@
 use Rattle.std.proofs.Common.{◌≡◌, ℕ, List, [], ◌∷◌, ◌++◌, Option, refl, sym, subst, ap, ◌∙◌, append_assoc, append-nil, true, false, Bool, inl, inr, Result, Ok, Err, IsOk, IsErr}
 use Rattle.outside.proofs.Fronts.{AppendsFront-after}
 use Rattle.std.proofs.lemmas.List.Elements.{All-nil, All-push}
-use Rattle.std.specs.Prelude.{flat_map, All}
+use Rattle.std.specs.Prelude.{flat_map}
 use Rattle.std.specs.Io.KnownBytes.{Appends}
 use Rattle.std.proofs.KnownBytes.{Appends-trans, Appends-nil}
 use Rattle.outside.specs.Transfers.{AppendsFront, Writes}
 use Rattle.graph_model.specs.States.{State, start}
 use Rattle.graph_model.specs.Replies.{line_text}
 use Rattle.graph_model.specs.Lines.{IsOneLine}
-use Rattle.graph_model.specs.Runs.{Answer, Run, LineStep, answer_text, MayWrite}
+use Rattle.graph_model.specs.Runs.{Answer, Run, LineStep, answer_text}
 use Rattle.graph_model.proofs.RunLemmas.{run-append}
 use Rattle.plain_graph.specs.Plain.{Kept, StandsFor}
 use Rattle.replay.specs.Sessions.{Answers}
@@ -38,26 +38,30 @@ begins old input rest line after first before so_far cut one =
     record {
       after = after;
       whole = so_far.whole ∙ ap (λ (bytes : List ℕ). flat_map line_text so_far.lines ++ bytes) cut ∙ regroup (flat_map line_text so_far.lines) line after
-        ∙ ap (λ (bytes : List ℕ). bytes ++ after) (sym (flat_map-push line_text so_far.lines line));
+          ∙ ap (λ (bytes : List ℕ). bytes ++ after) (sym (flat_map-push line_text so_far.lines line));
       each = All-push IsOneLine so_far.lines line so_far.each one;
     }
 
 -- a line is answered, and the reply written whole
 pub line_answered : (old new : Kept) (input rest line after : List ℕ) (answer : Answer) (first before now : Option (List ℕ)) → Answered old input rest first before → rest ≡ line ++ 10 ∷ after → IsOneLine line → Answers old new line answer
-  → Appends before now (answer_text answer) → Answered new input after first now
+    → Appends before now (answer_text answer) → Answered new input after first now
 unfolding begins
 line_answered old new input rest line after answer first before now so_far cut one answers wrote =
     let step = answers so_far.state so_far.stands in
     record {
-      lines = so_far.lines ++ line ∷ []; answers = so_far.answers ++ answer ∷ []; state = step.0; stands = step.1;
+      lines = so_far.lines ++ line ∷ [];
+      answers = so_far.answers ++ answer ∷ [];
+      state = step.0;
+      stands = step.1;
       run = one_more so_far.lines so_far.answers so_far.state step.0 line answer so_far.run step.2;
-      whole = (begins old input rest line after first before so_far cut one).whole; each = (begins old input rest line after first before so_far cut one).each;
+      whole = (begins old input rest line after first before so_far cut one).whole;
+      each = (begins old input rest line after first before so_far cut one).each;
       written = subst (λ (text : List ℕ). Appends first now text) (sym (flat_map-push answer_text so_far.answers answer)) (Appends-trans first before now _ _ so_far.written wrote);
     }
 
 -- a line is answered, and a front of the reply written
 pub line_cut_off : (old new : Kept) (input rest line after : List ℕ) (answer : Answer) (first before now : Option (List ℕ)) → Answered old input rest first before → rest ≡ line ++ 10 ∷ after → IsOneLine line → Answers old new line answer
-  → AppendsFront before now (answer_text answer) → WritesFront false input first now
+    → AppendsFront before now (answer_text answer) → WritesFront false input first now
 line_cut_off old new input rest line after answer first before now so_far cut one answers wrote =
     let step = answers so_far.state so_far.stands in
     record {
@@ -85,7 +89,9 @@ whole_output kept input rest old new all none =
     record {
       text = flat_map answer_text so_far.answers;
       output = record {
-        lines = so_far.lines; rest = []; cut = record { whole = so_far.whole ∙ ap (λ (bytes : List ℕ). flat_map line_text so_far.lines ++ bytes) none; each = so_far.each; last = subst IsOneLine none all.1 };
+        lines = so_far.lines;
+        rest = [];
+        cut = record { whole = so_far.whole ∙ ap (λ (bytes : List ℕ). flat_map line_text so_far.lines ++ bytes) none; each = so_far.each; last = subst IsOneLine none all.1 };
         run = (so_far.answers, so_far.state, so_far.run, refl);
       };
       written = so_far.written;
@@ -93,7 +99,7 @@ whole_output kept input rest old new all none =
 
 -- what follows the last line feed is answered too
 pub last_answered : (old new : Kept) (input rest : List ℕ) (answer : Answer) (first before now : Option (List ℕ)) → HasAnswered old input rest first before → (rest ≡ [] → ⊥) → Answers old new rest answer
-  → Appends before now (answer_text answer) → WritesOutput true input first now
+    → Appends before now (answer_text answer) → WritesOutput true input first now
 last_answered old new input [] answer first before now all some answers wrote = absurd (some refl)
 last_answered old new input (byte ∷ rest) answer first before now all some answers wrote =
     let so_far = all.0 in
@@ -101,14 +107,16 @@ last_answered old new input (byte ∷ rest) answer first before now all some ans
     record {
       text = flat_map answer_text (so_far.answers ++ answer ∷ []);
       output = record {
-        lines = so_far.lines; rest = byte ∷ rest; cut = record { whole = so_far.whole; each = so_far.each; last = all.1 };
+        lines = so_far.lines;
+        rest = byte ∷ rest;
+        cut = record { whole = so_far.whole; each = so_far.each; last = all.1 };
         run = (so_far.answers ++ answer ∷ [], step.0, one_more so_far.lines so_far.answers so_far.state step.0 (byte ∷ rest) answer so_far.run step.2, refl);
       };
       written = subst (λ (text : List ℕ). Appends first now text) (sym (flat_map-push answer_text so_far.answers answer)) (Appends-trans first before now _ _ so_far.written wrote);
     }
 
 pub last_cut_off : (old new : Kept) (input rest : List ℕ) (answer : Answer) (first before now : Option (List ℕ)) → HasAnswered old input rest first before → (rest ≡ [] → ⊥) → Answers old new rest answer
-  → AppendsFront before now (answer_text answer) → WritesFront true input first now
+    → AppendsFront before now (answer_text answer) → WritesFront true input first now
 last_cut_off old new input [] answer first before now all some answers wrote = absurd (some refl)
 last_cut_off old new input (byte ∷ rest) answer first before now all some answers wrote =
     let so_far = all.0 in
@@ -128,14 +136,14 @@ front_at_end true input old new part = record { lines = part.lines; first = inl 
 
 -- what answering the last line leaves, whether there is one or not
 pub last_output : {T E : Type 0} (old new : Kept) (input rest : List ℕ) (first before now : Option (List ℕ)) (p q : ℕ) (result : Result T E) → HasAnswered old input rest first before → (rest ≡ [] → now ≡ before)
-  → ((rest ≡ [] → ⊥) → (answer : Answer) × Answers old new rest answer × Writes before now p q result (answer_text answer)) → IsOk result → WritesOutput true input first now
+    → ((rest ≡ [] → ⊥) → (answer : Answer) × Answers old new rest answer × Writes before now p q result (answer_text answer)) → IsOk result → WritesOutput true input first now
 last_output old new input [] first before now p q result all none some ok = subst (λ (o : Option (List ℕ)). WritesOutput true input first o) (sym (none refl)) (whole_output old input [] first before all refl)
 last_output old new input (byte ∷ rest) first before now p q (Ok value) all none some ok =
     let step = some (λ e. cc) in last_answered old new input (byte ∷ rest) step.0 first before now all (λ e. cc) step.1 step.2.ok
 last_output old new input (byte ∷ rest) first before now p q (Err error) all none some ok = absurd (let e = ok in cc)
 
 pub last_front : {T E : Type 0} (old new : Kept) (input rest : List ℕ) (first before now : Option (List ℕ)) (p q : ℕ) (result : Result T E) → HasAnswered old input rest first before → (rest ≡ [] → IsOk result)
-  → ((rest ≡ [] → ⊥) → (answer : Answer) × Answers old new rest answer × Writes before now p q result (answer_text answer)) → IsErr result → WritesFront true input first now
+    → ((rest ≡ [] → ⊥) → (answer : Answer) × Answers old new rest answer × Writes before now p q result (answer_text answer)) → IsErr result → WritesFront true input first now
 last_front old new input [] first before now p q result all none some err = absurd (ok_not_err result (none refl) err)
   where
     ok_not_err : {T E : Type 0} (result : Result T E) → IsOk result → IsErr result → ⊥

@@ -1,10 +1,7 @@
 -- How the program ends.
-use Rattle.std.specs.Prelude.{◌≡◌, ℕ, ◌≤◌, ◌<◌, List, [], ◌∷◌, ◌++◌, take, length, codes, ◌⊎◌, Bool, true, false}
-use Rattle.std.specs.Io.KnownBytes.{Appends, Keeps, Consumes}
+use Rattle.std.specs.Prelude.{◌≡◌, ℕ, List, [], ◌∷◌, codes, Bool, true, false}
 use Rattle.std.specs.declared.option.Option.{Option}
-use Rattle.outside.specs.Faults.{Rose}
 use Rattle.graph_model.specs.Replies.{line_text}
-use Rattle.graph_model.specs.Lines.{max_input}
 use Rattle.replay.specs.declared.input.End.{End}
 use Rattle.replay.specs.declared.input.End.TheVariants.{Told, Fault, Limit}
 use Rattle.replay.specs.declared.top.Status.{Status}

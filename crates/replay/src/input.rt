@@ -36,11 +36,18 @@ pub(crate) fn read_input<S: Source>(alloc: Global, source: &mut S) -> Result<Inp
     let mut chunk = [0; 65_536];
     while bytes.len() <= MAX_INPUT {
         match source.read(&mut chunk) {
-            Ok(0) => return Ok(Input { bytes, end: End::Told }),
+            Ok(0) => return Ok(read(bytes, End::Told)),
             Ok(count) => bytes.extend_from_slice(&chunk[..count])?,
-            Err(_) => return Ok(Input { bytes, end: End::Fault }),
+            Err(_) => return Ok(read(bytes, End::Fault)),
         }
     }
     bytes.truncate(MAX_INPUT);
-    Ok(Input { bytes, end: End::Limit })
+    Ok(read(bytes, End::Limit))
+}
+
+/// What was read, and how it ended.
+fn read(bytes: Vec<u8>, end: End) -> Input
+    ensures { result ≡ record { bytes = bytes; end = end } }
+{
+    Input { bytes, end }
 }

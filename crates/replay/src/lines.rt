@@ -8,11 +8,10 @@ ghost use Rattle.plain_graph.specs.Plain.{StandsFor};
 ghost use Rattle.replay.specs.Outputs.{WritesOutput, WritesFront};
 ghost use Rattle.replay.specs.Progress.{HasAnswered};
 
-use outside::{Failed, Sink};
-use wire::split_at_byte;
-
 use crate::answer::Outcome;
 use crate::session::{Piece, Session};
+use outside::{Failed, Sink};
+use wire::split_at_byte;
 
 /// Answers the complete lines of an input, and gives back what follows the last line feed.
 pub(crate) fn answer_complete<'a, const W: usize, K: Sink>(

@@ -7,14 +7,13 @@ ghost use Rattle.outside.specs.Transfers.{Writes};
 ghost use Rattle.replay.specs.Answers.{answer_of};
 ghost use Rattle.plain_graph.specs.Plain.{change_reply, names_reply};
 
+use crate::answer::{Answer, Outcome};
 use graph_model::{IdBuf, Refusal};
 use outside::{Failed, NoMemory, Sink};
 use plain_graph::Plain;
 use std::alloc::Global;
 use std::marker::Model;
 use wire::{Line, read_line};
-
-use crate::answer::{Answer, Outcome};
 
 /// The most bytes that a line may have, without its line feed.
 const MAX_LINE: usize = 65_536;

@@ -41,7 +41,10 @@ const RUNS: [(&str, &str); 10] = [
         "add 7 1 1\nadd 5 1 1\nadd 6 1 1\ndep 7 6\ndep 6 5\nancestors 5 main\ndescendants 7 top\nancestors 7 main\ndep 7 5\ndep 8 5\ndep 5 8\n",
         "ok\nok\nok\nok\nok\nids 5 6 7\nids 5 6 7\nids 7\nok\nrefused unknown 8\nrefused unknown 8\n",
     ),
-    ("limits 1 1 1\norder main\nstage\n", "refused syntax\nrefused syntax\nrefused syntax\n"),
+    (
+        "limits 1 1 1\norder main\nstage\n",
+        "refused syntax\nrefused syntax\nrefused syntax\n",
+    ),
 ];
 
 #[test]
@@ -75,12 +78,19 @@ fn faults_and_words_give_their_status(rt: HostRuntime) -> Result<(), Fail> {
     assert_eq!(rt; run(alloc, &replay, &mut source, &mut sink).code(), 4);
     assert_eq!(rt; sink.written(), b"ok\n".as_slice());
 
-    for refused in [&["txgraph", "replay", "x"].as_slice(), &["txgraph"].as_slice(), &["txgraph", "check"].as_slice()] {
+    for refused in [
+        &["txgraph", "replay", "x"].as_slice(),
+        &["txgraph"].as_slice(),
+        &["txgraph", "check"].as_slice(),
+    ] {
         let mut source = MemSource::new(alloc, b"add 1 1 1\n", 64, &[], None)?;
         let mut sink = MemSink::new(alloc, 64, &[], 4096)?;
         let refused = words(alloc, refused)?;
         assert_eq!(rt; run(alloc, &refused, &mut source, &mut sink).code(), 2);
-        assert_eq!(rt; sink.written(), b"usage: txgraph replay | check | gen SEED COUNT\n".as_slice());
+        assert_eq!(rt;
+            sink.written(),
+            b"usage: txgraph replay | check | gen SEED COUNT\n".as_slice()
+        );
     }
     Ok(())
 }
@@ -98,6 +108,9 @@ fn a_line_has_at_most_65536_bytes(rt: HostRuntime) -> Result<(), Fail> {
     let mut sink = MemSink::new(alloc, 4096, &[], 4096)?;
     let words = words(alloc, &["txgraph", "replay"])?;
     assert_eq!(rt; run(alloc, &words, &mut source, &mut sink).code(), 0);
-    assert_eq!(rt; sink.written(), b"refused line\nrefused syntax\ncount 0\n".as_slice());
+    assert_eq!(rt;
+        sink.written(),
+        b"refused line\nrefused syntax\ncount 0\n".as_slice()
+    );
     Ok(())
 }

@@ -5,13 +5,12 @@ ghost use Rattle.outside.specs.Faults.{Rose, HasCause};
 ghost use Rattle.outside.specs.Transfers.{AppendsFront, Writes};
 ghost use Rattle.replay.specs.Statuses.{AreReplay, usage_text, IsAnswered, IsCutOff, end_status, status_code};
 
-use outside::{Failed, Sink, Source};
-use std::alloc::Global;
-use wire::write_word;
-
 use crate::input::{End, Input, read_input};
 use crate::lines::answer_all;
 use crate::session::Session;
+use outside::{Failed, Sink, Source};
+use std::alloc::Global;
+use wire::write_word;
 
 /// How the program ended, with its exit status.
 #[derive(Clone, Copy, Debug, PartialEq, Eq)]

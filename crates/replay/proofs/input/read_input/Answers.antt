@@ -1,12 +1,10 @@
-use Rattle.std.proofs.Common.{◌≡◌, ◌≤◌, ◌-◌, ◌++◌, take, drop, length, length-take, length-drop, take-append-drop, arith, subst, sym, ◌∙◌, List, ℕ}
-use Rattle.std.specs.Io.KnownBytes.{Consumes}
+use Rattle.std.proofs.Common.{◌≤◌, drop, length, length-take, length-drop, take-append-drop, arith}
 use Rattle.replay.proofs.input.read_input.Goals as goal
 
 pub returns-clause-reads : goal.returns-clause-reads
 returns-clause-reads g c =
     let bytes = c.loop-chunk.bytes.items in
-    let long : 268435457 ≤ length bytes = omega (arith, c.loop-chunk.bytes.ok.0, c.loop-chunk-test.false, c.len.ensures) in
-    (
+    let long : 268435457 ≤ length bytes = omega (arith, c.loop-chunk.bytes.ok.0, c.loop-chunk-test.false, c.len.ensures) in rw c.read-2.ensures (
       drop 268435456 bytes,
       omega (arith, length-drop 268435456 bytes),
       rw c.truncate.ensures.items (rw (take-append-drop 268435456 bytes) c.loop-chunk.invariant.read),

@@ -1,5 +1,4 @@
-use Rattle.std.proofs.Common.{refl, ap, true, false, Bool, List, ℕ, ◌≡◌, subst, sym, IsOk, IsErr}
-use Rattle.replay.specs.Outputs.{WritesOutput, WritesFront}
+use Rattle.std.proofs.Common.{refl, ap}
 use Rattle.replay.proofs.LineLemmas.{complete_output, last_output, last_front}
 use Rattle.replay.proofs.lines.answer_all.Goals as goal
 

@@ -1,8 +1,4 @@
-use Rattle.std.proofs.Common.{◌≡◌, ◌+◌, length, length-append, ◌∷◌, ap, refl, arith, Result, Ok, Err}
-use Rattle.replay.specs.declared.answer.Outcome.{Outcome}
-use Rattle.outside.specs.declared.errors.Failed.{Failed}
-use Rattle.outside.specs.Transfers.{Writes}
-use Rattle.graph_model.specs.Runs.{answer_text}
+use Rattle.std.proofs.Common.{length, length-append, ◌∷◌, ap, refl, arith}
 use Rattle.replay.proofs.LineLemmas.{nothing_answered, line_answered, line_cut_off}
 use Rattle.replay.proofs.lines.answer_complete.Goals as goal
 

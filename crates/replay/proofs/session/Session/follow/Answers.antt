@@ -1,4 +1,4 @@
-use Rattle.std.proofs.Common.{◌≡◌, ◌∙◌, refl, sym, ap, rules, ℤ, FitsSigned}
+use Rattle.std.proofs.Common.{◌∙◌, refl, sym, ap, rules, ℤ, FitsSigned}
 use Rattle.std.specs.Int.{w64}
 use Rattle.std.proofs.lemmas.Int.{to_z-of_z}
 use Rattle.graph_model.specs.Commands.{Add}
@@ -15,7 +15,7 @@ pub returns-in-Syntax-clause-line : goal.returns-in-Syntax-clause-line
 returns-in-Syntax-clause-line g c bytes short means = nothing_answers _ _ bytes _ NoForm Unread short means (ap meaning_of c.in-Syntax.is) refl (λ state none. (short, none, refl))
 
 pub returns-in-Add-clause-line : goal.returns-in-Add-clause-line
-returns-in-Add-clause-line g c bytes short means = command_answers _ _ _ bytes _ _ _ _ short means 
+returns-in-Add-clause-line g c bytes short means = command_answers _ _ _ bytes _ _ _ _ short means
     (ap meaning_of c.in-Add.is ∙ ap (λ (fee : ℤ). Says (Add c.in-Add.id fee c.in-Add.size)) (let fits : FitsSigned w64 c.in-Add.fee = search rules in sym (to_z-of_z w64 c.in-Add.fee fits))) c.add.ensures.step c.self.view_is (c.changed.ensures _)
 
 pub returns-in-Dep-clause-line : goal.returns-in-Dep-clause-line
