@@ -3,6 +3,8 @@
 #![tactic(auto)]
 
 mod plain;
+#[cfg(test)]
+mod tests;
 mod tx;
 mod txs;
 mod walk;

@@ -1,0 +1,92 @@
+use crate::Plain;
+use graph_model::{Level, Refusal};
+use std::process::Abort;
+use std::test::Fail;
+
+const MOST: i64 = 2_100_000_000_000_000;
+
+/// Adds to a graph that has counted few additions.
+fn add(rt: &impl Abort, graph: &mut Plain, id: u64, fee: i64, size: u64) -> Result<(), Refusal> {
+    assert!(rt; graph.additions() < 1_000);
+    graph.add(id, fee, size)
+}
+
+#[test]
+fn additions(rt: HostRuntime) -> Result<(), Fail> {
+    let mut graph = Plain::new(rt.alloc())?;
+    let table = [
+        (1, MOST, 1, Ok(())),
+        (2, -MOST, 404_000, Ok(())),
+        (1, MOST + 1, 0, Err(Refusal::Fee)),
+        (3, -MOST - 1, 1, Err(Refusal::Fee)),
+        (1, 0, 0, Err(Refusal::Size)),
+        (1, 0, 4_000_001, Err(Refusal::Size)),
+        (1, 0, 4_000_000, Err(Refusal::Taken)),
+        (3, 0, 404_001, Err(Refusal::ClusterSize(404_001))),
+        (3, 0, 4_000_000, Err(Refusal::ClusterSize(4_000_000))),
+        (u64::MAX, 0, 1, Ok(())),
+    ];
+    for (id, fee, size, answer) in table {
+        assert_eq!(rt; add(&rt, &mut graph, id, fee, size), answer);
+    }
+    assert_eq!(rt; graph.count(Level::Main), 3);
+    assert_eq!(rt; graph.count(Level::Top), 3);
+    assert_eq!(rt; graph.additions(), 3);
+    Ok(())
+}
+
+#[test]
+fn pairs(rt: HostRuntime) -> Result<(), Fail> {
+    let mut graph = Plain::new(rt.alloc())?;
+    for id in 1..4u64 {
+        add(&rt, &mut graph, id, 1, 1)?;
+    }
+    let table = [
+        (1, 2, Ok(())),
+        (2, 1, Err(Refusal::Cycle)),
+        (1, 1, Err(Refusal::Cycle)),
+        (9, 8, Err(Refusal::Unknown(9))),
+        (1, 8, Err(Refusal::Unknown(8))),
+        (1, 3, Ok(())),
+        (2, 3, Ok(())),
+        (3, 1, Err(Refusal::Cycle)),
+        (1, 3, Ok(())),
+    ];
+    for (parent, child, answer) in table {
+        assert_eq!(rt; graph.dep(parent, child), answer);
+    }
+    graph.descendants(1, Level::Main)?;
+    assert_eq!(rt; graph.found(), [1, 2, 3].as_slice());
+    graph.ancestors(2, Level::Top)?;
+    assert_eq!(rt; graph.found(), [1, 2].as_slice());
+    assert_eq!(rt; graph.ancestors(9, Level::Top), Err(Refusal::Unknown(9)));
+    assert_eq!(rt; graph.descendants(9, Level::Top), Err(Refusal::Unknown(9)));
+    Ok(())
+}
+
+#[test]
+fn sizes_of_a_pair(rt: HostRuntime) -> Result<(), Fail> {
+    let mut graph = Plain::new(rt.alloc())?;
+    add(&rt, &mut graph, 2, 1, 403_999)?;
+    add(&rt, &mut graph, 3, 1, 1)?;
+    add(&rt, &mut graph, 4, 1, 1)?;
+    assert_eq!(rt; graph.dep(2, 3), Ok(()));
+    assert_eq!(rt; graph.dep(3, 4), Err(Refusal::ClusterSize(404_001)));
+    assert_eq!(rt; graph.dep(2, 3), Ok(()));
+    Ok(())
+}
+
+#[test]
+fn names_of_a_pair(rt: HostRuntime) -> Result<(), Fail> {
+    let mut graph = Plain::new(rt.alloc())?;
+    for id in 1..66u64 {
+        add(&rt, &mut graph, id, 0, 1)?;
+    }
+    for id in 1..64u64 {
+        assert_eq!(rt; graph.dep(id, id + 1), Ok(()));
+    }
+    assert_eq!(rt; graph.dep(64, 65), Err(Refusal::Count(65)));
+    graph.ancestors(64, Level::Main)?;
+    assert_eq!(rt; graph.found().len(), 64);
+    Ok(())
+}
