@@ -50,5 +50,5 @@ readings_lack_none old new command reads step = elim step [
   | inr rest ↦ elim rest [
     | inl lacks ↦ reads lacks.may
     | inr accepted ↦ no_accepted_refusal old new command Memory accepted.accepts
-    ]
   ]
+]

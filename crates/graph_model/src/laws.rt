@@ -15,5 +15,4 @@ pub fn refused_changes_nothing()
 /// A reading is never refused for want of memory.
 pub fn readings_lack_no_memory()
     ensures { ReadingsLackNoMemory }
-{
-}
+{}

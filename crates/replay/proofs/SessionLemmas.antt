@@ -6,7 +6,7 @@ use Rattle.graph_model.specs.Lines.{Meaning, Says, Means, max_line}
 use Rattle.graph_model.specs.Replies.{Reply}
 use Rattle.graph_model.specs.Runs.{Answer, Replies, LineStep}
 use Rattle.plain_graph.specs.Plain.{Kept, StandsFor, Steps}
-use Rattle.replay.specs.Sessions.{Answers}
+use Rattle.replay.specs.Sessions.{Answers, Suits}
 
 -- a line that says a command is answered by the command's reply
 pub command_answers : (before old new : Kept) (line : List ℕ) (meaning : Meaning) (command : Command) (reply : Reply) (answer : Answer) → length line ≤ max_line → Means line meaning → meaning ≡ Says command → Steps old new command reply → old ≡ before
@@ -26,3 +26,7 @@ pub reading_answers : (before old : Kept) (line : List ℕ) (meaning : Meaning) 
     → answer ≡ Replies reply → Answers before before line answer
 reading_answers before old line meaning command reply answer short means says steps same is =
     subst (λ (k : Kept). Answers before k line answer) same (command_answers before old old line meaning command reply answer short means says steps same is)
+
+-- a reply suits a line that says a command
+pub reply_suits : (line : List ℕ) (meaning : Meaning) (command : Command) (reply : Reply) (answer : Answer) → length line ≤ max_line → Means line meaning → meaning ≡ Says command → answer ≡ Replies reply → Suits line answer
+reply_suits line meaning command reply answer short means says is = rw is (short, command, subst (λ (m : Meaning). Means line m) says means)

@@ -53,7 +53,7 @@ impl<const W: usize> Session<W> {
     ghost use Rattle.plain_graph.specs.Plain.{Kept, StandsFor};
     ghost use Rattle.graph_model.specs.States.{start};
     ghost use Rattle.replay.specs.Answers.{answer_of, outcome_of};
-    ghost use Rattle.replay.specs.Sessions.{IsLine, Answers};
+    ghost use Rattle.replay.specs.Sessions.{IsLine, Answers, Suits};
 
     /// A session at the start: default limits, no names. Takes the room that readings need.
     pub fn new(alloc: Global) -> Result<Session<W>, NoMemory>
@@ -80,7 +80,7 @@ impl<const W: usize> Session<W> {
         // One line of a run: its answer, the state that follows, and what was written and told of it.
         ensures line { (line : List ℕ) → IsLine piece.entry line → (answer : runs.Answer) × Answers self.old self.new line answer
             × Writes (K.written sink.old) (K.written sink.new) (K.faults sink.old) (K.faults sink.new) result (answer_text answer)
-            × IfOk result (λ outcome. outcome ≡ outcome_of answer) }
+            × IfOk result (λ outcome. outcome ≡ outcome_of answer) × Suits line answer }
         ensures additions { self.new.additions ≤ self.old.additions + 1 }
     {
         let answer = self.answer(piece);
@@ -91,6 +91,7 @@ impl<const W: usize> Session<W> {
     fn answer(&mut self, piece: Piece<'_>) -> Answer
         requires { self.old.additions < 2 ^ 64 - 1 }
         ensures line { (line : List ℕ) → IsLine piece.entry line → Answers self.old self.new line (answer_of result self.new.found) }
+        ensures suits { (line : List ℕ) → IsLine piece.entry line → Suits line (answer_of result self.new.found) }
         ensures additions { self.new.additions ≤ self.old.additions + 1 }
     {
         match piece {
@@ -103,6 +104,7 @@ impl<const W: usize> Session<W> {
     fn read(&mut self, bytes: &[u8]) -> Answer
         requires { self.old.additions < 2 ^ 64 - 1 }
         ensures line { Answers self.old self.new bytes.now (answer_of result self.new.found) }
+        ensures suits { Suits bytes.now (answer_of result self.new.found) }
         ensures additions { self.new.additions ≤ self.old.additions + 1 }
     {
         if bytes.len() > MAX_LINE {
@@ -116,6 +118,7 @@ impl<const W: usize> Session<W> {
     fn follow(&mut self, line: Line) -> Answer
         requires { self.old.additions < 2 ^ 64 - 1 }
         ensures line { (bytes : List ℕ) → length bytes ≤ max_line → Means bytes (meaning_of line) → Answers self.old self.new bytes (answer_of result self.new.found) }
+        ensures suits { (bytes : List ℕ) → length bytes ≤ max_line → Means bytes (meaning_of line) → Suits bytes (answer_of result self.new.found) }
         ensures additions { self.new.additions ≤ self.old.additions + 1 }
     {
         match line {

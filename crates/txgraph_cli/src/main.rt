@@ -4,10 +4,9 @@
 use outside::{ReadSource, WriteSink};
 use replay::{Status, run};
 use std::alloc::Global;
-use std::env;
-use std::io;
 use std::process::ExitCode;
 use std::rt::Env;
+use std::{env, io};
 
 fn main(rt: HostRuntime) -> ExitCode {
     let alloc = rt.alloc();

@@ -2,10 +2,11 @@ use Rattle.std.proofs.Common.{◌∙◌, refl, sym, ap, rules, ℤ, FitsSigned}
 use Rattle.std.specs.Int.{w64}
 use Rattle.std.proofs.lemmas.Int.{to_z-of_z}
 use Rattle.graph_model.specs.Commands.{Add}
+use Rattle.graph_model.specs.Replies.{Number}
 use Rattle.graph_model.specs.Lines.{Quiet, NoForm, Says}
 use Rattle.graph_model.specs.Runs.{Silence, Unread}
 use Rattle.wire.specs.Readings.{meaning_of}
-use Rattle.replay.proofs.SessionLemmas.{command_answers, nothing_answers, reading_answers}
+use Rattle.replay.proofs.SessionLemmas.{command_answers, nothing_answers, reading_answers, reply_suits}
 use Rattle.replay.proofs.session.Session.follow.Goals as goal
 
 pub returns-in-Quiet-clause-line : goal.returns-in-Quiet-clause-line
@@ -29,3 +30,18 @@ returns-in-Descendants-clause-line g c bytes short means = command_answers _ _ _
 
 pub returns-in-Count-clause-line : goal.returns-in-Count-clause-line
 returns-in-Count-clause-line g c bytes short means = reading_answers _ _ bytes _ _ _ _ short means (ap meaning_of c.in-Count.is) c.count.ensures c.self.view_is refl
+
+pub returns-in-Add-clause-suits : goal.returns-in-Add-clause-suits
+returns-in-Add-clause-suits g c bytes short means = reply_suits bytes _ _ _ _ short means (ap meaning_of c.in-Add.is) (c.changed.ensures _)
+
+pub returns-in-Dep-clause-suits : goal.returns-in-Dep-clause-suits
+returns-in-Dep-clause-suits g c bytes short means = reply_suits bytes _ _ _ _ short means (ap meaning_of c.in-Dep.is) (c.changed-in-Dep.ensures _)
+
+pub returns-in-Ancestors-clause-suits : goal.returns-in-Ancestors-clause-suits
+returns-in-Ancestors-clause-suits g c bytes short means = reply_suits bytes _ _ _ _ short means (ap meaning_of c.in-Ancestors.is) (c.named.ensures _)
+
+pub returns-in-Descendants-clause-suits : goal.returns-in-Descendants-clause-suits
+returns-in-Descendants-clause-suits g c bytes short means = reply_suits bytes _ _ _ _ short means (ap meaning_of c.in-Descendants.is) (c.named-in-Descendants.ensures _)
+
+pub returns-in-Count-clause-suits : goal.returns-in-Count-clause-suits
+returns-in-Count-clause-suits g c bytes short means = reply_suits bytes _ _ (Number c.count.result) _ short means (ap meaning_of c.in-Count.is) refl
