@@ -1,5 +1,5 @@
 //! Laws over the definitions, each the contract of a function that does nothing.
-ghost use Rattle.graph_model.specs.Laws.{AnswersAreInOrder, RefusedChangesNothing};
+ghost use Rattle.graph_model.specs.Laws.{AnswersAreInOrder, RefusedChangesNothing, AncestorsWithPair, ComponentsWithPair, StaysWithoutCycle};
 
 /// No answer is lost or out of order: a run over lines that come one after the other is the run over
 /// the first of them, and then over the others.
@@ -10,4 +10,19 @@ pub fn answers_are_in_order()
 /// A refused command leaves the whole state.
 pub fn refused_changes_nothing()
     ensures { RefusedChangesNothing }
+{}
+
+/// What one more pair does to ancestors.
+pub fn ancestors_with_pair()
+    ensures { AncestorsWithPair }
+{}
+
+/// What one more pair does to components.
+pub fn components_with_pair()
+    ensures { ComponentsWithPair }
+{}
+
+/// Which pair makes a cycle.
+pub fn stays_without_cycle()
+    ensures { StaysWithoutCycle }
 {}

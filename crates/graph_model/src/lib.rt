@@ -9,5 +9,8 @@ mod laws;
 mod names;
 
 pub use ids::{IdBuf, IdList};
-pub use laws::{answers_are_in_order, refused_changes_nothing};
+pub use laws::{
+    ancestors_with_pair, answers_are_in_order, components_with_pair, refused_changes_nothing,
+    stays_without_cycle,
+};
 pub use names::{Level, Limits, Refusal, TxId};
