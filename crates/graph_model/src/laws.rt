@@ -1,5 +1,5 @@
 //! Laws over the definitions, each the contract of a function that does nothing.
-ghost use Rattle.graph_model.specs.Laws.{AnswersAreInOrder, ReadingsLackNoMemory, RefusedChangesNothing};
+ghost use Rattle.graph_model.specs.Laws.{AncestorsWithPair, AnswersAreInOrder, ComponentsWithPair, ReadingsLackNoMemory, RefusedChangesNothing, StaysWithoutCycle};
 
 /// No answer is lost or out of order: a run over lines that come one after the other is the run over
 /// the first of them, and then over the others.
@@ -15,4 +15,19 @@ pub fn refused_changes_nothing()
 /// A reading is never refused for want of memory.
 pub fn readings_lack_no_memory()
     ensures { ReadingsLackNoMemory }
+{}
+
+/// What one more pair does to ancestors.
+pub fn ancestors_with_pair()
+    ensures { AncestorsWithPair }
+{}
+
+/// What one more pair does to components.
+pub fn components_with_pair()
+    ensures { ComponentsWithPair }
+{}
+
+/// Which pair makes a cycle.
+pub fn stays_without_cycle()
+    ensures { StaysWithoutCycle }
 {}
