@@ -1,3 +1,4 @@
 pub mod RunLemmas
 pub mod ListLemmas
 pub mod WalkLemmas
+pub mod PairLemmas

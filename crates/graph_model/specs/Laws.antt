@@ -1,7 +1,8 @@
 -- What a reader would expect of the definitions.
-use Rattle.std.specs.Prelude.{◌≡◌, ℕ, List, ◌++◌}
+use Rattle.std.specs.Prelude.{◌≡◌, ℕ, suc, List, [], ◌∷◌, ◌++◌, ◌⊎◌, ◌↔◌}
 use Rattle.graph_model.specs.declared.names.Refusal.{Refusal}
 use Rattle.graph_model.specs.declared.names.Refusal.TheVariants.{Memory}
+use Rattle.graph_model.specs.Graphs.{Walk, IsAncestor, AreConnected}
 use Rattle.graph_model.specs.States.{State}
 use Rattle.graph_model.specs.Commands.{Command}
 use Rattle.graph_model.specs.Replies.{Refused}
@@ -21,3 +22,24 @@ RefusedChangesNothing = (old new : State) (command : Command) (why : Refusal) �
 -- a command that may not lack memory is never refused for it
 abbrev pub ReadingsLackNoMemory : Type 0
 ReadingsLackNoMemory = (old new : State) (command : Command) → (MayLackMemory command → ⊥) → Step old command (Refused Memory) new → ⊥
+
+-- One more pair makes b's ancestors those that b had, and, where the pair's child is one of them, the ancestors of its parent.
+abbrev pub AncestorsWithPair : Type 0
+AncestorsWithPair =
+    (pairs : List (ℕ × ℕ)) (parent child a b : ℕ) → IsAncestor (pairs ++ (parent, child) ∷ []) a b
+    ↔ (IsAncestor pairs a b ⊎ (IsAncestor pairs a parent × IsAncestor pairs child b))
+
+-- One more pair makes one component of those of its ends, and leaves each other one.
+abbrev pub ComponentsWithPair : Type 0
+ComponentsWithPair =
+    (pairs : List (ℕ × ℕ)) (parent child a b : ℕ) → AreConnected (pairs ++ (parent, child) ∷ []) a b
+    ↔ (AreConnected pairs a b ⊎ ((AreConnected pairs a parent × AreConnected pairs child b) ⊎ (AreConnected pairs a child × AreConnected pairs parent b)))
+
+-- no walk of one pair or more leads from a name to itself
+abbrev pub HasNoCycle : List (ℕ × ℕ) → Type 0
+HasNoCycle pairs = (a n : ℕ) → Walk pairs a a (suc n) → ⊥
+
+-- one more pair makes a cycle exactly where its child is an ancestor of its parent
+abbrev pub StaysWithoutCycle : Type 0
+StaysWithoutCycle =
+    (pairs : List (ℕ × ℕ)) (parent child : ℕ) → HasNoCycle pairs → HasNoCycle (pairs ++ (parent, child) ∷ []) ↔ (IsAncestor pairs child parent → ⊥)

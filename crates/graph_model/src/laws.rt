@@ -1,5 +1,5 @@
 //! Laws over the definitions, each the contract of a function that does nothing.
-ghost use Rattle.graph_model.specs.Laws.{AnswersAreInOrder, ReadingsLackNoMemory, RefusedChangesNothing};
+ghost use Rattle.graph_model.specs.Laws.{AnswersAreInOrder, ReadingsLackNoMemory, RefusedChangesNothing, AncestorsWithPair, ComponentsWithPair, StaysWithoutCycle};
 
 /// No answer is lost or out of order: a run over lines that come one after the other is the run over
 /// the first of them, and then over the others.
@@ -15,4 +15,20 @@ pub fn refused_changes_nothing()
 /// A reading is never refused for want of memory.
 pub fn readings_lack_no_memory()
     ensures { ReadingsLackNoMemory }
+{}
+
+/// One more pair makes a name's ancestors those that it had and, where the pair's child is one of
+/// them, the ancestors of the pair's parent.
+pub fn ancestors_with_pair()
+    ensures { AncestorsWithPair }
+{}
+
+/// One more pair makes one component of those of its ends, and leaves each other one.
+pub fn components_with_pair()
+    ensures { ComponentsWithPair }
+{}
+
+/// One more pair makes a cycle exactly where its child is an ancestor of its parent.
+pub fn stays_without_cycle()
+    ensures { StaysWithoutCycle }
 {}

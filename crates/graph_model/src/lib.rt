@@ -11,5 +11,8 @@ mod names;
 mod tests;
 
 pub use ids::{IdBuf, IdList};
-pub use laws::{answers_are_in_order, readings_lack_no_memory, refused_changes_nothing};
+pub use laws::{
+    ancestors_with_pair, answers_are_in_order, components_with_pair, readings_lack_no_memory,
+    refused_changes_nothing, stays_without_cycle,
+};
 pub use names::{Level, Limits, Refusal, TxId};
