@@ -1,5 +1,5 @@
 //! Laws over the definitions, each the contract of a function that does nothing.
-ghost use Rattle.graph_model.specs.Laws.{AncestorsWithPair, AnswersAreInOrder, ComponentsWithPair, ReadingsLackNoMemory, RefusedChangesNothing, StaysWithoutCycle};
+ghost use Rattle.graph_model.specs.Laws.{AnswersAreInOrder, ReadingsLackNoMemory, RefusedChangesNothing, AncestorsWithPair, ComponentsWithPair, StaysWithoutCycle};
 
 /// No answer is lost or out of order: a run over lines that come one after the other is the run over
 /// the first of them, and then over the others.
@@ -17,17 +17,18 @@ pub fn readings_lack_no_memory()
     ensures { ReadingsLackNoMemory }
 {}
 
-/// What one more pair does to ancestors.
+/// One more pair makes a name's ancestors those that it had and, where the pair's child is one of
+/// them, the ancestors of the pair's parent.
 pub fn ancestors_with_pair()
     ensures { AncestorsWithPair }
 {}
 
-/// What one more pair does to components.
+/// One more pair makes one component of those of its ends, and leaves each other one.
 pub fn components_with_pair()
     ensures { ComponentsWithPair }
 {}
 
-/// Which pair makes a cycle.
+/// One more pair makes a cycle exactly where its child is an ancestor of its parent.
 pub fn stays_without_cycle()
     ensures { StaysWithoutCycle }
 {}

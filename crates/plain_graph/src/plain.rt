@@ -93,7 +93,8 @@ impl Plain {
     ghost use Rattle.plain_graph.specs.Sound.{names_of};
     ghost use Rattle.plain_graph.specs.Walks.{Reaches};
 
-    /// An empty graph with the default limits. Takes room.
+    /// An empty graph with the default limits: clusters of at most 64 names and 404,000 virtual
+    /// bytes, and 1,048,576 live names. Fails where there is no memory for its first room.
     pub fn new(alloc: Global) -> Result<Plain, NoMemory>
         ensures start { IfOk result (λ graph. StandsFor graph start) }
         ensures additions { IfOk result (λ graph. graph.additions ≡ 0) }
@@ -144,7 +145,12 @@ impl Plain {
         None
     }
 
-    /// `add`
+    /// Adds a name with its fee, in satoshis, and its size, in virtual bytes. It has no pairs then.
+    ///
+    /// Refused, by the first of these that holds: `Fee` and `Size` where the number is out of range,
+    /// `Taken` where the name is live, `ClusterSize` with the size where that is over the limit of a
+    /// cluster, `Full` where as many names are live as may be, `Memory` where there is none. The
+    /// graph stays as it was then.
     pub fn add(&mut self, id: TxId, fee: i64, size: u64) -> Result<(), Refusal>
         requires { self.old.additions < 2 ^ 64 - 1 }
         ensures step { Steps self.old self.new (Add id fee size) (change_reply result) }
@@ -193,7 +199,12 @@ impl Plain {
         )
     }
 
-    /// `dep`
+    /// Makes one name a parent of another. A pair that is there already is accepted again.
+    ///
+    /// Refused, by the first of these that holds: `Unknown` with the name where the parent or the
+    /// child isn't live, `Cycle` where the child is an ancestor of the parent, `Count` and
+    /// `ClusterSize`, with what the cluster would have, where the pair would join two to one over a
+    /// limit, `Memory` where there is none. The graph stays as it was then.
     pub fn dep(&mut self, parent: TxId, child: TxId) -> Result<(), Refusal>
         ensures step { Steps self.old self.new (Dep parent child) (change_reply result) }
         ensures additions { self.new.additions ≡ self.old.additions }
@@ -224,32 +235,39 @@ impl Plain {
         Ok(())
     }
 
-    /// `ancestors`: the names are in `found` then.
+    /// Finds the ancestors of a name, itself among them, which are in `found` then. Takes no memory.
+    ///
+    /// Refused with `Unknown` exactly where the name isn't live. The graph stays as it was either way.
     pub fn ancestors(&mut self, id: TxId, level: Level) -> Result<(), Refusal>
         ensures step { Steps self.old self.new (Ancestors id level) (names_reply result self.new.found) }
         ensures additions { self.new.additions ≡ self.old.additions }
     {
-        let _main_without_staging = level;
+        // There is no staging, so both words speak of main.
+        let _ = level;
         self.walk(id, Way::Up)
     }
 
-    /// `descendants`: the names are in `found` then.
+    /// Finds the descendants of a name, itself among them, which are in `found` then. Takes no memory.
+    ///
+    /// Refused with `Unknown` exactly where the name isn't live. The graph stays as it was either way.
     pub fn descendants(&mut self, id: TxId, level: Level) -> Result<(), Refusal>
         ensures step { Steps self.old self.new (Descendants id level) (names_reply result self.new.found) }
         ensures additions { self.new.additions ≡ self.old.additions }
     {
-        let _main_without_staging = level;
+        // There is no staging, so both words speak of main.
+        let _ = level;
         self.walk(id, Way::Down)
     }
 
-    /// The names that the last reading found, rising.
+    /// The names that the last accepted reading found, in rising order. They last until the next call
+    /// of `add`, `dep`, `ancestors` or `descendants`.
     pub fn found(&self) -> &[TxId]
         ensures { result.now ≡ self.now.found }
     {
         self.found.ids()
     }
 
-    /// `count`
+    /// How many names a level has.
     pub fn count(&self, level: Level) -> usize
         ensures { Steps self.now self.now (Count level) (Number result) }
     {

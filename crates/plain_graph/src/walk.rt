@@ -49,8 +49,8 @@ pub fn has(ids: &[TxId], id: TxId) -> bool
 pub fn has_pair(pairs: &[(TxId, TxId)], parent: TxId, child: TxId) -> bool
     ensures { IsTrue result ↔ Contains pairs.now (parent, child) }
 {
-    for (p, c) in pairs {
-        if *p == parent && *c == child {
+    for (from, to) in pairs {
+        if *from == parent && *to == child {
             return true;
         }
     }
