@@ -1,0 +1,4 @@
+pub mod Changes
+pub mod Graph
+pub mod Rows
+pub mod Walks
