@@ -1,16 +1,16 @@
 -- Room for one more member, and what a change behind the members leaves as it was.
-use Rattle.std.proofs.Common.{◌≡◌, ◌≢◌, ℕ, zero, suc, ◌+◌, ◌*◌, ◌<◌, ◌≤◌, Bool, true, false, cond, ◌&&◌, ◌||◌, ◌⊎◌, nat_eq, List, [], ◌∷◌, length, filter, slice_index_or, Some, None, Result, Ok, Err, OnErr, inl, inr, refl, sym, ap, ap₂, ◌∙◌, subst, arith, true≢false}
-use Rattle.std.proofs.lemmas.Bool.{cases_eq, cases_lt}
+use Rattle.std.proofs.Common.{◌≡◌, ℕ, zero, suc, ◌+◌, ◌<◌, ◌≤◌, Bool, true, false, cond, ◌&&◌, ◌||◌, nat_eq, List, ◌∷◌, length, filter, slice_index_or, Some, None, Result, Ok, Err, OnErr, inl, inr, refl, sym, ap, ap₂, ◌∙◌, arith, true≢false}
+use Rattle.std.proofs.lemmas.Bool.{cases_lt}
 use Rattle.std.specs.List.{range_with_len}
 use Rattle.std.specs.Ordering.{nat_cmp}
 use Rattle.std.specs.Cmp.{nat_cmp_total}
 use Rattle.std.specs.FinSet as fin
 use Rattle.std.specs.FinMap as map
-use Rattle.bitset.specs.Places.{IsWithin, places}
+use Rattle.bitset.specs.Places.{IsWithin}
 use Rattle.bitset.specs.Sets.{len-places, contains-insert, contains-empty}
 use Rattle.fee_rate.specs.declared.rates.FeeRate.{FeeRate}
-use Rattle.dep_graph.specs.Graph.{Graph, IsOrder, no_rate}
-use Rattle.dep_graph.specs.Rows.{rate_at, set_at, node_at, graph_from, above, IsKept}
+use Rattle.dep_graph.specs.Graph.{no_rate}
+use Rattle.dep_graph.specs.Rows.{set_at, node_at, graph_from, above, IsKept}
 use Rattle.dep_graph.specs.Changes.{PutsAt}
 use Rattle.dep_graph.proofs.Kept.{get-graph_from, IsOrder-like}
 
@@ -47,11 +47,11 @@ Agrees-same members old new e = record { long = omega (arith, ap length e); same
 pub Agrees-put : {X : Type 0} (members : fin.FinSet nat_cmp) (old new : List X) (place : ℕ) (x : X) → fin.contains members place ≡ false → PutsAt place x old new → Agrees members old new
 Agrees-put members old new place x absent puts = record {
   long = puts.long;
-  same = λ p d h. puts.others p d (λ e. true≢false (sym h ∙ ap (fin.contains members) e ∙ absent))
+  same = λ p d h. puts.others p d (λ e. true≢false (sym h ∙ ap (fin.contains members) e ∙ absent));
 }
 
 module _ (n : ℕ) (members : fin.FinSet nat_cmp) (rates rates' : List FeeRate) (up down up' down' : List (fin.FinSet nat_cmp)) (h : IsKept n members rates up down) (room : length rates' ≤ n)
-  (one : Agrees members rates rates') (two : Agrees members up up') (three : Agrees members down down') where
+    (one : Agrees members rates rates') (two : Agrees members up up') (three : Agrees members down down') where
   above-same : (a d : ℕ) → above members up' a d ≡ above members up a d
   above-same a d = known (fin.contains members d) refl
     where
@@ -66,7 +66,7 @@ module _ (n : ℕ) (members : fin.FinSet nat_cmp) (rates rates' : List FeeRate) 
     upward = λ p e. let low : p < length up = h.upward p e in omega (arith, two.long);
     downward = λ p e. let low : p < length down = h.downward p e in omega (arith, three.long);
     order = IsOrder-like (fin.contains members) (fin.contains members) (above members up) (above members up') (λ p. refl) above-same h.order;
-    mirrored = λ a d e. ap (λ s. fin.contains s d) (three.same a fin.empty e) ∙ h.mirrored a d e ∙ sym (above-same a d)
+    mirrored = λ a d e. ap (λ s. fin.contains s d) (three.same a fin.empty e) ∙ h.mirrored a d e ∙ sym (above-same a d);
   }
 
   pub agree_graph : graph_from n members rates' up' ≡ graph_from n members rates up
@@ -74,6 +74,7 @@ module _ (n : ℕ) (members : fin.FinSet nat_cmp) (rates rates' : List FeeRate) 
     where
       within : IsWithin n members
       within p e = let low : p < length rates = h.rated p e in omega (arith, h.room)
+
       known : (p : ℕ) (b : Bool) → fin.contains members p ≡ b → map.get (graph_from n members rates' up') p ≡ map.get (graph_from n members rates up) p
       known p true e =
           get-graph_from n members rates' up' within p

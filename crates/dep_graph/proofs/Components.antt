@@ -1,5 +1,5 @@
 -- The search that finds a component.
-use Rattle.std.proofs.Common.{◌≡◌, ◌≢◌, ℕ, zero, suc, ◌+◌, ◌-◌, ◌<◌, ◌≤◌, Bool, true, false, cond, not, ◌&&◌, ◌||◌, ◌⊎◌, ◌↔◌, nat_eq, List, [], ◌∷◌, inl, inr, refl, sym, ap, ap₂, ◌∙◌, subst, arith, eq-eqb, ne_eqb, eqb-true, true≢false, Option, Some, None, MatchOption}
+use Rattle.std.proofs.Common.{◌≡◌, ℕ, ◌-◌, ◌<◌, Bool, true, false, cond, not, ◌&&◌, ◌||◌, ◌⊎◌, ◌↔◌, nat_eq, List, [], ◌∷◌, inl, inr, refl, sym, ap, ap₂, ◌∙◌, subst, arith, eqb-true, true≢false, Option, Some, None, MatchOption}
 use Rattle.std.proofs.lemmas.Bool.{cases_eq, cases_Bool, and_parts, and_from, or_cases, or_left, or_right}
 use Rattle.std.specs.Ordering.{nat_cmp}
 use Rattle.std.specs.Cmp.{nat_cmp_total}
@@ -7,9 +7,9 @@ use Rattle.std.specs.FinSet as fin
 use Rattle.bitset.specs.Places.{IsLeast}
 use Rattle.bitset.specs.Sets.{same_members, contains-insert, contains-remove, contains-union, contains-intersection, contains-difference, contains-empty}
 use Rattle.fee_rate.specs.declared.rates.FeeRate.{FeeRate}
-use Rattle.dep_graph.specs.Graph.{Graph, is_member, is_ancestor, IsNear, HoldsMembers}
-use Rattle.dep_graph.specs.Rows.{set_at, graph_from, above, IsKept}
-use Rattle.dep_graph.specs.Walks.{IsWalk, Walk}
+use Rattle.dep_graph.specs.Graph.{Graph, is_ancestor, IsNear, HoldsMembers}
+use Rattle.dep_graph.specs.Rows.{set_at, graph_from, IsKept}
+use Rattle.dep_graph.specs.Walks.{Walk}
 use Rattle.dep_graph.proofs.Kept.{is_ancestor-kept, member_there}
 
 -- ---- walks
@@ -47,12 +47,12 @@ left_there near within place reached done left p s is e =
 pub fewer_left : (within done done' : fin.FinSet nat_cmp) (p : ℕ) → fin.contains within p ≡ true → fin.contains done p ≡ false → done' ≡ fin.insert done p → fin.len (fin.difference within done') < fin.len (fin.difference within done)
 fewer_left within done done' p there fresh is =
     let gone : fin.difference within done' ≡ fin.remove (fin.difference within done) p = same_members _ _ (λ q.
-        contains-difference within done' q ∙ ap (λ b. fin.contains within q && not b) (ap (λ s. fin.contains s q) is ∙ contains-insert done p q)
-        ∙ apart (fin.contains within q) (nat_eq q p) (fin.contains done q)
-        ∙ sym (contains-remove (fin.difference within done) p q ∙ ap (λ b. not (nat_eq q p) && b) (contains-difference within done q))) in
+    contains-difference within done' q ∙ ap (λ b. fin.contains within q && not b) (ap (λ s. fin.contains s q) is ∙ contains-insert done p q)
+    ∙ apart (fin.contains within q) (nat_eq q p) (fin.contains done q)
+    ∙ sym (contains-remove (fin.difference within done) p q ∙ ap (λ b. not (nat_eq q p) && b) (contains-difference within done q))) in
     let held : fin.contains (fin.difference within done) p ≡ true = contains-difference within done p ∙ ap₂ (λ a b. a && not b) there fresh in
     let less : fin.len (fin.difference within done') ≡ fin.len (fin.difference within done) - 1 =
-        ap fin.len gone ∙ fin.len-remove nat_cmp_total (fin.difference within done) p ∙ ap (λ b. cond b (fin.len (fin.difference within done) - 1) (fin.len (fin.difference within done))) held in
+    ap fin.len gone ∙ fin.len-remove nat_cmp_total (fin.difference within done) p ∙ ap (λ b. cond b (fin.len (fin.difference within done) - 1) (fin.len (fin.difference within done))) held in
     elim (cases_eq (fin.len (fin.difference within done)) 0) as (λ _. fin.len (fin.difference within done') < fin.len (fin.difference within done)) [
       | inl none ↦ absurd (true≢false (sym held ∙ ap (λ s. fin.contains s p) (fin.empty_of_len (fin.difference within done) none) ∙ contains-empty p))
       | inr some ↦ omega arith
@@ -70,7 +70,7 @@ none_left None s none e = none
 none_left (Some p) s least e = absurd (e p refl)
 
 module _ (n : ℕ) (members : fin.FinSet nat_cmp) (rates : List FeeRate) (up down : List (fin.FinSet nat_cmp)) (h : IsKept n members rates up down) (g : Graph) (view : graph_from n members rates up ≡ g)
-  (within : fin.FinSet nat_cmp) (holds : HoldsMembers g within) (place : ℕ) where
+    (within : fin.FinSet nat_cmp) (holds : HoldsMembers g within) (place : ℕ) where
   -- what stands above or below a member is related to it, and nothing else is
   related : (p q : ℕ) → fin.contains within p ≡ true → (fin.contains (set_at up p) q || fin.contains (set_at down p) q) ≡ true → (is_ancestor g p q ≡ true) ⊎ (is_ancestor g q p ≡ true)
   related p q there e =
@@ -93,18 +93,20 @@ module _ (n : ℕ) (members : fin.FinSet nat_cmp) (rates : List FeeRate) (up dow
     start = tells place ∙ and_from (fin.contains (set_at up place) place) (fin.contains within place) itself there;
     inside = λ p e. (parts p e).1;
     walked = λ p e. (p ∷ [], (record { from_within = there; to_within = (parts p e).1; related = related place p there (or_left (fin.contains (set_at up place) p) (fin.contains (set_at down place) p) (parts p e).0) }, refl));
-    finished = λ p q e. absurd (true≢false (sym e ∙ ap (λ s. fin.contains s p) none ∙ contains-empty p))
+    finished = λ p q e. absurd (true≢false (sym e ∙ ap (λ s. fin.contains s p) none ∙ contains-empty p));
   }
     where
       tells : (p : ℕ) → fin.contains reached p ≡ (fin.contains (set_at up place) p && fin.contains within p)
       tells p = ap (λ s. fin.contains s p) is ∙ contains-intersection (set_at up place) within p
+
       parts : (p : ℕ) → fin.contains reached p ≡ true → (fin.contains (set_at up place) p ≡ true) × (fin.contains within p ≡ true)
       parts p e = and_parts (fin.contains (set_at up place) p) (fin.contains within p) (sym (tells p) ∙ e)
+
       itself : fin.contains (set_at up place) place ≡ true
       itself = (and_parts (fin.contains members place) (fin.contains (set_at up place) place) (h.order.reflexive place (member_there n members rates up down h g view place (holds place there)))).1
 
   pub Searched-more : (reached done left reached' done' near : fin.FinSet nat_cmp) (p : ℕ) → Searched (IsNear g within) within place reached done → left ≡ fin.difference reached done → fin.contains left p ≡ true
-    → done' ≡ fin.insert done p → near ≡ fin.intersection (fin.union (set_at up p) (set_at down p)) within → reached' ≡ fin.union reached near → Searched (IsNear g within) within place reached' done'
+      → done' ≡ fin.insert done p → near ≡ fin.intersection (fin.union (set_at up p) (set_at down p)) within → reached' ≡ fin.union reached near → Searched (IsNear g within) within place reached' done'
   Searched-more reached done left reached' done' near p s left_is e done_is near_is reached_is =
       let here : (fin.contains reached p ≡ true) × (fin.contains done p ≡ false) × (fin.contains within p ≡ true) = left_there (IsNear g within) within place reached done left p s left_is e in
       record {
@@ -119,15 +121,17 @@ module _ (n : ℕ) (members : fin.FinSet nat_cmp) (rates : List FeeRate) (up dow
               let from_p : IsNear g within p q = subst (λ a. IsNear g within a q) (eqb-true a p same) step in
               contains-reached q ∙ or_right (fin.contains reached q) _ (and_from (fin.contains (set_at up p) q || fin.contains (set_at down p) q) (fin.contains within q) (stands p q from_p) step.to_within)
           | inr old ↦ still q (s.finished a q old step)
-        ]
+        ];
       }
     where
       contains-reached : (q : ℕ) → fin.contains reached' q ≡ (fin.contains reached q || ((fin.contains (set_at up p) q || fin.contains (set_at down p) q) && fin.contains within q))
       contains-reached q =
           ap (λ s. fin.contains s q) reached_is ∙ contains-union reached near q
           ∙ ap (λ b. fin.contains reached q || b) (ap (λ s. fin.contains s q) near_is ∙ contains-intersection (fin.union (set_at up p) (set_at down p)) within q ∙ ap (λ b. b && fin.contains within q) (contains-union (set_at up p) (set_at down p) q))
+
       still : (q : ℕ) → fin.contains reached q ≡ true → fin.contains reached' q ≡ true
       still q f = contains-reached q ∙ or_left (fin.contains reached q) _ f
+
       new : (q : ℕ) → fin.contains reached' q ≡ true → (fin.contains reached q ≡ true) ⊎ (((fin.contains (set_at up p) q || fin.contains (set_at down p) q) ≡ true) × (fin.contains within q ≡ true))
       new q f = elim (or_cases (fin.contains reached q) ((fin.contains (set_at up p) q || fin.contains (set_at down p) q) && fin.contains within q) (sym (contains-reached q) ∙ f)) as (λ _. (fin.contains reached q ≡ true) ⊎ (((fin.contains (set_at up p) q || fin.contains (set_at down p) q) ≡ true) × (fin.contains within q ≡ true))) [
         | inl old ↦ inl old
@@ -139,6 +143,6 @@ module _ (n : ℕ) (members : fin.FinSet nat_cmp) (rates : List FeeRate) (up dow
     where
       looked_at : (a : ℕ) → fin.contains reached a ≡ true → fin.contains done a ≡ true
       looked_at a e = elim (cases_Bool (fin.contains done a)) as (λ _. fin.contains done a ≡ true) [
-          | inl f ↦ f
-          | inr f ↦ absurd (true≢false (sym (ap (λ s. fin.contains s a) is ∙ contains-difference reached done a ∙ ap₂ (λ x y. x && not y) e f) ∙ ap (λ s. fin.contains s a) none ∙ contains-empty a))
-        ]
+        | inl f ↦ f
+        | inr f ↦ absurd (true≢false (sym (ap (λ s. fin.contains s a) is ∙ contains-difference reached done a ∙ ap₂ (λ x y. x && not y) e f) ∙ ap (λ s. fin.contains s a) none ∙ contains-empty a))
+      ]

@@ -1,8 +1,8 @@
 -- What a graph answers, by what is kept of it.
-use Rattle.std.proofs.Common.{◌≡◌, ◌≢◌, ℕ, zero, suc, ◌+◌, ◌*◌, ◌<◌, ◌≤◌, Bool, true, false, cond, not, ◌&&◌, ◌||◌, ◌⊎◌, nat_eq, nat_lt, ℤ, pos, List, [], length, set, slice_index_or, Option, Some, None, is_some, inl, inr, refl, sym, ap, ap₂, ◌∙◌, subst, arith, lt-ltb, le-ltb, eq-eqb, ne_eqb, true≢false, add-one, eqb-true, Ordering, Equal}
-use Rattle.std.proofs.lemmas.Bool.{cases_lt, cases_eq, cases_Bool, and_parts, and_from, false_from_ne_true}
-use Rattle.std.proofs.lemmas.List.{get_or_read_under, get_or-set_same, get_or-set_other, length-set}
-use Rattle.std.specs.Ordering.{nat_cmp, eq_by_cmp}
+use Rattle.std.proofs.Common.{◌≡◌, ℕ, zero, suc, ◌+◌, ◌<◌, ◌≤◌, Bool, true, false, cond, ◌&&◌, ◌⊎◌, nat_eq, nat_lt, List, [], length, slice_index_or, Option, Some, None, is_some, inl, inr, refl, sym, ap, ap₂, ◌∙◌, arith, lt-ltb, le-ltb, eq-eqb, ne_eqb, true≢false, add-one, Equal}
+use Rattle.std.proofs.lemmas.Bool.{cases_lt, cases_eq, and_parts, and_from}
+use Rattle.std.proofs.lemmas.List.{get_or_read_under}
+use Rattle.std.specs.Ordering.{nat_cmp}
 use Rattle.std.specs.Cmp.{nat_cmp_total, unsigned_tied}
 use Rattle.std.specs.FinSet as fin
 use Rattle.std.specs.FinMap as map
@@ -24,6 +24,7 @@ more_below n q here there x y same node =
     at_n : (b : Bool) → cond b (cond true x (cond (false && b) x None)) (cond (false && b) x None) ≡ cond (true && b) x None
     at_n true = refl
     at_n false = refl
+
     other : (b : Bool) → (q ≡ n → ⊥) → (q < n) ⊎ (n ≤ q) → cond b (cond false x (cond (nat_lt q n && there) y None)) (cond (nat_lt q n && there) y None) ≡ cond (nat_lt q (n + 1) && there) y None
     other b e (inl h) = rw (lt-ltb q n h, lt-ltb q (n + 1) (omega arith)) (elim b as (λ b. cond b (cond there y None) (cond there y None) ≡ cond there y None) [ true ↦ refl | false ↦ refl ])
     other b e (inr h) = rw (le-ltb q n h, le-ltb q (n + 1) (omega arith)) (elim b as (λ b. cond {A = Option Node} b None None ≡ None) [ true ↦ refl | false ↦ refl ])
@@ -91,7 +92,7 @@ IsOrder-like m n r s same alike o = record {
   among = λ a d e. let both : (m a ≡ true) × (m d ≡ true) = o.among a d (sym (alike a d) ∙ e) in (same a ∙ both.0, same d ∙ both.1);
   reflexive = λ p e. alike p p ∙ o.reflexive p (sym (same p) ∙ e);
   transitive = λ a b c e f. alike a c ∙ o.transitive a b c (sym (alike a b) ∙ e) (sym (alike b c) ∙ f);
-  antisymmetric = λ a b e f. o.antisymmetric a b (sym (alike a b) ∙ e) (sym (alike b a) ∙ f)
+  antisymmetric = λ a b e f. o.antisymmetric a b (sym (alike a b) ∙ e) (sym (alike b a) ∙ f);
 }
 
 -- ---- every graph that is kept
@@ -115,7 +116,7 @@ module _ (n : ℕ) (members : fin.FinSet nat_cmp) (rates : List FeeRate) (up dow
   pub IsClosed-kept : IsClosed n g
   IsClosed-kept = record {
     within = λ p e. inside p (sym (is_member-kept p) ∙ e);
-    order = IsOrder-like (fin.contains members) (is_member g) (above members up) (is_ancestor g) is_member-kept is_ancestor-kept h.order
+    order = IsOrder-like (fin.contains members) (is_member g) (above members up) (is_ancestor g) is_member-kept is_ancestor-kept h.order;
   }
 
   module _ (p : ℕ) (there : is_member g p ≡ true) where
@@ -185,9 +186,9 @@ IsKept-empty n = record {
     among = λ a d e. absurd (none d (and_parts _ _ e).0);
     reflexive = λ p e. absurd (none p e);
     transitive = λ a b c e f. absurd (none b (and_parts _ _ e).0);
-    antisymmetric = λ a b e f. absurd (none b (and_parts _ _ e).0)
+    antisymmetric = λ a b e f. absurd (none b (and_parts _ _ e).0);
   };
-  mirrored = λ a d e. absurd (none a e)
+  mirrored = λ a d e. absurd (none a e);
 }
   where
     none : (p : ℕ) → fin.contains {R = nat_cmp} fin.empty p ≡ true → ⊥

@@ -1,7 +1,7 @@
 -- A loop over the places of a set that changes what is kept of each.
-use Rattle.std.proofs.Common.{◌≡◌, ◌≢◌, ℕ, zero, suc, ◌+◌, ◌*◌, ◌<◌, ◌≤◌, Bool, true, false, cond, ◌&&◌, ◌||◌, ◌⊎◌, nat_eq, List, [], ◌∷◌, ◌++◌, length, filter, set, slice_index_or, inl, inr, refl, sym, ap, ap₂, ◌∙◌, subst, arith, eq-eqb, ne_eqb, append_assoc, append-nil, lt_irrefl}
-use Rattle.std.proofs.lemmas.Bool.{cases_eq, cases_Bool, or_right, or_left}
-use Rattle.std.proofs.lemmas.List.{get_or-set_same, get_or-set_other, get_or_past, length-set}
+use Rattle.std.proofs.Common.{◌≡◌, ℕ, zero, suc, ◌+◌, ◌<◌, ◌≤◌, Bool, true, false, cond, ◌||◌, nat_eq, List, [], ◌∷◌, ◌++◌, length, filter, set, inl, inr, refl, sym, ap, ◌∙◌, subst, arith, eq-eqb, ne_eqb, append_assoc, append-nil}
+use Rattle.std.proofs.lemmas.Bool.{cases_eq, or_right}
+use Rattle.std.proofs.lemmas.List.{get_or-set_same, get_or-set_other, length-set}
 use Rattle.std.specs.List.{range_with_len}
 use Rattle.std.specs.Ordering.{nat_cmp}
 use Rattle.std.specs.FinSet as fin
@@ -95,7 +95,7 @@ module _ (n : ℕ) (f : fin.FinSet nat_cmp → fin.FinSet nat_cmp) (s : fin.FinS
       | inr other ↦
           get_or-set_other rows p q v fin.empty other ∙ h.done q
           ∙ sym (ap (λ b. cond b (f (set_at old q)) (set_at old q)) (among-push ys p q ∙ ap (λ b. b || among ys q) (ne_eqb q p other)))
-    ]
+    ];
   }
     where
       fresh : among ys p ≡ false
@@ -104,5 +104,5 @@ module _ (n : ℕ) (f : fin.FinSet nat_cmp → fin.FinSet nat_cmp) (s : fin.FinS
   pub InProgress-all : (old rows : List (fin.FinSet nat_cmp)) (ys ws : List ℕ) → IsWithin n s → InProgress n f s old rows ys ws → ws ≡ [] → ChangesAt f s old rows
   InProgress-all old rows ys ws within h e = record {
     long = h.long;
-    sets = λ p. h.done p ∙ ap (λ b. cond b (f (set_at old p)) (set_at old p)) (ap (λ xs. among xs p) (sym (append-nil ys) ∙ ap (λ xs. ys ++ xs) (sym e) ∙ h.split) ∙ among-places n s within p)
+    sets = λ p. h.done p ∙ ap (λ b. cond b (f (set_at old p)) (set_at old p)) (ap (λ xs. among xs p) (sym (append-nil ys) ∙ ap (λ xs. ys ++ xs) (sym e) ∙ h.split) ∙ among-places n s within p);
   }

@@ -1,5 +1,5 @@
 -- What a dependency graph is: members with their fee and size, and an ancestor relation between them.
-use Rattle.std.specs.Prelude.{◌≡◌, ◌≢◌, ℕ, ◌+◌, ◌<◌, ◌≤◌, ◌⊎◌, Bool, true, false, ◌&&◌, ◌||◌, not, nat_eq, ℤ, pos, Option, Some, None, refl}
+use Rattle.std.specs.Prelude.{◌≡◌, ◌≢◌, ℕ, ◌+◌, ◌<◌, ◌≤◌, ◌⊎◌, Bool, true, false, ◌&&◌, ◌||◌, not, nat_eq, nat_lt, List, length, slice_index, ℤ, pos, Option, Some, None, refl}
 use Rattle.std.specs.Ordering.{nat_cmp}
 use Rattle.std.specs.Coded.{Coded, code_by, coded×, coded_ℕ, coded_ℤ}
 use Rattle.std.specs.FinSet as set
@@ -115,3 +115,22 @@ pub record DropsPlace (old new : Graph) (place : ℕ) : Type 0 where
   pub members : (p : ℕ) → is_member new p ≡ (not (nat_eq p place) && is_member old p)
   pub rates : (p : ℕ) → p ≢ place → rate_of new p ≡ rate_of old p
   pub ancestors : (a d : ℕ) → is_ancestor new a d ≡ (not (nat_eq a place) && (not (nat_eq d place) && is_ancestor old a d))
+
+-- ---- graphs with places of their own
+
+-- the places of h from `first` on are these places of g, in this order: with their rates, and the relation among them
+pub record IsCopy (g : Graph) (ps : List ℕ) (first : ℕ) (h : Graph) : Type 0 where
+  pub rates : (i : ℕ) → i < length ps → rate_of h (first + i) ≡ rate_of g (slice_index ps i)
+  pub ancestors : (i j : ℕ) → i < length ps → j < length ps → is_ancestor h (first + i) (first + j) ≡ is_ancestor g (slice_index ps i) (slice_index ps j)
+
+-- h has these places of g and no other
+pub record IsPart (g : Graph) (ps : List ℕ) (h : Graph) : Type 0 where
+  pub members : (k : ℕ) → is_member h k ≡ nat_lt k (length ps)
+  pub copy : IsCopy g ps 0 h
+
+-- h has these places of f, then these of g, and no other, and none of f is related to one of g
+pub record IsMerged (f g : Graph) (ps qs : List ℕ) (h : Graph) : Type 0 where
+  pub members : (k : ℕ) → is_member h k ≡ nat_lt k (length ps + length qs)
+  pub first : IsCopy f ps 0 h
+  pub second : IsCopy g qs (length ps) h
+  pub apart : (i j : ℕ) → i < length ps → length ps ≤ j → (is_ancestor h i j ≡ false) × (is_ancestor h j i ≡ false)

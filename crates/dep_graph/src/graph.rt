@@ -1,17 +1,16 @@
-ghost use Rattle.std.specs.Prelude.{◌≡◌, ◌≢◌, ℕ, ◌+◌, ◌*◌, ◌<◌, ◌≤◌, ◌↔◌, true, false, IfOk, OnErr, vec_len};
+ghost use Rattle.std.specs.Prelude.{◌≡◌, ◌≢◌, ℕ, ◌+◌, ◌*◌, ◌<◌, ◌≤◌, ◌↔◌, true, false, ◌^◌, IfOk, OnOk, OnErr, vec_len};
 ghost use Rattle.std.specs.FinSet as set;
 ghost use Rattle.std.specs.FinMap as map;
-ghost use Rattle.bitset.specs.Places.{IsWithin};
-ghost use Rattle.dep_graph.specs.Graph.{is_member, rate_of, is_ancestor, members_of, ancestors_of, descendants_of, IsClosed, IsCover, IsNear, HoldsMembers, AddsPlace, AddsPair, SetsFee, DropsPlace};
+ghost use Rattle.bitset.specs.Places.{IsWithin, places};
+ghost use Rattle.dep_graph.specs.Graph.{is_member, rate_of, is_ancestor, members_of, ancestors_of, descendants_of, IsClosed, IsCover, IsNear, HoldsMembers, AddsPlace, AddsPair, SetsFee, DropsPlace, IsMerged, IsPart};
 ghost use Rattle.dep_graph.specs.Walks.{Walk};
-ghost use Rattle.dep_graph.specs.Changes.{ChangesAt, PutsAt, gives, takes};
-
-use std::alloc::Global;
-use std::marker::Model;
+ghost use Rattle.dep_graph.specs.Changes.{ChangesAt, PutsAt, CopiesRates, CopiesSets, IsRenumbered, gives, takes};
 
 use bitset::Bits;
 use fee_rate::FeeRate;
 use outside::NoMemory;
+use std::alloc::Global;
+use std::marker::Model;
 
 /// The transactions of a cluster by place, each with its fee in satoshis and its size in virtual bytes, and the
 /// ancestor relation between them: each member is its own ancestor, an ancestor's ancestors are ancestors, and no
@@ -176,6 +175,51 @@ impl<const W: usize> DepGraph<W> {
         }
         reached
     }
+
+    /// Both graphs side by side, without a relation between them. The places are numbered anew in rising order, those
+    /// of this graph first. Both graphs stay as they are.
+    pub fn merge(&self, alloc: Global, other: &Self) -> Result<Self, NoMemory>
+        requires { set.len (members_of self.now) + set.len (members_of other.now) ≤ 64 * W }
+        ensures { IfOk result (IsMerged self.now other.now (places (64 * W) (members_of self.now)) (places (64 * W) (members_of other.now))) }
+    {
+        let mut rates = Vec::new(alloc);
+        copy_rates(&mut rates, &self.rates, &self.members)?;
+        copy_rates(&mut rates, &other.rates, &other.members)?;
+        let mut up = Vec::new(alloc);
+        copy_sets(&mut up, &self.up, &self.members)?;
+        copy_sets(&mut up, &other.up, &other.members)?;
+        let mut down = Vec::new(alloc);
+        copy_sets(&mut down, &self.down, &self.members)?;
+        copy_sets(&mut down, &other.down, &other.members)?;
+        let members = Bits::first_n(rates.len());
+        Ok(DepGraph {
+            members,
+            rates,
+            up,
+            down,
+        })
+    }
+
+    /// The members that `within` holds, with the relation among them, and numbered anew in rising order. This graph
+    /// stays as it is.
+    pub fn part(&self, alloc: Global, within: Bits<W>) -> Result<Self, NoMemory>
+        requires { HoldsMembers self.now within }
+        ensures { IfOk result (IsPart self.now (places (64 * W) within.entry)) }
+    {
+        let mut rates = Vec::new(alloc);
+        copy_rates(&mut rates, &self.rates, &within)?;
+        let mut up = Vec::new(alloc);
+        copy_sets(&mut up, &self.up, &within)?;
+        let mut down = Vec::new(alloc);
+        copy_sets(&mut down, &self.down, &within)?;
+        let members = Bits::first_n(rates.len());
+        Ok(DepGraph {
+            members,
+            rates,
+            up,
+            down,
+        })
+    }
 }
 
 // The least place that is free, where the members have places below `used`.
@@ -186,10 +230,7 @@ fn free_place<const W: usize>(members: &Bits<W>, used: usize) -> usize
     ensures least { (p : ℕ) → p < result → set.contains members.now p ≡ true }
     ensures within { result ≤ used }
 {
-    Bits::first_n(used)
-        .minus(members)
-        .least()
-        .unwrap_or(used)
+    Bits::first_n(used).minus(members).least().unwrap_or(used)
 }
 
 // Puts an item at a place that the list has, or behind its end.
@@ -225,4 +266,53 @@ fn take<const W: usize>(sets: &mut Vec<Bits<W>>, places: &Bits<W>, gone: usize)
     for place in places.iter() {
         sets[place].remove(gone);
     }
+}
+
+// Puts the rates of these places behind the others, in rising order.
+fn copy_rates<const W: usize>(
+    rates: &mut Vec<FeeRate>,
+    from: &Vec<FeeRate>,
+    within: &Bits<W>,
+) -> Result<(), NoMemory>
+    requires { IsWithin (vec_len from.now) within.now }
+    ensures { OnOk result (CopiesRates from.now.items (places (64 * W) within.now) rates.old.items rates.new.items) }
+{
+    for place in within.iter() {
+        rates.push(from[place])?;
+    }
+    Ok(())
+}
+
+// Puts the sets of these places behind the others, in rising order, with the places in them numbered as they stand.
+fn copy_sets<const W: usize>(
+    sets: &mut Vec<Bits<W>>,
+    from: &Vec<Bits<W>>,
+    within: &Bits<W>,
+) -> Result<(), NoMemory>
+    requires there { IsWithin (vec_len from.now) within.now }
+    requires room { vec_len sets.old + set.len within.now ≤ 64 * W }
+    ensures { OnOk result (CopiesSets from.now.items (places (64 * W) within.now) sets.old.items sets.new.items) }
+{
+    let first = sets.len();
+    for place in within.iter() {
+        sets.push(renumbered(&from[place], within, first))?;
+    }
+    Ok(())
+}
+
+// The places of the set that `within` holds, where the places of `within` are numbered from `first` on.
+fn renumbered<const W: usize>(old: &Bits<W>, within: &Bits<W>, first: usize) -> Bits<W>
+    requires room { first + set.len within.now ≤ 64 * W }
+    requires fits { first + set.len within.now < 2 ^ 64 }
+    ensures { IsRenumbered (places (64 * W) within.now) first old.now result }
+{
+    let mut numbers = Bits::empty();
+    let mut number = first;
+    for place in within.iter() {
+        if old.has(place) {
+            numbers.insert(number);
+        }
+        number += 1;
+    }
+    numbers
 }

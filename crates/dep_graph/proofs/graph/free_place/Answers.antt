@@ -1,4 +1,4 @@
-use Rattle.std.proofs.Common.{◌≡◌, ◌≤◌, ◌<◌, ℕ, true, false, ap, ◌∙◌, subst, sym, unwrap_or}
+use Rattle.std.proofs.Common.{◌≡◌, ◌≤◌, ◌<◌, ℕ, true, false, ap, ◌∙◌}
 use Rattle.std.specs.FinSet as fin
 use Rattle.dep_graph.proofs.Changed.{free_is}
 use Rattle.dep_graph.proofs.graph.free_place.Goals as goal

@@ -10,14 +10,18 @@ pub index-requires-2 : goal.index-requires-2
 index-requires-2 g c = down_there (64 * g.row.W) c.self.inside.members c.self.inside.rates.items c.self.inside.up.items c.self.inside.down.items c.self.invariant c.args.self.now c.self.view_is c.args.child c.requires.child _ c.self.inside.down.ok.0
 
 pub give-requires : goal.give-requires
-give-requires g c =
-    (search rules, down_inside (64 * g.row.W) c.self.inside.members c.self.inside.rates.items c.self.inside.up.items c.self.inside.down.items c.self.invariant c.args.self.now c.self.view_is c.args.child c.requires.child _ _
-    (down_read (64 * g.row.W) c.self.inside.members c.self.inside.rates.items c.self.inside.up.items c.self.inside.down.items c.self.invariant c.args.self.now c.self.view_is c.args.child c.requires.child _ _ c.index-2.ensures c.self.inside.down.ok.0) c.self.inside.up.ok.0)
+give-requires g c = (
+  search rules,
+  down_inside (64 * g.row.W) c.self.inside.members c.self.inside.rates.items c.self.inside.up.items c.self.inside.down.items c.self.invariant c.args.self.now c.self.view_is c.args.child c.requires.child _ _
+      (down_read (64 * g.row.W) c.self.inside.members c.self.inside.rates.items c.self.inside.up.items c.self.inside.down.items c.self.invariant c.args.self.now c.self.view_is c.args.child c.requires.child _ _ c.index-2.ensures c.self.inside.down.ok.0) c.self.inside.up.ok.0,
+)
 
 pub give-requires-2 : goal.give-requires-2
-give-requires-2 g c =
-    (search rules, up_inside (64 * g.row.W) c.self.inside.members c.self.inside.rates.items c.self.inside.up.items c.self.inside.down.items c.self.invariant c.args.self.now c.self.view_is c.args.parent c.requires.parent _ _
-    (up_read (64 * g.row.W) c.self.inside.members c.self.inside.rates.items c.self.inside.up.items c.self.inside.down.items c.self.invariant c.args.self.now c.self.view_is c.args.parent c.requires.parent _ _ c.index.ensures c.self.inside.up.ok.0) c.self.inside.down.ok.0)
+give-requires-2 g c = (
+  search rules,
+  up_inside (64 * g.row.W) c.self.inside.members c.self.inside.rates.items c.self.inside.up.items c.self.inside.down.items c.self.invariant c.args.self.now c.self.view_is c.args.parent c.requires.parent _ _
+      (up_read (64 * g.row.W) c.self.inside.members c.self.inside.rates.items c.self.inside.up.items c.self.inside.down.items c.self.invariant c.args.self.now c.self.view_is c.args.parent c.requires.parent _ _ c.index.ensures c.self.inside.up.ok.0) c.self.inside.down.ok.0,
+)
 
 pub invariant_of-self : goal.invariant_of-self
 invariant_of-self g c =

@@ -32,8 +32,8 @@ loop-next-preserved g c =
     Searched-more (64 * g.row.W) c.self.inside.members c.self.inside.rates.items c.self.inside.up.items c.self.inside.down.items c.self.invariant c.args.self.now c.self.view_is c.args.within c.requires.members c.args.place c.loop-next.reached c.loop-next.done c.minus.result _ _ c.meet-near.result c.in-Some.next c.loop-next.invariant c.minus.ensures c.in-Some.ensures.least.member
     c.insert.ensures
     (c.meet-near.ensures ∙ ap (λ s. fin.intersection s c.args.within) (c.union.ensures ∙ ap₂ fin.union
-      (up_read (64 * g.row.W) c.self.inside.members c.self.inside.rates.items c.self.inside.up.items c.self.inside.down.items c.self.invariant c.args.self.now c.self.view_is c.in-Some.next (c.requires.members c.in-Some.next (left_there (IsNear c.args.self.now c.args.within) c.args.within c.args.place c.loop-next.reached c.loop-next.done c.minus.result c.in-Some.next c.loop-next.invariant c.minus.ensures c.in-Some.ensures.least.member).2) _ _ c.index-in-Some.ensures c.self.inside.up.ok.0)
-      (down_read (64 * g.row.W) c.self.inside.members c.self.inside.rates.items c.self.inside.up.items c.self.inside.down.items c.self.invariant c.args.self.now c.self.view_is c.in-Some.next (c.requires.members c.in-Some.next (left_there (IsNear c.args.self.now c.args.within) c.args.within c.args.place c.loop-next.reached c.loop-next.done c.minus.result c.in-Some.next c.loop-next.invariant c.minus.ensures c.in-Some.ensures.least.member).2) _ _ c.index-in-Some-2.ensures c.self.inside.down.ok.0)))
+    (up_read (64 * g.row.W) c.self.inside.members c.self.inside.rates.items c.self.inside.up.items c.self.inside.down.items c.self.invariant c.args.self.now c.self.view_is c.in-Some.next (c.requires.members c.in-Some.next (left_there (IsNear c.args.self.now c.args.within) c.args.within c.args.place c.loop-next.reached c.loop-next.done c.minus.result c.in-Some.next c.loop-next.invariant c.minus.ensures c.in-Some.ensures.least.member).2) _ _ c.index-in-Some.ensures c.self.inside.up.ok.0)
+    (down_read (64 * g.row.W) c.self.inside.members c.self.inside.rates.items c.self.inside.up.items c.self.inside.down.items c.self.invariant c.args.self.now c.self.view_is c.in-Some.next (c.requires.members c.in-Some.next (left_there (IsNear c.args.self.now c.args.within) c.args.within c.args.place c.loop-next.reached c.loop-next.done c.minus.result c.in-Some.next c.loop-next.invariant c.minus.ensures c.in-Some.ensures.least.member).2) _ _ c.index-in-Some-2.ensures c.self.inside.down.ok.0)))
     c.union-reached.ensures
 
 pub returns : goal.returns

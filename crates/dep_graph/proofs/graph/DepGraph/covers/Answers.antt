@@ -17,9 +17,9 @@ loop-middle-init g c = CoversSoFar-start (64 * g.row.W) c.self.inside.up.items c
 pub index-requires-in-loop-middle : goal.index-requires-in-loop-middle
 index-requires-in-loop-middle g c =
     let low : c.in-Some.middle < length c.self.inside.up.items =
-        c.self.invariant.upward c.in-Some.middle (middle_member (64 * g.row.W) c.self.inside.members c.self.inside.rates.items c.self.inside.up.items c.self.inside.down.items c.self.invariant c.args.self.now c.self.view_is c.args.place c.requires c.remove.new.self c.in-Some.middle
-        (c.remove.ensures ∙ ap (λ s. fin.remove s c.args.place) (up_read (64 * g.row.W) c.self.inside.members c.self.inside.rates.items c.self.inside.up.items c.self.inside.down.items c.self.invariant c.args.self.now c.self.view_is c.args.place c.requires _ _ c.index.ensures c.self.inside.up.ok.0))
-        (CoversSoFar-here (64 * g.row.W) c.self.inside.up.items c.remove.new.self _ _ _ _ c.in-Some.middle c.loop-middle.invariant c.in-Some.ensures.steps).1) in
+    c.self.invariant.upward c.in-Some.middle (middle_member (64 * g.row.W) c.self.inside.members c.self.inside.rates.items c.self.inside.up.items c.self.inside.down.items c.self.invariant c.args.self.now c.self.view_is c.args.place c.requires c.remove.new.self c.in-Some.middle
+    (c.remove.ensures ∙ ap (λ s. fin.remove s c.args.place) (up_read (64 * g.row.W) c.self.inside.members c.self.inside.rates.items c.self.inside.up.items c.self.inside.down.items c.self.invariant c.args.self.now c.self.view_is c.args.place c.requires _ _ c.index.ensures c.self.inside.up.ok.0))
+    (CoversSoFar-here (64 * g.row.W) c.self.inside.up.items c.remove.new.self _ _ _ _ c.in-Some.middle c.loop-middle.invariant c.in-Some.ensures.steps).1) in
     omega (arith, c.self.inside.up.ok.0)
 
 pub remove-requires-in-loop-middle : goal.remove-requires-in-loop-middle
@@ -28,9 +28,9 @@ remove-requires-in-loop-middle g c = (search rules, (CoversSoFar-here (64 * g.ro
 pub loop-middle-preserved : goal.loop-middle-preserved
 loop-middle-preserved g c =
     let low : c.in-Some.middle < length c.self.inside.up.items =
-        c.self.invariant.upward c.in-Some.middle (middle_member (64 * g.row.W) c.self.inside.members c.self.inside.rates.items c.self.inside.up.items c.self.inside.down.items c.self.invariant c.args.self.now c.self.view_is c.args.place c.requires c.remove.new.self c.in-Some.middle
-        (c.remove.ensures ∙ ap (λ s. fin.remove s c.args.place) (up_read (64 * g.row.W) c.self.inside.members c.self.inside.rates.items c.self.inside.up.items c.self.inside.down.items c.self.invariant c.args.self.now c.self.view_is c.args.place c.requires _ _ c.index.ensures c.self.inside.up.ok.0))
-        (CoversSoFar-here (64 * g.row.W) c.self.inside.up.items c.remove.new.self _ _ _ _ c.in-Some.middle c.loop-middle.invariant c.in-Some.ensures.steps).1) in
+    c.self.invariant.upward c.in-Some.middle (middle_member (64 * g.row.W) c.self.inside.members c.self.inside.rates.items c.self.inside.up.items c.self.inside.down.items c.self.invariant c.args.self.now c.self.view_is c.args.place c.requires c.remove.new.self c.in-Some.middle
+    (c.remove.ensures ∙ ap (λ s. fin.remove s c.args.place) (up_read (64 * g.row.W) c.self.inside.members c.self.inside.rates.items c.self.inside.up.items c.self.inside.down.items c.self.invariant c.args.self.now c.self.view_is c.args.place c.requires _ _ c.index.ensures c.self.inside.up.ok.0))
+    (CoversSoFar-here (64 * g.row.W) c.self.inside.up.items c.remove.new.self _ _ _ _ c.in-Some.middle c.loop-middle.invariant c.in-Some.ensures.steps).1) in
     CoversSoFar-more (64 * g.row.W) c.self.inside.up.items c.remove.new.self _ _ _ _ _ _ c.in-Some.middle c.loop-middle.invariant c.in-Some.ensures.steps
     (c.remove-in-loop-middle.ensures ∙ ap (λ s. fin.remove s c.in-Some.middle) (get_or_read_under c.self.inside.up.items c.in-Some.middle _ _ fin.empty c.index-in-loop-middle.ensures low refl))
     c.minus-covers.ensures

@@ -1,7 +1,5 @@
 use Rattle.std.proofs.Common.{◌*◌}
 use Rattle.dep_graph.proofs.Kept.{members_of-kept, IsClosed-kept}
-use Rattle.dep_graph.proofs.Loops.{InProgress-all}
-use Rattle.dep_graph.proofs.Changed.{pair_keeps}
 use Rattle.dep_graph.proofs.graph.DepGraph.members.Goals as goal
 
 pub returns-clause-members : goal.returns-clause-members

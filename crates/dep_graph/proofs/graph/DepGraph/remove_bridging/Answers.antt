@@ -10,21 +10,33 @@ pub index-requires-2 : goal.index-requires-2
 index-requires-2 g c = down_there (64 * g.row.W) c.self.inside.members c.self.inside.rates.items c.self.inside.up.items c.self.inside.down.items c.self.invariant c.args.self.now c.self.view_is c.args.place c.requires _ c.self.inside.down.ok.0
 
 pub take-requires : goal.take-requires
-take-requires g c =
-    (search rules, (down_inside (64 * g.row.W) c.self.inside.members c.self.inside.rates.items c.self.inside.up.items c.self.inside.down.items c.self.invariant c.args.self.now c.self.view_is c.args.place c.requires _ _
-    (down_read (64 * g.row.W) c.self.inside.members c.self.inside.rates.items c.self.inside.up.items c.self.inside.down.items c.self.invariant c.args.self.now c.self.view_is c.args.place c.requires _ _ c.index-2.ensures c.self.inside.down.ok.0) c.self.inside.up.ok.0, kept_within (64 * g.row.W) c.self.inside.members c.self.inside.rates.items c.self.inside.up.items c.self.inside.down.items c.self.invariant c.args.place
-    (member_there (64 * g.row.W) c.self.inside.members c.self.inside.rates.items c.self.inside.up.items c.self.inside.down.items c.self.invariant c.args.self.now c.self.view_is c.args.place c.requires)))
+take-requires g c = (
+  search rules,
+  (
+    down_inside (64 * g.row.W) c.self.inside.members c.self.inside.rates.items c.self.inside.up.items c.self.inside.down.items c.self.invariant c.args.self.now c.self.view_is c.args.place c.requires _ _
+        (down_read (64 * g.row.W) c.self.inside.members c.self.inside.rates.items c.self.inside.up.items c.self.inside.down.items c.self.invariant c.args.self.now c.self.view_is c.args.place c.requires _ _ c.index-2.ensures c.self.inside.down.ok.0) c.self.inside.up.ok.0,
+    kept_within (64 * g.row.W) c.self.inside.members c.self.inside.rates.items c.self.inside.up.items c.self.inside.down.items c.self.invariant c.args.place
+        (member_there (64 * g.row.W) c.self.inside.members c.self.inside.rates.items c.self.inside.up.items c.self.inside.down.items c.self.invariant c.args.self.now c.self.view_is c.args.place c.requires),
+  ),
+)
 
 pub take-requires-2 : goal.take-requires-2
-take-requires-2 g c =
-    (search rules, (up_inside (64 * g.row.W) c.self.inside.members c.self.inside.rates.items c.self.inside.up.items c.self.inside.down.items c.self.invariant c.args.self.now c.self.view_is c.args.place c.requires _ _
-    (up_read (64 * g.row.W) c.self.inside.members c.self.inside.rates.items c.self.inside.up.items c.self.inside.down.items c.self.invariant c.args.self.now c.self.view_is c.args.place c.requires _ _ c.index.ensures c.self.inside.up.ok.0) c.self.inside.down.ok.0, kept_within (64 * g.row.W) c.self.inside.members c.self.inside.rates.items c.self.inside.up.items c.self.inside.down.items c.self.invariant c.args.place
-    (member_there (64 * g.row.W) c.self.inside.members c.self.inside.rates.items c.self.inside.up.items c.self.inside.down.items c.self.invariant c.args.self.now c.self.view_is c.args.place c.requires)))
+take-requires-2 g c = (
+  search rules,
+  (
+    up_inside (64 * g.row.W) c.self.inside.members c.self.inside.rates.items c.self.inside.up.items c.self.inside.down.items c.self.invariant c.args.self.now c.self.view_is c.args.place c.requires _ _
+        (up_read (64 * g.row.W) c.self.inside.members c.self.inside.rates.items c.self.inside.up.items c.self.inside.down.items c.self.invariant c.args.self.now c.self.view_is c.args.place c.requires _ _ c.index.ensures c.self.inside.up.ok.0) c.self.inside.down.ok.0,
+    kept_within (64 * g.row.W) c.self.inside.members c.self.inside.rates.items c.self.inside.up.items c.self.inside.down.items c.self.invariant c.args.place
+        (member_there (64 * g.row.W) c.self.inside.members c.self.inside.rates.items c.self.inside.up.items c.self.inside.down.items c.self.invariant c.args.self.now c.self.view_is c.args.place c.requires),
+  ),
+)
 
 pub remove-requires : goal.remove-requires
-remove-requires g c =
-    (search rules, kept_within (64 * g.row.W) c.self.inside.members c.self.inside.rates.items c.self.inside.up.items c.self.inside.down.items c.self.invariant c.args.place
-    (member_there (64 * g.row.W) c.self.inside.members c.self.inside.rates.items c.self.inside.up.items c.self.inside.down.items c.self.invariant c.args.self.now c.self.view_is c.args.place c.requires))
+remove-requires g c = (
+  search rules,
+  kept_within (64 * g.row.W) c.self.inside.members c.self.inside.rates.items c.self.inside.up.items c.self.inside.down.items c.self.invariant c.args.place
+      (member_there (64 * g.row.W) c.self.inside.members c.self.inside.rates.items c.self.inside.up.items c.self.inside.down.items c.self.invariant c.args.self.now c.self.view_is c.args.place c.requires),
+)
 
 pub invariant_of-self : goal.invariant_of-self
 invariant_of-self g c =

@@ -1,6 +1,5 @@
-use Rattle.std.proofs.Common.{◌*◌, ap, w64, to_z-of_z}
+use Rattle.std.proofs.Common.{◌*◌, ap, to_z-of_z}
 use Rattle.std.proofs.lemmas.List.{length-set}
-use Rattle.fee_rate.specs.declared.rates.FeeRate.{FeeRate}
 use Rattle.dep_graph.proofs.Kept.{rates_there, kept_within, member_there}
 use Rattle.dep_graph.proofs.Changed.{IsKept-rates, set_fee_is}
 use Rattle.dep_graph.proofs.graph.DepGraph.set_fee.Goals as goal
