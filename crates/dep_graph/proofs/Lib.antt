@@ -7,3 +7,4 @@ pub mod Joined
 pub mod Kept
 pub mod Loops
 pub mod Orders
+pub mod Pairs
