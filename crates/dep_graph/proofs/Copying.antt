@@ -1,0 +1,136 @@
+-- The loops that copy what is kept of the places of a set, numbered anew.
+use Rattle.std.proofs.Common.{◌≡◌, ℕ, zero, suc, ◌+◌, ◌<◌, ◌≤◌, Bool, true, false, cond, ◌&&◌, ◌||◌, nat_eq, List, [], ◌∷◌, ◌++◌, length, filter, slice_index, slice_index_or, inl, inr, refl, sym, ap, ap₂, ◌∙◌, subst, subst₂, arith, eq-eqb, ne_eqb, eqb-true, append_assoc, append-nil, length-append, true≢false}
+use Rattle.std.proofs.lemmas.Bool.{cases_eq, and_parts, or_cases, false_from_ne_true}
+use Rattle.std.proofs.lemmas.List.{get_or_append_left, get_or_push}
+use Rattle.std.proofs.Math.Seq.{get_or-append_seam}
+use Rattle.std.specs.List.{range_with_len}
+use Rattle.std.specs.Ordering.{nat_cmp}
+use Rattle.std.specs.FinSet as fin
+use Rattle.bitset.specs.Places.{IsWithin}
+use Rattle.bitset.specs.Sets.{len-places, contains-insert, contains-empty}
+use Rattle.dep_graph.specs.Changes.{Copies, IsRenumbered}
+
+-- the number of a split list at the split
+pub here_in : (ps ys zs : List ℕ) (p : ℕ) → ys ++ p ∷ zs ≡ ps → slice_index ps (length ys) ≡ p
+here_in ps ys zs p e =
+    ap (λ xs. slice_index xs (length ys)) (sym e)
+    ∙ get_or-append_seam ys p zs 0
+
+filter_le : (f : ℕ → Bool) (a n : ℕ) → length (filter f (range_with_len a n)) ≤ n
+filter_le f a zero = omega arith
+filter_le f a (suc n) = elim (f a) as (λ b. length (cond b (a ∷ filter f (range_with_len (a + 1) n)) (filter f (range_with_len (a + 1) n))) ≤ suc n) [
+  | true ↦ omega (arith, filter_le f (a + 1) n)
+  | false ↦ omega (arith, filter_le f (a + 1) n)
+]
+
+-- a set has no more members than there are places below a bound of it
+pub len_le : (k : ℕ) (s : fin.FinSet nat_cmp) → IsWithin k s → fin.len s ≤ k
+len_le k s within = subst (λ m. m ≤ k) (sym (len-places k s within)) (filter_le (fin.contains s) 0 k)
+
+-- ---- one copy for each place
+
+pub record Copying {X : Type 0} (d : X) (Made : ℕ → X → Type 0) (ps : List ℕ) (old new : List X) (ys zs : List ℕ) : Type 0 where
+  pub split : ys ++ zs ≡ ps
+  pub long : length new ≡ length old + length ys
+  pub kept : (p : ℕ) → p < length old → slice_index_or new p d ≡ slice_index_or old p d
+  pub made : (i : ℕ) → i < length ys → Made (slice_index ps i) (slice_index_or new (length old + i) d)
+
+module _ {X : Type 0} (d : X) (Made : ℕ → X → Type 0) (ps : List ℕ) (old : List X) where
+  pub Copying-start : (zs : List ℕ) → zs ≡ ps → Copying d Made ps old old [] zs
+  Copying-start zs e = record { split = e; long = omega arith; kept = λ p h. refl; made = λ i h. absurd (omega arith) }
+
+  pub Copying-more : (new new' : List X) (ys ws zs : List ℕ) (p : ℕ) (x : X) → Copying d Made ps old new ys ws → ws ≡ p ∷ zs → new' ≡ new ++ x ∷ [] → Made p x → Copying d Made ps old new' (ys ++ p ∷ []) zs
+  Copying-more new new' ys ws zs p x h e is fits = record {
+    split = append_assoc ys (p ∷ []) zs ∙ ap (λ xs. ys ++ xs) (sym e) ∙ h.split;
+    long = ap length is ∙ length-append new (x ∷ []) ∙ omega (arith, h.long, length-append ys (p ∷ []));
+    kept = λ q low. ap (λ xs. slice_index_or xs q d) is ∙ get_or_append_left new (x ∷ []) d q (omega (arith, h.long)) ∙ h.kept q low;
+    made = λ i low. elim (cases_eq i (length ys)) as (λ _. Made (slice_index ps i) (slice_index_or new' (length old + i) d)) [
+      | inl same ↦
+          let place : slice_index ps i ≡ p = ap (slice_index ps) same ∙ here_in ps ys zs p (ap (λ xs. ys ++ xs) (sym e) ∙ h.split) in
+          let item : slice_index_or new' (length old + i) d ≡ x =
+          ap (λ xs. slice_index_or xs (length old + i) d) is
+          ∙ get_or_push new x d (length old + i) (omega (arith, h.long)) in
+          subst₂ Made (sym place) (sym item) fits
+      | inr other ↦
+          let before : i < length ys = omega (arith, length-append ys (p ∷ [])) in
+          subst (Made (slice_index ps i)) (sym (ap (λ xs. slice_index_or xs (length old + i) d) is ∙ get_or_append_left new (x ∷ []) d (length old + i) (omega (arith, h.long)))) (h.made i before)
+    ];
+  }
+
+  pub Copying-all : (new : List X) (ys ws : List ℕ) → Copying d Made ps old new ys ws → ws ≡ [] → Copies d Made ps old new
+  Copying-all new ys ws h e =
+      let seen : ys ≡ ps = sym (append-nil ys) ∙ ap (λ xs. ys ++ xs) (sym e) ∙ h.split in
+      record {
+        long = h.long ∙ ap (λ xs. length old + length xs) seen;
+        kept = h.kept;
+        made = λ i low. h.made i (omega (arith, ap length seen));
+      }
+
+-- ---- the numbers of the places of a set
+
+pub record Numbering (ps : List ℕ) (first : ℕ) (s t : fin.FinSet nat_cmp) (number : ℕ) (ys zs : List ℕ) : Type 0 where
+  pub split : ys ++ zs ≡ ps
+  pub number_is : number ≡ first + length ys
+  pub here : (i : ℕ) → i < length ys → fin.contains t (first + i) ≡ fin.contains s (slice_index ps i)
+  pub only : (k : ℕ) → fin.contains t k ≡ true → (first ≤ k) × (k < first + length ys)
+
+module _ (ps : List ℕ) (first : ℕ) (s : fin.FinSet nat_cmp) where
+  pub Numbering-start : (t : fin.FinSet nat_cmp) (zs : List ℕ) → t ≡ fin.empty → zs ≡ ps → Numbering ps first s t first [] zs
+  Numbering-start t zs none e = record {
+    split = e;
+    number_is = omega arith;
+    here = λ i h. absurd (omega arith);
+    only = λ k f. absurd (true≢false (sym f ∙ ap (λ s. fin.contains s k) none ∙ contains-empty k));
+  }
+
+  pub room_left : (t : fin.FinSet nat_cmp) (number m k : ℕ) (ys ws zs : List ℕ) (p : ℕ) → Numbering ps first s t number ys ws → ws ≡ p ∷ zs → length ps ≡ m → first + m ≤ k → number < k
+  room_left t number m k ys ws zs p h e long room = omega (arith, h.number_is, ap length h.split, length-append ys ws, ap length e)
+
+  pub Numbering-more : (t t' : fin.FinSet nat_cmp) (number number' : ℕ) (ys ws zs : List ℕ) (p : ℕ) → Numbering ps first s t number ys ws → ws ≡ p ∷ zs → number' ≡ number + 1
+      → t' ≡ cond (fin.contains s p) (fin.insert t number) t → Numbering ps first s t' number' (ys ++ p ∷ []) zs
+  Numbering-more t t' number number' ys ws zs p h e next is = record {
+    split = append_assoc ys (p ∷ []) zs ∙ ap (λ xs. ys ++ xs) (sym e) ∙ h.split;
+    number_is = omega (arith, h.number_is, length-append ys (p ∷ []));
+    here = λ i low. elim (cases_eq i (length ys)) as (λ _. fin.contains t' (first + i) ≡ fin.contains s (slice_index ps i)) [
+      | inl same ↦
+          tells (first + i) ∙ ap₂ (λ a b. (fin.contains s p && a) || b) (eq-eqb (first + i) number (omega (arith, h.number_is))) (fresh (first + i) (omega arith))
+          ∙ only_first (fin.contains s p)
+          ∙ ap (fin.contains s) (sym (ap (slice_index ps) same ∙ here_in ps ys zs p (ap (λ xs. ys ++ xs) (sym e) ∙ h.split)))
+      | inr other ↦
+          let before : i < length ys = omega (arith, length-append ys (p ∷ [])) in
+          tells (first + i) ∙ ap (λ a. (fin.contains s p && a) || fin.contains t (first + i)) (ne_eqb (first + i) number (λ f. omega (arith, h.number_is)))
+          ∙ only_second (fin.contains s p) (fin.contains t (first + i)) ∙ h.here i before
+    ];
+    only = λ k f. elim (or_cases (fin.contains s p && nat_eq k number) (fin.contains t k) (sym (tells k) ∙ f)) as (λ _. (first ≤ k) × (k < first + length (ys ++ p ∷ []))) [
+      | inl new ↦
+          let same : k ≡ number = eqb-true k number (and_parts (fin.contains s p) (nat_eq k number) new).1 in
+          (omega (arith, h.number_is), omega (arith, h.number_is, length-append ys (p ∷ [])))
+      | inr old ↦ ((h.only k old).0, omega (arith, (h.only k old).1, length-append ys (p ∷ [])))
+    ];
+  }
+    where
+      one : (b : Bool) (k : ℕ) → fin.contains (cond b (fin.insert t number) t) k ≡ ((b && nat_eq k number) || fin.contains t k)
+      one true k = contains-insert t number k
+      one false k = refl
+
+      tells : (k : ℕ) → fin.contains t' k ≡ ((fin.contains s p && nat_eq k number) || fin.contains t k)
+      tells k = ap (λ s. fin.contains s k) is ∙ one (fin.contains s p) k
+
+      fresh : (k : ℕ) → first + length ys ≤ k → fin.contains t k ≡ false
+      fresh k far = false_from_ne_true _ (λ f. let low : k < first + length ys = (h.only k f).1 in absurd (omega arith))
+
+      only_first : (b : Bool) → ((b && true) || false) ≡ b
+      only_first true = refl
+      only_first false = refl
+
+      only_second : (b c : Bool) → ((b && false) || c) ≡ c
+      only_second true c = refl
+      only_second false c = refl
+
+  pub Numbering-all : (t : fin.FinSet nat_cmp) (number : ℕ) (ys ws : List ℕ) → Numbering ps first s t number ys ws → ws ≡ [] → IsRenumbered ps first s t
+  Numbering-all t number ys ws h e =
+      let seen : ys ≡ ps = sym (append-nil ys) ∙ ap (λ xs. ys ++ xs) (sym e) ∙ h.split in
+      record {
+        here = λ i low. h.here i (omega (arith, ap length seen));
+        only = λ k f. ((h.only k f).0, omega (arith, (h.only k f).1, ap length seen));
+      }

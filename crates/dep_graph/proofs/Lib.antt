@@ -1,0 +1,10 @@
+pub mod Added
+pub mod Changed
+pub mod Components
+pub mod Copying
+pub mod Covers
+pub mod Joined
+pub mod Kept
+pub mod Loops
+pub mod Orders
+pub mod Pairs

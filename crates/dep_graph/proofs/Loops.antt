@@ -1,0 +1,108 @@
+-- A loop over the places of a set that changes what is kept of each.
+use Rattle.std.proofs.Common.{◌≡◌, ℕ, zero, suc, ◌+◌, ◌<◌, ◌≤◌, Bool, true, false, cond, ◌||◌, nat_eq, List, [], ◌∷◌, ◌++◌, length, filter, set, inl, inr, refl, sym, ap, ◌∙◌, subst, arith, eq-eqb, ne_eqb, append_assoc, append-nil}
+use Rattle.std.proofs.lemmas.Bool.{cases_eq, or_right}
+use Rattle.std.proofs.lemmas.List.{get_or-set_same, get_or-set_other, length-set}
+use Rattle.std.specs.List.{range_with_len}
+use Rattle.std.specs.Ordering.{nat_cmp}
+use Rattle.std.specs.FinSet as fin
+use Rattle.bitset.specs.Places.{places, IsWithin, IsRising, AllAbove}
+use Rattle.bitset.specs.Sets.{IsRising-places, places-here}
+use Rattle.dep_graph.specs.Rows.{set_at}
+use Rattle.dep_graph.specs.Changes.{ChangesAt}
+
+-- whether q is one of the numbers
+abbrev pub among : List ℕ → ℕ → Bool
+among [] q = false
+among (y ∷ ys) q = nat_eq q y || among ys q
+
+or_swap : (a b c : Bool) → (a || (b || c)) ≡ (b || (a || c))
+or_swap true true c = refl
+or_swap true false c = refl
+or_swap false b c = refl
+
+pub among-push : (ys : List ℕ) (p q : ℕ) → among (ys ++ p ∷ []) q ≡ (nat_eq q p || among ys q)
+among-push [] p q = refl
+among-push (y ∷ ys) p q = ap (λ b. nat_eq q y || b) (among-push ys p q) ∙ or_swap (nat_eq q y) (nat_eq q p) (among ys q)
+
+-- what comes later in a rising list has not come before
+pub among-before : (ys zs : List ℕ) (p : ℕ) → IsRising (ys ++ p ∷ zs) → among ys p ≡ false
+among-before [] zs p h = refl
+among-before (y ∷ ys) zs p h =
+    let low : y < p = reached y ys zs p h.0 in
+    ap (λ b. b || among ys p) (ne_eqb p y (λ e. omega arith)) ∙ among-before ys zs p h.1
+  where
+    reached : (x : ℕ) (ys zs : List ℕ) (p : ℕ) → AllAbove x (ys ++ p ∷ zs) → x < p
+    reached x [] zs p h = h.0
+    reached x (y ∷ ys) zs p h = reached x ys zs p h.1
+
+among_in : (f : ℕ → Bool) (a n q : ℕ) → f q ≡ true → a ≤ q → q < a + n → among (filter f (range_with_len a n)) q ≡ true
+among_in f a zero q passes low high = absurd (omega arith)
+among_in f a (suc n) q passes low high =
+    elim (cases_eq a q) as (λ _. among (filter f (range_with_len a (suc n))) q ≡ true) [
+      | inl same ↦
+          ap (λ b. among (cond b (a ∷ filter f (range_with_len (a + 1) n)) (filter f (range_with_len (a + 1) n))) q) (ap f same ∙ passes)
+          ∙ ap (λ b. b || among (filter f (range_with_len (a + 1) n)) q) (eq-eqb q a (sym same))
+      | inr other ↦
+          elim (f a) as (λ b. among (cond b (a ∷ filter f (range_with_len (a + 1) n)) (filter f (range_with_len (a + 1) n))) q ≡ true) [
+            | true ↦ or_right (nat_eq q a) _ (among_in f (a + 1) n q passes (omega arith) (omega arith))
+            | false ↦ among_in f (a + 1) n q passes (omega arith) (omega arith)
+          ]
+    ]
+
+among_out : (f : ℕ → Bool) (a n q : ℕ) → f q ≡ false → among (filter f (range_with_len a n)) q ≡ false
+among_out f a zero q fails = refl
+among_out f a (suc n) q fails = cases (f a) refl (among_out f (a + 1) n q fails)
+  where
+    cases : (b : Bool) → f a ≡ b → among (filter f (range_with_len (a + 1) n)) q ≡ false → among (cond b (a ∷ filter f (range_with_len (a + 1) n)) (filter f (range_with_len (a + 1) n))) q ≡ false
+    cases true e rest = ap (λ b. b || among (filter f (range_with_len (a + 1) n)) q) (ne_eqb q a (λ same. let both : true ≡ false = sym e ∙ ap f (sym same) ∙ fails in cc)) ∙ rest
+    cases false e rest = rest
+
+-- the list of the members tells who is one
+pub among-places : (n : ℕ) (s : fin.FinSet nat_cmp) → IsWithin n s → (q : ℕ) → among (places n s) q ≡ fin.contains s q
+among-places n s within q = cases (fin.contains s q) refl
+  where
+    cases : (b : Bool) → fin.contains s q ≡ b → among (places n s) q ≡ b
+    cases true e = let low : q < n = within q e in among_in (fin.contains s) 0 n q e (omega arith) (omega arith)
+    cases false e = among_out (fin.contains s) 0 n q e
+
+-- after the places ys and before the places zs
+pub record InProgress (n : ℕ) (f : fin.FinSet nat_cmp → fin.FinSet nat_cmp) (s : fin.FinSet nat_cmp) (old rows : List (fin.FinSet nat_cmp)) (ys zs : List ℕ) : Type 0 where
+  pub long : length rows ≡ length old
+  pub split : ys ++ zs ≡ places n s
+  pub done : (p : ℕ) → set_at rows p ≡ cond (among ys p) (f (set_at old p)) (set_at old p)
+
+module _ (n : ℕ) (f : fin.FinSet nat_cmp → fin.FinSet nat_cmp) (s : fin.FinSet nat_cmp) where
+  pub InProgress-start : (old : List (fin.FinSet nat_cmp)) (zs : List ℕ) → zs ≡ places n s → InProgress n f s old old [] zs
+  InProgress-start old zs e = record { long = refl; split = e; done = λ p. refl }
+
+  pub InProgress-here : (old rows : List (fin.FinSet nat_cmp)) (ys ws zs : List ℕ) (p : ℕ) → InProgress n f s old rows ys ws → ws ≡ p ∷ zs → (p < n) × (fin.contains s p ≡ true)
+  InProgress-here old rows ys ws zs p h e = places-here n s ys zs p (sym h.split ∙ ap (λ xs. ys ++ xs) e)
+
+  pub InProgress-inside : (old rows : List (fin.FinSet nat_cmp)) (ys ws zs : List ℕ) (p k m : ℕ) → InProgress n f s old rows ys ws → ws ≡ p ∷ zs → IsWithin k s → k ≡ length old → m ≡ length rows → p < m
+  InProgress-inside old rows ys ws zs p k m h e within before now =
+      let inside : p < k = within p (InProgress-here old rows ys ws zs p h e).1 in omega (arith, h.long)
+
+  pub InProgress-more : (old rows : List (fin.FinSet nat_cmp)) (ys ws zs : List ℕ) (p : ℕ) (v : fin.FinSet nat_cmp) → InProgress n f s old rows ys ws → ws ≡ p ∷ zs → p < length rows → v ≡ f (set_at rows p) → InProgress n f s old (set rows p v) (ys ++ p ∷ []) zs
+  InProgress-more old rows ys ws zs p v h e inside is = record {
+    long = length-set rows p v ∙ h.long;
+    split = append_assoc ys (p ∷ []) zs ∙ ap (λ xs. ys ++ xs) (sym e) ∙ h.split;
+    done = λ q. elim (cases_eq q p) as (λ _. set_at (set rows p v) q ≡ cond (among (ys ++ p ∷ []) q) (f (set_at old q)) (set_at old q)) [
+      | inl same ↦
+          ap (λ q. set_at (set rows p v) q) same
+          ∙ get_or-set_same rows p v fin.empty inside ∙ is
+          ∙ ap f (h.done p ∙ ap (λ b. cond b (f (set_at old p)) (set_at old p)) fresh)
+          ∙ sym (ap (λ b. cond b (f (set_at old q)) (set_at old q)) (among-push ys p q ∙ ap (λ b. b || among ys q) (eq-eqb q p same)) ∙ ap (λ q. f (set_at old q)) same)
+      | inr other ↦
+          get_or-set_other rows p q v fin.empty other ∙ h.done q
+          ∙ sym (ap (λ b. cond b (f (set_at old q)) (set_at old q)) (among-push ys p q ∙ ap (λ b. b || among ys q) (ne_eqb q p other)))
+    ];
+  }
+    where
+      fresh : among ys p ≡ false
+      fresh = among-before ys zs p (subst IsRising (sym h.split ∙ ap (λ xs. ys ++ xs) e) (IsRising-places n s))
+
+  pub InProgress-all : (old rows : List (fin.FinSet nat_cmp)) (ys ws : List ℕ) → IsWithin n s → InProgress n f s old rows ys ws → ws ≡ [] → ChangesAt f s old rows
+  InProgress-all old rows ys ws within h e = record {
+    long = h.long;
+    sets = λ p. h.done p ∙ ap (λ b. cond b (f (set_at old p)) (set_at old p)) (ap (λ xs. among xs p) (sym (append-nil ys) ∙ ap (λ xs. ys ++ xs) (sym e) ∙ h.split) ∙ among-places n s within p);
+  }

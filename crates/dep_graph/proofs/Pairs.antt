@@ -1,0 +1,473 @@
+-- The laws on pairs.
+use Rattle.std.proofs.Common.{◌≡◌, ◌≢◌, ℕ, zero, suc, ◌+◌, ◌-◌, ◌<◌, ◌≤◌, Bool, true, false, cond, not, ◌&&◌, ◌⊎◌, ◌↔◌, nat_eq, List, [], ◌∷◌, ◌++◌, length, map, filter, slice_index, slice_index_or, Contains, inl, inr, refl, sym, ap, ap₂, ◌∙◌, subst, subst₂, arith, eq-eqb, ne_eqb, eqb-true, true≢false, ltb-true}
+use Rattle.std.proofs.lemmas.Bool.{cases_eq, cases_lt, and_parts, and_from, or_cases, or_left, or_right}
+use Rattle.std.proofs.lemmas.List.Elements.{Contains-get_or}
+use Rattle.std.specs.Ordering.{nat_cmp}
+use Rattle.std.specs.FinSet as fin
+use Rattle.bitset.specs.Places.{places, IsRising, AllAbove}
+use Rattle.bitset.specs.Sets.{IsRising-places, Contains-places, places-Contains}
+use Rattle.dep_graph.specs.Graph.{Graph, is_member, is_ancestor, members_of, IsClosed, IsCopy}
+use Rattle.dep_graph.specs.Walks.{IsWalk, Walk, Along, parents, children, each_with_each, avoids, bridged, number_in, renumbered_pairs}
+use Rattle.dep_graph.specs.Laws.{Closes, PlaceKeepsPairs, PairIsAdded, PairsAreBridged, PairsAreMerged, PairsAreParted}
+use Rattle.dep_graph.proofs.Kept.{contains-members_of}
+use Rattle.dep_graph.proofs.Components.{Walk-keeps}
+
+-- ---- what stands in a list, by recursion
+
+abbrev In : {X : Type 0} → X → List X → Type 0
+In x [] = ⊥
+In x (y ∷ ys) = (x ≡ y) ⊎ In x ys
+
+in_from : {X : Type 0} (xs : List X) (x : X) (k : ℕ) → k < length xs → slice_index_or xs k x ≡ x → In x xs
+in_from [] x k low e = absurd (omega arith)
+in_from (y ∷ ys) x zero low e = inl (sym e)
+in_from (y ∷ ys) x (suc k) low e = inr (in_from ys x k (omega arith) e)
+
+In-Contains : {X : Type 0} (xs : List X) (x : X) → Contains xs x → In x xs
+In-Contains xs x (k, low, e) = in_from xs x k low e
+
+Contains-In : {X : Type 0} (xs : List X) (x : X) → In x xs → Contains xs x
+Contains-In [] x h = absurd h
+Contains-In (y ∷ ys) x (inl e) = (0, omega arith, sym e)
+Contains-In (y ∷ ys) x (inr h) = let c : Contains ys x = Contains-In ys x h in (suc c.0, omega (arith, c.1), c.2)
+
+In-append : {X : Type 0} (xs ys : List X) (x : X) → In x (xs ++ ys) → In x xs ⊎ In x ys
+In-append [] ys x h = inr h
+In-append (y ∷ xs) ys x (inl e) = inl (inl e)
+In-append (y ∷ xs) ys x (inr h) = elim (In-append xs ys x h) as (λ _. In x (y ∷ xs) ⊎ In x ys) [ inl f ↦ inl (inr f) | inr f ↦ inr f ]
+
+In-left : {X : Type 0} (xs ys : List X) (x : X) → In x xs → In x (xs ++ ys)
+In-left [] ys x h = absurd h
+In-left (y ∷ xs) ys x (inl e) = inl e
+In-left (y ∷ xs) ys x (inr h) = inr (In-left xs ys x h)
+
+In-right : {X : Type 0} (xs ys : List X) (x : X) → In x ys → In x (xs ++ ys)
+In-right [] ys x h = h
+In-right (y ∷ xs) ys x h = inr (In-right xs ys x h)
+
+In-map : {X Y : Type 0} (f : X → Y) (xs : List X) (x : X) → In x xs → In (f x) (map f xs)
+In-map f [] x h = absurd h
+In-map f (y ∷ xs) x (inl e) = inl (ap f e)
+In-map f (y ∷ xs) x (inr h) = inr (In-map f xs x h)
+
+map-In : {X Y : Type 0} (f : X → Y) (xs : List X) (y : Y) → In y (map f xs) → (x : X) × In x xs × (y ≡ f x)
+map-In f [] y h = absurd h
+map-In f (x ∷ xs) y (inl e) = (x, inl refl, e)
+map-In f (x ∷ xs) y (inr h) = let found : (z : _) × In z xs × (y ≡ f z) = map-In f xs y h in (found.0, inr found.1, found.2)
+
+In-filter : {X : Type 0} (p : X → Bool) (xs : List X) (x : X) → In x xs → p x ≡ true → In x (filter p xs)
+In-filter p [] x h e = absurd h
+In-filter p (y ∷ xs) x (inl same) e = subst (λ b. In x (cond b (y ∷ filter p xs) (filter p xs))) (sym (ap p (sym same) ∙ e)) (inl same)
+In-filter p (y ∷ xs) x (inr h) e = elim (p y) as (λ b. In x (cond b (y ∷ filter p xs) (filter p xs))) [ true ↦ inr (In-filter p xs x h e) | false ↦ In-filter p xs x h e ]
+
+filter-In : {X : Type 0} (p : X → Bool) (xs : List X) (x : X) → In x (filter p xs) → In x xs × (p x ≡ true)
+filter-In p [] x h = absurd h
+filter-In {X} p (y ∷ xs) x h = cases (p y) refl (λ k. filter-In p xs x k) h
+  where
+    cases : (b : Bool) → p y ≡ b → (In x (filter p xs) → In x xs × (p x ≡ true)) → In x (cond b (y ∷ filter p xs) (filter p xs)) → In x (y ∷ xs) × (p x ≡ true)
+    cases true e rest (inl same) = (inl same, ap p same ∙ e)
+    cases true e rest (inr k) = (inr (rest k).0, (rest k).1)
+    cases false e rest k = (inr (rest k).0, (rest k).1)
+
+-- ---- pairs across a vertex
+
+In-parents : (pairs : List (ℕ × ℕ)) (x a : ℕ) → In (a, x) pairs → In a (parents pairs x)
+In-parents [] x a h = absurd h
+In-parents (p ∷ pairs) x a (inl e) = subst (λ b. In a (cond b (p.0 ∷ parents pairs x) (parents pairs x))) (sym (eq-eqb p.1 x (ap (λ q. q.1) (sym e)))) (inl (ap (λ q. q.0) e))
+In-parents (p ∷ pairs) x a (inr h) = elim (nat_eq p.1 x) as (λ b. In a (cond b (p.0 ∷ parents pairs x) (parents pairs x))) [ true ↦ inr (In-parents pairs x a h) | false ↦ In-parents pairs x a h ]
+
+parents-In : (pairs : List (ℕ × ℕ)) (x a : ℕ) → In a (parents pairs x) → In (a, x) pairs
+parents-In [] x a h = absurd h
+parents-In (p ∷ pairs) x a h = cases (nat_eq p.1 x) refl (λ k. parents-In pairs x a k) h
+  where
+    cases : (b : Bool) → nat_eq p.1 x ≡ b → (In a (parents pairs x) → In (a, x) pairs) → In a (cond b (p.0 ∷ parents pairs x) (parents pairs x)) → In (a, x) (p ∷ pairs)
+    cases true e rest (inl same) = inl (λ i. (same i, sym (eqb-true p.1 x e) i))
+    cases true e rest (inr k) = inr (rest k)
+    cases false e rest k = inr (rest k)
+
+In-children : (pairs : List (ℕ × ℕ)) (x c : ℕ) → In (x, c) pairs → In c (children pairs x)
+In-children [] x c h = absurd h
+In-children (p ∷ pairs) x c (inl e) = subst (λ b. In c (cond b (p.1 ∷ children pairs x) (children pairs x))) (sym (eq-eqb p.0 x (ap (λ q. q.0) (sym e)))) (inl (ap (λ q. q.1) e))
+In-children (p ∷ pairs) x c (inr h) = elim (nat_eq p.0 x) as (λ b. In c (cond b (p.1 ∷ children pairs x) (children pairs x))) [ true ↦ inr (In-children pairs x c h) | false ↦ In-children pairs x c h ]
+
+children-In : (pairs : List (ℕ × ℕ)) (x c : ℕ) → In c (children pairs x) → In (x, c) pairs
+children-In [] x c h = absurd h
+children-In (p ∷ pairs) x c h = cases (nat_eq p.0 x) refl (λ k. children-In pairs x c k) h
+  where
+    cases : (b : Bool) → nat_eq p.0 x ≡ b → (In c (children pairs x) → In (x, c) pairs) → In c (cond b (p.1 ∷ children pairs x) (children pairs x)) → In (x, c) (p ∷ pairs)
+    cases true e rest (inl same) = inl (λ i. (sym (eqb-true p.0 x e) i, same i))
+    cases true e rest (inr k) = inr (rest k)
+    cases false e rest k = inr (rest k)
+
+In-each : (firsts bs : List ℕ) (a b : ℕ) → In a firsts → In b bs → In (a, b) (each_with_each firsts bs)
+In-each [] bs a b h k = absurd h
+In-each (x ∷ firsts) bs a b (inl e) k = In-left (map (λ b. (x, b)) bs) (each_with_each firsts bs) (a, b) (subst (λ y. In {X = ℕ × ℕ} (a, b) (map (λ b. (y, b)) bs)) e (In-map (λ b. (a, b)) bs b k))
+In-each (x ∷ firsts) bs a b (inr h) k = In-right (map (λ b. (x, b)) bs) (each_with_each firsts bs) (a, b) (In-each firsts bs a b h k)
+
+each-In : (firsts bs : List ℕ) (p : ℕ × ℕ) → In p (each_with_each firsts bs) → In p.0 firsts × In p.1 bs
+each-In [] bs p h = absurd h
+each-In (x ∷ firsts) bs p h = elim (In-append (map (λ b. (x, b)) bs) (each_with_each firsts bs) p h) as (λ _. In p.0 (x ∷ firsts) × In p.1 bs) [
+  | inl f ↦ let found : (b : ℕ) × In b bs × (p ≡ (x, b)) = map-In (λ b. (x, b)) bs p f in (inl (ap (λ q. q.0) found.2), subst (λ y. In y bs) (sym (ap (λ q. q.1) found.2)) found.1)
+  | inr f ↦ let rest : In p.0 firsts × In p.1 bs = each-In firsts bs p f in (inr rest.0, rest.1)
+]
+
+-- ---- walks
+
+Walk-map : {V U : Type 0} (f : V → U) (step : V → V → Type 0) (step' : U → U → Type 0) → ((a b : V) → step a b → step' (f a) (f b)) → (a b : V) → Walk step a b → Walk step' (f a) (f b)
+Walk-map f step step' each a b ([], e) = ([], ap f e)
+Walk-map f step step' each a b (v ∷ vs, (first, rest)) = let further : Walk step' (f v) (f b) = Walk-map f step step' each v b (vs, rest) in (f v ∷ further.0, (each a v first, further.1))
+
+Walk-first : {V : Type 0} (step : V → V → Type 0) (a b c : V) → step a b → Walk step b c → Walk step a c
+Walk-first step a b c s (vs, w) = (b ∷ vs, (s, w))
+
+Walk-then : {V : Type 0} (step : V → V → Type 0) (a b c : V) → Walk step a b → Walk step b c → Walk step a c
+Walk-then step a b c ([], e) w = subst (λ x. Walk step x c) (sym e) w
+Walk-then step a b c (v ∷ vs, (first, rest)) w = Walk-first step a v c first (Walk-then step v b c (vs, rest) w)
+
+-- ---- the laws
+
+-- a pair of the list is related
+related : (g : Graph) (pairs : List (ℕ × ℕ)) → Closes g pairs → (a b : ℕ) → Contains pairs (a, b) → is_ancestor g a b ≡ true
+related g pairs closes a b c =
+    let both : (is_member g a ≡ true) × (is_member g b ≡ true) = closes.ends a b c in
+    (closes.walks a b both.0 both.1).1 (b ∷ [], (c, refl))
+
+pub place_keeps_pairs : PlaceKeepsPairs
+place_keeps_pairs n place rate g h pairs closed closes adds = record {
+  ends = λ a b c. let both : (is_member g a ≡ true) × (is_member g b ≡ true) = closes.ends a b c in (old a both.0, old b both.1);
+  walks = λ a b in_a in_b. elim (new a in_a) as (λ _. (is_ancestor h a b ≡ true) ↔ Walk (Along pairs) a b) [
+    | inl same ↦ (
+      λ e. elim (or_cases (nat_eq a place && nat_eq b place) (is_ancestor g a b) (sym (adds.ancestors a b) ∙ e)) as (λ _. Walk (Along pairs) a b) [
+        | inl f ↦ ([], eqb-true a place (and_parts (nat_eq a place) (nat_eq b place) f).0 ∙ sym (eqb-true b place (and_parts (nat_eq a place) (nat_eq b place) f).1))
+        | inr f ↦ absurd (true≢false (sym (closed.order.among a b f).0 ∙ ap (is_member g) same ∙ adds.free))
+      ],
+      λ walk. adds.ancestors a b ∙ or_left (nat_eq a place && nat_eq b place) (is_ancestor g a b) (and_from (nat_eq a place) (nat_eq b place) (eq-eqb a place same) (eq-eqb b place (sym (stays a b same walk) ∙ same))),
+    )
+    | inr in_a' ↦ elim (new b in_b) as (λ _. (is_ancestor h a b ≡ true) ↔ Walk (Along pairs) a b) [
+      | inl same ↦ (
+        λ e. elim (or_cases (nat_eq a place && nat_eq b place) (is_ancestor g a b) (sym (adds.ancestors a b) ∙ e)) as (λ _. Walk (Along pairs) a b) [
+          | inl f ↦ ([], eqb-true a place (and_parts (nat_eq a place) (nat_eq b place) f).0 ∙ sym (eqb-true b place (and_parts (nat_eq a place) (nat_eq b place) f).1))
+          | inr f ↦ absurd (true≢false (sym (closed.order.among a b f).1 ∙ ap (is_member g) same ∙ adds.free))
+        ],
+        λ walk. absurd (true≢false (sym (Walk-keeps (Along pairs) (λ v. is_member g v ≡ true) (λ u v c _. (closes.ends u v c).1) a b walk in_a') ∙ ap (is_member g) same ∙ adds.free)),
+      )
+      | inr in_b' ↦ (
+        λ e. (closes.walks a b in_a' in_b').0 (elim (or_cases (nat_eq a place && nat_eq b place) (is_ancestor g a b) (sym (adds.ancestors a b) ∙ e)) as (λ _. is_ancestor g a b ≡ true) [
+          | inl f ↦ absurd (true≢false (sym in_a' ∙ ap (is_member g) (eqb-true a place (and_parts (nat_eq a place) (nat_eq b place) f).0) ∙ adds.free))
+          | inr f ↦ f
+        ]),
+        λ walk. adds.ancestors a b ∙ or_right (nat_eq a place && nat_eq b place) (is_ancestor g a b) ((closes.walks a b in_a' in_b').1 walk),
+      )
+    ]
+  ];
+}
+  where
+    old : (p : ℕ) → is_member g p ≡ true → is_member h p ≡ true
+    old p e = adds.members p ∙ or_right (nat_eq p place) (is_member g p) e
+
+    new : (p : ℕ) → is_member h p ≡ true → (p ≡ place) ⊎ (is_member g p ≡ true)
+    new p e = elim (or_cases (nat_eq p place) (is_member g p) (sym (adds.members p) ∙ e)) as (λ _. (p ≡ place) ⊎ (is_member g p ≡ true)) [ inl f ↦ inl (eqb-true p place f) | inr f ↦ inr f ]
+
+    -- no pair leads away from the new place
+    stays : (a b : ℕ) → a ≡ place → Walk (Along pairs) a b → a ≡ b
+    stays a b same ([], e) = e
+    stays a b same (v ∷ vs, (first, rest)) = absurd (true≢false (sym (closes.ends a v first).0 ∙ ap (is_member g) same ∙ adds.free))
+
+pub pair_is_added : PairIsAdded
+pair_is_added n parent child g h pairs closed closes in_parent in_child adds = record {
+  ends = λ a b c. ends a b (In-Contains ((parent, child) ∷ pairs) (a, b) c);
+  walks = λ a b in_a in_b. (
+    λ e. elim (or_cases (is_ancestor g a b) (is_ancestor g a parent && is_ancestor g child b) (sym (adds.ancestors a b) ∙ e)) as (λ _. Walk (Along ((parent, child) ∷ pairs)) a b) [
+      | inl f ↦ further a b ((closes.walks a b (was a in_a) (was b in_b)).0 f)
+      | inr f ↦
+          let both : (is_ancestor g a parent ≡ true) × (is_ancestor g child b ≡ true) = and_parts (is_ancestor g a parent) (is_ancestor g child b) f in
+          Walk-then (Along ((parent, child) ∷ pairs)) a parent b (further a parent ((closes.walks a parent (was a in_a) in_parent).0 both.0))
+          (Walk-first (Along ((parent, child) ∷ pairs)) parent child b (0, omega arith, refl) (further child b ((closes.walks child b in_child (was b in_b)).0 both.1)))
+    ],
+    λ walk. Walk-keeps (Along ((parent, child) ∷ pairs)) (λ v. is_ancestor h a v ≡ true) (λ u v c e. step a u v e (In-Contains ((parent, child) ∷ pairs) (u, v) c)) a b walk
+        (adds.ancestors a a ∙ or_left (is_ancestor g a a) (is_ancestor g a parent && is_ancestor g child a) (closed.order.reflexive a (was a in_a))),
+  );
+}
+  where
+    was : (p : ℕ) → is_member h p ≡ true → is_member g p ≡ true
+    was p e = sym (adds.members p) ∙ e
+
+    ends : (a b : ℕ) → In (a, b) ((parent, child) ∷ pairs) → (is_member h a ≡ true) × (is_member h b ≡ true)
+    ends a b (inl e) = (adds.members a ∙ ap (λ q. is_member g q.0) e ∙ in_parent, adds.members b ∙ ap (λ q. is_member g q.1) e ∙ in_child)
+    ends a b (inr k) = let both : (is_member g a ≡ true) × (is_member g b ≡ true) = closes.ends a b (Contains-In pairs (a, b) k) in (adds.members a ∙ both.0, adds.members b ∙ both.1)
+
+    further : (a b : ℕ) → Walk (Along pairs) a b → Walk (Along ((parent, child) ∷ pairs)) a b
+    further a b walk = Walk-map (λ v. v) (Along pairs) (Along ((parent, child) ∷ pairs)) (λ u v c. (suc c.0, omega (arith, c.1), c.2)) a b walk
+
+    step : (a u v : ℕ) → is_ancestor h a u ≡ true → In (u, v) ((parent, child) ∷ pairs) → is_ancestor h a v ≡ true
+    step a u v e (inl same) =
+        let to_parent : is_ancestor g a parent ≡ true = elim (or_cases (is_ancestor g a u) (is_ancestor g a parent && is_ancestor g child u) (sym (adds.ancestors a u) ∙ e)) as (λ _. is_ancestor g a parent ≡ true) [
+          | inl f ↦ sym (ap (λ q. is_ancestor g a q.0) same) ∙ f
+          | inr f ↦ (and_parts (is_ancestor g a parent) (is_ancestor g child u) f).0
+        ] in
+        adds.ancestors a v ∙ or_right (is_ancestor g a v) (is_ancestor g a parent && is_ancestor g child v)
+        (and_from (is_ancestor g a parent) (is_ancestor g child v) to_parent (ap (λ q. is_ancestor g child q.1) same ∙ closed.order.reflexive child in_child))
+    step a u v e (inr k) =
+        let pair : is_ancestor g u v ≡ true = related g pairs closes u v (Contains-In pairs (u, v) k) in
+        elim (or_cases (is_ancestor g a u) (is_ancestor g a parent && is_ancestor g child u) (sym (adds.ancestors a u) ∙ e)) as (λ _. is_ancestor h a v ≡ true) [
+          | inl f ↦ adds.ancestors a v ∙ or_left (is_ancestor g a v) (is_ancestor g a parent && is_ancestor g child v) (closed.order.transitive a u v f pair)
+          | inr f ↦
+              let both : (is_ancestor g a parent ≡ true) × (is_ancestor g child u ≡ true) = and_parts (is_ancestor g a parent) (is_ancestor g child u) f in
+              adds.ancestors a v ∙ or_right (is_ancestor g a v) (is_ancestor g a parent && is_ancestor g child v) (and_from (is_ancestor g a parent) (is_ancestor g child v) both.0 (closed.order.transitive child u v both.1 pair))
+        ]
+
+-- ---- a member is dropped
+
+module _ (pairs : List (ℕ × ℕ)) (x : ℕ) where
+  avoiding : (a b : ℕ) → a ≢ x → b ≢ x → avoids x (a, b) ≡ true
+  avoiding a b ne nf = and_from (not (nat_eq a x)) (not (nat_eq b x)) (ap not (ne_eqb a x ne)) (ap not (ne_eqb b x nf))
+
+  direct : (a b : ℕ) → a ≢ x → b ≢ x → Contains pairs (a, b) → Contains (bridged pairs x) (a, b)
+  direct a b ne nf c =
+      Contains-In (bridged pairs x) (a, b) (In-filter (avoids x) (pairs ++ each_with_each (parents pairs x) (children pairs x)) (a, b)
+      (In-left pairs (each_with_each (parents pairs x) (children pairs x)) (a, b) (In-Contains pairs (a, b) c)) (avoiding a b ne nf))
+
+  across : (a b : ℕ) → a ≢ x → b ≢ x → Contains pairs (a, x) → Contains pairs (x, b) → Contains (bridged pairs x) (a, b)
+  across a b ne nf c d =
+      Contains-In (bridged pairs x) (a, b) (In-filter (avoids x) (pairs ++ each_with_each (parents pairs x) (children pairs x)) (a, b)
+      (In-right pairs (each_with_each (parents pairs x) (children pairs x)) (a, b)
+      (In-each (parents pairs x) (children pairs x) a b (In-parents pairs x a (In-Contains pairs (a, x) c)) (In-children pairs x b (In-Contains pairs (x, b) d))))
+      (avoiding a b ne nf))
+
+  -- a walk that stands at a: it came from a itself, or over x from p
+  abbrev From : ℕ → ℕ → Type 0
+  From p a = ((p ≡ a) × (a ≢ x)) ⊎ ((p ≢ x) × Contains pairs (p, x) × (a ≡ x))
+
+  around : (vs : List ℕ) (p a b : ℕ) → From p a → IsWalk (Along pairs) a vs b → b ≢ x → Walk (Along (bridged pairs x)) p b
+  around [] p a b (inl from) e other = ([], from.0 ∙ e)
+  around [] p a b (inr from) e other = absurd (other (sym e ∙ from.2))
+  around (v ∷ vs) p a b from (first, rest) other = go from (cases_eq v x) (λ q f. around vs q v b f rest other)
+    where
+      go : From p a → (v ≡ x) ⊎ (v ≡ x → ⊥) → ((q : ℕ) → From q v → Walk (Along (bridged pairs x)) q b) → Walk (Along (bridged pairs x)) p b
+      go (inl from) (inl same) further = further p (inr (subst (λ y. y ≢ x) (sym from.0) from.1, subst₂ (λ y z. Contains {X = ℕ × ℕ} pairs (y, z)) (sym from.0) same first, same))
+      go (inl from) (inr ne) further =
+          let step : Contains {X = ℕ × ℕ} (bridged pairs x) (p, v) = direct p v (subst (λ y. y ≢ x) (sym from.0) from.1) ne (subst (λ y. Contains {X = ℕ × ℕ} pairs (y, v)) (sym from.0) first) in
+          Walk-first (Along (bridged pairs x)) p v b step (further v (inl (refl, ne)))
+      go (inr from) (inl same) further = further p (inr (from.0, from.1, same))
+      go (inr from) (inr ne) further =
+          let step : Contains {X = ℕ × ℕ} (bridged pairs x) (p, v) = across p v from.0 ne from.1 (subst (λ y. Contains {X = ℕ × ℕ} pairs (y, v)) from.2 first) in
+          Walk-first (Along (bridged pairs x)) p v b step (further v (inl (refl, ne)))
+
+differs : (a b : ℕ) → not (nat_eq a b) ≡ true → a ≢ b
+differs a b e same = true≢false (sym e ∙ ap not (eq-eqb a b same))
+
+pub pairs_are_bridged : PairsAreBridged
+pairs_are_bridged n place g h pairs closed closes drops = record {
+  ends = λ a b c. let p : (is_ancestor g a b ≡ true) × (a ≢ place) × (b ≢ place) = pair a b c in
+      let both : (is_member g a ≡ true) × (is_member g b ≡ true) = closed.order.among a b p.0 in (keeps a p.1 both.0, keeps b p.2 both.1);
+  walks = λ a b in_a in_b.
+      let was_a : (a ≢ place) × (is_member g a ≡ true) = was a in_a in
+      let was_b : (b ≢ place) × (is_member g b ≡ true) = was b in_b in (
+        λ e.
+            let walk : Walk (Along pairs) a b = (closes.walks a b was_a.1 was_b.1).0 (still a b e).2 in
+            around pairs place walk.0 a a b (inl (refl, was_a.0)) walk.1 was_b.0,
+        λ walk. Walk-keeps (Along (bridged pairs place)) (λ v. is_ancestor h a v ≡ true)
+            (λ u v c e. let p : (is_ancestor g u v ≡ true) × (u ≢ place) × (v ≢ place) = pair u v c in keeps_pair a v was_a.0 p.2 (closed.order.transitive a u v (still a u e).2 p.0))
+            a b walk (keeps_pair a a was_a.0 was_a.0 (closed.order.reflexive a was_a.1)),
+      );
+}
+  where
+    was : (p : ℕ) → is_member h p ≡ true → (p ≢ place) × (is_member g p ≡ true)
+    was p e = let both : (not (nat_eq p place) ≡ true) × (is_member g p ≡ true) = and_parts (not (nat_eq p place)) (is_member g p) (sym (drops.members p) ∙ e) in (differs p place both.0, both.1)
+
+    keeps : (p : ℕ) → p ≢ place → is_member g p ≡ true → is_member h p ≡ true
+    keeps p ne e = drops.members p ∙ and_from (not (nat_eq p place)) (is_member g p) (ap not (ne_eqb p place ne)) e
+
+    keeps_pair : (a b : ℕ) → a ≢ place → b ≢ place → is_ancestor g a b ≡ true → is_ancestor h a b ≡ true
+    keeps_pair a b ne nf e = drops.ancestors a b ∙ and_from (not (nat_eq a place)) (not (nat_eq b place) && is_ancestor g a b) (ap not (ne_eqb a place ne)) (and_from (not (nat_eq b place)) (is_ancestor g a b) (ap not (ne_eqb b place nf)) e)
+
+    still : (a b : ℕ) → is_ancestor h a b ≡ true → (a ≢ place) × (b ≢ place) × (is_ancestor g a b ≡ true)
+    still a b e =
+        let one : (not (nat_eq a place) ≡ true) × ((not (nat_eq b place) && is_ancestor g a b) ≡ true) = and_parts (not (nat_eq a place)) (not (nat_eq b place) && is_ancestor g a b) (sym (drops.ancestors a b) ∙ e) in
+        let two : (not (nat_eq b place) ≡ true) × (is_ancestor g a b ≡ true) = and_parts (not (nat_eq b place)) (is_ancestor g a b) one.1 in
+        (differs a place one.0, differs b place two.0, two.1)
+
+    -- a pair of the new list is related, and has neither end at the place
+    pair : (a b : ℕ) → Contains (bridged pairs place) (a, b) → (is_ancestor g a b ≡ true) × (a ≢ place) × (b ≢ place)
+    pair a b c =
+        let kept : In {X = ℕ × ℕ} (a, b) (pairs ++ each_with_each (parents pairs place) (children pairs place)) × (avoids place (a, b) ≡ true) =
+        filter-In (avoids place) (pairs ++ each_with_each (parents pairs place) (children pairs place)) (a, b) (In-Contains (bridged pairs place) (a, b) c) in
+        let apart : (not (nat_eq a place) ≡ true) × (not (nat_eq b place) ≡ true) = and_parts (not (nat_eq a place)) (not (nat_eq b place)) kept.1 in (
+          elim (In-append pairs (each_with_each (parents pairs place) (children pairs place)) (a, b) kept.0) as (λ _. is_ancestor g a b ≡ true) [
+            | inl f ↦ related g pairs closes a b (Contains-In pairs (a, b) f)
+            | inr f ↦
+                let ends : In a (parents pairs place) × In b (children pairs place) = each-In (parents pairs place) (children pairs place) (a, b) f in
+                closed.order.transitive a place b (related g pairs closes a place (Contains-In pairs (a, place) (parents-In pairs place a ends.0))) (related g pairs closes place b (Contains-In pairs (place, b) (children-In pairs place b ends.1)))
+          ],
+          differs a place apart.0,
+          differs b place apart.1,
+        )
+
+-- ---- places numbered anew
+
+above_each : (x : ℕ) (xs : List ℕ) (i : ℕ) → AllAbove x xs → i < length xs → x < slice_index xs i
+above_each x [] i h low = absurd (omega arith)
+above_each x (y ∷ ys) zero h low = h.0
+above_each x (y ∷ ys) (suc i) h low = above_each x ys i h.1 (omega arith)
+
+number_at : (xs : List ℕ) (i : ℕ) → IsRising xs → i < length xs → number_in xs (slice_index xs i) ≡ i
+number_at [] i h low = absurd (omega arith)
+number_at (x ∷ xs) zero h low = ap (λ b. cond b 0 (suc (number_in xs x))) (eq-eqb x x refl)
+number_at (x ∷ xs) (suc i) h low =
+    let up : x < slice_index xs i = above_each x xs i h.0 (omega arith) in
+    ap (λ b. cond b 0 (suc (number_in xs (slice_index xs i)))) (ne_eqb (slice_index xs i) x (λ e. omega arith)) ∙ ap suc (number_at xs i h.1 (omega arith))
+
+place_at : (xs : List ℕ) (p : ℕ) → In p xs → (number_in xs p < length xs) × (slice_index xs (number_in xs p) ≡ p)
+place_at [] p h = absurd h
+place_at (x ∷ xs) p h = cases (nat_eq p x) refl h (λ k. place_at xs p k)
+  where
+    cases : (b : Bool) → nat_eq p x ≡ b → (p ≡ x) ⊎ In p xs → (In p xs → (number_in xs p < length xs) × (slice_index xs (number_in xs p) ≡ p))
+        → (cond b 0 (suc (number_in xs p)) < length (x ∷ xs)) × (slice_index (x ∷ xs) (cond b 0 (suc (number_in xs p))) ≡ p)
+    cases true e k rest = (omega arith, sym (eqb-true p x e))
+    cases false e (inl same) rest = absurd (true≢false (sym (eq-eqb p x same) ∙ e))
+    cases false e (inr k) rest = let found : (number_in xs p < length xs) × (slice_index xs (number_in xs p) ≡ p) = rest k in (omega (arith, found.0), found.1)
+
+module _ (g h : Graph) (xs : List ℕ) (first : ℕ) (rise : IsRising xs) (copy : IsCopy g xs first h) (pairs : List (ℕ × ℕ))
+    (pairs_in : (p q : ℕ) → In (p, q) pairs → In p xs × In q xs × (is_ancestor g p q ≡ true)) where
+  -- each new pair is related, and stands among the new places
+  copied_pair : (u v : ℕ) → In (u, v) (renumbered_pairs xs first pairs) → (is_ancestor h u v ≡ true) × ((first ≤ u) × (u < first + length xs)) × ((first ≤ v) × (v < first + length xs))
+  copied_pair u v k =
+      let found : (z : ℕ × ℕ) × In z pairs × ((u, v) ≡ (first + number_in xs z.0, first + number_in xs z.1)) = map-In (λ p. (first + number_in xs p.0, first + number_in xs p.1)) pairs (u, v) k in
+      let there : In found.0.0 xs × In found.0.1 xs × (is_ancestor g found.0.0 found.0.1 ≡ true) = pairs_in found.0.0 found.0.1 found.1 in
+      let one : (number_in xs found.0.0 < length xs) × (slice_index xs (number_in xs found.0.0) ≡ found.0.0) = place_at xs found.0.0 there.0 in
+      let two : (number_in xs found.0.1 < length xs) × (slice_index xs (number_in xs found.0.1) ≡ found.0.1) = place_at xs found.0.1 there.1 in
+      let u_is : u ≡ first + number_in xs found.0.0 = ap (λ q. q.0) found.2 in
+      let v_is : v ≡ first + number_in xs found.0.1 = ap (λ q. q.1) found.2 in (
+        ap₂ (is_ancestor h) u_is v_is ∙ copy.ancestors (number_in xs found.0.0) (number_in xs found.0.1) one.0 two.0 ∙ ap₂ (is_ancestor g) one.1 two.1 ∙ there.2,
+        (omega (arith, u_is), omega (arith, u_is, one.0)),
+        (omega (arith, v_is), omega (arith, v_is, two.0)),
+      )
+
+  -- what is related has a walk along the new pairs, where it has one along the old
+  copied_walk : (i j : ℕ) → i < length xs → j < length xs → Walk (Along pairs) (slice_index xs i) (slice_index xs j) → Walk (Along (renumbered_pairs xs first pairs)) (first + i) (first + j)
+  copied_walk i j low low' walk =
+      subst₂ (Walk (Along (renumbered_pairs xs first pairs))) (ap (λ k. first + k) (number_at xs i rise low)) (ap (λ k. first + k) (number_at xs j rise low'))
+      (Walk-map (λ p. first + number_in xs p) (Along pairs) (Along (renumbered_pairs xs first pairs))
+      (λ a b c. Contains-In (renumbered_pairs xs first pairs) (first + number_in xs a, first + number_in xs b) (In-map (λ p. (first + number_in xs p.0, first + number_in xs p.1)) pairs (a, b) (In-Contains pairs (a, b) c)))
+      (slice_index xs i) (slice_index xs j) walk)
+
+in_places : (n : ℕ) (g : Graph) → IsClosed n g → (p : ℕ) → is_member g p ≡ true → In p (places n (members_of g))
+in_places n g closed p e = In-Contains (places n (members_of g)) p (Contains-places n (members_of g) p (closed.within p e) (contains-members_of g p ∙ e))
+
+places_are : (n : ℕ) (s : fin.FinSet nat_cmp) (i : ℕ) → i < length (places n s) → fin.contains s (slice_index (places n s) i) ≡ true
+places_are n s i low = (places-Contains n s (slice_index (places n s) i) (Contains-get_or (places n s) i 0 low)).1
+
+abbrev inner_pairs : fin.FinSet nat_cmp → List (ℕ × ℕ) → List (ℕ × ℕ)
+inner_pairs s pairs = filter (λ p. fin.contains s p.0 && fin.contains s p.1) pairs
+
+abbrev both_pairs : ℕ → Graph → Graph → List (ℕ × ℕ) → List (ℕ × ℕ) → List (ℕ × ℕ)
+both_pairs n f g pairs pairs' = renumbered_pairs (places n (members_of f)) 0 pairs ++ renumbered_pairs (places n (members_of g)) (length (places n (members_of f))) pairs'
+
+pub pairs_are_parted : PairsAreParted
+pairs_are_parted n g h s pairs closed closed' closes members between part = record {
+  ends = λ a b c. let p : (is_ancestor h a b ≡ true) × ((0 ≤ a) × (a < 0 + length (places n s))) × ((0 ≤ b) × (b < 0 + length (places n s))) = copied a b c in closed'.order.among a b p.0;
+  walks = λ a b in_a in_b. (
+    λ e.
+        let low : a < length (places n s) = ltb-true a (length (places n s)) (sym (part.members a) ∙ in_a) in
+        let low' : b < length (places n s) = ltb-true b (length (places n s)) (sym (part.members b) ∙ in_b) in
+        let old : is_ancestor g (slice_index (places n s) a) (slice_index (places n s) b) ≡ true = sym (part.copy.ancestors a b low low') ∙ ap₂ (is_ancestor h) (plus_zero a) (plus_zero b) ∙ e in
+        let both : (is_member g (slice_index (places n s) a) ≡ true) × (is_member g (slice_index (places n s) b) ≡ true) = closed.order.among _ _ old in
+        let walk : Walk (Along pairs) (slice_index (places n s) a) (slice_index (places n s) b) = (closes.walks (slice_index (places n s) a) (slice_index (places n s) b) both.0 both.1).0 old in
+        subst₂ (Walk (Along (renumbered_pairs (places n s) 0 (inner_pairs s pairs)))) (plus_zero a) (plus_zero b)
+        (copied_walk g h (places n s) 0 (IsRising-places n s) part.copy (inner_pairs s pairs) inner_in a b low low'
+        (inside walk.0 (slice_index (places n s) a) (slice_index (places n s) b) (places_are n s a low) (places_are n s b low') walk.1)),
+    λ walk. Walk-keeps (Along (renumbered_pairs (places n s) 0 (inner_pairs s pairs))) (λ v. is_ancestor h a v ≡ true) (λ u v c e. closed'.order.transitive a u v e (copied u v c).0) a b walk (closed'.order.reflexive a in_a),
+  );
+}
+  where
+    plus_zero : (k : ℕ) → 0 + k ≡ k
+    plus_zero k = omega arith
+
+    inner_in : (p q : ℕ) → In (p, q) (inner_pairs s pairs) → In p (places n s) × In q (places n s) × (is_ancestor g p q ≡ true)
+    inner_in p q k =
+        let kept : In {X = ℕ × ℕ} (p, q) pairs × ((fin.contains s p && fin.contains s q) ≡ true) = filter-In (λ p. fin.contains s p.0 && fin.contains s p.1) pairs (p, q) k in
+        let both : (fin.contains s p ≡ true) × (fin.contains s q ≡ true) = and_parts (fin.contains s p) (fin.contains s q) kept.1 in
+        (listed p both.0, listed q both.1, related g pairs closes p q (Contains-In pairs (p, q) kept.0))
+      where
+        listed : (p : ℕ) → fin.contains s p ≡ true → In p (places n s)
+        listed p e = In-Contains (places n s) p (Contains-places n s p (closed.within p (members p e)) e)
+
+    copied : (u v : ℕ) → Contains (renumbered_pairs (places n s) 0 (inner_pairs s pairs)) (u, v) → (is_ancestor h u v ≡ true) × ((0 ≤ u) × (u < 0 + length (places n s))) × ((0 ≤ v) × (v < 0 + length (places n s)))
+    copied u v c = copied_pair g h (places n s) 0 (IsRising-places n s) part.copy (inner_pairs s pairs) inner_in u v (In-Contains (renumbered_pairs (places n s) 0 (inner_pairs s pairs)) (u, v) c)
+
+    -- a walk between two places of the set stays in it
+    inside : (vs : List ℕ) (a b : ℕ) → fin.contains s a ≡ true → fin.contains s b ≡ true → IsWalk (Along pairs) a vs b → Walk (Along (inner_pairs s pairs)) a b
+    inside [] a b in_a in_b e = ([], e)
+    inside (v ∷ vs) a b in_a in_b (first, rest) =
+        let before : is_ancestor g a v ≡ true = related g pairs closes a v first in
+        let behind : is_ancestor g v b ≡ true = (closes.walks v b (closes.ends a v first).1 (members b in_b)).1 (vs, rest) in
+        let there : fin.contains s v ≡ true = between a v b in_a in_b before behind in
+        let step : Contains {X = ℕ × ℕ} (inner_pairs s pairs) (a, v) = Contains-In (inner_pairs s pairs) (a, v) (In-filter (λ p. fin.contains s p.0 && fin.contains s p.1) pairs (a, v) (In-Contains pairs (a, v) first) (and_from (fin.contains s a) (fin.contains s v) in_a there)) in
+        Walk-first (Along (inner_pairs s pairs)) a v b step (inside vs v b there in_b rest)
+
+pub pairs_are_merged : PairsAreMerged
+pairs_are_merged n f g h pairs pairs' closed closed' closed'' closes closes' merged = record {
+  ends = λ a b c. closed''.order.among a b (joined a b c);
+  walks = λ a b in_a in_b. (
+    λ e. elim (side a in_a) as (λ _. Walk (Along (both_pairs n f g pairs pairs')) a b) [
+      | inl low ↦ elim (side b in_b) as (λ _. Walk (Along (both_pairs n f g pairs pairs')) a b) [
+        | inl low' ↦ first_walk a b low low' e
+        | inr (j, low', at) ↦ absurd (true≢false (sym e ∙ (merged.apart a b low (omega arith)).0))
+      ]
+      | inr (i, low, at) ↦ elim (side b in_b) as (λ _. Walk (Along (both_pairs n f g pairs pairs')) a b) [
+        | inl low' ↦ absurd (true≢false (sym e ∙ (merged.apart b a low' (omega arith)).1))
+        | inr (j, low', at') ↦ subst₂ (Walk (Along (both_pairs n f g pairs pairs'))) (sym at) (sym at') (second_walk i j low low' (sym (ap₂ (is_ancestor h) at at') ∙ e))
+      ]
+    ],
+    λ walk. Walk-keeps (Along (both_pairs n f g pairs pairs')) (λ v. is_ancestor h a v ≡ true) (λ u v c e. closed''.order.transitive a u v e (joined u v c)) a b walk (closed''.order.reflexive a in_a),
+  );
+}
+  where
+    plus_zero : (k : ℕ) → 0 + k ≡ k
+    plus_zero k = omega arith
+
+    pairs_in : (p q : ℕ) → In (p, q) pairs → In p (places n (members_of f)) × In q (places n (members_of f)) × (is_ancestor f p q ≡ true)
+    pairs_in p q k =
+        let ends : (is_member f p ≡ true) × (is_member f q ≡ true) = closes.ends p q (Contains-In pairs (p, q) k) in
+        (in_places n f closed p ends.0, in_places n f closed q ends.1, related f pairs closes p q (Contains-In pairs (p, q) k))
+
+    pairs_in' : (p q : ℕ) → In (p, q) pairs' → In p (places n (members_of g)) × In q (places n (members_of g)) × (is_ancestor g p q ≡ true)
+    pairs_in' p q k =
+        let ends : (is_member g p ≡ true) × (is_member g q ≡ true) = closes'.ends p q (Contains-In pairs' (p, q) k) in
+        (in_places n g closed' p ends.0, in_places n g closed' q ends.1, related g pairs' closes' p q (Contains-In pairs' (p, q) k))
+
+    -- each pair of the new list is related
+    joined : (u v : ℕ) → Contains (renumbered_pairs (places n (members_of f)) 0 pairs ++ renumbered_pairs (places n (members_of g)) (length (places n (members_of f))) pairs') (u, v) → is_ancestor h u v ≡ true
+    joined u v c = elim (In-append (renumbered_pairs (places n (members_of f)) 0 pairs) (renumbered_pairs (places n (members_of g)) (length (places n (members_of f))) pairs') (u, v)
+        (In-Contains (renumbered_pairs (places n (members_of f)) 0 pairs ++ renumbered_pairs (places n (members_of g)) (length (places n (members_of f))) pairs') (u, v) c)) as (λ _. is_ancestor h u v ≡ true) [
+          | inl k ↦ (copied_pair f h (places n (members_of f)) 0 (IsRising-places n (members_of f)) merged.first pairs pairs_in u v k).0
+          | inr k ↦ (copied_pair g h (places n (members_of g)) (length (places n (members_of f))) (IsRising-places n (members_of g)) merged.second pairs' pairs_in' u v k).0
+        ]
+
+    side : (k : ℕ) → is_member h k ≡ true → (k < length (places n (members_of f))) ⊎ ((j : ℕ) × (j < length (places n (members_of g))) × (k ≡ length (places n (members_of f)) + j))
+    side k e =
+        let low : k < length (places n (members_of f)) + length (places n (members_of g)) = ltb-true k _ (sym (merged.members k) ∙ e) in
+        elim (cases_lt k (length (places n (members_of f)))) as (λ _. (k < length (places n (members_of f))) ⊎ ((j : ℕ) × (j < length (places n (members_of g))) × (k ≡ length (places n (members_of f)) + j))) [
+          | inl first ↦ inl first
+          | inr second ↦ inr (k - length (places n (members_of f)), omega arith, omega arith)
+        ]
+
+    first_walk : (a b : ℕ) → a < length (places n (members_of f)) → b < length (places n (members_of f)) → is_ancestor h a b ≡ true
+        → Walk (Along (renumbered_pairs (places n (members_of f)) 0 pairs ++ renumbered_pairs (places n (members_of g)) (length (places n (members_of f))) pairs')) a b
+    first_walk a b low low' e =
+        let old : is_ancestor f (slice_index (places n (members_of f)) a) (slice_index (places n (members_of f)) b) ≡ true = sym (merged.first.ancestors a b low low') ∙ ap₂ (is_ancestor h) (plus_zero a) (plus_zero b) ∙ e in
+        let ends : (is_member f (slice_index (places n (members_of f)) a) ≡ true) × (is_member f (slice_index (places n (members_of f)) b) ≡ true) = closed.order.among _ _ old in
+        Walk-map (λ v. v) (Along (renumbered_pairs (places n (members_of f)) 0 pairs)) (Along (renumbered_pairs (places n (members_of f)) 0 pairs ++ renumbered_pairs (places n (members_of g)) (length (places n (members_of f))) pairs'))
+        (λ u v c. Contains-In _ (u, v) (In-left (renumbered_pairs (places n (members_of f)) 0 pairs) (renumbered_pairs (places n (members_of g)) (length (places n (members_of f))) pairs') (u, v) (In-Contains _ (u, v) c)))
+        a b (subst₂ (Walk (Along (renumbered_pairs (places n (members_of f)) 0 pairs))) (plus_zero a) (plus_zero b)
+        (copied_walk f h (places n (members_of f)) 0 (IsRising-places n (members_of f)) merged.first pairs pairs_in a b low low' ((closes.walks _ _ ends.0 ends.1).0 old)))
+
+    second_walk : (i j : ℕ) → i < length (places n (members_of g)) → j < length (places n (members_of g)) → is_ancestor h (length (places n (members_of f)) + i) (length (places n (members_of f)) + j) ≡ true
+        → Walk (Along (renumbered_pairs (places n (members_of f)) 0 pairs ++ renumbered_pairs (places n (members_of g)) (length (places n (members_of f))) pairs')) (length (places n (members_of f)) + i) (length (places n (members_of f)) + j)
+    second_walk i j low low' e =
+        let old : is_ancestor g (slice_index (places n (members_of g)) i) (slice_index (places n (members_of g)) j) ≡ true = sym (merged.second.ancestors i j low low') ∙ e in
+        let ends : (is_member g (slice_index (places n (members_of g)) i) ≡ true) × (is_member g (slice_index (places n (members_of g)) j) ≡ true) = closed'.order.among _ _ old in
+        Walk-map (λ v. v) (Along (renumbered_pairs (places n (members_of g)) (length (places n (members_of f))) pairs')) (Along (renumbered_pairs (places n (members_of f)) 0 pairs ++ renumbered_pairs (places n (members_of g)) (length (places n (members_of f))) pairs'))
+        (λ u v c. Contains-In _ (u, v) (In-right (renumbered_pairs (places n (members_of f)) 0 pairs) (renumbered_pairs (places n (members_of g)) (length (places n (members_of f))) pairs') (u, v) (In-Contains _ (u, v) c)))
+        (length (places n (members_of f)) + i) (length (places n (members_of f)) + j)
+        (copied_walk g h (places n (members_of g)) (length (places n (members_of f))) (IsRising-places n (members_of g)) merged.second pairs' pairs_in' i j low low' ((closes'.walks _ _ ends.0 ends.1).0 old))

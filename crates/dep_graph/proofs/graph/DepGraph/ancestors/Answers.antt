@@ -1,0 +1,11 @@
+use Rattle.std.proofs.Common.{◌∙◌, ◌*◌}
+use Rattle.dep_graph.proofs.Kept.{up_there, up_read, ancestors_there}
+use Rattle.dep_graph.proofs.graph.DepGraph.ancestors.Goals as goal
+
+pub index-requires : goal.index-requires
+index-requires g c = up_there (64 * g.row.W) c.self.inside.members c.self.inside.rates.items c.self.inside.up.items c.self.inside.down.items c.self.invariant c.args.self.now c.self.view_is c.args.place c.requires _ c.self.inside.up.ok.0
+
+pub returns : goal.returns
+returns g c =
+    up_read (64 * g.row.W) c.self.inside.members c.self.inside.rates.items c.self.inside.up.items c.self.inside.down.items c.self.invariant c.args.self.now c.self.view_is c.args.place c.requires _ _ c.index.ensures c.self.inside.up.ok.0
+    ∙ ancestors_there (64 * g.row.W) c.self.inside.members c.self.inside.rates.items c.self.inside.up.items c.self.inside.down.items c.self.invariant c.args.self.now c.self.view_is c.args.place c.requires

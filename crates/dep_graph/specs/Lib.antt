@@ -1,0 +1,5 @@
+pub mod Changes
+pub mod Graph
+pub mod Laws
+pub mod Rows
+pub mod Walks

@@ -1,0 +1,27 @@
+ghost use Rattle.dep_graph.specs.Laws.{PairIsAdded, PairsAreBridged, PairsAreMerged, PairsAreParted, PlaceKeepsPairs};
+
+/// A law: where the ancestors are those of walks along some pairs, they still are after a member is added.
+pub fn add_keeps_the_pairs()
+    ensures { PlaceKeepsPairs }
+{}
+
+/// A law: after a dependency is added the ancestors are those of walks along the old pairs and the new one.
+pub fn add_dep_adds_the_pair()
+    ensures { PairIsAdded }
+{}
+
+/// A law: after a member is dropped the ancestors are those of walks along the old pairs, with each of its parents
+/// joined to each of its children, and without its own.
+pub fn remove_bridging_bridges_the_pairs()
+    ensures { PairsAreBridged }
+{}
+
+/// A law: after a merge the ancestors are those of walks along the pairs of both graphs, numbered as the places are.
+pub fn merge_joins_the_pairs()
+    ensures { PairsAreMerged }
+{}
+
+/// A law: a part that holds what lies between its places has the ancestors of walks along the pairs within it.
+pub fn part_keeps_the_pairs_within()
+    ensures { PairsAreParted }
+{}

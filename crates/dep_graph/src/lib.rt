@@ -1,0 +1,17 @@
+//! The dependency graph of a cluster: fees, sizes, and who is an ancestor of whom.
+//!
+//! [`DepGraph<W>`] keeps for each place the set of its ancestors and that of its descendants, so each question about
+//! them is answered by a few operations on words.
+#![tactic(auto)]
+
+mod graph;
+mod laws;
+
+pub use graph::DepGraph;
+pub use laws::{
+    add_dep_adds_the_pair, add_keeps_the_pairs, merge_joins_the_pairs, part_keeps_the_pairs_within,
+    remove_bridging_bridges_the_pairs,
+};
+
+#[cfg(test)]
+mod tests;
