@@ -1,0 +1,5 @@
+pub mod Row
+pub mod RowLends
+pub mod Slots
+pub mod SlotsLends
+pub mod Entry
