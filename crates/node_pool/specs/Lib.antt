@@ -3,3 +3,4 @@ pub mod RowLends
 pub mod Slots
 pub mod SlotsLends
 pub mod Entry
+pub mod Links
