@@ -4,3 +4,4 @@ pub mod Slots
 pub mod SlotsLends
 pub mod Entry
 pub mod Links
+pub mod Cycles
