@@ -1,5 +1,5 @@
+pub mod Cycles
 pub mod EntryLemmas
+pub mod Joins
 pub mod SlotsLemmas
 pub mod LinkLemmas
-pub mod Cycles
-pub mod Joins

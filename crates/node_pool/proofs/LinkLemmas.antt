@@ -1,81 +1,105 @@
--- What a new link of one node, and a pair of them, do to a store.
-use Rattle.std.proofs.Common.{◌≡◌, ◌≢◌, ◌⊎◌, ℕ, zero, suc, ◌+◌, ◌<◌, List, [], ◌∷◌, length, get_or, set, Option, Some, None, is_some, IsSome, count_by, cond, refl, sym, ap, subst, ◌∙◌, inl, inr, arith}
+-- What a new link, a pair of them, and new slots do to the links.
+use Rattle.std.proofs.Common.{◌≡◌, ◌≢◌, ◌⊎◌, ℕ, zero, suc, ◌+◌, ◌*◌, ◌-◌, ◌<◌, ◌≤◌, List, [], ◌∷◌, ◌++◌, length, get_or, set, replicate, refl, sym, ap, subst, ◌∙◌, inl, inr, arith, Bool, true, false, leb}
 use Rattle.std.proofs.lemmas.Bool.{cases_eq}
-use Rattle.std.proofs.lemmas.List.{get_or-set_same, get_or-set_other, get_or_past}
-use Rattle.std.proofs.lemmas.List.Sums.{sum_by-set}
-use Rattle.node_pool.specs.Slots.{Slots, node_in, IsHeld, with_node, held_count}
-use Rattle.node_pool.specs.declared.node.Link.{Link}
-use Rattle.node_pool.specs.declared.node.Node.{Node}
-use Rattle.node_pool.specs.Links.{self_link, link_of, next_in, prev_in, with_link, SetsLink, content_of, Relinks, Connects}
-use Rattle.node_pool.proofs.SlotsLemmas.{IsHeld-within}
+use Rattle.std.proofs.lemmas.Bool.Decides.{leb_tells}
+use Rattle.std.proofs.lemmas.Nat.{same_from_place}
+use Rattle.std.proofs.lemmas.List.{get_or-set_same, get_or-set_other, get_or_past, get_or-replicate, get_or-append-add, length-append}
+use Rattle.std.proofs.Math.Nat.{mul-le-mul_right}
+use Rattle.std.proofs.Math.ListN.{get_or-append, length-replicate}
+use Rattle.node_pool.specs.declared.rings.Link.{Link}
+use Rattle.node_pool.specs.Links.{Links, self_link, link_of, next_in, prev_in, with_link, SameLinks, Connects}
 
-module _ {T : Type 0} {R : ℕ} where
-  -- what follows from a new link of one node
-  pub record Linked (old new : Slots (Node T R)) (r slot : ℕ) (link : Link) : Type 0 where
-    pub contents : (s : ℕ) → content_of (node_in new s) ≡ content_of (node_in old s)
-    pub count : held_count new ≡ held_count old
-    pub room : new.room ≡ old.room
-    pub changed : link_of r slot (node_in new slot) ≡ link
-    pub other_slots : (q s : ℕ) → s ≢ slot → link_of q s (node_in new s) ≡ link_of q s (node_in old s)
-    pub other_rings : (q s : ℕ) → q ≢ r → link_of q s (node_in new s) ≡ link_of q s (node_in old s)
+module _ (l : Links) (r slot : ℕ) (link : Link) (within : slot * l.width + r < length l.links) where
+  pub link_of-set_same : link_of (with_link l r slot link) r slot ≡ link
+  link_of-set_same = get_or-set_same l.links (slot * l.width + r) link (self_link slot) within
 
-  pub Linked-set : (old new : Slots (Node T R)) (r slot : ℕ) (link : Link) → SetsLink old new r slot link → Linked old new r slot link
-  Linked-set old new r slot link (node, found, in_range, written) =
-      let within : slot < length old.slots = IsHeld-within old slot (subst IsSome (sym found) refl) in
-      let after : Node T R = with_link node r link in
-      let here : node_in (with_node old slot after) slot ≡ Some after = get_or-set_same old.slots slot (Some after) None within in
-      let there : (s : ℕ) → s ≢ slot → node_in (with_node old slot after) s ≡ node_in old s = λ s differs. get_or-set_other old.slots slot s (Some after) None differs in
-      let counted : count_by is_some (set old.slots slot (Some after)) + 1 ≡ count_by is_some old.slots + 1 = rw found at (sum_by-set (λ o. cond (is_some o) 1 0) old.slots slot (Some after) None within) in
-      rw written (record {
-        contents = λ s. elim (cases_eq s slot) [
-          | inl same ↦ rw (same, here, found) refl
-          | inr differs ↦ rw (there s differs) refl
-        ];
-        count = omega (arith, counted);
-        room = refl;
-        changed = rw here (get_or-set_same node.links r link (self_link slot) in_range);
-        other_slots = λ q s differs. rw (there s differs) refl;
-        other_rings = λ q s differs. elim (cases_eq s slot) [
-          | inl same ↦ rw (same, here, found) (get_or-set_other node.links r q link (self_link slot) differs)
-          | inr apart ↦ rw (there s apart) refl
-        ];
-      })
+  pub link_of-set_slot : (q s : ℕ) → q < l.width → r < l.width → s ≢ slot → link_of (with_link l r slot link) q s ≡ link_of l q s
+  link_of-set_slot q s qw rw' differs =
+      get_or-set_other l.links (slot * l.width + r) (s * l.width + q) link (self_link s) (λ e. differs (same_from_place s q slot r l.width qw rw' e).0)
 
-  -- a slot with the same contents has a node still
-  pub IsHeld-contents : (old new : Slots (Node T R)) (slot : ℕ) → content_of (node_in new slot) ≡ content_of (node_in old slot) → IsHeld old slot → IsHeld new slot
-  IsHeld-contents old new slot same held = by_cases (node_in old slot) (node_in new slot) same held
-    where
-      by_cases : (a b : Option (Node T R)) → content_of b ≡ content_of a → IsSome a → IsSome b
-      by_cases None b same held = absurd (cc)
-      by_cases (Some a) None same held = absurd (cc)
-      by_cases (Some a) (Some b) same held = refl
+  pub link_of-set_ring : (q s : ℕ) → q < l.width → r < l.width → q ≢ r → link_of (with_link l r slot link) q s ≡ link_of l q s
+  link_of-set_ring q s qw rw' differs =
+      get_or-set_other l.links (slot * l.width + r) (s * l.width + q) link (self_link s) (λ e. differs (same_from_place s q slot r l.width qw rw' e).1)
 
-  pub Connects-of : (old mid new : Slots (Node T R)) (r from to : ℕ) → Linked old mid r from (record { next = to; prev = prev_in old r from }) → Linked mid new r to (record { next = next_in mid r to; prev = from }) → Connects old new r from to
-  Connects-of old mid new r from to first second =
-      let next-is : (l : Link) (m : Link) → l ≡ m → l.next ≡ m.next = λ l m e. ap (λ (k : Link). k.next) e in
-      let prev-is : (l : Link) (m : Link) → l ≡ m → l.prev ≡ m.prev = λ l m e. ap (λ (k : Link). k.prev) e in
-      let mid_next : next_in mid r from ≡ to = ap (λ (k : Link). k.next) first.changed in
-      let mid_prev : prev_in mid r from ≡ prev_in old r from = ap (λ (k : Link). k.prev) first.changed in
-      let to_next : next_in new r to ≡ next_in mid r to = ap (λ (k : Link). k.next) second.changed in
-      record {
-        relinks = record {
-          contents = λ s. second.contents s ∙ first.contents s;
-          count = second.count ∙ first.count;
-          room = second.room ∙ first.room;
-          next = λ q s differs. ap (λ (k : Link). k.next) (second.other_rings q s differs ∙ first.other_rings q s differs);
-          prev = λ q s differs. ap (λ (k : Link). k.prev) (second.other_rings q s differs ∙ first.other_rings q s differs);
-        };
-        next = elim (cases_eq from to) [
-          | inl same ↦ ap (next_in new r) same ∙ to_next ∙ ap (next_in mid r) (sym same) ∙ mid_next
-          | inr differs ↦ ap (λ (k : Link). k.next) (second.other_slots r from differs) ∙ mid_next
-        ];
-        prev = ap (λ (k : Link). k.prev) second.changed;
-        next_others = λ s apart. elim (cases_eq s to) [
-          | inl same ↦ ap (next_in new r) same ∙ to_next ∙ ap (next_in mid r) (sym same) ∙ ap (λ (k : Link). k.next) (first.other_slots r s apart)
-          | inr differs ↦ ap (λ (k : Link). k.next) (second.other_slots r s differs ∙ first.other_slots r s apart)
-        ];
-        prev_others = λ s apart. elim (cases_eq s from) [
-          | inl same ↦ ap (λ (k : Link). k.prev) (second.other_slots r s apart) ∙ ap (prev_in mid r) same ∙ mid_prev ∙ ap (prev_in old r) (sym same)
-          | inr differs ↦ ap (λ (k : Link). k.prev) (second.other_slots r s apart ∙ first.other_slots r s differs)
-        ];
-      }
+pub Connects-of : (old : Links) (r from to : ℕ) → r < old.width
+    → from * old.width + r < length old.links
+    → let mid = with_link old r from (record { next = to; prev = prev_in old r from }) in
+      to * old.width + r < length mid.links → Connects old (with_link mid r to (record { next = next_in mid r to; prev = from })) r from to
+Connects-of old r from to rw' first second =
+    let mid : Links = with_link old r from (record { next = to; prev = prev_in old r from }) in
+    let new : Links = with_link mid r to (record { next = next_in mid r to; prev = from }) in
+    let mid_from : link_of mid r from ≡ record { next = to; prev = prev_in old r from } = link_of-set_same old r from (record { next = to; prev = prev_in old r from }) first in
+    let new_to : link_of new r to ≡ record { next = next_in mid r to; prev = from } = link_of-set_same mid r to (record { next = next_in mid r to; prev = from }) second in
+    let mid_other : (q s : ℕ) → q < old.width → s ≢ from → link_of mid q s ≡ link_of old q s = λ q s qw d. link_of-set_slot old r from (record { next = to; prev = prev_in old r from }) first q s qw rw' d in
+    let new_other : (q s : ℕ) → q < old.width → s ≢ to → link_of new q s ≡ link_of mid q s = λ q s qw d. link_of-set_slot mid r to (record { next = next_in mid r to; prev = from }) second q s qw rw' d in
+    let to_next : next_in new r to ≡ next_in mid r to = ap (λ (k : Link). k.next) new_to in
+    let mid_next : next_in mid r from ≡ to = ap (λ (k : Link). k.next) mid_from in
+    let mid_prev : prev_in mid r from ≡ prev_in old r from = ap (λ (k : Link). k.prev) mid_from in
+    record {
+      slots = refl;
+      width = refl;
+      next = elim (cases_eq from to) [
+        | inl same ↦ ap (next_in new r) same ∙ to_next ∙ ap (next_in mid r) (sym same) ∙ mid_next
+        | inr differs ↦ ap (λ (k : Link). k.next) (new_other r from rw' differs) ∙ mid_next
+      ];
+      prev = ap (λ (k : Link). k.prev) new_to;
+      next_others = λ s apart. elim (cases_eq s to) [
+        | inl same ↦ ap (next_in new r) same ∙ to_next ∙ ap (next_in mid r) (sym same) ∙ ap (λ (k : Link). k.next) (mid_other r s rw' apart)
+        | inr differs ↦ ap (λ (k : Link). k.next) (new_other r s rw' differs ∙ mid_other r s rw' apart)
+      ];
+      prev_others = λ s apart. elim (cases_eq s from) [
+        | inl same ↦ ap (λ (k : Link). k.prev) (new_other r s rw' apart) ∙ ap (prev_in mid r) same ∙ mid_prev ∙ ap (prev_in old r) (sym same)
+        | inr differs ↦ ap (λ (k : Link). k.prev) (new_other r s rw' apart ∙ mid_other r s rw' differs)
+      ];
+      other_rings = λ q s qw differs.
+          link_of-set_ring mid r to (record { next = next_in mid r to; prev = from }) second q s qw rw' differs
+          ∙ link_of-set_ring old r from (record { next = to; prev = prev_in old r from }) first q s qw rw' differs;
+    }
+
+-- a list with `width` links for each of so many slots, where each slot has the links that it had in another list,
+-- and one that had none there has links to itself
+pub record IsGrown (width : ℕ) (old new : List Link) (slots : ℕ) : Type 0 where
+  pub len : length new ≡ slots * width
+  pub same : (r s : ℕ) → r < width → get_or new (s * width + r) (self_link s) ≡ get_or old (s * width + r) (self_link s)
+
+pub IsGrown-start : (width : ℕ) (old : List Link) (slots : ℕ) → length old ≡ slots * width → IsGrown width old old slots
+IsGrown-start width old slots len = record { len = len; same = λ r s _. refl }
+
+pub IsGrown-push : (width : ℕ) (old new : List Link) (slots : ℕ) → length old ≤ slots * width → IsGrown width old new slots → IsGrown width old (new ++ replicate width (self_link slots)) (slots + 1)
+IsGrown-push width old new slots shorter grown =
+    let fresh = replicate width (self_link slots) in
+    let len : length (new ++ fresh) ≡ slots * width + width = length-append new fresh ∙ ap (λ n. n + length fresh) grown.len ∙ ap (λ n. slots * width + n) (length-replicate width (self_link slots)) in
+    let more : (slots + 1) * width ≡ slots * width + width = search arith in
+    record {
+      len = len ∙ sym more;
+      same = λ r s rw'. by_place r s rw' (leb_tells (s + 1) slots);
+    }
+  where
+    fresh : List Link
+    fresh = replicate width (self_link slots)
+    shifted : (i n : ℕ) (d : Link) → i ≡ slots * width + n → get_or (new ++ fresh) i d ≡ get_or fresh n d
+    shifted i n d e = ap (λ m. get_or (new ++ fresh) m d) (e ∙ ap (λ m. m + n) (sym grown.len)) ∙ get_or-append-add new fresh n d
+    past : (i : ℕ) (d : Link) → slots * width ≤ i → get_or old i d ≡ d
+    past i d above = get_or_past old i d (omega arith)
+    by_place : (r s : ℕ) → r < width → ((leb (s + 1) slots ≡ true) × (s + 1 ≤ slots)) ⊎ ((leb (s + 1) slots ≡ false) × (slots < s + 1)) → get_or (new ++ fresh) (s * width + r) (self_link s) ≡ get_or old (s * width + r) (self_link s)
+    by_place r s in_row (inl below) =
+        let row : (s + 1) * width ≡ s * width + width = search arith in
+        let rows : (s + 1) * width ≤ slots * width = mul-le-mul_right width below.1 in
+        get_or-append new fresh (self_link s) (s * width + r) (omega (arith, grown.len)) ∙ grown.same r s in_row
+    by_place r s in_row (inr above) =
+        elim (cases_eq s slots) [
+          | inl here ↦
+              let i : s * width + r ≡ slots * width + r = ap (λ m. m * width + r) here in
+              shifted (s * width + r) r (self_link s) i
+              ∙ get_or-replicate width r (self_link slots) (self_link s) in_row
+              ∙ ap self_link (sym here)
+              ∙ sym (past (s * width + r) (self_link s) (omega arith))
+          | inr beyond ↦
+              let later : slots + 1 ≤ s = let a = above.1 in omega arith in
+              let rows : (slots + 1) * width ≤ s * width = mul-le-mul_right width later in
+              let row : (slots + 1) * width ≡ slots * width + width = search arith in
+              let n = s * width + r - slots * width in
+              shifted (s * width + r) n (self_link s) (omega arith)
+              ∙ get_or_past fresh n (self_link s) (omega (arith, length-replicate width (self_link slots)))
+              ∙ sym (past (s * width + r) (self_link s) (omega arith))
+        ]

@@ -1,54 +1,53 @@
--- The neighbours of the nodes of a store.
-use Rattle.std.specs.Prelude.{◌≡◌, ◌≢◌, ℕ, ◌+◌, ◌<◌, List, Option, Some, None, slice_index_or, slice_set, length}
-use Rattle.node_pool.specs.Slots.{Slots, node_in, with_node, held_count}
-use Rattle.node_pool.specs.declared.node.Link.{Link}
-use Rattle.node_pool.specs.declared.node.Node.{Node}
+-- Links among numbered slots, which go round in rings.
+use Rattle.std.specs.Prelude.{◌≡◌, ◌≢◌, ◌⊎◌, ℕ, ◌+◌, ◌*◌, ◌<◌, List, slice_index_or, slice_set, length, refl}
+use Rattle.std.specs.Coded.{Coded, code_by, coded×, coded_list, coded_ℕ}
+use Rattle.node_pool.specs.declared.rings.Link.{Link}
+
+-- `width` links for each slot, those of the first slot first
+pub record Links : Type 0 where
+  pub links : List Link
+  pub slots : ℕ
+  pub width : ℕ
+
+abbrev pub link_code : Coded Link
+link_code = code_by (ℕ × ℕ) (coded× coded_ℕ coded_ℕ) (λ l. (l.next, l.prev)) (λ p. record { next = p.0; prev = p.1 }) (λ _. refl)
+
+abbrev pub links_code : Coded Links
+links_code =
+    code_by (List Link × (ℕ × ℕ)) (coded× (coded_list link_code) (coded× coded_ℕ coded_ℕ)) (λ l. (l.links, (l.slots, l.width)))
+    (λ p. record { links = p.0; slots = p.1.0; width = p.1.1 }) (λ _. refl)
 
 -- a slot alone in its ring
 abbrev pub self_link : ℕ → Link
 self_link slot = record { next = slot; prev = slot }
 
-module _ {T : Type 0} {R : ℕ} where
-  -- a node's neighbours in the r-th partition: itself where there is no such partition or no node
-  abbrev pub link_of : ℕ → ℕ → Option (Node T R) → Link
-  link_of r slot None = self_link slot
-  link_of r slot (Some node) = slice_index_or node.links r (self_link slot)
+-- the link of a slot in the r-th partition: to itself where there is no such slot
+abbrev pub link_of : Links → ℕ → ℕ → Link
+link_of l r slot = slice_index_or l.links (slot * l.width + r) (self_link slot)
 
-  -- the slot after this one in the r-th partition
-  abbrev pub next_in : Slots (Node T R) → ℕ → ℕ → ℕ
-  next_in s r slot = (link_of r slot (node_in s slot)).next
+-- the slot after this one in the r-th partition
+abbrev pub next_in : Links → ℕ → ℕ → ℕ
+next_in l r slot = (link_of l r slot).next
 
-  -- the slot before this one in the r-th partition
-  abbrev pub prev_in : Slots (Node T R) → ℕ → ℕ → ℕ
-  prev_in s r slot = (link_of r slot (node_in s slot)).prev
+-- the slot before this one in the r-th partition
+abbrev pub prev_in : Links → ℕ → ℕ → ℕ
+prev_in l r slot = (link_of l r slot).prev
 
-  -- a node with another link in the r-th partition
-  abbrev pub with_link : Node T R → ℕ → Link → Node T R
-  with_link node r link = record node { links = slice_set node.links r link }
+-- the new links have this one for the slot in the r-th partition, and all else is as it was
+abbrev pub with_link : Links → ℕ → ℕ → Link → Links
+with_link l r slot link = record l { links = slice_set l.links (slot * l.width + r) link }
 
-  -- the new store has this link for the node in this slot, and all else is as it was
-  abbrev pub SetsLink : Slots (Node T R) → Slots (Node T R) → ℕ → ℕ → Link → Type 0
-  SetsLink old new r slot link =
-      (node : Node T R) × (node_in old slot ≡ Some node) × (r < length node.links)
-      × (new ≡ with_node old slot (with_link node r link))
+-- each slot has the links that it had, where one that there was not had links to itself
+pub record SameLinks (old new : Links) : Type 0 where
+  pub links : (r slot : ℕ) → r < old.width → link_of new r slot ≡ link_of old r slot
+  pub width : new.width ≡ old.width
 
-  -- the number and the value of a node, if there is one
-  abbrev pub content_of : Option (Node T R) → Option (ℕ × T)
-  content_of None = None
-  content_of (Some node) = Some (node.number, node.value)
-
-  -- the new store has the same contents, with the same neighbours outside the r-th partition
-  pub record Relinks (old new : Slots (Node T R)) (r : ℕ) : Type 0 where
-    pub contents : (slot : ℕ) → content_of (node_in new slot) ≡ content_of (node_in old slot)
-    pub count : held_count new ≡ held_count old
-    pub room : new.room ≡ old.room
-    pub next : (q slot : ℕ) → q ≢ r → next_in new q slot ≡ next_in old q slot
-    pub prev : (q slot : ℕ) → q ≢ r → prev_in new q slot ≡ prev_in old q slot
-
-  -- `to` now comes after `from` in the r-th partition, and all else is as it was
-  pub record Connects (old new : Slots (Node T R)) (r from to : ℕ) : Type 0 where
-    pub relinks : Relinks old new r
-    pub next : next_in new r from ≡ to
-    pub prev : prev_in new r to ≡ from
-    pub next_others : (slot : ℕ) → slot ≢ from → next_in new r slot ≡ next_in old r slot
-    pub prev_others : (slot : ℕ) → slot ≢ to → prev_in new r slot ≡ prev_in old r slot
+-- `to` now comes after `from` in the r-th partition, and all else is as it was
+pub record Connects (old new : Links) (r from to : ℕ) : Type 0 where
+  pub slots : new.slots ≡ old.slots
+  pub width : new.width ≡ old.width
+  pub next : next_in new r from ≡ to
+  pub prev : prev_in new r to ≡ from
+  pub next_others : (slot : ℕ) → slot ≢ from → next_in new r slot ≡ next_in old r slot
+  pub prev_others : (slot : ℕ) → slot ≢ to → prev_in new r slot ≡ prev_in old r slot
+  pub other_rings : (q slot : ℕ) → q < old.width → q ≢ r → link_of new q slot ≡ link_of old q slot

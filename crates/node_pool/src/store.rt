@@ -27,7 +27,7 @@ enum Entry<N> {
 }
 
 impl<N> Model for Store<N> {
-    ghost use Rattle.std.specs.Prelude.{map};
+    ghost use Rattle.std.specs.Prelude.{map, ◌≡◌};
     ghost use Rattle.node_pool.specs.Slots.{Slots, slots_code};
 
     ghost Value = { Slots N };
@@ -38,7 +38,7 @@ impl<N> Model for Store<N> {
 
     ghost view = { λ s. record { slots = map node_of s.entries.items; room = s.entries.room } };
 
-    ghost invariant = { λ s. IsSound s.entries.items s.len s.next };
+    ghost invariant = { λ s. IsSound s.entries.items s.len s.next × (s.entries.width ≡ 1) };
 }
 
 impl<N> Entry<N> {
@@ -65,7 +65,7 @@ impl<N> Store<N> {
         ensures room { result.room ≡ 0 }
     {
         Store {
-            entries: Places::new(alloc),
+            entries: Places::new(alloc, 1),
             len: 0,
             next: 0,
         }

@@ -8,7 +8,7 @@ use Rattle.node_pool.proofs.store.Store.node_mut.Goals as goal
 pub invariant_of-self-lent : goal.invariant_of-self-lent
 invariant_of-self-lent g c w =
     let found = held_at c.self.inside.entries.items c.args.slot (rw (← c.self.view_is) at c.requires) in
-    IsSound-rewrite _ _ _ c.args.slot found.0 w c.self.invariant found.1
+    (IsSound-rewrite _ _ _ c.args.slot found.0 w c.self.invariant.0 found.1, c.self.invariant.1)
 
 pub returns : goal.returns
 returns g c =

@@ -10,7 +10,7 @@ use Rattle.node_pool.proofs.store.Store.remove.Goals as goal
 pub invariant_of-self : goal.invariant_of-self
 invariant_of-self g c =
     let found = held_at c.self.inside.entries.items c.args.slot (rw (← c.self.view_is) at c.requires) in
-    rw c.replace.ensures.after (IsSound-vacate _ _ _ c.args.slot found.0 c.self.invariant found.1)
+    rw c.replace.ensures.after (IsSound-vacate _ _ _ c.args.slot found.0 c.self.invariant.0 found.1, c.self.invariant.1)
 
 pub unreachable-requires : goal.unreachable-requires
 unreachable-requires g c =
