@@ -7,7 +7,7 @@ use Rattle.std.proofs.lemmas.List.{get_or-set_same, get_or-set_other, get_or_pas
 use Rattle.std.proofs.Math.Nat.{mul-le-mul_right}
 use Rattle.std.proofs.Math.ListN.{get_or-append, length-replicate}
 use Rattle.node_pool.specs.declared.rings.Link.{Link}
-use Rattle.node_pool.specs.Links.{Links, self_link, link_of, next_in, prev_in, with_link, SameLinks, Connects}
+use Rattle.node_pool.specs.Links.{Links, self_link, link_of, next_in, prev_in, with_link, SameLinks, Connects, SameElsewhere, IsCut, IsJoined}
 
 module _ (l : Links) (r slot : ℕ) (link : Link) (within : slot * l.width + r < length l.links) where
   pub link_of-set_same : link_of (with_link l r slot link) r slot ≡ link
@@ -103,3 +103,41 @@ IsGrown-push width old new slots shorter grown =
               ∙ get_or_past fresh n (self_link s) (omega (arith, length-replicate width (self_link slots)))
               ∙ sym (past (s * width + r) (self_link s) (omega arith))
         ]
+
+elsewhere-of_two : (old mid new : Links) (r a b c d : ℕ) → Connects old mid r a b → Connects mid new r c d → SameElsewhere old new r
+elsewhere-of_two old mid new r a b c d first second =
+    record {
+      slots = second.slots ∙ first.slots;
+      width = second.width ∙ first.width;
+      other_rings = λ q s in_row apart. second.other_rings q s (subst (λ w. q < w) (sym first.width) in_row) apart ∙ first.other_rings q s in_row apart;
+    }
+
+pub IsCut-of : (old mid new : Links) (r slot : ℕ) → Connects old mid r (prev_in old r slot) (next_in old r slot) → Connects mid new r slot slot → IsCut old new r slot
+IsCut-of old mid new r slot first second =
+    record {
+      elsewhere = elsewhere-of_two old mid new r (prev_in old r slot) (next_in old r slot) slot slot first second;
+      next = record {
+        at_a = second.next;
+        past = λ apart. second.next_others (prev_in old r slot) apart ∙ first.next;
+        others = λ s here before. second.next_others s here ∙ first.next_others s before;
+      };
+      prev = record {
+        at_a = second.prev;
+        past = λ apart. second.prev_others (next_in old r slot) apart ∙ first.prev;
+        others = λ s here after. second.prev_others s here ∙ first.prev_others s after;
+      };
+    }
+
+pub IsJoined-of : (old mid new : Links) (r a b : ℕ) → a ≢ b → next_in old r a ≢ next_in old r b → Connects old mid r a (next_in old r b) → Connects mid new r b (next_in old r a) → IsJoined old new r a b
+IsJoined-of old mid new r a b apart after_apart first second =
+    record {
+      elsewhere = elsewhere-of_two old mid new r a (next_in old r b) b (next_in old r a) first second;
+      next = record {
+        at_a = second.next_others a apart ∙ first.next;
+        at_b = second.next;
+        others = λ s not_a not_b. second.next_others s not_b ∙ first.next_others s not_a;
+      };
+      prev_a = second.prev;
+      prev_b = second.prev_others (next_in old r b) (λ e. after_apart (sym e)) ∙ first.prev;
+      prev_others = λ s not_a not_b. second.prev_others s not_a ∙ first.prev_others s not_b;
+    }

@@ -1,6 +1,9 @@
 pub mod Cycles
 pub mod Entry
 pub mod Links
+pub mod Nodes
+pub mod Pool
+pub mod PoolLends
 pub mod Row
 pub mod RowLends
 pub mod Slots

@@ -1,6 +1,7 @@
 -- Links among numbered slots, which go round in rings.
 use Rattle.std.specs.Prelude.{◌≡◌, ◌≢◌, ◌⊎◌, ℕ, ◌+◌, ◌*◌, ◌<◌, List, slice_index_or, slice_set, length, refl}
 use Rattle.std.specs.Coded.{Coded, code_by, coded×, coded_list, coded_ℕ}
+use Rattle.node_pool.specs.Cycles.{Splices, Cuts}
 use Rattle.node_pool.specs.declared.rings.Link.{Link}
 
 -- `width` links for each slot, those of the first slot first
@@ -51,3 +52,23 @@ pub record Connects (old new : Links) (r from to : ℕ) : Type 0 where
   pub next_others : (slot : ℕ) → slot ≢ from → next_in new r slot ≡ next_in old r slot
   pub prev_others : (slot : ℕ) → slot ≢ to → prev_in new r slot ≡ prev_in old r slot
   pub other_rings : (q slot : ℕ) → q < old.width → q ≢ r → link_of new q slot ≡ link_of old q slot
+
+-- the links of every other partition are as they were
+pub record SameElsewhere (old new : Links) (r : ℕ) : Type 0 where
+  pub slots : new.slots ≡ old.slots
+  pub width : new.width ≡ old.width
+  pub other_rings : (q slot : ℕ) → q < old.width → q ≢ r → link_of new q slot ≡ link_of old q slot
+
+-- the slot is cut out of its ring of the r-th partition
+pub record IsCut (old new : Links) (r slot : ℕ) : Type 0 where
+  pub elsewhere : SameElsewhere old new r
+  pub next : Cuts (next_in old r) (next_in new r) (prev_in old r) slot
+  pub prev : Cuts (prev_in old r) (prev_in new r) (next_in old r) slot
+
+-- the rings of a and b in the r-th partition are one
+pub record IsJoined (old new : Links) (r a b : ℕ) : Type 0 where
+  pub elsewhere : SameElsewhere old new r
+  pub next : Splices (next_in old r) (next_in new r) a b
+  pub prev_a : prev_in new r (next_in old r a) ≡ b
+  pub prev_b : prev_in new r (next_in old r b) ≡ a
+  pub prev_others : (slot : ℕ) → slot ≢ next_in old r a → slot ≢ next_in old r b → prev_in new r slot ≡ prev_in old r slot

@@ -1,5 +1,5 @@
 -- What a contract sees of a row of items that can grow.
-use Rattle.std.specs.Prelude.{ℕ, List, slice_set, refl}
+use Rattle.std.specs.Prelude.{ℕ, ◌+◌, ◌*◌, ◌-◌, ◌^◌, min, List, slice_set, refl}
 use Rattle.std.specs.Coded.{Coded, code_by, coded×, coded_list, coded_ℕ}
 
 -- the items, how many slots there is room for in all, and how many items each slot has
@@ -21,3 +21,7 @@ module _ {S : Type 0} where
   -- the row with the item at the index replaced
   abbrev pub with_item : Row S → ℕ → S → Row S
   with_item r index item = row (slice_set r.items index item) r.room r.width
+
+-- how many slots there is room for after growth from this many
+abbrev pub grown : ℕ → ℕ
+grown room = min (2 * room + 1) (2 ^ 32 - 1)

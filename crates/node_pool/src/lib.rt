@@ -2,5 +2,8 @@
 #![tactic(auto)]
 
 mod places;
+mod pool;
 mod rings;
 mod store;
+
+pub use pool::{Key, Pool, PoolFault};

@@ -1,7 +1,7 @@
 //! A row of items that grows by doubling.
 ghost use Rattle.std.specs.Prelude.{◌≡◌, ◌+◌, ◌-◌, ◌*◌, ◌<◌, ◌≤◌, ◌++◌, ◌∷◌, [], length, slice_get, slice_set, OnOk, OnErr, ◌^◌, Some};
 ghost use Rattle.std.specs.Borrow.{sem};
-ghost use Rattle.node_pool.specs.Row.{Row, row, with_item};
+ghost use Rattle.node_pool.specs.Row.{Row, row, with_item, grown};
 
 use std::alloc::{AllocError, Global};
 use std::marker::Model;
@@ -61,7 +61,7 @@ impl<S> Places<S> {
     pub(crate) fn grow(&mut self) -> Result<(), AllocError>
         requires { self.old.room < 2 ^ 32 - 1 }
         ensures kept { self.new ≡ row self.old.items self.new.room self.old.width }
-        ensures ok { OnOk result ((self.old.room < self.new.room) × (self.new.room < 2 ^ 32)) }
+        ensures ok { OnOk result (self.new.room ≡ grown self.old.room) }
         ensures err { OnErr result (self.new ≡ self.old) }
     {
         let room = (2 * self.room + 1).min(0xffff_ffff);

@@ -1,7 +1,7 @@
 //! Rings among numbered slots: for each slot and each partition the slots before and after it.
-ghost use Rattle.std.specs.Prelude.{◌≡◌, ◌+◌, ◌*◌, ◌-◌, ◌<◌, ◌≤◌, ◌++◌, ◌^◌, [], length, replicate, OnOk, OnErr};
-ghost use Rattle.node_pool.specs.Row.{row};
-ghost use Rattle.node_pool.specs.Links.{Links, self_link, next_in, prev_in, with_link, SameLinks, Connects};
+ghost use Rattle.std.specs.Prelude.{◌≡◌, ◌≢◌, ◌+◌, ◌*◌, ◌-◌, ◌<◌, ◌≤◌, ◌++◌, ◌^◌, [], length, replicate, OnOk, OnErr};
+ghost use Rattle.node_pool.specs.Row.{row, grown};
+ghost use Rattle.node_pool.specs.Links.{Links, self_link, next_in, prev_in, with_link, SameLinks, Connects, IsCut, IsJoined};
 
 use crate::places::Places;
 use std::alloc::{AllocError, Global};
@@ -72,7 +72,7 @@ impl Rings {
     pub(crate) fn grow(&mut self) -> Result<(), AllocError>
         requires { self.old.slots < 2 ^ 32 - 1 }
         ensures links { SameLinks self.old self.new }
-        ensures ok { OnOk result (self.old.slots < self.new.slots) }
+        ensures ok { OnOk result (self.new.slots ≡ grown self.old.slots) }
         ensures err { OnErr result (self.new ≡ self.old) }
     {
         let first = self.links.room();
@@ -100,6 +100,35 @@ impl Rings {
         ensures within { slot * self.old.width + r < length self.old.links }
     {
         self.links.set(slot as usize, r, link);
+    }
+
+    /// Leaves the slot alone in its ring of a partition.
+    pub(crate) fn cut(&mut self, r: usize, slot: u32)
+        requires r_in_range { r < self.old.width }
+        requires slot { slot < self.old.slots }
+        requires next { next_in self.old r slot < self.old.slots }
+        requires prev { prev_in self.old r slot < self.old.slots }
+        ensures { IsCut self.old self.new r slot }
+    {
+        let link = self.neighbours(r, slot);
+        self.connect(r, link.prev, link.next);
+        self.connect(r, slot, slot);
+    }
+
+    /// Unites the rings of two slots, which are not in one ring of the partition.
+    pub(crate) fn join(&mut self, r: usize, a: u32, b: u32)
+        requires r_in_range { r < self.old.width }
+        requires a { a < self.old.slots }
+        requires b { b < self.old.slots }
+        requires next_a { next_in self.old r a < self.old.slots }
+        requires next_b { next_in self.old r b < self.old.slots }
+        requires apart { (a ≢ b) × (next_in self.old r a ≢ next_in self.old r b) }
+        ensures { IsJoined self.old self.new r a b }
+    {
+        let after_a = self.neighbours(r, a).next;
+        let after_b = self.neighbours(r, b).next;
+        self.connect(r, a, after_b);
+        self.connect(r, b, after_a);
     }
 
     /// Makes `to` the slot after `from`, and `from` the slot before `to`.

@@ -1,6 +1,7 @@
 //! Nodes in numbered slots. A slot that a node has left is given to a later node.
 ghost use Rattle.std.specs.Prelude.{◌≡◌, ◌+◌, ◌*◌, ◌-◌, ◌<◌, ◌≤◌, ◌^◌, [], map, length, count_by, IsSome, OnOk, OnErr, Some, None, option_copied, slice_set, vec_len};
 ghost use Rattle.std.specs.Borrow.{Lends, sem};
+ghost use Rattle.node_pool.specs.Row.{grown};
 ghost use Rattle.node_pool.specs.Slots.{Slots, node_in, IsHeld, held_count, Updates};
 ghost use Rattle.node_pool.specs.Entry.{node_of};
 
@@ -89,7 +90,7 @@ impl<N> Store<N> {
     pub(crate) fn grow(&mut self) -> Result<(), AllocError>
         requires { self.old.room < 2 ^ 32 - 1 }
         ensures slots { self.new.slots ≡ self.old.slots }
-        ensures ok { OnOk result ((self.old.room < self.new.room) × (self.new.room < 2 ^ 32)) }
+        ensures ok { OnOk result (self.new.room ≡ grown self.old.room) }
         ensures err { OnErr result (self.new ≡ self.old) }
     {
         self.entries.grow()
