@@ -1,5 +1,7 @@
 pub mod Cycles
 pub mod EntryLemmas
 pub mod Joins
+pub mod RingLemmas
+pub mod PoolLemmas
 pub mod SlotsLemmas
 pub mod LinkLemmas

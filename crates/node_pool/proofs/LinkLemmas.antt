@@ -6,6 +6,7 @@ use Rattle.std.proofs.lemmas.Nat.{same_from_place}
 use Rattle.std.proofs.lemmas.List.{get_or-set_same, get_or-set_other, get_or_past, get_or-replicate, get_or-append-add, length-append}
 use Rattle.std.proofs.Math.Nat.{mul-le-mul_right}
 use Rattle.std.proofs.Math.ListN.{get_or-append, length-replicate}
+use Rattle.node_pool.specs.Cycles.{Cuts}
 use Rattle.node_pool.specs.declared.rings.Link.{Link}
 use Rattle.node_pool.specs.Links.{Links, self_link, link_of, next_in, prev_in, with_link, SameLinks, Connects, SameElsewhere, IsCut, IsJoined}
 
@@ -141,3 +142,52 @@ IsJoined-of old mid new r a b apart after_apart first second =
       prev_b = second.prev_others (next_in old r b) (λ e. after_apart (sym e)) ∙ first.prev;
       prev_others = λ s not_a not_b. second.prev_others s not_a ∙ first.prev_others s not_b;
     }
+
+-- the slot is cut out of its rings in the first k partitions, and all else is as it was
+pub record IsCutBelow (old new : Links) (slot k : ℕ) : Type 0 where
+  pub slots : new.slots ≡ old.slots
+  pub width : new.width ≡ old.width
+  pub next : (r : ℕ) → r < k → Cuts (next_in old r) (next_in new r) (prev_in old r) slot
+  pub prev : (r : ℕ) → r < k → Cuts (prev_in old r) (prev_in new r) (next_in old r) slot
+  pub rest : (r s : ℕ) → r < old.width → k ≤ r → link_of new r s ≡ link_of old r s
+
+-- the slot is cut out of its rings in each of n partitions
+pub record IsCutAll (old new : Links) (slot n : ℕ) : Type 0 where
+  pub slots : new.slots ≡ old.slots
+  pub width : new.width ≡ old.width
+  pub next : (r : ℕ) → r < n → Cuts (next_in old r) (next_in new r) (prev_in old r) slot
+  pub prev : (r : ℕ) → r < n → Cuts (prev_in old r) (prev_in new r) (next_in old r) slot
+
+pub IsCutBelow-start : (l : Links) (slot : ℕ) → IsCutBelow l l slot 0
+IsCutBelow-start l slot =
+    record { slots = refl; width = refl; next = λ r below. absurd (omega arith); prev = λ r below. absurd (omega arith); rest = λ r s _ _. refl }
+
+pub IsCutBelow-step : (old mid new : Links) (slot k : ℕ) → k < old.width → IsCutBelow old mid slot k → IsCut mid new k slot → IsCutBelow old new slot (k + 1)
+IsCutBelow-step old mid new slot k in_range so_far cut =
+    let mid_next : next_in mid k ≡ next_in old k = λ j s. (so_far.rest k s in_range (omega arith) j).next in
+    let mid_prev : prev_in mid k ≡ prev_in old k = λ j s. (so_far.rest k s in_range (omega arith) j).prev in
+    let in_mid : (r : ℕ) → r < old.width → r < mid.width = λ r below. subst (λ w. r < w) (sym so_far.width) below in
+    let new_next : (r : ℕ) → r < k → next_in new r ≡ next_in mid r = λ r below j s. (cut.elsewhere.other_rings r s (in_mid r (omega arith)) (λ e. omega arith) j).next in
+    let new_prev : (r : ℕ) → r < k → prev_in new r ≡ prev_in mid r = λ r below j s. (cut.elsewhere.other_rings r s (in_mid r (omega arith)) (λ e. omega arith) j).prev in
+    let here_next : Cuts (next_in old k) (next_in new k) (prev_in old k) slot =
+    subst (λ (f : (ℕ → ℕ) × (ℕ → ℕ)). Cuts f.0 (next_in new k) f.1 slot) (λ j. (mid_next j, mid_prev j)) cut.next in
+    let here_prev : Cuts (prev_in old k) (prev_in new k) (next_in old k) slot =
+    subst (λ (f : (ℕ → ℕ) × (ℕ → ℕ)). Cuts f.0 (prev_in new k) f.1 slot) (λ j. (mid_prev j, mid_next j)) cut.prev in
+    record {
+      slots = cut.elsewhere.slots ∙ so_far.slots;
+      width = cut.elsewhere.width ∙ so_far.width;
+      next = λ r below. elim (cases_eq r k) [
+        | inl same ↦ subst (λ w. Cuts (next_in old w) (next_in new w) (prev_in old w) slot) (sym same) here_next
+        | inr apart ↦ subst (λ (f : ℕ → ℕ). Cuts (next_in old r) f (prev_in old r) slot) (sym (new_next r (omega arith))) (so_far.next r (omega arith))
+      ];
+      prev = λ r below. elim (cases_eq r k) [
+        | inl same ↦ subst (λ w. Cuts (prev_in old w) (prev_in new w) (next_in old w) slot) (sym same) here_prev
+        | inr apart ↦ subst (λ (f : ℕ → ℕ). Cuts (prev_in old r) f (next_in old r) slot) (sym (new_prev r (omega arith))) (so_far.prev r (omega arith))
+      ];
+      rest = λ r s below past. cut.elsewhere.other_rings r s (in_mid r below) (λ e. omega arith) ∙ so_far.rest r s below (omega arith);
+    }
+
+-- what is cut out in k partitions is cut out in each of n, where n is at most k
+pub IsCutBelow-most : (old new : Links) (slot k n : ℕ) → n ≤ k → IsCutBelow old new slot k → IsCutAll old new slot n
+IsCutBelow-most old new slot k n fewer cut =
+    record { slots = cut.slots; width = cut.width; next = λ r below. cut.next r (omega arith); prev = λ r below. cut.prev r (omega arith) }

@@ -26,4 +26,4 @@ module _ {T : Type 0} where
     pub mutual-rings : (r : ℕ) → r < R → IsMutual (next_in l r) (prev_in l r)
     pub alone : (r slot : ℕ) → r < R → node_in s slot ≡ None → next_in l r slot ≡ slot
     pub room : (held_count s ≤ s.room) × (s.room ≤ l.slots) × (l.slots < 2 ^ 32)
-    pub grows : ∥ (l.slots ≡ s.room) ⊎ (l.slots ≡ grown s.room) ∥₁
+    pub grows : (l.slots ≡ s.room) ⊎ (l.slots ≡ grown s.room)

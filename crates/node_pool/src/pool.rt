@@ -1,5 +1,5 @@
 //! The pool.
-ghost use Rattle.std.specs.Prelude.{◌≡◌, ◌≢◌, ◌+◌, ◌-◌, ◌<◌, ◌≤◌, ◌^◌, ◌↔◌, ℕ, [], Some, None, Err, OnOk, OnSome, IfNone, option_copied};
+ghost use Rattle.std.specs.Prelude.{◌≡◌, ◌≢◌, ◌+◌, ◌-◌, ◌<◌, ◌≤◌, ◌^◌, ◌↔◌, ℕ, [], Some, None, Err, IsTrue, OnOk, OnSome, IfNone, option_copied};
 ghost use Rattle.std.specs.Option.{option_copied_mut};
 ghost use Rattle.std.specs.Borrow.{sem};
 ghost use Rattle.node_pool.specs.Nodes.{Nodes, value_at, IsLive, IsSpent, IsNext, live_count, SameRing, SameValues, SameCounts, SameRings, Updates, PartsFrom, UnitesRings};
@@ -92,14 +92,20 @@ impl<T, const R: usize> Pool<T, R> {
         ensures counts { (live_count self.new ≡ live_count self.old) × (self.old.spare ≤ self.new.spare) × (self.new.issued ≡ self.old.issued) }
         ensures rings { (r : ℕ) → r < R → SameRings self.old self.new r }
     {
-        let live = self.nodes.len();
-        if n > 0xffff_ffff - live {
+        if n > 0xffff_ffff - self.nodes.len() {
             return Err(PoolFault::Full);
         }
-        while self.nodes.room() < live + n {
+        while self.spare() < n {
             self.grow()?;
         }
         Ok(())
+    }
+
+    // How many nodes can be inserted with no growth.
+    fn spare(&self) -> usize
+        ensures { result ≡ self.now.spare }
+    {
+        self.nodes.room() - self.nodes.len()
     }
 
     // Adds room to a pool that isn't at its largest.
@@ -143,12 +149,19 @@ impl<T, const R: usize> Pool<T, R> {
         }
     }
 
+    // Whether the key has a node.
+    fn is_live(&self, key: Key) -> bool
+        ensures { IsTrue result ↔ IsLive self.now key }
+    {
+        self.get(key).is_some()
+    }
+
     /// The value at the key, to write to.
     pub fn get_mut(&mut self, key: Key) -> Option<&mut T>
         ensures* writes_back { sem 𝓛 (lends_get T.row R.row self.entry key result) }
         ensures value { option_copied_mut result ≡ value_at self.old key }
     {
-        if self.get(key).is_some() {
+        if self.is_live(key) {
             Some(self.value_mut(key))
         } else {
             None
@@ -175,7 +188,7 @@ impl<T, const R: usize> Pool<T, R> {
         ensures rings { (r : ℕ) → r < R → PartsFrom self.old self.new r key }
         ensures absent { IfNone result (self.new ≡ self.old) }
     {
-        if self.get(key).is_none() {
+        if !self.is_live(key) {
             return None;
         }
         for r in 0..R {
