@@ -29,6 +29,7 @@ module _ (p : ℕ → ℕ) where
       after : (x : ℕ) → Reaches p x s → Reaches p (p x) s
       after x (zero, here) = subst (λ y. Reaches p (p y) s) (sym here) (m, back)
       after x (suc j, more) = (j, more)
+
       along : (k : ℕ) → Reaches p (walked p k s) s
       along zero = (0, refl)
       along (suc k) = subst (λ x. Reaches p x s) (sym (walked-suc k s)) (after (walked p k s) (along k))
@@ -55,21 +56,25 @@ two_equal (suc n) f below =
             ])
           ]
         ]
+
     -- n is left out: where f has it, the last value stands
     pick : (i : ℕ) → (f i ≡ n) ⊎ (f i ≢ n) → ℕ
     pick i (inl _) = f (suc n)
     pick i (inr _) = f i
+
     low : ((i : ℕ) → i < suc n → f i ≡ f (suc n) → ⊥) → (i : ℕ) → i ≤ n → (d : (f i ≡ n) ⊎ (f i ≢ n)) → pick i d < n
     low none i within (inl top) =
         let apart : f (suc n) ≢ n = λ e. none i (omega arith) (top ∙ sym e) in
         let bound = below (suc n) (omega arith) in
         omega arith
     low none i within (inr other) = let bound = below i (omega arith) in omega arith
+
     equal : ((i : ℕ) → i < suc n → f i ≡ f (suc n) → ⊥) → (i j : ℕ) → i < suc n → j < suc n → (d : (f i ≡ n) ⊎ (f i ≢ n)) (e : (f j ≡ n) ⊎ (f j ≢ n)) → pick i d ≡ pick j e → f i ≡ f j
     equal none i j wi wj (inl ti) (inl tj) same = ti ∙ sym tj
     equal none i j wi wj (inl ti) (inr oj) same = absurd (none j wj (sym same))
     equal none i j wi wj (inr oi) (inl tj) same = absurd (none i wi same)
     equal none i j wi wj (inr oi) (inr oj) same = same
+
     lift : ((i : ℕ) → i < suc n → f i ≡ f (suc n) → ⊥) → (i : ℕ) × (j : ℕ) × (i < j) × (j ≤ n) × (pick i (cases_eq (f i) n) ≡ pick j (cases_eq (f j) n)) → (i : ℕ) × (j : ℕ) × (i < j) × (j ≤ suc n) × (f i ≡ f j)
     lift none hit =
         (hit.0, hit.1, hit.2, omega (arith, hit.3), equal none hit.0 hit.1 (omega (arith, hit.2, hit.3)) (omega (arith, hit.3)) (cases_eq (f hit.0) n) (cases_eq (f hit.1) n) hit.4)

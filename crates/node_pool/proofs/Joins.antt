@@ -24,10 +24,12 @@ module _ (p r : ℕ → ℕ) (a b : ℕ) (spliced : Splices p r a b) where
       from_a (inl direct) = inr (inl (direct, (1, refl)))
       from_a (inr (inl over)) = inr (inl (over.0, (1, refl)))
       from_a (inr (inr over)) = inl (Reaches-step p x b over.0)
+
       from_b : Unites p a b x b → Unites p a b x (p a)
       from_b (inl direct) = inr (inr (direct, (1, refl)))
       from_b (inr (inl over)) = inl (Reaches-step p x a over.0)
       from_b (inr (inr over)) = inr (inr (over.0, (1, refl)))
+
       along : Unites p a b x y → Unites p a b x (p y)
       along (inl direct) = inl (Reaches-step p x y direct)
       along (inr (inl over)) = inr (inl (over.0, Reaches-step p b y over.1))
@@ -165,26 +167,27 @@ mutual_spliced p q r s a b m apart forth back x = (forward, backward)
   where
     forward : s (r x) ≡ x
     forward = elim (cases_eq x a) [
-        | inl at_a ↦ ap (λ w. s (r w)) at_a ∙ ap s forth.at_a ∙ back.at_b ∙ (m a).0 ∙ sym at_a
-        | inr not_a ↦ elim (cases_eq x b) [
-          | inl at_b ↦ ap (λ w. s (r w)) at_b ∙ ap s forth.at_b ∙ back.at_a ∙ (m b).0 ∙ sym at_b
-          | inr not_b ↦
-              ap s (forth.others x not_a not_b)
-              ∙ back.others (p x) (λ e. not_a (next-one_to_one p q m x a e)) (λ e. not_b (next-one_to_one p q m x b e))
-              ∙ (m x).0
-        ]
+      | inl at_a ↦ ap (λ w. s (r w)) at_a ∙ ap s forth.at_a ∙ back.at_b ∙ (m a).0 ∙ sym at_a
+      | inr not_a ↦ elim (cases_eq x b) [
+        | inl at_b ↦ ap (λ w. s (r w)) at_b ∙ ap s forth.at_b ∙ back.at_a ∙ (m b).0 ∙ sym at_b
+        | inr not_b ↦
+            ap s (forth.others x not_a not_b)
+            ∙ back.others (p x) (λ e. not_a (next-one_to_one p q m x a e)) (λ e. not_b (next-one_to_one p q m x b e))
+            ∙ (m x).0
       ]
+    ]
+
     backward : r (s x) ≡ x
     backward = elim (cases_eq x (p a)) [
-        | inl at_a ↦ ap (λ w. r (s w)) at_a ∙ ap r (back.at_a ∙ (m b).0) ∙ forth.at_b ∙ sym at_a
-        | inr not_a ↦ elim (cases_eq x (p b)) [
-          | inl at_b ↦ ap (λ w. r (s w)) at_b ∙ ap r (back.at_b ∙ (m a).0) ∙ forth.at_a ∙ sym at_b
-          | inr not_b ↦
-              ap r (back.others x not_a not_b)
-              ∙ forth.others (q x) (λ e. not_a (sym (m x).1 ∙ ap p e)) (λ e. not_b (sym (m x).1 ∙ ap p e))
-              ∙ (m x).1
-        ]
+      | inl at_a ↦ ap (λ w. r (s w)) at_a ∙ ap r (back.at_a ∙ (m b).0) ∙ forth.at_b ∙ sym at_a
+      | inr not_a ↦ elim (cases_eq x (p b)) [
+        | inl at_b ↦ ap (λ w. r (s w)) at_b ∙ ap r (back.at_b ∙ (m a).0) ∙ forth.at_a ∙ sym at_b
+        | inr not_b ↦
+            ap r (back.others x not_a not_b)
+            ∙ forth.others (q x) (λ e. not_a (sym (m x).1 ∙ ap p e)) (λ e. not_b (sym (m x).1 ∙ ap p e))
+            ∙ (m x).1
       ]
+    ]
 
 -- cutting a out of the steps and of the steps back keeps two functions mutual
 pub mutual_cut : (p q r s : ℕ → ℕ) (a : ℕ) → IsMutual p q → Cuts p r q a → Cuts q s p a → IsMutual r s

@@ -5,3 +5,4 @@ pub mod RingLemmas
 pub mod PoolLemmas
 pub mod SlotsLemmas
 pub mod LinkLemmas
+pub mod WalkLemmas

@@ -25,7 +25,7 @@ module _ (l : Links) (r slot : ℕ) (link : Link) (within : slot * l.width + r <
 pub Connects-of : (old : Links) (r from to : ℕ) → r < old.width
     → from * old.width + r < length old.links
     → let mid = with_link old r from (record { next = to; prev = prev_in old r from }) in
-      to * old.width + r < length mid.links → Connects old (with_link mid r to (record { next = next_in mid r to; prev = from })) r from to
+    to * old.width + r < length mid.links → Connects old (with_link mid r to (record { next = next_in mid r to; prev = from })) r from to
 Connects-of old r from to rw' first second =
     let mid : Links = with_link old r from (record { next = to; prev = prev_in old r from }) in
     let new : Links = with_link mid r to (record { next = next_in mid r to; prev = from }) in
@@ -78,10 +78,13 @@ IsGrown-push width old new slots shorter grown =
   where
     fresh : List Link
     fresh = replicate width (self_link slots)
+
     shifted : (i n : ℕ) (d : Link) → i ≡ slots * width + n → get_or (new ++ fresh) i d ≡ get_or fresh n d
     shifted i n d e = ap (λ m. get_or (new ++ fresh) m d) (e ∙ ap (λ m. m + n) (sym grown.len)) ∙ get_or-append-add new fresh n d
+
     past : (i : ℕ) (d : Link) → slots * width ≤ i → get_or old i d ≡ d
     past i d above = get_or_past old i d (omega arith)
+
     by_place : (r s : ℕ) → r < width → ((leb (s + 1) slots ≡ true) × (s + 1 ≤ slots)) ⊎ ((leb (s + 1) slots ≡ false) × (slots < s + 1)) → get_or (new ++ fresh) (s * width + r) (self_link s) ≡ get_or old (s * width + r) (self_link s)
     by_place r s in_row (inl below) =
         let row : (s + 1) * width ≡ s * width + width = search arith in

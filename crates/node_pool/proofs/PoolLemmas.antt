@@ -3,7 +3,7 @@ use Rattle.std.proofs.Common.{◌≡◌, ◌≢◌, ◌⊎◌, ℕ, zero, suc, �
 use Rattle.std.proofs.lemmas.Bool.{cases_eq}
 use Rattle.std.proofs.lemmas.Bool.Decides.{leb_tells}
 use Rattle.node_pool.specs.Cycles.{walked, Reaches, IsMutual, Splices, Cuts}
-use Rattle.node_pool.proofs.Cycles.{comes_back, next-below, Reaches-sym}
+use Rattle.node_pool.proofs.Cycles.{comes_back, comes_back_within, next-below, next-one_to_one, Reaches-sym}
 use Rattle.node_pool.proofs.Joins.{mutual_spliced, mutual_cut}
 use Rattle.node_pool.specs.Row.{grown}
 use Rattle.node_pool.specs.Slots.{Slots, node_in, IsHeld, held_count, Updates}
@@ -81,6 +81,24 @@ module _ {T : Type 0} where
     pub comes_round : (r slot : ℕ) → r < R → Reaches (next_in l r) (next_in l r slot) slot
     comes_round r slot in_range =
         comes_back (next_in l r) (prev_in l r) (pool.mutual-rings r in_range) l.slots (λ t past. still r t in_range past) slot
+
+    pub comes_round_within : (r slot : ℕ) → r < R → IsHeld s slot → (k : ℕ) × (k < l.slots) × (walked (next_in l r) (suc k) slot ≡ slot)
+    comes_round_within r slot in_range held =
+        comes_back_within (next_in l r) (prev_in l r) (pool.mutual-rings r in_range) l.slots (λ t past. still r t in_range past) slot (pool.covered slot held)
+
+    pub next-one : (r : ℕ) → r < R → (a b : ℕ) → next_in l r a ≡ next_in l r b → a ≡ b
+    next-one r in_range = next-one_to_one (next_in l r) (prev_in l r) (pool.mutual-rings r in_range)
+
+    -- the slot after one with a node has a node
+    pub next-held : (r : ℕ) → r < R → (slot : ℕ) → IsHeld s slot → IsHeld s (next_in l r slot)
+    next-held r in_range slot held = by_cases (node_in s (next_in l r slot)) refl
+      where
+        by_cases : (o : Option (Node T)) → node_in s (next_in l r slot) ≡ o → IsSome (node_in s (next_in l r slot))
+        by_cases None vacant =
+            let alone : next_in l r (next_in l r slot) ≡ next_in l r slot = pool.alone r (next_in l r slot) in_range vacant in
+            let same : next_in l r slot ≡ slot = next-one r in_range (next_in l r slot) slot alone in
+            subst (λ t. IsSome (node_in s t)) (sym same) held
+        by_cases (Some node) found = subst IsSome (sym found) refl
 
     elsewhere-mutual : (new : Links) (r q : ℕ) → SameElsewhere l new r → q < R → q ≢ r → IsMutual (next_in new q) (prev_in new q)
     elsewhere-mutual new r q same in_range apart =

@@ -52,6 +52,7 @@ module _ {T : Type 0} where
       number_or : Option (Node T) → ℕ
       number_or None = 0
       number_or (Some node) = node.number
+
       number-is : (a b : Option (Node T)) → a ≡ b → number_or a ≡ number_or b
       number-is a b e = ap number_or e
 
@@ -66,8 +67,8 @@ module _ {T : Type 0} where
   SameRings-trans first mid last r one two x y = (λ ring. (one x y).0 ((two x y).0 ring), λ ring. (two x y).1 ((one x y).1 ring))
 
   module _ (old new : Nodes T) (r : ℕ) (a b : Key) (live_a : IsLive old a) (live_b : IsLive old b) (same : SameValues old new) (spliced : Splices (next_slot old r) (next_slot new r) a.slot b.slot)
-    (a_back : Reaches (next_slot old r) (next_slot old r a.slot) a.slot) (b_back : Reaches (next_slot old r) (next_slot old r b.slot) b.slot)
-    (a_to_b : Reaches (next_slot old r) a.slot b.slot → ⊥) (b_to_a : Reaches (next_slot old r) b.slot a.slot → ⊥) where
+      (a_back : Reaches (next_slot old r) (next_slot old r a.slot) a.slot) (b_back : Reaches (next_slot old r) (next_slot old r b.slot) b.slot)
+      (a_to_b : Reaches (next_slot old r) a.slot b.slot → ⊥) (b_to_a : Reaches (next_slot old r) b.slot a.slot → ⊥) where
     abbrev p : ℕ → ℕ
     p = next_slot old r
 

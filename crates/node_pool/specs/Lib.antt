@@ -4,6 +4,7 @@ pub mod Links
 pub mod Nodes
 pub mod Pool
 pub mod PoolLends
+pub mod RingKeys
 pub mod Row
 pub mod RowLends
 pub mod Slots

@@ -35,6 +35,19 @@ module _ {T : Type 0} where
   abbrev pub node_at : Nodes T → ℕ → Option (Node T)
   node_at n slot = slice_index_or n.slots slot None
 
+  -- the number of a node, if it is one
+  abbrev pub number_of : Option (Node T) → ℕ
+  number_of None = 0
+  number_of (Some node) = node.number
+
+  -- the key of the node in a slot
+  abbrev pub key_in : Nodes T → ℕ → Key
+  key_in n slot = record { slot = slot; number = number_of (node_at n slot) }
+
+  -- a slot has a node
+  abbrev pub HasNode : Nodes T → ℕ → Type 0
+  HasNode n slot = IsSome (node_at n slot)
+
   -- the value that a key has
   abbrev pub value_at : Nodes T → Key → Option T
   value_at n key = numbered key.number (node_at n key.slot)

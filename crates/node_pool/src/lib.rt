@@ -3,7 +3,9 @@
 
 mod places;
 mod pool;
+mod ring;
 mod rings;
 mod store;
 
 pub use pool::{Key, Pool, PoolFault};
+pub use ring::Ring;

@@ -2,8 +2,9 @@
 ghost use Rattle.std.specs.Prelude.{◌≡◌, ◌≢◌, ◌+◌, ◌-◌, ◌<◌, ◌≤◌, ◌^◌, ◌↔◌, ℕ, [], Some, None, Err, IsTrue, OnOk, OnSome, IfNone, option_copied};
 ghost use Rattle.std.specs.Option.{option_copied_mut};
 ghost use Rattle.std.specs.Borrow.{sem};
-ghost use Rattle.node_pool.specs.Nodes.{Nodes, value_at, IsLive, IsSpent, IsNext, live_count, SameRing, SameValues, SameCounts, SameRings, Updates, PartsFrom, UnitesRings};
+ghost use Rattle.node_pool.specs.Nodes.{Nodes, value_at, IsLive, IsSpent, IsNext, live_count, SameRing, SameValues, SameCounts, SameRings, Updates, PartsFrom, UnitesRings, HasNode, key_in, next_slot};
 
+use crate::ring::Ring;
 use crate::rings::Rings;
 use crate::store::Store;
 use std::alloc::{AllocError, Global};
@@ -222,5 +223,45 @@ impl<T, const R: usize> Pool<T, R> {
         ensures others { (q : ℕ) → q < R → q ≢ r → SameRings self.old self.new q }
     {
         self.rings.cut(r, a.slot);
+    }
+
+    // The key of the node in the slot, and the slot after it in a partition.
+    pub(crate) fn step(&self, r: usize, slot: u32) -> (Key, u32)
+        requires r_in_range { r < R }
+        requires held { HasNode self.now slot }
+        ensures key { result.0 ≡ key_in self.now slot }
+        ensures next { result.1 ≡ next_slot self.now r slot }
+        ensures held { HasNode self.now result.1 }
+    {
+        let next = self.rings.neighbours(r, slot).next;
+        match self.nodes.get(slot as usize) {
+            Some(node) => {
+                let key = Key {
+                    slot,
+                    number: node.number,
+                };
+                (key, next)
+            }
+            None => unreachable!(),
+        }
+    }
+}
+
+impl<T, const R: usize> Pool<T, R> {
+    ghost use Rattle.node_pool.specs.RingKeys.{ring_keys, IsRing};
+
+    /// The keys of the ring of `a` in the `r`-th partition, each once, `a` first.
+    pub fn ring(&self, r: usize, a: Key) -> Ring<'_, T, R>
+        requires r_in_range { r < R }
+        requires live { IsLive self.now a }
+        ensures { IsRing self.now r a (ring_keys result) }
+    {
+        Ring {
+            pool: self,
+            r,
+            first: a.slot,
+            slot: a.slot,
+            left: self.rings.slots(),
+        }
     }
 }
