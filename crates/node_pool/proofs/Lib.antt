@@ -1,3 +1,6 @@
+pub mod CellCrosses
+pub mod CellMemory
+pub mod CellSharing
 pub mod Cycles
 pub mod EntryLemmas
 pub mod Joins

@@ -1,3 +1,6 @@
+pub mod CellLends
+pub mod CellOwnership
+pub mod CellPlaces
 pub mod Cycles
 pub mod Entry
 pub mod Links
