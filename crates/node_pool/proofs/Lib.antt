@@ -1,3 +1,4 @@
+pub mod BlockLemmas
 pub mod CellCrosses
 pub mod CellMemory
 pub mod CellSharing

@@ -1,3 +1,6 @@
+pub mod Block
+pub mod BlockLends
+pub mod Chunk
 pub mod CellLends
 pub mod CellOwnership
 pub mod CellPlaces

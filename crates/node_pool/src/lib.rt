@@ -1,6 +1,7 @@
 //! A pool of nodes that never move, each under a key of its own, with rings among the nodes.
 #![tactic(auto)]
 
+mod block;
 mod cells;
 mod places;
 mod pool;
