@@ -1,3 +1,5 @@
+pub mod PlacesLemmas
+pub mod LaidLemmas
 pub mod BlockLemmas
 pub mod CellCrosses
 pub mod CellMemory

@@ -6,8 +6,10 @@ pub mod CellOwnership
 pub mod CellPlaces
 pub mod Cycles
 pub mod Entry
+pub mod Laid
 pub mod Links
 pub mod Nodes
+pub mod Places
 pub mod Pool
 pub mod PoolLends
 pub mod RingKeys

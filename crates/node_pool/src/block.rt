@@ -1,5 +1,5 @@
 //! A block of raw memory that never moves, with items in its first places.
-ghost use Rattle.std.specs.Prelude.{◌≡◌, ◌+◌, ◌<◌, ◌≤◌, ◌++◌, ◌∷◌, [], ◌^◌, length, slice_get, IfOk, Some};
+ghost use Rattle.std.specs.Prelude.{◌≡◌, ◌+◌, ◌<◌, ◌≤◌, ◌++◌, ◌∷◌, [], ◌^◌, length, slice_get, IfOk, Some, IsTrue, ◌↔◌};
 ghost use Rattle.std.specs.Borrow.{sem};
 ghost use Rattle.node_pool.specs.Chunk.{chunk};
 
@@ -38,7 +38,8 @@ impl<S> Block<S> {
 
     /// A block with room for so many items.
     pub(crate) fn with_capacity(alloc: Global, capacity: usize) -> Result<Self, AllocError>
-        ensures { IfOk result (λ b. b ≡ chunk [] capacity) }
+        ensures made { IfOk result (λ b. b ≡ chunk [] capacity) }
+        ensures small { IfOk result (λ _. capacity < 2 ^ 63) }
     {
         if !may_hold::<S>(capacity) {
             return Err(AllocError);
@@ -60,6 +61,13 @@ impl<S> Block<S> {
         ensures within { result ≤ self.now.capacity }
     {
         self.len
+    }
+
+    /// Whether there is no room for one more item.
+    pub(crate) fn is_full(&self) -> bool
+        ensures { IsTrue result ↔ (length self.now.items ≡ self.now.capacity) }
+    {
+        self.len == self.capacity
     }
 
     /// Puts an item into the first empty place.

@@ -1,30 +1,61 @@
-//! A row of items that grows by doubling.
-ghost use Rattle.std.specs.Prelude.{◌≡◌, ◌+◌, ◌-◌, ◌*◌, ◌<◌, ◌≤◌, ◌++◌, ◌∷◌, [], length, slice_get, slice_set, OnOk, OnErr, ◌^◌, Some};
+//! A row of items in blocks of raw memory, each with twice the room of the one before. No item ever moves.
+ghost use Rattle.std.specs.Prelude.{◌≡◌, ◌+◌, ◌-◌, ◌*◌, ◌<◌, ◌≤◌, ◌++◌, ◌∷◌, [], length, slice_get, OnOk, OnErr, ◌^◌, Some};
 ghost use Rattle.std.specs.Borrow.{sem};
 ghost use Rattle.node_pool.specs.Row.{Row, row, with_item, grown};
+ghost use Rattle.node_pool.specs.Laid.{next_open};
 
+use crate::block::Block;
 use std::alloc::{AllocError, Global};
 use std::marker::Model;
 
 /// Items side by side, `width` of them for each slot, and room for more.
 #[derive(Drop)]
 pub(crate) struct Places<S> {
-    items: Vec<S>,
+    // Block k has room for 2^k slots.
+    blocks: Vec<Block<S>>,
+    // How many blocks are full for certain: the next item goes into the block behind them, or behind that where it
+    // is full too.
+    full: usize,
     room: usize,
     width: usize,
+    alloc: Global,
 }
 
 impl<S> Model for Places<S> {
-    ghost use Rattle.std.specs.Prelude.{◌≤◌, ◌<◌, ◌*◌, ◌^◌, length, vec_capacity};
     ghost use Rattle.node_pool.specs.Row.{Row, row, row_code};
 
     ghost Value = { Row S };
 
     ghost coded = { row_code S.code };
 
-    ghost view = { λ p. row p.items.items p.room p.width };
+    ghost use Rattle.node_pool.specs.Laid.{flat};
+    ghost use Rattle.node_pool.specs.Places.{ArePlaces};
 
-    ghost invariant = { λ p. (length p.items.items ≤ p.room * p.width) × (p.room * p.width ≤ vec_capacity p.items) × (p.room < 2 ^ 32) };
+    ghost view = { λ p. row (flat p.blocks.items) p.room p.width };
+
+    ghost invariant = { λ p. ArePlaces p };
+}
+
+// The block of a slot, and its place there.
+fn locate(slot: usize) -> (usize, usize)
+    requires { slot < 2 ^ 32 }
+    ensures place { slot + 1 ≡ 2 ^ result.0 + result.1 }
+    ensures within { result.1 < 2 ^ result.0 }
+{
+    let number = slot + 1;
+    let block = number.ilog2() as usize;
+    (block, number - (1 << block))
+}
+
+// The block that takes the next item: the one behind the full ones, or the next where it is full too.
+fn next_block<S>(blocks: &[Block<S>], full: usize) -> usize
+    requires { full < length blocks.now }
+    ensures { result ≡ next_open blocks.now full }
+{
+    if blocks[full].is_full() {
+        return full + 1;
+    }
+    full
 }
 
 impl<S> Places<S> {
@@ -35,18 +66,12 @@ impl<S> Places<S> {
         ensures { result ≡ row [] 0 width }
     {
         Places {
-            items: Vec::new(alloc),
+            blocks: Vec::new(alloc),
+            full: 0,
             room: 0,
             width,
+            alloc,
         }
-    }
-
-    /// The number of items.
-    pub(crate) fn len(&self) -> usize
-        ensures len { result ≡ length self.now.items }
-        ensures within { (result ≤ self.now.room * self.now.width) × (self.now.room < 2 ^ 32) }
-    {
-        self.items.len()
     }
 
     /// How many slots there is room for in all.
@@ -64,12 +89,14 @@ impl<S> Places<S> {
         ensures ok { OnOk result (self.new.room ≡ grown self.old.room) }
         ensures err { OnErr result (self.new ≡ self.old) }
     {
-        let room = (2 * self.room + 1).min(0xffff_ffff);
-        let Some(len) = room.checked_mul(self.width) else {
+        let slots = self.room + 1;
+        let Some(capacity) = slots.checked_mul(self.width) else {
             return Err(AllocError);
         };
-        self.items.reserve_exact(len - self.items.len())?;
-        self.room = room;
+        self.blocks.reserve(1)?;
+        let block = Block::with_capacity(self.alloc, capacity)?;
+        self.blocks.push_reserved(block);
+        self.room += slots;
         Ok(())
     }
 
@@ -78,7 +105,8 @@ impl<S> Places<S> {
         requires { length self.old.items < self.old.room * self.old.width }
         ensures { self.new ≡ row (self.old.items ++ item ∷ []) self.old.room self.old.width }
     {
-        self.items.push_reserved(item);
+        self.full = next_block(self.blocks.as_slice(), self.full);
+        self.blocks[self.full].push(item);
     }
 
     /// The item of the slot, where each has one.
@@ -87,7 +115,9 @@ impl<S> Places<S> {
         requires within { slot < length self.now.items }
         ensures { slice_get self.now.items slot ≡ Some result.now }
     {
-        &self.items[slot]
+        prove!(slot < self.room);
+        let (block, place) = locate(slot);
+        self.blocks[block].get(place)
     }
 
     /// The item of the slot, where each has one, to write to.
@@ -97,7 +127,9 @@ impl<S> Places<S> {
         ensures* writes_back { sem 𝓛 (lends_item S.row self.entry slot result) }
         ensures value { slice_get self.old.items slot ≡ Some result.now }
     {
-        &mut self.items[slot]
+        prove!(slot < self.room);
+        let (block, place) = locate(slot);
+        self.blocks[block].get_mut(place)
     }
 }
 
@@ -108,7 +140,9 @@ impl<S: Copy> Places<S> {
         requires within { slot * self.now.width + column < length self.now.items }
         ensures { slice_get self.now.items (slot * self.now.width + column) ≡ Some result }
     {
-        self.items[slot * self.width + column]
+        prove!(slot < self.room);
+        let (block, place) = locate(slot);
+        *self.blocks[block].get(place * self.width + column)
     }
 
     /// Replaces the item of the slot in a column.
@@ -117,7 +151,8 @@ impl<S: Copy> Places<S> {
         requires within { slot * self.old.width + column < length self.old.items }
         ensures { self.new ≡ with_item self.old (slot * self.old.width + column) item }
     {
-        let index = slot * self.width + column;
-        self.items[index] = item;
+        prove!(slot < self.room);
+        let (block, place) = locate(slot);
+        *self.blocks[block].get_mut(place * self.width + column) = item;
     }
 }

@@ -14,9 +14,11 @@ use std::mem;
 #[derive(Drop)]
 pub(crate) struct Store<N> {
     entries: Places<Entry<N>>,
+    // How many entries there are.
+    end: usize,
     // How many entries hold a node.
     len: usize,
-    // The first of the vacant entries, or the number of entries where none is vacant.
+    // The first of the vacant entries, or `end` where none is vacant.
     next: usize,
 }
 
@@ -28,7 +30,7 @@ enum Entry<N> {
 }
 
 impl<N> Model for Store<N> {
-    ghost use Rattle.std.specs.Prelude.{map, ◌≡◌};
+    ghost use Rattle.std.specs.Prelude.{map, length, ◌≡◌, ◌≤◌, ◌<◌, ◌^◌};
     ghost use Rattle.node_pool.specs.Slots.{Slots, slots_code};
 
     ghost Value = { Slots N };
@@ -39,7 +41,8 @@ impl<N> Model for Store<N> {
 
     ghost view = { λ s. record { slots = map node_of s.entries.items; room = s.entries.room } };
 
-    ghost invariant = { λ s. IsSound s.entries.items s.len s.next × (s.entries.width ≡ 1) };
+    ghost invariant = { λ s. IsSound s.entries.items s.len s.next × (s.entries.width ≡ 1) × (s.end ≡ length s.entries.items)
+      × (s.end ≤ s.entries.room) × (s.entries.room < 2 ^ 32) };
 }
 
 impl<N> Entry<N> {
@@ -67,6 +70,7 @@ impl<N> Store<N> {
     {
         Store {
             entries: Places::new(alloc, 1),
+            end: 0,
             len: 0,
             next: 0,
         }
@@ -100,7 +104,7 @@ impl<N> Store<N> {
     pub(crate) fn get(&self, slot: usize) -> Option<&N>
         ensures { option_copied result ≡ node_in self.now slot }
     {
-        if slot >= self.entries.len() {
+        if slot >= self.end {
             return None;
         }
         match self.entries.at(slot) {
@@ -126,10 +130,11 @@ impl<N> Store<N> {
         ensures len { held_count self.new ≡ held_count self.old + 1 }
         ensures in_range { result < self.new.room }
     {
-        let (slot, end) = (self.next, self.entries.len());
+        let slot = self.next;
         self.len += 1;
-        if slot == end {
+        if slot == self.end {
             self.entries.push(Entry::Held(node));
+            self.end += 1;
             self.next = slot + 1;
             return slot;
         }

@@ -16,7 +16,10 @@ invariant_of-result g c =
       count = rw new.items (refl, omega arith, fits);
     }
 
-pub returns : goal.returns
-returns g c =
+pub returns-clause-made : goal.returns-clause-made
+returns-clause-made g c =
     let new = Filled-none c.in_ok-base.cells.slots c.args.capacity c.in_ok-base.ensures.1 in
     ap (λ ys. chunk ys c.args.capacity) new.items
+
+pub returns-clause-small : goal.returns-clause-small
+returns-clause-small g c = (c.may_hold.ensures (grind (arith, common_steps))).1

@@ -1,4 +1,4 @@
-use Rattle.std.proofs.Common.{◌≡◌, ℕ, ◌<◌, ◌≤◌, length, Some, sym, ap, ◌∙◌, arith, refl}
+use Rattle.std.proofs.Common.{◌≡◌, ℕ, ◌<◌, ◌≤◌, length, Some, sym, ap, ◌∙◌, arith, refl, length-set}
 use Rattle.std.proofs.lemmas.List.{map-set, map_push, length-map, length_push}
 use Rattle.node_pool.specs.declared.store.Entry.TheVariants.{Vacant, Held}
 use Rattle.node_pool.specs.Entry.{node_of}
@@ -9,45 +9,49 @@ use Rattle.node_pool.proofs.store.Store.insert.Goals as goal
 pub overflow_add-self : goal.overflow_add-self
 overflow_add-self g c =
     let sound = c.self.invariant.0 in
-    let end = rw c.self.invariant.1 at c.len-end.ensures.within in
     let room = rw (← c.self.view_is) at c.requires in
-    omega (arith, sound.counted)
+    omega (arith, sound.counted, c.self.invariant.4)
 
 pub push-requires : goal.push-requires
 push-requires g c =
     let sound = c.self.invariant.0 in
+    let end = c.self.invariant.2 in
     let full = full_at_end _ _ _ sound (omega arith) in
     let room = rw (← c.self.view_is) at c.requires in
     rw c.self.invariant.1 (omega (arith, sound.counted))
 
-pub overflow_add-self-then-slot-end : goal.overflow_add-self-then-slot-end
-overflow_add-self-then-slot-end g c =
-    let end = rw c.self.invariant.1 at c.len-end.ensures.within in
-    omega arith
-
 pub invariant_of-self : goal.invariant_of-self
-invariant_of-self g c = rw c.push.ensures (IsSound-push _ _ _ c.args.node c.self.invariant.0 (omega arith), c.self.invariant.1)
-
-pub returns-then-slot-end-clause-in_range : goal.returns-then-slot-end-clause-in_range
-returns-then-slot-end-clause-in_range g c =
+invariant_of-self g c =
     let sound = c.self.invariant.0 in
+    let end = c.self.invariant.2 in
+    let full = full_at_end _ _ _ sound (omega arith) in
+    let room = rw (← c.self.view_is) at c.requires in
+    let longer = length_push c.self.inside.entries.items (Held c.args.node) in
+    rw c.push.ensures (IsSound-push _ _ _ c.args.node sound (omega arith), c.self.invariant.1, omega arith, omega (arith, sound.counted), c.self.invariant.4)
+
+pub returns-then-slot-self-clause-in_range : goal.returns-then-slot-self-clause-in_range
+returns-then-slot-self-clause-in_range g c =
+    let sound = c.self.invariant.0 in
+    let end = c.self.invariant.2 in
     let full = full_at_end _ _ _ sound (omega arith) in
     let room = rw (← c.self.view_is) at c.requires in
     rw c.push.ensures (omega (arith, sound.counted))
 
 pub at_mut-requires : goal.at_mut-requires
-at_mut-requires g c = omega (arith, next_within _ _ _ c.self.invariant.0 (λ e. omega arith))
+at_mut-requires g c = let end = c.self.invariant.2 in omega (arith, next_within _ _ _ c.self.invariant.0 (λ e. omega arith))
 
 pub invariant_of-self-in-Vacant : goal.invariant_of-self-in-Vacant
 invariant_of-self-in-Vacant g c =
     let read = c.at_mut.ensures.value ∙ ap Some (sym c.replace.ensures.value ∙ c.in-Vacant.is) in
-    rw c.replace.ensures.after (IsSound-fill _ _ _ _ c.args.node c.self.invariant.0 read, c.self.invariant.1)
+    let same = length-set c.self.inside.entries.items c.self.inside.next (Held c.args.node) in
+    rw c.replace.ensures.after (IsSound-fill _ _ _ _ c.args.node c.self.invariant.0 read, c.self.invariant.1, omega (arith, c.self.invariant.2), c.self.invariant.3, c.self.invariant.4)
 
 pub returns-clause-was_vacant : goal.returns-clause-was_vacant
 returns-clause-was_vacant g c = rw (← c.self.view_is) (next_is_vacant _ _ _ c.self.invariant.0)
 
 pub returns-clause-updates : goal.returns-clause-updates
 returns-clause-updates g c =
+    let end = c.self.invariant.2 in
     let within = next_within _ _ _ c.self.invariant.0 (λ e. omega arith) in
     rw (← c.self.view_is) (Updates-set _ _ _ _ (omega (arith, length-map c.self.inside.entries.items node_of)) (rw (c.replace.ensures.after, map-set) refl) refl)
 
@@ -59,5 +63,5 @@ returns-clause-len g c =
 
 pub returns-clause-in_range : goal.returns-clause-in_range
 returns-clause-in_range g c =
-    let end = rw c.self.invariant.1 at c.len-end.ensures.within in
-    omega (arith, next_within _ _ _ c.self.invariant.0 (λ e. omega arith))
+    let end = c.self.invariant.2 in
+    omega (arith, c.self.invariant.3, next_within _ _ _ c.self.invariant.0 (λ e. omega arith))

@@ -1,4 +1,4 @@
-use Rattle.std.proofs.Common.{◌≡◌, arith, sym, ap, refl, length, None, Some, get_or, ◌∙◌, slice_get}
+use Rattle.std.proofs.Common.{◌≡◌, arith, sym, ap, refl, length, None, Some, get_or, ◌∙◌, slice_get, length-set}
 use Rattle.std.proofs.lemmas.List.{map-set, length-map, get_or-map}
 use Rattle.std.proofs.lemmas.Option.{slice_get_within, get_or_from_slice_get}
 use Rattle.node_pool.specs.declared.store.Entry.TheVariants.{Vacant, Held}
@@ -10,7 +10,8 @@ use Rattle.node_pool.proofs.store.Store.remove.Goals as goal
 pub invariant_of-self : goal.invariant_of-self
 invariant_of-self g c =
     let found = held_at c.self.inside.entries.items c.args.slot (rw (← c.self.view_is) at c.requires) in
-    rw c.replace.ensures.after (IsSound-vacate _ _ _ c.args.slot found.0 c.self.invariant.0 found.1, c.self.invariant.1)
+    let same = length-set c.self.inside.entries.items c.args.slot (Vacant c.self.inside.next) in
+    rw c.replace.ensures.after (IsSound-vacate _ _ _ c.args.slot found.0 c.self.invariant.0 found.1, c.self.invariant.1, omega (arith, c.self.invariant.2), c.self.invariant.3, c.self.invariant.4)
 
 pub unreachable-requires : goal.unreachable-requires
 unreachable-requires g c =
