@@ -1,8 +1,8 @@
 -- What exchanging two steps, and cutting out one number, do to the cycles of a permutation.
-use Rattle.std.proofs.Common.{◌≡◌, ◌≢◌, ◌⊎◌, ℕ, zero, suc, ◌+◌, ◌<◌, ◌≤◌, refl, sym, ap, subst, ◌∙◌, inl, inr, arith}
+use Rattle.std.proofs.Common.{◌≡◌, ◌≢◌, ◌⊎◌, ℕ, zero, suc, ◌≤◌, refl, sym, ap, subst, ◌∙◌, inl, inr, arith}
 use Rattle.std.proofs.lemmas.Bool.{cases_eq}
 use Rattle.node_pool.specs.Cycles.{walked, Reaches, IsMutual, Splices, Cuts}
-use Rattle.node_pool.proofs.Cycles.{walked-suc, Reaches-step, Reaches-before, Reaches-trans, next-one_to_one, prev-one_to_one}
+use Rattle.node_pool.proofs.Cycles.{walked-suc, Reaches-step, Reaches-before, Reaches-trans, next-one_to_one}
 
 -- x leads to y, or the one leads to a and b to the other, or the one to b and a to the other
 abbrev pub Unites : (ℕ → ℕ) → ℕ → ℕ → ℕ → ℕ → Type 0

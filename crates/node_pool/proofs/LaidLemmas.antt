@@ -1,7 +1,6 @@
 -- What a read, a write, one more item and one more block do to the items of a row's blocks.
 use Rattle.std.proofs.Common.{◌≡◌, ℕ, zero, suc, ◌+◌, ◌-◌, ◌*◌, ◌^◌, ◌<◌, ◌≤◌, List, [], ◌∷◌, ◌++◌, length, set, slice_get, Option, Some, None, refl, sym, ap, ◌∙◌, subst, arith, append_assoc, append-nil}
 use Rattle.std.proofs.lemmas.List.{length-append, length_push}
-use Rattle.std.proofs.lemmas.Nat.{mul-add-lt}
 use Rattle.std.proofs.Math.Nat.{mul-le-mul_right, add-mul, pow-suc}
 use Rattle.std.proofs.Math.Pow.{pow_mono}
 use Rattle.node_pool.specs.Chunk.{Chunk, chunk}
@@ -112,6 +111,7 @@ module _ {S : Type 0} where
       count_or : Option (Chunk S) → ℕ
       count_or None = 0
       count_or (Some b) = length b.items
+
       items-of : (a b : Option (Chunk S)) → a ≡ b → count_or a ≡ count_or b
       items-of a b e = ap count_or e
   empty-rewritten k w (c ∷ bs) empty (suc j) b x found inside = empty-rewritten (k + 1) w bs empty.2 j b x found inside

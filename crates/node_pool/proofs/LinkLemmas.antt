@@ -1,5 +1,5 @@
 -- What a new link, a pair of them, and new slots do to the links.
-use Rattle.std.proofs.Common.{◌≡◌, ◌≢◌, ◌⊎◌, ℕ, zero, suc, ◌+◌, ◌*◌, ◌-◌, ◌<◌, ◌≤◌, List, [], ◌∷◌, ◌++◌, length, get_or, set, replicate, refl, sym, ap, subst, ◌∙◌, inl, inr, arith, Bool, true, false, leb}
+use Rattle.std.proofs.Common.{◌≡◌, ◌≢◌, ◌⊎◌, ℕ, ◌+◌, ◌*◌, ◌-◌, ◌<◌, ◌≤◌, List, ◌++◌, length, get_or, replicate, refl, sym, ap, subst, ◌∙◌, inl, inr, arith, true, false, leb}
 use Rattle.std.proofs.lemmas.Bool.{cases_eq}
 use Rattle.std.proofs.lemmas.Bool.Decides.{leb_tells}
 use Rattle.std.proofs.lemmas.Nat.{same_from_place}
@@ -8,7 +8,7 @@ use Rattle.std.proofs.Math.Nat.{mul-le-mul_right}
 use Rattle.std.proofs.Math.ListN.{get_or-append, length-replicate}
 use Rattle.node_pool.specs.Cycles.{Cuts}
 use Rattle.node_pool.specs.declared.rings.Link.{Link}
-use Rattle.node_pool.specs.Links.{Links, self_link, link_of, next_in, prev_in, with_link, SameLinks, Connects, SameElsewhere, IsCut, IsJoined}
+use Rattle.node_pool.specs.Links.{Links, self_link, link_of, next_in, prev_in, with_link, Connects, SameElsewhere, IsCut, IsJoined}
 
 module _ (l : Links) (r slot : ℕ) (link : Link) (within : slot * l.width + r < length l.links) where
   pub link_of-set_same : link_of (with_link l r slot link) r slot ≡ link

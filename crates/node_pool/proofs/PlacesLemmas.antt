@@ -1,15 +1,15 @@
 -- Where the blocks of a row have the item of a slot, and room for one more.
-use Rattle.std.proofs.Common.{◌≡◌, ℕ, ◌+◌, ◌-◌, ◌*◌, ◌^◌, ◌<◌, ◌≤◌, List, [], ◌∷◌, ◌++◌, length, set, slice_get, Option, Some, zero, suc, cond, refl, sym, ap, ◌∙◌, subst, inl, inr, arith}
+use Rattle.std.proofs.Common.{◌≡◌, ℕ, ◌+◌, ◌*◌, ◌^◌, ◌<◌, ◌≤◌, List, [], ◌∷◌, ◌++◌, length, set, slice_get, Option, Some, zero, suc, cond, refl, sym, ap, ◌∙◌, subst, inl, inr, arith}
 use Rattle.std.proofs.lemmas.Nat.{mul-add-lt}
 use Rattle.std.proofs.lemmas.List.{length_push}
 use Rattle.std.proofs.Math.Nat.{mul-le-mul_right, add-mul, mul_comm, pow-suc, mul-lt-mul_of_pos_right}
-use Rattle.std.proofs.Math.Pow.{pow_mono, pow-lt, pow_pos}
+use Rattle.std.proofs.Math.Pow.{pow_mono, pow_pos}
 use Rattle.std.proofs.lemmas.Bool.Decides.{leb_tells, eqb_tells}
 use Rattle.node_pool.specs.Chunk.{Chunk, chunk}
 use Rattle.node_pool.specs.Laid.{flat, AreLaid, is_full_block, next_open}
 use Rattle.node_pool.specs.Places.{ArePlaces}
 use Rattle.node_pool.specs.declared.places.Places.TheInside.{Inside}
-use Rattle.node_pool.proofs.LaidLemmas.{Found, find, flat-bounded, Rewritten, rewrite, Open, open_block, Advanced, advance, Pushed, push, more-laid, flat-more}
+use Rattle.node_pool.proofs.LaidLemmas.{Found, find, flat-bounded, Rewritten, rewrite, Open, open_block, advance, more-laid}
 
 module _ {S : Type 0} (p : Inside S) (are : ArePlaces p) where
   abbrev bs : List (Chunk S)

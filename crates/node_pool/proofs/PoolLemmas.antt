@@ -1,18 +1,17 @@
 -- How each change of the nodes and the links keeps a pool.
-use Rattle.std.proofs.Common.{◌≡◌, ◌≢◌, ◌⊎◌, ℕ, zero, suc, ◌+◌, ◌-◌, ◌*◌, ◌<◌, ◌≤◌, ◌^◌, List, [], ◌∷◌, map, get_or, Option, Some, None, IsSome, is_some, refl, sym, ap, subst, ◌∙◌, inl, inr, arith, true≢false, min}
+use Rattle.std.proofs.Common.{◌≡◌, ◌≢◌, ◌⊎◌, ℕ, zero, suc, ◌+◌, ◌*◌, ◌<◌, ◌≤◌, ◌^◌, List, [], ◌∷◌, map, get_or, Option, Some, None, IsSome, is_some, refl, sym, ap, subst, ◌∙◌, inl, inr, arith, true≢false}
 use Rattle.std.proofs.lemmas.Bool.{cases_eq}
-use Rattle.std.proofs.lemmas.Bool.Decides.{leb_tells}
 use Rattle.node_pool.specs.Cycles.{walked, Reaches, IsMutual, Splices, Cuts}
 use Rattle.node_pool.proofs.Cycles.{comes_back, comes_back_within, next-below, next-one_to_one, Reaches-sym}
 use Rattle.node_pool.proofs.Joins.{mutual_spliced, mutual_cut}
 use Rattle.node_pool.specs.Row.{grown}
 use Rattle.node_pool.specs.Slots.{Slots, node_in, IsHeld, held_count, Updates}
-use Rattle.node_pool.specs.Links.{Links, self_link, link_of, next_in, prev_in, SameLinks, SameElsewhere, IsCut, IsJoined}
+use Rattle.node_pool.specs.Links.{Links, self_link, next_in, prev_in, SameLinks, SameElsewhere, IsCut, IsJoined}
 use Rattle.node_pool.proofs.LinkLemmas.{IsCutAll}
 use Rattle.node_pool.specs.declared.rings.Link.{Link}
 use Rattle.node_pool.specs.declared.pool.Key.{Key}
 use Rattle.node_pool.specs.declared.pool.Node.{Node}
-use Rattle.node_pool.specs.Nodes.{Nodes, numbered, value_at, IsLive, next_slot, SameRing, SameRings, PartsFrom, UnitesRings}
+use Rattle.node_pool.specs.Nodes.{numbered, value_at, IsLive, next_slot, SameRing, SameRings, PartsFrom, UnitesRings}
 use Rattle.node_pool.specs.Pool.{next_of, nodes_of, IsPool}
 use Rattle.node_pool.proofs.RingLemmas.{numbered-some, numbered-other, SameRings-of, UnitesRings-of, PartsFrom-cut, PartsFrom-fresh}
 

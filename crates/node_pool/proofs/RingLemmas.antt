@@ -1,6 +1,5 @@
 -- What a change of steps does to the rings that a contract sees.
-use Rattle.std.proofs.Common.{◌≡◌, ◌≢◌, ◌⊎◌, ◌↔◌, ℕ, zero, suc, ◌+◌, ◌*◌, ◌<◌, Bool, true, false, List, Option, Some, None, IsSome, refl, sym, ap, subst, ◌∙◌, inl, inr, cond, nat_eq, true≢false}
-use Rattle.std.proofs.lemmas.Bool.{cases_eq}
+use Rattle.std.proofs.Common.{◌≡◌, ◌≢◌, ◌⊎◌, ℕ, zero, suc, Option, Some, None, IsSome, refl, sym, ap, subst, ◌∙◌, inl, inr, cond, true≢false}
 use Rattle.std.proofs.lemmas.Bool.Decides.{eqb_tells}
 use Rattle.node_pool.specs.Cycles.{walked, Reaches, IsMutual, Splices, Cuts}
 use Rattle.node_pool.proofs.Joins.{Unites, Unites-from_joined, joined-from_Unites, uncut, recut, cut_alone}

@@ -1,5 +1,5 @@
 -- What a write of one slot does to a store.
-use Rattle.std.proofs.Common.{◌≡◌, ◌≢◌, ℕ, ◌<◌, length, set, Option, None, arith}
+use Rattle.std.proofs.Common.{◌≡◌, ℕ, ◌<◌, length, set, Option, None, arith}
 use Rattle.std.proofs.lemmas.List.{get_or-set_same, get_or-set_other, get_or_past}
 use Rattle.node_pool.specs.Slots.{Slots, IsHeld, Updates}
 

@@ -1,15 +1,15 @@
 -- A walk along a ring gives each of its keys once.
-use Rattle.std.proofs.Common.{◌≡◌, ◌≢◌, ◌⊎◌, ◌↔◌, ℕ, zero, suc, ◌+◌, ◌-◌, ◌*◌, ◌<◌, ◌≤◌, Bool, true, false, List, [], ◌∷◌, length, get_or, slice_get, Option, Some, None, IsSome, refl, sym, ap, subst, ◌∙◌, inl, inr, arith, cond, nat_eq, true≢false, Contains}
+use Rattle.std.proofs.Common.{◌≡◌, ◌≢◌, ℕ, zero, suc, ◌+◌, ◌-◌, ◌<◌, ◌≤◌, List, [], ◌∷◌, length, get_or, slice_get, Option, Some, None, IsSome, refl, sym, ap, subst, ◌∙◌, inl, inr, arith, cond, true≢false}
 use Rattle.std.proofs.lemmas.Bool.{cases_eq}
 use Rattle.std.proofs.lemmas.Bool.Decides.{eqb_tells, leb_tells}
 use Rattle.std.proofs.lemmas.Option.{slice_get_within, get_or_from_slice_get}
-use Rattle.node_pool.specs.Cycles.{walked, Reaches}
-use Rattle.node_pool.proofs.Cycles.{walked-suc, walked-add}
+use Rattle.node_pool.specs.Cycles.{walked}
+use Rattle.node_pool.proofs.Cycles.{walked-add}
 use Rattle.node_pool.specs.declared.pool.Key.{Key}
 use Rattle.node_pool.specs.declared.pool.Node.{Node}
-use Rattle.node_pool.specs.Nodes.{Nodes, numbered, number_of, node_at, key_in, HasNode, value_at, IsLive, next_slot, SameRing}
+use Rattle.node_pool.specs.Nodes.{Nodes, numbered, number_of, node_at, key_in, HasNode, IsLive, next_slot}
 use Rattle.node_pool.specs.RingKeys.{keys_from, IsRing}
-use Rattle.node_pool.proofs.RingLemmas.{numbered-some, numbered-same, key-unique}
+use Rattle.node_pool.proofs.RingLemmas.{numbered-some, numbered-same}
 
 module _ {T : Type 0} (n : Nodes T) (r : ℕ) where
   abbrev f : ℕ → ℕ

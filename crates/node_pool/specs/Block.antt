@@ -1,5 +1,5 @@
 -- How a block holds its items.
-use Rattle.std.specs.Prelude.{◌≡◌, ℕ, ◌<◌, ◌≤◌, ◌^◌, List, length}
+use Rattle.std.specs.Prelude.{◌≡◌, ◌<◌, ◌≤◌, ◌^◌, length}
 use Rattle.node_pool.specs.CellPlaces.{somes, filled}
 use Rattle.node_pool.specs.declared.block.Block.TheInside.{Inside}
 

@@ -1,5 +1,5 @@
 -- What a contract sees of a block.
-use Rattle.std.specs.Prelude.{ℕ, List, slice_set, refl}
+use Rattle.std.specs.Prelude.{ℕ, List, refl}
 use Rattle.std.specs.Coded.{Coded, code_by, coded×, coded_list, coded_ℕ}
 
 -- the items, and how many there is room for

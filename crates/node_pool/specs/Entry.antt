@@ -1,5 +1,5 @@
 -- How a store lays out its entries.
-use Rattle.std.specs.Prelude.{◌≡◌, ℕ, Bool, true, false, zero, suc, ◌+◌, ◌<◌, ◌^◌, List, map, length, Option, Some, None, is_some, IsSome, count_by, slice_get}
+use Rattle.std.specs.Prelude.{◌≡◌, ℕ, zero, suc, ◌+◌, List, map, length, Option, Some, None, is_some, count_by, slice_get}
 use Rattle.node_pool.specs.declared.store.Entry.{Entry}
 use Rattle.node_pool.specs.declared.store.Entry.TheVariants.{Vacant, Held}
 

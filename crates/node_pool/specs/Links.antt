@@ -1,5 +1,5 @@
 -- Links among numbered slots, which go round in rings.
-use Rattle.std.specs.Prelude.{◌≡◌, ◌≢◌, ◌⊎◌, ℕ, ◌+◌, ◌*◌, ◌<◌, List, slice_index_or, slice_set, length, refl}
+use Rattle.std.specs.Prelude.{◌≡◌, ◌≢◌, ℕ, ◌+◌, ◌*◌, ◌<◌, List, slice_index_or, slice_set, refl}
 use Rattle.std.specs.Coded.{Coded, code_by, coded×, coded_list, coded_ℕ}
 use Rattle.node_pool.specs.Cycles.{Splices, Cuts}
 use Rattle.node_pool.specs.declared.rings.Link.{Link}

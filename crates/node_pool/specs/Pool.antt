@@ -1,5 +1,5 @@
 -- How a pool keeps its nodes.
-use Rattle.std.specs.Prelude.{◌≡◌, ◌⊎◌, ℕ, ◌-◌, ◌<◌, ◌≤◌, ◌^◌, List, map, Option, Some, None, min}
+use Rattle.std.specs.Prelude.{◌≡◌, ◌⊎◌, ℕ, ◌-◌, ◌<◌, ◌≤◌, ◌^◌, map, Some, None, min}
 use Rattle.node_pool.specs.Slots.{Slots, node_in, IsHeld, held_count}
 use Rattle.node_pool.specs.Cycles.{IsMutual}
 use Rattle.node_pool.specs.Row.{grown}

@@ -1,5 +1,5 @@
 -- The keys that a walk along a ring gives.
-use Rattle.std.specs.Prelude.{◌≡◌, ◌==◌, ◌+◌, ◌<◌, ◌↔◌, ℕ, zero, suc, List, [], ◌∷◌, Option, Some, None, length, slice_get, Contains, if◌then◌else◌}
+use Rattle.std.specs.Prelude.{◌≡◌, ◌==◌, ◌↔◌, ℕ, zero, suc, List, [], ◌∷◌, Some, slice_get, Contains, if◌then◌else◌}
 use Rattle.node_pool.specs.Nodes.{Nodes, key_in, next_slot, SameRing}
 use Rattle.node_pool.specs.declared.pool.Key.{Key}
 use Rattle.node_pool.specs.declared.ring.Ring.{Ring}

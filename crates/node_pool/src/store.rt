@@ -42,7 +42,7 @@ impl<N> Model for Store<N> {
     ghost view = { λ s. record { slots = map node_of s.entries.items; room = s.entries.room } };
 
     ghost invariant = { λ s. IsSound s.entries.items s.len s.next × (s.entries.width ≡ 1) × (s.end ≡ length s.entries.items)
-      × (s.end ≤ s.entries.room) × (s.entries.room < 2 ^ 32) };
+        × (s.end ≤ s.entries.room) × (s.entries.room < 2 ^ 32) };
 }
 
 impl<N> Entry<N> {

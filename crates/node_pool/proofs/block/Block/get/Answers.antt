@@ -1,5 +1,5 @@
-use Rattle.std.proofs.Common.{◌≡◌, ◌-◌, ◌<◌, length, None, Some, slice_get, get_or, refl, sym, ap, ◌∙◌, subst}
-use Rattle.node_pool.specs.CellPlaces.{somes, filled}
+use Rattle.std.proofs.Common.{◌-◌, ◌<◌, length, None, get_or, sym, ap, ◌∙◌}
+use Rattle.node_pool.specs.CellPlaces.{somes}
 use Rattle.node_pool.proofs.BlockLemmas.{slice_get-some, get_or-places, slice_get-places}
 use Rattle.node_pool.proofs.block.Block.get.Goals as goal
 

@@ -1,5 +1,5 @@
-use Rattle.std.proofs.Common.{◌≡◌, ◌-◌, ◌<◌, length, set, None, Some, slice_get, get_or, refl, sym, ap, ◌∙◌, subst}
-use Rattle.node_pool.specs.CellPlaces.{somes, filled}
+use Rattle.std.proofs.Common.{◌-◌, ◌<◌, length, None, get_or, refl, sym, ap, ◌∙◌}
+use Rattle.node_pool.specs.CellPlaces.{somes}
 use Rattle.node_pool.specs.Chunk.{chunk}
 use Rattle.node_pool.proofs.BlockLemmas.{slice_get-some, get_or-places, slice_get-places, length-set_same, Filled-set}
 use Rattle.node_pool.proofs.block.Block.get_mut.Goals as goal

@@ -1,4 +1,4 @@
-use Rattle.std.proofs.Common.{◌≡◌, ◌+◌, ◌-◌, ◌<◌, ◌≤◌, length, set, None, Some, List, Option, get_or, refl, sym, ap, ◌∙◌, subst, arith, ◌++◌, [], ◌∷◌}
+use Rattle.std.proofs.Common.{◌-◌, ◌<◌, length, None, get_or, sym, ap, ◌∙◌, arith, ◌++◌, [], ◌∷◌}
 use Rattle.std.proofs.lemmas.List.{length_push}
 use Rattle.node_pool.specs.CellPlaces.{somes}
 use Rattle.node_pool.proofs.BlockLemmas.{slice_get-some, get_or-places, Emptied-pop}

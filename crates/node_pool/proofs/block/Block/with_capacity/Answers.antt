@@ -1,6 +1,5 @@
-use Rattle.std.proofs.Common.{◌≡◌, ◌<◌, [], length, refl, sym, ap, ◌∙◌, subst, arith}
+use Rattle.std.proofs.Common.{refl, ap, arith}
 use Rattle.std.proofs.lemmas.Grind.{common_steps}
-use Rattle.node_pool.specs.CellPlaces.{somes}
 use Rattle.node_pool.specs.Chunk.{chunk}
 use Rattle.node_pool.proofs.BlockLemmas.{Filled-none}
 use Rattle.node_pool.proofs.block.Block.with_capacity.Goals as goal

@@ -1,8 +1,6 @@
-use Rattle.std.proofs.Common.{◌≡◌, ◌+◌, ◌*◌, ◌^◌, ◌<◌, ◌≤◌, length, set, slice_get, get_or, Some, refl, sym, ap, ◌∙◌, subst, arith, length-set}
+use Rattle.std.proofs.Common.{◌≡◌, ◌<◌, length, slice_get, sym, ap, ◌∙◌, subst, arith}
 use Rattle.std.proofs.lemmas.Option.{slice_get_within, get_or_from_slice_get}
-use Rattle.node_pool.specs.Chunk.{Chunk, chunk}
-use Rattle.node_pool.specs.Row.{row}
-use Rattle.node_pool.specs.Laid.{flat}
+use Rattle.node_pool.specs.Chunk.{Chunk}
 use Rattle.node_pool.proofs.PlacesLemmas.{found_one, slot-room_one}
 use Rattle.node_pool.proofs.places.Places.at.Goals as goal
 

@@ -1,8 +1,7 @@
-use Rattle.std.proofs.Common.{◌≡◌, ◌+◌, ◌*◌, ◌^◌, ◌<◌, ◌≤◌, length, set, slice_get, get_or, Some, refl, sym, ap, ◌∙◌, subst, arith, length-set}
+use Rattle.std.proofs.Common.{◌≡◌, ◌+◌, ◌*◌, ◌^◌, ◌<◌, length, set, slice_get, Some, refl, sym, ap, ◌∙◌, subst, arith, length-set}
 use Rattle.std.proofs.lemmas.Option.{slice_get_within, get_or_from_slice_get}
 use Rattle.node_pool.specs.Chunk.{Chunk, chunk}
 use Rattle.node_pool.specs.Row.{row}
-use Rattle.node_pool.specs.Laid.{flat}
 use Rattle.node_pool.proofs.PlacesLemmas.{found_one, slot-room_one, ArePlaces-write}
 use Rattle.node_pool.proofs.places.Places.at_mut.Goals as goal
 
@@ -50,8 +49,7 @@ returns g c =
     let same : c.index_mut.result.now ≡ found.block = c.index_mut.ensures.value ∙ get_or_from_slice_get p.blocks.items j found.block c.index_mut.result.now found.at in
     let at : slice_get p.blocks.items j ≡ Some c.index_mut.result.now = found.at ∙ ap Some (sym same) in
     let inside : o < length c.index_mut.result.now.items = subst (λ (b : Chunk g.row.S.Denot). o < length b.items) (sym same) found.within in
-    let spot : c.args.slot + p.width ≡ 2 ^ j * p.width + o = rw width (let place = c.locate-block.ensures.place in omega arith) in
-    (
+    let spot : c.args.slot + p.width ≡ 2 ^ j * p.width + o = rw width (let place = c.locate-block.ensures.place in omega arith) in (
       (refl, λ x. rw (← c.self.view_is) (ap (λ xs. row xs p.room p.width) (ArePlaces-write p c.self.invariant j o c.args.slot spot c.index_mut.result.now at inside x).items)),
       record { writes_back = tt; value = rw (← c.self.view_is) (found.read ∙ ap (λ (b : Chunk g.row.S.Denot). slice_get b.items o) (sym same) ∙ c.get_mut.ensures.value) },
     )

@@ -1,6 +1,5 @@
-use Rattle.std.proofs.Common.{List, ◌≡◌, ◌+◌, ◌*◌, ◌^◌, ◌<◌, ◌≤◌, ◌++◌, ◌∷◌, [], length, set, slice_get, get_or, Some, refl, sym, ap, ◌∙◌, subst, arith, length-set}
-use Rattle.std.proofs.lemmas.Option.{slice_get_within, get_or_from_slice_get}
-use Rattle.node_pool.specs.Chunk.{Chunk, chunk}
+use Rattle.std.proofs.Common.{List, ◌≡◌, ◌+◌, ◌^◌, ◌≤◌, ◌++◌, ◌∷◌, [], length, sym, ap, ◌∙◌, subst, arith}
+use Rattle.node_pool.specs.Chunk.{Chunk}
 use Rattle.node_pool.specs.Row.{row}
 use Rattle.node_pool.specs.Laid.{flat, AreLaid}
 use Rattle.node_pool.proofs.LaidLemmas.{flat-more}

@@ -1,8 +1,7 @@
-use Rattle.std.proofs.Common.{◌≡◌, ◌+◌, ◌*◌, ◌^◌, ◌<◌, ◌≤◌, length, set, slice_get, get_or, Some, refl, sym, ap, ◌∙◌, subst, arith, length-set}
+use Rattle.std.proofs.Common.{◌≡◌, ◌+◌, ◌*◌, ◌<◌, length, set, slice_get, Some, sym, ap, ◌∙◌, subst, arith, length-set}
 use Rattle.std.proofs.lemmas.Option.{slice_get_within, get_or_from_slice_get}
 use Rattle.node_pool.specs.Chunk.{Chunk, chunk}
 use Rattle.node_pool.specs.Row.{row}
-use Rattle.node_pool.specs.Laid.{flat}
 use Rattle.node_pool.proofs.PlacesLemmas.{found as found_at, slot-room, index-of, ArePlaces-write}
 use Rattle.node_pool.proofs.places.Places.set.Goals as goal
 

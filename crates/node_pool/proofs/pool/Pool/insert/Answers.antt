@@ -1,4 +1,4 @@
-use Rattle.std.proofs.Common.{◌≡◌, IsSome, refl, sym, ap, subst, ◌∙◌, arith}
+use Rattle.std.proofs.Common.{IsSome, refl, sym, ap, subst, ◌∙◌, arith}
 use Rattle.node_pool.specs.Slots.{node_in}
 use Rattle.node_pool.specs.Nodes.{numbered}
 use Rattle.node_pool.specs.declared.pool.Key.{Key}

@@ -1,4 +1,4 @@
-use Rattle.std.proofs.Common.{◌≡◌, ◌≢◌, refl}
+use Rattle.std.proofs.Common.{◌≢◌, refl}
 use Rattle.node_pool.proofs.PoolLemmas.{IsHeld-of_live, apart-steps, elsewhere-next, IsPool-join, unites_join, same_rings}
 use Rattle.node_pool.proofs.pool.Pool.join_rings.Goals as goal
 

@@ -1,4 +1,4 @@
-use Rattle.std.proofs.Common.{◌≤◌, ◌∙◌, arith}
+use Rattle.std.proofs.Common.{◌∙◌, arith}
 use Rattle.node_pool.proofs.RingLemmas.{SameRings-trans}
 use Rattle.node_pool.proofs.pool.Pool.reserve.Goals as goal
 

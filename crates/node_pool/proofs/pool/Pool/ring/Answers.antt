@@ -1,7 +1,6 @@
-use Rattle.std.proofs.Common.{◌≡◌, ℕ, ◌+◌, ◌<◌, suc, None, IsSome, refl, sym, ap, subst, ◌∙◌}
+use Rattle.std.proofs.Common.{◌≡◌, ℕ, ◌<◌, suc, sym, subst}
 use Rattle.node_pool.specs.Cycles.{walked}
-use Rattle.node_pool.specs.Links.{next_in}
-use Rattle.node_pool.specs.Nodes.{Nodes, HasNode, next_slot}
+use Rattle.node_pool.specs.Nodes.{Nodes, HasNode}
 use Rattle.node_pool.specs.Pool.{nodes_of}
 use Rattle.node_pool.proofs.PoolLemmas.{IsHeld-of_live, next_slot-of, comes_round_within, next-one, next-held}
 use Rattle.node_pool.proofs.WalkLemmas.{IsRing-of}

@@ -1,4 +1,4 @@
-use Rattle.std.proofs.Common.{◌≡◌, ◌<◌, None, IsSome, refl, sym, ap, subst, true≢false}
+use Rattle.std.proofs.Common.{◌≡◌, ◌<◌, None, IsSome, sym, ap, subst, true≢false}
 use Rattle.node_pool.specs.Slots.{node_in}
 use Rattle.node_pool.specs.Nodes.{numbered, value_at, IsLive}
 use Rattle.node_pool.specs.Pool.{nodes_of}

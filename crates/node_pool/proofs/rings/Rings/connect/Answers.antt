@@ -1,4 +1,3 @@
-use Rattle.std.proofs.Common.{refl}
 use Rattle.node_pool.proofs.LinkLemmas.{Connects-of}
 use Rattle.node_pool.proofs.rings.Rings.connect.Goals as goal
 

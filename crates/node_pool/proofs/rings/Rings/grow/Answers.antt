@@ -1,4 +1,4 @@
-use Rattle.std.proofs.Common.{◌≤◌, ◌≡◌, ◌*◌, length, arith, ap, ◌∙◌, sym}
+use Rattle.std.proofs.Common.{◌≤◌, ◌≡◌, ◌*◌, length, arith, ap, ◌∙◌}
 use Rattle.std.proofs.Math.Nat.{mul-le-mul_right}
 use Rattle.node_pool.proofs.LinkLemmas.{IsGrown-push}
 use Rattle.node_pool.specs.Row.{Row}

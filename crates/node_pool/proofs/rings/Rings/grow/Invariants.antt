@@ -1,4 +1,4 @@
-use Rattle.std.proofs.Common.{◌≡◌, ◌<◌}
+use Rattle.std.proofs.Common.{◌≡◌}
 use Rattle.node_pool.proofs.LinkLemmas.{IsGrown}
 use Rattle.node_pool.proofs.rings.Rings.grow.Given as goal
 

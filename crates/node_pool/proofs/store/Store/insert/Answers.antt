@@ -1,8 +1,8 @@
-use Rattle.std.proofs.Common.{◌≡◌, ℕ, ◌<◌, ◌≤◌, length, Some, sym, ap, ◌∙◌, arith, refl, length-set}
-use Rattle.std.proofs.lemmas.List.{map-set, map_push, length-map, length_push}
+use Rattle.std.proofs.Common.{Some, sym, ap, ◌∙◌, arith, refl, length-set}
+use Rattle.std.proofs.lemmas.List.{map-set, length-map, length_push}
 use Rattle.node_pool.specs.declared.store.Entry.TheVariants.{Vacant, Held}
 use Rattle.node_pool.specs.Entry.{node_of}
-use Rattle.node_pool.proofs.EntryLemmas.{full_at_end, next_within, next_is_not_held, next_is_vacant, count-set, IsSound-push, IsSound-fill}
+use Rattle.node_pool.proofs.EntryLemmas.{full_at_end, next_within, next_is_vacant, count-set, IsSound-push, IsSound-fill}
 use Rattle.node_pool.proofs.SlotsLemmas.{Updates-set}
 use Rattle.node_pool.proofs.store.Store.insert.Goals as goal
 

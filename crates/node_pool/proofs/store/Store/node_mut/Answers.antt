@@ -1,4 +1,4 @@
-use Rattle.std.proofs.Common.{None, refl, sym, ap, ◌∙◌, arith, length-set}
+use Rattle.std.proofs.Common.{None, refl, ap, ◌∙◌, arith, length-set}
 use Rattle.node_pool.specs.declared.store.Entry.TheVariants.{Held}
 use Rattle.std.proofs.lemmas.List.{map-set, get_or-map}
 use Rattle.std.proofs.lemmas.Option.{slice_get_within, get_or_from_slice_get}

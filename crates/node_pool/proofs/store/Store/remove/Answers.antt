@@ -1,8 +1,6 @@
-use Rattle.std.proofs.Common.{◌≡◌, arith, sym, ap, refl, length, None, Some, get_or, ◌∙◌, slice_get, length-set}
-use Rattle.std.proofs.lemmas.List.{map-set, length-map, get_or-map}
-use Rattle.std.proofs.lemmas.Option.{slice_get_within, get_or_from_slice_get}
+use Rattle.std.proofs.Common.{arith, sym, ap, refl, None, Some, ◌∙◌, length-set}
+use Rattle.std.proofs.lemmas.List.{map-set}
 use Rattle.node_pool.specs.declared.store.Entry.TheVariants.{Vacant, Held}
-use Rattle.node_pool.specs.Entry.{node_of}
 use Rattle.node_pool.proofs.EntryLemmas.{held_at, count-set, IsSound-vacate, read_node}
 use Rattle.node_pool.proofs.SlotsLemmas.{IsHeld-within, Updates-set}
 use Rattle.node_pool.proofs.store.Store.remove.Goals as goal
