@@ -7,6 +7,7 @@ pub mod CellPlaces
 pub mod Cycles
 pub mod Entry
 pub mod Laid
+pub mod Laws
 pub mod Links
 pub mod Nodes
 pub mod Places

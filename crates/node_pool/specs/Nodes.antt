@@ -61,7 +61,11 @@ module _ {T : Type 0} where
     pub issued : key.number < n.issued
     pub gone : value_at n key ≡ None
 
-  -- the key is the next to be issued
+  -- a key that was issued and whose node is gone never has one again
+  abbrev pub KeepsSpent : Nodes T → Nodes T → Type 0
+  KeepsSpent old new = (key : Key) → IsSpent old key → IsSpent new key
+
+  -- the number of the key is the next to be issued
   abbrev pub IsNext : Nodes T → Key → Type 0
   IsNext n key = key.number ≡ n.issued
 

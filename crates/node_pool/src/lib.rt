@@ -3,11 +3,15 @@
 
 mod block;
 mod cells;
+mod laws;
 mod places;
 mod pool;
 mod ring;
 mod rings;
 mod store;
+#[cfg(test)]
+mod tests;
 
+pub use laws::keys_are_used_once;
 pub use pool::{Key, Pool, PoolFault};
 pub use ring::Ring;

@@ -2,7 +2,7 @@
 ghost use Rattle.std.specs.Prelude.{◌≡◌, ◌≢◌, ◌+◌, ◌-◌, ◌<◌, ◌≤◌, ◌^◌, ◌↔◌, ℕ, [], Some, None, Err, IsTrue, OnOk, OnSome, IfNone, option_copied};
 ghost use Rattle.std.specs.Option.{option_copied_mut};
 ghost use Rattle.std.specs.Borrow.{sem};
-ghost use Rattle.node_pool.specs.Nodes.{Nodes, value_at, IsLive, IsSpent, IsNext, live_count, SameRing, SameValues, SameCounts, SameRings, Updates, PartsFrom, UnitesRings, HasNode, key_in, next_slot};
+ghost use Rattle.node_pool.specs.Nodes.{Nodes, value_at, IsLive, IsSpent, KeepsSpent, IsNext, live_count, SameRing, SameValues, SameCounts, SameRings, Updates, PartsFrom, UnitesRings, HasNode, key_in, next_slot};
 
 use crate::ring::Ring;
 use crate::rings::Rings;
@@ -91,6 +91,7 @@ impl<T, const R: usize> Pool<T, R> {
         ensures full { (result ≡ Err PoolFault.Full) ↔ (2 ^ 32 - 1 < live_count self.old + n) }
         ensures values { SameValues self.old self.new }
         ensures counts { (live_count self.new ≡ live_count self.old) × (self.old.spare ≤ self.new.spare) × (self.new.issued ≡ self.old.issued) }
+        ensures spent { KeepsSpent self.old self.new }
         ensures rings { (r : ℕ) → r < R → SameRings self.old self.new r }
     {
         if n > 0xffff_ffff - self.nodes.len() {
@@ -132,6 +133,7 @@ impl<T, const R: usize> Pool<T, R> {
         ensures fresh { value_at self.old result ≡ None }
         ensures updates { Updates self.old self.new result (Some value) }
         ensures counts { (live_count self.new ≡ live_count self.old + 1) × (self.new.spare + 1 ≡ self.old.spare) × (self.new.issued ≡ self.old.issued + 1) }
+        ensures spent { KeepsSpent self.old self.new }
         ensures rings { (r : ℕ) → r < R → PartsFrom self.old self.new r result }
     {
         let number = self.issued;
@@ -182,7 +184,8 @@ impl<T, const R: usize> Pool<T, R> {
     pub fn take(&mut self, key: Key) -> Option<T>
         ensures value { result ≡ value_at self.old key }
         ensures updates { Updates self.old self.new key None }
-        ensures spent { OnSome result (IsSpent self.new key) }
+        ensures gone { OnSome result (IsSpent self.new key) }
+        ensures spent { KeepsSpent self.old self.new }
         ensures counts { OnSome result (live_count self.new + 1 ≡ live_count self.old) }
         ensures spare { self.old.spare ≤ self.new.spare }
         ensures issued { self.new.issued ≡ self.old.issued }
@@ -207,6 +210,7 @@ impl<T, const R: usize> Pool<T, R> {
         requires apart { SameRing self.old r a b → ⊥ }
         ensures values { SameValues self.old self.new }
         ensures counts { SameCounts self.old self.new }
+        ensures spent { KeepsSpent self.old self.new }
         ensures united { UnitesRings self.old self.new r a b }
         ensures others { (q : ℕ) → q < R → q ≢ r → SameRings self.old self.new q }
     {
@@ -219,6 +223,7 @@ impl<T, const R: usize> Pool<T, R> {
         requires live { IsLive self.old a }
         ensures values { SameValues self.old self.new }
         ensures counts { SameCounts self.old self.new }
+        ensures spent { KeepsSpent self.old self.new }
         ensures parted { PartsFrom self.old self.new r a }
         ensures others { (q : ℕ) → q < R → q ≢ r → SameRings self.old self.new q }
     {
