@@ -1,3 +1,4 @@
+pub mod Callers
 pub mod LawLemmas
 pub mod PlacesLemmas
 pub mod LaidLemmas

@@ -179,21 +179,22 @@ module _ {T : Type 0} where
         (subst (λ (f : (ℕ → ℕ) × (ℕ → ℕ)). Cuts f.0 f.1 (prev_in l r) key.slot) (λ j. (sym old_steps j, sym new_steps j)) cuts) live others before
 
     -- keys that share no ring have no steps between their slots
-    pub apart-steps : (r : ℕ) (a b : Key) → IsLive (nodes_of s l issued) a → IsLive (nodes_of s l issued) b → (SameRing (nodes_of s l issued) r a b → ⊥) → Reaches (next_in l r) a.slot b.slot → ⊥
-    apart-steps r a b live_a live_b apart steps =
-        apart (record { from = live_a; to = live_b; steps = subst (λ (f : ℕ → ℕ). Reaches f a.slot b.slot) (sym (next_slot-of s l issued r)) steps })
+    pub apart-steps : (r : ℕ) (a b : Key) → r < R → IsLive (nodes_of s l issued) a → IsLive (nodes_of s l issued) b → (SameRing (nodes_of s l issued) r a b → ⊥) → Reaches (next_in l r) a.slot b.slot → ⊥
+    apart-steps r a b in_range live_a live_b apart steps =
+        let same = sym (next_slot-of s l issued r) in
+        let back : Reaches (next_in l r) b.slot a.slot = Reaches-sym (next_in l r) a.slot b.slot (comes_round r a.slot in_range) steps in
+        apart (record { from = live_a; to = live_b; steps = subst (λ (f : ℕ → ℕ). Reaches f a.slot b.slot) same steps; back = subst (λ (f : ℕ → ℕ). Reaches f b.slot a.slot) same back })
 
     -- the rings that a contract sees after two were joined
     pub unites_join : (new : Links) (r : ℕ) (a b : Key) → r < R → Splices (next_in l r) (next_in new r) a.slot b.slot → IsLive (nodes_of s l issued) a → IsLive (nodes_of s l issued) b
         → (SameRing (nodes_of s l issued) r a b → ⊥) → UnitesRings (nodes_of s l issued) (nodes_of s new issued) r a b
     unites_join new r a b in_range spliced live_a live_b apart =
         let old_steps = next_slot-of s l issued r in let new_steps = next_slot-of s new issued r in
-        let a_to_b : Reaches (next_in l r) a.slot b.slot → ⊥ = apart-steps r a b live_a live_b apart in
+        let a_to_b : Reaches (next_in l r) a.slot b.slot → ⊥ = apart-steps r a b in_range live_a live_b apart in
         let b_to_a : Reaches (next_in l r) b.slot a.slot → ⊥ = λ steps. a_to_b (Reaches-sym (next_in l r) b.slot a.slot (comes_round r b.slot in_range) steps) in
         UnitesRings-of (nodes_of s l issued) (nodes_of s new issued) r a b live_a live_b (λ _. refl)
         (subst (λ (f : (ℕ → ℕ) × (ℕ → ℕ)). Splices f.0 f.1 a.slot b.slot) (λ j. (sym old_steps j, sym new_steps j)) spliced)
-        (subst (λ (f : ℕ → ℕ). Reaches f (f a.slot) a.slot) (sym old_steps) (comes_round r a.slot in_range))
-        (subst (λ (f : ℕ → ℕ). Reaches f (f b.slot) b.slot) (sym old_steps) (comes_round r b.slot in_range))
+        (subst (λ (f : ℕ → ℕ). (slot : ℕ) → Reaches f (f slot) slot) (sym old_steps) (λ slot. comes_round r slot in_range))
         (subst (λ (f : ℕ → ℕ). Reaches f a.slot b.slot → ⊥) (sym old_steps) a_to_b)
         (subst (λ (f : ℕ → ℕ). Reaches f b.slot a.slot → ⊥) (sym old_steps) b_to_a)
 

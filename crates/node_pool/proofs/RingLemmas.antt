@@ -2,6 +2,7 @@
 use Rattle.std.proofs.Common.{◌≡◌, ◌≢◌, ◌⊎◌, ℕ, zero, suc, Option, Some, None, IsSome, refl, sym, ap, subst, ◌∙◌, inl, inr, cond, true≢false}
 use Rattle.std.proofs.lemmas.Bool.Decides.{eqb_tells}
 use Rattle.node_pool.specs.Cycles.{walked, Reaches, IsMutual, Splices, Cuts}
+use Rattle.node_pool.proofs.Cycles.{Reaches-sym}
 use Rattle.node_pool.proofs.Joins.{Unites, Unites-from_joined, joined-from_Unites, uncut, recut, cut_alone}
 use Rattle.node_pool.specs.declared.pool.Key.{Key}
 use Rattle.node_pool.specs.declared.pool.Node.{Node}
@@ -58,15 +59,15 @@ module _ {T : Type 0} where
   -- the same values and steps make the same rings
   pub SameRings-of : (old new : Nodes T) (r : ℕ) → SameValues old new → next_slot new r ≡ next_slot old r → SameRings old new r
   SameRings-of old new r same steps x y = (
-    λ ring. record { from = subst IsSome (same x) ring.from; to = subst IsSome (same y) ring.to; steps = subst (λ f. Reaches f x.slot y.slot) steps ring.steps },
-    λ ring. record { from = subst IsSome (sym (same x)) ring.from; to = subst IsSome (sym (same y)) ring.to; steps = subst (λ f. Reaches f x.slot y.slot) (sym steps) ring.steps },
+    λ ring. record { from = subst IsSome (same x) ring.from; to = subst IsSome (same y) ring.to; steps = subst (λ f. Reaches f x.slot y.slot) steps ring.steps; back = subst (λ f. Reaches f y.slot x.slot) steps ring.back },
+    λ ring. record { from = subst IsSome (sym (same x)) ring.from; to = subst IsSome (sym (same y)) ring.to; steps = subst (λ f. Reaches f x.slot y.slot) (sym steps) ring.steps; back = subst (λ f. Reaches f y.slot x.slot) (sym steps) ring.back },
   )
 
   pub SameRings-trans : (first mid last : Nodes T) (r : ℕ) → SameRings first mid r → SameRings mid last r → SameRings first last r
   SameRings-trans first mid last r one two x y = (λ ring. (one x y).0 ((two x y).0 ring), λ ring. (two x y).1 ((one x y).1 ring))
 
   module _ (old new : Nodes T) (r : ℕ) (a b : Key) (live_a : IsLive old a) (live_b : IsLive old b) (same : SameValues old new) (spliced : Splices (next_slot old r) (next_slot new r) a.slot b.slot)
-      (a_back : Reaches (next_slot old r) (next_slot old r a.slot) a.slot) (b_back : Reaches (next_slot old r) (next_slot old r b.slot) b.slot)
+      (round : (s : ℕ) → Reaches (next_slot old r) (next_slot old r s) s)
       (a_to_b : Reaches (next_slot old r) a.slot b.slot → ⊥) (b_to_a : Reaches (next_slot old r) b.slot a.slot → ⊥) where
     abbrev p : ℕ → ℕ
     p = next_slot old r
@@ -74,17 +75,21 @@ module _ {T : Type 0} where
     abbrev United : Key → Key → Type 0
     United x y = SameRing old r x y ⊎ (SameRing old r x a × SameRing old r b y) ⊎ (SameRing old r x b × SameRing old r a y)
 
-    forth : (x y : Key) → IsLive old x → IsLive old y → Unites p a.slot b.slot x.slot y.slot → United x y
-    forth x y live_x live_y (inl direct) = inl (record { from = live_x; to = live_y; steps = direct })
-    forth x y live_x live_y (inr (inl over)) =
-        inr (inl (record { from = live_x; to = live_a; steps = over.0 }, record { from = live_b; to = live_y; steps = over.1 }))
-    forth x y live_x live_y (inr (inr over)) =
-        inr (inr (record { from = live_x; to = live_b; steps = over.0 }, record { from = live_a; to = live_y; steps = over.1 }))
+    ring-of : (x y : Key) → IsLive old x → IsLive old y → Reaches p x.slot y.slot → SameRing old r x y
+    ring-of x y live_x live_y steps = record { from = live_x; to = live_y; steps = steps; back = Reaches-sym p x.slot y.slot (round x.slot) steps }
 
-    back : (x y : Key) → United x y → IsLive old x × IsLive old y × Unites p a.slot b.slot x.slot y.slot
-    back x y (inl ring) = (ring.from, ring.to, inl ring.steps)
-    back x y (inr (inl rings)) = (rings.0.from, rings.1.to, inr (inl (rings.0.steps, rings.1.steps)))
-    back x y (inr (inr rings)) = (rings.0.from, rings.1.to, inr (inr (rings.0.steps, rings.1.steps)))
+    forth : (x y : Key) → IsLive old x → IsLive old y → Unites p a.slot b.slot x.slot y.slot → United x y
+    forth x y live_x live_y (inl direct) = inl (ring-of x y live_x live_y direct)
+    forth x y live_x live_y (inr (inl over)) = inr (inl (ring-of x a live_x live_a over.0, ring-of b y live_b live_y over.1))
+    forth x y live_x live_y (inr (inr over)) = inr (inr (ring-of x b live_x live_b over.0, ring-of a y live_a live_y over.1))
+
+    back : (x y : Key) → United x y → IsLive old x × IsLive old y × Unites p a.slot b.slot x.slot y.slot × Unites p a.slot b.slot y.slot x.slot
+    back x y (inl ring) = (ring.from, ring.to, inl ring.steps, inl ring.back)
+    back x y (inr (inl rings)) = (rings.0.from, rings.1.to, inr (inl (rings.0.steps, rings.1.steps)), inr (inr (rings.1.back, rings.0.back)))
+    back x y (inr (inr rings)) = (rings.0.from, rings.1.to, inr (inr (rings.0.steps, rings.1.steps)), inr (inl (rings.1.back, rings.0.back)))
+
+    joined : (s t : ℕ) → Unites p a.slot b.slot s t → Reaches (next_slot new r) s t
+    joined = joined-from_Unites p (next_slot new r) a.slot b.slot spliced (round a.slot) (round b.slot) a_to_b b_to_a
 
     pub UnitesRings-of : UnitesRings old new r a b
     UnitesRings-of x y = (
@@ -93,7 +98,8 @@ module _ {T : Type 0} where
           record {
             from = subst IsSome (sym (same x)) parts.0;
             to = subst IsSome (sym (same y)) parts.1;
-            steps = joined-from_Unites p (next_slot new r) a.slot b.slot spliced a_back b_back a_to_b b_to_a x.slot y.slot parts.2;
+            steps = joined x.slot y.slot parts.2;
+            back = joined y.slot x.slot parts.3;
           },
     )
 
@@ -111,12 +117,14 @@ module _ {T : Type 0} where
                 from = live_x;
                 to = live_y;
                 steps = (uncut (next_slot old r) q (next_slot new r) mutual-pq key.slot cuts x.slot y.slot (λ e. not_x (key-unique old x key live_x live e)) ring.steps).1;
+                back = (uncut (next_slot old r) q (next_slot new r) mutual-pq key.slot cuts y.slot x.slot (λ e. not_y (key-unique old y key live_y live e)) ring.back).1;
               },
           λ ring.
               record {
                 from = subst IsSome (sym (others x not_x)) ring.from;
                 to = subst IsSome (sym (others y not_y)) ring.to;
                 steps = recut (next_slot old r) q (next_slot new r) mutual-pq key.slot cuts x.slot y.slot (λ e. not_x (key-unique old x key ring.from live e)) (λ e. not_y (key-unique old y key ring.to live e)) ring.steps;
+                back = recut (next_slot old r) q (next_slot new r) mutual-pq key.slot cuts y.slot x.slot (λ e. not_y (key-unique old y key ring.to live e)) (λ e. not_x (key-unique old x key ring.from live e)) ring.back;
               },
         );
       }
@@ -128,8 +136,8 @@ module _ {T : Type 0} where
       record {
         alone = λ x ring. key-unique new x key ring.to live (walk_stays (next_slot old r) key.slot x.slot still (subst (λ f. Reaches f key.slot x.slot) steps ring.steps));
         others = λ x y not_x not_y. (
-          λ ring. record { from = subst IsSome (others x not_x) ring.from; to = subst IsSome (others y not_y) ring.to; steps = subst (λ f. Reaches f x.slot y.slot) steps ring.steps },
-          λ ring. record { from = subst IsSome (sym (others x not_x)) ring.from; to = subst IsSome (sym (others y not_y)) ring.to; steps = subst (λ f. Reaches f x.slot y.slot) (sym steps) ring.steps },
+          λ ring. record { from = subst IsSome (others x not_x) ring.from; to = subst IsSome (others y not_y) ring.to; steps = subst (λ f. Reaches f x.slot y.slot) steps ring.steps; back = subst (λ f. Reaches f y.slot x.slot) steps ring.back },
+          λ ring. record { from = subst IsSome (sym (others x not_x)) ring.from; to = subst IsSome (sym (others y not_y)) ring.to; steps = subst (λ f. Reaches f x.slot y.slot) (sym steps) ring.steps; back = subst (λ f. Reaches f y.slot x.slot) (sym steps) ring.back },
         );
       }
 

@@ -4,7 +4,7 @@ use Rattle.std.proofs.lemmas.Bool.{cases_eq}
 use Rattle.std.proofs.lemmas.Bool.Decides.{eqb_tells, leb_tells}
 use Rattle.std.proofs.lemmas.Option.{slice_get_within, get_or_from_slice_get}
 use Rattle.node_pool.specs.Cycles.{walked}
-use Rattle.node_pool.proofs.Cycles.{walked-add}
+use Rattle.node_pool.proofs.Cycles.{walked-add, Reaches-sym}
 use Rattle.node_pool.specs.declared.pool.Key.{Key}
 use Rattle.node_pool.specs.declared.pool.Node.{Node}
 use Rattle.node_pool.specs.Nodes.{Nodes, numbered, number_of, node_at, key_in, HasNode, IsLive, next_slot}
@@ -148,6 +148,7 @@ module _ {T : Type 0} (n : Nodes T) (r : ℕ) where
                   from = live;
                   to = subst (IsLive n) is (live-key_in (walked f k a.slot) (walked-held k a.slot a-held));
                   steps = (k, ap (λ (y : Key). y.slot) is);
+                  back = Reaches-sym f a.slot x.slot (back.0, back.2) (k, ap (λ (y : Key). y.slot) is);
                 },
             λ ring.
                 let less = reduced ring.steps.0 ring.steps.0 (omega arith) in

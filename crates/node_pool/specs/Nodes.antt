@@ -77,11 +77,12 @@ module _ {T : Type 0} where
   abbrev pub next_slot : Nodes T → ℕ → ℕ → ℕ
   next_slot n r slot = slice_index_or n.next (slot * n.partitions + r) slot
 
-  -- two keys have nodes in one ring of the r-th partition: steps along the ring lead from the one to the other
+  -- two keys have nodes in one ring of the r-th partition: steps along the ring lead from each to the other
   pub record SameRing (n : Nodes T) (r : ℕ) (a b : Key) : Type 0 where
     pub from : IsLive n a
     pub to : IsLive n b
     pub steps : Reaches (next_slot n r) a.slot b.slot
+    pub back : Reaches (next_slot n r) b.slot a.slot
 
   -- every key has the value that it had
   abbrev pub SameValues : Nodes T → Nodes T → Type 0
