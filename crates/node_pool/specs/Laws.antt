@@ -1,8 +1,8 @@
 -- What holds over any sequence of calls of a pool.
-use Rattle.std.specs.Prelude.{◌≡◌, List, [], ◌∷◌, Option, Some, None}
+use Rattle.std.specs.Prelude.{◌≡◌, List, [], ◌∷◌, Some, None}
 use Rattle.std.specs.List.{All}
 use Rattle.node_pool.specs.declared.pool.Key.{Key}
-use Rattle.node_pool.specs.Nodes.{Nodes, value_at, IsLive, IsSpent, KeepsSpent, Updates, SameRings, with_value}
+use Rattle.node_pool.specs.Nodes.{Nodes, value_at, IsLive, IsSpent, KeepsSpent, Updates, with_value}
 
 module _ {T : Type 0} where
   -- pools, each as a call left the one before

@@ -1,4 +1,4 @@
-use Rattle.std.proofs.Common.{◌≡◌, ◌≢◌, ◌<◌, arith, lit<}
+use Rattle.std.proofs.Common.{lit<}
 use Rattle.node_pool.proofs.Callers.{fresh-differs, live-updated, live-other, apart-parted}
 use Rattle.node_pool.proofs.tests.a_taken_key_finds_nothing.Goals as goal
 
