@@ -1,0 +1,36 @@
+-- For the callers of a pool: its rings are the parts of an equivalence, and a new key is apart from the others.
+use Rattle.std.proofs.Common.{◌≡◌, ◌≢◌, ℕ, Option, Some, None, IsSome, refl, sym, ap, subst, ◌∙◌, true≢false}
+use Rattle.node_pool.specs.declared.pool.Key.{Key}
+use Rattle.node_pool.specs.Nodes.{Nodes, value_at, IsLive, next_slot, SameRing, Updates, PartsFrom}
+use Rattle.node_pool.proofs.Cycles.{Reaches-trans}
+
+module _ {T : Type 0} where
+  pub SameRing-refl : (n : Nodes T) (r : ℕ) (a : Key) → IsLive n a → SameRing n r a a
+  SameRing-refl n r a live = record { from = live; to = live; steps = (0, refl); back = (0, refl) }
+
+  pub SameRing-sym : (n : Nodes T) (r : ℕ) (a b : Key) → SameRing n r a b → SameRing n r b a
+  SameRing-sym n r a b ring = record { from = ring.to; to = ring.from; steps = ring.back; back = ring.steps }
+
+  pub SameRing-trans : (n : Nodes T) (r : ℕ) (a b c : Key) → SameRing n r a b → SameRing n r b c → SameRing n r a c
+  SameRing-trans n r a b c one two =
+      record {
+        from = one.from;
+        to = two.to;
+        steps = Reaches-trans (next_slot n r) a.slot b.slot c.slot one.steps two.steps;
+        back = Reaches-trans (next_slot n r) c.slot b.slot a.slot two.back one.back;
+      }
+
+  -- a key that had no node is none that had one
+  pub fresh-differs : (n : Nodes T) (old fresh : Key) → IsLive n old → value_at n fresh ≡ None → old ≢ fresh
+  fresh-differs n old fresh live none same = true≢false (sym (subst IsSome (ap (value_at n) same ∙ none) live))
+
+  -- the key of an update with a value is live, and so is each other key that was
+  pub live-updated : (old new : Nodes T) (key : Key) (value : T) → Updates old new key (Some value) → IsLive new key
+  live-updated old new key value updates = subst IsSome (sym updates.changed) refl
+
+  pub live-other : (old new : Nodes T) (key other : Key) (value : Option T) → Updates old new key value → other ≢ key → IsLive old other → IsLive new other
+  live-other old new key other value updates differs live = subst IsSome (sym (updates.others other differs)) live
+
+  -- a key that is parted shares no ring with another
+  pub apart-parted : (old new : Nodes T) (r : ℕ) (key other : Key) → PartsFrom old new r key → other ≢ key → SameRing new r other key → ⊥
+  apart-parted old new r key other parts differs ring = differs (parts.alone other (SameRing-sym new r other key ring))

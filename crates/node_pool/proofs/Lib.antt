@@ -1,0 +1,16 @@
+pub mod Callers
+pub mod LawLemmas
+pub mod PlacesLemmas
+pub mod LaidLemmas
+pub mod BlockLemmas
+pub mod CellCrosses
+pub mod CellMemory
+pub mod CellSharing
+pub mod Cycles
+pub mod EntryLemmas
+pub mod Joins
+pub mod RingLemmas
+pub mod PoolLemmas
+pub mod SlotsLemmas
+pub mod LinkLemmas
+pub mod WalkLemmas
