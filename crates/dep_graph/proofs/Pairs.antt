@@ -1,15 +1,17 @@
 -- The laws on pairs.
-use Rattle.std.proofs.Common.{◌≡◌, ◌≢◌, ℕ, zero, suc, ◌+◌, ◌-◌, ◌<◌, ◌≤◌, Bool, true, false, cond, not, ◌&&◌, ◌⊎◌, ◌↔◌, nat_eq, List, [], ◌∷◌, ◌++◌, length, map, filter, slice_index, slice_index_or, Contains, inl, inr, refl, sym, ap, ap₂, ◌∙◌, subst, subst₂, arith, eq-eqb, ne_eqb, eqb-true, true≢false, ltb-true}
+use Rattle.std.proofs.Common.{◌≡◌, ◌≢◌, ℕ, zero, suc, ◌+◌, ◌-◌, ◌<◌, ◌≤◌, Bool, true, false, cond, not, ◌&&◌, ◌||◌, ◌⊎◌, ◌↔◌, nat_eq, List, [], ◌∷◌, ◌++◌, length, map, filter, slice_index, slice_index_or, Contains, inl, inr, refl, sym, ap, ap₂, ◌∙◌, subst, subst₂, arith, eq-eqb, ne_eqb, eqb-true, true≢false, ltb-true}
 use Rattle.std.proofs.lemmas.Bool.{cases_eq, cases_lt, and_parts, and_from, or_cases, or_left, or_right}
 use Rattle.std.proofs.lemmas.List.Elements.{Contains-get_or}
 use Rattle.std.specs.Ordering.{nat_cmp}
 use Rattle.std.specs.FinSet as fin
 use Rattle.bitset.specs.Places.{places, IsRising, AllAbove}
-use Rattle.bitset.specs.Sets.{IsRising-places, Contains-places, places-Contains}
-use Rattle.dep_graph.specs.Graph.{Graph, is_member, is_ancestor, members_of, IsClosed, IsCopy}
-use Rattle.dep_graph.specs.Walks.{IsWalk, Walk, Along, parents, children, each_with_each, avoids, bridged, number_in, renumbered_pairs}
-use Rattle.dep_graph.specs.Laws.{Closes, PlaceKeepsPairs, PairIsAdded, PairsAreBridged, PairsAreMerged, PairsAreParted}
+use Rattle.bitset.specs.Sets.{IsRising-places, Contains-places, places-Contains, contains-difference}
+use Rattle.dep_graph.specs.Graph.{Graph, is_member, is_ancestor, members_of, IsOrder, IsClosed, IsCopy}
+use Rattle.dep_graph.specs.Walks.{IsWalk, Walk, Along, parents, children, each_with_each, avoids, bridged, number_in, renumbered_pairs, bridged_all}
+use Rattle.dep_graph.specs.Laws.{Closes, PlaceKeepsPairs, PairIsAdded, PairsAreBridged, PairsAreMerged, PairsAreParted, PartIsBridged}
 use Rattle.dep_graph.proofs.Kept.{contains-members_of}
+use Rattle.dep_graph.proofs.Loops.{among, among-places}
+use Rattle.dep_graph.proofs.Orders.{on, IsOrder-on}
 use Rattle.dep_graph.proofs.Components.{Walk-keeps}
 
 -- ---- what stands in a list, by recursion
@@ -256,53 +258,6 @@ module _ (pairs : List (ℕ × ℕ)) (x : ℕ) where
 differs : (a b : ℕ) → not (nat_eq a b) ≡ true → a ≢ b
 differs a b e same = true≢false (sym e ∙ ap not (eq-eqb a b same))
 
-pub pairs_are_bridged : PairsAreBridged
-pairs_are_bridged n place g h pairs closed closes drops = record {
-  ends = λ a b c. let p : (is_ancestor g a b ≡ true) × (a ≢ place) × (b ≢ place) = pair a b c in
-      let both : (is_member g a ≡ true) × (is_member g b ≡ true) = closed.order.among a b p.0 in (keeps a p.1 both.0, keeps b p.2 both.1);
-  walks = λ a b in_a in_b.
-      let was_a : (a ≢ place) × (is_member g a ≡ true) = was a in_a in
-      let was_b : (b ≢ place) × (is_member g b ≡ true) = was b in_b in (
-        λ e.
-            let walk : Walk (Along pairs) a b = (closes.walks a b was_a.1 was_b.1).0 (still a b e).2 in
-            around pairs place walk.0 a a b (inl (refl, was_a.0)) walk.1 was_b.0,
-        λ walk. Walk-keeps (Along (bridged pairs place)) (λ v. is_ancestor h a v ≡ true)
-            (λ u v c e. let p : (is_ancestor g u v ≡ true) × (u ≢ place) × (v ≢ place) = pair u v c in keeps_pair a v was_a.0 p.2 (closed.order.transitive a u v (still a u e).2 p.0))
-            a b walk (keeps_pair a a was_a.0 was_a.0 (closed.order.reflexive a was_a.1)),
-      );
-}
-  where
-    was : (p : ℕ) → is_member h p ≡ true → (p ≢ place) × (is_member g p ≡ true)
-    was p e = let both : (not (nat_eq p place) ≡ true) × (is_member g p ≡ true) = and_parts (not (nat_eq p place)) (is_member g p) (sym (drops.members p) ∙ e) in (differs p place both.0, both.1)
-
-    keeps : (p : ℕ) → p ≢ place → is_member g p ≡ true → is_member h p ≡ true
-    keeps p ne e = drops.members p ∙ and_from (not (nat_eq p place)) (is_member g p) (ap not (ne_eqb p place ne)) e
-
-    keeps_pair : (a b : ℕ) → a ≢ place → b ≢ place → is_ancestor g a b ≡ true → is_ancestor h a b ≡ true
-    keeps_pair a b ne nf e = drops.ancestors a b ∙ and_from (not (nat_eq a place)) (not (nat_eq b place) && is_ancestor g a b) (ap not (ne_eqb a place ne)) (and_from (not (nat_eq b place)) (is_ancestor g a b) (ap not (ne_eqb b place nf)) e)
-
-    still : (a b : ℕ) → is_ancestor h a b ≡ true → (a ≢ place) × (b ≢ place) × (is_ancestor g a b ≡ true)
-    still a b e =
-        let one : (not (nat_eq a place) ≡ true) × ((not (nat_eq b place) && is_ancestor g a b) ≡ true) = and_parts (not (nat_eq a place)) (not (nat_eq b place) && is_ancestor g a b) (sym (drops.ancestors a b) ∙ e) in
-        let two : (not (nat_eq b place) ≡ true) × (is_ancestor g a b ≡ true) = and_parts (not (nat_eq b place)) (is_ancestor g a b) one.1 in
-        (differs a place one.0, differs b place two.0, two.1)
-
-    -- a pair of the new list is related, and has neither end at the place
-    pair : (a b : ℕ) → Contains (bridged pairs place) (a, b) → (is_ancestor g a b ≡ true) × (a ≢ place) × (b ≢ place)
-    pair a b c =
-        let kept : In {X = ℕ × ℕ} (a, b) (pairs ++ each_with_each (parents pairs place) (children pairs place)) × (avoids place (a, b) ≡ true) =
-        filter-In (avoids place) (pairs ++ each_with_each (parents pairs place) (children pairs place)) (a, b) (In-Contains (bridged pairs place) (a, b) c) in
-        let apart : (not (nat_eq a place) ≡ true) × (not (nat_eq b place) ≡ true) = and_parts (not (nat_eq a place)) (not (nat_eq b place)) kept.1 in (
-          elim (In-append pairs (each_with_each (parents pairs place) (children pairs place)) (a, b) kept.0) as (λ _. is_ancestor g a b ≡ true) [
-            | inl f ↦ related g pairs closes a b (Contains-In pairs (a, b) f)
-            | inr f ↦
-                let ends : In a (parents pairs place) × In b (children pairs place) = each-In (parents pairs place) (children pairs place) (a, b) f in
-                closed.order.transitive a place b (related g pairs closes a place (Contains-In pairs (a, place) (parents-In pairs place a ends.0))) (related g pairs closes place b (Contains-In pairs (place, b) (children-In pairs place b ends.1)))
-          ],
-          differs a place apart.0,
-          differs b place apart.1,
-        )
-
 -- ---- places numbered anew
 
 above_each : (x : ℕ) (xs : List ℕ) (i : ℕ) → AllAbove x xs → i < length xs → x < slice_index xs i
@@ -471,3 +426,156 @@ pairs_are_merged n f g h pairs pairs' closed closed' closed'' closes closes' mer
         (λ u v c. Contains-In _ (u, v) (In-right (renumbered_pairs (places n (members_of f)) 0 pairs) (renumbered_pairs (places n (members_of g)) (length (places n (members_of f))) pairs') (u, v) (In-Contains _ (u, v) c)))
         (length (places n (members_of f)) + i) (length (places n (members_of f)) + j)
         (copied_walk g h (places n (members_of g)) (length (places n (members_of f))) (IsRising-places n (members_of g)) merged.second pairs' pairs_in' i j low low' ((closes'.walks _ _ ends.0 ends.1).0 old))
+
+-- ---- members are dropped
+
+-- the pairs close a relation on some places
+record ClosesOn (m : ℕ → Bool) (r : ℕ → ℕ → Bool) (pairs : List (ℕ × ℕ)) : Type 0 where
+  ends : (a b : ℕ) → Contains pairs (a, b) → (m a ≡ true) × (m b ≡ true)
+  walks : (a b : ℕ) → m a ≡ true → m b ≡ true → (r a b ≡ true) ↔ Walk (Along pairs) a b
+
+closes_like : (m k : ℕ → Bool) (r t : ℕ → ℕ → Bool) (pairs : List (ℕ × ℕ)) → ((p : ℕ) → k p ≡ m p) → ((a b : ℕ) → t a b ≡ r a b) → ClosesOn m r pairs → ClosesOn k t pairs
+closes_like m k r t pairs same alike c = record {
+  ends = λ a b there. let both : (m a ≡ true) × (m b ≡ true) = c.ends a b there in (same a ∙ both.0, same b ∙ both.1);
+  walks = λ a b in_a in_b. let w : (r a b ≡ true) ↔ Walk (Along pairs) a b = c.walks a b (sym (same a) ∙ in_a) (sym (same b) ∙ in_b) in (λ e. w.0 (sym (alike a b) ∙ e), λ walk. alike a b ∙ w.1 walk);
+}
+
+module _ (m : ℕ → Bool) (r : ℕ → ℕ → Bool) (pairs : List (ℕ × ℕ)) (x : ℕ) (o : IsOrder m r) (c : ClosesOn m r pairs) where
+  abbrev stays : ℕ → Bool
+  stays q = not (nat_eq q x)
+
+  related_on : (a b : ℕ) → Contains pairs (a, b) → r a b ≡ true
+  related_on a b there = let both : (m a ≡ true) × (m b ≡ true) = c.ends a b there in (c.walks a b both.0 both.1).1 (b ∷ [], (there, refl))
+
+  was_on : (p : ℕ) → (stays p && m p) ≡ true → (p ≢ x) × (m p ≡ true)
+  was_on p e = let both : (stays p ≡ true) × (m p ≡ true) = and_parts (stays p) (m p) e in (differs p x both.0, both.1)
+
+  keeps_on : (a b : ℕ) → a ≢ x → b ≢ x → r a b ≡ true → on stays r a b ≡ true
+  keeps_on a b ne nf e = and_from (stays a) (stays b && r a b) (ap not (ne_eqb a x ne)) (and_from (stays b) (r a b) (ap not (ne_eqb b x nf)) e)
+
+  still_on : (a b : ℕ) → on stays r a b ≡ true → r a b ≡ true
+  still_on a b e = (and_parts (stays b) (r a b) (and_parts (stays a) (stays b && r a b) e).1).1
+
+  pair_on : (a b : ℕ) → Contains (bridged pairs x) (a, b) → (r a b ≡ true) × (a ≢ x) × (b ≢ x)
+  pair_on a b there =
+      let kept : In {X = ℕ × ℕ} (a, b) (pairs ++ each_with_each (parents pairs x) (children pairs x)) × (avoids x (a, b) ≡ true) =
+      filter-In (avoids x) (pairs ++ each_with_each (parents pairs x) (children pairs x)) (a, b) (In-Contains (bridged pairs x) (a, b) there) in
+      let apart : (not (nat_eq a x) ≡ true) × (not (nat_eq b x) ≡ true) = and_parts (not (nat_eq a x)) (not (nat_eq b x)) kept.1 in (
+        elim (In-append pairs (each_with_each (parents pairs x) (children pairs x)) (a, b) kept.0) as (λ _. r a b ≡ true) [
+          | inl f ↦ related_on a b (Contains-In pairs (a, b) f)
+          | inr f ↦
+              let ends : In a (parents pairs x) × In b (children pairs x) = each-In (parents pairs x) (children pairs x) (a, b) f in
+              o.transitive a x b (related_on a x (Contains-In pairs (a, x) (parents-In pairs x a ends.0))) (related_on x b (Contains-In pairs (x, b) (children-In pairs x b ends.1)))
+        ],
+        differs a x apart.0,
+        differs b x apart.1,
+      )
+
+  bridged_on : ClosesOn (λ q. stays q && m q) (on stays r) (bridged pairs x)
+  bridged_on = record {
+    ends = λ a b there.
+        let p : (r a b ≡ true) × (a ≢ x) × (b ≢ x) = pair_on a b there in
+        let both : (m a ≡ true) × (m b ≡ true) = o.among a b p.0 in
+        (and_from (stays a) (m a) (ap not (ne_eqb a x p.1)) both.0, and_from (stays b) (m b) (ap not (ne_eqb b x p.2)) both.1);
+    walks = λ a b in_a in_b.
+        let was_a : (a ≢ x) × (m a ≡ true) = was_on a in_a in
+        let was_b : (b ≢ x) × (m b ≡ true) = was_on b in_b in (
+          λ e. let walk : Walk (Along pairs) a b = (c.walks a b was_a.1 was_b.1).0 (still_on a b e) in around pairs x walk.0 a a b (inl (refl, was_a.0)) walk.1 was_b.0,
+          λ walk. Walk-keeps (Along (bridged pairs x)) (λ v. on stays r a v ≡ true)
+              (λ u v there e. let p : (r u v ≡ true) × (u ≢ x) × (v ≢ x) = pair_on u v there in keeps_on a v was_a.0 p.2 (o.transitive a u v (still_on a u e) p.0))
+              a b walk (keeps_on a a was_a.0 was_a.0 (o.reflexive a was_a.1)),
+        );
+  }
+
+pub pairs_are_bridged : PairsAreBridged
+pairs_are_bridged n place g h pairs closed closes drops =
+    let c : ClosesOn (is_member h) (is_ancestor h) (bridged pairs place) =
+    closes_like (λ q. not (nat_eq q place) && is_member g q) (is_member h) (on (λ q. not (nat_eq q place)) (is_ancestor g)) (is_ancestor h) (bridged pairs place) drops.members drops.ancestors
+    (bridged_on (is_member g) (is_ancestor g) pairs place closed.order (record { ends = closes.ends; walks = closes.walks })) in
+    record { ends = c.ends; walks = c.walks }
+
+-- to keep what is neither x nor among xs
+two_drops : (x d k : Bool) → (not d && (not x && k)) ≡ (not (x || d) && k)
+two_drops true true k = refl
+two_drops true false k = refl
+two_drops false d k = refl
+
+four_drops : (x d y e k : Bool) → (not d && (not e && (not x && (not y && k)))) ≡ (not (x || d) && (not (y || e) && k))
+four_drops true true y e k = refl
+four_drops true false y true k = refl
+four_drops true false y false k = refl
+four_drops false true y e k = refl
+four_drops false false true true k = refl
+four_drops false false true false k = refl
+four_drops false false false e k = refl
+
+bridged_all_on : (xs : List ℕ) (m : ℕ → Bool) (r : ℕ → ℕ → Bool) (pairs : List (ℕ × ℕ)) → IsOrder m r → ClosesOn m r pairs
+    → ClosesOn (λ q. not (among xs q) && m q) (on (λ q. not (among xs q)) r) (bridged_all pairs xs)
+bridged_all_on [] m r pairs o c = c
+bridged_all_on (x ∷ xs) m r pairs o c =
+    closes_like (λ q. not (among xs q) && (not (nat_eq q x) && m q)) (λ q. not (among (x ∷ xs) q) && m q)
+    (on (λ q. not (among xs q)) (on (λ q. not (nat_eq q x)) r)) (on (λ q. not (among (x ∷ xs) q)) r) (bridged_all (bridged pairs x) xs)
+    (λ p. sym (two_drops (nat_eq p x) (among xs p) (m p)))
+    (λ a b. sym (four_drops (nat_eq a x) (among xs a) (nat_eq b x) (among xs b) (r a b)))
+    (bridged_all_on xs (λ q. not (nat_eq q x) && m q) (on (λ q. not (nat_eq q x)) r) (bridged pairs x) (IsOrder-on m (λ q. not (nat_eq q x)) r o) (bridged_on m r pairs x o c))
+
+abbrev left_pairs : ℕ → Graph → fin.FinSet nat_cmp → List (ℕ × ℕ) → List (ℕ × ℕ)
+left_pairs n g s pairs = bridged_all pairs (places n (fin.difference (members_of g) s))
+
+pub part_is_bridged : PartIsBridged
+part_is_bridged n g h s pairs closed closed' closes members part = record {
+  ends = λ a b there. closed'.order.among a b (copied a b there).0;
+  walks = λ a b in_a in_b. (
+    λ e.
+        let low : a < length (places n s) = ltb-true a (length (places n s)) (sym (part.members a) ∙ in_a) in
+        let low' : b < length (places n s) = ltb-true b (length (places n s)) (sym (part.members b) ∙ in_b) in
+        let old : is_ancestor g (slice_index (places n s) a) (slice_index (places n s) b) ≡ true = sym (part.copy.ancestors a b low low') ∙ ap₂ (is_ancestor h) (plus_zero a) (plus_zero b) ∙ e in
+        subst₂ (Walk (Along (renumbered_pairs (places n s) 0 (left_pairs n g s pairs)))) (plus_zero a) (plus_zero b)
+        (copied_walk g h (places n s) 0 (IsRising-places n s) part.copy (left_pairs n g s pairs) left_in a b low low'
+        ((left.walks (slice_index (places n s) a) (slice_index (places n s) b) (stays_in _ (places_are n s a low)) (stays_in _ (places_are n s b low'))).0
+        (and_from _ _ (kept _ (places_are n s a low)) (and_from _ _ (kept _ (places_are n s b low')) old)))),
+    λ walk. Walk-keeps (Along (renumbered_pairs (places n s) 0 (left_pairs n g s pairs))) (λ v. is_ancestor h a v ≡ true) (λ u v there e. closed'.order.transitive a u v e (copied u v there).0) a b walk (closed'.order.reflexive a in_a),
+  );
+}
+  where
+    plus_zero : (k : ℕ) → 0 + k ≡ k
+    plus_zero k = omega arith
+
+    gone : (p : ℕ) → fin.contains (fin.difference (members_of g) s) p ≡ (is_member g p && not (fin.contains s p))
+    gone p = contains-difference (members_of g) s p ∙ ap (λ b. b && not (fin.contains s p)) (contains-members_of g p)
+
+    dropped : (p : ℕ) → among (places n (fin.difference (members_of g) s)) p ≡ (is_member g p && not (fin.contains s p))
+    dropped p = among-places n (fin.difference (members_of g) s) (λ q e. closed.within q (and_parts (is_member g q) (not (fin.contains s q)) (sym (gone q) ∙ e)).0) p ∙ gone p
+
+    left : ClosesOn (λ q. not (among (places n (fin.difference (members_of g) s)) q) && is_member g q) (on (λ q. not (among (places n (fin.difference (members_of g) s)) q)) (is_ancestor g)) (left_pairs n g s pairs)
+    left = bridged_all_on (places n (fin.difference (members_of g) s)) (is_member g) (is_ancestor g) pairs closed.order (record { ends = closes.ends; walks = closes.walks })
+
+    -- what is not dropped is in the set
+    kept : (p : ℕ) → fin.contains s p ≡ true → not (among (places n (fin.difference (members_of g) s)) p) ≡ true
+    kept p e = ap not (dropped p ∙ ap₂ (λ x y. x && not y) (members p e) e)
+
+    stays_in : (p : ℕ) → fin.contains s p ≡ true → (not (among (places n (fin.difference (members_of g) s)) p) && is_member g p) ≡ true
+    stays_in p e = and_from _ _ (kept p e) (members p e)
+
+    in_set : (p : ℕ) → (not (among (places n (fin.difference (members_of g) s)) p) && is_member g p) ≡ true → fin.contains s p ≡ true
+    in_set p e =
+        let both : (not (among (places n (fin.difference (members_of g) s)) p) ≡ true) × (is_member g p ≡ true) = and_parts (not (among (places n (fin.difference (members_of g) s)) p)) (is_member g p) e in
+        known (fin.contains s p) (sym (ap not (dropped p ∙ ap (λ x. x && not (fin.contains s p)) both.1)) ∙ both.0)
+      where
+        known : (b : Bool) → not (true && not b) ≡ true → b ≡ true
+        known true e = refl
+        known false e = absurd (true≢false (sym e))
+
+    left_in : (p q : ℕ) → In (p, q) (left_pairs n g s pairs) → In p (places n s) × In q (places n s) × (is_ancestor g p q ≡ true)
+    left_in p q k =
+        let there : Contains {X = ℕ × ℕ} (left_pairs n g s pairs) (p, q) = Contains-In (left_pairs n g s pairs) (p, q) k in
+        let ends : ((not (among (places n (fin.difference (members_of g) s)) p) && is_member g p) ≡ true) × ((not (among (places n (fin.difference (members_of g) s)) q) && is_member g q) ≡ true) = left.ends p q there in
+        let walk : Walk (Along (left_pairs n g s pairs)) p q = (q ∷ [], (there, refl)) in
+        let on_it : on (λ q. not (among (places n (fin.difference (members_of g) s)) q)) (is_ancestor g) p q ≡ true = (left.walks p q ends.0 ends.1).1 walk in
+        (listed p (in_set p ends.0), listed q (in_set q ends.1), (and_parts (not (among (places n (fin.difference (members_of g) s)) q)) (is_ancestor g p q) (and_parts (not (among (places n (fin.difference (members_of g) s)) p)) (not (among (places n (fin.difference (members_of g) s)) q) && is_ancestor g p q) on_it).1).1)
+      where
+        listed : (p : ℕ) → fin.contains s p ≡ true → In p (places n s)
+        listed p e = In-Contains (places n s) p (Contains-places n s p (closed.within p (members p e)) e)
+
+    copied : (u v : ℕ) → Contains (renumbered_pairs (places n s) 0 (left_pairs n g s pairs)) (u, v) → (is_ancestor h u v ≡ true) × ((0 ≤ u) × (u < 0 + length (places n s))) × ((0 ≤ v) × (v < 0 + length (places n s)))
+    copied u v there = copied_pair g h (places n s) 0 (IsRising-places n s) part.copy (left_pairs n g s pairs) left_in u v (In-Contains (renumbered_pairs (places n s) 0 (left_pairs n g s pairs)) (u, v) there)

@@ -5,7 +5,7 @@ use Rattle.std.specs.FinSet as set
 use Rattle.bitset.specs.Places.{places}
 use Rattle.fee_rate.specs.declared.rates.FeeRate.{FeeRate}
 use Rattle.dep_graph.specs.Graph.{Graph, is_member, is_ancestor, members_of, IsClosed, HoldsMembers, AddsPlace, AddsPair, DropsPlace, IsMerged, IsPart}
-use Rattle.dep_graph.specs.Walks.{Walk, Along, bridged, renumbered_pairs}
+use Rattle.dep_graph.specs.Walks.{Walk, Along, bridged, renumbered_pairs, bridged_all}
 
 -- the pairs stand between members, and an ancestor is where a walk along them leads from
 pub record Closes (g : Graph) (pairs : List (ℕ × ℕ)) : Type 0 where
@@ -37,3 +37,8 @@ HoldsBetween g s = (a b c : ℕ) → set.contains s a ≡ true → set.contains 
 abbrev pub PairsAreParted : Type 0
 PairsAreParted = (n : ℕ) (g h : Graph) (s : set.FinSet nat_cmp) (pairs : List (ℕ × ℕ)) → IsClosed n g → IsClosed n h → Closes g pairs → HoldsMembers g s → HoldsBetween g s → IsPart g (places n s) h
     → Closes h (renumbered_pairs (places n s) 0 (filter (λ p. set.contains s p.0 && set.contains s p.1) pairs))
+
+-- any part has the pairs that are left when the other members are dropped, one after another
+abbrev pub PartIsBridged : Type 0
+PartIsBridged = (n : ℕ) (g h : Graph) (s : set.FinSet nat_cmp) (pairs : List (ℕ × ℕ)) → IsClosed n g → IsClosed n h → Closes g pairs → HoldsMembers g s → IsPart g (places n s) h
+    → Closes h (renumbered_pairs (places n s) 0 (bridged_all pairs (places n (set.difference (members_of g) s))))

@@ -37,6 +37,11 @@ avoids x p = not (nat_eq p.0 x) && not (nat_eq p.1 x)
 abbrev pub bridged : List (ℕ × ℕ) → ℕ → List (ℕ × ℕ)
 bridged pairs x = filter (avoids x) (pairs ++ each_with_each (parents pairs x) (children pairs x))
 
+-- the pairs when these are gone, one after another
+abbrev pub bridged_all : List (ℕ × ℕ) → List ℕ → List (ℕ × ℕ)
+bridged_all pairs [] = pairs
+bridged_all pairs (x ∷ xs) = bridged_all (bridged pairs x) xs
+
 -- ---- pairs numbered anew
 
 -- where p stands first in the list

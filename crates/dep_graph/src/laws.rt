@@ -1,4 +1,4 @@
-ghost use Rattle.dep_graph.specs.Laws.{PairIsAdded, PairsAreBridged, PairsAreMerged, PairsAreParted, PlaceKeepsPairs};
+ghost use Rattle.dep_graph.specs.Laws.{PairIsAdded, PartIsBridged, PairsAreBridged, PairsAreMerged, PairsAreParted, PlaceKeepsPairs};
 
 /// A law: where the ancestors are those of walks along some pairs, they still are after a member is added.
 pub fn add_keeps_the_pairs()
@@ -24,4 +24,10 @@ pub fn merge_joins_the_pairs()
 /// A law: a part that holds what lies between its places has the ancestors of walks along the pairs within it.
 pub fn part_keeps_the_pairs_within()
     ensures { PairsAreParted }
+{}
+
+/// A law: any part has the ancestors of walks along the pairs that are left when the other members are dropped, one
+/// after another.
+pub fn part_bridges_what_it_leaves_out()
+    ensures { PartIsBridged }
 {}

@@ -9,7 +9,8 @@ mod laws;
 
 pub use graph::DepGraph;
 pub use laws::{
-    add_dep_adds_the_pair, add_keeps_the_pairs, merge_joins_the_pairs, part_keeps_the_pairs_within,
+    add_dep_adds_the_pair, add_keeps_the_pairs, merge_joins_the_pairs,
+    part_bridges_what_it_leaves_out, part_keeps_the_pairs_within,
     remove_bridging_bridges_the_pairs,
 };
 
