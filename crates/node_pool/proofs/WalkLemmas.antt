@@ -1,5 +1,5 @@
 -- A walk along a ring gives each of its keys once.
-use Rattle.std.proofs.Common.{◌≡◌, ◌≢◌, ℕ, zero, suc, ◌+◌, ◌-◌, ◌<◌, ◌≤◌, List, [], ◌∷◌, length, get_or, slice_get, Option, Some, None, IsSome, refl, sym, ap, subst, ◌∙◌, inl, inr, arith, cond, true≢false}
+use Rattle.std.proofs.Common.{◌≡◌, ◌≢◌, ℕ, zero, suc, ◌+◌, ◌-◌, ◌^◌, ◌<◌, ◌≤◌, List, [], ◌∷◌, length, get_or, slice_get, Option, Some, None, IsSome, refl, sym, ap, subst, ◌∙◌, inl, inr, arith, cond, true≢false}
 use Rattle.std.proofs.lemmas.Bool.{cases_eq}
 use Rattle.std.proofs.lemmas.Bool.Decides.{eqb_tells, leb_tells}
 use Rattle.std.proofs.lemmas.Option.{slice_get_within, get_or_from_slice_get}
@@ -64,6 +64,15 @@ module _ {T : Type 0} (n : Nodes T) (r : ℕ) where
       later on zero k_below k_back rest = absurd (on k_back)
       later on (suc k) k_below k_back rest = let found = rest k (omega arith) k_back in (found.0, omega arith)
 
+  -- no more keys than the steps that the walk may take
+  length-keys_from : (first left slot : ℕ) → length (keys_from n r first left slot) ≤ left
+  length-keys_from first zero slot = omega arith
+  length-keys_from first (suc left) slot =
+      elim (eqb_tells (f slot) first) [
+        | inl here ↦ subst (λ b. suc (length (cond b [] (keys_from n r first left (f slot)))) ≤ suc left) (sym here.0) (omega arith)
+        | inr on ↦ subst (λ b. suc (length (cond b [] (keys_from n r first left (f slot)))) ≤ suc left) (sym on.0) (omega (arith, length-keys_from first left (f slot)))
+      ]
+
   -- a live key is the key of its slot
   key_in-live : (x : Key) → IsLive n x → key_in n x.slot ≡ x
   key_in-live x live =
@@ -125,8 +134,8 @@ module _ {T : Type 0} (n : Nodes T) (r : ℕ) where
               (less.0, less.1, less.2 ∙ sym (ap (λ m. walked f m a.slot) (sym split) ∙ walked-add f (length keys) rest a.slot ∙ ap (walked f rest) round.0))
         ]
 
-    pub IsRing-of : IsRing n r a keys
-    IsRing-of =
+    pub IsRing-of : left < 2 ^ 32 → IsRing n r a keys
+    IsRing-of fits =
         record {
           first = (Walks-keys a.slot left a.slot).reads 0 round.1 ∙ ap Some (key_in-live a live);
           once = λ i j x at_i at_j.
@@ -155,4 +164,5 @@ module _ {T : Type 0} (n : Nodes T) (r : ℕ) where
                 let read : get_or keys less.0 x ≡ key_in n (walked f less.0 a.slot) = get_or_from_slice_get keys less.0 _ x ((Walks-keys a.slot left a.slot).reads less.0 less.1) in
                 (less.0, less.1, read ∙ ap (key_in n) (less.2 ∙ ring.steps.1) ∙ key_in-live x ring.to),
           );
+          few = omega (arith, length-keys_from a.slot left a.slot);
         }

@@ -1,5 +1,5 @@
 -- The keys that a walk along a ring gives.
-use Rattle.std.specs.Prelude.{◌≡◌, ◌==◌, ◌↔◌, ℕ, zero, suc, List, [], ◌∷◌, Some, slice_get, Contains, if◌then◌else◌}
+use Rattle.std.specs.Prelude.{◌≡◌, ◌==◌, ◌^◌, ◌<◌, ◌↔◌, ℕ, zero, suc, List, [], ◌∷◌, Some, length, slice_get, Contains, if◌then◌else◌}
 use Rattle.node_pool.specs.Nodes.{Nodes, key_in, next_slot, SameRing}
 use Rattle.node_pool.specs.declared.pool.Key.{Key}
 use Rattle.node_pool.specs.declared.ring.Ring.{Ring}
@@ -20,3 +20,4 @@ module _ {T : Type 0} where
     pub first : slice_get keys 0 ≡ Some a
     pub once : (i j : ℕ) (x : Key) → slice_get keys i ≡ Some x → slice_get keys j ≡ Some x → i ≡ j
     pub members : (x : Key) → Contains keys x ↔ SameRing n r a x
+    pub few : length keys < 2 ^ 32

@@ -1,4 +1,6 @@
-//! The block, as Rust's `[MaybeUninit<T>]`: a row of places, each empty or holding a value.
+//! Raw memory as a row of places, each empty or holding a value. The six functions here are all of the crate that
+//! touches a raw pointer: they make a block and give it back, and fill, empty and reach a place. They follow the cells
+//! of the kit's `circular_buffer`.
 ghost use Rattle.std.specs.Prelude.{◌≡◌, ℕ, ◌<◌, List, Option, Some, None, length, replicate, get_or, slice_set, IfOk, ⊤};
 ghost use Rattle.std.specs.Borrow.{sem};
 ghost use Rattle.std.specs.Vec.Ownership.{FitsInBlock};
@@ -32,7 +34,7 @@ unsafe impl<T> Send for Base<T> {}
 
 unsafe impl<T> Sync for Base<T> {}
 
-/// The owner of the places. It takes no space: the buffer holds the pointer and the capacity.
+/// The owner of the places. It takes no space: the block holds the pointer and the capacity.
 pub struct Cells<T> {
     mark: PhantomData<*const T>,
     ghost at: { Ptr },
@@ -68,6 +70,7 @@ unsafe impl<T, A: Allocator + Send> Send for Deed<T, A> {}
 // A `&` to it holds nothing.
 unsafe impl<T, A: Allocator> Sync for Deed<T, A> {}
 
+/// Makes a block of `len` empty places.
 pub(crate) fn allocate<T, A: Allocator>(
     alloc: &A,
     len: usize,
@@ -90,6 +93,8 @@ pub(crate) fn allocate<T, A: Allocator>(
     }
 }
 
+/// Gives a block whose places are empty back to its allocator. The owner and the right are used up, so that no block
+/// is given back twice.
 pub(crate) fn deallocate<T, A: Allocator>(
     alloc: &A,
     base: Base<T>,
@@ -109,6 +114,7 @@ pub(crate) fn deallocate<T, A: Allocator>(
 impl<T> Cells<T> {
     ghost use Rattle.node_pool.specs.CellLends.{lends_slot};
 
+    /// Puts a value into an empty place.
     pub(crate) fn write(&mut self, base: Base<T>, index: usize, item: T)
         requires { (base.ptr ≡ self.old.at) × (index < length self.old.slots) × (get_or self.old.slots index None ≡ None) }
         ensures { (self.new.at ≡ self.old.at) × (self.new.slots ≡ slice_set self.old.slots index (Some item)) }
@@ -116,6 +122,7 @@ impl<T> Cells<T> {
         unsafe { base.ptr.add(index).write(item) }
     }
 
+    /// Takes the value out of a place, which is empty then.
     pub(crate) fn read(&mut self, base: Base<T>, index: usize) -> T
         requires { (base.ptr ≡ self.old.at) × IsFilled self.old.slots index }
         ensures value { get_or self.old.slots index None ≡ Some result }
@@ -124,6 +131,7 @@ impl<T> Cells<T> {
         unsafe { base.ptr.add(index).read() }
     }
 
+    /// The value in a place.
     pub(crate) fn get(&self, base: Base<T>, index: usize) -> &T
         requires { (base.ptr ≡ self.now.at) × IsFilled self.now.slots index }
         ensures { get_or self.now.slots index None ≡ Some result.now }
@@ -131,6 +139,7 @@ impl<T> Cells<T> {
         unsafe { &*base.ptr.add(index) }
     }
 
+    /// The value in a place, to write to.
     pub(crate) fn get_mut(&mut self, base: Base<T>, index: usize) -> &mut T
         requires { (base.ptr ≡ self.old.at) × IsFilled self.old.slots index }
         ensures* writes_back { sem 𝓛 (lends_slot T.row self.entry index result) }
