@@ -1,0 +1,4 @@
+pub mod Closures
+pub mod Flows
+pub mod Networks
+pub mod Queues

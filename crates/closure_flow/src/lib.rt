@@ -1,0 +1,7 @@
+//! Closed sets of greatest weight, by maximum flow.
+#![tactic(auto)]
+
+mod network;
+mod queue;
+
+pub use queue::{Entry, Queue};
