@@ -2,3 +2,5 @@ pub mod Lists
 pub mod Cuts
 pub mod Networks
 pub mod Sets
+pub mod Searches
+pub mod Queues

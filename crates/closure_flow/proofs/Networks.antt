@@ -1,6 +1,7 @@
 -- Writing one amount of a network.
 use Rattle.std.proofs.Common.{◌≡◌, ℕ, ◌+◌, ◌*◌, ◌^◌, ◌<◌, ◌≤◌, ◌⊎◌, inl, inr, List, length, get_or, set, replicate, Bool, true, false, cond, ℤ, pos, refl, sym, ap, ◌∙◌, subst, arith, get_or-set_same, get_or-set_other}
-use Rattle.std.proofs.Math.Nat.{mul-le-mul_right}
+use Rattle.std.proofs.Math.Nat.{mul-le-mul, mul-le-mul_right}
+use prog.Memory.{up}
 use Rattle.std.proofs.Math.ListN.{length-set}
 use Rattle.std.proofs.lemmas.Bool.{cases_eq, cases_lt}
 use Rattle.std.proofs.lemmas.List.{get_or-replicate, get_or_default}
@@ -8,7 +9,7 @@ use Rattle.std.proofs.lemmas.List.{get_or-replicate, get_or_default}
 use Rattle.std.specs.Ordering.{nat_cmp}
 use Rattle.std.specs.FinSet as fin
 use Rattle.bitset.specs.Sets.{contains-empty}
-use Rattle.closure_flow.specs.Closures.{parents_at}
+use Rattle.closure_flow.specs.Closures.{parents_at, weight_at}
 use Rattle.closure_flow.specs.Networks.{IsSized, IsLean, sent}
 
 pub pair_within : (n p c : ℕ) → p < n → c < n → p * n + c < n * n
@@ -148,3 +149,32 @@ pub writes_read : (n : ℕ) (into : List (fin.FinSet nat_cmp)) (amounts : List �
   → Writes n into child parent x new
 writes_read n into amounts rest child parent x old new sized hc hp e other none some =
     record { child_in = hc; parent_in = hp; other = λ c ne. other c ne ∙ sym (read_set n into amounts rest parent c old sized hp e); none = none; some = some }
+
+-- a rest that was read at a place within
+pub read_rest : (n : ℕ) (into : List (fin.FinSet nat_cmp)) (amounts : List ℕ) (rest : List ℤ) (p : ℕ) (z : ℤ) → IsSized n into amounts rest → p < n → z ≡ get_or rest p z → weight_at rest p ≡ z
+read_rest n into amounts rest p z sized h e = get_or_default rest p (pos 0) z (subst (λ (m : ℕ). p < m) (sym sized.rests) h) ∙ sym e
+
+-- a parent's set holds just the children that send it something
+pub senders_send : (n : ℕ) (into : List (fin.FinSet nat_cmp)) (amounts : List ℕ) (p c : ℕ) → IsLean n into amounts → p < n → fin.contains (parents_at into p) c ≡ true → (c < n) × (0 < sent n into amounts c p)
+senders_send n into amounts p c lean h m =
+    (lean.child c p h m, subst (λ (x : ℕ). 0 < x) (sym (sent_yes n into amounts c p m)) (lean.amount c p h m))
+
+pub send_senders : (n : ℕ) (into : List (fin.FinSet nat_cmp)) (amounts : List ℕ) (p c : ℕ) → 0 < sent n into amounts c p → fin.contains (parents_at into p) c ≡ true
+send_senders n into amounts p c h =
+    elim (cases (fin.contains (parents_at into p) c)) as (λ _. fin.contains (parents_at into p) c ≡ true) [
+      | inl m ↦ m
+      | inr m ↦ absurd (omega (arith, h, sent_no n into amounts c p m)) ]
+  where
+    cases : (b : Bool) → (b ≡ true) ⊎ (b ≡ false)
+    cases true = inl refl
+    cases false = inr refl
+
+pub read_parents : (parents : List (fin.FinSet nat_cmp)) (p q : ℕ) (s : fin.FinSet nat_cmp) → p < length parents → s ≡ get_or parents p s → fin.contains (parents_at parents p) q ≡ fin.contains s q
+read_parents parents p q s h e = ap (λ (f : fin.FinSet nat_cmp). fin.contains f q) (get_or_default parents p fin.empty s h ∙ sym e)
+
+-- a set of so few places lies in a small part of memory
+pub words_fit : (w : ℕ) (into : List (fin.FinSet nat_cmp)) (amounts : List ℕ) (rest : List ℤ) → IsSized (64 * w) into amounts rest → up 8 (0 + w * 8) < 2 ^ 63
+words_fit w into amounts rest s =
+    elim (cases_lt w (2 ^ 32)) as (λ _. up 8 (0 + w * 8) < 2 ^ 63) [
+      | inl few ↦ omega (arith, few)
+      | inr many ↦ absurd (omega (arith, s.small, mul-le-mul many many)) ]

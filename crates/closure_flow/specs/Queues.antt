@@ -1,5 +1,5 @@
 -- The places that a search has found, in the order in which it found them, and how many of them it has taken.
-use Rattle.std.specs.Prelude.{◌≡◌, ℕ, ◌<◌, ◌≤◌, ◌⊎◌, true, List, length, get_or, ℤ, pos, ◌<ℤ◌, ◌≤ℤ◌, Option, Some, None}
+use Rattle.std.specs.Prelude.{◌≡◌, ℕ, ◌<◌, ◌≤◌, ◌⊎◌, true, false, List, length, get_or, ℤ, pos, ◌<ℤ◌, ◌≤ℤ◌, Option, Some, None}
 use Rattle.std.specs.Ordering.{nat_cmp}
 use Rattle.std.specs.FinSet as set
 use Rattle.closure_flow.specs.declared.queue.Entry.{Entry}
@@ -29,6 +29,14 @@ pub record Grows (old new : List Entry) (next : set.FinSet nat_cmp) (from : Opti
   pub longer : length old ≤ length new
   pub kept : (i : ℕ) → i < length old → (place_at new i ≡ place_at old i) × (from_at new i ≡ from_at old i)
   pub added : (i : ℕ) → length old ≤ i → i < length new → (set.contains next (place_at new i) ≡ true) × (from_at new i ≡ from)
+
+-- the places that a place reaches in one step, of those that weren't seen: its parents of a set, and the children that send it flow
+pub record IsBeyond (n : ℕ) (parents : List (set.FinSet nat_cmp)) (within : set.FinSet nat_cmp) (flow : ℕ → ℕ → ℕ) (seen : set.FinSet nat_cmp) (t : ℕ) (next : set.FinSet nat_cmp) : Type 0 where
+  pub inside : (u : ℕ) → set.contains next u ≡ true → set.contains within u ≡ true
+  pub apart : (u : ℕ) → set.contains next u ≡ true → set.contains seen u ≡ false
+  pub reached : (u : ℕ) → set.contains next u ≡ true → (set.contains (parents_at parents t) u ≡ true) ⊎ (0 < flow u t)
+  pub along : (p : ℕ) → set.contains (parents_at parents t) p ≡ true → set.contains within p ≡ true → (set.contains seen p ≡ true) ⊎ (set.contains next p ≡ true)
+  pub against : (c : ℕ) → c < n → 0 < flow c t → (set.contains seen c ≡ true) ⊎ (set.contains next c ≡ true)
 
 -- each entry is a start, where something is left to be sent, or was found from an earlier entry along a pair or against a flow
 pub record IsSearch (n : ℕ) (parents : List (set.FinSet nat_cmp)) (within : set.FinSet nat_cmp) (flow : ℕ → ℕ → ℕ) (rest : ℕ → ℤ) (es : List Entry) : Type 0 where

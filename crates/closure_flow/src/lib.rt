@@ -3,5 +3,6 @@
 
 mod network;
 mod queue;
+mod search;
 
 pub use queue::{Entry, Queue};
