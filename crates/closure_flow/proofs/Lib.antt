@@ -3,4 +3,5 @@ pub mod Cuts
 pub mod Networks
 pub mod Sets
 pub mod Searches
+pub mod Paths
 pub mod Queues

@@ -2,6 +2,7 @@
 #![tactic(auto)]
 
 mod network;
+mod path;
 mod queue;
 mod search;
 

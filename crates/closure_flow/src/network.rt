@@ -9,6 +9,8 @@ use std::alloc::Global;
 /// Flow along pairs of a child and a parent, and what is left at each place, above 0 to be sent, below 0 to come.
 #[derive(Drop)]
 pub(crate) struct Network<const W: usize> {
+    /// The set of the places between which something may flow.
+    pub(crate) within: Bits<W>,
     /// By parent, the children that send it flow.
     pub(crate) into: Vec<Bits<W>>,
     /// By parent and child, the amount. It is read only where the child is in the parent's set.
@@ -24,6 +26,7 @@ impl<const W: usize> Network<W> {
     pub(crate) fn new(alloc: Global) -> Result<Self, NoMemory> {
         let (places, pairs) = sizes::<W>().ok_or(NoMemory)?;
         Ok(Network {
+            within: Bits::empty(),
             into: vec![in alloc; Bits::empty(); places]?,
             amounts: vec![in alloc; 0; pairs]?,
             rest: vec![in alloc; 0; places]?,
@@ -50,6 +53,7 @@ impl<const W: usize> Network<W> {
         ensures here { sent (64 * W) self.new.into.items self.new.amounts.items child parent ≡ amount }
         ensures others { (c p : ℕ) → c < 64 * W → p < 64 * W → ((c ≡ child) × (p ≡ parent) → ⊥) → sent (64 * W) self.new.into.items self.new.amounts.items c p ≡ sent (64 * W) self.old.into.items self.old.amounts.items c p }
         ensures rest { self.new.rest.items ≡ self.old.rest.items }
+        ensures within { self.new.within ≡ self.old.within }
     {
         let senders = marked(self.into[parent], child, amount);
         let at = self.place_of(child, parent);

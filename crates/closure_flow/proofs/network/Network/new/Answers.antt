@@ -20,4 +20,4 @@ invariant_of-result g c =
         pairs = ap length amounts ∙ length-replicate _ _ ∙ pairs;
         rests = ap length rest ∙ length-replicate _ _ ∙ places;
         small = subst (λ (m : ℕ). m < 2 ^ 64) pairs fits };
-      lean = subst (λ xs. IsLean n xs c.in_ok-vec-2.field-0.items) (sym (into ∙ ap (λ (m : ℕ). replicate m c.empty.result) places ∙ ap (replicate n) c.empty.ensures)) (lean_fresh n c.in_ok-vec-2.field-0.items) }
+      lean = subst (λ xs. IsLean n xs c.in_ok-vec-2.field-0.items) (sym (into ∙ ap (λ (m : ℕ). replicate m c.empty-2.result) places ∙ ap (replicate n) c.empty-2.ensures)) (lean_fresh n c.in_ok-vec-2.field-0.items) }
