@@ -178,3 +178,19 @@ words_fit w into amounts rest s =
     elim (cases_lt w (2 ^ 32)) as (λ _. up 8 (0 + w * 8) < 2 ^ 63) [
       | inl few ↦ omega (arith, few)
       | inr many ↦ absurd (omega (arith, s.small, mul-le-mul many many)) ]
+
+pub network_fits : (w : ℕ) (into : List (fin.FinSet nat_cmp)) (amounts : List ℕ) (rest : List ℤ) → IsSized (64 * w) into amounts rest → up 8 (up 8 (up 8 (up 8 (0 + up 8 (0 + w * 8)) + 24) + 24) + 24) < 2 ^ 63
+network_fits w into amounts rest s =
+    elim (cases_lt w (2 ^ 32)) as (λ _. up 8 (up 8 (up 8 (up 8 (0 + up 8 (0 + w * 8)) + 24) + 24) + 24) < 2 ^ 63) [
+      | inl few ↦
+        let u1 : ℕ = up 8 (0 + w * 8) in
+        let u2 : ℕ = up 8 (0 + u1) in
+        let u3 : ℕ = up 8 (u2 + 24) in
+        let u4 : ℕ = up 8 (u3 + 24) in
+        bounded u1 u2 u3 u4 (up 8 (u4 + 24)) w few (padded (0 + w * 8)) (padded (0 + u1)) (padded (u2 + 24)) (padded (u3 + 24)) (padded (u4 + 24))
+      | inr many ↦ absurd (omega (arith, s.small, mul-le-mul many many)) ]
+  where
+    padded : (x : ℕ) → up 8 x < x + 8
+    padded x = omega arith
+    bounded : (a b d e f w : ℕ) → w < 2 ^ 32 → a < 0 + w * 8 + 8 → b < 0 + a + 8 → d < b + 24 + 8 → e < d + 24 + 8 → f < e + 24 + 8 → f < 2 ^ 63
+    bounded a b d e f w few ha hb hd he hf = omega arith

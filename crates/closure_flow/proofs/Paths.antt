@@ -1,5 +1,5 @@
 -- Sending along a path, one pair at a time, and what it leaves.
-use Rattle.std.proofs.Common.{◌≡◌, ℕ, zero, suc, ◌+◌, ◌-◌, ◌*◌, ◌^◌, ◌<◌, ◌≤◌, ◌⊎◌, inl, inr, List, [], ◌∷◌, length, Bool, true, false, cond, min, nat_eq, Option, Some, None, ℤ, pos, negsuc, ◌+ℤ◌, ◌-ℤ◌, neg_ℤ, ◌≤ℤ◌, ◌<ℤ◌, unsigned_abs, refl, sym, ap, ◌∙◌, subst, arith, eq-eqb, ne_eqb, le-ltb}
+use Rattle.std.proofs.Common.{◌≡◌, ℕ, zero, suc, ◌+◌, ◌-◌, ◌*◌, ◌^◌, ◌<◌, ◌≤◌, ◌⊎◌, inl, inr, List, [], ◌∷◌, length, Bool, true, false, cond, min, nat_eq, Option, Some, None, MatchOption, ℤ, pos, negsuc, ◌+ℤ◌, ◌-ℤ◌, neg_ℤ, ◌≤ℤ◌, ◌<ℤ◌, unsigned_abs, refl, sym, ap, ◌∙◌, subst, arith, eq-eqb, ne_eqb, le-ltb}
 use Rattle.std.proofs.lemmas.Bool.{cases_eq, cases_lt}
 use Rattle.std.proofs.lemmas.Int.{ints}
 use Rattle.std.specs.List.{filter, range_with_len}
@@ -12,6 +12,7 @@ use Rattle.closure_flow.specs.Closures.{parents_at}
 use Rattle.closure_flow.specs.Flows.{Among, net, surplus, only_at}
 use Rattle.closure_flow.specs.Networks.{Fits, IsAllowed, IsSteady, Keeps, LetsThrough, PathLets, Pushes, Sends}
 use Rattle.closure_flow.specs.Queues.{place_at, from_at, IsSearch}
+use Rattle.closure_flow.proofs.Sets.{clash}
 use Rattle.closure_flow.proofs.Lists.{net_bump, surplus_moved, only_at-here, only_at-else}
 use borrow.Author.Differences.{up, down}
 
@@ -171,3 +172,54 @@ sends_step n parents within F G H rest es at here before amount below s h lt sen
       | inr ne ↦ elim (this_or_not c p (place_at es here) (place_at es before)) as (λ _. H c p ≤ F c p + amount) [
         | inl e ↦ subst (λ (x : ℕ). H x p ≤ F x p + amount) (sym e.0) (subst (λ (y : ℕ). H (place_at es here) y ≤ F (place_at es here) y + amount) (sym e.1) (at_pair here before (omega arith) (omega (arith, lt))))
         | inr nf ↦ omega (arith, push.others c p (below c m) (below p k) ne nf, sent.more c p m k) ] ]
+
+-- ---- what a path lets through
+pub fits_start : (parents : List (set.FinSet nat_cmp)) (flow : ℕ → ℕ → ℕ) (rest : ℕ → ℤ) (es : List Entry) (i amount : ℕ) → from_at es i ≡ None → pos amount ≤ℤ rest (place_at es i) → Fits parents flow rest es i amount
+fits_start parents flow rest es i amount none enough =
+    record {
+      steps = 1;
+      lets = subst (λ (o : Option ℕ). MatchOption o (pos amount ≤ℤ rest (place_at es i)) (λ j. LetsThrough parents flow amount (place_at es j) (place_at es i) × PathLets parents flow rest es amount 0 j)) (sym none) enough }
+
+pub fits_step : (parents : List (set.FinSet nat_cmp)) (flow : ℕ → ℕ → ℕ) (rest : ℕ → ℤ) (es : List Entry) (i j amount : ℕ) → from_at es i ≡ Some j → LetsThrough parents flow amount (place_at es j) (place_at es i) → Fits parents flow rest es j amount → Fits parents flow rest es i amount
+fits_step parents flow rest es i j amount some lets before =
+    record {
+      steps = suc before.steps;
+      lets = subst (λ (o : Option ℕ). MatchOption o (pos amount ≤ℤ rest (place_at es i)) (λ k. LetsThrough parents flow amount (place_at es k) (place_at es i) × PathLets parents flow rest es amount before.steps k)) (sym some) (lets, before.lets) }
+
+lets_at : (parents : List (set.FinSet nat_cmp)) (flow : ℕ → ℕ → ℕ) (rest : ℕ → ℤ) (es : List Entry) (i amount k : ℕ) → PathLets parents flow rest es amount k i
+  → (m : ℕ) × MatchOption (from_at es i) (pos amount ≤ℤ rest (place_at es i)) (λ j. LetsThrough parents flow amount (place_at es j) (place_at es i) × PathLets parents flow rest es amount m j)
+lets_at parents flow rest es i amount zero l = absurd l
+lets_at parents flow rest es i amount (suc k) l = (k, l)
+
+pub fits_enough : (parents : List (set.FinSet nat_cmp)) (flow : ℕ → ℕ → ℕ) (rest : ℕ → ℤ) (es : List Entry) (i amount : ℕ) → Fits parents flow rest es i amount → from_at es i ≡ None → pos amount ≤ℤ rest (place_at es i)
+fits_enough parents flow rest es i amount f none =
+    let l = lets_at parents flow rest es i amount f.steps f.lets in
+    subst (λ (o : Option ℕ). MatchOption o (pos amount ≤ℤ rest (place_at es i)) (λ j. LetsThrough parents flow amount (place_at es j) (place_at es i) × PathLets parents flow rest es amount l.0 j)) none l.1
+
+pub fits_next : (parents : List (set.FinSet nat_cmp)) (flow : ℕ → ℕ → ℕ) (rest : ℕ → ℤ) (es : List Entry) (i j amount : ℕ) → Fits parents flow rest es i amount → from_at es i ≡ Some j → LetsThrough parents flow amount (place_at es j) (place_at es i) × Fits parents flow rest es j amount
+fits_next parents flow rest es i j amount f some =
+    let l = lets_at parents flow rest es i amount f.steps f.lets in
+    let both = subst (λ (o : Option ℕ). MatchOption o (pos amount ≤ℤ rest (place_at es i)) (λ k. LetsThrough parents flow amount (place_at es k) (place_at es i) × PathLets parents flow rest es amount l.0 k)) some l.1 in
+    (both.0, record { steps = l.0; lets = both.1 })
+
+pub lets_less : (parents : List (set.FinSet nat_cmp)) (flow : ℕ → ℕ → ℕ) (less amount from to : ℕ) → less ≤ amount → LetsThrough parents flow amount from to → LetsThrough parents flow less from to
+lets_less parents flow less amount from to h (inl m) = inl m
+lets_less parents flow less amount from to h (inr m) = inr (omega (arith, h, m))
+
+-- what still lets an amount through when the flows among the entries before are as they were
+pub lets_still : (parents : List (set.FinSet nat_cmp)) (F G : ℕ → ℕ → ℕ) (amount from to : ℕ) → G to from ≡ F to from → LetsThrough parents F amount from to → LetsThrough parents G amount from to
+lets_still parents F G amount from to e (inl m) = inl m
+lets_still parents F G amount from to e (inr m) = inr (omega (arith, e, m))
+
+-- what a start has left
+pub start_left : (z : ℤ) (m : ℕ) → m ≡ unsigned_abs z → pos 0 <ℤ z → (pos m ≤ℤ z) × (0 < m)
+start_left (pos k) m e h = (omega (arith, ints, e), omega (arith, ints, e, h))
+start_left (negsuc k) m e h = absurd (omega (arith, ints, h))
+
+pub against_only : (parents : List (set.FinSet nat_cmp)) (flow : ℕ → ℕ → ℕ) (amount from to : ℕ) → LetsThrough parents flow amount from to → set.contains (parents_at parents from) to ≡ false → amount ≤ flow to from
+against_only parents flow amount from to (inl m) n = clash _ m n
+against_only parents flow amount from to (inr m) n = m
+
+-- the least of a limit and of what the start has left
+pub enough_of : (z : ℤ) (m limit : ℕ) → m ≡ unsigned_abs z → pos 0 <ℤ z → pos (min limit m) ≤ℤ z
+enough_of z m limit e h = let l = start_left z m e h in omega (arith, ints, l.0)
