@@ -1,5 +1,5 @@
 -- Writing one amount of a network.
-use Rattle.std.proofs.Common.{◌≡◌, ℕ, ◌+◌, ◌*◌, ◌^◌, ◌<◌, ◌≤◌, ◌⊎◌, inl, inr, List, length, get_or, set, replicate, Bool, true, false, cond, ℤ, pos, refl, sym, ap, ◌∙◌, subst, arith, get_or-set_same, get_or-set_other}
+use Rattle.std.proofs.Common.{◌≡◌, ℕ, ◌+◌, ◌*◌, ◌^◌, ◌<◌, ◌≤◌, ◌⊎◌, inl, inr, List, length, get_or, set, replicate, Bool, true, false, cond, ℤ, pos, ◌+ℤ◌, ◌-ℤ◌, neg_ℤ, refl, sym, ap, ◌∙◌, subst, arith, get_or-set_same, get_or-set_other}
 use Rattle.std.proofs.Math.Nat.{mul-le-mul, mul-le-mul_right}
 use prog.Memory.{up}
 use Rattle.std.proofs.Math.ListN.{length-set}
@@ -10,6 +10,9 @@ use Rattle.std.specs.Ordering.{nat_cmp}
 use Rattle.std.specs.FinSet as fin
 use Rattle.bitset.specs.Sets.{contains-empty}
 use Rattle.closure_flow.specs.Closures.{parents_at, weight_at}
+use Rattle.closure_flow.specs.Flows.{only_at}
+use Rattle.closure_flow.proofs.Lists.{only_at-here, only_at-else}
+use Rattle.std.proofs.lemmas.Int.{ints}
 use Rattle.closure_flow.specs.Networks.{IsSized, IsLean, sent}
 
 pub pair_within : (n p c : ℕ) → p < n → c < n → p * n + c < n * n
@@ -194,3 +197,49 @@ network_fits w into amounts rest s =
     padded x = omega arith
     bounded : (a b d e f w : ℕ) → w < 2 ^ 32 → a < 0 + w * 8 + 8 → b < 0 + a + 8 → d < b + 24 + 8 → e < d + 24 + 8 → f < e + 24 + 8 → f < 2 ^ 63
     bounded a b d e f w few ha hb hd he hf = omega arith
+
+-- ---- a place begun anew
+pub sized_begin : (n : ℕ) (into : List (fin.FinSet nat_cmp)) (amounts : List ℕ) (rest : List ℤ) (p : ℕ) (z : ℤ) → IsSized n into amounts rest → IsSized n (set into p fin.empty) amounts (set rest p z)
+sized_begin n into amounts rest p z s =
+    record { sets = length-set into p fin.empty ∙ s.sets; pairs = s.pairs; rests = length-set rest p z ∙ s.rests; small = s.small }
+
+pub sized_rests : (n : ℕ) (into : List (fin.FinSet nat_cmp)) (amounts : List ℕ) (rest : List ℤ) (p q : ℕ) (y z : ℤ) → IsSized n into amounts rest → IsSized n into amounts (set (set rest p y) q z)
+sized_rests n into amounts rest p q y z s =
+    record { sets = s.sets; pairs = s.pairs; rests = length-set (set rest p y) q z ∙ length-set rest p y ∙ s.rests; small = s.small }
+
+pub lean_begin : (n : ℕ) (into : List (fin.FinSet nat_cmp)) (amounts : List ℕ) (rest : List ℤ) (place : ℕ) → IsSized n into amounts rest → place < n → IsLean n into amounts → IsLean n (set into place fin.empty) amounts
+lean_begin n into amounts rest place s h lean =
+    record {
+      child = λ c p hp m. lean.child c p hp (old c p m);
+      amount = λ c p hp m. lean.amount c p hp (old c p m) }
+  where
+    inside : place < length into
+    inside = subst (λ (m : ℕ). place < m) (sym s.sets) h
+    old : (c p : ℕ) → fin.contains (parents_at (set into place fin.empty) p) c ≡ true → fin.contains (parents_at into p) c ≡ true
+    old c p m = elim (cases_eq p place) as (λ _. fin.contains (parents_at into p) c ≡ true) [
+      | inl e ↦ absurd (let k : false ≡ true = sym (contains-empty c) ∙ ap (λ (f : fin.FinSet nat_cmp). fin.contains f c) (sym (get_or-set_same into place fin.empty fin.empty inside) ∙ ap (λ (q : ℕ). parents_at (set into place fin.empty) q) (sym e)) ∙ m in cc)
+      | inr ne ↦ ap (λ (f : fin.FinSet nat_cmp). fin.contains f c) (sym (get_or-set_other into place p fin.empty fin.empty ne)) ∙ m ]
+
+-- two rests written, one after the other
+pub shifted : (rest : List ℤ) (from to amount t : ℕ) → from < length rest → to < length rest → (from ≡ to → ⊥)
+  → weight_at (set (set rest from (weight_at rest from -ℤ pos amount)) to (weight_at rest to +ℤ pos amount)) t ≡ (weight_at rest t -ℤ only_at from (pos amount) t) +ℤ only_at to (pos amount) t
+shifted rest from to amount t hf ht apart =
+    elim (cases_eq t to) as (λ _. weight_at (set (set rest from (weight_at rest from -ℤ pos amount)) to (weight_at rest to +ℤ pos amount)) t ≡ (weight_at rest t -ℤ only_at from (pos amount) t) +ℤ only_at to (pos amount) t) [
+      | inl e ↦
+        let here : weight_at (set (set rest from (weight_at rest from -ℤ pos amount)) to (weight_at rest to +ℤ pos amount)) to ≡ weight_at rest to +ℤ pos amount =
+          get_or-set_same (set rest from (weight_at rest from -ℤ pos amount)) to _ (pos 0) (subst (λ (m : ℕ). to < m) (sym (length-set rest from _)) ht) in
+        subst (λ (x : ℕ). weight_at (set (set rest from (weight_at rest from -ℤ pos amount)) to (weight_at rest to +ℤ pos amount)) x ≡ (weight_at rest x -ℤ only_at from (pos amount) x) +ℤ only_at to (pos amount) x) (sym e)
+          (omega (arith, ints, here, only_at-here to (pos amount), only_at-else from to (pos amount) (λ q. apart (sym q))))
+      | inr ne ↦
+        let first : weight_at (set (set rest from (weight_at rest from -ℤ pos amount)) to (weight_at rest to +ℤ pos amount)) t ≡ weight_at (set rest from (weight_at rest from -ℤ pos amount)) t =
+          get_or-set_other (set rest from (weight_at rest from -ℤ pos amount)) to t _ (pos 0) ne in
+        elim (cases_eq t from) as (λ _. weight_at (set (set rest from (weight_at rest from -ℤ pos amount)) to (weight_at rest to +ℤ pos amount)) t ≡ (weight_at rest t -ℤ only_at from (pos amount) t) +ℤ only_at to (pos amount) t) [
+          | inl e ↦
+            let here : weight_at (set rest from (weight_at rest from -ℤ pos amount)) from ≡ weight_at rest from -ℤ pos amount = get_or-set_same rest from _ (pos 0) hf in
+            let here_t : weight_at (set rest from (weight_at rest from -ℤ pos amount)) t ≡ weight_at rest t -ℤ pos amount =
+              subst (λ (x : ℕ). weight_at (set rest from (weight_at rest from -ℤ pos amount)) x ≡ weight_at rest x -ℤ pos amount) (sym e) here in
+            let one : only_at from (pos amount) t ≡ pos amount = subst (λ (x : ℕ). only_at from (pos amount) x ≡ pos amount) (sym e) (only_at-here from (pos amount)) in
+            omega (arith, ints, first, here_t, one, only_at-else to t (pos amount) ne)
+          | inr nf ↦
+            let second : weight_at (set rest from (weight_at rest from -ℤ pos amount)) t ≡ weight_at rest t = get_or-set_other rest from t _ (pos 0) nf in
+            omega (arith, ints, first, second, only_at-else to t (pos amount) ne, only_at-else from t (pos amount) nf) ] ]

@@ -40,6 +40,11 @@ abbrev pub Keeps : ℕ → set.FinSet nat_cmp → (ℕ → ℕ → ℕ) → (ℕ
 Keeps n within flow rest flow' rest' =
     (t : ℕ) → set.contains within t ≡ true → rest' t +ℤ net (places n within) flow' t ≡ rest t +ℤ net (places n within) flow t
 
+-- the flows and the rests of a network after some amounts went along pairs, from places that had them left to places that lacked them
+pub record Improves (n : ℕ) (parents : List (set.FinSet nat_cmp)) (within : set.FinSet nat_cmp) (flow : ℕ → ℕ → ℕ) (rest : ℕ → ℤ) (flow' : ℕ → ℕ → ℕ) (rest' : ℕ → ℤ) : Type 0 where
+  pub steady : IsSteady n parents within flow' rest'
+  pub keeps : Keeps n within flow rest flow' rest'
+
 -- a step of a path, from one place to another, lets an amount through: it goes along a pair, or takes back flow that runs against it
 abbrev pub LetsThrough : List (set.FinSet nat_cmp) → (ℕ → ℕ → ℕ) → ℕ → ℕ → ℕ → Type 0
 LetsThrough parents flow amount from to = (set.contains (parents_at parents from) to ≡ true) ⊎ (amount ≤ flow to from)

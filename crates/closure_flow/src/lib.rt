@@ -5,5 +5,6 @@ mod network;
 mod path;
 mod queue;
 mod search;
+mod solver;
 
 pub use queue::{Entry, Queue};

@@ -1,5 +1,7 @@
-ghost use Rattle.std.specs.Prelude.{◌≡◌, ℕ, ◌+◌, ◌-◌, ◌*◌, ◌<◌, ◌≤◌, ◌^◌, true, false, length, IfSome};
+ghost use Rattle.std.specs.Prelude.{◌≡◌, ℕ, ◌+◌, ◌-◌, ◌*◌, ◌<◌, ◌≤◌, ◌^◌, true, false, pos, neg_ℤ, ◌+ℤ◌, ◌-ℤ◌, ◌≤ℤ◌, length, slice_set, IfSome};
 ghost use Rattle.std.specs.FinSet as set;
+ghost use Rattle.closure_flow.specs.Closures.{weight_at};
+ghost use Rattle.closure_flow.specs.Flows.{only_at};
 ghost use Rattle.closure_flow.specs.Networks.{IsLean, IsSized, sent};
 
 use bitset::Bits;
@@ -59,6 +61,36 @@ impl<const W: usize> Network<W> {
         let at = self.place_of(child, parent);
         self.into[parent] = senders;
         self.amounts[at] = amount;
+    }
+
+    /// Moves what is left at one place to another, which lacks as much.
+    pub(crate) fn shift(&mut self, from: usize, to: usize, amount: u128)
+        requires from { from < 64 * W }
+        requires to { to < 64 * W }
+        requires apart { from ≡ to → ⊥ }
+        requires enough { pos amount ≤ℤ weight_at self.old.rest.items from }
+        requires lacks { weight_at self.old.rest.items to ≤ℤ neg_ℤ (pos amount) }
+        ensures rest { (t : ℕ) → t < 64 * W → weight_at self.new.rest.items t ≡ (weight_at self.old.rest.items t -ℤ only_at from (pos amount) t) +ℤ only_at to (pos amount) t }
+        ensures into { self.new.into.items ≡ self.old.into.items }
+        ensures amounts { self.new.amounts.items ≡ self.old.amounts.items }
+        ensures within { self.new.within ≡ self.old.within }
+    {
+        let left = self.rest[from];
+        let lacks = self.rest[to];
+        self.rest[from] = left - amount as i128;
+        self.rest[to] = lacks + amount as i128;
+    }
+
+    /// Begins a place anew: its weight is left there, and nothing flows to it.
+    pub(crate) fn begin(&mut self, place: usize, weight: i128)
+        requires { place < 64 * W }
+        ensures rest { self.new.rest.items ≡ slice_set self.old.rest.items place weight }
+        ensures into { self.new.into.items ≡ slice_set self.old.into.items place set.empty }
+        ensures amounts { self.new.amounts.items ≡ self.old.amounts.items }
+        ensures within { self.new.within ≡ self.old.within }
+    {
+        self.rest[place] = weight;
+        self.into[place] = Bits::empty();
     }
 
     // Where the amount of a pair lies.

@@ -1,0 +1,55 @@
+ghost use Rattle.std.specs.Prelude.{◌≡◌, ℕ, ◌+◌, ◌*◌, ◌^◌, ◌<◌, ◌≤◌, true, length, ℤ, pos, ◌+ℤ◌, ◌-ℤ◌, ◌<ℤ◌, ◌≤ℤ◌};
+ghost use Rattle.std.specs.FinSet as set;
+ghost use Rattle.bitset.specs.Places.{IsWithin, places};
+ghost use Rattle.closure_flow.specs.Closures.{parents_at, weight_at};
+ghost use Rattle.closure_flow.specs.Flows.{net, surplus};
+ghost use Rattle.closure_flow.specs.Networks.{Improves, IsSteady, sent};
+ghost use Rattle.closure_flow.specs.Queues.{IsSealed, IsSearch, Lists, place_at};
+
+use bitset::Bits;
+use step_count::{Ledger, Steps};
+
+use crate::Queue;
+use crate::network::Network;
+use crate::path::{narrowest, push, send};
+use crate::search::{put_all, search};
+
+/// Sends what the path to an entry, whose place lacks something, lets through.
+fn augment<const W: usize>(network: &mut Network<W>, queue: &Queue<W>, parents: &[Bits<W>], at: usize)
+    requires at { at < length queue.now.entries }
+    requires lacks { weight_at network.old.rest.items (place_at queue.now.entries at) <ℤ pos 0 }
+    requires parents { (t : ℕ) → set.contains network.old.within t ≡ true → t < length parents.now }
+    requires below { IsWithin (64 * W) network.old.within }
+    requires search { IsSearch (64 * W) parents.now network.old.within (sent (64 * W) network.old.into.items network.old.amounts.items) (weight_at network.old.rest.items) queue.now.entries }
+    requires steady { IsSteady (64 * W) parents.now network.old.within (sent (64 * W) network.old.into.items network.old.amounts.items) (weight_at network.old.rest.items) }
+    ensures improves { Improves (64 * W) parents.now network.old.within (sent (64 * W) network.old.into.items network.old.amounts.items) (weight_at network.old.rest.items) (sent (64 * W) network.new.into.items network.new.amounts.items) (weight_at network.new.rest.items) }
+    ensures falls { surplus (weight_at network.new.rest.items) (places (64 * W) network.old.within) < surplus (weight_at network.old.rest.items) (places (64 * W) network.old.within) }
+    ensures within { network.new.within ≡ network.old.within }
+{
+    let end = queue.entry(at).place;
+    let lack = network.rest[end].unsigned_abs();
+    let amount = narrowest(network, queue, parents, at, lack);
+    let start = send(network, queue, parents, at, amount);
+    network.shift(start, end, amount);
+}
+
+/// Gives what a place has left to a parent, as far as that lacks something.
+fn give<const W: usize>(network: &mut Network<W>, parents: &[Bits<W>], from: usize, to: usize)
+    requires parents { (t : ℕ) → set.contains network.old.within t ≡ true → t < length parents.now }
+    requires below { IsWithin (64 * W) network.old.within }
+    requires from { set.contains network.old.within from ≡ true }
+    requires to { set.contains network.old.within to ≡ true }
+    requires apart { from ≡ to → ⊥ }
+    requires pair { set.contains (parents_at parents.now from) to ≡ true }
+    requires steady { IsSteady (64 * W) parents.now network.old.within (sent (64 * W) network.old.into.items network.old.amounts.items) (weight_at network.old.rest.items) }
+    ensures improves { Improves (64 * W) parents.now network.old.within (sent (64 * W) network.old.into.items network.old.amounts.items) (weight_at network.old.rest.items) (sent (64 * W) network.new.into.items network.new.amounts.items) (weight_at network.new.rest.items) }
+    ensures within { network.new.within ≡ network.old.within }
+{
+    let left = network.rest[from];
+    let lacks = network.rest[to];
+    if left > 0 && lacks < 0 {
+        let amount = left.unsigned_abs().min(lacks.unsigned_abs());
+        push(network, parents, from, to, amount);
+        network.shift(from, to, amount);
+    }
+}
