@@ -101,3 +101,11 @@ pub room_for : (n : ℕ) (s : set.FinSet nat_cmp) (k : ℕ) → IsWithin n s →
 room_for n s k w h out =
     let within : IsWithin n (set.insert s k) = λ q m. elim (from_insert s k q m) as (λ _. q < n) [ inl e ↦ subst (λ (x : ℕ). x < n) (sym e) h | inr m2 ↦ w q m2 ] in
     omega (arith, len_within n (set.insert s k) within, len_insert s k out)
+
+pub same_by_members : (s t : set.FinSet nat_cmp) → ((q : ℕ) → set.contains s q ≡ true → set.contains t q ≡ true) → ((q : ℕ) → set.contains t q ≡ true → set.contains s q ≡ true) → s ≡ t
+same_by_members s t there back = same_members s t (λ q. same (set.contains s q) (set.contains t q) (there q) (back q))
+  where
+    same : (a b : Bool) → (a ≡ true → b ≡ true) → (b ≡ true → a ≡ true) → a ≡ b
+    same true b h k = sym (h refl)
+    same false true h k = k refl
+    same false false h k = refl

@@ -106,3 +106,10 @@ same_sent n into into' amounts amounts' e f = ap (λ xs. sent n xs amounts) (sym
 
 pub both_some : (y z : ℤ) (l m : ℕ) → l ≡ unsigned_abs y → m ≡ unsigned_abs z → pos 0 <ℤ y → z <ℤ pos 0 → 0 < min l m
 both_some y z l m e f h k = omega (arith, has_some y l e h, lacks_some z m f k)
+
+-- ---- one improvement after another
+pub improves_none : (n : ℕ) (parents : List (set.FinSet nat_cmp)) (within : set.FinSet nat_cmp) (F : ℕ → ℕ → ℕ) (r : ℕ → ℤ) → IsSteady n parents within F r → Improves n parents within F r F r
+improves_none n parents within F r s = record { steady = s; keeps = λ t h. refl }
+
+pub improves_more : (n : ℕ) (parents : List (set.FinSet nat_cmp)) (within : set.FinSet nat_cmp) (F G H : ℕ → ℕ → ℕ) (r s u : ℕ → ℤ) → Improves n parents within F r G s → Improves n parents within G s H u → Improves n parents within F r H u
+improves_more n parents within F G H r s u a b = record { steady = b.steady; keeps = λ t h. b.keeps t h ∙ a.keeps t h }

@@ -53,3 +53,72 @@ fn give<const W: usize>(network: &mut Network<W>, parents: &[Bits<W>], from: usi
         network.shift(from, to, amount);
     }
 }
+
+/// Gives what a place has left to its parents, as far as they lack something.
+fn settle<const W: usize>(network: &mut Network<W>, parents: &[Bits<W>], place: usize)
+    requires parents { (t : ℕ) → set.contains network.old.within t ≡ true → t < length parents.now }
+    requires below { IsWithin (64 * W) network.old.within }
+    requires place { set.contains network.old.within place ≡ true }
+    requires steady { IsSteady (64 * W) parents.now network.old.within (sent (64 * W) network.old.into.items network.old.amounts.items) (weight_at network.old.rest.items) }
+    ensures improves { Improves (64 * W) parents.now network.old.within (sent (64 * W) network.old.into.items network.old.amounts.items) (weight_at network.old.rest.items) (sent (64 * W) network.new.into.items network.new.amounts.items) (weight_at network.new.rest.items) }
+    ensures within { network.new.within ≡ network.old.within }
+{
+    let mut to = parents[place].meet(&network.within);
+    to.remove(place);
+    while let Some(parent) = to.least() {
+        to.remove(parent);
+        give(network, parents, place, parent);
+    }
+}
+
+/// A first flow, without a search: each place of a queue, the last one first, gives to parents that lack something.
+fn first_flow<const W: usize>(network: &mut Network<W>, queue: &Queue<W>, parents: &[Bits<W>])
+    requires parents { (t : ℕ) → set.contains network.old.within t ≡ true → t < length parents.now }
+    requires below { IsWithin (64 * W) network.old.within }
+    requires lists { Lists queue.now.entries network.old.within }
+    requires steady { IsSteady (64 * W) parents.now network.old.within (sent (64 * W) network.old.into.items network.old.amounts.items) (weight_at network.old.rest.items) }
+    ensures improves { Improves (64 * W) parents.now network.old.within (sent (64 * W) network.old.into.items network.old.amounts.items) (weight_at network.old.rest.items) (sent (64 * W) network.new.into.items network.new.amounts.items) (weight_at network.new.rest.items) }
+    ensures within { network.new.within ≡ network.old.within }
+{
+    let mut at = queue.taken();
+    while at > 0 {
+        at -= 1;
+        settle(network, parents, queue.entry(at).place);
+    }
+}
+
+/// Begins each place of the network's set anew: it takes each from the queue once, and counts a step for it.
+fn load<L: Ledger, const W: usize>(network: &mut Network<W>, queue: &mut Queue<W>, weights: &[i128], steps: &mut Steps<L>)
+    requires weights { (t : ℕ) → set.contains network.old.within t ≡ true → t < length weights.now }
+    requires below { IsWithin (64 * W) network.old.within }
+    ensures rest { (t : ℕ) → set.contains network.old.within t ≡ true → weight_at network.new.rest.items t ≡ weight_at weights.now t }
+    ensures none { (c p : ℕ) → set.contains network.old.within p ≡ true → sent (64 * W) network.new.into.items network.new.amounts.items c p ≡ 0 }
+    ensures lists { Lists queue.new.entries network.old.within }
+    ensures steps { steps.new ≡ steps.old + set.len network.old.within }
+    ensures within { network.new.within ≡ network.old.within }
+{
+    queue.clear();
+    let _all = put_all(queue, &Bits::empty(), &network.within, None);
+    while let Some(place) = queue.take(steps) {
+        network.begin(place, weights[place]);
+    }
+}
+
+/// Searches and augments until no place that lacks something can be reached, and tells the places reached then.
+fn complete<L: Ledger, const W: usize>(network: &mut Network<W>, queue: &mut Queue<W>, parents: &[Bits<W>], steps: &mut Steps<L>) -> Bits<W>
+    requires parents { (t : ℕ) → set.contains network.old.within t ≡ true → t < length parents.now }
+    requires below { IsWithin (64 * W) network.old.within }
+    requires steady { IsSteady (64 * W) parents.now network.old.within (sent (64 * W) network.old.into.items network.old.amounts.items) (weight_at network.old.rest.items) }
+    ensures improves { Improves (64 * W) parents.now network.old.within (sent (64 * W) network.old.into.items network.old.amounts.items) (weight_at network.old.rest.items) (sent (64 * W) network.new.into.items network.new.amounts.items) (weight_at network.new.rest.items) }
+    ensures sealed { IsSealed (64 * W) parents.now network.old.within (sent (64 * W) network.new.into.items network.new.amounts.items) (weight_at network.new.rest.items) result }
+    ensures steps { steps.old ≤ steps.new }
+    ensures within { network.new.within ≡ network.old.within }
+{
+    loop {
+        let reach = search(network, queue, parents, &network.within, steps);
+        let Some(at) = reach.end else {
+            return reach.seen;
+        };
+        augment(network, queue, parents, at);
+    }
+}
