@@ -5,5 +5,6 @@ pub mod Networks
 pub mod Sets
 pub mod Searches
 pub mod Steadiness
+pub mod Optimum
 pub mod Paths
 pub mod Queues

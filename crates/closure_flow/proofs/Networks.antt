@@ -8,6 +8,7 @@ use Rattle.std.proofs.lemmas.List.{get_or-replicate, get_or_default}
 
 use Rattle.std.specs.Ordering.{nat_cmp}
 use Rattle.std.specs.FinSet as fin
+use Rattle.bitset.specs.Places.{IsWithin}
 use Rattle.bitset.specs.Sets.{contains-empty}
 use Rattle.closure_flow.specs.Closures.{parents_at, weight_at}
 use Rattle.closure_flow.specs.Flows.{only_at}
@@ -243,3 +244,21 @@ shifted rest from to amount t hf ht apart =
           | inr nf ↦
             let second : weight_at (set rest from (weight_at rest from -ℤ pos amount)) t ≡ weight_at rest t = get_or-set_other rest from t _ (pos 0) nf in
             omega (arith, ints, first, second, only_at-else to t (pos amount) ne, only_at-else from t (pos amount) nf) ] ]
+
+-- nothing is shown that a place outside a set receives, or that something that is no place sends
+pub not_received : (n : ℕ) (within : fin.FinSet nat_cmp) (into : List (fin.FinSet nat_cmp)) (amounts : List ℕ) (c p : ℕ) → fin.contains within p ≡ false → cond (fin.contains within p) (sent n into amounts c p) 0 ≡ 0
+not_received n within into amounts c p m = ap (λ (b : Bool). cond b (sent n into amounts c p) 0) m
+
+pub not_sent : (n : ℕ) (within : fin.FinSet nat_cmp) (into : List (fin.FinSet nat_cmp)) (amounts : List ℕ) (c p : ℕ) → IsLean n into amounts → IsWithin n within → n ≤ c → cond (fin.contains within p) (sent n into amounts c p) 0 ≡ 0
+not_sent n within into amounts c p lean below h =
+    elim (cases (fin.contains within p)) as (λ _. cond (fin.contains within p) (sent n into amounts c p) 0 ≡ 0) [
+      | inl m ↦
+        ap (λ (b : Bool). cond b (sent n into amounts c p) 0) m
+        ∙ elim (cases (fin.contains (parents_at into p) c)) as (λ _. sent n into amounts c p ≡ 0) [
+          | inl k ↦ absurd (omega (arith, h, lean.child c p (below p m) k))
+          | inr k ↦ sent_no n into amounts c p k ]
+      | inr m ↦ not_received n within into amounts c p m ]
+  where
+    cases : (b : Bool) → (b ≡ true) ⊎ (b ≡ false)
+    cases true = inl refl
+    cases false = inr refl

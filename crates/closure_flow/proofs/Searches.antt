@@ -118,6 +118,9 @@ pub searching_end : (n : ℕ) (parents : List (set.FinSet nat_cmp)) (within : se
 searching_end n parents within flow rest es k seen s all =
     record {
       inside = s.inside;
+      some = λ t m.
+        let f = s.lists.only t m in
+        first (omega (arith, f.1)) (from_at es 0) refl;
       starts = s.swept.starts;
       content = λ t m.
         let f = s.lists.only t m in
@@ -129,6 +132,9 @@ searching_end n parents within flow rest es k seen s all =
         let f = s.lists.only t m in
         s.swept.against f.0 c (taken f.0 f.1) h (subst (λ (x : ℕ). 0 < flow c x) (sym f.2) a) }
   where
+    first : 0 < length es → (o : Option ℕ) → from_at es 0 ≡ o → (u : ℕ) × (set.contains within u ≡ true) × (pos 0 <ℤ rest u)
+    first h None e = (place_at es 0, s.search.inside 0 h, s.search.start 0 h e)
+    first h (Some j) e = absurd (omega (arith, (s.search.step 0 j h e).0))
     taken : (i : ℕ) → i < length es → i < k
     taken i h = omega (arith, h, all)
 

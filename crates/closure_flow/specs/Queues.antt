@@ -53,9 +53,10 @@ pub record IsSwept (n : ℕ) (parents : List (set.FinSet nat_cmp)) (within : set
   pub along : (i p : ℕ) → i < taken → set.contains (parents_at parents (place_at es i)) p ≡ true → set.contains within p ≡ true → set.contains seen p ≡ true
   pub against : (i c : ℕ) → i < taken → c < n → 0 < flow c (place_at es i) → set.contains seen c ≡ true
 
--- a set out of which no search finds a way, with all that is left to be sent in it
+-- a set out of which no search finds a way, with all that is left to be sent in it; it is empty where nothing is left
 pub record IsSealed (n : ℕ) (parents : List (set.FinSet nat_cmp)) (within : set.FinSet nat_cmp) (flow : ℕ → ℕ → ℕ) (rest : ℕ → ℤ) (seen : set.FinSet nat_cmp) : Type 0 where
   pub inside : (t : ℕ) → set.contains seen t ≡ true → set.contains within t ≡ true
+  pub some : (t : ℕ) → set.contains seen t ≡ true → (u : ℕ) × (set.contains within u ≡ true) × (pos 0 <ℤ rest u)
   pub starts : (t : ℕ) → set.contains within t ≡ true → pos 0 <ℤ rest t → set.contains seen t ≡ true
   pub content : (t : ℕ) → set.contains seen t ≡ true → pos 0 ≤ℤ rest t
   pub along : (t p : ℕ) → set.contains seen t ≡ true → set.contains (parents_at parents t) p ≡ true → set.contains within p ≡ true → set.contains seen p ≡ true

@@ -1,5 +1,6 @@
-ghost use Rattle.std.specs.Prelude.{◌≡◌, ℕ, ◌+◌, ◌-◌, ◌*◌, ◌<◌, ◌≤◌, ◌^◌, true, false, pos, neg_ℤ, ◌+ℤ◌, ◌-ℤ◌, ◌≤ℤ◌, length, slice_set, IfSome};
+ghost use Rattle.std.specs.Prelude.{◌≡◌, ℕ, ◌+◌, ◌-◌, ◌*◌, ◌<◌, ◌≤◌, ◌^◌, true, false, pos, neg_ℤ, ◌+ℤ◌, ◌-ℤ◌, ◌≤ℤ◌, length, slice_set, IfOk, IfSome};
 ghost use Rattle.std.specs.FinSet as set;
+ghost use Rattle.bitset.specs.Places.{IsWithin};
 ghost use Rattle.closure_flow.specs.Closures.{weight_at};
 ghost use Rattle.closure_flow.specs.Flows.{only_at};
 ghost use Rattle.closure_flow.specs.Networks.{IsLean, IsSized, sent};
@@ -21,11 +22,14 @@ pub(crate) struct Network<const W: usize> {
     pub(crate) rest: Vec<i128>,
     ghost sized: { IsSized (64 * W) into.items amounts.items rest.items },
     ghost lean: { IsLean (64 * W) into.items amounts.items },
+    ghost inside: { IsWithin (64 * W) within },
 }
 
 impl<const W: usize> Network<W> {
     /// A network in which nothing flows.
-    pub(crate) fn new(alloc: Global) -> Result<Self, NoMemory> {
+    pub(crate) fn new(alloc: Global) -> Result<Self, NoMemory>
+        ensures { IfOk result (λ n. n.within ≡ set.empty) }
+    {
         let (places, pairs) = sizes::<W>().ok_or(NoMemory)?;
         Ok(Network {
             within: Bits::empty(),

@@ -1,18 +1,67 @@
-ghost use Rattle.std.specs.Prelude.{◌≡◌, ℕ, ◌+◌, ◌*◌, ◌^◌, ◌<◌, ◌≤◌, true, length, ℤ, pos, ◌+ℤ◌, ◌-ℤ◌, ◌<ℤ◌, ◌≤ℤ◌};
+ghost use Rattle.std.specs.Prelude.{◌≡◌, ℕ, ◌+◌, ◌*◌, ◌^◌, ◌<◌, ◌≤◌, true, length, ℤ, pos, ◌+ℤ◌, ◌-ℤ◌, ◌<ℤ◌, ◌≤ℤ◌, unsigned_abs, int_lt, sum_by, count_by};
 ghost use Rattle.std.specs.FinSet as set;
 ghost use Rattle.bitset.specs.Places.{IsWithin, places};
-ghost use Rattle.closure_flow.specs.Closures.{parents_at, weight_at};
+ghost use Rattle.closure_flow.specs.Closures.{IsBalanced, IsClosed, IsNoneHeavier, parents_at, weight_at, weight_of};
 ghost use Rattle.closure_flow.specs.Flows.{net, surplus};
 ghost use Rattle.closure_flow.specs.Networks.{Improves, IsSteady, sent};
+ghost use Rattle.closure_flow.specs.Outcomes.{IfBetter, OnBalanced};
+ghost use Rattle.closure_flow.specs.Scratches.{flow_of};
 ghost use Rattle.closure_flow.specs.Queues.{IsSealed, IsSearch, Lists, place_at};
 
 use bitset::Bits;
 use step_count::{Ledger, Steps};
 
-use crate::Queue;
+use crate::{Queue, Scratch};
 use crate::network::Network;
 use crate::path::{narrowest, push, send};
 use crate::search::{put_all, search};
+
+/// What a solver answers.
+#[derive(Debug, Drop)]
+pub enum Outcome<const W: usize> {
+    /// Some closed set has positive weight. This is one of the greatest weight.
+    Better(Bits<W>),
+    /// No closed set has positive weight. A balanced flow shows it.
+    Balanced,
+}
+
+/// Finds a closed set of greatest weight among the places of a set, or a balanced flow that shows that none has
+/// positive weight.
+///
+/// Weights and parents are given by place. The weights of the set sum to 0, and their absolute values to less than
+/// 2^126. It takes no memory: it works in `scratch`, where a balanced flow is left. Each place that it takes from a
+/// queue is a step.
+pub fn solve<L: Ledger, const W: usize>(scratch: &mut Scratch<W>, weights: &[i128], parents: &[Bits<W>], within: Bits<W>, steps: &mut Steps<L>) -> Outcome<W>
+    requires weights { (t : ℕ) → set.contains within t ≡ true → t < length weights.now }
+    requires parents { (t : ℕ) → set.contains within t ≡ true → t < length parents.now }
+    requires sum { weight_of (64 * W) weights.now within ≡ pos 0 }
+    requires small { sum_by (λ t. unsigned_abs (weight_at weights.now t)) (places (64 * W) within) < 2 ^ 126 }
+
+    // A closed set of positive weight is answered exactly where there is one, and none is heavier.
+    ensures closed { IfBetter result (IsClosed parents.now within.entry) }
+    ensures positive { IfBetter result (λ s. pos 0 <ℤ weight_of (64 * W) weights.now s) }
+    ensures greatest { IfBetter result (λ s. IsNoneHeavier (64 * W) weights.now parents.now within.entry (weight_of (64 * W) weights.now s)) }
+    ensures none { OnBalanced result (IsNoneHeavier (64 * W) weights.now parents.now within.entry (pos 0)) }
+    ensures flow { OnBalanced result (IsBalanced (64 * W) weights.now parents.now within.entry (flow_of scratch.new)) }
+
+    // Each place of negative weight is taken at least once.
+    ensures steps_better { IfBetter result (λ _. steps.old < steps.new) }
+    ensures steps_balanced { OnBalanced result (steps.old + count_by (λ t. int_lt (weight_at weights.now t) (pos 0)) (places (64 * W) within.entry) ≤ steps.new) }
+{
+    if within.least().is_none() {
+        scratch.network.within = within;
+        return Outcome::Balanced;
+    }
+    scratch.network.within = within;
+    load(&mut scratch.network, &mut scratch.queue, weights, steps);
+    first_flow(&mut scratch.network, &scratch.queue, parents);
+    let reached = complete(&mut scratch.network, &mut scratch.queue, parents, steps);
+    if reached.least().is_none() {
+        Outcome::Balanced
+    } else {
+        Outcome::Better(reached)
+    }
+}
 
 /// Sends what the path to an entry, whose place lacks something, lets through.
 fn augment<const W: usize>(network: &mut Network<W>, queue: &Queue<W>, parents: &[Bits<W>], at: usize)

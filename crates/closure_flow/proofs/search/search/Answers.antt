@@ -52,3 +52,6 @@ loop-place-preserved g c =
         (subst (λ (t : ℕ). IsBeyond n c.args.parents.now c.args.within.now flow c.loop-place.seen t c.beyond-next.result) k.place c.beyond-next.ensures)
         a.lists a.within grows a.old a.new a.only),
       omega (arith, k.step, c.loop-place.invariant.1))
+
+pub returns-clause-end : goal.returns-clause-end
+returns-clause-end g c = searching_end (64 * g.row.W) _ _ _ _ _ _ _ c.loop-place.invariant.0 c.in_default.ensures.none

@@ -3,6 +3,8 @@ use Rattle.std.proofs.lemmas.List.{length-replicate}
 use Rattle.std.specs.FinSet as fin
 use Rattle.closure_flow.specs.Networks.{IsLean}
 use Rattle.closure_flow.proofs.Networks.{lean_fresh}
+use Rattle.bitset.specs.Sets.{contains-empty}
+use Rattle.closure_flow.proofs.Sets.{clash}
 use Rattle.closure_flow.proofs.network.Network.new.Goals as goal
 
 pub invariant_of-result : goal.invariant_of-result
@@ -20,4 +22,5 @@ invariant_of-result g c =
         pairs = ap length amounts ∙ length-replicate _ _ ∙ pairs;
         rests = ap length rest ∙ length-replicate _ _ ∙ places;
         small = subst (λ (m : ℕ). m < 2 ^ 64) pairs fits };
-      lean = subst (λ xs. IsLean n xs c.in_ok-vec-2.field-0.items) (sym (into ∙ ap (λ (m : ℕ). replicate m c.empty-2.result) places ∙ ap (replicate n) c.empty-2.ensures)) (lean_fresh n c.in_ok-vec-2.field-0.items) }
+      lean = subst (λ xs. IsLean n xs c.in_ok-vec-2.field-0.items) (sym (into ∙ ap (λ (m : ℕ). replicate m c.empty-2.result) places ∙ ap (replicate n) c.empty-2.ensures)) (lean_fresh n c.in_ok-vec-2.field-0.items);
+      inside = λ p m. clash _ m (ap (λ s. fin.contains s p) c.empty.ensures ∙ contains-empty p) }

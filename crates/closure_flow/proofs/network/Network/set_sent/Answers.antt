@@ -12,7 +12,8 @@ invariant_of-self g c =
       lean =
         subst (λ (i : ℕ). IsLean n (set c.args.self.now.into.items c.args.parent c.marked-senders.result) (set c.args.self.now.amounts.items i c.args.amount)) (sym c.place_of-at.ensures.at)
           (lean_set n _ _ c.args.self.now.rest.items c.args.child c.args.parent c.args.amount _ c.args.self.now.sized c.args.self.now.lean
-            (writes_read n _ _ _ _ _ _ _ _ c.args.self.now.sized c.requires.child c.requires.parent c.index.ensures m.other m.none m.some)) }
+            (writes_read n _ _ _ _ _ _ _ _ c.args.self.now.sized c.requires.child c.requires.parent c.index.ensures m.other m.none m.some));
+      inside = c.args.self.now.inside }
 
 pub returns-clause-here : goal.returns-clause-here
 returns-clause-here g c =
