@@ -262,3 +262,16 @@ not_sent n within into amounts c p lean below h =
     cases : (b : Bool) → (b ≡ true) ⊎ (b ≡ false)
     cases true = inl refl
     cases false = inr refl
+
+pub shown_within : (n : ℕ) (within : fin.FinSet nat_cmp) (into : List (fin.FinSet nat_cmp)) (amounts : List ℕ) (c p : ℕ) → fin.contains within p ≡ true → cond (fin.contains within p) (sent n into amounts c p) 0 ≡ sent n into amounts c p
+shown_within n within into amounts c p m = ap (λ (b : Bool). cond b (sent n into amounts c p) 0) m
+
+pub shown_only : (n : ℕ) (within : fin.FinSet nat_cmp) (into : List (fin.FinSet nat_cmp)) (amounts : List ℕ) (c p : ℕ) → IsLean n into amounts → IsWithin n within → 0 < cond (fin.contains within p) (sent n into amounts c p) 0 → (c < n) × (fin.contains within p ≡ true)
+shown_only n within into amounts c p lean below h =
+    elim (cases (fin.contains within p)) as (λ _. (c < n) × (fin.contains within p ≡ true)) [
+      | inl m ↦ (lean.child c p (below p m) (send_senders n into amounts p c (subst (λ (x : ℕ). 0 < x) (shown_within n within into amounts c p m) h)), m)
+      | inr m ↦ absurd (omega (arith, h, not_received n within into amounts c p m)) ]
+  where
+    cases : (b : Bool) → (b ≡ true) ⊎ (b ≡ false)
+    cases true = inl refl
+    cases false = inr refl

@@ -1,18 +1,19 @@
 -- When no search goes on: the places reached are a closed set of greatest weight, and none is reached exactly where the flow is balanced.
-use Rattle.std.proofs.Common.{◌≡◌, ℕ, zero, suc, ◌+◌, ◌-◌, ◌*◌, ◌^◌, ◌<◌, ◌≤◌, ◌⊎◌, inl, inr, List, [], ◌∷◌, length, Bool, true, false, cond, ℤ, pos, negsuc, ◌+ℤ◌, ◌-ℤ◌, neg_ℤ, ◌≤ℤ◌, ◌<ℤ◌, unsigned_abs, refl, sym, ap, ◌∙◌, subst, arith}
+use Rattle.std.proofs.Common.{◌≡◌, ℕ, zero, suc, ◌+◌, ◌-◌, ◌*◌, ◌^◌, ◌<◌, ◌≤◌, ◌⊎◌, inl, inr, List, [], ◌∷◌, length, Bool, true, false, not, cond, Option, Some, None, MatchOption, is_some, ℤ, pos, negsuc, ◌+ℤ◌, ◌-ℤ◌, neg_ℤ, ◌≤ℤ◌, ◌<ℤ◌, unsigned_abs, refl, sym, ap, ◌∙◌, subst, arith}
 use Rattle.std.proofs.lemmas.Bool.{cases_eq, cases_lt}
 use Rattle.std.proofs.lemmas.Int.{ints}
 use Rattle.std.proofs.lemmas.List.Sums.{sum_by-cons}
-use Rattle.std.specs.List.{filter, range_with_len, sum_by}
+use Rattle.std.specs.List.{count_by, filter, range_with_len, sum_by}
 use Rattle.std.specs.Ordering.{nat_cmp}
 use Rattle.std.specs.FinSet as set
 use Rattle.arithmetic.specs.Sums.{total}
 use Rattle.arithmetic.proofs.Sums.{total-add, total-filter_cond, total_same}
-use Rattle.bitset.specs.Places.{IsWithin, places}
-use Rattle.bitset.specs.Sets.{contains-empty, places-empty}
+use Rattle.bitset.specs.Places.{IsLeast, IsWithin, places}
+use Rattle.bitset.specs.Sets.{contains-empty, len-places, places-empty}
+use Rattle.closure_flow.proofs.Sets.{clash, same_by_members}
 use Rattle.closure_flow.specs.Closures.{IsBalanced, IsClosed, IsNoneHeavier, parents_at, weight_at, weight_of}
 use Rattle.closure_flow.specs.Flows.{Among, net, surplus, shortage}
-use Rattle.closure_flow.specs.Networks.{IsAllowed, IsSteady}
+use Rattle.closure_flow.specs.Networks.{Improves, IsAllowed, IsSteady}
 use Rattle.closure_flow.specs.Queues.{IsSealed}
 use Rattle.closure_flow.proofs.Cuts.{inside, net_of_closed, net_of_sealed, rests_low, rests_all}
 use Rattle.closure_flow.proofs.Lists.{total_along, rests_split, up_within, down_within}
@@ -174,3 +175,73 @@ pub left_start : (n : ℕ) (weights : ℕ → ℤ) (within : set.FinSet nat_cmp)
   → (t : ℕ) → set.contains within t ≡ true → rest t +ℤ net (places n within) flow t ≡ weights t
 left_start n weights within flow rest below left none t m =
     omega (arith, ints, left t m, net_none (places n within) flow t (among_places n within t (below t m) m) (λ c p h. none c p (places_among n within p h).1))
+
+-- ---- the whole run
+pub solved : (n : ℕ) (weights : List ℤ) (parents : List (set.FinSet nat_cmp)) (within : set.FinSet nat_cmp) (F G H : ℕ → ℕ → ℕ) (r s u : ℕ → ℤ)
+  → IsWithin n within
+  → ((t : ℕ) → set.contains within t ≡ true → r t ≡ weight_at weights t) → ((c p : ℕ) → set.contains within p ≡ true → F c p ≡ 0)
+  → Improves n parents within F r G s → Improves n parents within G s H u → Ends n weights parents within H u
+solved n weights parents within F G H r s u below left none first second =
+    record {
+      below = below;
+      allowed = second.steady.allowed;
+      left = λ t m. second.keeps t m ∙ first.keeps t m ∙ left_start n (weight_at weights) within F r below left none t m }
+
+pub none_where_sealed : (n : ℕ) (weights : List ℤ) (parents : List (set.FinSet nat_cmp)) (within : set.FinSet nat_cmp) (flow : ℕ → ℕ → ℕ) (rest : ℕ → ℤ) (s : set.FinSet nat_cmp)
+  → Ends n weights parents within flow rest → IsSealed n parents within flow rest s → s ≡ set.empty → IsNoneHeavier n weights parents within (pos 0)
+none_where_sealed n weights parents within flow rest s e sealed none =
+    subst (λ (k : ℕ). IsNoneHeavier n weights parents within (pos k)) (nothing_over n weights parents within flow rest s e sealed none) (none_heavier n weights parents within flow rest e)
+
+pub positive_where_some : (n : ℕ) (weights : List ℤ) (parents : List (set.FinSet nat_cmp)) (within : set.FinSet nat_cmp) (flow : ℕ → ℕ → ℕ) (rest : ℕ → ℤ) (s : set.FinSet nat_cmp) (t : ℕ)
+  → Ends n weights parents within flow rest → IsSealed n parents within flow rest s → set.contains s t ≡ true → pos 0 <ℤ weight_of n weights s
+positive_where_some n weights parents within flow rest s t e sealed m =
+    omega (arith, ints, sealed_weight n weights parents within flow rest s e sealed, sealed_some n parents within flow rest s t e.below sealed m)
+
+pub greatest_where_sealed : (n : ℕ) (weights : List ℤ) (parents : List (set.FinSet nat_cmp)) (within : set.FinSet nat_cmp) (flow : ℕ → ℕ → ℕ) (rest : ℕ → ℤ) (s : set.FinSet nat_cmp)
+  → Ends n weights parents within flow rest → IsSealed n parents within flow rest s → IsNoneHeavier n weights parents within (weight_of n weights s)
+greatest_where_sealed n weights parents within flow rest s e sealed =
+    subst (λ (z : ℤ). IsNoneHeavier n weights parents within z) (sym (sealed_weight n weights parents within flow rest s e sealed)) (none_heavier n weights parents within flow rest e)
+
+-- ---- an empty set
+pub empty_none : (n : ℕ) (weights : List ℤ) (parents : List (set.FinSet nat_cmp)) (within : set.FinSet nat_cmp) → within ≡ set.empty → IsNoneHeavier n weights parents within (pos 0)
+empty_none n weights parents within e s closed =
+    let none : s ≡ set.empty = same_by_members s set.empty
+      (λ q m. clash _ (closed.inside q m) (ap (λ x. set.contains x q) e ∙ contains-empty q))
+      (λ q m. clash _ m (contains-empty q)) in
+    omega (arith, ints, ap (weight_of n weights) none ∙ ap (total (weight_at weights)) (places-empty n))
+
+pub empty_balanced : (n : ℕ) (weights : List ℤ) (parents : List (set.FinSet nat_cmp)) (within : set.FinSet nat_cmp) (shown : ℕ → ℕ → ℕ) → within ≡ set.empty
+  → ((c p : ℕ) → set.contains within p ≡ false → shown c p ≡ 0) → IsBalanced n weights parents within shown
+empty_balanced n weights parents within shown e zero_ =
+    record {
+      even = λ t m. clash _ m (out t);
+      child = λ c p f. absurd (omega (arith, zero_ c p (out p), f));
+      parent = λ c p f. absurd (omega (arith, zero_ c p (out p), f));
+      pair = λ c p f. absurd (omega (arith, zero_ c p (out p), f)) }
+  where
+    out : (t : ℕ) → set.contains within t ≡ false
+    out t = ap (λ x. set.contains x t) e ∙ contains-empty t
+
+-- ---- counting
+count_le : (p : ℕ → Bool) (xs : List ℕ) → count_by p xs ≤ length xs
+count_le p [] = omega arith
+count_le p (x ∷ xs) = omega (arith, sum_by-cons (λ y. cond (p y) 1 0) x xs, count_le p xs, one (p x))
+  where
+    one : (b : Bool) → cond b 1 0 ≤ 1
+    one true = omega arith
+    one false = omega arith
+
+pub count_within : (n : ℕ) (p : ℕ → Bool) (s : set.FinSet nat_cmp) → IsWithin n s → count_by p (places n s) ≤ set.len s
+count_within n p s w = omega (arith, count_le p (places n s), len-places n s w)
+
+pub count_empty : (n : ℕ) (p : ℕ → Bool) (s : set.FinSet nat_cmp) → s ≡ set.empty → count_by p (places n s) ≡ 0
+count_empty n p s e = ap (λ x. count_by p (places n x)) e ∙ ap (count_by p) (places-empty n)
+
+-- ---- whether there is a least place
+pub none_is_empty : (o : Option ℕ) (b : Bool) (s : set.FinSet nat_cmp) → is_some o ≡ not b → b ≡ true → MatchOption o (s ≡ set.empty) (IsLeast s) → s ≡ set.empty
+none_is_empty None b s e t m = m
+none_is_empty (Some p) b s e t m = absurd (let f : true ≡ false = e ∙ ap not t in cc)
+
+pub some_is_least : (o : Option ℕ) (b : Bool) (s : set.FinSet nat_cmp) → is_some o ≡ not b → b ≡ false → MatchOption o (s ≡ set.empty) (IsLeast s) → (p : ℕ) × (set.contains s p ≡ true)
+some_is_least None b s e t m = absurd (let f : false ≡ true = e ∙ ap not t in cc)
+some_is_least (Some p) b s e t m = (p, m.member)
