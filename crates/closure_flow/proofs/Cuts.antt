@@ -1,11 +1,11 @@
 -- What a set that no search leaves says of all closed sets.
-use Rattle.std.proofs.Common.{◌≡◌, ℕ, zero, suc, ◌+◌, ◌-◌, ◌<◌, ◌≤◌, ◌⊎◌, inl, inr, List, [], ◌∷◌, Bool, true, false, not, cond, nat_eq, ℤ, pos, negsuc, ◌+ℤ◌, ◌-ℤ◌, neg_ℤ, ◌≤ℤ◌, ◌<ℤ◌, refl, sym, ap, ◌∙◌, subst, arith, eq-eqb, ne_eqb}
+use Rattle.std.proofs.Common.{◌≡◌, ℕ, zero, suc, ◌<◌, inl, inr, List, [], ◌∷◌, Bool, true, false, cond, ℤ, pos, negsuc, ◌-ℤ◌, ◌≤ℤ◌, ◌<ℤ◌, refl, sym, ap, ◌∙◌, arith}
 use Rattle.std.proofs.lemmas.Int.{ints}
 use Rattle.arithmetic.specs.Sums.{total}
-use Rattle.arithmetic.proofs.Sums.{total_same, total-add, total-sub, total_swap}
-use Rattle.closure_flow.specs.Flows.{Among, net, surplus, shortage}
-use Rattle.closure_flow.proofs.Lists.{total_along, rests_split}
-use borrow.Author.Differences.{up, down}
+use Rattle.arithmetic.proofs.Sums.{total_same, total-sub, total_swap}
+use Rattle.closure_flow.specs.Flows.{Among, net, surplus}
+use Rattle.closure_flow.proofs.Lists.{total_along}
+use borrow.Author.Differences.{up}
 
 -- a sum over the entries that a test passes, 0 at the others
 abbrev pub inside : (ℕ → Bool) → (ℕ → ℤ) → ℕ → ℤ
@@ -29,21 +29,21 @@ inside_sub false x y = refl
 
 -- the net flow out of a set, as one double sum: what its members send, less what its members receive
 pub net_inside : (ts : List ℕ) (F : ℕ → ℕ → ℕ) (m : ℕ → Bool)
-  → total (inside m (net ts F)) ts ≡ total (λ t. total (λ s. cond (m t) (pos (F t s)) (pos 0) -ℤ cond (m s) (pos (F t s)) (pos 0)) ts) ts
+    → total (inside m (net ts F)) ts ≡ total (λ t. total (λ s. cond (m t) (pos (F t s)) (pos 0) -ℤ cond (m s) (pos (F t s)) (pos 0)) ts) ts
 unfolding net
 net_inside ts F m =
     let split : total (inside m (net ts F)) ts ≡ total (λ t. total (λ s. cond (m t) (pos (F t s)) (pos 0)) ts) ts -ℤ total (λ t. total (λ s. cond (m t) (pos (F s t)) (pos 0)) ts) ts =
-      total_same (inside m (net ts F)) (λ t. total (λ s. cond (m t) (pos (F t s)) (pos 0)) ts -ℤ total (λ s. cond (m t) (pos (F s t)) (pos 0)) ts) ts
-        (λ t. inside_total (m t) (λ s. pos (F t s) -ℤ pos (F s t)) ts
-          ∙ total_same (λ s. cond (m t) (pos (F t s) -ℤ pos (F s t)) (pos 0)) (λ s. cond (m t) (pos (F t s)) (pos 0) -ℤ cond (m t) (pos (F s t)) (pos 0)) ts (λ s. inside_sub (m t) (pos (F t s)) (pos (F s t)))
-          ∙ total-sub (λ s. cond (m t) (pos (F t s)) (pos 0)) (λ s. cond (m t) (pos (F s t)) (pos 0)) ts)
-      ∙ total-sub (λ t. total (λ s. cond (m t) (pos (F t s)) (pos 0)) ts) (λ t. total (λ s. cond (m t) (pos (F s t)) (pos 0)) ts) ts in
+    total_same (inside m (net ts F)) (λ t. total (λ s. cond (m t) (pos (F t s)) (pos 0)) ts -ℤ total (λ s. cond (m t) (pos (F s t)) (pos 0)) ts) ts
+    (λ t. inside_total (m t) (λ s. pos (F t s) -ℤ pos (F s t)) ts
+    ∙ total_same (λ s. cond (m t) (pos (F t s) -ℤ pos (F s t)) (pos 0)) (λ s. cond (m t) (pos (F t s)) (pos 0) -ℤ cond (m t) (pos (F s t)) (pos 0)) ts (λ s. inside_sub (m t) (pos (F t s)) (pos (F s t)))
+    ∙ total-sub (λ s. cond (m t) (pos (F t s)) (pos 0)) (λ s. cond (m t) (pos (F s t)) (pos 0)) ts)
+    ∙ total-sub (λ t. total (λ s. cond (m t) (pos (F t s)) (pos 0)) ts) (λ t. total (λ s. cond (m t) (pos (F s t)) (pos 0)) ts) ts in
     let swap : total (λ t. total (λ s. cond (m t) (pos (F s t)) (pos 0)) ts) ts ≡ total (λ t. total (λ s. cond (m s) (pos (F t s)) (pos 0)) ts) ts =
-      total_swap (λ t s. cond (m t) (pos (F s t)) (pos 0)) ts ts in
+    total_swap (λ t s. cond (m t) (pos (F s t)) (pos 0)) ts ts in
     let join : total (λ t. total (λ s. cond (m t) (pos (F t s)) (pos 0) -ℤ cond (m s) (pos (F t s)) (pos 0)) ts) ts ≡ total (λ t. total (λ s. cond (m t) (pos (F t s)) (pos 0)) ts) ts -ℤ total (λ t. total (λ s. cond (m s) (pos (F t s)) (pos 0)) ts) ts =
-      total_same (λ t. total (λ s. cond (m t) (pos (F t s)) (pos 0) -ℤ cond (m s) (pos (F t s)) (pos 0)) ts) (λ t. total (λ s. cond (m t) (pos (F t s)) (pos 0)) ts -ℤ total (λ s. cond (m s) (pos (F t s)) (pos 0)) ts) ts
-        (λ t. total-sub (λ s. cond (m t) (pos (F t s)) (pos 0)) (λ s. cond (m s) (pos (F t s)) (pos 0)) ts)
-      ∙ total-sub (λ t. total (λ s. cond (m t) (pos (F t s)) (pos 0)) ts) (λ t. total (λ s. cond (m s) (pos (F t s)) (pos 0)) ts) ts in
+    total_same (λ t. total (λ s. cond (m t) (pos (F t s)) (pos 0) -ℤ cond (m s) (pos (F t s)) (pos 0)) ts) (λ t. total (λ s. cond (m t) (pos (F t s)) (pos 0)) ts -ℤ total (λ s. cond (m s) (pos (F t s)) (pos 0)) ts) ts
+    (λ t. total-sub (λ s. cond (m t) (pos (F t s)) (pos 0)) (λ s. cond (m s) (pos (F t s)) (pos 0)) ts)
+    ∙ total-sub (λ t. total (λ s. cond (m t) (pos (F t s)) (pos 0)) ts) (λ t. total (λ s. cond (m s) (pos (F t s)) (pos 0)) ts) ts in
     split ∙ ap (λ (z : ℤ). total (λ t. total (λ s. cond (m t) (pos (F t s)) (pos 0)) ts) ts -ℤ z) swap ∙ sym join
 
 -- a pair's part in that sum
@@ -70,26 +70,26 @@ zeros (x ∷ xs) = omega (arith, ints, zeros xs)
 pub net_of_closed : (ts : List ℕ) (F : ℕ → ℕ → ℕ) (m : ℕ → Bool) → ((c p : ℕ) → Among c ts → Among p ts → 0 < F c p → m c ≡ true → m p ≡ true) → total (inside m (net ts F)) ts ≤ℤ pos 0
 net_of_closed ts F m closed =
     let low : total (λ t. total (λ s. cond (m t) (pos (F t s)) (pos 0) -ℤ cond (m s) (pos (F t s)) (pos 0)) ts) ts ≤ℤ total {A = ℕ} (λ s. pos 0) ts =
-      total_along_le (λ s. pos 0) (λ t. total (λ s. cond (m t) (pos (F t s)) (pos 0) -ℤ cond (m s) (pos (F t s)) (pos 0)) ts) ts
-        (λ t ht.
-          let inner : total (λ s. cond (m t) (pos (F t s)) (pos 0) -ℤ cond (m s) (pos (F t s)) (pos 0)) ts ≤ℤ total {A = ℕ} (λ s. pos 0) ts =
-            total_along_le (λ s. pos 0) (λ s. cond (m t) (pos (F t s)) (pos 0) -ℤ cond (m s) (pos (F t s)) (pos 0)) ts
-              (λ s hs. pair_low (m t) (m s) (F t s) (closed t s ht hs)) in
-          omega (arith, ints, inner, zeros ts)) in
+    total_along_le (λ s. pos 0) (λ t. total (λ s. cond (m t) (pos (F t s)) (pos 0) -ℤ cond (m s) (pos (F t s)) (pos 0)) ts) ts
+    (λ t ht.
+    let inner : total (λ s. cond (m t) (pos (F t s)) (pos 0) -ℤ cond (m s) (pos (F t s)) (pos 0)) ts ≤ℤ total {A = ℕ} (λ s. pos 0) ts =
+    total_along_le (λ s. pos 0) (λ s. cond (m t) (pos (F t s)) (pos 0) -ℤ cond (m s) (pos (F t s)) (pos 0)) ts
+    (λ s hs. pair_low (m t) (m s) (F t s) (closed t s ht hs)) in
+    omega (arith, ints, inner, zeros ts)) in
     omega (arith, ints, low, zeros ts, net_inside ts F m)
 
 -- none at all where none enters either
 pub net_of_sealed : (ts : List ℕ) (F : ℕ → ℕ → ℕ) (m : ℕ → Bool)
-  → ((c p : ℕ) → Among c ts → Among p ts → 0 < F c p → m c ≡ true → m p ≡ true)
-  → ((c p : ℕ) → Among c ts → Among p ts → 0 < F c p → m p ≡ true → m c ≡ true)
-  → total (inside m (net ts F)) ts ≡ pos 0
+    → ((c p : ℕ) → Among c ts → Among p ts → 0 < F c p → m c ≡ true → m p ≡ true)
+    → ((c p : ℕ) → Among c ts → Among p ts → 0 < F c p → m p ≡ true → m c ≡ true)
+    → total (inside m (net ts F)) ts ≡ pos 0
 net_of_sealed ts F m closed sealed =
     net_inside ts F m
     ∙ total_along (λ s. pos 0) (λ t. total (λ s. cond (m t) (pos (F t s)) (pos 0) -ℤ cond (m s) (pos (F t s)) (pos 0)) ts) ts
-        (λ t ht.
-          total_along (λ s. pos 0) (λ s. cond (m t) (pos (F t s)) (pos 0) -ℤ cond (m s) (pos (F t s)) (pos 0)) ts
-            (λ s hs. pair_none (m t) (m s) (F t s) (closed t s ht hs) (sealed t s ht hs))
-          ∙ zeros ts)
+    (λ t ht.
+    total_along (λ s. pos 0) (λ s. cond (m t) (pos (F t s)) (pos 0) -ℤ cond (m s) (pos (F t s)) (pos 0)) ts
+    (λ s hs. pair_none (m t) (m s) (F t s) (closed t s ht hs) (sealed t s ht hs))
+    ∙ zeros ts)
     ∙ zeros ts
 
 -- the rests of a set are at most all that is above 0, and just that where the set has all of it and nothing below 0
@@ -103,9 +103,9 @@ rests_low rest m (t ∷ ts) = omega (arith, ints, here (m t) (rest t), rests_low
     here false z = omega (arith, ints)
 
 pub rests_all : (rest : ℕ → ℤ) (m : ℕ → Bool) (ts : List ℕ)
-  → ((t : ℕ) → Among t ts → m t ≡ true → pos 0 ≤ℤ rest t)
-  → ((t : ℕ) → Among t ts → pos 0 <ℤ rest t → m t ≡ true)
-  → total (inside m rest) ts ≡ pos (surplus rest ts)
+    → ((t : ℕ) → Among t ts → m t ≡ true → pos 0 ≤ℤ rest t)
+    → ((t : ℕ) → Among t ts → pos 0 <ℤ rest t → m t ≡ true)
+    → total (inside m rest) ts ≡ pos (surplus rest ts)
 unfolding surplus
 rests_all rest m [] none all = refl
 rests_all rest m (t ∷ ts) none all =

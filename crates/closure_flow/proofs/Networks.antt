@@ -1,11 +1,10 @@
 -- Writing one amount of a network.
-use Rattle.std.proofs.Common.{◌≡◌, ℕ, ◌+◌, ◌*◌, ◌^◌, ◌<◌, ◌≤◌, ◌⊎◌, inl, inr, List, length, get_or, set, replicate, Bool, true, false, cond, ℤ, pos, ◌+ℤ◌, ◌-ℤ◌, neg_ℤ, refl, sym, ap, ◌∙◌, subst, arith, get_or-set_same, get_or-set_other}
+use Rattle.std.proofs.Common.{◌≡◌, ℕ, ◌+◌, ◌*◌, ◌^◌, ◌<◌, ◌≤◌, ◌⊎◌, inl, inr, List, length, get_or, set, replicate, Bool, true, false, cond, ℤ, pos, ◌+ℤ◌, ◌-ℤ◌, refl, sym, ap, ◌∙◌, subst, arith, get_or-set_same, get_or-set_other}
 use Rattle.std.proofs.Math.Nat.{mul-le-mul, mul-le-mul_right}
 use prog.Memory.{up}
 use Rattle.std.proofs.Math.ListN.{length-set}
 use Rattle.std.proofs.lemmas.Bool.{cases_eq, cases_lt}
 use Rattle.std.proofs.lemmas.List.{get_or-replicate, get_or_default}
-
 use Rattle.std.specs.Ordering.{nat_cmp}
 use Rattle.std.specs.FinSet as fin
 use Rattle.bitset.specs.Places.{IsWithin}
@@ -55,76 +54,81 @@ unfolding sent
 sent_no n into amounts c p e = ap (λ (b : Bool). cond b (get_or amounts (p * n + c) 0) 0) e
 
 sent_same : (n m : ℕ) (into to : List (fin.FinSet nat_cmp)) (amounts new : List ℕ) (c p : ℕ)
-  → fin.contains (parents_at to p) c ≡ fin.contains (parents_at into p) c → get_or new (p * n + c) 0 ≡ get_or amounts (p * n + c) 0 → sent n to new c p ≡ sent n into amounts c p
+    → fin.contains (parents_at to p) c ≡ fin.contains (parents_at into p) c → get_or new (p * n + c) 0 ≡ get_or amounts (p * n + c) 0 → sent n to new c p ≡ sent n into amounts c p
 unfolding sent
 sent_same n m into to amounts new c p e f =
     ap (λ (b : Bool). cond b (get_or new (p * n + c) 0) 0) e ∙ ap (λ (x : ℕ). cond (fin.contains (parents_at into p) c) x 0) f
 
 pub sent-here : (n : ℕ) (into : List (fin.FinSet nat_cmp)) (amounts : List ℕ) (rest : List ℤ) (child parent x : ℕ) (senders : fin.FinSet nat_cmp)
-  → IsSized n into amounts rest → Writes n into child parent x senders
-  → sent n (set into parent senders) (set amounts (parent * n + child) x) child parent ≡ x
+    → IsSized n into amounts rest → Writes n into child parent x senders
+    → sent n (set into parent senders) (set amounts (parent * n + child) x) child parent ≡ x
 sent-here n into amounts rest child parent x senders s w =
     let inside : parent < length into = subst (λ (m : ℕ). parent < m) (sym s.sets) w.parent_in in
     let at : parent * n + child < length amounts = subst (λ (m : ℕ). parent * n + child < m) (sym s.pairs) (pair_within n parent child w.parent_in w.child_in) in
     let here : parents_at (set into parent senders) parent ≡ senders = get_or-set_same into parent senders fin.empty inside in
     elim (cases_lt 0 x) as (λ _. sent n (set into parent senders) (set amounts (parent * n + child) x) child parent ≡ x) [
       | inl some ↦
-        sent_yes n _ _ child parent (ap (λ (f : fin.FinSet nat_cmp). fin.contains f child) here ∙ w.some some)
-        ∙ get_or-set_same amounts (parent * n + child) x 0 at
+          sent_yes n _ _ child parent (ap (λ (f : fin.FinSet nat_cmp). fin.contains f child) here ∙ w.some some)
+          ∙ get_or-set_same amounts (parent * n + child) x 0 at
       | inr none ↦
-        let zero_ : x ≡ 0 = omega (arith, none) in
-        sent_no n _ _ child parent (ap (λ (f : fin.FinSet nat_cmp). fin.contains f child) here ∙ w.none zero_) ∙ sym zero_
+          let zero_ : x ≡ 0 = omega (arith, none) in
+          sent_no n _ _ child parent (ap (λ (f : fin.FinSet nat_cmp). fin.contains f child) here ∙ w.none zero_) ∙ sym zero_
     ]
 
 pub sent-others : (n : ℕ) (into : List (fin.FinSet nat_cmp)) (amounts : List ℕ) (rest : List ℤ) (child parent x : ℕ) (senders : fin.FinSet nat_cmp)
-  → IsSized n into amounts rest → Writes n into child parent x senders
-  → (c p : ℕ) → c < n → p < n → ((c ≡ child) × (p ≡ parent) → ⊥)
-  → sent n (set into parent senders) (set amounts (parent * n + child) x) c p ≡ sent n into amounts c p
+    → IsSized n into amounts rest → Writes n into child parent x senders
+    → (c p : ℕ) → c < n → p < n → ((c ≡ child) × (p ≡ parent) → ⊥)
+    → sent n (set into parent senders) (set amounts (parent * n + child) x) c p ≡ sent n into amounts c p
 sent-others n into amounts rest child parent x senders s w c p hc hp apart =
     let inside : parent < length into = subst (λ (m : ℕ). parent < m) (sym s.sets) w.parent_in in
     sent_same n n into _ amounts _ c p
-      (elim (cases_eq p parent) as (λ _. fin.contains (parents_at (set into parent senders) p) c ≡ fin.contains (parents_at into p) c) [
-        | inl e ↦
+    (elim (cases_eq p parent) as (λ _. fin.contains (parents_at (set into parent senders) p) c ≡ fin.contains (parents_at into p) c) [
+      | inl e ↦
           subst (λ (q : ℕ). fin.contains (parents_at (set into parent senders) q) c ≡ fin.contains (parents_at into q) c) (sym e)
-            (ap (λ (f : fin.FinSet nat_cmp). fin.contains f c) (get_or-set_same into parent senders fin.empty inside)
-              ∙ w.other c (λ q. apart (q, e)))
-        | inr ne ↦ ap (λ (f : fin.FinSet nat_cmp). fin.contains f c) (get_or-set_other into parent p senders fin.empty ne)
-      ])
-      (get_or-set_other amounts (parent * n + child) (p * n + c) x 0 (λ e. apart (pair_same n p parent c child hc w.child_in e)))
+          (ap (λ (f : fin.FinSet nat_cmp). fin.contains f c) (get_or-set_same into parent senders fin.empty inside)
+          ∙ w.other c (λ q. apart (q, e)))
+      | inr ne ↦ ap (λ (f : fin.FinSet nat_cmp). fin.contains f c) (get_or-set_other into parent p senders fin.empty ne)
+    ])
+    (get_or-set_other amounts (parent * n + child) (p * n + c) x 0 (λ e. apart (pair_same n p parent c child hc w.child_in e)))
 
 pub lean_set : (n : ℕ) (into : List (fin.FinSet nat_cmp)) (amounts : List ℕ) (rest : List ℤ) (child parent x : ℕ) (senders : fin.FinSet nat_cmp)
-  → IsSized n into amounts rest → IsLean n into amounts → Writes n into child parent x senders
-  → IsLean n (set into parent senders) (set amounts (parent * n + child) x)
+    → IsSized n into amounts rest → IsLean n into amounts → Writes n into child parent x senders
+    → IsLean n (set into parent senders) (set amounts (parent * n + child) x)
 lean_set n into amounts rest child parent x senders s lean w =
     record {
       child = λ c p hp m. (both c p hp m).0;
-      amount = λ c p hp m. (both c p hp m).1 }
+      amount = λ c p hp m. (both c p hp m).1;
+    }
   where
     inside : parent < length into
     inside = subst (λ (m : ℕ). parent < m) (sym s.sets) w.parent_in
+
     at : parent * n + child < length amounts
     at = subst (λ (m : ℕ). parent * n + child < m) (sym s.pairs) (pair_within n parent child w.parent_in w.child_in)
+
     kept : (c p : ℕ) → p < n → ((c ≡ child) × (p ≡ parent) → ⊥) → fin.contains (parents_at into p) c ≡ true → (c < n) × (0 < get_or (set amounts (parent * n + child) x) (p * n + c) 0)
-    kept c p hp apart m =
-        (lean.child c p hp m,
-          subst (λ (y : ℕ). 0 < y) (sym (get_or-set_other amounts (parent * n + child) (p * n + c) x 0 (λ e. apart (pair_same n p parent c child (lean.child c p hp m) w.child_in e)))) (lean.amount c p hp m))
+    kept c p hp apart m = (
+      lean.child c p hp m,
+      subst (λ (y : ℕ). 0 < y) (sym (get_or-set_other amounts (parent * n + child) (p * n + c) x 0 (λ e. apart (pair_same n p parent c child (lean.child c p hp m) w.child_in e)))) (lean.amount c p hp m),
+    )
+
     both : (c p : ℕ) → p < n → fin.contains (parents_at (set into parent senders) p) c ≡ true → (c < n) × (0 < get_or (set amounts (parent * n + child) x) (p * n + c) 0)
     both c p hp m =
         elim (cases_eq p parent) as (λ _. (c < n) × (0 < get_or (set amounts (parent * n + child) x) (p * n + c) 0)) [
           | inl e ↦
-            let there : fin.contains senders c ≡ true =
+              let there : fin.contains senders c ≡ true =
               ap (λ (f : fin.FinSet nat_cmp). fin.contains f c) (sym (get_or-set_same into parent senders fin.empty inside) ∙ ap (λ (q : ℕ). parents_at (set into parent senders) q) (sym e)) ∙ m in
-            elim (cases_eq c child) as (λ _. (c < n) × (0 < get_or (set amounts (parent * n + child) x) (p * n + c) 0)) [
-              | inl f ↦
-                let positive : 0 < x = elim (cases_lt 0 x) as (λ _. 0 < x) [
-                  | inl some ↦ some
-                  | inr none ↦ absurd (let k : false ≡ true = sym (w.none (omega (arith, none))) ∙ ap (λ (d : ℕ). fin.contains senders d) (sym f) ∙ there in cc)
-                ] in
-                let here : get_or (set amounts (parent * n + child) x) (p * n + c) 0 ≡ x =
-                  ap (λ (i : ℕ). get_or (set amounts (parent * n + child) x) i 0) (omega (arith, ap (λ (q : ℕ). q * n) e, f)) ∙ get_or-set_same amounts (parent * n + child) x 0 at in
-                (subst (λ (d : ℕ). d < n) (sym f) w.child_in, subst (λ (y : ℕ). 0 < y) (sym here) positive)
-              | inr ne ↦ kept c p hp (λ q. ne q.0) (ap (λ (q : ℕ). fin.contains (parents_at into q) c) e ∙ sym (w.other c ne) ∙ there)
-            ]
+              elim (cases_eq c child) as (λ _. (c < n) × (0 < get_or (set amounts (parent * n + child) x) (p * n + c) 0)) [
+                | inl f ↦
+                    let positive : 0 < x = elim (cases_lt 0 x) as (λ _. 0 < x) [
+                      | inl some ↦ some
+                      | inr none ↦ absurd (let k : false ≡ true = sym (w.none (omega (arith, none))) ∙ ap (λ (d : ℕ). fin.contains senders d) (sym f) ∙ there in cc)
+                    ] in
+                    let here : get_or (set amounts (parent * n + child) x) (p * n + c) 0 ≡ x =
+                    ap (λ (i : ℕ). get_or (set amounts (parent * n + child) x) i 0) (omega (arith, ap (λ (q : ℕ). q * n) e, f)) ∙ get_or-set_same amounts (parent * n + child) x 0 at in
+                    (subst (λ (d : ℕ). d < n) (sym f) w.child_in, subst (λ (y : ℕ). 0 < y) (sym here) positive)
+                | inr ne ↦ kept c p hp (λ q. ne q.0) (ap (λ (q : ℕ). fin.contains (parents_at into q) c) e ∙ sym (w.other c ne) ∙ there)
+              ]
           | inr ne ↦ kept c p hp (λ q. ne q.1) (ap (λ (f : fin.FinSet nat_cmp). fin.contains f c) (sym (get_or-set_other into parent p senders fin.empty ne)) ∙ m)
         ]
 
@@ -133,7 +137,8 @@ pub lean_none : (n : ℕ) (into : List (fin.FinSet nat_cmp)) (amounts : List ℕ
 lean_none n into amounts none =
     record {
       child = λ c p hp m. absurd (clash c p hp m);
-      amount = λ c p hp m. absurd (clash c p hp m) }
+      amount = λ c p hp m. absurd (clash c p hp m);
+    }
   where
     clash : (c p : ℕ) → p < n → fin.contains (parents_at into p) c ≡ true → ⊥
     clash c p hp m = let k : false ≡ true = sym (contains-empty c) ∙ ap (λ (f : fin.FinSet nat_cmp). fin.contains f c) (sym (none p hp)) ∙ m in cc
@@ -147,10 +152,10 @@ read_set n into amounts rest p c s sized h e =
     ap (λ (f : fin.FinSet nat_cmp). fin.contains f c) (get_or_default into p fin.empty s (subst (λ (m : ℕ). p < m) (sym sized.sets) h) ∙ sym e)
 
 pub writes_read : (n : ℕ) (into : List (fin.FinSet nat_cmp)) (amounts : List ℕ) (rest : List ℤ) (child parent x : ℕ) (old new : fin.FinSet nat_cmp)
-  → IsSized n into amounts rest → child < n → parent < n → old ≡ get_or into parent old
-  → ((c : ℕ) → (c ≡ child → ⊥) → fin.contains new c ≡ fin.contains old c)
-  → (x ≡ 0 → fin.contains new child ≡ false) → (0 < x → fin.contains new child ≡ true)
-  → Writes n into child parent x new
+    → IsSized n into amounts rest → child < n → parent < n → old ≡ get_or into parent old
+    → ((c : ℕ) → (c ≡ child → ⊥) → fin.contains new c ≡ fin.contains old c)
+    → (x ≡ 0 → fin.contains new child ≡ false) → (0 < x → fin.contains new child ≡ true)
+    → Writes n into child parent x new
 writes_read n into amounts rest child parent x old new sized hc hp e other none some =
     record { child_in = hc; parent_in = hp; other = λ c ne. other c ne ∙ sym (read_set n into amounts rest parent c old sized hp e); none = none; some = some }
 
@@ -167,7 +172,8 @@ pub send_senders : (n : ℕ) (into : List (fin.FinSet nat_cmp)) (amounts : List 
 send_senders n into amounts p c h =
     elim (cases (fin.contains (parents_at into p) c)) as (λ _. fin.contains (parents_at into p) c ≡ true) [
       | inl m ↦ m
-      | inr m ↦ absurd (omega (arith, h, sent_no n into amounts c p m)) ]
+      | inr m ↦ absurd (omega (arith, h, sent_no n into amounts c p m))
+    ]
   where
     cases : (b : Bool) → (b ≡ true) ⊎ (b ≡ false)
     cases true = inl refl
@@ -181,21 +187,24 @@ pub words_fit : (w : ℕ) (into : List (fin.FinSet nat_cmp)) (amounts : List ℕ
 words_fit w into amounts rest s =
     elim (cases_lt w (2 ^ 32)) as (λ _. up 8 (0 + w * 8) < 2 ^ 63) [
       | inl few ↦ omega (arith, few)
-      | inr many ↦ absurd (omega (arith, s.small, mul-le-mul many many)) ]
+      | inr many ↦ absurd (omega (arith, s.small, mul-le-mul many many))
+    ]
 
 pub network_fits : (w : ℕ) (into : List (fin.FinSet nat_cmp)) (amounts : List ℕ) (rest : List ℤ) → IsSized (64 * w) into amounts rest → up 8 (up 8 (up 8 (up 8 (0 + up 8 (0 + w * 8)) + 24) + 24) + 24) < 2 ^ 63
 network_fits w into amounts rest s =
     elim (cases_lt w (2 ^ 32)) as (λ _. up 8 (up 8 (up 8 (up 8 (0 + up 8 (0 + w * 8)) + 24) + 24) + 24) < 2 ^ 63) [
       | inl few ↦
-        let u1 : ℕ = up 8 (0 + w * 8) in
-        let u2 : ℕ = up 8 (0 + u1) in
-        let u3 : ℕ = up 8 (u2 + 24) in
-        let u4 : ℕ = up 8 (u3 + 24) in
-        bounded u1 u2 u3 u4 (up 8 (u4 + 24)) w few (padded (0 + w * 8)) (padded (0 + u1)) (padded (u2 + 24)) (padded (u3 + 24)) (padded (u4 + 24))
-      | inr many ↦ absurd (omega (arith, s.small, mul-le-mul many many)) ]
+          let u1 : ℕ = up 8 (0 + w * 8) in
+          let u2 : ℕ = up 8 (0 + u1) in
+          let u3 : ℕ = up 8 (u2 + 24) in
+          let u4 : ℕ = up 8 (u3 + 24) in
+          bounded u1 u2 u3 u4 (up 8 (u4 + 24)) w few (padded (0 + w * 8)) (padded (0 + u1)) (padded (u2 + 24)) (padded (u3 + 24)) (padded (u4 + 24))
+      | inr many ↦ absurd (omega (arith, s.small, mul-le-mul many many))
+    ]
   where
     padded : (x : ℕ) → up 8 x < x + 8
     padded x = omega arith
+
     bounded : (a b d e f w : ℕ) → w < 2 ^ 32 → a < 0 + w * 8 + 8 → b < 0 + a + 8 → d < b + 24 + 8 → e < d + 24 + 8 → f < e + 24 + 8 → f < 2 ^ 63
     bounded a b d e f w few ha hb hd he hf = omega arith
 
@@ -212,38 +221,43 @@ pub lean_begin : (n : ℕ) (into : List (fin.FinSet nat_cmp)) (amounts : List �
 lean_begin n into amounts rest place s h lean =
     record {
       child = λ c p hp m. lean.child c p hp (old c p m);
-      amount = λ c p hp m. lean.amount c p hp (old c p m) }
+      amount = λ c p hp m. lean.amount c p hp (old c p m);
+    }
   where
     inside : place < length into
     inside = subst (λ (m : ℕ). place < m) (sym s.sets) h
+
     old : (c p : ℕ) → fin.contains (parents_at (set into place fin.empty) p) c ≡ true → fin.contains (parents_at into p) c ≡ true
     old c p m = elim (cases_eq p place) as (λ _. fin.contains (parents_at into p) c ≡ true) [
       | inl e ↦ absurd (let k : false ≡ true = sym (contains-empty c) ∙ ap (λ (f : fin.FinSet nat_cmp). fin.contains f c) (sym (get_or-set_same into place fin.empty fin.empty inside) ∙ ap (λ (q : ℕ). parents_at (set into place fin.empty) q) (sym e)) ∙ m in cc)
-      | inr ne ↦ ap (λ (f : fin.FinSet nat_cmp). fin.contains f c) (sym (get_or-set_other into place p fin.empty fin.empty ne)) ∙ m ]
+      | inr ne ↦ ap (λ (f : fin.FinSet nat_cmp). fin.contains f c) (sym (get_or-set_other into place p fin.empty fin.empty ne)) ∙ m
+    ]
 
 -- two rests written, one after the other
 pub shifted : (rest : List ℤ) (from to amount t : ℕ) → from < length rest → to < length rest → (from ≡ to → ⊥)
-  → weight_at (set (set rest from (weight_at rest from -ℤ pos amount)) to (weight_at rest to +ℤ pos amount)) t ≡ (weight_at rest t -ℤ only_at from (pos amount) t) +ℤ only_at to (pos amount) t
+    → weight_at (set (set rest from (weight_at rest from -ℤ pos amount)) to (weight_at rest to +ℤ pos amount)) t ≡ (weight_at rest t -ℤ only_at from (pos amount) t) +ℤ only_at to (pos amount) t
 shifted rest from to amount t hf ht apart =
     elim (cases_eq t to) as (λ _. weight_at (set (set rest from (weight_at rest from -ℤ pos amount)) to (weight_at rest to +ℤ pos amount)) t ≡ (weight_at rest t -ℤ only_at from (pos amount) t) +ℤ only_at to (pos amount) t) [
       | inl e ↦
-        let here : weight_at (set (set rest from (weight_at rest from -ℤ pos amount)) to (weight_at rest to +ℤ pos amount)) to ≡ weight_at rest to +ℤ pos amount =
+          let here : weight_at (set (set rest from (weight_at rest from -ℤ pos amount)) to (weight_at rest to +ℤ pos amount)) to ≡ weight_at rest to +ℤ pos amount =
           get_or-set_same (set rest from (weight_at rest from -ℤ pos amount)) to _ (pos 0) (subst (λ (m : ℕ). to < m) (sym (length-set rest from _)) ht) in
-        subst (λ (x : ℕ). weight_at (set (set rest from (weight_at rest from -ℤ pos amount)) to (weight_at rest to +ℤ pos amount)) x ≡ (weight_at rest x -ℤ only_at from (pos amount) x) +ℤ only_at to (pos amount) x) (sym e)
+          subst (λ (x : ℕ). weight_at (set (set rest from (weight_at rest from -ℤ pos amount)) to (weight_at rest to +ℤ pos amount)) x ≡ (weight_at rest x -ℤ only_at from (pos amount) x) +ℤ only_at to (pos amount) x) (sym e)
           (omega (arith, ints, here, only_at-here to (pos amount), only_at-else from to (pos amount) (λ q. apart (sym q))))
       | inr ne ↦
-        let first : weight_at (set (set rest from (weight_at rest from -ℤ pos amount)) to (weight_at rest to +ℤ pos amount)) t ≡ weight_at (set rest from (weight_at rest from -ℤ pos amount)) t =
+          let first : weight_at (set (set rest from (weight_at rest from -ℤ pos amount)) to (weight_at rest to +ℤ pos amount)) t ≡ weight_at (set rest from (weight_at rest from -ℤ pos amount)) t =
           get_or-set_other (set rest from (weight_at rest from -ℤ pos amount)) to t _ (pos 0) ne in
-        elim (cases_eq t from) as (λ _. weight_at (set (set rest from (weight_at rest from -ℤ pos amount)) to (weight_at rest to +ℤ pos amount)) t ≡ (weight_at rest t -ℤ only_at from (pos amount) t) +ℤ only_at to (pos amount) t) [
-          | inl e ↦
-            let here : weight_at (set rest from (weight_at rest from -ℤ pos amount)) from ≡ weight_at rest from -ℤ pos amount = get_or-set_same rest from _ (pos 0) hf in
-            let here_t : weight_at (set rest from (weight_at rest from -ℤ pos amount)) t ≡ weight_at rest t -ℤ pos amount =
-              subst (λ (x : ℕ). weight_at (set rest from (weight_at rest from -ℤ pos amount)) x ≡ weight_at rest x -ℤ pos amount) (sym e) here in
-            let one : only_at from (pos amount) t ≡ pos amount = subst (λ (x : ℕ). only_at from (pos amount) x ≡ pos amount) (sym e) (only_at-here from (pos amount)) in
-            omega (arith, ints, first, here_t, one, only_at-else to t (pos amount) ne)
-          | inr nf ↦
-            let second : weight_at (set rest from (weight_at rest from -ℤ pos amount)) t ≡ weight_at rest t = get_or-set_other rest from t _ (pos 0) nf in
-            omega (arith, ints, first, second, only_at-else to t (pos amount) ne, only_at-else from t (pos amount) nf) ] ]
+          elim (cases_eq t from) as (λ _. weight_at (set (set rest from (weight_at rest from -ℤ pos amount)) to (weight_at rest to +ℤ pos amount)) t ≡ (weight_at rest t -ℤ only_at from (pos amount) t) +ℤ only_at to (pos amount) t) [
+            | inl e ↦
+                let here : weight_at (set rest from (weight_at rest from -ℤ pos amount)) from ≡ weight_at rest from -ℤ pos amount = get_or-set_same rest from _ (pos 0) hf in
+                let here_t : weight_at (set rest from (weight_at rest from -ℤ pos amount)) t ≡ weight_at rest t -ℤ pos amount =
+                subst (λ (x : ℕ). weight_at (set rest from (weight_at rest from -ℤ pos amount)) x ≡ weight_at rest x -ℤ pos amount) (sym e) here in
+                let one : only_at from (pos amount) t ≡ pos amount = subst (λ (x : ℕ). only_at from (pos amount) x ≡ pos amount) (sym e) (only_at-here from (pos amount)) in
+                omega (arith, ints, first, here_t, one, only_at-else to t (pos amount) ne)
+            | inr nf ↦
+                let second : weight_at (set rest from (weight_at rest from -ℤ pos amount)) t ≡ weight_at rest t = get_or-set_other rest from t _ (pos 0) nf in
+                omega (arith, ints, first, second, only_at-else to t (pos amount) ne, only_at-else from t (pos amount) nf)
+          ]
+    ]
 
 -- nothing is shown that a place outside a set receives, or that something that is no place sends
 pub not_received : (n : ℕ) (within : fin.FinSet nat_cmp) (into : List (fin.FinSet nat_cmp)) (amounts : List ℕ) (c p : ℕ) → fin.contains within p ≡ false → cond (fin.contains within p) (sent n into amounts c p) 0 ≡ 0
@@ -253,11 +267,13 @@ pub not_sent : (n : ℕ) (within : fin.FinSet nat_cmp) (into : List (fin.FinSet 
 not_sent n within into amounts c p lean below h =
     elim (cases (fin.contains within p)) as (λ _. cond (fin.contains within p) (sent n into amounts c p) 0 ≡ 0) [
       | inl m ↦
-        ap (λ (b : Bool). cond b (sent n into amounts c p) 0) m
-        ∙ elim (cases (fin.contains (parents_at into p) c)) as (λ _. sent n into amounts c p ≡ 0) [
-          | inl k ↦ absurd (omega (arith, h, lean.child c p (below p m) k))
-          | inr k ↦ sent_no n into amounts c p k ]
-      | inr m ↦ not_received n within into amounts c p m ]
+          ap (λ (b : Bool). cond b (sent n into amounts c p) 0) m
+          ∙ elim (cases (fin.contains (parents_at into p) c)) as (λ _. sent n into amounts c p ≡ 0) [
+            | inl k ↦ absurd (omega (arith, h, lean.child c p (below p m) k))
+            | inr k ↦ sent_no n into amounts c p k
+          ]
+      | inr m ↦ not_received n within into amounts c p m
+    ]
   where
     cases : (b : Bool) → (b ≡ true) ⊎ (b ≡ false)
     cases true = inl refl
@@ -270,7 +286,8 @@ pub shown_only : (n : ℕ) (within : fin.FinSet nat_cmp) (into : List (fin.FinSe
 shown_only n within into amounts c p lean below h =
     elim (cases (fin.contains within p)) as (λ _. (c < n) × (fin.contains within p ≡ true)) [
       | inl m ↦ (lean.child c p (below p m) (send_senders n into amounts p c (subst (λ (x : ℕ). 0 < x) (shown_within n within into amounts c p m) h)), m)
-      | inr m ↦ absurd (omega (arith, h, not_received n within into amounts c p m)) ]
+      | inr m ↦ absurd (omega (arith, h, not_received n within into amounts c p m))
+    ]
   where
     cases : (b : Bool) → (b ≡ true) ⊎ (b ≡ false)
     cases true = inl refl

@@ -1,15 +1,14 @@
 -- Entries that are put behind a queue's, and what a search knows of them.
-use Rattle.std.proofs.Common.{◌≡◌, ℕ, ◌+◌, ◌*◌, ◌<◌, ◌≤◌, ◌⊎◌, inl, inr, List, [], ◌∷◌, ◌++◌, length, get_or, Bool, true, false, Option, Some, None, ℤ, pos, ◌<ℤ◌, ◌≤ℤ◌, refl, sym, ap, ◌∙◌, subst, arith, length-append}
+use Rattle.std.proofs.Common.{◌≡◌, ℕ, ◌+◌, ◌<◌, ◌⊎◌, inl, inr, List, [], ◌∷◌, ◌++◌, length, true, false, Option, refl, sym, ap, ◌∙◌, subst, arith, length-append}
 use Rattle.std.proofs.lemmas.Bool.{cases_eq, cases_lt}
 use Rattle.std.proofs.lemmas.List.{get_or_push, get_or_append_left}
 use Rattle.std.specs.Ordering.{nat_cmp}
 use Rattle.std.specs.FinSet as set
-use Rattle.bitset.specs.Places.{IsWithin, IsLeast}
+use Rattle.bitset.specs.Places.{IsWithin}
 use Rattle.bitset.specs.Sets.{contains-empty, same_members}
 use Rattle.closure_flow.specs.declared.queue.Entry.{Entry}
-use Rattle.closure_flow.specs.Closures.{parents_at}
-use Rattle.closure_flow.specs.Queues.{place_at, from_at, Lists, Grows, IsSearch, IsSwept, IsSealed}
-use Rattle.closure_flow.proofs.Sets.{insert_here, insert_other, from_insert, to_insert, from_remove, remove_other, remove_here, len_insert, room_for, test_of, clash, not_true, from_meet, to_meet, from_union, to_union_left, to_union_right, from_minus, to_minus}
+use Rattle.closure_flow.specs.Queues.{place_at, from_at, Lists, Grows}
+use Rattle.closure_flow.proofs.Sets.{insert_here, insert_other, from_insert, to_insert, from_remove, remove_other, remove_here, len_insert, room_for, clash}
 
 -- ---- one entry more
 pub length_push : (es : List Entry) (e : Entry) → length (es ++ e ∷ []) ≡ length es + 1
@@ -31,7 +30,8 @@ from_new es e i h = ap (λ (x : Entry). x.from) (get_or_push es e _ i h)
 last_or_old : (es : List Entry) (e : Entry) (i : ℕ) → i < length (es ++ e ∷ []) → (i < length es) ⊎ (length es ≡ i)
 last_or_old es e i h = elim (cases_lt i (length es)) as (λ _. (i < length es) ⊎ (length es ≡ i)) [
   | inl less ↦ inl less
-  | inr more ↦ inr (omega (arith, length_push es e)) ]
+  | inr more ↦ inr (omega (arith, length_push es e))
+]
 
 -- ---- lists of a set's places
 pub lists_none : Lists [] set.empty
@@ -40,28 +40,35 @@ lists_none =
       each = λ i h. absurd (omega arith);
       only = λ t m. clash _ m (contains-empty t);
       once = λ i j h k e. absurd (omega arith);
-      count = sym (set.len-empty nat_cmp) }
+      count = sym (set.len-empty nat_cmp);
+    }
 
 pub lists_push : (es : List Entry) (seen : set.FinSet nat_cmp) (e : Entry) → Lists es seen → set.contains seen e.place ≡ false → Lists (es ++ e ∷ []) (set.insert seen e.place)
 lists_push es seen e l out =
     record {
       each = λ i h. elim (last_or_old es e i h) as (λ _. set.contains (set.insert seen e.place) (place_at (es ++ e ∷ []) i) ≡ true) [
         | inl old ↦ ap (λ (t : ℕ). set.contains (set.insert seen e.place) t) (place_old es e i old) ∙ to_insert seen e.place (place_at es i) (l.each i old)
-        | inr last ↦ ap (λ (t : ℕ). set.contains (set.insert seen e.place) t) (place_new es e i last) ∙ insert_here seen e.place ];
+        | inr last ↦ ap (λ (t : ℕ). set.contains (set.insert seen e.place) t) (place_new es e i last) ∙ insert_here seen e.place
+      ];
       only = λ t m. elim (from_insert seen e.place t m) as (λ _. (i : ℕ) × (i < length (es ++ e ∷ [])) × (place_at (es ++ e ∷ []) i ≡ t)) [
         | inl same ↦ (length es, omega (arith, length_push es e), place_new es e (length es) refl ∙ sym same)
         | inr old ↦
-          let found = l.only t old in
-          (found.0, omega (arith, length_push es e, found.1), place_old es e found.0 found.1 ∙ found.2) ];
+            let found = l.only t old in
+            (found.0, omega (arith, length_push es e, found.1), place_old es e found.0 found.1 ∙ found.2)
+      ];
       once = λ i j h k same.
-        elim (last_or_old es e i h) as (λ _. i ≡ j) [
-          | inl old_i ↦ elim (last_or_old es e j k) as (λ _. i ≡ j) [
-            | inl old_j ↦ l.once i j old_i old_j (sym (place_old es e i old_i) ∙ same ∙ place_old es e j old_j)
-            | inr last_j ↦ clash _ (l.each i old_i) (ap (λ (t : ℕ). set.contains seen t) (sym (place_old es e i old_i) ∙ same ∙ place_new es e j last_j) ∙ out) ]
-          | inr last_i ↦ elim (last_or_old es e j k) as (λ _. i ≡ j) [
-            | inl old_j ↦ clash _ (l.each j old_j) (ap (λ (t : ℕ). set.contains seen t) (sym (place_old es e j old_j) ∙ sym same ∙ place_new es e i last_i) ∙ out)
-            | inr last_j ↦ sym last_i ∙ last_j ] ];
-      count = length_push es e ∙ ap (λ (n : ℕ). n + 1) l.count ∙ sym (len_insert seen e.place out) }
+          elim (last_or_old es e i h) as (λ _. i ≡ j) [
+            | inl old_i ↦ elim (last_or_old es e j k) as (λ _. i ≡ j) [
+              | inl old_j ↦ l.once i j old_i old_j (sym (place_old es e i old_i) ∙ same ∙ place_old es e j old_j)
+              | inr last_j ↦ clash _ (l.each i old_i) (ap (λ (t : ℕ). set.contains seen t) (sym (place_old es e i old_i) ∙ same ∙ place_new es e j last_j) ∙ out)
+            ]
+            | inr last_i ↦ elim (last_or_old es e j k) as (λ _. i ≡ j) [
+              | inl old_j ↦ clash _ (l.each j old_j) (ap (λ (t : ℕ). set.contains seen t) (sym (place_old es e j old_j) ∙ sym same ∙ place_new es e i last_i) ∙ out)
+              | inr last_j ↦ sym last_i ∙ last_j
+            ]
+          ];
+      count = length_push es e ∙ ap (λ (n : ℕ). n + 1) l.count ∙ sym (len_insert seen e.place out);
+    }
 
 -- ---- putting all places of a set
 -- what holds while the places of `next` are put one at a time, those of `left` still to come
@@ -88,22 +95,24 @@ grows_push before es next from e g m f =
     record {
       longer = omega (arith, g.longer, length_push es e);
       kept = λ i h.
-        let inside : i < length es = omega (arith, g.longer, h) in
-        (place_old es e i inside ∙ (g.kept i h).0, from_old es e i inside ∙ (g.kept i h).1);
+          let inside : i < length es = omega (arith, g.longer, h) in
+          (place_old es e i inside ∙ (g.kept i h).0, from_old es e i inside ∙ (g.kept i h).1);
       added = λ i h k. elim (last_or_old es e i k) as (λ _. (set.contains next (place_at (es ++ e ∷ []) i) ≡ true) × (from_at (es ++ e ∷ []) i ≡ from)) [
         | inl old ↦ (ap (λ (t : ℕ). set.contains next t) (place_old es e i old) ∙ (g.added i h old).0, from_old es e i old ∙ (g.added i h old).1)
-        | inr last ↦ (ap (λ (t : ℕ). set.contains next t) (place_new es e i last) ∙ m, from_new es e i last ∙ f) ] }
+        | inr last ↦ (ap (λ (t : ℕ). set.contains next t) (place_new es e i last) ∙ m, from_new es e i last ∙ f)
+      ];
+    }
 
 pub putting_push : (n : ℕ) (before es : List Entry) (first seen next left : set.FinSet nat_cmp) (from : Option ℕ) (e : Entry)
-  → Putting n before es first seen next left from → set.contains left e.place ≡ true → e.place < n → e.from ≡ from
-  → Putting n before (es ++ e ∷ []) first (set.insert seen e.place) next (set.remove left e.place) from
+    → Putting n before es first seen next left from → set.contains left e.place ≡ true → e.place < n → e.from ≡ from
+    → Putting n before (es ++ e ∷ []) first (set.insert seen e.place) next (set.remove left e.place) from
 putting_push n before es first seen next left from e p m h f =
     record {
       lists = lists_push es seen e p.lists (p.apart e.place m);
       within = λ q k. elim (from_insert seen e.place q k) as (λ _. q < n) [ inl same ↦ subst (λ (x : ℕ). x < n) (sym same) h | inr old ↦ p.within q old ];
       apart = λ t k.
-        let was = from_remove left e.place t k in
-        insert_other seen e.place t was.0 ∙ p.apart t was.1;
+          let was = from_remove left e.place t k in
+          insert_other seen e.place t was.0 ∙ p.apart t was.1;
       among = λ t k. p.among t (from_remove left e.place t k).1;
       grows = grows_push before es next from e p.grows (p.among e.place m) f;
       old = λ t k. to_insert seen e.place t (p.old t k);
@@ -111,13 +120,17 @@ putting_push n before es first seen next left from e p m h f =
         | inl same ↦ inr (ap (λ (x : ℕ). set.contains (set.insert seen e.place) x) same ∙ insert_here seen e.place)
         | inr ne ↦ elim (p.got t k) as (λ _. (set.contains (set.remove left e.place) t ≡ true) ⊎ (set.contains (set.insert seen e.place) t ≡ true)) [
           | inl still ↦ inl (remove_other left e.place t ne ∙ still)
-          | inr there ↦ inr (to_insert seen e.place t there) ] ];
+          | inr there ↦ inr (to_insert seen e.place t there)
+        ]
+      ];
       only = λ t k. elim (from_insert seen e.place t k) as (λ _. (set.contains first t ≡ true) ⊎ (set.contains next t ≡ true)) [
         | inl same ↦ inr (ap (λ (x : ℕ). set.contains next x) same ∙ p.among e.place m)
-        | inr there ↦ p.only t there ] }
+        | inr there ↦ p.only t there
+      ];
+    }
 
 pub putting_room : (n : ℕ) (before es : List Entry) (first seen next left : set.FinSet nat_cmp) (from : Option ℕ) (t : ℕ)
-  → Putting n before es first seen next left from → set.contains left t ≡ true → t < n → length es < n
+    → Putting n before es first seen next left from → set.contains left t ≡ true → t < n → length es < n
 putting_room n before es first seen next left from t p m h =
     omega (arith, p.lists.count, room_for n seen t p.within h (p.apart t m))
 
@@ -125,7 +138,8 @@ putting_room n before es first seen next left from t p m h =
 pub fewer : (left : set.FinSet nat_cmp) (t : ℕ) → set.contains left t ≡ true → set.len (set.remove left t) < set.len left
 fewer left t m =
     let back : set.insert (set.remove left t) t ≡ left = same_members _ left (λ q.
-      elim (cases_eq q t) as (λ _. set.contains (set.insert (set.remove left t) t) q ≡ set.contains left q) [
-        | inl e ↦ subst (λ (x : ℕ). set.contains (set.insert (set.remove left t) t) x ≡ set.contains left x) (sym e) (insert_here (set.remove left t) t ∙ sym m)
-        | inr ne ↦ insert_other (set.remove left t) t q ne ∙ remove_other left t q ne ]) in
+    elim (cases_eq q t) as (λ _. set.contains (set.insert (set.remove left t) t) q ≡ set.contains left q) [
+      | inl e ↦ subst (λ (x : ℕ). set.contains (set.insert (set.remove left t) t) x ≡ set.contains left x) (sym e) (insert_here (set.remove left t) t ∙ sym m)
+      | inr ne ↦ insert_other (set.remove left t) t q ne ∙ remove_other left t q ne
+    ]) in
     omega (arith, len_insert (set.remove left t) t (remove_here left t), ap (λ (x : set.FinSet nat_cmp). set.len x) back)

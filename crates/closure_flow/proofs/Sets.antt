@@ -1,13 +1,13 @@
 -- Sets of numbers with one member more or less.
-use Rattle.std.proofs.Common.{◌≡◌, ℕ, ◌+◌, ◌<◌, ◌≤◌, ◌⊎◌, inl, inr, Bool, true, false, not, cond, ◌&&◌, ◌||◌, nat_eq, List, [], ◌∷◌, length, filter, refl, sym, ap, ◌∙◌, subst, arith, eq-eqb, ne_eqb}
+use Rattle.std.proofs.Common.{◌≡◌, ℕ, ◌+◌, ◌<◌, ◌≤◌, ◌⊎◌, inl, inr, Bool, true, false, not, cond, ◌&&◌, ◌||◌, List, [], ◌∷◌, length, filter, refl, sym, ap, ◌∙◌, subst, arith, eq-eqb, ne_eqb}
 use Rattle.std.proofs.lemmas.Bool.{cases_eq}
 use Rattle.std.proofs.lemmas.List.FromFn.{length-range_with_len}
 use Rattle.std.specs.List.{range_with_len}
 use Rattle.std.specs.Ordering.{nat_cmp}
 use Rattle.std.specs.Cmp.{nat_cmp_total}
 use Rattle.std.specs.FinSet as set
-use Rattle.bitset.specs.Places.{IsWithin, IsLeast, places}
-use Rattle.bitset.specs.Sets.{contains-insert, contains-remove, contains-empty, contains-union, contains-intersection, contains-difference, len-places, same_members}
+use Rattle.bitset.specs.Places.{IsWithin}
+use Rattle.bitset.specs.Sets.{contains-insert, contains-remove, contains-union, contains-intersection, contains-difference, len-places, same_members}
 
 pub remove_other : (s : set.FinSet nat_cmp) (k q : ℕ) → (q ≡ k → ⊥) → set.contains (set.remove s k) q ≡ set.contains s q
 remove_other s k q ne = contains-remove s k q ∙ ap (λ (b : Bool). not b && set.contains s q) (ne_eqb q k ne)
@@ -28,7 +28,8 @@ from_insert s k q m = elim (cases_eq q k) as (λ _. (q ≡ k) ⊎ (set.contains 
 pub to_insert : (s : set.FinSet nat_cmp) (k q : ℕ) → set.contains s q ≡ true → set.contains (set.insert s k) q ≡ true
 to_insert s k q m = elim (cases_eq q k) as (λ _. set.contains (set.insert s k) q ≡ true) [
   | inl e ↦ subst (λ (x : ℕ). set.contains (set.insert s k) x ≡ true) (sym e) (insert_here s k)
-  | inr ne ↦ insert_other s k q ne ∙ m ]
+  | inr ne ↦ insert_other s k q ne ∙ m
+]
 
 pub from_remove : (s : set.FinSet nat_cmp) (k q : ℕ) → set.contains (set.remove s k) q ≡ true → (q ≡ k → ⊥) × (set.contains s q ≡ true)
 from_remove s k q m =

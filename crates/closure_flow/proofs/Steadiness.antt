@@ -1,15 +1,14 @@
 -- What an amount that went from one place to another leaves.
-use Rattle.std.proofs.Common.{◌≡◌, ℕ, zero, suc, ◌+◌, ◌-◌, ◌*◌, ◌^◌, ◌<◌, ◌≤◌, ◌⊎◌, inl, inr, List, [], ◌∷◌, length, Bool, true, false, cond, min, nat_eq, ℤ, pos, negsuc, ◌+ℤ◌, ◌-ℤ◌, neg_ℤ, ◌≤ℤ◌, ◌<ℤ◌, unsigned_abs, SFits, to_z, of_z, get_or, refl, sym, ap, ◌∙◌, subst, arith}
-use Rattle.std.proofs.lemmas.Bool.{cases_eq, cases_lt}
+use Rattle.std.proofs.Common.{◌≡◌, ℕ, ◌+◌, ◌<◌, ◌≤◌, List, true, min, ℤ, pos, negsuc, ◌+ℤ◌, ◌-ℤ◌, neg_ℤ, ◌≤ℤ◌, ◌<ℤ◌, unsigned_abs, SFits, to_z, of_z, get_or, refl, sym, ap, ◌∙◌, subst, arith}
 use Rattle.std.proofs.lemmas.Int.{ints, to_z-of_z}
 use Rattle.std.specs.Int.{w128}
 use Rattle.std.specs.Ordering.{nat_cmp}
 use Rattle.std.specs.FinSet as set
 use Rattle.bitset.specs.Places.{IsWithin, places}
 use Rattle.bitset.specs.Sets.{IsRising-places}
-use Rattle.closure_flow.specs.Closures.{parents_at, weight_at}
+use Rattle.closure_flow.specs.Closures.{weight_at}
 use Rattle.closure_flow.specs.Flows.{Among, net, surplus, only_at}
-use Rattle.closure_flow.specs.Networks.{IsSized, sent, Improves, IsAllowed, IsSteady, Keeps, Pushes}
+use Rattle.closure_flow.specs.Networks.{IsSized, sent, Improves, IsAllowed, IsSteady, Keeps}
 use Rattle.closure_flow.proofs.Lists.{surplus_moved, only_at-here, only_at-else}
 use Rattle.closure_flow.proofs.Networks.{read_rest}
 use Rattle.closure_flow.proofs.Paths.{among_places, places_among}
@@ -31,31 +30,35 @@ pub apart_ends : (r : ℕ → ℤ) (start end amount : ℕ) → 0 < amount → p
 apart_ends r start end amount some enough lacks e = omega (arith, ints, some, enough, lacks, ap r e)
 
 pub moves_falls : (n : ℕ) (parents : List (set.FinSet nat_cmp)) (within : set.FinSet nat_cmp) (F G : ℕ → ℕ → ℕ) (r s : ℕ → ℤ) (start end amount : ℕ)
-  → Moves n parents within F G r s start end amount → surplus s (places n within) + amount ≡ surplus r (places n within)
+    → Moves n parents within F G r s start end amount → surplus s (places n within) + amount ≡ surplus r (places n within)
 moves_falls n parents within F G r s start end amount m =
     surplus_moved r s start end amount (places n within) (IsRising-places n within)
-      (among_places n within start (m.below _ m.first) m.first) (among_places n within end (m.below _ m.last) m.last)
-      m.enough m.lacks m.some at_start at_end at_others
+    (among_places n within start (m.below _ m.first) m.first) (among_places n within end (m.below _ m.last) m.last)
+    m.enough m.lacks m.some at_start at_end at_others
   where
     apart : start ≡ end → ⊥
     apart = apart_ends r start end amount m.some m.enough m.lacks
+
     at_start : s start ≡ r start -ℤ pos amount
     at_start = omega (arith, ints, m.rests start (m.below _ m.first), only_at-here start (pos amount), only_at-else end start (pos amount) apart)
+
     at_end : s end ≡ r end +ℤ pos amount
     at_end = omega (arith, ints, m.rests end (m.below _ m.last), only_at-here end (pos amount), only_at-else start end (pos amount) (λ e. apart (sym e)))
+
     at_others : (t : ℕ) → Among t (places n within) → (t ≡ start → ⊥) → (t ≡ end → ⊥) → s t ≡ r t
     at_others t h a b = omega (arith, ints, m.rests t (places_among n within t h).0, only_at-else start t (pos amount) a, only_at-else end t (pos amount) b)
 
 pub moves_steady : (n : ℕ) (parents : List (set.FinSet nat_cmp)) (within : set.FinSet nat_cmp) (F G : ℕ → ℕ → ℕ) (r s : ℕ → ℤ) (start end amount : ℕ)
-  → Moves n parents within F G r s start end amount → IsSteady n parents within F r → IsSteady n parents within G s
+    → Moves n parents within F G r s start end amount → IsSteady n parents within F r → IsSteady n parents within G s
 moves_steady n parents within F G r s start end amount m old =
     record {
       allowed = m.allowed;
       bounded = λ c p a b. omega (arith, moves_falls n parents within F G r s start end amount m, m.more c p a b, old.bounded c p a b);
-      short = omega (arith, moves_falls n parents within F G r s start end amount m, old.short) }
+      short = omega (arith, moves_falls n parents within F G r s start end amount m, old.short);
+    }
 
 pub moves_keeps : (n : ℕ) (parents : List (set.FinSet nat_cmp)) (within : set.FinSet nat_cmp) (F G : ℕ → ℕ → ℕ) (r s : ℕ → ℤ) (start end amount : ℕ)
-  → Moves n parents within F G r s start end amount → Keeps n within F r G s
+    → Moves n parents within F G r s start end amount → Keeps n within F r G s
 moves_keeps n parents within F G r s start end amount m t h =
     same (s t) (r t) (net (places n within) G t) (net (places n within) F t) (only_at start (pos amount) t) (only_at end (pos amount) t) (m.rests t (m.below t h)) (m.moved t h)
   where
@@ -63,7 +66,7 @@ moves_keeps n parents within F G r s start end amount m t h =
     same x y z w a b e f = omega (arith, ints, e, f)
 
 pub moves_improve : (n : ℕ) (parents : List (set.FinSet nat_cmp)) (within : set.FinSet nat_cmp) (F G : ℕ → ℕ → ℕ) (r s : ℕ → ℤ) (start end amount : ℕ)
-  → Moves n parents within F G r s start end amount → IsSteady n parents within F r → Improves n parents within F r G s
+    → Moves n parents within F G r s start end amount → IsSteady n parents within F r → Improves n parents within F r G s
 moves_improve n parents within F G r s start end amount m old =
     record { steady = moves_steady n parents within F G r s start end amount m old; keeps = moves_keeps n parents within F G r s start end amount m }
 
@@ -86,20 +89,20 @@ has_some (negsuc k) m e h = absurd (omega (arith, ints, h))
 
 -- a rest that was read, with its absolute value as the code computes it
 pub read_lack : (n : ℕ) (into : List (set.FinSet nat_cmp)) (amounts : List ℕ) (rest : List ℤ) (place : ℕ) (z : ℤ) (m x : ℕ)
-  → IsSized n into amounts rest → place < n → z ≡ get_or rest place z → SFits w128 z → m ≡ unsigned_abs (to_z w128 (of_z w128 z)) → weight_at rest place <ℤ pos 0 → x ≤ m
-  → weight_at rest place ≤ℤ neg_ℤ (pos x)
+    → IsSized n into amounts rest → place < n → z ≡ get_or rest place z → SFits w128 z → m ≡ unsigned_abs (to_z w128 (of_z w128 z)) → weight_at rest place <ℤ pos 0 → x ≤ m
+    → weight_at rest place ≤ℤ neg_ℤ (pos x)
 read_lack n into amounts rest place z m x s h e fine abs low l =
     let read = read_rest n into amounts rest place z s h e in
     subst (λ (y : ℤ). y ≤ℤ neg_ℤ (pos x)) (sym read)
-      (lacking_of z m x (abs ∙ ap unsigned_abs (to_z-of_z w128 z fine)) (subst (λ (y : ℤ). y <ℤ pos 0) read low) l)
+    (lacking_of z m x (abs ∙ ap unsigned_abs (to_z-of_z w128 z fine)) (subst (λ (y : ℤ). y <ℤ pos 0) read low) l)
 
 pub read_left : (n : ℕ) (into : List (set.FinSet nat_cmp)) (amounts : List ℕ) (rest : List ℤ) (place : ℕ) (z : ℤ) (m x : ℕ)
-  → IsSized n into amounts rest → place < n → z ≡ get_or rest place z → SFits w128 z → m ≡ unsigned_abs (to_z w128 (of_z w128 z)) → pos 0 <ℤ weight_at rest place → x ≤ m
-  → pos x ≤ℤ weight_at rest place
+    → IsSized n into amounts rest → place < n → z ≡ get_or rest place z → SFits w128 z → m ≡ unsigned_abs (to_z w128 (of_z w128 z)) → pos 0 <ℤ weight_at rest place → x ≤ m
+    → pos x ≤ℤ weight_at rest place
 read_left n into amounts rest place z m x s h e fine abs low l =
     let read = read_rest n into amounts rest place z s h e in
     subst (λ (y : ℤ). pos x ≤ℤ y) (sym read)
-      (enough_left z m x (abs ∙ ap unsigned_abs (to_z-of_z w128 z fine)) (subst (λ (y : ℤ). pos 0 <ℤ y) read low) l)
+    (enough_left z m x (abs ∙ ap unsigned_abs (to_z-of_z w128 z fine)) (subst (λ (y : ℤ). pos 0 <ℤ y) read low) l)
 
 pub same_sent : (n : ℕ) (into into' : List (set.FinSet nat_cmp)) (amounts amounts' : List ℕ) → into' ≡ into → amounts' ≡ amounts → sent n into amounts ≡ sent n into' amounts'
 same_sent n into into' amounts amounts' e f = ap (λ xs. sent n xs amounts) (sym e) ∙ ap (sent n into') (sym f)

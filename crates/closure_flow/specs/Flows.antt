@@ -1,7 +1,5 @@
 -- Flows among the places of a rising list, and what is left to be sent or to be received at each.
-use Rattle.std.specs.Prelude.{◌≡◌, ℕ, ◌+◌, ◌*◌, ◌<◌, ◌≤◌, ◌⊎◌, Bool, true, cond, nat_eq, List, [], ◌∷◌, get_or, ℤ, pos, ◌+ℤ◌, ◌-ℤ◌}
-use Rattle.std.specs.Ordering.{nat_cmp}
-use Rattle.std.specs.FinSet as set
+use Rattle.std.specs.Prelude.{◌≡◌, ℕ, ◌+◌, ◌⊎◌, cond, nat_eq, List, [], ◌∷◌, ℤ, pos, ◌-ℤ◌}
 use Rattle.arithmetic.specs.Sums.{total}
 use borrow.Author.Differences.{up, down}
 

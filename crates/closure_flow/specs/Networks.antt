@@ -1,5 +1,5 @@
 -- A network as it is kept: by parent the set of the children that send it flow, beside one flat matrix of amounts that is read only where the child is in that set.
-use Rattle.std.specs.Prelude.{◌≡◌, ℕ, zero, suc, ◌+◌, ◌*◌, ◌^◌, ◌<◌, ◌≤◌, ◌⊎◌, MatchOption, Bool, true, cond, List, length, get_or, ℤ, pos, ◌+ℤ◌, ◌-ℤ◌, ◌≤ℤ◌}
+use Rattle.std.specs.Prelude.{◌≡◌, ℕ, zero, suc, ◌+◌, ◌*◌, ◌^◌, ◌<◌, ◌≤◌, ◌⊎◌, MatchOption, true, cond, List, length, get_or, ℤ, pos, ◌+ℤ◌, ◌-ℤ◌, ◌≤ℤ◌}
 use Rattle.std.specs.Ordering.{nat_cmp}
 use Rattle.std.specs.FinSet as set
 use Rattle.bitset.specs.Places.{places}
@@ -54,7 +54,7 @@ abbrev pub PathLets : List (set.FinSet nat_cmp) → (ℕ → ℕ → ℕ) → (�
 PathLets parents flow rest es amount zero i = ⊥
 PathLets parents flow rest es amount (suc k) i =
     MatchOption (from_at es i) (pos amount ≤ℤ rest (place_at es i))
-      (λ j. LetsThrough parents flow amount (place_at es j) (place_at es i) × PathLets parents flow rest es amount k j)
+    (λ j. LetsThrough parents flow amount (place_at es j) (place_at es i) × PathLets parents flow rest es amount k j)
 
 pub record Fits (parents : List (set.FinSet nat_cmp)) (flow : ℕ → ℕ → ℕ) (rest : ℕ → ℤ) (es : List Entry) (at amount : ℕ) : Type 0 where
   pub steps : ℕ

@@ -6,13 +6,18 @@ ghost use Rattle.closure_flow.specs.Flows.{net, only_at};
 ghost use Rattle.closure_flow.specs.Networks.{Fits, IsAllowed, LetsThrough, Pushes, sent};
 ghost use Rattle.closure_flow.specs.Queues.{IsSearch, place_at};
 
-use bitset::Bits;
-
 use crate::Queue;
 use crate::network::Network;
+use bitset::Bits;
 
 /// Sends an amount back along the path to an entry, from its end to its start, and tells the place where it starts.
-pub(crate) fn send<const W: usize>(network: &mut Network<W>, queue: &Queue<W>, parents: &[Bits<W>], at: usize, amount: u128) -> usize
+pub(crate) fn send<const W: usize>(
+    network: &mut Network<W>,
+    queue: &Queue<W>,
+    parents: &[Bits<W>],
+    at: usize,
+    amount: u128,
+) -> usize
     requires at { at < length queue.now.entries }
     requires parents { (t : ℕ) → set.contains network.old.within t ≡ true → t < length parents.now }
     requires below { IsWithin (64 * W) network.old.within }
@@ -39,7 +44,13 @@ pub(crate) fn send<const W: usize>(network: &mut Network<W>, queue: &Queue<W>, p
 }
 
 /// Sends an amount from one place to another: along their pair, or else by taking back what runs against it.
-pub(crate) fn push<const W: usize>(network: &mut Network<W>, parents: &[Bits<W>], from: usize, to: usize, amount: u128)
+pub(crate) fn push<const W: usize>(
+    network: &mut Network<W>,
+    parents: &[Bits<W>],
+    from: usize,
+    to: usize,
+    amount: u128,
+)
     requires parents { (t : ℕ) → set.contains network.old.within t ≡ true → t < length parents.now }
     requires below { IsWithin (64 * W) network.old.within }
     requires allowed { IsAllowed (64 * W) parents.now network.old.within (sent (64 * W) network.old.into.items network.old.amounts.items) }
@@ -62,7 +73,13 @@ pub(crate) fn push<const W: usize>(network: &mut Network<W>, parents: &[Bits<W>]
 }
 
 /// The most that the path to an entry lets through: what its start has left, the flows taken back, and a limit.
-pub(crate) fn narrowest<const W: usize>(network: &Network<W>, queue: &Queue<W>, parents: &[Bits<W>], at: usize, limit: u128) -> u128
+pub(crate) fn narrowest<const W: usize>(
+    network: &Network<W>,
+    queue: &Queue<W>,
+    parents: &[Bits<W>],
+    at: usize,
+    limit: u128,
+) -> u128
     requires at { at < length queue.now.entries }
     requires some { 0 < limit }
     requires parents { (t : ℕ) → set.contains network.now.within t ≡ true → t < length parents.now }
@@ -84,7 +101,13 @@ pub(crate) fn narrowest<const W: usize>(network: &Network<W>, queue: &Queue<W>, 
 }
 
 // What a step of a path lets through of an amount.
-fn step_limit<const W: usize>(network: &Network<W>, parents: &[Bits<W>], from: usize, to: usize, amount: u128) -> u128
+fn step_limit<const W: usize>(
+    network: &Network<W>,
+    parents: &[Bits<W>],
+    from: usize,
+    to: usize,
+    amount: u128,
+) -> u128
     requires parents { from < length parents.now }
     requires from { from < 64 * W }
     requires to { to < 64 * W }

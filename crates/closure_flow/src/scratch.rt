@@ -1,11 +1,10 @@
 ghost use Rattle.std.specs.Prelude.{ℕ, ◌*◌};
 
+use crate::Queue;
+use crate::network::Network;
 use bitset::Bits;
 use outside::NoMemory;
 use std::alloc::Global;
-
-use crate::Queue;
-use crate::network::Network;
 
 /// The room that a solver works in, and the flow that the last call left there.
 ///

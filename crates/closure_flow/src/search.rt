@@ -6,14 +6,18 @@ ghost use Rattle.closure_flow.specs.Closures.{parents_at, weight_at};
 ghost use Rattle.closure_flow.specs.Networks.{IsAllowed, sent};
 ghost use Rattle.closure_flow.specs.Queues.{Grows, IsBeyond, IsSealed, IsSearch, Lists, place_at};
 
+use crate::network::Network;
+use crate::{Entry, Queue};
 use bitset::Bits;
 use step_count::{Ledger, Steps};
 
-use crate::network::Network;
-use crate::{Entry, Queue};
-
 /// Puts the places of a set behind the entries of a queue, as found from one entry, and tells all places listed.
-pub(crate) fn put_all<const W: usize>(queue: &mut Queue<W>, first: &Bits<W>, next: &Bits<W>, from: Option<usize>) -> Bits<W>
+pub(crate) fn put_all<const W: usize>(
+    queue: &mut Queue<W>,
+    first: &Bits<W>,
+    next: &Bits<W>,
+    from: Option<usize>,
+) -> Bits<W>
     requires lists { Lists queue.old.entries first.now }
     requires within { IsWithin (64 * W) first.now }
     requires apart { (t : ℕ) → set.contains next.now t ≡ true → set.contains first.now t ≡ false }
@@ -45,7 +49,13 @@ pub(crate) struct Reach<const W: usize> {
 }
 
 /// Searches by breadth, from the places of a set where something is left to be sent, for one that lacks something.
-pub(crate) fn search<L: Ledger, const W: usize>(network: &Network<W>, queue: &mut Queue<W>, parents: &[Bits<W>], within: &Bits<W>, steps: &mut Steps<L>) -> Reach<W>
+pub(crate) fn search<L: Ledger, const W: usize>(
+    network: &Network<W>,
+    queue: &mut Queue<W>,
+    parents: &[Bits<W>],
+    within: &Bits<W>,
+    steps: &mut Steps<L>,
+) -> Reach<W>
     requires parents { (t : ℕ) → set.contains within.now t ≡ true → t < length parents.now }
     requires below { IsWithin (64 * W) within.now }
     requires allowed { IsAllowed (64 * W) parents.now within.now (sent (64 * W) network.now.into.items network.now.amounts.items) }
@@ -88,12 +98,21 @@ fn surplus_places<const W: usize>(network: &Network<W>, within: &Bits<W>) -> Bit
 }
 
 /// The places that a place reaches in one step and that were not seen.
-fn beyond<const W: usize>(network: &Network<W>, parents: &[Bits<W>], within: &Bits<W>, seen: &Bits<W>, place: usize) -> Bits<W>
+fn beyond<const W: usize>(
+    network: &Network<W>,
+    parents: &[Bits<W>],
+    within: &Bits<W>,
+    seen: &Bits<W>,
+    place: usize,
+) -> Bits<W>
     requires parents { place < length parents.now }
     requires below { place < 64 * W }
     requires inside { set.contains within.now place ≡ true }
     requires allowed { IsAllowed (64 * W) parents.now within.now (sent (64 * W) network.now.into.items network.now.amounts.items) }
     ensures { IsBeyond (64 * W) parents.now within.now (sent (64 * W) network.now.into.items network.now.amounts.items) seen.now place result }
 {
-    parents[place].meet(within).union(&network.into[place]).minus(seen)
+    parents[place]
+        .meet(within)
+        .union(&network.into[place])
+        .minus(seen)
 }

@@ -8,13 +8,12 @@ ghost use Rattle.closure_flow.specs.Outcomes.{IfBetter, OnBalanced};
 ghost use Rattle.closure_flow.specs.Scratches.{flow_of};
 ghost use Rattle.closure_flow.specs.Queues.{IsSealed, IsSearch, Lists, place_at};
 
-use bitset::Bits;
-use step_count::{Ledger, Steps};
-
-use crate::{Queue, Scratch};
 use crate::network::Network;
 use crate::path::{narrowest, push, send};
 use crate::search::{put_all, search};
+use crate::{Queue, Scratch};
+use bitset::Bits;
+use step_count::{Ledger, Steps};
 
 /// What a solver answers.
 #[derive(Debug, Drop)]
@@ -31,7 +30,13 @@ pub enum Outcome<const W: usize> {
 /// Weights and parents are given by place. The weights of the set sum to 0, and their absolute values to less than
 /// 2^126. It takes no memory: it works in `scratch`, where a balanced flow is left. Each place that it takes from a
 /// queue is a step.
-pub fn solve<L: Ledger, const W: usize>(scratch: &mut Scratch<W>, weights: &[i128], parents: &[Bits<W>], within: Bits<W>, steps: &mut Steps<L>) -> Outcome<W>
+pub fn solve<L: Ledger, const W: usize>(
+    scratch: &mut Scratch<W>,
+    weights: &[i128],
+    parents: &[Bits<W>],
+    within: Bits<W>,
+    steps: &mut Steps<L>,
+) -> Outcome<W>
     requires weights { (t : ℕ) → set.contains within t ≡ true → t < length weights.now }
     requires parents { (t : ℕ) → set.contains within t ≡ true → t < length parents.now }
     requires sum { weight_of (64 * W) weights.now within ≡ pos 0 }
@@ -64,7 +69,12 @@ pub fn solve<L: Ledger, const W: usize>(scratch: &mut Scratch<W>, weights: &[i12
 }
 
 /// Sends what the path to an entry, whose place lacks something, lets through.
-fn augment<const W: usize>(network: &mut Network<W>, queue: &Queue<W>, parents: &[Bits<W>], at: usize)
+fn augment<const W: usize>(
+    network: &mut Network<W>,
+    queue: &Queue<W>,
+    parents: &[Bits<W>],
+    at: usize,
+)
     requires at { at < length queue.now.entries }
     requires lacks { weight_at network.old.rest.items (place_at queue.now.entries at) <ℤ pos 0 }
     requires parents { (t : ℕ) → set.contains network.old.within t ≡ true → t < length parents.now }
@@ -137,7 +147,12 @@ fn first_flow<const W: usize>(network: &mut Network<W>, queue: &Queue<W>, parent
 }
 
 /// Begins each place of the network's set anew: it takes each from the queue once, and counts a step for it.
-fn load<L: Ledger, const W: usize>(network: &mut Network<W>, queue: &mut Queue<W>, weights: &[i128], steps: &mut Steps<L>)
+fn load<L: Ledger, const W: usize>(
+    network: &mut Network<W>,
+    queue: &mut Queue<W>,
+    weights: &[i128],
+    steps: &mut Steps<L>,
+)
     requires weights { (t : ℕ) → set.contains network.old.within t ≡ true → t < length weights.now }
     requires below { IsWithin (64 * W) network.old.within }
     ensures rest { (t : ℕ) → set.contains network.old.within t ≡ true → weight_at network.new.rest.items t ≡ weight_at weights.now t }
@@ -154,7 +169,12 @@ fn load<L: Ledger, const W: usize>(network: &mut Network<W>, queue: &mut Queue<W
 }
 
 /// Searches and augments until no place that lacks something can be reached, and tells the places reached then.
-fn complete<L: Ledger, const W: usize>(network: &mut Network<W>, queue: &mut Queue<W>, parents: &[Bits<W>], steps: &mut Steps<L>) -> Bits<W>
+fn complete<L: Ledger, const W: usize>(
+    network: &mut Network<W>,
+    queue: &mut Queue<W>,
+    parents: &[Bits<W>],
+    steps: &mut Steps<L>,
+) -> Bits<W>
     requires parents { (t : ℕ) → set.contains network.old.within t ≡ true → t < length parents.now }
     requires below { IsWithin (64 * W) network.old.within }
     requires steady { IsSteady (64 * W) parents.now network.old.within (sent (64 * W) network.old.into.items network.old.amounts.items) (weight_at network.old.rest.items) }

@@ -1,4 +1,4 @@
-use Rattle.std.proofs.Common.{ap, ◌∙◌, ℕ}
+use Rattle.std.proofs.Common.{ap, ◌∙◌}
 use Rattle.std.specs.FinSet as set
 use Rattle.closure_flow.proofs.Sets.{remove_other, remove_here, insert_other, insert_here}
 use Rattle.closure_flow.proofs.network.marked.Goals as goal

@@ -1,8 +1,7 @@
-use Rattle.std.proofs.Common.{◌≡◌, ℕ, ◌*◌, ◌+◌, ◌-◌, ◌∙◌, ◌<◌, ◌≤◌, sym, ap, subst, true, false, arith, rules, SFits, ℤ, pos, ◌≤ℤ◌, List, Some, None}
+use Rattle.std.proofs.Common.{◌≡◌, ℕ, ◌*◌, ◌+◌, ◌-◌, ◌∙◌, ap, subst, true, arith, rules, SFits, pos, ◌≤ℤ◌, List, Some}
 use Rattle.std.proofs.lemmas.Int.{ints}
 use Rattle.std.specs.Int.{w128}
 use Rattle.std.specs.FinSet as set
-use Rattle.bitset.specs.Places.{IsWithin}
 use Rattle.bitset.specs.Sets.{contains-empty}
 use Rattle.closure_flow.specs.Closures.{weight_at}
 use Rattle.closure_flow.specs.Queues.{Grows, IsBeyond}
@@ -11,15 +10,23 @@ use Rattle.closure_flow.specs.declared.queue.Entry.{Entry}
 use Rattle.closure_flow.proofs.Sets.{clash}
 use Rattle.closure_flow.proofs.Networks.{read_rest, words_fit}
 use Rattle.closure_flow.proofs.Queues.{lists_none}
-use Rattle.closure_flow.proofs.Searches.{Searching, searching_start, searching_step, searching_end, some_left}
+use Rattle.closure_flow.proofs.Searches.{Searching, searching_step, searching_end, some_left}
 use Rattle.closure_flow.proofs.search.search.Goals as goal
 
 pub put_all-seen-requires : goal.put_all-seen-requires
-put_all-seen-requires g c =
-    (omega arith, (words_fit g.row.W _ _ _ c.args.network.now.sized,
-      (rw (c.clear.ensures.entries, c.empty.ensures) lists_none,
-        (rw c.empty.ensures (λ t m. clash _ m (contains-empty t)),
-          rw c.empty.ensures (λ t m. contains-empty t)))))
+put_all-seen-requires g c = (
+  omega arith,
+  (
+    words_fit g.row.W _ _ _ c.args.network.now.sized,
+    (
+      rw (c.clear.ensures.entries, c.empty.ensures) lists_none,
+      (
+        rw c.empty.ensures (λ t m. clash _ m (contains-empty t)),
+        rw c.empty.ensures (λ t m. contains-empty t),
+      ),
+    ),
+  ),
+)
 
 pub loop-place-smaller : goal.loop-place-smaller
 loop-place-smaller g c =
@@ -44,14 +51,15 @@ loop-place-preserved g c =
     let before : c.taken-at.result - 1 ≡ c.loop-place.queue.taken = omega (arith, c.taken-at.ensures.taken, k.taken) in
     let now : c.loop-place.queue.taken + 1 ≡ c.put_all-seen-in-Some.new.queue.taken = omega (arith, a.taken, k.taken) in
     let grows : Grows c.loop-place.queue.entries c.put_all-seen-in-Some.new.queue.entries c.beyond-next.result (Some c.loop-place.queue.taken) =
-      subst (λ (i : ℕ). Grows c.loop-place.queue.entries c.put_all-seen-in-Some.new.queue.entries c.beyond-next.result (Some i)) before
-        (subst (λ (es : List Entry). Grows es c.put_all-seen-in-Some.new.queue.entries c.beyond-next.result (Some (c.taken-at.result - 1))) k.entries a.grows) in
-    (subst (λ (i : ℕ). Searching n c.args.parents.now c.args.within.now flow rest c.put_all-seen-in-Some.new.queue.entries i c.put_all-seen-in-Some.result) now
-      (searching_step n _ _ flow rest _ _ c.loop-place.queue.taken _ _ c.beyond-next.result c.requires.allowed s k.none
-        (subst (λ (t : ℕ). pos 0 ≤ℤ rest t) k.place content)
-        (subst (λ (t : ℕ). IsBeyond n c.args.parents.now c.args.within.now flow c.loop-place.seen t c.beyond-next.result) k.place c.beyond-next.ensures)
-        a.lists a.within grows a.old a.new a.only),
-      omega (arith, k.step, c.loop-place.invariant.1))
+    subst (λ (i : ℕ). Grows c.loop-place.queue.entries c.put_all-seen-in-Some.new.queue.entries c.beyond-next.result (Some i)) before
+    (subst (λ (es : List Entry). Grows es c.put_all-seen-in-Some.new.queue.entries c.beyond-next.result (Some (c.taken-at.result - 1))) k.entries a.grows) in (
+      subst (λ (i : ℕ). Searching n c.args.parents.now c.args.within.now flow rest c.put_all-seen-in-Some.new.queue.entries i c.put_all-seen-in-Some.result) now
+          (searching_step n _ _ flow rest _ _ c.loop-place.queue.taken _ _ c.beyond-next.result c.requires.allowed s k.none
+          (subst (λ (t : ℕ). pos 0 ≤ℤ rest t) k.place content)
+          (subst (λ (t : ℕ). IsBeyond n c.args.parents.now c.args.within.now flow c.loop-place.seen t c.beyond-next.result) k.place c.beyond-next.ensures)
+          a.lists a.within grows a.old a.new a.only),
+      omega (arith, k.step, c.loop-place.invariant.1),
+    )
 
 pub returns-clause-end : goal.returns-clause-end
 returns-clause-end g c = searching_end (64 * g.row.W) _ _ _ _ _ _ _ c.loop-place.invariant.0 c.in_default.ensures.none

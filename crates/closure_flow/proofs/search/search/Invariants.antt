@@ -1,4 +1,4 @@
-use Rattle.std.proofs.Common.{ℕ, ◌≤◌, ◌*◌, ◌-◌}
+use Rattle.std.proofs.Common.{◌≤◌, ◌*◌, ◌-◌}
 use Rattle.closure_flow.specs.Closures.{weight_at}
 use Rattle.closure_flow.specs.Networks.{sent}
 use Rattle.closure_flow.proofs.Searches.{Searching}

@@ -1,4 +1,4 @@
-use Rattle.std.proofs.Common.{◌≡◌, ℕ, ◌*◌, rules, SFits, true, arith, sym, ◌∙◌, ap, subst, inl, inr, ℤ, pos, ◌<ℤ◌, ◌≤ℤ◌}
+use Rattle.std.proofs.Common.{◌*◌, rules, SFits, arith, sym, ◌∙◌, ap, subst, inl, inr, pos, ◌<ℤ◌, ◌≤ℤ◌}
 use Rattle.std.proofs.lemmas.Int.{ints}
 use Rattle.std.specs.Int.{w128}
 use Rattle.std.specs.FinSet as set
@@ -28,7 +28,7 @@ loop-place-preserved-then-index-gt0 g c =
     rw (c.remove.ensures, c.insert.ensures) (choosing_take _ _ _ _ c.in-Some.place c.loop-place.invariant c.in-Some.ensures.least.member positive)
 
 pub loop-place-preserved : goal.loop-place-preserved
-loop-place-preserved g c = 
+loop-place-preserved g c =
     let fine : SFits w128 c.index.result.now = search rules in
     let read = read_rest (64 * g.row.W) _ _ _ c.in-Some.place _ c.args.network.now.sized (c.in-Some.ensures.within _ c.in-Some.ensures.least.member) c.index.ensures in
     let test = c.if-index-gt0.false in
@@ -39,4 +39,5 @@ pub returns-clause-complete : goal.returns-clause-complete
 returns-clause-complete g c t m h =
     elim (c.loop-place.invariant.complete t m h) [
       | inl still ↦ clash _ still (ap (λ s. set.contains s t) c.in_default.ensures.least ∙ contains-empty t)
-      | inr there ↦ there ]
+      | inr there ↦ there
+    ]

@@ -1,4 +1,4 @@
-use Rattle.std.proofs.Common.{◌≡◌, ℕ, ◌*◌, ◌≤◌, length}
+use Rattle.std.proofs.Common.{◌≡◌, ◌*◌, ◌≤◌, length}
 use Rattle.closure_flow.specs.Closures.{weight_at}
 use Rattle.closure_flow.specs.Networks.{Improves, sent}
 use Rattle.closure_flow.proofs.solver.first_flow.Given as goal

@@ -1,4 +1,4 @@
-use Rattle.std.proofs.Common.{◌≡◌, ℕ, ◌+◌, ◌*◌, ◌-◌, ◌≤◌, length}
+use Rattle.std.proofs.Common.{◌≡◌, ◌+◌, ◌-◌, length}
 use Rattle.closure_flow.specs.Queues.{Lists}
 use Rattle.closure_flow.proofs.Loads.{Loads}
 use Rattle.closure_flow.proofs.solver.load.Given as goal

@@ -1,6 +1,4 @@
-use Rattle.std.proofs.Common.{ℕ, ◌*◌, set, sym, ap, subst}
-use Rattle.std.specs.FinSet as fin
-use Rattle.closure_flow.specs.Networks.{IsLean, IsSized}
+use Rattle.std.proofs.Common.{ℕ, ◌*◌}
 use Rattle.closure_flow.proofs.Networks.{sized_begin, lean_begin}
 use Rattle.closure_flow.proofs.network.Network.begin.Goals as goal
 
@@ -10,4 +8,5 @@ invariant_of-self g c =
     record {
       sized = rw c.empty.ensures (sized_begin n _ _ _ c.args.place _ c.args.self.now.sized);
       lean = rw c.empty.ensures (lean_begin n _ _ _ c.args.place c.args.self.now.sized c.requires c.args.self.now.lean);
-      inside = c.args.self.now.inside }
+      inside = c.args.self.now.inside;
+    }

@@ -1,4 +1,4 @@
-use Rattle.std.proofs.Common.{◌≡◌, ℕ, ◌*◌, ◌^◌, ◌<◌, ◌∙◌, sym, ap, subst, length, replicate, arith}
+use Rattle.std.proofs.Common.{◌≡◌, ℕ, ◌*◌, ◌^◌, ◌<◌, ◌∙◌, sym, ap, subst, length, replicate}
 use Rattle.std.proofs.lemmas.List.{length-replicate}
 use Rattle.std.specs.FinSet as fin
 use Rattle.closure_flow.specs.Networks.{IsLean}
@@ -21,6 +21,8 @@ invariant_of-result g c =
         sets = ap length into ∙ length-replicate _ _ ∙ places;
         pairs = ap length amounts ∙ length-replicate _ _ ∙ pairs;
         rests = ap length rest ∙ length-replicate _ _ ∙ places;
-        small = subst (λ (m : ℕ). m < 2 ^ 64) pairs fits };
+        small = subst (λ (m : ℕ). m < 2 ^ 64) pairs fits;
+      };
       lean = subst (λ xs. IsLean n xs c.in_ok-vec-2.field-0.items) (sym (into ∙ ap (λ (m : ℕ). replicate m c.empty-2.result) places ∙ ap (replicate n) c.empty-2.ensures)) (lean_fresh n c.in_ok-vec-2.field-0.items);
-      inside = λ p m. clash _ m (ap (λ s. fin.contains s p) c.empty.ensures ∙ contains-empty p) }
+      inside = λ p m. clash _ m (ap (λ s. fin.contains s p) c.empty.ensures ∙ contains-empty p);
+    }

@@ -1,4 +1,4 @@
-use Rattle.std.proofs.Common.{◌≡◌, ℕ, ◌*◌, ◌<◌, ◌^◌, set, sym, ap, ◌∙◌, subst, rules, arith, SFits, ℤ, pos, ◌+ℤ◌, ◌-ℤ◌, to_z, of_z, length}
+use Rattle.std.proofs.Common.{◌≡◌, ℕ, ◌*◌, ◌<◌, set, sym, ap, ◌∙◌, subst, rules, arith, SFits, ℤ, pos, ◌+ℤ◌, ◌-ℤ◌, to_z, of_z}
 use Rattle.std.proofs.lemmas.Int.{ints}
 use Rattle.std.specs.Int.{w128}
 use Rattle.closure_flow.specs.Closures.{weight_at}
@@ -20,5 +20,5 @@ returns-clause-rest g c t h =
     ap (λ (y : ℤ). weight_at (set (set r c.args.from y) c.args.to (to_z w128 (of_z w128 (to_z w128 (of_z w128 c.index-lacks.result.now) +ℤ to_z w128 c.args.amount)))) t) one
     ∙ ap (λ (y : ℤ). weight_at (set (set r c.args.from (weight_at r c.args.from -ℤ pos c.args.amount)) c.args.to y) t) two
     ∙ shifted r c.args.from c.args.to c.args.amount t
-        (subst (λ (m : ℕ). c.args.from < m) (sym c.args.self.now.sized.rests) c.requires.from)
-        (subst (λ (m : ℕ). c.args.to < m) (sym c.args.self.now.sized.rests) c.requires.to) c.requires.apart
+    (subst (λ (m : ℕ). c.args.from < m) (sym c.args.self.now.sized.rests) c.requires.from)
+    (subst (λ (m : ℕ). c.args.to < m) (sym c.args.self.now.sized.rests) c.requires.to) c.requires.apart

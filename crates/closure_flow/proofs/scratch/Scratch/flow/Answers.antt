@@ -1,6 +1,4 @@
-use Rattle.std.proofs.Common.{◌≡◌, ℕ, ◌*◌, ◌<◌, ◌≤◌, ◌∙◌, sym, ap, arith, Bool, cond, true, false}
-use Rattle.std.specs.FinSet as set
-use Rattle.closure_flow.specs.Networks.{sent}
+use Rattle.std.proofs.Common.{ℕ, ◌*◌, ◌∙◌, sym, arith}
 use Rattle.closure_flow.proofs.Networks.{not_sent, not_received}
 use Rattle.closure_flow.proofs.Sets.{not_true}
 use Rattle.closure_flow.proofs.scratch.Scratch.flow.Goals as goal
@@ -14,9 +12,9 @@ returns-else-child-places g c =
     elim c.else-child-places.branch [
       | else-child-places-via-then-child-places+then-parent-places+else-has w ↦ sym (not_received n net.within _ _ c.args.child c.args.parent (sym w.has.ensures ∙ w.if-has.false))
       | else-child-places-via-then-child-places+else-parent-places w ↦
-        let past = w.if-parent-places.false in
-        sym (not_received n net.within _ _ c.args.child c.args.parent (not_true _ (λ m. omega (arith, net.sized.rests, net.rest.ok, places, past, net.inside _ m))))
-      | else-child-places-via-else-child-places w ↦ 
-        let past = w.if-child-places.false in
-        sym (not_sent n net.within _ _ c.args.child c.args.parent net.lean net.inside (omega (arith, net.sized.rests, net.rest.ok, places, past)))
+          let past = w.if-parent-places.false in
+          sym (not_received n net.within _ _ c.args.child c.args.parent (not_true _ (λ m. omega (arith, net.sized.rests, net.rest.ok, places, past, net.inside _ m))))
+      | else-child-places-via-else-child-places w ↦
+          let past = w.if-child-places.false in
+          sym (not_sent n net.within _ _ c.args.child c.args.parent net.lean net.inside (omega (arith, net.sized.rests, net.rest.ok, places, past)))
     ]
