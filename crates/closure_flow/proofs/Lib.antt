@@ -1,0 +1,10 @@
+pub mod Lists
+pub mod Cuts
+pub mod Loads
+pub mod Networks
+pub mod Sets
+pub mod Searches
+pub mod Steadiness
+pub mod Optimum
+pub mod Paths
+pub mod Queues

@@ -1,0 +1,118 @@
+-- What an amount that went from one place to another leaves.
+use Rattle.std.proofs.Common.{◌≡◌, ℕ, ◌+◌, ◌<◌, ◌≤◌, List, true, min, ℤ, pos, negsuc, ◌+ℤ◌, ◌-ℤ◌, neg_ℤ, ◌≤ℤ◌, ◌<ℤ◌, unsigned_abs, SFits, to_z, of_z, get_or, refl, sym, ap, ◌∙◌, subst, arith}
+use Rattle.std.proofs.lemmas.Int.{ints, to_z-of_z}
+use Rattle.std.specs.Int.{w128}
+use Rattle.std.specs.Ordering.{nat_cmp}
+use Rattle.std.specs.FinSet as set
+use Rattle.bitset.specs.Places.{IsWithin, places}
+use Rattle.bitset.specs.Sets.{IsRising-places}
+use Rattle.closure_flow.specs.Closures.{weight_at}
+use Rattle.closure_flow.specs.Flows.{Among, net, surplus, only_at}
+use Rattle.closure_flow.specs.Networks.{IsSized, sent, Improves, IsAllowed, IsSteady, Keeps}
+use Rattle.closure_flow.proofs.Lists.{surplus_moved, only_at-here, only_at-else}
+use Rattle.closure_flow.proofs.Networks.{read_rest}
+use Rattle.closure_flow.proofs.Paths.{among_places, places_among}
+
+-- the flows and the rests after an amount went from a start to an end
+pub record Moves (n : ℕ) (parents : List (set.FinSet nat_cmp)) (within : set.FinSet nat_cmp) (F G : ℕ → ℕ → ℕ) (r s : ℕ → ℤ) (start end amount : ℕ) : Type 0 where
+  pub below : IsWithin n within
+  pub first : set.contains within start ≡ true
+  pub last : set.contains within end ≡ true
+  pub some : 0 < amount
+  pub enough : pos amount ≤ℤ r start
+  pub lacks : r end ≤ℤ neg_ℤ (pos amount)
+  pub moved : (t : ℕ) → set.contains within t ≡ true → net (places n within) G t ≡ (net (places n within) F t +ℤ only_at start (pos amount) t) -ℤ only_at end (pos amount) t
+  pub more : (c p : ℕ) → set.contains within c ≡ true → set.contains within p ≡ true → G c p ≤ F c p + amount
+  pub allowed : IsAllowed n parents within G
+  pub rests : (t : ℕ) → t < n → s t ≡ (r t -ℤ only_at start (pos amount) t) +ℤ only_at end (pos amount) t
+
+pub apart_ends : (r : ℕ → ℤ) (start end amount : ℕ) → 0 < amount → pos amount ≤ℤ r start → r end ≤ℤ neg_ℤ (pos amount) → start ≡ end → ⊥
+apart_ends r start end amount some enough lacks e = omega (arith, ints, some, enough, lacks, ap r e)
+
+pub moves_falls : (n : ℕ) (parents : List (set.FinSet nat_cmp)) (within : set.FinSet nat_cmp) (F G : ℕ → ℕ → ℕ) (r s : ℕ → ℤ) (start end amount : ℕ)
+    → Moves n parents within F G r s start end amount → surplus s (places n within) + amount ≡ surplus r (places n within)
+moves_falls n parents within F G r s start end amount m =
+    surplus_moved r s start end amount (places n within) (IsRising-places n within)
+    (among_places n within start (m.below _ m.first) m.first) (among_places n within end (m.below _ m.last) m.last)
+    m.enough m.lacks m.some at_start at_end at_others
+  where
+    apart : start ≡ end → ⊥
+    apart = apart_ends r start end amount m.some m.enough m.lacks
+
+    at_start : s start ≡ r start -ℤ pos amount
+    at_start = omega (arith, ints, m.rests start (m.below _ m.first), only_at-here start (pos amount), only_at-else end start (pos amount) apart)
+
+    at_end : s end ≡ r end +ℤ pos amount
+    at_end = omega (arith, ints, m.rests end (m.below _ m.last), only_at-here end (pos amount), only_at-else start end (pos amount) (λ e. apart (sym e)))
+
+    at_others : (t : ℕ) → Among t (places n within) → (t ≡ start → ⊥) → (t ≡ end → ⊥) → s t ≡ r t
+    at_others t h a b = omega (arith, ints, m.rests t (places_among n within t h).0, only_at-else start t (pos amount) a, only_at-else end t (pos amount) b)
+
+pub moves_steady : (n : ℕ) (parents : List (set.FinSet nat_cmp)) (within : set.FinSet nat_cmp) (F G : ℕ → ℕ → ℕ) (r s : ℕ → ℤ) (start end amount : ℕ)
+    → Moves n parents within F G r s start end amount → IsSteady n parents within F r → IsSteady n parents within G s
+moves_steady n parents within F G r s start end amount m old =
+    record {
+      allowed = m.allowed;
+      bounded = λ c p a b. omega (arith, moves_falls n parents within F G r s start end amount m, m.more c p a b, old.bounded c p a b);
+      short = omega (arith, moves_falls n parents within F G r s start end amount m, old.short);
+    }
+
+pub moves_keeps : (n : ℕ) (parents : List (set.FinSet nat_cmp)) (within : set.FinSet nat_cmp) (F G : ℕ → ℕ → ℕ) (r s : ℕ → ℤ) (start end amount : ℕ)
+    → Moves n parents within F G r s start end amount → Keeps n within F r G s
+moves_keeps n parents within F G r s start end amount m t h =
+    same (s t) (r t) (net (places n within) G t) (net (places n within) F t) (only_at start (pos amount) t) (only_at end (pos amount) t) (m.rests t (m.below t h)) (m.moved t h)
+  where
+    same : (x y z w a b : ℤ) → x ≡ (y -ℤ a) +ℤ b → z ≡ (w +ℤ a) -ℤ b → x +ℤ z ≡ y +ℤ w
+    same x y z w a b e f = omega (arith, ints, e, f)
+
+pub moves_improve : (n : ℕ) (parents : List (set.FinSet nat_cmp)) (within : set.FinSet nat_cmp) (F G : ℕ → ℕ → ℕ) (r s : ℕ → ℤ) (start end amount : ℕ)
+    → Moves n parents within F G r s start end amount → IsSteady n parents within F r → Improves n parents within F r G s
+moves_improve n parents within F G r s start end amount m old =
+    record { steady = moves_steady n parents within F G r s start end amount m old; keeps = moves_keeps n parents within F G r s start end amount m }
+
+-- nothing that lacks m can be asked for less
+pub lacking_of : (z : ℤ) (m x : ℕ) → m ≡ unsigned_abs z → z <ℤ pos 0 → x ≤ m → z ≤ℤ neg_ℤ (pos x)
+lacking_of (pos k) m x e h l = absurd (omega (arith, ints, h))
+lacking_of (negsuc k) m x e h l = omega (arith, ints, e, l)
+
+pub enough_left : (z : ℤ) (m x : ℕ) → m ≡ unsigned_abs z → pos 0 <ℤ z → x ≤ m → pos x ≤ℤ z
+enough_left (pos k) m x e h l = omega (arith, ints, e, l)
+enough_left (negsuc k) m x e h l = absurd (omega (arith, ints, h))
+
+pub lacks_some : (z : ℤ) (m : ℕ) → m ≡ unsigned_abs z → z <ℤ pos 0 → 0 < m
+lacks_some (pos k) m e h = absurd (omega (arith, ints, h))
+lacks_some (negsuc k) m e h = omega (arith, ints, e)
+
+pub has_some : (z : ℤ) (m : ℕ) → m ≡ unsigned_abs z → pos 0 <ℤ z → 0 < m
+has_some (pos k) m e h = omega (arith, ints, e, h)
+has_some (negsuc k) m e h = absurd (omega (arith, ints, h))
+
+-- a rest that was read, with its absolute value as the code computes it
+pub read_lack : (n : ℕ) (into : List (set.FinSet nat_cmp)) (amounts : List ℕ) (rest : List ℤ) (place : ℕ) (z : ℤ) (m x : ℕ)
+    → IsSized n into amounts rest → place < n → z ≡ get_or rest place z → SFits w128 z → m ≡ unsigned_abs (to_z w128 (of_z w128 z)) → weight_at rest place <ℤ pos 0 → x ≤ m
+    → weight_at rest place ≤ℤ neg_ℤ (pos x)
+read_lack n into amounts rest place z m x s h e fine abs low l =
+    let read = read_rest n into amounts rest place z s h e in
+    subst (λ (y : ℤ). y ≤ℤ neg_ℤ (pos x)) (sym read)
+    (lacking_of z m x (abs ∙ ap unsigned_abs (to_z-of_z w128 z fine)) (subst (λ (y : ℤ). y <ℤ pos 0) read low) l)
+
+pub read_left : (n : ℕ) (into : List (set.FinSet nat_cmp)) (amounts : List ℕ) (rest : List ℤ) (place : ℕ) (z : ℤ) (m x : ℕ)
+    → IsSized n into amounts rest → place < n → z ≡ get_or rest place z → SFits w128 z → m ≡ unsigned_abs (to_z w128 (of_z w128 z)) → pos 0 <ℤ weight_at rest place → x ≤ m
+    → pos x ≤ℤ weight_at rest place
+read_left n into amounts rest place z m x s h e fine abs low l =
+    let read = read_rest n into amounts rest place z s h e in
+    subst (λ (y : ℤ). pos x ≤ℤ y) (sym read)
+    (enough_left z m x (abs ∙ ap unsigned_abs (to_z-of_z w128 z fine)) (subst (λ (y : ℤ). pos 0 <ℤ y) read low) l)
+
+pub same_sent : (n : ℕ) (into into' : List (set.FinSet nat_cmp)) (amounts amounts' : List ℕ) → into' ≡ into → amounts' ≡ amounts → sent n into amounts ≡ sent n into' amounts'
+same_sent n into into' amounts amounts' e f = ap (λ xs. sent n xs amounts) (sym e) ∙ ap (sent n into') (sym f)
+
+pub both_some : (y z : ℤ) (l m : ℕ) → l ≡ unsigned_abs y → m ≡ unsigned_abs z → pos 0 <ℤ y → z <ℤ pos 0 → 0 < min l m
+both_some y z l m e f h k = omega (arith, has_some y l e h, lacks_some z m f k)
+
+-- ---- one improvement after another
+pub improves_none : (n : ℕ) (parents : List (set.FinSet nat_cmp)) (within : set.FinSet nat_cmp) (F : ℕ → ℕ → ℕ) (r : ℕ → ℤ) → IsSteady n parents within F r → Improves n parents within F r F r
+improves_none n parents within F r s = record { steady = s; keeps = λ t h. refl }
+
+pub improves_more : (n : ℕ) (parents : List (set.FinSet nat_cmp)) (within : set.FinSet nat_cmp) (F G H : ℕ → ℕ → ℕ) (r s u : ℕ → ℤ) → Improves n parents within F r G s → Improves n parents within G s H u → Improves n parents within F r H u
+improves_more n parents within F G H r s u a b = record { steady = b.steady; keeps = λ t h. b.keeps t h ∙ a.keeps t h }

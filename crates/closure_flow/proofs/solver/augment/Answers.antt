@@ -1,0 +1,69 @@
+use Rattle.std.proofs.Common.{◌≡◌, ℕ, ◌*◌, ◌+◌, ◌<◌, ◌≤◌, sym, ap, subst, true, rules, arith, SFits, ℤ, pos, neg_ℤ, ◌+ℤ◌, ◌-ℤ◌, ◌≤ℤ◌, ◌<ℤ◌}
+use Rattle.std.specs.Int.{w128}
+use Rattle.std.specs.FinSet as set
+use Rattle.bitset.specs.Places.{places}
+use Rattle.closure_flow.specs.Closures.{weight_at}
+use Rattle.closure_flow.specs.Flows.{only_at, net}
+use Rattle.closure_flow.specs.Networks.{IsAllowed, sent}
+use Rattle.closure_flow.proofs.Networks.{network_fits}
+use Rattle.closure_flow.proofs.Steadiness.{Moves, apart_ends, moves_falls, moves_improve, read_lack, same_sent}
+use Rattle.closure_flow.proofs.solver.augment.Goals as goal
+
+pub shift-requires : goal.shift-requires
+shift-requires g c =
+    let n : ℕ = 64 * g.row.W in
+    let end = c.entry-end.ensures.place in
+    let r = weight_at c.args.network.now.rest.items in
+    let fine : SFits w128 c.index.result.now = search rules in
+    let in_end = subst (λ (t : ℕ). t < n) (sym end) (c.requires.search.below _ c.requires.at) in
+    let low = read_lack n _ _ _ c.entry-end.result.place _ _ c.narrowest-amount.result c.args.network.now.sized in_end c.index.ensures fine c.unsigned_abs-lack.ensures.value
+    (subst (λ (t : ℕ). weight_at c.args.network.now.rest.items t <ℤ pos 0) (sym end) c.requires.lacks) c.narrowest-amount.ensures.most in
+    let same = ap weight_at (sym c.send-start.ensures.rest) in (
+      network_fits g.row.W _ _ _ c.args.network.now.sized,
+      (
+        c.requires.below _ c.send-start.ensures.start,
+        (
+          subst (λ (t : ℕ). t < n) (sym end) (c.requires.search.below _ c.requires.at),
+          (
+            apart_ends r _ _ c.narrowest-amount.result c.narrowest-amount.ensures.some c.send-start.ensures.enough low,
+            (
+              subst (λ (f : ℕ → ℤ). pos c.narrowest-amount.result ≤ℤ f c.send-start.result) same c.send-start.ensures.enough,
+              subst (λ (f : ℕ → ℤ). f c.entry-end.result.place ≤ℤ neg_ℤ (pos c.narrowest-amount.result)) same low,
+            ),
+          ),
+        ),
+      ),
+    )
+
+moves : (g : _) (c : goal.After-shift g) → Moves (64 * g.row.W) c.args.parents.now c.args.network.now.within (sent (64 * g.row.W) c.args.network.now.into.items c.args.network.now.amounts.items) (sent (64 * g.row.W) c.shift.new.self.into.items c.shift.new.self.amounts.items) (weight_at c.args.network.now.rest.items) (weight_at c.shift.new.self.rest.items) c.send-start.result c.entry-end.result.place c.narrowest-amount.result
+moves g c =
+    let n : ℕ = 64 * g.row.W in
+    let end = c.entry-end.ensures.place in
+    let w = c.args.network.now.within in
+    let F = sent n c.args.network.now.into.items c.args.network.now.amounts.items in
+    let x = c.narrowest-amount.result in
+    let fine : SFits w128 c.index.result.now = search rules in
+    let in_end = subst (λ (t : ℕ). t < n) (sym end) (c.requires.search.below _ c.requires.at) in
+    let low = read_lack n _ _ _ c.entry-end.result.place _ _ c.narrowest-amount.result c.args.network.now.sized in_end c.index.ensures fine c.unsigned_abs-lack.ensures.value
+    (subst (λ (t : ℕ). weight_at c.args.network.now.rest.items t <ℤ pos 0) (sym end) c.requires.lacks) c.narrowest-amount.ensures.most in
+    let e = same_sent n _ _ _ _ c.shift.ensures.into c.shift.ensures.amounts in
+    let moved : (t : ℕ) → set.contains w t ≡ true → net (places n w) (sent n c.send-start.new.network.into.items c.send-start.new.network.amounts.items) t ≡ (net (places n w) F t +ℤ only_at c.send-start.result (pos x) t) -ℤ only_at c.entry-end.result.place (pos x) t =
+    subst (λ (k : ℕ). (t : ℕ) → set.contains w t ≡ true → net (places n w) (sent n c.send-start.new.network.into.items c.send-start.new.network.amounts.items) t ≡ (net (places n w) F t +ℤ only_at c.send-start.result (pos x) t) -ℤ only_at k (pos x) t) (sym end) c.send-start.ensures.moved in
+    record {
+      below = c.requires.below;
+      first = c.send-start.ensures.start;
+      last = subst (λ (t : ℕ). set.contains w t ≡ true) (sym end) (c.requires.search.inside _ c.requires.at);
+      some = c.narrowest-amount.ensures.some;
+      enough = c.send-start.ensures.enough;
+      lacks = low;
+      moved = subst (λ (f : ℕ → ℕ → ℕ). (t : ℕ) → set.contains w t ≡ true → net (places n w) f t ≡ (net (places n w) F t +ℤ only_at c.send-start.result (pos x) t) -ℤ only_at c.entry-end.result.place (pos x) t) e moved;
+      more = subst (λ (f : ℕ → ℕ → ℕ). (d p : ℕ) → set.contains w d ≡ true → set.contains w p ≡ true → f d p ≤ F d p + x) e c.send-start.ensures.more;
+      allowed = subst (λ (f : ℕ → ℕ → ℕ). IsAllowed n c.args.parents.now w f) e c.send-start.ensures.allowed;
+      rests = subst (λ (r : ℕ → ℤ). (t : ℕ) → t < n → weight_at c.shift.new.self.rest.items t ≡ (r t -ℤ only_at c.send-start.result (pos x) t) +ℤ only_at c.entry-end.result.place (pos x) t) (ap weight_at c.send-start.ensures.rest) c.shift.ensures.rest;
+    }
+
+pub returns-clause-improves : goal.returns-clause-improves
+returns-clause-improves g c = moves_improve (64 * g.row.W) _ _ _ _ _ _ _ _ _ (moves g c) c.requires.steady
+
+pub returns-clause-falls : goal.returns-clause-falls
+returns-clause-falls g c = omega (arith, moves_falls (64 * g.row.W) _ _ _ _ _ _ _ _ _ (moves g c), (moves g c).some)

@@ -1,0 +1,13 @@
+use Rattle.std.proofs.Common.{◌≡◌, ◌*◌, ◌≤◌, length}
+use Rattle.closure_flow.specs.Closures.{weight_at}
+use Rattle.closure_flow.specs.Networks.{Improves, sent}
+use Rattle.closure_flow.proofs.solver.first_flow.Given as goal
+
+abbrev pub invariant-loop-at : goal.invariant-loop-at
+invariant-loop-at g l =
+    Improves (64 * g.row.W) l.parents l.fn.network.within (sent (64 * g.row.W) l.fn.network.into.items l.fn.network.amounts.items) (weight_at l.fn.network.rest.items) (sent (64 * g.row.W) l.network.into.items l.network.amounts.items) (weight_at l.network.rest.items)
+    × (l.network.within ≡ l.fn.network.within)
+    × (l.at ≤ length l.queue.entries)
+
+abbrev pub decreases-loop-at : goal.decreases-loop-at
+decreases-loop-at g l = l.at

@@ -1,0 +1,6 @@
+pub mod Closures
+pub mod Flows
+pub mod Networks
+pub mod Outcomes
+pub mod Queues
+pub mod Scratches

@@ -1,0 +1,42 @@
+ghost use Rattle.std.specs.Prelude.{ℕ, ◌*◌};
+
+use crate::Queue;
+use crate::network::Network;
+use bitset::Bits;
+use outside::NoMemory;
+use std::alloc::Global;
+
+/// The room that a solver works in, and the flow that the last call left there.
+///
+/// All memory is taken when it is made. It has room for 64·W places.
+#[derive(Drop)]
+pub struct Scratch<const W: usize> {
+    pub(crate) network: Network<W>,
+    pub(crate) queue: Queue<W>,
+}
+
+impl<const W: usize> Scratch<W> {
+    ghost use Rattle.std.specs.Prelude.{◌≡◌, ℕ, ◌*◌, IfOk};
+    ghost use Rattle.closure_flow.specs.Scratches.{flow_of};
+
+    /// Room for 64·W places, in which nothing flows.
+    pub fn new(alloc: Global) -> Result<Self, NoMemory>
+        ensures { IfOk result (λ s. (c p : ℕ) → flow_of s c p ≡ 0) }
+    {
+        let network = Network::new(alloc)?;
+        let queue = Queue::new(alloc, network.rest.len())?;
+        Ok(Scratch { network, queue })
+    }
+
+    /// What a child sends to a parent. It is 0 where one of them is not of the set that was solved last.
+    pub fn flow(&self, child: usize, parent: usize) -> u128
+        ensures { result ≡ flow_of self.now child parent }
+    {
+        let places = self.network.rest.len();
+        if child < places && parent < places && self.network.within.has(parent) {
+            self.network.sent(child, parent)
+        } else {
+            0
+        }
+    }
+}
