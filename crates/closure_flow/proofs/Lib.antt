@@ -1,5 +1,6 @@
 pub mod Lists
 pub mod Cuts
+pub mod FirstPlaces
 pub mod Loads
 pub mod Networks
 pub mod Sets

@@ -15,3 +15,6 @@ mod solver;
 pub use queue::{Entry, Queue};
 pub use scratch::Scratch;
 pub use solver::{Outcome, solve};
+
+#[cfg(test)]
+mod tests;

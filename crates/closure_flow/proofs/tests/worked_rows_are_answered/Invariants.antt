@@ -1,0 +1,8 @@
+-- The ledger of the call is that of the blank that it is given.
+use Rattle.closure_flow.proofs.tests.worked_rows_are_answered.Given as goal
+
+abbrev pub ghosts-rows : goal.ghosts-rows
+ghosts-rows g a = record { name = a.blank.name; parts = a.blank.parts }
+
+abbrev pub ghosts-edges : goal.ghosts-edges
+ghosts-edges g a = record { name = a.blank.name; parts = a.blank.parts }
