@@ -2,12 +2,12 @@
 use Rattle.std.proofs.Common.{◌≡◌, ℕ, List, [], ◌∷◌, ◌++◌, subst}
 use Rattle.graph_model.specs.declared.names.Refusal.{Refusal}
 use Rattle.graph_model.specs.States.{State}
-use Rattle.graph_model.specs.Commands.{Command, Add, Dep, Ancestors, Descendants, Count}
+use Rattle.graph_model.specs.Commands.{Command, SetLimits, Add, Dep, SetFee, Remove, Cluster, Ancestors, Descendants, Count}
 use Rattle.graph_model.specs.Replies.{Refused}
 use Rattle.graph_model.specs.Steps.{Step, Accepts, MayLackMemory}
 use Rattle.graph_model.specs.Refusals.{RefusalIs}
 use Rattle.graph_model.specs.declared.names.Refusal.TheVariants.{Memory}
-use Rattle.std.proofs.Common.{Some, None, sym}
+use Rattle.std.proofs.Common.{Some, sym}
 use Rattle.graph_model.specs.Runs.{Answer, Run}
 use Rattle.std.proofs.Common.{inl, inr}
 
@@ -18,8 +18,12 @@ run-append old mid new (line ∷ lines) more [] others run _ = absurd run
 run-append old mid new (line ∷ lines) more (answer ∷ answers) others run next = (run.0, run.1, run-append run.0 mid new lines more answers others run.2 next)
 
 no_accepted_refusal : (old new : State) (command : Command) (why : Refusal) → Accepts old command (Refused why) new → ⊥
+no_accepted_refusal old new (SetLimits count size total) why h = let e = h.0 in cc
 no_accepted_refusal old new (Add id fee size) why h = let e = h.0 in cc
 no_accepted_refusal old new (Dep parent child) why h = let e = h.0 in cc
+no_accepted_refusal old new (SetFee id fee) why h = let e = h.0 in cc
+no_accepted_refusal old new (Remove id) why h = let e = h.0 in cc
+no_accepted_refusal old new (Cluster id level) why h = let e = h.3 in cc
 no_accepted_refusal old new (Ancestors id level) why h = let e = h.3 in cc
 no_accepted_refusal old new (Descendants id level) why h = let e = h.3 in cc
 no_accepted_refusal old new (Count level) why h = let e = h.1 in cc
@@ -35,8 +39,15 @@ refused_keeps_state old new command why step = elim step [
 
 -- no row of refusals has `memory`
 no_memory_in_row : (state : State) (command : Command) → (MayLackMemory command → ⊥) → RefusalIs state command (Some Memory) → ⊥
+no_memory_in_row state (SetLimits count size total) reads refused = elim refused [
+  | inl late ↦ let e = late.1 in cc
+  | inr rest ↦ elim rest.1 [ inl range ↦ let e = range.1 in cc | inr later ↦ let e = later.1 in cc ]
+]
 no_memory_in_row state (Add id fee size) reads refused = reads tt
 no_memory_in_row state (Dep parent child) reads refused = reads tt
+no_memory_in_row state (SetFee id fee) reads refused = reads tt
+no_memory_in_row state (Remove id) reads refused = reads tt
+no_memory_in_row state (Cluster id level) reads refused = elim refused [ inl first ↦ let e = first.1 in cc | inr later ↦ let e = later.1 in cc ]
 no_memory_in_row state (Ancestors id level) reads refused = elim refused [ inl first ↦ let e = first.1 in cc | inr later ↦ let e = later.1 in cc ]
 no_memory_in_row state (Descendants id level) reads refused = elim refused [ inl first ↦ let e = first.1 in cc | inr later ↦ let e = later.1 in cc ]
 no_memory_in_row state (Count level) reads refused = cc

@@ -1,11 +1,11 @@
 -- Which refusal a command meets: the first of its row whose cause holds, and none where no cause does.
-use Rattle.std.specs.Prelude.{◌≡◌, ℕ, ◌<◌, ◌≤◌, List, length, sum_by, Contains, ◌⊎◌, Option, None, Some}
+use Rattle.std.specs.Prelude.{◌≡◌, ℕ, true, ◌<◌, ◌≤◌, List, length, sum_by, Contains, ◌⊎◌, Option, None, Some}
 use Rattle.std.specs.FinMap as finmap
 use Rattle.graph_model.specs.declared.names.Refusal.{Refusal}
 use Rattle.graph_model.specs.declared.names.Refusal.TheVariants.{Late, Range, Fee, Size, Taken, ClusterSize, Full, Unknown, Cycle, Count, Staging, Twice, Parent, Empty, NoStaging, Memory}
 use Rattle.graph_model.specs.declared.names.Level.{Level}
 use Rattle.graph_model.specs.declared.names.Level.TheVariants.{Top}
-use Rattle.graph_model.specs.Limits.{IsFee, IsSize}
+use Rattle.graph_model.specs.Limits.{IsFee, IsSize, AreInRange}
 use Rattle.graph_model.specs.Graphs.{IsAncestor, AreConnected, Lists}
 use Rattle.graph_model.specs.States.{State, level_of, IsLive, size_of}
 use Rattle.graph_model.specs.Commands.{Command}
@@ -62,6 +62,9 @@ OverSize state parent child n =
 
 -- the refusal that a command meets in a state
 abbrev pub RefusalIs : State → Command → Option Refusal → Type 0
+RefusalIs state (commands.SetLimits count size total) =
+    First (state.begun ≡ true) Late
+    (First (AreInRange (record { count = count; size = size; total = total }) → ⊥) Range NoRefusal)
 RefusalIs state (commands.Add id fee size) =
     First (IsFee fee → ⊥) Fee
     (First (IsSize size → ⊥) Size
@@ -74,6 +77,9 @@ RefusalIs state (commands.Dep parent child) =
     (First (IsAncestor (level_of state Top).graph.pairs child parent) Cycle
     (FirstAt (OverCount state parent child) Count
     (FirstAt (OverSize state parent child) ClusterSize NoRefusal))))
+RefusalIs state (commands.SetFee id fee) = First (IsFee fee → ⊥) Fee (First (IsLive state id → ⊥) (Unknown id) NoRefusal)
+RefusalIs state (commands.Remove id) = First (IsAbsent state Top id) (Unknown id) NoRefusal
+RefusalIs state (commands.Cluster id level) = First (IsAbsent state level id) (Unknown id) NoRefusal
 RefusalIs state (commands.Ancestors id level) = First (IsAbsent state level id) (Unknown id) NoRefusal
 RefusalIs state (commands.Descendants id level) = First (IsAbsent state level id) (Unknown id) NoRefusal
 RefusalIs state (commands.Count level) = NoRefusal

@@ -2,25 +2,35 @@
 use Rattle.std.specs.Prelude.{◌≡◌, ℕ, List, length, ◌⊎◌, None, Some}
 use Rattle.graph_model.specs.declared.names.Refusal.{Refusal}
 use Rattle.graph_model.specs.declared.names.Refusal.TheVariants.{Memory}
-use Rattle.graph_model.specs.Graphs.{IsAncestor, Lists}
+use Rattle.graph_model.specs.Graphs.{IsAncestor, AreConnected, Lists}
 use Rattle.graph_model.specs.States.{State, level_of}
-use Rattle.graph_model.specs.Commands.{Command, Add, Dep, Ancestors, Descendants, Count}
+use Rattle.graph_model.specs.Commands.{Command, SetLimits, Add, Dep, SetFee, Remove, Cluster, Ancestors, Descendants, Count}
 use Rattle.graph_model.specs.Refusals.{RefusalIs}
-use Rattle.graph_model.specs.Changes.{added, AddsPair}
+use Rattle.graph_model.specs.Changes.{limited, added, AddsPair, with_fee, Removes}
 use Rattle.graph_model.specs.Replies.{Reply, Refused, Done, Ids, Number}
 
 -- the commands that may be refused for want of memory
 abbrev pub MayLackMemory : Command → Type 0
+MayLackMemory (SetLimits count size total) = ⊥
 MayLackMemory (Add id fee size) = Unit {0}
 MayLackMemory (Dep parent child) = Unit {0}
+MayLackMemory (SetFee id fee) = Unit {0}
+MayLackMemory (Remove id) = Unit {0}
+MayLackMemory (Cluster id level) = ⊥
 MayLackMemory (Ancestors id level) = ⊥
 MayLackMemory (Descendants id level) = ⊥
 MayLackMemory (Count level) = ⊥
 
 -- the reply to an accepted command, and the state after it
 abbrev pub Accepts : State → Command → Reply → State → Type 0
+Accepts old (SetLimits count size total) reply new =
+    (reply ≡ Done) × (new ≡ limited old (record { count = count; size = size; total = total }))
 Accepts old (Add id fee size) reply new = (reply ≡ Done) × (new ≡ added old id fee size)
 Accepts old (Dep parent child) reply new = (reply ≡ Done) × AddsPair old parent child new
+Accepts old (SetFee id fee) reply new = (reply ≡ Done) × (new ≡ with_fee old id fee)
+Accepts old (Remove id) reply new = (reply ≡ Done) × Removes old id new
+Accepts old (Cluster id level) reply new =
+    (new ≡ old) × (ids : List ℕ) × Lists (AreConnected (level_of old level).graph.pairs id) ids × (reply ≡ Ids ids)
 Accepts old (Ancestors id level) reply new =
     (new ≡ old) × (ids : List ℕ) × Lists (λ a. IsAncestor (level_of old level).graph.pairs a id) ids × (reply ≡ Ids ids)
 Accepts old (Descendants id level) reply new =
