@@ -3,7 +3,7 @@ use Rattle.std.proofs.Common.{◌≡◌, ℕ, suc, zero, List, [], ◌∷◌, �
 use Rattle.std.specs.Prelude.{Contains}
 use Rattle.std.proofs.lemmas.List.Elements.{Contains-push, Contains-push_cases, Contains-append_left}
 use Rattle.graph_model.specs.Graphs.{Walk, IsAncestor, Trail, AreConnected}
-use Rattle.graph_model.specs.Laws.{HasNoCycle}
+use Rattle.graph_model.specs.Graphs.{HasNoCycle}
 use Rattle.graph_model.proofs.WalkLemmas.{IsAncestor-trans, AreConnected-trans, AreConnected-itself, IsAncestor-itself}
 
 -- the pairs with one more

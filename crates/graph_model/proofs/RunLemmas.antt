@@ -7,7 +7,7 @@ use Rattle.graph_model.specs.Replies.{Refused}
 use Rattle.graph_model.specs.Steps.{Step, Accepts, MayLackMemory}
 use Rattle.graph_model.specs.Refusals.{RefusalIs}
 use Rattle.graph_model.specs.declared.names.Refusal.TheVariants.{Memory}
-use Rattle.std.proofs.Common.{Some, None, sym}
+use Rattle.std.proofs.Common.{Some, sym}
 use Rattle.graph_model.specs.Runs.{Answer, Run}
 use Rattle.std.proofs.Common.{inl, inr}
 

@@ -1,6 +1,6 @@
 -- Transaction graphs as plain data: names, and pairs (parent, child). After `txgraph.h` of Bitcoin
 -- Core, a transaction is an ancestor and a descendant of itself.
-use Rattle.std.specs.Prelude.{◌≡◌, ℕ, List, Contains, ◌⊎◌, ◌↔◌, suc, zero}
+use Rattle.std.specs.Prelude.{◌≡◌, ℕ, List, [], ◌∷◌, Contains, ◌⊎◌, ◌↔◌, suc, zero}
 use Rattle.std.specs.List.Sorted.{IsStrictlyIncreasing}
 
 pub record Graph : Type 0 where
@@ -16,6 +16,10 @@ Walk pairs a b (suc n) = (c : ℕ) × Walk pairs a c n × Contains pairs (c, b)
 abbrev pub IsAncestor : List (ℕ × ℕ) → ℕ → ℕ → Type 0
 IsAncestor pairs a b = (n : ℕ) × Walk pairs a b n
 
+-- no walk of one pair or more leads from a name to itself
+abbrev pub HasNoCycle : List (ℕ × ℕ) → Type 0
+HasNoCycle pairs = (a n : ℕ) → Walk pairs a a (suc n) → ⊥
+
 -- a walk of n pairs leads from a to b, each taken in either direction
 abbrev pub Trail : List (ℕ × ℕ) → ℕ → ℕ → ℕ → Type 0
 Trail pairs a b zero = a ≡ b
@@ -30,6 +34,18 @@ pub record IsCover (pairs : List (ℕ × ℕ)) (a b : ℕ) : Type 0 where
   pub ancestor : IsAncestor pairs a b
   pub other : a ≡ b → ⊥
   pub between : (c : ℕ) → IsAncestor pairs a c → IsAncestor pairs c b → (c ≡ a) ⊎ (c ≡ b)
+
+-- no entry stands again later
+abbrev pub AreDistinct : {A : Type 0} → List A → Type 0
+AreDistinct [] = Unit {0}
+AreDistinct (x ∷ xs) = (Contains xs x → ⊥) × AreDistinct xs
+
+-- Names and pairs stand once each, pairs are of names, and no walk of one pair or more leads from a name to itself.
+pub record IsGraph (graph : Graph) : Type 0 where
+  pub names : AreDistinct graph.names
+  pub pairs : AreDistinct graph.pairs
+  pub ends : (parent child : ℕ) → Contains graph.pairs (parent, child) → Contains graph.names parent × Contains graph.names child
+  pub acyclic : HasNoCycle graph.pairs
 
 -- the numbers with a property, each once, in rising order
 pub record Lists (P : ℕ → Type 0) (ids : List ℕ) : Type 0 where

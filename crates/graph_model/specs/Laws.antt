@@ -1,8 +1,8 @@
 -- What a reader would expect of the definitions.
-use Rattle.std.specs.Prelude.{◌≡◌, ℕ, suc, List, [], ◌∷◌, ◌++◌, ◌⊎◌, ◌↔◌}
+use Rattle.std.specs.Prelude.{◌≡◌, ℕ, List, [], ◌∷◌, ◌++◌, ◌⊎◌, ◌↔◌}
 use Rattle.graph_model.specs.declared.names.Refusal.{Refusal}
 use Rattle.graph_model.specs.declared.names.Refusal.TheVariants.{Memory}
-use Rattle.graph_model.specs.Graphs.{Walk, IsAncestor, AreConnected}
+use Rattle.graph_model.specs.Graphs.{IsAncestor, AreConnected, HasNoCycle}
 use Rattle.graph_model.specs.States.{State}
 use Rattle.graph_model.specs.Commands.{Command}
 use Rattle.graph_model.specs.Replies.{Refused}
@@ -34,10 +34,6 @@ abbrev pub ComponentsWithPair : Type 0
 ComponentsWithPair =
     (pairs : List (ℕ × ℕ)) (parent child a b : ℕ) → AreConnected (pairs ++ (parent, child) ∷ []) a b
     ↔ (AreConnected pairs a b ⊎ ((AreConnected pairs a parent × AreConnected pairs child b) ⊎ (AreConnected pairs a child × AreConnected pairs parent b)))
-
--- no walk of one pair or more leads from a name to itself
-abbrev pub HasNoCycle : List (ℕ × ℕ) → Type 0
-HasNoCycle pairs = (a n : ℕ) → Walk pairs a a (suc n) → ⊥
 
 -- one more pair makes a cycle exactly where its child is an ancestor of its parent
 abbrev pub StaysWithoutCycle : Type 0

@@ -9,4 +9,8 @@ pub mod Replies
 pub mod Steps
 pub mod Lines
 pub mod Runs
+pub mod Rates
+pub mod Linearizations
+pub mod Certificates
+pub mod Texts
 pub mod Laws

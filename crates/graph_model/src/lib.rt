@@ -15,4 +15,4 @@ pub use laws::{
     ancestors_with_pair, answers_are_in_order, components_with_pair, readings_lack_no_memory,
     refused_changes_nothing, stays_without_cycle,
 };
-pub use names::{Level, Limits, Refusal, TxId};
+pub use names::{Flow, Level, Limits, Refusal, TxId};

@@ -14,6 +14,15 @@ pub struct Limits {
     pub total: u64,
 }
 
+/// An amount that goes from a child to a parent, in proof that no part of a chunk has a greater rate than the chunk.
+/// Amounts are satoshis times virtual bytes.
+#[derive(Clone, Copy, Debug, PartialEq, Eq)]
+pub struct Flow {
+    pub child: TxId,
+    pub parent: TxId,
+    pub amount: u128,
+}
+
 /// Which graph a command speaks of.
 #[derive(Clone, Copy, Debug, PartialEq, Eq)]
 pub enum Level {

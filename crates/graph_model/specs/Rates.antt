@@ -1,0 +1,19 @@
+-- Fees and sizes of names, and of lists of names. A rate is a fee over a size; see the order of rates in `fee_rate`.
+use Rattle.std.specs.Prelude.{ℕ, List, [], ◌∷◌, sum_by}
+use Rattle.arithmetic.specs.Sums.{total}
+use Rattle.fee_rate.specs.declared.rates.Sum.{Sum}
+use Rattle.fee_rate.specs.Rates.{AtMost}
+
+-- what a list of sums adds up to
+abbrev pub sum_of : List Sum → Sum
+sum_of parts = record { fee = total (λ part. part.fee) parts; size = sum_by (λ part. part.size) parts }
+
+-- the total fee and the total size of a list of names
+abbrev pub sums : (ℕ → Sum) → List ℕ → Sum
+sums rate ids = record { fee = total (λ id. (rate id).fee) ids; size = sum_by (λ id. (rate id).size) ids }
+
+-- no rate is greater than the one before it
+abbrev pub Falls : List Sum → Type 0
+Falls [] = Unit {0}
+Falls (a ∷ []) = Unit {0}
+Falls (a ∷ b ∷ rest) = AtMost b a × Falls (b ∷ rest)
