@@ -23,7 +23,7 @@ pub Contains-cases : {X : Type 0} (x y : X) (xs : List X) → Contains (x ∷ xs
 Contains-cases x y xs (zero, _, same) = inl same
 Contains-cases x y xs (suc k, below, same) = inr (k, omega arith, same)
 
-none_in_empty : {X : Type 0} (x : X) → Contains [] x → ⊥
+pub none_in_empty : {X : Type 0} (x : X) → Contains [] x → ⊥
 none_in_empty x h = omega (arith, h.1)
 
 -- in a list whose numbers all rise, the first is below the others, and those rise too

@@ -26,7 +26,7 @@ gotten flows id = sum_by (λ flow. if flow.parent == id then flow.amount else 0)
 
 -- how far a name's rate is above that of a whole, times both sizes
 abbrev pub weight_in : Sum → Sum → ℤ
-weight_in whole own = (pos whole.size *ℤ own.fee) -ℤ (whole.fee *ℤ pos own.size)
+weight_in whole own = (own.fee *ℤ pos whole.size) -ℤ (whole.fee *ℤ pos own.size)
 
 -- Flows certify a part over links (parent, child): no two have the same ends, each is a link inside
 -- the part, and for each name what it gives less what it gets is its weight.

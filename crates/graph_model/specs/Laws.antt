@@ -1,8 +1,12 @@
 -- What a reader would expect of the definitions.
-use Rattle.std.specs.Prelude.{◌≡◌, ℕ, List, [], ◌∷◌, ◌++◌, ◌⊎◌, ◌↔◌}
+use Rattle.std.specs.Prelude.{◌≡◌, ℕ, List, [], ◌∷◌, ◌++◌, ◌⊎◌, ◌↔◌, map, flat_map, Contains}
 use Rattle.graph_model.specs.declared.names.Refusal.{Refusal}
 use Rattle.graph_model.specs.declared.names.Refusal.TheVariants.{Memory}
-use Rattle.graph_model.specs.Graphs.{IsAncestor, AreConnected, HasNoCycle}
+use Rattle.graph_model.specs.Graphs.{Graph, IsAncestor, AreConnected, IsCover, HasNoCycle}
+use Rattle.fee_rate.specs.declared.rates.Sum.{Sum}
+use Rattle.graph_model.specs.Rates.{sums, HasSizes}
+use Rattle.graph_model.specs.Linearizations.{IsClosedWithin, IsTopological, AreChunks, IsFlat, IsUnderLine, IsUnderDiagram, IsOptimal}
+use Rattle.graph_model.specs.Certificates.{Part, IsCertificate}
 use Rattle.graph_model.specs.States.{State}
 use Rattle.graph_model.specs.Commands.{Command}
 use Rattle.graph_model.specs.Replies.{Refused}
@@ -39,3 +43,24 @@ ComponentsWithPair =
 abbrev pub StaysWithoutCycle : Type 0
 StaysWithoutCycle =
     (pairs : List (ℕ × ℕ)) (parent child : ℕ) → HasNoCycle pairs → HasNoCycle (pairs ++ (parent, child) ∷ []) ↔ (IsAncestor pairs child parent → ⊥)
+
+-- Certified parts are optimal, over the pairs of a graph, and so over its covering pairs alone. Sizes are at least 1.
+pub record CertifiedPartsAreOptimal : Type 0 where
+  pub by_pairs : (rate : ℕ → Sum) (graph : Graph) (parts : List Part) → HasSizes rate graph.names
+      → IsCertificate rate graph (λ parent child. Contains graph.pairs (parent, child)) parts → IsOptimal rate graph (map (λ part. part.ids) parts)
+  pub by_covers : (rate : ℕ → Sum) (graph : Graph) (parts : List Part) → HasSizes rate graph.names
+      → IsCertificate rate graph (IsCover graph.pairs) parts → IsOptimal rate graph (map (λ part. part.ids) parts)
+
+-- The diagram of an optimal order bounds every closed set of the graph, though it speaks of fronts of orders alone.
+abbrev pub OptimalBoundsClosedSets : Type 0
+OptimalBoundsClosedSets =
+    (rate : ℕ → Sum) (graph : Graph) (parts : List (List ℕ)) (set : List ℕ) → IsOptimal rate graph parts
+    → IsClosedWithin graph.pairs graph.names set → IsUnderDiagram (map (sums rate) parts) (sums rate set)
+
+-- Parts within which no closed set has a greater rate, in falling order, bound every closed set at each part's line.
+abbrev pub FlatPartsBoundClosedSets : Type 0
+FlatPartsBoundClosedSets =
+    (rate : ℕ → Sum) (graph : Graph) (before after : List (List ℕ)) (part set : List ℕ) → HasSizes rate graph.names
+    → IsTopological graph (flat_map (λ ids. ids) (before ++ part ∷ after)) → AreChunks rate graph.pairs (before ++ part ∷ after)
+    → ((ids : List ℕ) → Contains (before ++ part ∷ after) ids → IsFlat rate graph.pairs ids)
+    → IsClosedWithin graph.pairs graph.names set → IsUnderLine (sums rate (flat_map (λ ids. ids) before)) (sums rate part) (sums rate set)

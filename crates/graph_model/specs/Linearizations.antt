@@ -13,6 +13,10 @@ pub record IsClosedWithin (pairs : List (ℕ × ℕ)) (part set : List ℕ) : Ty
   pub inside : (id : ℕ) → Contains set id → Contains part id
   pub parents : (parent child : ℕ) → Contains pairs (parent, child) → Contains part parent → Contains set child → Contains set parent
 
+-- no closed set within the part has a greater rate than the part
+abbrev pub IsFlat : (ℕ → Sum) → List (ℕ × ℕ) → List ℕ → Type 0
+IsFlat rate pairs part = (set : List ℕ) → IsClosedWithin pairs part set → AtMost (sums rate set) (sums rate part)
+
 -- a stands before b
 abbrev pub StandsBefore : List ℕ → ℕ → ℕ → Type 0
 StandsBefore order a b = (front rest : List ℕ) × (order ≡ front ++ b ∷ rest) × Contains front a

@@ -1,5 +1,5 @@
 -- Fees and sizes of names, and of lists of names. A rate is a fee over a size; see the order of rates in `fee_rate`.
-use Rattle.std.specs.Prelude.{ℕ, List, [], ◌∷◌, sum_by}
+use Rattle.std.specs.Prelude.{ℕ, ◌≤◌, List, [], ◌∷◌, sum_by, Contains}
 use Rattle.arithmetic.specs.Sums.{total}
 use Rattle.fee_rate.specs.declared.rates.Sum.{Sum}
 use Rattle.fee_rate.specs.Rates.{AtMost}
@@ -11,6 +11,10 @@ sum_of parts = record { fee = total (λ part. part.fee) parts; size = sum_by (λ
 -- the total fee and the total size of a list of names
 abbrev pub sums : (ℕ → Sum) → List ℕ → Sum
 sums rate ids = record { fee = total (λ id. (rate id).fee) ids; size = sum_by (λ id. (rate id).size) ids }
+
+-- each name has a size of at least 1
+abbrev pub HasSizes : (ℕ → Sum) → List ℕ → Type 0
+HasSizes rate ids = (id : ℕ) → Contains ids id → 1 ≤ (rate id).size
 
 -- no rate is greater than the one before it
 abbrev pub Falls : List Sum → Type 0

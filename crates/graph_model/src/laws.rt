@@ -1,5 +1,5 @@
 //! Laws over the definitions, each the contract of a function that does nothing.
-ghost use Rattle.graph_model.specs.Laws.{AnswersAreInOrder, ReadingsLackNoMemory, RefusedChangesNothing, AncestorsWithPair, ComponentsWithPair, StaysWithoutCycle};
+ghost use Rattle.graph_model.specs.Laws.{AnswersAreInOrder, ReadingsLackNoMemory, RefusedChangesNothing, AncestorsWithPair, ComponentsWithPair, StaysWithoutCycle, CertifiedPartsAreOptimal, OptimalBoundsClosedSets, FlatPartsBoundClosedSets};
 
 /// No answer is lost or out of order: a run over lines that come one after the other is the run over
 /// the first of them, and then over the others.
@@ -31,4 +31,21 @@ pub fn components_with_pair()
 /// One more pair makes a cycle exactly where its child is an ancestor of its parent.
 pub fn stays_without_cycle()
     ensures { StaysWithoutCycle }
+{}
+
+/// Parts whose flows certify them, over the pairs of a graph or over its covering pairs alone, are an
+/// optimal order of the graph.
+pub fn certified_parts_are_optimal()
+    ensures { CertifiedPartsAreOptimal }
+{}
+
+/// The diagram of an optimal order is nowhere below any closed set of the graph.
+pub fn optimal_bounds_closed_sets()
+    ensures { OptimalBoundsClosedSets }
+{}
+
+/// Parts of falling rate, within which no closed set has a greater rate, bound every closed set of the
+/// graph at the line of each part.
+pub fn flat_parts_bound_closed_sets()
+    ensures { FlatPartsBoundClosedSets }
 {}
