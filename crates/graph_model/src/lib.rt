@@ -1,7 +1,7 @@
 //! What a transaction graph is: its definitions, and the plain types that every layer speaks of.
 //!
 //! The definitions stand in `specs/`, one file a subject: limits, graphs, rates, linearizations,
-//! certificates and their texts, states, commands, refusals, changes, replies, steps, lines and runs.
+//! certificates and their texts, diagrams, states, commands, refusals, changes, replies, steps, lines and runs.
 #![tactic(auto)]
 
 mod ids;
@@ -16,4 +16,4 @@ pub use laws::{
     flat_parts_bound_closed_sets, optimal_bounds_closed_sets, readings_lack_no_memory,
     refused_changes_nothing, stays_without_cycle,
 };
-pub use names::{Flow, Level, Limits, Refusal, TxId};
+pub use names::{Flow, Level, Limits, Refusal, TxId, Verdict};
