@@ -6,3 +6,4 @@ pub mod Members
 pub mod FlowLemmas
 pub mod TangentLemmas
 pub mod BestLemmas
+pub mod CornerLemmas

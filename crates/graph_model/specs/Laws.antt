@@ -1,12 +1,13 @@
 -- What a reader would expect of the definitions.
-use Rattle.std.specs.Prelude.{◌≡◌, ℕ, List, [], ◌∷◌, ◌++◌, ◌⊎◌, ◌↔◌, map, flat_map, Contains}
+use Rattle.std.specs.Prelude.{◌≡◌, ℕ, ◌≤◌, ℤ, List, [], ◌∷◌, ◌++◌, ◌⊎◌, ◌↔◌, map, flat_map, Contains}
 use Rattle.graph_model.specs.declared.names.Refusal.{Refusal}
 use Rattle.graph_model.specs.declared.names.Refusal.TheVariants.{Memory}
-use Rattle.graph_model.specs.Graphs.{Graph, IsAncestor, AreConnected, IsCover, HasNoCycle}
+use Rattle.graph_model.specs.Graphs.{Graph, IsAncestor, AreConnected, IsCover, HasNoCycle, AreDistinct}
 use Rattle.fee_rate.specs.declared.rates.Sum.{Sum}
-use Rattle.graph_model.specs.Rates.{sums, HasSizes}
+use Rattle.graph_model.specs.Rates.{sums, HasSizes, Falls}
 use Rattle.graph_model.specs.Linearizations.{IsClosedWithin, IsTopological, AreChunks, IsFlat, IsUnderLine, IsUnderDiagram, IsOptimal}
 use Rattle.graph_model.specs.Certificates.{Part, IsCertificate}
+use Rattle.graph_model.specs.Diagrams.{corners_of, JoinsEqualRates, AreCorners}
 use Rattle.graph_model.specs.States.{State}
 use Rattle.graph_model.specs.Commands.{Command}
 use Rattle.graph_model.specs.Replies.{Refused}
@@ -64,3 +65,18 @@ FlatPartsBoundClosedSets =
     → IsTopological graph (flat_map (λ ids. ids) (before ++ part ∷ after)) → AreChunks rate graph.pairs (before ++ part ∷ after)
     → ((ids : List ℕ) → Contains (before ++ part ∷ after) ids → IsFlat rate graph.pairs ids)
     → IsClosedWithin graph.pairs graph.names set → IsUnderLine (sums rate (flat_map (λ ids. ids) before)) (sums rate part) (sums rate set)
+
+-- A graph has at most one list of corners.
+abbrev pub CornersAreUnique : Type 0
+CornersAreUnique = (rate : ℕ → Sum) (graph : Graph) (a b : List (ℕ × ℤ)) → AreCorners rate graph a → AreCorners rate graph b → a ≡ b
+
+-- The ends of an optimal order, equal rates joined, are the graph's corners. Names stand once and have sizes of at least 1.
+abbrev pub OptimalEndsAreCorners : Type 0
+OptimalEndsAreCorners =
+    (rate : ℕ → Sum) (graph : Graph) (parts : List (List ℕ)) (segments : List Sum) → AreDistinct graph.names → HasSizes rate graph.names
+    → IsOptimal rate graph parts → JoinsEqualRates (map (sums rate) parts) segments → AreCorners rate graph (corners_of segments)
+
+-- Parts of falling rate have one list of segments that joins their equal rates. Sizes are at least 1.
+pub record EqualRatesJoinOnce : Type 0 where
+  pub some : (parts : List Sum) → ((part : Sum) → Contains parts part → 1 ≤ part.size) → Falls parts → (segments : List Sum) × JoinsEqualRates parts segments
+  pub one : (parts : List Sum) (a b : List Sum) → ((part : Sum) → Contains parts part → 1 ≤ part.size) → JoinsEqualRates parts a → JoinsEqualRates parts b → a ≡ b

@@ -1,5 +1,5 @@
 //! Laws over the definitions, each the contract of a function that does nothing.
-ghost use Rattle.graph_model.specs.Laws.{AnswersAreInOrder, ReadingsLackNoMemory, RefusedChangesNothing, AncestorsWithPair, ComponentsWithPair, StaysWithoutCycle, CertifiedPartsAreOptimal, OptimalBoundsClosedSets, FlatPartsBoundClosedSets};
+ghost use Rattle.graph_model.specs.Laws.{AnswersAreInOrder, ReadingsLackNoMemory, RefusedChangesNothing, AncestorsWithPair, ComponentsWithPair, StaysWithoutCycle, CertifiedPartsAreOptimal, OptimalBoundsClosedSets, FlatPartsBoundClosedSets, CornersAreUnique, OptimalEndsAreCorners, EqualRatesJoinOnce};
 
 /// No answer is lost or out of order: a run over lines that come one after the other is the run over
 /// the first of them, and then over the others.
@@ -48,4 +48,19 @@ pub fn optimal_bounds_closed_sets()
 /// graph at the line of each part.
 pub fn flat_parts_bound_closed_sets()
     ensures { FlatPartsBoundClosedSets }
+{}
+
+/// A graph has at most one list of corners.
+pub fn corners_are_unique()
+    ensures { CornersAreUnique }
+{}
+
+/// The ends of an optimal order's parts, equal rates joined, are the graph's corners.
+pub fn optimal_ends_are_corners()
+    ensures { OptimalEndsAreCorners }
+{}
+
+/// Parts of falling rate have exactly one list of segments that joins their equal rates.
+pub fn equal_rates_join_once()
+    ensures { EqualRatesJoinOnce }
 {}
