@@ -2,3 +2,4 @@ pub mod RunLemmas
 pub mod ListLemmas
 pub mod WalkLemmas
 pub mod PairLemmas
+pub mod RemovalLemmas

@@ -1,8 +1,9 @@
 -- What a reader would expect of the definitions.
-use Rattle.std.specs.Prelude.{◌≡◌, ℕ, List, [], ◌∷◌, ◌++◌, ◌⊎◌, ◌↔◌}
+use Rattle.std.specs.Prelude.{◌≡◌, ◌≢◌, ℕ, List, [], ◌∷◌, ◌++◌, ◌⊎◌, ◌↔◌}
 use Rattle.graph_model.specs.declared.names.Refusal.{Refusal}
 use Rattle.graph_model.specs.declared.names.Refusal.TheVariants.{Memory}
-use Rattle.graph_model.specs.Graphs.{IsAncestor, AreConnected, HasNoCycle}
+use Rattle.graph_model.specs.Graphs.{Graph, IsAncestor, AreConnected, HasNoCycle, IsGraph}
+use Rattle.graph_model.specs.Changes.{IsWithout}
 use Rattle.graph_model.specs.States.{State}
 use Rattle.graph_model.specs.Commands.{Command}
 use Rattle.graph_model.specs.Replies.{Refused}
@@ -39,3 +40,17 @@ ComponentsWithPair =
 abbrev pub StaysWithoutCycle : Type 0
 StaysWithoutCycle =
     (pairs : List (ℕ × ℕ)) (parent child : ℕ) → HasNoCycle pairs → HasNoCycle (pairs ++ (parent, child) ∷ []) ↔ (IsAncestor pairs child parent → ⊥)
+
+-- every graph has one without a name
+abbrev pub NamesCanGo : Type 0
+NamesCanGo = (old : Graph) (id : ℕ) → IsGraph old → (new : Graph) × IsWithout old id new
+
+-- what is left of a graph without a name is a graph
+abbrev pub StaysGraph : Type 0
+StaysGraph = (old new : Graph) (id : ℕ) → IsWithout old id new → IsGraph old → IsGraph new
+
+-- without a name the others keep the ancestors that they had among them
+abbrev pub AncestorsWithoutName : Type 0
+AncestorsWithoutName =
+    (old new : Graph) (id : ℕ) → IsWithout old id new → (a b : ℕ) → IsAncestor new.pairs a b
+    ↔ ((a ≡ b) ⊎ ((a ≢ id) × (b ≢ id) × IsAncestor old.pairs a b))

@@ -1,5 +1,5 @@
 //! Laws over the definitions, each the contract of a function that does nothing.
-ghost use Rattle.graph_model.specs.Laws.{AnswersAreInOrder, ReadingsLackNoMemory, RefusedChangesNothing, AncestorsWithPair, ComponentsWithPair, StaysWithoutCycle};
+ghost use Rattle.graph_model.specs.Laws.{AnswersAreInOrder, ReadingsLackNoMemory, RefusedChangesNothing, AncestorsWithPair, ComponentsWithPair, StaysWithoutCycle, NamesCanGo, StaysGraph, AncestorsWithoutName};
 
 /// No answer is lost or out of order: a run over lines that come one after the other is the run over
 /// the first of them, and then over the others.
@@ -31,4 +31,19 @@ pub fn components_with_pair()
 /// One more pair makes a cycle exactly where its child is an ancestor of its parent.
 pub fn stays_without_cycle()
     ensures { StaysWithoutCycle }
+{}
+
+/// Every graph has one without a name.
+pub fn names_can_go()
+    ensures { NamesCanGo }
+{}
+
+/// What is left of a graph without a name is a graph.
+pub fn stays_graph()
+    ensures { StaysGraph }
+{}
+
+/// Without a name the others keep the ancestors that they had among them.
+pub fn ancestors_without_name()
+    ensures { AncestorsWithoutName }
 {}

@@ -12,7 +12,8 @@ mod tests;
 
 pub use ids::{IdBuf, IdList};
 pub use laws::{
-    ancestors_with_pair, answers_are_in_order, components_with_pair, readings_lack_no_memory,
-    refused_changes_nothing, stays_without_cycle,
+    ancestors_with_pair, ancestors_without_name, answers_are_in_order, components_with_pair,
+    names_can_go, readings_lack_no_memory, refused_changes_nothing, stays_graph,
+    stays_without_cycle,
 };
 pub use names::{Level, Limits, Refusal, TxId};
