@@ -1,1 +1,3 @@
 mod Names
+mod Kept
+mod Single

@@ -92,12 +92,8 @@ module _ (names : List ℕ) (g : Graph) (once : AreOnce names) where
   named-rate p low = ap rate_in (get-here names g (length names) p once (omega arith) low)
 
   named-ancestors : (p : ℕ) → p < length names → ancestors_of (named names g) (slice_index names p) ≡ names_where names (λ a. is_ancestor g a p) (length names)
-  unfolding named
-  named-ancestors p low = opened (get-here names g (length names) p once (omega arith) low)
-    where
-      opened : map.get (named_below names g (length names)) (slice_index names p) ≡ Some (named_node names g p) → ancestors_of (named_below names g (length names)) (slice_index names p) ≡ names_where names (λ a. is_ancestor g a p) (length names)
-      unfolding ancestors_of
-      opened e = ap ancestors_in e
+  unfolding named ancestors_of
+  named-ancestors p low = ap ancestors_in (get-here names g (length names) p once (omega arith) low)
 
   ancestor-member : (a d : ℕ) → is_ancestor (named names g) a d ≡ true → is_member (named names g) d ≡ true
   unfolding is_member ancestors_of
