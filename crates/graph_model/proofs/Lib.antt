@@ -7,3 +7,4 @@ pub mod FlowLemmas
 pub mod TangentLemmas
 pub mod BestLemmas
 pub mod CornerLemmas
+pub mod RemovalLemmas

@@ -1,13 +1,14 @@
 -- What a reader would expect of the definitions.
-use Rattle.std.specs.Prelude.{◌≡◌, ℕ, ◌≤◌, ℤ, List, [], ◌∷◌, ◌++◌, ◌⊎◌, ◌↔◌, map, flat_map, Contains}
+use Rattle.std.specs.Prelude.{◌≡◌, ◌≢◌, ℕ, ◌≤◌, ℤ, List, [], ◌∷◌, ◌++◌, ◌⊎◌, ◌↔◌, map, flat_map, Contains}
 use Rattle.graph_model.specs.declared.names.Refusal.{Refusal}
 use Rattle.graph_model.specs.declared.names.Refusal.TheVariants.{Memory}
-use Rattle.graph_model.specs.Graphs.{Graph, IsAncestor, AreConnected, IsCover, HasNoCycle, AreDistinct}
+use Rattle.graph_model.specs.Graphs.{Graph, IsAncestor, AreConnected, IsCover, HasNoCycle, AreDistinct, IsGraph}
 use Rattle.fee_rate.specs.declared.rates.Sum.{Sum}
 use Rattle.graph_model.specs.Rates.{sums, HasSizes, Falls}
 use Rattle.graph_model.specs.Linearizations.{IsClosedWithin, IsTopological, AreChunks, IsFlat, IsUnderLine, IsUnderDiagram, IsOptimal}
 use Rattle.graph_model.specs.Certificates.{Part, IsCertificate}
 use Rattle.graph_model.specs.Diagrams.{corners_of, JoinsEqualRates, AreCorners}
+use Rattle.graph_model.specs.Changes.{IsWithout}
 use Rattle.graph_model.specs.States.{State}
 use Rattle.graph_model.specs.Commands.{Command}
 use Rattle.graph_model.specs.Replies.{Refused}
@@ -80,3 +81,17 @@ OptimalEndsAreCorners =
 pub record EqualRatesJoinOnce : Type 0 where
   pub some : (parts : List Sum) → ((part : Sum) → Contains parts part → 1 ≤ part.size) → Falls parts → (segments : List Sum) × JoinsEqualRates parts segments
   pub one : (parts : List Sum) (a b : List Sum) → ((part : Sum) → Contains parts part → 1 ≤ part.size) → JoinsEqualRates parts a → JoinsEqualRates parts b → a ≡ b
+
+-- every graph has one without a name
+abbrev pub NamesCanGo : Type 0
+NamesCanGo = (old : Graph) (id : ℕ) → IsGraph old → (new : Graph) × IsWithout old id new
+
+-- what is left of a graph without a name is a graph
+abbrev pub StaysGraph : Type 0
+StaysGraph = (old new : Graph) (id : ℕ) → IsWithout old id new → IsGraph old → IsGraph new
+
+-- without a name the others keep the ancestors that they had among them
+abbrev pub AncestorsWithoutName : Type 0
+AncestorsWithoutName =
+    (old new : Graph) (id : ℕ) → IsWithout old id new → (a b : ℕ) → IsAncestor new.pairs a b
+    ↔ ((a ≡ b) ⊎ ((a ≢ id) × (b ≢ id) × IsAncestor old.pairs a b))

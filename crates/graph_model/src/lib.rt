@@ -12,9 +12,9 @@ mod tests;
 
 pub use ids::{IdBuf, IdList};
 pub use laws::{
-    ancestors_with_pair, answers_are_in_order, certified_parts_are_optimal, components_with_pair,
-    corners_are_unique, equal_rates_join_once, flat_parts_bound_closed_sets,
-    optimal_bounds_closed_sets, optimal_ends_are_corners, readings_lack_no_memory,
-    refused_changes_nothing, stays_without_cycle,
+    ancestors_with_pair, ancestors_without_name, answers_are_in_order, certified_parts_are_optimal,
+    components_with_pair, corners_are_unique, equal_rates_join_once, flat_parts_bound_closed_sets,
+    names_can_go, optimal_bounds_closed_sets, optimal_ends_are_corners, readings_lack_no_memory,
+    refused_changes_nothing, stays_graph, stays_without_cycle,
 };
 pub use names::{Flow, Level, Limits, Refusal, TxId, Verdict};
