@@ -1,5 +1,3 @@
-ghost use Rattle.std.specs.Prelude.{◌≡◌};
-
 /// Where the transaction of a live name stands.
 #[derive(Clone, Copy, Debug, PartialEq, Eq)]
 pub struct Spot {

@@ -6,6 +6,7 @@ fn spot(record: usize, place: usize) -> Spot {
 }
 
 #[test]
+#[tactic(auto, using(crate::proofs::Gets::names_get))]
 fn each_live_name_has_its_last_spot(rt: HostRuntime) -> Result<(), Fail> {
     let mut book = NameBook::new(rt.alloc());
     assert_eq!(rt; book.len(), 0);
