@@ -1,4 +1,4 @@
-use Rattle.std.proofs.Common.{◌≡◌, ◌≢◌, ◌+◌, ◌-◌, ◌≤◌, ℕ, Some, length, ap, ◌∙◌, arith, false, nat_eq}
+use Rattle.std.proofs.Common.{◌≡◌, ◌≢◌, ◌-◌, ◌≤◌, ℕ, Some, length, ap, ◌∙◌, arith, false, nat_eq}
 use Rattle.std.specs.FinMap as finmap
 use Rattle.node_pool.specs.declared.pool.Key.{Key}
 use Rattle.node_pool.specs.Nodes.{live_count}

@@ -1,7 +1,5 @@
-use Rattle.std.proofs.Common.{◌≡◌, ◌<◌, ◌≤◌, ◌+◌, ◌-◌, ◌^◌, ℕ, Err, length, sym, ap, ◌∙◌, arith}
+use Rattle.std.proofs.Common.{Err, ap, ◌∙◌, arith}
 use Rattle.std.specs.FinMap as finmap
-use Rattle.node_pool.specs.Nodes.{live_count}
-use Rattle.node_pool.specs.declared.pool.PoolFault.{PoolFault}
 use Rattle.name_book.specs.Books.{Book}
 use Rattle.name_book.proofs.BookLemmas.{len-spots}
 use Rattle.name_book.proofs.book.NameBook.reserve.Goals as goal
