@@ -9,6 +9,7 @@ use Rattle.node_pool.specs.declared.pool.Key.{Key}
 use Rattle.node_pool.specs.Nodes.{Nodes, value_at, IsLive, live_count}
 use Rattle.name_book.specs.declared.spot.Spot.{Spot}
 
+-- names with their spots
 abbrev pub Spots : Type 0
 Spots = finmap.FinMap nat_cmp Spot
 
@@ -18,13 +19,15 @@ pub record Book : Type 0 where
   pub spare : ℕ
   pub issued : ℕ
 
+-- a spot is stored as the pair of its fields, and a table as the tuple of its
 abbrev pub spot_code : Coded Spot
-spot_code = code_by (ℕ × ℕ) (coded× coded_ℕ coded_ℕ) (λ s. (s.record, s.place)) (λ p. record { «record» = p.0; place = p.1 }) (λ _. refl)
+spot_code =
+    code_by (ℕ × ℕ) (coded× coded_ℕ coded_ℕ) (λ s. (s.record, s.place)) (λ p. record { «record» = p.0; place = p.1 }) (λ _. refl)
 
 abbrev pub book_code : Coded Book
 book_code =
-    code_by (Spots × (ℕ × ℕ)) (coded× (finmap.code coded_ℕ spot_code) (coded× coded_ℕ coded_ℕ)) (λ b. (b.spots, (b.spare, b.issued)))
-    (λ p. record { spots = p.0; spare = p.1.0; issued = p.1.1 }) (λ _. refl)
+    code_by (Spots × (ℕ × ℕ)) (coded× (finmap.code coded_ℕ spot_code) (coded× coded_ℕ coded_ℕ))
+    (λ b. (b.spots, (b.spare, b.issued))) (λ p. record { spots = p.0; spare = p.1.0; issued = p.1.1 }) (λ _. refl)
 
 -- the spot of a key's node; every key of a table has a node
 abbrev pub spot_or_zero : Option Spot → Spot
