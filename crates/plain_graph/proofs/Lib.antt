@@ -5,3 +5,4 @@ mod Spreads
 mod Starts
 mod JoinLemmas
 mod Readings
+mod Puts
