@@ -6,3 +6,5 @@ mod Starts
 mod JoinLemmas
 mod Readings
 mod Puts
+mod Fees
+mod Removals

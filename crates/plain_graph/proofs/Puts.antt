@@ -157,10 +157,14 @@ left_put front pair pairs id old mid new first second =
     puts_more (IsLeft front pairs id) (IsLeft (pair ∷ []) pairs id) (IsLeft (front ++ pair ∷ []) pairs id) old mid new
     (λ a b either. elim either [
       | inl before ↦ (before.0, before.1, elim before.2 [ inl here ↦ inl (older front pair a b here) | inr across ↦ inr (older front pair a id across.0, across.1) ])
-      | inr one ↦ (one.0, one.1, elim one.2 [
-        | inl here ↦ let is = only_pair pair a b here in inl (newest front pair a b is.0 is.1)
-        | inr across ↦ let is = only_pair pair a id across.0 in inr (newest front pair a id is.0 is.1, across.1)
-      ])
+      | inr one ↦ (
+        one.0,
+        one.1,
+        elim one.2 [
+          | inl here ↦ let is = only_pair pair a b here in inl (newest front pair a b is.0 is.1)
+          | inr across ↦ let is = only_pair pair a id across.0 in inr (newest front pair a id is.0 is.1, across.1)
+        ],
+      )
     ])
     (λ a b left. elim left.2 [
       | inl here ↦ elim (split_last front pair a b here) [

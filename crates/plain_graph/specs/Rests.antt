@@ -1,5 +1,5 @@
 -- What a change leaves of the transactions and of the pairs.
-use Rattle.std.specs.Prelude.{◌≡◌, ◌≢◌, ℕ, ℤ, ◌==◌, not, if◌then◌else◌, List, map, filter, Contains, ◌⊎◌, ◌↔◌}
+use Rattle.std.specs.Prelude.{◌≡◌, ◌≢◌, ℕ, ℤ, ◌==◌, not, if◌then◌else◌, List, filter, Contains, ◌⊎◌, ◌↔◌}
 use Rattle.graph_model.specs.Graphs.{AreDistinct}
 use Rattle.plain_graph.specs.declared.tx.Tx.{Tx}
 

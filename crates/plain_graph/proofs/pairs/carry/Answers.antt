@@ -1,4 +1,3 @@
-use Rattle.std.proofs.Common.{OnOk, Result, Ok, Err}
 use Rattle.plain_graph.proofs.Puts.{left_of_child, left_of_neither, on_ok}
 use Rattle.plain_graph.proofs.pairs.carry.Goals as goal
 

@@ -1,4 +1,4 @@
-use Rattle.std.proofs.Common.{◌≡◌, to_z, of_z, sym, ◌∙◌, ap, get_or, rules}
+use Rattle.std.proofs.Common.{to_z, of_z, rules}
 use Rattle.std.specs.Int.{w64}
 use Rattle.std.proofs.lemmas.List.Edits.{map_over_more}
 use Rattle.plain_graph.specs.Rests.{paying}
