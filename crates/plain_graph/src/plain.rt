@@ -183,7 +183,7 @@ impl Plain {
         ensures new_name { result ≡ None → entry_in self.now.txs id ≡ None }
         ensures small { result ≡ None → size ≤ 4000000 }
     {
-        if fee < -MAX_FEE || fee > MAX_FEE {
+        if !is_fee(fee) {
             return Some(Refusal::Fee);
         }
         if size < 1 || size > MAX_SIZE {
