@@ -61,10 +61,7 @@ const RUNS: [(&str, &str); 15] = [
         "add 1 1 1\nfee 1 2100000000000000\nfee 1 2100000000000001\nfee 9 -2100000000000001\nfee 9 5\nfee 1 -0\nfee 1 5 5\nlimits 64 404000 0\nremove 01\nremove main\ncluster 1\ncluster 9 main\nlimits 64 1 1 1\n",
         "ok\nok\nrefused fee\nrefused fee\nrefused unknown 9\nrefused syntax\nrefused syntax\nrefused late\nrefused syntax\nrefused syntax\nrefused syntax\nrefused unknown 9\nrefused syntax\n",
     ),
-    (
-        "order main\nstage\n",
-        "refused syntax\nrefused syntax\n",
-    ),
+    ("order main\nstage\n", "refused syntax\nrefused syntax\n"),
 ];
 
 #[test]
