@@ -3,4 +3,6 @@ pub mod Sessions
 pub mod Inputs
 pub mod Outputs
 pub mod Statuses
+pub mod Checks
+pub mod Verdicts
 pub mod Progress

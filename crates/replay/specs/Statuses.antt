@@ -13,6 +13,14 @@ use Rattle.replay.specs.Outputs.{WritesOutput, WritesFront}
 abbrev pub AreReplay : List (List ℕ) → Type 0
 AreReplay words = (name : List ℕ) × (words ≡ name ∷ codes "replay" ∷ [])
 
+-- the words are the program's name and `check`, and nothing else
+abbrev pub AreCheck : List (List ℕ) → Type 0
+AreCheck words = (name : List ℕ) × (words ≡ name ∷ codes "check" ∷ [])
+
+-- the words are no command
+abbrev pub AreRefused : List (List ℕ) → Type 0
+AreRefused words = (AreReplay words → ⊥) × (AreCheck words → ⊥)
+
 abbrev pub usage_text : List ℕ
 usage_text = line_text (codes "usage: txgraph replay | check | gen SEED COUNT")
 

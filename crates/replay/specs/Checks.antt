@@ -1,0 +1,37 @@
+-- What `check` says of a text, and what it writes.
+use Rattle.std.specs.Prelude.{◌≡◌, ℕ, List}
+use Rattle.std.specs.Io.KnownBytes.{Appends}
+use Rattle.std.specs.declared.option.Option.{Option}
+use Rattle.outside.specs.Transfers.{AppendsFront}
+use Rattle.graph_model.specs.Lines.{Cut, with_last}
+use Rattle.graph_model.specs.Texts.{Verification, Verifies, verification_text}
+use Rattle.replay.specs.declared.input.End.{End}
+use Rattle.replay.specs.declared.input.End.TheVariants.{Told}
+use Rattle.replay.specs.Inputs.{ReadsTo}
+
+-- this is what is said of the lines of an input
+pub record IsVerified (input : List ℕ) (said : Verification) : Type 0 where
+  pub lines : List (List ℕ)
+  pub rest : List ℕ
+  pub cut : Cut input lines rest
+  pub verifies : Verifies (with_last lines rest) said
+
+-- The source was read to its end, and what is said of the text was written.
+pub record IsChecked (said : Verification) (left_old left_new written_old written_new : Option (List ℕ)) : Type 0 where
+  pub input : List ℕ
+  pub read : ReadsTo Told left_old left_new input
+  pub verified : IsVerified input said
+  pub written : Appends written_old written_new (verification_text said)
+
+-- The source was read to its end, and a front of what is said of the text was written.
+pub record IsCheckedInPart (left_old left_new written_old written_new : Option (List ℕ)) : Type 0 where
+  pub said : Verification
+  pub input : List ℕ
+  pub read : ReadsTo Told left_old left_new input
+  pub verified : IsVerified input said
+  pub front : AppendsFront written_old written_new (verification_text said)
+
+-- the source was read so far
+pub record IsRead (end : End) (left_old left_new : Option (List ℕ)) : Type 0 where
+  pub input : List ℕ
+  pub read : ReadsTo end left_old left_new input

@@ -1,0 +1,120 @@
+//! The command `check`: whether a text is a certificate.
+ghost use Rattle.std.specs.Prelude.{◌≡◌, ◌≢◌, ◌≤◌, ◌⊎◌, IfOk, length};
+ghost use Rattle.std.specs.Io.KnownBytes.{Appends};
+ghost use Rattle.graph_model.specs.Replies.{line_text};
+ghost use Rattle.graph_model.specs.Lines.{max_input};
+ghost use Rattle.graph_model.specs.Texts.{Verification, Found, verification_text};
+ghost use Rattle.graph_model.specs.Certificates.{Certified};
+ghost use Rattle.outside.specs.Faults.{Rose};
+ghost use Rattle.outside.specs.Transfers.{AppendsFront};
+ghost use Rattle.replay.specs.Verdicts.{verification_of};
+ghost use Rattle.replay.specs.Checks.{IsVerified, IsChecked, IsCheckedInPart, IsRead};
+
+use crate::input::{End, read_input};
+use crate::top::Status;
+use certificate::{CheckFault, check};
+use outside::{Failed, NoMemory, Sink, Source};
+use std::alloc::Global;
+use wire::{TextFault, read_certificate, write_word};
+
+/// What is said of a text.
+#[derive(Clone, Copy, Debug, PartialEq, Eq)]
+pub(crate) enum Said {
+    Yes,
+    NoSyntax,
+    NoGraph,
+    NoOrder,
+    NoFalling,
+    NoFlow,
+}
+
+/// Reads a text to its end, checks it, and writes what is said of it. Where reading doesn't come to the end,
+/// nothing is written.
+pub(crate) fn check_text<S: Source, K: Sink>(
+    alloc: Global,
+    source: &mut S,
+    sink: &mut K,
+) -> Status
+    ensures done { result ≡ Status.Done → IsChecked (Found Certified) (S.left source.old) (S.left source.new) (K.written sink.old) (K.written sink.new) }
+    ensures no { result ≡ Status.No → (said : Verification) × (said ≢ Found Certified) × IsChecked said (S.left source.old) (S.left source.new) (K.written sink.old) (K.written sink.new) }
+    ensures read_fault { result ≡ Status.ReadFault → IsRead End.Fault (S.left source.old) (S.left source.new) × (sink.new ≡ sink.old) }
+    ensures input_limit { result ≡ Status.InputLimit → IsRead End.Limit (S.left source.old) (S.left source.new) × (sink.new ≡ sink.old) }
+    ensures write_fault { result ≡ Status.WriteFault → IsCheckedInPart (S.left source.old) (S.left source.new) (K.written sink.old) (K.written sink.new) }
+    ensures no_memory { result ≡ Status.NoMemory → sink.new ≡ sink.old }
+    ensures read_fault_cause { result ≡ Status.ReadFault → Rose (S.faults source.old) (S.faults source.new) }
+    ensures write_fault_cause { result ≡ Status.WriteFault → Rose (K.faults sink.old) (K.faults sink.new) }
+    ensures never_usage { result ≢ Status.Usage }
+{
+    let Ok(input) = read_input(alloc, source) else {
+        return Status::NoMemory;
+    };
+    match input.end {
+        End::Told => {}
+        End::Fault => return Status::ReadFault,
+        End::Limit => return Status::InputLimit,
+    }
+    match verify(alloc, &input.bytes) {
+        Ok(said) => tell(said, sink),
+        Err(NoMemory) => Status::NoMemory,
+    }
+}
+
+/// What is to be said of the text that these bytes are.
+fn verify(alloc: Global, bytes: &[u8]) -> Result<Said, NoMemory>
+    requires { length bytes.now ≤ max_input }
+    ensures { IfOk result (λ said. IsVerified bytes.now (verification_of said)) }
+{
+    let text = match read_certificate(alloc, bytes) {
+        Ok(text) => text,
+        Err(TextFault::Syntax) => return Ok(Said::NoSyntax),
+        Err(TextFault::Memory) => return Err(NoMemory),
+    };
+    match check(alloc, &text.graph, text.parts.as_slice()) {
+        Ok(()) => Ok(Said::Yes),
+        Err(CheckFault::Graph) => Ok(Said::NoGraph),
+        Err(CheckFault::Order) => Ok(Said::NoOrder),
+        Err(CheckFault::Falling) => Ok(Said::NoFalling),
+        Err(CheckFault::Flow) => Ok(Said::NoFlow),
+        Err(CheckFault::Memory) => Err(NoMemory),
+    }
+}
+
+/// Writes what is said, and answers the status for it.
+fn tell<K: Sink>(said: Said, sink: &mut K) -> Status
+    ensures done { result ≡ Status.Done → (said ≡ Said.Yes) × Appends (K.written sink.old) (K.written sink.new) (verification_text (verification_of said)) }
+    ensures no { result ≡ Status.No → (said ≢ Said.Yes) × Appends (K.written sink.old) (K.written sink.new) (verification_text (verification_of said)) }
+    ensures write_fault { result ≡ Status.WriteFault → AppendsFront (K.written sink.old) (K.written sink.new) (verification_text (verification_of said)) }
+    ensures cause { result ≡ Status.WriteFault → Rose (K.faults sink.old) (K.faults sink.new) }
+    ensures told { (result ≡ Status.Done) ⊎ ((result ≡ Status.No) ⊎ (result ≡ Status.WriteFault)) }
+{
+    match write_word(sink, words(said)) {
+        Ok(()) => status_of(said),
+        Err(Failed) => Status::WriteFault,
+    }
+}
+
+/// The status for what is said.
+fn status_of(said: Said) -> Status
+    ensures done { result ≡ Status.Done → said ≡ Said.Yes }
+    ensures no { result ≡ Status.No → said ≢ Said.Yes }
+    ensures told { (result ≡ Status.Done) ⊎ (result ≡ Status.No) }
+{
+    match said {
+        Said::Yes => Status::Done,
+        Said::NoSyntax | Said::NoGraph | Said::NoOrder | Said::NoFalling | Said::NoFlow => Status::No,
+    }
+}
+
+/// The words for what is said.
+fn words(said: Said) -> &'static str
+    ensures { line_text result.now ≡ verification_text (verification_of said) }
+{
+    match said {
+        Said::Yes => "yes",
+        Said::NoSyntax => "no syntax",
+        Said::NoGraph => "no graph",
+        Said::NoOrder => "no order",
+        Said::NoFalling => "no falling",
+        Said::NoFlow => "no flow",
+    }
+}
