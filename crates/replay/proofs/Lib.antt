@@ -1,3 +1,4 @@
 pub mod SessionLemmas
 pub mod LineLemmas
 pub mod WordLemmas
+pub mod CheckLemmas

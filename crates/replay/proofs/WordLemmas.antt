@@ -9,10 +9,11 @@ two f (x ∷ []) second low high is = absurd (omega arith)
 two f (x ∷ y ∷ []) second low high is = (f x, ap (λ (word : List ℕ). f x ∷ word ∷ []) (ap f (sym is)))
 two f (x ∷ y ∷ z ∷ xs) second low high is = absurd (omega arith)
 
-pub two_words : {X : Type 0} (f : X → List ℕ) (xs : List X) (second : X) → 2 ≤ length xs → length xs < 3 → second ≡ get_or xs 1 second → (f second ≡ codes "replay" → AreReplay (map f xs)) × (AreReplay (map f xs) → f second ≡ codes "replay")
-two_words f xs second low high is =
+pub two_words : {X : Type 0} (f : X → List ℕ) (xs : List X) (second : X) (word : List ℕ) → 2 ≤ length xs → length xs < 3 → second ≡ get_or xs 1 second
+    → (f second ≡ word → (name : List ℕ) × (map f xs ≡ name ∷ word ∷ [])) × ((name : List ℕ) × (map f xs ≡ name ∷ word ∷ []) → f second ≡ word)
+two_words f xs second word low high is =
     let both = two f xs second low high is in
-    (λ e. (both.0, both.1 ∙ ap (λ (word : List ℕ). both.0 ∷ word ∷ []) e), λ words. second_of both.0 words.0 (f second) (codes "replay") (sym both.1 ∙ words.1))
+    (λ e. (both.0, both.1 ∙ ap (λ (w : List ℕ). both.0 ∷ w ∷ []) e), λ words. second_of both.0 words.0 (f second) word (sym both.1 ∙ words.1))
   where
     second_of : (a b c d : List ℕ) → a ∷ c ∷ [] ≡ b ∷ d ∷ [] → c ≡ d
     second_of a b c d e = cc

@@ -3,6 +3,7 @@ pub mod Sessions
 pub mod Inputs
 pub mod Outputs
 pub mod Statuses
+pub mod Words
 pub mod Checks
 pub mod Verdicts
 pub mod Progress

@@ -1,13 +1,14 @@
 //! The command `check`: whether a text is a certificate.
-ghost use Rattle.std.specs.Prelude.{◌≡◌, ◌≢◌, ◌≤◌, ◌⊎◌, IfOk, length};
+ghost use Rattle.std.specs.Prelude.{◌≡◌, ◌≢◌, ◌^◌, ◌<◌, ◌≤◌, ◌⊎◌, IfOk, length};
 ghost use Rattle.std.specs.Io.KnownBytes.{Appends};
 ghost use Rattle.graph_model.specs.Replies.{line_text};
 ghost use Rattle.graph_model.specs.Lines.{max_input};
-ghost use Rattle.graph_model.specs.Texts.{Verification, Found, verification_text};
+ghost use Rattle.graph_model.specs.Texts.{Verification, Found, HasTextTypes, verification_text};
+ghost use Rattle.wire.specs.Drafts.{text_of, amount_of};
 ghost use Rattle.graph_model.specs.Certificates.{Certified};
 ghost use Rattle.outside.specs.Faults.{Rose};
 ghost use Rattle.outside.specs.Transfers.{AppendsFront};
-ghost use Rattle.replay.specs.Verdicts.{verification_of};
+ghost use Rattle.replay.specs.Verdicts.{verification_of, IsSaidOf};
 ghost use Rattle.replay.specs.Checks.{IsVerified, IsChecked, IsCheckedInPart, IsRead};
 
 use crate::input::{End, read_input};
@@ -15,7 +16,7 @@ use crate::top::Status;
 use certificate::{CheckFault, check};
 use outside::{Failed, NoMemory, Sink, Source};
 use std::alloc::Global;
-use wire::{TextFault, read_certificate, write_word};
+use wire::{CertText, TextFault, read_certificate, write_word};
 
 /// What is said of a text.
 #[derive(Clone, Copy, Debug, PartialEq, Eq)]
@@ -30,11 +31,7 @@ pub(crate) enum Said {
 
 /// Reads a text to its end, checks it, and writes what is said of it. Where reading doesn't come to the end,
 /// nothing is written.
-pub(crate) fn check_text<S: Source, K: Sink>(
-    alloc: Global,
-    source: &mut S,
-    sink: &mut K,
-) -> Status
+pub(crate) fn check_text<S: Source, K: Sink>(alloc: Global, source: &mut S, sink: &mut K) -> Status
     ensures done { result ≡ Status.Done → IsChecked (Found Certified) (S.left source.old) (S.left source.new) (K.written sink.old) (K.written sink.new) }
     ensures no { result ≡ Status.No → (said : Verification) × (said ≢ Found Certified) × IsChecked said (S.left source.old) (S.left source.new) (K.written sink.old) (K.written sink.new) }
     ensures read_fault { result ≡ Status.ReadFault → IsRead End.Fault (S.left source.old) (S.left source.new) × (sink.new ≡ sink.old) }
@@ -64,11 +61,19 @@ fn verify(alloc: Global, bytes: &[u8]) -> Result<Said, NoMemory>
     requires { length bytes.now ≤ max_input }
     ensures { IfOk result (λ said. IsVerified bytes.now (verification_of said)) }
 {
-    let text = match read_certificate(alloc, bytes) {
-        Ok(text) => text,
-        Err(TextFault::Syntax) => return Ok(Said::NoSyntax),
-        Err(TextFault::Memory) => return Err(NoMemory),
-    };
+    match read_certificate(alloc, bytes) {
+        Ok(text) => judge(alloc, &text),
+        Err(TextFault::Syntax) => Ok(Said::NoSyntax),
+        Err(TextFault::Memory) => Err(NoMemory),
+    }
+}
+
+/// What is to be said of a text.
+fn judge(alloc: Global, text: &CertText) -> Result<Said, NoMemory>
+    requires types { HasTextTypes (text_of text.now) }
+    requires amounts { amount_of (text_of text.now) < 2 ^ 127 }
+    ensures { IfOk result (IsSaidOf (text_of text.now)) }
+{
     match check(alloc, &text.graph, text.parts.as_slice()) {
         Ok(()) => Ok(Said::Yes),
         Err(CheckFault::Graph) => Ok(Said::NoGraph),
@@ -101,7 +106,8 @@ fn status_of(said: Said) -> Status
 {
     match said {
         Said::Yes => Status::Done,
-        Said::NoSyntax | Said::NoGraph | Said::NoOrder | Said::NoFalling | Said::NoFlow => Status::No,
+        Said::NoSyntax | Said::NoGraph | Said::NoOrder | Said::NoFalling | Said::NoFlow =>
+            Status::No,
     }
 }
 

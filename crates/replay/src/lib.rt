@@ -1,7 +1,9 @@
-//! The session: lines go in, replies come out, and the graph is kept between them.
+//! The session: lines go in, replies come out, and the graph is kept between them. Beside it the command that
+//! checks a certificate, and the top call of both.
 #![tactic(auto)]
 
 mod answer;
+mod check;
 mod input;
 mod lines;
 mod session;

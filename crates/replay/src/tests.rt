@@ -98,7 +98,7 @@ fn faults_and_words_give_their_status(rt: HostRuntime) -> Result<(), Fail> {
     for refused in [
         &["txgraph", "replay", "x"].as_slice(),
         &["txgraph"].as_slice(),
-        &["txgraph", "check"].as_slice(),
+        &["txgraph", "gen", "1", "4"].as_slice(),
     ] {
         let mut source = MemSource::new(alloc, b"add 1 1 1\n", 64, &[], None)?;
         let mut sink = MemSink::new(alloc, 64, &[], 4096)?;
@@ -109,6 +109,120 @@ fn faults_and_words_give_their_status(rt: HostRuntime) -> Result<(), Fail> {
             b"usage: txgraph replay | check | gen SEED COUNT\n".as_slice()
         );
     }
+    Ok(())
+}
+
+/// Texts of `check` with what is said of them.
+const TEXTS: [(&str, &str); 28] = [
+    (
+        "tx 1 100 200\ntx 2 900 200\nedge 1 2\nchunk 1000 400 1 2\nflow 2 1 160000\nend\n",
+        "yes\n",
+    ),
+    (
+        "tx 1 100 200\ntx 2 900 200\nedge 1 2\nchunk 1000 400 1 2\nflow 2 1 159999\nend\n",
+        "no flow\n",
+    ),
+    (
+        "tx 1 100 200\ntx 2 900 200\nedge 1 2\nedge 1 2\nchunk 1000 400 1 2\nflow 2 1 160000\nend\n",
+        "no graph\n",
+    ),
+    (
+        "tx 1 100 200\ntx 2 900 200\nedge 1 2\nchunk 1000 400 2 1\nflow 2 1 160000\nend\n",
+        "no order\n",
+    ),
+    (
+        "tx 1 100 200\ntx 2 900 200\nedge 1 2\nchunk 1001 400 1 2\nflow 2 1 160000\nend\n",
+        "no falling\n",
+    ),
+    ("", "no syntax\n"),
+    ("end\n", "yes\n"),
+    (
+        "tx 1 0 10\ntx 2 6 5\ntx 3 6 5\nedge 1 2\nedge 1 3\nchunk 12 20 1 2 3\nflow 2 1 120\nflow 3 2 60\nend\n",
+        "no flow\n",
+    ),
+    (
+        "tx 1 1 1\ntx 2 2 1\nchunk 1 1 1\nchunk 2 1 2\nend\n",
+        "no falling\n",
+    ),
+    ("tx 1 1 1\ntx 2 2 2\nchunk 3 3 1 2\nend\n", "no order\n"),
+    (
+        "tx 1 1 1\ntx 2 1 1\nedge 1 2\nedge 2 1\nchunk 2 2 1 2\nend\n",
+        "no graph\n",
+    ),
+    ("tx 1 1 1\nedge 1 1\nchunk 1 1 1\nend\n", "no graph\n"),
+    (
+        "tx 1 2100000000000001 1\nchunk 2100000000000001 1 1\nend\n",
+        "no graph\n",
+    ),
+    ("tx 1 1 1\nchunk 1 1 2\nend\n", "no order\n"),
+    ("tx 1 1 1\nend\n", "no order\n"),
+    (
+        "tx 1 1 1\nchunk 1000000000000000000000000000000 1 1\nend\n",
+        "no falling\n",
+    ),
+    (
+        "tx 1 1 1\nchunk 1000000000000000000000000000001 1 1\nend\n",
+        "no syntax\n",
+    ),
+    (
+        "tx 1 100 200\ntx 2 900 200\nedge 1 2\nchunk 1000 400 1 2\nflow 2 1 80000\nflow 2 1 80000\nend\n",
+        "no flow\n",
+    ),
+    (
+        "tx 1 100 200\ntx 2 900 200\nedge 1 2\nchunk 1000 400 1 2\nflow 2 1 0\nend\n",
+        "no syntax\n",
+    ),
+    (
+        "tx 1 100 200\ntx 2 900 200\nedge 1 2\nchunk 1000 400 1 2\nflow 2 9 160000\nend\n",
+        "no flow\n",
+    ),
+    (
+        "tx 1 900 200\ntx 2 100 200\nedge 1 2\nchunk 900 200 1\nchunk 100 200 2\nflow 2 1 1\nend\n",
+        "no flow\n",
+    ),
+    ("end\nend\n", "no syntax\n"),
+    ("edge 1 2\ntx 1 1 1\nend\n", "no syntax\n"),
+    ("end\n# x\n", "yes\n"),
+    (
+        "tx 1 0 1\ntx 2 0 1\ntx 3 3 1\nedge 1 2\nedge 2 3\nedge 1 3\nchunk 3 3 1 2 3\nflow 3 1 3\nflow 3 2 3\nend\n",
+        "yes\n",
+    ),
+    ("# a\r\n\ntx 1 1 1\r\nchunk 1 1 1\nend", "yes\n"),
+    (
+        "tx 1 1 1\ntx 2 1 1\nedge 1 2\nedge 1 2\nchunk 2 2 1 2\nend\n",
+        "no graph\n",
+    ),
+    (
+        "tx 1 5 1\ntx 2 3 1\nchunk 5 1 1\nchunk 3 1 2\nend\n",
+        "yes\n",
+    ),
+];
+
+#[test]
+fn a_text_is_a_certificate_or_the_first_fault_is_told(rt: HostRuntime) -> Result<(), Fail> {
+    let alloc = rt.alloc();
+    let words = words(alloc, &["txgraph", "check"])?;
+    for (text, said) in TEXTS {
+        let mut source = MemSource::new(alloc, text.as_bytes(), 7, &[], None)?;
+        let mut sink = MemSink::new(alloc, 3, &[], 64)?;
+        let status = run(alloc, &words, &mut source, &mut sink);
+        let wanted = if said == "yes\n" {
+            Status::Done
+        } else {
+            Status::No
+        };
+        assert_eq!(rt; status, wanted, "at {text:?}");
+        assert_eq!(rt; sink.written(), said.as_bytes(), "at {text:?}");
+    }
+    // Without its end nothing is said of a text, and past a full sink no more.
+    let mut source = MemSource::new(alloc, b"end\n", 7, &[2], None)?;
+    let mut sink = MemSink::new(alloc, 3, &[], 64)?;
+    assert_eq!(rt; run(alloc, &words, &mut source, &mut sink).code(), 3);
+    assert_eq!(rt; sink.written(), b"".as_slice());
+    let mut source = MemSource::new(alloc, b"end\n", 7, &[], None)?;
+    let mut sink = MemSink::new(alloc, 1, &[], 2)?;
+    assert_eq!(rt; run(alloc, &words, &mut source, &mut sink).code(), 4);
+    assert_eq!(rt; sink.written(), b"ye".as_slice());
     Ok(())
 }
 

@@ -1,11 +1,16 @@
-ghost use Rattle.std.specs.Prelude.{◌≡◌, ◌≢◌, ℕ, ◌≤◌, ◌<◌, ◌⊎◌, ◌↔◌, List, IfSome, length, IsTrue, codes, map, string_bytes};
+ghost use Rattle.std.specs.Prelude.{◌≡◌, ◌≢◌, ℕ, ◌≤◌, ◌<◌, ◌⊎◌, List, IfSome, length, MatchOption, codes, map, string_bytes};
 ghost use Rattle.std.specs.Io.KnownBytes.{Appends, Keeps};
 ghost use Rattle.graph_model.specs.Lines.{max_input};
 ghost use Rattle.outside.specs.Faults.{Rose, HasCause};
 ghost use Rattle.outside.specs.Transfers.{AppendsFront, Writes};
-ghost use Rattle.replay.specs.Statuses.{AreReplay, usage_text, IsAnswered, IsCutOff, end_status, status_code};
+ghost use Rattle.graph_model.specs.Texts.{Verification, Found};
+ghost use Rattle.graph_model.specs.Certificates.{Certified};
+ghost use Rattle.replay.specs.Statuses.{AreReplay, AreCheck, AreRefused, usage_text, IsAnswered, IsCutOff, end_status, status_code};
+ghost use Rattle.replay.specs.Words.{IsCommand, IsName};
+ghost use Rattle.replay.specs.Checks.{IsChecked, IsCheckedInPart, IsRead};
 
-use crate::input::{End, Input, read_input};
+use crate::check::check_text;
+use crate::input::{End, read_input};
 use crate::lines::answer_all;
 use crate::session::Session;
 use outside::{Failed, Sink, Source};
@@ -40,39 +45,74 @@ impl Status {
     }
 }
 
-/// Runs the program: `words` are its name and the command, `replay`.
+/// Runs the program: `words` are its name and the command, `replay` or `check`.
 pub fn run<S: Source, K: Sink>(
     alloc: Global,
     words: &[String],
     source: &mut S,
     sink: &mut K,
 ) -> Status
-    // What was written, by status, and what was read.
-    ensures done { result ≡ Status.Done → IsAnswered End.Told (S.left source.old) (S.left source.new) (K.written sink.old) (K.written sink.new) }
-    ensures read_fault { result ≡ Status.ReadFault → IsAnswered End.Fault (S.left source.old) (S.left source.new) (K.written sink.old) (K.written sink.new) }
-    ensures input_limit { result ≡ Status.InputLimit → IsAnswered End.Limit (S.left source.old) (S.left source.new) (K.written sink.old) (K.written sink.new) }
+    // `replay`: what was read and what was written, by status.
+    ensures done { result ≡ Status.Done → AreReplay (map string_bytes words.now) → IsAnswered End.Told (S.left source.old) (S.left source.new) (K.written sink.old) (K.written sink.new) }
+    ensures read_fault { result ≡ Status.ReadFault → AreReplay (map string_bytes words.now) → IsAnswered End.Fault (S.left source.old) (S.left source.new) (K.written sink.old) (K.written sink.new) }
+    ensures input_limit { result ≡ Status.InputLimit → AreReplay (map string_bytes words.now) → IsAnswered End.Limit (S.left source.old) (S.left source.new) (K.written sink.old) (K.written sink.new) }
     ensures write_fault { result ≡ Status.WriteFault → AreReplay (map string_bytes words.now) → IsCutOff (S.left source.old) (S.left source.new) (K.written sink.old) (K.written sink.new) }
-    ensures write_fault_usage { result ≡ Status.WriteFault → (AreReplay (map string_bytes words.now) → ⊥) → AppendsFront (K.written sink.old) (K.written sink.new) usage_text }
+
+    // `check`: the same. Where the text wasn't read to its end, nothing is written.
+    ensures check_yes { result ≡ Status.Done → AreCheck (map string_bytes words.now) → IsChecked (Found Certified) (S.left source.old) (S.left source.new) (K.written sink.old) (K.written sink.new) }
+    ensures check_no { result ≡ Status.No → (said : Verification) × (said ≢ Found Certified) × IsChecked said (S.left source.old) (S.left source.new) (K.written sink.old) (K.written sink.new) }
+    ensures check_read_fault { result ≡ Status.ReadFault → AreCheck (map string_bytes words.now) → IsRead End.Fault (S.left source.old) (S.left source.new) × (sink.new ≡ sink.old) }
+    ensures check_input_limit { result ≡ Status.InputLimit → AreCheck (map string_bytes words.now) → IsRead End.Limit (S.left source.old) (S.left source.new) × (sink.new ≡ sink.old) }
+    ensures check_write_fault { result ≡ Status.WriteFault → AreCheck (map string_bytes words.now) → IsCheckedInPart (S.left source.old) (S.left source.new) (K.written sink.old) (K.written sink.new) }
+
+    // Refused words, and want of memory.
     ensures usage { result ≡ Status.Usage → Appends (K.written sink.old) (K.written sink.new) usage_text }
+    ensures write_fault_usage { result ≡ Status.WriteFault → AreRefused (map string_bytes words.now) → AppendsFront (K.written sink.old) (K.written sink.new) usage_text }
     ensures no_memory { result ≡ Status.NoMemory → sink.new ≡ sink.old }
 
     // The cause of each status that isn't Done.
     ensures read_fault_cause { result ≡ Status.ReadFault → Rose (S.faults source.old) (S.faults source.new) }
     ensures write_fault_cause { result ≡ Status.WriteFault → Rose (K.faults sink.old) (K.faults sink.new) }
-    ensures usage_cause { result ≡ Status.Usage → AreReplay (map string_bytes words.now) → ⊥ }
-    ensures never_no { result ≢ Status.No }
+    ensures usage_cause { result ≡ Status.Usage → AreRefused (map string_bytes words.now) }
+    ensures no_cause { result ≡ Status.No → AreCheck (map string_bytes words.now) }
 
-    // With accepted words and no fault the run ends with Done, or for want of memory, or past the limit.
+    // With accepted words and no fault the run ends with Done or, for `check`, No, or for want of memory, or past the limit.
     ensures complete { AreReplay (map string_bytes words.now) → (Rose (S.faults source.old) (S.faults source.new) → ⊥) → (Rose (K.faults sink.old) (K.faults sink.new) → ⊥)
         → (result ≡ Status.Done) ⊎ ((result ≡ Status.InputLimit) ⊎ (result ≡ Status.NoMemory)) }
+    ensures check_complete { AreCheck (map string_bytes words.now) → (Rose (S.faults source.old) (S.faults source.new) → ⊥) → (Rose (K.faults sink.old) (K.faults sink.new) → ⊥)
+        → (result ≡ Status.Done) ⊎ ((result ≡ Status.No) ⊎ ((result ≡ Status.InputLimit) ⊎ (result ≡ Status.NoMemory))) }
     ensures within_limit { IfSome (S.left source.old) (λ bytes. length bytes ≤ max_input → result ≢ Status.InputLimit) }
 
-    // Refused words: nothing is read, and the status is Usage, or WriteFault where the usage line couldn't be written.
-    ensures refused_words { (AreReplay (map string_bytes words.now) → ⊥) → (source.new ≡ source.old) × ((result ≡ Status.Usage) ⊎ (result ≡ Status.WriteFault)) }
+    // Refused words: nothing is read, and the status is Usage, or WriteFault where the usage line can't be written.
+    ensures refused_words { AreRefused (map string_bytes words.now) → (source.new ≡ source.old) × ((result ≡ Status.Usage) ⊎ (result ≡ Status.WriteFault)) }
 {
-    if !are_replay(words) {
-        return refuse_words(sink);
+    match command_of(words) {
+        Some(Command::Replay) => replay_lines(alloc, source, sink),
+        Some(Command::Check) => check_text(alloc, source, sink),
+        None => refuse_words(sink),
     }
+}
+
+/// A command that the words of a command line may name.
+#[derive(Clone, Copy)]
+enum Command {
+    Replay,
+    Check,
+}
+
+/// Reads lines of commands to the end, and answers them.
+fn replay_lines<S: Source, K: Sink>(alloc: Global, source: &mut S, sink: &mut K) -> Status
+    ensures done { result ≡ Status.Done → IsAnswered End.Told (S.left source.old) (S.left source.new) (K.written sink.old) (K.written sink.new) }
+    ensures read_fault { result ≡ Status.ReadFault → IsAnswered End.Fault (S.left source.old) (S.left source.new) (K.written sink.old) (K.written sink.new) }
+    ensures input_limit { result ≡ Status.InputLimit → IsAnswered End.Limit (S.left source.old) (S.left source.new) (K.written sink.old) (K.written sink.new) }
+    ensures write_fault { result ≡ Status.WriteFault → IsCutOff (S.left source.old) (S.left source.new) (K.written sink.old) (K.written sink.new) }
+    ensures no_memory { result ≡ Status.NoMemory → sink.new ≡ sink.old }
+    ensures read_fault_cause { result ≡ Status.ReadFault → Rose (S.faults source.old) (S.faults source.new) }
+    ensures write_fault_cause { result ≡ Status.WriteFault → Rose (K.faults sink.old) (K.faults sink.new) }
+    ensures never_usage { result ≢ Status.Usage }
+    ensures never_no { result ≢ Status.No }
+    ensures within_limit { IfSome (S.left source.old) (λ bytes. length bytes ≤ max_input → result ≢ Status.InputLimit) }
+{
     let Ok(mut session) = Session::<1>::new(alloc) else {
         return Status::NoMemory;
     };
@@ -97,20 +137,27 @@ fn status_of(end: End) -> Status
     }
 }
 
-/// Whether the words are a name and `replay`.
-fn are_replay(words: &[String]) -> bool
-    ensures { IsTrue result ↔ AreReplay (map string_bytes words.now) }
+/// The command that the words name, where they are the program's name and one.
+fn command_of(words: &[String]) -> Option<Command>
+    ensures { MatchOption result (AreRefused (map string_bytes words.now)) (IsCommand (map string_bytes words.now)) }
 {
     match words {
-        [_, command] => is_replay(command.as_str()),
-        _ => false,
+        [_, command] => named(command.as_str()),
+        _ => None,
     }
 }
 
-fn is_replay(word: &str) -> bool
-    ensures { IsTrue result ↔ (word.now ≡ codes "replay") }
+/// The command of this name.
+fn named(word: &str) -> Option<Command>
+    ensures { MatchOption result ((word.now ≢ codes "replay") × (word.now ≢ codes "check")) (IsName word.now) }
 {
-    word == "replay"
+    if word == "replay" {
+        return Some(Command::Replay);
+    }
+    if word == "check" {
+        return Some(Command::Check);
+    }
+    None
 }
 
 /// Writes the usage line.
