@@ -73,7 +73,6 @@ impl<const W: usize> Queue<W> {
         ensures taken { result ≡ self.now.taken }
         ensures within { self.now.taken ≤ length self.now.entries }
     {
-        let _entries = &self.entries;
         self.taken
     }
 

@@ -103,6 +103,21 @@ fn edges<K: ledger::Ledger>(rt: &impl Abort, alloc: Global, blank: Blank) -> Res
     assert_eq!(rt; scratch.flow(3, 0), 0);
     assert_eq!(rt; scratch.flow(3, 1), 1);
 
+    // Place 4 hands all that it has on to place 3, which can give half of it. The other half is taken back.
+    let mut third = Bits::<1>::empty();
+    third.insert(2);
+    third.insert(3);
+    let handed_on = solved(
+        &mut scratch,
+        &[-1, -1, 0, 0, 2],
+        &[none, none, first, second, third],
+        &mut steps,
+    );
+    assert_eq!(rt; handed_on, None);
+    assert_eq!(rt; scratch.flow(4, 3), 1);
+    assert_eq!(rt; scratch.flow(4, 2), 1);
+    assert_eq!(rt; scratch.flow(2, 0), 1);
+
     let most: i128 = 42_535_295_865_117_307_932_921_825_928_971_026_431;
     let heavy = solved(&mut scratch, &[-most, most], &[none, first], &mut steps);
     assert_eq!(rt; heavy, None);
