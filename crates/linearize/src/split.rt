@@ -1,0 +1,99 @@
+ghost use Rattle.std.specs.Prelude.{◌≡◌, ℕ, ◌+◌, ◌*◌, ◌<◌, ◌≤◌, ◌^◌, length, true, pos, ◌-ℤ◌, unsigned_abs};
+ghost use Rattle.std.specs.FinSet as set;
+ghost use Rattle.bitset.specs.Places.{IsWithin};
+ghost use Rattle.closure_flow.specs.Closures.{weight_at};
+ghost use Rattle.dep_graph.specs.Graph.{HoldsMembers, is_member};
+ghost use Rattle.fee_rate.specs.Limits.{IsRate, greatest_fee, greatest_size};
+ghost use Rattle.graph_model.specs.Certificates.{weight_in};
+ghost use Rattle.linearize.specs.Graphs.{HasRates, most_members, sum_at, sum_from};
+ghost use Rattle.linearize.specs.Orders.{AreCovers, sums_in};
+ghost use Rattle.linearize.specs.Splits.{Adds, HasRoom};
+
+use crate::draft::Draft;
+use crate::part::emit;
+use bitset::Bits;
+use closure_flow::{Outcome, Scratch, solve};
+use dep_graph::DepGraph;
+use fee_rate::FeeRate;
+use step_count::{Ledger, Steps};
+
+/// Linearizes a set of members: as one part where it is balanced, else a closed set of greatest weight and then the
+/// others.
+pub(crate) fn split<L: Ledger, const W: usize>(
+    scratch: &mut Scratch<W>,
+    dep: &DepGraph<W>,
+    parents: &[Bits<W>],
+    weights: &mut [i128],
+    within: &Bits<W>,
+    draft: &mut Draft<W>,
+    steps: &mut Steps<L>,
+)
+    requires members { HoldsMembers dep.now within.now }
+    requires some { 0 < set.len within.now }
+    requires few { set.len within.now ≤ most_members }
+    requires rates { HasRates dep.now }
+    requires covers { AreCovers dep.now parents.now }
+    requires weights { 64 * W ≤ length weights.old }
+    requires room { HasRoom (64 * W) within.now draft.old }
+    ensures adds { Adds (64 * W) dep.now within.now draft.old draft.new }
+    ensures steps { steps.old ≤ steps.new }
+{
+    let whole = sum(dep, within);
+    weigh(dep, within, whole, weights);
+    match solve(scratch, weights, parents, *within, steps) {
+        Outcome::Better(first) => {
+            let rest = within.minus(&first);
+            split(scratch, dep, parents, weights, &first, draft, steps);
+            split(scratch, dep, parents, weights, &rest, draft, steps);
+        }
+        Outcome::Balanced => emit(scratch, dep, parents, within, whole, draft),
+    }
+}
+
+// The fee and the size of some members together.
+fn sum<const W: usize>(dep: &DepGraph<W>, within: &Bits<W>) -> FeeRate
+    requires members { HoldsMembers dep.now within.now }
+    requires few { set.len within.now ≤ most_members }
+    requires rates { HasRates dep.now }
+    ensures is { sum_from result ≡ sums_in (64 * W) dep.now within.now }
+    ensures fee { unsigned_abs result.fee ≤ greatest_fee * most_members }
+    ensures size { result.size ≤ greatest_size * most_members }
+{
+    let mut fee = 0;
+    let mut size = 0;
+    for place in within.iter() {
+        let rate = dep.rate(place);
+        fee += rate.fee;
+        size += rate.size;
+    }
+    FeeRate { fee, size }
+}
+
+// Keeps the weight of each of some members in a set whose fee and size are given.
+fn weigh<const W: usize>(
+    dep: &DepGraph<W>,
+    within: &Bits<W>,
+    whole: FeeRate,
+    weights: &mut [i128],
+)
+    requires members { HoldsMembers dep.now within.now }
+    requires rates { HasRates dep.now }
+    requires room { 64 * W ≤ length weights.old }
+    requires fee { unsigned_abs whole.fee ≤ greatest_fee * most_members }
+    requires size { whole.size ≤ greatest_size * most_members }
+    ensures { (t : ℕ) → set.contains within.now t ≡ true → weight_at weights.new t ≡ weight_in (sum_from whole) (sum_at dep.now t) }
+{
+    for place in within.iter() {
+        weights[place] = weight(whole, dep.rate(place));
+    }
+}
+
+// How far a rate is above that of a whole, times both sizes.
+fn weight(whole: FeeRate, own: FeeRate) -> i128
+    requires own { IsRate own }
+    requires fee { unsigned_abs whole.fee ≤ greatest_fee * most_members }
+    requires size { whole.size ≤ greatest_size * most_members }
+    ensures { result ≡ weight_in (sum_from whole) (sum_from own) }
+{
+    i128::from(own.fee) * i128::from(whole.size) - i128::from(whole.fee) * i128::from(own.size)
+}
