@@ -34,7 +34,7 @@ parts_more i j (part ∷ parts) order more flows extra h k =
     ap (λ ys. parts_from part.end part.flow_end parts ys (drop (part.flow_end - j) (flows ++ extra))) (drop-append-le (part.end - i) order more h.1)
     ∙ ap (λ fs. parts_from part.end part.flow_end parts (drop (part.end - i) order ++ more) fs) (drop-append-le (part.flow_end - j) flows extra k.1)
     ∙ parts_more part.end part.flow_end parts (drop (part.end - i) order) more (drop (part.flow_end - j) flows) extra
-        (ends_dropped i part.end (ends_of parts) order h) (ends_dropped j part.flow_end (flow_ends_of parts) flows k) in
+    (ends_dropped i part.end (ends_of parts) order h) (ends_dropped j part.flow_end (flow_ends_of parts) flows k) in
     ap (λ (ps : List Part). record { rate = sum_from part.rate; ids = take (part.end - i) (order ++ more); flows = map named (take (part.flow_end - j) (flows ++ extra)) } ∷ ps) rest
     ∙ ap (λ (ids : List ℕ). record { rate = sum_from part.rate; ids = ids; flows = map named (take (part.flow_end - j) (flows ++ extra)) } ∷ parts_from part.end part.flow_end parts (drop (part.end - i) order) (drop (part.flow_end - j) flows)) (take-append-le (part.end - i) order more h.1)
     ∙ ap (λ (fs : List PlaceFlow). record { rate = sum_from part.rate; ids = take (part.end - i) order; flows = map named fs } ∷ parts_from part.end part.flow_end parts (drop (part.end - i) order) (drop (part.flow_end - j) flows)) (take-append-le (part.flow_end - j) flows extra k.1)
@@ -57,7 +57,7 @@ pub parts_closed : (i j : ℕ) (parts : List LinearPart) (last : LinearPart) (or
     → last.end ≡ i + length order → last.flow_end ≡ j + length flows
     → AreEnds i (ends_of parts) (length order) → AreEnds j (flow_ends_of parts) (length flows)
     → parts_from i j (parts ++ last ∷ []) order flows
-      ≡ parts_from i j parts order flows ++ record { rate = sum_from last.rate; ids = left_from i (ends_of parts) order; flows = map named (left_from j (flow_ends_of parts) flows) } ∷ []
+    ≡ parts_from i j parts order flows ++ record { rate = sum_from last.rate; ids = left_from i (ends_of parts) order; flows = map named (left_from j (flow_ends_of parts) flows) } ∷ []
 parts_closed i j [] last order flows e f h k =
     ap (λ (ids : List ℕ). record { rate = sum_from last.rate; ids = ids; flows = map named (take (last.flow_end - j) flows) } ∷ []) (take_all (last.end - i) order (omega arith))
     ∙ ap (λ (fs : List PlaceFlow). record { rate = sum_from last.rate; ids = order; flows = map named fs } ∷ []) (take_all (last.flow_end - j) flows (omega arith))

@@ -1,1 +1,4 @@
 mod DraftLemmas
+mod Places
+mod Sizes
+mod Totals

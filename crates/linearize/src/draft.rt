@@ -53,7 +53,8 @@ impl<const W: usize> Model for Draft<W> {
 impl<const W: usize> Draft<W> {
     /// An empty draft. All its memory is taken here.
     pub(crate) fn new(alloc: Global) -> Result<Self, NoMemory>
-        ensures { IfOk result (λ d. d ≡ record { parts = []; ids = []; flows = [] }) }
+        ensures empty { IfOk result (λ d. d ≡ record { parts = []; ids = []; flows = [] }) }
+        ensures narrow { IfOk result (λ _. 64 * W < 2 ^ 32) }
     {
         let (places, flows) = sizes::<W>().ok_or(NoMemory)?;
         Ok(Draft {
@@ -94,14 +95,18 @@ impl<const W: usize> Draft<W> {
     pub(crate) fn close(&mut self, rate: FeeRate)
         requires { length self.old.parts < 64 * W }
         ensures { self.new ≡ record {
-            parts = self.old.parts ++ record { rate = sum_from rate; ids = self.old.ids; flows = self.old.flows } ∷ [];
-            ids = [];
-            flows = [];
+          parts = self.old.parts ++ record { rate = sum_from rate; ids = self.old.ids; flows = self.old.flows } ∷ [];
+          ids = [];
+          flows = [];
         } }
     {
         let end = self.order.len();
         let flow_end = self.flows.len();
-        let pushed = self.parts.push(LinearPart { rate, end, flow_end });
+        let pushed = self.parts.push(LinearPart {
+            rate,
+            end,
+            flow_end,
+        });
         prove!(pushed.is_ok());
     }
 
@@ -131,6 +136,7 @@ impl<const W: usize> Draft<W> {
 fn sizes<const W: usize>() -> Option<(usize, usize)>
     ensures places { IfSome result (λ r. r.0 ≡ 64 * W) }
     ensures flows { IfSome result (λ r. r.1 ≡ 64 * W * (64 * W) / 4) }
+    ensures narrow { IfSome result (λ _. 64 * W < 2 ^ 32) }
 {
     let places = W.checked_mul(64)?;
     let pairs = places.checked_mul(places)?;

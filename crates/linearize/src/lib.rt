@@ -12,4 +12,3 @@ mod split;
 
 pub use draft::{LinearPart, PlaceFlow};
 pub use linear::{Linear, optimal};
-

@@ -1,4 +1,4 @@
-ghost use Rattle.std.specs.Prelude.{◌≡◌, ℕ, ◌*◌, ◌<◌, ◌≤◌, [], length, map, true, IfOk};
+ghost use Rattle.std.specs.Prelude.{◌≡◌, ℕ, ◌*◌, ◌^◌, ◌<◌, ◌≤◌, [], length, map, true, IfOk};
 ghost use Rattle.std.specs.FinSet as set;
 ghost use Rattle.graph_model.specs.Graphs as model;
 ghost use Rattle.graph_model.specs.Certificates.{IsCertificate};
@@ -32,7 +32,7 @@ pub struct Linear<const W: usize> {
 
 // Clauses see the parts, each with its fee and size, its places and its flows.
 impl<const W: usize> Model for Linear<W> {
-    ghost use Rattle.std.specs.Prelude.{◌≡◌, ◌*◌, ◌≤◌, List, [], vec_len};
+    ghost use Rattle.std.specs.Prelude.{◌≡◌, ◌*◌, ◌^◌, ◌<◌, ◌≤◌, List, [], vec_len};
     ghost use Rattle.graph_model.specs.Certificates.{Part};
 
     ghost Value = { List Part };
@@ -40,7 +40,11 @@ impl<const W: usize> Model for Linear<W> {
     ghost view = { λ l. l.draft.parts };
 
     ghost invariant = { λ l.
-        (l.draft.ids ≡ []) × (l.draft.flows ≡ []) × (64 * W ≤ vec_len l.parents) × (64 * W ≤ vec_len l.weights) };
+        (l.draft.ids ≡ [])
+        × (l.draft.flows ≡ [])
+        × (64 * W ≤ vec_len l.parents)
+        × (64 * W ≤ vec_len l.weights)
+        × (64 * W < 2 ^ 32) };
 }
 
 impl<const W: usize> Linear<W> {
@@ -117,7 +121,8 @@ pub fn optimal<L: Ledger, const W: usize>(
 
 // Keeps the covering parents of each member.
 fn link<const W: usize>(dep: &DepGraph<W>, parents: &mut [Bits<W>])
-    requires { 64 * W ≤ length parents.old }
+    requires narrow { 64 * W < 2 ^ 32 }
+    requires room { 64 * W ≤ length parents.old }
     ensures { AreCovers dep.now parents.new }
 {
     let members = dep.members();

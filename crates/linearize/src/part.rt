@@ -1,4 +1,4 @@
-ghost use Rattle.std.specs.Prelude.{◌≡◌, ℕ, ◌+◌, ◌*◌, ◌<◌, ◌≤◌, ◌++◌, [], length, true};
+ghost use Rattle.std.specs.Prelude.{◌≡◌, ℕ, ◌+◌, ◌*◌, ◌^◌, ◌<◌, ◌≤◌, ◌++◌, [], length, true};
 ghost use Rattle.std.specs.FinSet as set;
 ghost use Rattle.bitset.specs.Places.{IsWithin, places};
 ghost use Rattle.closure_flow.specs.Scratches.{flow_of};
@@ -23,6 +23,7 @@ pub(crate) fn emit<const W: usize>(
     whole: FeeRate,
     draft: &mut Draft<W>,
 )
+    requires narrow { 64 * W < 2 ^ 32 }
     requires members { HoldsMembers dep.now within.now }
     requires some { 0 < set.len within.now }
     requires covers { AreCovers dep.now parents.now }
@@ -38,6 +39,7 @@ pub(crate) fn emit<const W: usize>(
 
 // Puts the places of a set, parents first.
 fn put_places<const W: usize>(dep: &DepGraph<W>, within: &Bits<W>, draft: &mut Draft<W>)
+    requires narrow { 64 * W < 2 ^ 32 }
     requires members { HoldsMembers dep.now within.now }
     requires none { draft.old.ids ≡ [] }
     requires room { length (placed draft.old.parts) + set.len within.now ≤ 64 * W }
@@ -56,6 +58,7 @@ fn put_places<const W: usize>(dep: &DepGraph<W>, within: &Bits<W>, draft: &mut D
 
 // A place of a set that has no other ancestor in it, from one of its places upward.
 fn top<const W: usize>(dep: &DepGraph<W>, left: &Bits<W>, from: usize) -> usize
+    requires narrow { 64 * W < 2 ^ 32 }
     requires members { HoldsMembers dep.now left.now }
     requires from { set.contains left.now from ≡ true }
     ensures there { set.contains left.now result ≡ true }
@@ -79,12 +82,13 @@ fn send_all<const W: usize>(
     within: &Bits<W>,
     draft: &mut Draft<W>,
 )
+    requires narrow { 64 * W < 2 ^ 32 }
     requires there { (t : ℕ) → set.contains within.now t ≡ true → t < length parents.now }
     requires room { 4 * (length (all_flows draft.old) + length (flows_of (64 * W) parents.now within.now (flow_of scratch.now) (places (64 * W) within.now))) ≤ 64 * W * (64 * W) }
     ensures { draft.new ≡ record {
-        parts = draft.old.parts;
-        ids = draft.old.ids;
-        flows = draft.old.flows ++ flows_of (64 * W) parents.now within.now (flow_of scratch.now) (places (64 * W) within.now);
+      parts = draft.old.parts;
+      ids = draft.old.ids;
+      flows = draft.old.flows ++ flows_of (64 * W) parents.now within.now (flow_of scratch.now) (places (64 * W) within.now);
     } }
 {
     for child in within.iter() {
@@ -94,17 +98,13 @@ fn send_all<const W: usize>(
 }
 
 // Writes what a place sends to some others.
-fn send_from<const W: usize>(
-    scratch: &Scratch<W>,
-    child: usize,
-    to: &Bits<W>,
-    draft: &mut Draft<W>,
-)
-    requires { 4 * (length (all_flows draft.old) + length (flows_from (flow_of scratch.now) child (places (64 * W) to.now))) ≤ 64 * W * (64 * W) }
+fn send_from<const W: usize>(scratch: &Scratch<W>, child: usize, to: &Bits<W>, draft: &mut Draft<W>)
+    requires narrow { 64 * W < 2 ^ 32 }
+    requires room { 4 * (length (all_flows draft.old) + length (flows_from (flow_of scratch.now) child (places (64 * W) to.now))) ≤ 64 * W * (64 * W) }
     ensures { draft.new ≡ record {
-        parts = draft.old.parts;
-        ids = draft.old.ids;
-        flows = draft.old.flows ++ flows_from (flow_of scratch.now) child (places (64 * W) to.now);
+      parts = draft.old.parts;
+      ids = draft.old.ids;
+      flows = draft.old.flows ++ flows_from (flow_of scratch.now) child (places (64 * W) to.now);
     } }
 {
     for parent in to.iter() {

@@ -1,4 +1,4 @@
-ghost use Rattle.std.specs.Prelude.{◌≡◌, ℕ, ◌+◌, ◌*◌, ◌<◌, ◌≤◌, ◌^◌, length, true, pos, ◌-ℤ◌, unsigned_abs};
+ghost use Rattle.std.specs.Prelude.{◌≡◌, ℕ, ◌+◌, ◌*◌, ◌<◌, ◌≤◌, ◌^◌, length, true, pos, ◌-ℤ◌, ◌*ℤ◌, unsigned_abs};
 ghost use Rattle.std.specs.FinSet as set;
 ghost use Rattle.bitset.specs.Places.{IsWithin};
 ghost use Rattle.closure_flow.specs.Closures.{weight_at};
@@ -28,6 +28,7 @@ pub(crate) fn split<L: Ledger, const W: usize>(
     draft: &mut Draft<W>,
     steps: &mut Steps<L>,
 )
+    requires narrow { 64 * W < 2 ^ 32 }
     requires members { HoldsMembers dep.now within.now }
     requires some { 0 < set.len within.now }
     requires few { set.len within.now ≤ most_members }
@@ -52,11 +53,11 @@ pub(crate) fn split<L: Ledger, const W: usize>(
 
 // The fee and the size of some members together.
 fn sum<const W: usize>(dep: &DepGraph<W>, within: &Bits<W>) -> FeeRate
+    requires narrow { 64 * W < 2 ^ 32 }
     requires members { HoldsMembers dep.now within.now }
     requires few { set.len within.now ≤ most_members }
     requires rates { HasRates dep.now }
     ensures is { sum_from result ≡ sums_in (64 * W) dep.now within.now }
-    ensures fee { unsigned_abs result.fee ≤ greatest_fee * most_members }
     ensures size { result.size ≤ greatest_size * most_members }
 {
     let mut fee = 0;
@@ -70,18 +71,14 @@ fn sum<const W: usize>(dep: &DepGraph<W>, within: &Bits<W>) -> FeeRate
 }
 
 // Keeps the weight of each of some members in a set whose fee and size are given.
-fn weigh<const W: usize>(
-    dep: &DepGraph<W>,
-    within: &Bits<W>,
-    whole: FeeRate,
-    weights: &mut [i128],
-)
+fn weigh<const W: usize>(dep: &DepGraph<W>, within: &Bits<W>, whole: FeeRate, weights: &mut [i128])
+    requires narrow { 64 * W < 2 ^ 32 }
     requires members { HoldsMembers dep.now within.now }
     requires rates { HasRates dep.now }
     requires room { 64 * W ≤ length weights.old }
-    requires fee { unsigned_abs whole.fee ≤ greatest_fee * most_members }
     requires size { whole.size ≤ greatest_size * most_members }
-    ensures { (t : ℕ) → set.contains within.now t ≡ true → weight_at weights.new t ≡ weight_in (sum_from whole) (sum_at dep.now t) }
+    ensures are { (t : ℕ) → set.contains within.now t ≡ true → weight_at weights.new t ≡ weight_in (sum_from whole) (sum_at dep.now t) }
+    ensures small { (t : ℕ) → set.contains within.now t ≡ true → unsigned_abs (weight_at weights.new t) < 2 ^ 99 }
 {
     for place in within.iter() {
         weights[place] = weight(whole, dep.rate(place));
@@ -91,9 +88,18 @@ fn weigh<const W: usize>(
 // How far a rate is above that of a whole, times both sizes.
 fn weight(whole: FeeRate, own: FeeRate) -> i128
     requires own { IsRate own }
-    requires fee { unsigned_abs whole.fee ≤ greatest_fee * most_members }
     requires size { whole.size ≤ greatest_size * most_members }
-    ensures { result ≡ weight_in (sum_from whole) (sum_from own) }
+    ensures is { result ≡ weight_in (sum_from whole) (sum_from own) }
+    ensures small { unsigned_abs result < 2 ^ 99 }
 {
-    i128::from(own.fee) * i128::from(whole.size) - i128::from(whole.fee) * i128::from(own.size)
+    product(own.fee, whole.size) - product(whole.fee, own.size)
+}
+
+// A fee times the size of at most 4,096 transactions. Below 2^98 in absolute value.
+fn product(fee: i64, size: u64) -> i128
+    requires { size ≤ greatest_size * most_members }
+    ensures product { result ≡ fee *ℤ pos size }
+    ensures bound { unsigned_abs result < 2 ^ 98 }
+{
+    i128::from(fee) * i128::from(size)
 }
