@@ -2,7 +2,7 @@ ghost use Rattle.std.specs.Prelude.{◌≡◌, ℕ, ◌+◌, ◌*◌, ◌^◌, �
 ghost use Rattle.std.specs.FinSet as set;
 ghost use Rattle.bitset.specs.Places.{IsWithin, places};
 ghost use Rattle.closure_flow.specs.Scratches.{flow_of};
-ghost use Rattle.dep_graph.specs.Graph.{HoldsMembers, is_ancestor, is_member};
+ghost use Rattle.dep_graph.specs.Graph.{HoldsMembers, IsClosed, is_ancestor, is_member};
 ghost use Rattle.linearize.specs.Graphs.{sum_from};
 ghost use Rattle.linearize.specs.Drafts.{Written, all_flows, placed};
 ghost use Rattle.linearize.specs.Orders.{AreCovers, Balances, IsOrderOf, flows_from, flows_of, sums_in};
@@ -24,6 +24,7 @@ pub(crate) fn emit<const W: usize>(
     draft: &mut Draft<W>,
 )
     requires narrow { 64 * W < 2 ^ 32 }
+    requires closed { IsClosed (64 * W) dep.now }
     requires members { HoldsMembers dep.now within.now }
     requires some { 0 < set.len within.now }
     requires covers { AreCovers dep.now parents.now }
@@ -40,6 +41,7 @@ pub(crate) fn emit<const W: usize>(
 // Puts the places of a set, parents first.
 fn put_places<const W: usize>(dep: &DepGraph<W>, within: &Bits<W>, draft: &mut Draft<W>)
     requires narrow { 64 * W < 2 ^ 32 }
+    requires closed { IsClosed (64 * W) dep.now }
     requires members { HoldsMembers dep.now within.now }
     requires none { draft.old.ids ≡ [] }
     requires room { length (placed draft.old.parts) + set.len within.now ≤ 64 * W }
@@ -59,6 +61,7 @@ fn put_places<const W: usize>(dep: &DepGraph<W>, within: &Bits<W>, draft: &mut D
 // A place of a set that has no other ancestor in it, from one of its places upward.
 fn top<const W: usize>(dep: &DepGraph<W>, left: &Bits<W>, from: usize) -> usize
     requires narrow { 64 * W < 2 ^ 32 }
+    requires closed { IsClosed (64 * W) dep.now }
     requires members { HoldsMembers dep.now left.now }
     requires from { set.contains left.now from ≡ true }
     ensures there { set.contains left.now result ≡ true }
@@ -68,10 +71,10 @@ fn top<const W: usize>(dep: &DepGraph<W>, left: &Bits<W>, from: usize) -> usize
     loop {
         let mut above = dep.ancestors(place).meet(left);
         above.remove(place);
-        let Some(next) = above.least() else {
-            return place;
-        };
-        place = next;
+        match above.least() {
+            Some(next) => place = next,
+            None => return place,
+        }
     }
 }
 

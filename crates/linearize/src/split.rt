@@ -2,7 +2,7 @@ ghost use Rattle.std.specs.Prelude.{◌≡◌, ℕ, ◌+◌, ◌*◌, ◌<◌, �
 ghost use Rattle.std.specs.FinSet as set;
 ghost use Rattle.bitset.specs.Places.{IsWithin};
 ghost use Rattle.closure_flow.specs.Closures.{weight_at};
-ghost use Rattle.dep_graph.specs.Graph.{HoldsMembers, is_member};
+ghost use Rattle.dep_graph.specs.Graph.{HoldsMembers, IsClosed, is_member};
 ghost use Rattle.fee_rate.specs.Limits.{IsRate, greatest_fee, greatest_size};
 ghost use Rattle.graph_model.specs.Certificates.{weight_in};
 ghost use Rattle.linearize.specs.Graphs.{HasRates, most_members, sum_at, sum_from};
@@ -29,6 +29,7 @@ pub(crate) fn split<L: Ledger, const W: usize>(
     steps: &mut Steps<L>,
 )
     requires narrow { 64 * W < 2 ^ 32 }
+    requires closed { IsClosed (64 * W) dep.now }
     requires members { HoldsMembers dep.now within.now }
     requires some { 0 < set.len within.now }
     requires few { set.len within.now ≤ most_members }
