@@ -36,11 +36,11 @@ pub of_one : (n : ℕ) (parents : List (fin.FinSet nat_cmp)) (s : fin.FinSet nat
 unfolding flows_of
 of_one n parents s flow c = append-nil (flows_from flow c (parents_within n parents s c))
 
-from_nil : (flow : ℕ → ℕ → ℕ) (c : ℕ) → flows_from flow c [] ≡ []
+pub from_nil : (flow : ℕ → ℕ → ℕ) (c : ℕ) → flows_from flow c [] ≡ []
 unfolding flows_from
 from_nil flow c = refl
 
-of_nil : (n : ℕ) (parents : List (fin.FinSet nat_cmp)) (s : fin.FinSet nat_cmp) (flow : ℕ → ℕ → ℕ) → flows_of n parents s flow [] ≡ []
+pub of_nil : (n : ℕ) (parents : List (fin.FinSet nat_cmp)) (s : fin.FinSet nat_cmp) (flow : ℕ → ℕ → ℕ) → flows_of n parents s flow [] ≡ []
 unfolding flows_of
 of_nil n parents s flow = refl
 

@@ -1,7 +1,11 @@
+mod Certified
 mod DraftLemmas
 mod FlowLists
+mod Lists
 mod Orders
+mod Parts
 mod Places
 mod Sets
 mod Sizes
 mod Totals
+mod Triangles
