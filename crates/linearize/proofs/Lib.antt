@@ -1,6 +1,7 @@
 mod Certified
 mod DraftLemmas
 mod FlowLists
+mod Joined
 mod Lists
 mod Orders
 mod Parts

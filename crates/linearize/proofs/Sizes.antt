@@ -1,5 +1,5 @@
 -- Structs of a narrow width lie in a small part of memory.
-use Rattle.std.proofs.Common.{ℕ, ◌+◌, ◌*◌, ◌^◌, ◌<◌, ◌≤◌, arith}
+use Rattle.std.proofs.Common.{ℕ, ◌+◌, ◌*◌, ◌^◌, ◌<◌, ◌≤◌, max, arith}
 use Rattle.std.proofs.Math.Nat.{mul-le-mul}
 use prog.Memory.{up}
 
@@ -38,3 +38,11 @@ offset_fits w place narrow inside =
     let b : place ≤ 2 ^ 32 = omega arith in
     let c = mul-le-mul b a in
     omega (arith, c)
+
+-- an answer with a set
+pub answer_fits : (w : ℕ) → 64 * w < 2 ^ 32 → up 8 (max (8 + up 8 (0 + w * 8)) 1) < 2 ^ 63
+answer_fits w narrow =
+    let a = padded (0 + w * 8) (2 ^ 30) (omega arith) in
+    let b : max (8 + up 8 (0 + w * 8)) 1 ≤ 2 ^ 31 = omega arith in
+    let c = padded (max (8 + up 8 (0 + w * 8)) 1) (2 ^ 31) b in
+    omega arith

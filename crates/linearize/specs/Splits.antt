@@ -1,10 +1,10 @@
 -- What a set of places is linearized to.
-use Rattle.std.specs.Prelude.{◌≡◌, ◌≢◌, ℕ, ◌+◌, ◌*◌, ◌≤◌, true, List, [], ◌++◌, length, Contains}
+use Rattle.std.specs.Prelude.{◌≡◌, ◌≢◌, ℕ, ◌+◌, ◌*◌, ◌≤◌, pos, ◌<ℤ◌, ◌≤ℤ◌, true, List, [], ◌++◌, length, Contains}
 use Rattle.std.specs.Ordering.{nat_cmp}
 use Rattle.std.specs.FinSet as set
 use Rattle.fee_rate.specs.declared.rates.Sum.{Sum}
 use Rattle.fee_rate.specs.Rates.{AtMost}
-use Rattle.graph_model.specs.Certificates.{Part, HasFalling, HasFlows}
+use Rattle.graph_model.specs.Certificates.{Part, HasFalling, HasFlows, weight_in}
 use Rattle.dep_graph.specs.Graph.{Graph, IsCover}
 use Rattle.linearize.specs.Graphs.{sum_at}
 use Rattle.linearize.specs.Drafts.{Written, placed, flows_in}
@@ -28,6 +28,12 @@ pub record Linearizes (n : ℕ) (dep : Graph) (s : set.FinSet nat_cmp) (parts : 
   pub flows : HasFlows (sum_at dep) (IsCover dep) parts
   pub at_most : (rate : Sum) → ((x : set.FinSet nat_cmp) → IsUpper dep s x → AtMost (sums_in n dep x) rate) → (part : Part) → Contains parts part → AtMost part.rate rate
   pub at_least : (rate : Sum) → ((x : set.FinSet nat_cmp) → IsLower dep s x → AtMost rate (sums_in n dep x)) → (part : Part) → Contains parts part → AtMost rate part.rate
+
+-- an upper set of greatest weight in the set, which is above 0
+pub record IsBest (n : ℕ) (dep : Graph) (s c : set.FinSet nat_cmp) : Type 0 where
+  pub upper : IsUpper dep s c
+  pub positive : pos 0 <ℤ weight_in (sums_in n dep s) (sums_in n dep c)
+  pub greatest : (x : set.FinSet nat_cmp) → IsUpper dep s x → weight_in (sums_in n dep s) (sums_in n dep x) ≤ℤ weight_in (sums_in n dep s) (sums_in n dep c)
 
 -- parts behind others that linearize a set: no more of them than it has places, and four times their flows are at most its number of places squared
 pub record Adds (n : ℕ) (dep : Graph) (s : set.FinSet nat_cmp) (old new : Written) : Type 0 where

@@ -1,4 +1,4 @@
-ghost use Rattle.std.specs.Prelude.{◌≡◌, ℕ, ◌+◌, ◌*◌, ◌<◌, ◌≤◌, ◌^◌, length, true, pos, ◌-ℤ◌, ◌*ℤ◌, unsigned_abs};
+ghost use Rattle.std.specs.Prelude.{◌≡◌, ℕ, ◌+◌, ◌*◌, ◌<◌, ◌≤◌, ◌^◌, length, true, pos, ◌-ℤ◌, ◌*ℤ◌, unsigned_abs, IfSome, MatchOption};
 ghost use Rattle.std.specs.FinSet as set;
 ghost use Rattle.bitset.specs.Places.{IsWithin};
 ghost use Rattle.closure_flow.specs.Closures.{weight_at};
@@ -7,7 +7,7 @@ ghost use Rattle.fee_rate.specs.Limits.{IsRate, greatest_fee, greatest_size};
 ghost use Rattle.graph_model.specs.Certificates.{weight_in};
 ghost use Rattle.linearize.specs.Graphs.{HasRates, most_members, sum_at, sum_from};
 ghost use Rattle.linearize.specs.Orders.{AreCovers, sums_in};
-ghost use Rattle.linearize.specs.Splits.{Adds, HasRoom};
+ghost use Rattle.linearize.specs.Splits.{Adds, HasRoom, IsBest};
 
 use crate::draft::Draft;
 use crate::part::emit;
@@ -40,15 +40,44 @@ pub(crate) fn split<L: Ledger, const W: usize>(
     ensures adds { Adds (64 * W) dep.now within.now draft.old draft.new }
     ensures steps { steps.old ≤ steps.new }
 {
+    if let Some(first) = best(scratch, dep, parents, weights, within, draft, steps) {
+        let rest = within.minus(&first);
+        split(scratch, dep, parents, weights, &first, draft, steps);
+        split(scratch, dep, parents, weights, &rest, draft, steps);
+    }
+}
+
+// Writes a set as one part where it is balanced. Else it answers a closed set of greatest weight.
+fn best<L: Ledger, const W: usize>(
+    scratch: &mut Scratch<W>,
+    dep: &DepGraph<W>,
+    parents: &[Bits<W>],
+    weights: &mut [i128],
+    within: &Bits<W>,
+    draft: &mut Draft<W>,
+    steps: &mut Steps<L>,
+) -> Option<Bits<W>>
+    requires narrow { 64 * W < 2 ^ 32 }
+    requires closed { IsClosed (64 * W) dep.now }
+    requires members { HoldsMembers dep.now within.now }
+    requires some { 0 < set.len within.now }
+    requires few { set.len within.now ≤ most_members }
+    requires rates { HasRates dep.now }
+    requires covers { AreCovers dep.now parents.now }
+    requires weights { 64 * W ≤ length weights.old }
+    requires room { HasRoom (64 * W) within.now draft.old }
+    ensures best { IfSome result (IsBest (64 * W) dep.now within.now) }
+    ensures draft { MatchOption result (Adds (64 * W) dep.now within.now draft.old draft.new) (λ _. draft.new ≡ draft.old) }
+    ensures steps { steps.old ≤ steps.new }
+{
     let whole = sum(dep, within);
     weigh(dep, within, whole, weights);
     match solve(scratch, weights, parents, *within, steps) {
-        Outcome::Better(first) => {
-            let rest = within.minus(&first);
-            split(scratch, dep, parents, weights, &first, draft, steps);
-            split(scratch, dep, parents, weights, &rest, draft, steps);
+        Outcome::Better(first) => Some(first),
+        Outcome::Balanced => {
+            emit(scratch, dep, parents, within, whole, draft);
+            None
         }
-        Outcome::Balanced => emit(scratch, dep, parents, within, whole, draft),
     }
 }
 
