@@ -6,6 +6,7 @@ use Rattle.std.proofs.lemmas.List.{map-append}
 use Rattle.std.proofs.lemmas.List.Sums.{sum_by-cons}
 use Rattle.std.proofs.lemmas.List.Concat.{flat_map-append}
 use Rattle.std.proofs.lemmas.List.Elements.{Contains-append_left, Contains-append_right, Contains-append_cases}
+use Rattle.std.proofs.Math.Nat.{mul-le-mul}
 use Rattle.std.specs.Ordering.{nat_cmp}
 use Rattle.std.specs.FinSet as fin
 use Rattle.arithmetic.specs.Sums.{total}
@@ -29,7 +30,7 @@ use Rattle.linearize.specs.Orders.{AreCovers, IsOrderOf, sums_in}
 use Rattle.linearize.specs.Splits.{Linearizes, Adds, HasRoom, IsBest, IsUpper, IsLower}
 use Rattle.linearize.proofs.Lists.{distinct_joined}
 use Rattle.linearize.proofs.Places.{Contains-head, Contains-later, Contains-cases, none_in_empty, clash}
-use Rattle.linearize.proofs.Sets.{IsSplit, split_minus, split_union, total_split, sum_split, len_split, from_minus, to_minus, from_union, to_union_left, to_union_right, test_of}
+use Rattle.linearize.proofs.Sets.{IsSplit, split_minus, split_union, total_split, sum_split, len_split, from_minus, to_minus, from_union, to_union_left, to_union_right, test_of, len_below}
 
 -- ---- weights
 total_along : (f g : ℕ → ℤ) (xs : List ℕ) → ((x : ℕ) → Contains xs x → f x ≡ g x) → total f xs ≡ total g xs
@@ -319,3 +320,13 @@ module _ (n : ℕ) (dep : Graph) (s c : fin.FinSet nat_cmp) (closed : IsClosed n
         few = (let p = one.few in let q = two.few in omega (arith, both_lens, b, p, q));
         few_flows = (let p = one.few_flows in let q = two.few_flows in omega (arith, square, d, p, q));
       }
+
+-- an empty draft has room for every set
+pub start_room : (n : ℕ) (s : fin.FinSet nat_cmp) (written : Written) → IsWithin n s → written ≡ record { parts = []; ids = []; flows = [] } → HasRoom n s written
+start_room n s written within empty = subst (HasRoom n s) (sym empty) (let low : fin.len s ≤ n = len_below n s within in let square = mul-le-mul low low in record {
+  ids = refl;
+  flows = refl;
+  for_places = omega (arith, low);
+  for_parts = omega (arith, low);
+  for_flows = omega (arith, square);
+})

@@ -1,5 +1,7 @@
 mod Certified
+mod Chains
 mod DraftLemmas
+mod Final
 mod FlowLists
 mod Joined
 mod Lists

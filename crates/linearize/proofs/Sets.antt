@@ -4,6 +4,8 @@ use Rattle.std.specs.Prelude.{Contains}
 use Rattle.std.proofs.lemmas.Int.{ints}
 use Rattle.std.proofs.lemmas.Bool.{cases_eq}
 use Rattle.std.proofs.lemmas.List.Sums.{sum_by-cons}
+use Rattle.std.proofs.lemmas.List.Filters.{length-filter_both}
+use Rattle.std.proofs.lemmas.List.FromFn.{length-range_with_len}
 use Rattle.std.specs.List.{filter, range_with_len}
 use Rattle.std.specs.Ordering.{nat_cmp}
 use Rattle.std.specs.FinSet as fin
@@ -191,3 +193,8 @@ len_remove n s p within m =
 -- a set within another has no more members
 pub len_within : (n : ℕ) (s a : fin.FinSet nat_cmp) → IsWithin n s → ((k : ℕ) → fin.contains a k ≡ true → fin.contains s k ≡ true) → fin.len a ≤ fin.len s
 len_within n s a within inside = let all = len_split n s a (fin.difference s a) within (split_minus s a inside) in omega (arith, all)
+
+-- nor more than there are places below a bound of it
+pub len_below : (n : ℕ) (s : fin.FinSet nat_cmp) → IsWithin n s → fin.len s ≤ n
+len_below n s within =
+    omega (arith, len-places n s within, length-filter_both (fin.contains s) (λ k. not (fin.contains s k)) (λ k. refl) (range_with_len 0 n), length-range_with_len 0 n)

@@ -105,13 +105,15 @@ pub fn optimal<L: Ledger, const W: usize>(
     ensures steps { steps.old ≤ steps.new }
 {
     let members = dep.members();
+    let parents = out.parents.as_mut_slice();
+    let weights = out.weights.as_mut_slice();
     out.draft.clear();
-    link(dep, &mut out.parents);
+    link(dep, parents);
     split(
         scratch,
         dep,
-        &out.parents,
-        &mut out.weights,
+        parents,
+        weights,
         &members,
         &mut out.draft,
         steps,
