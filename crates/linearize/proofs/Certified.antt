@@ -173,10 +173,12 @@ module _ (n : ℕ) (parents : List (fin.FinSet nat_cmp)) (s : fin.FinSet nat_cmp
       let rest = ends_from c ps d.1 in
       elim (cases_lt 0 (flow c p)) as (λ _. AreDistinct {A = ℕ × ℕ} (map (λ f. (f.child, f.parent)) (flows_from flow c (p ∷ ps)))) [
         | inl some ↦
-            subst (λ fs. AreDistinct {A = ℕ × ℕ} (map (λ f. (f.child, f.parent)) fs)) (sym (from_append flow c (p ∷ []) ps ∙ ap (λ fs. fs ++ flows_from flow c ps) (from_one flow c p some)))
-            (λ h. (let found = from_map (λ f. (f.child, f.parent)) (flows_from flow c ps) (c, p) h in
-            let at = in_from c ps found.0 found.1 in
-            d.0 (subst (λ (k : ℕ). Contains ps k) (ap (λ (e : ℕ × ℕ). e.1) found.2) at.1)), rest)
+            subst (λ fs. AreDistinct {A = ℕ × ℕ} (map (λ f. (f.child, f.parent)) fs)) (sym (from_append flow c (p ∷ []) ps ∙ ap (λ fs. fs ++ flows_from flow c ps) (from_one flow c p some))) (
+              λ h. (let found = from_map (λ f. (f.child, f.parent)) (flows_from flow c ps) (c, p) h in
+                  let at = in_from c ps found.0 found.1 in
+                  d.0 (subst (λ (k : ℕ). Contains ps k) (ap (λ (e : ℕ × ℕ). e.1) found.2) at.1)),
+              rest,
+            )
         | inr none ↦
             subst (λ fs. AreDistinct {A = ℕ × ℕ} (map (λ f. (f.child, f.parent)) fs)) (sym (from_append flow c (p ∷ []) ps ∙ ap (λ fs. fs ++ flows_from flow c ps) (from_none flow c p none))) rest
       ]

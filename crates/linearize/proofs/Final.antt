@@ -52,7 +52,7 @@ module _ (n : ℕ) (dep : Graph) (graph : model.Graph) (closed : IsClosed n dep)
         ancestor = to_ancestor p c cover.ancestor;
         other = cover.other;
         between = λ x px xc. (let member : is_member dep x ≡ true = walk_member p x px.0 px.1 both.0 in
-        cover.direct x ((stands.ancestors p x both.0 member).0 px) ((stands.ancestors x c member both.1).0 xc));
+            cover.direct x ((stands.ancestors p x both.0 member).0 px) ((stands.ancestors x c member both.1).0 xc));
       }
 
   near_connected : (a b : ℕ) → IsNear dep (members_of dep) a b → model.AreConnected graph.pairs a b

@@ -90,8 +90,12 @@ placing_more n dep s left rest ids p within h m top is =
       above = λ a k e ne a_in at. elim (Contains-append_cases ids (p ∷ []) k at) [
         | inl before ↦ before_push ids p a k (h.above a k e ne a_in before)
         | inr here ↦ elim (Contains-cases p k [] here) [
-          | inl same ↦ (ids, [], ap (λ (j : ℕ). ids ++ j ∷ []) same,
-            (h.exact a).1 (a_in, λ l. ne (top a (subst (λ (j : ℕ). is_ancestor dep a j ≡ true) (sym same) e) l ∙ same)))
+          | inl same ↦ (
+            ids,
+            [],
+            ap (λ (j : ℕ). ids ++ j ∷ []) same,
+            (h.exact a).1 (a_in, λ l. ne (top a (subst (λ (j : ℕ). is_ancestor dep a j ≡ true) (sym same) e) l ∙ same)),
+          )
           | inr none ↦ absurd (none_in_empty k none)
         ]
       ];

@@ -46,7 +46,7 @@ distinct_map : {A B : Type 0} (f : A → B) (xs : List A) → AreDistinct xs →
 distinct_map f [] d same = tt
 distinct_map f (x ∷ xs) d same = (
   λ h. (let found = from_map f xs (f x) h in
-  d.0 (subst (λ z. Contains xs z) (same found.0 x (Contains-later x found.0 xs found.1) (Contains-head x xs) found.2) found.1)),
+      d.0 (subst (λ z. Contains xs z) (same found.0 x (Contains-later x found.0 xs found.1) (Contains-head x xs) found.2) found.1)),
   distinct_map f xs d.1 (λ y z a b e. same y z (Contains-later x y xs a) (Contains-later x z xs b) e),
 )
 

@@ -12,3 +12,6 @@ mod split;
 
 pub use draft::{LinearPart, PlaceFlow};
 pub use linear::{Linear, optimal};
+
+#[cfg(test)]
+mod tests;
