@@ -60,7 +60,8 @@ pub fn optimal_ends_are_corners()
     ensures { OptimalEndsAreCorners }
 {}
 
-/// Parts of falling rate have exactly one list of segments that joins their equal rates.
+/// Parts of falling rate have exactly one list of segments that joins their equal rates: the first joins
+/// the parts of the first one's rate.
 pub fn equal_rates_join_once()
     ensures { EqualRatesJoinOnce }
 {}
