@@ -23,7 +23,8 @@ pub fn verdict<A: Iterator<Item = (u64, i128)>, B: Iterator<Item = (u64, i128)>>
     requires b_can { B.can_next b }
     requires b_ends { IsFinite (B.remaining b) }
     requires b_corners { (corners : List (ℕ × ℤ)) × YieldsCorners B.next_gives b corners }
-    ensures { (firsts seconds : List (ℕ × ℤ)) → YieldsCorners A.next_gives a firsts → YieldsCorners B.next_gives b seconds → Compares firsts seconds result }
+    ensures { (firsts seconds : List (ℕ × ℤ)) → YieldsCorners A.next_gives a firsts
+        → YieldsCorners B.next_gives b seconds → Compares firsts seconds result }
 {
     let mut a = Side::new(a);
     let mut b = Side::new(b);

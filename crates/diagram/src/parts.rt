@@ -5,7 +5,8 @@ ghost use Rattle.diagram.specs.Parts.{rate_of, AreLevelParts, FallsTo, IsPartSum
 use fee_rate::{FeeRate, Sum, add, cmp_rate};
 use std::cmp::Ordering;
 
-/// The greatest total fee of a level in absolute value, in satoshis: 21 million coins for each of 1,048,576 transactions.
+/// The greatest total fee of a level in absolute value, in satoshis: 21 million coins for each of
+/// 1,048,576 transactions.
 const GREATEST_FEE: i128 = 2_202_009_600_000_000_000_000;
 
 /// The greatest total size of a level, in virtual bytes: 4,000,000 for each of 1,048,576 transactions.

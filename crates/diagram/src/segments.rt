@@ -71,7 +71,8 @@ impl<I: Iterator<Item = FeeRate>> Corners<I> {
         requires can { I.can_next self.old.parts }
         requires ends { IsFinite (I.remaining self.old.parts) }
         ensures end { self.new.end ≡ self.old.end }
-        ensures left { (rest : List Sum) → AlwaysYields I.next_gives rate_of self.old.parts rest → AreLeft I.next_gives self.new rest }
+        ensures left { (rest : List Sum) → AlwaysYields I.next_gives rate_of self.old.parts rest
+            → AreLeft I.next_gives self.new rest }
         ensures goes { WhereTaken self.new.ahead (IsNearerEnd I.can_next I.remaining self.old.parts self.new.parts) }
     {
         self.ahead = match next_rate(&mut self.parts) {
@@ -109,7 +110,8 @@ fn next_rate<I: Iterator<Item = FeeRate>>(parts: &mut I) -> Option<Sum>
     requires can { I.can_next parts.old }
     requires ends { IsFinite (I.remaining parts.old) }
     ensures item { (rest : List Sum) → AlwaysYields I.next_gives rate_of parts.old rest
-        → MatchOption result (rest ≡ []) (λ rate. (more : List Sum) × (rest ≡ rate ∷ more) × AlwaysYields I.next_gives rate_of parts.new more) }
+        → MatchOption result (rest ≡ []) (λ rate. (more : List Sum) × (rest ≡ rate ∷ more)
+        × AlwaysYields I.next_gives rate_of parts.new more) }
     ensures goes { IfSome result (λ _. IsNearerEnd I.can_next I.remaining parts.old parts.new) }
 {
     match parts.next() {

@@ -34,7 +34,8 @@ impl<I: Iterator<Item = (u64, i128)>> Side<I> {
     pub(crate) fn new(mut rest: I) -> Self
         requires can { I.can_next rest }
         requires ends { IsFinite (I.remaining rest) }
-        ensures points { (points : List (ℕ × ℤ)) → YieldsCorners I.next_gives rest points → HasPoints I.next_gives result points }
+        ensures points { (points : List (ℕ × ℤ)) → YieldsCorners I.next_gives rest points
+            → HasPoints I.next_gives result points }
         ensures ready { IsReady I.can_next I.remaining result }
     {
         match rest.next() {
@@ -60,7 +61,8 @@ impl<I: Iterator<Item = (u64, i128)>> Side<I> {
         requires next { self.old.line.to ≡ Some next }
         requires ready { IsReady I.can_next I.remaining self.old }
         ensures points { (points : List (ℕ × ℤ)) → HasPoints I.next_gives self.old points
-            → (p : ℕ × ℤ) × (rest : List (ℕ × ℤ)) × (points ≡ p ∷ next ∷ rest) × HasPoints I.next_gives self.new (next ∷ rest) }
+            → (p : ℕ × ℤ) × (rest : List (ℕ × ℤ)) × (points ≡ p ∷ next ∷ rest)
+            × HasPoints I.next_gives self.new (next ∷ rest) }
         ensures ready { IsReady I.can_next I.remaining self.new }
         ensures fewer { pending I.remaining self.new < pending I.remaining self.old }
     {
@@ -77,13 +79,17 @@ pub(crate) fn step<A: Iterator<Item = (u64, i128)>, B: Iterator<Item = (u64, i12
 ) -> Option<Ordering>
     requires a_ready { IsReady A.can_next A.remaining a.old }
     requires b_ready { IsReady B.can_next B.remaining b.old }
-    requires stand { (cs ds : List (ℕ × ℤ)) × (x : ℕ) × HasPoints A.next_gives a.old cs × HasPoints B.next_gives b.old ds × StandAt cs x × StandAt ds x }
-    ensures moves { (cs ds : List (ℕ × ℤ)) (x : ℕ) → HasPoints A.next_gives a.old cs → HasPoints B.next_gives b.old ds → StandAt cs x → StandAt ds x
+    requires stand { (cs ds : List (ℕ × ℤ)) × (x : ℕ) × HasPoints A.next_gives a.old cs × HasPoints B.next_gives b.old ds
+        × StandAt cs x × StandAt ds x }
+    ensures moves { (cs ds : List (ℕ × ℤ)) (x : ℕ) → HasPoints A.next_gives a.old cs → HasPoints B.next_gives b.old ds
+        → StandAt cs x → StandAt ds x
         → MatchOption result ((p q : ℕ × ℤ) × (cs ≡ p ∷ []) × (ds ≡ q ∷ []))
-        (λ here. (more others : List (ℕ × ℤ)) × (y : ℕ) × HasPoints A.next_gives a.new more × HasPoints B.next_gives b.new others × Moves cs ds x more others y here) }
+        (λ here. (more others : List (ℕ × ℤ)) × (y : ℕ) × HasPoints A.next_gives a.new more
+        × HasPoints B.next_gives b.new others × Moves cs ds x more others y here) }
     ensures a_ready { IsReady A.can_next A.remaining a.new }
     ensures b_ready { IsReady B.can_next B.remaining b.new }
-    ensures fewer { IfSome result (λ _. pending A.remaining a.new + pending B.remaining b.new < pending A.remaining a.old + pending B.remaining b.old) }
+    ensures fewer { IfSome result (λ _. pending A.remaining a.new + pending B.remaining b.new
+        < pending A.remaining a.old + pending B.remaining b.old) }
 {
     match nearer_corner(a.line, b.line) {
         Nearest::First(corner) => {

@@ -18,7 +18,8 @@ fn slice_corners(parts: &[FeeRate]) -> Corners<Copied<Iter<'_, FeeRate>>>
     ensures can { ⟦<Corners<Copied<Iter<'static, FeeRate>>> as Iterator>⟧.can_next result }
     ensures ends { IsFinite (⟦<Corners<Copied<Iter<'static, FeeRate>>> as Iterator>⟧.remaining result) }
     ensures corners { (segments : List Sum) → JoinsEqualRates (map rate_of parts.now) segments
-        → YieldsCorners ⟦<Corners<Copied<Iter<'static, FeeRate>>> as Iterator>⟧.next_gives result (corners_of segments) }
+        → YieldsCorners ⟦<Corners<Copied<Iter<'static, FeeRate>>> as Iterator>⟧.next_gives result
+        (corners_of segments) }
 {
     corners(parts.iter().copied())
 }

@@ -8,7 +8,8 @@ use Rattle.fee_rate.specs.Rates.{AtMost, Below}
 use Rattle.graph_model.specs.Rates.{sum_of, sums, HasSizes, Falls}
 use Rattle.graph_model.specs.Linearizations.{IsClosedWithin, IsTopological, AreChunks, IsFlat, IsUnderLine, IsUnderDiagram, IsOptimal}
 use Rattle.graph_model.specs.Certificates.{Part, IsCertificate}
-use Rattle.graph_model.specs.Diagrams.{corners_of, JoinsEqualRates, AreCorners}
+use Rattle.graph_model.specs.declared.names.Verdict.{Verdict}
+use Rattle.graph_model.specs.Diagrams.{Compares, corners_of, JoinsEqualRates, AreCorners}
 use Rattle.graph_model.specs.States.{State}
 use Rattle.graph_model.specs.Commands.{Command}
 use Rattle.graph_model.specs.Replies.{Refused}
@@ -85,3 +86,7 @@ pub record EqualRatesJoinOnce : Type 0 where
   pub first : (first : Sum) (group after segments : List Sum) → ((part : Sum) → Contains (first ∷ group ++ after) part → 1 ≤ part.size) → Falls (first ∷ group ++ after)
       → ((part : Sum) → Contains group part → AtMost first part) → ((part : Sum) (rest : List Sum) → after ≡ part ∷ rest → Below part first)
       → JoinsEqualRates (first ∷ group ++ after) segments → (others : List Sum) × (segments ≡ sum_of (first ∷ group) ∷ others) × JoinsEqualRates after others
+
+-- Two diagrams have at most one verdict.
+abbrev pub VerdictsAreUnique : Type 0
+VerdictsAreUnique = (a b : List (ℕ × ℤ)) (v w : Verdict) → Compares a b v → Compares a b w → v ≡ w

@@ -23,8 +23,9 @@ pub fn compare_full<I: Iterator<Item = FeeRate>, J: Iterator<Item = FeeRate>>(
     requires top_can { J.can_next top }
     requires top_ends { IsFinite (J.remaining top) }
     requires top_level { (parts : List Sum) × YieldsParts J.next_gives top parts }
-    ensures { (mains tops before after : List Sum) → YieldsParts I.next_gives main mains → YieldsParts J.next_gives top tops
-        → JoinsEqualRates mains before → JoinsEqualRates tops after → Compares (corners_of after) (corners_of before) result }
+    ensures { (mains tops before after : List Sum) → YieldsParts I.next_gives main mains
+        → YieldsParts J.next_gives top tops → JoinsEqualRates mains before → JoinsEqualRates tops after
+        → Compares (corners_of after) (corners_of before) result }
 {
     equal_rates_join_once();
     verdict(corners(top), corners(main))
