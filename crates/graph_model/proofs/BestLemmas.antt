@@ -83,7 +83,7 @@ joined_distinct parts part h d =
     let found = joined-part parts part h in
     distinct-append_left part found.1 (distinct-append_right found.0 (part ++ found.1) (subst AreDistinct found.2 d))
 
-sum_of-joined : (rate : ℕ → Sum) (parts : List (List ℕ)) → sum_of (map (sums rate) parts) ≡ sums rate (joined parts)
+pub sum_of-joined : (rate : ℕ → Sum) (parts : List (List ℕ)) → sum_of (map (sums rate) parts) ≡ sums rate (joined parts)
 unfolding sum_parts
 sum_of-joined rate parts = ap (λ (f : ℤ). sum_parts f (sum_of (map (sums rate) parts)).size) (fees parts) ∙ ap (λ (n : ℕ). sum_parts (sums rate (joined parts)).fee n) (sizes parts)
   where
@@ -124,7 +124,7 @@ share_is rate graph order set topological closed =
       (λ h. Contains-filter (among set) order id (among_is set id h) ((topological.names id).1 (closed.inside id h))),
     ))
 
-sizes_some : (rate : ℕ → Sum) (ids : List ℕ) → ids ≢ [] → HasSizes rate ids → 1 ≤ (sums rate ids).size
+pub sizes_some : (rate : ℕ → Sum) (ids : List ℕ) → ids ≢ [] → HasSizes rate ids → 1 ≤ (sums rate ids).size
 sizes_some rate [] filled some = absurd (filled refl)
 sizes_some rate (id ∷ ids) filled some = omega (arith, sum_by-cons (λ x. (rate x).size) id ids, some id (Contains-head id ids))
 

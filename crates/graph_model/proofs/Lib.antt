@@ -6,3 +6,5 @@ pub mod Members
 pub mod FlowLemmas
 pub mod TangentLemmas
 pub mod BestLemmas
+pub mod CornerLemmas
+pub mod RemovalLemmas

@@ -1,12 +1,15 @@
 -- What a reader would expect of the definitions.
-use Rattle.std.specs.Prelude.{◌≡◌, ℕ, List, [], ◌∷◌, ◌++◌, ◌⊎◌, ◌↔◌, map, flat_map, Contains}
+use Rattle.std.specs.Prelude.{◌≡◌, ◌≢◌, ℕ, ◌≤◌, ℤ, List, [], ◌∷◌, ◌++◌, ◌⊎◌, ◌↔◌, map, flat_map, Contains}
 use Rattle.graph_model.specs.declared.names.Refusal.{Refusal}
 use Rattle.graph_model.specs.declared.names.Refusal.TheVariants.{Memory}
-use Rattle.graph_model.specs.Graphs.{Graph, IsAncestor, AreConnected, IsCover, HasNoCycle}
+use Rattle.graph_model.specs.Graphs.{Graph, IsAncestor, AreConnected, IsCover, HasNoCycle, AreDistinct, IsGraph}
 use Rattle.fee_rate.specs.declared.rates.Sum.{Sum}
-use Rattle.graph_model.specs.Rates.{sums, HasSizes}
+use Rattle.fee_rate.specs.Rates.{AtMost, Below}
+use Rattle.graph_model.specs.Rates.{sum_of, sums, HasSizes, Falls}
 use Rattle.graph_model.specs.Linearizations.{IsClosedWithin, IsTopological, AreChunks, IsFlat, IsUnderLine, IsUnderDiagram, IsOptimal}
 use Rattle.graph_model.specs.Certificates.{Part, IsCertificate}
+use Rattle.graph_model.specs.Diagrams.{corners_of, JoinsEqualRates, AreCorners}
+use Rattle.graph_model.specs.Changes.{IsWithout}
 use Rattle.graph_model.specs.States.{State}
 use Rattle.graph_model.specs.Commands.{Command}
 use Rattle.graph_model.specs.Replies.{Refused}
@@ -64,3 +67,36 @@ FlatPartsBoundClosedSets =
     → IsTopological graph (flat_map (λ ids. ids) (before ++ part ∷ after)) → AreChunks rate graph.pairs (before ++ part ∷ after)
     → ((ids : List ℕ) → Contains (before ++ part ∷ after) ids → IsFlat rate graph.pairs ids)
     → IsClosedWithin graph.pairs graph.names set → IsUnderLine (sums rate (flat_map (λ ids. ids) before)) (sums rate part) (sums rate set)
+
+-- A graph has at most one list of corners.
+abbrev pub CornersAreUnique : Type 0
+CornersAreUnique = (rate : ℕ → Sum) (graph : Graph) (a b : List (ℕ × ℤ)) → AreCorners rate graph a → AreCorners rate graph b → a ≡ b
+
+-- The ends of an optimal order, equal rates joined, are the graph's corners. Names stand once and have sizes of at least 1.
+abbrev pub OptimalEndsAreCorners : Type 0
+OptimalEndsAreCorners =
+    (rate : ℕ → Sum) (graph : Graph) (parts : List (List ℕ)) (segments : List Sum) → AreDistinct graph.names → HasSizes rate graph.names
+    → IsOptimal rate graph parts → JoinsEqualRates (map (sums rate) parts) segments → AreCorners rate graph (corners_of segments)
+
+-- Parts of falling rate, with sizes of at least 1, have one list of segments that joins their equal rates.
+-- The first segment joins the parts of the first one's rate, and the others join what follows.
+pub record EqualRatesJoinOnce : Type 0 where
+  pub some : (parts : List Sum) → ((part : Sum) → Contains parts part → 1 ≤ part.size) → Falls parts → (segments : List Sum) × JoinsEqualRates parts segments
+  pub one : (parts a b : List Sum) → ((part : Sum) → Contains parts part → 1 ≤ part.size) → JoinsEqualRates parts a → JoinsEqualRates parts b → a ≡ b
+  pub first : (first : Sum) (group after segments : List Sum) → ((part : Sum) → Contains (first ∷ group ++ after) part → 1 ≤ part.size) → Falls (first ∷ group ++ after)
+      → ((part : Sum) → Contains group part → AtMost first part) → ((part : Sum) (rest : List Sum) → after ≡ part ∷ rest → Below part first)
+      → JoinsEqualRates (first ∷ group ++ after) segments → (others : List Sum) × (segments ≡ sum_of (first ∷ group) ∷ others) × JoinsEqualRates after others
+
+-- every graph has one without a name
+abbrev pub NamesCanGo : Type 0
+NamesCanGo = (old : Graph) (id : ℕ) → IsGraph old → (new : Graph) × IsWithout old id new
+
+-- what is left of a graph without a name is a graph
+abbrev pub StaysGraph : Type 0
+StaysGraph = (old new : Graph) (id : ℕ) → IsWithout old id new → IsGraph old → IsGraph new
+
+-- without a name the others keep the ancestors that they had among them
+abbrev pub AncestorsWithoutName : Type 0
+AncestorsWithoutName =
+    (old new : Graph) (id : ℕ) → IsWithout old id new → (a b : ℕ) → IsAncestor new.pairs a b
+    ↔ ((a ≡ b) ⊎ ((a ≢ id) × (b ≢ id) × IsAncestor old.pairs a b))

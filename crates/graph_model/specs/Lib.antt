@@ -12,5 +12,6 @@ pub mod Runs
 pub mod Rates
 pub mod Linearizations
 pub mod Certificates
+pub mod Diagrams
 pub mod Texts
 pub mod Laws

@@ -1,5 +1,5 @@
 //! Laws over the definitions, each the contract of a function that does nothing.
-ghost use Rattle.graph_model.specs.Laws.{AnswersAreInOrder, ReadingsLackNoMemory, RefusedChangesNothing, AncestorsWithPair, ComponentsWithPair, StaysWithoutCycle, CertifiedPartsAreOptimal, OptimalBoundsClosedSets, FlatPartsBoundClosedSets};
+ghost use Rattle.graph_model.specs.Laws.{AnswersAreInOrder, ReadingsLackNoMemory, RefusedChangesNothing, AncestorsWithPair, ComponentsWithPair, StaysWithoutCycle, CertifiedPartsAreOptimal, OptimalBoundsClosedSets, FlatPartsBoundClosedSets, CornersAreUnique, OptimalEndsAreCorners, EqualRatesJoinOnce, NamesCanGo, StaysGraph, AncestorsWithoutName};
 
 /// No answer is lost or out of order: a run over lines that come one after the other is the run over
 /// the first of them, and then over the others.
@@ -48,4 +48,35 @@ pub fn optimal_bounds_closed_sets()
 /// graph at the line of each part.
 pub fn flat_parts_bound_closed_sets()
     ensures { FlatPartsBoundClosedSets }
+{}
+
+/// A graph has at most one list of corners.
+pub fn corners_are_unique()
+    ensures { CornersAreUnique }
+{}
+
+/// The ends of an optimal order's parts, equal rates joined, are the graph's corners.
+pub fn optimal_ends_are_corners()
+    ensures { OptimalEndsAreCorners }
+{}
+
+/// Parts of falling rate have exactly one list of segments that joins their equal rates: the first joins
+/// the parts of the first one's rate.
+pub fn equal_rates_join_once()
+    ensures { EqualRatesJoinOnce }
+{}
+
+/// Every graph has one without a name.
+pub fn names_can_go()
+    ensures { NamesCanGo }
+{}
+
+/// What is left of a graph without a name is a graph.
+pub fn stays_graph()
+    ensures { StaysGraph }
+{}
+
+/// Without a name the others keep the ancestors that they had among them.
+pub fn ancestors_without_name()
+    ensures { AncestorsWithoutName }
 {}

@@ -14,6 +14,19 @@ pub struct Limits {
     pub total: u64,
 }
 
+/// How one fee-rate diagram stands to another, at every size.
+#[derive(Clone, Copy, Debug, PartialEq, Eq)]
+pub enum Verdict {
+    /// At or above it everywhere, and not everywhere equal.
+    Better,
+    /// At or below it everywhere, and not everywhere equal.
+    Worse,
+    /// The same.
+    Equal,
+    /// Above it somewhere, and below it elsewhere.
+    Incomparable,
+}
+
 /// An amount that goes from a child to a parent, in proof that no part of a chunk has a greater rate than the chunk.
 /// Amounts are satoshis times virtual bytes.
 #[derive(Clone, Copy, Debug, PartialEq, Eq)]

@@ -14,7 +14,7 @@ use Rattle.plain_graph.specs.Sound.{names_of, AreSmall}
 abbrev pub entry_of : Tx → Entry
 entry_of tx = record { fee = tx.fee; size = tx.size }
 
-none_of_true : false ≡ true → ⊥
+pub none_of_true : false ≡ true → ⊥
 none_of_true e = cc
 
 -- a name has an entry where it is among the names

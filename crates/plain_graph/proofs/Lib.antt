@@ -5,3 +5,6 @@ mod Spreads
 mod Starts
 mod JoinLemmas
 mod Readings
+mod Puts
+mod Fees
+mod Removals

@@ -6,18 +6,19 @@ use Rattle.graph_model.specs.declared.names.Limits.{Limits}
 use Rattle.graph_model.specs.declared.names.Level.{Level}
 use Rattle.graph_model.specs.declared.names.Refusal.{Refusal}
 use Rattle.graph_model.specs.declared.names.Refusal.TheVariants.{Unknown}
-use Rattle.graph_model.specs.Graphs.{IsAncestor, Lists}
+use Rattle.graph_model.specs.Graphs.{IsAncestor, AreConnected, Lists}
 use Rattle.graph_model.specs.States.{State, Table, LevelState, level_of}
 use Rattle.graph_model.specs.Changes.{begun, with_graph}
-use Rattle.graph_model.specs.Commands.{Dep, Ancestors, Descendants}
+use Rattle.graph_model.specs.Commands.{Dep, Cluster, Ancestors, Descendants}
 use Rattle.graph_model.specs.Refusals.{RefusalIs}
 use Rattle.graph_model.specs.Replies.{Ids, Done}
 use Rattle.plain_graph.specs.declared.tx.Tx.{Tx}
 use Rattle.plain_graph.specs.declared.walk.Way.{Way}
-use Rattle.plain_graph.specs.declared.walk.Way.TheVariants.{Up, Down}
+use Rattle.plain_graph.specs.declared.walk.Way.TheVariants.{Up, Down, Either}
 use Rattle.plain_graph.specs.Plain.{Kept, StandsFor, Steps, names_reply, entry_in}
 use Rattle.plain_graph.specs.Sound.{names_of, IsSound}
 use Rattle.plain_graph.specs.Walks.{Reaches}
+use Rattle.plain_graph.proofs.Puts.{AreDistinct-push}
 use Rattle.plain_graph.proofs.Standing.{IsSameGraph, HasTable, state_of, of_states, stands_for, stands_still, level-main, steps_refused, steps_accepted}
 
 pub same_but_found : (old new : Kept) (ids : List ℕ) → new ≡ record old { found = ids } → IsSameGraph old new
@@ -54,10 +55,12 @@ same_ends : (names : List ℕ) (a b : ℕ) (pair : ℕ × ℕ) → ◌≡◌ {A 
 same_ends names a b pair same one other = subst (λ (pair : ℕ × ℕ). Contains names pair.0 × Contains names pair.1) same (one, other)
 
 -- what the fields keep after one more pair
-pub sound_paired : (set : Limits) (txs : List Tx) (pairs : List (ℕ × ℕ)) (places a b : ℕ) → IsSound set txs pairs places → Contains (names_of txs) a → Contains (names_of txs) b → IsSound set txs (pairs ++ (a, b) ∷ []) places
-sound_paired set txs pairs places a b sound one other = record {
+pub sound_paired : (set : Limits) (txs : List Tx) (pairs : List (ℕ × ℕ)) (places a b : ℕ) → IsSound set txs pairs places → (Contains pairs (a, b) → ⊥) → Contains (names_of txs) a → Contains (names_of txs) b → IsSound set txs (pairs ++ (a, b) ∷ []) places
+sound_paired set txs pairs places a b sound absent one other = record {
   in_range = sound.in_range;
   small = sound.small;
+  names_once = sound.names_once;
+  pairs_once = AreDistinct-push pairs (a, b) sound.pairs_once absent;
   ends = λ parent child pair. elim (Contains-push_cases pairs (a, b) (parent, child) pair) [
     | inl before ↦ sound.ends parent child before
     | inr same ↦ same_ends (names_of txs) a b (parent, child) same one other
@@ -92,6 +95,16 @@ steps_down old new level id same here lists =
       (refl, new.found, subst (λ (at : LevelState). Lists (λ d. IsAncestor at.graph.pairs id d) new.found) (sym (level-main old table level)) lists, refl),
     ))
 
+steps_around : (old new : Kept) (level : Level) (id : ℕ) → IsSameGraph old new → Contains (names_of old.txs) id → Lists (AreConnected old.pairs id) new.found → Steps old new (Cluster id level) (Ids new.found)
+steps_around old new level id same here lists =
+    steps_accepted old new (Cluster id level) (Ids new.found)
+    (of_states old (λ (state : State). RefusalIs state (Cluster id level) None) (λ table has. inr (is_read old level id table here, refl)))
+    (λ table has. (
+      state_of old table,
+      stands_still old new same (state_of old table) (stands_for old table has),
+      (refl, new.found, subst (λ (at : LevelState). Lists (AreConnected at.graph.pairs id) new.found) (sym (level-main old table level)) lists, refl),
+    ))
+
 -- what a reading says of its result
 abbrev pub Reads : {T : Type 0} → Way → Kept → Kept → ℕ → Result T Refusal → Type 0
 Reads way old new id result =
@@ -108,3 +121,9 @@ steps_descendants old new level id (Ok done) same reads = steps_down old new lev
 steps_descendants old new level id (Err why) same reads =
     steps_refused old new (Descendants id level) why same
     (of_states old (λ (state : State). RefusalIs state (Descendants id level) (Some why)) (λ table has. inl (unread old level id table reads.0, ap Some reads.1)))
+
+pub steps_cluster : {T : Type 0} (old new : Kept) (level : Level) (id : ℕ) (result : Result T Refusal) → IsSameGraph old new → Reads Either old new id result → Steps old new (Cluster id level) (names_reply result new.found)
+steps_cluster old new level id (Ok done) same reads = steps_around old new level id same reads.0 reads.1
+steps_cluster old new level id (Err why) same reads =
+    steps_refused old new (Cluster id level) why same
+    (of_states old (λ (state : State). RefusalIs state (Cluster id level) (Some why)) (λ table has. inl (unread old level id table reads.0, ap Some reads.1)))

@@ -2,7 +2,7 @@
 use Rattle.std.proofs.Common.{◌≡◌, ℕ, ℤ, ◌+◌, ◌≤◌, true, false, cond, eqb, List, [], ◌∷◌, ◌++◌, length, sym, refl, ap, subst, ◌∙◌, inl, inr, Option, None, Some}
 use Rattle.std.proofs.lemmas.List.Elements.{All-push, Contains-append_left}
 use Rattle.graph_model.specs.declared.names.Limits.{Limits}
-use Rattle.std.specs.Prelude.{Contains, is_some}
+use Rattle.std.specs.Prelude.{Contains, is_some, IsSome}
 use Rattle.std.specs.FinMap as finmap
 use Rattle.std.specs.Ordering.{nat_cmp}
 use Rattle.std.specs.Cmp.{nat_cmp_total, unsigned_tied}
@@ -10,8 +10,8 @@ use Rattle.std.proofs.lemmas.List.{map_push, length_push, length-map}
 use Rattle.graph_model.specs.declared.names.Refusal.{Refusal}
 use Rattle.graph_model.specs.declared.names.Refusal.TheVariants.{Memory}
 use Rattle.graph_model.specs.States.{State, LevelState, Table, Entry, level_of, start}
-use Rattle.graph_model.specs.Changes.{added}
-use Rattle.graph_model.specs.Commands.{Command, Add, Count}
+use Rattle.graph_model.specs.Changes.{added, limited}
+use Rattle.graph_model.specs.Commands.{Command, SetLimits, Add, Count}
 use Rattle.graph_model.specs.Limits.{default_limits}
 use Rattle.graph_model.specs.declared.names.Level.{Level}
 use Rattle.graph_model.specs.declared.names.Level.TheVariants.{Main, Top}
@@ -21,7 +21,9 @@ use Rattle.graph_model.specs.Steps.{Accepts, MayLackMemory}
 use Rattle.plain_graph.specs.declared.tx.Tx.{Tx}
 use Rattle.plain_graph.specs.Plain.{Kept, StandsFor, Steps, entry_in}
 use Rattle.plain_graph.specs.Sound.{names_of, IsSound}
-use Rattle.plain_graph.proofs.Entries.{entry_of, entry-push}
+use Rattle.plain_graph.proofs.Entries.{entry_of, entry-push, Contains-entry, none_of_true}
+use Rattle.plain_graph.proofs.Puts.{AreDistinct-push}
+use Rattle.graph_model.specs.Graphs.{AreDistinct}
 
 -- the table has the entries of the transactions
 pub record HasTable (txs : List Tx) (table : Table) : Type 0 where
@@ -113,6 +115,24 @@ steps_added old new tx limits begun txs pairs none unrefused =
       (refl, refl),
     ))
 
+pub steps_limited : (old new : Kept) (limits : Limits) → new.limits ≡ limits → new.begun ≡ true → new.txs ≡ old.txs → new.pairs ≡ old.pairs → ((state : State) → StandsFor old state → RefusalIs state (SetLimits limits.count limits.size limits.total) None)
+    → Steps old new (SetLimits limits.count limits.size limits.total) Done
+steps_limited old new limits is begun txs pairs none =
+    steps_accepted old new (SetLimits limits.count limits.size limits.total) Done none
+    (λ table has. (
+      limited (state_of old table) limits,
+      record {
+        limits = sym is;
+        begun = sym begun;
+        table = λ id. has.gets id ∙ ap (λ txs. entry_in txs id) (sym txs);
+        live = has.live ∙ ap length (sym txs);
+        names = ap names_of (sym txs);
+        pairs = sym pairs;
+        staging = refl;
+      },
+      (refl, refl),
+    ))
+
 pub stands_at_start : (kept : Kept) → kept.limits ≡ default_limits → kept.begun ≡ false → kept.txs ≡ [] → kept.pairs ≡ [] → StandsFor kept start
 stands_at_start kept limits begun txs pairs = record {
   limits = sym limits;
@@ -141,11 +161,17 @@ steps_counted kept level n same =
 among_more : (txs : List Tx) (tx : Tx) (id : ℕ) → Contains (names_of txs) id → Contains (names_of (txs ++ tx ∷ [])) id
 among_more txs tx id here = subst (λ (ids : List ℕ). Contains ids id) (sym (map_push (λ (tx : Tx). tx.id) txs tx)) (Contains-append_left (names_of txs) (tx.id ∷ []) id here)
 
+no_entry : (found : Option Entry) → found ≡ None → IsSome found → ⊥
+no_entry None none some = none_of_true some
+no_entry (Some entry) none some = cc
+
 -- what the fields keep after one more transaction
-pub sound_added : (set : Limits) (txs : List Tx) (tx : Tx) (pairs : List (ℕ × ℕ)) (places more : ℕ) → IsSound set txs pairs places → tx.size ≤ 4000000 → length txs + 1 ≤ more → IsSound set (txs ++ tx ∷ []) pairs more
-sound_added set txs tx pairs places more sound small room = record {
+pub sound_added : (set : Limits) (txs : List Tx) (tx : Tx) (pairs : List (ℕ × ℕ)) (places more : ℕ) → IsSound set txs pairs places → entry_in txs tx.id ≡ None → tx.size ≤ 4000000 → length txs + 1 ≤ more → IsSound set (txs ++ tx ∷ []) pairs more
+sound_added set txs tx pairs places more sound none small room = record {
   in_range = sound.in_range;
   small = All-push (λ (tx : Tx). tx.size ≤ 4000000) txs tx sound.small small;
+  names_once = subst (AreDistinct {A = ℕ}) (sym (map_push (λ (tx : Tx). tx.id) txs tx)) (AreDistinct-push (names_of txs) tx.id sound.names_once (λ here. no_entry (entry_in txs tx.id) none (Contains-entry txs tx.id here)));
+  pairs_once = sound.pairs_once;
   ends = λ parent child pair. let ends = sound.ends parent child pair in (among_more txs tx parent ends.0, among_more txs tx child ends.1);
   enough = subst (λ (n : ℕ). n ≤ more) (sym (length_push txs tx)) room;
 }

@@ -2,3 +2,4 @@ pub mod Plain
 pub mod Walks
 pub mod Sound
 pub mod Joins
+pub mod Rests

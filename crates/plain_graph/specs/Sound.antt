@@ -2,6 +2,7 @@
 use Rattle.std.specs.Prelude.{ℕ, ◌≤◌, List, map, length, All}
 use Rattle.graph_model.specs.declared.names.Limits.{Limits}
 use Rattle.graph_model.specs.Limits.{AreInRange}
+use Rattle.graph_model.specs.Graphs.{AreDistinct}
 use Rattle.plain_graph.specs.declared.tx.Tx.{Tx}
 use Rattle.plain_graph.specs.Walks.{EndsAreAmong}
 
@@ -12,9 +13,12 @@ names_of txs = map (λ tx. tx.id) txs
 abbrev pub AreSmall : List Tx → Type 0
 AreSmall txs = All (λ tx. tx.size ≤ 4000000) txs
 
--- The limits are in range, sizes are, pairs are of names, and there are places for all names.
+-- The limits are in range, sizes are, names and pairs stand once each, pairs are of names, and there
+-- are places for all names.
 pub record IsSound (set : Limits) (txs : List Tx) (pairs : List (ℕ × ℕ)) (places : ℕ) : Type 0 where
   pub in_range : AreInRange set
   pub small : AreSmall txs
+  pub names_once : AreDistinct (names_of txs)
+  pub pairs_once : AreDistinct pairs
   pub ends : EndsAreAmong (names_of txs) pairs
   pub enough : length txs ≤ places

@@ -2,6 +2,7 @@
 //! program that the definitions name, beside which every faster one is tested.
 #![tactic(auto)]
 
+mod pairs;
 mod plain;
 #[cfg(test)]
 mod tests;

@@ -1,14 +1,15 @@
-ghost use Rattle.std.specs.Prelude.{◌≡◌, ◌+◌, ◌-◌, ◌*◌, ◌^◌, ◌<◌, ◌≤◌, false, [], ◌∷◌, length, IfOk, OnOk, if◌then◌else◌, is_ok, MatchResult, Contains};
-ghost use Rattle.graph_model.specs.Limits.{default_limits, AreInRange};
+ghost use Rattle.std.specs.Prelude.{◌≡◌, ◌+◌, ◌-◌, ◌*◌, ◌^◌, ◌<◌, ◌≤◌, ◌↔◌, false, [], ◌∷◌, length, IfOk, OnOk, if◌then◌else◌, is_ok, MatchResult, Contains, IsTrue, IsSome};
+ghost use Rattle.graph_model.specs.Limits.{default_limits, AreInRange, IsFee};
 ghost use Rattle.graph_model.specs.Graphs.{AreConnected};
 ghost use Rattle.plain_graph.specs.Walks.{HoldsAll};
 ghost use Rattle.plain_graph.specs.Sound.{AreSmall};
 ghost use Rattle.plain_graph.specs.Joins.{JoinRefusalIs};
-ghost use Rattle.graph_model.specs.Commands.{Add, Dep, Ancestors, Descendants, Count};
+ghost use Rattle.graph_model.specs.Commands.{SetLimits, Add, Dep, SetFee, Remove, Cluster, Ancestors, Descendants, Count};
 ghost use Rattle.graph_model.specs.Replies.{Number};
 
+use crate::pairs::without;
 use crate::tx::Tx;
-use crate::txs::{is_live, total_size};
+use crate::txs::{drop_name, is_live, set_fee, total_size};
 use crate::walk::{Way, has_pair, leads, reach};
 use graph_model::{IdBuf, Level, Limits, Refusal, TxId};
 use outside::NoMemory;
@@ -20,6 +21,15 @@ const MAX_FEE: i64 = 2_100_000_000_000_000;
 
 /// How large a transaction may be, in virtual bytes.
 const MAX_SIZE: u64 = 4_000_000;
+
+/// The most names of a cluster that may be set as a limit.
+const MAX_COUNT: u64 = 64;
+
+/// The greatest total size of a cluster that may be set as a limit, in virtual bytes.
+const MAX_CLUSTER_SIZE: u64 = 256_000_000;
+
+/// The most live names that may be set as a limit.
+const MAX_TOTAL: u64 = 1_048_576;
 
 /// The plain graph: every call walks its lists.
 #[derive(Drop)]
@@ -43,6 +53,22 @@ impl Model for Plain {
     ghost view = { λ a. record { limits = a.limits; begun = a.begun; txs = a.txs.items; pairs = a.pairs.items; found = a.found.ids; additions = a.additions } };
 
     ghost invariant = { λ a. IsSound a.limits a.txs.items a.pairs.items (length a.found.ids + a.found.room) };
+}
+
+/// Whether limits may be set.
+fn are_in_range(limits: &Limits) -> bool
+    ensures { IsTrue result ↔ AreInRange limits.now }
+{
+    (1..=MAX_COUNT).contains(&limits.count)
+        && (1..=MAX_CLUSTER_SIZE).contains(&limits.size)
+        && (1..=MAX_TOTAL).contains(&limits.total)
+}
+
+/// Whether a transaction may pay this fee, in satoshis.
+fn is_fee(fee: i64) -> bool
+    ensures { IsTrue result ↔ IsFee fee }
+{
+    (-MAX_FEE..=MAX_FEE).contains(&fee)
 }
 
 /// Makes room for at least this many names, where there is less. The list is empty then.
@@ -121,13 +147,43 @@ impl Plain {
         self.additions
     }
 
+    /// Why `set_limits` is refused.
+    fn refused_limits(&self, limits: &Limits) -> Option<Refusal>
+        ensures first { (state : State) → StandsFor self.now state → RefusalIs state (SetLimits limits.now.count limits.now.size limits.now.total) result }
+        ensures in_range { result ≡ None → AreInRange limits.now }
+    {
+        if self.begun {
+            return Some(Refusal::Late);
+        }
+        if !are_in_range(limits) {
+            return Some(Refusal::Range);
+        }
+        None
+    }
+
+    /// Sets the limits. Takes no memory.
+    ///
+    /// Refused with `Late` where a change was accepted before, limits among them, and else with
+    /// `Range` where a limit is outside its range. The graph stays as it was then.
+    pub fn set_limits(&mut self, limits: Limits) -> Result<(), Refusal>
+        ensures step { Steps self.old self.new (SetLimits limits.count limits.size limits.total) (change_reply result) }
+        ensures additions { self.new.additions ≡ self.old.additions }
+    {
+        if let Some(why) = self.refused_limits(&limits) {
+            return Err(why);
+        }
+        self.limits = limits;
+        self.begun = true;
+        Ok(())
+    }
+
     /// Why `add` is refused, other than for want of memory.
     fn refused_add(&self, id: TxId, fee: i64, size: u64) -> Option<Refusal>
         ensures first { (state : State) → StandsFor self.now state → RefusalIs state (Add id fee size) result }
         ensures new_name { result ≡ None → entry_in self.now.txs id ≡ None }
         ensures small { result ≡ None → size ≤ 4000000 }
     {
-        if fee < -MAX_FEE || fee > MAX_FEE {
+        if !is_fee(fee) {
             return Some(Refusal::Fee);
         }
         if size < 1 || size > MAX_SIZE {
@@ -223,6 +279,57 @@ impl Plain {
         Ok(())
     }
 
+    /// Why `fee` is refused, other than for want of memory.
+    fn refused_fee(&self, id: TxId, fee: i64) -> Option<Refusal>
+        ensures first { (state : State) → StandsFor self.now state → RefusalIs state (SetFee id fee) result }
+        ensures live { result ≡ None → IsSome (entry_in self.now.txs id) }
+    {
+        if !is_fee(fee) {
+            return Some(Refusal::Fee);
+        }
+        if !is_live(&self.txs, id) {
+            return Some(Refusal::Unknown(id));
+        }
+        None
+    }
+
+    /// Sets the fee of a name, in satoshis. Takes no memory.
+    ///
+    /// Refused, by the first of these that holds: `Fee` where the number is out of range, `Unknown`
+    /// where the name isn't live. The graph stays as it was then.
+    pub fn fee(&mut self, id: TxId, fee: i64) -> Result<(), Refusal>
+        ensures step { Steps self.old self.new (SetFee id fee) (change_reply result) }
+        ensures additions { self.new.additions ≡ self.old.additions }
+    {
+        if let Some(why) = self.refused_fee(id, fee) {
+            return Err(why);
+        }
+        set_fee(&mut self.txs, id, fee);
+        self.begun = true;
+        Ok(())
+    }
+
+    /// Removes a name. Each of its parents becomes a parent of each of its children, so that the
+    /// other names keep their ancestors.
+    ///
+    /// Refused with `Unknown` where the name isn't live, and else with `Memory` where there is none.
+    /// The graph stays as it was then.
+    pub fn remove(&mut self, id: TxId) -> Result<(), Refusal>
+        ensures step { Steps self.old self.new (Remove id) (change_reply result) }
+        ensures additions { self.new.additions ≡ self.old.additions }
+    {
+        if !is_live(&self.txs, id) {
+            return Err(Refusal::Unknown(id));
+        }
+        let Ok(pairs) = without(self.alloc, &self.pairs, id) else {
+            return Err(Refusal::Memory);
+        };
+        self.pairs = pairs;
+        drop_name(&mut self.txs, id);
+        self.begun = true;
+        Ok(())
+    }
+
     /// The names that walks lead to from a name, in `found`. Takes no memory.
     fn walk(&mut self, id: TxId, way: Way) -> Result<(), Refusal>
         ensures found { MatchResult result (λ _. Contains (names_of self.old.txs) id × Lists (Reaches way self.old.pairs id) self.new.found) (λ why. (Contains (names_of self.old.txs) id → ⊥) × (why ≡ Refusal.Unknown id)) }
@@ -233,6 +340,19 @@ impl Plain {
         }
         reach(&mut self.found, &self.pairs, &[id], way);
         Ok(())
+    }
+
+    /// Finds the names of a name's cluster, itself among them, which are in `found` then: those that
+    /// pairs, taken in either direction, lead to. Takes no memory.
+    ///
+    /// Refused with `Unknown` exactly where the name isn't live. The graph stays as it was either way.
+    pub fn cluster(&mut self, id: TxId, level: Level) -> Result<(), Refusal>
+        ensures step { Steps self.old self.new (Cluster id level) (names_reply result self.new.found) }
+        ensures additions { self.new.additions ≡ self.old.additions }
+    {
+        // There is no staging, so both words speak of main.
+        let _ = level;
+        self.walk(id, Way::Either)
     }
 
     /// Finds the ancestors of a name, itself among them, which are in `found` then. Takes no memory.
@@ -260,7 +380,7 @@ impl Plain {
     }
 
     /// The names that the last accepted reading found, in rising order. They last until the next call
-    /// of `add`, `dep`, `ancestors` or `descendants`.
+    /// of `add`, `dep`, `cluster`, `ancestors` or `descendants`.
     pub fn found(&self) -> &[TxId]
         ensures { result.now ≡ self.now.found }
     {

@@ -1,5 +1,5 @@
 use crate::Plain;
-use graph_model::{Level, Refusal};
+use graph_model::{Level, Limits, Refusal};
 use std::process::Abort;
 use std::test::Fail;
 
@@ -88,5 +88,68 @@ fn names_of_a_pair(rt: HostRuntime) -> Result<(), Fail> {
     assert_eq!(rt; graph.dep(64, 65), Err(Refusal::Count(65)));
     graph.ancestors(64, Level::Main)?;
     assert_eq!(rt; graph.found().len(), 64);
+    Ok(())
+}
+
+#[test]
+fn limits_are_set_before_a_change(rt: HostRuntime) -> Result<(), Fail> {
+    let mut graph = Plain::new(rt.alloc())?;
+    let table = [
+        (0, 1, 1, Err(Refusal::Range)),
+        (65, 1, 1, Err(Refusal::Range)),
+        (1, 0, 1, Err(Refusal::Range)),
+        (1, 256_000_001, 1, Err(Refusal::Range)),
+        (1, 1, 0, Err(Refusal::Range)),
+        (1, 1, 1_048_577, Err(Refusal::Range)),
+        (64, 256_000_000, 1_048_576, Ok(())),
+        (1, 1, 1, Err(Refusal::Late)),
+        (65, 1, 1, Err(Refusal::Late)),
+    ];
+    for (count, size, total, answer) in table {
+        assert_eq!(rt; graph.set_limits(Limits { count, size, total }), answer);
+    }
+    Ok(())
+}
+
+#[test]
+fn fees(rt: HostRuntime) -> Result<(), Fail> {
+    let mut graph = Plain::new(rt.alloc())?;
+    add(&rt, &mut graph, 1, 1, 1)?;
+    let table = [
+        (1, MOST, Ok(())),
+        (1, -MOST, Ok(())),
+        (1, MOST + 1, Err(Refusal::Fee)),
+        (9, -MOST - 1, Err(Refusal::Fee)),
+        (9, 0, Err(Refusal::Unknown(9))),
+    ];
+    for (id, fee, answer) in table {
+        assert_eq!(rt; graph.fee(id, fee), answer);
+    }
+    Ok(())
+}
+
+#[test]
+fn removals_keep_the_ancestors_of_the_others(rt: HostRuntime) -> Result<(), Fail> {
+    let mut graph = Plain::new(rt.alloc())?;
+    for id in 1..6u64 {
+        add(&rt, &mut graph, id, 1, 1)?;
+    }
+    for (parent, child) in [(1, 3), (2, 3), (3, 4), (3, 5), (1, 5)] {
+        graph.dep(parent, child)?;
+    }
+    assert_eq!(rt; graph.remove(3), Ok(()));
+    assert_eq!(rt; graph.remove(3), Err(Refusal::Unknown(3)));
+    assert_eq!(rt; graph.count(Level::Main), 4);
+    graph.ancestors(5, Level::Main)?;
+    assert_eq!(rt; graph.found(), [1, 2, 5].as_slice());
+    graph.descendants(1, Level::Main)?;
+    assert_eq!(rt; graph.found(), [1, 4, 5].as_slice());
+    graph.cluster(4, Level::Top)?;
+    assert_eq!(rt; graph.found(), [1, 2, 4, 5].as_slice());
+    assert_eq!(rt; graph.cluster(3, Level::Top), Err(Refusal::Unknown(3)));
+    add(&rt, &mut graph, 3, 1, 1)?;
+    graph.cluster(3, Level::Top)?;
+    assert_eq!(rt; graph.found(), [3].as_slice());
+    assert_eq!(rt; graph.dep(4, 1), Err(Refusal::Cycle));
     Ok(())
 }

@@ -1,7 +1,8 @@
-ghost use Rattle.std.specs.Prelude.{◌≡◌, ◌≤◌, ◌↔◌, is_some, sum_by, length, IsTrue, Contains};
+ghost use Rattle.std.specs.Prelude.{◌≡◌, ◌≤◌, ◌↔◌, map, is_some, sum_by, length, IsTrue, Contains};
 ghost use Rattle.graph_model.specs.States.{size_in};
 ghost use Rattle.plain_graph.specs.Plain.{entry_in};
 ghost use Rattle.plain_graph.specs.Sound.{names_of, AreSmall};
+ghost use Rattle.plain_graph.specs.Rests.{paying, without_name};
 
 use crate::tx::Tx;
 use graph_model::TxId;
@@ -42,4 +43,29 @@ pub fn total_size(txs: &[Tx], ids: &[TxId]) -> u64
         total += size_of(txs, *id);
     }
     total
+}
+
+/// Sets the fee of the transaction of a name, in satoshis.
+pub fn set_fee(txs: &mut Vec<Tx>, id: TxId, fee: i64)
+    ensures { txs.new.items ≡ map (paying id fee) txs.old.items }
+{
+    for tx in txs.iter_mut() {
+        pay(tx, id, fee);
+    }
+}
+
+/// Sets the fee of a transaction, in satoshis, where it has the name.
+fn pay(tx: &mut Tx, id: TxId, fee: i64)
+    ensures { tx.new ≡ paying id fee tx.old }
+{
+    if tx.id == id {
+        tx.fee = fee;
+    }
+}
+
+/// Drops the transaction of a name. Takes no memory.
+pub fn drop_name(txs: &mut Vec<Tx>, id: TxId)
+    ensures { txs.new.items ≡ without_name id txs.old.items }
+{
+    txs.retain(|tx| tx.id != id);
 }

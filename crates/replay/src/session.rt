@@ -124,8 +124,12 @@ impl<const W: usize> Session<W> {
         match line {
             Line::Quiet => Answer::Silence,
             Line::Syntax => Answer::Unread,
+            Line::Limits(limits) => changed(self.graph.set_limits(limits)),
             Line::Add(id, fee, size) => changed(self.graph.add(id, fee, size)),
             Line::Dep(parent, child) => changed(self.graph.dep(parent, child)),
+            Line::Fee(id, fee) => changed(self.graph.fee(id, fee)),
+            Line::Remove(id) => changed(self.graph.remove(id)),
+            Line::Cluster(id, level) => named(self.graph.cluster(id, level)),
             Line::Ancestors(id, level) => named(self.graph.ancestors(id, level)),
             Line::Descendants(id, level) => named(self.graph.descendants(id, level)),
             Line::Count(level) => Answer::Number(self.graph.count(level) as u64),

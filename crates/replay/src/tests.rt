@@ -13,7 +13,7 @@ fn words(alloc: Global, words: &[&str]) -> Result<Vec<String>, AllocError> {
 }
 
 /// Inputs of `replay` with their outputs.
-const RUNS: [(&str, &str); 10] = [
+const RUNS: [(&str, &str); 15] = [
     ("", ""),
     ("add 1 1000 200\n", "ok\n"),
     (
@@ -42,9 +42,26 @@ const RUNS: [(&str, &str); 10] = [
         "ok\nok\nok\nok\nok\nids 5 6 7\nids 5 6 7\nids 7\nok\nrefused unknown 8\nrefused unknown 8\n",
     ),
     (
-        "limits 1 1 1\norder main\nstage\n",
-        "refused syntax\nrefused syntax\nrefused syntax\n",
+        "add 1 1 1\nadd 2 1 1\nadd 3 1 1\ndep 1 2\ndep 2 3\nremove 2\nancestors 3 top\nremove 1\ncluster 3 top\n",
+        "ok\nok\nok\nok\nok\nok\nids 1 3\nok\nids 3\n",
     ),
+    (
+        "limits 2 1000 10\nadd 1 1 1\nadd 2 1 1\nadd 3 1 1\ndep 1 2\ndep 2 3\ndep 1 2\n",
+        "ok\nok\nok\nok\nok\nrefused count 3\nok\n",
+    ),
+    (
+        "limits 65 1 1\nlimits 64 404000 1\nlimits 64 404000 2\nadd 1 1 1\nadd 2 1 1\nremove 1\nadd 2 1 1\n",
+        "refused range\nok\nrefused late\nok\nrefused full\nok\nok\n",
+    ),
+    (
+        "add 1 1 1\nadd 2 1 1\nadd 3 1 1\ndep 1 2\ndep 2 3\ndep 1 3\ncluster 1 main\nremove 2\ncluster 1 main\ndescendants 1 top\nremove 2\n",
+        "ok\nok\nok\nok\nok\nok\nids 1 2 3\nok\nids 1 3\nids 1 3\nrefused unknown 2\n",
+    ),
+    (
+        "add 1 1 1\nfee 1 2100000000000000\nfee 1 2100000000000001\nfee 9 -2100000000000001\nfee 9 5\nfee 1 -0\nfee 1 5 5\nlimits 64 404000 0\nremove 01\nremove main\ncluster 1\ncluster 9 main\nlimits 64 1 1 1\n",
+        "ok\nok\nrefused fee\nrefused fee\nrefused unknown 9\nrefused syntax\nrefused syntax\nrefused late\nrefused syntax\nrefused syntax\nrefused syntax\nrefused unknown 9\nrefused syntax\n",
+    ),
+    ("order main\nstage\n", "refused syntax\nrefused syntax\n"),
 ];
 
 #[test]

@@ -67,7 +67,7 @@ pub fn run<S: Source, K: Sink>(
         → (result ≡ Status.Done) ⊎ ((result ≡ Status.InputLimit) ⊎ (result ≡ Status.NoMemory)) }
     ensures within_limit { IfSome (S.left source.old) (λ bytes. length bytes ≤ max_input → result ≢ Status.InputLimit) }
 
-    // Refused words: nothing is read, and the status is Usage, WriteFault or NoMemory.
+    // Refused words: nothing is read, and the status is Usage, or WriteFault where the usage line couldn't be written.
     ensures refused_words { (AreReplay (map string_bytes words.now) → ⊥) → (source.new ≡ source.old) × ((result ≡ Status.Usage) ⊎ (result ≡ Status.WriteFault)) }
 {
     if !are_replay(words) {

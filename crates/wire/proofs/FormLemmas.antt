@@ -4,7 +4,7 @@ use Rattle.std.proofs.lemmas.List.Elements.{All-cons, All-nil}
 use Rattle.std.specs.Int.{w64}
 use Rattle.std.specs.Fmt.{signed_decimal}
 use Rattle.graph_model.specs.declared.names.Level.{Level}
-use Rattle.graph_model.specs.Commands.{Command, Add, Dep, Ancestors, Descendants, Count, spaced, words_of, level_word}
+use Rattle.graph_model.specs.Commands.{Command, SetLimits, Add, Dep, SetFee, Remove, Cluster, Ancestors, Descendants, Count, spaced, words_of, level_word}
 use Rattle.graph_model.specs.Lines.{Spells}
 use Rattle.wire.specs.declared.form.Form.{Form}
 use Rattle.wire.specs.declared.form.Form.TheVariants as forms
@@ -14,16 +14,24 @@ use Rattle.wire.proofs.ReadLemmas.{same_split, split_unread}
 
 -- the form of a command
 abbrev pub form_of_command : Command → Form
+form_of_command (SetLimits count size total) = forms.Limits
 form_of_command (Add id fee size) = forms.Add
 form_of_command (Dep parent child) = forms.Dep
+form_of_command (SetFee id fee) = forms.Fee
+form_of_command (Remove id) = forms.Remove
+form_of_command (Cluster id level) = forms.Cluster
 form_of_command (Ancestors id level) = forms.Ancestors
 form_of_command (Descendants id level) = forms.Descendants
 form_of_command (Count level) = forms.Count
 
 -- a command's text is its first word, a space, and more
 command_splits : (command : Command) → (more : List ℕ) × (spaced (words_of command) ≡ form_word (form_of_command command) ++ 32 ∷ more)
+command_splits (SetLimits count size total) = (_, refl)
 command_splits (Add id fee size) = (_, refl)
 command_splits (Dep parent child) = (_, refl)
+command_splits (SetFee id fee) = (_, refl)
+command_splits (Remove id) = (_, refl)
+command_splits (Cluster id level) = (_, refl)
 command_splits (Ancestors id level) = (_, refl)
 command_splits (Descendants id level) = (_, refl)
 command_splits (Count level) = (_, refl)
@@ -55,8 +63,12 @@ one_word (x ∷ xs) h =
     All-cons (λ byte. byte ≢ 32) x xs (λ e. none (eq-eqb x 32 e)) (one_word xs (sym (ap (λ b. cond b true (has_space xs)) no) ∙ h))
 
 form_one_word : (form : Form) → IsOneWord (form_word form)
+form_one_word forms.Limits = one_word (form_word forms.Limits) refl
 form_one_word forms.Add = one_word (form_word forms.Add) refl
 form_one_word forms.Dep = one_word (form_word forms.Dep) refl
+form_one_word forms.Fee = one_word (form_word forms.Fee) refl
+form_one_word forms.Remove = one_word (form_word forms.Remove) refl
+form_one_word forms.Cluster = one_word (form_word forms.Cluster) refl
 form_one_word forms.Ancestors = one_word (form_word forms.Ancestors) refl
 form_one_word forms.Descendants = one_word (form_word forms.Descendants) refl
 form_one_word forms.Count = one_word (form_word forms.Count) refl
@@ -73,6 +85,10 @@ form_unread word rest one none command spells =
     none form tt (same_split word rest (form_word form) cut.0 one (form_one_word form) (spells.0 ∙ cut.1)).0
 
 -- Where what follows a command's first word has no form, the line is no command.
+pub limits_unread : (rest : List ℕ) → ReadsAs (pair_spelling decimal (pair_spelling decimal decimal)) (BothFit IsWide (BothFit IsWide IsWide)) rest None → (command : Command) → Spells (form_word forms.Limits ++ 32 ∷ rest) command → ⊥
+limits_unread rest none (SetLimits count size total) spells = none (count, (size, total)) (spells.1.0, (spells.1.1, spells.1.2)) (ap (drop 7) spells.0)
+limits_unread rest none _ spells = differ_apart _ _ refl spells.0
+
 pub add_unread : (rest : List ℕ) → ReadsAs (pair_spelling decimal (pair_spelling signed_decimal decimal)) (BothFit IsWide (BothFit (FitsSigned w64) IsWide)) rest None → (command : Command) → Spells (form_word forms.Add ++ 32 ∷ rest) command → ⊥
 add_unread rest none (Add id fee size) spells = none (id, (fee, size)) (spells.1.0, (spells.1.1, spells.1.2)) (ap (drop 4) spells.0)
 add_unread rest none _ spells = differ_apart _ _ refl spells.0
@@ -80,6 +96,18 @@ add_unread rest none _ spells = differ_apart _ _ refl spells.0
 pub dep_unread : (rest : List ℕ) → ReadsAs (pair_spelling decimal decimal) (BothFit IsWide IsWide) rest None → (command : Command) → Spells (form_word forms.Dep ++ 32 ∷ rest) command → ⊥
 dep_unread rest none (Dep parent child) spells = none (parent, child) spells.1 (ap (drop 4) spells.0)
 dep_unread rest none _ spells = differ_apart _ _ refl spells.0
+
+pub fee_unread : (rest : List ℕ) → ReadsAs (pair_spelling decimal signed_decimal) (BothFit IsWide (FitsSigned w64)) rest None → (command : Command) → Spells (form_word forms.Fee ++ 32 ∷ rest) command → ⊥
+fee_unread rest none (SetFee id fee) spells = none (id, fee) spells.1 (ap (drop 4) spells.0)
+fee_unread rest none _ spells = differ_apart _ _ refl spells.0
+
+pub remove_unread : (rest : List ℕ) → ReadsAs decimal IsWide rest None → (command : Command) → Spells (form_word forms.Remove ++ 32 ∷ rest) command → ⊥
+remove_unread rest none (Remove id) spells = none id spells.1 (ap (drop 7) spells.0)
+remove_unread rest none _ spells = differ_apart _ _ refl spells.0
+
+pub cluster_unread : (rest : List ℕ) → ReadsAs (pair_spelling decimal level_word) (BothFit IsWide (Always {V = Level})) rest None → (command : Command) → Spells (form_word forms.Cluster ++ 32 ∷ rest) command → ⊥
+cluster_unread rest none (Cluster id level) spells = none (id, level) (spells.1, tt) (ap (drop 8) spells.0)
+cluster_unread rest none _ spells = differ_apart _ _ refl spells.0
 
 pub ancestors_unread : (rest : List ℕ) → ReadsAs (pair_spelling decimal level_word) (BothFit IsWide (Always {V = Level})) rest None → (command : Command) → Spells (form_word forms.Ancestors ++ 32 ∷ rest) command → ⊥
 ancestors_unread rest none (Ancestors id level) spells = none (id, level) (spells.1, tt) (ap (drop 10) spells.0)

@@ -11,7 +11,7 @@ ghost use Rattle.wire.specs.Readings.{meaning_of, TextMeans};
 use crate::form::{Form, form_of};
 use crate::numbers::{number, signed_number};
 use crate::words::split_at_byte;
-use graph_model::{IdBuf, Level, TxId};
+use graph_model::{IdBuf, Level, Limits, TxId};
 
 /// What a line says. Fees are in satoshis, sizes in virtual bytes.
 #[derive(Clone, Copy, Debug, PartialEq, Eq)]
@@ -20,10 +20,18 @@ pub enum Line {
     Quiet,
     /// A line that is no command.
     Syntax,
+    /// `limits N N N`: the names of a cluster, its size, the live names
+    Limits(Limits),
     /// `add ID FEE SIZE`
     Add(TxId, i64, u64),
     /// `dep ID ID`, the parent first
     Dep(TxId, TxId),
+    /// `fee ID FEE`
+    Fee(TxId, i64),
+    /// `remove ID`
+    Remove(TxId),
+    /// `cluster ID L`
+    Cluster(TxId, Level),
     /// `ancestors ID L`
     Ancestors(TxId, Level),
     /// `descendants ID L`
@@ -91,11 +99,25 @@ fn read_rest(form: Form, rest: &[u8]) -> Line
     ensures { TextMeans (form_word form ++ 32 ∷ rest.now) (meaning_of result) }
 {
     match form {
+        Form::Limits => limits(rest),
         Form::Add => add(rest),
         Form::Dep => dep(rest),
+        Form::Fee => fee(rest),
+        Form::Remove => remove(rest),
+        Form::Cluster => cluster(rest),
         Form::Ancestors => ancestors(rest),
         Form::Descendants => descendants(rest),
         Form::Count => count(rest),
+    }
+}
+
+/// `limits N N N`
+fn limits(rest: &[u8]) -> Line
+    ensures { TextMeans (form_word Form.Limits ++ 32 ∷ rest.now) (meaning_of result) }
+{
+    match three_numbers(rest) {
+        Some((count, (size, total))) => Line::Limits(Limits { count, size, total }),
+        None => Line::Syntax,
     }
 }
 
@@ -113,8 +135,38 @@ fn add(rest: &[u8]) -> Line
 fn dep(rest: &[u8]) -> Line
     ensures { TextMeans (form_word Form.Dep ++ 32 ∷ rest.now) (meaning_of result) }
 {
-    match two_ids(rest) {
+    match two_numbers(rest) {
         Some((parent, child)) => Line::Dep(parent, child),
+        None => Line::Syntax,
+    }
+}
+
+/// `fee ID FEE`
+fn fee(rest: &[u8]) -> Line
+    ensures { TextMeans (form_word Form.Fee ++ 32 ∷ rest.now) (meaning_of result) }
+{
+    match id_fee(rest) {
+        Some((id, fee)) => Line::Fee(id, fee),
+        None => Line::Syntax,
+    }
+}
+
+/// `remove ID`
+fn remove(rest: &[u8]) -> Line
+    ensures { TextMeans (form_word Form.Remove ++ 32 ∷ rest.now) (meaning_of result) }
+{
+    match number(rest) {
+        Some(id) => Line::Remove(id),
+        None => Line::Syntax,
+    }
+}
+
+/// `cluster ID L`
+fn cluster(rest: &[u8]) -> Line
+    ensures { TextMeans (form_word Form.Cluster ++ 32 ∷ rest.now) (meaning_of result) }
+{
+    match id_level(rest) {
+        Some((id, level)) => Line::Cluster(id, level),
         None => Line::Syntax,
     }
 }
@@ -149,6 +201,16 @@ fn count(rest: &[u8]) -> Line
     }
 }
 
+/// `N N N`
+fn three_numbers(text: &[u8]) -> Option<(u64, (u64, u64))>
+    ensures { ReadsAs (pair_spelling decimal (pair_spelling decimal decimal)) (BothFit IsWide (BothFit IsWide IsWide)) text.now result }
+{
+    match split_at_byte(text, b' ') {
+        Some((first, rest)) => number(first).zip(two_numbers(rest)),
+        None => None,
+    }
+}
+
 /// `ID FEE SIZE`
 fn id_fee_size(text: &[u8]) -> Option<(TxId, (i64, u64))>
     ensures { ReadsAs (pair_spelling decimal (pair_spelling signed_decimal decimal)) (BothFit IsWide (BothFit (FitsSigned w64) IsWide)) text.now result }
@@ -169,8 +231,18 @@ fn fee_size(text: &[u8]) -> Option<(i64, u64)>
     }
 }
 
-/// `ID ID`
-fn two_ids(text: &[u8]) -> Option<(TxId, TxId)>
+/// `ID FEE`
+fn id_fee(text: &[u8]) -> Option<(TxId, i64)>
+    ensures { ReadsAs (pair_spelling decimal signed_decimal) (BothFit IsWide (FitsSigned w64)) text.now result }
+{
+    match split_at_byte(text, b' ') {
+        Some((id, fee)) => number(id).zip(signed_number(fee)),
+        None => None,
+    }
+}
+
+/// `ID ID`, or `N N`
+fn two_numbers(text: &[u8]) -> Option<(u64, u64)>
     ensures { ReadsAs (pair_spelling decimal decimal) (BothFit IsWide IsWide) text.now result }
 {
     match split_at_byte(text, b' ') {

@@ -1,7 +1,7 @@
-use Rattle.std.proofs.Common.{◌≡◌, ◌+◌, ◌∙◌, ◌++◌, ◌∷◌, [], refl, to_z-of_z, rules, ap, arith, ◌≤◌, length}
+use Rattle.std.proofs.Common.{◌≡◌, ◌+◌, ◌∙◌, ◌++◌, ◌∷◌, [], refl, to_z-of_z, rules, ap, arith, ◌≤◌, length, None}
 use Rattle.graph_model.specs.Commands.{Add}
 use Rattle.plain_graph.specs.declared.tx.Tx.{Tx}
-use Rattle.plain_graph.specs.Plain.{Kept}
+use Rattle.plain_graph.specs.Plain.{Kept, entry_in}
 use Rattle.plain_graph.proofs.Standing.{at_fee, same_as, itself, steps_refused, steps_without_memory, steps_added, sound_added}
 use Rattle.plain_graph.proofs.plain.Plain.add.Goals as goal
 
@@ -15,7 +15,7 @@ returns-then-is_err-clause-step c =
 pub invariant_of-self-then-is_err-2 : goal.invariant_of-self-then-is_err-2
 invariant_of-self-then-is_err-2 c =
     let same : c.push.new.self.items ≡ c.self.inside.txs.items = search rules in
-    rw same (record { in_range = c.self.invariant.in_range; small = c.self.invariant.small; ends = c.self.invariant.ends; enough = omega (arith, c.self.invariant.enough, c.make_room.ensures.kept) })
+    rw same (record { in_range = c.self.invariant.in_range; small = c.self.invariant.small; names_once = c.self.invariant.names_once; pairs_once = c.self.invariant.pairs_once; ends = c.self.invariant.ends; enough = omega (arith, c.self.invariant.enough, c.make_room.ensures.kept) })
 
 pub returns-then-is_err-2-clause-step : goal.returns-then-is_err-2-clause-step
 returns-then-is_err-2-clause-step c =
@@ -26,7 +26,8 @@ pub invariant_of-self-2 : goal.invariant_of-self-2
 invariant_of-self-2 c =
     let pushed : c.push.new.self.items ≡ c.self.inside.txs.items ++ record { id = c.args.id; fee = c.args.fee; size = c.args.size } ∷ [] = search rules in
     let room : length c.self.inside.txs.items + 1 ≤ length c.make_room.new.found.ids + c.make_room.new.found.room = search rules in
-    rw pushed (sound_added _ _ (record { id = c.args.id; fee = c.args.fee; size = c.args.size }) _ _ _ c.self.invariant (c.in_default.ensures.small refl) room)
+    let none : entry_in c.self.inside.txs.items c.args.id ≡ None = rw (ap (λ (kept : Kept). kept.txs) c.self.view_is) (c.in_default.ensures.new_name refl) in
+    rw pushed (sound_added _ _ (record { id = c.args.id; fee = c.args.fee; size = c.args.size }) _ _ _ c.self.invariant none (c.in_default.ensures.small refl) room)
 
 pub returns-clause-step : goal.returns-clause-step
 returns-clause-step c =

@@ -28,7 +28,8 @@ invariant_of-self-2 c =
     let same = same_but_found c.args.self.now _ _ (c.self.view_is ∙ c.refused_dep.ensures.same) in
     let ends : Contains (names_of c.self.inside.txs.items) c.args.parent × Contains (names_of c.self.inside.txs.items) c.args.child = rw same.txs (c.in_default.ensures.ends refl) in
     let pushed : c.push.new.self.items ≡ c.self.inside.pairs.items ++ (c.args.parent, c.args.child) ∷ [] = search rules in
-    rw pushed (sound_paired _ c.self.inside.txs.items c.self.inside.pairs.items _ c.args.parent c.args.child c.self.invariant ends.0 ends.1)
+    let found : IsTrue c.has_pair.result ↔ Contains {X = ℕ × ℕ} c.self.inside.pairs.items (c.args.parent, c.args.child) = rw c.deref.ensures.value at c.has_pair.ensures in
+    rw pushed (sound_paired _ c.self.inside.txs.items c.self.inside.pairs.items _ c.args.parent c.args.child c.self.invariant (not_so c.has_pair.result found c.if-has_pair.false) ends.0 ends.1)
 
 pub returns-clause-step : goal.returns-clause-step
 returns-clause-step c =

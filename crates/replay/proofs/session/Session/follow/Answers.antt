@@ -1,7 +1,7 @@
 use Rattle.std.proofs.Common.{◌∙◌, refl, sym, ap, rules, ℤ, FitsSigned}
 use Rattle.std.specs.Int.{w64}
 use Rattle.std.proofs.lemmas.Int.{to_z-of_z}
-use Rattle.graph_model.specs.Commands.{Add}
+use Rattle.graph_model.specs.Commands.{Add, SetFee}
 use Rattle.graph_model.specs.Replies.{Number}
 use Rattle.graph_model.specs.Lines.{Quiet, NoForm, Says}
 use Rattle.graph_model.specs.Runs.{Silence, Unread}
@@ -17,13 +17,38 @@ returns-in-Syntax-clause-line g c bytes short means = nothing_answers _ _ bytes 
 
 pub returns-in-Add-clause-line : goal.returns-in-Add-clause-line
 returns-in-Add-clause-line g c bytes short means = command_answers _ _ _ bytes _ _ _ _ short means
-    (ap meaning_of c.in-Add.is ∙ ap (λ (fee : ℤ). Says (Add c.in-Add.id fee c.in-Add.size)) (let fits : FitsSigned w64 c.in-Add.fee = search rules in sym (to_z-of_z w64 c.in-Add.fee fits))) c.add.ensures.step c.self.view_is (c.changed.ensures _)
+    (ap meaning_of c.in-Add.is ∙ ap (λ (fee : ℤ). Says (Add c.in-Add.id fee c.in-Add.size)) (let fits : FitsSigned w64 c.in-Add.fee = search rules in sym (to_z-of_z w64 c.in-Add.fee fits))) c.add.ensures.step c.self.view_is (c.changed-in-Add.ensures _)
+
+pub returns-in-Limits-clause-line : goal.returns-in-Limits-clause-line
+returns-in-Limits-clause-line g c bytes short means = command_answers _ _ _ bytes _ _ _ _ short means (ap meaning_of c.in-Limits.is) c.set_limits.ensures.step c.self.view_is (c.changed.ensures _)
+
+pub returns-in-Fee-clause-line : goal.returns-in-Fee-clause-line
+returns-in-Fee-clause-line g c bytes short means = command_answers _ _ _ bytes _ _ _ _ short means
+    (ap meaning_of c.in-Fee.is ∙ ap (λ (fee : ℤ). Says (SetFee c.in-Fee.id fee)) (let fits : FitsSigned w64 c.in-Fee.fee = search rules in sym (to_z-of_z w64 c.in-Fee.fee fits))) c.fee.ensures.step c.self.view_is (c.changed-in-Fee.ensures _)
+
+pub returns-in-Remove-clause-line : goal.returns-in-Remove-clause-line
+returns-in-Remove-clause-line g c bytes short means = command_answers _ _ _ bytes _ _ _ _ short means (ap meaning_of c.in-Remove.is) c.remove.ensures.step c.self.view_is (c.changed-in-Remove.ensures _)
+
+pub returns-in-Cluster-clause-line : goal.returns-in-Cluster-clause-line
+returns-in-Cluster-clause-line g c bytes short means = command_answers _ _ _ bytes _ _ _ _ short means (ap meaning_of c.in-Cluster.is) c.cluster.ensures.step c.self.view_is (c.named.ensures _)
+
+pub returns-in-Limits-clause-suits : goal.returns-in-Limits-clause-suits
+returns-in-Limits-clause-suits g c bytes short means = reply_suits bytes _ _ _ _ short means (ap meaning_of c.in-Limits.is) (c.changed.ensures _)
+
+pub returns-in-Fee-clause-suits : goal.returns-in-Fee-clause-suits
+returns-in-Fee-clause-suits g c bytes short means = reply_suits bytes _ _ _ _ short means (ap meaning_of c.in-Fee.is) (c.changed-in-Fee.ensures _)
+
+pub returns-in-Remove-clause-suits : goal.returns-in-Remove-clause-suits
+returns-in-Remove-clause-suits g c bytes short means = reply_suits bytes _ _ _ _ short means (ap meaning_of c.in-Remove.is) (c.changed-in-Remove.ensures _)
+
+pub returns-in-Cluster-clause-suits : goal.returns-in-Cluster-clause-suits
+returns-in-Cluster-clause-suits g c bytes short means = reply_suits bytes _ _ _ _ short means (ap meaning_of c.in-Cluster.is) (c.named.ensures _)
 
 pub returns-in-Dep-clause-line : goal.returns-in-Dep-clause-line
 returns-in-Dep-clause-line g c bytes short means = command_answers _ _ _ bytes _ _ _ _ short means (ap meaning_of c.in-Dep.is) c.dep.ensures.step c.self.view_is (c.changed-in-Dep.ensures _)
 
 pub returns-in-Ancestors-clause-line : goal.returns-in-Ancestors-clause-line
-returns-in-Ancestors-clause-line g c bytes short means = command_answers _ _ _ bytes _ _ _ _ short means (ap meaning_of c.in-Ancestors.is) c.ancestors.ensures.step c.self.view_is (c.named.ensures _)
+returns-in-Ancestors-clause-line g c bytes short means = command_answers _ _ _ bytes _ _ _ _ short means (ap meaning_of c.in-Ancestors.is) c.ancestors.ensures.step c.self.view_is (c.named-in-Ancestors.ensures _)
 
 pub returns-in-Descendants-clause-line : goal.returns-in-Descendants-clause-line
 returns-in-Descendants-clause-line g c bytes short means = command_answers _ _ _ bytes _ _ _ _ short means (ap meaning_of c.in-Descendants.is) c.descendants.ensures.step c.self.view_is (c.named-in-Descendants.ensures _)
@@ -32,13 +57,13 @@ pub returns-in-Count-clause-line : goal.returns-in-Count-clause-line
 returns-in-Count-clause-line g c bytes short means = reading_answers _ _ bytes _ _ _ _ short means (ap meaning_of c.in-Count.is) c.count.ensures c.self.view_is refl
 
 pub returns-in-Add-clause-suits : goal.returns-in-Add-clause-suits
-returns-in-Add-clause-suits g c bytes short means = reply_suits bytes _ _ _ _ short means (ap meaning_of c.in-Add.is) (c.changed.ensures _)
+returns-in-Add-clause-suits g c bytes short means = reply_suits bytes _ _ _ _ short means (ap meaning_of c.in-Add.is) (c.changed-in-Add.ensures _)
 
 pub returns-in-Dep-clause-suits : goal.returns-in-Dep-clause-suits
 returns-in-Dep-clause-suits g c bytes short means = reply_suits bytes _ _ _ _ short means (ap meaning_of c.in-Dep.is) (c.changed-in-Dep.ensures _)
 
 pub returns-in-Ancestors-clause-suits : goal.returns-in-Ancestors-clause-suits
-returns-in-Ancestors-clause-suits g c bytes short means = reply_suits bytes _ _ _ _ short means (ap meaning_of c.in-Ancestors.is) (c.named.ensures _)
+returns-in-Ancestors-clause-suits g c bytes short means = reply_suits bytes _ _ _ _ short means (ap meaning_of c.in-Ancestors.is) (c.named-in-Ancestors.ensures _)
 
 pub returns-in-Descendants-clause-suits : goal.returns-in-Descendants-clause-suits
 returns-in-Descendants-clause-suits g c bytes short means = reply_suits bytes _ _ _ _ short means (ap meaning_of c.in-Descendants.is) (c.named-in-Descendants.ensures _)

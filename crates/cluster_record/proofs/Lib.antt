@@ -1,0 +1,5 @@
+mod Names
+mod Kept
+mod Single
+mod Lists
+mod Listings
