@@ -26,7 +26,7 @@ use Rattle.graph_model.specs.Certificates.{Part, weight_in, Certifies}
 use Rattle.dep_graph.specs.Graph.{Graph, is_member, IsCover, IsClosed, HoldsMembers, rate_of}
 use Rattle.linearize.specs.Drafts.{Written, placed, flows_in}
 use Rattle.linearize.specs.Graphs.{sum_at, HasRates}
-use Rattle.linearize.specs.Orders.{AreCovers, IsOrderOf, sums_in}
+use Rattle.linearize.specs.Orders.{AreCovers, Balances, IsOrderOf, sums_in}
 use Rattle.linearize.specs.Splits.{Linearizes, Adds, HasRoom, IsBest, IsUpper, IsLower}
 use Rattle.linearize.proofs.Lists.{distinct_joined}
 use Rattle.linearize.proofs.Places.{Contains-head, Contains-later, Contains-cases, none_in_empty, clash}
@@ -87,6 +87,12 @@ best_of n dep parents weights s c members covers are closed positive greatest =
             upward = λ t p m e p_in. upper.parents p t ((covers.exact p t (members t (upper.inside t m))).0 e) m p_in;
           })));
     }
+
+-- a balanced flow of these weights balances the set
+pub balances_of : (n : ℕ) (dep : Graph) (parents : List (fin.FinSet nat_cmp)) (weights : List ℤ) (s : fin.FinSet nat_cmp) (flow : ℕ → ℕ → ℕ)
+    → ((t : ℕ) → fin.contains s t ≡ true → weight_at weights t ≡ weight_in (sums_in n dep s) (sum_at dep t))
+    → closure.IsBalanced n weights parents s flow → Balances n dep parents s flow
+balances_of n dep parents weights s flow are balanced = record { even = λ t m. sym (are t m) ∙ balanced.even t m; pair = balanced.pair }
 
 -- ---- what the solver asks for
 pub weights_even : (n : ℕ) (dep : Graph) (weights : List ℤ) (s : fin.FinSet nat_cmp)

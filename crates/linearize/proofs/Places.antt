@@ -92,3 +92,36 @@ linked_all n dep s parents ys ws is within room h e =
       there = λ c m. (let low : c < n = within c (member c m) in omega arith);
       exact = λ p c m. h.done c p (subst (λ xs. Contains xs c) (sym (gone n s ys ws h.goes e)) (Contains-places n s c (within c (member c m)) (member c m)));
     }
+
+-- ---- a loop that tests each place of a set
+pub record Tested (n : ℕ) (s : fin.FinSet nat_cmp) (P : ℕ → Type 0) (ys zs : List ℕ) : Type 0 where
+  pub goes : Goes n s ys zs
+  pub done : (p : ℕ) → Contains ys p → P p
+
+pub tested_start : (n : ℕ) (s : fin.FinSet nat_cmp) (P : ℕ → Type 0) (zs : List ℕ) → zs ≡ places n s → Tested n s P [] zs
+tested_start n s P zs e = record { goes = e; done = λ p h. absurd (none_in_empty p h) }
+
+pub tested_here : (n : ℕ) (s : fin.FinSet nat_cmp) (P : ℕ → Type 0) (ys ws zs : List ℕ) (p : ℕ) → Tested n s P ys ws → ws ≡ p ∷ zs → fin.contains s p ≡ true
+tested_here n s P ys ws zs p h e = (goes_here n s ys ws zs p h.goes e).1
+
+pub tested_more : (n : ℕ) (s : fin.FinSet nat_cmp) (P : ℕ → Type 0) (ys ws zs : List ℕ) (p : ℕ) → Tested n s P ys ws → ws ≡ p ∷ zs → P p → Tested n s P (ys ++ p ∷ []) zs
+tested_more n s P ys ws zs p h e here = record {
+  goes = goes_on n s ys ws zs p h.goes e;
+  done = λ q there. elim (Contains-append_cases ys (p ∷ []) q there) [
+    | inl before ↦ h.done q before
+    | inr at ↦ elim (Contains-cases p q [] at) [ inl same ↦ subst P same here | inr none ↦ absurd (none_in_empty q none) ]
+  ];
+}
+
+pub tested_all : (n : ℕ) (s : fin.FinSet nat_cmp) (P : ℕ → Type 0) (ys ws : List ℕ) → IsWithin n s → Tested n s P ys ws → ws ≡ [] → (p : ℕ) → fin.contains s p ≡ true → P p
+tested_all n s P ys ws within h e p m = h.done p (subst (λ xs. Contains xs p) (sym (gone n s ys ws h.goes e)) (Contains-places n s p (within p m) m))
+
+-- a test of the members, by a set that is theirs
+pub members_tested : (n : ℕ) (dep : Graph) (s : fin.FinSet nat_cmp) (P : ℕ → Type 0) (zs : List ℕ) → s ≡ members_of dep → zs ≡ places n s → Tested n (members_of dep) P [] zs
+members_tested n dep s P zs is e = tested_start n (members_of dep) P zs (e ∙ ap (places n) is)
+
+pub member_here : (n : ℕ) (dep : Graph) (P : ℕ → Type 0) (ys ws zs : List ℕ) (p : ℕ) → Tested n (members_of dep) P ys ws → ws ≡ p ∷ zs → is_member dep p ≡ true
+member_here n dep P ys ws zs p h e = sym (in_members dep p) ∙ tested_here n (members_of dep) P ys ws zs p h e
+
+pub each_member : (n : ℕ) (dep : Graph) (s : fin.FinSet nat_cmp) (P : ℕ → Type 0) (ys ws : List ℕ) → s ≡ members_of dep → IsWithin n s → Tested n (members_of dep) P ys ws → ws ≡ [] → (p : ℕ) → is_member dep p ≡ true → P p
+each_member n dep s P ys ws is within h e p m = tested_all n (members_of dep) P ys ws (subst (IsWithin n) is within) h e p (in_members dep p ∙ m)

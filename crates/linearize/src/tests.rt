@@ -1,4 +1,6 @@
 ghost use Rattle.std.specs.Prelude.{◌≡◌, ◌<◌, true};
+ghost use Rattle.dep_graph.specs.Graph.{is_member};
+ghost use Rattle.fee_rate.specs.Limits.{IsRate};
 ghost use Rattle.linearize.specs.Graphs.{HasRates, IsComponent};
 
 use crate::{Linear, PlaceFlow, optimal};
@@ -44,11 +46,19 @@ fn chain(
     Ok(graph)
 }
 
+// Whether a place is a member.
+fn is_in(graph: &DepGraph<2>, place: usize) -> bool
+    requires { place < 128 }
+    ensures { result ≡ is_member graph.now place }
+{
+    graph.members().has(place)
+}
+
 fn link(rt: &impl Abort, graph: &mut DepGraph<2>, parent: usize, child: usize) {
     assert!(rt; parent < 128);
     assert!(rt; child < 128);
-    assert!(rt; graph.members().has(parent));
-    assert!(rt; graph.members().has(child));
+    assert!(rt; is_in(graph, parent));
+    assert!(rt; is_in(graph, child));
     assert!(rt; !graph.would_cycle(parent, child));
     graph.add_dep(parent, child);
 }
@@ -70,17 +80,20 @@ fn are_connected(graph: &DepGraph<2>) -> bool
     }
 }
 
+// Whether a fee and a size are those of a transaction.
+fn is_in_range(rate: FeeRate) -> bool
+    ensures { result ≡ true → IsRate rate }
+{
+    rate.fee.unsigned_abs() <= 2_100_000_000_000_000 && rate.size >= 1 && rate.size <= 4_000_000
+}
+
 // Whether each fee and each size is that of a transaction.
 fn are_in_range(graph: &DepGraph<2>) -> bool
     ensures { result ≡ true → HasRates graph.now }
 {
     let members = graph.members();
     for place in members.iter() {
-        let rate = graph.rate(place);
-        if rate.fee.unsigned_abs() > 2_100_000_000_000_000
-            || rate.size < 1
-            || rate.size > 4_000_000
-        {
+        if !is_in_range(graph.rate(place)) {
             return false;
         }
     }

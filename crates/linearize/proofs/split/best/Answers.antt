@@ -4,8 +4,8 @@ use Rattle.bitset.specs.Places.{IsWithin}
 use Rattle.closure_flow.specs.Closures.{weight_at}
 use Rattle.graph_model.specs.Certificates.{weight_in}
 use Rattle.linearize.specs.Graphs.{sum_at}
-use Rattle.linearize.specs.Orders.{Balances, sums_in}
-use Rattle.linearize.proofs.Joined.{best_of, weights_even, weights_small}
+use Rattle.linearize.specs.Orders.{sums_in}
+use Rattle.linearize.proofs.Joined.{balances_of, best_of, weights_even, weights_small}
 use Rattle.linearize.proofs.Sizes.{words_fit, lists_fit, scratch_fits, answer_fits}
 use Rattle.linearize.proofs.split.best.Goals as goal
 
@@ -56,7 +56,7 @@ emit-requires g c =
                       r.covers,
                       (
                         c.sum-whole.ensures.is,
-                        (record { even = λ t m. sym (are t m) ∙ c.in-Balanced.ensures.flow.even t m; pair = λ d p f. c.in-Balanced.ensures.flow.pair d p f }, r.room),
+                        (balances_of n c.args.dep.now c.args.parents.now c.weigh.new.weights c.args.within.now _ are c.in-Balanced.ensures.flow, r.room),
                       ),
                     ),
                   ),
