@@ -24,3 +24,39 @@ fn replies_are_lines_of_text(rt: HostRuntime) -> Result<(), Fail> {
     assert_eq!(rt; sink.written(), text.as_bytes());
     Ok(())
 }
+
+/// How a text was read: how many transactions, edges and parts it has, and how many flows.
+fn counts(read: &Result<CertText, TextFault>) -> Result<(usize, usize, usize, usize), TextFault> {
+    match read {
+        Ok(text) => {
+            let mut flows = 0usize;
+            for part in text.parts.as_slice() {
+                flows = flows.wrapping_add(part.flows.as_slice().len());
+            }
+            Ok((
+                text.graph.txs.as_slice().len(),
+                text.graph.edges.as_slice().len(),
+                text.parts.as_slice().len(),
+                flows,
+            ))
+        }
+        Err(fault) => Err(*fault),
+    }
+}
+
+#[test]
+fn a_certificate_text_is_read_exactly(rt: HostRuntime) -> Result<(), Fail> {
+    let texts: [(&str, Result<(usize, usize, usize, usize), TextFault>); 3] = [
+        (
+            "tx 1 100 200\ntx 2 900 200\nedge 1 2\nchunk 1000 400 1 2\nflow 2 1 160000\nend\n",
+            Ok((2, 1, 1, 1)),
+        ),
+        ("end", Ok((0, 0, 0, 0))),
+        ("", Err(TextFault::Syntax)),
+    ];
+    for (text, expected) in texts {
+        let read = read_certificate(rt.alloc(), text.as_bytes());
+        assert_eq!(rt; counts(&read), expected);
+    }
+    Ok(())
+}
