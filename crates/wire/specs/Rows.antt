@@ -13,13 +13,12 @@ use Rattle.wire.specs.declared.row.Kind.{Kind}
 use Rattle.wire.specs.declared.row.Kind.TheVariants as kinds
 use Rattle.wire.specs.Fields.{IsWide, IsAmount, IsBigFee}
 
--- the first word of each line
+-- the first word of each line but `end`
 abbrev pub kind_word : Kind → List ℕ
 kind_word kinds.Tx = codes "tx"
 kind_word kinds.Edge = codes "edge"
 kind_word kinds.Chunk = codes "chunk"
 kind_word kinds.Flow = codes "flow"
-kind_word kinds.End = codes "end"
 
 -- one name or more, with a space between them
 abbrev pub names_text : List ℕ → List ℕ
@@ -28,13 +27,16 @@ names_text ids = spaced (map decimal ids)
 abbrev pub AreNames : List ℕ → Type 0
 AreNames ids = (ids ≢ []) × All IsWide ids
 
--- the one spelling of a line
+-- the words of a line, and its one spelling
+abbrev pub row_words : Row → List (List ℕ)
+row_words (rows.Tx id fee size) = codes "tx" ∷ decimal id ∷ signed_decimal fee ∷ decimal size ∷ []
+row_words (rows.Edge parent child) = codes "edge" ∷ decimal parent ∷ decimal child ∷ []
+row_words (rows.Chunk rate ids) = codes "chunk" ∷ signed_decimal rate.fee ∷ decimal rate.size ∷ map decimal ids
+row_words (rows.Flow flow) = codes "flow" ∷ decimal flow.child ∷ decimal flow.parent ∷ decimal flow.amount ∷ []
+row_words rows.End = codes "end" ∷ []
+
 abbrev pub row_line : Row → List ℕ
-row_line (rows.Tx id fee size) = spaced (codes "tx" ∷ decimal id ∷ signed_decimal fee ∷ decimal size ∷ [])
-row_line (rows.Edge parent child) = spaced (codes "edge" ∷ decimal parent ∷ decimal child ∷ [])
-row_line (rows.Chunk rate ids) = spaced (codes "chunk" ∷ signed_decimal rate.fee ∷ decimal rate.size ∷ map decimal ids)
-row_line (rows.Flow flow) = spaced (codes "flow" ∷ decimal flow.child ∷ decimal flow.parent ∷ decimal flow.amount ∷ [])
-row_line rows.End = codes "end"
+row_line row = spaced (row_words row)
 
 -- a line's numbers are of their types
 abbrev pub HasRowTypes : Row → Type 0

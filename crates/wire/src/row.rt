@@ -1,7 +1,6 @@
-ghost use Rattle.std.specs.Prelude.{◌≡◌, ◌≢◌, ◌≤◌, ◌^◌, ◌∷◌, ◌++◌, [], codes, decimal, unsigned_abs, MatchResult};
+ghost use Rattle.std.specs.Prelude.{◌≡◌, ◌∷◌, ◌++◌, codes, decimal, IsTrue, ◌↔◌};
 ghost use Rattle.std.specs.Fmt.{signed_decimal};
-ghost use Rattle.graph_model.specs.Commands.{spaced};
-ghost use Rattle.wire.specs.Fields.{IsOneWord, ReadsAs, IsWide, IsAmount, Always, pair_spelling, BothFit};
+ghost use Rattle.wire.specs.Fields.{IsOneWord, ReadsAs, IsWide, IsAmount, IsBigFee, Always, pair_spelling, BothFit};
 ghost use Rattle.wire.specs.Rows.{row_line, HasRowTypes, names_text, AreNames, Gives, AddsName, kind_word};
 
 use crate::TextFault;
@@ -34,7 +33,6 @@ pub(crate) enum Kind {
     Edge,
     Chunk,
     Flow,
-    End,
 }
 
 /// The kind of line whose first word this is.
@@ -46,7 +44,6 @@ fn kind_of(word: &[u8]) -> Option<Kind>
         b"edge" => Some(Kind::Edge),
         b"chunk" => Some(Kind::Chunk),
         b"flow" => Some(Kind::Flow),
-        b"end" => Some(Kind::End),
         _ => None,
     }
 }
@@ -66,9 +63,20 @@ fn read_word(word: &[u8]) -> Result<Row, TextFault>
     requires { IsOneWord word.now }
     ensures { Gives row_line HasRowTypes word.now result }
 {
-    match kind_of(word) {
-        Some(Kind::End) => Ok(Row::End),
-        _ => Err(TextFault::Syntax),
+    if is_end(word) {
+        Ok(Row::End)
+    } else {
+        Err(TextFault::Syntax)
+    }
+}
+
+/// Whether a word is `end`.
+fn is_end(word: &[u8]) -> bool
+    ensures { IsTrue result ↔ word.now ≡ codes "end" }
+{
+    match word {
+        b"end" => true,
+        _ => false,
     }
 }
 
@@ -92,7 +100,6 @@ fn read_fields(alloc: Global, kind: Kind, rest: &[u8]) -> Result<Row, TextFault>
         Kind::Edge => edge(rest),
         Kind::Chunk => chunk(alloc, rest),
         Kind::Flow => flow(rest),
-        Kind::End => Err(TextFault::Syntax),
     }
 }
 
@@ -165,7 +172,7 @@ fn chunk(alloc: Global, rest: &[u8]) -> Result<Row, TextFault>
 
 /// A chunk of this fee, by `SIZE ID ..`.
 fn chunk_of_fee(alloc: Global, fee: i128, rest: &[u8]) -> Result<Row, TextFault>
-    requires { unsigned_abs fee ≤ 10 ^ 30 }
+    requires { IsBigFee fee }
     ensures { Gives row_line HasRowTypes (kind_word Kind.Chunk ++ 32 ∷ (signed_decimal fee ++ 32 ∷ rest.now)) result }
 {
     match split_at_byte(rest, b' ') {
@@ -179,7 +186,7 @@ fn chunk_of_fee(alloc: Global, fee: i128, rest: &[u8]) -> Result<Row, TextFault>
 
 /// A chunk of this fee and size, by `ID ..`.
 fn chunk_of_rate(alloc: Global, rate: Sum, rest: &[u8]) -> Result<Row, TextFault>
-    requires fee { unsigned_abs rate.fee ≤ 10 ^ 30 }
+    requires fee { IsBigFee rate.fee }
     requires size { IsWide rate.size }
     ensures { Gives row_line HasRowTypes (kind_word Kind.Chunk ++ 32 ∷ (signed_decimal rate.fee ++ 32 ∷ (decimal rate.size ++ 32 ∷ rest.now))) result }
 {
