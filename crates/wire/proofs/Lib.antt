@@ -4,3 +4,7 @@ pub mod BigLemmas
 pub mod FormLemmas
 pub mod RowLemmas
 pub mod ChunkLemmas
+pub mod StageLemmas
+pub mod DraftLemmas
+pub mod TextLemmas
+pub mod LineLemmas

@@ -33,7 +33,7 @@ open_part part = record { rate = part.rate; ids = part.ids; flows = part.flows.i
 abbrev pub written : Draft → List Row
 written (drafts.Graph txs edges) = map tx_row txs.items ++ map edge_row edges.items
 written (drafts.Parts graph parts last) =
-    map tx_row graph.txs ++ map edge_row graph.edges ++ flat_map part_rows (map part_of parts.items) ++ part_rows (open_part last)
+    map tx_row graph.txs ++ (map edge_row graph.edges ++ (flat_map part_rows (map part_of parts.items) ++ part_rows (open_part last)))
 written (drafts.Ended text) = rows_of (text_of text)
 
 -- one more line came, unless no text has it after these lines or there was no memory
@@ -60,7 +60,7 @@ abbrev pub TakesLine : List Row → List ℕ → Result Draft TextFault → Type
 TakesLine old line (Ok draft) =
     (length line ≤ max_line) × (rows : List Row) × All HasRowTypes rows × (told (line ∷ []) ≡ map row_line rows) × (written draft ≡ old ++ rows)
 TakesLine old line (Err faults.Syntax) =
-    (text : Text) (more : List (List ℕ)) → HasTextTypes text → length line ≤ max_line → text_lines text ≡ map row_line old ++ told (line ∷ []) ++ more → ⊥
+    (text : Text) (more : List (List ℕ)) → HasTextTypes text → length line ≤ max_line → text_lines text ≡ map row_line old ++ (told (line ∷ []) ++ more) → ⊥
 TakesLine old line (Err faults.Memory) = Unit {0}
 
 -- the parts between line feeds, the last one too where it is empty

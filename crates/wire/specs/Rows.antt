@@ -57,7 +57,7 @@ part_rows part = rows.Chunk part.rate part.ids ∷ map (λ flow. rows.Flow flow)
 
 -- the lines of a whole text
 abbrev pub rows_of : Text → List Row
-rows_of text = map tx_row text.txs ++ map edge_row text.edges ++ flat_map part_rows text.parts ++ rows.End ∷ []
+rows_of text = map tx_row text.txs ++ (map edge_row text.edges ++ (flat_map part_rows text.parts ++ rows.End ∷ []))
 
 -- Reading a text, which takes memory: what is found is spelled so, and it is no value's spelling where the syntax is at fault.
 abbrev pub Gives : {V : Type 0} → (V → List ℕ) → (V → Type 0) → List ℕ → Result V TextFault → Type 0

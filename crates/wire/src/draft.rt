@@ -1,4 +1,5 @@
-ghost use Rattle.std.specs.Prelude.{◌≡◌};
+ghost use Rattle.std.specs.Prelude.{◌≡◌, [], map};
+ghost use Rattle.wire.specs.Rows.{tx_row, rows_of};
 ghost use Rattle.wire.specs.Drafts.{part_of, open_part, written, Continues, Finishes};
 
 use crate::TextFault;
@@ -72,8 +73,9 @@ impl Draft {
         ensures { Finishes (written self) result }
     {
         match self {
+            Draft::Graph(_, _) => Err(TextFault::Syntax),
+            Draft::Parts(_, _, _) => Err(TextFault::Syntax),
             Draft::Ended(text) => Ok(text),
-            _ => Err(TextFault::Syntax),
         }
     }
 }
@@ -141,7 +143,8 @@ fn after_part(
             parts.push(last.closed())?;
             Ok(ended(graph, parts))
         }
-        _ => Err(TextFault::Syntax),
+        Row::Tx(_, _, _) => Err(TextFault::Syntax),
+        Row::Edge(_, _) => Err(TextFault::Syntax),
     }
 }
 

@@ -1,5 +1,5 @@
 ghost use Rattle.std.specs.Prelude.{◌≡◌, ◌≤◌, ◌<◌, ◌^◌, ℕ, List, length, All, IfOk, IsErrOf};
-ghost use Rattle.graph_model.specs.Lines.{Cut, with_last, max_input};
+ghost use Rattle.graph_model.specs.Lines.{Cut, with_last, max_input, is_quiet};
 ghost use Rattle.graph_model.specs.Texts.{Text, IsText};
 ghost use Rattle.wire.specs.declared.fault.TextFault.TheVariants.{Syntax};
 ghost use Rattle.wire.specs.Rows.{HasRowTypes};
@@ -48,9 +48,19 @@ fn take_line(alloc: Global, draft: Draft, line: &[u8]) -> Result<Draft, TextFaul
         return Err(TextFault::Syntax);
     }
     let text = trimmed(line);
+    if says_nothing(text) {
+        return Ok(draft);
+    }
+    take_text(alloc, draft, text)
+}
+
+/// Whether a line is empty or a comment.
+fn says_nothing(text: &[u8]) -> bool
+    ensures { result ≡ is_quiet text.now }
+{
     match text {
-        [] | [b'#', ..] => Ok(draft),
-        _ => take_text(alloc, draft, text),
+        [] | [b'#', ..] => true,
+        _ => false,
     }
 }
 
