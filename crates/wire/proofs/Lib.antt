@@ -8,3 +8,5 @@ pub mod StageLemmas
 pub mod DraftLemmas
 pub mod TextLemmas
 pub mod LineLemmas
+pub mod AmountLemmas
+pub mod CertificateLemmas
