@@ -1,5 +1,5 @@
 -- What is read of bytes is what any cut of them says.
-use Rattle.std.proofs.Common.{◌≡◌, ℕ, ◌<◌, ◌≤◌, ◌^◌, List, [], ◌∷◌, ◌++◌, sym, ap, ◌∙◌, subst, length, Result, Ok, Err}
+use Rattle.std.proofs.Common.{ℕ, ◌<◌, ◌≤◌, ◌^◌, List, sym, subst, length, Result, Ok, Err}
 use Rattle.std.specs.Prelude.{IfOk, IsErrOf}
 use Rattle.graph_model.specs.Lines.{Cut, with_last, max_input}
 use Rattle.graph_model.specs.Texts.{Text, IsText}
