@@ -3,3 +3,5 @@ mod Kept
 mod Single
 mod Lists
 mod Listings
+mod Parts
+mod Splits

@@ -200,8 +200,8 @@ fn part<const W: usize>(
     chosen: Bits<W>,
 ) -> Result<Record<W>, NoMemory>
     requires named { IsNamed (64 * W) names.now dep.now }
-    requires within { IsWithin (length names.now) chosen.entry }
-    requires whole { (p q : ℕ) → set.contains chosen.entry p ≡ true → set.contains chosen.entry q ≡ true → Walk (IsNear dep.now chosen.entry) p q }
+    requires within { IsWithin (length names.now) chosen }
+    requires whole { (p q : ℕ) → set.contains chosen p ≡ true → set.contains chosen q ≡ true → Walk (IsNear dep.now chosen) p q }
     ensures part { IfOk result (IsPartOf (record { names = names.now; graph = named names.now dep.now }) chosen.entry) }
     ensures whole { IfOk result (IsCluster (64 * W)) }
 {
