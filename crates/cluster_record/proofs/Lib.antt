@@ -4,4 +4,6 @@ mod Single
 mod Lists
 mod Listings
 mod Parts
+mod Walks
+mod Joined
 mod Splits
