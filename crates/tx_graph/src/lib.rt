@@ -1,13 +1,13 @@
-// A library with one function.
+//! The transaction graph by clusters.
+//!
+//! A [`TxGraph<W>`] finds a name's cluster by an index and changes that cluster alone. It stands for the states of the
+//! machine that `graph_model` defines, and each call is a step of it.
 #![tactic(auto)]
 
-ghost use Rattle.std.specs.Prelude.{◌≡◌};
-ghost use Rattle.tx_graph.specs.Echo.{echo_of};
+mod clusters;
+mod graph;
 
-// The `ensures` clause is the contract: what `echo` returns is `echo_of` of its argument, a definition
-// in `specs/Echo.antt`, which a caller's clause can cite too.
-pub fn echo(x: usize) -> usize
-    ensures { result ≡ echo_of x }
-{
-    x
-}
+pub use graph::TxGraph;
+
+#[cfg(test)]
+mod tests;

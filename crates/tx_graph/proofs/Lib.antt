@@ -1,0 +1,3 @@
+mod Graphs
+mod Loose
+mod Settling

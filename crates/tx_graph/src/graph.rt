@@ -1,0 +1,4 @@
+/// Placeholder.
+pub struct TxGraph<const W: usize> {
+    limits: u64,
+}
