@@ -1,7 +1,7 @@
 -- The graph of the clusters on a shelf.
 use Rattle.std.proofs.Common.{◌≡◌, ◌≢◌, ℕ, ◌+◌, ◌<◌, Bool, true, false, cond, nat_eq, List, [], ◌∷◌, map, length, slice_index, Contains, Option, Some, None, is_some, IsSome, inl, inr, ◌⊎◌, ◌↔◌, refl, sym, ap, ◌∙◌, subst, eqb-true, true≢false}
 use Rattle.std.proofs.lemmas.Bool.{false_from_ne_true}
-use Rattle.std.proofs.lemmas.List.{get_or_default}
+use Rattle.std.proofs.lemmas.List.{get_or_default, get_or_past}
 use Rattle.std.specs.Ordering.{nat_cmp, eq_by_cmp}
 use Rattle.std.specs.Cmp.{nat_cmp_total, unsigned_tied}
 use Rattle.std.specs.FinSet as set
@@ -9,6 +9,9 @@ use Rattle.std.specs.FinMap as finmap
 use Rattle.dep_graph.specs.Graph.{Node, Graph, is_member, is_ancestor, ancestors_of, ancestors_in, rate_of, rate_in, no_rate, IsOrder}
 use Rattle.cluster_record.specs.Clusters.{Cluster, IsCluster}
 use Rattle.name_book.specs.declared.spot.Spot.{Spot}
+use Rattle.name_book.specs.Books.{Spots, Book}
+use Rattle.std.proofs.lemmas.Option.{none-some}
+use Rattle.std.proofs.Common.{arith}
 use Rattle.tx_graph.specs.Shelves.{Shelf, cluster_at, node_in, graph_of, HasAt, StandsAt, IsIndexed}
 
 -- ---- one name
@@ -47,11 +50,11 @@ get-at : (shelf : Shelf) (q : ℕ) (spot : Spot) (c : Cluster) → finmap.get sh
 unfolding seen
 get-at shelf q spot c at is = get-graph shelf q ∙ ap (seen shelf.slots q) at ∙ ap (λ o. Some (node_in o q)) is
 
-rate-at : (shelf : Shelf) (q : ℕ) (spot : Spot) (c : Cluster) → finmap.get shelf.spots q ≡ Some spot → cluster_at shelf.slots spot.record ≡ Some c → rate_of (graph_of shelf) q ≡ rate_of c.graph q
+pub rate-at : (shelf : Shelf) (q : ℕ) (spot : Spot) (c : Cluster) → finmap.get shelf.spots q ≡ Some spot → cluster_at shelf.slots spot.record ≡ Some c → rate_of (graph_of shelf) q ≡ rate_of c.graph q
 unfolding rate_of
 rate-at shelf q spot c at is = ap rate_in (get-at shelf q spot c at is)
 
-above-at : (shelf : Shelf) (a q : ℕ) (spot : Spot) (c : Cluster) → finmap.get shelf.spots q ≡ Some spot → cluster_at shelf.slots spot.record ≡ Some c → is_ancestor (graph_of shelf) a q ≡ is_ancestor c.graph a q
+pub above-at : (shelf : Shelf) (a q : ℕ) (spot : Spot) (c : Cluster) → finmap.get shelf.spots q ≡ Some spot → cluster_at shelf.slots spot.record ≡ Some c → is_ancestor (graph_of shelf) a q ≡ is_ancestor c.graph a q
 unfolding ancestors_of
 above-at shelf a q spot c at is = ap (λ o. set.contains (ancestors_in o) a) (get-at shelf q spot c at is)
 
@@ -59,11 +62,11 @@ get-none : (shelf : Shelf) (q : ℕ) → finmap.get shelf.spots q ≡ None → f
 unfolding seen
 get-none shelf q none = get-graph shelf q ∙ ap (seen shelf.slots q) none
 
-rate-none : (shelf : Shelf) (q : ℕ) → finmap.get shelf.spots q ≡ None → rate_of (graph_of shelf) q ≡ no_rate
+pub rate-none : (shelf : Shelf) (q : ℕ) → finmap.get shelf.spots q ≡ None → rate_of (graph_of shelf) q ≡ no_rate
 unfolding rate_of
 rate-none shelf q none = ap rate_in (get-none shelf q none)
 
-above-none : (shelf : Shelf) (a q : ℕ) → finmap.get shelf.spots q ≡ None → is_ancestor (graph_of shelf) a q ≡ false
+pub above-none : (shelf : Shelf) (a q : ℕ) → finmap.get shelf.spots q ≡ None → is_ancestor (graph_of shelf) a q ≡ false
 unfolding ancestors_of
 above-none shelf a q none = ap (λ o. set.contains (ancestors_in o) a) (get-none shelf q none) ∙ set.contains-empty nat_cmp a
 
@@ -78,7 +81,7 @@ contains_at c id here = (here.0, (here.1, get_or_default c.names here.0 0 id her
 pub at_contains : (c : Cluster) (place id : ℕ) → HasAt c place id → Contains c.names id
 at_contains c place id at = (place, at.0, get_or_default c.names place id 0 at.0 ∙ at.1)
 
-same_some : {A : Type 0} (x y : A) → Some x ≡ Some y → x ≡ y
+pub same_some : {A : Type 0} (x y : A) → Some x ≡ Some y → x ≡ y
 same_some x y e = cc
 
 -- a cluster of the shelf in which a is an ancestor of d
@@ -169,3 +172,21 @@ module _ (most : ℕ) (shelf : Shelf) (indexed : IsIndexed most shelf) where
         let cluster = indexed.whole at.key at.cluster at.there in
         cluster.order.antisymmetric a b at.above (above_from at.key b a at.cluster at.there (inl ends.1) down);
   }
+
+-- the same spots and the same clusters
+pub IsIndexed-same : (most : ℕ) (old : Shelf) (spots : Spots) (slots : List (Option Cluster)) (issued : ℕ) → IsIndexed most old → spots ≡ old.spots → slots ≡ old.slots → IsIndexed most (record { spots = spots; slots = slots; issued = issued })
+IsIndexed-same most old spots slots issued indexed same kept = record {
+  stands = λ id spot is. subst (λ xs. StandsAt xs spot id) (sym kept) (indexed.stands id spot (ap (λ m. finmap.get m id) (sym same) ∙ is));
+  listed = λ key place id c is at. ap (λ m. finmap.get m id) same ∙ indexed.listed key place id c (ap (λ xs. cluster_at xs key) (sym kept) ∙ is) at;
+  whole = λ key c is. indexed.whole key c (ap (λ xs. cluster_at xs key) (sym kept) ∙ is);
+}
+
+pub IsIndexed-empty : (most : ℕ) (book : Book) (slots : List (Option Cluster)) (issued : ℕ) → book ≡ record { spots = finmap.empty; spare = 0; issued = 0 } → slots ≡ [] → IsIndexed most (record { spots = book.spots; slots = slots; issued = issued })
+IsIndexed-empty most book slots issued none empty = record {
+  stands = λ id spot is. absurd (none-some spot (sym (ap (λ (b : Book). finmap.get b.spots id) none ∙ finmap.get-empty nat_cmp id) ∙ is));
+  listed = λ key place id c is at. absurd (none-some c (sym (nothing key) ∙ is));
+  whole = λ key c is. absurd (none-some c (sym (nothing key) ∙ is));
+}
+  where
+    nothing : (key : ℕ) → cluster_at slots key ≡ None
+    nothing key = ap (λ xs. cluster_at xs key) empty ∙ get_or_past [] key None (omega arith)

@@ -1,3 +1,6 @@
 mod Graphs
 mod Loose
 mod Settling
+mod Added
+mod Slots
+mod Joined

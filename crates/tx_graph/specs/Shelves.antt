@@ -1,5 +1,5 @@
 -- The clusters of a graph, each under a number, and where each name stands.
-use Rattle.std.specs.Prelude.{◌≡◌, ℕ, ◌<◌, List, map, length, slice_index, slice_index_or, Option, None, Some, refl}
+use Rattle.std.specs.Prelude.{◌≡◌, ℕ, ◌*◌, ◌<◌, ◌≤◌, List, map, length, slice_index, slice_index_or, Option, None, Some, refl}
 use Rattle.std.specs.Coded.{Coded, code_by, coded×, coded_ℕ, coded_list, coded_option}
 use Rattle.std.specs.FinMap as finmap
 use Rattle.std.specs.FinSet as set
@@ -47,3 +47,9 @@ pub record IsIndexed (most : ℕ) (shelf : Shelf) : Type 0 where
   pub stands : (id : ℕ) (spot : Spot) → finmap.get shelf.spots id ≡ Some spot → StandsAt shelf.slots spot id
   pub listed : (key place id : ℕ) (c : Cluster) → cluster_at shelf.slots key ≡ Some c → HasAt c place id → finmap.get shelf.spots id ≡ Some (record { «record» = key; place = place })
   pub whole : (key : ℕ) (c : Cluster) → cluster_at shelf.slots key ≡ Some c → IsCluster most c
+
+-- What holds of every shelf for clusters of w words: a set of places has one word or two, and the spots are right.
+pub record IsInOrder (w : ℕ) (shelf : Shelf) : Type 0 where
+  pub wide : 1 ≤ w
+  pub narrow : w ≤ 2
+  pub indexed : IsIndexed (64 * w) shelf

@@ -6,7 +6,7 @@ ghost use Rattle.slab.specs.Slab.{get, HasRoomFor, slab_len};
 ghost use Rattle.dep_graph.specs.Graph.{is_ancestor, AddsPair, SetsFee, DropsPlace};
 ghost use Rattle.cluster_record.specs.Clusters.{Cluster, IsCluster, AreOnce};
 ghost use Rattle.tx_graph.specs.Kept.{AddsName};
-ghost use Rattle.tx_graph.specs.Shelves.{graph_of, cluster_at, HasAt, IsIndexed};
+ghost use Rattle.tx_graph.specs.Shelves.{graph_of, cluster_at, HasAt, IsIndexed, IsInOrder};
 ghost use Rattle.tx_graph.specs.Moves.{Settles, Stores, IsLoose, IsShelved};
 
 use cluster_record::Record;
@@ -26,8 +26,7 @@ pub struct Clusters<const W: usize> {
 }
 
 impl<const W: usize> Model for Clusters<W> {
-    ghost use Rattle.std.specs.Prelude.{◌*◌};
-    ghost use Rattle.tx_graph.specs.Shelves.{Shelf, shelf_code, IsIndexed};
+    ghost use Rattle.tx_graph.specs.Shelves.{Shelf, shelf_code, IsInOrder};
 
     ghost Value = { Shelf };
 
@@ -35,12 +34,14 @@ impl<const W: usize> Model for Clusters<W> {
 
     ghost view = { λ a. record { spots = a.book.spots; slots = a.records.slots; issued = a.book.issued } };
 
-    ghost invariant = { λ a. IsIndexed (64 * W) (record { spots = a.book.spots; slots = a.records.slots; issued = a.book.issued }) };
+    ghost invariant = { λ a. IsInOrder W (record { spots = a.book.spots; slots = a.records.slots; issued = a.book.issued }) };
 }
 
 impl<const W: usize> Clusters<W> {
     /// No cluster and no name. Takes no memory.
     pub fn new(alloc: Global) -> Self
+        requires wide { 1 ≤ W }
+        requires narrow { W ≤ 2 }
         ensures { result ≡ record { spots = finmap.empty; slots = []; issued = 0 } }
     {
         Clusters {
@@ -60,7 +61,7 @@ impl<const W: usize> Clusters<W> {
     /// Where a name stands, or `None` where it isn't live.
     pub fn spot(&self, id: TxId) -> Option<Spot>
         ensures spot { result ≡ finmap.get self.now.spots id }
-        ensures indexed { IsIndexed (64 * W) self.now }
+        ensures order { IsInOrder W self.now }
     {
         let _records = &self.records;
         self.book.get(id)
@@ -81,7 +82,6 @@ impl<const W: usize> Clusters<W> {
     /// Makes a cluster of a name that isn't live, with its fee in satoshis and its size in virtual bytes. Without memory
     /// all stays as it was.
     pub fn add(&mut self, id: TxId, fee: i64, size: u64) -> Result<(), NoMemory>
-        requires wide { 1 ≤ W }
         requires absent { finmap.get self.old.spots id ≡ None }
         requires few { finmap.len self.old.spots + 1 ≤ 2 ^ 32 - 1 }
         requires small { size ≤ 4000000 }
@@ -90,9 +90,9 @@ impl<const W: usize> Clusters<W> {
         ensures issued { OnOk result (self.new.issued ≡ self.old.issued + 1) }
         ensures err { OnErr result (self.new ≡ self.old) }
     {
-        let record = Record::single(self.alloc, id, fee, size)?;
         self.records.reserve(1)?;
         self.book.reserve(1)?;
+        let record = Record::single(self.alloc, id, fee, size)?;
         let key = self.records.insert_reserved(record);
         let spot = Spot {
             record: key,
