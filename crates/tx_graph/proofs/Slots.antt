@@ -1,7 +1,7 @@
 -- A cluster written under its number.
 use Rattle.std.proofs.Common.{◌≡◌, ◌≢◌, ℕ, ◌<◌, ◌≤◌, List, length, set, slice_index, Contains, Option, Some, None, inl, inr, refl, sym, ap, ◌∙◌, subst, arith}
 use Rattle.std.proofs.lemmas.Bool.{cases_lt, false_from_ne_true}
-use Rattle.std.proofs.Common.{true, false, true≢false}
+use Rattle.std.proofs.Common.{true, false, true≢false, OnSome, IsSome, is_some}
 use Rattle.std.proofs.lemmas.Option.{none-some}
 use Rattle.std.proofs.lemmas.List.{get_or-set_same, get_or-set_other, get_or_past}
 use Rattle.std.specs.FinMap as finmap
@@ -34,3 +34,10 @@ is_there most shelf spot id indexed is none = let at = indexed.stands id spot is
 -- what the graph denies of two names, their cluster denies
 pub not_in_cluster : (most : ℕ) (shelf : Shelf) (key a d : ℕ) (c : Cluster) → IsIndexed most shelf → cluster_at shelf.slots key ≡ Some c → is_ancestor (graph_of shelf) a d ≡ false → is_ancestor c.graph a d ≡ false
 not_in_cluster most shelf key a d c indexed is denied = false_from_ne_true (is_ancestor c.graph a d) (λ up. true≢false (sym (above_in most shelf indexed key a d c is up) ∙ denied))
+
+pub on_some : {X : Type 0} {P : Type 0} (r : Option X) (x : X) → r ≡ Some x → OnSome r P → P
+on_some None x is holds = absurd (none-some x is)
+on_some (Some y) x is holds = holds
+
+pub some_there : (most : ℕ) (shelf : Shelf) (spot : Spot) (id : ℕ) → IsIndexed most shelf → finmap.get shelf.spots id ≡ Some spot → IsSome (cluster_at shelf.slots spot.record)
+some_there most shelf spot id indexed is = ap is_some (indexed.stands id spot is).there

@@ -73,10 +73,7 @@ impl<const W: usize> Clusters<W> {
         ensures { cluster_at self.now.slots spot.record ≡ Some result.now }
     {
         let _book = &self.book;
-        match self.records.get(spot.record) {
-            Some(record) => record,
-            None => unreachable!(),
-        }
+        at(&self.records, spot.record)
     }
 
     /// Makes a cluster of a name that isn't live, with its fee in satoshis and its size in virtual bytes. Without memory
@@ -142,12 +139,11 @@ impl<const W: usize> Clusters<W> {
         ensures issued { self.new.issued ≡ self.old.issued }
         ensures err { OnErr result (self.new ≡ self.old) }
     {
-        let (Some(above), Some(below)) = (self.records.get(parent.record), self.records.get(child.record)) else {
-            unreachable!()
-        };
+        let above = at(&self.records, parent.record);
+        let below = at(&self.records, child.record);
         let joined = above.joined(self.alloc, below, parent.place, child.place)?;
-        self.records.try_remove(parent.record);
-        self.records.try_remove(child.record);
+        take_out(&mut self.records, parent.record);
+        take_out(&mut self.records, child.record);
         store(&mut self.records, &mut self.book, joined);
         Ok(())
     }
@@ -160,15 +156,38 @@ impl<const W: usize> Clusters<W> {
         ensures issued { self.new.issued ≡ self.old.issued }
         ensures err { OnErr result (self.new ≡ self.old) }
     {
-        let parts = match self.records.get(spot.record) {
-            Some(record) => record.without(self.alloc, spot.place)?,
-            None => unreachable!(),
-        };
+        let parts = at(&self.records, spot.record).without(self.alloc, spot.place)?;
         self.records.reserve(parts.len())?;
-        self.records.try_remove(spot.record);
+        take_out(&mut self.records, spot.record);
         self.book.remove(id);
         store_all(&mut self.records, &mut self.book, parts);
         Ok(())
+    }
+}
+
+// The cluster under a number that has one.
+fn at<const W: usize>(records: &Slab<Record<W>>, key: usize) -> &Record<W>
+    requires { IsSome (get records.now key) }
+    ensures { get records.now key ≡ Some result.now }
+{
+    match records.get(key) {
+        Some(record) => record,
+        None => unreachable!(),
+    }
+}
+
+// Drops the cluster under a number that has one.
+fn take_out<const W: usize>(records: &mut Slab<Record<W>>, key: usize)
+    requires { IsSome (get records.old key) }
+    ensures gone { get records.new key ≡ None }
+    ensures others { (other : ℕ) → other ≢ key → get records.new other ≡ get records.old other }
+    ensures len { slab_len records.new + 1 ≡ slab_len records.old }
+    ensures capacity { records.new.capacity ≡ records.old.capacity }
+    ensures room { HasRoomFor records.new 1 }
+{
+    match records.try_remove(key) {
+        Some(_) => {}
+        None => unreachable!(),
     }
 }
 
