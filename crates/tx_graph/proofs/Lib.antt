@@ -4,3 +4,8 @@ mod Settling
 mod Added
 mod Slots
 mod Joined
+mod Standing
+mod Links
+mod Rows
+mod Lens
+mod Stepping
