@@ -77,7 +77,8 @@ impl<const W: usize> Record<W> {
     /// The total size of its names, in virtual bytes.
     pub fn size(&self) -> u64
         requires { length self.now.names ≤ 1048576 }
-        ensures { result ≡ sum_by (λ id. (rate_of self.now.graph id).size) self.now.names }
+        ensures sum { result ≡ sum_by (λ id. (rate_of self.now.graph id).size) self.now.names }
+        ensures small { result ≤ 4000000 * length self.now.names }
     {
         let mut total = 0;
         for place in 0..self.names.len() {

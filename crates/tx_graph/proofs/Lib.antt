@@ -9,3 +9,5 @@ mod Links
 mod Rows
 mod Lens
 mod Stepping
+mod Arranged
+mod Pairs

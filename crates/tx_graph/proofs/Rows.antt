@@ -25,7 +25,7 @@ first_map cause cause' why later later' found same more row = elim row [
   | inr on ↦ inr (λ holds. on.0 (same.1 holds), more on.1)
 ]
 
-first_at_map : (cause cause' : ℕ → Type 0) (why : ℕ → Refusal) (later later' : Option Refusal → Type 0) (found : Option Refusal) → ((n : ℕ) → cause n ↔ cause' n) → (later found → later' found) → FirstAt cause why later found → FirstAt cause' why later' found
+pub first_at_map : (cause cause' : ℕ → Type 0) (why : ℕ → Refusal) (later later' : Option Refusal → Type 0) (found : Option Refusal) → ((n : ℕ) → cause n ↔ cause' n) → (later found → later' found) → FirstAt cause why later found → FirstAt cause' why later' found
 first_at_map cause cause' why later later' found same more row = elim row [
   | inl here ↦ inl (here.0, (same here.0).0 here.1, here.2)
   | inr on ↦ inr (λ n holds. on.0 n ((same n).1 holds), more on.1)

@@ -14,7 +14,7 @@ use Rattle.graph_model.specs.Refusals.{RefusalIs}
 use Rattle.graph_model.specs.Replies.{Reply, Refused, Done}
 use Rattle.graph_model.specs.Steps.{Step, Accepts, MayLackMemory}
 use Rattle.dep_graph.specs.Graph.{Node, Graph, is_member, is_ancestor}
-use Rattle.tx_graph.specs.Kept.{Kept, StandsFor, Steps, entry_of}
+use Rattle.tx_graph.specs.Kept.{Kept, StandsFor, MakesStep, entry_of}
 
 -- a state with this table and this main graph
 abbrev pub state_of : Kept → Table → LevelState → State
@@ -50,16 +50,16 @@ stands_still old new same state stands = record {
   staging = stands.staging;
 }
 
-pub steps_refused : (old new : Kept) (command : Command) (why : Refusal) → IsSameGraph old new → ((state : State) → StandsFor old state → RefusalIs state command (Some why)) → Steps old new command (Refused why)
+pub steps_refused : (old new : Kept) (command : Command) (why : Refusal) → IsSameGraph old new → ((state : State) → StandsFor old state → RefusalIs state command (Some why)) → MakesStep old new command (Refused why)
 steps_refused old new command why same refused state stands =
     (state, stands_still old new same state stands, inl (record { why = why; first = refused state stands; told = refl; same = refl }))
 
-pub steps_without_memory : (old new : Kept) (command : Command) → IsSameGraph old new → MayLackMemory command → ((state : State) → StandsFor old state → RefusalIs state command None) → Steps old new command (Refused Memory)
+pub steps_without_memory : (old new : Kept) (command : Command) → IsSameGraph old new → MayLackMemory command → ((state : State) → StandsFor old state → RefusalIs state command None) → MakesStep old new command (Refused Memory)
 steps_without_memory old new command same may none state stands =
     (state, stands_still old new same state stands, inr (inl (record { none = none state stands; may = may; told = refl; same = refl })))
 
 pub steps_accepted : (old new : Kept) (command : Command) (reply : Reply) → ((state : State) → StandsFor old state → RefusalIs state command None)
-    → ((table : Table) (main : LevelState) → StandsFor old (state_of old table main) → (next : State) × StandsFor new next × Accepts (state_of old table main) command reply next) → Steps old new command reply
+    → ((table : Table) (main : LevelState) → StandsFor old (state_of old table main) → (next : State) × StandsFor new next × Accepts (state_of old table main) command reply next) → MakesStep old new command reply
 steps_accepted old new command reply none accepts state stands =
     let P : State → Type 0 = λ (state : State). (next : State) × StandsFor new next × Accepts state command reply next in
     let next : P state = of_states old P accepts state stands in

@@ -21,7 +21,7 @@ use Rattle.graph_model.proofs.WalkLemmas.{IsAncestor-trans}
 use Rattle.graph_model.proofs.ListLemmas.{Contains-head, Contains-later, Contains-cases, Lists-for}
 use Rattle.dep_graph.specs.Graph.{Node, Graph, is_member, is_ancestor, ancestors_of, ancestors_in, rate_of, rate_in, IsOrder, AddsPair, SetsFee, DropsPlace}
 use Rattle.cluster_record.specs.Clusters.{AreLinked}
-use Rattle.tx_graph.specs.Kept.{Kept, StandsFor, Steps, entry_of, AddsName}
+use Rattle.tx_graph.specs.Kept.{Kept, StandsFor, MakesStep, entry_of, AddsName}
 use Rattle.tx_graph.proofs.Standing.{state_of, steps_accepted, level-main}
 use Rattle.tx_graph.proofs.Links.{connected-linked}
 use Rattle.tx_graph.proofs.Rows.{size-of}
@@ -92,7 +92,7 @@ module _ (old new : Kept) (id : ℕ) (fee : ℤ) (size : ℕ) (limits : new.limi
     ],
   )
 
-  pub steps_added : ((state : State) → StandsFor old state → RefusalIs state (Add id fee size) None) → Steps old new (Add id fee size) Done
+  pub steps_added : ((state : State) → StandsFor old state → RefusalIs state (Add id fee size) None) → MakesStep old new (Add id fee size) Done
   steps_added none = steps_accepted old new (Add id fee size) Done none (λ table main stands. (
     added (state_of old table main) id fee size,
     record {
@@ -135,7 +135,7 @@ module _ (old new : Kept) (id : ℕ) (fee : ℤ) (limits : new.limits ≡ old.li
         ap (λ b. cond b (Some (record { fee = fee; size = size_of table id })) (finmap.get table q)) (ne_eqb q id other) ∙ stands.table q ∙ sym (same_entry old.graph new.graph q (sets.members q) (sets.rates q other))
   ]
 
-  pub steps_paid : ((state : State) → StandsFor old state → RefusalIs state (SetFee id fee) None) → Steps old new (SetFee id fee) Done
+  pub steps_paid : ((state : State) → StandsFor old state → RefusalIs state (SetFee id fee) None) → MakesStep old new (SetFee id fee) Done
   steps_paid none = steps_accepted old new (SetFee id fee) Done none (λ table main stands. (
     with_fee (state_of old table main) id fee,
     record {
@@ -266,7 +266,7 @@ module _ (with_pair : AncestorsWithPair) (no_cycle : StaysWithoutCycle) (old new
       inr (none, refl),
     )
 
-  pub steps_paired : ((state : State) → StandsFor old state → RefusalIs state (Dep parent child) None) → Steps old new (Dep parent child) Done
+  pub steps_paired : ((state : State) → StandsFor old state → RefusalIs state (Dep parent child) None) → MakesStep old new (Dep parent child) Done
   steps_paired none = steps_accepted old new (Dep parent child) Done none (λ table main stands.
       elim (decide_pair main.graph.pairs parent child) [
         | inl here ↦ let next = there_next table main stands here in (next.0, next.1, (refl, next.2))
@@ -298,7 +298,7 @@ module _ (can_go : NamesCanGo) (stays_graph : StaysGraph) (ancestors_without : A
       let two = and_parts (not (nat_eq b id)) (is_ancestor old.graph a b) one.1 in
       (λ same. true≢false (sym one.0 ∙ ap not (eq-eqb a id same)), λ same. true≢false (sym two.0 ∙ ap not (eq-eqb b id same)), two.1)
 
-  pub steps_removed : ((state : State) → StandsFor old state → RefusalIs state (Remove id) None) → Steps old new (Remove id) Done
+  pub steps_removed : ((state : State) → StandsFor old state → RefusalIs state (Remove id) None) → MakesStep old new (Remove id) Done
   steps_removed none = steps_accepted old new (Remove id) Done none (λ table main stands.
       let rest = can_go main.graph id stands.valid in
       let gone : Contains rest.0.names id → ⊥ = λ here. ((rest.1.names id).0 here).1 refl in
@@ -335,7 +335,7 @@ module _ (can_go : NamesCanGo) (stays_graph : StaysGraph) (ancestors_without : A
 
 -- ---- limits
 
-pub steps_limited : (old new : Kept) (set : Limits) → new.limits ≡ set → new.begun ≡ true → new.graph ≡ old.graph → ((state : State) → StandsFor old state → RefusalIs state (SetLimits set.count set.size set.total) None) → Steps old new (SetLimits set.count set.size set.total) Done
+pub steps_limited : (old new : Kept) (set : Limits) → new.limits ≡ set → new.begun ≡ true → new.graph ≡ old.graph → ((state : State) → StandsFor old state → RefusalIs state (SetLimits set.count set.size set.total) None) → MakesStep old new (SetLimits set.count set.size set.total) Done
 steps_limited old new set limits begins graph none = steps_accepted old new (SetLimits set.count set.size set.total) Done none (λ table main stands. (
   limited (state_of old table main) set,
   record {
@@ -352,7 +352,7 @@ steps_limited old new set limits begins graph none = steps_accepted old new (Set
 
 -- ---- readings
 
-pub steps_counted : (kept : Kept) (level : Level) (n : ℕ) → ((state : State) → StandsFor kept state → n ≡ length state.main.graph.names) → Steps kept kept (Count level) (Number n)
+pub steps_counted : (kept : Kept) (level : Level) (n : ℕ) → ((state : State) → StandsFor kept state → n ≡ length state.main.graph.names) → MakesStep kept kept (Count level) (Number n)
 steps_counted kept level n long = steps_accepted kept kept (Count level) (Number n) (λ state stands. refl) (λ table main stands. (
   state_of kept table main,
   stands,
@@ -363,7 +363,7 @@ pub len-live : (kept : Kept) (state : State) {X : Type 0} (m : finmap.FinMap nat
 len-live kept state m stands same = sym (len-names state.main.graph.names m stands.valid.names (λ q. subst (λ b. Contains state.main.graph.names q ↔ (b ≡ true)) (sym (same q)) (stands.names q)))
 
 module _ (kept : Kept) (level : Level) (id : ℕ) (ids : List ℕ) (order : IsOrder (is_member kept.graph) (is_ancestor kept.graph)) (live : is_member kept.graph id ≡ true) where
-  pub steps_clustered : ((state : State) → StandsFor kept state → RefusalIs state (Cluster id level) None) → Lists (λ q. AreLinked kept.graph id q) ids → Steps kept kept (Cluster id level) (Ids ids)
+  pub steps_clustered : ((state : State) → StandsFor kept state → RefusalIs state (Cluster id level) None) → Lists (λ q. AreLinked kept.graph id q) ids → MakesStep kept kept (Cluster id level) (Ids ids)
   steps_clustered none lists = steps_accepted kept kept (Cluster id level) (Ids ids) none (λ table main stands. (
     state_of kept table main,
     stands,
@@ -376,7 +376,7 @@ module _ (kept : Kept) (level : Level) (id : ℕ) (ids : List ℕ) (order : IsOr
     ),
   ))
 
-  pub steps_ascended : ((state : State) → StandsFor kept state → RefusalIs state (Ancestors id level) None) → Lists (λ q. is_ancestor kept.graph q id ≡ true) ids → Steps kept kept (Ancestors id level) (Ids ids)
+  pub steps_ascended : ((state : State) → StandsFor kept state → RefusalIs state (Ancestors id level) None) → Lists (λ q. is_ancestor kept.graph q id ≡ true) ids → MakesStep kept kept (Ancestors id level) (Ids ids)
   steps_ascended none lists = steps_accepted kept kept (Ancestors id level) (Ids ids) none (λ table main stands. (
     state_of kept table main,
     stands,
@@ -390,7 +390,7 @@ module _ (kept : Kept) (level : Level) (id : ℕ) (ids : List ℕ) (order : IsOr
     ),
   ))
 
-  pub steps_descended : ((state : State) → StandsFor kept state → RefusalIs state (Descendants id level) None) → Lists (λ q. is_ancestor kept.graph id q ≡ true) ids → Steps kept kept (Descendants id level) (Ids ids)
+  pub steps_descended : ((state : State) → StandsFor kept state → RefusalIs state (Descendants id level) None) → Lists (λ q. is_ancestor kept.graph id q ≡ true) ids → MakesStep kept kept (Descendants id level) (Ids ids)
   steps_descended none lists = steps_accepted kept kept (Descendants id level) (Ids ids) none (λ table main stands. (
     state_of kept table main,
     stands,

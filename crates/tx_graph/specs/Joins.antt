@@ -1,8 +1,9 @@
--- The refusals of a pair, told by the graph that is kept.
-use Rattle.std.specs.Prelude.{◌≡◌, ◌⊎◌, ℕ, ◌+◌, ◌<◌, true, List, length, sum_by, Option}
+-- The refusals of additions and of pairs, told by the graph that is kept.
+use Rattle.std.specs.Prelude.{◌≡◌, ◌⊎◌, ℕ, ℤ, ◌+◌, ◌<◌, ◌≤◌, true, List, length, sum_by, Option}
 use Rattle.graph_model.specs.declared.names.Limits.{Limits}
 use Rattle.graph_model.specs.declared.names.Refusal.{Refusal}
-use Rattle.graph_model.specs.declared.names.Refusal.TheVariants.{ClusterSize, Unknown, Cycle, Count}
+use Rattle.graph_model.specs.declared.names.Refusal.TheVariants.{Fee, Size, Taken, Full, ClusterSize, Unknown, Cycle, Count}
+use Rattle.graph_model.specs.Limits.{IsFee, IsSize}
 use Rattle.graph_model.specs.Graphs.{Lists}
 use Rattle.graph_model.specs.Refusals.{First, FirstAt, NoRefusal}
 use Rattle.dep_graph.specs.Graph.{Graph, is_member, is_ancestor, rate_of}
@@ -34,3 +35,12 @@ abbrev pub SumRefusalIs : Limits → ℕ → ℕ → Option Refusal → Type 0
 SumRefusalIs limits count size =
     FirstAt (λ n. (n ≡ count) × (limits.count < n)) Count
     (FirstAt (λ n. (n ≡ size) × (limits.size < n)) ClusterSize NoRefusal)
+
+-- the refusal that an addition meets where so many names are live
+abbrev pub AddRefusalIs : Limits → Graph → ℕ → ℕ → ℤ → ℕ → Option Refusal → Type 0
+AddRefusalIs limits graph live id fee size =
+    First (IsFee fee → ⊥) Fee
+    (First (IsSize size → ⊥) Size
+    (First (is_member graph id ≡ true) Taken
+    (First (limits.size < size) (ClusterSize size)
+    (First (limits.total ≤ live) Full NoRefusal))))

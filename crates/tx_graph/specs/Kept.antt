@@ -44,8 +44,8 @@ pub record StandsFor (kept : Kept) (state : State) : Type 0 where
   pub staging : state.staging ≡ None
 
 -- From every state that the graph stood for, the call is a step of the machine to one that it stands for now.
-abbrev pub Steps : Kept → Kept → Command → Reply → Type 0
-Steps old new command reply = (state : State) → StandsFor old state → (next : State) × StandsFor new next × Step state command reply next
+abbrev pub MakesStep : Kept → Kept → Command → Reply → Type 0
+MakesStep old new command reply = (state : State) → StandsFor old state → (next : State) × StandsFor new next × Step state command reply next
 
 -- the reply of a change, and of a reading of names
 abbrev pub change_reply : {T : Type 0} → Result T Refusal → Reply

@@ -1,16 +1,17 @@
-ghost use Rattle.std.specs.Prelude.{is_some, ◌↔◌, ◌≡◌, ◌≢◌, ℕ, ◌+◌, ◌-◌, ◌*◌, ◌^◌, ◌<◌, ◌≤◌, [], true, false, None, Some, length, slice_index, Contains, IsSome, All, IfOk, OnOk, OnErr};
+ghost use Rattle.std.specs.Prelude.{sum_by, MatchResult, is_some, ◌↔◌, ◌≡◌, ◌≢◌, ℕ, ◌+◌, ◌-◌, ◌*◌, ◌^◌, ◌<◌, ◌≤◌, [], true, false, None, Some, length, slice_index, Contains, IsSome, All, IfOk, OnOk, OnErr};
 ghost use Rattle.std.specs.Ordering.{nat_cmp};
 ghost use Rattle.std.specs.List.{AllPairs};
 ghost use Rattle.std.specs.FinMap as finmap;
 ghost use Rattle.slab.specs.Slab.{get, HasRoomFor, slab_len};
-ghost use Rattle.dep_graph.specs.Graph.{is_ancestor, AddsPair, SetsFee, DropsPlace};
+ghost use Rattle.dep_graph.specs.Graph.{is_member, rate_of, is_ancestor, AddsPair, SetsFee, DropsPlace};
 ghost use Rattle.cluster_record.specs.Clusters.{Cluster, IsCluster, AreOnce};
 ghost use Rattle.tx_graph.specs.Kept.{AddsName};
 ghost use Rattle.tx_graph.specs.Shelves.{graph_of, cluster_at, HasAt, IsIndexed, IsInOrder};
+ghost use Rattle.tx_graph.specs.Joins.{DepRefusalIs, SumRefusalIs};
 ghost use Rattle.tx_graph.specs.Moves.{Settles, Stores, IsLoose, IsShelved};
 
 use cluster_record::Record;
-use graph_model::TxId;
+use graph_model::{Limits, Refusal, TxId};
 use name_book::{NameBook, Spot};
 use outside::NoMemory;
 use slab::Slab;
@@ -58,10 +59,18 @@ impl<const W: usize> Clusters<W> {
         self.book.len()
     }
 
+    /// Whether a name is live.
+    pub fn is_live(&self, id: TxId) -> bool
+        ensures { result ≡ is_member (graph_of self.now) id }
+    {
+        self.book.get(id).is_some()
+    }
+
     /// Where a name stands, or `None` where it isn't live.
     pub fn spot(&self, id: TxId) -> Option<Spot>
         ensures spot { result ≡ finmap.get self.now.spots id }
         ensures order { IsInOrder W self.now }
+        ensures live { is_some result ≡ is_member (graph_of self.now) id }
     {
         let _records = &self.records;
         self.book.get(id)
@@ -148,6 +157,58 @@ impl<const W: usize> Clusters<W> {
         Ok(())
     }
 
+    /// Makes one name depend on another, of which it is no ancestor, in their cluster or in one of both. Without memory
+    /// all stays as it was.
+    pub fn connect(&mut self, parent: Spot, child: Spot) -> Result<(), NoMemory>
+        requires parent { (id : ℕ) × (finmap.get self.old.spots id ≡ Some parent) }
+        requires child { (id : ℕ) × (finmap.get self.old.spots id ≡ Some child) }
+        requires no_cycle { (p c : ℕ) → finmap.get self.old.spots p ≡ Some parent → finmap.get self.old.spots c ≡ Some child → is_ancestor (graph_of self.old) c p ≡ false }
+        requires few { parent.record ≢ child.record → (a b : Cluster) → cluster_at self.old.slots parent.record ≡ Some a → cluster_at self.old.slots child.record ≡ Some b → length a.names + length b.names ≤ 64 * W }
+        ensures graph { OnOk result ((p c : ℕ) → finmap.get self.old.spots p ≡ Some parent → finmap.get self.old.spots c ≡ Some child → AddsPair (graph_of self.old) (graph_of self.new) p c) }
+        ensures issued { self.new.issued ≡ self.old.issued }
+        ensures err { OnErr result (self.new ≡ self.old) }
+    {
+        if parent.record == child.record {
+            self.link(parent, child);
+            return Ok(());
+        }
+        self.join(parent, child)
+    }
+
+    /// Why `dep` is refused, other than for want of memory; or where both names stand.
+    pub fn refused_dep(
+        &self,
+        limits: &Limits,
+        parent: TxId,
+        child: TxId,
+    ) -> Result<(Spot, Spot), Refusal>
+        requires { limits.now.count ≤ 64 }
+        ensures row { MatchResult result (λ _. DepRefusalIs limits.now (graph_of self.now) parent child None) (λ why. DepRefusalIs limits.now (graph_of self.now) parent child (Some why)) }
+        ensures parent { IfOk result (λ spots. finmap.get self.now.spots parent ≡ Some spots.0) }
+        ensures child { IfOk result (λ spots. finmap.get self.now.spots child ≡ Some spots.1) }
+        ensures no_cycle { OnOk result (is_ancestor (graph_of self.now) child parent ≡ false) }
+        ensures few { IfOk result (λ spots. spots.0.record ≢ spots.1.record → (a b : Cluster) → cluster_at self.now.slots spots.0.record ≡ Some a → cluster_at self.now.slots spots.1.record ≡ Some b → length a.names + length b.names ≤ 64 * W) }
+    {
+        let Some(above) = self.spot(parent) else {
+            return Err(Refusal::Unknown(parent));
+        };
+        let Some(below) = self.spot(child) else {
+            return Err(Refusal::Unknown(child));
+        };
+        let _records = &self.records;
+        let first = self.record(above);
+        if above.record == below.record {
+            if first.reaches(below.place, above.place) {
+                return Err(Refusal::Cycle);
+            }
+            return Ok((above, below));
+        }
+        match refused_sum(limits, first, self.record(below)) {
+            Some(why) => Err(why),
+            None => Ok((above, below)),
+        }
+    }
+
     /// Drops the name at a spot. The others keep the ancestors that they had among them, and each component of those
     /// of its cluster that are left is a cluster then. Without memory all stays as it was.
     pub fn remove(&mut self, id: TxId, spot: Spot) -> Result<(), NoMemory>
@@ -163,6 +224,27 @@ impl<const W: usize> Clusters<W> {
         store_all(&mut self.records, &mut self.book, parts);
         Ok(())
     }
+}
+
+// Which limit two clusters break together.
+fn refused_sum<const W: usize>(
+    limits: &Limits,
+    first: &Record<W>,
+    second: &Record<W>,
+) -> Option<Refusal>
+    requires { limits.now.count ≤ 64 }
+    ensures row { SumRefusalIs limits.now (length first.now.names + length second.now.names) (sum_by (λ id. (rate_of first.now.graph id).size) first.now.names + sum_by (λ id. (rate_of second.now.graph id).size) second.now.names) result }
+    ensures few { result ≡ None → length first.now.names + length second.now.names ≤ limits.now.count }
+{
+    let count = (first.names().len() + second.names().len()) as u64;
+    if count > limits.count {
+        return Some(Refusal::Count(count));
+    }
+    let size = first.size() + second.size();
+    if size > limits.size {
+        return Some(Refusal::ClusterSize(size));
+    }
+    None
 }
 
 // The cluster under a number that has one.
