@@ -3,6 +3,7 @@ use Rattle.std.proofs.Common.{◌≡◌, ◌≢◌, ℕ, suc, zero, ◌+◌, ◌
 use Rattle.std.specs.Prelude.{Contains, sum_by}
 use Rattle.std.proofs.lemmas.List.{get_or_default}
 use Rattle.std.proofs.lemmas.List.Elements.{Contains-append_cases}
+use Rattle.std.proofs.lemmas.List.Sums.{sum_by-cons}
 use Rattle.std.specs.List.Sorted.{IsStrictlyIncreasing}
 use Rattle.graph_model.specs.Graphs.{AreDistinct}
 use Rattle.graph_model.proofs.ListLemmas.{Contains-head, Contains-later, Contains-cases}
@@ -84,24 +85,31 @@ unfolding Rises IsBelow
 rises_increasing [] rises k low = absurd (omega arith)
 rises_increasing (x ∷ []) rises k low = absurd (omega arith)
 rises_increasing (x ∷ y ∷ xs) rises zero low = rises.0
-rises_increasing (x ∷ y ∷ xs) rises (suc k) low = rises_increasing (y ∷ xs) rises.1 k (omega arith)
+rises_increasing (x ∷ y ∷ xs) rises (suc k) low =
+    let next : suc (suc k) ≡ suc k + 1 = omega arith in
+    let here : suc k ≡ k + 1 = omega arith in
+    let is : slice_index (x ∷ y ∷ xs) (suc k) < slice_index (x ∷ y ∷ xs) (suc (suc k)) = subst (λ n. slice_index (y ∷ xs) k < slice_index (y ∷ xs) n) (sym here) (rises_increasing (y ∷ xs) rises.1 k (omega arith)) in
+    subst (λ n. slice_index (x ∷ y ∷ xs) (suc k) < slice_index (x ∷ y ∷ xs) n) next is
 
 pub arranged_increasing : (xs : List ℕ) → AreDistinct xs → IsStrictlyIncreasing (arranged xs)
 arranged_increasing xs once = rises_increasing (arranged xs) (arranged_rises xs once)
 
 put_sum : (f : ℕ → ℕ) (x : ℕ) (ys : List ℕ) → sum_by f (put x ys) ≡ f x + sum_by f ys
 unfolding put
-put_sum f x [] = refl
+put_sum f x [] = sum_by-cons f x []
 put_sum f x (y ∷ ys) = cases (nat_lt x y) (put_sum f x ys)
   where
-    cases : (b : Bool) → sum_by f (put x ys) ≡ f x + sum_by f ys → sum_by f (cond b (x ∷ y ∷ ys) (y ∷ put x ys)) ≡ f x + (f y + sum_by f ys)
-    cases true rest = refl
-    cases false rest = omega arith
+    cases : (b : Bool) → sum_by f (put x ys) ≡ f x + sum_by f ys → sum_by f (cond b (x ∷ y ∷ ys) (y ∷ put x ys)) ≡ f x + sum_by f (y ∷ ys)
+    cases true rest = sum_by-cons f x (y ∷ ys)
+    cases false rest =
+        let inner : sum_by f (y ∷ ys) ≡ f y + sum_by f ys = sum_by-cons f y ys in
+        let outer : sum_by f (y ∷ put x ys) ≡ f y + sum_by f (put x ys) = sum_by-cons f y (put x ys) in
+        omega arith
 
 pub arranged_sum : (f : ℕ → ℕ) (xs : List ℕ) → sum_by f (arranged xs) ≡ sum_by f xs
 unfolding arranged
 arranged_sum f [] = refl
-arranged_sum f (x ∷ xs) = put_sum f x (arranged xs) ∙ ap (λ n. f x + n) (arranged_sum f xs)
+arranged_sum f (x ∷ xs) = put_sum f x (arranged xs) ∙ ap (λ n. f x + n) (arranged_sum f xs) ∙ sym (sum_by-cons f x xs)
 
 put_length : (x : ℕ) (ys : List ℕ) → length (put x ys) ≡ suc (length ys)
 unfolding put
@@ -134,4 +142,6 @@ sum_same f g [] same = refl
 sum_same f g (x ∷ xs) same =
     let first : f x ≡ g x = same x (Contains-head x xs) in
     let rest : sum_by f xs ≡ sum_by g xs = sum_same f g xs (λ y here. same y (Contains-later x y xs here)) in
+    let left : sum_by f (x ∷ xs) ≡ f x + sum_by f xs = sum_by-cons f x xs in
+    let right : sum_by g (x ∷ xs) ≡ g x + sum_by g xs = sum_by-cons g x xs in
     omega arith

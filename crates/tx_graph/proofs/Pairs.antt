@@ -1,6 +1,8 @@
 -- The refusals of a pair, by the clusters of its names.
-use Rattle.std.proofs.Common.{◌≡◌, ◌≢◌, ℕ, ◌+◌, ◌<◌, ◌≤◌, true, false, List, [], ◌∷◌, ◌++◌, length, sym, refl, ap, ap₂, subst, ◌∙◌, inl, inr, ◌⊎◌, ◌↔◌, Option, None, Some, arith, true≢false, length-append}
+use Rattle.std.proofs.Common.{◌≡◌, ◌≢◌, ℕ, ◌+◌, ◌<◌, ◌≤◌, true, false, List, [], ◌∷◌, ◌++◌, length, sym, refl, ap, ap₂, subst, subst₂, slice_index, ◌∙◌, inl, inr, ◌⊎◌, ◌↔◌, Option, None, Some, arith, true≢false, length-append}
 use Rattle.std.specs.Prelude.{Contains, sum_by}
+use Rattle.std.specs.FinMap as finmap
+use Rattle.std.proofs.lemmas.Bool.{false_from_ne_true}
 use Rattle.std.proofs.lemmas.List.Sums.{sum_by-append}
 use Rattle.std.proofs.lemmas.List.Elements.{Contains-append_left, Contains-append_right, Contains-append_cases}
 use Rattle.graph_model.specs.declared.names.Limits.{Limits}
@@ -14,9 +16,11 @@ use Rattle.dep_graph.specs.Graph.{Graph, is_member, is_ancestor, rate_of}
 use Rattle.dep_graph.specs.Walks.{IsWalk}
 use Rattle.cluster_record.specs.Clusters.{Cluster, IsCluster, IsRelated, AreLinked}
 use Rattle.tx_graph.specs.Shelves.{Shelf, cluster_at, graph_of, HasAt, IsIndexed}
+use Rattle.name_book.specs.declared.spot.Spot.{Spot}
 use Rattle.tx_graph.specs.Joins.{JoinsTo, JoinsTooMany, JoinsTooLarge, DepRefusalIs, SumRefusalIs}
-use Rattle.tx_graph.proofs.Graphs.{above_in, above_from, names_of_above, in_live, one_key, rate_in_cluster}
+use Rattle.tx_graph.proofs.Graphs.{above_in, above_from, names_of_above, in_live, one_key, rate_in_cluster, at_contains}
 use Rattle.tx_graph.proofs.Links.{linked_back}
+use Rattle.tx_graph.proofs.Slots.{stands_in}
 use Rattle.tx_graph.proofs.Rows.{first_at_map}
 use Rattle.tx_graph.proofs.Arranged.{arranged, arranged_is, arranged_increasing, arranged_sum, arranged_length, once_distinct, distinct_append, sum_same}
 
@@ -62,6 +66,26 @@ module _ (most : ℕ) (shelf : Shelf) (indexed : IsIndexed most shelf) where
 
     pub cycle_row : is_ancestor (graph_of shelf) q p ≡ true → DepRefusalIs limits (graph_of shelf) p q (Some Cycle)
     cycle_row up = inr (λ none. none (in_live most shelf indexed key p c is p_in), inr (λ none. none (in_live most shelf indexed key q c is q_in), inl (up, refl)))
+
+  module _ (limits : Limits) (above below : Spot) (p q : ℕ) (c : Cluster) (p_is : finmap.get shelf.spots p ≡ Some above) (q_is : finmap.get shelf.spots q ≡ Some below) (together : above.record ≡ below.record) (is : cluster_at shelf.slots above.record ≡ Some c) where
+    pub parent_at : HasAt c above.place p
+    parent_at = stands_in most shelf above p c indexed p_is is
+
+    pub child_at : HasAt c below.place q
+    child_at = stands_in most shelf below q c indexed q_is (ap (cluster_at shelf.slots) (sym together) ∙ is)
+
+    pub reaches_row : is_ancestor c.graph (slice_index c.names below.place) (slice_index c.names above.place) ≡ true → DepRefusalIs limits (graph_of shelf) p q (Some Cycle)
+    reaches_row up =
+        let here : is_ancestor c.graph q p ≡ true = subst₂ (λ x y. is_ancestor c.graph x y ≡ true) child_at.1 parent_at.1 up in
+        cycle_row limits above.record p q c is (at_contains c above.place p parent_at) (at_contains c below.place q child_at) (above_in most shelf indexed above.record q p c is here)
+
+    pub no_reach : is_ancestor c.graph (slice_index c.names below.place) (slice_index c.names above.place) ≡ false → is_ancestor (graph_of shelf) q p ≡ false
+    no_reach denied = false_from_ne_true (is_ancestor (graph_of shelf) q p) (λ up.
+      let here : is_ancestor c.graph q p ≡ true = above_from most shelf indexed above.record q p c is (inr (at_contains c above.place p parent_at)) up in
+      true≢false (sym (subst₂ (λ x y. is_ancestor c.graph x y ≡ true) (sym child_at.1) (sym parent_at.1) here) ∙ denied))
+
+    pub apart_row : is_ancestor c.graph (slice_index c.names below.place) (slice_index c.names above.place) ≡ false → DepRefusalIs limits (graph_of shelf) p q None
+    apart_row denied = within_row limits above.record p q c is (at_contains c above.place p parent_at) (at_contains c below.place q child_at) (no_reach denied)
 
   -- ---- a pair between two clusters
 
@@ -136,3 +160,13 @@ module _ (most : ℕ) (shelf : Shelf) (indexed : IsIndexed most shelf) where
         ),
       ),
     )
+
+  -- the same, by spots
+  module _ (limits : Limits) (above below : Spot) (p q : ℕ) (a b : Cluster) (p_is : finmap.get shelf.spots p ≡ Some above) (q_is : finmap.get shelf.spots q ≡ Some below) (apart : above.record ≢ below.record) (one : cluster_at shelf.slots above.record ≡ Some a) (two : cluster_at shelf.slots below.record ≡ Some b) where
+    pub spots_no_way : is_ancestor (graph_of shelf) q p ≡ false
+    spots_no_way = false_from_ne_true (is_ancestor (graph_of shelf) q p) (no_way limits above.record below.record p q a b apart one two
+      (at_contains a above.place p (stands_in most shelf above p a indexed p_is one)) (at_contains b below.place q (stands_in most shelf below q b indexed q_is two)))
+
+    pub spots_row : (found : Option Refusal) → SumRefusalIs limits (length a.names + length b.names) (sum_by (λ id. (rate_of a.graph id).size) a.names + sum_by (λ id. (rate_of b.graph id).size) b.names) found → DepRefusalIs limits (graph_of shelf) p q found
+    spots_row found row = between_row limits above.record below.record p q a b apart one two
+      (at_contains a above.place p (stands_in most shelf above p a indexed p_is one)) (at_contains b below.place q (stands_in most shelf below q b indexed q_is two)) found row

@@ -183,6 +183,7 @@ impl<const W: usize> Clusters<W> {
         child: TxId,
     ) -> Result<(Spot, Spot), Refusal>
         requires { limits.now.count ≤ 64 }
+        ensures order { IsInOrder W self.now }
         ensures row { MatchResult result (λ _. DepRefusalIs limits.now (graph_of self.now) parent child None) (λ why. DepRefusalIs limits.now (graph_of self.now) parent child (Some why)) }
         ensures parent { IfOk result (λ spots. finmap.get self.now.spots parent ≡ Some spots.0) }
         ensures child { IfOk result (λ spots. finmap.get self.now.spots child ≡ Some spots.1) }
