@@ -1,0 +1,16 @@
+use crate::falling::check_falling;
+use crate::flows::check_flows;
+use crate::graph::check_graph;
+use crate::order::check_order;
+use crate::{CheckFault, Part, Written};
+use std::alloc::Global;
+
+/// Whether parts with flows are a certificate of what is written.
+pub fn check(alloc: Global, graph: &Written, parts: &[Part]) -> Result<(), CheckFault> {
+    let txs = graph.txs.as_slice();
+    let tables = check_graph(alloc, graph)?;
+    check_order(alloc, &tables, txs.len(), parts)?;
+    check_falling(txs, &tables.names, parts)?;
+    check_flows(alloc, txs, &tables, parts)?;
+    Ok(())
+}
