@@ -1,1 +1,3 @@
 pub mod Forests
+pub mod Links
+pub mod Searching

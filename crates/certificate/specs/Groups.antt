@@ -28,4 +28,4 @@ pub record JoinsRoots (old new : List ℕ) (a b : ℕ) : Type 0 where
   pub sized : length new ≡ length old
   pub exact : (x y : ℕ) → x < length old → y < length old → (root_of new x ≡ root_of new y)
       ↔ ((root_of old x ≡ root_of old y)
-        ⊎ (((root_of old x ≡ root_of old a) × (root_of old b ≡ root_of old y)) ⊎ ((root_of old x ≡ root_of old b) × (root_of old a ≡ root_of old y))))
+      ⊎ (((root_of old x ≡ root_of old a) × (root_of old b ≡ root_of old y)) ⊎ ((root_of old x ≡ root_of old b) × (root_of old a ≡ root_of old y))))

@@ -1,1 +1,4 @@
+pub mod Chains
+pub mod Faults
 pub mod Groups
+pub mod Searches

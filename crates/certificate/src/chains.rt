@@ -1,3 +1,7 @@
+ghost use Rattle.std.specs.Prelude.{◌≡◌, length, IfOk};
+ghost use Rattle.certificate.specs.Chains.{AreChains};
+ghost use Rattle.certificate.specs.Groups.{AreWithin};
+
 use std::alloc::{AllocError, Global};
 
 /// For each child its pairs, from the last to the first, without a list for each.
@@ -14,7 +18,11 @@ pub(crate) fn linked(
     alloc: Global,
     count: usize,
     pairs: &[(usize, usize)],
-) -> Result<Chains, AllocError> {
+) -> Result<Chains, AllocError>
+    requires { AreWithin count pairs.now }
+    ensures sized { IfOk result (λ chains. length chains.last.items ≡ count) }
+    ensures chains { IfOk result (λ chains. AreChains pairs.now chains.last.items chains.before.items) }
+{
     let mut last = vec![in alloc; 0; count]?;
     let mut before = Vec::new(alloc);
     for (at, pair) in pairs.iter().enumerate() {

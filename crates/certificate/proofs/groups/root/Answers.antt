@@ -16,8 +16,7 @@ loop-up-preserved c =
     let same : (x : ℕ) → x < length up → root_of (slice_set up at over) x ≡ root_of up x = λ x k. roots_over up at x f in' k in
     let size = length-set up at over in
     let place : c.args.place < length up = omega arith in
-    let way : root_of up at ≡ root_of up over = root_step up at f in' ∙ root_step up (slice_index_or up at 0) f (omega arith) in
-    (
+    let way : root_of up at ≡ root_of up over = root_step up at f in' ∙ root_step up (slice_index_or up at 0) f (omega arith) in (
       forest_over up at f in',
       omega arith,
       same over (omega arith) ∙ sym way ∙ c.loop-up.invariant.2 ∙ sym (same c.args.place place),
