@@ -1,4 +1,5 @@
 pub mod Chains
 pub mod Faults
 pub mod Groups
+pub mod Places
 pub mod Searches
