@@ -3,3 +3,4 @@ pub mod Faults
 pub mod Groups
 pub mod Places
 pub mod Searches
+pub mod Tables

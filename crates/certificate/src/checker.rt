@@ -8,7 +8,8 @@ use std::alloc::Global;
 /// Whether parts with flows are a certificate of what is written.
 pub fn check(alloc: Global, graph: &Written, parts: &[Part]) -> Result<(), CheckFault> {
     let txs = graph.txs.as_slice();
-    let tables = check_graph(alloc, graph)?;
+    let edges = graph.edges.as_slice();
+    let tables = check_graph(alloc, txs, edges)?;
     check_order(alloc, &tables, txs.len(), parts)?;
     check_falling(txs, &tables.names, parts)?;
     check_flows(alloc, txs, &tables, parts)?;

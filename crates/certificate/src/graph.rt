@@ -1,6 +1,13 @@
+ghost use Rattle.std.specs.Prelude.{◌≡◌, length, IfOk, IfErr, MatchBool};
+ghost use Rattle.graph_model.specs.Certificates.{HasGraph};
+ghost use Rattle.graph_model.specs.Limits.{IsFee, IsSize};
+ghost use Rattle.certificate.specs.declared.fault.CheckFault.TheVariants.{Graph};
+ghost use Rattle.certificate.specs.Faults.{Says};
+ghost use Rattle.certificate.specs.Tables.{AreInLimits, AreTables};
+
 use crate::cycles::no_cycle;
 use crate::names::{Edges, Names, edge_set, ends, positions};
-use crate::{CheckFault, Written};
+use crate::CheckFault;
 use graph_model::TxId;
 use std::alloc::Global;
 
@@ -14,9 +21,15 @@ pub(crate) struct Tables {
 }
 
 /// Whether what is written is a graph within the limits.
-pub(crate) fn check_graph(alloc: Global, graph: &Written) -> Result<Tables, CheckFault> {
-    let txs = graph.txs.as_slice();
-    let edges = graph.edges.as_slice();
+pub(crate) fn check_graph(
+    alloc: Global,
+    txs: &[(TxId, i64, u64)],
+    edges: &[(TxId, TxId)],
+) -> Result<Tables, CheckFault>
+    ensures yes { IfOk result (λ _. HasGraph txs.now edges.now) }
+    ensures tables { IfOk result (AreTables txs.now edges.now) }
+    ensures fault { IfErr result (Says Graph (HasGraph txs.now edges.now)) }
+{
     if !are_in_limits(txs) {
         return Err(CheckFault::Graph);
     }
@@ -32,18 +45,32 @@ pub(crate) fn check_graph(alloc: Global, graph: &Written) -> Result<Tables, Chec
 }
 
 /// Whether there are few enough transactions, and fees and sizes are within the limits.
-fn are_in_limits(txs: &[(TxId, i64, u64)]) -> bool {
+fn are_in_limits(txs: &[(TxId, i64, u64)]) -> bool
+    ensures { MatchBool result (AreInLimits txs.now) (AreInLimits txs.now → ⊥) }
+{
     if txs.len() > 1_048_576 {
         return false;
     }
     for tx in txs {
-        if tx.1 < -2_100_000_000_000_000
-            || tx.1 > 2_100_000_000_000_000
-            || tx.2 < 1
-            || tx.2 > 4_000_000
-        {
+        if !is_in_limits(tx) {
             return false;
         }
     }
     true
+}
+
+/// Whether a transaction's fee and size are within the limits.
+fn is_in_limits(tx: &(TxId, i64, u64)) -> bool
+    ensures { MatchBool result (IsFee tx.now.1 × IsSize tx.now.2) (IsFee tx.now.1 × IsSize tx.now.2 → ⊥) }
+{
+    if tx.1 < -2_100_000_000_000_000 {
+        return false;
+    }
+    if tx.1 > 2_100_000_000_000_000 {
+        return false;
+    }
+    if tx.2 < 1 {
+        return false;
+    }
+    tx.2 <= 4_000_000
 }
