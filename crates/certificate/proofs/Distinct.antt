@@ -36,11 +36,10 @@ later y xs x (k, in', e) = (suc k, omega arith, e)
 -- one more entry
 pub distinct_push : {A : Type 0} (xs : List A) (x : A) → AreDistinct xs → (Contains xs x → ⊥) → AreDistinct (xs ++ (x ∷ []))
 distinct_push [] x d n = ((λ h. omega (arith, h.1)), tt)
-distinct_push (y ∷ xs) x d n =
-    (
-      (λ h. elim (Contains-push_cases xs x y h) [ inl there ↦ d.0 there | inr same ↦ n (0, omega arith, sym same) ]),
-      distinct_push xs x d.1 (λ h. n (later y xs x h)),
-    )
+distinct_push (y ∷ xs) x d n = (
+  (λ h. elim (Contains-push_cases xs x y h) [ inl there ↦ d.0 there | inr same ↦ n (0, omega arith, sym same) ]),
+  distinct_push xs x d.1 (λ h. n (later y xs x h)),
+)
 
 -- an entry that stands again
 pub repeated : {A : Type 0} (xs : List A) (k : ℕ) (x d : A) → k < length xs → get_or xs k d ≡ x → Contains (take k xs) x → AreDistinct xs → ⊥

@@ -51,9 +51,9 @@ pub limits_all : (txs : Txs) → length txs ≤ 1048576 → ((k : ℕ) → k < l
 limits_all txs few h = record {
   few = few;
   limits =
-    λ id fee size (k, in', e).
-        let same : ◌≡◌ {A = ℕ × ℤ × ℕ} (get_or txs k (0, pos 0, 0)) (id, fee, size) = get_or_default txs k (0, pos 0, 0) (id, fee, size) in' ∙ e in
-        subst (λ (x : ℕ × ℤ × ℕ). IsFee x.1 × IsSize x.2) same (h k in');
+      λ id fee size (k, in', e).
+      let same : ◌≡◌ {A = ℕ × ℤ × ℕ} (get_or txs k (0, pos 0, 0)) (id, fee, size) = get_or_default txs k (0, pos 0, 0) (id, fee, size) in' ∙ e in
+      subst (λ (x : ℕ × ℤ × ℕ). IsFee x.1 × IsSize x.2) same (h k in');
 }
 
 pub limits_at : (txs : Txs) (k : ℕ) → AreInLimits txs → k < length txs → IsFee (get_or txs k (0, pos 0, 0)).1 × IsSize (get_or txs k (0, pos 0, 0)).2

@@ -39,12 +39,11 @@ from names pairs a b within (k, in', e) =
     }
 
 to : (names : List ℕ) (pairs : List (ℕ × ℕ)) (p q : ℕ) → Contains {X = ℕ × ℕ} pairs (p, q) → Contains {X = ℕ × ℕ} (map (named names) pairs) (get_or names p 0, get_or names q 0)
-to names pairs p q (k, in', e) =
-    (
-      k,
-      subst (λ n. k < n) (sym (length-map pairs (named names))) in',
-      get_or-map (named names) pairs k (p, q) (get_or names p 0, get_or names q 0) in' ∙ ap (named names) e,
-    )
+to names pairs p q (k, in', e) = (
+  k,
+  subst (λ n. k < n) (sym (length-map pairs (named names))) in',
+  get_or-map (named names) pairs k (p, q) (get_or names p 0, get_or names q 0) in' ∙ ap (named names) e,
+)
 
 -- ---- walks
 pub walk_named : (names : List ℕ) (pairs : List (ℕ × ℕ)) (i j n : ℕ) → Walk pairs i j n → Walk (map (named names) pairs) (get_or names i 0) (get_or names j 0) n

@@ -5,4 +5,5 @@ pub mod Labels
 pub mod Links
 pub mod PlaceLemmas
 pub mod Searching
+pub mod Seats
 pub mod Sets

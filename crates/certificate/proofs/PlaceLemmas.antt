@@ -20,38 +20,38 @@ no_places find h = record { sound = λ id p e. absurd (some_none p (sym e ∙ h 
 pub more_places : (names : List ℕ) (find find' : ℕ → Option ℕ) (id n : ℕ) → ArePlaces names find → n ≡ length names → find id ≡ None → find' id ≡ Some n → ((q : ℕ) → eqb id q ≡ false → find' q ≡ find q) → ArePlaces (names ++ (id ∷ [])) find'
 more_places names find find' id n h size none here others = record {
   sound =
-    λ q p e.
-        elim (cases_eq q id) [
-          | inl same ↦
+      λ q p e.
+      elim (cases_eq q id) [
+        | inl same ↦
             (let at : n ≡ p = same_some n p (sym here ∙ ap find' (sym same) ∙ e) in
             (omega (arith, length_push names id), get_or_push names id 0 p (sym size ∙ at) ∙ sym same))
-          | inr other ↦
+        | inr other ↦
             (let old = h.sound q p (sym (others q (ne_eqb id q (λ same. other (sym same)))) ∙ e) in
             (omega (arith, length_push names id, old.0), get_or_append_left names (id ∷ []) 0 p old.0 ∙ old.1))
-        ];
+      ];
   complete =
-    λ p in'.
-        elim (cases_lt p (length names)) [
-          | inl less ↦
+      λ p in'.
+      elim (cases_lt p (length names)) [
+        | inl less ↦
             (let e = get_or_append_left names (id ∷ []) 0 p less in
             let old = h.complete p less in
             let other : get_or names p 0 ≢ id = λ same. some_none p (sym old ∙ ap find same ∙ none) in
             ap find' e ∙ others (get_or names p 0) (ne_eqb id _ (λ same. other (sym same))) ∙ old)
-          | inr more ↦
+        | inr more ↦
             (let last : p ≡ length names = omega (arith, length_push names id) in
             ap find' (get_or_push names id 0 p (sym last)) ∙ here ∙ ap Some (size ∙ sym last))
-        ];
+      ];
 }
 
 pub places_distinct : (names : List ℕ) (find : ℕ → Option ℕ) → ArePlaces names find → AreDistinct names
 places_distinct names find h =
     distinct_by_index names
     (λ i j d less in' e.
-        let i_in : i < length names = omega arith in
-        let same : get_or names i 0 ≡ get_or names j 0 = get_or_default names i 0 d i_in ∙ e ∙ get_or_default names j d 0 in' in
-        let p : Some i ≡ Some j = sym (h.complete i i_in) ∙ ap find same ∙ h.complete j in' in
-        let q = same_some i j p in
-        omega arith)
+    let i_in : i < length names = omega arith in
+    let same : get_or names i 0 ≡ get_or names j 0 = get_or_default names i 0 d i_in ∙ e ∙ get_or_default names j d 0 in' in
+    let p : Some i ≡ Some j = sym (h.complete i i_in) ∙ ap find same ∙ h.complete j in' in
+    let q = same_some i j p in
+    omega arith)
 
 -- a number that isn't found is no name, and one that is found is
 pub not_found : (names : List ℕ) (find : ℕ → Option ℕ) (id : ℕ) → ArePlaces names find → find id ≡ None → Contains names id → ⊥

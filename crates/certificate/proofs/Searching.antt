@@ -96,14 +96,14 @@ shorter_way pairs left visits way n top s t =
     record {
       within = λ i k. subst (λ x. x < length (set visits top Done)) (sym (read i (omega arith))) (subst (λ m. get_or way i 0 < m) (sym (length-set visits top Done)) (s.open_way.within i (omega arith)));
       is_open =
-        λ i k.
-            let apart : get_or way i 0 ≢ top = λ e. s.open_way.once i n (omega arith) (omega arith) (e ∙ sym t.here) in
-            subst (λ x. visit_at (set visits top Done) x ≡ Open) (sym (read i (omega arith))) (visit_there visits top _ Done apart ∙ s.open_way.is_open i (omega arith));
+          λ i k.
+          let apart : get_or way i 0 ≢ top = λ e. s.open_way.once i n (omega arith) (omega arith) (e ∙ sym t.here) in
+          subst (λ x. visit_at (set visits top Done) x ≡ Open) (sym (read i (omega arith))) (visit_there visits top _ Done apart ∙ s.open_way.is_open i (omega arith));
       once = λ i j less k e. s.open_way.once i j less (omega arith) (sym (read i (omega arith)) ∙ e ∙ read j (omega arith));
       upward =
-        λ i j le k.
-            subst (λ x. IsAncestor pairs (get_or (take n way) j 0) x) (sym (read i (omega arith)))
-            (subst (λ x. IsAncestor pairs x (get_or way i 0)) (sym (read j (omega arith))) (s.open_way.upward i j le (omega arith)));
+          λ i j le k.
+          subst (λ x. IsAncestor pairs (get_or (take n way) j 0) x) (sym (read i (omega arith)))
+          (subst (λ x. IsAncestor pairs x (get_or way i 0)) (sym (read j (omega arith))) (s.open_way.upward i j le (omega arith)));
     }
 
 finished_acyclic : (pairs : List (ℕ × ℕ)) (left : List ℕ) (visits : List Visit) (way : List ℕ) (n top : ℕ) → IsSearch pairs left visits way → IsTop visits way n top
@@ -123,7 +123,7 @@ finished pairs left visits way n top s t none =
     let size = length-set visits top Done in
     let keep : (x : ℕ) → visit_at visits x ≡ Done → visit_at (set visits top Done) x ≡ Done = λ x d. done_stays visits top x Done t.within (λ _. refl) d in
     let parent_done : (k : ℕ) → k < length pairs → (pair_at pairs k).1 ≡ top → visit_at visits (pair_at pairs k).0 ≡ Done =
-        λ k a e. (s.looking top t.within).looked k (omega arith) a e
+    λ k a e. (s.looking top t.within).looked k (omega arith) a e
     in
     record {
       search = record {
@@ -131,26 +131,26 @@ finished pairs left visits way n top s t none =
         looking = λ x k. looked_stays pairs visits top x _ Done t.within (λ _. refl) (s.looking x (omega arith));
         open_way = shorter_way pairs left visits way n top s t;
         on_way =
-          λ x k o.
-              elim (cases_eq x top) [
-                | inl e ↦ absurd (not_open (sym (visit_here visits top Done t.within) ∙ subst (λ y. visit_at (set visits top Done) y ≡ Open) e o))
-                | inr ne ↦
+            λ x k o.
+            elim (cases_eq x top) [
+              | inl e ↦ absurd (not_open (sym (visit_here visits top Done t.within) ∙ subst (λ y. visit_at (set visits top Done) y ≡ Open) e o))
+              | inr ne ↦
                   (let (i, a, at) = s.on_way x (omega arith) (sym (visit_there visits top x Done ne) ∙ o) in
                   let less : i < n = elim (cases_eq i n) [ inl e ↦ absurd (ne (sym at ∙ ap (λ j. get_or way j 0) e ∙ t.here)) | inr other ↦ omega arith ] in
                   (i, omega (arith, length-take-le n way (omega arith)), get_or-take n way i 0 less ∙ at))
-              ];
+            ];
         parents =
-          λ k a d.
-              elim (cases_eq (pair_at pairs k).1 top) [
-                | inl e ↦ keep _ (parent_done k a e)
-                | inr ne ↦ keep _ (s.parents k a (sym (visit_there visits top _ Done ne) ∙ d))
-              ];
+            λ k a d.
+            elim (cases_eq (pair_at pairs k).1 top) [
+              | inl e ↦ keep _ (parent_done k a e)
+              | inr ne ↦ keep _ (s.parents k a (sym (visit_there visits top _ Done ne) ∙ d))
+            ];
         acyclic =
-          λ x m d w.
-              elim (cases_eq x top) [
-                | inl e ↦ finished_acyclic pairs left visits way n top s t parent_done m (subst (λ y. Walk pairs y y m) e w)
-                | inr ne ↦ s.acyclic x m (sym (visit_there visits top x Done ne) ∙ d) w
-              ];
+            λ x m d w.
+            elim (cases_eq x top) [
+              | inl e ↦ finished_acyclic pairs left visits way n top s t parent_done m (subst (λ y. Walk pairs y y m) e w)
+              | inr ne ↦ s.acyclic x m (sym (visit_there visits top x Done ne) ∙ d) w
+            ];
       };
       sized = size;
       done = keep;
@@ -175,25 +175,25 @@ passed pairs left visits way n top l b s t is some d link =
       below = (let lo = old.below in let lb = link.below in omega arith);
       into = λ h. link.into h ∙ into;
       looked =
-        λ k low high e.
-            elim (cases_lt k (l - 1)) [
-              | inl less ↦ absurd (link.later k low less (e ∙ sym into))
-              | inr more ↦
+          λ k low high e.
+          elim (cases_lt k (l - 1)) [
+            | inl less ↦ absurd (link.later k low less (e ∙ sym into))
+            | inr more ↦
                 elim (cases_eq k (l - 1)) [
                   | inl same ↦ subst (λ x. visit_at visits (pair_at pairs x).0 ≡ Done) (sym same) d
                   | inr other ↦ old.looked k (omega arith) high e
                 ]
-            ];
+          ];
     } in
     record {
       search = record {
         sized = length-set left top b ∙ s.sized;
         looking =
-          λ x k.
-              elim (cases_eq x top) [
-                | inl e ↦ subst (λ y. IsLooked pairs visits y (get_or (set left top b) y 0)) (sym e) (subst (λ v. IsLooked pairs visits top v) (sym (get_or-set_same left top b 0 top_in)) new)
-                | inr ne ↦ subst (λ v. IsLooked pairs visits x v) (sym (get_or-set_other left top x b 0 ne)) (s.looking x k)
-              ];
+            λ x k.
+            elim (cases_eq x top) [
+              | inl e ↦ subst (λ y. IsLooked pairs visits y (get_or (set left top b) y 0)) (sym e) (subst (λ v. IsLooked pairs visits top v) (sym (get_or-set_same left top b 0 top_in)) new)
+              | inr ne ↦ subst (λ v. IsLooked pairs visits x v) (sym (get_or-set_other left top x b 0 ne)) (s.looking x k)
+            ];
         open_way = s.open_way;
         on_way = s.on_way;
         parents = s.parents;
@@ -228,37 +228,37 @@ longer_way pairs visits way p w in' new above =
     let apart : (i : ℕ) → i < length way → get_or way i 0 ≢ p = λ i k e. new_not_open (sym new ∙ ap (visit_at visits) (sym e) ∙ w.is_open i k) in
     record {
       within =
-        λ i k.
-            subst (λ m. get_or (way ++ (p ∷ [])) i 0 < m) (sym (length-set visits p Open))
-            (elim (cases_lt i (length way)) [
-              | inl less ↦ subst (λ x. x < length visits) (sym (read i less)) (w.within i less)
-              | inr more ↦ subst (λ x. x < length visits) (sym (end i (omega arith))) in'
-            ]);
+          λ i k.
+          subst (λ m. get_or (way ++ (p ∷ [])) i 0 < m) (sym (length-set visits p Open))
+          (elim (cases_lt i (length way)) [
+            | inl less ↦ subst (λ x. x < length visits) (sym (read i less)) (w.within i less)
+            | inr more ↦ subst (λ x. x < length visits) (sym (end i (omega arith))) in'
+          ]);
       is_open =
-        λ i k.
-            elim (cases_lt i (length way)) [
-              | inl less ↦ subst (λ x. visit_at (set visits p Open) x ≡ Open) (sym (read i less)) (visit_there visits p _ Open (apart i less) ∙ w.is_open i less)
-              | inr more ↦ subst (λ x. visit_at (set visits p Open) x ≡ Open) (sym (end i (omega arith))) (visit_here visits p Open in')
-            ];
+          λ i k.
+          elim (cases_lt i (length way)) [
+            | inl less ↦ subst (λ x. visit_at (set visits p Open) x ≡ Open) (sym (read i less)) (visit_there visits p _ Open (apart i less) ∙ w.is_open i less)
+            | inr more ↦ subst (λ x. visit_at (set visits p Open) x ≡ Open) (sym (end i (omega arith))) (visit_here visits p Open in')
+          ];
       once =
-        λ i j less k e.
-            elim (cases_lt j (length way)) [
-              | inl in_j ↦ w.once i j less in_j (sym (read i (omega arith)) ∙ e ∙ read j in_j)
-              | inr more ↦ apart i (omega arith) (sym (read i (omega arith)) ∙ e ∙ end j (omega arith))
-            ];
+          λ i j less k e.
+          elim (cases_lt j (length way)) [
+            | inl in_j ↦ w.once i j less in_j (sym (read i (omega arith)) ∙ e ∙ read j in_j)
+            | inr more ↦ apart i (omega arith) (sym (read i (omega arith)) ∙ e ∙ end j (omega arith))
+          ];
       upward =
-        λ i j le k.
-            elim (cases_lt j (length way)) [
-              | inl in_j ↦
+          λ i j le k.
+          elim (cases_lt j (length way)) [
+            | inl in_j ↦
                 subst (λ x. IsAncestor pairs (get_or (way ++ (p ∷ [])) j 0) x) (sym (read i (omega arith)))
                 (subst (λ x. IsAncestor pairs x (get_or way i 0)) (sym (read j in_j)) (w.upward i j le in_j))
-              | inr more ↦
+            | inr more ↦
                 subst (λ x. IsAncestor pairs x (get_or (way ++ (p ∷ [])) i 0)) (sym (end j (omega arith)))
                 (elim (cases_lt i (length way)) [
                   | inl in_i ↦ subst (λ x. IsAncestor pairs p x) (sym (read i in_i)) (above i in_i)
                   | inr same ↦ (0, sym (end i (omega arith)))
                 ])
-            ];
+          ];
     }
 
 pub opened : (pairs : List (ℕ × ℕ)) (left : List ℕ) (visits : List Visit) (way : List ℕ) (p : ℕ) → IsSearch pairs left visits way → p < length visits → visit_at visits p ≡ New
@@ -268,10 +268,10 @@ opened pairs left visits way p s in' new above =
     let never : visit_at visits p ≡ Done → Open ≡ Done = λ d. cc in
     let keep : (x : ℕ) → visit_at visits x ≡ Done → visit_at (set visits p Open) x ≡ Done = λ x d. done_stays visits p x Open in' never d in
     let back : (x : ℕ) → visit_at (set visits p Open) x ≡ Done → visit_at visits x ≡ Done =
-        λ x d. elim (cases_eq x p) [
-          | inl e ↦ absurd (open_not_done (sym (visit_here visits p Open in') ∙ subst (λ y. visit_at (set visits p Open) y ≡ Done) e d))
-          | inr ne ↦ sym (visit_there visits p x Open ne) ∙ d
-        ]
+    λ x d. elim (cases_eq x p) [
+      | inl e ↦ absurd (open_not_done (sym (visit_here visits p Open in') ∙ subst (λ y. visit_at (set visits p Open) y ≡ Done) e d))
+      | inr ne ↦ sym (visit_there visits p x Open ne) ∙ d
+    ]
     in
     record {
       search = record {
@@ -279,13 +279,13 @@ opened pairs left visits way p s in' new above =
         looking = λ x k. looked_stays pairs visits p x _ Open in' never (s.looking x (omega arith));
         open_way = longer_way pairs visits way p s.open_way in' new above;
         on_way =
-          λ x k o.
-              elim (cases_eq x p) [
-                | inl e ↦ (length way, omega (arith, length_push way p), get_or_push way p 0 (length way) refl ∙ sym e)
-                | inr ne ↦
+            λ x k o.
+            elim (cases_eq x p) [
+              | inl e ↦ (length way, omega (arith, length_push way p), get_or_push way p 0 (length way) refl ∙ sym e)
+              | inr ne ↦
                   (let (i, a, at) = s.on_way x (omega arith) (sym (visit_there visits p x Open ne) ∙ o) in
                   (i, omega (arith, length_push way p), get_or_append_left way (p ∷ []) 0 i a ∙ at))
-              ];
+            ];
         parents = λ k a d. keep _ (s.parents k a (back _ d));
         acyclic = λ x m d w. s.acyclic x m (back x d) w;
       };
@@ -396,13 +396,13 @@ search_none pairs last before count c size =
     record {
       sized = size ∙ sym long;
       looking =
-        λ x k.
-            let e = c.ends x (omega arith) in
-            record {
-              below = e.below;
-              into = e.into;
-              looked = λ j a b into. absurd (e.later j a b into);
-            };
+          λ x k.
+          let e = c.ends x (omega arith) in
+          record {
+            below = e.below;
+            into = e.into;
+            looked = λ j a b into. absurd (e.later j a b into);
+          };
       open_way = record {
         within = λ i k. absurd (omega arith);
         is_open = λ i k. absurd (omega arith);

@@ -79,20 +79,20 @@ add_old false h k = k
 pub holds_more : (has has' : ℕ × ℕ → Bool) (xs : List (ℕ × ℕ)) (x : ℕ × ℕ) → Holds has xs → ((q : ℕ × ℕ) → has' q ≡ cond (same_pair x q) true (has q)) → Holds has' (xs ++ (x ∷ []))
 holds_more has has' xs x h up = record {
   exact =
-    λ q.
-        bool_same (has' q) (list_any (same_pair q) (xs ++ (x ∷ [])))
-        (λ t.
-            contains_any q (xs ++ (x ∷ []))
-            (elim (add_cases (same_pair x q) (has q) (sym (up q) ∙ t)) [
-              | inl same ↦ subst (λ (y : ℕ × ℕ). Contains (xs ++ (x ∷ [])) y) (same_pair_is x q same) (Contains-push xs x)
-              | inr old ↦ Contains-append_left xs (x ∷ []) q (held has xs q h old)
-            ]))
-        (λ t.
-            up q
-            ∙ elim (Contains-push_cases xs x q (any_contains q (xs ++ (x ∷ [])) t)) [
-              | inl old ↦ add_old (same_pair x q) (has q) (holding has xs q h old)
-              | inr same ↦ ap (λ b. cond b true (has q)) (pair_is_same x q same)
-            ]);
+      λ q.
+      bool_same (has' q) (list_any (same_pair q) (xs ++ (x ∷ [])))
+      (λ t.
+      contains_any q (xs ++ (x ∷ []))
+      (elim (add_cases (same_pair x q) (has q) (sym (up q) ∙ t)) [
+        | inl same ↦ subst (λ (y : ℕ × ℕ). Contains (xs ++ (x ∷ [])) y) (same_pair_is x q same) (Contains-push xs x)
+        | inr old ↦ Contains-append_left xs (x ∷ []) q (held has xs q h old)
+      ]))
+      (λ t.
+      up q
+      ∙ elim (Contains-push_cases xs x q (any_contains q (xs ++ (x ∷ [])) t)) [
+        | inl old ↦ add_old (same_pair x q) (has q) (holding has xs q h old)
+        | inr same ↦ ap (λ b. cond b true (has q)) (pair_is_same x q same)
+      ]);
 }
 
 pub fresh : (has : ℕ × ℕ → Bool) (xs : List (ℕ × ℕ)) (x : ℕ × ℕ) → Holds has xs → has x ≡ false → AreDistinct xs → AreDistinct (xs ++ (x ∷ []))

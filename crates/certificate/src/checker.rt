@@ -10,7 +10,7 @@ pub fn check(alloc: Global, graph: &Written, parts: &[Part]) -> Result<(), Check
     let txs = graph.txs.as_slice();
     let edges = graph.edges.as_slice();
     let tables = check_graph(alloc, txs, edges)?;
-    check_order(alloc, &tables, txs.len(), parts)?;
+    check_order(alloc, txs, &tables, parts)?;
     check_falling(txs, &tables.names, parts)?;
     check_flows(alloc, txs, &tables, parts)?;
     Ok(())

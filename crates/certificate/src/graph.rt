@@ -5,9 +5,9 @@ ghost use Rattle.certificate.specs.declared.fault.CheckFault.TheVariants.{Graph}
 ghost use Rattle.certificate.specs.Faults.{Says};
 ghost use Rattle.certificate.specs.Tables.{AreInLimits, AreTables};
 
+use crate::CheckFault;
 use crate::cycles::no_cycle;
 use crate::names::{Edges, Names, edge_set, ends, positions};
-use crate::CheckFault;
 use graph_model::TxId;
 use std::alloc::Global;
 

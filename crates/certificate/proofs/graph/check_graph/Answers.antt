@@ -23,7 +23,7 @@ returns-in_err-no_cycle-clause-fault c =
     let pairs = c.in_ok-pairs.ensures.pairs (names_of c.args.txs.now) c.in_ok-names.ensures.places in
     rw (p.1, p.2)
     (says_whole Graph (HasNoCycle c.as_slice.result.now) (HasGraph c.args.txs.now c.args.edges.now) c.in_err-no_cycle.field-0.0
-      (λ h. subst HasNoCycle (sym c.as_slice.ensures.value) (pairs_acyclic (names_of c.args.txs.now) c.args.edges.now _ pairs h.graph.acyclic)) c.in_err-no_cycle.ensures)
+    (λ h. subst HasNoCycle (sym c.as_slice.ensures.value) (pairs_acyclic (names_of c.args.txs.now) c.args.edges.now _ pairs h.graph.acyclic)) c.in_err-no_cycle.ensures)
 
 pub returns-clause-yes : goal.returns-clause-yes
 returns-clause-yes c =

@@ -17,8 +17,7 @@ returns-then-not-new-clause-fault c =
 
 pub returns-clause-set : goal.returns-clause-set
 returns-clause-set c edge =
-    let whole = take_all c.loop-edge.edge-index c.args.edges.now (omega arith) in
-    (
+    let whole = take_all c.loop-edge.edge-index c.args.edges.now (omega arith) in (
       (λ t. subst (λ l. Contains l edge) whole (held _ _ edge c.loop-edge.invariant.holds t)),
       (λ t. holding _ _ edge c.loop-edge.invariant.holds (subst (λ l. Contains l edge) (sym whole) t)),
     )

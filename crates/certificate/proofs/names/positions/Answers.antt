@@ -11,9 +11,8 @@ loop-at-preserved c =
 
 pub returns-in-Some-clause-fault : goal.returns-in-Some-clause-fault
 returns-in-Some-clause-fault c =
-    let e = c.in_ok-old.ensures in
-    (
+    let e = c.in_ok-old.ensures in (
       refl,
       places_again _ c.loop-at.at _ _ _ (subst (λ n. c.loop-at.at < n) (sym (length-map c.args.txs.now (λ (tx : ℕ × ℤ × ℕ). tx.0))) c.loop-at-test.true) (name_at c.args.txs.now c.loop-at.at c.loop-at-test.true) c.loop-at.invariant
-      (sym e.old ∙ c.in-Some.is),
+          (sym e.old ∙ c.in-Some.is),
     )

@@ -1,0 +1,1 @@
+use Rattle.certificate.proofs.order.parts_together.Goals as goal
