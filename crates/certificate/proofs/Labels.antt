@@ -14,7 +14,7 @@ pub record Labels (names : List ℕ) (pairs : List (ℕ × ℕ)) : Type 0 where
   pub within : AreWithin (length names) pairs
 
 -- the pair of places that an edge comes from
-record From (names : List ℕ) (pairs : List (ℕ × ℕ)) (a b : ℕ) : Type 0 where
+pub record From (names : List ℕ) (pairs : List (ℕ × ℕ)) (a b : ℕ) : Type 0 where
   pub p : ℕ
   pub q : ℕ
   pub here : Contains {X = ℕ × ℕ} pairs (p, q)
@@ -23,7 +23,7 @@ record From (names : List ℕ) (pairs : List (ℕ × ℕ)) (a b : ℕ) : Type 0 
   pub p_is : get_or names p 0 ≡ a
   pub q_is : get_or names q 0 ≡ b
 
-from : (names : List ℕ) (pairs : List (ℕ × ℕ)) (a b : ℕ) → AreWithin (length names) pairs → Contains {X = ℕ × ℕ} (map (named names) pairs) (a, b) → From names pairs a b
+pub from : (names : List ℕ) (pairs : List (ℕ × ℕ)) (a b : ℕ) → AreWithin (length names) pairs → Contains {X = ℕ × ℕ} (map (named names) pairs) (a, b) → From names pairs a b
 from names pairs a b within (k, in', e) =
     let k_in : k < length pairs = subst (λ n. k < n) (length-map pairs (named names)) in' in
     let is : ◌≡◌ {A = ℕ × ℕ} (named names (get_or pairs k (0, 0))) (a, b) = sym (get_or-map (named names) pairs k (0, 0) (a, b) k_in) ∙ e in
@@ -38,7 +38,7 @@ from names pairs a b within (k, in', e) =
       q_is = ap (λ (x : ℕ × ℕ). x.1) is;
     }
 
-to : (names : List ℕ) (pairs : List (ℕ × ℕ)) (p q : ℕ) → Contains {X = ℕ × ℕ} pairs (p, q) → Contains {X = ℕ × ℕ} (map (named names) pairs) (get_or names p 0, get_or names q 0)
+pub to : (names : List ℕ) (pairs : List (ℕ × ℕ)) (p q : ℕ) → Contains {X = ℕ × ℕ} pairs (p, q) → Contains {X = ℕ × ℕ} (map (named names) pairs) (get_or names p 0, get_or names q 0)
 to names pairs p q (k, in', e) = (
   k,
   subst (λ n. k < n) (sym (length-map pairs (named names))) in',

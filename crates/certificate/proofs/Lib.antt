@@ -3,6 +3,8 @@ pub mod Forests
 pub mod GraphLemmas
 pub mod Labels
 pub mod Links
+pub mod OrderLemmas
+pub mod PartLemmas
 pub mod PlaceLemmas
 pub mod Searching
 pub mod Seats

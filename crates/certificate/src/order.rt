@@ -33,7 +33,8 @@ pub(crate) fn check_order(
     let ranks = ranks_of(alloc, txs, &tables.names, order.as_slice())?;
     parents_first(ranks.as_slice(), tables.pairs.as_slice())?;
     let groups = groups_of(alloc, txs.len(), tables.pairs.as_slice())?;
-    parts_together(groups.as_slice(), &tables.names, parts)
+    parts_together(groups.as_slice(), &tables.names, parts)?;
+    Ok(())
 }
 
 /// The names of all parts.
