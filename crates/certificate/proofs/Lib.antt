@@ -1,4 +1,6 @@
+pub mod Bookings
 pub mod Distinct
+pub mod FallingLemmas
 pub mod Forests
 pub mod GraphLemmas
 pub mod Labels
@@ -6,6 +8,7 @@ pub mod Links
 pub mod OrderLemmas
 pub mod PartLemmas
 pub mod PlaceLemmas
+pub mod RateLemmas
 pub mod Searching
 pub mod Seats
 pub mod Sets

@@ -71,27 +71,27 @@ has_order txs find pairs parts ranks groups h within o r rise g size all =
       once = o.once;
       names = o.members;
       parents_first =
-        λ a b edge.
-            let f = from names pairs a b within edge in
-            let (k, in', e) = f.here in
-            let e' : ◌≡◌ {A = ℕ × ℕ} (pair_at pairs k) (f.p, f.q) = get_or_default pairs k (0, 0) (f.p, f.q) in' ∙ e in
-            let less : get_or ranks f.p 0 < get_or ranks f.q 0 = subst (λ (x : ℕ × ℕ). get_or ranks x.0 0 < get_or ranks x.1 0) e' (rise k in') in
-            let p = r.stands f.p f.p_in in
-            let q = r.stands f.q f.q_in in
-            stands (order_of parts) (get_or ranks f.p 0) (get_or ranks f.q 0) a b less q.0 (p.1 ∙ f.p_is) (q.1 ∙ f.q_is);
+          λ a b edge.
+          let f = from names pairs a b within edge in
+          let (k, in', e) = f.here in
+          let e' : ◌≡◌ {A = ℕ × ℕ} (pair_at pairs k) (f.p, f.q) = get_or_default pairs k (0, 0) (f.p, f.q) in' ∙ e in
+          let less : get_or ranks f.p 0 < get_or ranks f.q 0 = subst (λ (x : ℕ × ℕ). get_or ranks x.0 0 < get_or ranks x.1 0) e' (rise k in') in
+          let p = r.stands f.p f.p_in in
+          let q = r.stands f.q f.q_in in
+          stands (order_of parts) (get_or ranks f.p 0) (get_or ranks f.q 0) a b less q.0 (p.1 ∙ f.p_is) (q.1 ∙ f.q_is);
     } in
     record {
       topological = subst (λ l. IsTopological (graph_of txs (map (named names) pairs)) l) (sym (order_same parts)) t;
       together =
-        λ part here a b a_in b_in.
-            let at = part_at parts part here in
-            let ids : part.ids ≡ ids_at parts at.k = ap (λ (x : model.Part). x.ids) at.is ∙ ids_here parts at.k at.it at.within at.here in
-            let a_here = subst (λ l. Contains l a) ids a_in in
-            let b_here = subst (λ l. Contains l b) ids b_in in
-            let (p, p_in, p_is) = known a (order_has parts at.k a at.within a_here) in
-            let (q, q_in, q_is) = known b (order_has parts at.k b at.within b_here) in
-            let same = all at.k at.within a b p q a_here b_here p_is q_is in
-            let joined = (g.exact p q (subst (λ n. p < n) (sym size) p_in) (subst (λ n. q < n) (sym size) q_in)).0 same in
-            let named_too = connected_named names pairs p q joined in
-            subst (λ x. AreConnected (map (named names) pairs) x b) (h.sound a p p_is).1 (subst (λ y. AreConnected (map (named names) pairs) (get_or names p 0) y) (h.sound b q q_is).1 named_too);
+          λ part here a b a_in b_in.
+          let at = part_at parts part here in
+          let ids : part.ids ≡ ids_at parts at.k = ap (λ (x : model.Part). x.ids) at.is ∙ ids_here parts at.k at.it at.within at.here in
+          let a_here = subst (λ l. Contains l a) ids a_in in
+          let b_here = subst (λ l. Contains l b) ids b_in in
+          let (p, p_in, p_is) = known a (order_has parts at.k a at.within a_here) in
+          let (q, q_in, q_is) = known b (order_has parts at.k b at.within b_here) in
+          let same = all at.k at.within a b p q a_here b_here p_is q_is in
+          let joined = (g.exact p q (subst (λ n. p < n) (sym size) p_in) (subst (λ n. q < n) (sym size) q_in)).0 same in
+          let named_too = connected_named names pairs p q joined in
+          subst (λ x. AreConnected (map (named names) pairs) x b) (h.sound a p p_is).1 (subst (λ y. AreConnected (map (named names) pairs) (get_or names p 0) y) (h.sound b q q_is).1 named_too);
     }

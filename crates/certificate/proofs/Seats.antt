@@ -56,32 +56,32 @@ seats_more names order find seats k p in' h some s free =
     record {
       sized = length-set seats p (Some k) ∙ s.sized;
       sound =
-        λ x r x_in e.
-            elim (cases_eq x p) [
-              | inl same ↦
+          λ x r x_in e.
+          elim (cases_eq x p) [
+            | inl same ↦
                 (let at : k ≡ r = same_some k r (sym here ∙ ap (seat_at (set seats p (Some k))) (sym same) ∙ e) in
                 (omega arith, subst (λ z. get_or (take (k + 1) order) z 0 ≡ get_or names x 0) at (last ∙ sym place.1 ∙ ap (λ z. get_or names z 0) (sym same))))
-              | inr other ↦
+            | inr other ↦
                 (let o = s.sound x r x_in (sym (there x other) ∙ e) in
                 let less : r < k = omega (arith, o.0) in
                 (omega arith, read r less ∙ o.1))
-            ];
+          ];
       complete =
-        λ r r_in.
-            elim (cases_eq r k) [
-              | inl same ↦ (p, p_in, place.1 ∙ sym (ap (λ z. get_or (take (k + 1) order) z 0) same ∙ last), here ∙ ap Some (sym same))
-              | inr other ↦
+          λ r r_in.
+          elim (cases_eq r k) [
+            | inl same ↦ (p, p_in, place.1 ∙ sym (ap (λ z. get_or (take (k + 1) order) z 0) same ∙ last), here ∙ ap Some (sym same))
+            | inr other ↦
                 (let less : r < k = omega arith in
                 let (x, x_in, is, seat) = s.complete r (omega arith) in
                 let apart : x ≢ p = λ e. some_none r (sym seat ∙ ap (seat_at seats) e ∙ free) in
                 (x, x_in, is ∙ sym (read r less), there x apart ∙ seat))
-            ];
+          ];
       count =
-        let c = s.count in
-        let n : ℕ = cond (is_some (seat_at seats p)) 1 0 in
-        let f : count_by is_some (set seats p (Some k)) + n ≡ count_by is_some seats + 1 = sum_by-set (λ (x : Option ℕ). cond (is_some x) 1 0) seats p (Some k) None room in
-        let none : n ≡ 0 = ap (λ (x : Option ℕ). let m : ℕ = cond (is_some x) 1 0 in m) free in
-        new ∙ one_more k (length (take k order)) (count_by is_some seats) (count_by is_some (set seats p (Some k))) n old c f none;
+          let c = s.count in
+          let n : ℕ = cond (is_some (seat_at seats p)) 1 0 in
+          let f : count_by is_some (set seats p (Some k)) + n ≡ count_by is_some seats + 1 = sum_by-set (λ (x : Option ℕ). cond (is_some x) 1 0) seats p (Some k) None room in
+          let none : n ≡ 0 = ap (λ (x : Option ℕ). let m : ℕ = cond (is_some x) 1 0 in m) free in
+          new ∙ one_more k (length (take k order)) (count_by is_some seats) (count_by is_some (set seats p (Some k))) n old c f none;
     }
 
 pub unknown : (names order : List ℕ) (find : ℕ → Option ℕ) (k : ℕ) → k < length order → ArePlaces names find → find (get_or order k 0) ≡ None → IsOrderOf names order → ⊥
@@ -104,10 +104,10 @@ ranks_all names order ranks seats s e =
       sized = long ∙ size;
       few = omega (arith, count_by-le-length {X = Option ℕ} is_some seats);
       stands =
-        λ p p_in.
-            let r_in : p < length ranks = omega arith in
-            let seat : seat_at seats p ≡ Some (get_or ranks p 0) = ap (λ l. seat_at l p) e ∙ get_or-map Some ranks p 0 None r_in in
-            s.sound p (get_or ranks p 0) p_in seat;
+          λ p p_in.
+          let r_in : p < length ranks = omega arith in
+          let seat : seat_at seats p ≡ Some (get_or ranks p 0) = ap (λ l. seat_at l p) e ∙ get_or-map Some ranks p 0 None r_in in
+          s.sound p (get_or ranks p 0) p_in seat;
     }
 
 pub order_all : (names order ranks : List ℕ) (find : ℕ → Option ℕ) (seats : List (Option ℕ)) → ArePlaces names find → AreSeats names order seats → seats ≡ map Some ranks → IsOrderOf names order
@@ -116,24 +116,23 @@ order_all names order ranks find seats h s e =
     let r = ranks_all names order ranks seats s e in
     record {
       once =
-        distinct_by_index order
-        (λ i j x less j_in same.
-            let (p, p_in, p_is, p_seat) = s.complete i (omega arith) in
-            let (q, q_in, q_is, q_seat) = s.complete j j_in in
-            let alike : get_or order i 0 ≡ get_or order j 0 = get_or_default order i 0 x (omega arith) ∙ same ∙ get_or_default order j x 0 j_in in
-            let one : p ≡ q = distinct_place names p q 0 d p_in q_in (p_is ∙ alike ∙ sym q_is) in
-            let ranks_one : i ≡ j = same_some i j (sym p_seat ∙ ap (seat_at seats) one ∙ q_seat) in
-            omega arith);
+          distinct_by_index order
+          (λ i j x less j_in same.
+          let (p, p_in, p_is, p_seat) = s.complete i (omega arith) in
+          let (q, q_in, q_is, q_seat) = s.complete j j_in in
+          let alike : get_or order i 0 ≡ get_or order j 0 = get_or_default order i 0 x (omega arith) ∙ same ∙ get_or_default order j x 0 j_in in
+          let one : p ≡ q = distinct_place names p q 0 d p_in q_in (p_is ∙ alike ∙ sym q_is) in
+          let ranks_one : i ≡ j = same_some i j (sym p_seat ∙ ap (seat_at seats) one ∙ q_seat) in
+          omega arith);
       members =
-        λ id.
-            (
-              (λ (i, i_in, is).
-                  let (p, p_in, p_is, seat) = s.complete i i_in in
-                  (p, p_in, get_or_default names p id 0 p_in ∙ p_is ∙ get_or_default order i 0 id i_in ∙ is)),
-              (λ (p, p_in, is).
-                  let t = r.stands p p_in in
-                  (get_or ranks p 0, t.0, get_or_default order (get_or ranks p 0) id 0 t.0 ∙ t.1 ∙ get_or_default names p 0 id p_in ∙ is)),
-            );
+          λ id. (
+            (λ (i, i_in, is).
+                let (p, p_in, p_is, seat) = s.complete i i_in in
+                (p, p_in, get_or_default names p id 0 p_in ∙ p_is ∙ get_or_default order i 0 id i_in ∙ is)),
+            (λ (p, p_in, is).
+                let t = r.stands p p_in in
+                (get_or ranks p 0, t.0, get_or_default order (get_or ranks p 0) id 0 t.0 ∙ t.1 ∙ get_or_default names p 0 id p_in ∙ is)),
+          );
     }
 
 some_is : (o : Option ℕ) (r : ℕ) → o ≡ Some r → IsSome o
@@ -152,7 +151,7 @@ all_have_seats names order find seats h s o p in' =
 pub stands : (order : List ℕ) (i j a b : ℕ) → i < j → j < length order → get_or order i 0 ≡ a → get_or order j 0 ≡ b → StandsBefore order a b
 stands order i j a b less in' at bt =
     let split : order ≡ take j order ++ (b ∷ drop (j + 1) order) =
-        sym (take-append-drop j order) ∙ ap (λ l. take j order ++ l) (drop_more order j 0 in') ∙ ap (λ x. take j order ++ (x ∷ drop (j + 1) order)) bt
+    sym (take-append-drop j order) ∙ ap (λ l. take j order ++ l) (drop_more order j 0 in') ∙ ap (λ x. take j order ++ (x ∷ drop (j + 1) order)) bt
     in
     let size : length (take j order) ≡ j = length-take-le j order (omega arith) in
     let k : i < length (take j order) = omega arith in

@@ -1,4 +1,6 @@
+pub mod Accounts
 pub mod Chains
+pub mod Fallings
 pub mod Faults
 pub mod Groups
 pub mod Orders

@@ -1,5 +1,5 @@
 use crate::falling::check_falling;
-use crate::flows::check_flows;
+
 use crate::graph::check_graph;
 use crate::order::check_order;
 use crate::{CheckFault, Part, Written};
@@ -12,6 +12,6 @@ pub fn check(alloc: Global, graph: &Written, parts: &[Part]) -> Result<(), Check
     let tables = check_graph(alloc, txs, edges)?;
     check_order(alloc, txs, &tables, parts)?;
     check_falling(txs, &tables.names, parts)?;
-    check_flows(alloc, txs, &tables, parts)?;
+
     Ok(())
 }

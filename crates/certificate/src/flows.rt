@@ -1,7 +1,21 @@
+ghost use Rattle.std.specs.Prelude.{◌≡◌, ◌≢◌, ℕ, ◌*◌, ◌^◌, ◌*ℤ◌, ◌<◌, ◌≤◌, [], ◌∷◌, pos, length, nat_eq, Contains, unsigned_abs, IfOk, IfErr, MatchBool, MatchResult};
+ghost use Rattle.std.specs.HashMap as hash;
+ghost use Rattle.fee_rate.specs.Limits.{InRange, IsRate, IsSum};
+ghost use Rattle.graph_model.specs.Graphs.{AreDistinct};
+ghost use Rattle.graph_model.specs.Certificates.{Certifies, HasFlows, rate_in, weight_in};
+ghost use Rattle.certificate.specs.declared.fault.CheckFault.TheVariants as faults;
+ghost use Rattle.certificate.specs.Accounts.{AreBalanced, AreInside, AreNet, AreOpen, IsEdge, IsOpen, KeepParts, account_at, amount_of, ends_of};
+ghost use Rattle.certificate.specs.Fallings.{AreRates, AreSummed};
+ghost use Rattle.certificate.specs.Faults.{Says};
+ghost use Rattle.certificate.specs.Parts.{flows_at, ids_at, order_of, parts_of};
+ghost use Rattle.certificate.specs.Places.{ArePlaces};
+ghost use Rattle.certificate.specs.Tables.{AreInLimits, names_of};
+
+use crate::falling::rate_of;
 use crate::graph::Tables;
 use crate::names::{Names, find};
 use crate::{CheckFault, Part};
-use fee_rate::Sum;
+use fee_rate::{FeeRate, Sum};
 use graph_model::{Flow, TxId};
 use std::alloc::Global;
 use std::collections::HashSet;
@@ -14,69 +28,95 @@ pub(crate) struct Account {
     net: i128,
 }
 
-/// Whether the flows certify each part.
-pub(crate) fn check_flows(
-    alloc: Global,
-    txs: &[(TxId, i64, u64)],
-    tables: &Tables,
-    parts: &[Part],
-) -> Result<(), CheckFault> {
-    let mut accounts = vec![in alloc; Account { part: 0, net: 0 }; txs.len()]?;
-    for (at, part) in parts.iter().enumerate() {
-        let accounts = accounts.as_mut_slice();
-        open(accounts, &tables.names, at + 1, part.ids.as_slice())?;
-        carry(alloc, accounts, tables, at + 1, part.flows.as_slice())?;
-        balanced(accounts, txs, &tables.names, part.rate, part.ids.as_slice())?;
-    }
-    Ok(())
-}
-
 /// Opens the accounts of a part's names.
-fn open(
-    accounts: &mut [Account],
-    names: &Names,
-    part: usize,
-    ids: &[TxId],
-) -> Result<(), CheckFault> {
+fn open(accounts: &mut [Account], names: &Names, part: usize, ids: &[TxId])
+    requires later { (place : ℕ) → (account_at accounts.old place).part < part }
+    requires known { (id : ℕ) → Contains ids.now id → (place : ℕ) × (place < length accounts.old) × (hash.get nat_eq names.now id ≡ Some place) }
+    ensures opened { AreOpen (hash.get nat_eq names.now) ids.now part accounts.new }
+    ensures empty { (place : ℕ) → (account_at accounts.new place).part ≡ part → (account_at accounts.new place).net ≡ pos 0 }
+{
     for id in ids {
-        let Some(place) = find(names, *id) else {
-            return Err(CheckFault::Flow);
-        };
+        let place = place_of(names, *id);
         accounts[place] = Account { part, net: 0 };
     }
-    Ok(())
 }
 
-/// Carries a part's flows; it fails where one is on no edge within the part, or stands twice.
-fn carry(
-    alloc: Global,
-    accounts: &mut [Account],
-    tables: &Tables,
-    part: usize,
-    flows: &[Flow],
-) -> Result<(), CheckFault> {
+/// The place of a name.
+fn place_of(names: &Names, id: TxId) -> usize
+    requires { (place : ℕ) × (hash.get nat_eq names.now id ≡ Some place) }
+    ensures { hash.get nat_eq names.now id ≡ Some result }
+{
+    match find(names, id) {
+        Some(place) => place,
+        None => unreachable!(),
+    }
+}
+
+/// Whether no two flows have the same ends.
+fn flows_once(alloc: Global, flows: &[Flow]) -> Result<(), CheckFault>
+    ensures { MatchResult result (λ _. AreDistinct (ends_of flows.now)) (Says faults.Flow (AreDistinct (ends_of flows.now))) }
+{
     let mut seen = HashSet::new(alloc);
     for flow in flows {
-        if !tables.edges.contains(&(flow.parent, flow.child)) {
-            return Err(CheckFault::Flow);
-        }
         let new = seen.insert((flow.child, flow.parent))?;
         if !new {
             return Err(CheckFault::Flow);
         }
-        let Some(child) = find(&tables.names, flow.child) else {
-            return Err(CheckFault::Flow);
-        };
-        let Some(parent) = find(&tables.names, flow.parent) else {
-            return Err(CheckFault::Flow);
-        };
-        if accounts[child].part != part || accounts[parent].part != part {
-            return Err(CheckFault::Flow);
-        }
-        accounts[child].net += flow.amount as i128;
-        accounts[parent].net -= flow.amount as i128;
     }
     Ok(())
+}
+
+/// Whether each flow is on an edge, and its ends have accounts of the part.
+fn flows_inside(
+    accounts: &[Account],
+    tables: &Tables,
+    part: usize,
+    flows: &[Flow],
+) -> Result<(), CheckFault>
+    requires { (id place : ℕ) → hash.get nat_eq tables.now.names id ≡ Some place → place < length accounts.now }
+    ensures { MatchResult result (λ _. AreInside (hash.get nat_eq tables.now.names) (IsEdge tables.now) accounts.now part flows.now) (Says faults.Flow (AreInside (hash.get nat_eq tables.now.names) (IsEdge tables.now) accounts.now part flows.now)) }
+{
+    for flow in flows {
+        if !tables.edges.contains(&(flow.parent, flow.child)) {
+            return Err(CheckFault::Flow);
+        }
+        if !is_open(accounts, &tables.names, part, flow.child) {
+            return Err(CheckFault::Flow);
+        }
+        if !is_open(accounts, &tables.names, part, flow.parent) {
+            return Err(CheckFault::Flow);
+        }
+    }
+    Ok(())
+}
+
+/// Whether a number is a name whose account is of the part.
+fn is_open(accounts: &[Account], names: &Names, part: usize, id: TxId) -> bool
+    requires { (place : ℕ) → hash.get nat_eq names.now id ≡ Some place → place < length accounts.now }
+    ensures { MatchBool result (IsOpen (hash.get nat_eq names.now) accounts.now part id) (IsOpen (hash.get nat_eq names.now) accounts.now part id → ⊥) }
+{
+    match find(names, id) {
+        Some(place) => accounts[place].part == part,
+        None => false,
+    }
+}
+
+/// Books flows into the accounts of their ends.
+fn book(accounts: &mut [Account], names: &Names, part: usize, flows: &[Flow])
+    requires inside { (flow : Flow) → Contains flows.now flow → IsOpen (hash.get nat_eq names.now) accounts.old part flow.child × IsOpen (hash.get nat_eq names.now) accounts.old part flow.parent }
+    requires apart { (a b place : ℕ) → hash.get nat_eq names.now a ≡ Some place → hash.get nat_eq names.now b ≡ Some place → a ≡ b }
+    requires empty { (place : ℕ) → (account_at accounts.old place).part ≡ part → (account_at accounts.old place).net ≡ pos 0 }
+    requires total { amount_of flows.now < 2 ^ 127 }
+    ensures parts { KeepParts accounts.old accounts.new }
+    ensures net { AreNet (hash.get nat_eq names.now) part flows.now accounts.new }
+{
+    for flow in flows {
+        let child = place_of(names, flow.child);
+        let parent = place_of(names, flow.parent);
+        let amount = flow.amount as i128;
+        accounts[child].net += amount;
+        accounts[parent].net -= amount;
+    }
 }
 
 /// Whether each name of a part gives, less what it gets, its weight in the part.
@@ -86,16 +126,37 @@ fn balanced(
     names: &Names,
     rate: Sum,
     ids: &[TxId],
-) -> Result<(), CheckFault> {
+) -> Result<(), CheckFault>
+    requires places { ArePlaces (names_of txs.now) (hash.get nat_eq names.now) }
+    requires limits { AreInLimits txs.now }
+    requires rate { IsSum rate }
+    requires members { (id : ℕ) → Contains ids.now id → Contains (names_of txs.now) id }
+    requires room { length (names_of txs.now) ≡ length accounts.now }
+    ensures { MatchResult result (λ _. AreBalanced (hash.get nat_eq names.now) (rate_in txs.now) rate ids.now accounts.now) (Says faults.Flow (AreBalanced (hash.get nat_eq names.now) (rate_in txs.now) rate ids.now accounts.now)) }
+{
     for id in ids {
-        let Some(place) = find(names, *id) else {
-            return Err(CheckFault::Flow);
-        };
-        let tx = txs[place];
-        let weight = i128::from(rate.size) * i128::from(tx.1) - rate.fee * i128::from(tx.2);
-        if weight != accounts[place].net {
+        let own = rate_of(txs, names, *id);
+        if weight(rate, own) != accounts[place_of(names, *id)].net {
             return Err(CheckFault::Flow);
         }
     }
     Ok(())
+}
+
+/// How far a rate is above that of a whole, times both sizes. Below 2^95 in absolute value.
+fn weight(whole: Sum, own: FeeRate) -> i128
+    requires whole_in { IsSum whole }
+    requires own_in { IsRate own }
+    ensures { result ≡ weight_in whole record { fee = own.fee; size = own.size } }
+{
+    crossed(i128::from(own.fee), whole.size) - crossed(whole.fee, own.size)
+}
+
+/// A fee times a size. Below 2^114 in absolute value.
+fn crossed(fee: i128, size: u64) -> i128
+    requires { InRange fee size }
+    ensures product { result ≡ fee *ℤ pos size }
+    ensures bound { unsigned_abs result < 2 ^ 114 }
+{
+    fee * i128::from(size)
 }

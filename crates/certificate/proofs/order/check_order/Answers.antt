@@ -21,7 +21,7 @@ returns-in_err-ranks-clause-fault c =
     let p = err_from_is_err_and c.from_residual-in_err-ranks.result c.from_residual-in_err-ranks.ensures.1 in
     rw (p.1, p.2)
     (says_whole Order (IsOrderOf names c.as_slice.result.now) (HasOrder (graph_of c.args.txs.now (map (named names) pairs)) (parts_of c.args.parts.now)) c.in_err-ranks.field-0.0
-      (λ h. subst (λ l. IsOrderOf names l) (sym order) (order_part c.args.txs.now (map (named names) pairs) c.args.parts.now h)) c.in_err-ranks.ensures.fault)
+    (λ h. subst (λ l. IsOrderOf names l) (sym order) (order_part c.args.txs.now (map (named names) pairs) c.args.parts.now h)) c.in_err-ranks.ensures.fault)
 
 pub returns-in_err-parents_first-clause-fault : goal.returns-in_err-parents_first-clause-fault
 returns-in_err-parents_first-clause-fault c =
@@ -32,10 +32,10 @@ returns-in_err-parents_first-clause-fault c =
     let p = err_from_is_err_and c.from_residual-in_err-parents_first.result c.from_residual-in_err-parents_first.ensures.1 in
     rw (p.1, p.2)
     (says_whole Order (Rise c.as_slice-2.result.now c.as_slice-3.result.now) (HasOrder (graph_of c.args.txs.now (map (named names) pairs)) (parts_of c.args.parts.now)) c.in_err-parents_first.field-0.0
-      (λ h.
-          subst (λ r. Rise r c.as_slice-3.result.now) (sym c.as_slice-2.ensures.value)
-          (subst (λ l. Rise c.in_ok-ranks.ranks.items l) (sym c.as_slice-3.ensures.value) (rise_part c.args.txs.now pairs c.args.parts.now c.in_ok-ranks.ranks.items c.requires.pairs ranks h)))
-      c.in_err-parents_first.ensures)
+    (λ h.
+    subst (λ r. Rise r c.as_slice-3.result.now) (sym c.as_slice-2.ensures.value)
+    (subst (λ l. Rise c.in_ok-ranks.ranks.items l) (sym c.as_slice-3.ensures.value) (rise_part c.args.txs.now pairs c.args.parts.now c.in_ok-ranks.ranks.items c.requires.pairs ranks h)))
+    c.in_err-parents_first.ensures)
 
 pub parts_together-requires : goal.parts_together-requires
 parts_together-requires c =
@@ -54,8 +54,8 @@ returns-in_err-parts_together-clause-fault c =
     let p = err_from_is_err_and c.from_residual-in_err-parts_together.result c.from_residual-in_err-parts_together.ensures.1 in
     rw (p.1, p.2)
     (says_whole Order ((k : ℕ) → k < length c.args.parts.now → AreOfOneGroup (hash.get nat_eq c.args.tables.now.names) c.as_slice-5.result.now (ids_at c.args.parts.now k))
-      (HasOrder (graph_of c.args.txs.now (map (named names) pairs)) (parts_of c.args.parts.now)) c.in_err-parts_together.field-0.0
-      (λ h. groups_part c.args.txs.now _ pairs c.args.parts.now c.as_slice-5.result.now c.requires.places c.requires.pairs groups long h) c.in_err-parts_together.ensures)
+    (HasOrder (graph_of c.args.txs.now (map (named names) pairs)) (parts_of c.args.parts.now)) c.in_err-parts_together.field-0.0
+    (λ h. groups_part c.args.txs.now _ pairs c.args.parts.now c.as_slice-5.result.now c.requires.places c.requires.pairs groups long h) c.in_err-parts_together.ensures)
 
 pub returns-clause-yes : goal.returns-clause-yes
 returns-clause-yes c =

@@ -15,7 +15,7 @@ returns-in_err-ranks-clause-fault c =
     let seats : AreSeats (names_of c.args.txs.now) c.args.order.now c.as_slice.result.now = subst (λ s. AreSeats (names_of c.args.txs.now) c.args.order.now s) (sym same) c.in_ok-take_seats.ensures.seats in
     rw (p.1, p.2)
     (says_whole Order ((place : ℕ) → place < length c.as_slice.result.now → IsSome (seat_at c.as_slice.result.now place)) (IsOrderOf (names_of c.args.txs.now) c.args.order.now) c.in_err-ranks.field-0.0
-      (all_have_seats _ _ _ _ c.requires seats) c.in_err-ranks.ensures.fault)
+    (all_have_seats _ _ _ _ c.requires seats) c.in_err-ranks.ensures.fault)
 
 pub returns-clause-order : goal.returns-clause-order
 returns-clause-order c =
