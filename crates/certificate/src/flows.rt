@@ -1,4 +1,5 @@
-ghost use Rattle.std.specs.Prelude.{◌≡◌, ◌≢◌, ℕ, ◌*◌, ◌^◌, ◌*ℤ◌, ◌<◌, ◌≤◌, [], ◌∷◌, pos, length, nat_eq, Contains, unsigned_abs, IfOk, IfErr, MatchBool, MatchResult};
+ghost use Rattle.std.specs.Prelude.{◌≡◌, ◌≢◌, ℕ, ◌*◌, ◌^◌, ◌*ℤ◌, ◌<◌, ◌≤◌, [], ◌∷◌, pos, length, nat_eq, Contains, unsigned_abs, IfOk, IfErr, MatchBool, MatchResult, FitsSigned, slice_set, ◌+ℤ◌, ◌-ℤ◌};
+ghost use Rattle.std.specs.Int.{w128};
 ghost use Rattle.std.specs.HashMap as hash;
 ghost use Rattle.fee_rate.specs.Limits.{InRange, IsRate, IsSum};
 ghost use Rattle.graph_model.specs.Graphs.{AreDistinct};
@@ -113,10 +114,29 @@ fn book(accounts: &mut [Account], names: &Names, part: usize, flows: &[Flow])
     for flow in flows {
         let child = place_of(names, flow.child);
         let parent = place_of(names, flow.parent);
-        let amount = flow.amount as i128;
-        accounts[child].net += amount;
-        accounts[parent].net -= amount;
+        pay(accounts, child, flow.amount);
+        draw(accounts, parent, flow.amount);
     }
+}
+
+/// Adds an amount to an account.
+fn pay(accounts: &mut [Account], place: usize, amount: u128)
+    requires place_in { place < length accounts.old }
+    requires small { amount < 2 ^ 127 }
+    requires fits { FitsSigned w128 ((account_at accounts.old place).net +ℤ pos amount) }
+    ensures { accounts.new ≡ slice_set accounts.old place record { part = (account_at accounts.old place).part; net = (account_at accounts.old place).net +ℤ pos amount } }
+{
+    accounts[place].net += amount as i128;
+}
+
+/// Takes an amount from an account.
+fn draw(accounts: &mut [Account], place: usize, amount: u128)
+    requires place_in { place < length accounts.old }
+    requires small { amount < 2 ^ 127 }
+    requires fits { FitsSigned w128 ((account_at accounts.old place).net -ℤ pos amount) }
+    ensures { accounts.new ≡ slice_set accounts.old place record { part = (account_at accounts.old place).part; net = (account_at accounts.old place).net -ℤ pos amount } }
+{
+    accounts[place].net -= amount as i128;
 }
 
 /// Whether each name of a part gives, less what it gets, its weight in the part.
@@ -149,7 +169,9 @@ fn weight(whole: Sum, own: FeeRate) -> i128
     requires own_in { IsRate own }
     ensures { result ≡ weight_in whole record { fee = own.fee; size = own.size } }
 {
-    crossed(i128::from(own.fee), whole.size) - crossed(whole.fee, own.size)
+    let above = crossed(i128::from(own.fee), whole.size);
+    let below = crossed(whole.fee, own.size);
+    above - below
 }
 
 /// A fee times a size. Below 2^114 in absolute value.
