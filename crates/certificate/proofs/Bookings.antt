@@ -1,7 +1,7 @@
 -- Flows and accounts, one after the other.
-use Rattle.std.proofs.Common.{◌≡◌, ◌≢◌, ℕ, ◌+◌, ◌-◌, ◌^◌, ◌<◌, ◌≤◌, zero, suc, List, [], ◌∷◌, ◌++◌, length, inl, inr, refl, sym, ap, ◌∙◌, subst, arith, get_or, set, map, take, Option, Some, None, cond, eqb, true, false, Bool, ℤ, pos, ◌+ℤ◌, ◌-ℤ◌, FitsSigned, unsigned_abs}
+use Rattle.std.proofs.Common.{◌≡◌, ◌≢◌, ℕ, ◌+◌, ◌-◌, ◌^◌, ◌<◌, ◌≤◌, zero, suc, List, [], ◌∷◌, ◌++◌, length, inl, inr, refl, sym, ap, ◌∙◌, subst, arith, get_or, set, map, take, Option, Some, None, cond, eqb, true, false, Bool, ℤ, pos, ◌+ℤ◌, ◌-ℤ◌, ◌*ℤ◌, FitsSigned, unsigned_abs, to_z, of_z}
 use Rattle.std.specs.Prelude.{Contains, sum_by}
-use Rattle.std.proofs.lemmas.Int.{ints, fits_signed_from_abs}
+use Rattle.std.proofs.lemmas.Int.{ints, fits_signed_from_abs, to_z-of_z}
 use mir.Syntax.{w128}
 use Rattle.std.proofs.lemmas.Bool.{cases_eq, cases_lt, ne_eqb}
 use Rattle.std.proofs.Common.{eq-eqb}
@@ -9,7 +9,9 @@ use Rattle.std.proofs.lemmas.List.{get_or-map, length-map, get_or_default, get_o
 use Rattle.std.proofs.lemmas.List.Sums.{sum_by-append, sum_by-cons, sum_by-take-le, get_or-le-sum_by}
 use Rattle.std.proofs.lemmas.List.Elements.{Contains-get_or, Contains-push_cases, Contains-append_left, Contains-push}
 use Rattle.graph_model.specs.declared.names.Flow.{Flow}
-use Rattle.graph_model.specs.Certificates.{given, gotten}
+use Rattle.graph_model.specs.Certificates.{given, gotten, weight_in}
+use Rattle.fee_rate.specs.declared.rates.Sum.{Sum}
+use Rattle.certificate.specs.Places.{ArePlaces}
 use Rattle.certificate.specs.declared.flows.Account.{Account}
 use Rattle.certificate.specs.Accounts.{account_at, IsOpen, AreOpen, AreNet, KeepParts, AreInside, amount_of, ends_of}
 
@@ -76,7 +78,7 @@ term_same a b n e = ap (λ t. let m : ℕ = cond t n 0 in m) (eq-eqb a b e)
 term_other : (a b n : ℕ) → (a ≡ b → ⊥) → cond (eqb a b) n 0 ≡ 0
 term_other a b n ne = ap (λ t. let m : ℕ = cond t n 0 in m) (ne_eqb a b ne)
 
-some_same : (a b : ℕ) → Some a ≡ Some b → a ≡ b
+pub some_same : (a b : ℕ) → Some a ≡ Some b → a ≡ b
 some_same a b e = cc
 
 paid_sum : (new old : ℤ) (f g a t : ℕ) → new ≡ old +ℤ pos a → old ≡ pos f -ℤ pos g → t ≡ a → new ≡ pos (f + t) -ℤ pos g
@@ -253,3 +255,87 @@ pub drawn : (find : ℕ → Option ℕ) (part : ℕ) (old cur new : List Account
 drawn find part old cur new flows k place one h in' e room is =
     nets_same find part _ _ (given (take (k + 1) flows)) (gotten (take (k + 1) flows)) old new (λ id. refl) (λ id. gotten_next flows k id in')
     (nets_drawn find part (given (take (k + 1) flows)) (gotten (take k flows)) old cur new (flow_at flows k).parent place (flow_at flows k).amount one h e room is)
+
+-- ---- weights
+pub kept : (z : ℤ) → unsigned_abs z < 2 ^ 127 → to_z w128 (of_z w128 z) ≡ z
+kept z h = to_z-of_z w128 z (fits_signed_from_abs w128 z h)
+
+sub_abs : (a b : ℤ) → unsigned_abs a < 2 ^ 114 → unsigned_abs b < 2 ^ 114 → unsigned_abs (a -ℤ b) < 2 ^ 127
+sub_abs a b h k = omega (arith, ints)
+
+pub weight_kept : (a b x y : ℤ) → unsigned_abs a < 2 ^ 114 → unsigned_abs b < 2 ^ 114 → a ≡ x → b ≡ y → to_z w128 (of_z w128 (to_z w128 (of_z w128 a) -ℤ to_z w128 (of_z w128 b))) ≡ x -ℤ y
+weight_kept a b x y h k e f =
+    let ka = kept a (omega arith) in
+    let kb = kept b (omega arith) in
+    ap (λ z. to_z w128 (of_z w128 (z -ℤ to_z w128 (of_z w128 b)))) ka ∙ ap (λ z. to_z w128 (of_z w128 (a -ℤ z))) kb ∙ kept (a -ℤ b) (sub_abs a b h k) ∙ ap (λ z. z -ℤ b) e ∙ ap (λ z. x -ℤ z) f
+
+-- ---- accounts opened
+pub open_none : (find : ℕ → Option ℕ) (part : ℕ) (accounts : List Account) → ((x : ℕ) → (account_at accounts x).part < part) → AreOpen find [] part accounts
+open_none find part accounts h = record {
+  bound = λ x. let l = h x in omega arith;
+  here = λ id (k, in', e). absurd (omega arith);
+  only = λ x e. let l = h x in absurd (omega arith);
+}
+
+pub open_more : (find : ℕ → Option ℕ) (ids : List ℕ) (part : ℕ) (accounts : List Account) (k place : ℕ) → k < length ids → AreOpen find (take k ids) part accounts → find (get_or ids k 0) ≡ Some place → place < length accounts
+    → AreOpen find (take (k + 1) ids) part (set accounts place record { part = part; net = pos 0 })
+open_more find ids part accounts k place in' h is room =
+    let new : Account = record { part = part; net = pos 0 } in
+    let more = take_more ids k 0 in' in
+    record {
+      bound =
+        λ x.
+            elim (cases_eq x place) [
+              | inl e ↦ (let q : (account_at (set accounts place new) x).part ≡ part = subst (λ y. (account_at (set accounts place new) y).part ≡ part) (sym e) (ap (λ (a : Account). a.part) (changed_here accounts place new room)) in omega arith)
+              | inr ne ↦ (let q = ap (λ (a : Account). a.part) (changed_there accounts place x new ne) in let b = h.bound x in omega arith)
+            ];
+      here =
+        λ id there.
+            elim (Contains-push_cases (take k ids) (get_or ids k 0) id (subst (λ l. Contains l id) more there)) [
+              | inl old ↦
+                (let (x, x_is, x_in, of) = h.here id old in
+                (
+                  x,
+                  x_is,
+                  subst (λ n. x < n) (sym (length-set accounts place new)) x_in,
+                  elim (cases_eq x place) [
+                    | inl e ↦ subst (λ y. (account_at (set accounts place new) y).part ≡ part) (sym e) (ap (λ (a : Account). a.part) (changed_here accounts place new room))
+                    | inr ne ↦ ap (λ (a : Account). a.part) (changed_there accounts place x new ne) ∙ of
+                  ],
+                ))
+              | inr same ↦
+                (place, ap find (sym same) ∙ is, subst (λ n. place < n) (sym (length-set accounts place new)) room, ap (λ (a : Account). a.part) (changed_here accounts place new room))
+            ];
+      only =
+        λ x of.
+            elim (cases_eq x place) [
+              | inl e ↦ (get_or ids k 0, subst (λ l. Contains l (get_or ids k 0)) (sym more) (Contains-push (take k ids) (get_or ids k 0)), is ∙ ap Some (sym e))
+              | inr ne ↦
+                (let (id, there, id_is) = h.only x (sym (ap (λ (a : Account). a.part) (changed_there accounts place x new ne)) ∙ of) in
+                (id, subst (λ l. Contains l id) (sym more) (Contains-append_left (take k ids) (get_or ids k 0 ∷ []) id there), id_is))
+            ];
+    }
+
+pub empty_more : (part place : ℕ) (accounts : List Account) → place < length accounts → ((x : ℕ) → (account_at accounts x).part ≡ part → (account_at accounts x).net ≡ pos 0)
+    → (x : ℕ) → (account_at (set accounts place record { part = part; net = pos 0 }) x).part ≡ part → (account_at (set accounts place record { part = part; net = pos 0 }) x).net ≡ pos 0
+empty_more part place accounts room h x of =
+    let new : Account = record { part = part; net = pos 0 } in
+    elim (cases_eq x place) [
+      | inl e ↦ subst (λ y. (account_at (set accounts place new) y).net ≡ pos 0) (sym e) (ap (λ (a : Account). a.net) (changed_here accounts place new room))
+      | inr ne ↦ ap (λ (a : Account). a.net) (changed_there accounts place x new ne) ∙ h x (sym (ap (λ (a : Account). a.part) (changed_there accounts place x new ne)) ∙ of)
+    ]
+
+pub known_place : (find : ℕ → Option ℕ) (ids : List ℕ) (n k place : ℕ) → k < length ids → ((id : ℕ) → Contains ids id → (p : ℕ) × (p < n) × (find id ≡ Some p)) → find (get_or ids k 0) ≡ Some place → place < n
+known_place find ids n k place in' known is =
+    let (p, p_in, p_is) = known (get_or ids k 0) (Contains-get_or ids k 0 in') in
+    subst (λ x. x < n) (some_same p place (sym p_is ∙ is)) p_in
+
+pub ends_all : (flows : List Flow) → length (ends_of flows) ≡ length flows
+ends_all flows = length-map flows (λ (f : Flow). let p : ℕ × ℕ = (f.child, f.parent) in p)
+
+-- the weight of a name, by its fee and size
+pub weight_of_name : (whole own named : Sum) (w : ℤ) → w ≡ weight_in whole own → own.fee ≡ named.fee → own.size ≡ named.size → w ≡ weight_in whole named
+weight_of_name whole own named w e f s = e ∙ ap (λ (z : ℤ). (z *ℤ pos whole.size) -ℤ (whole.fee *ℤ pos own.size)) f ∙ ap (λ (n : ℕ). (named.fee *ℤ pos whole.size) -ℤ (whole.fee *ℤ pos n)) s
+
+pub member_place : (names : List ℕ) (find : ℕ → Option ℕ) (id : ℕ) → ArePlaces names find → Contains names id → (p : ℕ) × (p < length names) × (find id ≡ Some p)
+member_place names find id h (p, p_in, is) = (p, p_in, ap find (sym (get_or_default names p 0 id p_in ∙ is)) ∙ h.complete p p_in)

@@ -65,7 +65,7 @@ holding has xs q h e = h.exact q ∙ contains_any q xs e
 pub holds_none : (has : ℕ × ℕ → Bool) → ((q : ℕ × ℕ) → has q ≡ false) → Holds has []
 holds_none has h = record { exact = h }
 
-true_false : true ≡ false → ⊥
+pub true_false : true ≡ false → ⊥
 true_false e = cc
 
 add_cases : (e h : Bool) → cond e true h ≡ true → (e ≡ true) ⊎ (h ≡ true)
@@ -128,3 +128,12 @@ pub upto_again : (has : ℕ × ℕ → Bool) (xs : List (ℕ × ℕ)) (k : ℕ) 
 upto_again has xs k new in' u added is d =
     let old = not_true (has (get_or xs k (0, 0))) (sym added ∙ is) in
     repeated xs k (get_or xs k (0, 0)) (0, 0) in' refl (held has (take k xs) _ u.holds old) d
+
+-- the same, where the pair is known by another name
+pub put_next : (has has' : ℕ × ℕ → Bool) (xs : List (ℕ × ℕ)) (k : ℕ) (x : ℕ × ℕ) (new : Bool) → ◌≡◌ {A = ℕ × ℕ} (get_or xs k (0, 0)) x → k < length xs → IsUpto has xs k → new ≡ not (has x) → new ≡ true
+    → ((q : ℕ × ℕ) → has' q ≡ cond (same_pair x q) true (has q)) → IsUpto has' xs (k + 1)
+put_next has has' xs k x new e in' u added is up =
+    upto_more has has' xs k new in' u (added ∙ ap (λ (y : ℕ × ℕ). not (has y)) (sym e)) is (λ q. up q ∙ ap (λ (y : ℕ × ℕ). cond (same_pair y q) true (has q)) (sym e))
+
+pub put_again : (has : ℕ × ℕ → Bool) (xs : List (ℕ × ℕ)) (k : ℕ) (x : ℕ × ℕ) (new : Bool) → ◌≡◌ {A = ℕ × ℕ} (get_or xs k (0, 0)) x → k < length xs → IsUpto has xs k → new ≡ not (has x) → new ≡ false → AreDistinct xs → ⊥
+put_again has xs k x new e in' u added is d = upto_again has xs k new in' u (added ∙ ap (λ (y : ℕ × ℕ). not (has y)) (sym e)) is d

@@ -156,7 +156,8 @@ fn balanced(
 {
     for id in ids {
         let own = rate_of(txs, names, *id);
-        if weight(rate, own) != accounts[place_of(names, *id)].net {
+        let place = place_of(names, *id);
+        if weight(rate, own) != accounts[place].net {
             return Err(CheckFault::Flow);
         }
     }
@@ -169,7 +170,8 @@ fn weight(whole: Sum, own: FeeRate) -> i128
     requires own_in { IsRate own }
     ensures { result ≡ weight_in whole record { fee = own.fee; size = own.size } }
 {
-    let above = crossed(i128::from(own.fee), whole.size);
+    let own = Sum::from(own);
+    let above = crossed(own.fee, whole.size);
     let below = crossed(whole.fee, own.size);
     above - below
 }
