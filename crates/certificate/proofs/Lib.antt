@@ -1,6 +1,7 @@
 pub mod Bookings
 pub mod Distinct
 pub mod FallingLemmas
+pub mod FlowLemmas
 pub mod Forests
 pub mod GraphLemmas
 pub mod Labels

@@ -1,11 +1,13 @@
 -- Accounts of a part: for each place the part that it is of, and what its name gives less what it gets.
-use Rattle.std.specs.Prelude.{◌≡◌, ℕ, ◌<◌, ◌≤◌, ℤ, pos, ◌+ℤ◌, ◌-ℤ◌, List, length, map, Contains, Option, Some, slice_index_or, sum_by, IsTrue, ◌&&◌, nat_eq, All}
+use Rattle.std.specs.Prelude.{◌≡◌, ℕ, ◌^◌, ◌<◌, ◌≤◌, ℤ, pos, ◌+ℤ◌, ◌-ℤ◌, List, length, map, Contains, Option, Some, slice_index_or, sum_by, IsTrue, ◌&&◌, nat_eq, All}
 use Rattle.std.specs.HashSet as bag
 use Rattle.fee_rate.specs.declared.rates.Sum.{Sum}
 use Rattle.graph_model.specs.declared.names.Flow.{Flow}
 use Rattle.graph_model.specs.Certificates.{Txs, rate_in, given, gotten, weight_in}
 use Rattle.certificate.specs.declared.flows.Account.{Account}
 use Rattle.certificate.specs.declared.graph.Tables.{Tables}
+use Rattle.certificate.specs.declared.lists.Part.{Part}
+use Rattle.certificate.specs.Parts.{flows_at}
 
 abbrev pub account_at : List Account → ℕ → Account
 account_at accounts place = slice_index_or accounts place record { part = 0; net = pos 0 }
@@ -50,3 +52,8 @@ ends_of flows = map (λ flow. (flow.child, flow.parent)) flows
 abbrev pub AreBalanced : (ℕ → Option ℕ) → (ℕ → Sum) → Sum → List ℕ → List Account → Type 0
 AreBalanced find rate whole ids accounts =
     (id place : ℕ) → Contains ids id → find id ≡ Some place → weight_in whole (rate id) ≡ (account_at accounts place).net
+
+-- each amount is at least 1, and what the flows of one part carry stays below 2^127
+pub record ArePayable (parts : List Part) : Type 0 where
+  pub some : (k : ℕ) (flow : Flow) → k < length parts → Contains (flows_at parts k) flow → 1 ≤ flow.amount
+  pub total : (k : ℕ) → k < length parts → amount_of (flows_at parts k) < 2 ^ 127

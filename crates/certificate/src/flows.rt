@@ -5,10 +5,12 @@ ghost use Rattle.fee_rate.specs.Limits.{InRange, IsRate, IsSum};
 ghost use Rattle.graph_model.specs.Graphs.{AreDistinct};
 ghost use Rattle.graph_model.specs.Certificates.{Certifies, HasFlows, rate_in, weight_in};
 ghost use Rattle.certificate.specs.declared.fault.CheckFault.TheVariants as faults;
-ghost use Rattle.certificate.specs.Accounts.{AreBalanced, AreInside, AreNet, AreOpen, IsEdge, IsOpen, KeepParts, account_at, amount_of, ends_of};
+ghost use Rattle.certificate.specs.Accounts.{ArePayable, AreBalanced, AreInside, AreNet, AreOpen, IsEdge, IsOpen, KeepParts, account_at, amount_of, ends_of};
 ghost use Rattle.certificate.specs.Fallings.{AreRates, AreSummed};
 ghost use Rattle.certificate.specs.Faults.{Says};
-ghost use Rattle.certificate.specs.Parts.{flows_at, ids_at, order_of, parts_of};
+ghost use Rattle.certificate.specs.Parts.{order_of, parts_of};
+ghost use Rattle.graph_model.specs.declared.names.Flow.{Flow};
+ghost use Rattle.graph_model.specs.Rates.{sums};
 ghost use Rattle.certificate.specs.Places.{ArePlaces};
 ghost use Rattle.certificate.specs.Tables.{AreInLimits, names_of};
 
@@ -27,6 +29,82 @@ pub(crate) struct Account {
     /// The part, counted from 1; 0: none yet.
     part: usize,
     net: i128,
+}
+
+/// Whether the flows certify each part.
+pub(crate) fn check_flows(
+    alloc: Global,
+    txs: &[(TxId, i64, u64)],
+    tables: &Tables,
+    parts: &[Part],
+) -> Result<(), CheckFault>
+    requires places { ArePlaces (names_of txs.now) (hash.get nat_eq tables.now.names) }
+    requires limits { AreInLimits txs.now }
+    requires members { (id : ℕ) → Contains (order_of parts.now) id → Contains (names_of txs.now) id }
+    requires rates { AreRates parts.now }
+    requires summed { AreSummed txs.now parts.now }
+    requires payable { ArePayable parts.now }
+    ensures { MatchResult result (λ _. HasFlows (rate_in txs.now) (IsEdge tables.now) (parts_of parts.now)) (Says faults.Flow (HasFlows (rate_in txs.now) (IsEdge tables.now) (parts_of parts.now))) }
+{
+    let mut accounts = vec![in alloc; Account { part: 0, net: 0 }; txs.len()]?;
+    check_parts(alloc, accounts.as_mut_slice(), txs, tables, parts)
+}
+
+/// Whether the flows certify each part, with an account for each name.
+fn check_parts(
+    alloc: Global,
+    accounts: &mut [Account],
+    txs: &[(TxId, i64, u64)],
+    tables: &Tables,
+    parts: &[Part],
+) -> Result<(), CheckFault>
+    requires places { ArePlaces (names_of txs.now) (hash.get nat_eq tables.now.names) }
+    requires limits { AreInLimits txs.now }
+    requires members { (id : ℕ) → Contains (order_of parts.now) id → Contains (names_of txs.now) id }
+    requires rates { AreRates parts.now }
+    requires summed { AreSummed txs.now parts.now }
+    requires payable { ArePayable parts.now }
+    requires room { length (names_of txs.now) ≡ length accounts.old }
+    requires none { (place : ℕ) → (account_at accounts.old place).part ≡ 0 }
+    ensures { MatchResult result (λ _. HasFlows (rate_in txs.now) (IsEdge tables.now) (parts_of parts.now)) (Says faults.Flow (HasFlows (rate_in txs.now) (IsEdge tables.now) (parts_of parts.now))) }
+{
+    for (at, part) in parts.iter().enumerate() {
+        let ids = part.ids.as_slice();
+        let flows = part.flows.as_slice();
+        check_part(alloc, accounts, txs, tables, at + 1, part.rate, ids, flows)?;
+    }
+    Ok(())
+}
+
+/// Whether flows certify a part.
+fn check_part(
+    alloc: Global,
+    accounts: &mut [Account],
+    txs: &[(TxId, i64, u64)],
+    tables: &Tables,
+    part: usize,
+    rate: Sum,
+    ids: &[TxId],
+    flows: &[Flow],
+) -> Result<(), CheckFault>
+    requires places { ArePlaces (names_of txs.now) (hash.get nat_eq tables.now.names) }
+    requires limits { AreInLimits txs.now }
+    requires members { (id : ℕ) → Contains ids.now id → Contains (names_of txs.now) id }
+    requires room { length (names_of txs.now) ≡ length accounts.old }
+    requires later { (place : ℕ) → (account_at accounts.old place).part < part }
+    requires rate { IsSum rate }
+    requires summed { rate ≡ sums (rate_in txs.now) ids.now }
+    requires some { (flow : Flow) → Contains flows.now flow → 1 ≤ flow.amount }
+    requires total { amount_of flows.now < 2 ^ 127 }
+    ensures bound { (place : ℕ) → (account_at accounts.new place).part ≤ part }
+    ensures certified { MatchResult result (λ _. Certifies (rate_in txs.now) (IsEdge tables.now) ids.now flows.now) (Says faults.Flow (Certifies (rate_in txs.now) (IsEdge tables.now) ids.now flows.now)) }
+{
+    open(accounts, &tables.names, part, ids);
+    flows_once(alloc, flows)?;
+    flows_inside(accounts, tables, part, flows)?;
+    book(accounts, &tables.names, part, flows);
+    balanced(accounts, txs, &tables.names, rate, ids)?;
+    Ok(())
 }
 
 /// Opens the accounts of a part's names.
