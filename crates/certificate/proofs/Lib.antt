@@ -13,3 +13,4 @@ pub mod RateLemmas
 pub mod Searching
 pub mod Seats
 pub mod Sets
+pub mod Whole

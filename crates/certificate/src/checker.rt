@@ -9,7 +9,7 @@ use crate::flows::check_flows;
 use crate::graph::check_graph;
 use crate::order::check_order;
 use crate::{CheckFault, Part, Written};
-use graph_model::certified_parts_are_optimal;
+use graph_model::{TxId, certified_parts_are_optimal};
 use std::alloc::Global;
 
 /// Whether parts with flows are a certificate of the graph that is written.
@@ -28,9 +28,27 @@ pub fn check(alloc: Global, graph: &Written, parts: &[Part]) -> Result<(), Check
     ensures falling { result ≡ Err CheckFault.Falling → Finds graph.now.txs graph.now.edges (parts_of parts.now) NoFalling }
     ensures flow { result ≡ Err CheckFault.Flow → Finds graph.now.txs graph.now.edges (parts_of parts.now) NoFlow }
 {
-    certified_parts_are_optimal();
     let txs = graph.txs.as_slice();
     let edges = graph.edges.as_slice();
+    check_lists(alloc, txs, edges, parts)
+}
+
+/// The tests, in their order.
+fn check_lists(
+    alloc: Global,
+    txs: &[(TxId, i64, u64)],
+    edges: &[(TxId, TxId)],
+    parts: &[Part],
+) -> Result<(), CheckFault>
+    requires { AreClaims parts.now }
+    ensures yes { OnOk result (Finds txs.now edges.now (parts_of parts.now) Certified) }
+    ensures optimal { OnOk result (IsOptimal (rate_in txs.now) (graph_of txs.now edges.now) (map (λ part. part.ids) parts.now)) }
+    ensures graph { result ≡ Err CheckFault.Graph → Finds txs.now edges.now (parts_of parts.now) NoGraph }
+    ensures order { result ≡ Err CheckFault.Order → Finds txs.now edges.now (parts_of parts.now) NoOrder }
+    ensures falling { result ≡ Err CheckFault.Falling → Finds txs.now edges.now (parts_of parts.now) NoFalling }
+    ensures flow { result ≡ Err CheckFault.Flow → Finds txs.now edges.now (parts_of parts.now) NoFlow }
+{
+    certified_parts_are_optimal();
     let tables = check_graph(alloc, txs, edges)?;
     check_order(alloc, txs, &tables, parts)?;
     check_falling(txs, &tables.names, parts)?;
