@@ -1,13 +1,11 @@
--- What each fault of the checker says.
-use Rattle.std.specs.Prelude.{ℕ, List}
-use Rattle.graph_model.specs.Certificates.{Txs, Part, NoGraph, NoOrder, NoFalling, NoFlow, Finds}
-use Rattle.certificate.specs.declared.fault.CheckFault.{CheckFault}
-use Rattle.certificate.specs.declared.fault.CheckFault.TheVariants.{Order, Falling, Flow, Graph, Memory}
+-- What `check` is handed.
+use Rattle.std.specs.Prelude.{◌≡◌, ◌≢◌, ℕ, ◌^◌, ◌<◌, ◌≤◌, List, [], Contains, sum_by}
+use Rattle.graph_model.specs.declared.names.Flow.{Flow}
+use Rattle.certificate.specs.declared.lists.Part.{Part}
+use Rattle.certificate.specs.Accounts.{amount_of}
 
--- the fault is the first test that fails, or want of memory
-abbrev pub FaultIs : Txs → List (ℕ × ℕ) → List Part → CheckFault → Type 0
-FaultIs txs edges parts Graph = Finds txs edges parts NoGraph
-FaultIs txs edges parts Order = Finds txs edges parts NoOrder
-FaultIs txs edges parts Falling = Finds txs edges parts NoFalling
-FaultIs txs edges parts Flow = Finds txs edges parts NoFlow
-FaultIs txs edges parts Memory = Unit {0}
+-- each part has a name, each amount is at least 1, and the amounts of all parts sum to less than 2^127
+pub record AreClaims (parts : List Part) : Type 0 where
+  pub filled : (part : Part) → Contains parts part → part.ids ≢ []
+  pub some : (part : Part) (flow : Flow) → Contains parts part → Contains part.flows flow → 1 ≤ flow.amount
+  pub total : sum_by (λ part. amount_of part.flows) parts < 2 ^ 127

@@ -1,7 +1,9 @@
 pub mod Lists
 pub mod Cuts
 pub mod FirstPlaces
+pub mod Firsts
 pub mod Loads
+pub mod Marks
 pub mod Networks
 pub mod Sets
 pub mod Searches

@@ -8,11 +8,11 @@ use Rattle.std.specs.FinSet as set
 use Rattle.arithmetic.specs.Sums.{total}
 use Rattle.arithmetic.proofs.Sums.{total-add, total-filter_cond, total_same}
 use Rattle.bitset.specs.Places.{IsLeast, IsWithin, places}
-use Rattle.bitset.specs.Sets.{contains-empty, len-places, places-empty}
-use Rattle.closure_flow.proofs.Sets.{clash, same_by_members}
+use Rattle.bitset.specs.Sets.{len-places, places-empty}
+use Rattle.closure_flow.proofs.Queues.{fewer}
 use Rattle.closure_flow.specs.Closures.{IsBalanced, IsClosed, IsNoneHeavier, parents_at, weight_at, weight_of}
 use Rattle.closure_flow.specs.Flows.{Among, net, surplus, shortage}
-use Rattle.closure_flow.specs.Networks.{Improves, IsAllowed, IsSteady}
+use Rattle.closure_flow.specs.Networks.{Improves, IsAllowed}
 use Rattle.closure_flow.specs.Queues.{IsSealed}
 use Rattle.closure_flow.proofs.Cuts.{inside, net_of_closed, net_of_sealed, rests_low, rests_all}
 use Rattle.closure_flow.proofs.Lists.{total_along, rests_split, up_within, down_within}
@@ -167,16 +167,11 @@ surplus_small weights rest (t ∷ ts) e =
     at_most y (pos k) q = omega (arith, ints, q)
     at_most y (negsuc k) q = omega (arith, ints, q)
 
-pub steady_start : (n : ℕ) (weights : ℕ → ℤ) (parents : List (set.FinSet nat_cmp)) (within : set.FinSet nat_cmp) (flow : ℕ → ℕ → ℕ) (rest : ℕ → ℤ)
-    → ((t : ℕ) → set.contains within t ≡ true → rest t ≡ weights t) → ((c p : ℕ) → set.contains within p ≡ true → flow c p ≡ 0)
-    → sum_by (λ t. unsigned_abs (weights t)) (places n within) < 2 ^ 126 → IsSteady n parents within flow rest
-steady_start n weights parents within flow rest left none small =
-    let low = surplus_small weights rest (places n within) (λ t h. left t (places_among n within t h).1) in
-    record {
-      allowed = λ c p hc m f. absurd (omega (arith, none c p m, f));
-      bounded = λ c p a b. omega (arith, none c p b, low, small);
-      short = omega (arith, low, small);
-    }
+pub small_start : (n : ℕ) (weights : ℕ → ℤ) (within w : set.FinSet nat_cmp) (rest : ℕ → ℤ) → w ≡ within
+    → ((t : ℕ) → set.contains within t ≡ true → rest t ≡ weights t) → sum_by (λ t. unsigned_abs (weights t)) (places n within) < 2 ^ 126
+    → surplus rest (places n w) < 2 ^ 126
+small_start n weights within w rest e left small =
+    subst (λ x. surplus rest (places n x) < 2 ^ 126) (sym e) (omega (arith, surplus_small weights rest (places n within) (λ t h. left t (places_among n within t h).1), small))
 
 pub left_start : (n : ℕ) (weights : ℕ → ℤ) (within : set.FinSet nat_cmp) (flow : ℕ → ℕ → ℕ) (rest : ℕ → ℤ)
     → IsWithin n within
@@ -186,15 +181,27 @@ left_start n weights within flow rest below left none t m =
     omega (arith, ints, left t m, net_none (places n within) flow t (among_places n within t (below t m) m) (λ c p h. none c p (places_among n within p h).1))
 
 -- ---- the whole run
-pub solved : (n : ℕ) (weights : List ℤ) (parents : List (set.FinSet nat_cmp)) (within : set.FinSet nat_cmp) (F G H : ℕ → ℕ → ℕ) (r s u : ℕ → ℤ)
-    → IsWithin n within
+-- what is left and what flows at the end, and the places reached last
+pub record Run (n : ℕ) (weights : List ℤ) (parents : List (set.FinSet nat_cmp)) (within : set.FinSet nat_cmp) (flow : ℕ → ℕ → ℕ) (rest : ℕ → ℤ) (reached : set.FinSet nat_cmp) : Type 0 where
+  pub ends : Ends n weights parents within flow rest
+  pub sealed : IsSealed n parents within flow rest reached
+
+pub run_of : (n : ℕ) (weights : List ℤ) (parents : List (set.FinSet nat_cmp)) (within w1 w2 w3 : set.FinSet nat_cmp) (F G H : ℕ → ℕ → ℕ) (r s u : ℕ → ℤ) (reached : set.FinSet nat_cmp)
+    → IsWithin n w1 → w1 ≡ within → w2 ≡ w1 → w3 ≡ w2
     → ((t : ℕ) → set.contains within t ≡ true → r t ≡ weight_at weights t) → ((c p : ℕ) → set.contains within p ≡ true → F c p ≡ 0)
-    → Improves n parents within F r G s → Improves n parents within G s H u → Ends n weights parents within H u
-solved n weights parents within F G H r s u below left none first second =
+    → Improves n parents w1 F r G s → Improves n parents w2 G s H u → IsSealed n parents w3 H u reached
+    → Run n weights parents within H u reached
+run_of n weights parents within w1 w2 w3 F G H r s u reached below e1 e2 e3 left none first second sealed =
+    let one : Improves n parents within F r G s = subst (λ x. Improves n parents x F r G s) e1 first in
+    let two : Improves n parents within G s H u = subst (λ x. Improves n parents x G s H u) (e2 ∙ e1) second in
+    let inside : IsWithin n within = subst (IsWithin n) e1 below in
     record {
-      below = below;
-      allowed = second.steady.allowed;
-      left = λ t m. second.keeps t m ∙ first.keeps t m ∙ left_start n (weight_at weights) within F r below left none t m;
+      ends = record {
+        below = inside;
+        allowed = two.steady.allowed;
+        left = λ t m. two.keeps t m ∙ one.keeps t m ∙ left_start n (weight_at weights) within F r inside left none t m;
+      };
+      sealed = subst (λ x. IsSealed n parents x H u reached) (e3 ∙ e2 ∙ e1) sealed;
     }
 
 pub none_where_sealed : (n : ℕ) (weights : List ℤ) (parents : List (set.FinSet nat_cmp)) (within : set.FinSet nat_cmp) (flow : ℕ → ℕ → ℕ) (rest : ℕ → ℤ) (s : set.FinSet nat_cmp)
@@ -212,27 +219,6 @@ pub greatest_where_sealed : (n : ℕ) (weights : List ℤ) (parents : List (set.
 greatest_where_sealed n weights parents within flow rest s e sealed =
     subst (λ (z : ℤ). IsNoneHeavier n weights parents within z) (sym (sealed_weight n weights parents within flow rest s e sealed)) (none_heavier n weights parents within flow rest e)
 
--- ---- an empty set
-pub empty_none : (n : ℕ) (weights : List ℤ) (parents : List (set.FinSet nat_cmp)) (within : set.FinSet nat_cmp) → within ≡ set.empty → IsNoneHeavier n weights parents within (pos 0)
-empty_none n weights parents within e s closed =
-    let none : s ≡ set.empty = same_by_members s set.empty
-    (λ q m. clash _ (closed.inside q m) (ap (λ x. set.contains x q) e ∙ contains-empty q))
-    (λ q m. clash _ m (contains-empty q)) in
-    omega (arith, ints, ap (weight_of n weights) none ∙ ap (total (weight_at weights)) (places-empty n))
-
-pub empty_balanced : (n : ℕ) (weights : List ℤ) (parents : List (set.FinSet nat_cmp)) (within : set.FinSet nat_cmp) (shown : ℕ → ℕ → ℕ) → within ≡ set.empty
-    → ((c p : ℕ) → set.contains within p ≡ false → shown c p ≡ 0) → IsBalanced n weights parents within shown
-empty_balanced n weights parents within shown e zero_ =
-    record {
-      even = λ t m. clash _ m (out t);
-      child = λ c p f. absurd (omega (arith, zero_ c p (out p), f));
-      parent = λ c p f. absurd (omega (arith, zero_ c p (out p), f));
-      pair = λ c p f. absurd (omega (arith, zero_ c p (out p), f));
-    }
-  where
-    out : (t : ℕ) → set.contains within t ≡ false
-    out t = ap (λ x. set.contains x t) e ∙ contains-empty t
-
 -- ---- counting
 count_le : (p : ℕ → Bool) (xs : List ℕ) → count_by p xs ≤ length xs
 count_le p [] = omega arith
@@ -245,8 +231,9 @@ count_le p (x ∷ xs) = omega (arith, sum_by-cons (λ y. cond (p y) 1 0) x xs, c
 pub count_within : (n : ℕ) (p : ℕ → Bool) (s : set.FinSet nat_cmp) → IsWithin n s → count_by p (places n s) ≤ set.len s
 count_within n p s w = omega (arith, count_le p (places n s), len-places n s w)
 
-pub count_empty : (n : ℕ) (p : ℕ → Bool) (s : set.FinSet nat_cmp) → s ≡ set.empty → count_by p (places n s) ≡ 0
-count_empty n p s e = ap (λ x. count_by p (places n x)) e ∙ ap (count_by p) (places-empty n)
+-- more steps than before were counted, where each place of a set with a member was one
+pub counted_some : (s : set.FinSet nat_cmp) (t : ℕ) → set.contains s t ≡ true → 0 < set.len s
+counted_some s t m = omega (arith, fewer s t m)
 
 -- ---- whether there is a least place
 pub none_is_empty : (o : Option ℕ) (b : Bool) (s : set.FinSet nat_cmp) → is_some o ≡ not b → b ≡ true → MatchOption o (s ≡ set.empty) (IsLeast s) → s ≡ set.empty

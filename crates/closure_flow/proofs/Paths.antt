@@ -240,6 +240,11 @@ pub lets_still : (parents : List (set.FinSet nat_cmp)) (F G : ℕ → ℕ → �
 lets_still parents F G amount from to e (inl m) = inl m
 lets_still parents F G amount from to e (inr m) = inr (omega (arith, e, m))
 
+-- a step between two places, under other names for them
+pub along_step : (parents : List (set.FinSet nat_cmp)) (flow : ℕ → ℕ → ℕ) {u v a b : ℕ} → u ≡ a → v ≡ b → (set.contains (parents_at parents u) v ≡ true) ⊎ (0 < flow v u) → (set.contains (parents_at parents a) b ≡ true) ⊎ (0 < flow b a)
+along_step parents flow {u} {v} {a} {b} e f step =
+    subst (λ (x : ℕ). (set.contains (parents_at parents x) b ≡ true) ⊎ (0 < flow b x)) e (subst (λ (y : ℕ). (set.contains (parents_at parents u) y ≡ true) ⊎ (0 < flow y u)) f step)
+
 -- what a start has left
 pub start_left : (z : ℤ) (m : ℕ) → m ≡ unsigned_abs z → pos 0 <ℤ z → (pos m ≤ℤ z) × (0 < m)
 start_left (pos k) m e h = (omega (arith, ints, e), omega (arith, ints, e, h))

@@ -1,6 +1,6 @@
 -- A search step by step: the start, one place taken, the end.
-use Rattle.std.proofs.Common.{◌≡◌, ℕ, ◌+◌, ◌<◌, ◌≤◌, ◌⊎◌, inl, inr, List, [], length, true, false, Option, Some, None, ℤ, pos, ◌<ℤ◌, ◌≤ℤ◌, refl, sym, ap, ◌∙◌, subst, arith}
-use Rattle.std.proofs.lemmas.Bool.{cases_eq, cases_lt}
+use Rattle.std.proofs.Common.{◌≡◌, ℕ, ◌+◌, ◌<◌, ◌≤◌, ◌⊎◌, inl, inr, List, [], length, true, false, Option, Some, None, ℤ, pos, negsuc, ◌<ℤ◌, ◌≤ℤ◌, refl, sym, ap, ◌∙◌, subst, arith}
+use Rattle.std.proofs.lemmas.Bool.{cases_lt}
 use Rattle.std.proofs.lemmas.Int.{ints}
 use Rattle.std.specs.Ordering.{nat_cmp}
 use Rattle.std.specs.FinSet as set
@@ -10,7 +10,7 @@ use Rattle.closure_flow.specs.declared.queue.Entry.{Entry}
 use Rattle.closure_flow.specs.Closures.{parents_at}
 use Rattle.closure_flow.specs.Networks.{IsAllowed}
 use Rattle.closure_flow.specs.Queues.{place_at, from_at, Lists, Grows, IsBeyond, IsSearch, IsSwept, IsSealed}
-use Rattle.closure_flow.proofs.Sets.{clash, len_within, test_of, from_meet, to_meet, from_union, to_union_left, to_union_right, from_minus, to_minus, insert_here, from_insert, to_insert, from_remove, remove_other}
+use Rattle.closure_flow.proofs.Sets.{clash, len_within, test_of, from_meet, to_meet, from_union, to_union_left, to_union_right, from_minus, to_minus}
 
 -- what holds of a search of which some entries were taken
 pub record Searching (n : ℕ) (parents : List (set.FinSet nat_cmp)) (within : set.FinSet nat_cmp) (flow : ℕ → ℕ → ℕ) (rest : ℕ → ℤ) (es : List Entry) (taken : ℕ) (seen : set.FinSet nat_cmp) : Type 0 where
@@ -163,46 +163,13 @@ pub some_left : (n : ℕ) (parents : List (set.FinSet nat_cmp)) (within : set.Fi
     → Searching n parents within flow rest es k seen → k < length es → k < n
 some_left n parents within flow rest es k seen s h = omega (arith, h, s.lists.count, len_within n seen s.below)
 
--- ---- choosing the places with something left to be sent
-pub record Choosing (within : set.FinSet nat_cmp) (rest : ℕ → ℤ) (left found : set.FinSet nat_cmp) : Type 0 where
-  pub sound : (t : ℕ) → set.contains found t ≡ true → (set.contains within t ≡ true) × (pos 0 <ℤ rest t)
-  pub complete : (t : ℕ) → set.contains within t ≡ true → pos 0 <ℤ rest t → (set.contains left t ≡ true) ⊎ (set.contains found t ≡ true)
-  pub inside : (t : ℕ) → set.contains left t ≡ true → set.contains within t ≡ true
-
-pub choosing_none : (within : set.FinSet nat_cmp) (rest : ℕ → ℤ) → Choosing within rest within set.empty
-choosing_none within rest =
-    record { sound = λ t m. clash _ m (contains-empty t); complete = λ t m h. inl m; inside = λ t m. m }
-
-pub choosing_take : (within : set.FinSet nat_cmp) (rest : ℕ → ℤ) (left found : set.FinSet nat_cmp) (p : ℕ) → Choosing within rest left found → set.contains left p ≡ true → pos 0 <ℤ rest p → Choosing within rest (set.remove left p) (set.insert found p)
-choosing_take within rest left found p c m h =
-    record {
-      sound = λ t k. elim (from_insert found p t k) as (λ _. (set.contains within t ≡ true) × (pos 0 <ℤ rest t)) [
-        | inl e ↦ subst (λ (x : ℕ). (set.contains within x ≡ true) × (pos 0 <ℤ rest x)) (sym e) (c.inside p m, h)
-        | inr was ↦ c.sound t was
-      ];
-      complete = λ t k q. elim (cases_eq t p) as (λ _. (set.contains (set.remove left p) t ≡ true) ⊎ (set.contains (set.insert found p) t ≡ true)) [
-        | inl e ↦ inr (ap (λ (x : ℕ). set.contains (set.insert found p) x) e ∙ insert_here found p)
-        | inr ne ↦ elim (c.complete t k q) as (λ _. (set.contains (set.remove left p) t ≡ true) ⊎ (set.contains (set.insert found p) t ≡ true)) [
-          | inl still ↦ inl (remove_other left p t ne ∙ still)
-          | inr got ↦ inr (to_insert found p t got)
-        ]
-      ];
-      inside = λ t k. c.inside t (from_remove left p t k).1;
-    }
-
-pub choosing_skip : (within : set.FinSet nat_cmp) (rest : ℕ → ℤ) (left found : set.FinSet nat_cmp) (p : ℕ) → Choosing within rest left found → rest p ≤ℤ pos 0 → Choosing within rest (set.remove left p) found
-choosing_skip within rest left found p c h =
-    record {
-      sound = c.sound;
-      complete = λ t k q. elim (cases_eq t p) as (λ _. (set.contains (set.remove left p) t ≡ true) ⊎ (set.contains found t ≡ true)) [
-        | inl e ↦ absurd (omega (arith, ints, h, subst (λ (x : ℕ). pos 0 <ℤ rest x) e q))
-        | inr ne ↦ elim (c.complete t k q) as (λ _. (set.contains (set.remove left p) t ≡ true) ⊎ (set.contains found t ≡ true)) [
-          | inl still ↦ inl (remove_other left p t ne ∙ still)
-          | inr got ↦ inr got
-        ]
-      ];
-      inside = λ t k. c.inside t (from_remove left p t k).1;
-    }
+-- what isn't below 0
+pub not_short : (z : ℤ) → (z <ℤ pos 0 → ⊥) → pos 0 ≤ℤ z
+not_short z h = elim (cases_lt_z z) as (λ _. pos 0 ≤ℤ z) [ inl low ↦ absurd (h low) | inr rest ↦ rest ]
+  where
+    cases_lt_z : (y : ℤ) → (y <ℤ pos 0) ⊎ (pos 0 ≤ℤ y)
+    cases_lt_z (pos n) = inr (omega (arith, ints))
+    cases_lt_z (negsuc n) = inl (omega (arith, ints))
 
 -- ---- one step from a place
 pub beyond_is : (n : ℕ) (parents : List (set.FinSet nat_cmp)) (within : set.FinSet nat_cmp) (flow : ℕ → ℕ → ℕ) (seen up down met all next : set.FinSet nat_cmp) (t : ℕ)

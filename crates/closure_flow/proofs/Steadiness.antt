@@ -1,5 +1,5 @@
 -- What an amount that went from one place to another leaves.
-use Rattle.std.proofs.Common.{◌≡◌, ℕ, ◌+◌, ◌<◌, ◌≤◌, List, true, min, ℤ, pos, negsuc, ◌+ℤ◌, ◌-ℤ◌, neg_ℤ, ◌≤ℤ◌, ◌<ℤ◌, unsigned_abs, SFits, to_z, of_z, get_or, refl, sym, ap, ◌∙◌, subst, arith}
+use Rattle.std.proofs.Common.{◌≡◌, ℕ, ◌+◌, ◌^◌, ◌<◌, ◌≤◌, List, true, min, ℤ, pos, negsuc, ◌+ℤ◌, ◌-ℤ◌, neg_ℤ, ◌≤ℤ◌, ◌<ℤ◌, unsigned_abs, SFits, to_z, of_z, get_or, refl, sym, ap, ◌∙◌, subst, arith}
 use Rattle.std.proofs.lemmas.Int.{ints, to_z-of_z}
 use Rattle.std.specs.Int.{w128}
 use Rattle.std.specs.Ordering.{nat_cmp}
@@ -75,6 +75,10 @@ pub lacking_of : (z : ℤ) (m x : ℕ) → m ≡ unsigned_abs z → z <ℤ pos 0
 lacking_of (pos k) m x e h l = absurd (omega (arith, ints, h))
 lacking_of (negsuc k) m x e h l = omega (arith, ints, e, l)
 
+-- what lacks an amount has room for it
+pub room_below : (z : ℤ) (x : ℕ) → z ≤ℤ neg_ℤ (pos x) → (z +ℤ pos x) <ℤ pos (2 ^ 127)
+room_below z x h = omega (arith, ints, h)
+
 pub enough_left : (z : ℤ) (m x : ℕ) → m ≡ unsigned_abs z → pos 0 <ℤ z → x ≤ m → pos x ≤ℤ z
 enough_left (pos k) m x e h l = omega (arith, ints, e, l)
 enough_left (negsuc k) m x e h l = absurd (omega (arith, ints, h))
@@ -103,6 +107,18 @@ read_left n into amounts rest place z m x s h e fine abs low l =
     let read = read_rest n into amounts rest place z s h e in
     subst (λ (y : ℤ). pos x ≤ℤ y) (sym read)
     (enough_left z m x (abs ∙ ap unsigned_abs (to_z-of_z w128 z fine)) (subst (λ (y : ℤ). pos 0 <ℤ y) read low) l)
+
+-- the least of what was read to be left at one place and lacking at another
+pub giving : (n : ℕ) (into : List (set.FinSet nat_cmp)) (amounts : List ℕ) (rest : List ℤ) (from to : ℕ) (y z : ℤ) (l m x : ℕ)
+    → IsSized n into amounts rest → from < n → to < n → y ≡ get_or rest from y → z ≡ get_or rest to z → SFits w128 y → SFits w128 z
+    → l ≡ unsigned_abs (to_z w128 (of_z w128 y)) → m ≡ unsigned_abs (to_z w128 (of_z w128 z)) → x ≡ min l m
+    → pos 0 <ℤ weight_at rest from → weight_at rest to <ℤ pos 0
+    → (pos x ≤ℤ weight_at rest from) × (weight_at rest to ≤ℤ neg_ℤ (pos x)) × (from ≡ to → ⊥)
+giving n into amounts rest from to y z l m x s hf ht ey ez fy fz ly mz least above under = (
+  read_left n into amounts rest from y l x s hf ey fy ly above (omega (arith, least)),
+  read_lack n into amounts rest to z m x s ht ez fz mz under (omega (arith, least)),
+  λ e. omega (arith, ints, above, under, ap (weight_at rest) e),
+)
 
 pub same_sent : (n : ℕ) (into into' : List (set.FinSet nat_cmp)) (amounts amounts' : List ℕ) → into' ≡ into → amounts' ≡ amounts → sent n into amounts ≡ sent n into' amounts'
 same_sent n into into' amounts amounts' e f = ap (λ xs. sent n xs amounts) (sym e) ∙ ap (sent n into') (sym f)

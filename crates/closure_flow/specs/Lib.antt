@@ -4,3 +4,4 @@ pub mod Networks
 pub mod Outcomes
 pub mod Queues
 pub mod Scratches
+pub mod Views

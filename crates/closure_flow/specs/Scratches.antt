@@ -6,4 +6,5 @@ use Rattle.closure_flow.specs.Networks.{sent}
 
 -- what a child sends to a parent: only parents of the set that was solved last receive something
 abbrev pub flow_of : {W : ℕ} → Scratch W → ℕ → ℕ → ℕ
-flow_of {W} s c p = cond (set.contains s.network.within p) (sent (64 * W) s.network.into.items s.network.amounts.items c p) 0
+flow_of {W} s c p =
+    cond (set.contains s.network.within p) (sent (64 * W) s.network.into.items s.network.amounts.items c p) 0

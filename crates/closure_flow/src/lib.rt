@@ -5,6 +5,7 @@
 //! weight; or a flow from children to parents takes all that is above 0 to what is below, and shows that none has.
 #![tactic(auto)]
 
+mod first;
 mod network;
 mod path;
 mod queue;

@@ -1,10 +1,10 @@
-ghost use Rattle.std.specs.Prelude.{◌≡◌, ℕ, ◌+◌, ◌*◌, ◌^◌, ◌<◌, ◌≤◌, ◌⊎◌, true, length, get_or, ℤ, pos, neg_ℤ, ◌+ℤ◌, ◌-ℤ◌, ◌<ℤ◌, ◌≤ℤ◌};
+ghost use Rattle.std.specs.Prelude.{◌≡◌, ℕ, ◌+◌, ◌*◌, ◌^◌, ◌<◌, ◌≤◌, ◌⊎◌, true, length, pos, ◌+ℤ◌, ◌-ℤ◌, ◌≤ℤ◌};
 ghost use Rattle.std.specs.FinSet as set;
-ghost use Rattle.bitset.specs.Places.{IsWithin, places};
-ghost use Rattle.closure_flow.specs.Closures.{parents_at, weight_at};
+ghost use Rattle.bitset.specs.Places.{places};
+ghost use Rattle.closure_flow.specs.Closures.{HasEach, parents_at};
 ghost use Rattle.closure_flow.specs.Flows.{net, only_at};
-ghost use Rattle.closure_flow.specs.Networks.{Fits, IsAllowed, LetsThrough, Pushes, sent};
-ghost use Rattle.closure_flow.specs.Queues.{IsSearch, place_at};
+ghost use Rattle.closure_flow.specs.Queues.{place_at};
+ghost use Rattle.closure_flow.specs.Views.{FitsIn, IsAllowedIn, IsSearchIn, LetsThroughIn, PushesTo, flow_in, rest_in};
 
 use crate::Queue;
 use crate::network::Network;
@@ -19,17 +19,21 @@ pub(crate) fn send<const W: usize>(
     amount: u128,
 ) -> usize
     requires at { at < length queue.now.entries }
-    requires parents { (t : ℕ) → set.contains network.old.within t ≡ true → t < length parents.now }
-    requires below { IsWithin (64 * W) network.old.within }
-    requires search { IsSearch (64 * W) parents.now network.old.within (sent (64 * W) network.old.into.items network.old.amounts.items) (weight_at network.old.rest.items) queue.now.entries }
-    requires allowed { IsAllowed (64 * W) parents.now network.old.within (sent (64 * W) network.old.into.items network.old.amounts.items) }
-    requires fits { Fits parents.now (sent (64 * W) network.old.into.items network.old.amounts.items) (weight_at network.old.rest.items) queue.now.entries at amount }
-    requires room { (c p : ℕ) → set.contains network.old.within c ≡ true → set.contains network.old.within p ≡ true → sent (64 * W) network.old.into.items network.old.amounts.items c p + amount < 2 ^ 128 }
+    requires parents { HasEach network.old.within parents.now }
+    requires search { IsSearchIn parents.now network.old queue.now.entries }
+    requires allowed { IsAllowedIn parents.now network.old }
+    requires fits { FitsIn parents.now network.old queue.now.entries at amount }
+    requires room { (c p : ℕ) → set.contains network.old.within c ≡ true → set.contains network.old.within p ≡ true
+        → flow_in network.old c p + amount < 2 ^ 128 }
     ensures start { set.contains network.old.within result ≡ true }
-    ensures enough { pos amount ≤ℤ weight_at network.old.rest.items result }
-    ensures moved { (t : ℕ) → set.contains network.old.within t ≡ true → net (places (64 * W) network.old.within) (sent (64 * W) network.new.into.items network.new.amounts.items) t ≡ (net (places (64 * W) network.old.within) (sent (64 * W) network.old.into.items network.old.amounts.items) t +ℤ only_at result (pos amount) t) -ℤ only_at (place_at queue.now.entries at) (pos amount) t }
-    ensures more { (c p : ℕ) → set.contains network.old.within c ≡ true → set.contains network.old.within p ≡ true → sent (64 * W) network.new.into.items network.new.amounts.items c p ≤ sent (64 * W) network.old.into.items network.old.amounts.items c p + amount }
-    ensures allowed { IsAllowed (64 * W) parents.now network.old.within (sent (64 * W) network.new.into.items network.new.amounts.items) }
+    ensures enough { pos amount ≤ℤ rest_in network.old result }
+    ensures moved { (t : ℕ) → set.contains network.old.within t ≡ true
+        → let before = net (places (64 * W) network.old.within) (flow_in network.old) t in
+        let after = net (places (64 * W) network.old.within) (flow_in network.new) t in
+        after ≡ (before +ℤ only_at result (pos amount) t) -ℤ only_at (place_at queue.now.entries at) (pos amount) t }
+    ensures more { (c p : ℕ) → set.contains network.old.within c ≡ true → set.contains network.old.within p ≡ true
+        → flow_in network.new c p ≤ flow_in network.old c p + amount }
+    ensures allowed { IsAllowedIn parents.now network.new }
     ensures rest { network.new.rest.items ≡ network.old.rest.items }
     ensures within { network.new.within ≡ network.old.within }
 {
@@ -44,22 +48,21 @@ pub(crate) fn send<const W: usize>(
 }
 
 /// Sends an amount from one place to another: along their pair, or else by taking back what runs against it.
-pub(crate) fn push<const W: usize>(
+fn push<const W: usize>(
     network: &mut Network<W>,
     parents: &[Bits<W>],
     from: usize,
     to: usize,
     amount: u128,
 )
-    requires parents { (t : ℕ) → set.contains network.old.within t ≡ true → t < length parents.now }
-    requires below { IsWithin (64 * W) network.old.within }
-    requires allowed { IsAllowed (64 * W) parents.now network.old.within (sent (64 * W) network.old.into.items network.old.amounts.items) }
+    requires parents { HasEach network.old.within parents.now }
+    requires allowed { IsAllowedIn parents.now network.old }
     requires from { set.contains network.old.within from ≡ true }
     requires to { set.contains network.old.within to ≡ true }
     requires apart { from ≡ to → ⊥ }
-    requires lets { LetsThrough parents.now (sent (64 * W) network.old.into.items network.old.amounts.items) amount from to }
-    requires room { sent (64 * W) network.old.into.items network.old.amounts.items from to + amount < 2 ^ 128 }
-    ensures pushes { Pushes (64 * W) parents.now network.old.within (sent (64 * W) network.old.into.items network.old.amounts.items) (sent (64 * W) network.new.into.items network.new.amounts.items) from to amount }
+    requires lets { LetsThroughIn parents.now network.old amount from to }
+    requires room { flow_in network.old from to + amount < 2 ^ 128 }
+    ensures pushes { PushesTo parents.now network.old network.new from to amount }
     ensures rest { network.new.rest.items ≡ network.old.rest.items }
     ensures within { network.new.within ≡ network.old.within }
 {
@@ -82,11 +85,11 @@ pub(crate) fn narrowest<const W: usize>(
 ) -> u128
     requires at { at < length queue.now.entries }
     requires some { 0 < limit }
-    requires parents { (t : ℕ) → set.contains network.now.within t ≡ true → t < length parents.now }
-    requires search { IsSearch (64 * W) parents.now network.now.within (sent (64 * W) network.now.into.items network.now.amounts.items) (weight_at network.now.rest.items) queue.now.entries }
+    requires parents { HasEach network.now.within parents.now }
+    requires search { IsSearchIn parents.now network.now queue.now.entries }
     ensures some { 0 < result }
     ensures most { result ≤ limit }
-    ensures fits { Fits parents.now (sent (64 * W) network.now.into.items network.now.amounts.items) (weight_at network.now.rest.items) queue.now.entries at result }
+    ensures fits { FitsIn parents.now network.now queue.now.entries at result }
 {
     let mut amount = limit;
     let mut here = at;
@@ -112,10 +115,10 @@ fn step_limit<const W: usize>(
     requires from { from < 64 * W }
     requires to { to < 64 * W }
     requires some { 0 < amount }
-    requires step { (set.contains (parents_at parents.now from) to ≡ true) ⊎ (0 < sent (64 * W) network.now.into.items network.now.amounts.items to from) }
+    requires step { (set.contains (parents_at parents.now from) to ≡ true) ⊎ (0 < flow_in network.now to from) }
     ensures some { 0 < result }
     ensures most { result ≤ amount }
-    ensures lets { LetsThrough parents.now (sent (64 * W) network.now.into.items network.now.amounts.items) result from to }
+    ensures lets { LetsThroughIn parents.now network.now result from to }
 {
     if parents[from].has(to) {
         amount

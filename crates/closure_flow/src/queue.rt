@@ -1,8 +1,5 @@
-ghost use Rattle.std.specs.Prelude.{◌≡◌, ℕ, ◌+◌, ◌*◌, ◌<◌, ◌≤◌, ◌++◌, ◌∷◌, [], length, vec_len, vec_capacity, get_or, true, IfOk, MatchOption, Option, None};
-ghost use Rattle.std.specs.Ordering.{nat_cmp};
-ghost use Rattle.std.specs.FinSet as set;
-ghost use Rattle.bitset.specs.Places.{IsWithin};
-ghost use Rattle.closure_flow.specs.Queues.{Grows, Lists, from_at, place_at};
+ghost use Rattle.std.specs.Prelude.{◌≡◌, ◌+◌, ◌*◌, ◌<◌, ◌≤◌, ◌++◌, ◌∷◌, [], length, IfOk, MatchOption};
+ghost use Rattle.closure_flow.specs.Queues.{from_at, place_at};
 
 use bitset::Bits;
 use outside::NoMemory;
@@ -54,10 +51,12 @@ impl<const W: usize> Queue<W> {
 
     /// Takes the oldest place that was not taken yet, and counts a step for it.
     pub fn take<L: Ledger>(&mut self, steps: &mut Steps<L>) -> Option<usize>
-        ensures none { MatchOption result (self.old.taken ≡ length self.old.entries) (λ _. self.old.taken < length self.old.entries) }
+        ensures none { MatchOption result (self.old.taken ≡ length self.old.entries)
+            (λ _. self.old.taken < length self.old.entries) }
         ensures place { MatchOption result (self.new ≡ self.old) (λ p. p ≡ place_at self.old.entries self.old.taken) }
         ensures entries { self.new.entries ≡ self.old.entries }
-        ensures taken { MatchOption result (self.new.taken ≡ self.old.taken) (λ _. self.new.taken ≡ self.old.taken + 1) }
+        ensures taken { MatchOption result (self.new.taken ≡ self.old.taken)
+            (λ _. self.new.taken ≡ self.old.taken + 1) }
         ensures step { MatchOption result (steps.new ≡ steps.old) (λ _. steps.new ≡ steps.old + 1) }
     {
         if self.taken == self.entries.len() {
@@ -74,7 +73,6 @@ impl<const W: usize> Queue<W> {
         ensures taken { result ≡ self.now.taken }
         ensures within { self.now.taken ≤ length self.now.entries }
     {
-        let _entries = &self.entries;
         self.taken
     }
 

@@ -1,10 +1,10 @@
-ghost use Rattle.std.specs.Prelude.{◌≡◌, ℕ, ◌+◌, ◌*◌, ◌<◌, ◌≤◌, ◌⊎◌, true, false, length, pos, ◌<ℤ◌, ◌≤ℤ◌, MatchOption, Option};
-ghost use Rattle.std.specs.Ordering.{nat_cmp};
+ghost use Rattle.std.specs.Prelude.{◌≡◌, ℕ, ◌*◌, ◌<◌, ◌≤◌, ◌⊎◌, true, false, length, pos, ◌<ℤ◌, MatchOption, Option};
 ghost use Rattle.std.specs.FinSet as set;
 ghost use Rattle.bitset.specs.Places.{IsWithin};
-ghost use Rattle.closure_flow.specs.Closures.{parents_at, weight_at};
-ghost use Rattle.closure_flow.specs.Networks.{IsAllowed, sent};
-ghost use Rattle.closure_flow.specs.Queues.{Grows, IsBeyond, IsSealed, IsSearch, Lists, place_at};
+ghost use Rattle.closure_flow.specs.Closures.{HasEach};
+ghost use Rattle.closure_flow.specs.Networks.{IsShort};
+ghost use Rattle.closure_flow.specs.Queues.{Grows, Lists, place_at};
+ghost use Rattle.closure_flow.specs.Views.{IsAllowedIn, IsBeyondIn, IsSealedIn, IsSearchIn, rest_in};
 
 use crate::network::Network;
 use crate::{Entry, Queue};
@@ -26,7 +26,8 @@ pub(crate) fn put_all<const W: usize>(
     ensures grows { Grows queue.old.entries queue.new.entries next.now from }
     ensures old { (t : ℕ) → set.contains first.now t ≡ true → set.contains result t ≡ true }
     ensures new { (t : ℕ) → set.contains next.now t ≡ true → set.contains result t ≡ true }
-    ensures only { (t : ℕ) → set.contains result t ≡ true → (set.contains first.now t ≡ true) ⊎ (set.contains next.now t ≡ true) }
+    ensures only { (t : ℕ) → set.contains result t ≡ true
+        → (set.contains first.now t ≡ true) ⊎ (set.contains next.now t ≡ true) }
     ensures taken { queue.new.taken ≡ queue.old.taken }
 {
     let mut seen = *first;
@@ -48,71 +49,51 @@ pub(crate) struct Reach<const W: usize> {
     pub(crate) seen: Bits<W>,
 }
 
-/// Searches by breadth, from the places of a set where something is left to be sent, for one that lacks something.
+/// Searches by breadth, from the places where something is left to be sent, for one that lacks something.
 pub(crate) fn search<L: Ledger, const W: usize>(
     network: &Network<W>,
     queue: &mut Queue<W>,
     parents: &[Bits<W>],
-    within: &Bits<W>,
     steps: &mut Steps<L>,
 ) -> Reach<W>
-    requires parents { (t : ℕ) → set.contains within.now t ≡ true → t < length parents.now }
-    requires below { IsWithin (64 * W) within.now }
-    requires allowed { IsAllowed (64 * W) parents.now within.now (sent (64 * W) network.now.into.items network.now.amounts.items) }
-    ensures end { MatchOption result.end (IsSealed (64 * W) parents.now within.now (sent (64 * W) network.now.into.items network.now.amounts.items) (weight_at network.now.rest.items) result.seen) (λ at. weight_at network.now.rest.items (place_at queue.new.entries at) <ℤ pos 0) }
+    requires parents { HasEach network.now.within parents.now }
+    requires allowed { IsAllowedIn parents.now network.now }
+    ensures end { MatchOption result.end (IsSealedIn parents.now network.now result.seen)
+        (λ at. IsShort (rest_in network.now (place_at queue.new.entries at))) }
     ensures position { MatchOption result.end (Unit {0}) (λ at. at < length queue.new.entries) }
-    ensures search { IsSearch (64 * W) parents.now within.now (sent (64 * W) network.now.into.items network.now.amounts.items) (weight_at network.now.rest.items) queue.new.entries }
+    ensures search { IsSearchIn parents.now network.now queue.new.entries }
     ensures steps { steps.old ≤ steps.new }
 {
     queue.clear();
-    let starts = surplus_places(network, within);
-    let mut seen = put_all(queue, &Bits::empty(), &starts, None);
+    let mut seen = put_all(queue, &Bits::empty(), &network.over, None);
     while let Some(place) = queue.take(steps) {
         let at = queue.taken() - 1;
-        if network.rest[place] < 0 {
+        if network.short.has(place) {
             return Reach {
                 end: Some(at),
                 seen,
             };
         }
-        let next = beyond(network, parents, within, &seen, place);
+        let next = beyond(network, parents, &seen, place);
         seen = put_all(queue, &seen, &next, Some(at));
     }
     Reach { end: None, seen }
-}
-
-/// The places of a set where something is left to be sent.
-fn surplus_places<const W: usize>(network: &Network<W>, within: &Bits<W>) -> Bits<W>
-    ensures sound { (t : ℕ) → set.contains result t ≡ true → (set.contains within.now t ≡ true) × (pos 0 <ℤ weight_at network.now.rest.items t) }
-    ensures complete { (t : ℕ) → set.contains within.now t ≡ true → pos 0 <ℤ weight_at network.now.rest.items t → set.contains result t ≡ true }
-{
-    let mut found = Bits::empty();
-    let mut left = *within;
-    while let Some(place) = left.least() {
-        left.remove(place);
-        if network.rest[place] > 0 {
-            found.insert(place);
-        }
-    }
-    found
 }
 
 /// The places that a place reaches in one step and that were not seen.
 fn beyond<const W: usize>(
     network: &Network<W>,
     parents: &[Bits<W>],
-    within: &Bits<W>,
     seen: &Bits<W>,
     place: usize,
 ) -> Bits<W>
-    requires parents { place < length parents.now }
-    requires below { place < 64 * W }
-    requires inside { set.contains within.now place ≡ true }
-    requires allowed { IsAllowed (64 * W) parents.now within.now (sent (64 * W) network.now.into.items network.now.amounts.items) }
-    ensures { IsBeyond (64 * W) parents.now within.now (sent (64 * W) network.now.into.items network.now.amounts.items) seen.now place result }
+    requires parents { HasEach network.now.within parents.now }
+    requires inside { set.contains network.now.within place ≡ true }
+    requires allowed { IsAllowedIn parents.now network.now }
+    ensures { IsBeyondIn parents.now network.now seen.now place result }
 {
     parents[place]
-        .meet(within)
+        .meet(&network.within)
         .union(&network.into[place])
         .minus(seen)
 }

@@ -14,9 +14,11 @@ use Rattle.fee_rate.specs.Rates.{AtMost, Below, Same}
 use Rattle.graph_model.specs.Graphs.{Graph, AreDistinct}
 use Rattle.graph_model.specs.Rates.{sum_of, sums, Falls, HasSizes}
 use Rattle.graph_model.specs.Linearizations.{IsClosedWithin, IsTopological, IsUnderLine, IsUnderDiagram, IsOptimal}
-use Rattle.graph_model.specs.Diagrams.{corners_of, FallsStrictly, JoinsEqualRates, AreCorners}
+use Rattle.graph_model.specs.declared.names.Verdict.{Verdict}
+use Rattle.graph_model.specs.declared.names.Verdict.TheVariants.{Better, Worse, Equal, Incomparable}
+use Rattle.graph_model.specs.Diagrams.{Compares, corners_of, FallsStrictly, JoinsEqualRates, AreCorners}
 use Rattle.graph_model.proofs.ListLemmas.{Contains-head, Contains-later, Contains-cases, none_in_empty}
-use Rattle.graph_model.proofs.TangentLemmas.{joined}
+use Rattle.graph_model.proofs.TangentLemmas.{joined, falls-tail, falls_after}
 use Rattle.graph_model.proofs.BestLemmas.{sums_same_members, sum_of-joined, sizes_some, joined-Contains, front_closed, optimal_bounds}
 
 -- ---- sums of lists of sums
@@ -627,3 +629,78 @@ joins_some parts some falls =
       map sum_of found.0,
       record { groups = found.0; all = found.1.all; sums = refl; filled = found.1.filled; equal = found.1.equal; falling = found.1.falling },
     )
+
+falls-after : (xs ys : List Sum) → Falls (xs ++ ys) → Falls ys
+falls-after [] ys falls = falls
+falls-after (x ∷ xs) ys falls = falls-after xs ys (falls-tail x (xs ++ ys) falls)
+
+-- the first segment of parts that are lower than a rate is lower too
+segment_below : (rate : Sum) (parts : List Sum) (segment : Sum) (segments : List Sum) → HaveSizes parts → JoinsEqualRates parts (segment ∷ segments)
+    → ((part : Sum) (rest : List Sum) → parts ≡ part ∷ rest → Below part rate) → Below segment rate
+segment_below rate parts segment segments some joins lower = by_groups joins.groups joins.all joins.sums joins.filled joins.equal
+  where
+    by_groups : (groups : List (List Sum)) → parts ≡ flat groups → segment ∷ segments ≡ map sum_of groups → ((group : List Sum) → Contains groups group → group ≢ [])
+        → ((group : List Sum) (a b : Sum) → Contains groups group → Contains group a → Contains group b → Same a b) → Below segment rate
+    by_groups [] all sums filled equal = absurd (not_empty sums)
+    by_groups ([] ∷ gs) all sums filled equal = absurd (filled [] (Contains-head [] gs) refl)
+    by_groups ((y ∷ g) ∷ gs) all sums filled equal =
+        let member : HaveSizes (y ∷ g) = λ part h. some part (subst (λ zs. Contains zs part) (sym all) (Contains-append_left (y ∷ g) (flat gs) part h)) in
+        let low : AtMost (sum_of (y ∷ g)) y = sum_at_most_rate y (y ∷ g) (λ part h. same_at_most part y (equal (y ∷ g) part y (Contains-head (y ∷ g) gs) h (Contains-head y g))) in
+        let less : Below (sum_of (y ∷ g)) rate = at_most_below (sum_of (y ∷ g)) y rate (group_some (y ∷ g) not_empty member) (member y (Contains-head y g)) low (lower y (g ++ flat gs) all) in
+        subst (λ z. Below z rate) (sym (first_of sums)) less
+
+pub joins_first_segment : (first : Sum) (group after segments : List Sum) → HaveSizes (first ∷ group ++ after) → Falls (first ∷ group ++ after)
+    → ((part : Sum) → Contains group part → AtMost first part) → ((part : Sum) (rest : List Sum) → after ≡ part ∷ rest → Below part first)
+    → JoinsEqualRates (first ∷ group ++ after) segments → (others : List Sum) × (segments ≡ sum_of (first ∷ group) ∷ others) × JoinsEqualRates after others
+joins_first_segment first group after segments some falls same lower joins =
+    let somes : HaveSizes after = λ part h. some part (Contains-append_right (first ∷ group) after part h) in
+    let found = joins_some after somes (falls-after (first ∷ group) after falls) in
+    let rest = found.1 in
+    let some_first : 1 ≤ first.size = some first (Contains-head first (group ++ after)) in
+    let to_first : (part : Sum) → Contains (first ∷ group) part → Same part first = λ part h. elim (Contains-cases first part group h) [
+      | inl it ↦ subst (λ z. Same z first) it (same_all first first refl)
+      | inr later ↦
+          same_both part first
+          (falls_after first (group ++ after) falls (λ b k. some b (Contains-later first b (group ++ after) k)) part (Contains-append_left group after part later))
+          (same part later)
+    ] in
+    let up : AtMost first (sum_of (first ∷ group)) = at_most_sum first (first ∷ group) (λ part h. same_at_most first part (same_back part first (to_first part h))) in
+    let size : 1 ≤ (sum_of (first ∷ group)).size = omega (arith, size_of-cons first group) in
+    let whole : JoinsEqualRates (first ∷ group ++ after) (sum_of (first ∷ group) ∷ found.0) = record {
+      groups = (first ∷ group) ∷ rest.groups;
+      all = ap (λ zs. first ∷ group ++ zs) rest.all;
+      sums = ap (λ zs. sum_of (first ∷ group) ∷ zs) rest.sums;
+      filled = λ g h. elim (Contains-cases (first ∷ group) g rest.groups h) [ inl it ↦ subst (λ (zs : List Sum). zs ≢ []) it not_empty | inr later ↦ rest.filled g later ];
+      equal = λ g a b h here there. elim (Contains-cases (first ∷ group) g rest.groups h) [
+        | inl it ↦
+            same_chains a first b some_first (to_first a (subst (λ zs. Contains zs a) (sym it) here))
+            (same_back b first (to_first b (subst (λ zs. Contains zs b) (sym it) there)))
+        | inr later ↦ rest.equal g a b later here there
+      ];
+      falling = falling found.0 rest some_first size somes up;
+    } in
+    (found.0, joins_one (first ∷ group ++ after) segments (sum_of (first ∷ group) ∷ found.0) some joins whole, rest)
+  where
+    falling : (others : List Sum) → JoinsEqualRates after others → 1 ≤ first.size → 1 ≤ (sum_of (first ∷ group)).size → HaveSizes after → AtMost first (sum_of (first ∷ group))
+        → FallsStrictly (sum_of (first ∷ group) ∷ others)
+    falling [] rest some_first size somes up = tt
+    falling (s ∷ others) rest some_first size somes up = (below_chains s first (sum_of (first ∷ group)) some_first size (segment_below first after s others somes rest lower) up, rest.falling)
+
+-- ---- verdicts
+pub one_verdict : (a b : List (ℕ × ℤ)) (v w : Verdict) → Compares a b v → Compares a b w → v ≡ w
+one_verdict a b Better Better one other = refl
+one_verdict a b Better Worse one other = absurd (other.0 one.0)
+one_verdict a b Better Equal one other = absurd (one.1 other.1)
+one_verdict a b Better Incomparable one other = absurd (other.0 one.0)
+one_verdict a b Worse Better one other = absurd (one.0 other.0)
+one_verdict a b Worse Worse one other = refl
+one_verdict a b Worse Equal one other = absurd (one.0 other.0)
+one_verdict a b Worse Incomparable one other = absurd (other.1 one.1)
+one_verdict a b Equal Better one other = absurd (other.1 one.1)
+one_verdict a b Equal Worse one other = absurd (other.0 one.0)
+one_verdict a b Equal Equal one other = refl
+one_verdict a b Equal Incomparable one other = absurd (other.0 one.0)
+one_verdict a b Incomparable Better one other = absurd (one.0 other.0)
+one_verdict a b Incomparable Worse one other = absurd (one.1 other.1)
+one_verdict a b Incomparable Equal one other = absurd (one.0 other.0)
+one_verdict a b Incomparable Incomparable one other = refl

@@ -4,10 +4,12 @@ use Rattle.graph_model.specs.declared.names.Refusal.{Refusal}
 use Rattle.graph_model.specs.declared.names.Refusal.TheVariants.{Memory}
 use Rattle.graph_model.specs.Graphs.{Graph, IsAncestor, AreConnected, IsCover, HasNoCycle, AreDistinct, IsGraph}
 use Rattle.fee_rate.specs.declared.rates.Sum.{Sum}
-use Rattle.graph_model.specs.Rates.{sums, HasSizes, Falls}
+use Rattle.fee_rate.specs.Rates.{AtMost, Below}
+use Rattle.graph_model.specs.Rates.{sum_of, sums, HasSizes, Falls}
 use Rattle.graph_model.specs.Linearizations.{IsClosedWithin, IsTopological, AreChunks, IsFlat, IsUnderLine, IsUnderDiagram, IsOptimal}
 use Rattle.graph_model.specs.Certificates.{Part, IsCertificate}
-use Rattle.graph_model.specs.Diagrams.{corners_of, JoinsEqualRates, AreCorners}
+use Rattle.graph_model.specs.declared.names.Verdict.{Verdict}
+use Rattle.graph_model.specs.Diagrams.{Compares, corners_of, JoinsEqualRates, AreCorners}
 use Rattle.graph_model.specs.Changes.{IsWithout}
 use Rattle.graph_model.specs.States.{State}
 use Rattle.graph_model.specs.Commands.{Command}
@@ -77,10 +79,14 @@ OptimalEndsAreCorners =
     (rate : ℕ → Sum) (graph : Graph) (parts : List (List ℕ)) (segments : List Sum) → AreDistinct graph.names → HasSizes rate graph.names
     → IsOptimal rate graph parts → JoinsEqualRates (map (sums rate) parts) segments → AreCorners rate graph (corners_of segments)
 
--- Parts of falling rate have one list of segments that joins their equal rates. Sizes are at least 1.
+-- Parts of falling rate, with sizes of at least 1, have one list of segments that joins their equal rates.
+-- The first segment joins the parts of the first one's rate, and the others join what follows.
 pub record EqualRatesJoinOnce : Type 0 where
   pub some : (parts : List Sum) → ((part : Sum) → Contains parts part → 1 ≤ part.size) → Falls parts → (segments : List Sum) × JoinsEqualRates parts segments
-  pub one : (parts : List Sum) (a b : List Sum) → ((part : Sum) → Contains parts part → 1 ≤ part.size) → JoinsEqualRates parts a → JoinsEqualRates parts b → a ≡ b
+  pub one : (parts a b : List Sum) → ((part : Sum) → Contains parts part → 1 ≤ part.size) → JoinsEqualRates parts a → JoinsEqualRates parts b → a ≡ b
+  pub first : (first : Sum) (group after segments : List Sum) → ((part : Sum) → Contains (first ∷ group ++ after) part → 1 ≤ part.size) → Falls (first ∷ group ++ after)
+      → ((part : Sum) → Contains group part → AtMost first part) → ((part : Sum) (rest : List Sum) → after ≡ part ∷ rest → Below part first)
+      → JoinsEqualRates (first ∷ group ++ after) segments → (others : List Sum) × (segments ≡ sum_of (first ∷ group) ∷ others) × JoinsEqualRates after others
 
 -- every graph has one without a name
 abbrev pub NamesCanGo : Type 0
@@ -95,3 +101,7 @@ abbrev pub AncestorsWithoutName : Type 0
 AncestorsWithoutName =
     (old new : Graph) (id : ℕ) → IsWithout old id new → (a b : ℕ) → IsAncestor new.pairs a b
     ↔ ((a ≡ b) ⊎ ((a ≢ id) × (b ≢ id) × IsAncestor old.pairs a b))
+
+-- Two diagrams have at most one verdict.
+abbrev pub VerdictsAreUnique : Type 0
+VerdictsAreUnique = (a b : List (ℕ × ℤ)) (v w : Verdict) → Compares a b v → Compares a b w → v ≡ w

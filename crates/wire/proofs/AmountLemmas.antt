@@ -1,14 +1,14 @@
 -- A text of few bytes has few flows, so its amounts are bounded together.
-use Rattle.std.proofs.Common.{◌≡◌, ℕ, suc, ◌+◌, ◌*◌, ◌^◌, ◌<◌, ◌≤◌, List, [], ◌∷◌, ◌++◌, refl, sym, ap, ◌∙◌, arith, map, length, Bool, true, false, not, cond, nat_eq, decimal}
+use Rattle.std.proofs.Common.{◌≡◌, ℕ, suc, ◌+◌, ◌*◌, ◌^◌, ◌<◌, ◌≤◌, List, [], ◌∷◌, ◌++◌, refl, sym, ap, ◌∙◌, arith, map, length, true, false, not, cond, nat_eq, decimal}
 use Rattle.std.specs.Prelude.{flat_map, All, sum_by}
-use Rattle.std.specs.List.{slice_split, onto_first}
+use Rattle.std.specs.List.{onto_first}
 use Rattle.std.proofs.lemmas.List.Elements.{All-head, All-tail}
 use Rattle.std.proofs.lemmas.List.Sums.{sum_by-cons}
 use Rattle.graph_model.specs.declared.names.Flow.{Flow}
 use Rattle.graph_model.specs.Certificates.{Part, Txs}
 use Rattle.graph_model.specs.Commands.{spaced}
 use Rattle.graph_model.specs.Lines.{without_return, is_quiet, max_input}
-use Rattle.graph_model.specs.Texts.{Text, IsText, told, text_lines}
+use Rattle.graph_model.specs.Texts.{Text, IsText, told}
 use Rattle.wire.specs.declared.row.Row.{Row}
 use Rattle.wire.specs.declared.row.Row.TheVariants as rows
 use Rattle.wire.specs.Rows.{row_line, HasRowTypes, tx_row, edge_row, part_rows, rows_of}

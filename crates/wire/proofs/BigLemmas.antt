@@ -1,11 +1,9 @@
 -- Numbers of at most 10^30 as text.
-use Rattle.std.proofs.Common.{◌≡◌, ◌≢◌, ℕ, ◌+◌, ◌-◌, ◌*◌, ◌/◌, ◌%◌, ◌<◌, ◌≤◌, ◌^◌, List, [], ◌∷◌, ◌++◌, refl, sym, subst, arith, ◌∙◌, ap, length, zero, suc, get_or, decimal, Option, None, Some, ℤ, pos, negsuc, lit<, slice_index, true, append-nil, append_assoc, length-append}
+use Rattle.std.proofs.Common.{◌≡◌, ◌≢◌, ℕ, ◌+◌, ◌-◌, ◌*◌, ◌/◌, ◌%◌, ◌<◌, ◌^◌, List, [], ◌∷◌, ◌++◌, refl, sym, arith, ◌∙◌, ap, length, zero, suc, get_or, decimal, Option, None, Some, ℤ, pos, negsuc, lit<, slice_index, true, append-nil, append_assoc, length-append}
 use Rattle.std.proofs.Math.ListN.{get_or-append}
-use Rattle.std.specs.Prelude.{unsigned_abs}
 use Rattle.std.specs.Fmt.{signed_decimal}
 use Rattle.std.specs.Str.{all_ascii_digits}
 use Rattle.std.specs.Str.Parse.{AllDigits, digits_value}
-use Rattle.std.proofs.lemmas.Int.{ints}
 use Rattle.std.proofs.lemmas.Str.Parse.{digit_from_value, not_in_digits}
 use Rattle.std.proofs.lemmas.Fmt.{decimal_is_IsNumeral_wide, decimal_by_steps_wide, decimal_step_wide, decimal_digit}
 use Rattle.std.proofs.lemmas.List.Elements.{All-cons, All-from_get_or}

@@ -1,8 +1,8 @@
 -- What is read of bytes is what any cut of them says.
-use Rattle.std.proofs.Common.{◌≡◌, ℕ, ◌<◌, ◌≤◌, ◌^◌, List, [], ◌∷◌, ◌++◌, sym, ap, ◌∙◌, subst, length, Result, Ok, Err}
+use Rattle.std.proofs.Common.{ℕ, ◌<◌, ◌≤◌, ◌^◌, List, sym, subst, length, Result, Ok, Err}
 use Rattle.std.specs.Prelude.{IfOk, IsErrOf}
 use Rattle.graph_model.specs.Lines.{Cut, with_last, max_input}
-use Rattle.graph_model.specs.Texts.{Text, IsText}
+use Rattle.graph_model.specs.Texts.{Text, HasTextTypes, IsText}
 use Rattle.wire.specs.declared.draft.CertText.{CertText}
 use Rattle.wire.specs.declared.fault.TextFault.{TextFault}
 use Rattle.wire.specs.declared.fault.TextFault.TheVariants as faults
@@ -14,6 +14,10 @@ pub cut_text : (bytes : List ℕ) (result : Result CertText TextFault) → Reads
     → IfOk result (λ text. (lines : List (List ℕ)) (rest : List ℕ) → Cut bytes lines rest → IsText (with_last lines rest) (text_of text))
 cut_text bytes (Ok text) reads = λ lines rest cut. last_is_text lines rest (text_of text) (subst (λ (all : List (List ℕ)). IsText all (text_of text)) (cut_lines bytes lines rest cut) reads)
 cut_text bytes (Err fault) reads = tt
+
+pub cut_types : (bytes : List ℕ) (result : Result CertText TextFault) → ReadsLines (lines_of bytes) result → IfOk result (λ text. HasTextTypes (text_of text))
+cut_types bytes (Ok text) reads = reads.types
+cut_types bytes (Err fault) reads = tt
 
 pub cut_amounts : (bytes : List ℕ) (result : Result CertText TextFault) → length bytes ≤ max_input → ReadsLines (lines_of bytes) result → IfOk result (λ text. amount_of (text_of text) < 2 ^ 127)
 cut_amounts bytes (Ok text) small reads = few_amounts bytes (text_of text) reads small

@@ -10,3 +10,4 @@ pub mod TextLemmas
 pub mod LineLemmas
 pub mod AmountLemmas
 pub mod CertificateLemmas
+pub mod CutLemmas

@@ -1,19 +1,18 @@
 -- The lines of certificate texts: each has one spelling, and what is no line.
-use Rattle.std.proofs.Common.{◌≡◌, ◌≢◌, ℕ, ◌<◌, ◌≤◌, ◌^◌, List, [], ◌∷◌, ◌++◌, refl, sym, ap, ◌∙◌, subst, arith, map, decimal, codes, None, Ok, Err, FitsSigned, drop, append_assoc, lit<}
-use Rattle.std.specs.Prelude.{flat_map, All}
+use Rattle.std.proofs.Common.{◌≡◌, ℕ, List, [], ◌∷◌, ◌++◌, refl, sym, ap, arith, map, decimal, codes, None, FitsSigned, drop}
+use Rattle.std.specs.Prelude.{All}
 use Rattle.std.specs.Int.{w64}
 use Rattle.std.specs.Fmt.{signed_decimal}
 use Rattle.std.proofs.lemmas.Int.{ints}
 use Rattle.std.proofs.lemmas.Fmt.{decimal_injective, signed_decimal_injective}
 use Rattle.std.proofs.lemmas.List.Elements.{All-cons, All-nil, All-head, All-tail, All-map, All-weaker}
-use Rattle.fee_rate.specs.declared.rates.Sum.{Sum}
 use Rattle.graph_model.specs.Commands.{spaced}
 use Rattle.wire.specs.declared.row.Row.{Row}
 use Rattle.wire.specs.declared.row.Row.TheVariants as rows
 use Rattle.wire.specs.declared.row.Kind.{Kind}
 use Rattle.wire.specs.declared.row.Kind.TheVariants as kinds
-use Rattle.wire.specs.Fields.{ReadsAs, IsWide, IsAmount, IsBigFee, Always, IsOneWord, pair_spelling, BothFit}
-use Rattle.wire.specs.Rows.{kind_word, names_text, AreNames, row_words, row_line, HasRowTypes}
+use Rattle.wire.specs.Fields.{ReadsAs, IsWide, IsAmount, IsOneWord, pair_spelling, BothFit}
+use Rattle.wire.specs.Rows.{kind_word, row_words, row_line, HasRowTypes}
 use Rattle.wire.proofs.ReadLemmas.{decimal_word, signed_word, same_split, split_unread}
 use Rattle.wire.proofs.BigLemmas.{big_word, big_fee_word, big_injective, big_fee_injective}
 use Rattle.wire.proofs.FormLemmas.{differ_apart, one_word}

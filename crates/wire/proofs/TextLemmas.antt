@@ -1,21 +1,19 @@
 -- Texts by their lines: a text is told from them, and what lines take a draft on.
-use Rattle.std.proofs.Common.{◌≡◌, ◌≢◌, ℕ, ◌<◌, ◌≤◌, List, [], ◌∷◌, ◌++◌, refl, sym, ap, ◌∙◌, subst, arith, map, length, true, false, not, Result, Ok, Err, append_assoc, append-nil}
+use Rattle.std.proofs.Common.{◌≡◌, ℕ, List, [], ◌∷◌, ◌++◌, refl, sym, ap, ◌∙◌, subst, map, not, Result, Ok, Err, append_assoc, append-nil}
 use Rattle.std.specs.Prelude.{flat_map, filter, All}
 use Rattle.std.proofs.lemmas.Simd.{map-map}
 use Rattle.std.proofs.lemmas.List.{map-append}
-use Rattle.std.proofs.lemmas.List.Elements.{All-cons, All-nil, All-head, All-tail, All-append, All-map, All-weaker, filter-append}
-use Rattle.graph_model.specs.declared.names.Flow.{Flow}
+use Rattle.std.proofs.lemmas.List.Elements.{All-cons, All-nil, All-head, All-tail, All-append, All-map, filter-append}
 use Rattle.graph_model.specs.Certificates.{Part}
-use Rattle.graph_model.specs.Lines.{max_line, without_return, is_quiet}
+use Rattle.graph_model.specs.Lines.{without_return, is_quiet}
 use Rattle.graph_model.specs.Texts.{Text, HasPartTypes, HasTextTypes, IsText, told, text_lines, part_lines}
-use Rattle.wire.specs.declared.draft.CertText.{CertText}
 use Rattle.wire.specs.declared.draft.Draft.{Draft}
 use Rattle.wire.specs.declared.fault.TextFault.{TextFault}
 use Rattle.wire.specs.declared.fault.TextFault.TheVariants as faults
 use Rattle.wire.specs.declared.row.Row.{Row}
 use Rattle.wire.specs.declared.row.Row.TheVariants as rows
 use Rattle.wire.specs.Rows.{row_line, HasRowTypes, tx_row, edge_row, part_rows, rows_of, Gives}
-use Rattle.wire.specs.Drafts.{text_of, written, Continues, Finishes, TakesText, TakesLine, ReadsLines}
+use Rattle.wire.specs.Drafts.{Continues, TakesText}
 use Rattle.wire.proofs.RowLemmas.{row_same}
 use Rattle.wire.proofs.StageLemmas.{AtEnd, stage_same}
 
@@ -147,19 +145,3 @@ text_unread old line faults.Memory typed none = tt
 
 pub told_append : (xs ys : List (List ℕ)) → told (xs ++ ys) ≡ told xs ++ told ys
 told_append xs ys = ap (filter (λ line. not (is_quiet line))) (map-append without_return xs ys) ∙ filter-append (λ line. not (is_quiet line)) (map without_return xs) (map without_return ys)
-
-quiet_told : (line : List ℕ) → is_quiet (without_return line) ≡ true → told (line ∷ []) ≡ []
-quiet_told line quiet = rw quiet
-
-loud_told : (line : List ℕ) → is_quiet (without_return line) ≡ false → told (line ∷ []) ≡ without_return line ∷ []
-loud_told line loud = rw loud
-
-pub line_quiet : (old : List Row) (line : List ℕ) (draft : Draft) → length line ≤ max_line → is_quiet (without_return line) ≡ true → written draft ≡ old → TakesLine old line (Ok draft)
-line_quiet old line draft short quiet same = (short, [], All-nil HasRowTypes, quiet_told line quiet, same ∙ sym (append-nil old))
-
-pub line_loud : (old : List Row) (line : List ℕ) (result : Result Draft TextFault) → length line ≤ max_line → is_quiet (without_return line) ≡ false → TakesText old (without_return line) result → TakesLine old line result
-line_loud old line (Ok draft) short loud took =
-    (short, took.0 ∷ [], All-cons HasRowTypes took.0 [] took.1 (All-nil HasRowTypes), loud_told line loud ∙ ap (λ (x : List ℕ). x ∷ []) took.2, took.3)
-line_loud old line (Err faults.Syntax) short loud none = λ text more types _ spelled.
-    none text more types (spelled ∙ ap (λ (xs : List (List ℕ)). map row_line old ++ (xs ++ more)) (loud_told line loud))
-line_loud old line (Err faults.Memory) short loud none = tt

@@ -5,3 +5,4 @@ pub mod Forms
 pub mod Pieces
 pub mod Rows
 pub mod Drafts
+pub mod Laws

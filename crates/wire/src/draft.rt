@@ -12,6 +12,7 @@ use std::alloc::Global;
 /// A certificate text: a graph as it was written, and parts with flows. Nothing is tested but the form.
 #[derive(Debug, Drop)]
 pub struct CertText {
+    /// Fees are in satoshis, sizes in virtual bytes.
     pub graph: Written,
     /// Each part has one name or more. Amounts are 1 to 10^30, in satoshis times virtual bytes.
     pub parts: PartList,
@@ -26,6 +27,17 @@ pub(crate) struct OpenPart {
 }
 
 impl OpenPart {
+    /// A part whose chunk line came.
+    fn new(alloc: Global, rate: Sum, ids: IdList) -> OpenPart
+        ensures { open_part result ≡ record { rate = rate; ids = ids; flows = [] } }
+    {
+        OpenPart {
+            rate,
+            ids,
+            flows: Vec::new(alloc),
+        }
+    }
+
     /// The part with the flows that came.
     fn closed(self) -> Part
         ensures { part_of result ≡ open_part self }
@@ -63,7 +75,7 @@ impl Draft {
     {
         match self {
             Draft::Graph(txs, edges) => after_graph(alloc, txs, edges, row),
-            Draft::Parts(graph, parts, open) => after_part(alloc, graph, parts, open, row),
+            Draft::Parts(graph, parts, last) => after_part(alloc, graph, parts, last, row),
             Draft::Ended(_) => Err(TextFault::Syntax),
         }
     }
@@ -98,7 +110,7 @@ fn after_graph(
         Row::Chunk(rate, ids) => Ok(Draft::Parts(
             graph_of(txs, edges),
             Vec::new(alloc),
-            open(alloc, rate, ids),
+            OpenPart::new(alloc, rate, ids),
         )),
         Row::Flow(_) => Err(TextFault::Syntax),
         Row::End => Ok(ended(graph_of(txs, edges), Vec::new(alloc))),
@@ -133,7 +145,7 @@ fn after_part(
     match row {
         Row::Chunk(rate, ids) => {
             parts.push(last.closed())?;
-            Ok(Draft::Parts(graph, parts, open(alloc, rate, ids)))
+            Ok(Draft::Parts(graph, parts, OpenPart::new(alloc, rate, ids)))
         }
         Row::Flow(flow) => {
             last.flows.push(flow)?;
@@ -156,17 +168,6 @@ fn graph_of(txs: Vec<(TxId, i64, u64)>, edges: Vec<(TxId, TxId)>) -> Written
     Written {
         txs: TxList::from_vec(txs),
         edges: EdgeList::from_vec(edges),
-    }
-}
-
-/// A part whose chunk line came.
-fn open(alloc: Global, rate: Sum, ids: IdList) -> OpenPart
-    ensures { open_part result ≡ record { rate = rate; ids = ids; flows = [] } }
-{
-    OpenPart {
-        rate,
-        ids,
-        flows: Vec::new(alloc),
     }
 }
 

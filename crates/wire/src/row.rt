@@ -190,10 +190,8 @@ fn chunk_of_rate(alloc: Global, rate: Sum, rest: &[u8]) -> Result<Row, TextFault
     requires size { IsWide rate.size }
     ensures { Gives row_line HasRowTypes (kind_word Kind.Chunk ++ 32 ∷ (signed_decimal rate.fee ++ 32 ∷ (decimal rate.size ++ 32 ∷ rest.now))) result }
 {
-    match names(alloc, rest) {
-        Ok(ids) => Ok(Row::Chunk(rate, ids)),
-        Err(fault) => Err(fault),
-    }
+    let ids = names(alloc, rest)?;
+    Ok(Row::Chunk(rate, ids))
 }
 
 /// `ID ..`
@@ -203,15 +201,11 @@ fn names(alloc: Global, text: &[u8]) -> Result<IdList, TextFault>
     let mut ids = Vec::new(alloc);
     let mut rest = text;
     while let Some((word, more)) = split_at_byte(rest, b' ') {
-        match add_name(&mut ids, word) {
-            Ok(()) => rest = more,
-            Err(fault) => return Err(fault),
-        }
+        add_name(&mut ids, word)?;
+        rest = more;
     }
-    match add_name(&mut ids, rest) {
-        Ok(()) => Ok(IdList::from_vec(ids)),
-        Err(fault) => Err(fault),
-    }
+    add_name(&mut ids, rest)?;
+    Ok(IdList::from_vec(ids))
 }
 
 /// Adds the name that a word is.
@@ -219,10 +213,10 @@ fn add_name(ids: &mut Vec<TxId>, word: &[u8]) -> Result<(), TextFault>
     ensures { AddsName ids.old.items word.now ids.new.items result }
 {
     match number(word) {
-        Some(id) => match ids.push(id) {
-            Ok(()) => Ok(()),
-            Err(_) => Err(TextFault::Memory),
-        },
+        Some(id) => {
+            ids.push(id)?;
+            Ok(())
+        }
         None => Err(TextFault::Syntax),
     }
 }

@@ -1,6 +1,6 @@
 ghost use Rattle.std.specs.Prelude.{◌≡◌, ◌≤◌, ◌<◌, ◌^◌, ℕ, List, length, All, IfOk, IsErrOf};
 ghost use Rattle.graph_model.specs.Lines.{Cut, with_last, max_input, is_quiet};
-ghost use Rattle.graph_model.specs.Texts.{Text, IsText};
+ghost use Rattle.graph_model.specs.Texts.{Text, HasTextTypes, IsText};
 ghost use Rattle.wire.specs.declared.fault.TextFault.TheVariants.{Syntax};
 ghost use Rattle.wire.specs.Rows.{HasRowTypes};
 ghost use Rattle.wire.specs.Drafts.{text_of, amount_of, written, TakesLine, TakesText, ReadsLines, lines_of};
@@ -15,11 +15,17 @@ use std::alloc::Global;
 /// The most bytes that a line may have, a carriage return at its end counted.
 const MAX_LINE: usize = 65_536;
 
-/// The certificate text that bytes are, by their lines: what follows the last line feed is a line too.
-/// `Syntax` comes where no text has these lines, and `Memory` may come in place of any answer.
+/// The certificate text that bytes are, by their lines; what follows the last line feed is a line too.
+/// Fees are in satoshis, sizes in virtual bytes, amounts in satoshis times virtual bytes.
+///
+/// # Errors
+///
+/// `Syntax` where no text has these lines. `Memory` where memory ran out, which may come in place of
+/// either other answer. Nothing is changed.
 pub fn read_certificate(alloc: Global, bytes: &[u8]) -> Result<CertText, TextFault>
     requires { length bytes.now ≤ max_input }
     ensures text { IfOk result (λ text. (lines : List (List ℕ)) (rest : List ℕ) → Cut bytes.now lines rest → IsText (with_last lines rest) (text_of text)) }
+    ensures types { IfOk result (λ text. HasTextTypes (text_of text)) }
     ensures amounts { IfOk result (λ text. amount_of (text_of text) < 2 ^ 127) }
     ensures syntax { IsErrOf result Syntax → (lines : List (List ℕ)) (rest : List ℕ) → Cut bytes.now lines rest → (text : Text) → IsText (with_last lines rest) text → ⊥ }
 {

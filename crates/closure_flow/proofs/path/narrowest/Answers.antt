@@ -1,17 +1,39 @@
-use Rattle.std.proofs.Common.{◌≡◌, ℕ, ◌*◌, ◌<◌, ◌∙◌, sym, ap, subst, arith, rules, SFits, ℤ, pos, ◌<ℤ◌, ◌≤ℤ◌, unsigned_abs}
+use Rattle.std.proofs.Common.{length, ◌≡◌, ℕ, ◌*◌, ◌<◌, ◌∙◌, sym, ap, subst, arith, rules, SFits, ℤ, pos, ◌<ℤ◌, ◌≤ℤ◌, unsigned_abs}
 use Rattle.std.proofs.lemmas.Int.{to_z-of_z}
 use Rattle.std.specs.Int.{w128}
 use Rattle.closure_flow.specs.Closures.{weight_at}
 use Rattle.closure_flow.specs.Networks.{LetsThrough, sent}
 use Rattle.closure_flow.specs.Queues.{place_at}
-use Rattle.closure_flow.proofs.Networks.{read_rest}
-use Rattle.closure_flow.proofs.Paths.{fits_start, fits_step, lets_less, start_left, enough_of}
+use Rattle.closure_flow.proofs.Networks.{network_fits, read_rest, words_fit}
+use Rattle.closure_flow.proofs.Paths.{along_step, fits_start, fits_step, lets_less, start_left, enough_of}
 use Rattle.closure_flow.proofs.path.narrowest.Goals as goal
 
 pub entry-from-requires : goal.entry-from-requires
 entry-from-requires g c =
     let lower = (c.requires.search.step _ _ c.loop-before.invariant.0 (sym c.entry.ensures.from ∙ c.in-Some.is)).0 in
     (omega arith, omega (arith, lower, c.loop-before.invariant.0))
+
+pub step_limit-amount-requires : goal.step_limit-amount-requires
+step_limit-amount-requires g c =
+    let n : ℕ = 64 * g.row.W in
+    let es = c.args.queue.now.entries in
+    let s = c.requires.search in
+    let back = s.step _ _ c.loop-before.invariant.0 (sym c.entry.ensures.from ∙ c.in-Some.is) in
+    let first : c.in-Some.before < length es = omega (arith, back.0, c.loop-before.invariant.0) in
+    let u = sym c.entry-from.ensures.place in
+    let v = sym c.entry-to.ensures.place in (
+      network_fits g.row.W _ _ _ c.args.network.now.sized,
+      (
+        words_fit g.row.W _ _ _ c.args.network.now.sized,
+        (
+          subst (λ (t : ℕ). t < length c.args.parents.now) u (c.requires.parents _ (s.inside _ first)),
+          (
+            subst (λ (t : ℕ). t < n) u (s.below _ first),
+            (subst (λ (t : ℕ). t < n) v (s.below _ c.loop-before.invariant.0), (c.loop-before.invariant.1, along_step c.args.parents.now (sent n c.args.network.now.into.items c.args.network.now.amounts.items) u v back.1)),
+          ),
+        ),
+      ),
+    )
 
 pub loop-before-preserved : goal.loop-before-preserved
 loop-before-preserved g c =

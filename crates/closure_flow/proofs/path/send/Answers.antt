@@ -37,19 +37,16 @@ push-requires g c =
         (
           subst (λ s. (t : ℕ) → set.contains s t ≡ true → t < length c.args.parents.now) w c.requires.parents,
           (
-            subst (λ s. (t : ℕ) → set.contains s t ≡ true → t < n) w c.requires.below,
+            subst (λ s. IsAllowed n c.args.parents.now s G) w i.2.allowed,
             (
-              subst (λ s. IsAllowed n c.args.parents.now s G) w i.2.allowed,
+              subst (λ s. set.contains s c.entry-from.result.place ≡ true) w (subst (λ (t : ℕ). set.contains c.args.network.now.within t ≡ true) eu (c.requires.search.inside _ first)),
               (
-                subst (λ s. set.contains s c.entry-from.result.place ≡ true) w (subst (λ (t : ℕ). set.contains c.args.network.now.within t ≡ true) eu (c.requires.search.inside _ first)),
+                subst (λ s. set.contains s c.entry-to.result.place ≡ true) w (subst (λ (t : ℕ). set.contains c.args.network.now.within t ≡ true) ev (c.requires.search.inside _ i.0)),
                 (
-                  subst (λ s. set.contains s c.entry-to.result.place ≡ true) w (subst (λ (t : ℕ). set.contains c.args.network.now.within t ≡ true) ev (c.requires.search.inside _ i.0)),
+                  λ same. omega (arith, c.requires.search.once _ _ first i.0 (eu ∙ same ∙ sym ev), lower),
                   (
-                    λ same. omega (arith, c.requires.search.once _ _ first i.0 (eu ∙ same ∙ sym ev), lower),
-                    (
-                      subst (λ (t : ℕ). LetsThrough c.args.parents.now G c.args.amount t c.entry-to.result.place) eu (subst (λ (t : ℕ). LetsThrough c.args.parents.now G c.args.amount u t) ev lets),
-                      subst (λ (t : ℕ). G t c.entry-to.result.place + c.args.amount < 2 ^ 128) eu (subst (λ (t : ℕ). G u t + c.args.amount < 2 ^ 128) ev room),
-                    ),
+                    subst (λ (t : ℕ). LetsThrough c.args.parents.now G c.args.amount t c.entry-to.result.place) eu (subst (λ (t : ℕ). LetsThrough c.args.parents.now G c.args.amount u t) ev lets),
+                    subst (λ (t : ℕ). G t c.entry-to.result.place + c.args.amount < 2 ^ 128) eu (subst (λ (t : ℕ). G u t + c.args.amount < 2 ^ 128) ev room),
                   ),
                 ),
               ),
@@ -75,7 +72,7 @@ loop-before-preserved g c =
     (subst (λ s. Pushes n c.args.parents.now s (sent n c.loop-before.network.into.items c.loop-before.network.amounts.items) (sent n c.push.new.network.into.items c.push.new.network.amounts.items) c.entry-from.result.place c.entry-to.result.place c.args.amount) i.4 c.push.ensures.pushes)) in (
       omega (arith, lower, i.0),
       (fits_next _ _ _ _ _ _ _ i.1 from).1,
-      sends_step n _ _ _ _ _ (weight_at c.args.network.now.rest.items) es _ _ _ c.args.amount c.requires.below c.requires.search i.0 lower i.2 pushed,
+      sends_step n _ _ _ _ _ (weight_at c.args.network.now.rest.items) es _ _ _ c.args.amount c.args.network.now.inside c.requires.search i.0 lower i.2 pushed,
       c.push.ensures.rest ∙ i.3,
       c.push.ensures.within ∙ i.4,
     )

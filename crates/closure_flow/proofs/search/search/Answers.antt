@@ -1,6 +1,4 @@
-use Rattle.std.proofs.Common.{◌≡◌, ℕ, ◌*◌, ◌+◌, ◌-◌, ◌∙◌, ap, subst, true, arith, rules, SFits, pos, ◌≤ℤ◌, List, Some}
-use Rattle.std.proofs.lemmas.Int.{ints}
-use Rattle.std.specs.Int.{w128}
+use Rattle.std.proofs.Common.{◌≡◌, ℕ, ◌*◌, ◌+◌, ◌-◌, ◌∙◌, ap, subst, Bool, true, false, arith, pos, ◌≤ℤ◌, List, Some}
 use Rattle.std.specs.FinSet as set
 use Rattle.bitset.specs.Sets.{contains-empty}
 use Rattle.closure_flow.specs.Closures.{weight_at}
@@ -8,9 +6,9 @@ use Rattle.closure_flow.specs.Queues.{Grows, IsBeyond}
 use Rattle.closure_flow.specs.Networks.{sent}
 use Rattle.closure_flow.specs.declared.queue.Entry.{Entry}
 use Rattle.closure_flow.proofs.Sets.{clash}
-use Rattle.closure_flow.proofs.Networks.{read_rest, words_fit}
+use Rattle.closure_flow.proofs.Networks.{words_fit}
 use Rattle.closure_flow.proofs.Queues.{lists_none}
-use Rattle.closure_flow.proofs.Searches.{Searching, searching_step, searching_end, some_left}
+use Rattle.closure_flow.proofs.Searches.{Searching, not_short, searching_step, searching_end, some_left}
 use Rattle.closure_flow.proofs.search.search.Goals as goal
 
 pub put_all-seen-requires : goal.put_all-seen-requires
@@ -32,7 +30,9 @@ pub loop-place-smaller : goal.loop-place-smaller
 loop-place-smaller g c =
     let k = c.in-Some.ensures in
     let a = c.put_all-seen-in-Some.ensures in
-    let room = some_left (64 * g.row.W) _ _ _ _ _ _ _ c.loop-place.invariant.0 k.none in
+    let net = c.args.network.now in
+    let n : ℕ = 64 * g.row.W in
+    let room = some_left n c.args.parents.now net.within (sent n net.into.items net.amounts.items) (weight_at net.rest.items) c.loop-place.queue.entries c.loop-place.queue.taken c.loop-place.seen c.loop-place.invariant.0 k.none in
     omega (arith, a.taken, k.taken, room)
 
 pub loop-place-preserved : goal.loop-place-preserved
@@ -44,19 +44,18 @@ loop-place-preserved g c =
     let flow = sent n c.args.network.now.into.items c.args.network.now.amounts.items in
     let rest = weight_at c.args.network.now.rest.items in
     let here : set.contains c.loop-place.seen c.in-Some.place ≡ true = ap (λ t. set.contains c.loop-place.seen t) k.place ∙ s.lists.each _ k.none in
-    let fine : SFits w128 c.index.result.now = search rules in
-    let read = read_rest n _ _ _ c.in-Some.place _ c.args.network.now.sized (s.below _ here) c.index.ensures in
-    let test = c.if-index-lt0.false in
-    let content : pos 0 ≤ℤ rest c.in-Some.place = omega (arith, ints, read, test) in
+    let out : set.contains c.args.network.now.short c.in-Some.place ≡ false = subst (λ (b : Bool). b ≡ false) c.has.ensures c.if-has.false in
+    let content : pos 0 ≤ℤ rest c.in-Some.place =
+    not_short (rest c.in-Some.place) (λ low. clash _ (c.args.network.now.short_is.complete c.in-Some.place (s.inside c.in-Some.place here) low) out) in
     let before : c.taken-at.result - 1 ≡ c.loop-place.queue.taken = omega (arith, c.taken-at.ensures.taken, k.taken) in
     let now : c.loop-place.queue.taken + 1 ≡ c.put_all-seen-in-Some.new.queue.taken = omega (arith, a.taken, k.taken) in
     let grows : Grows c.loop-place.queue.entries c.put_all-seen-in-Some.new.queue.entries c.beyond-next.result (Some c.loop-place.queue.taken) =
     subst (λ (i : ℕ). Grows c.loop-place.queue.entries c.put_all-seen-in-Some.new.queue.entries c.beyond-next.result (Some i)) before
     (subst (λ (es : List Entry). Grows es c.put_all-seen-in-Some.new.queue.entries c.beyond-next.result (Some (c.taken-at.result - 1))) k.entries a.grows) in (
-      subst (λ (i : ℕ). Searching n c.args.parents.now c.args.within.now flow rest c.put_all-seen-in-Some.new.queue.entries i c.put_all-seen-in-Some.result) now
+      subst (λ (i : ℕ). Searching n c.args.parents.now c.args.network.now.within flow rest c.put_all-seen-in-Some.new.queue.entries i c.put_all-seen-in-Some.result) now
           (searching_step n _ _ flow rest _ _ c.loop-place.queue.taken _ _ c.beyond-next.result c.requires.allowed s k.none
           (subst (λ (t : ℕ). pos 0 ≤ℤ rest t) k.place content)
-          (subst (λ (t : ℕ). IsBeyond n c.args.parents.now c.args.within.now flow c.loop-place.seen t c.beyond-next.result) k.place c.beyond-next.ensures)
+          (subst (λ (t : ℕ). IsBeyond n c.args.parents.now c.args.network.now.within flow c.loop-place.seen t c.beyond-next.result) k.place c.beyond-next.ensures)
           a.lists a.within grows a.old a.new a.only),
       omega (arith, k.step, c.loop-place.invariant.1),
     )

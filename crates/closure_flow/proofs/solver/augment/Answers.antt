@@ -1,4 +1,4 @@
-use Rattle.std.proofs.Common.{◌≡◌, ℕ, ◌*◌, ◌+◌, ◌<◌, ◌≤◌, sym, ap, subst, true, rules, arith, SFits, ℤ, pos, neg_ℤ, ◌+ℤ◌, ◌-ℤ◌, ◌≤ℤ◌, ◌<ℤ◌}
+use Rattle.std.proofs.Common.{◌≡◌, ℕ, ◌*◌, ◌+◌, ◌<◌, ◌≤◌, ◌∙◌, sym, ap, subst, true, rules, arith, SFits, ℤ, pos, neg_ℤ, ◌+ℤ◌, ◌-ℤ◌, ◌≤ℤ◌, ◌<ℤ◌}
 use Rattle.std.specs.Int.{w128}
 use Rattle.std.specs.FinSet as set
 use Rattle.bitset.specs.Places.{places}
@@ -6,7 +6,7 @@ use Rattle.closure_flow.specs.Closures.{weight_at}
 use Rattle.closure_flow.specs.Flows.{only_at, net}
 use Rattle.closure_flow.specs.Networks.{IsAllowed, sent}
 use Rattle.closure_flow.proofs.Networks.{network_fits}
-use Rattle.closure_flow.proofs.Steadiness.{Moves, apart_ends, moves_falls, moves_improve, read_lack, same_sent}
+use Rattle.closure_flow.proofs.Steadiness.{Moves, apart_ends, moves_falls, moves_improve, read_lack, room_below, same_sent}
 use Rattle.closure_flow.proofs.solver.augment.Goals as goal
 
 pub shift-requires : goal.shift-requires
@@ -21,14 +21,14 @@ shift-requires g c =
     let same = ap weight_at (sym c.send-start.ensures.rest) in (
       network_fits g.row.W _ _ _ c.args.network.now.sized,
       (
-        c.requires.below _ c.send-start.ensures.start,
+        ap (λ s. set.contains s c.send-start.result) c.send-start.ensures.within ∙ c.send-start.ensures.start,
         (
-          subst (λ (t : ℕ). t < n) (sym end) (c.requires.search.below _ c.requires.at),
+          ap (λ s. set.contains s c.entry-end.result.place) c.send-start.ensures.within ∙ ap (λ (t : ℕ). set.contains c.args.network.now.within t) end ∙ c.requires.search.inside _ c.requires.at,
           (
             apart_ends r _ _ c.narrowest-amount.result c.narrowest-amount.ensures.some c.send-start.ensures.enough low,
             (
               subst (λ (f : ℕ → ℤ). pos c.narrowest-amount.result ≤ℤ f c.send-start.result) same c.send-start.ensures.enough,
-              subst (λ (f : ℕ → ℤ). f c.entry-end.result.place ≤ℤ neg_ℤ (pos c.narrowest-amount.result)) same low,
+              room_below _ _ (subst (λ (f : ℕ → ℤ). f c.entry-end.result.place ≤ℤ neg_ℤ (pos c.narrowest-amount.result)) same low),
             ),
           ),
         ),
@@ -50,7 +50,7 @@ moves g c =
     let moved : (t : ℕ) → set.contains w t ≡ true → net (places n w) (sent n c.send-start.new.network.into.items c.send-start.new.network.amounts.items) t ≡ (net (places n w) F t +ℤ only_at c.send-start.result (pos x) t) -ℤ only_at c.entry-end.result.place (pos x) t =
     subst (λ (k : ℕ). (t : ℕ) → set.contains w t ≡ true → net (places n w) (sent n c.send-start.new.network.into.items c.send-start.new.network.amounts.items) t ≡ (net (places n w) F t +ℤ only_at c.send-start.result (pos x) t) -ℤ only_at k (pos x) t) (sym end) c.send-start.ensures.moved in
     record {
-      below = c.requires.below;
+      below = c.args.network.now.inside;
       first = c.send-start.ensures.start;
       last = subst (λ (t : ℕ). set.contains w t ≡ true) (sym end) (c.requires.search.inside _ c.requires.at);
       some = c.narrowest-amount.ensures.some;
@@ -58,7 +58,9 @@ moves g c =
       lacks = low;
       moved = subst (λ (f : ℕ → ℕ → ℕ). (t : ℕ) → set.contains w t ≡ true → net (places n w) f t ≡ (net (places n w) F t +ℤ only_at c.send-start.result (pos x) t) -ℤ only_at c.entry-end.result.place (pos x) t) e moved;
       more = subst (λ (f : ℕ → ℕ → ℕ). (d p : ℕ) → set.contains w d ≡ true → set.contains w p ≡ true → f d p ≤ F d p + x) e c.send-start.ensures.more;
-      allowed = subst (λ (f : ℕ → ℕ → ℕ). IsAllowed n c.args.parents.now w f) e c.send-start.ensures.allowed;
+      allowed =
+          subst (λ (f : ℕ → ℕ → ℕ). IsAllowed n c.args.parents.now w f) e
+          (subst (λ s. IsAllowed n c.args.parents.now s (sent n c.send-start.new.network.into.items c.send-start.new.network.amounts.items)) c.send-start.ensures.within c.send-start.ensures.allowed);
       rests = subst (λ (r : ℕ → ℤ). (t : ℕ) → t < n → weight_at c.shift.new.self.rest.items t ≡ (r t -ℤ only_at c.send-start.result (pos x) t) +ℤ only_at c.entry-end.result.place (pos x) t) (ap weight_at c.send-start.ensures.rest) c.shift.ensures.rest;
     }
 

@@ -1,29 +1,16 @@
 use Rattle.std.proofs.Common.{◌≡◌, ℕ, ◌*◌, ◌<◌, ◌∙◌, sym, ap, subst, true, arith, pos, length, int_lt}
 use Rattle.std.specs.FinSet as set
 use Rattle.closure_flow.specs.Closures.{weight_at}
-use Rattle.closure_flow.specs.Networks.{Improves, IsSteady, sent}
-use Rattle.closure_flow.specs.Queues.{IsSealed, Lists}
-use Rattle.closure_flow.proofs.Networks.{network_fits, not_received, shown_only, shown_within, words_fit}
-use Rattle.closure_flow.proofs.Optimum.{Ends, balanced_flow, count_empty, count_within, empty_balanced, empty_none, greatest_where_sealed, none_is_empty, none_where_sealed, nothing_over, positive_where_some, solved, some_is_least, steady_start}
+use Rattle.closure_flow.specs.Queues.{Lists}
+use Rattle.closure_flow.proofs.Networks.{network_fits, shown_only, shown_within, words_fit}
+use Rattle.closure_flow.proofs.Optimum.{balanced_flow, count_within, counted_some, greatest_where_sealed, none_is_empty, none_where_sealed, nothing_over, positive_where_some, run_of, sealed_closed, small_start, some_is_least}
 use Rattle.closure_flow.proofs.solver.solve.Goals as goal
-
-pub returns-then-is_none-clause-none : goal.returns-then-is_none-clause-none
-returns-then-is_none-clause-none g c =
-    empty_none (64 * g.row.W) _ _ c.args.within (none_is_empty c.least.result c.is_none.result c.args.within c.is_none.ensures c.if-is_none.true c.least.ensures.least)
-
-pub returns-then-is_none-clause-flow : goal.returns-then-is_none-clause-flow
-returns-then-is_none-clause-flow g c =
-    empty_balanced (64 * g.row.W) _ _ c.args.within _ (none_is_empty c.least.result c.is_none.result c.args.within c.is_none.ensures c.if-is_none.true c.least.ensures.least)
-    (λ d p m. not_received (64 * g.row.W) c.args.within _ _ d p m)
-
-pub returns-then-is_none-clause-steps_balanced : goal.returns-then-is_none-clause-steps_balanced
-returns-then-is_none-clause-steps_balanced g c =
-    omega (arith, count_empty (64 * g.row.W) (λ t. int_lt (weight_at c.args.weights.now t) (pos 0)) c.args.within (none_is_empty c.least.result c.is_none.result c.args.within c.is_none.ensures c.if-is_none.true c.least.ensures.least))
 
 pub first_flow-requires : goal.first_flow-requires
 first_flow-requires g c =
     let n : ℕ = 64 * g.row.W in
-    let w = sym c.load.ensures.within in (
+    let e = c.load.ensures in
+    let w = sym e.within in (
       network_fits g.row.W _ _ _ c.args.scratch.now.network.sized,
       (
         omega arith,
@@ -32,11 +19,10 @@ first_flow-requires g c =
           (
             subst (λ s. (t : ℕ) → set.contains s t ≡ true → t < length c.args.parents.now) w c.requires.parents,
             (
-              subst (λ s. (t : ℕ) → set.contains s t ≡ true → t < n) w c.least.ensures.within,
+              subst (λ s. Lists c.load.new.queue.entries s) w e.lists,
               (
-                subst (λ s. Lists c.load.new.queue.entries s) w c.load.ensures.lists,
-                subst (λ s. IsSteady n c.args.parents.now s (sent n c.load.new.network.into.items c.load.new.network.amounts.items) (weight_at c.load.new.network.rest.items)) w
-                    (steady_start n (weight_at c.args.weights.now) _ c.args.within _ _ c.load.ensures.rest c.load.ensures.none c.requires.small),
+                λ d p m. e.none d p (ap (λ s. set.contains s p) (sym e.within) ∙ m),
+                small_start n (weight_at c.args.weights.now) c.args.within c.load.new.network.within (weight_at c.load.new.network.rest.items) e.within e.rest c.requires.small,
               ),
             ),
           ),
@@ -44,98 +30,52 @@ first_flow-requires g c =
       ),
     )
 
-pub returns-else-is_none-2-clause-greatest : goal.returns-else-is_none-2-clause-greatest
-returns-else-is_none-2-clause-greatest g c =
+pub returns-else-is_none-clause-closed : goal.returns-else-is_none-clause-closed
+returns-else-is_none-clause-closed g c =
     let n : ℕ = 64 * g.row.W in
-    let ws = c.args.weights.now in
-    let ps = c.args.parents.now in
-    let w = c.args.within in
-    let F = sent n c.load.new.network.into.items c.load.new.network.amounts.items in
-    let G = sent n c.first_flow.new.network.into.items c.first_flow.new.network.amounts.items in
-    let H = sent n c.complete-reached.new.network.into.items c.complete-reached.new.network.amounts.items in
-    let r = weight_at c.load.new.network.rest.items in
-    let s = weight_at c.first_flow.new.network.rest.items in
-    let u = weight_at c.complete-reached.new.network.rest.items in
-    let w1 : c.load.new.network.within ≡ w = c.load.ensures.within in
-    let w2 : c.first_flow.new.network.within ≡ w = c.first_flow.ensures.within ∙ w1 in
-    let ends : Ends n ws ps w H u =
-    solved n ws ps w F G H r s u c.least.ensures.within c.load.ensures.rest c.load.ensures.none
-    (subst (λ x. Improves n ps x F r G s) w1 c.first_flow.ensures.improves)
-    (subst (λ x. Improves n ps x G s H u) w2 c.complete-reached.ensures.improves) in
-    let sealed : IsSealed n ps w H u c.complete-reached.result = subst (λ x. IsSealed n ps x H u c.complete-reached.result) w2 c.complete-reached.ensures.sealed in
-    greatest_where_sealed n ws ps w H u c.complete-reached.result ends sealed
+    let run = run_of n c.args.weights.now c.args.parents.now c.args.within _ _ _ _ _ _ _ _ _ c.complete-reached.result c.load.new.network.inside c.load.ensures.within c.first_flow.ensures.within c.complete-reached.ensures.within c.load.ensures.rest c.load.ensures.none c.first_flow.ensures.improves c.complete-reached.ensures.improves c.complete-reached.ensures.sealed in
+    sealed_closed n _ _ _ _ _ run.sealed
 
-pub returns-else-is_none-2-clause-positive : goal.returns-else-is_none-2-clause-positive
-returns-else-is_none-2-clause-positive g c =
+pub returns-else-is_none-clause-positive : goal.returns-else-is_none-clause-positive
+returns-else-is_none-clause-positive g c =
     let n : ℕ = 64 * g.row.W in
-    let ws = c.args.weights.now in
-    let ps = c.args.parents.now in
-    let w = c.args.within in
-    let F = sent n c.load.new.network.into.items c.load.new.network.amounts.items in
-    let G = sent n c.first_flow.new.network.into.items c.first_flow.new.network.amounts.items in
-    let H = sent n c.complete-reached.new.network.into.items c.complete-reached.new.network.amounts.items in
-    let r = weight_at c.load.new.network.rest.items in
-    let s = weight_at c.first_flow.new.network.rest.items in
-    let u = weight_at c.complete-reached.new.network.rest.items in
-    let w1 : c.load.new.network.within ≡ w = c.load.ensures.within in
-    let w2 : c.first_flow.new.network.within ≡ w = c.first_flow.ensures.within ∙ w1 in
-    let ends : Ends n ws ps w H u =
-    solved n ws ps w F G H r s u c.least.ensures.within c.load.ensures.rest c.load.ensures.none
-    (subst (λ x. Improves n ps x F r G s) w1 c.first_flow.ensures.improves)
-    (subst (λ x. Improves n ps x G s H u) w2 c.complete-reached.ensures.improves) in
-    let sealed : IsSealed n ps w H u c.complete-reached.result = subst (λ x. IsSealed n ps x H u c.complete-reached.result) w2 c.complete-reached.ensures.sealed in
-    let first = some_is_least c.least-2.result c.is_none-2.result c.complete-reached.result c.is_none-2.ensures c.if-is_none-2.false c.least-2.ensures.least in
-    positive_where_some n ws ps w H u c.complete-reached.result first.0 ends sealed first.1
+    let run = run_of n c.args.weights.now c.args.parents.now c.args.within _ _ _ _ _ _ _ _ _ c.complete-reached.result c.load.new.network.inside c.load.ensures.within c.first_flow.ensures.within c.complete-reached.ensures.within c.load.ensures.rest c.load.ensures.none c.first_flow.ensures.improves c.complete-reached.ensures.improves c.complete-reached.ensures.sealed in
+    let first = some_is_least c.least.result c.is_none.result c.complete-reached.result c.is_none.ensures c.if-is_none.false c.least.ensures.least in
+    positive_where_some n _ _ _ _ _ _ first.0 run.ends run.sealed first.1
 
-pub returns-then-is_none-2-clause-none : goal.returns-then-is_none-2-clause-none
-returns-then-is_none-2-clause-none g c =
+pub returns-else-is_none-clause-greatest : goal.returns-else-is_none-clause-greatest
+returns-else-is_none-clause-greatest g c =
     let n : ℕ = 64 * g.row.W in
-    let ws = c.args.weights.now in
-    let ps = c.args.parents.now in
-    let w = c.args.within in
-    let F = sent n c.load.new.network.into.items c.load.new.network.amounts.items in
-    let G = sent n c.first_flow.new.network.into.items c.first_flow.new.network.amounts.items in
-    let H = sent n c.complete-reached.new.network.into.items c.complete-reached.new.network.amounts.items in
-    let r = weight_at c.load.new.network.rest.items in
-    let s = weight_at c.first_flow.new.network.rest.items in
-    let u = weight_at c.complete-reached.new.network.rest.items in
-    let w1 : c.load.new.network.within ≡ w = c.load.ensures.within in
-    let w2 : c.first_flow.new.network.within ≡ w = c.first_flow.ensures.within ∙ w1 in
-    let ends : Ends n ws ps w H u =
-    solved n ws ps w F G H r s u c.least.ensures.within c.load.ensures.rest c.load.ensures.none
-    (subst (λ x. Improves n ps x F r G s) w1 c.first_flow.ensures.improves)
-    (subst (λ x. Improves n ps x G s H u) w2 c.complete-reached.ensures.improves) in
-    let sealed : IsSealed n ps w H u c.complete-reached.result = subst (λ x. IsSealed n ps x H u c.complete-reached.result) w2 c.complete-reached.ensures.sealed in
-    let none : c.complete-reached.result ≡ set.empty = none_is_empty c.least-2.result c.is_none-2.result c.complete-reached.result c.is_none-2.ensures c.if-is_none-2.true c.least-2.ensures.least in
-    none_where_sealed n ws ps w H u c.complete-reached.result ends sealed none
+    let run = run_of n c.args.weights.now c.args.parents.now c.args.within _ _ _ _ _ _ _ _ _ c.complete-reached.result c.load.new.network.inside c.load.ensures.within c.first_flow.ensures.within c.complete-reached.ensures.within c.load.ensures.rest c.load.ensures.none c.first_flow.ensures.improves c.complete-reached.ensures.improves c.complete-reached.ensures.sealed in
+    greatest_where_sealed n _ _ _ _ _ _ run.ends run.sealed
 
-pub returns-then-is_none-2-clause-flow : goal.returns-then-is_none-2-clause-flow
-returns-then-is_none-2-clause-flow g c =
+pub returns-else-is_none-clause-steps_better : goal.returns-else-is_none-clause-steps_better
+returns-else-is_none-clause-steps_better g c =
     let n : ℕ = 64 * g.row.W in
-    let ws = c.args.weights.now in
-    let ps = c.args.parents.now in
-    let w = c.args.within in
-    let F = sent n c.load.new.network.into.items c.load.new.network.amounts.items in
-    let G = sent n c.first_flow.new.network.into.items c.first_flow.new.network.amounts.items in
-    let H = sent n c.complete-reached.new.network.into.items c.complete-reached.new.network.amounts.items in
-    let r = weight_at c.load.new.network.rest.items in
-    let s = weight_at c.first_flow.new.network.rest.items in
-    let u = weight_at c.complete-reached.new.network.rest.items in
-    let w1 : c.load.new.network.within ≡ w = c.load.ensures.within in
-    let w2 : c.first_flow.new.network.within ≡ w = c.first_flow.ensures.within ∙ w1 in
-    let ends : Ends n ws ps w H u =
-    solved n ws ps w F G H r s u c.least.ensures.within c.load.ensures.rest c.load.ensures.none
-    (subst (λ x. Improves n ps x F r G s) w1 c.first_flow.ensures.improves)
-    (subst (λ x. Improves n ps x G s H u) w2 c.complete-reached.ensures.improves) in
-    let sealed : IsSealed n ps w H u c.complete-reached.result = subst (λ x. IsSealed n ps x H u c.complete-reached.result) w2 c.complete-reached.ensures.sealed in
-    let none : c.complete-reached.result ≡ set.empty = none_is_empty c.least-2.result c.is_none-2.result c.complete-reached.result c.is_none-2.ensures c.if-is_none-2.true c.least-2.ensures.least in
-    let w3 : c.complete-reached.new.network.within ≡ w = c.complete-reached.ensures.within ∙ w2 in
-    balanced_flow n ws ps w H _ u ends c.requires.sum (nothing_over n ws ps w H u c.complete-reached.result ends sealed none)
-    (λ d p m. shown_within n _ _ _ d p (ap (λ x. set.contains x p) w3 ∙ m))
+    let run = run_of n c.args.weights.now c.args.parents.now c.args.within _ _ _ _ _ _ _ _ _ c.complete-reached.result c.load.new.network.inside c.load.ensures.within c.first_flow.ensures.within c.complete-reached.ensures.within c.load.ensures.rest c.load.ensures.none c.first_flow.ensures.improves c.complete-reached.ensures.improves c.complete-reached.ensures.sealed in
+    let first = some_is_least c.least.result c.is_none.result c.complete-reached.result c.is_none.ensures c.if-is_none.false c.least.ensures.least in
+    omega (arith, counted_some c.args.within first.0 (run.sealed.inside first.0 first.1), c.load.ensures.steps, c.complete-reached.ensures.steps)
+
+pub returns-then-is_none-clause-none : goal.returns-then-is_none-clause-none
+returns-then-is_none-clause-none g c =
+    let n : ℕ = 64 * g.row.W in
+    let run = run_of n c.args.weights.now c.args.parents.now c.args.within _ _ _ _ _ _ _ _ _ c.complete-reached.result c.load.new.network.inside c.load.ensures.within c.first_flow.ensures.within c.complete-reached.ensures.within c.load.ensures.rest c.load.ensures.none c.first_flow.ensures.improves c.complete-reached.ensures.improves c.complete-reached.ensures.sealed in
+    let none = none_is_empty c.least.result c.is_none.result c.complete-reached.result c.is_none.ensures c.if-is_none.true c.least.ensures.least in
+    none_where_sealed n _ _ _ _ _ _ run.ends run.sealed none
+
+pub returns-then-is_none-clause-flow : goal.returns-then-is_none-clause-flow
+returns-then-is_none-clause-flow g c =
+    let n : ℕ = 64 * g.row.W in
+    let run = run_of n c.args.weights.now c.args.parents.now c.args.within _ _ _ _ _ _ _ _ _ c.complete-reached.result c.load.new.network.inside c.load.ensures.within c.first_flow.ensures.within c.complete-reached.ensures.within c.load.ensures.rest c.load.ensures.none c.first_flow.ensures.improves c.complete-reached.ensures.improves c.complete-reached.ensures.sealed in
+    let none = none_is_empty c.least.result c.is_none.result c.complete-reached.result c.is_none.ensures c.if-is_none.true c.least.ensures.least in
+    let w = c.complete-reached.ensures.within ∙ c.first_flow.ensures.within ∙ c.load.ensures.within in
+    balanced_flow n _ _ _ _ _ _ run.ends c.requires.sum (nothing_over n _ _ _ _ _ _ run.ends run.sealed none)
+    (λ d p m. shown_within n _ _ _ d p (ap (λ x. set.contains x p) w ∙ m))
     (λ d p f.
     let both = shown_only n _ _ _ d p c.complete-reached.new.network.lean c.complete-reached.new.network.inside f in
-    (both.0, ap (λ x. set.contains x p) (sym w3) ∙ both.1))
+    (both.0, ap (λ x. set.contains x p) (sym w) ∙ both.1))
 
-pub returns-then-is_none-2-clause-steps_balanced : goal.returns-then-is_none-2-clause-steps_balanced
-returns-then-is_none-2-clause-steps_balanced g c =
-    omega (arith, count_within (64 * g.row.W) (λ t. int_lt (weight_at c.args.weights.now t) (pos 0)) c.args.within c.least.ensures.within, c.load.ensures.steps, c.complete-reached.ensures.steps)
+pub returns-then-is_none-clause-steps_balanced : goal.returns-then-is_none-clause-steps_balanced
+returns-then-is_none-clause-steps_balanced g c =
+    let inside = subst (λ s. (t : ℕ) → set.contains s t ≡ true → t < 64 * g.row.W) c.load.ensures.within c.load.new.network.inside in
+    omega (arith, count_within (64 * g.row.W) (λ t. int_lt (weight_at c.args.weights.now t) (pos 0)) c.args.within inside, c.load.ensures.steps, c.complete-reached.ensures.steps)

@@ -6,3 +6,6 @@ ghosts-rows g a = record { name = a.blank.name; parts = a.blank.parts }
 
 abbrev pub ghosts-edges : goal.ghosts-edges
 ghosts-edges g a = record { name = a.blank.name; parts = a.blank.parts }
+
+abbrev pub ghosts-stars : goal.ghosts-stars
+ghosts-stars g a = record { name = a.blank.name; parts = a.blank.parts }

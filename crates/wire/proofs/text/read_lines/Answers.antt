@@ -1,4 +1,4 @@
-use Rattle.std.proofs.Common.{List, ℕ, [], ◌∷◌, subst}
+use Rattle.std.proofs.Common.{List, ℕ, [], subst}
 use Rattle.std.proofs.lemmas.Result.{err_from_is_err_and}
 use Rattle.wire.specs.Drafts.{written, lines_of}
 use Rattle.wire.proofs.LineLemmas.{IsRead, lines_first, lines_last, one_more, line_fault, all_read}

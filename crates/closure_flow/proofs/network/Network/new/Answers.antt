@@ -2,6 +2,7 @@ use Rattle.std.proofs.Common.{◌≡◌, ℕ, ◌*◌, ◌^◌, ◌<◌, ◌∙�
 use Rattle.std.proofs.lemmas.List.{length-replicate}
 use Rattle.std.specs.FinSet as fin
 use Rattle.closure_flow.specs.Networks.{IsLean}
+use Rattle.closure_flow.proofs.Marks.{marked_none}
 use Rattle.closure_flow.proofs.Networks.{lean_fresh}
 use Rattle.bitset.specs.Sets.{contains-empty}
 use Rattle.closure_flow.proofs.Sets.{clash}
@@ -23,6 +24,8 @@ invariant_of-result g c =
         rests = ap length rest ∙ length-replicate _ _ ∙ places;
         small = subst (λ (m : ℕ). m < 2 ^ 64) pairs fits;
       };
-      lean = subst (λ xs. IsLean n xs c.in_ok-vec-2.field-0.items) (sym (into ∙ ap (λ (m : ℕ). replicate m c.empty-2.result) places ∙ ap (replicate n) c.empty-2.ensures)) (lean_fresh n c.in_ok-vec-2.field-0.items);
+      lean = subst (λ xs. IsLean n xs c.in_ok-vec-2.field-0.items) (sym (into ∙ ap (λ (m : ℕ). replicate m c.empty-4.result) places ∙ ap (replicate n) c.empty-4.ensures)) (lean_fresh n c.in_ok-vec-2.field-0.items);
+      over_is = marked_none _ _ _ _ c.empty.ensures c.empty-2.ensures;
+      short_is = marked_none _ _ _ _ c.empty.ensures c.empty-3.ensures;
       inside = λ p m. clash _ m (ap (λ s. fin.contains s p) c.empty.ensures ∙ contains-empty p);
     }

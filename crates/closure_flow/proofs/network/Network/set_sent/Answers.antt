@@ -14,6 +14,8 @@ invariant_of-self g c =
           (lean_set n _ _ c.args.self.now.rest.items c.args.child c.args.parent c.args.amount _ c.args.self.now.sized c.args.self.now.lean
           (writes_read n _ _ _ _ _ _ _ _ c.args.self.now.sized c.requires.child c.requires.parent c.index.ensures m.other m.none m.some));
       inside = c.args.self.now.inside;
+      over_is = c.args.self.now.over_is;
+      short_is = c.args.self.now.short_is;
     }
 
 pub returns-clause-here : goal.returns-clause-here

@@ -1,0 +1,5 @@
+pub mod Fronts
+pub mod Joins
+pub mod Sums
+pub mod Stacks
+pub mod Uniqueness

@@ -1,0 +1,2 @@
+pub mod Chunkings
+pub mod Laws

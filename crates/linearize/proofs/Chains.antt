@@ -1,0 +1,125 @@
+-- Where each covering parent stands before its children, each ancestor stands before its descendants.
+use Rattle.std.proofs.Common.{◌≡◌, ◌≢◌, ℕ, zero, suc, ◌+◌, ◌<◌, ◌≤◌, ◌⊎◌, inl, inr, Bool, true, false, not, ◌&&◌, nat_eq, List, [], ◌∷◌, ◌++◌, refl, sym, ap, ◌∙◌, subst, arith, eq-eqb, ne_eqb}
+use Rattle.std.specs.Prelude.{Contains}
+use Rattle.std.proofs.lemmas.Bool.{cases_eq, and_parts, and_from}
+use Rattle.std.proofs.lemmas.List.Elements.{Contains-append_right}
+use Rattle.std.specs.Ordering.{nat_cmp}
+use Rattle.std.specs.FinSet as fin
+use Rattle.bitset.specs.Places.{places, IsWithin}
+use Rattle.bitset.specs.Sets.{Contains-places}
+use Rattle.graph_model.specs.Graphs.{AreDistinct}
+use Rattle.graph_model.specs.Linearizations.{StandsBefore}
+use Rattle.dep_graph.specs.Graph.{Graph, is_member, is_ancestor, ancestors_of, members_of, IsCover, IsClosed}
+use Rattle.linearize.specs.Orders.{IsOrderOf}
+use Rattle.linearize.proofs.Places.{Contains-head, Contains-later, Contains-cases, none_in_empty, in_members, clash}
+use Rattle.linearize.proofs.Sets.{test_of, to_remove, from_remove, len_remove, len_within}
+
+-- what stands before an entry of a front stands in that front
+stays_before : (before after front rest : List ℕ) (a b : ℕ) → before ++ b ∷ after ≡ front ++ rest → AreDistinct (front ++ rest) → Contains front b → Contains before a → Contains front a
+stays_before before after [] rest a b e d here h = absurd (none_in_empty b here)
+stays_before [] after (c ∷ front) rest a b e d here h = absurd (none_in_empty a h)
+stays_before (x ∷ before) after (c ∷ front) rest a b e d here h =
+    let tails : before ++ b ∷ after ≡ front ++ rest = cc in
+    let heads : x ≡ c = cc in
+    elim (Contains-cases x a before h) [
+      | inl same ↦ subst (λ z. Contains (c ∷ front) z) (sym heads ∙ same) (Contains-head c front)
+      | inr later ↦ elim (Contains-cases c b front here) [
+        | inl first ↦ absurd (d.0 (subst (λ zs. Contains zs c) tails (Contains-append_right before (b ∷ after) c (subst (λ z. Contains (b ∷ after) z) (sym first) (Contains-head b after)))))
+        | inr there ↦ Contains-later c a front (stays_before before after front rest a b tails d.1 there later)
+      ]
+    ]
+
+before_before : (order : List ℕ) (a b c : ℕ) → AreDistinct order → StandsBefore order a b → StandsBefore order b c → StandsBefore order a c
+before_before order a b c d one two = (two.0, two.1, two.2, stays_before one.0 one.1 two.0 (c ∷ two.1) a b (sym one.2 ∙ two.2) (subst (λ xs. AreDistinct xs) two.2 d) two.3 one.3)
+
+module _ (n : ℕ) (dep : Graph) (closed : IsClosed n dep) where
+  above_within : (d : ℕ) → IsWithin n (ancestors_of dep d)
+  above_within d k m = closed.within k (closed.order.among k d m).0
+
+  -- a proper ancestor has fewer ancestors
+  fewer_above : (a d : ℕ) → is_ancestor dep a d ≡ true → a ≢ d → fin.len (ancestors_of dep a) < fin.len (ancestors_of dep d)
+  fewer_above a d e ne =
+      let own : is_ancestor dep d d ≡ true = closed.order.reflexive d (closed.order.among a d e).1 in
+      let inside : fin.len (ancestors_of dep a) ≤ fin.len (fin.remove (ancestors_of dep d) d) =
+      len_within n _ _ (λ k m. above_within d k (from_remove (ancestors_of dep d) d k m).1)
+      (λ k m. to_remove (ancestors_of dep d) d k (λ same. ne (closed.order.antisymmetric a d e (subst (λ (j : ℕ). is_ancestor dep j a ≡ true) same m))) (closed.order.transitive k a d m e)) in
+      omega (arith, inside, len_remove n (ancestors_of dep d) d (above_within d) own)
+
+  -- a third place between two
+  abbrev Between : ℕ → ℕ → ℕ → Type 0
+  Between a d k = (is_ancestor dep a k ≡ true) × (is_ancestor dep k d ≡ true) × (k ≢ a) × (k ≢ d)
+
+  differs : (x y : ℕ) → not (nat_eq x y) ≡ true → x ≢ y
+  differs x y e same = let f : false ≡ true = sym (ap not (eq-eqb x y same)) ∙ e in cc
+
+  one_between : (a d k : ℕ) → Between a d k ⊎ (Between a d k → ⊥)
+  one_between a d k = elim (test_of (is_ancestor dep a k)) [
+    | inr out ↦ inr (λ b. clash _ b.0 out)
+    | inl up ↦ elim (test_of (is_ancestor dep k d)) [
+      | inr out ↦ inr (λ b. clash _ b.1 out)
+      | inl down ↦ elim (cases_eq k a) [
+        | inl same ↦ inr (λ b. b.2 same)
+        | inr not_a ↦ elim (cases_eq k d) [
+          | inl same ↦ inr (λ b. b.3 same)
+          | inr not_d ↦ inl (up, down, not_a, not_d)
+        ]
+      ]
+    ]
+  ]
+
+  some_between : (a d : ℕ) (ks : List ℕ) → ((k : ℕ) × Between a d k) ⊎ ((k : ℕ) → Contains ks k → Between a d k → ⊥)
+  some_between a d [] = inr (λ k h b. none_in_empty k h)
+  some_between a d (x ∷ ks) = elim (one_between a d x) [
+    | inl here ↦ inl (x, here)
+    | inr out ↦ elim (some_between a d ks) [
+      | inl later ↦ inl later
+      | inr none ↦ inr (λ k h. elim (Contains-cases x k ks h) [ inl same ↦ subst (λ (j : ℕ). Between a d j → ⊥) same out | inr later ↦ none k later ])
+    ]
+  ]
+
+  -- a covering parent that a proper ancestor is, or stands above
+  last_step : (fuel a d : ℕ) → is_ancestor dep a d ≡ true → a ≢ d → fin.len (ancestors_of dep d) ≤ fin.len (ancestors_of dep a) + fuel → (p : ℕ) × (is_ancestor dep a p ≡ true) × IsCover dep p d
+  last_step zero a d e ne short = absurd (omega (arith, fewer_above a d e ne, short))
+  last_step (suc fuel) a d e ne short = elim (some_between a d (places n (members_of dep))) [
+    | inl third ↦
+        let b = third.1 in
+        let more = fewer_above a third.0 b.0 (λ same. b.2 (sym same)) in
+        let rest = last_step fuel third.0 d b.1 b.3 (omega (arith, short, more)) in
+        (rest.0, closed.order.transitive a third.0 rest.0 b.0 rest.1, rest.2)
+    | inr none ↦ (
+      a,
+      closed.order.reflexive a (closed.order.among a d e).0,
+      record {
+        ancestor = e;
+        other = ne;
+        direct = λ m am md. elim (cases_eq m a) [
+          | inl same ↦ inl same
+          | inr not_a ↦ elim (cases_eq m d) [
+            | inl same ↦ inr same
+            | inr not_d ↦
+                let member : is_member dep m ≡ true = (closed.order.among m d md).0 in
+                absurd (none m (Contains-places n (members_of dep) m (closed.within m member) (in_members dep m ∙ member)) (am, md, not_a, not_d))
+          ]
+        ];
+      },
+    )
+  ]
+
+  by_steps : (order : List ℕ) → AreDistinct order → ((p c : ℕ) → IsCover dep p c → StandsBefore order p c)
+      → (fuel a d : ℕ) → is_ancestor dep a d ≡ true → a ≢ d → fin.len (ancestors_of dep d) ≤ fuel → StandsBefore order a d
+  by_steps order once first zero a d e ne short = absurd (omega (arith, fewer_above a d e ne, short))
+  by_steps order once first (suc fuel) a d e ne short =
+      let step = last_step (fin.len (ancestors_of dep d)) a d e ne (omega arith) in
+      elim (cases_eq a step.0) [
+        | inl same ↦ subst (λ (j : ℕ). StandsBefore order j d) (sym same) (first step.0 d step.2)
+        | inr other ↦
+            let less = fewer_above step.0 d step.2.ancestor step.2.other in
+            before_before order a step.0 d once (by_steps order once first fuel a step.0 step.1 other (omega (arith, less, short))) (first step.0 d step.2)
+      ]
+
+  pub ancestors_first : (order : List ℕ) → IsOrderOf dep (members_of dep) order → (a d : ℕ) → is_ancestor dep a d ≡ true → a ≢ d → StandsBefore order a d
+  ancestors_first order h a d e ne =
+      let member : (k : ℕ) → is_member dep k ≡ true → fin.contains (members_of dep) k ≡ true = λ k m. in_members dep k ∙ m in
+      by_steps order h.once
+      (λ p c cover. (let both = closed.order.among p c cover.ancestor in h.parents_first p c cover (member p both.0) (member c both.1)))
+      (fin.len (ancestors_of dep d)) a d e ne (omega arith)

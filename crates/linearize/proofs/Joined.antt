@@ -1,0 +1,338 @@
+-- A set is split by a closed set of greatest weight: what the two are linearized to, one behind the other, linearizes the set.
+use Rattle.std.proofs.Common.{◌≡◌, ◌≢◌, ℕ, zero, suc, ◌+◌, ◌*◌, ◌^◌, ◌<◌, ◌≤◌, ◌⊎◌, inl, inr, true, false, List, [], ◌∷◌, ◌++◌, length, map, sum_by, ℤ, pos, ◌+ℤ◌, ◌-ℤ◌, ◌*ℤ◌, ◌≤ℤ◌, ◌<ℤ◌, unsigned_abs, refl, sym, ap, ◌∙◌, subst, arith, append_assoc, length-append}
+use Rattle.std.specs.Prelude.{Contains, ◌↔◌}
+use Rattle.std.proofs.lemmas.Int.{ints}
+use Rattle.std.proofs.lemmas.List.{map-append}
+use Rattle.std.proofs.lemmas.List.Sums.{sum_by-cons}
+use Rattle.std.proofs.lemmas.List.Concat.{flat_map-append}
+use Rattle.std.proofs.lemmas.List.Elements.{Contains-append_left, Contains-append_right, Contains-append_cases}
+use Rattle.std.proofs.Math.Nat.{mul-le-mul}
+use Rattle.std.specs.Ordering.{nat_cmp}
+use Rattle.std.specs.FinSet as fin
+use Rattle.arithmetic.specs.Sums.{total}
+use Rattle.arithmetic.proofs.Sums.{total-sub, total-scale}
+use Rattle.arithmetic.proofs.Products.{mul-add_right}
+use Rattle.arithmetic.proofs.Rates.{cross_trans}
+use Rattle.bitset.specs.Places.{places, IsWithin}
+use Rattle.bitset.specs.Sets.{places-Contains, places-empty, len-places}
+use Rattle.closure_flow.specs.Closures as closure
+use Rattle.closure_flow.specs.Closures.{weight_at, weight_of, IsNoneHeavier, parents_at}
+use Rattle.fee_rate.specs.declared.rates.Sum.{Sum}
+use Rattle.fee_rate.specs.Limits.{IsRate}
+use Rattle.fee_rate.specs.Rates.{AtMost}
+use Rattle.graph_model.specs.Rates.{sums, Falls}
+use Rattle.graph_model.specs.Linearizations.{StandsBefore}
+use Rattle.graph_model.specs.Certificates.{Part, weight_in, Certifies}
+use Rattle.dep_graph.specs.Graph.{Graph, is_member, IsCover, IsClosed, HoldsMembers, rate_of}
+use Rattle.linearize.specs.Drafts.{Written, placed, flows_in}
+use Rattle.linearize.specs.Graphs.{sum_at, HasRates}
+use Rattle.linearize.specs.Orders.{AreCovers, Balances, IsOrderOf, sums_in}
+use Rattle.linearize.specs.Splits.{Linearizes, Adds, HasRoom, IsBest, IsUpper, IsLower}
+use Rattle.linearize.proofs.Lists.{distinct_joined}
+use Rattle.linearize.proofs.Places.{Contains-head, Contains-later, Contains-cases, none_in_empty, clash}
+use Rattle.linearize.proofs.Sets.{IsSplit, split_minus, split_union, total_split, sum_split, len_split, from_minus, to_minus, from_union, to_union_left, to_union_right, test_of, len_below}
+
+-- ---- weights
+total_along : (f g : ℕ → ℤ) (xs : List ℕ) → ((x : ℕ) → Contains xs x → f x ≡ g x) → total f xs ≡ total g xs
+total_along f g [] e = refl
+total_along f g (x ∷ xs) e = omega (arith, ints, e x (Contains-head x xs), total_along f g xs (λ y h. e y (Contains-later x y xs h)))
+
+-- the weight of a list of places is the sum of their weights
+weight_of_sums : (whole : Sum) (rate : ℕ → Sum) (ids : List ℕ) → total (λ id. weight_in whole (rate id)) ids ≡ weight_in whole (sums rate ids)
+weight_of_sums whole rate ids =
+    total-sub (λ id. (rate id).fee *ℤ pos whole.size) (λ id. whole.fee *ℤ pos (rate id).size) ids
+    ∙ (let a = total-scale (λ id. (rate id).fee) (pos whole.size) ids in
+    let b = scaled (λ id. (rate id).size) whole.fee ids in
+    omega (arith, ints, a, b))
+  where
+    scaled : (f : ℕ → ℕ) (k : ℤ) (xs : List ℕ) → total (λ id. k *ℤ pos (f id)) xs ≡ k *ℤ pos (sum_by f xs)
+    scaled f k [] = omega (arith, ints)
+    scaled f k (x ∷ xs) =
+        let parts : pos (sum_by f (x ∷ xs)) ≡ pos (f x) +ℤ pos (sum_by f xs) = omega (arith, ints, sum_by-cons f x xs) in
+        omega (arith, ints, scaled f k xs, ap (λ (z : ℤ). k *ℤ z) parts, mul-add_right k (pos (f x)) (pos (sum_by f xs)))
+
+-- the weight of a set in a whole
+abbrev value : ℕ → Graph → Sum → fin.FinSet nat_cmp → ℤ
+value n dep whole x = weight_in whole (sums_in n dep x)
+
+value_split : (n : ℕ) (dep : Graph) (whole : Sum) (s a b : fin.FinSet nat_cmp) → IsSplit s a b → value n dep whole s ≡ value n dep whole a +ℤ value n dep whole b
+value_split n dep whole s a b split =
+    sym (weight_of_sums whole (sum_at dep) (places n s))
+    ∙ total_split (λ t. weight_in whole (sum_at dep t)) n s a b split
+    ∙ (λ i. weight_of_sums whole (sum_at dep) (places n a) i +ℤ weight_of_sums whole (sum_at dep) (places n b) i)
+
+value_empty : (n : ℕ) (dep : Graph) (whole : Sum) (s : fin.FinSet nat_cmp) → fin.len s ≡ 0 → value n dep whole s ≡ pos 0
+value_empty n dep whole s none =
+    sym (weight_of_sums whole (sum_at dep) (places n s))
+    ∙ ap (λ t. total (λ p. weight_in whole (sum_at dep p)) (places n t)) (fin.empty_of_len s none)
+    ∙ ap (total (λ p. weight_in whole (sum_at dep p))) (places-empty n)
+
+pub best_of : (n : ℕ) (dep : Graph) (parents : List (fin.FinSet nat_cmp)) (weights : List ℤ) (s c : fin.FinSet nat_cmp) → HoldsMembers dep s → AreCovers dep parents
+    → ((t : ℕ) → fin.contains s t ≡ true → weight_at weights t ≡ weight_in (sums_in n dep s) (sum_at dep t))
+    → closure.IsClosed parents s c → pos 0 <ℤ weight_of n weights c → IsNoneHeavier n weights parents s (weight_of n weights c) → IsBest n dep s c
+best_of n dep parents weights s c members covers are closed positive greatest =
+    let is : (x : fin.FinSet nat_cmp) → ((t : ℕ) → fin.contains x t ≡ true → fin.contains s t ≡ true) → weight_of n weights x ≡ value n dep (sums_in n dep s) x = λ x inside.
+    total_along (weight_at weights) (λ t. weight_in (sums_in n dep s) (sum_at dep t)) (places n x) (λ t h. are t (inside t (places-Contains n x t h).1))
+    ∙ weight_of_sums (sums_in n dep s) (sum_at dep) (places n x) in
+    record {
+      upper = record {
+        inside = closed.inside;
+        parents = λ p d cover m p_in. closed.upward d p m ((covers.exact p d (members d (closed.inside d m))).1 cover) p_in;
+      };
+      positive = subst (λ (z : ℤ). pos 0 <ℤ z) (is c closed.inside) positive;
+      greatest = λ x upper.
+          subst (λ (z : ℤ). z ≤ℤ value n dep (sums_in n dep s) c) (is x upper.inside)
+          (subst (λ (z : ℤ). weight_of n weights x ≤ℤ z) (is c closed.inside) (greatest x (record {
+            inside = upper.inside;
+            upward = λ t p m e p_in. upper.parents p t ((covers.exact p t (members t (upper.inside t m))).0 e) m p_in;
+          })));
+    }
+
+-- a balanced flow of these weights balances the set
+pub balances_of : (n : ℕ) (dep : Graph) (parents : List (fin.FinSet nat_cmp)) (weights : List ℤ) (s : fin.FinSet nat_cmp) (flow : ℕ → ℕ → ℕ)
+    → ((t : ℕ) → fin.contains s t ≡ true → weight_at weights t ≡ weight_in (sums_in n dep s) (sum_at dep t))
+    → closure.IsBalanced n weights parents s flow → Balances n dep parents s flow
+balances_of n dep parents weights s flow are balanced = record { even = λ t m. sym (are t m) ∙ balanced.even t m; pair = balanced.pair }
+
+-- ---- what the solver asks for
+pub weights_even : (n : ℕ) (dep : Graph) (weights : List ℤ) (s : fin.FinSet nat_cmp)
+    → ((t : ℕ) → fin.contains s t ≡ true → weight_at weights t ≡ weight_in (sums_in n dep s) (sum_at dep t)) → weight_of n weights s ≡ pos 0
+weights_even n dep weights s are =
+    total_along (weight_at weights) (λ t. weight_in (sums_in n dep s) (sum_at dep t)) (places n s) (λ t h. are t (places-Contains n s t h).1)
+    ∙ weight_of_sums (sums_in n dep s) (sum_at dep) (places n s) ∙ omega (arith, ints)
+
+small_sum : (f : ℕ → ℕ) (xs : List ℕ) → ((x : ℕ) → Contains xs x → f x < 2 ^ 99) → sum_by f xs ≤ length xs * 2 ^ 99
+small_sum f [] h = omega arith
+small_sum f (x ∷ xs) h = let a = h x (Contains-head x xs) in omega (arith, sum_by-cons f x xs, small_sum f xs (λ y k. h y (Contains-later x y xs k)), a)
+
+pub weights_small : (n : ℕ) (weights : List ℤ) (s : fin.FinSet nat_cmp) → IsWithin n s → fin.len s ≤ 4096 → ((t : ℕ) → fin.contains s t ≡ true → unsigned_abs (weight_at weights t) < 2 ^ 99)
+    → sum_by (λ t. unsigned_abs (weight_at weights t)) (places n s) < 2 ^ 126
+weights_small n weights s within few small =
+    let a = small_sum (λ t. unsigned_abs (weight_at weights t)) (places n s) (λ t h. small t (places-Contains n s t h).1) in
+    let long = len-places n s within in
+    omega (arith, a, long, few)
+
+at_most_whole : (whole own : Sum) → weight_in whole own ≤ℤ pos 0 → AtMost own whole
+at_most_whole whole own h = record { crossed = omega (arith, ints, h) }
+
+at_least_whole : (whole own : Sum) → pos 0 ≤ℤ weight_in whole own → AtMost whole own
+at_least_whole whole own h = record { crossed = omega (arith, ints, h) }
+
+chains : (a b c : Sum) → 1 ≤ b.size → AtMost a b → AtMost b c → AtMost a c
+chains a b c some low high = record { crossed = cross_trans a.fee b.fee c.fee a.size b.size c.size (omega arith) low.crossed high.crossed }
+
+-- ---- lists of parts
+falls_joined : (xs ys : List Part) → Falls (map (λ part. part.rate) xs) → Falls (map (λ part. part.rate) ys) → ((x y : Part) → Contains xs x → Contains ys y → AtMost y.rate x.rate) → Falls (map (λ part. part.rate) (xs ++ ys))
+falls_joined [] ys f g low = g
+falls_joined (x ∷ []) [] f g low = tt
+falls_joined (x ∷ []) (y ∷ ys) f g low = (low x y (Contains-head x []) (Contains-head y ys), g)
+falls_joined (x ∷ z ∷ xs) ys f g low = (f.0, falls_joined (z ∷ xs) ys f.1 g (λ a b h k. low a b (Contains-later x a (z ∷ xs) h) k))
+
+before_left : (xs ys : List ℕ) (a b : ℕ) → StandsBefore xs a b → StandsBefore (xs ++ ys) a b
+before_left xs ys a b h = (h.0, h.1 ++ ys, ap (λ zs. zs ++ ys) h.2 ∙ append_assoc h.0 (b ∷ h.1) ys, h.3)
+
+before_right : (xs ys : List ℕ) (a b : ℕ) → StandsBefore ys a b → StandsBefore (xs ++ ys) a b
+before_right xs ys a b h = (xs ++ h.0, h.1, ap (λ zs. xs ++ zs) h.2 ∙ sym (append_assoc xs h.0 (b ∷ h.1)), Contains-append_right xs h.0 a h.3)
+
+splits_at : (xs : List ℕ) (x : ℕ) → Contains xs x → (before after : List ℕ) × (xs ≡ before ++ x ∷ after)
+splits_at [] x h = absurd (none_in_empty x h)
+splits_at (a ∷ xs) x h = elim (Contains-cases a x xs h) [
+  | inl same ↦ ([], xs, ap (λ z. z ∷ xs) same)
+  | inr later ↦ let found = splits_at xs x later in (a ∷ found.0, found.1, ap (λ zs. a ∷ zs) found.2)
+]
+
+before_across : (xs ys : List ℕ) (a b : ℕ) → Contains xs a → Contains ys b → StandsBefore (xs ++ ys) a b
+before_across xs ys a b h k =
+    let found = splits_at ys b k in
+    (xs ++ found.0, found.1, ap (λ zs. xs ++ zs) found.2 ∙ sym (append_assoc xs found.0 (b ∷ found.1)), Contains-append_left xs found.0 a h)
+
+either_part : (P : Part → Type 0) (xs ys : List Part) → ((q : Part) → Contains xs q → P q) → ((q : Part) → Contains ys q → P q) → (q : Part) → Contains (xs ++ ys) q → P q
+either_part P xs ys f g q h = elim (Contains-append_cases xs ys q h) [ inl left ↦ f q left | inr right ↦ g q right ]
+
+module _ (n : ℕ) (dep : Graph) (s c : fin.FinSet nat_cmp) (closed : IsClosed n dep) (members : HoldsMembers dep s) (rates : HasRates dep) (best : IsBest n dep s c) where
+  whole : Sum
+  whole = sums_in n dep s
+
+  rest : fin.FinSet nat_cmp
+  rest = fin.difference s c
+
+  within : IsWithin n s
+  within k m = closed.within k (members k m)
+
+  halves : IsSplit s c rest
+  unfolding rest
+  halves = split_minus s c best.upper.inside
+
+  pub c_some : 0 < fin.len c
+  unfolding whole
+  c_some = positive_len (fin.len c) refl
+    where
+      positive_len : (k : ℕ) → fin.len c ≡ k → 0 < k
+      positive_len zero e = absurd (let v = value_empty n dep (sums_in n dep s) c e in let p = best.positive in omega (arith, ints, v, p))
+      positive_len (suc k) e = omega arith
+
+  pub rest_some : 0 < fin.len (fin.difference s c)
+  unfolding whole rest halves
+  rest_some = positive_len (fin.len (fin.difference s c)) refl
+    where
+      positive_len : (k : ℕ) → fin.len (fin.difference s c) ≡ k → 0 < k
+      positive_len zero e = absurd (
+          let v = value_empty n dep (sums_in n dep s) (fin.difference s c) e in
+          let all = value_split n dep (sums_in n dep s) s c (fin.difference s c) (split_minus s c best.upper.inside) in
+          let p = best.positive in
+          omega (arith, ints, v, all, p))
+      positive_len (suc k) e = omega arith
+
+  -- each upper set of the rest has at most the rate of the whole
+  rest_low : (x : fin.FinSet nat_cmp) → IsUpper dep (fin.difference s c) x → AtMost (sums_in n dep x) (sums_in n dep s)
+  rest_low x upper =
+      let apart : (k : ℕ) → fin.contains c k ≡ true → fin.contains x k ≡ true → ⊥ = λ k a b. (from_minus s c k (upper.inside k b)).1 a in
+      let joined : IsUpper dep s (fin.union c x) = record {
+        inside = λ p m. elim (from_union c x p m) [ inl a ↦ best.upper.inside p a | inr b ↦ (from_minus s c p (upper.inside p b)).0 ];
+        parents = λ p d cover m p_in. elim (from_union c x d m) [
+          | inl a ↦ to_union_left c x p (best.upper.parents p d cover a p_in)
+          | inr b ↦ elim (test_of (fin.contains c p)) [
+            | inl here ↦ to_union_left c x p here
+            | inr out ↦ to_union_right c x p (upper.parents p d cover b (to_minus s c p p_in (λ here. clash (fin.contains c p) here out)))
+          ]
+        ];
+      } in
+      let most = best.greatest (fin.union c x) joined in
+      let both = value_split n dep (sums_in n dep s) (fin.union c x) c x (split_union c x apart) in
+      at_most_whole (sums_in n dep s) (sums_in n dep x) (omega (arith, ints, most, both))
+
+  -- and each lower set of the best one at least that rate
+  best_high : (y : fin.FinSet nat_cmp) → IsLower dep c y → AtMost (sums_in n dep s) (sums_in n dep y)
+  best_high y lower =
+      let left : IsUpper dep s (fin.difference c y) = record {
+        inside = λ p m. best.upper.inside p (from_minus c y p m).0;
+        parents = λ p d cover m p_in.
+            (let d_in = from_minus c y d m in
+            to_minus c y p (best.upper.parents p d cover d_in.0 p_in) (λ y_in. d_in.1 (lower.children p d cover y_in d_in.0)));
+      } in
+      let most = best.greatest (fin.difference c y) left in
+      let both = value_split n dep (sums_in n dep s) c y (fin.difference c y) (split_minus c y lower.inside) in
+      at_least_whole (sums_in n dep s) (sums_in n dep y) (omega (arith, ints, most, both))
+
+  whole_some : 1 ≤ (sums_in n dep s).size
+  whole_some = some_size (places n s) (λ p h. (rates p (members p (places-Contains n s p h).1)).some) (len-places n s within)
+    where
+      some_size : (xs : List ℕ) → ((p : ℕ) → Contains xs p → 1 ≤ (rate_of dep p).size) → fin.len s ≡ length xs → 1 ≤ (sums (sum_at dep) xs).size
+      some_size [] h long = absurd (omega (arith, long, c_some, len_split n s c (fin.difference s c) within (split_minus s c best.upper.inside)))
+      some_size (x ∷ xs) h long = omega (arith, h x (Contains-head x xs), sum_by-cons (λ p. (sum_at dep p).size) x xs)
+
+  module _ (first second : List Part) (one : Linearizes n dep c first) (two : Linearizes n dep (fin.difference s c) second) where
+    high : (q : Part) → Contains first q → AtMost (sums_in n dep s) q.rate
+    high q h = one.at_least (sums_in n dep s) best_high q h
+
+    low : (q : Part) → Contains second q → AtMost q.rate (sums_in n dep s)
+    low q h = two.at_most (sums_in n dep s) rest_low q h
+
+    order : IsOrderOf dep s (placed first ++ placed second)
+    order = record {
+      once = distinct_joined (placed first) (placed second) one.order.once two.order.once (λ p a b. (from_minus s c p ((two.order.exact p).0 b)).1 ((one.order.exact p).0 a));
+      exact = λ p. (
+        λ h. elim (Contains-append_cases (placed first) (placed second) p h) [
+          | inl a ↦ best.upper.inside p ((one.order.exact p).0 a)
+          | inr b ↦ (from_minus s c p ((two.order.exact p).0 b)).0
+        ],
+        λ m. elim (test_of (fin.contains c p)) [
+          | inl here ↦ Contains-append_left (placed first) (placed second) p ((one.order.exact p).1 here)
+          | inr out ↦ Contains-append_right (placed first) (placed second) p ((two.order.exact p).1 (to_minus s c p m (λ here. clash (fin.contains c p) here out)))
+        ],
+      );
+      parents_first = λ p d cover p_in d_in. elim (test_of (fin.contains c d)) [
+        | inl d_here ↦ before_left (placed first) (placed second) p d (one.order.parents_first p d cover (best.upper.parents p d cover d_here p_in) d_here)
+        | inr d_out ↦
+            let d_rest : fin.contains (fin.difference s c) d ≡ true = to_minus s c d d_in (λ here. clash (fin.contains c d) here d_out) in
+            elim (test_of (fin.contains c p)) [
+              | inl p_here ↦ before_across (placed first) (placed second) p d ((one.order.exact p).1 p_here) ((two.order.exact d).1 d_rest)
+              | inr p_out ↦ before_right (placed first) (placed second) p d (two.order.parents_first p d cover (to_minus s c p p_in (λ here. clash (fin.contains c p) here p_out)) d_rest)
+            ]
+      ];
+    }
+
+    all_placed : placed (first ++ second) ≡ placed first ++ placed second
+    all_placed = flat_map-append (λ part. part.ids) first second
+
+    joined : Linearizes n dep s (first ++ second)
+    joined = record {
+      order = subst (λ xs. IsOrderOf dep s xs) (sym all_placed) order;
+      filled = either_part (λ q. q.ids ≢ []) first second one.filled two.filled;
+      falling = record {
+        summed = either_part (λ q. q.rate ≡ sums (sum_at dep) q.ids) first second one.falling.summed two.falling.summed;
+        falling = falls_joined first second one.falling.falling two.falling.falling (λ a b h k. chains b.rate (sums_in n dep s) a.rate whole_some (low b k) (high a h));
+      };
+      flows = either_part (λ q. Certifies (sum_at dep) (IsCover dep) q.ids q.flows) first second one.flows two.flows;
+      at_most = λ rate bound. either_part (λ q. AtMost q.rate rate) first second
+          (one.at_most rate (λ x upper. bound x (record {
+            inside = λ p m. best.upper.inside p (upper.inside p m);
+            parents = λ p d cover m p_in. upper.parents p d cover m (best.upper.parents p d cover (upper.inside d m) p_in);
+          })))
+          (λ q h. chains q.rate (sums_in n dep s) rate whole_some (low q h) (bound s (record { inside = λ p m. m; parents = λ p d cover m p_in. p_in })));
+      at_least = λ rate bound. either_part (λ q. AtMost rate q.rate) first second
+          (λ q h. chains rate (sums_in n dep s) q.rate whole_some (bound s (record { inside = λ p m. m; children = λ p d cover m d_in. d_in })) (high q h))
+          (two.at_least rate (λ y lower. bound y (record {
+            inside = λ p m. (from_minus s c p (lower.inside p m)).0;
+            children = λ p d cover m d_in. lower.children p d cover m (to_minus s c d d_in (λ here. (from_minus s c p (lower.inside p m)).1 (best.upper.parents p d cover here (from_minus s c p (lower.inside p m)).0)));
+          })));
+    }
+
+  pub both_lens : fin.len s ≡ fin.len c + fin.len (fin.difference s c)
+  both_lens = len_split n s c (fin.difference s c) within (split_minus s c best.upper.inside)
+
+  pub first_room : (old : Written) → HasRoom n s old → HasRoom n c old
+  first_room old room =
+      let square = ap (λ (k : ℕ). k * k) both_lens in
+      record {
+        ids = room.ids;
+        flows = room.flows;
+        for_places = (let r = room.for_places in omega (arith, both_lens, r));
+        for_parts = (let r = room.for_parts in omega (arith, both_lens, r));
+        for_flows = (let r = room.for_flows in omega (arith, square, r));
+      }
+
+  pub second_room : (old mid : Written) → HasRoom n s old → Adds n dep c old mid → HasRoom n (fin.difference s c) mid
+  second_room old mid room adds =
+      let square = ap (λ (k : ℕ). k * k) both_lens in
+      let parts : mid.parts ≡ old.parts ++ adds.parts = ap (λ (w : Written). w.parts) adds.is in
+      let a : length (placed mid.parts) ≡ length (placed old.parts) + length (placed adds.parts) =
+      ap (λ ps. length (placed ps)) parts ∙ ap length (flat_map-append (λ part. part.ids) old.parts adds.parts) ∙ length-append (placed old.parts) (placed adds.parts) in
+      let b : length mid.parts ≡ length old.parts + length adds.parts = ap length parts ∙ length-append old.parts adds.parts in
+      let d : length (flows_in mid.parts) ≡ length (flows_in old.parts) + length (flows_in adds.parts) =
+      ap (λ ps. length (flows_in ps)) parts ∙ ap length (flat_map-append (λ part. part.flows) old.parts adds.parts) ∙ length-append (flows_in old.parts) (flows_in adds.parts) in
+      record {
+        ids = ap (λ (w : Written). w.ids) adds.is;
+        flows = ap (λ (w : Written). w.flows) adds.is;
+        for_places = (let r = room.for_places in let p = adds.places in omega (arith, both_lens, r, a, p));
+        for_parts = (let r = room.for_parts in let p = adds.few in omega (arith, both_lens, r, b, p));
+        for_flows = (let r = room.for_flows in let p = adds.few_flows in omega (arith, square, r, d, p));
+      }
+
+  pub both_added : (old mid new : Written) → Adds n dep c old mid → Adds n dep (fin.difference s c) mid new → Adds n dep s old new
+  both_added old mid new one two =
+      let square = ap (λ (k : ℕ). k * k) both_lens in
+      let parts : mid.parts ≡ old.parts ++ one.parts = ap (λ (w : Written). w.parts) one.is in
+      let a : length (placed (one.parts ++ two.parts)) ≡ length (placed one.parts) + length (placed two.parts) =
+      ap length (flat_map-append (λ part. part.ids) one.parts two.parts) ∙ length-append (placed one.parts) (placed two.parts) in
+      let b : length (one.parts ++ two.parts) ≡ length one.parts + length two.parts = length-append one.parts two.parts in
+      let d : length (flows_in (one.parts ++ two.parts)) ≡ length (flows_in one.parts) + length (flows_in two.parts) =
+      ap length (flat_map-append (λ part. part.flows) one.parts two.parts) ∙ length-append (flows_in one.parts) (flows_in two.parts) in
+      record {
+        parts = one.parts ++ two.parts;
+        is = two.is ∙ ap (λ (ps : List Part). record { parts = ps; ids = []; flows = [] }) (ap (λ (ps : List Part). ps ++ two.parts) parts ∙ append_assoc old.parts one.parts two.parts);
+        linear = joined one.parts two.parts one.linear two.linear;
+        places = (let p = one.places in let q = two.places in omega (arith, both_lens, a, p, q));
+        few = (let p = one.few in let q = two.few in omega (arith, both_lens, b, p, q));
+        few_flows = (let p = one.few_flows in let q = two.few_flows in omega (arith, square, d, p, q));
+      }
+
+-- an empty draft has room for every set
+pub start_room : (n : ℕ) (s : fin.FinSet nat_cmp) (written : Written) → IsWithin n s → written ≡ record { parts = []; ids = []; flows = [] } → HasRoom n s written
+start_room n s written within empty = subst (HasRoom n s) (sym empty) (let low : fin.len s ≤ n = len_below n s within in let square = mul-le-mul low low in record {
+  ids = refl;
+  flows = refl;
+  for_places = omega (arith, low);
+  for_parts = omega (arith, low);
+  for_flows = omega (arith, square);
+})

@@ -1,0 +1,14 @@
+mod Certified
+mod Chains
+mod DraftLemmas
+mod Final
+mod FlowLists
+mod Joined
+mod Lists
+mod Orders
+mod Parts
+mod Places
+mod Sets
+mod Sizes
+mod Totals
+mod Triangles

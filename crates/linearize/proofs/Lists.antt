@@ -1,0 +1,92 @@
+-- Distinct lists, and sums that pick one entry.
+use Rattle.std.proofs.Common.{◌≡◌, ℕ, zero, suc, ◌+◌, ◌*◌, ◌<◌, ◌≤◌, ◌⊎◌, inl, inr, Bool, true, false, cond, nat_eq, List, [], ◌∷◌, ◌++◌, length, map, sum_by, ℤ, pos, ◌+ℤ◌, refl, sym, ap, ◌∙◌, subst, arith, eq-eqb, ne_eqb}
+use Rattle.std.specs.Prelude.{Contains, ◌↔◌}
+use Rattle.std.proofs.lemmas.Int.{ints}
+use Rattle.std.proofs.lemmas.Bool.{cases_eq}
+use Rattle.std.proofs.lemmas.List.Sums.{sum_by-cons}
+use Rattle.std.proofs.lemmas.List.Elements.{Contains-append_cases}
+use Rattle.std.specs.Ordering.{nat_cmp}
+use Rattle.std.specs.FinSet as fin
+use Rattle.arithmetic.specs.Sums.{total}
+use Rattle.bitset.specs.Places.{places, IsWithin, IsRising, AllAbove}
+use Rattle.bitset.specs.Sets.{IsRising-places, places-empty, same_members, contains-empty}
+use Rattle.graph_model.specs.Graphs.{AreDistinct}
+use Rattle.linearize.proofs.Places.{Contains-head, Contains-later, Contains-cases, none_in_empty}
+use Rattle.linearize.proofs.Sets.{from_remove, to_remove, total_remove, total_naturals, not_true}
+
+above_in : (x y : ℕ) (xs : List ℕ) → AllAbove x xs → Contains xs y → x < y
+above_in x y [] a h = absurd (none_in_empty y h)
+above_in x y (z ∷ zs) a h = elim (Contains-cases z y zs h) [
+  | inl same ↦ subst (λ (k : ℕ). x < k) same a.0
+  | inr later ↦ above_in x y zs a.1 later
+]
+
+distinct_rising : (xs : List ℕ) → IsRising xs → AreDistinct xs
+distinct_rising [] r = tt
+distinct_rising (x ∷ xs) r = (λ h. (let low = above_in x x xs r.0 h in omega (arith, low)), distinct_rising xs r.1)
+
+pub distinct_places : (n : ℕ) (s : fin.FinSet nat_cmp) → AreDistinct (places n s)
+distinct_places n s = distinct_rising (places n s) (IsRising-places n s)
+
+pub distinct_joined : {A : Type 0} (xs ys : List A) → AreDistinct xs → AreDistinct ys → ((x : A) → Contains xs x → Contains ys x → ⊥) → AreDistinct (xs ++ ys)
+distinct_joined [] ys d e apart = e
+distinct_joined (a ∷ xs) ys d e apart = (
+  λ h. elim (Contains-append_cases xs ys a h) [ inl left ↦ d.0 left | inr right ↦ apart a (Contains-head a xs) right ],
+  distinct_joined xs ys d.1 e (λ x left right. apart x (Contains-later a x xs left) right),
+)
+
+-- what an entry of a mapped list is
+pub from_map : {A B : Type 0} (f : A → B) (xs : List A) (y : B) → Contains (map f xs) y → (x : A) × Contains xs x × (f x ≡ y)
+from_map f [] y h = absurd (none_in_empty y h)
+from_map f (x ∷ xs) y h = elim (Contains-cases (f x) y (map f xs) h) [
+  | inl same ↦ (x, Contains-head x xs, same)
+  | inr later ↦ let found = from_map f xs y later in (found.0, Contains-later x found.0 xs found.1, found.2)
+]
+
+pub to_map : {A B : Type 0} (f : A → B) (xs : List A) (x : A) → Contains xs x → Contains (map f xs) (f x)
+to_map f [] x h = absurd (none_in_empty x h)
+to_map f (a ∷ xs) x h = elim (Contains-cases a x xs h) [
+  | inl same ↦ subst (λ z. Contains (f a ∷ map f xs) (f z)) same (Contains-head (f a) (map f xs))
+  | inr later ↦ Contains-later (f a) (f x) (map f xs) (to_map f xs x later)
+]
+
+-- ---- a sum that picks one entry
+abbrev pub pick : ℕ → (ℕ → ℕ) → ℕ → ℕ
+pick id f x = cond (nat_eq x id) (f x) 0
+
+pub pick_out : (id : ℕ) (f : ℕ → ℕ) (xs : List ℕ) → (Contains xs id → ⊥) → sum_by (pick id f) xs ≡ 0
+pick_out id f [] out = refl
+pick_out id f (x ∷ xs) out =
+    let first : cond (nat_eq x id) (f x) 0 ≡ 0 = ap (λ b. cond b (f x) 0) (ne_eqb x id (λ e. out (subst (λ (k : ℕ). Contains (x ∷ xs) k) e (Contains-head x xs)))) in
+    let rest = pick_out id f xs (λ h. out (Contains-later x id xs h)) in
+    omega (arith, sum_by-cons (λ y. cond (nat_eq y id) (f y) 0) x xs, rest, first)
+
+pub pick_in : (id : ℕ) (f : ℕ → ℕ) (xs : List ℕ) → AreDistinct xs → Contains xs id → sum_by (pick id f) xs ≡ f id
+pick_in id f [] d h = absurd (none_in_empty id h)
+pick_in id f (x ∷ xs) d h = elim (cases_eq x id) [
+  | inl same ↦
+      let first : cond (nat_eq x id) (f x) 0 ≡ f id = ap (λ b. cond b (f x) 0) (eq-eqb x id same) ∙ ap f same in
+      let rest : sum_by (λ y. cond (nat_eq y id) (f y) 0) xs ≡ 0 = pick_out id f xs (λ there. d.0 (subst (λ (k : ℕ). Contains xs k) (sym same) there)) in
+      omega (arith, sum_by-cons (λ y. cond (nat_eq y id) (f y) 0) x xs, rest, first)
+  | inr other ↦
+      let first : cond (nat_eq x id) (f x) 0 ≡ 0 = ap (λ b. cond b (f x) 0) (ne_eqb x id other) in
+      let rest : sum_by (λ y. cond (nat_eq y id) (f y) 0) xs ≡ f id = pick_in id f xs d.1 (elim (Contains-cases x id xs h) [ inl same ↦ absurd (other same) | inr later ↦ later ]) in
+      omega (arith, sum_by-cons (λ y. cond (nat_eq y id) (f y) 0) x xs, rest, first)
+]
+
+-- ---- a sum over the members of a set in any order
+pub total_any_order : (f : ℕ → ℤ) (n : ℕ) (xs : List ℕ) (s : fin.FinSet nat_cmp) → IsWithin n s → AreDistinct xs → ((k : ℕ) → Contains xs k ↔ (fin.contains s k ≡ true)) → total f xs ≡ total f (places n s)
+total_any_order f n [] s within d exact =
+    sym (ap (λ t. total f (places n t)) (same_members s fin.empty (λ q. not_true _ (λ m. none_in_empty q ((exact q).1 m)) ∙ sym (contains-empty q))) ∙ ap (total f) (places-empty n))
+total_any_order f n (x ∷ xs) s within d exact =
+    let here : fin.contains s x ≡ true = (exact x).0 (Contains-head x xs) in
+    let rest : total f xs ≡ total f (places n (fin.remove s x)) =
+    total_any_order f n xs (fin.remove s x) (λ k m. within k (from_remove s x k m).1) d.1 (λ k. (
+      λ h. to_remove s x k (λ e. d.0 (subst (λ (j : ℕ). Contains xs j) e h)) ((exact k).0 (Contains-later x k xs h)),
+      λ m. elim (Contains-cases x k xs ((exact k).1 (from_remove s x k m).1)) [ inl same ↦ absurd ((from_remove s x k m).0 (sym same)) | inr later ↦ later ],
+    )) in
+    omega (arith, ints, rest, total_remove f n s x (within x here) here)
+
+pub sum_any_order : (f : ℕ → ℕ) (n : ℕ) (xs : List ℕ) (s : fin.FinSet nat_cmp) → IsWithin n s → AreDistinct xs → ((k : ℕ) → Contains xs k ↔ (fin.contains s k ≡ true)) → sum_by f xs ≡ sum_by f (places n s)
+sum_any_order f n xs s within d exact =
+    omega (arith, ints, total_any_order (λ k. pos (f k)) n xs s within d exact, total_naturals f xs, total_naturals f (places n s))

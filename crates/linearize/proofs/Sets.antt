@@ -1,0 +1,200 @@
+-- Sets of places: members of changed sets, and sums over a set that is two others side by side.
+use Rattle.std.proofs.Common.{◌≡◌, ℕ, zero, suc, ◌+◌, ◌*◌, ◌<◌, ◌≤◌, ◌⊎◌, inl, inr, Bool, true, false, cond, not, ◌&&◌, ◌||◌, nat_eq, List, [], ◌∷◌, length, sum_by, ℤ, pos, ◌+ℤ◌, refl, sym, ap, ◌∙◌, subst, arith, eq-eqb, ne_eqb}
+use Rattle.std.specs.Prelude.{Contains}
+use Rattle.std.proofs.lemmas.Int.{ints}
+use Rattle.std.proofs.lemmas.Bool.{cases_eq}
+use Rattle.std.proofs.lemmas.List.Sums.{sum_by-cons}
+use Rattle.std.proofs.lemmas.List.Filters.{length-filter_both}
+use Rattle.std.proofs.lemmas.List.FromFn.{length-range_with_len}
+use Rattle.std.specs.List.{filter, range_with_len}
+use Rattle.std.specs.Ordering.{nat_cmp}
+use Rattle.std.specs.FinSet as fin
+use Rattle.arithmetic.specs.Sums.{total}
+use Rattle.arithmetic.proofs.Sums.{total-add, total-filter_cond, total_same}
+use Rattle.bitset.specs.Places.{places, IsWithin, IsLeast}
+use Rattle.bitset.specs.Sets.{contains-insert, contains-remove, contains-union, contains-intersection, contains-difference, contains-empty, len-places, places-least, places-empty, same_members}
+use Rattle.linearize.proofs.Places.{clash}
+
+pub test_of : (b : Bool) → (b ≡ true) ⊎ (b ≡ false)
+test_of true = inl refl
+test_of false = inr refl
+
+pub not_true : (b : Bool) → (b ≡ true → ⊥) → b ≡ false
+not_true true h = absurd (h refl)
+not_true false h = refl
+
+and_both : (a b : Bool) → (a && b) ≡ true → (a ≡ true) × (b ≡ true)
+and_both true b e = (refl, e)
+and_both false b e = absurd (let f : false ≡ true = e in cc)
+
+or_either : (a b : Bool) → (a || b) ≡ true → (a ≡ true) ⊎ (b ≡ true)
+or_either true b e = inl refl
+or_either false b e = inr e
+
+not_is : (b : Bool) → not b ≡ true → b ≡ true → ⊥
+not_is true e f = let g : false ≡ true = e in cc
+not_is false e f = let g : false ≡ true = f in cc
+
+-- ---- members
+pub from_meet : (s t : fin.FinSet nat_cmp) (q : ℕ) → fin.contains (fin.intersection s t) q ≡ true → (fin.contains s q ≡ true) × (fin.contains t q ≡ true)
+from_meet s t q m = and_both _ _ (sym (contains-intersection s t q) ∙ m)
+
+pub to_meet : (s t : fin.FinSet nat_cmp) (q : ℕ) → fin.contains s q ≡ true → fin.contains t q ≡ true → fin.contains (fin.intersection s t) q ≡ true
+to_meet s t q a b = contains-intersection s t q ∙ ap (λ (x : Bool). x && fin.contains t q) a ∙ b
+
+pub from_union : (s t : fin.FinSet nat_cmp) (q : ℕ) → fin.contains (fin.union s t) q ≡ true → (fin.contains s q ≡ true) ⊎ (fin.contains t q ≡ true)
+from_union s t q m = or_either _ _ (sym (contains-union s t q) ∙ m)
+
+pub to_union_left : (s t : fin.FinSet nat_cmp) (q : ℕ) → fin.contains s q ≡ true → fin.contains (fin.union s t) q ≡ true
+to_union_left s t q a = contains-union s t q ∙ ap (λ (x : Bool). x || fin.contains t q) a
+
+pub to_union_right : (s t : fin.FinSet nat_cmp) (q : ℕ) → fin.contains t q ≡ true → fin.contains (fin.union s t) q ≡ true
+to_union_right s t q b = contains-union s t q ∙ ap (λ (x : Bool). fin.contains s q || x) b ∙ or_true (fin.contains s q)
+  where
+    or_true : (x : Bool) → (x || true) ≡ true
+    or_true true = refl
+    or_true false = refl
+
+pub from_minus : (s t : fin.FinSet nat_cmp) (q : ℕ) → fin.contains (fin.difference s t) q ≡ true → (fin.contains s q ≡ true) × (fin.contains t q ≡ true → ⊥)
+from_minus s t q m =
+    let both : (fin.contains s q ≡ true) × (not (fin.contains t q) ≡ true) = and_both _ _ (sym (contains-difference s t q) ∙ m) in
+    (both.0, not_is (fin.contains t q) both.1)
+
+pub to_minus : (s t : fin.FinSet nat_cmp) (q : ℕ) → fin.contains s q ≡ true → (fin.contains t q ≡ true → ⊥) → fin.contains (fin.difference s t) q ≡ true
+to_minus s t q a out = contains-difference s t q ∙ ap (λ (x : Bool). x && not (fin.contains t q)) a ∙ ap not (not_true (fin.contains t q) out)
+
+pub from_remove : (s : fin.FinSet nat_cmp) (k q : ℕ) → fin.contains (fin.remove s k) q ≡ true → (q ≡ k → ⊥) × (fin.contains s q ≡ true)
+from_remove s k q m =
+    let both : (not (nat_eq q k) ≡ true) × (fin.contains s q ≡ true) = and_both _ _ (sym (contains-remove s k q) ∙ m) in
+    (λ e. not_is (nat_eq q k) both.0 (eq-eqb q k e), both.1)
+
+pub to_remove : (s : fin.FinSet nat_cmp) (k q : ℕ) → (q ≡ k → ⊥) → fin.contains s q ≡ true → fin.contains (fin.remove s k) q ≡ true
+to_remove s k q other m = contains-remove s k q ∙ ap (λ (b : Bool). not b && fin.contains s q) (ne_eqb q k other) ∙ m
+
+pub removed_here : (s : fin.FinSet nat_cmp) (k : ℕ) → fin.contains (fin.remove s k) k ≡ true → ⊥
+removed_here s k m = (from_remove s k k m).0 refl
+
+pub not_empty : (s : fin.FinSet nat_cmp) (k : ℕ) → fin.contains s k ≡ true → s ≡ fin.empty → ⊥
+not_empty s k m e = clash (fin.contains s k) m (ap (λ t. fin.contains t k) e ∙ contains-empty k)
+
+-- ---- a set that is two others side by side
+pub record IsSplit (s a b : fin.FinSet nat_cmp) : Type 0 where
+  pub left : (k : ℕ) → fin.contains a k ≡ true → fin.contains s k ≡ true
+  pub right : (k : ℕ) → fin.contains b k ≡ true → fin.contains s k ≡ true
+  pub either : (k : ℕ) → fin.contains s k ≡ true → (fin.contains a k ≡ true) ⊎ (fin.contains b k ≡ true)
+  pub apart : (k : ℕ) → fin.contains a k ≡ true → fin.contains b k ≡ true → ⊥
+
+pub split_minus : (s c : fin.FinSet nat_cmp) → ((k : ℕ) → fin.contains c k ≡ true → fin.contains s k ≡ true) → IsSplit s c (fin.difference s c)
+split_minus s c inside = record {
+  left = inside;
+  right = λ k m. (from_minus s c k m).0;
+  either = λ k m. elim (test_of (fin.contains c k)) as (λ _. (fin.contains c k ≡ true) ⊎ (fin.contains (fin.difference s c) k ≡ true)) [
+    | inl here ↦ inl here
+    | inr out ↦ inr (to_minus s c k m (λ here. clash (fin.contains c k) here out))
+  ];
+  apart = λ k a b. (from_minus s c k b).1 a;
+}
+
+pub split_union : (a b : fin.FinSet nat_cmp) → ((k : ℕ) → fin.contains a k ≡ true → fin.contains b k ≡ true → ⊥) → IsSplit (fin.union a b) a b
+split_union a b apart = record { left = to_union_left a b; right = to_union_right a b; either = from_union a b; apart = apart }
+
+single : ℕ → fin.FinSet nat_cmp
+single p = fin.insert fin.empty p
+
+in_single : (p q : ℕ) → fin.contains (single p) q ≡ true → q ≡ p
+unfolding single
+in_single p q m = elim (cases_eq q p) as (λ _. q ≡ p) [
+  | inl same ↦ same
+  | inr other ↦ clash (fin.contains (fin.insert fin.empty p) q) m (contains-insert fin.empty p q ∙ ap (λ (b : Bool). b || fin.contains {R = nat_cmp} fin.empty q) (ne_eqb q p other) ∙ contains-empty q)
+]
+
+single_in : (p : ℕ) → fin.contains (single p) p ≡ true
+unfolding single
+single_in p = contains-insert fin.empty p p ∙ ap (λ (b : Bool). b || fin.contains {R = nat_cmp} fin.empty p) (eq-eqb p p refl)
+
+single_least : (p : ℕ) → IsLeast (single p) p
+single_least p = record { member = single_in p; below = λ q m. omega (arith, in_single p q m) }
+
+split_remove : (s : fin.FinSet nat_cmp) (p : ℕ) → fin.contains s p ≡ true → IsSplit s (single p) (fin.remove s p)
+split_remove s p m = record {
+  left = λ k h. ap (fin.contains s) (in_single p k h) ∙ m;
+  right = λ k h. (from_remove s p k h).1;
+  either = λ k h. elim (cases_eq k p) as (λ _. (fin.contains (single p) k ≡ true) ⊎ (fin.contains (fin.remove s p) k ≡ true)) [
+    | inl same ↦ inl (ap (fin.contains (single p)) same ∙ single_in p)
+    | inr other ↦ inr (to_remove s p k other h)
+  ];
+  apart = λ k a b. (from_remove s p k b).0 (in_single p k a);
+}
+
+places_single : (n p : ℕ) → p < n → places n (single p) ≡ p ∷ []
+places_single n p inside =
+    places-least n (single p) p (single_least p) inside
+    ∙ ap (λ t. p ∷ places n t) (same_members (fin.remove (single p) p) fin.empty (λ q. not_true _ (λ m. (let r = from_remove (single p) p q m in r.0 (in_single p q r.1))) ∙ sym (contains-empty q)))
+    ∙ ap (λ qs. p ∷ qs) (places-empty n)
+
+-- ---- sums
+term_split : (s a b : Bool) (x : ℤ) → (a ≡ true → s ≡ true) → (b ≡ true → s ≡ true) → (s ≡ true → (a ≡ true) ⊎ (b ≡ true)) → (a ≡ true → b ≡ true → ⊥)
+    → cond s x (pos 0) ≡ cond a x (pos 0) +ℤ cond b x (pos 0)
+term_split s true true x l r e apart = absurd (apart refl refl)
+term_split s true false x l r e apart = ap (λ (t : Bool). cond t x (pos 0)) (l refl) ∙ omega (arith, ints)
+term_split s false true x l r e apart = ap (λ (t : Bool). cond t x (pos 0)) (r refl) ∙ omega (arith, ints)
+term_split true false false x l r e apart = absurd (elim (e refl) [ inl a ↦ (let f : false ≡ true = a in cc) | inr b ↦ (let f : false ≡ true = b in cc) ])
+term_split false false false x l r e apart = omega (arith, ints)
+
+pub total_split : (f : ℕ → ℤ) (n : ℕ) (s a b : fin.FinSet nat_cmp) → IsSplit s a b → total f (places n s) ≡ total f (places n a) +ℤ total f (places n b)
+total_split f n s a b split =
+    let one = total-filter_cond f (fin.contains s) (range_with_len 0 n) in
+    let two = total-filter_cond f (fin.contains a) (range_with_len 0 n) in
+    let three = total-filter_cond f (fin.contains b) (range_with_len 0 n) in
+    let each : total (λ k. cond (fin.contains s k) (f k) (pos 0)) (range_with_len 0 n) ≡ total (λ k. cond (fin.contains a k) (f k) (pos 0) +ℤ cond (fin.contains b k) (f k) (pos 0)) (range_with_len 0 n) =
+    total_same _ _ (range_with_len 0 n) (λ k. term_split (fin.contains s k) (fin.contains a k) (fin.contains b k) (f k) (split.left k) (split.right k) (split.either k) (split.apart k)) in
+    let both = total-add (λ k. cond (fin.contains a k) (f k) (pos 0)) (λ k. cond (fin.contains b k) (f k) (pos 0)) (range_with_len 0 n) in
+    omega (arith, ints, one, two, three, each, both)
+
+pub total_naturals : {A : Type 0} (f : A → ℕ) (xs : List A) → total (λ x. pos (f x)) xs ≡ pos (sum_by f xs)
+total_naturals f [] = refl
+total_naturals f (x ∷ xs) = omega (arith, ints, total_naturals f xs, sum_by-cons f x xs)
+
+pub sum_split : (f : ℕ → ℕ) (n : ℕ) (s a b : fin.FinSet nat_cmp) → IsSplit s a b → sum_by f (places n s) ≡ sum_by f (places n a) + sum_by f (places n b)
+sum_split f n s a b split =
+    let all = total_split (λ k. pos (f k)) n s a b split in
+    omega (arith, ints, all, total_naturals f (places n s), total_naturals f (places n a), total_naturals f (places n b))
+
+length_is_sum : {A : Type 0} (xs : List A) → sum_by (λ x. 1) xs ≡ length xs
+length_is_sum [] = refl
+length_is_sum {A} (x ∷ xs) = omega (arith, length_is_sum xs, sum_by-cons (λ (y : A). 1) x xs)
+
+pub len_split : (n : ℕ) (s a b : fin.FinSet nat_cmp) → IsWithin n s → IsSplit s a b → fin.len s ≡ fin.len a + fin.len b
+len_split n s a b within split =
+    let all = sum_split (λ k. 1) n s a b split in
+    omega (
+      arith,
+      all,
+      length_is_sum (places n s),
+      length_is_sum (places n a),
+      length_is_sum (places n b),
+      len-places n s within,
+      len-places n a (λ k m. within k (split.left k m)),
+      len-places n b (λ k m. within k (split.right k m)),
+    )
+
+pub total_remove : (f : ℕ → ℤ) (n : ℕ) (s : fin.FinSet nat_cmp) (p : ℕ) → p < n → fin.contains s p ≡ true → total f (places n s) ≡ f p +ℤ total f (places n (fin.remove s p))
+total_remove f n s p inside m =
+    let all = total_split f n s (single p) (fin.remove s p) (split_remove s p m) in
+    let one : total f (places n (single p)) ≡ f p +ℤ pos 0 = ap (total f) (places_single n p inside) in
+    omega (arith, ints, all, one)
+
+pub len_remove : (n : ℕ) (s : fin.FinSet nat_cmp) (p : ℕ) → IsWithin n s → fin.contains s p ≡ true → fin.len s ≡ 1 + fin.len (fin.remove s p)
+len_remove n s p within m =
+    let all = len_split n s (single p) (fin.remove s p) within (split_remove s p m) in
+    let one : fin.len (single p) ≡ 1 = len-places n (single p) (λ q h. subst (λ (k : ℕ). k < n) (sym (in_single p q h)) (within p m)) ∙ ap length (places_single n p (within p m)) in
+    omega (arith, all, one)
+
+-- a set within another has no more members
+pub len_within : (n : ℕ) (s a : fin.FinSet nat_cmp) → IsWithin n s → ((k : ℕ) → fin.contains a k ≡ true → fin.contains s k ≡ true) → fin.len a ≤ fin.len s
+len_within n s a within inside = let all = len_split n s a (fin.difference s a) within (split_minus s a inside) in omega (arith, all)
+
+-- nor more than there are places below a bound of it
+pub len_below : (n : ℕ) (s : fin.FinSet nat_cmp) → IsWithin n s → fin.len s ≤ n
+len_below n s within =
+    omega (arith, len-places n s within, length-filter_both (fin.contains s) (λ k. not (fin.contains s k)) (λ k. refl) (range_with_len 0 n), length-range_with_len 0 n)

@@ -1,0 +1,7 @@
+use Rattle.std.proofs.Common.{ℕ, ◌*◌}
+use Rattle.dep_graph.specs.Graph.{members_of}
+use Rattle.linearize.proofs.Places.{Linked}
+use Rattle.linearize.proofs.linear.link.Given as goal
+
+abbrev pub invariant-loop-place : goal.invariant-loop-place
+invariant-loop-place g l = Linked (64 * g.row.W) l.dep (members_of l.dep) l.parents l.yielded l.place-iterator

@@ -1,0 +1,81 @@
+use Rattle.std.proofs.Common.{◌≡◌, ◌<◌, ◌≤◌, ◌+◌, ◌*◌, ◌∙◌, ℕ, ap, sym, subst, arith, length, lit<, true, List, [], map, ◌++◌, refl}
+use Rattle.std.specs.FinSet as fin
+use Rattle.bitset.specs.Places.{IsWithin}
+use Rattle.dep_graph.specs.Graph.{is_member, members_of, IsClosed}
+use Rattle.graph_model.specs.Graphs as model
+use Rattle.graph_model.specs.Certificates.{Part, IsCertificate}
+use Rattle.graph_model.specs.Linearizations.{IsOptimal}
+use Rattle.linearize.specs.Drafts.{Written}
+use Rattle.linearize.specs.Graphs.{StandsFor, sum_at}
+use Rattle.linearize.specs.Splits.{Adds, HasRoom, Linearizes}
+use Rattle.linearize.proofs.Final.{certificate, has_sizes}
+use Rattle.linearize.proofs.Joined.{start_room}
+use Rattle.linearize.proofs.Places.{in_members}
+use Rattle.linearize.proofs.Sizes.{words_fit, lists_fit, scratch_fits}
+use Rattle.linearize.proofs.linear.optimal.Goals as goal
+
+pub split-requires : goal.split-requires
+split-requires g c =
+    let n : ℕ = 64 * g.row.W in
+    let narrow = c.out.invariant.4 in
+    let dep = c.args.dep.now in
+    let closed : IsClosed n dep = c.members-members.ensures.closed in
+    let is : c.members-members.result ≡ members_of dep = c.members-members.ensures.members in
+    let member : (p : ℕ) → fin.contains c.members-members.result p ≡ true → is_member dep p ≡ true = λ p m. sym (in_members dep p) ∙ subst (λ s. fin.contains s p ≡ true) is m in
+    let len : fin.len c.members-members.result ≡ fin.len (members_of dep) = ap (λ s. fin.len s) is in
+    let within : IsWithin n c.members-members.result = λ p m. closed.within p (member p m) in (
+      scratch_fits g.row.W narrow,
+      (
+        lists_fit g.row.W narrow,
+        (
+          words_fit g.row.W narrow,
+          (
+            lit< tt,
+            (
+              narrow,
+              (
+                closed,
+                (
+                  member,
+                  (
+                    (let some = c.requires.some in omega (arith, len, some)),
+                    (
+                      (let few = c.requires.few in omega (arith, len, few)),
+                      (
+                        c.requires.rates,
+                        (
+                          c.link.ensures,
+                          (
+                            (let room = c.out.invariant.3 in omega (arith, room, c.as_mut_slice-weights.ensures.len)),
+                            start_room n c.members-members.result c.clear.new.self within c.clear.ensures,
+                          ),
+                        ),
+                      ),
+                    ),
+                  ),
+                ),
+              ),
+            ),
+          ),
+        ),
+      ),
+    )
+
+pub returns-clause-certificate : goal.returns-clause-certificate
+returns-clause-certificate g c = λ graph stands.
+    (let n : ℕ = 64 * g.row.W in
+    let dep = c.args.dep.now in
+    let adds : Adds n dep (members_of dep) c.clear.new.self c.split.new.draft = subst (λ s. Adds n dep s c.clear.new.self c.split.new.draft) c.members-members.ensures.members c.split.ensures.adds in
+    let parts : c.split.new.draft.parts ≡ adds.parts = ap (λ (w : Written). w.parts) adds.is ∙ ap (λ (w : Written). w.parts ++ adds.parts) c.clear.ensures in
+    subst (λ (ps : List Part). IsCertificate (sum_at dep) graph (model.IsCover graph.pairs) ps) (sym parts)
+    (certificate n dep graph c.members-members.ensures.closed stands adds.parts c.requires.component adds.linear))
+
+pub returns-clause-optimal : goal.returns-clause-optimal
+returns-clause-optimal g c = λ graph stands.
+    (let n : ℕ = 64 * g.row.W in
+    let dep = c.args.dep.now in
+    let adds : Adds n dep (members_of dep) c.clear.new.self c.split.new.draft = subst (λ s. Adds n dep s c.clear.new.self c.split.new.draft) c.members-members.ensures.members c.split.ensures.adds in
+    let parts : c.split.new.draft.parts ≡ adds.parts = ap (λ (w : Written). w.parts) adds.is ∙ ap (λ (w : Written). w.parts ++ adds.parts) c.clear.ensures in
+    subst (λ (ps : List Part). IsOptimal (sum_at dep) graph (map (λ part. part.ids) ps)) (sym parts)
+    (c.certified_parts_are_optimal.ensures.by_covers (sum_at dep) graph adds.parts (has_sizes n dep graph c.members-members.ensures.closed stands c.requires.rates)
+    (certificate n dep graph c.members-members.ensures.closed stands adds.parts c.requires.component adds.linear)))

@@ -1,0 +1,138 @@
+use Rattle.std.proofs.Common.{◌≡◌, ◌<◌, ◌≤◌, ◌+◌, ◌*◌, ◌∙◌, ℕ, ap, sym, subst, arith, length, lit<, true, rules}
+use Rattle.std.specs.FinSet as fin
+use Rattle.bitset.specs.Places.{IsWithin}
+use Rattle.linearize.specs.Splits.{Adds, HasRoom}
+use Rattle.linearize.proofs.Joined.{c_some, rest_some, both_lens, first_room, second_room, both_added}
+use Rattle.linearize.proofs.Sets.{from_minus}
+use Rattle.linearize.proofs.Sizes.{words_fit, lists_fit, scratch_fits}
+use Rattle.linearize.proofs.split.+split.Goals as goal
+
+pub split-requires : goal.split-requires
+split-requires g t c κs within =
+    let n : ℕ = 64 * g.row.W in
+    let r = c.requires in
+    let best = c.in-Some.ensures.best in
+    let dep = c.args.dep.now in
+    let s = c.args.within.now in
+    let first = c.in-Some.first in
+    let lens : fin.len s ≡ fin.len first + fin.len (fin.difference s first) = both_lens n dep s first r.closed r.members r.rates best in
+    let some : 0 < fin.len first = c_some n dep s first r.closed r.members r.rates best in
+    let others : 0 < fin.len (fin.difference s first) = rest_some n dep s first r.closed r.members r.rates best in (
+      (let less : fin.len first < fin.len s = omega (arith, lens, others) in search rules),
+      (
+        within,
+        (
+          search rules,
+          (
+            scratch_fits g.row.W r.narrow,
+            (
+              lists_fit g.row.W r.narrow,
+              (
+                words_fit g.row.W r.narrow,
+                (
+                  lit< tt,
+                  (
+                    r.narrow,
+                    (
+                      r.closed,
+                      (
+                        λ p m. r.members p (best.upper.inside p m),
+                        (
+                          some,
+                          (
+                            (let few = r.few in omega (arith, lens, few)),
+                            (
+                              r.rates,
+                              (
+                                r.covers,
+                                (
+                                  (let room = r.weights in omega (arith, room, c.best.auto.weights)),
+                                  subst (HasRoom n first) (sym c.in-Some.ensures.draft) (first_room n dep s first r.closed r.members r.rates best c.args.draft.now r.room),
+                                ),
+                              ),
+                            ),
+                          ),
+                        ),
+                      ),
+                    ),
+                  ),
+                ),
+              ),
+            ),
+          ),
+        ),
+      ),
+    )
+
+pub split-requires-in-Some : goal.split-requires-in-Some
+split-requires-in-Some g t c κs within =
+    let n : ℕ = 64 * g.row.W in
+    let r = c.requires in
+    let best = c.in-Some.ensures.best in
+    let dep = c.args.dep.now in
+    let s = c.args.within.now in
+    let first = c.in-Some.first in
+    let is : c.minus-rest.result ≡ fin.difference s first = c.minus-rest.ensures in
+    let same : fin.len c.minus-rest.result ≡ fin.len (fin.difference s first) = ap (λ x. fin.len x) is in
+    let lens : fin.len s ≡ fin.len first + fin.len (fin.difference s first) = both_lens n dep s first r.closed r.members r.rates best in
+    let some : 0 < fin.len first = c_some n dep s first r.closed r.members r.rates best in
+    let others : 0 < fin.len (fin.difference s first) = rest_some n dep s first r.closed r.members r.rates best in
+    let one : Adds n dep first c.args.draft.now c.split.new.draft = subst (λ w. Adds n dep first w c.split.new.draft) c.in-Some.ensures.draft c.split.ensures.adds in (
+      (let less : fin.len c.minus-rest.result < fin.len s = omega (arith, same, lens, some) in search rules),
+      (
+        within,
+        (
+          search rules,
+          (
+            scratch_fits g.row.W r.narrow,
+            (
+              lists_fit g.row.W r.narrow,
+              (
+                words_fit g.row.W r.narrow,
+                (
+                  lit< tt,
+                  (
+                    r.narrow,
+                    (
+                      r.closed,
+                      (
+                        λ p m. r.members p (from_minus s first p (subst (λ x. fin.contains x p ≡ true) is m)).0,
+                        (
+                          omega (arith, same, others),
+                          (
+                            (let few = r.few in omega (arith, same, lens, few)),
+                            (
+                              r.rates,
+                              (
+                                r.covers,
+                                (
+                                  (let room = r.weights in omega (arith, room, c.best.auto.weights, c.split.auto.weights)),
+                                  subst (λ x. HasRoom n x c.split.new.draft) (sym is) (second_room n dep s first r.closed r.members r.rates best c.args.draft.now c.split.new.draft r.room one),
+                                ),
+                              ),
+                            ),
+                          ),
+                        ),
+                      ),
+                    ),
+                  ),
+                ),
+              ),
+            ),
+          ),
+        ),
+      ),
+    )
+
+pub returns-in-Some-clause-adds : goal.returns-in-Some-clause-adds
+returns-in-Some-clause-adds g t c =
+    let n : ℕ = 64 * g.row.W in
+    let r = c.requires in
+    let best = c.in-Some.ensures.best in
+    let dep = c.args.dep.now in
+    let s = c.args.within.now in
+    let first = c.in-Some.first in
+    let is : c.minus-rest.result ≡ fin.difference s first = c.minus-rest.ensures in
+    both_added n dep s first r.closed r.members r.rates best c.args.draft.now c.split.new.draft c.split-in-Some.new.draft
+    (subst (λ w. Adds n dep first w c.split.new.draft) c.in-Some.ensures.draft c.split.ensures.adds)
+    (subst (λ x. Adds n dep x c.split.new.draft c.split-in-Some.new.draft) is c.split-in-Some.ensures.adds)

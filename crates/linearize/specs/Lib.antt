@@ -1,0 +1,4 @@
+pub mod Drafts
+pub mod Graphs
+pub mod Orders
+pub mod Splits

@@ -1,0 +1,17 @@
+//! A certified optimal order of one dependency graph.
+//!
+//! [`optimal`] splits the members by closed sets of greatest weight until a balanced flow shows of each part that no
+//! closed set within it has a greater rate. What it leaves in a [`Linear`] is the order, cut into parts of falling
+//! rate, and for each part its flow.
+#![tactic(auto)]
+
+mod draft;
+mod linear;
+mod part;
+mod split;
+
+pub use draft::{LinearPart, PlaceFlow};
+pub use linear::{Linear, optimal};
+
+#[cfg(test)]
+mod tests;

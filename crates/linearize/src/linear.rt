@@ -1,0 +1,134 @@
+ghost use Rattle.std.specs.Prelude.{◌≡◌, ℕ, ◌*◌, ◌^◌, ◌<◌, ◌≤◌, [], length, map, true, IfOk};
+ghost use Rattle.std.specs.FinSet as set;
+ghost use Rattle.graph_model.specs.Graphs as model;
+ghost use Rattle.graph_model.specs.Certificates.{IsCertificate};
+ghost use Rattle.graph_model.specs.Linearizations.{IsOptimal};
+ghost use Rattle.dep_graph.specs.Graph.{is_member, members_of, IsCover};
+ghost use Rattle.linearize.specs.Graphs.{HasRates, IsComponent, StandsFor, most_members, sum_at};
+ghost use Rattle.linearize.specs.Drafts.{AreShown, flows_in, named, placed};
+ghost use Rattle.linearize.specs.Orders.{AreCovers};
+
+use crate::draft::{Draft, LinearPart, PlaceFlow};
+use crate::split::split;
+use bitset::Bits;
+use closure_flow::Scratch;
+use dep_graph::DepGraph;
+use graph_model::certified_parts_are_optimal;
+use outside::NoMemory;
+use std::alloc::Global;
+use std::marker::Model;
+use step_count::{Ledger, Steps};
+
+/// An order of the members of a dependency graph, cut into parts, with a flow for each part.
+///
+/// It has room for 64·W places, as many parts and 1,024·W² flows, all taken when it is made.
+#[derive(Drop)]
+pub struct Linear<const W: usize> {
+    draft: Draft<W>,
+    // the covering parents of each place, and its weight in the set that was solved last
+    parents: Vec<Bits<W>>,
+    weights: Vec<i128>,
+}
+
+// Clauses see the parts, each with its fee and size, its places and its flows.
+impl<const W: usize> Model for Linear<W> {
+    ghost use Rattle.std.specs.Prelude.{◌≡◌, ◌*◌, ◌^◌, ◌<◌, ◌≤◌, List, [], vec_len};
+    ghost use Rattle.graph_model.specs.Certificates.{Part};
+
+    ghost Value = { List Part };
+
+    ghost view = { λ l. l.draft.parts };
+
+    ghost invariant = { λ l.
+        (l.draft.ids ≡ [])
+        × (l.draft.flows ≡ [])
+        × (64 * W ≤ vec_len l.parents)
+        × (64 * W ≤ vec_len l.weights)
+        × (64 * W < 2 ^ 32) };
+}
+
+impl<const W: usize> Linear<W> {
+    /// An order without parts.
+    pub fn new(alloc: Global) -> Result<Self, NoMemory>
+        ensures { IfOk result (λ l. l ≡ []) }
+    {
+        let draft = Draft::new(alloc)?;
+        let places = W.checked_mul(64).ok_or(NoMemory)?;
+        Ok(Linear {
+            draft,
+            parents: vec![in alloc; Bits::empty(); places]?,
+            weights: vec![in alloc; 0; places]?,
+        })
+    }
+
+    /// The places of all parts, in the order of the parts.
+    pub fn order(&self) -> &[usize]
+        ensures { result.now ≡ placed self.now }
+    {
+        self.draft.order()
+    }
+
+    /// The parts.
+    pub fn parts(&self) -> &[LinearPart]
+        ensures { AreShown result.now self.now }
+    {
+        self.draft.parts()
+    }
+
+    /// The flows of all parts, in the order of the parts.
+    pub fn flows(&self) -> &[PlaceFlow]
+        ensures { map named result.now ≡ flows_in self.now }
+    {
+        self.draft.flows()
+    }
+}
+
+/// Leaves an optimal order of the members, its parts and a flow for each part that certifies it.
+///
+/// The members are one component, and at least one. Fees and sizes are those of transactions, and the members at
+/// most 4,096, so that 64 bits hold the fee of each part. It takes no memory, and counts each place that a search
+/// takes as a step.
+pub fn optimal<L: Ledger, const W: usize>(
+    scratch: &mut Scratch<W>,
+    dep: &DepGraph<W>,
+    out: &mut Linear<W>,
+    steps: &mut Steps<L>,
+)
+    requires some { 0 < set.len (members_of dep.now) }
+    requires few { set.len (members_of dep.now) ≤ most_members }
+    requires rates { HasRates dep.now }
+    requires component { IsComponent dep.now }
+
+    // Whatever plain graph the members stand for, the parts certify it over its covering pairs, and are optimal.
+    ensures certificate { (graph : model.Graph) → StandsFor dep.now graph → IsCertificate (sum_at dep.now) graph (model.IsCover graph.pairs) out.new }
+    ensures optimal { (graph : model.Graph) → StandsFor dep.now graph → IsOptimal (sum_at dep.now) graph (map (λ part. part.ids) out.new) }
+    ensures steps { steps.old ≤ steps.new }
+{
+    let members = dep.members();
+    let parents = out.parents.as_mut_slice();
+    let weights = out.weights.as_mut_slice();
+    out.draft.clear();
+    link(dep, parents);
+    split(
+        scratch,
+        dep,
+        parents,
+        weights,
+        &members,
+        &mut out.draft,
+        steps,
+    );
+    certified_parts_are_optimal();
+}
+
+// Keeps the covering parents of each member.
+fn link<const W: usize>(dep: &DepGraph<W>, parents: &mut [Bits<W>])
+    requires narrow { 64 * W < 2 ^ 32 }
+    requires room { 64 * W ≤ length parents.old }
+    ensures { AreCovers dep.now parents.new }
+{
+    let members = dep.members();
+    for place in members.iter() {
+        parents[place] = dep.covers(place);
+    }
+}

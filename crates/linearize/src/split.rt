@@ -1,0 +1,135 @@
+ghost use Rattle.std.specs.Prelude.{◌≡◌, ℕ, ◌+◌, ◌*◌, ◌<◌, ◌≤◌, ◌^◌, length, true, pos, ◌-ℤ◌, ◌*ℤ◌, unsigned_abs, IfSome, MatchOption};
+ghost use Rattle.std.specs.FinSet as set;
+ghost use Rattle.bitset.specs.Places.{IsWithin};
+ghost use Rattle.closure_flow.specs.Closures.{weight_at};
+ghost use Rattle.dep_graph.specs.Graph.{HoldsMembers, IsClosed, is_member};
+ghost use Rattle.fee_rate.specs.Limits.{IsRate, greatest_fee, greatest_size};
+ghost use Rattle.graph_model.specs.Certificates.{weight_in};
+ghost use Rattle.linearize.specs.Graphs.{HasRates, most_members, sum_at, sum_from};
+ghost use Rattle.linearize.specs.Orders.{AreCovers, sums_in};
+ghost use Rattle.linearize.specs.Splits.{Adds, HasRoom, IsBest};
+
+use crate::draft::Draft;
+use crate::part::emit;
+use bitset::Bits;
+use closure_flow::{Outcome, Scratch, solve};
+use dep_graph::DepGraph;
+use fee_rate::FeeRate;
+use step_count::{Ledger, Steps};
+
+/// Linearizes a set of members: as one part where it is balanced, else a closed set of greatest weight and then the
+/// others.
+pub(crate) fn split<L: Ledger, const W: usize>(
+    scratch: &mut Scratch<W>,
+    dep: &DepGraph<W>,
+    parents: &[Bits<W>],
+    weights: &mut [i128],
+    within: &Bits<W>,
+    draft: &mut Draft<W>,
+    steps: &mut Steps<L>,
+)
+    requires narrow { 64 * W < 2 ^ 32 }
+    requires closed { IsClosed (64 * W) dep.now }
+    requires members { HoldsMembers dep.now within.now }
+    requires some { 0 < set.len within.now }
+    requires few { set.len within.now ≤ most_members }
+    requires rates { HasRates dep.now }
+    requires covers { AreCovers dep.now parents.now }
+    requires weights { 64 * W ≤ length weights.old }
+    requires room { HasRoom (64 * W) within.now draft.old }
+    ensures adds { Adds (64 * W) dep.now within.now draft.old draft.new }
+    ensures steps { steps.old ≤ steps.new }
+{
+    if let Some(first) = best(scratch, dep, parents, weights, within, draft, steps) {
+        let rest = within.minus(&first);
+        split(scratch, dep, parents, weights, &first, draft, steps);
+        split(scratch, dep, parents, weights, &rest, draft, steps);
+    }
+}
+
+// Writes a set as one part where it is balanced. Else it answers a closed set of greatest weight.
+fn best<L: Ledger, const W: usize>(
+    scratch: &mut Scratch<W>,
+    dep: &DepGraph<W>,
+    parents: &[Bits<W>],
+    weights: &mut [i128],
+    within: &Bits<W>,
+    draft: &mut Draft<W>,
+    steps: &mut Steps<L>,
+) -> Option<Bits<W>>
+    requires narrow { 64 * W < 2 ^ 32 }
+    requires closed { IsClosed (64 * W) dep.now }
+    requires members { HoldsMembers dep.now within.now }
+    requires some { 0 < set.len within.now }
+    requires few { set.len within.now ≤ most_members }
+    requires rates { HasRates dep.now }
+    requires covers { AreCovers dep.now parents.now }
+    requires weights { 64 * W ≤ length weights.old }
+    requires room { HasRoom (64 * W) within.now draft.old }
+    ensures best { IfSome result (IsBest (64 * W) dep.now within.now) }
+    ensures draft { MatchOption result (Adds (64 * W) dep.now within.now draft.old draft.new) (λ _. draft.new ≡ draft.old) }
+    ensures steps { steps.old ≤ steps.new }
+{
+    let whole = sum(dep, within);
+    weigh(dep, within, whole, weights);
+    match solve(scratch, weights, parents, *within, steps) {
+        Outcome::Better(first) => Some(first),
+        Outcome::Balanced => {
+            emit(scratch, dep, parents, within, whole, draft);
+            None
+        }
+    }
+}
+
+// The fee and the size of some members together.
+fn sum<const W: usize>(dep: &DepGraph<W>, within: &Bits<W>) -> FeeRate
+    requires narrow { 64 * W < 2 ^ 32 }
+    requires members { HoldsMembers dep.now within.now }
+    requires few { set.len within.now ≤ most_members }
+    requires rates { HasRates dep.now }
+    ensures is { sum_from result ≡ sums_in (64 * W) dep.now within.now }
+    ensures size { result.size ≤ greatest_size * most_members }
+{
+    let mut fee = 0;
+    let mut size = 0;
+    for place in within.iter() {
+        let rate = dep.rate(place);
+        fee += rate.fee;
+        size += rate.size;
+    }
+    FeeRate { fee, size }
+}
+
+// Keeps the weight of each of some members in a set whose fee and size are given.
+fn weigh<const W: usize>(dep: &DepGraph<W>, within: &Bits<W>, whole: FeeRate, weights: &mut [i128])
+    requires narrow { 64 * W < 2 ^ 32 }
+    requires members { HoldsMembers dep.now within.now }
+    requires rates { HasRates dep.now }
+    requires room { 64 * W ≤ length weights.old }
+    requires size { whole.size ≤ greatest_size * most_members }
+    ensures are { (t : ℕ) → set.contains within.now t ≡ true → weight_at weights.new t ≡ weight_in (sum_from whole) (sum_at dep.now t) }
+    ensures small { (t : ℕ) → set.contains within.now t ≡ true → unsigned_abs (weight_at weights.new t) < 2 ^ 99 }
+{
+    for place in within.iter() {
+        weights[place] = weight(whole, dep.rate(place));
+    }
+}
+
+// How far a rate is above that of a whole, times both sizes.
+fn weight(whole: FeeRate, own: FeeRate) -> i128
+    requires own { IsRate own }
+    requires size { whole.size ≤ greatest_size * most_members }
+    ensures is { result ≡ weight_in (sum_from whole) (sum_from own) }
+    ensures small { unsigned_abs result < 2 ^ 99 }
+{
+    product(own.fee, whole.size) - product(whole.fee, own.size)
+}
+
+// A fee times the size of at most 4,096 transactions. Below 2^98 in absolute value.
+fn product(fee: i64, size: u64) -> i128
+    requires { size ≤ greatest_size * most_members }
+    ensures product { result ≡ fee *ℤ pos size }
+    ensures bound { unsigned_abs result < 2 ^ 98 }
+{
+    i128::from(fee) * i128::from(size)
+}
