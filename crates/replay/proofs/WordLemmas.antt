@@ -1,6 +1,5 @@
 -- The words that the program is given.
-use Rattle.std.proofs.Common.{◌≡◌, ℕ, ◌≤◌, ◌<◌, List, [], ◌∷◌, length, map, get_or, sym, ap, ◌∙◌, arith, codes}
-use Rattle.replay.specs.Statuses.{AreReplay}
+use Rattle.std.proofs.Common.{◌≡◌, ℕ, ◌≤◌, ◌<◌, List, [], ◌∷◌, length, map, get_or, sym, ap, ◌∙◌, arith}
 
 -- a list of two is its first and its second
 two : {X : Type 0} (f : X → List ℕ) (xs : List X) (second : X) → 2 ≤ length xs → length xs < 3 → second ≡ get_or xs 1 second → (name : List ℕ) × (map f xs ≡ name ∷ f second ∷ [])

@@ -6,18 +6,15 @@ use Rattle.wire.specs.Drafts.{text_of}
 use Rattle.replay.specs.declared.check.Said.{Said}
 use Rattle.replay.specs.Checks.{IsVerified}
 use Rattle.replay.specs.Verdicts.{verification_of, IsSaidOf}
-use Rattle.replay.proofs.CheckLemmas.{verified, no_text, types_of}
+use Rattle.replay.proofs.CheckLemmas.{verified, no_text}
 use Rattle.replay.proofs.check.verify.Goals as goal
-
-pub judge-requires-clause-types : goal.judge-requires-clause-types
-judge-requires-clause-types c = types_of c.args.bytes.now (text_of c.in-Ok.text) c.in-Ok.ensures.text
 
 pub returns-in-Ok : goal.returns-in-Ok
 returns-in-Ok c = carried c.judge.result c.judge.ensures
   where
     carried : (r : Result Said NoMemory) → IfOk r (IsSaidOf (text_of c.in-Ok.text)) → IfOk r (λ said. IsVerified c.args.bytes.now (verification_of said))
-    carried (Ok said) h = verified c.args.bytes.now (text_of c.in-Ok.text) said c.in-Ok.ensures.text h
+    carried (Ok said) h = verified c.args.bytes.now (text_of c.in-Ok.text) said c.bytes_have_one_cut.ensures c.in-Ok.ensures.text h
     carried (Err e) h = tt
 
 pub returns-in-Err-Syntax : goal.returns-in-Err-Syntax
-returns-in-Err-Syntax c = no_text c.args.bytes.now (c.in-Err-Syntax.ensures.syntax (λ i. Err (c.in-Err-Syntax.field-0-is i)))
+returns-in-Err-Syntax c = no_text c.args.bytes.now c.bytes_have_one_cut.ensures (c.in-Err-Syntax.ensures.syntax (λ i. Err (c.in-Err-Syntax.field-0-is i)))
