@@ -1,11 +1,11 @@
 -- Flows and accounts, one after the other.
-use Rattle.std.proofs.Common.{◌≡◌, ◌≢◌, ℕ, ◌+◌, ◌-◌, ◌^◌, ◌<◌, ◌≤◌, zero, suc, List, [], ◌∷◌, ◌++◌, length, inl, inr, refl, sym, ap, ◌∙◌, subst, arith, get_or, set, map, take, Option, Some, None, cond, eqb, true, false, Bool, ℤ, pos, ◌+ℤ◌, ◌-ℤ◌, ◌*ℤ◌, FitsSigned, unsigned_abs, to_z, of_z}
-use Rattle.std.specs.Prelude.{Contains, sum_by}
+use Rattle.std.proofs.Common.{◌≡◌, ◌≢◌, ℕ, ◌+◌, ◌^◌, ◌<◌, ◌≤◌, List, [], ◌∷◌, ◌++◌, length, inl, inr, refl, sym, ap, ◌∙◌, subst, arith, get_or, set, take, Option, Some, cond, eqb, true, false, Bool, ℤ, pos, ◌+ℤ◌, ◌-ℤ◌, ◌*ℤ◌, FitsSigned, unsigned_abs, to_z, of_z}
+use Rattle.std.specs.Prelude.{Contains}
 use Rattle.std.proofs.lemmas.Int.{ints, fits_signed_from_abs, to_z-of_z}
 use mir.Syntax.{w128}
-use Rattle.std.proofs.lemmas.Bool.{cases_eq, cases_lt, ne_eqb}
+use Rattle.std.proofs.lemmas.Bool.{cases_eq, ne_eqb}
 use Rattle.std.proofs.Common.{eq-eqb}
-use Rattle.std.proofs.lemmas.List.{get_or-map, length-map, get_or_default, get_or-set_same, get_or-set_other, length-set, take_more, length-take-le, get_or_past, set_past}
+use Rattle.std.proofs.lemmas.List.{get_or-map, length-map, get_or_default, get_or-set_same, get_or-set_other, length-set, take_more}
 use Rattle.std.proofs.lemmas.List.Sums.{sum_by-append, sum_by-cons, sum_by-take-le, get_or-le-sum_by}
 use Rattle.std.proofs.lemmas.List.Elements.{Contains-get_or, Contains-push_cases, Contains-append_left, Contains-push}
 use Rattle.graph_model.specs.declared.names.Flow.{Flow}
@@ -13,7 +13,7 @@ use Rattle.graph_model.specs.Certificates.{given, gotten, weight_in}
 use Rattle.fee_rate.specs.declared.rates.Sum.{Sum}
 use Rattle.certificate.specs.Places.{ArePlaces}
 use Rattle.certificate.specs.declared.flows.Account.{Account}
-use Rattle.certificate.specs.Accounts.{account_at, IsOpen, AreOpen, AreNet, KeepParts, AreInside, amount_of, ends_of}
+use Rattle.certificate.specs.Accounts.{account_at, IsOpen, AreOpen, amount_of, ends_of}
 
 abbrev pub flow_at : List Flow → ℕ → Flow
 flow_at flows k = get_or flows k record { child = 0; parent = 0; amount = 0 }
@@ -68,7 +68,7 @@ part_stays accounts place x net in' =
     let new : Account = record { part = (account_at accounts place).part; net = net } in
     elim (cases_eq x place) [
       | inl e ↦
-        subst (λ y. (account_at (set accounts place new) y).part ≡ (account_at accounts y).part) (sym e) (ap (λ (a : Account). a.part) (changed_here accounts place new in'))
+          subst (λ y. (account_at (set accounts place new) y).part ≡ (account_at accounts y).part) (sym e) (ap (λ (a : Account). a.part) (changed_here accounts place new in'))
       | inr ne ↦ ap (λ (a : Account). a.part) (changed_there accounts place x new ne)
     ]
 
@@ -102,23 +102,23 @@ nets_paid find part F G old accounts new id place amount one h is in' e =
       sized = ap length e ∙ length-set accounts place after ∙ h.sized;
       parts = λ x. parts x ∙ h.parts x;
       net =
-        λ other x f p.
-            let before = h.net other x f (sym (parts x) ∙ p) in
-            elim (cases_eq x place) [
-              | inl same ↦
+          λ other x f p.
+          let before = h.net other x f (sym (parts x) ∙ p) in
+          elim (cases_eq x place) [
+            | inl same ↦
                 (let who : id ≡ other = one id other place is (f ∙ ap Some same) in
                 let n = term_same id other amount who in
                 let now : (account_at new x).net ≡ (account_at accounts x).net +ℤ pos amount =
-                    ap (λ l. (account_at l x).net) e
-                    ∙ subst (λ y. (account_at (set accounts place after) y).net ≡ (account_at accounts y).net +ℤ pos amount) (sym same) (ap (λ (a : Account). a.net) (changed_here accounts place after in'))
+                ap (λ l. (account_at l x).net) e
+                ∙ subst (λ y. (account_at (set accounts place after) y).net ≡ (account_at accounts y).net +ℤ pos amount) (sym same) (ap (λ (a : Account). a.net) (changed_here accounts place after in'))
                 in
                 paid_sum (account_at new x).net (account_at accounts x).net (F other) (G other) amount (cond (eqb id other) amount 0) now before n)
-              | inr apart ↦
+            | inr apart ↦
                 (let who : id ≡ other → ⊥ = λ w. apart (some_same x place (sym f ∙ ap find (sym w) ∙ is)) in
                 let n = term_other id other amount who in
                 let now : (account_at new x).net ≡ (account_at accounts x).net = ap (λ l. (account_at l x).net) e ∙ ap (λ (a : Account). a.net) (changed_there accounts place x after apart) in
                 paid_none (account_at new x).net (account_at accounts x).net (F other) (G other) (cond (eqb id other) amount 0) now before n)
-            ];
+          ];
     }
 
 pub nets_drawn : (find : ℕ → Option ℕ) (part : ℕ) (F G : ℕ → ℕ) (old accounts new : List Account) (id place amount : ℕ) → ((a b x : ℕ) → find a ≡ Some x → find b ≡ Some x → a ≡ b) → Nets find part F G old accounts → find id ≡ Some place
@@ -130,23 +130,23 @@ nets_drawn find part F G old accounts new id place amount one h is in' e =
       sized = ap length e ∙ length-set accounts place after ∙ h.sized;
       parts = λ x. parts x ∙ h.parts x;
       net =
-        λ other x f p.
-            let before = h.net other x f (sym (parts x) ∙ p) in
-            elim (cases_eq x place) [
-              | inl same ↦
+          λ other x f p.
+          let before = h.net other x f (sym (parts x) ∙ p) in
+          elim (cases_eq x place) [
+            | inl same ↦
                 (let who : id ≡ other = one id other place is (f ∙ ap Some same) in
                 let n = term_same id other amount who in
                 let now : (account_at new x).net ≡ (account_at accounts x).net -ℤ pos amount =
-                    ap (λ l. (account_at l x).net) e
-                    ∙ subst (λ y. (account_at (set accounts place after) y).net ≡ (account_at accounts y).net -ℤ pos amount) (sym same) (ap (λ (a : Account). a.net) (changed_here accounts place after in'))
+                ap (λ l. (account_at l x).net) e
+                ∙ subst (λ y. (account_at (set accounts place after) y).net ≡ (account_at accounts y).net -ℤ pos amount) (sym same) (ap (λ (a : Account). a.net) (changed_here accounts place after in'))
                 in
                 drawn_sum (account_at new x).net (account_at accounts x).net (F other) (G other) amount (cond (eqb id other) amount 0) now before n)
-              | inr apart ↦
+            | inr apart ↦
                 (let who : id ≡ other → ⊥ = λ w. apart (some_same x place (sym f ∙ ap find (sym w) ∙ is)) in
                 let n = term_other id other amount who in
                 let now : (account_at new x).net ≡ (account_at accounts x).net = ap (λ l. (account_at l x).net) e ∙ ap (λ (a : Account). a.net) (changed_there accounts place x after apart) in
                 drawn_none (account_at new x).net (account_at accounts x).net (F other) (G other) (cond (eqb id other) amount 0) now before n)
-            ];
+          ];
     }
 
 -- other numbers for the same
@@ -284,17 +284,16 @@ open_more find ids part accounts k place in' h is room =
     let more = take_more ids k 0 in' in
     record {
       bound =
-        λ x.
-            elim (cases_eq x place) [
-              | inl e ↦ (let q : (account_at (set accounts place new) x).part ≡ part = subst (λ y. (account_at (set accounts place new) y).part ≡ part) (sym e) (ap (λ (a : Account). a.part) (changed_here accounts place new room)) in omega arith)
-              | inr ne ↦ (let q = ap (λ (a : Account). a.part) (changed_there accounts place x new ne) in let b = h.bound x in omega arith)
-            ];
+          λ x.
+          elim (cases_eq x place) [
+            | inl e ↦ (let q : (account_at (set accounts place new) x).part ≡ part = subst (λ y. (account_at (set accounts place new) y).part ≡ part) (sym e) (ap (λ (a : Account). a.part) (changed_here accounts place new room)) in omega arith)
+            | inr ne ↦ (let q = ap (λ (a : Account). a.part) (changed_there accounts place x new ne) in let b = h.bound x in omega arith)
+          ];
       here =
-        λ id there.
-            elim (Contains-push_cases (take k ids) (get_or ids k 0) id (subst (λ l. Contains l id) more there)) [
-              | inl old ↦
-                (let (x, x_is, x_in, of) = h.here id old in
-                (
+          λ id there.
+          elim (Contains-push_cases (take k ids) (get_or ids k 0) id (subst (λ l. Contains l id) more there)) [
+            | inl old ↦
+                (let (x, x_is, x_in, of) = h.here id old in (
                   x,
                   x_is,
                   subst (λ n. x < n) (sym (length-set accounts place new)) x_in,
@@ -303,17 +302,17 @@ open_more find ids part accounts k place in' h is room =
                     | inr ne ↦ ap (λ (a : Account). a.part) (changed_there accounts place x new ne) ∙ of
                   ],
                 ))
-              | inr same ↦
+            | inr same ↦
                 (place, ap find (sym same) ∙ is, subst (λ n. place < n) (sym (length-set accounts place new)) room, ap (λ (a : Account). a.part) (changed_here accounts place new room))
-            ];
+          ];
       only =
-        λ x of.
-            elim (cases_eq x place) [
-              | inl e ↦ (get_or ids k 0, subst (λ l. Contains l (get_or ids k 0)) (sym more) (Contains-push (take k ids) (get_or ids k 0)), is ∙ ap Some (sym e))
-              | inr ne ↦
+          λ x of.
+          elim (cases_eq x place) [
+            | inl e ↦ (get_or ids k 0, subst (λ l. Contains l (get_or ids k 0)) (sym more) (Contains-push (take k ids) (get_or ids k 0)), is ∙ ap Some (sym e))
+            | inr ne ↦
                 (let (id, there, id_is) = h.only x (sym (ap (λ (a : Account). a.part) (changed_there accounts place x new ne)) ∙ of) in
                 (id, subst (λ l. Contains l id) (sym more) (Contains-append_left (take k ids) (get_or ids k 0 ∷ []) id there), id_is))
-            ];
+          ];
     }
 
 pub empty_more : (part place : ℕ) (accounts : List Account) → place < length accounts → ((x : ℕ) → (account_at accounts x).part ≡ part → (account_at accounts x).net ≡ pos 0)

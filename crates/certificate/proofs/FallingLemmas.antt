@@ -1,8 +1,8 @@
 -- The third test, put together.
-use Rattle.std.proofs.Common.{◌≡◌, ◌≢◌, ℕ, ◌+◌, ◌-◌, ◌<◌, ◌≤◌, zero, suc, List, [], ◌∷◌, ◌++◌, length, inl, inr, refl, sym, ap, ◌∙◌, subst, arith, get_or, map, Option, pos}
+use Rattle.std.proofs.Common.{◌≡◌, ◌≢◌, ℕ, ◌+◌, ◌-◌, ◌<◌, ◌≤◌, zero, suc, List, [], ◌∷◌, length, refl, sym, ap, ◌∙◌, subst, arith, get_or, map, Option, pos}
 use Rattle.std.specs.Prelude.{Contains}
 use Rattle.std.proofs.lemmas.Int.{ints}
-use Rattle.std.proofs.lemmas.List.{get_or-map, length-map, length-append, get_or_default}
+use Rattle.std.proofs.lemmas.List.{get_or-map, length-map, length-append}
 use Rattle.fee_rate.specs.declared.rates.Sum.{Sum}
 use Rattle.fee_rate.specs.Limits.{IsSum}
 use Rattle.fee_rate.specs.Rates.{AtMost, Below}
@@ -54,10 +54,10 @@ falls_part txs parts h = subst Falls (rates_same parts) h.falling
 pub has_falling : (txs : Txs) (parts : List Part) → AreSummed txs parts → Falls (rates_of parts) → HasFalling (rate_in txs) (parts_of parts)
 has_falling txs parts s f = record {
   summed =
-    λ part here.
-        let at = part_at parts part here in
-        let ids = ids_here parts at.k at.it at.within at.here in
-        ap (λ (p : model.Part). p.rate) at.is ∙ ap (λ (p : Part). p.rate) at.here ∙ sym (rate_read parts at.k at.it at.within) ∙ s at.k at.within ∙ ap (sums (rate_in txs)) (sym ids ∙ sym (ap (λ (p : model.Part). p.ids) at.is));
+      λ part here.
+      let at = part_at parts part here in
+      let ids = ids_here parts at.k at.it at.within at.here in
+      ap (λ (p : model.Part). p.rate) at.is ∙ ap (λ (p : Part). p.rate) at.here ∙ sym (rate_read parts at.k at.it at.within) ∙ s at.k at.within ∙ ap (sums (rate_in txs)) (sym ids ∙ sym (ap (λ (p : model.Part). p.ids) at.is));
   falling = subst Falls (sym (rates_same parts)) f;
 }
 

@@ -1,5 +1,5 @@
 -- The fourth test, put together.
-use Rattle.std.proofs.Common.{◌≡◌, ℕ, ◌+◌, ◌<◌, ◌≤◌, List, [], length, refl, sym, ap, ◌∙◌, subst, arith, get_or, map, Option, Some, pos, ◌-ℤ◌, ℤ}
+use Rattle.std.proofs.Common.{◌≡◌, ℕ, ◌<◌, ◌≤◌, List, [], length, sym, ap, ◌∙◌, subst, arith, get_or, Option, Some}
 use Rattle.std.specs.Prelude.{Contains}
 use Rattle.fee_rate.specs.declared.rates.Sum.{Sum}
 use Rattle.graph_model.specs.declared.names.Flow.{Flow}
@@ -42,11 +42,11 @@ certifies names find rate IsLink whole ids flows part accounts booked h o once i
   inside = λ flow here. let i = inside flow here in (open_member names find ids part accounts flow.child h o i.1, open_member names find ids part accounts flow.parent h o i.2);
   some = some;
   balanced =
-    λ id there.
-        let (p, p_is, p_in, of) = o.here id there in
-        let b = balanced id p there p_is in
-        let n = net id p p_is (member_part find ids part accounts booked id p o keep there p_is) in
-        ap (λ (s : Sum). weight_in s (rate id)) (sym is) ∙ b ∙ n;
+      λ id there.
+      let (p, p_is, p_in, of) = o.here id there in
+      let b = balanced id p there p_is in
+      let n = net id p p_is (member_part find ids part accounts booked id p o keep there p_is) in
+      ap (λ (s : Sum). weight_in s (rate id)) (sym is) ∙ b ∙ n;
 }
 
 pub once_part : (rate : ℕ → Sum) (IsLink : ℕ → ℕ → Type 0) (ids : List ℕ) (flows : List Flow) → Certifies rate IsLink ids flows → AreDistinct (ends_of flows)

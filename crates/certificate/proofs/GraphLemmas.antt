@@ -1,17 +1,17 @@
 -- The first test, put together.
-use Rattle.std.proofs.Common.{◌≡◌, ℕ, ◌+◌, ◌<◌, ◌≤◌, List, length, inl, inr, refl, sym, ap, ◌∙◌, subst, arith, get_or, map, ℤ, pos, Option}
+use Rattle.std.proofs.Common.{◌≡◌, ℕ, ◌<◌, ◌≤◌, List, length, sym, ◌∙◌, subst, get_or, ℤ, pos, Option}
 use Rattle.std.specs.Prelude.{Contains}
 use Rattle.std.proofs.lemmas.List.{get_or_default}
 use Rattle.std.proofs.lemmas.List.Elements.{Contains-get_or}
 use Rattle.graph_model.specs.Limits.{IsFee, IsSize}
-use Rattle.graph_model.specs.Graphs.{HasNoCycle, AreDistinct, IsGraph}
-use Rattle.graph_model.specs.Certificates.{Txs, graph_of, HasGraph}
+use Rattle.graph_model.specs.Graphs.{HasNoCycle, AreDistinct}
+use Rattle.graph_model.specs.Certificates.{Txs, HasGraph}
 use Rattle.certificate.specs.declared.fault.CheckFault.{CheckFault}
 use Rattle.certificate.specs.declared.fault.CheckFault.TheVariants.{Order, Falling, Flow, Graph, Memory}
 use Rattle.certificate.specs.Faults.{Says}
-use Rattle.certificate.specs.Places.{ArePlaces, ArePairs, AreOf, named}
+use Rattle.certificate.specs.Places.{ArePlaces, ArePairs, AreOf}
 use Rattle.certificate.specs.Tables.{names_of, AreInLimits}
-use Rattle.certificate.proofs.PlaceLemmas.{places_distinct, found}
+use Rattle.certificate.proofs.PlaceLemmas.{places_distinct}
 use Rattle.certificate.proofs.Labels.{Labels, no_cycle_named, no_cycle_placed, ends_named}
 
 -- what fails for a part fails for the whole

@@ -1,11 +1,10 @@
 -- The second test, put together.
-use Rattle.std.proofs.Common.{◌≡◌, ℕ, ◌+◌, ◌<◌, ◌≤◌, List, [], length, inl, inr, refl, sym, ap, ◌∙◌, subst, arith, get_or, map, Option, Some}
+use Rattle.std.proofs.Common.{◌≡◌, ℕ, ◌<◌, List, length, refl, sym, ap, ◌∙◌, subst, get_or, map, Option}
 use Rattle.std.specs.Prelude.{Contains}
-use Rattle.std.specs.List.{flat_map}
 use Rattle.std.proofs.lemmas.List.{get_or_default}
 use Rattle.std.proofs.lemmas.List.Elements.{Contains-get_or}
 use Rattle.graph_model.specs.Graphs.{AreConnected}
-use Rattle.graph_model.specs.Linearizations.{IsTopological, StandsBefore}
+use Rattle.graph_model.specs.Linearizations.{IsTopological}
 use Rattle.graph_model.specs.Certificates.{Txs, graph_of, HasOrder}
 use Rattle.graph_model.specs.Certificates as model
 use Rattle.certificate.specs.declared.lists.Part.{Part}
@@ -16,9 +15,9 @@ use Rattle.certificate.specs.Parts.{part_of, parts_of, order_of, ids_at}
 use Rattle.certificate.specs.Places.{ArePlaces, named}
 use Rattle.certificate.specs.Tables.{names_of}
 use Rattle.certificate.proofs.PlaceLemmas.{places_distinct}
-use Rattle.certificate.proofs.Labels.{Labels, From, from, to, connected_named, connected_placed}
+use Rattle.certificate.proofs.Labels.{from, to, connected_named, connected_placed}
 use Rattle.certificate.proofs.Seats.{stands, stood, AreKnown}
-use Rattle.certificate.proofs.PartLemmas.{ids_here, order_has, order_same, IsAt, part_at, contains_part, some_part}
+use Rattle.certificate.proofs.PartLemmas.{ids_here, order_has, order_same, part_at, contains_part, some_part}
 
 pub order_part : (txs : Txs) (edges : List (ℕ × ℕ)) (parts : List Part) → HasOrder (graph_of txs edges) (parts_of parts) → IsOrderOf (names_of txs) (order_of parts)
 order_part txs edges parts h =

@@ -1,8 +1,8 @@
 -- Names and their places.
-use Rattle.std.proofs.Common.{◌≡◌, ◌≢◌, ℕ, ◌+◌, ◌-◌, ◌<◌, ◌≤◌, zero, suc, List, [], ◌∷◌, ◌++◌, length, inl, inr, refl, sym, ap, ◌∙◌, subst, arith, get_or, take, map, ◌⊎◌, Option, Some, None, eqb, false, ℤ, pos}
+use Rattle.std.proofs.Common.{◌≡◌, ◌≢◌, ℕ, ◌+◌, ◌<◌, List, [], ◌∷◌, ◌++◌, length, inl, inr, sym, ap, ◌∙◌, subst, arith, get_or, take, map, Option, Some, None, eqb, false, ℤ, pos}
 use Rattle.std.specs.Prelude.{Contains}
 use Rattle.std.proofs.lemmas.Bool.{cases_eq, cases_lt, ne_eqb}
-use Rattle.std.proofs.lemmas.List.{get_or_push, get_or_append_left, length_push, length-append, length-take-le, get_or-take, get_or_default, take_more, get_or-map, map-append}
+use Rattle.std.proofs.lemmas.List.{get_or_push, get_or_append_left, length_push, length-take-le, get_or_default, take_more, get_or-map, map-append}
 use Rattle.std.proofs.lemmas.List.Elements.{All-push, Contains-get_or}
 use Rattle.graph_model.specs.Graphs.{AreDistinct}
 use Rattle.certificate.specs.Places.{ArePlaces, AreOf, named, ArePairs}

@@ -1,21 +1,19 @@
 -- Fees and sizes of names, and their sums.
-use Rattle.std.proofs.Common.{◌≡◌, ◌≢◌, ℕ, ◌+◌, ◌-◌, ◌*◌, ◌^◌, ◌<◌, ◌≤◌, zero, suc, List, [], ◌∷◌, ◌++◌, length, inl, inr, refl, sym, ap, ◌∙◌, subst, arith, get_or, map, take, Option, Some, cond, eqb, true, false, Bool, ℤ, pos, negsuc, ◌+ℤ◌, ◌≤ℤ◌, unsigned_abs, to_z, of_z}
-use Rattle.std.specs.Prelude.{Contains, All, sum_by}
-use Rattle.std.specs.List.{flat_map}
+use Rattle.std.proofs.Common.{◌≡◌, ◌≢◌, ℕ, ◌+◌, ◌<◌, ◌≤◌, zero, suc, List, [], ◌∷◌, ◌++◌, length, refl, sym, ap, ◌∙◌, subst, arith, get_or, take, Option, Some, cond, eqb, true, false, Bool, ℤ, pos, ◌+ℤ◌, unsigned_abs, to_z, of_z}
+use Rattle.std.specs.Prelude.{Contains, All}
 use Rattle.std.proofs.lemmas.Int.{ints, to_z-of_z, fits_signed_from_abs}
 use mir.Syntax.{w64}
 use Rattle.std.proofs.lemmas.Bool.{ne_eqb}
-use Rattle.std.proofs.lemmas.List.{get_or-map, length-map, get_or_default, take_more, length-take-le, length-append}
+use Rattle.std.proofs.lemmas.List.{length-map, get_or_default, take_more, length-take-le}
 use Rattle.std.proofs.lemmas.List.Sums.{sum_by-append, sum_by-le, sum_by-cons}
-use Rattle.std.proofs.lemmas.List.Elements.{Contains-get_or, All-take, Contains-append_left, Contains-append_right}
+use Rattle.std.proofs.lemmas.List.Elements.{Contains-get_or, All-take}
 use Rattle.std.proofs.Common.{eq-eqb}
-use Rattle.arithmetic.specs.Sums.{total}
 use Rattle.arithmetic.proofs.Sums.{total-append, total_within}
 use Rattle.fee_rate.specs.declared.rates.Sum.{Sum}
-use Rattle.fee_rate.specs.Limits.{IsRate, IsSum, InRange, greatest_fee, greatest_size, greatest_count}
-use Rattle.fee_rate.specs.Rates.{AtMost, Below}
+use Rattle.fee_rate.specs.Limits.{IsSum, greatest_fee, greatest_size}
+use Rattle.fee_rate.specs.Rates.{AtMost}
 use Rattle.graph_model.specs.Graphs.{AreDistinct}
-use Rattle.graph_model.specs.Limits.{IsFee, IsSize}
+use Rattle.graph_model.specs.Limits.{IsFee}
 use Rattle.graph_model.specs.Rates.{sums, Falls}
 use Rattle.graph_model.specs.Certificates.{Txs, rate_in}
 use Rattle.certificate.specs.Places.{ArePlaces}

@@ -1,12 +1,12 @@
 -- Seats of names in an order.
-use Rattle.std.proofs.Common.{◌≡◌, ◌≢◌, ℕ, ◌+◌, ◌-◌, ◌<◌, ◌≤◌, zero, suc, List, [], ◌∷◌, ◌++◌, length, inl, inr, refl, sym, ap, ◌∙◌, subst, arith, get_or, set, take, drop, map, replicate, Option, Some, None, cond}
+use Rattle.std.proofs.Common.{◌≡◌, ◌≢◌, ℕ, ◌+◌, ◌<◌, ◌≤◌, zero, suc, List, [], ◌∷◌, ◌++◌, length, inl, inr, refl, sym, ap, ◌∙◌, subst, arith, get_or, set, take, drop, map, replicate, Option, Some, None, cond}
 use Rattle.std.specs.Prelude.{Contains, is_some, IsSome, count_by}
 use Rattle.std.proofs.lemmas.Bool.{cases_eq, cases_lt}
 use Rattle.std.proofs.lemmas.List.{get_or-set_same, get_or-set_other, length-set, length-take-le, get_or-take, get_or_default, get_or-map, length-map, get_or-replicate, length-replicate, get_or_past, take-append-drop, drop_more, length-append, get_or_at, get_or_append_left, take_at}
 use Rattle.std.proofs.lemmas.List.Sums.{sum_by-set, count_by-le-length}
 use Rattle.std.proofs.lemmas.List.Elements.{Contains-get_or}
-use Rattle.graph_model.specs.Graphs.{AreDistinct, Graph}
-use Rattle.graph_model.specs.Linearizations.{StandsBefore, IsTopological}
+use Rattle.graph_model.specs.Graphs.{AreDistinct}
+use Rattle.graph_model.specs.Linearizations.{StandsBefore}
 use Rattle.certificate.specs.Places.{ArePlaces}
 use Rattle.certificate.specs.Orders.{IsOrderOf, seat_at, AreSeats, AreRanks, AreOfOneGroup}
 use Rattle.certificate.proofs.Distinct.{repeated, distinct_by_index, distinct_place}

@@ -1,9 +1,8 @@
 -- The tests together.
-use Rattle.std.proofs.Common.{◌≡◌, ◌≢◌, ℕ, ◌+◌, ◌^◌, ◌<◌, ◌≤◌, zero, suc, List, [], ◌∷◌, length, refl, sym, ap, ◌∙◌, subst, arith, get_or, map, Option, Result, Err}
-use Rattle.std.specs.Prelude.{Contains, ◌↔◌, sum_by}
+use Rattle.std.proofs.Common.{◌≡◌, ◌≢◌, ℕ, ◌<◌, ◌≤◌, zero, suc, List, [], ◌∷◌, length, refl, sym, ap, ◌∙◌, subst, arith, get_or, map, Option, Result, Err}
+use Rattle.std.specs.Prelude.{Contains, sum_by}
 use Rattle.std.proofs.lemmas.List.Sums.{sum_by-cons}
 use Rattle.fee_rate.specs.declared.rates.Sum.{Sum}
-
 use Rattle.graph_model.specs.Certificates.{Txs, rate_in, graph_of, HasGraph, HasOrder, HasFalling, HasFlows, IsCertificate, Certifies}
 use Rattle.graph_model.specs.Certificates as model
 use Rattle.graph_model.specs.Rates.{HasSizes}
@@ -16,7 +15,7 @@ use Rattle.certificate.proofs.RateLemmas.{within_name}
 use Rattle.certificate.specs.declared.lists.Part.{Part}
 use Rattle.certificate.specs.Accounts.{ArePayable, amount_of}
 use Rattle.certificate.specs.Answers.{AreClaims}
-use Rattle.certificate.specs.Parts.{part_of, parts_of, order_of, ids_at, flows_at}
+use Rattle.certificate.specs.Parts.{parts_of, ids_at, flows_at}
 use Rattle.certificate.proofs.FlowLemmas.{flows_here}
 use Rattle.certificate.proofs.PartLemmas.{ids_here, part_at, some_part}
 
@@ -37,9 +36,9 @@ amount_at (p ∷ parts) (suc k) in' = let more = amount_at parts k (omega arith)
 pub payable : (parts : List Part) → AreClaims parts → ArePayable parts
 payable parts c = record {
   some =
-    λ k flow in' here.
-        let (it, is) = some_part parts k in' in
-        c.some it flow (part_in parts k it in' is) (subst (λ l. Contains l flow) (sym (flows_here parts k it in' is)) here);
+      λ k flow in' here.
+      let (it, is) = some_part parts k in' in
+      c.some it flow (part_in parts k it in' is) (subst (λ l. Contains l flow) (sym (flows_here parts k it in' is)) here);
   total = λ k in'. let t = c.total in let a = amount_at parts k in' in omega arith;
 }
 
@@ -63,9 +62,9 @@ pub is_certificate : (txs : Txs) (edges : List (ℕ × ℕ)) (parts : List Part)
     → HasFlows (rate_in txs) (λ parent child. Contains edges (parent, child)) (parts_of parts) → IsCertificate (rate_in txs) (graph_of txs edges) (λ parent child. Contains edges (parent, child)) (parts_of parts)
 is_certificate txs edges parts c o f g = record {
   filled =
-    λ part here none.
-        let at = part_at parts part here in
-        c.filled at.it (part_in parts at.k at.it at.within at.here) (sym (ap (λ (p : model.Part). p.ids) at.is) ∙ none);
+      λ part here none.
+      let at = part_at parts part here in
+      c.filled at.it (part_in parts at.k at.it at.within at.here) (sym (ap (λ (p : model.Part). p.ids) at.is) ∙ none);
   order = o;
   falling = f;
   flows = g;

@@ -1,5 +1,5 @@
 -- What is looked up after the first test, and what it stands for.
-use Rattle.std.specs.Prelude.{◌≡◌, ◌↔◌, ℕ, ℤ, ◌≤◌, List, length, map, nat_eq, Contains, IsTrue, ◌&&◌}
+use Rattle.std.specs.Prelude.{◌↔◌, ℕ, ℤ, ◌≤◌, List, length, map, nat_eq, Contains, IsTrue, ◌&&◌}
 use Rattle.std.specs.HashMap as hash
 use Rattle.std.specs.HashSet as bag
 use Rattle.graph_model.specs.Limits.{IsFee, IsSize}

@@ -1,4 +1,4 @@
-use Rattle.std.proofs.Common.{subst, ◌≡◌, List, ℕ}
+use Rattle.std.proofs.Common.{subst, List, ℕ}
 use Rattle.std.specs.Prelude.{OnOk}
 use Rattle.graph_model.specs.Certificates.{Txs, Certified, NoFlow, Finds}
 use Rattle.certificate.specs.Parts.{parts_of}

@@ -1,5 +1,4 @@
-use Rattle.std.proofs.Common.{◌≡◌, ℕ, arith, sym, subst, ap, ◌∙◌, map}
-use Rattle.std.specs.Prelude.{Contains}
+use Rattle.std.proofs.Common.{arith, sym, subst, ◌∙◌}
 use Rattle.std.proofs.lemmas.Result.{err_from_is_err_and}
 use Rattle.graph_model.specs.Certificates.{HasOrder, HasFlows, graph_of, rate_in}
 use Rattle.graph_model.specs.Linearizations.{IsOptimal}
@@ -40,13 +39,12 @@ returns-in_err-check_flows-clause-flow c e =
     let t = c.in_ok-tables.ensures.tables in
     let order = subst (λ l. HasOrder (graph_of c.args.txs.now l) (parts_of c.args.parts.now)) (sym t.pairs.same) c.in_ok-check_order.ensures.yes in
     let p = err_from_is_err_and c.from_residual-in_err-check_flows.result c.from_residual-in_err-check_flows.ensures.1 in
-    let fault = sym p.2 ∙ sym (same_err _ _ _ e p.1) in
-    (
+    let fault = sym p.2 ∙ sym (same_err _ _ _ e p.1) in (
       c.in_ok-tables.ensures.yes,
       order,
       c.in_ok-check_falling.ensures,
       λ h. says_not faults.Flow c.in_err-check_flows.field-0.0 (HasFlows (rate_in c.args.txs.now) (IsEdge c.in_ok-tables.tables) (parts_of c.args.parts.now)) fault (λ m. cc) c.in_err-check_flows.ensures
-        (flows_linked _ _ _ (parts_of c.args.parts.now) (λ a b there. (t.set (a, b)).1 there) h),
+          (flows_linked _ _ _ (parts_of c.args.parts.now) (λ a b there. (t.set (a, b)).1 there) h),
     )
 
 pub returns-clause-yes : goal.returns-clause-yes

@@ -1,4 +1,4 @@
-use Rattle.std.proofs.Common.{arith, ap, sym, subst, length}
+use Rattle.std.proofs.Common.{arith, sym, subst}
 use Rattle.certificate.specs.Groups.{AreWithin}
 use Rattle.certificate.proofs.Searching.{search_all}
 use Rattle.certificate.proofs.cycles.no_cycle.Goals as goal

@@ -1,7 +1,7 @@
-use Rattle.std.proofs.Common.{arith, ◌≡◌, ◌+◌, ◌-◌, ◌*◌, ◌<◌, ◌≤◌, ℕ, length, slice_index_or, slice_set, ap, sym, ◌∙◌, subst, refl, take, rules}
+use Rattle.std.proofs.Common.{arith, ◌≡◌, ◌-◌, ◌<◌, ℕ, length, slice_set, ap, sym, ◌∙◌, subst, refl, take, rules}
 use Rattle.certificate.specs.declared.cycles.Visit.TheVariants.{Done}
-use Rattle.certificate.specs.Searches.{GoesOn, work_of}
-use Rattle.certificate.proofs.Searching.{IsTop, finished, finished_less, passed, passed_less, opened, opened_less, cycle_found, read_top, read_left, read_visit, next_of, above_way, goes_on_same, work_same}
+use Rattle.certificate.specs.Searches.{GoesOn}
+use Rattle.certificate.proofs.Searching.{finished, finished_less, passed, passed_less, opened, opened_less, cycle_found, read_top, read_left, read_visit, next_of, above_way, goes_on_same, work_same}
 use Rattle.certificate.proofs.cycles.step.Goals as goal
 
 pub returns-then-left-eq0-clause-goes_on : goal.returns-then-left-eq0-clause-goes_on

@@ -1,4 +1,4 @@
-use Rattle.std.proofs.Common.{◌≡◌, ℕ, ◌+◌, ◌<◌, ◌≤◌, arith, refl, sym, subst, ap, ◌∙◌, inl, inr, length}
+use Rattle.std.proofs.Common.{◌≡◌, arith, refl, sym, subst, ap, ◌∙◌, inl, inr, length}
 use Rattle.std.specs.Prelude.{Contains}
 use Rattle.std.proofs.lemmas.Bool.{cases_eq}
 use Rattle.graph_model.specs.Rates.{sums}
@@ -26,8 +26,7 @@ total-sum-requires-clause-few c =
 pub returns-then-not-is_same : goal.returns-then-not-is_same
 returns-then-not-is_same c =
     let ids = c.as_slice.ensures ∙ ids_here c.args.parts.now c.loop-part.part-index c.part-item.result c.loop-part-test.true c.part-item.is in
-    let rate = rate_read c.args.parts.now c.loop-part.part-index c.part-item.result c.loop-part-test.true ∙ sym (ap (λ (p : Part). p.rate) c.part-item.is) in
-    (
+    let rate = rate_read c.args.parts.now c.loop-part.part-index c.part-item.result c.loop-part-test.true ∙ sym (ap (λ (p : Part). p.rate) c.part-item.is) in (
       refl,
       λ all. c.if-not-is_same.ensures (c.total-sum.ensures ∙ ap (sums (rate_in c.args.txs.now)) ids ∙ sym (all c.loop-part.part-index c.loop-part-test.true) ∙ rate),
     )

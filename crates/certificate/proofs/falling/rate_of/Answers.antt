@@ -1,6 +1,5 @@
-use Rattle.std.proofs.Common.{◌≡◌, sym, ◌∙◌, ap, unsigned_abs, ◌≤◌, ℤ, subst}
+use Rattle.std.proofs.Common.{sym, ◌∙◌, ap}
 use Rattle.fee_rate.specs.declared.rates.Sum.{Sum}
-use Rattle.fee_rate.specs.Limits.{greatest_fee}
 use Rattle.certificate.proofs.RateLemmas.{rate_found, within_here, kept_fee, kept_abs, rate_here}
 use Rattle.certificate.proofs.falling.rate_of.Goals as goal
 

@@ -1,9 +1,5 @@
-use Rattle.std.proofs.Common.{◌≡◌, arith, ◌+◌, ◌∙◌, ap, sym, subst, ◌+ℤ◌, take, length, refl}
-use Rattle.std.proofs.lemmas.List.{take_all}
+use Rattle.std.proofs.Common.{arith, ◌+◌, ◌∙◌, ◌+ℤ◌, refl}
 use Rattle.fee_rate.specs.declared.rates.Sum.{Sum}
-use Rattle.fee_rate.specs.Limits.{IsSum}
-use Rattle.graph_model.specs.Rates.{sums}
-use Rattle.graph_model.specs.Certificates.{rate_in}
 use Rattle.certificate.proofs.RateLemmas.{all_within, sum_range, sum_next}
 use Rattle.certificate.proofs.falling.total.Goals as goal
 

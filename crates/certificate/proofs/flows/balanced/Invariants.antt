@@ -7,4 +7,4 @@ use Rattle.certificate.proofs.flows.balanced.Given as goal
 abbrev pub invariant-loop-id : goal.invariant-loop-id
 invariant-loop-id l =
     (k place : ℕ) → k < l.id-index → hash.get nat_eq l.names (slice_index l.ids k) ≡ Some place
-        → weight_in l.rate (rate_in l.txs (slice_index l.ids k)) ≡ (account_at l.accounts place).net
+    → weight_in l.rate (rate_in l.txs (slice_index l.ids k)) ≡ (account_at l.accounts place).net

@@ -1,8 +1,8 @@
-use Rattle.std.proofs.Common.{arith, ◌≡◌, ◌<◌, ◌^◌, ◌≤◌, subst, take, nat_eq, length}
+use Rattle.std.proofs.Common.{arith, subst, nat_eq}
 use Rattle.std.specs.HashMap as hash
 use Rattle.std.proofs.lemmas.List.{take_all}
 use Rattle.graph_model.specs.Certificates.{given, gotten}
-use Rattle.certificate.proofs.Bookings.{Nets, nets_none, flow_at, flow_here, open_place, pay_fits, paid, draw_fits, drawn, amount_bound}
+use Rattle.certificate.proofs.Bookings.{Nets, nets_none, flow_here, open_place, pay_fits, paid, draw_fits, drawn, amount_bound}
 use Rattle.certificate.proofs.flows.book.Goals as goal
 
 pub loop-flow-init : goal.loop-flow-init

@@ -25,8 +25,8 @@ returns-in_err-flows_inside-clause-certified c =
     let p = err_from_is_err_and c.from_residual-in_err-flows_inside.result c.from_residual-in_err-flows_inside.ensures.1 in
     rw (p.1, p.2)
     (says_whole faults.Flow (AreInside (hash.get nat_eq c.args.tables.now.names) (IsEdge c.args.tables.now) c.open.new.accounts c.args.part c.args.flows.now)
-      (Certifies (rate_in c.args.txs.now) (IsEdge c.args.tables.now) c.args.ids.now c.args.flows.now) c.in_err-flows_inside.field-0.0
-      (inside_part _ _ _ c.args.ids.now c.args.flows.now c.args.part c.open.new.accounts c.open.ensures.opened) c.in_err-flows_inside.ensures)
+    (Certifies (rate_in c.args.txs.now) (IsEdge c.args.tables.now) c.args.ids.now c.args.flows.now) c.in_err-flows_inside.field-0.0
+    (inside_part _ _ _ c.args.ids.now c.args.flows.now c.args.part c.open.new.accounts c.open.ensures.opened) c.in_err-flows_inside.ensures)
 
 pub book-requires-clause-inside : goal.book-requires-clause-inside
 book-requires-clause-inside c flow here = let i = c.in_ok-flows_inside.ensures flow here in (i.1, i.2)
@@ -39,8 +39,8 @@ returns-in_err-balanced-clause-certified c =
     let p = err_from_is_err_and c.from_residual-in_err-balanced.result c.from_residual-in_err-balanced.ensures.1 in
     rw (p.1, p.2)
     (says_whole faults.Flow (AreBalanced (hash.get nat_eq c.args.tables.now.names) (rate_in c.args.txs.now) c.args.rate c.args.ids.now c.book.new.accounts)
-      (Certifies (rate_in c.args.txs.now) (IsEdge c.args.tables.now) c.args.ids.now c.args.flows.now) c.in_err-balanced.field-0.0
-      (balanced_part _ _ _ c.args.rate c.args.ids.now c.args.flows.now c.args.part c.open.new.accounts c.book.new.accounts c.open.ensures.opened c.book.ensures.parts c.book.ensures.net c.requires.summed) c.in_err-balanced.ensures)
+    (Certifies (rate_in c.args.txs.now) (IsEdge c.args.tables.now) c.args.ids.now c.args.flows.now) c.in_err-balanced.field-0.0
+    (balanced_part _ _ _ c.args.rate c.args.ids.now c.args.flows.now c.args.part c.open.new.accounts c.book.new.accounts c.open.ensures.opened c.book.ensures.parts c.book.ensures.net c.requires.summed) c.in_err-balanced.ensures)
 
 pub returns-clause-certified : goal.returns-clause-certified
 returns-clause-certified c =

@@ -1,8 +1,7 @@
-use Rattle.std.proofs.Common.{◌≡◌, ℕ, ◌+◌, ◌<◌, ◌^◌, ◌≤◌, arith, sym, subst, ap, ◌∙◌, inl, inr, length, nat_eq}
+use Rattle.std.proofs.Common.{◌<◌, ◌^◌, arith, sym, subst, ap, ◌∙◌, inl, inr}
 use Rattle.std.specs.Prelude.{Contains}
 use Rattle.std.proofs.lemmas.Bool.{cases_eq}
 use Rattle.std.proofs.lemmas.Result.{err_from_is_err_and}
-use Rattle.fee_rate.specs.declared.rates.Sum.{Sum}
 use Rattle.fee_rate.specs.Limits.{IsSum}
 use Rattle.graph_model.specs.Rates.{sums}
 use Rattle.graph_model.specs.Certificates.{Certifies, HasFlows, rate_in}
@@ -49,21 +48,20 @@ returns-in_err-check_part c =
     let p = err_from_is_err_and c.from_residual.result c.from_residual.ensures.1 in
     rw (p.1, p.2)
     (says_whole faults.Flow (Certifies (rate_in c.args.txs.now) (IsEdge c.args.tables.now) c.as_slice-ids.result.now c.as_slice-flows.result.now)
-      (HasFlows (rate_in c.args.txs.now) (IsEdge c.args.tables.now) (parts_of c.args.parts.now)) c.in_err-check_part.field-0.0
-      (λ h.
-          subst (λ l. Certifies (rate_in c.args.txs.now) (IsEdge c.args.tables.now) l c.as_slice-flows.result.now) (sym ids)
-          (subst (λ f. Certifies (rate_in c.args.txs.now) (IsEdge c.args.tables.now) (ids_at c.args.parts.now c.loop-at.at) f) (sym flows) (certified_part _ _ c.args.parts.now c.loop-at.at c.loop-at-test.true h)))
-      c.in_err-check_part.ensures.certified)
+    (HasFlows (rate_in c.args.txs.now) (IsEdge c.args.tables.now) (parts_of c.args.parts.now)) c.in_err-check_part.field-0.0
+    (λ h.
+    subst (λ l. Certifies (rate_in c.args.txs.now) (IsEdge c.args.tables.now) l c.as_slice-flows.result.now) (sym ids)
+    (subst (λ f. Certifies (rate_in c.args.txs.now) (IsEdge c.args.tables.now) (ids_at c.args.parts.now c.loop-at.at) f) (sym flows) (certified_part _ _ c.args.parts.now c.loop-at.at c.loop-at-test.true h)))
+    c.in_err-check_part.ensures.certified)
 
 pub loop-at-preserved : goal.loop-at-preserved
 loop-at-preserved c =
     let ids = c.as_slice-ids.ensures ∙ ids_here c.args.parts.now c.loop-at.at c.index-parts-at.result c.loop-at-test.true c.index-parts-at.is in
     let flows = c.as_slice-flows.ensures ∙ flows_here c.args.parts.now c.loop-at.at c.index-parts-at.result c.loop-at-test.true c.index-parts-at.is in
     let here : IsCertified (rate_in c.args.txs.now) (IsEdge c.args.tables.now) c.args.parts.now c.loop-at.at =
-        subst (λ l. Certifies (rate_in c.args.txs.now) (IsEdge c.args.tables.now) l (flows_at c.args.parts.now c.loop-at.at)) ids
-        (subst (λ f. Certifies (rate_in c.args.txs.now) (IsEdge c.args.tables.now) c.as_slice-ids.result.now f) flows c.in_ok-check_part.ensures.certified)
-    in
-    (
+    subst (λ l. Certifies (rate_in c.args.txs.now) (IsEdge c.args.tables.now) l (flows_at c.args.parts.now c.loop-at.at)) ids
+    (subst (λ f. Certifies (rate_in c.args.txs.now) (IsEdge c.args.tables.now) c.as_slice-ids.result.now f) flows c.in_ok-check_part.ensures.certified)
+    in (
       c.in_ok-check_part.ensures.bound,
       λ k less.
           elim (cases_eq k c.loop-at.at) [

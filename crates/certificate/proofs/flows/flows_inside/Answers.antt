@@ -1,4 +1,4 @@
-use Rattle.std.proofs.Common.{◌≡◌, ℕ, ◌+◌, ◌<◌, arith, refl, subst, sym, ◌∙◌, inl, inr, nat_eq}
+use Rattle.std.proofs.Common.{arith, refl, subst, sym, ◌∙◌, inl, inr, nat_eq}
 use Rattle.std.proofs.lemmas.Bool.{cases_eq}
 use Rattle.std.specs.HashMap as hash
 use Rattle.graph_model.specs.declared.names.Flow.{Flow}
@@ -20,11 +20,11 @@ pub loop-flow-preserved : goal.loop-flow-preserved
 loop-flow-preserved c k less =
     elim (cases_eq k c.loop-flow.flow-index) [
       | inl same ↦
-        subst
-        (λ i. IsEdge c.args.tables.now (flow_at c.args.flows.now i).parent (flow_at c.args.flows.now i).child
+          subst
+          (λ i. IsEdge c.args.tables.now (flow_at c.args.flows.now i).parent (flow_at c.args.flows.now i).child
           × IsOpen (hash.get nat_eq c.args.tables.now.names) c.args.accounts.now c.args.part (flow_at c.args.flows.now i).child
           × IsOpen (hash.get nat_eq c.args.tables.now.names) c.args.accounts.now c.args.part (flow_at c.args.flows.now i).parent)
-        (sym same) (sym c.if-not-contains.ensures, c.if-not-is_open.ensures, c.if-not-is_open-2.ensures)
+          (sym same) (sym c.if-not-contains.ensures, c.if-not-is_open.ensures, c.if-not-is_open-2.ensures)
       | inr other ↦ c.loop-flow.invariant k (omega arith)
     ]
 
@@ -33,6 +33,6 @@ returns c flow here =
     let (k, in', is) = flow_of c.args.flows.now flow here in
     subst
     (λ (f : Flow). IsEdge c.args.tables.now f.parent f.child
-      × IsOpen (hash.get nat_eq c.args.tables.now.names) c.args.accounts.now c.args.part f.child
-      × IsOpen (hash.get nat_eq c.args.tables.now.names) c.args.accounts.now c.args.part f.parent)
+    × IsOpen (hash.get nat_eq c.args.tables.now.names) c.args.accounts.now c.args.part f.child
+    × IsOpen (hash.get nat_eq c.args.tables.now.names) c.args.accounts.now c.args.part f.parent)
     is (c.loop-flow.invariant k (omega arith))

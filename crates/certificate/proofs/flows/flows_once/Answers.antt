@@ -1,4 +1,4 @@
-use Rattle.std.proofs.Common.{arith, refl, sym, subst, ap, ◌∙◌, ◌≡◌, ℕ}
+use Rattle.std.proofs.Common.{arith, refl, subst}
 use Rattle.std.proofs.lemmas.List.{take_all}
 use Rattle.graph_model.specs.Graphs.{AreDistinct}
 use Rattle.certificate.specs.Accounts.{ends_of}

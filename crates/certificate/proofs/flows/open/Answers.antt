@@ -1,4 +1,4 @@
-use Rattle.std.proofs.Common.{rules, arith, ◌≡◌, ◌<◌, length, sym, subst, ◌∙◌, take, nat_eq}
+use Rattle.std.proofs.Common.{rules, arith, ◌<◌, length, sym, subst, nat_eq}
 use Rattle.std.specs.HashMap as hash
 use Rattle.std.proofs.lemmas.List.{take_all}
 use Rattle.std.proofs.lemmas.List.Elements.{Contains-get_or}
@@ -24,8 +24,7 @@ loop-id-init c = (open_none _ _ _ c.requires.later, λ x e. let l = c.requires.l
 
 pub loop-id-preserved : goal.loop-id-preserved
 loop-id-preserved c =
-    let in' = subst (λ n. c.place_of-place.result < n) (sym c.loop-id.auto.accounts) (known_place _ c.args.ids.now _ c.loop-id.id-index _ c.loop-id-test.true c.requires.known c.place_of-place.ensures) in
-    (
+    let in' = subst (λ n. c.place_of-place.result < n) (sym c.loop-id.auto.accounts) (known_place _ c.args.ids.now _ c.loop-id.id-index _ c.loop-id-test.true c.requires.known c.place_of-place.ensures) in (
       open_more _ c.args.ids.now c.args.part c.loop-id.accounts c.loop-id.id-index c.place_of-place.result c.loop-id-test.true c.loop-id.invariant.0 c.place_of-place.ensures in',
       empty_more c.args.part c.place_of-place.result c.loop-id.accounts in' c.loop-id.invariant.1,
     )

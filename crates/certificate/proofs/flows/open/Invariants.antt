@@ -1,4 +1,4 @@
-use Rattle.std.proofs.Common.{◌≡◌, ℕ, take, length, nat_eq, pos}
+use Rattle.std.proofs.Common.{◌≡◌, ℕ, take, nat_eq, pos}
 use Rattle.std.specs.HashMap as hash
 use Rattle.certificate.specs.Accounts.{AreOpen, account_at}
 use Rattle.certificate.proofs.flows.open.Given as goal

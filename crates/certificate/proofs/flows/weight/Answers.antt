@@ -1,4 +1,4 @@
-use Rattle.std.proofs.Common.{◌≡◌, ℕ, arith, ap, sym, ◌∙◌, ℤ, pos, ◌*ℤ◌, ◌^◌, ◌<◌, ◌≤◌, unsigned_abs, refl}
+use Rattle.std.proofs.Common.{◌≡◌, ℕ, arith, ap, ◌∙◌, ℤ, pos, ◌*ℤ◌, ◌^◌, ◌<◌, ◌≤◌, unsigned_abs, refl}
 use Rattle.std.proofs.lemmas.Int.{ints}
 use Rattle.certificate.proofs.Bookings.{weight_kept, kept}
 use Rattle.certificate.proofs.flows.weight.Goals as goal

@@ -1,11 +1,11 @@
-use Rattle.std.proofs.Common.{arith, refl, subst, sym}
+use Rattle.std.proofs.Common.{refl, subst, sym}
 use Rattle.std.proofs.lemmas.Result.{err_from_is_err_and}
 use Rattle.graph_model.specs.Certificates.{HasGraph}
 use Rattle.graph_model.specs.Graphs.{HasNoCycle}
 use Rattle.certificate.specs.declared.fault.CheckFault.TheVariants.{Graph}
 use Rattle.certificate.specs.Places.{AreOf}
 use Rattle.certificate.specs.Tables.{names_of}
-use Rattle.certificate.proofs.GraphLemmas.{says_whole, edges_acyclic, pairs_acyclic, ends_are_names, is_graph, limits_part}
+use Rattle.certificate.proofs.GraphLemmas.{says_whole, pairs_acyclic, is_graph, limits_part}
 use Rattle.certificate.proofs.graph.check_graph.Goals as goal
 
 pub returns-then-not-are_in_limits-clause-fault : goal.returns-then-not-are_in_limits-clause-fault

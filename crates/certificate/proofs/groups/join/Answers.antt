@@ -1,6 +1,6 @@
-use Rattle.std.proofs.Common.{arith, ◌≡◌, ◌<◌, length, ap, sym, ◌∙◌, slice_set, subst}
-use Rattle.certificate.specs.Groups.{IsForest, JoinsRoots, root_of}
-use Rattle.certificate.proofs.Forests.{KeepsRoots, forest_joined, join_same, join_lower, swap_joined}
+use Rattle.std.proofs.Common.{arith, ◌≡◌, sym, ◌∙◌, slice_set, subst}
+use Rattle.certificate.specs.Groups.{JoinsRoots, root_of}
+use Rattle.certificate.proofs.Forests.{KeepsRoots, join_lower, swap_joined}
 use Rattle.certificate.proofs.groups.join.Goals as goal
 
 pub returns-then-first-second-clause-joined : goal.returns-then-first-second-clause-joined

@@ -1,6 +1,5 @@
-use Rattle.std.proofs.Common.{arith, ◌≡◌, ◌<◌, ℕ, sym, subst, ap, ◌∙◌, length, take, get_or}
+use Rattle.std.proofs.Common.{arith, ℕ, sym, subst}
 use Rattle.std.proofs.lemmas.List.{take_more, take_all}
-use Rattle.certificate.specs.Groups.{AreWithin}
 use Rattle.certificate.proofs.Forests.{tells_none, tells_more, flat_groups, Tells}
 use Rattle.certificate.proofs.groups.join_all.Goals as goal
 

@@ -1,4 +1,4 @@
-use Rattle.std.proofs.Common.{arith, ◌≡◌, ℕ, ◌<◌, length, slice_index_or, slice_set, ap, sym, ◌∙◌}
+use Rattle.std.proofs.Common.{arith, ◌≡◌, ℕ, ◌<◌, length, slice_index_or, slice_set, sym, ◌∙◌}
 use Rattle.std.proofs.lemmas.List.{length-set}
 use Rattle.certificate.specs.Groups.{IsForest, root_of}
 use Rattle.certificate.proofs.Forests.{forest_over, roots_over, root_step, root_fixed}

@@ -1,8 +1,8 @@
-use Rattle.std.proofs.Common.{arith, refl, sym, subst, ℕ}
+use Rattle.std.proofs.Common.{arith, refl, sym, subst}
 use Rattle.std.proofs.lemmas.List.{take_all}
 use Rattle.std.specs.Prelude.{Contains}
 use Rattle.graph_model.specs.Graphs.{AreDistinct}
-use Rattle.certificate.proofs.Sets.{Holds, held, holding, upto_more, upto_again, upto_none}
+use Rattle.certificate.proofs.Sets.{held, holding, upto_more, upto_again}
 use Rattle.certificate.proofs.names.edge_set.Goals as goal
 
 pub loop-edge-preserved : goal.loop-edge-preserved

@@ -1,4 +1,4 @@
-use Rattle.std.proofs.Common.{arith, ap, sym, ◌∙◌, subst, refl, ◌≡◌, ◌+◌, take}
+use Rattle.std.proofs.Common.{sym, ◌∙◌, subst, refl, ◌+◌, take}
 use Rattle.certificate.specs.Places.{ArePairs}
 use Rattle.certificate.proofs.PlaceLemmas.{no_parent, no_child, more_pairs}
 use Rattle.certificate.proofs.names.ends.Goals as goal

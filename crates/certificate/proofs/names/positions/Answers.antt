@@ -1,4 +1,4 @@
-use Rattle.std.proofs.Common.{arith, ◌≡◌, ◌<◌, length, ap, sym, ◌∙◌, subst, refl, map, ℕ, ℤ}
+use Rattle.std.proofs.Common.{◌<◌, sym, ◌∙◌, subst, refl, ℕ, ℤ}
 use Rattle.std.proofs.lemmas.List.{length-map}
 use Rattle.certificate.proofs.PlaceLemmas.{places_next, places_again, name_at}
 use Rattle.certificate.proofs.names.positions.Goals as goal

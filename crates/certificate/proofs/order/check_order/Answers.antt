@@ -1,4 +1,4 @@
-use Rattle.std.proofs.Common.{◌≡◌, ℕ, ◌<◌, arith, refl, sym, subst, ◌∙◌, length, map, nat_eq, ap, ℤ}
+use Rattle.std.proofs.Common.{◌≡◌, ℕ, ◌<◌, sym, subst, ◌∙◌, length, map, nat_eq, ap, ℤ}
 use Rattle.std.specs.HashMap as hash
 use Rattle.std.proofs.lemmas.List.{length-map}
 use Rattle.std.proofs.lemmas.Result.{err_from_is_err_and}
@@ -6,7 +6,7 @@ use Rattle.graph_model.specs.Certificates.{HasOrder, graph_of}
 use Rattle.certificate.specs.declared.fault.CheckFault.TheVariants.{Order}
 use Rattle.certificate.specs.Groups.{AreGroups}
 use Rattle.certificate.specs.Orders.{IsOrderOf, AreRanks, Rise, AreOfOneGroup}
-use Rattle.certificate.specs.Parts.{ids_at, order_of, parts_of}
+use Rattle.certificate.specs.Parts.{ids_at, parts_of}
 use Rattle.certificate.specs.Places.{named}
 use Rattle.certificate.specs.Tables.{names_of}
 use Rattle.certificate.proofs.GraphLemmas.{says_whole}

@@ -1,4 +1,4 @@
-use Rattle.std.proofs.Common.{◌≡◌, ℕ, ◌<◌, arith, refl, sym, subst, ◌∙◌, ◌+◌, length, nat_eq, inl, inr}
+use Rattle.std.proofs.Common.{ℕ, ◌<◌, arith, sym, subst, ◌∙◌, length, nat_eq, inl, inr}
 use Rattle.std.specs.Prelude.{Contains}
 use Rattle.std.specs.HashMap as hash
 use Rattle.std.proofs.lemmas.Bool.{cases_eq}

@@ -1,4 +1,4 @@
-use Rattle.std.proofs.Common.{◌≡◌, ℕ, ◌<◌, arith, rules, length, sym, subst, map, Some, ◌∙◌, List, Option}
+use Rattle.std.proofs.Common.{ℕ, ◌<◌, arith, length, sym, subst, ◌∙◌}
 use Rattle.std.specs.Prelude.{IsSome}
 use Rattle.std.proofs.lemmas.Result.{err_from_is_err_and}
 use Rattle.certificate.specs.declared.fault.CheckFault.TheVariants.{Order}

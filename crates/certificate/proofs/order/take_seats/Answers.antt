@@ -1,5 +1,4 @@
-use Rattle.std.proofs.Common.{rules, arith, refl, sym, ◌∙◌, length, ◌<◌}
-use Rattle.std.proofs.lemmas.List.{get_or_default}
+use Rattle.std.proofs.Common.{rules, refl, sym, ◌∙◌, length, ◌<◌}
 use Rattle.certificate.proofs.Seats.{place_in, seats_more, unknown, seated_again}
 use Rattle.certificate.proofs.order.take_seats.Goals as goal
 
