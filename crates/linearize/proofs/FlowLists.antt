@@ -9,7 +9,7 @@ use Rattle.std.specs.Ordering.{nat_cmp}
 use Rattle.std.specs.FinSet as fin
 use Rattle.bitset.specs.Places.{places}
 use Rattle.graph_model.specs.declared.names.Flow.{Flow}
-use Rattle.linearize.specs.Drafts.{Written, all_flows, flows_in}
+use Rattle.linearize.specs.Drafts.{Written, all_flows, flows_in, with_flows}
 use Rattle.linearize.specs.Orders.{flows_from, flows_of, parents_within}
 use Rattle.linearize.proofs.Places.{Goes, goes_on, gone}
 
@@ -45,10 +45,6 @@ unfolding flows_of
 of_nil n parents s flow = refl
 
 -- ---- the loops that write them
--- more flows of the open part
-abbrev pub with_flows : Written → List Flow → Written
-with_flows old more = record { parts = old.parts; ids = old.ids; flows = old.flows ++ more }
-
 pub with_none : (old : Written) → old ≡ with_flows old []
 with_none old = λ i. record { parts = old.parts; ids = old.ids; flows = sym (append-nil old.flows) i }
 

@@ -22,7 +22,6 @@ use Rattle.linearize.specs.Graphs.{sum_at}
 use Rattle.linearize.specs.Orders.{AreCovers, Balances, IsOrderOf, flows_of, parents_within, sums_in}
 use Rattle.linearize.specs.Splits.{Linearizes, Adds, HasRoom, IsUpper, IsLower}
 use Rattle.linearize.proofs.Certified.{Sent, in_of, ends_of, given_is, gotten_is}
-use Rattle.linearize.proofs.FlowLists.{with_flows}
 use Rattle.linearize.proofs.Lists.{distinct_places, from_map, to_map, total_any_order, sum_any_order}
 use Rattle.linearize.proofs.Places.{Contains-head, Contains-later, Contains-cases, none_in_empty}
 use Rattle.linearize.proofs.Sets.{from_meet}

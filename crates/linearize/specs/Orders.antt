@@ -44,3 +44,7 @@ parents_within n parents s child = places n (set.intersection (parents_at parent
 -- what the places of a list send to their covering parents in a set
 unfoldable pub flows_of : ℕ → List (set.FinSet nat_cmp) → set.FinSet nat_cmp → (ℕ → ℕ → ℕ) → List ℕ → List Flow
 flows_of n parents s flow children = flat_map (λ child. flows_from flow child (parents_within n parents s child)) children
+
+-- what the places of a set send within it
+abbrev pub flows_in_set : ℕ → List (set.FinSet nat_cmp) → set.FinSet nat_cmp → (ℕ → ℕ → ℕ) → List Flow
+flows_in_set n parents s flow = flows_of n parents s flow (places n s)

@@ -1,14 +1,14 @@
 -- What a set of places is linearized to.
-use Rattle.std.specs.Prelude.{◌≡◌, ◌≢◌, ℕ, ◌+◌, ◌*◌, ◌≤◌, pos, ◌<ℤ◌, ◌≤ℤ◌, true, List, [], ◌++◌, length, Contains}
+use Rattle.std.specs.Prelude.{◌≡◌, ◌≢◌, ℕ, ◌+◌, ◌*◌, ◌<◌, ◌≤◌, pos, ◌<ℤ◌, ◌≤ℤ◌, true, List, [], ◌++◌, length, Contains}
 use Rattle.std.specs.Ordering.{nat_cmp}
 use Rattle.std.specs.FinSet as set
 use Rattle.fee_rate.specs.declared.rates.Sum.{Sum}
 use Rattle.fee_rate.specs.Rates.{AtMost}
 use Rattle.graph_model.specs.Certificates.{Part, HasFalling, HasFlows, weight_in}
-use Rattle.dep_graph.specs.Graph.{Graph, IsCover}
-use Rattle.linearize.specs.Graphs.{sum_at}
+use Rattle.dep_graph.specs.Graph.{Graph, IsCover, IsClosed, HoldsMembers}
+use Rattle.linearize.specs.Graphs.{HasRates, most_members, sum_at}
 use Rattle.linearize.specs.Drafts.{Written, placed, flows_in}
-use Rattle.linearize.specs.Orders.{IsOrderOf, sums_in}
+use Rattle.linearize.specs.Orders.{AreCovers, IsOrderOf, sums_in}
 
 -- some places of a set, with every covering parent of the set
 pub record IsUpper (dep : Graph) (s x : set.FinSet nat_cmp) : Type 0 where
@@ -51,3 +51,13 @@ pub record HasRoom (n : ℕ) (s : set.FinSet nat_cmp) (written : Written) : Type
   pub for_places : length (placed written.parts) + set.len s ≤ n
   pub for_parts : length written.parts + set.len s ≤ n
   pub for_flows : 4 * length (flows_in written.parts) + set.len s * set.len s ≤ n * n
+
+-- a set of members that may be linearized, with the covering parents of each member at hand
+pub record IsReady (n : ℕ) (dep : Graph) (parents : List (set.FinSet nat_cmp)) (s : set.FinSet nat_cmp) (written : Written) : Type 0 where
+  pub closed : IsClosed n dep
+  pub members : HoldsMembers dep s
+  pub some : 0 < set.len s
+  pub few : set.len s ≤ most_members
+  pub rates : HasRates dep
+  pub covers : AreCovers dep parents
+  pub room : HasRoom n s written

@@ -34,26 +34,16 @@ split-requires g c =
             (
               narrow,
               (
-                closed,
-                (
-                  member,
-                  (
-                    (let some = c.requires.some in omega (arith, len, some)),
-                    (
-                      (let few = c.requires.few in omega (arith, len, few)),
-                      (
-                        c.requires.rates,
-                        (
-                          c.link.ensures,
-                          (
-                            (let room = c.out.invariant.3 in omega (arith, room, c.as_mut_slice-weights.ensures.len)),
-                            start_room n c.members-members.result c.clear.new.self within c.clear.ensures,
-                          ),
-                        ),
-                      ),
-                    ),
-                  ),
-                ),
+                record {
+                  closed = closed;
+                  members = member;
+                  some = (let some = c.requires.some in omega (arith, len, some));
+                  few = (let few = c.requires.few in omega (arith, len, few));
+                  rates = c.requires.rates;
+                  covers = c.link.ensures;
+                  room = start_room n c.members-members.result c.clear.new.self within c.clear.ensures;
+                },
+                (let room = c.out.invariant.3 in omega (arith, room, c.as_mut_slice-weights.ensures.len)),
               ),
             ),
           ),
