@@ -1,4 +1,5 @@
--- A draft of an order: parts that are closed, and the places and the flows of the part that is open. It is kept as one list of places and one of flows, with the ends of each part in them.
+-- A draft of an order: parts that are closed, and the places and the flows of the part that is open. It is kept as
+-- one list of places and one of flows, with the ends of each part in them.
 use Rattle.std.specs.Prelude.{◌≡◌, ℕ, ◌+◌, ◌-◌, ◌*◌, ◌≤◌, List, [], ◌∷◌, ◌++◌, length, map, flat_map, take, drop}
 use Rattle.graph_model.specs.declared.names.Flow.{Flow}
 use Rattle.graph_model.specs.Certificates.{Part}
@@ -54,7 +55,11 @@ pub record AreShown (shown : List LinearPart) (parts : List Part) : Type 0 where
 abbrev pub parts_from : ℕ → ℕ → List LinearPart → List ℕ → List PlaceFlow → List Part
 parts_from i j [] order flows = []
 parts_from i j (part ∷ parts) order flows =
-    record { rate = sum_from part.rate; ids = take (part.end - i) order; flows = map named (take (part.flow_end - j) flows) }
+    record {
+      rate = sum_from part.rate;
+      ids = take (part.end - i) order;
+      flows = map named (take (part.flow_end - j) flows);
+    }
     ∷ parts_from part.end part.flow_end parts (drop (part.end - i) order) (drop (part.flow_end - j) flows)
 
 -- what is left of a list behind the last end
