@@ -1,6 +1,8 @@
 -- Laws of sums of integers over lists.
-use Rattle.std.proofs.Common.{◌≡◌, List, [], ◌∷◌, ◌++◌, Bool, true, false, not, cond, ℤ, pos, ◌+ℤ◌, ◌-ℤ◌, ◌*ℤ◌, neg_ℤ, ◌≤ℤ◌, refl, sym, ap, ◌∙◌, arith}
+use Rattle.std.proofs.Common.{◌≡◌, ℕ, ◌*◌, ◌≤◌, length, unsigned_abs, List, [], ◌∷◌, ◌++◌, Bool, true, false, not, cond, ℤ, pos, ◌+ℤ◌, ◌-ℤ◌, ◌*ℤ◌, neg_ℤ, ◌≤ℤ◌, refl, sym, ap, ◌∙◌, arith}
+use Rattle.std.specs.Prelude.{All}
 use Rattle.std.specs.List.{filter}
+use Rattle.std.proofs.lemmas.List.Elements.{All-head, All-tail}
 use Rattle.std.proofs.lemmas.Int.{ints}
 use Rattle.arithmetic.specs.Sums.{total}
 use Rattle.arithmetic.proofs.Products.{mul-add_left}
@@ -67,3 +69,11 @@ total_keeps f g (x ∷ xs) h = omega (arith, ints, h x, total_keeps f g xs h)
 pub total_at_least_zero : {A : Type 0} (f : A → ℤ) (xs : List A) → ((x : A) → pos 0 ≤ℤ f x) → pos 0 ≤ℤ total f xs
 total_at_least_zero f [] h = omega (arith, ints)
 total_at_least_zero f (x ∷ xs) h = omega (arith, ints, h x, total_at_least_zero f xs h)
+
+-- terms of at most m either way have a sum of at most m for each
+pub total_within : {A : Type 0} (f : A → ℤ) (m : ℕ) (xs : List A) → All (λ x. unsigned_abs (f x) ≤ m) xs → unsigned_abs (total f xs) ≤ m * length xs
+total_within f m [] h = omega (arith, ints)
+total_within f m (x ∷ xs) h =
+    let first : unsigned_abs (f x) ≤ m = All-head (λ y. unsigned_abs (f y) ≤ m) x xs h in
+    let more = total_within f m xs (All-tail (λ y. unsigned_abs (f y) ≤ m) x xs h) in
+    omega (arith, ints)

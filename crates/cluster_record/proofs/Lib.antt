@@ -3,3 +3,7 @@ mod Kept
 mod Single
 mod Lists
 mod Listings
+mod Parts
+mod Walks
+mod Joined
+mod Splits

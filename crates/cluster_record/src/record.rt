@@ -77,7 +77,8 @@ impl<const W: usize> Record<W> {
     /// The total size of its names, in virtual bytes.
     pub fn size(&self) -> u64
         requires { length self.now.names ≤ 1048576 }
-        ensures { result ≡ sum_by (λ id. (rate_of self.now.graph id).size) self.now.names }
+        ensures sum { result ≡ sum_by (λ id. (rate_of self.now.graph id).size) self.now.names }
+        ensures small { result ≤ 4000000 * length self.now.names }
     {
         let mut total = 0;
         for place in 0..self.names.len() {
@@ -200,8 +201,8 @@ fn part<const W: usize>(
     chosen: Bits<W>,
 ) -> Result<Record<W>, NoMemory>
     requires named { IsNamed (64 * W) names.now dep.now }
-    requires within { IsWithin (length names.now) chosen.entry }
-    requires whole { (p q : ℕ) → set.contains chosen.entry p ≡ true → set.contains chosen.entry q ≡ true → Walk (IsNear dep.now chosen.entry) p q }
+    requires within { IsWithin (length names.now) chosen }
+    requires whole { (p q : ℕ) → set.contains chosen p ≡ true → set.contains chosen q ≡ true → Walk (IsNear dep.now chosen) p q }
     ensures part { IfOk result (IsPartOf (record { names = names.now; graph = named names.now dep.now }) chosen.entry) }
     ensures whole { IfOk result (IsCluster (64 * W)) }
 {

@@ -14,7 +14,9 @@ use Rattle.fee_rate.specs.Rates.{AtMost, Below, Same}
 use Rattle.graph_model.specs.Graphs.{Graph, AreDistinct}
 use Rattle.graph_model.specs.Rates.{sum_of, sums, Falls, HasSizes}
 use Rattle.graph_model.specs.Linearizations.{IsClosedWithin, IsTopological, IsUnderLine, IsUnderDiagram, IsOptimal}
-use Rattle.graph_model.specs.Diagrams.{corners_of, FallsStrictly, JoinsEqualRates, AreCorners}
+use Rattle.graph_model.specs.declared.names.Verdict.{Verdict}
+use Rattle.graph_model.specs.declared.names.Verdict.TheVariants.{Better, Worse, Equal, Incomparable}
+use Rattle.graph_model.specs.Diagrams.{Compares, corners_of, FallsStrictly, JoinsEqualRates, AreCorners}
 use Rattle.graph_model.proofs.ListLemmas.{Contains-head, Contains-later, Contains-cases, none_in_empty}
 use Rattle.graph_model.proofs.TangentLemmas.{joined, falls-tail, falls_after}
 use Rattle.graph_model.proofs.BestLemmas.{sums_same_members, sum_of-joined, sizes_some, joined-Contains, front_closed, optimal_bounds}
@@ -683,3 +685,22 @@ joins_first_segment first group after segments some falls same lower joins =
         → FallsStrictly (sum_of (first ∷ group) ∷ others)
     falling [] rest some_first size somes up = tt
     falling (s ∷ others) rest some_first size somes up = (below_chains s first (sum_of (first ∷ group)) some_first size (segment_below first after s others somes rest lower) up, rest.falling)
+
+-- ---- verdicts
+pub one_verdict : (a b : List (ℕ × ℤ)) (v w : Verdict) → Compares a b v → Compares a b w → v ≡ w
+one_verdict a b Better Better one other = refl
+one_verdict a b Better Worse one other = absurd (other.0 one.0)
+one_verdict a b Better Equal one other = absurd (one.1 other.1)
+one_verdict a b Better Incomparable one other = absurd (other.0 one.0)
+one_verdict a b Worse Better one other = absurd (one.0 other.0)
+one_verdict a b Worse Worse one other = refl
+one_verdict a b Worse Equal one other = absurd (one.0 other.0)
+one_verdict a b Worse Incomparable one other = absurd (other.1 one.1)
+one_verdict a b Equal Better one other = absurd (other.1 one.1)
+one_verdict a b Equal Worse one other = absurd (other.0 one.0)
+one_verdict a b Equal Equal one other = refl
+one_verdict a b Equal Incomparable one other = absurd (other.0 one.0)
+one_verdict a b Incomparable Better one other = absurd (one.0 other.0)
+one_verdict a b Incomparable Worse one other = absurd (one.1 other.1)
+one_verdict a b Incomparable Equal one other = absurd (one.0 other.0)
+one_verdict a b Incomparable Incomparable one other = refl

@@ -8,7 +8,8 @@ use Rattle.fee_rate.specs.Rates.{AtMost, Below}
 use Rattle.graph_model.specs.Rates.{sum_of, sums, HasSizes, Falls}
 use Rattle.graph_model.specs.Linearizations.{IsClosedWithin, IsTopological, AreChunks, IsFlat, IsUnderLine, IsUnderDiagram, IsOptimal}
 use Rattle.graph_model.specs.Certificates.{Part, IsCertificate}
-use Rattle.graph_model.specs.Diagrams.{corners_of, JoinsEqualRates, AreCorners}
+use Rattle.graph_model.specs.declared.names.Verdict.{Verdict}
+use Rattle.graph_model.specs.Diagrams.{Compares, corners_of, JoinsEqualRates, AreCorners}
 use Rattle.graph_model.specs.Changes.{IsWithout}
 use Rattle.graph_model.specs.States.{State}
 use Rattle.graph_model.specs.Commands.{Command}
@@ -100,3 +101,7 @@ abbrev pub AncestorsWithoutName : Type 0
 AncestorsWithoutName =
     (old new : Graph) (id : ℕ) → IsWithout old id new → (a b : ℕ) → IsAncestor new.pairs a b
     ↔ ((a ≡ b) ⊎ ((a ≢ id) × (b ≢ id) × IsAncestor old.pairs a b))
+
+-- Two diagrams have at most one verdict.
+abbrev pub VerdictsAreUnique : Type 0
+VerdictsAreUnique = (a b : List (ℕ × ℤ)) (v w : Verdict) → Compares a b v → Compares a b w → v ≡ w

@@ -1,5 +1,5 @@
 //! Laws over the definitions, each the contract of a function that does nothing.
-ghost use Rattle.graph_model.specs.Laws.{AnswersAreInOrder, ReadingsLackNoMemory, RefusedChangesNothing, AncestorsWithPair, ComponentsWithPair, StaysWithoutCycle, CertifiedPartsAreOptimal, OptimalBoundsClosedSets, FlatPartsBoundClosedSets, CornersAreUnique, OptimalEndsAreCorners, EqualRatesJoinOnce, NamesCanGo, StaysGraph, AncestorsWithoutName};
+ghost use Rattle.graph_model.specs.Laws.{AnswersAreInOrder, ReadingsLackNoMemory, RefusedChangesNothing, AncestorsWithPair, ComponentsWithPair, StaysWithoutCycle, CertifiedPartsAreOptimal, OptimalBoundsClosedSets, FlatPartsBoundClosedSets, CornersAreUnique, OptimalEndsAreCorners, EqualRatesJoinOnce, VerdictsAreUnique, NamesCanGo, StaysGraph, AncestorsWithoutName};
 
 /// No answer is lost or out of order: a run over lines that come one after the other is the run over
 /// the first of them, and then over the others.
@@ -79,4 +79,9 @@ pub fn stays_graph()
 /// Without a name the others keep the ancestors that they had among them.
 pub fn ancestors_without_name()
     ensures { AncestorsWithoutName }
+{}
+
+/// Two diagrams have at most one verdict.
+pub fn verdicts_are_unique()
+    ensures { VerdictsAreUnique }
 {}

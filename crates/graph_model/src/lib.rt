@@ -15,6 +15,6 @@ pub use laws::{
     ancestors_with_pair, ancestors_without_name, answers_are_in_order, certified_parts_are_optimal,
     components_with_pair, corners_are_unique, equal_rates_join_once, flat_parts_bound_closed_sets,
     names_can_go, optimal_bounds_closed_sets, optimal_ends_are_corners, readings_lack_no_memory,
-    refused_changes_nothing, stays_graph, stays_without_cycle,
+    refused_changes_nothing, stays_graph, stays_without_cycle, verdicts_are_unique,
 };
 pub use names::{Flow, Level, Limits, Refusal, TxId, Verdict};

@@ -51,11 +51,11 @@ differ_apart (x ∷ xs) (y ∷ ys) h is =
     let same : nat_eq x y ≡ true = eq-eqb x y head in
     differ_apart xs ys (sym (ap (λ b. cond b (differ xs ys) true) same) ∙ h) tail
 
-abbrev has_space : List ℕ → Bool
+abbrev pub has_space : List ℕ → Bool
 has_space [] = false
 has_space (x ∷ xs) = cond (nat_eq x 32) true (has_space xs)
 
-one_word : (bytes : List ℕ) → has_space bytes ≡ false → IsOneWord bytes
+pub one_word : (bytes : List ℕ) → has_space bytes ≡ false → IsOneWord bytes
 one_word [] h = All-nil (λ byte. byte ≢ 32)
 one_word (x ∷ xs) h =
     let none : nat_eq x 32 ≡ true → ⊥ = λ e. let f : true ≡ false = sym (ap (λ b. cond b true (has_space xs)) e) ∙ h in absurd (cc) in

@@ -1,3 +1,13 @@
 pub mod WriteLemmas
 pub mod ReadLemmas
+pub mod BigLemmas
 pub mod FormLemmas
+pub mod RowLemmas
+pub mod ChunkLemmas
+pub mod StageLemmas
+pub mod DraftLemmas
+pub mod TextLemmas
+pub mod LineLemmas
+pub mod AmountLemmas
+pub mod CertificateLemmas
+pub mod CutLemmas

@@ -22,7 +22,7 @@ pub read_on-le : (n : ℕ) (digits : List ℕ) → n ≤ read_on n digits
 read_on-le n [] = omega arith
 read_on-le n (digit ∷ digits) = omega (arith, read_on-le (10 * n + (digit - 48)) digits)
 
-own : IsNumeralModel (λ ds. all_ascii_digits ds ≡ true) (read_on 0)
+pub own : IsNumeralModel (λ ds. all_ascii_digits ds ≡ true) (read_on 0)
 own = numerals_by_fold _ (search rules) read_on (search rules)
 
 -- the spelling of a number is plain
@@ -34,7 +34,7 @@ plain_decimal bytes n fits is = rw is (decimal_nonempty n fits, zero_alone n fit
     zero_alone (suc n) fits head = absurd (omega (arith, first_decimal (suc n) (omega arith) fits))
 
 -- plain digits are the spelling of their value
-pub number_reads : (bytes : List ℕ) (found : Option ℕ) → IsPlain bytes → ReadsDigits bytes found → ReadsAs decimal IsWide bytes found
+pub number_reads : (bytes : List ℕ) (found : Option ℕ) → IsPlain bytes → ReadsDigits (2 ^ 64) bytes found → ReadsAs decimal IsWide bytes found
 number_reads bytes None plain none = λ n fits is.
     none (rw is (digits_decimal own n fits)) (rw is (rw (digits_value-decimal own n fits) fits))
 number_reads bytes (Some n) plain found =

@@ -1,5 +1,5 @@
 -- Numbers as text.
-use Rattle.std.specs.Prelude.{◌≡◌, ℕ, ◌+◌, ◌-◌, ◌*◌, ◌^◌, ◌<◌, true, List, [], ◌∷◌, length, slice_index, Option, None, Some}
+use Rattle.std.specs.Prelude.{◌≡◌, ℕ, ◌+◌, ◌-◌, ◌*◌, ◌<◌, true, List, [], ◌∷◌, length, slice_index, Option, None, Some}
 use Rattle.std.specs.Str.{all_ascii_digits}
 
 -- the value of digits, read from the left on from n
@@ -12,7 +12,7 @@ read_on n (digit ∷ digits) = read_on (10 * n + (digit - 48)) digits
 abbrev pub IsPlain : List ℕ → Type 0
 IsPlain bytes = (0 < length bytes) × (slice_index bytes 0 ≡ 48 → length bytes ≡ 1)
 
--- the value of a text of digits, and nothing where it is no such text or its value hasn't 64 bits
-abbrev pub ReadsDigits : List ℕ → Option ℕ → Type 0
-ReadsDigits bytes None = all_ascii_digits bytes ≡ true → read_on 0 bytes < 2 ^ 64 → ⊥
-ReadsDigits bytes (Some n) = (all_ascii_digits bytes ≡ true) × (n ≡ read_on 0 bytes) × (n < 2 ^ 64)
+-- the value of a text of digits, and nothing where it is no such text or its value isn't below the limit
+abbrev pub ReadsDigits : ℕ → List ℕ → Option ℕ → Type 0
+ReadsDigits limit bytes None = all_ascii_digits bytes ≡ true → read_on 0 bytes < limit → ⊥
+ReadsDigits limit bytes (Some n) = (all_ascii_digits bytes ≡ true) × (n ≡ read_on 0 bytes) × (n < limit)

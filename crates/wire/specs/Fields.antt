@@ -1,5 +1,5 @@
 -- Reading a field of a line: what is found is spelled so, and nothing is found only where no value is.
-use Rattle.std.specs.Prelude.{◌≡◌, ◌≢◌, ℕ, ◌^◌, ◌<◌, List, ◌++◌, ◌∷◌, All, Option, None, Some}
+use Rattle.std.specs.Prelude.{◌≡◌, ◌≢◌, ℕ, ◌^◌, ◌<◌, ◌≤◌, ℤ, unsigned_abs, List, ◌++◌, ◌∷◌, All, Option, None, Some}
 
 -- A spelling gives each value one text. Fits tells the values that have one.
 abbrev pub ReadsAs : {V : Type 0} → (V → List ℕ) → (V → Type 0) → List ℕ → Option V → Type 0
@@ -9,6 +9,16 @@ ReadsAs spelling Fits text (Some value) = Fits value × (text ≡ spelling value
 -- numbers of 64 bits
 abbrev pub IsWide : ℕ → Type 0
 IsWide n = n < 2 ^ 64
+
+-- what certificates have beside names and sizes: numbers of at most 10^30, amounts of 1 or more, and fees
+abbrev pub IsBig : ℕ → Type 0
+IsBig n = n ≤ 10 ^ 30
+
+abbrev pub IsAmount : ℕ → Type 0
+IsAmount n = (1 ≤ n) × IsBig n
+
+abbrev pub IsBigFee : ℤ → Type 0
+IsBigFee fee = IsBig (unsigned_abs fee)
 
 -- two fields with a space between them
 abbrev pub pair_spelling : {A B : Type 0} → (A → List ℕ) → (B → List ℕ) → A × B → List ℕ

@@ -3,3 +3,6 @@ pub mod Readings
 pub mod Digits
 pub mod Forms
 pub mod Pieces
+pub mod Rows
+pub mod Drafts
+pub mod Laws

@@ -54,7 +54,7 @@ pub fn read_line(bytes: &[u8], ids: &mut IdBuf) -> Line
 }
 
 /// The line without the carriage return at its end, if it has one there.
-fn trimmed(bytes: &[u8]) -> &[u8]
+pub(crate) fn trimmed(bytes: &[u8]) -> &[u8]
     ensures { result.now ≡ without_return bytes.now }
 {
     match before_return(bytes) {
@@ -212,7 +212,7 @@ fn three_numbers(text: &[u8]) -> Option<(u64, (u64, u64))>
 }
 
 /// `ID FEE SIZE`
-fn id_fee_size(text: &[u8]) -> Option<(TxId, (i64, u64))>
+pub(crate) fn id_fee_size(text: &[u8]) -> Option<(TxId, (i64, u64))>
     ensures { ReadsAs (pair_spelling decimal (pair_spelling signed_decimal decimal)) (BothFit IsWide (BothFit (FitsSigned w64) IsWide)) text.now result }
 {
     match split_at_byte(text, b' ') {
@@ -242,7 +242,7 @@ fn id_fee(text: &[u8]) -> Option<(TxId, i64)>
 }
 
 /// `ID ID`, or `N N`
-fn two_numbers(text: &[u8]) -> Option<(u64, u64)>
+pub(crate) fn two_numbers(text: &[u8]) -> Option<(u64, u64)>
     ensures { ReadsAs (pair_spelling decimal decimal) (BothFit IsWide IsWide) text.now result }
 {
     match split_at_byte(text, b' ') {

@@ -10,7 +10,7 @@ pub returns-in-Some-clause-step : goal.returns-in-Some-clause-step
 returns-in-Some-clause-step c = steps_refused c.args.self.now c.args.self.now (SetFee c.args.id c.args.fee) c.in-Some.why (itself c.args.self.now) (at_new_fee c.args.self.now c.args.id _ c.args.fee _ (to_z-of_z c.ranges.fee) c.in-Some.ensures.first)
 
 pub invariant_of-self : goal.invariant_of-self
-invariant_of-self c = rw c.set_fee.ensures (sound_paid c.self.inside.limits c.self.inside.txs.items c.self.inside.pairs.items _ c.args.id _ c.self.invariant)
+invariant_of-self c = rw c.set_fee.ensures (sound_paid c.self.inside.limits c.self.inside.txs.items c.self.inside.pairs.items _ _ _ c.self.invariant)
 
 pub returns-clause-step : goal.returns-clause-step
 returns-clause-step c =

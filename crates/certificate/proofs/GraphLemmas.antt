@@ -1,0 +1,63 @@
+-- The first test, put together.
+use Rattle.std.proofs.Common.{◌≡◌, ℕ, ◌+◌, ◌<◌, ◌≤◌, List, length, inl, inr, refl, sym, ap, ◌∙◌, subst, arith, get_or, map, ℤ, pos, Option}
+use Rattle.std.specs.Prelude.{Contains}
+use Rattle.std.proofs.lemmas.List.{get_or_default}
+use Rattle.std.proofs.lemmas.List.Elements.{Contains-get_or}
+use Rattle.graph_model.specs.Limits.{IsFee, IsSize}
+use Rattle.graph_model.specs.Graphs.{HasNoCycle, AreDistinct, IsGraph}
+use Rattle.graph_model.specs.Certificates.{Txs, graph_of, HasGraph}
+use Rattle.certificate.specs.declared.fault.CheckFault.{CheckFault}
+use Rattle.certificate.specs.declared.fault.CheckFault.TheVariants.{Order, Falling, Flow, Graph, Memory}
+use Rattle.certificate.specs.Faults.{Says}
+use Rattle.certificate.specs.Places.{ArePlaces, ArePairs, AreOf, named}
+use Rattle.certificate.specs.Tables.{names_of, AreInLimits}
+use Rattle.certificate.proofs.PlaceLemmas.{places_distinct, found}
+use Rattle.certificate.proofs.Labels.{Labels, no_cycle_named, no_cycle_placed, ends_named}
+
+-- what fails for a part fails for the whole
+pub says_whole : (mine : CheckFault) (Part Whole : Type 0) (fault : CheckFault) → (Whole → Part) → Says mine Part fault → Says mine Whole fault
+says_whole mine Part Whole Memory f h = tt
+says_whole mine Part Whole Order f h = (h.0, (λ w. h.1 (f w)))
+says_whole mine Part Whole Falling f h = (h.0, (λ w. h.1 (f w)))
+says_whole mine Part Whole Flow f h = (h.0, (λ w. h.1 (f w)))
+says_whole mine Part Whole Graph f h = (h.0, (λ w. h.1 (f w)))
+
+pub labels_of : (names : List ℕ) (find : ℕ → Option ℕ) (edges pairs : List (ℕ × ℕ)) → ArePlaces names find → ArePairs names edges pairs → Labels names pairs
+labels_of names find edges pairs h p = record { distinct = places_distinct names find h; within = p.within }
+
+pub edges_acyclic : (names : List ℕ) (find : ℕ → Option ℕ) (edges pairs : List (ℕ × ℕ)) → ArePlaces names find → ArePairs names edges pairs → HasNoCycle pairs → HasNoCycle edges
+edges_acyclic names find edges pairs h p n = subst HasNoCycle (sym p.same) (no_cycle_named names pairs (labels_of names find edges pairs h p) n)
+
+pub pairs_acyclic : (names : List ℕ) (edges pairs : List (ℕ × ℕ)) → ArePairs names edges pairs → HasNoCycle edges → HasNoCycle pairs
+pairs_acyclic names edges pairs p n = no_cycle_placed names pairs (subst HasNoCycle p.same n)
+
+pub ends_are_names : (names : List ℕ) (edges pairs : List (ℕ × ℕ)) → ArePairs names edges pairs → AreOf names edges
+ends_are_names names edges pairs p a b here = ends_named names pairs a b p.within (subst (λ l. Contains {X = ℕ × ℕ} l (a, b)) p.same here)
+
+pub is_graph : (txs : Txs) (find : ℕ → Option ℕ) (edges pairs : List (ℕ × ℕ)) → AreInLimits txs → ArePlaces (names_of txs) find → ArePairs (names_of txs) edges pairs → AreDistinct edges → HasNoCycle pairs → HasGraph txs edges
+is_graph txs find edges pairs l h p d n = record {
+  few = l.few;
+  limits = l.limits;
+  graph = record {
+    names = places_distinct (names_of txs) find h;
+    pairs = d;
+    ends = ends_are_names (names_of txs) edges pairs p;
+    acyclic = edges_acyclic (names_of txs) find edges pairs h p n;
+  };
+}
+
+-- ---- limits
+pub limits_all : (txs : Txs) → length txs ≤ 1048576 → ((k : ℕ) → k < length txs → IsFee (get_or txs k (0, pos 0, 0)).1 × IsSize (get_or txs k (0, pos 0, 0)).2) → AreInLimits txs
+limits_all txs few h = record {
+  few = few;
+  limits =
+      λ id fee size (k, in', e).
+      let same : ◌≡◌ {A = ℕ × ℤ × ℕ} (get_or txs k (0, pos 0, 0)) (id, fee, size) = get_or_default txs k (0, pos 0, 0) (id, fee, size) in' ∙ e in
+      subst (λ (x : ℕ × ℤ × ℕ). IsFee x.1 × IsSize x.2) same (h k in');
+}
+
+pub limits_at : (txs : Txs) (k : ℕ) → AreInLimits txs → k < length txs → IsFee (get_or txs k (0, pos 0, 0)).1 × IsSize (get_or txs k (0, pos 0, 0)).2
+limits_at txs k l in' = l.limits _ _ _ (Contains-get_or txs k (0, pos 0, 0) in')
+
+pub limits_part : (txs : Txs) (edges : List (ℕ × ℕ)) → HasGraph txs edges → AreInLimits txs
+limits_part txs edges h = record { few = h.few; limits = h.limits }

@@ -1,0 +1,16 @@
+pub mod Bookings
+pub mod Distinct
+pub mod FallingLemmas
+pub mod FlowLemmas
+pub mod Forests
+pub mod GraphLemmas
+pub mod Labels
+pub mod Links
+pub mod OrderLemmas
+pub mod PartLemmas
+pub mod PlaceLemmas
+pub mod RateLemmas
+pub mod Searching
+pub mod Seats
+pub mod Sets
+pub mod Whole

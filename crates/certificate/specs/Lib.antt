@@ -1,0 +1,11 @@
+pub mod Accounts
+pub mod Answers
+pub mod Chains
+pub mod Fallings
+pub mod Faults
+pub mod Groups
+pub mod Orders
+pub mod Parts
+pub mod Places
+pub mod Searches
+pub mod Tables

@@ -1,0 +1,34 @@
+-- Orders as ranks: for each place where its name stands in the order.
+use Rattle.std.specs.Prelude.{◌≡◌, ◌↔◌, ℕ, ◌<◌, ◌≤◌, List, length, Contains, Option, Some, None, slice_index, slice_index_or, is_some, count_by}
+use Rattle.graph_model.specs.Graphs.{AreDistinct}
+use Rattle.certificate.specs.Chains.{pair_at}
+
+-- the order is of the names, each once
+pub record IsOrderOf (names order : List ℕ) : Type 0 where
+  pub once : AreDistinct order
+  pub members : (id : ℕ) → Contains order id ↔ Contains names id
+
+-- the seat of a place: where its name stands in the order so far, if it does
+abbrev pub seat_at : List (Option ℕ) → ℕ → Option ℕ
+seat_at seats place = slice_index_or seats place None
+
+pub record AreSeats (names order : List ℕ) (seats : List (Option ℕ)) : Type 0 where
+  pub sized : length seats ≡ length names
+  pub sound : (place rank : ℕ) → place < length names → seat_at seats place ≡ Some rank → (rank < length order) × (slice_index order rank ≡ slice_index names place)
+  pub complete : (rank : ℕ) → rank < length order → (place : ℕ) × (place < length names) × (slice_index names place ≡ slice_index order rank) × (seat_at seats place ≡ Some rank)
+  pub count : length order ≡ count_by is_some seats
+
+-- each place has its rank
+pub record AreRanks (names order ranks : List ℕ) : Type 0 where
+  pub sized : length ranks ≡ length names
+  pub few : length order ≤ length names
+  pub stands : (place : ℕ) → place < length names → (slice_index ranks place < length order) × (slice_index order (slice_index ranks place) ≡ slice_index names place)
+
+-- each pair leads from a lower rank to a higher one
+abbrev pub Rise : List ℕ → List (ℕ × ℕ) → Type 0
+Rise ranks pairs = (k : ℕ) → k < length pairs → slice_index ranks (pair_at pairs k).0 < slice_index ranks (pair_at pairs k).1
+
+-- all names are of one group
+abbrev pub AreOfOneGroup : (ℕ → Option ℕ) → List ℕ → List ℕ → Type 0
+AreOfOneGroup find groups ids =
+    (a b p q : ℕ) → Contains ids a → Contains ids b → find a ≡ Some p → find b ≡ Some q → slice_index groups p ≡ slice_index groups q

@@ -1,0 +1,4 @@
+pub mod Parts
+pub mod Points
+pub mod Walks
+pub mod Comparisons
