@@ -1,4 +1,4 @@
-use Rattle.std.proofs.Common.{◌≡◌, ◌<◌, ◌≤◌, ◌+◌, ◌*◌, ◌∷◌, [], ◌++◌, ◌∙◌, ℕ, ap, sym, subst, arith, length, lit<, List, refl, true, length-append}
+use Rattle.std.proofs.Common.{◌≡◌, ◌≤◌, ◌+◌, ◌*◌, ◌∷◌, [], ◌++◌, ◌∙◌, ℕ, ap, arith, length, lit<, List, length-append}
 use Rattle.bitset.specs.Places.{places}
 use Rattle.closure_flow.specs.Scratches.{flow_of}
 use Rattle.graph_model.specs.declared.names.Flow.{Flow}

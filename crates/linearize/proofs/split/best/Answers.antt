@@ -1,4 +1,4 @@
-use Rattle.std.proofs.Common.{◌≡◌, ◌<◌, ◌≤◌, ◌*◌, ◌^◌, ◌∙◌, ℕ, ap, sym, subst, arith, length, lit<, true}
+use Rattle.std.proofs.Common.{◌≡◌, ◌<◌, ◌*◌, ◌∙◌, ℕ, ap, arith, lit<, true}
 use Rattle.std.specs.FinSet as fin
 use Rattle.bitset.specs.Places.{IsWithin}
 use Rattle.closure_flow.specs.Closures.{weight_at}
