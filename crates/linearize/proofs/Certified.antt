@@ -1,29 +1,24 @@
 -- The flows of a balanced set certify it.
-use Rattle.std.proofs.Common.{◌≡◌, ℕ, zero, suc, ◌+◌, ◌*◌, ◌<◌, ◌≤◌, ◌⊎◌, inl, inr, Bool, true, false, cond, nat_eq, nat_lt, List, [], ◌∷◌, ◌++◌, length, map, filter, sum_by, ℤ, pos, ◌+ℤ◌, ◌-ℤ◌, refl, sym, ap, ◌∙◌, subst, arith, eq-eqb, ne_eqb, length-append}
-use Rattle.std.specs.Prelude.{Contains, ◌↔◌}
+use Rattle.std.proofs.Common.{◌≡◌, ℕ, ◌+◌, ◌<◌, ◌≤◌, inl, inr, Bool, true, false, cond, nat_eq, List, [], ◌∷◌, ◌++◌, map, sum_by, ℤ, pos, refl, sym, ap, ◌∙◌, subst, arith}
+use Rattle.std.specs.Prelude.{Contains}
 use Rattle.std.proofs.lemmas.Int.{ints}
-use Rattle.std.proofs.lemmas.Bool.{cases_eq, cases_lt}
+use Rattle.std.proofs.lemmas.Bool.{cases_lt}
 use Rattle.std.proofs.lemmas.List.{map-append}
 use Rattle.std.proofs.lemmas.List.Sums.{sum_by-cons, sum_by-append}
 use Rattle.std.proofs.lemmas.List.Elements.{Contains-append_cases}
 use Rattle.std.specs.List.{range_with_len}
 use Rattle.std.specs.Ordering.{nat_cmp}
 use Rattle.std.specs.FinSet as fin
-use Rattle.arithmetic.specs.Sums.{total}
 use Rattle.arithmetic.proofs.Sums.{total-filter_cond, total_same}
 use Rattle.bitset.specs.Places.{places, IsWithin}
 use Rattle.bitset.specs.Sets.{Contains-places, places-Contains}
 use Rattle.closure_flow.specs.Closures.{parents_at}
-use Rattle.fee_rate.specs.declared.rates.Sum.{Sum}
 use Rattle.graph_model.specs.declared.names.Flow.{Flow}
 use Rattle.graph_model.specs.Graphs.{AreDistinct}
-use Rattle.graph_model.specs.Rates.{sums}
-use Rattle.graph_model.specs.Certificates.{given, gotten, weight_in, Certifies}
-use Rattle.dep_graph.specs.Graph.{Graph, is_member, IsCover, HoldsMembers}
-use Rattle.linearize.specs.Graphs.{sum_at}
-use Rattle.linearize.specs.Orders.{AreCovers, Balances, IsOrderOf, flows_from, flows_of, parents_within, sums_in}
+use Rattle.graph_model.specs.Certificates.{given, gotten}
+use Rattle.linearize.specs.Orders.{flows_from, flows_of, parents_within}
 use Rattle.linearize.proofs.FlowLists.{from_append, from_one, from_none, from_nil, of_append, of_one, of_nil}
-use Rattle.linearize.proofs.Lists.{distinct_joined, distinct_places, from_map, to_map, pick, pick_in, pick_out, total_any_order, sum_any_order}
+use Rattle.linearize.proofs.Lists.{distinct_joined, distinct_places, from_map, pick, pick_in, pick_out}
 use Rattle.linearize.proofs.Places.{Contains-head, Contains-later, Contains-cases, none_in_empty}
 use Rattle.linearize.proofs.Sets.{test_of, from_meet, to_meet, total_naturals}
 

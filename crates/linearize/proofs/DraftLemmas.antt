@@ -1,14 +1,11 @@
 -- A draft as it is kept: what one more place, flow or part makes of it, and what its lists are.
-use Rattle.std.proofs.Common.{◌≡◌, ℕ, ◌+◌, ◌-◌, ◌<◌, ◌≤◌, List, [], ◌∷◌, ◌++◌, length, map, take, drop, refl, sym, ap, ◌∙◌, subst, arith, append_assoc, length-append, length-drop, take-append-drop}
-use Rattle.std.specs.List.{flat_map}
+use Rattle.std.proofs.Common.{◌≡◌, ℕ, ◌+◌, ◌-◌, ◌≤◌, List, [], ◌∷◌, ◌++◌, length, map, take, drop, refl, sym, ap, ◌∙◌, subst, arith, append_assoc, length-append, length-drop, take-append-drop}
 use Rattle.std.proofs.lemmas.List.{append-nil, take_all, drop_all, take-append-le, drop-append-le, length-take-le, length-map, map-append}
-use Rattle.graph_model.specs.declared.names.Flow.{Flow}
 use Rattle.graph_model.specs.Certificates.{Part}
-use Rattle.fee_rate.specs.declared.rates.Sum.{Sum}
 use Rattle.linearize.specs.declared.draft.LinearPart.{LinearPart}
 use Rattle.linearize.specs.declared.draft.PlaceFlow.{PlaceFlow}
 use Rattle.linearize.specs.Graphs.{sum_from}
-use Rattle.linearize.specs.Drafts.{Written, placed, flows_in, all_placed, all_flows, named, totals, AreShown, parts_from, left_from, AreEnds, written_of, IsKept}
+use Rattle.linearize.specs.Drafts.{placed, flows_in, all_placed, all_flows, named, totals, AreShown, parts_from, left_from, AreEnds, written_of, IsKept}
 
 abbrev pub ends_of : List LinearPart → List ℕ
 ends_of parts = map (λ part. part.end) parts

@@ -1,21 +1,17 @@
 -- What linearizes all members certifies each plain graph that they stand for.
-use Rattle.std.proofs.Common.{◌≡◌, ◌≢◌, ℕ, zero, suc, ◌⊎◌, inl, inr, true, List, [], ◌∷◌, map, refl, sym, ap, ◌∙◌, subst}
-use Rattle.std.specs.Prelude.{Contains, ◌↔◌}
-use Rattle.std.specs.Ordering.{nat_cmp}
-use Rattle.std.specs.FinSet as fin
+use Rattle.std.proofs.Common.{◌≡◌, ℕ, zero, suc, ◌⊎◌, inl, inr, true, List, [], ◌∷◌, refl, sym, ◌∙◌, subst}
+use Rattle.std.specs.Prelude.{Contains}
 use Rattle.graph_model.specs.Graphs as model
-use Rattle.graph_model.specs.Linearizations.{IsTopological, IsTogether}
-use Rattle.graph_model.specs.Certificates.{Part, IsCertificate, HasOrder, HasFlows, Certifies}
+use Rattle.graph_model.specs.Linearizations.{IsTopological}
+use Rattle.graph_model.specs.Certificates.{Part, IsCertificate}
 use Rattle.graph_model.specs.Rates.{HasSizes}
-use Rattle.fee_rate.specs.Limits.{IsRate}
 use Rattle.dep_graph.specs.Graph.{Graph, is_member, is_ancestor, members_of, IsCover, IsClosed, IsNear}
-use Rattle.dep_graph.specs.Walks.{IsWalk, Walk}
+use Rattle.dep_graph.specs.Walks.{IsWalk}
 use Rattle.linearize.specs.Graphs.{StandsFor, HasRates, IsComponent, sum_at}
 use Rattle.linearize.specs.Drafts.{placed}
-use Rattle.linearize.specs.Orders.{IsOrderOf}
 use Rattle.linearize.specs.Splits.{Linearizes}
 use Rattle.linearize.proofs.Chains.{ancestors_first}
-use Rattle.linearize.proofs.Places.{Contains-head, Contains-later, Contains-cases, none_in_empty, in_members}
+use Rattle.linearize.proofs.Places.{Contains-cases, none_in_empty, in_members}
 use Rattle.std.proofs.lemmas.List.Elements.{Contains-append_left, Contains-append_right}
 
 -- ---- trails

@@ -1,7 +1,5 @@
 -- The flows of a part as a list: how it is written, and what each place sends and gets by it.
-use Rattle.std.proofs.Common.{◌≡◌, ℕ, ◌+◌, ◌*◌, ◌<◌, ◌≤◌, ◌⊎◌, inl, inr, Bool, true, false, cond, nat_lt, nat_eq, List, [], ◌∷◌, ◌++◌, length, map, filter, sum_by, refl, sym, ap, ◌∙◌, subst, arith, append_assoc, append-nil, length-append, lt-ltb, le-ltb, eq-eqb, ne_eqb}
-use Rattle.std.specs.Prelude.{Contains, flat_map}
-use Rattle.std.proofs.lemmas.Bool.{cases_eq, cases_lt}
+use Rattle.std.proofs.Common.{◌≡◌, ℕ, ◌+◌, ◌*◌, ◌<◌, ◌≤◌, Bool, cond, nat_lt, List, [], ◌∷◌, ◌++◌, length, map, filter, refl, sym, ap, ◌∙◌, arith, append_assoc, append-nil, length-append, lt-ltb, le-ltb}
 use Rattle.std.proofs.lemmas.List.{map-append}
 use Rattle.std.proofs.lemmas.List.Elements.{filter-append}
 use Rattle.std.proofs.lemmas.List.Concat.{flat_map-append}
@@ -9,7 +7,7 @@ use Rattle.std.specs.Ordering.{nat_cmp}
 use Rattle.std.specs.FinSet as fin
 use Rattle.bitset.specs.Places.{places}
 use Rattle.graph_model.specs.declared.names.Flow.{Flow}
-use Rattle.linearize.specs.Drafts.{Written, all_flows, flows_in}
+use Rattle.linearize.specs.Drafts.{Written, all_flows, flows_in, with_flows}
 use Rattle.linearize.specs.Orders.{flows_from, flows_of, parents_within}
 use Rattle.linearize.proofs.Places.{Goes, goes_on, gone}
 
@@ -45,10 +43,6 @@ unfolding flows_of
 of_nil n parents s flow = refl
 
 -- ---- the loops that write them
--- more flows of the open part
-abbrev pub with_flows : Written → List Flow → Written
-with_flows old more = record { parts = old.parts; ids = old.ids; flows = old.flows ++ more }
-
 pub with_none : (old : Written) → old ≡ with_flows old []
 with_none old = λ i. record { parts = old.parts; ids = old.ids; flows = sym (append-nil old.flows) i }
 

@@ -1,8 +1,7 @@
 -- A set is split by a closed set of greatest weight: what the two are linearized to, one behind the other, linearizes the set.
-use Rattle.std.proofs.Common.{◌≡◌, ◌≢◌, ℕ, zero, suc, ◌+◌, ◌*◌, ◌^◌, ◌<◌, ◌≤◌, ◌⊎◌, inl, inr, true, false, List, [], ◌∷◌, ◌++◌, length, map, sum_by, ℤ, pos, ◌+ℤ◌, ◌-ℤ◌, ◌*ℤ◌, ◌≤ℤ◌, ◌<ℤ◌, unsigned_abs, refl, sym, ap, ◌∙◌, subst, arith, append_assoc, length-append}
-use Rattle.std.specs.Prelude.{Contains, ◌↔◌}
+use Rattle.std.proofs.Common.{◌≡◌, ◌≢◌, ℕ, zero, suc, ◌+◌, ◌*◌, ◌^◌, ◌<◌, ◌≤◌, inl, inr, true, List, [], ◌∷◌, ◌++◌, length, map, sum_by, ℤ, pos, ◌+ℤ◌, ◌*ℤ◌, ◌≤ℤ◌, ◌<ℤ◌, unsigned_abs, refl, sym, ap, ◌∙◌, subst, arith, append_assoc, length-append}
+use Rattle.std.specs.Prelude.{Contains}
 use Rattle.std.proofs.lemmas.Int.{ints}
-use Rattle.std.proofs.lemmas.List.{map-append}
 use Rattle.std.proofs.lemmas.List.Sums.{sum_by-cons}
 use Rattle.std.proofs.lemmas.List.Concat.{flat_map-append}
 use Rattle.std.proofs.lemmas.List.Elements.{Contains-append_left, Contains-append_right, Contains-append_cases}
@@ -18,19 +17,18 @@ use Rattle.bitset.specs.Sets.{places-Contains, places-empty, len-places}
 use Rattle.closure_flow.specs.Closures as closure
 use Rattle.closure_flow.specs.Closures.{weight_at, weight_of, IsNoneHeavier, parents_at}
 use Rattle.fee_rate.specs.declared.rates.Sum.{Sum}
-use Rattle.fee_rate.specs.Limits.{IsRate}
 use Rattle.fee_rate.specs.Rates.{AtMost}
 use Rattle.graph_model.specs.Rates.{sums, Falls}
 use Rattle.graph_model.specs.Linearizations.{StandsBefore}
 use Rattle.graph_model.specs.Certificates.{Part, weight_in, Certifies}
-use Rattle.dep_graph.specs.Graph.{Graph, is_member, IsCover, IsClosed, HoldsMembers, rate_of}
+use Rattle.dep_graph.specs.Graph.{Graph, IsCover, IsClosed, HoldsMembers, rate_of}
 use Rattle.linearize.specs.Drafts.{Written, placed, flows_in}
 use Rattle.linearize.specs.Graphs.{sum_at, HasRates}
 use Rattle.linearize.specs.Orders.{AreCovers, Balances, IsOrderOf, sums_in}
 use Rattle.linearize.specs.Splits.{Linearizes, Adds, HasRoom, IsBest, IsUpper, IsLower}
 use Rattle.linearize.proofs.Lists.{distinct_joined}
 use Rattle.linearize.proofs.Places.{Contains-head, Contains-later, Contains-cases, none_in_empty, clash}
-use Rattle.linearize.proofs.Sets.{IsSplit, split_minus, split_union, total_split, sum_split, len_split, from_minus, to_minus, from_union, to_union_left, to_union_right, test_of, len_below}
+use Rattle.linearize.proofs.Sets.{IsSplit, split_minus, split_union, total_split, len_split, from_minus, to_minus, from_union, to_union_left, to_union_right, test_of, len_below}
 
 -- ---- weights
 total_along : (f g : ℕ → ℤ) (xs : List ℕ) → ((x : ℕ) → Contains xs x → f x ≡ g x) → total f xs ≡ total g xs

@@ -1,32 +1,27 @@
 -- A balanced set as one part.
-use Rattle.std.proofs.Common.{◌≡◌, ◌≢◌, ℕ, zero, suc, ◌+◌, ◌*◌, ◌<◌, ◌≤◌, ◌⊎◌, inl, inr, true, List, [], ◌∷◌, ◌++◌, length, map, sum_by, ℤ, pos, ◌-ℤ◌, refl, sym, ap, ◌∙◌, subst, arith, append-nil, length-append}
-use Rattle.std.specs.Prelude.{Contains, ◌↔◌}
-use Rattle.std.proofs.lemmas.Int.{ints}
-use Rattle.std.proofs.lemmas.List.{length-map, nil_from_length}
-use Rattle.std.proofs.lemmas.List.Sums.{sum_by-cons}
+use Rattle.std.proofs.Common.{◌≡◌, ◌≢◌, ℕ, ◌*◌, ◌<◌, ◌≤◌, inl, inr, true, List, [], ◌∷◌, ◌++◌, length, map, pos, ◌-ℤ◌, refl, sym, ap, ◌∙◌, subst, arith, append-nil}
+use Rattle.std.specs.Prelude.{Contains}
+use Rattle.std.proofs.lemmas.List.{length-map}
 use Rattle.std.specs.Ordering.{nat_cmp}
 use Rattle.std.specs.FinSet as fin
-use Rattle.arithmetic.specs.Sums.{total}
 use Rattle.bitset.specs.Places.{places, IsWithin}
-use Rattle.bitset.specs.Sets.{Contains-places, places-Contains}
+use Rattle.bitset.specs.Sets.{places-Contains}
 use Rattle.closure_flow.specs.Closures.{parents_at}
 use Rattle.fee_rate.specs.declared.rates.Sum.{Sum}
 use Rattle.fee_rate.specs.Rates.{AtMost}
 use Rattle.graph_model.specs.declared.names.Flow.{Flow}
-use Rattle.graph_model.specs.Graphs.{AreDistinct}
 use Rattle.graph_model.specs.Rates.{sums}
-use Rattle.graph_model.specs.Certificates.{Part, given, gotten, weight_in, Certifies}
-use Rattle.dep_graph.specs.Graph.{Graph, is_member, IsCover, IsClosed, HoldsMembers}
-use Rattle.linearize.specs.Drafts.{Written, placed, flows_in, all_flows}
+use Rattle.graph_model.specs.Certificates.{Part, weight_in, Certifies}
+use Rattle.dep_graph.specs.Graph.{Graph, IsCover, IsClosed, HoldsMembers}
+use Rattle.linearize.specs.Drafts.{Written, placed}
 use Rattle.linearize.specs.Graphs.{sum_at}
-use Rattle.linearize.specs.Orders.{AreCovers, Balances, IsOrderOf, flows_of, parents_within, sums_in}
-use Rattle.linearize.specs.Splits.{Linearizes, Adds, HasRoom, IsUpper, IsLower}
-use Rattle.linearize.proofs.Certified.{Sent, in_of, ends_of, given_is, gotten_is}
-use Rattle.linearize.proofs.FlowLists.{with_flows}
-use Rattle.linearize.proofs.Lists.{distinct_places, from_map, to_map, total_any_order, sum_any_order}
-use Rattle.linearize.proofs.Places.{Contains-head, Contains-later, Contains-cases, none_in_empty}
+use Rattle.linearize.specs.Orders.{AreCovers, Balances, IsOrderOf, flows_of, sums_in}
+use Rattle.linearize.specs.Splits.{Linearizes, Adds}
+use Rattle.linearize.proofs.Certified.{in_of, ends_of, given_is, gotten_is}
+use Rattle.linearize.proofs.Lists.{distinct_places, from_map, total_any_order, sum_any_order}
+use Rattle.linearize.proofs.Places.{Contains-cases, none_in_empty}
 use Rattle.linearize.proofs.Sets.{from_meet}
-use Rattle.linearize.proofs.Triangles.{Pairs, few_pairs}
+use Rattle.linearize.proofs.Triangles.{few_pairs}
 
 pub sums_of_order : (n : ℕ) (dep : Graph) (s : fin.FinSet nat_cmp) (ids : List ℕ) → IsWithin n s → IsOrderOf dep s ids → sums (sum_at dep) ids ≡ sums_in n dep s
 sums_of_order n dep s ids within order =

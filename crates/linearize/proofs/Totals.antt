@@ -1,14 +1,11 @@
 -- Sums of fees and sizes over places, and weights.
-use Rattle.std.proofs.Common.{◌≡◌, ℕ, zero, suc, ◌+◌, ◌*◌, ◌^◌, ◌<◌, ◌≤◌, ◌⊎◌, inl, inr, Bool, true, false, cond, not, ◌&&◌, ◌||◌, nat_eq, List, [], ◌∷◌, ◌++◌, length, filter, sum_by, set, ℤ, pos, negsuc, ◌+ℤ◌, ◌-ℤ◌, ◌*ℤ◌, ◌≤ℤ◌, unsigned_abs, refl, sym, ap, ◌∙◌, subst, arith, length-append, eq-eqb, ne_eqb}
+use Rattle.std.proofs.Common.{◌≡◌, ℕ, ◌+◌, ◌*◌, ◌^◌, ◌<◌, ◌≤◌, true, List, [], ◌∷◌, ◌++◌, length, set, ℤ, pos, ◌+ℤ◌, unsigned_abs, refl, sym, ap, ◌∙◌, subst, arith, length-append}
 use Rattle.std.specs.Prelude.{Contains}
 use Rattle.std.proofs.lemmas.Int.{ints}
 use Rattle.std.proofs.lemmas.List.Sums.{sum_by-cons, sum_by-append}
-use Rattle.std.specs.List.{range_with_len}
 use Rattle.std.specs.Ordering.{nat_cmp}
 use Rattle.std.specs.FinSet as fin
-use Rattle.arithmetic.specs.Sums.{total}
-use Rattle.arithmetic.proofs.Sums.{total-append, total-sub, total-scale, total-add, total-filter_cond, total_same}
-use Rattle.arithmetic.proofs.Products.{mul-add_right}
+use Rattle.arithmetic.proofs.Sums.{total-append}
 use Rattle.std.proofs.Math.Nat.{mul-le-mul_left}
 use Rattle.bitset.specs.Places.{places, IsWithin}
 use Rattle.bitset.specs.Sets.{len-places, Contains-places}
@@ -16,11 +13,11 @@ use Rattle.fee_rate.specs.declared.rates.Sum.{Sum}
 use Rattle.fee_rate.specs.Limits.{IsRate, greatest_fee, greatest_size}
 use Rattle.graph_model.specs.Rates.{sums}
 use Rattle.graph_model.specs.Certificates.{weight_in}
-use Rattle.dep_graph.specs.Graph.{Graph, is_member, rate_of}
-use Rattle.linearize.specs.Graphs.{sum_at, HasRates}
+use Rattle.dep_graph.specs.Graph.{Graph, rate_of}
+use Rattle.linearize.specs.Graphs.{sum_at}
 use Rattle.linearize.specs.Orders.{sums_in}
 use Rattle.closure_flow.specs.Closures.{weight_at}
-use Rattle.linearize.proofs.Places.{Goes, goes_on, gone, rows_more, none_in_empty, Contains-head, Contains-later}
+use Rattle.linearize.proofs.Places.{Goes, goes_on, gone, rows_more, none_in_empty}
 
 -- ---- the loop that adds fees and sizes
 pub record Summed (n : ℕ) (dep : Graph) (s : fin.FinSet nat_cmp) (ys zs : List ℕ) (fee : ℤ) (size : ℕ) : Type 0 where

@@ -1,5 +1,6 @@
--- A draft of an order: parts that are closed, and the places and the flows of the part that is open. It is kept as one list of places and one of flows, with the ends of each part in them.
-use Rattle.std.specs.Prelude.{◌≡◌, ℕ, ◌+◌, ◌-◌, ◌≤◌, List, [], ◌∷◌, ◌++◌, length, map, flat_map, take, drop}
+-- A draft of an order: parts that are closed, and the places and the flows of the part that is open. It is kept as
+-- one list of places and one of flows, with the ends of each part in them.
+use Rattle.std.specs.Prelude.{◌≡◌, ℕ, ◌+◌, ◌-◌, ◌*◌, ◌≤◌, List, [], ◌∷◌, ◌++◌, length, map, flat_map, take, drop}
 use Rattle.graph_model.specs.declared.names.Flow.{Flow}
 use Rattle.graph_model.specs.Certificates.{Part}
 use Rattle.linearize.specs.declared.draft.LinearPart.{LinearPart}
@@ -25,6 +26,14 @@ all_placed written = placed written.parts ++ written.ids
 abbrev pub all_flows : Written → List Flow
 all_flows written = flows_in written.parts ++ written.flows
 
+-- more flows of the part that is open
+abbrev pub with_flows : Written → List Flow → Written
+with_flows old more = record { parts = old.parts; ids = old.ids; flows = old.flows ++ more }
+
+-- there is room for more flows, of which n · n / 4 may be written
+abbrev pub Takes : ℕ → Written → List Flow → Type 0
+Takes n written more = 4 * (length (all_flows written) + length more) ≤ n * n
+
 -- a flow whose names are places
 abbrev pub named : PlaceFlow → Flow
 named flow = record { child = flow.child; parent = flow.parent; amount = flow.amount }
@@ -46,7 +55,11 @@ pub record AreShown (shown : List LinearPart) (parts : List Part) : Type 0 where
 abbrev pub parts_from : ℕ → ℕ → List LinearPart → List ℕ → List PlaceFlow → List Part
 parts_from i j [] order flows = []
 parts_from i j (part ∷ parts) order flows =
-    record { rate = sum_from part.rate; ids = take (part.end - i) order; flows = map named (take (part.flow_end - j) flows) }
+    record {
+      rate = sum_from part.rate;
+      ids = take (part.end - i) order;
+      flows = map named (take (part.flow_end - j) flows);
+    }
     ∷ parts_from part.end part.flow_end parts (drop (part.end - i) order) (drop (part.flow_end - j) flows)
 
 -- what is left of a list behind the last end

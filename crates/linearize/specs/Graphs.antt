@@ -7,12 +7,15 @@ use Rattle.graph_model.specs.Graphs as model
 use Rattle.dep_graph.specs.Graph.{Graph, is_member, is_ancestor, members_of, rate_of, IsNear}
 use Rattle.dep_graph.specs.Walks.{Walk}
 
--- A plain graph has the members as its names, its pairs are of members, and the ancestors along them are those of the dependency graph.
+-- A plain graph has the members as its names, its pairs are of members, and the ancestors along them are those of the
+-- dependency graph.
 pub record StandsFor (dep : Graph) (graph : model.Graph) : Type 0 where
   pub names : (p : ℕ) → Contains graph.names p ↔ (is_member dep p ≡ true)
-  pub ends : (parent child : ℕ) → Contains graph.pairs (parent, child) → (is_member dep parent ≡ true) × (is_member dep child ≡ true)
+  pub ends : (parent child : ℕ) → Contains graph.pairs (parent, child)
+      → (is_member dep parent ≡ true) × (is_member dep child ≡ true)
   pub acyclic : model.HasNoCycle graph.pairs
-  pub ancestors : (a d : ℕ) → is_member dep a ≡ true → is_member dep d ≡ true → model.IsAncestor graph.pairs a d ↔ (is_ancestor dep a d ≡ true)
+  pub ancestors : (a d : ℕ) → is_member dep a ≡ true → is_member dep d ≡ true
+      → model.IsAncestor graph.pairs a d ↔ (is_ancestor dep a d ≡ true)
 
 -- a fee and a size, as sums are
 abbrev pub sum_from : FeeRate → Sum

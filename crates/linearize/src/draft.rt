@@ -1,6 +1,6 @@
 ghost use Rattle.std.specs.Prelude.{◌≡◌, ℕ, ◌+◌, ◌*◌, ◌/◌, ◌<◌, ◌≤◌, ◌^◌, [], ◌∷◌, ◌++◌, length, map, IfOk, IfSome};
 ghost use Rattle.linearize.specs.Graphs.{sum_from};
-ghost use Rattle.linearize.specs.Drafts.{AreShown, Written, all_flows, all_placed, flows_in, named, placed};
+ghost use Rattle.linearize.specs.Drafts.{AreShown, Written, all_flows, all_placed, named, with_flows};
 
 use fee_rate::FeeRate;
 use outside::NoMemory;
@@ -76,7 +76,11 @@ impl<const W: usize> Draft<W> {
     /// Puts a place behind those of the open part.
     pub(crate) fn put(&mut self, place: usize)
         requires { length (all_placed self.old) < 64 * W }
-        ensures { self.new ≡ record { parts = self.old.parts; ids = self.old.ids ++ place ∷ []; flows = self.old.flows } }
+        ensures { self.new ≡ record {
+          parts = self.old.parts;
+          ids = self.old.ids ++ place ∷ [];
+          flows = self.old.flows;
+        } }
     {
         let pushed = self.order.push(place);
         prove!(pushed.is_ok());
@@ -85,7 +89,7 @@ impl<const W: usize> Draft<W> {
     /// Puts a flow behind those of the open part.
     pub(crate) fn send(&mut self, flow: PlaceFlow)
         requires { 4 * length (all_flows self.old) + 4 ≤ 64 * W * (64 * W) }
-        ensures { self.new ≡ record { parts = self.old.parts; ids = self.old.ids; flows = self.old.flows ++ named flow ∷ [] } }
+        ensures { self.new ≡ with_flows self.old (named flow ∷ []) }
     {
         let pushed = self.flows.push(flow);
         prove!(pushed.is_ok());

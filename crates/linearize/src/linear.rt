@@ -100,8 +100,10 @@ pub fn optimal<L: Ledger, const W: usize>(
     requires component { IsComponent dep.now }
 
     // Whatever plain graph the members stand for, the parts certify it over its covering pairs, and are optimal.
-    ensures certificate { (graph : model.Graph) → StandsFor dep.now graph → IsCertificate (sum_at dep.now) graph (model.IsCover graph.pairs) out.new }
-    ensures optimal { (graph : model.Graph) → StandsFor dep.now graph → IsOptimal (sum_at dep.now) graph (map (λ part. part.ids) out.new) }
+    ensures certificate { (graph : model.Graph) → StandsFor dep.now graph
+        → IsCertificate (sum_at dep.now) graph (model.IsCover graph.pairs) out.new }
+    ensures optimal { (graph : model.Graph) → StandsFor dep.now graph
+        → IsOptimal (sum_at dep.now) graph (map (λ part. part.ids) out.new) }
     ensures steps { steps.old ≤ steps.new }
 {
     let members = dep.members();

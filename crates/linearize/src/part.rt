@@ -4,8 +4,8 @@ ghost use Rattle.bitset.specs.Places.{IsWithin, places};
 ghost use Rattle.closure_flow.specs.Scratches.{flow_of};
 ghost use Rattle.dep_graph.specs.Graph.{HoldsMembers, IsClosed, is_ancestor, is_member};
 ghost use Rattle.linearize.specs.Graphs.{sum_from};
-ghost use Rattle.linearize.specs.Drafts.{Written, all_flows, placed};
-ghost use Rattle.linearize.specs.Orders.{AreCovers, Balances, IsOrderOf, flows_from, flows_of, sums_in};
+ghost use Rattle.linearize.specs.Drafts.{Takes, placed, with_flows};
+ghost use Rattle.linearize.specs.Orders.{AreCovers, Balances, IsOrderOf, flows_from, flows_in_set, sums_in};
 ghost use Rattle.linearize.specs.Splits.{Adds, HasRoom};
 
 use crate::draft::{Draft, PlaceFlow};
@@ -87,12 +87,9 @@ fn send_all<const W: usize>(
 )
     requires narrow { 64 * W < 2 ^ 32 }
     requires there { (t : ℕ) → set.contains within.now t ≡ true → t < length parents.now }
-    requires room { 4 * (length (all_flows draft.old) + length (flows_of (64 * W) parents.now within.now (flow_of scratch.now) (places (64 * W) within.now))) ≤ 64 * W * (64 * W) }
-    ensures { draft.new ≡ record {
-      parts = draft.old.parts;
-      ids = draft.old.ids;
-      flows = draft.old.flows ++ flows_of (64 * W) parents.now within.now (flow_of scratch.now) (places (64 * W) within.now);
-    } }
+    requires room { Takes (64 * W) draft.old (flows_in_set (64 * W) parents.now within.now (flow_of scratch.now)) }
+    ensures { draft.new
+        ≡ with_flows draft.old (flows_in_set (64 * W) parents.now within.now (flow_of scratch.now)) }
 {
     for child in within.iter() {
         let to = parents[child].meet(within);
@@ -103,12 +100,9 @@ fn send_all<const W: usize>(
 // Writes what a place sends to some others.
 fn send_from<const W: usize>(scratch: &Scratch<W>, child: usize, to: &Bits<W>, draft: &mut Draft<W>)
     requires narrow { 64 * W < 2 ^ 32 }
-    requires room { 4 * (length (all_flows draft.old) + length (flows_from (flow_of scratch.now) child (places (64 * W) to.now))) ≤ 64 * W * (64 * W) }
-    ensures { draft.new ≡ record {
-      parts = draft.old.parts;
-      ids = draft.old.ids;
-      flows = draft.old.flows ++ flows_from (flow_of scratch.now) child (places (64 * W) to.now);
-    } }
+    requires room { Takes (64 * W) draft.old (flows_from (flow_of scratch.now) child (places (64 * W) to.now)) }
+    ensures { draft.new
+        ≡ with_flows draft.old (flows_from (flow_of scratch.now) child (places (64 * W) to.now)) }
 {
     for parent in to.iter() {
         let amount = scratch.flow(child, parent);

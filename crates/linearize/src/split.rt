@@ -1,13 +1,14 @@
-ghost use Rattle.std.specs.Prelude.{◌≡◌, ℕ, ◌+◌, ◌*◌, ◌<◌, ◌≤◌, ◌^◌, length, true, pos, ◌-ℤ◌, ◌*ℤ◌, unsigned_abs, IfSome, MatchOption};
+ghost use Rattle.std.specs.Prelude.{◌≡◌, ℕ, ◌*◌, ◌<◌, ◌≤◌, ◌^◌, length, true, pos, ◌*ℤ◌, unsigned_abs};
+ghost use Rattle.std.specs.Prelude.{IfSome, MatchOption};
 ghost use Rattle.std.specs.FinSet as set;
 ghost use Rattle.bitset.specs.Places.{IsWithin};
 ghost use Rattle.closure_flow.specs.Closures.{weight_at};
-ghost use Rattle.dep_graph.specs.Graph.{HoldsMembers, IsClosed, is_member};
+ghost use Rattle.dep_graph.specs.Graph.{HoldsMembers};
 ghost use Rattle.fee_rate.specs.Limits.{IsRate, greatest_fee, greatest_size};
 ghost use Rattle.graph_model.specs.Certificates.{weight_in};
 ghost use Rattle.linearize.specs.Graphs.{HasRates, most_members, sum_at, sum_from};
-ghost use Rattle.linearize.specs.Orders.{AreCovers, sums_in};
-ghost use Rattle.linearize.specs.Splits.{Adds, HasRoom, IsBest};
+ghost use Rattle.linearize.specs.Orders.{sums_in};
+ghost use Rattle.linearize.specs.Splits.{Adds, IsBest, IsReady};
 
 use crate::draft::Draft;
 use crate::part::emit;
@@ -29,14 +30,8 @@ pub(crate) fn split<L: Ledger, const W: usize>(
     steps: &mut Steps<L>,
 )
     requires narrow { 64 * W < 2 ^ 32 }
-    requires closed { IsClosed (64 * W) dep.now }
-    requires members { HoldsMembers dep.now within.now }
-    requires some { 0 < set.len within.now }
-    requires few { set.len within.now ≤ most_members }
-    requires rates { HasRates dep.now }
-    requires covers { AreCovers dep.now parents.now }
+    requires ready { IsReady (64 * W) dep.now parents.now within.now draft.old }
     requires weights { 64 * W ≤ length weights.old }
-    requires room { HasRoom (64 * W) within.now draft.old }
     ensures adds { Adds (64 * W) dep.now within.now draft.old draft.new }
     ensures steps { steps.old ≤ steps.new }
 {
@@ -58,16 +53,12 @@ fn best<L: Ledger, const W: usize>(
     steps: &mut Steps<L>,
 ) -> Option<Bits<W>>
     requires narrow { 64 * W < 2 ^ 32 }
-    requires closed { IsClosed (64 * W) dep.now }
-    requires members { HoldsMembers dep.now within.now }
-    requires some { 0 < set.len within.now }
-    requires few { set.len within.now ≤ most_members }
-    requires rates { HasRates dep.now }
-    requires covers { AreCovers dep.now parents.now }
+    requires ready { IsReady (64 * W) dep.now parents.now within.now draft.old }
     requires weights { 64 * W ≤ length weights.old }
-    requires room { HasRoom (64 * W) within.now draft.old }
     ensures best { IfSome result (IsBest (64 * W) dep.now within.now) }
-    ensures draft { MatchOption result (Adds (64 * W) dep.now within.now draft.old draft.new) (λ _. draft.new ≡ draft.old) }
+    ensures draft { MatchOption result
+        (Adds (64 * W) dep.now within.now draft.old draft.new)
+        (λ _. draft.new ≡ draft.old) }
     ensures steps { steps.old ≤ steps.new }
 {
     let whole = sum(dep, within);
@@ -107,7 +98,8 @@ fn weigh<const W: usize>(dep: &DepGraph<W>, within: &Bits<W>, whole: FeeRate, we
     requires rates { HasRates dep.now }
     requires room { 64 * W ≤ length weights.old }
     requires size { whole.size ≤ greatest_size * most_members }
-    ensures are { (t : ℕ) → set.contains within.now t ≡ true → weight_at weights.new t ≡ weight_in (sum_from whole) (sum_at dep.now t) }
+    ensures are { (t : ℕ) → set.contains within.now t ≡ true
+        → weight_at weights.new t ≡ weight_in (sum_from whole) (sum_at dep.now t) }
     ensures small { (t : ℕ) → set.contains within.now t ≡ true → unsigned_abs (weight_at weights.new t) < 2 ^ 99 }
 {
     for place in within.iter() {

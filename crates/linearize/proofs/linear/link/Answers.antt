@@ -1,4 +1,4 @@
-use Rattle.std.proofs.Common.{◌≡◌, ◌<◌, ◌*◌, ◌∙◌, ℕ, ap, sym, subst, arith, length, refl, true}
+use Rattle.std.proofs.Common.{◌≡◌, ◌<◌, ◌*◌, ◌∙◌, ap, sym, subst, arith, refl, true}
 use Rattle.std.specs.FinSet as fin
 use Rattle.bitset.specs.Places.{places, IsWithin}
 use Rattle.dep_graph.specs.Graph.{members_of}

@@ -1,4 +1,4 @@
-use Rattle.std.proofs.Common.{◌≡◌, ◌<◌, ◌≤◌, ◌+◌, ◌*◌, ◌∙◌, ℕ, ap, sym, subst, arith, length, lit<, true, List, [], map, ◌++◌, refl}
+use Rattle.std.proofs.Common.{◌≡◌, ◌*◌, ◌∙◌, ℕ, ap, sym, subst, arith, lit<, true, List, map, ◌++◌}
 use Rattle.std.specs.FinSet as fin
 use Rattle.bitset.specs.Places.{IsWithin}
 use Rattle.dep_graph.specs.Graph.{is_member, members_of, IsClosed}
@@ -6,8 +6,8 @@ use Rattle.graph_model.specs.Graphs as model
 use Rattle.graph_model.specs.Certificates.{Part, IsCertificate}
 use Rattle.graph_model.specs.Linearizations.{IsOptimal}
 use Rattle.linearize.specs.Drafts.{Written}
-use Rattle.linearize.specs.Graphs.{StandsFor, sum_at}
-use Rattle.linearize.specs.Splits.{Adds, HasRoom, Linearizes}
+use Rattle.linearize.specs.Graphs.{sum_at}
+use Rattle.linearize.specs.Splits.{Adds}
 use Rattle.linearize.proofs.Final.{certificate, has_sizes}
 use Rattle.linearize.proofs.Joined.{start_room}
 use Rattle.linearize.proofs.Places.{in_members}
@@ -34,26 +34,16 @@ split-requires g c =
             (
               narrow,
               (
-                closed,
-                (
-                  member,
-                  (
-                    (let some = c.requires.some in omega (arith, len, some)),
-                    (
-                      (let few = c.requires.few in omega (arith, len, few)),
-                      (
-                        c.requires.rates,
-                        (
-                          c.link.ensures,
-                          (
-                            (let room = c.out.invariant.3 in omega (arith, room, c.as_mut_slice-weights.ensures.len)),
-                            start_room n c.members-members.result c.clear.new.self within c.clear.ensures,
-                          ),
-                        ),
-                      ),
-                    ),
-                  ),
-                ),
+                record {
+                  closed = closed;
+                  members = member;
+                  some = (let some = c.requires.some in omega (arith, len, some));
+                  few = (let few = c.requires.few in omega (arith, len, few));
+                  rates = c.requires.rates;
+                  covers = c.link.ensures;
+                  room = start_room n c.members-members.result c.clear.new.self within c.clear.ensures;
+                },
+                (let room = c.out.invariant.3 in omega (arith, room, c.as_mut_slice-weights.ensures.len)),
               ),
             ),
           ),

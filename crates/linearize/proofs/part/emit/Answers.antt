@@ -1,4 +1,4 @@
-use Rattle.std.proofs.Common.{◌≡◌, ◌<◌, ◌≤◌, ◌+◌, ◌*◌, ◌∷◌, [], ◌++◌, ◌∙◌, ℕ, ap, sym, subst, arith, length, lit<, List, refl, true, length-append}
+use Rattle.std.proofs.Common.{◌≡◌, ◌≤◌, ◌+◌, ◌*◌, ◌∷◌, [], ◌++◌, ◌∙◌, ℕ, ap, arith, length, lit<, List, length-append}
 use Rattle.bitset.specs.Places.{places}
 use Rattle.closure_flow.specs.Scratches.{flow_of}
 use Rattle.graph_model.specs.declared.names.Flow.{Flow}
@@ -6,7 +6,6 @@ use Rattle.graph_model.specs.Certificates.{Part}
 use Rattle.linearize.specs.Graphs.{sum_from}
 use Rattle.linearize.specs.Drafts.{Written, all_flows, flows_in}
 use Rattle.linearize.specs.Orders.{flows_of}
-use Rattle.linearize.proofs.FlowLists.{with_flows}
 use Rattle.linearize.proofs.Parts.{few_flows, one_added}
 use Rattle.linearize.proofs.Sizes.{words_fit, scratch_fits}
 use Rattle.linearize.proofs.part.emit.Goals as goal

@@ -1,4 +1,4 @@
-use Rattle.std.proofs.Common.{◌≡◌, ◌<◌, ◌+◌, ◌*◌, ◌∷◌, ◌++◌, [], ◌∙◌, ℕ, ap, sym, subst, arith, length, length-append, lit<, true}
+use Rattle.std.proofs.Common.{◌*◌, ◌∙◌, ap, sym, subst, arith, length, length-append, lit<}
 use Rattle.std.specs.FinSet as fin
 use Rattle.bitset.specs.Places.{IsWithin}
 use Rattle.linearize.specs.Drafts.{placed}

@@ -1,4 +1,4 @@
-use Rattle.std.proofs.Common.{◌≡◌, ℕ, ◌*◌}
+use Rattle.std.proofs.Common.{◌≡◌, ◌*◌}
 use Rattle.std.specs.FinSet as fin
 use Rattle.linearize.proofs.Orders.{Placing}
 use Rattle.linearize.proofs.part.put_places.Given as goal

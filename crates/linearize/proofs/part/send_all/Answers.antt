@@ -1,12 +1,11 @@
-use Rattle.std.proofs.Common.{◌≡◌, ◌<◌, ◌≤◌, ◌+◌, ◌*◌, ◌∷◌, [], ◌∙◌, ℕ, ap, sym, subst, arith, length, lit<, List, refl, true}
+use Rattle.std.proofs.Common.{◌≡◌, ◌<◌, ◌≤◌, ◌+◌, ◌*◌, ◌∷◌, [], ◌∙◌, ℕ, ap, sym, subst, arith, length, lit<, refl}
 use Rattle.std.specs.FinSet as fin
 use Rattle.std.proofs.lemmas.List.{get_or_read_under}
 use Rattle.bitset.specs.Places.{places}
-use Rattle.closure_flow.specs.Closures.{parents_at}
 use Rattle.closure_flow.specs.Scratches.{flow_of}
 use Rattle.linearize.specs.Drafts.{all_flows}
 use Rattle.linearize.specs.Orders.{flows_from, flows_of, parents_within}
-use Rattle.linearize.proofs.FlowLists.{of_append, of_one, of_start, sending_more, sending_room, with_flows}
+use Rattle.linearize.proofs.FlowLists.{of_append, of_one, of_start, sending_more, sending_room}
 use Rattle.linearize.proofs.Places.{goes_here}
 use Rattle.linearize.proofs.Sizes.{words_fit, scratch_fits}
 use Rattle.linearize.proofs.part.send_all.Goals as goal

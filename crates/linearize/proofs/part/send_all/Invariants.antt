@@ -1,4 +1,4 @@
-use Rattle.std.proofs.Common.{ℕ, ◌*◌}
+use Rattle.std.proofs.Common.{◌*◌}
 use Rattle.closure_flow.specs.Scratches.{flow_of}
 use Rattle.linearize.specs.Orders.{flows_of}
 use Rattle.linearize.proofs.FlowLists.{Sending}

@@ -1,9 +1,8 @@
-use Rattle.std.proofs.Common.{◌≡◌, ◌<◌, ◌≤◌, ◌+◌, ◌*◌, ◌∷◌, [], ◌∙◌, ℕ, ap, sym, subst, arith, length, lit<, List}
+use Rattle.std.proofs.Common.{◌≡◌, ◌<◌, ◌≤◌, ◌+◌, ◌*◌, ◌∷◌, [], ◌∙◌, ℕ, ap, subst, arith, length, lit<}
 use Rattle.closure_flow.specs.Scratches.{flow_of}
-use Rattle.graph_model.specs.declared.names.Flow.{Flow}
-use Rattle.linearize.specs.Drafts.{all_flows}
+use Rattle.linearize.specs.Drafts.{all_flows, with_flows}
 use Rattle.linearize.specs.Orders.{flows_from}
-use Rattle.linearize.proofs.FlowLists.{from_append, from_one, from_none, from_start, sending_more, sending_room, with_flows, with_none}
+use Rattle.linearize.proofs.FlowLists.{from_append, from_one, from_none, from_start, sending_more, sending_room, with_none}
 use Rattle.linearize.proofs.part.send_from.Goals as goal
 
 pub loop-parent-init : goal.loop-parent-init

@@ -1,4 +1,4 @@
-use Rattle.std.proofs.Common.{◌≡◌, ◌<◌, ◌*◌, ◌∙◌, ℕ, ap, sym, subst, arith, true}
+use Rattle.std.proofs.Common.{◌≡◌, ◌*◌, ◌∙◌, ap, subst, true}
 use Rattle.std.specs.FinSet as fin
 use Rattle.linearize.proofs.Orders.{higher, is_top}
 use Rattle.linearize.proofs.Sets.{from_meet, from_remove}

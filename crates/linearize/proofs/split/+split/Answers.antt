@@ -1,6 +1,5 @@
-use Rattle.std.proofs.Common.{◌≡◌, ◌<◌, ◌≤◌, ◌+◌, ◌*◌, ◌∙◌, ℕ, ap, sym, subst, arith, length, lit<, true, rules}
+use Rattle.std.proofs.Common.{◌≡◌, ◌<◌, ◌+◌, ◌*◌, ℕ, ap, sym, subst, arith, lit<, true, rules}
 use Rattle.std.specs.FinSet as fin
-use Rattle.bitset.specs.Places.{IsWithin}
 use Rattle.linearize.specs.Splits.{Adds, HasRoom}
 use Rattle.linearize.proofs.Joined.{c_some, rest_some, both_lens, first_room, second_room, both_added}
 use Rattle.linearize.proofs.Sets.{from_minus}
@@ -10,7 +9,7 @@ use Rattle.linearize.proofs.split.+split.Goals as goal
 pub split-requires : goal.split-requires
 split-requires g t c κs within =
     let n : ℕ = 64 * g.row.W in
-    let r = c.requires in
+    let r = c.requires.ready in
     let best = c.in-Some.ensures.best in
     let dep = c.args.dep.now in
     let s = c.args.within.now in
@@ -24,36 +23,26 @@ split-requires g t c κs within =
         (
           search rules,
           (
-            scratch_fits g.row.W r.narrow,
+            scratch_fits g.row.W c.requires.narrow,
             (
-              lists_fit g.row.W r.narrow,
+              lists_fit g.row.W c.requires.narrow,
               (
-                words_fit g.row.W r.narrow,
+                words_fit g.row.W c.requires.narrow,
                 (
                   lit< tt,
                   (
-                    r.narrow,
+                    c.requires.narrow,
                     (
-                      r.closed,
-                      (
-                        λ p m. r.members p (best.upper.inside p m),
-                        (
-                          some,
-                          (
-                            (let few = r.few in omega (arith, lens, few)),
-                            (
-                              r.rates,
-                              (
-                                r.covers,
-                                (
-                                  (let room = r.weights in omega (arith, room, c.best.auto.weights)),
-                                  subst (HasRoom n first) (sym c.in-Some.ensures.draft) (first_room n dep s first r.closed r.members r.rates best c.args.draft.now r.room),
-                                ),
-                              ),
-                            ),
-                          ),
-                        ),
-                      ),
+                      record {
+                        closed = r.closed;
+                        members = λ p m. r.members p (best.upper.inside p m);
+                        some = some;
+                        few = (let few = r.few in omega (arith, lens, few));
+                        rates = r.rates;
+                        covers = r.covers;
+                        room = subst (HasRoom n first) (sym c.in-Some.ensures.draft) (first_room n dep s first r.closed r.members r.rates best c.args.draft.now r.room);
+                      },
+                      (let room = c.requires.weights in omega (arith, room, c.best.auto.weights)),
                     ),
                   ),
                 ),
@@ -67,7 +56,7 @@ split-requires g t c κs within =
 pub split-requires-in-Some : goal.split-requires-in-Some
 split-requires-in-Some g t c κs within =
     let n : ℕ = 64 * g.row.W in
-    let r = c.requires in
+    let r = c.requires.ready in
     let best = c.in-Some.ensures.best in
     let dep = c.args.dep.now in
     let s = c.args.within.now in
@@ -84,36 +73,26 @@ split-requires-in-Some g t c κs within =
         (
           search rules,
           (
-            scratch_fits g.row.W r.narrow,
+            scratch_fits g.row.W c.requires.narrow,
             (
-              lists_fit g.row.W r.narrow,
+              lists_fit g.row.W c.requires.narrow,
               (
-                words_fit g.row.W r.narrow,
+                words_fit g.row.W c.requires.narrow,
                 (
                   lit< tt,
                   (
-                    r.narrow,
+                    c.requires.narrow,
                     (
-                      r.closed,
-                      (
-                        λ p m. r.members p (from_minus s first p (subst (λ x. fin.contains x p ≡ true) is m)).0,
-                        (
-                          omega (arith, same, others),
-                          (
-                            (let few = r.few in omega (arith, same, lens, few)),
-                            (
-                              r.rates,
-                              (
-                                r.covers,
-                                (
-                                  (let room = r.weights in omega (arith, room, c.best.auto.weights, c.split.auto.weights)),
-                                  subst (λ x. HasRoom n x c.split.new.draft) (sym is) (second_room n dep s first r.closed r.members r.rates best c.args.draft.now c.split.new.draft r.room one),
-                                ),
-                              ),
-                            ),
-                          ),
-                        ),
-                      ),
+                      record {
+                        closed = r.closed;
+                        members = λ p m. r.members p (from_minus s first p (subst (λ x. fin.contains x p ≡ true) is m)).0;
+                        some = omega (arith, same, others);
+                        few = (let few = r.few in omega (arith, same, lens, few));
+                        rates = r.rates;
+                        covers = r.covers;
+                        room = subst (λ x. HasRoom n x c.split.new.draft) (sym is) (second_room n dep s first r.closed r.members r.rates best c.args.draft.now c.split.new.draft r.room one);
+                      },
+                      (let room = c.requires.weights in omega (arith, room, c.best.auto.weights, c.split.auto.weights)),
                     ),
                   ),
                 ),
@@ -127,7 +106,7 @@ split-requires-in-Some g t c κs within =
 pub returns-in-Some-clause-adds : goal.returns-in-Some-clause-adds
 returns-in-Some-clause-adds g t c =
     let n : ℕ = 64 * g.row.W in
-    let r = c.requires in
+    let r = c.requires.ready in
     let best = c.in-Some.ensures.best in
     let dep = c.args.dep.now in
     let s = c.args.within.now in

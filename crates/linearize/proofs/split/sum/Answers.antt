@@ -1,4 +1,4 @@
-use Rattle.std.proofs.Common.{◌≡◌, ◌<◌, ◌≤◌, ◌*◌, ◌+◌, ◌^◌, ◌∷◌, [], ◌++◌, ◌∙◌, ℕ, ℤ, ◌+ℤ◌, ap, sym, subst, arith, length, refl, true, unsigned_abs, to_z, of_z}
+use Rattle.std.proofs.Common.{◌≡◌, ◌<◌, ◌*◌, ◌+◌, ◌∷◌, [], ◌++◌, ◌∙◌, ℕ, ℤ, ◌+ℤ◌, ap, sym, subst, arith, length, to_z, of_z}
 use Rattle.std.specs.FinSet as fin
 use Rattle.std.proofs.lemmas.Int.{to_z-of_z, fits_signed_from_abs}
 use mir.Syntax.{w64}
@@ -6,7 +6,7 @@ use mir.Val.{SFits}
 use Rattle.fee_rate.specs.Limits.{IsRate}
 use Rattle.dep_graph.specs.Graph.{rate_of}
 use Rattle.linearize.proofs.Places.{goes_here, goes_below}
-use Rattle.linearize.proofs.Totals.{Summed, summed_start, summed_more, fee_fits, size_fits, summed_small, summed_all}
+use Rattle.linearize.proofs.Totals.{Summed, summed_more, fee_fits, size_fits, summed_small, summed_all}
 use Rattle.linearize.proofs.Sizes.{lists_fit}
 use Rattle.linearize.proofs.split.sum.Goals as goal
 

@@ -1,4 +1,4 @@
-use Rattle.std.proofs.Common.{ℕ, ◌*◌}
+use Rattle.std.proofs.Common.{◌*◌}
 use Rattle.linearize.proofs.Totals.{Summed}
 use Rattle.linearize.proofs.split.sum.Given as goal
 

@@ -1,4 +1,4 @@
-use Rattle.std.proofs.Common.{◌≡◌, ◌<◌, ◌≤◌, ◌*◌, ◌^◌, ◌∷◌, ◌++◌, [], ◌∙◌, ℕ, ℤ, ap, sym, subst, arith, length, refl, true, set, to_z, of_z}
+use Rattle.std.proofs.Common.{◌≡◌, ◌<◌, ◌*◌, ◌∷◌, ◌++◌, [], ◌∙◌, ℤ, ap, sym, subst, arith, true, set}
 use Rattle.std.specs.FinSet as fin
 use Rattle.std.proofs.lemmas.Int.{to_z-of_z, fits_signed_from_abs}
 use mir.Syntax.{w128}

@@ -1,4 +1,4 @@
-use Rattle.std.proofs.Common.{ℕ, ◌*◌}
+use Rattle.std.proofs.Common.{◌*◌}
 use Rattle.linearize.specs.Graphs.{sum_from}
 use Rattle.linearize.proofs.Totals.{Weighed}
 use Rattle.linearize.proofs.split.weigh.Given as goal

@@ -1,4 +1,4 @@
-use Rattle.std.proofs.Common.{◌∙◌, sym, subst, lit<, refl}
+use Rattle.std.proofs.Common.{◌∙◌, subst, lit<}
 use Rattle.dep_graph.specs.Graph.{members_of, rate_of}
 use Rattle.fee_rate.specs.Limits.{IsRate}
 use Rattle.linearize.proofs.Places.{members_tested, member_here, tested_more, each_member}

@@ -1,4 +1,4 @@
-use Rattle.std.proofs.Common.{◌∙◌, ap, sym}
+use Rattle.std.proofs.Common.{◌∙◌, ap}
 use Rattle.std.specs.FinSet as fin
 use Rattle.linearize.proofs.Places.{in_members}
 use Rattle.linearize.proofs.tests.is_in.Goals as goal

@@ -1,5 +1,5 @@
-use Rattle.std.proofs.Common.{◌≡◌, ◌<◌, ◌*◌, ◌∷◌, ◌++◌, [], ◌∙◌, ℕ, ap, sym, subst, length, arith, rules, vec_len, vec_capacity, true, false}
-use Rattle.std.specs.Result.{IsOk, is_ok}
+use Rattle.std.proofs.Common.{◌≡◌, ◌<◌, ◌∷◌, ◌++◌, [], ◌∙◌, ap, sym, subst, length, arith, rules, vec_len, vec_capacity, true}
+use Rattle.std.specs.Result.{is_ok}
 use Rattle.linearize.specs.declared.draft.LinearPart.{LinearPart}
 use Rattle.linearize.specs.Graphs.{sum_from}
 use Rattle.linearize.specs.Drafts.{Written, IsKept, written_of}

@@ -1,5 +1,5 @@
 use Rattle.std.proofs.Common.{sym, subst}
-use Rattle.linearize.specs.Drafts.{AreShown, written_of}
+use Rattle.linearize.specs.Drafts.{AreShown}
 use Rattle.linearize.proofs.DraftLemmas.{shown}
 use Rattle.linearize.proofs.draft.Draft.parts.Goals as goal
 

@@ -1,5 +1,5 @@
-use Rattle.std.proofs.Common.{◌≡◌, ◌<◌, ◌*◌, ◌∷◌, ◌++◌, [], ◌∙◌, ℕ, ap, sym, subst, length, arith, rules, vec_len, vec_capacity, true, false}
-use Rattle.std.specs.Result.{IsOk, is_ok}
+use Rattle.std.proofs.Common.{◌≡◌, ◌<◌, ◌∷◌, ◌++◌, [], ◌∙◌, ap, sym, subst, length, arith, rules, vec_len, vec_capacity, true}
+use Rattle.std.specs.Result.{is_ok}
 use Rattle.linearize.specs.Drafts.{Written, all_flows, IsKept, named, written_of}
 use Rattle.linearize.proofs.DraftLemmas.{length_flows, kept_send, written_send}
 use Rattle.linearize.proofs.draft.Draft.send.Goals as goal
