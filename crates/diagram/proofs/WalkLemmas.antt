@@ -29,6 +29,7 @@ pub same_sum : (a b : Sum) → a.fee ≡ b.fee → a.size ≡ b.size → a ≡ b
 unfolding sum_parts
 same_sum a b fees sizes = ap (λ (f : ℤ). sum_parts f a.size) fees ∙ ap (λ (n : ℕ). sum_parts b.fee n) sizes
 
+-- Some parts of the first one's rate were taken: their sum with what stood before, and what the iterator still gives.
 pub record SoFar {S : Type 0} (steps : S → Option FeeRate → S → Type 0) (before first : Sum) (more : List Sum) (now : S) (end : Sum) : Type 0 where
   pub group : List Sum
   pub rest : List Sum

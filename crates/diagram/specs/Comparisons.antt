@@ -37,6 +37,7 @@ abbrev pub ArePoints : ℕ × ℤ → Option (ℕ × ℤ) → (List (ℕ × ℤ)
 ArePoints from None Behind points = points ≡ from ∷ []
 ArePoints from (Some next) Behind points = (more : List (ℕ × ℤ)) × (points ≡ from ∷ next ∷ more) × Behind more
 
+-- the same of a walk
 abbrev pub HasPoints : {S : Type 0} → (S → Option (ℕ × ℤ) → S → Type 0) → Side S → List (ℕ × ℤ) → Type 0
 HasPoints steps side points = ArePoints side.line.from side.line.to (AlwaysYields steps (λ corner. corner) side.rest) points
 
@@ -44,6 +45,7 @@ HasPoints steps side points = ArePoints side.line.from side.line.to (AlwaysYield
 abbrev pub IsReady : {S : Type 0} → (S → Type 0) → (S → Count) → Side S → Type 0
 IsReady can left side = (next : ℕ × ℤ) → side.line.to ≡ Some next → can side.rest × IsFinite (left side.rest)
 
+-- n + 1 while there is a next corner
 abbrev pub pending_of : Option (ℕ × ℤ) → ℕ → ℕ
 pending_of None n = 0
 pending_of (Some next) n = n + 1
@@ -92,6 +94,7 @@ and_above Worse = Incomparable
 and_above Even = Better
 and_above Incomparable = Incomparable
 
+-- what is found with how the first stands to the second at a further size
 abbrev pub and_here : Verdict → Ordering → Verdict
 and_here found Less = and_below found
 and_here found Equal = found

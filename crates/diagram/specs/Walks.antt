@@ -63,6 +63,7 @@ pub record CanGoOn {S : Type 0} (can : S → Type 0) (steps : S → Option FeeRa
   pub are : AreLeft steps s rest
   pub level : FitBehind s.end rest
 
+-- a count of parts with one more, unless the walk has ended
 abbrev pub corners_count : Ahead → Count → Count
 corners_count Unknown n = count_map (λ k. k + 1) n
 corners_count (Part first) n = count_map (λ k. k + 1) n

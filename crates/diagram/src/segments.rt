@@ -44,6 +44,7 @@ impl<I: Iterator<Item = FeeRate>> Iterator for Corners<I> {
                 Some((self.end.size, self.end.fee))
             }
             Ahead::Part(first) => {
+                // A law for the proof: how the segment at hand stands to those behind it.
                 equal_rates_join_once();
                 self.take_segment(first);
                 Some((self.end.size, self.end.fee))
@@ -54,6 +55,7 @@ impl<I: Iterator<Item = FeeRate>> Iterator for Corners<I> {
 }
 
 impl<I: Iterator<Item = FeeRate>> Corners<I> {
+    /// Before the first part.
     pub(crate) fn new(parts: I) -> Self
         ensures parts { result.parts ≡ parts }
         ensures end { result.end ≡ record { fee = pos 0; size = 0 } }

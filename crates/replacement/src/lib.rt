@@ -27,6 +27,7 @@ pub fn compare_full<I: Iterator<Item = FeeRate>, J: Iterator<Item = FeeRate>>(
         → YieldsParts J.next_gives top tops → JoinsEqualRates mains before → JoinsEqualRates tops after
         → Compares (corners_of after) (corners_of before) result }
 {
+    // A law for the proof: each list of parts has its segments.
     equal_rates_join_once();
     verdict(corners(top), corners(main))
 }

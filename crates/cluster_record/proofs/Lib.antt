@@ -1,9 +1,0 @@
-mod Names
-mod Kept
-mod Single
-mod Lists
-mod Listings
-mod Parts
-mod Walks
-mod Joined
-mod Splits
