@@ -87,8 +87,7 @@ module _ (n : ℕ) (names : List ℕ) (g h : Graph) (chosen : set.FinSet nat_cmp
       let first : slice_index names (slice_index ps at.0) ≡ a = sym (own_at at.0 low) ∙ at.4 in
       let second : slice_index names (slice_index ps at.1) ≡ d = sym (own_at at.1 below) ∙ at.5 in
       let holds : is_ancestor (named names g) (slice_index names (slice_index ps at.0)) (slice_index names (slice_index ps at.1)) ≡ true =
-      named-ancestor names g kept.once (slice_index ps at.0) (slice_index ps at.1) (place_at at.0 low).0 (place_at at.1 below).0 ∙ sym (above at.0 at.1 low below) ∙ at.6 in
-      (
+      named-ancestor names g kept.once (slice_index ps at.0) (slice_index ps at.1) (place_at at.0 low).0 (place_at at.1 below).0 ∙ sym (above at.0 at.1 low below) ∙ at.6 in (
         (slice_index ps at.0, (place_at at.0 low).0, (place_at at.0 low).1, first),
         (slice_index ps at.1, (place_at at.1 below).0, (place_at at.1 below).1, second),
         subst₂ (λ x y. is_ancestor (named names g) x y ≡ true) first second holds,

@@ -292,23 +292,22 @@ module _ (n : ℕ) (names : List ℕ) (g : Graph) (kept : IsNamed n names g) (pl
     Splitting-all none = record {
       ancestors = λ a d. (
         λ up.
-        let done = so.there a d up in
-        (
-          λ same. done.first_done.other (kept.once done.first place done.first_done.low low (done.first_is ∙ same)),
-          λ same. done.second_done.other (kept.once done.second place done.second_done.low low (done.second_is ∙ same)),
-          subst₂ (λ x y. is_ancestor (named names g) x y ≡ true) done.first_is done.second_is (named-ancestor names g kept.once done.first done.second done.first_done.low done.second_done.low ∙ done.above),
-        ),
+            let done = so.there a d up in (
+              λ same. done.first_done.other (kept.once done.first place done.first_done.low low (done.first_is ∙ same)),
+              λ same. done.second_done.other (kept.once done.second place done.second_done.low low (done.second_is ∙ same)),
+              subst₂ (λ x y. is_ancestor (named names g) x y ≡ true) done.first_is done.second_is (named-ancestor names g kept.once done.first done.second done.first_done.low done.second_done.low ∙ done.above),
+            ),
         λ all.
-        let at = ancestor-stands names g kept.once a d all.2 in
-        so.back a d (record {
-          first = at.0;
-          second = at.1;
-          first_done = record { low = at.2; other = λ same. all.0 (sym at.4 ∙ ap (slice_index names) same); taken = ap (λ s. set.contains s at.0) none ∙ contains-empty at.0 };
-          second_done = record { low = at.3; other = λ same. all.1 (sym at.5 ∙ ap (slice_index names) same); taken = ap (λ s. set.contains s at.1) none ∙ contains-empty at.1 };
-          first_is = at.4;
-          second_is = at.5;
-          above = at.6;
-        }),
+            let at = ancestor-stands names g kept.once a d all.2 in
+            so.back a d (record {
+              first = at.0;
+              second = at.1;
+              first_done = record { low = at.2; other = λ same. all.0 (sym at.4 ∙ ap (slice_index names) same); taken = ap (λ s. set.contains s at.0) none ∙ contains-empty at.0 };
+              second_done = record { low = at.3; other = λ same. all.1 (sym at.5 ∙ ap (slice_index names) same); taken = ap (λ s. set.contains s at.1) none ∙ contains-empty at.1 };
+              first_is = at.4;
+              second_is = at.5;
+              above = at.6;
+            }),
       );
       rates = so.rates;
       apart = so.apart;

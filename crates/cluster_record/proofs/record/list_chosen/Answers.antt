@@ -33,11 +33,11 @@ loop-place-preserved g c = record {
   split = split_more c.loop-place.yielded c.loop-place.place-iterator c.next.new.self _ c.in-Some.place c.loop-place.invariant.split c.in-Some.ensures.steps;
   copied = ap (λ (r : Room). r.ids) c.push.ensures ∙ copied_more c.args.names.now c.loop-place.yielded c.loop-place.out.ids c.in-Some.place _ c.loop-place.invariant.copied refl;
   room =
-      let left : 0 < c.loop-place.out.room = 
-          let cleared : length c.clear.new.self.ids + c.clear.new.self.room ≡ 0 + (c.args.out.now.room + length c.args.out.now.ids) = ap (λ (r : Room). length r.ids + r.room) c.clear.ensures in
-          let enough : length c.args.names.now ≤ length c.args.out.now.ids + c.args.out.now.room = c.requires.room in
-          room_left (64 * g.row.W) c.args.names.now c.args.chosen.now c.loop-place.yielded c.loop-place.place-iterator _ c.in-Some.place c.loop-place.out.ids c.loop-place.out.room (length c.clear.new.self.ids + c.clear.new.self.room)
-          c.requires.within c.loop-place.invariant.split c.in-Some.ensures.steps c.loop-place.invariant.copied c.loop-place.invariant.room (omega arith) in
+      let left : 0 < c.loop-place.out.room =
+      let cleared : length c.clear.new.self.ids + c.clear.new.self.room ≡ 0 + (c.args.out.now.room + length c.args.out.now.ids) = ap (λ (r : Room). length r.ids + r.room) c.clear.ensures in
+      let enough : length c.args.names.now ≤ length c.args.out.now.ids + c.args.out.now.room = c.requires.room in
+      room_left (64 * g.row.W) c.args.names.now c.args.chosen.now c.loop-place.yielded c.loop-place.place-iterator _ c.in-Some.place c.loop-place.out.ids c.loop-place.out.room (length c.clear.new.self.ids + c.clear.new.self.room)
+      c.requires.within c.loop-place.invariant.split c.in-Some.ensures.steps c.loop-place.invariant.copied c.loop-place.invariant.room (omega arith) in
       let pushed : length c.push.new.self.ids + c.push.new.self.room ≡ length (c.loop-place.out.ids ++ slice_index c.args.names.now c.in-Some.place ∷ []) + (c.loop-place.out.room - 1) = ap (λ (r : Room). length r.ids + r.room) c.push.ensures in
       let longer : length (c.loop-place.out.ids ++ slice_index c.args.names.now c.in-Some.place ∷ []) ≡ length c.loop-place.out.ids + 1 = length_push c.loop-place.out.ids (slice_index c.args.names.now c.in-Some.place) in
       let same : length c.loop-place.out.ids + c.loop-place.out.room ≡ length c.clear.new.self.ids + c.clear.new.self.room = c.loop-place.invariant.room in

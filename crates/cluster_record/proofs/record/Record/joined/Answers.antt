@@ -38,15 +38,14 @@ add_dep-requires g c =
     let member = merged_member (64 * g.row.W) c.self.inside.names.items c.other.inside.names.items c.self.inside.dep c.other.inside.dep c.in_ok-dep.dep c.self.invariant c.other.invariant (few g c) (apart g c) c.in_ok-dep.ensures in
     let first : c.args.parent < length c.self.inside.names.items = low g c in
     let second : c.args.child < length c.other.inside.names.items = below g c in
-    let long : c.len.result ≡ length c.self.inside.names.items = c.len.ensures.value in
-    (
+    let long : c.len.result ≡ length c.self.inside.names.items = c.len.ensures.value in (
       search rules,
       (
         member c.args.parent ∙ lt-ltb c.args.parent (length c.self.inside.names.items + length c.other.inside.names.items) (omega arith),
         (
           member (c.len.result + c.args.child) ∙ lt-ltb (c.len.result + c.args.child) (length c.self.inside.names.items + length c.other.inside.names.items) (omega arith),
           (across (64 * g.row.W) c.self.inside.names.items c.other.inside.names.items c.self.inside.dep c.other.inside.dep c.in_ok-dep.dep c.self.invariant c.other.invariant (few g c) (apart g c) c.in_ok-dep.ensures
-          c.args.parent (c.len.result + c.args.child) first (omega arith)).1,
+              c.args.parent (c.len.result + c.args.child) first (omega arith)).1,
         ),
       ),
     )

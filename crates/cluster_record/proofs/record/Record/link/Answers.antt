@@ -10,8 +10,7 @@ pub add_dep-requires : goal.add_dep-requires
 add_dep-requires g c =
     let kept = c.self.invariant in
     let low : c.args.parent < length c.self.inside.names.items = subst (λ (s : Cluster). c.args.parent < length s.names) (sym c.self.view_is) c.requires.parent in
-    let below : c.args.child < length c.self.inside.names.items = subst (λ (s : Cluster). c.args.child < length s.names) (sym c.self.view_is) c.requires.child in
-    (
+    let below : c.args.child < length c.self.inside.names.items = subst (λ (s : Cluster). c.args.child < length s.names) (sym c.self.view_is) c.requires.child in (
       search rules,
       (
         place_member (64 * g.row.W) c.self.inside.names.items c.self.inside.dep kept c.args.parent low,

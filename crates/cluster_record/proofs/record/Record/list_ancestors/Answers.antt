@@ -12,8 +12,7 @@ list_chosen-requires g c =
     let within : IsWithin (length c.self.inside.names.items) c.ancestors.result = above_within (64 * g.row.W) c.self.inside.names.items c.self.inside.dep c.self.invariant c.args.place c.ancestors.result c.ancestors.ensures in
     let few : length c.self.inside.names.items ≤ 64 * g.row.W = c.self.invariant.few in
     let same : length c.as_slice.result.now ≡ length c.self.inside.names.items = ap length c.as_slice.ensures in
-    let room : 64 * g.row.W ≤ length c.args.out.now.ids + c.args.out.now.room = c.requires.room in
-    (
+    let room : 64 * g.row.W ≤ length c.args.out.now.ids + c.args.out.now.room = c.requires.room in (
       search rules,
       (
         subst (λ (xs : List ℕ). IsWithin (length xs) c.ancestors.result) (sym c.as_slice.ensures) within,

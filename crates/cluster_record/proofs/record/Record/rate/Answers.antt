@@ -8,4 +8,4 @@ pub returns : goal.returns
 returns g c =
     c.rate.ensures
     ∙ sym (subst (λ (s : Cluster). (p : ℕ) → p < length s.names → rate_of s.graph (slice_index s.names p) ≡ rate_of c.self.inside.dep p)
-      c.self.view_is (named-rate c.self.inside.names.items c.self.inside.dep c.self.invariant.once) c.args.place c.requires)
+    c.self.view_is (named-rate c.self.inside.names.items c.self.inside.dep c.self.invariant.once) c.args.place c.requires)

@@ -17,8 +17,7 @@ loop-first-init g c =
 pub part-requires : goal.part-requires
 part-requires g c =
     let within : IsWithin (length c.self.inside.names.items) c.component-chosen.result =
-    λ p here. (c.loop-first.invariant.among p (component_inside c.self.inside.dep c.loop-first.rest c.component-chosen.result c.in-Some.first c.in-Some.ensures.least.member c.component-chosen.ensures p here)).0 in
-    (
+    λ p here. (c.loop-first.invariant.among p (component_inside c.self.inside.dep c.loop-first.rest c.component-chosen.result c.in-Some.first c.in-Some.ensures.least.member c.component-chosen.ensures p here)).0 in (
       search rules,
       (
         search rules,
