@@ -8,6 +8,3 @@ mod clusters;
 mod graph;
 
 pub use graph::TxGraph;
-
-#[cfg(test)]
-mod tests;
