@@ -1,0 +1,9 @@
+mod Names
+mod Kept
+mod Single
+mod Lists
+mod Listings
+mod Parts
+mod Walks
+mod Joined
+mod Splits

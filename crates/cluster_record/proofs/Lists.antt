@@ -1,0 +1,126 @@
+-- Lists of the names of places.
+use Rattle.std.proofs.Common.{◌≡◌, ℕ, zero, suc, ◌+◌, ◌-◌, ◌<◌, ◌≤◌, Bool, true, false, nat_eq, List, [], ◌∷◌, ◌++◌, map, length, get_or, slice_index, Contains, inl, inr, ◌⊎◌, ◌↔◌, refl, sym, ap, ◌∙◌, subst, arith, ne_eqb, append-nil, length-append}
+use Rattle.std.proofs.lemmas.Bool.{cases_order}
+use Rattle.std.proofs.lemmas.List.{get_or-map, get_or_default, length-map, map_push}
+use Rattle.std.proofs.lemmas.List.Elements.{Contains-get_or}
+use Rattle.std.proofs.lemmas.List.Sorted.{Contains-permutation, IsPermutation-sym}
+use Rattle.std.proofs.lemmas.Map.Keys.{IsDistinct-from_apart, IsDistinct-IsPermutation, IsStrictlyIncreasing-from_distinct}
+use Rattle.std.specs.List.{IsDistinct}
+use Rattle.std.specs.List.Sorted.{IsPermutation, IsNonDecreasing}
+use Rattle.std.specs.Cmp.{nat_eq_equiv}
+use Rattle.std.specs.Ordering.{nat_cmp}
+use Rattle.std.specs.FinSet as set
+use Rattle.bitset.specs.Places.{places, IsWithin, IsRising, AllAbove}
+use Rattle.bitset.specs.Sets.{IsRising-places, Contains-places, places-Contains, places-here}
+use Rattle.graph_model.specs.Graphs.{Lists}
+use Rattle.cluster_record.specs.Clusters.{AreOnce}
+use Rattle.cluster_record.specs.Changes.{IsChosen}
+
+above_at : (x : ℕ) (xs : List ℕ) → AllAbove x xs → (j : ℕ) → j < length xs → x < slice_index xs j
+above_at x [] above j low = absurd (omega arith)
+above_at x (y ∷ ys) above zero low = above.0
+above_at x (y ∷ ys) above (suc j) low = above_at x ys above.1 j (omega arith)
+
+pub rising_at : (xs : List ℕ) → IsRising xs → (i j : ℕ) → i < j → j < length xs → slice_index xs i < slice_index xs j
+rising_at [] rising i j before low = absurd (omega arith)
+rising_at (x ∷ xs) rising i zero before low = absurd (omega arith)
+rising_at (x ∷ xs) rising zero (suc j) before low = above_at x xs rising.0 j (omega arith)
+rising_at (x ∷ xs) rising (suc i) (suc j) before low = rising_at xs rising.1 i j (omega arith) (omega arith)
+
+-- in a rising list a number stands once
+pub rising_once : (xs : List ℕ) → IsRising xs → AreOnce xs
+rising_once xs rising p q low below same = elim (cases_order p q) [
+  | inl is ↦ is
+  | inr apart ↦ elim apart [
+    | inl before ↦ absurd (let less : slice_index xs p < slice_index xs q = rising_at xs rising p q before below in omega arith)
+    | inr after ↦ absurd (let less : slice_index xs q < slice_index xs p = rising_at xs rising q p after low in omega arith)
+  ]
+]
+
+pub Contains-map : {X Y : Type 0} (f : X → Y) (xs : List X) (x : X) → Contains xs x → Contains (map f xs) (f x)
+Contains-map f xs x here = (here.0, subst (λ n. here.0 < n) (sym (length-map xs f)) here.1, get_or-map f xs here.0 x (f x) here.1 ∙ ap f here.2)
+
+pub map-Contains : {Y : Type 0} (f : ℕ → Y) (xs : List ℕ) (y : Y) → Contains (map f xs) y → (x : ℕ) × Contains xs x × (f x ≡ y)
+map-Contains f xs y here =
+    let low : here.0 < length xs = subst (λ n. here.0 < n) (length-map xs f) here.1 in
+    (slice_index xs here.0, Contains-get_or xs here.0 0 low, sym (get_or-map f xs here.0 0 y low) ∙ here.2)
+
+-- the names of places differ where the places do
+pub map_once : (names xs : List ℕ) → AreOnce names → AreOnce xs → ((p : ℕ) → Contains xs p → p < length names) → AreOnce (map (slice_index names) xs)
+map_once names xs once apart within p q low below same =
+    let first : p < length xs = subst (λ n. p < n) (length-map xs (slice_index names)) low in
+    let second : q < length xs = subst (λ n. q < n) (length-map xs (slice_index names)) below in
+    apart p q first second (once (slice_index xs p) (slice_index xs q) (within (slice_index xs p) (Contains-get_or xs p 0 first)) (within (slice_index xs q) (Contains-get_or xs q 0 second))
+    (sym (get_or-map (slice_index names) xs p 0 0 first) ∙ same ∙ get_or-map (slice_index names) xs q 0 0 second))
+
+once_distinct : (xs : List ℕ) → AreOnce xs → IsDistinct nat_eq xs
+once_distinct xs once = IsDistinct-from_apart nat_eq xs (λ i j d before below. ne_eqb (get_or xs i d) (get_or xs j d)
+    (λ same. let is : i ≡ j = once i j (omega arith) below (get_or_default xs i 0 d (omega arith) ∙ same ∙ get_or_default xs j d 0 below) in omega arith))
+
+module _ (n : ℕ) (names : List ℕ) (chosen : set.FinSet nat_cmp) (within : IsWithin (length names) chosen) where
+  place_within : (p : ℕ) → Contains (places n chosen) p → p < length names
+  place_within p here = within p (places-Contains n chosen p here).1
+
+  pub chosen_once : AreOnce names → AreOnce (map (slice_index names) (places n chosen))
+  chosen_once once = map_once names (places n chosen) once (rising_once (places n chosen) (IsRising-places n chosen)) place_within
+
+  -- the names of the places of a set are the names that it chooses
+  pub names_chosen : IsWithin n chosen → (id : ℕ) → Contains (map (slice_index names) (places n chosen)) id ↔ IsChosen names chosen id
+  names_chosen bound id = (
+    λ here. let at = map-Contains (slice_index names) (places n chosen) id here in (at.0, place_within at.0 at.1, (places-Contains n chosen at.0 at.1).1, at.2),
+    λ at. subst (Contains (map (slice_index names) (places n chosen))) at.3 (Contains-map (slice_index names) (places n chosen) at.0 (Contains-places n chosen at.0 (bound at.0 at.2) at.2)),
+  )
+
+  pub chosen_listed : IsWithin n chosen → AreOnce names → (ids sorted : List ℕ) → ids ≡ map (slice_index names) (places n chosen) → IsPermutation ids sorted → IsNonDecreasing sorted → Lists (IsChosen names chosen) sorted
+  chosen_listed bound once ids sorted is moved rising = record {
+    rising = IsStrictlyIncreasing-from_distinct sorted rising (IsDistinct-IsPermutation nat_eq nat_eq_equiv.symm ids sorted moved (subst (IsDistinct nat_eq) (sym is) (once_distinct _ (chosen_once once))));
+    exact = λ id. (
+      λ here. (names_chosen bound id).0 (subst (λ xs. Contains xs id) is (Contains-permutation sorted ids id (IsPermutation-sym ids sorted moved) here)),
+      λ at. Contains-permutation ids sorted id moved (subst (λ xs. Contains xs id) (sym is) ((names_chosen bound id).1 at)),
+    );
+  }
+
+  -- the next place of a walk over the set
+  pub next_within : (ys ws zs : List ℕ) (p : ℕ) → ys ++ ws ≡ places n chosen → ws ≡ p ∷ zs → p < length names
+  next_within ys ws zs p split is = within p (places-here n chosen ys zs p (sym split ∙ ap (λ xs. ys ++ xs) is)).1
+
+-- ---- room for the names of a set
+
+-- so many distinct numbers below a bound are at most the bound
+once_few : (xs : List ℕ) (n : ℕ) → IsRising xs → ((p : ℕ) → Contains xs p → p < n) → length xs ≤ n
+once_few xs n rising within = elim (cases_order (length xs) 0) [
+  | inl none ↦ omega arith
+  | inr some ↦ elim some [
+    | inl below ↦ omega arith
+    | inr many ↦
+        let last : slice_index xs (length xs - 1) < n = within (slice_index xs (length xs - 1)) (Contains-get_or xs (length xs - 1) 0 (omega arith)) in
+        let high : length xs - 1 ≤ slice_index xs (length xs - 1) = at_least xs rising (length xs - 1) (omega arith) in omega arith
+  ]
+]
+  where
+    at_least : (xs : List ℕ) → IsRising xs → (i : ℕ) → i < length xs → i ≤ slice_index xs i
+    at_least xs rising zero low = omega arith
+    at_least xs rising (suc i) low =
+        let before : i ≤ slice_index xs i = at_least xs rising i (omega arith) in
+        let less : slice_index xs i < slice_index xs (suc i) = rising_at xs rising i (suc i) (omega arith) low in omega arith
+
+pub chosen_few : (n : ℕ) (names : List ℕ) (chosen : set.FinSet nat_cmp) → IsWithin (length names) chosen → length (places n chosen) ≤ length names
+chosen_few n names chosen within = once_few (places n chosen) (length names) (IsRising-places n chosen) (place_within n names chosen within)
+
+-- one more name was pushed, and there was room for it
+pub room_left : (n : ℕ) (names : List ℕ) (chosen : set.FinSet nat_cmp) (ys ws zs : List ℕ) (p : ℕ) (ids : List ℕ) (room total : ℕ) → IsWithin (length names) chosen → ys ++ ws ≡ places n chosen → ws ≡ p ∷ zs
+    → ids ≡ map (slice_index names) ys → length ids + room ≡ total → length names ≤ total → 0 < room
+room_left n names chosen ys ws zs p ids room total within split is copied same enough =
+    let few : length (places n chosen) ≤ length names = chosen_few n names chosen within in
+    let parts : length (places n chosen) ≡ length ys + length (p ∷ zs) = ap length (sym split ∙ ap (λ xs. ys ++ xs) is) ∙ length-append ys (p ∷ zs) in
+    let held : length ids ≡ length ys = ap length copied ∙ length-map ys (slice_index names) in
+    omega arith
+
+pub copied_more : (names ys ids : List ℕ) (p x : ℕ) → ids ≡ map (slice_index names) ys → x ≡ slice_index names p → ids ++ x ∷ [] ≡ map (slice_index names) (ys ++ p ∷ [])
+copied_more names ys ids p x copied is = ap (λ xs. xs ++ x ∷ []) copied ∙ ap (λ y. map (slice_index names) ys ++ y ∷ []) is ∙ sym (map_push (slice_index names) ys p)
+
+pub split_more : (ys ws zs all : List ℕ) (p : ℕ) → ys ++ ws ≡ all → ws ≡ p ∷ zs → (ys ++ p ∷ []) ++ zs ≡ all
+split_more ys ws zs all p split is = Rattle.std.proofs.Common.append_assoc ys (p ∷ []) zs ∙ ap (λ xs. ys ++ xs) (sym is) ∙ split
+
+pub split_all : (ys ws all : List ℕ) → ys ++ ws ≡ all → ws ≡ [] → ys ≡ all
+split_all ys ws all split is = sym (append-nil ys) ∙ ap (λ xs. ys ++ xs) (sym is) ∙ split

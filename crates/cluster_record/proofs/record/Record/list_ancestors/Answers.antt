@@ -1,0 +1,28 @@
+use Rattle.std.proofs.Common.{◌≡◌, ℕ, true, ◌*◌, ◌<◌, ◌≤◌, ◌+◌, List, length, arith, rules, ◌∙◌, sym, ap, subst, slice_index}
+use Rattle.bitset.specs.Places.{IsWithin}
+use Rattle.graph_model.specs.Graphs.{Lists}
+use Rattle.dep_graph.specs.Graph.{is_ancestor}
+use Rattle.cluster_record.specs.Clusters.{Cluster, AreOnce}
+use Rattle.cluster_record.specs.Changes.{IsChosen}
+use Rattle.cluster_record.proofs.Listings.{above_within, above_listed}
+use Rattle.cluster_record.proofs.record.Record.list_ancestors.Goals as goal
+
+pub list_chosen-requires : goal.list_chosen-requires
+list_chosen-requires g c =
+    let within : IsWithin (length c.self.inside.names.items) c.ancestors.result = above_within (64 * g.row.W) c.self.inside.names.items c.self.inside.dep c.self.invariant c.args.place c.ancestors.result c.ancestors.ensures in
+    let few : length c.self.inside.names.items ≤ 64 * g.row.W = c.self.invariant.few in
+    let same : length c.as_slice.result.now ≡ length c.self.inside.names.items = ap length c.as_slice.ensures in
+    let room : 64 * g.row.W ≤ length c.args.out.now.ids + c.args.out.now.room = c.requires.room in (
+      search rules,
+      (
+        subst (λ (xs : List ℕ). IsWithin (length xs) c.ancestors.result) (sym c.as_slice.ensures) within,
+        (subst AreOnce (sym c.as_slice.ensures) c.self.invariant.once, omega arith),
+      ),
+    )
+
+pub returns-clause-lists : goal.returns-clause-lists
+returns-clause-lists g c =
+    let low : c.args.place < length c.self.inside.names.items = subst (λ (s : Cluster). c.args.place < length s.names) (sym c.self.view_is) c.requires.place in
+    subst (λ (s : Cluster). Lists (λ id. is_ancestor s.graph id (slice_index s.names c.args.place) ≡ true) c.list_chosen.new.out.ids) c.self.view_is
+    (above_listed (64 * g.row.W) c.self.inside.names.items c.self.inside.dep c.self.invariant c.args.place c.ancestors.result c.list_chosen.new.out.ids low c.ancestors.ensures
+    (subst (λ (xs : List ℕ). Lists (IsChosen xs c.ancestors.result) c.list_chosen.new.out.ids) c.as_slice.ensures c.list_chosen.ensures.lists))

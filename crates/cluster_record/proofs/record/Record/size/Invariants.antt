@@ -1,0 +1,11 @@
+use Rattle.std.proofs.Common.{◌≡◌, ◌*◌, ◌≤◌, take}
+use Rattle.std.specs.Prelude.{sum_by}
+use Rattle.dep_graph.specs.Graph.{rate_of}
+use Rattle.cluster_record.specs.Named.{named}
+use Rattle.cluster_record.proofs.record.Record.size.Given as goal
+
+abbrev pub invariant-loop-place : goal.invariant-loop-place
+invariant-loop-place g l = record {
+  sum : l.total ≡ sum_by (λ id. (rate_of (named l.self-inside.names.items l.self-inside.dep) id).size) (take l.place l.self-inside.names.items);
+  small : l.total ≤ 4000000 * l.place;
+}

@@ -1,0 +1,38 @@
+-- A cluster: its names in the order of their places, and the graph of these names.
+use Rattle.std.specs.Prelude.{◌≡◌, ℕ, ◌<◌, ◌≤◌, ◌⊎◌, ◌↔◌, true, List, length, slice_index, Contains, refl}
+use Rattle.std.specs.Coded.{Coded, code_by, coded×, coded_ℕ, coded_list}
+use Rattle.dep_graph.specs.Graph.{Graph, graph_code, is_member, is_ancestor, rate_of, IsOrder}
+use Rattle.dep_graph.specs.Walks.{Walk}
+
+pub record Cluster : Type 0 where
+  pub names : List ℕ
+  pub graph : Graph
+
+abbrev pub cluster_code : Coded Cluster
+cluster_code = code_by (List ℕ × Graph) (coded× (coded_list coded_ℕ) graph_code) (λ c. (c.names, c.graph)) (λ p. record { names = p.0; graph = p.1 }) (λ _. refl)
+
+-- one of two is an ancestor of the other
+abbrev pub IsRelated : Graph → ℕ → ℕ → Type 0
+IsRelated g a b = (is_ancestor g a b ≡ true) ⊎ (is_ancestor g b a ≡ true)
+
+-- steps to ancestors and to descendants lead from the one to the other
+abbrev pub AreLinked : Graph → ℕ → ℕ → Type 0
+AreLinked g a b = Walk (IsRelated g) a b
+
+-- no name stands at two places
+abbrev pub AreOnce : List ℕ → Type 0
+AreOnce names = (p q : ℕ) → p < length names → q < length names → slice_index names p ≡ slice_index names q → p ≡ q
+
+-- What holds of every cluster of at most so many names: each name has one place, ancestry is an order on the names,
+-- they are one component, and sizes are in range.
+pub record IsCluster (most : ℕ) (c : Cluster) : Type 0 where
+  pub few : length c.names ≤ most
+  pub once : AreOnce c.names
+  pub members : (id : ℕ) → (is_member c.graph id ≡ true) ↔ Contains c.names id
+  pub order : IsOrder (is_member c.graph) (is_ancestor c.graph)
+  pub whole : (a b : ℕ) → is_member c.graph a ≡ true → is_member c.graph b ≡ true → AreLinked c.graph a b
+  pub small : (id : ℕ) → is_member c.graph id ≡ true → (rate_of c.graph id).size ≤ 4000000
+
+-- two clusters have no name in common
+abbrev pub AreApart : Cluster → Cluster → Type 0
+AreApart c d = (id : ℕ) → Contains c.names id → Contains d.names id → ⊥

@@ -1,0 +1,35 @@
+-- The graph of the names of places.
+use Rattle.std.specs.Prelude.{◌≡◌, ℕ, zero, suc, ◌<◌, ◌≤◌, Bool, true, cond, nat_lt, List, length, slice_index}
+use Rattle.std.specs.Ordering.{nat_cmp}
+use Rattle.std.specs.FinSet as set
+use Rattle.std.specs.FinMap as map
+use Rattle.dep_graph.specs.Graph.{Node, Graph, is_member, is_ancestor, rate_of, IsOrder}
+use Rattle.dep_graph.specs.Walks.{Walk}
+use Rattle.cluster_record.specs.Clusters.{AreOnce, IsRelated}
+
+-- the names of the places below n that pass a test
+unfoldable pub names_where : List ℕ → (ℕ → Bool) → ℕ → set.FinSet nat_cmp
+names_where names f zero = set.empty
+names_where names f (suc n) = cond (f n) (set.insert (names_where names f n) (slice_index names n)) (names_where names f n)
+
+-- what is known of a place, by names
+abbrev pub named_node : List ℕ → Graph → ℕ → Node
+named_node names g p = record { rate = rate_of g p; ancestors = names_where names (λ a. is_ancestor g a p) (length names) }
+
+-- the graph of the names of the places below n
+unfoldable pub named_below : List ℕ → Graph → ℕ → Graph
+named_below names g zero = map.empty
+named_below names g (suc n) = map.insert (named_below names g n) (slice_index names n) (named_node names g n)
+
+-- the graph of the names, each with what its place has
+unfoldable pub named : List ℕ → Graph → Graph
+named names g = named_below names g (length names)
+
+-- What is kept of a cluster: its places are the numbers from 0 on, each has one name, and the places are one component.
+pub record IsNamed (n : ℕ) (names : List ℕ) (g : Graph) : Type 0 where
+  pub few : length names ≤ n
+  pub once : AreOnce names
+  pub members : (p : ℕ) → is_member g p ≡ nat_lt p (length names)
+  pub order : IsOrder (is_member g) (is_ancestor g)
+  pub whole : (p q : ℕ) → p < length names → q < length names → Walk (IsRelated g) p q
+  pub small : (p : ℕ) → p < length names → (rate_of g p).size ≤ 4000000

@@ -1,0 +1,15 @@
+mod Graphs
+mod Loose
+mod Settling
+mod Added
+mod Slots
+mod Joined
+mod Standing
+mod Links
+mod Rows
+mod Lens
+mod Stepping
+mod Arranged
+mod Pairs
+mod Starts
+mod Calls

@@ -1,0 +1,125 @@
+-- The rows of refusals, by the graph that is kept.
+use Rattle.std.proofs.Common.{◌≡◌, ℕ, ◌<◌, ◌≤◌, Bool, true, false, List, length, sym, refl, subst, ap, ◌∙◌, inl, inr, ◌⊎◌, ◌↔◌, Option, None, Some, IsSome, is_some, true≢false}
+use Rattle.std.specs.Prelude.{Contains, sum_by}
+use Rattle.std.specs.FinMap as finmap
+use Rattle.std.proofs.lemmas.Bool.{true_from_ne_false}
+use Rattle.graph_model.specs.declared.names.Limits.{Limits}
+use Rattle.graph_model.specs.declared.names.Level.{Level}
+use Rattle.graph_model.specs.declared.names.Refusal.{Refusal}
+use Rattle.graph_model.specs.declared.names.Refusal.TheVariants.{Unknown, Cycle, Count, ClusterSize}
+use Rattle.graph_model.specs.Graphs.{IsAncestor, AreConnected, Lists}
+use Rattle.graph_model.specs.States.{State, LevelState, Table, Entry, level_of, size_of, size_in}
+use Rattle.graph_model.specs.Commands.{Dep, Remove, Cluster, Ancestors, Descendants}
+use Rattle.graph_model.specs.Refusals.{RefusalIs, First, FirstAt, NoRefusal, OverCount, OverSize}
+use Rattle.graph_model.proofs.ListLemmas.{Lists-for}
+use Rattle.dep_graph.specs.Graph.{Node, Graph, is_member, is_ancestor, rate_of, rate_in, IsOrder}
+use Rattle.cluster_record.specs.Clusters.{AreLinked}
+use Rattle.tx_graph.specs.Kept.{Kept, StandsFor, entry_of}
+use Rattle.tx_graph.specs.Joins.{JoinsTo, JoinsTooMany, JoinsTooLarge, DepRefusalIs}
+use Rattle.tx_graph.proofs.Standing.{state_of, of_states, level-main}
+use Rattle.tx_graph.proofs.Links.{connected-linked}
+
+pub first_map : (cause cause' : Type 0) (why : Refusal) (later later' : Option Refusal → Type 0) (found : Option Refusal) → cause ↔ cause' → (later found → later' found) → First cause why later found → First cause' why later' found
+first_map cause cause' why later later' found same more row = elim row [
+  | inl here ↦ inl (same.0 here.0, here.1)
+  | inr on ↦ inr (λ holds. on.0 (same.1 holds), more on.1)
+]
+
+pub first_at_map : (cause cause' : ℕ → Type 0) (why : ℕ → Refusal) (later later' : Option Refusal → Type 0) (found : Option Refusal) → ((n : ℕ) → cause n ↔ cause' n) → (later found → later' found) → FirstAt cause why later found → FirstAt cause' why later' found
+first_at_map cause cause' why later later' found same more row = elim row [
+  | inl here ↦ inl (here.0, (same here.0).0 here.1, here.2)
+  | inr on ↦ inr (λ n holds. on.0 n ((same n).1 holds), more on.1)
+]
+
+-- the sizes of the table are those of the graph
+size_entry : (o : Option Node) → size_in (entry_of o) ≡ (rate_in o).size
+size_entry None = refl
+size_entry (Some node) = refl
+
+pub size-of : (kept : Kept) (state : State) (id : ℕ) → StandsFor kept state → size_of state.table id ≡ (rate_of kept.graph id).size
+unfolding rate_of
+size-of kept state id stands = ap size_in (stands.table id) ∙ size_entry (finmap.get kept.graph id)
+
+sizes-of : (kept : Kept) (state : State) → StandsFor kept state → (ids : List ℕ) → sum_by (size_of state.table) ids ≡ sum_by (λ id. (rate_of kept.graph id).size) ids
+sizes-of kept state stands ids = λ i. sum_by (λ id. size-of kept state id stands i) ids
+
+module _ (kept : Kept) (table : Table) (main : LevelState) (stands : StandsFor kept (state_of kept table main)) (order : IsOrder (is_member kept.graph) (is_ancestor kept.graph)) (parent child : ℕ) where
+  abbrev state : State
+  state = state_of kept table main
+
+  absent : (id : ℕ) → (is_member kept.graph id ≡ true → ⊥) ↔ (Contains main.graph.names id → ⊥)
+  absent id = (λ none here. none ((stands.names id).0 here), λ none member. none ((stands.names id).1 member))
+
+  joins_to : (members : List ℕ) → JoinsTo kept.graph parent child members ↔ ((AreConnected main.graph.pairs parent child → ⊥) × Lists (λ id. AreConnected main.graph.pairs id parent ⊎ AreConnected main.graph.pairs id child) members)
+  joins_to members = (
+    λ joins. (
+      λ trail. joins.0 ((connected-linked kept state stands parent child).0 trail),
+      Lists-for (λ id. AreLinked kept.graph id parent ⊎ AreLinked kept.graph id child) (λ id. AreConnected main.graph.pairs id parent ⊎ AreConnected main.graph.pairs id child) members
+          (λ id linked. elim linked [ inl x ↦ inl ((connected-linked kept state stands id parent).1 x) | inr y ↦ inr ((connected-linked kept state stands id child).1 y) ])
+          (λ id trail. elim trail [ inl x ↦ inl ((connected-linked kept state stands id parent).0 x) | inr y ↦ inr ((connected-linked kept state stands id child).0 y) ]) joins.1,
+    ),
+    λ joins. (
+      λ linked. joins.0 ((connected-linked kept state stands parent child).1 linked),
+      Lists-for (λ id. AreConnected main.graph.pairs id parent ⊎ AreConnected main.graph.pairs id child) (λ id. AreLinked kept.graph id parent ⊎ AreLinked kept.graph id child) members
+          (λ id trail. elim trail [ inl x ↦ inl ((connected-linked kept state stands id parent).0 x) | inr y ↦ inr ((connected-linked kept state stands id child).0 y) ])
+          (λ id linked. elim linked [ inl x ↦ inl ((connected-linked kept state stands id parent).1 x) | inr y ↦ inr ((connected-linked kept state stands id child).1 y) ]) joins.1,
+    ),
+  )
+
+  too_many : (n : ℕ) → JoinsTooMany kept.limits kept.graph parent child n ↔ OverCount state parent child n
+  too_many n = (λ many. (many.0, (joins_to many.0).0 many.1, many.2, many.3), λ many. (many.0, (joins_to many.0).1 many.1, many.2, many.3))
+
+  too_large : (n : ℕ) → JoinsTooLarge kept.limits kept.graph parent child n ↔ OverSize state parent child n
+  too_large n = (
+    λ large. (large.0, (joins_to large.0).0 large.1, large.2 ∙ sym (sizes-of kept state stands large.0), large.3),
+    λ large. (large.0, (joins_to large.0).1 large.1, large.2 ∙ sizes-of kept state stands large.0, large.3),
+  )
+
+  -- a live name is an ancestor of itself
+  cycle : is_member kept.graph parent ≡ true → (is_ancestor kept.graph child parent ≡ true) ↔ IsAncestor main.graph.pairs child parent
+  cycle member = (
+    λ up. (stands.ancestors child parent).1 (inr up),
+    λ walk. elim ((stands.ancestors child parent).0 walk) [
+      | inl same ↦ subst (λ x. is_ancestor kept.graph x parent ≡ true) (sym same) (order.reflexive parent member)
+      | inr up ↦ up
+    ],
+  )
+
+  dep_tail : (found : Option Refusal) → FirstAt (JoinsTooMany kept.limits kept.graph parent child) Count (FirstAt (JoinsTooLarge kept.limits kept.graph parent child) ClusterSize NoRefusal) found → FirstAt (OverCount state parent child) Count (FirstAt (OverSize state parent child) ClusterSize NoRefusal) found
+  dep_tail found row = first_at_map (JoinsTooMany kept.limits kept.graph parent child) (OverCount state parent child) Count (FirstAt (JoinsTooLarge kept.limits kept.graph parent child) ClusterSize NoRefusal) (FirstAt (OverSize state parent child) ClusterSize NoRefusal) found too_many
+      (first_at_map (JoinsTooLarge kept.limits kept.graph parent child) (OverSize state parent child) ClusterSize NoRefusal NoRefusal found too_large (λ none. none)) row
+
+  dep_row_here : (found : Option Refusal) → DepRefusalIs kept.limits kept.graph parent child found → RefusalIs state (Dep parent child) found
+  dep_row_here found row = elim row [
+    | inl no_parent ↦ inl ((absent parent).0 no_parent.0, no_parent.1)
+    | inr on ↦
+        let member : is_member kept.graph parent ≡ true = true_from_ne_false (is_member kept.graph parent) (λ fails. on.0 (λ holds. true≢false (sym holds ∙ fails))) in
+        inr (
+          (λ none. on.0 ((absent parent).1 none)),
+          first_map (is_member kept.graph child ≡ true → ⊥) (Contains main.graph.names child → ⊥) (Unknown child)
+              (First (is_ancestor kept.graph child parent ≡ true) Cycle (FirstAt (JoinsTooMany kept.limits kept.graph parent child) Count (FirstAt (JoinsTooLarge kept.limits kept.graph parent child) ClusterSize NoRefusal)))
+              (First (IsAncestor main.graph.pairs child parent) Cycle (FirstAt (OverCount state parent child) Count (FirstAt (OverSize state parent child) ClusterSize NoRefusal)))
+              found (absent child)
+              (first_map (is_ancestor kept.graph child parent ≡ true) (IsAncestor main.graph.pairs child parent) Cycle (FirstAt (JoinsTooMany kept.limits kept.graph parent child) Count (FirstAt (JoinsTooLarge kept.limits kept.graph parent child) ClusterSize NoRefusal)) (FirstAt (OverCount state parent child) Count (FirstAt (OverSize state parent child) ClusterSize NoRefusal)) found (cycle member) (dep_tail found)) on.1,
+        )
+  ]
+
+pub dep_row : (kept : Kept) (parent child : ℕ) (found : Option Refusal) → IsOrder (is_member kept.graph) (is_ancestor kept.graph) → DepRefusalIs kept.limits kept.graph parent child found → (state : State) → StandsFor kept state → RefusalIs state (Dep parent child) found
+dep_row kept parent child found order row = of_states kept (λ state. RefusalIs state (Dep parent child) found) (λ table main stands. dep_row_here kept table main stands order parent child found row)
+
+-- ---- a name that must be in a level
+
+not_in_level : (kept : Kept) (table : Table) (main : LevelState) (level : Level) (id : ℕ) → StandsFor kept (state_of kept table main) → is_member kept.graph id ≡ false → Contains (level_of (state_of kept table main) level).graph.names id → ⊥
+not_in_level kept table main level id stands fails here =
+    let there : Contains main.graph.names id = subst (λ (l : LevelState). Contains l.graph.names id) (level-main kept table main level) here in
+    true≢false (sym ((stands.names id).0 there) ∙ fails)
+
+in_level : (kept : Kept) (table : Table) (main : LevelState) (level : Level) (id : ℕ) → StandsFor kept (state_of kept table main) → is_member kept.graph id ≡ true → Contains (level_of (state_of kept table main) level).graph.names id
+in_level kept table main level id stands holds = subst (λ (l : LevelState). Contains l.graph.names id) (sym (level-main kept table main level)) ((stands.names id).1 holds)
+
+-- the row of every command whose only refusal is an unknown name
+pub unknown_here : (kept : Kept) (level : Level) (id : ℕ) → is_member kept.graph id ≡ false → (state : State) → StandsFor kept state → First (Contains (level_of state level).graph.names id → ⊥) (Unknown id) NoRefusal (Some (Unknown id))
+unknown_here kept level id fails = of_states kept (λ state. First (Contains (level_of state level).graph.names id → ⊥) (Unknown id) NoRefusal (Some (Unknown id))) (λ table main stands. inl (not_in_level kept table main level id stands fails, refl))
+
+pub known_here : (kept : Kept) (level : Level) (id : ℕ) → is_member kept.graph id ≡ true → (state : State) → StandsFor kept state → First (Contains (level_of state level).graph.names id → ⊥) (Unknown id) NoRefusal None
+known_here kept level id holds = of_states kept (λ state. First (Contains (level_of state level).graph.names id → ⊥) (Unknown id) NoRefusal None) (λ table main stands. inr (λ none. none (in_level kept table main level id stands holds), refl))

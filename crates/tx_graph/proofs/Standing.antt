@@ -1,0 +1,80 @@
+-- Which states a graph stands for, and the steps of the machine that its calls are.
+use Rattle.std.proofs.Common.{◌≡◌, ◌≢◌, ℕ, ◌+◌, ◌<◌, ◌≤◌, Bool, true, false, List, [], ◌∷◌, length, map, sym, refl, ap, subst, ◌∙◌, inl, inr, ◌⊎◌, ◌↔◌, Option, None, Some, is_some}
+use Rattle.std.specs.Prelude.{Contains}
+use Rattle.std.specs.FinMap as finmap
+use Rattle.graph_model.specs.declared.names.Limits.{Limits}
+use Rattle.graph_model.specs.declared.names.Level.{Level}
+use Rattle.graph_model.specs.declared.names.Level.TheVariants.{Main, Top}
+use Rattle.graph_model.specs.declared.names.Refusal.{Refusal}
+use Rattle.graph_model.specs.declared.names.Refusal.TheVariants.{Memory}
+use Rattle.graph_model.specs.Graphs.{IsAncestor, IsGraph}
+use Rattle.graph_model.specs.States.{State, LevelState, Table, Entry, level_of, start}
+use Rattle.graph_model.specs.Commands.{Command}
+use Rattle.graph_model.specs.Refusals.{RefusalIs}
+use Rattle.graph_model.specs.Replies.{Reply, Refused, Done}
+use Rattle.graph_model.specs.Steps.{Step, Accepts, MayLackMemory}
+use Rattle.dep_graph.specs.Graph.{Node, Graph, is_member, is_ancestor}
+use Rattle.tx_graph.specs.Kept.{Kept, StandsFor, MakesStep, entry_of}
+
+-- a state with this table and this main graph
+abbrev pub state_of : Kept → Table → LevelState → State
+state_of kept table main = record { limits = kept.limits; begun = kept.begun; table = table; main = main; staging = None }
+
+-- what holds of each such state that the graph stands for holds of each that it stands for
+pub of_states : (kept : Kept) (P : State → Type 0) → ((table : Table) (main : LevelState) → StandsFor kept (state_of kept table main) → P (state_of kept table main)) → (state : State) → StandsFor kept state → P state
+of_states kept P holds state stands =
+    let same : state_of kept state.table state.main ≡ state =
+    λ i. record { limits = sym stands.limits i; begun = sym stands.begun i; table = state.table; main = state.main; staging = sym stands.staging i } in
+    subst P same (holds state.table state.main (record { limits = refl; begun = refl; table = stands.table; names = stands.names; ancestors = stands.ancestors; valid = stands.valid; staging = refl }))
+
+-- two graphs that differ at most in the count of additions
+pub record IsSameGraph (old new : Kept) : Type 0 where
+  pub limits : new.limits ≡ old.limits
+  pub begun : new.begun ≡ old.begun
+  pub graph : new.graph ≡ old.graph
+
+pub itself : (kept : Kept) → IsSameGraph kept kept
+itself kept = record { limits = refl; begun = refl; graph = refl }
+
+pub same_kept : (old new : Kept) → new ≡ old → IsSameGraph old new
+same_kept old new same = record { limits = ap (λ (k : Kept). k.limits) same; begun = ap (λ (k : Kept). k.begun) same; graph = ap (λ (k : Kept). k.graph) same }
+
+pub stands_still : (old new : Kept) → IsSameGraph old new → (state : State) → StandsFor old state → StandsFor new state
+stands_still old new same state stands = record {
+  limits = stands.limits ∙ sym same.limits;
+  begun = stands.begun ∙ sym same.begun;
+  table = λ id. stands.table id ∙ ap (λ (g : Graph). entry_of (finmap.get g id)) (sym same.graph);
+  names = λ id. subst (λ (g : Graph). Contains state.main.graph.names id ↔ (is_member g id ≡ true)) (sym same.graph) (stands.names id);
+  ancestors = λ a b. subst (λ (g : Graph). IsAncestor state.main.graph.pairs a b ↔ ((a ≡ b) ⊎ (is_ancestor g a b ≡ true))) (sym same.graph) (stands.ancestors a b);
+  valid = stands.valid;
+  staging = stands.staging;
+}
+
+pub steps_refused : (old new : Kept) (command : Command) (why : Refusal) → IsSameGraph old new → ((state : State) → StandsFor old state → RefusalIs state command (Some why)) → MakesStep old new command (Refused why)
+steps_refused old new command why same refused state stands =
+    (state, stands_still old new same state stands, inl (record { why = why; first = refused state stands; told = refl; same = refl }))
+
+pub steps_without_memory : (old new : Kept) (command : Command) → IsSameGraph old new → MayLackMemory command → ((state : State) → StandsFor old state → RefusalIs state command None) → MakesStep old new command (Refused Memory)
+steps_without_memory old new command same may none state stands =
+    (state, stands_still old new same state stands, inr (inl (record { none = none state stands; may = may; told = refl; same = refl })))
+
+pub steps_accepted : (old new : Kept) (command : Command) (reply : Reply) → ((state : State) → StandsFor old state → RefusalIs state command None)
+    → ((table : Table) (main : LevelState) → StandsFor old (state_of old table main) → (next : State) × StandsFor new next × Accepts (state_of old table main) command reply next) → MakesStep old new command reply
+steps_accepted old new command reply none accepts state stands =
+    let P : State → Type 0 = λ (state : State). (next : State) × StandsFor new next × Accepts state command reply next in
+    let next : P state = of_states old P accepts state stands in
+    (next.0, next.1, inr (inr (record { none = none state stands; accepts = next.2 })))
+
+-- without a staging level both words speak of main
+pub level-main : (kept : Kept) (table : Table) (main : LevelState) (level : Level) → level_of (state_of kept table main) level ≡ main
+level-main kept table main Main = refl
+level-main kept table main Top = refl
+
+some_entry : (o : Option Node) → is_some (entry_of o) ≡ is_some o
+some_entry None = refl
+some_entry (Some node) = refl
+
+-- a name is live where it is a member
+pub live-member : (kept : Kept) (state : State) (id : ℕ) → StandsFor kept state → is_some (finmap.get state.table id) ≡ is_member kept.graph id
+unfolding is_member
+live-member kept state id stands = ap is_some (stands.table id) ∙ some_entry (finmap.get kept.graph id)

@@ -1,0 +1,404 @@
+-- The accepted steps.
+use Rattle.std.proofs.Common.{suc, arith, ◌≡◌, ◌≢◌, ℕ, ℤ, ◌+◌, ◌<◌, ◌≤◌, Bool, true, false, cond, not, ◌&&◌, ◌||◌, nat_eq, List, [], ◌∷◌, ◌++◌, length, map, sym, refl, ap, ap₂, subst, ◌∙◌, inl, inr, ◌⊎◌, ◌↔◌, Option, None, Some, IsSome, is_some, eq-eqb, ne_eqb, eqb-true, true≢false}
+use Rattle.std.specs.Prelude.{Contains}
+use Rattle.std.proofs.lemmas.Bool.{cases_eq, cases_Bool, or_cases, or_left, or_right, and_parts, and_from, not-true}
+use Rattle.std.proofs.lemmas.List.Elements.{Contains-append_left, Contains-push, Contains-push_cases}
+use Rattle.std.specs.Ordering.{nat_cmp}
+use Rattle.std.specs.Cmp.{nat_cmp_total, unsigned_tied}
+use Rattle.std.specs.FinMap as finmap
+use Rattle.fee_rate.specs.declared.rates.FeeRate.{FeeRate}
+use Rattle.graph_model.specs.declared.names.Limits.{Limits}
+use Rattle.graph_model.specs.declared.names.Level.{Level}
+use Rattle.graph_model.specs.Graphs.{Graph as Plain, IsAncestor, AreConnected, AreDistinct, IsGraph, Lists}
+use Rattle.graph_model.specs.States.{State, LevelState, Table, Entry, level_of, size_of, start, empty_level}
+use Rattle.graph_model.specs.Commands.{SetLimits, Add, Dep, SetFee, Remove, Cluster, Ancestors, Descendants, Count}
+use Rattle.graph_model.specs.Refusals.{RefusalIs}
+use Rattle.graph_model.specs.Changes.{added, limited, with_fee, begun, with_graph, IsWithout}
+use Rattle.graph_model.specs.Changes as changes
+use Rattle.graph_model.specs.Replies.{Done, Ids, Number}
+use Rattle.graph_model.specs.Laws.{AncestorsWithPair, StaysWithoutCycle, NamesCanGo, StaysGraph, AncestorsWithoutName}
+use Rattle.graph_model.proofs.WalkLemmas.{IsAncestor-trans}
+use Rattle.graph_model.proofs.ListLemmas.{Contains-head, Contains-later, Contains-cases, Lists-for}
+use Rattle.dep_graph.specs.Graph.{Node, Graph, is_member, is_ancestor, ancestors_of, ancestors_in, rate_of, rate_in, IsOrder, AddsPair, SetsFee, DropsPlace}
+use Rattle.cluster_record.specs.Clusters.{AreLinked}
+use Rattle.tx_graph.specs.Kept.{Kept, StandsFor, MakesStep, entry_of, AddsName}
+use Rattle.tx_graph.proofs.Standing.{state_of, steps_accepted, level-main}
+use Rattle.tx_graph.proofs.Links.{connected-linked}
+use Rattle.tx_graph.proofs.Rows.{size-of}
+use Rattle.tx_graph.proofs.Lens.{len-names}
+
+-- ---- entries, by words
+
+abbrev entry_from : Bool → FeeRate → Option Entry
+entry_from true rate = Some (record { fee = rate.fee; size = rate.size })
+entry_from false rate = None
+
+by_words : (o : Option Node) → entry_of o ≡ entry_from (is_some o) (rate_in o)
+by_words None = refl
+by_words (Some node) = refl
+
+entry-words : (g : Graph) (q : ℕ) → entry_of (finmap.get g q) ≡ entry_from (is_member g q) (rate_of g q)
+unfolding is_member rate_of
+entry-words g q = by_words (finmap.get g q)
+
+same_entry : (g h : Graph) (q : ℕ) → is_member h q ≡ is_member g q → rate_of h q ≡ rate_of g q → entry_of (finmap.get h q) ≡ entry_of (finmap.get g q)
+same_entry g h q member rate = entry-words h q ∙ ap₂ entry_from member rate ∙ sym (entry-words g q)
+
+pub has_entry : (g : Graph) (q : ℕ) (rate : FeeRate) → is_member g q ≡ true → rate_of g q ≡ rate → entry_of (finmap.get g q) ≡ Some (record { fee = rate.fee; size = rate.size })
+has_entry g q rate member is = entry-words g q ∙ ap₂ entry_from member is
+
+get-put : (table : Table) (id q : ℕ) (entry : Entry) → finmap.get (finmap.insert table id entry) q ≡ cond (nat_eq q id) (Some entry) (finmap.get table q)
+get-put table id q entry = finmap.get-insert nat_cmp_total table id entry q ∙ ap (λ b. cond b (Some entry) (finmap.get table q)) (unsigned_tied q id)
+
+get-drop : (table : Table) (id q : ℕ) → finmap.get (finmap.remove table id) q ≡ cond (nat_eq q id) None (finmap.get table q)
+get-drop table id q = finmap.get-remove nat_cmp_total table id q ∙ ap (λ b. cond b None (finmap.get table q)) (unsigned_tied q id)
+
+distinct_push : (xs : List ℕ) (x : ℕ) → AreDistinct xs → (Contains xs x → ⊥) → AreDistinct (xs ++ x ∷ [])
+distinct_push [] x once none = (none, tt)
+distinct_push (y ∷ ys) x once none = (
+  λ here. elim (Contains-push_cases ys x y here) [ inl again ↦ once.0 again | inr same ↦ none (subst (Contains (y ∷ ys)) (sym same) (Contains-head y ys)) ],
+  distinct_push ys x once.1 (λ here. none (Contains-later y x ys here)),
+)
+
+distinct_push_pair : (xs : List (ℕ × ℕ)) (x : ℕ × ℕ) → AreDistinct xs → (Contains xs x → ⊥) → AreDistinct (xs ++ x ∷ [])
+distinct_push_pair [] x once none = (none, tt)
+distinct_push_pair (y ∷ ys) x once none = (
+  λ here. elim (Contains-push_cases ys x y here) [ inl again ↦ once.0 again | inr same ↦ none (subst (Contains (y ∷ ys)) (sym same) (Contains-head y ys)) ],
+  distinct_push_pair ys x once.1 (λ here. none (Contains-later y x ys here)),
+)
+
+-- ---- one more name
+
+module _ (old new : Kept) (id : ℕ) (fee : ℤ) (size : ℕ) (limits : new.limits ≡ old.limits) (begins : new.begun ≡ true) (absent : is_member old.graph id ≡ false) (adds : AddsName old.graph new.graph id (record { fee = fee; size = size })) where
+  table_added : (table : Table) (main : LevelState) → StandsFor old (state_of old table main) → (q : ℕ) → finmap.get (finmap.insert table id (record { fee = fee; size = size })) q ≡ entry_of (finmap.get new.graph q)
+  table_added table main stands q = get-put table id q (record { fee = fee; size = size }) ∙ elim (cases_eq q id) [
+    | inl same ↦
+        ap (λ b. cond b (Some (record { fee = fee; size = size })) (finmap.get table q)) (eq-eqb q id same)
+        ∙ sym (has_entry new.graph q (record { fee = fee; size = size }) (adds.members q ∙ or_left (nat_eq q id) (is_member old.graph q) (eq-eqb q id same)) (ap (rate_of new.graph) same ∙ adds.rate_is))
+    | inr other ↦
+        ap (λ b. cond b (Some (record { fee = fee; size = size })) (finmap.get table q)) (ne_eqb q id other) ∙ stands.table q
+        ∙ sym (same_entry old.graph new.graph q (adds.members q ∙ ap (λ b. b || is_member old.graph q) (ne_eqb q id other)) (adds.rates q other))
+  ]
+
+  names_added : (names : List ℕ) → ((q : ℕ) → Contains names q ↔ (is_member old.graph q ≡ true)) → (q : ℕ) → Contains (names ++ id ∷ []) q ↔ (is_member new.graph q ≡ true)
+  names_added names same q = (
+    λ here. adds.members q ∙ elim (Contains-push_cases names id q here) [
+      | inl was ↦ or_right (nat_eq q id) (is_member old.graph q) ((same q).0 was)
+      | inr is ↦ or_left (nat_eq q id) (is_member old.graph q) (eq-eqb q id (sym is))
+    ],
+    λ member. elim (or_cases (nat_eq q id) (is_member old.graph q) (sym (adds.members q) ∙ member)) [
+      | inl is ↦ subst (Contains (names ++ id ∷ [])) (sym (eqb-true q id is)) (Contains-push names id)
+      | inr was ↦ Contains-append_left names (id ∷ []) q ((same q).1 was)
+    ],
+  )
+
+  pub steps_added : ((state : State) → StandsFor old state → RefusalIs state (Add id fee size) None) → MakesStep old new (Add id fee size) Done
+  steps_added none = steps_accepted old new (Add id fee size) Done none (λ table main stands. (
+    added (state_of old table main) id fee size,
+    record {
+      limits = sym limits;
+      begun = sym begins;
+      table = table_added table main stands;
+      names = names_added main.graph.names stands.names;
+      ancestors = λ a b. (
+        λ walk. elim ((stands.ancestors a b).0 walk) [ inl same ↦ inl same | inr up ↦ inr (adds.ancestors a b ∙ or_right (nat_eq a id && nat_eq b id) (is_ancestor old.graph a b) up) ],
+        λ above. (stands.ancestors a b).1 (elim above [
+          | inl same ↦ inl same
+          | inr up ↦ elim (or_cases (nat_eq a id && nat_eq b id) (is_ancestor old.graph a b) (sym (adds.ancestors a b) ∙ up)) [
+            | inl both ↦ let is = and_parts (nat_eq a id) (nat_eq b id) both in inl (eqb-true a id is.0 ∙ sym (eqb-true b id is.1))
+            | inr was ↦ inr was
+          ]
+        ]),
+      );
+      valid = record {
+        names = distinct_push main.graph.names id stands.valid.names (λ here. true≢false (sym ((stands.names id).0 here) ∙ absent));
+        pairs = stands.valid.pairs;
+        ends = λ parent child pair.
+            let ends = stands.valid.ends parent child pair in (Contains-append_left main.graph.names (id ∷ []) parent ends.0, Contains-append_left main.graph.names (id ∷ []) child ends.1);
+        acyclic = stands.valid.acyclic;
+      };
+      staging = refl;
+    },
+    (refl, refl),
+  ))
+
+-- ---- another fee
+
+module _ (old new : Kept) (id : ℕ) (fee : ℤ) (limits : new.limits ≡ old.limits) (begins : new.begun ≡ true) (live : is_member old.graph id ≡ true) (sets : SetsFee old.graph new.graph id fee) where
+  table_paid : (table : Table) (main : LevelState) → StandsFor old (state_of old table main) → (q : ℕ) → finmap.get (finmap.insert table id (record { fee = fee; size = size_of table id })) q ≡ entry_of (finmap.get new.graph q)
+  table_paid table main stands q = get-put table id q (record { fee = fee; size = size_of table id }) ∙ elim (cases_eq q id) [
+    | inl same ↦
+        ap (λ b. cond b (Some (record { fee = fee; size = size_of table id })) (finmap.get table q)) (eq-eqb q id same)
+        ∙ ap (λ n. Some (record { fee = fee; size = n })) (size-of old (state_of old table main) id stands)
+        ∙ sym (has_entry new.graph q (record { fee = fee; size = (rate_of old.graph id).size }) (sets.members q ∙ ap (is_member old.graph) same ∙ live) (ap (rate_of new.graph) same ∙ sets.rate_is))
+    | inr other ↦
+        ap (λ b. cond b (Some (record { fee = fee; size = size_of table id })) (finmap.get table q)) (ne_eqb q id other) ∙ stands.table q ∙ sym (same_entry old.graph new.graph q (sets.members q) (sets.rates q other))
+  ]
+
+  pub steps_paid : ((state : State) → StandsFor old state → RefusalIs state (SetFee id fee) None) → MakesStep old new (SetFee id fee) Done
+  steps_paid none = steps_accepted old new (SetFee id fee) Done none (λ table main stands. (
+    with_fee (state_of old table main) id fee,
+    record {
+      limits = sym limits;
+      begun = sym begins;
+      table = table_paid table main stands;
+      names = λ q. subst (λ b. Contains main.graph.names q ↔ (b ≡ true)) (sym (sets.members q)) (stands.names q);
+      ancestors = λ a b. subst (λ x. IsAncestor main.graph.pairs a b ↔ ((a ≡ b) ⊎ (x ≡ true))) (sym (sets.ancestors a b)) (stands.ancestors a b);
+      valid = stands.valid;
+      staging = refl;
+    },
+    (refl, refl),
+  ))
+
+-- ---- a pair
+
+decide_pair : (ps : List (ℕ × ℕ)) (a b : ℕ) → Contains ps (a, b) ⊎ (Contains ps (a, b) → ⊥)
+decide_pair [] a b = inr (λ here. omega (arith, here.1))
+decide_pair (p ∷ ps) a b = elim (cases_eq p.0 a) [
+  | inr other ↦ later (λ same. other (ap (λ (q : ℕ × ℕ). q.0) same)) (decide_pair ps a b)
+  | inl one ↦ elim (cases_eq p.1 b) [
+    | inr other ↦ later (λ same. other (ap (λ (q : ℕ × ℕ). q.1) same)) (decide_pair ps a b)
+    | inl two ↦ inl (subst (Contains (p ∷ ps)) (λ i. (one i, two i)) (Contains-head p ps))
+  ]
+]
+  where
+    later : (◌≡◌ {A = ℕ × ℕ} p (a, b) → ⊥) → Contains ps (a, b) ⊎ (Contains ps (a, b) → ⊥) → Contains (p ∷ ps) (a, b) ⊎ (Contains (p ∷ ps) (a, b) → ⊥)
+    later other found = elim found [
+      | inl here ↦ inl (Contains-later p (a, b) ps here)
+      | inr none ↦ inr (λ here. elim (Contains-cases p (a, b) ps here) [ inl same ↦ other same | inr there ↦ none there ])
+    ]
+
+module _ (with_pair : AncestorsWithPair) (no_cycle : StaysWithoutCycle) (old new : Kept) (parent child : ℕ) (limits : new.limits ≡ old.limits) (begins : new.begun ≡ true) (order : IsOrder (is_member old.graph) (is_ancestor old.graph))
+    (parent_live : is_member old.graph parent ≡ true) (child_live : is_member old.graph child ≡ true) (no_way : is_ancestor old.graph child parent ≡ false) (pair : AddsPair old.graph new.graph parent child) where
+  module _ (table : Table) (main : LevelState) (stands : StandsFor old (state_of old table main)) where
+    not_above : IsAncestor main.graph.pairs child parent → ⊥
+    not_above walk = elim ((stands.ancestors child parent).0 walk) [
+      | inl same ↦ true≢false (sym (order.reflexive parent parent_live) ∙ ap (λ x. is_ancestor old.graph x parent) (sym same) ∙ no_way)
+      | inr up ↦ true≢false (sym up ∙ no_way)
+    ]
+
+    -- an ancestor over one more pair, and in the new graph
+    Through : ℕ → ℕ → Type 0
+    Through a b = IsAncestor main.graph.pairs a b ⊎ (IsAncestor main.graph.pairs a parent × IsAncestor main.graph.pairs child b)
+
+    or_itself : (a b : ℕ) → is_member old.graph b ≡ true → IsAncestor main.graph.pairs a b → is_ancestor old.graph a b ≡ true
+    or_itself a b member walk = elim ((stands.ancestors a b).0 walk) [ inl same ↦ subst (λ x. is_ancestor old.graph x b ≡ true) (sym same) (order.reflexive b member) | inr up ↦ up ]
+
+    or_itself' : (a b : ℕ) → is_member old.graph a ≡ true → IsAncestor main.graph.pairs a b → is_ancestor old.graph a b ≡ true
+    or_itself' a b member walk = elim ((stands.ancestors a b).0 walk) [ inl same ↦ subst (λ x. is_ancestor old.graph a x ≡ true) same (order.reflexive a member) | inr up ↦ up ]
+
+    through_new : (a b : ℕ) → Through a b → (a ≡ b) ⊎ (is_ancestor new.graph a b ≡ true)
+    unfolding Through
+    through_new a b through = elim through [
+      | inl walk ↦ elim ((stands.ancestors a b).0 walk) [ inl same ↦ inl same | inr up ↦ inr (pair.ancestors a b ∙ or_left (is_ancestor old.graph a b) (is_ancestor old.graph a parent && is_ancestor old.graph child b) up) ]
+      | inr both ↦
+          inr (pair.ancestors a b ∙ or_right (is_ancestor old.graph a b) (is_ancestor old.graph a parent && is_ancestor old.graph child b)
+          (and_from (is_ancestor old.graph a parent) (is_ancestor old.graph child b) (or_itself a parent parent_live both.0) (or_itself' child b child_live both.1)))
+    ]
+
+    new_through : (a b : ℕ) → (a ≡ b) ⊎ (is_ancestor new.graph a b ≡ true) → Through a b
+    unfolding Through
+    new_through a b above = elim above [
+      | inl same ↦ inl (0, same)
+      | inr up ↦ elim (or_cases (is_ancestor old.graph a b) (is_ancestor old.graph a parent && is_ancestor old.graph child b) (sym (pair.ancestors a b) ∙ up)) [
+        | inl was ↦ inl ((stands.ancestors a b).1 (inr was))
+        | inr across ↦
+            let both = and_parts (is_ancestor old.graph a parent) (is_ancestor old.graph child b) across in inr ((stands.ancestors a parent).1 (inr both.0), (stands.ancestors child b).1 (inr both.1))
+      ]
+    ]
+
+    -- a pair that is there already makes no new ancestor
+    through_there : (a b : ℕ) → Contains main.graph.pairs (parent, child) → Through a b → IsAncestor main.graph.pairs a b
+    unfolding Through
+    through_there a b here through = elim through [
+      | inl walk ↦ walk
+      | inr both ↦
+          let first : IsAncestor main.graph.pairs a child = (suc both.0.0, (parent, both.0.1, here)) in
+          IsAncestor-trans main.graph.pairs a child b first both.1
+    ]
+
+    same_table : (q : ℕ) → finmap.get table q ≡ entry_of (finmap.get new.graph q)
+    same_table q = stands.table q ∙ sym (same_entry old.graph new.graph q (pair.members q) (pair.rates q))
+
+    same_names : (q : ℕ) → Contains main.graph.names q ↔ (is_member new.graph q ≡ true)
+    same_names q = subst (λ b. Contains main.graph.names q ↔ (b ≡ true)) (sym (pair.members q)) (stands.names q)
+
+    valid_paired : (Contains main.graph.pairs (parent, child) → ⊥) → IsGraph (record { names = main.graph.names; pairs = main.graph.pairs ++ (parent, child) ∷ [] })
+    valid_paired none = record {
+      names = stands.valid.names;
+      pairs = distinct_push_pair main.graph.pairs (parent, child) stands.valid.pairs none;
+      ends = λ a b here. elim (Contains-push_cases main.graph.pairs (parent, child) (a, b) here) [
+        | inl was ↦ stands.valid.ends a b was
+        | inr is ↦ (subst (Contains main.graph.names) (ap (λ (q : ℕ × ℕ). q.0) is) ((stands.names parent).1 parent_live), subst (Contains main.graph.names) (ap (λ (q : ℕ × ℕ). q.1) is) ((stands.names child).1 child_live))
+      ];
+      acyclic = (no_cycle main.graph.pairs parent child stands.valid.acyclic).1 not_above;
+    }
+
+    there_next : Contains main.graph.pairs (parent, child) → (next : State) × StandsFor new next × changes.AddsPair (state_of old table main) parent child next
+    unfolding Through
+    there_next here = (
+      begun (state_of old table main),
+      record {
+        limits = sym limits;
+        begun = sym begins;
+        table = same_table;
+        names = same_names;
+        ancestors = λ a b. (λ walk. through_new a b (inl walk), λ above. through_there a b here (new_through a b above));
+        valid = stands.valid;
+        staging = refl;
+      },
+      inl (here, refl),
+    )
+
+    new_next : (Contains main.graph.pairs (parent, child) → ⊥) → (next : State) × StandsFor new next × changes.AddsPair (state_of old table main) parent child next
+    unfolding Through
+    new_next none = (
+      with_graph (begun (state_of old table main)) (record { names = main.graph.names; pairs = main.graph.pairs ++ (parent, child) ∷ [] }),
+      record {
+        limits = sym limits;
+        begun = sym begins;
+        table = same_table;
+        names = same_names;
+        ancestors = λ a b. let law = with_pair main.graph.pairs parent child a b in (λ walk. through_new a b (law.0 walk), λ above. law.1 (new_through a b above));
+        valid = valid_paired none;
+        staging = refl;
+      },
+      inr (none, refl),
+    )
+
+  pub steps_paired : ((state : State) → StandsFor old state → RefusalIs state (Dep parent child) None) → MakesStep old new (Dep parent child) Done
+  steps_paired none = steps_accepted old new (Dep parent child) Done none (λ table main stands.
+      elim (decide_pair main.graph.pairs parent child) [
+        | inl here ↦ let next = there_next table main stands here in (next.0, next.1, (refl, next.2))
+        | inr fresh ↦ let next = new_next table main stands fresh in (next.0, next.1, (refl, next.2))
+      ])
+
+-- ---- a name is dropped
+
+module _ (can_go : NamesCanGo) (stays_graph : StaysGraph) (ancestors_without : AncestorsWithoutName) (old new : Kept) (id : ℕ) (limits : new.limits ≡ old.limits) (begins : new.begun ≡ true) (order : IsOrder (is_member old.graph) (is_ancestor old.graph))
+    (drops : DropsPlace old.graph new.graph id) where
+  table_dropped : (table : Table) (main : LevelState) → StandsFor old (state_of old table main) → (q : ℕ) → finmap.get (finmap.remove table id) q ≡ entry_of (finmap.get new.graph q)
+  table_dropped table main stands q = get-drop table id q ∙ elim (cases_eq q id) [
+    | inl same ↦
+        ap (λ b. cond b None (finmap.get table q)) (eq-eqb q id same)
+        ∙ sym (entry-words new.graph q ∙ ap (λ b. entry_from b (rate_of new.graph q)) (drops.members q ∙ ap (λ b. not b && is_member old.graph q) (eq-eqb q id same)))
+    | inr other ↦
+        ap (λ b. cond b None (finmap.get table q)) (ne_eqb q id other) ∙ stands.table q
+        ∙ sym (same_entry old.graph new.graph q (drops.members q ∙ ap (λ b. not b && is_member old.graph q) (ne_eqb q id other)) (drops.rates q other))
+  ]
+
+  -- an ancestor in the new graph
+  above_now : (a b : ℕ) → a ≢ id → b ≢ id → is_ancestor old.graph a b ≡ true → is_ancestor new.graph a b ≡ true
+  above_now a b one two up =
+      drops.ancestors a b ∙ and_from (not (nat_eq a id)) (not (nat_eq b id) && is_ancestor old.graph a b) (ap not (ne_eqb a id one)) (and_from (not (nat_eq b id)) (is_ancestor old.graph a b) (ap not (ne_eqb b id two)) up)
+
+  above_was : (a b : ℕ) → is_ancestor new.graph a b ≡ true → (a ≢ id) × (b ≢ id) × (is_ancestor old.graph a b ≡ true)
+  above_was a b up =
+      let one = and_parts (not (nat_eq a id)) (not (nat_eq b id) && is_ancestor old.graph a b) (sym (drops.ancestors a b) ∙ up) in
+      let two = and_parts (not (nat_eq b id)) (is_ancestor old.graph a b) one.1 in
+      (λ same. true≢false (sym one.0 ∙ ap not (eq-eqb a id same)), λ same. true≢false (sym two.0 ∙ ap not (eq-eqb b id same)), two.1)
+
+  pub steps_removed : ((state : State) → StandsFor old state → RefusalIs state (Remove id) None) → MakesStep old new (Remove id) Done
+  steps_removed none = steps_accepted old new (Remove id) Done none (λ table main stands.
+      let rest = can_go main.graph id stands.valid in
+      let gone : Contains rest.0.names id → ⊥ = λ here. ((rest.1.names id).0 here).1 refl in (
+        record (with_graph (begun (state_of old table main)) rest.0) { table = finmap.remove table id },
+        record {
+          limits = sym limits;
+          begun = sym begins;
+          table = table_dropped table main stands;
+          names = λ q. (
+            λ here.
+                let was = (rest.1.names q).0 here in
+                drops.members q ∙ and_from (not (nat_eq q id)) (is_member old.graph q) (ap not (ne_eqb q id was.1)) ((stands.names q).0 was.0),
+            λ member.
+                let both = and_parts (not (nat_eq q id)) (is_member old.graph q) (sym (drops.members q) ∙ member) in
+                (rest.1.names q).1 ((stands.names q).1 both.1, λ same. true≢false (sym both.0 ∙ ap not (eq-eqb q id same))),
+          );
+          ancestors = λ a b.
+              let law = ancestors_without main.graph rest.0 id rest.1 a b in (
+                λ walk. elim (law.0 walk) [
+                  | inl same ↦ inl same
+                  | inr was ↦ elim ((stands.ancestors a b).0 was.2) [ inl same ↦ inl same | inr up ↦ inr (above_now a b was.0 was.1 up) ]
+                ],
+                λ above. law.1 (elim above [
+                  | inl same ↦ inl same
+                  | inr up ↦ let was = above_was a b up in inr (was.0, was.1, (stands.ancestors a b).1 (inr was.2))
+                ]),
+              );
+          valid = stays_graph main.graph rest.0 id rest.1 stands.valid;
+          staging = refl;
+        },
+        (refl, (rest.0, rest.1, inr ((λ kept. elim kept [ inl one ↦ gone one | inr two ↦ gone two ]), refl))),
+      ))
+
+-- ---- limits
+
+pub steps_limited : (old new : Kept) (set : Limits) → new.limits ≡ set → new.begun ≡ true → new.graph ≡ old.graph → ((state : State) → StandsFor old state → RefusalIs state (SetLimits set.count set.size set.total) None) → MakesStep old new (SetLimits set.count set.size set.total) Done
+steps_limited old new set limits begins graph none = steps_accepted old new (SetLimits set.count set.size set.total) Done none (λ table main stands. (
+  limited (state_of old table main) set,
+  record {
+    limits = sym limits;
+    begun = sym begins;
+    table = λ q. stands.table q ∙ ap (λ (g : Graph). entry_of (finmap.get g q)) (sym graph);
+    names = λ q. subst (λ (g : Graph). Contains main.graph.names q ↔ (is_member g q ≡ true)) (sym graph) (stands.names q);
+    ancestors = λ a b. subst (λ (g : Graph). IsAncestor main.graph.pairs a b ↔ ((a ≡ b) ⊎ (is_ancestor g a b ≡ true))) (sym graph) (stands.ancestors a b);
+    valid = stands.valid;
+    staging = refl;
+  },
+  (refl, refl),
+))
+
+-- ---- readings
+
+pub steps_counted : (kept : Kept) (level : Level) (n : ℕ) → ((state : State) → StandsFor kept state → n ≡ length state.main.graph.names) → MakesStep kept kept (Count level) (Number n)
+steps_counted kept level n long = steps_accepted kept kept (Count level) (Number n) (λ state stands. refl) (λ table main stands. (
+  state_of kept table main,
+  stands,
+  (refl, ap Number (long (state_of kept table main) stands ∙ ap (λ (l : LevelState). length l.graph.names) (sym (level-main kept table main level)))),
+))
+
+pub len-live : (kept : Kept) (state : State) {X : Type 0} (m : finmap.FinMap nat_cmp X) → StandsFor kept state → ((q : ℕ) → finmap.contains_key m q ≡ is_member kept.graph q) → finmap.len m ≡ length state.main.graph.names
+len-live kept state m stands same = sym (len-names state.main.graph.names m stands.valid.names (λ q. subst (λ b. Contains state.main.graph.names q ↔ (b ≡ true)) (sym (same q)) (stands.names q)))
+
+module _ (kept : Kept) (level : Level) (id : ℕ) (ids : List ℕ) (order : IsOrder (is_member kept.graph) (is_ancestor kept.graph)) (live : is_member kept.graph id ≡ true) where
+  pub steps_clustered : ((state : State) → StandsFor kept state → RefusalIs state (Cluster id level) None) → Lists (λ q. AreLinked kept.graph id q) ids → MakesStep kept kept (Cluster id level) (Ids ids)
+  steps_clustered none lists = steps_accepted kept kept (Cluster id level) (Ids ids) none (λ table main stands. (
+    state_of kept table main,
+    stands,
+    (
+      refl,
+      ids,
+      subst (λ (l : LevelState). Lists (AreConnected l.graph.pairs id) ids) (sym (level-main kept table main level))
+          (Lists-for (λ q. AreLinked kept.graph id q) (AreConnected main.graph.pairs id) ids (λ q linked. (connected-linked kept (state_of kept table main) stands id q).1 linked) (λ q trail. (connected-linked kept (state_of kept table main) stands id q).0 trail) lists),
+      refl,
+    ),
+  ))
+
+  pub steps_ascended : ((state : State) → StandsFor kept state → RefusalIs state (Ancestors id level) None) → Lists (λ q. is_ancestor kept.graph q id ≡ true) ids → MakesStep kept kept (Ancestors id level) (Ids ids)
+  steps_ascended none lists = steps_accepted kept kept (Ancestors id level) (Ids ids) none (λ table main stands. (
+    state_of kept table main,
+    stands,
+    (
+      refl,
+      ids,
+      subst (λ (l : LevelState). Lists (λ a. IsAncestor l.graph.pairs a id) ids) (sym (level-main kept table main level))
+          (Lists-for (λ q. is_ancestor kept.graph q id ≡ true) (λ a. IsAncestor main.graph.pairs a id) ids (λ q up. (stands.ancestors q id).1 (inr up))
+          (λ q walk. elim ((stands.ancestors q id).0 walk) [ inl same ↦ subst (λ x. is_ancestor kept.graph x id ≡ true) (sym same) (order.reflexive id live) | inr up ↦ up ]) lists),
+      refl,
+    ),
+  ))
+
+  pub steps_descended : ((state : State) → StandsFor kept state → RefusalIs state (Descendants id level) None) → Lists (λ q. is_ancestor kept.graph id q ≡ true) ids → MakesStep kept kept (Descendants id level) (Ids ids)
+  steps_descended none lists = steps_accepted kept kept (Descendants id level) (Ids ids) none (λ table main stands. (
+    state_of kept table main,
+    stands,
+    (
+      refl,
+      ids,
+      subst (λ (l : LevelState). Lists (λ d. IsAncestor l.graph.pairs id d) ids) (sym (level-main kept table main level))
+          (Lists-for (λ q. is_ancestor kept.graph id q ≡ true) (λ d. IsAncestor main.graph.pairs id d) ids (λ q up. (stands.ancestors id q).1 (inr up))
+          (λ q walk. elim ((stands.ancestors id q).0 walk) [ inl same ↦ subst (λ x. is_ancestor kept.graph id x ≡ true) same (order.reflexive id live) | inr up ↦ up ]) lists),
+      refl,
+    ),
+  ))

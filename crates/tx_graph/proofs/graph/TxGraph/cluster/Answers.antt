@@ -1,0 +1,25 @@
+use Rattle.std.proofs.Common.{◌≡◌, ℕ, ◌*◌, ◌≤◌, Some, None, rules, sym, ap, is_some, ◌∙◌}
+use Rattle.graph_model.specs.Commands.{Cluster}
+use Rattle.graph_model.specs.declared.names.Refusal.TheVariants.{Unknown}
+use Rattle.graph_model.specs.Replies.{Refused, Ids}
+use Rattle.tx_graph.proofs.Graphs.{order_of}
+use Rattle.tx_graph.proofs.Standing.{steps_refused, itself}
+use Rattle.tx_graph.proofs.Rows.{unknown_here, known_here}
+use Rattle.tx_graph.proofs.Stepping.{steps_clustered}
+use Rattle.tx_graph.proofs.Calls.{kept_of, both_views, cluster_lists}
+use Rattle.tx_graph.proofs.graph.TxGraph.cluster.Goals as goal
+
+pub returns-in_default-clause-step : goal.returns-in_default-clause-step
+returns-in_default-clause-step g c =
+    let kept = kept_of c.self.inside.limits c.self.inside.begun c.self.inside.additions c.self.inside.clusters in
+    both_views kept c.args.self.now (Cluster c.args.id c.args.level) (Refused (Unknown c.args.id)) c.self.view_is
+    (steps_refused kept kept (Cluster c.args.id c.args.level) (Unknown c.args.id) (itself kept) (unknown_here kept c.args.level c.args.id (sym c.spot.ensures.live ∙ ap is_some c.in_default.is)))
+
+pub returns-clause-step : goal.returns-clause-step
+returns-clause-step g c =
+    let kept = kept_of c.self.inside.limits c.self.inside.begun c.self.inside.additions c.self.inside.clusters in
+    let live = sym c.spot.ensures.live ∙ ap is_some c.in-Some.is in
+    let order = order_of (64 * g.row.W) c.self.inside.clusters c.spot.ensures.order.indexed in
+    both_views kept c.args.self.now (Cluster c.args.id c.args.level) (Ids c.list_names.new.out.ids) c.self.view_is
+    (steps_clustered kept c.args.level c.args.id c.list_names.new.out.ids order live (known_here kept c.args.level c.args.id live)
+    (cluster_lists (64 * g.row.W) c.self.inside.clusters c.spot.ensures.order.indexed c.in-Some.spot c.args.id c.record.result.now (sym c.spot.ensures.spot ∙ c.in-Some.is) c.record.ensures c.list_names.new.out.ids c.list_names.ensures.lists))

@@ -1,0 +1,47 @@
+use Rattle.std.proofs.Common.{◌≡◌, ◌*◌, true, false, sym, ap, is_some, ◌∙◌}
+use Rattle.graph_model.specs.declared.names.Refusal.TheVariants.{Memory, Unknown}
+use Rattle.graph_model.specs.declared.names.Level.TheVariants.{Top}
+use Rattle.graph_model.specs.Commands.{Remove}
+use Rattle.graph_model.specs.Replies.{Done, Refused}
+use Rattle.tx_graph.proofs.Standing.{steps_refused, steps_without_memory, itself}
+use Rattle.tx_graph.proofs.Rows.{unknown_here, known_here}
+use Rattle.tx_graph.proofs.Calls.{kept_of, same_shelf, from_view, both_views, sound_after, when_ok, when_err, remove_step}
+use Rattle.tx_graph.proofs.graph.TxGraph.remove.Goals as goal
+
+pub returns-in_default-clause-step : goal.returns-in_default-clause-step
+returns-in_default-clause-step g c =
+    let kept = kept_of c.self.inside.limits c.self.inside.begun c.self.inside.additions c.self.inside.clusters in
+    both_views kept c.args.self.now (Remove c.args.id) (Refused (Unknown c.args.id)) c.self.view_is
+    (steps_refused kept kept (Remove c.args.id) (Unknown c.args.id) (itself kept) (unknown_here kept Top c.args.id (sym c.spot.ensures.live ∙ ap is_some c.in_default.is)))
+
+pub invariant_of-self : goal.invariant_of-self
+invariant_of-self g c =
+    let kept = kept_of c.self.inside.limits c.self.inside.begun c.self.inside.additions c.self.inside.clusters in
+    sound_after g.row.W c.self.inside.clusters.issued c.remove.new.self.issued kept (kept_of c.self.inside.limits c.self.inside.begun c.self.inside.additions c.remove.new.self) (Remove c.args.id) (Refused Memory)
+    c.self.invariant c.self.invariant.in_range (c.remove.ensures.issued ∙ c.self.invariant.counted)
+    (steps_without_memory kept (kept_of c.self.inside.limits c.self.inside.begun c.self.inside.additions c.remove.new.self) (Remove c.args.id)
+    (same_shelf c.self.inside.limits c.self.inside.begun c.self.inside.additions c.self.inside.clusters c.remove.new.self (when_err c.remove.result (sym c.is_err.ensures.value ∙ c.if-is_err.true) c.remove.ensures.err))
+    tt (known_here kept Top c.args.id (sym c.spot.ensures.live ∙ ap is_some c.in-Some.is)))
+
+pub returns-then-is_err-clause-step : goal.returns-then-is_err-clause-step
+returns-then-is_err-clause-step g c =
+    let kept = kept_of c.self.inside.limits c.self.inside.begun c.self.inside.additions c.self.inside.clusters in
+    from_view kept c.args.self.now (kept_of c.self.inside.limits c.self.inside.begun c.self.inside.additions c.remove.new.self) (Remove c.args.id) (Refused Memory) c.self.view_is
+    (steps_without_memory kept (kept_of c.self.inside.limits c.self.inside.begun c.self.inside.additions c.remove.new.self) (Remove c.args.id)
+    (same_shelf c.self.inside.limits c.self.inside.begun c.self.inside.additions c.self.inside.clusters c.remove.new.self (when_err c.remove.result (sym c.is_err.ensures.value ∙ c.if-is_err.true) c.remove.ensures.err))
+    tt (known_here kept Top c.args.id (sym c.spot.ensures.live ∙ ap is_some c.in-Some.is)))
+
+pub invariant_of-self-2 : goal.invariant_of-self-2
+invariant_of-self-2 g c =
+    sound_after g.row.W c.self.inside.clusters.issued c.remove.new.self.issued (kept_of c.self.inside.limits c.self.inside.begun c.self.inside.additions c.self.inside.clusters) (kept_of c.self.inside.limits true c.self.inside.additions c.remove.new.self) (Remove c.args.id) Done
+    c.self.invariant c.self.invariant.in_range (c.remove.ensures.issued ∙ c.self.invariant.counted)
+    (remove_step c.self.inside.limits c.self.inside.begun c.self.inside.additions c.self.inside.clusters c.remove.new.self (64 * g.row.W) c.spot.ensures.order.indexed
+    c.names_can_go.ensures c.stays_graph.ensures c.ancestors_without_name.ensures c.args.id (sym c.spot.ensures.live ∙ ap is_some c.in-Some.is)
+    (when_ok c.remove.result (sym c.is_err.ensures.value ∙ c.if-is_err.false) c.remove.ensures.graph))
+
+pub returns-clause-step : goal.returns-clause-step
+returns-clause-step g c =
+    from_view (kept_of c.self.inside.limits c.self.inside.begun c.self.inside.additions c.self.inside.clusters) c.args.self.now (kept_of c.self.inside.limits true c.self.inside.additions c.remove.new.self) (Remove c.args.id) Done c.self.view_is
+    (remove_step c.self.inside.limits c.self.inside.begun c.self.inside.additions c.self.inside.clusters c.remove.new.self (64 * g.row.W) c.spot.ensures.order.indexed
+    c.names_can_go.ensures c.stays_graph.ensures c.ancestors_without_name.ensures c.args.id (sym c.spot.ensures.live ∙ ap is_some c.in-Some.is)
+    (when_ok c.remove.result (sym c.is_err.ensures.value ∙ c.if-is_err.false) c.remove.ensures.graph))

@@ -1,0 +1,46 @@
+-- The refusals of additions and of pairs, told by the graph that is kept.
+use Rattle.std.specs.Prelude.{◌≡◌, ◌⊎◌, ℕ, ℤ, ◌+◌, ◌<◌, ◌≤◌, true, List, length, sum_by, Option}
+use Rattle.graph_model.specs.declared.names.Limits.{Limits}
+use Rattle.graph_model.specs.declared.names.Refusal.{Refusal}
+use Rattle.graph_model.specs.declared.names.Refusal.TheVariants.{Fee, Size, Taken, Full, ClusterSize, Unknown, Cycle, Count}
+use Rattle.graph_model.specs.Limits.{IsFee, IsSize}
+use Rattle.graph_model.specs.Graphs.{Lists}
+use Rattle.graph_model.specs.Refusals.{First, FirstAt, NoRefusal}
+use Rattle.dep_graph.specs.Graph.{Graph, is_member, is_ancestor, rate_of}
+use Rattle.cluster_record.specs.Clusters.{AreLinked}
+
+-- the members of the cluster that a pair would make of two
+abbrev pub JoinsTo : Graph → ℕ → ℕ → List ℕ → Type 0
+JoinsTo graph parent child members = (AreLinked graph parent child → ⊥) × Lists (λ id. AreLinked graph id parent ⊎ AreLinked graph id child) members
+
+-- its names are more than may be
+abbrev pub JoinsTooMany : Limits → Graph → ℕ → ℕ → ℕ → Type 0
+JoinsTooMany limits graph parent child n = (members : List ℕ) × JoinsTo graph parent child members × (n ≡ length members) × (limits.count < n)
+
+-- its total size is larger than may be
+abbrev pub JoinsTooLarge : Limits → Graph → ℕ → ℕ → ℕ → Type 0
+JoinsTooLarge limits graph parent child n = (members : List ℕ) × JoinsTo graph parent child members × (n ≡ sum_by (λ id. (rate_of graph id).size) members) × (limits.size < n)
+
+-- the refusal that a pair meets
+abbrev pub DepRefusalIs : Limits → Graph → ℕ → ℕ → Option Refusal → Type 0
+DepRefusalIs limits graph parent child =
+    First (is_member graph parent ≡ true → ⊥) (Unknown parent)
+    (First (is_member graph child ≡ true → ⊥) (Unknown child)
+    (First (is_ancestor graph child parent ≡ true) Cycle
+    (FirstAt (JoinsTooMany limits graph parent child) Count
+    (FirstAt (JoinsTooLarge limits graph parent child) ClusterSize NoRefusal))))
+
+-- the refusal that two numbers of names and two sizes meet when they are put together
+abbrev pub SumRefusalIs : Limits → ℕ → ℕ → Option Refusal → Type 0
+SumRefusalIs limits count size =
+    FirstAt (λ n. (n ≡ count) × (limits.count < n)) Count
+    (FirstAt (λ n. (n ≡ size) × (limits.size < n)) ClusterSize NoRefusal)
+
+-- the refusal that an addition meets where so many names are live
+abbrev pub AddRefusalIs : Limits → Graph → ℕ → ℕ → ℤ → ℕ → Option Refusal → Type 0
+AddRefusalIs limits graph live id fee size =
+    First (IsFee fee → ⊥) Fee
+    (First (IsSize size → ⊥) Size
+    (First (is_member graph id ≡ true) Taken
+    (First (limits.size < size) (ClusterSize size)
+    (First (limits.total ≤ live) Full NoRefusal))))

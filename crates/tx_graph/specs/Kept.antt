@@ -1,0 +1,64 @@
+-- What a transaction graph keeps, and which states it stands for.
+use Rattle.std.specs.Prelude.{List, ◌≡◌, ◌⊎◌, ◌↔◌, ℕ, Bool, true, Option, None, Some, Ok, Err, Result, Contains, ◌&&◌, ◌||◌, ◌≢◌, nat_eq, refl}
+use Rattle.std.specs.Coded.{Coded, code_by, coded×, coded_ℕ, coded_bool}
+use Rattle.std.specs.FinMap as finmap
+use Rattle.fee_rate.specs.declared.rates.FeeRate.{FeeRate}
+use Rattle.dep_graph.specs.Graph.{Node, Graph, graph_code, is_member, is_ancestor, rate_of}
+use Rattle.graph_model.specs.declared.names.Limits.{Limits}
+use Rattle.graph_model.specs.declared.names.Refusal.{Refusal}
+use Rattle.graph_model.specs.Graphs.{IsAncestor, IsGraph}
+use Rattle.graph_model.specs.States.{State, Entry}
+use Rattle.graph_model.specs.Commands.{Command}
+use Rattle.graph_model.specs.Replies.{Reply, Refused, Done, Ids}
+use Rattle.graph_model.specs.Steps.{Step}
+
+-- The limits, whether a change was accepted, each name with its fee, its size and its ancestors, and how many additions
+-- were accepted. Pairs aren't kept.
+pub record Kept : Type 0 where
+  pub limits : Limits
+  pub begun : Bool
+  pub graph : Graph
+  pub additions : ℕ
+
+abbrev pub kept_code : Coded Kept
+kept_code =
+    code_by ((ℕ × (ℕ × ℕ)) × (Bool × (Graph × ℕ))) (coded× (coded× coded_ℕ (coded× coded_ℕ coded_ℕ)) (coded× coded_bool (coded× graph_code coded_ℕ)))
+    (λ k. ((k.limits.count, (k.limits.size, k.limits.total)), (k.begun, (k.graph, k.additions))))
+    (λ p. record { limits = record { count = p.0.0; size = p.0.1.0; total = p.0.1.1 }; begun = p.1.0; graph = p.1.1.0; additions = p.1.1.1 }) (λ _. refl)
+
+-- fee and size of a name that has them
+abbrev pub entry_of : Option Node → Option Entry
+entry_of None = None
+entry_of (Some node) = Some (record { fee = node.rate.fee; size = node.rate.size })
+
+-- A graph stands for each state with its limits, its names with their fees and sizes, and pairs along which a name's
+-- ancestors are those that the graph keeps. Such states differ in pairs that other pairs imply, and in the order in
+-- which they list names and pairs.
+pub record StandsFor (kept : Kept) (state : State) : Type 0 where
+  pub limits : state.limits ≡ kept.limits
+  pub begun : state.begun ≡ kept.begun
+  pub table : (id : ℕ) → finmap.get state.table id ≡ entry_of (finmap.get kept.graph id)
+  pub names : (id : ℕ) → Contains state.main.graph.names id ↔ (is_member kept.graph id ≡ true)
+  pub ancestors : (a b : ℕ) → IsAncestor state.main.graph.pairs a b ↔ ((a ≡ b) ⊎ (is_ancestor kept.graph a b ≡ true))
+  pub valid : IsGraph state.main.graph
+  pub staging : state.staging ≡ None
+
+-- From every state that the graph stood for, the call is a step of the machine to one that it stands for now.
+abbrev pub MakesStep : Kept → Kept → Command → Reply → Type 0
+MakesStep old new command reply = (state : State) → StandsFor old state → (next : State) × StandsFor new next × Step state command reply next
+
+-- the reply of a change, and of a reading of names
+abbrev pub change_reply : {T : Type 0} → Result T Refusal → Reply
+change_reply (Ok done) = Done
+change_reply (Err why) = Refused why
+
+abbrev pub names_reply : {T : Type 0} → Result T Refusal → List ℕ → Reply
+names_reply (Ok done) found = Ids found
+names_reply (Err why) found = Refused why
+
+-- one more name, in no relation to the others
+pub record AddsName (old new : Graph) (id : ℕ) (rate : FeeRate) : Type 0 where
+  pub members : (q : ℕ) → is_member new q ≡ (nat_eq q id || is_member old q)
+  pub rate_is : rate_of new id ≡ rate
+  pub rates : (q : ℕ) → q ≢ id → rate_of new q ≡ rate_of old q
+  pub ancestors : (a d : ℕ) → is_ancestor new a d ≡ ((nat_eq a id && nat_eq d id) || is_ancestor old a d)
