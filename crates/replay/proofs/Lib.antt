@@ -2,3 +2,4 @@ pub mod SessionLemmas
 pub mod LineLemmas
 pub mod WordLemmas
 pub mod CheckLemmas
+pub mod LimitLemmas

@@ -11,7 +11,7 @@ use Rattle.graph_model.specs.Replies.{line_text}
 use Rattle.graph_model.specs.Lines.{IsOneLine}
 use Rattle.graph_model.specs.Runs.{Answer, Run, LineStep, answer_text}
 use Rattle.graph_model.proofs.RunLemmas.{run-append}
-use Rattle.plain_graph.specs.Plain.{Kept, StandsFor}
+use Rattle.tx_graph.specs.Kept.{Kept, StandsFor}
 use Rattle.replay.specs.Sessions.{Answers}
 use Rattle.replay.specs.Progress.{Answered, HasAnswered}
 use Rattle.replay.specs.Outputs.{WritesFront, WritesOutput, BeginsWith}

@@ -5,11 +5,11 @@ use Rattle.graph_model.specs.Commands.{Command}
 use Rattle.graph_model.specs.Lines.{Meaning, Says, Means, max_line}
 use Rattle.graph_model.specs.Replies.{Reply}
 use Rattle.graph_model.specs.Runs.{Answer, Replies, LineStep}
-use Rattle.plain_graph.specs.Plain.{Kept, StandsFor, Steps}
+use Rattle.tx_graph.specs.Kept.{Kept, StandsFor, MakesStep}
 use Rattle.replay.specs.Sessions.{Answers, Suits}
 
 -- a line that says a command is answered by the command's reply
-pub command_answers : (before old new : Kept) (line : List ℕ) (meaning : Meaning) (command : Command) (reply : Reply) (answer : Answer) → length line ≤ max_line → Means line meaning → meaning ≡ Says command → Steps old new command reply → old ≡ before
+pub command_answers : (before old new : Kept) (line : List ℕ) (meaning : Meaning) (command : Command) (reply : Reply) (answer : Answer) → length line ≤ max_line → Means line meaning → meaning ≡ Says command → MakesStep old new command reply → old ≡ before
     → answer ≡ Replies reply → Answers before new line answer
 command_answers before old new line meaning command reply answer short means says steps same is state stands =
     let step = steps state (subst (λ (k : Kept). StandsFor k state) (sym same) stands) in
@@ -22,7 +22,7 @@ nothing_answers before old line meaning given answer short means is same step st
     (state, subst (λ (k : Kept). StandsFor k state) (sym same) stands, step state (subst (λ (m : Meaning). Means line m) is means))
 
 -- a reading leaves the graph as it was
-pub reading_answers : (before old : Kept) (line : List ℕ) (meaning : Meaning) (command : Command) (reply : Reply) (answer : Answer) → length line ≤ max_line → Means line meaning → meaning ≡ Says command → Steps old old command reply → old ≡ before
+pub reading_answers : (before old : Kept) (line : List ℕ) (meaning : Meaning) (command : Command) (reply : Reply) (answer : Answer) → length line ≤ max_line → Means line meaning → meaning ≡ Says command → MakesStep old old command reply → old ≡ before
     → answer ≡ Replies reply → Answers before before line answer
 reading_answers before old line meaning command reply answer short means says steps same is =
     subst (λ (k : Kept). Answers before k line answer) same (command_answers before old old line meaning command reply answer short means says steps same is)

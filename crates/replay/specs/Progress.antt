@@ -6,7 +6,7 @@ use Rattle.graph_model.specs.States.{State, start}
 use Rattle.graph_model.specs.Replies.{line_text}
 use Rattle.graph_model.specs.Lines.{IsOneLine}
 use Rattle.graph_model.specs.Runs.{Answer, Run, answer_text}
-use Rattle.plain_graph.specs.Plain.{Kept, StandsFor}
+use Rattle.tx_graph.specs.Kept.{Kept, StandsFor}
 
 -- Lines of the input were answered from the start, the rest is left, and the session stands where they lead.
 pub record Answered (kept : Kept) (input rest : List ℕ) (old new : Option (List ℕ)) : Type 0 where

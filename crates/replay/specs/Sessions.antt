@@ -1,11 +1,12 @@
 -- One line of a session.
-use Rattle.std.specs.Prelude.{◌≡◌, ℕ, ◌<◌, ◌≤◌, List, length}
+use Rattle.std.specs.Prelude.{◌≡◌, ℕ, ◌+◌, ◌*◌, ◌<◌, ◌≤◌, List, length}
+use Rattle.graph_model.specs.Rooms.{Room}
 use Rattle.graph_model.specs.States.{State}
 use Rattle.graph_model.specs.Commands.{Command}
 use Rattle.graph_model.specs.Lines.{Means, Quiet, Says, NoForm, max_line}
 use Rattle.graph_model.specs.Runs.{Answer, Silence, Unread, Replies, LineStep}
 use Rattle.graph_model.specs.Runs as runs
-use Rattle.plain_graph.specs.Plain.{Kept, StandsFor}
+use Rattle.tx_graph.specs.Kept.{Kept, StandsFor}
 use Rattle.replay.specs.declared.session.Piece.{Piece}
 use Rattle.replay.specs.declared.session.Piece.TheVariants.{Whole, TooLong}
 
@@ -24,3 +25,7 @@ Suits line Silence = (length line ≤ max_line) × Means line Quiet
 Suits line runs.TooLong = max_line < length line
 Suits line Unread = (length line ≤ max_line) × Means line NoForm
 Suits line (Replies reply) = (length line ≤ max_line) × (command : Command) × Means line (Says command)
+
+-- there is room for the names that a line may list, and for those of a cluster of 64 w names
+abbrev pub HasRoom : ℕ → Room → Type 0
+HasRoom w names = (32766 ≤ length names.ids + names.room) × (64 * w ≤ length names.ids + names.room)

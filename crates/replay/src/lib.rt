@@ -4,6 +4,7 @@
 
 mod answer;
 mod check;
+mod commands;
 mod input;
 mod lines;
 mod session;

@@ -4,7 +4,7 @@ ghost use Rattle.graph_model.specs.Runs.{Answer, answer_text};
 ghost use Rattle.outside.specs.Transfers.{Writes};
 ghost use Rattle.replay.specs.Sessions.{Answers};
 ghost use Rattle.outside.specs.Faults.{HasCause};
-ghost use Rattle.plain_graph.specs.Plain.{StandsFor};
+ghost use Rattle.tx_graph.specs.Kept.{StandsFor};
 ghost use Rattle.replay.specs.Outputs.{WritesOutput, WritesFront};
 ghost use Rattle.replay.specs.Progress.{HasAnswered};
 

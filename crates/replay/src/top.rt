@@ -1,19 +1,22 @@
-ghost use Rattle.std.specs.Prelude.{◌≡◌, ◌≢◌, ℕ, ◌≤◌, ◌<◌, ◌⊎◌, List, IfSome, length, MatchOption, codes, map, string_bytes};
+ghost use Rattle.std.specs.Prelude.{◌≡◌, ◌≢◌, ℕ, ◌+◌, ◌-◌, ◌^◌, ◌≤◌, ◌<◌, ◌⊎◌, List, IfSome, length, MatchOption, codes, map, string_bytes};
 ghost use Rattle.std.specs.Io.KnownBytes.{Appends, Keeps};
 ghost use Rattle.graph_model.specs.Lines.{max_input};
 ghost use Rattle.outside.specs.Faults.{Rose, HasCause};
 ghost use Rattle.outside.specs.Transfers.{AppendsFront, Writes};
 ghost use Rattle.graph_model.specs.Texts.{Verification, Found};
 ghost use Rattle.graph_model.specs.Certificates.{Certified};
-ghost use Rattle.replay.specs.Statuses.{AreReplay, AreCheck, AreRefused, usage_text, IsAnswered, IsCutOff, end_status, status_code};
+ghost use Rattle.tx_graph.specs.Kept.{StandsFor};
+ghost use Rattle.graph_model.specs.States.{start};
+ghost use Rattle.replay.specs.Outputs.{WritesOutput, WritesFront};
+ghost use Rattle.replay.specs.Statuses.{AreReplay, AreCheck, AreRefused, usage_text, IsAnswered, IsCutOff, end_status, is_told, status_code};
 ghost use Rattle.replay.specs.Words.{IsCommand, IsName};
 ghost use Rattle.replay.specs.Checks.{IsChecked, IsCheckedInPart, IsRead};
 
 use crate::check::check_text;
-use crate::input::{End, read_input};
+use crate::input::{End, Input, read_input};
 use crate::lines::answer_all;
 use crate::session::Session;
-use outside::{Failed, Sink, Source};
+use outside::{Failed, NoMemory, Sink, Source};
 use std::alloc::Global;
 use wire::write_word;
 
@@ -116,11 +119,22 @@ fn replay_lines<S: Source, K: Sink>(alloc: Global, source: &mut S, sink: &mut K)
     let Ok(mut session) = Session::<1>::new(alloc) else {
         return Status::NoMemory;
     };
-    let Ok(input) = read_input(alloc, source) else {
-        return Status::NoMemory;
-    };
+    match read_input(alloc, source) {
+        Ok(input) => answer_input(&mut session, &input, sink),
+        Err(NoMemory) => Status::NoMemory,
+    }
+}
+
+/// Answers what was read, from the start.
+fn answer_input<K: Sink>(session: &mut Session<1>, input: &Input, sink: &mut K) -> Status
+    requires fresh { StandsFor session.old start }
+    requires few { session.old.additions + length input.now.bytes.items < 2 ^ 64 - 2 }
+    ensures answered { result ≢ Status.WriteFault → (result ≡ end_status input.now.end) × WritesOutput (is_told input.now.end) input.now.bytes.items (K.written sink.old) (K.written sink.new) }
+    ensures cut_off { result ≡ Status.WriteFault → WritesFront (is_told input.now.end) input.now.bytes.items (K.written sink.old) (K.written sink.new) }
+    ensures cause { result ≡ Status.WriteFault → Rose (K.faults sink.old) (K.faults sink.new) }
+{
     let told = matches!(input.end, End::Told);
-    match answer_all(&mut session, &input.bytes, told, sink) {
+    match answer_all(session, &input.bytes, told, sink) {
         Ok(()) => status_of(input.end),
         Err(Failed) => Status::WriteFault,
     }

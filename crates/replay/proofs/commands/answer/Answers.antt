@@ -1,7 +1,7 @@
 use Rattle.std.proofs.Common.{◌≡◌, subst, refl}
 use Rattle.replay.specs.declared.session.Piece.{Piece}
 use Rattle.replay.specs.Sessions.{IsLine}
-use Rattle.replay.proofs.session.Session.answer.Goals as goal
+use Rattle.replay.proofs.commands.answer.Goals as goal
 
 pub returns-in-Whole-clause-line : goal.returns-in-Whole-clause-line
 returns-in-Whole-clause-line g c line is = let e : line ≡ c.in-Whole.bytes.now = subst (λ (p : Piece). IsLine p line) c.in-Whole.is is in rw e c.read.ensures.line

@@ -1,0 +1,7 @@
+//! Tests that cross crates: what one crate makes is handed to another that judges it.
+//!
+//! Nothing else stands here. The contracts of the crates say that these agree; the tests show it at work.
+#![tactic(auto)]
+
+#[cfg(test)]
+mod replies;

@@ -1,0 +1,5 @@
+use Rattle.replay.proofs.commands.read.Goals as goal
+
+pub returns-clause-line : goal.returns-clause-line
+returns-clause-line g c state stands =
+    c.obey_unpaid.ensures.line c.args.bytes.now c.if-bytes-gt-MAX_LINE.false c.read_line-line.ensures.meaning state stands

@@ -1,0 +1,137 @@
+ghost use Rattle.std.specs.Prelude.{◌≡◌, ℕ, ◌+◌, ◌-◌, ◌^◌, ◌<◌, ◌≤◌, List, length};
+ghost use Rattle.graph_model.specs.Runs as runs;
+ghost use Rattle.graph_model.specs.Lines.{max_line, Means};
+ghost use Rattle.wire.specs.Readings.{meaning_of};
+ghost use Rattle.tx_graph.specs.Kept.{Kept, change_reply, names_reply};
+ghost use Rattle.replay.specs.Answers.{answer_of};
+ghost use Rattle.replay.specs.Sessions.{IsLine, Answers, HasRoom, Suits};
+
+use crate::answer::Answer;
+use crate::session::Piece;
+use graph_model::{IdBuf, Refusal};
+use std::marker::Brand;
+use std::sync::ledger;
+use std::sync::ledger::Blank;
+use step_count::{Ledger, NoLedger, Steps};
+use tx_graph::TxGraph;
+use wire::{Line, read_line};
+
+/// The most bytes that a line may have, without its line feed.
+const MAX_LINE: usize = 65_536;
+
+/// The answer to a line, after the graph has changed. Names that a reading finds are left in `ids`.
+pub(crate) fn answer<const W: usize>(
+    graph: &mut TxGraph<W>,
+    ids: &mut IdBuf,
+    piece: Piece<'_>,
+) -> Answer
+    requires few { graph.old.additions < 2 ^ 64 - 1 }
+    requires room { HasRoom W ids.old }
+    ensures line { (line : List ℕ) → IsLine piece.entry line → Answers graph.old graph.new line (answer_of result ids.new.ids) }
+    ensures suits { (line : List ℕ) → IsLine piece.entry line → Suits line (answer_of result ids.new.ids) }
+    ensures additions { graph.new.additions ≤ graph.old.additions + 1 }
+    ensures room { HasRoom W ids.new }
+{
+    match piece {
+        Piece::Whole(bytes) => read(graph, ids, bytes),
+        Piece::TooLong => Answer::TooLong,
+    }
+}
+
+/// The answer to a line of these bytes.
+fn read<const W: usize>(graph: &mut TxGraph<W>, ids: &mut IdBuf, bytes: &[u8]) -> Answer
+    requires few { graph.old.additions < 2 ^ 64 - 1 }
+    requires room { HasRoom W ids.old }
+    ensures line { Answers graph.old graph.new bytes.now (answer_of result ids.new.ids) }
+    ensures suits { Suits bytes.now (answer_of result ids.new.ids) }
+    ensures additions { graph.new.additions ≤ graph.old.additions + 1 }
+    ensures room { HasRoom W ids.new }
+{
+    if bytes.len() > MAX_LINE {
+        return Answer::TooLong;
+    }
+    let line = read_line(bytes, ids);
+    obey_unpaid::<Brand, TxGraph<W>>(graph, ids, line, Blank::new(1))
+}
+
+/// What obeys commands.
+///
+/// A graph does so through this trait because a function that is given a token of its own ledger can't have a number of
+/// words among its parameters.
+pub(crate) trait Obeys {
+    ghost kept: { Self → Kept };
+
+    ghost words: { ℕ };
+
+    /// The answer to what a line says.
+    fn obey<L: Ledger>(&mut self, ids: &mut IdBuf, line: Line, steps: &mut Steps<L>) -> Answer
+        requires few { (kept self.old).additions < 2 ^ 64 - 1 }
+        requires room { HasRoom words ids.old }
+        ensures line { (bytes : List ℕ) → length bytes ≤ max_line → Means bytes (meaning_of line) → Answers (kept self.old) (kept self.new) bytes (answer_of result ids.new.ids) }
+        ensures suits { (bytes : List ℕ) → length bytes ≤ max_line → Means bytes (meaning_of line) → Suits bytes (answer_of result ids.new.ids) }
+        ensures additions { (kept self.new).additions ≤ (kept self.old).additions + 1 }
+        ensures room { HasRoom words ids.new };
+}
+
+impl<const W: usize> Obeys for TxGraph<W> {
+    ghost kept = { λ graph. graph };
+
+    ghost words = { W };
+
+    fn obey<L: Ledger>(&mut self, ids: &mut IdBuf, line: Line, steps: &mut Steps<L>) -> Answer {
+        match line {
+            Line::Quiet => Answer::Silence,
+            Line::Syntax => Answer::Unread,
+            Line::Limits(limits) => changed(self.set_limits(limits)),
+            Line::Add(id, fee, size) => changed(self.add(id, fee, size, steps)),
+            Line::Dep(parent, child) => changed(self.dep(parent, child, steps)),
+            Line::Fee(id, fee) => changed(self.fee(id, fee, steps)),
+            Line::Remove(id) => changed(self.remove(id, steps)),
+            Line::Cluster(id, level) => named(self.cluster(level, id, ids)),
+            Line::Ancestors(id, level) => named(self.ancestors(level, id, ids)),
+            Line::Descendants(id, level) => named(self.descendants(level, id, ids)),
+            Line::Count(level) => Answer::Number(self.count(level) as u64),
+        }
+    }
+}
+
+/// The answer to what a line says, where nobody reads the steps: their ledger is a token that keeps nothing.
+fn obey_unpaid<K: ledger::Ledger, G: Obeys>(
+    graph: &mut G,
+    ids: &mut IdBuf,
+    line: Line,
+    blank: Blank,
+) -> Answer
+    requires name { blank.name ≡ K.name }
+    requires parts { blank.parts ≡ K.parts }
+    requires some { 0 < blank.parts }
+    requires few { (G.kept graph.old).additions < 2 ^ 64 - 1 }
+    requires room { HasRoom G.words ids.old }
+    ensures line { (bytes : List ℕ) → length bytes ≤ max_line → Means bytes (meaning_of line) → Answers (G.kept graph.old) (G.kept graph.new) bytes (answer_of result ids.new.ids) }
+    ensures suits { (bytes : List ℕ) → length bytes ≤ max_line → Means bytes (meaning_of line) → Suits bytes (answer_of result ids.new.ids) }
+    ensures additions { (G.kept graph.new).additions ≤ (G.kept graph.old).additions + 1 }
+    ensures room { HasRoom G.words ids.new }
+{
+    let mut steps = Steps::new(NoLedger::<K>::new(blank));
+    graph.obey(ids, line, &mut steps)
+}
+
+/// The answer to a change.
+fn changed(done: Result<(), Refusal>) -> Answer
+    ensures { (found : List ℕ) → answer_of result found ≡ runs.Replies (change_reply done) }
+{
+    match done {
+        Ok(()) => Answer::Done,
+        Err(why) => Answer::Refused(why),
+    }
+}
+
+/// The answer to a reading of names.
+fn named(done: Result<(), Refusal>) -> Answer
+    ensures { (found : List ℕ) → answer_of result found ≡ runs.Replies (names_reply done found) }
+{
+    match done {
+        Ok(()) => Answer::Names,
+        Err(why) => Answer::Refused(why),
+    }
+}
