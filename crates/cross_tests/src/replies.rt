@@ -115,19 +115,35 @@ const RUNS: [(u64, &str); 5] = [
     (5, "count main"),
 ];
 
+/// Hands a run of lines to both, between two lines that set limits.
+fn agree_on_run<const W: usize>(
+    rt: &impl Abort,
+    alloc: Global,
+    session: &mut Session<W>,
+    plain: &mut Plain,
+    seed: u64,
+    limits: &str,
+) -> Result<(), Fail> {
+    let mut state = seed;
+    agree(rt, alloc, session, plain, limits)?;
+    for at in 1..1500 {
+        let line = line_at(alloc, &mut state, at)?;
+        agree(rt, alloc, session, plain, &line)?;
+    }
+    agree(rt, alloc, session, plain, limits)
+}
+
+/// A run of lines from the start.
+fn agree_from_start(rt: &impl Abort, alloc: Global, seed: u64, limits: &str) -> Result<(), Fail> {
+    let mut session = Session::<1>::new(alloc)?;
+    let mut plain = Plain::new(alloc)?;
+    agree_on_run(rt, alloc, &mut session, &mut plain, seed, limits)
+}
+
 #[test]
 fn a_session_replies_as_the_plain_lists_do(rt: HostRuntime) -> Result<(), Fail> {
-    let alloc = rt.alloc();
     for (seed, limits) in RUNS {
-        let mut state = seed;
-        let mut session = Session::<1>::new(alloc)?;
-        let mut plain = Plain::new(alloc)?;
-        agree(&rt, alloc, &mut session, &mut plain, limits)?;
-        for at in 1..1500 {
-            let line = line_at(alloc, &mut state, at)?;
-            agree(&rt, alloc, &mut session, &mut plain, &line)?;
-        }
-        agree(&rt, alloc, &mut session, &mut plain, limits)?;
+        agree_from_start(&rt, rt.alloc(), seed, limits)?;
     }
     Ok(())
 }
