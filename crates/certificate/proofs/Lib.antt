@@ -2,8 +2,8 @@ pub mod Bookings
 pub mod Distinct
 pub mod FallingLemmas
 pub mod FlowLemmas
-pub mod Forests
 pub mod GraphLemmas
+pub mod Grouping
 pub mod Labels
 pub mod Links
 pub mod OrderLemmas

@@ -45,7 +45,7 @@ pub walk_front : (pairs : List (ℕ × ℕ)) (a b c n : ℕ) → Contains {X = �
 walk_front pairs a b c zero h e = (a, refl, subst (λ y. Contains {X = ℕ × ℕ} pairs (a, y)) e h)
 walk_front pairs a b c (suc n) h (d, w, last) = (d, walk_front pairs a b d n h w, last)
 
-contains_at : (pairs : List (ℕ × ℕ)) (k : ℕ) → k < length pairs → Contains {X = ℕ × ℕ} pairs (pair_at pairs k)
+pub contains_at : (pairs : List (ℕ × ℕ)) (k : ℕ) → k < length pairs → Contains {X = ℕ × ℕ} pairs (pair_at pairs k)
 contains_at pairs k in' = (k, in', get_or_default pairs k (pair_at pairs k) (0, 0) in')
 
 -- where a pair stands

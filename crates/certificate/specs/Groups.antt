@@ -1,6 +1,7 @@
--- Components as groups of places, found by trees: each place has a place above it, no greater, and a root is above itself.
-use Rattle.std.specs.Prelude.{◌≡◌, ◌⊎◌, ◌↔◌, ℕ, ◌<◌, ◌≤◌, zero, suc, List, length, All, slice_index}
+-- Components as groups of places, and groups as far as walks along pairs have come.
+use Rattle.std.specs.Prelude.{◌≡◌, ◌≢◌, ◌⊎◌, ◌↔◌, ℕ, ◌+◌, ◌<◌, List, length, All, Contains, slice_index, nat_eq, cond, sum_by}
 use Rattle.graph_model.specs.Graphs.{AreConnected}
+use Rattle.certificate.specs.Chains.{pair_at}
 
 -- both ends of each pair are among so many places
 abbrev pub AreWithin : ℕ → List (ℕ × ℕ) → Type 0
@@ -8,24 +9,42 @@ AreWithin count pairs = All (λ pair. (pair.0 < count) × (pair.1 < count)) pair
 
 -- two places have one group exactly where they are in one component
 pub record AreGroups (pairs : List (ℕ × ℕ)) (groups : List ℕ) : Type 0 where
-  pub exact : (a b : ℕ) → a < length groups → b < length groups → (slice_index groups a ≡ slice_index groups b) ↔ AreConnected pairs a b
+  pub exact : (a b : ℕ) → a < length groups → b < length groups
+      → (slice_index groups a ≡ slice_index groups b) ↔ AreConnected pairs a b
 
--- no place is above a smaller one
-pub record IsForest (up : List ℕ) : Type 0 where
-  pub rising : (place : ℕ) → place < length up → slice_index up place ≤ place
+-- the pair the other way round
+abbrev pub turned : ℕ × ℕ → ℕ × ℕ
+turned pair = (pair.1, pair.0)
 
--- the place that so many steps upward lead to
-abbrev pub climbed : List ℕ → ℕ → ℕ → ℕ
-climbed up place zero = place
-climbed up place (suc steps) = climbed up (slice_index up place) steps
+-- each pair stands there the other way round too
+abbrev pub GoBothWays : List (ℕ × ℕ) → Type 0
+GoBothWays steps = (a b : ℕ) → Contains {X = ℕ × ℕ} steps (a, b) → Contains {X = ℕ × ℕ} steps (b, a)
 
--- a place has no more places above it than there are smaller ones
-abbrev pub root_of : List ℕ → ℕ → ℕ
-root_of up place = climbed up place place
+-- A place has a group. A group is a place, so the count of places stands for none.
+abbrev pub HasGroup : ℕ → List ℕ → ℕ → Type 0
+HasGroup count groups place = slice_index groups place ≢ count
 
--- the trees of a and b became one, all others stayed
-pub record JoinsRoots (old new : List ℕ) (a b : ℕ) : Type 0 where
-  pub sized : length new ≡ length old
-  pub exact : (x y : ℕ) → x < length old → y < length old → (root_of new x ≡ root_of new y)
-      ↔ ((root_of old x ≡ root_of old y)
-      ⊎ (((root_of old x ≡ root_of old a) × (root_of old b ≡ root_of old y)) ⊎ ((root_of old x ≡ root_of old b) × (root_of old a ≡ root_of old y))))
+-- these are places, and of this group
+abbrev pub AreOfGroup : ℕ → List ℕ → ℕ → List ℕ → Type 0
+AreOfGroup count groups group places =
+    (place : ℕ) → Contains places place → (place < count) × (slice_index groups place ≡ group)
+
+-- Groups as far as walks have come: a place's group is a place that it is connected to, and what a pair leads from has
+-- the group of the place that it leads to, unless that place has none, or still waits for a look at its pairs.
+pub record IsGrouping (steps : List (ℕ × ℕ)) (count : ℕ) (groups waiting : List ℕ) : Type 0 where
+  pub sized : length groups ≡ count
+  pub sound : (place : ℕ) → place < count → HasGroup count groups place
+      → AreConnected steps (slice_index groups place) place
+  pub closed : (k : ℕ) → k < length steps → HasGroup count groups (pair_at steps k).1
+      → Contains waiting (pair_at steps k).1
+      ⊎ (slice_index groups (pair_at steps k).0 ≡ slice_index groups (pair_at steps k).1)
+
+-- a walk of one group went on: all that waits is of that group, and each place that had a group keeps it
+pub record GoesOn (steps : List (ℕ × ℕ)) (count group : ℕ) (groups groups' waiting' : List ℕ) : Type 0 where
+  pub grouping : IsGrouping steps count groups' waiting'
+  pub together : AreOfGroup count groups' group waiting'
+  pub kept : (place : ℕ) → HasGroup count groups place → slice_index groups' place ≡ slice_index groups place
+
+-- what is still to be done: twice for a place without a group, once for one that waits
+abbrev pub work_of : ℕ → List ℕ → List ℕ → ℕ
+work_of count groups waiting = sum_by (λ group. cond (nat_eq group count) 2 0) groups + length waiting

@@ -1,8 +1,19 @@
-ghost use Rattle.std.specs.Prelude.{◌≡◌, ℕ, ◌<◌, ◌≤◌, length, slice_index, IfOk};
-ghost use Rattle.certificate.specs.Groups.{AreGroups, AreWithin, IsForest, JoinsRoots, root_of};
+ghost use Rattle.std.specs.Prelude.{◌≡◌, ◌≢◌, ◌+◌, ◌<◌, ◌≤◌, [], ◌∷◌, ◌++◌, length, map, slice_index, slice_set, IfOk, OnOk};
+ghost use Rattle.certificate.specs.Chains.{AreChains};
+ghost use Rattle.certificate.specs.Groups.{AreGroups, AreOfGroup, AreWithin, GoBothWays, GoesOn, HasGroup};
+ghost use Rattle.certificate.specs.Groups.{IsGrouping, turned, work_of};
 
-use graph_model::components_with_pair;
+use crate::chains::{Chains, linked};
 use std::alloc::{AllocError, Global};
+
+/// Groups of places, as far as walks along pairs have come.
+#[derive(Drop)]
+pub(crate) struct Walk {
+    /// For each place its group, which is a place; the count of places stands for none.
+    groups: Vec<usize>,
+    /// Places of the walk's group whose pairs are still to be looked at.
+    waiting: Vec<usize>,
+}
 
 /// For each place a place of its component, the same for all of one component.
 pub(crate) fn groups_of(
@@ -14,68 +25,103 @@ pub(crate) fn groups_of(
     ensures sized { IfOk result (λ groups. length groups.items ≡ count) }
     ensures groups { IfOk result (λ groups. AreGroups pairs.now groups.items) }
 {
-    let mut up = Vec::new(alloc);
+    let steps = both_ways(alloc, pairs)?;
+    let chains = linked(alloc, count, steps.as_slice())?;
+    let groups = vec![in alloc; count; count]?;
+    let mut walk = Walk {
+        groups,
+        waiting: Vec::new(alloc),
+    };
     for place in 0..count {
-        up.push(place)?;
+        walk_from(&mut walk, steps.as_slice(), &chains, place)?;
     }
-    join_all(up.as_mut_slice(), pairs);
-    Ok(up)
+    Ok(walk.groups)
 }
 
-/// Makes groups of places that stand alone.
-fn join_all(up: &mut [usize], pairs: &[(usize, usize)])
-    requires alone { (x : ℕ) → x < length up.old → slice_index up.old x ≡ x }
-    requires pairs_in { AreWithin (length up.old) pairs.now }
-    ensures { AreGroups pairs.now up.new }
+/// The pairs, and each of them turned round.
+fn both_ways(alloc: Global, pairs: &[(usize, usize)]) -> Result<Vec<(usize, usize)>, AllocError>
+    ensures { IfOk result (λ steps. steps.items ≡ pairs.now ++ map turned pairs.now) }
 {
-    components_with_pair();
+    let mut steps = pairs.to_vec(alloc)?;
     for pair in pairs {
-        join(up, pair.0, pair.1);
+        steps.push((pair.1, pair.0))?;
     }
-    flatten(up);
+    Ok(steps)
 }
 
-/// Puts each place right under its root.
-fn flatten(up: &mut [usize])
-    requires { IsForest up.old }
-    ensures { (x : ℕ) → x < length up.old → slice_index up.new x ≡ root_of up.old x }
+/// Makes a group of a place and all that it is connected to, unless it has one.
+fn walk_from(
+    walk: &mut Walk,
+    steps: &[(usize, usize)],
+    chains: &Chains,
+    place: usize,
+) -> Result<(), AllocError>
+    requires place_in { place < length walk.old.groups.items }
+    requires steps_in { AreWithin (length walk.old.groups.items) steps.now }
+    requires both { GoBothWays steps.now }
+    requires sized { length chains.now.last.items ≡ length walk.old.groups.items }
+    requires chains { AreChains steps.now chains.now.last.items chains.now.before.items }
+    requires grouping { let groups = walk.old.groups.items in
+        IsGrouping steps.now (length groups) groups walk.old.waiting.items }
+    requires none { walk.old.waiting.items ≡ [] }
+    ensures goes_on { let old = walk.old.groups.items in let new = walk.new in
+        IfOk result (λ _. GoesOn steps.now (length old) place old new.groups.items new.waiting.items) }
+    ensures none { IfOk result (λ _. walk.new.waiting.items ≡ []) }
+    ensures grouped { IfOk result (λ _. HasGroup (length walk.old.groups.items) walk.new.groups.items place) }
 {
-    for place in 0..up.len() {
-        up[place] = up[up[place]];
+    reach(walk, place, place)?;
+    while let Some(from) = walk.waiting.pop() {
+        look_around(walk, steps, chains, from)?;
     }
+    Ok(())
 }
 
-/// Puts the trees of two places into one.
-fn join(up: &mut [usize], a: usize, b: usize)
-    requires forest { IsForest up.old }
-    requires a_in { a < length up.old }
-    requires b_in { b < length up.old }
-    ensures forest { IsForest up.new }
-    ensures joined { JoinsRoots up.old up.new a b }
+/// Gives the neighbours of a place its group. Those that had none wait then.
+fn look_around(
+    walk: &mut Walk,
+    steps: &[(usize, usize)],
+    chains: &Chains,
+    from: usize,
+) -> Result<(), AllocError>
+    requires from_in { from < length walk.old.groups.items }
+    requires grouped { HasGroup (length walk.old.groups.items) walk.old.groups.items from }
+    requires steps_in { AreWithin (length walk.old.groups.items) steps.now }
+    requires both { GoBothWays steps.now }
+    requires sized { length chains.now.last.items ≡ length walk.old.groups.items }
+    requires chains { AreChains steps.now chains.now.last.items chains.now.before.items }
+    requires grouping { let groups = walk.old.groups.items in
+        IsGrouping steps.now (length groups) groups (from ∷ walk.old.waiting.items) }
+    requires together { let groups = walk.old.groups.items in
+        AreOfGroup (length groups) groups (slice_index groups from) walk.old.waiting.items }
+    ensures goes_on { let old = walk.old.groups.items in let new = walk.new in
+        IfOk result (λ _. GoesOn steps.now (length old) (slice_index old from) old new.groups.items new.waiting.items) }
+    ensures work { let old = walk.old in let new = walk.new in let count = length old.groups.items in
+        IfOk result (λ _. work_of count new.groups.items new.waiting.items
+        ≤ work_of count old.groups.items old.waiting.items) }
 {
-    let first = root(up, a);
-    let second = root(up, b);
-    if first < second {
-        up[second] = first;
-    } else if second < first {
-        up[first] = second;
+    let group = walk.groups[from];
+    let mut left = chains.last[from];
+    while left > 0 {
+        reach(walk, steps[left - 1].0, group)?;
+        left = chains.before[left - 1];
     }
+    Ok(())
 }
 
-/// The root of a place's tree. The way to it gets shorter.
-fn root(up: &mut [usize], place: usize) -> usize
-    requires forest { IsForest up.old }
-    requires place_in { place < length up.old }
-    ensures root { result ≡ root_of up.old place }
-    ensures below { result ≤ place }
-    ensures forest { IsForest up.new }
-    ensures roots { (x : ℕ) → x < length up.old → root_of up.new x ≡ root_of up.old x }
+/// Gives a place a group and lets it wait, unless it has one.
+fn reach(walk: &mut Walk, place: usize, group: usize) -> Result<(), AllocError>
+    requires { place < length walk.old.groups.items }
+    ensures had { let old = walk.old in let new = walk.new in HasGroup (length old.groups.items) old.groups.items place
+        → OnOk result ((new.groups.items ≡ old.groups.items) × (new.waiting.items ≡ old.waiting.items)) }
+    ensures had_none { let old = walk.old in let new = walk.new in
+        slice_index old.groups.items place ≡ length old.groups.items
+        → OnOk result ((new.groups.items ≡ slice_set old.groups.items place group)
+        × (new.waiting.items ≡ old.waiting.items ++ place ∷ [])) }
 {
-    let mut at = place;
-    while up[at] != at {
-        let over = up[up[at]];
-        up[at] = over;
-        at = over;
+    if walk.groups[place] != walk.groups.len() {
+        return Ok(());
     }
-    at
+    walk.waiting.push(place)?;
+    walk.groups[place] = group;
+    Ok(())
 }

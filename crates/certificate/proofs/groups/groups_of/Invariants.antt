@@ -1,5 +1,10 @@
-use Rattle.std.proofs.Common.{◌≡◌, ℕ, ◌<◌, length, get_or}
+use Rattle.std.proofs.Common.{◌≡◌, ℕ, ◌<◌, []}
+use Rattle.certificate.specs.Groups.{HasGroup, IsGrouping}
 use Rattle.certificate.proofs.groups.groups_of.Given as goal
 
 abbrev pub invariant-loop-place : goal.invariant-loop-place
-invariant-loop-place l = (length l.up.items ≡ l.place) × ((k : ℕ) → k < length l.up.items → get_or l.up.items k 0 ≡ k)
+invariant-loop-place l = record {
+  grouping : IsGrouping l.steps.items l.count l.walk.groups.items l.walk.waiting.items;
+  none : l.walk.waiting.items ≡ [];
+  all : (k : ℕ) → k < l.place → HasGroup l.count l.walk.groups.items k;
+}

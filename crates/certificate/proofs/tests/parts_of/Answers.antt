@@ -1,4 +1,4 @@
-use Rattle.std.proofs.Common.{arith, ◌≡◌, ◌≤◌, ◌≢◌, [], ◌∷◌, ◌++◌, subst, sym, inl, inr, ap, ◌∙◌}
+use Rattle.std.proofs.Common.{arith, ◌≤◌, ◌≢◌, [], subst, sym, inl, inr, ap, ◌∙◌}
 use Rattle.std.specs.Prelude.{Contains, sum_by}
 use Rattle.std.proofs.lemmas.List.Elements.{Contains-push_cases, All-contains}
 use Rattle.std.proofs.lemmas.List.Sums.{sum_by_push}
