@@ -22,10 +22,13 @@ use std::alloc::Global;
 pub fn check(alloc: Global, graph: &Written, parts: &[Part]) -> Result<(), CheckFault>
     requires { AreClaims parts.now }
     ensures yes { OnOk result (Finds graph.now.txs graph.now.edges (parts_of parts.now) Certified) }
-    ensures optimal { OnOk result (IsOptimal (rate_in graph.now.txs) (graph_of graph.now.txs graph.now.edges) (map (λ part. part.ids) parts.now)) }
+    ensures optimal { OnOk result
+        (IsOptimal (rate_in graph.now.txs) (graph_of graph.now.txs graph.now.edges)
+        (map (λ part. part.ids) parts.now)) }
     ensures graph { result ≡ Err CheckFault.Graph → Finds graph.now.txs graph.now.edges (parts_of parts.now) NoGraph }
     ensures order { result ≡ Err CheckFault.Order → Finds graph.now.txs graph.now.edges (parts_of parts.now) NoOrder }
-    ensures falling { result ≡ Err CheckFault.Falling → Finds graph.now.txs graph.now.edges (parts_of parts.now) NoFalling }
+    ensures falling { result ≡ Err CheckFault.Falling
+        → Finds graph.now.txs graph.now.edges (parts_of parts.now) NoFalling }
     ensures flow { result ≡ Err CheckFault.Flow → Finds graph.now.txs graph.now.edges (parts_of parts.now) NoFlow }
 {
     let txs = graph.txs.as_slice();
@@ -42,7 +45,8 @@ fn check_lists(
 ) -> Result<(), CheckFault>
     requires { AreClaims parts.now }
     ensures yes { OnOk result (Finds txs.now edges.now (parts_of parts.now) Certified) }
-    ensures optimal { OnOk result (IsOptimal (rate_in txs.now) (graph_of txs.now edges.now) (map (λ part. part.ids) parts.now)) }
+    ensures optimal { OnOk result
+        (IsOptimal (rate_in txs.now) (graph_of txs.now edges.now) (map (λ part. part.ids) parts.now)) }
     ensures graph { result ≡ Err CheckFault.Graph → Finds txs.now edges.now (parts_of parts.now) NoGraph }
     ensures order { result ≡ Err CheckFault.Order → Finds txs.now edges.now (parts_of parts.now) NoOrder }
     ensures falling { result ≡ Err CheckFault.Falling → Finds txs.now edges.now (parts_of parts.now) NoFalling }

@@ -66,7 +66,9 @@ fn reach(
     requires sized { length before.now ≡ length pairs.now }
     requires search { IsSearch pairs.now search.old.left.items search.old.visits.items search.old.way.items }
     requires way { search.old.way.items ≡ [] }
-    ensures goes_on { IfOk result (λ _. GoesOn pairs.now search.old.visits.items search.new.left.items search.new.visits.items search.new.way.items) }
+    ensures goes_on { IfOk result
+        (λ _. GoesOn pairs.now search.old.visits.items search.new.left.items search.new.visits.items
+        search.new.way.items) }
     ensures way { IfOk result (λ _. search.new.way.items ≡ []) }
     ensures done { IfOk result (λ _. visit_at search.new.visits.items place ≡ Done) }
     ensures fault { IfErr result (Says Graph (HasNoCycle pairs.now)) }
@@ -92,7 +94,9 @@ fn search_from(
     requires sized { length before.now ≡ length pairs.now }
     requires search { IsSearch pairs.now search.old.left.items search.old.visits.items search.old.way.items }
     requires way { search.old.way.items ≡ [] }
-    ensures goes_on { IfOk result (λ _. GoesOn pairs.now search.old.visits.items search.new.left.items search.new.visits.items search.new.way.items) }
+    ensures goes_on { IfOk result
+        (λ _. GoesOn pairs.now search.old.visits.items search.new.left.items search.new.visits.items
+        search.new.way.items) }
     ensures way { IfOk result (λ _. search.new.way.items ≡ []) }
     ensures done { IfOk result (λ _. visit_at search.new.visits.items place ≡ Done) }
     ensures fault { IfErr result (Says Graph (HasNoCycle pairs.now)) }
@@ -123,8 +127,12 @@ fn step(search: &mut Search, pairs: &[(usize, usize)], before: &[usize]) -> Resu
     requires chains { LeadBack pairs.now before.now }
     requires sized { length before.now ≡ length pairs.now }
     requires search { IsSearch pairs.now search.old.left.items search.old.visits.items search.old.way.items }
-    ensures goes_on { IfOk result (λ _. GoesOn pairs.now search.old.visits.items search.new.left.items search.new.visits.items search.new.way.items) }
-    ensures less { IfOk result (λ _. work_of search.new.left.items search.new.visits.items < work_of search.old.left.items search.old.visits.items) }
+    ensures goes_on { IfOk result
+        (λ _. GoesOn pairs.now search.old.visits.items search.new.left.items search.new.visits.items
+        search.new.way.items) }
+    ensures less { IfOk result
+        (λ _. work_of search.new.left.items search.new.visits.items < work_of search.old.left.items
+        search.old.visits.items) }
     ensures fault { IfErr result (Says Graph (HasNoCycle pairs.now)) }
 {
     let top = search.way[search.way.len() - 1];

@@ -28,7 +28,9 @@ pub(crate) fn check_falling(
     requires members { (id : ℕ) → Contains (order_of parts.now) id → Contains (names_of txs.now) id }
     requires few { length (order_of parts.now) ≤ 1048576 }
     requires filled { (k : ℕ) → k < length parts.now → ids_at parts.now k ≢ [] }
-    ensures { MatchResult result (λ _. HasFalling (rate_in txs.now) (parts_of parts.now)) (Says Falling (HasFalling (rate_in txs.now) (parts_of parts.now))) }
+    ensures { MatchResult result
+        (λ _. HasFalling (rate_in txs.now) (parts_of parts.now))
+        (Says Falling (HasFalling (rate_in txs.now) (parts_of parts.now))) }
 {
     check_sums(txs, names, parts)?;
     check_rates(parts)?;

@@ -44,7 +44,9 @@ pub(crate) fn check_flows(
     requires rates { AreRates parts.now }
     requires summed { AreSummed txs.now parts.now }
     requires payable { ArePayable parts.now }
-    ensures { MatchResult result (λ _. HasFlows (rate_in txs.now) (IsEdge tables.now) (parts_of parts.now)) (Says faults.Flow (HasFlows (rate_in txs.now) (IsEdge tables.now) (parts_of parts.now))) }
+    ensures { MatchResult result
+        (λ _. HasFlows (rate_in txs.now) (IsEdge tables.now) (parts_of parts.now))
+        (Says faults.Flow (HasFlows (rate_in txs.now) (IsEdge tables.now) (parts_of parts.now))) }
 {
     let mut accounts = vec![in alloc; Account { part: 0, net: 0 }; txs.len()]?;
     check_parts(alloc, accounts.as_mut_slice(), txs, tables, parts)
@@ -66,7 +68,9 @@ fn check_parts(
     requires payable { ArePayable parts.now }
     requires room { length (names_of txs.now) ≡ length accounts.old }
     requires none { (place : ℕ) → (account_at accounts.old place).part ≡ 0 }
-    ensures { MatchResult result (λ _. HasFlows (rate_in txs.now) (IsEdge tables.now) (parts_of parts.now)) (Says faults.Flow (HasFlows (rate_in txs.now) (IsEdge tables.now) (parts_of parts.now))) }
+    ensures { MatchResult result
+        (λ _. HasFlows (rate_in txs.now) (IsEdge tables.now) (parts_of parts.now))
+        (Says faults.Flow (HasFlows (rate_in txs.now) (IsEdge tables.now) (parts_of parts.now))) }
 {
     for (at, part) in parts.iter().enumerate() {
         let ids = part.ids.as_slice();
@@ -97,7 +101,9 @@ fn check_part(
     requires some { (flow : Flow) → Contains flows.now flow → 1 ≤ flow.amount }
     requires total { amount_of flows.now < 2 ^ 127 }
     ensures bound { (place : ℕ) → (account_at accounts.new place).part ≤ part }
-    ensures certified { MatchResult result (λ _. Certifies (rate_in txs.now) (IsEdge tables.now) ids.now flows.now) (Says faults.Flow (Certifies (rate_in txs.now) (IsEdge tables.now) ids.now flows.now)) }
+    ensures certified { MatchResult result
+        (λ _. Certifies (rate_in txs.now) (IsEdge tables.now) ids.now flows.now)
+        (Says faults.Flow (Certifies (rate_in txs.now) (IsEdge tables.now) ids.now flows.now)) }
 {
     open(accounts, &tables.names, part, ids);
     flows_once(alloc, flows)?;
@@ -110,9 +116,11 @@ fn check_part(
 /// Opens the accounts of a part's names.
 fn open(accounts: &mut [Account], names: &Names, part: usize, ids: &[TxId])
     requires later { (place : ℕ) → (account_at accounts.old place).part < part }
-    requires known { (id : ℕ) → Contains ids.now id → (place : ℕ) × (place < length accounts.old) × (hash.get nat_eq names.now id ≡ Some place) }
+    requires known { (id : ℕ) → Contains ids.now id → (place : ℕ) × (place < length accounts.old)
+        × (hash.get nat_eq names.now id ≡ Some place) }
     ensures opened { AreOpen (hash.get nat_eq names.now) ids.now part accounts.new }
-    ensures empty { (place : ℕ) → (account_at accounts.new place).part ≡ part → (account_at accounts.new place).net ≡ pos 0 }
+    ensures empty { (place : ℕ) → (account_at accounts.new place).part ≡ part
+        → (account_at accounts.new place).net ≡ pos 0 }
 {
     for id in ids {
         let place = place_of(names, *id);
@@ -133,7 +141,8 @@ fn place_of(names: &Names, id: TxId) -> usize
 
 /// Whether no two flows have the same ends.
 fn flows_once(alloc: Global, flows: &[Flow]) -> Result<(), CheckFault>
-    ensures { MatchResult result (λ _. AreDistinct (ends_of flows.now)) (Says faults.Flow (AreDistinct (ends_of flows.now))) }
+    ensures { MatchResult result
+        (λ _. AreDistinct (ends_of flows.now)) (Says faults.Flow (AreDistinct (ends_of flows.now))) }
 {
     let mut seen = HashSet::new(alloc);
     for flow in flows {
@@ -153,7 +162,10 @@ fn flows_inside(
     flows: &[Flow],
 ) -> Result<(), CheckFault>
     requires { (id place : ℕ) → hash.get nat_eq tables.now.names id ≡ Some place → place < length accounts.now }
-    ensures { MatchResult result (λ _. AreInside (hash.get nat_eq tables.now.names) (IsEdge tables.now) accounts.now part flows.now) (Says faults.Flow (AreInside (hash.get nat_eq tables.now.names) (IsEdge tables.now) accounts.now part flows.now)) }
+    ensures { MatchResult result
+        (λ _. AreInside (hash.get nat_eq tables.now.names) (IsEdge tables.now) accounts.now part flows.now)
+        (Says faults.Flow (AreInside (hash.get nat_eq tables.now.names)
+        (IsEdge tables.now) accounts.now part flows.now)) }
 {
     for flow in flows {
         if !tables.edges.contains(&(flow.parent, flow.child)) {
@@ -172,7 +184,8 @@ fn flows_inside(
 /// Whether a number is a name whose account is of the part.
 fn is_open(accounts: &[Account], names: &Names, part: usize, id: TxId) -> bool
     requires { (place : ℕ) → hash.get nat_eq names.now id ≡ Some place → place < length accounts.now }
-    ensures { MatchBool result (IsOpen (hash.get nat_eq names.now) accounts.now part id) (IsOpen (hash.get nat_eq names.now) accounts.now part id → ⊥) }
+    ensures { MatchBool result (IsOpen (hash.get nat_eq names.now) accounts.now part id)
+        (IsOpen (hash.get nat_eq names.now) accounts.now part id → ⊥) }
 {
     match find(names, id) {
         Some(place) => accounts[place].part == part,
@@ -182,9 +195,13 @@ fn is_open(accounts: &[Account], names: &Names, part: usize, id: TxId) -> bool
 
 /// Books flows into the accounts of their ends.
 fn book(accounts: &mut [Account], names: &Names, part: usize, flows: &[Flow])
-    requires inside { (flow : Flow) → Contains flows.now flow → IsOpen (hash.get nat_eq names.now) accounts.old part flow.child × IsOpen (hash.get nat_eq names.now) accounts.old part flow.parent }
-    requires apart { (a b place : ℕ) → hash.get nat_eq names.now a ≡ Some place → hash.get nat_eq names.now b ≡ Some place → a ≡ b }
-    requires empty { (place : ℕ) → (account_at accounts.old place).part ≡ part → (account_at accounts.old place).net ≡ pos 0 }
+    requires inside { (flow : Flow) → Contains flows.now flow
+        → IsOpen (hash.get nat_eq names.now) accounts.old part flow.child
+        × IsOpen (hash.get nat_eq names.now) accounts.old part flow.parent }
+    requires apart { (a b place : ℕ) → hash.get nat_eq names.now a ≡ Some place
+        → hash.get nat_eq names.now b ≡ Some place → a ≡ b }
+    requires empty { (place : ℕ) → (account_at accounts.old place).part ≡ part
+        → (account_at accounts.old place).net ≡ pos 0 }
     requires total { amount_of flows.now < 2 ^ 127 }
     ensures parts { KeepParts accounts.old accounts.new }
     ensures net { AreNet (hash.get nat_eq names.now) part flows.now accounts.new }
@@ -202,7 +219,8 @@ fn pay(accounts: &mut [Account], place: usize, amount: u128)
     requires place_in { place < length accounts.old }
     requires small { amount < 2 ^ 127 }
     requires fits { FitsSigned w128 ((account_at accounts.old place).net +ℤ pos amount) }
-    ensures { accounts.new ≡ slice_set accounts.old place record { part = (account_at accounts.old place).part; net = (account_at accounts.old place).net +ℤ pos amount } }
+    ensures { accounts.new ≡ slice_set accounts.old place record
+        { part = (account_at accounts.old place).part; net = (account_at accounts.old place).net +ℤ pos amount } }
 {
     accounts[place].net += amount as i128;
 }
@@ -212,7 +230,8 @@ fn draw(accounts: &mut [Account], place: usize, amount: u128)
     requires place_in { place < length accounts.old }
     requires small { amount < 2 ^ 127 }
     requires fits { FitsSigned w128 ((account_at accounts.old place).net -ℤ pos amount) }
-    ensures { accounts.new ≡ slice_set accounts.old place record { part = (account_at accounts.old place).part; net = (account_at accounts.old place).net -ℤ pos amount } }
+    ensures { accounts.new ≡ slice_set accounts.old place record
+        { part = (account_at accounts.old place).part; net = (account_at accounts.old place).net -ℤ pos amount } }
 {
     accounts[place].net -= amount as i128;
 }
@@ -230,7 +249,9 @@ fn balanced(
     requires rate { IsSum rate }
     requires members { (id : ℕ) → Contains ids.now id → Contains (names_of txs.now) id }
     requires room { length (names_of txs.now) ≡ length accounts.now }
-    ensures { MatchResult result (λ _. AreBalanced (hash.get nat_eq names.now) (rate_in txs.now) rate ids.now accounts.now) (Says faults.Flow (AreBalanced (hash.get nat_eq names.now) (rate_in txs.now) rate ids.now accounts.now)) }
+    ensures { MatchResult result
+        (λ _. AreBalanced (hash.get nat_eq names.now) (rate_in txs.now) rate ids.now accounts.now)
+        (Says faults.Flow (AreBalanced (hash.get nat_eq names.now) (rate_in txs.now) rate ids.now accounts.now)) }
 {
     for id in ids {
         let own = rate_of(txs, names, *id);

@@ -45,8 +45,12 @@ pub(crate) fn ends(
     names: &Names,
     edges: &[(TxId, TxId)],
 ) -> Result<Vec<(usize, usize)>, CheckFault>
-    ensures pairs { IfOk result (λ pairs. (list : List ℕ) → ArePlaces list (hash.get nat_eq names.now) → ArePairs list edges.now pairs.items) }
-    ensures fault { IfErr result (λ fault. (list : List ℕ) → ArePlaces list (hash.get nat_eq names.now) → Says Graph (AreOf list edges.now) fault) }
+    ensures pairs { IfOk result
+        (λ pairs. (list : List ℕ) → ArePlaces list (hash.get nat_eq names.now)
+        → ArePairs list edges.now pairs.items) }
+    ensures fault { IfErr result
+        (λ fault. (list : List ℕ) → ArePlaces list (hash.get nat_eq names.now)
+        → Says Graph (AreOf list edges.now) fault) }
 {
     let mut pairs = Vec::new(alloc);
     for edge in edges {
@@ -64,7 +68,9 @@ pub(crate) fn ends(
 /// The edges as a set; it fails where one stands twice.
 pub(crate) fn edge_set(alloc: Global, edges: &[(TxId, TxId)]) -> Result<Edges, CheckFault>
     ensures distinct { IfOk result (λ _. AreDistinct edges.now) }
-    ensures set { IfOk result (λ set. (edge : ℕ × ℕ) → IsTrue (bag.contains (λ x y. nat_eq x.0 y.0 && nat_eq x.1 y.1) set edge) ↔ Contains edges.now edge) }
+    ensures set { IfOk result
+        (λ set. (edge : ℕ × ℕ) → IsTrue (bag.contains (λ x y. nat_eq x.0 y.0 && nat_eq x.1 y.1) set edge)
+        ↔ Contains edges.now edge) }
     ensures fault { IfErr result (Says Graph (AreDistinct edges.now)) }
 {
     let mut set = HashSet::new(alloc);

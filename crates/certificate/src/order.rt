@@ -25,9 +25,13 @@ pub(crate) fn check_order(
 ) -> Result<(), CheckFault>
     requires places { ArePlaces (names_of txs.now) (hash.get nat_eq tables.now.names) }
     requires pairs { AreWithin (length (names_of txs.now)) tables.now.pairs.items }
-    ensures yes { IfOk result (λ _. HasOrder (graph_of txs.now (map (named (names_of txs.now)) tables.now.pairs.items)) (parts_of parts.now)) }
+    ensures yes { IfOk result
+        (λ _. HasOrder (graph_of txs.now (map (named (names_of txs.now)) tables.now.pairs.items))
+        (parts_of parts.now)) }
     ensures few { IfOk result (λ _. length (order_of parts.now) ≤ length txs.now) }
-    ensures fault { IfErr result (Says Order (HasOrder (graph_of txs.now (map (named (names_of txs.now)) tables.now.pairs.items)) (parts_of parts.now))) }
+    ensures fault { IfErr result
+        (Says Order (HasOrder (graph_of txs.now (map (named (names_of txs.now)) tables.now.pairs.items))
+        (parts_of parts.now))) }
 {
     let order = ids_of(alloc, parts)?;
     let ranks = ranks_of(alloc, txs, &tables.names, order.as_slice())?;
@@ -93,7 +97,8 @@ fn take_seats(
 /// The ranks of seats that are all taken.
 fn all_seated(alloc: Global, seats: &[Option<usize>]) -> Result<Vec<usize>, CheckFault>
     ensures ranks { IfOk result (λ ranks. seats.now ≡ map Some ranks.items) }
-    ensures fault { IfErr result (Says Order ((place : ℕ) → place < length seats.now → IsSome (seat_at seats.now place))) }
+    ensures fault { IfErr result
+        (Says Order ((place : ℕ) → place < length seats.now → IsSome (seat_at seats.now place))) }
 {
     let mut ranks = Vec::new(alloc);
     for seat in seats {
@@ -120,8 +125,13 @@ fn parents_first(ranks: &[usize], pairs: &[(usize, usize)]) -> Result<(), CheckF
 
 /// Whether the names of each part are of one group.
 fn parts_together(groups: &[usize], names: &Names, parts: &[Part]) -> Result<(), CheckFault>
-    requires { (id : ℕ) → Contains (order_of parts.now) id → (place : ℕ) × (place < length groups.now) × (hash.get nat_eq names.now id ≡ Some place) }
-    ensures { MatchResult result (λ _. (k : ℕ) → k < length parts.now → AreOfOneGroup (hash.get nat_eq names.now) groups.now (ids_at parts.now k)) (Says Order ((k : ℕ) → k < length parts.now → AreOfOneGroup (hash.get nat_eq names.now) groups.now (ids_at parts.now k))) }
+    requires { (id : ℕ) → Contains (order_of parts.now) id → (place : ℕ) × (place < length groups.now)
+        × (hash.get nat_eq names.now id ≡ Some place) }
+    ensures { MatchResult result
+        (λ _. (k : ℕ) → k < length parts.now
+        → AreOfOneGroup (hash.get nat_eq names.now) groups.now (ids_at parts.now k))
+        (Says Order ((k : ℕ) → k < length parts.now
+        → AreOfOneGroup (hash.get nat_eq names.now) groups.now (ids_at parts.now k))) }
 {
     for part in parts {
         together(groups, names, part.ids.as_slice())?;
@@ -131,8 +141,11 @@ fn parts_together(groups: &[usize], names: &Names, parts: &[Part]) -> Result<(),
 
 /// Whether names are of one group.
 fn together(groups: &[usize], names: &Names, ids: &[TxId]) -> Result<(), CheckFault>
-    requires { (id : ℕ) → Contains ids.now id → (place : ℕ) × (place < length groups.now) × (hash.get nat_eq names.now id ≡ Some place) }
-    ensures { MatchResult result (λ _. AreOfOneGroup (hash.get nat_eq names.now) groups.now ids.now) (Says Order (AreOfOneGroup (hash.get nat_eq names.now) groups.now ids.now)) }
+    requires { (id : ℕ) → Contains ids.now id → (place : ℕ) × (place < length groups.now)
+        × (hash.get nat_eq names.now id ≡ Some place) }
+    ensures { MatchResult result
+        (λ _. AreOfOneGroup (hash.get nat_eq names.now) groups.now ids.now)
+        (Says Order (AreOfOneGroup (hash.get nat_eq names.now) groups.now ids.now)) }
 {
     let Some(first) = ids.first() else {
         return Ok(());

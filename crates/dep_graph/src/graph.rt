@@ -180,7 +180,8 @@ impl<const W: usize> DepGraph<W> {
     /// of this graph first. Both graphs stay as they are.
     pub fn merge(&self, alloc: Global, other: &Self) -> Result<Self, NoMemory>
         requires { set.len (members_of self.now) + set.len (members_of other.now) ≤ 64 * W }
-        ensures { IfOk result (IsMerged self.now other.now (places (64 * W) (members_of self.now)) (places (64 * W) (members_of other.now))) }
+        ensures { IfOk result (IsMerged self.now other.now (places (64 * W) (members_of self.now))
+            (places (64 * W) (members_of other.now))) }
     {
         let mut rates = Vec::new(alloc);
         copy_rates(&mut rates, &self.rates, &self.members)?;

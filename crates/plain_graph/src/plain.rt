@@ -149,7 +149,8 @@ impl Plain {
 
     /// Why `set_limits` is refused.
     fn refused_limits(&self, limits: &Limits) -> Option<Refusal>
-        ensures first { (state : State) → StandsFor self.now state → RefusalIs state (SetLimits limits.now.count limits.now.size limits.now.total) result }
+        ensures first { (state : State) → StandsFor self.now state
+            → RefusalIs state (SetLimits limits.now.count limits.now.size limits.now.total) result }
         ensures in_range { result ≡ None → AreInRange limits.now }
     {
         if self.begun {
@@ -230,7 +231,8 @@ impl Plain {
     /// Why `dep` is refused, other than for want of memory. Takes no memory.
     fn refused_dep(&mut self, parent: TxId, child: TxId) -> Option<Refusal>
         ensures first { (state : State) → StandsFor self.old state → RefusalIs state (Dep parent child) result }
-        ensures ends { result ≡ None → Contains (names_of self.old.txs) parent × Contains (names_of self.old.txs) child }
+        ensures ends { result ≡ None → Contains (names_of self.old.txs) parent
+            × Contains (names_of self.old.txs) child }
         ensures same { self.new ≡ record self.old { found = self.new.found } }
     {
         if !is_live(&self.txs, parent) {
@@ -332,7 +334,9 @@ impl Plain {
 
     /// The names that walks lead to from a name, in `found`. Takes no memory.
     fn walk(&mut self, id: TxId, way: Way) -> Result<(), Refusal>
-        ensures found { MatchResult result (λ _. Contains (names_of self.old.txs) id × Lists (Reaches way self.old.pairs id) self.new.found) (λ why. (Contains (names_of self.old.txs) id → ⊥) × (why ≡ Refusal.Unknown id)) }
+        ensures found { MatchResult result
+            (λ _. Contains (names_of self.old.txs) id × Lists (Reaches way self.old.pairs id) self.new.found)
+            (λ why. (Contains (names_of self.old.txs) id → ⊥) × (why ≡ Refusal.Unknown id)) }
         ensures same { self.new ≡ record self.old { found = self.new.found } }
     {
         if !is_live(&self.txs, id) {

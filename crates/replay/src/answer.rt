@@ -35,7 +35,8 @@ pub(crate) enum Answer {
 impl Answer {
     /// Writes the text of the answer, and tells the outcome.
     pub(crate) fn tell<K: Sink>(&self, found: &[TxId], sink: &mut K) -> Result<Outcome, Failed>
-        ensures written { Writes (K.written sink.old) (K.written sink.new) (K.faults sink.old) (K.faults sink.new) result (answer_text (answer_of self.now found.now)) }
+        ensures written { Writes (K.written sink.old) (K.written sink.new) (K.faults sink.old)
+            (K.faults sink.new) result (answer_text (answer_of self.now found.now)) }
         ensures told { IfOk result (λ outcome. outcome ≡ outcome_of (answer_of self.now found.now)) }
     {
         match self.write(found, sink) {
@@ -59,7 +60,8 @@ impl Answer {
 
     /// Writes the text of the answer.
     fn write<K: Sink>(&self, found: &[TxId], sink: &mut K) -> Result<(), Failed>
-        ensures { Writes (K.written sink.old) (K.written sink.new) (K.faults sink.old) (K.faults sink.new) result (answer_text (answer_of self.now found.now)) }
+        ensures { Writes (K.written sink.old) (K.written sink.new) (K.faults sink.old) (K.faults sink.new) result
+            (answer_text (answer_of self.now found.now)) }
     {
         match self {
             Answer::Silence => Ok(()),

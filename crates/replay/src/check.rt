@@ -32,11 +32,17 @@ pub(crate) enum Said {
 /// Reads a text to its end, checks it, and writes what is said of it. Where reading doesn't come to the end,
 /// nothing is written.
 pub(crate) fn check_text<S: Source, K: Sink>(alloc: Global, source: &mut S, sink: &mut K) -> Status
-    ensures done { result ≡ Status.Done → IsChecked (Found Certified) (S.left source.old) (S.left source.new) (K.written sink.old) (K.written sink.new) }
-    ensures no { result ≡ Status.No → (said : Verification) × (said ≢ Found Certified) × IsChecked said (S.left source.old) (S.left source.new) (K.written sink.old) (K.written sink.new) }
-    ensures read_fault { result ≡ Status.ReadFault → IsRead End.Fault (S.left source.old) (S.left source.new) × (sink.new ≡ sink.old) }
-    ensures input_limit { result ≡ Status.InputLimit → IsRead End.Limit (S.left source.old) (S.left source.new) × (sink.new ≡ sink.old) }
-    ensures write_fault { result ≡ Status.WriteFault → IsCheckedInPart (S.left source.old) (S.left source.new) (K.written sink.old) (K.written sink.new) }
+    ensures done { result ≡ Status.Done
+        → IsChecked (Found Certified) (S.left source.old) (S.left source.new) (K.written sink.old)
+        (K.written sink.new) }
+    ensures no { result ≡ Status.No → (said : Verification) × (said ≢ Found Certified)
+        × IsChecked said (S.left source.old) (S.left source.new) (K.written sink.old) (K.written sink.new) }
+    ensures read_fault { result ≡ Status.ReadFault → IsRead End.Fault (S.left source.old) (S.left source.new)
+        × (sink.new ≡ sink.old) }
+    ensures input_limit { result ≡ Status.InputLimit → IsRead End.Limit (S.left source.old) (S.left source.new)
+        × (sink.new ≡ sink.old) }
+    ensures write_fault { result ≡ Status.WriteFault
+        → IsCheckedInPart (S.left source.old) (S.left source.new) (K.written sink.old) (K.written sink.new) }
     ensures no_memory { result ≡ Status.NoMemory → sink.new ≡ sink.old }
     ensures read_fault_cause { result ≡ Status.ReadFault → Rose (S.faults source.old) (S.faults source.new) }
     ensures write_fault_cause { result ≡ Status.WriteFault → Rose (K.faults sink.old) (K.faults sink.new) }
@@ -87,9 +93,12 @@ fn judge(alloc: Global, text: &CertText) -> Result<Said, NoMemory>
 
 /// Writes what is said, and answers the status for it.
 fn tell<K: Sink>(said: Said, sink: &mut K) -> Status
-    ensures done { result ≡ Status.Done → (said ≡ Said.Yes) × Appends (K.written sink.old) (K.written sink.new) (verification_text (verification_of said)) }
-    ensures no { result ≡ Status.No → (said ≢ Said.Yes) × Appends (K.written sink.old) (K.written sink.new) (verification_text (verification_of said)) }
-    ensures write_fault { result ≡ Status.WriteFault → AppendsFront (K.written sink.old) (K.written sink.new) (verification_text (verification_of said)) }
+    ensures done { result ≡ Status.Done → (said ≡ Said.Yes)
+        × Appends (K.written sink.old) (K.written sink.new) (verification_text (verification_of said)) }
+    ensures no { result ≡ Status.No → (said ≢ Said.Yes)
+        × Appends (K.written sink.old) (K.written sink.new) (verification_text (verification_of said)) }
+    ensures write_fault { result ≡ Status.WriteFault
+        → AppendsFront (K.written sink.old) (K.written sink.new) (verification_text (verification_of said)) }
     ensures cause { result ≡ Status.WriteFault → Rose (K.faults sink.old) (K.faults sink.new) }
     ensures told { (result ≡ Status.Done) ⊎ ((result ≡ Status.No) ⊎ (result ≡ Status.WriteFault)) }
 {

@@ -27,7 +27,8 @@ pub(crate) fn answer<const W: usize>(
 ) -> Answer
     requires few { graph.old.additions < 2 ^ 64 - 1 }
     requires room { HasRoom W ids.old }
-    ensures line { (line : List ℕ) → IsLine piece.entry line → Answers graph.old graph.new line (answer_of result ids.new.ids) }
+    ensures line { (line : List ℕ) → IsLine piece.entry line
+        → Answers graph.old graph.new line (answer_of result ids.new.ids) }
     ensures suits { (line : List ℕ) → IsLine piece.entry line → Suits line (answer_of result ids.new.ids) }
     ensures additions { graph.new.additions ≤ graph.old.additions + 1 }
     ensures room { HasRoom W ids.new }
@@ -67,8 +68,10 @@ pub(crate) trait Obeys {
     fn obey<L: Ledger>(&mut self, ids: &mut IdBuf, line: Line, steps: &mut Steps<L>) -> Answer
         requires few { (kept self.old).additions < 2 ^ 64 - 1 }
         requires room { HasRoom words ids.old }
-        ensures line { (bytes : List ℕ) → length bytes ≤ max_line → Means bytes (meaning_of line) → Answers (kept self.old) (kept self.new) bytes (answer_of result ids.new.ids) }
-        ensures suits { (bytes : List ℕ) → length bytes ≤ max_line → Means bytes (meaning_of line) → Suits bytes (answer_of result ids.new.ids) }
+        ensures line { (bytes : List ℕ) → length bytes ≤ max_line → Means bytes (meaning_of line)
+            → Answers (kept self.old) (kept self.new) bytes (answer_of result ids.new.ids) }
+        ensures suits { (bytes : List ℕ) → length bytes ≤ max_line → Means bytes (meaning_of line)
+            → Suits bytes (answer_of result ids.new.ids) }
         ensures additions { (kept self.new).additions ≤ (kept self.old).additions + 1 }
         ensures room { HasRoom words ids.new };
 }
@@ -107,8 +110,10 @@ fn obey_unpaid<K: ledger::Ledger, G: Obeys>(
     requires some { 0 < blank.parts }
     requires few { (G.kept graph.old).additions < 2 ^ 64 - 1 }
     requires room { HasRoom G.words ids.old }
-    ensures line { (bytes : List ℕ) → length bytes ≤ max_line → Means bytes (meaning_of line) → Answers (G.kept graph.old) (G.kept graph.new) bytes (answer_of result ids.new.ids) }
-    ensures suits { (bytes : List ℕ) → length bytes ≤ max_line → Means bytes (meaning_of line) → Suits bytes (answer_of result ids.new.ids) }
+    ensures line { (bytes : List ℕ) → length bytes ≤ max_line → Means bytes (meaning_of line)
+        → Answers (G.kept graph.old) (G.kept graph.new) bytes (answer_of result ids.new.ids) }
+    ensures suits { (bytes : List ℕ) → length bytes ≤ max_line → Means bytes (meaning_of line)
+        → Suits bytes (answer_of result ids.new.ids) }
     ensures additions { (G.kept graph.new).additions ≤ (G.kept graph.old).additions + 1 }
     ensures room { HasRoom G.words ids.new }
 {

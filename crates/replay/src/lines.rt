@@ -21,7 +21,8 @@ pub(crate) fn answer_complete<'a, const W: usize, K: Sink>(
 ) -> Result<&'a [u8], Failed>
     requires fresh { StandsFor session.old start }
     requires few { session.old.additions + length input.now < 2 ^ 64 - 2 }
-    ensures ok { IfOk result (λ rest. HasAnswered session.new input.entry.now rest.now (K.written sink.old) (K.written sink.new)) }
+    ensures ok { IfOk result (λ rest. HasAnswered session.new input.entry.now rest.now (K.written sink.old)
+        (K.written sink.new)) }
     ensures err { OnErr result (WritesFront false input.entry.now (K.written sink.old) (K.written sink.new)) }
     ensures cause { HasCause (K.faults sink.old) (K.faults sink.new) result }
     ensures additions { session.new.additions < 2 ^ 64 - 1 }
@@ -72,7 +73,8 @@ fn answer_last<const W: usize, K: Sink>(
     requires { session.old.additions < 2 ^ 64 - 1 }
     ensures none { rest.now ≡ [] → IsOk result × (sink.new ≡ sink.old) }
     ensures some { (rest.now ≡ [] → ⊥) → (answer : Answer) × Answers session.old session.new rest.now answer
-        × Writes (K.written sink.old) (K.written sink.new) (K.faults sink.old) (K.faults sink.new) result (answer_text answer) }
+        × Writes (K.written sink.old) (K.written sink.new) (K.faults sink.old) (K.faults sink.new) result
+        (answer_text answer) }
 {
     if rest.is_empty() {
         return Ok(Outcome::Quiet);

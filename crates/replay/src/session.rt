@@ -83,8 +83,10 @@ impl<const W: usize> Session<W> {
     pub fn one<K: Sink>(&mut self, piece: Piece<'_>, sink: &mut K) -> Result<Outcome, Failed>
         requires { self.old.additions < 2 ^ 64 - 1 }
         // One line of a run: its answer, the state that follows, and what was written and told of it.
-        ensures line { (line : List ℕ) → IsLine piece.entry line → (answer : runs.Answer) × Answers self.old self.new line answer
-            × Writes (K.written sink.old) (K.written sink.new) (K.faults sink.old) (K.faults sink.new) result (answer_text answer)
+        ensures line { (line : List ℕ) → IsLine piece.entry line → (answer : runs.Answer)
+            × Answers self.old self.new line answer
+            × Writes (K.written sink.old) (K.written sink.new) (K.faults sink.old) (K.faults sink.new) result
+            (answer_text answer)
             × IfOk result (λ outcome. outcome ≡ outcome_of answer) × Suits line answer }
         ensures additions { self.new.additions ≤ self.old.additions + 1 }
     {

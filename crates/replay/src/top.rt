@@ -56,21 +56,32 @@ pub fn run<S: Source, K: Sink>(
     sink: &mut K,
 ) -> Status
     // `replay`: what was read and what was written, by status.
-    ensures done { result ≡ Status.Done → AreReplay (map string_bytes words.now) → IsAnswered End.Told (S.left source.old) (S.left source.new) (K.written sink.old) (K.written sink.new) }
-    ensures read_fault { result ≡ Status.ReadFault → AreReplay (map string_bytes words.now) → IsAnswered End.Fault (S.left source.old) (S.left source.new) (K.written sink.old) (K.written sink.new) }
-    ensures input_limit { result ≡ Status.InputLimit → AreReplay (map string_bytes words.now) → IsAnswered End.Limit (S.left source.old) (S.left source.new) (K.written sink.old) (K.written sink.new) }
-    ensures write_fault { result ≡ Status.WriteFault → AreReplay (map string_bytes words.now) → IsCutOff (S.left source.old) (S.left source.new) (K.written sink.old) (K.written sink.new) }
+    ensures done { result ≡ Status.Done → AreReplay (map string_bytes words.now)
+        → IsAnswered End.Told (S.left source.old) (S.left source.new) (K.written sink.old) (K.written sink.new) }
+    ensures read_fault { result ≡ Status.ReadFault → AreReplay (map string_bytes words.now)
+        → IsAnswered End.Fault (S.left source.old) (S.left source.new) (K.written sink.old) (K.written sink.new) }
+    ensures input_limit { result ≡ Status.InputLimit → AreReplay (map string_bytes words.now)
+        → IsAnswered End.Limit (S.left source.old) (S.left source.new) (K.written sink.old) (K.written sink.new) }
+    ensures write_fault { result ≡ Status.WriteFault → AreReplay (map string_bytes words.now)
+        → IsCutOff (S.left source.old) (S.left source.new) (K.written sink.old) (K.written sink.new) }
 
     // `check`: the same. Where the text wasn't read to its end, nothing is written.
-    ensures check_yes { result ≡ Status.Done → AreCheck (map string_bytes words.now) → IsChecked (Found Certified) (S.left source.old) (S.left source.new) (K.written sink.old) (K.written sink.new) }
-    ensures check_no { result ≡ Status.No → (said : Verification) × (said ≢ Found Certified) × IsChecked said (S.left source.old) (S.left source.new) (K.written sink.old) (K.written sink.new) }
-    ensures check_read_fault { result ≡ Status.ReadFault → AreCheck (map string_bytes words.now) → IsRead End.Fault (S.left source.old) (S.left source.new) × (sink.new ≡ sink.old) }
-    ensures check_input_limit { result ≡ Status.InputLimit → AreCheck (map string_bytes words.now) → IsRead End.Limit (S.left source.old) (S.left source.new) × (sink.new ≡ sink.old) }
-    ensures check_write_fault { result ≡ Status.WriteFault → AreCheck (map string_bytes words.now) → IsCheckedInPart (S.left source.old) (S.left source.new) (K.written sink.old) (K.written sink.new) }
+    ensures check_yes { result ≡ Status.Done → AreCheck (map string_bytes words.now)
+        → IsChecked (Found Certified) (S.left source.old) (S.left source.new) (K.written sink.old)
+        (K.written sink.new) }
+    ensures check_no { result ≡ Status.No → (said : Verification) × (said ≢ Found Certified)
+        × IsChecked said (S.left source.old) (S.left source.new) (K.written sink.old) (K.written sink.new) }
+    ensures check_read_fault { result ≡ Status.ReadFault → AreCheck (map string_bytes words.now)
+        → IsRead End.Fault (S.left source.old) (S.left source.new) × (sink.new ≡ sink.old) }
+    ensures check_input_limit { result ≡ Status.InputLimit → AreCheck (map string_bytes words.now)
+        → IsRead End.Limit (S.left source.old) (S.left source.new) × (sink.new ≡ sink.old) }
+    ensures check_write_fault { result ≡ Status.WriteFault → AreCheck (map string_bytes words.now)
+        → IsCheckedInPart (S.left source.old) (S.left source.new) (K.written sink.old) (K.written sink.new) }
 
     // Refused words, and want of memory.
     ensures usage { result ≡ Status.Usage → Appends (K.written sink.old) (K.written sink.new) usage_text }
-    ensures write_fault_usage { result ≡ Status.WriteFault → AreRefused (map string_bytes words.now) → AppendsFront (K.written sink.old) (K.written sink.new) usage_text }
+    ensures write_fault_usage { result ≡ Status.WriteFault → AreRefused (map string_bytes words.now)
+        → AppendsFront (K.written sink.old) (K.written sink.new) usage_text }
     ensures no_memory { result ≡ Status.NoMemory → sink.new ≡ sink.old }
 
     // The cause of each status that isn't Done.
@@ -79,15 +90,21 @@ pub fn run<S: Source, K: Sink>(
     ensures usage_cause { result ≡ Status.Usage → AreRefused (map string_bytes words.now) }
     ensures no_cause { result ≡ Status.No → AreCheck (map string_bytes words.now) }
 
-    // With accepted words and no fault the run ends with Done or, for `check`, No, or for want of memory, or past the limit.
-    ensures complete { AreReplay (map string_bytes words.now) → (Rose (S.faults source.old) (S.faults source.new) → ⊥) → (Rose (K.faults sink.old) (K.faults sink.new) → ⊥)
+    // With accepted words and no fault: Done or, for `check`, No; want of memory; or past the limit.
+    ensures complete { AreReplay (map string_bytes words.now)
+        → (Rose (S.faults source.old) (S.faults source.new) → ⊥)
+        → (Rose (K.faults sink.old) (K.faults sink.new) → ⊥)
         → (result ≡ Status.Done) ⊎ ((result ≡ Status.InputLimit) ⊎ (result ≡ Status.NoMemory)) }
-    ensures check_complete { AreCheck (map string_bytes words.now) → (Rose (S.faults source.old) (S.faults source.new) → ⊥) → (Rose (K.faults sink.old) (K.faults sink.new) → ⊥)
-        → (result ≡ Status.Done) ⊎ ((result ≡ Status.No) ⊎ ((result ≡ Status.InputLimit) ⊎ (result ≡ Status.NoMemory))) }
+    ensures check_complete { AreCheck (map string_bytes words.now)
+        → (Rose (S.faults source.old) (S.faults source.new) → ⊥)
+        → (Rose (K.faults sink.old) (K.faults sink.new) → ⊥)
+        → (result ≡ Status.Done) ⊎ ((result ≡ Status.No)
+        ⊎ ((result ≡ Status.InputLimit) ⊎ (result ≡ Status.NoMemory))) }
     ensures within_limit { IfSome (S.left source.old) (λ bytes. length bytes ≤ max_input → result ≢ Status.InputLimit) }
 
     // Refused words: nothing is read, and the status is Usage, or WriteFault where the usage line can't be written.
-    ensures refused_words { AreRefused (map string_bytes words.now) → (source.new ≡ source.old) × ((result ≡ Status.Usage) ⊎ (result ≡ Status.WriteFault)) }
+    ensures refused_words { AreRefused (map string_bytes words.now) → (source.new ≡ source.old)
+        × ((result ≡ Status.Usage) ⊎ (result ≡ Status.WriteFault)) }
 {
     match command_of(words) {
         Some(Command::Replay) => replay_lines(alloc, source, sink),
@@ -105,10 +122,14 @@ enum Command {
 
 /// Reads lines of commands to the end, and answers them.
 fn replay_lines<S: Source, K: Sink>(alloc: Global, source: &mut S, sink: &mut K) -> Status
-    ensures done { result ≡ Status.Done → IsAnswered End.Told (S.left source.old) (S.left source.new) (K.written sink.old) (K.written sink.new) }
-    ensures read_fault { result ≡ Status.ReadFault → IsAnswered End.Fault (S.left source.old) (S.left source.new) (K.written sink.old) (K.written sink.new) }
-    ensures input_limit { result ≡ Status.InputLimit → IsAnswered End.Limit (S.left source.old) (S.left source.new) (K.written sink.old) (K.written sink.new) }
-    ensures write_fault { result ≡ Status.WriteFault → IsCutOff (S.left source.old) (S.left source.new) (K.written sink.old) (K.written sink.new) }
+    ensures done { result ≡ Status.Done
+        → IsAnswered End.Told (S.left source.old) (S.left source.new) (K.written sink.old) (K.written sink.new) }
+    ensures read_fault { result ≡ Status.ReadFault
+        → IsAnswered End.Fault (S.left source.old) (S.left source.new) (K.written sink.old) (K.written sink.new) }
+    ensures input_limit { result ≡ Status.InputLimit
+        → IsAnswered End.Limit (S.left source.old) (S.left source.new) (K.written sink.old) (K.written sink.new) }
+    ensures write_fault { result ≡ Status.WriteFault
+        → IsCutOff (S.left source.old) (S.left source.new) (K.written sink.old) (K.written sink.new) }
     ensures no_memory { result ≡ Status.NoMemory → sink.new ≡ sink.old }
     ensures read_fault_cause { result ≡ Status.ReadFault → Rose (S.faults source.old) (S.faults source.new) }
     ensures write_fault_cause { result ≡ Status.WriteFault → Rose (K.faults sink.old) (K.faults sink.new) }
@@ -129,8 +150,10 @@ fn replay_lines<S: Source, K: Sink>(alloc: Global, source: &mut S, sink: &mut K)
 fn answer_input<K: Sink>(session: &mut Session<1>, input: &Input, sink: &mut K) -> Status
     requires fresh { StandsFor session.old start }
     requires few { session.old.additions + length input.now.bytes.items < 2 ^ 64 - 2 }
-    ensures answered { result ≢ Status.WriteFault → (result ≡ end_status input.now.end) × WritesOutput (is_told input.now.end) input.now.bytes.items (K.written sink.old) (K.written sink.new) }
-    ensures cut_off { result ≡ Status.WriteFault → WritesFront (is_told input.now.end) input.now.bytes.items (K.written sink.old) (K.written sink.new) }
+    ensures answered { result ≢ Status.WriteFault → (result ≡ end_status input.now.end)
+        × WritesOutput (is_told input.now.end) input.now.bytes.items (K.written sink.old) (K.written sink.new) }
+    ensures cut_off { result ≡ Status.WriteFault
+        → WritesFront (is_told input.now.end) input.now.bytes.items (K.written sink.old) (K.written sink.new) }
     ensures cause { result ≡ Status.WriteFault → Rose (K.faults sink.old) (K.faults sink.new) }
 {
     let told = matches!(input.end, End::Told);
@@ -178,7 +201,8 @@ fn named(word: &str) -> Option<Command>
 fn refuse_words<K: Sink>(sink: &mut K) -> Status
     ensures told { (result ≡ Status.Usage) ⊎ (result ≡ Status.WriteFault) }
     ensures usage { result ≡ Status.Usage → Appends (K.written sink.old) (K.written sink.new) usage_text }
-    ensures write_fault { result ≡ Status.WriteFault → AppendsFront (K.written sink.old) (K.written sink.new) usage_text }
+    ensures write_fault { result ≡ Status.WriteFault
+        → AppendsFront (K.written sink.old) (K.written sink.new) usage_text }
     ensures cause { result ≡ Status.WriteFault → Rose (K.faults sink.old) (K.faults sink.new) }
 {
     match write_word(sink, "usage: txgraph replay | check | gen SEED COUNT") {

@@ -173,7 +173,8 @@ fn graph_of(txs: Vec<(TxId, i64, u64)>, edges: Vec<(TxId, TxId)>) -> Written
 
 /// A draft whose end came.
 fn ended(graph: Written, parts: Vec<Part>) -> Draft
-    ensures { written result ≡ rows_of (record { txs = graph.txs; edges = graph.edges; parts = map part_of parts.items }) }
+    ensures { written result ≡ rows_of
+        (record { txs = graph.txs; edges = graph.edges; parts = map part_of parts.items }) }
 {
     Draft::Ended(CertText {
         graph,

@@ -65,7 +65,8 @@ pub(crate) fn trimmed(bytes: &[u8]) -> &[u8]
 
 /// What stands before a carriage return at the end.
 fn before_return(bytes: &[u8]) -> Option<&[u8]>
-    ensures { MatchOption result (slice_index bytes.now (length bytes.now - 1) ≢ 13) (λ front. bytes.now ≡ front.now ++ 13 ∷ []) }
+    ensures { MatchOption result (slice_index bytes.now (length bytes.now - 1) ≢ 13)
+        (λ front. bytes.now ≡ front.now ++ 13 ∷ []) }
 {
     match bytes {
         [front @ .., b'\r'] => Some(front),
@@ -203,7 +204,8 @@ fn count(rest: &[u8]) -> Line
 
 /// `N N N`
 fn three_numbers(text: &[u8]) -> Option<(u64, (u64, u64))>
-    ensures { ReadsAs (pair_spelling decimal (pair_spelling decimal decimal)) (BothFit IsWide (BothFit IsWide IsWide)) text.now result }
+    ensures { ReadsAs (pair_spelling decimal (pair_spelling decimal decimal))
+        (BothFit IsWide (BothFit IsWide IsWide)) text.now result }
 {
     match split_at_byte(text, b' ') {
         Some((first, rest)) => number(first).zip(two_numbers(rest)),
@@ -213,7 +215,8 @@ fn three_numbers(text: &[u8]) -> Option<(u64, (u64, u64))>
 
 /// `ID FEE SIZE`
 pub(crate) fn id_fee_size(text: &[u8]) -> Option<(TxId, (i64, u64))>
-    ensures { ReadsAs (pair_spelling decimal (pair_spelling signed_decimal decimal)) (BothFit IsWide (BothFit (FitsSigned w64) IsWide)) text.now result }
+    ensures { ReadsAs (pair_spelling decimal (pair_spelling signed_decimal decimal))
+        (BothFit IsWide (BothFit (FitsSigned w64) IsWide)) text.now result }
 {
     match split_at_byte(text, b' ') {
         Some((id, rest)) => number(id).zip(fee_size(rest)),

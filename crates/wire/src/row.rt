@@ -139,7 +139,8 @@ fn flow(rest: &[u8]) -> Result<Row, TextFault>
 
 /// `ID ID AMOUNT`
 fn ids_amount(text: &[u8]) -> Option<(TxId, (TxId, u128))>
-    ensures { ReadsAs (pair_spelling decimal (pair_spelling decimal decimal)) (BothFit IsWide (BothFit IsWide IsAmount)) text.now result }
+    ensures { ReadsAs (pair_spelling decimal (pair_spelling decimal decimal))
+        (BothFit IsWide (BothFit IsWide IsAmount)) text.now result }
 {
     match split_at_byte(text, b' ') {
         Some((id, rest)) => number(id).zip(id_amount(rest)),
@@ -188,7 +189,9 @@ fn chunk_of_fee(alloc: Global, fee: i128, rest: &[u8]) -> Result<Row, TextFault>
 fn chunk_of_rate(alloc: Global, rate: Sum, rest: &[u8]) -> Result<Row, TextFault>
     requires fee { IsBigFee rate.fee }
     requires size { IsWide rate.size }
-    ensures { Gives row_line HasRowTypes (kind_word Kind.Chunk ++ 32 ∷ (signed_decimal rate.fee ++ 32 ∷ (decimal rate.size ++ 32 ∷ rest.now))) result }
+    ensures { Gives row_line HasRowTypes
+        (kind_word Kind.Chunk ++ 32 ∷ (signed_decimal rate.fee ++ 32 ∷ (decimal rate.size ++ 32 ∷ rest.now)))
+        result }
 {
     let ids = names(alloc, rest)?;
     Ok(Row::Chunk(rate, ids))

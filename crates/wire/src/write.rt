@@ -12,7 +12,8 @@ use outside::{Failed, Sink};
 
 /// Writes a word as a line.
 pub fn write_word<K: Sink>(sink: &mut K, word: &str) -> Result<(), Failed>
-    ensures { Writes (K.written sink.old) (K.written sink.new) (K.faults sink.old) (K.faults sink.new) result (line_text word.now) }
+    ensures { Writes (K.written sink.old) (K.written sink.new) (K.faults sink.old) (K.faults sink.new) result
+        (line_text word.now) }
 {
     let so_far = sink.write_all(word.as_bytes());
     more(so_far, sink, b"\n")
@@ -20,7 +21,8 @@ pub fn write_word<K: Sink>(sink: &mut K, word: &str) -> Result<(), Failed>
 
 /// Goes on with the next piece of a line where all so far was written.
 fn more<K: Sink>(so_far: Result<(), Failed>, sink: &mut K, piece: &[u8]) -> Result<(), Failed>
-    ensures { GoesOn so_far (K.written sink.old) (K.written sink.new) (K.faults sink.old) (K.faults sink.new) result piece.now }
+    ensures { GoesOn so_far (K.written sink.old) (K.written sink.new) (K.faults sink.old)
+        (K.faults sink.new) result piece.now }
 {
     match so_far {
         Ok(()) => sink.write_all(piece),
@@ -30,7 +32,8 @@ fn more<K: Sink>(so_far: Result<(), Failed>, sink: &mut K, piece: &[u8]) -> Resu
 
 /// Goes on with a space and a number.
 fn more_number<K: Sink>(so_far: Result<(), Failed>, sink: &mut K, n: u64) -> Result<(), Failed>
-    ensures { GoesOn so_far (K.written sink.old) (K.written sink.new) (K.faults sink.old) (K.faults sink.new) result (32 ∷ decimal n) }
+    ensures { GoesOn so_far (K.written sink.old) (K.written sink.new) (K.faults sink.old)
+        (K.faults sink.new) result (32 ∷ decimal n) }
 {
     let mut buffer = Buffer::new();
     let so_far = more(so_far, sink, b" ");
@@ -43,7 +46,8 @@ fn more_kept<K: Sink>(
     sink: &mut K,
     kept: Option<u64>,
 ) -> Result<(), Failed>
-    ensures { GoesOn so_far (K.written sink.old) (K.written sink.new) (K.faults sink.old) (K.faults sink.new) result (number_after kept) }
+    ensures { GoesOn so_far (K.written sink.old) (K.written sink.new) (K.faults sink.old)
+        (K.faults sink.new) result (number_after kept) }
 {
     match kept {
         Some(n) => more_number(so_far, sink, n),
@@ -53,7 +57,8 @@ fn more_kept<K: Sink>(
 
 /// Writes a refusal as a line.
 pub fn write_refusal<K: Sink>(sink: &mut K, refusal: &Refusal) -> Result<(), Failed>
-    ensures { Writes (K.written sink.old) (K.written sink.new) (K.faults sink.old) (K.faults sink.new) result (refusal_text refusal.now) }
+    ensures { Writes (K.written sink.old) (K.written sink.new) (K.faults sink.old) (K.faults sink.new) result
+        (refusal_text refusal.now) }
 {
     let so_far = sink.write_all(b"refused ");
     let so_far = more(so_far, sink, refusal_word(refusal).as_bytes());
@@ -63,7 +68,8 @@ pub fn write_refusal<K: Sink>(sink: &mut K, refusal: &Refusal) -> Result<(), Fai
 
 /// The word that names a refusal.
 fn refusal_word(refusal: &Refusal) -> &'static str
-    ensures { (kept : Option ℕ) → kept ≡ kept_of refusal.now → spaced (refusal_words refusal.now) ≡ result.now ++ number_after kept }
+    ensures { (kept : Option ℕ) → kept ≡ kept_of refusal.now
+        → spaced (refusal_words refusal.now) ≡ result.now ++ number_after kept }
 {
     match refusal {
         Refusal::Late => "late",
@@ -102,7 +108,8 @@ fn more_numbers<K: Sink>(
     sink: &mut K,
     ids: &[u64],
 ) -> Result<(), Failed>
-    ensures { GoesOn so_far (K.written sink.old) (K.written sink.new) (K.faults sink.old) (K.faults sink.new) result (words_text (map decimal ids.now)) }
+    ensures { GoesOn so_far (K.written sink.old) (K.written sink.new) (K.faults sink.old)
+        (K.faults sink.new) result (words_text (map decimal ids.now)) }
 {
     let mut so_far = so_far;
     for id in ids {
@@ -117,7 +124,8 @@ fn more_sums<K: Sink>(
     sink: &mut K,
     sums: Option<Sum>,
 ) -> Result<(), Failed>
-    ensures { GoesOn so_far (K.written sink.old) (K.written sink.new) (K.faults sink.old) (K.faults sink.new) result (words_text (sum_words sums)) }
+    ensures { GoesOn so_far (K.written sink.old) (K.written sink.new) (K.faults sink.old)
+        (K.faults sink.new) result (words_text (sum_words sums)) }
 {
     match sums {
         Some(sums) => {
@@ -130,7 +138,8 @@ fn more_sums<K: Sink>(
 
 /// Goes on with a space and a number that may have a sign.
 fn more_signed<K: Sink>(so_far: Result<(), Failed>, sink: &mut K, n: i128) -> Result<(), Failed>
-    ensures { GoesOn so_far (K.written sink.old) (K.written sink.new) (K.faults sink.old) (K.faults sink.new) result (32 ∷ signed_decimal n) }
+    ensures { GoesOn so_far (K.written sink.old) (K.written sink.new) (K.faults sink.old)
+        (K.faults sink.new) result (32 ∷ signed_decimal n) }
 {
     let mut buffer = Buffer::new();
     let so_far = more(so_far, sink, b" ");
@@ -145,7 +154,8 @@ pub fn write_ids<K: Sink>(
     sums: Option<Sum>,
     ids: &[u64],
 ) -> Result<(), Failed>
-    ensures { Writes (K.written sink.old) (K.written sink.new) (K.faults sink.old) (K.faults sink.new) result (line_text (spaced (head.now ∷ (sum_words sums ++ map decimal ids.now)))) }
+    ensures { Writes (K.written sink.old) (K.written sink.new) (K.faults sink.old) (K.faults sink.new) result
+        (line_text (spaced (head.now ∷ (sum_words sums ++ map decimal ids.now)))) }
 {
     let so_far = sink.write_all(head.as_bytes());
     let so_far = more_sums(so_far, sink, sums);
