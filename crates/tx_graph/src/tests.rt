@@ -91,13 +91,13 @@ fn play<L: Ledger>(
     Ok(())
 }
 
-fn sequences<K: ledger::Ledger>(rt: &impl Abort, alloc: Global, blank: Blank) -> Result<(), Fail>
-    requires name { blank.name ≡ K.name }
-    requires parts { blank.parts ≡ K.parts }
-    requires some { 0 < blank.parts }
-{
-    let mut steps = Steps::new(Counted::<K>::new(blank));
-    let mut out = IdBuf::new(alloc, 128)?;
+// A name whose parent goes keeps what stood above that.
+fn bridged<L: Ledger>(
+    rt: &impl Abort,
+    alloc: Global,
+    out: &mut IdBuf,
+    steps: &mut Steps<L>,
+) -> Result<(), Fail> {
     let done: Result<&[TxId], Refusal> = Ok([].as_slice());
     let rows = [
         (Call::Add(1, 1, 1), done),
@@ -110,7 +110,17 @@ fn sequences<K: ledger::Ledger>(rt: &impl Abort, alloc: Global, blank: Blank) ->
         (Call::Remove(1), done),
         (Call::Cluster(3), Ok([3].as_slice())),
     ];
-    play(rt, alloc, &rows, &mut out, &mut steps)?;
+    play(rt, alloc, &rows, out, steps)
+}
+
+// A cluster of the most names is let in, and no larger one.
+fn limited<L: Ledger>(
+    rt: &impl Abort,
+    alloc: Global,
+    out: &mut IdBuf,
+    steps: &mut Steps<L>,
+) -> Result<(), Fail> {
+    let done: Result<&[TxId], Refusal> = Ok([].as_slice());
     let rows = [
         (Call::Limits(2, 1000, 10), done),
         (Call::Add(1, 1, 1), done),
@@ -121,7 +131,17 @@ fn sequences<K: ledger::Ledger>(rt: &impl Abort, alloc: Global, blank: Blank) ->
         (Call::Dep(1, 2), done),
         (Call::Limits(2, 1000, 10), Err(Refusal::Late)),
     ];
-    play(rt, alloc, &rows, &mut out, &mut steps)?;
+    play(rt, alloc, &rows, out, steps)
+}
+
+// A pair that others imply holds when they go.
+fn implied<L: Ledger>(
+    rt: &impl Abort,
+    alloc: Global,
+    out: &mut IdBuf,
+    steps: &mut Steps<L>,
+) -> Result<(), Fail> {
+    let done: Result<&[TxId], Refusal> = Ok([].as_slice());
     let rows = [
         (Call::Add(1, 1, 1), done),
         (Call::Add(2, 1, 1), done),
@@ -136,7 +156,19 @@ fn sequences<K: ledger::Ledger>(rt: &impl Abort, alloc: Global, blank: Blank) ->
         (Call::Descendants(1), Ok([1, 3].as_slice())),
         (Call::Remove(2), Err(Refusal::Unknown(2))),
     ];
-    play(rt, alloc, &rows, &mut out, &mut steps)
+    play(rt, alloc, &rows, out, steps)
+}
+
+fn sequences<K: ledger::Ledger>(rt: &impl Abort, alloc: Global, blank: Blank) -> Result<(), Fail>
+    requires name { blank.name ≡ K.name }
+    requires parts { blank.parts ≡ K.parts }
+    requires some { 0 < blank.parts }
+{
+    let mut steps = Steps::new(Counted::<K>::new(blank));
+    let mut out = IdBuf::new(alloc, 128)?;
+    bridged(rt, alloc, &mut out, &mut steps)?;
+    limited(rt, alloc, &mut out, &mut steps)?;
+    implied(rt, alloc, &mut out, &mut steps)
 }
 
 #[test]
@@ -165,13 +197,7 @@ impl Forest {
     fn above(&self, id: TxId) -> TxId {
         match (self.shape, id) {
             (Shape::Chain, _) => id.saturating_sub(1),
-            (Shape::Star(centre), _) => {
-                if id == centre {
-                    0
-                } else {
-                    centre
-                }
-            }
+            (Shape::Star(centre), _) => { if id == centre { 0 } else { centre } }
             // one name, seven under it, and eight under each of these
             (Shape::Tree, 0..=1) => 0,
             (Shape::Tree, 2..=8) => 1,
@@ -280,7 +306,11 @@ fn compare<const W: usize, L: Ledger>(
         assert_eq!(rt; graph.sums(*id), Some(FeeRate { fee: -7, size: *id }));
     }
     for id in forest.left.iter().step_by(9) {
-        for call in [Call::Cluster(*id), Call::Ancestors(*id), Call::Descendants(*id)] {
+        for call in [
+            Call::Cluster(*id),
+            Call::Ancestors(*id),
+            Call::Descendants(*id),
+        ] {
             let wanted = forest.listed(alloc, call)?;
             expect(rt, graph, call, Ok(wanted.as_slice()), out, steps);
         }
@@ -314,7 +344,14 @@ fn take_down<const W: usize, L: Ledger>(
     compare(rt, alloc, &mut graph, &forest, out, steps)?;
     for pair in 0..32u64 {
         for id in [32 - pair, 33 + pair] {
-            expect(rt, &mut graph, Call::Remove(id), Ok([].as_slice()), out, steps);
+            expect(
+                rt,
+                &mut graph,
+                Call::Remove(id),
+                Ok([].as_slice()),
+                out,
+                steps,
+            );
             forest.left.retain(|other| *other != id);
             assert_eq!(rt; graph.sums(id), None);
             compare(rt, alloc, &mut graph, &forest, out, steps)?;
