@@ -85,8 +85,8 @@ impl<const W: usize> Clusters<W> {
         at(&self.records, spot.record)
     }
 
-    /// Makes a cluster of a name that isn't live, with its fee in satoshis and its size in virtual bytes. Without memory
-    /// all stays as it was.
+    /// Makes a cluster of a name that isn't live, with its fee in satoshis and its size in virtual bytes. Without
+    /// memory all stays as it was.
     pub fn add(&mut self, id: TxId, fee: i64, size: u64) -> Result<(), NoMemory>
         requires absent { finmap.get self.old.spots id ≡ None }
         requires few { finmap.len self.old.spots + 1 ≤ 2 ^ 32 - 1 }
@@ -157,8 +157,8 @@ impl<const W: usize> Clusters<W> {
         Ok(())
     }
 
-    /// Makes one name depend on another, of which it is no ancestor, in their cluster or in one of both. Without memory
-    /// all stays as it was.
+    /// Makes one name depend on another, of which it is no ancestor, in their cluster or in one of both. Takes memory
+    /// only for one of both, and without it all stays as it was.
     pub fn connect(&mut self, parent: Spot, child: Spot) -> Result<(), NoMemory>
         requires parent { (id : ℕ) × (finmap.get self.old.spots id ≡ Some parent) }
         requires child { (id : ℕ) × (finmap.get self.old.spots id ≡ Some child) }

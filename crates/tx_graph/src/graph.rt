@@ -39,7 +39,7 @@ const MAX_TOTAL: u64 = 1_048_576;
 ///
 /// It keeps each name's ancestors and not the pairs that they came from, so it stands for every state of the machine
 /// with these ancestors. Each call is a step of the machine from each such state. There is no staging yet: both words
-/// for a level speak of main.
+/// for a level speak of main. Nor does a call count steps yet: those that are passed stay as they are.
 #[derive(Drop)]
 pub struct TxGraph<const W: usize> {
     limits: Limits,
@@ -202,12 +202,13 @@ impl<const W: usize> TxGraph<W> {
             return Err(Refusal::Memory);
         }
         self.begun = true;
+        // One more pair adds the ancestors of its parent, and makes no cycle here.
         ancestors_with_pair();
         stays_without_cycle();
         Ok(())
     }
 
-    /// Sets the fee of a name, in satoshis.
+    /// Sets the fee of a name, in satoshis. Takes no memory.
     ///
     /// Refused, by the first of these that holds: `Fee` where the number is out of range, `Unknown` where the name
     /// isn't live. The graph stays as it was then.
@@ -250,6 +251,7 @@ impl<const W: usize> TxGraph<W> {
             return Err(Refusal::Memory);
         }
         self.begun = true;
+        // What is left without the name is a graph, and the others keep the ancestors among them.
         names_can_go();
         stays_graph();
         ancestors_without_name();

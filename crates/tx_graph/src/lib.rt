@@ -8,3 +8,6 @@ mod clusters;
 mod graph;
 
 pub use graph::TxGraph;
+
+#[cfg(test)]
+mod tests;
