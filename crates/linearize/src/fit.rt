@@ -5,9 +5,10 @@ ghost use Rattle.linearize.specs.Graphs.{HasRates, IsComponent};
 use dep_graph::DepGraph;
 use fee_rate::FeeRate;
 
-/// The greatest fee of a transaction, in satoshis, either way, and its greatest size, in virtual bytes.
+/// The greatest fee of a transaction, in satoshis, either way.
 const GREATEST_FEE: u64 = 2_100_000_000_000_000;
 
+/// The greatest size of a transaction, in virtual bytes.
 const GREATEST_SIZE: u64 = 4_000_000;
 
 /// Whether the members are one component. No members are one.

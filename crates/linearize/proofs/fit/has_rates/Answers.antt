@@ -1,5 +1,5 @@
-use Rattle.std.proofs.Common.{◌≡◌, ◌∙◌, ◌*◌, refl, sym, subst, true, false}
-use Rattle.dep_graph.specs.Graph.{is_member, members_of, rate_of}
+use Rattle.std.proofs.Common.{◌∙◌, ◌*◌, refl, sym, subst, false}
+use Rattle.dep_graph.specs.Graph.{members_of, rate_of}
 use Rattle.fee_rate.specs.Limits.{IsRate}
 use Rattle.linearize.proofs.Places.{clash, members_tested, member_here, tested_more, each_member}
 use Rattle.linearize.proofs.Sizes.{lists_fit}

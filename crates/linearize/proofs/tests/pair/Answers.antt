@@ -1,4 +1,4 @@
-use Rattle.std.proofs.Common.{rules, ◌≡◌, ◌*◌, ◌^◌, ◌<◌, ◌≤◌, ◌∙◌, ℕ, ap, arith, lit<, true}
+use Rattle.std.proofs.Common.{rules, ◌≡◌, ◌*◌, ◌^◌, ◌<◌, ◌≤◌, ap, arith, lit<, true}
 use Rattle.std.specs.FinSet as fin
 use Rattle.dep_graph.specs.Graph.{members_of}
 use Rattle.linearize.specs.Graphs.{most_members}
