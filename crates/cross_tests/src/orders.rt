@@ -251,7 +251,7 @@ fn small<L: Ledger, const W: usize>(
     let pairs = [(0, 1), (0, 2), (1, 3), (2, 3), (0, 3)];
     case(rt, room, steps, &diamond, &pairs, &[(16, 4)])?;
 
-    // the best rate of a place with its ancestors is 6 for 15, that of the best closed set 12 for 20
+    // of all places with their ancestors place 3 has the best rate, 5 for 10; the best closed set has 12 for 20
     let comb = [(0, 10), (6, 5), (6, 5), (5, 10), (0, 10)];
     let pairs = [(0, 1), (0, 2), (2, 4), (3, 4)];
     case(

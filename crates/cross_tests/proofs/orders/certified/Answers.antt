@@ -1,4 +1,4 @@
-use Rattle.std.proofs.Common.{rules, ◌≡◌, ◌<◌, ◌≤◌, ◌∙◌, ℕ, ap, arith, lit<, true}
+use Rattle.std.proofs.Common.{rules, ◌≡◌, ◌<◌, ◌≤◌, ap, arith, lit<, true}
 use Rattle.std.specs.FinSet as fin
 use Rattle.dep_graph.specs.Graph.{members_of}
 use Rattle.linearize.specs.Graphs.{most_members}
@@ -7,8 +7,14 @@ use Rattle.cross_tests.proofs.orders.certified.Goals as goal
 
 pub optimal-requires : goal.optimal-requires
 optimal-requires g c =
-    let some : 0 < fin.len (members_of c.in_ok-graph.graph) = omega (arith, c.count.ensures.exact, ap (λ s. fin.len s) c.members.ensures.members) in
-    let few : fin.len (members_of c.in_ok-graph.graph) ≤ most_members = omega (arith, c.count-2.ensures.exact, ap (λ s. fin.len s) c.members-2.ensures.members) in
+    let w = g.row.W in
+    let dep = c.in_ok-graph.graph in
+    let same = ap (λ s. fin.len s) c.members.ensures.members in
+    let again = ap (λ s. fin.len s) c.members-2.ensures.members in
+    let some : 0 < fin.len (members_of dep) = omega (arith, c.count.ensures.exact, same) in
+    let few : fin.len (members_of dep) ≤ most_members = omega (arith, c.count-2.ensures.exact, again) in
     let rated : c.has_rates.result ≡ true = search rules in
     let joined : c.is_component.result ≡ true = search rules in
-    (scratch_fits g.row.W c.requires, (lists_fit g.row.W c.requires, (lit< tt, (some, (few, (c.has_rates.ensures.0 rated, c.is_component.ensures.0 joined))))))
+    let in_range = c.has_rates.ensures.0 rated in
+    let one = c.is_component.ensures.0 joined in
+    (scratch_fits w c.requires, (lists_fit w c.requires, (lit< tt, (some, (few, (in_range, one))))))

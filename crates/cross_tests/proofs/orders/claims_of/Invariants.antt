@@ -1,4 +1,4 @@
-use Rattle.std.proofs.Common.{◌≡◌, ◌*◌, ◌^◌, ◌≤◌, ◌≢◌, [], All}
+use Rattle.std.proofs.Common.{◌*◌, ◌^◌, ◌≤◌, ◌≢◌, []}
 use Rattle.std.specs.Prelude.{Contains, sum_by}
 use Rattle.graph_model.specs.declared.names.Flow.{Flow}
 use Rattle.certificate.specs.declared.lists.Part.{Part}

@@ -10,4 +10,7 @@ unfolding members_of is_member
 in_members dep p = fin.contains-from_list nat_cmp_total (map.keys dep) p ∙ sym (map.contains_key-keys dep p)
 
 pub returns : goal.returns
-returns g c = c.has.ensures ∙ ap (λ s. fin.contains s c.args.place) c.members.ensures.members ∙ in_members c.args.graph.now c.args.place
+returns g c =
+    let at = c.args.place in
+    let same = ap (λ s. fin.contains s at) c.members.ensures.members in
+    c.has.ensures ∙ same ∙ in_members c.args.graph.now at

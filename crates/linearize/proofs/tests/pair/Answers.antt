@@ -7,9 +7,15 @@ use Rattle.linearize.proofs.tests.pair.Goals as goal
 
 pub optimal-requires : goal.optimal-requires
 optimal-requires g c =
-    let narrow : 64 * g.row.W < 2 ^ 32 = (let few = c.requires in omega (arith, few)) in
-    let some : 0 < fin.len (members_of c.link.new.graph) = omega (arith, c.count.ensures.exact, ap (λ s. fin.len s) c.members.ensures.members) in
-    let few : fin.len (members_of c.link.new.graph) ≤ most_members = omega (arith, c.count-2.ensures.exact, ap (λ s. fin.len s) c.members-2.ensures.members) in
+    let w = g.row.W in
+    let dep = c.link.new.graph in
+    let narrow : 64 * w < 2 ^ 32 = (let few = c.requires in omega (arith, few)) in
+    let same = ap (λ s. fin.len s) c.members.ensures.members in
+    let again = ap (λ s. fin.len s) c.members-2.ensures.members in
+    let some : 0 < fin.len (members_of dep) = omega (arith, c.count.ensures.exact, same) in
+    let few : fin.len (members_of dep) ≤ most_members = omega (arith, c.count-2.ensures.exact, again) in
     let joined : c.is_component-2.result ≡ true = search rules in
     let rated : c.has_rates.result ≡ true = search rules in
-    (scratch_fits g.row.W narrow, (lists_fit g.row.W narrow, (lit< tt, (some, (few, (c.has_rates.ensures.0 rated, c.is_component-2.ensures.0 joined))))))
+    let in_range = c.has_rates.ensures.0 rated in
+    let one = c.is_component-2.ensures.0 joined in
+    (scratch_fits w narrow, (lists_fit w narrow, (lit< tt, (some, (few, (in_range, one))))))
