@@ -4,4 +4,6 @@
 #![tactic(auto)]
 
 #[cfg(test)]
+mod orders;
+#[cfg(test)]
 mod replies;

@@ -6,11 +6,13 @@
 #![tactic(auto)]
 
 mod draft;
+mod fit;
 mod linear;
 mod part;
 mod split;
 
 pub use draft::{LinearPart, PlaceFlow};
+pub use fit::{has_rates, is_component};
 pub use linear::{Linear, optimal};
 
 #[cfg(test)]

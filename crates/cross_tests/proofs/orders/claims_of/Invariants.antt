@@ -1,0 +1,12 @@
+use Rattle.std.proofs.Common.{◌*◌, ◌^◌, ◌≤◌, ◌≢◌, []}
+use Rattle.std.specs.Prelude.{Contains, sum_by}
+use Rattle.graph_model.specs.declared.names.Flow.{Flow}
+use Rattle.certificate.specs.declared.lists.Part.{Part}
+use Rattle.certificate.specs.Accounts.{amount_of}
+use Rattle.cross_tests.proofs.orders.claims_of.Given as goal
+
+abbrev pub invariant-loop-part : goal.invariant-loop-part
+invariant-loop-part g l =
+    ((part : Part) → Contains l.claims.items part → part.ids ≢ [])
+    × ((part : Part) (flow : Flow) → Contains l.claims.items part → Contains part.flows flow → 1 ≤ flow.amount)
+    × (sum_by (λ part. amount_of part.flows) l.claims.items ≤ l.part-index * (4096 * 2 ^ 100))

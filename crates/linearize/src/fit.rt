@@ -1,0 +1,45 @@
+ghost use Rattle.std.specs.Prelude.{◌≡◌, ◌*◌, ◌^◌, ◌<◌, ◌↔◌, true};
+ghost use Rattle.fee_rate.specs.Limits.{IsRate};
+ghost use Rattle.linearize.specs.Graphs.{HasRates, IsComponent};
+
+use dep_graph::DepGraph;
+use fee_rate::FeeRate;
+
+/// The greatest fee of a transaction, in satoshis, either way.
+const GREATEST_FEE: u64 = 2_100_000_000_000_000;
+
+/// The greatest size of a transaction, in virtual bytes.
+const GREATEST_SIZE: u64 = 4_000_000;
+
+/// Whether the members are one component. No members are one.
+pub fn is_component<const W: usize>(dep: &DepGraph<W>) -> bool
+    requires { 64 * W < 2 ^ 32 }
+    ensures { (result ≡ true) ↔ IsComponent dep.now }
+{
+    let members = dep.members();
+    match members.least() {
+        Some(first) => members.is_subset(&dep.component(first, members)),
+        None => true,
+    }
+}
+
+/// Whether the fee and the size of each member are those of a transaction.
+pub fn has_rates<const W: usize>(dep: &DepGraph<W>) -> bool
+    requires { 64 * W < 2 ^ 32 }
+    ensures { (result ≡ true) ↔ HasRates dep.now }
+{
+    let members = dep.members();
+    for place in members.iter() {
+        if !is_rate(dep.rate(place)) {
+            return false;
+        }
+    }
+    true
+}
+
+// Whether a fee and a size are those of a transaction.
+fn is_rate(rate: FeeRate) -> bool
+    ensures { (result ≡ true) ↔ IsRate rate }
+{
+    rate.fee.unsigned_abs() <= GREATEST_FEE && rate.size >= 1 && rate.size <= GREATEST_SIZE
+}
