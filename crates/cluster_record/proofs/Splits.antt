@@ -1,5 +1,5 @@
 -- The loop that takes one component after another out of a cluster without a place.
-use Rattle.std.proofs.Common.{◌≡◌, ◌≢◌, ℕ, zero, suc, ◌+◌, ◌-◌, ◌*◌, ◌<◌, ◌≤◌, Bool, true, false, not, ◌&&◌, cond, nat_eq, nat_lt, List, [], ◌∷◌, ◌++◌, length, filter, slice_index, get_or, Contains, All, zero-add, inl, inr, ◌⊎◌, ◌↔◌, refl, sym, ap, ap₂, ◌∙◌, subst, subst₂, arith, eq-eqb, ne_eqb, eqb-true, lt-ltb, ltb-true, true≢false}
+use Rattle.std.proofs.Common.{◌≡◌, ◌≢◌, ℕ, ◌<◌, ◌≤◌, Bool, true, false, not, ◌&&◌, cond, nat_eq, nat_lt, List, [], ◌∷◌, ◌++◌, length, filter, slice_index, get_or, Contains, All, zero-add, inl, inr, ◌⊎◌, ◌↔◌, refl, sym, ap, ap₂, ◌∙◌, subst, subst₂, arith, eq-eqb, ne_eqb, lt-ltb, ltb-true, true≢false}
 use Rattle.std.proofs.Common.{Option, Some, None, MatchOption}
 use Rattle.std.proofs.lemmas.Bool.{cases_eq, cases_Bool, and_parts, and_from, false_from_ne_true}
 use Rattle.std.proofs.lemmas.List.Elements.{Contains-append_left, Contains-push, Contains-push_cases, All-push, Contains-get_or}
@@ -12,13 +12,13 @@ use Rattle.std.proofs.lemmas.List.FromFn.{length-range_with_len, get_or-range_wi
 use Rattle.graph_model.proofs.ListLemmas.{Contains-cases}
 use Rattle.bitset.specs.Places.{places, first_places, IsLeast, IsWithin}
 use Rattle.bitset.specs.Sets.{contains-first_places, contains-remove, contains-difference, contains-empty, len-places}
-use Rattle.dep_graph.specs.Graph.{Graph, is_member, is_ancestor, rate_of, HoldsMembers, IsNear}
+use Rattle.dep_graph.specs.Graph.{Graph, is_ancestor, rate_of, HoldsMembers, IsNear}
 use Rattle.dep_graph.specs.Walks.{Walk, IsWalk}
-use Rattle.cluster_record.specs.Clusters.{Cluster, AreOnce, IsRelated, IsCluster, AreApart}
+use Rattle.cluster_record.specs.Clusters.{Cluster, IsRelated, IsCluster, AreApart}
 use Rattle.cluster_record.specs.Changes.{IsChosen, IsPartOf, IsAncestorIn, IsSplit}
 use Rattle.cluster_record.specs.Named.{named, IsNamed}
-use Rattle.cluster_record.proofs.Names.{Stands, Contains-stands, Stands-contains, named-ancestor, ancestor-stands}
-use Rattle.cluster_record.proofs.Kept.{place_member, member_place}
+use Rattle.cluster_record.proofs.Names.{named-ancestor, ancestor-stands}
+use Rattle.cluster_record.proofs.Kept.{place_member}
 use Rattle.cluster_record.proofs.Walks.{walk_push, walk_trans, walk_back}
 
 -- ---- walks between near places
