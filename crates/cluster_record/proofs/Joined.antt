@@ -1,20 +1,19 @@
 -- Two clusters in one, with a dependency from the one to the other.
-use Rattle.std.proofs.Common.{◌≡◌, ℕ, zero, suc, ◌+◌, ◌-◌, ◌*◌, ◌<◌, ◌≤◌, Bool, true, false, cond, ◌&&◌, ◌||◌, nat_lt, List, [], ◌∷◌, ◌++◌, length, filter, slice_index, get_or, Contains, inl, inr, ◌⊎◌, ◌↔◌, refl, sym, ap, ap₂, ◌∙◌, subst, subst₂, arith, zero-add, add-zero, length-append, lt-ltb, le-ltb, true≢false}
-use Rattle.std.proofs.lemmas.Bool.{cases_lt, cases_Bool, false_from_ne_true, or_cases, and_parts, ltb-true}
+use Rattle.std.proofs.Common.{◌≡◌, ℕ, zero, suc, ◌+◌, ◌-◌, ◌<◌, ◌≤◌, Bool, true, false, cond, ◌&&◌, ◌||◌, nat_lt, List, [], ◌∷◌, ◌++◌, length, filter, slice_index, Contains, inl, inr, ◌⊎◌, refl, sym, ap, ap₂, ◌∙◌, subst, subst₂, arith, zero-add, length-append, lt-ltb, le-ltb}
+use Rattle.std.proofs.lemmas.Bool.{cases_lt, false_from_ne_true, or_cases, and_parts, ltb-true}
 use Rattle.std.proofs.lemmas.List.{get_or_append_left, get_or-append_right}
 use Rattle.std.proofs.lemmas.List.FromFn.{length-range_with_len, get_or-range_with_len}
 use Rattle.std.specs.List.{range_with_len}
-use Rattle.std.specs.Ordering.{nat_cmp}
 use Rattle.std.specs.FinSet as set
 use Rattle.bitset.specs.Places.{places, IsWithin}
 use Rattle.bitset.specs.Sets.{len-places}
 use Rattle.fee_rate.specs.declared.rates.FeeRate.{FeeRate}
 use Rattle.dep_graph.specs.Graph.{Graph, is_member, is_ancestor, rate_of, members_of, IsClosed, IsMerged, AddsPair}
 use Rattle.dep_graph.specs.Walks.{Walk}
-use Rattle.cluster_record.specs.Clusters.{Cluster, AreOnce, AreApart, IsRelated}
+use Rattle.cluster_record.specs.Clusters.{AreOnce, IsRelated}
 use Rattle.cluster_record.specs.Changes.{Joins}
 use Rattle.cluster_record.specs.Named.{named, IsNamed}
-use Rattle.cluster_record.proofs.Names.{Stands, Contains-stands, Stands-contains, named-ancestor, named-rate, member-stands}
+use Rattle.cluster_record.proofs.Names.{Stands, Stands-contains, named-ancestor, named-rate, member-stands}
 use Rattle.cluster_record.proofs.Kept.{walk_over, by_places, ancestor_ends}
 use Rattle.cluster_record.proofs.Listings.{contains-members_of}
 use Rattle.cluster_record.proofs.Walks.{walk_trans, walk_back, walk_push}

@@ -1,11 +1,11 @@
 -- What is kept of a cluster makes it one, by names, and still does after a change of its places.
-use Rattle.std.proofs.Common.{◌≡◌, ◌≢◌, ℕ, ℤ, zero, suc, ◌+◌, ◌<◌, ◌≤◌, Bool, true, false, cond, ◌&&◌, ◌||◌, ◌⊎◌, ◌↔◌, nat_eq, nat_lt, List, [], ◌∷◌, length, slice_index, Contains, Option, Some, None, inl, inr, refl, sym, ap, ap₂, ◌∙◌, subst, subst₂, arith, lt-ltb, ltb-true, true≢false}
-use Rattle.std.proofs.lemmas.Bool.{cases_eq, cases_Bool, false_from_ne_true, or_cases, and_parts}
+use Rattle.std.proofs.Common.{◌≡◌, ℕ, ℤ, ◌<◌, ◌≤◌, Bool, true, false, ◌&&◌, ◌||◌, List, [], ◌∷◌, length, slice_index, Option, Some, None, inl, inr, refl, sym, ap, ◌∙◌, subst, subst₂, lt-ltb, ltb-true, true≢false}
+use Rattle.std.proofs.lemmas.Bool.{cases_eq, cases_Bool, or_cases, and_parts}
 use Rattle.std.specs.FinMap as map
 use Rattle.fee_rate.specs.declared.rates.FeeRate.{FeeRate}
 use Rattle.dep_graph.specs.Graph.{Node, Graph, is_member, is_ancestor, rate_of, rate_in, no_rate, IsOrder, IsClosed, AddsPair, SetsFee}
-use Rattle.dep_graph.specs.Walks.{Walk, IsWalk}
-use Rattle.cluster_record.specs.Clusters.{Cluster, AreOnce, IsRelated, AreLinked, IsCluster}
+use Rattle.dep_graph.specs.Walks.{Walk}
+use Rattle.cluster_record.specs.Clusters.{AreOnce, IsRelated, AreLinked, IsCluster}
 use Rattle.cluster_record.specs.Named.{named, IsNamed}
 use Rattle.cluster_record.proofs.Names.{Stands, Contains-stands, Stands-contains, named-member, member-stands, named-rate, named-ancestor, ancestor-stands}
 

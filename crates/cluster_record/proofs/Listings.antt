@@ -1,5 +1,5 @@
 -- The names of all places, of a place's ancestors and of its descendants.
-use Rattle.std.proofs.Common.{◌≡◌, ℕ, ◌+◌, ◌*◌, ◌<◌, ◌≤◌, Bool, true, ◌&&◌, nat_lt, List, length, take, slice_index, Contains, Ordering, inl, inr, ◌↔◌, refl, sym, ap, ◌∙◌, subst, arith, lt-ltb, ltb-true}
+use Rattle.std.proofs.Common.{◌≡◌, ℕ, ◌+◌, ◌<◌, ◌≤◌, true, ◌&&◌, List, length, take, slice_index, Contains, sym, ap, ◌∙◌, subst, arith, lt-ltb, ltb-true}
 use Rattle.std.proofs.lemmas.Bool.{and_parts, and_from}
 use Rattle.std.proofs.lemmas.List.Sums.{sum_by_more}
 use Rattle.std.specs.Prelude.{sum_by}
@@ -7,14 +7,12 @@ use Rattle.std.specs.Ordering.{nat_cmp}
 use Rattle.std.specs.Cmp.{nat_cmp_total}
 use Rattle.std.specs.FinSet as set
 use Rattle.std.specs.FinMap as map
-use Rattle.std.specs.declared.cmp.Ordering.TheVariants.{Equal}
 use Rattle.bitset.specs.Places.{first_places, IsWithin}
 use Rattle.bitset.specs.Sets.{contains-first_places}
 use Rattle.graph_model.specs.Graphs.{Lists}
 use Rattle.graph_model.proofs.ListLemmas.{Lists-for}
 use Rattle.fee_rate.specs.declared.rates.FeeRate.{FeeRate}
 use Rattle.dep_graph.specs.Graph.{Graph, is_member, is_ancestor, rate_of, ancestors_of, descendants_of, members_of}
-use Rattle.cluster_record.specs.Clusters.{Cluster}
 use Rattle.cluster_record.specs.Changes.{IsChosen}
 use Rattle.cluster_record.specs.Named.{named, IsNamed}
 use Rattle.cluster_record.proofs.Names.{Contains-stands, Stands-contains, named-ancestor, ancestor-stands, named-rate}

@@ -1,13 +1,13 @@
 -- The graph of names against that of their places.
-use Rattle.std.proofs.Common.{◌≡◌, ℕ, zero, suc, ◌+◌, ◌<◌, ◌≤◌, Bool, true, false, cond, ◌&&◌, ◌||◌, ◌⊎◌, ◌↔◌, nat_eq, nat_lt, List, length, slice_index, slice_index_or, get_or, Contains, Option, Some, None, is_some, inl, inr, refl, sym, ap, ◌∙◌, subst, arith, eq-eqb, ne_eqb, eqb-true, lt-ltb, le-ltb, true≢false}
-use Rattle.std.proofs.lemmas.Bool.{cases_eq, cases_Bool, cases_lt, false_from_ne_true, or_cases, or_left, or_right, ltb-true}
+use Rattle.std.proofs.Common.{◌≡◌, ℕ, zero, suc, ◌<◌, ◌≤◌, Bool, true, false, cond, ◌||◌, nat_eq, List, length, slice_index, Contains, Option, Some, None, is_some, inl, inr, refl, sym, ap, ◌∙◌, arith, eq-eqb, ne_eqb, eqb-true, true≢false}
+use Rattle.std.proofs.lemmas.Bool.{cases_eq, false_from_ne_true, or_cases, or_left, or_right}
 use Rattle.std.proofs.lemmas.List.{get_or_default}
 use Rattle.std.specs.Ordering.{nat_cmp}
 use Rattle.std.specs.Cmp.{nat_cmp_total, unsigned_tied}
 use Rattle.std.specs.FinSet as set
 use Rattle.std.specs.FinMap as map
 use Rattle.bitset.specs.Sets.{contains-insert, contains-empty}
-use Rattle.dep_graph.specs.Graph.{Node, Graph, is_member, is_ancestor, ancestors_of, rate_of, rate_in, ancestors_in, no_rate}
+use Rattle.dep_graph.specs.Graph.{Node, Graph, is_member, is_ancestor, ancestors_of, rate_of, rate_in, ancestors_in}
 use Rattle.cluster_record.specs.Clusters.{AreOnce}
 use Rattle.cluster_record.specs.Named.{names_where, named_node, named_below, named}
 

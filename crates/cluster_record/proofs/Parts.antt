@@ -1,17 +1,17 @@
 -- Some places of a cluster, with their names.
-use Rattle.std.proofs.Common.{◌≡◌, ℕ, zero, suc, ◌+◌, ◌*◌, ◌<◌, ◌≤◌, Bool, true, false, nat_lt, List, [], ◌∷◌, map, length, slice_index, Contains, inl, inr, ◌⊎◌, ◌↔◌, refl, sym, ap, ap₂, ◌∙◌, subst, subst₂, arith, zero-add}
+use Rattle.std.proofs.Common.{◌≡◌, ℕ, ◌<◌, ◌≤◌, true, nat_lt, List, [], ◌∷◌, map, length, slice_index, Contains, inl, inr, sym, ap, ◌∙◌, subst, subst₂, arith, zero-add}
 use Rattle.std.proofs.lemmas.List.{length-map, get_or-map}
 use Rattle.std.specs.Ordering.{nat_cmp}
 use Rattle.std.specs.FinSet as set
 use Rattle.bitset.specs.Places.{places, IsWithin}
 use Rattle.bitset.specs.Sets.{IsRising-places, Contains-places, places-Contains}
 use Rattle.fee_rate.specs.declared.rates.FeeRate.{FeeRate}
-use Rattle.dep_graph.specs.Graph.{Graph, is_member, is_ancestor, rate_of, IsClosed, IsNear, IsPart}
+use Rattle.dep_graph.specs.Graph.{Graph, is_ancestor, rate_of, IsClosed, IsNear, IsPart}
 use Rattle.dep_graph.specs.Walks.{Walk, IsWalk}
-use Rattle.cluster_record.specs.Clusters.{Cluster, AreOnce, IsRelated}
+use Rattle.cluster_record.specs.Clusters.{IsRelated}
 use Rattle.cluster_record.specs.Changes.{IsChosen, IsPartOf}
 use Rattle.cluster_record.specs.Named.{named, IsNamed}
-use Rattle.cluster_record.proofs.Names.{Stands, Contains-stands, Stands-contains, named-ancestor, ancestor-stands, named-rate}
+use Rattle.cluster_record.proofs.Names.{Contains-stands, named-ancestor, ancestor-stands, named-rate}
 use Rattle.cluster_record.proofs.Lists.{rising_once, chosen_once, chosen_few, names_chosen}
 
 module _ (n : ℕ) (names : List ℕ) (g h : Graph) (chosen : set.FinSet nat_cmp) (kept : IsNamed n names g) (within : IsWithin (length names) chosen) (part : IsPart g (places n chosen) h) (closed : IsClosed n h)

@@ -1,19 +1,18 @@
 -- The cluster of one name.
-use Rattle.std.proofs.Common.{◌≡◌, ℕ, zero, suc, ◌+◌, ◌<◌, ◌≤◌, Bool, true, false, ◌&&◌, ◌||◌, nat_eq, nat_lt, List, [], ◌∷◌, length, slice_index, inl, inr, refl, sym, ap, ap₂, ◌∙◌, subst, arith, eqb-true, eq-eqb, true≢false, lt-ltb}
-use Rattle.std.proofs.lemmas.Bool.{cases_eq, and_parts, or_cases}
+use Rattle.std.proofs.Common.{◌≡◌, ℕ, ◌≤◌, Bool, true, false, ◌&&◌, ◌||◌, nat_eq, nat_lt, List, [], ◌∷◌, length, slice_index, inl, inr, refl, sym, ap, ap₂, ◌∙◌, subst, arith, eqb-true, eq-eqb, true≢false}
+use Rattle.std.proofs.lemmas.Bool.{cases_eq, and_parts}
 use Rattle.std.proofs.lemmas.Bool.Decides.{nat_tests}
 use Rattle.std.specs.Ordering.{nat_cmp}
 use Rattle.std.specs.FinMap as map
 use Rattle.std.specs.FinSet as set
-use Rattle.std.proofs.Common.{Option, Some, None}
+use Rattle.std.proofs.Common.{Option}
 use Rattle.bitset.specs.Sets.{contains-empty}
 use Rattle.fee_rate.specs.declared.rates.FeeRate.{FeeRate}
 use Rattle.dep_graph.specs.Graph.{Node, Graph, members_of, is_member, is_ancestor, ancestors_of, ancestors_in, rate_of, IsClosed, AddsPlace}
-use Rattle.dep_graph.specs.Walks.{Walk}
-use Rattle.cluster_record.specs.Clusters.{Cluster, AreOnce, IsRelated}
+use Rattle.cluster_record.specs.Clusters.{AreOnce}
 use Rattle.cluster_record.specs.Changes.{IsSingle}
 use Rattle.cluster_record.specs.Named.{named, IsNamed}
-use Rattle.cluster_record.proofs.Names.{Stands, named-rate, named-ancestor}
+use Rattle.cluster_record.proofs.Names.{named-rate, named-ancestor}
 use Rattle.cluster_record.proofs.Kept.{by_places, ancestor_ends}
 
 none_member : (p : ℕ) → is_member map.empty p ≡ false

@@ -1,5 +1,5 @@
 -- The loop that takes one component after another out of a cluster without a place.
-use Rattle.std.proofs.Common.{◌≡◌, ◌≢◌, ℕ, zero, suc, ◌+◌, ◌-◌, ◌*◌, ◌<◌, ◌≤◌, Bool, true, false, not, ◌&&◌, cond, nat_eq, nat_lt, List, [], ◌∷◌, ◌++◌, length, filter, slice_index, get_or, Contains, All, zero-add, inl, inr, ◌⊎◌, ◌↔◌, refl, sym, ap, ap₂, ◌∙◌, subst, subst₂, arith, eq-eqb, ne_eqb, eqb-true, lt-ltb, ltb-true, true≢false}
+use Rattle.std.proofs.Common.{◌≡◌, ◌≢◌, ℕ, ◌<◌, ◌≤◌, Bool, true, false, not, ◌&&◌, cond, nat_eq, nat_lt, List, [], ◌∷◌, ◌++◌, length, filter, slice_index, get_or, Contains, All, zero-add, inl, inr, ◌⊎◌, ◌↔◌, refl, sym, ap, ap₂, ◌∙◌, subst, subst₂, arith, eq-eqb, ne_eqb, lt-ltb, ltb-true, true≢false}
 use Rattle.std.proofs.Common.{Option, Some, None, MatchOption}
 use Rattle.std.proofs.lemmas.Bool.{cases_eq, cases_Bool, and_parts, and_from, false_from_ne_true}
 use Rattle.std.proofs.lemmas.List.Elements.{Contains-append_left, Contains-push, Contains-push_cases, All-push, Contains-get_or}
@@ -12,13 +12,13 @@ use Rattle.std.proofs.lemmas.List.FromFn.{length-range_with_len, get_or-range_wi
 use Rattle.graph_model.proofs.ListLemmas.{Contains-cases}
 use Rattle.bitset.specs.Places.{places, first_places, IsLeast, IsWithin}
 use Rattle.bitset.specs.Sets.{contains-first_places, contains-remove, contains-difference, contains-empty, len-places}
-use Rattle.dep_graph.specs.Graph.{Graph, is_member, is_ancestor, rate_of, HoldsMembers, IsNear}
+use Rattle.dep_graph.specs.Graph.{Graph, is_ancestor, rate_of, HoldsMembers, IsNear}
 use Rattle.dep_graph.specs.Walks.{Walk, IsWalk}
-use Rattle.cluster_record.specs.Clusters.{Cluster, AreOnce, IsRelated, IsCluster, AreApart}
+use Rattle.cluster_record.specs.Clusters.{Cluster, IsRelated, IsCluster, AreApart}
 use Rattle.cluster_record.specs.Changes.{IsChosen, IsPartOf, IsAncestorIn, IsSplit}
 use Rattle.cluster_record.specs.Named.{named, IsNamed}
-use Rattle.cluster_record.proofs.Names.{Stands, Contains-stands, Stands-contains, named-ancestor, ancestor-stands}
-use Rattle.cluster_record.proofs.Kept.{place_member, member_place}
+use Rattle.cluster_record.proofs.Names.{named-ancestor, ancestor-stands}
+use Rattle.cluster_record.proofs.Kept.{place_member}
 use Rattle.cluster_record.proofs.Walks.{walk_push, walk_trans, walk_back}
 
 -- ---- walks between near places
@@ -108,6 +108,7 @@ pub record Splitting (n : ℕ) (names : List ℕ) (g : Graph) (place : ℕ) (res
   pub rates : (c : Cluster) → Contains parts c → (id : ℕ) → Contains c.names id → rate_of c.graph id ≡ rate_of (named names g) id
   pub apart : AllPairs AreApart parts
   pub whole : All (IsCluster n) parts
+  pub filled : (c : Cluster) → Contains parts c → c.names ≢ []
 
 module _ (n : ℕ) (names : List ℕ) (g : Graph) (kept : IsNamed n names g) (place : ℕ) where
   abbrev IsDone : set.FinSet nat_cmp → ℕ → Type 0
@@ -135,6 +136,7 @@ module _ (n : ℕ) (names : List ℕ) (g : Graph) (kept : IsNamed n names g) (pl
       rates = λ c here id held. absurd (no_part c here);
       apart = subst (AllPairs AreApart) (sym none) (λ i j d before below. absurd (omega arith));
       whole = subst (All (IsCluster n)) (sym none) (λ k d below. absurd (omega arith));
+      filled = λ c here empty. no_part c here;
     }
       where
         no_part : (c : Cluster) → Contains parts c → ⊥
@@ -258,6 +260,12 @@ module _ (n : ℕ) (names : List ℕ) (g : Graph) (kept : IsNamed n names g) (pl
         let same : old.0 ≡ new.0 = kept.once old.0 new.0 old.1.low new.1 (old.2 ∙ sym new.3) in
         true≢false (sym (chosen_rest new.0 new.2) ∙ ap (set.contains rest) (sym same) ∙ old.1.taken)
 
+    part_filled : part.names ≢ []
+    part_filled empty =
+        let low : first < length names = (so.among first least.member).0 in
+        let held : Contains part.names (slice_index names first) = (made.names (slice_index names first)).1 (first, low, (is first).1 ([], refl), refl) in
+        let none : Contains [] (slice_index names first) = subst (λ (xs : List ℕ). Contains xs (slice_index names first)) empty held in omega (arith, none.1)
+
     pub Splitting-more : Splitting n names g place next (parts ++ part ∷ [])
     Splitting-more = record {
       among = λ p here. so.among p (next_rest p here).0;
@@ -270,6 +278,10 @@ module _ (n : ℕ) (names : List ℕ) (g : Graph) (kept : IsNamed n names g) (pl
       ];
       apart = all_pairs_push AreApart parts part so.apart (λ k d below. apart_from (get_or parts k d) (Contains-get_or parts k d below) (so.whole k d below));
       whole = All-push (IsCluster n) parts part so.whole fine;
+      filled = λ c here. elim (Contains-push_cases parts part c here) [
+        | inl old ↦ so.filled c old
+        | inr same ↦ subst (λ (x : Cluster). x.names ≢ []) same part_filled
+      ];
     }
 
     -- fewer places are left
@@ -311,6 +323,7 @@ module _ (n : ℕ) (names : List ℕ) (g : Graph) (kept : IsNamed n names g) (pl
       );
       rates = so.rates;
       apart = so.apart;
+      filled = so.filled;
     }
 
 -- a search for the least place found none

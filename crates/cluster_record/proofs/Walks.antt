@@ -1,6 +1,6 @@
 -- Walks along steps, joined and turned round.
-use Rattle.std.proofs.Common.{◌≡◌, [], ◌∷◌, refl, sym, subst}
-use Rattle.dep_graph.specs.Walks.{Walk, IsWalk}
+use Rattle.std.proofs.Common.{[], ◌∷◌, refl, sym, subst}
+use Rattle.dep_graph.specs.Walks.{Walk}
 
 pub walk_push : {V : Type 0} (step : V → V → Type 0) (a b c : V) → Walk step a b → step b c → Walk step a c
 walk_push {V = V} step a b c ([], same) s = (c ∷ [], (subst (λ (x : V). step x c) (sym same) s, refl))

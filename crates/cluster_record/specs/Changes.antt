@@ -1,5 +1,5 @@
 -- What is made of clusters, told by names.
-use Rattle.std.specs.Prelude.{◌≡◌, ◌≢◌, ℕ, ◌+◌, ◌<◌, ◌↔◌, true, ◌&&◌, ◌||◌, nat_eq, List, [], ◌∷◌, ◌++◌, length, slice_index, Contains}
+use Rattle.std.specs.Prelude.{◌≡◌, ◌≢◌, ℕ, ◌<◌, ◌↔◌, true, ◌&&◌, ◌||◌, nat_eq, List, [], ◌∷◌, length, slice_index, Contains}
 use Rattle.std.specs.Ordering.{nat_cmp}
 use Rattle.std.specs.FinSet as set
 use Rattle.std.specs.List.{AllPairs}
@@ -33,9 +33,10 @@ pub record IsPartOf (old : Cluster) (chosen : set.FinSet nat_cmp) (c : Cluster) 
 abbrev pub IsAncestorIn : List Cluster → ℕ → ℕ → Type 0
 IsAncestorIn parts a d = (c : Cluster) × Contains parts c × (is_ancestor c.graph a d ≡ true)
 
--- What is left of a cluster without a name: each part is a component, the other names keep their rates and the
--- relation among themselves, and names that are related are in one part.
+-- What is left of a cluster without a name: each part is a component and has a name, the other names keep their rates
+-- and the relation among themselves, and names that are related are in one part.
 pub record IsSplit (old : Graph) (gone : ℕ) (parts : List Cluster) : Type 0 where
   pub ancestors : (a d : ℕ) → IsAncestorIn parts a d ↔ ((a ≢ gone) × (d ≢ gone) × (is_ancestor old a d ≡ true))
   pub rates : (c : Cluster) → Contains parts c → (id : ℕ) → Contains c.names id → rate_of c.graph id ≡ rate_of old id
   pub apart : AllPairs AreApart parts
+  pub filled : (c : Cluster) → Contains parts c → c.names ≢ []

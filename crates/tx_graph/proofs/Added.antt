@@ -1,17 +1,17 @@
 -- A name is added, and a cluster is changed in place.
-use Rattle.std.proofs.Common.{◌≡◌, ◌≢◌, ℕ, ℤ, zero, suc, ◌+◌, ◌<◌, Bool, true, false, cond, ◌&&◌, ◌||◌, nat_eq, List, [], ◌∷◌, length, slice_index, Contains, Option, Some, None, is_some, inl, inr, ◌⊎◌, ◌↔◌, refl, sym, ap, ap₂, ◌∙◌, subst, arith, eq-eqb, ne_eqb, eqb-true, true≢false}
-use Rattle.std.proofs.lemmas.Bool.{cases_eq, cases_Bool, false_from_ne_true, and_right}
+use Rattle.std.proofs.Common.{◌≡◌, ◌≢◌, ℕ, ℤ, ◌<◌, Bool, true, false, cond, ◌&&◌, ◌||◌, nat_eq, List, [], ◌∷◌, length, slice_index, Contains, Option, Some, None, is_some, inl, inr, ◌⊎◌, refl, sym, ap, ap₂, ◌∙◌, subst, arith, eq-eqb, ne_eqb}
+use Rattle.std.proofs.lemmas.Bool.{cases_eq, false_from_ne_true, and_right}
 use Rattle.std.proofs.lemmas.Option.{none-some}
 use Rattle.std.specs.FinMap as finmap
 use Rattle.fee_rate.specs.declared.rates.FeeRate.{FeeRate}
-use Rattle.dep_graph.specs.Graph.{Graph, is_member, is_ancestor, rate_of, AddsPair, SetsFee}
+use Rattle.dep_graph.specs.Graph.{is_member, is_ancestor, rate_of, AddsPair, SetsFee}
 use Rattle.cluster_record.specs.Clusters.{Cluster, IsCluster}
 use Rattle.cluster_record.specs.Changes.{IsSingle}
 use Rattle.name_book.specs.declared.spot.Spot.{Spot}
 use Rattle.name_book.specs.Books.{Spots}
 use Rattle.tx_graph.specs.Kept.{AddsName}
 use Rattle.tx_graph.specs.Shelves.{Shelf, cluster_at, graph_of, HasAt, StandsAt, IsIndexed}
-use Rattle.tx_graph.proofs.Graphs.{member-spot, rate-at, above-at, rate-none, above-none, cases_spot, contains_at, at_contains, same_some, rate_in_cluster, above_in, above_from, spot_in, names_of_above}
+use Rattle.tx_graph.proofs.Graphs.{member-spot, rate-at, above-at, rate-none, above-none, cases_spot, at_contains, same_some, rate_in_cluster, above_from, spot_in, names_of_above}
 use Rattle.tx_graph.proofs.Loose.{decide_in}
 use Rattle.tx_graph.proofs.Settling.{get-put, put_here, put_other}
 

@@ -1,5 +1,5 @@
 -- What the calls of a graph need of its parts.
-use Rattle.std.proofs.Common.{◌≡◌, ◌≢◌, ℕ, ℤ, ◌*◌, ◌<◌, ◌≤◌, ◌+◌, Bool, true, false, List, length, slice_index, sym, refl, ap, subst, subst₂, ◌∙◌, inl, inr, ◌⊎◌, ◌↔◌, Option, None, Some, is_some, arith, true≢false, Result, Ok, Err, OnOk, OnErr, is_err, IsErrAnd}
+use Rattle.std.proofs.Common.{◌≡◌, ℕ, ℤ, ◌<◌, ◌≤◌, ◌+◌, Bool, true, false, List, length, slice_index, sym, refl, ap, subst, subst₂, ◌∙◌, inl, inr, ◌↔◌, Option, None, Some, is_some, arith, true≢false, Result, Ok, Err, OnOk, OnErr, is_err, IsErrAnd}
 use Rattle.std.specs.Prelude.{Contains}
 use Rattle.std.proofs.lemmas.Bool.{cases_lt, false_from_ne_true}
 use Rattle.std.proofs.lemmas.Option.{none-some}
@@ -10,7 +10,7 @@ use Rattle.graph_model.specs.declared.names.Refusal.{Refusal}
 use Rattle.graph_model.specs.declared.names.Refusal.TheVariants.{Late, Range, Fee, Size, Taken, Full, ClusterSize, Unknown}
 use Rattle.graph_model.specs.Limits.{AreInRange, IsFee, IsSize}
 use Rattle.graph_model.specs.Graphs.{Lists}
-use Rattle.graph_model.specs.States.{State, LevelState, Table, Entry, IsLive}
+use Rattle.graph_model.specs.States.{State, IsLive}
 use Rattle.graph_model.specs.Commands.{Command, SetLimits, Add, Dep, SetFee, Remove}
 use Rattle.graph_model.specs.Refusals.{RefusalIs, First, NoRefusal}
 use Rattle.graph_model.specs.Laws.{AncestorsWithPair, StaysWithoutCycle, NamesCanGo, StaysGraph, AncestorsWithoutName}

@@ -1,13 +1,12 @@
 -- The graph of the clusters on a shelf.
-use Rattle.std.proofs.Common.{◌≡◌, ◌≢◌, ℕ, ◌+◌, ◌<◌, Bool, true, false, cond, nat_eq, List, [], ◌∷◌, map, length, slice_index, Contains, Option, Some, None, is_some, IsSome, inl, inr, ◌⊎◌, ◌↔◌, refl, sym, ap, ◌∙◌, subst, eqb-true, true≢false}
-use Rattle.std.proofs.lemmas.Bool.{false_from_ne_true}
+use Rattle.std.proofs.Common.{◌≡◌, ℕ, Bool, true, false, cond, List, [], ◌∷◌, map, Contains, Option, Some, None, is_some, inl, inr, ◌⊎◌, refl, sym, ap, ◌∙◌, subst, eqb-true, true≢false}
 use Rattle.std.proofs.lemmas.List.{get_or_default, get_or_past}
 use Rattle.std.specs.Ordering.{nat_cmp, eq_by_cmp}
 use Rattle.std.specs.Cmp.{nat_cmp_total, unsigned_tied}
 use Rattle.std.specs.FinSet as set
 use Rattle.std.specs.FinMap as finmap
-use Rattle.dep_graph.specs.Graph.{Node, Graph, is_member, is_ancestor, ancestors_of, ancestors_in, rate_of, rate_in, no_rate, IsOrder}
-use Rattle.cluster_record.specs.Clusters.{Cluster, IsCluster}
+use Rattle.dep_graph.specs.Graph.{Node, is_member, is_ancestor, ancestors_of, ancestors_in, rate_of, rate_in, no_rate, IsOrder}
+use Rattle.cluster_record.specs.Clusters.{Cluster}
 use Rattle.name_book.specs.declared.spot.Spot.{Spot}
 use Rattle.name_book.specs.Books.{Spots, Book}
 use Rattle.std.proofs.lemmas.Option.{none-some}

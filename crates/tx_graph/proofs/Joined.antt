@@ -1,19 +1,18 @@
 -- Two clusters in one, and a cluster in parts.
-use Rattle.std.proofs.Common.{◌≡◌, ◌≢◌, ℕ, zero, suc, ◌+◌, ◌<◌, Bool, true, false, cond, not, ◌&&◌, ◌||◌, nat_eq, List, [], ◌∷◌, ◌++◌, length, slice_index, Contains, All, Option, Some, None, is_some, IsSome, inl, inr, ◌⊎◌, ◌↔◌, refl, sym, ap, ap₂, ◌∙◌, subst, arith, eq-eqb, ne_eqb, eqb-true, true≢false}
-use Rattle.std.proofs.lemmas.Bool.{cases_eq, cases_Bool, false_from_ne_true, or_cases, or_left, or_right, and_parts, and_from}
+use Rattle.std.proofs.Common.{◌≡◌, ◌≢◌, ℕ, Bool, true, false, cond, not, ◌&&◌, ◌||◌, nat_eq, List, [], ◌∷◌, ◌++◌, Contains, All, Option, Some, None, is_some, IsSome, inl, inr, ◌⊎◌, ◌↔◌, refl, sym, ap, ◌∙◌, subst, arith, eq-eqb, ne_eqb, true≢false}
+use Rattle.std.proofs.lemmas.Bool.{cases_eq, cases_Bool, or_cases, or_left, or_right, and_parts, and_from}
 use Rattle.std.proofs.lemmas.Option.{none-some}
 use Rattle.std.proofs.lemmas.List.Elements.{Contains-append_left, Contains-append_right, Contains-append_cases, All-contains}
-use Rattle.std.specs.List.{AllPairs}
 use Rattle.std.specs.FinMap as finmap
 use Rattle.graph_model.proofs.ListLemmas.{Contains-head, Contains-cases}
-use Rattle.dep_graph.specs.Graph.{Graph, is_member, is_ancestor, rate_of, no_rate, AddsPair, DropsPlace}
+use Rattle.dep_graph.specs.Graph.{is_member, is_ancestor, rate_of, AddsPair, DropsPlace}
 use Rattle.cluster_record.specs.Clusters.{Cluster, IsCluster, AreApart}
-use Rattle.cluster_record.specs.Changes.{Joins, IsSplit, IsAncestorIn}
+use Rattle.cluster_record.specs.Changes.{Joins, IsSplit}
 use Rattle.name_book.specs.declared.spot.Spot.{Spot}
 use Rattle.name_book.specs.Books.{Spots}
-use Rattle.tx_graph.specs.Shelves.{Shelf, cluster_at, graph_of, HasAt, StandsAt, IsIndexed}
+use Rattle.tx_graph.specs.Shelves.{Shelf, cluster_at, graph_of, StandsAt, IsIndexed}
 use Rattle.tx_graph.specs.Moves.{IsLoose, IsShelved, Stores}
-use Rattle.tx_graph.proofs.Graphs.{member-spot, rate-none, cases_spot, contains_at, at_contains, same_some, AboveIn, rate_in_cluster, above_in, above_from, in_above, spot_in, names_of_above, one_key, live_in}
+use Rattle.tx_graph.proofs.Graphs.{member-spot, rate-none, at_contains, same_some, rate_in_cluster, above_in, above_from, in_above, spot_in, names_of_above, one_key, live_in}
 use Rattle.tx_graph.proofs.Loose.{decide_in, IsLoose-stored, IsIndexed-loose, shelved_same, live_same}
 use Rattle.tx_graph.proofs.Added.{rate_elsewhere}
 use Rattle.tx_graph.proofs.Settling.{get-drop}

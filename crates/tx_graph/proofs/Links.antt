@@ -1,9 +1,9 @@
 -- Names are connected by pairs where steps to ancestors and descendants lead from the one to the other.
-use Rattle.std.proofs.Common.{◌≡◌, ℕ, suc, zero, true, List, [], ◌∷◌, sym, refl, subst, inl, inr, ◌⊎◌, ◌↔◌}
+use Rattle.std.proofs.Common.{ℕ, suc, zero, List, [], ◌∷◌, sym, refl, subst, inl, inr, ◌↔◌}
 use Rattle.std.specs.Prelude.{Contains}
-use Rattle.graph_model.specs.Graphs.{Walk, IsAncestor, Trail, AreConnected}
-use Rattle.graph_model.proofs.WalkLemmas.{AreConnected-trans, AreConnected-sym, AreConnected-itself}
-use Rattle.dep_graph.specs.Graph.{Graph, is_ancestor}
+use Rattle.graph_model.specs.Graphs.{Walk, Trail, AreConnected}
+use Rattle.graph_model.proofs.WalkLemmas.{AreConnected-trans, AreConnected-sym}
+use Rattle.dep_graph.specs.Graph.{Graph}
 use Rattle.dep_graph.specs.Walks.{IsWalk}
 use Rattle.cluster_record.specs.Clusters.{IsRelated, AreLinked}
 use Rattle.tx_graph.specs.Kept.{Kept, StandsFor}

@@ -1,8 +1,8 @@
 -- A cluster that waited for a number has one.
-use Rattle.std.proofs.Common.{Bool, true, false, subst₂, ◌≡◌, ◌≢◌, ℕ, zero, suc, ◌+◌, ◌<◌, List, [], ◌∷◌, ◌++◌, length, slice_index, get_or, Contains, Option, Some, None, is_some, IsSome, inl, inr, ◌⊎◌, ◌↔◌, refl, sym, ap, ◌∙◌, subst, arith, length-append}
+use Rattle.std.proofs.Common.{Bool, true, false, subst₂, ◌≡◌, ◌≢◌, ℕ, ◌<◌, List, [], ◌∷◌, ◌++◌, length, get_or, Contains, Option, Some, None, is_some, IsSome, inl, inr, ◌⊎◌, ◌↔◌, refl, sym, ap, ◌∙◌, subst, arith, length-append}
 use Rattle.std.proofs.lemmas.Bool.{cases_eq}
 use Rattle.std.proofs.lemmas.Option.{none-some}
-use Rattle.std.proofs.lemmas.List.{get_or_append_left, get_or_push, get_or_default}
+use Rattle.std.proofs.lemmas.List.{get_or_append_left, get_or_push}
 use Rattle.std.proofs.lemmas.List.Elements.{Contains-append_left, Contains-push, Contains-push_cases}
 use Rattle.std.specs.List.{AllPairs}
 use Rattle.std.specs.FinMap as finmap
@@ -10,8 +10,8 @@ use Rattle.graph_model.proofs.ListLemmas.{Contains-head, Contains-later, Contain
 use Rattle.cluster_record.specs.Clusters.{Cluster, IsCluster, AreApart}
 use Rattle.name_book.specs.declared.spot.Spot.{Spot}
 use Rattle.name_book.specs.Books.{Spots}
-use Rattle.tx_graph.specs.Shelves.{Shelf, cluster_at, HasAt, StandsAt, IsIndexed}
-use Rattle.tx_graph.specs.Moves.{Settles, Stores, IsLoose, IsShelved}
+use Rattle.tx_graph.specs.Shelves.{cluster_at, HasAt, StandsAt, IsIndexed}
+use Rattle.tx_graph.specs.Moves.{Stores, IsLoose, IsShelved}
 use Rattle.tx_graph.proofs.Graphs.{contains_at, at_contains}
 
 -- a name is in a list or not

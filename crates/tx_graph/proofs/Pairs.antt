@@ -1,5 +1,5 @@
 -- The refusals of a pair, by the clusters of its names.
-use Rattle.std.proofs.Common.{◌≡◌, ◌≢◌, ℕ, ◌+◌, ◌<◌, ◌≤◌, true, false, List, [], ◌∷◌, ◌++◌, length, sym, refl, ap, ap₂, subst, subst₂, slice_index, ◌∙◌, inl, inr, ◌⊎◌, ◌↔◌, Option, None, Some, arith, true≢false, length-append}
+use Rattle.std.proofs.Common.{◌≡◌, ◌≢◌, ℕ, ◌+◌, ◌<◌, true, false, List, [], ◌∷◌, ◌++◌, length, sym, refl, ap, ap₂, subst, subst₂, slice_index, ◌∙◌, inl, inr, ◌⊎◌, ◌↔◌, Option, None, Some, true≢false, length-append}
 use Rattle.std.specs.Prelude.{Contains, sum_by}
 use Rattle.std.specs.FinMap as finmap
 use Rattle.std.proofs.lemmas.Bool.{false_from_ne_true}
@@ -9,12 +9,12 @@ use Rattle.graph_model.specs.declared.names.Limits.{Limits}
 use Rattle.graph_model.specs.declared.names.Refusal.{Refusal}
 use Rattle.graph_model.specs.declared.names.Refusal.TheVariants.{Cycle, Count, ClusterSize}
 use Rattle.graph_model.specs.Graphs.{Lists}
-use Rattle.graph_model.specs.Refusals.{First, FirstAt, NoRefusal}
+use Rattle.graph_model.specs.Refusals.{FirstAt, NoRefusal}
 use Rattle.graph_model.proofs.ListLemmas.{Lists-same}
 use Rattle.fee_rate.specs.declared.rates.FeeRate.{FeeRate}
-use Rattle.dep_graph.specs.Graph.{Graph, is_member, is_ancestor, rate_of}
+use Rattle.dep_graph.specs.Graph.{is_ancestor, rate_of}
 use Rattle.dep_graph.specs.Walks.{IsWalk}
-use Rattle.cluster_record.specs.Clusters.{Cluster, IsCluster, IsRelated, AreLinked}
+use Rattle.cluster_record.specs.Clusters.{Cluster, IsRelated, AreLinked}
 use Rattle.tx_graph.specs.Shelves.{Shelf, cluster_at, graph_of, HasAt, IsIndexed}
 use Rattle.name_book.specs.declared.spot.Spot.{Spot}
 use Rattle.tx_graph.specs.Joins.{JoinsTo, JoinsTooMany, JoinsTooLarge, DepRefusalIs, SumRefusalIs}

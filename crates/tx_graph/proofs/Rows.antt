@@ -1,18 +1,17 @@
 -- The rows of refusals, by the graph that is kept.
-use Rattle.std.proofs.Common.{◌≡◌, ℕ, ◌<◌, ◌≤◌, Bool, true, false, List, length, sym, refl, subst, ap, ◌∙◌, inl, inr, ◌⊎◌, ◌↔◌, Option, None, Some, IsSome, is_some, true≢false}
+use Rattle.std.proofs.Common.{◌≡◌, ℕ, true, false, List, sym, refl, subst, ap, ◌∙◌, inl, inr, ◌⊎◌, ◌↔◌, Option, None, Some, true≢false}
 use Rattle.std.specs.Prelude.{Contains, sum_by}
 use Rattle.std.specs.FinMap as finmap
 use Rattle.std.proofs.lemmas.Bool.{true_from_ne_false}
-use Rattle.graph_model.specs.declared.names.Limits.{Limits}
 use Rattle.graph_model.specs.declared.names.Level.{Level}
 use Rattle.graph_model.specs.declared.names.Refusal.{Refusal}
 use Rattle.graph_model.specs.declared.names.Refusal.TheVariants.{Unknown, Cycle, Count, ClusterSize}
 use Rattle.graph_model.specs.Graphs.{IsAncestor, AreConnected, Lists}
-use Rattle.graph_model.specs.States.{State, LevelState, Table, Entry, level_of, size_of, size_in}
-use Rattle.graph_model.specs.Commands.{Dep, Remove, Cluster, Ancestors, Descendants}
+use Rattle.graph_model.specs.States.{State, LevelState, Table, level_of, size_of, size_in}
+use Rattle.graph_model.specs.Commands.{Dep}
 use Rattle.graph_model.specs.Refusals.{RefusalIs, First, FirstAt, NoRefusal, OverCount, OverSize}
 use Rattle.graph_model.proofs.ListLemmas.{Lists-for}
-use Rattle.dep_graph.specs.Graph.{Node, Graph, is_member, is_ancestor, rate_of, rate_in, IsOrder}
+use Rattle.dep_graph.specs.Graph.{Node, is_member, is_ancestor, rate_of, rate_in, IsOrder}
 use Rattle.cluster_record.specs.Clusters.{AreLinked}
 use Rattle.tx_graph.specs.Kept.{Kept, StandsFor, entry_of}
 use Rattle.tx_graph.specs.Joins.{JoinsTo, JoinsTooMany, JoinsTooLarge, DepRefusalIs}

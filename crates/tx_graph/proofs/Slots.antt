@@ -1,15 +1,15 @@
 -- A cluster written under its number.
-use Rattle.std.proofs.Common.{◌≡◌, ◌≢◌, ℕ, ◌<◌, ◌≤◌, List, length, set, slice_index, Contains, Option, Some, None, inl, inr, refl, sym, ap, ◌∙◌, subst, arith}
+use Rattle.std.proofs.Common.{◌≡◌, ◌≢◌, ℕ, ◌<◌, List, length, set, Option, Some, None, inl, inr, sym, ap, ◌∙◌, subst}
 use Rattle.std.proofs.lemmas.Bool.{cases_lt, false_from_ne_true}
-use Rattle.std.proofs.Common.{true, false, true≢false, OnSome, IsSome, is_some}
+use Rattle.std.proofs.Common.{false, true≢false, OnSome, IsSome, is_some}
 use Rattle.std.proofs.lemmas.Option.{none-some}
 use Rattle.std.proofs.lemmas.List.{get_or-set_same, get_or-set_other, get_or_past}
 use Rattle.std.specs.FinMap as finmap
 use Rattle.cluster_record.specs.Clusters.{Cluster}
 use Rattle.name_book.specs.declared.spot.Spot.{Spot}
-use Rattle.tx_graph.specs.Shelves.{Shelf, cluster_at, graph_of, HasAt, StandsAt, IsIndexed}
+use Rattle.tx_graph.specs.Shelves.{Shelf, cluster_at, graph_of, HasAt, IsIndexed}
 use Rattle.dep_graph.specs.Graph.{is_ancestor}
-use Rattle.tx_graph.proofs.Graphs.{same_some, at_contains, above_in}
+use Rattle.tx_graph.proofs.Graphs.{same_some, above_in}
 
 slot_low : (slots : List (Option Cluster)) (key : ℕ) (c : Cluster) → cluster_at slots key ≡ Some c → key < length slots
 slot_low slots key c is = elim (cases_lt key (length slots)) [

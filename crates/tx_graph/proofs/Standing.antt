@@ -1,18 +1,17 @@
 -- Which states a graph stands for, and the steps of the machine that its calls are.
-use Rattle.std.proofs.Common.{◌≡◌, ◌≢◌, ℕ, ◌+◌, ◌<◌, ◌≤◌, Bool, true, false, List, [], ◌∷◌, length, map, sym, refl, ap, subst, ◌∙◌, inl, inr, ◌⊎◌, ◌↔◌, Option, None, Some, is_some}
+use Rattle.std.proofs.Common.{◌≡◌, ℕ, true, sym, refl, ap, subst, ◌∙◌, inl, inr, ◌⊎◌, ◌↔◌, Option, None, Some, is_some}
 use Rattle.std.specs.Prelude.{Contains}
 use Rattle.std.specs.FinMap as finmap
-use Rattle.graph_model.specs.declared.names.Limits.{Limits}
 use Rattle.graph_model.specs.declared.names.Level.{Level}
 use Rattle.graph_model.specs.declared.names.Level.TheVariants.{Main, Top}
 use Rattle.graph_model.specs.declared.names.Refusal.{Refusal}
 use Rattle.graph_model.specs.declared.names.Refusal.TheVariants.{Memory}
-use Rattle.graph_model.specs.Graphs.{IsAncestor, IsGraph}
-use Rattle.graph_model.specs.States.{State, LevelState, Table, Entry, level_of, start}
+use Rattle.graph_model.specs.Graphs.{IsAncestor}
+use Rattle.graph_model.specs.States.{State, LevelState, Table, level_of}
 use Rattle.graph_model.specs.Commands.{Command}
 use Rattle.graph_model.specs.Refusals.{RefusalIs}
-use Rattle.graph_model.specs.Replies.{Reply, Refused, Done}
-use Rattle.graph_model.specs.Steps.{Step, Accepts, MayLackMemory}
+use Rattle.graph_model.specs.Replies.{Reply, Refused}
+use Rattle.graph_model.specs.Steps.{Accepts, MayLackMemory}
 use Rattle.dep_graph.specs.Graph.{Node, Graph, is_member, is_ancestor}
 use Rattle.tx_graph.specs.Kept.{Kept, StandsFor, MakesStep, entry_of}
 

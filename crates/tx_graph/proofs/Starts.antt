@@ -1,13 +1,12 @@
 -- A graph without names, and graphs that keep what they have.
-use Rattle.std.proofs.Common.{◌≡◌, ℕ, ◌<◌, Bool, true, false, List, [], sym, refl, ap, ◌∙◌, inl, inr, ◌⊎◌, ◌↔◌, Option, None, Some, arith, is_some, suc, zero, subst, true≢false}
+use Rattle.std.proofs.Common.{◌≡◌, ℕ, false, [], sym, refl, ap, ◌∙◌, inl, inr, None, arith, is_some, suc, zero, true≢false}
 use Rattle.std.specs.Prelude.{Contains}
 use Rattle.std.specs.Ordering.{nat_cmp}
 use Rattle.std.specs.FinMap as finmap
 use Rattle.graph_model.specs.declared.names.Limits.{Limits}
-use Rattle.graph_model.specs.Graphs.{IsAncestor, IsGraph}
-use Rattle.graph_model.specs.States.{State, start}
-use Rattle.dep_graph.specs.Graph.{is_member, is_ancestor}
-use Rattle.tx_graph.specs.Kept.{Kept, StandsFor, entry_of}
+use Rattle.graph_model.specs.Graphs.{IsAncestor}
+use Rattle.graph_model.specs.States.{start}
+use Rattle.tx_graph.specs.Kept.{StandsFor, entry_of}
 use Rattle.tx_graph.specs.Shelves.{Shelf, graph_of}
 use Rattle.tx_graph.proofs.Graphs.{member-spot, above-none, get-none}
 

@@ -1,7 +1,7 @@
 -- The accepted steps.
-use Rattle.std.proofs.Common.{suc, arith, ◌≡◌, ◌≢◌, ℕ, ℤ, ◌+◌, ◌<◌, ◌≤◌, Bool, true, false, cond, not, ◌&&◌, ◌||◌, nat_eq, List, [], ◌∷◌, ◌++◌, length, map, sym, refl, ap, ap₂, subst, ◌∙◌, inl, inr, ◌⊎◌, ◌↔◌, Option, None, Some, IsSome, is_some, eq-eqb, ne_eqb, eqb-true, true≢false}
+use Rattle.std.proofs.Common.{suc, arith, ◌≡◌, ◌≢◌, ℕ, ℤ, Bool, true, false, cond, not, ◌&&◌, ◌||◌, nat_eq, List, [], ◌∷◌, ◌++◌, length, sym, refl, ap, ap₂, subst, ◌∙◌, inl, inr, ◌⊎◌, ◌↔◌, Option, None, Some, is_some, eq-eqb, ne_eqb, eqb-true, true≢false}
 use Rattle.std.specs.Prelude.{Contains}
-use Rattle.std.proofs.lemmas.Bool.{cases_eq, cases_Bool, or_cases, or_left, or_right, and_parts, and_from, not-true}
+use Rattle.std.proofs.lemmas.Bool.{cases_eq, or_cases, or_left, or_right, and_parts, and_from}
 use Rattle.std.proofs.lemmas.List.Elements.{Contains-append_left, Contains-push, Contains-push_cases}
 use Rattle.std.specs.Ordering.{nat_cmp}
 use Rattle.std.specs.Cmp.{nat_cmp_total, unsigned_tied}
@@ -9,8 +9,8 @@ use Rattle.std.specs.FinMap as finmap
 use Rattle.fee_rate.specs.declared.rates.FeeRate.{FeeRate}
 use Rattle.graph_model.specs.declared.names.Limits.{Limits}
 use Rattle.graph_model.specs.declared.names.Level.{Level}
-use Rattle.graph_model.specs.Graphs.{Graph as Plain, IsAncestor, AreConnected, AreDistinct, IsGraph, Lists}
-use Rattle.graph_model.specs.States.{State, LevelState, Table, Entry, level_of, size_of, start, empty_level}
+use Rattle.graph_model.specs.Graphs.{IsAncestor, AreConnected, AreDistinct, IsGraph, Lists}
+use Rattle.graph_model.specs.States.{State, LevelState, Table, Entry, size_of}
 use Rattle.graph_model.specs.Commands.{SetLimits, Add, Dep, SetFee, Remove, Cluster, Ancestors, Descendants, Count}
 use Rattle.graph_model.specs.Refusals.{RefusalIs}
 use Rattle.graph_model.specs.Changes.{added, limited, with_fee, begun, with_graph, IsWithout}
@@ -19,7 +19,7 @@ use Rattle.graph_model.specs.Replies.{Done, Ids, Number}
 use Rattle.graph_model.specs.Laws.{AncestorsWithPair, StaysWithoutCycle, NamesCanGo, StaysGraph, AncestorsWithoutName}
 use Rattle.graph_model.proofs.WalkLemmas.{IsAncestor-trans}
 use Rattle.graph_model.proofs.ListLemmas.{Contains-head, Contains-later, Contains-cases, Lists-for}
-use Rattle.dep_graph.specs.Graph.{Node, Graph, is_member, is_ancestor, ancestors_of, ancestors_in, rate_of, rate_in, IsOrder, AddsPair, SetsFee, DropsPlace}
+use Rattle.dep_graph.specs.Graph.{Node, Graph, is_member, is_ancestor, rate_of, rate_in, IsOrder, AddsPair, SetsFee, DropsPlace}
 use Rattle.cluster_record.specs.Clusters.{AreLinked}
 use Rattle.tx_graph.specs.Kept.{Kept, StandsFor, MakesStep, entry_of, AddsName}
 use Rattle.tx_graph.proofs.Standing.{state_of, steps_accepted, level-main}

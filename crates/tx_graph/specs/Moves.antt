@@ -1,5 +1,5 @@
 -- How names and clusters move.
-use Rattle.std.specs.Prelude.{◌≡◌, ◌≢◌, ◌⊎◌, ◌↔◌, ℕ, ◌<◌, List, length, slice_index, Contains, Option, None, Some, IsSome}
+use Rattle.std.specs.Prelude.{◌≡◌, ◌≢◌, ◌⊎◌, ℕ, ◌<◌, List, length, slice_index, Contains, Option, None, Some, IsSome}
 use Rattle.std.specs.List.{AllPairs}
 use Rattle.std.specs.FinMap as finmap
 use Rattle.cluster_record.specs.Clusters.{Cluster, IsCluster, AreApart}

@@ -1,4 +1,4 @@
-use Rattle.std.proofs.Common.{◌≡◌, ℕ, ◌*◌, ◌<◌, length, arith, rules}
+use Rattle.std.proofs.Common.{◌*◌, ◌<◌, length, rules}
 use Rattle.cluster_record.proofs.Lists.{next_within}
 use Rattle.cluster_record.proofs.record.copy_names.Goals as goal
 

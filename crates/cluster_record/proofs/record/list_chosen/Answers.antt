@@ -1,7 +1,6 @@
-use Rattle.std.proofs.Common.{◌≡◌, ℕ, ◌*◌, ◌<◌, ◌≤◌, ◌+◌, ◌-◌, [], ◌∷◌, ◌++◌, map, length, arith, rules, ◌∙◌, sym, ap, refl, slice_index}
+use Rattle.std.proofs.Common.{◌≡◌, ◌*◌, ◌<◌, ◌≤◌, ◌+◌, ◌-◌, [], ◌∷◌, ◌++◌, map, length, arith, rules, ◌∙◌, ap, refl, slice_index}
 use Rattle.graph_model.specs.Rooms.{Room}
-use Rattle.bitset.specs.Places.{places}
-use Rattle.std.proofs.lemmas.List.{get_or_read_under, length_push}
+use Rattle.std.proofs.lemmas.List.{length_push}
 use Rattle.std.proofs.lemmas.List.Sorted.{length_permutation}
 use Rattle.cluster_record.proofs.Lists.{next_within, room_left, copied_more, split_more, split_all, chosen_listed}
 use Rattle.cluster_record.proofs.record.list_chosen.Goals as goal

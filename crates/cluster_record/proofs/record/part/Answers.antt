@@ -1,6 +1,5 @@
-use Rattle.std.proofs.Common.{◌≡◌, ◌*◌, [], ◌++◌, List, ℕ, map, slice_index, ap, ◌∙◌, sym, subst}
+use Rattle.std.proofs.Common.{◌≡◌, ◌*◌, ◌++◌, List, ℕ, map, slice_index, ap, ◌∙◌, sym, subst}
 use Rattle.bitset.specs.Places.{places}
-use Rattle.cluster_record.specs.Clusters.{Cluster, IsCluster}
 use Rattle.cluster_record.specs.Changes.{IsPartOf}
 use Rattle.cluster_record.specs.Named.{named, IsNamed}
 use Rattle.cluster_record.proofs.Kept.{IsCluster-named}

@@ -1,4 +1,4 @@
-use Rattle.std.proofs.Common.{◌≡◌, ℕ, ◌<◌, take, Some, slice_index, Contains, is_some}
+use Rattle.std.proofs.Common.{◌≡◌, ℕ, ◌<◌, Some, slice_index, Contains, is_some}
 use Rattle.std.specs.FinMap as finmap
 use Rattle.tx_graph.proofs.clusters.settle.Given as goal
 

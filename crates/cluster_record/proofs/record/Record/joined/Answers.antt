@@ -1,7 +1,7 @@
-use Rattle.std.proofs.Common.{◌≡◌, ℕ, true, false, ◌*◌, ◌+◌, ◌<◌, ◌≤◌, ◌++◌, List, length, slice_index, rules, arith, sym, ap, ap₂, ◌∙◌, subst, subst₂, Contains, lt-ltb}
+use Rattle.std.proofs.Common.{◌≡◌, ℕ, ◌*◌, ◌+◌, ◌<◌, ◌≤◌, ◌++◌, List, length, slice_index, rules, arith, sym, ap, ap₂, ◌∙◌, subst, subst₂, Contains, lt-ltb}
 use Rattle.std.specs.FinSet as set
-use Rattle.dep_graph.specs.Graph.{members_of, is_member, is_ancestor, AddsPair, IsMerged}
-use Rattle.cluster_record.specs.Clusters.{Cluster, IsCluster, AreApart}
+use Rattle.dep_graph.specs.Graph.{members_of, AddsPair}
+use Rattle.cluster_record.specs.Clusters.{Cluster, AreApart}
 use Rattle.cluster_record.specs.Changes.{Joins}
 use Rattle.cluster_record.specs.Named.{named, IsNamed}
 use Rattle.cluster_record.proofs.Kept.{IsCluster-named}

@@ -1,6 +1,6 @@
-use Rattle.std.proofs.Common.{◌≡◌, ℕ, ◌*◌, ◌<◌, false, length, slice_index, sym, ◌∙◌, subst, rules}
+use Rattle.std.proofs.Common.{◌≡◌, ◌*◌, ◌<◌, false, length, slice_index, sym, ◌∙◌, subst, rules}
 use Rattle.dep_graph.specs.Graph.{is_ancestor, AddsPair}
-use Rattle.cluster_record.specs.Clusters.{Cluster, IsCluster}
+use Rattle.cluster_record.specs.Clusters.{Cluster}
 use Rattle.cluster_record.specs.Named.{named}
 use Rattle.cluster_record.proofs.Names.{named-ancestor}
 use Rattle.cluster_record.proofs.Kept.{place_member, AddsPair-named, IsNamed-pair, IsCluster-named}

@@ -1,4 +1,4 @@
-use Rattle.std.proofs.Common.{◌≡◌, ℕ, true, ◌*◌, ◌<◌, ◌≤◌, ◌+◌, List, length, arith, rules, ◌∙◌, sym, ap, subst, slice_index}
+use Rattle.std.proofs.Common.{◌≡◌, ℕ, true, ◌*◌, ◌<◌, ◌≤◌, ◌+◌, List, length, arith, rules, sym, ap, subst, slice_index}
 use Rattle.bitset.specs.Places.{IsWithin}
 use Rattle.graph_model.specs.Graphs.{Lists}
 use Rattle.dep_graph.specs.Graph.{is_ancestor}

@@ -1,4 +1,4 @@
-use Rattle.std.proofs.Common.{◌≡◌, ℕ, ◌*◌, ◌<◌, ◌≤◌, ◌+◌, List, length, arith, rules, ◌∙◌, sym, ap, subst, Contains, slice_index}
+use Rattle.std.proofs.Common.{◌≡◌, ℕ, ◌*◌, ◌≤◌, ◌+◌, List, length, arith, rules, ◌∙◌, sym, ap, subst, Contains}
 use Rattle.bitset.specs.Places.{first_places, IsWithin}
 use Rattle.graph_model.specs.Graphs.{Lists}
 use Rattle.cluster_record.specs.Clusters.{Cluster, AreOnce}

@@ -1,4 +1,4 @@
-use Rattle.std.proofs.Common.{◌≡◌, ℕ, ℤ, ◌*◌, ◌<◌, length, slice_index, subst, to_z-of_z}
+use Rattle.std.proofs.Common.{ℤ, ◌*◌, ◌<◌, length, slice_index, subst, to_z-of_z}
 use Rattle.dep_graph.specs.Graph.{SetsFee}
 use Rattle.cluster_record.specs.Clusters.{Cluster}
 use Rattle.cluster_record.specs.Named.{named}

@@ -1,12 +1,9 @@
-use Rattle.std.proofs.Common.{◌≡◌, ℕ, true, ◌*◌, ◌+◌, ◌<◌, [], ◌∷◌, ◌++◌, List, length, slice_index, rules, arith, sym, ap, ◌∙◌, subst, refl}
-use Rattle.std.specs.FinSet as set
+use Rattle.std.proofs.Common.{ℕ, ◌*◌, ◌<◌, List, length, slice_index, rules, sym, ap, ◌∙◌, subst}
 use Rattle.bitset.specs.Places.{first_places, IsWithin}
-use Rattle.dep_graph.specs.Graph.{IsNear}
-use Rattle.dep_graph.specs.Walks.{Walk}
 use Rattle.cluster_record.specs.Clusters.{Cluster}
 use Rattle.cluster_record.specs.Changes.{IsPartOf, IsSplit}
 use Rattle.cluster_record.specs.Named.{named, IsNamed}
-use Rattle.cluster_record.proofs.Splits.{Splitting, Splitting-start, Splitting-more, Splitting-all, holds_members, component_inside, component_whole, fewer, none_left}
+use Rattle.cluster_record.proofs.Splits.{Splitting, Splitting-start, Splitting-more, Splitting-all, component_inside, component_whole, fewer, none_left}
 use Rattle.cluster_record.proofs.record.Record.without.Goals as goal
 
 pub loop-first-init : goal.loop-first-init

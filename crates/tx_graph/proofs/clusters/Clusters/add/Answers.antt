@@ -1,12 +1,11 @@
-use Rattle.std.proofs.Common.{◌≡◌, ◌≢◌, ℕ, ℤ, ◌*◌, ◌<◌, ◌≤◌, List, Option, None, Some, rules, arith, refl, sym, ap, ◌∙◌, subst, to_z-of_z}
+use Rattle.std.proofs.Common.{◌≡◌, ◌≢◌, ℕ, ℤ, ◌*◌, ◌≤◌, List, Option, None, rules, refl, sym, ap, ◌∙◌, subst, to_z-of_z}
 use Rattle.std.specs.FinMap as finmap
 use Rattle.slab.specs.Slab.{Slab}
-use Rattle.fee_rate.specs.declared.rates.FeeRate.{FeeRate}
 use Rattle.cluster_record.specs.Clusters.{Cluster}
 use Rattle.cluster_record.specs.Changes.{IsSingle}
 use Rattle.name_book.specs.Books.{Spots}
 use Rattle.tx_graph.specs.Kept.{AddsName}
-use Rattle.tx_graph.specs.Shelves.{Shelf, graph_of, cluster_at, IsIndexed}
+use Rattle.tx_graph.specs.Shelves.{Shelf, graph_of, cluster_at}
 use Rattle.tx_graph.proofs.Graphs.{IsIndexed-same}
 use Rattle.tx_graph.proofs.Added.{IsIndexed-added, AddsName-added}
 use Rattle.tx_graph.proofs.clusters.Clusters.add.Goals as goal

@@ -1,12 +1,9 @@
-use Rattle.std.proofs.Common.{◌≡◌, ◌≢◌, ℕ, ◌*◌, ◌+◌, ◌<◌, ◌≤◌, [], List, length, slice_index, Contains, Option, None, Some, IsSome, is_some, rules, arith, refl, sym, ap, ◌∙◌, subst, subst₂}
+use Rattle.std.proofs.Common.{◌≡◌, ◌*◌, ◌≤◌, [], Some, is_some, rules, sym, ap, ◌∙◌, subst, subst₂}
 use Rattle.std.specs.FinMap as finmap
 use Rattle.graph_model.proofs.ListLemmas.{Contains-head}
-use Rattle.slab.specs.Slab.{Slab, slab_len}
 use Rattle.dep_graph.specs.Graph.{AddsPair}
-use Rattle.cluster_record.specs.Clusters.{Cluster, IsCluster, AreApart}
 use Rattle.cluster_record.specs.Changes.{Joins}
-use Rattle.tx_graph.specs.Shelves.{Shelf, graph_of, cluster_at, HasAt}
-use Rattle.tx_graph.specs.Moves.{IsLoose}
+use Rattle.tx_graph.specs.Shelves.{Shelf, graph_of, cluster_at}
 use Rattle.tx_graph.proofs.Graphs.{at_contains, one_key}
 use Rattle.tx_graph.proofs.Slots.{stands_in, some_there}
 use Rattle.tx_graph.proofs.Joined.{IsLoose-joined, IsIndexed-joined, AddsPair-joined}

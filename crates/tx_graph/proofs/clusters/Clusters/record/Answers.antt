@@ -1,4 +1,4 @@
-use Rattle.std.proofs.Common.{◌≡◌, ℕ, ◌*◌, ◌≤◌, Some, rules, sym, subst}
+use Rattle.std.proofs.Common.{◌≡◌, ◌*◌, ◌≤◌, Some, rules, sym, subst}
 use Rattle.std.specs.FinMap as finmap
 use Rattle.tx_graph.specs.Shelves.{Shelf}
 use Rattle.tx_graph.proofs.Slots.{some_there}

@@ -1,4 +1,4 @@
-use Rattle.std.proofs.Common.{◌≡◌, ℕ, ◌*◌, ◌≤◌, rules, sym, ◌∙◌, Some, None}
+use Rattle.std.proofs.Common.{◌*◌, ◌≤◌, rules, sym, ◌∙◌, Some, None}
 use Rattle.tx_graph.proofs.Pairs.{parent_at, child_at, reaches_row, no_reach, apart_row, spots_no_way, spots_row}
 use Rattle.tx_graph.proofs.clusters.Clusters.refused_dep.Goals as goal
 

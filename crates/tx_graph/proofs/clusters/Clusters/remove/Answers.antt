@@ -1,8 +1,8 @@
-use Rattle.std.proofs.Common.{◌≡◌, ◌≢◌, ℕ, ◌*◌, ◌+◌, ◌<◌, ◌≤◌, List, length, slice_index, Contains, All, Option, None, Some, IsSome, is_some, rules, arith, refl, sym, ap, ◌∙◌, subst}
+use Rattle.std.proofs.Common.{◌≡◌, ℕ, ◌*◌, ◌+◌, ◌≤◌, List, length, Option, Some, is_some, rules, arith, sym, ap, ◌∙◌, subst}
 use Rattle.std.specs.FinMap as finmap
 use Rattle.slab.specs.Slab.{Slab, slab_len}
 use Rattle.dep_graph.specs.Graph.{DropsPlace}
-use Rattle.cluster_record.specs.Clusters.{Cluster, IsCluster}
+use Rattle.cluster_record.specs.Clusters.{Cluster}
 use Rattle.cluster_record.specs.Changes.{IsSplit}
 use Rattle.tx_graph.specs.Shelves.{Shelf, graph_of, cluster_at}
 use Rattle.tx_graph.proofs.Graphs.{at_contains}

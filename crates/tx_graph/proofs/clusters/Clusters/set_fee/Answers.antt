@@ -1,8 +1,7 @@
-use Rattle.std.proofs.Common.{◌≡◌, ◌≢◌, ℕ, ℤ, ◌*◌, ◌<◌, ◌≤◌, List, length, slice_index, Option, None, Some, rules, arith, refl, sym, ap, ◌∙◌, subst, to_z-of_z, set}
+use Rattle.std.proofs.Common.{◌≡◌, ℕ, ℤ, ◌*◌, ◌≤◌, slice_index, Some, rules, sym, subst, to_z-of_z, set}
 use Rattle.std.specs.FinMap as finmap
 use Rattle.dep_graph.specs.Graph.{SetsFee}
-use Rattle.cluster_record.specs.Clusters.{Cluster}
-use Rattle.tx_graph.specs.Shelves.{Shelf, graph_of, cluster_at, IsIndexed}
+use Rattle.tx_graph.specs.Shelves.{Shelf, graph_of}
 use Rattle.tx_graph.proofs.Graphs.{at_contains}
 use Rattle.tx_graph.proofs.Slots.{set_here, set_other, stands_in, is_there}
 use Rattle.tx_graph.proofs.Added.{IsIndexed-changed, SetsFee-changed}

@@ -1,4 +1,4 @@
-use Rattle.std.proofs.Common.{◌≡◌, ℕ, ◌*◌, ◌≤◌, Some, None, rules, sym, ap, is_some, ◌∙◌}
+use Rattle.std.proofs.Common.{◌*◌, ◌≤◌, rules, sym, ap, is_some, ◌∙◌}
 use Rattle.graph_model.specs.Commands.{Ancestors}
 use Rattle.graph_model.specs.declared.names.Refusal.TheVariants.{Unknown}
 use Rattle.graph_model.specs.Replies.{Refused, Ids}

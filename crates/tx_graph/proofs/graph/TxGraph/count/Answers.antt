@@ -1,5 +1,4 @@
-use Rattle.std.proofs.Common.{sym, ◌∙◌, ap}
-use Rattle.std.specs.FinMap as finmap
+use Rattle.std.proofs.Common.{◌∙◌}
 use Rattle.graph_model.specs.Commands.{Count}
 use Rattle.graph_model.specs.Replies.{Number}
 use Rattle.tx_graph.proofs.Stepping.{steps_counted}

@@ -1,4 +1,4 @@
-use Rattle.std.proofs.Common.{◌≡◌, ◌≤◌, ◌*◌, ℕ, true, false, None, Some, sym, ap, is_some, ◌∙◌, subst, subst₂, arith}
+use Rattle.std.proofs.Common.{◌≡◌, ◌*◌, true, false, None, Some, sym, ap, is_some, ◌∙◌, subst, subst₂, arith}
 use Rattle.graph_model.specs.declared.names.Refusal.TheVariants.{Memory}
 use Rattle.graph_model.specs.Commands.{Dep}
 use Rattle.graph_model.specs.Replies.{Done, Refused}

@@ -1,4 +1,4 @@
-use Rattle.std.proofs.Common.{◌≡◌, true, false, sym, ap, is_some, ◌∙◌, subst, true≢false}
+use Rattle.std.proofs.Common.{true, sym, ap, is_some, ◌∙◌, subst, true≢false}
 use Rattle.std.proofs.lemmas.Int.{to_z-of_z}
 use Rattle.std.specs.Int.{w64}
 use Rattle.graph_model.specs.Limits.{IsFee}

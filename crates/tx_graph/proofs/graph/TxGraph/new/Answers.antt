@@ -1,4 +1,4 @@
-use Rattle.std.proofs.Common.{ap, sym, false}
+use Rattle.std.proofs.Common.{ap}
 use Rattle.graph_model.specs.States.{start}
 use Rattle.tx_graph.specs.Shelves.{Shelf}
 use Rattle.tx_graph.proofs.Starts.{stands_start}

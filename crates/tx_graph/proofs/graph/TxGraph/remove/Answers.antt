@@ -1,4 +1,4 @@
-use Rattle.std.proofs.Common.{◌≡◌, ◌*◌, true, false, sym, ap, is_some, ◌∙◌}
+use Rattle.std.proofs.Common.{◌*◌, true, sym, ap, is_some, ◌∙◌}
 use Rattle.graph_model.specs.declared.names.Refusal.TheVariants.{Memory, Unknown}
 use Rattle.graph_model.specs.declared.names.Level.TheVariants.{Top}
 use Rattle.graph_model.specs.Commands.{Remove}

@@ -1,4 +1,4 @@
-use Rattle.std.proofs.Common.{◌≡◌, true, false, sym, ◌∙◌, true≢false}
+use Rattle.std.proofs.Common.{true, sym, ◌∙◌, true≢false}
 use Rattle.graph_model.specs.Commands.{SetLimits}
 use Rattle.graph_model.specs.declared.names.Refusal.TheVariants.{Late, Range}
 use Rattle.graph_model.specs.Replies.{Done, Refused}

@@ -1,4 +1,4 @@
-use Rattle.std.proofs.Common.{◌≡◌, ℕ, ◌≤◌, ◌*◌, Some, None, rules, sym, ◌∙◌, ap, subst, option_map}
+use Rattle.std.proofs.Common.{◌≤◌, ◌*◌, rules, sym, ◌∙◌, ap, subst, option_map}
 use Rattle.tx_graph.specs.Kept.{Kept, StandsFor}
 use Rattle.tx_graph.proofs.Slots.{stands_in}
 use Rattle.tx_graph.proofs.Calls.{sums_none, sums_some}
