@@ -112,9 +112,11 @@ impl<const W: usize> Record<W> {
     pub fn link(&mut self, parent: usize, child: usize)
         requires parent { parent < length self.old.names }
         requires child { child < length self.old.names }
-        requires no_cycle { is_ancestor self.old.graph (slice_index self.old.names child) (slice_index self.old.names parent) ≡ false }
+        requires no_cycle { is_ancestor self.old.graph (slice_index self.old.names child)
+            (slice_index self.old.names parent) ≡ false }
         ensures names { self.new.names ≡ self.old.names }
-        ensures graph { AddsPair self.old.graph self.new.graph (slice_index self.old.names parent) (slice_index self.old.names child) }
+        ensures graph { AddsPair self.old.graph self.new.graph (slice_index self.old.names parent)
+            (slice_index self.old.names child) }
         ensures whole { IsCluster (64 * W) self.new }
     {
         self.dep.add_dep(parent, child);
@@ -135,7 +137,9 @@ impl<const W: usize> Record<W> {
         requires parent { parent < length self.now.names }
         requires child { child < length other.now.names }
         ensures names { IfOk result (λ c. c.names ≡ self.now.names ++ other.now.names) }
-        ensures graph { IfOk result (λ c. Joins self.now.graph other.now.graph (slice_index self.now.names parent) (slice_index other.now.names child) c.graph) }
+        ensures graph { IfOk result
+            (λ c. Joins self.now.graph other.now.graph (slice_index self.now.names parent)
+            (slice_index other.now.names child) c.graph) }
         ensures whole { IfOk result (IsCluster (64 * W)) }
     {
         let mut names = SmallVec::from_slice(alloc, self.names.as_slice())?;
@@ -179,7 +183,8 @@ impl<const W: usize> Record<W> {
     pub fn list_ancestors(&self, place: usize, out: &mut IdBuf)
         requires place { place < length self.now.names }
         requires room { 64 * W ≤ length out.old.ids + out.old.room }
-        ensures lists { Lists (λ id. is_ancestor self.now.graph id (slice_index self.now.names place) ≡ true) out.new.ids }
+        ensures lists { Lists (λ id. is_ancestor self.now.graph id (slice_index self.now.names place) ≡ true)
+            out.new.ids }
         ensures room { length out.new.ids + out.new.room ≡ length out.old.ids + out.old.room }
     {
         list_chosen(self.names.as_slice(), &self.dep.ancestors(place), out);
@@ -189,7 +194,8 @@ impl<const W: usize> Record<W> {
     pub fn list_descendants(&self, place: usize, out: &mut IdBuf)
         requires place { place < length self.now.names }
         requires room { 64 * W ≤ length out.old.ids + out.old.room }
-        ensures lists { Lists (λ id. is_ancestor self.now.graph (slice_index self.now.names place) id ≡ true) out.new.ids }
+        ensures lists { Lists (λ id. is_ancestor self.now.graph (slice_index self.now.names place) id ≡ true)
+            out.new.ids }
         ensures room { length out.new.ids + out.new.room ≡ length out.old.ids + out.old.room }
     {
         list_chosen(self.names.as_slice(), &self.dep.descendants(place), out);
@@ -205,7 +211,8 @@ fn part<const W: usize>(
 ) -> Result<Record<W>, NoMemory>
     requires named { IsNamed (64 * W) names.now dep.now }
     requires within { IsWithin (length names.now) chosen }
-    requires whole { (p q : ℕ) → set.contains chosen p ≡ true → set.contains chosen q ≡ true → Walk (IsNear dep.now chosen) p q }
+    requires whole { (p q : ℕ) → set.contains chosen p ≡ true → set.contains chosen q ≡ true
+        → Walk (IsNear dep.now chosen) p q }
     ensures part { IfOk result (IsPartOf (record { names = names.now; graph = named names.now dep.now }) chosen.entry) }
     ensures whole { IfOk result (IsCluster (64 * W)) }
 {
@@ -223,7 +230,8 @@ fn copy_names<const W: usize>(
     chosen: &Bits<W>,
 ) -> Result<(), NoMemory>
     requires { IsWithin (length from.now) chosen.now }
-    ensures { OnOk result (names.new.items ≡ names.old.items ++ map (slice_index from.now) (places (64 * W) chosen.now)) }
+    ensures { OnOk result (names.new.items ≡ names.old.items ++ map (slice_index from.now)
+        (places (64 * W) chosen.now)) }
 {
     for place in chosen.iter() {
         names.push(from[place])?;

@@ -79,7 +79,8 @@ pub(crate) fn step<A: Iterator<Item = (u64, i128)>, B: Iterator<Item = (u64, i12
 ) -> Option<Ordering>
     requires a_ready { IsReady A.can_next A.remaining a.old }
     requires b_ready { IsReady B.can_next B.remaining b.old }
-    requires stand { (cs ds : List (ℕ × ℤ)) × (x : ℕ) × HasPoints A.next_gives a.old cs × HasPoints B.next_gives b.old ds
+    requires stand { (cs ds : List (ℕ × ℤ)) × (x : ℕ) × HasPoints A.next_gives a.old cs
+        × HasPoints B.next_gives b.old ds
         × StandAt cs x × StandAt ds x }
     ensures moves { (cs ds : List (ℕ × ℤ)) (x : ℕ) → HasPoints A.next_gives a.old cs → HasPoints B.next_gives b.old ds
         → StandAt cs x → StandAt ds x

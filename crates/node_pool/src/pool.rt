@@ -90,7 +90,8 @@ impl<T, const R: usize> Pool<T, R> {
         ensures room { OnOk result (n ≤ self.new.spare) }
         ensures full { (result ≡ Err PoolFault.Full) ↔ (2 ^ 32 - 1 < live_count self.old + n) }
         ensures values { SameValues self.old self.new }
-        ensures counts { (live_count self.new ≡ live_count self.old) × (self.old.spare ≤ self.new.spare) × (self.new.issued ≡ self.old.issued) }
+        ensures counts { (live_count self.new ≡ live_count self.old) × (self.old.spare ≤ self.new.spare)
+            × (self.new.issued ≡ self.old.issued) }
         ensures spent { KeepsSpent self.old self.new }
         ensures rings { (r : ℕ) → r < R → SameRings self.old self.new r }
     {
@@ -132,7 +133,8 @@ impl<T, const R: usize> Pool<T, R> {
         ensures next { IsNext self.old result }
         ensures fresh { value_at self.old result ≡ None }
         ensures updates { Updates self.old self.new result (Some value) }
-        ensures counts { (live_count self.new ≡ live_count self.old + 1) × (self.new.spare + 1 ≡ self.old.spare) × (self.new.issued ≡ self.old.issued + 1) }
+        ensures counts { (live_count self.new ≡ live_count self.old + 1) × (self.new.spare + 1 ≡ self.old.spare)
+            × (self.new.issued ≡ self.old.issued + 1) }
         ensures spent { KeepsSpent self.old self.new }
         ensures rings { (r : ℕ) → r < R → PartsFrom self.old self.new r result }
     {

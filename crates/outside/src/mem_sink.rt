@@ -37,7 +37,8 @@ impl MemSink {
     /// many is taken here, so no write takes memory.
     pub fn new(alloc: Global, piece: usize, calls: &[u64], stop: usize) -> Result<MemSink, NoMemory>
         requires { 0 < piece }
-        ensures { IfOk result (λ sink. sink ≡ record { bytes = []; piece = piece; calls = calls.now; stop = stop; made = 0; faults = 0 }) }
+        ensures { IfOk result (λ sink. sink ≡ record
+            { bytes = []; piece = piece; calls = calls.now; stop = stop; made = 0; faults = 0 }) }
     {
         Ok(MemSink {
             bytes: Vec::with_capacity(alloc, stop)?,

@@ -45,7 +45,8 @@ impl MemSource {
         stop: Option<usize>,
     ) -> Result<MemSource, NoMemory>
         requires { 0 < piece }
-        ensures { IfOk result (λ source. source ≡ record { bytes = bytes.now; at = 0; piece = piece; calls = calls.now; stop = stop; made = 0; faults = 0 }) }
+        ensures { IfOk result (λ source. source ≡ record
+            { bytes = bytes.now; at = 0; piece = piece; calls = calls.now; stop = stop; made = 0; faults = 0 }) }
     {
         Ok(MemSource {
             bytes: Vec::from_slice(alloc, bytes)?,
@@ -91,7 +92,8 @@ impl Source for MemSource {
 
     fn read(&mut self, buf: &mut [u8]) -> Result<usize, Failed>
         ensures bound { ReadsAtMost result buf.new }
-        ensures bytes { ReadConsumes (Some (drop self.old.at self.old.bytes)) (Some (drop self.new.at self.new.bytes)) result buf.new }
+        ensures bytes { ReadConsumes (Some (drop self.old.at self.old.bytes))
+            (Some (drop self.new.at self.new.bytes)) result buf.new }
         ensures cause { HasCause self.old.faults self.new.faults result }
         ensures fails { IsErr result ↔ FailsNext self.old }
         ensures gives { IfOk result (λ count. count ≡ given self.old (length buf.old)) }

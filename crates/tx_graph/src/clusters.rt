@@ -92,7 +92,8 @@ impl<const W: usize> Clusters<W> {
         requires few { finmap.len self.old.spots + 1 ≤ 2 ^ 32 - 1 }
         requires small { size ≤ 4000000 }
         requires issued { self.old.issued < 2 ^ 64 - 1 }
-        ensures ok { OnOk result (AddsName (graph_of self.old) (graph_of self.new) id (record { fee = fee; size = size })) }
+        ensures ok { OnOk result (AddsName (graph_of self.old) (graph_of self.new) id
+            (record { fee = fee; size = size })) }
         ensures issued { OnOk result (self.new.issued ≡ self.old.issued + 1) }
         ensures err { OnErr result (self.new ≡ self.old) }
     {
@@ -111,7 +112,8 @@ impl<const W: usize> Clusters<W> {
     /// Changes the fee of the name at a spot, in satoshis.
     pub fn set_fee(&mut self, spot: Spot, fee: i64)
         requires { (id : ℕ) × (finmap.get self.old.spots id ≡ Some spot) }
-        ensures graph { (id : ℕ) → finmap.get self.old.spots id ≡ Some spot → SetsFee (graph_of self.old) (graph_of self.new) id fee }
+        ensures graph { (id : ℕ) → finmap.get self.old.spots id ≡ Some spot
+            → SetsFee (graph_of self.old) (graph_of self.new) id fee }
         ensures issued { self.new.issued ≡ self.old.issued }
     {
         let _book = &self.book;
@@ -126,8 +128,10 @@ impl<const W: usize> Clusters<W> {
         requires parent { (id : ℕ) × (finmap.get self.old.spots id ≡ Some parent) }
         requires child { (id : ℕ) × (finmap.get self.old.spots id ≡ Some child) }
         requires together { parent.record ≡ child.record }
-        requires no_cycle { (p c : ℕ) → finmap.get self.old.spots p ≡ Some parent → finmap.get self.old.spots c ≡ Some child → is_ancestor (graph_of self.old) c p ≡ false }
-        ensures graph { (p c : ℕ) → finmap.get self.old.spots p ≡ Some parent → finmap.get self.old.spots c ≡ Some child → AddsPair (graph_of self.old) (graph_of self.new) p c }
+        requires no_cycle { (p c : ℕ) → finmap.get self.old.spots p ≡ Some parent
+            → finmap.get self.old.spots c ≡ Some child → is_ancestor (graph_of self.old) c p ≡ false }
+        ensures graph { (p c : ℕ) → finmap.get self.old.spots p ≡ Some parent
+            → finmap.get self.old.spots c ≡ Some child → AddsPair (graph_of self.old) (graph_of self.new) p c }
         ensures issued { self.new.issued ≡ self.old.issued }
     {
         let _book = &self.book;
@@ -143,8 +147,10 @@ impl<const W: usize> Clusters<W> {
         requires parent { (id : ℕ) × (finmap.get self.old.spots id ≡ Some parent) }
         requires child { (id : ℕ) × (finmap.get self.old.spots id ≡ Some child) }
         requires apart { parent.record ≢ child.record }
-        requires few { (a b : Cluster) → cluster_at self.old.slots parent.record ≡ Some a → cluster_at self.old.slots child.record ≡ Some b → length a.names + length b.names ≤ 64 * W }
-        ensures graph { OnOk result ((p c : ℕ) → finmap.get self.old.spots p ≡ Some parent → finmap.get self.old.spots c ≡ Some child → AddsPair (graph_of self.old) (graph_of self.new) p c) }
+        requires few { (a b : Cluster) → cluster_at self.old.slots parent.record ≡ Some a
+            → cluster_at self.old.slots child.record ≡ Some b → length a.names + length b.names ≤ 64 * W }
+        ensures graph { OnOk result ((p c : ℕ) → finmap.get self.old.spots p ≡ Some parent
+            → finmap.get self.old.spots c ≡ Some child → AddsPair (graph_of self.old) (graph_of self.new) p c) }
         ensures issued { self.new.issued ≡ self.old.issued }
         ensures err { OnErr result (self.new ≡ self.old) }
     {
@@ -162,9 +168,13 @@ impl<const W: usize> Clusters<W> {
     pub fn connect(&mut self, parent: Spot, child: Spot) -> Result<(), NoMemory>
         requires parent { (id : ℕ) × (finmap.get self.old.spots id ≡ Some parent) }
         requires child { (id : ℕ) × (finmap.get self.old.spots id ≡ Some child) }
-        requires no_cycle { (p c : ℕ) → finmap.get self.old.spots p ≡ Some parent → finmap.get self.old.spots c ≡ Some child → is_ancestor (graph_of self.old) c p ≡ false }
-        requires few { parent.record ≢ child.record → (a b : Cluster) → cluster_at self.old.slots parent.record ≡ Some a → cluster_at self.old.slots child.record ≡ Some b → length a.names + length b.names ≤ 64 * W }
-        ensures graph { OnOk result ((p c : ℕ) → finmap.get self.old.spots p ≡ Some parent → finmap.get self.old.spots c ≡ Some child → AddsPair (graph_of self.old) (graph_of self.new) p c) }
+        requires no_cycle { (p c : ℕ) → finmap.get self.old.spots p ≡ Some parent
+            → finmap.get self.old.spots c ≡ Some child → is_ancestor (graph_of self.old) c p ≡ false }
+        requires few { parent.record ≢ child.record → (a b : Cluster)
+            → cluster_at self.old.slots parent.record ≡ Some a → cluster_at self.old.slots child.record ≡ Some b
+            → length a.names + length b.names ≤ 64 * W }
+        ensures graph { OnOk result ((p c : ℕ) → finmap.get self.old.spots p ≡ Some parent
+            → finmap.get self.old.spots c ≡ Some child → AddsPair (graph_of self.old) (graph_of self.new) p c) }
         ensures issued { self.new.issued ≡ self.old.issued }
         ensures err { OnErr result (self.new ≡ self.old) }
     {
@@ -184,11 +194,15 @@ impl<const W: usize> Clusters<W> {
     ) -> Result<(Spot, Spot), Refusal>
         requires { limits.now.count ≤ 64 }
         ensures order { IsInOrder W self.now }
-        ensures row { MatchResult result (λ _. DepRefusalIs limits.now (graph_of self.now) parent child None) (λ why. DepRefusalIs limits.now (graph_of self.now) parent child (Some why)) }
+        ensures row { MatchResult result (λ _. DepRefusalIs limits.now (graph_of self.now) parent child None)
+            (λ why. DepRefusalIs limits.now (graph_of self.now) parent child (Some why)) }
         ensures parent { IfOk result (λ spots. finmap.get self.now.spots parent ≡ Some spots.0) }
         ensures child { IfOk result (λ spots. finmap.get self.now.spots child ≡ Some spots.1) }
         ensures no_cycle { OnOk result (is_ancestor (graph_of self.now) child parent ≡ false) }
-        ensures few { IfOk result (λ spots. spots.0.record ≢ spots.1.record → (a b : Cluster) → cluster_at self.now.slots spots.0.record ≡ Some a → cluster_at self.now.slots spots.1.record ≡ Some b → length a.names + length b.names ≤ 64 * W) }
+        ensures few { IfOk result
+            (λ spots. spots.0.record ≢ spots.1.record → (a b : Cluster)
+            → cluster_at self.now.slots spots.0.record ≡ Some a
+            → cluster_at self.now.slots spots.1.record ≡ Some b → length a.names + length b.names ≤ 64 * W) }
     {
         let Some(above) = self.spot(parent) else {
             return Err(Refusal::Unknown(parent));
@@ -234,7 +248,9 @@ fn refused_sum<const W: usize>(
     second: &Record<W>,
 ) -> Option<Refusal>
     requires { limits.now.count ≤ 64 }
-    ensures row { SumRefusalIs limits.now (length first.now.names + length second.now.names) (sum_by (λ id. (rate_of first.now.graph id).size) first.now.names + sum_by (λ id. (rate_of second.now.graph id).size) second.now.names) result }
+    ensures row { SumRefusalIs limits.now (length first.now.names + length second.now.names)
+        (sum_by (λ id. (rate_of first.now.graph id).size) first.now.names + sum_by
+        (λ id. (rate_of second.now.graph id).size) second.now.names) result }
     ensures few { result ≡ None → length first.now.names + length second.now.names ≤ limits.now.count }
 {
     let count = (first.names().len() + second.names().len()) as u64;
@@ -309,7 +325,8 @@ fn store_all<const W: usize>(
 )
     requires room { HasRoomFor records.old (length parts.items) }
     requires loose { IsLoose (64 * W) book.old.spots records.old.slots parts.items }
-    ensures indexed { IsIndexed (64 * W) (record { spots = book.new.spots; slots = records.new.slots; issued = book.new.issued }) }
+    ensures indexed { IsIndexed (64 * W)
+        (record { spots = book.new.spots; slots = records.new.slots; issued = book.new.issued }) }
     ensures same { (c : Cluster) → IsShelved records.new.slots [] c ↔ IsShelved records.old.slots parts.entry.items c }
     ensures names { (id : ℕ) → is_some (finmap.get book.new.spots id) ≡ is_some (finmap.get book.old.spots id) }
     ensures issued { book.new.issued ≡ book.old.issued }

@@ -137,7 +137,8 @@ impl<const W: usize> TxGraph<W> {
     /// Refused with `Late` where a change was accepted before, limits among them, and else with `Range` where a limit
     /// is outside its range. The graph stays as it was then.
     pub fn set_limits(&mut self, limits: Limits) -> Result<(), Refusal>
-        ensures step { MakesStep self.old self.new (SetLimits limits.count limits.size limits.total) (change_reply result) }
+        ensures step { MakesStep self.old self.new (SetLimits limits.count limits.size limits.total)
+            (change_reply result) }
         ensures additions { self.new.additions ≡ self.old.additions }
     {
         if self.begun {
@@ -323,7 +324,8 @@ impl<const W: usize> TxGraph<W> {
 
     /// Whether a level has the name.
     pub fn exists(&self, level: Level, id: TxId) -> bool
-        ensures { (state : State) → StandsFor self.now state → IsTrue result ↔ Contains (level_of state level).graph.names id }
+        ensures { (state : State) → StandsFor self.now state → IsTrue result
+            ↔ Contains (level_of state level).graph.names id }
     {
         // There is no staging, so both words speak of main.
         let _ = level;
@@ -332,7 +334,8 @@ impl<const W: usize> TxGraph<W> {
 
     /// The fee of a live name, in satoshis, and its size, in virtual bytes; `None` where the name isn't live.
     pub fn sums(&self, id: TxId) -> Option<FeeRate>
-        ensures { (state : State) → StandsFor self.now state → finmap.get state.table id ≡ option_map (λ rate. record { fee = rate.fee; size = rate.size }) result }
+        ensures { (state : State) → StandsFor self.now state
+            → finmap.get state.table id ≡ option_map (λ rate. record { fee = rate.fee; size = rate.size }) result }
     {
         let spot = self.clusters.spot(id)?;
         Some(self.clusters.record(spot).rate(spot.place))
