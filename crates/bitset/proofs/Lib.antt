@@ -1,2 +1,3 @@
 pub mod Counts
 pub mod Operations
+pub mod Shifts

@@ -237,44 +237,60 @@ none_is w words long none = members_from _ _ (λ q. elim (cases_lt (q / 64) w) a
   | inr h ↦ is_place-past words q (omega arith) ∙ sym (contains-empty q)
 ])
 
--- ---- the first places
+-- ---- words that are filled by a test
 
--- w words, up to word i with the bits of the places below n
-pub record FirstUpTo (w n : ℕ) (words : List ℕ) (i : ℕ) : Type 0 where
+-- w words: before word i with the bits of the places that pass, and empty from there on
+pub record FilledUpTo (f : ℕ → Bool) (w : ℕ) (words : List ℕ) (i : ℕ) : Type 0 where
   pub long : length words ≡ w
   pub fit : (j : ℕ) → slice_index words j < 2 ^ 64
-  pub low : (j : ℕ) → j < i → (k : ℕ) → k < 64 → is_set (slice_index words j) k ≡ nat_lt (64 * j + k) n
+  pub low : (j : ℕ) → j < i → (k : ℕ) → k < 64 → is_set (slice_index words j) k ≡ f (64 * j + k)
+  pub rest : (j : ℕ) → i ≤ j → slice_index words j ≡ 0
 
-pub FirstUpTo-start : (w n : ℕ) → FirstUpTo w n (replicate w 0) 0
-FirstUpTo-start w n = record { long = length-replicate {A = ℕ} w 0; fit = λ j. rw (zeros w j) (omega arith); low = λ j h. absurd (omega arith) }
+module _ (f : ℕ → Bool) (w : ℕ) where
+  -- empty words, where nothing passes before word i
+  pub FilledUpTo-start : (i : ℕ) → ((q : ℕ) → q < 64 * i → f q ≡ false) → FilledUpTo f w (replicate w 0) i
+  FilledUpTo-start i none = record {
+    long = length-replicate {A = ℕ} w 0;
+    fit = λ j. rw (zeros w j) (omega arith);
+    low = λ j h k bit. ap (λ m. is_set m k) (zeros w j) ∙ is_set-zero k ∙ sym (none (64 * j + k) (omega arith));
+    rest = λ j h. zeros w j;
+  }
 
-pub FirstUpTo-more : (w n : ℕ) (words : List ℕ) (i v : ℕ) → i < w → v < 2 ^ 64 → FirstUpTo w n words i → ((k : ℕ) → k < 64 → is_set v k ≡ nat_lt (64 * i + k) n) → FirstUpTo w n (set words i v) (i + 1)
-FirstUpTo-more w n words i v h small so_far here = record {
-  long = length-set words i v ∙ so_far.long;
-  fit = λ j. elim (cases_eq j i) as (λ _. slice_index (set words i v) j < 2 ^ 64) [
-    | inl e ↦ let inside : i < length words = omega (arith, so_far.long) in rw (e, get_or-set_same words i v 0 inside) small
-    | inr e ↦ rw (get_or-set_other words i j v 0 e) (so_far.fit j)
-  ];
-  low = below_more (λ j. (k : ℕ) → k < 64 → is_set (slice_index (set words i v) j) k ≡ nat_lt (64 * j + k) n) i
-      (λ j below k bit. ap (λ m. is_set m k) (get_or-set_other words i j v 0 (λ e. omega arith)) ∙ so_far.low j below k bit)
-      (λ k bit. ap (λ m. is_set m k) (get_or-set_same words i v 0 (omega (arith, so_far.long))) ∙ here k bit);
-}
+  pub FilledUpTo-more : (words : List ℕ) (i v : ℕ) → i < w → v < 2 ^ 64 → FilledUpTo f w words i → ((k : ℕ) → k < 64 → is_set v k ≡ f (64 * i + k)) → FilledUpTo f w (set words i v) (i + 1)
+  FilledUpTo-more words i v h small so_far here = record {
+    long = length-set words i v ∙ so_far.long;
+    fit = λ j. elim (cases_eq j i) as (λ _. slice_index (set words i v) j < 2 ^ 64) [
+      | inl e ↦ let inside : i < length words = omega (arith, so_far.long) in rw (e, get_or-set_same words i v 0 inside) small
+      | inr e ↦ rw (get_or-set_other words i j v 0 e) (so_far.fit j)
+    ];
+    low = below_more (λ j. (k : ℕ) → k < 64 → is_set (slice_index (set words i v) j) k ≡ f (64 * j + k)) i
+        (λ j below k bit. ap (λ m. is_set m k) (get_or-set_other words i j v 0 (λ e. omega arith)) ∙ so_far.low j below k bit)
+        (λ k bit. ap (λ m. is_set m k) (get_or-set_same words i v 0 (omega (arith, so_far.long))) ∙ here k bit);
+    rest = λ j behind. get_or-set_other words i j v 0 (λ e. omega arith) ∙ so_far.rest j (omega arith);
+  }
 
-pub first_is : (w m n : ℕ) (words : List ℕ) → n ≤ 64 * w → w ≤ m → FirstUpTo w n words m → members_of words ≡ first_places n
-first_is w m n words within end all = members_from _ _ (λ q. elim (cases_lt (q / 64) w) as (λ _. is_place words q ≡ fin.contains (first_places n) q) [
-  | inl h ↦ all.low (q / 64) (omega arith) (q % 64) (omega arith) ∙ ap (λ p. nat_lt p n) (split_place q) ∙ sym (contains-first_places n q)
-  | inr h ↦ is_place-past words q (omega (arith, all.long)) ∙ sym (contains-first_places n q ∙ le-ltb q n (omega arith))
-])
+  -- where nothing passes from word i on, the places are those that pass
+  pub filled_is : (i : ℕ) (words : List ℕ) → ((q : ℕ) → 64 * i ≤ q → f q ≡ false) → FilledUpTo f w words i → (q : ℕ) → is_place words q ≡ f q
+  filled_is i words none all q = elim (cases_lt (q / 64) i) as (λ _. is_place words q ≡ f q) [
+    | inl h ↦ all.low (q / 64) h (q % 64) (omega arith) ∙ ap f (split_place q)
+    | inr h ↦ ap (λ n. is_set n (q % 64)) (all.rest (q / 64) h) ∙ is_set-zero (q % 64) ∙ sym (none q (omega arith))
+  ]
 
-pub AreWords-first : (w m n : ℕ) (words : List ℕ) → n < 2 ^ 64 → w ≤ m → FirstUpTo w n words m → AreWords w words
-AreWords-first w m n words small end all = record {
-  long = all.long;
-  fit = all.fit;
-  empty_behind = λ i far. elim (cases_lt i w) as (λ _. slice_index words i ≡ 0) [
-    | inl h ↦ same_from_set 64 (slice_index words i) 0 (all.fit i) (omega arith) (λ k bit. all.low i (omega arith) k bit ∙ le-ltb (64 * i + k) n (omega arith) ∙ sym (is_set-zero k))
-    | inr h ↦ get_or_past words i 0 (omega (arith, all.long))
-  ];
-}
+  pub AreWords-filled : (i : ℕ) (words : List ℕ) → ((q : ℕ) → 2 ^ 64 ≤ q → f q ≡ false) → FilledUpTo f w words i → AreWords w words
+  AreWords-filled i words none all = record {
+    long = all.long;
+    fit = all.fit;
+    empty_behind = λ j far. elim (cases_lt j i) as (λ _. slice_index words j ≡ 0) [
+      | inl h ↦ same_from_set 64 (slice_index words j) 0 (all.fit j) (omega arith) (λ k bit. all.low j h k bit ∙ none (64 * j + k) (omega arith) ∙ sym (is_set-zero k))
+      | inr h ↦ all.rest j h
+    ];
+  }
+
+-- ---- the first places
+
+pub first_is : (w m n : ℕ) (words : List ℕ) → n ≤ 64 * w → w ≤ m → FilledUpTo (λ q. nat_lt q n) w words m → members_of words ≡ first_places n
+first_is w m n words within end all = members_from _ _ (λ q.
+    filled_is (λ q. nat_lt q n) w m words (λ q far. le-ltb q n (omega arith)) all q ∙ sym (contains-first_places n q))
 
 -- the words of the three forms
 pub full_word : (i n k : ℕ) → k < 64 → i < n / 64 → is_set (2 ^ 64 - 1) k ≡ nat_lt (64 * i + k) n

@@ -1,8 +1,9 @@
 -- Sets of numbers: what `where_below` holds, the members as a rising list, the least member.
-use Rattle.std.proofs.Common.{◌≡◌, ℕ, zero, suc, ◌+◌, ◌<◌, ◌≤◌, Bool, true, false, cond, not, ◌&&◌, ◌||◌, nat_eq, nat_lt, List, [], ◌∷◌, ◌++◌, length, get_or, filter, All, Contains, inl, inr, refl, sym, ap, ◌∙◌, subst, arith, lt-ltb, eq-eqb, ne_eqb, le-ltb, add-one, add-zero, zero-add, length-append}
-use Rattle.std.proofs.lemmas.Bool.{cases_eq, cases_lt, false_from_ne_true}
+use Rattle.std.proofs.Common.{◌≡◌, ℕ, zero, suc, ◌+◌, ◌<◌, ◌≤◌, Bool, true, false, cond, not, ◌&&◌, ◌||◌, nat_eq, nat_lt, List, [], ◌∷◌, ◌++◌, length, slice_index, get_or, filter, All, Contains, inl, inr, refl, sym, ap, ◌∙◌, subst, arith, lt-ltb, eq-eqb, ne_eqb, le-ltb, add-one, add-zero, zero-add, length-append}
+use Rattle.std.proofs.lemmas.Bool.{cases_eq, cases_lt, cases_order, false_from_ne_true}
 use Rattle.std.proofs.lemmas.List.Elements.{All-contains, All-filter, All-from_get_or, filter_passes, filter-append, Contains-append_right, Contains-append_cases}
 use Rattle.std.proofs.lemmas.List.FromFn.{length-range_with_len, get_or-range_with_len}
+use Rattle.std.proofs.Math.Seq.{get_or-append_seam}
 use Rattle.std.specs.List.{range_with_len}
 use Rattle.std.proofs.lemmas.Bool.Decides.{nat_tests}
 use Rattle.std.specs.Ordering.{nat_cmp}
@@ -183,6 +184,46 @@ IsRising-split (y ∷ ys) zs p h =
     above_at : (x : ℕ) (ys zs : List ℕ) (p : ℕ) → AllAbove x (ys ++ p ∷ zs) → x < p
     above_at x [] zs p h = h.0
     above_at x (y ∷ ys) zs p h = above_at x ys zs p h.1
+
+-- ---- places in a rising list
+
+above_all : (x : ℕ) (xs : List ℕ) → AllAbove x xs → (j : ℕ) → j < length xs → x < slice_index xs j
+above_all x [] above j low = absurd (omega arith)
+above_all x (y ∷ ys) above zero low = above.0
+above_all x (y ∷ ys) above (suc j) low = above_all x ys above.1 j (omega arith)
+
+pub rising_at : (xs : List ℕ) → IsRising xs → (i j : ℕ) → i < j → j < length xs → slice_index xs i < slice_index xs j
+rising_at [] rising i j before low = absurd (omega arith)
+rising_at (x ∷ xs) rising i zero before low = absurd (omega arith)
+rising_at (x ∷ xs) rising zero (suc j) before low = above_all x xs rising.0 j (omega arith)
+rising_at (x ∷ xs) rising (suc i) (suc j) before low = rising_at xs rising.1 i j (omega arith) (omega arith)
+
+-- each number stands once
+pub rising_once : (xs : List ℕ) → IsRising xs → (i j : ℕ) → i < length xs → j < length xs → slice_index xs i ≡ slice_index xs j → i ≡ j
+rising_once xs rising i j low high same = elim (cases_order i j) as (λ _. i ≡ j) [
+  | inl is ↦ is
+  | inr (inl before) ↦ absurd (let less : slice_index xs i < slice_index xs j = rising_at xs rising i j before high in omega arith)
+  | inr (inr after) ↦ absurd (let less : slice_index xs j < slice_index xs i = rising_at xs rising j i after low in omega arith)
+]
+
+-- numbers lie at least as far apart as they stand apart
+pub rising_apart : (xs : List ℕ) → IsRising xs → (i d : ℕ) → i + d < length xs → slice_index xs i + d ≤ slice_index xs (i + d)
+rising_apart xs rising i zero low = let same : i + 0 ≡ i = omega arith in omega (arith, ap (slice_index xs) same)
+rising_apart xs rising i (suc d) low =
+    let before : slice_index xs i + d ≤ slice_index xs (i + d) = rising_apart xs rising i d (omega arith) in
+    let less : slice_index xs (i + d) < slice_index xs (i + suc d) = rising_at xs rising (i + d) (i + suc d) (omega arith) low in omega arith
+
+pub rising_at_least : (xs : List ℕ) → IsRising xs → (i : ℕ) → i < length xs → i ≤ slice_index xs i
+rising_at_least xs rising i low =
+    let first : slice_index xs 0 + i ≤ slice_index xs (0 + i) = rising_apart xs rising 0 i (omega arith) in
+    let same : 0 + i ≡ i = omega arith in
+    omega (arith, ap (slice_index xs) same)
+
+-- the number of a split list at the split
+pub at_split : (ps ys zs : List ℕ) (p : ℕ) → ys ++ p ∷ zs ≡ ps → slice_index ps (length ys) ≡ p
+at_split ps ys zs p e =
+    ap (λ xs. slice_index xs (length ys)) (sym e)
+    ∙ get_or-append_seam ys p zs 0
 
 -- one more place that passes the test
 pub len-where_below-suc : (f : ℕ → Bool) (n : ℕ) → set.len (where_below f (suc n)) ≡ cond (f n) 1 0 + set.len (where_below f n)

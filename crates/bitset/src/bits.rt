@@ -1,7 +1,7 @@
-ghost use Rattle.std.specs.Prelude.{◌≡◌, ℕ, ◌+◌, ◌-◌, ◌*◌, ◌^◌, ◌<◌, ◌≤◌, min, nat_lt, MatchOption};
+ghost use Rattle.std.specs.Prelude.{◌≡◌, ℕ, ◌+◌, ◌-◌, ◌*◌, ◌^◌, ◌<◌, ◌≤◌, ◌&&◌, not, min, nat_lt, true, length, MatchOption};
 ghost use Rattle.std.specs.Ordering.{nat_cmp};
 ghost use Rattle.std.specs.FinSet as set;
-ghost use Rattle.bitset.specs.Words.{is_set};
+ghost use Rattle.bitset.specs.Words.{is_set, is_place};
 ghost use Rattle.bitset.specs.Places.{IsLeast, IsWithin, first_places, places};
 
 use std::marker::Model;
@@ -130,6 +130,35 @@ impl<const W: usize> Bits<W> {
         Bits { words }
     }
 
+    /// The places that lie `by` below a place of the set. What is less than `by` drops out.
+    #[must_use]
+    pub fn lowered(&self, by: usize) -> Self
+        ensures { (p : ℕ) → set.contains result p ≡ set.contains self.now (p + by) }
+    {
+        let skipped = by / WORD;
+        let mut words = [0; W];
+        for i in skipped..W {
+            words[i - skipped] = bits_lowered(&self.words, i, by % WORD);
+        }
+        Bits { words }
+    }
+
+    /// The places that lie `by` above a place of the set. What would come to 64·W or more drops out; the sums fit
+    /// a `usize`.
+    #[must_use]
+    pub fn raised(&self, by: usize) -> Self
+        requires { (p : ℕ) → set.contains self.now p ≡ true → p + by < 2 ^ 64 }
+        ensures { (p : ℕ) → set.contains result p ≡
+            (nat_lt p (64 * W) && (not (nat_lt p by) && set.contains self.now (p - by))) }
+    {
+        let skipped = by / WORD;
+        let mut words = [0; W];
+        for i in skipped..W {
+            words[i] = bits_raised(&self.words, i - skipped, by % WORD);
+        }
+        Bits { words }
+    }
+
     /// How many places the set has.
     ///
     /// Where they are more than a `usize` holds, which no set in memory reaches, it is the largest `usize`.
@@ -178,6 +207,35 @@ fn low_bits(i: usize, n: usize) -> u64
         (1 << (n % WORD)) - 1
     } else {
         0
+    }
+}
+
+// The 64 bits that stand `by` places above those of word i, which are of this word and the next.
+fn bits_lowered(words: &[u64], i: usize, by: usize) -> u64
+    requires word { i < length words.now }
+    requires within { by < 64 }
+    ensures { (k : ℕ) → k < 64 → is_set result k ≡ is_place words.now (64 * i + k + by) }
+{
+    let here = words[i] >> by;
+    if by == 0 || i + 1 == words.len() {
+        here
+    } else {
+        here | words[i + 1] << (WORD - by)
+    }
+}
+
+// The 64 bits that stand `by` places below those of word i, which are of this word and the one before.
+fn bits_raised(words: &[u64], i: usize, by: usize) -> u64
+    requires word { i < length words.now }
+    requires within { by < 64 }
+    ensures { (k : ℕ) → k < 64 → is_set result k ≡
+        (not (nat_lt (64 * i + k) by) && is_place words.now (64 * i + k - by)) }
+{
+    let here = words[i] << by;
+    if by == 0 || i == 0 {
+        here
+    } else {
+        here | words[i - 1] >> (WORD - by)
     }
 }
 
