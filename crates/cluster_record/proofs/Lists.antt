@@ -10,32 +10,11 @@ use Rattle.std.specs.List.Sorted.{IsPermutation, IsNonDecreasing}
 use Rattle.std.specs.Cmp.{nat_eq_equiv}
 use Rattle.std.specs.Ordering.{nat_cmp}
 use Rattle.std.specs.FinSet as set
-use Rattle.bitset.specs.Places.{places, IsWithin, IsRising, AllAbove}
-use Rattle.bitset.specs.Sets.{IsRising-places, Contains-places, places-Contains, places-here}
+use Rattle.bitset.specs.Places.{places, IsWithin, IsRising}
+use Rattle.bitset.specs.Sets.{IsRising-places, Contains-places, places-Contains, places-here, rising_once, rising_at_least}
 use Rattle.graph_model.specs.Graphs.{Lists}
 use Rattle.cluster_record.specs.Clusters.{AreOnce}
 use Rattle.cluster_record.specs.Changes.{IsChosen}
-
-above_at : (x : ℕ) (xs : List ℕ) → AllAbove x xs → (j : ℕ) → j < length xs → x < slice_index xs j
-above_at x [] above j low = absurd (omega arith)
-above_at x (y ∷ ys) above zero low = above.0
-above_at x (y ∷ ys) above (suc j) low = above_at x ys above.1 j (omega arith)
-
-pub rising_at : (xs : List ℕ) → IsRising xs → (i j : ℕ) → i < j → j < length xs → slice_index xs i < slice_index xs j
-rising_at [] rising i j before low = absurd (omega arith)
-rising_at (x ∷ xs) rising i zero before low = absurd (omega arith)
-rising_at (x ∷ xs) rising zero (suc j) before low = above_at x xs rising.0 j (omega arith)
-rising_at (x ∷ xs) rising (suc i) (suc j) before low = rising_at xs rising.1 i j (omega arith) (omega arith)
-
--- in a rising list a number stands once
-pub rising_once : (xs : List ℕ) → IsRising xs → AreOnce xs
-rising_once xs rising p q low below same = elim (cases_order p q) [
-  | inl is ↦ is
-  | inr apart ↦ elim apart [
-    | inl before ↦ absurd (let less : slice_index xs p < slice_index xs q = rising_at xs rising p q before below in omega arith)
-    | inr after ↦ absurd (let less : slice_index xs q < slice_index xs p = rising_at xs rising q p after low in omega arith)
-  ]
-]
 
 pub Contains-map : {X Y : Type 0} (f : X → Y) (xs : List X) (x : X) → Contains xs x → Contains (map f xs) (f x)
 Contains-map f xs x here = (here.0, subst (λ n. here.0 < n) (sym (length-map xs f)) here.1, get_or-map f xs here.0 x (f x) here.1 ∙ ap f here.2)
@@ -94,15 +73,9 @@ once_few xs n rising within = elim (cases_order (length xs) 0) [
     | inl below ↦ omega arith
     | inr many ↦
         let last : slice_index xs (length xs - 1) < n = within (slice_index xs (length xs - 1)) (Contains-get_or xs (length xs - 1) 0 (omega arith)) in
-        let high : length xs - 1 ≤ slice_index xs (length xs - 1) = at_least xs rising (length xs - 1) (omega arith) in omega arith
+        let high : length xs - 1 ≤ slice_index xs (length xs - 1) = rising_at_least xs rising (length xs - 1) (omega arith) in omega arith
   ]
 ]
-  where
-    at_least : (xs : List ℕ) → IsRising xs → (i : ℕ) → i < length xs → i ≤ slice_index xs i
-    at_least xs rising zero low = omega arith
-    at_least xs rising (suc i) low =
-        let before : i ≤ slice_index xs i = at_least xs rising i (omega arith) in
-        let less : slice_index xs i < slice_index xs (suc i) = rising_at xs rising i (suc i) (omega arith) low in omega arith
 
 pub chosen_few : (n : ℕ) (names : List ℕ) (chosen : set.FinSet nat_cmp) → IsWithin (length names) chosen → length (places n chosen) ≤ length names
 chosen_few n names chosen within = once_few (places n chosen) (length names) (IsRising-places n chosen) (place_within n names chosen within)

@@ -1,20 +1,17 @@
 -- The loops that copy what is kept of the places of a set, numbered anew.
-use Rattle.std.proofs.Common.{◌≡◌, ℕ, zero, suc, ◌+◌, ◌<◌, ◌≤◌, Bool, true, false, cond, ◌&&◌, ◌||◌, nat_eq, List, [], ◌∷◌, ◌++◌, length, filter, slice_index, slice_index_or, inl, inr, refl, sym, ap, ap₂, ◌∙◌, subst, subst₂, arith, eq-eqb, ne_eqb, eqb-true, append_assoc, append-nil, length-append, true≢false}
+use Rattle.std.proofs.Common.{◌≡◌, ℕ, zero, suc, ◌+◌, ◌-◌, ◌<◌, ◌≤◌, Bool, true, false, cond, ◌&&◌, ◌||◌, nat_eq, List, [], ◌∷◌, ◌++◌, length, filter, slice_index, slice_index_or, inl, inr, refl, sym, ap, ap₂, ◌∙◌, subst, subst₂, arith, eq-eqb, ne_eqb, eqb-true, append_assoc, append-nil, length-append, true≢false}
 use Rattle.std.proofs.lemmas.Bool.{cases_eq, and_parts, or_cases, false_from_ne_true}
+use Rattle.std.proofs.Math.Bool.{and-true}
+use Rattle.std.proofs.lemmas.List.Elements.{Contains-get_or}
 use Rattle.std.proofs.lemmas.List.{get_or_append_left, get_or_push}
-use Rattle.std.proofs.Math.Seq.{get_or-append_seam}
 use Rattle.std.specs.List.{range_with_len}
 use Rattle.std.specs.Ordering.{nat_cmp}
 use Rattle.std.specs.FinSet as fin
-use Rattle.bitset.specs.Places.{IsWithin}
-use Rattle.bitset.specs.Sets.{len-places, contains-insert, contains-empty}
-use Rattle.dep_graph.specs.Changes.{Copies, IsRenumbered}
-
--- the number of a split list at the split
-pub here_in : (ps ys zs : List ℕ) (p : ℕ) → ys ++ p ∷ zs ≡ ps → slice_index ps (length ys) ≡ p
-here_in ps ys zs p e =
-    ap (λ xs. slice_index xs (length ys)) (sym e)
-    ∙ get_or-append_seam ys p zs 0
+use Rattle.bitset.specs.Places.{IsWithin, places}
+use Rattle.bitset.specs.Sets.{len-places, places-Contains, contains-insert, contains-intersection, contains-empty, at_split}
+use Rattle.dep_graph.specs.Changes.{Copies, CopiesSets, IsRenumbered}
+use Rattle.dep_graph.specs.Moves.{ChangesFrom}
+use Rattle.dep_graph.specs.Rows.{set_at}
 
 filter_le : (f : ℕ → Bool) (a n : ℕ) → length (filter f (range_with_len a n)) ≤ n
 filter_le f a zero = omega arith
@@ -46,7 +43,7 @@ module _ {X : Type 0} (d : X) (Made : ℕ → X → Type 0) (ps : List ℕ) (old
     kept = λ q low. ap (λ xs. slice_index_or xs q d) is ∙ get_or_append_left new (x ∷ []) d q (omega (arith, h.long)) ∙ h.kept q low;
     made = λ i low. elim (cases_eq i (length ys)) as (λ _. Made (slice_index ps i) (slice_index_or new' (length old + i) d)) [
       | inl same ↦
-          let place : slice_index ps i ≡ p = ap (slice_index ps) same ∙ here_in ps ys zs p (ap (λ xs. ys ++ xs) (sym e) ∙ h.split) in
+          let place : slice_index ps i ≡ p = ap (slice_index ps) same ∙ at_split ps ys zs p (ap (λ xs. ys ++ xs) (sym e) ∙ h.split) in
           let item : slice_index_or new' (length old + i) d ≡ x =
           ap (λ xs. slice_index_or xs (length old + i) d) is
           ∙ get_or_push new x d (length old + i) (omega (arith, h.long)) in
@@ -65,6 +62,29 @@ module _ {X : Type 0} (d : X) (Made : ℕ → X → Type 0) (ps : List ℕ) (old
         kept = h.kept;
         made = λ i low. h.made i (omega (arith, ap length seen));
       }
+
+-- ---- copies of sets, of which what lies within is kept, and then numbered anew
+
+module _ (n : ℕ) (from : List (fin.FinSet nat_cmp)) (within : fin.FinSet nat_cmp) (old mid : List (fin.FinSet nat_cmp)) (met : Copies fin.empty (λ p s. s ≡ fin.intersection (set_at from p) within) (places n within) old mid) where
+  pub met_within : (i p : ℕ) → length old ≤ i → i < length mid → fin.contains (set_at mid i) p ≡ true → fin.contains within p ≡ true
+  met_within i p after inside held =
+      let at : length old + (i - length old) ≡ i = omega arith in
+      let is : set_at mid i ≡ fin.intersection (set_at from (slice_index (places n within) (i - length old))) within = ap (set_at mid) (sym at) ∙ met.made (i - length old) (omega (arith, met.long)) in
+      (and_parts _ _ (sym (contains-intersection _ within p) ∙ ap (λ s. fin.contains s p) (sym is) ∙ held)).1
+
+  pub met_renumbered : (new : List (fin.FinSet nat_cmp)) → ChangesFrom (IsRenumbered (places n within) (length old)) (length old) mid new → CopiesSets from (places n within) old new
+  met_renumbered new numbered = record {
+    long = numbered.long ∙ met.long;
+    kept = λ p low. numbered.kept p low ∙ met.kept p low;
+    made = λ i low. let is : IsRenumbered (places n within) (length old) (set_at mid (length old + i)) (set_at new (length old + i)) = numbered.changed (length old + i) (omega arith) (omega (arith, met.long)) in record {
+      here = λ j below.
+          is.here j below ∙ ap (λ s. fin.contains s (slice_index (places n within) j)) (met.made i low)
+          ∙ contains-intersection (set_at from (slice_index (places n within) i)) within (slice_index (places n within) j)
+          ∙ ap (λ b. fin.contains (set_at from (slice_index (places n within) i)) (slice_index (places n within) j) && b) (places-Contains n within _ (Contains-get_or (places n within) j 0 below)).1
+          ∙ and-true (fin.contains (set_at from (slice_index (places n within) i)) (slice_index (places n within) j));
+      only = is.only;
+    };
+  }
 
 -- ---- the numbers of the places of a set
 
@@ -95,7 +115,7 @@ module _ (ps : List ℕ) (first : ℕ) (s : fin.FinSet nat_cmp) where
       | inl same ↦
           tells (first + i) ∙ ap₂ (λ a b. (fin.contains s p && a) || b) (eq-eqb (first + i) number (omega (arith, h.number_is))) (fresh (first + i) (omega arith))
           ∙ only_first (fin.contains s p)
-          ∙ ap (fin.contains s) (sym (ap (slice_index ps) same ∙ here_in ps ys zs p (ap (λ xs. ys ++ xs) (sym e) ∙ h.split)))
+          ∙ ap (fin.contains s) (sym (ap (slice_index ps) same ∙ at_split ps ys zs p (ap (λ xs. ys ++ xs) (sym e) ∙ h.split)))
       | inr other ↦
           let before : i < length ys = omega (arith, length-append ys (p ∷ [])) in
           tells (first + i) ∙ ap (λ a. (fin.contains s p && a) || fin.contains t (first + i)) (ne_eqb (first + i) number (λ f. omega (arith, h.number_is)))

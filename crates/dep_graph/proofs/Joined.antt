@@ -1,11 +1,11 @@
 -- Two graphs side by side, with their places numbered anew.
-use Rattle.std.proofs.Common.{◌≡◌, ℕ, zero, suc, ◌+◌, ◌-◌, ◌<◌, ◌≤◌, Bool, true, false, cond, ◌&&◌, ◌⊎◌, nat_lt, List, [], ◌∷◌, length, slice_index, slice_index_or, inl, inr, refl, sym, ap, ap₂, ◌∙◌, subst, subst₂, arith, lt-ltb, ltb-true}
-use Rattle.std.proofs.lemmas.Bool.{cases_lt, cases_order, and_parts, false_from_ne_true}
+use Rattle.std.proofs.Common.{◌≡◌, ℕ, ◌+◌, ◌-◌, ◌<◌, ◌≤◌, Bool, true, false, cond, ◌&&◌, ◌⊎◌, nat_lt, List, [], length, slice_index, slice_index_or, inl, inr, refl, sym, ap, ap₂, ◌∙◌, subst, subst₂, arith, lt-ltb, ltb-true}
+use Rattle.std.proofs.lemmas.Bool.{cases_lt, and_parts, false_from_ne_true}
 use Rattle.std.proofs.lemmas.List.Elements.{Contains-get_or}
 use Rattle.std.specs.Ordering.{nat_cmp}
 use Rattle.std.specs.FinSet as fin
-use Rattle.bitset.specs.Places.{IsWithin, IsRising, AllAbove, first_places, places}
-use Rattle.bitset.specs.Sets.{contains-first_places, places-Contains}
+use Rattle.bitset.specs.Places.{IsWithin, IsRising, first_places, places}
+use Rattle.bitset.specs.Sets.{contains-first_places, places-Contains, rising_once}
 use Rattle.fee_rate.specs.declared.rates.FeeRate.{FeeRate}
 use Rattle.dep_graph.specs.Graph.{Graph, rate_of, is_ancestor, no_rate, IsOrder, IsMerged, IsPart}
 use Rattle.dep_graph.specs.Rows.{rate_at, set_at, graph_from, above, IsKept}
@@ -13,26 +13,7 @@ use Rattle.dep_graph.specs.Changes.{Copies, CopiesRates, CopiesSets, IsRenumbere
 use Rattle.dep_graph.proofs.Kept.{is_member-graph_from, rate_of-graph_from, is_ancestor-graph_from, is_ancestor-kept, kept_within}
 use Rattle.dep_graph.proofs.Changed.{rate_of-kept}
 
--- ---- rising lists
-
-above_all : (x : ℕ) (xs : List ℕ) (i : ℕ) → AllAbove x xs → i < length xs → x < slice_index xs i
-above_all x [] i h low = absurd (omega arith)
-above_all x (y ∷ ys) zero h low = h.0
-above_all x (y ∷ ys) (suc i) h low = above_all x ys i h.1 (omega arith)
-
-rising : (xs : List ℕ) (i j : ℕ) → IsRising xs → i < j → j < length xs → slice_index xs i < slice_index xs j
-rising [] i j h low high = absurd (omega arith)
-rising (x ∷ xs) i zero h low high = absurd (omega arith)
-rising (x ∷ xs) zero (suc j) h low high = above_all x xs j h.0 (omega arith)
-rising (x ∷ xs) (suc i) (suc j) h low high = rising xs i j h.1 (omega arith) (omega arith)
-
--- each stands once
-once : (xs : List ℕ) (i j : ℕ) → IsRising xs → i < length xs → j < length xs → slice_index xs i ≡ slice_index xs j → i ≡ j
-once xs i j h low high e = elim (cases_order i j) as (λ _. i ≡ j) [
-  | inl same ↦ same
-  | inr (inl less) ↦ absurd (let up : slice_index xs i < slice_index xs j = rising xs i j h less high in omega arith)
-  | inr (inr more) ↦ absurd (let up : slice_index xs j < slice_index xs i = rising xs j i h more low in omega arith)
-]
+-- ---- copies
 
 pub places_in : (n : ℕ) (s members : fin.FinSet nat_cmp) → ((p : ℕ) → fin.contains s p ≡ true → fin.contains members p ≡ true) → (i : ℕ) → i < length (places n s) → fin.contains members (slice_index (places n s) i) ≡ true
 places_in n s members all i low = all _ (places-Contains n s (slice_index (places n s) i) (Contains-get_or (places n s) i 0 low)).1
@@ -166,13 +147,13 @@ module _ (n : ℕ)
           ∙ h₂.order.transitive (slice_index qs s.a) (slice_index qs s.b) (slice_index qs t.b) s.is (subst (λ x. above m₂ u₂ (slice_index qs x) (slice_index qs t.b) ≡ true) same t.is)
 
       apart : (i j : ℕ) → Related i j ⊎ Related' i j → Related j i ⊎ Related' j i → i ≡ j
-      apart i j (inl s) (inl t) = once ps i j ps_rise s.one.0 s.one.1 (h₁.order.antisymmetric (slice_index ps i) (slice_index ps j) s.is t.is)
+      apart i j (inl s) (inl t) = rising_once ps ps_rise i j s.one.0 s.one.1 (h₁.order.antisymmetric (slice_index ps i) (slice_index ps j) s.is t.is)
       apart i j (inl s) (inr t) = absurd (omega (arith, s.one.1, t.at.0))
       apart i j (inr s) (inl t) = absurd (omega (arith, s.at.1, t.one.0))
       apart i j (inr s) (inr t) =
           let one : t.a ≡ s.b = omega (arith, s.at.1, t.at.0) in
           let two : t.b ≡ s.a = omega (arith, s.at.0, t.at.1) in
-          let same : s.a ≡ s.b = once qs s.a s.b qs_rise s.low.0 s.low.1
+          let same : s.a ≡ s.b = rising_once qs qs_rise s.a s.b s.low.0 s.low.1
           (h₂.order.antisymmetric (slice_index qs s.a) (slice_index qs s.b) s.is (subst₂ (λ x y. above m₂ u₂ (slice_index qs x) (slice_index qs y) ≡ true) one two t.is)) in
           omega (arith, s.at.0, s.at.1)
 

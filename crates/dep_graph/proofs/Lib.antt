@@ -3,8 +3,10 @@ pub mod Changed
 pub mod Components
 pub mod Copying
 pub mod Covers
+pub mod Gaps
 pub mod Joined
 pub mod Kept
 pub mod Loops
+pub mod Moving
 pub mod Orders
 pub mod Pairs

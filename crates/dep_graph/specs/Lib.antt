@@ -1,5 +1,6 @@
 pub mod Changes
 pub mod Graph
 pub mod Laws
+pub mod Moves
 pub mod Rows
 pub mod Walks

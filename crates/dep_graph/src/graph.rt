@@ -4,8 +4,9 @@ ghost use Rattle.std.specs.FinMap as map;
 ghost use Rattle.bitset.specs.Places.{IsWithin, places};
 ghost use Rattle.dep_graph.specs.Graph.{is_member, rate_of, is_ancestor, members_of, ancestors_of, descendants_of, IsClosed, IsCover, IsNear, HoldsMembers, AddsPlace, AddsPair, SetsFee, DropsPlace, IsMerged, IsPart};
 ghost use Rattle.dep_graph.specs.Walks.{Walk};
-ghost use Rattle.dep_graph.specs.Changes.{ChangesAt, PutsAt, CopiesRates, CopiesSets, IsRenumbered, gives, takes};
+ghost use Rattle.dep_graph.specs.Changes.{ChangesAt, PutsAt, CopiesRates, CopiesSets, gives, takes};
 
+use crate::numbering::number_anew;
 use bitset::Bits;
 use fee_rate::FeeRate;
 use outside::NoMemory;
@@ -296,24 +297,8 @@ fn copy_sets<const W: usize>(
 {
     let first = sets.len();
     for place in within.iter() {
-        sets.push(renumbered(&from[place], within, first))?;
+        sets.push(from[place].meet(within))?;
     }
+    number_anew(sets, first, within);
     Ok(())
-}
-
-// The places of the set that `within` holds, where the places of `within` are numbered from `first` on.
-fn renumbered<const W: usize>(old: &Bits<W>, within: &Bits<W>, first: usize) -> Bits<W>
-    requires room { first + set.len within.now ≤ 64 * W }
-    requires fits { first + set.len within.now < 2 ^ 64 }
-    ensures { IsRenumbered (places (64 * W) within.now) first old.now result }
-{
-    let mut numbers = Bits::empty();
-    let mut number = first;
-    for place in within.iter() {
-        if old.has(place) {
-            numbers.insert(number);
-        }
-        number += 1;
-    }
-    numbers
 }

@@ -6,6 +6,7 @@
 
 mod graph;
 mod laws;
+mod numbering;
 
 pub use graph::DepGraph;
 pub use laws::{

@@ -1,4 +1,7 @@
-ghost use Rattle.std.specs.Prelude.{◌≡◌, ◌<◌, true};
+ghost use Rattle.std.specs.Prelude.{◌≡◌, ◌+◌, ◌*◌, ◌^◌, ◌<◌, ◌≤◌, true};
+ghost use Rattle.std.specs.FinSet as set;
+ghost use Rattle.bitset.specs.Places.{places};
+ghost use Rattle.dep_graph.specs.Changes.{IsRenumbered};
 ghost use Rattle.dep_graph.specs.Graph.{HoldsMembers, is_member};
 
 use crate::DepGraph;
@@ -9,8 +12,8 @@ use std::process::Abort;
 use std::test::Fail;
 
 // Whether a place is a member.
-fn is_in(graph: &DepGraph<1>, place: usize) -> bool
-    requires { place < 64 }
+fn is_in<const W: usize>(graph: &DepGraph<W>, place: usize) -> bool
+    requires { place < 64 * W }
     ensures { result ≡ is_member graph.now place }
 {
     graph.members().has(place)
@@ -26,14 +29,30 @@ fn all_but(graph: &DepGraph<1>, place: usize) -> Bits<1>
     rest
 }
 
-fn add(rt: &impl Abort, graph: &mut DepGraph<1>, fee: i64, size: u64) -> Result<usize, Fail> {
-    assert!(rt; graph.members().count() < 64);
+// The members that are in the set too.
+fn of_both(graph: &DepGraph<2>, set: &Bits<2>) -> Bits<2>
+    ensures { HoldsMembers graph.now result }
+{
+    graph.members().meet(set)
+}
+
+fn add<const W: usize>(
+    rt: &impl Abort,
+    graph: &mut DepGraph<W>,
+    fee: i64,
+    size: u64,
+) -> Result<usize, Fail>
+    requires { W ≤ 2 }
+{
+    assert!(rt; graph.members().count() < 64 * W);
     Ok(graph.add(fee, size)?)
 }
 
-fn link(rt: &impl Abort, graph: &mut DepGraph<1>, parent: usize, child: usize) {
-    assert!(rt; parent < 64);
-    assert!(rt; child < 64);
+fn link<const W: usize>(rt: &impl Abort, graph: &mut DepGraph<W>, parent: usize, child: usize)
+    requires { W ≤ 2 }
+{
+    assert!(rt; parent < 64 * W);
+    assert!(rt; child < 64 * W);
     assert!(rt; is_in(graph, parent));
     assert!(rt; is_in(graph, child));
     assert!(rt; !graph.would_cycle(parent, child));
@@ -97,5 +116,109 @@ fn places_are_numbered_anew(rt: HostRuntime) -> Result<(), Fail> {
     let rest = all_but(&whole, 3);
     assert!(rt; rest.has(5));
     assert_eq!(rt; whole.component(5, rest).count(), 3);
+    Ok(())
+}
+
+// The plain program of places numbered anew: one look at each place, for each set. Those of the set that `within`
+// holds, where the places of `within` are numbered from `first` on.
+fn renumbered<const W: usize>(old: &Bits<W>, within: &Bits<W>, first: usize) -> Bits<W>
+    requires room { first + set.len within.now ≤ 64 * W }
+    requires fits { first + set.len within.now < 2 ^ 64 }
+    ensures { IsRenumbered (places (64 * W) within.now) first old.now result }
+{
+    let mut numbers = Bits::empty();
+    let mut number = first;
+    for place in within.iter() {
+        if old.has(place) {
+            numbers.insert(number);
+        }
+        number += 1;
+    }
+    numbers
+}
+
+// The sets of these places, as the plain program numbers them from `first` on, are those of the numbered graph.
+fn compare(
+    rt: &impl Abort,
+    graph: &DepGraph<2>,
+    within: Bits<2>,
+    numbered: &DepGraph<2>,
+    first: usize,
+) {
+    assert!(rt; first <= 128);
+    assert!(rt; within.count() <= 128 - first);
+    let mut number = first;
+    for place in within.iter() {
+        assert!(rt; place < 128);
+        assert!(rt; number < 128);
+        assert!(rt; is_in(graph, place));
+        assert!(rt; is_in(numbered, number));
+        let up = renumbered(&graph.ancestors(place), &within, first);
+        assert!(rt; up.is_subset(&numbered.ancestors(number)));
+        assert!(rt; numbered.ancestors(number).is_subset(&up));
+        let down = renumbered(&graph.descendants(place), &within, first);
+        assert!(rt; down.is_subset(&numbered.descendants(number)));
+        assert!(rt; numbered.descendants(number).is_subset(&down));
+        number += 1;
+    }
+}
+
+// So many members, of which each but the first depends on the one at half its place.
+fn halves(rt: &impl Abort, alloc: Global, count: usize) -> Result<DepGraph<2>, Fail> {
+    let mut graph = DepGraph::new(alloc);
+    for place in 0..count {
+        add(rt, &mut graph, 1, 1)?;
+        if place > 0 {
+            link(rt, &mut graph, place / 2, place);
+        }
+    }
+    Ok(graph)
+}
+
+// Drops each place that leaves this remainder.
+fn thin(rt: &impl Abort, graph: &mut DepGraph<2>, divisor: usize, remainder: usize) {
+    assert!(rt; divisor > 0);
+    for place in 0..128 {
+        if place % divisor == remainder && is_in(graph, place) {
+            graph.remove_bridging(place);
+        }
+    }
+}
+
+// Places that lie as far apart as they can, or side by side but for one, at either end and across words.
+#[test]
+fn places_are_numbered_as_the_plain_program_does(rt: HostRuntime) -> Result<(), Fail> {
+    let whole = halves(&rt, rt.alloc(), 128)?;
+    let rows = [
+        (1, 0),
+        (2, 0),
+        (2, 1),
+        (3, 1),
+        (64, 63),
+        (127, 1),
+        (128, 127),
+    ];
+    for (divisor, remainder) in &rows {
+        let mut rest = halves(&rt, rt.alloc(), 128)?;
+        thin(&rt, &mut rest, *divisor, *remainder);
+        let within = of_both(&whole, &rest.members());
+        let part = whole.part(rt.alloc(), within)?;
+        compare(&rt, &whole, within, &part, 0);
+        let mut left = halves(&rt, rt.alloc(), 60)?;
+        thin(&rt, &mut left, *divisor, *remainder);
+        let mut right = halves(&rt, rt.alloc(), 68)?;
+        thin(&rt, &mut right, *divisor, *remainder);
+        assert!(rt; left.members().count() <= 60);
+        assert!(rt; right.members().count() <= 68);
+        let merged = left.merge(rt.alloc(), &right)?;
+        compare(&rt, &left, left.members(), &merged, 0);
+        compare(
+            &rt,
+            &right,
+            right.members(),
+            &merged,
+            left.members().count(),
+        );
+    }
     Ok(())
 }

@@ -4,4 +4,4 @@ use Rattle.dep_graph.proofs.Kept.{contains-members_of}
 use Rattle.dep_graph.proofs.tests.is_in.Goals as goal
 
 pub returns : goal.returns
-returns c = c.has.ensures ∙ ap (λ s. fin.contains s c.args.place) c.members.ensures.members ∙ contains-members_of c.args.graph.now c.args.place
+returns g c = c.has.ensures ∙ ap (λ s. fin.contains s c.args.place) c.members.ensures.members ∙ contains-members_of c.args.graph.now c.args.place

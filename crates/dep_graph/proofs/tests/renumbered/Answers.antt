@@ -3,8 +3,8 @@ use Rattle.std.specs.FinSet as fin
 use Rattle.bitset.specs.Places.{places}
 use Rattle.bitset.specs.Sets.{places-here, len-places}
 use Rattle.dep_graph.proofs.Copying.{Numbering-start, Numbering-more, Numbering-all, room_left}
-use Rattle.dep_graph.proofs.graph.renumbered.Goals as goal
-use Rattle.dep_graph.proofs.graph.renumbered.Goals.{then-has, else-has}
+use Rattle.dep_graph.proofs.tests.renumbered.Goals as goal
+use Rattle.dep_graph.proofs.tests.renumbered.Goals.{then-has, else-has}
 
 pub loop-place-init : goal.loop-place-init
 loop-place-init g c = Numbering-start (places (64 * g.row.W) c.args.within.now) c.args.first c.args.old.now _ _ c.empty-numbers.ensures (c.into_iter-place-iterator.ensures.into_iter_gives ∙ c.iter-place-items.ensures.places)

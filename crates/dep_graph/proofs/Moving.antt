@@ -1,0 +1,154 @@
+-- The loops that go over the places of a set, and those that change each set of a list from a number on.
+use Rattle.std.proofs.Common.{◌≡◌, ℕ, ◌+◌, ◌-◌, ◌*◌, ◌/◌, ◌%◌, ◌^◌, ◌<◌, ◌≤◌, Bool, true, false, cond, ◌||◌, nat_eq, List, [], ◌∷◌, ◌++◌, length, set, slice_index, inl, inr, refl, sym, ap, ◌∙◌, subst, subst₂, arith, eq-eqb, ne_eqb, eqb-true, append_assoc, append-nil, length-append, below_more, mod-eq_of_lt}
+use Rattle.std.proofs.Math.Nat.{div-mul-le_self}
+use Rattle.std.proofs.lemmas.Bool.{or_cases, false_from_ne_true}
+use Rattle.std.proofs.lemmas.List.{get_or-set_same, get_or-set_other, length-set}
+use Rattle.std.specs.Ordering.{nat_cmp}
+use Rattle.std.specs.FinSet as fin
+use Rattle.bitset.specs.Places.{IsRising}
+use Rattle.bitset.specs.Sets.{contains-insert, contains-empty, rising_at_least, at_split}
+use Rattle.dep_graph.specs.Moves.{gap, standing, has_power, ChangesFrom}
+use Rattle.dep_graph.specs.Rows.{set_at}
+use Rattle.dep_graph.proofs.Gaps.{gap_rises, standing_once, standing_below}
+
+-- ---- over the places of a set, which are ps: those of ys are behind, and `number` counts them
+
+pub record Counting (ps : List ℕ) (number : ℕ) (ys zs : List ℕ) : Type 0 where
+  pub split : ys ++ zs ≡ ps
+  pub number_is : number ≡ length ys
+
+-- of the first n places, as they stand, those that are moving
+pub record Choosing (ps : List ℕ) (power : ℕ) (s : fin.FinSet nat_cmp) (n : ℕ) : Type 0 where
+  pub here : (i : ℕ) → i < n → fin.contains s (standing ps power i) ≡ has_power ps power i
+  pub only : (k : ℕ) → fin.contains s k ≡ true → (i : ℕ) × (i < n) × (k ≡ standing ps power i)
+
+module _ (ps : List ℕ) (rise : IsRising ps) where
+  pub Counting-start : (zs : List ℕ) → zs ≡ ps → Counting ps 0 [] zs
+  Counting-start zs e = record { split = e; number_is = omega arith }
+
+  pub Counting-more : (number number' : ℕ) (ys ws zs : List ℕ) (p : ℕ) → Counting ps number ys ws → ws ≡ p ∷ zs → number' ≡ number + 1 → Counting ps number' (ys ++ p ∷ []) zs
+  Counting-more number number' ys ws zs p h e next = record {
+    split = append_assoc ys (p ∷ []) zs ∙ ap (λ xs. ys ++ xs) (sym e) ∙ h.split;
+    number_is = omega (arith, h.number_is, length-append ys (p ∷ []));
+  }
+
+  pub Counting-all : (number : ℕ) (ys ws : List ℕ) → Counting ps number ys ws → ws ≡ [] → length ys ≡ length ps
+  Counting-all number ys ws h e = ap length (sym (append-nil ys) ∙ ap (λ xs. ys ++ xs) (sym e) ∙ h.split)
+
+  module _ (number : ℕ) (ys ws zs : List ℕ) (p : ℕ) (h : Counting ps number ys ws) (e : ws ≡ p ∷ zs) where
+    -- p is the next place
+    pub next_is : slice_index ps number ≡ p
+    next_is = ap (slice_index ps) h.number_is ∙ at_split ps ys zs p (ap (λ xs. ys ++ xs) (sym e) ∙ h.split)
+
+    pub next_within : number < length ps
+    next_within = omega (arith, h.number_is, ap length h.split, length-append ys ws, ap length e)
+
+    pub next_low : number ≤ p
+    next_low = let up : number ≤ slice_index ps number = rising_at_least ps rise number next_within in omega (arith, next_is)
+
+    pub next_gap : p - number ≡ gap ps number
+    next_gap = omega (arith, next_is)
+
+    pub next_has_power : (power : ℕ) → has_power ps power number ≡ nat_eq ((p - number) / 2 ^ power % 2) 1
+    next_has_power power = ap (λ x. nat_eq (x / 2 ^ power % 2) 1) (sym next_gap)
+
+    -- where it stands
+    pub next_standing : (power : ℕ) → p < 2 ^ 64 → number + (p - number) / 2 ^ power * 2 ^ power % 2 ^ 64 ≡ standing ps power number
+    next_standing power fits =
+        let part : (p - number) / 2 ^ power * 2 ^ power ≤ p - number = div-mul-le_self (p - number) (2 ^ power) in
+        ap (λ x. number + x) (mod-eq_of_lt (omega arith) ∙ ap (λ x. x / 2 ^ power * 2 ^ power) next_gap)
+
+    pub next_stands_below : (power : ℕ) → standing ps power number ≤ p
+    next_stands_below power = omega (arith, standing_below ps rise power number next_within, next_is)
+
+  -- ---- the greatest gap
+
+  pub greatest_more : (number greatest : ℕ) (ys : List ℕ) (p : ℕ) → number ≡ length ys → number < length ps → greatest ≡ gap ps number → (i : ℕ) → i < length (ys ++ p ∷ []) → gap ps i ≤ greatest
+  greatest_more number greatest ys p is low last i before =
+      let rises : gap ps i ≤ gap ps number = gap_rises ps rise i number (omega (arith, length-append ys (p ∷ []))) low in omega arith
+
+  -- ---- the places that are moving
+
+  pub Choosing-start : (power : ℕ) (s : fin.FinSet nat_cmp) → s ≡ fin.empty → Choosing ps power s 0
+  Choosing-start power s none = record {
+    here = λ i h. absurd (omega arith);
+    only = λ k f. absurd (let both : true ≡ false = sym f ∙ ap (λ s. fin.contains s k) none ∙ contains-empty k in cc);
+  }
+
+  pub Choosing-more : (power : ℕ) (s s' : fin.FinSet nat_cmp) (n : ℕ) → n < length ps → Choosing ps power s n → s' ≡ cond (has_power ps power n) (fin.insert s (standing ps power n)) s → Choosing ps power s' (n + 1)
+  Choosing-more power s s' n low h is = record {
+    here = below_more (λ i. fin.contains s' (standing ps power i) ≡ has_power ps power i) n
+        (λ i before. tells (standing ps power i) ∙ other i before ∙ h.here i before)
+        (tells (standing ps power n) ∙ ap (λ a. cond (has_power ps power n) (a || fin.contains s (standing ps power n)) (fin.contains s (standing ps power n))) (eq-eqb _ _ refl) ∙ ap (λ a. cond (has_power ps power n) true a) fresh ∙ itself (has_power ps power n));
+    only = λ k f. from k (has_power ps power n) refl (sym (tells k) ∙ f);
+  }
+    where
+      one : (b : Bool) (k : ℕ) → fin.contains (cond b (fin.insert s (standing ps power n)) s) k ≡ cond b (nat_eq k (standing ps power n) || fin.contains s k) (fin.contains s k)
+      one true k = contains-insert s (standing ps power n) k
+      one false k = refl
+
+      tells : (k : ℕ) → fin.contains s' k ≡ cond (has_power ps power n) (nat_eq k (standing ps power n) || fin.contains s k) (fin.contains s k)
+      tells k = ap (λ s. fin.contains s k) is ∙ one (has_power ps power n) k
+
+      itself : (b : Bool) → cond b true false ≡ b
+      itself true = refl
+      itself false = refl
+
+      same : (b : Bool) (x : Bool) → cond b x x ≡ x
+      same true x = refl
+      same false x = refl
+
+      other : (i : ℕ) → i < n → cond (has_power ps power n) (nat_eq (standing ps power i) (standing ps power n) || fin.contains s (standing ps power i)) (fin.contains s (standing ps power i)) ≡ fin.contains s (standing ps power i)
+      other i before =
+          ap (λ a. cond (has_power ps power n) (a || fin.contains s (standing ps power i)) (fin.contains s (standing ps power i)))
+          (ne_eqb (standing ps power i) (standing ps power n) (λ e. let apart : i ≡ n = standing_once ps rise power i n (omega arith) low e in omega arith))
+          ∙ same (has_power ps power n) (fin.contains s (standing ps power i))
+
+      fresh : fin.contains s (standing ps power n) ≡ false
+      fresh = false_from_ne_true _ (λ f. let at : (i : ℕ) × (i < n) × (standing ps power n ≡ standing ps power i) = h.only _ f in
+          let apart : n ≡ at.0 = standing_once ps rise power n at.0 low (omega (arith, at.1)) at.2 in omega (arith, at.1))
+
+      longer : (k : ℕ) → fin.contains s k ≡ true → (i : ℕ) × (i < n + 1) × (k ≡ standing ps power i)
+      longer k f = let at : (i : ℕ) × (i < n) × (k ≡ standing ps power i) = h.only k f in (at.0, omega (arith, at.1), at.2)
+
+      from : (k : ℕ) (b : Bool) → has_power ps power n ≡ b → cond b (nat_eq k (standing ps power n) || fin.contains s k) (fin.contains s k) ≡ true → (i : ℕ) × (i < n + 1) × (k ≡ standing ps power i)
+      from k true e f = elim (or_cases (nat_eq k (standing ps power n)) (fin.contains s k) f) as (λ _. (i : ℕ) × (i < n + 1) × (k ≡ standing ps power i)) [
+        | inl new ↦ (n, omega arith, eqb-true k (standing ps power n) new)
+        | inr old ↦ longer k old
+      ]
+      from k false e f = longer k f
+
+-- ---- over the sets of a list, from `first` on up to i
+
+pub record Changing (Becomes : fin.FinSet nat_cmp → fin.FinSet nat_cmp → Type 0) (first : ℕ) (old new : List (fin.FinSet nat_cmp)) (i : ℕ) : Type 0 where
+  pub long : length new ≡ length old
+  pub kept : (j : ℕ) → j < first → set_at new j ≡ set_at old j
+  pub changed : (j : ℕ) → first ≤ j → j < i → Becomes (set_at old j) (set_at new j)
+  pub rest : (j : ℕ) → i ≤ j → set_at new j ≡ set_at old j
+
+module _ (Becomes : fin.FinSet nat_cmp → fin.FinSet nat_cmp → Type 0) (first : ℕ) (old : List (fin.FinSet nat_cmp)) where
+  pub Changing-start : Changing Becomes first old old first
+  Changing-start = record { long = refl; kept = λ j h. refl; changed = λ j after before. absurd (omega arith); rest = λ j h. refl }
+
+  pub Changing-more : (new : List (fin.FinSet nat_cmp)) (i : ℕ) (s t : fin.FinSet nat_cmp) → first ≤ i → i < length new → s ≡ set_at new i → Becomes s t → Changing Becomes first old new i → Changing Becomes first old (set new i t) (i + 1)
+  Changing-more new i s t after inside is becomes h = record {
+    long = length-set new i t ∙ h.long;
+    kept = λ j low. get_or-set_other new i j t fin.empty (λ e. omega arith) ∙ h.kept j low;
+    changed = λ j from before. below_more (λ j. first ≤ j → Becomes (set_at old j) (set_at (set new i t) j)) i
+        (λ j before from. subst (Becomes (set_at old j)) (sym (get_or-set_other new i j t fin.empty (λ e. omega arith))) (h.changed j from before))
+        (λ _. subst₂ Becomes (is ∙ h.rest i (omega arith)) (sym (get_or-set_same new i t fin.empty inside)) becomes)
+        j before from;
+    rest = λ j behind. get_or-set_other new i j t fin.empty (λ e. omega arith) ∙ h.rest j (omega arith);
+  }
+
+  pub Changing-all : (new : List (fin.FinSet nat_cmp)) (i : ℕ) → length new ≤ i → Changing Becomes first old new i → ChangesFrom Becomes first old new
+  Changing-all new i end h = record { long = h.long; kept = h.kept; changed = λ j from inside. h.changed j from (omega (arith, h.long)) }
+
+-- one change, and then another
+pub ChangesFrom-then : (First Second Both : fin.FinSet nat_cmp → fin.FinSet nat_cmp → Type 0) (first : ℕ) (old mid new : List (fin.FinSet nat_cmp)) → ((s t u : fin.FinSet nat_cmp) → First s t → Second t u → Both s u)
+    → ChangesFrom First first old mid → ChangesFrom Second first mid new → ChangesFrom Both first old new
+ChangesFrom-then First Second Both first old mid new both one two = record {
+  long = two.long ∙ one.long;
+  kept = λ j low. two.kept j low ∙ one.kept j low;
+  changed = λ j from inside. both _ _ _ (one.changed j from inside) (two.changed j from (omega (arith, one.long)));
+}
