@@ -1,7 +1,6 @@
 ghost use Rattle.std.specs.Prelude.{◌≡◌, ◌≢◌, ℕ, ◌<◌, ◌≤◌, [], length, nat_eq, Contains, MatchBool, MatchResult, Some};
 ghost use Rattle.std.specs.HashMap as hash;
-ghost use Rattle.fee_rate.specs.Limits.{IsRate, IsSum};
-ghost use Rattle.fee_rate.specs.Rates.{AtMost, Below};
+ghost use Rattle.fee_rate.specs.Limits.{IsRate};
 ghost use Rattle.graph_model.specs.Rates.{Falls, sums};
 ghost use Rattle.graph_model.specs.Certificates.{HasFalling, rate_in};
 ghost use Rattle.certificate.specs.declared.fault.CheckFault.TheVariants.{Falling};
@@ -13,9 +12,8 @@ ghost use Rattle.certificate.specs.Tables.{AreInLimits, names_of};
 
 use crate::names::{Names, find};
 use crate::{CheckFault, Part};
-use fee_rate::{FeeRate, Sum, add, cmp_rate};
+use fee_rate::{FeeRate, Sum, add, is_below};
 use graph_model::TxId;
-use std::cmp::Ordering;
 
 /// Whether the parts have the fees and sizes of their names, and rates that fall.
 pub(crate) fn check_falling(
@@ -72,21 +70,6 @@ fn is_same(a: Sum, b: Sum) -> bool
     ensures { MatchBool result (a ≡ b) (a ≢ b) }
 {
     a.fee == b.fee && a.size == b.size
-}
-
-/// Whether the first rate is the lower one.
-fn is_below(a: Sum, b: Sum) -> bool
-    requires a_in { IsSum a }
-    requires b_in { IsSum b }
-    requires a_some { 1 ≤ a.size }
-    requires b_some { 1 ≤ b.size }
-    ensures { MatchBool result (Below a b) (AtMost b a) }
-{
-    match cmp_rate(a, b) {
-        Ordering::Less => true,
-        Ordering::Equal => false,
-        Ordering::Greater => false,
-    }
 }
 
 /// The total fee and size of names.

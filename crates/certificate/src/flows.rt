@@ -1,4 +1,4 @@
-ghost use Rattle.std.specs.Prelude.{◌≡◌, ◌≢◌, ℕ, ◌*◌, ◌^◌, ◌*ℤ◌, ◌<◌, ◌≤◌, [], ◌∷◌, pos, length, nat_eq, Contains, unsigned_abs, IfOk, IfErr, MatchBool, MatchResult, FitsSigned, slice_set, ◌+ℤ◌, ◌-ℤ◌};
+ghost use Rattle.std.specs.Prelude.{◌≡◌, ℕ, ◌*◌, ◌^◌, ◌*ℤ◌, ◌<◌, ◌≤◌, pos, length, nat_eq, Contains, unsigned_abs, MatchBool, MatchResult, FitsSigned, slice_set, ◌+ℤ◌, ◌-ℤ◌};
 ghost use Rattle.std.specs.Int.{w128};
 ghost use Rattle.std.specs.HashMap as hash;
 ghost use Rattle.fee_rate.specs.Limits.{InRange, IsRate, IsSum};

@@ -1,4 +1,4 @@
-ghost use Rattle.std.specs.Prelude.{◌≡◌, length, IfOk, IfErr, MatchBool};
+ghost use Rattle.std.specs.Prelude.{IfOk, IfErr, MatchBool};
 ghost use Rattle.graph_model.specs.Certificates.{HasGraph};
 ghost use Rattle.graph_model.specs.Limits.{IsFee, IsSize};
 ghost use Rattle.certificate.specs.declared.fault.CheckFault.TheVariants.{Graph};
@@ -8,7 +8,7 @@ ghost use Rattle.certificate.specs.Tables.{AreInLimits, AreTables};
 use crate::CheckFault;
 use crate::cycles::no_cycle;
 use crate::names::{Edges, Names, edge_set, ends, positions};
-use graph_model::TxId;
+use graph_model::{TxId, is_fee, is_size};
 use std::alloc::Global;
 
 /// What the later tests look up.
@@ -63,14 +63,5 @@ fn are_in_limits(txs: &[(TxId, i64, u64)]) -> bool
 fn is_in_limits(tx: &(TxId, i64, u64)) -> bool
     ensures { MatchBool result (IsFee tx.now.1 × IsSize tx.now.2) (IsFee tx.now.1 × IsSize tx.now.2 → ⊥) }
 {
-    if tx.1 < -2_100_000_000_000_000 {
-        return false;
-    }
-    if tx.1 > 2_100_000_000_000_000 {
-        return false;
-    }
-    if tx.2 < 1 {
-        return false;
-    }
-    tx.2 <= 4_000_000
+    is_fee(tx.1) && is_size(tx.2)
 }

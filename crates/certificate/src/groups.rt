@@ -1,4 +1,4 @@
-ghost use Rattle.std.specs.Prelude.{◌≡◌, ◌≢◌, ◌+◌, ◌<◌, ◌≤◌, [], ◌∷◌, ◌++◌, length, map, slice_index, slice_set, IfOk, OnOk};
+ghost use Rattle.std.specs.Prelude.{◌≡◌, ◌+◌, ◌<◌, ◌≤◌, [], ◌∷◌, ◌++◌, length, map, slice_index, slice_set, IfOk, OnOk};
 ghost use Rattle.certificate.specs.Chains.{AreChains};
 ghost use Rattle.certificate.specs.Groups.{AreGroups, AreOfGroup, AreWithin, GoBothWays, GoesOn, HasGroup};
 ghost use Rattle.certificate.specs.Groups.{IsGrouping, turned, work_of};

@@ -1,4 +1,4 @@
-ghost use Rattle.std.specs.Prelude.{◌≡◌, ◌↔◌, ℕ, List, map, nat_eq, IfOk, IfErr, MatchResult, Contains, IsTrue, ◌&&◌};
+ghost use Rattle.std.specs.Prelude.{◌≡◌, ◌↔◌, ℕ, List, map, nat_eq, IfOk, IfErr, Contains, IsTrue, ◌&&◌};
 ghost use Rattle.std.specs.HashMap as hash;
 ghost use Rattle.std.specs.HashSet as bag;
 ghost use Rattle.graph_model.specs.Graphs.{AreDistinct};

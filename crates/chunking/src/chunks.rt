@@ -1,9 +1,7 @@
-ghost use Rattle.std.specs.Prelude.{◌^◌, ◌≡◌, ◌+◌, ◌<◌, ◌≤◌, length, take, All, MatchBool};
-ghost use Rattle.fee_rate.specs.Limits.{IsRate, IsSum};
-ghost use Rattle.fee_rate.specs.Rates.{AtMost, Below};
+ghost use Rattle.std.specs.Prelude.{◌^◌, ◌≡◌, ◌+◌, ◌<◌, ◌≤◌, length, take, All};
+ghost use Rattle.fee_rate.specs.Limits.{IsRate};
 
-use fee_rate::{FeeRate, Sum, add, cmp_rate};
-use std::cmp::Ordering;
+use fee_rate::{FeeRate, Sum, add, is_below};
 
 /// A part of an order: it begins where the part before it ends, or at the order's beginning.
 #[derive(Clone, Copy, Debug, PartialEq, Eq)]
@@ -57,19 +55,4 @@ fn put(rates: &[FeeRate], at: usize, out: &mut [Chunk], count: usize) -> usize
     }
     out[left] = Chunk { end: at + 1, sum };
     left + 1
-}
-
-/// Whether the first rate is the lower one.
-fn is_below(a: Sum, b: Sum) -> bool
-    requires a_in { IsSum a }
-    requires b_in { IsSum b }
-    requires a_some { 1 ≤ a.size }
-    requires b_some { 1 ≤ b.size }
-    ensures { MatchBool result (Below a b) (AtMost b a) }
-{
-    match cmp_rate(a, b) {
-        Ordering::Less => true,
-        Ordering::Equal => false,
-        Ordering::Greater => false,
-    }
 }

@@ -1,4 +1,4 @@
-ghost use Rattle.std.specs.Prelude.{◌≡◌, ℕ, ◌+◌, ◌*◌, ◌^◌, ◌<◌, true, false, length, pos, ◌+ℤ◌, ◌≤ℤ◌, ◌<ℤ◌, IfSome};
+ghost use Rattle.std.specs.Prelude.{◌≡◌, ℕ, ◌+◌, ◌*◌, ◌^◌, ◌<◌, true, false, pos, ◌+ℤ◌, ◌≤ℤ◌, ◌<ℤ◌, IfSome};
 ghost use Rattle.std.specs.FinSet as set;
 ghost use Rattle.bitset.specs.Places.{places};
 ghost use Rattle.closure_flow.specs.Closures.{HasEach, parents_at};

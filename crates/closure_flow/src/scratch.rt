@@ -1,4 +1,4 @@
-ghost use Rattle.std.specs.Prelude.{ℕ, ◌*◌};
+ghost use Rattle.std.specs.Prelude.{ℕ};
 
 use crate::Queue;
 use crate::network::Network;
@@ -16,7 +16,7 @@ pub struct Scratch<const W: usize> {
 }
 
 impl<const W: usize> Scratch<W> {
-    ghost use Rattle.std.specs.Prelude.{◌≡◌, ℕ, ◌*◌, IfOk};
+    ghost use Rattle.std.specs.Prelude.{◌≡◌, ℕ, IfOk};
     ghost use Rattle.closure_flow.specs.Scratches.{flow_of};
 
     /// Room for 64·W places, in which nothing flows.

@@ -1,4 +1,4 @@
-ghost use Rattle.std.specs.Prelude.{◌≡◌, ◌+◌, ◌*◌, ◌^◌, ◌<◌, ◌≤◌, length, pos, unsigned_abs, sum_by};
+ghost use Rattle.std.specs.Prelude.{◌≡◌, ◌*◌, ◌^◌, ◌<◌, ◌≤◌, length, pos, unsigned_abs, sum_by};
 ghost use Rattle.arithmetic.specs.Sums.{total};
 
 use crate::{Outcome, Scratch, solve};

@@ -1,10 +1,10 @@
 ghost use Rattle.std.specs.Prelude.{◌≡◌, ℕ, ◌+◌, ◌*◌, ◌<◌, ◌≤◌, ◌++◌, true, false, length, slice_index, map, sum_by, All, Contains, IfOk, OnOk};
 ghost use Rattle.std.specs.FinSet as set;
 ghost use Rattle.bitset.specs.Places.{IsWithin, places};
-ghost use Rattle.dep_graph.specs.Graph.{is_ancestor, is_member, rate_of, AddsPair, SetsFee, IsNear};
+ghost use Rattle.dep_graph.specs.Graph.{is_ancestor, rate_of, AddsPair, SetsFee, IsNear};
 ghost use Rattle.dep_graph.specs.Walks.{Walk};
 ghost use Rattle.graph_model.specs.Graphs.{Lists};
-ghost use Rattle.cluster_record.specs.Clusters.{IsCluster, AreOnce, AreApart, AreLinked};
+ghost use Rattle.cluster_record.specs.Clusters.{IsCluster, AreOnce, AreApart};
 ghost use Rattle.cluster_record.specs.Named.{named, IsNamed};
 ghost use Rattle.cluster_record.specs.Changes.{IsSingle, Joins, IsChosen, IsPartOf, IsSplit};
 

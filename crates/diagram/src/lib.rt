@@ -3,7 +3,7 @@
 //! A corner is a size, in virtual bytes, and the fee there, in satoshis. Nothing here takes memory.
 #![tactic(auto)]
 
-ghost use Rattle.std.specs.Prelude.{◌≡◌, List};
+ghost use Rattle.std.specs.Prelude.{List};
 ghost use Rattle.std.specs.Iterator.{IsFinite};
 ghost use Rattle.fee_rate.specs.declared.rates.Sum.{Sum};
 ghost use Rattle.graph_model.specs.Diagrams.{corners_of, JoinsEqualRates};

@@ -1,4 +1,4 @@
-ghost use Rattle.std.specs.Prelude.{◌≡◌, ◌≤◌, ◌↔◌, ◌+◌, ◌+ℤ◌, map, IfSome, IsTrue};
+ghost use Rattle.std.specs.Prelude.{◌↔◌, ◌+◌, ◌+ℤ◌, map, IfSome, IsTrue};
 ghost use Rattle.fee_rate.specs.Limits.{InRange, IsSum};
 ghost use Rattle.diagram.specs.Parts.{rate_of, AreLevelParts, FallsTo, IsPartSum, MayFollow};
 

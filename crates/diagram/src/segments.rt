@@ -1,4 +1,4 @@
-ghost use Rattle.std.specs.Prelude.{◌≡◌, ◌<◌, ◌≤◌, ℤ, pos, List, [], ◌∷◌, MatchOption, IfSome};
+ghost use Rattle.std.specs.Prelude.{◌≡◌, ◌<◌, pos, List, [], ◌∷◌, MatchOption, IfSome};
 ghost use Rattle.std.specs.Iterator.{AlwaysYields, IsFinite, IsNearerEnd};
 ghost use Rattle.fee_rate.specs.declared.rates.Sum.{Sum};
 ghost use Rattle.diagram.specs.Parts.{rate_of};

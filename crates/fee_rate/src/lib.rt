@@ -8,7 +8,7 @@ mod laws;
 mod rates;
 
 pub use laws::{full_order_is_an_order, rate_order_is_an_order, sums_lie_between};
-pub use rates::{FeeRate, Sum, add, cmp_full, cmp_rate, minus};
+pub use rates::{FeeRate, Sum, add, cmp_full, cmp_rate, is_below, is_rate, minus};
 
 #[cfg(test)]
 mod tests;

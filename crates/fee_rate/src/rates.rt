@@ -1,6 +1,6 @@
-ghost use Rattle.std.specs.Prelude.{◌≡◌, ◌+◌, ◌-◌, ◌^◌, ◌<◌, ◌≤◌, pos, ◌+ℤ◌, ◌-ℤ◌, ◌*ℤ◌, unsigned_abs};
-ghost use Rattle.fee_rate.specs.Limits.{InRange, IsSum};
-ghost use Rattle.fee_rate.specs.Rates.{ComparesFully, ComparesRates};
+ghost use Rattle.std.specs.Prelude.{◌≡◌, ◌+◌, ◌-◌, ◌^◌, ◌<◌, ◌≤◌, ◌↔◌, true, pos, ◌+ℤ◌, ◌-ℤ◌, ◌*ℤ◌, unsigned_abs, MatchBool};
+ghost use Rattle.fee_rate.specs.Limits.{InRange, IsRate, IsSum};
+ghost use Rattle.fee_rate.specs.Rates.{AtMost, Below, ComparesFully, ComparesRates};
 
 use std::cmp::Ordering;
 
@@ -16,6 +16,19 @@ pub struct FeeRate {
 pub struct Sum {
     pub fee: i128,
     pub size: u64,
+}
+
+/// The greatest fee of a transaction, in satoshis, either way.
+const GREATEST_FEE: u64 = 2_100_000_000_000_000;
+
+/// The greatest size of a transaction, in virtual bytes.
+const GREATEST_SIZE: u64 = 4_000_000;
+
+/// Whether a fee and a size are those of a transaction.
+pub fn is_rate(rate: FeeRate) -> bool
+    ensures { (result ≡ true) ↔ IsRate rate }
+{
+    rate.fee.unsigned_abs() <= GREATEST_FEE && rate.size >= 1 && rate.size <= GREATEST_SIZE
 }
 
 impl From<FeeRate> for Sum {
@@ -38,6 +51,21 @@ pub fn cmp_rate(a: Sum, b: Sum) -> Ordering
     ensures { ComparesRates a b result }
 {
     crossed(a.fee, b.size).cmp(&crossed(b.fee, a.size))
+}
+
+/// Whether the first rate is the lower one, fee over size. Both sizes are at least 1.
+pub fn is_below(a: Sum, b: Sum) -> bool
+    requires a_in { IsSum a }
+    requires b_in { IsSum b }
+    requires a_some { 1 ≤ a.size }
+    requires b_some { 1 ≤ b.size }
+    ensures { MatchBool result (Below a b) (AtMost b a) }
+{
+    match cmp_rate(a, b) {
+        Ordering::Less => true,
+        Ordering::Equal => false,
+        Ordering::Greater => false,
+    }
 }
 
 /// Which sum stands first by rising rate and, among equal rates, by falling size. Both sizes are at least 1.

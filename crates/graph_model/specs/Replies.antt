@@ -1,5 +1,5 @@
 -- Replies, and the text of each: one line, ended by a line feed.
-use Rattle.std.specs.Prelude.{ℕ, List, [], ◌∷◌, ◌++◌, map, codes, decimal}
+use Rattle.std.specs.Prelude.{ℕ, List, [], ◌∷◌, ◌++◌, map, codes, decimal, Result, Ok, Err}
 use Rattle.graph_model.specs.declared.names.Refusal.{Refusal}
 use Rattle.graph_model.specs.declared.names.Refusal.TheVariants.{Late, Range, Fee, Size, Taken, ClusterSize, Full, Unknown, Cycle, Count, Staging, Twice, Parent, Empty, NoStaging, Memory}
 use Rattle.graph_model.specs.Commands.{spaced}
@@ -44,3 +44,12 @@ words_of_reply (Number n) = codes "count" ∷ decimal n ∷ []
 
 abbrev pub text_of : Reply → List ℕ
 text_of reply = line_text (spaced (words_of_reply reply))
+
+-- the reply of a change, and of a reading of names
+abbrev pub change_reply : {T : Type 0} → Result T Refusal → Reply
+change_reply (Ok done) = Done
+change_reply (Err why) = Refused why
+
+abbrev pub names_reply : {T : Type 0} → Result T Refusal → List ℕ → Reply
+names_reply (Ok done) found = Ids found
+names_reply (Err why) found = Refused why

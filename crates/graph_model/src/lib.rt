@@ -7,6 +7,7 @@
 mod ids;
 mod laws;
 mod names;
+mod ranges;
 #[cfg(test)]
 mod tests;
 
@@ -18,3 +19,4 @@ pub use laws::{
     refused_changes_nothing, stays_graph, stays_without_cycle, verdicts_are_unique,
 };
 pub use names::{Flow, Level, Limits, Refusal, TxId, Verdict};
+pub use ranges::{is_fee, is_size};

@@ -1,15 +1,8 @@
 ghost use Rattle.std.specs.Prelude.{◌≡◌, ◌*◌, ◌^◌, ◌<◌, ◌↔◌, true};
-ghost use Rattle.fee_rate.specs.Limits.{IsRate};
 ghost use Rattle.linearize.specs.Graphs.{HasRates, IsComponent};
 
 use dep_graph::DepGraph;
-use fee_rate::FeeRate;
-
-/// The greatest fee of a transaction, in satoshis, either way.
-const GREATEST_FEE: u64 = 2_100_000_000_000_000;
-
-/// The greatest size of a transaction, in virtual bytes.
-const GREATEST_SIZE: u64 = 4_000_000;
+use fee_rate::is_rate;
 
 /// Whether the members are one component. No members are one.
 pub fn is_component<const W: usize>(dep: &DepGraph<W>) -> bool
@@ -35,11 +28,4 @@ pub fn has_rates<const W: usize>(dep: &DepGraph<W>) -> bool
         }
     }
     true
-}
-
-// Whether a fee and a size are those of a transaction.
-fn is_rate(rate: FeeRate) -> bool
-    ensures { (result ≡ true) ↔ IsRate rate }
-{
-    rate.fee.unsigned_abs() <= GREATEST_FEE && rate.size >= 1 && rate.size <= GREATEST_SIZE
 }

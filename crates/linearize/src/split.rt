@@ -1,10 +1,9 @@
 ghost use Rattle.std.specs.Prelude.{◌≡◌, ℕ, ◌*◌, ◌<◌, ◌≤◌, ◌^◌, length, true, pos, ◌*ℤ◌, unsigned_abs};
 ghost use Rattle.std.specs.Prelude.{IfSome, MatchOption};
 ghost use Rattle.std.specs.FinSet as set;
-ghost use Rattle.bitset.specs.Places.{IsWithin};
 ghost use Rattle.closure_flow.specs.Closures.{weight_at};
 ghost use Rattle.dep_graph.specs.Graph.{HoldsMembers};
-ghost use Rattle.fee_rate.specs.Limits.{IsRate, greatest_fee, greatest_size};
+ghost use Rattle.fee_rate.specs.Limits.{IsRate, greatest_size};
 ghost use Rattle.graph_model.specs.Certificates.{weight_in};
 ghost use Rattle.linearize.specs.Graphs.{HasRates, most_members, sum_at, sum_from};
 ghost use Rattle.linearize.specs.Orders.{sums_in};

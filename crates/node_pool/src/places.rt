@@ -1,5 +1,5 @@
 //! A row of items in blocks of raw memory, each with twice the room of the one before. No item ever moves.
-ghost use Rattle.std.specs.Prelude.{◌≡◌, ◌+◌, ◌-◌, ◌*◌, ◌<◌, ◌≤◌, ◌++◌, ◌∷◌, [], length, slice_get, OnOk, OnErr, ◌^◌, Some};
+ghost use Rattle.std.specs.Prelude.{◌≡◌, ◌+◌, ◌-◌, ◌*◌, ◌<◌, ◌++◌, ◌∷◌, [], length, slice_get, OnOk, OnErr, ◌^◌, Some};
 ghost use Rattle.std.specs.Borrow.{sem};
 ghost use Rattle.node_pool.specs.Row.{Row, row, with_item, grown};
 ghost use Rattle.node_pool.specs.Laid.{next_open};

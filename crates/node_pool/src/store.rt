@@ -1,6 +1,6 @@
 //! Nodes in numbered slots. A slot that a node has left is given to a later node. The list of vacant slots is that of
 //! the kit's `slab`.
-ghost use Rattle.std.specs.Prelude.{◌≡◌, ◌+◌, ◌*◌, ◌-◌, ◌<◌, ◌≤◌, ◌^◌, [], map, length, count_by, IsSome, OnOk, OnErr, Some, None, option_copied, slice_set, vec_len};
+ghost use Rattle.std.specs.Prelude.{◌≡◌, ◌+◌, ◌*◌, ◌-◌, ◌<◌, ◌≤◌, ◌^◌, [], map, length, IsSome, OnOk, OnErr, Some, None, option_copied};
 ghost use Rattle.std.specs.Borrow.{Lends, sem};
 ghost use Rattle.node_pool.specs.Row.{grown};
 ghost use Rattle.node_pool.specs.Slots.{Slots, node_in, IsHeld, held_count, Updates};

@@ -15,7 +15,8 @@ use Rattle.graph_model.specs.Replies.{Ids, Done}
 use Rattle.plain_graph.specs.declared.tx.Tx.{Tx}
 use Rattle.plain_graph.specs.declared.walk.Way.{Way}
 use Rattle.plain_graph.specs.declared.walk.Way.TheVariants.{Up, Down, Either}
-use Rattle.plain_graph.specs.Plain.{Kept, StandsFor, Steps, names_reply, entry_in}
+use Rattle.graph_model.specs.Replies.{names_reply}
+use Rattle.plain_graph.specs.Plain.{Kept, StandsFor, Steps, entry_in}
 use Rattle.plain_graph.specs.Sound.{names_of, IsSound}
 use Rattle.plain_graph.specs.Walks.{Reaches}
 use Rattle.plain_graph.proofs.Puts.{AreDistinct-push}

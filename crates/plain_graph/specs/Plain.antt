@@ -1,12 +1,11 @@
 -- The plain graph: a list of transactions and a list of pairs. It is the slow program that the
 -- definitions name, and stands for their states.
-use Rattle.std.specs.Prelude.{◌≡◌, ℕ, Bool, List, [], ◌∷◌, map, length, Option, None, Some, Ok, Err, Result, ◌==◌, if◌then◌else◌}
+use Rattle.std.specs.Prelude.{◌≡◌, ℕ, Bool, List, [], ◌∷◌, map, length, Option, None, Some, ◌==◌, if◌then◌else◌}
 use Rattle.std.specs.FinMap as finmap
 use Rattle.graph_model.specs.declared.names.Limits.{Limits}
-use Rattle.graph_model.specs.declared.names.Refusal.{Refusal}
 use Rattle.graph_model.specs.States.{State, Entry}
 use Rattle.graph_model.specs.Commands.{Command}
-use Rattle.graph_model.specs.Replies.{Reply, Refused, Done, Ids}
+use Rattle.graph_model.specs.Replies.{Reply}
 use Rattle.graph_model.specs.Steps.{Step}
 use Rattle.plain_graph.specs.declared.tx.Tx.{Tx}
 
@@ -39,12 +38,3 @@ pub record StandsFor (kept : Kept) (state : State) : Type 0 where
 -- From every state that the graph stood for, the call is a step of the machine to one that it stands for now.
 abbrev pub Steps : Kept → Kept → Command → Reply → Type 0
 Steps old new command reply = (state : State) → StandsFor old state → (next : State) × StandsFor new next × Step state command reply next
-
--- the reply of a change, and of a reading of names
-abbrev pub change_reply : {T : Type 0} → Result T Refusal → Reply
-change_reply (Ok done) = Done
-change_reply (Err why) = Refused why
-
-abbrev pub names_reply : {T : Type 0} → Result T Refusal → List ℕ → Reply
-names_reply (Ok done) found = Ids found
-names_reply (Err why) found = Refused why

@@ -1,5 +1,5 @@
-ghost use Rattle.std.specs.Prelude.{◌≡◌, ◌+◌, ◌-◌, ◌*◌, ◌^◌, ◌<◌, ◌≤◌, ◌↔◌, false, [], ◌∷◌, length, IfOk, OnOk, if◌then◌else◌, is_ok, MatchResult, Contains, IsTrue, IsSome};
-ghost use Rattle.graph_model.specs.Limits.{default_limits, AreInRange, IsFee};
+ghost use Rattle.std.specs.Prelude.{◌≡◌, ◌+◌, ◌-◌, ◌*◌, ◌^◌, ◌<◌, ◌≤◌, false, [], ◌∷◌, length, IfOk, OnOk, if◌then◌else◌, is_ok, MatchResult, Contains, IsSome};
+ghost use Rattle.graph_model.specs.Limits.{AreInRange};
 ghost use Rattle.graph_model.specs.Graphs.{AreConnected};
 ghost use Rattle.plain_graph.specs.Walks.{HoldsAll};
 ghost use Rattle.plain_graph.specs.Sound.{AreSmall};
@@ -11,25 +11,10 @@ use crate::pairs::without;
 use crate::tx::Tx;
 use crate::txs::{drop_name, is_live, set_fee, total_size};
 use crate::walk::{Way, has_pair, leads, reach};
-use graph_model::{IdBuf, Level, Limits, Refusal, TxId};
+use graph_model::{IdBuf, Level, Limits, Refusal, TxId, is_fee, is_size};
 use outside::NoMemory;
 use std::alloc::Global;
 use std::marker::Model;
-
-/// What a transaction may pay at most, and as a negative fee at least, in satoshis.
-const MAX_FEE: i64 = 2_100_000_000_000_000;
-
-/// How large a transaction may be, in virtual bytes.
-const MAX_SIZE: u64 = 4_000_000;
-
-/// The most names of a cluster that may be set as a limit.
-const MAX_COUNT: u64 = 64;
-
-/// The greatest total size of a cluster that may be set as a limit, in virtual bytes.
-const MAX_CLUSTER_SIZE: u64 = 256_000_000;
-
-/// The most live names that may be set as a limit.
-const MAX_TOTAL: u64 = 1_048_576;
 
 /// The plain graph: every call walks its lists.
 #[derive(Drop)]
@@ -53,22 +38,6 @@ impl Model for Plain {
     ghost view = { λ a. record { limits = a.limits; begun = a.begun; txs = a.txs.items; pairs = a.pairs.items; found = a.found.ids; additions = a.additions } };
 
     ghost invariant = { λ a. IsSound a.limits a.txs.items a.pairs.items (length a.found.ids + a.found.room) };
-}
-
-/// Whether limits may be set.
-fn are_in_range(limits: &Limits) -> bool
-    ensures { IsTrue result ↔ AreInRange limits.now }
-{
-    (1..=MAX_COUNT).contains(&limits.count)
-        && (1..=MAX_CLUSTER_SIZE).contains(&limits.size)
-        && (1..=MAX_TOTAL).contains(&limits.total)
-}
-
-/// Whether a transaction may pay this fee, in satoshis.
-fn is_fee(fee: i64) -> bool
-    ensures { IsTrue result ↔ IsFee fee }
-{
-    (-MAX_FEE..=MAX_FEE).contains(&fee)
 }
 
 /// Makes room for at least this many names, where there is less. The list is empty then.
@@ -112,7 +81,8 @@ fn refused_join(
 }
 
 impl Plain {
-    ghost use Rattle.plain_graph.specs.Plain.{Kept, StandsFor, Steps, entry_in, change_reply, names_reply};
+    ghost use Rattle.graph_model.specs.Replies.{change_reply, names_reply};
+    ghost use Rattle.plain_graph.specs.Plain.{Kept, StandsFor, Steps, entry_in};
     ghost use Rattle.graph_model.specs.States.{State, start};
     ghost use Rattle.graph_model.specs.Refusals.{RefusalIs};
     ghost use Rattle.graph_model.specs.Graphs.{Lists};
@@ -156,7 +126,7 @@ impl Plain {
         if self.begun {
             return Some(Refusal::Late);
         }
-        if !are_in_range(limits) {
+        if !limits.are_in_range() {
             return Some(Refusal::Range);
         }
         None
@@ -187,7 +157,7 @@ impl Plain {
         if !is_fee(fee) {
             return Some(Refusal::Fee);
         }
-        if size < 1 || size > MAX_SIZE {
+        if !is_size(size) {
             return Some(Refusal::Size);
         }
         if is_live(&self.txs, id) {

@@ -10,7 +10,7 @@ use Rattle.graph_model.specs.Lines.{Cut, with_last}
 use Rattle.graph_model.specs.Texts.{Text, IsText, HasPartTypes, NoSyntax, Found}
 use Rattle.certificate.specs.declared.lists.Part.{Part}
 use Rattle.certificate.specs.Answers.{AreClaims}
-use Rattle.wire.specs.Drafts.{part_of}
+use Rattle.certificate.specs.Parts.{part_of}
 use Rattle.wire.specs.Laws.{BytesHaveOneCut}
 use Rattle.replay.specs.declared.check.Said.{Said}
 use Rattle.replay.specs.declared.check.Said.TheVariants as said

@@ -2,7 +2,8 @@ ghost use Rattle.std.specs.Prelude.{◌≡◌, ℕ, ◌+◌, ◌-◌, ◌^◌, �
 ghost use Rattle.graph_model.specs.Runs as runs;
 ghost use Rattle.graph_model.specs.Lines.{max_line, Means};
 ghost use Rattle.wire.specs.Readings.{meaning_of};
-ghost use Rattle.tx_graph.specs.Kept.{Kept, change_reply, names_reply};
+ghost use Rattle.graph_model.specs.Replies.{change_reply, names_reply};
+ghost use Rattle.tx_graph.specs.Kept.{Kept};
 ghost use Rattle.replay.specs.Answers.{answer_of};
 ghost use Rattle.replay.specs.Sessions.{IsLine, Answers, HasRoom, Suits};
 

@@ -1,7 +1,7 @@
-ghost use Rattle.std.specs.Prelude.{◌≡◌, ◌≢◌, ℕ, ◌+◌, ◌-◌, ◌^◌, ◌≤◌, ◌<◌, ◌⊎◌, List, IfSome, length, MatchOption, codes, map, string_bytes};
-ghost use Rattle.std.specs.Io.KnownBytes.{Appends, Keeps};
+ghost use Rattle.std.specs.Prelude.{◌≡◌, ◌≢◌, ◌+◌, ◌-◌, ◌^◌, ◌≤◌, ◌<◌, ◌⊎◌, IfSome, length, MatchOption, codes, map, string_bytes};
+ghost use Rattle.std.specs.Io.KnownBytes.{Appends};
 ghost use Rattle.graph_model.specs.Lines.{max_input};
-ghost use Rattle.outside.specs.Faults.{Rose, HasCause};
+ghost use Rattle.outside.specs.Faults.{Rose};
 ghost use Rattle.outside.specs.Transfers.{AppendsFront, Writes};
 ghost use Rattle.graph_model.specs.Texts.{Verification, Found};
 ghost use Rattle.graph_model.specs.Certificates.{Certified};

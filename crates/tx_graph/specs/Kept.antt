@@ -1,15 +1,14 @@
 -- What a transaction graph keeps, and which states it stands for.
-use Rattle.std.specs.Prelude.{List, ◌≡◌, ◌⊎◌, ◌↔◌, ℕ, Bool, true, Option, None, Some, Ok, Err, Result, Contains, ◌&&◌, ◌||◌, ◌≢◌, nat_eq, refl}
+use Rattle.std.specs.Prelude.{◌≡◌, ◌⊎◌, ◌↔◌, ℕ, Bool, true, Option, None, Some, Contains, ◌&&◌, ◌||◌, ◌≢◌, nat_eq, refl}
 use Rattle.std.specs.Coded.{Coded, code_by, coded×, coded_ℕ, coded_bool}
 use Rattle.std.specs.FinMap as finmap
 use Rattle.fee_rate.specs.declared.rates.FeeRate.{FeeRate}
 use Rattle.dep_graph.specs.Graph.{Node, Graph, graph_code, is_member, is_ancestor, rate_of}
 use Rattle.graph_model.specs.declared.names.Limits.{Limits}
-use Rattle.graph_model.specs.declared.names.Refusal.{Refusal}
 use Rattle.graph_model.specs.Graphs.{IsAncestor, IsGraph}
 use Rattle.graph_model.specs.States.{State, Entry}
 use Rattle.graph_model.specs.Commands.{Command}
-use Rattle.graph_model.specs.Replies.{Reply, Refused, Done, Ids}
+use Rattle.graph_model.specs.Replies.{Reply}
 use Rattle.graph_model.specs.Steps.{Step}
 
 -- The limits, whether a change was accepted, each name with its fee, its size and its ancestors, and how many additions
@@ -46,15 +45,6 @@ pub record StandsFor (kept : Kept) (state : State) : Type 0 where
 -- From every state that the graph stood for, the call is a step of the machine to one that it stands for now.
 abbrev pub MakesStep : Kept → Kept → Command → Reply → Type 0
 MakesStep old new command reply = (state : State) → StandsFor old state → (next : State) × StandsFor new next × Step state command reply next
-
--- the reply of a change, and of a reading of names
-abbrev pub change_reply : {T : Type 0} → Result T Refusal → Reply
-change_reply (Ok done) = Done
-change_reply (Err why) = Refused why
-
-abbrev pub names_reply : {T : Type 0} → Result T Refusal → List ℕ → Reply
-names_reply (Ok done) found = Ids found
-names_reply (Err why) found = Refused why
 
 -- one more name, in no relation to the others
 pub record AddsName (old new : Graph) (id : ℕ) (rate : FeeRate) : Type 0 where

@@ -1,12 +1,10 @@
-ghost use Rattle.std.specs.Prelude.{sum_by, MatchResult, is_some, ◌↔◌, ◌≡◌, ◌≢◌, ℕ, ◌+◌, ◌-◌, ◌*◌, ◌^◌, ◌<◌, ◌≤◌, [], true, false, None, Some, length, slice_index, Contains, IsSome, All, IfOk, OnOk, OnErr};
-ghost use Rattle.std.specs.Ordering.{nat_cmp};
-ghost use Rattle.std.specs.List.{AllPairs};
+ghost use Rattle.std.specs.Prelude.{sum_by, MatchResult, is_some, ◌↔◌, ◌≡◌, ◌≢◌, ℕ, ◌+◌, ◌-◌, ◌*◌, ◌^◌, ◌<◌, ◌≤◌, [], false, None, Some, length, Contains, IsSome, IfOk, OnOk, OnErr};
 ghost use Rattle.std.specs.FinMap as finmap;
 ghost use Rattle.slab.specs.Slab.{get, HasRoomFor, slab_len};
 ghost use Rattle.dep_graph.specs.Graph.{is_member, rate_of, is_ancestor, AddsPair, SetsFee, DropsPlace};
-ghost use Rattle.cluster_record.specs.Clusters.{Cluster, IsCluster, AreOnce};
+ghost use Rattle.cluster_record.specs.Clusters.{Cluster, AreOnce};
 ghost use Rattle.tx_graph.specs.Kept.{AddsName};
-ghost use Rattle.tx_graph.specs.Shelves.{graph_of, cluster_at, HasAt, IsIndexed, IsInOrder};
+ghost use Rattle.tx_graph.specs.Shelves.{graph_of, cluster_at, IsIndexed, IsInOrder};
 ghost use Rattle.tx_graph.specs.Joins.{DepRefusalIs, SumRefusalIs};
 ghost use Rattle.tx_graph.specs.Moves.{Settles, Stores, IsLoose, IsShelved};
 

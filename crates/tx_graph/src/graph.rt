@@ -1,39 +1,24 @@
-ghost use Rattle.std.specs.Prelude.{◌≡◌, ℕ, ◌+◌, ◌-◌, ◌*◌, ◌^◌, ◌<◌, ◌≤◌, ◌↔◌, true, None, Some, length, option_map, is_ok, is_some, if◌then◌else◌, IsTrue, IfOk, OnErr, Contains};
+ghost use Rattle.std.specs.Prelude.{◌≡◌, ◌+◌, ◌-◌, ◌*◌, ◌^◌, ◌<◌, ◌≤◌, ◌↔◌, true, None, Some, length, option_map, is_ok, if◌then◌else◌, IsTrue, IfOk, OnErr, Contains};
 ghost use Rattle.std.specs.FinMap as finmap;
-ghost use Rattle.graph_model.specs.Limits.{AreInRange, IsFee};
+ghost use Rattle.graph_model.specs.Limits.{AreInRange};
 ghost use Rattle.graph_model.specs.States.{State, start, level_of};
 ghost use Rattle.graph_model.specs.Commands.{SetLimits, Add, Dep, SetFee, Remove, Cluster, Ancestors, Descendants, Count};
 ghost use Rattle.graph_model.specs.Refusals.{RefusalIs};
-ghost use Rattle.graph_model.specs.Replies.{Number};
-ghost use Rattle.tx_graph.specs.Kept.{Kept, StandsFor, MakesStep, change_reply, names_reply};
+ghost use Rattle.graph_model.specs.Replies.{Number, change_reply, names_reply};
+ghost use Rattle.tx_graph.specs.Kept.{Kept, StandsFor, MakesStep};
 ghost use Rattle.tx_graph.specs.Shelves.{graph_of};
 ghost use Rattle.tx_graph.specs.Joins.{AddRefusalIs};
 
 use crate::clusters::Clusters;
 use fee_rate::FeeRate;
 use graph_model::{
-    IdBuf, Level, Limits, Refusal, TxId, ancestors_with_pair, ancestors_without_name, names_can_go,
-    stays_graph, stays_without_cycle,
+    IdBuf, Level, Limits, Refusal, TxId, ancestors_with_pair, ancestors_without_name, is_fee,
+    is_size, names_can_go, stays_graph, stays_without_cycle,
 };
 use outside::NoMemory;
 use std::alloc::Global;
 use std::marker::Model;
 use step_count::{Ledger, Steps};
-
-/// What a transaction may pay at most, and as a negative fee at least, in satoshis.
-const MAX_FEE: i64 = 2_100_000_000_000_000;
-
-/// How large a transaction may be, in virtual bytes.
-const MAX_SIZE: u64 = 4_000_000;
-
-/// The most names of a cluster that may be set as a limit.
-const MAX_COUNT: u64 = 64;
-
-/// The greatest total size of a cluster that may be set as a limit, in virtual bytes.
-const MAX_CLUSTER_SIZE: u64 = 256_000_000;
-
-/// The most live names that may be set as a limit.
-const MAX_TOTAL: u64 = 1_048_576;
 
 /// A transaction graph by clusters of at most 64·W names, where W is 1 or 2.
 ///
@@ -63,22 +48,6 @@ impl<const W: usize> Model for TxGraph<W> {
     ghost invariant = { λ a. IsSound W a.clusters.issued (record { limits = a.limits; begun = a.begun; graph = graph_of a.clusters; additions = a.additions }) };
 }
 
-/// Whether limits may be set.
-fn are_in_range(limits: &Limits) -> bool
-    ensures { IsTrue result ↔ AreInRange limits.now }
-{
-    (1..=MAX_COUNT).contains(&limits.count)
-        && (1..=MAX_CLUSTER_SIZE).contains(&limits.size)
-        && (1..=MAX_TOTAL).contains(&limits.total)
-}
-
-/// Whether a transaction may pay this fee, in satoshis.
-fn is_fee(fee: i64) -> bool
-    ensures { IsTrue result ↔ IsFee fee }
-{
-    (-MAX_FEE..=MAX_FEE).contains(&fee)
-}
-
 /// Why `add` is refused, other than for want of memory.
 fn refused_add<const W: usize>(
     limits: &Limits,
@@ -92,7 +61,7 @@ fn refused_add<const W: usize>(
     if !is_fee(fee) {
         return Some(Refusal::Fee);
     }
-    if size < 1 || size > MAX_SIZE {
+    if !is_size(size) {
         return Some(Refusal::Size);
     }
     if clusters.is_live(id) {
@@ -144,7 +113,7 @@ impl<const W: usize> TxGraph<W> {
         if self.begun {
             return Err(Refusal::Late);
         }
-        if !are_in_range(&limits) {
+        if !limits.are_in_range() {
             return Err(Refusal::Range);
         }
         self.limits = limits;

@@ -5,7 +5,8 @@ use Rattle.wire.specs.declared.draft.Draft.{Draft}
 use Rattle.wire.specs.declared.draft.Draft.TheVariants as drafts
 use Rattle.wire.specs.declared.row.Row.{Row}
 use Rattle.wire.specs.Rows.{rows_of}
-use Rattle.wire.specs.Drafts.{part_of, text_of, open_part, written}
+use Rattle.certificate.specs.Parts.{part_of}
+use Rattle.wire.specs.Drafts.{text_of, open_part, written}
 use Rattle.wire.proofs.StageLemmas.{Stage, AtGraph, AtParts, AtEnd, rows_at, put, put_refuses, stage_same}
 
 abbrev pub stage_of : Draft → Stage

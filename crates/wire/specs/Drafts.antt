@@ -1,7 +1,6 @@
 -- A certificate text that was read so far, and how lines take it on.
 use Rattle.std.specs.Prelude.{◌≡◌, ℕ, ◌≤◌, ◌==◌, List, [], ◌∷◌, ◌++◌, map, flat_map, length, sum_by, All, Result, Ok, Err}
 use Rattle.std.specs.List.{slice_split}
-use Rattle.certificate.specs.declared.lists.Part.{Part as KeptPart}
 use Rattle.graph_model.specs.Certificates.{Part}
 use Rattle.graph_model.specs.Lines.{max_line}
 use Rattle.graph_model.specs.Texts.{Text, HasTextTypes, IsText, told, text_lines}
@@ -12,11 +11,8 @@ use Rattle.wire.specs.declared.draft.Draft.TheVariants as drafts
 use Rattle.wire.specs.declared.fault.TextFault.{TextFault}
 use Rattle.wire.specs.declared.fault.TextFault.TheVariants as faults
 use Rattle.wire.specs.declared.row.Row.{Row}
+use Rattle.certificate.specs.Parts.{part_of}
 use Rattle.wire.specs.Rows.{row_line, HasRowTypes, tx_row, edge_row, part_rows, rows_of}
-
--- a part as certificates have it
-abbrev pub part_of : KeptPart → Part
-part_of part = record { rate = part.rate; ids = part.ids; flows = part.flows }
 
 -- a text as certificates have it
 abbrev pub text_of : CertText → Text

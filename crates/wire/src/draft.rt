@@ -1,6 +1,7 @@
 ghost use Rattle.std.specs.Prelude.{◌≡◌, [], map};
 ghost use Rattle.wire.specs.Rows.{tx_row, rows_of};
-ghost use Rattle.wire.specs.Drafts.{part_of, open_part, written, Continues, Finishes};
+ghost use Rattle.certificate.specs.Parts.{part_of};
+ghost use Rattle.wire.specs.Drafts.{open_part, written, Continues, Finishes};
 
 use crate::TextFault;
 use crate::row::Row;

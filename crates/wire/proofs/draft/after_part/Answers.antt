@@ -1,5 +1,6 @@
 use Rattle.std.proofs.Common.{ap, map}
-use Rattle.wire.specs.Drafts.{part_of, open_part}
+use Rattle.certificate.specs.Parts.{part_of}
+use Rattle.wire.specs.Drafts.{open_part}
 use Rattle.wire.proofs.StageLemmas.{AtParts, put, put_refuses}
 use Rattle.wire.proofs.draft.after_part.Goals as goal
 

@@ -3,7 +3,8 @@ use Rattle.graph_model.specs.declared.names.Refusal.TheVariants.{Memory}
 use Rattle.graph_model.specs.Commands.{Dep}
 use Rattle.graph_model.specs.Replies.{Done, Refused}
 use Rattle.dep_graph.specs.Graph.{is_ancestor}
-use Rattle.tx_graph.specs.Kept.{MakesStep, change_reply}
+use Rattle.graph_model.specs.Replies.{change_reply}
+use Rattle.tx_graph.specs.Kept.{MakesStep}
 use Rattle.tx_graph.specs.Shelves.{graph_of}
 use Rattle.tx_graph.proofs.Slots.{one_name}
 use Rattle.tx_graph.proofs.Graphs.{order_of, member-spot}

@@ -1,5 +1,6 @@
 use Rattle.std.proofs.Common.{◌≡◌, sym, ap, ◌∙◌, map}
-use Rattle.wire.specs.Drafts.{part_of, open_part}
+use Rattle.certificate.specs.Parts.{part_of}
+use Rattle.wire.specs.Drafts.{open_part}
 use Rattle.wire.proofs.StageLemmas.{AtGraph, AtParts, AtEnd}
 use Rattle.wire.proofs.DraftLemmas.{stage_of, unfinished}
 use Rattle.wire.proofs.draft.Draft.finished.Goals as goal
