@@ -1,5 +1,5 @@
 -- Sets of numbers, and their members as a rising list.
-use Rattle.std.specs.Prelude.{◌≡◌, ℕ, zero, suc, ◌<◌, ◌≤◌, Bool, true, cond, List, [], ◌∷◌, filter}
+use Rattle.std.specs.Prelude.{◌≡◌, ℕ, zero, suc, ◌<◌, ◌≤◌, Bool, true, cond, List, filter}
 use Rattle.std.specs.List.{range_with_len}
 use Rattle.std.specs.Ordering.{nat_cmp}
 use Rattle.std.specs.FinSet as set
@@ -25,12 +25,3 @@ IsWithin n s = (p : ℕ) → set.contains s p ≡ true → p < n
 pub record IsLeast (s : set.FinSet nat_cmp) (p : ℕ) : Type 0 where
   pub member : set.contains s p ≡ true
   pub below : (q : ℕ) → set.contains s q ≡ true → p ≤ q
-
--- each number of the list is below all that follow it
-abbrev pub AllAbove : ℕ → List ℕ → Type 0
-AllAbove x [] = Unit {0}
-AllAbove x (y ∷ ys) = (x < y) × AllAbove x ys
-
-abbrev pub IsRising : List ℕ → Type 0
-IsRising [] = Unit {0}
-IsRising (x ∷ xs) = AllAbove x xs × IsRising xs

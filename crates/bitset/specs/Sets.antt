@@ -9,7 +9,8 @@ use Rattle.std.proofs.lemmas.Bool.Decides.{nat_tests}
 use Rattle.std.specs.Ordering.{nat_cmp}
 use Rattle.std.specs.Cmp.{unsigned_tied, nat_cmp_total}
 use Rattle.std.specs.FinSet as set
-use Rattle.bitset.specs.Places.{where_below, first_places, places, IsWithin, IsLeast, AllAbove, IsRising}
+use Rattle.lists.specs.Rising.{AllAbove, IsRising}
+use Rattle.bitset.specs.Places.{where_below, first_places, places, IsWithin, IsLeast}
 
 -- two sets of numbers with the same members are equal
 pub same_members : (s t : set.FinSet nat_cmp) → ((q : ℕ) → set.contains s q ≡ set.contains t q) → s ≡ t
@@ -163,67 +164,6 @@ places-Contains n s p h = (
 -- in the course of a loop over the members: p is one, those before it are below it and those after it above
 pub places-here : (n : ℕ) (s : set.FinSet nat_cmp) (ys zs : List ℕ) (p : ℕ) → places n s ≡ ys ++ p ∷ zs → (p < n) × (set.contains s p ≡ true)
 places-here n s ys zs p e = places-Contains n s p (subst (λ xs. Contains xs p) (sym e) (Contains-append_right ys (p ∷ zs) p (0, omega arith, refl)))
-
-pub IsRising-split : (ys zs : List ℕ) (p : ℕ) → IsRising (ys ++ p ∷ zs) → ((q : ℕ) → Contains ys q → q < p) × AllAbove p zs
-IsRising-split [] zs p h = (λ q c. absurd (omega (arith, c.1)), h.0)
-IsRising-split (y ∷ ys) zs p h =
-    let rest : ((q : ℕ) → Contains ys q → q < p) × AllAbove p zs = IsRising-split ys zs p h.1 in (
-      λ q c. elim (Contains-append_cases (y ∷ []) ys q c) as (λ _. q < p) [
-        | inl first ↦ let same : y ≡ q = only y q first in let low : y < p = above_at y ys zs p h.0 in omega arith
-        | inr later ↦ rest.0 q later
-      ],
-      rest.1,
-    )
-  where
-    only : (y q : ℕ) → Contains (y ∷ []) q → y ≡ q
-    only y q c = elim (cases_eq c.0 0) as (λ _. y ≡ q) [
-      | inl e ↦ subst (λ k. get_or (y ∷ []) k q ≡ q) e c.2
-      | inr e ↦ absurd (omega (arith, c.1))
-    ]
-
-    above_at : (x : ℕ) (ys zs : List ℕ) (p : ℕ) → AllAbove x (ys ++ p ∷ zs) → x < p
-    above_at x [] zs p h = h.0
-    above_at x (y ∷ ys) zs p h = above_at x ys zs p h.1
-
--- ---- places in a rising list
-
-above_all : (x : ℕ) (xs : List ℕ) → AllAbove x xs → (j : ℕ) → j < length xs → x < slice_index xs j
-above_all x [] above j low = absurd (omega arith)
-above_all x (y ∷ ys) above zero low = above.0
-above_all x (y ∷ ys) above (suc j) low = above_all x ys above.1 j (omega arith)
-
-pub rising_at : (xs : List ℕ) → IsRising xs → (i j : ℕ) → i < j → j < length xs → slice_index xs i < slice_index xs j
-rising_at [] rising i j before low = absurd (omega arith)
-rising_at (x ∷ xs) rising i zero before low = absurd (omega arith)
-rising_at (x ∷ xs) rising zero (suc j) before low = above_all x xs rising.0 j (omega arith)
-rising_at (x ∷ xs) rising (suc i) (suc j) before low = rising_at xs rising.1 i j (omega arith) (omega arith)
-
--- each number stands once
-pub rising_once : (xs : List ℕ) → IsRising xs → (i j : ℕ) → i < length xs → j < length xs → slice_index xs i ≡ slice_index xs j → i ≡ j
-rising_once xs rising i j low high same = elim (cases_order i j) as (λ _. i ≡ j) [
-  | inl is ↦ is
-  | inr (inl before) ↦ absurd (let less : slice_index xs i < slice_index xs j = rising_at xs rising i j before high in omega arith)
-  | inr (inr after) ↦ absurd (let less : slice_index xs j < slice_index xs i = rising_at xs rising j i after low in omega arith)
-]
-
--- numbers lie at least as far apart as they stand apart
-pub rising_apart : (xs : List ℕ) → IsRising xs → (i d : ℕ) → i + d < length xs → slice_index xs i + d ≤ slice_index xs (i + d)
-rising_apart xs rising i zero low = let same : i + 0 ≡ i = omega arith in omega (arith, ap (slice_index xs) same)
-rising_apart xs rising i (suc d) low =
-    let before : slice_index xs i + d ≤ slice_index xs (i + d) = rising_apart xs rising i d (omega arith) in
-    let less : slice_index xs (i + d) < slice_index xs (i + suc d) = rising_at xs rising (i + d) (i + suc d) (omega arith) low in omega arith
-
-pub rising_at_least : (xs : List ℕ) → IsRising xs → (i : ℕ) → i < length xs → i ≤ slice_index xs i
-rising_at_least xs rising i low =
-    let first : slice_index xs 0 + i ≤ slice_index xs (0 + i) = rising_apart xs rising 0 i (omega arith) in
-    let same : 0 + i ≡ i = omega arith in
-    omega (arith, ap (slice_index xs) same)
-
--- the number of a split list at the split
-pub at_split : (ps ys zs : List ℕ) (p : ℕ) → ys ++ p ∷ zs ≡ ps → slice_index ps (length ys) ≡ p
-at_split ps ys zs p e =
-    ap (λ xs. slice_index xs (length ys)) (sym e)
-    ∙ get_or-append_seam ys p zs 0
 
 -- one more place that passes the test
 pub len-where_below-suc : (f : ℕ → Bool) (n : ℕ) → set.len (where_below f (suc n)) ≡ cond (f n) 1 0 + set.len (where_below f n)

@@ -8,8 +8,8 @@ use Rattle.std.proofs.Common.{eq-eqb}
 use Rattle.std.proofs.lemmas.List.{get_or-map, length-map, get_or_default, get_or-set_same, get_or-set_other, length-set, take_more}
 use Rattle.std.proofs.lemmas.List.Sums.{sum_by-append, sum_by-cons, sum_by-take-le, get_or-le-sum_by}
 use Rattle.std.proofs.lemmas.List.Elements.{Contains-get_or, Contains-push_cases, Contains-append_left, Contains-push}
-use Rattle.graph_model.specs.declared.names.Flow.{Flow}
-use Rattle.graph_model.specs.Certificates.{given, gotten, weight_in}
+use Rattle.graphs.specs.declared.names.Flow.{Flow}
+use Rattle.graphs.specs.Certificates.{given, gotten, weight_in}
 use Rattle.fee_rate.specs.declared.rates.Sum.{Sum}
 use Rattle.certificate.specs.Places.{ArePlaces}
 use Rattle.certificate.specs.declared.flows.Account.{Account}

@@ -4,7 +4,7 @@ use Rattle.std.specs.Prelude.{Contains}
 use Rattle.std.proofs.lemmas.List.{get_or_default, get_or-take, length-take-le}
 use Rattle.std.proofs.lemmas.Bool.{cases_eq, cases_lt}
 use Rattle.std.proofs.lemmas.List.Elements.{Contains-append_left, Contains-push_cases}
-use Rattle.graph_model.specs.Graphs.{AreDistinct}
+use Rattle.graphs.specs.Graphs.{AreDistinct}
 
 -- an entry doesn't stand at two places
 pub distinct_apart : {A : Type 0} (xs : List A) (i j : ℕ) (d : A) → AreDistinct xs → i < j → j < length xs → get_or xs i d ≡ get_or xs j d → ⊥

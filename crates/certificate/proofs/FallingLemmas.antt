@@ -6,9 +6,9 @@ use Rattle.std.proofs.lemmas.List.{get_or-map, length-map, length-append}
 use Rattle.fee_rate.specs.declared.rates.Sum.{Sum}
 use Rattle.fee_rate.specs.Limits.{IsSum}
 use Rattle.fee_rate.specs.Rates.{AtMost, Below}
-use Rattle.graph_model.specs.Rates.{sums, Falls}
-use Rattle.graph_model.specs.Certificates.{Txs, rate_in, HasFalling}
-use Rattle.graph_model.specs.Certificates as model
+use Rattle.graphs.specs.Rates.{sums, Falls}
+use Rattle.graphs.specs.Certificates.{Txs, rate_in, HasFalling}
+use Rattle.graphs.specs.Certificates as model
 use Rattle.certificate.specs.declared.lists.Part.{Part}
 use Rattle.certificate.specs.Fallings.{rates_of, rate_at, AreSummed, AreRates}
 use Rattle.certificate.specs.Parts.{part_of, parts_of, order_of, ids_at}

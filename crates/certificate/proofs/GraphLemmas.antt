@@ -3,9 +3,9 @@ use Rattle.std.proofs.Common.{◌≡◌, ℕ, ◌<◌, ◌≤◌, List, length, 
 use Rattle.std.specs.Prelude.{Contains}
 use Rattle.std.proofs.lemmas.List.{get_or_default}
 use Rattle.std.proofs.lemmas.List.Elements.{Contains-get_or}
-use Rattle.graph_model.specs.Limits.{IsFee, IsSize}
-use Rattle.graph_model.specs.Graphs.{HasNoCycle, AreDistinct}
-use Rattle.graph_model.specs.Certificates.{Txs, HasGraph}
+use Rattle.fee_rate.specs.Limits.{IsFee, IsSize}
+use Rattle.graphs.specs.Graphs.{HasNoCycle, AreDistinct}
+use Rattle.graphs.specs.Certificates.{Txs, HasGraph}
 use Rattle.certificate.specs.declared.fault.CheckFault.{CheckFault}
 use Rattle.certificate.specs.declared.fault.CheckFault.TheVariants.{Order, Falling, Flow, Graph, Memory}
 use Rattle.certificate.specs.Faults.{Says}

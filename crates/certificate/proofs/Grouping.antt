@@ -5,7 +5,7 @@ use Rattle.std.proofs.lemmas.Bool.{cases_eq, cases_lt}
 use Rattle.std.proofs.lemmas.List.{get_or-set_same, get_or-set_other, length-set, length_push, get_or-replicate, length-replicate, get_or-map, length-map, get_or_default}
 use Rattle.std.proofs.lemmas.List.Elements.{All-append, All-map, Contains-append_cases, Contains-append_left, Contains-append_right, Contains-push, Contains-push_cases}
 use Rattle.std.proofs.lemmas.List.Sums.{sum_by-set}
-use Rattle.graph_model.specs.Graphs.{Trail, AreConnected}
+use Rattle.graphs.specs.Graphs.{Trail, AreConnected}
 use Rattle.certificate.specs.Chains.{pair_at, IsLast}
 use Rattle.certificate.specs.Groups.{AreWithin, AreGroups, turned, GoBothWays, HasGroup, AreOfGroup, IsGrouping, GoesOn, work_of}
 use Rattle.certificate.proofs.Searching.{contains_at, position_of}

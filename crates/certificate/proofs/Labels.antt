@@ -3,7 +3,7 @@ use Rattle.std.proofs.Common.{◌≡◌, ℕ, ◌<◌, zero, suc, List, length, 
 use Rattle.std.specs.Prelude.{Contains}
 use Rattle.std.proofs.lemmas.List.{get_or-map, length-map, get_or_default}
 use Rattle.std.proofs.lemmas.List.Elements.{Contains-get_or}
-use Rattle.graph_model.specs.Graphs.{Walk, Trail, AreConnected, HasNoCycle, AreDistinct}
+use Rattle.graphs.specs.Graphs.{Walk, Trail, AreConnected, HasNoCycle, AreDistinct}
 use Rattle.certificate.specs.Groups.{AreWithin}
 use Rattle.certificate.specs.Places.{named}
 use Rattle.certificate.proofs.Distinct.{distinct_place}

@@ -3,10 +3,10 @@ use Rattle.std.proofs.Common.{◌≡◌, ℕ, ◌<◌, List, length, refl, sym, 
 use Rattle.std.specs.Prelude.{Contains}
 use Rattle.std.proofs.lemmas.List.{get_or_default}
 use Rattle.std.proofs.lemmas.List.Elements.{Contains-get_or}
-use Rattle.graph_model.specs.Graphs.{AreConnected}
-use Rattle.graph_model.specs.Linearizations.{IsTopological}
-use Rattle.graph_model.specs.Certificates.{Txs, graph_of, HasOrder}
-use Rattle.graph_model.specs.Certificates as model
+use Rattle.graphs.specs.Graphs.{AreConnected}
+use Rattle.graphs.specs.Linearizations.{IsTopological}
+use Rattle.graphs.specs.Certificates.{Txs, graph_of, HasOrder}
+use Rattle.graphs.specs.Certificates as model
 use Rattle.certificate.specs.declared.lists.Part.{Part}
 use Rattle.certificate.specs.Chains.{pair_at}
 use Rattle.certificate.specs.Groups.{AreGroups, AreWithin}

@@ -10,12 +10,14 @@ use Rattle.std.proofs.lemmas.List.Elements.{Contains-get_or, All-take}
 use Rattle.std.proofs.Common.{eq-eqb}
 use Rattle.arithmetic.proofs.Sums.{total-append, total_within}
 use Rattle.fee_rate.specs.declared.rates.Sum.{Sum}
-use Rattle.fee_rate.specs.Limits.{IsSum, greatest_fee, greatest_size}
+use Rattle.fee_rate.specs.Limits.{IsSum}
+use Rattle.fee_rate.specs.declared.limits.TheConstants.{MAX_FEE, MAX_SIZE}
 use Rattle.fee_rate.specs.Rates.{AtMost}
-use Rattle.graph_model.specs.Graphs.{AreDistinct}
-use Rattle.graph_model.specs.Limits.{IsFee}
-use Rattle.graph_model.specs.Rates.{sums, Falls}
-use Rattle.graph_model.specs.Certificates.{Txs, rate_in}
+use Rattle.graphs.specs.Graphs.{AreDistinct}
+use Rattle.fee_rate.specs.Limits.{IsFee}
+use Rattle.fee_rate.specs.declared.limits.TheConstants.{}
+use Rattle.graphs.specs.Rates.{sums, Falls}
+use Rattle.graphs.specs.Certificates.{Txs, rate_in}
 use Rattle.certificate.specs.Places.{ArePlaces}
 use Rattle.certificate.specs.Tables.{names_of, AreInLimits}
 use Rattle.certificate.proofs.GraphLemmas.{limits_at}
@@ -49,14 +51,14 @@ rate_found txs find id p h e =
     let p_in : p < length txs = subst (λ n. p < n) (length-map txs (λ (t : ℕ × ℤ × ℕ). t.0)) s.0 in
     (p_in, rate_first txs id p (places_distinct (names_of txs) find h) p_in (sym (name_at txs p p_in) ∙ s.1))
 
-fee_abs : (z : ℤ) → IsFee z → unsigned_abs z ≤ greatest_fee
+fee_abs : (z : ℤ) → IsFee z → unsigned_abs z ≤ MAX_FEE
 fee_abs z (a, b) = omega (arith, ints)
 
 -- a fee and a size within the limits
 pub record IsWithin (rate : Sum) : Type 0 where
-  pub fee : unsigned_abs rate.fee ≤ greatest_fee
+  pub fee : unsigned_abs rate.fee ≤ MAX_FEE
   pub some : 1 ≤ rate.size
-  pub size : rate.size ≤ greatest_size
+  pub size : rate.size ≤ MAX_SIZE
 
 pub within_here : (txs : Txs) (p : ℕ) → AreInLimits txs → p < length txs → IsWithin (rate_here txs p)
 within_here txs p l in' =
@@ -70,11 +72,11 @@ within_name txs find id h l (p, p_in, is) =
     subst (λ r. IsWithin r) (sym f.1) (within_here txs p l f.0)
 
 -- such a fee is kept in 64 bits
-pub kept_fee : (z : ℤ) → unsigned_abs z ≤ greatest_fee → to_z w64 (of_z w64 z) ≡ z
+pub kept_fee : (z : ℤ) → unsigned_abs z ≤ MAX_FEE → to_z w64 (of_z w64 z) ≡ z
 kept_fee z h = to_z-of_z w64 z (fits_signed_from_abs w64 z (omega arith))
 
-pub kept_abs : (z : ℤ) → unsigned_abs z ≤ greatest_fee → unsigned_abs (to_z w64 (of_z w64 z)) ≤ greatest_fee
-kept_abs z h = subst (λ (x : ℤ). unsigned_abs x ≤ greatest_fee) (sym (kept_fee z h)) h
+pub kept_abs : (z : ℤ) → unsigned_abs z ≤ MAX_FEE → unsigned_abs (to_z w64 (of_z w64 z)) ≤ MAX_FEE
+kept_abs z h = subst (λ (x : ℤ). unsigned_abs x ≤ MAX_FEE) (sym (kept_fee z h)) h
 
 -- ---- sums over names
 abbrev pub AllWithin : (ℕ → Sum) → List ℕ → Type 0
@@ -88,8 +90,8 @@ sizes-push rate ids id = omega (arith, sum_by-append (λ x. (rate x).size) ids (
 
 pub sums_in_range : (rate : ℕ → Sum) (ids : List ℕ) → AllWithin rate ids → length ids ≤ 1048576 → IsSum (sums rate ids)
 sums_in_range rate ids h few =
-    let f = total_within (λ id. (rate id).fee) greatest_fee ids (λ k d in'. (h k d in').fee) in
-    let s = sum_by-le (λ id. (rate id).size) greatest_size ids (λ k d in'. (h k d in').size) in
+    let f = total_within (λ id. (rate id).fee) MAX_FEE ids (λ k d in'. (h k d in').fee) in
+    let s = sum_by-le (λ id. (rate id).size) MAX_SIZE ids (λ k d in'. (h k d in').size) in
     record { fee = omega (arith, ints); size = omega (arith, ints) }
 
 pub sums_some : (rate : ℕ → Sum) (ids : List ℕ) → AllWithin rate ids → (ids ≡ [] → ⊥) → 1 ≤ (sums rate ids).size

@@ -4,7 +4,7 @@ use Rattle.std.specs.Prelude.{Contains, sum_by}
 use Rattle.std.proofs.lemmas.Bool.{cases_eq, cases_lt}
 use Rattle.std.proofs.lemmas.List.{get_or-set_same, get_or-set_other, length-set, get_or_append_left, get_or_push, length_push, get_or_default, get_or-take, length-take-le, get_or_read, get_or-replicate, length-replicate, get_or_past}
 use Rattle.std.proofs.lemmas.List.Sums.{sum_by-set}
-use Rattle.graph_model.specs.Graphs.{Walk, IsAncestor, HasNoCycle}
+use Rattle.graphs.specs.Graphs.{Walk, IsAncestor, HasNoCycle}
 use Rattle.certificate.specs.declared.cycles.Visit.{Visit}
 use Rattle.certificate.specs.declared.cycles.Visit.TheVariants.{New, Open, Done}
 use Rattle.certificate.specs.Chains.{pair_at, IsLast, AreChains}

@@ -5,8 +5,8 @@ use Rattle.std.proofs.lemmas.Bool.{cases_eq, cases_lt}
 use Rattle.std.proofs.lemmas.List.{get_or-set_same, get_or-set_other, length-set, length-take-le, get_or-take, get_or_default, get_or-map, length-map, get_or-replicate, length-replicate, get_or_past, take-append-drop, drop_more, length-append, get_or_at, get_or_append_left, take_at}
 use Rattle.std.proofs.lemmas.List.Sums.{sum_by-set, count_by-le-length}
 use Rattle.std.proofs.lemmas.List.Elements.{Contains-get_or}
-use Rattle.graph_model.specs.Graphs.{AreDistinct}
-use Rattle.graph_model.specs.Linearizations.{StandsBefore}
+use Rattle.graphs.specs.Graphs.{AreDistinct}
+use Rattle.graphs.specs.Linearizations.{StandsBefore}
 use Rattle.certificate.specs.Places.{ArePlaces}
 use Rattle.certificate.specs.Orders.{IsOrderOf, seat_at, AreSeats, AreRanks, AreOfOneGroup}
 use Rattle.certificate.proofs.Distinct.{repeated, distinct_by_index, distinct_place}

@@ -6,7 +6,7 @@ use Rattle.std.proofs.lemmas.Map.Views.{Contains-from_any}
 use Rattle.std.proofs.lemmas.Bool.{eqb-true}
 use Rattle.std.proofs.lemmas.List.{take_more}
 use Rattle.std.proofs.lemmas.List.Elements.{Contains-push, Contains-append_left, Contains-push_cases}
-use Rattle.graph_model.specs.Graphs.{AreDistinct}
+use Rattle.graphs.specs.Graphs.{AreDistinct}
 use Rattle.certificate.proofs.Distinct.{distinct_push, repeated}
 
 abbrev pub same_pair : ℕ × ℕ → ℕ × ℕ → Bool

@@ -3,9 +3,9 @@ use Rattle.std.proofs.Common.{◌≡◌, ◌≢◌, ℕ, ◌<◌, ◌≤◌, zer
 use Rattle.std.specs.Prelude.{Contains, sum_by}
 use Rattle.std.proofs.lemmas.List.Sums.{sum_by-cons}
 use Rattle.fee_rate.specs.declared.rates.Sum.{Sum}
-use Rattle.graph_model.specs.Certificates.{Txs, rate_in, graph_of, HasGraph, HasOrder, HasFalling, HasFlows, IsCertificate, Certifies}
-use Rattle.graph_model.specs.Certificates as model
-use Rattle.graph_model.specs.Rates.{HasSizes}
+use Rattle.graphs.specs.Certificates.{Txs, rate_in, graph_of, HasGraph, HasOrder, HasFalling, HasFlows, IsCertificate, Certifies}
+use Rattle.graphs.specs.Certificates as model
+use Rattle.graphs.specs.Rates.{HasSizes}
 use Rattle.certificate.specs.declared.fault.CheckFault.{CheckFault}
 use Rattle.certificate.specs.declared.fault.CheckFault.TheVariants.{Order, Falling, Flow, Graph, Memory}
 use Rattle.certificate.specs.Faults.{Says}

@@ -2,8 +2,8 @@
 use Rattle.std.specs.Prelude.{◌≡◌, ℕ, ◌^◌, ◌<◌, ◌≤◌, pos, ◌-ℤ◌, List, length, map, Contains, Option, Some, slice_index_or, sum_by, IsTrue, ◌&&◌, nat_eq}
 use Rattle.std.specs.HashSet as bag
 use Rattle.fee_rate.specs.declared.rates.Sum.{Sum}
-use Rattle.graph_model.specs.declared.names.Flow.{Flow}
-use Rattle.graph_model.specs.Certificates.{given, gotten, weight_in}
+use Rattle.graphs.specs.declared.names.Flow.{Flow}
+use Rattle.graphs.specs.Certificates.{given, gotten, weight_in}
 use Rattle.certificate.specs.declared.flows.Account.{Account}
 use Rattle.certificate.specs.declared.graph.Tables.{Tables}
 use Rattle.certificate.specs.declared.lists.Part.{Part}

@@ -1,6 +1,6 @@
 -- What `check` is handed.
 use Rattle.std.specs.Prelude.{◌≢◌, ◌^◌, ◌<◌, ◌≤◌, List, [], Contains, sum_by}
-use Rattle.graph_model.specs.declared.names.Flow.{Flow}
+use Rattle.graphs.specs.declared.names.Flow.{Flow}
 use Rattle.certificate.specs.declared.lists.Part.{Part}
 use Rattle.certificate.specs.Accounts.{amount_of}
 

@@ -2,8 +2,8 @@
 use Rattle.std.specs.Prelude.{◌≡◌, ℕ, ◌<◌, ◌≤◌, pos, List, length, map, slice_index_or}
 use Rattle.fee_rate.specs.declared.rates.Sum.{Sum}
 use Rattle.fee_rate.specs.Limits.{IsSum}
-use Rattle.graph_model.specs.Rates.{sums}
-use Rattle.graph_model.specs.Certificates.{Txs, rate_in}
+use Rattle.graphs.specs.Rates.{sums}
+use Rattle.graphs.specs.Certificates.{Txs, rate_in}
 use Rattle.certificate.specs.declared.lists.Part.{Part}
 use Rattle.certificate.specs.Parts.{ids_at}
 

@@ -1,6 +1,6 @@
 -- Components as groups of places, and groups as far as walks along pairs have come.
 use Rattle.std.specs.Prelude.{◌≡◌, ◌≢◌, ◌⊎◌, ◌↔◌, ℕ, ◌+◌, ◌<◌, List, length, All, Contains, slice_index, nat_eq, cond, sum_by}
-use Rattle.graph_model.specs.Graphs.{AreConnected}
+use Rattle.graphs.specs.Graphs.{AreConnected}
 use Rattle.certificate.specs.Chains.{pair_at}
 
 -- both ends of each pair are among so many places

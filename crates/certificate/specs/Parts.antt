@@ -1,7 +1,7 @@
 -- Parts as the definitions see them.
 use Rattle.std.specs.Prelude.{ℕ, List, [], map, flat_map, slice_index_or}
-use Rattle.graph_model.specs.declared.names.Flow.{Flow}
-use Rattle.graph_model.specs.Certificates as model
+use Rattle.graphs.specs.declared.names.Flow.{Flow}
+use Rattle.graphs.specs.Certificates as model
 use Rattle.certificate.specs.declared.lists.Part.{Part}
 
 abbrev pub part_of : Part → model.Part

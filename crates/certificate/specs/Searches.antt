@@ -1,6 +1,6 @@
 -- A search by depth from children to parents, as it stands at any moment.
 use Rattle.std.specs.Prelude.{◌≡◌, ◌≢◌, ℕ, ◌+◌, ◌-◌, ◌<◌, ◌≤◌, List, length, slice_index, slice_index_or, sum, sum_by}
-use Rattle.graph_model.specs.Graphs.{Walk, IsAncestor}
+use Rattle.graphs.specs.Graphs.{Walk, IsAncestor}
 use Rattle.certificate.specs.declared.cycles.Visit.{Visit}
 use Rattle.certificate.specs.declared.cycles.Visit.TheVariants.{New, Open, Done}
 use Rattle.certificate.specs.Chains.{pair_at, IsLast}

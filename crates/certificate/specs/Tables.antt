@@ -2,8 +2,8 @@
 use Rattle.std.specs.Prelude.{◌↔◌, ℕ, ℤ, ◌≤◌, List, length, map, nat_eq, Contains, IsTrue, ◌&&◌}
 use Rattle.std.specs.HashMap as hash
 use Rattle.std.specs.HashSet as bag
-use Rattle.graph_model.specs.Limits.{IsFee, IsSize}
-use Rattle.graph_model.specs.Certificates.{Txs}
+use Rattle.fee_rate.specs.Limits.{IsFee, IsSize}
+use Rattle.graphs.specs.Certificates.{Txs}
 use Rattle.certificate.specs.declared.graph.Tables.{Tables}
 use Rattle.certificate.specs.Places.{ArePlaces, ArePairs}
 

@@ -1,6 +1,6 @@
 ghost use Rattle.std.specs.Prelude.{◌≡◌, map, OnOk};
-ghost use Rattle.graph_model.specs.Certificates.{Certified, Finds, NoFalling, NoFlow, NoGraph, NoOrder, graph_of, rate_in};
-ghost use Rattle.graph_model.specs.Linearizations.{IsOptimal};
+ghost use Rattle.graphs.specs.Certificates.{Certified, Finds, NoFalling, NoFlow, NoGraph, NoOrder, graph_of, rate_in};
+ghost use Rattle.graphs.specs.Linearizations.{IsOptimal};
 ghost use Rattle.certificate.specs.Answers.{AreClaims};
 ghost use Rattle.certificate.specs.Parts.{parts_of};
 
@@ -9,7 +9,7 @@ use crate::flows::check_flows;
 use crate::graph::check_graph;
 use crate::order::check_order;
 use crate::{CheckFault, Part, Written};
-use graph_model::{TxId, certified_parts_are_optimal};
+use graphs::{TxId, certified_parts_are_optimal};
 use std::alloc::Global;
 
 /// Whether parts with flows are a certificate of the graph that is written.

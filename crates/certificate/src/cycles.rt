@@ -1,5 +1,5 @@
 ghost use Rattle.std.specs.Prelude.{◌≡◌, ◌<◌, [], ◌∷◌, ◌++◌, length, slice_set, IfOk, IfErr, OnOk, MatchResult};
-ghost use Rattle.graph_model.specs.Graphs.{HasNoCycle};
+ghost use Rattle.graphs.specs.Graphs.{HasNoCycle};
 ghost use Rattle.certificate.specs.declared.cycles.Visit.TheVariants.{New, Open, Done};
 ghost use Rattle.certificate.specs.declared.fault.CheckFault.TheVariants.{Graph};
 ghost use Rattle.certificate.specs.Faults.{Says};

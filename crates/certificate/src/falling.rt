@@ -1,8 +1,8 @@
 ghost use Rattle.std.specs.Prelude.{◌≡◌, ◌≢◌, ℕ, ◌<◌, ◌≤◌, [], length, nat_eq, Contains, MatchBool, MatchResult, Some};
 ghost use Rattle.std.specs.HashMap as hash;
 ghost use Rattle.fee_rate.specs.Limits.{IsRate};
-ghost use Rattle.graph_model.specs.Rates.{Falls, sums};
-ghost use Rattle.graph_model.specs.Certificates.{HasFalling, rate_in};
+ghost use Rattle.graphs.specs.Rates.{Falls, sums};
+ghost use Rattle.graphs.specs.Certificates.{HasFalling, rate_in};
 ghost use Rattle.certificate.specs.declared.fault.CheckFault.TheVariants.{Falling};
 ghost use Rattle.certificate.specs.Fallings.{AreRates, AreSummed, rates_of};
 ghost use Rattle.certificate.specs.Faults.{Says};
@@ -13,7 +13,7 @@ ghost use Rattle.certificate.specs.Tables.{AreInLimits, names_of};
 use crate::names::{Names, find};
 use crate::{CheckFault, Part};
 use fee_rate::{FeeRate, Sum, add, is_below};
-use graph_model::TxId;
+use graphs::TxId;
 
 /// Whether the parts have the fees and sizes of their names, and rates that fall.
 pub(crate) fn check_falling(

@@ -2,15 +2,15 @@ ghost use Rattle.std.specs.Prelude.{◌≡◌, ℕ, ◌*◌, ◌^◌, ◌*ℤ◌
 ghost use Rattle.std.specs.Int.{w128};
 ghost use Rattle.std.specs.HashMap as hash;
 ghost use Rattle.fee_rate.specs.Limits.{InRange, IsRate, IsSum};
-ghost use Rattle.graph_model.specs.Graphs.{AreDistinct};
-ghost use Rattle.graph_model.specs.Certificates.{Certifies, HasFlows, rate_in, weight_in};
+ghost use Rattle.graphs.specs.Graphs.{AreDistinct};
+ghost use Rattle.graphs.specs.Certificates.{Certifies, HasFlows, rate_in, weight_in};
 ghost use Rattle.certificate.specs.declared.fault.CheckFault.TheVariants as faults;
 ghost use Rattle.certificate.specs.Accounts.{ArePayable, AreBalanced, AreInside, AreNet, AreOpen, IsEdge, IsOpen, KeepParts, account_at, amount_of, ends_of};
 ghost use Rattle.certificate.specs.Fallings.{AreRates, AreSummed};
 ghost use Rattle.certificate.specs.Faults.{Says};
 ghost use Rattle.certificate.specs.Parts.{order_of, parts_of};
-ghost use Rattle.graph_model.specs.declared.names.Flow.{Flow};
-ghost use Rattle.graph_model.specs.Rates.{sums};
+ghost use Rattle.graphs.specs.declared.names.Flow.{Flow};
+ghost use Rattle.graphs.specs.Rates.{sums};
 ghost use Rattle.certificate.specs.Places.{ArePlaces};
 ghost use Rattle.certificate.specs.Tables.{AreInLimits, names_of};
 
@@ -19,7 +19,7 @@ use crate::graph::Tables;
 use crate::names::{Names, find};
 use crate::{CheckFault, Part};
 use fee_rate::{FeeRate, Sum};
-use graph_model::{Flow, TxId};
+use graphs::{Flow, TxId};
 use std::alloc::Global;
 use std::collections::HashSet;
 

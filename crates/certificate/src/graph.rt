@@ -1,6 +1,6 @@
 ghost use Rattle.std.specs.Prelude.{IfOk, IfErr, MatchBool};
-ghost use Rattle.graph_model.specs.Certificates.{HasGraph};
-ghost use Rattle.graph_model.specs.Limits.{IsFee, IsSize};
+ghost use Rattle.graphs.specs.Certificates.{HasGraph};
+ghost use Rattle.fee_rate.specs.Limits.{IsFee, IsSize};
 ghost use Rattle.certificate.specs.declared.fault.CheckFault.TheVariants.{Graph};
 ghost use Rattle.certificate.specs.Faults.{Says};
 ghost use Rattle.certificate.specs.Tables.{AreInLimits, AreTables};
@@ -8,7 +8,7 @@ ghost use Rattle.certificate.specs.Tables.{AreInLimits, AreTables};
 use crate::CheckFault;
 use crate::cycles::no_cycle;
 use crate::names::{Edges, Names, edge_set, ends, positions};
-use graph_model::{TxId, is_fee, is_size};
+use graphs::TxId;
 use std::alloc::Global;
 
 /// What the later tests look up.

@@ -1,7 +1,7 @@
 ghost use Rattle.std.specs.Prelude.{◌≡◌};
 
 use fee_rate::Sum;
-use graph_model::{Flow, IdList, TxId};
+use graphs::{Flow, IdList, TxId};
 use std::marker::Model;
 
 /// A list of transactions: name, fee in satoshis, size in virtual bytes.
@@ -88,7 +88,7 @@ pub struct FlowList {
 
 impl Model for FlowList {
     ghost use Rattle.std.specs.Prelude.{List};
-    ghost use Rattle.graph_model.specs.declared.names.Flow.{Flow};
+    ghost use Rattle.graphs.specs.declared.names.Flow.{Flow};
 
     ghost Value = { List Flow };
 

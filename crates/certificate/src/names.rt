@@ -1,13 +1,13 @@
 ghost use Rattle.std.specs.Prelude.{◌≡◌, ◌↔◌, ℕ, List, map, nat_eq, IfOk, IfErr, Contains, IsTrue, ◌&&◌};
 ghost use Rattle.std.specs.HashMap as hash;
 ghost use Rattle.std.specs.HashSet as bag;
-ghost use Rattle.graph_model.specs.Graphs.{AreDistinct};
+ghost use Rattle.graphs.specs.Graphs.{AreDistinct};
 ghost use Rattle.certificate.specs.declared.fault.CheckFault.TheVariants.{Graph};
 ghost use Rattle.certificate.specs.Faults.{Says};
 ghost use Rattle.certificate.specs.Places.{ArePlaces, AreOf, ArePairs};
 
 use crate::CheckFault;
-use graph_model::TxId;
+use graphs::TxId;
 use std::alloc::Global;
 use std::collections::{HashMap, HashSet};
 

@@ -1,6 +1,6 @@
 ghost use Rattle.std.specs.Prelude.{◌≡◌, ℕ, ◌<◌, ◌≤◌, length, map, nat_eq, Contains, IsSome, IfOk, IfErr, MatchResult, [], slice_index};
 ghost use Rattle.std.specs.HashMap as hash;
-ghost use Rattle.graph_model.specs.Certificates.{HasOrder, graph_of};
+ghost use Rattle.graphs.specs.Certificates.{HasOrder, graph_of};
 ghost use Rattle.certificate.specs.declared.fault.CheckFault.TheVariants.{Order};
 ghost use Rattle.certificate.specs.Faults.{Says};
 ghost use Rattle.certificate.specs.Groups.{AreWithin};
@@ -13,7 +13,7 @@ use crate::graph::Tables;
 use crate::groups::groups_of;
 use crate::names::{Names, find};
 use crate::{CheckFault, Part};
-use graph_model::TxId;
+use graphs::TxId;
 use std::alloc::{AllocError, Global};
 
 /// Whether the parts are an order of the graph, each in one component.

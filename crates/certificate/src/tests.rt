@@ -4,7 +4,7 @@ ghost use Rattle.certificate.specs.Answers.{AreClaims};
 
 use crate::{CheckFault, EdgeList, FlowList, Part, TxList, Written, check};
 use fee_rate::Sum;
-use graph_model::{Flow, IdList};
+use graphs::{Flow, IdList};
 use std::alloc::Global;
 use std::process::Abort;
 use std::test::Fail;

@@ -11,7 +11,8 @@ use Rattle.arithmetic.proofs.Rates.{cross_trans, cross_trans_strict_left, sum_ab
 use Rattle.fee_rate.specs.declared.rates.FeeRate.{FeeRate}
 use Rattle.fee_rate.specs.declared.rates.Sum.{Sum}
 use Rattle.fee_rate.specs.Laws.{joined}
-use Rattle.fee_rate.specs.Limits.{IsRate, IsSum, greatest_fee, greatest_size}
+use Rattle.fee_rate.specs.Limits.{IsRate, IsSum}
+use Rattle.fee_rate.specs.declared.limits.TheConstants.{MAX_FEE, MAX_SIZE}
 use Rattle.fee_rate.specs.Rates.{AtMost, Below}
 use Rattle.chunking.specs.Chunkings.{sum_of}
 
@@ -70,7 +71,7 @@ some_size (r ∷ rs) h n =
     let e = sum_by-cons (λ (q : FeeRate). q.size) r rs in
     omega arith
 
-fee_within : (rates : List FeeRate) → All IsRate rates → unsigned_abs (total (λ r. r.fee) rates) ≤ greatest_fee * length rates
+fee_within : (rates : List FeeRate) → All IsRate rates → unsigned_abs (total (λ r. r.fee) rates) ≤ MAX_FEE * length rates
 fee_within [] h = omega (arith, ints)
 fee_within (r ∷ rs) h =
     let first : IsRate r = All-head IsRate r rs h in
@@ -78,8 +79,8 @@ fee_within (r ∷ rs) h =
     let near = first.fee in
     omega (arith, ints)
 
-size_within : (rates : List FeeRate) → All IsRate rates → sum_by (λ r. r.size) rates ≤ length rates * greatest_size
-size_within rates h = sum_by-le (λ r. r.size) greatest_size rates (All-weaker IsRate (λ r. r.size ≤ greatest_size) (λ r k. k.size) rates h)
+size_within : (rates : List FeeRate) → All IsRate rates → sum_by (λ r. r.size) rates ≤ length rates * MAX_SIZE
+size_within rates h = sum_by-le (λ r. r.size) MAX_SIZE rates (All-weaker IsRate (λ r. r.size ≤ MAX_SIZE) (λ r k. k.size) rates h)
 
 -- at most that many rates in range have a sum in range
 pub in_range : (rates : List FeeRate) → All IsRate rates → length rates ≤ 2 ^ 20 → IsSum (sum_of rates)

@@ -9,8 +9,8 @@ use Rattle.std.specs.FinSet as set
 use Rattle.std.specs.FinMap as map
 use Rattle.bitset.specs.Places.{first_places, IsWithin}
 use Rattle.bitset.specs.Sets.{contains-first_places}
-use Rattle.graph_model.specs.Graphs.{Lists}
-use Rattle.graph_model.proofs.ListLemmas.{Lists-for}
+use Rattle.graphs.specs.Graphs.{Lists}
+use Rattle.graphs.proofs.ListLemmas.{Lists-for}
 use Rattle.fee_rate.specs.declared.rates.FeeRate.{FeeRate}
 use Rattle.dep_graph.specs.Graph.{Graph, is_member, is_ancestor, rate_of, ancestors_of, descendants_of, members_of}
 use Rattle.cluster_record.specs.Changes.{IsChosen}

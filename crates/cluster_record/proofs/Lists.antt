@@ -12,7 +12,7 @@ use Rattle.std.specs.Ordering.{nat_cmp}
 use Rattle.std.specs.FinSet as set
 use Rattle.bitset.specs.Places.{places, IsWithin, IsRising}
 use Rattle.bitset.specs.Sets.{IsRising-places, Contains-places, places-Contains, places-here, rising_once, rising_at_least}
-use Rattle.graph_model.specs.Graphs.{Lists}
+use Rattle.graphs.specs.Graphs.{Lists}
 use Rattle.cluster_record.specs.Clusters.{AreOnce}
 use Rattle.cluster_record.specs.Changes.{IsChosen}
 

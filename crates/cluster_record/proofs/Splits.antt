@@ -9,7 +9,7 @@ use Rattle.std.specs.Ordering.{nat_cmp}
 use Rattle.std.specs.FinSet as set
 use Rattle.std.specs.List.{range_with_len}
 use Rattle.std.proofs.lemmas.List.FromFn.{length-range_with_len, get_or-range_with_len}
-use Rattle.graph_model.proofs.ListLemmas.{Contains-cases}
+use Rattle.graphs.proofs.ListLemmas.{Contains-cases}
 use Rattle.bitset.specs.Places.{places, first_places, IsLeast, IsWithin}
 use Rattle.bitset.specs.Sets.{contains-first_places, contains-remove, contains-difference, contains-empty, len-places}
 use Rattle.dep_graph.specs.Graph.{Graph, is_ancestor, rate_of, HoldsMembers, IsNear}

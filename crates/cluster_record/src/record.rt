@@ -3,7 +3,7 @@ ghost use Rattle.std.specs.FinSet as set;
 ghost use Rattle.bitset.specs.Places.{IsWithin, places};
 ghost use Rattle.dep_graph.specs.Graph.{is_ancestor, rate_of, AddsPair, SetsFee, IsNear};
 ghost use Rattle.dep_graph.specs.Walks.{Walk};
-ghost use Rattle.graph_model.specs.Graphs.{Lists};
+ghost use Rattle.graphs.specs.Graphs.{Lists};
 ghost use Rattle.cluster_record.specs.Clusters.{IsCluster, AreOnce, AreApart};
 ghost use Rattle.cluster_record.specs.Named.{named, IsNamed};
 ghost use Rattle.cluster_record.specs.Changes.{IsSingle, Joins, IsChosen, IsPartOf, IsSplit};
@@ -11,7 +11,7 @@ ghost use Rattle.cluster_record.specs.Changes.{IsSingle, Joins, IsChosen, IsPart
 use bitset::Bits;
 use dep_graph::DepGraph;
 use fee_rate::FeeRate;
-use graph_model::{IdBuf, TxId};
+use graphs::{IdBuf, TxId};
 use outside::NoMemory;
 use smallvec::SmallVec;
 use std::alloc::Global;

@@ -1,5 +1,5 @@
 use crate::Record;
-use graph_model::TxId;
+use graphs::TxId;
 use std::alloc::Global;
 use std::process::Abort;
 use std::test::Fail;

@@ -9,8 +9,8 @@ use Rattle.fee_rate.specs.declared.rates.FeeRate.{FeeRate}
 use Rattle.fee_rate.specs.declared.rates.Sum.{Sum}
 use Rattle.fee_rate.specs.Laws.{joined}
 use Rattle.fee_rate.specs.Limits.{InRange, IsSum}
-use Rattle.graph_model.specs.Rates.{sum_of}
-use Rattle.graph_model.specs.Diagrams.{ends_from, corners_of, JoinsEqualRates}
+use Rattle.graphs.specs.Rates.{sum_of}
+use Rattle.graphs.specs.Diagrams.{ends_from, corners_of, JoinsEqualRates}
 use Rattle.diagram.specs.declared.segments.Corners.{Corners}
 use Rattle.diagram.specs.Parts.{rate_of, AreLevelParts, YieldsParts}
 use Rattle.diagram.specs.Points.{Rises, AreLevelCorners, YieldsCorners}

@@ -11,7 +11,7 @@ use Rattle.std.specs.Ordering.{MatchOrdering, int_cmp}
 use Rattle.std.specs.declared.cmp.Ordering.{Ordering}
 use Rattle.std.specs.declared.cmp.Ordering.TheVariants.{Less, Equal, Greater}
 use Rattle.fee_rate.specs.Rates.{AtMost, Same, ComparesRates}
-use Rattle.graph_model.specs.Diagrams.{height_between, height_at}
+use Rattle.graphs.specs.Diagrams.{height_between, height_at}
 use Rattle.diagram.specs.Points.{Rises}
 
 -- ---- lines

@@ -6,7 +6,7 @@ use Rattle.std.proofs.lemmas.List.Sums.{sum_by-cons}
 use Rattle.fee_rate.specs.declared.rates.Sum.{Sum}
 use Rattle.fee_rate.specs.Laws.{joined}
 use Rattle.fee_rate.specs.Limits.{IsSum}
-use Rattle.graph_model.specs.Rates.{sum_of, Falls}
+use Rattle.graphs.specs.Rates.{sum_of, Falls}
 use Rattle.fee_rate.specs.declared.rates.FeeRate.{FeeRate}
 use Rattle.diagram.specs.Parts.{rate_of, AreLevelParts, FallsTo, MayFollow}
 use Rattle.diagram.proofs.WalkLemmas.{same_sum, first_of, Contains-head}

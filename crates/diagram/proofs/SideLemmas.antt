@@ -9,7 +9,7 @@ use Rattle.arithmetic.proofs.Rates.{cross_trans_strict_left, cross_trans_strict_
 use Rattle.fee_rate.specs.declared.rates.Sum.{Sum}
 use Rattle.fee_rate.specs.Limits.{InRange}
 use Rattle.fee_rate.specs.Rates.{Same, ComparesRates}
-use Rattle.graph_model.specs.Diagrams.{height_at}
+use Rattle.graphs.specs.Diagrams.{height_at}
 use Rattle.diagram.specs.declared.sides.Side.{Side}
 use Rattle.diagram.specs.Points.{Rises, YieldsCorners}
 use Rattle.diagram.specs.Comparisons.{height_from, ArePoints, HasPoints, IsInRange, StandAt, Moves}

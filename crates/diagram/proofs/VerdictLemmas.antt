@@ -6,10 +6,10 @@ use Rattle.std.specs.declared.cmp.Ordering.{Ordering}
 use Rattle.std.specs.declared.cmp.Ordering.TheVariants.{Less, Equal, Greater}
 use Rattle.fee_rate.specs.declared.rates.Sum.{Sum}
 use Rattle.fee_rate.specs.Rates.{AtMost, Below, Same, ComparesRates}
-use Rattle.graph_model.specs.declared.names.Verdict.{Verdict}
-use Rattle.graph_model.specs.declared.names.Verdict.TheVariants.{Better, Worse, Incomparable}
-use Rattle.graph_model.specs.declared.names.Verdict.TheVariants.{Equal as Even}
-use Rattle.graph_model.specs.Diagrams.{height_at, IsAtOrAbove, Compares}
+use Rattle.graphs.specs.declared.names.Verdict.{Verdict}
+use Rattle.graphs.specs.declared.names.Verdict.TheVariants.{Better, Worse, Incomparable}
+use Rattle.graphs.specs.declared.names.Verdict.TheVariants.{Equal as Even}
+use Rattle.graphs.specs.Diagrams.{height_at, IsAtOrAbove, Compares}
 use Rattle.std.specs.Prelude.{pos}
 use Rattle.diagram.specs.Points.{Rises, AreLevelCorners}
 use Rattle.diagram.specs.declared.sides.Side.{Side}

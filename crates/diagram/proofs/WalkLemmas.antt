@@ -13,9 +13,9 @@ use Rattle.std.proofs.lemmas.List.Elements.{Contains-append_right, Contains-appe
 use Rattle.arithmetic.proofs.Sums.{total-append}
 use Rattle.fee_rate.specs.Rates.{AtMost, ComparesRates}
 use Rattle.fee_rate.specs.Limits.{IsSum}
-use Rattle.graph_model.specs.Laws.{EqualRatesJoinOnce}
-use Rattle.graph_model.specs.Diagrams.{ends_from, JoinsEqualRates}
-use Rattle.graph_model.specs.Rates.{sum_of, Falls}
+use Rattle.graphs.specs.Laws.{EqualRatesJoinOnce}
+use Rattle.graphs.specs.Diagrams.{ends_from, JoinsEqualRates}
+use Rattle.graphs.specs.Rates.{sum_of, Falls}
 use Rattle.diagram.specs.Parts.{rate_of}
 use Rattle.diagram.specs.Walks.{FitBehind, TakesSegment, AreAhead, AreLeft, UnlessEnded, WhereTaken, HasCorners, CanGoOn, corners_from, corners_count}
 use Rattle.diagram.specs.declared.segments.Ahead.{Ahead}

@@ -5,11 +5,11 @@ use Rattle.std.specs.declared.cmp.Ordering.{Ordering}
 use Rattle.fee_rate.specs.declared.rates.Sum.{Sum}
 use Rattle.fee_rate.specs.Limits.{InRange}
 use Rattle.fee_rate.specs.Rates.{ComparesRates}
-use Rattle.graph_model.specs.Diagrams.{height_between, height_at}
+use Rattle.graphs.specs.Diagrams.{height_between, height_at}
 use Rattle.std.specs.declared.cmp.Ordering.TheVariants.{Less, Equal, Greater}
-use Rattle.graph_model.specs.declared.names.Verdict.{Verdict}
-use Rattle.graph_model.specs.declared.names.Verdict.TheVariants.{Better, Worse, Incomparable}
-use Rattle.graph_model.specs.declared.names.Verdict.TheVariants.{Equal as Even}
+use Rattle.graphs.specs.declared.names.Verdict.{Verdict}
+use Rattle.graphs.specs.declared.names.Verdict.TheVariants.{Better, Worse, Incomparable}
+use Rattle.graphs.specs.declared.names.Verdict.TheVariants.{Equal as Even}
 use Rattle.diagram.specs.declared.sides.Line.{Line}
 use Rattle.diagram.specs.declared.sides.Nearest.{Nearest}
 use Rattle.diagram.specs.declared.sides.Nearest.TheVariants.{First, Second, Neither}

@@ -5,7 +5,7 @@ use Rattle.fee_rate.specs.declared.rates.FeeRate.{FeeRate}
 use Rattle.fee_rate.specs.declared.rates.Sum.{Sum}
 use Rattle.fee_rate.specs.Limits.{InRange, IsSum}
 use Rattle.fee_rate.specs.Rates.{AtMost}
-use Rattle.graph_model.specs.Rates.{sum_of, Falls}
+use Rattle.graphs.specs.Rates.{sum_of, Falls}
 
 -- a part's fee and size, as a sum
 abbrev pub rate_of : FeeRate → Sum

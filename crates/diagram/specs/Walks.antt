@@ -6,8 +6,8 @@ use Rattle.fee_rate.specs.declared.rates.Sum.{Sum}
 use Rattle.fee_rate.specs.Laws.{joined}
 use Rattle.fee_rate.specs.Limits.{IsSum}
 use Rattle.fee_rate.specs.Rates.{AtMost, Below}
-use Rattle.graph_model.specs.Rates.{sum_of, Falls}
-use Rattle.graph_model.specs.Diagrams.{ends_from, JoinsEqualRates}
+use Rattle.graphs.specs.Rates.{sum_of, Falls}
+use Rattle.graphs.specs.Diagrams.{ends_from, JoinsEqualRates}
 use Rattle.diagram.specs.declared.segments.Ahead.{Ahead}
 use Rattle.diagram.specs.declared.segments.Ahead.TheVariants.{Unknown, Part, End}
 use Rattle.diagram.specs.declared.segments.Corners.{Corners}

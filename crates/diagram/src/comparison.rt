@@ -1,11 +1,11 @@
 ghost use Rattle.std.specs.Prelude.{◌≡◌, ℕ, ℤ, List};
 ghost use Rattle.std.specs.Iterator.{IsFinite};
-ghost use Rattle.graph_model.specs.Diagrams.{Compares};
+ghost use Rattle.graphs.specs.Diagrams.{Compares};
 ghost use Rattle.diagram.specs.Points.{YieldsCorners};
 ghost use Rattle.diagram.specs.Comparisons.{and_here};
 
 use crate::sides::{Side, step};
-use graph_model::Verdict;
+use graphs::Verdict;
 use std::cmp::Ordering;
 
 /// How the diagram of corners `a` stands to that of `b`, at every size: `Better` where it is at or above it

@@ -6,7 +6,7 @@
 ghost use Rattle.std.specs.Prelude.{List};
 ghost use Rattle.std.specs.Iterator.{IsFinite};
 ghost use Rattle.fee_rate.specs.declared.rates.Sum.{Sum};
-ghost use Rattle.graph_model.specs.Diagrams.{corners_of, JoinsEqualRates};
+ghost use Rattle.graphs.specs.Diagrams.{corners_of, JoinsEqualRates};
 ghost use Rattle.diagram.specs.Parts.{YieldsParts};
 ghost use Rattle.diagram.specs.Points.{YieldsCorners};
 ghost use Rattle.diagram.specs.Walks.{corner_steps, corners_left, CanGoOn};

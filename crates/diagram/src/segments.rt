@@ -5,7 +5,7 @@ ghost use Rattle.diagram.specs.Parts.{rate_of};
 ghost use Rattle.diagram.specs.Walks.{corner_steps, corners_left, AreLeft, CanGoOn, FitBehind, TakesSegment, WhereTaken};
 
 use fee_rate::{FeeRate, Sum, add, cmp_rate};
-use graph_model::equal_rates_join_once;
+use graphs::equal_rates_join_once;
 use std::cmp::Ordering;
 
 /// What is known of the part behind those taken.

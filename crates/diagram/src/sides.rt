@@ -1,6 +1,7 @@
 ghost use Rattle.std.specs.Prelude.{◌≡◌, ℕ, ◌+◌, ◌-◌, ◌*◌, ◌^◌, ◌<◌, ◌≤◌, ℤ, pos, ◌-ℤ◌, ◌*ℤ◌, unsigned_abs, List, [], ◌∷◌, Some, None, IfSome, MatchOption};
 ghost use Rattle.std.specs.Iterator.{IsFinite};
-ghost use Rattle.fee_rate.specs.Limits.{InRange, greatest_fee, greatest_size, greatest_count};
+ghost use Rattle.fee_rate.specs.Limits.{InRange};
+ghost use Rattle.fee_rate.specs.declared.limits.TheConstants.{MAX_FEE, MAX_SIZE, MAX_TOTAL};
 ghost use Rattle.fee_rate.specs.Rates.{ComparesRates};
 ghost use Rattle.diagram.specs.Points.{YieldsCorners};
 ghost use Rattle.diagram.specs.Comparisons.{height_from, HasPoints, IsInRange, IsOn, IsReady, Moves, NearestIs, pending, StandAt};
@@ -145,9 +146,9 @@ fn compare_point(point: (u64, i128), line: Line) -> Ordering
 
 /// The difference between two fees, times a size. Below 2^114 in absolute value.
 fn rise_times(from: i128, to: i128, size: u64) -> i128
-    requires from { unsigned_abs from ≤ greatest_fee * greatest_count }
-    requires to { unsigned_abs to ≤ greatest_fee * greatest_count }
-    requires size { size ≤ greatest_size * greatest_count }
+    requires from { unsigned_abs from ≤ MAX_FEE * MAX_TOTAL }
+    requires to { unsigned_abs to ≤ MAX_FEE * MAX_TOTAL }
+    requires size { size ≤ MAX_SIZE * MAX_TOTAL }
     ensures product { result ≡ (to -ℤ from) *ℤ pos size }
     ensures bound { unsigned_abs result < 2 ^ 114 }
 {
@@ -156,8 +157,8 @@ fn rise_times(from: i128, to: i128, size: u64) -> i128
 
 /// A difference of fees times a size.
 fn times(fee: i128, size: u64) -> i128
-    requires fee { unsigned_abs fee ≤ 2 * (greatest_fee * greatest_count) }
-    requires size { size ≤ greatest_size * greatest_count }
+    requires fee { unsigned_abs fee ≤ 2 * (MAX_FEE * MAX_TOTAL) }
+    requires size { size ≤ MAX_SIZE * MAX_TOTAL }
     ensures product { result ≡ fee *ℤ pos size }
     ensures bound { unsigned_abs result < 2 ^ 114 }
 {

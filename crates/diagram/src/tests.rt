@@ -1,13 +1,13 @@
 ghost use Rattle.std.specs.Prelude.{map, List};
 ghost use Rattle.std.specs.Iterator.{IsFinite};
 ghost use Rattle.fee_rate.specs.declared.rates.Sum.{Sum};
-ghost use Rattle.graph_model.specs.Diagrams.{corners_of, JoinsEqualRates};
+ghost use Rattle.graphs.specs.Diagrams.{corners_of, JoinsEqualRates};
 ghost use Rattle.diagram.specs.Parts.{rate_of, AreLevelParts};
 ghost use Rattle.diagram.specs.Points.{YieldsCorners};
 
 use crate::{Corners, are_level_parts, corners, verdict};
 use fee_rate::FeeRate;
-use graph_model::{Verdict, equal_rates_join_once};
+use graphs::{Verdict, equal_rates_join_once};
 use std::iter::Copied;
 use std::slice::Iter;
 use std::test::Fail;

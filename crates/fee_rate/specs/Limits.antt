@@ -1,30 +1,32 @@
--- The ranges of fees and sizes: of one transaction, and of a sum over at most 1,048,576 of them.
-use Rattle.std.specs.Prelude.{ℕ, ◌*◌, ◌^◌, ◌≤◌, ℤ, unsigned_abs}
+-- The ranges of fees, in satoshis, and of sizes, in virtual bytes: of one transaction, and of a sum over at most MAX_TOTAL of them.
+use Rattle.std.specs.Prelude.{ℕ, ◌*◌, ◌≤◌, ℤ, unsigned_abs}
 use Rattle.fee_rate.specs.declared.rates.FeeRate.{FeeRate}
 use Rattle.fee_rate.specs.declared.rates.Sum.{Sum}
+use Rattle.fee_rate.specs.declared.limits.TheConstants.{MAX_FEE, MAX_SIZE, MAX_TOTAL}
 
--- 21 million coins, in satoshis: no fee is further from 0
-abbrev pub greatest_fee : ℕ
-greatest_fee = 2100000000000000
+-- what a transaction may pay: at most all the money there is, either way
+abbrev pub IsFee : ℤ → Type 0
+IsFee fee = unsigned_abs fee ≤ MAX_FEE
 
--- the greatest size of a transaction, in virtual bytes
-abbrev pub greatest_size : ℕ
-greatest_size = 4000000
+-- how large a transaction may be
+abbrev pub IsSize : ℕ → Type 0
+IsSize size = (1 ≤ size) × (size ≤ MAX_SIZE)
 
--- the greatest number of transactions in a sum
-abbrev pub greatest_count : ℕ
-greatest_count = 2 ^ 20
-
--- a transaction's fee and size are in range, and its size is at least 1
+-- a transaction's fee and size are in range
 pub record IsRate (r : FeeRate) : Type 0 where
-  pub fee : unsigned_abs r.fee ≤ greatest_fee
+  pub fee : IsFee r.fee
   pub some : 1 ≤ r.size
-  pub size : r.size ≤ greatest_size
+  pub size : r.size ≤ MAX_SIZE
 
 -- fee and size are in the range of a sum over at most that many transactions; an empty sum is one
+pub record InRangeOf (n : ℕ) (f : ℤ) (s : ℕ) : Type 0 where
+  pub fee : unsigned_abs f ≤ MAX_FEE * n
+  pub size : s ≤ MAX_SIZE * n
+
+-- of a sum over a whole level
 pub record InRange (f : ℤ) (s : ℕ) : Type 0 where
-  pub fee : unsigned_abs f ≤ greatest_fee * greatest_count
-  pub size : s ≤ greatest_size * greatest_count
+  pub fee : unsigned_abs f ≤ MAX_FEE * MAX_TOTAL
+  pub size : s ≤ MAX_SIZE * MAX_TOTAL
 
 abbrev pub IsSum : Sum → Type 0
 IsSum a = InRange a.fee a.size

@@ -1,5 +1,5 @@
-ghost use Rattle.std.specs.Prelude.{◌≡◌, ◌+◌, ◌-◌, ◌^◌, ◌<◌, ◌≤◌, ◌↔◌, true, pos, ◌+ℤ◌, ◌-ℤ◌, ◌*ℤ◌, unsigned_abs, MatchBool};
-ghost use Rattle.fee_rate.specs.Limits.{InRange, IsRate, IsSum};
+ghost use Rattle.std.specs.Prelude.{◌≡◌, ◌+◌, ◌-◌, ◌^◌, ◌<◌, ◌≤◌, pos, ◌+ℤ◌, ◌-ℤ◌, ◌*ℤ◌, unsigned_abs, MatchBool};
+ghost use Rattle.fee_rate.specs.Limits.{InRange, InRangeOf, IsSum};
 ghost use Rattle.fee_rate.specs.Rates.{AtMost, Below, ComparesFully, ComparesRates};
 
 use std::cmp::Ordering;
@@ -16,19 +16,6 @@ pub struct FeeRate {
 pub struct Sum {
     pub fee: i128,
     pub size: u64,
-}
-
-/// The greatest fee of a transaction, in satoshis, either way.
-const GREATEST_FEE: u64 = 2_100_000_000_000_000;
-
-/// The greatest size of a transaction, in virtual bytes.
-const GREATEST_SIZE: u64 = 4_000_000;
-
-/// Whether a fee and a size are those of a transaction.
-pub fn is_rate(rate: FeeRate) -> bool
-    ensures { (result ≡ true) ↔ IsRate rate }
-{
-    rate.fee.unsigned_abs() <= GREATEST_FEE && rate.size >= 1 && rate.size <= GREATEST_SIZE
 }
 
 impl From<FeeRate> for Sum {
@@ -50,7 +37,7 @@ pub fn cmp_rate(a: Sum, b: Sum) -> Ordering
     requires b_some { 1 ≤ b.size }
     ensures { ComparesRates a b result }
 {
-    crossed(a.fee, b.size).cmp(&crossed(b.fee, a.size))
+    product(a.fee, b.size).cmp(&product(b.fee, a.size))
 }
 
 /// Whether the first rate is the lower one, fee over size. Both sizes are at least 1.
@@ -113,11 +100,13 @@ pub fn minus(a: Sum, b: Sum) -> Sum
     }
 }
 
-/// A fee times a size. Below 2^114 in absolute value.
-fn crossed(fee: i128, size: u64) -> i128
+/// A fee times a size, exactly: of sums over a whole level below 2^114 in absolute value, and of sums over a cluster of at most
+/// 64 transactions below 2^85, so that the difference of two is below 2^86.
+pub fn product(fee: i128, size: u64) -> i128
     requires { InRange fee size }
     ensures product { result ≡ fee *ℤ pos size }
-    ensures bound { unsigned_abs result < 2 ^ 114 }
+    ensures level { unsigned_abs result < 2 ^ 114 }
+    ensures cluster { InRangeOf 64 fee size → unsigned_abs result < 2 ^ 85 }
 {
     fee * i128::from(size)
 }

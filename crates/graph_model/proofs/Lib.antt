@@ -1,10 +1,1 @@
 pub mod RunLemmas
-pub mod ListLemmas
-pub mod WalkLemmas
-pub mod PairLemmas
-pub mod Members
-pub mod FlowLemmas
-pub mod TangentLemmas
-pub mod BestLemmas
-pub mod CornerLemmas
-pub mod RemovalLemmas

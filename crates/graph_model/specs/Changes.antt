@@ -1,9 +1,10 @@
 -- What an accepted command changes.
-use Rattle.std.specs.Prelude.{◌≡◌, ◌≢◌, ℕ, ℤ, true, [], ◌∷◌, ◌++◌, Contains, ◌⊎◌, ◌↔◌}
+use Rattle.std.specs.Prelude.{◌≡◌, ℕ, ℤ, true, [], ◌∷◌, ◌++◌, Contains, ◌⊎◌}
 use Rattle.std.specs.FinMap as finmap
 use Rattle.graph_model.specs.declared.names.Limits.{Limits}
-use Rattle.graph_model.specs.declared.names.Level.TheVariants.{Top}
-use Rattle.graph_model.specs.Graphs.{Graph, AreDistinct}
+use Rattle.graphs.specs.declared.names.Level.TheVariants.{Top}
+use Rattle.graphs.specs.Graphs.{Graph}
+use Rattle.graphs.specs.Removals.{IsWithout}
 use Rattle.graph_model.specs.States.{State, level_of, with_top, size_of}
 
 -- a changing command was accepted
@@ -35,14 +36,6 @@ AddsPair old parent child new =
 -- `fee` sets the fee in the table, for both levels; the size stays
 abbrev pub with_fee : State → ℕ → ℤ → State
 with_fee state id fee = record (begun state) { table = finmap.insert state.table id (record { fee = fee; size = size_of state.table id }) }
-
--- A graph without a name: each parent of the name becomes a parent of each of its children, and then
--- the name is dropped with its pairs. In which order names and pairs are listed is left open.
-pub record IsWithout (old : Graph) (id : ℕ) (new : Graph) : Type 0 where
-  pub names : (a : ℕ) → Contains new.names a ↔ (Contains old.names a × (a ≢ id))
-  pub names_once : AreDistinct new.names
-  pub pairs : (a b : ℕ) → Contains new.pairs (a, b) ↔ ((a ≢ id) × (b ≢ id) × (Contains old.pairs (a, b) ⊎ (Contains old.pairs (a, id) × Contains old.pairs (id, b))))
-  pub pairs_once : AreDistinct new.pairs
 
 -- the name stands in main or in staging
 abbrev pub IsKept : State → ℕ → Type 0

@@ -3,8 +3,8 @@
 use Rattle.std.specs.Prelude.{ℕ, ℤ, ◌^◌, ◌<◌, List, [], ◌∷◌, ◌++◌, codes, decimal, FitsSigned}
 use Rattle.std.specs.Fmt.{signed_decimal}
 use Rattle.std.specs.Int.{w64}
-use Rattle.graph_model.specs.declared.names.Level.{Level}
-use Rattle.graph_model.specs.declared.names.Level.TheVariants.{Main, Top}
+use Rattle.graphs.specs.declared.names.Level.{Level}
+use Rattle.graphs.specs.declared.names.Level.TheVariants.{Main, Top}
 
 pub data Command : Type 0 where
   SetLimits : (count size total : ℕ) → Command

@@ -1,6 +1,4 @@
 pub mod Limits
-pub mod Rooms
-pub mod Graphs
 pub mod States
 pub mod Commands
 pub mod Refusals
@@ -9,9 +7,5 @@ pub mod Replies
 pub mod Steps
 pub mod Lines
 pub mod Runs
-pub mod Rates
-pub mod Linearizations
-pub mod Certificates
-pub mod Diagrams
 pub mod Texts
 pub mod Laws

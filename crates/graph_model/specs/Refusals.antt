@@ -3,10 +3,11 @@ use Rattle.std.specs.Prelude.{◌≡◌, ℕ, true, ◌<◌, ◌≤◌, List, le
 use Rattle.std.specs.FinMap as finmap
 use Rattle.graph_model.specs.declared.names.Refusal.{Refusal}
 use Rattle.graph_model.specs.declared.names.Refusal.TheVariants.{Late, Range, Fee, Size, Taken, ClusterSize, Full, Unknown, Cycle, Count, Staging, Twice, Parent, Empty, NoStaging, Memory}
-use Rattle.graph_model.specs.declared.names.Level.{Level}
-use Rattle.graph_model.specs.declared.names.Level.TheVariants.{Top}
-use Rattle.graph_model.specs.Limits.{IsFee, IsSize, AreInRange}
-use Rattle.graph_model.specs.Graphs.{IsAncestor, AreConnected, Lists}
+use Rattle.graphs.specs.declared.names.Level.{Level}
+use Rattle.graphs.specs.declared.names.Level.TheVariants.{Top}
+use Rattle.fee_rate.specs.Limits.{IsFee, IsSize}
+use Rattle.graph_model.specs.Limits.{AreInRange}
+use Rattle.graphs.specs.Graphs.{IsAncestor, AreConnected, Lists}
 use Rattle.graph_model.specs.States.{State, level_of, IsLive, size_of}
 use Rattle.graph_model.specs.Commands.{Command}
 use Rattle.graph_model.specs.Commands as commands

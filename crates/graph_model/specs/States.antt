@@ -3,10 +3,10 @@ use Rattle.std.specs.Prelude.{ℕ, ℤ, Bool, false, [], Option, None, Some, IsS
 use Rattle.std.specs.Ordering.{nat_cmp}
 use Rattle.std.specs.FinMap as finmap
 use Rattle.graph_model.specs.declared.names.Limits.{Limits}
-use Rattle.graph_model.specs.declared.names.Level.{Level}
-use Rattle.graph_model.specs.declared.names.Level.TheVariants.{Main, Top}
+use Rattle.graphs.specs.declared.names.Level.{Level}
+use Rattle.graphs.specs.declared.names.Level.TheVariants.{Main, Top}
 use Rattle.graph_model.specs.Limits.{default_limits}
-use Rattle.graph_model.specs.Graphs.{Graph}
+use Rattle.graphs.specs.Graphs.{Graph}
 
 -- what the table has of a name
 pub record Entry : Type 0 where

@@ -2,11 +2,11 @@
 use Rattle.std.specs.Prelude.{◌≡◌, ◌≢◌, ℕ, ◌^◌, ◌<◌, ◌≤◌, not, unsigned_abs, FitsSigned, List, [], ◌∷◌, ◌++◌, map, filter, flat_map, length, codes, decimal, All}
 use Rattle.std.specs.Fmt.{signed_decimal}
 use Rattle.std.specs.Int.{w64}
-use Rattle.graph_model.specs.declared.names.Flow.{Flow}
+use Rattle.graphs.specs.declared.names.Flow.{Flow}
 use Rattle.graph_model.specs.Commands.{spaced}
 use Rattle.graph_model.specs.Replies.{line_text}
 use Rattle.graph_model.specs.Lines.{max_line, without_return, is_quiet}
-use Rattle.graph_model.specs.Certificates.{Part, Txs, Finding, Certified, NoGraph, NoOrder, NoFalling, NoFlow, Finds}
+use Rattle.graphs.specs.Certificates.{Part, Txs, Finding, Certified, NoGraph, NoOrder, NoFalling, NoFlow, Finds}
 
 -- transactions, edges (parent, child), and parts with flows
 pub record Text : Type 0 where

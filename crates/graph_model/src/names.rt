@@ -1,7 +1,6 @@
 ghost use Rattle.std.specs.Prelude.{◌≡◌};
 
-/// The name of a transaction: a number that the caller chooses.
-pub type TxId = u64;
+use graphs::TxId;
 
 /// The limits of a graph.
 #[derive(Clone, Copy, Debug, PartialEq, Eq)]
@@ -12,37 +11,6 @@ pub struct Limits {
     pub size: u64,
     /// The most names that may be live, in main and staging together: 1 to 1,048,576.
     pub total: u64,
-}
-
-/// How one fee-rate diagram stands to another, at every size.
-#[derive(Clone, Copy, Debug, PartialEq, Eq)]
-pub enum Verdict {
-    /// At or above it everywhere, and not everywhere equal.
-    Better,
-    /// At or below it everywhere, and not everywhere equal.
-    Worse,
-    /// The same.
-    Equal,
-    /// Above it somewhere, and below it elsewhere.
-    Incomparable,
-}
-
-/// An amount that goes from a child to a parent, in proof that no part of a chunk has a greater rate than the chunk.
-/// Amounts are satoshis times virtual bytes.
-#[derive(Clone, Copy, Debug, PartialEq, Eq)]
-pub struct Flow {
-    pub child: TxId,
-    pub parent: TxId,
-    pub amount: u128,
-}
-
-/// Which graph a command speaks of.
-#[derive(Clone, Copy, Debug, PartialEq, Eq)]
-pub enum Level {
-    /// The main graph.
-    Main,
-    /// The staging graph where there is one, else the main graph.
-    Top,
 }
 
 /// Why a command was refused. A refused command changes nothing.

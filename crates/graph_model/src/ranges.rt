@@ -1,36 +1,21 @@
 ghost use Rattle.std.specs.Prelude.{◌↔◌, IsTrue};
-ghost use Rattle.graph_model.specs.Limits.{AreInRange, IsFee, IsSize};
+ghost use Rattle.graph_model.specs.Limits.{AreInRange};
 
 use crate::Limits;
-
-/// What a transaction may pay at most, and as a negative fee at least, in satoshis.
-const MAX_FEE: i64 = 2_100_000_000_000_000;
-
-/// How large a transaction may be, in virtual bytes.
-const MAX_SIZE: u64 = 4_000_000;
+use fee_rate::MAX_TOTAL;
 
 /// The most names of a cluster that may be set as a limit.
-const MAX_COUNT: u64 = 64;
+pub const MAX_COUNT: u64 = 64;
 
 /// The greatest total size of a cluster that may be set as a limit, in virtual bytes.
-const MAX_CLUSTER_SIZE: u64 = 256_000_000;
+pub const MAX_CLUSTER_SIZE: u64 = 256_000_000;
 
-/// The most live names that may be set as a limit.
-const MAX_TOTAL: u64 = 1_048_576;
-
-/// Whether a transaction may pay this fee, in satoshis.
-pub fn is_fee(fee: i64) -> bool
-    ensures { IsTrue result ↔ IsFee fee }
-{
-    (-MAX_FEE..=MAX_FEE).contains(&fee)
-}
-
-/// Whether a transaction may have this size, in virtual bytes.
-pub fn is_size(size: u64) -> bool
-    ensures { IsTrue result ↔ IsSize size }
-{
-    (1..=MAX_SIZE).contains(&size)
-}
+/// The limits at the start.
+pub const DEFAULT_LIMITS: Limits = Limits {
+    count: 64,
+    size: 404_000,
+    total: 1_048_576,
+};
 
 impl Limits {
     /// Whether they may be set: each is in its range.

@@ -13,9 +13,9 @@ use Rattle.arithmetic.proofs.Sums.{total-filter_cond, total_same}
 use Rattle.bitset.specs.Places.{places, IsWithin}
 use Rattle.bitset.specs.Sets.{Contains-places, places-Contains}
 use Rattle.closure_flow.specs.Closures.{parents_at}
-use Rattle.graph_model.specs.declared.names.Flow.{Flow}
-use Rattle.graph_model.specs.Graphs.{AreDistinct}
-use Rattle.graph_model.specs.Certificates.{given, gotten}
+use Rattle.graphs.specs.declared.names.Flow.{Flow}
+use Rattle.graphs.specs.Graphs.{AreDistinct}
+use Rattle.graphs.specs.Certificates.{given, gotten}
 use Rattle.linearize.specs.Orders.{flows_from, flows_of, parents_within}
 use Rattle.linearize.proofs.FlowLists.{from_append, from_one, from_none, from_nil, of_append, of_one, of_nil}
 use Rattle.linearize.proofs.Lists.{distinct_joined, distinct_places, from_map, pick, pick_in, pick_out}

@@ -6,8 +6,8 @@ use Rattle.std.proofs.lemmas.List.Elements.{Contains-append_right}
 use Rattle.std.specs.FinSet as fin
 use Rattle.bitset.specs.Places.{places, IsWithin}
 use Rattle.bitset.specs.Sets.{Contains-places}
-use Rattle.graph_model.specs.Graphs.{AreDistinct}
-use Rattle.graph_model.specs.Linearizations.{StandsBefore}
+use Rattle.graphs.specs.Graphs.{AreDistinct}
+use Rattle.graphs.specs.Linearizations.{StandsBefore}
 use Rattle.dep_graph.specs.Graph.{Graph, is_member, is_ancestor, ancestors_of, members_of, IsCover, IsClosed}
 use Rattle.linearize.specs.Orders.{IsOrderOf}
 use Rattle.linearize.proofs.Places.{Contains-head, Contains-later, Contains-cases, none_in_empty, in_members, clash}

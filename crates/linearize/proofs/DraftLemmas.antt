@@ -1,7 +1,7 @@
 -- A draft as it is kept: what one more place, flow or part makes of it, and what its lists are.
 use Rattle.std.proofs.Common.{◌≡◌, ℕ, ◌+◌, ◌-◌, ◌≤◌, List, [], ◌∷◌, ◌++◌, length, map, take, drop, refl, sym, ap, ◌∙◌, subst, arith, append_assoc, length-append, length-drop, take-append-drop}
 use Rattle.std.proofs.lemmas.List.{append-nil, take_all, drop_all, take-append-le, drop-append-le, length-take-le, length-map, map-append}
-use Rattle.graph_model.specs.Certificates.{Part}
+use Rattle.graphs.specs.Certificates.{Part}
 use Rattle.linearize.specs.declared.draft.LinearPart.{LinearPart}
 use Rattle.linearize.specs.declared.draft.PlaceFlow.{PlaceFlow}
 use Rattle.linearize.specs.Graphs.{sum_from}

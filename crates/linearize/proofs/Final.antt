@@ -1,10 +1,10 @@
 -- What linearizes all members certifies each plain graph that they stand for.
 use Rattle.std.proofs.Common.{◌≡◌, ℕ, zero, suc, ◌⊎◌, inl, inr, true, List, [], ◌∷◌, refl, sym, ◌∙◌, subst}
 use Rattle.std.specs.Prelude.{Contains}
-use Rattle.graph_model.specs.Graphs as model
-use Rattle.graph_model.specs.Linearizations.{IsTopological}
-use Rattle.graph_model.specs.Certificates.{Part, IsCertificate}
-use Rattle.graph_model.specs.Rates.{HasSizes}
+use Rattle.graphs.specs.Graphs as model
+use Rattle.graphs.specs.Linearizations.{IsTopological}
+use Rattle.graphs.specs.Certificates.{Part, IsCertificate}
+use Rattle.graphs.specs.Rates.{HasSizes}
 use Rattle.dep_graph.specs.Graph.{Graph, is_member, is_ancestor, members_of, IsCover, IsClosed, IsNear}
 use Rattle.dep_graph.specs.Walks.{IsWalk}
 use Rattle.linearize.specs.Graphs.{StandsFor, HasRates, IsComponent, sum_at}

@@ -6,7 +6,7 @@ use Rattle.std.proofs.lemmas.List.Concat.{flat_map-append}
 use Rattle.std.specs.Ordering.{nat_cmp}
 use Rattle.std.specs.FinSet as fin
 use Rattle.bitset.specs.Places.{places}
-use Rattle.graph_model.specs.declared.names.Flow.{Flow}
+use Rattle.graphs.specs.declared.names.Flow.{Flow}
 use Rattle.linearize.specs.Drafts.{Written, all_flows, flows_in, with_flows}
 use Rattle.linearize.specs.Orders.{flows_from, flows_of, parents_within}
 use Rattle.linearize.proofs.Places.{Goes, goes_on, gone}

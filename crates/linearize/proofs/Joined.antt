@@ -18,9 +18,9 @@ use Rattle.closure_flow.specs.Closures as closure
 use Rattle.closure_flow.specs.Closures.{weight_at, weight_of, IsNoneHeavier, parents_at}
 use Rattle.fee_rate.specs.declared.rates.Sum.{Sum}
 use Rattle.fee_rate.specs.Rates.{AtMost}
-use Rattle.graph_model.specs.Rates.{sums, Falls}
-use Rattle.graph_model.specs.Linearizations.{StandsBefore}
-use Rattle.graph_model.specs.Certificates.{Part, weight_in, Certifies}
+use Rattle.graphs.specs.Rates.{sums, Falls}
+use Rattle.graphs.specs.Linearizations.{StandsBefore}
+use Rattle.graphs.specs.Certificates.{Part, weight_in, Certifies}
 use Rattle.dep_graph.specs.Graph.{Graph, IsCover, IsClosed, HoldsMembers, rate_of}
 use Rattle.linearize.specs.Drafts.{Written, placed, flows_in}
 use Rattle.linearize.specs.Graphs.{sum_at, HasRates}

@@ -10,7 +10,7 @@ use Rattle.std.specs.FinSet as fin
 use Rattle.arithmetic.specs.Sums.{total}
 use Rattle.bitset.specs.Places.{places, IsWithin, IsRising, AllAbove}
 use Rattle.bitset.specs.Sets.{IsRising-places, places-empty, same_members, contains-empty}
-use Rattle.graph_model.specs.Graphs.{AreDistinct}
+use Rattle.graphs.specs.Graphs.{AreDistinct}
 use Rattle.linearize.proofs.Places.{Contains-head, Contains-later, Contains-cases, none_in_empty}
 use Rattle.linearize.proofs.Sets.{from_remove, to_remove, total_remove, total_naturals, not_true}
 

@@ -7,8 +7,8 @@ use Rattle.std.specs.Ordering.{nat_cmp}
 use Rattle.std.specs.FinSet as fin
 use Rattle.bitset.specs.Places.{IsWithin}
 use Rattle.dep_graph.specs.Graph.{Graph, is_ancestor, ancestors_of, IsClosed}
-use Rattle.graph_model.specs.Graphs.{AreDistinct}
-use Rattle.graph_model.specs.Linearizations.{StandsBefore}
+use Rattle.graphs.specs.Graphs.{AreDistinct}
+use Rattle.graphs.specs.Linearizations.{StandsBefore}
 use Rattle.linearize.specs.Orders.{IsOrderOf}
 use Rattle.linearize.proofs.Places.{Contains-head, Contains-later, Contains-cases, none_in_empty}
 use Rattle.linearize.proofs.Sets.{from_meet, to_meet, from_remove, to_remove, not_empty, len_remove, len_within}

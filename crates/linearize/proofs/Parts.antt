@@ -9,9 +9,9 @@ use Rattle.bitset.specs.Sets.{places-Contains}
 use Rattle.closure_flow.specs.Closures.{parents_at}
 use Rattle.fee_rate.specs.declared.rates.Sum.{Sum}
 use Rattle.fee_rate.specs.Rates.{AtMost}
-use Rattle.graph_model.specs.declared.names.Flow.{Flow}
-use Rattle.graph_model.specs.Rates.{sums}
-use Rattle.graph_model.specs.Certificates.{Part, weight_in, Certifies}
+use Rattle.graphs.specs.declared.names.Flow.{Flow}
+use Rattle.graphs.specs.Rates.{sums}
+use Rattle.graphs.specs.Certificates.{Part, weight_in, Certifies}
 use Rattle.dep_graph.specs.Graph.{Graph, IsCover, IsClosed, HoldsMembers}
 use Rattle.linearize.specs.Drafts.{Written, placed}
 use Rattle.linearize.specs.Graphs.{sum_at}

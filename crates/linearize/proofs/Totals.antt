@@ -10,9 +10,10 @@ use Rattle.std.proofs.Math.Nat.{mul-le-mul_left}
 use Rattle.bitset.specs.Places.{places, IsWithin}
 use Rattle.bitset.specs.Sets.{len-places, Contains-places}
 use Rattle.fee_rate.specs.declared.rates.Sum.{Sum}
-use Rattle.fee_rate.specs.Limits.{IsRate, greatest_fee, greatest_size}
-use Rattle.graph_model.specs.Rates.{sums}
-use Rattle.graph_model.specs.Certificates.{weight_in}
+use Rattle.fee_rate.specs.Limits.{IsRate}
+use Rattle.fee_rate.specs.declared.limits.TheConstants.{MAX_FEE, MAX_SIZE}
+use Rattle.graphs.specs.Rates.{sums}
+use Rattle.graphs.specs.Certificates.{weight_in}
 use Rattle.dep_graph.specs.Graph.{Graph, rate_of}
 use Rattle.linearize.specs.Graphs.{sum_at}
 use Rattle.linearize.specs.Orders.{sums_in}
@@ -24,8 +25,8 @@ pub record Summed (n : ℕ) (dep : Graph) (s : fin.FinSet nat_cmp) (ys zs : List
   pub goes : Goes n s ys zs
   pub fee_is : fee ≡ (sums (sum_at dep) ys).fee
   pub size_is : size ≡ (sums (sum_at dep) ys).size
-  pub fee_small : unsigned_abs fee ≤ greatest_fee * length ys
-  pub size_small : size ≤ greatest_size * length ys
+  pub fee_small : unsigned_abs fee ≤ MAX_FEE * length ys
+  pub size_small : size ≤ MAX_SIZE * length ys
 
 pub abs_add : (x y : ℤ) (m k : ℕ) → unsigned_abs x ≤ m → unsigned_abs y ≤ k → unsigned_abs (x +ℤ y) ≤ m + k
 abs_add x y m k a b = omega (arith, ints)
@@ -37,33 +38,33 @@ pub summed_more : (n : ℕ) (dep : Graph) (s : fin.FinSet nat_cmp) (ys ws zs : L
     → Summed n dep s (ys ++ p ∷ []) zs (fee +ℤ (rate_of dep p).fee) (size + (rate_of dep p).size)
 summed_more n dep s ys ws zs fee size p rate h e =
     let longer : length (ys ++ p ∷ []) ≡ length ys + 1 = length-append ys (p ∷ []) in
-    let more : greatest_fee * length (ys ++ p ∷ []) ≡ greatest_fee * length ys + greatest_fee = ap (λ (k : ℕ). greatest_fee * k) longer ∙ omega arith in
-    let wider : greatest_size * length (ys ++ p ∷ []) ≡ greatest_size * length ys + greatest_size = ap (λ (k : ℕ). greatest_size * k) longer ∙ omega arith in
+    let more : MAX_FEE * length (ys ++ p ∷ []) ≡ MAX_FEE * length ys + MAX_FEE = ap (λ (k : ℕ). MAX_FEE * k) longer ∙ omega arith in
+    let wider : MAX_SIZE * length (ys ++ p ∷ []) ≡ MAX_SIZE * length ys + MAX_SIZE = ap (λ (k : ℕ). MAX_SIZE * k) longer ∙ omega arith in
     record {
       goes = goes_on n s ys ws zs p h.goes e;
       fee_is = (let t = total-append (λ q. (sum_at dep q).fee) ys (p ∷ []) in let f = h.fee_is in omega (arith, ints, t, f));
       size_is = (let t = sum_by-append (λ q. (sum_at dep q).size) ys (p ∷ []) in let f = h.size_is in let o = sum_by-cons (λ q. (sum_at dep q).size) p [] in omega (arith, t, f, o));
-      fee_small = subst (λ (m : ℕ). unsigned_abs (fee +ℤ (rate_of dep p).fee) ≤ m) (sym more) (abs_add fee (rate_of dep p).fee (greatest_fee * length ys) greatest_fee h.fee_small rate.fee);
+      fee_small = subst (λ (m : ℕ). unsigned_abs (fee +ℤ (rate_of dep p).fee) ≤ m) (sym more) (abs_add fee (rate_of dep p).fee (MAX_FEE * length ys) MAX_FEE h.fee_small rate.fee);
       size_small = subst (λ (m : ℕ). size + (rate_of dep p).size ≤ m) (sym wider) (let a = h.size_small in let b = rate.size in omega (arith, a, b));
     }
 
 -- what is added fits
-pub fee_fits : (fee more : ℤ) (k : ℕ) → unsigned_abs fee ≤ greatest_fee * k → k < 4096 → unsigned_abs more ≤ greatest_fee → unsigned_abs (fee +ℤ more) < 2 ^ 63
+pub fee_fits : (fee more : ℤ) (k : ℕ) → unsigned_abs fee ≤ MAX_FEE * k → k < 4096 → unsigned_abs more ≤ MAX_FEE → unsigned_abs (fee +ℤ more) < 2 ^ 63
 fee_fits fee more k h few m =
-    let a = abs_add fee more (greatest_fee * k) greatest_fee h m in
-    let b : greatest_fee * k ≤ greatest_fee * 4095 = mul-le-mul_left greatest_fee (let l : k ≤ 4095 = omega arith in l) in
+    let a = abs_add fee more (MAX_FEE * k) MAX_FEE h m in
+    let b : MAX_FEE * k ≤ MAX_FEE * 4095 = mul-le-mul_left MAX_FEE (let l : k ≤ 4095 = omega arith in l) in
     omega (arith, a, b)
 
-pub size_fits : (size more k : ℕ) → size ≤ greatest_size * k → k < 4096 → more ≤ greatest_size → size + more < 2 ^ 64
+pub size_fits : (size more k : ℕ) → size ≤ MAX_SIZE * k → k < 4096 → more ≤ MAX_SIZE → size + more < 2 ^ 64
 size_fits size more k h few m =
-    let b : greatest_size * k ≤ greatest_size * 4095 = mul-le-mul_left greatest_size (let l : k ≤ 4095 = omega arith in l) in
+    let b : MAX_SIZE * k ≤ MAX_SIZE * 4095 = mul-le-mul_left MAX_SIZE (let l : k ≤ 4095 = omega arith in l) in
     omega (arith, b)
 
 pub summed_small : (n : ℕ) (dep : Graph) (s : fin.FinSet nat_cmp) (ys ws : List ℕ) (fee : ℤ) (size : ℕ) → IsWithin n s → fin.len s ≤ 4096 → Summed n dep s ys ws fee size → ws ≡ []
-    → size ≤ greatest_size * 4096
+    → size ≤ MAX_SIZE * 4096
 summed_small n dep s ys ws fee size within few h e =
     let long : length ys ≤ 4096 = (let l = ap length (gone n s ys ws h.goes e) in let k = len-places n s within in omega arith) in
-    let b : greatest_size * length ys ≤ greatest_size * 4096 = mul-le-mul_left greatest_size long in
+    let b : MAX_SIZE * length ys ≤ MAX_SIZE * 4096 = mul-le-mul_left MAX_SIZE long in
     let z = h.size_small in omega (arith, b, z)
 
 pub summed_all : (n : ℕ) (dep : Graph) (s : fin.FinSet nat_cmp) (ys ws : List ℕ) (fee : ℤ) (size : ℕ) → Summed n dep s ys ws fee size → ws ≡ [] → (let total_ : Sum = record { fee = fee; size = size } in total_ ≡ sums_in n dep s)

@@ -3,7 +3,7 @@ use Rattle.std.specs.Prelude.{◌≡◌, ◌↔◌, ℕ, true, Contains}
 use Rattle.fee_rate.specs.declared.rates.FeeRate.{FeeRate}
 use Rattle.fee_rate.specs.declared.rates.Sum.{Sum}
 use Rattle.fee_rate.specs.Limits.{IsRate}
-use Rattle.graph_model.specs.Graphs as model
+use Rattle.graphs.specs.Graphs as model
 use Rattle.dep_graph.specs.Graph.{Graph, is_member, is_ancestor, members_of, rate_of, IsNear}
 use Rattle.dep_graph.specs.Walks.{Walk}
 

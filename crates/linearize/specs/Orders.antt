@@ -6,11 +6,11 @@ use Rattle.std.specs.FinSet as set
 use Rattle.bitset.specs.Places.{places}
 use Rattle.closure_flow.specs.Closures.{parents_at}
 use Rattle.fee_rate.specs.declared.rates.Sum.{Sum}
-use Rattle.graph_model.specs.declared.names.Flow.{Flow}
-use Rattle.graph_model.specs.Graphs.{AreDistinct}
-use Rattle.graph_model.specs.Rates.{sums}
-use Rattle.graph_model.specs.Linearizations.{StandsBefore}
-use Rattle.graph_model.specs.Certificates.{weight_in}
+use Rattle.graphs.specs.declared.names.Flow.{Flow}
+use Rattle.graphs.specs.Graphs.{AreDistinct}
+use Rattle.graphs.specs.Rates.{sums}
+use Rattle.graphs.specs.Linearizations.{StandsBefore}
+use Rattle.graphs.specs.Certificates.{weight_in}
 use Rattle.dep_graph.specs.Graph.{Graph, is_member, IsCover}
 use Rattle.linearize.specs.Graphs.{sum_at}
 

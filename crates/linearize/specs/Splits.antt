@@ -4,7 +4,7 @@ use Rattle.std.specs.Ordering.{nat_cmp}
 use Rattle.std.specs.FinSet as set
 use Rattle.fee_rate.specs.declared.rates.Sum.{Sum}
 use Rattle.fee_rate.specs.Rates.{AtMost}
-use Rattle.graph_model.specs.Certificates.{Part, HasFalling, HasFlows, weight_in}
+use Rattle.graphs.specs.Certificates.{Part, HasFalling, HasFlows, weight_in}
 use Rattle.dep_graph.specs.Graph.{Graph, IsCover, IsClosed, HoldsMembers}
 use Rattle.linearize.specs.Graphs.{HasRates, most_members, sum_at}
 use Rattle.linearize.specs.Drafts.{Written, placed, flows_in}

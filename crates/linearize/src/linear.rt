@@ -1,8 +1,8 @@
 ghost use Rattle.std.specs.Prelude.{◌≡◌, ◌*◌, ◌^◌, ◌<◌, ◌≤◌, [], length, map, IfOk};
 ghost use Rattle.std.specs.FinSet as set;
-ghost use Rattle.graph_model.specs.Graphs as model;
-ghost use Rattle.graph_model.specs.Certificates.{IsCertificate};
-ghost use Rattle.graph_model.specs.Linearizations.{IsOptimal};
+ghost use Rattle.graphs.specs.Graphs as model;
+ghost use Rattle.graphs.specs.Certificates.{IsCertificate};
+ghost use Rattle.graphs.specs.Linearizations.{IsOptimal};
 ghost use Rattle.dep_graph.specs.Graph.{members_of, IsCover};
 ghost use Rattle.linearize.specs.Graphs.{HasRates, IsComponent, StandsFor, most_members, sum_at};
 ghost use Rattle.linearize.specs.Drafts.{AreShown, flows_in, named, placed};
@@ -13,7 +13,7 @@ use crate::split::split;
 use bitset::Bits;
 use closure_flow::Scratch;
 use dep_graph::DepGraph;
-use graph_model::certified_parts_are_optimal;
+use graphs::certified_parts_are_optimal;
 use outside::NoMemory;
 use std::alloc::Global;
 use std::marker::Model;
@@ -33,7 +33,7 @@ pub struct Linear<const W: usize> {
 // Clauses see the parts, each with its fee and size, its places and its flows.
 impl<const W: usize> Model for Linear<W> {
     ghost use Rattle.std.specs.Prelude.{◌≡◌, ◌*◌, ◌^◌, ◌<◌, ◌≤◌, List, [], vec_len};
-    ghost use Rattle.graph_model.specs.Certificates.{Part};
+    ghost use Rattle.graphs.specs.Certificates.{Part};
 
     ghost Value = { List Part };
 

@@ -3,8 +3,9 @@ ghost use Rattle.std.specs.Prelude.{IfSome, MatchOption};
 ghost use Rattle.std.specs.FinSet as set;
 ghost use Rattle.closure_flow.specs.Closures.{weight_at};
 ghost use Rattle.dep_graph.specs.Graph.{HoldsMembers};
-ghost use Rattle.fee_rate.specs.Limits.{IsRate, greatest_size};
-ghost use Rattle.graph_model.specs.Certificates.{weight_in};
+ghost use Rattle.fee_rate.specs.Limits.{IsRate};
+ghost use Rattle.fee_rate.specs.declared.limits.TheConstants.{MAX_SIZE};
+ghost use Rattle.graphs.specs.Certificates.{weight_in};
 ghost use Rattle.linearize.specs.Graphs.{HasRates, most_members, sum_at, sum_from};
 ghost use Rattle.linearize.specs.Orders.{sums_in};
 ghost use Rattle.linearize.specs.Splits.{Adds, IsBest, IsReady};
@@ -78,7 +79,7 @@ fn sum<const W: usize>(dep: &DepGraph<W>, within: &Bits<W>) -> FeeRate
     requires few { set.len within.now ≤ most_members }
     requires rates { HasRates dep.now }
     ensures is { sum_from result ≡ sums_in (64 * W) dep.now within.now }
-    ensures size { result.size ≤ greatest_size * most_members }
+    ensures size { result.size ≤ MAX_SIZE * most_members }
 {
     let mut fee = 0;
     let mut size = 0;
@@ -96,7 +97,7 @@ fn weigh<const W: usize>(dep: &DepGraph<W>, within: &Bits<W>, whole: FeeRate, we
     requires members { HoldsMembers dep.now within.now }
     requires rates { HasRates dep.now }
     requires room { 64 * W ≤ length weights.old }
-    requires size { whole.size ≤ greatest_size * most_members }
+    requires size { whole.size ≤ MAX_SIZE * most_members }
     ensures are { (t : ℕ) → set.contains within.now t ≡ true
         → weight_at weights.new t ≡ weight_in (sum_from whole) (sum_at dep.now t) }
     ensures small { (t : ℕ) → set.contains within.now t ≡ true → unsigned_abs (weight_at weights.new t) < 2 ^ 99 }
@@ -109,7 +110,7 @@ fn weigh<const W: usize>(dep: &DepGraph<W>, within: &Bits<W>, whole: FeeRate, we
 // How far a rate is above that of a whole, times both sizes.
 fn weight(whole: FeeRate, own: FeeRate) -> i128
     requires own { IsRate own }
-    requires size { whole.size ≤ greatest_size * most_members }
+    requires size { whole.size ≤ MAX_SIZE * most_members }
     ensures is { result ≡ weight_in (sum_from whole) (sum_from own) }
     ensures small { unsigned_abs result < 2 ^ 99 }
 {
@@ -118,7 +119,7 @@ fn weight(whole: FeeRate, own: FeeRate) -> i128
 
 // A fee times the size of at most 4,096 transactions. Below 2^98 in absolute value.
 fn product(fee: i64, size: u64) -> i128
-    requires { size ≤ greatest_size * most_members }
+    requires { size ≤ MAX_SIZE * most_members }
     ensures product { result ≡ fee *ℤ pos size }
     ensures bound { unsigned_abs result < 2 ^ 98 }
 {

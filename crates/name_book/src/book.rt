@@ -2,7 +2,7 @@ ghost use Rattle.std.specs.Prelude.{◌≡◌, ◌+◌, ◌-◌, ◌<◌, ◌≤
 ghost use Rattle.std.specs.FinMap as finmap;
 
 use crate::spot::Spot;
-use graph_model::TxId;
+use graphs::TxId;
 use indexmap::IndexMap;
 use node_pool::{Key, Pool, PoolFault, keys_are_used_once};
 use outside::NoMemory;

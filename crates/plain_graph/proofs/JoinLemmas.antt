@@ -4,11 +4,11 @@ use Rattle.std.specs.Prelude.{Contains, sum_by}
 use Rattle.graph_model.specs.declared.names.Limits.{Limits}
 use Rattle.graph_model.specs.declared.names.Refusal.{Refusal}
 use Rattle.graph_model.specs.declared.names.Refusal.TheVariants.{Unknown, Cycle, Count, ClusterSize}
-use Rattle.graph_model.specs.Graphs.{IsAncestor, AreConnected}
+use Rattle.graphs.specs.Graphs.{IsAncestor, AreConnected}
 use Rattle.graph_model.specs.States.{State, Table, size_of, size_in}
 use Rattle.graph_model.specs.Commands.{Dep}
 use Rattle.graph_model.specs.Refusals.{RefusalIs, JoinsTo, NoRefusal, FirstAt}
-use Rattle.graph_model.proofs.ListLemmas.{Lists-same}
+use Rattle.graphs.proofs.ListLemmas.{Lists-same}
 use Rattle.plain_graph.specs.declared.tx.Tx.{Tx}
 use Rattle.plain_graph.specs.Plain.{Kept, StandsFor, entry_in}
 use Rattle.plain_graph.specs.Sound.{names_of}

@@ -3,8 +3,8 @@ use Rattle.std.proofs.Common.{◌≡◌, ℕ, ◌+◌, ◌<◌, ◌≤◌, List,
 use Rattle.std.proofs.lemmas.List.{take_more, take_all}
 use Rattle.std.proofs.lemmas.List.Elements.{Contains-push_cases, Contains-append_left, Contains-push}
 use Rattle.std.specs.Prelude.{Contains}
-use Rattle.graph_model.specs.Graphs.{AreDistinct}
-use Rattle.graph_model.proofs.ListLemmas.{Contains-head, Contains-later}
+use Rattle.graphs.specs.Graphs.{AreDistinct}
+use Rattle.graphs.proofs.ListLemmas.{Contains-head, Contains-later}
 use Rattle.plain_graph.specs.Rests.{Puts, IsPair, IsToChild, IsLeft, ArePairsWithout}
 
 pub none_in_empty : {A : Type 0} (x : A) → Contains [] x → ⊥

@@ -7,13 +7,14 @@ use Rattle.std.proofs.lemmas.Bool.Decides.{Decides-eqb, nat_tests}
 use Rattle.std.proofs.lemmas.List.Elements.{All-filter}
 use Rattle.graph_model.specs.declared.names.Limits.{Limits}
 use Rattle.graph_model.specs.declared.names.Refusal.TheVariants.{Unknown}
-use Rattle.graph_model.specs.Graphs.{Graph, AreDistinct}
+use Rattle.graphs.specs.Graphs.{Graph, AreDistinct}
 use Rattle.graph_model.specs.States.{State, Entry, Table}
-use Rattle.graph_model.specs.Changes.{IsWithout, IsKept, begun, with_graph}
+use Rattle.graphs.specs.Removals.{IsWithout}
+use Rattle.graph_model.specs.Changes.{IsKept, begun, with_graph}
 use Rattle.graph_model.specs.Commands.{Remove}
 use Rattle.graph_model.specs.Refusals.{RefusalIs}
 use Rattle.graph_model.specs.Replies.{Done}
-use Rattle.graph_model.proofs.ListLemmas.{Contains-head, Contains-later, Contains-cases}
+use Rattle.graphs.proofs.ListLemmas.{Contains-head, Contains-later, Contains-cases}
 use Rattle.plain_graph.specs.declared.tx.Tx.{Tx}
 use Rattle.plain_graph.specs.Plain.{Kept, StandsFor, Steps, entry_in}
 use Rattle.plain_graph.specs.Sound.{names_of, IsSound}

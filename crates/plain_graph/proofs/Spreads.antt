@@ -10,9 +10,9 @@ use Rattle.std.proofs.lemmas.List.Sorted.{Contains-permutation, IsPermutation-sy
 use Rattle.std.proofs.lemmas.Bool.Decides.{Decides-eqb}
 use Rattle.std.proofs.lemmas.Map.Keys.{IsDistinct-push, IsDistinct-IsPermutation, IsStrictlyIncreasing-from_distinct}
 use Rattle.std.proofs.lemmas.Map.Made.{is_member-Decides}
-use Rattle.graph_model.specs.Rooms.{Room}
-use Rattle.graph_model.specs.Graphs.{Lists}
-use Rattle.graph_model.proofs.ListLemmas.{length-within}
+use Rattle.graphs.specs.Rooms.{Room}
+use Rattle.graphs.specs.Graphs.{Lists}
+use Rattle.graphs.proofs.ListLemmas.{length-within}
 use Rattle.plain_graph.specs.declared.walk.Way.{Way}
 use Rattle.plain_graph.specs.Walks.{Leads, ReachesFrom, IsClosed, LeadsOut, EndsAreAmong, HoldsAll}
 use Rattle.plain_graph.proofs.Ways.{reaches_itself, reached_next, stays}

@@ -13,8 +13,8 @@ use Rattle.graph_model.specs.States.{State, LevelState, Table, Entry, level_of, 
 use Rattle.graph_model.specs.Changes.{added, limited}
 use Rattle.graph_model.specs.Commands.{Command, SetLimits, Add, Count}
 use Rattle.graph_model.specs.Limits.{default_limits}
-use Rattle.graph_model.specs.declared.names.Level.{Level}
-use Rattle.graph_model.specs.declared.names.Level.TheVariants.{Main, Top}
+use Rattle.graphs.specs.declared.names.Level.{Level}
+use Rattle.graphs.specs.declared.names.Level.TheVariants.{Main, Top}
 use Rattle.graph_model.specs.Refusals.{RefusalIs}
 use Rattle.graph_model.specs.Replies.{Reply, Refused, Done, Number}
 use Rattle.graph_model.specs.Steps.{Accepts, MayLackMemory}
@@ -23,7 +23,7 @@ use Rattle.plain_graph.specs.Plain.{Kept, StandsFor, Steps, entry_in}
 use Rattle.plain_graph.specs.Sound.{names_of, IsSound}
 use Rattle.plain_graph.proofs.Entries.{entry_of, entry-push, Contains-entry, none_of_true}
 use Rattle.plain_graph.proofs.Puts.{AreDistinct-push}
-use Rattle.graph_model.specs.Graphs.{AreDistinct}
+use Rattle.graphs.specs.Graphs.{AreDistinct}
 
 -- the table has the entries of the transactions
 pub record HasTable (txs : List Tx) (table : Table) : Type 0 where

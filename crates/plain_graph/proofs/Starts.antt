@@ -5,9 +5,9 @@ use Rattle.std.specs.List.{IsDistinct}
 use Rattle.std.proofs.lemmas.List.{length-map}
 use Rattle.std.proofs.lemmas.Bool.Decides.{Decides-eqb}
 use Rattle.graph_model.specs.declared.names.Limits.{Limits}
-use Rattle.graph_model.specs.Graphs.{AreConnected, Lists}
-use Rattle.graph_model.proofs.ListLemmas.{Contains-head, Contains-later, Contains-cases, Lists-for}
-use Rattle.graph_model.proofs.WalkLemmas.{AreConnected-sym}
+use Rattle.graphs.specs.Graphs.{AreConnected, Lists}
+use Rattle.graphs.proofs.ListLemmas.{Contains-head, Contains-later, Contains-cases, Lists-for}
+use Rattle.graphs.proofs.WalkLemmas.{AreConnected-sym}
 use Rattle.plain_graph.specs.declared.tx.Tx.{Tx}
 use Rattle.plain_graph.specs.declared.walk.Way.{Way}
 use Rattle.plain_graph.specs.declared.walk.Way.TheVariants.{Either}

@@ -3,8 +3,8 @@ use Rattle.std.proofs.Common.{◌≡◌, ℕ, suc, zero, ◌+◌, ◌<◌, ◌�
 use Rattle.std.proofs.lemmas.List.{take_more, take_all}
 use Rattle.std.proofs.lemmas.List.Elements.{Contains-push_cases}
 use Rattle.std.specs.Prelude.{Contains}
-use Rattle.graph_model.specs.Graphs.{Walk, Trail}
-use Rattle.graph_model.proofs.WalkLemmas.{walk_cons}
+use Rattle.graphs.specs.Graphs.{Walk, Trail}
+use Rattle.graphs.proofs.WalkLemmas.{walk_cons}
 use Rattle.plain_graph.specs.declared.walk.Way.{Way}
 use Rattle.plain_graph.specs.declared.walk.Way.TheVariants.{Up, Down, Either}
 use Rattle.plain_graph.specs.Walks.{Leads, Reaches, ReachesFrom, PairStays, IsClosed, LeadsOut}

@@ -2,7 +2,7 @@
 use Rattle.std.specs.Prelude.{ℕ, ◌≤◌, List, map, length, All}
 use Rattle.graph_model.specs.declared.names.Limits.{Limits}
 use Rattle.graph_model.specs.Limits.{AreInRange}
-use Rattle.graph_model.specs.Graphs.{AreDistinct}
+use Rattle.graphs.specs.Graphs.{AreDistinct}
 use Rattle.plain_graph.specs.declared.tx.Tx.{Tx}
 use Rattle.plain_graph.specs.Walks.{EndsAreAmong}
 

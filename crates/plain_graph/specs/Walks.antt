@@ -1,6 +1,6 @@
 -- Walks along pairs, one way or both, and the lists of names that they lead to.
 use Rattle.std.specs.Prelude.{◌≡◌, ℕ, ◌≤◌, Bool, true, false, List, length, Contains, ◌⊎◌}
-use Rattle.graph_model.specs.Graphs.{IsAncestor, AreConnected}
+use Rattle.graphs.specs.Graphs.{IsAncestor, AreConnected}
 use Rattle.plain_graph.specs.declared.walk.Way.{Way}
 use Rattle.plain_graph.specs.declared.walk.Way.TheVariants.{Up, Down, Either}
 

@@ -1,6 +1,6 @@
 ghost use Rattle.std.specs.Prelude.{◌≡◌, ◌+◌, ◌-◌, ◌*◌, ◌^◌, ◌<◌, ◌≤◌, false, [], ◌∷◌, length, IfOk, OnOk, if◌then◌else◌, is_ok, MatchResult, Contains, IsSome};
 ghost use Rattle.graph_model.specs.Limits.{AreInRange};
-ghost use Rattle.graph_model.specs.Graphs.{AreConnected};
+ghost use Rattle.graphs.specs.Graphs.{AreConnected};
 ghost use Rattle.plain_graph.specs.Walks.{HoldsAll};
 ghost use Rattle.plain_graph.specs.Sound.{AreSmall};
 ghost use Rattle.plain_graph.specs.Joins.{JoinRefusalIs};
@@ -85,7 +85,7 @@ impl Plain {
     ghost use Rattle.plain_graph.specs.Plain.{Kept, StandsFor, Steps, entry_in};
     ghost use Rattle.graph_model.specs.States.{State, start};
     ghost use Rattle.graph_model.specs.Refusals.{RefusalIs};
-    ghost use Rattle.graph_model.specs.Graphs.{Lists};
+    ghost use Rattle.graphs.specs.Graphs.{Lists};
     ghost use Rattle.plain_graph.specs.Sound.{names_of};
     ghost use Rattle.plain_graph.specs.Walks.{Reaches};
 

@@ -1,6 +1,6 @@
 ghost use Rattle.std.specs.Prelude.{◌≡◌, ◌+◌, ◌↔◌, [], ◌∷◌, length, nat_eq, MatchOption, IsTrue, Contains};
 ghost use Rattle.std.specs.List.{IsDistinct};
-ghost use Rattle.graph_model.specs.Graphs.{Lists};
+ghost use Rattle.graphs.specs.Graphs.{Lists};
 ghost use Rattle.plain_graph.specs.Walks.{goes_up, goes_down, Reaches, ReachesFrom, PairStays, IsClosed, LeadsOut, HoldsAll};
 
 use graph_model::{IdBuf, TxId};

@@ -4,12 +4,12 @@
 ghost use Rattle.std.specs.Prelude.{List};
 ghost use Rattle.std.specs.Iterator.{IsFinite};
 ghost use Rattle.fee_rate.specs.declared.rates.Sum.{Sum};
-ghost use Rattle.graph_model.specs.Diagrams.{corners_of, Compares, JoinsEqualRates};
+ghost use Rattle.graphs.specs.Diagrams.{corners_of, Compares, JoinsEqualRates};
 ghost use Rattle.diagram.specs.Parts.{YieldsParts};
 
 use diagram::{corners, verdict};
 use fee_rate::FeeRate;
-use graph_model::{Verdict, equal_rates_join_once};
+use graphs::{Verdict, equal_rates_join_once};
 
 /// The verdict of the whole diagrams of two levels, each given by its parts in falling rate: `Better` where
 /// staging's diagram is at or above main's at every size and not everywhere equal. Takes no memory.

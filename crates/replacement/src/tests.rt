@@ -4,7 +4,7 @@ ghost use Rattle.diagram.specs.Parts.{rate_of, AreLevelParts};
 use crate::compare_full;
 use diagram::are_level_parts;
 use fee_rate::FeeRate;
-use graph_model::Verdict;
+use graphs::Verdict;
 use std::test::Fail;
 
 /// The verdict of two levels' parts.

@@ -3,9 +3,9 @@ use Rattle.std.proofs.Common.{◌≡◌, ℕ, ◌^◌, ◌<◌, ◌≤◌, zero,
 use Rattle.std.specs.Prelude.{Contains, All}
 use Rattle.std.proofs.lemmas.List.Elements.{All-contains, All-head, All-tail}
 use Rattle.std.proofs.lemmas.List.Sums.{sum_by-cons}
-use Rattle.graph_model.specs.declared.names.Flow.{Flow}
-use Rattle.graph_model.specs.Certificates.{Finding, Certified, NoGraph, NoOrder, NoFalling, NoFlow, Finds}
-use Rattle.graph_model.specs.Certificates as model
+use Rattle.graphs.specs.declared.names.Flow.{Flow}
+use Rattle.graphs.specs.Certificates.{Finding, Certified, NoGraph, NoOrder, NoFalling, NoFlow, Finds}
+use Rattle.graphs.specs.Certificates as model
 use Rattle.graph_model.specs.Lines.{Cut, with_last}
 use Rattle.graph_model.specs.Texts.{Text, IsText, HasPartTypes, NoSyntax, Found}
 use Rattle.certificate.specs.declared.lists.Part.{Part}

@@ -1,6 +1,6 @@
 -- One line of a session.
 use Rattle.std.specs.Prelude.{◌≡◌, ℕ, ◌+◌, ◌*◌, ◌<◌, ◌≤◌, List, length}
-use Rattle.graph_model.specs.Rooms.{Room}
+use Rattle.graphs.specs.Rooms.{Room}
 use Rattle.graph_model.specs.States.{State}
 use Rattle.graph_model.specs.Commands.{Command}
 use Rattle.graph_model.specs.Lines.{Means, Quiet, Says, NoForm, max_line}

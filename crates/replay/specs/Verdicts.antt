@@ -1,6 +1,6 @@
 -- What is said of a text, as it is kept before it is written.
 use Rattle.graph_model.specs.Texts.{Text, Verification, NoSyntax, Found}
-use Rattle.graph_model.specs.Certificates.{Certified, NoGraph, NoOrder, NoFalling, NoFlow, Finds}
+use Rattle.graphs.specs.Certificates.{Certified, NoGraph, NoOrder, NoFalling, NoFlow, Finds}
 use Rattle.replay.specs.declared.check.Said.{Said}
 use Rattle.replay.specs.declared.check.Said.TheVariants as said
 

@@ -5,7 +5,7 @@ ghost use Rattle.graph_model.specs.Replies.{line_text};
 ghost use Rattle.graph_model.specs.Lines.{max_input};
 ghost use Rattle.graph_model.specs.Texts.{Verification, Found, HasTextTypes, verification_text};
 ghost use Rattle.wire.specs.Drafts.{text_of, amount_of};
-ghost use Rattle.graph_model.specs.Certificates.{Certified};
+ghost use Rattle.graphs.specs.Certificates.{Certified};
 ghost use Rattle.outside.specs.Faults.{Rose};
 ghost use Rattle.outside.specs.Transfers.{AppendsFront};
 ghost use Rattle.replay.specs.Verdicts.{verification_of, IsSaidOf};

@@ -4,7 +4,7 @@ ghost use Rattle.graph_model.specs.Lines.{max_input};
 ghost use Rattle.outside.specs.Faults.{Rose};
 ghost use Rattle.outside.specs.Transfers.{AppendsFront, Writes};
 ghost use Rattle.graph_model.specs.Texts.{Verification, Found};
-ghost use Rattle.graph_model.specs.Certificates.{Certified};
+ghost use Rattle.graphs.specs.Certificates.{Certified};
 ghost use Rattle.tx_graph.specs.Kept.{StandsFor};
 ghost use Rattle.graph_model.specs.States.{start};
 ghost use Rattle.replay.specs.Outputs.{WritesOutput, WritesFront};

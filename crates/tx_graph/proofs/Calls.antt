@@ -8,15 +8,16 @@ use Rattle.fee_rate.specs.declared.rates.FeeRate.{FeeRate}
 use Rattle.graph_model.specs.declared.names.Limits.{Limits}
 use Rattle.graph_model.specs.declared.names.Refusal.{Refusal}
 use Rattle.graph_model.specs.declared.names.Refusal.TheVariants.{Late, Range, Fee, Size, Taken, Full, ClusterSize, Unknown}
-use Rattle.graph_model.specs.Limits.{AreInRange, IsFee, IsSize}
-use Rattle.graph_model.specs.Graphs.{Lists}
+use Rattle.fee_rate.specs.Limits.{IsFee, IsSize}
+use Rattle.graph_model.specs.Limits.{AreInRange}
+use Rattle.graphs.specs.Graphs.{Lists}
 use Rattle.graph_model.specs.States.{State, IsLive}
 use Rattle.graph_model.specs.Commands.{Command, SetLimits, Add, Dep, SetFee, Remove}
 use Rattle.graph_model.specs.Refusals.{RefusalIs, First, NoRefusal}
-use Rattle.graph_model.specs.Laws.{AncestorsWithPair, StaysWithoutCycle, NamesCanGo, StaysGraph, AncestorsWithoutName}
-use Rattle.graph_model.specs.declared.names.Level.TheVariants.{Top}
+use Rattle.graphs.specs.Laws.{AncestorsWithPair, StaysWithoutCycle, NamesCanGo, StaysGraph, AncestorsWithoutName}
+use Rattle.graphs.specs.declared.names.Level.TheVariants.{Top}
 use Rattle.graph_model.specs.Replies.{Reply, Done}
-use Rattle.graph_model.proofs.ListLemmas.{Lists-for}
+use Rattle.graphs.proofs.ListLemmas.{Lists-for}
 use Rattle.dep_graph.specs.Graph.{is_member, is_ancestor, rate_of, SetsFee, AddsPair, DropsPlace}
 use Rattle.cluster_record.specs.Clusters.{Cluster, AreLinked}
 use Rattle.name_book.specs.declared.spot.Spot.{Spot}

@@ -6,7 +6,7 @@ use Rattle.std.proofs.lemmas.List.{get_or_append_left, get_or_push}
 use Rattle.std.proofs.lemmas.List.Elements.{Contains-append_left, Contains-push, Contains-push_cases}
 use Rattle.std.specs.List.{AllPairs}
 use Rattle.std.specs.FinMap as finmap
-use Rattle.graph_model.proofs.ListLemmas.{Contains-head, Contains-later, Contains-cases}
+use Rattle.graphs.proofs.ListLemmas.{Contains-head, Contains-later, Contains-cases}
 use Rattle.cluster_record.specs.Clusters.{Cluster, IsCluster, AreApart}
 use Rattle.name_book.specs.declared.spot.Spot.{Spot}
 use Rattle.name_book.specs.Books.{Spots}

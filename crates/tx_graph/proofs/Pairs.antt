@@ -8,9 +8,9 @@ use Rattle.std.proofs.lemmas.List.Elements.{Contains-append_left, Contains-appen
 use Rattle.graph_model.specs.declared.names.Limits.{Limits}
 use Rattle.graph_model.specs.declared.names.Refusal.{Refusal}
 use Rattle.graph_model.specs.declared.names.Refusal.TheVariants.{Cycle, Count, ClusterSize}
-use Rattle.graph_model.specs.Graphs.{Lists}
+use Rattle.graphs.specs.Graphs.{Lists}
 use Rattle.graph_model.specs.Refusals.{FirstAt, NoRefusal}
-use Rattle.graph_model.proofs.ListLemmas.{Lists-same}
+use Rattle.graphs.proofs.ListLemmas.{Lists-same}
 use Rattle.fee_rate.specs.declared.rates.FeeRate.{FeeRate}
 use Rattle.dep_graph.specs.Graph.{is_ancestor, rate_of}
 use Rattle.dep_graph.specs.Walks.{IsWalk}

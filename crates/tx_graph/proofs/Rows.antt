@@ -3,14 +3,14 @@ use Rattle.std.proofs.Common.{◌≡◌, ℕ, true, false, List, sym, refl, subs
 use Rattle.std.specs.Prelude.{Contains, sum_by}
 use Rattle.std.specs.FinMap as finmap
 use Rattle.std.proofs.lemmas.Bool.{true_from_ne_false}
-use Rattle.graph_model.specs.declared.names.Level.{Level}
+use Rattle.graphs.specs.declared.names.Level.{Level}
 use Rattle.graph_model.specs.declared.names.Refusal.{Refusal}
 use Rattle.graph_model.specs.declared.names.Refusal.TheVariants.{Unknown, Cycle, Count, ClusterSize}
-use Rattle.graph_model.specs.Graphs.{IsAncestor, AreConnected, Lists}
+use Rattle.graphs.specs.Graphs.{IsAncestor, AreConnected, Lists}
 use Rattle.graph_model.specs.States.{State, LevelState, Table, level_of, size_of, size_in}
 use Rattle.graph_model.specs.Commands.{Dep}
 use Rattle.graph_model.specs.Refusals.{RefusalIs, First, FirstAt, NoRefusal, OverCount, OverSize}
-use Rattle.graph_model.proofs.ListLemmas.{Lists-for}
+use Rattle.graphs.proofs.ListLemmas.{Lists-for}
 use Rattle.dep_graph.specs.Graph.{Node, is_member, is_ancestor, rate_of, rate_in, IsOrder}
 use Rattle.cluster_record.specs.Clusters.{AreLinked}
 use Rattle.tx_graph.specs.Kept.{Kept, StandsFor, entry_of}

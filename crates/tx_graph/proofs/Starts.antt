@@ -4,7 +4,7 @@ use Rattle.std.specs.Prelude.{Contains}
 use Rattle.std.specs.Ordering.{nat_cmp}
 use Rattle.std.specs.FinMap as finmap
 use Rattle.graph_model.specs.declared.names.Limits.{Limits}
-use Rattle.graph_model.specs.Graphs.{IsAncestor}
+use Rattle.graphs.specs.Graphs.{IsAncestor}
 use Rattle.graph_model.specs.States.{start}
 use Rattle.tx_graph.specs.Kept.{StandsFor, entry_of}
 use Rattle.tx_graph.specs.Shelves.{Shelf, graph_of}

@@ -8,17 +8,18 @@ use Rattle.std.specs.Cmp.{nat_cmp_total, unsigned_tied}
 use Rattle.std.specs.FinMap as finmap
 use Rattle.fee_rate.specs.declared.rates.FeeRate.{FeeRate}
 use Rattle.graph_model.specs.declared.names.Limits.{Limits}
-use Rattle.graph_model.specs.declared.names.Level.{Level}
-use Rattle.graph_model.specs.Graphs.{IsAncestor, AreConnected, AreDistinct, IsGraph, Lists}
+use Rattle.graphs.specs.declared.names.Level.{Level}
+use Rattle.graphs.specs.Graphs.{IsAncestor, AreConnected, AreDistinct, IsGraph, Lists}
 use Rattle.graph_model.specs.States.{State, LevelState, Table, Entry, size_of}
 use Rattle.graph_model.specs.Commands.{SetLimits, Add, Dep, SetFee, Remove, Cluster, Ancestors, Descendants, Count}
 use Rattle.graph_model.specs.Refusals.{RefusalIs}
-use Rattle.graph_model.specs.Changes.{added, limited, with_fee, begun, with_graph, IsWithout}
+use Rattle.graphs.specs.Removals.{IsWithout}
+use Rattle.graph_model.specs.Changes.{added, limited, with_fee, begun, with_graph}
 use Rattle.graph_model.specs.Changes as changes
 use Rattle.graph_model.specs.Replies.{Done, Ids, Number}
-use Rattle.graph_model.specs.Laws.{AncestorsWithPair, StaysWithoutCycle, NamesCanGo, StaysGraph, AncestorsWithoutName}
-use Rattle.graph_model.proofs.WalkLemmas.{IsAncestor-trans}
-use Rattle.graph_model.proofs.ListLemmas.{Contains-head, Contains-later, Contains-cases, Lists-for}
+use Rattle.graphs.specs.Laws.{AncestorsWithPair, StaysWithoutCycle, NamesCanGo, StaysGraph, AncestorsWithoutName}
+use Rattle.graphs.proofs.WalkLemmas.{IsAncestor-trans}
+use Rattle.graphs.proofs.ListLemmas.{Contains-head, Contains-later, Contains-cases, Lists-for}
 use Rattle.dep_graph.specs.Graph.{Node, Graph, is_member, is_ancestor, rate_of, rate_in, IsOrder, AddsPair, SetsFee, DropsPlace}
 use Rattle.cluster_record.specs.Clusters.{AreLinked}
 use Rattle.tx_graph.specs.Kept.{Kept, StandsFor, MakesStep, entry_of, AddsName}

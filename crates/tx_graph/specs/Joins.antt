@@ -3,8 +3,8 @@ use Rattle.std.specs.Prelude.{◌≡◌, ◌⊎◌, ℕ, ℤ, ◌<◌, ◌≤◌
 use Rattle.graph_model.specs.declared.names.Limits.{Limits}
 use Rattle.graph_model.specs.declared.names.Refusal.{Refusal}
 use Rattle.graph_model.specs.declared.names.Refusal.TheVariants.{Fee, Size, Taken, Full, ClusterSize, Unknown, Cycle, Count}
-use Rattle.graph_model.specs.Limits.{IsFee, IsSize}
-use Rattle.graph_model.specs.Graphs.{Lists}
+use Rattle.fee_rate.specs.Limits.{IsFee, IsSize}
+use Rattle.graphs.specs.Graphs.{Lists}
 use Rattle.graph_model.specs.Refusals.{First, FirstAt, NoRefusal}
 use Rattle.dep_graph.specs.Graph.{Graph, is_member, is_ancestor, rate_of}
 use Rattle.cluster_record.specs.Clusters.{AreLinked}

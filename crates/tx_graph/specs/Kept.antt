@@ -5,7 +5,7 @@ use Rattle.std.specs.FinMap as finmap
 use Rattle.fee_rate.specs.declared.rates.FeeRate.{FeeRate}
 use Rattle.dep_graph.specs.Graph.{Node, Graph, graph_code, is_member, is_ancestor, rate_of}
 use Rattle.graph_model.specs.declared.names.Limits.{Limits}
-use Rattle.graph_model.specs.Graphs.{IsAncestor, IsGraph}
+use Rattle.graphs.specs.Graphs.{IsAncestor, IsGraph}
 use Rattle.graph_model.specs.States.{State, Entry}
 use Rattle.graph_model.specs.Commands.{Command}
 use Rattle.graph_model.specs.Replies.{Reply}

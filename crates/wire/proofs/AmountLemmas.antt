@@ -4,8 +4,8 @@ use Rattle.std.specs.Prelude.{flat_map, All, sum_by}
 use Rattle.std.specs.List.{onto_first}
 use Rattle.std.proofs.lemmas.List.Elements.{All-head, All-tail}
 use Rattle.std.proofs.lemmas.List.Sums.{sum_by-cons}
-use Rattle.graph_model.specs.declared.names.Flow.{Flow}
-use Rattle.graph_model.specs.Certificates.{Part, Txs}
+use Rattle.graphs.specs.declared.names.Flow.{Flow}
+use Rattle.graphs.specs.Certificates.{Part, Txs}
 use Rattle.graph_model.specs.Commands.{spaced}
 use Rattle.graph_model.specs.Lines.{without_return, is_quiet, max_input}
 use Rattle.graph_model.specs.Texts.{Text, IsText, told}

@@ -3,7 +3,7 @@ use Rattle.std.proofs.Common.{◌≡◌, ◌≢◌, ℕ, List, [], ◌∷◌, �
 use Rattle.std.proofs.lemmas.List.Elements.{All-cons, All-nil}
 use Rattle.std.specs.Int.{w64}
 use Rattle.std.specs.Fmt.{signed_decimal}
-use Rattle.graph_model.specs.declared.names.Level.{Level}
+use Rattle.graphs.specs.declared.names.Level.{Level}
 use Rattle.graph_model.specs.Commands.{Command, SetLimits, Add, Dep, SetFee, Remove, Cluster, Ancestors, Descendants, Count, spaced, words_of, level_word}
 use Rattle.graph_model.specs.Lines.{Spells}
 use Rattle.wire.specs.declared.form.Form.{Form}

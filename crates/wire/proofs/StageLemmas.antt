@@ -1,8 +1,8 @@
 -- The order of lines in certificate texts, as stages that each line leads on from or not.
 use Rattle.std.proofs.Common.{◌≡◌, ℕ, ℤ, List, [], ◌∷◌, ◌++◌, refl, sym, ap, ◌∙◌, map, Option, None, Some, append_assoc, append-nil}
 use Rattle.std.specs.Prelude.{flat_map}
-use Rattle.graph_model.specs.declared.names.Flow.{Flow}
-use Rattle.graph_model.specs.Certificates.{Part, Txs}
+use Rattle.graphs.specs.declared.names.Flow.{Flow}
+use Rattle.graphs.specs.Certificates.{Part, Txs}
 use Rattle.graph_model.specs.Texts.{Text}
 use Rattle.wire.specs.declared.row.Row.{Row}
 use Rattle.wire.specs.declared.row.Row.TheVariants as rows

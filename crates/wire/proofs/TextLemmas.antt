@@ -4,7 +4,7 @@ use Rattle.std.specs.Prelude.{flat_map, filter, All}
 use Rattle.std.proofs.lemmas.Simd.{map-map}
 use Rattle.std.proofs.lemmas.List.{map-append}
 use Rattle.std.proofs.lemmas.List.Elements.{All-cons, All-nil, All-head, All-tail, All-append, All-map, filter-append}
-use Rattle.graph_model.specs.Certificates.{Part}
+use Rattle.graphs.specs.Certificates.{Part}
 use Rattle.graph_model.specs.Lines.{without_return, is_quiet}
 use Rattle.graph_model.specs.Texts.{Text, HasPartTypes, HasTextTypes, IsText, told, text_lines, part_lines}
 use Rattle.wire.specs.declared.draft.Draft.{Draft}

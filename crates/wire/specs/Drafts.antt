@@ -1,7 +1,7 @@
 -- A certificate text that was read so far, and how lines take it on.
 use Rattle.std.specs.Prelude.{◌≡◌, ℕ, ◌≤◌, ◌==◌, List, [], ◌∷◌, ◌++◌, map, flat_map, length, sum_by, All, Result, Ok, Err}
 use Rattle.std.specs.List.{slice_split}
-use Rattle.graph_model.specs.Certificates.{Part}
+use Rattle.graphs.specs.Certificates.{Part}
 use Rattle.graph_model.specs.Lines.{max_line}
 use Rattle.graph_model.specs.Texts.{Text, HasTextTypes, IsText, told, text_lines}
 use Rattle.wire.specs.declared.draft.CertText.{CertText}

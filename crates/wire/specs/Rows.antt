@@ -3,7 +3,7 @@ use Rattle.std.specs.Prelude.{◌≡◌, ◌≢◌, ℕ, ℤ, List, [], ◌∷�
 use Rattle.std.specs.Fmt.{signed_decimal}
 use Rattle.std.specs.Int.{w64}
 use Rattle.graph_model.specs.Commands.{spaced}
-use Rattle.graph_model.specs.Certificates.{Part}
+use Rattle.graphs.specs.Certificates.{Part}
 use Rattle.graph_model.specs.Texts.{Text}
 use Rattle.wire.specs.declared.fault.TextFault.{TextFault}
 use Rattle.wire.specs.declared.fault.TextFault.TheVariants as faults

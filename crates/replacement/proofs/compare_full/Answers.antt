@@ -1,4 +1,4 @@
-use Rattle.graph_model.specs.Diagrams.{corners_of}
+use Rattle.graphs.specs.Diagrams.{corners_of}
 use Rattle.replacement.proofs.compare_full.Goals as goal
 
 pub verdict-requires-clause-a_corners : goal.verdict-requires-clause-a_corners

@@ -1,6 +1,6 @@
 use Rattle.std.proofs.Common.{subst, List, ℕ}
 use Rattle.std.specs.Prelude.{OnOk}
-use Rattle.graph_model.specs.Certificates.{Txs, Certified, NoFlow, Finds}
+use Rattle.graphs.specs.Certificates.{Txs, Certified, NoFlow, Finds}
 use Rattle.certificate.specs.Parts.{parts_of}
 use Rattle.certificate.proofs.checker.check.Goals as goal
 

@@ -1,7 +1,7 @@
 use Rattle.std.proofs.Common.{arith, sym, subst, ◌∙◌}
 use Rattle.std.proofs.lemmas.Result.{err_from_is_err_and}
-use Rattle.graph_model.specs.Certificates.{HasOrder, HasFlows, graph_of, rate_in}
-use Rattle.graph_model.specs.Linearizations.{IsOptimal}
+use Rattle.graphs.specs.Certificates.{HasOrder, HasFlows, graph_of, rate_in}
+use Rattle.graphs.specs.Linearizations.{IsOptimal}
 use Rattle.certificate.specs.declared.fault.CheckFault.TheVariants as faults
 use Rattle.certificate.specs.Accounts.{IsEdge}
 use Rattle.certificate.specs.Parts.{parts_of}

@@ -1,6 +1,6 @@
 use Rattle.std.proofs.lemmas.Result.{err_from_is_err_and}
-use Rattle.graph_model.specs.Rates.{Falls}
-use Rattle.graph_model.specs.Certificates.{HasFalling, rate_in}
+use Rattle.graphs.specs.Rates.{Falls}
+use Rattle.graphs.specs.Certificates.{HasFalling, rate_in}
 use Rattle.certificate.specs.declared.fault.CheckFault.TheVariants.{Falling}
 use Rattle.certificate.specs.Fallings.{AreSummed, rates_of}
 use Rattle.certificate.specs.Parts.{parts_of}

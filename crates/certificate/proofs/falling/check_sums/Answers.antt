@@ -1,8 +1,8 @@
 use Rattle.std.proofs.Common.{◌≡◌, arith, refl, sym, subst, ap, ◌∙◌, inl, inr, length}
 use Rattle.std.specs.Prelude.{Contains}
 use Rattle.std.proofs.lemmas.Bool.{cases_eq}
-use Rattle.graph_model.specs.Rates.{sums}
-use Rattle.graph_model.specs.Certificates.{rate_in}
+use Rattle.graphs.specs.Rates.{sums}
+use Rattle.graphs.specs.Certificates.{rate_in}
 use Rattle.certificate.specs.declared.lists.Part.{Part}
 use Rattle.certificate.specs.Fallings.{rate_at}
 use Rattle.certificate.specs.Parts.{ids_at}

@@ -1,6 +1,6 @@
 use Rattle.std.proofs.Common.{◌≡◌, ℕ, ◌<◌}
-use Rattle.graph_model.specs.Rates.{sums}
-use Rattle.graph_model.specs.Certificates.{rate_in}
+use Rattle.graphs.specs.Rates.{sums}
+use Rattle.graphs.specs.Certificates.{rate_in}
 use Rattle.certificate.specs.Fallings.{rate_at}
 use Rattle.certificate.specs.Parts.{ids_at}
 use Rattle.certificate.proofs.falling.check_sums.Given as goal

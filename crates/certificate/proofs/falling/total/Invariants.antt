@@ -1,6 +1,6 @@
 use Rattle.std.proofs.Common.{◌≡◌, take}
-use Rattle.graph_model.specs.Rates.{sums}
-use Rattle.graph_model.specs.Certificates.{rate_in}
+use Rattle.graphs.specs.Rates.{sums}
+use Rattle.graphs.specs.Certificates.{rate_in}
 use Rattle.certificate.proofs.falling.total.Given as goal
 
 abbrev pub invariant-loop-id : goal.invariant-loop-id

@@ -5,7 +5,7 @@ use Rattle.std.specs.HashMap as hash
 use Rattle.std.proofs.lemmas.Bool.{cases_eq}
 use Rattle.std.proofs.lemmas.List.{get_or_default}
 use Rattle.std.proofs.lemmas.List.Elements.{Contains-get_or}
-use Rattle.graph_model.specs.Certificates.{rate_in, weight_in}
+use Rattle.graphs.specs.Certificates.{rate_in, weight_in}
 use Rattle.certificate.specs.Accounts.{account_at}
 use Rattle.certificate.proofs.Bookings.{weight_of_name, member_place, some_same}
 use Rattle.certificate.proofs.flows.balanced.Goals as goal

@@ -1,6 +1,6 @@
 use Rattle.std.proofs.Common.{◌≡◌, ℕ, ◌<◌, nat_eq, slice_index, Some}
 use Rattle.std.specs.HashMap as hash
-use Rattle.graph_model.specs.Certificates.{rate_in, weight_in}
+use Rattle.graphs.specs.Certificates.{rate_in, weight_in}
 use Rattle.certificate.specs.Accounts.{account_at}
 use Rattle.certificate.proofs.flows.balanced.Given as goal
 

@@ -1,7 +1,7 @@
 use Rattle.std.proofs.Common.{arith, subst, nat_eq}
 use Rattle.std.specs.HashMap as hash
 use Rattle.std.proofs.lemmas.List.{take_all}
-use Rattle.graph_model.specs.Certificates.{given, gotten}
+use Rattle.graphs.specs.Certificates.{given, gotten}
 use Rattle.certificate.proofs.Bookings.{Nets, nets_none, flow_here, open_place, pay_fits, paid, draw_fits, drawn, amount_bound}
 use Rattle.certificate.proofs.flows.book.Goals as goal
 

@@ -1,6 +1,6 @@
 use Rattle.std.proofs.Common.{take, nat_eq}
 use Rattle.std.specs.HashMap as hash
-use Rattle.graph_model.specs.Certificates.{given, gotten}
+use Rattle.graphs.specs.Certificates.{given, gotten}
 use Rattle.certificate.proofs.Bookings.{Nets}
 use Rattle.certificate.proofs.flows.book.Given as goal
 

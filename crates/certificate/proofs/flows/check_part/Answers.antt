@@ -1,7 +1,7 @@
 use Rattle.std.proofs.Common.{◌≡◌, ◌<◌, arith, sym, subst, ◌∙◌, length, nat_eq}
 use Rattle.std.specs.HashMap as hash
 use Rattle.std.proofs.lemmas.Result.{err_from_is_err_and}
-use Rattle.graph_model.specs.Certificates.{Certifies, rate_in}
+use Rattle.graphs.specs.Certificates.{Certifies, rate_in}
 use Rattle.certificate.specs.declared.fault.CheckFault.TheVariants as faults
 use Rattle.certificate.specs.Accounts.{AreBalanced, AreInside, IsEdge}
 use Rattle.certificate.proofs.Bookings.{member_place}

@@ -3,8 +3,8 @@ use Rattle.std.specs.Prelude.{Contains}
 use Rattle.std.proofs.lemmas.Bool.{cases_eq}
 use Rattle.std.proofs.lemmas.Result.{err_from_is_err_and}
 use Rattle.fee_rate.specs.Limits.{IsSum}
-use Rattle.graph_model.specs.Rates.{sums}
-use Rattle.graph_model.specs.Certificates.{Certifies, HasFlows, rate_in}
+use Rattle.graphs.specs.Rates.{sums}
+use Rattle.graphs.specs.Certificates.{Certifies, HasFlows, rate_in}
 use Rattle.certificate.specs.declared.fault.CheckFault.TheVariants as faults
 use Rattle.certificate.specs.declared.lists.Part.{Part}
 use Rattle.certificate.specs.Accounts.{IsEdge, amount_of}

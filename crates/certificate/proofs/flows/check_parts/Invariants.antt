@@ -1,5 +1,5 @@
 use Rattle.std.proofs.Common.{ℕ, ◌<◌, ◌≤◌}
-use Rattle.graph_model.specs.Certificates.{rate_in}
+use Rattle.graphs.specs.Certificates.{rate_in}
 use Rattle.certificate.specs.Accounts.{IsEdge, account_at}
 use Rattle.certificate.proofs.FlowLemmas.{IsCertified}
 use Rattle.certificate.proofs.flows.check_parts.Given as goal

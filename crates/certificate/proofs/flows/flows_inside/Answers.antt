@@ -1,7 +1,7 @@
 use Rattle.std.proofs.Common.{arith, refl, subst, sym, ◌∙◌, inl, inr, nat_eq}
 use Rattle.std.proofs.lemmas.Bool.{cases_eq}
 use Rattle.std.specs.HashMap as hash
-use Rattle.graph_model.specs.declared.names.Flow.{Flow}
+use Rattle.graphs.specs.declared.names.Flow.{Flow}
 use Rattle.certificate.specs.Accounts.{IsEdge, IsOpen}
 use Rattle.certificate.proofs.Bookings.{flow_at, flow_here, flow_of}
 use Rattle.certificate.proofs.Sets.{true_false}

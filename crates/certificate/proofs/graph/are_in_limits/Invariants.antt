@@ -1,5 +1,5 @@
 use Rattle.std.proofs.Common.{ℕ, ◌<◌, get_or, pos}
-use Rattle.graph_model.specs.Limits.{IsFee, IsSize}
+use Rattle.fee_rate.specs.Limits.{IsFee, IsSize}
 use Rattle.certificate.proofs.graph.are_in_limits.Given as goal
 
 abbrev pub invariant-loop-tx : goal.invariant-loop-tx

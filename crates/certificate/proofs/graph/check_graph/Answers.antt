@@ -1,7 +1,7 @@
 use Rattle.std.proofs.Common.{refl, subst, sym}
 use Rattle.std.proofs.lemmas.Result.{err_from_is_err_and}
-use Rattle.graph_model.specs.Certificates.{HasGraph}
-use Rattle.graph_model.specs.Graphs.{HasNoCycle}
+use Rattle.graphs.specs.Certificates.{HasGraph}
+use Rattle.graphs.specs.Graphs.{HasNoCycle}
 use Rattle.certificate.specs.declared.fault.CheckFault.TheVariants.{Graph}
 use Rattle.certificate.specs.Places.{AreOf}
 use Rattle.certificate.specs.Tables.{names_of}

@@ -2,7 +2,7 @@ use Rattle.std.proofs.Common.{◌≡◌, ℕ, ◌<◌, sym, subst, ◌∙◌, le
 use Rattle.std.specs.HashMap as hash
 use Rattle.std.proofs.lemmas.List.{length-map}
 use Rattle.std.proofs.lemmas.Result.{err_from_is_err_and}
-use Rattle.graph_model.specs.Certificates.{HasOrder, graph_of}
+use Rattle.graphs.specs.Certificates.{HasOrder, graph_of}
 use Rattle.certificate.specs.declared.fault.CheckFault.TheVariants.{Order}
 use Rattle.certificate.specs.Groups.{AreGroups}
 use Rattle.certificate.specs.Orders.{IsOrderOf, AreRanks, Rise, AreOfOneGroup}

@@ -1,5 +1,5 @@
 use Rattle.std.proofs.Common.{◌≡◌, ◌*◌, ◌<◌, ◌≤◌, ◌+◌, ◌-◌, [], ◌∷◌, ◌++◌, map, length, arith, rules, ◌∙◌, ap, refl, slice_index}
-use Rattle.graph_model.specs.Rooms.{Room}
+use Rattle.graphs.specs.Rooms.{Room}
 use Rattle.std.proofs.lemmas.List.{length_push}
 use Rattle.std.proofs.lemmas.List.Sorted.{length_permutation}
 use Rattle.cluster_record.proofs.Lists.{next_within, room_left, copied_more, split_more, split_all, chosen_listed}

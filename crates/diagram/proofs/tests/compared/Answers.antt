@@ -1,5 +1,5 @@
 use Rattle.std.proofs.Common.{map}
-use Rattle.graph_model.specs.Diagrams.{corners_of}
+use Rattle.graphs.specs.Diagrams.{corners_of}
 use Rattle.diagram.specs.Parts.{rate_of}
 use Rattle.diagram.proofs.tests.compared.Goals as goal
 

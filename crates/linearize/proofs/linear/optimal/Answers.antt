@@ -2,9 +2,9 @@ use Rattle.std.proofs.Common.{◌≡◌, ◌*◌, ◌∙◌, ℕ, ap, sym, subst
 use Rattle.std.specs.FinSet as fin
 use Rattle.bitset.specs.Places.{IsWithin}
 use Rattle.dep_graph.specs.Graph.{is_member, members_of, IsClosed}
-use Rattle.graph_model.specs.Graphs as model
-use Rattle.graph_model.specs.Certificates.{Part, IsCertificate}
-use Rattle.graph_model.specs.Linearizations.{IsOptimal}
+use Rattle.graphs.specs.Graphs as model
+use Rattle.graphs.specs.Certificates.{Part, IsCertificate}
+use Rattle.graphs.specs.Linearizations.{IsOptimal}
 use Rattle.linearize.specs.Drafts.{Written}
 use Rattle.linearize.specs.Graphs.{sum_at}
 use Rattle.linearize.specs.Splits.{Adds}

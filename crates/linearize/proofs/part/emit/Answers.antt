@@ -1,8 +1,8 @@
 use Rattle.std.proofs.Common.{◌≡◌, ◌≤◌, ◌+◌, ◌*◌, ◌∷◌, [], ◌++◌, ◌∙◌, ℕ, ap, arith, length, lit<, List, length-append}
 use Rattle.bitset.specs.Places.{places}
 use Rattle.closure_flow.specs.Scratches.{flow_of}
-use Rattle.graph_model.specs.declared.names.Flow.{Flow}
-use Rattle.graph_model.specs.Certificates.{Part}
+use Rattle.graphs.specs.declared.names.Flow.{Flow}
+use Rattle.graphs.specs.Certificates.{Part}
 use Rattle.linearize.specs.Graphs.{sum_from}
 use Rattle.linearize.specs.Drafts.{Written, all_flows, flows_in}
 use Rattle.linearize.specs.Orders.{flows_of}

@@ -2,7 +2,7 @@ use Rattle.std.proofs.Common.{◌≡◌, ◌<◌, ◌*◌, ◌∙◌, ℕ, ap, a
 use Rattle.std.specs.FinSet as fin
 use Rattle.bitset.specs.Places.{IsWithin}
 use Rattle.closure_flow.specs.Closures.{weight_at}
-use Rattle.graph_model.specs.Certificates.{weight_in}
+use Rattle.graphs.specs.Certificates.{weight_in}
 use Rattle.linearize.specs.Graphs.{sum_at}
 use Rattle.linearize.specs.Orders.{sums_in}
 use Rattle.linearize.proofs.Joined.{balances_of, best_of, weights_even, weights_small}

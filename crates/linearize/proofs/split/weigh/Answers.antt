@@ -4,7 +4,7 @@ use Rattle.std.proofs.lemmas.Int.{to_z-of_z, fits_signed_from_abs}
 use mir.Syntax.{w128}
 use mir.Val.{SFits}
 use Rattle.fee_rate.specs.Limits.{IsRate}
-use Rattle.graph_model.specs.Certificates.{weight_in}
+use Rattle.graphs.specs.Certificates.{weight_in}
 use Rattle.linearize.specs.Graphs.{sum_from}
 use Rattle.linearize.proofs.Places.{goes_here}
 use Rattle.linearize.proofs.Totals.{IsWeight, Weighed, weighed_start, weighed_more, weighed_all}

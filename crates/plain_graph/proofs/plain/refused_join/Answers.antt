@@ -1,6 +1,6 @@
 use Rattle.std.proofs.Common.{refl}
 use Rattle.graph_model.specs.Refusals.{JoinsTo}
-use Rattle.graph_model.proofs.WalkLemmas.{AreConnected-itself}
+use Rattle.graphs.proofs.WalkLemmas.{AreConnected-itself}
 use Rattle.plain_graph.proofs.Starts.{distinct_two, lists_from_two}
 use Rattle.plain_graph.proofs.JoinLemmas.{join_too_many, join_too_large, join_fits}
 use Rattle.plain_graph.proofs.plain.refused_join.Goals as goal

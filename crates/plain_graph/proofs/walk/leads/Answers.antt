@@ -1,4 +1,4 @@
-use Rattle.graph_model.specs.Graphs.{Lists}
+use Rattle.graphs.specs.Graphs.{Lists}
 use Rattle.plain_graph.specs.Walks.{Reaches}
 use Rattle.plain_graph.proofs.Starts.{distinct_one, lists_from_one}
 use Rattle.plain_graph.proofs.walk.leads.Goals as goal

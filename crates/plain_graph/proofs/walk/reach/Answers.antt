@@ -1,6 +1,6 @@
 use Rattle.std.proofs.Common.{◌≤◌, ◌<◌, arith, length}
 use Rattle.std.proofs.lemmas.Grind.{common_steps}
-use Rattle.graph_model.proofs.ListLemmas.{length-within}
+use Rattle.graphs.proofs.ListLemmas.{length-within}
 use Rattle.plain_graph.proofs.walk.reach.Goals as goal
 
 pub push-requires : goal.push-requires

@@ -3,7 +3,7 @@ use Rattle.certificate.specs.declared.lists.Part.{Part}
 use Rattle.std.specs.declared.result.Result.TheVariants.{Err}
 use Rattle.certificate.specs.Answers.{AreClaims}
 use Rattle.certificate.specs.Parts.{parts_of}
-use Rattle.graph_model.specs.Certificates.{Finds, Certified, NoFalling, NoFlow}
+use Rattle.graphs.specs.Certificates.{Finds, Certified, NoFalling, NoFlow}
 use Rattle.replay.proofs.CheckLemmas.{claims_of}
 use Rattle.replay.proofs.check.judge.Goals as goal
 

@@ -1,6 +1,6 @@
 use Rattle.std.proofs.Common.{◌≡◌, ℕ, true, ◌*◌, ◌<◌, ◌≤◌, ◌+◌, List, length, arith, rules, sym, ap, subst, slice_index}
 use Rattle.bitset.specs.Places.{IsWithin}
-use Rattle.graph_model.specs.Graphs.{Lists}
+use Rattle.graphs.specs.Graphs.{Lists}
 use Rattle.dep_graph.specs.Graph.{is_ancestor}
 use Rattle.cluster_record.specs.Clusters.{Cluster, AreOnce}
 use Rattle.cluster_record.specs.Changes.{IsChosen}

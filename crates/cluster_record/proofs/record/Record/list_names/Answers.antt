@@ -1,6 +1,6 @@
 use Rattle.std.proofs.Common.{◌≡◌, ℕ, ◌*◌, ◌≤◌, ◌+◌, List, length, arith, rules, ◌∙◌, sym, ap, subst, Contains}
 use Rattle.bitset.specs.Places.{first_places, IsWithin}
-use Rattle.graph_model.specs.Graphs.{Lists}
+use Rattle.graphs.specs.Graphs.{Lists}
 use Rattle.cluster_record.specs.Clusters.{Cluster, AreOnce}
 use Rattle.cluster_record.specs.Changes.{IsChosen}
 use Rattle.cluster_record.proofs.Listings.{all_within, all_listed}

@@ -1,6 +1,6 @@
 use Rattle.std.proofs.Common.{◌≡◌, ◌↔◌, ◌+◌, ◌∙◌, length}
 use Rattle.std.specs.Prelude.{Contains, IsTrue, None}
-use Rattle.graph_model.specs.Graphs.{IsAncestor, AreConnected}
+use Rattle.graphs.specs.Graphs.{IsAncestor, AreConnected}
 use Rattle.plain_graph.specs.Sound.{names_of}
 use Rattle.plain_graph.specs.Joins.{JoinRefusalIs}
 use Rattle.plain_graph.proofs.Entries.{so, not_so}

@@ -1,6 +1,6 @@
 use Rattle.std.proofs.Common.{◌↔◌, refl}
 use Rattle.std.specs.Prelude.{Contains, IsTrue}
-use Rattle.graph_model.specs.Graphs.{Lists}
+use Rattle.graphs.specs.Graphs.{Lists}
 use Rattle.plain_graph.specs.Sound.{names_of}
 use Rattle.plain_graph.specs.Walks.{Reaches}
 use Rattle.plain_graph.proofs.Entries.{so, not_so}

@@ -1,7 +1,7 @@
 use Rattle.std.proofs.Common.{true, sym, ap, is_some, ◌∙◌, subst, true≢false}
 use Rattle.std.proofs.lemmas.Int.{to_z-of_z}
 use Rattle.std.specs.Int.{w64}
-use Rattle.graph_model.specs.Limits.{IsFee}
+use Rattle.fee_rate.specs.Limits.{IsFee}
 use Rattle.graph_model.specs.declared.names.Refusal.TheVariants.{Fee, Unknown}
 use Rattle.graph_model.specs.Commands.{SetFee}
 use Rattle.graph_model.specs.Replies.{Done, Refused}

@@ -1,6 +1,6 @@
 use Rattle.std.proofs.Common.{◌*◌, true, sym, ap, is_some, ◌∙◌}
 use Rattle.graph_model.specs.declared.names.Refusal.TheVariants.{Memory, Unknown}
-use Rattle.graph_model.specs.declared.names.Level.TheVariants.{Top}
+use Rattle.graphs.specs.declared.names.Level.TheVariants.{Top}
 use Rattle.graph_model.specs.Commands.{Remove}
 use Rattle.graph_model.specs.Replies.{Done, Refused}
 use Rattle.tx_graph.proofs.Standing.{steps_refused, steps_without_memory, itself}

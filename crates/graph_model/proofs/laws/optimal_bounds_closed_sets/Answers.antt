@@ -1,5 +1,0 @@
-use Rattle.graph_model.proofs.BestLemmas.{optimal_bounds}
-use Rattle.graph_model.proofs.laws.optimal_bounds_closed_sets.Goals as goal
-
-pub returns : goal.returns
-returns c = optimal_bounds

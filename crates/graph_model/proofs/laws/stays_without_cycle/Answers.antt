@@ -1,5 +1,0 @@
-use Rattle.graph_model.proofs.PairLemmas.{no_cycle_with_pair}
-use Rattle.graph_model.proofs.laws.stays_without_cycle.Goals as goal
-
-pub returns : goal.returns
-returns c = no_cycle_with_pair

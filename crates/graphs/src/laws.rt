@@ -1,0 +1,71 @@
+//! Laws over the definitions, each the contract of a function that does nothing.
+ghost use Rattle.graphs.specs.Laws.{AncestorsWithPair, ComponentsWithPair, StaysWithoutCycle, CertifiedPartsAreOptimal, OptimalBoundsClosedSets, FlatPartsBoundClosedSets, CornersAreUnique, OptimalEndsAreCorners, EqualRatesJoinOnce, NamesCanGo, StaysGraph, AncestorsWithoutName, VerdictsAreUnique};
+
+/// One more pair makes a name's ancestors those that it had and, where the pair's child is one of
+/// them, the ancestors of the pair's parent.
+pub fn ancestors_with_pair()
+    ensures { AncestorsWithPair }
+{}
+
+/// One more pair makes one component of those of its ends, and leaves each other one.
+pub fn components_with_pair()
+    ensures { ComponentsWithPair }
+{}
+
+/// One more pair makes a cycle exactly where its child is an ancestor of its parent.
+pub fn stays_without_cycle()
+    ensures { StaysWithoutCycle }
+{}
+
+/// Parts whose flows certify them, over the pairs of a graph or over its covering pairs alone, are an
+/// optimal order of the graph.
+pub fn certified_parts_are_optimal()
+    ensures { CertifiedPartsAreOptimal }
+{}
+
+/// The diagram of an optimal order is nowhere below any closed set of the graph.
+pub fn optimal_bounds_closed_sets()
+    ensures { OptimalBoundsClosedSets }
+{}
+
+/// Parts of falling rate, within which no closed set has a greater rate, bound every closed set of the
+/// graph at the line of each part.
+pub fn flat_parts_bound_closed_sets()
+    ensures { FlatPartsBoundClosedSets }
+{}
+
+/// A graph has at most one list of corners.
+pub fn corners_are_unique()
+    ensures { CornersAreUnique }
+{}
+
+/// The ends of an optimal order's parts, equal rates joined, are the graph's corners.
+pub fn optimal_ends_are_corners()
+    ensures { OptimalEndsAreCorners }
+{}
+
+/// Parts of falling rate have exactly one list of segments that joins their equal rates: the first joins
+/// the parts of the first one's rate.
+pub fn equal_rates_join_once()
+    ensures { EqualRatesJoinOnce }
+{}
+
+/// Every graph has one without a name.
+pub fn names_can_go()
+    ensures { NamesCanGo }
+{}
+
+/// What is left of a graph without a name is a graph.
+pub fn stays_graph()
+    ensures { StaysGraph }
+{}
+
+/// Without a name the others keep the ancestors that they had among them.
+pub fn ancestors_without_name()
+    ensures { AncestorsWithoutName }
+{}
+
+/// Two diagrams have at most one verdict.
+pub fn verdicts_are_unique()
+    ensures { VerdictsAreUnique }
+{}

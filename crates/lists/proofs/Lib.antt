@@ -1,0 +1,5 @@
+pub mod Cases
+pub mod Entries
+pub mod Distinct
+pub mod Rising
+pub mod Walks
