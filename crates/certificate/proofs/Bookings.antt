@@ -8,6 +8,7 @@ use Rattle.std.proofs.Common.{eq-eqb}
 use Rattle.std.proofs.lemmas.List.{get_or-map, length-map, get_or_default, get_or-set_same, get_or-set_other, length-set, take_more}
 use Rattle.std.proofs.lemmas.List.Sums.{sum_by-append, sum_by-cons, sum_by-take-le, get_or-le-sum_by}
 use Rattle.std.proofs.lemmas.List.Elements.{Contains-get_or, Contains-push_cases, Contains-append_left, Contains-push}
+use Rattle.std.proofs.lemmas.Option.{same_Some}
 use Rattle.graphs.specs.declared.names.Flow.{Flow}
 use Rattle.graphs.specs.Certificates.{given, gotten, weight_in}
 use Rattle.fee_rate.specs.declared.rates.Sum.{Sum}
@@ -78,9 +79,6 @@ term_same a b n e = ap (λ t. let m : ℕ = cond t n 0 in m) (eq-eqb a b e)
 term_other : (a b n : ℕ) → (a ≡ b → ⊥) → cond (eqb a b) n 0 ≡ 0
 term_other a b n ne = ap (λ t. let m : ℕ = cond t n 0 in m) (ne_eqb a b ne)
 
-pub some_same : (a b : ℕ) → Some a ≡ Some b → a ≡ b
-some_same a b e = cc
-
 paid_sum : (new old : ℤ) (f g a t : ℕ) → new ≡ old +ℤ pos a → old ≡ pos f -ℤ pos g → t ≡ a → new ≡ pos (f + t) -ℤ pos g
 paid_sum new old f g a t e h n = omega (arith, ints)
 
@@ -114,7 +112,7 @@ nets_paid find part F G old accounts new id place amount one h is in' e =
                 in
                 paid_sum (account_at new x).net (account_at accounts x).net (F other) (G other) amount (cond (eqb id other) amount 0) now before n)
             | inr apart ↦
-                (let who : id ≡ other → ⊥ = λ w. apart (some_same x place (sym f ∙ ap find (sym w) ∙ is)) in
+                (let who : id ≡ other → ⊥ = λ w. apart (same_Some x place (sym f ∙ ap find (sym w) ∙ is)) in
                 let n = term_other id other amount who in
                 let now : (account_at new x).net ≡ (account_at accounts x).net = ap (λ l. (account_at l x).net) e ∙ ap (λ (a : Account). a.net) (changed_there accounts place x after apart) in
                 paid_none (account_at new x).net (account_at accounts x).net (F other) (G other) (cond (eqb id other) amount 0) now before n)
@@ -142,7 +140,7 @@ nets_drawn find part F G old accounts new id place amount one h is in' e =
                 in
                 drawn_sum (account_at new x).net (account_at accounts x).net (F other) (G other) amount (cond (eqb id other) amount 0) now before n)
             | inr apart ↦
-                (let who : id ≡ other → ⊥ = λ w. apart (some_same x place (sym f ∙ ap find (sym w) ∙ is)) in
+                (let who : id ≡ other → ⊥ = λ w. apart (same_Some x place (sym f ∙ ap find (sym w) ∙ is)) in
                 let n = term_other id other amount who in
                 let now : (account_at new x).net ≡ (account_at accounts x).net = ap (λ l. (account_at l x).net) e ∙ ap (λ (a : Account). a.net) (changed_there accounts place x after apart) in
                 drawn_none (account_at new x).net (account_at accounts x).net (F other) (G other) (cond (eqb id other) amount 0) now before n)
@@ -207,7 +205,7 @@ fits_down z g t a e h k = fits_signed_from_abs w128 (z -ℤ pos a) (abs_down z g
 -- ---- one flow
 pub open_place : (find : ℕ → Option ℕ) (part : ℕ) (F G : ℕ → ℕ) (old cur : List Account) (id place : ℕ) → Nets find part F G old cur → IsOpen find old part id → find id ≡ Some place → (place < length cur) × ((account_at cur place).part ≡ part)
 open_place find part F G old cur id place h (x, is, in', of) e =
-    let same : x ≡ place = some_same x place (sym is ∙ e) in
+    let same : x ≡ place = same_Some x place (sym is ∙ e) in
     (subst (λ n. place < n) (sym h.sized) (subst (λ y. y < length old) same in'), h.parts place ∙ subst (λ y. (account_at old y).part ≡ part) same of)
 
 given_after : (flows : List Flow) (k : ℕ) → k < length flows → given (take k flows) (flow_at flows k).child + (flow_at flows k).amount ≤ amount_of flows
@@ -327,7 +325,7 @@ empty_more part place accounts room h x of =
 pub known_place : (find : ℕ → Option ℕ) (ids : List ℕ) (n k place : ℕ) → k < length ids → ((id : ℕ) → Contains ids id → (p : ℕ) × (p < n) × (find id ≡ Some p)) → find (get_or ids k 0) ≡ Some place → place < n
 known_place find ids n k place in' known is =
     let (p, p_in, p_is) = known (get_or ids k 0) (Contains-get_or ids k 0 in') in
-    subst (λ x. x < n) (some_same p place (sym p_is ∙ is)) p_in
+    subst (λ x. x < n) (same_Some p place (sym p_is ∙ is)) p_in
 
 pub ends_all : (flows : List Flow) → length (ends_of flows) ≡ length flows
 ends_all flows = length-map flows (λ (f : Flow). let p : ℕ × ℕ = (f.child, f.parent) in p)

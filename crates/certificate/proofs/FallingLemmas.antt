@@ -3,6 +3,7 @@ use Rattle.std.proofs.Common.{◌≡◌, ◌≢◌, ℕ, ◌+◌, ◌-◌, ◌<�
 use Rattle.std.specs.Prelude.{Contains}
 use Rattle.std.proofs.lemmas.Int.{ints}
 use Rattle.std.proofs.lemmas.List.{get_or-map, length-map, length-append}
+use Rattle.fee_rate.proofs.Orders.{below_clash}
 use Rattle.fee_rate.specs.declared.rates.Sum.{Sum}
 use Rattle.fee_rate.specs.Limits.{IsSum}
 use Rattle.fee_rate.specs.Rates.{AtMost, Below}
@@ -24,9 +25,6 @@ pub part_length : (parts : List Part) (k : ℕ) → k < length parts → length 
 part_length [] k in' = absurd (omega arith)
 part_length (p ∷ parts) zero in' = omega (arith, length-append p.ids (order_of parts))
 part_length (p ∷ parts) (suc k) in' = let more = part_length parts k (omega arith) in omega (arith, length-append p.ids (order_of parts))
-
-pub below_clash : (a b : Sum) → Below a b → AtMost b a → ⊥
-below_clash a b h k = let x = h.crossed in let y = k.crossed in omega (arith, ints)
 
 pub rates_clash : (parts : List Part) (at : ℕ) → 1 ≤ at → at < length parts → Below (rate_at parts (at - 1)) (rate_at parts at) → Falls (rates_of parts) → ⊥
 rates_clash parts at some in' less f =

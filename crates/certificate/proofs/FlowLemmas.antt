@@ -1,9 +1,10 @@
 -- The fourth test, put together.
 use Rattle.std.proofs.Common.{◌≡◌, ℕ, ◌<◌, ◌≤◌, List, [], length, sym, ap, ◌∙◌, subst, arith, get_or, Option, Some}
 use Rattle.std.specs.Prelude.{Contains}
+use Rattle.std.proofs.lemmas.Option.{same_Some}
+use Rattle.lists.specs.Distinct.{AreDistinct}
 use Rattle.fee_rate.specs.declared.rates.Sum.{Sum}
 use Rattle.graphs.specs.declared.names.Flow.{Flow}
-use Rattle.graphs.specs.Graphs.{AreDistinct}
 use Rattle.graphs.specs.Rates.{sums}
 use Rattle.graphs.specs.Certificates.{Certifies, HasFlows, given, gotten, weight_in}
 use Rattle.graphs.specs.Certificates as model
@@ -12,7 +13,6 @@ use Rattle.certificate.specs.declared.lists.Part.{Part}
 use Rattle.certificate.specs.Accounts.{account_at, IsOpen, AreOpen, AreNet, KeepParts, AreInside, AreBalanced, ends_of}
 use Rattle.certificate.specs.Parts.{part_of, parts_of, ids_at, flows_at}
 use Rattle.certificate.specs.Places.{ArePlaces}
-use Rattle.certificate.proofs.Bookings.{some_same}
 use Rattle.certificate.proofs.PartLemmas.{ids_here, part_at, contains_part, some_part}
 use Rattle.std.proofs.lemmas.List.{get_or-map}
 
@@ -30,7 +30,7 @@ open_member names find ids part accounts id h o (p, is, in', of) =
 member_part : (find : ℕ → Option ℕ) (ids : List ℕ) (part : ℕ) (accounts booked : List Account) (id p : ℕ) → AreOpen find ids part accounts → KeepParts accounts booked → Contains ids id → find id ≡ Some p → (account_at booked p).part ≡ part
 member_part find ids part accounts booked id p o k there is =
     let (q, q_is, q_in, of) = o.here id there in
-    let same : q ≡ p = some_same q p (sym q_is ∙ is) in
+    let same : q ≡ p = same_Some q p (sym q_is ∙ is) in
     k p ∙ subst (λ x. (account_at accounts x).part ≡ part) same of
 
 pub certifies : (names : List ℕ) (find : ℕ → Option ℕ) (rate : ℕ → Sum) (IsLink : ℕ → ℕ → Type 0) (whole : Sum) (ids : List ℕ) (flows : List Flow) (part : ℕ) (accounts booked : List Account) → ArePlaces names find → AreOpen find ids part accounts

@@ -3,8 +3,9 @@ use Rattle.std.proofs.Common.{◌≡◌, ℕ, ◌<◌, ◌≤◌, List, length, 
 use Rattle.std.specs.Prelude.{Contains}
 use Rattle.std.proofs.lemmas.List.{get_or_default}
 use Rattle.std.proofs.lemmas.List.Elements.{Contains-get_or}
+use Rattle.lists.specs.Distinct.{AreDistinct}
 use Rattle.fee_rate.specs.Limits.{IsFee, IsSize}
-use Rattle.graphs.specs.Graphs.{HasNoCycle, AreDistinct}
+use Rattle.graphs.specs.Graphs.{HasNoCycle}
 use Rattle.graphs.specs.Certificates.{Txs, HasGraph}
 use Rattle.certificate.specs.declared.fault.CheckFault.{CheckFault}
 use Rattle.certificate.specs.declared.fault.CheckFault.TheVariants.{Order, Falling, Flow, Graph, Memory}

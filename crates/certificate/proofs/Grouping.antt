@@ -5,6 +5,7 @@ use Rattle.std.proofs.lemmas.Bool.{cases_eq, cases_lt}
 use Rattle.std.proofs.lemmas.List.{get_or-set_same, get_or-set_other, length-set, length_push, get_or-replicate, length-replicate, get_or-map, length-map, get_or_default}
 use Rattle.std.proofs.lemmas.List.Elements.{All-append, All-map, Contains-append_cases, Contains-append_left, Contains-append_right, Contains-push, Contains-push_cases}
 use Rattle.std.proofs.lemmas.List.Sums.{sum_by-set}
+use Rattle.graphs.proofs.WalkLemmas.{connected_trans}
 use Rattle.graphs.specs.Graphs.{Trail, AreConnected}
 use Rattle.certificate.specs.Chains.{pair_at, IsLast}
 use Rattle.certificate.specs.Groups.{AreWithin, AreGroups, turned, GoBothWays, HasGroup, AreOfGroup, IsGrouping, GoesOn, work_of}
@@ -25,19 +26,15 @@ none_in : (x : ℕ) → Contains {X = ℕ} [] x → ⊥
 none_in x (k, in', e) = omega arith
 
 -- ---- trails
-connected_on : (pairs : List (ℕ × ℕ)) (a b c : ℕ) → AreConnected pairs a b → (n : ℕ) → Trail pairs b c n
-    → AreConnected pairs a c
-connected_on pairs a b c h zero t = subst (λ k. AreConnected pairs a k) t h
-connected_on pairs a b c h (suc n) (d, t, last) = let (m, u) = connected_on pairs a b d h n t in (suc m, (d, u, last))
 
 connected_back : (pairs : List (ℕ × ℕ)) (a b n : ℕ) → Trail pairs a b n → AreConnected pairs b a
 connected_back pairs a b zero t = (0, sym t)
 connected_back pairs a b (suc n) (c, t, inl last) =
     let (m, u) = connected_back pairs a c n t in
-    connected_on pairs b c a (1, (b, refl, inr last)) m u
+    connected_trans pairs b c a (1, (b, refl, inr last)) m u
 connected_back pairs a b (suc n) (c, t, inr last) =
     let (m, u) = connected_back pairs a c n t in
-    connected_on pairs b c a (1, (b, refl, inl last)) m u
+    connected_trans pairs b c a (1, (b, refl, inl last)) m u
 
 -- ---- a place gets a group
 here : (groups : List ℕ) (p own : ℕ) → p < length groups → get_or (set groups p own) p 0 ≡ own
@@ -395,7 +392,7 @@ whole_groups steps count groups w = record {
       let to_b = w.grouping.sound b (omega arith) (w.all b (omega arith)) in (
         (λ e.
             let (m, back) = connected_back steps (get_or groups a 0) a to_a.0 to_a.1 in
-            connected_on steps a (get_or groups b 0) b (m, subst (λ x. Trail steps a x m) e back) to_b.0 to_b.1),
+            connected_trans steps a (get_or groups b 0) b (m, subst (λ x. Trail steps a x m) e back) to_b.0 to_b.1),
         (λ c. trail_same steps count groups a b c.0 w c.1),
       );
 }

@@ -3,10 +3,11 @@ use Rattle.std.proofs.Common.{◌≡◌, ℕ, ◌<◌, zero, suc, List, length, 
 use Rattle.std.specs.Prelude.{Contains}
 use Rattle.std.proofs.lemmas.List.{get_or-map, length-map, get_or_default}
 use Rattle.std.proofs.lemmas.List.Elements.{Contains-get_or}
-use Rattle.graphs.specs.Graphs.{Walk, Trail, AreConnected, HasNoCycle, AreDistinct}
+use Rattle.lists.proofs.Distinct.{one_place}
+use Rattle.lists.specs.Distinct.{AreDistinct}
+use Rattle.graphs.specs.Graphs.{Walk, Trail, AreConnected, HasNoCycle}
 use Rattle.certificate.specs.Groups.{AreWithin}
 use Rattle.certificate.specs.Places.{named}
-use Rattle.certificate.proofs.Distinct.{distinct_place}
 
 -- the names are distinct, and the pairs are of their places
 pub record Labels (names : List ℕ) (pairs : List (ℕ × ℕ)) : Type 0 where
@@ -60,7 +61,7 @@ walk_back : (names : List ℕ) (pairs : List (ℕ × ℕ)) (a b j n : ℕ) → L
 walk_back names pairs a b j zero l j_in is e = record { i = j; i_in = j_in; i_is = is ∙ sym e; walk = refl }
 walk_back names pairs a b j (suc n) l j_in is (c, w, last) =
     let f = from names pairs c b l.within last in
-    let same : f.q ≡ j = distinct_place names f.q j 0 l.distinct f.q_in j_in (f.q_is ∙ sym is) in
+    let same : f.q ≡ j = one_place names f.q j 0 l.distinct f.q_in j_in (f.q_is ∙ sym is) in
     let back = walk_back names pairs a c f.p n l f.p_in f.p_is w in
     record {
       i = back.i;
@@ -73,7 +74,7 @@ pub no_cycle_named : (names : List ℕ) (pairs : List (ℕ × ℕ)) → Labels n
 no_cycle_named names pairs l h a n (c, w, last) =
     let f = from names pairs c a l.within last in
     let back = walk_back names pairs a a f.q (suc n) l f.q_in f.q_is (c, w, last) in
-    let same : back.i ≡ f.q = distinct_place names back.i f.q 0 l.distinct back.i_in f.q_in (back.i_is ∙ sym f.q_is) in
+    let same : back.i ≡ f.q = one_place names back.i f.q 0 l.distinct back.i_in f.q_in (back.i_is ∙ sym f.q_is) in
     h f.q n (subst (λ x. Walk pairs x f.q (suc n)) same back.walk)
 
 pub no_cycle_placed : (names : List ℕ) (pairs : List (ℕ × ℕ)) → HasNoCycle (map (named names) pairs) → HasNoCycle pairs
@@ -95,7 +96,7 @@ trail_back : (names : List ℕ) (pairs : List (ℕ × ℕ)) (a b j n : ℕ) → 
 trail_back names pairs a b j zero l j_in is e = record { i = j; i_in = j_in; i_is = is ∙ sym e; trail = refl }
 trail_back names pairs a b j (suc n) l j_in is (c, w, inl last) =
     let f = from names pairs c b l.within last in
-    let same : f.q ≡ j = distinct_place names f.q j 0 l.distinct f.q_in j_in (f.q_is ∙ sym is) in
+    let same : f.q ≡ j = one_place names f.q j 0 l.distinct f.q_in j_in (f.q_is ∙ sym is) in
     let back = trail_back names pairs a c f.p n l f.p_in f.p_is w in
     record {
       i = back.i;
@@ -105,7 +106,7 @@ trail_back names pairs a b j (suc n) l j_in is (c, w, inl last) =
     }
 trail_back names pairs a b j (suc n) l j_in is (c, w, inr last) =
     let f = from names pairs b c l.within last in
-    let same : f.p ≡ j = distinct_place names f.p j 0 l.distinct f.p_in j_in (f.p_is ∙ sym is) in
+    let same : f.p ≡ j = one_place names f.p j 0 l.distinct f.p_in j_in (f.p_is ∙ sym is) in
     let back = trail_back names pairs a c f.q n l f.q_in f.q_is w in
     record {
       i = back.i;
@@ -120,7 +121,7 @@ connected_named names pairs i j (n, t) = (n, trail_named names pairs i j n t)
 pub connected_placed : (names : List ℕ) (pairs : List (ℕ × ℕ)) (i j : ℕ) → Labels names pairs → i < length names → j < length names → AreConnected (map (named names) pairs) (get_or names i 0) (get_or names j 0) → AreConnected pairs i j
 connected_placed names pairs i j l i_in j_in (n, t) =
     let back = trail_back names pairs (get_or names i 0) (get_or names j 0) j n l j_in refl t in
-    let same : back.i ≡ i = distinct_place names back.i i 0 l.distinct back.i_in i_in back.i_is in
+    let same : back.i ≡ i = one_place names back.i i 0 l.distinct back.i_in i_in back.i_is in
     (n, subst (λ x. Trail pairs x j n) same back.trail)
 
 pub ends_named : (names : List ℕ) (pairs : List (ℕ × ℕ)) (a b : ℕ) → AreWithin (length names) pairs → Contains {X = ℕ × ℕ} (map (named names) pairs) (a, b) → Contains names a × Contains names b

@@ -1,5 +1,4 @@
 pub mod Bookings
-pub mod Distinct
 pub mod FallingLemmas
 pub mod FlowLemmas
 pub mod GraphLemmas

@@ -4,15 +4,11 @@ use Rattle.std.specs.Prelude.{Contains}
 use Rattle.std.proofs.lemmas.Bool.{cases_eq, cases_lt, ne_eqb}
 use Rattle.std.proofs.lemmas.List.{get_or_push, get_or_append_left, length_push, length-take-le, get_or_default, take_more, get_or-map, map-append}
 use Rattle.std.proofs.lemmas.List.Elements.{All-push, Contains-get_or}
-use Rattle.graphs.specs.Graphs.{AreDistinct}
+use Rattle.std.proofs.lemmas.Option.{same_Some}
+use Rattle.lists.proofs.Cases.{some_none}
+use Rattle.lists.proofs.Distinct.{distinct_from_places, repeated}
+use Rattle.lists.specs.Distinct.{AreDistinct}
 use Rattle.certificate.specs.Places.{ArePlaces, AreOf, named, ArePairs}
-use Rattle.certificate.proofs.Distinct.{distinct_by_index, repeated}
-
-some_none : (p : ℕ) → Some p ≡ None → ⊥
-some_none p e = cc
-
-same_some : (a b : ℕ) → Some a ≡ Some b → a ≡ b
-same_some a b e = cc
 
 pub no_places : (find : ℕ → Option ℕ) → ((q : ℕ) → find q ≡ None) → ArePlaces [] find
 no_places find h = record { sound = λ id p e. absurd (some_none p (sym e ∙ h id)); complete = λ p in'. absurd (omega arith) }
@@ -23,7 +19,7 @@ more_places names find find' id n h size none here others = record {
       λ q p e.
       elim (cases_eq q id) [
         | inl same ↦
-            (let at : n ≡ p = same_some n p (sym here ∙ ap find' (sym same) ∙ e) in
+            (let at : n ≡ p = same_Some n p (sym here ∙ ap find' (sym same) ∙ e) in
             (omega (arith, length_push names id), get_or_push names id 0 p (sym size ∙ at) ∙ sym same))
         | inr other ↦
             (let old = h.sound q p (sym (others q (ne_eqb id q (λ same. other (sym same)))) ∙ e) in
@@ -45,12 +41,12 @@ more_places names find find' id n h size none here others = record {
 
 pub places_distinct : (names : List ℕ) (find : ℕ → Option ℕ) → ArePlaces names find → AreDistinct names
 places_distinct names find h =
-    distinct_by_index names
+    distinct_from_places names
     (λ i j d less in' e.
     let i_in : i < length names = omega arith in
     let same : get_or names i 0 ≡ get_or names j 0 = get_or_default names i 0 d i_in ∙ e ∙ get_or_default names j d 0 in' in
     let p : Some i ≡ Some j = sym (h.complete i i_in) ∙ ap find same ∙ h.complete j in' in
-    let q = same_some i j p in
+    let q = same_Some i j p in
     omega arith)
 
 -- a number that isn't found is no name, and one that is found is

@@ -8,12 +8,13 @@ use Rattle.std.proofs.lemmas.List.{length-map, get_or_default, take_more, length
 use Rattle.std.proofs.lemmas.List.Sums.{sum_by-append, sum_by-le, sum_by-cons}
 use Rattle.std.proofs.lemmas.List.Elements.{Contains-get_or, All-take}
 use Rattle.std.proofs.Common.{eq-eqb}
+use Rattle.fee_rate.proofs.Orders.{same_sum}
+use Rattle.lists.specs.Distinct.{AreDistinct}
 use Rattle.arithmetic.proofs.Sums.{total-append, total_within}
 use Rattle.fee_rate.specs.declared.rates.Sum.{Sum}
 use Rattle.fee_rate.specs.Limits.{IsSum}
 use Rattle.fee_rate.specs.declared.limits.TheConstants.{MAX_FEE, MAX_SIZE}
 use Rattle.fee_rate.specs.Rates.{AtMost}
-use Rattle.graphs.specs.Graphs.{AreDistinct}
 use Rattle.fee_rate.specs.Limits.{IsFee}
 use Rattle.fee_rate.specs.declared.limits.TheConstants.{}
 use Rattle.graphs.specs.Rates.{sums, Falls}
@@ -107,9 +108,6 @@ all_within txs find ids h l m k d in' = within_name txs find (get_or ids k d) h 
 pub sum_range : (rate : ℕ → Sum) (ids : List ℕ) (k : ℕ) (sum : Sum) → AllWithin rate ids → length ids ≤ 1048576 → k ≤ length ids → sum ≡ sums rate (take k ids) → IsSum sum
 sum_range rate ids k sum h few in' is =
     subst (λ s. IsSum s) (sym is) (sums_in_range rate (take k ids) (All-take (λ id. IsWithin (rate id)) k ids h) (omega (arith, length-take-le k ids in')))
-
-pub same_sum : (a b : Sum) → a.fee ≡ b.fee → a.size ≡ b.size → a ≡ b
-same_sum a b f s = ap (λ x. let y : Sum = record { fee = x; size = a.size } in y) f ∙ ap (λ n. let y : Sum = record { fee = b.fee; size = n } in y) s
 
 pub sum_next : (rate : ℕ → Sum) (ids : List ℕ) (k : ℕ) (sum new : Sum) (fee : ℤ) (size : ℕ) → k < length ids → sum ≡ sums rate (take k ids) → fee ≡ (rate (get_or ids k 0)).fee → size ≡ (rate (get_or ids k 0)).size
     → new.fee ≡ sum.fee +ℤ fee → new.size ≡ sum.size + size → new ≡ sums rate (take (k + 1) ids)

@@ -5,18 +5,14 @@ use Rattle.std.proofs.lemmas.Bool.{cases_eq, cases_lt}
 use Rattle.std.proofs.lemmas.List.{get_or-set_same, get_or-set_other, length-set, length-take-le, get_or-take, get_or_default, get_or-map, length-map, get_or-replicate, length-replicate, get_or_past, take-append-drop, drop_more, length-append, get_or_at, get_or_append_left, take_at}
 use Rattle.std.proofs.lemmas.List.Sums.{sum_by-set, count_by-le-length}
 use Rattle.std.proofs.lemmas.List.Elements.{Contains-get_or}
-use Rattle.graphs.specs.Graphs.{AreDistinct}
+use Rattle.std.proofs.lemmas.Option.{same_Some}
+use Rattle.lists.proofs.Cases.{some_none}
+use Rattle.lists.proofs.Distinct.{repeated, distinct_from_places, one_place}
+use Rattle.lists.specs.Distinct.{AreDistinct}
 use Rattle.graphs.specs.Linearizations.{StandsBefore}
 use Rattle.certificate.specs.Places.{ArePlaces}
 use Rattle.certificate.specs.Orders.{IsOrderOf, seat_at, AreSeats, AreRanks, AreOfOneGroup}
-use Rattle.certificate.proofs.Distinct.{repeated, distinct_by_index, distinct_place}
 use Rattle.certificate.proofs.PlaceLemmas.{not_found, places_distinct}
-
-some_none : (p : ℕ) → Some p ≡ None → ⊥
-some_none p e = cc
-
-same_some : (a b : ℕ) → Some a ≡ Some b → a ≡ b
-same_some a b e = cc
 
 no_seat : (n x : ℕ) → seat_at (replicate n None) x ≡ None
 no_seat n x =
@@ -59,7 +55,7 @@ seats_more names order find seats k p in' h some s free =
           λ x r x_in e.
           elim (cases_eq x p) [
             | inl same ↦
-                (let at : k ≡ r = same_some k r (sym here ∙ ap (seat_at (set seats p (Some k))) (sym same) ∙ e) in
+                (let at : k ≡ r = same_Some k r (sym here ∙ ap (seat_at (set seats p (Some k))) (sym same) ∙ e) in
                 (omega arith, subst (λ z. get_or (take (k + 1) order) z 0 ≡ get_or names x 0) at (last ∙ sym place.1 ∙ ap (λ z. get_or names z 0) (sym same))))
             | inr other ↦
                 (let o = s.sound x r x_in (sym (there x other) ∙ e) in
@@ -116,13 +112,13 @@ order_all names order ranks find seats h s e =
     let r = ranks_all names order ranks seats s e in
     record {
       once =
-          distinct_by_index order
+          distinct_from_places order
           (λ i j x less j_in same.
           let (p, p_in, p_is, p_seat) = s.complete i (omega arith) in
           let (q, q_in, q_is, q_seat) = s.complete j j_in in
           let alike : get_or order i 0 ≡ get_or order j 0 = get_or_default order i 0 x (omega arith) ∙ same ∙ get_or_default order j x 0 j_in in
-          let one : p ≡ q = distinct_place names p q 0 d p_in q_in (p_is ∙ alike ∙ sym q_is) in
-          let ranks_one : i ≡ j = same_some i j (sym p_seat ∙ ap (seat_at seats) one ∙ q_seat) in
+          let one : p ≡ q = one_place names p q 0 d p_in q_in (p_is ∙ alike ∙ sym q_is) in
+          let ranks_one : i ≡ j = same_Some i j (sym p_seat ∙ ap (seat_at seats) one ∙ q_seat) in
           omega arith);
       members =
           λ id. (
@@ -144,7 +140,7 @@ all_have_seats names order find seats h s o p in' =
     let p_in : p < length names = omega arith in
     let (r, r_in, is) = (o.members (get_or names p 0)).1 (Contains-get_or names p 0 p_in) in
     let (q, q_in, q_is, seat) = s.complete r r_in in
-    let one : q ≡ p = distinct_place names q p 0 (places_distinct names find h) q_in p_in (q_is ∙ get_or_default order r 0 (get_or names p 0) r_in ∙ is) in
+    let one : q ≡ p = one_place names q p 0 (places_distinct names find h) q_in p_in (q_is ∙ get_or_default order r 0 (get_or names p 0) r_in ∙ is) in
     some_is (seat_at seats p) r (ap (seat_at seats) (sym one) ∙ seat)
 
 -- ---- parents before children
@@ -163,8 +159,8 @@ stood order i j a b d i_in j_in at bt (front, rest, split, (k, k_in, is)) =
     let long = ap length split in
     let k_read : get_or order k 0 ≡ a = ap (λ l. get_or l k 0) split ∙ get_or_append_left front (b ∷ rest) 0 k k_in ∙ get_or_default front k 0 a k_in ∙ is in
     let j_read : get_or order (length front) 0 ≡ b = ap (λ l. get_or l (length front) 0) split ∙ get_or_at front b rest 0 (length front) refl in
-    let i_is : i ≡ k = distinct_place order i k 0 d i_in (omega arith) (at ∙ sym k_read) in
-    let j_is : j ≡ length front = distinct_place order j (length front) 0 d j_in (omega arith) (bt ∙ sym j_read) in
+    let i_is : i ≡ k = one_place order i k 0 d i_in (omega arith) (at ∙ sym k_read) in
+    let j_is : j ≡ length front = one_place order j (length front) 0 d j_in (omega arith) (bt ∙ sym j_read) in
     omega arith
 
 pub place_in : (names : List ℕ) (find : ℕ → Option ℕ) (seats : List (Option ℕ)) (order : List ℕ) (id p : ℕ) → ArePlaces names find → AreSeats names order seats → find id ≡ Some p → p < length seats

@@ -3,41 +3,23 @@ use Rattle.std.proofs.Common.{◌≡◌, ℕ, zero, suc, eq-eqb, ◌+◌, ◌<�
 use Rattle.std.specs.Prelude.{Contains, ◌&&◌, ◌||◌, not}
 use Rattle.std.specs.List.{list_any}
 use Rattle.std.proofs.lemmas.Map.Views.{Contains-from_any}
-use Rattle.std.proofs.lemmas.Bool.{eqb-true}
+use Rattle.std.proofs.lemmas.Bool.{eqb-true, and_parts, and_from, or_left, or_right}
 use Rattle.std.proofs.lemmas.List.{take_more}
 use Rattle.std.proofs.lemmas.List.Elements.{Contains-push, Contains-append_left, Contains-push_cases}
-use Rattle.graphs.specs.Graphs.{AreDistinct}
-use Rattle.certificate.proofs.Distinct.{distinct_push, repeated}
+use Rattle.lists.proofs.Cases.{same_test, false_from_not, true_from_not}
+use Rattle.lists.proofs.Distinct.{distinct_push, repeated}
+use Rattle.lists.specs.Distinct.{AreDistinct}
 
 abbrev pub same_pair : ℕ × ℕ → ℕ × ℕ → Bool
 same_pair x y = nat_eq x.0 y.0 && nat_eq x.1 y.1
 
-both : (a b : Bool) → (a && b) ≡ true → (a ≡ true) × (b ≡ true)
-both true true h = (refl, refl)
-both true false h = cc
-both false b h = cc
-
-with_both : (a b : Bool) → a ≡ true → b ≡ true → (a && b) ≡ true
-with_both true true p q = refl
-with_both true false p q = cc
-with_both false b p q = cc
-
-or_left : (a b : Bool) → a ≡ true → (a || b) ≡ true
-or_left true b p = refl
-or_left false b p = cc
-
-or_right : (a b : Bool) → b ≡ true → (a || b) ≡ true
-or_right true b p = refl
-or_right false true p = refl
-or_right false false p = cc
-
 pub same_pair_is : (x y : ℕ × ℕ) → same_pair x y ≡ true → ◌≡◌ {A = ℕ × ℕ} x y
 same_pair_is x y h =
-    let (a, b) = both (nat_eq x.0 y.0) (nat_eq x.1 y.1) h in
+    let (a, b) = and_parts (nat_eq x.0 y.0) (nat_eq x.1 y.1) h in
     ap (λ z. let p : ℕ × ℕ = (z, x.1) in p) (eqb-true x.0 y.0 a) ∙ ap (λ z. let p : ℕ × ℕ = (y.0, z) in p) (eqb-true x.1 y.1 b)
 
 pub pair_is_same : (x y : ℕ × ℕ) → ◌≡◌ {A = ℕ × ℕ} x y → same_pair x y ≡ true
-pair_is_same x y e = subst (λ (z : ℕ × ℕ). same_pair x z ≡ true) e (with_both (nat_eq x.0 x.0) (nat_eq x.1 x.1) (eq-eqb x.0 x.0 refl) (eq-eqb x.1 x.1 refl))
+pair_is_same x y e = subst (λ (z : ℕ × ℕ). same_pair x z ≡ true) e (and_from (nat_eq x.0 x.0) (nat_eq x.1 x.1) (eq-eqb x.0 x.0 refl) (eq-eqb x.1 x.1 refl))
 
 pub any_contains : (q : ℕ × ℕ) (xs : List (ℕ × ℕ)) → list_any (same_pair q) xs ≡ true → Contains xs q
 any_contains q xs h = Contains-from_any {eq = same_pair} same_pair_is q xs h
@@ -46,11 +28,6 @@ pub contains_any : (q : ℕ × ℕ) (xs : List (ℕ × ℕ)) → Contains xs q �
 contains_any q [] (k, in', e) = absurd (omega arith)
 contains_any q (x ∷ xs) (zero, in', e) = or_left (same_pair q x) (list_any (same_pair q) xs) (pair_is_same q x (sym e))
 contains_any q (x ∷ xs) (suc k, in', e) = or_right (same_pair q x) (list_any (same_pair q) xs) (contains_any q xs (k, omega arith, e))
-
-bool_same : (a b : Bool) → (a ≡ true → b ≡ true) → (b ≡ true → a ≡ true) → a ≡ b
-bool_same true b f g = sym (f refl)
-bool_same false true f g = g refl
-bool_same false false f g = refl
 
 -- what a set holds is what stands in a list
 pub record Holds (has : ℕ × ℕ → Bool) (xs : List (ℕ × ℕ)) : Type 0 where
@@ -80,7 +57,7 @@ pub holds_more : (has has' : ℕ × ℕ → Bool) (xs : List (ℕ × ℕ)) (x : 
 holds_more has has' xs x h up = record {
   exact =
       λ q.
-      bool_same (has' q) (list_any (same_pair q) (xs ++ (x ∷ [])))
+      same_test (has' q) (list_any (same_pair q) (xs ++ (x ∷ [])))
       (λ t.
       contains_any q (xs ++ (x ∷ []))
       (elim (add_cases (same_pair x q) (has q) (sym (up q) ∙ t)) [
@@ -98,14 +75,6 @@ holds_more has has' xs x h up = record {
 pub fresh : (has : ℕ × ℕ → Bool) (xs : List (ℕ × ℕ)) (x : ℕ × ℕ) → Holds has xs → has x ≡ false → AreDistinct xs → AreDistinct (xs ++ (x ∷ []))
 fresh has xs x h none d = distinct_push xs x d (λ there. true_false (sym (holding has xs x h there) ∙ none))
 
-not_false : (b : Bool) → not b ≡ true → b ≡ false
-not_false true e = cc
-not_false false e = refl
-
-not_true : (b : Bool) → not b ≡ false → b ≡ true
-not_true true e = refl
-not_true false e = cc
-
 -- ---- a list of pairs put in, one after the other
 pub record IsUpto (has : ℕ × ℕ → Bool) (xs : List (ℕ × ℕ)) (k : ℕ) : Type 0 where
   pub distinct : AreDistinct (take k xs)
@@ -117,7 +86,7 @@ upto_none has xs h = record { distinct = tt; holds = holds_none has h }
 pub upto_more : (has has' : ℕ × ℕ → Bool) (xs : List (ℕ × ℕ)) (k : ℕ) (new : Bool) → k < length xs → IsUpto has xs k → new ≡ not (has (get_or xs k (0, 0))) → new ≡ true
     → ((q : ℕ × ℕ) → has' q ≡ cond (same_pair (get_or xs k (0, 0)) q) true (has q)) → IsUpto has' xs (k + 1)
 upto_more has has' xs k new in' u added is up =
-    let none = not_false (has (get_or xs k (0, 0))) (sym added ∙ is) in
+    let none = false_from_not (has (get_or xs k (0, 0))) (sym added ∙ is) in
     let e = take_more xs k (0, 0) in' in
     record {
       distinct = subst (λ l. AreDistinct l) (sym e) (fresh has (take k xs) (get_or xs k (0, 0)) u.holds none u.distinct);
@@ -126,7 +95,7 @@ upto_more has has' xs k new in' u added is up =
 
 pub upto_again : (has : ℕ × ℕ → Bool) (xs : List (ℕ × ℕ)) (k : ℕ) (new : Bool) → k < length xs → IsUpto has xs k → new ≡ not (has (get_or xs k (0, 0))) → new ≡ false → AreDistinct xs → ⊥
 upto_again has xs k new in' u added is d =
-    let old = not_true (has (get_or xs k (0, 0))) (sym added ∙ is) in
+    let old = true_from_not (has (get_or xs k (0, 0))) (sym added ∙ is) in
     repeated xs k (get_or xs k (0, 0)) (0, 0) in' refl (held has (take k xs) _ u.holds old) d
 
 -- the same, where the pair is known by another name

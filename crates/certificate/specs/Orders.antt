@@ -1,6 +1,6 @@
 -- Orders as ranks: for each place where its name stands in the order.
 use Rattle.std.specs.Prelude.{◌≡◌, ◌↔◌, ℕ, ◌<◌, ◌≤◌, List, length, Contains, Option, Some, None, slice_index, slice_index_or, is_some, count_by}
-use Rattle.graphs.specs.Graphs.{AreDistinct}
+use Rattle.lists.specs.Distinct.{AreDistinct}
 use Rattle.certificate.specs.Chains.{pair_at}
 
 -- the order is of the names, each once

@@ -1,8 +1,8 @@
 ghost use Rattle.std.specs.Prelude.{◌≡◌, ℕ, ◌*◌, ◌^◌, ◌*ℤ◌, ◌<◌, ◌≤◌, pos, length, nat_eq, Contains, unsigned_abs, MatchBool, MatchResult, FitsSigned, slice_set, ◌+ℤ◌, ◌-ℤ◌};
 ghost use Rattle.std.specs.Int.{w128};
 ghost use Rattle.std.specs.HashMap as hash;
+ghost use Rattle.lists.specs.Distinct.{AreDistinct};
 ghost use Rattle.fee_rate.specs.Limits.{InRange, IsRate, IsSum};
-ghost use Rattle.graphs.specs.Graphs.{AreDistinct};
 ghost use Rattle.graphs.specs.Certificates.{Certifies, HasFlows, rate_in, weight_in};
 ghost use Rattle.certificate.specs.declared.fault.CheckFault.TheVariants as faults;
 ghost use Rattle.certificate.specs.Accounts.{ArePayable, AreBalanced, AreInside, AreNet, AreOpen, IsEdge, IsOpen, KeepParts, account_at, amount_of, ends_of};

@@ -8,6 +8,7 @@ ghost use Rattle.certificate.specs.Tables.{AreInLimits, AreTables};
 use crate::CheckFault;
 use crate::cycles::no_cycle;
 use crate::names::{Edges, Names, edge_set, ends, positions};
+use fee_rate::{is_fee, is_size};
 use graphs::TxId;
 use std::alloc::Global;
 

@@ -1,12 +1,13 @@
 -- Two parts of rising rate are one part.
 use Rattle.std.proofs.Common.{◌≡◌, ◌+◌, ◌≤◌, List, [], ◌∷◌, ◌++◌, inl, inr, refl, sym, ap, ◌∙◌, subst, arith}
 use Rattle.std.proofs.lemmas.List.{append-nil, append_assoc}
+use Rattle.fee_rate.proofs.Orders.{below_at_most, below_at_most_chains}
 use Rattle.fee_rate.specs.declared.rates.FeeRate.{FeeRate}
 use Rattle.fee_rate.specs.Laws.{joined}
 use Rattle.fee_rate.specs.Rates.{Below}
 use Rattle.chunking.specs.Chunkings.{sum_of, IsPart}
 use Rattle.chunking.proofs.Fronts.{compare_fronts, all_of_rest}
-use Rattle.chunking.proofs.Sums.{at_most_from_below, chain_below, below_joined, joined_below, below_rest, below_from_joined, sum_of-append, Sized, some_size}
+use Rattle.chunking.proofs.Sums.{below_joined, joined_below, below_rest, below_from_joined, sum_of-append, Sized, some_size}
 
 -- a front that is one of the two parts, or short of the first
 front_within : (a b front t : List FeeRate) → IsPart a → Sized a → Sized b → (b ≡ [] → ⊥) → Below (sum_of a) (sum_of b) → (front ≡ [] → ⊥) → a ≡ front ++ t → Below (sum_of front) (sum_of (a ++ b))
@@ -19,7 +20,7 @@ front_within a b front (x ∷ t) p sa sb nb rise some e =
     let whole : Below (sum_of a) (sum_of (a ++ b)) = subst (λ s. Below (sum_of a) s) (sym (sum_of-append a b)) (below_joined (sum_of a) (sum_of b) rise) in
     let size : 1 ≤ (sum_of a).size = some_size a sa p.some in
     let more : 1 ≤ (sum_of (a ++ b)).size = subst (λ s. 1 ≤ s.size) (sym (sum_of-append a b)) (let n : 1 ≤ (sum_of a).size + (sum_of b).size = omega arith in n) in
-    chain_below (sum_of front) (sum_of a) (sum_of (a ++ b)) size more short (at_most_from_below _ _ whole)
+    below_at_most_chains (sum_of front) (sum_of a) (sum_of (a ++ b)) size more short (below_at_most _ _ whole)
 
 -- a front that goes into the second part
 front_beyond : (a b t rest : List FeeRate) → IsPart b → Sized b → (rest ≡ [] → ⊥) → Below (sum_of a) (sum_of b) → (t ≡ [] → ⊥) → b ≡ t ++ rest → Below (sum_of (a ++ t)) (sum_of ((a ++ t) ++ rest))
@@ -31,7 +32,7 @@ front_beyond a b t rest p sb nr rise some e =
     let parted : sum_of b ≡ joined (sum_of t) (sum_of rest) = ap sum_of e ∙ sum_of-append t rest in
     let short' : Below (sum_of t) (sum_of rest) = below_rest _ _ (subst (λ s. Below (sum_of t) s) parted short) in
     let top : Below (sum_of b) (sum_of rest) = subst (λ s. Below s (sum_of rest)) (sym parted) (joined_below _ _ short') in
-    let all : Below (joined (sum_of a) (sum_of b)) (sum_of rest) = chain_below _ (sum_of b) _ size_b size_rest (joined_below _ _ rise) (at_most_from_below _ _ top) in
+    let all : Below (joined (sum_of a) (sum_of b)) (sum_of rest) = below_at_most_chains _ (sum_of b) _ size_b size_rest (joined_below _ _ rise) (below_at_most _ _ top) in
     let shape : joined (sum_of a) (sum_of b) ≡ joined (sum_of (a ++ t)) (sum_of rest) =
     sym (sum_of-append a b) ∙ ap (λ x. sum_of (a ++ x)) e ∙ ap sum_of (sym (append_assoc a t rest)) ∙ sum_of-append (a ++ t) rest
     in

@@ -17,14 +17,6 @@ use Rattle.fee_rate.specs.Rates.{AtMost, Below}
 use Rattle.chunking.specs.Chunkings.{sum_of}
 
 -- ---- two sums, and the two joined
-pub at_most_from_below : (a b : Sum) → Below a b → AtMost a b
-at_most_from_below a b h = let k = h.crossed in record { crossed = omega (arith, ints) }
-
-pub chain : (a b c : Sum) → 1 ≤ b.size → AtMost a b → AtMost b c → AtMost a c
-chain a b c some h k = record { crossed = cross_trans a.fee b.fee c.fee a.size b.size c.size (omega arith) h.crossed k.crossed }
-
-pub chain_below : (a b c : Sum) → 1 ≤ b.size → 1 ≤ c.size → Below a b → AtMost b c → Below a c
-chain_below a b c some other h k = record { crossed = cross_trans_strict_left a.fee b.fee c.fee a.size b.size c.size (omega arith) (omega arith) h.crossed k.crossed }
 
 pub below_joined : (a b : Sum) → Below a b → Below a (joined a b)
 below_joined a b h = record { crossed = sum_above_strict a.fee b.fee a.size b.size h.crossed }
@@ -43,13 +35,6 @@ below_from_joined a b h =
 
 pub joined_at_most : (a b c : Sum) → AtMost a c → AtMost b c → AtMost (joined a b) c
 joined_at_most a b c h k = record { crossed = sum_at_most a.fee b.fee c.fee a.size b.size c.size h.crossed k.crossed }
-
-pub clash : (a b : Sum) → Below a b → AtMost b a → ⊥
-clash a b h k = let x = h.crossed in let y = k.crossed in omega (arith, ints)
-
-pub same_sum : (a b : Sum) → a.fee ≡ b.fee → a.size ≡ b.size → a ≡ b
-same_sum a b f s =
-    ap (λ x. let y : Sum = record { fee = x; size = a.size } in y) f ∙ ap (λ n. let y : Sum = record { fee = b.fee; size = n } in y) s
 
 -- ---- sums of lists
 pub sum_of-append : (xs ys : List FeeRate) → sum_of (xs ++ ys) ≡ joined (sum_of xs) (sum_of ys)

@@ -4,13 +4,14 @@ use Rattle.std.specs.Prelude.{All}
 use Rattle.std.specs.List.{flat_map}
 use Rattle.std.proofs.lemmas.List.{append-nil}
 use Rattle.std.proofs.lemmas.List.Elements.{All-cons, All-head, All-tail, All-nil, All-weaker}
+use Rattle.fee_rate.proofs.Orders.{below_at_most, at_most_chains, below_clash}
 use Rattle.fee_rate.specs.declared.rates.FeeRate.{FeeRate}
 use Rattle.fee_rate.specs.declared.rates.Sum.{Sum}
 use Rattle.fee_rate.specs.Rates.{AtMost, Below}
 use Rattle.chunking.specs.Chunkings.{sum_of, IsPart, Fall}
 use Rattle.chunking.specs.Laws.{PartsAreUnique}
 use Rattle.chunking.proofs.Fronts.{compare_fronts, all_of_front, all_of_rest}
-use Rattle.chunking.proofs.Sums.{at_most_from_below, chain, below_rest, joined_at_most, clash, sum_of-append, Sized, some_size}
+use Rattle.chunking.proofs.Sums.{below_rest, joined_at_most, sum_of-append, Sized, some_size}
 
 abbrev whole : List (List FeeRate) → List FeeRate
 whole parts = flat_map (λ part. part) parts
@@ -19,7 +20,7 @@ within : (r : Sum) (p t x : List FeeRate) → IsPart p → Sized p → AtMost (s
 within r p t [] part sizes low some f = subst (λ y. AtMost (sum_of y) r) (f ∙ append-nil t) low
 within r p t (z ∷ x) part sizes low some f =
     let short : Below (sum_of t) (sum_of p) = part.fronts t (z ∷ x) some (λ n. cc) (sym f) in
-    chain _ (sum_of p) _ (some_size p sizes part.some) (at_most_from_below _ _ short) low
+    at_most_chains _ (sum_of p) _ (some_size p sizes part.some) (below_at_most _ _ short) low
 
 beyond : (r : Sum) (p t x : List FeeRate) → AtMost (sum_of p) r → ((x ≡ [] → ⊥) → AtMost (sum_of x) r) → t ≡ p ++ x → AtMost (sum_of t) r
 beyond r p t [] low rest f = subst (λ y. AtMost (sum_of y) r) (sym (f ∙ append-nil p)) low
@@ -55,14 +56,14 @@ below_first p (q ∷ parts) fall each sizes =
     let step : AtMost (sum_of q) (sum_of p) = fall.neighbours [] p q parts refl in
     let more = below_first q parts (fall_tail p (q ∷ parts) fall) (All-tail IsPart q parts each) (all_of_rest (λ r. 1 ≤ r.size) q (whole parts) sizes) in
     All-cons (λ q. AtMost (sum_of q) (sum_of p)) q parts step
-    (All-weaker (λ x. AtMost (sum_of x) (sum_of q)) (λ x. AtMost (sum_of x) (sum_of p)) (λ x h. chain _ (sum_of q) _ size h step) parts more)
+    (All-weaker (λ x. AtMost (sum_of x) (sum_of q)) (λ x. AtMost (sum_of x) (sum_of p)) (λ x h. at_most_chains _ (sum_of q) _ size h step) parts more)
 
 -- the first part of one chunking isn't a proper front of the first part of another
 no_shorter : (p q z : List FeeRate) (w : FeeRate) (ps qs : List (List FeeRate)) → IsPart p → IsPart q → Sized p → All IsPart ps → Sized (whole ps) → Fall (p ∷ ps) → q ≡ p ++ (w ∷ z) → whole ps ≡ (w ∷ z) ++ whole qs → ⊥
 no_shorter p q z w ps qs pp pq sp each sizes fall e g =
     let short : Below (sum_of p) (sum_of q) = pq.fronts p (w ∷ z) pp.some (λ n. cc) (sym e) in
     let rest : Below (sum_of p) (sum_of (w ∷ z)) = below_rest _ _ (subst (λ s. Below (sum_of p) s) (ap sum_of e ∙ sum_of-append p (w ∷ z)) short) in
-    clash _ _ rest (bounded (sum_of p) ps (w ∷ z) (whole qs) each sizes (below_first p ps fall each sizes) g (λ n. cc))
+    below_clash _ _ rest (bounded (sum_of p) ps (w ∷ z) (whole qs) each sizes (below_first p ps fall each sizes) g (λ n. cc))
 
 -- what is known of one of the two chunkings
 record Cut (parts : List (List FeeRate)) : Type 0 where

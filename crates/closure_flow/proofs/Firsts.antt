@@ -4,7 +4,8 @@ use Rattle.std.proofs.lemmas.Bool.{cases_eq}
 use Rattle.std.proofs.lemmas.Int.{ints}
 use Rattle.std.specs.Ordering.{nat_cmp}
 use Rattle.std.specs.FinSet as set
-use Rattle.bitset.specs.Places.{IsRising, IsWithin, places}
+use Rattle.lists.specs.Rising.{IsRising}
+use Rattle.bitset.specs.Places.{IsWithin, places}
 use Rattle.bitset.specs.Sets.{IsRising-places}
 use Rattle.closure_flow.specs.Closures.{parents_at}
 use Rattle.closure_flow.specs.Flows.{Among, net, only_at, surplus}

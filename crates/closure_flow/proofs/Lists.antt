@@ -2,8 +2,8 @@
 use Rattle.std.proofs.Common.{◌≡◌, ℕ, ◌+◌, ◌-◌, ◌<◌, ◌≤◌, inl, inr, List, [], ◌∷◌, Bool, cond, nat_eq, ℤ, pos, negsuc, ◌+ℤ◌, ◌-ℤ◌, neg_ℤ, ◌≤ℤ◌, refl, sym, ap, ◌∙◌, subst, arith, eq-eqb, ne_eqb}
 use Rattle.std.proofs.lemmas.Int.{ints}
 use Rattle.std.proofs.lemmas.Bool.{cases_eq}
+use Rattle.lists.specs.Rising.{AllAbove, IsRising}
 use Rattle.arithmetic.specs.Sums.{total}
-use Rattle.bitset.specs.Places.{AllAbove, IsRising}
 use Rattle.closure_flow.specs.Flows.{Among, net, surplus, shortage, only_at}
 use borrow.Author.Differences.{up, down}
 

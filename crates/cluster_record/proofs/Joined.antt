@@ -5,18 +5,18 @@ use Rattle.std.proofs.lemmas.List.{get_or_append_left, get_or-append_right}
 use Rattle.std.proofs.lemmas.List.FromFn.{length-range_with_len, get_or-range_with_len}
 use Rattle.std.specs.List.{range_with_len}
 use Rattle.std.specs.FinSet as set
+use Rattle.lists.proofs.Walks.{Walk-trans, Walk-back, Walk-push}
+use Rattle.lists.specs.Walks.{Walk}
 use Rattle.bitset.specs.Places.{places, IsWithin}
 use Rattle.bitset.specs.Sets.{len-places}
 use Rattle.fee_rate.specs.declared.rates.FeeRate.{FeeRate}
 use Rattle.dep_graph.specs.Graph.{Graph, is_member, is_ancestor, rate_of, members_of, IsClosed, IsMerged, AddsPair}
-use Rattle.dep_graph.specs.Walks.{Walk}
 use Rattle.cluster_record.specs.Clusters.{AreOnce, IsRelated}
 use Rattle.cluster_record.specs.Changes.{Joins}
 use Rattle.cluster_record.specs.Named.{named, IsNamed}
 use Rattle.cluster_record.proofs.Names.{Stands, Stands-contains, named-ancestor, named-rate, member-stands}
 use Rattle.cluster_record.proofs.Kept.{walk_over, by_places, ancestor_ends}
 use Rattle.cluster_record.proofs.Listings.{contains-members_of}
-use Rattle.cluster_record.proofs.Walks.{walk_trans, walk_back, walk_push}
 
 -- ---- places without a gap
 
@@ -152,7 +152,7 @@ module _ (n : ℕ) (xs ys : List ℕ) (f g h : Graph) (one : IsNamed n xs f) (tw
     to_parent : (p : ℕ) → Side p → Walk (IsRelated h') p parent
     to_parent p (Left i inside) = walk_over (IsRelated f) (IsRelated h') (λ k. k) first_related i parent (one.whole i parent inside low)
     to_parent p (Right j inside) =
-        walk_push (IsRelated h') (length xs + j) (length xs + child) parent
+        Walk-push (IsRelated h') (length xs + j) (length xs + child) parent
         (walk_over (IsRelated g) (IsRelated h') (λ k. length xs + k) second_related j child (two.whole j child inside below)) (turn parent (length xs + child) joined_up)
 
     small_at : (p : ℕ) → Side p → (rate_of h' p).size ≤ 4000000
@@ -165,7 +165,7 @@ module _ (n : ℕ) (xs ys : List ℕ) (f g h : Graph) (one : IsNamed n xs f) (tw
       once = once_all;
       members = λ p. pair.members p ∙ merged_member p ∙ ap (nat_lt p) (sym long);
       order = closed.order;
-      whole = λ p q inside within. walk_trans (IsRelated h') p parent q (to_parent p (side p inside)) (walk_back (IsRelated h') turn q parent (to_parent q (side q within)));
+      whole = λ p q inside within. Walk-trans (IsRelated h') p parent q (to_parent p (side p inside)) (Walk-back (IsRelated h') turn q parent (to_parent q (side q within)));
       small = λ p inside. small_at p (side p inside);
     }
 

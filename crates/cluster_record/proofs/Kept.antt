@@ -2,17 +2,13 @@
 use Rattle.std.proofs.Common.{◌≡◌, ℕ, ℤ, ◌<◌, ◌≤◌, Bool, true, false, ◌&&◌, ◌||◌, List, [], ◌∷◌, length, slice_index, Option, Some, None, inl, inr, refl, sym, ap, ◌∙◌, subst, subst₂, lt-ltb, ltb-true, true≢false}
 use Rattle.std.proofs.lemmas.Bool.{cases_eq, cases_Bool, or_cases, and_parts}
 use Rattle.std.specs.FinMap as map
+use Rattle.lists.proofs.Cases.{same_test}
+use Rattle.lists.specs.Walks.{Walk}
 use Rattle.fee_rate.specs.declared.rates.FeeRate.{FeeRate}
 use Rattle.dep_graph.specs.Graph.{Node, Graph, is_member, is_ancestor, rate_of, rate_in, no_rate, IsOrder, IsClosed, AddsPair, SetsFee}
-use Rattle.dep_graph.specs.Walks.{Walk}
 use Rattle.cluster_record.specs.Clusters.{AreOnce, IsRelated, AreLinked, IsCluster}
 use Rattle.cluster_record.specs.Named.{named, IsNamed}
 use Rattle.cluster_record.proofs.Names.{Stands, Contains-stands, Stands-contains, named-member, member-stands, named-rate, named-ancestor, ancestor-stands}
-
-pub same_test : (x y : Bool) → (x ≡ true → y ≡ true) → (y ≡ true → x ≡ true) → x ≡ y
-same_test true y there back = sym (there refl)
-same_test false true there back = back refl
-same_test false false there back = refl
 
 -- a walk goes over to the images of its vertices
 pub walk_over : {V U : Type 0} (step : V → V → Type 0) (other : U → U → Type 0) (f : V → U) → ((a b : V) → step a b → other (f a) (f b)) → (a b : V) → Walk step a b → Walk other (f a) (f b)

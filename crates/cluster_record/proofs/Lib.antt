@@ -4,6 +4,5 @@ mod Single
 mod Lists
 mod Listings
 mod Parts
-mod Walks
 mod Joined
 mod Splits

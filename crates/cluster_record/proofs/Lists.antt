@@ -10,14 +10,14 @@ use Rattle.std.specs.List.Sorted.{IsPermutation, IsNonDecreasing}
 use Rattle.std.specs.Cmp.{nat_eq_equiv}
 use Rattle.std.specs.Ordering.{nat_cmp}
 use Rattle.std.specs.FinSet as set
-use Rattle.bitset.specs.Places.{places, IsWithin, IsRising}
-use Rattle.bitset.specs.Sets.{IsRising-places, Contains-places, places-Contains, places-here, rising_once, rising_at_least}
+use Rattle.lists.proofs.Entries.{Contains-map}
+use Rattle.lists.proofs.Rising.{rising_once, rising_at_least}
+use Rattle.lists.specs.Rising.{IsRising}
+use Rattle.bitset.specs.Places.{places, IsWithin}
+use Rattle.bitset.specs.Sets.{IsRising-places, Contains-places, places-Contains, places-here}
 use Rattle.graphs.specs.Graphs.{Lists}
 use Rattle.cluster_record.specs.Clusters.{AreOnce}
 use Rattle.cluster_record.specs.Changes.{IsChosen}
-
-pub Contains-map : {X Y : Type 0} (f : X → Y) (xs : List X) (x : X) → Contains xs x → Contains (map f xs) (f x)
-Contains-map f xs x here = (here.0, subst (λ n. here.0 < n) (sym (length-map xs f)) here.1, get_or-map f xs here.0 x (f x) here.1 ∙ ap f here.2)
 
 pub map-Contains : {Y : Type 0} (f : ℕ → Y) (xs : List ℕ) (y : Y) → Contains (map f xs) y → (x : ℕ) × Contains xs x × (f x ≡ y)
 map-Contains f xs y here =

@@ -9,17 +9,17 @@ use Rattle.std.specs.Ordering.{nat_cmp}
 use Rattle.std.specs.FinSet as set
 use Rattle.std.specs.List.{range_with_len}
 use Rattle.std.proofs.lemmas.List.FromFn.{length-range_with_len, get_or-range_with_len}
-use Rattle.graphs.proofs.ListLemmas.{Contains-cases}
+use Rattle.lists.proofs.Walks.{Walk-push, Walk-trans, Walk-back}
+use Rattle.lists.specs.Walks.{Walk, IsWalk}
+use Rattle.lists.proofs.Entries.{Contains-cases}
 use Rattle.bitset.specs.Places.{places, first_places, IsLeast, IsWithin}
 use Rattle.bitset.specs.Sets.{contains-first_places, contains-remove, contains-difference, contains-empty, len-places}
 use Rattle.dep_graph.specs.Graph.{Graph, is_ancestor, rate_of, HoldsMembers, IsNear}
-use Rattle.dep_graph.specs.Walks.{Walk, IsWalk}
 use Rattle.cluster_record.specs.Clusters.{Cluster, IsRelated, IsCluster, AreApart}
 use Rattle.cluster_record.specs.Changes.{IsChosen, IsPartOf, IsAncestorIn, IsSplit}
 use Rattle.cluster_record.specs.Named.{named, IsNamed}
 use Rattle.cluster_record.proofs.Names.{named-ancestor, ancestor-stands}
 use Rattle.cluster_record.proofs.Kept.{place_member}
-use Rattle.cluster_record.proofs.Walks.{walk_push, walk_trans, walk_back}
 
 -- ---- walks between near places
 
@@ -30,14 +30,14 @@ near_back g s a b near = record { from_within = near.to_within; to_within = near
 kept_inside : (g : Graph) (s t : set.FinSet nat_cmp) (first : ℕ) → ((p : ℕ) → (set.contains t p ≡ true) ↔ Walk (IsNear g s) first p) → (a b : ℕ) (vs : List ℕ) → set.contains t a ≡ true → IsWalk (IsNear g s) a vs b → Walk (IsNear g t) a b
 kept_inside g s t first is a b [] here same = ([], same)
 kept_inside g s t first is a b (v ∷ vs) here walk =
-    let there : set.contains t v ≡ true = (is v).1 (walk_push (IsNear g s) first a v ((is a).0 here) walk.0) in
+    let there : set.contains t v ≡ true = (is v).1 (Walk-push (IsNear g s) first a v ((is a).0 here) walk.0) in
     let rest : Walk (IsNear g t) v b = kept_inside g s t first is v b vs there walk.1 in
     (v ∷ rest.0, (record { from_within = here; to_within = there; related = walk.0.related }, rest.1))
 
 -- a component is one within itself
 pub component_whole : (g : Graph) (s t : set.FinSet nat_cmp) (first : ℕ) → ((p : ℕ) → (set.contains t p ≡ true) ↔ Walk (IsNear g s) first p) → (p q : ℕ) → set.contains t p ≡ true → set.contains t q ≡ true → Walk (IsNear g t) p q
 component_whole g s t first is p q here there =
-    let walk = walk_trans (IsNear g s) p first q (walk_back (IsNear g s) (near_back g s) first p ((is p).0 here)) ((is q).0 there) in kept_inside g s t first is p q walk.0 here walk.1
+    let walk = Walk-trans (IsNear g s) p first q (Walk-back (IsNear g s) (near_back g s) first p ((is p).0 here)) ((is q).0 there) in kept_inside g s t first is p q walk.0 here walk.1
 
 -- a component lies within what it is one of
 pub component_inside : (g : Graph) (s t : set.FinSet nat_cmp) (first : ℕ) → set.contains s first ≡ true → ((p : ℕ) → (set.contains t p ≡ true) ↔ Walk (IsNear g s) first p) → (p : ℕ) → set.contains t p ≡ true → set.contains s p ≡ true
@@ -161,7 +161,7 @@ module _ (n : ℕ) (names : List ℕ) (g : Graph) (kept : IsNamed n names g) (pl
     -- what is related to a chosen place is chosen
     spreads : (p q : ℕ) → set.contains chosen p ≡ true → set.contains rest q ≡ true → IsRelated g p q → set.contains chosen q ≡ true
     spreads p q here there related =
-        (is q).1 (walk_push (IsNear g rest) first p q ((is p).0 here) (record { from_within = chosen_rest p here; to_within = there; related = related }))
+        (is q).1 (Walk-push (IsNear g rest) first p q ((is p).0 here) (record { from_within = chosen_rest p here; to_within = there; related = related }))
 
     turned : (p q : ℕ) → IsRelated g p q → IsRelated g q p
     turned p q related = elim related [ inl up ↦ inr up | inr down ↦ inl down ]

@@ -1,8 +1,8 @@
 -- A cluster: its names in the order of their places, and the graph of these names.
 use Rattle.std.specs.Prelude.{◌≡◌, ℕ, ◌<◌, ◌≤◌, ◌⊎◌, ◌↔◌, true, List, length, slice_index, Contains, refl}
 use Rattle.std.specs.Coded.{Coded, code_by, coded×, coded_ℕ, coded_list}
+use Rattle.lists.specs.Walks.{Walk}
 use Rattle.dep_graph.specs.Graph.{Graph, graph_code, is_member, is_ancestor, rate_of, IsOrder}
-use Rattle.dep_graph.specs.Walks.{Walk}
 
 pub record Cluster : Type 0 where
   pub names : List ℕ

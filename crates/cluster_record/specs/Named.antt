@@ -3,8 +3,8 @@ use Rattle.std.specs.Prelude.{◌≡◌, ℕ, zero, suc, ◌<◌, ◌≤◌, Boo
 use Rattle.std.specs.Ordering.{nat_cmp}
 use Rattle.std.specs.FinSet as set
 use Rattle.std.specs.FinMap as map
+use Rattle.lists.specs.Walks.{Walk}
 use Rattle.dep_graph.specs.Graph.{Node, Graph, is_member, is_ancestor, rate_of, IsOrder}
-use Rattle.dep_graph.specs.Walks.{Walk}
 use Rattle.cluster_record.specs.Clusters.{AreOnce, IsRelated}
 
 -- the names of the places below n that pass a test

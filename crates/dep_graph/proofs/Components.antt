@@ -4,25 +4,16 @@ use Rattle.std.proofs.lemmas.Bool.{cases_eq, cases_Bool, and_parts, and_from, or
 use Rattle.std.specs.Ordering.{nat_cmp}
 use Rattle.std.specs.Cmp.{nat_cmp_total}
 use Rattle.std.specs.FinSet as fin
+use Rattle.lists.specs.Walks.{Walk}
+use Rattle.lists.proofs.Walks.{Walk-push, Walk-keeps}
 use Rattle.bitset.specs.Places.{IsLeast}
 use Rattle.bitset.specs.Sets.{same_members, contains-insert, contains-remove, contains-union, contains-intersection, contains-difference, contains-empty}
 use Rattle.fee_rate.specs.declared.rates.FeeRate.{FeeRate}
 use Rattle.dep_graph.specs.Graph.{Graph, is_ancestor, IsNear, HoldsMembers}
 use Rattle.dep_graph.specs.Rows.{set_at, graph_from, IsKept}
-use Rattle.dep_graph.specs.Walks.{Walk}
 use Rattle.dep_graph.proofs.Kept.{is_ancestor-kept, member_there}
 
 -- ---- walks
-
-pub Walk-push : {V : Type 0} (step : V → V → Type 0) (a b c : V) → Walk step a b → step b c → Walk step a c
-Walk-push step a b c ([], e) s = (c ∷ [], (subst (λ x. step x c) (sym e) s, refl))
-Walk-push step a b c (v ∷ vs, (first, rest)) s =
-    let further : Walk step v c = Walk-push step v b c (vs, rest) s in (v ∷ further.0, (first, further.1))
-
--- what holds at the start and over each step holds at the end
-pub Walk-keeps : {V : Type 0} (step : V → V → Type 0) (P : V → Type 0) → ((a b : V) → step a b → P a → P b) → (a b : V) → Walk step a b → P a → P b
-Walk-keeps step P each a b ([], e) p = subst P e p
-Walk-keeps step P each a b (v ∷ vs, (first, rest)) p = Walk-keeps step P each v b (vs, rest) (each a v first p)
 
 -- ---- the search
 

@@ -7,8 +7,9 @@ use Rattle.std.proofs.lemmas.List.{get_or_append_left, get_or_push}
 use Rattle.std.specs.List.{range_with_len}
 use Rattle.std.specs.Ordering.{nat_cmp}
 use Rattle.std.specs.FinSet as fin
+use Rattle.lists.proofs.Rising.{at_split}
 use Rattle.bitset.specs.Places.{IsWithin, places}
-use Rattle.bitset.specs.Sets.{len-places, places-Contains, contains-insert, contains-intersection, contains-empty, at_split}
+use Rattle.bitset.specs.Sets.{len-places, places-Contains, contains-insert, contains-intersection, contains-empty}
 use Rattle.dep_graph.specs.Changes.{Copies, CopiesSets, IsRenumbered}
 use Rattle.dep_graph.specs.Moves.{ChangesFrom}
 use Rattle.dep_graph.specs.Rows.{set_at}

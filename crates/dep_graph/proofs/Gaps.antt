@@ -8,8 +8,8 @@ use Rattle.std.proofs.lemmas.Grind.{get_or_default_zero}
 use Rattle.std.proofs.lemmas.Bool.{cases_lt, cases_order, and_parts, or_cases, false_from_ne_true}
 use Rattle.std.specs.Ordering.{nat_cmp}
 use Rattle.std.specs.FinSet as fin
-use Rattle.bitset.specs.Places.{IsRising}
-use Rattle.bitset.specs.Sets.{rising_at_least, rising_apart}
+use Rattle.lists.proofs.Rising.{rising_at_least, rising_apart}
+use Rattle.lists.specs.Rising.{IsRising}
 use Rattle.dep_graph.specs.Changes.{IsRenumbered}
 use Rattle.dep_graph.specs.Moves.{gap, standing, has_power, AreMoving, IsMovedDown, IsMovedUp}
 

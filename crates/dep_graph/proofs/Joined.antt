@@ -4,8 +4,10 @@ use Rattle.std.proofs.lemmas.Bool.{cases_lt, and_parts, false_from_ne_true}
 use Rattle.std.proofs.lemmas.List.Elements.{Contains-get_or}
 use Rattle.std.specs.Ordering.{nat_cmp}
 use Rattle.std.specs.FinSet as fin
-use Rattle.bitset.specs.Places.{IsWithin, IsRising, first_places, places}
-use Rattle.bitset.specs.Sets.{contains-first_places, places-Contains, rising_once}
+use Rattle.lists.proofs.Rising.{rising_once}
+use Rattle.lists.specs.Rising.{IsRising}
+use Rattle.bitset.specs.Places.{IsWithin, first_places, places}
+use Rattle.bitset.specs.Sets.{contains-first_places, places-Contains}
 use Rattle.fee_rate.specs.declared.rates.FeeRate.{FeeRate}
 use Rattle.dep_graph.specs.Graph.{Graph, rate_of, is_ancestor, no_rate, IsOrder, IsMerged, IsPart}
 use Rattle.dep_graph.specs.Rows.{rate_at, set_at, graph_from, above, IsKept}

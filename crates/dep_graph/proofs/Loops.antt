@@ -5,7 +5,8 @@ use Rattle.std.proofs.lemmas.List.{get_or-set_same, get_or-set_other, length-set
 use Rattle.std.specs.List.{range_with_len}
 use Rattle.std.specs.Ordering.{nat_cmp}
 use Rattle.std.specs.FinSet as fin
-use Rattle.bitset.specs.Places.{places, IsWithin, IsRising, AllAbove}
+use Rattle.lists.specs.Rising.{IsRising, AllAbove}
+use Rattle.bitset.specs.Places.{places, IsWithin}
 use Rattle.bitset.specs.Sets.{IsRising-places, places-here}
 use Rattle.dep_graph.specs.Rows.{set_at}
 use Rattle.dep_graph.specs.Changes.{ChangesAt}

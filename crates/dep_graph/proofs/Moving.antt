@@ -5,8 +5,9 @@ use Rattle.std.proofs.lemmas.Bool.{or_cases, false_from_ne_true}
 use Rattle.std.proofs.lemmas.List.{get_or-set_same, get_or-set_other, length-set}
 use Rattle.std.specs.Ordering.{nat_cmp}
 use Rattle.std.specs.FinSet as fin
-use Rattle.bitset.specs.Places.{IsRising}
-use Rattle.bitset.specs.Sets.{contains-insert, contains-empty, rising_at_least, at_split}
+use Rattle.lists.proofs.Rising.{rising_at_least, at_split}
+use Rattle.lists.specs.Rising.{IsRising}
+use Rattle.bitset.specs.Sets.{contains-insert, contains-empty}
 use Rattle.dep_graph.specs.Moves.{gap, standing, has_power, ChangesFrom}
 use Rattle.dep_graph.specs.Rows.{set_at}
 use Rattle.dep_graph.proofs.Gaps.{gap_rises, standing_once, standing_below}

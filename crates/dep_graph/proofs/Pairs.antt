@@ -4,15 +4,17 @@ use Rattle.std.proofs.lemmas.Bool.{cases_eq, cases_lt, and_parts, and_from, or_c
 use Rattle.std.proofs.lemmas.List.Elements.{Contains-get_or}
 use Rattle.std.specs.Ordering.{nat_cmp}
 use Rattle.std.specs.FinSet as fin
-use Rattle.bitset.specs.Places.{places, IsRising, AllAbove}
+use Rattle.lists.specs.Walks.{IsWalk, Walk, Along}
+use Rattle.lists.specs.Rising.{IsRising, AllAbove}
+use Rattle.lists.proofs.Walks.{Walk-map, Walk-first, Walk-trans, Walk-keeps}
+use Rattle.bitset.specs.Places.{places}
 use Rattle.bitset.specs.Sets.{IsRising-places, Contains-places, places-Contains, contains-difference}
 use Rattle.dep_graph.specs.Graph.{Graph, is_member, is_ancestor, members_of, IsOrder, IsClosed, IsCopy}
-use Rattle.dep_graph.specs.Walks.{IsWalk, Walk, Along, parents, children, each_with_each, avoids, bridged, number_in, renumbered_pairs, bridged_all}
+use Rattle.dep_graph.specs.Walks.{parents, children, each_with_each, avoids, bridged, number_in, renumbered_pairs, bridged_all}
 use Rattle.dep_graph.specs.Laws.{Closes, PlaceKeepsPairs, PairIsAdded, PairsAreBridged, PairsAreMerged, PairsAreParted, PartIsBridged}
 use Rattle.dep_graph.proofs.Kept.{contains-members_of}
 use Rattle.dep_graph.proofs.Loops.{among, among-places}
 use Rattle.dep_graph.proofs.Orders.{on, IsOrder-on}
-use Rattle.dep_graph.proofs.Components.{Walk-keeps}
 
 -- ---- what stands in a list, by recursion
 
@@ -115,17 +117,6 @@ each-In (x ∷ firsts) bs p h = elim (In-append (map (λ b. (x, b)) bs) (each_wi
 
 -- ---- walks
 
-Walk-map : {V U : Type 0} (f : V → U) (step : V → V → Type 0) (step' : U → U → Type 0) → ((a b : V) → step a b → step' (f a) (f b)) → (a b : V) → Walk step a b → Walk step' (f a) (f b)
-Walk-map f step step' each a b ([], e) = ([], ap f e)
-Walk-map f step step' each a b (v ∷ vs, (first, rest)) = let further : Walk step' (f v) (f b) = Walk-map f step step' each v b (vs, rest) in (f v ∷ further.0, (each a v first, further.1))
-
-Walk-first : {V : Type 0} (step : V → V → Type 0) (a b c : V) → step a b → Walk step b c → Walk step a c
-Walk-first step a b c s (vs, w) = (b ∷ vs, (s, w))
-
-Walk-then : {V : Type 0} (step : V → V → Type 0) (a b c : V) → Walk step a b → Walk step b c → Walk step a c
-Walk-then step a b c ([], e) w = subst (λ x. Walk step x c) (sym e) w
-Walk-then step a b c (v ∷ vs, (first, rest)) w = Walk-first step a v c first (Walk-then step v b c (vs, rest) w)
-
 -- ---- the laws
 
 -- a pair of the list is related
@@ -183,7 +174,7 @@ pair_is_added n parent child g h pairs closed closes in_parent in_child adds = r
       | inl f ↦ further a b ((closes.walks a b (was a in_a) (was b in_b)).0 f)
       | inr f ↦
           let both : (is_ancestor g a parent ≡ true) × (is_ancestor g child b ≡ true) = and_parts (is_ancestor g a parent) (is_ancestor g child b) f in
-          Walk-then (Along ((parent, child) ∷ pairs)) a parent b (further a parent ((closes.walks a parent (was a in_a) in_parent).0 both.0))
+          Walk-trans (Along ((parent, child) ∷ pairs)) a parent b (further a parent ((closes.walks a parent (was a in_a) in_parent).0 both.0))
           (Walk-first (Along ((parent, child) ∷ pairs)) parent child b (0, omega arith, refl) (further child b ((closes.walks child b in_child (was b in_b)).0 both.1)))
     ],
     λ walk. Walk-keeps (Along ((parent, child) ∷ pairs)) (λ v. is_ancestor h a v ≡ true) (λ u v c e. step a u v e (In-Contains ((parent, child) ∷ pairs) (u, v) c)) a b walk

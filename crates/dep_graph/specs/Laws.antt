@@ -2,10 +2,11 @@
 use Rattle.std.specs.Prelude.{◌≡◌, ℕ, ◌↔◌, true, ◌&&◌, List, ◌∷◌, ◌++◌, Contains, filter, length}
 use Rattle.std.specs.Ordering.{nat_cmp}
 use Rattle.std.specs.FinSet as set
+use Rattle.lists.specs.Walks.{Walk, Along}
 use Rattle.bitset.specs.Places.{places}
 use Rattle.fee_rate.specs.declared.rates.FeeRate.{FeeRate}
 use Rattle.dep_graph.specs.Graph.{Graph, is_member, is_ancestor, members_of, IsClosed, HoldsMembers, AddsPlace, AddsPair, DropsPlace, IsMerged, IsPart}
-use Rattle.dep_graph.specs.Walks.{Walk, Along, bridged, renumbered_pairs, bridged_all}
+use Rattle.dep_graph.specs.Walks.{bridged, renumbered_pairs, bridged_all}
 
 -- the pairs stand between members, and an ancestor is where a walk along them leads from
 pub record Closes (g : Graph) (pairs : List (ℕ × ℕ)) : Type 0 where

@@ -1,9 +1,9 @@
 ghost use Rattle.std.specs.Prelude.{◌≡◌, ℕ, ◌+◌, ◌*◌, ◌<◌, ◌≤◌, ◌↔◌, true, false, IfOk, OnOk, OnErr, vec_len};
 ghost use Rattle.std.specs.FinSet as set;
 ghost use Rattle.std.specs.FinMap as map;
+ghost use Rattle.lists.specs.Walks.{Walk};
 ghost use Rattle.bitset.specs.Places.{IsWithin, places};
 ghost use Rattle.dep_graph.specs.Graph.{is_member, rate_of, is_ancestor, members_of, ancestors_of, descendants_of, IsClosed, IsCover, IsNear, HoldsMembers, AddsPlace, AddsPair, SetsFee, DropsPlace, IsMerged, IsPart};
-ghost use Rattle.dep_graph.specs.Walks.{Walk};
 ghost use Rattle.dep_graph.specs.Changes.{ChangesAt, PutsAt, CopiesRates, CopiesSets, gives, takes};
 
 use crate::numbering::number_anew;

@@ -5,6 +5,8 @@ use Rattle.std.specs.Iterator.{AlwaysYields, Count, IsFinite}
 use Rattle.std.proofs.lemmas.Int.{ints}
 use Rattle.std.proofs.lemmas.List.Sums.{sum_by-cons}
 use Rattle.std.proofs.lemmas.List.Elements.{Contains-append_left}
+use Rattle.lists.proofs.Entries.{first_of, not_empty, Contains-head}
+use Rattle.fee_rate.proofs.Orders.{same_sum}
 use Rattle.fee_rate.specs.declared.rates.FeeRate.{FeeRate}
 use Rattle.fee_rate.specs.declared.rates.Sum.{Sum}
 use Rattle.fee_rate.specs.Laws.{joined}
@@ -16,7 +18,7 @@ use Rattle.diagram.specs.Parts.{rate_of, AreLevelParts, YieldsParts}
 use Rattle.diagram.specs.Points.{Rises, AreLevelCorners, YieldsCorners}
 use Rattle.diagram.specs.declared.segments.Ahead.TheVariants.{Unknown}
 use Rattle.diagram.specs.Walks.{AreAhead, CanGoOn, FitBehind, HasCorners, UnlessEnded, corner_steps}
-use Rattle.diagram.proofs.WalkLemmas.{same_sum, level_rest, corners_first, first_of, not_empty, Contains-head}
+use Rattle.diagram.proofs.WalkLemmas.{level_rest, corners_first}
 
 -- what is left to a walk is what every run of its calls gives
 pub always : {S : Type 0} (steps : S → Option FeeRate → S → Type 0) (s : Corners S) (corners : List (ℕ × ℤ)) → HasCorners steps s corners → AlwaysYields (corner_steps steps) (λ corner. corner) s corners

@@ -3,6 +3,7 @@ use Rattle.std.proofs.Common.{◌≡◌, ℕ, ◌-◌, ◌<◌, ◌≤◌, Bool,
 use Rattle.std.specs.Prelude.{pos, if◌then◌else◌}
 use Rattle.std.proofs.lemmas.Bool.{cases_lt, le-leb, lt-leb}
 use Rattle.std.proofs.lemmas.Int.{ints, by_lt_z}
+use Rattle.fee_rate.proofs.Orders.{at_most_chains, same_at_most, same_back, same_chains}
 use Rattle.arithmetic.proofs.Products.{mul-add_left, mul-add_right, mul-sub_left, mul-sub_right, mul_swap_ℤ, scale_keeps}
 use Rattle.arithmetic.proofs.Rates.{cross_trans}
 use Rattle.fee_rate.specs.declared.rates.Sum.{Sum}
@@ -100,20 +101,6 @@ height_some (p ∷ q ∷ rest) rising x = elim (cases_lt q.0 x) [
 ]
 
 -- ---- heights at corners
-pub same_at_most : (a b : Sum) → Same a b → AtMost a b
-same_at_most a b e = record { crossed = omega (arith, ints, e.crossed) }
-
-pub same_back : (a b : Sum) → Same a b → Same b a
-same_back a b e = record { crossed = sym e.crossed }
-
-pub at_most_chains : (a b c : Sum) → 1 ≤ b.size → AtMost a b → AtMost b c → AtMost a c
-at_most_chains a b c some low high = record { crossed = cross_trans a.fee b.fee c.fee a.size b.size c.size (omega arith) low.crossed high.crossed }
-
-pub same_chains : (a b c : Sum) → 1 ≤ b.size → Same a b → Same b c → Same a c
-same_chains a b c some left right =
-    let up = at_most_chains a b c some (same_at_most a b left) (same_at_most b c right) in
-    let down = at_most_chains c b a some (same_at_most c b (same_back b c right)) (same_at_most b a (same_back a b left)) in
-    record { crossed = omega (arith, ints, up.crossed, down.crossed) }
 
 -- a fee alone, as a height
 abbrev pub fee_of : ℕ × ℤ → Sum

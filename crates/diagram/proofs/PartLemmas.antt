@@ -3,13 +3,14 @@ use Rattle.std.proofs.Common.{◌≡◌, ◌↔◌, zero, suc, ◌+◌, ◌≤�
 use Rattle.std.specs.Prelude.{Contains, ◌⊎◌}
 use Rattle.std.proofs.lemmas.Int.{ints}
 use Rattle.std.proofs.lemmas.List.Sums.{sum_by-cons}
+use Rattle.lists.proofs.Entries.{first_of, Contains-head}
+use Rattle.fee_rate.proofs.Orders.{same_sum}
 use Rattle.fee_rate.specs.declared.rates.Sum.{Sum}
 use Rattle.fee_rate.specs.Laws.{joined}
 use Rattle.fee_rate.specs.Limits.{IsSum}
 use Rattle.graphs.specs.Rates.{sum_of, Falls}
 use Rattle.fee_rate.specs.declared.rates.FeeRate.{FeeRate}
 use Rattle.diagram.specs.Parts.{rate_of, AreLevelParts, FallsTo, MayFollow}
-use Rattle.diagram.proofs.WalkLemmas.{same_sum, first_of, Contains-head}
 
 -- parts fall from the last one before them
 abbrev FallsFrom : Option Sum → List Sum → Type 0

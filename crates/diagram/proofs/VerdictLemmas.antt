@@ -4,6 +4,7 @@ use Rattle.std.proofs.lemmas.Bool.{cases_lt}
 use Rattle.std.proofs.lemmas.Int.{ints}
 use Rattle.std.specs.declared.cmp.Ordering.{Ordering}
 use Rattle.std.specs.declared.cmp.Ordering.TheVariants.{Less, Equal, Greater}
+use Rattle.fee_rate.proofs.Orders.{below_at_most, same_at_most, same_back, at_most_chains}
 use Rattle.fee_rate.specs.declared.rates.Sum.{Sum}
 use Rattle.fee_rate.specs.Rates.{AtMost, Below, Same, ComparesRates}
 use Rattle.graphs.specs.declared.names.Verdict.{Verdict}
@@ -14,7 +15,7 @@ use Rattle.std.specs.Prelude.{pos}
 use Rattle.diagram.specs.Points.{Rises, AreLevelCorners}
 use Rattle.diagram.specs.declared.sides.Side.{Side}
 use Rattle.diagram.specs.Comparisons.{HasPoints, StandAt, Follows, Moves, and_below, and_above, and_here}
-use Rattle.diagram.proofs.HeightLemmas.{IsStraight, straight_first, straight_last, straight_between, height_some, height_next, same_at_most, same_back, at_most_chains, fee_of, corner_height}
+use Rattle.diagram.proofs.HeightLemmas.{IsStraight, straight_first, straight_last, straight_between, height_some, height_next, fee_of, corner_height}
 
 -- from a size on, one list's height is at or above another's
 abbrev pub IsAboveFrom : ℕ → List (ℕ × ℤ) → List (ℕ × ℤ) → Type 0
@@ -106,9 +107,6 @@ record Goes (cs ds cs' ds' : List (ℕ × ℤ)) (x y : ℕ) : Type 0 where
 
 level_keeps : (a b : Sum) → Same a b → AtMost b a
 level_keeps a b e = record { crossed = omega (arith, ints, e.crossed) }
-
-below_at_most : (a b : Sum) → Below a b → AtMost a b
-below_at_most a b less = record { crossed = omega (arith, ints, less.crossed) }
 
 tally_less : (v : Verdict) (xs ys cs ds cs' ds' : List (ℕ × ℤ)) (x y : ℕ) → Goes cs ds cs' ds' x y → Below (height_at cs' y) (height_at ds' y) → Tally v xs ys cs ds x → Tally (and_below v) xs ys cs' ds' y
 tally_less Even xs ys cs ds cs' ds' x y goes less old = (

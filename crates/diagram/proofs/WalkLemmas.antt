@@ -1,7 +1,11 @@
 -- A walk over parts: the segment at hand, as far as it has come.
-use Rattle.std.proofs.Common.{◌≡◌, ◌≢◌, ◌⊎◌, ℕ, zero, suc, ◌+◌, ◌<◌, ◌≤◌, map, List, [], ◌∷◌, ◌++◌, Option, ℤ, ◌+ℤ◌, refl, sym, ap, ◌∙◌, subst, arith, inl, inr}
+use Rattle.std.proofs.Common.{◌≡◌, ◌≢◌, ◌⊎◌, ℕ, zero, suc, ◌+◌, ◌<◌, ◌≤◌, map, List, [], ◌∷◌, ◌++◌, Option, ℤ, ◌+ℤ◌, refl, sym, ap, ◌∙◌, subst, arith, inl, inr, append_assoc}
 use Rattle.std.specs.Prelude.{Contains, flat_map}
 use Rattle.std.specs.Iterator.{AlwaysYields, Count, IsFinite, IsNearerEnd, size}
+use Rattle.graphs.proofs.CornerLemmas.{falls-after}
+use Rattle.graphs.proofs.TangentLemmas.{falls-tail}
+use Rattle.fee_rate.proofs.Orders.{same_sum}
+use Rattle.lists.proofs.Entries.{not_empty, Contains-head}
 use Rattle.fee_rate.specs.declared.rates.FeeRate.{FeeRate}
 use Rattle.fee_rate.specs.declared.rates.Sum.{Sum}
 use Rattle.fee_rate.specs.Laws.{joined}
@@ -25,10 +29,6 @@ use Rattle.diagram.specs.declared.segments.Corners.{Corners}
 sum_parts : ℤ → ℕ → Sum
 sum_parts fee size = record { fee = fee; size = size }
 
-pub same_sum : (a b : Sum) → a.fee ≡ b.fee → a.size ≡ b.size → a ≡ b
-unfolding sum_parts
-same_sum a b fees sizes = ap (λ (f : ℤ). sum_parts f a.size) fees ∙ ap (λ (n : ℕ). sum_parts b.fee n) sizes
-
 -- Some parts of the first one's rate were taken: their sum with what stood before, and what the iterator still gives.
 pub record SoFar {S : Type 0} (steps : S → Option FeeRate → S → Type 0) (before first : Sum) (more : List Sum) (now : S) (end : Sum) : Type 0 where
   pub group : List Sum
@@ -51,19 +51,6 @@ sum_of-snoc parts part = same_sum (sum_of (parts ++ part ∷ [])) (joined (sum_o
     (omega (arith, ints, total-append (λ (p : Sum). p.fee) parts (part ∷ [])))
     (omega (arith, sum_by-append (λ (p : Sum). p.size) parts (part ∷ []), sum_by-cons (λ (p : Sum). p.size) part []))
 
-pub Contains-head : (x : Sum) (xs : List Sum) → Contains (x ∷ xs) x
-Contains-head x xs = (0, omega arith, refl)
-
-assoc : (xs ys zs : List Sum) → (xs ++ ys) ++ zs ≡ xs ++ (ys ++ zs)
-assoc [] ys zs = refl
-assoc (x ∷ xs) ys zs = ap (λ ws. x ∷ ws) (assoc xs ys zs)
-
-pub first_of : {A : Type 0} {a b : A} {xs ys : List A} → a ∷ xs ≡ b ∷ ys → a ≡ b
-first_of e = cc
-
-pub not_empty : {A : Type 0} {x : A} {xs : List A} → x ∷ xs ≡ [] → ⊥
-not_empty e = cc
-
 -- the segment so far, its next part, and both together are in range
 pub record NextFits (end part : Sum) : Type 0 where
   pub now : IsSum end
@@ -81,7 +68,7 @@ next_fits steps before first more now end part rest level so e =
       next = level.ranged part here;
       some = level.some part here;
       both = subst IsSum (ap (λ s. joined before s) (sum_of-snoc (first ∷ so.group) part) ∙ sym (plus_assoc before (sum_of (first ∷ so.group)) part) ∙ ap (λ s. joined s part) (sym so.end_is))
-          (level.fits ((first ∷ so.group) ++ part ∷ []) rest (all ∙ sym (assoc (first ∷ so.group) (part ∷ []) rest)));
+          (level.fits ((first ∷ so.group) ++ part ∷ []) rest (all ∙ sym (append_assoc (first ∷ so.group) (part ∷ []) rest)));
     }
 
 -- the first part, with what stood before it, is in range
@@ -106,7 +93,7 @@ pub goes_on : {S : Type 0} (steps : S → Option FeeRate → S → Type 0) (befo
 goes_on steps before first part end new more rest now then so e yields o compares not fee size = record {
   group = so.group ++ part ∷ [];
   rest = rest;
-  all = so.all ∙ ap (λ zs. so.group ++ zs) e ∙ sym (assoc so.group (part ∷ []) rest);
+  all = so.all ∙ ap (λ zs. so.group ++ zs) e ∙ sym (append_assoc so.group (part ∷ []) rest);
   same = λ other h. elim (snoc_cases other part so.group h) [
     | inl early ↦ so.same other early
     | inr it ↦ subst (λ z. AtMost first z) it (not_less part first o compares not)
@@ -117,13 +104,6 @@ goes_on steps before first part end new more rest now then so e yields o compare
 }
 
 -- ---- one call of a walk
-pub falls-rest : (x : Sum) (xs : List Sum) → Falls (x ∷ xs) → Falls xs
-falls-rest x [] falls = tt
-falls-rest x (y ∷ ys) falls = falls.1
-
-falls-after : (xs ys : List Sum) → Falls (xs ++ ys) → Falls ys
-falls-after [] ys falls = falls
-falls-after (x ∷ xs) ys falls = falls-after xs ys (falls-rest x (xs ++ ys) falls)
 
 sum_of-append : (xs ys : List Sum) → sum_of (xs ++ ys) ≡ joined (sum_of xs) (sum_of ys)
 sum_of-append xs ys = same_sum (sum_of (xs ++ ys)) (joined (sum_of xs) (sum_of ys)) (total-append (λ (p : Sum). p.fee) xs ys) (sum_by-append (λ (p : Sum). p.size) xs ys)
@@ -136,7 +116,7 @@ level_rest before end front after level e = record {
   ranged = λ part h. level.ranged part (Contains-append_right front after part h);
   fits = λ early late there.
       let sums : joined before (sum_of (front ++ early)) ≡ joined end (sum_of early) = ap (λ s. joined before s) (sum_of-append front early) ∙ sym (plus_assoc before (sum_of front) (sum_of early)) ∙ ap (λ s. joined s (sum_of early)) (sym e) in
-      subst IsSum sums (level.fits (front ++ early) late (ap (λ zs. front ++ zs) there ∙ sym (assoc front early late)));
+      subst IsSum sums (level.fits (front ++ early) late (ap (λ zs. front ++ zs) there ∙ sym (append_assoc front early late)));
 }
 
 -- where a part was taken out last, or none was left, the end at hand is no corner that is still to come

@@ -26,6 +26,10 @@ total a b = elim (cross_total a.fee b.fee a.size b.size) [ inl le ↦ inl (recor
 pub apart : (a b : Sum) → Below b a → AtMost a b → ⊥
 apart a b l m = omega (arith, ints, l.crossed, m.crossed)
 
+-- a rate that is below another isn't at least it
+pub below_clash : (a b : Sum) → Below a b → AtMost b a → ⊥
+below_clash a b l m = apart b a l m
+
 pub at_most_chains : (a b c : Sum) → 1 ≤ b.size → AtMost a b → AtMost b c → AtMost a c
 at_most_chains a b c p h k = record { crossed = cross_trans a.fee b.fee c.fee a.size b.size c.size (omega arith) h.crossed k.crossed }
 
@@ -76,11 +80,14 @@ same_size f g s p e =
 of_parts : ℤ → ℕ → Sum
 of_parts f s = record { fee = f; size = s }
 
-same_sums : (a b : Sum) → 1 ≤ a.size → Same a b → b.size ≡ a.size → a ≡ b
+-- a sum is its fee and its size
+pub same_sum : (a b : Sum) → a.fee ≡ b.fee → a.size ≡ b.size → a ≡ b
 unfolding of_parts
+same_sum a b f z = ap (λ (x : ℤ). of_parts x a.size) f ∙ ap (λ (n : ℕ). of_parts b.fee n) z
+
+same_sums : (a b : Sum) → 1 ≤ a.size → Same a b → b.size ≡ a.size → a ≡ b
 same_sums a b p h e =
-    let fees : a.fee ≡ b.fee = same_size a.fee b.fee a.size p (subst (λ (n : ℕ). (a.fee *ℤ pos n) ≡ (b.fee *ℤ pos a.size)) e h.crossed) in
-    ap (λ (f : ℤ). of_parts f a.size) fees ∙ ap (λ (n : ℕ). of_parts b.fee n) (sym e)
+    same_sum a b (same_size a.fee b.fee a.size p (subst (λ (n : ℕ). (a.fee *ℤ pos n) ≡ (b.fee *ℤ pos a.size)) e h.crossed)) (sym e)
 
 by_rank : (a b : Sum) → 1 ≤ a.size → Same a b → (o : Ordering) → MatchOrdering o (b.size < a.size) (b.size ≡ a.size) (a.size < b.size) → ComparesFully a b o
 by_rank a b p h Less m = inr (h, m)

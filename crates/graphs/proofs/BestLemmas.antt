@@ -9,16 +9,17 @@ use Rattle.std.proofs.lemmas.Map.Made.{is_member-Decides}
 use Rattle.std.proofs.lemmas.Int.{ints}
 use Rattle.std.proofs.lemmas.List.Sums.{sum_by-cons}
 use Rattle.std.proofs.lemmas.List.Elements.{Contains-append_left, Contains-append_right, Contains-append_cases, filter-append}
+use Rattle.lists.proofs.Distinct.{distinct-append_left, distinct-append_right, distinct_apart, distinct_joined, distinct-filter, distinct_without, stays_before}
+use Rattle.lists.proofs.Entries.{Contains-head, Contains-later, Contains-cases, none_in_empty, Contains-filter, filter-Contains, Contains-splits, rest_of, first_of}
+use Rattle.lists.specs.Distinct.{AreDistinct}
 use Rattle.arithmetic.specs.Sums.{total}
 use Rattle.arithmetic.proofs.Sums.{total-append}
 use Rattle.fee_rate.specs.declared.rates.Sum.{Sum}
 use Rattle.fee_rate.specs.Rates.{AtMost}
-use Rattle.graphs.specs.Graphs.{Graph, AreDistinct, Walk, IsCover}
+use Rattle.graphs.specs.Graphs.{Graph, Walk, IsCover}
 use Rattle.graphs.specs.Rates.{sum_of, sums, Falls, HasSizes}
 use Rattle.graphs.specs.Linearizations.{IsClosedWithin, IsTopological, StandsBefore, IsTogether, AreChunks, IsFlat, IsUnderLine, IsUnderDiagram, IsOptimal}
 use Rattle.graphs.specs.Certificates.{Part, IsCertificate}
-use Rattle.graphs.proofs.ListLemmas.{Contains-head, Contains-later, Contains-cases, none_in_empty}
-use Rattle.graphs.proofs.Members.{distinct-append_left, distinct-append_right, distinct_apart, distinct_joined, Contains-filter, filter-Contains, distinct-filter, Contains-splits, distinct_without, stays_before}
 use Rattle.graphs.proofs.FlowLemmas.{total-pos, flow_bounds}
 use Rattle.graphs.proofs.TangentLemmas.{joined, sizes-append, tangent}
 
@@ -139,12 +140,6 @@ flat_tangent rate graph before after part set some order chunks flat closed =
     (tangent rate (among set) before after part chunks.falling
     (λ ids h. sizes_some rate ids (chunks.filled ids h) (λ id there. some id ((order.names id).0 (joined-Contains parts ids id h there))))
     (λ ids h. flat ids h (filter (among set) ids) (share_closed graph parts ids set order h closed)))
-
-first_of : {A : Type 0} {a b : A} {xs ys : List A} → a ∷ xs ≡ b ∷ ys → a ≡ b
-first_of e = cc
-
-rest_of : {A : Type 0} {a b : A} {xs ys : List A} → a ∷ xs ≡ b ∷ ys → xs ≡ ys
-rest_of e = cc
 
 map_splits : (rate : ℕ → Sum) (parts : List (List ℕ)) (before after : List Sum) (part : Sum) → map (sums rate) parts ≡ before ++ part ∷ after
     → (xs ys : List (List ℕ)) × (x : List ℕ) × (parts ≡ xs ++ x ∷ ys) × (before ≡ map (sums rate) xs) × (part ≡ sums rate x)

@@ -1,33 +1,31 @@
 -- Corners: a graph has at most one list of them, and the ends of an optimal order, equal rates joined, are it.
-use Rattle.std.proofs.Common.{◌≡◌, ◌≢◌, ℕ, ◌+◌, ◌-◌, ◌<◌, ◌≤◌, List, [], ◌∷◌, ◌++◌, map, inl, inr, ℤ, pos, ◌+ℤ◌, ◌-ℤ◌, ◌*ℤ◌, ◌≤ℤ◌, refl, sym, ap, ◌∙◌, subst, arith}
+use Rattle.std.proofs.Common.{◌≡◌, ◌≢◌, ℕ, ◌+◌, ◌-◌, ◌<◌, ◌≤◌, List, [], ◌∷◌, ◌++◌, map, inl, inr, ℤ, pos, ◌+ℤ◌, ◌-ℤ◌, ◌*ℤ◌, ◌≤ℤ◌, refl, sym, ap, ◌∙◌, subst, arith, append_assoc}
 use Rattle.std.specs.Prelude.{Contains, flat_map}
 use Rattle.std.proofs.lemmas.Int.{ints}
 use Rattle.std.proofs.lemmas.Bool.{cases_lt}
 use Rattle.std.proofs.lemmas.List.Sums.{sum_by-cons, sum_by-append}
 use Rattle.std.proofs.lemmas.List.Concat.{flat_map-append}
 use Rattle.std.proofs.lemmas.List.Elements.{Contains-append_left, Contains-append_right}
+use Rattle.fee_rate.proofs.Orders.{at_most_chains, same_sum, below_at_most, same_at_most, same_back, same_chains, below_at_most_chains, at_most_below}
+use Rattle.lists.proofs.Entries.{Contains-head, Contains-later, Contains-cases, none_in_empty, rest_of, first_of, map-Contains}
+use Rattle.lists.specs.Distinct.{AreDistinct}
 use Rattle.arithmetic.proofs.Sums.{total-append}
 use Rattle.arithmetic.proofs.Products.{mul-sub_left, mul-sub_right, scale_reflects}
 use Rattle.arithmetic.proofs.Rates.{cross_trans, cross_trans_strict_left, cross_trans_strict_right, cross_total, sum_above, sum_at_most, sum_at_least}
 use Rattle.fee_rate.specs.declared.rates.Sum.{Sum}
 use Rattle.fee_rate.specs.Rates.{AtMost, Below, Same}
-use Rattle.graphs.specs.Graphs.{Graph, AreDistinct}
+use Rattle.graphs.specs.Graphs.{Graph}
 use Rattle.graphs.specs.Rates.{sum_of, sums, Falls, HasSizes}
 use Rattle.graphs.specs.Linearizations.{IsClosedWithin, IsTopological, IsUnderLine, IsUnderDiagram, IsOptimal}
 use Rattle.graphs.specs.declared.names.Verdict.{Verdict}
 use Rattle.graphs.specs.declared.names.Verdict.TheVariants.{Better, Worse, Equal, Incomparable}
 use Rattle.graphs.specs.Diagrams.{Compares, corners_of, FallsStrictly, JoinsEqualRates, AreCorners}
-use Rattle.graphs.proofs.ListLemmas.{Contains-head, Contains-later, Contains-cases, none_in_empty}
 use Rattle.graphs.proofs.TangentLemmas.{joined, falls-tail, falls_after}
 use Rattle.graphs.proofs.BestLemmas.{sums_same_members, sum_of-joined, sizes_some, joined-Contains, front_closed, optimal_bounds}
 
 -- ---- sums of lists of sums
 sum_parts : ℤ → ℕ → Sum
 sum_parts fee size = record { fee = fee; size = size }
-
-pub same_sum : (a b : Sum) → a.fee ≡ b.fee → a.size ≡ b.size → a ≡ b
-unfolding sum_parts
-same_sum a b fees sizes = ap (λ (f : ℤ). sum_parts f a.size) fees ∙ ap (λ (n : ℕ). sum_parts b.fee n) sizes
 
 abbrev pub HaveSizes : List Sum → Type 0
 HaveSizes parts = (part : Sum) → Contains parts part → 1 ≤ part.size
@@ -58,19 +56,10 @@ strict-rest : (x : Sum) (xs : List Sum) → FallsStrictly (x ∷ xs) → FallsSt
 strict-rest x [] falls = tt
 strict-rest x (y ∷ ys) falls = falls.1
 
-below_at_most : (a b : Sum) → Below a b → AtMost a b
-below_at_most a b less = record { crossed = omega (arith, ints, less.crossed) }
-
 strict_falls : (xs : List Sum) → FallsStrictly xs → Falls xs
 strict_falls [] falls = tt
 strict_falls (x ∷ []) falls = tt
 strict_falls (x ∷ y ∷ ys) falls = (below_at_most y x falls.0, strict_falls (y ∷ ys) falls.1)
-
-at_most_chains : (a b c : Sum) → 1 ≤ b.size → AtMost a b → AtMost b c → AtMost a c
-at_most_chains a b c some low high = record { crossed = cross_trans a.fee b.fee c.fee a.size b.size c.size (omega arith) low.crossed high.crossed }
-
-at_most_below : (a b c : Sum) → 1 ≤ a.size → 1 ≤ b.size → AtMost a b → Below b c → Below a c
-at_most_below a b c first some low high = record { crossed = cross_trans_strict_right a.fee b.fee c.fee a.size b.size c.size (omega arith) (omega arith) low.crossed high.crossed }
 
 -- ---- a line, with its origin moved
 line_rate : (origin part point : Sum) → origin.size ≤ point.size → IsUnderLine origin part point → AtMost (beyond point origin) part
@@ -229,12 +218,6 @@ sum_of-groups (g ∷ gs) =
     (omega (arith, ints, total-append (λ (part : Sum). part.fee) g (flat gs)))
     (omega (arith, size_of-cons (sum_of g) (map sum_of gs), sum_by-append (λ (part : Sum). part.size) g (flat gs)))
 
-first_of : {A : Type 0} {a b : A} {xs ys : List A} → a ∷ xs ≡ b ∷ ys → a ≡ b
-first_of e = cc
-
-rest_of : {A : Type 0} {a b : A} {xs ys : List A} → a ∷ xs ≡ b ∷ ys → xs ≡ ys
-rest_of e = cc
-
 -- where a mapped list is cut, the list itself is
 map_cut : {A B : Type 0} (f : A → B) (xs : List A) (before after : List B) → map f xs ≡ before ++ after → (ys zs : List A) × (xs ≡ ys ++ zs) × (before ≡ map f ys) × (after ≡ map f zs)
 map_cut f xs [] after e = ([], xs, refl, refl, sym e)
@@ -243,13 +226,6 @@ map_cut f (x ∷ xs) (b ∷ before) after e =
     let found = map_cut f xs before after (rest_of e) in
     let head : f x ≡ b = first_of e in
     (x ∷ found.0, found.1, ap (λ zs. x ∷ zs) found.2, (λ i. sym head i ∷ found.3 i), found.4)
-
-from_map : {A B : Type 0} (f : A → B) (xs : List A) (b : B) → Contains (map f xs) b → (x : A) × Contains xs x × (f x ≡ b)
-from_map f [] b h = absurd (none_in_empty b h)
-from_map f (x ∷ xs) b h = elim (Contains-cases (f x) b (map f xs) h) [
-  | inl same ↦ (x, Contains-head x xs, same)
-  | inr later ↦ let found = from_map f xs b later in (found.0, Contains-later x found.0 xs found.1, found.2)
-]
 
 flat-Contains : (groups : List (List Sum)) (group : List Sum) (part : Sum) → Contains groups group → Contains group part → Contains (flat groups) part
 flat-Contains [] group part h there = absurd (none_in_empty group h)
@@ -271,9 +247,6 @@ at_most_sum rate (x ∷ xs) low =
       crossed = subst (λ (n : ℕ). (rate.fee *ℤ pos n) ≤ℤ ((sum_of (x ∷ xs)).fee *ℤ pos rate.size)) (sym (size_of-cons x xs))
           (sum_at_least x.fee (sum_of xs).fee rate.fee x.size (sum_of xs).size rate.size (low x (Contains-head x xs)).crossed rest.crossed);
     }
-
-same_at_most : (a b : Sum) → Same a b → AtMost a b
-same_at_most a b e = record { crossed = omega (arith, ints, e.crossed) }
 
 -- a point is under the line of each part whose sizes it is among, from an origin on
 abbrev IsUnderLines : Sum → List Sum → Sum → Type 0
@@ -315,14 +288,10 @@ group_line rate (x ∷ y ∷ ys) origin point some low lines filled from to = el
   | inr within ↦ line_here rate origin x (y ∷ ys) point (some x (Contains-head x (y ∷ ys))) (low x (Contains-head x (y ∷ ys))) lines from within
 ]
 
-assoc : (xs ys zs : List Sum) → (xs ++ ys) ++ zs ≡ xs ++ (ys ++ zs)
-assoc [] ys zs = refl
-assoc (x ∷ xs) ys zs = ap (λ ws. x ∷ ws) (assoc xs ys zs)
-
 -- a part of a group, among the parts of all groups
 part_place : (before after : List (List Sum)) (front rest : List Sum) (part : Sum) → flat (before ++ (front ++ part ∷ rest) ∷ after) ≡ (flat before ++ front) ++ part ∷ (rest ++ flat after)
 part_place before after front rest part =
-    flat_map-append (λ group. group) before ((front ++ part ∷ rest) ∷ after) ∙ ap (λ zs. flat before ++ zs) (assoc front (part ∷ rest) (flat after)) ∙ sym (assoc (flat before) front (part ∷ (rest ++ flat after)))
+    flat_map-append (λ group. group) before ((front ++ part ∷ rest) ∷ after) ∙ ap (λ zs. flat before ++ zs) (append_assoc front (part ∷ rest) (flat after)) ∙ sym (append_assoc (flat before) front (part ∷ (rest ++ flat after)))
 
 segment_line : (before after : List (List Sum)) (group : List Sum) (point : Sum) → HaveSizes (flat (before ++ group ∷ after)) → group ≢ []
     → ((a b : Sum) → Contains group a → Contains group b → Same a b) → IsUnderDiagram (flat (before ++ group ∷ after)) point
@@ -373,7 +342,7 @@ joined_map rate parts groups e = ap sum_of (sym e) ∙ sum_of-joined rate parts
 
 parts_some : (rate : ℕ → Sum) (graph : Graph) (parts : List (List ℕ)) → HasSizes rate graph.names → IsOptimal rate graph parts → HaveSizes (map (sums rate) parts)
 parts_some rate graph parts some optimal part h =
-    let found = from_map (sums rate) parts part h in
+    let found = map-Contains (sums rate) parts part h in
     subst (λ (p : Sum). 1 ≤ p.size) found.2
     (sizes_some rate found.0 (optimal.chunks.filled found.0 found.1) (λ id there. some id ((optimal.order.names id).0 (joined-Contains parts found.0 id found.1 there))))
 
@@ -397,7 +366,7 @@ optimal_ends rate graph parts segments distinct some optimal joins =
       segments = segments;
       between = refl;
       some = λ segment h. (
-          let found = from_map sum_of joins.groups segment (subst (λ zs. Contains zs segment) joins.sums h) in
+          let found = map-Contains sum_of joins.groups segment (subst (λ zs. Contains zs segment) joins.sums h) in
           subst (λ (s : Sum). 1 ≤ s.size) found.2 (group_some found.0 (joins.filled found.0 found.1) (λ part there. sizes part (flat-Contains joins.groups found.0 part found.1 there))));
       falling = joins.falling;
       whole = ap sum_of joins.sums ∙ sum_of-groups joins.groups ∙ joined_map rate parts joins.groups joins.all
@@ -469,7 +438,7 @@ own_end parts front rest some e = record {
 
 segment_sizes : (parts segments : List Sum) → HaveSizes parts → JoinsEqualRates parts segments → HaveSizes segments
 segment_sizes parts segments some joins segment h =
-    let found = from_map sum_of joins.groups segment (subst (λ zs. Contains zs segment) joins.sums h) in
+    let found = map-Contains sum_of joins.groups segment (subst (λ zs. Contains zs segment) joins.sums h) in
     subst (λ (s : Sum). 1 ≤ s.size) found.2
     (group_some found.0 (joins.filled found.0 found.1) (λ part there. some part (subst (λ zs. Contains zs part) (sym joins.all) (flat-Contains joins.groups found.0 part found.1 there))))
 
@@ -491,19 +460,8 @@ joins_one parts a b some one other =
     same_segments a b (segment_sizes parts a some one) (segment_sizes parts b some other) one.falling other.falling
     (segments_sum parts a one ∙ sym (segments_sum parts b other)) (joined_ends parts a b some one other) (joined_ends parts b a some other one)
 
-same_back : (a b : Sum) → Same a b → Same b a
-same_back a b e = record { crossed = sym e.crossed }
-
 same_both : (a b : Sum) → AtMost a b → AtMost b a → Same a b
 same_both a b up down = record { crossed = omega (arith, ints, up.crossed, down.crossed) }
-
-same_chains : (a b c : Sum) → 1 ≤ b.size → Same a b → Same b c → Same a c
-same_chains a b c some left right =
-    same_both a c (at_most_chains a b c some (same_at_most a b left) (same_at_most b c right))
-    (at_most_chains c b a some (same_at_most c b (same_back b c right)) (same_at_most b a (same_back a b left)))
-
-below_chains : (a b c : Sum) → 1 ≤ b.size → 1 ≤ c.size → Below a b → AtMost b c → Below a c
-below_chains a b c some last low high = record { crossed = cross_trans_strict_left a.fee b.fee c.fee a.size b.size c.size (omega arith) (omega arith) low.crossed high.crossed }
 
 -- the sum of parts of at most a rate has at most that rate
 sum_at_most_rate : (rate : Sum) (parts : List Sum) → ((part : Sum) → Contains parts part → AtMost part rate) → AtMost (sum_of parts) rate
@@ -567,7 +525,7 @@ joins_first p q g rest gs some first same groups =
         let up : AtMost (sum_of g) p = sum_at_most_rate p g (λ a there. same_at_most a p (same_back p a (to a there))) in
         let whole : plus (sum_of g) p ≡ sum_of (p ∷ g) = same_sum (plus (sum_of g) p) (sum_of (p ∷ g)) (omega (arith, ints)) (omega (arith, size_of-cons p g)) in
         let above : AtMost (sum_of g) (sum_of (p ∷ g)) = subst (λ z. AtMost (sum_of g) z) whole (record { crossed = sum_above (sum_of g).fee p.fee (sum_of g).size p.size up.crossed }) in
-        (below_chains (sum_of h) (sum_of g) (sum_of (p ∷ g)) (group_some g (λ e. none_in_empty q (subst (λ zs. Contains zs q) e first)) member) (omega (arith, size_of-cons p g)) falls.0 above, falls.1)
+        (below_at_most_chains (sum_of h) (sum_of g) (sum_of (p ∷ g)) (group_some g (λ e. none_in_empty q (subst (λ zs. Contains zs q) e first)) member) (omega (arith, size_of-cons p g)) falls.0 above, falls.1)
 
 -- a part of a higher rate than the first group's is a group of its own
 stands_first : (p q : Sum) (g rest : List Sum) (gs : List (List Sum)) → HaveSizes (p ∷ rest) → Contains g q → Below q p → Grouping rest (g ∷ gs) → Grouping (p ∷ rest) ((p ∷ []) ∷ g ∷ gs)
@@ -630,7 +588,7 @@ joins_some parts some falls =
       record { groups = found.0; all = found.1.all; sums = refl; filled = found.1.filled; equal = found.1.equal; falling = found.1.falling },
     )
 
-falls-after : (xs ys : List Sum) → Falls (xs ++ ys) → Falls ys
+pub falls-after : (xs ys : List Sum) → Falls (xs ++ ys) → Falls ys
 falls-after [] ys falls = falls
 falls-after (x ∷ xs) ys falls = falls-after xs ys (falls-tail x (xs ++ ys) falls)
 
@@ -684,7 +642,7 @@ joins_first_segment first group after segments some falls same lower joins =
     falling : (others : List Sum) → JoinsEqualRates after others → 1 ≤ first.size → 1 ≤ (sum_of (first ∷ group)).size → HaveSizes after → AtMost first (sum_of (first ∷ group))
         → FallsStrictly (sum_of (first ∷ group) ∷ others)
     falling [] rest some_first size somes up = tt
-    falling (s ∷ others) rest some_first size somes up = (below_chains s first (sum_of (first ∷ group)) some_first size (segment_below first after s others somes rest lower) up, rest.falling)
+    falling (s ∷ others) rest some_first size somes up = (below_at_most_chains s first (sum_of (first ∷ group)) some_first size (segment_below first after s others somes rest lower) up, rest.falling)
 
 -- ---- verdicts
 pub one_verdict : (a b : List (ℕ × ℤ)) (v w : Verdict) → Compares a b v → Compares a b w → v ≡ w

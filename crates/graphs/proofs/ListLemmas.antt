@@ -6,25 +6,13 @@ use Rattle.std.specs.Cmp.{nat_eq_equiv}
 use Rattle.std.proofs.lemmas.Bool.Decides.{Decides-eqb}
 use Rattle.std.proofs.lemmas.Map.Made.{is_member-Decides, length-le_from_is_member}
 use Rattle.std.proofs.lemmas.List.Kept.{AllPairs-from_increasing}
+use Rattle.lists.proofs.Entries.{Contains-head, Contains-later, Contains-cases, none_in_empty}
 use Rattle.graphs.specs.Graphs.{Lists}
 
 -- a list of numbers that differ, all of them among others, isn't longer than those
 pub length-within : (xs ys : List ℕ) → IsDistinct nat_eq xs → ((x : ℕ) → Contains xs x → Contains ys x) → length xs ≤ length ys
 length-within xs ys apart inside =
     length-le_from_is_member nat_eq_equiv xs ys apart (λ q is. (is_member-Decides Decides-eqb ys q).1 (inside q ((is_member-Decides Decides-eqb xs q).0 is)))
-
-pub Contains-head : {X : Type 0} (x : X) (xs : List X) → Contains (x ∷ xs) x
-Contains-head x xs = (0, omega arith, refl)
-
-pub Contains-later : {X : Type 0} (x y : X) (xs : List X) → Contains xs y → Contains (x ∷ xs) y
-Contains-later x y xs h = (suc h.0, omega arith, h.2)
-
-pub Contains-cases : {X : Type 0} (x y : X) (xs : List X) → Contains (x ∷ xs) y → (x ≡ y) ⊎ Contains xs y
-Contains-cases x y xs (zero, _, same) = inl same
-Contains-cases x y xs (suc k, below, same) = inr (k, omega arith, same)
-
-pub none_in_empty : {X : Type 0} (x : X) → Contains [] x → ⊥
-none_in_empty x h = omega (arith, h.1)
 
 -- in a list whose numbers all rise, the first is below the others, and those rise too
 head_below : (x : ℕ) (xs : List ℕ) → AllPairs (λ a b. a < b) (x ∷ xs) → (y : ℕ) → Contains xs y → x < y

@@ -3,9 +3,11 @@ use Rattle.std.proofs.Common.{◌≡◌, ◌≢◌, ℕ, suc, zero, ◌≤◌, B
 use Rattle.std.specs.Prelude.{Contains, filter}
 use Rattle.std.proofs.lemmas.Bool.{cases_eq, and_parts, and_from, or_cases, or_left, or_right}
 use Rattle.std.proofs.lemmas.List.Elements.{Contains-append_left, Contains-append_right, Contains-append_cases}
-use Rattle.graphs.specs.Graphs.{Graph, Walk, IsAncestor, AreDistinct, IsGraph, HasNoCycle}
+use Rattle.lists.proofs.Distinct.{distinct_joined, distinct-filter}
+use Rattle.lists.proofs.Entries.{Contains-head, Contains-later, Contains-cases, none_in_empty}
+use Rattle.lists.specs.Distinct.{AreDistinct}
+use Rattle.graphs.specs.Graphs.{Graph, Walk, IsAncestor, IsGraph, HasNoCycle}
 use Rattle.graphs.specs.Removals.{IsWithout}
-use Rattle.graphs.proofs.ListLemmas.{Contains-head, Contains-later, Contains-cases}
 
 -- ---- walks
 
@@ -98,9 +100,6 @@ module _ (old new : Graph) (id : ℕ) (without : IsWithout old id new) where
 
 -- ---- lists
 
-none_in_empty : {X : Type 0} (x : X) → Contains [] x → ⊥
-none_in_empty x h = omega (arith, h.1)
-
 -- a filter keeps what passes
 filter_keeps : {X : Type 0} (p : X → Bool) (xs : List X) (x : X) → Contains xs x → p x ≡ true → Contains (filter p xs) x
 filter_keeps p [] x here passes = absurd (none_in_empty x here)
@@ -122,13 +121,6 @@ filter_kept_one p y x ys false fails rest there = (Contains-later y x ys (rest t
 filter_kept : {X : Type 0} (p : X → Bool) (xs : List X) (x : X) → Contains (filter p xs) x → Contains xs x × (p x ≡ true)
 filter_kept p [] x here = absurd (none_in_empty x here)
 filter_kept p (y ∷ ys) x here = filter_kept_one p y x ys (p y) refl (filter_kept p ys x) here
-
-distinct_filter : {X : Type 0} (p : X → Bool) (xs : List X) → AreDistinct xs → AreDistinct (filter p xs)
-distinct_filter p [] once = tt
-distinct_filter p (x ∷ xs) once = elim (p x) as (λ b. AreDistinct (cond b (x ∷ filter p xs) (filter p xs))) [
-  | true ↦ (λ there. once.0 (filter_kept p xs x there).0, distinct_filter p xs once.1)
-  | false ↦ distinct_filter p xs once.1
-]
 
 -- all pairs with this first
 with_first : ℕ → List ℕ → List (ℕ × ℕ)
@@ -177,18 +169,11 @@ crossed_first (x ∷ xs) ys a b here = elim (Contains-append_cases (with_first x
   | inr later ↦ Contains-later x a xs (crossed_first xs ys a b later)
 ]
 
-distinct_append : {X : Type 0} (xs ys : List X) → AreDistinct xs → AreDistinct ys → ((x : X) → Contains xs x → Contains ys x → ⊥) → AreDistinct (xs ++ ys)
-distinct_append [] ys first second apart = second
-distinct_append (x ∷ xs) ys first second apart = (
-  λ there. elim (Contains-append_cases xs ys x there) [ inl again ↦ first.0 again | inr other ↦ apart x (Contains-head x xs) other ],
-  distinct_append xs ys first.1 second (λ y here. apart y (Contains-later x y xs here)),
-)
-
 distinct_crossed : (xs ys : List ℕ) → AreDistinct xs → AreDistinct ys → AreDistinct (crossed xs ys)
 unfolding crossed
 distinct_crossed [] ys first second = tt
 distinct_crossed (x ∷ xs) ys first second =
-    distinct_append (with_first x ys) (crossed xs ys) (distinct_with_first x ys second) (distinct_crossed xs ys first.1 second)
+    distinct_joined (with_first x ys) (crossed xs ys) (distinct_with_first x ys second) (distinct_crossed xs ys first.1 second)
     (λ pair here there. first.0 (subst (Contains xs) (sym (with_first_is x ys pair.0 pair.1 here).0) (crossed_first xs ys pair.0 pair.1 there)))
 
 has : List (ℕ × ℕ) → ℕ → ℕ → Bool
@@ -276,7 +261,7 @@ module _ (old : Graph) (id : ℕ) (graph : IsGraph old) where
   unfolding without_name left
   is_without = record {
     names = left_is;
-    names_once = distinct_filter differs old.names graph.names;
+    names_once = distinct-filter differs old.names graph.names;
     pairs = λ a b. (
       λ here.
           let there = filter_kept stays (crossed left left) (a, b) here in
@@ -287,7 +272,7 @@ module _ (old : Graph) (id : ℕ) (graph : IsGraph old) where
           let ends = ends_of a b there.2 in
           filter_keeps stays (crossed left left) (a, b) (crossed_has left left a b ((left_is a).1 (ends.0, there.0)) ((left_is b).1 (ends.1, there.1))) (is_stays a b there.2),
     );
-    pairs_once = distinct_filter stays (crossed left left) (distinct_crossed left left (distinct_filter differs old.names graph.names) (distinct_filter differs old.names graph.names));
+    pairs_once = distinct-filter stays (crossed left left) (distinct_crossed left left (distinct-filter differs old.names graph.names) (distinct-filter differs old.names graph.names));
   }
 
 -- every graph has one without a name

@@ -7,6 +7,8 @@ use Rattle.std.proofs.lemmas.List.Sums.{sum_by-append}
 use Rattle.std.proofs.lemmas.List.Filters.{sum_by-filter_both}
 use Rattle.std.proofs.lemmas.List.Concat.{flat_map-append}
 use Rattle.std.proofs.lemmas.List.Elements.{Contains-append_left, Contains-append_right, filter-append}
+use Rattle.fee_rate.proofs.Orders.{at_most_chains}
+use Rattle.lists.proofs.Entries.{Contains-head, Contains-later, Contains-cases, none_in_empty}
 use Rattle.arithmetic.proofs.Sums.{total-append, total-filter}
 use Rattle.arithmetic.proofs.Products.{mul-sub_left, mul-sub_right}
 use Rattle.arithmetic.proofs.Rates.{cross_trans, sum_below, sum_above_back, sum_at_most, sum_at_least}
@@ -14,11 +16,8 @@ use Rattle.fee_rate.specs.declared.rates.Sum.{Sum}
 use Rattle.fee_rate.specs.Rates.{AtMost}
 use Rattle.graphs.specs.Rates.{sums, Falls}
 use Rattle.graphs.specs.Linearizations.{IsUnderLine}
-use Rattle.graphs.proofs.ListLemmas.{Contains-head, Contains-later, Contains-cases, none_in_empty}
 
 -- ---- falling rates, over positive sizes
-at_most_chains : (a b c : Sum) → 1 ≤ b.size → AtMost a b → AtMost b c → AtMost a c
-at_most_chains a b c some low high = record { crossed = cross_trans a.fee b.fee c.fee a.size b.size c.size (omega arith) low.crossed high.crossed }
 
 pub falls-tail : (a : Sum) (rest : List Sum) → Falls (a ∷ rest) → Falls rest
 falls-tail a [] falls = tt

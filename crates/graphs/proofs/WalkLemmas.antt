@@ -35,7 +35,7 @@ trail_turned pairs a b (suc n) trail = trail_cons pairs b trail.0 a n (turned pa
 pub AreConnected-sym : (pairs : List (ℕ × ℕ)) (a b : ℕ) → AreConnected pairs a b → AreConnected pairs b a
 AreConnected-sym pairs a b trail = (trail.0, trail_turned pairs a b trail.0 trail.1)
 
-connected_trans : (pairs : List (ℕ × ℕ)) (a b c : ℕ) → AreConnected pairs a b → (n : ℕ) → Trail pairs b c n → AreConnected pairs a c
+pub connected_trans : (pairs : List (ℕ × ℕ)) (a b c : ℕ) → AreConnected pairs a b → (n : ℕ) → Trail pairs b c n → AreConnected pairs a c
 connected_trans pairs a b c first zero same = subst (λ (x : ℕ). AreConnected pairs a x) same first
 connected_trans pairs a b c first (suc n) trail =
     let most : AreConnected pairs a trail.0 = connected_trans pairs a b trail.0 first n trail.1 in (suc most.0, (trail.0, most.1, trail.2))

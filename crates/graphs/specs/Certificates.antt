@@ -4,10 +4,11 @@
 -- within the part has a greater rate than the part: what a closed set gets from outside can only
 -- be missing on its side of that equation.
 use Rattle.std.specs.Prelude.{◌≡◌, ◌≢◌, ℕ, ◌==◌, if◌then◌else◌, ◌≤◌, ℤ, pos, ◌-ℤ◌, ◌*ℤ◌, List, [], ◌∷◌, map, flat_map, sum_by, length, Contains}
+use Rattle.lists.specs.Distinct.{AreDistinct}
 use Rattle.fee_rate.specs.declared.rates.Sum.{Sum}
 use Rattle.graphs.specs.declared.names.Flow.{Flow}
 use Rattle.fee_rate.specs.Limits.{IsFee, IsSize}
-use Rattle.graphs.specs.Graphs.{Graph, AreDistinct, IsGraph}
+use Rattle.graphs.specs.Graphs.{Graph, IsGraph}
 use Rattle.graphs.specs.Rates.{sums, Falls}
 use Rattle.graphs.specs.Linearizations.{IsTopological, IsTogether}
 

@@ -2,6 +2,7 @@
 -- Core, a transaction is an ancestor and a descendant of itself.
 use Rattle.std.specs.Prelude.{◌≡◌, ℕ, List, [], ◌∷◌, Contains, ◌⊎◌, ◌↔◌, suc, zero}
 use Rattle.std.specs.List.Sorted.{IsStrictlyIncreasing}
+use Rattle.lists.specs.Distinct.{AreDistinct}
 
 pub record Graph : Type 0 where
   pub names : List ℕ
@@ -34,11 +35,6 @@ pub record IsCover (pairs : List (ℕ × ℕ)) (a b : ℕ) : Type 0 where
   pub ancestor : IsAncestor pairs a b
   pub other : a ≡ b → ⊥
   pub between : (c : ℕ) → IsAncestor pairs a c → IsAncestor pairs c b → (c ≡ a) ⊎ (c ≡ b)
-
--- no entry stands again later
-abbrev pub AreDistinct : {A : Type 0} → List A → Type 0
-AreDistinct [] = Unit {0}
-AreDistinct (x ∷ xs) = (Contains xs x → ⊥) × AreDistinct xs
 
 -- Names and pairs stand once each, pairs are of names, and no walk of one pair or more leads from a name to itself.
 pub record IsGraph (graph : Graph) : Type 0 where

@@ -1,6 +1,7 @@
 -- What a reader would expect of the definitions.
 use Rattle.std.specs.Prelude.{◌≡◌, ◌≢◌, ℕ, ◌≤◌, ℤ, List, [], ◌∷◌, ◌++◌, ◌⊎◌, ◌↔◌, map, flat_map, Contains}
-use Rattle.graphs.specs.Graphs.{Graph, IsAncestor, AreConnected, IsCover, HasNoCycle, AreDistinct, IsGraph}
+use Rattle.lists.specs.Distinct.{AreDistinct}
+use Rattle.graphs.specs.Graphs.{Graph, IsAncestor, AreConnected, IsCover, HasNoCycle, IsGraph}
 use Rattle.fee_rate.specs.declared.rates.Sum.{Sum}
 use Rattle.fee_rate.specs.Rates.{AtMost, Below}
 use Rattle.graphs.specs.Rates.{sum_of, sums, HasSizes, Falls}

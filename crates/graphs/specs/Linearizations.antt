@@ -2,9 +2,10 @@
 -- falling rate (chunks). After the posts of Wuille and Daftuar on cluster mempools and Core's
 -- `cluster_linearize.h`.
 use Rattle.std.specs.Prelude.{◌≡◌, ◌≢◌, ◌↔◌, ℕ, ◌+◌, ◌≤◌, pos, ◌-ℤ◌, ◌*ℤ◌, ◌≤ℤ◌, List, [], ◌∷◌, ◌++◌, map, flat_map, Contains}
+use Rattle.lists.specs.Distinct.{AreDistinct}
 use Rattle.fee_rate.specs.declared.rates.Sum.{Sum}
 use Rattle.fee_rate.specs.Rates.{AtMost}
-use Rattle.graphs.specs.Graphs.{Graph, AreDistinct, AreConnected}
+use Rattle.graphs.specs.Graphs.{Graph, AreConnected}
 use Rattle.graphs.specs.Rates.{sum_of, sums, Falls}
 
 -- Names out of a part, each once, with every parent of each that is in the part. Of a graph's names: a closed set.

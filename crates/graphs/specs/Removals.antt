@@ -1,6 +1,7 @@
 -- A graph without one of its names.
 use Rattle.std.specs.Prelude.{◌≢◌, ℕ, Contains, ◌⊎◌, ◌↔◌}
-use Rattle.graphs.specs.Graphs.{Graph, AreDistinct}
+use Rattle.lists.specs.Distinct.{AreDistinct}
+use Rattle.graphs.specs.Graphs.{Graph}
 
 -- A graph without a name: each parent of the name becomes a parent of each of its children, and then
 -- the name is dropped with its pairs. In which order names and pairs are listed is left open.

@@ -9,17 +9,18 @@ use Rattle.std.proofs.lemmas.List.Elements.{Contains-append_cases}
 use Rattle.std.specs.List.{range_with_len}
 use Rattle.std.specs.Ordering.{nat_cmp}
 use Rattle.std.specs.FinSet as fin
+use Rattle.lists.proofs.Entries.{map-Contains, Contains-head, Contains-later, Contains-cases, none_in_empty}
+use Rattle.lists.proofs.Distinct.{distinct_joined}
+use Rattle.lists.specs.Distinct.{AreDistinct}
 use Rattle.arithmetic.proofs.Sums.{total-filter_cond, total_same}
 use Rattle.bitset.specs.Places.{places, IsWithin}
 use Rattle.bitset.specs.Sets.{Contains-places, places-Contains}
 use Rattle.closure_flow.specs.Closures.{parents_at}
 use Rattle.graphs.specs.declared.names.Flow.{Flow}
-use Rattle.graphs.specs.Graphs.{AreDistinct}
 use Rattle.graphs.specs.Certificates.{given, gotten}
 use Rattle.linearize.specs.Orders.{flows_from, flows_of, parents_within}
 use Rattle.linearize.proofs.FlowLists.{from_append, from_one, from_none, from_nil, of_append, of_one, of_nil}
-use Rattle.linearize.proofs.Lists.{distinct_joined, distinct_places, from_map, pick, pick_in, pick_out}
-use Rattle.linearize.proofs.Places.{Contains-head, Contains-later, Contains-cases, none_in_empty}
+use Rattle.linearize.proofs.Lists.{distinct_places, pick, pick_in, pick_out}
 use Rattle.linearize.proofs.Sets.{test_of, from_meet, to_meet, total_naturals}
 
 -- ---- what each place sends and gets
@@ -169,7 +170,7 @@ module _ (n : ℕ) (parents : List (fin.FinSet nat_cmp)) (s : fin.FinSet nat_cmp
       elim (cases_lt 0 (flow c p)) as (λ _. AreDistinct {A = ℕ × ℕ} (map (λ f. (f.child, f.parent)) (flows_from flow c (p ∷ ps)))) [
         | inl some ↦
             subst (λ fs. AreDistinct {A = ℕ × ℕ} (map (λ f. (f.child, f.parent)) fs)) (sym (from_append flow c (p ∷ []) ps ∙ ap (λ fs. fs ++ flows_from flow c ps) (from_one flow c p some))) (
-              λ h. (let found = from_map (λ f. (f.child, f.parent)) (flows_from flow c ps) (c, p) h in
+              λ h. (let found = map-Contains (λ f. (f.child, f.parent)) (flows_from flow c ps) (c, p) h in
                   let at = in_from c ps found.0 found.1 in
                   d.0 (subst (λ (k : ℕ). Contains ps k) (ap (λ (e : ℕ × ℕ). e.1) found.2) at.1)),
               rest,
@@ -183,8 +184,8 @@ module _ (n : ℕ) (parents : List (fin.FinSet nat_cmp)) (s : fin.FinSet nat_cmp
   ends_of (c ∷ cs) d =
       subst (λ es. AreDistinct {A = ℕ × ℕ} es) (sym (ap (map (λ (f : Flow). (f.child, f.parent))) (of_cons c cs) ∙ map-append (λ (f : Flow). (f.child, f.parent)) (flows_from flow c (parents_within n parents s c)) (flows_of n parents s flow cs)))
       (distinct_joined _ _ (ends_from c (parents_within n parents s c) (distinct_places n _)) (ends_of cs d.1) (λ e one two.
-      (let a = from_map (λ f. (f.child, f.parent)) (flows_from flow c (parents_within n parents s c)) e one in
-      let b = from_map (λ f. (f.child, f.parent)) (flows_of n parents s flow cs) e two in
+      (let a = map-Contains (λ f. (f.child, f.parent)) (flows_from flow c (parents_within n parents s c)) e one in
+      let b = map-Contains (λ f. (f.child, f.parent)) (flows_of n parents s flow cs) e two in
       let here = in_from c (parents_within n parents s c) a.0 a.1 in
       let there = in_of cs b.0 b.1 in
       d.0 (subst (λ (k : ℕ). Contains cs k) (ap (λ (x : ℕ × ℕ). x.0) (b.2 ∙ sym a.2) ∙ here.0) there.child))))

@@ -4,13 +4,14 @@ use Rattle.std.specs.Prelude.{Contains}
 use Rattle.std.proofs.lemmas.Bool.{cases_eq}
 use Rattle.std.proofs.lemmas.List.Elements.{Contains-append_right}
 use Rattle.std.specs.FinSet as fin
+use Rattle.lists.proofs.Entries.{Contains-head, Contains-later, Contains-cases, none_in_empty}
+use Rattle.lists.specs.Distinct.{AreDistinct}
 use Rattle.bitset.specs.Places.{places, IsWithin}
 use Rattle.bitset.specs.Sets.{Contains-places}
-use Rattle.graphs.specs.Graphs.{AreDistinct}
 use Rattle.graphs.specs.Linearizations.{StandsBefore}
 use Rattle.dep_graph.specs.Graph.{Graph, is_member, is_ancestor, ancestors_of, members_of, IsCover, IsClosed}
 use Rattle.linearize.specs.Orders.{IsOrderOf}
-use Rattle.linearize.proofs.Places.{Contains-head, Contains-later, Contains-cases, none_in_empty, in_members, clash}
+use Rattle.linearize.proofs.Places.{in_members, clash}
 use Rattle.linearize.proofs.Sets.{test_of, to_remove, from_remove, len_remove, len_within}
 
 -- what stands before an entry of a front stands in that front

@@ -1,17 +1,18 @@
 -- What linearizes all members certifies each plain graph that they stand for.
 use Rattle.std.proofs.Common.{◌≡◌, ℕ, zero, suc, ◌⊎◌, inl, inr, true, List, [], ◌∷◌, refl, sym, ◌∙◌, subst}
 use Rattle.std.specs.Prelude.{Contains}
+use Rattle.lists.proofs.Entries.{Contains-cases, none_in_empty}
+use Rattle.lists.specs.Walks.{IsWalk}
 use Rattle.graphs.specs.Graphs as model
 use Rattle.graphs.specs.Linearizations.{IsTopological}
 use Rattle.graphs.specs.Certificates.{Part, IsCertificate}
 use Rattle.graphs.specs.Rates.{HasSizes}
 use Rattle.dep_graph.specs.Graph.{Graph, is_member, is_ancestor, members_of, IsCover, IsClosed, IsNear}
-use Rattle.dep_graph.specs.Walks.{IsWalk}
 use Rattle.linearize.specs.Graphs.{StandsFor, HasRates, IsComponent, sum_at}
 use Rattle.linearize.specs.Drafts.{placed}
 use Rattle.linearize.specs.Splits.{Linearizes}
 use Rattle.linearize.proofs.Chains.{ancestors_first}
-use Rattle.linearize.proofs.Places.{Contains-cases, none_in_empty, in_members}
+use Rattle.linearize.proofs.Places.{in_members}
 use Rattle.std.proofs.lemmas.List.Elements.{Contains-append_left, Contains-append_right}
 
 -- ---- trails

@@ -8,6 +8,8 @@ use Rattle.std.proofs.lemmas.List.Elements.{Contains-append_left, Contains-appen
 use Rattle.std.proofs.Math.Nat.{mul-le-mul}
 use Rattle.std.specs.Ordering.{nat_cmp}
 use Rattle.std.specs.FinSet as fin
+use Rattle.lists.proofs.Entries.{Contains-head, Contains-later, Contains-cases, none_in_empty}
+use Rattle.lists.proofs.Distinct.{distinct_joined}
 use Rattle.arithmetic.specs.Sums.{total}
 use Rattle.arithmetic.proofs.Sums.{total-sub, total-scale}
 use Rattle.arithmetic.proofs.Products.{mul-add_right}
@@ -26,8 +28,7 @@ use Rattle.linearize.specs.Drafts.{Written, placed, flows_in}
 use Rattle.linearize.specs.Graphs.{sum_at, HasRates}
 use Rattle.linearize.specs.Orders.{AreCovers, Balances, IsOrderOf, sums_in}
 use Rattle.linearize.specs.Splits.{Linearizes, Adds, HasRoom, IsBest, IsUpper, IsLower}
-use Rattle.linearize.proofs.Lists.{distinct_joined}
-use Rattle.linearize.proofs.Places.{Contains-head, Contains-later, Contains-cases, none_in_empty, clash}
+use Rattle.linearize.proofs.Places.{clash}
 use Rattle.linearize.proofs.Sets.{IsSplit, split_minus, split_union, total_split, len_split, from_minus, to_minus, from_union, to_union_left, to_union_right, test_of, len_below}
 
 -- ---- weights

@@ -7,11 +7,12 @@ use Rattle.std.proofs.lemmas.List.Sums.{sum_by-cons}
 use Rattle.std.proofs.lemmas.List.Elements.{Contains-append_cases}
 use Rattle.std.specs.Ordering.{nat_cmp}
 use Rattle.std.specs.FinSet as fin
+use Rattle.lists.proofs.Entries.{Contains-head, Contains-later, Contains-cases, none_in_empty}
+use Rattle.lists.specs.Distinct.{AreDistinct}
+use Rattle.lists.specs.Rising.{IsRising, AllAbove}
 use Rattle.arithmetic.specs.Sums.{total}
-use Rattle.bitset.specs.Places.{places, IsWithin, IsRising, AllAbove}
+use Rattle.bitset.specs.Places.{places, IsWithin}
 use Rattle.bitset.specs.Sets.{IsRising-places, places-empty, same_members, contains-empty}
-use Rattle.graphs.specs.Graphs.{AreDistinct}
-use Rattle.linearize.proofs.Places.{Contains-head, Contains-later, Contains-cases, none_in_empty}
 use Rattle.linearize.proofs.Sets.{from_remove, to_remove, total_remove, total_naturals, not_true}
 
 above_in : (x y : ℕ) (xs : List ℕ) → AllAbove x xs → Contains xs y → x < y
@@ -27,28 +28,6 @@ distinct_rising (x ∷ xs) r = (λ h. (let low = above_in x x xs r.0 h in omega 
 
 pub distinct_places : (n : ℕ) (s : fin.FinSet nat_cmp) → AreDistinct (places n s)
 distinct_places n s = distinct_rising (places n s) (IsRising-places n s)
-
-pub distinct_joined : {A : Type 0} (xs ys : List A) → AreDistinct xs → AreDistinct ys → ((x : A) → Contains xs x → Contains ys x → ⊥) → AreDistinct (xs ++ ys)
-distinct_joined [] ys d e apart = e
-distinct_joined (a ∷ xs) ys d e apart = (
-  λ h. elim (Contains-append_cases xs ys a h) [ inl left ↦ d.0 left | inr right ↦ apart a (Contains-head a xs) right ],
-  distinct_joined xs ys d.1 e (λ x left right. apart x (Contains-later a x xs left) right),
-)
-
--- what an entry of a mapped list is
-pub from_map : {A B : Type 0} (f : A → B) (xs : List A) (y : B) → Contains (map f xs) y → (x : A) × Contains xs x × (f x ≡ y)
-from_map f [] y h = absurd (none_in_empty y h)
-from_map f (x ∷ xs) y h = elim (Contains-cases (f x) y (map f xs) h) [
-  | inl same ↦ (x, Contains-head x xs, same)
-  | inr later ↦ let found = from_map f xs y later in (found.0, Contains-later x found.0 xs found.1, found.2)
-]
-
-pub to_map : {A B : Type 0} (f : A → B) (xs : List A) (x : A) → Contains xs x → Contains (map f xs) (f x)
-to_map f [] x h = absurd (none_in_empty x h)
-to_map f (a ∷ xs) x h = elim (Contains-cases a x xs h) [
-  | inl same ↦ subst (λ z. Contains (f a ∷ map f xs) (f z)) same (Contains-head (f a) (map f xs))
-  | inr later ↦ Contains-later (f a) (f x) (map f xs) (to_map f xs x later)
-]
 
 -- ---- a sum that picks one entry
 abbrev pub pick : ℕ → (ℕ → ℕ) → ℕ → ℕ

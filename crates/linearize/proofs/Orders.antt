@@ -5,12 +5,12 @@ use Rattle.std.proofs.lemmas.Bool.{cases_eq}
 use Rattle.std.proofs.lemmas.List.Elements.{Contains-append_left, Contains-append_cases, Contains-push}
 use Rattle.std.specs.Ordering.{nat_cmp}
 use Rattle.std.specs.FinSet as fin
+use Rattle.lists.proofs.Entries.{Contains-head, Contains-later, Contains-cases, none_in_empty}
+use Rattle.lists.specs.Distinct.{AreDistinct}
 use Rattle.bitset.specs.Places.{IsWithin}
 use Rattle.dep_graph.specs.Graph.{Graph, is_ancestor, ancestors_of, IsClosed}
-use Rattle.graphs.specs.Graphs.{AreDistinct}
 use Rattle.graphs.specs.Linearizations.{StandsBefore}
 use Rattle.linearize.specs.Orders.{IsOrderOf}
-use Rattle.linearize.proofs.Places.{Contains-head, Contains-later, Contains-cases, none_in_empty}
 use Rattle.linearize.proofs.Sets.{from_meet, to_meet, from_remove, to_remove, not_empty, len_remove, len_within}
 
 -- another ancestor in a set has fewer ancestors in it

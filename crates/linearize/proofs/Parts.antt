@@ -4,6 +4,7 @@ use Rattle.std.specs.Prelude.{Contains}
 use Rattle.std.proofs.lemmas.List.{length-map}
 use Rattle.std.specs.Ordering.{nat_cmp}
 use Rattle.std.specs.FinSet as fin
+use Rattle.lists.proofs.Entries.{map-Contains, Contains-cases, none_in_empty}
 use Rattle.bitset.specs.Places.{places, IsWithin}
 use Rattle.bitset.specs.Sets.{places-Contains}
 use Rattle.closure_flow.specs.Closures.{parents_at}
@@ -18,8 +19,7 @@ use Rattle.linearize.specs.Graphs.{sum_at}
 use Rattle.linearize.specs.Orders.{AreCovers, Balances, IsOrderOf, flows_of, sums_in}
 use Rattle.linearize.specs.Splits.{Linearizes, Adds}
 use Rattle.linearize.proofs.Certified.{in_of, ends_of, given_is, gotten_is}
-use Rattle.linearize.proofs.Lists.{distinct_places, from_map, total_any_order, sum_any_order}
-use Rattle.linearize.proofs.Places.{Contains-cases, none_in_empty}
+use Rattle.linearize.proofs.Lists.{distinct_places, total_any_order, sum_any_order}
 use Rattle.linearize.proofs.Sets.{from_meet}
 use Rattle.linearize.proofs.Triangles.{few_pairs}
 
@@ -48,7 +48,7 @@ module _ (n : ℕ) (dep : Graph) (parents : List (fin.FinSet nat_cmp)) (s : fin.
   unfolding flows
   few_flows =
       let of_pair : (c p : ℕ) → Contains {X = ℕ × ℕ} (map (λ f. (f.child, f.parent)) flows) (c, p) → (fin.contains s c ≡ true) × (fin.contains s p ≡ true) × IsCover dep p c = λ c p h.
-      (let found = from_map (λ (f : Flow). (f.child, f.parent)) flows (c, p) h in
+      (let found = map-Contains (λ (f : Flow). (f.child, f.parent)) flows (c, p) h in
       let at = sent_in found.0 found.1 in (
         subst (λ (e : ℕ × ℕ). fin.contains s e.0 ≡ true) found.2 at.0,
         subst (λ (e : ℕ × ℕ). fin.contains s e.1 ≡ true) found.2 at.1,

@@ -7,24 +7,12 @@ use Rattle.std.specs.Ordering.{nat_cmp}
 use Rattle.std.specs.Cmp.{nat_cmp_total}
 use Rattle.std.specs.FinSet as fin
 use Rattle.std.specs.FinMap as map
+use Rattle.lists.proofs.Entries.{Contains-cases, none_in_empty}
 use Rattle.bitset.specs.Places.{places, IsWithin}
 use Rattle.bitset.specs.Sets.{places-here, Contains-places, len-places}
 use Rattle.closure_flow.specs.Closures.{parents_at}
 use Rattle.dep_graph.specs.Graph.{Graph, is_member, members_of, IsCover}
 use Rattle.linearize.specs.Orders.{AreCovers}
-
-pub Contains-head : {X : Type 0} (x : X) (xs : List X) → Contains (x ∷ xs) x
-Contains-head x xs = (0, omega arith, refl)
-
-pub Contains-later : {X : Type 0} (x y : X) (xs : List X) → Contains xs y → Contains (x ∷ xs) y
-Contains-later x y xs h = (suc h.0, omega arith, h.2)
-
-pub Contains-cases : {X : Type 0} (x y : X) (xs : List X) → Contains (x ∷ xs) y → (x ≡ y) ⊎ Contains xs y
-Contains-cases x y xs (zero, _, same) = inl same
-Contains-cases x y xs (suc k, below, same) = inr (k, omega arith, same)
-
-pub none_in_empty : {X : Type 0} (x : X) → Contains [] x → ⊥
-none_in_empty x h = omega (arith, h.1)
 
 pub clash : {X : Type 0} (b : Bool) → b ≡ true → b ≡ false → X
 clash b e f = absurd (let g : true ≡ false = sym e ∙ f in cc)

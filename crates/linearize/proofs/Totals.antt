@@ -5,6 +5,7 @@ use Rattle.std.proofs.lemmas.Int.{ints}
 use Rattle.std.proofs.lemmas.List.Sums.{sum_by-cons, sum_by-append}
 use Rattle.std.specs.Ordering.{nat_cmp}
 use Rattle.std.specs.FinSet as fin
+use Rattle.lists.proofs.Entries.{none_in_empty}
 use Rattle.arithmetic.proofs.Sums.{total-append}
 use Rattle.std.proofs.Math.Nat.{mul-le-mul_left}
 use Rattle.bitset.specs.Places.{places, IsWithin}
@@ -18,7 +19,7 @@ use Rattle.dep_graph.specs.Graph.{Graph, rate_of}
 use Rattle.linearize.specs.Graphs.{sum_at}
 use Rattle.linearize.specs.Orders.{sums_in}
 use Rattle.closure_flow.specs.Closures.{weight_at}
-use Rattle.linearize.proofs.Places.{Goes, goes_on, gone, rows_more, none_in_empty}
+use Rattle.linearize.proofs.Places.{Goes, goes_on, gone, rows_more}
 
 -- ---- the loop that adds fees and sizes
 pub record Summed (n : ℕ) (dep : Graph) (s : fin.FinSet nat_cmp) (ys zs : List ℕ) (fee : ℤ) (size : ℕ) : Type 0 where

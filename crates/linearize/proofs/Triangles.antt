@@ -6,11 +6,10 @@ use Rattle.std.proofs.lemmas.List.{length-map}
 use Rattle.std.proofs.lemmas.List.Filters.{length-filter_both}
 use Rattle.std.specs.Ordering.{nat_cmp}
 use Rattle.std.specs.FinSet as fin
+use Rattle.lists.proofs.Entries.{map-Contains, Contains-head, Contains-later, Contains-cases, none_in_empty}
+use Rattle.lists.specs.Distinct.{AreDistinct}
 use Rattle.bitset.specs.Places.{IsWithin}
-use Rattle.graphs.specs.Graphs.{AreDistinct}
 use Rattle.dep_graph.specs.Graph.{Graph, IsCover, IsClosed}
-use Rattle.linearize.proofs.Lists.{from_map}
-use Rattle.linearize.proofs.Places.{Contains-head, Contains-later, Contains-cases, none_in_empty}
 use Rattle.linearize.proofs.Sets.{from_remove, to_remove, len_remove, test_of}
 
 -- distinct members of a set are at most as many as it has
@@ -45,7 +44,7 @@ distinct_filter p (x ∷ xs) d = distinct_kept (p x) x (filter p xs) (λ h. d.0 
 distinct_map : {A B : Type 0} (f : A → B) (xs : List A) → AreDistinct xs → ((x y : A) → Contains xs x → Contains xs y → f x ≡ f y → x ≡ y) → AreDistinct (map f xs)
 distinct_map f [] d same = tt
 distinct_map f (x ∷ xs) d same = (
-  λ h. (let found = from_map f xs (f x) h in
+  λ h. (let found = map-Contains f xs (f x) h in
       d.0 (subst (λ z. Contains xs z) (same found.0 x (Contains-later x found.0 xs found.1) (Contains-head x xs) found.2) found.1)),
   distinct_map f xs d.1 (λ y z a b e. same y z (Contains-later x y xs a) (Contains-later x z xs b) e),
 )
@@ -232,7 +231,7 @@ module _ (n : ℕ) (dep : Graph) (closed : IsClosed n dep) where
           let fy = in_filter touches es y hy in
           one_tie (other x) x y (of_tail x fx.1).1 (of_tail y fy.1).1 (ties x fx.0) (subst (λ (k : ℕ). Ties k y) (sym same) (ties y fy.0)))) in
           let inside : length (map other (filter touches es)) ≤ fin.len others = length_inside n others (map other (filter touches es)) others_within d (λ x h.
-          (let found = from_map other (filter touches es) x h in
+          (let found = map-Contains other (filter touches es) x h in
           let f = in_filter touches es found.0 found.1 in
           subst (λ (k : ℕ). fin.contains others k ≡ true) found.2 (other_in found.0 f.1 f.0))) in
           omega (arith, inside, length-map (filter touches es) other)

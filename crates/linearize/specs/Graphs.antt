@@ -1,11 +1,11 @@
 -- What a dependency graph says of a plain graph whose names are places.
 use Rattle.std.specs.Prelude.{◌≡◌, ◌↔◌, ℕ, true, Contains}
+use Rattle.lists.specs.Walks.{Walk}
 use Rattle.fee_rate.specs.declared.rates.FeeRate.{FeeRate}
 use Rattle.fee_rate.specs.declared.rates.Sum.{Sum}
 use Rattle.fee_rate.specs.Limits.{IsRate}
 use Rattle.graphs.specs.Graphs as model
 use Rattle.dep_graph.specs.Graph.{Graph, is_member, is_ancestor, members_of, rate_of, IsNear}
-use Rattle.dep_graph.specs.Walks.{Walk}
 
 -- A plain graph has the members as its names, its pairs are of members, and the ancestors along them are those of the
 -- dependency graph.

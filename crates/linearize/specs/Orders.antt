@@ -3,11 +3,11 @@ use Rattle.std.specs.Prelude.{◌≡◌, ◌↔◌, ℕ, ◌<◌, true, nat_lt, 
 use Rattle.std.specs.Prelude.{List, length, map, filter, flat_map, sum_by, Contains}
 use Rattle.std.specs.Ordering.{nat_cmp}
 use Rattle.std.specs.FinSet as set
+use Rattle.lists.specs.Distinct.{AreDistinct}
 use Rattle.bitset.specs.Places.{places}
 use Rattle.closure_flow.specs.Closures.{parents_at}
 use Rattle.fee_rate.specs.declared.rates.Sum.{Sum}
 use Rattle.graphs.specs.declared.names.Flow.{Flow}
-use Rattle.graphs.specs.Graphs.{AreDistinct}
 use Rattle.graphs.specs.Rates.{sums}
 use Rattle.graphs.specs.Linearizations.{StandsBefore}
 use Rattle.graphs.specs.Certificates.{weight_in}

@@ -6,9 +6,9 @@ use Rattle.std.specs.Cmp.{nat_cmp_total, unsigned_tied}
 use Rattle.std.proofs.lemmas.Bool.Decides.{Decides-eqb, nat_tests}
 use Rattle.std.proofs.lemmas.List.{length-map}
 use Rattle.std.proofs.lemmas.List.Elements.{All-head, All-tail, All-cons, All-nil}
+use Rattle.lists.specs.Distinct.{AreDistinct}
 use Rattle.graph_model.specs.declared.names.Limits.{Limits}
 use Rattle.graph_model.specs.declared.names.Refusal.{Refusal}
-use Rattle.graphs.specs.Graphs.{AreDistinct}
 use Rattle.graph_model.specs.States.{State, Entry, Table, size_of, size_in}
 use Rattle.graph_model.specs.Changes.{with_fee}
 use Rattle.graph_model.specs.Commands.{SetFee}

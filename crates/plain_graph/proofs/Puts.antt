@@ -3,12 +3,9 @@ use Rattle.std.proofs.Common.{◌≡◌, ℕ, ◌+◌, ◌<◌, ◌≤◌, List,
 use Rattle.std.proofs.lemmas.List.{take_more, take_all}
 use Rattle.std.proofs.lemmas.List.Elements.{Contains-push_cases, Contains-append_left, Contains-push}
 use Rattle.std.specs.Prelude.{Contains}
-use Rattle.graphs.specs.Graphs.{AreDistinct}
-use Rattle.graphs.proofs.ListLemmas.{Contains-head, Contains-later}
+use Rattle.lists.proofs.Entries.{Contains-head, Contains-later, none_in_empty}
+use Rattle.lists.specs.Distinct.{AreDistinct}
 use Rattle.plain_graph.specs.Rests.{Puts, IsPair, IsToChild, IsLeft, ArePairsWithout}
-
-pub none_in_empty : {A : Type 0} (x : A) → Contains [] x → ⊥
-none_in_empty x here = omega (arith, here.1)
 
 pub AreDistinct-push : {A : Type 0} (xs : List A) (x : A) → AreDistinct xs → (Contains xs x → ⊥) → AreDistinct (xs ++ x ∷ [])
 AreDistinct-push [] x apart outside = (none_in_empty x, tt)

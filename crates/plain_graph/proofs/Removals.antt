@@ -5,23 +5,23 @@ use Rattle.std.specs.FinMap as finmap
 use Rattle.std.specs.Cmp.{nat_cmp_total, unsigned_tied}
 use Rattle.std.proofs.lemmas.Bool.Decides.{Decides-eqb, nat_tests}
 use Rattle.std.proofs.lemmas.List.Elements.{All-filter}
+use Rattle.lists.proofs.Entries.{Contains-head, Contains-later, Contains-cases, none_in_empty}
+use Rattle.lists.specs.Distinct.{AreDistinct}
 use Rattle.graph_model.specs.declared.names.Limits.{Limits}
 use Rattle.graph_model.specs.declared.names.Refusal.TheVariants.{Unknown}
-use Rattle.graphs.specs.Graphs.{Graph, AreDistinct}
+use Rattle.graphs.specs.Graphs.{Graph}
 use Rattle.graph_model.specs.States.{State, Entry, Table}
 use Rattle.graphs.specs.Removals.{IsWithout}
 use Rattle.graph_model.specs.Changes.{IsKept, begun, with_graph}
 use Rattle.graph_model.specs.Commands.{Remove}
 use Rattle.graph_model.specs.Refusals.{RefusalIs}
 use Rattle.graph_model.specs.Replies.{Done}
-use Rattle.graphs.proofs.ListLemmas.{Contains-head, Contains-later, Contains-cases}
 use Rattle.plain_graph.specs.declared.tx.Tx.{Tx}
 use Rattle.plain_graph.specs.Plain.{Kept, StandsFor, Steps, entry_in}
 use Rattle.plain_graph.specs.Sound.{names_of, IsSound}
 use Rattle.plain_graph.specs.Rests.{without_name, ArePairsWithout}
 use Rattle.plain_graph.specs.Walks.{EndsAreAmong}
 use Rattle.plain_graph.proofs.Entries.{entry_of, Contains-entry}
-use Rattle.plain_graph.proofs.Puts.{none_in_empty}
 use Rattle.plain_graph.proofs.Standing.{HasTable, state_of, of_states, steps_accepted}
 
 -- the names that aren't this one

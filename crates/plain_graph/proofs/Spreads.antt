@@ -10,6 +10,7 @@ use Rattle.std.proofs.lemmas.List.Sorted.{Contains-permutation, IsPermutation-sy
 use Rattle.std.proofs.lemmas.Bool.Decides.{Decides-eqb}
 use Rattle.std.proofs.lemmas.Map.Keys.{IsDistinct-push, IsDistinct-IsPermutation, IsStrictlyIncreasing-from_distinct}
 use Rattle.std.proofs.lemmas.Map.Made.{is_member-Decides}
+use Rattle.std.proofs.lemmas.Bool.{false_from_ne_true}
 use Rattle.graphs.specs.Rooms.{Room}
 use Rattle.graphs.specs.Graphs.{Lists}
 use Rattle.graphs.proofs.ListLemmas.{length-within}
@@ -34,13 +35,9 @@ spreading_starts way pairs first held distinct = record {
   same_room = refl;
 }
 
-not_true : (b : Bool) → (b ≡ true → ⊥) → b ≡ false
-not_true true none = absurd (none refl)
-not_true false none = refl
-
 distinct_push : (ids : List ℕ) (id : ℕ) → IsDistinct nat_eq ids → (Contains ids id → ⊥) → IsDistinct nat_eq (ids ++ id ∷ [])
 distinct_push ids id distinct outside =
-    IsDistinct-push nat_eq_equiv ids id distinct (not_true _ (λ is. outside ((is_member-Decides Decides-eqb ids id).0 is)))
+    IsDistinct-push nat_eq_equiv ids id distinct (false_from_ne_true _ (λ is. outside ((is_member-Decides Decides-eqb ids id).0 is)))
 
 lead_inside : (way : Way) (pairs : List (ℕ × ℕ)) (names : List ℕ) (a b : ℕ) → EndsAreAmong names pairs → Leads way pairs a b → Contains names b
 lead_inside way pairs names a b ends lead = elim lead [ inl up ↦ (ends b a up.1).0 | inr down ↦ (ends a b down.1).1 ]

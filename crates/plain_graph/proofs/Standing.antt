@@ -1,6 +1,7 @@
 -- Which states a plain graph stands for, and the steps of the machine that its calls are.
 use Rattle.std.proofs.Common.{◌≡◌, ℕ, ℤ, ◌+◌, ◌≤◌, true, false, cond, eqb, List, [], ◌∷◌, ◌++◌, length, sym, refl, ap, subst, ◌∙◌, inl, inr, Option, None, Some}
 use Rattle.std.proofs.lemmas.List.Elements.{All-push, Contains-append_left}
+use Rattle.lists.specs.Distinct.{AreDistinct}
 use Rattle.graph_model.specs.declared.names.Limits.{Limits}
 use Rattle.std.specs.Prelude.{Contains, is_some, IsSome}
 use Rattle.std.specs.FinMap as finmap
@@ -23,7 +24,6 @@ use Rattle.plain_graph.specs.Plain.{Kept, StandsFor, Steps, entry_in}
 use Rattle.plain_graph.specs.Sound.{names_of, IsSound}
 use Rattle.plain_graph.proofs.Entries.{entry_of, entry-push, Contains-entry, none_of_true}
 use Rattle.plain_graph.proofs.Puts.{AreDistinct-push}
-use Rattle.graphs.specs.Graphs.{AreDistinct}
 
 -- the table has the entries of the transactions
 pub record HasTable (txs : List Tx) (table : Table) : Type 0 where

@@ -4,9 +4,10 @@ use Rattle.std.specs.Prelude.{Contains, nat_eq}
 use Rattle.std.specs.List.{IsDistinct}
 use Rattle.std.proofs.lemmas.List.{length-map}
 use Rattle.std.proofs.lemmas.Bool.Decides.{Decides-eqb}
+use Rattle.lists.proofs.Entries.{Contains-head, Contains-later, Contains-cases}
 use Rattle.graph_model.specs.declared.names.Limits.{Limits}
 use Rattle.graphs.specs.Graphs.{AreConnected, Lists}
-use Rattle.graphs.proofs.ListLemmas.{Contains-head, Contains-later, Contains-cases, Lists-for}
+use Rattle.graphs.proofs.ListLemmas.{Lists-for}
 use Rattle.graphs.proofs.WalkLemmas.{AreConnected-sym}
 use Rattle.plain_graph.specs.declared.tx.Tx.{Tx}
 use Rattle.plain_graph.specs.declared.walk.Way.{Way}

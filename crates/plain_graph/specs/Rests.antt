@@ -1,6 +1,6 @@
 -- What a change leaves of the transactions and of the pairs.
 use Rattle.std.specs.Prelude.{◌≡◌, ◌≢◌, ℕ, ℤ, ◌==◌, not, if◌then◌else◌, List, filter, Contains, ◌⊎◌, ◌↔◌}
-use Rattle.graphs.specs.Graphs.{AreDistinct}
+use Rattle.lists.specs.Distinct.{AreDistinct}
 use Rattle.plain_graph.specs.declared.tx.Tx.{Tx}
 
 -- a transaction with another fee, where it has the name

@@ -1,8 +1,8 @@
 -- What a plain graph's fields keep.
 use Rattle.std.specs.Prelude.{ℕ, ◌≤◌, List, map, length, All}
+use Rattle.lists.specs.Distinct.{AreDistinct}
 use Rattle.graph_model.specs.declared.names.Limits.{Limits}
 use Rattle.graph_model.specs.Limits.{AreInRange}
-use Rattle.graphs.specs.Graphs.{AreDistinct}
 use Rattle.plain_graph.specs.declared.tx.Tx.{Tx}
 use Rattle.plain_graph.specs.Walks.{EndsAreAmong}
 

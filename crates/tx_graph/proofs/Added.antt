@@ -1,7 +1,7 @@
 -- A name is added, and a cluster is changed in place.
 use Rattle.std.proofs.Common.{◌≡◌, ◌≢◌, ℕ, ℤ, ◌<◌, Bool, true, false, cond, ◌&&◌, ◌||◌, nat_eq, List, [], ◌∷◌, length, slice_index, Contains, Option, Some, None, is_some, inl, inr, ◌⊎◌, refl, sym, ap, ap₂, ◌∙◌, subst, arith, eq-eqb, ne_eqb}
 use Rattle.std.proofs.lemmas.Bool.{cases_eq, false_from_ne_true, and_right}
-use Rattle.std.proofs.lemmas.Option.{none-some}
+use Rattle.std.proofs.lemmas.Option.{none-some, same_Some}
 use Rattle.std.specs.FinMap as finmap
 use Rattle.fee_rate.specs.declared.rates.FeeRate.{FeeRate}
 use Rattle.dep_graph.specs.Graph.{is_member, is_ancestor, rate_of, AddsPair, SetsFee}
@@ -11,7 +11,7 @@ use Rattle.name_book.specs.declared.spot.Spot.{Spot}
 use Rattle.name_book.specs.Books.{Spots}
 use Rattle.tx_graph.specs.Kept.{AddsName}
 use Rattle.tx_graph.specs.Shelves.{Shelf, cluster_at, graph_of, HasAt, StandsAt, IsIndexed}
-use Rattle.tx_graph.proofs.Graphs.{member-spot, rate-at, above-at, rate-none, above-none, cases_spot, at_contains, same_some, rate_in_cluster, above_from, spot_in, names_of_above}
+use Rattle.tx_graph.proofs.Graphs.{member-spot, rate-at, above-at, rate-none, above-none, cases_spot, at_contains, rate_in_cluster, above_from, spot_in, names_of_above}
 use Rattle.tx_graph.proofs.Loose.{decide_in}
 use Rattle.tx_graph.proofs.Settling.{get-put, put_here, put_other}
 
@@ -65,14 +65,14 @@ module _ (most : ℕ) (old : Shelf) (spots' : Spots) (slots' : List (Option Clus
   IsIndexed-added = record {
     stands = λ q spot is. elim (cases_eq q id) [
       | inl same ↦
-          let at : record { «record» = key; place = 0 } ≡ spot = same_some (record { «record» = key; place = 0 }) spot (sym spot_of ∙ ap (finmap.get spots') (sym same) ∙ is) in
+          let at : record { «record» = key; place = 0 } ≡ spot = same_Some (record { «record» = key; place = 0 }) spot (sym spot_of ∙ ap (finmap.get spots') (sym same) ∙ is) in
           subst (λ (s : Spot). StandsAt slots' s q) at (record { cluster = c; there = here; place = subst (HasAt c 0) (sym same) first_place })
       | inr other ↦
           let at = indexed.stands q spot (sym (others q other) ∙ is) in record { cluster = at.cluster; there = stays spot.record at.cluster at.there; place = at.place }
     ];
     listed = λ k place q d is at. elim (cases_eq k key) [
       | inl same ↦
-          let one : c ≡ d = same_some c d (sym here ∙ ap (cluster_at slots') (sym same) ∙ is) in
+          let one : c ≡ d = same_Some c d (sym here ∙ ap (cluster_at slots') (sym same) ∙ is) in
           let is_first = only_place place q (subst (λ (x : Cluster). HasAt x place q) (sym one) at) in
           ap (finmap.get spots') (sym is_first.1) ∙ spot_of ∙ ap₂ (λ k p. Some (record { «record» = k; place = p })) (sym same) (sym is_first.0)
       | inr other ↦
@@ -80,7 +80,7 @@ module _ (most : ℕ) (old : Shelf) (spots' : Spots) (slots' : List (Option Clus
           others q (λ same. none-some (record { «record» = k; place = place }) (sym absent ∙ ap (finmap.get old.spots) (sym same) ∙ was)) ∙ was
     ];
     whole = λ k d is. elim (cases_eq k key) [
-      | inl same ↦ subst (IsCluster most) (same_some c d (sym here ∙ ap (cluster_at slots') (sym same) ∙ is)) whole
+      | inl same ↦ subst (IsCluster most) (same_Some c d (sym here ∙ ap (cluster_at slots') (sym same) ∙ is)) whole
       | inr other ↦ indexed.whole k d (sym (elsewhere k other) ∙ is)
     ];
   }
@@ -121,7 +121,7 @@ module _ (most : ℕ) (old : Shelf) (slots' : List (Option Cluster)) (issued' ke
         let at = indexed.stands q spot is in
         elim (cases_eq spot.record key) [
           | inl same ↦
-              let one : c ≡ at.cluster = same_some c at.cluster (sym was ∙ ap (cluster_at old.slots) (sym same) ∙ at.there) in
+              let one : c ≡ at.cluster = same_Some c at.cluster (sym was ∙ ap (cluster_at old.slots) (sym same) ∙ at.there) in
               record {
                 cluster = c';
                 there = ap (cluster_at slots') same ∙ now;
@@ -131,12 +131,12 @@ module _ (most : ℕ) (old : Shelf) (slots' : List (Option Cluster)) (issued' ke
         ];
     listed = λ k place q d is at. elim (cases_eq k key) [
       | inl same ↦
-          let one : c' ≡ d = same_some c' d (sym now ∙ ap (cluster_at slots') (sym same) ∙ is) in
+          let one : c' ≡ d = same_Some c' d (sym now ∙ ap (cluster_at slots') (sym same) ∙ is) in
           indexed.listed k place q c (ap (cluster_at old.slots) same ∙ was) (subst (λ (xs : List ℕ). (place < length xs) × (slice_index xs place ≡ q)) (ap (λ (x : Cluster). x.names) (sym one) ∙ names) at)
       | inr other ↦ indexed.listed k place q d (sym (elsewhere k other) ∙ is) at
     ];
     whole = λ k d is. elim (cases_eq k key) [
-      | inl same ↦ subst (IsCluster most) (same_some c' d (sym now ∙ ap (cluster_at slots') (sym same) ∙ is)) whole
+      | inl same ↦ subst (IsCluster most) (same_Some c' d (sym now ∙ ap (cluster_at slots') (sym same) ∙ is)) whole
       | inr other ↦ indexed.whole k d (sym (elsewhere k other) ∙ is)
     ];
   }
@@ -145,7 +145,7 @@ module _ (most : ℕ) (old : Shelf) (slots' : List (Option Cluster)) (issued' ke
   away : (d : ℕ) → (Contains c.names d → ⊥) → (spot : Spot) → finmap.get old.spots d ≡ Some spot → (e : Cluster) × (cluster_at old.slots spot.record ≡ Some e) × (cluster_at slots' spot.record ≡ Some e)
   away d none spot is =
       let at = indexed.stands d spot is in
-      let other : spot.record ≢ key = λ same. none (at_contains c spot.place d (subst (λ (x : Cluster). HasAt x spot.place d) (same_some at.cluster c (sym at.there ∙ ap (cluster_at old.slots) same ∙ was)) at.place)) in
+      let other : spot.record ≢ key = λ same. none (at_contains c spot.place d (subst (λ (x : Cluster). HasAt x spot.place d) (same_Some at.cluster c (sym at.there ∙ ap (cluster_at old.slots) same ∙ was)) at.place)) in
       (at.cluster, at.there, elsewhere spot.record other ∙ at.there)
 
   decide : (d : ℕ) → Contains c.names d ⊎ (Contains c.names d → ⊥)

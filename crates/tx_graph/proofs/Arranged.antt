@@ -5,8 +5,8 @@ use Rattle.std.proofs.lemmas.List.{get_or_default}
 use Rattle.std.proofs.lemmas.List.Elements.{Contains-append_cases}
 use Rattle.std.proofs.lemmas.List.Sums.{sum_by-cons}
 use Rattle.std.specs.List.Sorted.{IsStrictlyIncreasing}
-use Rattle.graphs.specs.Graphs.{AreDistinct}
-use Rattle.graphs.proofs.ListLemmas.{Contains-head, Contains-later, Contains-cases}
+use Rattle.lists.proofs.Entries.{Contains-head, Contains-later, Contains-cases}
+use Rattle.lists.specs.Distinct.{AreDistinct}
 use Rattle.cluster_record.specs.Clusters.{AreOnce}
 
 put : ℕ → List ℕ → List ℕ

@@ -9,7 +9,7 @@ use Rattle.dep_graph.specs.Graph.{Node, is_member, is_ancestor, ancestors_of, an
 use Rattle.cluster_record.specs.Clusters.{Cluster}
 use Rattle.name_book.specs.declared.spot.Spot.{Spot}
 use Rattle.name_book.specs.Books.{Spots, Book}
-use Rattle.std.proofs.lemmas.Option.{none-some}
+use Rattle.std.proofs.lemmas.Option.{none-some, same_Some}
 use Rattle.std.proofs.Common.{arith}
 use Rattle.tx_graph.specs.Shelves.{Shelf, cluster_at, node_in, graph_of, HasAt, StandsAt, IsIndexed}
 
@@ -80,9 +80,6 @@ contains_at c id here = (here.0, (here.1, get_or_default c.names here.0 0 id her
 pub at_contains : (c : Cluster) (place id : ℕ) → HasAt c place id → Contains c.names id
 at_contains c place id at = (place, at.0, get_or_default c.names place id 0 at.0 ∙ at.1)
 
-pub same_some : {A : Type 0} (x y : A) → Some x ≡ Some y → x ≡ y
-same_some x y e = cc
-
 -- a cluster of the shelf in which a is an ancestor of d
 pub record AboveIn (slots : List (Option Cluster)) (a d : ℕ) : Type 0 where
   pub key : ℕ
@@ -103,11 +100,11 @@ module _ (most : ℕ) (shelf : Shelf) (indexed : IsIndexed most shelf) where
   one_key key other id c d is so here there =
       let one = spot_in key id c is here in
       let two = spot_in other id d so there in
-      ap (λ (spot : Spot). spot.record) (same_some (record { «record» = key; place = one.0 }) (record { «record» = other; place = two.0 }) (sym one.2 ∙ two.2))
+      ap (λ (spot : Spot). spot.record) (same_Some (record { «record» = key; place = one.0 }) (record { «record» = other; place = two.0 }) (sym one.2 ∙ two.2))
 
   pub one_cluster : (key other id : ℕ) (c d : Cluster) → cluster_at shelf.slots key ≡ Some c → cluster_at shelf.slots other ≡ Some d → Contains c.names id → Contains d.names id → c ≡ d
   one_cluster key other id c d is so here there =
-      same_some c d (sym is ∙ ap (cluster_at shelf.slots) (one_key key other id c d is so here there) ∙ so)
+      same_Some c d (sym is ∙ ap (cluster_at shelf.slots) (one_key key other id c d is so here there) ∙ so)
 
   -- what a cluster says of its names holds in the graph, and the graph says no more of them
   pub above_in : (key a d : ℕ) (c : Cluster) → cluster_at shelf.slots key ≡ Some c → is_ancestor c.graph a d ≡ true → is_ancestor (graph_of shelf) a d ≡ true

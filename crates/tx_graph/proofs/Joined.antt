@@ -1,10 +1,11 @@
 -- Two clusters in one, and a cluster in parts.
 use Rattle.std.proofs.Common.{◌≡◌, ◌≢◌, ℕ, Bool, true, false, cond, not, ◌&&◌, ◌||◌, nat_eq, List, [], ◌∷◌, ◌++◌, Contains, All, Option, Some, None, is_some, IsSome, inl, inr, ◌⊎◌, ◌↔◌, refl, sym, ap, ◌∙◌, subst, arith, eq-eqb, ne_eqb, true≢false}
 use Rattle.std.proofs.lemmas.Bool.{cases_eq, cases_Bool, or_cases, or_left, or_right, and_parts, and_from}
-use Rattle.std.proofs.lemmas.Option.{none-some}
+use Rattle.std.proofs.lemmas.Option.{none-some, same_Some}
 use Rattle.std.proofs.lemmas.List.Elements.{Contains-append_left, Contains-append_right, Contains-append_cases, All-contains}
 use Rattle.std.specs.FinMap as finmap
-use Rattle.graphs.proofs.ListLemmas.{Contains-head, Contains-cases}
+use Rattle.lists.proofs.Cases.{same_test}
+use Rattle.lists.proofs.Entries.{Contains-head, Contains-cases}
 use Rattle.dep_graph.specs.Graph.{is_member, is_ancestor, rate_of, AddsPair, DropsPlace}
 use Rattle.cluster_record.specs.Clusters.{Cluster, IsCluster, AreApart}
 use Rattle.cluster_record.specs.Changes.{Joins, IsSplit}
@@ -12,15 +13,10 @@ use Rattle.name_book.specs.declared.spot.Spot.{Spot}
 use Rattle.name_book.specs.Books.{Spots}
 use Rattle.tx_graph.specs.Shelves.{Shelf, cluster_at, graph_of, StandsAt, IsIndexed}
 use Rattle.tx_graph.specs.Moves.{IsLoose, IsShelved, Stores}
-use Rattle.tx_graph.proofs.Graphs.{member-spot, rate-none, at_contains, same_some, rate_in_cluster, above_in, above_from, in_above, spot_in, names_of_above, one_key, live_in}
+use Rattle.tx_graph.proofs.Graphs.{member-spot, rate-none, at_contains, rate_in_cluster, above_in, above_from, in_above, spot_in, names_of_above, one_key, live_in}
 use Rattle.tx_graph.proofs.Loose.{decide_in, IsLoose-stored, IsIndexed-loose, shelved_same, live_same}
 use Rattle.tx_graph.proofs.Added.{rate_elsewhere}
 use Rattle.tx_graph.proofs.Settling.{get-drop}
-
-pub same_test : (x y : Bool) → (x ≡ true → y ≡ true) → (y ≡ true → x ≡ true) → x ≡ y
-same_test true y there back = sym (there refl)
-same_test false true there back = back refl
-same_test false false there back = refl
 
 -- ---- two clusters in one
 
@@ -61,9 +57,9 @@ module _ (most : ℕ) (old : Shelf) (first second : ℕ) (a b m : Cluster) (left
       let at = indexed.stands id spot is in
       let here = at_contains at.cluster spot.place id at.place in
       elim (cases_eq spot.record first) [
-        | inl same ↦ inr (m, Contains-head m [], either_in id (inl (subst (λ (c : Cluster). Contains c.names id) (same_some at.cluster a (sym at.there ∙ ap (cluster_at old.slots) same ∙ one)) here)))
+        | inl same ↦ inr (m, Contains-head m [], either_in id (inl (subst (λ (c : Cluster). Contains c.names id) (same_Some at.cluster a (sym at.there ∙ ap (cluster_at old.slots) same ∙ one)) here)))
         | inr other ↦ elim (cases_eq spot.record second) [
-          | inl same ↦ inr (m, Contains-head m [], either_in id (inr (subst (λ (c : Cluster). Contains c.names id) (same_some at.cluster b (sym at.there ∙ ap (cluster_at old.slots) same ∙ two)) here)))
+          | inl same ↦ inr (m, Contains-head m [], either_in id (inr (subst (λ (c : Cluster). Contains c.names id) (same_Some at.cluster b (sym at.there ∙ ap (cluster_at old.slots) same ∙ two)) here)))
           | inr more ↦ inl (record { cluster = at.cluster; there = elsewhere spot.record other more ∙ at.there; place = at.place })
         ]
       ]
@@ -107,8 +103,8 @@ module _ (most : ℕ) (old : Shelf) (first second : ℕ) (a b m : Cluster) (left
     outside_still id none spot is =
         let at = indexed.stands id spot is in
         let here = at_contains at.cluster spot.place id at.place in
-        let not_first : spot.record ≢ first = λ same. none (either_in id (inl (subst (λ (c : Cluster). Contains c.names id) (same_some at.cluster a (sym at.there ∙ ap (cluster_at old.slots) same ∙ one)) here))) in
-        let not_second : spot.record ≢ second = λ same. none (either_in id (inr (subst (λ (c : Cluster). Contains c.names id) (same_some at.cluster b (sym at.there ∙ ap (cluster_at old.slots) same ∙ two)) here))) in
+        let not_first : spot.record ≢ first = λ same. none (either_in id (inl (subst (λ (c : Cluster). Contains c.names id) (same_Some at.cluster a (sym at.there ∙ ap (cluster_at old.slots) same ∙ one)) here))) in
+        let not_second : spot.record ≢ second = λ same. none (either_in id (inr (subst (λ (c : Cluster). Contains c.names id) (same_Some at.cluster b (sym at.there ∙ ap (cluster_at old.slots) same ∙ two)) here))) in
         let still : cluster_at left spot.record ≡ Some at.cluster = elsewhere spot.record not_first not_second ∙ at.there in
         (at.cluster, at.there, stores.elsewhere spot.record (λ same. none-some at.cluster (sym stores.free ∙ ap (cluster_at left) (sym same) ∙ still)) ∙ still)
 
@@ -147,9 +143,9 @@ module _ (most : ℕ) (old : Shelf) (first second : ℕ) (a b m : Cluster) (left
     old_stays x y up =
         let at = in_above most old indexed x y up in
         elim (cases_eq at.key first) [
-          | inl same ↦ m_above x y (in_a_part x y (subst (λ (c : Cluster). is_ancestor c.graph x y ≡ true) (same_some at.cluster a (sym at.there ∙ ap (cluster_at old.slots) same ∙ one)) at.above))
+          | inl same ↦ m_above x y (in_a_part x y (subst (λ (c : Cluster). is_ancestor c.graph x y ≡ true) (same_Some at.cluster a (sym at.there ∙ ap (cluster_at old.slots) same ∙ one)) at.above))
           | inr other ↦ elim (cases_eq at.key second) [
-            | inl same ↦ m_above x y (in_b_part x y (subst (λ (c : Cluster). is_ancestor c.graph x y ≡ true) (same_some at.cluster b (sym at.there ∙ ap (cluster_at old.slots) same ∙ two)) at.above))
+            | inl same ↦ m_above x y (in_b_part x y (subst (λ (c : Cluster). is_ancestor c.graph x y ≡ true) (same_Some at.cluster b (sym at.there ∙ ap (cluster_at old.slots) same ∙ two)) at.above))
             | inr more ↦
                 let still : cluster_at left at.key ≡ Some at.cluster = elsewhere at.key other more ∙ at.there in
                 let now : cluster_at slots' at.key ≡ Some at.cluster = stores.elsewhere at.key (λ same. none-some at.cluster (sym stores.free ∙ ap (cluster_at left) (sym same) ∙ still)) ∙ still in
@@ -223,7 +219,7 @@ module _ (most : ℕ) (old : Shelf) (key gone : ℕ) (c : Cluster) (parts : List
       let other = left_apart id spot is in
       let at = indexed.stands id spot (sym (get_other id other) ∙ is) in
       elim (cases_eq spot.record key) [
-        | inl same ↦ inr (from_parts id other (subst (λ (x : Cluster). Contains x.names id) (same_some at.cluster c (sym at.there ∙ ap (cluster_at old.slots) same ∙ was)) (at_contains at.cluster spot.place id at.place)))
+        | inl same ↦ inr (from_parts id other (subst (λ (x : Cluster). Contains x.names id) (same_Some at.cluster c (sym at.there ∙ ap (cluster_at old.slots) same ∙ was)) (at_contains at.cluster spot.place id at.place)))
         | inr apart ↦ inl (record { cluster = at.cluster; there = elsewhere spot.record apart ∙ at.there; place = at.place })
       ]
 
@@ -276,7 +272,7 @@ module _ (most : ℕ) (old : Shelf) (key gone : ℕ) (c : Cluster) (parts : List
         let at = in_above most old indexed x y up in
         elim (cases_eq at.key key) [
           | inl is ↦
-              let in_c : is_ancestor c.graph x y ≡ true = subst (λ (d : Cluster). is_ancestor d.graph x y ≡ true) (same_some at.cluster c (sym at.there ∙ ap (cluster_at old.slots) is ∙ was)) at.above in
+              let in_c : is_ancestor c.graph x y ≡ true = subst (λ (d : Cluster). is_ancestor d.graph x y ≡ true) (same_Some at.cluster c (sym at.there ∙ ap (cluster_at old.slots) is ∙ was)) at.above in
               let part = (split.ancestors x y).1 (first, second, in_c) in
               let number = at_number part.0 (inr part.1) in
               above_in most parted now number.0 x y part.0 number.1 part.2
@@ -292,7 +288,7 @@ module _ (most : ℕ) (old : Shelf) (key gone : ℕ) (c : Cluster) (parts : List
           let here = at_contains at.2.cluster at.0.place id at.2.place in
           elim (cases_eq at.0.record key) [
             | inl is ↦
-                let in_c : Contains c.names id = subst (λ (d : Cluster). Contains d.names id) (same_some at.2.cluster c (sym at.2.there ∙ ap (cluster_at old.slots) is ∙ was)) here in
+                let in_c : Contains c.names id = subst (λ (d : Cluster). Contains d.names id) (same_Some at.2.cluster c (sym at.2.there ∙ ap (cluster_at old.slots) is ∙ was)) here in
                 let part = from_parts id other in_c in
                 let number = at_number part.0 (inr part.1) in
                 rate_in_cluster most parted now number.0 id part.0 number.1 part.2 ∙ split.rates part.0 part.1 id part.2 ∙ sym (rate_in_cluster most old indexed key id c was in_c)

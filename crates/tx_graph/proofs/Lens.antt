@@ -5,8 +5,8 @@ use Rattle.std.proofs.lemmas.Bool.{cases_eq}
 use Rattle.std.specs.Ordering.{nat_cmp}
 use Rattle.std.specs.Cmp.{nat_cmp_total, unsigned_tied}
 use Rattle.std.specs.FinMap as finmap
-use Rattle.graphs.specs.Graphs.{AreDistinct}
-use Rattle.graphs.proofs.ListLemmas.{Contains-head, Contains-later, Contains-cases}
+use Rattle.lists.proofs.Entries.{Contains-head, Contains-later, Contains-cases}
+use Rattle.lists.specs.Distinct.{AreDistinct}
 
 module _ {X : Type 0} where
   first_key : (m : finmap.FinMap nat_cmp X) (es : List (ℕ × X)) (n : ℕ) → finmap.entries m ≡ es → length es ≡ suc n → (k : ℕ) × (finmap.contains_key m k ≡ true)

@@ -1,12 +1,12 @@
 -- A cluster that waited for a number has one.
 use Rattle.std.proofs.Common.{Bool, true, false, subst₂, ◌≡◌, ◌≢◌, ℕ, ◌<◌, List, [], ◌∷◌, ◌++◌, length, get_or, Contains, Option, Some, None, is_some, IsSome, inl, inr, ◌⊎◌, ◌↔◌, refl, sym, ap, ◌∙◌, subst, arith, length-append}
 use Rattle.std.proofs.lemmas.Bool.{cases_eq}
-use Rattle.std.proofs.lemmas.Option.{none-some}
+use Rattle.std.proofs.lemmas.Option.{none-some, same_Some}
 use Rattle.std.proofs.lemmas.List.{get_or_append_left, get_or_push}
 use Rattle.std.proofs.lemmas.List.Elements.{Contains-append_left, Contains-push, Contains-push_cases}
 use Rattle.std.specs.List.{AllPairs}
 use Rattle.std.specs.FinMap as finmap
-use Rattle.graphs.proofs.ListLemmas.{Contains-head, Contains-later, Contains-cases}
+use Rattle.lists.proofs.Entries.{Contains-head, Contains-later, Contains-cases}
 use Rattle.cluster_record.specs.Clusters.{Cluster, IsCluster, AreApart}
 use Rattle.name_book.specs.declared.spot.Spot.{Spot}
 use Rattle.name_book.specs.Books.{Spots}
@@ -21,9 +21,6 @@ decide_in (x ∷ xs) id = elim (cases_eq x id) [
   | inl same ↦ inl (subst (Contains (x ∷ xs)) same (Contains-head x xs))
   | inr other ↦ elim (decide_in xs id) [ inl later ↦ inl (Contains-later x id xs later) | inr none ↦ inr (λ here. elim (Contains-cases x id xs here) [ inl same ↦ other same | inr later ↦ none later ]) ]
 ]
-
-same_some : {A : Type 0} (x y : A) → Some x ≡ Some y → x ≡ y
-same_some x y e = cc
 
 all_pairs_front : {X : Type 0} (R : X → X → Type 0) (xs : List X) (y : X) → AllPairs R (xs ++ y ∷ []) → AllPairs R xs
 all_pairs_front R xs y pairs i j d before below =
@@ -46,7 +43,7 @@ module _ (most : ℕ) (c : Cluster) (waiting : List Cluster) (spots spots' : Spo
 
   before : (k : ℕ) (d : Cluster) → cluster_at slots' k ≡ Some d → ((k ≡ stores.key) × (c ≡ d)) ⊎ (cluster_at slots k ≡ Some d)
   before k d is = elim (cases_eq k stores.key) [
-    | inl same ↦ inl (same, same_some c d (sym stores.here ∙ ap (cluster_at slots') (sym same) ∙ is))
+    | inl same ↦ inl (same, same_Some c d (sym stores.here ∙ ap (cluster_at slots') (sym same) ∙ is))
     | inr other ↦ inr (sym (stores.elsewhere k other) ∙ is)
   ]
 
@@ -61,7 +58,7 @@ module _ (most : ℕ) (c : Cluster) (waiting : List Cluster) (spots spots' : Spo
   stands_now id spot is = elim (decide_in c.names id) [
     | inl here ↦
         let at = contains_at c id here in
-        let same : record { «record» = stores.key; place = at.0 } ≡ spot = same_some (record { «record» = stores.key; place = at.0 }) spot (sym (placed at.0 id at.1) ∙ is) in
+        let same : record { «record» = stores.key; place = at.0 } ≡ spot = same_Some (record { «record» = stores.key; place = at.0 }) spot (sym (placed at.0 id at.1) ∙ is) in
         inl (subst (λ (s : Spot). StandsAt slots' s id) same (record { cluster = c; there = stores.here; place = at.1 }))
     | inr none ↦ elim (loose.stands id spot (sym (stores.names.others id none) ∙ is)) [
       | inl at ↦ inl (stands_still id spot at)

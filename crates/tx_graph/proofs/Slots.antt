@@ -2,14 +2,14 @@
 use Rattle.std.proofs.Common.{◌≡◌, ◌≢◌, ℕ, ◌<◌, List, length, set, Option, Some, None, inl, inr, sym, ap, ◌∙◌, subst}
 use Rattle.std.proofs.lemmas.Bool.{cases_lt, false_from_ne_true}
 use Rattle.std.proofs.Common.{false, true≢false, OnSome, IsSome, is_some}
-use Rattle.std.proofs.lemmas.Option.{none-some}
+use Rattle.std.proofs.lemmas.Option.{none-some, same_Some}
 use Rattle.std.proofs.lemmas.List.{get_or-set_same, get_or-set_other, get_or_past}
 use Rattle.std.specs.FinMap as finmap
 use Rattle.cluster_record.specs.Clusters.{Cluster}
 use Rattle.name_book.specs.declared.spot.Spot.{Spot}
 use Rattle.tx_graph.specs.Shelves.{Shelf, cluster_at, graph_of, HasAt, IsIndexed}
 use Rattle.dep_graph.specs.Graph.{is_ancestor}
-use Rattle.tx_graph.proofs.Graphs.{same_some, above_in}
+use Rattle.tx_graph.proofs.Graphs.{above_in}
 
 slot_low : (slots : List (Option Cluster)) (key : ℕ) (c : Cluster) → cluster_at slots key ≡ Some c → key < length slots
 slot_low slots key c is = elim (cases_lt key (length slots)) [
@@ -26,7 +26,7 @@ set_other slots key other c' apart = get_or-set_other slots key other (Some c') 
 -- the cluster and the place of a name, as the spot says
 pub stands_in : (most : ℕ) (shelf : Shelf) (spot : Spot) (id : ℕ) (c : Cluster) → IsIndexed most shelf → finmap.get shelf.spots id ≡ Some spot → cluster_at shelf.slots spot.record ≡ Some c → HasAt c spot.place id
 stands_in most shelf spot id c indexed is there =
-    let at = indexed.stands id spot is in subst (λ (x : Cluster). HasAt x spot.place id) (same_some at.cluster c (sym at.there ∙ there)) at.place
+    let at = indexed.stands id spot is in subst (λ (x : Cluster). HasAt x spot.place id) (same_Some at.cluster c (sym at.there ∙ there)) at.place
 
 pub is_there : (most : ℕ) (shelf : Shelf) (spot : Spot) (id : ℕ) → IsIndexed most shelf → finmap.get shelf.spots id ≡ Some spot → None ≡ cluster_at shelf.slots spot.record → ⊥
 is_there most shelf spot id indexed is none = let at = indexed.stands id spot is in none-some at.cluster (none ∙ at.there)

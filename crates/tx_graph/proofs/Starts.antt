@@ -3,6 +3,7 @@ use Rattle.std.proofs.Common.{◌≡◌, ℕ, false, [], sym, refl, ap, ◌∙�
 use Rattle.std.specs.Prelude.{Contains}
 use Rattle.std.specs.Ordering.{nat_cmp}
 use Rattle.std.specs.FinMap as finmap
+use Rattle.lists.proofs.Entries.{none_in_empty}
 use Rattle.graph_model.specs.declared.names.Limits.{Limits}
 use Rattle.graphs.specs.Graphs.{IsAncestor}
 use Rattle.graph_model.specs.States.{start}
@@ -10,12 +11,9 @@ use Rattle.tx_graph.specs.Kept.{StandsFor, entry_of}
 use Rattle.tx_graph.specs.Shelves.{Shelf, graph_of}
 use Rattle.tx_graph.proofs.Graphs.{member-spot, above-none, get-none}
 
-no_pair : {A : Type 0} (x : A) → Contains [] x → ⊥
-no_pair x here = omega (arith, here.1)
-
 no_ancestors : (a b : ℕ) → IsAncestor [] a b → a ≡ b
 no_ancestors a b (zero, same) = same
-no_ancestors a b (suc n, walk) = absurd (no_pair (walk.0, b) walk.2)
+no_ancestors a b (suc n, walk) = absurd (none_in_empty (walk.0, b) walk.2)
 
 module _ (limits : Limits) (shelf : Shelf) (empty : shelf.spots ≡ finmap.empty) where
   no_spot : (id : ℕ) → finmap.get shelf.spots id ≡ None
@@ -26,11 +24,11 @@ module _ (limits : Limits) (shelf : Shelf) (empty : shelf.spots ≡ finmap.empty
     limits = refl;
     begun = refl;
     table = λ id. finmap.get-empty nat_cmp id ∙ sym (ap entry_of (get-none shelf id (no_spot id)));
-    names = λ id. (λ here. absurd (no_pair id here), λ member. absurd (true≢false (sym member ∙ member-spot shelf id ∙ ap is_some (no_spot id))));
+    names = λ id. (λ here. absurd (none_in_empty id here), λ member. absurd (true≢false (sym member ∙ member-spot shelf id ∙ ap is_some (no_spot id))));
     ancestors = λ a b. (
       λ walk. inl (no_ancestors a b walk),
       λ above. elim above [ inl same ↦ (0, same) | inr up ↦ absurd (true≢false (sym up ∙ above-none shelf a b (no_spot b))) ],
     );
-    valid = record { names = tt; pairs = tt; ends = λ parent child here. absurd (no_pair (parent, child) here); acyclic = λ a n walk. no_pair (walk.0, a) walk.2 };
+    valid = record { names = tt; pairs = tt; ends = λ parent child here. absurd (none_in_empty (parent, child) here); acyclic = λ a n walk. none_in_empty (walk.0, a) walk.2 };
     staging = refl;
   }

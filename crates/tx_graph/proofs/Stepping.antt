@@ -6,10 +6,13 @@ use Rattle.std.proofs.lemmas.List.Elements.{Contains-append_left, Contains-push,
 use Rattle.std.specs.Ordering.{nat_cmp}
 use Rattle.std.specs.Cmp.{nat_cmp_total, unsigned_tied}
 use Rattle.std.specs.FinMap as finmap
+use Rattle.lists.proofs.Distinct.{distinct_push}
+use Rattle.lists.proofs.Entries.{Contains-head, Contains-later, Contains-cases}
+use Rattle.lists.specs.Distinct.{AreDistinct}
 use Rattle.fee_rate.specs.declared.rates.FeeRate.{FeeRate}
 use Rattle.graph_model.specs.declared.names.Limits.{Limits}
 use Rattle.graphs.specs.declared.names.Level.{Level}
-use Rattle.graphs.specs.Graphs.{IsAncestor, AreConnected, AreDistinct, IsGraph, Lists}
+use Rattle.graphs.specs.Graphs.{IsAncestor, AreConnected, IsGraph, Lists}
 use Rattle.graph_model.specs.States.{State, LevelState, Table, Entry, size_of}
 use Rattle.graph_model.specs.Commands.{SetLimits, Add, Dep, SetFee, Remove, Cluster, Ancestors, Descendants, Count}
 use Rattle.graph_model.specs.Refusals.{RefusalIs}
@@ -19,7 +22,7 @@ use Rattle.graph_model.specs.Changes as changes
 use Rattle.graph_model.specs.Replies.{Done, Ids, Number}
 use Rattle.graphs.specs.Laws.{AncestorsWithPair, StaysWithoutCycle, NamesCanGo, StaysGraph, AncestorsWithoutName}
 use Rattle.graphs.proofs.WalkLemmas.{IsAncestor-trans}
-use Rattle.graphs.proofs.ListLemmas.{Contains-head, Contains-later, Contains-cases, Lists-for}
+use Rattle.graphs.proofs.ListLemmas.{Lists-for}
 use Rattle.dep_graph.specs.Graph.{Node, Graph, is_member, is_ancestor, rate_of, rate_in, IsOrder, AddsPair, SetsFee, DropsPlace}
 use Rattle.cluster_record.specs.Clusters.{AreLinked}
 use Rattle.tx_graph.specs.Kept.{Kept, StandsFor, MakesStep, entry_of, AddsName}
@@ -53,13 +56,6 @@ get-put table id q entry = finmap.get-insert nat_cmp_total table id entry q ∙ 
 
 get-drop : (table : Table) (id q : ℕ) → finmap.get (finmap.remove table id) q ≡ cond (nat_eq q id) None (finmap.get table q)
 get-drop table id q = finmap.get-remove nat_cmp_total table id q ∙ ap (λ b. cond b None (finmap.get table q)) (unsigned_tied q id)
-
-distinct_push : (xs : List ℕ) (x : ℕ) → AreDistinct xs → (Contains xs x → ⊥) → AreDistinct (xs ++ x ∷ [])
-distinct_push [] x once none = (none, tt)
-distinct_push (y ∷ ys) x once none = (
-  λ here. elim (Contains-push_cases ys x y here) [ inl again ↦ once.0 again | inr same ↦ none (subst (Contains (y ∷ ys)) (sym same) (Contains-head y ys)) ],
-  distinct_push ys x once.1 (λ here. none (Contains-later y x ys here)),
-)
 
 distinct_push_pair : (xs : List (ℕ × ℕ)) (x : ℕ × ℕ) → AreDistinct xs → (Contains xs x → ⊥) → AreDistinct (xs ++ x ∷ [])
 distinct_push_pair [] x once none = (none, tt)

@@ -5,9 +5,10 @@ use Rattle.std.specs.HashMap as hash
 use Rattle.std.proofs.lemmas.Bool.{cases_eq}
 use Rattle.std.proofs.lemmas.List.{get_or_default}
 use Rattle.std.proofs.lemmas.List.Elements.{Contains-get_or}
+use Rattle.std.proofs.lemmas.Option.{same_Some}
 use Rattle.graphs.specs.Certificates.{rate_in, weight_in}
 use Rattle.certificate.specs.Accounts.{account_at}
-use Rattle.certificate.proofs.Bookings.{weight_of_name, member_place, some_same}
+use Rattle.certificate.proofs.Bookings.{weight_of_name, member_place}
 use Rattle.certificate.proofs.flows.balanced.Goals as goal
 
 pub place_of-place-requires : goal.place_of-place-requires
@@ -40,7 +41,7 @@ loop-id-preserved c k place less is =
     let t = sym (to_z-of_z w128 c.weight.result fine) ∙ ap (to_z w128) c.if-weight-accounts.false ∙ to_z-of_z w128 _ good in
     elim (cases_eq k c.loop-id.id-index) [
       | inl same ↦
-          (let at : c.place_of-place.result ≡ place = some_same _ _ (sym c.place_of-place.ensures ∙ ap (λ i. hash.get nat_eq c.args.names.now (slice_index c.args.ids.now i)) (sym same) ∙ is) in
+          (let at : c.place_of-place.result ≡ place = same_Some _ _ (sym c.place_of-place.ensures ∙ ap (λ i. hash.get nat_eq c.args.names.now (slice_index c.args.ids.now i)) (sym same) ∙ is) in
           ap (λ i. weight_in c.args.rate (rate_in c.args.txs.now (slice_index c.args.ids.now i))) same ∙ sym w ∙ t ∙ ap (λ p. (account_at c.args.accounts.now p).net) at)
       | inr other ↦ c.loop-id.invariant k place (omega arith) is
     ]

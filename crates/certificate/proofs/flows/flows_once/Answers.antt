@@ -1,6 +1,6 @@
 use Rattle.std.proofs.Common.{arith, refl, subst}
 use Rattle.std.proofs.lemmas.List.{take_all}
-use Rattle.graphs.specs.Graphs.{AreDistinct}
+use Rattle.lists.specs.Distinct.{AreDistinct}
 use Rattle.certificate.specs.Accounts.{ends_of}
 use Rattle.certificate.proofs.Bookings.{ends_at, ends_long, ends_all}
 use Rattle.certificate.proofs.Sets.{put_next, put_again}

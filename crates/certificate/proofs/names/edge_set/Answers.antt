@@ -1,7 +1,7 @@
 use Rattle.std.proofs.Common.{arith, refl, sym, subst}
 use Rattle.std.proofs.lemmas.List.{take_all}
 use Rattle.std.specs.Prelude.{Contains}
-use Rattle.graphs.specs.Graphs.{AreDistinct}
+use Rattle.lists.specs.Distinct.{AreDistinct}
 use Rattle.certificate.proofs.Sets.{held, holding, upto_more, upto_again}
 use Rattle.certificate.proofs.names.edge_set.Goals as goal
 

@@ -2,10 +2,10 @@ use Rattle.std.proofs.Common.{arith, ◌+◌, ◌^◌, ◌≤◌, length, take, 
 use Rattle.std.proofs.lemmas.List.{length-take-le, get_or_default}
 use Rattle.std.proofs.lemmas.Int.{ints}
 use Rattle.std.proofs.lemmas.List.Elements.{All-take}
+use Rattle.fee_rate.proofs.Orders.{same_sum}
 use Rattle.fee_rate.specs.Limits.{IsRate}
 use Rattle.chunking.proofs.Stacks.{last_range, popped, top_range, stack_join, stack_start, end_alone, end_behind}
 use Rattle.chunking.specs.Chunkings.{sum_of}
-use Rattle.chunking.proofs.Sums.{same_sum}
 use Rattle.chunking.proofs.chunks.put.Goals as goal
 use Rattle.chunking.proofs.chunks.put.Goals.{then-loop-left-test+else-is_below, else-loop-left-test}
 

@@ -1,8 +1,8 @@
 use Rattle.std.proofs.Common.{◌≡◌, ◌∷◌, sym, ap, ◌∙◌}
+use Rattle.fee_rate.proofs.Orders.{same_sum}
 use Rattle.fee_rate.specs.declared.rates.Sum.{Sum}
 use Rattle.diagram.specs.Parts.{rate_of}
 use Rattle.diagram.proofs.StepLemmas.{step_some, step_none}
-use Rattle.diagram.proofs.WalkLemmas.{same_sum}
 use Rattle.diagram.proofs.segments.next_rate.Goals as goal
 
 pub returns-in-Some-clause-item : goal.returns-in-Some-clause-item

@@ -2,8 +2,8 @@ use Rattle.std.proofs.Common.{◌≡◌, ◌⊎◌, inl, inr, ◌∙◌, ℕ, Li
 use Rattle.std.specs.Cmp.{nat_cmp_total}
 use Rattle.std.specs.FinSet as fin
 use Rattle.std.specs.Ordering.{nat_cmp}
+use Rattle.lists.specs.Walks.{IsWalk, Walk}
 use Rattle.dep_graph.specs.Graph.{Graph, is_member, members_of, IsNear}
-use Rattle.dep_graph.specs.Walks.{IsWalk, Walk}
 use Rattle.linearize.proofs.Places.{in_members}
 use Rattle.linearize.proofs.Sets.{not_empty}
 use Rattle.linearize.proofs.Sizes.{words_fit, lists_fit}

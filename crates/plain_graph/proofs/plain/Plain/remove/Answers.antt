@@ -1,7 +1,7 @@
 use Rattle.std.proofs.Common.{refl, ap, ◌∙◌, ◌↔◌}
 use Rattle.std.specs.Prelude.{Contains, IsTrue}
+use Rattle.lists.specs.Distinct.{AreDistinct}
 use Rattle.graph_model.specs.Commands.{Remove}
-use Rattle.graphs.specs.Graphs.{AreDistinct}
 use Rattle.plain_graph.specs.Plain.{Kept}
 use Rattle.plain_graph.specs.Sound.{names_of}
 use Rattle.plain_graph.specs.Rests.{without_name, ArePairsWithout}
