@@ -15,7 +15,6 @@ use Rattle.fee_rate.specs.declared.rates.Sum.{Sum}
 use Rattle.fee_rate.specs.Limits.{IsSum}
 use Rattle.fee_rate.specs.declared.limits.TheConstants.{MAX_FEE, MAX_SIZE}
 use Rattle.fee_rate.specs.Rates.{AtMost}
-use Rattle.fee_rate.specs.Limits.{IsFee}
 use Rattle.fee_rate.specs.declared.limits.TheConstants.{}
 use Rattle.graphs.specs.Rates.{sums, Falls}
 use Rattle.graphs.specs.Certificates.{Txs, rate_in}
@@ -52,9 +51,6 @@ rate_found txs find id p h e =
     let p_in : p < length txs = subst (λ n. p < n) (length-map txs (λ (t : ℕ × ℤ × ℕ). t.0)) s.0 in
     (p_in, rate_first txs id p (places_distinct (names_of txs) find h) p_in (sym (name_at txs p p_in) ∙ s.1))
 
-fee_abs : (z : ℤ) → IsFee z → unsigned_abs z ≤ MAX_FEE
-fee_abs z (a, b) = omega (arith, ints)
-
 -- a fee and a size within the limits
 pub record IsWithin (rate : Sum) : Type 0 where
   pub fee : unsigned_abs rate.fee ≤ MAX_FEE
@@ -64,7 +60,7 @@ pub record IsWithin (rate : Sum) : Type 0 where
 pub within_here : (txs : Txs) (p : ℕ) → AreInLimits txs → p < length txs → IsWithin (rate_here txs p)
 within_here txs p l in' =
     let (fee, size) = limits_at txs p l in' in
-    record { fee = fee_abs _ fee; some = size.0; size = size.1 }
+    record { fee = fee; some = size.0; size = size.1 }
 
 pub within_name : (txs : Txs) (find : ℕ → Option ℕ) (id : ℕ) → ArePlaces (names_of txs) find → AreInLimits txs → Contains (names_of txs) id → IsWithin (rate_in txs id)
 within_name txs find id h l (p, p_in, is) =
