@@ -122,11 +122,15 @@ raised_below w words by q low = ap (λ b. nat_lt q (64 * w) && (not b && is_plac
 pub raised_past : (w : ℕ) (words : List ℕ) (by i : ℕ) → w ≤ i → (q : ℕ) → 64 * i ≤ q → raised_by w by words q ≡ false
 raised_past w words by i end q far = ap (λ b. b && (not (nat_lt q by) && is_place words (q - by))) (le-ltb q (64 * w) (omega arith))
 
-pub raised_far : (w : ℕ) (words : List ℕ) (by : ℕ) → ((p : ℕ) → is_place words p ≡ true → p + by < 2 ^ 64) → (q : ℕ) → 2 ^ 64 ≤ q → raised_by w by words q ≡ false
+pub raised_far : (w : ℕ) (words : List ℕ) (by : ℕ) → ((p : ℕ) → is_place words p ≡ true → p + by < 64 * w → p + by < 2 ^ 64) → (q : ℕ) → 2 ^ 64 ≤ q → raised_by w by words q ≡ false
 raised_far w words by fits q far =
-    elim (cases_lt q by) as (λ _. raised_by w by words q ≡ false) [
-      | inl low ↦ ap (λ b. nat_lt q (64 * w) && (not b && is_place words (q - by))) (lt-ltb q by low) ∙ and-false (nat_lt q (64 * w))
-      | inr high ↦
-          ap (λ b. nat_lt q (64 * w) && (not (nat_lt q by) && b)) (false_from_ne_true _ (λ e. let small : q - by + by < 2 ^ 64 = fits (q - by) e in absurd (omega arith)))
-          ∙ ap (λ b. nat_lt q (64 * w) && b) (and-false (not (nat_lt q by))) ∙ and-false (nat_lt q (64 * w))
+    elim (cases_lt q (64 * w)) as (λ _. raised_by w by words q ≡ false) [
+      | inr out ↦ ap (λ b. b && (not (nat_lt q by) && is_place words (q - by))) (le-ltb q (64 * w) out)
+      | inl inside ↦ elim (cases_lt q by) as (λ _. raised_by w by words q ≡ false) [
+        | inl low ↦ ap (λ b. nat_lt q (64 * w) && (not b && is_place words (q - by))) (lt-ltb q by low) ∙ and-false (nat_lt q (64 * w))
+        | inr high ↦
+            ap (λ b. nat_lt q (64 * w) && (not (nat_lt q by) && b))
+            (false_from_ne_true _ (λ e. let small : q - by + by < 2 ^ 64 = fits (q - by) e (omega arith) in absurd (omega arith)))
+            ∙ ap (λ b. nat_lt q (64 * w) && b) (and-false (not (nat_lt q by))) ∙ and-false (nat_lt q (64 * w))
+      ]
     ]

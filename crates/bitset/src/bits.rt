@@ -143,11 +143,11 @@ impl<const W: usize> Bits<W> {
         Bits { words }
     }
 
-    /// The places that lie `by` above a place of the set. What would come to 64·W or more drops out; the sums fit
-    /// a `usize`.
+    /// The places that lie `by` above a place of the set. What would come to 64·W or more drops out; what is left is, as
+    /// every place, below 2^64.
     #[must_use]
     pub fn raised(&self, by: usize) -> Self
-        requires { (p : ℕ) → set.contains self.now p ≡ true → p + by < 2 ^ 64 }
+        requires { (p : ℕ) → set.contains self.now p ≡ true → p + by < 64 * W → p + by < 2 ^ 64 }
         ensures { (p : ℕ) → set.contains result p ≡
             (nat_lt p (64 * W) && (not (nat_lt p by) && set.contains self.now (p - by))) }
     {

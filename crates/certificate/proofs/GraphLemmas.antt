@@ -9,13 +9,27 @@ use Rattle.graphs.specs.Graphs.{HasNoCycle}
 use Rattle.graphs.specs.Certificates.{Txs, HasGraph}
 use Rattle.certificate.specs.declared.fault.CheckFault.{CheckFault}
 use Rattle.certificate.specs.declared.fault.CheckFault.TheVariants.{Order, Falling, Flow, Graph, Memory}
-use Rattle.certificate.specs.Faults.{Says}
+use Rattle.certificate.specs.Faults.{Says, Fails}
 use Rattle.certificate.specs.Places.{ArePlaces, ArePairs, AreOf}
 use Rattle.certificate.specs.Tables.{names_of, AreInLimits}
 use Rattle.certificate.proofs.PlaceLemmas.{places_distinct}
 use Rattle.certificate.proofs.Labels.{Labels, no_cycle_named, no_cycle_placed, ends_named}
 
--- what fails for a part fails for the whole
+-- what fails of a part fails of the whole
+pub fails_whole : (mine : CheckFault) (Part Whole : Type 0) (fault : CheckFault) → (Whole → Part) → Fails mine Part fault → Fails mine Whole fault
+fails_whole mine Part Whole fault part fails = (fails.0, λ whole. fails.1 (part whole))
+
+says_mine : (mine fault : CheckFault) (Whole : Type 0) → fault ≡ mine → (Whole → ⊥) → Says mine Whole fault
+says_mine mine Memory Whole is no = tt
+says_mine mine Order Whole is no = (sym is, no)
+says_mine mine Falling Whole is no = (sym is, no)
+says_mine mine Flow Whole is no = (sym is, no)
+says_mine mine Graph Whole is no = (sym is, no)
+
+-- and is said of it where the test of the whole may lack memory
+pub fails_says : (mine : CheckFault) (Part Whole : Type 0) (fault : CheckFault) → (Whole → Part) → Fails mine Part fault → Says mine Whole fault
+fails_says mine Part Whole fault part fails = says_mine mine fault Whole fails.0 (λ whole. fails.1 (part whole))
+
 pub says_whole : (mine : CheckFault) (Part Whole : Type 0) (fault : CheckFault) → (Whole → Part) → Says mine Part fault → Says mine Whole fault
 says_whole mine Part Whole Memory f h = tt
 says_whole mine Part Whole Order f h = (h.0, (λ w. h.1 (f w)))

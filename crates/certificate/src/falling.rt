@@ -5,7 +5,7 @@ ghost use Rattle.graphs.specs.Rates.{Falls, sums};
 ghost use Rattle.graphs.specs.Certificates.{HasFalling, rate_in};
 ghost use Rattle.certificate.specs.declared.fault.CheckFault.TheVariants.{Falling};
 ghost use Rattle.certificate.specs.Fallings.{AreRates, AreSummed, rates_of};
-ghost use Rattle.certificate.specs.Faults.{Says};
+ghost use Rattle.certificate.specs.Faults.{Fails};
 ghost use Rattle.certificate.specs.Parts.{ids_at, order_of, parts_of};
 ghost use Rattle.certificate.specs.Places.{ArePlaces};
 ghost use Rattle.certificate.specs.Tables.{AreInLimits, names_of};
@@ -28,7 +28,7 @@ pub(crate) fn check_falling(
     requires filled { (k : ℕ) → k < length parts.now → ids_at parts.now k ≢ [] }
     ensures { MatchResult result
         (λ _. HasFalling (rate_in txs.now) (parts_of parts.now))
-        (Says Falling (HasFalling (rate_in txs.now) (parts_of parts.now))) }
+        (Fails Falling (HasFalling (rate_in txs.now) (parts_of parts.now))) }
 {
     check_sums(txs, names, parts)?;
     check_rates(parts)?;
@@ -41,7 +41,7 @@ fn check_sums(txs: &[(TxId, i64, u64)], names: &Names, parts: &[Part]) -> Result
     requires limits { AreInLimits txs.now }
     requires members { (id : ℕ) → Contains (order_of parts.now) id → Contains (names_of txs.now) id }
     requires few { length (order_of parts.now) ≤ 1048576 }
-    ensures { MatchResult result (λ _. AreSummed txs.now parts.now) (Says Falling (AreSummed txs.now parts.now)) }
+    ensures { MatchResult result (λ _. AreSummed txs.now parts.now) (Fails Falling (AreSummed txs.now parts.now)) }
 {
     for part in parts {
         let sum = total(txs, names, part.ids.as_slice());
@@ -55,7 +55,7 @@ fn check_sums(txs: &[(TxId, i64, u64)], names: &Names, parts: &[Part]) -> Result
 /// Whether no part has a greater rate than the one before it.
 fn check_rates(parts: &[Part]) -> Result<(), CheckFault>
     requires { AreRates parts.now }
-    ensures { MatchResult result (λ _. Falls (rates_of parts.now)) (Says Falling (Falls (rates_of parts.now))) }
+    ensures { MatchResult result (λ _. Falls (rates_of parts.now)) (Fails Falling (Falls (rates_of parts.now))) }
 {
     for at in 1..parts.len() {
         if is_below(parts[at - 1].rate, parts[at].rate) {

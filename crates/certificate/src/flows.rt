@@ -1,13 +1,13 @@
-ghost use Rattle.std.specs.Prelude.{◌≡◌, ℕ, ◌*◌, ◌^◌, ◌*ℤ◌, ◌<◌, ◌≤◌, pos, length, nat_eq, Contains, unsigned_abs, MatchBool, MatchResult, FitsSigned, slice_set, ◌+ℤ◌, ◌-ℤ◌};
+ghost use Rattle.std.specs.Prelude.{◌≡◌, ℕ, ◌*◌, ◌^◌, ◌<◌, ◌≤◌, pos, length, nat_eq, Contains, MatchBool, MatchResult, FitsSigned, slice_set, ◌+ℤ◌, ◌-ℤ◌};
 ghost use Rattle.std.specs.Int.{w128};
 ghost use Rattle.std.specs.HashMap as hash;
 ghost use Rattle.lists.specs.Distinct.{AreDistinct};
-ghost use Rattle.fee_rate.specs.Limits.{InRange, IsRate, IsSum};
+ghost use Rattle.fee_rate.specs.Limits.{IsRate, IsSum};
 ghost use Rattle.graphs.specs.Certificates.{Certifies, HasFlows, rate_in, weight_in};
 ghost use Rattle.certificate.specs.declared.fault.CheckFault.TheVariants as faults;
 ghost use Rattle.certificate.specs.Accounts.{ArePayable, AreBalanced, AreInside, AreNet, AreOpen, IsEdge, IsOpen, KeepParts, account_at, amount_of, ends_of};
 ghost use Rattle.certificate.specs.Fallings.{AreRates, AreSummed};
-ghost use Rattle.certificate.specs.Faults.{Says};
+ghost use Rattle.certificate.specs.Faults.{Fails, Says};
 ghost use Rattle.certificate.specs.Parts.{order_of, parts_of};
 ghost use Rattle.graphs.specs.declared.names.Flow.{Flow};
 ghost use Rattle.graphs.specs.Rates.{sums};
@@ -18,7 +18,7 @@ use crate::falling::rate_of;
 use crate::graph::Tables;
 use crate::names::{Names, find};
 use crate::{CheckFault, Part};
-use fee_rate::{FeeRate, Sum};
+use fee_rate::{FeeRate, Sum, product};
 use graphs::{Flow, TxId};
 use std::alloc::Global;
 use std::collections::HashSet;
@@ -164,7 +164,7 @@ fn flows_inside(
     requires { (id place : ℕ) → hash.get nat_eq tables.now.names id ≡ Some place → place < length accounts.now }
     ensures { MatchResult result
         (λ _. AreInside (hash.get nat_eq tables.now.names) (IsEdge tables.now) accounts.now part flows.now)
-        (Says faults.Flow (AreInside (hash.get nat_eq tables.now.names)
+        (Fails faults.Flow (AreInside (hash.get nat_eq tables.now.names)
         (IsEdge tables.now) accounts.now part flows.now)) }
 {
     for flow in flows {
@@ -251,7 +251,7 @@ fn balanced(
     requires room { length (names_of txs.now) ≡ length accounts.now }
     ensures { MatchResult result
         (λ _. AreBalanced (hash.get nat_eq names.now) (rate_in txs.now) rate ids.now accounts.now)
-        (Says faults.Flow (AreBalanced (hash.get nat_eq names.now) (rate_in txs.now) rate ids.now accounts.now)) }
+        (Fails faults.Flow (AreBalanced (hash.get nat_eq names.now) (rate_in txs.now) rate ids.now accounts.now)) }
 {
     for id in ids {
         let own = rate_of(txs, names, *id);
@@ -270,16 +270,7 @@ fn weight(whole: Sum, own: FeeRate) -> i128
     ensures { result ≡ weight_in whole record { fee = own.fee; size = own.size } }
 {
     let own = Sum::from(own);
-    let above = crossed(own.fee, whole.size);
-    let below = crossed(whole.fee, own.size);
+    let above = product(own.fee, whole.size);
+    let below = product(whole.fee, own.size);
     above - below
-}
-
-/// A fee times a size. Below 2^114 in absolute value.
-fn crossed(fee: i128, size: u64) -> i128
-    requires { InRange fee size }
-    ensures product { result ≡ fee *ℤ pos size }
-    ensures bound { unsigned_abs result < 2 ^ 114 }
-{
-    fee * i128::from(size)
 }

@@ -2,7 +2,7 @@ ghost use Rattle.std.specs.Prelude.{◌≡◌, ℕ, ◌<◌, ◌≤◌, length, 
 ghost use Rattle.std.specs.HashMap as hash;
 ghost use Rattle.graphs.specs.Certificates.{HasOrder, graph_of};
 ghost use Rattle.certificate.specs.declared.fault.CheckFault.TheVariants.{Order};
-ghost use Rattle.certificate.specs.Faults.{Says};
+ghost use Rattle.certificate.specs.Faults.{Fails, Says};
 ghost use Rattle.certificate.specs.Groups.{AreWithin};
 ghost use Rattle.certificate.specs.Orders.{AreOfOneGroup, AreRanks, AreSeats, IsOrderOf, Rise, seat_at};
 ghost use Rattle.certificate.specs.Parts.{ids_at, order_of, parts_of};
@@ -113,7 +113,7 @@ fn all_seated(alloc: Global, seats: &[Option<usize>]) -> Result<Vec<usize>, Chec
 /// Whether each parent has a lower rank than its child.
 fn parents_first(ranks: &[usize], pairs: &[(usize, usize)]) -> Result<(), CheckFault>
     requires { AreWithin (length ranks.now) pairs.now }
-    ensures { MatchResult result (λ _. Rise ranks.now pairs.now) (Says Order (Rise ranks.now pairs.now)) }
+    ensures { MatchResult result (λ _. Rise ranks.now pairs.now) (Fails Order (Rise ranks.now pairs.now)) }
 {
     for pair in pairs {
         if ranks[pair.0] >= ranks[pair.1] {
@@ -130,7 +130,7 @@ fn parts_together(groups: &[usize], names: &Names, parts: &[Part]) -> Result<(),
     ensures { MatchResult result
         (λ _. (k : ℕ) → k < length parts.now
         → AreOfOneGroup (hash.get nat_eq names.now) groups.now (ids_at parts.now k))
-        (Says Order ((k : ℕ) → k < length parts.now
+        (Fails Order ((k : ℕ) → k < length parts.now
         → AreOfOneGroup (hash.get nat_eq names.now) groups.now (ids_at parts.now k))) }
 {
     for part in parts {
@@ -145,7 +145,7 @@ fn together(groups: &[usize], names: &Names, ids: &[TxId]) -> Result<(), CheckFa
         × (hash.get nat_eq names.now id ≡ Some place) }
     ensures { MatchResult result
         (λ _. AreOfOneGroup (hash.get nat_eq names.now) groups.now ids.now)
-        (Says Order (AreOfOneGroup (hash.get nat_eq names.now) groups.now ids.now)) }
+        (Fails Order (AreOfOneGroup (hash.get nat_eq names.now) groups.now ids.now)) }
 {
     let Some(first) = ids.first() else {
         return Ok(());

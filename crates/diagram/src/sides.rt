@@ -6,6 +6,7 @@ ghost use Rattle.fee_rate.specs.Rates.{ComparesRates};
 ghost use Rattle.diagram.specs.Points.{YieldsCorners};
 ghost use Rattle.diagram.specs.Comparisons.{height_from, HasPoints, IsInRange, IsOn, IsReady, Moves, NearestIs, pending, StandAt};
 
+use fee_rate::product;
 use std::cmp::Ordering;
 
 /// The part of a diagram at hand: the line from a corner to the next, and past the end the last corner's fee.
@@ -152,15 +153,5 @@ fn rise_times(from: i128, to: i128, size: u64) -> i128
     ensures product { result ≡ (to -ℤ from) *ℤ pos size }
     ensures bound { unsigned_abs result < 2 ^ 114 }
 {
-    times(to - from, size)
-}
-
-/// A difference of fees times a size.
-fn times(fee: i128, size: u64) -> i128
-    requires fee { unsigned_abs fee ≤ 2 * (MAX_FEE * MAX_TOTAL) }
-    requires size { size ≤ MAX_SIZE * MAX_TOTAL }
-    ensures product { result ≡ fee *ℤ pos size }
-    ensures bound { unsigned_abs result < 2 ^ 114 }
-{
-    fee * i128::from(size)
+    product(to - from, size)
 }

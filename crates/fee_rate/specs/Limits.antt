@@ -18,12 +18,7 @@ pub record IsRate (r : FeeRate) : Type 0 where
   pub some : 1 ≤ r.size
   pub size : r.size ≤ MAX_SIZE
 
--- fee and size are in the range of a sum over at most that many transactions; an empty sum is one
-pub record InRangeOf (n : ℕ) (f : ℤ) (s : ℕ) : Type 0 where
-  pub fee : unsigned_abs f ≤ MAX_FEE * n
-  pub size : s ≤ MAX_SIZE * n
-
--- of a sum over a whole level
+-- fee and size are in the range of a sum over at most MAX_TOTAL transactions; an empty sum is one
 pub record InRange (f : ℤ) (s : ℕ) : Type 0 where
   pub fee : unsigned_abs f ≤ MAX_FEE * MAX_TOTAL
   pub size : s ≤ MAX_SIZE * MAX_TOTAL

@@ -1,7 +1,8 @@
-ghost use Rattle.std.specs.Prelude.{◌≡◌, ◌+◌, ◌-◌, ◌^◌, ◌<◌, ◌≤◌, pos, ◌+ℤ◌, ◌-ℤ◌, ◌*ℤ◌, unsigned_abs, MatchBool};
-ghost use Rattle.fee_rate.specs.Limits.{InRange, InRangeOf, IsSum};
+ghost use Rattle.std.specs.Prelude.{◌≡◌, ◌+◌, ◌-◌, ◌*◌, ◌^◌, ◌<◌, ◌≤◌, pos, ◌+ℤ◌, ◌-ℤ◌, ◌*ℤ◌, unsigned_abs, MatchBool};
+ghost use Rattle.fee_rate.specs.Limits.{InRange, IsSum};
 ghost use Rattle.fee_rate.specs.Rates.{AtMost, Below, ComparesFully, ComparesRates};
 
+use crate::limits::{MAX_FEE, MAX_SIZE, MAX_TOTAL};
 use std::cmp::Ordering;
 
 /// The fee of a transaction, in satoshis, and its size, in virtual bytes.
@@ -100,13 +101,14 @@ pub fn minus(a: Sum, b: Sum) -> Sum
     }
 }
 
-/// A fee times a size, exactly: of sums over a whole level below 2^114 in absolute value, and of sums over a cluster of at most
-/// 64 transactions below 2^85, so that the difference of two is below 2^86.
+/// A fee, or the difference of two, times a size, exactly. Of sums over a whole level it is below 2^114 in absolute value, of
+/// sums over a cluster of at most 64 transactions below 2^86.
 pub fn product(fee: i128, size: u64) -> i128
-    requires { InRange fee size }
+    requires fee { unsigned_abs fee ≤ 2 * (MAX_FEE * MAX_TOTAL) }
+    requires size { size ≤ MAX_SIZE * MAX_TOTAL }
     ensures product { result ≡ fee *ℤ pos size }
     ensures level { unsigned_abs result < 2 ^ 114 }
-    ensures cluster { InRangeOf 64 fee size → unsigned_abs result < 2 ^ 85 }
+    ensures cluster { unsigned_abs fee ≤ 2 * (MAX_FEE * 64) → size ≤ MAX_SIZE * 64 → unsigned_abs result < 2 ^ 86 }
 {
     fee * i128::from(size)
 }

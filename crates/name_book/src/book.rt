@@ -1,4 +1,4 @@
-ghost use Rattle.std.specs.Prelude.{◌≡◌, ◌+◌, ◌-◌, ◌<◌, ◌≤◌, ◌^◌, None, IsSome, OnOk};
+ghost use Rattle.std.specs.Prelude.{◌≡◌, ◌+◌, ◌-◌, ◌<◌, ◌≤◌, ◌^◌, None, IsOk, IsSome, OnOk};
 ghost use Rattle.std.specs.FinMap as finmap;
 
 use crate::spot::Spot;
@@ -48,10 +48,11 @@ impl NameBook {
     /// Makes room for `n` more names, so that as many calls of `insert` can't fail.
     ///
     /// # Errors
-    /// Where there is no memory for them. The names and their spots are as they were, and the room is no less.
+    /// Where there is no memory for them, and the room isn't there already. The names and their spots are as they were, and the room is no less.
     pub fn reserve(&mut self, n: usize) -> Result<(), NoMemory>
         requires few { finmap.len self.old.spots + n ≤ 2 ^ 32 - 1 }
         ensures room { OnOk result (n ≤ self.new.spare) }
+        ensures ready { n ≤ self.old.spare → IsOk result }
         ensures kept { self.old.spare ≤ self.new.spare }
         ensures spots { self.new.spots ≡ self.old.spots }
         ensures issued { self.new.issued ≡ self.old.issued }

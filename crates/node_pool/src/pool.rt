@@ -1,5 +1,5 @@
 //! The pool.
-ghost use Rattle.std.specs.Prelude.{◌≡◌, ◌≢◌, ◌+◌, ◌-◌, ◌<◌, ◌≤◌, ◌^◌, ◌↔◌, ℕ, [], Some, None, Err, IsTrue, OnOk, OnSome, IfNone, option_copied};
+ghost use Rattle.std.specs.Prelude.{◌≡◌, ◌≢◌, ◌+◌, ◌-◌, ◌<◌, ◌≤◌, ◌^◌, ◌↔◌, ℕ, [], Some, None, Err, IsOk, IsTrue, OnOk, OnSome, IfNone, option_copied};
 ghost use Rattle.std.specs.Option.{option_copied_mut};
 ghost use Rattle.std.specs.Borrow.{sem};
 ghost use Rattle.node_pool.specs.Nodes.{Nodes, value_at, IsLive, IsSpent, KeepsSpent, IsNext, live_count, SameRing, SameValues, SameCounts, SameRings, Updates, PartsFrom, UnitesRings, HasNode, key_in, next_slot};
@@ -85,9 +85,11 @@ impl<T, const R: usize> Pool<T, R> {
     /// Makes room for `n` more nodes, so that as many calls of `insert` can't fail.
     ///
     /// # Errors
-    /// `Full` where there would be more than 2^32 − 1 nodes, and `Memory` where there is no memory for them.
+    /// `Full` where there would be more than 2^32 − 1 nodes, and `Memory` where there is no memory for them; neither where
+    /// the room is there already.
     pub fn reserve(&mut self, n: usize) -> Result<(), PoolFault>
         ensures room { OnOk result (n ≤ self.new.spare) }
+        ensures ready { n ≤ self.old.spare → IsOk result }
         ensures full { (result ≡ Err PoolFault.Full) ↔ (2 ^ 32 - 1 < live_count self.old + n) }
         ensures values { SameValues self.old self.new }
         ensures counts { (live_count self.new ≡ live_count self.old) × (self.old.spare ≤ self.new.spare)
@@ -95,6 +97,9 @@ impl<T, const R: usize> Pool<T, R> {
         ensures spent { KeepsSpent self.old self.new }
         ensures rings { (r : ℕ) → r < R → SameRings self.old self.new r }
     {
+        if n <= self.spare() {
+            return Ok(());
+        }
         if n > 0xffff_ffff - self.nodes.len() {
             return Err(PoolFault::Full);
         }

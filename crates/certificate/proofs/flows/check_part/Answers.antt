@@ -6,7 +6,7 @@ use Rattle.certificate.specs.declared.fault.CheckFault.TheVariants as faults
 use Rattle.certificate.specs.Accounts.{AreBalanced, AreInside, IsEdge}
 use Rattle.certificate.proofs.Bookings.{member_place}
 use Rattle.certificate.proofs.FlowLemmas.{names_apart, certifies, inside_part, balanced_part}
-use Rattle.certificate.proofs.GraphLemmas.{says_whole}
+use Rattle.certificate.proofs.GraphLemmas.{fails_says}
 use Rattle.certificate.proofs.flows.check_part.Goals as goal
 
 pub open-requires-clause-known : goal.open-requires-clause-known
@@ -24,7 +24,7 @@ pub returns-in_err-flows_inside-clause-certified : goal.returns-in_err-flows_ins
 returns-in_err-flows_inside-clause-certified c =
     let p = err_from_is_err_and c.from_residual-in_err-flows_inside.result c.from_residual-in_err-flows_inside.ensures.1 in
     rw (p.1, p.2)
-    (says_whole faults.Flow (AreInside (hash.get nat_eq c.args.tables.now.names) (IsEdge c.args.tables.now) c.open.new.accounts c.args.part c.args.flows.now)
+    (fails_says faults.Flow (AreInside (hash.get nat_eq c.args.tables.now.names) (IsEdge c.args.tables.now) c.open.new.accounts c.args.part c.args.flows.now)
     (Certifies (rate_in c.args.txs.now) (IsEdge c.args.tables.now) c.args.ids.now c.args.flows.now) c.in_err-flows_inside.field-0.0
     (inside_part _ _ _ c.args.ids.now c.args.flows.now c.args.part c.open.new.accounts c.open.ensures.opened) c.in_err-flows_inside.ensures)
 
@@ -38,7 +38,7 @@ pub returns-in_err-balanced-clause-certified : goal.returns-in_err-balanced-clau
 returns-in_err-balanced-clause-certified c =
     let p = err_from_is_err_and c.from_residual-in_err-balanced.result c.from_residual-in_err-balanced.ensures.1 in
     rw (p.1, p.2)
-    (says_whole faults.Flow (AreBalanced (hash.get nat_eq c.args.tables.now.names) (rate_in c.args.txs.now) c.args.rate c.args.ids.now c.book.new.accounts)
+    (fails_says faults.Flow (AreBalanced (hash.get nat_eq c.args.tables.now.names) (rate_in c.args.txs.now) c.args.rate c.args.ids.now c.book.new.accounts)
     (Certifies (rate_in c.args.txs.now) (IsEdge c.args.tables.now) c.args.ids.now c.args.flows.now) c.in_err-balanced.field-0.0
     (balanced_part _ _ _ c.args.rate c.args.ids.now c.args.flows.now c.args.part c.open.new.accounts c.book.new.accounts c.open.ensures.opened c.book.ensures.parts c.book.ensures.net c.requires.summed) c.in_err-balanced.ensures)
 

@@ -9,7 +9,7 @@ use Rattle.certificate.specs.Orders.{IsOrderOf, AreRanks, Rise, AreOfOneGroup}
 use Rattle.certificate.specs.Parts.{ids_at, parts_of}
 use Rattle.certificate.specs.Places.{named}
 use Rattle.certificate.specs.Tables.{names_of}
-use Rattle.certificate.proofs.GraphLemmas.{says_whole}
+use Rattle.certificate.proofs.GraphLemmas.{says_whole, fails_says}
 use Rattle.certificate.proofs.OrderLemmas.{order_part, rise_part, groups_part, known_names, has_order}
 use Rattle.certificate.proofs.order.check_order.Goals as goal
 
@@ -31,7 +31,7 @@ returns-in_err-parents_first-clause-fault c =
     let ranks = subst (λ l. AreRanks names l c.in_ok-ranks.ranks.items) order c.in_ok-ranks.ensures.ranks in
     let p = err_from_is_err_and c.from_residual-in_err-parents_first.result c.from_residual-in_err-parents_first.ensures.1 in
     rw (p.1, p.2)
-    (says_whole Order (Rise c.as_slice-2.result.now c.as_slice-3.result.now) (HasOrder (graph_of c.args.txs.now (map (named names) pairs)) (parts_of c.args.parts.now)) c.in_err-parents_first.field-0.0
+    (fails_says Order (Rise c.as_slice-2.result.now c.as_slice-3.result.now) (HasOrder (graph_of c.args.txs.now (map (named names) pairs)) (parts_of c.args.parts.now)) c.in_err-parents_first.field-0.0
     (λ h.
     subst (λ r. Rise r c.as_slice-3.result.now) (sym c.as_slice-2.ensures.value)
     (subst (λ l. Rise c.in_ok-ranks.ranks.items l) (sym c.as_slice-3.ensures.value) (rise_part c.args.txs.now pairs c.args.parts.now c.in_ok-ranks.ranks.items c.requires.pairs ranks h)))
@@ -53,7 +53,7 @@ returns-in_err-parts_together-clause-fault c =
     let long : length c.as_slice-5.result.now ≡ length names = ap length c.as_slice-5.ensures.value ∙ c.in_ok-groups.ensures.sized ∙ sym (length-map c.args.txs.now (λ (tx : ℕ × ℤ × ℕ). tx.0)) in
     let p = err_from_is_err_and c.from_residual-in_err-parts_together.result c.from_residual-in_err-parts_together.ensures.1 in
     rw (p.1, p.2)
-    (says_whole Order ((k : ℕ) → k < length c.args.parts.now → AreOfOneGroup (hash.get nat_eq c.args.tables.now.names) c.as_slice-5.result.now (ids_at c.args.parts.now k))
+    (fails_says Order ((k : ℕ) → k < length c.args.parts.now → AreOfOneGroup (hash.get nat_eq c.args.tables.now.names) c.as_slice-5.result.now (ids_at c.args.parts.now k))
     (HasOrder (graph_of c.args.txs.now (map (named names) pairs)) (parts_of c.args.parts.now)) c.in_err-parts_together.field-0.0
     (λ h. groups_part c.args.txs.now _ pairs c.args.parts.now c.as_slice-5.result.now c.requires.places c.requires.pairs groups long h) c.in_err-parts_together.ensures)
 

@@ -12,7 +12,7 @@ pub loop-i-preserved : goal.loop-i-preserved
 loop-i-preserved g c = FilledUpTo-more (raised_by g.row.W c.args.by c.self.inside.words) g.row.W c.loop-i.words c.loop-i.i _ c.loop-i-test.true (search rules) c.loop-i.invariant (λ k bit. c.bits_raised.ensures k bit ∙ raised_there g.row.W c.self.inside.words c.args.by c.loop-i.i k c.loop-i.auto.i c.loop-i-test.true bit)
 
 pub invariant_of-result : goal.invariant_of-result
-invariant_of-result g c = AreWords-filled (raised_by g.row.W c.args.by c.self.inside.words) g.row.W c.loop-i.i c.loop-i.words (raised_far g.row.W c.self.inside.words c.args.by (λ p e. c.requires p (sym (ap (λ s. fin.contains s p) c.self.view_is) ∙ contains-members_of c.self.inside.words p ∙ e))) c.loop-i.invariant
+invariant_of-result g c = AreWords-filled (raised_by g.row.W c.args.by c.self.inside.words) g.row.W c.loop-i.i c.loop-i.words (raised_far g.row.W c.self.inside.words c.args.by (λ p e low. c.requires p (sym (ap (λ s. fin.contains s p) c.self.view_is) ∙ contains-members_of c.self.inside.words p ∙ e) low)) c.loop-i.invariant
 
 pub returns : goal.returns
 returns g c p =
