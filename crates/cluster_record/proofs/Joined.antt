@@ -5,12 +5,12 @@ use Rattle.std.proofs.lemmas.List.{get_or_append_left, get_or-append_right}
 use Rattle.std.proofs.lemmas.List.FromFn.{length-range_with_len, get_or-range_with_len}
 use Rattle.std.specs.List.{range_with_len}
 use Rattle.std.specs.FinSet as set
+use Rattle.graphs.specs.Closures.{Closure, is_member, is_ancestor, rate_of, members_of, IsClosed, IsMerged, AddsPair}
 use Rattle.lists.proofs.Walks.{Walk-trans, Walk-back, Walk-push}
 use Rattle.lists.specs.Walks.{Walk}
 use Rattle.bitset.specs.Places.{places, IsWithin}
 use Rattle.bitset.specs.Sets.{len-places}
 use Rattle.fee_rate.specs.declared.rates.FeeRate.{FeeRate}
-use Rattle.dep_graph.specs.Graph.{Graph, is_member, is_ancestor, rate_of, members_of, IsClosed, IsMerged, AddsPair}
 use Rattle.cluster_record.specs.Clusters.{AreOnce, IsRelated}
 use Rattle.cluster_record.specs.Changes.{Joins}
 use Rattle.cluster_record.specs.Named.{named, IsNamed}
@@ -31,26 +31,26 @@ dense f a (suc k) (suc n) few tells =
     ap (λ b. cond b (a ∷ filter f (range_with_len (a + 1) n)) (filter f (range_with_len (a + 1) n))) (tells a (omega arith) ∙ lt-ltb a (a + suc k) (omega arith))
     ∙ ap (λ xs. a ∷ xs) (dense f (a + 1) k n (omega arith) (λ p low. tells p (omega arith) ∙ ap (nat_lt p) (let e : a + suc k ≡ a + 1 + k = omega arith in e)))
 
-member_bound : (n : ℕ) (names : List ℕ) (g : Graph) → IsNamed n names g → IsWithin n (members_of g)
+member_bound : (n : ℕ) (names : List ℕ) (g : Closure) → IsNamed n names g → IsWithin n (members_of g)
 member_bound n names g kept p here =
     let low : p < length names = ltb-true p (length names) (sym (contains-members_of g p ∙ kept.members p) ∙ here) in
     let few : length names ≤ n = kept.few in omega arith
 
 -- the places of a cluster are the numbers from 0 on
-pub dense_places : (n : ℕ) (names : List ℕ) (g : Graph) → IsNamed n names g → places n (members_of g) ≡ range_with_len 0 (length names)
+pub dense_places : (n : ℕ) (names : List ℕ) (g : Closure) → IsNamed n names g → places n (members_of g) ≡ range_with_len 0 (length names)
 dense_places n names g kept = dense (set.contains (members_of g)) 0 (length names) n kept.few
     (λ p low. contains-members_of g p ∙ kept.members p ∙ ap (nat_lt p) (sym (zero-add (length names))))
 
-pub dense_long : (n : ℕ) (names : List ℕ) (g : Graph) → IsNamed n names g → length (places n (members_of g)) ≡ length names
+pub dense_long : (n : ℕ) (names : List ℕ) (g : Closure) → IsNamed n names g → length (places n (members_of g)) ≡ length names
 dense_long n names g kept = ap length (dense_places n names g kept) ∙ length-range_with_len 0 (length names)
 
-pub members_long : (n : ℕ) (names : List ℕ) (g : Graph) → IsNamed n names g → set.len (members_of g) ≡ length names
+pub members_long : (n : ℕ) (names : List ℕ) (g : Closure) → IsNamed n names g → set.len (members_of g) ≡ length names
 members_long n names g kept = len-places n (members_of g) (member_bound n names g kept) ∙ dense_long n names g kept
 
-dense_at : (n : ℕ) (names : List ℕ) (g : Graph) → IsNamed n names g → (i : ℕ) → i < length names → slice_index (places n (members_of g)) i ≡ i
+dense_at : (n : ℕ) (names : List ℕ) (g : Closure) → IsNamed n names g → (i : ℕ) → i < length names → slice_index (places n (members_of g)) i ≡ i
 dense_at n names g kept i low = ap (λ xs. slice_index xs i) (dense_places n names g kept) ∙ get_or-range_with_len 0 (length names) i 0 low ∙ zero-add i
 
-module _ (n : ℕ) (xs ys : List ℕ) (f g h : Graph) (one : IsNamed n xs f) (two : IsNamed n ys g) (few : length xs + length ys ≤ n)
+module _ (n : ℕ) (xs ys : List ℕ) (f g h : Closure) (one : IsNamed n xs f) (two : IsNamed n ys g) (few : length xs + length ys ≤ n)
     (apart : (id : ℕ) → Contains xs id → Contains ys id → ⊥) (merged : IsMerged f g (places n (members_of f)) (places n (members_of g)) h) where
   pub merged_member : (p : ℕ) → is_member h p ≡ nat_lt p (length xs + length ys)
   merged_member p = merged.members p ∙ ap₂ (λ a b. nat_lt p (a + b)) (dense_long n xs f one) (dense_long n ys g two)
@@ -58,7 +58,7 @@ module _ (n : ℕ) (xs ys : List ℕ) (f g h : Graph) (one : IsNamed n xs f) (tw
   pub across : (i j : ℕ) → i < length xs → length xs ≤ j → (is_ancestor h i j ≡ false) × (is_ancestor h j i ≡ false)
   across i j p q = merged.apart i j (subst (λ m. i < m) (sym (dense_long n xs f one)) p) (subst (λ m. m ≤ j) (sym (dense_long n xs f one)) q)
 
-  module _ (h' : Graph) (parent child : ℕ) (low : parent < length xs) (below : child < length ys) (pair : AddsPair h h' parent (length xs + child)) where
+  module _ (h' : Closure) (parent child : ℕ) (low : parent < length xs) (below : child < length ys) (pair : AddsPair h h' parent (length xs + child)) where
     abbrev all : List ℕ
     all = xs ++ ys
 
@@ -171,7 +171,7 @@ module _ (n : ℕ) (xs ys : List ℕ) (f g h : Graph) (one : IsNamed n xs f) (tw
 
     -- ---- by names
 
-    no_ancestor : (zs : List ℕ) (k : Graph) → AreOnce zs → (a d : ℕ) → (Stands zs a → ⊥) ⊎ (Stands zs d → ⊥) → is_ancestor (named zs k) a d ≡ false
+    no_ancestor : (zs : List ℕ) (k : Closure) → AreOnce zs → (a d : ℕ) → (Stands zs a → ⊥) ⊎ (Stands zs d → ⊥) → is_ancestor (named zs k) a d ≡ false
     no_ancestor zs k once a d absent = false_from_ne_true (is_ancestor (named zs k) a d) (λ up. let ends = ancestor_ends zs k once a d up in elim absent [ inl none ↦ none ends.0 | inr none ↦ none ends.1 ])
 
     not_second : (i : ℕ) → i < length xs → Stands ys (slice_index xs i) → ⊥

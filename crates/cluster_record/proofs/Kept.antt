@@ -2,10 +2,10 @@
 use Rattle.std.proofs.Common.{◌≡◌, ℕ, ℤ, ◌<◌, ◌≤◌, Bool, true, false, ◌&&◌, ◌||◌, List, [], ◌∷◌, length, slice_index, Option, Some, None, inl, inr, refl, sym, ap, ◌∙◌, subst, subst₂, lt-ltb, ltb-true, true≢false}
 use Rattle.std.proofs.lemmas.Bool.{cases_eq, cases_Bool, or_cases, and_parts}
 use Rattle.std.specs.FinMap as map
+use Rattle.graphs.specs.Closures.{Node, Closure, is_member, is_ancestor, rate_of, rate_in, no_rate, IsOrder, IsClosed, AddsPair, SetsFee}
 use Rattle.lists.proofs.Cases.{same_test}
 use Rattle.lists.specs.Walks.{Walk}
 use Rattle.fee_rate.specs.declared.rates.FeeRate.{FeeRate}
-use Rattle.dep_graph.specs.Graph.{Node, Graph, is_member, is_ancestor, rate_of, rate_in, no_rate, IsOrder, IsClosed, AddsPair, SetsFee}
 use Rattle.cluster_record.specs.Clusters.{AreOnce, IsRelated, AreLinked, IsCluster}
 use Rattle.cluster_record.specs.Named.{named, IsNamed}
 use Rattle.cluster_record.proofs.Names.{Stands, Contains-stands, Stands-contains, named-member, member-stands, named-rate, named-ancestor, ancestor-stands}
@@ -18,7 +18,7 @@ walk_over step other f each a b (v ∷ vs, walk) =
 
 -- ---- names and places
 
-module _ (n : ℕ) (names : List ℕ) (g : Graph) (kept : IsNamed n names g) where
+module _ (n : ℕ) (names : List ℕ) (g : Closure) (kept : IsNamed n names g) where
   pub place_member : (p : ℕ) → p < length names → is_member g p ≡ true
   place_member p low = kept.members p ∙ lt-ltb p (length names) low
 
@@ -93,10 +93,10 @@ by_places names F G agree first second a d = same_test (F a d) (G a d)
     at_names one two = subst₂ (λ x y. F x y ≡ G x y) one.2 two.2 (agree one.0 two.0 one.1 two.1)
 
 -- a graph's names stand at places
-pub ancestor_ends : (names : List ℕ) (g : Graph) → AreOnce names → (a d : ℕ) → is_ancestor (named names g) a d ≡ true → Stands names a × Stands names d
+pub ancestor_ends : (names : List ℕ) (g : Closure) → AreOnce names → (a d : ℕ) → is_ancestor (named names g) a d ≡ true → Stands names a × Stands names d
 ancestor_ends names g once a d up = let at = ancestor-stands names g once a d up in ((at.0, at.2, at.4), (at.1, at.3, at.5))
 
-pub rate-none : (g : Graph) (id : ℕ) → is_member g id ≡ false → rate_of g id ≡ no_rate
+pub rate-none : (g : Closure) (id : ℕ) → is_member g id ≡ false → rate_of g id ≡ no_rate
 unfolding is_member rate_of
 rate-none g id absent = cases (map.get g id) absent
   where
@@ -104,7 +104,7 @@ rate-none g id absent = cases (map.get g id) absent
     cases None e = refl
     cases (Some x) e = absurd (true≢false e)
 
-module _ (names : List ℕ) (g g' : Graph) (once : AreOnce names) where
+module _ (names : List ℕ) (g g' : Closure) (once : AreOnce names) where
   pub same_members : (id : ℕ) → is_member (named names g') id ≡ is_member (named names g) id
   same_members id = same_test (is_member (named names g') id) (is_member (named names g) id)
       (λ e. let at = member-stands names g' once id e in subst (λ x. is_member (named names g) x ≡ true) at.2 (named-member names g once at.0 at.1))
@@ -144,7 +144,7 @@ module _ (names : List ℕ) (g g' : Graph) (once : AreOnce names) where
         (ancestor_ends names g' once) (ancestor_ends names g once);
   }
 
-module _ (n : ℕ) (names : List ℕ) (g g' : Graph) (kept : IsNamed n names g) (closed : IsClosed n g') where
+module _ (n : ℕ) (names : List ℕ) (g g' : Closure) (kept : IsNamed n names g) (closed : IsClosed n g') where
   more_related : ((a d : ℕ) → is_ancestor g a d ≡ true → is_ancestor g' a d ≡ true) → (p q : ℕ) → IsRelated g p q → IsRelated g' p q
   more_related more p q related = elim related [ inl up ↦ inl (more p q up) | inr down ↦ inr (more q p down) ]
 

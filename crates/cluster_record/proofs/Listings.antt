@@ -7,27 +7,27 @@ use Rattle.std.specs.Ordering.{nat_cmp}
 use Rattle.std.specs.Cmp.{nat_cmp_total}
 use Rattle.std.specs.FinSet as set
 use Rattle.std.specs.FinMap as map
+use Rattle.graphs.specs.Closures.{Closure, is_member, is_ancestor, rate_of, ancestors_of, descendants_of, members_of}
 use Rattle.bitset.specs.Places.{first_places, IsWithin}
 use Rattle.bitset.specs.Sets.{contains-first_places}
 use Rattle.graphs.specs.Graphs.{Lists}
 use Rattle.graphs.proofs.ListLemmas.{Lists-for}
 use Rattle.fee_rate.specs.declared.rates.FeeRate.{FeeRate}
-use Rattle.dep_graph.specs.Graph.{Graph, is_member, is_ancestor, rate_of, ancestors_of, descendants_of, members_of}
 use Rattle.cluster_record.specs.Changes.{IsChosen}
 use Rattle.cluster_record.specs.Named.{named, IsNamed}
 use Rattle.cluster_record.proofs.Names.{Contains-stands, Stands-contains, named-ancestor, ancestor-stands, named-rate}
 use Rattle.cluster_record.proofs.Kept.{place_member, member_place}
 
-pub contains-members_of : (g : Graph) (p : ℕ) → set.contains (members_of g) p ≡ is_member g p
+pub contains-members_of : (g : Closure) (p : ℕ) → set.contains (members_of g) p ≡ is_member g p
 unfolding members_of is_member
 contains-members_of g p = set.contains-from_list nat_cmp_total (map.keys g) p ∙ sym (map.contains_key-keys g p)
 
-pub contains-descendants_of : (g : Graph) (p d : ℕ) → set.contains (descendants_of g p) d ≡ (is_member g d && is_ancestor g p d)
+pub contains-descendants_of : (g : Closure) (p d : ℕ) → set.contains (descendants_of g p) d ≡ (is_member g d && is_ancestor g p d)
 contains-descendants_of g p d =
     set.contains-retain (members_of g) (λ x. is_ancestor g p x) d (λ x tied. ap (is_ancestor g p) (sym (set.nat_cmp-IsAntisymmetric d x tied)))
     ∙ ap (λ b. b && is_ancestor g p d) (contains-members_of g d)
 
-module _ (n : ℕ) (names : List ℕ) (g : Graph) (kept : IsNamed n names g) where
+module _ (n : ℕ) (names : List ℕ) (g : Closure) (kept : IsNamed n names g) where
   pub all_within : (chosen : set.FinSet nat_cmp) → chosen ≡ first_places (length names) → IsWithin (length names) chosen
   all_within chosen is p here = ltb-true p (length names) (sym (ap (λ s. set.contains s p) is ∙ contains-first_places (length names) p) ∙ here)
 

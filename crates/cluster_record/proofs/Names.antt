@@ -6,8 +6,8 @@ use Rattle.std.specs.Ordering.{nat_cmp}
 use Rattle.std.specs.Cmp.{nat_cmp_total, unsigned_tied}
 use Rattle.std.specs.FinSet as set
 use Rattle.std.specs.FinMap as map
+use Rattle.graphs.specs.Closures.{Node, Closure, is_member, is_ancestor, ancestors_of, rate_of, rate_in, ancestors_in}
 use Rattle.bitset.specs.Sets.{contains-insert, contains-empty}
-use Rattle.dep_graph.specs.Graph.{Node, Graph, is_member, is_ancestor, ancestors_of, rate_of, rate_in, ancestors_in}
 use Rattle.cluster_record.specs.Clusters.{AreOnce}
 use Rattle.cluster_record.specs.Named.{names_where, named_node, named_below, named}
 
@@ -45,15 +45,15 @@ names_where-contains names f (suc n) p low passes = name_more names f n p (f n) 
 
 -- ---- what a name has
 
-get-more : (names : List ℕ) (g : Graph) (n id : ℕ) → map.get (named_below names g (suc n)) id ≡ cond (nat_eq id (slice_index names n)) (Some (named_node names g n)) (map.get (named_below names g n) id)
+get-more : (names : List ℕ) (g : Closure) (n id : ℕ) → map.get (named_below names g (suc n)) id ≡ cond (nat_eq id (slice_index names n)) (Some (named_node names g n)) (map.get (named_below names g n) id)
 unfolding named_below
 get-more names g n id = map.get-insert nat_cmp_total (named_below names g n) (slice_index names n) (named_node names g n) id ∙ ap (λ b. cond b (Some (named_node names g n)) (map.get (named_below names g n) id)) (unsigned_tied id (slice_index names n))
 
-get-none : (names : List ℕ) (g : Graph) (id : ℕ) → map.get (named_below names g 0) id ≡ None
+get-none : (names : List ℕ) (g : Closure) (id : ℕ) → map.get (named_below names g 0) id ≡ None
 unfolding named_below
 get-none names g id = map.get-empty nat_cmp id
 
-get-here : (names : List ℕ) (g : Graph) (n p : ℕ) → AreOnce names → n ≤ length names → p < n → map.get (named_below names g n) (slice_index names p) ≡ Some (named_node names g p)
+get-here : (names : List ℕ) (g : Closure) (n p : ℕ) → AreOnce names → n ≤ length names → p < n → map.get (named_below names g n) (slice_index names p) ≡ Some (named_node names g p)
 get-here names g zero p once within low = absurd (omega arith)
 get-here names g (suc n) p once within low = get-more names g n (slice_index names p) ∙ elim (cases_eq p n) as (λ _. cond (nat_eq (slice_index names p) (slice_index names n)) (Some (named_node names g n)) (map.get (named_below names g n) (slice_index names p)) ≡ Some (named_node names g p)) [
   | inl same ↦ ap (λ b. cond b (Some (named_node names g n)) (map.get (named_below names g n) (slice_index names p))) (eq-eqb (slice_index names p) (slice_index names n) (ap (slice_index names) same)) ∙ ap (λ m. Some (named_node names g m)) (sym same)
@@ -64,7 +64,7 @@ there_more : (names : List ℕ) (n id : ℕ) (b : Bool) (x : Node) (o : Option N
 there_more names n id true x o is rest e = (n, omega arith, sym (eqb-true id (slice_index names n) is))
 there_more names n id false x o is rest e = let h = rest e in (h.0, omega (arith, h.1), h.2)
 
-get-there : (names : List ℕ) (g : Graph) (n id : ℕ) → is_some (map.get (named_below names g n) id) ≡ true → (p : ℕ) × (p < n) × (slice_index names p ≡ id)
+get-there : (names : List ℕ) (g : Closure) (n id : ℕ) → is_some (map.get (named_below names g n) id) ≡ true → (p : ℕ) × (p < n) × (slice_index names p ≡ id)
 get-there names g zero id e = absurd (true≢false (sym e ∙ ap is_some (get-none names g id)))
 get-there names g (suc n) id e = there_more names n id (nat_eq id (slice_index names n)) (named_node names g n) (map.get (named_below names g n) id) refl (get-there names g n id) (sym (ap is_some (get-more names g n id)) ∙ e)
 
@@ -78,7 +78,7 @@ Contains-stands names id h = (h.0, h.1, get_or_default names h.0 0 id h.1 ∙ h.
 pub Stands-contains : (names : List ℕ) (id : ℕ) → Stands names id → Contains names id
 Stands-contains names id h = (h.0, h.1, get_or_default names h.0 id 0 h.1 ∙ h.2)
 
-module _ (names : List ℕ) (g : Graph) (once : AreOnce names) where
+module _ (names : List ℕ) (g : Closure) (once : AreOnce names) where
   pub named-member : (p : ℕ) → p < length names → is_member (named names g) (slice_index names p) ≡ true
   unfolding is_member named
   named-member p low = ap is_some (get-here names g (length names) p once (omega arith) low)

@@ -3,19 +3,19 @@ use Rattle.std.proofs.Common.{◌≡◌, ℕ, ◌<◌, ◌≤◌, true, nat_lt, 
 use Rattle.std.proofs.lemmas.List.{length-map, get_or-map}
 use Rattle.std.specs.Ordering.{nat_cmp}
 use Rattle.std.specs.FinSet as set
+use Rattle.graphs.specs.Closures.{Closure, is_ancestor, rate_of, IsClosed, IsNear, IsPart}
 use Rattle.lists.specs.Walks.{Walk, IsWalk}
 use Rattle.lists.proofs.Rising.{rising_once}
 use Rattle.bitset.specs.Places.{places, IsWithin}
 use Rattle.bitset.specs.Sets.{IsRising-places, Contains-places, places-Contains}
 use Rattle.fee_rate.specs.declared.rates.FeeRate.{FeeRate}
-use Rattle.dep_graph.specs.Graph.{Graph, is_ancestor, rate_of, IsClosed, IsNear, IsPart}
 use Rattle.cluster_record.specs.Clusters.{IsRelated}
 use Rattle.cluster_record.specs.Changes.{IsChosen, IsPartOf}
 use Rattle.cluster_record.specs.Named.{named, IsNamed}
 use Rattle.cluster_record.proofs.Names.{Contains-stands, named-ancestor, ancestor-stands, named-rate}
 use Rattle.cluster_record.proofs.Lists.{chosen_once, chosen_few, names_chosen}
 
-module _ (n : ℕ) (names : List ℕ) (g h : Graph) (chosen : set.FinSet nat_cmp) (kept : IsNamed n names g) (within : IsWithin (length names) chosen) (part : IsPart g (places n chosen) h) (closed : IsClosed n h)
+module _ (n : ℕ) (names : List ℕ) (g h : Closure) (chosen : set.FinSet nat_cmp) (kept : IsNamed n names g) (within : IsWithin (length names) chosen) (part : IsPart g (places n chosen) h) (closed : IsClosed n h)
     (joined : (p q : ℕ) → set.contains chosen p ≡ true → set.contains chosen q ≡ true → Walk (IsNear g chosen) p q) where
   abbrev ps : List ℕ
   ps = places n chosen

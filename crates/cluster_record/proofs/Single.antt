@@ -6,9 +6,9 @@ use Rattle.std.specs.Ordering.{nat_cmp}
 use Rattle.std.specs.FinMap as map
 use Rattle.std.specs.FinSet as set
 use Rattle.std.proofs.Common.{Option}
+use Rattle.graphs.specs.Closures.{Node, Closure, members_of, is_member, is_ancestor, ancestors_of, ancestors_in, rate_of, IsClosed, AddsPlace}
 use Rattle.bitset.specs.Sets.{contains-empty}
 use Rattle.fee_rate.specs.declared.rates.FeeRate.{FeeRate}
-use Rattle.dep_graph.specs.Graph.{Node, Graph, members_of, is_member, is_ancestor, ancestors_of, ancestors_in, rate_of, IsClosed, AddsPlace}
 use Rattle.cluster_record.specs.Clusters.{AreOnce}
 use Rattle.cluster_record.specs.Changes.{IsSingle}
 use Rattle.cluster_record.specs.Named.{named, IsNamed}
@@ -34,7 +34,7 @@ none_above a d = ap (λ (o : Option Node). set.contains (ancestors_in o) a) (map
 once_one : (id : ℕ) → AreOnce (id ∷ [])
 once_one id p q low below same = omega arith
 
-module _ (n : ℕ) (old g : Graph) (id : ℕ) (rate : FeeRate) (place : ℕ) (none : old ≡ map.empty) (adds : AddsPlace old g rate place) where
+module _ (n : ℕ) (old g : Closure) (id : ℕ) (rate : FeeRate) (place : ℕ) (none : old ≡ map.empty) (adds : AddsPlace old g rate place) where
   first_place : place ≡ 0
   first_place = elim (cases_eq place 0) [
     | inl same ↦ same

@@ -9,12 +9,12 @@ use Rattle.std.specs.Ordering.{nat_cmp}
 use Rattle.std.specs.FinSet as set
 use Rattle.std.specs.List.{range_with_len}
 use Rattle.std.proofs.lemmas.List.FromFn.{length-range_with_len, get_or-range_with_len}
+use Rattle.graphs.specs.Closures.{Closure, is_ancestor, rate_of, HoldsMembers, IsNear}
 use Rattle.lists.proofs.Walks.{Walk-push, Walk-trans, Walk-back}
 use Rattle.lists.specs.Walks.{Walk, IsWalk}
 use Rattle.lists.proofs.Entries.{Contains-cases}
 use Rattle.bitset.specs.Places.{places, first_places, IsLeast, IsWithin}
 use Rattle.bitset.specs.Sets.{contains-first_places, contains-remove, contains-difference, contains-empty, len-places}
-use Rattle.dep_graph.specs.Graph.{Graph, is_ancestor, rate_of, HoldsMembers, IsNear}
 use Rattle.cluster_record.specs.Clusters.{Cluster, IsRelated, IsCluster, AreApart}
 use Rattle.cluster_record.specs.Changes.{IsChosen, IsPartOf, IsAncestorIn, IsSplit}
 use Rattle.cluster_record.specs.Named.{named, IsNamed}
@@ -23,11 +23,11 @@ use Rattle.cluster_record.proofs.Kept.{place_member}
 
 -- ---- walks between near places
 
-near_back : (g : Graph) (s : set.FinSet nat_cmp) (a b : ℕ) → IsNear g s a b → IsNear g s b a
+near_back : (g : Closure) (s : set.FinSet nat_cmp) (a b : ℕ) → IsNear g s a b → IsNear g s b a
 near_back g s a b near = record { from_within = near.to_within; to_within = near.from_within; related = elim near.related [ inl up ↦ inr up | inr down ↦ inl down ] }
 
 -- a walk from a place of a component stays in it
-kept_inside : (g : Graph) (s t : set.FinSet nat_cmp) (first : ℕ) → ((p : ℕ) → (set.contains t p ≡ true) ↔ Walk (IsNear g s) first p) → (a b : ℕ) (vs : List ℕ) → set.contains t a ≡ true → IsWalk (IsNear g s) a vs b → Walk (IsNear g t) a b
+kept_inside : (g : Closure) (s t : set.FinSet nat_cmp) (first : ℕ) → ((p : ℕ) → (set.contains t p ≡ true) ↔ Walk (IsNear g s) first p) → (a b : ℕ) (vs : List ℕ) → set.contains t a ≡ true → IsWalk (IsNear g s) a vs b → Walk (IsNear g t) a b
 kept_inside g s t first is a b [] here same = ([], same)
 kept_inside g s t first is a b (v ∷ vs) here walk =
     let there : set.contains t v ≡ true = (is v).1 (Walk-push (IsNear g s) first a v ((is a).0 here) walk.0) in
@@ -35,12 +35,12 @@ kept_inside g s t first is a b (v ∷ vs) here walk =
     (v ∷ rest.0, (record { from_within = here; to_within = there; related = walk.0.related }, rest.1))
 
 -- a component is one within itself
-pub component_whole : (g : Graph) (s t : set.FinSet nat_cmp) (first : ℕ) → ((p : ℕ) → (set.contains t p ≡ true) ↔ Walk (IsNear g s) first p) → (p q : ℕ) → set.contains t p ≡ true → set.contains t q ≡ true → Walk (IsNear g t) p q
+pub component_whole : (g : Closure) (s t : set.FinSet nat_cmp) (first : ℕ) → ((p : ℕ) → (set.contains t p ≡ true) ↔ Walk (IsNear g s) first p) → (p q : ℕ) → set.contains t p ≡ true → set.contains t q ≡ true → Walk (IsNear g t) p q
 component_whole g s t first is p q here there =
     let walk = Walk-trans (IsNear g s) p first q (Walk-back (IsNear g s) (near_back g s) first p ((is p).0 here)) ((is q).0 there) in kept_inside g s t first is p q walk.0 here walk.1
 
 -- a component lies within what it is one of
-pub component_inside : (g : Graph) (s t : set.FinSet nat_cmp) (first : ℕ) → set.contains s first ≡ true → ((p : ℕ) → (set.contains t p ≡ true) ↔ Walk (IsNear g s) first p) → (p : ℕ) → set.contains t p ≡ true → set.contains s p ≡ true
+pub component_inside : (g : Closure) (s t : set.FinSet nat_cmp) (first : ℕ) → set.contains s first ≡ true → ((p : ℕ) → (set.contains t p ≡ true) ↔ Walk (IsNear g s) first p) → (p : ℕ) → set.contains t p ≡ true → set.contains s p ≡ true
 component_inside g s t first there is p here = let walk = (is p).0 here in last first p walk.0 there walk.1
   where
     last : (a b : ℕ) (vs : List ℕ) → set.contains s a ≡ true → IsWalk (IsNear g s) a vs b → set.contains s b ≡ true
@@ -90,7 +90,7 @@ pub record IsDoneAt (names : List ℕ) (place : ℕ) (rest : set.FinSet nat_cmp)
   pub taken : set.contains rest p ≡ false
 
 -- the places of a and d, both done, of which the one is an ancestor of the other
-pub record AreDoneAt (names : List ℕ) (g : Graph) (place : ℕ) (rest : set.FinSet nat_cmp) (a d : ℕ) : Type 0 where
+pub record AreDoneAt (names : List ℕ) (g : Closure) (place : ℕ) (rest : set.FinSet nat_cmp) (a d : ℕ) : Type 0 where
   pub first : ℕ
   pub second : ℕ
   pub first_done : IsDoneAt names place rest first
@@ -100,7 +100,7 @@ pub record AreDoneAt (names : List ℕ) (g : Graph) (place : ℕ) (rest : set.Fi
   pub above : is_ancestor g first second ≡ true
 
 -- what is left to do, and the parts so far
-pub record Splitting (n : ℕ) (names : List ℕ) (g : Graph) (place : ℕ) (rest : set.FinSet nat_cmp) (parts : List Cluster) : Type 0 where
+pub record Splitting (n : ℕ) (names : List ℕ) (g : Closure) (place : ℕ) (rest : set.FinSet nat_cmp) (parts : List Cluster) : Type 0 where
   pub among : (p : ℕ) → set.contains rest p ≡ true → (p < length names) × (p ≢ place)
   pub alone : (p q : ℕ) → p < length names → p ≢ place → set.contains rest q ≡ true → IsRelated g p q → set.contains rest p ≡ true
   pub there : (a d : ℕ) → IsAncestorIn parts a d → AreDoneAt names g place rest a d
@@ -110,7 +110,7 @@ pub record Splitting (n : ℕ) (names : List ℕ) (g : Graph) (place : ℕ) (res
   pub whole : All (IsCluster n) parts
   pub filled : (c : Cluster) → Contains parts c → c.names ≢ []
 
-module _ (n : ℕ) (names : List ℕ) (g : Graph) (kept : IsNamed n names g) (place : ℕ) where
+module _ (n : ℕ) (names : List ℕ) (g : Closure) (kept : IsNamed n names g) (place : ℕ) where
   abbrev IsDone : set.FinSet nat_cmp → ℕ → Type 0
   IsDone rest p = IsDoneAt names place rest p
 

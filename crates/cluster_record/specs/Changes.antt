@@ -3,8 +3,8 @@ use Rattle.std.specs.Prelude.{◌≡◌, ◌≢◌, ℕ, ◌<◌, ◌↔◌, tru
 use Rattle.std.specs.Ordering.{nat_cmp}
 use Rattle.std.specs.FinSet as set
 use Rattle.std.specs.List.{AllPairs}
+use Rattle.graphs.specs.Closures.{Closure, is_member, is_ancestor, rate_of}
 use Rattle.fee_rate.specs.declared.rates.FeeRate.{FeeRate}
-use Rattle.dep_graph.specs.Graph.{Graph, is_member, is_ancestor, rate_of}
 use Rattle.cluster_record.specs.Clusters.{Cluster, AreApart}
 
 -- the cluster of one name
@@ -14,7 +14,7 @@ pub record IsSingle (id : ℕ) (rate : FeeRate) (c : Cluster) : Type 0 where
   pub ancestors : (a d : ℕ) → is_ancestor c.graph a d ≡ (nat_eq a id && nat_eq d id)
 
 -- the names of two graphs, and one more pair, from a parent in the first to a child in the second
-pub record Joins (f g : Graph) (parent child : ℕ) (h : Graph) : Type 0 where
+pub record Joins (f g : Closure) (parent child : ℕ) (h : Closure) : Type 0 where
   pub first_rates : (id : ℕ) → is_member f id ≡ true → rate_of h id ≡ rate_of f id
   pub second_rates : (id : ℕ) → is_member g id ≡ true → rate_of h id ≡ rate_of g id
   pub ancestors : (a d : ℕ) → is_ancestor h a d ≡ (is_ancestor f a d || (is_ancestor g a d || (is_ancestor f a parent && is_ancestor g child d)))
@@ -35,7 +35,7 @@ IsAncestorIn parts a d = (c : Cluster) × Contains parts c × (is_ancestor c.gra
 
 -- What is left of a cluster without a name: each part is a component and has a name, the other names keep their rates
 -- and the relation among themselves, and names that are related are in one part.
-pub record IsSplit (old : Graph) (gone : ℕ) (parts : List Cluster) : Type 0 where
+pub record IsSplit (old : Closure) (gone : ℕ) (parts : List Cluster) : Type 0 where
   pub ancestors : (a d : ℕ) → IsAncestorIn parts a d ↔ ((a ≢ gone) × (d ≢ gone) × (is_ancestor old a d ≡ true))
   pub rates : (c : Cluster) → Contains parts c → (id : ℕ) → Contains c.names id → rate_of c.graph id ≡ rate_of old id
   pub apart : AllPairs AreApart parts

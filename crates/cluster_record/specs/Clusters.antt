@@ -1,22 +1,22 @@
 -- A cluster: its names in the order of their places, and the graph of these names.
 use Rattle.std.specs.Prelude.{◌≡◌, ℕ, ◌<◌, ◌≤◌, ◌⊎◌, ◌↔◌, true, List, length, slice_index, Contains, refl}
 use Rattle.std.specs.Coded.{Coded, code_by, coded×, coded_ℕ, coded_list}
+use Rattle.graphs.specs.Closures.{Closure, closure_code, is_member, is_ancestor, rate_of, IsOrder}
 use Rattle.lists.specs.Walks.{Walk}
-use Rattle.dep_graph.specs.Graph.{Graph, graph_code, is_member, is_ancestor, rate_of, IsOrder}
 
 pub record Cluster : Type 0 where
   pub names : List ℕ
-  pub graph : Graph
+  pub graph : Closure
 
 abbrev pub cluster_code : Coded Cluster
-cluster_code = code_by (List ℕ × Graph) (coded× (coded_list coded_ℕ) graph_code) (λ c. (c.names, c.graph)) (λ p. record { names = p.0; graph = p.1 }) (λ _. refl)
+cluster_code = code_by (List ℕ × Closure) (coded× (coded_list coded_ℕ) closure_code) (λ c. (c.names, c.graph)) (λ p. record { names = p.0; graph = p.1 }) (λ _. refl)
 
 -- one of two is an ancestor of the other
-abbrev pub IsRelated : Graph → ℕ → ℕ → Type 0
+abbrev pub IsRelated : Closure → ℕ → ℕ → Type 0
 IsRelated g a b = (is_ancestor g a b ≡ true) ⊎ (is_ancestor g b a ≡ true)
 
 -- steps to ancestors and to descendants lead from the one to the other
-abbrev pub AreLinked : Graph → ℕ → ℕ → Type 0
+abbrev pub AreLinked : Closure → ℕ → ℕ → Type 0
 AreLinked g a b = Walk (IsRelated g) a b
 
 -- no name stands at two places

@@ -3,8 +3,8 @@ use Rattle.std.specs.Prelude.{◌≡◌, ℕ, zero, suc, ◌<◌, ◌≤◌, Boo
 use Rattle.std.specs.Ordering.{nat_cmp}
 use Rattle.std.specs.FinSet as set
 use Rattle.std.specs.FinMap as map
+use Rattle.graphs.specs.Closures.{Node, Closure, is_member, is_ancestor, rate_of, IsOrder}
 use Rattle.lists.specs.Walks.{Walk}
-use Rattle.dep_graph.specs.Graph.{Node, Graph, is_member, is_ancestor, rate_of, IsOrder}
 use Rattle.cluster_record.specs.Clusters.{AreOnce, IsRelated}
 
 -- the names of the places below n that pass a test
@@ -13,20 +13,20 @@ names_where names f zero = set.empty
 names_where names f (suc n) = cond (f n) (set.insert (names_where names f n) (slice_index names n)) (names_where names f n)
 
 -- what is known of a place, by names
-abbrev pub named_node : List ℕ → Graph → ℕ → Node
+abbrev pub named_node : List ℕ → Closure → ℕ → Node
 named_node names g p = record { rate = rate_of g p; ancestors = names_where names (λ a. is_ancestor g a p) (length names) }
 
 -- the graph of the names of the places below n
-unfoldable pub named_below : List ℕ → Graph → ℕ → Graph
+unfoldable pub named_below : List ℕ → Closure → ℕ → Closure
 named_below names g zero = map.empty
 named_below names g (suc n) = map.insert (named_below names g n) (slice_index names n) (named_node names g n)
 
 -- the graph of the names, each with what its place has
-unfoldable pub named : List ℕ → Graph → Graph
+unfoldable pub named : List ℕ → Closure → Closure
 named names g = named_below names g (length names)
 
 -- What is kept of a cluster: its places are the numbers from 0 on, each has one name, and the places are one component.
-pub record IsNamed (n : ℕ) (names : List ℕ) (g : Graph) : Type 0 where
+pub record IsNamed (n : ℕ) (names : List ℕ) (g : Closure) : Type 0 where
   pub few : length names ≤ n
   pub once : AreOnce names
   pub members : (p : ℕ) → is_member g p ≡ nat_lt p (length names)

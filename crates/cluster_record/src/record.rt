@@ -1,8 +1,8 @@
 ghost use Rattle.std.specs.Prelude.{◌≡◌, ℕ, ◌+◌, ◌*◌, ◌<◌, ◌≤◌, ◌++◌, true, false, length, slice_index, map, sum_by, All, Contains, IfOk, OnOk};
 ghost use Rattle.std.specs.FinSet as set;
+ghost use Rattle.graphs.specs.Closures.{is_ancestor, rate_of, AddsPair, SetsFee, IsNear};
 ghost use Rattle.lists.specs.Walks.{Walk};
 ghost use Rattle.bitset.specs.Places.{IsWithin, places};
-ghost use Rattle.dep_graph.specs.Graph.{is_ancestor, rate_of, AddsPair, SetsFee, IsNear};
 ghost use Rattle.graphs.specs.Graphs.{Lists};
 ghost use Rattle.cluster_record.specs.Clusters.{IsCluster, AreOnce, AreApart};
 ghost use Rattle.cluster_record.specs.Named.{named, IsNamed};

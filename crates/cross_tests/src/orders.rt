@@ -1,9 +1,9 @@
 //! Each order that `optimal` leaves is a certificate that `check` accepts.
 
 ghost use Rattle.std.specs.Prelude.{◌≡◌, ◌≢◌, ◌*◌, ◌^◌, ◌<◌, ◌≤◌, [], All, IfOk};
+ghost use Rattle.graphs.specs.Closures.{is_member};
 ghost use Rattle.certificate.specs.Accounts.{amount_of};
 ghost use Rattle.certificate.specs.Answers.{AreClaims};
-ghost use Rattle.dep_graph.specs.Graph.{is_member};
 
 use certificate::{EdgeList, FlowList, Part, TxList, Written, check};
 use closure_flow::Scratch;

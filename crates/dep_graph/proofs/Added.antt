@@ -6,10 +6,10 @@ use Rattle.std.specs.Ordering.{nat_cmp}
 use Rattle.std.specs.Cmp.{nat_cmp_total}
 use Rattle.std.specs.FinSet as fin
 use Rattle.std.specs.FinMap as map
+use Rattle.graphs.specs.Closures.{no_rate}
 use Rattle.bitset.specs.Places.{IsWithin}
 use Rattle.bitset.specs.Sets.{len-places, contains-insert, contains-empty}
 use Rattle.fee_rate.specs.declared.rates.FeeRate.{FeeRate}
-use Rattle.dep_graph.specs.Graph.{no_rate}
 use Rattle.dep_graph.specs.Rows.{set_at, node_at, graph_from, above, IsKept}
 use Rattle.dep_graph.specs.Changes.{PutsAt}
 use Rattle.dep_graph.proofs.Kept.{get-graph_from, IsOrder-like}

@@ -4,22 +4,22 @@ use Rattle.std.proofs.lemmas.Bool.{cases_eq, cases_Bool, and_parts, false_from_n
 use Rattle.std.proofs.lemmas.List.{get_or_read_under, get_or-set_same, get_or-set_other}
 use Rattle.std.specs.Ordering.{nat_cmp}
 use Rattle.std.specs.FinSet as fin
+use Rattle.graphs.specs.Closures.{Closure, is_member, rate_of, is_ancestor, no_rate, AddsPlace, AddsPair, SetsFee, DropsPlace}
 use Rattle.bitset.specs.Places.{IsWithin, IsLeast, first_places}
 use Rattle.bitset.specs.Sets.{contains-insert, contains-remove, contains-union, contains-difference, contains-empty, contains-first_places}
 use Rattle.fee_rate.specs.declared.rates.FeeRate.{FeeRate}
-use Rattle.dep_graph.specs.Graph.{Graph, is_member, rate_of, is_ancestor, no_rate, AddsPlace, AddsPair, SetsFee, DropsPlace}
 use Rattle.dep_graph.specs.Rows.{rate_at, set_at, graph_from, above, IsKept}
 use Rattle.dep_graph.specs.Changes.{ChangesAt, PutsAt, gives, takes}
 use Rattle.dep_graph.proofs.Kept.{is_member-graph_from, rate_of-graph_from, is_ancestor-graph_from, is_member-kept, is_ancestor-kept, kept_within, member_there, IsOrder-like}
 use Rattle.dep_graph.proofs.Orders.{with_pair, with_place, on, IsOrder-pair, IsOrder-place, IsOrder-on}
 
 -- the rate of a kept member, of any graph that is kept
-pub rate_of-kept : (n : ℕ) (members : fin.FinSet nat_cmp) (rates : List FeeRate) (up : List (fin.FinSet nat_cmp)) (g : Graph) → IsWithin n members → graph_from n members rates up ≡ g → (p : ℕ) → rate_of g p ≡ cond (fin.contains members p) (rate_at rates p) no_rate
+pub rate_of-kept : (n : ℕ) (members : fin.FinSet nat_cmp) (rates : List FeeRate) (up : List (fin.FinSet nat_cmp)) (g : Closure) → IsWithin n members → graph_from n members rates up ≡ g → (p : ℕ) → rate_of g p ≡ cond (fin.contains members p) (rate_at rates p) no_rate
 rate_of-kept n members rates up g within view p = ap (λ g. rate_of g p) (sym view) ∙ rate_of-graph_from n members rates up within p
 
 -- ---- another fee
 
-pub SetsFee-kept : (n : ℕ) (members : fin.FinSet nat_cmp) (old new : List FeeRate) (up : List (fin.FinSet nat_cmp)) (g : Graph) (place : ℕ) (fee : ℤ) → IsWithin n members → graph_from n members old up ≡ g → fin.contains members place ≡ true
+pub SetsFee-kept : (n : ℕ) (members : fin.FinSet nat_cmp) (old new : List FeeRate) (up : List (fin.FinSet nat_cmp)) (g : Closure) (place : ℕ) (fee : ℤ) → IsWithin n members → graph_from n members old up ≡ g → fin.contains members place ≡ true
     → rate_at new place ≡ record { fee = fee; size = (rate_at old place).size } → ((p : ℕ) → p ≢ place → rate_at new p ≡ rate_at old p) → SetsFee g (graph_from n members new up) place fee
 SetsFee-kept n members old new up g place fee within view there now others = record {
   members = λ p. is_member-graph_from n members new up within p ∙ sym (ap (λ g. is_member g p) (sym view) ∙ is_member-graph_from n members old up within p);
@@ -40,7 +40,7 @@ IsKept-rates n members old new up down h long = record {
 }
 
 -- the rate of one member is written
-pub set_fee_is : (n : ℕ) (members : fin.FinSet nat_cmp) (rates : List FeeRate) (up : List (fin.FinSet nat_cmp)) (g : Graph) (place k : ℕ) (fee : ℤ) (item rate : FeeRate) → IsWithin n members → graph_from n members rates up ≡ g → fin.contains members place ≡ true
+pub set_fee_is : (n : ℕ) (members : fin.FinSet nat_cmp) (rates : List FeeRate) (up : List (fin.FinSet nat_cmp)) (g : Closure) (place k : ℕ) (fee : ℤ) (item rate : FeeRate) → IsWithin n members → graph_from n members rates up ≡ g → fin.contains members place ≡ true
     → item ≡ slice_index_or rates place item → place < k → k ≡ length rates → rate ≡ record { fee = fee; size = item.size } → SetsFee g (graph_from n members (set rates place rate) up) place fee
 set_fee_is n members rates up g place k fee item rate within view there read low long is =
     let inside : place < length rates = omega arith in
@@ -75,7 +75,7 @@ changed : (f : fin.FinSet nat_cmp → fin.FinSet nat_cmp) (places : fin.FinSet n
 changed f places old new c p q = ap (λ s. fin.contains s q) (c.sets p)
     ∙ elim (fin.contains places p) as (λ b. fin.contains (cond b (f (set_at old p)) (set_at old p)) q ≡ cond b (fin.contains (f (set_at old p)) q) (fin.contains (set_at old p) q)) [ true ↦ refl | false ↦ refl ]
 
-module _ (n : ℕ) (members : fin.FinSet nat_cmp) (rates : List FeeRate) (up down : List (fin.FinSet nat_cmp)) (h : IsKept n members rates up down) (g : Graph) (view : graph_from n members rates up ≡ g) where
+module _ (n : ℕ) (members : fin.FinSet nat_cmp) (rates : List FeeRate) (up down : List (fin.FinSet nat_cmp)) (h : IsKept n members rates up down) (g : Closure) (view : graph_from n members rates up ≡ g) where
   module _ (parent child : ℕ) (parent_in : is_member g parent ≡ true) (child_in : is_member g child ≡ true) (no_cycle : is_ancestor g child parent ≡ false)
       (ups downs : fin.FinSet nat_cmp) (ups_are : ups ≡ set_at up parent) (downs_are : downs ≡ set_at down child) (up' down' : List (fin.FinSet nat_cmp))
       (first : ChangesAt (gives ups) downs up up') (second : ChangesAt (gives downs) ups down down') where

@@ -4,12 +4,12 @@ use Rattle.std.proofs.lemmas.Bool.{cases_eq, cases_Bool, and_parts, and_from, or
 use Rattle.std.specs.Ordering.{nat_cmp}
 use Rattle.std.specs.Cmp.{nat_cmp_total}
 use Rattle.std.specs.FinSet as fin
+use Rattle.graphs.specs.Closures.{Closure, is_ancestor, IsNear, HoldsMembers}
 use Rattle.lists.specs.Walks.{Walk}
 use Rattle.lists.proofs.Walks.{Walk-push, Walk-keeps}
 use Rattle.bitset.specs.Places.{IsLeast}
 use Rattle.bitset.specs.Sets.{same_members, contains-insert, contains-remove, contains-union, contains-intersection, contains-difference, contains-empty}
 use Rattle.fee_rate.specs.declared.rates.FeeRate.{FeeRate}
-use Rattle.dep_graph.specs.Graph.{Graph, is_ancestor, IsNear, HoldsMembers}
 use Rattle.dep_graph.specs.Rows.{set_at, graph_from, IsKept}
 use Rattle.dep_graph.proofs.Kept.{is_ancestor-kept, member_there}
 
@@ -60,7 +60,7 @@ pub none_left : (r : Option ℕ) (s : fin.FinSet nat_cmp) → MatchOption r (s �
 none_left None s none e = none
 none_left (Some p) s least e = absurd (e p refl)
 
-module _ (n : ℕ) (members : fin.FinSet nat_cmp) (rates : List FeeRate) (up down : List (fin.FinSet nat_cmp)) (h : IsKept n members rates up down) (g : Graph) (view : graph_from n members rates up ≡ g)
+module _ (n : ℕ) (members : fin.FinSet nat_cmp) (rates : List FeeRate) (up down : List (fin.FinSet nat_cmp)) (h : IsKept n members rates up down) (g : Closure) (view : graph_from n members rates up ≡ g)
     (within : fin.FinSet nat_cmp) (holds : HoldsMembers g within) (place : ℕ) where
   -- what stands above or below a member is related to it, and nothing else is
   related : (p q : ℕ) → fin.contains within p ≡ true → (fin.contains (set_at up p) q || fin.contains (set_at down p) q) ≡ true → (is_ancestor g p q ≡ true) ⊎ (is_ancestor g q p ≡ true)

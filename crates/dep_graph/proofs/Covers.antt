@@ -4,10 +4,10 @@ use Rattle.std.proofs.lemmas.Bool.{cases_eq, and_parts, and_from, or_cases, or_l
 use Rattle.std.proofs.lemmas.List.Elements.{Contains-append_right, Contains-append_cases}
 use Rattle.std.specs.Ordering.{nat_cmp}
 use Rattle.std.specs.FinSet as fin
+use Rattle.graphs.specs.Closures.{Closure, is_member, is_ancestor, IsCover}
 use Rattle.bitset.specs.Places.{places, IsWithin}
 use Rattle.bitset.specs.Sets.{contains-remove, contains-difference, places-here, Contains-places, places-Contains}
 use Rattle.fee_rate.specs.declared.rates.FeeRate.{FeeRate}
-use Rattle.dep_graph.specs.Graph.{Graph, is_member, is_ancestor, IsCover}
 use Rattle.dep_graph.specs.Rows.{set_at, graph_from, IsKept}
 use Rattle.dep_graph.proofs.Kept.{is_ancestor-kept, member_there, above_there}
 
@@ -79,7 +79,7 @@ module _ (n : ℕ) (up : List (fin.FinSet nat_cmp)) (ups : fin.FinSet nat_cmp) w
         ∙ ap (λ b. fin.contains ups a && not b) (sym (over-push up ys m a));
   }
 
-module _ (n : ℕ) (members : fin.FinSet nat_cmp) (rates : List FeeRate) (up down : List (fin.FinSet nat_cmp)) (h : IsKept n members rates up down) (g : Graph) (view : graph_from n members rates up ≡ g)
+module _ (n : ℕ) (members : fin.FinSet nat_cmp) (rates : List FeeRate) (up down : List (fin.FinSet nat_cmp)) (h : IsKept n members rates up down) (g : Closure) (view : graph_from n members rates up ≡ g)
     (place : ℕ) (place_in : is_member g place ≡ true) where
   -- a proper ancestor of a member is a member
   pub middle_member : (ups : fin.FinSet nat_cmp) (m : ℕ) → ups ≡ fin.remove (set_at up place) place → fin.contains ups m ≡ true → fin.contains members m ≡ true
@@ -87,7 +87,7 @@ module _ (n : ℕ) (members : fin.FinSet nat_cmp) (rates : List FeeRate) (up dow
       above_there n members rates up down h g view place place_in m
       (and_parts (not (nat_eq m place)) (fin.contains (set_at up place) m) (sym (ap (λ s. fin.contains s m) ups_are ∙ contains-remove (set_at up place) place m) ∙ e)).1
 
-module _ (n : ℕ) (members : fin.FinSet nat_cmp) (rates : List FeeRate) (up down : List (fin.FinSet nat_cmp)) (h : IsKept n members rates up down) (g : Graph) (view : graph_from n members rates up ≡ g)
+module _ (n : ℕ) (members : fin.FinSet nat_cmp) (rates : List FeeRate) (up down : List (fin.FinSet nat_cmp)) (h : IsKept n members rates up down) (g : Closure) (view : graph_from n members rates up ≡ g)
     (place : ℕ) (place_in : is_member g place ≡ true) (ups covers : fin.FinSet nat_cmp) (ups_are : ups ≡ fin.remove (set_at up place) place) (within : IsWithin n ups) (ys ws : List ℕ) (all : CoversSoFar n up ups covers ys ws) (end : ws ≡ []) where
   seen : ys ≡ places n ups
   seen = sym (append-nil ys) ∙ ap (λ xs. ys ++ xs) (sym end) ∙ all.split

@@ -4,12 +4,12 @@ use Rattle.std.proofs.lemmas.Bool.{cases_lt, and_parts, false_from_ne_true}
 use Rattle.std.proofs.lemmas.List.Elements.{Contains-get_or}
 use Rattle.std.specs.Ordering.{nat_cmp}
 use Rattle.std.specs.FinSet as fin
+use Rattle.graphs.specs.Closures.{Closure, rate_of, is_ancestor, no_rate, IsOrder, IsMerged, IsPart}
 use Rattle.lists.proofs.Rising.{rising_once}
 use Rattle.lists.specs.Rising.{IsRising}
 use Rattle.bitset.specs.Places.{IsWithin, first_places, places}
 use Rattle.bitset.specs.Sets.{contains-first_places, places-Contains}
 use Rattle.fee_rate.specs.declared.rates.FeeRate.{FeeRate}
-use Rattle.dep_graph.specs.Graph.{Graph, rate_of, is_ancestor, no_rate, IsOrder, IsMerged, IsPart}
 use Rattle.dep_graph.specs.Rows.{rate_at, set_at, graph_from, above, IsKept}
 use Rattle.dep_graph.specs.Changes.{Copies, CopiesRates, CopiesSets, IsRenumbered}
 use Rattle.dep_graph.proofs.Kept.{is_member-graph_from, rate_of-graph_from, is_ancestor-graph_from, is_ancestor-kept, kept_within}
@@ -66,8 +66,8 @@ module _ (u u' : List (fin.FinSet nat_cmp)) (ps qs : List ℕ) (mid new : List (
   second_there k j low e = (second_row j low).only k e
 
 module _ (n : ℕ)
-    (m₁ : fin.FinSet nat_cmp) (r₁ : List FeeRate) (u₁ d₁ : List (fin.FinSet nat_cmp)) (h₁ : IsKept n m₁ r₁ u₁ d₁) (g₁ : Graph) (v₁ : graph_from n m₁ r₁ u₁ ≡ g₁)
-    (m₂ : fin.FinSet nat_cmp) (r₂ : List FeeRate) (u₂ d₂ : List (fin.FinSet nat_cmp)) (h₂ : IsKept n m₂ r₂ u₂ d₂) (g₂ : Graph) (v₂ : graph_from n m₂ r₂ u₂ ≡ g₂)
+    (m₁ : fin.FinSet nat_cmp) (r₁ : List FeeRate) (u₁ d₁ : List (fin.FinSet nat_cmp)) (h₁ : IsKept n m₁ r₁ u₁ d₁) (g₁ : Closure) (v₁ : graph_from n m₁ r₁ u₁ ≡ g₁)
+    (m₂ : fin.FinSet nat_cmp) (r₂ : List FeeRate) (u₂ d₂ : List (fin.FinSet nat_cmp)) (h₂ : IsKept n m₂ r₂ u₂ d₂) (g₂ : Closure) (v₂ : graph_from n m₂ r₂ u₂ ≡ g₂)
     (ps qs : List ℕ) (ps_in : (i : ℕ) → i < length ps → fin.contains m₁ (slice_index ps i) ≡ true) (qs_in : (i : ℕ) → i < length qs → fin.contains m₂ (slice_index qs i) ≡ true) (ps_rise : IsRising ps) (qs_rise : IsRising qs)
     (room : length ps + length qs ≤ n)
     (rm r : List FeeRate) (rates₁ : CopiesRates r₁ ps [] rm) (rates₂ : CopiesRates r₂ qs rm r)
@@ -244,7 +244,7 @@ pub sub_within : (k l : ℕ) (s members : fin.FinSet nat_cmp) → IsWithin l mem
 sub_within k l s members within sub e p f = let low : p < l = within p (sub p f) in omega arith
 
 -- side by side with nothing
-pub part_of_merged : (f g : Graph) (ps : List ℕ) (h : Graph) → IsMerged f g ps [] h → IsPart f ps h
+pub part_of_merged : (f g : Closure) (ps : List ℕ) (h : Closure) → IsMerged f g ps [] h → IsPart f ps h
 part_of_merged f g ps h is = record { members = λ k. is.members k ∙ ap (nat_lt k) plus_none; copy = is.first }
   where
     plus_none : length ps + length {A = ℕ} [] ≡ length ps

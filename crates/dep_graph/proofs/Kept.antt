@@ -6,9 +6,9 @@ use Rattle.std.specs.Ordering.{nat_cmp}
 use Rattle.std.specs.Cmp.{nat_cmp_total, unsigned_tied}
 use Rattle.std.specs.FinSet as fin
 use Rattle.std.specs.FinMap as map
+use Rattle.graphs.specs.Closures.{Node, Closure, is_member, rate_of, ancestors_of, is_ancestor, members_of, descendants_of, no_rate, rate_in, ancestors_in, IsOrder, IsClosed}
 use Rattle.bitset.specs.Places.{IsWithin}
 use Rattle.bitset.specs.Sets.{same_members, contains-empty}
-use Rattle.dep_graph.specs.Graph.{Node, Graph, is_member, rate_of, ancestors_of, is_ancestor, members_of, descendants_of, no_rate, rate_in, ancestors_in, IsOrder, IsClosed}
 use Rattle.dep_graph.specs.Rows.{graph_where, rate_at, set_at, node_at, graph_from, above, IsKept}
 use Rattle.fee_rate.specs.declared.rates.FeeRate.{FeeRate}
 
@@ -72,14 +72,14 @@ module _ (n : ℕ) (members : fin.FinSet nat_cmp) (rates : List FeeRate) (up : L
 
 -- ---- what is asked of any graph
 
-pub contains-members_of : (g : Graph) (p : ℕ) → fin.contains (members_of g) p ≡ is_member g p
+pub contains-members_of : (g : Closure) (p : ℕ) → fin.contains (members_of g) p ≡ is_member g p
 unfolding members_of is_member
 contains-members_of g p = fin.contains-from_list nat_cmp_total (map.keys g) p ∙ sym (map.contains_key-keys g p)
 
 tied : (p x : ℕ) → nat_cmp p x ≡ Equal → x ≡ p
 tied p x e = sym (fin.nat_cmp-IsAntisymmetric p x e)
 
-pub contains-descendants_of : (g : Graph) (a d : ℕ) → fin.contains (descendants_of g a) d ≡ (is_member g d && is_ancestor g a d)
+pub contains-descendants_of : (g : Closure) (a d : ℕ) → fin.contains (descendants_of g a) d ≡ (is_member g d && is_ancestor g a d)
 contains-descendants_of g a d =
     fin.contains-retain (members_of g) (λ d. is_ancestor g a d) d (λ x e. ap (λ q. is_ancestor g a q) (tied d x e))
     ∙ ap (λ b. b && is_ancestor g a d) (contains-members_of g d)
@@ -100,7 +100,7 @@ IsOrder-like m n r s same alike o = record {
 pub kept_within : (n : ℕ) (members : fin.FinSet nat_cmp) (rates : List FeeRate) (up down : List (fin.FinSet nat_cmp)) → IsKept n members rates up down → IsWithin n members
 kept_within n members rates up down h p e = let low : p < length rates = h.rated p e in omega (arith, h.room)
 
-module _ (n : ℕ) (members : fin.FinSet nat_cmp) (rates : List FeeRate) (up down : List (fin.FinSet nat_cmp)) (h : IsKept n members rates up down) (g : Graph) (view : graph_from n members rates up ≡ g) where
+module _ (n : ℕ) (members : fin.FinSet nat_cmp) (rates : List FeeRate) (up down : List (fin.FinSet nat_cmp)) (h : IsKept n members rates up down) (g : Closure) (view : graph_from n members rates up ≡ g) where
   inside : IsWithin n members
   inside = kept_within n members rates up down h
 

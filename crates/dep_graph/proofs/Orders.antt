@@ -1,7 +1,7 @@
 -- An order with one more member, with one more pair, and on fewer members, is an order.
 use Rattle.std.proofs.Common.{◌≡◌, ℕ, Bool, true, false, ◌&&◌, ◌||◌, ◌⊎◌, nat_eq, inl, inr, sym, ap, ◌∙◌, eqb-true, true≢false}
 use Rattle.std.proofs.lemmas.Bool.{and_parts, and_from, or_cases, or_left, or_right}
-use Rattle.dep_graph.specs.Graph.{IsOrder}
+use Rattle.graphs.specs.Closures.{IsOrder}
 
 -- the pairs (a, d) that one more pair (parent, child) brings
 abbrev pub with_pair : (ℕ → ℕ → Bool) → ℕ → ℕ → ℕ → ℕ → Bool

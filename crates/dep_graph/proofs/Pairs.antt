@@ -4,12 +4,12 @@ use Rattle.std.proofs.lemmas.Bool.{cases_eq, cases_lt, and_parts, and_from, or_c
 use Rattle.std.proofs.lemmas.List.Elements.{Contains-get_or}
 use Rattle.std.specs.Ordering.{nat_cmp}
 use Rattle.std.specs.FinSet as fin
+use Rattle.graphs.specs.Closures.{Closure, is_member, is_ancestor, members_of, IsOrder, IsClosed, IsCopy}
 use Rattle.lists.specs.Walks.{IsWalk, Walk, Along}
 use Rattle.lists.specs.Rising.{IsRising, AllAbove}
 use Rattle.lists.proofs.Walks.{Walk-map, Walk-first, Walk-trans, Walk-keeps}
 use Rattle.bitset.specs.Places.{places}
 use Rattle.bitset.specs.Sets.{IsRising-places, Contains-places, places-Contains, contains-difference}
-use Rattle.dep_graph.specs.Graph.{Graph, is_member, is_ancestor, members_of, IsOrder, IsClosed, IsCopy}
 use Rattle.dep_graph.specs.Walks.{parents, children, each_with_each, avoids, bridged, number_in, renumbered_pairs, bridged_all}
 use Rattle.dep_graph.specs.Laws.{Closes, PlaceKeepsPairs, PairIsAdded, PairsAreBridged, PairsAreMerged, PairsAreParted, PartIsBridged}
 use Rattle.dep_graph.proofs.Kept.{contains-members_of}
@@ -120,7 +120,7 @@ each-In (x ∷ firsts) bs p h = elim (In-append (map (λ b. (x, b)) bs) (each_wi
 -- ---- the laws
 
 -- a pair of the list is related
-related : (g : Graph) (pairs : List (ℕ × ℕ)) → Closes g pairs → (a b : ℕ) → Contains pairs (a, b) → is_ancestor g a b ≡ true
+related : (g : Closure) (pairs : List (ℕ × ℕ)) → Closes g pairs → (a b : ℕ) → Contains pairs (a, b) → is_ancestor g a b ≡ true
 related g pairs closes a b c =
     let both : (is_member g a ≡ true) × (is_member g b ≡ true) = closes.ends a b c in
     (closes.walks a b both.0 both.1).1 (b ∷ [], (c, refl))
@@ -273,7 +273,7 @@ place_at (x ∷ xs) p h = cases (nat_eq p x) refl h (λ k. place_at xs p k)
     cases false e (inl same) rest = absurd (true≢false (sym (eq-eqb p x same) ∙ e))
     cases false e (inr k) rest = let found : (number_in xs p < length xs) × (slice_index xs (number_in xs p) ≡ p) = rest k in (omega (arith, found.0), found.1)
 
-module _ (g h : Graph) (xs : List ℕ) (first : ℕ) (rise : IsRising xs) (copy : IsCopy g xs first h) (pairs : List (ℕ × ℕ))
+module _ (g h : Closure) (xs : List ℕ) (first : ℕ) (rise : IsRising xs) (copy : IsCopy g xs first h) (pairs : List (ℕ × ℕ))
     (pairs_in : (p q : ℕ) → In (p, q) pairs → In p xs × In q xs × (is_ancestor g p q ≡ true)) where
   -- each new pair is related, and stands among the new places
   copied_pair : (u v : ℕ) → In (u, v) (renumbered_pairs xs first pairs) → (is_ancestor h u v ≡ true) × ((first ≤ u) × (u < first + length xs)) × ((first ≤ v) × (v < first + length xs))
@@ -297,7 +297,7 @@ module _ (g h : Graph) (xs : List ℕ) (first : ℕ) (rise : IsRising xs) (copy 
       (λ a b c. Contains-In (renumbered_pairs xs first pairs) (first + number_in xs a, first + number_in xs b) (In-map (λ p. (first + number_in xs p.0, first + number_in xs p.1)) pairs (a, b) (In-Contains pairs (a, b) c)))
       (slice_index xs i) (slice_index xs j) walk)
 
-in_places : (n : ℕ) (g : Graph) → IsClosed n g → (p : ℕ) → is_member g p ≡ true → In p (places n (members_of g))
+in_places : (n : ℕ) (g : Closure) → IsClosed n g → (p : ℕ) → is_member g p ≡ true → In p (places n (members_of g))
 in_places n g closed p e = In-Contains (places n (members_of g)) p (Contains-places n (members_of g) p (closed.within p e) (contains-members_of g p ∙ e))
 
 places_are : (n : ℕ) (s : fin.FinSet nat_cmp) (i : ℕ) → i < length (places n s) → fin.contains s (slice_index (places n s) i) ≡ true
@@ -306,7 +306,7 @@ places_are n s i low = (places-Contains n s (slice_index (places n s) i) (Contai
 abbrev inner_pairs : fin.FinSet nat_cmp → List (ℕ × ℕ) → List (ℕ × ℕ)
 inner_pairs s pairs = filter (λ p. fin.contains s p.0 && fin.contains s p.1) pairs
 
-abbrev both_pairs : ℕ → Graph → Graph → List (ℕ × ℕ) → List (ℕ × ℕ) → List (ℕ × ℕ)
+abbrev both_pairs : ℕ → Closure → Closure → List (ℕ × ℕ) → List (ℕ × ℕ) → List (ℕ × ℕ)
 both_pairs n f g pairs pairs' = renumbered_pairs (places n (members_of f)) 0 pairs ++ renumbered_pairs (places n (members_of g)) (length (places n (members_of f))) pairs'
 
 pub pairs_are_parted : PairsAreParted
@@ -510,7 +510,7 @@ bridged_all_on (x ∷ xs) m r pairs o c =
     (λ a b. sym (four_drops (nat_eq a x) (among xs a) (nat_eq b x) (among xs b) (r a b)))
     (bridged_all_on xs (λ q. not (nat_eq q x) && m q) (on (λ q. not (nat_eq q x)) r) (bridged pairs x) (IsOrder-on m (λ q. not (nat_eq q x)) r o) (bridged_on m r pairs x o c))
 
-abbrev left_pairs : ℕ → Graph → fin.FinSet nat_cmp → List (ℕ × ℕ) → List (ℕ × ℕ)
+abbrev left_pairs : ℕ → Closure → fin.FinSet nat_cmp → List (ℕ × ℕ) → List (ℕ × ℕ)
 left_pairs n g s pairs = bridged_all pairs (places n (fin.difference (members_of g) s))
 
 pub part_is_bridged : PartIsBridged

@@ -2,8 +2,8 @@
 use Rattle.std.specs.Prelude.{◌≡◌, ◌≢◌, ◌⊎◌, ◌≤◌, ◌<◌, ◌+◌, ℕ, true, cond, List, length, slice_index, slice_index_or}
 use Rattle.std.specs.Ordering.{nat_cmp}
 use Rattle.std.specs.FinSet as set
+use Rattle.graphs.specs.Closures.{no_rate}
 use Rattle.fee_rate.specs.declared.rates.FeeRate.{FeeRate}
-use Rattle.dep_graph.specs.Graph.{no_rate}
 use Rattle.dep_graph.specs.Rows.{rate_at, set_at}
 
 -- f is done to the set of each of these places, and the other sets stay

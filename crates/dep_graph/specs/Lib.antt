@@ -1,5 +1,4 @@
 pub mod Changes
-pub mod Graph
 pub mod Laws
 pub mod Moves
 pub mod Rows

@@ -3,12 +3,12 @@ use Rattle.std.specs.Prelude.{◌≡◌, ℕ, zero, suc, ◌≤◌, Bool, true, 
 use Rattle.std.specs.Ordering.{nat_cmp}
 use Rattle.std.specs.FinSet as set
 use Rattle.std.specs.FinMap as map
+use Rattle.graphs.specs.Closures.{Node, Closure, IsOrder, no_rate}
 use Rattle.bitset.specs.Places.{IsWithin}
 use Rattle.fee_rate.specs.declared.rates.FeeRate.{FeeRate}
-use Rattle.dep_graph.specs.Graph.{Node, Graph, IsOrder, no_rate}
 
 -- the members below n, each with its node
-unfoldable pub graph_where : set.FinSet nat_cmp → (ℕ → Node) → ℕ → Graph
+unfoldable pub graph_where : set.FinSet nat_cmp → (ℕ → Node) → ℕ → Closure
 graph_where members node zero = map.empty
 graph_where members node (suc n) = cond (set.contains members n) (map.insert (graph_where members node n) n (node n)) (graph_where members node n)
 
@@ -22,7 +22,7 @@ abbrev pub node_at : List FeeRate → List (set.FinSet nat_cmp) → ℕ → Node
 node_at rates up p = record { rate = rate_at rates p; ancestors = set_at up p }
 
 -- the graph of the members, which are below n
-unfoldable pub graph_from : ℕ → set.FinSet nat_cmp → List FeeRate → List (set.FinSet nat_cmp) → Graph
+unfoldable pub graph_from : ℕ → set.FinSet nat_cmp → List FeeRate → List (set.FinSet nat_cmp) → Closure
 graph_from n members rates up = graph_where members (node_at rates up) n
 
 -- whether a is kept as an ancestor of the member d

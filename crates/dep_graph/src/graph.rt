@@ -1,9 +1,9 @@
 ghost use Rattle.std.specs.Prelude.{◌≡◌, ℕ, ◌+◌, ◌*◌, ◌<◌, ◌≤◌, ◌↔◌, true, false, IfOk, OnOk, OnErr, vec_len};
 ghost use Rattle.std.specs.FinSet as set;
 ghost use Rattle.std.specs.FinMap as map;
+ghost use Rattle.graphs.specs.Closures.{is_member, rate_of, is_ancestor, members_of, ancestors_of, descendants_of, IsClosed, IsCover, IsNear, HoldsMembers, AddsPlace, AddsPair, SetsFee, DropsPlace, IsMerged, IsPart};
 ghost use Rattle.lists.specs.Walks.{Walk};
 ghost use Rattle.bitset.specs.Places.{IsWithin, places};
-ghost use Rattle.dep_graph.specs.Graph.{is_member, rate_of, is_ancestor, members_of, ancestors_of, descendants_of, IsClosed, IsCover, IsNear, HoldsMembers, AddsPlace, AddsPair, SetsFee, DropsPlace, IsMerged, IsPart};
 ghost use Rattle.dep_graph.specs.Changes.{ChangesAt, PutsAt, CopiesRates, CopiesSets, gives, takes};
 
 use crate::numbering::number_anew;
@@ -28,12 +28,12 @@ pub struct DepGraph<const W: usize> {
 // Clauses see a map from the members to their rates and ancestors.
 impl<const W: usize> Model for DepGraph<W> {
     ghost use Rattle.std.specs.Prelude.{◌*◌};
-    ghost use Rattle.dep_graph.specs.Graph.{Graph, graph_code};
+    ghost use Rattle.graphs.specs.Closures.{Closure, closure_code};
     ghost use Rattle.dep_graph.specs.Rows.{graph_from, IsKept};
 
-    ghost Value = { Graph };
+    ghost Value = { Closure };
 
-    ghost coded = { graph_code };
+    ghost coded = { closure_code };
 
     ghost view = { λ g. graph_from (64 * W) g.members g.rates.items g.up.items };
 

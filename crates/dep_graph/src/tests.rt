@@ -1,8 +1,8 @@
 ghost use Rattle.std.specs.Prelude.{◌≡◌, ◌+◌, ◌*◌, ◌^◌, ◌<◌, ◌≤◌};
 ghost use Rattle.std.specs.FinSet as set;
+ghost use Rattle.graphs.specs.Closures.{HoldsMembers, is_member};
 ghost use Rattle.bitset.specs.Places.{places};
 ghost use Rattle.dep_graph.specs.Changes.{IsRenumbered};
-ghost use Rattle.dep_graph.specs.Graph.{HoldsMembers, is_member};
 
 use crate::DepGraph;
 use bitset::Bits;

@@ -1,5 +1,6 @@
 pub mod Rooms
 pub mod Graphs
+pub mod Closures
 pub mod Removals
 pub mod Rates
 pub mod Linearizations

@@ -4,12 +4,12 @@ use Rattle.std.specs.Prelude.{Contains}
 use Rattle.std.proofs.lemmas.Bool.{cases_eq}
 use Rattle.std.proofs.lemmas.List.Elements.{Contains-append_right}
 use Rattle.std.specs.FinSet as fin
+use Rattle.graphs.specs.Closures.{Closure, is_member, is_ancestor, ancestors_of, members_of, IsCover, IsClosed}
 use Rattle.lists.proofs.Entries.{Contains-head, Contains-later, Contains-cases, none_in_empty}
 use Rattle.lists.specs.Distinct.{AreDistinct}
 use Rattle.bitset.specs.Places.{places, IsWithin}
 use Rattle.bitset.specs.Sets.{Contains-places}
 use Rattle.graphs.specs.Linearizations.{StandsBefore}
-use Rattle.dep_graph.specs.Graph.{Graph, is_member, is_ancestor, ancestors_of, members_of, IsCover, IsClosed}
 use Rattle.linearize.specs.Orders.{IsOrderOf}
 use Rattle.linearize.proofs.Places.{in_members, clash}
 use Rattle.linearize.proofs.Sets.{test_of, to_remove, from_remove, len_remove, len_within}
@@ -32,7 +32,7 @@ stays_before (x ∷ before) after (c ∷ front) rest a b e d here h =
 before_before : (order : List ℕ) (a b c : ℕ) → AreDistinct order → StandsBefore order a b → StandsBefore order b c → StandsBefore order a c
 before_before order a b c d one two = (two.0, two.1, two.2, stays_before one.0 one.1 two.0 (c ∷ two.1) a b (sym one.2 ∙ two.2) (subst (λ xs. AreDistinct xs) two.2 d) two.3 one.3)
 
-module _ (n : ℕ) (dep : Graph) (closed : IsClosed n dep) where
+module _ (n : ℕ) (dep : Closure) (closed : IsClosed n dep) where
   above_within : (d : ℕ) → IsWithin n (ancestors_of dep d)
   above_within d k m = closed.within k (closed.order.among k d m).0
 

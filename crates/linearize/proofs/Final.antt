@@ -1,13 +1,13 @@
 -- What linearizes all members certifies each plain graph that they stand for.
 use Rattle.std.proofs.Common.{◌≡◌, ℕ, zero, suc, ◌⊎◌, inl, inr, true, List, [], ◌∷◌, refl, sym, ◌∙◌, subst}
 use Rattle.std.specs.Prelude.{Contains}
+use Rattle.graphs.specs.Closures.{Closure, is_member, is_ancestor, members_of, IsCover, IsClosed, IsNear}
 use Rattle.lists.proofs.Entries.{Contains-cases, none_in_empty}
 use Rattle.lists.specs.Walks.{IsWalk}
 use Rattle.graphs.specs.Graphs as model
 use Rattle.graphs.specs.Linearizations.{IsTopological}
 use Rattle.graphs.specs.Certificates.{Part, IsCertificate}
 use Rattle.graphs.specs.Rates.{HasSizes}
-use Rattle.dep_graph.specs.Graph.{Graph, is_member, is_ancestor, members_of, IsCover, IsClosed, IsNear}
 use Rattle.linearize.specs.Graphs.{StandsFor, HasRates, IsComponent, sum_at}
 use Rattle.linearize.specs.Drafts.{placed}
 use Rattle.linearize.specs.Splits.{Linearizes}
@@ -34,7 +34,7 @@ trail_of : (pairs : List (ℕ × ℕ)) (a b n : ℕ) → model.Walk pairs a b n 
 trail_of pairs a b zero w = w
 trail_of pairs a b (suc n) w = (w.0, trail_of pairs a w.0 n w.1, inl w.2)
 
-module _ (n : ℕ) (dep : Graph) (graph : model.Graph) (closed : IsClosed n dep) (stands : StandsFor dep graph) where
+module _ (n : ℕ) (dep : Closure) (graph : model.Graph) (closed : IsClosed n dep) (stands : StandsFor dep graph) where
   walk_member : (a b k : ℕ) → model.Walk graph.pairs a b k → is_member dep a ≡ true → is_member dep b ≡ true
   walk_member a b zero w m = subst (λ (j : ℕ). is_member dep j ≡ true) w m
   walk_member a b (suc k) w m = (stands.ends w.0 b w.2).1

@@ -8,6 +8,7 @@ use Rattle.std.proofs.lemmas.List.Elements.{Contains-append_left, Contains-appen
 use Rattle.std.proofs.Math.Nat.{mul-le-mul}
 use Rattle.std.specs.Ordering.{nat_cmp}
 use Rattle.std.specs.FinSet as fin
+use Rattle.graphs.specs.Closures.{Closure, IsCover, IsClosed, HoldsMembers, rate_of}
 use Rattle.lists.proofs.Entries.{Contains-head, Contains-later, Contains-cases, none_in_empty}
 use Rattle.lists.proofs.Distinct.{distinct_joined}
 use Rattle.arithmetic.specs.Sums.{total}
@@ -23,7 +24,6 @@ use Rattle.fee_rate.specs.Rates.{AtMost}
 use Rattle.graphs.specs.Rates.{sums, Falls}
 use Rattle.graphs.specs.Linearizations.{StandsBefore}
 use Rattle.graphs.specs.Certificates.{Part, weight_in, Certifies}
-use Rattle.dep_graph.specs.Graph.{Graph, IsCover, IsClosed, HoldsMembers, rate_of}
 use Rattle.linearize.specs.Drafts.{Written, placed, flows_in}
 use Rattle.linearize.specs.Graphs.{sum_at, HasRates}
 use Rattle.linearize.specs.Orders.{AreCovers, Balances, IsOrderOf, sums_in}
@@ -51,22 +51,22 @@ weight_of_sums whole rate ids =
         omega (arith, ints, scaled f k xs, ap (λ (z : ℤ). k *ℤ z) parts, mul-add_right k (pos (f x)) (pos (sum_by f xs)))
 
 -- the weight of a set in a whole
-abbrev value : ℕ → Graph → Sum → fin.FinSet nat_cmp → ℤ
+abbrev value : ℕ → Closure → Sum → fin.FinSet nat_cmp → ℤ
 value n dep whole x = weight_in whole (sums_in n dep x)
 
-value_split : (n : ℕ) (dep : Graph) (whole : Sum) (s a b : fin.FinSet nat_cmp) → IsSplit s a b → value n dep whole s ≡ value n dep whole a +ℤ value n dep whole b
+value_split : (n : ℕ) (dep : Closure) (whole : Sum) (s a b : fin.FinSet nat_cmp) → IsSplit s a b → value n dep whole s ≡ value n dep whole a +ℤ value n dep whole b
 value_split n dep whole s a b split =
     sym (weight_of_sums whole (sum_at dep) (places n s))
     ∙ total_split (λ t. weight_in whole (sum_at dep t)) n s a b split
     ∙ (λ i. weight_of_sums whole (sum_at dep) (places n a) i +ℤ weight_of_sums whole (sum_at dep) (places n b) i)
 
-value_empty : (n : ℕ) (dep : Graph) (whole : Sum) (s : fin.FinSet nat_cmp) → fin.len s ≡ 0 → value n dep whole s ≡ pos 0
+value_empty : (n : ℕ) (dep : Closure) (whole : Sum) (s : fin.FinSet nat_cmp) → fin.len s ≡ 0 → value n dep whole s ≡ pos 0
 value_empty n dep whole s none =
     sym (weight_of_sums whole (sum_at dep) (places n s))
     ∙ ap (λ t. total (λ p. weight_in whole (sum_at dep p)) (places n t)) (fin.empty_of_len s none)
     ∙ ap (total (λ p. weight_in whole (sum_at dep p))) (places-empty n)
 
-pub best_of : (n : ℕ) (dep : Graph) (parents : List (fin.FinSet nat_cmp)) (weights : List ℤ) (s c : fin.FinSet nat_cmp) → HoldsMembers dep s → AreCovers dep parents
+pub best_of : (n : ℕ) (dep : Closure) (parents : List (fin.FinSet nat_cmp)) (weights : List ℤ) (s c : fin.FinSet nat_cmp) → HoldsMembers dep s → AreCovers dep parents
     → ((t : ℕ) → fin.contains s t ≡ true → weight_at weights t ≡ weight_in (sums_in n dep s) (sum_at dep t))
     → closure.IsClosed parents s c → pos 0 <ℤ weight_of n weights c → IsNoneHeavier n weights parents s (weight_of n weights c) → IsBest n dep s c
 best_of n dep parents weights s c members covers are closed positive greatest =
@@ -88,13 +88,13 @@ best_of n dep parents weights s c members covers are closed positive greatest =
     }
 
 -- a balanced flow of these weights balances the set
-pub balances_of : (n : ℕ) (dep : Graph) (parents : List (fin.FinSet nat_cmp)) (weights : List ℤ) (s : fin.FinSet nat_cmp) (flow : ℕ → ℕ → ℕ)
+pub balances_of : (n : ℕ) (dep : Closure) (parents : List (fin.FinSet nat_cmp)) (weights : List ℤ) (s : fin.FinSet nat_cmp) (flow : ℕ → ℕ → ℕ)
     → ((t : ℕ) → fin.contains s t ≡ true → weight_at weights t ≡ weight_in (sums_in n dep s) (sum_at dep t))
     → closure.IsBalanced n weights parents s flow → Balances n dep parents s flow
 balances_of n dep parents weights s flow are balanced = record { even = λ t m. sym (are t m) ∙ balanced.even t m; pair = balanced.pair }
 
 -- ---- what the solver asks for
-pub weights_even : (n : ℕ) (dep : Graph) (weights : List ℤ) (s : fin.FinSet nat_cmp)
+pub weights_even : (n : ℕ) (dep : Closure) (weights : List ℤ) (s : fin.FinSet nat_cmp)
     → ((t : ℕ) → fin.contains s t ≡ true → weight_at weights t ≡ weight_in (sums_in n dep s) (sum_at dep t)) → weight_of n weights s ≡ pos 0
 weights_even n dep weights s are =
     total_along (weight_at weights) (λ t. weight_in (sums_in n dep s) (sum_at dep t)) (places n s) (λ t h. are t (places-Contains n s t h).1)
@@ -148,7 +148,7 @@ before_across xs ys a b h k =
 either_part : (P : Part → Type 0) (xs ys : List Part) → ((q : Part) → Contains xs q → P q) → ((q : Part) → Contains ys q → P q) → (q : Part) → Contains (xs ++ ys) q → P q
 either_part P xs ys f g q h = elim (Contains-append_cases xs ys q h) [ inl left ↦ f q left | inr right ↦ g q right ]
 
-module _ (n : ℕ) (dep : Graph) (s c : fin.FinSet nat_cmp) (closed : IsClosed n dep) (members : HoldsMembers dep s) (rates : HasRates dep) (best : IsBest n dep s c) where
+module _ (n : ℕ) (dep : Closure) (s c : fin.FinSet nat_cmp) (closed : IsClosed n dep) (members : HoldsMembers dep s) (rates : HasRates dep) (best : IsBest n dep s c) where
   whole : Sum
   whole = sums_in n dep s
 

@@ -5,16 +5,16 @@ use Rattle.std.proofs.lemmas.Bool.{cases_eq}
 use Rattle.std.proofs.lemmas.List.Elements.{Contains-append_left, Contains-append_cases, Contains-push}
 use Rattle.std.specs.Ordering.{nat_cmp}
 use Rattle.std.specs.FinSet as fin
+use Rattle.graphs.specs.Closures.{Closure, is_ancestor, ancestors_of, IsClosed}
 use Rattle.lists.proofs.Entries.{Contains-head, Contains-later, Contains-cases, none_in_empty}
 use Rattle.lists.specs.Distinct.{AreDistinct}
 use Rattle.bitset.specs.Places.{IsWithin}
-use Rattle.dep_graph.specs.Graph.{Graph, is_ancestor, ancestors_of, IsClosed}
 use Rattle.graphs.specs.Linearizations.{StandsBefore}
 use Rattle.linearize.specs.Orders.{IsOrderOf}
 use Rattle.linearize.proofs.Sets.{from_meet, to_meet, from_remove, to_remove, not_empty, len_remove, len_within}
 
 -- another ancestor in a set has fewer ancestors in it
-pub higher : (n : ℕ) (dep : Graph) (left : fin.FinSet nat_cmp) (p q : ℕ) → IsClosed n dep → fin.contains left p ≡ true → fin.contains (fin.remove (fin.intersection (ancestors_of dep p) left) p) q ≡ true
+pub higher : (n : ℕ) (dep : Closure) (left : fin.FinSet nat_cmp) (p q : ℕ) → IsClosed n dep → fin.contains left p ≡ true → fin.contains (fin.remove (fin.intersection (ancestors_of dep p) left) p) q ≡ true
     → fin.len (fin.intersection (ancestors_of dep q) left) < fin.len (fin.intersection (ancestors_of dep p) left)
 higher n dep left p q closed here m =
     let order = closed.order in
@@ -29,7 +29,7 @@ higher n dep left p q closed here m =
     omega (arith, fewer, len_remove n _ p within own)
 
 -- where nothing else is above it in a set
-pub is_top : (dep : Graph) (left above : fin.FinSet nat_cmp) (p : ℕ) → above ≡ fin.remove (fin.intersection (ancestors_of dep p) left) p → above ≡ fin.empty
+pub is_top : (dep : Closure) (left above : fin.FinSet nat_cmp) (p : ℕ) → above ≡ fin.remove (fin.intersection (ancestors_of dep p) left) p → above ≡ fin.empty
     → (q : ℕ) → is_ancestor dep q p ≡ true → fin.contains left q ≡ true → q ≡ p
 is_top dep left above p is none q a m = elim (cases_eq q p) as (λ _. q ≡ p) [
   | inl same ↦ same
@@ -38,14 +38,14 @@ is_top dep left above p is none q a m = elim (cases_eq q p) as (λ _. q ≡ p) [
 
 -- ---- the loop that puts the places of a set
 -- some are put, each behind its ancestors of the set, and the others are left
-pub record Placing (n : ℕ) (dep : Graph) (s left : fin.FinSet nat_cmp) (ids : List ℕ) : Type 0 where
+pub record Placing (n : ℕ) (dep : Closure) (s left : fin.FinSet nat_cmp) (ids : List ℕ) : Type 0 where
   pub inside : (k : ℕ) → fin.contains left k ≡ true → fin.contains s k ≡ true
   pub once : AreDistinct ids
   pub exact : (k : ℕ) → Contains ids k ↔ ((fin.contains s k ≡ true) × (fin.contains left k ≡ true → ⊥))
   pub above : (a k : ℕ) → is_ancestor dep a k ≡ true → a ≢ k → fin.contains s a ≡ true → Contains ids k → StandsBefore ids a k
   pub count : length ids + fin.len left ≡ fin.len s
 
-pub placing_start : (n : ℕ) (dep : Graph) (s : fin.FinSet nat_cmp) (ids : List ℕ) → ids ≡ [] → Placing n dep s s ids
+pub placing_start : (n : ℕ) (dep : Closure) (s : fin.FinSet nat_cmp) (ids : List ℕ) → ids ≡ [] → Placing n dep s s ids
 placing_start n dep s ids none = subst (λ xs. Placing n dep s s xs) (sym none) (record {
   inside = λ k m. m;
   once = tt;
@@ -67,7 +67,7 @@ distinct_push (y ∷ ys) x d out = (
 before_push : (xs : List ℕ) (x a b : ℕ) → StandsBefore xs a b → StandsBefore (xs ++ x ∷ []) a b
 before_push xs x a b h = (h.0, h.1 ++ x ∷ [], ap (λ ys. ys ++ x ∷ []) h.2 ∙ append_assoc h.0 (b ∷ h.1) (x ∷ []), h.3)
 
-pub placing_more : (n : ℕ) (dep : Graph) (s left rest : fin.FinSet nat_cmp) (ids : List ℕ) (p : ℕ) → IsWithin n s → Placing n dep s left ids → fin.contains left p ≡ true
+pub placing_more : (n : ℕ) (dep : Closure) (s left rest : fin.FinSet nat_cmp) (ids : List ℕ) (p : ℕ) → IsWithin n s → Placing n dep s left ids → fin.contains left p ≡ true
     → ((q : ℕ) → is_ancestor dep q p ≡ true → fin.contains left q ≡ true → q ≡ p) → rest ≡ fin.remove left p → Placing n dep s rest (ids ++ p ∷ [])
 placing_more n dep s left rest ids p within h m top is =
     let stays : (k : ℕ) → fin.contains rest k ≡ true → (k ≡ p → ⊥) × (fin.contains left k ≡ true) = λ k r. from_remove left p k (subst (λ t. fin.contains t k ≡ true) is r) in
@@ -102,7 +102,7 @@ placing_more n dep s left rest ids p within h m top is =
       count = (let long = length-append ids (p ∷ []) in let one = len_remove n left p (λ k l. within k (h.inside k l)) m in let len_ = ap (λ t. fin.len t) is in omega (arith, long, one, len_, h.count));
     }
 
-pub placing_all : (n : ℕ) (dep : Graph) (s left : fin.FinSet nat_cmp) (ids : List ℕ) → Placing n dep s left ids → left ≡ fin.empty → IsOrderOf dep s ids × (length ids ≡ fin.len s)
+pub placing_all : (n : ℕ) (dep : Closure) (s left : fin.FinSet nat_cmp) (ids : List ℕ) → Placing n dep s left ids → left ≡ fin.empty → IsOrderOf dep s ids × (length ids ≡ fin.len s)
 placing_all n dep s left ids h none =
     let all : (k : ℕ) → fin.contains s k ≡ true → Contains ids k = λ k m. (h.exact k).1 (m, λ l. not_empty left k l none) in (
       record {

@@ -4,6 +4,7 @@ use Rattle.std.specs.Prelude.{Contains}
 use Rattle.std.proofs.lemmas.List.{length-map}
 use Rattle.std.specs.Ordering.{nat_cmp}
 use Rattle.std.specs.FinSet as fin
+use Rattle.graphs.specs.Closures.{Closure, IsCover, IsClosed, HoldsMembers}
 use Rattle.lists.proofs.Entries.{map-Contains, Contains-cases, none_in_empty}
 use Rattle.bitset.specs.Places.{places, IsWithin}
 use Rattle.bitset.specs.Sets.{places-Contains}
@@ -13,7 +14,6 @@ use Rattle.fee_rate.specs.Rates.{AtMost}
 use Rattle.graphs.specs.declared.names.Flow.{Flow}
 use Rattle.graphs.specs.Rates.{sums}
 use Rattle.graphs.specs.Certificates.{Part, weight_in, Certifies}
-use Rattle.dep_graph.specs.Graph.{Graph, IsCover, IsClosed, HoldsMembers}
 use Rattle.linearize.specs.Drafts.{Written, placed}
 use Rattle.linearize.specs.Graphs.{sum_at}
 use Rattle.linearize.specs.Orders.{AreCovers, Balances, IsOrderOf, flows_of, sums_in}
@@ -23,13 +23,13 @@ use Rattle.linearize.proofs.Lists.{distinct_places, total_any_order, sum_any_ord
 use Rattle.linearize.proofs.Sets.{from_meet}
 use Rattle.linearize.proofs.Triangles.{few_pairs}
 
-pub sums_of_order : (n : ℕ) (dep : Graph) (s : fin.FinSet nat_cmp) (ids : List ℕ) → IsWithin n s → IsOrderOf dep s ids → sums (sum_at dep) ids ≡ sums_in n dep s
+pub sums_of_order : (n : ℕ) (dep : Closure) (s : fin.FinSet nat_cmp) (ids : List ℕ) → IsWithin n s → IsOrderOf dep s ids → sums (sum_at dep) ids ≡ sums_in n dep s
 sums_of_order n dep s ids within order =
     let fee : (sums (sum_at dep) ids).fee ≡ (sums_in n dep s).fee = total_any_order (λ p. (sum_at dep p).fee) n ids s within order.once order.exact in
     let size : (sums (sum_at dep) ids).size ≡ (sums_in n dep s).size = sum_any_order (λ p. (sum_at dep p).size) n ids s within order.once order.exact in
     λ i. record { fee = fee i; size = size i }
 
-module _ (n : ℕ) (dep : Graph) (parents : List (fin.FinSet nat_cmp)) (s : fin.FinSet nat_cmp) (flow : ℕ → ℕ → ℕ) (closed : IsClosed n dep) (members : HoldsMembers dep s) (covers : AreCovers dep parents) where
+module _ (n : ℕ) (dep : Closure) (parents : List (fin.FinSet nat_cmp)) (s : fin.FinSet nat_cmp) (flow : ℕ → ℕ → ℕ) (closed : IsClosed n dep) (members : HoldsMembers dep s) (covers : AreCovers dep parents) where
   within : IsWithin n s
   within k m = closed.within k (members k m)
 

@@ -7,17 +7,17 @@ use Rattle.std.specs.Ordering.{nat_cmp}
 use Rattle.std.specs.Cmp.{nat_cmp_total}
 use Rattle.std.specs.FinSet as fin
 use Rattle.std.specs.FinMap as map
+use Rattle.graphs.specs.Closures.{Closure, is_member, members_of, IsCover}
 use Rattle.lists.proofs.Entries.{Contains-cases, none_in_empty}
 use Rattle.bitset.specs.Places.{places, IsWithin}
 use Rattle.bitset.specs.Sets.{places-here, Contains-places, len-places}
 use Rattle.closure_flow.specs.Closures.{parents_at}
-use Rattle.dep_graph.specs.Graph.{Graph, is_member, members_of, IsCover}
 use Rattle.linearize.specs.Orders.{AreCovers}
 
 pub clash : {X : Type 0} (b : Bool) → b ≡ true → b ≡ false → X
 clash b e f = absurd (let g : true ≡ false = sym e ∙ f in cc)
 
-pub in_members : (dep : Graph) (p : ℕ) → fin.contains (members_of dep) p ≡ is_member dep p
+pub in_members : (dep : Closure) (p : ℕ) → fin.contains (members_of dep) p ≡ is_member dep p
 unfolding members_of is_member
 in_members dep p = fin.contains-from_list nat_cmp_total (map.keys dep) p ∙ sym (map.contains_key-keys dep p)
 
@@ -55,14 +55,14 @@ rows_more d P rows ys c v inside done here q there = elim (cases_eq q c) as (λ 
 ]
 
 -- ---- the covering parents, kept place by place
-pub record Linked (n : ℕ) (dep : Graph) (s : fin.FinSet nat_cmp) (parents : List (fin.FinSet nat_cmp)) (ys zs : List ℕ) : Type 0 where
+pub record Linked (n : ℕ) (dep : Closure) (s : fin.FinSet nat_cmp) (parents : List (fin.FinSet nat_cmp)) (ys zs : List ℕ) : Type 0 where
   pub goes : Goes n s ys zs
   pub done : (c p : ℕ) → Contains ys c → (fin.contains (parents_at parents c) p ≡ true) ↔ IsCover dep p c
 
-pub linked_start : (n : ℕ) (dep : Graph) (s : fin.FinSet nat_cmp) (parents : List (fin.FinSet nat_cmp)) (zs : List ℕ) → zs ≡ places n s → Linked n dep s parents [] zs
+pub linked_start : (n : ℕ) (dep : Closure) (s : fin.FinSet nat_cmp) (parents : List (fin.FinSet nat_cmp)) (zs : List ℕ) → zs ≡ places n s → Linked n dep s parents [] zs
 linked_start n dep s parents zs e = record { goes = e; done = λ c p h. absurd (none_in_empty c h) }
 
-pub linked_more : (n : ℕ) (dep : Graph) (s : fin.FinSet nat_cmp) (parents : List (fin.FinSet nat_cmp)) (ys ws zs : List ℕ) (c : ℕ) (covers : fin.FinSet nat_cmp)
+pub linked_more : (n : ℕ) (dep : Closure) (s : fin.FinSet nat_cmp) (parents : List (fin.FinSet nat_cmp)) (ys ws zs : List ℕ) (c : ℕ) (covers : fin.FinSet nat_cmp)
     → Linked n dep s parents ys ws → ws ≡ c ∷ zs → c < length parents → ((p : ℕ) → (fin.contains covers p ≡ true) ↔ IsCover dep p c)
     → Linked n dep s (set parents c covers) (ys ++ c ∷ []) zs
 linked_more n dep s parents ys ws zs c covers h e inside are = record {
@@ -71,7 +71,7 @@ linked_more n dep s parents ys ws zs c covers h e inside are = record {
       rows_more fin.empty (λ q row. (fin.contains row p ≡ true) ↔ IsCover dep p q) parents ys c covers inside (λ q at. h.done q p at) (are p) d there;
 }
 
-pub linked_all : (n : ℕ) (dep : Graph) (s : fin.FinSet nat_cmp) (parents : List (fin.FinSet nat_cmp)) (ys ws : List ℕ)
+pub linked_all : (n : ℕ) (dep : Closure) (s : fin.FinSet nat_cmp) (parents : List (fin.FinSet nat_cmp)) (ys ws : List ℕ)
     → s ≡ members_of dep → IsWithin n s → n ≤ length parents → Linked n dep s parents ys ws → ws ≡ [] → AreCovers dep parents
 linked_all n dep s parents ys ws is within room h e =
     let member : (c : ℕ) → is_member dep c ≡ true → fin.contains s c ≡ true = λ c m. ap (λ t. fin.contains t c) is ∙ in_members dep c ∙ m in
@@ -104,11 +104,11 @@ pub tested_all : (n : ℕ) (s : fin.FinSet nat_cmp) (P : ℕ → Type 0) (ys ws 
 tested_all n s P ys ws within h e p m = h.done p (subst (λ xs. Contains xs p) (sym (gone n s ys ws h.goes e)) (Contains-places n s p (within p m) m))
 
 -- a test of the members, by a set that is theirs
-pub members_tested : (n : ℕ) (dep : Graph) (s : fin.FinSet nat_cmp) (P : ℕ → Type 0) (zs : List ℕ) → s ≡ members_of dep → zs ≡ places n s → Tested n (members_of dep) P [] zs
+pub members_tested : (n : ℕ) (dep : Closure) (s : fin.FinSet nat_cmp) (P : ℕ → Type 0) (zs : List ℕ) → s ≡ members_of dep → zs ≡ places n s → Tested n (members_of dep) P [] zs
 members_tested n dep s P zs is e = tested_start n (members_of dep) P zs (e ∙ ap (places n) is)
 
-pub member_here : (n : ℕ) (dep : Graph) (P : ℕ → Type 0) (ys ws zs : List ℕ) (p : ℕ) → Tested n (members_of dep) P ys ws → ws ≡ p ∷ zs → is_member dep p ≡ true
+pub member_here : (n : ℕ) (dep : Closure) (P : ℕ → Type 0) (ys ws zs : List ℕ) (p : ℕ) → Tested n (members_of dep) P ys ws → ws ≡ p ∷ zs → is_member dep p ≡ true
 member_here n dep P ys ws zs p h e = sym (in_members dep p) ∙ tested_here n (members_of dep) P ys ws zs p h e
 
-pub each_member : (n : ℕ) (dep : Graph) (s : fin.FinSet nat_cmp) (P : ℕ → Type 0) (ys ws : List ℕ) → s ≡ members_of dep → IsWithin n s → Tested n (members_of dep) P ys ws → ws ≡ [] → (p : ℕ) → is_member dep p ≡ true → P p
+pub each_member : (n : ℕ) (dep : Closure) (s : fin.FinSet nat_cmp) (P : ℕ → Type 0) (ys ws : List ℕ) → s ≡ members_of dep → IsWithin n s → Tested n (members_of dep) P ys ws → ws ≡ [] → (p : ℕ) → is_member dep p ≡ true → P p
 each_member n dep s P ys ws is within h e p m = tested_all n (members_of dep) P ys ws (subst (IsWithin n) is within) h e p (in_members dep p ∙ m)

@@ -6,10 +6,10 @@ use Rattle.std.proofs.lemmas.List.{length-map}
 use Rattle.std.proofs.lemmas.List.Filters.{length-filter_both}
 use Rattle.std.specs.Ordering.{nat_cmp}
 use Rattle.std.specs.FinSet as fin
+use Rattle.graphs.specs.Closures.{Closure, IsCover, IsClosed}
 use Rattle.lists.proofs.Entries.{map-Contains, Contains-head, Contains-later, Contains-cases, none_in_empty}
 use Rattle.lists.specs.Distinct.{AreDistinct}
 use Rattle.bitset.specs.Places.{IsWithin}
-use Rattle.dep_graph.specs.Graph.{Graph, IsCover, IsClosed}
 use Rattle.linearize.proofs.Sets.{from_remove, to_remove, len_remove, test_of}
 
 -- distinct members of a set are at most as many as it has
@@ -49,7 +49,7 @@ distinct_map f (x ∷ xs) d same = (
   distinct_map f xs d.1 (λ y z a b e. same y z (Contains-later x y xs a) (Contains-later x z xs b) e),
 )
 
-module _ (n : ℕ) (dep : Graph) (closed : IsClosed n dep) where
+module _ (n : ℕ) (dep : Closure) (closed : IsClosed n dep) where
   both_ways : (x y : ℕ) → IsCover dep x y → IsCover dep y x → ⊥
   both_ways x y a b = a.other (closed.order.antisymmetric x y a.ancestor b.ancestor)
 

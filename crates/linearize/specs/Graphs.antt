@@ -1,15 +1,15 @@
 -- What a dependency graph says of a plain graph whose names are places.
 use Rattle.std.specs.Prelude.{◌≡◌, ◌↔◌, ℕ, true, Contains}
+use Rattle.graphs.specs.Closures.{Closure, is_member, is_ancestor, members_of, rate_of, IsNear}
 use Rattle.lists.specs.Walks.{Walk}
 use Rattle.fee_rate.specs.declared.rates.FeeRate.{FeeRate}
 use Rattle.fee_rate.specs.declared.rates.Sum.{Sum}
 use Rattle.fee_rate.specs.Limits.{IsRate}
 use Rattle.graphs.specs.Graphs as model
-use Rattle.dep_graph.specs.Graph.{Graph, is_member, is_ancestor, members_of, rate_of, IsNear}
 
 -- A plain graph has the members as its names, its pairs are of members, and the ancestors along them are those of the
 -- dependency graph.
-pub record StandsFor (dep : Graph) (graph : model.Graph) : Type 0 where
+pub record StandsFor (dep : Closure) (graph : model.Graph) : Type 0 where
   pub names : (p : ℕ) → Contains graph.names p ↔ (is_member dep p ≡ true)
   pub ends : (parent child : ℕ) → Contains graph.pairs (parent, child)
       → (is_member dep parent ≡ true) × (is_member dep child ≡ true)
@@ -22,15 +22,15 @@ abbrev pub sum_from : FeeRate → Sum
 sum_from rate = record { fee = rate.fee; size = rate.size }
 
 -- the fee and the size of a place
-abbrev pub sum_at : Graph → ℕ → Sum
+abbrev pub sum_at : Closure → ℕ → Sum
 sum_at dep p = sum_from (rate_of dep p)
 
 -- each member's fee and size are in range
-abbrev pub HasRates : Graph → Type 0
+abbrev pub HasRates : Closure → Type 0
 HasRates dep = (p : ℕ) → is_member dep p ≡ true → IsRate (rate_of dep p)
 
 -- from each member every other one is reached, by steps from a member to its ancestors and descendants
-abbrev pub IsComponent : Graph → Type 0
+abbrev pub IsComponent : Closure → Type 0
 IsComponent dep = (a b : ℕ) → is_member dep a ≡ true → is_member dep b ≡ true → Walk (IsNear dep (members_of dep)) a b
 
 -- so many members have a total fee that 64 bits hold

@@ -3,6 +3,7 @@ use Rattle.std.specs.Prelude.{◌≡◌, ◌↔◌, ℕ, ◌<◌, true, nat_lt, 
 use Rattle.std.specs.Prelude.{List, length, map, filter, flat_map, sum_by, Contains}
 use Rattle.std.specs.Ordering.{nat_cmp}
 use Rattle.std.specs.FinSet as set
+use Rattle.graphs.specs.Closures.{Closure, is_member, IsCover}
 use Rattle.lists.specs.Distinct.{AreDistinct}
 use Rattle.bitset.specs.Places.{places}
 use Rattle.closure_flow.specs.Closures.{parents_at}
@@ -11,28 +12,27 @@ use Rattle.graphs.specs.declared.names.Flow.{Flow}
 use Rattle.graphs.specs.Rates.{sums}
 use Rattle.graphs.specs.Linearizations.{StandsBefore}
 use Rattle.graphs.specs.Certificates.{weight_in}
-use Rattle.dep_graph.specs.Graph.{Graph, is_member, IsCover}
 use Rattle.linearize.specs.Graphs.{sum_at}
 
 -- for each member a list has the set of its covering parents
-pub record AreCovers (dep : Graph) (parents : List (set.FinSet nat_cmp)) : Type 0 where
+pub record AreCovers (dep : Closure) (parents : List (set.FinSet nat_cmp)) : Type 0 where
   pub there : (c : ℕ) → is_member dep c ≡ true → c < length parents
   pub exact : (p c : ℕ) → is_member dep c ≡ true → (set.contains (parents_at parents c) p ≡ true) ↔ IsCover dep p c
 
 -- the places of a set, each once, and each covering parent of the set before its children
-pub record IsOrderOf (dep : Graph) (s : set.FinSet nat_cmp) (ids : List ℕ) : Type 0 where
+pub record IsOrderOf (dep : Closure) (s : set.FinSet nat_cmp) (ids : List ℕ) : Type 0 where
   pub once : AreDistinct ids
   pub exact : (p : ℕ) → Contains ids p ↔ (set.contains s p ≡ true)
   pub parents_first : (p c : ℕ) → IsCover dep p c → set.contains s p ≡ true → set.contains s c ≡ true
       → StandsBefore ids p c
 
 -- the fee and the size of a set of places below n
-abbrev pub sums_in : ℕ → Graph → set.FinSet nat_cmp → Sum
+abbrev pub sums_in : ℕ → Closure → set.FinSet nat_cmp → Sum
 sums_in n dep s = sums (sum_at dep) (places n s)
 
 -- flow runs from children to covering parents, and what each place of a set sends within it, less what it gets there,
 -- is its weight in the set
-pub record Balances (n : ℕ) (dep : Graph) (parents : List (set.FinSet nat_cmp)) (s : set.FinSet nat_cmp)
+pub record Balances (n : ℕ) (dep : Closure) (parents : List (set.FinSet nat_cmp)) (s : set.FinSet nat_cmp)
     (flow : ℕ → ℕ → ℕ) : Type 0 where
   pub even : (t : ℕ) → set.contains s t ≡ true
       → weight_in (sums_in n dep s) (sum_at dep t)

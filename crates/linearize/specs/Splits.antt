@@ -2,29 +2,29 @@
 use Rattle.std.specs.Prelude.{◌≡◌, ◌≢◌, ℕ, ◌+◌, ◌*◌, ◌<◌, ◌≤◌, pos, ◌<ℤ◌, ◌≤ℤ◌, true, List, [], ◌++◌, length, Contains}
 use Rattle.std.specs.Ordering.{nat_cmp}
 use Rattle.std.specs.FinSet as set
+use Rattle.graphs.specs.Closures.{Closure, IsCover, IsClosed, HoldsMembers}
 use Rattle.fee_rate.specs.declared.rates.Sum.{Sum}
 use Rattle.fee_rate.specs.Rates.{AtMost}
 use Rattle.graphs.specs.Certificates.{Part, HasFalling, HasFlows, weight_in}
-use Rattle.dep_graph.specs.Graph.{Graph, IsCover, IsClosed, HoldsMembers}
 use Rattle.linearize.specs.Graphs.{HasRates, most_members, sum_at}
 use Rattle.linearize.specs.Drafts.{Written, placed, flows_in}
 use Rattle.linearize.specs.Orders.{AreCovers, IsOrderOf, sums_in}
 
 -- some places of a set, with every covering parent of the set
-pub record IsUpper (dep : Graph) (s x : set.FinSet nat_cmp) : Type 0 where
+pub record IsUpper (dep : Closure) (s x : set.FinSet nat_cmp) : Type 0 where
   pub inside : (p : ℕ) → set.contains x p ≡ true → set.contains s p ≡ true
   pub parents : (p c : ℕ) → IsCover dep p c → set.contains x c ≡ true → set.contains s p ≡ true
       → set.contains x p ≡ true
 
 -- some places of a set, with everything of the set that they cover
-pub record IsLower (dep : Graph) (s x : set.FinSet nat_cmp) : Type 0 where
+pub record IsLower (dep : Closure) (s x : set.FinSet nat_cmp) : Type 0 where
   pub inside : (p : ℕ) → set.contains x p ≡ true → set.contains s p ≡ true
   pub children : (p c : ℕ) → IsCover dep p c → set.contains x p ≡ true → set.contains s c ≡ true
       → set.contains x c ≡ true
 
 -- Certified parts of a set, of falling rate, parents first. Their rates lie between any rate that no upper set of it is
 -- above and any that no lower set is below.
-pub record Linearizes (n : ℕ) (dep : Graph) (s : set.FinSet nat_cmp) (parts : List Part) : Type 0 where
+pub record Linearizes (n : ℕ) (dep : Closure) (s : set.FinSet nat_cmp) (parts : List Part) : Type 0 where
   pub order : IsOrderOf dep s (placed parts)
   pub filled : (part : Part) → Contains parts part → part.ids ≢ []
   pub falling : HasFalling (sum_at dep) parts
@@ -35,7 +35,7 @@ pub record Linearizes (n : ℕ) (dep : Graph) (s : set.FinSet nat_cmp) (parts : 
       → (part : Part) → Contains parts part → AtMost rate part.rate
 
 -- an upper set of greatest weight in the set, which is above 0
-pub record IsBest (n : ℕ) (dep : Graph) (s c : set.FinSet nat_cmp) : Type 0 where
+pub record IsBest (n : ℕ) (dep : Closure) (s c : set.FinSet nat_cmp) : Type 0 where
   pub upper : IsUpper dep s c
   pub positive : pos 0 <ℤ weight_in (sums_in n dep s) (sums_in n dep c)
   pub greatest : (x : set.FinSet nat_cmp) → IsUpper dep s x
@@ -43,7 +43,7 @@ pub record IsBest (n : ℕ) (dep : Graph) (s c : set.FinSet nat_cmp) : Type 0 wh
 
 -- parts behind others that linearize a set: no more of them than it has places, and four times their flows are at most
 -- its number of places squared
-pub record Adds (n : ℕ) (dep : Graph) (s : set.FinSet nat_cmp) (old new : Written) : Type 0 where
+pub record Adds (n : ℕ) (dep : Closure) (s : set.FinSet nat_cmp) (old new : Written) : Type 0 where
   pub parts : List Part
   pub is : new ≡ record { parts = old.parts ++ parts; ids = []; flows = [] }
   pub linear : Linearizes n dep s parts
@@ -60,7 +60,7 @@ pub record HasRoom (n : ℕ) (s : set.FinSet nat_cmp) (written : Written) : Type
   pub for_flows : 4 * length (flows_in written.parts) + set.len s * set.len s ≤ n * n
 
 -- a set of members that may be linearized, with the covering parents of each member at hand
-pub record IsReady (n : ℕ) (dep : Graph) (parents : List (set.FinSet nat_cmp)) (s : set.FinSet nat_cmp)
+pub record IsReady (n : ℕ) (dep : Closure) (parents : List (set.FinSet nat_cmp)) (s : set.FinSet nat_cmp)
     (written : Written) : Type 0 where
   pub closed : IsClosed n dep
   pub members : HoldsMembers dep s

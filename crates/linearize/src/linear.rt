@@ -1,9 +1,9 @@
 ghost use Rattle.std.specs.Prelude.{◌≡◌, ◌*◌, ◌^◌, ◌<◌, ◌≤◌, [], length, map, IfOk};
 ghost use Rattle.std.specs.FinSet as set;
+ghost use Rattle.graphs.specs.Closures.{members_of, IsCover};
 ghost use Rattle.graphs.specs.Graphs as model;
 ghost use Rattle.graphs.specs.Certificates.{IsCertificate};
 ghost use Rattle.graphs.specs.Linearizations.{IsOptimal};
-ghost use Rattle.dep_graph.specs.Graph.{members_of, IsCover};
 ghost use Rattle.linearize.specs.Graphs.{HasRates, IsComponent, StandsFor, most_members, sum_at};
 ghost use Rattle.linearize.specs.Drafts.{AreShown, flows_in, named, placed};
 ghost use Rattle.linearize.specs.Orders.{AreCovers};

@@ -1,8 +1,8 @@
 ghost use Rattle.std.specs.Prelude.{◌≡◌, ℕ, ◌+◌, ◌*◌, ◌^◌, ◌<◌, ◌≤◌, [], length, true};
 ghost use Rattle.std.specs.FinSet as set;
+ghost use Rattle.graphs.specs.Closures.{HoldsMembers, IsClosed, is_ancestor};
 ghost use Rattle.bitset.specs.Places.{places};
 ghost use Rattle.closure_flow.specs.Scratches.{flow_of};
-ghost use Rattle.dep_graph.specs.Graph.{HoldsMembers, IsClosed, is_ancestor};
 ghost use Rattle.linearize.specs.Graphs.{sum_from};
 ghost use Rattle.linearize.specs.Drafts.{Takes, placed, with_flows};
 ghost use Rattle.linearize.specs.Orders.{AreCovers, Balances, IsOrderOf, flows_from, flows_in_set, sums_in};

@@ -1,8 +1,8 @@
 ghost use Rattle.std.specs.Prelude.{◌≡◌, ℕ, ◌*◌, ◌<◌, ◌≤◌, ◌^◌, length, true, pos, ◌*ℤ◌, unsigned_abs};
 ghost use Rattle.std.specs.Prelude.{IfSome, MatchOption};
 ghost use Rattle.std.specs.FinSet as set;
+ghost use Rattle.graphs.specs.Closures.{HoldsMembers};
 ghost use Rattle.closure_flow.specs.Closures.{weight_at};
-ghost use Rattle.dep_graph.specs.Graph.{HoldsMembers};
 ghost use Rattle.fee_rate.specs.Limits.{IsRate};
 ghost use Rattle.fee_rate.specs.declared.limits.TheConstants.{MAX_SIZE};
 ghost use Rattle.graphs.specs.Certificates.{weight_in};

@@ -1,5 +1,5 @@
 ghost use Rattle.std.specs.Prelude.{◌≡◌, ◌*◌, ◌<◌, ◌≤◌};
-ghost use Rattle.dep_graph.specs.Graph.{is_member};
+ghost use Rattle.graphs.specs.Closures.{is_member};
 
 use crate::{Linear, PlaceFlow, has_rates, is_component, optimal};
 use closure_flow::Scratch;

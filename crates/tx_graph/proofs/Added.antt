@@ -3,8 +3,8 @@ use Rattle.std.proofs.Common.{◌≡◌, ◌≢◌, ℕ, ℤ, ◌<◌, Bool, tru
 use Rattle.std.proofs.lemmas.Bool.{cases_eq, false_from_ne_true, and_right}
 use Rattle.std.proofs.lemmas.Option.{none-some, same_Some}
 use Rattle.std.specs.FinMap as finmap
+use Rattle.graphs.specs.Closures.{is_member, is_ancestor, rate_of, AddsPair, SetsFee}
 use Rattle.fee_rate.specs.declared.rates.FeeRate.{FeeRate}
-use Rattle.dep_graph.specs.Graph.{is_member, is_ancestor, rate_of, AddsPair, SetsFee}
 use Rattle.cluster_record.specs.Clusters.{Cluster, IsCluster}
 use Rattle.cluster_record.specs.Changes.{IsSingle}
 use Rattle.name_book.specs.declared.spot.Spot.{Spot}

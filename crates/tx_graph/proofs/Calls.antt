@@ -4,6 +4,7 @@ use Rattle.std.specs.Prelude.{Contains}
 use Rattle.std.proofs.lemmas.Bool.{cases_lt, false_from_ne_true}
 use Rattle.std.proofs.lemmas.Option.{none-some}
 use Rattle.std.specs.FinMap as finmap
+use Rattle.graphs.specs.Closures.{is_member, is_ancestor, rate_of, SetsFee, AddsPair, DropsPlace}
 use Rattle.fee_rate.specs.declared.rates.FeeRate.{FeeRate}
 use Rattle.graph_model.specs.declared.names.Limits.{Limits}
 use Rattle.graph_model.specs.declared.names.Refusal.{Refusal}
@@ -18,7 +19,6 @@ use Rattle.graphs.specs.Laws.{AncestorsWithPair, StaysWithoutCycle, NamesCanGo, 
 use Rattle.graphs.specs.declared.names.Level.TheVariants.{Top}
 use Rattle.graph_model.specs.Replies.{Reply, Done}
 use Rattle.graphs.proofs.ListLemmas.{Lists-for}
-use Rattle.dep_graph.specs.Graph.{is_member, is_ancestor, rate_of, SetsFee, AddsPair, DropsPlace}
 use Rattle.cluster_record.specs.Clusters.{Cluster, AreLinked}
 use Rattle.name_book.specs.declared.spot.Spot.{Spot}
 use Rattle.tx_graph.specs.Kept.{Kept, StandsFor, MakesStep, entry_of, AddsName}

@@ -5,7 +5,7 @@ use Rattle.std.specs.Ordering.{nat_cmp, eq_by_cmp}
 use Rattle.std.specs.Cmp.{nat_cmp_total, unsigned_tied}
 use Rattle.std.specs.FinSet as set
 use Rattle.std.specs.FinMap as finmap
-use Rattle.dep_graph.specs.Graph.{Node, is_member, is_ancestor, ancestors_of, ancestors_in, rate_of, rate_in, no_rate, IsOrder}
+use Rattle.graphs.specs.Closures.{Node, is_member, is_ancestor, ancestors_of, ancestors_in, rate_of, rate_in, no_rate, IsOrder}
 use Rattle.cluster_record.specs.Clusters.{Cluster}
 use Rattle.name_book.specs.declared.spot.Spot.{Spot}
 use Rattle.name_book.specs.Books.{Spots, Book}

@@ -4,9 +4,9 @@ use Rattle.std.proofs.lemmas.Bool.{cases_eq, cases_Bool, or_cases, or_left, or_r
 use Rattle.std.proofs.lemmas.Option.{none-some, same_Some}
 use Rattle.std.proofs.lemmas.List.Elements.{Contains-append_left, Contains-append_right, Contains-append_cases, All-contains}
 use Rattle.std.specs.FinMap as finmap
+use Rattle.graphs.specs.Closures.{is_member, is_ancestor, rate_of, AddsPair, DropsPlace}
 use Rattle.lists.proofs.Cases.{same_test}
 use Rattle.lists.proofs.Entries.{Contains-head, Contains-cases}
-use Rattle.dep_graph.specs.Graph.{is_member, is_ancestor, rate_of, AddsPair, DropsPlace}
 use Rattle.cluster_record.specs.Clusters.{Cluster, IsCluster, AreApart}
 use Rattle.cluster_record.specs.Changes.{Joins, IsSplit}
 use Rattle.name_book.specs.declared.spot.Spot.{Spot}

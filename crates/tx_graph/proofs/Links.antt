@@ -1,10 +1,10 @@
 -- Names are connected by pairs where steps to ancestors and descendants lead from the one to the other.
 use Rattle.std.proofs.Common.{ℕ, suc, zero, List, [], ◌∷◌, sym, refl, subst, inl, inr, ◌↔◌}
 use Rattle.std.specs.Prelude.{Contains}
+use Rattle.graphs.specs.Closures.{Closure}
 use Rattle.lists.specs.Walks.{IsWalk}
 use Rattle.graphs.specs.Graphs.{Walk, Trail, AreConnected}
 use Rattle.graphs.proofs.WalkLemmas.{AreConnected-trans, AreConnected-sym}
-use Rattle.dep_graph.specs.Graph.{Graph}
 use Rattle.cluster_record.specs.Clusters.{IsRelated, AreLinked}
 use Rattle.tx_graph.specs.Kept.{Kept, StandsFor}
 use Rattle.graph_model.specs.States.{State}
@@ -13,11 +13,11 @@ walk_connects : (pairs : List (ℕ × ℕ)) (a b n : ℕ) → Walk pairs a b n �
 walk_connects pairs a b zero same = (0, same)
 walk_connects pairs a b (suc n) walk = let before = walk_connects pairs a walk.0 n walk.1 in (suc before.0, (walk.0, before.1, inl walk.2))
 
-linked_push : (g : Graph) (a b c : ℕ) → AreLinked g a b → IsRelated g b c → AreLinked g a c
+linked_push : (g : Closure) (a b c : ℕ) → AreLinked g a b → IsRelated g b c → AreLinked g a c
 linked_push g a b c ([], same) step = (c ∷ [], (subst (λ x. IsRelated g x c) (sym same) step, refl))
 linked_push g a b c (v ∷ vs, walk) step = let rest : AreLinked g v c = linked_push g v b c (vs, walk.1) step in (v ∷ rest.0, (walk.0, rest.1))
 
-pub linked_back : (g : Graph) (a b : ℕ) → AreLinked g a b → AreLinked g b a
+pub linked_back : (g : Closure) (a b : ℕ) → AreLinked g a b → AreLinked g b a
 linked_back g a b ([], same) = ([], sym same)
 linked_back g a b (v ∷ vs, walk) = linked_push g b v a (linked_back g v b (vs, walk.1)) (elim walk.0 [ inl up ↦ inr up | inr down ↦ inl down ])
 

@@ -5,6 +5,7 @@ use Rattle.std.specs.FinMap as finmap
 use Rattle.std.proofs.lemmas.Bool.{false_from_ne_true}
 use Rattle.std.proofs.lemmas.List.Sums.{sum_by-append}
 use Rattle.std.proofs.lemmas.List.Elements.{Contains-append_left, Contains-append_right, Contains-append_cases}
+use Rattle.graphs.specs.Closures.{is_ancestor, rate_of}
 use Rattle.lists.specs.Walks.{IsWalk}
 use Rattle.graph_model.specs.declared.names.Limits.{Limits}
 use Rattle.graph_model.specs.declared.names.Refusal.{Refusal}
@@ -13,7 +14,6 @@ use Rattle.graphs.specs.Graphs.{Lists}
 use Rattle.graph_model.specs.Refusals.{FirstAt, NoRefusal}
 use Rattle.graphs.proofs.ListLemmas.{Lists-same}
 use Rattle.fee_rate.specs.declared.rates.FeeRate.{FeeRate}
-use Rattle.dep_graph.specs.Graph.{is_ancestor, rate_of}
 use Rattle.cluster_record.specs.Clusters.{Cluster, IsRelated, AreLinked}
 use Rattle.tx_graph.specs.Shelves.{Shelf, cluster_at, graph_of, HasAt, IsIndexed}
 use Rattle.name_book.specs.declared.spot.Spot.{Spot}

@@ -5,10 +5,10 @@ use Rattle.std.proofs.Common.{false, true≢false, OnSome, IsSome, is_some}
 use Rattle.std.proofs.lemmas.Option.{none-some, same_Some}
 use Rattle.std.proofs.lemmas.List.{get_or-set_same, get_or-set_other, get_or_past}
 use Rattle.std.specs.FinMap as finmap
+use Rattle.graphs.specs.Closures.{is_ancestor}
 use Rattle.cluster_record.specs.Clusters.{Cluster}
 use Rattle.name_book.specs.declared.spot.Spot.{Spot}
 use Rattle.tx_graph.specs.Shelves.{Shelf, cluster_at, graph_of, HasAt, IsIndexed}
-use Rattle.dep_graph.specs.Graph.{is_ancestor}
 use Rattle.tx_graph.proofs.Graphs.{above_in}
 
 slot_low : (slots : List (Option Cluster)) (key : ℕ) (c : Cluster) → cluster_at slots key ≡ Some c → key < length slots

@@ -2,6 +2,7 @@
 use Rattle.std.proofs.Common.{◌≡◌, ℕ, true, sym, refl, ap, subst, ◌∙◌, inl, inr, ◌⊎◌, ◌↔◌, Option, None, Some, is_some}
 use Rattle.std.specs.Prelude.{Contains}
 use Rattle.std.specs.FinMap as finmap
+use Rattle.graphs.specs.Closures.{Node, Closure, is_member, is_ancestor}
 use Rattle.graphs.specs.declared.names.Level.{Level}
 use Rattle.graphs.specs.declared.names.Level.TheVariants.{Main, Top}
 use Rattle.graph_model.specs.declared.names.Refusal.{Refusal}
@@ -12,7 +13,6 @@ use Rattle.graph_model.specs.Commands.{Command}
 use Rattle.graph_model.specs.Refusals.{RefusalIs}
 use Rattle.graph_model.specs.Replies.{Reply, Refused}
 use Rattle.graph_model.specs.Steps.{Accepts, MayLackMemory}
-use Rattle.dep_graph.specs.Graph.{Node, Graph, is_member, is_ancestor}
 use Rattle.tx_graph.specs.Kept.{Kept, StandsFor, MakesStep, entry_of}
 
 -- a state with this table and this main graph
@@ -42,9 +42,9 @@ pub stands_still : (old new : Kept) → IsSameGraph old new → (state : State) 
 stands_still old new same state stands = record {
   limits = stands.limits ∙ sym same.limits;
   begun = stands.begun ∙ sym same.begun;
-  table = λ id. stands.table id ∙ ap (λ (g : Graph). entry_of (finmap.get g id)) (sym same.graph);
-  names = λ id. subst (λ (g : Graph). Contains state.main.graph.names id ↔ (is_member g id ≡ true)) (sym same.graph) (stands.names id);
-  ancestors = λ a b. subst (λ (g : Graph). IsAncestor state.main.graph.pairs a b ↔ ((a ≡ b) ⊎ (is_ancestor g a b ≡ true))) (sym same.graph) (stands.ancestors a b);
+  table = λ id. stands.table id ∙ ap (λ (g : Closure). entry_of (finmap.get g id)) (sym same.graph);
+  names = λ id. subst (λ (g : Closure). Contains state.main.graph.names id ↔ (is_member g id ≡ true)) (sym same.graph) (stands.names id);
+  ancestors = λ a b. subst (λ (g : Closure). IsAncestor state.main.graph.pairs a b ↔ ((a ≡ b) ⊎ (is_ancestor g a b ≡ true))) (sym same.graph) (stands.ancestors a b);
   valid = stands.valid;
   staging = stands.staging;
 }

@@ -6,6 +6,7 @@ use Rattle.std.proofs.lemmas.List.Elements.{Contains-append_left, Contains-push,
 use Rattle.std.specs.Ordering.{nat_cmp}
 use Rattle.std.specs.Cmp.{nat_cmp_total, unsigned_tied}
 use Rattle.std.specs.FinMap as finmap
+use Rattle.graphs.specs.Closures.{Node, Closure, is_member, is_ancestor, rate_of, rate_in, IsOrder, AddsPair, SetsFee, DropsPlace}
 use Rattle.lists.proofs.Distinct.{distinct_push}
 use Rattle.lists.proofs.Entries.{Contains-head, Contains-later, Contains-cases}
 use Rattle.lists.specs.Distinct.{AreDistinct}
@@ -23,7 +24,6 @@ use Rattle.graph_model.specs.Replies.{Done, Ids, Number}
 use Rattle.graphs.specs.Laws.{AncestorsWithPair, StaysWithoutCycle, NamesCanGo, StaysGraph, AncestorsWithoutName}
 use Rattle.graphs.proofs.WalkLemmas.{IsAncestor-trans}
 use Rattle.graphs.proofs.ListLemmas.{Lists-for}
-use Rattle.dep_graph.specs.Graph.{Node, Graph, is_member, is_ancestor, rate_of, rate_in, IsOrder, AddsPair, SetsFee, DropsPlace}
 use Rattle.cluster_record.specs.Clusters.{AreLinked}
 use Rattle.tx_graph.specs.Kept.{Kept, StandsFor, MakesStep, entry_of, AddsName}
 use Rattle.tx_graph.proofs.Standing.{state_of, steps_accepted, level-main}
@@ -41,14 +41,14 @@ by_words : (o : Option Node) → entry_of o ≡ entry_from (is_some o) (rate_in 
 by_words None = refl
 by_words (Some node) = refl
 
-entry-words : (g : Graph) (q : ℕ) → entry_of (finmap.get g q) ≡ entry_from (is_member g q) (rate_of g q)
+entry-words : (g : Closure) (q : ℕ) → entry_of (finmap.get g q) ≡ entry_from (is_member g q) (rate_of g q)
 unfolding is_member rate_of
 entry-words g q = by_words (finmap.get g q)
 
-same_entry : (g h : Graph) (q : ℕ) → is_member h q ≡ is_member g q → rate_of h q ≡ rate_of g q → entry_of (finmap.get h q) ≡ entry_of (finmap.get g q)
+same_entry : (g h : Closure) (q : ℕ) → is_member h q ≡ is_member g q → rate_of h q ≡ rate_of g q → entry_of (finmap.get h q) ≡ entry_of (finmap.get g q)
 same_entry g h q member rate = entry-words h q ∙ ap₂ entry_from member rate ∙ sym (entry-words g q)
 
-pub has_entry : (g : Graph) (q : ℕ) (rate : FeeRate) → is_member g q ≡ true → rate_of g q ≡ rate → entry_of (finmap.get g q) ≡ Some (record { fee = rate.fee; size = rate.size })
+pub has_entry : (g : Closure) (q : ℕ) (rate : FeeRate) → is_member g q ≡ true → rate_of g q ≡ rate → entry_of (finmap.get g q) ≡ Some (record { fee = rate.fee; size = rate.size })
 has_entry g q rate member is = entry-words g q ∙ ap₂ entry_from member is
 
 get-put : (table : Table) (id q : ℕ) (entry : Entry) → finmap.get (finmap.insert table id entry) q ≡ cond (nat_eq q id) (Some entry) (finmap.get table q)
@@ -337,9 +337,9 @@ steps_limited old new set limits begins graph none = steps_accepted old new (Set
   record {
     limits = sym limits;
     begun = sym begins;
-    table = λ q. stands.table q ∙ ap (λ (g : Graph). entry_of (finmap.get g q)) (sym graph);
-    names = λ q. subst (λ (g : Graph). Contains main.graph.names q ↔ (is_member g q ≡ true)) (sym graph) (stands.names q);
-    ancestors = λ a b. subst (λ (g : Graph). IsAncestor main.graph.pairs a b ↔ ((a ≡ b) ⊎ (is_ancestor g a b ≡ true))) (sym graph) (stands.ancestors a b);
+    table = λ q. stands.table q ∙ ap (λ (g : Closure). entry_of (finmap.get g q)) (sym graph);
+    names = λ q. subst (λ (g : Closure). Contains main.graph.names q ↔ (is_member g q ≡ true)) (sym graph) (stands.names q);
+    ancestors = λ a b. subst (λ (g : Closure). IsAncestor main.graph.pairs a b ↔ ((a ≡ b) ⊎ (is_ancestor g a b ≡ true))) (sym graph) (stands.ancestors a b);
     valid = stands.valid;
     staging = refl;
   },

@@ -1,28 +1,28 @@
 -- The refusals of additions and of pairs, told by the graph that is kept.
 use Rattle.std.specs.Prelude.{◌≡◌, ◌⊎◌, ℕ, ℤ, ◌<◌, ◌≤◌, true, List, length, sum_by, Option}
+use Rattle.graphs.specs.Closures.{Closure, is_member, is_ancestor, rate_of}
 use Rattle.graph_model.specs.declared.names.Limits.{Limits}
 use Rattle.graph_model.specs.declared.names.Refusal.{Refusal}
 use Rattle.graph_model.specs.declared.names.Refusal.TheVariants.{Fee, Size, Taken, Full, ClusterSize, Unknown, Cycle, Count}
 use Rattle.fee_rate.specs.Limits.{IsFee, IsSize}
 use Rattle.graphs.specs.Graphs.{Lists}
 use Rattle.graph_model.specs.Refusals.{First, FirstAt, NoRefusal}
-use Rattle.dep_graph.specs.Graph.{Graph, is_member, is_ancestor, rate_of}
 use Rattle.cluster_record.specs.Clusters.{AreLinked}
 
 -- the members of the cluster that a pair would make of two
-abbrev pub JoinsTo : Graph → ℕ → ℕ → List ℕ → Type 0
+abbrev pub JoinsTo : Closure → ℕ → ℕ → List ℕ → Type 0
 JoinsTo graph parent child members = (AreLinked graph parent child → ⊥) × Lists (λ id. AreLinked graph id parent ⊎ AreLinked graph id child) members
 
 -- its names are more than may be
-abbrev pub JoinsTooMany : Limits → Graph → ℕ → ℕ → ℕ → Type 0
+abbrev pub JoinsTooMany : Limits → Closure → ℕ → ℕ → ℕ → Type 0
 JoinsTooMany limits graph parent child n = (members : List ℕ) × JoinsTo graph parent child members × (n ≡ length members) × (limits.count < n)
 
 -- its total size is larger than may be
-abbrev pub JoinsTooLarge : Limits → Graph → ℕ → ℕ → ℕ → Type 0
+abbrev pub JoinsTooLarge : Limits → Closure → ℕ → ℕ → ℕ → Type 0
 JoinsTooLarge limits graph parent child n = (members : List ℕ) × JoinsTo graph parent child members × (n ≡ sum_by (λ id. (rate_of graph id).size) members) × (limits.size < n)
 
 -- the refusal that a pair meets
-abbrev pub DepRefusalIs : Limits → Graph → ℕ → ℕ → Option Refusal → Type 0
+abbrev pub DepRefusalIs : Limits → Closure → ℕ → ℕ → Option Refusal → Type 0
 DepRefusalIs limits graph parent child =
     First (is_member graph parent ≡ true → ⊥) (Unknown parent)
     (First (is_member graph child ≡ true → ⊥) (Unknown child)
@@ -37,7 +37,7 @@ SumRefusalIs limits count size =
     (FirstAt (λ n. (n ≡ size) × (limits.size < n)) ClusterSize NoRefusal)
 
 -- the refusal that an addition meets where so many names are live
-abbrev pub AddRefusalIs : Limits → Graph → ℕ → ℕ → ℤ → ℕ → Option Refusal → Type 0
+abbrev pub AddRefusalIs : Limits → Closure → ℕ → ℕ → ℤ → ℕ → Option Refusal → Type 0
 AddRefusalIs limits graph live id fee size =
     First (IsFee fee → ⊥) Fee
     (First (IsSize size → ⊥) Size

@@ -2,8 +2,8 @@
 use Rattle.std.specs.Prelude.{◌≡◌, ◌⊎◌, ◌↔◌, ℕ, Bool, true, Option, None, Some, Contains, ◌&&◌, ◌||◌, ◌≢◌, nat_eq, refl}
 use Rattle.std.specs.Coded.{Coded, code_by, coded×, coded_ℕ, coded_bool}
 use Rattle.std.specs.FinMap as finmap
+use Rattle.graphs.specs.Closures.{Node, Closure, closure_code, is_member, is_ancestor, rate_of}
 use Rattle.fee_rate.specs.declared.rates.FeeRate.{FeeRate}
-use Rattle.dep_graph.specs.Graph.{Node, Graph, graph_code, is_member, is_ancestor, rate_of}
 use Rattle.graph_model.specs.declared.names.Limits.{Limits}
 use Rattle.graphs.specs.Graphs.{IsAncestor, IsGraph}
 use Rattle.graph_model.specs.States.{State, Entry}
@@ -16,12 +16,12 @@ use Rattle.graph_model.specs.Steps.{Step}
 pub record Kept : Type 0 where
   pub limits : Limits
   pub begun : Bool
-  pub graph : Graph
+  pub graph : Closure
   pub additions : ℕ
 
 abbrev pub kept_code : Coded Kept
 kept_code =
-    code_by ((ℕ × (ℕ × ℕ)) × (Bool × (Graph × ℕ))) (coded× (coded× coded_ℕ (coded× coded_ℕ coded_ℕ)) (coded× coded_bool (coded× graph_code coded_ℕ)))
+    code_by ((ℕ × (ℕ × ℕ)) × (Bool × (Closure × ℕ))) (coded× (coded× coded_ℕ (coded× coded_ℕ coded_ℕ)) (coded× coded_bool (coded× closure_code coded_ℕ)))
     (λ k. ((k.limits.count, (k.limits.size, k.limits.total)), (k.begun, (k.graph, k.additions))))
     (λ p. record { limits = record { count = p.0.0; size = p.0.1.0; total = p.0.1.1 }; begun = p.1.0; graph = p.1.1.0; additions = p.1.1.1 }) (λ _. refl)
 
@@ -47,7 +47,7 @@ abbrev pub MakesStep : Kept → Kept → Command → Reply → Type 0
 MakesStep old new command reply = (state : State) → StandsFor old state → (next : State) × StandsFor new next × Step state command reply next
 
 -- one more name, in no relation to the others
-pub record AddsName (old new : Graph) (id : ℕ) (rate : FeeRate) : Type 0 where
+pub record AddsName (old new : Closure) (id : ℕ) (rate : FeeRate) : Type 0 where
   pub members : (q : ℕ) → is_member new q ≡ (nat_eq q id || is_member old q)
   pub rate_is : rate_of new id ≡ rate
   pub rates : (q : ℕ) → q ≢ id → rate_of new q ≡ rate_of old q

@@ -3,7 +3,7 @@ use Rattle.std.specs.Prelude.{◌≡◌, ℕ, ◌*◌, ◌<◌, ◌≤◌, List,
 use Rattle.std.specs.Coded.{Coded, code_by, coded×, coded_ℕ, coded_list, coded_option}
 use Rattle.std.specs.FinMap as finmap
 use Rattle.std.specs.FinSet as set
-use Rattle.dep_graph.specs.Graph.{Node, Graph, rate_of, ancestors_of, no_rate}
+use Rattle.graphs.specs.Closures.{Node, Closure, rate_of, ancestors_of, no_rate}
 use Rattle.cluster_record.specs.Clusters.{Cluster, cluster_code, IsCluster}
 use Rattle.name_book.specs.declared.spot.Spot.{Spot}
 use Rattle.name_book.specs.Books.{Spots, spot_code}
@@ -29,7 +29,7 @@ node_in None id = record { rate = no_rate; ancestors = set.empty }
 node_in (Some c) id = record { rate = rate_of c.graph id; ancestors = ancestors_of c.graph id }
 
 -- each name with what its cluster knows of it
-unfoldable pub graph_of : Shelf → Graph
+unfoldable pub graph_of : Shelf → Closure
 graph_of shelf = finmap.from_entries (map (λ e. (e.0, node_in (cluster_at shelf.slots e.1.record) e.0)) (finmap.entries shelf.spots))
 
 -- a cluster has the name at this place

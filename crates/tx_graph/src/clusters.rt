@@ -1,7 +1,7 @@
 ghost use Rattle.std.specs.Prelude.{sum_by, MatchResult, is_some, ◌↔◌, ◌≡◌, ◌≢◌, ℕ, ◌+◌, ◌-◌, ◌*◌, ◌^◌, ◌<◌, ◌≤◌, [], false, None, Some, length, Contains, IsSome, IfOk, OnOk, OnErr};
 ghost use Rattle.std.specs.FinMap as finmap;
+ghost use Rattle.graphs.specs.Closures.{is_member, rate_of, is_ancestor, AddsPair, SetsFee, DropsPlace};
 ghost use Rattle.slab.specs.Slab.{get, HasRoomFor, slab_len};
-ghost use Rattle.dep_graph.specs.Graph.{is_member, rate_of, is_ancestor, AddsPair, SetsFee, DropsPlace};
 ghost use Rattle.cluster_record.specs.Clusters.{Cluster, AreOnce};
 ghost use Rattle.tx_graph.specs.Kept.{AddsName};
 ghost use Rattle.tx_graph.specs.Shelves.{graph_of, cluster_at, IsIndexed, IsInOrder};

@@ -1,6 +1,6 @@
 use Rattle.std.proofs.Common.{rules, ◌≡◌, ◌<◌, ◌≤◌, ap, arith, lit<, true}
 use Rattle.std.specs.FinSet as fin
-use Rattle.dep_graph.specs.Graph.{members_of}
+use Rattle.graphs.specs.Closures.{members_of}
 use Rattle.linearize.specs.Graphs.{most_members}
 use Rattle.cross_tests.proofs.Sizes.{lists_fit, scratch_fits}
 use Rattle.cross_tests.proofs.orders.certified.Goals as goal

@@ -2,10 +2,10 @@ use Rattle.std.proofs.Common.{◌≡◌, ◌∙◌, ℕ, sym, ap}
 use Rattle.std.specs.Cmp.{nat_cmp_total}
 use Rattle.std.specs.FinMap as map
 use Rattle.std.specs.FinSet as fin
-use Rattle.dep_graph.specs.Graph.{Graph, is_member, members_of}
+use Rattle.graphs.specs.Closures.{Closure, is_member, members_of}
 use Rattle.cross_tests.proofs.orders.is_in.Goals as goal
 
-in_members : (dep : Graph) (p : ℕ) → fin.contains (members_of dep) p ≡ is_member dep p
+in_members : (dep : Closure) (p : ℕ) → fin.contains (members_of dep) p ≡ is_member dep p
 unfolding members_of is_member
 in_members dep p = fin.contains-from_list nat_cmp_total (map.keys dep) p ∙ sym (map.contains_key-keys dep p)
 

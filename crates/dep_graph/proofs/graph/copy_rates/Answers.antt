@@ -1,8 +1,8 @@
 use Rattle.std.proofs.Common.{◌≡◌, ◌<◌, ◌*◌, ◌++◌, ap, ◌∙◌, sym}
 use Rattle.std.proofs.lemmas.List.{get_or_read_under}
+use Rattle.graphs.specs.Closures.{no_rate}
 use Rattle.bitset.specs.Places.{places}
 use Rattle.bitset.specs.Sets.{places-here}
-use Rattle.dep_graph.specs.Graph.{no_rate}
 use Rattle.dep_graph.specs.Rows.{rate_at}
 use Rattle.dep_graph.proofs.Copying.{Copying-start, Copying-more, Copying-all}
 use Rattle.dep_graph.proofs.graph.copy_rates.Goals as goal

@@ -1,6 +1,6 @@
 use Rattle.std.proofs.Common.{◌≡◌, ◌*◌}
+use Rattle.graphs.specs.Closures.{no_rate}
 use Rattle.bitset.specs.Places.{places}
-use Rattle.dep_graph.specs.Graph.{no_rate}
 use Rattle.dep_graph.specs.Rows.{rate_at}
 use Rattle.dep_graph.proofs.Copying.{Copying}
 use Rattle.dep_graph.proofs.graph.copy_rates.Given as goal

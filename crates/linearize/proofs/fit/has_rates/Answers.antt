@@ -1,12 +1,12 @@
 use Rattle.std.proofs.Common.{◌≡◌, ◌∙◌, ◌*◌, ℕ, refl, sym, subst, true, false}
-use Rattle.dep_graph.specs.Graph.{Graph, is_member, members_of, rate_of}
+use Rattle.graphs.specs.Closures.{Closure, is_member, members_of, rate_of}
 use Rattle.fee_rate.specs.Limits.{IsRate}
 use Rattle.linearize.proofs.Places.{clash, members_tested, member_here, tested_more, each_member}
 use Rattle.linearize.proofs.Sizes.{lists_fit}
 use Rattle.linearize.proofs.fit.has_rates.Goals as goal
 
 -- the fee and the size of a place are those of a transaction
-abbrev Rated : Graph → ℕ → Type 0
+abbrev Rated : Closure → ℕ → Type 0
 Rated dep p = IsRate (rate_of dep p)
 
 pub loop-place-init : goal.loop-place-init

@@ -1,5 +1,5 @@
 use Rattle.std.proofs.Common.{◌*◌}
-use Rattle.dep_graph.specs.Graph.{members_of, rate_of}
+use Rattle.graphs.specs.Closures.{members_of, rate_of}
 use Rattle.fee_rate.specs.Limits.{IsRate}
 use Rattle.linearize.proofs.Places.{Tested}
 use Rattle.linearize.proofs.fit.has_rates.Given as goal

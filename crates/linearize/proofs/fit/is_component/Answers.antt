@@ -2,48 +2,48 @@ use Rattle.std.proofs.Common.{◌≡◌, ◌⊎◌, inl, inr, ◌∙◌, ℕ, Li
 use Rattle.std.specs.Cmp.{nat_cmp_total}
 use Rattle.std.specs.FinSet as fin
 use Rattle.std.specs.Ordering.{nat_cmp}
+use Rattle.graphs.specs.Closures.{Closure, is_member, members_of, IsNear}
 use Rattle.lists.specs.Walks.{IsWalk, Walk}
-use Rattle.dep_graph.specs.Graph.{Graph, is_member, members_of, IsNear}
 use Rattle.linearize.proofs.Places.{in_members}
 use Rattle.linearize.proofs.Sets.{not_empty}
 use Rattle.linearize.proofs.Sizes.{words_fit, lists_fit}
 use Rattle.linearize.proofs.fit.is_component.Goals as goal
 
 -- a walk among members, by steps to ancestors and descendants
-abbrev Path : Graph → fin.FinSet nat_cmp → ℕ → ℕ → Type 0
+abbrev Path : Closure → fin.FinSet nat_cmp → ℕ → ℕ → Type 0
 Path dep s a b = Walk (IsNear dep s) a b
 
-abbrev IsPath : Graph → fin.FinSet nat_cmp → ℕ → List ℕ → ℕ → Type 0
+abbrev IsPath : Closure → fin.FinSet nat_cmp → ℕ → List ℕ → ℕ → Type 0
 IsPath dep s a us b = IsWalk (IsNear dep s) a us b
 
 swap : {A B : Type 0} → A ⊎ B → B ⊎ A
 swap (inl a) = inr a
 swap (inr b) = inl b
 
-near_back : (dep : Graph) (s : fin.FinSet nat_cmp) (a b : ℕ) → IsNear dep s a b → IsNear dep s b a
+near_back : (dep : Closure) (s : fin.FinSet nat_cmp) (a b : ℕ) → IsNear dep s a b → IsNear dep s b a
 near_back dep s a b near = record {
   from_within = near.to_within;
   to_within = near.from_within;
   related = swap near.related;
 }
 
-join : (dep : Graph) (s : fin.FinSet nat_cmp) (us : List ℕ) (a b c : ℕ)
+join : (dep : Closure) (s : fin.FinSet nat_cmp) (us : List ℕ) (a b c : ℕ)
     → IsPath dep s a us b → Path dep s b c → Path dep s a c
 join dep s [] a b c w v = subst (λ (k : ℕ). Path dep s k c) (sym w) v
 join dep s (u ∷ us) a b c w v = let rest = join dep s us u b c w.1 v in (u ∷ rest.0, (w.0, rest.1))
 
-back : (dep : Graph) (s : fin.FinSet nat_cmp) (us : List ℕ) (a b : ℕ) → IsPath dep s a us b → Path dep s b a
+back : (dep : Closure) (s : fin.FinSet nat_cmp) (us : List ℕ) (a b : ℕ) → IsPath dep s a us b → Path dep s b a
 back dep s [] a b w = ([], sym w)
 back dep s (u ∷ us) a b w =
     let rest = back dep s us u b w.1 in
     join dep s rest.0 b u a rest.1 (a ∷ [], (near_back dep s a u w.0, (λ i. a)))
 
 -- a set that is the members' holds members
-member_of : (dep : Graph) (s : fin.FinSet nat_cmp) (p : ℕ)
+member_of : (dep : Closure) (s : fin.FinSet nat_cmp) (p : ℕ)
     → s ≡ members_of dep → fin.contains s p ≡ true → is_member dep p ≡ true
 member_of dep s p is h = sym (in_members dep p) ∙ ap (λ t. fin.contains t p) (sym is) ∙ h
 
-of_member : (dep : Graph) (s : fin.FinSet nat_cmp) (p : ℕ)
+of_member : (dep : Closure) (s : fin.FinSet nat_cmp) (p : ℕ)
     → s ≡ members_of dep → is_member dep p ≡ true → fin.contains s p ≡ true
 of_member dep s p is m = ap (λ t. fin.contains t p) is ∙ in_members dep p ∙ m
 

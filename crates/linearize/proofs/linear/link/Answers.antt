@@ -1,7 +1,7 @@
 use Rattle.std.proofs.Common.{◌≡◌, ◌<◌, ◌*◌, ◌∙◌, ap, sym, subst, arith, refl, true}
 use Rattle.std.specs.FinSet as fin
+use Rattle.graphs.specs.Closures.{members_of}
 use Rattle.bitset.specs.Places.{places, IsWithin}
-use Rattle.dep_graph.specs.Graph.{members_of}
 use Rattle.linearize.proofs.Places.{goes_here, in_members, linked_start, linked_more, linked_all}
 use Rattle.linearize.proofs.Sizes.{words_fit, lists_fit, offset_fits}
 use Rattle.linearize.proofs.linear.link.Goals as goal

@@ -1,5 +1,5 @@
 use Rattle.std.proofs.Common.{◌*◌}
-use Rattle.dep_graph.specs.Graph.{members_of}
+use Rattle.graphs.specs.Closures.{members_of}
 use Rattle.linearize.proofs.Places.{Linked}
 use Rattle.linearize.proofs.linear.link.Given as goal
 

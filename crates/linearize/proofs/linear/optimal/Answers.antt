@@ -1,7 +1,7 @@
 use Rattle.std.proofs.Common.{◌≡◌, ◌*◌, ◌∙◌, ℕ, ap, sym, subst, arith, lit<, true, List, map, ◌++◌}
 use Rattle.std.specs.FinSet as fin
+use Rattle.graphs.specs.Closures.{is_member, members_of, IsClosed}
 use Rattle.bitset.specs.Places.{IsWithin}
-use Rattle.dep_graph.specs.Graph.{is_member, members_of, IsClosed}
 use Rattle.graphs.specs.Graphs as model
 use Rattle.graphs.specs.Certificates.{Part, IsCertificate}
 use Rattle.graphs.specs.Linearizations.{IsOptimal}

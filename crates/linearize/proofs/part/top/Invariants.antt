@@ -1,6 +1,6 @@
 use Rattle.std.proofs.Common.{◌≡◌, true}
 use Rattle.std.specs.FinSet as fin
-use Rattle.dep_graph.specs.Graph.{ancestors_of}
+use Rattle.graphs.specs.Closures.{ancestors_of}
 use Rattle.linearize.proofs.part.top.Given as goal
 
 abbrev pub invariant-loop-next : goal.invariant-loop-next

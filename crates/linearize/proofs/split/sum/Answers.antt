@@ -3,8 +3,8 @@ use Rattle.std.specs.FinSet as fin
 use Rattle.std.proofs.lemmas.Int.{to_z-of_z, fits_signed_from_abs}
 use mir.Syntax.{w64}
 use mir.Val.{SFits}
+use Rattle.graphs.specs.Closures.{rate_of}
 use Rattle.fee_rate.specs.Limits.{IsRate}
-use Rattle.dep_graph.specs.Graph.{rate_of}
 use Rattle.linearize.proofs.Places.{goes_here, goes_below}
 use Rattle.linearize.proofs.Totals.{Summed, summed_more, fee_fits, size_fits, summed_small, summed_all}
 use Rattle.linearize.proofs.Sizes.{lists_fit}

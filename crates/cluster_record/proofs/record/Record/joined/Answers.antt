@@ -1,6 +1,6 @@
 use Rattle.std.proofs.Common.{◌≡◌, ℕ, ◌*◌, ◌+◌, ◌<◌, ◌≤◌, ◌++◌, List, length, slice_index, rules, arith, sym, ap, ap₂, ◌∙◌, subst, subst₂, Contains, lt-ltb}
 use Rattle.std.specs.FinSet as set
-use Rattle.dep_graph.specs.Graph.{members_of, AddsPair}
+use Rattle.graphs.specs.Closures.{members_of, AddsPair}
 use Rattle.cluster_record.specs.Clusters.{Cluster, AreApart}
 use Rattle.cluster_record.specs.Changes.{Joins}
 use Rattle.cluster_record.specs.Named.{named, IsNamed}

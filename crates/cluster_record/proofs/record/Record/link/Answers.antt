@@ -1,5 +1,5 @@
 use Rattle.std.proofs.Common.{◌≡◌, ◌*◌, ◌<◌, false, length, slice_index, sym, ◌∙◌, subst, rules}
-use Rattle.dep_graph.specs.Graph.{is_ancestor, AddsPair}
+use Rattle.graphs.specs.Closures.{is_ancestor, AddsPair}
 use Rattle.cluster_record.specs.Clusters.{Cluster}
 use Rattle.cluster_record.specs.Named.{named}
 use Rattle.cluster_record.proofs.Names.{named-ancestor}

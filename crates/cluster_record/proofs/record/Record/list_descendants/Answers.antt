@@ -1,7 +1,7 @@
 use Rattle.std.proofs.Common.{◌≡◌, ℕ, true, ◌*◌, ◌<◌, ◌≤◌, ◌+◌, List, length, arith, rules, sym, ap, subst, slice_index}
+use Rattle.graphs.specs.Closures.{is_ancestor}
 use Rattle.bitset.specs.Places.{IsWithin}
 use Rattle.graphs.specs.Graphs.{Lists}
-use Rattle.dep_graph.specs.Graph.{is_ancestor}
 use Rattle.cluster_record.specs.Clusters.{Cluster, AreOnce}
 use Rattle.cluster_record.specs.Changes.{IsChosen}
 use Rattle.cluster_record.proofs.Listings.{below_within, below_listed}

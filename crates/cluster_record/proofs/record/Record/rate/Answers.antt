@@ -1,5 +1,5 @@
 use Rattle.std.proofs.Common.{◌≡◌, ℕ, ◌<◌, length, slice_index, sym, ◌∙◌, subst}
-use Rattle.dep_graph.specs.Graph.{rate_of}
+use Rattle.graphs.specs.Closures.{rate_of}
 use Rattle.cluster_record.specs.Clusters.{Cluster}
 use Rattle.cluster_record.proofs.Names.{named-rate}
 use Rattle.cluster_record.proofs.record.Record.rate.Goals as goal

@@ -1,5 +1,5 @@
 use Rattle.std.proofs.Common.{◌≡◌, ℕ, ◌<◌, length, slice_index, sym, ◌∙◌, subst}
-use Rattle.dep_graph.specs.Graph.{is_ancestor}
+use Rattle.graphs.specs.Closures.{is_ancestor}
 use Rattle.cluster_record.specs.Clusters.{Cluster}
 use Rattle.cluster_record.proofs.Names.{named-ancestor}
 use Rattle.cluster_record.proofs.record.Record.reaches.Goals as goal

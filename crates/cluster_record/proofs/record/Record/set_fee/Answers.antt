@@ -1,5 +1,5 @@
 use Rattle.std.proofs.Common.{ℤ, ◌*◌, ◌<◌, length, slice_index, subst, to_z-of_z}
-use Rattle.dep_graph.specs.Graph.{SetsFee}
+use Rattle.graphs.specs.Closures.{SetsFee}
 use Rattle.cluster_record.specs.Clusters.{Cluster}
 use Rattle.cluster_record.specs.Named.{named}
 use Rattle.cluster_record.proofs.Kept.{SetsFee-named, IsNamed-fee, IsCluster-named}

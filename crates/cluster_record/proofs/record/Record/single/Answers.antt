@@ -1,6 +1,6 @@
 use Rattle.std.proofs.Common.{◌≡◌, ℕ, ℤ, ◌*◌, ◌≤◌, List, [], ◌∷◌, ◌++◌, sym, ap, ◌∙◌, subst, rules, arith, to_z-of_z}
 use Rattle.std.specs.FinSet as set
-use Rattle.dep_graph.specs.Graph.{members_of, AddsPlace}
+use Rattle.graphs.specs.Closures.{members_of, AddsPlace}
 use Rattle.cluster_record.specs.Changes.{IsSingle}
 use Rattle.cluster_record.specs.Named.{named, IsNamed}
 use Rattle.cluster_record.proofs.Kept.{IsCluster-named}

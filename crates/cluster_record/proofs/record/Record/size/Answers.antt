@@ -1,6 +1,6 @@
 use Rattle.std.proofs.Common.{◌≡◌, ◌*◌, ◌<◌, ◌≤◌, length, arith, ap}
+use Rattle.graphs.specs.Closures.{rate_of}
 use Rattle.fee_rate.specs.declared.rates.FeeRate.{FeeRate}
-use Rattle.dep_graph.specs.Graph.{rate_of}
 use Rattle.cluster_record.proofs.Listings.{sizes_more, size_small}
 use Rattle.cluster_record.proofs.record.Record.size.Goals as goal
 

@@ -1,6 +1,6 @@
 use Rattle.std.proofs.Common.{◌≡◌, ◌*◌, ◌≤◌, take}
 use Rattle.std.specs.Prelude.{sum_by}
-use Rattle.dep_graph.specs.Graph.{rate_of}
+use Rattle.graphs.specs.Closures.{rate_of}
 use Rattle.cluster_record.specs.Named.{named}
 use Rattle.cluster_record.proofs.record.Record.size.Given as goal
 

@@ -1,6 +1,6 @@
 use Rattle.std.proofs.Common.{rules, ◌*◌, subst, to_z-of_z, ap, ◌∙◌, refl, arith}
 use Rattle.std.specs.FinSet as fin
-use Rattle.dep_graph.specs.Graph.{AddsPlace}
+use Rattle.graphs.specs.Closures.{AddsPlace}
 use Rattle.dep_graph.specs.Rows.{graph_from}
 use Rattle.dep_graph.proofs.Kept.{kept_within, members_of-kept}
 use Rattle.dep_graph.proofs.Added.{free_low, reached, Agrees-same, Agrees-put, agree_keeps, agree_graph, room_put, on_err, contains-only}

@@ -1,6 +1,6 @@
 use Rattle.std.proofs.Common.{◌*◌, ◌≡◌, ap, ap₂, ◌∙◌, true, false}
 use Rattle.std.specs.FinSet as fin
-use Rattle.dep_graph.specs.Graph.{IsNear}
+use Rattle.graphs.specs.Closures.{IsNear}
 use Rattle.dep_graph.proofs.Kept.{up_there, up_read, down_there, down_read}
 use Rattle.dep_graph.proofs.Components.{Searched-start, Searched-more, Searched-all, left_there, fewer_left, none_left}
 use Rattle.dep_graph.proofs.graph.DepGraph.component.Goals as goal

@@ -1,5 +1,5 @@
 use Rattle.std.specs.FinSet as fin
-use Rattle.dep_graph.specs.Graph.{IsNear}
+use Rattle.graphs.specs.Closures.{IsNear}
 use Rattle.dep_graph.proofs.Components.{Searched}
 use Rattle.dep_graph.proofs.graph.DepGraph.component.Given as goal
 

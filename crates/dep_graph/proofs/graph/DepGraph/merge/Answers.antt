@@ -1,8 +1,8 @@
 use Rattle.std.proofs.Common.{rules, ◌*◌, ◌+◌, ◌≤◌, length, ap, ◌∙◌, subst, subst₂, arith}
 use Rattle.std.specs.FinSet as fin
+use Rattle.graphs.specs.Closures.{IsMerged}
 use Rattle.bitset.specs.Places.{places, first_places}
 use Rattle.bitset.specs.Sets.{IsRising-places, len-places}
-use Rattle.dep_graph.specs.Graph.{IsMerged}
 use Rattle.dep_graph.specs.Rows.{graph_from}
 use Rattle.dep_graph.specs.Changes.{CopiesRates, CopiesSets}
 use Rattle.dep_graph.proofs.Kept.{members_of-kept, kept_within}

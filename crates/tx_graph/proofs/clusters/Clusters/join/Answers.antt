@@ -1,7 +1,7 @@
 use Rattle.std.proofs.Common.{◌≡◌, ◌*◌, ◌≤◌, [], Some, is_some, rules, sym, ap, ◌∙◌, subst, subst₂}
 use Rattle.std.specs.FinMap as finmap
+use Rattle.graphs.specs.Closures.{AddsPair}
 use Rattle.lists.proofs.Entries.{Contains-head}
-use Rattle.dep_graph.specs.Graph.{AddsPair}
 use Rattle.cluster_record.specs.Changes.{Joins}
 use Rattle.tx_graph.specs.Shelves.{Shelf, graph_of, cluster_at}
 use Rattle.tx_graph.proofs.Graphs.{at_contains, one_key}

@@ -1,6 +1,6 @@
 use Rattle.std.proofs.Common.{◌≡◌, ℕ, false, ◌*◌, ◌≤◌, Some, rules, sym, ap, ◌∙◌, subst, subst₂, set}
 use Rattle.std.specs.FinMap as finmap
-use Rattle.dep_graph.specs.Graph.{AddsPair, is_ancestor}
+use Rattle.graphs.specs.Closures.{AddsPair, is_ancestor}
 use Rattle.tx_graph.specs.Shelves.{Shelf, graph_of, cluster_at, HasAt}
 use Rattle.tx_graph.proofs.Graphs.{at_contains}
 use Rattle.tx_graph.proofs.Slots.{set_here, set_other, stands_in, is_there, not_in_cluster}

@@ -1,7 +1,7 @@
 use Rattle.std.proofs.Common.{◌≡◌, ℕ, ◌*◌, ◌+◌, ◌≤◌, List, length, Option, Some, is_some, rules, arith, sym, ap, ◌∙◌, subst}
 use Rattle.std.specs.FinMap as finmap
+use Rattle.graphs.specs.Closures.{DropsPlace}
 use Rattle.slab.specs.Slab.{Slab, slab_len}
-use Rattle.dep_graph.specs.Graph.{DropsPlace}
 use Rattle.cluster_record.specs.Clusters.{Cluster}
 use Rattle.cluster_record.specs.Changes.{IsSplit}
 use Rattle.tx_graph.specs.Shelves.{Shelf, graph_of, cluster_at}

@@ -1,6 +1,6 @@
 use Rattle.std.proofs.Common.{◌≡◌, ℕ, ℤ, ◌*◌, ◌≤◌, slice_index, Some, rules, sym, subst, to_z-of_z, set}
 use Rattle.std.specs.FinMap as finmap
-use Rattle.dep_graph.specs.Graph.{SetsFee}
+use Rattle.graphs.specs.Closures.{SetsFee}
 use Rattle.tx_graph.specs.Shelves.{Shelf, graph_of}
 use Rattle.tx_graph.proofs.Graphs.{at_contains}
 use Rattle.tx_graph.proofs.Slots.{set_here, set_other, stands_in, is_there}

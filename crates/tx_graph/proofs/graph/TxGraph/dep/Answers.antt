@@ -1,8 +1,8 @@
 use Rattle.std.proofs.Common.{◌≡◌, ◌*◌, true, false, None, Some, sym, ap, is_some, ◌∙◌, subst, subst₂, arith}
+use Rattle.graphs.specs.Closures.{is_ancestor}
 use Rattle.graph_model.specs.declared.names.Refusal.TheVariants.{Memory}
 use Rattle.graph_model.specs.Commands.{Dep}
 use Rattle.graph_model.specs.Replies.{Done, Refused}
-use Rattle.dep_graph.specs.Graph.{is_ancestor}
 use Rattle.graph_model.specs.Replies.{change_reply}
 use Rattle.tx_graph.specs.Kept.{MakesStep}
 use Rattle.tx_graph.specs.Shelves.{graph_of}

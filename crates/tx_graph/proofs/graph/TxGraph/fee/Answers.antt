@@ -1,11 +1,11 @@
 use Rattle.std.proofs.Common.{true, sym, ap, is_some, ◌∙◌, subst, true≢false}
 use Rattle.std.proofs.lemmas.Int.{to_z-of_z}
 use Rattle.std.specs.Int.{w64}
+use Rattle.graphs.specs.Closures.{SetsFee}
 use Rattle.fee_rate.specs.Limits.{IsFee}
 use Rattle.graph_model.specs.declared.names.Refusal.TheVariants.{Fee, Unknown}
 use Rattle.graph_model.specs.Commands.{SetFee}
 use Rattle.graph_model.specs.Replies.{Done, Refused}
-use Rattle.dep_graph.specs.Graph.{SetsFee}
 use Rattle.tx_graph.specs.Shelves.{graph_of}
 use Rattle.tx_graph.proofs.Standing.{steps_refused, itself}
 use Rattle.tx_graph.proofs.Calls.{kept_of, from_view, both_views, sound_after, fee_out_row, fee_unknown_row, fee_step}

@@ -1,4 +1,5 @@
--- What a dependency graph is: members with their fee and size, and an ancestor relation between them.
+-- Closures: members with their fee and size, and which is an ancestor of which, without the pairs that make it so. `DepGraph` of
+-- Core's `cluster_linearize.h` is one.
 use Rattle.std.specs.Prelude.{◌≡◌, ◌≢◌, ℕ, ◌+◌, ◌<◌, ◌≤◌, ◌⊎◌, Bool, true, false, ◌&&◌, ◌||◌, not, nat_eq, nat_lt, List, length, slice_index, ℤ, pos, Option, Some, None, refl}
 use Rattle.std.specs.Ordering.{nat_cmp}
 use Rattle.std.specs.Coded.{Coded, code_by, coded×, coded_ℕ, coded_ℤ}
@@ -16,15 +17,15 @@ node_code =
     code_by (ℤ × (ℕ × set.FinSet nat_cmp)) (coded× coded_ℤ (coded× coded_ℕ (set.code coded_ℕ)))
     (λ n. (n.rate.fee, (n.rate.size, n.ancestors))) (λ p. record { rate = record { fee = p.0; size = p.1.0 }; ancestors = p.1.1 }) (λ _. refl)
 
-abbrev pub Graph : Type 0
-Graph = map.FinMap nat_cmp Node
+abbrev pub Closure : Type 0
+Closure = map.FinMap nat_cmp Node
 
-abbrev pub graph_code : Coded Graph
-graph_code = map.code coded_ℕ node_code
+abbrev pub closure_code : Coded Closure
+closure_code = map.code coded_ℕ node_code
 
--- ---- what is asked of a graph
+-- ---- what is asked of a closure
 
-unfoldable pub is_member : Graph → ℕ → Bool
+unfoldable pub is_member : Closure → ℕ → Bool
 is_member g p = map.contains_key g p
 
 -- of a place that is no member
@@ -40,22 +41,22 @@ ancestors_in None = set.empty
 ancestors_in (Some n) = n.ancestors
 
 -- fee and size of a member
-unfoldable pub rate_of : Graph → ℕ → FeeRate
+unfoldable pub rate_of : Closure → ℕ → FeeRate
 rate_of g p = rate_in (map.get g p)
 
 -- the ancestors of a place, none where it is no member
-unfoldable pub ancestors_of : Graph → ℕ → set.FinSet nat_cmp
+unfoldable pub ancestors_of : Closure → ℕ → set.FinSet nat_cmp
 ancestors_of g p = ancestors_in (map.get g p)
 
 -- whether a is an ancestor of d
-abbrev pub is_ancestor : Graph → ℕ → ℕ → Bool
+abbrev pub is_ancestor : Closure → ℕ → ℕ → Bool
 is_ancestor g a d = set.contains (ancestors_of g d) a
 
-unfoldable pub members_of : Graph → set.FinSet nat_cmp
+unfoldable pub members_of : Closure → set.FinSet nat_cmp
 members_of g = set.from_list (map.keys g)
 
 -- the members that a place is an ancestor of
-abbrev pub descendants_of : Graph → ℕ → set.FinSet nat_cmp
+abbrev pub descendants_of : Closure → ℕ → set.FinSet nat_cmp
 descendants_of g p = set.retain (members_of g) (λ d. is_ancestor g p d)
 
 -- an order: on members alone, each member in relation to itself, what is related over a third is related, and no two are related both ways
@@ -65,31 +66,31 @@ pub record IsOrder (member : ℕ → Bool) (above : ℕ → ℕ → Bool) : Type
   pub transitive : (a b c : ℕ) → above a b ≡ true → above b c ≡ true → above a c ≡ true
   pub antisymmetric : (a b : ℕ) → above a b ≡ true → above b a ≡ true → a ≡ b
 
--- what holds of every graph whose places are below n: the ancestor relation is an order on the members
-pub record IsClosed (n : ℕ) (g : Graph) : Type 0 where
+-- what holds of every closure whose places are below n: the ancestor relation is an order on the members
+pub record IsClosed (n : ℕ) (g : Closure) : Type 0 where
   pub within : (p : ℕ) → is_member g p ≡ true → p < n
   pub order : IsOrder (is_member g) (is_ancestor g)
 
 -- a is a parent of d with nothing between: an ancestor, and no third place is both a descendant of a and an ancestor of d
-pub record IsCover (g : Graph) (a d : ℕ) : Type 0 where
+pub record IsCover (g : Closure) (a d : ℕ) : Type 0 where
   pub ancestor : is_ancestor g a d ≡ true
   pub other : a ≢ d
   pub direct : (m : ℕ) → is_ancestor g a m ≡ true → is_ancestor g m d ≡ true → (m ≡ a) ⊎ (m ≡ d)
 
 -- a set of members alone
-abbrev pub HoldsMembers : Graph → set.FinSet nat_cmp → Type 0
+abbrev pub HoldsMembers : Closure → set.FinSet nat_cmp → Type 0
 HoldsMembers g s = (p : ℕ) → set.contains s p ≡ true → is_member g p ≡ true
 
 -- two places of a set, one of them an ancestor of the other
-pub record IsNear (g : Graph) (within : set.FinSet nat_cmp) (a b : ℕ) : Type 0 where
+pub record IsNear (g : Closure) (within : set.FinSet nat_cmp) (a b : ℕ) : Type 0 where
   pub from_within : set.contains within a ≡ true
   pub to_within : set.contains within b ≡ true
   pub related : (is_ancestor g a b ≡ true) ⊎ (is_ancestor g b a ≡ true)
 
--- ---- changes, each told by what the graph answers after it
+-- ---- changes, each told by what the closure answers after it
 
 -- one more member, at the least place that was free, in no relation to the others
-pub record AddsPlace (old new : Graph) (rate : FeeRate) (place : ℕ) : Type 0 where
+pub record AddsPlace (old new : Closure) (rate : FeeRate) (place : ℕ) : Type 0 where
   pub free : is_member old place ≡ false
   pub least : (p : ℕ) → p < place → is_member old p ≡ true
   pub members : (p : ℕ) → is_member new p ≡ (nat_eq p place || is_member old p)
@@ -98,20 +99,20 @@ pub record AddsPlace (old new : Graph) (rate : FeeRate) (place : ℕ) : Type 0 w
   pub ancestors : (a d : ℕ) → is_ancestor new a d ≡ ((nat_eq a place && nat_eq d place) || is_ancestor old a d)
 
 -- one more pair: what descends from the child has the ancestors of the parent too
-pub record AddsPair (old new : Graph) (parent child : ℕ) : Type 0 where
+pub record AddsPair (old new : Closure) (parent child : ℕ) : Type 0 where
   pub members : (p : ℕ) → is_member new p ≡ is_member old p
   pub rates : (p : ℕ) → rate_of new p ≡ rate_of old p
   pub ancestors : (a d : ℕ) → is_ancestor new a d ≡ (is_ancestor old a d || (is_ancestor old a parent && is_ancestor old child d))
 
 -- another fee of one member
-pub record SetsFee (old new : Graph) (place : ℕ) (fee : ℤ) : Type 0 where
+pub record SetsFee (old new : Closure) (place : ℕ) (fee : ℤ) : Type 0 where
   pub members : (p : ℕ) → is_member new p ≡ is_member old p
   pub rate_is : rate_of new place ≡ record { fee = fee; size = (rate_of old place).size }
   pub rates : (p : ℕ) → p ≢ place → rate_of new p ≡ rate_of old p
   pub ancestors : (a d : ℕ) → is_ancestor new a d ≡ is_ancestor old a d
 
 -- one member fewer: the others keep their rates and the relation among themselves
-pub record DropsPlace (old new : Graph) (place : ℕ) : Type 0 where
+pub record DropsPlace (old new : Closure) (place : ℕ) : Type 0 where
   pub members : (p : ℕ) → is_member new p ≡ (not (nat_eq p place) && is_member old p)
   pub rates : (p : ℕ) → p ≢ place → rate_of new p ≡ rate_of old p
   pub ancestors : (a d : ℕ) → is_ancestor new a d ≡ (not (nat_eq a place) && (not (nat_eq d place) && is_ancestor old a d))
@@ -119,17 +120,17 @@ pub record DropsPlace (old new : Graph) (place : ℕ) : Type 0 where
 -- ---- graphs with places of their own
 
 -- the places of h from `first` on are these places of g, in this order: with their rates, and the relation among them
-pub record IsCopy (g : Graph) (ps : List ℕ) (first : ℕ) (h : Graph) : Type 0 where
+pub record IsCopy (g : Closure) (ps : List ℕ) (first : ℕ) (h : Closure) : Type 0 where
   pub rates : (i : ℕ) → i < length ps → rate_of h (first + i) ≡ rate_of g (slice_index ps i)
   pub ancestors : (i j : ℕ) → i < length ps → j < length ps → is_ancestor h (first + i) (first + j) ≡ is_ancestor g (slice_index ps i) (slice_index ps j)
 
 -- h has these places of g and no other
-pub record IsPart (g : Graph) (ps : List ℕ) (h : Graph) : Type 0 where
+pub record IsPart (g : Closure) (ps : List ℕ) (h : Closure) : Type 0 where
   pub members : (k : ℕ) → is_member h k ≡ nat_lt k (length ps)
   pub copy : IsCopy g ps 0 h
 
 -- h has these places of f, then these of g, and no other, and none of f is related to one of g
-pub record IsMerged (f g : Graph) (ps qs : List ℕ) (h : Graph) : Type 0 where
+pub record IsMerged (f g : Closure) (ps qs : List ℕ) (h : Closure) : Type 0 where
   pub members : (k : ℕ) → is_member h k ≡ nat_lt k (length ps + length qs)
   pub first : IsCopy f ps 0 h
   pub second : IsCopy g qs (length ps) h
