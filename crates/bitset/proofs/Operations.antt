@@ -8,6 +8,7 @@ use Rattle.std.specs.Int.{bit_at, trailing_zeros}
 use Rattle.std.specs.Ordering.{nat_cmp}
 use Rattle.std.specs.Cmp.{nat_cmp_total}
 use Rattle.std.specs.FinSet as fin
+use Rattle.lists.proofs.Cases.{false_from_not}
 use Rattle.bitset.specs.Places.{first_places, IsWithin, IsLeast}
 use Rattle.bitset.specs.Words.{is_set, is_place, members_of, AreWords}
 use Rattle.bitset.specs.OneBit.{is_set-zero, is_set-and, is_set-or, is_set-not, same_from_set}
@@ -196,10 +197,6 @@ lowest n some fits =
     let at : (trailing_zeros w64 n < 64) × (bit_at n (trailing_zeros w64 n) ≡ 1) × ((i : ℕ) → i < trailing_zeros w64 n → bit_at n i ≡ 0) = bit_at-trailing_zeros w64 n (omega arith) fits in
     (at.0, ap (λ m. nat_eq m 1) at.1, λ k h. ap (λ m. nat_eq m 1) (at.2 k h))
 
-not_true : (b : Bool) → not b ≡ true → b ≡ false
-not_true true e = sym e
-not_true false e = refl
-
 pub not_subset_is : (w i : ℕ) (xs ys : List ℕ) → AreWords w ys → without (slice_index xs i) (slice_index ys i) ≢ 0 → without (slice_index xs i) (slice_index ys i) < 2 ^ 64 → fin.is_subset (members_of xs) (members_of ys) ≡ false
 not_subset_is w i xs ys h some fits =
     let low : (trailing_zeros w64 (without (slice_index xs i) (slice_index ys i)) < 64) × (is_set (without (slice_index xs i) (slice_index ys i)) (trailing_zeros w64 (without (slice_index xs i) (slice_index ys i))) ≡ true) × ((k : ℕ) → k < trailing_zeros w64 (without (slice_index xs i) (slice_index ys i)) → is_set (without (slice_index xs i) (slice_index ys i)) k ≡ false) = lowest _ some fits in
@@ -208,7 +205,7 @@ not_subset_is w i xs ys h some fits =
     apart : (k : ℕ) → k < 64 → is_set (without (slice_index xs i) (slice_index ys i)) k ≡ true → fin.is_subset (members_of xs) (members_of ys) ≡ false
     apart k below here =
         let parts : (is_set (slice_index xs i) k ≡ true) × (is_set (2 ^ 64 - 1 - slice_index ys i) k ≡ true) = and_parts _ _ (sym (is_set-and (slice_index xs i) (2 ^ 64 - 1 - slice_index ys i) k) ∙ here) in
-        let absent : is_set (slice_index ys i) k ≡ false = not_true _ (sym (is_set-not (slice_index ys i) k (h.fit i) below) ∙ parts.1) in
+        let absent : is_set (slice_index ys i) k ≡ false = false_from_not _ (sym (is_set-not (slice_index ys i) k (h.fit i) below) ∙ parts.1) in
         false_from_ne_true _ (λ e. true≢false (
         sym (fin.is_subset-contains nat_cmp_total (members_of xs) (members_of ys) e (64 * i + k) (contains-members_of xs (64 * i + k) ∙ is_place-at xs i k below ∙ parts.0))
         ∙ contains-members_of ys (64 * i + k) ∙ is_place-at ys i k below ∙ absent))

@@ -20,11 +20,11 @@ pub fails_whole : (mine : CheckFault) (Part Whole : Type 0) (fault : CheckFault)
 fails_whole mine Part Whole fault part fails = (fails.0, λ whole. fails.1 (part whole))
 
 says_mine : (mine fault : CheckFault) (Whole : Type 0) → fault ≡ mine → (Whole → ⊥) → Says mine Whole fault
-says_mine mine Memory Whole is no = tt
-says_mine mine Order Whole is no = (sym is, no)
-says_mine mine Falling Whole is no = (sym is, no)
-says_mine mine Flow Whole is no = (sym is, no)
-says_mine mine Graph Whole is no = (sym is, no)
+says_mine mine Memory Whole is never = tt
+says_mine mine Order Whole is never = (sym is, never)
+says_mine mine Falling Whole is never = (sym is, never)
+says_mine mine Flow Whole is never = (sym is, never)
+says_mine mine Graph Whole is never = (sym is, never)
 
 -- and is said of it where the test of the whole may lack memory
 pub fails_says : (mine : CheckFault) (Part Whole : Type 0) (fault : CheckFault) → (Whole → Part) → Fails mine Part fault → Says mine Whole fault

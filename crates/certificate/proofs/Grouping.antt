@@ -5,6 +5,7 @@ use Rattle.std.proofs.lemmas.Bool.{cases_eq, cases_lt}
 use Rattle.std.proofs.lemmas.List.{get_or-set_same, get_or-set_other, length-set, length_push, get_or-replicate, length-replicate, get_or-map, length-map, get_or_default}
 use Rattle.std.proofs.lemmas.List.Elements.{All-append, All-map, Contains-append_cases, Contains-append_left, Contains-append_right, Contains-push, Contains-push_cases}
 use Rattle.std.proofs.lemmas.List.Sums.{sum_by-set}
+use Rattle.lists.proofs.Cases.{swap}
 use Rattle.graphs.proofs.WalkLemmas.{connected_trans}
 use Rattle.graphs.specs.Graphs.{Trail, AreConnected}
 use Rattle.certificate.specs.Chains.{pair_at, IsLast}
@@ -442,14 +443,10 @@ trail_there pairs a b (suc n) (c, t, inl last) =
 trail_there pairs a b (suc n) (c, t, inr last) =
     (c, trail_there pairs a c n t, inr ((both_have pairs b c).1 (inl last)))
 
-swapped : {A B : Type 0} → A ⊎ B → B ⊎ A
-swapped (inl a) = inr a
-swapped (inr b) = inl b
-
 trail_here : (pairs : List (ℕ × ℕ)) (a b n : ℕ) → Trail (pairs ++ map turned pairs) a b n → Trail pairs a b n
 trail_here pairs a b zero t = t
 trail_here pairs a b (suc n) (c, t, inl last) = (c, trail_here pairs a c n t, (both_have pairs c b).0 last)
-trail_here pairs a b (suc n) (c, t, inr last) = (c, trail_here pairs a c n t, swapped ((both_have pairs b c).0 last))
+trail_here pairs a b (suc n) (c, t, inr last) = (c, trail_here pairs a c n t, swap ((both_have pairs b c).0 last))
 
 pub both_groups : (pairs : List (ℕ × ℕ)) (groups : List ℕ) → AreGroups (pairs ++ map turned pairs) groups
     → AreGroups pairs groups

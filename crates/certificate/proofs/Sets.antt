@@ -3,7 +3,7 @@ use Rattle.std.proofs.Common.{◌≡◌, ℕ, zero, suc, eq-eqb, ◌+◌, ◌<�
 use Rattle.std.specs.Prelude.{Contains, ◌&&◌, ◌||◌, not}
 use Rattle.std.specs.List.{list_any}
 use Rattle.std.proofs.lemmas.Map.Views.{Contains-from_any}
-use Rattle.std.proofs.lemmas.Bool.{eqb-true, and_parts, and_from, or_left, or_right}
+use Rattle.std.proofs.lemmas.Bool.{eqb-true, and_parts, and_from, or_left, or_right, true≢false}
 use Rattle.std.proofs.lemmas.List.{take_more}
 use Rattle.std.proofs.lemmas.List.Elements.{Contains-push, Contains-append_left, Contains-push_cases}
 use Rattle.lists.proofs.Cases.{same_test, false_from_not, true_from_not}
@@ -42,9 +42,6 @@ holding has xs q h e = h.exact q ∙ contains_any q xs e
 pub holds_none : (has : ℕ × ℕ → Bool) → ((q : ℕ × ℕ) → has q ≡ false) → Holds has []
 holds_none has h = record { exact = h }
 
-pub true_false : true ≡ false → ⊥
-true_false e = cc
-
 add_cases : (e h : Bool) → cond e true h ≡ true → (e ≡ true) ⊎ (h ≡ true)
 add_cases true h k = inl refl
 add_cases false h k = inr k
@@ -73,7 +70,7 @@ holds_more has has' xs x h up = record {
 }
 
 pub fresh : (has : ℕ × ℕ → Bool) (xs : List (ℕ × ℕ)) (x : ℕ × ℕ) → Holds has xs → has x ≡ false → AreDistinct xs → AreDistinct (xs ++ (x ∷ []))
-fresh has xs x h none d = distinct_push xs x d (λ there. true_false (sym (holding has xs x h there) ∙ none))
+fresh has xs x h none d = distinct_push xs x d (λ there. true≢false (sym (holding has xs x h there) ∙ none))
 
 -- ---- a list of pairs put in, one after the other
 pub record IsUpto (has : ℕ × ℕ → Bool) (xs : List (ℕ × ℕ)) (k : ℕ) : Type 0 where

@@ -15,14 +15,6 @@ compare_fronts (x ∷ xs) ys (z ∷ zs) ws e =
       | inr (t, p, q) ↦ inr (t, cc, q)
     ]
 
-pub all_of_front : {A : Type 0} (P : A → Type 0) (xs ys : List A) → All P (xs ++ ys) → All P xs
-all_of_front P [] ys h = All-nil P
-all_of_front P (x ∷ xs) ys h = All-cons P x xs (All-head P x (xs ++ ys) h) (all_of_front P xs ys (All-tail P x (xs ++ ys) h))
-
-pub all_of_rest : {A : Type 0} (P : A → Type 0) (xs ys : List A) → All P (xs ++ ys) → All P ys
-all_of_rest P [] ys h = h
-all_of_rest P (x ∷ xs) ys h = all_of_rest P xs ys (All-tail P x (xs ++ ys) h)
-
 -- a list that isn't empty has a last entry
 pub last_split : {A : Type 0} (x : A) (xs : List A) → (ys : List A) × (y : A) × (x ∷ xs ≡ ys ++ (y ∷ []))
 last_split x [] = ([], x, refl)

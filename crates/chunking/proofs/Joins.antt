@@ -1,12 +1,13 @@
 -- Two parts of rising rate are one part.
 use Rattle.std.proofs.Common.{◌≡◌, ◌+◌, ◌≤◌, List, [], ◌∷◌, ◌++◌, inl, inr, refl, sym, ap, ◌∙◌, subst, arith}
 use Rattle.std.proofs.lemmas.List.{append-nil, append_assoc}
+use Rattle.lists.proofs.Entries.{All-back}
 use Rattle.fee_rate.proofs.Orders.{below_at_most, below_at_most_chains}
 use Rattle.fee_rate.specs.declared.rates.FeeRate.{FeeRate}
 use Rattle.fee_rate.specs.Laws.{joined}
 use Rattle.fee_rate.specs.Rates.{Below}
 use Rattle.chunking.specs.Chunkings.{sum_of, IsPart}
-use Rattle.chunking.proofs.Fronts.{compare_fronts, all_of_rest}
+use Rattle.chunking.proofs.Fronts.{compare_fronts}
 use Rattle.chunking.proofs.Sums.{below_joined, joined_below, below_rest, below_from_joined, sum_of-append, Sized, some_size}
 
 -- a front that is one of the two parts, or short of the first
@@ -26,7 +27,7 @@ front_within a b front (x ∷ t) p sa sb nb rise some e =
 front_beyond : (a b t rest : List FeeRate) → IsPart b → Sized b → (rest ≡ [] → ⊥) → Below (sum_of a) (sum_of b) → (t ≡ [] → ⊥) → b ≡ t ++ rest → Below (sum_of (a ++ t)) (sum_of ((a ++ t) ++ rest))
 front_beyond a b t rest p sb nr rise some e =
     let sizes : Sized (t ++ rest) = subst Sized e sb in
-    let size_rest : 1 ≤ (sum_of rest).size = some_size rest (all_of_rest (λ r. 1 ≤ r.size) t rest sizes) nr in
+    let size_rest : 1 ≤ (sum_of rest).size = some_size rest (All-back (λ r. 1 ≤ r.size) t rest sizes) nr in
     let size_b : 1 ≤ (sum_of b).size = some_size b sb p.some in
     let short : Below (sum_of t) (sum_of b) = p.fronts t rest some nr (sym e) in
     let parted : sum_of b ≡ joined (sum_of t) (sum_of rest) = ap sum_of e ∙ sum_of-append t rest in

@@ -5,6 +5,7 @@ use Rattle.std.specs.List.{flat_map}
 use Rattle.std.proofs.lemmas.List.{append-nil, append_assoc, length-append, take_more, take_more_set, same_from_push}
 use Rattle.std.proofs.lemmas.List.Concat.{flat_map-append}
 use Rattle.std.proofs.lemmas.List.Elements.{All-push, All-nil, All-head}
+use Rattle.lists.proofs.Entries.{All-front, All-back}
 use Rattle.fee_rate.specs.declared.rates.FeeRate.{FeeRate}
 use Rattle.fee_rate.specs.declared.rates.Sum.{Sum}
 use Rattle.fee_rate.specs.Laws.{joined}
@@ -12,7 +13,7 @@ use Rattle.fee_rate.specs.Limits.{IsRate, IsSum}
 use Rattle.fee_rate.specs.Rates.{AtMost, Below}
 use Rattle.chunking.specs.declared.chunks.Chunk.{Chunk}
 use Rattle.chunking.specs.Chunkings.{sum_of, IsPart, Fall, AreChunks, chunks_from}
-use Rattle.chunking.proofs.Fronts.{all_of_front, all_of_rest, last_split}
+use Rattle.chunking.proofs.Fronts.{last_split}
 use Rattle.chunking.proofs.Sums.{sum_of-append, Sized, sized, some_size, in_range}
 use Rattle.chunking.proofs.Joins.{joined_part, single_part}
 
@@ -103,7 +104,7 @@ pub last_range : (rates : List FeeRate) (chunks : List Chunk) (sum : Sum) → Al
 last_range rates chunks sum fine few s =
     let f : All IsRate (whole s.done ++ s.last) = subst (All IsRate) (sym s.whole) fine in
     let e = ap length s.whole in
-    let rest = all_of_rest IsRate (whole s.done) s.last f in
+    let rest = All-back IsRate (whole s.done) s.last f in
     let here = in_range s.last rest (omega (arith, length-append (whole s.done) s.last)) in
     let some = some_size s.last (sized s.last rest) s.part.some in
     subst (λ x. IsSum x × (1 ≤ x.size)) (sym s.sum_is) (here, some)
@@ -146,9 +147,9 @@ popped_from rates chunks all top sum e s =
       part = p.part;
       last = s.last;
       whole = sym (append_assoc (whole p.rest) p.part s.last) ∙ ap (λ l. l ++ s.last) (sym (whole-push p.rest p.part)) ∙ ap (λ d. whole d ++ s.last) (sym p.shape) ∙ s.whole;
-      each = all_of_front IsPart p.rest (p.part ∷ []) each;
+      each = All-front IsPart p.rest (p.part ∷ []) each;
       fall = subst Fall p.shape s.fall;
-      top_part = All-head IsPart p.part [] (all_of_rest IsPart p.rest (p.part ∷ []) each);
+      top_part = All-head IsPart p.part [] (All-back IsPart p.rest (p.part ∷ []) each);
       last_part = s.part;
       shown = p.shown;
       top_is = p.top_is;
@@ -170,8 +171,8 @@ pub record Fits (top sum : Sum) : Type 0 where
 pub top_range : (rates : List FeeRate) (chunks : List Chunk) (top sum : Sum) → All IsRate rates → length rates ≤ 2 ^ 20 → Popped rates chunks top sum → Fits top sum
 top_range rates chunks top sum fine few p =
     let f : All IsRate (whole p.rest ++ (p.part ++ p.last)) = subst (All IsRate) (sym p.whole) fine in
-    let both : All IsRate (p.part ++ p.last) = all_of_rest IsRate (whole p.rest) (p.part ++ p.last) f in
-    let here : All IsRate p.part = all_of_front IsRate p.part p.last both in
+    let both : All IsRate (p.part ++ p.last) = All-back IsRate (whole p.rest) (p.part ++ p.last) f in
+    let here : All IsRate p.part = All-front IsRate p.part p.last both in
     let n = ap length p.whole in
     let m = length-append (whole p.rest) (p.part ++ p.last) in
     let k = length-append p.part p.last in
@@ -187,7 +188,7 @@ top_range rates chunks top sum fine few p =
 pub stack_join : (rates : List FeeRate) (chunks : List Chunk) (top sum new : Sum) → All IsRate rates → Popped rates chunks top sum → Below top sum → new ≡ joined top sum → Stack rates chunks new
 stack_join rates chunks top sum new fine p rise e =
     let f : All IsRate (whole p.rest ++ (p.part ++ p.last)) = subst (All IsRate) (sym p.whole) fine in
-    let both : Sized (p.part ++ p.last) = sized (p.part ++ p.last) (all_of_rest IsRate (whole p.rest) (p.part ++ p.last) f) in
+    let both : Sized (p.part ++ p.last) = sized (p.part ++ p.last) (All-back IsRate (whole p.rest) (p.part ++ p.last) f) in
     let rise' : Below (sum_of p.part) (sum_of p.last) = subst (λ s. Below (sum_of p.part) s) p.sum_is (subst (λ t. Below t sum) p.top_is rise) in
     record {
       done = p.rest;
@@ -195,7 +196,7 @@ stack_join rates chunks top sum new fine p rise e =
       whole = p.whole;
       each = p.each;
       fall = fall_front p.rest (p.part ∷ []) p.fall;
-      part = joined_part p.part p.last p.top_part p.last_part (all_of_front (λ r. 1 ≤ r.size) p.part p.last both) (all_of_rest (λ r. 1 ≤ r.size) p.part p.last both) rise';
+      part = joined_part p.part p.last p.top_part p.last_part (All-front (λ r. 1 ≤ r.size) p.part p.last both) (All-back (λ r. 1 ≤ r.size) p.part p.last both) rise';
       shown = p.shown;
       sum_is = e ∙ ap (λ t. joined t sum) p.top_is ∙ ap (λ s. joined (sum_of p.part) s) p.sum_is ∙ sym (sum_of-append p.part p.last);
     }

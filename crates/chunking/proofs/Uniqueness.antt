@@ -4,13 +4,14 @@ use Rattle.std.specs.Prelude.{All}
 use Rattle.std.specs.List.{flat_map}
 use Rattle.std.proofs.lemmas.List.{append-nil}
 use Rattle.std.proofs.lemmas.List.Elements.{All-cons, All-head, All-tail, All-nil, All-weaker}
+use Rattle.lists.proofs.Entries.{All-front, All-back}
 use Rattle.fee_rate.proofs.Orders.{below_at_most, at_most_chains, below_clash}
 use Rattle.fee_rate.specs.declared.rates.FeeRate.{FeeRate}
 use Rattle.fee_rate.specs.declared.rates.Sum.{Sum}
 use Rattle.fee_rate.specs.Rates.{AtMost, Below}
 use Rattle.chunking.specs.Chunkings.{sum_of, IsPart, Fall}
 use Rattle.chunking.specs.Laws.{PartsAreUnique}
-use Rattle.chunking.proofs.Fronts.{compare_fronts, all_of_front, all_of_rest}
+use Rattle.chunking.proofs.Fronts.{compare_fronts}
 use Rattle.chunking.proofs.Sums.{below_rest, joined_at_most, sum_of-append, Sized, some_size}
 
 abbrev whole : List (List FeeRate) → List FeeRate
@@ -35,11 +36,11 @@ bounded r [] (x ∷ t) u each sizes below e some = cc
 bounded r (p ∷ parts) t u each sizes below e some =
     let part = All-head IsPart p parts each in
     let low : AtMost (sum_of p) r = All-head (λ p. AtMost (sum_of p) r) p parts below in
-    let sized_p : Sized p = all_of_front (λ r. 1 ≤ r.size) p (whole parts) sizes in
+    let sized_p : Sized p = All-front (λ r. 1 ≤ r.size) p (whole parts) sizes in
     elim (compare_fronts p (whole parts) t u e) [
       | inl (x, f, g) ↦
           beyond r p t x low
-          (λ n. bounded r parts x u (All-tail IsPart p parts each) (all_of_rest (λ r. 1 ≤ r.size) p (whole parts) sizes) (All-tail (λ p. AtMost (sum_of p) r) p parts below) g n)
+          (λ n. bounded r parts x u (All-tail IsPart p parts each) (All-back (λ r. 1 ≤ r.size) p (whole parts) sizes) (All-tail (λ p. AtMost (sum_of p) r) p parts below) g n)
           f
       | inr (x, f, g) ↦ within r p t x part sized_p low some f
     ]
@@ -52,9 +53,9 @@ below_first : (p : List FeeRate) (parts : List (List FeeRate)) → Fall (p ∷ p
 below_first p [] fall each sizes = All-nil (λ q. AtMost (sum_of q) (sum_of p))
 below_first p (q ∷ parts) fall each sizes =
     let part = All-head IsPart q parts each in
-    let size : 1 ≤ (sum_of q).size = some_size q (all_of_front (λ r. 1 ≤ r.size) q (whole parts) sizes) part.some in
+    let size : 1 ≤ (sum_of q).size = some_size q (All-front (λ r. 1 ≤ r.size) q (whole parts) sizes) part.some in
     let step : AtMost (sum_of q) (sum_of p) = fall.neighbours [] p q parts refl in
-    let more = below_first q parts (fall_tail p (q ∷ parts) fall) (All-tail IsPart q parts each) (all_of_rest (λ r. 1 ≤ r.size) q (whole parts) sizes) in
+    let more = below_first q parts (fall_tail p (q ∷ parts) fall) (All-tail IsPart q parts each) (All-back (λ r. 1 ≤ r.size) q (whole parts) sizes) in
     All-cons (λ q. AtMost (sum_of q) (sum_of p)) q parts step
     (All-weaker (λ x. AtMost (sum_of x) (sum_of q)) (λ x. AtMost (sum_of x) (sum_of p)) (λ x h. at_most_chains _ (sum_of q) _ size h step) parts more)
 
@@ -75,7 +76,7 @@ cut_tail : (p : List FeeRate) (parts : List (List FeeRate)) → Cut (p ∷ parts
 cut_tail p parts c = record {
   each = All-tail IsPart p parts c.each;
   fall = fall_tail p parts c.fall;
-  sizes = all_of_rest (λ r. 1 ≤ r.size) p (whole parts) c.sizes;
+  sizes = All-back (λ r. 1 ≤ r.size) p (whole parts) c.sizes;
 }
 
 empty_first : (p : List FeeRate) (parts : List (List FeeRate)) → Cut (p ∷ parts) → [] ≡ p ++ whole parts → ⊥
@@ -87,7 +88,7 @@ first_shorter p q [] ps qs c d e g = (sym (e ∙ append-nil p), g)
 first_shorter p q (w ∷ z) ps qs c d e g =
     let tail = cut_tail p ps c in
     absurd
-    (no_shorter p q z w ps qs (All-head IsPart p ps c.each) (All-head IsPart q qs d.each) (all_of_front (λ r. 1 ≤ r.size) p (whole ps) c.sizes) tail.each tail.sizes c.fall e g)
+    (no_shorter p q z w ps qs (All-head IsPart p ps c.each) (All-head IsPart q qs d.each) (All-front (λ r. 1 ≤ r.size) p (whole ps) c.sizes) tail.each tail.sizes c.fall e g)
 
 same_cuts : (xs ys : List (List FeeRate)) → Cut xs → Cut ys → whole xs ≡ whole ys → xs ≡ ys
 same_cuts [] [] c d e = refl

@@ -5,7 +5,7 @@ use Rattle.std.specs.Iterator.{AlwaysYields, Count, IsFinite}
 use Rattle.std.proofs.lemmas.Int.{ints}
 use Rattle.std.proofs.lemmas.List.Sums.{sum_by-cons}
 use Rattle.std.proofs.lemmas.List.Elements.{Contains-append_left}
-use Rattle.lists.proofs.Entries.{first_of, not_empty, Contains-head}
+use Rattle.lists.proofs.Entries.{first_of, not_empty, Contains-head, rest_of, Contains-cases}
 use Rattle.fee_rate.proofs.Orders.{same_sum}
 use Rattle.fee_rate.specs.declared.rates.FeeRate.{FeeRate}
 use Rattle.fee_rate.specs.declared.rates.Sum.{Sum}
@@ -30,13 +30,6 @@ always steps s (y ∷ ys) has = (
       let tails : ys ≡ found.0 = rest_of found.1 in
       (sym (first_of found.1), always steps t ys (subst (HasCorners steps t) (sym tails) found.2)),
 )
-  where
-    rest_of : {A : Type 0} {a b : A} {xs zs : List A} → a ∷ xs ≡ b ∷ zs → xs ≡ zs
-    rest_of e = cc
-
-point_cases : (p q : ℕ × ℤ) (points : List (ℕ × ℤ)) → Contains (p ∷ points) q → (p ≡ q) ⊎ Contains points q
-point_cases p q points (zero, below, same) = inl same
-point_cases p q points (suc k, below, same) = inr (k, omega arith, same)
 
 origin_fits : (before : Sum) (parts : List Sum) → FitBehind before parts → InRange before.fee before.size
 origin_fits before parts level = subst IsSum (same_sum (joined before (sum_of [])) before (omega (arith, ints)) (omega arith)) (level.fits [] parts refl)
@@ -54,7 +47,7 @@ good_corners : (groups : List (List Sum)) (before : Sum) → FitBehind before (f
     → AreGood ((before.size, before.fee) ∷ ends_from before (map sum_of groups))
 good_corners [] before level filled = record {
   rising = tt;
-  ranged = λ point h. elim (point_cases (before.size, before.fee) point [] h) [
+  ranged = λ point h. elim (Contains-cases (before.size, before.fee) point [] h) [
     | inl same ↦ subst (λ (p : ℕ × ℤ). InRange p.1 p.0) same (origin_fits before [] level)
     | inr none ↦ absurd (omega (arith, none.1))
   ];
@@ -65,7 +58,7 @@ good_corners (g ∷ gs) before level filled =
     let some : 1 ≤ (sum_of g).size = size_some g (filled g (0, omega arith, refl)) (λ part h. level.some part (Contains-append_left g (flat_map (λ group. group) gs) part h)) in
     record {
       rising = (omega (arith, some), rest.rising);
-      ranged = λ point h. elim (point_cases (before.size, before.fee) point (ends_from before (map sum_of (g ∷ gs))) h) [
+      ranged = λ point h. elim (Contains-cases (before.size, before.fee) point (ends_from before (map sum_of (g ∷ gs))) h) [
         | inl same ↦ subst (λ (p : ℕ × ℤ). InRange p.1 p.0) same (origin_fits before (flat_map (λ group. group) (g ∷ gs)) level)
         | inr later ↦ rest.ranged point later
       ];

@@ -3,7 +3,7 @@ use Rattle.std.proofs.Common.{◌≡◌, ℕ, ◌-◌, ◌<◌, ◌≤◌, Bool,
 use Rattle.std.specs.Prelude.{pos, if◌then◌else◌}
 use Rattle.std.proofs.lemmas.Bool.{cases_lt, le-leb, lt-leb}
 use Rattle.std.proofs.lemmas.Int.{ints, by_lt_z}
-use Rattle.fee_rate.proofs.Orders.{at_most_chains, same_at_most, same_back, same_chains}
+use Rattle.fee_rate.proofs.Orders.{at_most_chains, same_at_most, same_back, same_chains, same_sum}
 use Rattle.arithmetic.proofs.Products.{mul-add_left, mul-add_right, mul-sub_left, mul-sub_right, mul_swap_ℤ, scale_keeps}
 use Rattle.arithmetic.proofs.Rates.{cross_trans}
 use Rattle.fee_rate.specs.declared.rates.Sum.{Sum}
@@ -63,12 +63,8 @@ straight_between us ls x y z upper lower from to low high =
     let mid = rate_between lower.base lower.slope upper.base upper.slope lower.width upper.width x y z from to (at x (omega arith) low) (at z (omega arith) high) in
     subst (λ s. AtMost s (height_at us y)) (sym (lower.line y to)) (subst (λ s. AtMost (on_line lower.base lower.slope lower.width y) s) (sym (upper.line y to)) mid)
 
-sum_parts : ℤ → ℕ → Sum
-sum_parts fee size = record { fee = fee; size = size }
-
 same_fee : (f g : ℤ) (n : ℕ) → f ≡ g → ◌≡◌ {A = Sum} (record { fee = f; size = n }) (record { fee = g; size = n })
-unfolding sum_parts
-same_fee f g n e = ap (λ (z : ℤ). sum_parts z n) e
+same_fee f g n e = same_sum _ _ e refl
 
 pub height_early : (p q : ℕ × ℤ) (rest : List (ℕ × ℤ)) (x : ℕ) → x ≤ q.0 → height_at (p ∷ q ∷ rest) x ≡ height_between p q x
 height_early p q rest x h = ap (λ (b : Bool). if b then height_between p q x else height_at (q ∷ rest) x) (le-leb x q.0 h)

@@ -3,7 +3,7 @@ use Rattle.std.proofs.Common.{◌≡◌, ◌↔◌, zero, suc, ◌+◌, ◌≤�
 use Rattle.std.specs.Prelude.{Contains, ◌⊎◌}
 use Rattle.std.proofs.lemmas.Int.{ints}
 use Rattle.std.proofs.lemmas.List.Sums.{sum_by-cons}
-use Rattle.lists.proofs.Entries.{first_of, Contains-head}
+use Rattle.lists.proofs.Entries.{first_of, Contains-head, rest_of, Contains-cases}
 use Rattle.fee_rate.proofs.Orders.{same_sum}
 use Rattle.fee_rate.specs.declared.rates.Sum.{Sum}
 use Rattle.fee_rate.specs.Laws.{joined}
@@ -59,21 +59,14 @@ follow_apart last end rate rest follow =
 pub follow_joined : (last : Option Sum) (end rate : Sum) (rest : List Sum) → IsSum end → MayFollow last end rate → FollowOn (Some rate) (joined end rate) rest → FollowOn last end (rate ∷ rest)
 follow_joined last end rate rest fits may follow = record {
   falling = falls_joined last rate rest may.falling follow.falling;
-  some = λ part h. elim (cases part h) [ inl same ↦ subst (λ (p : Sum). 1 ≤ p.size) same may.some | inr later ↦ follow.some part later ];
-  ranged = λ part h. elim (cases part h) [ inl same ↦ subst IsSum same may.ranged | inr later ↦ follow.ranged part later ];
+  some = λ part h. elim (Contains-cases rate part rest h) [ inl same ↦ subst (λ (p : Sum). 1 ≤ p.size) same may.some | inr later ↦ follow.some part later ];
+  ranged = λ part h. elim (Contains-cases rate part rest h) [ inl same ↦ subst IsSum same may.ranged | inr later ↦ follow.ranged part later ];
   fits = fronts;
 }
   where
-    cases : (part : Sum) → Contains (rate ∷ rest) part → (rate ≡ part) ⊎ Contains rest part
-    cases part (zero, below, same) = inl same
-    cases part (suc k, below, same) = inr (k, omega arith, same)
-
-    tails : {A : Type 0} {a b : A} {xs ys : List A} → a ∷ xs ≡ b ∷ ys → xs ≡ ys
-    tails e = cc
-
     fronts : (front more : List Sum) → rate ∷ rest ≡ front ++ more → IsSum (joined end (sum_of front))
     fronts [] more e = subst IsSum (sym (none_more end)) fits
-    fronts (f ∷ front) more e = subst (λ z. IsSum (joined end (sum_of (z ∷ front)))) (first_of e) (subst IsSum (sym (one_more end rate front)) (follow.fits front more (tails e)))
+    fronts (f ∷ front) more e = subst (λ z. IsSum (joined end (sum_of (z ∷ front)))) (first_of e) (subst IsSum (sym (one_more end rate front)) (follow.fits front more (rest_of e)))
 
 pub follow_none : (last : Option Sum) (end : Sum) → IsSum end → FollowOn last end []
 follow_none last end fits = record {

@@ -5,6 +5,7 @@ use Rattle.std.specs.Iterator.{AlwaysYields}
 use Rattle.std.specs.Ordering.{ordering_reverse}
 use Rattle.std.specs.declared.cmp.Ordering.{Ordering}
 use Rattle.std.specs.declared.cmp.Ordering.TheVariants.{Less, Equal, Greater}
+use Rattle.lists.proofs.Entries.{not_empty, first_of, rest_of}
 use Rattle.fee_rate.proofs.Orders.{same_at_most, same_back, same_chains}
 use Rattle.arithmetic.proofs.Rates.{cross_trans_strict_left, cross_trans_strict_right}
 use Rattle.fee_rate.specs.declared.rates.Sum.{Sum}
@@ -37,10 +38,7 @@ points_start steps s t u from r points one two yields =
     subst (λ zs. ArePoints from r (AlwaysYields steps (λ corner. corner) u) zs) (sym found.1) (points_next steps t u r from found.0 found.2 two)
 
 pub never_empty : {S : Type 0} (steps : S → Option (ℕ × ℤ) → S → Type 0) (s t : S) (points : List (ℕ × ℤ)) → steps s None t → YieldsCorners steps s points → ⊥
-never_empty steps s t points step corners = not_both (sym corners.level.begins.1 ∙ step_none steps (λ corner. corner) s t points corners.yields step)
-  where
-    not_both : {A : Type 0} {x : A} {xs : List A} → x ∷ xs ≡ [] → ⊥
-    not_both e = cc
+never_empty steps s t points step corners = not_empty (sym corners.level.begins.1 ∙ step_none steps (λ corner. corner) s t points corners.yields step)
 
 -- ---- ranges
 Contains-head : (p : ℕ × ℤ) (points : List (ℕ × ℤ)) → Contains (p ∷ points) p
@@ -90,22 +88,16 @@ rest_stands p next rest points x whole stands =
     record {
       rising = rising.1;
       ranged = λ point h. stands.ranged point (subst (λ zs. Contains zs point) (sym whole) (suc h.0, omega (arith, h.1), h.2));
-      from = λ q others e. subst (λ (r : ℕ × ℤ). r.0 ≤ next.0) (heads e) (omega arith);
+      from = λ q others e. subst (λ (r : ℕ × ℤ). r.0 ≤ next.0) (first_of e) (omega arith);
       to = λ q r others e. to_next rest rising.1 q r others e;
     }
   where
-    heads : {A : Type 0} {a b : A} {xs ys : List A} → a ∷ xs ≡ b ∷ ys → a ≡ b
-    heads e = cc
-
-    tails : {A : Type 0} {a b : A} {xs ys : List A} → a ∷ xs ≡ b ∷ ys → xs ≡ ys
-    tails e = cc
-
     to_next : (zs : List (ℕ × ℤ)) → Rises (next ∷ zs) → (q r : ℕ × ℤ) (others : List (ℕ × ℤ)) → next ∷ zs ≡ q ∷ r ∷ others → next.0 ≤ r.0
-    to_next [] rises q r others e = absurd (none (tails e))
+    to_next [] rises q r others e = absurd (none (rest_of e))
       where
         none : {A : Type 0} {x : A} {xs : List A} → [] ≡ x ∷ xs → ⊥
         none e = cc
-    to_next (z ∷ zs) rises q r others e = subst (λ (k : ℕ × ℤ). next.0 ≤ k.0) (heads (tails e)) (omega (arith, rises.0))
+    to_next (z ∷ zs) rises q r others e = subst (λ (k : ℕ × ℤ). next.0 ≤ k.0) (first_of (rest_of e)) (omega (arith, rises.0))
 
 still_stands : (points : List (ℕ × ℤ)) (x y : ℕ) → x ≤ y → StandAt points x → ((p q : ℕ × ℤ) (rest : List (ℕ × ℤ)) → points ≡ p ∷ q ∷ rest → y ≤ q.0) → StandAt points y
 still_stands points x y later stands near = record {

@@ -4,6 +4,7 @@ use Rattle.std.proofs.lemmas.Bool.{cases_lt}
 use Rattle.std.proofs.lemmas.Int.{ints}
 use Rattle.std.specs.declared.cmp.Ordering.{Ordering}
 use Rattle.std.specs.declared.cmp.Ordering.TheVariants.{Less, Equal, Greater}
+use Rattle.lists.proofs.Entries.{first_of}
 use Rattle.fee_rate.proofs.Orders.{below_at_most, same_at_most, same_back, at_most_chains}
 use Rattle.fee_rate.specs.declared.rates.Sum.{Sum}
 use Rattle.fee_rate.specs.Rates.{AtMost, Below, Same, ComparesRates}
@@ -192,12 +193,9 @@ starts_at : (xs : List (ℕ × ℤ)) → AreLevelCorners xs → StandAt xs 0
 starts_at xs level = record {
   rising = level.rising;
   ranged = level.ranged;
-  from = λ p rest e. subst (λ (q : ℕ × ℤ). q.0 ≤ 0) (heads (sym level.begins.1 ∙ e)) (omega arith);
+  from = λ p rest e. subst (λ (q : ℕ × ℤ). q.0 ≤ 0) (first_of (sym level.begins.1 ∙ e)) (omega arith);
   to = λ p q rest e. omega arith;
 }
-  where
-    heads : {A : Type 0} {a b : A} {zs ws : List A} → a ∷ zs ≡ b ∷ ws → a ≡ b
-    heads e = cc
 
 pub walks_start : {S T : Type 0} (firsts : S → Option (ℕ × ℤ) → S → Type 0) (seconds : T → Option (ℕ × ℤ) → T → Type 0) (a : Side S) (b : Side T) (xs ys : List (ℕ × ℤ)) → AreLevelCorners xs → AreLevelCorners ys → HasPoints firsts a xs → HasPoints seconds b ys
     → Walks firsts seconds a b Even xs ys

@@ -26,9 +26,6 @@ use Rattle.diagram.specs.declared.segments.Ahead.{Ahead}
 use Rattle.diagram.specs.declared.segments.Ahead.TheVariants.{Unknown, Part, End}
 use Rattle.diagram.specs.declared.segments.Corners.{Corners}
 
-sum_parts : ℤ → ℕ → Sum
-sum_parts fee size = record { fee = fee; size = size }
-
 -- Some parts of the first one's rate were taken: their sum with what stood before, and what the iterator still gives.
 pub record SoFar {S : Type 0} (steps : S → Option FeeRate → S → Type 0) (before first : Sum) (more : List Sum) (now : S) (end : Sum) : Type 0 where
   pub group : List Sum

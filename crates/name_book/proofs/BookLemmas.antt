@@ -6,16 +6,13 @@ use Rattle.std.specs.List.{IsDistinct}
 use Rattle.std.specs.Option.{option_map, unwrap_or}
 use Rattle.std.specs.Map.{keys_of}
 use Rattle.std.specs.FinMap as finmap
-use Rattle.std.proofs.lemmas.Bool.{eqb-true}
+use Rattle.std.proofs.lemmas.Bool.{eqb-true, true≢false}
 use Rattle.std.proofs.lemmas.Map.{lookup-none}
 use Rattle.std.proofs.lemmas.Map.Entries.{none_past_head}
 use Rattle.node_pool.specs.declared.pool.Key.{Key}
 use Rattle.node_pool.specs.Nodes.{Nodes, value_at, IsLive, Updates, live_count}
 use Rattle.name_book.specs.declared.spot.Spot.{Spot}
 use Rattle.name_book.specs.Books.{Spots, spot_at, spot_or_zero, spots_of, key_of, IsBook}
-
-true_false : true ≡ false → ⊥
-true_false e = cc
 
 none_some : {A : Type 0} (x : A) → None ≡ Some x → ⊥
 none_some x e = cc
@@ -54,7 +51,7 @@ get-some nodes es id key spot own has =
 
 -- a key of a name is live
 pub never_gone : (nodes : Nodes Spot) (key : Key) → IsLive nodes key → value_at nodes key ≡ None → ⊥
-never_gone nodes key live gone = true_false (sym live ∙ ap is_some gone)
+never_gone nodes key live gone = true≢false (sym live ∙ ap is_some gone)
 
 -- there are as many names as keys
 pub len-spots : (nodes : Nodes Spot) (es : List (ℕ × Key)) → IsDistinct nat_eq (keys_of es) → finmap.len (spots_of nodes es) ≡ length es
@@ -69,7 +66,7 @@ len-spots nodes (e ∷ es) distinct =
 
 -- a name that has a spot has a key
 pub has_key : (nodes : Nodes Spot) (es : List (ℕ × Key)) (id : ℕ) → key_of es id ≡ None → IsSome (finmap.get (spots_of nodes es) id) → ⊥
-has_key nodes es id none live = true_false (sym live ∙ ap is_some (get-spots nodes es id ∙ ap (option_map (spot_at nodes)) none))
+has_key nodes es id none live = true≢false (sym live ∙ ap is_some (get-spots nodes es id ∙ ap (option_map (spot_at nodes)) none))
 
 -- a name that has no spot has no key
 pub no_key : (nodes : Nodes Spot) (es : List (ℕ × Key)) (id : ℕ) → finmap.get (spots_of nodes es) id ≡ None → key_of es id ≡ None
@@ -166,12 +163,12 @@ module _ (nodes new : Nodes Spot) (es now : List (ℕ × Key)) (id : ℕ) (key :
 
 -- where a key was fresh, no name had it
 pub differs-fresh : (nodes : Nodes Spot) (es : List (ℕ × Key)) (key : Key) → ((q : ℕ) (k : Key) → key_of es q ≡ Some k → IsLive nodes k) → value_at nodes key ≡ None → (q : ℕ) (other : Key) → key_of es q ≡ Some other → other ≢ key
-differs-fresh nodes es key live fresh q other has same = true_false (sym (live q other has) ∙ ap is_some (ap (value_at nodes) same ∙ fresh))
+differs-fresh nodes es key live fresh q other has same = true≢false (sym (live q other has) ∙ ap is_some (ap (value_at nodes) same ∙ fresh))
 
 -- where a name has a key, no other name has it
 pub differs-own : (es : List (ℕ × Key)) (id : ℕ) (key : Key) → ((a b : ℕ) (k : Key) → key_of es a ≡ Some k → key_of es b ≡ Some k → a ≡ b) → key_of es id ≡ Some key → (q : ℕ) (other : Key) → nat_eq id q ≡ false → key_of es q ≡ Some other → other ≢ key
 differs-own es id key apart own q other apart_q has same =
-    true_false (sym (nat_eq_equiv.refl id) ∙ ap (nat_eq id) (apart id q key own (has ∙ ap Some same)) ∙ apart_q)
+    true≢false (sym (nat_eq_equiv.refl id) ∙ ap (nat_eq id) (apart id q key own (has ∙ ap Some same)) ∙ apart_q)
 
 -- how many entries there are, once a name that had no key got one
 pub len-put : (old : Option Key) (a b : ℕ) → old ≡ None → a ≡ b + (cond (is_some old) 0 1) → a ≡ b + 1
@@ -183,7 +180,7 @@ len-drop old key a b some len = ap (λ o. a + cond (is_some o) 1 0) (sym some) �
 
 -- taking a live key leaves one node less
 pub took : (nodes : Nodes Spot) (key : Key) (taken : Option Spot) (left : ℕ) → IsLive nodes key → taken ≡ value_at nodes key → OnSome taken (left + 1 ≡ live_count nodes) → left + 1 ≡ live_count nodes
-took nodes key None left live value fewer = absurd (true_false (sym live ∙ ap is_some (sym value)))
+took nodes key None left live value fewer = absurd (true≢false (sym live ∙ ap is_some (sym value)))
 took nodes key (Some spot) left live value fewer = fewer
 
 -- a name that keeps its key

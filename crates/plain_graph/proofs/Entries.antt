@@ -5,6 +5,7 @@ use Rattle.std.proofs.lemmas.Bool.Decides.{Decides-eqb, nat_tests}
 use Rattle.std.proofs.lemmas.List.{at_drop_more}
 use Rattle.std.proofs.lemmas.List.Elements.{All-head, All-tail}
 use Rattle.std.specs.Cmp.{nat_eq_equiv}
+use Rattle.lists.proofs.Cases.{some_none}
 use Rattle.lists.proofs.Entries.{Contains-head, Contains-later, Contains-cases}
 use Rattle.graph_model.specs.States.{Entry, size_in}
 use Rattle.plain_graph.specs.declared.tx.Tx.{Tx}
@@ -39,9 +40,6 @@ Contains-entry (tx ∷ txs) id h =
         | inr later ↦ Contains-entry txs id later
       ]
     ]) refl
-
-some_none : {A : Type 0} (x : A) → Some x ≡ None → ⊥
-some_none x e = cc
 
 swapped : (first tx : Tx) (id : ℕ) (old : Option Entry) → eqb first.id tx.id ≡ false → cond (eqb first.id id) (Some (entry_of first)) (cond (eqb id tx.id) (Some (entry_of tx)) old) ≡ cond (eqb id tx.id) (Some (entry_of tx)) (cond (eqb first.id id) (Some (entry_of first)) old)
 swapped first tx id old other = grind (arith, nat_tests)

@@ -5,6 +5,7 @@ use Rattle.std.proofs.lemmas.Bool.{ne_eqb}
 use Rattle.std.proofs.lemmas.List.{map-append}
 use Rattle.std.proofs.lemmas.List.Elements.{All-cons, All-nil, All-head, All-tail, All-append, All-weaker}
 use Rattle.std.proofs.lemmas.List.Splits.{slice_split_none, slice_split_at}
+use Rattle.lists.proofs.Entries.{All-front, All-back}
 use Rattle.graph_model.specs.Replies.{line_text}
 use Rattle.graph_model.specs.Lines.{IsOneLine, Cut, with_last, max_line}
 use Rattle.graph_model.specs.Texts.{Text, IsText, told, text_lines}
@@ -15,7 +16,7 @@ use Rattle.wire.specs.declared.fault.TextFault.TheVariants as faults
 use Rattle.wire.specs.declared.row.Row.{Row}
 use Rattle.wire.specs.Rows.{row_line, HasRowTypes, rows_of}
 use Rattle.wire.specs.Drafts.{text_of, written, Finishes, TakesLine, ReadsLines, lines_of}
-use Rattle.wire.proofs.TextLemmas.{All_front, All_back, rows_text, rows_typed, typed_text, rows_same, told_append}
+use Rattle.wire.proofs.TextLemmas.{rows_text, rows_typed, typed_text, rows_same, told_append}
 
 abbrev pub IsShort : List ℕ → Type 0
 IsShort line = length line ≤ max_line
@@ -54,7 +55,7 @@ one_more all left line old draft read took =
 
 pub line_fault : (all left : List (List ℕ)) (line : List ℕ) (old : List Row) (fault : TextFault) → IsRead all (line ∷ left) old → TakesLine old line (Err fault) → ReadsLines all (Err fault)
 line_fault all left line old faults.Syntax read none = λ text is.
-    let behind = All_back IsShort read.before (line ∷ left) (subst (All IsShort) read.whole is.short) in
+    let behind = All-back IsShort read.before (line ∷ left) (subst (All IsShort) read.whole is.short) in
     let spelled : text_lines text ≡ map row_line old ++ (told (line ∷ []) ++ told left) =
     sym is.spelled ∙ ap told read.whole ∙ told_append read.before (line ∷ left) ∙ (λ i. read.spelled i ++ told_append (line ∷ []) left i) in
     none text (told left) is.types (All-head IsShort line left behind) spelled
@@ -86,7 +87,7 @@ cut_lines bytes (line ∷ lines) rest cut =
 -- an empty line at the end says nothing
 pub last_is_text : (lines : List (List ℕ)) (rest : List ℕ) (text : Text) → IsText (lines ++ rest ∷ []) text → IsText (with_last lines rest) text
 last_is_text lines [] text is = record {
-  short = All_front IsShort lines ([] ∷ []) is.short;
+  short = All-front IsShort lines ([] ∷ []) is.short;
   spelled = sym (append-nil (told lines)) ∙ sym (told_append lines ([] ∷ [])) ∙ is.spelled;
   types = is.types;
 }

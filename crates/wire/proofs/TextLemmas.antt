@@ -4,6 +4,7 @@ use Rattle.std.specs.Prelude.{flat_map, filter, All}
 use Rattle.std.proofs.lemmas.Simd.{map-map}
 use Rattle.std.proofs.lemmas.List.{map-append}
 use Rattle.std.proofs.lemmas.List.Elements.{All-cons, All-nil, All-head, All-tail, All-append, All-map, filter-append}
+use Rattle.lists.proofs.Entries.{All-front, All-back}
 use Rattle.graphs.specs.Certificates.{Part}
 use Rattle.graph_model.specs.Lines.{without_return, is_quiet}
 use Rattle.graph_model.specs.Texts.{Text, HasPartTypes, HasTextTypes, IsText, told, text_lines, part_lines}
@@ -16,14 +17,6 @@ use Rattle.wire.specs.Rows.{row_line, HasRowTypes, tx_row, edge_row, part_rows, 
 use Rattle.wire.specs.Drafts.{Continues, TakesText}
 use Rattle.wire.proofs.RowLemmas.{row_same}
 use Rattle.wire.proofs.StageLemmas.{AtEnd, stage_same}
-
-pub All_front : {X : Type 0} (P : X → Type 0) (xs ys : List X) → All P (xs ++ ys) → All P xs
-All_front P [] ys all = All-nil P
-All_front P (x ∷ xs) ys all = All-cons P x xs (All-head P x (xs ++ ys) all) (All_front P xs ys (All-tail P x (xs ++ ys) all))
-
-pub All_back : {X : Type 0} (P : X → Type 0) (xs ys : List X) → All P (xs ++ ys) → All P ys
-All_back P [] ys all = all
-All_back P (x ∷ xs) ys all = All_back P xs ys (All-tail P x (xs ++ ys) all)
 
 All_of_map : {X Y : Type 0} (P : X → Type 0) (f : Y → X) (ys : List Y) → All P (map f ys) → All (λ y. P (f y)) ys
 All_of_map P f [] all = All-nil (λ y. P (f y))
@@ -75,16 +68,16 @@ typed_part part typed =
 typed_parts : (parts : List Part) → All HasRowTypes (flat_map part_rows parts) → All HasPartTypes parts
 typed_parts [] typed = All-nil HasPartTypes
 typed_parts (part ∷ parts) typed =
-    All-cons HasPartTypes part parts (typed_part part (All_front HasRowTypes (part_rows part) (flat_map part_rows parts) typed)) (typed_parts parts (All_back HasRowTypes (part_rows part) (flat_map part_rows parts) typed))
+    All-cons HasPartTypes part parts (typed_part part (All-front HasRowTypes (part_rows part) (flat_map part_rows parts) typed)) (typed_parts parts (All-back HasRowTypes (part_rows part) (flat_map part_rows parts) typed))
 
 pub typed_text : (text : Text) → All HasRowTypes (rows_of text) → HasTextTypes text
 typed_text text typed =
-    let behind = All_back HasRowTypes (map tx_row text.txs) (map edge_row text.edges ++ (flat_map part_rows text.parts ++ rows.End ∷ [])) typed in
-    let parts = All_back HasRowTypes (map edge_row text.edges) (flat_map part_rows text.parts ++ rows.End ∷ []) behind in
+    let behind = All-back HasRowTypes (map tx_row text.txs) (map edge_row text.edges ++ (flat_map part_rows text.parts ++ rows.End ∷ [])) typed in
+    let parts = All-back HasRowTypes (map edge_row text.edges) (flat_map part_rows text.parts ++ rows.End ∷ []) behind in
     record {
-      txs = All_of_map HasRowTypes tx_row text.txs (All_front HasRowTypes (map tx_row text.txs) (map edge_row text.edges ++ (flat_map part_rows text.parts ++ rows.End ∷ [])) typed);
-      edges = All_of_map HasRowTypes edge_row text.edges (All_front HasRowTypes (map edge_row text.edges) (flat_map part_rows text.parts ++ rows.End ∷ []) behind);
-      parts = typed_parts text.parts (All_front HasRowTypes (flat_map part_rows text.parts) (rows.End ∷ []) parts);
+      txs = All_of_map HasRowTypes tx_row text.txs (All-front HasRowTypes (map tx_row text.txs) (map edge_row text.edges ++ (flat_map part_rows text.parts ++ rows.End ∷ [])) typed);
+      edges = All_of_map HasRowTypes edge_row text.edges (All-front HasRowTypes (map edge_row text.edges) (flat_map part_rows text.parts ++ rows.End ∷ []) behind);
+      parts = typed_parts text.parts (All-front HasRowTypes (flat_map part_rows text.parts) (rows.End ∷ []) parts);
     }
 
 -- lines that begin as others do go on from them
@@ -131,7 +124,7 @@ text_takes old line row (Err faults.Memory) typed read none = tt
 pub text_unread : (old : List Row) (line : List ℕ) (fault : TextFault) → All HasRowTypes old → Gives row_line HasRowTypes line (Err fault) → TakesText old line (Err fault)
 text_unread old line faults.Syntax typed none = λ text more types spelled.
     let go = rows_begin (rows_of text) old (line ∷ more) (rows_typed text types) typed (sym (rows_text text) ∙ spelled) in
-    first go.0 (All_back HasRowTypes old go.0 (subst (All HasRowTypes) go.1 (rows_typed text types))) more go.2
+    first go.0 (All-back HasRowTypes old go.0 (subst (All HasRowTypes) go.1 (rows_typed text types))) more go.2
   where
     first : (behind : List Row) → All HasRowTypes behind → (more : List (List ℕ)) → line ∷ more ≡ map row_line behind → ⊥
     first [] fits more is = let e : line ∷ more ≡ [] = is in cc

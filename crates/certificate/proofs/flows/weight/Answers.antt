@@ -11,6 +11,6 @@ returns c =
     let e = c.from-own.ensures in
     let own = kept c.from-own.result.fee (small _ c.args.own.fee _ e.0 c.requires.own_in.fee (omega arith)) ∙ e.0 in
     let whole = kept c.args.whole.fee (small _ c.args.whole.fee _ refl c.requires.whole_in.fee (omega arith)) in
-    let above = c.crossed-above.ensures.product ∙ ap (λ (z : ℤ). z *ℤ pos c.args.whole.size) own in
-    let below = c.crossed-below.ensures.product ∙ ap (λ (z : ℤ). z *ℤ pos c.from-own.result.size) whole ∙ ap (λ (n : ℕ). c.args.whole.fee *ℤ pos n) e.1 in
-    weight_kept c.crossed-above.result c.crossed-below.result _ _ c.crossed-above.ensures.bound c.crossed-below.ensures.bound above below
+    let above = c.product-above.ensures.product ∙ ap (λ (z : ℤ). z *ℤ pos c.args.whole.size) own in
+    let below = c.product-below.ensures.product ∙ ap (λ (z : ℤ). z *ℤ pos c.from-own.result.size) whole ∙ ap (λ (n : ℕ). c.args.whole.fee *ℤ pos n) e.1 in
+    weight_kept c.product-above.result c.product-below.result _ _ c.product-above.ensures.level c.product-below.ensures.level above below
