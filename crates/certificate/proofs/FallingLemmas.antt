@@ -3,6 +3,7 @@ use Rattle.std.proofs.Common.{◌≡◌, ◌≢◌, ℕ, ◌+◌, ◌-◌, ◌<�
 use Rattle.std.specs.Prelude.{Contains}
 use Rattle.std.proofs.lemmas.Int.{ints}
 use Rattle.std.proofs.lemmas.List.{get_or-map, length-map, length-append}
+use Rattle.fee_rate.specs.declared.limits.TheConstants.{MAX_TOTAL}
 use Rattle.fee_rate.proofs.Orders.{below_clash}
 use Rattle.fee_rate.specs.declared.rates.Sum.{Sum}
 use Rattle.fee_rate.specs.Limits.{IsSum}
@@ -59,7 +60,7 @@ has_falling txs parts s f = record {
   falling = subst Falls (sym (rates_same parts)) f;
 }
 
-pub are_rates : (txs : Txs) (find : ℕ → Option ℕ) (parts : List Part) → ArePlaces (names_of txs) find → AreInLimits txs → ((id : ℕ) → Contains (order_of parts) id → Contains (names_of txs) id) → length (order_of parts) ≤ 1048576
+pub are_rates : (txs : Txs) (find : ℕ → Option ℕ) (parts : List Part) → ArePlaces (names_of txs) find → AreInLimits txs → ((id : ℕ) → Contains (order_of parts) id → Contains (names_of txs) id) → length (order_of parts) ≤ MAX_TOTAL
     → ((k : ℕ) → k < length parts → ids_at parts k ≢ []) → AreSummed txs parts → AreRates parts
 are_rates txs find parts h l m few filled s k in' =
     let w = all_within txs find (ids_at parts k) h l (λ id here. m id (order_has parts k id in' here)) in

@@ -4,6 +4,7 @@ use Rattle.std.specs.Prelude.{Contains}
 use Rattle.std.proofs.lemmas.List.{get_or_default}
 use Rattle.std.proofs.lemmas.List.Elements.{Contains-get_or}
 use Rattle.lists.specs.Distinct.{AreDistinct}
+use Rattle.fee_rate.specs.declared.limits.TheConstants.{MAX_TOTAL}
 use Rattle.fee_rate.specs.Limits.{IsFee, IsSize}
 use Rattle.graphs.specs.Graphs.{HasNoCycle}
 use Rattle.graphs.specs.Certificates.{Txs, HasGraph}
@@ -62,7 +63,7 @@ is_graph txs find edges pairs l h p d n = record {
 }
 
 -- ---- limits
-pub limits_all : (txs : Txs) → length txs ≤ 1048576 → ((k : ℕ) → k < length txs → IsFee (get_or txs k (0, pos 0, 0)).1 × IsSize (get_or txs k (0, pos 0, 0)).2) → AreInLimits txs
+pub limits_all : (txs : Txs) → length txs ≤ MAX_TOTAL → ((k : ℕ) → k < length txs → IsFee (get_or txs k (0, pos 0, 0)).1 × IsSize (get_or txs k (0, pos 0, 0)).2) → AreInLimits txs
 limits_all txs few h = record {
   few = few;
   limits =

@@ -13,7 +13,7 @@ use Rattle.lists.specs.Distinct.{AreDistinct}
 use Rattle.arithmetic.proofs.Sums.{total-append, total_within}
 use Rattle.fee_rate.specs.declared.rates.Sum.{Sum}
 use Rattle.fee_rate.specs.Limits.{IsSum}
-use Rattle.fee_rate.specs.declared.limits.TheConstants.{MAX_FEE, MAX_SIZE}
+use Rattle.fee_rate.specs.declared.limits.TheConstants.{MAX_FEE, MAX_SIZE, MAX_TOTAL}
 use Rattle.fee_rate.specs.Rates.{AtMost}
 use Rattle.fee_rate.specs.declared.limits.TheConstants.{}
 use Rattle.graphs.specs.Rates.{sums, Falls}
@@ -85,7 +85,7 @@ sums-push rate ids id = omega (arith, ints, total-append (λ x. (rate x).fee) id
 pub sizes-push : (rate : ℕ → Sum) (ids : List ℕ) (id : ℕ) → (sums rate (ids ++ (id ∷ []))).size ≡ (sums rate ids).size + (rate id).size
 sizes-push rate ids id = omega (arith, sum_by-append (λ x. (rate x).size) ids (id ∷ []))
 
-pub sums_in_range : (rate : ℕ → Sum) (ids : List ℕ) → AllWithin rate ids → length ids ≤ 1048576 → IsSum (sums rate ids)
+pub sums_in_range : (rate : ℕ → Sum) (ids : List ℕ) → AllWithin rate ids → length ids ≤ MAX_TOTAL → IsSum (sums rate ids)
 sums_in_range rate ids h few =
     let f = total_within (λ id. (rate id).fee) MAX_FEE ids (λ k d in'. (h k d in').fee) in
     let s = sum_by-le (λ id. (rate id).size) MAX_SIZE ids (λ k d in'. (h k d in').size) in
@@ -101,7 +101,7 @@ pub all_within : (txs : Txs) (find : ℕ → Option ℕ) (ids : List ℕ) → Ar
 all_within txs find ids h l m k d in' = within_name txs find (get_or ids k d) h l (m (get_or ids k d) (Contains-get_or ids k d in'))
 
 -- the sum so far, and with one more name
-pub sum_range : (rate : ℕ → Sum) (ids : List ℕ) (k : ℕ) (sum : Sum) → AllWithin rate ids → length ids ≤ 1048576 → k ≤ length ids → sum ≡ sums rate (take k ids) → IsSum sum
+pub sum_range : (rate : ℕ → Sum) (ids : List ℕ) (k : ℕ) (sum : Sum) → AllWithin rate ids → length ids ≤ MAX_TOTAL → k ≤ length ids → sum ≡ sums rate (take k ids) → IsSum sum
 sum_range rate ids k sum h few in' is =
     subst (λ s. IsSum s) (sym is) (sums_in_range rate (take k ids) (All-take (λ id. IsWithin (rate id)) k ids h) (omega (arith, length-take-le k ids in')))
 

@@ -2,6 +2,7 @@
 use Rattle.std.specs.Prelude.{◌↔◌, ℕ, ℤ, ◌≤◌, List, length, map, nat_eq, Contains, IsTrue, ◌&&◌}
 use Rattle.std.specs.HashMap as hash
 use Rattle.std.specs.HashSet as bag
+use Rattle.fee_rate.specs.declared.limits.TheConstants.{MAX_TOTAL}
 use Rattle.fee_rate.specs.Limits.{IsFee, IsSize}
 use Rattle.graphs.specs.Certificates.{Txs}
 use Rattle.certificate.specs.declared.graph.Tables.{Tables}
@@ -13,7 +14,7 @@ names_of txs = map (λ tx. tx.0) txs
 
 -- there are few enough transactions, and fees and sizes are within the limits
 pub record AreInLimits (txs : Txs) : Type 0 where
-  pub few : length txs ≤ 1048576
+  pub few : length txs ≤ MAX_TOTAL
   pub limits : (id : ℕ) (fee : ℤ) (size : ℕ) → Contains txs (id, fee, size) → IsFee fee × IsSize size
 
 -- the tables find each name and each edge, and have the places of each edge's ends

@@ -12,7 +12,7 @@ ghost use Rattle.certificate.specs.Tables.{AreInLimits, names_of};
 
 use crate::names::{Names, find};
 use crate::{CheckFault, Part};
-use fee_rate::{FeeRate, Sum, add, is_below};
+use fee_rate::{FeeRate, MAX_TOTAL, Sum, add, is_below};
 use graphs::TxId;
 
 /// Whether the parts have the fees and sizes of their names, and rates that fall.
@@ -24,7 +24,7 @@ pub(crate) fn check_falling(
     requires places { ArePlaces (names_of txs.now) (hash.get nat_eq names.now) }
     requires limits { AreInLimits txs.now }
     requires members { (id : ℕ) → Contains (order_of parts.now) id → Contains (names_of txs.now) id }
-    requires few { length (order_of parts.now) ≤ 1048576 }
+    requires few { length (order_of parts.now) ≤ MAX_TOTAL }
     requires filled { (k : ℕ) → k < length parts.now → ids_at parts.now k ≢ [] }
     ensures { MatchResult result
         (λ _. HasFalling (rate_in txs.now) (parts_of parts.now))
@@ -40,7 +40,7 @@ fn check_sums(txs: &[(TxId, i64, u64)], names: &Names, parts: &[Part]) -> Result
     requires places { ArePlaces (names_of txs.now) (hash.get nat_eq names.now) }
     requires limits { AreInLimits txs.now }
     requires members { (id : ℕ) → Contains (order_of parts.now) id → Contains (names_of txs.now) id }
-    requires few { length (order_of parts.now) ≤ 1048576 }
+    requires few { length (order_of parts.now) ≤ MAX_TOTAL }
     ensures { MatchResult result (λ _. AreSummed txs.now parts.now) (Fails Falling (AreSummed txs.now parts.now)) }
 {
     for part in parts {
@@ -77,7 +77,7 @@ fn total(txs: &[(TxId, i64, u64)], names: &Names, ids: &[TxId]) -> Sum
     requires places { ArePlaces (names_of txs.now) (hash.get nat_eq names.now) }
     requires limits { AreInLimits txs.now }
     requires members { (id : ℕ) → Contains ids.now id → Contains (names_of txs.now) id }
-    requires few { length ids.now ≤ 1048576 }
+    requires few { length ids.now ≤ MAX_TOTAL }
     ensures { result ≡ sums (rate_in txs.now) ids.now }
 {
     let mut sum = Sum { fee: 0, size: 0 };

@@ -8,7 +8,7 @@ ghost use Rattle.certificate.specs.Tables.{AreInLimits, AreTables};
 use crate::CheckFault;
 use crate::cycles::no_cycle;
 use crate::names::{Edges, Names, edge_set, ends, positions};
-use fee_rate::{is_fee, is_size};
+use fee_rate::{MAX_TOTAL, is_fee, is_size};
 use graphs::TxId;
 use std::alloc::Global;
 
@@ -49,7 +49,7 @@ pub(crate) fn check_graph(
 fn are_in_limits(txs: &[(TxId, i64, u64)]) -> bool
     ensures { MatchBool result (AreInLimits txs.now) (AreInLimits txs.now → ⊥) }
 {
-    if txs.len() > 1_048_576 {
+    if txs.len() as u64 > MAX_TOTAL {
         return false;
     }
     for tx in txs {

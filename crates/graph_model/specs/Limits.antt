@@ -2,7 +2,7 @@
 use Rattle.std.specs.Prelude.{ℕ, ◌≤◌}
 use Rattle.fee_rate.specs.declared.limits.TheConstants.{MAX_TOTAL}
 use Rattle.graph_model.specs.declared.names.Limits.{Limits}
-use Rattle.graph_model.specs.declared.ranges.TheConstants.{MAX_COUNT, MAX_CLUSTER_SIZE, DEFAULT_LIMITS}
+use Rattle.graph_model.specs.declared.limits.TheConstants.{MAX_COUNT, MAX_CLUSTER_SIZE, DEFAULT_LIMITS}
 
 -- the limits that may be set: names of a cluster, total size of a cluster, live names
 pub record AreInRange (limits : Limits) : Type 0 where

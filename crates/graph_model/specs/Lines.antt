@@ -2,6 +2,7 @@
 use Rattle.std.specs.Prelude.{◌≡◌, ◌≢◌, ℕ, Bool, true, false, ◌==◌, if◌then◌else◌, List, [], ◌∷◌, ◌++◌, flat_map, All}
 use Rattle.graph_model.specs.Commands.{Command, spaced, words_of, HasTypes}
 use Rattle.graph_model.specs.Replies.{line_text}
+use Rattle.graph_model.specs.declared.limits.TheConstants.{MAX_LINE, MAX_INPUT}
 
 -- no byte is a line feed
 abbrev pub IsOneLine : List ℕ → Type 0
@@ -20,10 +21,10 @@ with_last lines (byte ∷ rest) = lines ++ (byte ∷ rest) ∷ []
 
 -- the most bytes that a line may have, and the most that are read
 abbrev pub max_line : ℕ
-max_line = 65536
+max_line = MAX_LINE
 
 abbrev pub max_input : ℕ
-max_input = 268435456
+max_input = MAX_INPUT
 
 -- a line without the carriage return at its end, if it has one there
 abbrev pub without_return : List ℕ → List ℕ

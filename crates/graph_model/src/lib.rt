@@ -6,8 +6,8 @@
 #![tactic(auto)]
 
 mod laws;
+mod limits;
 mod names;
-mod ranges;
 
 pub use fee_rate::{is_fee, is_size};
 pub use graphs::{
@@ -16,4 +16,5 @@ pub use graphs::{
     optimal_bounds_closed_sets, optimal_ends_are_corners, stays_graph, stays_without_cycle, verdicts_are_unique,
 };
 pub use laws::{answers_are_in_order, readings_lack_no_memory, refused_changes_nothing};
+pub use limits::{DEFAULT_LIMITS, MAX_CLUSTER_SIZE, MAX_COUNT, MAX_INPUT, MAX_LINE};
 pub use names::{Limits, Refusal};

@@ -5,6 +5,7 @@
 -- be missing on its side of that equation.
 use Rattle.std.specs.Prelude.{◌≡◌, ◌≢◌, ℕ, ◌==◌, if◌then◌else◌, ◌≤◌, ℤ, pos, ◌-ℤ◌, ◌*ℤ◌, List, [], ◌∷◌, map, flat_map, sum_by, length, Contains}
 use Rattle.lists.specs.Distinct.{AreDistinct}
+use Rattle.fee_rate.specs.declared.limits.TheConstants.{MAX_TOTAL}
 use Rattle.fee_rate.specs.declared.rates.Sum.{Sum}
 use Rattle.graphs.specs.declared.names.Flow.{Flow}
 use Rattle.fee_rate.specs.Limits.{IsFee, IsSize}
@@ -74,7 +75,7 @@ rate_in (tx ∷ txs) id = if tx.0 == id then record { fee = tx.1; size = tx.2 } 
 
 -- what is written is a graph within the limits
 pub record HasGraph (txs : Txs) (edges : List (ℕ × ℕ)) : Type 0 where
-  pub few : length txs ≤ 1048576
+  pub few : length txs ≤ MAX_TOTAL
   pub limits : (id : ℕ) (fee : ℤ) (size : ℕ) → Contains txs (id, fee, size) → IsFee fee × IsSize size
   pub graph : IsGraph (graph_of txs edges)
 

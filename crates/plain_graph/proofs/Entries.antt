@@ -7,6 +7,7 @@ use Rattle.std.proofs.lemmas.List.Elements.{All-head, All-tail}
 use Rattle.std.specs.Cmp.{nat_eq_equiv}
 use Rattle.lists.proofs.Cases.{some_none}
 use Rattle.lists.proofs.Entries.{Contains-head, Contains-later, Contains-cases}
+use Rattle.fee_rate.specs.declared.limits.TheConstants.{MAX_SIZE}
 use Rattle.graph_model.specs.States.{Entry, size_in}
 use Rattle.plain_graph.specs.declared.tx.Tx.{Tx}
 use Rattle.plain_graph.specs.Plain.{entry_in}
@@ -57,14 +58,14 @@ entry-push (first ∷ txs) tx id none =
 pub entry-drop : (txs : List Tx) (i : ℕ) (d : Tx) (id : ℕ) → i < length txs → entry_in (drop i txs) id ≡ cond (eqb (get_or txs i d).id id) (Some (entry_of (get_or txs i d))) (entry_in (drop (i + 1) txs) id)
 entry-drop txs i d id below = at_drop_more (λ txs. entry_in txs id) txs i d below
 
-small_one : (tx : Tx) (b : Bool) (old : Option Entry) → tx.size ≤ 4000000 → size_in old ≤ 4000000 → size_in (cond b (Some (entry_of tx)) old) ≤ 4000000
+small_one : (tx : Tx) (b : Bool) (old : Option Entry) → tx.size ≤ MAX_SIZE → size_in old ≤ MAX_SIZE → size_in (cond b (Some (entry_of tx)) old) ≤ MAX_SIZE
 small_one tx true old here later = here
 small_one tx false old here later = later
 
-pub size-small : (txs : List Tx) (id : ℕ) → AreSmall txs → size_in (entry_in txs id) ≤ 4000000
+pub size-small : (txs : List Tx) (id : ℕ) → AreSmall txs → size_in (entry_in txs id) ≤ MAX_SIZE
 size-small [] id small = omega arith
 size-small (tx ∷ txs) id small =
-    small_one tx (eqb tx.id id) (entry_in txs id) (All-head (λ (tx : Tx). tx.size ≤ 4000000) tx txs small) (size-small txs id (All-tail (λ (tx : Tx). tx.size ≤ 4000000) tx txs small))
+    small_one tx (eqb tx.id id) (entry_in txs id) (All-head (λ (tx : Tx). tx.size ≤ MAX_SIZE) tx txs small) (size-small txs id (All-tail (λ (tx : Tx). tx.size ≤ MAX_SIZE) tx txs small))
 
 pub live_named : (txs : List Tx) (id : ℕ) (live : Bool) → live ≡ is_some (entry_in txs id) → IsTrue live ↔ Contains (names_of txs) id
 live_named txs id live is = (λ holds. entry-Contains txs id (sym is ∙ holds), λ here. is ∙ Contains-entry txs id here)

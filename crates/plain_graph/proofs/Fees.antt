@@ -7,6 +7,7 @@ use Rattle.std.proofs.lemmas.Bool.Decides.{Decides-eqb, nat_tests}
 use Rattle.std.proofs.lemmas.List.{length-map}
 use Rattle.std.proofs.lemmas.List.Elements.{All-head, All-tail, All-cons, All-nil}
 use Rattle.lists.specs.Distinct.{AreDistinct}
+use Rattle.fee_rate.specs.declared.limits.TheConstants.{MAX_SIZE}
 use Rattle.graph_model.specs.declared.names.Limits.{Limits}
 use Rattle.graph_model.specs.declared.names.Refusal.{Refusal}
 use Rattle.graph_model.specs.States.{State, Entry, Table, size_of, size_in}
@@ -33,11 +34,11 @@ names-paying id fee [] = refl
 names-paying id fee (tx ∷ txs) = λ i. paying-id id fee tx i ∷ names-paying id fee txs i
 
 small-paying : (id : ℕ) (fee : ℤ) (txs : List Tx) → AreSmall txs → AreSmall (map (paying id fee) txs)
-small-paying id fee [] small = All-nil (λ (tx : Tx). tx.size ≤ 4000000)
+small-paying id fee [] small = All-nil (λ (tx : Tx). tx.size ≤ MAX_SIZE)
 small-paying id fee (tx ∷ txs) small =
-    All-cons (λ (tx : Tx). tx.size ≤ 4000000) (paying id fee tx) (map (paying id fee) txs)
-    (subst (λ (size : ℕ). size ≤ 4000000) (sym (paying-size id fee tx)) (All-head (λ (tx : Tx). tx.size ≤ 4000000) tx txs small))
-    (small-paying id fee txs (All-tail (λ (tx : Tx). tx.size ≤ 4000000) tx txs small))
+    All-cons (λ (tx : Tx). tx.size ≤ MAX_SIZE) (paying id fee tx) (map (paying id fee) txs)
+    (subst (λ (size : ℕ). size ≤ MAX_SIZE) (sym (paying-size id fee tx)) (All-head (λ (tx : Tx). tx.size ≤ MAX_SIZE) tx txs small))
+    (small-paying id fee txs (All-tail (λ (tx : Tx). tx.size ≤ MAX_SIZE) tx txs small))
 
 -- an entry with another fee
 abbrev repaid : ℤ → Option Entry → Option Entry

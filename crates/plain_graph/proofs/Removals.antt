@@ -7,6 +7,7 @@ use Rattle.std.proofs.lemmas.Bool.Decides.{Decides-eqb, nat_tests}
 use Rattle.std.proofs.lemmas.List.Elements.{All-filter}
 use Rattle.lists.proofs.Entries.{Contains-head, Contains-later, Contains-cases, none_in_empty}
 use Rattle.lists.specs.Distinct.{AreDistinct}
+use Rattle.fee_rate.specs.declared.limits.TheConstants.{MAX_SIZE}
 use Rattle.graph_model.specs.declared.names.Limits.{Limits}
 use Rattle.graph_model.specs.declared.names.Refusal.TheVariants.{Unknown}
 use Rattle.graphs.specs.Graphs.{Graph}
@@ -186,7 +187,7 @@ shorter id (tx ∷ txs) =
 pub sound_removed : (set : Limits) (txs : List Tx) (old new : List (ℕ × ℕ)) (places id : ℕ) → IsSound set txs old places → ArePairsWithout old id new → IsSound set (without_name id txs) new places
 sound_removed set txs old new places id sound pairs = record {
   in_range = sound.in_range;
-  small = All-filter (λ (tx : Tx). not (eqb tx.id id)) (λ (tx : Tx). tx.size ≤ 4000000) txs sound.small;
+  small = All-filter (λ (tx : Tx). not (eqb tx.id id)) (λ (tx : Tx). tx.size ≤ MAX_SIZE) txs sound.small;
   names_once = without-once id txs sound.names_once;
   pairs_once = pairs.1;
   ends = ends_left id txs old new sound.ends pairs;

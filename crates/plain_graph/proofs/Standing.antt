@@ -2,6 +2,7 @@
 use Rattle.std.proofs.Common.{◌≡◌, ℕ, ℤ, ◌+◌, ◌≤◌, true, false, cond, eqb, List, [], ◌∷◌, ◌++◌, length, sym, refl, ap, subst, ◌∙◌, inl, inr, Option, None, Some}
 use Rattle.std.proofs.lemmas.List.Elements.{All-push, Contains-append_left}
 use Rattle.lists.specs.Distinct.{AreDistinct}
+use Rattle.fee_rate.specs.declared.limits.TheConstants.{MAX_SIZE}
 use Rattle.graph_model.specs.declared.names.Limits.{Limits}
 use Rattle.std.specs.Prelude.{Contains, is_some, IsSome}
 use Rattle.std.specs.FinMap as finmap
@@ -166,10 +167,10 @@ no_entry None none some = none_of_true some
 no_entry (Some entry) none some = cc
 
 -- what the fields keep after one more transaction
-pub sound_added : (set : Limits) (txs : List Tx) (tx : Tx) (pairs : List (ℕ × ℕ)) (places more : ℕ) → IsSound set txs pairs places → entry_in txs tx.id ≡ None → tx.size ≤ 4000000 → length txs + 1 ≤ more → IsSound set (txs ++ tx ∷ []) pairs more
+pub sound_added : (set : Limits) (txs : List Tx) (tx : Tx) (pairs : List (ℕ × ℕ)) (places more : ℕ) → IsSound set txs pairs places → entry_in txs tx.id ≡ None → tx.size ≤ MAX_SIZE → length txs + 1 ≤ more → IsSound set (txs ++ tx ∷ []) pairs more
 sound_added set txs tx pairs places more sound none small room = record {
   in_range = sound.in_range;
-  small = All-push (λ (tx : Tx). tx.size ≤ 4000000) txs tx sound.small small;
+  small = All-push (λ (tx : Tx). tx.size ≤ MAX_SIZE) txs tx sound.small small;
   names_once = subst (AreDistinct {A = ℕ}) (sym (map_push (λ (tx : Tx). tx.id) txs tx)) (AreDistinct-push (names_of txs) tx.id sound.names_once (λ here. no_entry (entry_in txs tx.id) none (Contains-entry txs tx.id here)));
   pairs_once = sound.pairs_once;
   ends = λ parent child pair. let ends = sound.ends parent child pair in (among_more txs tx parent ends.0, among_more txs tx child ends.1);

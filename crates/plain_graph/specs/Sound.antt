@@ -1,6 +1,7 @@
 -- What a plain graph's fields keep.
 use Rattle.std.specs.Prelude.{ℕ, ◌≤◌, List, map, length, All}
 use Rattle.lists.specs.Distinct.{AreDistinct}
+use Rattle.fee_rate.specs.declared.limits.TheConstants.{MAX_SIZE}
 use Rattle.graph_model.specs.declared.names.Limits.{Limits}
 use Rattle.graph_model.specs.Limits.{AreInRange}
 use Rattle.plain_graph.specs.declared.tx.Tx.{Tx}
@@ -11,7 +12,7 @@ names_of txs = map (λ tx. tx.id) txs
 
 -- no transaction is larger than may be
 abbrev pub AreSmall : List Tx → Type 0
-AreSmall txs = All (λ tx. tx.size ≤ 4000000) txs
+AreSmall txs = All (λ tx. tx.size ≤ MAX_SIZE) txs
 
 -- The limits are in range, sizes are, names and pairs stand once each, pairs are of names, and there
 -- are places for all names.

@@ -1,4 +1,5 @@
 ghost use Rattle.std.specs.Prelude.{◌≡◌, ◌+◌, ◌-◌, ◌*◌, ◌^◌, ◌<◌, ◌≤◌, false, [], ◌∷◌, length, IfOk, OnOk, if◌then◌else◌, is_ok, MatchResult, Contains, IsSome};
+ghost use Rattle.fee_rate.specs.declared.limits.TheConstants.{MAX_SIZE};
 ghost use Rattle.graph_model.specs.Limits.{AreInRange};
 ghost use Rattle.graphs.specs.Graphs.{AreConnected};
 ghost use Rattle.plain_graph.specs.Walks.{HoldsAll};
@@ -11,7 +12,7 @@ use crate::pairs::without;
 use crate::tx::Tx;
 use crate::txs::{drop_name, is_live, set_fee, total_size};
 use crate::walk::{Way, has_pair, leads, reach};
-use graph_model::{IdBuf, Level, Limits, Refusal, TxId, is_fee, is_size};
+use graph_model::{DEFAULT_LIMITS, IdBuf, Level, Limits, Refusal, TxId, is_fee, is_size};
 use outside::NoMemory;
 use std::alloc::Global;
 use std::marker::Model;
@@ -97,11 +98,7 @@ impl Plain {
     {
         Ok(Plain {
             alloc,
-            limits: Limits {
-                count: 64,
-                size: 404_000,
-                total: 1_048_576,
-            },
+            limits: DEFAULT_LIMITS,
             begun: false,
             txs: Vec::new(alloc),
             pairs: Vec::new(alloc),
@@ -152,7 +149,7 @@ impl Plain {
     fn refused_add(&self, id: TxId, fee: i64, size: u64) -> Option<Refusal>
         ensures first { (state : State) → StandsFor self.now state → RefusalIs state (Add id fee size) result }
         ensures new_name { result ≡ None → entry_in self.now.txs id ≡ None }
-        ensures small { result ≡ None → size ≤ 4000000 }
+        ensures small { result ≡ None → size ≤ MAX_SIZE }
     {
         if !is_fee(fee) {
             return Some(Refusal::Fee);

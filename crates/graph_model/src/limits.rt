@@ -17,6 +17,12 @@ pub const DEFAULT_LIMITS: Limits = Limits {
     total: 1_048_576,
 };
 
+/// The longest line that is read, in bytes, without its line feed and with a carriage return at its end.
+pub const MAX_LINE: usize = 65_536;
+
+/// The longest input that is read, in bytes.
+pub const MAX_INPUT: usize = 268_435_456;
+
 impl Limits {
     /// Whether they may be set: each is in its range.
     pub fn are_in_range(&self) -> bool
