@@ -2,15 +2,8 @@ ghost use Rattle.std.specs.Prelude.{◌↔◌, ◌+◌, ◌+ℤ◌, map, IfSome,
 ghost use Rattle.fee_rate.specs.Limits.{InRange, IsSum};
 ghost use Rattle.diagram.specs.Parts.{rate_of, AreLevelParts, FallsTo, IsPartSum, MayFollow};
 
-use fee_rate::{FeeRate, Sum, add, cmp_rate};
+use fee_rate::{FeeRate, Sum, add, cmp_rate, is_sum};
 use std::cmp::Ordering;
-
-/// The greatest total fee of a level in absolute value, in satoshis: 21 million coins for each of
-/// 1,048,576 transactions.
-const GREATEST_FEE: i128 = 2_202_009_600_000_000_000_000;
-
-/// The greatest total size of a level, in virtual bytes: 4,000,000 for each of 1,048,576 transactions.
-const GREATEST_SIZE: u64 = 4_194_304_000_000;
 
 /// Whether these are parts of a level, as `corners` asks for: of falling rate, with sizes of at least 1, and
 /// each of them and each sum of a front of them in the range of a level's sums.
@@ -45,7 +38,7 @@ fn may_follow(last: Option<Sum>, end: Sum, rate: Sum) -> bool
 fn is_part_sum(rate: Sum) -> bool
     ensures { IsTrue result ↔ IsPartSum rate }
 {
-    rate.size >= 1 && in_range(rate)
+    rate.size >= 1 && is_sum(rate)
 }
 
 /// Whether a rate is at most the last one, where there is one.
@@ -70,14 +63,8 @@ fn fits_behind(end: Sum, rate: Sum) -> bool
     requires rate { IsSum rate }
     ensures { IsTrue result ↔ InRange (end.fee +ℤ rate.fee) (end.size + rate.size) }
 {
-    in_range(Sum {
+    is_sum(Sum {
         fee: end.fee + rate.fee,
         size: end.size + rate.size,
     })
-}
-
-fn in_range(sum: Sum) -> bool
-    ensures { IsTrue result ↔ IsSum sum }
-{
-    -GREATEST_FEE <= sum.fee && sum.fee <= GREATEST_FEE && sum.size <= GREATEST_SIZE
 }

@@ -1,8 +1,8 @@
 //! What a transaction may pay, how large it may be, and how many of them are added up: each limit stands here, once.
 ghost use Rattle.std.specs.Prelude.{◌≡◌, ◌↔◌, true, IsTrue};
-ghost use Rattle.fee_rate.specs.Limits.{IsFee, IsRate, IsSize};
+ghost use Rattle.fee_rate.specs.Limits.{IsFee, IsRate, IsSize, IsSum};
 
-use crate::FeeRate;
+use crate::{FeeRate, Sum};
 
 /// What a transaction may pay at most and, as a negative fee, at least, in satoshis: all the money there is.
 pub const MAX_FEE: u64 = 2_100_000_000_000_000;
@@ -32,4 +32,11 @@ pub fn is_rate(rate: FeeRate) -> bool
     ensures { (result ≡ true) ↔ IsRate rate }
 {
     is_fee(rate.fee) && is_size(rate.size)
+}
+
+/// Whether a fee and a size are in the range of a sum over at most `MAX_TOTAL` transactions.
+pub fn is_sum(sum: Sum) -> bool
+    ensures { IsTrue result ↔ IsSum sum }
+{
+    sum.fee.unsigned_abs() <= u128::from(MAX_FEE) * u128::from(MAX_TOTAL) && sum.size <= MAX_SIZE * MAX_TOTAL
 }
