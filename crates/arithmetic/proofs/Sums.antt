@@ -1,11 +1,13 @@
 -- Laws of sums of integers over lists.
 use Rattle.std.proofs.Common.{◌≡◌, ℕ, ◌*◌, ◌≤◌, length, unsigned_abs, List, [], ◌∷◌, ◌++◌, Bool, true, false, not, cond, ℤ, pos, ◌+ℤ◌, ◌-ℤ◌, ◌*ℤ◌, neg_ℤ, ◌≤ℤ◌, refl, sym, ap, ◌∙◌, arith}
-use Rattle.std.specs.Prelude.{All}
+use Rattle.std.specs.Prelude.{All, Contains, sum_by}
 use Rattle.std.specs.List.{filter}
 use Rattle.std.proofs.lemmas.List.Elements.{All-head, All-tail}
 use Rattle.std.proofs.lemmas.Int.{ints}
+use Rattle.std.proofs.lemmas.List.Sums.{sum_by-cons}
+use Rattle.lists.proofs.Entries.{Contains-head, Contains-later}
 use Rattle.arithmetic.specs.Sums.{total}
-use Rattle.arithmetic.proofs.Products.{mul-add_left}
+use Rattle.arithmetic.proofs.Products.{mul-add_left, mul-add_right}
 
 -- ---- over `++`, over a filter, over a permuted pair of sums
 pub total-append : {A : Type 0} (f : A → ℤ) (xs ys : List A) → total f (xs ++ ys) ≡ total f xs +ℤ total f ys
@@ -77,3 +79,19 @@ total_within f m (x ∷ xs) h =
     let first : unsigned_abs (f x) ≤ m = All-head (λ y. unsigned_abs (f y) ≤ m) x xs h in
     let more = total_within f m xs (All-tail (λ y. unsigned_abs (f y) ≤ m) x xs h) in
     omega (arith, ints)
+
+-- sums whose terms agree at each entry are the same
+pub total_along : {A : Type 0} (f g : A → ℤ) (xs : List A) → ((x : A) → Contains xs x → f x ≡ g x) → total f xs ≡ total g xs
+total_along f g [] e = refl
+total_along f g (x ∷ xs) e = omega (arith, ints, e x (Contains-head x xs), total_along f g xs (λ y h. e y (Contains-later x y xs h)))
+
+-- ---- of natural numbers
+pub total-pos : {A : Type 0} (f : A → ℕ) (xs : List A) → total (λ x. pos (f x)) xs ≡ pos (sum_by f xs)
+total-pos f [] = refl
+total-pos f (x ∷ xs) = omega (arith, ints, total-pos f xs, sum_by-cons f x xs)
+
+pub total-pos-scale : {A : Type 0} (f : A → ℕ) (k : ℤ) (xs : List A) → total (λ x. k *ℤ pos (f x)) xs ≡ k *ℤ pos (sum_by f xs)
+total-pos-scale f k [] = omega (arith, ints)
+total-pos-scale f k (x ∷ xs) =
+    let parts : pos (sum_by f (x ∷ xs)) ≡ pos (f x) +ℤ pos (sum_by f xs) = omega (arith, ints, sum_by-cons f x xs) in
+    omega (arith, ints, total-pos-scale f k xs, ap (λ (z : ℤ). k *ℤ z) parts, mul-add_right k (pos (f x)) (pos (sum_by f xs)))

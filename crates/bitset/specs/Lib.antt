@@ -3,3 +3,4 @@ pub mod Places
 pub mod Sets
 pub mod WordSets
 pub mod Words
+pub mod Members
