@@ -11,8 +11,8 @@ use Rattle.fee_rate.specs.declared.rates.Sum.{Sum}
 use Rattle.fee_rate.specs.Limits.{IsSum, greatest_fee, greatest_count}
 use Rattle.graph_model.specs.Rates.{sum_of, Falls}
 use Rattle.diagram.specs.Parts.{AreLevelParts}
-use Rattle.replacement.specs.Changes.{EndsNonNegative, AreNonNegative, IsEither, IsMerged, ChangesAreLevelParts, TestedPartsMerge}
-use Rattle.replacement.proofs.PartLists.{Contains-head, Contains-later, at_most_chains, falls-rest, non_negative-rest, all_non_negative}
+use Rattle.replacement.specs.Changes.{EndsNonNegative, AreNonNegative, IsEither, IsMerged, ChangesAreLevelParts, TestedPartsMerge, HaveSizes}
+use Rattle.replacement.proofs.PartLists.{last_decides, empty_ends, Contains-head, Contains-later, at_most_chains, falls-rest, non_negative-rest, all_non_negative}
 use Rattle.replacement.proofs.GainLemmas.{above_zero, zero_is}
 
 -- ---- sums of fees of at least 0
@@ -21,7 +21,8 @@ paid part = above_zero part.fee
 
 total_paid : (parts : List Sum) → AreNonNegative parts → (sum_of parts).fee ≡ pos (sum_by paid parts)
 total_paid [] all = refl
-total_paid (x ∷ xs) all = omega (arith, ints, sum_by-cons paid x xs, zero_is x.fee (all.fees x (Contains-head x xs)), total_paid xs (non_negative-rest x xs all))
+total_paid (x ∷ xs) all =
+    omega (arith, ints, sum_by-cons paid x xs, zero_is x.fee (all.fees x (Contains-head x xs)), total_paid xs (non_negative-rest x xs all))
 
 -- what a level's sum is over the parts that stand alone and the others
 split_sum : (f : Sum → ℕ) (alone common level front rest : List Sum) → IsMerged alone common level → alone ≡ front ++ rest → sum_by f front ≤ sum_by f level
@@ -39,11 +40,13 @@ common_in alone common level merged part h = Contains-permutation (alone ++ comm
 level_sum : (level : List Sum) → AreLevelParts level → IsSum (sum_of level)
 level_sum level parts = parts.fits level [] (sym (append-nil level))
 
-front_fits : (alone common level front rest : List Sum) → AreLevelParts level → AreNonNegative level → AreNonNegative front → IsMerged alone common level → alone ≡ front ++ rest → IsSum (sum_of front)
+front_fits : (alone common level front rest : List Sum) → AreLevelParts level → AreNonNegative level → AreNonNegative front
+    → IsMerged alone common level → alone ≡ front ++ rest → IsSum (sum_of front)
 front_fits alone common level front rest parts all here merged e =
     let whole = level_sum level parts in
     let fees = split_sum paid alone common level front rest merged e in
-    let most : unsigned_abs (pos (sum_by paid level)) ≤ greatest_fee * greatest_count = subst (λ (z : ℤ). unsigned_abs z ≤ greatest_fee * greatest_count) (total_paid level all) whole.fee in
+    let most : unsigned_abs (pos (sum_by paid level)) ≤ greatest_fee * greatest_count =
+    subst (λ (z : ℤ). unsigned_abs z ≤ greatest_fee * greatest_count) (total_paid level all) whole.fee in
     let bound : sum_by paid front ≤ greatest_fee * greatest_count = omega (arith, fees, most) in
     record {
       fee = subst (λ (z : ℤ). unsigned_abs z ≤ greatest_fee * greatest_count) (sym (total_paid front here)) bound;
@@ -67,10 +70,13 @@ alone_parts alone common level parts all merged falls =
     }
 
 ends_by_members : (parts : List Sum) → AreNonNegative parts → EndsNonNegative parts
-ends_by_members parts all before last e = all.fees last (subst (λ zs. Contains zs last) (sym e) (Contains-append_right before (last ∷ []) last (Contains-head last [])))
+ends_by_members parts all before last e =
+    all.fees last (subst (λ zs. Contains zs last) (sym e) (Contains-append_right before (last ∷ []) last (Contains-head last [])))
 
 pub changes_are_level_parts : ChangesAreLevelParts
 changes_are_level_parts = record {
+  last = last_decides;
+  none = empty_ends;
   alone = λ alone common level parts ends merged falls.
       let all = all_non_negative level parts.some parts.falling ends in (
         alone_parts alone common level parts all merged falls,
@@ -81,7 +87,7 @@ changes_are_level_parts = record {
 }
 
 -- ---- entries that a test picks
-rest_some : {T : Type 0} (rate : T → Sum) (x : T) (xs : List T) → ((part : Sum) → Contains (map rate (x ∷ xs)) part → 1 ≤ part.size) → (part : Sum) → Contains (map rate xs) part → 1 ≤ part.size
+rest_some : {T : Type 0} (rate : T → Sum) (x : T) (xs : List T) → HaveSizes (map rate (x ∷ xs)) → (part : Sum) → Contains (map rate xs) part → 1 ≤ part.size
 rest_some rate x xs some part h = some part (Contains-later (rate x) part (map rate xs) h)
 
 -- parts that fall from a part on still do without the first behind it
@@ -90,12 +96,13 @@ skips x y [] some falls = tt
 skips x y (z ∷ zs) some falls = (at_most_chains z y x some falls.1.0 falls.0, falls.1.1)
 
 -- an entry that may be picked, behind a part
-may_follow : {T : Type 0} (rate : T → Sum) (first : Sum) (x : T) (xs : List T) (b : Bool) → Falls (first ∷ rate x ∷ map rate xs) → Falls (first ∷ map rate xs) → Falls (first ∷ map rate (cond b (x ∷ xs) xs))
+may_follow : {T : Type 0} (rate : T → Sum) (first : Sum) (x : T) (xs : List T) (b : Bool) → Falls (first ∷ rate x ∷ map rate xs)
+    → Falls (first ∷ map rate xs) → Falls (first ∷ map rate (cond b (x ∷ xs) xs))
 may_follow rate first x xs true with without = with
 may_follow rate first x xs false with without = without
 
 -- a part with what a test picks of the falling entries behind it
-falls_from : {T : Type 0} (rate : T → Sum) (test : T → Bool) (first : Sum) (entries : List T) → ((part : Sum) → Contains (map rate entries) part → 1 ≤ part.size) → Falls (first ∷ map rate entries)
+falls_from : {T : Type 0} (rate : T → Sum) (test : T → Bool) (first : Sum) (entries : List T) → HaveSizes (map rate entries) → Falls (first ∷ map rate entries)
     → Falls (first ∷ map rate (filter test entries))
 falls_from rate test first [] some falls = tt
 falls_from rate test first (x ∷ xs) some falls =
@@ -107,15 +114,17 @@ may_begin : {T : Type 0} (rate : T → Sum) (x : T) (xs : List T) (b : Bool) →
 may_begin rate x xs true falls = falls
 may_begin rate x xs false falls = falls-rest (rate x) (map rate xs) falls
 
-picked_fall : {T : Type 0} (rate : T → Sum) (test : T → Bool) (entries : List T) → ((part : Sum) → Contains (map rate entries) part → 1 ≤ part.size) → Falls (map rate entries)
+picked_fall : {T : Type 0} (rate : T → Sum) (test : T → Bool) (entries : List T) → HaveSizes (map rate entries) → Falls (map rate entries)
     → Falls (map rate (filter test entries))
 picked_fall rate test [] some falls = tt
 picked_fall rate test (x ∷ xs) some falls = may_begin rate x (filter test xs) (test x) (falls_from rate test (rate x) xs (rest_some rate x xs some) falls)
 
 -- one more entry, by what the tests say of it
-more_merged : (x : Sum) (ps qs rs : List Sum) (a c l : Bool) → IsEither a c l → IsPermutation (ps ++ qs) rs → IsPermutation (cond a (x ∷ ps) ps ++ cond c (x ∷ qs) qs) (cond l (x ∷ rs) rs)
+more_merged : (x : Sum) (ps qs rs : List Sum) (a c l : Bool) → IsEither a c l → IsPermutation (ps ++ qs) rs
+    → IsPermutation (cond a (x ∷ ps) ps ++ cond c (x ∷ qs) qs) (cond l (x ∷ rs) rs)
 more_merged x ps qs rs true true l either same = absurd either
-more_merged x ps qs rs true false l either same = subst (λ b. IsPermutation (x ∷ ps ++ qs) (cond b (x ∷ rs) rs)) (sym either) (IsPermutation-cons x (ps ++ qs) rs same)
+more_merged x ps qs rs true false l either same =
+    subst (λ b. IsPermutation (x ∷ ps ++ qs) (cond b (x ∷ rs) rs)) (sym either) (IsPermutation-cons x (ps ++ qs) rs same)
 more_merged x ps qs rs false true l either same =
     subst (λ b. IsPermutation (ps ++ x ∷ qs) (cond b (x ∷ rs) rs)) (sym either)
     (IsPermutation-trans (ps ++ x ∷ qs) (x ∷ (ps ++ qs)) (x ∷ rs) (IsPermutation-middle ps x qs) (IsPermutation-cons x (ps ++ qs) rs same))
@@ -125,7 +134,12 @@ map_cond : {T : Type 0} (rate : T → Sum) (x : T) (xs : List T) (b : Bool) → 
 map_cond rate x xs true = refl
 map_cond rate x xs false = refl
 
-picked_merge : {T : Type 0} (rate : T → Sum) (alone common level : T → Bool) (entries : List T) → ((entry : T) → IsEither (alone entry) (common entry) (level entry))
+same_merge : {ps qs rs us vs ws : List Sum} → us ≡ ps → vs ≡ qs → ws ≡ rs → IsPermutation (ps ++ qs) rs → IsPermutation (us ++ vs) ws
+same_merge one other whole same =
+    subst (λ (zs : List Sum × List Sum × List Sum). IsPermutation (zs.0 ++ zs.1) zs.2) (λ i. (sym one i, sym other i, sym whole i)) same
+
+picked_merge : {T : Type 0} (rate : T → Sum) (alone common level : T → Bool) (entries : List T)
+    → ((entry : T) → IsEither (alone entry) (common entry) (level entry))
     → IsPermutation (map rate (filter alone entries) ++ map rate (filter common entries)) (map rate (filter level entries))
 picked_merge rate alone common level [] either = IsPermutation-refl []
 picked_merge rate alone common level (x ∷ xs) either =
@@ -133,9 +147,7 @@ picked_merge rate alone common level (x ∷ xs) either =
     let qs : List Sum = map rate (filter common xs) in
     let rs : List Sum = map rate (filter level xs) in
     let more = more_merged (rate x) ps qs rs (alone x) (common x) (level x) (either x) (picked_merge rate alone common level xs either) in
-    subst (λ zs. IsPermutation (map rate (filter alone (x ∷ xs)) ++ map rate (filter common (x ∷ xs))) zs) (sym (map_cond rate x (filter level xs) (level x)))
-    (subst (λ zs. IsPermutation (map rate (filter alone (x ∷ xs)) ++ zs) (cond (level x) (rate x ∷ rs) rs)) (sym (map_cond rate x (filter common xs) (common x)))
-    (subst (λ zs. IsPermutation (zs ++ cond (common x) (rate x ∷ qs) qs) (cond (level x) (rate x ∷ rs) rs)) (sym (map_cond rate x (filter alone xs) (alone x))) more))
+    same_merge (map_cond rate x (filter alone xs) (alone x)) (map_cond rate x (filter common xs) (common x)) (map_cond rate x (filter level xs) (level x)) more
 
 pub tested_parts_merge : {T : Type 0} → TestedPartsMerge T
 tested_parts_merge {T} = record {

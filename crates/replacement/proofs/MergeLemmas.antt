@@ -28,7 +28,8 @@ either_non_negative alone common one other = record {
 merged_non_negative : (alone common level : List Sum) → AreNonNegative alone → AreNonNegative common → IsMerged alone common level → AreNonNegative level
 merged_non_negative alone common level one other merged =
     let both = either_non_negative alone common one other in
-    let back : (part : Sum) → Contains level part → Contains (alone ++ common) part = λ part h. Contains-permutation level (alone ++ common) part (IsPermutation-sym (alone ++ common) level merged.same) h in
+    let back : (part : Sum) → Contains level part → Contains (alone ++ common) part =
+    λ part h. Contains-permutation level (alone ++ common) part (IsPermutation-sym (alone ++ common) level merged.same) h in
     record { fees = λ part h. both.fees part (back part h); some = λ part h. both.some part (back part h) }
 
 -- ---- segments
@@ -43,7 +44,8 @@ sum_some (x ∷ xs) filled all = omega (arith, size_of-cons x xs, all.some x (Co
 abbrev flat : List (List Sum) → List Sum
 flat groups = flat_map (λ group. group) groups
 
-part_of : (groups : List (List Sum)) → AreNonNegative (flat groups) → ((group : List Sum) → Contains groups group → group ≢ []) → (segment : Sum) → Contains (map sum_of groups) segment
+part_of : (groups : List (List Sum)) → AreNonNegative (flat groups) → ((group : List Sum) → Contains groups group → group ≢ []) → (segment : Sum)
+    → Contains (map sum_of groups) segment
     → (pos 0 ≤ℤ segment.fee) × (1 ≤ segment.size)
 part_of [] all filled segment h = absurd (none_in_empty segment h)
 part_of (g ∷ gs) all filled segment h =
@@ -80,40 +82,45 @@ above_by_gains : (upper lower us ls : List Sum) → AreNonNegative upper → Are
     → IsAtOrAbove (corners_of us) (corners_of ls) ↔ GainAtLeast upper lower
 above_by_gains upper lower us ls all_upper all_lower joins_us joins_ls =
     let all_us = segments_non_negative upper us all_upper joins_us in
-    let all_ls = segments_non_negative lower ls all_lower joins_ls in (
-      λ above rate some pays.
-          let more = above_gains us ls all_us all_ls (strict_falls ls joins_ls.falling) above rate some pays in
-          omega (arith, more, gains-segments rate upper us all_upper.some joins_us, gains-segments rate lower ls all_lower.some joins_ls),
-      λ more.
-          gains_above us ls all_us (strict_falls us joins_us.falling)
-          (λ rate some pays. omega (arith, more rate some pays, gains-segments rate upper us all_upper.some joins_us, gains-segments rate lower ls all_lower.some joins_ls)),
+    let all_ls = segments_non_negative lower ls all_lower joins_ls in
+    let high : (rate : Sum) → gains rate us ≡ gains rate upper = λ rate. gains-segments rate upper us all_upper.some joins_us in
+    let low : (rate : Sum) → gains rate ls ≡ gains rate lower = λ rate. gains-segments rate lower ls all_lower.some joins_ls in (
+      λ above rate some pays. omega (arith, above_gains us ls all_us all_ls (strict_falls ls joins_ls.falling) above rate some pays, high rate, low rate),
+      λ more. gains_above us ls all_us (strict_falls us joins_us.falling) (λ rate some pays. omega (arith, more rate some pays, high rate, low rate)),
     )
 
-merged_gains : (upper lower common high low : List Sum) → IsMerged upper common high → IsMerged lower common low → GainAtLeast upper lower ↔ GainAtLeast high low
+merged_gains : (upper lower common high low : List Sum) → IsMerged upper common high → IsMerged lower common low
+    → GainAtLeast upper lower ↔ GainAtLeast high low
 merged_gains upper lower common high low one other = (
   λ more rate some pays. omega (arith, more rate some pays, gains_merged rate upper common high one, gains_merged rate lower common low other),
   λ more rate some pays. omega (arith, more rate some pays, gains_merged rate upper common high one, gains_merged rate lower common low other),
 )
 
 -- one diagram is at or above the other exactly where it is with the common parts
-above_with : (upper lower common high low us ls hs ds : List Sum) → AreNonNegative upper → AreNonNegative lower → AreNonNegative common → IsMerged upper common high → IsMerged lower common low
-    → JoinsEqualRates upper us → JoinsEqualRates lower ls → JoinsEqualRates high hs → JoinsEqualRates low ds → IsAtOrAbove (corners_of us) (corners_of ls) ↔ IsAtOrAbove (corners_of hs) (corners_of ds)
+above_with : (upper lower common high low us ls hs ds : List Sum) → AreNonNegative upper → AreNonNegative lower → AreNonNegative common
+    → IsMerged upper common high → IsMerged lower common low
+    → JoinsEqualRates upper us → JoinsEqualRates lower ls → JoinsEqualRates high hs → JoinsEqualRates low ds
+    → IsAtOrAbove (corners_of us) (corners_of ls) ↔ IsAtOrAbove (corners_of hs) (corners_of ds)
 above_with upper lower common high low us ls hs ds all_upper all_lower all_common one other joins_us joins_ls joins_hs joins_ds =
     let apart = above_by_gains upper lower us ls all_upper all_lower joins_us joins_ls in
-    let with = above_by_gains high low hs ds (merged_non_negative upper common high all_upper all_common one) (merged_non_negative lower common low all_lower all_common other) joins_hs joins_ds in
+    let with = above_by_gains high low hs ds (merged_non_negative upper common high all_upper all_common one)
+    (merged_non_negative lower common low all_lower all_common other) joins_hs joins_ds in
     let between = merged_gains upper lower common high low one other in
     (λ above. with.1 (between.0 (apart.0 above)), λ above. apart.1 (between.1 (with.0 above)))
 
-same_verdict : (a b c d : List (ℕ × ℤ)) → IsAtOrAbove a b ↔ IsAtOrAbove c d → IsAtOrAbove b a ↔ IsAtOrAbove d c → (verdict : Verdict) → Compares a b verdict → Compares c d verdict
+same_verdict : (a b c d : List (ℕ × ℤ)) → IsAtOrAbove a b ↔ IsAtOrAbove c d → IsAtOrAbove b a ↔ IsAtOrAbove d c → (verdict : Verdict)
+    → Compares a b verdict → Compares c d verdict
 same_verdict a b c d up down Better h = (up.0 h.0, λ above. h.1 (down.1 above))
 same_verdict a b c d up down Worse h = (λ above. h.0 (up.1 above), down.0 h.1)
 same_verdict a b c d up down Equal h = (up.0 h.0, down.0 h.1)
 same_verdict a b c d up down Incomparable h = (λ above. h.0 (up.1 above), λ above. h.1 (down.1 above))
 
 pub common_parts_keep_verdicts : CommonPartsKeepVerdicts
-common_parts_keep_verdicts mains tops common main top before after changed_before changed_after verdict all_mains all_tops all_common one other joins_mains joins_tops joins_main joins_top =
-    let up = above_with tops mains common top main changed_after changed_before after before all_tops all_mains all_common other one joins_tops joins_mains joins_top joins_main in
-    let down = above_with mains tops common main top changed_before changed_after before after all_mains all_tops all_common one other joins_mains joins_tops joins_main joins_top in (
-      same_verdict (corners_of changed_after) (corners_of changed_before) (corners_of after) (corners_of before) up down verdict,
-      same_verdict (corners_of after) (corners_of before) (corners_of changed_after) (corners_of changed_before) (up.1, up.0) (down.1, down.0) verdict,
+common_parts_keep_verdicts mains tops common main top old new before after verdict all_mains all_tops all_common one other joins_mains joins_tops joins_main joins_top =
+    let up = above_with tops mains common top main new old after before all_tops all_mains all_common other one
+    joins_tops joins_mains joins_top joins_main in
+    let down = above_with mains tops common main top old new before after all_mains all_tops all_common one other
+    joins_mains joins_tops joins_main joins_top in (
+      same_verdict (corners_of new) (corners_of old) (corners_of after) (corners_of before) up down verdict,
+      same_verdict (corners_of after) (corners_of before) (corners_of new) (corners_of old) (up.1, up.0) (down.1, down.0) verdict,
     )

@@ -11,7 +11,7 @@ use Rattle.graph_model.specs.Rates.{sum_of, Falls}
 use Rattle.fee_rate.specs.declared.rates.FeeRate.{FeeRate}
 use Rattle.std.proofs.lemmas.List.{map-append}
 use Rattle.diagram.specs.Parts.{rate_of}
-use Rattle.replacement.specs.Changes.{EndsNonNegative, AreNonNegative}
+use Rattle.replacement.specs.Changes.{EndsNonNegative, AreNonNegative, HaveSizes}
 
 -- ---- members
 pub Contains-head : {A : Type 0} (x : A) (xs : List A) → Contains (x ∷ xs) x
@@ -58,6 +58,9 @@ pub falls-rest : (x : Sum) (xs : List Sum) → Falls (x ∷ xs) → Falls xs
 falls-rest x [] falls = tt
 falls-rest x (y ∷ ys) falls = falls.1
 
+pub sizes-rest : (x : Sum) (xs : List Sum) → HaveSizes (x ∷ xs) → HaveSizes xs
+sizes-rest x xs some part h = some part (Contains-later x part xs h)
+
 pub non_negative-rest : (x : Sum) (xs : List Sum) → AreNonNegative (x ∷ xs) → AreNonNegative xs
 non_negative-rest x xs paid = record {
   fees = λ part h. paid.fees part (Contains-later x part xs h);
@@ -73,21 +76,21 @@ pays_too x y some low pays =
 ends-rest : (x : Sum) (xs : List Sum) → EndsNonNegative (x ∷ xs) → EndsNonNegative xs
 ends-rest x xs ends before last e = ends (x ∷ before) last (ap (λ zs. x ∷ zs) e)
 
-first_non_negative : (x : Sum) (xs : List Sum) → ((part : Sum) → Contains (x ∷ xs) part → 1 ≤ part.size) → Falls (x ∷ xs) → EndsNonNegative (x ∷ xs) → pos 0 ≤ℤ x.fee
+first_non_negative : (x : Sum) (xs : List Sum) → HaveSizes (x ∷ xs) → Falls (x ∷ xs) → EndsNonNegative (x ∷ xs) → pos 0 ≤ℤ x.fee
 first_non_negative x [] some falls ends = ends [] x refl
 first_non_negative x (y ∷ ys) some falls ends =
     pays_too x y (some y (Contains-later x y (y ∷ ys) (Contains-head y ys))) falls.0
-    (first_non_negative y ys (λ part h. some part (Contains-later x part (y ∷ ys) h)) falls.1 (ends-rest x (y ∷ ys) ends))
+    (first_non_negative y ys (sizes-rest x (y ∷ ys) some) falls.1 (ends-rest x (y ∷ ys) ends))
 
 -- in falling parts all fees are at least 0 where the last one is
-pub all_non_negative : (parts : List Sum) → ((part : Sum) → Contains parts part → 1 ≤ part.size) → Falls parts → EndsNonNegative parts → AreNonNegative parts
+pub all_non_negative : (parts : List Sum) → HaveSizes parts → Falls parts → EndsNonNegative parts → AreNonNegative parts
 all_non_negative parts some falls ends = record { fees = fees parts some falls ends; some = some }
   where
-    fees : (xs : List Sum) → ((part : Sum) → Contains xs part → 1 ≤ part.size) → Falls xs → EndsNonNegative xs → (part : Sum) → Contains xs part → pos 0 ≤ℤ part.fee
+    fees : (xs : List Sum) → HaveSizes xs → Falls xs → EndsNonNegative xs → (part : Sum) → Contains xs part → pos 0 ≤ℤ part.fee
     fees [] sizes down end part h = absurd (none_in_empty part h)
     fees (x ∷ xs) sizes down end part h = elim (Contains-cases x part xs h) [
       | inl it ↦ subst (λ (p : Sum). pos 0 ≤ℤ p.fee) it (first_non_negative x xs sizes down end)
-      | inr later ↦ fees xs (λ p k. sizes p (Contains-later x p xs k)) (falls-rest x xs down) (ends-rest x xs end) part later
+      | inr later ↦ fees xs (sizes-rest x xs sizes) (falls-rest x xs down) (ends-rest x xs end) part later
     ]
 
 -- ---- the last part
@@ -104,14 +107,22 @@ last_same [] (b ∷ ys) x y e = absurd (not_at_end ys y (tail_same e))
 last_same (a ∷ xs) [] x y e = absurd (not_at_end xs x (sym (tail_same e)))
 last_same (a ∷ xs) (b ∷ ys) x y e = last_same xs ys x y (tail_same e)
 
--- the fee of the last part decides
+pub last_decides : (before : List Sum) (last : Sum) → EndsNonNegative (before ++ last ∷ []) ↔ (pos 0 ≤ℤ last.fee)
+last_decides before last = (
+  λ ends. ends before last refl,
+  λ pays front other e. subst (λ (s : Sum). pos 0 ≤ℤ s.fee) (last_same before front last other e) pays,
+)
+
+pub empty_ends : EndsNonNegative []
+empty_ends before last e = absurd (not_at_end before last e)
+
+-- the same of a slice
 pub ends_by_last : (parts front : List FeeRate) (last : FeeRate) → parts ≡ front ++ last ∷ [] → pos 0 ≤ℤ last.fee ↔ EndsNonNegative (map rate_of parts)
 ends_by_last parts front last e =
-    let whole : map rate_of parts ≡ map rate_of front ++ rate_of last ∷ [] = ap (map rate_of) e ∙ map-append rate_of front (last ∷ []) in (
-      λ pays before other h. subst (λ (s : Sum). pos 0 ≤ℤ s.fee) (last_same (map rate_of front) before (rate_of last) other (sym whole ∙ h)) pays,
-      λ ends. ends (map rate_of front) (rate_of last) whole,
-    )
+    let whole : map rate_of parts ≡ map rate_of front ++ rate_of last ∷ [] = ap (map rate_of) e ∙ map-append rate_of front (last ∷ []) in
+    let decides = last_decides (map rate_of front) (rate_of last) in
+    (λ pays. subst EndsNonNegative (sym whole) (decides.1 pays), λ ends. decides.0 (subst EndsNonNegative whole ends))
 
 pub none_ends : (parts : List FeeRate) → length parts ≡ 0 → EndsNonNegative (map rate_of parts)
-none_ends [] e before last h = absurd (not_at_end before last h)
-none_ends (x ∷ xs) e before last h = absurd (omega arith)
+none_ends [] e = empty_ends
+none_ends (x ∷ xs) e = absurd (omega arith)

@@ -1,7 +1,8 @@
--- Heights told by gains: the diagram of falling parts of fee at least 0 is under the line of each rate, raised by what the parts gain over it,
--- touches one such line at each size, and touches each where something is gained. So one diagram is at or above another exactly where it gains as much over every rate.
+-- Heights told by gains: the diagram of falling parts of fee at least 0 is under the line of each rate, raised by what the
+-- parts gain over it, touches one such line at each size, and touches each where something is gained. So one diagram is at or
+-- above another exactly where it gains as much over every rate.
 use Rattle.std.proofs.Common.{◌≡◌, ℕ, ◌+◌, ◌-◌, ◌*◌, ◌<◌, ◌≤◌, ◌⊎◌, Bool, List, [], ◌∷◌, inl, inr, ℤ, pos, ◌+ℤ◌, ◌-ℤ◌, ◌*ℤ◌, ◌≤ℤ◌, refl, sym, ap, ◌∙◌, subst, arith}
-use Rattle.std.specs.Prelude.{Contains, if◌then◌else◌}
+use Rattle.std.specs.Prelude.{if◌then◌else◌}
 use Rattle.std.proofs.Math.Nat.{mul-le-mul_left}
 use Rattle.std.proofs.lemmas.Bool.{cases_lt, le-leb, lt-leb}
 use Rattle.std.proofs.lemmas.Int.{ints}
@@ -12,8 +13,8 @@ use Rattle.fee_rate.specs.Laws.{joined}
 use Rattle.fee_rate.specs.Rates.{AtMost}
 use Rattle.graph_model.specs.Rates.{Falls}
 use Rattle.graph_model.specs.Diagrams.{corners_of, ends_from, height_at, height_between, IsAtOrAbove}
-use Rattle.replacement.specs.Changes.{AreNonNegative}
-use Rattle.replacement.proofs.PartLists.{Contains-head, Contains-later, same_sum, at_most_chains, at_most_more, at_most_less, falls-rest, non_negative-rest}
+use Rattle.replacement.specs.Changes.{AreNonNegative, HaveSizes}
+use Rattle.replacement.proofs.PartLists.{Contains-head, same_sum, at_most_chains, at_most_more, at_most_less, falls-rest, non_negative-rest, sizes-rest}
 use Rattle.replacement.proofs.GainLemmas.{beyond, gain, gains, gain_most, gain_is, gains-cons, falling_none}
 
 -- the corners of segments from an origin on
@@ -31,7 +32,8 @@ height_late p q rest x h = ap (λ (b : Bool). if b then height_between p q x els
 abbrev on_segment : Sum → Sum → ℕ → Sum
 on_segment origin part gone = record { fee = (origin.fee *ℤ pos part.size) +ℤ (part.fee *ℤ pos gone); size = part.size }
 
-height_on : (origin part : Sum) (rest : List Sum) (x : ℕ) → origin.size ≤ x → x ≤ origin.size + part.size → height_at (points origin (part ∷ rest)) x ≡ on_segment origin part (x - origin.size)
+height_on : (origin part : Sum) (rest : List Sum) (x : ℕ) → origin.size ≤ x → x ≤ origin.size + part.size
+    → height_at (points origin (part ∷ rest)) x ≡ on_segment origin part (x - origin.size)
 height_on origin part rest x from to =
     let end : Sum = joined origin part in
     let width : (origin.size + part.size) - origin.size ≡ part.size = omega arith in
@@ -40,19 +42,21 @@ height_on origin part rest x from to =
     let start = ap (λ (n : ℕ). origin.fee *ℤ pos n) width in
     let risen = ap (λ (z : ℤ). z *ℤ (pos x -ℤ pos origin.size)) rise ∙ ap (λ (z : ℤ). part.fee *ℤ z) gone in
     height_early (origin.size, origin.fee) (end.size, end.fee) (ends_from end rest) x to
-    ∙ same_sum (height_between (origin.size, origin.fee) (end.size, end.fee) x) (on_segment origin part (x - origin.size)) (omega (arith, ints, start, risen)) width
+    ∙ same_sum (height_between (origin.size, origin.fee) (end.size, end.fee) x) (on_segment origin part (x - origin.size))
+    (omega (arith, ints, start, risen)) width
 
-height_past : (origin part : Sum) (rest : List Sum) (x : ℕ) → origin.size + part.size < x → height_at (points origin (part ∷ rest)) x ≡ height_at (points (joined origin part) rest) x
+height_past : (origin part : Sum) (rest : List Sum) (x : ℕ) → origin.size + part.size < x
+    → height_at (points origin (part ∷ rest)) x ≡ height_at (points (joined origin part) rest) x
 height_past origin part rest x late =
     let end : Sum = joined origin part in
     height_late (origin.size, origin.fee) (end.size, end.fee) (ends_from end rest) x late
 
-height_some : (origin : Sum) (parts : List Sum) (x : ℕ) → ((part : Sum) → Contains parts part → 1 ≤ part.size) → origin.size ≤ x → 1 ≤ (height_at (points origin parts) x).size
+height_some : (origin : Sum) (parts : List Sum) (x : ℕ) → HaveSizes parts → origin.size ≤ x → 1 ≤ (height_at (points origin parts) x).size
 height_some origin [] x some from = omega arith
 height_some origin (s ∷ rest) x some from = elim (cases_lt (origin.size + s.size) x) [
   | inl late ↦
       subst (λ (h : Sum). 1 ≤ h.size) (sym (height_past origin s rest x late))
-      (height_some (joined origin s) rest x (λ part h. some part (Contains-later s part rest h)) (omega arith))
+      (height_some (joined origin s) rest x (sizes-rest s rest some) (omega arith))
   | inr early ↦ subst (λ (h : Sum). 1 ≤ h.size) (sym (height_on origin s rest x from early)) (some s (Contains-head s rest))
 ]
 
@@ -63,7 +67,8 @@ line rate origin raise gone = record { fee = ((origin.fee *ℤ pos rate.size) +�
 
 -- the same line from the end of a part on
 line_moves : (rate origin part : Sum) (one more x : ℕ) → origin.size + part.size ≤ x
-    → (line rate origin (one + more) (x - origin.size)).fee ≡ (line rate (joined origin part) more (x - (origin.size + part.size))).fee +ℤ (pos one -ℤ beyond rate part)
+    → (line rate origin (one + more) (x - origin.size)).fee
+    ≡ (line rate (joined origin part) more (x - (origin.size + part.size))).fee +ℤ (pos one -ℤ beyond rate part)
 line_moves rate origin part one more x from =
     let split : pos (x - origin.size) ≡ pos (x - (origin.size + part.size)) +ℤ pos part.size = omega (arith, ints) in
     let gone : rate.fee *ℤ pos (x - origin.size) ≡ (rate.fee *ℤ pos (x - (origin.size + part.size))) +ℤ (rate.fee *ℤ pos part.size) =
@@ -73,7 +78,8 @@ line_moves rate origin part one more x from =
 
 -- the products of a point on a segment against a line
 segment_products : (rate origin part : Sum) (raise gone : ℕ)
-    → (((line rate origin raise gone).fee *ℤ pos part.size) +ℤ (beyond rate part *ℤ pos gone)) ≡ ((on_segment origin part gone).fee *ℤ pos rate.size) +ℤ (pos raise *ℤ pos part.size)
+    → ((line rate origin raise gone).fee *ℤ pos part.size) +ℤ (beyond rate part *ℤ pos gone)
+    ≡ ((on_segment origin part gone).fee *ℤ pos rate.size) +ℤ (pos raise *ℤ pos part.size)
 segment_products rate origin part raise gone =
     let start : ℤ = origin.fee *ℤ pos rate.size in
     let left = mul-add_left (start +ℤ pos raise) (rate.fee *ℤ pos gone) (pos part.size) in
@@ -85,14 +91,16 @@ segment_products rate origin part raise gone =
     let rise = mul_swap_ℤ part.fee (pos gone) (pos rate.size) in
     omega (arith, ints, left, first, from, run, pays, right, rise)
 
-segment_under : (rate origin part : Sum) (raise gone : ℕ) → gone ≤ part.size → beyond rate part ≤ℤ pos raise → AtMost (on_segment origin part gone) (line rate origin raise gone)
+segment_under : (rate origin part : Sum) (raise gone : ℕ) → gone ≤ part.size → beyond rate part ≤ℤ pos raise
+    → AtMost (on_segment origin part gone) (line rate origin raise gone)
 segment_under rate origin part raise gone within most =
     let scaled = scale_keeps gone (beyond rate part) (pos raise) most in
     let wider : raise * gone ≤ raise * part.size = mul-le-mul_left raise within in
     record { crossed = omega (arith, ints, scaled, wider, segment_products rate origin part raise gone) }
 
 -- ---- a diagram is under every raised line
-under_line : (rate origin : Sum) (parts : List Sum) (x : ℕ) → pos 0 ≤ℤ rate.fee → origin.size ≤ x → AtMost (height_at (points origin parts) x) (line rate origin (gains rate parts) (x - origin.size))
+under_line : (rate origin : Sum) (parts : List Sum) (x : ℕ) → pos 0 ≤ℤ rate.fee → origin.size ≤ x
+    → AtMost (height_at (points origin parts) x) (line rate origin (gains rate parts) (x - origin.size))
 under_line rate origin [] x pays from =
     let run = scale_keeps (x - origin.size) (pos 0) rate.fee pays in
     record { crossed = omega (arith, ints, run) }
@@ -143,7 +151,8 @@ touches_whole rate origin part rest x late high touches =
     (omega (arith, ints, moved, gain_is rate part high))
     touches))
 
-tangent : (top origin : Sum) (parts : List Sum) (x : ℕ) → 1 ≤ top.size → pos 0 ≤ℤ top.fee → Falls (top ∷ parts) → AreNonNegative parts → origin.size ≤ x → Tangent top origin parts x
+tangent : (top origin : Sum) (parts : List Sum) (x : ℕ) → 1 ≤ top.size → pos 0 ≤ℤ top.fee → Falls (top ∷ parts) → AreNonNegative parts
+    → origin.size ≤ x → Tangent top origin parts x
 tangent top origin [] x size pays falls paid from = record {
   rate = record { fee = pos 0; size = 1 };
   some = omega arith;
@@ -153,7 +162,8 @@ tangent top origin [] x size pays falls paid from = record {
 }
 tangent top origin (s ∷ rest) x size pays falls paid from = elim (cases_lt (origin.size + s.size) x) [
   | inl late ↦
-      let behind = tangent s (joined origin s) rest x (paid.some s (Contains-head s rest)) (paid.fees s (Contains-head s rest)) falls.1 (non_negative-rest s rest paid) (omega arith) in
+      let behind = tangent s (joined origin s) rest x (paid.some s (Contains-head s rest)) (paid.fees s (Contains-head s rest)) falls.1
+      (non_negative-rest s rest paid) (omega arith) in
       record {
         rate = behind.rate;
         some = behind.some;
@@ -183,7 +193,19 @@ at_end : (rate origin part : Sum) (raise : ℕ) → pos raise ≡ beyond rate pa
 at_end rate origin part raise e =
     record { crossed = omega (arith, ints, segment_products rate origin part raise part.size, ap (λ (z : ℤ). z *ℤ pos part.size) e) }
 
-reached : (rate origin : Sum) (parts : List Sum) → Falls parts → ((part : Sum) → Contains parts part → 1 ≤ part.size) → Reached rate origin parts
+at_its_end : (rate origin part : Sum) (rest : List Sum) → 1 ≤ part.size → AtMost rate part → gains rate rest ≡ 0 → let x : ℕ = origin.size + part.size in
+    AtMost (line rate origin (gains rate (part ∷ rest)) (x - origin.size)) (height_at (points origin (part ∷ rest)) x)
+at_its_end rate origin part rest size high none =
+    let x : ℕ = origin.size + part.size in
+    let gone : part.size ≡ x - origin.size = omega arith in
+    let all : gain rate part ≡ gains rate (part ∷ rest) = omega (arith, gains-cons rate part rest, none) in
+    let touches = subst (λ (n : ℕ). AtMost (line rate origin n part.size) (on_segment origin part part.size)) all
+    (at_end rate origin part (gain rate part) (gain_is rate part high)) in
+    subst (λ (h : Sum). AtMost (line rate origin (gains rate (part ∷ rest)) (x - origin.size)) h)
+    (sym (height_on origin part rest x (omega arith) (omega arith)))
+    (subst (λ (k : ℕ). AtMost (line rate origin (gains rate (part ∷ rest)) k) (on_segment origin part k)) gone touches)
+
+reached : (rate origin : Sum) (parts : List Sum) → Falls parts → HaveSizes parts → Reached rate origin parts
 reached rate origin [] falls some = inl refl
 reached rate origin (s ∷ rest) falls some =
     let size : 1 ≤ s.size = some s (Contains-head s rest) in
@@ -191,18 +213,8 @@ reached rate origin (s ∷ rest) falls some =
       | inl low ↦ inl (falling_none rate s rest some falls (record { crossed = low }))
       | inr less ↦
           let high : AtMost rate s = record { crossed = omega (arith, ints, less) } in
-          elim (reached rate (joined origin s) rest (falls-rest s rest falls) (λ part h. some part (Contains-later s part rest h))) [
-            | inl none ↦
-                let x : ℕ = origin.size + s.size in
-                let gone : x - origin.size ≡ s.size = omega arith in
-                let all : gains rate (s ∷ rest) ≡ gain rate s = omega (arith, gains-cons rate s rest, none) in
-                inr (
-                  x,
-                  omega arith,
-                  subst (λ (h : Sum). AtMost (line rate origin (gains rate (s ∷ rest)) (x - origin.size)) h) (sym (height_on origin s rest x (omega arith) (omega arith)))
-                      (subst (λ (k : ℕ). AtMost (line rate origin (gains rate (s ∷ rest)) k) (on_segment origin s k)) (sym gone)
-                      (subst (λ (n : ℕ). AtMost (line rate origin n s.size) (on_segment origin s s.size)) (sym all) (at_end rate origin s (gain rate s) (gain_is rate s high)))),
-                )
+          elim (reached rate (joined origin s) rest (falls-rest s rest falls) (sizes-rest s rest some)) [
+            | inl none ↦ inr (origin.size + s.size, omega arith, at_its_end rate origin s rest size high none)
             | inr (x, later, touches) ↦ inr (x, omega arith, touches_whole rate origin s rest x later high touches)
           ]
     ]
@@ -215,14 +227,20 @@ GainAtLeast us ls = (rate : Sum) → 1 ≤ rate.size → pos 0 ≤ℤ rate.fee �
 abbrev zero_sum : Sum
 zero_sum = record { fee = pos 0; size = 0 }
 
+-- the line of a rate from (0, 0) on, raised by what parts gain over it, at a size
+abbrev raised_line : Sum → List Sum → ℕ → Sum
+raised_line rate parts x = line rate zero_sum (gains rate parts) (x - 0)
+
 pub above_gains : (us ls : List Sum) → AreNonNegative us → AreNonNegative ls → Falls ls → IsAtOrAbove (corners_of us) (corners_of ls) → GainAtLeast us ls
 above_gains us ls paid_us paid_ls falls above rate size pays = elim (reached rate zero_sum ls falls paid_ls.some) [
   | inl none ↦ omega (arith, none)
   | inr (x, later, touches) ↦
-      let lower = at_most_chains (line rate zero_sum (gains rate ls) (x - 0)) (height_at (corners_of ls) x) (height_at (corners_of us) x) (height_some zero_sum ls x paid_ls.some (omega arith)) touches (above x) in
-      let upper = at_most_chains (line rate zero_sum (gains rate ls) (x - 0)) (height_at (corners_of us) x) (line rate zero_sum (gains rate us) (x - 0))
-      (height_some zero_sum us x paid_us.some (omega arith)) lower (under_line rate zero_sum us x pays (omega arith)) in
-      let fees = scale_reflects rate.size (line rate zero_sum (gains rate ls) (x - 0)).fee (line rate zero_sum (gains rate us) (x - 0)).fee (omega arith) upper.crossed in
+      let lower : Sum = height_at (corners_of ls) x in
+      let upper : Sum = height_at (corners_of us) x in
+      let to_upper = at_most_chains (raised_line rate ls x) lower upper (height_some zero_sum ls x paid_ls.some (omega arith)) touches (above x) in
+      let under = under_line rate zero_sum us x pays (omega arith) in
+      let to_line = at_most_chains (raised_line rate ls x) upper (raised_line rate us x) (height_some zero_sum us x paid_us.some (omega arith)) to_upper under in
+      let fees = scale_reflects rate.size (raised_line rate ls x).fee (raised_line rate us x).fee (omega arith) to_line.crossed in
       omega (arith, ints, fees)
 ]
 
@@ -235,11 +253,14 @@ tangent_at : (parts : List Sum) (x : ℕ) → AreNonNegative parts → Falls par
 unfolding top_of
 tangent_at [] x paid falls = tangent (record { fee = pos 0; size = 1 }) zero_sum [] x (omega arith) (omega (arith, ints)) tt paid (omega arith)
 tangent_at (s ∷ rest) x paid falls =
-    tangent s zero_sum (s ∷ rest) x (paid.some s (Contains-head s rest)) (paid.fees s (Contains-head s rest)) (record { crossed = omega (arith, ints) }, falls) paid (omega arith)
+    tangent s zero_sum (s ∷ rest) x (paid.some s (Contains-head s rest)) (paid.fees s (Contains-head s rest))
+    (record { crossed = omega (arith, ints) }, falls) paid (omega arith)
 
 pub gains_above : (us ls : List Sum) → AreNonNegative us → Falls us → GainAtLeast us ls → IsAtOrAbove (corners_of us) (corners_of ls)
 gains_above us ls paid falls more x =
     let touch = tangent_at us x paid falls in
-    let raised = at_most_more (height_at (corners_of ls) x) (line touch.rate zero_sum (gains touch.rate ls) (x - 0)).fee (line touch.rate zero_sum (gains touch.rate us) (x - 0)).fee touch.rate.size
-    (omega (arith, ints, more touch.rate touch.some touch.pays)) (under_line touch.rate zero_sum ls x touch.pays (omega arith)) in
-    at_most_chains (height_at (corners_of ls) x) (line touch.rate zero_sum (gains touch.rate us) (x - 0)) (height_at (corners_of us) x) touch.some raised touch.touches
+    let low : Sum = raised_line touch.rate ls x in
+    let high : Sum = raised_line touch.rate us x in
+    let gained : low.fee ≤ℤ high.fee = omega (arith, ints, more touch.rate touch.some touch.pays) in
+    let under = at_most_more (height_at (corners_of ls) x) low.fee high.fee touch.rate.size gained (under_line touch.rate zero_sum ls x touch.pays (omega arith)) in
+    at_most_chains (height_at (corners_of ls) x) high (height_at (corners_of us) x) touch.some under touch.touches

@@ -7,8 +7,8 @@ pub fn common_parts_keep_verdicts()
     ensures { CommonPartsKeepVerdicts }
 {}
 
-/// What stands in one level alone is what `compare_changed` asks for, and what stands in both has fees of at
-/// least 0, where the last part of the level has such a fee.
+/// Where the last part of a level has a fee of at least 0, what stands in it alone is what `compare_changed`
+/// asks for, and what stands in both levels has such fees.
 pub fn changes_are_level_parts()
     ensures { ChangesAreLevelParts }
 {}

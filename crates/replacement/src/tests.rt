@@ -2,7 +2,7 @@ ghost use Rattle.std.specs.Prelude.{◌≤◌, length, map};
 ghost use Rattle.diagram.specs.Parts.{rate_of, AreLevelParts};
 ghost use Rattle.replacement.specs.Changes.{EndsNonNegative};
 
-use crate::{compare_changed, compare_full, ends_non_negative};
+use crate::{compare_changed, compare_full, ends_non_negative, tested_parts_merge};
 use diagram::are_level_parts;
 use fee_rate::FeeRate;
 use graph_model::Verdict;
@@ -95,6 +95,24 @@ fn places_in_both(
     Ok(places)
 }
 
+/// Whether changes have this verdict, and each part in common, of a fee and a size, leaves it at that many pairs of
+/// places: at all at which rates still fall.
+fn keep_verdict(
+    alloc: Global,
+    main_only: &[FeeRate],
+    top_only: &[FeeRate],
+    verdict: Verdict,
+    rows: &[(i64, u64, u32)],
+) -> Result<bool, AllocError> {
+    for (fee, size, places) in rows {
+        let common = part(*fee, *size);
+        if places_in_both(alloc, main_only, top_only, common, verdict)? != *places {
+            return Ok(false);
+        }
+    }
+    Ok(verdict_of_changes(main_only, top_only) == Some(verdict))
+}
+
 fn part(fee: i64, size: u64) -> FeeRate {
     FeeRate { fee, size }
 }
@@ -128,6 +146,8 @@ fn changes_have_the_verdict_of_the_levels(rt: HostRuntime) -> Result<(), Fail> {
         )
     );
     assert_eq!(rt; verdict_of_changes(&main_only, &top_only), Some(neither));
+    // A generic law, at a type.
+    tested_parts_merge::<FeeRate>();
     Ok(())
 }
 
@@ -147,54 +167,17 @@ fn a_common_part_below_zero_decides(rt: HostRuntime) -> Result<(), Fail> {
 fn common_parts_at_every_place_keep_the_verdict(rt: HostRuntime) -> Result<(), Fail> {
     let alloc = rt.alloc();
     let (main, top) = ([part(30, 10), part(10, 10)], [part(40, 10), part(20, 20)]);
-    let (better, worse) = (Verdict::Better, Verdict::Worse);
-    assert_eq!(rt; verdict_of_changes(&main, &top), Some(better));
-    assert_eq!(rt; verdict_of_changes(&top, &main), Some(worse));
-    for (fee, places) in [
-        (50, 1),
-        (40, 2),
-        (35, 1),
-        (30, 2),
-        (20, 1),
-        (10, 4),
-        (5, 1),
-        (0, 1),
-    ] {
-        let common = part(fee, 10);
-        assert_eq!(rt;
-            places_in_both(alloc, &main, &top, common, better)?,
-            places,
-            "{fee}"
-        );
-        assert_eq!(rt;
-            places_in_both(alloc, &top, &main, common, worse)?,
-            places,
-            "{fee}"
-        );
-    }
-    Ok(())
-}
-
-#[test]
-fn common_parts_keep_equal_and_incomparable_diagrams(rt: HostRuntime) -> Result<(), Fail> {
-    let alloc = rt.alloc();
-    let (whole, halves, slow) = ([part(3, 3)], [part(1, 1), part(2, 2)], [part(5, 9)]);
-    let (equal, neither) = (Verdict::Equal, Verdict::Incomparable);
-    assert_eq!(rt; verdict_of_changes(&whole, &halves), Some(equal));
-    assert_eq!(rt; verdict_of_changes(&halves, &slow), Some(neither));
-    for (fee, size, places) in [(9, 3, 1), (7, 7, 6), (5, 9, 1), (0, 4, 1)] {
-        assert_eq!(rt;
-            places_in_both(alloc, &whole, &halves, part(fee, size), equal)?,
-            places,
-            "{fee}"
-        );
-    }
-    for (fee, size, places) in [(9, 3, 1), (7, 7, 3), (5, 9, 2), (0, 4, 1)] {
-        assert_eq!(rt;
-            places_in_both(alloc, &halves, &slow, part(fee, size), neither)?,
-            places,
-            "{fee}"
-        );
-    }
+    let fast = [(50, 10, 1), (40, 10, 2), (35, 10, 1), (30, 10, 2)];
+    let slow = [(20, 10, 1), (10, 10, 4), (5, 10, 1), (0, 10, 1)];
+    assert!(rt; keep_verdict(alloc, &main, &top, Verdict::Better, &fast)?);
+    assert!(rt; keep_verdict(alloc, &main, &top, Verdict::Better, &slow)?);
+    assert!(rt; keep_verdict(alloc, &top, &main, Verdict::Worse, &slow)?);
+    let (whole, halves, less) = ([part(3, 3)], [part(1, 1), part(2, 2)], [part(5, 9)]);
+    let (in_whole, in_less) = (
+        [(9, 3, 1), (7, 7, 6), (0, 4, 1)],
+        [(7, 7, 3), (5, 9, 2), (0, 4, 1)],
+    );
+    assert!(rt; keep_verdict(alloc, &whole, &halves, Verdict::Equal, &in_whole)?);
+    assert!(rt; keep_verdict(alloc, &halves, &less, Verdict::Incomparable, &in_less)?);
     Ok(())
 }
