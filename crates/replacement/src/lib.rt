@@ -36,10 +36,11 @@ pub fn compare_full<I: Iterator<Item = FeeRate>, J: Iterator<Item = FeeRate>>(
     verdict(corners(top), corners(main))
 }
 
-/// The verdict of the whole diagrams of two levels, told by their changes: each is given by the parts that
-/// stand in it alone, in falling rate, and whatever parts of fee at least 0 stand in both, it is the verdict
-/// of the levels that have them. The last part given of each level that has one has a fee of at least 0: see
-/// `ends_non_negative`. Below 0 a common part can decide, so `compare_full` is asked then. Takes no memory.
+/// The verdict of two levels, told by their changes: each level is given by the parts that stand in it and not
+/// in the other, in falling rate. Whatever parts of fee at least 0 stand in both besides, it is the verdict of
+/// the whole diagrams, as `compare_full` gives it. The last part given of each level, where there is one, has a
+/// fee of at least 0: see `ends_non_negative`. Where a part in both has a fee below 0 the verdict may be another,
+/// and `compare_full` is to be asked. Takes each part once, and no memory.
 pub fn compare_changed<I: Iterator<Item = FeeRate>, J: Iterator<Item = FeeRate>>(
     main_only: I,
     top_only: J,

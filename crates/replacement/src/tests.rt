@@ -179,5 +179,14 @@ fn common_parts_at_every_place_keep_the_verdict(rt: HostRuntime) -> Result<(), F
     );
     assert!(rt; keep_verdict(alloc, &whole, &halves, Verdict::Equal, &in_whole)?);
     assert!(rt; keep_verdict(alloc, &halves, &less, Verdict::Incomparable, &in_less)?);
+    assert!(rt;
+        keep_verdict(
+            alloc,
+            &[],
+            &[part(0, 1)],
+            Verdict::Equal,
+            &[(3, 1, 1), (0, 5, 2)]
+        )?
+    );
     Ok(())
 }
