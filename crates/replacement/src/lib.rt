@@ -1,15 +1,19 @@
 //! How a staged replacement changes a level's fee-rate diagram.
 #![tactic(auto)]
 
-ghost use Rattle.std.specs.Prelude.{List};
+ghost use Rattle.std.specs.Prelude.{◌↔◌, List, IsTrue, map};
 ghost use Rattle.std.specs.Iterator.{IsFinite};
 ghost use Rattle.fee_rate.specs.declared.rates.Sum.{Sum};
-ghost use Rattle.graphs.specs.Diagrams.{corners_of, Compares, JoinsEqualRates};
-ghost use Rattle.diagram.specs.Parts.{YieldsParts};
+ghost use Rattle.graph_model.specs.Diagrams.{corners_of, Compares, JoinsEqualRates};
+ghost use Rattle.diagram.specs.Parts.{rate_of, YieldsParts};
+ghost use Rattle.replacement.specs.Changes.{AreNonNegative, EndsNonNegative, IsMerged, YieldsChanges};
+
+mod laws;
 
 use diagram::{corners, verdict};
 use fee_rate::FeeRate;
-use graphs::{Verdict, equal_rates_join_once};
+use graph_model::{Verdict, equal_rates_join_once};
+pub use laws::{changes_are_level_parts, common_parts_keep_verdicts, tested_parts_merge};
 
 /// The verdict of the whole diagrams of two levels, each given by its parts in falling rate: `Better` where
 /// staging's diagram is at or above main's at every size and not everywhere equal. Takes no memory.
@@ -30,6 +34,42 @@ pub fn compare_full<I: Iterator<Item = FeeRate>, J: Iterator<Item = FeeRate>>(
     // A law for the proof: each list of parts has its segments.
     equal_rates_join_once();
     verdict(corners(top), corners(main))
+}
+
+/// The verdict of two levels, told by their changes: each level is given by the parts that stand in it and not
+/// in the other, in falling rate. Whatever parts of fee at least 0 stand in both besides, it is the verdict of
+/// the whole diagrams, as `compare_full` gives it. The last part given of each level, where there is one, has a
+/// fee of at least 0: see `ends_non_negative`. Where a part in both has a fee below 0 the verdict may be another,
+/// and `compare_full` is to be asked. Takes each part once, and no memory.
+pub fn compare_changed<I: Iterator<Item = FeeRate>, J: Iterator<Item = FeeRate>>(
+    main_only: I,
+    top_only: J,
+) -> Verdict
+    requires main_can { I.can_next main_only }
+    requires main_ends { IsFinite (I.remaining main_only) }
+    requires main_changes { (parts : List Sum) × YieldsChanges I.next_gives main_only parts }
+    requires top_can { J.can_next top_only }
+    requires top_ends { IsFinite (J.remaining top_only) }
+    requires top_changes { (parts : List Sum) × YieldsChanges J.next_gives top_only parts }
+    ensures { (mains tops common main top before after : List Sum) → YieldsChanges I.next_gives main_only mains
+        → YieldsChanges J.next_gives top_only tops → AreNonNegative common → IsMerged mains common main
+        → IsMerged tops common top → JoinsEqualRates main before → JoinsEqualRates top after
+        → Compares (corners_of after) (corners_of before) result }
+{
+    // Laws for the proof: the changes have their segments, and what is in both levels keeps their verdict.
+    equal_rates_join_once();
+    common_parts_keep_verdicts();
+    compare_full(main_only, top_only)
+}
+
+/// Whether the last part, where there is one, has a fee of at least 0, as `compare_changed` asks.
+pub fn ends_non_negative(parts: &[FeeRate]) -> bool
+    ensures { IsTrue result ↔ EndsNonNegative (map rate_of parts.now) }
+{
+    match parts.split_last() {
+        Some((last, _)) => last.fee >= 0,
+        None => true,
+    }
 }
 
 #[cfg(test)]

@@ -1,21 +1,17 @@
-use Rattle.std.proofs.Common.{List, [], ◌∷◌, Option, map, ap}
-use Rattle.std.specs.Iterator.{AlwaysYields}
+use Rattle.std.proofs.Common.{map}
 use Rattle.std.proofs.iter.Yields.{copies, fronts}
 use Rattle.std.proofs.lemmas.Iterator.{YieldsList-from_slice}
 use Rattle.std.proofs.lemmas.Iterator.Consumers.{YieldsList-at, YieldsList-from_copied}
 use Rattle.diagram.specs.Parts.{rate_of}
+use Rattle.replacement.proofs.Views.{always_viewed}
 use Rattle.replacement.proofs.tests.compared.Goals as goal
-
-viewed : {S A B : Type 0} (steps : S → Option A → S → Type 0) (v : A → B) (s : S) (items : List A) → AlwaysYields steps (λ x. x) s items → AlwaysYields steps v s (map v items)
-viewed steps v s [] yields = yields
-viewed steps v s (y ∷ ys) yields = (yields.0, λ x t step. let h = yields.1 x t step in (ap v h.0, viewed steps v t ys h.1))
 
 pub compare_full-requires-clause-main_level : goal.compare_full-requires-clause-main_level
 compare_full-requires-clause-main_level c =
     let road = YieldsList-from_copied (YieldsList-at c.copied.ensures.source (YieldsList-from_slice c.args.main.now c.iter.ensures.rest)) in
-    (map rate_of c.args.main.now, record { yields = viewed (copies fronts) rate_of c.copied.result c.args.main.now road.runs; level = c.requires.main })
+    (map rate_of c.args.main.now, record { yields = always_viewed (copies fronts) rate_of c.copied.result c.args.main.now road.runs; level = c.requires.main })
 
 pub compare_full-requires-clause-top_level : goal.compare_full-requires-clause-top_level
 compare_full-requires-clause-top_level c =
     let road = YieldsList-from_copied (YieldsList-at c.copied-2.ensures.source (YieldsList-from_slice c.args.top.now c.iter-2.ensures.rest)) in
-    (map rate_of c.args.top.now, record { yields = viewed (copies fronts) rate_of c.copied-2.result c.args.top.now road.runs; level = c.requires.top })
+    (map rate_of c.args.top.now, record { yields = always_viewed (copies fronts) rate_of c.copied-2.result c.args.top.now road.runs; level = c.requires.top })

@@ -1,0 +1,6 @@
+pub mod Views
+pub mod PartLists
+pub mod GainLemmas
+pub mod TangentLemmas
+pub mod MergeLemmas
+pub mod LevelLemmas
