@@ -8,8 +8,8 @@ use Rattle.arithmetic.proofs.Products.{mul-add_left, mul-add_right}
 use Rattle.arithmetic.proofs.Rates.{cross_total}
 use Rattle.fee_rate.specs.declared.rates.Sum.{Sum}
 use Rattle.fee_rate.specs.Rates.{AtMost, Same}
-use Rattle.graph_model.specs.Rates.{sum_of, Falls}
-use Rattle.graph_model.specs.Diagrams.{JoinsEqualRates}
+use Rattle.graphs.specs.Rates.{sum_of, Falls}
+use Rattle.graphs.specs.Diagrams.{JoinsEqualRates}
 use Rattle.replacement.specs.Changes.{HaveSizes}
 use Rattle.replacement.proofs.PartLists.{Contains-head, Contains-later, size_of-cons, at_most_chains, sizes-rest}
 

@@ -9,7 +9,7 @@ use Rattle.std.proofs.lemmas.List.Sums.{sum_by-cons, sum_by-append}
 use Rattle.std.proofs.lemmas.List.Sorted.{Contains-permutation, IsPermutation-refl, IsPermutation-cons, IsPermutation-middle, IsPermutation-trans, sum_by-IsPermutation}
 use Rattle.fee_rate.specs.declared.rates.Sum.{Sum}
 use Rattle.fee_rate.specs.Limits.{IsSum, greatest_fee, greatest_count}
-use Rattle.graph_model.specs.Rates.{sum_of, Falls}
+use Rattle.graphs.specs.Rates.{sum_of, Falls}
 use Rattle.diagram.specs.Parts.{AreLevelParts}
 use Rattle.replacement.specs.Changes.{EndsNonNegative, AreNonNegative, IsEither, IsMerged, ChangesAreLevelParts, TestedPartsMerge, HaveSizes}
 use Rattle.replacement.proofs.PartLists.{last_decides, empty_ends, Contains-head, Contains-later, at_most_chains, falls-rest, non_negative-rest, all_non_negative}

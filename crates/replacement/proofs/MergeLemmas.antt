@@ -6,10 +6,10 @@ use Rattle.std.proofs.lemmas.List.Elements.{Contains-append_left, Contains-appen
 use Rattle.std.proofs.lemmas.List.Sorted.{Contains-permutation, IsPermutation-sym, sum_by-IsPermutation}
 use Rattle.fee_rate.specs.declared.rates.Sum.{Sum}
 use Rattle.fee_rate.specs.Rates.{AtMost, Below}
-use Rattle.graph_model.specs.declared.names.Verdict.{Verdict}
-use Rattle.graph_model.specs.declared.names.Verdict.TheVariants.{Better, Worse, Equal, Incomparable}
-use Rattle.graph_model.specs.Rates.{sum_of, Falls}
-use Rattle.graph_model.specs.Diagrams.{corners_of, Compares, FallsStrictly, IsAtOrAbove, JoinsEqualRates}
+use Rattle.graphs.specs.declared.names.Verdict.{Verdict}
+use Rattle.graphs.specs.declared.names.Verdict.TheVariants.{Better, Worse, Equal, Incomparable}
+use Rattle.graphs.specs.Rates.{sum_of, Falls}
+use Rattle.graphs.specs.Diagrams.{corners_of, Compares, FallsStrictly, IsAtOrAbove, JoinsEqualRates}
 use Rattle.replacement.specs.Changes.{AreNonNegative, IsMerged, CommonPartsKeepVerdicts}
 use Rattle.replacement.proofs.PartLists.{Contains-head, Contains-later, Contains-cases, none_in_empty, size_of-cons, non_negative-rest}
 use Rattle.replacement.proofs.GainLemmas.{gain, gains, gains-append, gains-segments}

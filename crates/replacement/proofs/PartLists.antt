@@ -7,7 +7,7 @@ use Rattle.arithmetic.proofs.Products.{scale_keeps, scale_reflects}
 use Rattle.arithmetic.proofs.Rates.{cross_trans}
 use Rattle.fee_rate.specs.declared.rates.Sum.{Sum}
 use Rattle.fee_rate.specs.Rates.{AtMost}
-use Rattle.graph_model.specs.Rates.{sum_of, Falls}
+use Rattle.graphs.specs.Rates.{sum_of, Falls}
 use Rattle.fee_rate.specs.declared.rates.FeeRate.{FeeRate}
 use Rattle.std.proofs.lemmas.List.{map-append}
 use Rattle.diagram.specs.Parts.{rate_of}

@@ -11,8 +11,8 @@ use Rattle.arithmetic.proofs.Rates.{cross_total}
 use Rattle.fee_rate.specs.declared.rates.Sum.{Sum}
 use Rattle.fee_rate.specs.Laws.{joined}
 use Rattle.fee_rate.specs.Rates.{AtMost}
-use Rattle.graph_model.specs.Rates.{Falls}
-use Rattle.graph_model.specs.Diagrams.{corners_of, ends_from, height_at, height_between, IsAtOrAbove}
+use Rattle.graphs.specs.Rates.{Falls}
+use Rattle.graphs.specs.Diagrams.{corners_of, ends_from, height_at, height_between, IsAtOrAbove}
 use Rattle.replacement.specs.Changes.{AreNonNegative, HaveSizes}
 use Rattle.replacement.proofs.PartLists.{Contains-head, same_sum, at_most_chains, at_most_more, at_most_less, falls-rest, non_negative-rest, sizes-rest}
 use Rattle.replacement.proofs.GainLemmas.{beyond, gain, gains, gain_most, gain_is, gains-cons, falling_none}

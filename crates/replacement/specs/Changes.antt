@@ -3,9 +3,9 @@ use Rattle.std.specs.Prelude.{◌≡◌, ◌↔◌, ◌≤◌, pos, ◌≤ℤ◌
 use Rattle.std.specs.List.Sorted.{IsPermutation}
 use Rattle.fee_rate.specs.declared.rates.FeeRate.{FeeRate}
 use Rattle.fee_rate.specs.declared.rates.Sum.{Sum}
-use Rattle.graph_model.specs.declared.names.Verdict.{Verdict}
-use Rattle.graph_model.specs.Rates.{Falls}
-use Rattle.graph_model.specs.Diagrams.{corners_of, Compares, JoinsEqualRates}
+use Rattle.graphs.specs.declared.names.Verdict.{Verdict}
+use Rattle.graphs.specs.Rates.{Falls}
+use Rattle.graphs.specs.Diagrams.{corners_of, Compares, JoinsEqualRates}
 use Rattle.diagram.specs.Parts.{AreLevelParts, YieldsParts}
 
 -- the last part, where there is one, has a fee of at least 0

@@ -4,7 +4,7 @@
 ghost use Rattle.std.specs.Prelude.{◌↔◌, List, IsTrue, map};
 ghost use Rattle.std.specs.Iterator.{IsFinite};
 ghost use Rattle.fee_rate.specs.declared.rates.Sum.{Sum};
-ghost use Rattle.graph_model.specs.Diagrams.{corners_of, Compares, JoinsEqualRates};
+ghost use Rattle.graphs.specs.Diagrams.{corners_of, Compares, JoinsEqualRates};
 ghost use Rattle.diagram.specs.Parts.{rate_of, YieldsParts};
 ghost use Rattle.replacement.specs.Changes.{AreNonNegative, EndsNonNegative, IsMerged, YieldsChanges};
 
@@ -12,7 +12,7 @@ mod laws;
 
 use diagram::{corners, verdict};
 use fee_rate::FeeRate;
-use graph_model::{Verdict, equal_rates_join_once};
+use graphs::{Verdict, equal_rates_join_once};
 pub use laws::{changes_are_level_parts, common_parts_keep_verdicts, tested_parts_merge};
 
 /// The verdict of the whole diagrams of two levels, each given by its parts in falling rate: `Better` where

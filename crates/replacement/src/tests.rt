@@ -5,7 +5,7 @@ ghost use Rattle.replacement.specs.Changes.{EndsNonNegative};
 use crate::{compare_changed, compare_full, ends_non_negative, tested_parts_merge};
 use diagram::are_level_parts;
 use fee_rate::FeeRate;
-use graph_model::Verdict;
+use graphs::Verdict;
 use std::alloc::{AllocError, Global};
 use std::test::Fail;
 
