@@ -1,3 +1,4 @@
 pub mod Faults
 pub mod Transfers
 pub mod Memory
+pub mod Adapters

@@ -1,7 +1,8 @@
 -- Sources and sinks over memory, whose failures are chosen beforehand.
-use Rattle.std.specs.Prelude.{ℕ, ◌+◌, ◌-◌, ◌^◌, ◌≤◌, List, length, min, Contains, ◌⊎◌, IsSomeAnd}
+use Rattle.std.specs.Prelude.{ℕ, ◌+◌, ◌-◌, ◌^◌, ◌≤◌, List, ◌++◌, length, take, min, Contains, ◌⊎◌, IsSomeAnd}
 use Rattle.std.specs.declared.option.Option.{Option}
 use Rattle.std.specs.declared.option.Option.TheVariants.{None, Some}
+use Rattle.outside.specs.Faults.{one_more}
 
 -- A source over bytes: where it stands, the most that one call gives, the numbers of the calls that fail
 -- (counted from 1), the place from which every call fails, the calls made and the faults so far.
@@ -34,6 +35,14 @@ FailsNext feed = Fails feed (next_number feed.made)
 abbrev pub given : Feed → ℕ → ℕ
 given feed room = min room (min feed.piece (end_at feed.stop feed.bytes - feed.at))
 
+-- the source after a call that gave so many bytes: all else but the number of calls is as it was
+abbrev pub after_giving : Feed → ℕ → Feed
+after_giving feed count = record feed { at = feed.at + count; made = next_number feed.made }
+
+-- the source after a call that failed
+abbrev pub after_failing : Feed → Feed
+after_failing feed = record feed { made = next_number feed.made; faults = one_more feed.faults }
+
 -- a sink over memory: what it was given, the most that one call takes, the calls that fail,
 -- the number of bytes from which every call fails, the calls made and the faults so far
 pub record Store : Type 0 where
@@ -49,3 +58,11 @@ RefusesNext store = Contains store.calls (next_number store.made) ⊎ (store.sto
 
 abbrev pub accepted : Store → ℕ → ℕ
 accepted store offered = min offered (min store.piece (store.stop - length store.bytes))
+
+-- the sink after a call that took so many bytes of a piece: all else but the number of calls is as it was
+abbrev pub after_taking : Store → List ℕ → ℕ → Store
+after_taking store piece count = record store { bytes = store.bytes ++ take count piece; made = next_number store.made }
+
+-- the sink after a call that failed
+abbrev pub after_refusing : Store → Store
+after_refusing store = record store { made = next_number store.made; faults = one_more store.faults }

@@ -3,7 +3,7 @@ use Rattle.std.specs.Prelude.{◌≡◌, ℕ, ◌<◌, ◌≤◌, List, ◌++◌
 use Rattle.std.specs.Io.KnownBytes.{Appends}
 use Rattle.std.specs.declared.option.Option.{Option}
 use Rattle.std.specs.declared.result.Result.{Result}
-use Rattle.outside.specs.Faults.{HasCause}
+use Rattle.outside.specs.Faults.{CountsFaults}
 
 -- front is how text begins, or all of it
 abbrev pub IsFront : List ℕ → List ℕ → Type 0
@@ -17,9 +17,9 @@ TakesSome result piece = IfOk result (λ count. (count ≤ length piece) × (0 <
 abbrev pub AppendsFront : Option (List ℕ) → Option (List ℕ) → List ℕ → Type 0
 AppendsFront old new text = (front : List ℕ) × IsFront front text × Appends old new front
 
--- What every writer does: at Ok the whole text was written, at Err a front of it,
--- and an Err comes only where the sink's faults rose.
+-- What every writer does: at Ok the whole text was written and the sink's faults are as they were, at Err a front of it,
+-- and they rose by one: the writer stops at the first write that fails.
 pub record Writes {T E : Type 0} (old new : Option (List ℕ)) (before now : ℕ) (result : Result T E) (text : List ℕ) : Type 0 where
   pub ok : OnOk result (Appends old new text)
   pub err : OnErr result (AppendsFront old new text)
-  pub cause : HasCause before now result
+  pub cause : CountsFaults before now result

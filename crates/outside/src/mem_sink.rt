@@ -1,6 +1,6 @@
-ghost use Rattle.std.specs.Prelude.{◌≡◌, ◌<◌, ◌≤◌, ◌-◌, ◌↔◌, [], Some, IfOk, IsErr, length};
+ghost use Rattle.std.specs.Prelude.{◌≡◌, ◌<◌, ◌≤◌, ◌-◌, ◌↔◌, [], Some, IfOk, OnErr, IsErr, length};
 ghost use Rattle.std.specs.Io.KnownBytes.{WriteAppends};
-ghost use Rattle.outside.specs.Faults.{HasCause};
+ghost use Rattle.outside.specs.Faults.{CountsFaults};
 ghost use Rattle.outside.specs.Transfers.{TakesSome};
 
 use crate::{Failed, NoMemory, Sink};
@@ -60,7 +60,7 @@ impl MemSink {
 
 impl Sink for MemSink {
     ghost use Rattle.std.specs.Prelude.{Some};
-    ghost use Rattle.outside.specs.Memory.{RefusesNext, accepted};
+    ghost use Rattle.outside.specs.Memory.{RefusesNext, accepted, after_taking, after_refusing};
 
     ghost written = { λ sink. Some sink.bytes };
 
@@ -69,9 +69,11 @@ impl Sink for MemSink {
     fn write(&mut self, piece: &[u8]) -> Result<usize, Failed>
         ensures bound { TakesSome result piece.now }
         ensures bytes { WriteAppends (Some self.old.bytes) (Some self.new.bytes) result piece.now }
-        ensures cause { HasCause self.old.faults self.new.faults result }
+        ensures cause { CountsFaults self.old.faults self.new.faults result }
         ensures fails { IsErr result ↔ RefusesNext self.old }
         ensures takes { IfOk result (λ count. count ≡ accepted self.old (length piece.now)) }
+        ensures ok { IfOk result (λ count. self.new ≡ after_taking self.old piece.now count) }
+        ensures failed { OnErr result (self.new ≡ after_refusing self.old) }
     {
         self.made = self.made.saturating_add(1);
         let held = self.bytes.len();

@@ -1,7 +1,7 @@
-ghost use Rattle.std.specs.Prelude.{◌≡◌, ◌<◌, ◌≤◌, ◌-◌, ◌↔◌, Some, IfOk, IsErr, IsTrue, drop, length};
+ghost use Rattle.std.specs.Prelude.{◌≡◌, ◌<◌, ◌≤◌, ◌-◌, ◌↔◌, Some, IfOk, OnErr, IsErr, IsTrue, drop, length};
 ghost use Rattle.std.specs.Io.{ReadsAtMost};
 ghost use Rattle.std.specs.Io.KnownBytes.{ReadConsumes};
-ghost use Rattle.outside.specs.Faults.{HasCause};
+ghost use Rattle.outside.specs.Faults.{CountsFaults};
 
 use crate::source::copy_front;
 use crate::{Failed, NoMemory, Source};
@@ -84,7 +84,7 @@ impl MemSource {
 
 impl Source for MemSource {
     ghost use Rattle.std.specs.Prelude.{Some, drop};
-    ghost use Rattle.outside.specs.Memory.{FailsNext, given};
+    ghost use Rattle.outside.specs.Memory.{FailsNext, given, after_giving, after_failing};
 
     ghost left = { λ source. Some (drop source.at source.bytes) };
 
@@ -94,9 +94,11 @@ impl Source for MemSource {
         ensures bound { ReadsAtMost result buf.new }
         ensures bytes { ReadConsumes (Some (drop self.old.at self.old.bytes))
             (Some (drop self.new.at self.new.bytes)) result buf.new }
-        ensures cause { HasCause self.old.faults self.new.faults result }
+        ensures cause { CountsFaults self.old.faults self.new.faults result }
         ensures fails { IsErr result ↔ FailsNext self.old }
         ensures gives { IfOk result (λ count. count ≡ given self.old (length buf.old)) }
+        ensures ok { IfOk result (λ count. self.new ≡ after_giving self.old count) }
+        ensures failed { OnErr result (self.new ≡ after_failing self.old) }
     {
         self.made = self.made.saturating_add(1);
         if self.fails() {

@@ -1,7 +1,7 @@
 ghost use Rattle.std.specs.Prelude.{◌≡◌, ℕ, None, Some, IsOk};
 ghost use Rattle.std.specs.Io.{ReadsAtMost};
 ghost use Rattle.std.specs.Io.KnownBytes.{ReadConsumes, WriteAppends};
-ghost use Rattle.outside.specs.Faults.{HasCause};
+ghost use Rattle.outside.specs.Faults.{CountsFaults};
 ghost use Rattle.outside.specs.Transfers.{TakesSome};
 
 use crate::{Failed, Sink, Source};
@@ -38,7 +38,7 @@ impl Source for SureSource<'_> {
     fn read(&mut self, buf: &mut [u8]) -> Result<usize, Failed>
         ensures bound { ReadsAtMost result buf.new }
         ensures bytes { ReadConsumes (Some self.old) (Some self.new) result buf.new }
-        ensures cause { HasCause 0 0 result }
+        ensures cause { CountsFaults 0 0 result }
         ensures sure { IsOk result }
     {
         let count = buf.len().min(self.rest.len());
@@ -68,7 +68,7 @@ impl Sink for SureSink {
     fn write(&mut self, piece: &[u8]) -> Result<usize, Failed>
         ensures bound { TakesSome result piece.now }
         ensures bytes { WriteAppends None None result piece.now }
-        ensures cause { HasCause 0 0 result }
+        ensures cause { CountsFaults 0 0 result }
         ensures sure { IsOk result }
     {
         Ok(piece.len())

@@ -53,6 +53,38 @@ fn write_sink_passes_on_and_tells_failures(rt: HostRuntime) -> Result<(), Fail> 
     Ok(())
 }
 
+/// A writer that takes two bytes in a call and counts its flushes, of which each from the third on
+/// fails.
+#[derive(Drop)]
+struct Flushed {
+    flushes: u64,
+}
+
+impl Write for Flushed {
+    fn write(&mut self, buf: &[u8]) -> io::Result<usize> {
+        Ok(buf.len().min(2))
+    }
+
+    fn flush(&mut self) -> io::Result<()> {
+        self.flushes = self.flushes.saturating_add(1);
+        if self.flushes > 2 {
+            return Err(io::Error::from(io::ErrorKind::Other));
+        }
+        Ok(())
+    }
+}
+
+#[test]
+fn write_sink_flushes_after_each_write(rt: HostRuntime) -> Result<(), Fail> {
+    let mut writer = Flushed { flushes: 0 };
+    let mut sink = WriteSink::new(&mut writer);
+    for want in [Ok(2), Ok(2), Err(Failed)] {
+        assert_eq!(rt; sink.write(b"abc"), want);
+    }
+    assert_eq!(rt; writer.flushes, 3);
+    Ok(())
+}
+
 #[test]
 fn memory_fails_where_it_was_told_to(rt: HostRuntime) -> Result<(), Fail> {
     let alloc = rt.alloc();

@@ -3,6 +3,7 @@ use Rattle.std.specs.Prelude.{◌≡◌, ℕ, ◌<◌, ◌≤◌, List, ◌++◌
 use Rattle.std.specs.Io.KnownBytes.{Consumes, IsAtEnd}
 use Rattle.std.specs.declared.option.Option.{Option}
 use Rattle.graph_model.specs.Lines.{max_input}
+use Rattle.outside.specs.Faults.{Rose}
 use Rattle.replay.specs.declared.input.End.{End}
 use Rattle.replay.specs.declared.input.End.TheVariants.{Told, Fault, Limit}
 
@@ -12,3 +13,9 @@ abbrev pub ReadsTo : End → Option (List ℕ) → Option (List ℕ) → List �
 ReadsTo Told old new input = Consumes old new input × IsAtEnd new × (length input ≤ max_input)
 ReadsTo Fault old new input = Consumes old new input × (length input ≤ max_input)
 ReadsTo Limit old new input = (more : List ℕ) × (0 < length more) × Consumes old new (input ++ more) × (length input ≡ max_input)
+
+-- The source's faults, before and after: one read failed where a fault ended the reading, and none elsewhere.
+abbrev pub ReadFaults : End → ℕ → ℕ → Type 0
+ReadFaults Told before now = now ≡ before
+ReadFaults Fault before now = Rose before now
+ReadFaults Limit before now = now ≡ before

@@ -1,6 +1,7 @@
 -- How the program ends.
-use Rattle.std.specs.Prelude.{◌≡◌, ℕ, List, [], ◌∷◌, codes, Bool, true, false}
+use Rattle.std.specs.Prelude.{◌≡◌, ℕ, List, [], ◌∷◌, codes, Bool, true, false, ◌⊎◌}
 use Rattle.std.specs.declared.option.Option.{Option}
+use Rattle.outside.specs.Faults.{Rose}
 use Rattle.graph_model.specs.Replies.{line_text}
 use Rattle.replay.specs.declared.input.End.{End}
 use Rattle.replay.specs.declared.input.End.TheVariants.{Told, Fault, Limit}
@@ -48,6 +49,22 @@ abbrev pub end_status : End → Status
 end_status Told = statuses.Done
 end_status Fault = statuses.ReadFault
 end_status Limit = statuses.InputLimit
+
+-- neither count of faults rose: that of the reads (before and after) and that of the writes
+abbrev pub NoFaults : ℕ → ℕ → ℕ → ℕ → Type 0
+NoFaults reads_old reads_new writes_old writes_new = (reads_new ≡ reads_old) × (writes_new ≡ writes_old)
+
+-- The faults of source and sink by status. At most one read and one write fail, and a fault always shows: a failed
+-- write by WriteFault, a failed read by ReadFault, or by WriteFault where a reply to the lines before it couldn't be written.
+abbrev pub StatusFaults : Status → ℕ → ℕ → ℕ → ℕ → Type 0
+StatusFaults statuses.Done reads_old reads_new writes_old writes_new = NoFaults reads_old reads_new writes_old writes_new
+StatusFaults statuses.No reads_old reads_new writes_old writes_new = NoFaults reads_old reads_new writes_old writes_new
+StatusFaults statuses.Usage reads_old reads_new writes_old writes_new = NoFaults reads_old reads_new writes_old writes_new
+StatusFaults statuses.ReadFault reads_old reads_new writes_old writes_new = Rose reads_old reads_new × (writes_new ≡ writes_old)
+StatusFaults statuses.WriteFault reads_old reads_new writes_old writes_new =
+    ((reads_new ≡ reads_old) ⊎ Rose reads_old reads_new) × Rose writes_old writes_new
+StatusFaults statuses.NoMemory reads_old reads_new writes_old writes_new = NoFaults reads_old reads_new writes_old writes_new
+StatusFaults statuses.InputLimit reads_old reads_new writes_old writes_new = NoFaults reads_old reads_new writes_old writes_new
 
 -- the exit status of the program
 abbrev pub status_code : Status → ℕ

@@ -1,15 +1,15 @@
 //! The command `check`: whether a text is a certificate.
-ghost use Rattle.std.specs.Prelude.{◌≡◌, ◌≢◌, ◌^◌, ◌<◌, ◌≤◌, ◌⊎◌, IfOk, length};
+ghost use Rattle.std.specs.Prelude.{◌≡◌, ◌≢◌, ℕ, ◌^◌, ◌<◌, ◌≤◌, ◌⊎◌, IfOk, length};
 ghost use Rattle.std.specs.Io.KnownBytes.{Appends};
 ghost use Rattle.graph_model.specs.Replies.{line_text};
 ghost use Rattle.graph_model.specs.Lines.{max_input};
 ghost use Rattle.graph_model.specs.Texts.{Verification, Found, HasTextTypes, verification_text};
 ghost use Rattle.wire.specs.Drafts.{text_of, amount_of};
 ghost use Rattle.graphs.specs.Certificates.{Certified};
-ghost use Rattle.outside.specs.Faults.{Rose};
 ghost use Rattle.outside.specs.Transfers.{AppendsFront};
 ghost use Rattle.replay.specs.Verdicts.{verification_of, IsSaidOf};
 ghost use Rattle.replay.specs.Checks.{IsVerified, IsChecked, IsCheckedInPart, IsRead};
+ghost use Rattle.replay.specs.Statuses.{StatusFaults};
 
 use crate::input::{End, read_input};
 use crate::top::Status;
@@ -42,10 +42,11 @@ pub(crate) fn check_text<S: Source, K: Sink>(alloc: Global, source: &mut S, sink
     ensures input_limit { result ≡ Status.InputLimit → IsRead End.Limit (S.left source.old) (S.left source.new)
         × (sink.new ≡ sink.old) }
     ensures write_fault { result ≡ Status.WriteFault
-        → IsCheckedInPart (S.left source.old) (S.left source.new) (K.written sink.old) (K.written sink.new) }
+        → IsCheckedInPart (S.left source.old) (S.left source.new) (K.written sink.old) (K.written sink.new)
+        × (S.faults source.new ≡ S.faults source.old) }
     ensures no_memory { result ≡ Status.NoMemory → sink.new ≡ sink.old }
-    ensures read_fault_cause { result ≡ Status.ReadFault → Rose (S.faults source.old) (S.faults source.new) }
-    ensures write_fault_cause { result ≡ Status.WriteFault → Rose (K.faults sink.old) (K.faults sink.new) }
+    ensures faults { StatusFaults result (S.faults source.old) (S.faults source.new) (K.faults sink.old)
+        (K.faults sink.new) }
     ensures never_usage { result ≢ Status.Usage }
 {
     let Ok(input) = read_input(alloc, source) else {
@@ -99,7 +100,7 @@ fn tell<K: Sink>(said: Said, sink: &mut K) -> Status
         × Appends (K.written sink.old) (K.written sink.new) (verification_text (verification_of said)) }
     ensures write_fault { result ≡ Status.WriteFault
         → AppendsFront (K.written sink.old) (K.written sink.new) (verification_text (verification_of said)) }
-    ensures cause { result ≡ Status.WriteFault → Rose (K.faults sink.old) (K.faults sink.new) }
+    ensures faults { (reads : ℕ) → StatusFaults result reads reads (K.faults sink.old) (K.faults sink.new) }
     ensures told { (result ≡ Status.Done) ⊎ ((result ≡ Status.No) ⊎ (result ≡ Status.WriteFault)) }
 {
     match write_word(sink, words(said)) {

@@ -1,6 +1,5 @@
-ghost use Rattle.std.specs.Prelude.{◌≡◌, ◌≤◌, IfOk};
-ghost use Rattle.outside.specs.Faults.{Rose};
-ghost use Rattle.replay.specs.Inputs.{ReadsTo};
+ghost use Rattle.std.specs.Prelude.{◌≡◌, IfOk, OnErr};
+ghost use Rattle.replay.specs.Inputs.{ReadsTo, ReadFaults};
 
 use outside::{NoMemory, Source};
 use std::alloc::Global;
@@ -26,11 +25,12 @@ pub(crate) struct Input {
     pub(crate) end: End,
 }
 
-/// Reads a source to its end, to a fault, or past the limit.
+/// Reads a source to its end, to the first read that fails, or past the limit. Want of memory comes only where no
+/// read failed.
 pub(crate) fn read_input<S: Source>(alloc: Global, source: &mut S) -> Result<Input, NoMemory>
     ensures reads { IfOk result (λ input. ReadsTo input.end (S.left source.old) (S.left source.new) input.bytes.items) }
-    ensures cause { IfOk result (λ input. input.end ≡ End.Fault → Rose (S.faults source.old) (S.faults source.new)) }
-    ensures later { S.faults source.old ≤ S.faults source.new }
+    ensures faults { IfOk result (λ input. ReadFaults input.end (S.faults source.old) (S.faults source.new)) }
+    ensures memory { OnErr result (S.faults source.new ≡ S.faults source.old) }
 {
     let mut bytes = Vec::new(alloc);
     let mut chunk = [0; 65_536];

@@ -3,7 +3,7 @@ ghost use Rattle.graph_model.specs.States.{start};
 ghost use Rattle.graph_model.specs.Runs.{Answer, answer_text};
 ghost use Rattle.outside.specs.Transfers.{Writes};
 ghost use Rattle.replay.specs.Sessions.{Answers};
-ghost use Rattle.outside.specs.Faults.{HasCause};
+ghost use Rattle.outside.specs.Faults.{CountsFaults};
 ghost use Rattle.tx_graph.specs.Kept.{StandsFor};
 ghost use Rattle.replay.specs.Outputs.{WritesOutput, WritesFront};
 ghost use Rattle.replay.specs.Progress.{HasAnswered};
@@ -24,7 +24,7 @@ pub(crate) fn answer_complete<'a, const W: usize, K: Sink>(
     ensures ok { IfOk result (λ rest. HasAnswered session.new input.entry.now rest.now (K.written sink.old)
         (K.written sink.new)) }
     ensures err { OnErr result (WritesFront false input.entry.now (K.written sink.old) (K.written sink.new)) }
-    ensures cause { HasCause (K.faults sink.old) (K.faults sink.new) result }
+    ensures cause { CountsFaults (K.faults sink.old) (K.faults sink.new) result }
     ensures additions { session.new.additions < 2 ^ 64 - 1 }
 {
     let mut rest = input;
@@ -38,7 +38,7 @@ pub(crate) fn answer_complete<'a, const W: usize, K: Sink>(
 }
 
 /// Answers all lines of an input; where its end was answered, what follows the last line feed is
-/// a line too. `Failed` comes only where the sink's faults rose.
+/// a line too. The first write that fails ends it with `Failed`.
 pub(crate) fn answer_all<const W: usize, K: Sink>(
     session: &mut Session<W>,
     input: &[u8],
@@ -49,7 +49,7 @@ pub(crate) fn answer_all<const W: usize, K: Sink>(
     requires few { session.old.additions + length input.now < 2 ^ 64 - 2 }
     ensures ok { OnOk result (WritesOutput ended input.now (K.written sink.old) (K.written sink.new)) }
     ensures err { OnErr result (WritesFront ended input.now (K.written sink.old) (K.written sink.new)) }
-    ensures cause { HasCause (K.faults sink.old) (K.faults sink.new) result }
+    ensures cause { CountsFaults (K.faults sink.old) (K.faults sink.new) result }
 {
     let rest = match answer_complete(session, input, sink) {
         Ok(rest) => rest,
@@ -71,6 +71,7 @@ fn answer_last<const W: usize, K: Sink>(
     sink: &mut K,
 ) -> Result<Outcome, Failed>
     requires { session.old.additions < 2 ^ 64 - 1 }
+    ensures cause { CountsFaults (K.faults sink.old) (K.faults sink.new) result }
     ensures none { rest.now ≡ [] → IsOk result × (sink.new ≡ sink.old) }
     ensures some { (rest.now ≡ [] → ⊥) → (answer : Answer) × Answers session.old session.new rest.now answer
         × Writes (K.written sink.old) (K.written sink.new) (K.faults sink.old) (K.faults sink.new) result

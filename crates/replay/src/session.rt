@@ -1,6 +1,7 @@
 ghost use Rattle.std.specs.Prelude.{◌≡◌, ℕ, ◌+◌, ◌-◌, ◌^◌, ◌<◌, ◌≤◌, List, IfOk};
 ghost use Rattle.graph_model.specs.Runs.{answer_text};
 ghost use Rattle.graph_model.specs.Runs as runs;
+ghost use Rattle.outside.specs.Faults.{CountsFaults};
 ghost use Rattle.outside.specs.Transfers.{Writes};
 
 use crate::answer::Outcome;
@@ -54,7 +55,7 @@ impl<const W: usize> Model for Session<W> {
 
 impl<const W: usize> Session<W> {
     ghost use Rattle.tx_graph.specs.Kept.{Kept, StandsFor};
-    ghost use Rattle.graph_model.specs.States.{start};
+    ghost use Rattle.graph_model.specs.States.{State, start};
     ghost use Rattle.replay.specs.Answers.{outcome_of};
     ghost use Rattle.replay.specs.Sessions.{IsLine, Answers, Suits};
 
@@ -71,15 +72,18 @@ impl<const W: usize> Session<W> {
         })
     }
 
-    /// How many additions were accepted.
+    /// How many additions were accepted. The session always stands for some state, so that what the
+    /// other calls say of such states says something.
     pub fn additions(&self) -> u64
-        ensures { result ≡ self.now.additions }
+        ensures additions { result ≡ self.now.additions }
+        ensures stands { (state : State) × StandsFor self.now state }
     {
         self.graph.additions()
     }
 
-    /// Answers one line, and writes its reply to `sink`. `Failed` comes only where the sink's
-    /// faults rose: a front of the reply was written then, and the graph has changed all the same.
+    /// Answers one line, and writes its reply to `sink`. The first write that fails ends it with
+    /// `Failed`: the sink's faults rose by one then, and else they are as they were. At `Failed` a
+    /// front of the reply was written, and the graph has changed all the same.
     pub fn one<K: Sink>(&mut self, piece: Piece<'_>, sink: &mut K) -> Result<Outcome, Failed>
         requires { self.old.additions < 2 ^ 64 - 1 }
         // One line of a run: its answer, the state that follows, and what was written and told of it.
@@ -88,6 +92,7 @@ impl<const W: usize> Session<W> {
             × Writes (K.written sink.old) (K.written sink.new) (K.faults sink.old) (K.faults sink.new) result
             (answer_text answer)
             × IfOk result (λ outcome. outcome ≡ outcome_of answer) × Suits line answer }
+        ensures cause { CountsFaults (K.faults sink.old) (K.faults sink.new) result }
         ensures additions { self.new.additions ≤ self.old.additions + 1 }
     {
         let found = answer(&mut self.graph, &mut self.ids, piece);

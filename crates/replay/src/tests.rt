@@ -113,7 +113,7 @@ fn faults_and_words_give_their_status(rt: HostRuntime) -> Result<(), Fail> {
 }
 
 /// Texts of `check` with what is said of them.
-const TEXTS: [(&str, &str); 28] = [
+const TEXTS: [(&str, &str); 29] = [
     (
         "tx 1 100 200\ntx 2 900 200\nedge 1 2\nchunk 1000 400 1 2\nflow 2 1 160000\nend\n",
         "yes\n",
@@ -124,6 +124,10 @@ const TEXTS: [(&str, &str); 28] = [
     ),
     (
         "tx 1 100 200\ntx 2 900 200\nedge 1 2\nedge 1 2\nchunk 1000 400 1 2\nflow 2 1 160000\nend\n",
+        "no graph\n",
+    ),
+    (
+        "tx 1 100 200\ntx 2 900 200\nedge 1 2\nedge 2 1\nchunk 1000 400 1 2\nflow 2 1 160000\nend\n",
         "no graph\n",
     ),
     (

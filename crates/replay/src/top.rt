@@ -1,4 +1,4 @@
-ghost use Rattle.std.specs.Prelude.{◌≡◌, ◌≢◌, ◌+◌, ◌-◌, ◌^◌, ◌≤◌, ◌<◌, ◌⊎◌, IfSome, length, MatchOption, codes, map, string_bytes};
+ghost use Rattle.std.specs.Prelude.{◌≡◌, ◌≢◌, ℕ, ◌+◌, ◌-◌, ◌^◌, ◌≤◌, ◌<◌, ◌⊎◌, IfSome, length, MatchOption, codes, map, string_bytes};
 ghost use Rattle.std.specs.Io.KnownBytes.{Appends};
 ghost use Rattle.graph_model.specs.Lines.{max_input};
 ghost use Rattle.outside.specs.Faults.{Rose};
@@ -7,8 +7,9 @@ ghost use Rattle.graph_model.specs.Texts.{Verification, Found};
 ghost use Rattle.graphs.specs.Certificates.{Certified};
 ghost use Rattle.tx_graph.specs.Kept.{StandsFor};
 ghost use Rattle.graph_model.specs.States.{start};
+ghost use Rattle.replay.specs.Inputs.{ReadFaults};
 ghost use Rattle.replay.specs.Outputs.{WritesOutput, WritesFront};
-ghost use Rattle.replay.specs.Statuses.{AreReplay, AreCheck, AreRefused, usage_text, IsAnswered, IsCutOff, end_status, is_told, status_code};
+ghost use Rattle.replay.specs.Statuses.{AreReplay, AreCheck, AreRefused, usage_text, IsAnswered, IsCutOff, StatusFaults, end_status, is_told, status_code};
 ghost use Rattle.replay.specs.Words.{IsCommand, IsName};
 ghost use Rattle.replay.specs.Checks.{IsChecked, IsCheckedInPart, IsRead};
 
@@ -76,7 +77,8 @@ pub fn run<S: Source, K: Sink>(
     ensures check_input_limit { result ≡ Status.InputLimit → AreCheck (map string_bytes words.now)
         → IsRead End.Limit (S.left source.old) (S.left source.new) × (sink.new ≡ sink.old) }
     ensures check_write_fault { result ≡ Status.WriteFault → AreCheck (map string_bytes words.now)
-        → IsCheckedInPart (S.left source.old) (S.left source.new) (K.written sink.old) (K.written sink.new) }
+        → IsCheckedInPart (S.left source.old) (S.left source.new) (K.written sink.old) (K.written sink.new)
+        × (S.faults source.new ≡ S.faults source.old) }
 
     // Refused words, and want of memory.
     ensures usage { result ≡ Status.Usage → Appends (K.written sink.old) (K.written sink.new) usage_text }
@@ -84,9 +86,9 @@ pub fn run<S: Source, K: Sink>(
         → AppendsFront (K.written sink.old) (K.written sink.new) usage_text }
     ensures no_memory { result ≡ Status.NoMemory → sink.new ≡ sink.old }
 
-    // The cause of each status that isn't Done.
-    ensures read_fault_cause { result ≡ Status.ReadFault → Rose (S.faults source.old) (S.faults source.new) }
-    ensures write_fault_cause { result ≡ Status.WriteFault → Rose (K.faults sink.old) (K.faults sink.new) }
+    // The cause of each status that isn't Done. A fault always shows in the status.
+    ensures faults { StatusFaults result (S.faults source.old) (S.faults source.new) (K.faults sink.old)
+        (K.faults sink.new) }
     ensures usage_cause { result ≡ Status.Usage → AreRefused (map string_bytes words.now) }
     ensures no_cause { result ≡ Status.No → AreCheck (map string_bytes words.now) }
 
@@ -131,8 +133,8 @@ fn replay_lines<S: Source, K: Sink>(alloc: Global, source: &mut S, sink: &mut K)
     ensures write_fault { result ≡ Status.WriteFault
         → IsCutOff (S.left source.old) (S.left source.new) (K.written sink.old) (K.written sink.new) }
     ensures no_memory { result ≡ Status.NoMemory → sink.new ≡ sink.old }
-    ensures read_fault_cause { result ≡ Status.ReadFault → Rose (S.faults source.old) (S.faults source.new) }
-    ensures write_fault_cause { result ≡ Status.WriteFault → Rose (K.faults sink.old) (K.faults sink.new) }
+    ensures faults { StatusFaults result (S.faults source.old) (S.faults source.new) (K.faults sink.old)
+        (K.faults sink.new) }
     ensures never_usage { result ≢ Status.Usage }
     ensures never_no { result ≢ Status.No }
     ensures within_limit { IfSome (S.left source.old) (λ bytes. length bytes ≤ max_input → result ≢ Status.InputLimit) }
@@ -154,7 +156,8 @@ fn answer_input<K: Sink>(session: &mut Session<1>, input: &Input, sink: &mut K) 
         × WritesOutput (is_told input.now.end) input.now.bytes.items (K.written sink.old) (K.written sink.new) }
     ensures cut_off { result ≡ Status.WriteFault
         → WritesFront (is_told input.now.end) input.now.bytes.items (K.written sink.old) (K.written sink.new) }
-    ensures cause { result ≡ Status.WriteFault → Rose (K.faults sink.old) (K.faults sink.new) }
+    ensures faults { (before now : ℕ) → ReadFaults input.now.end before now
+        → StatusFaults result before now (K.faults sink.old) (K.faults sink.new) }
 {
     let told = matches!(input.end, End::Told);
     match answer_all(session, &input.bytes, told, sink) {
@@ -203,7 +206,7 @@ fn refuse_words<K: Sink>(sink: &mut K) -> Status
     ensures usage { result ≡ Status.Usage → Appends (K.written sink.old) (K.written sink.new) usage_text }
     ensures write_fault { result ≡ Status.WriteFault
         → AppendsFront (K.written sink.old) (K.written sink.new) usage_text }
-    ensures cause { result ≡ Status.WriteFault → Rose (K.faults sink.old) (K.faults sink.new) }
+    ensures faults { (reads : ℕ) → StatusFaults result reads reads (K.faults sink.old) (K.faults sink.new) }
 {
     match write_word(sink, "usage: txgraph replay | check | gen SEED COUNT") {
         Ok(()) => Status::Usage,

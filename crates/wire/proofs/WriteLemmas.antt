@@ -1,7 +1,8 @@
 -- Pieces that are written one after the other.
-use Rattle.std.proofs.Common.{◌≡◌, ℕ, ◌≤◌, List, ◌++◌, Option, Ok, Err, Result, refl, sym, arith, append_assoc, ◌∙◌, ap, ◌∷◌, [], codes, append-nil}
+use Rattle.std.proofs.Common.{◌≡◌, ℕ, List, ◌++◌, Option, Ok, Err, Result, refl, sym, append_assoc, ◌∙◌, ap, ◌∷◌, [], codes, append-nil}
 use Rattle.std.specs.Io.KnownBytes.{Appends}
 use Rattle.std.proofs.KnownBytes.{Appends-trans}
+use Rattle.outside.specs.Faults.{one_more}
 use Rattle.outside.specs.Transfers.{Writes}
 use Rattle.outside.proofs.Fronts.{AppendsFront-after, AppendsFront-longer}
 use Rattle.wire.specs.Pieces.{GoesOn, words_text}
@@ -10,17 +11,17 @@ use Rattle.graph_model.specs.Replies.{refusal_words}
 use Rattle.graph_model.specs.declared.names.Refusal.{Refusal}
 use Rattle.graph_model.specs.declared.names.Refusal.TheVariants.{Late, Range, Fee, Size, Taken, ClusterSize, Full, Unknown, Cycle, Count, Staging, Twice, Parent, Empty, NoStaging, Memory}
 
-after_ok : {T E : Type 0} (a b c : Option (List ℕ)) (p q s : ℕ) (done : T) (result : Result T E) (first second : List ℕ) → Appends a b first → p ≤ q → Writes b c q s result second → Writes a c p s result (first ++ second)
-after_ok a b c p q s done (Ok value) first second was le more = record { ok = Appends-trans a b c first second was more.ok; err = tt; cause = record { later = omega (arith, more.cause.later); failed = tt } }
-after_ok a b c p q s done (Err error) first second was le more =
-    record { ok = tt; err = AppendsFront-after a b c first second was more.err; cause = record { later = omega (arith, more.cause.later); failed = omega (arith, more.cause.failed, more.cause.later) } }
+after_ok : {T E : Type 0} (a b c : Option (List ℕ)) (p q s : ℕ) (done : T) (result : Result T E) (first second : List ℕ) → Appends a b first → q ≡ p → Writes b c q s result second → Writes a c p s result (first ++ second)
+after_ok a b c p q s done (Ok value) first second was same more = record { ok = Appends-trans a b c first second was more.ok; err = tt; cause = record { ok = more.cause.ok ∙ same; failed = tt } }
+after_ok a b c p q s done (Err error) first second was same more =
+    record { ok = tt; err = AppendsFront-after a b c first second was more.err; cause = record { ok = tt; failed = more.cause.failed ∙ ap one_more same } }
 
 stopped : {T E : Type 0} (a b c : Option (List ℕ)) (p q s : ℕ) (error : E) (result : Result T E) (first second : List ℕ) → Writes {T = T} a b p q (Err error) first → GoesOn {T = T} (Err error) b c q s result second → Writes a c p s result (first ++ second)
 stopped a b c p q s error result first second was more =
-    rw (more.0, more.1, more.2) (record { ok = tt; err = AppendsFront-longer a b first second was.err; cause = record { later = was.cause.later; failed = was.cause.failed } })
+    rw (more.0, more.1, more.2) (record { ok = tt; err = AppendsFront-longer a b first second was.err; cause = record { ok = tt; failed = was.cause.failed } })
 
 on : {T E : Type 0} (a b c : Option (List ℕ)) (p q s : ℕ) (so_far result : Result T E) (first second : List ℕ) → Writes a b p q so_far first → GoesOn so_far b c q s result second → Writes a c p s result (first ++ second)
-on a b c p q s (Ok done) result first second was more = after_ok a b c p q s done result first second was.ok was.cause.later more
+on a b c p q s (Ok done) result first second was more = after_ok a b c p q s done result first second was.ok was.cause.ok more
 on a b c p q s (Err error) result first second was more = stopped a b c p q s error result first second was more
 
 further : {T E : Type 0} (a b c : Option (List ℕ)) (p q s : ℕ) (start so_far result : Result T E) (first second : List ℕ) → GoesOn start a b p q so_far first → GoesOn so_far b c q s result second → GoesOn start a c p s result (first ++ second)

@@ -1,4 +1,4 @@
-use Rattle.std.proofs.Common.{◌≤◌, ◌+◌, length}
+use Rattle.std.proofs.Common.{◌≡◌, ◌≤◌, ◌+◌, length}
 use Rattle.replay.specs.Progress.{Answered}
 use Rattle.replay.proofs.lines.answer_complete.Given as goal
 
@@ -6,7 +6,7 @@ use Rattle.replay.proofs.lines.answer_complete.Given as goal
 abbrev pub invariant-loop-line : goal.invariant-loop-line
 invariant-loop-line g l = record {
   answered : Answered l.session l.input l.rest (g.K.Sink.written l.fn.sink) (g.K.Sink.written l.sink);
-  later : g.K.Sink.faults l.fn.sink ≤ g.K.Sink.faults l.sink;
+  same : g.K.Sink.faults l.sink ≡ g.K.Sink.faults l.fn.sink;
   few : l.session.additions + length l.rest ≤ l.fn.session.additions + length l.input;
 }
 

@@ -1,4 +1,4 @@
-use Rattle.std.proofs.Common.{take, append_assoc, ap, ◌∙◌, arith, take-append-drop, ◌++◌, ◌≡◌, List, ℕ}
+use Rattle.std.proofs.Common.{take, append_assoc, ap, ◌∙◌, take-append-drop, ◌++◌, ◌≡◌, List, ℕ}
 use Rattle.std.proofs.KnownBytes.{Appends-trans}
 use Rattle.outside.proofs.sink.Sink.write_all.Goals as goal
 
@@ -13,5 +13,5 @@ loop-rest-preserved g c =
         append_assoc old.0 (take count c.loop-rest.rest.now) c.split_at.result.1.now ∙ ap (λ (rest : List ℕ). old.0 ++ rest) whole ∙ old.1,
         Appends-trans _ _ _ _ _ old.2 c.in_ok-count.ensures.bytes,
       );
-      later = omega (arith, c.loop-rest.invariant.later, c.in_ok-count.ensures.cause.later);
+      same = c.in_ok-count.ensures.cause.ok ∙ c.loop-rest.invariant.same;
     }
