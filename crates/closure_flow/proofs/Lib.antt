@@ -7,6 +7,7 @@ pub mod Marks
 pub mod Networks
 pub mod Sets
 pub mod Searches
+pub mod Shown
 pub mod Steadiness
 pub mod Optimum
 pub mod Paths

@@ -67,10 +67,9 @@ pub fn solve<L: Ledger, const W: usize>(
     first_flow(&mut scratch.network, &scratch.queue, parents);
     let reached = complete(&mut scratch.network, &mut scratch.queue, parents, steps);
     if reached.least().is_none() {
-        Outcome::Balanced
-    } else {
-        Outcome::Better(reached)
+        return Outcome::Balanced;
     }
+    Outcome::Better(reached)
 }
 
 /// Begins each place of a set anew: it takes each from the queue once, and counts a step for it.

@@ -57,7 +57,7 @@ loop-place-preserved g c =
           (subst (λ (t : ℕ). pos 0 ≤ℤ rest t) k.place content)
           (subst (λ (t : ℕ). IsBeyond n c.args.parents.now c.args.network.now.within flow c.loop-place.seen t c.beyond-next.result) k.place c.beyond-next.ensures)
           a.lists a.within grows a.old a.new a.only),
-      omega (arith, k.step, c.loop-place.invariant.1),
+      omega (arith, k.step, k.taken, a.taken, c.loop-place.invariant.1),
     )
 
 pub returns-clause-end : goal.returns-clause-end
