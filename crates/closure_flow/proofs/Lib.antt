@@ -1,7 +1,12 @@
 pub mod Lists
+pub mod Augmenting
+pub mod Budgets
+pub mod Counts
 pub mod Cuts
 pub mod FirstPlaces
 pub mod Firsts
+pub mod Labellings
+pub mod Levels
 pub mod Loads
 pub mod Marks
 pub mod Networks
@@ -9,6 +14,7 @@ pub mod Sets
 pub mod Searches
 pub mod Shown
 pub mod Steadiness
+pub mod Powers
 pub mod Optimum
 pub mod Paths
 pub mod Queues

@@ -4,7 +4,7 @@ ghost use Rattle.bitset.specs.Places.{IsWithin};
 ghost use Rattle.closure_flow.specs.Closures.{HasEach};
 ghost use Rattle.closure_flow.specs.Networks.{IsShort};
 ghost use Rattle.closure_flow.specs.Queues.{Grows, Lists, place_at};
-ghost use Rattle.closure_flow.specs.Views.{IsAllowedIn, IsBeyondIn, IsSealedIn, IsSearchIn, rest_in};
+ghost use Rattle.closure_flow.specs.Views.{IsAllowedIn, IsBeyondIn, IsSealedIn, IsSearchIn, IsShortestIn, rest_in};
 
 use crate::network::Network;
 use crate::{Entry, Queue};
@@ -63,7 +63,9 @@ pub(crate) fn search<L: Ledger, const W: usize>(
     ensures position { MatchOption result.end (queue.new.taken ≡ length queue.new.entries)
         (λ at. queue.new.taken ≡ at + 1) }
     ensures within { queue.new.taken ≤ length queue.new.entries }
+    ensures few { length queue.new.entries ≤ set.len network.now.within }
     ensures search { IsSearchIn parents.now network.now queue.new.entries }
+    ensures shortest { MatchOption result.end (Unit {0}) (IsShortestIn parents.now network.now queue.new.entries) }
     ensures steps { steps.new ≡ steps.old + queue.new.taken }
 {
     queue.clear();

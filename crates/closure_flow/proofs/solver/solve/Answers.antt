@@ -1,9 +1,11 @@
 use Rattle.std.proofs.Common.{◌≡◌, ℕ, ◌*◌, ◌<◌, ◌∙◌, sym, ap, subst, true, arith, pos, length, int_lt}
 use Rattle.std.specs.FinSet as set
+use Rattle.closure_flow.specs.Bounds.{most_searched}
 use Rattle.closure_flow.specs.Closures.{IsBalanced, weight_at}
 use Rattle.closure_flow.specs.Queues.{Lists}
 use Rattle.closure_flow.proofs.Networks.{network_fits, shown_only, shown_within, words_fit}
 use Rattle.closure_flow.proofs.Optimum.{balanced_flow, count_within, counted_some, greatest_where_sealed, none_is_empty, none_where_sealed, nothing_over, positive_where_some, run_of, small_start, some_is_least}
+use Rattle.closure_flow.proofs.Powers.{below_fourth}
 use Rattle.closure_flow.proofs.Shown.{shown_is}
 use Rattle.closure_flow.proofs.solver.solve.Goals as goal
 
@@ -77,3 +79,13 @@ pub returns-then-is_none-clause-steps_balanced : goal.returns-then-is_none-claus
 returns-then-is_none-clause-steps_balanced g c =
     let inside = subst (λ s. (t : ℕ) → set.contains s t ≡ true → t < 64 * g.row.W) c.load.ensures.within c.load.new.network.inside in
     omega (arith, count_within (64 * g.row.W) (λ t. int_lt (weight_at c.args.weights.now t) (pos 0)) c.args.within inside, c.load.ensures.steps, c.complete-reached.ensures.steps)
+
+pub returns-then-is_none-clause-steps_most : goal.returns-then-is_none-clause-steps_most
+returns-then-is_none-clause-steps_most g c =
+    let same = ap (λ s. most_searched (set.len s)) (c.first_flow.ensures.within ∙ c.load.ensures.within) in
+    omega (arith, c.load.ensures.steps, c.complete-reached.ensures.most, same, below_fourth (set.len c.args.within))
+
+pub returns-clause-steps_most : goal.returns-clause-steps_most
+returns-clause-steps_most g c =
+    let same = ap (λ s. most_searched (set.len s)) (c.first_flow.ensures.within ∙ c.load.ensures.within) in
+    omega (arith, c.load.ensures.steps, c.complete-reached.ensures.most, same, below_fourth (set.len c.args.within))
