@@ -21,7 +21,7 @@ pub record Searching (n : ℕ) (parents : List (set.FinSet nat_cmp)) (within : s
   pub swept : IsSwept n parents within flow rest es taken seen
 
 -- positions behind the old ones are new
-new_or_old : (old new : List Entry) (i : ℕ) → (i < length old) ⊎ (length old ≤ i)
+pub new_or_old : (old new : List Entry) (i : ℕ) → (i < length old) ⊎ (length old ≤ i)
 new_or_old old new i = elim (cases_lt i (length old)) as (λ _. (i < length old) ⊎ (length old ≤ i)) [ inl less ↦ inl less | inr more ↦ inr (omega (arith, more)) ]
 
 pub searching_start : (n : ℕ) (parents : List (set.FinSet nat_cmp)) (within : set.FinSet nat_cmp) (flow : ℕ → ℕ → ℕ) (rest : ℕ → ℤ) (es : List Entry) (starts seen : set.FinSet nat_cmp)

@@ -1,5 +1,7 @@
+pub mod Bounds
 pub mod Closures
 pub mod Flows
+pub mod Labels
 pub mod Networks
 pub mod Outcomes
 pub mod Queues

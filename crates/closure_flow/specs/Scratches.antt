@@ -1,10 +1,22 @@
--- The flow that a solver's room holds.
-use Rattle.std.specs.Prelude.{ℕ, ◌*◌, cond}
+-- The flow that a solver's room shows: what each child sends to each parent.
+use Rattle.std.specs.Prelude.{ℕ, cond, List, [], map, get_or}
+use Rattle.std.specs.List.{range_with_len}
+use Rattle.std.specs.Ordering.{nat_cmp}
 use Rattle.std.specs.FinSet as set
-use Rattle.closure_flow.specs.declared.scratch.Scratch.{Scratch}
 use Rattle.closure_flow.specs.Networks.{sent}
 
--- what a child sends to a parent: only parents of the set that was solved last receive something
-abbrev pub flow_of : {W : ℕ} → Scratch W → ℕ → ℕ → ℕ
-flow_of {W} s c p =
-    cond (set.contains s.network.within p) (sent (64 * W) s.network.into.items s.network.amounts.items c p) 0
+-- a row for each child, with an amount for each parent
+abbrev pub Flow : Type 0
+Flow = List (List ℕ)
+
+-- what a child sends to a parent
+abbrev pub flow_of : Flow → ℕ → ℕ → ℕ
+flow_of flow c p = get_or (get_or flow c []) p 0
+
+-- the rows of n children with n parents
+abbrev pub rows : ℕ → (ℕ → ℕ → ℕ) → Flow
+rows n f = map (λ c. map (f c) (range_with_len 0 n)) (range_with_len 0 n)
+
+-- what a child sends in a network for n places: only parents among the places that it is for receive something
+abbrev pub shown : ℕ → set.FinSet nat_cmp → List (set.FinSet nat_cmp) → List ℕ → ℕ → ℕ → ℕ
+shown n within into amounts c p = cond (set.contains within p) (sent n into amounts c p) 0

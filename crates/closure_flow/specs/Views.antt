@@ -3,9 +3,11 @@
 use Rattle.std.specs.Prelude.{ℕ, ◌*◌, List, ℤ}
 use Rattle.std.specs.Ordering.{nat_cmp}
 use Rattle.std.specs.FinSet as set
+use Rattle.bitset.specs.Places.{places}
 use Rattle.closure_flow.specs.declared.network.Network.{Network}
 use Rattle.closure_flow.specs.declared.queue.Entry.{Entry}
 use Rattle.closure_flow.specs.Closures.{weight_at}
+use Rattle.closure_flow.specs.Labels.{IsLabelling, IsNarrowest, IsShortest, Spends}
 use Rattle.closure_flow.specs.Networks.{Arranges, Fits, Gives, Hands, Improves, IsAllowed, IsFirst, IsSteady}
 use Rattle.closure_flow.specs.Networks.{LetsThrough, Pushes, sent}
 use Rattle.closure_flow.specs.Queues.{IsBeyond, IsSealed, IsSearch}
@@ -63,3 +65,18 @@ FitsIn parents network es at amount = Fits parents (flow_in network) (rest_in ne
 
 abbrev pub LetsThroughIn : {W : ℕ} → List (set.FinSet nat_cmp) → Network W → ℕ → ℕ → ℕ → Type 0
 LetsThroughIn parents network amount from to = LetsThrough parents (flow_in network) amount from to
+
+abbrev pub IsShortestIn : {W : ℕ} → List (set.FinSet nat_cmp) → Network W → List Entry → ℕ → Type 0
+IsShortestIn parents network es at = IsShortest parents network.within (flow_in network) (rest_in network) es at
+
+abbrev pub IsLabellingIn : {W : ℕ} → List (set.FinSet nat_cmp) → Network W → (ℕ → ℕ) → ℕ → Type 0
+IsLabellingIn parents network label end =
+    IsLabelling parents network.within (flow_in network) (rest_in network) label end
+
+abbrev pub IsNarrowestIn : {W : ℕ} → List (set.FinSet nat_cmp) → Network W → List Entry → ℕ → ℕ → ℕ → Type 0
+IsNarrowestIn parents network es at limit amount =
+    IsNarrowest parents (flow_in network) (rest_in network) es at limit amount
+
+abbrev pub SpendsTo : {W : ℕ} → List (set.FinSet nat_cmp) → Network W → Network W → (ℕ → ℕ) → ℕ → Type 0
+SpendsTo {W} parents old new label end =
+    Spends parents old.within (places (64 * W) old.within) (flow_in old) (rest_in old) (flow_in new) (rest_in new) label end

@@ -1,10 +1,12 @@
-ghost use Rattle.std.specs.Prelude.{◌≡◌, ℕ, ◌+◌, ◌*◌, ◌^◌, ◌<◌, ◌≤◌, ◌⊎◌, true, length, pos, ◌+ℤ◌, ◌-ℤ◌, ◌≤ℤ◌};
+ghost use Rattle.std.specs.Prelude.{◌≡◌, ℕ, ◌+◌, ◌*◌, ◌^◌, ◌<◌, ◌≤◌, ◌⊎◌, true, false, length, pos, ◌+ℤ◌, ◌-ℤ◌, ◌≤ℤ◌};
 ghost use Rattle.std.specs.FinSet as set;
 ghost use Rattle.bitset.specs.Places.{places};
 ghost use Rattle.closure_flow.specs.Closures.{HasEach, parents_at};
 ghost use Rattle.closure_flow.specs.Flows.{net, only_at};
+ghost use Rattle.closure_flow.specs.Labels.{IsStart, IsStep};
 ghost use Rattle.closure_flow.specs.Queues.{place_at};
-ghost use Rattle.closure_flow.specs.Views.{FitsIn, IsAllowedIn, IsSearchIn, LetsThroughIn, PushesTo, flow_in, rest_in};
+ghost use Rattle.closure_flow.specs.Views.{FitsIn, IsAllowedIn, IsNarrowestIn, IsSearchIn, LetsThroughIn, PushesTo};
+ghost use Rattle.closure_flow.specs.Views.{flow_in, rest_in};
 
 use crate::Queue;
 use crate::network::Network;
@@ -26,6 +28,7 @@ pub(crate) fn send<const W: usize>(
     requires room { (c p : ℕ) → set.contains network.old.within c ≡ true → set.contains network.old.within p ≡ true
         → flow_in network.old c p + amount < 2 ^ 128 }
     ensures start { set.contains network.old.within result ≡ true }
+    ensures begins { (i : ℕ) × IsStart queue.now.entries at i × (result ≡ place_at queue.now.entries i) }
     ensures enough { pos amount ≤ℤ rest_in network.old result }
     ensures moved { (t : ℕ) → set.contains network.old.within t ≡ true
         → let before = net (places (64 * W) network.old.within) (flow_in network.old) t in
@@ -33,6 +36,10 @@ pub(crate) fn send<const W: usize>(
         after ≡ (before +ℤ only_at result (pos amount) t) -ℤ only_at (place_at queue.now.entries at) (pos amount) t }
     ensures more { (c p : ℕ) → set.contains network.old.within c ≡ true → set.contains network.old.within p ≡ true
         → flow_in network.new c p ≤ flow_in network.old c p + amount }
+    ensures grown { (c p : ℕ) → set.contains network.old.within c ≡ true → set.contains network.old.within p ≡ true
+        → flow_in network.old c p < flow_in network.new c p → IsStep queue.now.entries at c p }
+    ensures taken { (u v : ℕ) → IsStep queue.now.entries at u v → set.contains (parents_at parents.now u) v ≡ false
+        → flow_in network.new v u + amount ≡ flow_in network.old v u }
     ensures allowed { IsAllowedIn parents.now network.new }
     ensures rest { network.new.rest.items ≡ network.old.rest.items }
     ensures within { network.new.within ≡ network.old.within }
@@ -63,6 +70,10 @@ fn push<const W: usize>(
     requires lets { LetsThroughIn parents.now network.old amount from to }
     requires room { flow_in network.old from to + amount < 2 ^ 128 }
     ensures pushes { PushesTo parents.now network.old network.new from to amount }
+    ensures grown { (c p : ℕ) → c < 64 * W → p < 64 * W → flow_in network.old c p < flow_in network.new c p
+        → (c ≡ from) × (p ≡ to) }
+    ensures taken { set.contains (parents_at parents.now from) to ≡ false
+        → flow_in network.new to from + amount ≡ flow_in network.old to from }
     ensures rest { network.new.rest.items ≡ network.old.rest.items }
     ensures within { network.new.within ≡ network.old.within }
 {
@@ -90,6 +101,7 @@ pub(crate) fn narrowest<const W: usize>(
     ensures some { 0 < result }
     ensures most { result ≤ limit }
     ensures fits { FitsIn parents.now network.now queue.now.entries at result }
+    ensures narrowest { IsNarrowestIn parents.now network.now queue.now.entries at limit result }
 {
     let mut amount = limit;
     let mut here = at;
@@ -119,6 +131,8 @@ fn step_limit<const W: usize>(
     ensures some { 0 < result }
     ensures most { result ≤ amount }
     ensures lets { LetsThroughIn parents.now network.now result from to }
+    ensures narrowest { (result ≡ amount)
+        ⊎ ((set.contains (parents_at parents.now from) to ≡ false) × (flow_in network.now to from ≡ result)) }
 {
     if parents[from].has(to) {
         amount

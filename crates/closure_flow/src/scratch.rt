@@ -1,10 +1,9 @@
-ghost use Rattle.std.specs.Prelude.{ℕ};
-
 use crate::Queue;
 use crate::network::Network;
 use bitset::Bits;
 use outside::NoMemory;
 use std::alloc::Global;
+use std::marker::Model;
 
 /// The room that a solver works in, and the flow that the last call left there.
 ///
@@ -13,6 +12,16 @@ use std::alloc::Global;
 pub struct Scratch<const W: usize> {
     pub(crate) network: Network<W>,
     pub(crate) queue: Queue<W>,
+}
+
+// Clauses see what each child sends to each parent.
+impl<const W: usize> Model for Scratch<W> {
+    ghost use Rattle.std.specs.Prelude.{◌*◌};
+    ghost use Rattle.closure_flow.specs.Scratches.{Flow, rows, shown};
+
+    ghost Value = { Flow };
+
+    ghost view = { λ s. rows (64 * W) (shown (64 * W) s.network.within s.network.into.items s.network.amounts.items) };
 }
 
 impl<const W: usize> Scratch<W> {

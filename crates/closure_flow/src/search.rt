@@ -1,10 +1,10 @@
-ghost use Rattle.std.specs.Prelude.{◌≡◌, ℕ, ◌*◌, ◌<◌, ◌≤◌, ◌⊎◌, true, false, length, pos, MatchOption, Option};
+ghost use Rattle.std.specs.Prelude.{◌≡◌, ℕ, ◌+◌, ◌*◌, ◌≤◌, ◌⊎◌, true, false, length, pos, MatchOption, Option};
 ghost use Rattle.std.specs.FinSet as set;
 ghost use Rattle.bitset.specs.Places.{IsWithin};
 ghost use Rattle.closure_flow.specs.Closures.{HasEach};
 ghost use Rattle.closure_flow.specs.Networks.{IsShort};
 ghost use Rattle.closure_flow.specs.Queues.{Grows, Lists, place_at};
-ghost use Rattle.closure_flow.specs.Views.{IsAllowedIn, IsBeyondIn, IsSealedIn, IsSearchIn, rest_in};
+ghost use Rattle.closure_flow.specs.Views.{IsAllowedIn, IsBeyondIn, IsSealedIn, IsSearchIn, IsShortestIn, rest_in};
 
 use crate::network::Network;
 use crate::{Entry, Queue};
@@ -60,9 +60,13 @@ pub(crate) fn search<L: Ledger, const W: usize>(
     requires allowed { IsAllowedIn parents.now network.now }
     ensures end { MatchOption result.end (IsSealedIn parents.now network.now result.seen)
         (λ at. IsShort (rest_in network.now (place_at queue.new.entries at))) }
-    ensures position { MatchOption result.end (Unit {0}) (λ at. at < length queue.new.entries) }
+    ensures position { MatchOption result.end (queue.new.taken ≡ length queue.new.entries)
+        (λ at. queue.new.taken ≡ at + 1) }
+    ensures within { queue.new.taken ≤ length queue.new.entries }
+    ensures few { length queue.new.entries ≤ set.len network.now.within }
     ensures search { IsSearchIn parents.now network.now queue.new.entries }
-    ensures steps { steps.old ≤ steps.new }
+    ensures shortest { MatchOption result.end (Unit {0}) (IsShortestIn parents.now network.now queue.new.entries) }
+    ensures steps { steps.new ≡ steps.old + queue.new.taken }
 {
     queue.clear();
     let mut seen = put_all(queue, &Bits::empty(), &network.over, None);

@@ -1,14 +1,17 @@
 ghost use Rattle.std.specs.Prelude.{◌≡◌, ℕ, ◌+◌, ◌*◌, ◌^◌, ◌<◌, ◌≤◌, true, length, pos, ◌<ℤ◌, unsigned_abs, sum_by};
 ghost use Rattle.std.specs.FinSet as set;
 ghost use Rattle.bitset.specs.Places.{places};
+ghost use Rattle.closure_flow.specs.Bounds.{most_searched, most_steps};
 ghost use Rattle.closure_flow.specs.Closures.{HasEach, IsBalanced, IsClosed, IsNoneHeavier};
 ghost use Rattle.closure_flow.specs.Closures.{negatives, weight_at, weight_of};
 ghost use Rattle.closure_flow.specs.Flows.{surplus};
+ghost use Rattle.closure_flow.specs.Labels.{Climbs};
 ghost use Rattle.closure_flow.specs.Networks.{IsShort};
 ghost use Rattle.closure_flow.specs.Outcomes.{IfBetter, OnBalanced};
 ghost use Rattle.closure_flow.specs.Queues.{Lists, place_at};
 ghost use Rattle.closure_flow.specs.Scratches.{flow_of};
-ghost use Rattle.closure_flow.specs.Views.{ImprovesTo, IsSealedIn, IsSearchIn, IsSteadyIn, flow_in, rest_in};
+ghost use Rattle.closure_flow.specs.Views.{ImprovesTo, IsLabellingIn, IsSealedIn, IsSearchIn, IsSteadyIn, SpendsTo};
+ghost use Rattle.closure_flow.specs.Views.{flow_in, rest_in};
 
 use crate::first::first_flow;
 use crate::network::Network;
@@ -53,9 +56,11 @@ pub fn solve<L: Ledger, const W: usize>(
     ensures none { OnBalanced result (IsNoneHeavier (64 * W) weights.now parents.now within.entry (pos 0)) }
     ensures flow { OnBalanced result (IsBalanced (64 * W) weights.now parents.now within.entry (flow_of scratch.new)) }
 
-    // Each place of negative weight is taken at least once.
+    // Each place of negative weight is taken at least once. However large the weights are, with n places at most
+    // (n + 2)^4 + (n + 2) are taken.
     ensures steps_better { IfBetter result (λ _. steps.old < steps.new) }
     ensures steps_balanced { OnBalanced result (steps.old + negatives (64 * W) weights.now within.entry ≤ steps.new) }
+    ensures steps_most { steps.new ≤ steps.old + most_steps (set.len within.entry) }
 {
     load(
         &mut scratch.network,
@@ -67,10 +72,9 @@ pub fn solve<L: Ledger, const W: usize>(
     first_flow(&mut scratch.network, &scratch.queue, parents);
     let reached = complete(&mut scratch.network, &mut scratch.queue, parents, steps);
     if reached.least().is_none() {
-        Outcome::Balanced
-    } else {
-        Outcome::Better(reached)
+        return Outcome::Balanced;
     }
+    Outcome::Better(reached)
 }
 
 /// Begins each place of a set anew: it takes each from the queue once, and counts a step for it.
@@ -108,6 +112,7 @@ fn complete<L: Ledger, const W: usize>(
     ensures improves { ImprovesTo parents.now network.old network.new }
     ensures sealed { IsSealedIn parents.now network.new result }
     ensures steps { steps.old ≤ steps.new }
+    ensures most { steps.new ≤ steps.old + most_searched (set.len network.old.within) }
     ensures within { network.new.within ≡ network.old.within }
 {
     loop {
@@ -134,6 +139,8 @@ fn augment<const W: usize>(
     ensures improves { ImprovesTo parents.now network.old network.new }
     ensures falls { surplus (rest_in network.new) (places (64 * W) network.old.within)
         < surplus (rest_in network.old) (places (64 * W) network.old.within) }
+    ensures spends { (label : ℕ → ℕ) (end : ℕ) → IsLabellingIn parents.now network.old label end
+        → Climbs queue.now.entries at label → SpendsTo parents.now network.old network.new label end }
     ensures within { network.new.within ≡ network.old.within }
 {
     let end = queue.entry(at).place;

@@ -8,6 +8,7 @@ mod Lists
 mod Orders
 mod Parts
 mod Places
+mod Plain
 mod Sets
 mod Sizes
 mod Totals

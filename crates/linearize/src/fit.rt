@@ -1,4 +1,4 @@
-ghost use Rattle.std.specs.Prelude.{◌≡◌, ◌*◌, ◌^◌, ◌<◌, ◌↔◌, true};
+ghost use Rattle.std.specs.Prelude.{◌≡◌, ◌↔◌, true};
 ghost use Rattle.linearize.specs.Graphs.{HasRates, IsComponent};
 
 use dep_graph::DepGraph;
@@ -6,7 +6,6 @@ use fee_rate::is_rate;
 
 /// Whether the members are one component. No members are one.
 pub fn is_component<const W: usize>(dep: &DepGraph<W>) -> bool
-    requires { 64 * W < 2 ^ 32 }
     ensures { (result ≡ true) ↔ IsComponent dep.now }
 {
     let members = dep.members();
@@ -18,7 +17,6 @@ pub fn is_component<const W: usize>(dep: &DepGraph<W>) -> bool
 
 /// Whether the fee and the size of each member are those of a transaction.
 pub fn has_rates<const W: usize>(dep: &DepGraph<W>) -> bool
-    requires { 64 * W < 2 ^ 32 }
     ensures { (result ≡ true) ↔ HasRates dep.now }
 {
     let members = dep.members();

@@ -99,7 +99,9 @@ pub fn optimal<L: Ledger, const W: usize>(
     requires rates { HasRates dep.now }
     requires component { IsComponent dep.now }
 
-    // Whatever plain graph the members stand for, the parts certify it over its covering pairs, and are optimal.
+    // There is a plain graph that the members stand for. The parts certify each one over its covering pairs, and are
+    // optimal.
+    ensures stands { (graph : model.Graph) × StandsFor dep.now graph }
     ensures certificate { (graph : model.Graph) → StandsFor dep.now graph
         → IsCertificate (sum_at dep.now) graph (model.IsCover graph.pairs) out.new }
     ensures optimal { (graph : model.Graph) → StandsFor dep.now graph

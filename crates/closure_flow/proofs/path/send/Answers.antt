@@ -1,8 +1,9 @@
-use Rattle.std.proofs.Common.{◌≡◌, ℕ, length, ◌*◌, ◌+◌, ◌^◌, ◌<◌, ◌∙◌, sym, subst, true, arith, pos, ◌≤ℤ◌}
+use Rattle.std.proofs.Common.{◌≡◌, ℕ, length, ◌*◌, ◌+◌, ◌^◌, ◌<◌, ◌∙◌, sym, subst, true, false, arith, pos, ◌≤ℤ◌}
 use Rattle.std.specs.FinSet as set
-use Rattle.closure_flow.specs.Closures.{weight_at}
+use Rattle.closure_flow.specs.Closures.{parents_at, weight_at}
 use Rattle.closure_flow.specs.Networks.{IsAllowed, LetsThrough, Pushes, sent}
 use Rattle.closure_flow.specs.Queues.{place_at}
+use Rattle.closure_flow.proofs.Augmenting.{is_start, sent_all, sent_step}
 use Rattle.closure_flow.proofs.Networks.{network_fits, words_fit}
 use Rattle.closure_flow.proofs.Paths.{fits_enough, fits_next, lets_still, sends_step}
 use Rattle.closure_flow.proofs.path.send.Goals as goal
@@ -69,15 +70,38 @@ loop-before-preserved g c =
     let pushed : Pushes n c.args.parents.now c.args.network.now.within (sent n c.loop-before.network.into.items c.loop-before.network.amounts.items) (sent n c.push.new.network.into.items c.push.new.network.amounts.items) (place_at es c.in-Some.before) (place_at es c.loop-before.here) c.args.amount =
     subst (λ (t : ℕ). Pushes n c.args.parents.now c.args.network.now.within (sent n c.loop-before.network.into.items c.loop-before.network.amounts.items) (sent n c.push.new.network.into.items c.push.new.network.amounts.items) (place_at es c.in-Some.before) t c.args.amount) c.entry-to.ensures.place
     (subst (λ (t : ℕ). Pushes n c.args.parents.now c.args.network.now.within (sent n c.loop-before.network.into.items c.loop-before.network.amounts.items) (sent n c.push.new.network.into.items c.push.new.network.amounts.items) t c.entry-to.result.place c.args.amount) c.entry-from.ensures.place
-    (subst (λ s. Pushes n c.args.parents.now s (sent n c.loop-before.network.into.items c.loop-before.network.amounts.items) (sent n c.push.new.network.into.items c.push.new.network.amounts.items) c.entry-from.result.place c.entry-to.result.place c.args.amount) i.4 c.push.ensures.pushes)) in (
+    (subst (λ s. Pushes n c.args.parents.now s (sent n c.loop-before.network.into.items c.loop-before.network.amounts.items) (sent n c.push.new.network.into.items c.push.new.network.amounts.items) c.entry-from.result.place c.entry-to.result.place c.args.amount) i.4 c.push.ensures.pushes)) in
+    let G = sent n c.loop-before.network.into.items c.loop-before.network.amounts.items in
+    let H = sent n c.push.new.network.into.items c.push.new.network.amounts.items in
+    let eu = c.entry-from.ensures.place in
+    let ev = c.entry-to.ensures.place in
+    let more : (d p : ℕ) → d < n → p < n → G d p < H d p → (d ≡ place_at es c.in-Some.before) × (p ≡ place_at es c.loop-before.here) =
+    λ d p hd hp h. (let both = c.push.ensures.grown d p hd hp h in (both.0 ∙ eu, both.1 ∙ ev)) in
+    let gone : set.contains (parents_at c.args.parents.now (place_at es c.in-Some.before)) (place_at es c.loop-before.here) ≡ false → H (place_at es c.loop-before.here) (place_at es c.in-Some.before) + c.args.amount ≡ G (place_at es c.loop-before.here) (place_at es c.in-Some.before) =
+    subst (λ (u : ℕ). set.contains (parents_at c.args.parents.now u) (place_at es c.loop-before.here) ≡ false → H (place_at es c.loop-before.here) u + c.args.amount ≡ G (place_at es c.loop-before.here) u) eu
+    (subst (λ (v : ℕ). set.contains (parents_at c.args.parents.now c.entry-from.result.place) v ≡ false → H v c.entry-from.result.place + c.args.amount ≡ G v c.entry-from.result.place) ev c.push.ensures.taken) in (
       omega (arith, lower, i.0),
       (fits_next _ _ _ _ _ _ _ i.1 from).1,
       sends_step n _ _ _ _ _ (weight_at c.args.network.now.rest.items) es _ _ _ c.args.amount c.args.network.now.inside c.requires.search i.0 lower i.2 pushed,
       c.push.ensures.rest ∙ i.3,
       c.push.ensures.within ∙ i.4,
+      sent_step n _ _ _ _ _ (weight_at c.args.network.now.rest.items) es _ _ _ c.args.amount c.args.network.now.inside c.requires.search c.requires.at from i.2 i.5 pushed more gone,
     )
 
 pub returns-clause-enough : goal.returns-clause-enough
 returns-clause-enough g c =
     let none = sym c.entry.ensures.from ∙ c.in_default.is in
     subst (λ (t : ℕ). pos c.args.amount ≤ℤ weight_at c.args.network.now.rest.items t) (sym c.entry-2.ensures.place) (fits_enough _ _ _ _ _ _ c.loop-before.invariant.1 none)
+
+pub returns-clause-begins : goal.returns-clause-begins
+returns-clause-begins g c =
+    let none = sym c.entry.ensures.from ∙ c.in_default.is in
+    (c.loop-before.here, is_start _ _ _ _ _ _ _ _ c.loop-before.invariant.5 none, c.entry-2.ensures.place)
+
+pub returns-clause-grown : goal.returns-clause-grown
+returns-clause-grown g c = c.loop-before.invariant.5.grown
+
+pub returns-clause-taken : goal.returns-clause-taken
+returns-clause-taken g c =
+    let none = sym c.entry.ensures.from ∙ c.in_default.is in
+    sent_all (64 * g.row.W) _ _ _ _ _ _ _ _ c.loop-before.invariant.5 none

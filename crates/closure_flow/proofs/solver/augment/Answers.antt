@@ -1,11 +1,15 @@
-use Rattle.std.proofs.Common.{◌≡◌, ℕ, ◌*◌, ◌+◌, ◌<◌, ◌≤◌, ◌∙◌, sym, ap, subst, true, rules, arith, SFits, ℤ, pos, neg_ℤ, ◌+ℤ◌, ◌-ℤ◌, ◌≤ℤ◌, ◌<ℤ◌}
+use Rattle.std.proofs.Common.{◌≡◌, ℕ, ◌*◌, ◌+◌, ◌<◌, ◌≤◌, ◌∙◌, sym, ap, subst, true, false, unsigned_abs, rules, arith, SFits, ℤ, pos, neg_ℤ, ◌+ℤ◌, ◌-ℤ◌, ◌≤ℤ◌, ◌<ℤ◌}
+use Rattle.std.proofs.lemmas.Int.{to_z-of_z}
 use Rattle.std.specs.Int.{w128}
 use Rattle.std.specs.FinSet as set
 use Rattle.bitset.specs.Places.{places}
-use Rattle.closure_flow.specs.Closures.{weight_at}
+use Rattle.closure_flow.specs.Closures.{parents_at, weight_at}
 use Rattle.closure_flow.specs.Flows.{only_at, net}
+use Rattle.closure_flow.specs.Labels.{IsStep}
 use Rattle.closure_flow.specs.Networks.{IsAllowed, sent}
-use Rattle.closure_flow.proofs.Networks.{network_fits}
+use Rattle.closure_flow.proofs.Augmenting.{along, exact_lack, uses_up}
+use Rattle.closure_flow.proofs.Labellings.{spends}
+use Rattle.closure_flow.proofs.Networks.{network_fits, read_rest}
 use Rattle.closure_flow.proofs.Steadiness.{Moves, apart_ends, moves_falls, moves_improve, read_lack, room_below, same_sent}
 use Rattle.closure_flow.proofs.solver.augment.Goals as goal
 
@@ -69,3 +73,23 @@ returns-clause-improves g c = moves_improve (64 * g.row.W) _ _ _ _ _ _ _ _ _ (mo
 
 pub returns-clause-falls : goal.returns-clause-falls
 returns-clause-falls g c = omega (arith, moves_falls (64 * g.row.W) _ _ _ _ _ _ _ _ _ (moves g c), (moves g c).some)
+
+pub returns-clause-spends : goal.returns-clause-spends
+returns-clause-spends g c label end valid climbs =
+    let n : ℕ = 64 * g.row.W in
+    let m = moves g c in
+    let es = c.args.queue.now.entries in
+    let w = c.args.network.now.within in
+    let F = sent n c.args.network.now.into.items c.args.network.now.amounts.items in
+    let r = weight_at c.args.network.now.rest.items in
+    let e = same_sent n _ _ _ _ c.shift.ensures.into c.shift.ensures.amounts in
+    let grown = subst (λ (f : ℕ → ℕ → ℕ). (d p : ℕ) → set.contains w d ≡ true → set.contains w p ≡ true → F d p < f d p → IsStep es c.args.at d p) e c.send-start.ensures.grown in
+    let taken = subst (λ (f : ℕ → ℕ → ℕ). (u v : ℕ) → IsStep es c.args.at u v → set.contains (parents_at c.args.parents.now u) v ≡ false → f v u + c.narrowest-amount.result ≡ F v u) e c.send-start.ensures.taken in
+    let place = c.entry-end.ensures.place in
+    let fine : SFits w128 c.index.result.now = search rules in
+    let read = read_rest n _ _ _ c.entry-end.result.place _ c.args.network.now.sized (subst (λ (t : ℕ). t < n) (sym place) (c.requires.search.below _ c.requires.at)) c.index.ensures in
+    let low = subst (λ (t : ℕ). r t <ℤ pos 0) (sym place) c.requires.lacks in
+    let lack = read ∙ exact_lack c.index.result.now c.unsigned_abs-lack.result (c.unsigned_abs-lack.ensures.value ∙ ap unsigned_abs (to_z-of_z w128 c.index.result.now fine)) (subst (λ (z : ℤ). z <ℤ pos 0) read low) in
+    spends n _ w F _ r _ es c.args.at label end (along n _ w F _ r _ _ _ _ m es c.args.at grown)
+    (uses_up n _ w F _ r _ _ _ _ m es c.args.at c.unsigned_abs-lack.result c.requires.search c.requires.at c.send-start.ensures.begins taken lack c.narrowest-amount.ensures.narrowest)
+    climbs valid

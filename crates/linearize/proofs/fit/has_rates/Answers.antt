@@ -1,8 +1,7 @@
-use Rattle.std.proofs.Common.{◌≡◌, ◌∙◌, ◌*◌, ℕ, refl, sym, subst, true, false}
+use Rattle.std.proofs.Common.{rules, ◌≡◌, ◌∙◌, ◌*◌, ℕ, refl, sym, subst, true, false}
 use Rattle.graphs.specs.Closures.{Closure, is_member, members_of, rate_of}
 use Rattle.fee_rate.specs.Limits.{IsRate}
 use Rattle.linearize.proofs.Places.{clash, members_tested, member_here, tested_more, each_member}
-use Rattle.linearize.proofs.Sizes.{lists_fit}
 use Rattle.linearize.proofs.fit.has_rates.Goals as goal
 
 -- the fee and the size of a place are those of a transaction
@@ -19,7 +18,7 @@ pub rate-requires : goal.rate-requires
 rate-requires g c =
     let i = c.loop-place.invariant in
     let next = c.in-Some.ensures.steps in (
-      lists_fit g.row.W c.requires,
+      search rules,
       member_here (64 * g.row.W) c.args.dep.now (Rated c.args.dep.now) _ _ _ c.in-Some.place i next,
     )
 

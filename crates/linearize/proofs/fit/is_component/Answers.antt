@@ -1,4 +1,4 @@
-use Rattle.std.proofs.Common.{◌≡◌, ◌⊎◌, inl, inr, ◌∙◌, ℕ, List, [], ◌∷◌, refl, ap, sym, subst, true}
+use Rattle.std.proofs.Common.{rules, ◌≡◌, ◌⊎◌, inl, inr, ◌∙◌, ℕ, List, [], ◌∷◌, refl, ap, sym, subst, true}
 use Rattle.std.specs.Cmp.{nat_cmp_total}
 use Rattle.std.specs.FinSet as fin
 use Rattle.std.specs.Ordering.{nat_cmp}
@@ -6,7 +6,6 @@ use Rattle.graphs.specs.Closures.{Closure, is_member, members_of, IsNear}
 use Rattle.lists.specs.Walks.{IsWalk, Walk}
 use Rattle.linearize.proofs.Places.{in_members}
 use Rattle.linearize.proofs.Sets.{not_empty}
-use Rattle.linearize.proofs.Sizes.{words_fit, lists_fit}
 use Rattle.linearize.proofs.fit.is_component.Goals as goal
 
 -- a walk among members, by steps to ancestors and descendants
@@ -50,9 +49,9 @@ of_member dep s p is m = ap (λ t. fin.contains t p) is ∙ in_members dep p ∙
 pub component-requires : goal.component-requires
 component-requires g c =
     let is = c.members-members.ensures.members in (
-      lists_fit g.row.W c.requires,
+      search rules,
       (
-        words_fit g.row.W c.requires,
+        search rules,
         ((λ p m. member_of c.args.dep.now c.members-members.result p is m), c.in-Some.ensures.least.member),
       ),
     )

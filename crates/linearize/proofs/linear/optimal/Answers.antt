@@ -11,6 +11,7 @@ use Rattle.linearize.specs.Splits.{Adds}
 use Rattle.linearize.proofs.Final.{certificate, has_sizes}
 use Rattle.linearize.proofs.Joined.{start_room}
 use Rattle.linearize.proofs.Places.{in_members}
+use Rattle.linearize.proofs.Plain.{stands}
 use Rattle.linearize.proofs.Sizes.{words_fit, lists_fit, scratch_fits}
 use Rattle.linearize.proofs.linear.optimal.Goals as goal
 
@@ -50,6 +51,9 @@ split-requires g c =
         ),
       ),
     )
+
+pub returns-clause-stands : goal.returns-clause-stands
+returns-clause-stands g c = stands (64 * g.row.W) c.args.dep.now c.members-members.ensures.closed
 
 pub returns-clause-certificate : goal.returns-clause-certificate
 returns-clause-certificate g c = λ graph stands.

@@ -1,10 +1,12 @@
-use Rattle.std.proofs.Common.{◌*◌, ◌∙◌, ap, Bool, cond}
+use Rattle.std.proofs.Common.{◌*◌, ◌∙◌, ap}
 use Rattle.std.specs.FinSet as set
 use Rattle.bitset.specs.Sets.{contains-empty}
-use Rattle.closure_flow.specs.Networks.{sent}
+use Rattle.closure_flow.proofs.Networks.{not_received}
+use Rattle.closure_flow.proofs.Shown.{shown_is}
 use Rattle.closure_flow.proofs.scratch.Scratch.new.Goals as goal
 
 pub returns : goal.returns
 returns g c d p =
-    ap (λ (b : Bool). cond b (sent (64 * g.row.W) c.in_ok-network.network.into.items c.in_ok-network.network.amounts.items d p) 0)
-    (ap (λ s. set.contains s p) c.in_ok-network.ensures ∙ contains-empty p)
+    let net = c.in_ok-network.network in
+    shown_is (64 * g.row.W) net.within net.into.items net.amounts.items net.lean net.inside d p
+    ∙ not_received (64 * g.row.W) net.within net.into.items net.amounts.items d p (ap (λ s. set.contains s p) c.in_ok-network.ensures ∙ contains-empty p)
