@@ -4,12 +4,13 @@ use Rattle.std.specs.Prelude.{Contains, flat_map}
 use Rattle.std.proofs.lemmas.Bool.{cases_eq}
 use Rattle.std.proofs.lemmas.List.Elements.{Contains-append_left, Contains-append_right, Contains-append_cases}
 use Rattle.std.specs.FinSet as fin
+use Rattle.graphs.specs.Closures.{Closure, is_member, is_ancestor, ancestors_of, members_of, IsClosed}
+use Rattle.lists.proofs.Entries.{Contains-head, Contains-later, Contains-cases, none_in_empty}
 use Rattle.bitset.specs.Places.{places}
 use Rattle.bitset.specs.Sets.{Contains-places, places-Contains}
-use Rattle.graph_model.specs.Graphs as model
-use Rattle.dep_graph.specs.Graph.{Graph, is_member, is_ancestor, ancestors_of, members_of, IsClosed}
+use Rattle.graphs.specs.Graphs as model
 use Rattle.linearize.specs.Graphs.{StandsFor}
-use Rattle.linearize.proofs.Places.{Contains-head, Contains-later, Contains-cases, none_in_empty, in_members}
+use Rattle.linearize.proofs.Places.{in_members}
 use Rattle.linearize.proofs.Sets.{from_remove, to_remove}
 
 -- ---- pairs of the numbers of a list with others
@@ -47,13 +48,13 @@ from_pairs above (x ∷ ds) a d h = elim (Contains-append_cases {X = ℕ × ℕ}
 ]
 
 -- the other ancestors of a place
-abbrev others : ℕ → Graph → ℕ → List ℕ
+abbrev others : ℕ → Closure → ℕ → List ℕ
 others n dep d = places n (fin.remove (ancestors_of dep d) d)
 
-abbrev plain : ℕ → Graph → model.Graph
+abbrev plain : ℕ → Closure → model.Graph
 plain n dep = record { names = places n (members_of dep); pairs = pairs_with (others n dep) (places n (members_of dep)) }
 
-module _ (n : ℕ) (dep : Graph) (closed : IsClosed n dep) where
+module _ (n : ℕ) (dep : Closure) (closed : IsClosed n dep) where
   pair_is : (a d : ℕ) → Contains {X = ℕ × ℕ} (plain n dep).pairs (a, d) → (is_ancestor dep a d ≡ true) × (a ≡ d → ⊥)
   pair_is a d h =
       let both = from_pairs (others n dep) (places n (members_of dep)) a d h in
