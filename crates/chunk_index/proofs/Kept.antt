@@ -1,5 +1,5 @@
 -- What each change of the slots, beside the changes of the trees, leaves of an index.
-use Rattle.std.proofs.Common.{◌≡◌, ℕ, ◌+◌, ◌^◌, ◌<◌, Bool, true, false, cond, List, [], length, Some, None, is_some, refl, sym, ap, ◌∙◌, subst, arith}
+use Rattle.std.proofs.Common.{◌≡◌, ◌+◌, ◌^◌, ◌<◌, Bool, true, false, cond, List, [], length, Some, None, is_some, refl, sym, ap, ◌∙◌, subst, arith}
 use Rattle.std.specs.List.Sorted.{IsStrictlySortedBy}
 use Rattle.std.specs.Map.{keys_of, lookup, remove_entry, set_value}
 use Rattle.std.specs.BTreeMap.{insert_entry}
@@ -11,7 +11,7 @@ use Rattle.chunk_index.specs.declared.slot.Slot.{Slot}
 use Rattle.chunk_index.specs.declared.slot.Place.{Place}
 use Rattle.chunk_index.specs.KeyOrder.{key_cmp}
 use Rattle.chunk_index.specs.Keys.{key_of, IsInOrder, has_key, put, without}
-use Rattle.chunk_index.specs.Items.{Items, item_key, AreInOrder, has, same_tag, entries_by, entries_tagged, tag_set}
+use Rattle.chunk_index.specs.Items.{item_key, has, same_tag, entries_by, tag_set}
 use Rattle.chunk_index.specs.Slots.{tag_of, entry_from, items_of, moved, IsKept}
 use Rattle.chunk_index.proofs.Lists.{without_absent, put-without}
 use Rattle.chunk_index.proofs.Maps.{Slots, test, items_in_order, length-items, has-lookup, items-insert, items-remove, items-set, found}

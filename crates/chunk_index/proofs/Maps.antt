@@ -1,10 +1,10 @@
 -- What each change of the map of slots is on the items that its entries stand for.
-use Rattle.std.proofs.Common.{◌≡◌, ℕ, ◌+◌, ◌≤◌, Bool, true, false, cond, ◌||◌, List, [], ◌∷◌, ◌++◌, map, length, Option, Some, None, is_some, unwrap_or, refl, sym, ap, ◌∙◌, subst, arith}
-use Rattle.std.specs.List.{AllByRecursion, list_any}
+use Rattle.std.proofs.Common.{◌≡◌, Bool, true, false, cond, ◌||◌, List, [], ◌∷◌, map, length, Option, Some, None, is_some, unwrap_or, refl, sym, ap, ◌∙◌, arith}
+use Rattle.std.specs.List.{AllByRecursion}
 use Rattle.std.specs.List.Sorted.{IsStrictlySortedBy}
 use Rattle.std.specs.declared.cmp.Ordering.{Ordering}
 use Rattle.std.specs.declared.cmp.Ordering.TheVariants.{Less, Equal, Greater}
-use Rattle.std.specs.Ordering.{is_eq, is_ne, is_lt, is_gt, ordering_reverse}
+use Rattle.std.specs.Ordering.{is_eq, ordering_reverse}
 use Rattle.std.specs.Map.{keys_of, lookup, remove_entry, set_value}
 use Rattle.std.specs.BTreeMap.{insert_entry, is_at}
 use Rattle.chunk_index.specs.declared.entry.Entry.{Entry}
@@ -13,10 +13,10 @@ use Rattle.chunk_index.specs.declared.key.Key.{Key}
 use Rattle.chunk_index.specs.declared.slot.Slot.{Slot}
 use Rattle.chunk_index.specs.KeyOrder.{key_cmp}
 use Rattle.chunk_index.specs.KeyLaws.{level_keys}
-use Rattle.chunk_index.specs.Keys.{key_of, IsInOrder, has_key, before, behind, put, without}
+use Rattle.chunk_index.specs.Keys.{IsInOrder, has_key, before, behind, put, without}
 use Rattle.chunk_index.specs.Items.{Items, item_key, AreInOrder, tag_set}
 use Rattle.chunk_index.specs.Slots.{tag_of, entry_from, item_of}
-use Rattle.chunk_index.proofs.Lists.{turned, AllStand, IsCut, cut, put-low, put-high, without-level, has-level, without_absent, put-level, has-low, has-high, lacks-level, neither, unequal}
+use Rattle.chunk_index.proofs.Lists.{turned, IsCut, cut, put-low, put-high, without-level, has-level, put-level, has-low, has-high, lacks-level, neither, unequal}
 
 abbrev pub Slots : Type 0
 Slots = List (Key × Slot)

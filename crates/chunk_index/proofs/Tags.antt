@@ -1,6 +1,6 @@
 -- The entries of one tag: what each change of the items is on them.
-use Rattle.std.proofs.Common.{◌≡◌, ℕ, ◌+◌, ◌≤◌, Bool, true, false, cond, ◌||◌, List, [], ◌∷◌, ◌++◌, map, length, Option, Some, None, is_some, unwrap_or, refl, sym, ap, ◌∙◌, subst, arith}
-use Rattle.std.specs.List.{filter, AllByRecursion, list_any}
+use Rattle.std.proofs.Common.{◌≡◌, ◌≤◌, Bool, true, false, cond, List, [], ◌∷◌, ◌++◌, length, Some, None, unwrap_or, refl, sym, ap, ◌∙◌, arith}
+use Rattle.std.specs.List.{AllByRecursion}
 use Rattle.std.specs.declared.cmp.Ordering.{Ordering}
 use Rattle.std.specs.declared.cmp.Ordering.TheVariants.{Less, Equal, Greater}
 use Rattle.std.specs.Ordering.{is_eq, is_ne, is_lt, is_gt}
@@ -11,9 +11,9 @@ use Rattle.chunk_index.specs.declared.key.Key.{Key}
 use Rattle.chunk_index.specs.declared.slot.Slot.{Slot}
 use Rattle.chunk_index.specs.KeyOrder.{key_cmp}
 use Rattle.chunk_index.specs.Keys.{key_of, IsInOrder, has_key, before, behind, put, without}
-use Rattle.chunk_index.specs.Items.{Items, item_key, AreInOrder, same_tag, entries_by}
-use Rattle.chunk_index.specs.Slots.{tag_of, entry_from, item_of, moved}
-use Rattle.chunk_index.proofs.Lists.{kept_by, cut, IsCut, neither, without_absent, around, put-without, lacks-level}
+use Rattle.chunk_index.specs.Items.{Items, item_key, AreInOrder, entries_by}
+use Rattle.chunk_index.specs.Slots.{tag_of, item_of, moved}
+use Rattle.chunk_index.proofs.Lists.{kept_by, IsCut, neither, without_absent, around, put-without, lacks-level}
 use Rattle.chunk_index.proofs.Maps.{Slots, items_of, test, first, tail, same_test}
 
 module _ (p : Tag → Bool) where

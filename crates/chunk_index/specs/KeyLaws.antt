@@ -1,5 +1,5 @@
 -- The laws of the order of keys: it is total, and it tells any two different keys apart.
-use Rattle.std.proofs.Common.{◌≡◌, ℕ, ◌<◌, ◌≤◌, Bool, true, false, ◌&&◌, ◌==◌, max, ℤ, pos, ◌*ℤ◌, ◌≤ℤ◌, ◌<ℤ◌, refl, sym, ap, ◌∙◌, subst, arith}
+use Rattle.std.proofs.Common.{◌≡◌, ℕ, ◌<◌, Bool, true, false, ◌&&◌, ◌==◌, max, ℤ, pos, ◌*ℤ◌, ◌≤ℤ◌, ◌<ℤ◌, refl, sym, ap, ◌∙◌, subst, arith}
 use Rattle.std.proofs.lemmas.Int.{ints}
 use Rattle.std.proofs.lemmas.Cmp.{on_total, then_total}
 use Rattle.std.specs.declared.cmp.Ordering.{Ordering}
@@ -8,7 +8,6 @@ use Rattle.std.specs.Ordering.{nat_cmp, int_cmp, int_eq, is_eq, on, then_cmp, or
 use Rattle.std.specs.Cmp.{IsTotalOrder, int_cmp_total, nat_cmp_total, int_ranked, int_cmp_is, ranked, both_ways, Equal-is, tied_itself, signed_Decides, unsigned_Decides}
 use Rattle.arithmetic.proofs.Products.{scale_reflects}
 use Rattle.arithmetic.proofs.Rates.{cross_trans, cross_trans_strict_left, cross_trans_strict_right}
-use Rattle.fee_rate.specs.declared.rates.FeeRate.{FeeRate}
 use Rattle.chunk_index.specs.declared.key.Key.{Key}
 use Rattle.chunk_index.specs.KeyOrder.{rate_cmp, key_cmp}
 
@@ -30,22 +29,22 @@ positive : (n : ℕ) → 0 < max 1 n
 positive n = omega arith
 
 -- what an answer of `int_cmp` says
-meaning : (x y : ℤ) (o : Ordering) → int_cmp x y ≡ o → MatchOrdering o (x <ℤ y) (x ≡ y) (y <ℤ x)
+pub meaning : (x y : ℤ) (o : Ordering) → int_cmp x y ≡ o → MatchOrdering o (x <ℤ y) (x ≡ y) (y <ℤ x)
 meaning x y o e = int_ranked x y o (sym e)
 
 pub rate_total : IsTotalOrder rate_cmp
 rate_total = record {
   antisymm = λ a b. int_cmp_total.antisymm (b.fee *ℤ pos (max 1 a.size)) (a.fee *ℤ pos (max 1 b.size));
   trans = λ a b c p q.
-    sym (int_cmp_is (c.fee *ℤ pos (max 1 a.size)) (a.fee *ℤ pos (max 1 c.size)) Less
-    (cross_trans_strict_left c.fee b.fee a.fee (max 1 c.size) (max 1 b.size) (max 1 a.size) (positive b.size) (positive a.size)
-    (meaning (c.fee *ℤ pos (max 1 b.size)) (b.fee *ℤ pos (max 1 c.size)) Less q)
-    (omega (arith, ints, meaning (b.fee *ℤ pos (max 1 a.size)) (a.fee *ℤ pos (max 1 b.size)) Less p))));
+      sym (int_cmp_is (c.fee *ℤ pos (max 1 a.size)) (a.fee *ℤ pos (max 1 c.size)) Less
+      (cross_trans_strict_left c.fee b.fee a.fee (max 1 c.size) (max 1 b.size) (max 1 a.size) (positive b.size) (positive a.size)
+      (meaning (c.fee *ℤ pos (max 1 b.size)) (b.fee *ℤ pos (max 1 c.size)) Less q)
+      (omega (arith, ints, meaning (b.fee *ℤ pos (max 1 a.size)) (a.fee *ℤ pos (max 1 b.size)) Less p))));
   congr = λ a b c p.
-    int_cmp_is (c.fee *ℤ pos (max 1 b.size)) (b.fee *ℤ pos (max 1 c.size)) (rate_cmp a c)
-    (alike a.fee b.fee c.fee (max 1 a.size) (max 1 b.size) (max 1 c.size) (positive a.size) (positive b.size) (positive c.size)
-    (meaning (b.fee *ℤ pos (max 1 a.size)) (a.fee *ℤ pos (max 1 b.size)) Equal p)
-    (rate_cmp a c) (meaning (c.fee *ℤ pos (max 1 a.size)) (a.fee *ℤ pos (max 1 c.size)) (rate_cmp a c) refl));
+      int_cmp_is (c.fee *ℤ pos (max 1 b.size)) (b.fee *ℤ pos (max 1 c.size)) (rate_cmp a c)
+      (alike a.fee b.fee c.fee (max 1 a.size) (max 1 b.size) (max 1 c.size) (positive a.size) (positive b.size) (positive c.size)
+      (meaning (b.fee *ℤ pos (max 1 a.size)) (a.fee *ℤ pos (max 1 b.size)) Equal p)
+      (rate_cmp a c) (meaning (c.fee *ℤ pos (max 1 a.size)) (a.fee *ℤ pos (max 1 c.size)) (rate_cmp a c) refl));
 }
 
 pub key_cmp_total : IsTotalOrder key_cmp

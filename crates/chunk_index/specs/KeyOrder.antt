@@ -1,7 +1,7 @@
 -- The order of keys, as one comparison. Rates are compared by exact products, as in Bitcoin Core's `FeeFrac`; a size of 0 counts as 1, so that the order's laws hold of all numbers.
-use Rattle.std.specs.Prelude.{◌≡◌, ℕ, Bool, true, pos, ◌*ℤ◌, max}
+use Rattle.std.specs.Prelude.{pos, ◌*ℤ◌, max}
 use Rattle.std.specs.declared.cmp.Ordering.{Ordering}
-use Rattle.std.specs.Ordering.{nat_cmp, int_cmp, on, then_cmp, eq_by_cmp}
+use Rattle.std.specs.Ordering.{nat_cmp, int_cmp, on, then_cmp}
 use Rattle.fee_rate.specs.declared.rates.FeeRate.{FeeRate}
 use Rattle.chunk_index.specs.declared.key.Key.{Key}
 

@@ -1,5 +1,7 @@
+pub mod Changes
 pub mod Items
 pub mod KeyLaws
+pub mod KeyMeaning
 pub mod KeyOrder
 pub mod Keys
 pub mod Slots

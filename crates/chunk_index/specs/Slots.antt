@@ -7,7 +7,6 @@ use Rattle.chunk_index.specs.declared.key.Key.{Key}
 use Rattle.chunk_index.specs.declared.slot.Slot.{Slot}
 use Rattle.chunk_index.specs.declared.slot.Place.{Place}
 use Rattle.chunk_index.specs.declared.slot.Place.TheVariants.{Both, MainOnly, TopOnly}
-
 use Rattle.chunk_index.specs.Keys.{key_of, put, without}
 use Rattle.chunk_index.specs.Items.{Items, AreInOrder, entries_tagged}
 

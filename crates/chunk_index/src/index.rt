@@ -1,15 +1,15 @@
 ghost use Rattle.std.specs.Prelude.{◌≡◌, [], true, false, OnOk, OnErr};
 ghost use Rattle.std.specs.BTreeMap.{insert_entry, IsOrdered};
 ghost use Rattle.chunk_index.specs.KeyOrder.{key_cmp};
-ghost use Rattle.chunk_index.specs.Keys.{key_of};
+ghost use Rattle.chunk_index.specs.Keys.{IsInOrder, key_of};
 ghost use Rattle.chunk_index.specs.Items.{AreInOrder, has, with_entry, without_entry, with_tag, entries_in, entries_tagged};
 
+use crate::Level;
 use crate::entry::{Entry, Tag};
 use crate::key::Key;
 use crate::slot::{Place, Slot, put_in};
 use crate::tree::{Node, Tree};
 use crate::walk::{IndexWalk, Wanted};
-use graph_model::Level;
 use outside::NoMemory;
 use std::alloc::Global;
 use std::collections::BTreeMap;
@@ -53,7 +53,8 @@ impl ChunkIndex {
 
     /// Whether an entry of that entry's key is there. Takes no memory.
     pub fn contains(&self, entry: &Entry) -> bool
-        ensures { result ≡ has self.now entry.now }
+        ensures found { result ≡ has self.now entry.now }
+        ensures order { AreInOrder self.now }
     {
         self.slots.contains_key(&Key::of(entry))
     }
@@ -115,7 +116,7 @@ impl ChunkIndex {
     /// A step costs a few nanoseconds while nothing is staged; else it goes past what the level doesn't have.
     pub fn walk(&self, level: Level) -> IndexWalk<'_>
         ensures entries { result ≡ entries_in level self.now }
-        ensures order { AreInOrder self.now }
+        ensures order { IsInOrder key_of result }
     {
         IndexWalk::over_slots(self.slots.iter(), Wanted::InLevel(level))
     }
@@ -125,7 +126,7 @@ impl ChunkIndex {
     /// Of main alone or of staging alone, no other entry is looked at.
     pub fn walk_only(&self, tag: Tag) -> IndexWalk<'_>
         ensures entries { result ≡ entries_tagged tag self.now }
-        ensures order { AreInOrder self.now }
+        ensures order { IsInOrder key_of result }
     {
         match tag {
             Tag::Both => IndexWalk::over_slots(self.slots.iter(), Wanted::OfBoth),

@@ -73,7 +73,14 @@ impl Slot {
     }
 
     /// Puts a node to where a tag wants it.
-    pub fn enter(&mut self, tag: Tag, entry: Entry, node: Box<Node>, main: &mut Tree, top: &mut Tree)
+    pub fn enter(
+        &mut self,
+        tag: Tag,
+        entry: Entry,
+        node: Box<Node>,
+        main: &mut Tree,
+        top: &mut Tree,
+    )
         requires main_order { IsInOrder key_of main.old }
         requires top_order { IsInOrder key_of top.old }
         requires main_lacks { has_key key_of main.old (key_of entry) ≡ false }
@@ -98,7 +105,6 @@ impl Slot {
         }
     }
 }
-
 
 /// Puts an entry into a tree, with a node for it. No entry of its key is there.
 pub fn put_in(tree: &mut Tree, entry: Entry, node: Box<Node>)

@@ -167,7 +167,11 @@ impl Tree {
         let (left, entry, node, right) = self.into_parts()?;
         match left.split_first() {
             None => Some((entry, node, right)),
-            Some((first, spare, left)) => Some((first, spare, Tree::join(left, entry, node, right))),
+            Some((first, spare, left)) => Some((
+                first,
+                spare,
+                Tree::join(left, entry, node, right),
+            )),
         }
     }
 

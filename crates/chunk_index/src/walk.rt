@@ -2,11 +2,11 @@ ghost use Rattle.std.specs.Prelude.{◌≡◌, ◌+◌, ◌≤◌, [], ◌∷◌
 ghost use Rattle.std.specs.Iterator.{YieldsFirst, YieldsLast, item_count};
 ghost use Rattle.chunk_index.specs.Walks.{left_in, passes};
 
+use crate::Level;
 use crate::entry::{Entry, Tag};
 use crate::key::Key;
 use crate::slot::Slot;
 use crate::tree::Tree;
-use graph_model::Level;
 use std::collections::btree_map;
 use std::marker::Model;
 

@@ -1,4 +1,3 @@
-use Rattle.std.proofs.Common.{rules}
 use Rattle.chunk_index.proofs.Kept.{none-kept}
 use Rattle.chunk_index.proofs.index.ChunkIndex.new.Goals as goal
 

@@ -1,4 +1,4 @@
-use Rattle.std.proofs.Common.{◌≡◌, true, sym, ap, ◌∙◌, subst, List}
+use Rattle.std.proofs.Common.{sym, ap, ◌∙◌, subst, List}
 use Rattle.std.specs.Map.{lookup}
 use Rattle.chunk_index.specs.declared.entry.Entry.{Entry}
 use Rattle.chunk_index.specs.declared.key.Key.{Key}

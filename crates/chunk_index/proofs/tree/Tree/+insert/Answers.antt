@@ -1,8 +1,7 @@
-use Rattle.std.proofs.Common.{◌≡◌, ◌+◌, ◌<◌, ◌^◌, List, ◌∷◌, ◌++◌, length, true, false, sym, ap, ◌∙◌, refl, arith, rules}
-use Rattle.std.proofs.lemmas.List.{length-append}
+use Rattle.std.proofs.Common.{◌≡◌, List, ◌∷◌, ◌++◌, true, false, sym, ap, ◌∙◌, refl, arith, rules}
 use Rattle.chunk_index.specs.declared.entry.Entry.{Entry}
 use Rattle.chunk_index.specs.Keys.{key_of}
-use Rattle.chunk_index.proofs.Steps.{goes_left, goes_right, stops, none-put, GoesLeft, GoesRight, Stops, shorter_left, shorter_right}
+use Rattle.chunk_index.proofs.Steps.{goes_left, goes_right, stops, none-put, shorter_left, shorter_right}
 use Rattle.chunk_index.proofs.tree.Tree.+insert.Goals as goal
 
 pub insert-requires : goal.insert-requires

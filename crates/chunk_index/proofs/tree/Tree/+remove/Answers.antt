@@ -1,4 +1,4 @@
-use Rattle.std.proofs.Common.{◌≡◌, List, ◌∷◌, ◌++◌, sym, ap, ◌∙◌, refl, rules}
+use Rattle.std.proofs.Common.{List, ◌∷◌, ◌++◌, ap, ◌∙◌, refl, rules}
 use Rattle.chunk_index.specs.declared.entry.Entry.{Entry}
 use Rattle.chunk_index.proofs.Steps.{goes_left, goes_right, stops, none-has, shorter_left, shorter_right}
 use Rattle.chunk_index.proofs.tree.Tree.+remove.Goals as goal
