@@ -1,0 +1,80 @@
+-- Where a search goes on at the root of a tree: to the left, to the right, or not at all.
+use Rattle.std.proofs.Common.{◌≡◌, ◌+◌, ◌≤◌, arith, true, false, List, [], ◌∷◌, ◌++◌, length, sym, ap, ◌∙◌, subst}
+use Rattle.std.proofs.lemmas.List.{length-append}
+use Rattle.std.specs.declared.cmp.Ordering.{Ordering}
+use Rattle.std.specs.declared.cmp.Ordering.TheVariants.{Less, Equal, Greater}
+use Rattle.chunk_index.specs.declared.entry.Entry.{Entry}
+use Rattle.chunk_index.specs.declared.key.Key.{Key}
+use Rattle.chunk_index.specs.KeyOrder.{key_cmp}
+use Rattle.chunk_index.specs.Keys.{key_of, IsInOrder, has_key, before, behind, put, without}
+use Rattle.chunk_index.proofs.Lists.{cut, put-low, put-high, without-low, without-high, without-level, has-low, has-high, has-level}
+
+pub record GoesLeft (xs l : List Entry) (h : Entry) (r : List Entry) (k : Key) : Type 0 where
+  pub order : IsInOrder key_of l
+  pub has : has_key key_of l k ≡ has_key key_of xs k
+  pub put : (x : Entry) → key_of x ≡ k → put key_of l x ++ h ∷ r ≡ put key_of xs x
+  pub without : without key_of l k ++ h ∷ r ≡ without key_of xs k
+
+pub record GoesRight (xs l : List Entry) (h : Entry) (r : List Entry) (k : Key) : Type 0 where
+  pub order : IsInOrder key_of r
+  pub has : has_key key_of r k ≡ has_key key_of xs k
+  pub put : (x : Entry) → key_of x ≡ k → l ++ h ∷ put key_of r x ≡ put key_of xs x
+  pub without : l ++ h ∷ without key_of r k ≡ without key_of xs k
+
+pub record Stops (xs l r : List Entry) (k : Key) : Type 0 where
+  pub has : has_key key_of xs k ≡ true
+  pub without : l ++ r ≡ without key_of xs k
+
+module _ (xs l : List Entry) (h : Entry) (r : List Entry) (whole : xs ≡ l ++ h ∷ r) (order : IsInOrder key_of xs) (k asks at : Key) (is_k : asks ≡ k) (is_h : at ≡ key_of h) where
+  asked : (o : Ordering) → o ≡ key_cmp asks at → key_cmp k (key_of h) ≡ o
+  asked o e = ap (key_cmp k) (sym is_h) ∙ ap (λ (q : Key). key_cmp q at) (sym is_k) ∙ sym e
+
+  pub goes_left : Less ≡ key_cmp asks at → GoesLeft xs l h r k
+  goes_left e =
+      let c = cut key_of l h r (subst (λ (t : List Entry). IsInOrder key_of t) whole order) in
+      let low = asked Less e in
+      record {
+        order = c.left;
+        has = sym (ap (λ (t : List Entry). has_key key_of t k) whole ∙ has-low key_of l h r c k low);
+        put = λ x is_k. sym (ap (λ (t : List Entry). put key_of t x) whole ∙ put-low key_of l h r c k x is_k low);
+        without = sym (ap (λ (t : List Entry). without key_of t k) whole ∙ without-low key_of l h r c k low);
+      }
+
+  pub goes_right : Greater ≡ key_cmp asks at → GoesRight xs l h r k
+  goes_right e =
+      let c = cut key_of l h r (subst (λ (t : List Entry). IsInOrder key_of t) whole order) in
+      let high = asked Greater e in
+      record {
+        order = c.right;
+        has = sym (ap (λ (t : List Entry). has_key key_of t k) whole ∙ has-high key_of l h r c k high);
+        put = λ x is_k. sym (ap (λ (t : List Entry). put key_of t x) whole ∙ put-high key_of l h r c k x is_k high);
+        without = sym (ap (λ (t : List Entry). without key_of t k) whole ∙ without-high key_of l h r c k high);
+      }
+
+  pub stops : Equal ≡ key_cmp asks at → Stops xs l r k
+  stops e =
+      let c = cut key_of l h r (subst (λ (t : List Entry). IsInOrder key_of t) whole order) in
+      let level = asked Equal e in
+      record {
+        has = ap (λ (t : List Entry). has_key key_of t k) whole ∙ has-level key_of l h r c k level;
+        without = sym (ap (λ (t : List Entry). without key_of t k) whole ∙ without-level key_of l h r c k level);
+      }
+
+-- in no entries there is no key, and an entry put there is alone
+pub none-has : (xs : List Entry) (k : Key) → xs ≡ [] → has_key key_of xs k ≡ true → ⊥
+unfolding has_key
+none-has xs k none has = let e : false ≡ true = sym (ap (λ (t : List Entry). has_key key_of t k) none) ∙ has in absurd (apart e)
+  where
+    apart : false ≡ true → ⊥
+    apart e = cc
+
+pub none-put : (xs : List Entry) (x : Entry) → xs ≡ [] → [] ++ x ∷ [] ≡ put key_of xs x
+unfolding put before behind
+none-put xs x none = sym (ap (λ (t : List Entry). put key_of t x) none)
+
+-- each side is shorter than the whole
+pub shorter_left : (xs l : List Entry) (h : Entry) (r : List Entry) → xs ≡ l ++ h ∷ r → length l + 1 ≤ length xs
+shorter_left xs l h r whole = omega (arith, ap length whole, length-append l (h ∷ r))
+
+pub shorter_right : (xs l : List Entry) (h : Entry) (r : List Entry) → xs ≡ l ++ h ∷ r → length r + 1 ≤ length xs
+shorter_right xs l h r whole = omega (arith, ap length whole, length-append l (h ∷ r))

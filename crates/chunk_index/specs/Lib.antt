@@ -1,0 +1,11 @@
+pub mod Changes
+pub mod Items
+pub mod KeyLaws
+pub mod KeyMeaning
+pub mod KeyOrder
+pub mod Keys
+pub mod Slots
+pub mod Sources
+pub mod TreeShape
+pub mod Trees
+pub mod Walks

@@ -1,0 +1,25 @@
+use fee_rate::FeeRate;
+
+/// A part of a cluster, as the index has it.
+#[derive(Clone, Copy, Debug, PartialEq, Eq)]
+pub struct Entry {
+    /// The part's fee, in satoshis, and its size, in virtual bytes.
+    pub rate: FeeRate,
+    /// A number that no other cluster has: among equal rates the lower one comes first.
+    pub serial: u64,
+    /// Where the part stands among those of its cluster.
+    pub position: usize,
+    /// The number of the cluster's record. No part of the key.
+    pub number: usize,
+}
+
+/// In which levels an entry stands.
+#[derive(Clone, Copy, Debug, PartialEq, Eq)]
+pub enum Tag {
+    /// In main and in staging, or in main where nothing is staged.
+    Both,
+    /// In main, and not in staging.
+    MainOnly,
+    /// In staging, and not in main.
+    TopOnly,
+}

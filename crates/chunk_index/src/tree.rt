@@ -1,0 +1,267 @@
+ghost use Rattle.std.specs.Prelude.{◌≡◌, ◌+◌, ◌*◌, ◌^◌, ◌<◌, ◌≤◌, [], ◌∷◌, ◌++◌, length, MatchOption, Some, true, false, slice_get};
+ghost use Rattle.chunk_index.specs.Keys.{IsInOrder, has_key, key_of, put, without};
+ghost use Rattle.chunk_index.specs.Trees.{AreBalanced, AreNearlyBalanced};
+
+use crate::entry::Entry;
+use crate::key::Key;
+use std::cmp::Ordering;
+use std::marker::Model;
+use std::mem;
+
+/// Some entries in a weight-balanced tree. It takes no memory: its nodes are handed in, and out again.
+#[cycle(tree)]
+#[derive(Drop)]
+pub struct Tree {
+    root: Option<Box<Node>>,
+    len: usize,
+}
+
+/// The memory of an entry in a tree. Outside a tree it has no children, and what entry is in it doesn't matter.
+#[cycle(tree)]
+#[derive(Drop)]
+pub struct Node {
+    left: Tree,
+    entry: Entry,
+    right: Tree,
+}
+
+impl Model for Tree {
+    ghost use Rattle.std.specs.Prelude.{List, length};
+    ghost use Rattle.chunk_index.specs.declared.entry.Entry.{Entry};
+
+    ghost Value = { List Entry };
+
+    ghost use Rattle.chunk_index.specs.TreeShape.{entries_under, IsTree};
+
+    ghost view = { λ a. entries_under a.root };
+
+    ghost invariant = { λ a. IsTree a.root a.len };
+
+    ghost size = { length };
+
+    ghost use Rattle.std.proofs.Common.{arith, length-append};
+
+    ghost size_decreases = { λ a h. Prim.grind (arith, length-append) };
+}
+
+impl Node {
+    /// A node that is in no tree.
+    pub fn spare(entry: Entry) -> Node {
+        Node {
+            left: Tree::new(),
+            entry,
+            right: Tree::new(),
+        }
+    }
+}
+
+impl Tree {
+    /// No entries.
+    pub fn new() -> Tree
+        ensures { result ≡ [] }
+    {
+        Tree { root: None, len: 0 }
+    }
+
+    /// How many entries there are.
+    pub fn len(&self) -> usize
+        ensures { result ≡ length self.now }
+    {
+        self.len
+    }
+
+    /// What stands left of the root, the root's entry, its node, and what stands right of it.
+    fn into_parts(self) -> Option<(Tree, Entry, Box<Node>, Tree)>
+        ensures parts { MatchOption result (self ≡ []) (λ p. self ≡ p.0 ++ p.1 ∷ p.3) }
+        ensures balanced { MatchOption result (self ≡ []) (λ p. AreBalanced (length p.0) (length p.3)) }
+        ensures fits { MatchOption result (self ≡ []) (λ p. length p.0 + length p.3 + 1 < 2 ^ 64) }
+    {
+        match self.root {
+            None => None,
+            Some(mut node) => {
+                let left = mem::replace(&mut node.left, Tree::new());
+                let right = mem::replace(&mut node.right, Tree::new());
+                let entry = node.entry;
+                Some((left, entry, node, right))
+            }
+        }
+    }
+
+    /// A tree of two whose sizes are balanced, and an entry between.
+    fn of_parts(left: Tree, entry: Entry, mut node: Box<Node>, right: Tree) -> Tree
+        requires balanced { AreBalanced (length left) (length right) }
+        requires fits { length left + length right + 1 < 2 ^ 64 }
+        ensures { result ≡ left ++ entry ∷ right }
+    {
+        let len = left.len + right.len + 1;
+        *node = Node { left, entry, right };
+        Tree {
+            root: Some(node),
+            len,
+        }
+    }
+
+    /// A tree of two whose sizes are nearly balanced, and an entry between.
+    fn join(left: Tree, entry: Entry, node: Box<Node>, right: Tree) -> Tree
+        requires nearly { AreNearlyBalanced (length left) (length right) }
+        requires fits { length left + length right + 1 < 2 ^ 64 }
+        ensures { result ≡ left ++ entry ∷ right }
+    {
+        if left.len / 3 > right.len {
+            Tree::from_heavy_left(left, entry, node, right)
+        } else if right.len / 3 > left.len {
+            Tree::from_heavy_right(left, entry, node, right)
+        } else {
+            Tree::of_parts(left, entry, node, right)
+        }
+    }
+
+    /// The same where the left one is too large.
+    fn from_heavy_left(left: Tree, entry: Entry, node: Box<Node>, right: Tree) -> Tree
+        requires heavy { 3 * length right + 2 < length left }
+        requires nearly { length left ≤ 3 * length right + 5 }
+        requires fits { length left + length right + 1 < 2 ^ 64 }
+        ensures { result ≡ left ++ entry ∷ right }
+    {
+        let Some((outer, root, spare, inner)) = left.into_parts() else {
+            unreachable!()
+        };
+        if (inner.len + 1) / 2 <= outer.len {
+            let right = Tree::of_parts(inner, entry, node, right);
+            return Tree::of_parts(outer, root, spare, right);
+        }
+        let Some((before, middle, top, behind)) = inner.into_parts() else {
+            unreachable!()
+        };
+        let left = Tree::of_parts(outer, root, spare, before);
+        let right = Tree::of_parts(behind, entry, node, right);
+        Tree::of_parts(left, middle, top, right)
+    }
+
+    /// The same where the right one is too large.
+    fn from_heavy_right(left: Tree, entry: Entry, node: Box<Node>, right: Tree) -> Tree
+        requires heavy { 3 * length left + 2 < length right }
+        requires nearly { length right ≤ 3 * length left + 5 }
+        requires fits { length left + length right + 1 < 2 ^ 64 }
+        ensures { result ≡ left ++ entry ∷ right }
+    {
+        let Some((inner, root, spare, outer)) = right.into_parts() else {
+            unreachable!()
+        };
+        if (inner.len + 1) / 2 <= outer.len {
+            let left = Tree::of_parts(left, entry, node, inner);
+            return Tree::of_parts(left, root, spare, outer);
+        }
+        let Some((before, middle, top, behind)) = inner.into_parts() else {
+            unreachable!()
+        };
+        let left = Tree::of_parts(left, entry, node, before);
+        let right = Tree::of_parts(behind, root, spare, outer);
+        Tree::of_parts(left, middle, top, right)
+    }
+
+    /// The first entry, its node, and the others.
+    fn split_first(self) -> Option<(Entry, Box<Node>, Tree)>
+        ensures { MatchOption result (self ≡ []) (λ p. self ≡ p.0 ∷ p.2) }
+    {
+        let (left, entry, node, right) = self.into_parts()?;
+        match left.split_first() {
+            None => Some((entry, node, right)),
+            Some((first, spare, left)) => Some((
+                first,
+                spare,
+                Tree::join(left, entry, node, right),
+            )),
+        }
+    }
+
+    /// All but the last entry, that entry and its node.
+    fn split_last(self) -> Option<(Tree, Entry, Box<Node>)>
+        ensures { MatchOption result (self ≡ []) (λ p. self ≡ p.0 ++ p.1 ∷ []) }
+    {
+        let (left, entry, node, right) = self.into_parts()?;
+        match right.split_last() {
+            None => Some((left, entry, node)),
+            Some((right, last, spare)) => Some((Tree::join(left, entry, node, right), last, spare)),
+        }
+    }
+
+    /// One behind the other, where their sizes are balanced.
+    fn append(left: Tree, right: Tree) -> Tree
+        requires balanced { AreBalanced (length left) (length right) }
+        requires fits { length left + length right < 2 ^ 64 }
+        ensures { result ≡ left ++ right }
+    {
+        if left.len > right.len {
+            match left.split_last() {
+                None => right,
+                Some((left, last, node)) => Tree::join(left, last, node, right),
+            }
+        } else {
+            match right.split_first() {
+                None => left,
+                Some((first, node, right)) => Tree::join(left, first, node, right),
+            }
+        }
+    }
+
+    /// The entry with that many before it.
+    pub fn get(&self, at: usize) -> Entry
+        requires { at < length self.now }
+        ensures { slice_get self.now at ≡ Some result }
+    {
+        match &self.root {
+            None => unreachable!(),
+            Some(node) => {
+                if at < node.left.len {
+                    node.left.get(at)
+                } else if at == node.left.len {
+                    node.entry
+                } else {
+                    node.right.get(at - node.left.len - 1)
+                }
+            }
+        }
+    }
+
+    /// Puts an entry in its place, with a node for it. No entry of its key is there.
+    pub fn insert(self, entry: Entry, node: Box<Node>) -> Tree
+        requires order { IsInOrder key_of self }
+        requires absent { has_key key_of self (key_of entry) ≡ false }
+        requires fits { length self + 1 < 2 ^ 64 }
+        ensures put { result ≡ put key_of self entry }
+        ensures longer { length result ≡ length self + 1 }
+    {
+        match self.into_parts() {
+            None => Tree::of_parts(Tree::new(), entry, node, Tree::new()),
+            Some((left, here, spare, right)) => match Key::of(&entry).cmp(&Key::of(&here)) {
+                Ordering::Less => Tree::join(left.insert(entry, node), here, spare, right),
+                Ordering::Equal => unreachable!(),
+                Ordering::Greater => Tree::join(left, here, spare, right.insert(entry, node)),
+            },
+        }
+    }
+
+    /// Takes the entry of a key out, and gives its node. The entry is there.
+    pub fn remove(self, key: &Key) -> (Tree, Box<Node>)
+        requires order { IsInOrder key_of self }
+        requires there { has_key key_of self key.now ≡ true }
+        ensures without { result.0 ≡ without key_of self key.now }
+        ensures shorter { length result.0 + 1 ≡ length self }
+    {
+        match self.into_parts() {
+            None => unreachable!(),
+            Some((left, here, spare, right)) => match key.cmp(&Key::of(&here)) {
+                Ordering::Less => {
+                    let (left, node) = left.remove(key);
+                    (Tree::join(left, here, spare, right), node)
+                }
+                Ordering::Equal => (Tree::append(left, right), spare),
+                Ordering::Greater => {
+                    let (right, node) = right.remove(key);
+                    (Tree::join(left, here, spare, right), node)
+                }
+            },
+        }
+    }
+}
