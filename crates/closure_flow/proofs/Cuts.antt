@@ -2,7 +2,7 @@
 use Rattle.std.proofs.Common.{◌≡◌, ℕ, zero, suc, ◌<◌, inl, inr, List, [], ◌∷◌, Bool, true, false, cond, ℤ, pos, negsuc, ◌-ℤ◌, ◌≤ℤ◌, ◌<ℤ◌, refl, sym, ap, ◌∙◌, arith}
 use Rattle.std.proofs.lemmas.Int.{ints}
 use Rattle.arithmetic.specs.Sums.{total}
-use Rattle.arithmetic.proofs.Sums.{total_same, total-sub, total_swap}
+use Rattle.arithmetic.proofs.Sums.{total_same, total-sub, total_swap, total-zero}
 use Rattle.closure_flow.specs.Flows.{Among, net, surplus}
 use Rattle.closure_flow.proofs.Lists.{total_along}
 use borrow.Author.Differences.{up}
@@ -17,11 +17,7 @@ total_along_le f g (x ∷ xs) e = omega (arith, ints, e x (inl refl), total_alon
 
 inside_total : (b : Bool) (f : ℕ → ℤ) (ts : List ℕ) → cond b (total f ts) (pos 0) ≡ total (λ s. cond b (f s) (pos 0)) ts
 inside_total true f ts = refl
-inside_total false f ts = sym (total_none ts)
-  where
-    total_none : (xs : List ℕ) → total {A = ℕ} (λ s. pos 0) xs ≡ pos 0
-    total_none [] = refl
-    total_none (x ∷ xs) = omega (arith, ints, total_none xs)
+inside_total false f ts = sym (total-zero ts)
 
 inside_sub : (b : Bool) (x y : ℤ) → cond b (x -ℤ y) (pos 0) ≡ cond b x (pos 0) -ℤ cond b y (pos 0)
 inside_sub true x y = refl
@@ -62,10 +58,6 @@ pair_none false true zero h k = refl
 pair_none true false (suc n) h k = absurd (let e : false ≡ true = h (omega arith) refl in cc)
 pair_none false true (suc n) h k = absurd (let e : false ≡ true = k (omega arith) refl in cc)
 
-zeros : (ts : List ℕ) → total {A = ℕ} (λ s. pos 0) ts ≡ pos 0
-zeros [] = refl
-zeros (x ∷ xs) = omega (arith, ints, zeros xs)
-
 -- no flow leaves a closed set on balance
 pub net_of_closed : (ts : List ℕ) (F : ℕ → ℕ → ℕ) (m : ℕ → Bool) → ((c p : ℕ) → Among c ts → Among p ts → 0 < F c p → m c ≡ true → m p ≡ true) → total (inside m (net ts F)) ts ≤ℤ pos 0
 net_of_closed ts F m closed =
@@ -75,8 +67,8 @@ net_of_closed ts F m closed =
     let inner : total (λ s. cond (m t) (pos (F t s)) (pos 0) -ℤ cond (m s) (pos (F t s)) (pos 0)) ts ≤ℤ total {A = ℕ} (λ s. pos 0) ts =
     total_along_le (λ s. pos 0) (λ s. cond (m t) (pos (F t s)) (pos 0) -ℤ cond (m s) (pos (F t s)) (pos 0)) ts
     (λ s hs. pair_low (m t) (m s) (F t s) (closed t s ht hs)) in
-    omega (arith, ints, inner, zeros ts)) in
-    omega (arith, ints, low, zeros ts, net_inside ts F m)
+    omega (arith, ints, inner, total-zero ts)) in
+    omega (arith, ints, low, total-zero ts, net_inside ts F m)
 
 -- none at all where none enters either
 pub net_of_sealed : (ts : List ℕ) (F : ℕ → ℕ → ℕ) (m : ℕ → Bool)
@@ -89,8 +81,8 @@ net_of_sealed ts F m closed sealed =
     (λ t ht.
     total_along (λ s. pos 0) (λ s. cond (m t) (pos (F t s)) (pos 0) -ℤ cond (m s) (pos (F t s)) (pos 0)) ts
     (λ s hs. pair_none (m t) (m s) (F t s) (closed t s ht hs) (sealed t s ht hs))
-    ∙ zeros ts)
-    ∙ zeros ts
+    ∙ total-zero ts)
+    ∙ total-zero ts
 
 -- the rests of a set are at most all that is above 0, and just that where the set has all of it and nothing below 0
 pub rests_low : (rest : ℕ → ℤ) (m : ℕ → Bool) (ts : List ℕ) → total (inside m rest) ts ≤ℤ pos (surplus rest ts)

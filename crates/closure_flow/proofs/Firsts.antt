@@ -4,6 +4,8 @@ use Rattle.std.proofs.lemmas.Bool.{cases_eq}
 use Rattle.std.proofs.lemmas.Int.{ints}
 use Rattle.std.specs.Ordering.{nat_cmp}
 use Rattle.std.specs.FinSet as set
+use Rattle.bitset.specs.Members.{from_remove}
+use Rattle.lists.proofs.Cases.{clash}
 use Rattle.lists.specs.Rising.{IsRising}
 use Rattle.bitset.specs.Places.{IsWithin, places}
 use Rattle.bitset.specs.Sets.{IsRising-places}
@@ -12,7 +14,6 @@ use Rattle.closure_flow.specs.Flows.{Among, net, only_at, surplus}
 use Rattle.closure_flow.specs.Networks.{Arranges, Gives, Hands, IsFirst, Improves, Keeps}
 use Rattle.closure_flow.proofs.Lists.{net_bump, only_at-else, only_at-here, surplus_bump, up_within}
 use Rattle.closure_flow.proofs.Paths.{among_places, places_among}
-use Rattle.closure_flow.proofs.Sets.{clash, from_remove}
 use borrow.Author.Differences.{up, down}
 
 -- ---- what is above 0

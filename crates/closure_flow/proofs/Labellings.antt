@@ -1,11 +1,12 @@
 -- What sending along a shortest path does to a labelling: it stays one, no pair of places is new where it rises, and a
 -- pair or a place that was unsettled is used up.
 use Rattle.std.proofs.Common.{◌≡◌, ℕ, zero, suc, ◌+◌, ◌<◌, ◌≤◌, ◌⊎◌, inl, inr, List, length, Bool, true, false, ◌&&◌, ◌||◌, nat_eq, nat_lt, Option, Some, None, ℤ, pos, negsuc, ◌<ℤ◌, refl, sym, ap, ◌∙◌, subst, arith, eq-eqb, ne_eqb}
-use Rattle.std.proofs.lemmas.Bool.{cases_eq, cases_lt, lt-ltb, ltb-true}
+use Rattle.std.proofs.lemmas.Bool.{cases_eq, cases_lt, lt-ltb, ltb-true, false_from_ne_true}
 use Rattle.std.proofs.lemmas.Int.{ints}
 use Rattle.std.specs.List.{count_by}
 use Rattle.std.specs.Ordering.{nat_cmp}
 use Rattle.std.specs.FinSet as set
+use Rattle.lists.proofs.Cases.{clash}
 use Rattle.bitset.specs.Places.{IsWithin, places}
 use Rattle.closure_flow.specs.declared.queue.Entry.{Entry}
 use Rattle.closure_flow.specs.Closures.{parents_at}
@@ -15,7 +16,6 @@ use Rattle.closure_flow.specs.Queues.{place_at, from_at, IsSearch}
 use Rattle.closure_flow.proofs.Counts.{count_mono, count_strict, sum_mono, sum_strict}
 use Rattle.closure_flow.proofs.Levels.{back_below}
 use Rattle.closure_flow.proofs.Paths.{among_places, places_among}
-use Rattle.closure_flow.proofs.Sets.{clash, not_true}
 
 -- ---- tests
 both_of : (a b : Bool) → (a && b) ≡ true → (a ≡ true) × (b ≡ true)
@@ -150,7 +150,7 @@ less_uphill n parents within F G r s es at label u v a climbs step mu mv out som
     let hu = among_places n within u (a.below u mu) mu in
     let hv = among_places n within v (a.below v mv) mv in
     let gone : is_uphill parents G label u v ≡ false =
-    not_true _ (λ e. elim (leads_of parents G label u v e).0 as (λ _. ⊥) [ inl p ↦ clash _ p out | inr f ↦ omega (arith, f, none) ]) in
+    false_from_ne_true _ (λ e. elim (leads_of parents G label u v e).0 as (λ _. ⊥) [ inl p ↦ clash _ p out | inr f ↦ omega (arith, f, none) ]) in
     sum_strict (λ u. count_by (is_uphill parents G label u) (places n within)) (λ u. count_by (is_uphill parents F label u) (places n within)) (places n within) u
     (λ x hx. count_mono (is_uphill parents G label x) (is_uphill parents F label x) (places n within) (λ y hy. still_uphill n parents within F G r s es at label a climbs x y hx hy))
     hu

@@ -1,15 +1,15 @@
 -- How many steps a search took to each entry. What it found first is not farther than what it found later, so the path
 -- to the first entry that lacks something is a shortest one.
 use Rattle.std.proofs.Common.{◌≡◌, ℕ, zero, suc, ◌+◌, ◌<◌, ◌≤◌, ◌⊎◌, inl, inr, List, [], length, Bool, true, false, cond, min, nat_lt, Option, Some, None, ℤ, pos, ◌<ℤ◌, ◌≤ℤ◌, refl, sym, ap, ◌∙◌, subst, arith}
-use Rattle.std.proofs.lemmas.Bool.{cases_lt, lt-ltb, le-ltb}
+use Rattle.std.proofs.lemmas.Bool.{cases_lt, lt-ltb, le-ltb, cases_Bool}
 use Rattle.std.proofs.lemmas.Int.{ints}
 use Rattle.std.specs.Ordering.{nat_cmp}
 use Rattle.std.specs.FinSet as set
+use Rattle.lists.proofs.Cases.{clash}
 use Rattle.closure_flow.specs.declared.queue.Entry.{Entry}
 use Rattle.closure_flow.specs.Queues.{place_at, from_at, Lists, Grows, IsBeyond, IsSearch}
 use Rattle.closure_flow.specs.Labels.{IsShortest, Leads, back, before_of}
 use Rattle.closure_flow.proofs.Searches.{Searching, new_or_old}
-use Rattle.closure_flow.proofs.Sets.{clash, test_of}
 
 -- the entries of a search, of which some were taken, with how many steps it took to each
 pub record Levels (parents : List (set.FinSet nat_cmp)) (within : set.FinSet nat_cmp) (flow : ℕ → ℕ → ℕ) (rest : ℕ → ℤ) (es : List Entry) (taken : ℕ) : Type 0 where
@@ -139,11 +139,11 @@ shortest n parents within flow rest es k seen s lv hk =
         starts = λ t m o.
             (let f = s.lists.only t (s.swept.starts t m o) in
             omega (arith, here f.0 t f.1 f.2, lv.over f.0 f.1 (subst (λ (x : ℕ). pos 0 <ℤ rest x) (sym f.2) o)));
-        steps = λ u v mu mv leads. elim (test_of (set.contains seen u)) as (λ _. label v ≤ label u + 1) [
+        steps = λ u v mu mv leads. elim (cases_Bool (set.contains seen u)) as (λ _. label v ≤ label u + 1) [
           | inl m ↦ let f = s.lists.only u m in from f.0 u v f.1 f.2 mv leads (cases_lt (lv.level f.0) (lv.level k))
           | inr out ↦ omega (arith, most v, unseen u out)
         ];
-        ends = λ t m low. elim (test_of (set.contains seen t)) as (λ _. label (place_at es k) ≤ label t) [
+        ends = λ t m low. elim (cases_Bool (set.contains seen t)) as (λ _. label (place_at es k) ≤ label t) [
           | inl there ↦ let f = s.lists.only t there in high f.0 t f.1 f.2 low (cases_lt (lv.level f.0) (lv.level k))
           | inr out ↦ omega (arith, most (place_at es k), unseen t out)
         ];
@@ -163,10 +163,10 @@ shortest n parents within flow rest es k seen s lv hk =
     label_by t (inr out) = lv.level k
 
     label : ℕ → ℕ
-    label t = label_by t (test_of (set.contains seen t))
+    label t = label_by t (cases_Bool (set.contains seen t))
 
     here : (i t : ℕ) → i < length es → place_at es i ≡ t → label t ≡ min (lv.level i) (lv.level k)
-    here i t h e = by (test_of (set.contains seen t))
+    here i t h e = by (cases_Bool (set.contains seen t))
       where
         by : (c : (set.contains seen t ≡ true) ⊎ (set.contains seen t ≡ false)) → label_by t c ≡ min (lv.level i) (lv.level k)
         by (inl m) =
@@ -175,14 +175,14 @@ shortest n parents within flow rest es k seen s lv hk =
         by (inr out) = clash _ (subst (λ (x : ℕ). set.contains seen x ≡ true) e (s.lists.each i h)) out
 
     unseen : (t : ℕ) → set.contains seen t ≡ false → label t ≡ lv.level k
-    unseen t out = by (test_of (set.contains seen t))
+    unseen t out = by (cases_Bool (set.contains seen t))
       where
         by : (c : (set.contains seen t ≡ true) ⊎ (set.contains seen t ≡ false)) → label_by t c ≡ lv.level k
         by (inl m) = clash _ m out
         by (inr out) = refl
 
     most : (t : ℕ) → label t ≤ lv.level k
-    most t = by (test_of (set.contains seen t))
+    most t = by (cases_Bool (set.contains seen t))
       where
         by : (c : (set.contains seen t ≡ true) ⊎ (set.contains seen t ≡ false)) → label_by t c ≤ lv.level k
         by (inl m) = omega arith

@@ -10,7 +10,6 @@ pub mod Levels
 pub mod Loads
 pub mod Marks
 pub mod Networks
-pub mod Sets
 pub mod Searches
 pub mod Shown
 pub mod Steadiness

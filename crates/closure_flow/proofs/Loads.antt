@@ -3,13 +3,14 @@ use Rattle.std.proofs.Common.{◌≡◌, ℕ, ◌+◌, ◌<◌, ◌⊎◌, inl, 
 use Rattle.std.proofs.lemmas.Bool.{cases_lt}
 use Rattle.std.specs.Ordering.{nat_cmp}
 use Rattle.std.specs.FinSet as fin
+use Rattle.bitset.specs.Members.{from_insert, insert_here, same_by_members, to_insert}
+use Rattle.lists.proofs.Cases.{clash}
 use Rattle.bitset.specs.Sets.{contains-empty}
 use Rattle.closure_flow.specs.declared.queue.Entry.{Entry}
 use Rattle.closure_flow.specs.Closures.{parents_at, weight_at}
 use Rattle.closure_flow.specs.Networks.{IsSized, sent}
 use Rattle.closure_flow.specs.Queues.{place_at, Lists}
 use Rattle.closure_flow.proofs.Networks.{sent_no}
-use Rattle.closure_flow.proofs.Sets.{clash, from_insert, insert_here, same_by_members, to_insert}
 
 -- the places of the entries taken are those begun: their weights are left there, and nothing flows to them
 pub record Loads (weights : List ℤ) (begun : fin.FinSet nat_cmp) (into : List (fin.FinSet nat_cmp)) (rest : List ℤ) (es : List Entry) (taken : ℕ) : Type 0 where

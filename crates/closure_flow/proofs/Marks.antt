@@ -4,10 +4,10 @@ use Rattle.std.proofs.Math.ListN.{length-set}
 use Rattle.std.proofs.lemmas.Bool.{cases_eq}
 use Rattle.std.specs.Ordering.{nat_cmp}
 use Rattle.std.specs.FinSet as fin
+use Rattle.lists.proofs.Cases.{clash}
 use Rattle.bitset.specs.Sets.{contains-empty}
 use Rattle.closure_flow.specs.Closures.{weight_at}
 use Rattle.closure_flow.specs.Networks.{AreMarked}
-use Rattle.closure_flow.proofs.Sets.{clash}
 
 -- a place was marked by what is left there now, and the others as before
 pub record Marks (marked new : fin.FinSet nat_cmp) (place : ℕ) (z : ℤ) (P : ℤ → Type 0) : Type 0 where

@@ -3,7 +3,7 @@ use Rattle.std.proofs.Common.{◌≡◌, ℕ, ◌+◌, ◌*◌, ◌^◌, ◌<◌
 use Rattle.std.proofs.Math.Nat.{mul-le-mul, mul-le-mul_right}
 use prog.Memory.{up}
 use Rattle.std.proofs.Math.ListN.{length-set}
-use Rattle.std.proofs.lemmas.Bool.{cases_eq, cases_lt}
+use Rattle.std.proofs.lemmas.Bool.{cases_eq, cases_lt, cases_Bool}
 use Rattle.std.proofs.lemmas.List.{get_or-replicate, get_or_default}
 use Rattle.std.specs.Ordering.{nat_cmp}
 use Rattle.std.specs.FinSet as fin
@@ -170,14 +170,10 @@ senders_send n into amounts p c lean h m =
 
 pub send_senders : (n : ℕ) (into : List (fin.FinSet nat_cmp)) (amounts : List ℕ) (p c : ℕ) → 0 < sent n into amounts c p → fin.contains (parents_at into p) c ≡ true
 send_senders n into amounts p c h =
-    elim (cases (fin.contains (parents_at into p) c)) as (λ _. fin.contains (parents_at into p) c ≡ true) [
+    elim (cases_Bool (fin.contains (parents_at into p) c)) as (λ _. fin.contains (parents_at into p) c ≡ true) [
       | inl m ↦ m
       | inr m ↦ absurd (omega (arith, h, sent_no n into amounts c p m))
     ]
-  where
-    cases : (b : Bool) → (b ≡ true) ⊎ (b ≡ false)
-    cases true = inl refl
-    cases false = inr refl
 
 pub read_parents : (parents : List (fin.FinSet nat_cmp)) (p q : ℕ) (s : fin.FinSet nat_cmp) → p < length parents → s ≡ get_or parents p s → fin.contains (parents_at parents p) q ≡ fin.contains s q
 read_parents parents p q s h e = ap (λ (f : fin.FinSet nat_cmp). fin.contains f q) (get_or_default parents p fin.empty s h ∙ sym e)
@@ -269,30 +265,22 @@ not_received n within into amounts c p m = ap (λ (b : Bool). cond b (sent n int
 
 pub not_sent : (n : ℕ) (within : fin.FinSet nat_cmp) (into : List (fin.FinSet nat_cmp)) (amounts : List ℕ) (c p : ℕ) → IsLean n into amounts → IsWithin n within → n ≤ c → cond (fin.contains within p) (sent n into amounts c p) 0 ≡ 0
 not_sent n within into amounts c p lean below h =
-    elim (cases (fin.contains within p)) as (λ _. cond (fin.contains within p) (sent n into amounts c p) 0 ≡ 0) [
+    elim (cases_Bool (fin.contains within p)) as (λ _. cond (fin.contains within p) (sent n into amounts c p) 0 ≡ 0) [
       | inl m ↦
           ap (λ (b : Bool). cond b (sent n into amounts c p) 0) m
-          ∙ elim (cases (fin.contains (parents_at into p) c)) as (λ _. sent n into amounts c p ≡ 0) [
+          ∙ elim (cases_Bool (fin.contains (parents_at into p) c)) as (λ _. sent n into amounts c p ≡ 0) [
             | inl k ↦ absurd (omega (arith, h, lean.child c p (below p m) k))
             | inr k ↦ sent_no n into amounts c p k
           ]
       | inr m ↦ not_received n within into amounts c p m
     ]
-  where
-    cases : (b : Bool) → (b ≡ true) ⊎ (b ≡ false)
-    cases true = inl refl
-    cases false = inr refl
 
 pub shown_within : (n : ℕ) (within : fin.FinSet nat_cmp) (into : List (fin.FinSet nat_cmp)) (amounts : List ℕ) (c p : ℕ) → fin.contains within p ≡ true → cond (fin.contains within p) (sent n into amounts c p) 0 ≡ sent n into amounts c p
 shown_within n within into amounts c p m = ap (λ (b : Bool). cond b (sent n into amounts c p) 0) m
 
 pub shown_only : (n : ℕ) (within : fin.FinSet nat_cmp) (into : List (fin.FinSet nat_cmp)) (amounts : List ℕ) (c p : ℕ) → IsLean n into amounts → IsWithin n within → 0 < cond (fin.contains within p) (sent n into amounts c p) 0 → (c < n) × (fin.contains within p ≡ true)
 shown_only n within into amounts c p lean below h =
-    elim (cases (fin.contains within p)) as (λ _. (c < n) × (fin.contains within p ≡ true)) [
+    elim (cases_Bool (fin.contains within p)) as (λ _. (c < n) × (fin.contains within p ≡ true)) [
       | inl m ↦ (lean.child c p (below p m) (send_senders n into amounts p c (subst (λ (x : ℕ). 0 < x) (shown_within n within into amounts c p m) h)), m)
       | inr m ↦ absurd (omega (arith, h, not_received n within into amounts c p m))
     ]
-  where
-    cases : (b : Bool) → (b ≡ true) ⊎ (b ≡ false)
-    cases true = inl refl
-    cases false = inr refl

@@ -6,7 +6,7 @@ use Rattle.std.specs.List.{count_by, range_with_len, sum_by}
 use Rattle.std.specs.Ordering.{nat_cmp}
 use Rattle.std.specs.FinSet as set
 use Rattle.arithmetic.specs.Sums.{total}
-use Rattle.arithmetic.proofs.Sums.{total-add, total-filter_cond, total_same}
+use Rattle.arithmetic.proofs.Sums.{total-add, total-filter_cond, total_same, total-zero}
 use Rattle.bitset.specs.Places.{IsLeast, IsWithin, places}
 use Rattle.bitset.specs.Sets.{len-places, places-empty}
 use Rattle.closure_flow.proofs.Queues.{fewer}
@@ -151,11 +151,7 @@ balanced_flow n weights parents within flow shown rest e sum none same only =
 pub net_none : (ts : List ℕ) (flow : ℕ → ℕ → ℕ) (t : ℕ) → Among t ts → ((c p : ℕ) → Among p ts → flow c p ≡ 0) → net ts flow t ≡ pos 0
 unfolding net
 net_none ts flow t h none =
-    total_along (λ s. pos 0) (λ s. pos (flow t s) -ℤ pos (flow s t)) ts (λ s hs. omega (arith, ints, none t s hs, none s t h)) ∙ zeros ts
-  where
-    zeros : (xs : List ℕ) → total {A = ℕ} (λ s. pos 0) xs ≡ pos 0
-    zeros [] = refl
-    zeros (x ∷ xs) = omega (arith, ints, zeros xs)
+    total_along (λ s. pos 0) (λ s. pos (flow t s) -ℤ pos (flow s t)) ts (λ s hs. omega (arith, ints, none t s hs, none s t h)) ∙ total-zero ts
 
 pub surplus_small : (weights rest : ℕ → ℤ) (ts : List ℕ) → ((t : ℕ) → Among t ts → rest t ≡ weights t) → surplus rest ts ≤ sum_by (λ t. unsigned_abs (weights t)) ts
 unfolding surplus

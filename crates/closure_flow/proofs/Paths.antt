@@ -5,6 +5,7 @@ use Rattle.std.proofs.lemmas.Int.{ints}
 use Rattle.std.specs.List.{filter, range_with_len}
 use Rattle.std.specs.Ordering.{nat_cmp}
 use Rattle.std.specs.FinSet as set
+use Rattle.lists.proofs.Cases.{clash}
 use Rattle.bitset.specs.Places.{IsWithin, places}
 use Rattle.bitset.specs.Sets.{IsRising-places}
 use Rattle.closure_flow.specs.declared.queue.Entry.{Entry}
@@ -12,7 +13,6 @@ use Rattle.closure_flow.specs.Closures.{parents_at}
 use Rattle.closure_flow.specs.Flows.{Among, net, only_at}
 use Rattle.closure_flow.specs.Networks.{Fits, IsAllowed, LetsThrough, PathLets, Pushes, Sends}
 use Rattle.closure_flow.specs.Queues.{place_at, from_at, IsSearch}
-use Rattle.closure_flow.proofs.Sets.{clash}
 use Rattle.closure_flow.proofs.Lists.{net_bump}
 
 -- ---- the places of a set as a list

@@ -4,11 +4,12 @@ use Rattle.std.proofs.lemmas.Bool.{cases_eq, cases_lt}
 use Rattle.std.proofs.lemmas.List.{get_or_push, get_or_append_left}
 use Rattle.std.specs.Ordering.{nat_cmp}
 use Rattle.std.specs.FinSet as set
+use Rattle.lists.proofs.Cases.{clash}
+use Rattle.bitset.specs.Members.{insert_here, insert_other, from_insert, to_insert, from_remove, remove_other, remove_here, len_insert, room_for}
 use Rattle.bitset.specs.Places.{IsWithin}
 use Rattle.bitset.specs.Sets.{contains-empty, same_members}
 use Rattle.closure_flow.specs.declared.queue.Entry.{Entry}
 use Rattle.closure_flow.specs.Queues.{place_at, from_at, Lists, Grows}
-use Rattle.closure_flow.proofs.Sets.{insert_here, insert_other, from_insert, to_insert, from_remove, remove_other, remove_here, len_insert, room_for, clash}
 
 -- ---- one entry more
 pub length_push : (es : List Entry) (e : Entry) → length (es ++ e ∷ []) ≡ length es + 1

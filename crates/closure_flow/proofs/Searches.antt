@@ -1,16 +1,17 @@
 -- A search step by step: the start, one place taken, the end.
 use Rattle.std.proofs.Common.{◌≡◌, ℕ, ◌+◌, ◌<◌, ◌≤◌, ◌⊎◌, inl, inr, List, [], length, true, false, Option, Some, None, ℤ, pos, negsuc, ◌<ℤ◌, ◌≤ℤ◌, refl, sym, ap, ◌∙◌, subst, arith}
-use Rattle.std.proofs.lemmas.Bool.{cases_lt}
+use Rattle.std.proofs.lemmas.Bool.{cases_lt, cases_Bool}
 use Rattle.std.proofs.lemmas.Int.{ints}
 use Rattle.std.specs.Ordering.{nat_cmp}
 use Rattle.std.specs.FinSet as set
+use Rattle.bitset.specs.Members.{len_bound, from_meet, to_meet, from_union, to_union_left, to_union_right, from_minus, to_minus}
+use Rattle.lists.proofs.Cases.{clash}
 use Rattle.bitset.specs.Places.{IsWithin}
 use Rattle.bitset.specs.Sets.{contains-empty}
 use Rattle.closure_flow.specs.declared.queue.Entry.{Entry}
 use Rattle.closure_flow.specs.Closures.{parents_at}
 use Rattle.closure_flow.specs.Networks.{IsAllowed}
 use Rattle.closure_flow.specs.Queues.{place_at, from_at, Lists, Grows, IsBeyond, IsSearch, IsSwept, IsSealed}
-use Rattle.closure_flow.proofs.Sets.{clash, len_within, test_of, from_meet, to_meet, from_union, to_union_left, to_union_right, from_minus, to_minus}
 
 -- what holds of a search of which some entries were taken
 pub record Searching (n : ℕ) (parents : List (set.FinSet nat_cmp)) (within : set.FinSet nat_cmp) (flow : ℕ → ℕ → ℕ) (rest : ℕ → ℤ) (es : List Entry) (taken : ℕ) (seen : set.FinSet nat_cmp) : Type 0 where
@@ -161,7 +162,7 @@ searching_end n parents within flow rest es k seen s all =
 -- an entry that isn't taken yet leaves work
 pub some_left : (n : ℕ) (parents : List (set.FinSet nat_cmp)) (within : set.FinSet nat_cmp) (flow : ℕ → ℕ → ℕ) (rest : ℕ → ℤ) (es : List Entry) (k : ℕ) (seen : set.FinSet nat_cmp)
     → Searching n parents within flow rest es k seen → k < length es → k < n
-some_left n parents within flow rest es k seen s h = omega (arith, h, s.lists.count, len_within n seen s.below)
+some_left n parents within flow rest es k seen s h = omega (arith, h, s.lists.count, len_bound n seen s.below)
 
 -- what isn't below 0
 pub not_short : (z : ℤ) → (z <ℤ pos 0 → ⊥) → pos 0 ≤ℤ z
@@ -204,7 +205,7 @@ beyond_is n parents within flow seen up down met all next t allowed here ups sen
     ]
 
     new : (u : ℕ) → set.contains all u ≡ true → (set.contains seen u ≡ true) ⊎ (set.contains next u ≡ true)
-    new u m = elim (test_of (set.contains seen u)) as (λ _. (set.contains seen u ≡ true) ⊎ (set.contains next u ≡ true)) [
+    new u m = elim (cases_Bool (set.contains seen u)) as (λ _. (set.contains seen u ≡ true) ⊎ (set.contains next u ≡ true)) [
       | inl yes_ ↦ inl yes_
       | inr fresh ↦ inr (subst (λ s. set.contains s u ≡ true) (sym en) (to_minus all seen u m fresh))
     ]

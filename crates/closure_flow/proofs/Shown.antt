@@ -1,6 +1,6 @@
 -- What the rows of a flow say of a child and a parent.
 use Rattle.std.proofs.Common.{◌≡◌, ℕ, ◌≤◌, inl, inr, List, [], map, get_or, sym, ap, ◌∙◌, arith}
-use Rattle.std.proofs.lemmas.Bool.{cases_lt}
+use Rattle.std.proofs.lemmas.Bool.{cases_lt, false_from_ne_true}
 use Rattle.std.proofs.lemmas.List.{get_or_past}
 use Rattle.std.proofs.lemmas.List.FromFn.{get_or-map-range_with_len, length-map-range_with_len}
 use Rattle.std.specs.List.{range_with_len}
@@ -10,7 +10,6 @@ use Rattle.bitset.specs.Places.{IsWithin}
 use Rattle.closure_flow.specs.Networks.{IsLean}
 use Rattle.closure_flow.specs.Scratches.{flow_of, rows, shown}
 use Rattle.closure_flow.proofs.Networks.{not_received, not_sent}
-use Rattle.closure_flow.proofs.Sets.{not_true}
 
 -- a list read past its end, or where it is 0
 row_is : (n : ℕ) (f : ℕ → ℕ) (p : ℕ) → (n ≤ p → f p ≡ 0) → get_or (map f (range_with_len 0 n)) p 0 ≡ f p
@@ -32,4 +31,4 @@ flow_of-rows n f child parent c p = elim (cases_lt c n) as (λ _. flow_of (rows 
 pub shown_is : (n : ℕ) (within : set.FinSet nat_cmp) (into : List (set.FinSet nat_cmp)) (amounts : List ℕ) → IsLean n into amounts → IsWithin n within → (c p : ℕ) → flow_of (rows n (shown n within into amounts)) c p ≡ shown n within into amounts c p
 shown_is n within into amounts lean below =
     flow_of-rows n (shown n within into amounts) (λ c p past. not_sent n within into amounts c p lean below past)
-    (λ c p past. not_received n within into amounts c p (not_true _ (λ m. omega (arith, past, below p m))))
+    (λ c p past. not_received n within into amounts c p (false_from_ne_true _ (λ m. omega (arith, past, below p m))))

@@ -1,10 +1,10 @@
 use Rattle.std.proofs.Common.{◌≡◌, ℕ, ◌*◌, ◌-◌, ◌<◌, ◌∙◌, refl, sym, ap, subst, Bool, true, length, arith}
 use Rattle.std.specs.FinSet as set
+use Rattle.bitset.specs.Members.{remove_here}
 use Rattle.closure_flow.specs.Closures.{weight_at}
 use Rattle.closure_flow.specs.Networks.{Arranges, IsFirst, sent}
 use Rattle.closure_flow.proofs.Firsts.{arranges_more, arranges_none, first_improves, first_start, first_turn}
 use Rattle.closure_flow.proofs.Networks.{network_fits, words_fit}
-use Rattle.closure_flow.proofs.Sets.{remove_here}
 use Rattle.closure_flow.proofs.first.first_flow.Goals as goal
 
 pub loop-at-init : goal.loop-at-init

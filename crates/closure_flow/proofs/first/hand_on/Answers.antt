@@ -2,11 +2,11 @@ use Rattle.std.proofs.Common.{◌≡◌, ℕ, ◌*◌, ◌≤◌, ap, ◌∙◌,
 use Rattle.std.proofs.lemmas.Int.{ints}
 use Rattle.std.specs.Int.{w128}
 use Rattle.std.specs.FinSet as set
+use Rattle.lists.proofs.Cases.{clash}
 use Rattle.closure_flow.specs.Closures.{weight_at}
 use Rattle.closure_flow.specs.Networks.{sent}
 use Rattle.closure_flow.proofs.Firsts.{arranges_hand, room_for_left}
 use Rattle.closure_flow.proofs.Networks.{network_fits, read_rest}
-use Rattle.closure_flow.proofs.Sets.{clash}
 use Rattle.closure_flow.proofs.Steadiness.{read_left}
 use Rattle.closure_flow.proofs.first.hand_on.Goals as goal
 use borrow.Author.Differences.{up}

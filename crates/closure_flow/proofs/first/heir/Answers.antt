@@ -1,8 +1,8 @@
 use Rattle.std.proofs.Common.{◌≡◌, ◌∙◌, subst, true}
 use Rattle.std.specs.FinSet as set
+use Rattle.bitset.specs.Members.{from_meet, from_remove}
 use Rattle.closure_flow.proofs.Networks.{read_parents}
 use Rattle.closure_flow.proofs.Queues.{fewer}
-use Rattle.closure_flow.proofs.Sets.{from_meet, from_remove}
 use Rattle.closure_flow.proofs.first.heir.Goals as goal
 
 pub loop-parent-init : goal.loop-parent-init

@@ -1,12 +1,12 @@
 use Rattle.std.proofs.Common.{◌≡◌, ℕ, ◌*◌, ◌∙◌, refl, sym, ap, subst, true, arith}
 use Rattle.std.proofs.lemmas.Int.{ints}
 use Rattle.std.specs.FinSet as set
+use Rattle.bitset.specs.Members.{from_meet, from_remove}
 use Rattle.closure_flow.specs.Closures.{weight_at}
 use Rattle.closure_flow.specs.Networks.{Arranges, sent}
 use Rattle.closure_flow.proofs.Firsts.{arranges_give, arranges_more, arranges_none}
 use Rattle.closure_flow.proofs.Networks.{network_fits, read_parents}
 use Rattle.closure_flow.proofs.Queues.{fewer}
-use Rattle.closure_flow.proofs.Sets.{from_meet, from_remove}
 use Rattle.closure_flow.proofs.first.settle.Goals as goal
 
 pub loop-parent-init : goal.loop-parent-init

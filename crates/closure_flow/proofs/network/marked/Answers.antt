@@ -1,6 +1,6 @@
 use Rattle.std.proofs.Common.{ap, ◌∙◌}
 use Rattle.std.specs.FinSet as set
-use Rattle.closure_flow.proofs.Sets.{remove_other, remove_here, insert_other, insert_here}
+use Rattle.bitset.specs.Members.{remove_other, remove_here, insert_other, insert_here}
 use Rattle.closure_flow.proofs.network.marked.Goals as goal
 
 pub returns-then-amount-eq0-clause-other : goal.returns-then-amount-eq0-clause-other

@@ -1,6 +1,7 @@
 use Rattle.std.proofs.Common.{ap, ◌∙◌}
 use Rattle.std.specs.FinSet as set
-use Rattle.closure_flow.proofs.Sets.{clash, remove_other, remove_here, insert_other, insert_here}
+use Rattle.bitset.specs.Members.{remove_other, remove_here, insert_other, insert_here}
+use Rattle.lists.proofs.Cases.{clash}
 use Rattle.closure_flow.proofs.network.marked_short.Goals as goal
 
 pub returns-then-left-lt0-clause-other : goal.returns-then-left-lt0-clause-other

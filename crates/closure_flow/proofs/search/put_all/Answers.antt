@@ -1,7 +1,7 @@
 use Rattle.std.proofs.Common.{◌*◌, inl, inr, arith, ◌∙◌, ap, refl}
 use Rattle.std.specs.FinSet as set
+use Rattle.lists.proofs.Cases.{clash}
 use Rattle.bitset.specs.Sets.{contains-empty}
-use Rattle.closure_flow.proofs.Sets.{clash}
 use Rattle.closure_flow.proofs.Queues.{putting_room, putting_push, fewer}
 use Rattle.closure_flow.proofs.search.put_all.Goals as goal
 

@@ -1,12 +1,12 @@
 use Rattle.std.proofs.Common.{length, rules, sym, ◌≡◌, ℕ, ◌*◌, ◌+◌, ◌-◌, ◌∙◌, ap, subst, Bool, true, false, arith, pos, ◌≤ℤ◌, List, Some}
 use Rattle.std.specs.FinSet as set
+use Rattle.lists.proofs.Cases.{clash}
 use Rattle.bitset.specs.Sets.{contains-empty}
 use Rattle.closure_flow.specs.Closures.{weight_at}
 use Rattle.closure_flow.specs.Labels.{IsShortest}
 use Rattle.closure_flow.specs.Queues.{Grows, IsBeyond}
 use Rattle.closure_flow.specs.Networks.{sent}
 use Rattle.closure_flow.specs.declared.queue.Entry.{Entry}
-use Rattle.closure_flow.proofs.Sets.{clash}
 use Rattle.closure_flow.proofs.Networks.{words_fit}
 use Rattle.closure_flow.proofs.Queues.{lists_none}
 use Rattle.closure_flow.proofs.Budgets.{len_mono}

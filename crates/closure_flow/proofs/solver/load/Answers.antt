@@ -2,13 +2,14 @@ use Rattle.std.proofs.Common.{◌≡◌, ℕ, ◌*◌, ◌+◌, ◌<◌, ◌∙�
 use Rattle.std.proofs.lemmas.Int.{to_z-of_z}
 use Rattle.std.specs.Int.{w128}
 use Rattle.std.specs.FinSet as set
+use Rattle.bitset.specs.Members.{same_by_members}
+use Rattle.lists.proofs.Cases.{clash}
 use Rattle.bitset.specs.Sets.{contains-empty}
 use Rattle.closure_flow.specs.declared.queue.Entry.{Entry}
 use Rattle.closure_flow.specs.Closures.{weight_at}
 use Rattle.closure_flow.specs.Queues.{Lists}
 use Rattle.closure_flow.proofs.Networks.{words_fit}
 use Rattle.closure_flow.proofs.Queues.{lists_none}
-use Rattle.closure_flow.proofs.Sets.{clash, same_by_members}
 use Rattle.closure_flow.proofs.Loads.{Loads, loads_none, loads_step, loads_all, loads_whole}
 use Rattle.closure_flow.proofs.solver.load.Goals as goal
 

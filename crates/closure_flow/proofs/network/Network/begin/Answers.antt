@@ -1,9 +1,9 @@
 use Rattle.std.proofs.Common.{◌≡◌, ℕ, ◌*◌, ◌<◌, sym, ap, ◌∙◌, subst, inl, inr, true, length}
 use Rattle.std.specs.FinSet as fin
+use Rattle.bitset.specs.Members.{from_insert, insert_here, insert_other}
 use Rattle.closure_flow.specs.Networks.{IsOver, IsShort}
 use Rattle.closure_flow.proofs.Marks.{marked_set}
 use Rattle.closure_flow.proofs.Networks.{sized_begin, lean_begin}
-use Rattle.closure_flow.proofs.Sets.{from_insert, insert_here, insert_other}
 use Rattle.closure_flow.proofs.network.Network.begin.Goals as goal
 
 pub invariant_of-self : goal.invariant_of-self

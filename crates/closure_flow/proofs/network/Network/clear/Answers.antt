@@ -1,8 +1,8 @@
 use Rattle.std.proofs.Common.{ap, ◌∙◌}
 use Rattle.std.specs.FinSet as set
+use Rattle.lists.proofs.Cases.{clash}
 use Rattle.bitset.specs.Sets.{contains-empty}
 use Rattle.closure_flow.proofs.Marks.{marked_none}
-use Rattle.closure_flow.proofs.Sets.{clash}
 use Rattle.closure_flow.proofs.network.Network.clear.Goals as goal
 
 pub invariant_of-self : goal.invariant_of-self

@@ -1,11 +1,11 @@
 use Rattle.std.proofs.Common.{◌≡◌, ℕ, ◌*◌, ◌^◌, ◌<◌, ◌∙◌, sym, ap, subst, length, replicate}
 use Rattle.std.proofs.lemmas.List.{length-replicate}
 use Rattle.std.specs.FinSet as fin
+use Rattle.lists.proofs.Cases.{clash}
 use Rattle.closure_flow.specs.Networks.{IsLean}
 use Rattle.closure_flow.proofs.Marks.{marked_none}
 use Rattle.closure_flow.proofs.Networks.{lean_fresh}
 use Rattle.bitset.specs.Sets.{contains-empty}
-use Rattle.closure_flow.proofs.Sets.{clash}
 use Rattle.closure_flow.proofs.network.Network.new.Goals as goal
 
 pub invariant_of-result : goal.invariant_of-result

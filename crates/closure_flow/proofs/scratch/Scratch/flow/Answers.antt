@@ -1,7 +1,7 @@
 use Rattle.std.proofs.Common.{◌≡◌, ℕ, ◌*◌, ◌∙◌, sym, ap, arith}
+use Rattle.std.proofs.lemmas.Bool.{false_from_ne_true}
 use Rattle.closure_flow.specs.Scratches.{flow_of, shown}
 use Rattle.closure_flow.proofs.Networks.{not_sent, not_received, shown_within}
-use Rattle.closure_flow.proofs.Sets.{not_true}
 use Rattle.closure_flow.proofs.Shown.{shown_is}
 use Rattle.closure_flow.proofs.scratch.Scratch.flow.Goals as goal
 use Rattle.closure_flow.proofs.scratch.Scratch.flow.Goals.{else-child-places-via-then-child-places+then-parent-places+else-has, else-child-places-via-then-child-places+else-parent-places, else-child-places-via-else-child-places}
@@ -23,7 +23,7 @@ returns-else-child-places g c =
       | else-child-places-via-then-child-places+then-parent-places+else-has w ↦ not_received n net.within _ _ c.args.child c.args.parent (sym w.has.ensures ∙ w.if-has.false)
       | else-child-places-via-then-child-places+else-parent-places w ↦
           let past = w.if-parent-places.false in
-          not_received n net.within _ _ c.args.child c.args.parent (not_true _ (λ m. omega (arith, net.sized.rests, net.rest.ok, places, past, net.inside _ m)))
+          not_received n net.within _ _ c.args.child c.args.parent (false_from_ne_true _ (λ m. omega (arith, net.sized.rests, net.rest.ok, places, past, net.inside _ m)))
       | else-child-places-via-else-child-places w ↦
           let past = w.if-child-places.false in
           not_sent n net.within _ _ c.args.child c.args.parent net.lean net.inside (omega (arith, net.sized.rests, net.rest.ok, places, past))
