@@ -56,10 +56,11 @@ pub fn solve<L: Ledger, const W: usize>(
     ensures none { OnBalanced result (IsNoneHeavier (64 * W) weights.now parents.now within.entry (pos 0)) }
     ensures flow { OnBalanced result (IsBalanced (64 * W) weights.now parents.now within.entry (flow_of scratch.new)) }
 
-    // Each place of negative weight is taken at least once. However large the weights are, with n places at most
-    // (n + 2)^4 + (n + 2) are taken.
+    // Each place is taken at least once, so each of negative weight is. However large the weights are, of n places at
+    // most (n + 2)^4 + (n + 2) are taken in all.
     ensures steps_better { IfBetter result (λ _. steps.old < steps.new) }
     ensures steps_balanced { OnBalanced result (steps.old + negatives (64 * W) weights.now within.entry ≤ steps.new) }
+    ensures steps_least { steps.old + set.len within.entry ≤ steps.new }
     ensures steps_most { steps.new ≤ steps.old + most_steps (set.len within.entry) }
 {
     load(

@@ -11,5 +11,6 @@ mod Places
 mod Plain
 mod Sets
 mod Sizes
+mod Solves
 mod Totals
 mod Triangles

@@ -2,3 +2,4 @@ pub mod Drafts
 pub mod Graphs
 pub mod Orders
 pub mod Splits
+pub mod Steps

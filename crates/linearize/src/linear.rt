@@ -1,4 +1,4 @@
-ghost use Rattle.std.specs.Prelude.{◌≡◌, ◌*◌, ◌^◌, ◌<◌, ◌≤◌, [], length, map, IfOk};
+ghost use Rattle.std.specs.Prelude.{◌≡◌, ◌+◌, ◌*◌, ◌^◌, ◌<◌, ◌≤◌, [], length, map, IfOk};
 ghost use Rattle.std.specs.FinSet as set;
 ghost use Rattle.graphs.specs.Closures.{members_of, IsCover};
 ghost use Rattle.graphs.specs.Graphs as model;
@@ -7,6 +7,7 @@ ghost use Rattle.graphs.specs.Linearizations.{IsOptimal};
 ghost use Rattle.linearize.specs.Graphs.{HasRates, IsComponent, StandsFor, most_members, sum_at};
 ghost use Rattle.linearize.specs.Drafts.{AreShown, flows_in, named, placed};
 ghost use Rattle.linearize.specs.Orders.{AreCovers};
+ghost use Rattle.linearize.specs.Steps.{AreOfSolves};
 
 use crate::draft::{Draft, LinearPart, PlaceFlow};
 use crate::split::split;
@@ -106,7 +107,12 @@ pub fn optimal<L: Ledger, const W: usize>(
         → IsCertificate (sum_at dep.now) graph (model.IsCover graph.pairs) out.new }
     ensures optimal { (graph : model.Graph) → StandsFor dep.now graph
         → IsOptimal (sum_at dep.now) graph (map (λ part. part.ids) out.new) }
-    ensures steps { steps.old ≤ steps.new }
+
+    // The steps are those of its solves. Of n members they are n at least, and at most 2 · (n + 2)^5 − 4 · (n + 2)^4.
+    ensures solves { AreOfSolves (set.len (members_of dep.now)) steps.old steps.new }
+    ensures steps_least { steps.old + set.len (members_of dep.now) ≤ steps.new }
+    ensures steps_most { steps.new + 4 * (set.len (members_of dep.now) + 2) ^ 4
+        ≤ steps.old + 2 * (set.len (members_of dep.now) + 2) ^ 5 }
 {
     let members = dep.members();
     let parents = out.parents.as_mut_slice();

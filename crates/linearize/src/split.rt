@@ -1,7 +1,8 @@
-ghost use Rattle.std.specs.Prelude.{◌≡◌, ℕ, ◌*◌, ◌<◌, ◌≤◌, ◌^◌, length, true, pos, ◌*ℤ◌, unsigned_abs};
+ghost use Rattle.std.specs.Prelude.{◌≡◌, ℕ, ◌+◌, ◌*◌, ◌<◌, ◌≤◌, ◌^◌, length, true, pos, ◌*ℤ◌, unsigned_abs};
 ghost use Rattle.std.specs.Prelude.{IfSome, MatchOption};
 ghost use Rattle.std.specs.FinSet as set;
 ghost use Rattle.graphs.specs.Closures.{HoldsMembers};
+ghost use Rattle.closure_flow.specs.Bounds.{most_steps};
 ghost use Rattle.closure_flow.specs.Closures.{weight_at};
 ghost use Rattle.fee_rate.specs.Limits.{IsRate};
 ghost use Rattle.fee_rate.specs.declared.limits.TheConstants.{MAX_SIZE};
@@ -9,6 +10,7 @@ ghost use Rattle.graphs.specs.Certificates.{weight_in};
 ghost use Rattle.linearize.specs.Graphs.{HasRates, most_members, sum_at, sum_from};
 ghost use Rattle.linearize.specs.Orders.{sums_in};
 ghost use Rattle.linearize.specs.Splits.{Adds, IsBest, IsReady};
+ghost use Rattle.linearize.specs.Steps.{AreOfSolves};
 
 use crate::draft::Draft;
 use crate::part::emit;
@@ -33,7 +35,7 @@ pub(crate) fn split<L: Ledger, const W: usize>(
     requires ready { IsReady (64 * W) dep.now parents.now within.now draft.old }
     requires weights { 64 * W ≤ length weights.old }
     ensures adds { Adds (64 * W) dep.now within.now draft.old draft.new }
-    ensures steps { steps.old ≤ steps.new }
+    ensures solves { AreOfSolves (set.len within.now) steps.old steps.new }
 {
     if let Some(first) = best(scratch, dep, parents, weights, within, draft, steps) {
         let rest = within.minus(&first);
@@ -59,7 +61,8 @@ fn best<L: Ledger, const W: usize>(
     ensures draft { MatchOption result
         (Adds (64 * W) dep.now within.now draft.old draft.new)
         (λ _. draft.new ≡ draft.old) }
-    ensures steps { steps.old ≤ steps.new }
+    ensures least { steps.old + set.len within.now ≤ steps.new }
+    ensures most { steps.new ≤ steps.old + most_steps (set.len within.now) }
 {
     let whole = sum(dep, within);
     weigh(dep, within, whole, weights);

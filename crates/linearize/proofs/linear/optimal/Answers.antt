@@ -8,11 +8,13 @@ use Rattle.graphs.specs.Linearizations.{IsOptimal}
 use Rattle.linearize.specs.Drafts.{Written}
 use Rattle.linearize.specs.Graphs.{sum_at}
 use Rattle.linearize.specs.Splits.{Adds}
+use Rattle.linearize.specs.Steps.{AreOfSolves}
 use Rattle.linearize.proofs.Final.{certificate, has_sizes}
 use Rattle.linearize.proofs.Joined.{start_room}
 use Rattle.linearize.proofs.Places.{in_members}
 use Rattle.linearize.proofs.Plain.{stands}
 use Rattle.linearize.proofs.Sizes.{words_fit, lists_fit, scratch_fits}
+use Rattle.linearize.proofs.Solves.{least_of, most_of}
 use Rattle.linearize.proofs.linear.optimal.Goals as goal
 
 pub split-requires : goal.split-requires
@@ -73,3 +75,12 @@ returns-clause-optimal g c = λ graph stands.
     subst (λ (ps : List Part). IsOptimal (sum_at dep) graph (map (λ part. part.ids) ps)) (sym parts)
     (c.certified_parts_are_optimal.ensures.by_covers (sum_at dep) graph adds.parts (has_sizes n dep graph c.members-members.ensures.closed stands c.requires.rates)
     (certificate n dep graph c.members-members.ensures.closed stands adds.parts c.requires.component adds.linear)))
+
+pub returns-clause-solves : goal.returns-clause-solves
+returns-clause-solves g c = subst (λ s. AreOfSolves (fin.len s) c.args.steps.now c.split.new.steps) c.members-members.ensures.members c.split.ensures.solves
+
+pub returns-clause-steps_least : goal.returns-clause-steps_least
+returns-clause-steps_least g c = least_of _ _ _ (returns-clause-solves g c)
+
+pub returns-clause-steps_most : goal.returns-clause-steps_most
+returns-clause-steps_most g c = most_of _ _ _ (returns-clause-solves g c)

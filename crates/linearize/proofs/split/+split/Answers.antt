@@ -1,9 +1,11 @@
 use Rattle.std.proofs.Common.{◌≡◌, ◌<◌, ◌+◌, ◌*◌, ℕ, ap, sym, subst, arith, lit<, true, rules}
 use Rattle.std.specs.FinSet as fin
 use Rattle.linearize.specs.Splits.{Adds, HasRoom}
+use Rattle.linearize.specs.Steps.{AreOfSolves}
 use Rattle.linearize.proofs.Joined.{c_some, rest_some, both_lens, first_room, second_room, both_added}
 use Rattle.linearize.proofs.Sets.{from_minus}
 use Rattle.linearize.proofs.Sizes.{words_fit, lists_fit, scratch_fits}
+use Rattle.linearize.proofs.Solves.{one_solve, two_solves}
 use Rattle.linearize.proofs.split.+split.Goals as goal
 
 pub split-requires : goal.split-requires
@@ -115,3 +117,15 @@ returns-in-Some-clause-adds g t c =
     both_added n dep s first r.closed r.members r.rates best c.args.draft.now c.split.new.draft c.split-in-Some.new.draft
     (subst (λ w. Adds n dep first w c.split.new.draft) c.in-Some.ensures.draft c.split.ensures.adds)
     (subst (λ x. Adds n dep x c.split.new.draft c.split-in-Some.new.draft) is c.split-in-Some.ensures.adds)
+
+pub returns-in-Some-clause-solves : goal.returns-in-Some-clause-solves
+returns-in-Some-clause-solves g t c =
+    let r = c.requires.ready in
+    let s = c.args.within.now in
+    let first = c.in-Some.first in
+    let lens = both_lens (64 * g.row.W) c.args.dep.now s first r.closed r.members r.rates c.in-Some.ensures.best in
+    two_solves (fin.len s) (fin.len first) (fin.len (fin.difference s first)) _ c.best.new.steps c.split.new.steps _ lens c.best.ensures.least c.best.ensures.most c.split.ensures.solves
+    (subst (λ x. AreOfSolves (fin.len x) c.split.new.steps c.split-in-Some.new.steps) {y = fin.difference s first} c.minus-rest.ensures c.split-in-Some.ensures.solves)
+
+pub returns-in_default-clause-solves : goal.returns-in_default-clause-solves
+returns-in_default-clause-solves g t c = one_solve _ _ _ c.requires.ready.some c.best.ensures.least c.best.ensures.most
