@@ -2,8 +2,8 @@
 use Rattle.std.specs.Prelude.{Bool, true, false, cond, List, map}
 use Rattle.std.specs.List.{filter}
 use Rattle.std.specs.Ordering.{is_eq}
-use Rattle.graph_model.specs.declared.names.Level.{Level}
-use Rattle.graph_model.specs.declared.names.Level.TheVariants.{Main, Top}
+use Rattle.graphs.specs.declared.names.Level.{Level}
+use Rattle.graphs.specs.declared.names.Level.TheVariants.{Main, Top}
 use Rattle.chunk_index.specs.declared.entry.Entry.{Entry}
 use Rattle.chunk_index.specs.declared.entry.Tag.{Tag}
 use Rattle.chunk_index.specs.declared.entry.Tag.TheVariants.{Both, MainOnly, TopOnly}

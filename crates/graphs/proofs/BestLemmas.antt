@@ -13,14 +13,14 @@ use Rattle.lists.proofs.Distinct.{distinct-append_left, distinct-append_right, d
 use Rattle.lists.proofs.Entries.{Contains-head, Contains-later, Contains-cases, none_in_empty, Contains-filter, filter-Contains, Contains-splits, rest_of, first_of}
 use Rattle.lists.specs.Distinct.{AreDistinct}
 use Rattle.arithmetic.specs.Sums.{total}
-use Rattle.arithmetic.proofs.Sums.{total-append}
+use Rattle.arithmetic.proofs.Sums.{total-append, total-pos}
 use Rattle.fee_rate.specs.declared.rates.Sum.{Sum}
 use Rattle.fee_rate.specs.Rates.{AtMost}
 use Rattle.graphs.specs.Graphs.{Graph, Walk, IsCover}
 use Rattle.graphs.specs.Rates.{sum_of, sums, Falls, HasSizes}
 use Rattle.graphs.specs.Linearizations.{IsClosedWithin, IsTopological, StandsBefore, IsTogether, AreChunks, IsFlat, IsUnderLine, IsUnderDiagram, IsOptimal}
 use Rattle.graphs.specs.Certificates.{Part, IsCertificate}
-use Rattle.graphs.proofs.FlowLemmas.{total-pos, flow_bounds}
+use Rattle.graphs.proofs.FlowLemmas.{flow_bounds}
 use Rattle.graphs.proofs.TangentLemmas.{joined, sizes-append, tangent}
 
 -- ---- sums over lists of the same names
@@ -277,13 +277,13 @@ moved_before m order a b stands here there = (
 stands_in : (order : List ℕ) (a b : ℕ) → StandsBefore order a b → Contains order a
 stands_in order a b stands = subst (λ (zs : List ℕ). Contains zs a) (sym stands.2) (Contains-append_left stands.0 (b ∷ stands.1) a stands.3)
 
-stands-append_right : (xs ys : List ℕ) (a b : ℕ) → StandsBefore xs a b → StandsBefore (xs ++ ys) a b
+pub stands-append_right : (xs ys : List ℕ) (a b : ℕ) → StandsBefore xs a b → StandsBefore (xs ++ ys) a b
 stands-append_right xs ys a b stands = (stands.0, stands.1 ++ ys, ap (λ zs. zs ++ ys) stands.2 ∙ assoc stands.0 (b ∷ stands.1) ys, stands.3)
 
-stands-append_left : (xs ys : List ℕ) (a b : ℕ) → StandsBefore ys a b → StandsBefore (xs ++ ys) a b
+pub stands-append_left : (xs ys : List ℕ) (a b : ℕ) → StandsBefore ys a b → StandsBefore (xs ++ ys) a b
 stands-append_left xs ys a b stands = (xs ++ stands.0, stands.1, ap (λ zs. xs ++ zs) stands.2 ∙ sym (assoc xs stands.0 (b ∷ stands.1)), Contains-append_right xs stands.0 a stands.3)
 
-stands_across : (xs ys : List ℕ) (a b : ℕ) → Contains xs a → Contains ys b → StandsBefore (xs ++ ys) a b
+pub stands_across : (xs ys : List ℕ) (a b : ℕ) → Contains xs a → Contains ys b → StandsBefore (xs ++ ys) a b
 stands_across xs ys a b here there =
     let cut = Contains-splits ys b there in
     (xs ++ cut.0, cut.1, ap (λ zs. xs ++ zs) cut.2 ∙ sym (assoc xs cut.0 (b ∷ cut.1)), Contains-append_left xs cut.0 a here)

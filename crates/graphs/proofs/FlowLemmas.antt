@@ -7,7 +7,7 @@ use Rattle.std.proofs.lemmas.List.Sums.{sum_by-cons}
 use Rattle.lists.proofs.Entries.{Contains-head, Contains-later, Contains-cases}
 use Rattle.lists.specs.Distinct.{AreDistinct}
 use Rattle.arithmetic.specs.Sums.{total}
-use Rattle.arithmetic.proofs.Sums.{total-sub, total-scale}
+use Rattle.arithmetic.proofs.Sums.{total-sub, total-scale, total_along, total-pos, total-pos-scale}
 use Rattle.arithmetic.proofs.Products.{mul-add_right}
 use Rattle.fee_rate.specs.declared.rates.Sum.{Sum}
 use Rattle.fee_rate.specs.Rates.{AtMost}
@@ -15,15 +15,6 @@ use Rattle.graphs.specs.declared.names.Flow.{Flow}
 use Rattle.graphs.specs.Rates.{sums}
 use Rattle.graphs.specs.Linearizations.{IsClosedWithin}
 use Rattle.graphs.specs.Certificates.{given, gotten, weight_in, Certifies}
-
--- sums whose terms agree at each entry are the same
-pub total_along : {A : Type 0} (f g : A → ℤ) (xs : List A) → ((x : A) → Contains xs x → f x ≡ g x) → total f xs ≡ total g xs
-total_along f g [] e = refl
-total_along f g (x ∷ xs) e = omega (arith, ints, e x (Contains-head x xs), total_along f g xs (λ y h. e y (Contains-later x y xs h)))
-
-pub total-pos : {A : Type 0} (f : A → ℕ) (xs : List A) → total (λ x. pos (f x)) xs ≡ pos (sum_by f xs)
-total-pos f [] = refl
-total-pos f (x ∷ xs) = omega (arith, ints, total-pos f xs, sum_by-cons f x xs)
 
 sum_by-add : {A : Type 0} (f g : A → ℕ) (xs : List A) → sum_by (λ x. f x + g x) xs ≡ sum_by f xs + sum_by g xs
 sum_by-add f g [] = refl
@@ -83,18 +74,12 @@ given_at_most set (flow ∷ flows) d stays =
     ]
 
 -- the weight of a list of names is the sum of their weights
-weight_of_sums : (whole : Sum) (rate : ℕ → Sum) (ids : List ℕ) → total (λ id. weight_in whole (rate id)) ids ≡ weight_in whole (sums rate ids)
+pub weight_of_sums : (whole : Sum) (rate : ℕ → Sum) (ids : List ℕ) → total (λ id. weight_in whole (rate id)) ids ≡ weight_in whole (sums rate ids)
 weight_of_sums whole rate ids =
     total-sub (λ id. (rate id).fee *ℤ pos whole.size) (λ id. whole.fee *ℤ pos (rate id).size) ids
     ∙ (let a = total-scale (λ id. (rate id).fee) (pos whole.size) ids in
-    let b = scaled (λ id. (rate id).size) whole.fee ids in
+    let b = total-pos-scale (λ id. (rate id).size) whole.fee ids in
     omega (arith, ints, a, b))
-  where
-    scaled : (f : ℕ → ℕ) (k : ℤ) (xs : List ℕ) → total (λ id. k *ℤ pos (f id)) xs ≡ k *ℤ pos (sum_by f xs)
-    scaled f k [] = omega (arith, ints)
-    scaled f k (x ∷ xs) =
-        let parts : pos (sum_by f (x ∷ xs)) ≡ pos (f x) +ℤ pos (sum_by f xs) = omega (arith, ints, sum_by-cons f x xs) in
-        omega (arith, ints, scaled f k xs, ap (λ (z : ℤ). k *ℤ z) parts, mul-add_right k (pos (f x)) (pos (sum_by f xs)))
 
 -- no closed set within a certified part has a greater rate than the part
 pub flow_bounds : (rate : ℕ → Sum) (IsLink : ℕ → ℕ → Type 0) (pairs : List (ℕ × ℕ)) (ids set : List ℕ) (flows : List Flow) → ((parent child : ℕ) → IsLink parent child → Contains pairs (parent, child)) → Certifies rate IsLink ids flows → IsClosedWithin pairs ids set → AtMost (sums rate set) (sums rate ids)

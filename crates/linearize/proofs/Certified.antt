@@ -2,17 +2,18 @@
 use Rattle.std.proofs.Common.{◌≡◌, ℕ, ◌+◌, ◌<◌, ◌≤◌, inl, inr, Bool, true, false, cond, nat_eq, List, [], ◌∷◌, ◌++◌, map, sum_by, ℤ, pos, refl, sym, ap, ◌∙◌, subst, arith}
 use Rattle.std.specs.Prelude.{Contains}
 use Rattle.std.proofs.lemmas.Int.{ints}
-use Rattle.std.proofs.lemmas.Bool.{cases_lt}
+use Rattle.std.proofs.lemmas.Bool.{cases_lt, cases_Bool}
 use Rattle.std.proofs.lemmas.List.{map-append}
 use Rattle.std.proofs.lemmas.List.Sums.{sum_by-cons, sum_by-append}
 use Rattle.std.proofs.lemmas.List.Elements.{Contains-append_cases}
 use Rattle.std.specs.List.{range_with_len}
 use Rattle.std.specs.Ordering.{nat_cmp}
 use Rattle.std.specs.FinSet as fin
+use Rattle.bitset.specs.Members.{from_meet, to_meet}
 use Rattle.lists.proofs.Entries.{map-Contains, Contains-head, Contains-later, Contains-cases, none_in_empty}
 use Rattle.lists.proofs.Distinct.{distinct_joined}
 use Rattle.lists.specs.Distinct.{AreDistinct}
-use Rattle.arithmetic.proofs.Sums.{total-filter_cond, total_same}
+use Rattle.arithmetic.proofs.Sums.{total-filter_cond, total_same, total-pos}
 use Rattle.bitset.specs.Places.{places, IsWithin}
 use Rattle.bitset.specs.Sets.{Contains-places, places-Contains}
 use Rattle.closure_flow.specs.Closures.{parents_at}
@@ -21,7 +22,6 @@ use Rattle.graphs.specs.Certificates.{given, gotten}
 use Rattle.linearize.specs.Orders.{flows_from, flows_of, parents_within}
 use Rattle.linearize.proofs.FlowLists.{from_append, from_one, from_none, from_nil, of_append, of_one, of_nil}
 use Rattle.linearize.proofs.Lists.{distinct_places, pick, pick_in, pick_out}
-use Rattle.linearize.proofs.Sets.{test_of, from_meet, to_meet, total_naturals}
 
 -- ---- what each place sends and gets
 given_joined : (xs ys : List Flow) (id : ℕ) → given (xs ++ ys) id ≡ given xs id + given ys id
@@ -103,10 +103,10 @@ module _ (n : ℕ) (parents : List (fin.FinSet nat_cmp)) (s : fin.FinSet nat_cmp
         let two = total-filter_cond (λ p. pos (flow c p)) (fin.contains s) (range_with_len 0 n) in
         let each = total_same (λ p. cond (fin.contains (fin.intersection (parents_at parents c) s) p) (pos (flow c p)) (pos 0)) (λ p. cond (fin.contains s p) (pos (flow c p)) (pos 0)) (range_with_len 0 n)
         (λ p. term (fin.contains (fin.intersection (parents_at parents c) s) p) (fin.contains s p) (pos (flow c p)) (λ m. (from_meet (parents_at parents c) s p m).1) (λ m out. ap pos (zero_else c p m out))) in
-        omega (arith, ints, one, two, each, total_naturals (flow c) (parents_within n parents s c), total_naturals (flow c) (places n s))
+        omega (arith, ints, one, two, each, total-pos (flow c) (parents_within n parents s c), total-pos (flow c) (places n s))
 
     got_from : (c id : ℕ) → fin.contains s id ≡ true → sum_by (pick id (flow c)) (parents_within n parents s c) ≡ flow c id
-    got_from c id m = elim (test_of (fin.contains (fin.intersection (parents_at parents c) s) id)) as (λ _. sum_by (pick id (flow c)) (parents_within n parents s c) ≡ flow c id) [
+    got_from c id m = elim (cases_Bool (fin.contains (fin.intersection (parents_at parents c) s) id)) as (λ _. sum_by (pick id (flow c)) (parents_within n parents s c) ≡ flow c id) [
       | inl here ↦ pick_in id (flow c) (parents_within n parents s c) (distinct_places n _) (Contains-places n _ id (within id m) here)
       | inr out ↦
           pick_out id (flow c) (parents_within n parents s c) (λ h. (let g : true ≡ false = sym (places-Contains n _ id h).1 ∙ out in cc))

@@ -1,9 +1,12 @@
 -- Where each covering parent stands before its children, each ancestor stands before its descendants.
 use Rattle.std.proofs.Common.{◌≡◌, ◌≢◌, ℕ, zero, suc, ◌+◌, ◌<◌, ◌≤◌, ◌⊎◌, inl, inr, true, false, not, nat_eq, List, [], ◌∷◌, ◌++◌, sym, ap, ◌∙◌, subst, arith, eq-eqb}
 use Rattle.std.specs.Prelude.{Contains}
-use Rattle.std.proofs.lemmas.Bool.{cases_eq}
+use Rattle.std.proofs.lemmas.Bool.{cases_eq, cases_Bool}
 use Rattle.std.proofs.lemmas.List.Elements.{Contains-append_right}
 use Rattle.std.specs.FinSet as fin
+use Rattle.bitset.specs.Members.{to_remove, from_remove}
+use Rattle.lists.proofs.Cases.{clash, differs}
+use Rattle.lists.proofs.Distinct.{stays_before}
 use Rattle.graphs.specs.Closures.{Closure, is_member, is_ancestor, ancestors_of, members_of, IsCover, IsClosed}
 use Rattle.lists.proofs.Entries.{Contains-head, Contains-later, Contains-cases, none_in_empty}
 use Rattle.lists.specs.Distinct.{AreDistinct}
@@ -11,23 +14,8 @@ use Rattle.bitset.specs.Places.{places, IsWithin}
 use Rattle.bitset.specs.Sets.{Contains-places}
 use Rattle.graphs.specs.Linearizations.{StandsBefore}
 use Rattle.linearize.specs.Orders.{IsOrderOf}
-use Rattle.linearize.proofs.Places.{in_members, clash}
-use Rattle.linearize.proofs.Sets.{test_of, to_remove, from_remove, len_remove, len_within}
-
--- what stands before an entry of a front stands in that front
-stays_before : (before after front rest : List ℕ) (a b : ℕ) → before ++ b ∷ after ≡ front ++ rest → AreDistinct (front ++ rest) → Contains front b → Contains before a → Contains front a
-stays_before before after [] rest a b e d here h = absurd (none_in_empty b here)
-stays_before [] after (c ∷ front) rest a b e d here h = absurd (none_in_empty a h)
-stays_before (x ∷ before) after (c ∷ front) rest a b e d here h =
-    let tails : before ++ b ∷ after ≡ front ++ rest = cc in
-    let heads : x ≡ c = cc in
-    elim (Contains-cases x a before h) [
-      | inl same ↦ subst (λ z. Contains (c ∷ front) z) (sym heads ∙ same) (Contains-head c front)
-      | inr later ↦ elim (Contains-cases c b front here) [
-        | inl first ↦ absurd (d.0 (subst (λ zs. Contains zs c) tails (Contains-append_right before (b ∷ after) c (subst (λ z. Contains (b ∷ after) z) (sym first) (Contains-head b after)))))
-        | inr there ↦ Contains-later c a front (stays_before before after front rest a b tails d.1 there later)
-      ]
-    ]
+use Rattle.linearize.proofs.Places.{in_members}
+use Rattle.linearize.proofs.Sets.{len_remove, len_within}
 
 before_before : (order : List ℕ) (a b c : ℕ) → AreDistinct order → StandsBefore order a b → StandsBefore order b c → StandsBefore order a c
 before_before order a b c d one two = (two.0, two.1, two.2, stays_before one.0 one.1 two.0 (c ∷ two.1) a b (sym one.2 ∙ two.2) (subst (λ xs. AreDistinct xs) two.2 d) two.3 one.3)
@@ -49,13 +37,10 @@ module _ (n : ℕ) (dep : Closure) (closed : IsClosed n dep) where
   abbrev Between : ℕ → ℕ → ℕ → Type 0
   Between a d k = (is_ancestor dep a k ≡ true) × (is_ancestor dep k d ≡ true) × (k ≢ a) × (k ≢ d)
 
-  differs : (x y : ℕ) → not (nat_eq x y) ≡ true → x ≢ y
-  differs x y e same = let f : false ≡ true = sym (ap not (eq-eqb x y same)) ∙ e in cc
-
   one_between : (a d k : ℕ) → Between a d k ⊎ (Between a d k → ⊥)
-  one_between a d k = elim (test_of (is_ancestor dep a k)) [
+  one_between a d k = elim (cases_Bool (is_ancestor dep a k)) [
     | inr out ↦ inr (λ b. clash _ b.0 out)
-    | inl up ↦ elim (test_of (is_ancestor dep k d)) [
+    | inl up ↦ elim (cases_Bool (is_ancestor dep k d)) [
       | inr out ↦ inr (λ b. clash _ b.1 out)
       | inl down ↦ elim (cases_eq k a) [
         | inl same ↦ inr (λ b. b.2 same)

@@ -1,6 +1,7 @@
 -- What linearizes all members certifies each plain graph that they stand for.
 use Rattle.std.proofs.Common.{◌≡◌, ℕ, zero, suc, ◌⊎◌, inl, inr, true, List, [], ◌∷◌, refl, sym, ◌∙◌, subst}
 use Rattle.std.specs.Prelude.{Contains}
+use Rattle.lists.proofs.Cases.{swap}
 use Rattle.graphs.specs.Closures.{Closure, is_member, is_ancestor, members_of, IsCover, IsClosed, IsNear}
 use Rattle.lists.proofs.Entries.{Contains-cases, none_in_empty}
 use Rattle.lists.specs.Walks.{IsWalk}
@@ -19,10 +20,6 @@ use Rattle.std.proofs.lemmas.List.Elements.{Contains-append_left, Contains-appen
 connected_on : (pairs : List (ℕ × ℕ)) (a b c : ℕ) → model.AreConnected pairs a b → (m : ℕ) → model.Trail pairs b c m → model.AreConnected pairs a c
 connected_on pairs a b c h zero t = subst (λ (k : ℕ). model.AreConnected pairs a k) t h
 connected_on pairs a b c h (suc m) t = let rest = connected_on pairs a b t.0 h m t.1 in (suc rest.0, (t.0, rest.1, t.2))
-
-swap : {A B : Type 0} → A ⊎ B → B ⊎ A
-swap (inl a) = inr a
-swap (inr b) = inl b
 
 connected_back : (pairs : List (ℕ × ℕ)) (a b : ℕ) (n : ℕ) → model.Trail pairs a b n → model.AreConnected pairs b a
 connected_back pairs a b zero t = (0, sym t)

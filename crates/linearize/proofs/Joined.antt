@@ -8,11 +8,17 @@ use Rattle.std.proofs.lemmas.List.Elements.{Contains-append_left, Contains-appen
 use Rattle.std.proofs.Math.Nat.{mul-le-mul}
 use Rattle.std.specs.Ordering.{nat_cmp}
 use Rattle.std.specs.FinSet as fin
+use Rattle.std.proofs.lemmas.Bool.{cases_Bool}
+use Rattle.fee_rate.proofs.Orders.{at_most_chains}
+use Rattle.bitset.specs.Members.{minus_parts, in_minus, from_union, to_union_left, to_union_right, len_bound}
+use Rattle.lists.proofs.Cases.{clash}
+use Rattle.graphs.proofs.BestLemmas.{stands-append_right, stands-append_left, stands_across}
+use Rattle.graphs.proofs.FlowLemmas.{weight_of_sums}
 use Rattle.graphs.specs.Closures.{Closure, IsCover, IsClosed, HoldsMembers, rate_of}
 use Rattle.lists.proofs.Entries.{Contains-head, Contains-later, Contains-cases, none_in_empty}
 use Rattle.lists.proofs.Distinct.{distinct_joined}
 use Rattle.arithmetic.specs.Sums.{total}
-use Rattle.arithmetic.proofs.Sums.{total-sub, total-scale}
+use Rattle.arithmetic.proofs.Sums.{total-sub, total-scale, total_along}
 use Rattle.arithmetic.proofs.Products.{mul-add_right}
 use Rattle.arithmetic.proofs.Rates.{cross_trans}
 use Rattle.bitset.specs.Places.{places, IsWithin}
@@ -28,27 +34,9 @@ use Rattle.linearize.specs.Drafts.{Written, placed, flows_in}
 use Rattle.linearize.specs.Graphs.{sum_at, HasRates}
 use Rattle.linearize.specs.Orders.{AreCovers, Balances, IsOrderOf, sums_in}
 use Rattle.linearize.specs.Splits.{Linearizes, Adds, HasRoom, IsBest, IsUpper, IsLower}
-use Rattle.linearize.proofs.Places.{clash}
-use Rattle.linearize.proofs.Sets.{IsSplit, split_minus, split_union, total_split, len_split, from_minus, to_minus, from_union, to_union_left, to_union_right, test_of, len_below}
+use Rattle.linearize.proofs.Sets.{IsSplit, split_minus, split_union, total_split, len_split}
 
 -- ---- weights
-total_along : (f g : ℕ → ℤ) (xs : List ℕ) → ((x : ℕ) → Contains xs x → f x ≡ g x) → total f xs ≡ total g xs
-total_along f g [] e = refl
-total_along f g (x ∷ xs) e = omega (arith, ints, e x (Contains-head x xs), total_along f g xs (λ y h. e y (Contains-later x y xs h)))
-
--- the weight of a list of places is the sum of their weights
-weight_of_sums : (whole : Sum) (rate : ℕ → Sum) (ids : List ℕ) → total (λ id. weight_in whole (rate id)) ids ≡ weight_in whole (sums rate ids)
-weight_of_sums whole rate ids =
-    total-sub (λ id. (rate id).fee *ℤ pos whole.size) (λ id. whole.fee *ℤ pos (rate id).size) ids
-    ∙ (let a = total-scale (λ id. (rate id).fee) (pos whole.size) ids in
-    let b = scaled (λ id. (rate id).size) whole.fee ids in
-    omega (arith, ints, a, b))
-  where
-    scaled : (f : ℕ → ℕ) (k : ℤ) (xs : List ℕ) → total (λ id. k *ℤ pos (f id)) xs ≡ k *ℤ pos (sum_by f xs)
-    scaled f k [] = omega (arith, ints)
-    scaled f k (x ∷ xs) =
-        let parts : pos (sum_by f (x ∷ xs)) ≡ pos (f x) +ℤ pos (sum_by f xs) = omega (arith, ints, sum_by-cons f x xs) in
-        omega (arith, ints, scaled f k xs, ap (λ (z : ℤ). k *ℤ z) parts, mul-add_right k (pos (f x)) (pos (sum_by f xs)))
 
 -- the weight of a set in a whole
 abbrev value : ℕ → Closure → Sum → fin.FinSet nat_cmp → ℤ
@@ -117,9 +105,6 @@ at_most_whole whole own h = record { crossed = omega (arith, ints, h) }
 at_least_whole : (whole own : Sum) → pos 0 ≤ℤ weight_in whole own → AtMost whole own
 at_least_whole whole own h = record { crossed = omega (arith, ints, h) }
 
-chains : (a b c : Sum) → 1 ≤ b.size → AtMost a b → AtMost b c → AtMost a c
-chains a b c some low high = record { crossed = cross_trans a.fee b.fee c.fee a.size b.size c.size (omega arith) low.crossed high.crossed }
-
 -- ---- lists of parts
 falls_joined : (xs ys : List Part) → Falls (map (λ part. part.rate) xs) → Falls (map (λ part. part.rate) ys) → ((x y : Part) → Contains xs x → Contains ys y → AtMost y.rate x.rate) → Falls (map (λ part. part.rate) (xs ++ ys))
 falls_joined [] ys f g low = g
@@ -127,23 +112,12 @@ falls_joined (x ∷ []) [] f g low = tt
 falls_joined (x ∷ []) (y ∷ ys) f g low = (low x y (Contains-head x []) (Contains-head y ys), g)
 falls_joined (x ∷ z ∷ xs) ys f g low = (f.0, falls_joined (z ∷ xs) ys f.1 g (λ a b h k. low a b (Contains-later x a (z ∷ xs) h) k))
 
-before_left : (xs ys : List ℕ) (a b : ℕ) → StandsBefore xs a b → StandsBefore (xs ++ ys) a b
-before_left xs ys a b h = (h.0, h.1 ++ ys, ap (λ zs. zs ++ ys) h.2 ∙ append_assoc h.0 (b ∷ h.1) ys, h.3)
-
-before_right : (xs ys : List ℕ) (a b : ℕ) → StandsBefore ys a b → StandsBefore (xs ++ ys) a b
-before_right xs ys a b h = (xs ++ h.0, h.1, ap (λ zs. xs ++ zs) h.2 ∙ sym (append_assoc xs h.0 (b ∷ h.1)), Contains-append_right xs h.0 a h.3)
-
 splits_at : (xs : List ℕ) (x : ℕ) → Contains xs x → (before after : List ℕ) × (xs ≡ before ++ x ∷ after)
 splits_at [] x h = absurd (none_in_empty x h)
 splits_at (a ∷ xs) x h = elim (Contains-cases a x xs h) [
   | inl same ↦ ([], xs, ap (λ z. z ∷ xs) same)
   | inr later ↦ let found = splits_at xs x later in (a ∷ found.0, found.1, ap (λ zs. a ∷ zs) found.2)
 ]
-
-before_across : (xs ys : List ℕ) (a b : ℕ) → Contains xs a → Contains ys b → StandsBefore (xs ++ ys) a b
-before_across xs ys a b h k =
-    let found = splits_at ys b k in
-    (xs ++ found.0, found.1, ap (λ zs. xs ++ zs) found.2 ∙ sym (append_assoc xs found.0 (b ∷ found.1)), Contains-append_left xs found.0 a h)
 
 either_part : (P : Part → Type 0) (xs ys : List Part) → ((q : Part) → Contains xs q → P q) → ((q : Part) → Contains ys q → P q) → (q : Part) → Contains (xs ++ ys) q → P q
 either_part P xs ys f g q h = elim (Contains-append_cases xs ys q h) [ inl left ↦ f q left | inr right ↦ g q right ]
@@ -185,14 +159,14 @@ module _ (n : ℕ) (dep : Closure) (s c : fin.FinSet nat_cmp) (closed : IsClosed
   -- each upper set of the rest has at most the rate of the whole
   rest_low : (x : fin.FinSet nat_cmp) → IsUpper dep (fin.difference s c) x → AtMost (sums_in n dep x) (sums_in n dep s)
   rest_low x upper =
-      let apart : (k : ℕ) → fin.contains c k ≡ true → fin.contains x k ≡ true → ⊥ = λ k a b. (from_minus s c k (upper.inside k b)).1 a in
+      let apart : (k : ℕ) → fin.contains c k ≡ true → fin.contains x k ≡ true → ⊥ = λ k a b. (minus_parts s c k (upper.inside k b)).1 a in
       let joined : IsUpper dep s (fin.union c x) = record {
-        inside = λ p m. elim (from_union c x p m) [ inl a ↦ best.upper.inside p a | inr b ↦ (from_minus s c p (upper.inside p b)).0 ];
+        inside = λ p m. elim (from_union c x p m) [ inl a ↦ best.upper.inside p a | inr b ↦ (minus_parts s c p (upper.inside p b)).0 ];
         parents = λ p d cover m p_in. elim (from_union c x d m) [
           | inl a ↦ to_union_left c x p (best.upper.parents p d cover a p_in)
-          | inr b ↦ elim (test_of (fin.contains c p)) [
+          | inr b ↦ elim (cases_Bool (fin.contains c p)) [
             | inl here ↦ to_union_left c x p here
-            | inr out ↦ to_union_right c x p (upper.parents p d cover b (to_minus s c p p_in (λ here. clash (fin.contains c p) here out)))
+            | inr out ↦ to_union_right c x p (upper.parents p d cover b (in_minus s c p p_in (λ here. clash (fin.contains c p) here out)))
           ]
         ];
       } in
@@ -204,10 +178,10 @@ module _ (n : ℕ) (dep : Closure) (s c : fin.FinSet nat_cmp) (closed : IsClosed
   best_high : (y : fin.FinSet nat_cmp) → IsLower dep c y → AtMost (sums_in n dep s) (sums_in n dep y)
   best_high y lower =
       let left : IsUpper dep s (fin.difference c y) = record {
-        inside = λ p m. best.upper.inside p (from_minus c y p m).0;
+        inside = λ p m. best.upper.inside p (minus_parts c y p m).0;
         parents = λ p d cover m p_in.
-            (let d_in = from_minus c y d m in
-            to_minus c y p (best.upper.parents p d cover d_in.0 p_in) (λ y_in. d_in.1 (lower.children p d cover y_in d_in.0)));
+            (let d_in = minus_parts c y d m in
+            in_minus c y p (best.upper.parents p d cover d_in.0 p_in) (λ y_in. d_in.1 (lower.children p d cover y_in d_in.0)));
       } in
       let most = best.greatest (fin.difference c y) left in
       let both = value_split n dep (sums_in n dep s) c y (fin.difference c y) (split_minus c y lower.inside) in
@@ -229,24 +203,24 @@ module _ (n : ℕ) (dep : Closure) (s c : fin.FinSet nat_cmp) (closed : IsClosed
 
     order : IsOrderOf dep s (placed first ++ placed second)
     order = record {
-      once = distinct_joined (placed first) (placed second) one.order.once two.order.once (λ p a b. (from_minus s c p ((two.order.exact p).0 b)).1 ((one.order.exact p).0 a));
+      once = distinct_joined (placed first) (placed second) one.order.once two.order.once (λ p a b. (minus_parts s c p ((two.order.exact p).0 b)).1 ((one.order.exact p).0 a));
       exact = λ p. (
         λ h. elim (Contains-append_cases (placed first) (placed second) p h) [
           | inl a ↦ best.upper.inside p ((one.order.exact p).0 a)
-          | inr b ↦ (from_minus s c p ((two.order.exact p).0 b)).0
+          | inr b ↦ (minus_parts s c p ((two.order.exact p).0 b)).0
         ],
-        λ m. elim (test_of (fin.contains c p)) [
+        λ m. elim (cases_Bool (fin.contains c p)) [
           | inl here ↦ Contains-append_left (placed first) (placed second) p ((one.order.exact p).1 here)
-          | inr out ↦ Contains-append_right (placed first) (placed second) p ((two.order.exact p).1 (to_minus s c p m (λ here. clash (fin.contains c p) here out)))
+          | inr out ↦ Contains-append_right (placed first) (placed second) p ((two.order.exact p).1 (in_minus s c p m (λ here. clash (fin.contains c p) here out)))
         ],
       );
-      parents_first = λ p d cover p_in d_in. elim (test_of (fin.contains c d)) [
-        | inl d_here ↦ before_left (placed first) (placed second) p d (one.order.parents_first p d cover (best.upper.parents p d cover d_here p_in) d_here)
+      parents_first = λ p d cover p_in d_in. elim (cases_Bool (fin.contains c d)) [
+        | inl d_here ↦ stands-append_right (placed first) (placed second) p d (one.order.parents_first p d cover (best.upper.parents p d cover d_here p_in) d_here)
         | inr d_out ↦
-            let d_rest : fin.contains (fin.difference s c) d ≡ true = to_minus s c d d_in (λ here. clash (fin.contains c d) here d_out) in
-            elim (test_of (fin.contains c p)) [
-              | inl p_here ↦ before_across (placed first) (placed second) p d ((one.order.exact p).1 p_here) ((two.order.exact d).1 d_rest)
-              | inr p_out ↦ before_right (placed first) (placed second) p d (two.order.parents_first p d cover (to_minus s c p p_in (λ here. clash (fin.contains c p) here p_out)) d_rest)
+            let d_rest : fin.contains (fin.difference s c) d ≡ true = in_minus s c d d_in (λ here. clash (fin.contains c d) here d_out) in
+            elim (cases_Bool (fin.contains c p)) [
+              | inl p_here ↦ stands_across (placed first) (placed second) p d ((one.order.exact p).1 p_here) ((two.order.exact d).1 d_rest)
+              | inr p_out ↦ stands-append_left (placed first) (placed second) p d (two.order.parents_first p d cover (in_minus s c p p_in (λ here. clash (fin.contains c p) here p_out)) d_rest)
             ]
       ];
     }
@@ -260,7 +234,7 @@ module _ (n : ℕ) (dep : Closure) (s c : fin.FinSet nat_cmp) (closed : IsClosed
       filled = either_part (λ q. q.ids ≢ []) first second one.filled two.filled;
       falling = record {
         summed = either_part (λ q. q.rate ≡ sums (sum_at dep) q.ids) first second one.falling.summed two.falling.summed;
-        falling = falls_joined first second one.falling.falling two.falling.falling (λ a b h k. chains b.rate (sums_in n dep s) a.rate whole_some (low b k) (high a h));
+        falling = falls_joined first second one.falling.falling two.falling.falling (λ a b h k. at_most_chains b.rate (sums_in n dep s) a.rate whole_some (low b k) (high a h));
       };
       flows = either_part (λ q. Certifies (sum_at dep) (IsCover dep) q.ids q.flows) first second one.flows two.flows;
       at_most = λ rate bound. either_part (λ q. AtMost q.rate rate) first second
@@ -268,12 +242,12 @@ module _ (n : ℕ) (dep : Closure) (s c : fin.FinSet nat_cmp) (closed : IsClosed
             inside = λ p m. best.upper.inside p (upper.inside p m);
             parents = λ p d cover m p_in. upper.parents p d cover m (best.upper.parents p d cover (upper.inside d m) p_in);
           })))
-          (λ q h. chains q.rate (sums_in n dep s) rate whole_some (low q h) (bound s (record { inside = λ p m. m; parents = λ p d cover m p_in. p_in })));
+          (λ q h. at_most_chains q.rate (sums_in n dep s) rate whole_some (low q h) (bound s (record { inside = λ p m. m; parents = λ p d cover m p_in. p_in })));
       at_least = λ rate bound. either_part (λ q. AtMost rate q.rate) first second
-          (λ q h. chains rate (sums_in n dep s) q.rate whole_some (bound s (record { inside = λ p m. m; children = λ p d cover m d_in. d_in })) (high q h))
+          (λ q h. at_most_chains rate (sums_in n dep s) q.rate whole_some (bound s (record { inside = λ p m. m; children = λ p d cover m d_in. d_in })) (high q h))
           (two.at_least rate (λ y lower. bound y (record {
-            inside = λ p m. (from_minus s c p (lower.inside p m)).0;
-            children = λ p d cover m d_in. lower.children p d cover m (to_minus s c d d_in (λ here. (from_minus s c p (lower.inside p m)).1 (best.upper.parents p d cover here (from_minus s c p (lower.inside p m)).0)));
+            inside = λ p m. (minus_parts s c p (lower.inside p m)).0;
+            children = λ p d cover m d_in. lower.children p d cover m (in_minus s c d d_in (λ here. (minus_parts s c p (lower.inside p m)).1 (best.upper.parents p d cover here (minus_parts s c p (lower.inside p m)).0)));
           })));
     }
 
@@ -328,7 +302,7 @@ module _ (n : ℕ) (dep : Closure) (s c : fin.FinSet nat_cmp) (closed : IsClosed
 
 -- an empty draft has room for every set
 pub start_room : (n : ℕ) (s : fin.FinSet nat_cmp) (written : Written) → IsWithin n s → written ≡ record { parts = []; ids = []; flows = [] } → HasRoom n s written
-start_room n s written within empty = subst (HasRoom n s) (sym empty) (let low : fin.len s ≤ n = len_below n s within in let square = mul-le-mul low low in record {
+start_room n s written within empty = subst (HasRoom n s) (sym empty) (let low : fin.len s ≤ n = len_bound n s within in let square = mul-le-mul low low in record {
   ids = refl;
   flows = refl;
   for_places = omega (arith, low);

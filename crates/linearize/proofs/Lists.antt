@@ -2,29 +2,21 @@
 use Rattle.std.proofs.Common.{◌≡◌, ℕ, ◌<◌, inl, inr, true, cond, nat_eq, List, [], ◌∷◌, ◌++◌, map, sum_by, ℤ, pos, refl, sym, ap, ◌∙◌, subst, arith, eq-eqb, ne_eqb}
 use Rattle.std.specs.Prelude.{Contains, ◌↔◌}
 use Rattle.std.proofs.lemmas.Int.{ints}
-use Rattle.std.proofs.lemmas.Bool.{cases_eq}
+use Rattle.std.proofs.lemmas.Bool.{cases_eq, false_from_ne_true}
 use Rattle.std.proofs.lemmas.List.Sums.{sum_by-cons}
 use Rattle.std.proofs.lemmas.List.Elements.{Contains-append_cases}
 use Rattle.std.specs.Ordering.{nat_cmp}
 use Rattle.std.specs.FinSet as fin
+use Rattle.arithmetic.proofs.Sums.{total-pos}
+use Rattle.bitset.specs.Members.{from_remove, to_remove}
+use Rattle.lists.proofs.Rising.{above_in, distinct_rising}
 use Rattle.lists.proofs.Entries.{Contains-head, Contains-later, Contains-cases, none_in_empty}
 use Rattle.lists.specs.Distinct.{AreDistinct}
 use Rattle.lists.specs.Rising.{IsRising, AllAbove}
 use Rattle.arithmetic.specs.Sums.{total}
 use Rattle.bitset.specs.Places.{places, IsWithin}
 use Rattle.bitset.specs.Sets.{IsRising-places, places-empty, same_members, contains-empty}
-use Rattle.linearize.proofs.Sets.{from_remove, to_remove, total_remove, total_naturals, not_true}
-
-above_in : (x y : ℕ) (xs : List ℕ) → AllAbove x xs → Contains xs y → x < y
-above_in x y [] a h = absurd (none_in_empty y h)
-above_in x y (z ∷ zs) a h = elim (Contains-cases z y zs h) [
-  | inl same ↦ subst (λ (k : ℕ). x < k) same a.0
-  | inr later ↦ above_in x y zs a.1 later
-]
-
-distinct_rising : (xs : List ℕ) → IsRising xs → AreDistinct xs
-distinct_rising [] r = tt
-distinct_rising (x ∷ xs) r = (λ h. (let low = above_in x x xs r.0 h in omega (arith, low)), distinct_rising xs r.1)
+use Rattle.linearize.proofs.Sets.{total_remove}
 
 pub distinct_places : (n : ℕ) (s : fin.FinSet nat_cmp) → AreDistinct (places n s)
 distinct_places n s = distinct_rising (places n s) (IsRising-places n s)
@@ -56,7 +48,7 @@ pick_in id f (x ∷ xs) d h = elim (cases_eq x id) [
 -- ---- a sum over the members of a set in any order
 pub total_any_order : (f : ℕ → ℤ) (n : ℕ) (xs : List ℕ) (s : fin.FinSet nat_cmp) → IsWithin n s → AreDistinct xs → ((k : ℕ) → Contains xs k ↔ (fin.contains s k ≡ true)) → total f xs ≡ total f (places n s)
 total_any_order f n [] s within d exact =
-    sym (ap (λ t. total f (places n t)) (same_members s fin.empty (λ q. not_true _ (λ m. none_in_empty q ((exact q).1 m)) ∙ sym (contains-empty q))) ∙ ap (total f) (places-empty n))
+    sym (ap (λ t. total f (places n t)) (same_members s fin.empty (λ q. false_from_ne_true _ (λ m. none_in_empty q ((exact q).1 m)) ∙ sym (contains-empty q))) ∙ ap (total f) (places-empty n))
 total_any_order f n (x ∷ xs) s within d exact =
     let here : fin.contains s x ≡ true = (exact x).0 (Contains-head x xs) in
     let rest : total f xs ≡ total f (places n (fin.remove s x)) =
@@ -68,4 +60,4 @@ total_any_order f n (x ∷ xs) s within d exact =
 
 pub sum_any_order : (f : ℕ → ℕ) (n : ℕ) (xs : List ℕ) (s : fin.FinSet nat_cmp) → IsWithin n s → AreDistinct xs → ((k : ℕ) → Contains xs k ↔ (fin.contains s k ≡ true)) → sum_by f xs ≡ sum_by f (places n s)
 sum_any_order f n xs s within d exact =
-    omega (arith, ints, total_any_order (λ k. pos (f k)) n xs s within d exact, total_naturals f xs, total_naturals f (places n s))
+    omega (arith, ints, total_any_order (λ k. pos (f k)) n xs s within d exact, total-pos f xs, total-pos f (places n s))

@@ -5,13 +5,15 @@ use Rattle.std.proofs.lemmas.Bool.{cases_eq}
 use Rattle.std.proofs.lemmas.List.Elements.{Contains-append_left, Contains-append_cases, Contains-push}
 use Rattle.std.specs.Ordering.{nat_cmp}
 use Rattle.std.specs.FinSet as fin
+use Rattle.bitset.specs.Members.{from_meet, to_meet, from_remove, to_remove, empty_has_none}
+use Rattle.lists.proofs.Distinct.{distinct_push}
 use Rattle.graphs.specs.Closures.{Closure, is_ancestor, ancestors_of, IsClosed}
 use Rattle.lists.proofs.Entries.{Contains-head, Contains-later, Contains-cases, none_in_empty}
 use Rattle.lists.specs.Distinct.{AreDistinct}
 use Rattle.bitset.specs.Places.{IsWithin}
 use Rattle.graphs.specs.Linearizations.{StandsBefore}
 use Rattle.linearize.specs.Orders.{IsOrderOf}
-use Rattle.linearize.proofs.Sets.{from_meet, to_meet, from_remove, to_remove, not_empty, len_remove, len_within}
+use Rattle.linearize.proofs.Sets.{len_remove, len_within}
 
 -- another ancestor in a set has fewer ancestors in it
 pub higher : (n : ℕ) (dep : Closure) (left : fin.FinSet nat_cmp) (p q : ℕ) → IsClosed n dep → fin.contains left p ≡ true → fin.contains (fin.remove (fin.intersection (ancestors_of dep p) left) p) q ≡ true
@@ -33,7 +35,7 @@ pub is_top : (dep : Closure) (left above : fin.FinSet nat_cmp) (p : ℕ) → abo
     → (q : ℕ) → is_ancestor dep q p ≡ true → fin.contains left q ≡ true → q ≡ p
 is_top dep left above p is none q a m = elim (cases_eq q p) as (λ _. q ≡ p) [
   | inl same ↦ same
-  | inr other ↦ absurd (not_empty above q (ap (λ s. fin.contains s q) is ∙ to_remove _ p q other (to_meet _ _ q a m)) none)
+  | inr other ↦ absurd (empty_has_none above q (ap (λ s. fin.contains s q) is ∙ to_remove _ p q other (to_meet _ _ q a m)) none)
 ]
 
 -- ---- the loop that puts the places of a set
@@ -53,16 +55,6 @@ placing_start n dep s ids none = subst (λ xs. Placing n dep s s xs) (sym none) 
   above = λ a k e ne m h. absurd (none_in_empty k h);
   count = omega arith;
 })
-
-distinct_push : (xs : List ℕ) (x : ℕ) → AreDistinct xs → (Contains xs x → ⊥) → AreDistinct (xs ++ x ∷ [])
-distinct_push [] x d out = (λ h. none_in_empty x h, tt)
-distinct_push (y ∷ ys) x d out = (
-  λ h. elim (Contains-append_cases ys (x ∷ []) y h) [
-    | inl before ↦ d.0 before
-    | inr at ↦ elim (Contains-cases x y [] at) [ inl same ↦ out (subst (λ (k : ℕ). Contains (y ∷ ys) k) (sym same) (Contains-head y ys)) | inr none ↦ none_in_empty y none ]
-  ],
-  distinct_push ys x d.1 (λ h. out (Contains-later y x ys h)),
-)
 
 before_push : (xs : List ℕ) (x a b : ℕ) → StandsBefore xs a b → StandsBefore (xs ++ x ∷ []) a b
 before_push xs x a b h = (h.0, h.1 ++ x ∷ [], ap (λ ys. ys ++ x ∷ []) h.2 ∙ append_assoc h.0 (b ∷ h.1) (x ∷ []), h.3)
@@ -104,7 +96,7 @@ placing_more n dep s left rest ids p within h m top is =
 
 pub placing_all : (n : ℕ) (dep : Closure) (s left : fin.FinSet nat_cmp) (ids : List ℕ) → Placing n dep s left ids → left ≡ fin.empty → IsOrderOf dep s ids × (length ids ≡ fin.len s)
 placing_all n dep s left ids h none =
-    let all : (k : ℕ) → fin.contains s k ≡ true → Contains ids k = λ k m. (h.exact k).1 (m, λ l. not_empty left k l none) in (
+    let all : (k : ℕ) → fin.contains s k ≡ true → Contains ids k = λ k m. (h.exact k).1 (m, λ l. empty_has_none left k l none) in (
       record {
         once = h.once;
         exact = λ k. (λ at. ((h.exact k).0 at).0, all k);

@@ -4,6 +4,7 @@ use Rattle.std.specs.Prelude.{Contains}
 use Rattle.std.proofs.lemmas.List.{length-map}
 use Rattle.std.specs.Ordering.{nat_cmp}
 use Rattle.std.specs.FinSet as fin
+use Rattle.bitset.specs.Members.{from_meet}
 use Rattle.graphs.specs.Closures.{Closure, IsCover, IsClosed, HoldsMembers}
 use Rattle.lists.proofs.Entries.{map-Contains, Contains-cases, none_in_empty}
 use Rattle.bitset.specs.Places.{places, IsWithin}
@@ -20,7 +21,6 @@ use Rattle.linearize.specs.Orders.{AreCovers, Balances, IsOrderOf, flows_of, sum
 use Rattle.linearize.specs.Splits.{Linearizes, Adds}
 use Rattle.linearize.proofs.Certified.{in_of, ends_of, given_is, gotten_is}
 use Rattle.linearize.proofs.Lists.{distinct_places, total_any_order, sum_any_order}
-use Rattle.linearize.proofs.Sets.{from_meet}
 use Rattle.linearize.proofs.Triangles.{few_pairs}
 
 pub sums_of_order : (n : ℕ) (dep : Closure) (s : fin.FinSet nat_cmp) (ids : List ℕ) → IsWithin n s → IsOrderOf dep s ids → sums (sum_at dep) ids ≡ sums_in n dep s

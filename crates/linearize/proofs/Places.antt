@@ -14,9 +14,6 @@ use Rattle.bitset.specs.Sets.{places-here, Contains-places, len-places}
 use Rattle.closure_flow.specs.Closures.{parents_at}
 use Rattle.linearize.specs.Orders.{AreCovers}
 
-pub clash : {X : Type 0} (b : Bool) → b ≡ true → b ≡ false → X
-clash b e f = absurd (let g : true ≡ false = sym e ∙ f in cc)
-
 pub in_members : (dep : Closure) (p : ℕ) → fin.contains (members_of dep) p ≡ is_member dep p
 unfolding members_of is_member
 in_members dep p = fin.contains-from_list nat_cmp_total (map.keys dep) p ∙ sym (map.contains_key-keys dep p)

@@ -4,6 +4,7 @@ use Rattle.std.specs.Prelude.{Contains, flat_map}
 use Rattle.std.proofs.lemmas.Bool.{cases_eq}
 use Rattle.std.proofs.lemmas.List.Elements.{Contains-append_left, Contains-append_right, Contains-append_cases}
 use Rattle.std.specs.FinSet as fin
+use Rattle.bitset.specs.Members.{from_remove, to_remove}
 use Rattle.graphs.specs.Closures.{Closure, is_member, is_ancestor, ancestors_of, members_of, IsClosed}
 use Rattle.lists.proofs.Entries.{Contains-head, Contains-later, Contains-cases, none_in_empty}
 use Rattle.bitset.specs.Places.{places}
@@ -11,7 +12,6 @@ use Rattle.bitset.specs.Sets.{Contains-places, places-Contains}
 use Rattle.graphs.specs.Graphs as model
 use Rattle.linearize.specs.Graphs.{StandsFor}
 use Rattle.linearize.proofs.Places.{in_members}
-use Rattle.linearize.proofs.Sets.{from_remove, to_remove}
 
 -- ---- pairs of the numbers of a list with others
 to_map : (d a : ℕ) (xs : List ℕ) → Contains xs a → Contains {X = ℕ × ℕ} (map (λ (x : ℕ). (x, d)) xs) (a, d)

@@ -1,80 +1,25 @@
 -- Sets of places: members of changed sets, and sums over a set that is two others side by side.
 use Rattle.std.proofs.Common.{◌≡◌, ℕ, ◌+◌, ◌<◌, ◌≤◌, ◌⊎◌, inl, inr, Bool, true, false, cond, not, ◌&&◌, ◌||◌, nat_eq, List, [], ◌∷◌, length, sum_by, ℤ, pos, ◌+ℤ◌, refl, sym, ap, ◌∙◌, subst, arith, eq-eqb, ne_eqb}
 use Rattle.std.proofs.lemmas.Int.{ints}
-use Rattle.std.proofs.lemmas.Bool.{cases_eq}
+use Rattle.std.proofs.lemmas.Bool.{cases_eq, false_from_ne_true, cases_Bool}
 use Rattle.std.proofs.lemmas.List.Sums.{sum_by-cons}
 use Rattle.std.proofs.lemmas.List.Filters.{length-filter_both}
 use Rattle.std.proofs.lemmas.List.FromFn.{length-range_with_len}
 use Rattle.std.specs.List.{range_with_len}
 use Rattle.std.specs.Ordering.{nat_cmp}
 use Rattle.std.specs.FinSet as fin
+use Rattle.lists.proofs.Cases.{clash}
+use Rattle.bitset.specs.Members.{from_remove, to_remove, from_union, to_union_left, to_union_right, minus_parts, in_minus}
 use Rattle.arithmetic.specs.Sums.{total}
-use Rattle.arithmetic.proofs.Sums.{total-add, total-filter_cond, total_same}
+use Rattle.arithmetic.proofs.Sums.{total-add, total-filter_cond, total_same, total-pos}
 use Rattle.bitset.specs.Places.{places, IsWithin, IsLeast}
 use Rattle.bitset.specs.Sets.{contains-insert, contains-remove, contains-union, contains-intersection, contains-difference, contains-empty, len-places, places-least, places-empty, same_members}
-use Rattle.linearize.proofs.Places.{clash}
-
-pub test_of : (b : Bool) → (b ≡ true) ⊎ (b ≡ false)
-test_of true = inl refl
-test_of false = inr refl
-
-pub not_true : (b : Bool) → (b ≡ true → ⊥) → b ≡ false
-not_true true h = absurd (h refl)
-not_true false h = refl
-
-and_both : (a b : Bool) → (a && b) ≡ true → (a ≡ true) × (b ≡ true)
-and_both true b e = (refl, e)
-and_both false b e = absurd (let f : false ≡ true = e in cc)
-
-or_either : (a b : Bool) → (a || b) ≡ true → (a ≡ true) ⊎ (b ≡ true)
-or_either true b e = inl refl
-or_either false b e = inr e
 
 not_is : (b : Bool) → not b ≡ true → b ≡ true → ⊥
 not_is true e f = let g : false ≡ true = e in cc
 not_is false e f = let g : false ≡ true = f in cc
 
 -- ---- members
-pub from_meet : (s t : fin.FinSet nat_cmp) (q : ℕ) → fin.contains (fin.intersection s t) q ≡ true → (fin.contains s q ≡ true) × (fin.contains t q ≡ true)
-from_meet s t q m = and_both _ _ (sym (contains-intersection s t q) ∙ m)
-
-pub to_meet : (s t : fin.FinSet nat_cmp) (q : ℕ) → fin.contains s q ≡ true → fin.contains t q ≡ true → fin.contains (fin.intersection s t) q ≡ true
-to_meet s t q a b = contains-intersection s t q ∙ ap (λ (x : Bool). x && fin.contains t q) a ∙ b
-
-pub from_union : (s t : fin.FinSet nat_cmp) (q : ℕ) → fin.contains (fin.union s t) q ≡ true → (fin.contains s q ≡ true) ⊎ (fin.contains t q ≡ true)
-from_union s t q m = or_either _ _ (sym (contains-union s t q) ∙ m)
-
-pub to_union_left : (s t : fin.FinSet nat_cmp) (q : ℕ) → fin.contains s q ≡ true → fin.contains (fin.union s t) q ≡ true
-to_union_left s t q a = contains-union s t q ∙ ap (λ (x : Bool). x || fin.contains t q) a
-
-pub to_union_right : (s t : fin.FinSet nat_cmp) (q : ℕ) → fin.contains t q ≡ true → fin.contains (fin.union s t) q ≡ true
-to_union_right s t q b = contains-union s t q ∙ ap (λ (x : Bool). fin.contains s q || x) b ∙ or_true (fin.contains s q)
-  where
-    or_true : (x : Bool) → (x || true) ≡ true
-    or_true true = refl
-    or_true false = refl
-
-pub from_minus : (s t : fin.FinSet nat_cmp) (q : ℕ) → fin.contains (fin.difference s t) q ≡ true → (fin.contains s q ≡ true) × (fin.contains t q ≡ true → ⊥)
-from_minus s t q m =
-    let both : (fin.contains s q ≡ true) × (not (fin.contains t q) ≡ true) = and_both _ _ (sym (contains-difference s t q) ∙ m) in
-    (both.0, not_is (fin.contains t q) both.1)
-
-pub to_minus : (s t : fin.FinSet nat_cmp) (q : ℕ) → fin.contains s q ≡ true → (fin.contains t q ≡ true → ⊥) → fin.contains (fin.difference s t) q ≡ true
-to_minus s t q a out = contains-difference s t q ∙ ap (λ (x : Bool). x && not (fin.contains t q)) a ∙ ap not (not_true (fin.contains t q) out)
-
-pub from_remove : (s : fin.FinSet nat_cmp) (k q : ℕ) → fin.contains (fin.remove s k) q ≡ true → (q ≡ k → ⊥) × (fin.contains s q ≡ true)
-from_remove s k q m =
-    let both : (not (nat_eq q k) ≡ true) × (fin.contains s q ≡ true) = and_both _ _ (sym (contains-remove s k q) ∙ m) in
-    (λ e. not_is (nat_eq q k) both.0 (eq-eqb q k e), both.1)
-
-pub to_remove : (s : fin.FinSet nat_cmp) (k q : ℕ) → (q ≡ k → ⊥) → fin.contains s q ≡ true → fin.contains (fin.remove s k) q ≡ true
-to_remove s k q other m = contains-remove s k q ∙ ap (λ (b : Bool). not b && fin.contains s q) (ne_eqb q k other) ∙ m
-
-pub removed_here : (s : fin.FinSet nat_cmp) (k : ℕ) → fin.contains (fin.remove s k) k ≡ true → ⊥
-removed_here s k m = (from_remove s k k m).0 refl
-
-pub not_empty : (s : fin.FinSet nat_cmp) (k : ℕ) → fin.contains s k ≡ true → s ≡ fin.empty → ⊥
-not_empty s k m e = clash (fin.contains s k) m (ap (λ t. fin.contains t k) e ∙ contains-empty k)
 
 -- ---- a set that is two others side by side
 pub record IsSplit (s a b : fin.FinSet nat_cmp) : Type 0 where
@@ -86,12 +31,12 @@ pub record IsSplit (s a b : fin.FinSet nat_cmp) : Type 0 where
 pub split_minus : (s c : fin.FinSet nat_cmp) → ((k : ℕ) → fin.contains c k ≡ true → fin.contains s k ≡ true) → IsSplit s c (fin.difference s c)
 split_minus s c inside = record {
   left = inside;
-  right = λ k m. (from_minus s c k m).0;
-  either = λ k m. elim (test_of (fin.contains c k)) as (λ _. (fin.contains c k ≡ true) ⊎ (fin.contains (fin.difference s c) k ≡ true)) [
+  right = λ k m. (minus_parts s c k m).0;
+  either = λ k m. elim (cases_Bool (fin.contains c k)) as (λ _. (fin.contains c k ≡ true) ⊎ (fin.contains (fin.difference s c) k ≡ true)) [
     | inl here ↦ inl here
-    | inr out ↦ inr (to_minus s c k m (λ here. clash (fin.contains c k) here out))
+    | inr out ↦ inr (in_minus s c k m (λ here. clash (fin.contains c k) here out))
   ];
-  apart = λ k a b. (from_minus s c k b).1 a;
+  apart = λ k a b. (minus_parts s c k b).1 a;
 }
 
 pub split_union : (a b : fin.FinSet nat_cmp) → ((k : ℕ) → fin.contains a k ≡ true → fin.contains b k ≡ true → ⊥) → IsSplit (fin.union a b) a b
@@ -128,7 +73,7 @@ split_remove s p m = record {
 places_single : (n p : ℕ) → p < n → places n (single p) ≡ p ∷ []
 places_single n p inside =
     places-least n (single p) p (single_least p) inside
-    ∙ ap (λ t. p ∷ places n t) (same_members (fin.remove (single p) p) fin.empty (λ q. not_true _ (λ m. (let r = from_remove (single p) p q m in r.0 (in_single p q r.1))) ∙ sym (contains-empty q)))
+    ∙ ap (λ t. p ∷ places n t) (same_members (fin.remove (single p) p) fin.empty (λ q. false_from_ne_true _ (λ m. (let r = from_remove (single p) p q m in r.0 (in_single p q r.1))) ∙ sym (contains-empty q)))
     ∙ ap (λ qs. p ∷ qs) (places-empty n)
 
 -- ---- sums
@@ -150,14 +95,10 @@ total_split f n s a b split =
     let both = total-add (λ k. cond (fin.contains a k) (f k) (pos 0)) (λ k. cond (fin.contains b k) (f k) (pos 0)) (range_with_len 0 n) in
     omega (arith, ints, one, two, three, each, both)
 
-pub total_naturals : {A : Type 0} (f : A → ℕ) (xs : List A) → total (λ x. pos (f x)) xs ≡ pos (sum_by f xs)
-total_naturals f [] = refl
-total_naturals f (x ∷ xs) = omega (arith, ints, total_naturals f xs, sum_by-cons f x xs)
-
 pub sum_split : (f : ℕ → ℕ) (n : ℕ) (s a b : fin.FinSet nat_cmp) → IsSplit s a b → sum_by f (places n s) ≡ sum_by f (places n a) + sum_by f (places n b)
 sum_split f n s a b split =
     let all = total_split (λ k. pos (f k)) n s a b split in
-    omega (arith, ints, all, total_naturals f (places n s), total_naturals f (places n a), total_naturals f (places n b))
+    omega (arith, ints, all, total-pos f (places n s), total-pos f (places n a), total-pos f (places n b))
 
 length_is_sum : {A : Type 0} (xs : List A) → sum_by (λ x. 1) xs ≡ length xs
 length_is_sum [] = refl
@@ -193,7 +134,3 @@ len_remove n s p within m =
 pub len_within : (n : ℕ) (s a : fin.FinSet nat_cmp) → IsWithin n s → ((k : ℕ) → fin.contains a k ≡ true → fin.contains s k ≡ true) → fin.len a ≤ fin.len s
 len_within n s a within inside = let all = len_split n s a (fin.difference s a) within (split_minus s a inside) in omega (arith, all)
 
--- nor more than there are places below a bound of it
-pub len_below : (n : ℕ) (s : fin.FinSet nat_cmp) → IsWithin n s → fin.len s ≤ n
-len_below n s within =
-    omega (arith, len-places n s within, length-filter_both (fin.contains s) (λ k. not (fin.contains s k)) (λ k. refl) (range_with_len 0 n), length-range_with_len 0 n)

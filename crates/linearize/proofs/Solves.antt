@@ -5,10 +5,10 @@ use Rattle.std.proofs.lemmas.List.Elements.{Contains-append_cases}
 use Rattle.std.proofs.lemmas.List.Sums.{sum_by-cons, sum_by-append}
 use Rattle.std.specs.Prelude.{Contains}
 use Rattle.std.specs.List.{sum_by}
+use Rattle.lists.proofs.Entries.{Contains-head, Contains-later, Contains-cases, none_in_empty}
 use Rattle.closure_flow.specs.Bounds.{most_steps}
 use Rattle.closure_flow.proofs.Powers.{fourth}
 use Rattle.linearize.specs.Steps.{AreOfSolves, IsSolve, Solve}
-use Rattle.linearize.proofs.Places.{Contains-head, Contains-later, Contains-cases, none_in_empty}
 
 -- ---- sums of what each entry of a list gives
 each_most : (f : Solve → ℕ) (xs : List Solve) (most : ℕ) → ((x : Solve) → Contains xs x → f x ≤ most) → sum_by f xs ≤ length xs * most

@@ -1,16 +1,19 @@
 -- Covering pairs are few: m places have at most m · m / 4, since no three places are pairwise joined (Mantel, 1907).
 use Rattle.std.proofs.Common.{◌≡◌, ℕ, zero, suc, ◌+◌, ◌*◌, ◌≤◌, ◌⊎◌, inl, inr, Bool, true, false, cond, not, ◌||◌, nat_eq, List, [], ◌∷◌, length, map, filter, refl, sym, ap, ◌∙◌, subst, arith, eq-eqb, ne_eqb}
 use Rattle.std.specs.Prelude.{Contains}
-use Rattle.std.proofs.lemmas.Bool.{cases_eq}
+use Rattle.std.proofs.lemmas.Bool.{cases_eq, cases_Bool}
 use Rattle.std.proofs.lemmas.List.{length-map}
 use Rattle.std.proofs.lemmas.List.Filters.{length-filter_both}
 use Rattle.std.specs.Ordering.{nat_cmp}
 use Rattle.std.specs.FinSet as fin
+use Rattle.lists.proofs.Cases.{or_true}
+use Rattle.bitset.specs.Members.{from_remove, to_remove}
+use Rattle.lists.proofs.Distinct.{distinct_kept, distinct-filter}
 use Rattle.graphs.specs.Closures.{Closure, IsCover, IsClosed}
-use Rattle.lists.proofs.Entries.{map-Contains, Contains-head, Contains-later, Contains-cases, none_in_empty}
+use Rattle.lists.proofs.Entries.{map-Contains, Contains-head, Contains-later, Contains-cases, none_in_empty, kept_cases, filter-Contains}
 use Rattle.lists.specs.Distinct.{AreDistinct}
 use Rattle.bitset.specs.Places.{IsWithin}
-use Rattle.linearize.proofs.Sets.{from_remove, to_remove, len_remove, test_of}
+use Rattle.linearize.proofs.Sets.{len_remove}
 
 -- distinct members of a set are at most as many as it has
 length_inside : (n : ℕ) (s : fin.FinSet nat_cmp) (xs : List ℕ) → IsWithin n s → AreDistinct xs → ((x : ℕ) → Contains xs x → fin.contains s x ≡ true) → length xs ≤ fin.len s
@@ -22,24 +25,6 @@ length_inside n s (x ∷ xs) within d inside =
     omega (arith, rest, len_remove n s x within (inside x (Contains-head x xs)))
 
 -- ---- entries that pass a test
-kept_cases : {A : Type 0} (b : Bool) (x y : A) (xs : List A) → Contains (cond b (x ∷ xs) xs) y → ((b ≡ true) × (x ≡ y)) ⊎ Contains xs y
-kept_cases true x y xs h = elim (Contains-cases x y xs h) [ inl same ↦ inl (refl, same) | inr later ↦ inr later ]
-kept_cases false x y xs h = inr h
-
-in_filter : {A : Type 0} (p : A → Bool) (xs : List A) (x : A) → Contains (filter p xs) x → (p x ≡ true) × Contains xs x
-in_filter p [] x h = absurd (none_in_empty x h)
-in_filter p (a ∷ xs) x h = elim (kept_cases (p a) a x (filter p xs) h) [
-  | inl here ↦ (ap p (sym here.1) ∙ here.0, subst (λ z. Contains (a ∷ xs) z) here.1 (Contains-head a xs))
-  | inr later ↦ let found = in_filter p xs x later in (found.0, Contains-later a x xs found.1)
-]
-
-distinct_kept : {A : Type 0} (b : Bool) (x : A) (xs : List A) → (Contains xs x → ⊥) → AreDistinct xs → AreDistinct (cond b (x ∷ xs) xs)
-distinct_kept true x xs new d = (new, d)
-distinct_kept false x xs new d = d
-
-distinct_filter : {A : Type 0} (p : A → Bool) (xs : List A) → AreDistinct xs → AreDistinct (filter p xs)
-distinct_filter p [] d = tt
-distinct_filter p (x ∷ xs) d = distinct_kept (p x) x (filter p xs) (λ h. d.0 (in_filter p xs x h).1) (distinct_filter p xs d.1)
 
 distinct_map : {A B : Type 0} (f : A → B) (xs : List A) → AreDistinct xs → ((x y : A) → Contains xs x → Contains xs y → f x ≡ f y → x ≡ y) → AreDistinct (map f xs)
 distinct_map f [] d same = tt
@@ -101,10 +86,6 @@ module _ (n : ℕ) (dep : Closure) (closed : IsClosed n dep) where
       λ same. (let f : true ≡ false = sym (ap (λ (t : Bool). t || nat_eq x b) (eq-eqb x a same)) ∙ e in cc),
       λ same. (let f : true ≡ false = sym (ap (λ (t : Bool). nat_eq x a || t) (eq-eqb x b same) ∙ or_true (nat_eq x a)) ∙ e in cc),
     )
-      where
-        or_true : (t : Bool) → (t || true) ≡ true
-        or_true true = refl
-        or_true false = refl
 
     touches : ℕ × ℕ → Bool
     touches e = is_end e.0 || is_end e.1
@@ -120,7 +101,7 @@ module _ (n : ℕ) (dep : Closure) (closed : IsClosed n dep) where
 
     ties : (e : ℕ × ℕ) → touches e ≡ true → Ties (other e) e
     unfolding touches other
-    ties e t = elim (test_of (is_end e.0)) [
+    ties e t = elim (cases_Bool (is_end e.0)) [
       | inl at ↦ record { at = e.0; is = end_of e.0 at; way = inl (λ i. (e.0, ap (λ (k : Bool). cond k e.1 e.0) (sym at) i)) }
       | inr out ↦ record {
         at = e.1;
@@ -226,13 +207,13 @@ module _ (n : ℕ) (dep : Closure) (closed : IsClosed n dep) where
 
       few_touch : length (filter touches es) ≤ fin.len others
       few_touch =
-          let d : AreDistinct (map other (filter touches es)) = distinct_map other (filter touches es) (distinct_filter touches es pairs.once.1) (λ x y hx hy same.
-          (let fx = in_filter touches es x hx in
-          let fy = in_filter touches es y hy in
+          let d : AreDistinct (map other (filter touches es)) = distinct_map other (filter touches es) (distinct-filter touches es pairs.once.1) (λ x y hx hy same.
+          (let fx = filter-Contains touches es x hx in
+          let fy = filter-Contains touches es y hy in
           one_tie (other x) x y (of_tail x fx.1).1 (of_tail y fy.1).1 (ties x fx.0) (subst (λ (k : ℕ). Ties k y) (sym same) (ties y fy.0)))) in
           let inside : length (map other (filter touches es)) ≤ fin.len others = length_inside n others (map other (filter touches es)) others_within d (λ x h.
           (let found = map-Contains other (filter touches es) x h in
-          let f = in_filter touches es found.0 found.1 in
+          let f = filter-Contains touches es found.0 found.1 in
           subst (λ (k : ℕ). fin.contains others k ≡ true) found.2 (other_in found.0 f.1 f.0))) in
           omega (arith, inside, length-map (filter touches es) other)
 
@@ -250,10 +231,10 @@ module _ (n : ℕ) (dep : Closure) (closed : IsClosed n dep) where
 
       rest_pairs : Pairs others (filter misses es)
       rest_pairs = record {
-        once = distinct_filter misses es pairs.once.1;
-        cover = λ c p h. pairs.cover c p (Contains-later (a, b) (c, p) es (in_filter misses es (c, p) h).1);
-        child = λ c p h. (let f = in_filter misses es (c, p) h in to_others c (no_end c (ends_of_miss (c, p) f.0).0) (pairs.child c p (Contains-later (a, b) (c, p) es f.1)));
-        parent = λ c p h. (let f = in_filter misses es (c, p) h in to_others p (no_end p (ends_of_miss (c, p) f.0).1) (pairs.parent c p (Contains-later (a, b) (c, p) es f.1)));
+        once = distinct-filter misses es pairs.once.1;
+        cover = λ c p h. pairs.cover c p (Contains-later (a, b) (c, p) es (filter-Contains misses es (c, p) h).1);
+        child = λ c p h. (let f = filter-Contains misses es (c, p) h in to_others c (no_end c (ends_of_miss (c, p) f.0).0) (pairs.child c p (Contains-later (a, b) (c, p) es f.1)));
+        parent = λ c p h. (let f = filter-Contains misses es (c, p) h in to_others p (no_end p (ends_of_miss (c, p) f.0).1) (pairs.parent c p (Contains-later (a, b) (c, p) es f.1)));
       }
 
       shared : length (filter touches es) + length (filter misses es) ≡ length es

@@ -17,7 +17,7 @@ use crate::part::emit;
 use bitset::Bits;
 use closure_flow::{Outcome, Scratch, solve};
 use dep_graph::DepGraph;
-use fee_rate::FeeRate;
+use fee_rate::{FeeRate, product};
 use step_count::{Ledger, Steps};
 
 /// Linearizes a set of members: as one part where it is balanced, else a closed set of greatest weight and then the
@@ -117,14 +117,5 @@ fn weight(whole: FeeRate, own: FeeRate) -> i128
     ensures is { result ≡ weight_in (sum_from whole) (sum_from own) }
     ensures small { unsigned_abs result < 2 ^ 99 }
 {
-    product(own.fee, whole.size) - product(whole.fee, own.size)
-}
-
-// A fee times the size of at most 4,096 transactions. Below 2^98 in absolute value.
-fn product(fee: i64, size: u64) -> i128
-    requires { size ≤ MAX_SIZE * most_members }
-    ensures product { result ≡ fee *ℤ pos size }
-    ensures bound { unsigned_abs result < 2 ^ 98 }
-{
-    i128::from(fee) * i128::from(size)
+    product(i128::from(own.fee), whole.size) - product(i128::from(whole.fee), own.size)
 }

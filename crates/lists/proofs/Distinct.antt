@@ -31,7 +31,7 @@ distinct_joined (a ∷ xs) ys d e apart = (
   distinct_joined xs ys d.1 e (λ x left right. apart x (Contains-later a x xs left) right),
 )
 
-distinct_kept : {A : Type 0} (b : Bool) (x : A) (xs : List A) → (Contains xs x → ⊥) → AreDistinct xs → AreDistinct (cond b (x ∷ xs) xs)
+pub distinct_kept : {A : Type 0} (b : Bool) (x : A) (xs : List A) → (Contains xs x → ⊥) → AreDistinct xs → AreDistinct (cond b (x ∷ xs) xs)
 distinct_kept true x xs new d = (new, d)
 distinct_kept false x xs new d = d
 

@@ -43,7 +43,7 @@ Contains-filter p (a ∷ xs) x e h = elim (Contains-cases a x xs h) [
   | inr later ↦ keeps_rest (p a) a x (filter p xs) (Contains-filter p xs x e later)
 ]
 
-kept_cases : {A : Type 0} (b : Bool) (x y : A) (xs : List A) → Contains (cond b (x ∷ xs) xs) y → ((b ≡ true) × (x ≡ y)) ⊎ Contains xs y
+pub kept_cases : {A : Type 0} (b : Bool) (x y : A) (xs : List A) → Contains (cond b (x ∷ xs) xs) y → ((b ≡ true) × (x ≡ y)) ⊎ Contains xs y
 kept_cases true x y xs h = elim (Contains-cases x y xs h) [ inl same ↦ inl (refl, same) | inr later ↦ inr later ]
 kept_cases false x y xs h = inr h
 

@@ -1,7 +1,8 @@
 use Rattle.std.proofs.Common.{rules, ◌≡◌, ◌∙◌, ◌*◌, ℕ, refl, sym, subst, true, false}
+use Rattle.lists.proofs.Cases.{clash}
 use Rattle.graphs.specs.Closures.{Closure, is_member, members_of, rate_of}
 use Rattle.fee_rate.specs.Limits.{IsRate}
-use Rattle.linearize.proofs.Places.{clash, members_tested, member_here, tested_more, each_member}
+use Rattle.linearize.proofs.Places.{members_tested, member_here, tested_more, each_member}
 use Rattle.linearize.proofs.fit.has_rates.Goals as goal
 
 -- the fee and the size of a place are those of a transaction

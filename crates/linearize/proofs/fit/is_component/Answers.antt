@@ -2,10 +2,11 @@ use Rattle.std.proofs.Common.{rules, ◌≡◌, ◌⊎◌, inl, inr, ◌∙◌, 
 use Rattle.std.specs.Cmp.{nat_cmp_total}
 use Rattle.std.specs.FinSet as fin
 use Rattle.std.specs.Ordering.{nat_cmp}
+use Rattle.lists.proofs.Cases.{swap}
+use Rattle.bitset.specs.Members.{empty_has_none}
 use Rattle.graphs.specs.Closures.{Closure, is_member, members_of, IsNear}
 use Rattle.lists.specs.Walks.{IsWalk, Walk}
 use Rattle.linearize.proofs.Places.{in_members}
-use Rattle.linearize.proofs.Sets.{not_empty}
 use Rattle.linearize.proofs.fit.is_component.Goals as goal
 
 -- a walk among members, by steps to ancestors and descendants
@@ -14,10 +15,6 @@ Path dep s a b = Walk (IsNear dep s) a b
 
 abbrev IsPath : Closure → fin.FinSet nat_cmp → ℕ → List ℕ → ℕ → Type 0
 IsPath dep s a us b = IsWalk (IsNear dep s) a us b
-
-swap : {A B : Type 0} → A ⊎ B → B ⊎ A
-swap (inl a) = inr a
-swap (inr b) = inl b
 
 near_back : (dep : Closure) (s : fin.FinSet nat_cmp) (a b : ℕ) → IsNear dep s a b → IsNear dep s b a
 near_back dep s a b near = record {
@@ -82,6 +79,6 @@ pub returns-in-None : goal.returns-in-None
 returns-in-None g c =
     let s = c.members-members.result in
     let is = c.members-members.ensures.members in (
-      (λ e a b ma mb. absurd (not_empty s a (of_member c.args.dep.now s a is ma) c.in-None.ensures.least)),
+      (λ e a b ma mb. absurd (empty_has_none s a (of_member c.args.dep.now s a is ma) c.in-None.ensures.least)),
       (λ joined. refl),
     )

@@ -1,7 +1,7 @@
 use Rattle.std.proofs.Common.{◌≡◌, ◌*◌, ◌∙◌, ap, subst, true}
 use Rattle.std.specs.FinSet as fin
+use Rattle.bitset.specs.Members.{from_meet, from_remove}
 use Rattle.linearize.proofs.Orders.{higher, is_top}
-use Rattle.linearize.proofs.Sets.{from_meet, from_remove}
 use Rattle.linearize.proofs.Sizes.{words_fit, lists_fit}
 use Rattle.linearize.proofs.part.top.Goals as goal
 

@@ -1,9 +1,9 @@
 use Rattle.std.proofs.Common.{◌≡◌, ◌<◌, ◌+◌, ◌*◌, ℕ, ap, sym, subst, arith, lit<, true, rules}
 use Rattle.std.specs.FinSet as fin
+use Rattle.bitset.specs.Members.{minus_parts}
 use Rattle.linearize.specs.Splits.{Adds, HasRoom}
 use Rattle.linearize.specs.Steps.{AreOfSolves}
 use Rattle.linearize.proofs.Joined.{c_some, rest_some, both_lens, first_room, second_room, both_added}
-use Rattle.linearize.proofs.Sets.{from_minus}
 use Rattle.linearize.proofs.Sizes.{words_fit, lists_fit, scratch_fits}
 use Rattle.linearize.proofs.Solves.{one_solve, two_solves}
 use Rattle.linearize.proofs.split.+split.Goals as goal
@@ -87,7 +87,7 @@ split-requires-in-Some g t c κs within =
                     (
                       record {
                         closed = r.closed;
-                        members = λ p m. r.members p (from_minus s first p (subst (λ x. fin.contains x p ≡ true) is m)).0;
+                        members = λ p m. r.members p (minus_parts s first p (subst (λ x. fin.contains x p ≡ true) is m)).0;
                         some = omega (arith, same, others);
                         few = (let few = r.few in omega (arith, same, lens, few));
                         rates = r.rates;
