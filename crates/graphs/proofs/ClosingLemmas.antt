@@ -12,7 +12,7 @@ use Rattle.graphs.specs.Graphs as plain
 use Rattle.graphs.specs.Closures.{Closure, is_member, is_ancestor, IsOrder, IsRelated, AreLinked, IsCover}
 use Rattle.graphs.specs.Removals.{IsWithout}
 use Rattle.graphs.specs.Closing.{Closes, IsClosureOf, with_name, with_pair, joined, within, AreWithout, KeepsBetween, KeepsApart, IsRenamed, renamed}
-use Rattle.graphs.proofs.WalkLemmas.{IsAncestor-itself, AreConnected-trans, AreConnected-sym, AreConnected-itself, walk_connects, walk_within}
+use Rattle.graphs.proofs.WalkLemmas.{IsAncestor-trans, IsAncestor-itself, AreConnected-trans, AreConnected-sym, AreConnected-itself, walk_connects, walk_within}
 use Rattle.graphs.proofs.PairLemmas.{ancestors_through, no_cycle_with_pair}
 use Rattle.graphs.proofs.RemovalLemmas.{ancestors_without, no_cycle_left, ends_without}
 
@@ -48,6 +48,23 @@ module _ (m : ℕ → Bool) (r : ℕ → ℕ → Bool) (graph : Graph) (c : Clos
         let one : m a ≡ true = sym (same a) ∙ here in let two : m d ≡ true = sym (same d) ∙ there in
         let law = c.ancestors a d one two in (λ walk. alike a d one two ∙ law.0 walk, λ up. law.1 (sym (alike a d one two) ∙ up));
   }
+
+  -- where only members are related, the relation is an order on them
+  pub order_from : ((a d : ℕ) → r a d ≡ true → (m a ≡ true) × (m d ≡ true)) → IsOrder m r
+  order_from among = record {
+    among = among;
+    reflexive = above_itself;
+    transitive = λ x y z e f.
+        let one = among x y e in let two = among y z f in
+        (c.ancestors x z one.0 two.1).0 (IsAncestor-trans graph.pairs x y z ((c.ancestors x y one.0 one.1).1 e) ((c.ancestors y z two.0 two.1).1 f));
+    antisymmetric = λ x y e f.
+        let one = among x y e in let two = among y x f in
+        together x y ((c.ancestors x y one.0 one.1).1 e) ((c.ancestors y x two.0 two.1).1 f);
+  }
+    where
+      together : (x y : ℕ) → IsAncestor graph.pairs x y → IsAncestor graph.pairs y x → x ≡ y
+      together x y up (zero, same) = sym same
+      together x y up (suc n, (v, walk, pair)) = let before = IsAncestor-trans graph.pairs x y v up (n, walk) in absurd (c.acyclic x before.0 (v, before.1, pair))
 
   -- where the relation is an order on the members, it says who is an ancestor of whom among all numbers
   module _ (order : IsOrder m r) where

@@ -133,8 +133,11 @@ RenamedIsClosed =
     → KeepsApart f old.names → IsRenamed f old new → ((q : ℕ) → (member' q ≡ true) ↔ ((p : ℕ) × (member p ≡ true) × (f p ≡ q)))
     → ((a d : ℕ) → member a ≡ true → member d ≡ true → above' (f a) (f d) ≡ above a d) → Closes member' above' new
 
--- Names are connected along the pairs where they are linked in the closure, and the covering pairs of both are the same.
+-- The relation is an order on the members where it is among them alone. Then a name is another's ancestor along the pairs
+-- where it is the same or above it, names are connected where they are linked, and the covering pairs are the same.
 pub record ClosureTellsOfGraph : Type 0 where
+  pub order : (g : Closure) (graph : Graph) → IsClosureOf g graph → ((a d : ℕ) → is_ancestor g a d ≡ true → (is_member g a ≡ true) × (is_member g d ≡ true))
+      → IsOrder (is_member g) (is_ancestor g)
   pub ancestors : (g : Closure) (graph : Graph) → IsOrder (is_member g) (is_ancestor g) → IsClosureOf g graph
       → (a b : ℕ) → IsAncestor graph.pairs a b ↔ ((a ≡ b) ⊎ (is_ancestor g a b ≡ true))
   pub connected : (g : Closure) (graph : Graph) → IsOrder (is_member g) (is_ancestor g) → IsClosureOf g graph
