@@ -2,11 +2,11 @@
 use Rattle.std.proofs.Common.{◌≡◌, ℕ, ℤ, ◌<◌, ◌≤◌, Bool, true, false, ◌&&◌, ◌||◌, List, [], ◌∷◌, length, slice_index, Option, Some, None, inl, inr, refl, sym, ap, ◌∙◌, subst, subst₂, lt-ltb, ltb-true, true≢false}
 use Rattle.std.proofs.lemmas.Bool.{cases_eq, cases_Bool, or_cases, and_parts}
 use Rattle.std.specs.FinMap as map
-use Rattle.graphs.specs.Closures.{Node, Closure, is_member, is_ancestor, rate_of, rate_in, no_rate, IsOrder, IsClosed, AddsPair, SetsFee}
+use Rattle.graphs.specs.Closures.{Node, Closure, is_member, is_ancestor, rate_of, rate_in, no_rate, IsOrder, IsClosed, AddsPair, SetsFee, IsRelated, AreLinked}
 use Rattle.lists.proofs.Cases.{same_test}
 use Rattle.lists.specs.Walks.{Walk}
 use Rattle.fee_rate.specs.declared.rates.FeeRate.{FeeRate}
-use Rattle.cluster_record.specs.Clusters.{AreOnce, IsRelated, AreLinked, IsCluster}
+use Rattle.cluster_record.specs.Clusters.{AreOnce, IsCluster}
 use Rattle.cluster_record.specs.Named.{named, IsNamed}
 use Rattle.cluster_record.proofs.Names.{Stands, Contains-stands, Stands-contains, named-member, member-stands, named-rate, named-ancestor, ancestor-stands}
 

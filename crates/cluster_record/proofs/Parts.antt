@@ -3,13 +3,12 @@ use Rattle.std.proofs.Common.{◌≡◌, ℕ, ◌<◌, ◌≤◌, true, nat_lt, 
 use Rattle.std.proofs.lemmas.List.{length-map, get_or-map}
 use Rattle.std.specs.Ordering.{nat_cmp}
 use Rattle.std.specs.FinSet as set
-use Rattle.graphs.specs.Closures.{Closure, is_ancestor, rate_of, IsClosed, IsNear, IsPart}
+use Rattle.graphs.specs.Closures.{Closure, is_ancestor, rate_of, IsClosed, IsNear, IsPart, IsRelated}
 use Rattle.lists.specs.Walks.{Walk, IsWalk}
 use Rattle.lists.proofs.Rising.{rising_once}
 use Rattle.bitset.specs.Places.{places, IsWithin}
 use Rattle.bitset.specs.Sets.{IsRising-places, Contains-places, places-Contains}
 use Rattle.fee_rate.specs.declared.rates.FeeRate.{FeeRate}
-use Rattle.cluster_record.specs.Clusters.{IsRelated}
 use Rattle.cluster_record.specs.Changes.{IsChosen, IsPartOf}
 use Rattle.cluster_record.specs.Named.{named, IsNamed}
 use Rattle.cluster_record.proofs.Names.{Contains-stands, named-ancestor, ancestor-stands, named-rate}

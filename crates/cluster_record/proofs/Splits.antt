@@ -9,13 +9,13 @@ use Rattle.std.specs.Ordering.{nat_cmp}
 use Rattle.std.specs.FinSet as set
 use Rattle.std.specs.List.{range_with_len}
 use Rattle.std.proofs.lemmas.List.FromFn.{length-range_with_len, get_or-range_with_len}
-use Rattle.graphs.specs.Closures.{Closure, is_ancestor, rate_of, HoldsMembers, IsNear}
+use Rattle.graphs.specs.Closures.{Closure, is_ancestor, rate_of, HoldsMembers, IsNear, IsRelated}
 use Rattle.lists.proofs.Walks.{Walk-push, Walk-trans, Walk-back}
 use Rattle.lists.specs.Walks.{Walk, IsWalk}
 use Rattle.lists.proofs.Entries.{Contains-cases}
 use Rattle.bitset.specs.Places.{places, first_places, IsLeast, IsWithin}
 use Rattle.bitset.specs.Sets.{contains-first_places, contains-remove, contains-difference, contains-empty, len-places}
-use Rattle.cluster_record.specs.Clusters.{Cluster, IsRelated, IsCluster, AreApart}
+use Rattle.cluster_record.specs.Clusters.{Cluster, IsCluster, AreApart}
 use Rattle.cluster_record.specs.Changes.{IsChosen, IsPartOf, IsAncestorIn, IsSplit}
 use Rattle.cluster_record.specs.Named.{named, IsNamed}
 use Rattle.cluster_record.proofs.Names.{named-ancestor, ancestor-stands}

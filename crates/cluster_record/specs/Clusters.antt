@@ -1,8 +1,7 @@
 -- A cluster: its names in the order of their places, and the graph of these names.
-use Rattle.std.specs.Prelude.{◌≡◌, ℕ, ◌<◌, ◌≤◌, ◌⊎◌, ◌↔◌, true, List, length, slice_index, Contains, refl}
+use Rattle.std.specs.Prelude.{◌≡◌, ℕ, ◌<◌, ◌≤◌, ◌↔◌, true, List, length, slice_index, Contains, refl}
 use Rattle.std.specs.Coded.{Coded, code_by, coded×, coded_ℕ, coded_list}
-use Rattle.graphs.specs.Closures.{Closure, closure_code, is_member, is_ancestor, rate_of, IsOrder}
-use Rattle.lists.specs.Walks.{Walk}
+use Rattle.graphs.specs.Closures.{Closure, closure_code, is_member, is_ancestor, rate_of, IsOrder, AreLinked}
 
 pub record Cluster : Type 0 where
   pub names : List ℕ
@@ -10,14 +9,6 @@ pub record Cluster : Type 0 where
 
 abbrev pub cluster_code : Coded Cluster
 cluster_code = code_by (List ℕ × Closure) (coded× (coded_list coded_ℕ) closure_code) (λ c. (c.names, c.graph)) (λ p. record { names = p.0; graph = p.1 }) (λ _. refl)
-
--- one of two is an ancestor of the other
-abbrev pub IsRelated : Closure → ℕ → ℕ → Type 0
-IsRelated g a b = (is_ancestor g a b ≡ true) ⊎ (is_ancestor g b a ≡ true)
-
--- steps to ancestors and to descendants lead from the one to the other
-abbrev pub AreLinked : Closure → ℕ → ℕ → Type 0
-AreLinked g a b = Walk (IsRelated g) a b
 
 -- no name stands at two places
 abbrev pub AreOnce : List ℕ → Type 0

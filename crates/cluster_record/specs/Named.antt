@@ -3,9 +3,9 @@ use Rattle.std.specs.Prelude.{◌≡◌, ℕ, zero, suc, ◌<◌, ◌≤◌, Boo
 use Rattle.std.specs.Ordering.{nat_cmp}
 use Rattle.std.specs.FinSet as set
 use Rattle.std.specs.FinMap as map
-use Rattle.graphs.specs.Closures.{Node, Closure, is_member, is_ancestor, rate_of, IsOrder}
+use Rattle.graphs.specs.Closures.{Node, Closure, is_member, is_ancestor, rate_of, IsOrder, IsRelated}
 use Rattle.lists.specs.Walks.{Walk}
-use Rattle.cluster_record.specs.Clusters.{AreOnce, IsRelated}
+use Rattle.cluster_record.specs.Clusters.{AreOnce}
 
 -- the names of the places below n that pass a test
 unfoldable pub names_where : List ℕ → (ℕ → Bool) → ℕ → set.FinSet nat_cmp

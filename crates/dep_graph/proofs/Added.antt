@@ -6,6 +6,7 @@ use Rattle.std.specs.Ordering.{nat_cmp}
 use Rattle.std.specs.Cmp.{nat_cmp_total}
 use Rattle.std.specs.FinSet as fin
 use Rattle.std.specs.FinMap as map
+use Rattle.lists.proofs.Cases.{or_false}
 use Rattle.graphs.specs.Closures.{no_rate}
 use Rattle.bitset.specs.Places.{IsWithin}
 use Rattle.bitset.specs.Sets.{len-places, contains-insert, contains-empty}
@@ -94,8 +95,4 @@ on_err (Err e) p = p
 
 -- the set of one place
 pub contains-only : (place q : ℕ) → fin.contains {R = nat_cmp} (fin.insert fin.empty place) q ≡ nat_eq q place
-contains-only place q = contains-insert fin.empty place q ∙ ap (λ b. nat_eq q place || b) (contains-empty q) ∙ or_none (nat_eq q place)
-  where
-    or_none : (b : Bool) → (b || false) ≡ b
-    or_none true = refl
-    or_none false = refl
+contains-only place q = contains-insert fin.empty place q ∙ ap (λ b. nat_eq q place || b) (contains-empty q) ∙ or_false (nat_eq q place)

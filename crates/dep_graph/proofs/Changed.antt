@@ -4,6 +4,7 @@ use Rattle.std.proofs.lemmas.Bool.{cases_eq, cases_Bool, and_parts, false_from_n
 use Rattle.std.proofs.lemmas.List.{get_or_read_under, get_or-set_same, get_or-set_other}
 use Rattle.std.specs.Ordering.{nat_cmp}
 use Rattle.std.specs.FinSet as fin
+use Rattle.lists.proofs.Cases.{false_from_not, true_from_not, and_true, and_false, or_false}
 use Rattle.graphs.specs.Closures.{Closure, is_member, rate_of, is_ancestor, no_rate, AddsPlace, AddsPair, SetsFee, DropsPlace}
 use Rattle.bitset.specs.Places.{IsWithin, IsLeast, first_places}
 use Rattle.bitset.specs.Sets.{contains-insert, contains-remove, contains-union, contains-difference, contains-empty, contains-first_places}
@@ -152,11 +153,7 @@ module _ (n : ℕ) (members : fin.FinSet nat_cmp) (rates : List FeeRate) (up dow
     drop_up true true ud false false e = sym (e refl)
 
     same_where : (p q : ℕ) → stays p ≡ false → p ≡ q → q ≡ place
-    same_where p q e same = sym same ∙ eqb-true p place (flip (nat_eq p place) e)
-      where
-        flip : (b : Bool) → not b ≡ false → b ≡ true
-        flip true e = refl
-        flip false e = absurd (true≢false e)
+    same_where p q e same = sym same ∙ eqb-true p place (true_from_not (nat_eq p place) e)
 
     is_place : (p : ℕ) → stays p ≡ false → p ≡ place
     is_place p e = same_where p p e refl
@@ -226,33 +223,21 @@ module _ (n : ℕ) (members : fin.FinSet nat_cmp) (rates : List FeeRate) (up dow
         let both : (fin.contains members a ≡ true) × (fin.contains members d ≡ true) = h.order.among a d t in
         true≢false (elim e as (λ _. true ≡ false) [ inl f ↦ sym both.0 ∙ ap (fin.contains members) f ∙ absent | inr f ↦ sym both.1 ∙ ap (fin.contains members) f ∙ absent ]))
 
-    and_one : (b : Bool) → (b && true) ≡ b
-    and_one true = refl
-    and_one false = refl
-
-    and_none : (b : Bool) → (b && false) ≡ false
-    and_none true = refl
-    and_none false = refl
-
-    or_none : (b : Bool) → (b || false) ≡ b
-    or_none true = refl
-    or_none false = refl
-
     above₃ : (a d : ℕ) → above more up' a d ≡ with_place (above members up) place a d
     above₃ a d = elim (cases_eq d place) as (λ _. above more up' a d ≡ with_place (above members up) place a d) [
       | inl same ↦
           ap₂ (λ x y. x && y) (contains-more d ∙ ap (λ b. b || fin.contains members d) (eq-eqb d place same)) (ap (λ q. fin.contains (set_at up' q) a) same ∙ ap (λ s. fin.contains s a) (two.here fin.empty) ∙ itself_is a)
-          ∙ sym (ap₂ (λ x y. (nat_eq a place && x) || y) (eq-eqb d place same) (not_above a d (inr same)) ∙ or_none (nat_eq a place && true) ∙ and_one (nat_eq a place))
+          ∙ sym (ap₂ (λ x y. (nat_eq a place && x) || y) (eq-eqb d place same) (not_above a d (inr same)) ∙ or_false (nat_eq a place && true) ∙ and_true (nat_eq a place))
       | inr other ↦
           ap₂ (λ x y. x && y) (contains-more d ∙ ap (λ b. b || fin.contains members d) (ne_eqb d place other)) (ap (λ s. fin.contains s a) (two.others d fin.empty other))
-          ∙ sym (ap (λ x. (nat_eq a place && x) || above members up a d) (ne_eqb d place other) ∙ ap (λ x. x || above members up a d) (and_none (nat_eq a place)))
+          ∙ sym (ap (λ x. (nat_eq a place && x) || above members up a d) (ne_eqb d place other) ∙ ap (λ x. x || above members up a d) (and_false (nat_eq a place)))
     ]
 
     mirrored₃ : (a d : ℕ) → fin.contains more a ≡ true → fin.contains (set_at down' a) d ≡ above more up' a d
     mirrored₃ a d e = elim (cases_eq a place) as (λ _. fin.contains (set_at down' a) d ≡ above more up' a d) [
       | inl same ↦
           ap (λ q. fin.contains (set_at down' q) d) same ∙ ap (λ s. fin.contains s d) (three.here fin.empty) ∙ itself_is d
-          ∙ sym (above₃ a d ∙ ap₂ (λ x y. (x && nat_eq d place) || y) (eq-eqb a place same) (not_above a d (inl same)) ∙ or_none (nat_eq d place))
+          ∙ sym (above₃ a d ∙ ap₂ (λ x y. (x && nat_eq d place) || y) (eq-eqb a place same) (not_above a d (inl same)) ∙ or_false (nat_eq d place))
       | inr other ↦
           ap (λ s. fin.contains s d) (three.others a fin.empty other) ∙ h.mirrored a d (sym (contains-more a ∙ ap (λ b. b || fin.contains members a) (ne_eqb a place other)) ∙ e)
           ∙ sym (above₃ a d ∙ ap (λ x. (x && nat_eq d place) || above members up a d) (ne_eqb a place other))
@@ -302,14 +287,10 @@ free_is used members left None is none within = (
     tells : (p : ℕ) → fin.contains left p ≡ (nat_lt p used && not (fin.contains members p))
     tells p = ap (λ s. fin.contains s p) is ∙ contains-difference (first_places used) members p ∙ ap (λ b. b && not (fin.contains members p)) (contains-first_places used p)
 
-    flip : (b : Bool) → not b ≡ false → b ≡ true
-    flip true e = refl
-    flip false e = absurd (true≢false e)
-
     in_both : (p : ℕ) → not (fin.contains members p) ≡ false → fin.contains members p ≡ true
-    in_both p e = flip (fin.contains members p) e
+    in_both p e = true_from_not (fin.contains members p) e
 free_is used members left (Some q) is least within = (
-  flip (fin.contains members q) both.1,
+  false_from_not (fin.contains members q) both.1,
   λ p low. elim (cases_Bool (fin.contains members p)) as (λ _. fin.contains members p ≡ true) [
     | inl e ↦ e
     | inr e ↦ absurd (let up : q ≤ p = least.below p (tells p ∙ ap₂ (λ a b. a && not b) (lt-ltb p used (omega (arith, here))) e) in omega arith)
@@ -325,7 +306,3 @@ free_is used members left (Some q) is least within = (
 
     here : q < used
     here = ltb-true q used both.0
-
-    flip : (b : Bool) → not b ≡ true → b ≡ false
-    flip true e = sym e
-    flip false e = refl

@@ -4,6 +4,7 @@ use Rattle.std.proofs.lemmas.Bool.{cases_eq, cases_Bool, and_parts, and_from, or
 use Rattle.std.specs.Ordering.{nat_cmp}
 use Rattle.std.specs.Cmp.{nat_cmp_total}
 use Rattle.std.specs.FinSet as fin
+use Rattle.lists.proofs.Cases.{false_from_not}
 use Rattle.graphs.specs.Closures.{Closure, is_ancestor, IsNear, HoldsMembers}
 use Rattle.lists.specs.Walks.{Walk}
 use Rattle.lists.proofs.Walks.{Walk-push, Walk-keeps}
@@ -28,11 +29,7 @@ pub record Searched (near : ℕ → ℕ → Type 0) (within : fin.FinSet nat_cmp
 pub left_there : (near : ℕ → ℕ → Type 0) (within : fin.FinSet nat_cmp) (place : ℕ) (reached done left : fin.FinSet nat_cmp) (p : ℕ) → Searched near within place reached done → left ≡ fin.difference reached done → fin.contains left p ≡ true → (fin.contains reached p ≡ true) × (fin.contains done p ≡ false) × (fin.contains within p ≡ true)
 left_there near within place reached done left p s is e =
     let both : (fin.contains reached p ≡ true) × (not (fin.contains done p) ≡ true) = and_parts (fin.contains reached p) (not (fin.contains done p)) (sym (ap (λ s. fin.contains s p) is ∙ contains-difference reached done p) ∙ e) in
-    (both.0, flip (fin.contains done p) both.1, s.inside p both.0)
-  where
-    flip : (b : Bool) → not b ≡ true → b ≡ false
-    flip true e = sym e
-    flip false e = refl
+    (both.0, false_from_not (fin.contains done p) both.1, s.inside p both.0)
 
 -- each place is looked at once
 pub fewer_left : (within done done' : fin.FinSet nat_cmp) (p : ℕ) → fin.contains within p ≡ true → fin.contains done p ≡ false → done' ≡ fin.insert done p → fin.len (fin.difference within done') < fin.len (fin.difference within done)

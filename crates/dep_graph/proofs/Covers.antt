@@ -4,6 +4,7 @@ use Rattle.std.proofs.lemmas.Bool.{cases_eq, and_parts, and_from, or_cases, or_l
 use Rattle.std.proofs.lemmas.List.Elements.{Contains-append_right, Contains-append_cases}
 use Rattle.std.specs.Ordering.{nat_cmp}
 use Rattle.std.specs.FinSet as fin
+use Rattle.lists.proofs.Cases.{or_swap, and_true, false_from_not, differs}
 use Rattle.graphs.specs.Closures.{Closure, is_member, is_ancestor, IsCover}
 use Rattle.bitset.specs.Places.{places, IsWithin}
 use Rattle.bitset.specs.Sets.{contains-remove, contains-difference, places-here, Contains-places, places-Contains}
@@ -15,11 +16,6 @@ use Rattle.dep_graph.proofs.Kept.{is_ancestor-kept, member_there, above_there}
 abbrev pub over : List (fin.FinSet nat_cmp) → List ℕ → ℕ → Bool
 over up [] a = false
 over up (m ∷ ms) a = (not (nat_eq a m) && fin.contains (set_at up m) a) || over up ms a
-
-or_swap : (a b c : Bool) → (a || (b || c)) ≡ (b || (a || c))
-or_swap true true c = refl
-or_swap true false c = refl
-or_swap false b c = refl
 
 over-push : (up : List (fin.FinSet nat_cmp)) (ms : List ℕ) (m a : ℕ) → over up (ms ++ m ∷ []) a ≡ ((not (nat_eq a m) && fin.contains (set_at up m) a) || over up ms a)
 over-push up [] m a = refl
@@ -53,11 +49,7 @@ pub record CoversSoFar (n : ℕ) (up : List (fin.FinSet nat_cmp)) (ups covers : 
 
 module _ (n : ℕ) (up : List (fin.FinSet nat_cmp)) (ups : fin.FinSet nat_cmp) where
   pub CoversSoFar-start : (zs : List ℕ) → zs ≡ places n ups → CoversSoFar n up ups ups [] zs
-  CoversSoFar-start zs e = record { split = e; left = λ a. sym (and_one (fin.contains ups a)) }
-    where
-      and_one : (b : Bool) → (b && true) ≡ b
-      and_one true = refl
-      and_one false = refl
+  CoversSoFar-start zs e = record { split = e; left = λ a. sym (and_true (fin.contains ups a)) }
 
   pub CoversSoFar-here : (covers : fin.FinSet nat_cmp) (ys ws zs : List ℕ) (m : ℕ) → CoversSoFar n up ups covers ys ws → ws ≡ m ∷ zs → (m < n) × (fin.contains ups m ≡ true)
   CoversSoFar-here covers ys ws zs m h e = places-here n ups ys zs m (sym h.split ∙ ap (λ xs. ys ++ xs) e)
@@ -99,13 +91,6 @@ module _ (n : ℕ) (members : fin.FinSet nat_cmp) (rates : List FeeRate) (up dow
       ∙ ap (λ b. not (nat_eq a place) && (b && fin.contains (set_at up place) a)) (sym (member_there n members rates up down h g view place place_in))
       ∙ ap (λ b. not (nat_eq a place) && b) (sym (is_ancestor-kept n members rates up down h g view a place))
 
-  flip : (b : Bool) → not b ≡ true → b ≡ false
-  flip true e = sym e
-  flip false e = refl
-
-  differ : (a b : ℕ) → not (nat_eq a b) ≡ true → a ≢ b
-  differ a b e same = true≢false (sym e ∙ ap not (eq-eqb a b same))
-
   -- what is related to a member stands in its set
   stands : (a m : ℕ) → is_ancestor g a m ≡ true → fin.contains (set_at up m) a ≡ true
   stands a m e = (and_parts (fin.contains members m) (fin.contains (set_at up m) a) (sym (is_ancestor-kept n members rates up down h g view a m) ∙ e)).1
@@ -116,7 +101,7 @@ module _ (n : ℕ) (members : fin.FinSet nat_cmp) (rates : List FeeRate) (up dow
       let proper : (not (nat_eq a place) ≡ true) × (is_ancestor g a place ≡ true) = and_parts (not (nat_eq a place)) (is_ancestor g a place) (sym (contains-ups a) ∙ both.0) in
       record {
         ancestor = proper.1;
-        other = differ a place proper.0;
+        other = differs a place proper.0;
         direct = λ m am mp. elim (cases_eq m place) as (λ _. (m ≡ a) ⊎ (m ≡ place)) [
           | inl same ↦ inr same
           | inr other ↦ elim (cases_eq m a) as (λ _. (m ≡ a) ⊎ (m ≡ place)) [
@@ -125,7 +110,7 @@ module _ (n : ℕ) (members : fin.FinSet nat_cmp) (rates : List FeeRate) (up dow
                 let there : fin.contains ups m ≡ true = contains-ups m ∙ ap₂ (λ x y. not x && y) (ne_eqb m place other) mp in
                 let over_a : over up ys a ≡ true = one_over up ys a m (subst (λ xs. Contains xs m) (sym seen) (Contains-places n ups m (within m there) there))
                 (and_from (not (nat_eq a m)) (fin.contains (set_at up m) a) (ap not (ne_eqb a m (λ f. apart (sym f)))) (stands a m am)) in
-                true≢false (sym over_a ∙ flip (over up ys a) both.1))
+                true≢false (sym over_a ∙ false_from_not (over up ys a) both.1))
           ]
         ];
       }
@@ -142,8 +127,8 @@ module _ (n : ℕ) (members : fin.FinSet nat_cmp) (rates : List FeeRate) (up dow
       above_there n members rates up down h g view place place_in found.0 (stands found.0 place two.1) in
       let am : is_ancestor g a found.0 ≡ true = is_ancestor-kept n members rates up down h g view a found.0 ∙ and_from (fin.contains members found.0) (fin.contains (set_at up found.0) a) member one.1 in
       elim (c.direct found.0 am two.1) as (λ _. ⊥) [
-        | inl same ↦ differ a found.0 one.0 (sym same)
-        | inr same ↦ differ found.0 place two.0 same
+        | inl same ↦ differs a found.0 one.0 (sym same)
+        | inr same ↦ differs found.0 place two.0 same
       ]))
 
   pub covers_are : (a : ℕ) → (fin.contains covers a ≡ true) ↔ IsCover g a place

@@ -4,6 +4,7 @@ use Rattle.std.proofs.lemmas.Bool.{cases_lt, and_parts, false_from_ne_true}
 use Rattle.std.proofs.lemmas.List.Elements.{Contains-get_or}
 use Rattle.std.specs.Ordering.{nat_cmp}
 use Rattle.std.specs.FinSet as fin
+use Rattle.lists.proofs.Cases.{same_test}
 use Rattle.graphs.specs.Closures.{Closure, rate_of, is_ancestor, no_rate, IsOrder, IsMerged, IsPart}
 use Rattle.lists.proofs.Rising.{rising_once}
 use Rattle.lists.specs.Rising.{IsRising}
@@ -160,13 +161,9 @@ module _ (n : ℕ)
           omega (arith, s.at.0, s.at.1)
 
   -- the sets of descendants say the same
-  agree : (a b : Bool) → (a ≡ true → b ≡ true) → (b ≡ true → a ≡ true) → a ≡ b
-  agree true b f g = sym (f refl)
-  agree false true f g = g refl
-  agree false false f g = refl
 
   joined_mirrored : (a k : ℕ) → fin.contains m a ≡ true → fin.contains (set_at d a) k ≡ above m u a k
-  joined_mirrored a k e = agree _ _ (downward (side a (m_low a e))) (λ f. upward (split a k f))
+  joined_mirrored a k e = same_test _ _ (downward (side a (m_low a e))) (λ f. upward (split a k f))
     where
       downward : (a < length ps) ⊎ ((j : ℕ) × (j < length qs) × (a ≡ length ps + j)) → fin.contains (set_at d a) k ≡ true → above m u a k ≡ true
       downward (inl low) f =

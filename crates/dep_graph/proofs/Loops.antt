@@ -5,6 +5,7 @@ use Rattle.std.proofs.lemmas.List.{get_or-set_same, get_or-set_other, length-set
 use Rattle.std.specs.List.{range_with_len}
 use Rattle.std.specs.Ordering.{nat_cmp}
 use Rattle.std.specs.FinSet as fin
+use Rattle.lists.proofs.Cases.{or_swap}
 use Rattle.lists.specs.Rising.{IsRising, AllAbove}
 use Rattle.bitset.specs.Places.{places, IsWithin}
 use Rattle.bitset.specs.Sets.{IsRising-places, places-here}
@@ -15,11 +16,6 @@ use Rattle.dep_graph.specs.Changes.{ChangesAt}
 abbrev pub among : List ℕ → ℕ → Bool
 among [] q = false
 among (y ∷ ys) q = nat_eq q y || among ys q
-
-or_swap : (a b c : Bool) → (a || (b || c)) ≡ (b || (a || c))
-or_swap true true c = refl
-or_swap true false c = refl
-or_swap false b c = refl
 
 pub among-push : (ys : List ℕ) (p q : ℕ) → among (ys ++ p ∷ []) q ≡ (nat_eq q p || among ys q)
 among-push [] p q = refl

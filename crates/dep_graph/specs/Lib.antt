@@ -2,4 +2,4 @@ pub mod Changes
 pub mod Laws
 pub mod Moves
 pub mod Rows
-pub mod Walks
+pub mod Numbers

@@ -11,7 +11,7 @@ use Rattle.lists.proofs.Entries.{Contains-head, Contains-later, Contains-cases, 
 use Rattle.lists.specs.Distinct.{AreDistinct}
 use Rattle.arithmetic.proofs.Sums.{total-append}
 use Rattle.arithmetic.proofs.Products.{mul-sub_left, mul-sub_right, scale_reflects}
-use Rattle.arithmetic.proofs.Rates.{cross_trans, cross_trans_strict_left, cross_trans_strict_right, cross_total, sum_above, sum_at_most, sum_at_least}
+use Rattle.arithmetic.proofs.Rates.{cross_total, sum_above, sum_at_most, sum_at_least}
 use Rattle.fee_rate.specs.declared.rates.Sum.{Sum}
 use Rattle.fee_rate.specs.Rates.{AtMost, Below, Same}
 use Rattle.graphs.specs.Graphs.{Graph}

@@ -6,3 +6,6 @@ pub mod TangentLemmas
 pub mod BestLemmas
 pub mod CornerLemmas
 pub mod RemovalLemmas
+pub mod ClosingLemmas
+pub mod ClosureGraphs
+pub mod RenamingLemmas

@@ -4,18 +4,14 @@ use Rattle.std.specs.Prelude.{Contains}
 use Rattle.std.proofs.lemmas.List.Elements.{Contains-push, Contains-push_cases, Contains-append_left}
 use Rattle.graphs.specs.Graphs.{Walk, IsAncestor, Trail, AreConnected}
 use Rattle.graphs.specs.Graphs.{HasNoCycle}
-use Rattle.graphs.proofs.WalkLemmas.{IsAncestor-trans, AreConnected-trans, AreConnected-itself, IsAncestor-itself}
+use Rattle.graphs.proofs.WalkLemmas.{walk_within, IsAncestor-trans, AreConnected-trans, AreConnected-itself, IsAncestor-itself}
 
 -- the pairs with one more
 abbrev with_pair : List (ℕ × ℕ) → ℕ → ℕ → List (ℕ × ℕ)
 with_pair pairs p c = pairs ++ (p, c) ∷ []
 
-walk_kept : (pairs : List (ℕ × ℕ)) (p c a b n : ℕ) → Walk pairs a b n → Walk (with_pair pairs p c) a b n
-walk_kept pairs p c a b zero same = same
-walk_kept pairs p c a b (suc n) walk = (walk.0, walk_kept pairs p c a walk.0 n walk.1, Contains-append_left pairs ((p, c) ∷ []) (walk.0, b) walk.2)
-
 ancestor_kept : (pairs : List (ℕ × ℕ)) (p c a b : ℕ) → IsAncestor pairs a b → IsAncestor (with_pair pairs p c) a b
-ancestor_kept pairs p c a b walk = (walk.0, walk_kept pairs p c a b walk.0 walk.1)
+ancestor_kept pairs p c a b walk = (walk.0, walk_within pairs (with_pair pairs p c) (λ x y pair. Contains-append_left pairs ((p, c) ∷ []) (x, y) pair) a b walk.0 walk.1)
 
 new_pair : (pairs : List (ℕ × ℕ)) (p c : ℕ) → IsAncestor (with_pair pairs p c) p c
 new_pair pairs p c = (1, (p, refl, Contains-push pairs (p, c)))
@@ -137,7 +133,7 @@ pub connected_across : (pairs : List (ℕ × ℕ)) (p c a b : ℕ) → AreConnec
 connected_across pairs p c a b = (λ trail. across pairs p c a b trail.0 trail.1, across_back pairs p c a b)
 
 closes : (pairs : List (ℕ × ℕ)) (p c : ℕ) → HasNoCycle (with_pair pairs p c) → IsAncestor pairs c p → ⊥
-closes pairs p c none walk = none c walk.0 (p, walk_kept pairs p c c p walk.0 walk.1, Contains-push pairs (p, c))
+closes pairs p c none walk = let kept = ancestor_kept pairs p c c p walk in none c kept.0 (p, kept.1, Contains-push pairs (p, c))
 
 -- the last pair of a cycle is an old one
 old_last : (pairs : List (ℕ × ℕ)) (p c a d : ℕ) → HasNoCycle pairs → (IsAncestor pairs c p → ⊥) → ThroughPair pairs p c a d → Contains pairs (d, a) → ⊥

@@ -1,10 +1,10 @@
 -- A graph without a name: that there is one, that it is a graph, and its ancestors.
-use Rattle.std.proofs.Common.{◌≡◌, ◌≢◌, ℕ, suc, zero, ◌≤◌, Bool, true, false, cond, not, ◌&&◌, ◌||◌, eqb, List, [], ◌∷◌, ◌++◌, sym, refl, subst, ap, ◌∙◌, inl, inr, ◌⊎◌, ◌↔◌, arith, eqb-true, eq-eqb, ne_eqb, true≢false}
+use Rattle.std.proofs.Common.{◌≡◌, ◌≢◌, ℕ, suc, zero, ◌≤◌, Bool, true, false, not, ◌&&◌, ◌||◌, eqb, List, [], ◌∷◌, ◌++◌, sym, subst, ap, ◌∙◌, inl, inr, ◌⊎◌, ◌↔◌, arith, eqb-true, eq-eqb, ne_eqb, true≢false}
 use Rattle.std.specs.Prelude.{Contains, filter}
 use Rattle.std.proofs.lemmas.Bool.{cases_eq, and_parts, and_from, or_cases, or_left, or_right}
 use Rattle.std.proofs.lemmas.List.Elements.{Contains-append_left, Contains-append_right, Contains-append_cases}
 use Rattle.lists.proofs.Distinct.{distinct_joined, distinct-filter}
-use Rattle.lists.proofs.Entries.{Contains-head, Contains-later, Contains-cases, none_in_empty}
+use Rattle.lists.proofs.Entries.{Contains-head, Contains-later, Contains-cases, none_in_empty, Contains-filter, filter-Contains}
 use Rattle.lists.specs.Distinct.{AreDistinct}
 use Rattle.graphs.specs.Graphs.{Graph, Walk, IsAncestor, IsGraph, HasNoCycle}
 use Rattle.graphs.specs.Removals.{IsWithout}
@@ -74,53 +74,32 @@ module _ (old new : Graph) (id : ℕ) (without : IsWithout old id new) where
   pub ancestors_without : (a b : ℕ) → IsAncestor new.pairs a b ↔ ((a ≡ b) ⊎ ((a ≢ id) × (b ≢ id) × IsAncestor old.pairs a b))
   ancestors_without a b = (λ walk. walk_before a b walk.0 walk.1, walk_after a b)
 
-  no_cycle_left : HasNoCycle old.pairs → HasNoCycle new.pairs
+  pub no_cycle_left : HasNoCycle old.pairs → HasNoCycle new.pairs
   no_cycle_left none a n walk = closed (longer a a (suc n) walk)
     where
       closed : (m : ℕ) × Walk old.pairs a a m × (suc n ≤ m) → ⊥
       closed (zero, w, low) = omega arith
       closed (suc m, w, low) = none a m w
 
-  ends_left : (parent child : ℕ) → IsGraph old → Contains new.pairs (parent, child) → Contains new.names parent × Contains new.names child
-  ends_left parent child graph pair =
-      let there = (without.pairs parent child).0 pair in
-      let ends : Contains old.names parent × Contains old.names child = elim there.2 [
-        | inl kept ↦ graph.ends parent child kept
-        | inr bridged ↦ ((graph.ends parent id bridged.0).0, (graph.ends id child bridged.1).1)
-      ] in
-      ((without.names parent).1 (ends.0, there.0), (without.names child).1 (ends.1, there.1))
+  -- what holds at both ends of each old pair holds at both ends of each new one
+  pub ends_without : (P : ℕ → Type 0) → ((a b : ℕ) → Contains old.pairs (a, b) → P a × P b) → (a b : ℕ) → Contains new.pairs (a, b) → P a × P b
+  ends_without P ends a b pair = elim ((without.pairs a b).0 pair).2 [
+    | inl kept ↦ ends a b kept
+    | inr bridged ↦ ((ends a id bridged.0).0, (ends id b bridged.1).1)
+  ]
 
   pub graph_left : IsGraph old → IsGraph new
   graph_left graph = record {
     names = without.names_once;
     pairs = without.pairs_once;
-    ends = λ parent child pair. ends_left parent child graph pair;
+    ends = λ parent child pair.
+        let there = (without.pairs parent child).0 pair in
+        let both = ends_without (Contains old.names) graph.ends parent child pair in
+        ((without.names parent).1 (both.0, there.0), (without.names child).1 (both.1, there.1));
     acyclic = no_cycle_left graph.acyclic;
   }
 
 -- ---- lists
-
--- a filter keeps what passes
-filter_keeps : {X : Type 0} (p : X → Bool) (xs : List X) (x : X) → Contains xs x → p x ≡ true → Contains (filter p xs) x
-filter_keeps p [] x here passes = absurd (none_in_empty x here)
-filter_keeps {X = X} p (y ∷ ys) x here passes = elim (Contains-cases y x ys here) [
-  | inl same ↦ subst (λ (b : Bool). Contains (cond b (y ∷ filter p ys) (filter p ys)) x) (sym (ap p same ∙ passes)) (subst (λ (z : X). Contains (y ∷ filter p ys) z) same (Contains-head y (filter p ys)))
-  | inr later ↦ elim (p y) as (λ b. Contains (cond b (y ∷ filter p ys) (filter p ys)) x) [
-    | true ↦ Contains-later y x (filter p ys) (filter_keeps p ys x later passes)
-    | false ↦ filter_keeps p ys x later passes
-  ]
-]
-
-filter_kept_one : {X : Type 0} (p : X → Bool) (y x : X) (ys : List X) (b : Bool) → p y ≡ b → (Contains (filter p ys) x → Contains ys x × (p x ≡ true)) → Contains (cond b (y ∷ filter p ys) (filter p ys)) x → Contains (y ∷ ys) x × (p x ≡ true)
-filter_kept_one p y x ys true passes rest there = elim (Contains-cases y x (filter p ys) there) [
-  | inl same ↦ (subst (Contains (y ∷ ys)) same (Contains-head y ys), ap p (sym same) ∙ passes)
-  | inr later ↦ (Contains-later y x ys (rest later).0, (rest later).1)
-]
-filter_kept_one p y x ys false fails rest there = (Contains-later y x ys (rest there).0, (rest there).1)
-
-filter_kept : {X : Type 0} (p : X → Bool) (xs : List X) (x : X) → Contains (filter p xs) x → Contains xs x × (p x ≡ true)
-filter_kept p [] x here = absurd (none_in_empty x here)
-filter_kept p (y ∷ ys) x here = filter_kept_one p y x ys (p y) refl (filter_kept p ys x) here
 
 -- all pairs with this first
 with_first : ℕ → List ℕ → List (ℕ × ℕ)
@@ -149,11 +128,11 @@ distinct_with_first x [] once = tt
 distinct_with_first x (y ∷ ys) once = (λ there. once.0 (with_first_is x ys x y there).1, distinct_with_first x ys once.1)
 
 -- each of the first with each of the second
-crossed : List ℕ → List ℕ → List (ℕ × ℕ)
+pub crossed : List ℕ → List ℕ → List (ℕ × ℕ)
 crossed [] ys = []
 crossed (x ∷ xs) ys = with_first x ys ++ crossed xs ys
 
-crossed_has : (xs ys : List ℕ) (a b : ℕ) → Contains xs a → Contains ys b → Contains (crossed xs ys) (a, b)
+pub crossed_has : (xs ys : List ℕ) (a b : ℕ) → Contains xs a → Contains ys b → Contains (crossed xs ys) (a, b)
 unfolding crossed
 crossed_has [] ys a b here there = absurd (none_in_empty a here)
 crossed_has (x ∷ xs) ys a b here there = elim (Contains-cases x a xs here) [
@@ -161,7 +140,7 @@ crossed_has (x ∷ xs) ys a b here there = elim (Contains-cases x a xs here) [
   | inr later ↦ Contains-append_right (with_first x ys) (crossed xs ys) (a, b) (crossed_has xs ys a b later there)
 ]
 
-crossed_first : (xs ys : List ℕ) (a b : ℕ) → Contains (crossed xs ys) (a, b) → Contains xs a
+pub crossed_first : (xs ys : List ℕ) (a b : ℕ) → Contains (crossed xs ys) (a, b) → Contains xs a
 unfolding crossed
 crossed_first [] ys a b here = absurd (none_in_empty (a, b) here)
 crossed_first (x ∷ xs) ys a b here = elim (Contains-append_cases (with_first x ys) (crossed xs ys) (a, b) here) [
@@ -169,7 +148,15 @@ crossed_first (x ∷ xs) ys a b here = elim (Contains-append_cases (with_first x
   | inr later ↦ Contains-later x a xs (crossed_first xs ys a b later)
 ]
 
-distinct_crossed : (xs ys : List ℕ) → AreDistinct xs → AreDistinct ys → AreDistinct (crossed xs ys)
+pub crossed_second : (xs ys : List ℕ) (a b : ℕ) → Contains (crossed xs ys) (a, b) → Contains ys b
+unfolding crossed
+crossed_second [] ys a b here = absurd (none_in_empty (a, b) here)
+crossed_second (x ∷ xs) ys a b here = elim (Contains-append_cases (with_first x ys) (crossed xs ys) (a, b) here) [
+  | inl first ↦ (with_first_is x ys a b first).1
+  | inr later ↦ crossed_second xs ys a b later
+]
+
+pub distinct_crossed : (xs ys : List ℕ) → AreDistinct xs → AreDistinct ys → AreDistinct (crossed xs ys)
 unfolding crossed
 distinct_crossed [] ys first second = tt
 distinct_crossed (x ∷ xs) ys first second =
@@ -224,8 +211,8 @@ module _ (old : Graph) (id : ℕ) (graph : IsGraph old) where
   left_is : (x : ℕ) → Contains left x ↔ (Contains old.names x × (x ≢ id))
   unfolding left
   left_is x = (
-    λ here. let there = filter_kept differs old.names x here in (there.0, differs_is x there.1),
-    λ there. filter_keeps differs old.names x there.0 (is_differs x there.1),
+    λ here. let there = filter-Contains differs old.names x here in (there.1, differs_is x there.0),
+    λ there. Contains-filter differs old.names x (is_differs x there.1) there.0,
   )
 
   ends_of : (a b : ℕ) → Contains old.pairs (a, b) ⊎ (Contains old.pairs (a, id) × Contains old.pairs (id, b)) → Contains old.names a × Contains old.names b
@@ -249,14 +236,6 @@ module _ (old : Graph) (id : ℕ) (graph : IsGraph old) where
     | inr bridged ↦ or_right (has old.pairs a b) (has old.pairs a id && has old.pairs id b) (and_from (has old.pairs a id) (has old.pairs id b) (contains_has old.pairs a id bridged.0) (contains_has old.pairs id b bridged.1))
   ]
 
-  crossed_second : (xs ys : List ℕ) (a b : ℕ) → Contains (crossed xs ys) (a, b) → Contains ys b
-  unfolding crossed
-  crossed_second [] ys a b here = absurd (none_in_empty (a, b) here)
-  crossed_second (x ∷ xs) ys a b here = elim (Contains-append_cases (with_first x ys) (crossed xs ys) (a, b) here) [
-    | inl first ↦ (with_first_is x ys a b first).1
-    | inr later ↦ crossed_second xs ys a b later
-  ]
-
   pub is_without : IsWithout old id without_name
   unfolding without_name left
   is_without = record {
@@ -264,13 +243,13 @@ module _ (old : Graph) (id : ℕ) (graph : IsGraph old) where
     names_once = distinct-filter differs old.names graph.names;
     pairs = λ a b. (
       λ here.
-          let there = filter_kept stays (crossed left left) (a, b) here in
-          let first = (left_is a).0 (crossed_first left left a b there.0) in
-          let second = (left_is b).0 (crossed_second left left a b there.0) in
-          (first.1, second.1, stays_is a b there.1),
+          let there = filter-Contains stays (crossed left left) (a, b) here in
+          let first = (left_is a).0 (crossed_first left left a b there.1) in
+          let second = (left_is b).0 (crossed_second left left a b there.1) in
+          (first.1, second.1, stays_is a b there.0),
       λ there.
           let ends = ends_of a b there.2 in
-          filter_keeps stays (crossed left left) (a, b) (crossed_has left left a b ((left_is a).1 (ends.0, there.0)) ((left_is b).1 (ends.1, there.1))) (is_stays a b there.2),
+          Contains-filter stays (crossed left left) (a, b) (is_stays a b there.2) (crossed_has left left a b ((left_is a).1 (ends.0, there.0)) ((left_is b).1 (ends.1, there.1))),
     );
     pairs_once = distinct-filter stays (crossed left left) (distinct_crossed left left (distinct-filter differs old.names graph.names) (distinct-filter differs old.names graph.names));
   }

@@ -11,7 +11,7 @@ use Rattle.fee_rate.proofs.Orders.{at_most_chains}
 use Rattle.lists.proofs.Entries.{Contains-head, Contains-later, Contains-cases, none_in_empty}
 use Rattle.arithmetic.proofs.Sums.{total-append, total-filter}
 use Rattle.arithmetic.proofs.Products.{mul-sub_left, mul-sub_right}
-use Rattle.arithmetic.proofs.Rates.{cross_trans, sum_below, sum_above_back, sum_at_most, sum_at_least}
+use Rattle.arithmetic.proofs.Rates.{sum_below, sum_above_back, sum_at_most, sum_at_least}
 use Rattle.fee_rate.specs.declared.rates.Sum.{Sum}
 use Rattle.fee_rate.specs.Rates.{AtMost}
 use Rattle.graphs.specs.Rates.{sums, Falls}

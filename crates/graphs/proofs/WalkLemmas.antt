@@ -11,6 +11,11 @@ pub walk_cons : (pairs : List (ℕ × ℕ)) (a b c : ℕ) (n : ℕ) → Contains
 walk_cons pairs a b c zero pair same = (a, refl, subst (λ (x : ℕ). Contains pairs (a, x)) same pair)
 walk_cons pairs a b c (suc n) pair walk = (walk.0, walk_cons pairs a b walk.0 n pair walk.1, walk.2)
 
+-- a walk along pairs that are among others
+pub walk_within : (pairs others : List (ℕ × ℕ)) → ((a b : ℕ) → Contains pairs (a, b) → Contains others (a, b)) → (a b n : ℕ) → Walk pairs a b n → Walk others a b n
+walk_within pairs others more a b zero same = same
+walk_within pairs others more a b (suc n) walk = (walk.0, walk_within pairs others more a walk.0 n walk.1, more walk.0 b walk.2)
+
 -- a walk after another
 pub ancestor_trans : (pairs : List (ℕ × ℕ)) (a b c : ℕ) → IsAncestor pairs a b → (n : ℕ) → Walk pairs b c n → IsAncestor pairs a c
 ancestor_trans pairs a b c first zero same = subst (λ (x : ℕ). IsAncestor pairs a x) same first
@@ -48,3 +53,7 @@ IsAncestor-itself pairs a b same = (0, same)
 
 pub AreConnected-itself : (pairs : List (ℕ × ℕ)) (a b : ℕ) → a ≡ b → AreConnected pairs a b
 AreConnected-itself pairs a b same = (0, same)
+
+pub walk_connects : (pairs : List (ℕ × ℕ)) (a b n : ℕ) → Walk pairs a b n → AreConnected pairs a b
+walk_connects pairs a b zero same = (0, same)
+walk_connects pairs a b (suc n) walk = let before = walk_connects pairs a walk.0 n walk.1 in (suc before.0, (walk.0, before.1, inl walk.2))

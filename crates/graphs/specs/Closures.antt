@@ -5,6 +5,7 @@ use Rattle.std.specs.Ordering.{nat_cmp}
 use Rattle.std.specs.Coded.{Coded, code_by, coded×, coded_ℕ, coded_ℤ}
 use Rattle.std.specs.FinSet as set
 use Rattle.std.specs.FinMap as map
+use Rattle.lists.specs.Walks.{Walk}
 use Rattle.fee_rate.specs.declared.rates.FeeRate.{FeeRate}
 
 -- what is known of a member
@@ -81,11 +82,19 @@ pub record IsCover (g : Closure) (a d : ℕ) : Type 0 where
 abbrev pub HoldsMembers : Closure → set.FinSet nat_cmp → Type 0
 HoldsMembers g s = (p : ℕ) → set.contains s p ≡ true → is_member g p ≡ true
 
+-- one of two is an ancestor of the other
+abbrev pub IsRelated : Closure → ℕ → ℕ → Type 0
+IsRelated g a b = (is_ancestor g a b ≡ true) ⊎ (is_ancestor g b a ≡ true)
+
+-- steps to ancestors and to descendants lead from the one to the other
+abbrev pub AreLinked : Closure → ℕ → ℕ → Type 0
+AreLinked g a b = Walk (IsRelated g) a b
+
 -- two places of a set, one of them an ancestor of the other
 pub record IsNear (g : Closure) (within : set.FinSet nat_cmp) (a b : ℕ) : Type 0 where
   pub from_within : set.contains within a ≡ true
   pub to_within : set.contains within b ≡ true
-  pub related : (is_ancestor g a b ≡ true) ⊎ (is_ancestor g b a ≡ true)
+  pub related : IsRelated g a b
 
 -- ---- changes, each told by what the closure answers after it
 

@@ -1,6 +1,6 @@
 -- Transaction graphs as plain data: names, and pairs (parent, child). After `txgraph.h` of Bitcoin
 -- Core, a transaction is an ancestor and a descendant of itself.
-use Rattle.std.specs.Prelude.{◌≡◌, ℕ, List, [], ◌∷◌, Contains, ◌⊎◌, ◌↔◌, suc, zero}
+use Rattle.std.specs.Prelude.{◌≡◌, ℕ, List, Contains, ◌⊎◌, ◌↔◌, suc, zero}
 use Rattle.std.specs.List.Sorted.{IsStrictlyIncreasing}
 use Rattle.lists.specs.Distinct.{AreDistinct}
 

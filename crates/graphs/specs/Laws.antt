@@ -1,5 +1,5 @@
 -- What a reader would expect of the definitions.
-use Rattle.std.specs.Prelude.{◌≡◌, ◌≢◌, ℕ, ◌≤◌, ℤ, List, [], ◌∷◌, ◌++◌, ◌⊎◌, ◌↔◌, map, flat_map, Contains}
+use Rattle.std.specs.Prelude.{◌≡◌, ◌≢◌, ℕ, ◌≤◌, ℤ, Bool, true, false, ◌&&◌, ◌||◌, not, nat_eq, List, [], ◌∷◌, ◌++◌, ◌⊎◌, ◌↔◌, map, flat_map, Contains}
 use Rattle.lists.specs.Distinct.{AreDistinct}
 use Rattle.graphs.specs.Graphs.{Graph, IsAncestor, AreConnected, IsCover, HasNoCycle, IsGraph}
 use Rattle.fee_rate.specs.declared.rates.Sum.{Sum}
@@ -10,6 +10,9 @@ use Rattle.graphs.specs.Certificates.{Part, IsCertificate}
 use Rattle.graphs.specs.declared.names.Verdict.{Verdict}
 use Rattle.graphs.specs.Diagrams.{Compares, corners_of, JoinsEqualRates, AreCorners}
 use Rattle.graphs.specs.Removals.{IsWithout}
+use Rattle.graphs.specs.Closures as closures
+use Rattle.graphs.specs.Closures.{Closure, is_member, is_ancestor, IsOrder, IsClosed, AreLinked}
+use Rattle.graphs.specs.Closing.{Closes, IsClosureOf, with_name, with_pair, joined, within, AreWithout, KeepsBetween, KeepsApart, IsRenamed, renamed_part}
 
 -- One more pair makes b's ancestors those that b had, and, where the pair's child is one of them, the ancestors of its parent.
 abbrev pub AncestorsWithPair : Type 0
@@ -85,3 +88,72 @@ AncestorsWithoutName =
 -- Two diagrams have at most one verdict.
 abbrev pub VerdictsAreUnique : Type 0
 VerdictsAreUnique = (a b : List (ℕ × ℤ)) (v w : Verdict) → Compares a b v → Compares a b w → v ≡ w
+
+-- ---- plain graphs and closures
+
+-- one more pair, from a member to one that isn't above it
+abbrev pub PairIsClosed : Type 0
+PairIsClosed =
+    (member : ℕ → Bool) (above : ℕ → ℕ → Bool) (graph : Graph) (parent child : ℕ) → Closes member above graph
+    → member parent ≡ true → member child ≡ true → above child parent ≡ false
+    → Closes member (λ a d. above a d || (above a parent && above child d)) (with_pair graph parent child)
+
+-- one more name, in no relation to the others
+abbrev pub NameIsClosed : Type 0
+NameIsClosed =
+    (member : ℕ → Bool) (above : ℕ → ℕ → Bool) (graph : Graph) (id : ℕ) → Closes member above graph
+    → member id ≡ false → above id id ≡ true → ((a : ℕ) → member a ≡ true → (above a id ≡ false) × (above id a ≡ false))
+    → Closes (λ q. member q || nat_eq q id) above (with_name graph id)
+
+-- two graphs of different names, none of the first in relation to one of the second, and then one more pair from the
+-- first to the second
+pub record JoinedIsClosed : Type 0 where
+  pub both : (one two : ℕ → Bool) (above : ℕ → ℕ → Bool) (first second : Graph) → Closes one above first → Closes two above second
+      → ((q : ℕ) → one q ≡ true → two q ≡ true → ⊥) → ((a b : ℕ) → one a ≡ true → two b ≡ true → (above a b ≡ false) × (above b a ≡ false))
+      → Closes (λ q. one q || two q) above (joined first second)
+  pub across : (one two : ℕ → Bool) (above : ℕ → ℕ → Bool) (first second : Graph) (parent child : ℕ) → Closes one above first → Closes two above second
+      → ((q : ℕ) → one q ≡ true → two q ≡ true → ⊥) → ((a b : ℕ) → one a ≡ true → two b ≡ true → (above a b ≡ false) × (above b a ≡ false))
+      → one parent ≡ true → two child ≡ true
+      → Closes (λ q. one q || two q) (λ a d. above a d || (above a parent && above child d)) (with_pair (joined first second) parent child)
+
+-- without a name, with some names alone where what lies between them is among them, and without several names one after
+-- another, the relation among the others stays
+pub record FewerAreClosed : Type 0 where
+  pub one : (member : ℕ → Bool) (above : ℕ → ℕ → Bool) (old new : Graph) (id : ℕ) → Closes member above old → IsWithout old id new
+      → Closes (λ q. not (nat_eq q id) && member q) above new
+  pub several : (member : ℕ → Bool) (above : ℕ → ℕ → Bool) (ids : List ℕ) (old new : Graph) → Closes member above old → AreWithout old ids new
+      → (left : ℕ → Bool) → ((q : ℕ) → (left q ≡ true) ↔ ((member q ≡ true) × (Contains ids q → ⊥))) → Closes left above new
+  pub within : (member keep : ℕ → Bool) (above : ℕ → ℕ → Bool) (graph : Graph) → Closes member above graph → KeepsBetween keep above
+      → Closes (λ q. keep q && member q) above (within keep graph)
+
+-- other names for the same
+abbrev pub RenamedIsClosed : Type 0
+RenamedIsClosed =
+    (f : ℕ → ℕ) (member member' : ℕ → Bool) (above above' : ℕ → ℕ → Bool) (old new : Graph) → Closes member above old
+    → KeepsApart f old.names → IsRenamed f old new → ((q : ℕ) → (member' q ≡ true) ↔ ((p : ℕ) × (member p ≡ true) × (f p ≡ q)))
+    → ((a d : ℕ) → member a ≡ true → member d ≡ true → above' (f a) (f d) ≡ above a d) → Closes member' above' new
+
+-- The relation is an order on the members where it is among them alone. Then a name is another's ancestor along the pairs
+-- where it is the same or above it, names are connected where they are linked, and the covering pairs are the same.
+pub record ClosureTellsOfGraph : Type 0 where
+  pub order : (g : Closure) (graph : Graph) → IsClosureOf g graph → ((a d : ℕ) → is_ancestor g a d ≡ true → (is_member g a ≡ true) × (is_member g d ≡ true))
+      → IsOrder (is_member g) (is_ancestor g)
+  pub ancestors : (g : Closure) (graph : Graph) → IsOrder (is_member g) (is_ancestor g) → IsClosureOf g graph
+      → (a b : ℕ) → IsAncestor graph.pairs a b ↔ ((a ≡ b) ⊎ (is_ancestor g a b ≡ true))
+  pub connected : (g : Closure) (graph : Graph) → IsOrder (is_member g) (is_ancestor g) → IsClosureOf g graph
+      → (a b : ℕ) → AreConnected graph.pairs a b ↔ AreLinked g a b
+  pub covers : (g : Closure) (graph : Graph) → IsOrder (is_member g) (is_ancestor g) → IsClosureOf g graph
+      → (a d : ℕ) → IsCover graph.pairs a d ↔ closures.IsCover g a d
+
+-- each closure is that of a graph
+abbrev pub ClosuresHaveGraphs : Type 0
+ClosuresHaveGraphs = (n : ℕ) (g : Closure) → IsClosed n g → (graph : Graph) × IsGraph graph × IsClosureOf g graph
+
+-- A certificate over covering pairs is one by other names, where no two names become one: of the renamed graph, with the
+-- fees and sizes that the names had.
+abbrev pub CertificatesAreRenamed : Type 0
+CertificatesAreRenamed =
+    (f : ℕ → ℕ) (rate rate' : ℕ → Sum) (old new : Graph) (parts : List Part)
+    → ((a b : ℕ) → Contains old.pairs (a, b) → Contains old.names a × Contains old.names b) → KeepsApart f old.names → IsRenamed f old new
+    → ((id : ℕ) → Contains old.names id → rate' (f id) ≡ rate id) → IsCertificate rate old (IsCover old.pairs) parts
+    → IsCertificate rate' new (IsCover new.pairs) (map (renamed_part f) parts)

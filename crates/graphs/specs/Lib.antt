@@ -5,5 +5,6 @@ pub mod Removals
 pub mod Rates
 pub mod Linearizations
 pub mod Certificates
+pub mod Closing
 pub mod Diagrams
 pub mod Laws

@@ -1,5 +1,5 @@
 //! Laws over the definitions, each the contract of a function that does nothing.
-ghost use Rattle.graphs.specs.Laws.{AncestorsWithPair, ComponentsWithPair, StaysWithoutCycle, CertifiedPartsAreOptimal, OptimalBoundsClosedSets, FlatPartsBoundClosedSets, CornersAreUnique, OptimalEndsAreCorners, EqualRatesJoinOnce, NamesCanGo, StaysGraph, AncestorsWithoutName, VerdictsAreUnique};
+ghost use Rattle.graphs.specs.Laws.{AncestorsWithPair, ComponentsWithPair, StaysWithoutCycle, CertifiedPartsAreOptimal, OptimalBoundsClosedSets, FlatPartsBoundClosedSets, CornersAreUnique, OptimalEndsAreCorners, EqualRatesJoinOnce, NamesCanGo, StaysGraph, AncestorsWithoutName, VerdictsAreUnique, PairIsClosed, NameIsClosed, JoinedIsClosed, FewerAreClosed, RenamedIsClosed, ClosureTellsOfGraph, ClosuresHaveGraphs, CertificatesAreRenamed};
 
 /// One more pair makes a name's ancestors those that it had and, where the pair's child is one of
 /// them, the ancestors of the pair's parent.
@@ -68,4 +68,46 @@ pub fn ancestors_without_name()
 /// Two diagrams have at most one verdict.
 pub fn verdicts_are_unique()
     ensures { VerdictsAreUnique }
+{}
+
+/// One more pair from a member of a closure to one that isn't its ancestor: what descends from the child gets the
+/// ancestors of the parent.
+pub fn pair_is_closed()
+    ensures { PairIsClosed }
+{}
+
+/// One more name, in no relation to the others, is one more member of the closure.
+pub fn name_is_closed()
+    ensures { NameIsClosed }
+{}
+
+/// The closure of two graphs of different names is that of both.
+pub fn joined_is_closed()
+    ensures { JoinedIsClosed }
+{}
+
+/// Where names are dropped, one or several one after another, or a set that holds what lies between its names is left,
+/// the closure keeps the relation among the others.
+pub fn fewer_are_closed()
+    ensures { FewerAreClosed }
+{}
+
+/// By other names, of which no two become one, a graph has its closure by these names.
+pub fn renamed_is_closed()
+    ensures { RenamedIsClosed }
+{}
+
+/// A closure tells of each of its graphs who is an ancestor of whom, what is connected, and which pairs are covering.
+pub fn closure_tells_of_graph()
+    ensures { ClosureTellsOfGraph }
+{}
+
+/// Each closure is that of a graph.
+pub fn closures_have_graphs()
+    ensures { ClosuresHaveGraphs }
+{}
+
+/// A certificate over covering pairs is one by other names, where no two names become one.
+pub fn certificates_are_renamed()
+    ensures { CertificatesAreRenamed }
 {}

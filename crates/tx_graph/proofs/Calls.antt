@@ -4,7 +4,7 @@ use Rattle.std.specs.Prelude.{Contains}
 use Rattle.std.proofs.lemmas.Bool.{cases_lt, false_from_ne_true}
 use Rattle.std.proofs.lemmas.Option.{none-some}
 use Rattle.std.specs.FinMap as finmap
-use Rattle.graphs.specs.Closures.{is_member, is_ancestor, rate_of, SetsFee, AddsPair, DropsPlace}
+use Rattle.graphs.specs.Closures.{is_member, is_ancestor, rate_of, SetsFee, AddsPair, DropsPlace, AreLinked}
 use Rattle.fee_rate.specs.declared.rates.FeeRate.{FeeRate}
 use Rattle.graph_model.specs.declared.names.Limits.{Limits}
 use Rattle.graph_model.specs.declared.names.Refusal.{Refusal}
@@ -19,7 +19,7 @@ use Rattle.graphs.specs.Laws.{AncestorsWithPair, StaysWithoutCycle, NamesCanGo, 
 use Rattle.graphs.specs.declared.names.Level.TheVariants.{Top}
 use Rattle.graph_model.specs.Replies.{Reply, Done}
 use Rattle.graphs.proofs.ListLemmas.{Lists-for}
-use Rattle.cluster_record.specs.Clusters.{Cluster, AreLinked}
+use Rattle.cluster_record.specs.Clusters.{Cluster}
 use Rattle.name_book.specs.declared.spot.Spot.{Spot}
 use Rattle.tx_graph.specs.Kept.{Kept, StandsFor, MakesStep, entry_of, AddsName}
 use Rattle.tx_graph.specs.Shelves.{Shelf, graph_of, cluster_at, HasAt, IsIndexed}

@@ -1,11 +1,10 @@
 -- Names are connected by pairs where steps to ancestors and descendants lead from the one to the other.
 use Rattle.std.proofs.Common.{ℕ, suc, zero, List, [], ◌∷◌, sym, refl, subst, inl, inr, ◌↔◌}
 use Rattle.std.specs.Prelude.{Contains}
-use Rattle.graphs.specs.Closures.{Closure}
+use Rattle.graphs.specs.Closures.{Closure, IsRelated, AreLinked}
 use Rattle.lists.specs.Walks.{IsWalk}
 use Rattle.graphs.specs.Graphs.{Walk, Trail, AreConnected}
 use Rattle.graphs.proofs.WalkLemmas.{AreConnected-trans, AreConnected-sym}
-use Rattle.cluster_record.specs.Clusters.{IsRelated, AreLinked}
 use Rattle.tx_graph.specs.Kept.{Kept, StandsFor}
 use Rattle.graph_model.specs.States.{State}
 

@@ -5,7 +5,8 @@ use Rattle.std.specs.FinMap as finmap
 use Rattle.std.proofs.lemmas.Bool.{false_from_ne_true}
 use Rattle.std.proofs.lemmas.List.Sums.{sum_by-append}
 use Rattle.std.proofs.lemmas.List.Elements.{Contains-append_left, Contains-append_right, Contains-append_cases}
-use Rattle.graphs.specs.Closures.{is_ancestor, rate_of}
+use Rattle.graphs.proofs.ClosingLemmas.{linked_back}
+use Rattle.graphs.specs.Closures.{is_ancestor, rate_of, IsRelated, AreLinked}
 use Rattle.lists.specs.Walks.{IsWalk}
 use Rattle.graph_model.specs.declared.names.Limits.{Limits}
 use Rattle.graph_model.specs.declared.names.Refusal.{Refusal}
@@ -14,12 +15,11 @@ use Rattle.graphs.specs.Graphs.{Lists}
 use Rattle.graph_model.specs.Refusals.{FirstAt, NoRefusal}
 use Rattle.graphs.proofs.ListLemmas.{Lists-same}
 use Rattle.fee_rate.specs.declared.rates.FeeRate.{FeeRate}
-use Rattle.cluster_record.specs.Clusters.{Cluster, IsRelated, AreLinked}
+use Rattle.cluster_record.specs.Clusters.{Cluster}
 use Rattle.tx_graph.specs.Shelves.{Shelf, cluster_at, graph_of, HasAt, IsIndexed}
 use Rattle.name_book.specs.declared.spot.Spot.{Spot}
 use Rattle.tx_graph.specs.Joins.{JoinsTo, JoinsTooMany, JoinsTooLarge, DepRefusalIs, SumRefusalIs}
 use Rattle.tx_graph.proofs.Graphs.{above_in, above_from, names_of_above, in_live, one_key, rate_in_cluster, at_contains}
-use Rattle.tx_graph.proofs.Links.{linked_back}
 use Rattle.tx_graph.proofs.Slots.{stands_in}
 use Rattle.tx_graph.proofs.Rows.{first_at_map}
 use Rattle.tx_graph.proofs.Arranged.{arranged, arranged_is, arranged_increasing, arranged_sum, arranged_length, once_distinct, distinct_append, sum_same}

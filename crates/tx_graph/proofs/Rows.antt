@@ -3,7 +3,7 @@ use Rattle.std.proofs.Common.{◌≡◌, ℕ, true, false, List, sym, refl, subs
 use Rattle.std.specs.Prelude.{Contains, sum_by}
 use Rattle.std.specs.FinMap as finmap
 use Rattle.std.proofs.lemmas.Bool.{true_from_ne_false}
-use Rattle.graphs.specs.Closures.{Node, is_member, is_ancestor, rate_of, rate_in, IsOrder}
+use Rattle.graphs.specs.Closures.{Node, is_member, is_ancestor, rate_of, rate_in, IsOrder, AreLinked}
 use Rattle.graphs.specs.declared.names.Level.{Level}
 use Rattle.graph_model.specs.declared.names.Refusal.{Refusal}
 use Rattle.graph_model.specs.declared.names.Refusal.TheVariants.{Unknown, Cycle, Count, ClusterSize}
@@ -12,7 +12,6 @@ use Rattle.graph_model.specs.States.{State, LevelState, Table, level_of, size_of
 use Rattle.graph_model.specs.Commands.{Dep}
 use Rattle.graph_model.specs.Refusals.{RefusalIs, First, FirstAt, NoRefusal, OverCount, OverSize}
 use Rattle.graphs.proofs.ListLemmas.{Lists-for}
-use Rattle.cluster_record.specs.Clusters.{AreLinked}
 use Rattle.tx_graph.specs.Kept.{Kept, StandsFor, entry_of}
 use Rattle.tx_graph.specs.Joins.{JoinsTo, JoinsTooMany, JoinsTooLarge, DepRefusalIs}
 use Rattle.tx_graph.proofs.Standing.{state_of, of_states, level-main}

@@ -1,13 +1,12 @@
 -- The refusals of additions and of pairs, told by the graph that is kept.
 use Rattle.std.specs.Prelude.{◌≡◌, ◌⊎◌, ℕ, ℤ, ◌<◌, ◌≤◌, true, List, length, sum_by, Option}
-use Rattle.graphs.specs.Closures.{Closure, is_member, is_ancestor, rate_of}
+use Rattle.graphs.specs.Closures.{Closure, is_member, is_ancestor, rate_of, AreLinked}
 use Rattle.graph_model.specs.declared.names.Limits.{Limits}
 use Rattle.graph_model.specs.declared.names.Refusal.{Refusal}
 use Rattle.graph_model.specs.declared.names.Refusal.TheVariants.{Fee, Size, Taken, Full, ClusterSize, Unknown, Cycle, Count}
 use Rattle.fee_rate.specs.Limits.{IsFee, IsSize}
 use Rattle.graphs.specs.Graphs.{Lists}
 use Rattle.graph_model.specs.Refusals.{First, FirstAt, NoRefusal}
-use Rattle.cluster_record.specs.Clusters.{AreLinked}
 
 -- the members of the cluster that a pair would make of two
 abbrev pub JoinsTo : Closure → ℕ → ℕ → List ℕ → Type 0
