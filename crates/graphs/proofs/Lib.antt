@@ -6,3 +6,5 @@ pub mod TangentLemmas
 pub mod BestLemmas
 pub mod CornerLemmas
 pub mod RemovalLemmas
+pub mod OrderLemmas
+pub mod DropLemmas

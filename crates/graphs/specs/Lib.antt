@@ -7,3 +7,5 @@ pub mod Linearizations
 pub mod Certificates
 pub mod Diagrams
 pub mod Laws
+pub mod Drops
+pub mod OrderLaws

@@ -1,5 +1,7 @@
 //! Laws over the definitions, each the contract of a function that does nothing.
 ghost use Rattle.graphs.specs.Laws.{AncestorsWithPair, ComponentsWithPair, StaysWithoutCycle, CertifiedPartsAreOptimal, OptimalBoundsClosedSets, FlatPartsBoundClosedSets, CornersAreUnique, OptimalEndsAreCorners, EqualRatesJoinOnce, NamesCanGo, StaysGraph, AncestorsWithoutName, VerdictsAreUnique};
+ghost use Rattle.graphs.specs.Drops.{DropsKeepAncestors};
+ghost use Rattle.graphs.specs.OrderLaws.{FirstPartsAreBest, LastPartIsLowest, NamesHaveOneRate, OptimalPartsBoundClosedSets};
 
 /// One more pair makes a name's ancestors those that it had and, where the pair's child is one of
 /// them, the ancestors of the pair's parent.
@@ -68,4 +70,30 @@ pub fn ancestors_without_name()
 /// Two diagrams have at most one verdict.
 pub fn verdicts_are_unique()
     ensures { VerdictsAreUnique }
+{}
+
+/// The diagram of an optimal order bounds every closed set of the graph at the line of each part, whatever the set's size.
+pub fn optimal_parts_bound_closed_sets()
+    ensures { OptimalPartsBoundClosedSets }
+{}
+
+/// A name's part has the same rate in all optimal orders of a graph.
+pub fn names_have_one_rate()
+    ensures { NamesHaveOneRate }
+{}
+
+/// The last part of an optimal order has the lowest rate of all sets with all descendants of their names, of which it is one.
+pub fn last_part_is_lowest()
+    ensures { LastPartIsLowest }
+{}
+
+/// No closed set that is no larger than some first parts of an optimal order has a greater fee than they, where the last of
+/// them has a fee of at least 0.
+pub fn first_parts_are_best()
+    ensures { FirstPartsAreBest }
+{}
+
+/// Names that are dropped with all their ancestors, or with all their descendants, leave the others' ancestors among themselves.
+pub fn drops_keep_ancestors()
+    ensures { DropsKeepAncestors }
 {}
