@@ -8,3 +8,4 @@ pub mod CornerLemmas
 pub mod RemovalLemmas
 pub mod OrderLemmas
 pub mod DropLemmas
+pub mod AlikeLemmas

@@ -8,4 +8,5 @@ pub mod Certificates
 pub mod Diagrams
 pub mod Laws
 pub mod Drops
+pub mod Alikes
 pub mod OrderLaws

@@ -1,5 +1,6 @@
 //! Laws over the definitions, each the contract of a function that does nothing.
 ghost use Rattle.graphs.specs.Laws.{AncestorsWithPair, ComponentsWithPair, StaysWithoutCycle, CertifiedPartsAreOptimal, OptimalBoundsClosedSets, FlatPartsBoundClosedSets, CornersAreUnique, OptimalEndsAreCorners, EqualRatesJoinOnce, NamesCanGo, StaysGraph, AncestorsWithoutName, VerdictsAreUnique};
+ghost use Rattle.graphs.specs.Alikes.{AlikeGraphsAgree};
 ghost use Rattle.graphs.specs.Drops.{DropsKeepAncestors};
 ghost use Rattle.graphs.specs.OrderLaws.{FirstPartsAreBest, LastPartIsLowest, NamesHaveOneRate, OptimalPartsBoundClosedSets};
 
@@ -96,4 +97,10 @@ pub fn first_parts_are_best()
 /// Names that are dropped with all their ancestors, or with all their descendants, leave the others' ancestors among themselves.
 pub fn drops_keep_ancestors()
     ensures { DropsKeepAncestors }
+{}
+
+/// Graphs with the same names, sums and ancestors, however they were built, have the same components and corners, and the same
+/// orders are optimal for them with the same certificates.
+pub fn alike_graphs_agree()
+    ensures { AlikeGraphsAgree }
 {}
