@@ -9,3 +9,5 @@ pub mod RemovalLemmas
 pub mod OrderLemmas
 pub mod DropLemmas
 pub mod AlikeLemmas
+pub mod MergeLemmas
+pub mod UnionLemmas

@@ -10,3 +10,4 @@ pub mod Laws
 pub mod Drops
 pub mod Alikes
 pub mod OrderLaws
+pub mod Merges

@@ -2,6 +2,7 @@
 ghost use Rattle.graphs.specs.Laws.{AncestorsWithPair, ComponentsWithPair, StaysWithoutCycle, CertifiedPartsAreOptimal, OptimalBoundsClosedSets, FlatPartsBoundClosedSets, CornersAreUnique, OptimalEndsAreCorners, EqualRatesJoinOnce, NamesCanGo, StaysGraph, AncestorsWithoutName, VerdictsAreUnique};
 ghost use Rattle.graphs.specs.Alikes.{AlikeGraphsAgree};
 ghost use Rattle.graphs.specs.Drops.{DropsKeepAncestors};
+ghost use Rattle.graphs.specs.Merges.{MergedPartsAreCertified, SortedListsMerge, UnionsKeepComponents};
 ghost use Rattle.graphs.specs.OrderLaws.{FirstPartsAreBest, LastPartIsLowest, NamesHaveOneRate, OptimalPartsBoundClosedSets};
 
 /// One more pair makes a name's ancestors those that it had and, where the pair's child is one of
@@ -103,4 +104,19 @@ pub fn drops_keep_ancestors()
 /// orders are optimal for them with the same certificates.
 pub fn alike_graphs_agree()
     ensures { AlikeGraphsAgree }
+{}
+
+/// Names of one component keep its ancestors and covering pairs in a graph that is made of several components.
+pub fn unions_keep_components()
+    ensures { UnionsKeepComponents }
+{}
+
+/// Certificates of components, merged by falling rate with each component's parts in their order, certify the graph of all components.
+pub fn merged_parts_are_certified()
+    ensures { MergedPartsAreCertified }
+{}
+
+/// A sorted list with the entries of sorted lists merges them.
+pub fn sorted_lists_merge()
+    ensures { SortedListsMerge }
 {}

@@ -10,10 +10,12 @@ mod tests;
 
 pub use ids::{IdBuf, IdList};
 pub use laws::{
-    ancestors_with_pair, ancestors_without_name, certified_parts_are_optimal, components_with_pair,
-    corners_are_unique, drops_keep_ancestors, equal_rates_join_once, first_parts_are_best,
-    flat_parts_bound_closed_sets, last_part_is_lowest, names_can_go, names_have_one_rate,
-    optimal_bounds_closed_sets, optimal_ends_are_corners, optimal_parts_bound_closed_sets,
+    ancestors_with_pair, ancestors_without_name, certified_parts_are_optimal, components_with_pair, corners_are_unique,
+    equal_rates_join_once, flat_parts_bound_closed_sets, names_can_go, optimal_bounds_closed_sets, optimal_ends_are_corners,
     stays_graph, stays_without_cycle, verdicts_are_unique,
 };
 pub use names::{Flow, Level, TxId, Verdict};
+pub use laws::{
+    alike_graphs_agree, drops_keep_ancestors, first_parts_are_best, last_part_is_lowest, merged_parts_are_certified, names_have_one_rate,
+    optimal_parts_bound_closed_sets, sorted_lists_merge, unions_keep_components,
+};
