@@ -1,8 +1,13 @@
 -- A graph without a set of names that has all their ancestors, or all their descendants.
-use Rattle.std.proofs.Common.{◌≡◌, ℕ, suc, zero, List, sym, refl, subst, inl, inr, ◌⊎◌, ◌↔◌}
+use Rattle.std.proofs.Common.{◌≡◌, ℕ, suc, zero, Bool, true, not, ◌&&◌, List, sym, refl, subst, ap, inl, inr, ◌⊎◌, ◌↔◌}
 use Rattle.std.specs.Prelude.{Contains}
+use Rattle.std.specs.List.{filter}
+use Rattle.std.proofs.lemmas.Bool.{cases_Bool, not-true, both_ways, and_parts, and_from}
+use Rattle.lists.proofs.Distinct.{distinct-filter}
+use Rattle.lists.proofs.Entries.{Contains-filter, filter-Contains}
 use Rattle.graphs.specs.Graphs.{Graph, Walk, IsAncestor, IsCover, IsGraph}
 use Rattle.graphs.specs.Drops.{HasParents, HasChildren, DropsNames}
+use Rattle.graphs.proofs.BestLemmas.{among, among_yes, among_is}
 
 -- what an ancestor closed set has, it has with all ancestors, and a descendant closed one with all descendants
 pub up_walk : (pairs : List (ℕ × ℕ)) (set : List ℕ) → HasParents pairs set → (a b n : ℕ) → Walk pairs a b n → Contains set b → Contains set a
@@ -88,5 +93,45 @@ module _ (old new : Graph) (gone : List ℕ) (left : DropsNames old gone new) wh
       ancestor = (there.2.ancestor.0, new_walk closed a b there.2.ancestor.0 there.0 there.1 there.2.ancestor.1);
       other = there.2.other;
       between = λ c above below. there.2.between c (above.0, old_walk a c above.0 above.1) (below.0, old_walk c b below.0 below.1);
+    },
+  )
+
+-- ---- every graph has one without a list of names
+module _ (old : Graph) (gone : List ℕ) (graph : IsGraph old) where
+  stays : ℕ → Bool
+  stays id = not (among gone id)
+
+  both_stay : ℕ × ℕ → Bool
+  both_stay pair = stays pair.0 && stays pair.1
+
+  stays_is : (id : ℕ) → stays id ≡ true → Contains gone id → ⊥
+  unfolding stays
+  stays_is id e h = both_ways (among gone id) (not-true (among gone id) e) (among_is gone id h)
+
+  is_stays : (id : ℕ) → (Contains gone id → ⊥) → stays id ≡ true
+  unfolding stays
+  is_stays id out = elim (cases_Bool (among gone id)) [
+    | inl inside ↦ absurd (out (among_yes gone id inside))
+    | inr beyond ↦ ap not beyond
+  ]
+
+  pub some_left : (new : Graph) × DropsNames old gone new
+  unfolding both_stay
+  some_left = (
+    record { names = filter stays old.names; pairs = filter both_stay old.pairs },
+    record {
+      names = λ a. (
+        (λ h. let there = filter-Contains stays old.names a h in (there.1, stays_is a there.0)),
+        (λ there. Contains-filter stays old.names a (is_stays a there.1) there.0),
+      );
+      names_once = distinct-filter stays old.names graph.names;
+      pairs = λ a b. (
+        (λ h.
+            let there = filter-Contains both_stay old.pairs (a, b) h in
+            let ends = and_parts (stays a) (stays b) there.0 in
+            (stays_is a ends.0, stays_is b ends.1, there.1)),
+        (λ there. Contains-filter both_stay old.pairs (a, b) (and_from (stays a) (stays b) (is_stays a there.0) (is_stays b there.1)) there.2),
+      );
+      pairs_once = distinct-filter both_stay old.pairs graph.pairs;
     },
   )

@@ -11,3 +11,4 @@ pub mod DropLemmas
 pub mod AlikeLemmas
 pub mod MergeLemmas
 pub mod UnionLemmas
+pub mod PartLemmas

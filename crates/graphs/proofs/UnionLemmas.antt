@@ -3,12 +3,13 @@ use Rattle.std.proofs.Common.{◌≡◌, ℕ, suc, zero, List, [], ◌∷◌, ma
 use Rattle.std.specs.Prelude.{Contains, flat_map}
 use Rattle.std.proofs.lemmas.List.Folds.{flat_map-map}
 use Rattle.lists.proofs.Entries.{map-Contains, Contains-map}
+use Rattle.lists.specs.Distinct.{AreDistinct}
 use Rattle.fee_rate.specs.declared.rates.Sum.{Sum}
-use Rattle.graphs.specs.Graphs.{Graph, Walk, IsAncestor, Trail, AreConnected, IsCover}
+use Rattle.graphs.specs.Graphs.{Graph, Walk, IsAncestor, Trail, AreConnected, IsCover, HasNoCycle, IsGraph}
 use Rattle.graphs.specs.Rates.{Falls}
 use Rattle.graphs.specs.Linearizations.{IsTopological, IsTogether, StandsBefore}
 use Rattle.graphs.specs.Certificates.{Part, Certifies, HasFlows, HasOrder, IsCertificate}
-use Rattle.graphs.specs.Merges.{IsMerge, IsUnion}
+use Rattle.graphs.specs.Merges.{IsMerge, IsUnion, KeepsComponents}
 use Rattle.graphs.proofs.MergeLemmas.{flat_has, flat_of, flat_part_once, one_holder, flat_once, flat_stands, stands_within, stands_apart}
 
 -- ---- walks
@@ -87,6 +88,32 @@ module _ {A : Type 0} (components : List (Graph × A)) (whole : Graph) (union : 
         let last = ancestor_within x b here below in
         cover.between x (ancestor_within a x (walk_names x b last.0 last.1 here) above) last;
   }
+
+module _ {A : Type 0} (components : List (Graph × A)) (whole : Graph) (union : IsUnion components whole) where
+  no_cycle_whole : HasNoCycle whole.pairs
+  no_cycle_whole a n walk =
+      let c = (union.pairs walk.0 a).0 walk.2 in
+      let graph = union.graphs c.0 c.1 in
+      graph.acyclic a n (walk_within components whole union c.0 c.1 a a (suc n) walk (graph.ends walk.0 a c.2).1)
+
+  pub whole_graph : AreDistinct whole.names → AreDistinct whole.pairs → IsGraph whole
+  whole_graph names pairs = record {
+    names = names;
+    pairs = pairs;
+    ends = λ parent child pair.
+        let c = (union.pairs parent child).0 pair in
+        let both = (union.graphs c.0 c.1).ends parent child c.2 in
+        ((union.names parent).1 (c.0, c.1, both.0), (union.names child).1 (c.0, c.1, both.1));
+    acyclic = no_cycle_whole;
+  }
+
+pub keeps_components : {A : Type 0} → KeepsComponents A
+keeps_components = record {
+  ancestors = λ components whole d a b union member here. (ancestor_within components whole union d member a b here, ancestor_into components whole union d member a b);
+  connected = λ components whole d a b union member here. (connected_within components whole union d member a b here, connected_into components whole union d member a b);
+  covers = λ components whole d a b union member here. (cover_within components whole union d member a b here, cover_into components whole union d member a b here);
+  graph = whole_graph;
+}
 
 -- ---- certificates
 

@@ -29,14 +29,21 @@ pub record IsUnion {A : Type 0} (components : List (Graph × A)) (whole : Graph)
   pub apart : (c d : Graph × A) (id : ℕ) → Contains components c → Contains components d → Contains c.0.names id → Contains d.0.names id → c ≡ d
   pub graphs : (c : Graph × A) → Contains components c → IsGraph c.0
 
--- Names of one component have in the whole graph the ancestors, the component and the covering pairs that they have in it.
-pub record UnionsKeepComponents : Type 0 where
-  pub ancestors : (components : List (Graph × List Part)) (whole : Graph) (c : Graph × List Part) (a b : ℕ) → IsUnion components whole → Contains components c
+-- Names of one component have in the whole graph the ancestors, the component and the covering pairs that they have in it. The whole
+-- graph, its names and pairs listed once, is a graph.
+pub record KeepsComponents (A : Type 0) : Type 0 where
+  pub ancestors : (components : List (Graph × A)) (whole : Graph) (c : Graph × A) (a b : ℕ) → IsUnion components whole → Contains components c
       → Contains c.0.names b → IsAncestor whole.pairs a b ↔ IsAncestor c.0.pairs a b
-  pub connected : (components : List (Graph × List Part)) (whole : Graph) (c : Graph × List Part) (a b : ℕ) → IsUnion components whole → Contains components c
+  pub connected : (components : List (Graph × A)) (whole : Graph) (c : Graph × A) (a b : ℕ) → IsUnion components whole → Contains components c
       → Contains c.0.names b → AreConnected whole.pairs a b ↔ AreConnected c.0.pairs a b
-  pub covers : (components : List (Graph × List Part)) (whole : Graph) (c : Graph × List Part) (a b : ℕ) → IsUnion components whole → Contains components c
+  pub covers : (components : List (Graph × A)) (whole : Graph) (c : Graph × A) (a b : ℕ) → IsUnion components whole → Contains components c
       → Contains c.0.names b → IsCover whole.pairs a b ↔ IsCover c.0.pairs a b
+  pub graph : (components : List (Graph × A)) (whole : Graph) → IsUnion components whole → AreDistinct whole.names → AreDistinct whole.pairs → IsGraph whole
+
+-- said of components that come with their parts, and of those that come with keys
+pub record UnionsKeepComponents : Type 0 where
+  pub by_parts : KeepsComponents (List Part)
+  pub by_keys : KeepsComponents (List (ℕ × ℕ))
 
 -- Certificates of the components over their covering pairs, merged so that rates fall, are one of the whole graph over its covering
 -- pairs. Said of the parts themselves, and of keys (serial, position) under which the parts are found.

@@ -1,11 +1,11 @@
 -- What is the same in all optimal orders, and what parts of one promise.
-use Rattle.std.specs.Prelude.{◌≡◌, ◌≢◌, ℕ, ◌≤◌, ℤ, pos, ◌≤ℤ◌, List, [], ◌∷◌, ◌++◌, flat_map, Contains}
-use Rattle.lists.specs.Distinct.{AreDistinct}
+use Rattle.std.specs.Prelude.{◌≡◌, ◌≢◌, ℕ, ◌≤◌, ℤ, pos, ◌≤ℤ◌, List, [], ◌∷◌, ◌++◌, map, flat_map, Contains}
 use Rattle.fee_rate.specs.declared.rates.Sum.{Sum}
 use Rattle.fee_rate.specs.Rates.{AtMost, Same}
-use Rattle.graphs.specs.Graphs.{Graph}
-use Rattle.graphs.specs.Rates.{sums, HasSizes}
+use Rattle.graphs.specs.Graphs.{Graph, IsCover}
+use Rattle.graphs.specs.Rates.{sum_of, sums, HasSizes}
 use Rattle.graphs.specs.Linearizations.{IsClosedWithin, IsUnderLine, IsOptimal}
+use Rattle.graphs.specs.Certificates.{Part, IsCertificate}
 use Rattle.graphs.specs.Drops.{IsDescendantSet}
 
 -- The diagram of an optimal order bounds every closed set at the line of each part, whatever the set's size: for the line of a part,
@@ -36,3 +36,14 @@ FirstPartsAreBest =
     → IsOptimal rate graph ((first ++ part ∷ []) ++ after) → pos 0 ≤ℤ (sums rate part).fee → IsClosedWithin graph.pairs graph.names set
     → (sums rate set).size ≤ (sums rate (flat_map (λ ids. ids) (first ++ part ∷ []))).size
     → (sums rate set).fee ≤ℤ (sums rate (flat_map (λ ids. ids) (first ++ part ∷ []))).fee
+
+-- The same three, said of the parts of certificates over the covering pairs, with the fees and sizes that the parts tell.
+pub record CertifiedPartsAgree : Type 0 where
+  pub rates : (rate : ℕ → Sum) (graph : Graph) (a b : List Part) (id : ℕ) (p q : Part) → HasSizes rate graph.names
+      → IsCertificate rate graph (IsCover graph.pairs) a → IsCertificate rate graph (IsCover graph.pairs) b
+      → Contains a p → Contains p.ids id → Contains b q → Contains q.ids id → Same p.rate q.rate
+  pub last : (rate : ℕ → Sum) (graph : Graph) (before : List Part) (part : Part) (set : List ℕ) → HasSizes rate graph.names
+      → IsCertificate rate graph (IsCover graph.pairs) (before ++ part ∷ []) → IsDescendantSet graph set → AtMost part.rate (sums rate set)
+  pub first : (rate : ℕ → Sum) (graph : Graph) (first after : List Part) (part : Part) (set : List ℕ) → HasSizes rate graph.names
+      → IsCertificate rate graph (IsCover graph.pairs) ((first ++ part ∷ []) ++ after) → pos 0 ≤ℤ part.rate.fee → IsClosedWithin graph.pairs graph.names set
+      → (sums rate set).size ≤ (sum_of (map (λ p. p.rate) (first ++ part ∷ []))).size → (sums rate set).fee ≤ℤ (sum_of (map (λ p. p.rate) (first ++ part ∷ []))).fee

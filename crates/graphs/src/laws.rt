@@ -3,7 +3,7 @@ ghost use Rattle.graphs.specs.Laws.{AncestorsWithPair, ComponentsWithPair, Stays
 ghost use Rattle.graphs.specs.Alikes.{AlikeGraphsAgree};
 ghost use Rattle.graphs.specs.Drops.{DropsKeepAncestors};
 ghost use Rattle.graphs.specs.Merges.{MergedPartsAreCertified, SortedListsMerge, UnionsKeepComponents};
-ghost use Rattle.graphs.specs.OrderLaws.{FirstPartsAreBest, LastPartIsLowest, NamesHaveOneRate, OptimalPartsBoundClosedSets};
+ghost use Rattle.graphs.specs.OrderLaws.{CertifiedPartsAgree, FirstPartsAreBest, LastPartIsLowest, NamesHaveOneRate, OptimalPartsBoundClosedSets};
 
 /// One more pair makes a name's ancestors those that it had and, where the pair's child is one of
 /// them, the ancestors of the pair's parent.
@@ -119,4 +119,9 @@ pub fn merged_parts_are_certified()
 /// A sorted list with the entries of sorted lists merges them.
 pub fn sorted_lists_merge()
     ensures { SortedListsMerge }
+{}
+
+/// What all optimal orders have in common, what the last part is and what the first ones are worth, said of the parts of certificates.
+pub fn certified_parts_agree()
+    ensures { CertifiedPartsAgree }
 {}

@@ -16,6 +16,6 @@ pub use laws::{
 };
 pub use names::{Flow, Level, TxId, Verdict};
 pub use laws::{
-    alike_graphs_agree, drops_keep_ancestors, first_parts_are_best, last_part_is_lowest, merged_parts_are_certified, names_have_one_rate,
+    alike_graphs_agree, certified_parts_agree, drops_keep_ancestors, first_parts_are_best, last_part_is_lowest, merged_parts_are_certified, names_have_one_rate,
     optimal_parts_bound_closed_sets, sorted_lists_merge, unions_keep_components,
 };
