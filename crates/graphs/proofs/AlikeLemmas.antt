@@ -1,5 +1,5 @@
 -- Graphs with the same names, sums and ancestors: one's components, closed sets, corners, orders and certificates are the other's.
-use Rattle.std.proofs.Common.{◌≡◌, ℕ, suc, zero, List, [], ◌∷◌, ◌++◌, map, inl, inr, ◌↔◌, ℤ, pos, ◌-ℤ◌, refl, sym, ap, ◌∙◌, subst, arith}
+use Rattle.std.proofs.Common.{◌≡◌, ℕ, suc, zero, List, [], ◌∷◌, ◌++◌, map, inl, inr, ℤ, pos, ◌-ℤ◌, refl, sym, ap, ◌∙◌, subst, arith}
 use Rattle.std.specs.Prelude.{Contains, flat_map}
 use Rattle.std.proofs.lemmas.Int.{ints}
 use Rattle.std.proofs.lemmas.List.Elements.{Contains-append_left, Contains-append_right}
@@ -11,9 +11,9 @@ use Rattle.fee_rate.specs.declared.rates.Sum.{Sum}
 use Rattle.fee_rate.specs.Rates.{AtMost}
 use Rattle.graphs.specs.declared.names.Flow.{Flow}
 use Rattle.graphs.specs.Graphs.{Graph, Walk, IsAncestor, Trail, AreConnected, IsCover, IsGraph}
-use Rattle.graphs.specs.Rates.{sum_of, sums, Falls}
+use Rattle.graphs.specs.Rates.{sums, Falls}
 use Rattle.graphs.specs.Linearizations.{IsClosedWithin, IsTopological, StandsBefore, AreChunks, IsTogether, IsUnderDiagram, IsOptimal}
-use Rattle.graphs.specs.Certificates.{Part, Certifies, HasOrder, HasFalling, IsCertificate, weight_in, given, gotten}
+use Rattle.graphs.specs.Certificates.{Part, Certifies, IsCertificate, weight_in, given, gotten}
 use Rattle.graphs.specs.Diagrams.{AreCorners}
 use Rattle.graphs.specs.Alikes.{AreAlike}
 use Rattle.graphs.proofs.WalkLemmas.{walk_of_pair, AreConnected-sym, AreConnected-trans}
@@ -35,7 +35,8 @@ sums_along ra rb ids same =
     ) in
     same_sum (sums ra ids) (sums rb ids) fees sizes
 
-pub maps_along : (ra rb : ℕ → Sum) (parts : List (List ℕ)) → ((ids : List ℕ) → Contains parts ids → sums ra ids ≡ sums rb ids) → map (sums ra) parts ≡ map (sums rb) parts
+pub maps_along : (ra rb : ℕ → Sum) (parts : List (List ℕ)) → ((ids : List ℕ) → Contains parts ids → sums ra ids ≡ sums rb ids)
+    → map (sums ra) parts ≡ map (sums rb) parts
 maps_along ra rb [] same = refl
 maps_along ra rb (p ∷ parts) same = λ i. same p (Contains-head p parts) i ∷ maps_along ra rb parts (λ ids h. same ids (Contains-later p ids parts h)) i
 
@@ -123,7 +124,8 @@ module _ (ra rb : ℕ → Sum) (a b : Graph) (alike : AreAlike ra a rb b) where
 
 -- ---- corners, orders and certificates
 
-pub corners_to : (ra rb : ℕ → Sum) (a b : Graph) → AreAlike ra a rb b → IsGraph a → IsGraph b → (points : List (ℕ × ℤ)) → AreCorners ra a points → AreCorners rb b points
+pub corners_to : (ra rb : ℕ → Sum) (a b : Graph) → AreAlike ra a rb b → IsGraph a → IsGraph b → (points : List (ℕ × ℤ)) → AreCorners ra a points
+    → AreCorners rb b points
 corners_to ra rb a b alike one other points corners = record {
   segments = corners.segments;
   between = corners.between;
@@ -138,7 +140,8 @@ corners_to ra rb a b alike one other points corners = record {
       subst (λ (point : Sum). IsUnderDiagram corners.segments point) (sums_to ra rb a b alike set here.inside) (corners.highest set here);
 }
 
-chunks_to : (ra rb : ℕ → Sum) (a b : Graph) → AreAlike ra a rb b → (parts : List (List ℕ)) → IsTopological a (joined parts) → AreChunks ra a.pairs parts → AreChunks rb b.pairs parts
+chunks_to : (ra rb : ℕ → Sum) (a b : Graph) → AreAlike ra a rb b → (parts : List (List ℕ)) → IsTopological a (joined parts)
+    → AreChunks ra a.pairs parts → AreChunks rb b.pairs parts
 chunks_to ra rb a b alike parts order chunks =
     let member : (ids : List ℕ) → Contains parts ids → (id : ℕ) → Contains ids id → Contains a.names id = λ ids h id there. (order.names id).0 (joined-Contains parts ids id h there) in
     record {
@@ -151,7 +154,8 @@ chunks_to ra rb a b alike parts order chunks =
       together = λ part h. together_to ra rb a b alike part (chunks.together part h);
     }
 
-pub optimal_to : (ra rb : ℕ → Sum) (a b : Graph) → AreAlike ra a rb b → IsGraph a → IsGraph b → (parts : List (List ℕ)) → IsOptimal ra a parts → IsOptimal rb b parts
+pub optimal_to : (ra rb : ℕ → Sum) (a b : Graph) → AreAlike ra a rb b → IsGraph a → IsGraph b → (parts : List (List ℕ)) → IsOptimal ra a parts
+    → IsOptimal rb b parts
 optimal_to ra rb a b alike one other parts optimal = record {
   order = topological_to ra rb a b alike other (joined parts) optimal.order;
   chunks = chunks_to ra rb a b alike parts optimal.order optimal.chunks;
@@ -181,7 +185,8 @@ certifies_to ra rb a b alike ids flows inside certified = record {
       (subst (λ (whole : Sum). weight_in whole (ra id) ≡ pos (given flows id) -ℤ pos (gotten flows id)) (sums_to ra rb a b alike ids inside) (certified.balanced id h));
 }
 
-pub certificate_to : (ra rb : ℕ → Sum) (a b : Graph) → AreAlike ra a rb b → IsGraph b → (parts : List Part) → IsCertificate ra a (IsCover a.pairs) parts → IsCertificate rb b (IsCover b.pairs) parts
+pub certificate_to : (ra rb : ℕ → Sum) (a b : Graph) → AreAlike ra a rb b → IsGraph b → (parts : List Part)
+    → IsCertificate ra a (IsCover a.pairs) parts → IsCertificate rb b (IsCover b.pairs) parts
 certificate_to ra rb a b alike other parts certificate =
     let member : (part : Part) → Contains parts part → (id : ℕ) → Contains part.ids id → Contains a.names id =
     λ part h id there. (certificate.order.topological.names id).0 (part-Contains parts part id h there) in

@@ -1,5 +1,5 @@
 -- A graph without a set of names that has all their ancestors, or all their descendants.
-use Rattle.std.proofs.Common.{◌≡◌, ℕ, suc, zero, Bool, true, not, ◌&&◌, List, sym, refl, subst, ap, inl, inr, ◌⊎◌, ◌↔◌}
+use Rattle.std.proofs.Common.{◌≡◌, ℕ, suc, zero, Bool, true, not, ◌&&◌, List, sym, subst, ap, inl, inr, ◌⊎◌, ◌↔◌}
 use Rattle.std.specs.Prelude.{Contains}
 use Rattle.std.specs.List.{filter}
 use Rattle.std.proofs.lemmas.Bool.{cases_Bool, not-true, both_ways, and_parts, and_from}
@@ -39,7 +39,8 @@ module _ (old new : Graph) (gone : List ℕ) (left : DropsNames old gone new) wh
   }
 
   -- no walk between two names that stay enters what goes
-  new_walk : HasParents old.pairs gone ⊎ HasChildren old.pairs gone → (a b n : ℕ) → (Contains gone a → ⊥) → (Contains gone b → ⊥) → Walk old.pairs a b n → Walk new.pairs a b n
+  new_walk : HasParents old.pairs gone ⊎ HasChildren old.pairs gone → (a b n : ℕ) → (Contains gone a → ⊥) → (Contains gone b → ⊥)
+      → Walk old.pairs a b n → Walk new.pairs a b n
   new_walk closed a b zero first last same = same
   new_walk closed a b (suc n) first last walk =
       let here : Contains gone walk.0 → ⊥ = λ h. elim closed [
@@ -70,7 +71,8 @@ module _ (old new : Graph) (gone : List ℕ) (left : DropsNames old gone new) wh
     | inr down ↦ last (down_walk old.pairs gone down c b below.0 below.1 h)
   ]
 
-  old_cover : HasParents old.pairs gone ⊎ HasChildren old.pairs gone → (a b : ℕ) → IsCover new.pairs a b → (Contains gone a → ⊥) × (Contains gone b → ⊥) × IsCover old.pairs a b
+  old_cover : HasParents old.pairs gone ⊎ HasChildren old.pairs gone → (a b : ℕ) → IsCover new.pairs a b
+      → (Contains gone a → ⊥) × (Contains gone b → ⊥) × IsCover old.pairs a b
   old_cover closed a b cover = elim ((ancestors_left closed a b).0 cover.ancestor) [
     | inl same ↦ absurd (cover.other same)
     | inr there ↦ (
@@ -86,7 +88,8 @@ module _ (old new : Graph) (gone : List ℕ) (left : DropsNames old gone new) wh
     )
   ]
 
-  pub covers_left : HasParents old.pairs gone ⊎ HasChildren old.pairs gone → (a b : ℕ) → IsCover new.pairs a b ↔ ((Contains gone a → ⊥) × (Contains gone b → ⊥) × IsCover old.pairs a b)
+  pub covers_left : HasParents old.pairs gone ⊎ HasChildren old.pairs gone → (a b : ℕ)
+      → IsCover new.pairs a b ↔ ((Contains gone a → ⊥) × (Contains gone b → ⊥) × IsCover old.pairs a b)
   covers_left closed a b = (
     old_cover closed a b,
     λ there. record {

@@ -6,6 +6,9 @@ use Rattle.std.proofs.lemmas.List.Elements.{Contains-append_left, Contains-appen
 use Rattle.lists.proofs.Distinct.{distinct_joined, distinct_apart, distinct-append_left, distinct-append_right}
 use Rattle.lists.proofs.Entries.{Contains-head, Contains-later, Contains-cases, none_in_empty, Contains-splits, first_of, rest_of}
 use Rattle.lists.specs.Distinct.{AreDistinct}
+use Rattle.fee_rate.specs.declared.rates.Sum.{Sum}
+use Rattle.fee_rate.specs.Rates.{AtMost}
+use Rattle.graphs.specs.Rates.{Falls}
 use Rattle.graphs.specs.Linearizations.{StandsBefore}
 use Rattle.graphs.specs.Merges.{Precedes, IsMerge, IsSorted}
 
@@ -48,7 +51,8 @@ module _ {A : Type 0} (f : A → List ℕ) where
   ]
 
   -- a name that stands once has one entry
-  pub one_holder : (xs : List A) (x y : A) (id : ℕ) → AreDistinct (flat_map f xs) → Contains xs x → Contains xs y → Contains (f x) id → Contains (f y) id → x ≡ y
+  pub one_holder : (xs : List A) (x y : A) (id : ℕ) → AreDistinct (flat_map f xs) → Contains xs x → Contains xs y → Contains (f x) id
+      → Contains (f y) id → x ≡ y
   one_holder [] x y id once h k here there = absurd (none_in_empty x h)
   one_holder (z ∷ zs) x y id once h k here there = elim (Contains-cases z x zs h) [
     | inl first ↦ elim (Contains-cases z y zs k) [
@@ -68,8 +72,8 @@ module _ {A : Type 0} (f : A → List ℕ) where
       distinct_joined (f x) (flat_map f xs) (each x (Contains-head x xs))
       (flat_once xs once.1 (λ y h. each y (Contains-later x y xs h)) (λ y z id h k. one y z id (Contains-later x y xs h) (Contains-later x z xs k)))
       (λ id here there.
-          let found = flat_of xs id there in
-          once.0 (subst (Contains xs) (sym (one x found.0 id (Contains-head x xs) (Contains-later x found.0 xs found.1) here found.2)) found.1))
+      let found = flat_of xs id there in
+      once.0 (subst (Contains xs) (sym (one x found.0 id (Contains-head x xs) (Contains-later x found.0 xs found.1) here found.2)) found.1))
 
   -- a name before another: in one entry's list, or in an earlier one's
   pub flat_stands : (xs : List A) (a b : ℕ) → StandsBefore (flat_map f xs) a b
@@ -114,7 +118,8 @@ module _ {A : Type 0} (f : A → List ℕ) where
       )
 
 -- ---- sorted lists
-sorted_precedes : {A : Type 0} (before : A → A → Bool) (xs front rest : List A) (x y : A) → IsSorted before xs → xs ≡ front ++ y ∷ rest → Contains front x → before x y ≡ true
+sorted_precedes : {A : Type 0} (before : A → A → Bool) (xs front rest : List A) (x y : A) → IsSorted before xs → xs ≡ front ++ y ∷ rest
+    → Contains front x → before x y ≡ true
 sorted_precedes before [] front rest x y sorted e h = absurd (none_in_empty y (subst (λ zs. Contains zs y) (sym e) (Contains-append_right front (y ∷ rest) y (Contains-head y rest))))
 sorted_precedes before (z ∷ zs) [] rest x y sorted e h = absurd (none_in_empty x h)
 sorted_precedes {A = A} before (z ∷ zs) (f ∷ front) rest x y sorted e h = elim (Contains-cases f x front h) [
@@ -154,3 +159,9 @@ sorted_merge before lists all one_way each sorted exact = record {
       let there : Contains list y = subst (λ zs. Contains zs y) (sym p.2) (Contains-append_right p.0 (y ∷ p.1) y (Contains-head y p.1)) in
       sorted_place before all x y one_way sorted ((exact x).1 (list, h, here)) ((exact y).1 (list, h, there)) (sorted_precedes before list p.0 p.1 x y (each list h) p.2 p.3);
 }
+
+pub sorted_falls : {A : Type 0} (before : A → A → Bool) (rates : A → Sum) (all : List A)
+    → ((x y : A) → before x y ≡ true → AtMost (rates y) (rates x)) → IsSorted before all → Falls (map rates all)
+sorted_falls before rates [] low sorted = tt
+sorted_falls before rates (x ∷ []) low sorted = tt
+sorted_falls before rates (x ∷ y ∷ rest) low sorted = (low x y (sorted.0 y (Contains-head y rest)), sorted_falls before rates (y ∷ rest) low sorted.1)

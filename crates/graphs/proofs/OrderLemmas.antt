@@ -7,8 +7,8 @@ use Rattle.std.proofs.lemmas.Int.{ints}
 use Rattle.std.proofs.lemmas.List.Concat.{flat_map-append}
 use Rattle.std.proofs.lemmas.List.Elements.{Contains-append_left, Contains-append_right, Contains-append_cases, filter-append}
 use Rattle.fee_rate.proofs.Orders.{at_most_chains}
-use Rattle.lists.proofs.Distinct.{distinct-append_left, distinct_apart, distinct_joined, distinct-filter}
-use Rattle.lists.proofs.Entries.{Contains-head, Contains-later, Contains-cases, none_in_empty, Contains-filter, filter-Contains, Contains-splits, map-Contains, Contains-map}
+use Rattle.lists.proofs.Distinct.{distinct_apart, distinct_joined, distinct-filter}
+use Rattle.lists.proofs.Entries.{Contains-head, Contains-cases, none_in_empty, Contains-filter, filter-Contains, Contains-splits, map-Contains, Contains-map}
 use Rattle.lists.specs.Distinct.{AreDistinct}
 use Rattle.arithmetic.proofs.Products.{mul-sub_left, mul-sub_right, scale_keeps, scale_reflects}
 use Rattle.fee_rate.specs.declared.rates.Sum.{Sum}
@@ -41,7 +41,8 @@ pub first_closed : (graph : Graph) (xs ys : List (List ℕ)) → IsTopological g
 first_closed graph xs ys order = front_closed graph (joined xs) (joined ys) (subst (IsTopological graph) (flat_map-append (λ part. part) xs ys) order)
 
 -- names of a list, each once, are no larger than the list
-within_size : (rate : ℕ → Sum) (set ids : List ℕ) → AreDistinct set → AreDistinct ids → ((id : ℕ) → Contains set id → Contains ids id) → (sums rate set).size ≤ (sums rate ids).size
+within_size : (rate : ℕ → Sum) (set ids : List ℕ) → AreDistinct set → AreDistinct ids → ((id : ℕ) → Contains set id → Contains ids id)
+    → (sums rate set).size ≤ (sums rate ids).size
 within_size rate set ids one other inside =
     let share : sums rate (filter (among set) ids) ≡ sums rate set = sums_same_members rate (filter (among set) ids) set (distinct-filter (among set) ids other) one (λ id. (
       (λ h. among_yes set id (filter-Contains (among set) ids id h).0),
@@ -111,28 +112,33 @@ optimal_flat rate graph before after part set optimal closed =
           (fees-append rate (joined before) set) (sizes-append rate (joined before) set) line';
     }
 
-pub optimal_parts_flat : (rate : ℕ → Sum) (graph : Graph) (parts : List (List ℕ)) → IsOptimal rate graph parts → (ids : List ℕ) → Contains parts ids → IsFlat rate graph.pairs ids
+pub optimal_parts_flat : (rate : ℕ → Sum) (graph : Graph) (parts : List (List ℕ)) → IsOptimal rate graph parts → (ids : List ℕ) → Contains parts ids
+    → IsFlat rate graph.pairs ids
 optimal_parts_flat rate graph parts optimal ids h set closed =
     let cut = Contains-splits parts ids h in
     optimal_flat rate graph cut.0 cut.1 ids set (subst (IsOptimal rate graph) cut.2 optimal) closed
 
-pub optimal_tangent : (rate : ℕ → Sum) (graph : Graph) (before after : List (List ℕ)) (part set : List ℕ) → HasSizes rate graph.names → IsOptimal rate graph (before ++ part ∷ after)
+pub optimal_tangent : (rate : ℕ → Sum) (graph : Graph) (before after : List (List ℕ)) (part set : List ℕ) → HasSizes rate graph.names
+    → IsOptimal rate graph (before ++ part ∷ after)
     → IsClosedWithin graph.pairs graph.names set → IsUnderLine (sums rate (joined before)) (sums rate part) (sums rate set)
 optimal_tangent rate graph before after part set some optimal closed =
     flat_tangent rate graph before after part set some optimal.order optimal.chunks (optimal_parts_flat rate graph (before ++ part ∷ after) optimal) closed
 
 -- a part has a size
-parts_some : (rate : ℕ → Sum) (graph : Graph) (parts : List (List ℕ)) → HasSizes rate graph.names → IsOptimal rate graph parts → (ids : List ℕ) → Contains parts ids → 1 ≤ (sums rate ids).size
+parts_some : (rate : ℕ → Sum) (graph : Graph) (parts : List (List ℕ)) → HasSizes rate graph.names → IsOptimal rate graph parts → (ids : List ℕ)
+    → Contains parts ids → 1 ≤ (sums rate ids).size
 parts_some rate graph parts some optimal ids h =
     sizes_some rate ids (optimal.chunks.filled ids h) (λ id there. some id ((optimal.order.names id).0 (joined-Contains parts ids id h there)))
 
 -- ---- the first parts
 
-one_more_fee : (rate : ℕ → Sum) (first : List (List ℕ)) (part : List ℕ) → (sums rate (joined (first ++ part ∷ []))).fee ≡ (sums rate (joined first)).fee +ℤ (sums rate part).fee
+one_more_fee : (rate : ℕ → Sum) (first : List (List ℕ)) (part : List ℕ)
+    → (sums rate (joined (first ++ part ∷ []))).fee ≡ (sums rate (joined first)).fee +ℤ (sums rate part).fee
 one_more_fee rate first part =
     ap (λ zs. (sums rate zs).fee) (flat_map-append (λ ids. ids) first (part ∷ [])) ∙ fees-append rate (joined first) (part ++ []) ∙ ap (λ zs. (sums rate (joined first)).fee +ℤ (sums rate zs).fee) (append_nil part)
 
-one_more_size : (rate : ℕ → Sum) (first : List (List ℕ)) (part : List ℕ) → (sums rate (joined (first ++ part ∷ []))).size ≡ (sums rate (joined first)).size + (sums rate part).size
+one_more_size : (rate : ℕ → Sum) (first : List (List ℕ)) (part : List ℕ)
+    → (sums rate (joined (first ++ part ∷ []))).size ≡ (sums rate (joined first)).size + (sums rate part).size
 one_more_size rate first part =
     ap (λ zs. (sums rate zs).size) (flat_map-append (λ ids. ids) first (part ∷ [])) ∙ sizes-append rate (joined first) (part ++ []) ∙ ap (λ zs. (sums rate (joined first)).size + (sums rate zs).size) (append_nil part)
 
@@ -170,7 +176,8 @@ from_end f F cf d s S cs y fees sizes line =
     omega (arith, ints, line, left, right)
 
 -- what a set with all descendants leaves is closed
-left_closed : (graph : Graph) (order set : List ℕ) → IsTopological graph order → IsDescendantSet graph set → IsClosedWithin graph.pairs graph.names (filter (λ id. not (among set id)) order)
+left_closed : (graph : Graph) (order set : List ℕ) → IsTopological graph order → IsDescendantSet graph set
+    → IsClosedWithin graph.pairs graph.names (filter (λ id. not (among set id)) order)
 left_closed graph order set topological below =
     let out : ℕ → Bool = λ id. not (among set id) in
     record {
@@ -201,7 +208,8 @@ lowest_last rate graph before last set some optimal below =
           (omega (arith, share_size, sizes-filter rate (among set) order, one_more_size rate before last)) line;
     }
 
-pub last_is_one : (rate : ℕ → Sum) (graph : Graph) (before : List (List ℕ)) (last : List ℕ) → IsOptimal rate graph (before ++ last ∷ []) → IsDescendantSet graph last × (last ≢ [])
+pub last_is_one : (rate : ℕ → Sum) (graph : Graph) (before : List (List ℕ)) (last : List ℕ) → IsOptimal rate graph (before ++ last ∷ [])
+    → IsDescendantSet graph last × (last ≢ [])
 last_is_one rate graph before last optimal =
     let parts = before ++ last ∷ [] in
     let there : Contains parts last = Contains-append_right before (last ∷ []) last (Contains-head last []) in
@@ -226,7 +234,8 @@ last_is_one rate graph before last optimal =
 -- ---- the rate of a name
 
 -- what two closed sets have in common, in the order of one
-both_closed : (graph : Graph) (xs ys : List ℕ) → IsClosedWithin graph.pairs graph.names xs → IsClosedWithin graph.pairs graph.names ys → IsClosedWithin graph.pairs graph.names (filter (among xs) ys)
+both_closed : (graph : Graph) (xs ys : List ℕ) → IsClosedWithin graph.pairs graph.names xs → IsClosedWithin graph.pairs graph.names ys
+    → IsClosedWithin graph.pairs graph.names (filter (among xs) ys)
 both_closed graph xs ys one other = record {
   once = distinct-filter (among xs) ys other.once;
   inside = λ id h. other.inside id (filter-Contains (among xs) ys id h).1;
@@ -236,7 +245,8 @@ both_closed graph xs ys one other = record {
 }
 
 -- no part behind another has a greater rate
-rate_behind : (rate : ℕ → Sum) (graph : Graph) (before after : List (List ℕ)) (part : List ℕ) → HasSizes rate graph.names → IsOptimal rate graph (before ++ part ∷ after)
+rate_behind : (rate : ℕ → Sum) (graph : Graph) (before after : List (List ℕ)) (part : List ℕ) → HasSizes rate graph.names
+    → IsOptimal rate graph (before ++ part ∷ after)
     → (ids : List ℕ) → Contains (part ∷ after) ids → AtMost (sums rate ids) (sums rate part)
 rate_behind rate graph before after part some optimal ids h =
     let parts = before ++ part ∷ after in
@@ -280,7 +290,8 @@ rate_at_most rate graph a1 a2 b1 b2 p q id some one other here there =
     (λ x h. some x (closed.inside x (among_yes first x (filter-Contains m rest x h).0))) in
     at_most_chains (sums rate p) (sums rate (filter m rest)) (sums rate q) size up down
 
-pub one_rate : (rate : ℕ → Sum) (graph : Graph) (a b : List (List ℕ)) (id : ℕ) (p q : List ℕ) → HasSizes rate graph.names → IsOptimal rate graph a → IsOptimal rate graph b
+pub one_rate : (rate : ℕ → Sum) (graph : Graph) (a b : List (List ℕ)) (id : ℕ) (p q : List ℕ) → HasSizes rate graph.names → IsOptimal rate graph a
+    → IsOptimal rate graph b
     → Contains a p → Contains p id → Contains b q → Contains q id → Same (sums rate p) (sums rate q)
 one_rate rate graph a b id p q some one other p_in here q_in there =
     let x = Contains-splits a p p_in in

@@ -17,11 +17,13 @@ use Rattle.graphs.proofs.OrderLemmas.{map-append, one_rate, lowest_last, first_b
 ids_of : Part → List ℕ
 ids_of part = part.ids
 
-optimal_ids : (rate : ℕ → Sum) (graph : Graph) (parts : List Part) → HasSizes rate graph.names → IsCertificate rate graph (IsCover graph.pairs) parts → IsOptimal rate graph (map ids_of parts)
+optimal_ids : (rate : ℕ → Sum) (graph : Graph) (parts : List Part) → HasSizes rate graph.names → IsCertificate rate graph (IsCover graph.pairs) parts
+    → IsOptimal rate graph (map ids_of parts)
 unfolding ids_of
 optimal_ids rate graph parts some certificate = certified_optimal rate graph (IsCover graph.pairs) parts some (covers_are_pairs graph.pairs) certificate
 
-told : (rate : ℕ → Sum) (parts : List Part) → ((part : Part) → Contains parts part → part.rate ≡ sums rate part.ids) → sum_of (map (λ p. p.rate) parts) ≡ sums rate (joined (map ids_of parts))
+told : (rate : ℕ → Sum) (parts : List Part) → ((part : Part) → Contains parts part → part.rate ≡ sums rate part.ids)
+    → sum_of (map (λ p. p.rate) parts) ≡ sums rate (joined (map ids_of parts))
 unfolding ids_of
 told rate parts summed = ap sum_of (lists parts summed) ∙ sum_of-joined rate (map ids_of parts)
   where
@@ -48,7 +50,8 @@ parts_lowest rate graph before part set some certificate below =
 
 pub parts_best : (rate : ℕ → Sum) (graph : Graph) (first after : List Part) (part : Part) (set : List ℕ) → HasSizes rate graph.names
     → IsCertificate rate graph (IsCover graph.pairs) ((first ++ part ∷ []) ++ after) → pos 0 ≤ℤ part.rate.fee → IsClosedWithin graph.pairs graph.names set
-    → (sums rate set).size ≤ (sum_of (map (λ p. p.rate) (first ++ part ∷ []))).size → (sums rate set).fee ≤ℤ (sum_of (map (λ p. p.rate) (first ++ part ∷ []))).fee
+    → (sums rate set).size ≤ (sum_of (map (λ p. p.rate) (first ++ part ∷ []))).size
+    → (sums rate set).fee ≤ℤ (sum_of (map (λ p. p.rate) (first ++ part ∷ []))).fee
 unfolding ids_of
 parts_best rate graph first after part set some certificate rises closed small =
     let front = first ++ part ∷ [] in

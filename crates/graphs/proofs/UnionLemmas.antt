@@ -1,5 +1,5 @@
 -- A graph that is made of components: its walks stay in one, and merged certificates of the components certify it.
-use Rattle.std.proofs.Common.{◌≡◌, ℕ, suc, zero, List, [], ◌∷◌, map, sym, refl, subst, ap, ◌∙◌, inl, inr, ◌⊎◌}
+use Rattle.std.proofs.Common.{◌≡◌, ℕ, suc, zero, List, [], ◌∷◌, map, sym, refl, subst, ap, inl, inr}
 use Rattle.std.specs.Prelude.{Contains, flat_map}
 use Rattle.std.proofs.lemmas.List.Folds.{flat_map-map}
 use Rattle.lists.proofs.Entries.{map-Contains, Contains-map}
@@ -7,8 +7,8 @@ use Rattle.lists.specs.Distinct.{AreDistinct}
 use Rattle.fee_rate.specs.declared.rates.Sum.{Sum}
 use Rattle.graphs.specs.Graphs.{Graph, Walk, IsAncestor, Trail, AreConnected, IsCover, HasNoCycle, IsGraph}
 use Rattle.graphs.specs.Rates.{Falls}
-use Rattle.graphs.specs.Linearizations.{IsTopological, IsTogether, StandsBefore}
-use Rattle.graphs.specs.Certificates.{Part, Certifies, HasFlows, HasOrder, IsCertificate}
+use Rattle.graphs.specs.Linearizations.{IsTopological, StandsBefore}
+use Rattle.graphs.specs.Certificates.{Part, HasFlows, IsCertificate}
 use Rattle.graphs.specs.Merges.{IsMerge, IsUnion, KeepsComponents}
 use Rattle.graphs.proofs.MergeLemmas.{flat_has, flat_of, flat_part_once, one_holder, flat_once, flat_stands, stands_within, stands_apart}
 

@@ -2,6 +2,7 @@
 use Rattle.std.specs.Prelude.{◌≡◌, ℕ, Bool, true, List, [], ◌∷◌, ◌++◌, map, Contains, ◌↔◌}
 use Rattle.lists.specs.Distinct.{AreDistinct}
 use Rattle.fee_rate.specs.declared.rates.Sum.{Sum}
+use Rattle.fee_rate.specs.Rates.{AtMost}
 use Rattle.graphs.specs.Graphs.{Graph, IsAncestor, AreConnected, IsCover, IsGraph}
 use Rattle.graphs.specs.Rates.{Falls}
 use Rattle.graphs.specs.Certificates.{Part, IsCertificate}
@@ -51,13 +52,16 @@ pub record MergedPartsAreCertified : Type 0 where
   pub by_parts : (rate : ℕ → Sum) (components : List (Graph × List Part)) (whole : Graph) (parts : List Part) → IsUnion components whole
       → ((c : Graph × List Part) → Contains components c → IsCertificate rate c.0 (IsCover c.0.pairs) c.1)
       → IsMerge (map (λ c. c.1) components) parts → Falls (map (λ part. part.rate) parts) → IsCertificate rate whole (IsCover whole.pairs) parts
-  pub by_keys : (rate : ℕ → Sum) (part : ℕ × ℕ → Part) (components : List (Graph × List (ℕ × ℕ))) (whole : Graph) (keys : List (ℕ × ℕ)) → IsUnion components whole
+  pub by_keys : (rate : ℕ → Sum) (part : ℕ × ℕ → Part) (components : List (Graph × List (ℕ × ℕ))) (whole : Graph) (keys : List (ℕ × ℕ))
+      → IsUnion components whole
       → ((c : Graph × List (ℕ × ℕ)) → Contains components c → IsCertificate rate c.0 (IsCover c.0.pairs) (map part c.1))
       → IsMerge (map (λ c. c.1) components) keys → Falls (map (λ key. (part key).rate) keys) → IsCertificate rate whole (IsCover whole.pairs) (map part keys)
 
--- Lists and a list with their entries, all sorted by one order, which is never both ways: the list merges them.
-abbrev pub SortedListsMerge : Type 0
-SortedListsMerge =
-    (before : ℕ × ℕ → ℕ × ℕ → Bool) (lists : List (List (ℕ × ℕ))) (all : List (ℕ × ℕ)) → ((x y : ℕ × ℕ) → before x y ≡ true → before y x ≡ true → ⊥)
-    → ((list : List (ℕ × ℕ)) → Contains lists list → IsSorted before list) → IsSorted before all
-    → ((x : ℕ × ℕ) → Contains all x ↔ ((list : List (ℕ × ℕ)) × Contains lists list × Contains list x)) → IsMerge lists all
+-- Lists and a list with their entries, all sorted by one order, which is never both ways: the list merges them. Where what is before
+-- has no lower rate, rates fall.
+pub record SortedListsMerge : Type 0 where
+  pub merges : (before : ℕ × ℕ → ℕ × ℕ → Bool) (lists : List (List (ℕ × ℕ))) (all : List (ℕ × ℕ))
+      → ((x y : ℕ × ℕ) → before x y ≡ true → before y x ≡ true → ⊥) → ((list : List (ℕ × ℕ)) → Contains lists list → IsSorted before list)
+      → IsSorted before all → ((x : ℕ × ℕ) → Contains all x ↔ ((list : List (ℕ × ℕ)) × Contains lists list × Contains list x)) → IsMerge lists all
+  pub falls : (before : ℕ × ℕ → ℕ × ℕ → Bool) (rates : ℕ × ℕ → Sum) (all : List (ℕ × ℕ)) → ((x y : ℕ × ℕ) → before x y ≡ true → AtMost (rates y) (rates x))
+      → IsSorted before all → Falls (map rates all)

@@ -1,5 +1,5 @@
 -- What is the same in all optimal orders, and what parts of one promise.
-use Rattle.std.specs.Prelude.{◌≡◌, ◌≢◌, ℕ, ◌≤◌, ℤ, pos, ◌≤ℤ◌, List, [], ◌∷◌, ◌++◌, map, flat_map, Contains}
+use Rattle.std.specs.Prelude.{◌≢◌, ℕ, ◌≤◌, pos, ◌≤ℤ◌, List, [], ◌∷◌, ◌++◌, map, flat_map, Contains}
 use Rattle.fee_rate.specs.declared.rates.Sum.{Sum}
 use Rattle.fee_rate.specs.Rates.{AtMost, Same}
 use Rattle.graphs.specs.Graphs.{Graph, IsCover}
@@ -46,4 +46,5 @@ pub record CertifiedPartsAgree : Type 0 where
       → IsCertificate rate graph (IsCover graph.pairs) (before ++ part ∷ []) → IsDescendantSet graph set → AtMost part.rate (sums rate set)
   pub first : (rate : ℕ → Sum) (graph : Graph) (first after : List Part) (part : Part) (set : List ℕ) → HasSizes rate graph.names
       → IsCertificate rate graph (IsCover graph.pairs) ((first ++ part ∷ []) ++ after) → pos 0 ≤ℤ part.rate.fee → IsClosedWithin graph.pairs graph.names set
-      → (sums rate set).size ≤ (sum_of (map (λ p. p.rate) (first ++ part ∷ []))).size → (sums rate set).fee ≤ℤ (sum_of (map (λ p. p.rate) (first ++ part ∷ []))).fee
+      → (sums rate set).size ≤ (sum_of (map (λ p. p.rate) (first ++ part ∷ []))).size
+      → (sums rate set).fee ≤ℤ (sum_of (map (λ p. p.rate) (first ++ part ∷ []))).fee

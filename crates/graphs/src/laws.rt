@@ -116,7 +116,7 @@ pub fn merged_parts_are_certified()
     ensures { MergedPartsAreCertified }
 {}
 
-/// A sorted list with the entries of sorted lists merges them.
+/// A sorted list with the entries of sorted lists merges them, and its rates fall where the order is by falling rate.
 pub fn sorted_lists_merge()
     ensures { SortedListsMerge }
 {}
