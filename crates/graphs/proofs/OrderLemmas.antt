@@ -40,15 +40,19 @@ append_nil (x ∷ xs) = ap (λ zs. x ∷ zs) (append_nil xs)
 pub first_closed : (graph : Graph) (xs ys : List (List ℕ)) → IsTopological graph (joined (xs ++ ys)) → IsClosedWithin graph.pairs graph.names (joined xs)
 first_closed graph xs ys order = front_closed graph (joined xs) (joined ys) (subst (IsTopological graph) (flat_map-append (λ part. part) xs ys) order)
 
--- names of a list, each once, are no larger than the list
+-- names of a list, each once, are what the list has of them
+share_of : (rate : ℕ → Sum) (set ids : List ℕ) → AreDistinct set → AreDistinct ids → ((id : ℕ) → Contains set id → Contains ids id)
+    → sums rate (filter (among set) ids) ≡ sums rate set
+share_of rate set ids one other inside =
+    sums_same_members rate (filter (among set) ids) set (distinct-filter (among set) ids other) one (λ id. (
+      (λ h. among_yes set id (filter-Contains (among set) ids id h).0),
+      (λ h. Contains-filter (among set) ids id (among_is set id h) (inside id h)),
+    ))
+
 within_size : (rate : ℕ → Sum) (set ids : List ℕ) → AreDistinct set → AreDistinct ids → ((id : ℕ) → Contains set id → Contains ids id)
     → (sums rate set).size ≤ (sums rate ids).size
 within_size rate set ids one other inside =
-    let share : sums rate (filter (among set) ids) ≡ sums rate set = sums_same_members rate (filter (among set) ids) set (distinct-filter (among set) ids other) one (λ id. (
-      (λ h. among_yes set id (filter-Contains (among set) ids id h).0),
-      (λ h. Contains-filter (among set) ids id (among_is set id h) (inside id h)),
-    )) in
-    let sizes : (sums rate (filter (among set) ids)).size ≡ (sums rate set).size = ap (λ (s : Sum). s.size) share in
+    let sizes : (sums rate (filter (among set) ids)).size ≡ (sums rate set).size = ap (λ (s : Sum). s.size) (share_of rate set ids one other inside) in
     omega (arith, sizes, sizes-filter rate (among set) ids)
 
 -- the first parts with a set that is closed within the next part
@@ -61,18 +65,19 @@ next_closed graph before after part set order closed =
     let longer : before ++ part ∷ after ≡ (before ++ part ∷ []) ++ after = sym (part_assoc before (part ∷ []) after) in
     let late = first_closed graph (before ++ part ∷ []) after (subst (λ zs. IsTopological graph (joined zs)) longer order) in
     let both : joined (before ++ part ∷ []) ≡ joined before ++ (part ++ []) = flat_map-append (λ ids. ids) before (part ∷ []) in
+    let within : (id : ℕ) → Contains set id → Contains (joined (before ++ part ∷ [])) id = λ id h. subst (λ zs. Contains zs id) (sym both)
+    (Contains-append_right (joined before) (part ++ []) id (Contains-append_left part [] id (closed.inside id h))) in
     record {
       once = distinct_joined (joined before) set early.once closed.once
           (λ id left right. distinct_apart (joined before) (part ++ joined after) id once left (Contains-append_left part (joined after) id (closed.inside id right)));
       inside = λ id h. elim (Contains-append_cases (joined before) set id h) [
         | inl left ↦ early.inside id left
-        | inr right ↦ late.inside id (subst (λ zs. Contains zs id) (sym both) (Contains-append_right (joined before) (part ++ []) id (Contains-append_left part [] id (closed.inside id right))))
+        | inr right ↦ late.inside id (within id right)
       ];
       parents = λ parent child pair there h. elim (Contains-append_cases (joined before) set child h) [
         | inl left ↦ Contains-append_left (joined before) set parent (early.parents parent child pair there left)
         | inr right ↦
-            let above = subst (λ zs. Contains zs parent) both
-            (late.parents parent child pair there (subst (λ zs. Contains zs child) (sym both) (Contains-append_right (joined before) (part ++ []) child (Contains-append_left part [] child (closed.inside child right))))) in
+            let above = subst (λ zs. Contains zs parent) both (late.parents parent child pair there (within child right)) in
             elim (Contains-append_cases (joined before) (part ++ []) parent above) [
               | inl earlier ↦ Contains-append_left (joined before) set parent earlier
               | inr here ↦ elim (Contains-append_cases part [] parent here) [
@@ -135,12 +140,14 @@ parts_some rate graph parts some optimal ids h =
 one_more_fee : (rate : ℕ → Sum) (first : List (List ℕ)) (part : List ℕ)
     → (sums rate (joined (first ++ part ∷ []))).fee ≡ (sums rate (joined first)).fee +ℤ (sums rate part).fee
 one_more_fee rate first part =
-    ap (λ zs. (sums rate zs).fee) (flat_map-append (λ ids. ids) first (part ∷ [])) ∙ fees-append rate (joined first) (part ++ []) ∙ ap (λ zs. (sums rate (joined first)).fee +ℤ (sums rate zs).fee) (append_nil part)
+    ap (λ zs. (sums rate zs).fee) (flat_map-append (λ ids. ids) first (part ∷ [])) ∙ fees-append rate (joined first) (part ++ [])
+    ∙ ap (λ zs. (sums rate (joined first)).fee +ℤ (sums rate zs).fee) (append_nil part)
 
 one_more_size : (rate : ℕ → Sum) (first : List (List ℕ)) (part : List ℕ)
     → (sums rate (joined (first ++ part ∷ []))).size ≡ (sums rate (joined first)).size + (sums rate part).size
 one_more_size rate first part =
-    ap (λ zs. (sums rate zs).size) (flat_map-append (λ ids. ids) first (part ∷ [])) ∙ sizes-append rate (joined first) (part ++ []) ∙ ap (λ zs. (sums rate (joined first)).size + (sums rate zs).size) (append_nil part)
+    ap (λ zs. (sums rate zs).size) (flat_map-append (λ ids. ids) first (part ∷ [])) ∙ sizes-append rate (joined first) (part ++ [])
+    ∙ ap (λ zs. (sums rate (joined first)).size + (sums rate zs).size) (append_nil part)
 
 -- the numbers: a line that rises, at its end or before it
 at_end : (f F cf : ℤ) (s S cs : ℕ) → pos 0 ≤ℤ f → 1 ≤ s → cs ≤ S + s → ((cf -ℤ F) *ℤ pos s) ≤ℤ (f *ℤ (pos cs -ℤ pos S)) → cf ≤ℤ (F +ℤ f)
@@ -184,7 +191,9 @@ left_closed graph order set topological below =
       once = distinct-filter out order topological.once;
       inside = λ id h. (topological.names id).0 (filter-Contains out order id h).1;
       parents = λ parent child pair there here. elim (cases_Bool (among set parent)) [
-        | inl inside ↦ absurd (both_ways (among set child) (not-true (among set child) (filter-Contains out order child here).0) (among_is set child (below.children parent child pair (among_yes set parent inside))))
+        | inl inside ↦
+            let goes = among_is set child (below.children parent child pair (among_yes set parent inside)) in
+            absurd (both_ways (among set child) (not-true (among set child) (filter-Contains out order child here).0) goes)
         | inr beyond ↦ Contains-filter out order parent (ap not beyond) ((topological.names parent).1 there)
       ];
     }
@@ -195,10 +204,8 @@ lowest_last rate graph before last set some optimal below =
     let order = joined (before ++ last ∷ []) in
     let out : ℕ → Bool = λ id. not (among set id) in
     let line = optimal_tangent rate graph before [] last (filter out order) some optimal (left_closed graph order set optimal.order below) in
-    let share : sums rate (filter (among set) order) ≡ sums rate set = sums_same_members rate (filter (among set) order) set (distinct-filter (among set) order optimal.order.once) below.once (λ id. (
-      (λ h. among_yes set id (filter-Contains (among set) order id h).0),
-      (λ h. Contains-filter (among set) order id (among_is set id h) ((optimal.order.names id).1 (below.inside id h))),
-    )) in
+    let share : sums rate (filter (among set) order) ≡ sums rate set = share_of rate set order below.once optimal.order.once
+    (λ id h. (optimal.order.names id).1 (below.inside id h)) in
     let share_fee : (sums rate (filter (among set) order)).fee ≡ (sums rate set).fee = ap (λ (s : Sum). s.fee) share in
     let share_size : (sums rate (filter (among set) order)).size ≡ (sums rate set).size = ap (λ (s : Sum). s.size) share in
     record {
@@ -252,10 +259,14 @@ rate_behind rate graph before after part some optimal ids h =
     let parts = before ++ part ∷ after in
     let list : map (sums rate) parts ≡ map (sums rate) before ++ sums rate part ∷ map (sums rate) after = map-append (sums rate) before (part ∷ after) in
     let sizes : (b : Sum) → Contains (map (sums rate) before ++ sums rate part ∷ map (sums rate) after) b → 1 ≤ b.size =
-    subst (λ zs. (b : Sum) → Contains zs b → 1 ≤ b.size) list (λ b k. let found = map-Contains (sums rate) parts b k in subst (λ (z : Sum). 1 ≤ z.size) found.2 (parts_some rate graph parts some optimal found.0 found.1)) in
+    subst (λ zs. (b : Sum) → Contains zs b → 1 ≤ b.size) list (λ b k.
+    let found = map-Contains (sums rate) parts b k in
+    subst (λ (z : Sum). 1 ≤ z.size) found.2 (parts_some rate graph parts some optimal found.0 found.1)) in
     elim (Contains-cases part ids after h) [
       | inl same ↦ subst (λ (z : List ℕ). AtMost (sums rate z) (sums rate part)) same (record { crossed = omega (arith, ints) })
-      | inr later ↦ falls_behind (map (sums rate) before) (map (sums rate) after) (sums rate part) (subst Falls list optimal.chunks.falling) sizes (sums rate ids) (Contains-map (sums rate) after ids later)
+      | inr later ↦
+          falls_behind (map (sums rate) before) (map (sums rate) after) (sums rate part) (subst Falls list optimal.chunks.falling) sizes
+          (sums rate ids) (Contains-map (sums rate) after ids later)
     ]
 
 rate_at_most : (rate : ℕ → Sum) (graph : Graph) (a1 a2 b1 b2 : List (List ℕ)) (p q : List ℕ) (id : ℕ) → HasSizes rate graph.names

@@ -25,8 +25,8 @@ pub record DropsNames (old : Graph) (gone : List ℕ) (new : Graph) : Type 0 whe
   pub pairs : (a b : ℕ) → Contains new.pairs (a, b) ↔ ((Contains gone a → ⊥) × (Contains gone b → ⊥) × Contains old.pairs (a, b))
   pub pairs_once : AreDistinct new.pairs
 
--- Every graph has one without a list of names, and what is left is a graph. Where what was dropped had all its ancestors, or all its descendants, with it, the others keep
--- the ancestors and the covering pairs that they had among them.
+-- Every graph has one without a list of names, and what is left is a graph. Where what was dropped had all its ancestors with it, or all
+-- its descendants, the others keep the ancestors and the covering pairs that they had among them.
 pub record DropsKeepAncestors : Type 0 where
   pub some : (old : Graph) (gone : List ℕ) → IsGraph old → (new : Graph) × DropsNames old gone new
   pub graph : (old new : Graph) (gone : List ℕ) → DropsNames old gone new → IsGraph old → IsGraph new

@@ -28,8 +28,8 @@ pub record LastPartIsLowest : Type 0 where
   pub lowest : (rate : ℕ → Sum) (graph : Graph) (before : List (List ℕ)) (last set : List ℕ) → HasSizes rate graph.names
       → IsOptimal rate graph (before ++ last ∷ []) → IsDescendantSet graph set → AtMost (sums rate last) (sums rate set)
 
--- Of the closed sets that are no larger than some first parts of an optimal order, of which the last has a fee of at least 0, none has a greater fee than they have together.
--- So it is for the parts that a block takes before the first that it leaves out.
+-- Of the closed sets that are no larger than some first parts of an optimal order, of which the last has a fee of at least 0, none has
+-- a greater fee than these parts together. So it is for the parts that a block takes before the first that it leaves out.
 abbrev pub FirstPartsAreBest : Type 0
 FirstPartsAreBest =
     (rate : ℕ → Sum) (graph : Graph) (first after : List (List ℕ)) (part set : List ℕ) → HasSizes rate graph.names
