@@ -27,22 +27,23 @@ cut_cases (x ∷ xs) ys (f ∷ front) rest b e =
 precedes_later : {A : Type 0} (z x y : A) (xs : List A) → Precedes xs x y → Precedes (z ∷ xs) x y
 precedes_later z x y xs p = (z ∷ p.0, p.1, ap (λ zs. z ∷ zs) p.2, Contains-later z x p.0 p.3)
 
+-- ---- lists that are made of entries
+pub flat_has : {A B : Type 0} (f : A → List B) (xs : List A) (x : A) (y : B) → Contains xs x → Contains (f x) y → Contains (flat_map f xs) y
+flat_has f [] x y h there = absurd (none_in_empty x h)
+flat_has {A = A} f (z ∷ zs) x y h there = elim (Contains-cases z x zs h) [
+  | inl same ↦ Contains-append_left (f z) (flat_map f zs) y (subst (λ (w : A). Contains (f w) y) (sym same) there)
+  | inr later ↦ Contains-append_right (f z) (flat_map f zs) y (flat_has f zs x y later there)
+]
+
+pub flat_of : {A B : Type 0} (f : A → List B) (xs : List A) (y : B) → Contains (flat_map f xs) y → (x : A) × Contains xs x × Contains (f x) y
+flat_of f [] y h = absurd (none_in_empty y h)
+flat_of f (z ∷ zs) y h = elim (Contains-append_cases (f z) (flat_map f zs) y h) [
+  | inl here ↦ (z, Contains-head z zs, here)
+  | inr later ↦ let found = flat_of f zs y later in (found.0, Contains-later z found.0 zs found.1, found.2)
+]
+
 -- ---- lists of names that are made of entries
 module _ {A : Type 0} (f : A → List ℕ) where
-  pub flat_has : (xs : List A) (x : A) (id : ℕ) → Contains xs x → Contains (f x) id → Contains (flat_map f xs) id
-  flat_has [] x id h there = absurd (none_in_empty x h)
-  flat_has (y ∷ ys) x id h there = elim (Contains-cases y x ys h) [
-    | inl same ↦ Contains-append_left (f y) (flat_map f ys) id (subst (λ (z : A). Contains (f z) id) (sym same) there)
-    | inr later ↦ Contains-append_right (f y) (flat_map f ys) id (flat_has ys x id later there)
-  ]
-
-  pub flat_of : (xs : List A) (id : ℕ) → Contains (flat_map f xs) id → (x : A) × Contains xs x × Contains (f x) id
-  flat_of [] id h = absurd (none_in_empty id h)
-  flat_of (y ∷ ys) id h = elim (Contains-append_cases (f y) (flat_map f ys) id h) [
-    | inl here ↦ (y, Contains-head y ys, here)
-    | inr later ↦ let found = flat_of ys id later in (found.0, Contains-later y found.0 ys found.1, found.2)
-  ]
-
   pub flat_part_once : (xs : List A) (x : A) → AreDistinct (flat_map f xs) → Contains xs x → AreDistinct (f x)
   flat_part_once [] x once h = absurd (none_in_empty x h)
   flat_part_once (y ∷ ys) x once h = elim (Contains-cases y x ys h) [
@@ -57,10 +58,10 @@ module _ {A : Type 0} (f : A → List ℕ) where
   one_holder (z ∷ zs) x y id once h k here there = elim (Contains-cases z x zs h) [
     | inl first ↦ elim (Contains-cases z y zs k) [
       | inl second ↦ sym first ∙ second
-      | inr later ↦ absurd (distinct_apart (f z) (flat_map f zs) id once (subst (λ (w : A). Contains (f w) id) (sym first) here) (flat_has zs y id later there))
+      | inr later ↦ absurd (distinct_apart (f z) (flat_map f zs) id once (subst (λ (w : A). Contains (f w) id) (sym first) here) (flat_has f zs y id later there))
     ]
     | inr early ↦ elim (Contains-cases z y zs k) [
-      | inl second ↦ absurd (distinct_apart (f z) (flat_map f zs) id once (subst (λ (w : A). Contains (f w) id) (sym second) there) (flat_has zs x id early here))
+      | inl second ↦ absurd (distinct_apart (f z) (flat_map f zs) id once (subst (λ (w : A). Contains (f w) id) (sym second) there) (flat_has f zs x id early here))
       | inr later ↦ one_holder zs x y id (distinct-append_right (f z) (flat_map f zs) once) early later here there
     ]
   ]
@@ -72,7 +73,7 @@ module _ {A : Type 0} (f : A → List ℕ) where
       distinct_joined (f x) (flat_map f xs) (each x (Contains-head x xs))
       (flat_once xs once.1 (λ y h. each y (Contains-later x y xs h)) (λ y z id h k. one y z id (Contains-later x y xs h) (Contains-later x z xs k)))
       (λ id here there.
-      let found = flat_of xs id there in
+      let found = flat_of f xs id there in
       once.0 (subst (Contains xs) (sym (one x found.0 id (Contains-head x xs) (Contains-later x found.0 xs found.1) here found.2)) found.1))
 
   -- a name before another: in one entry's list, or in an earlier one's
@@ -83,7 +84,7 @@ module _ {A : Type 0} (f : A → List ℕ) where
     | inl here ↦ inl (x, Contains-head x xs, (stands.0, here.0, here.1, stands.3))
     | inr later ↦ elim (Contains-append_cases (f x) later.0 a (subst (λ zs. Contains zs a) later.1 stands.3)) [
       | inl first ↦
-          let found = flat_of xs b (subst (λ zs. Contains zs b) (sym later.2) (Contains-append_right later.0 (b ∷ stands.1) b (Contains-head b stands.1))) in
+          let found = flat_of f xs b (subst (λ zs. Contains zs b) (sym later.2) (Contains-append_right later.0 (b ∷ stands.1) b (Contains-head b stands.1))) in
           let cut = Contains-splits xs found.0 found.1 in
           inr (x, found.0, (x ∷ cut.0, cut.1, ap (λ zs. x ∷ zs) cut.2, Contains-head x cut.0), first, found.2)
       | inr behind ↦ elim (flat_stands xs a b (later.0, stands.1, later.2, behind)) [
@@ -114,7 +115,7 @@ module _ {A : Type 0} (f : A → List ℕ) where
         flat_map f p.0 ++ cut.0,
         cut.1 ++ flat_map f p.1,
         ap (flat_map f) p.2 ∙ place p.0 p.1 y cut.0 cut.1 b cut.2,
-        Contains-append_left (flat_map f p.0) cut.0 a (flat_has p.0 x a p.3 here),
+        Contains-append_left (flat_map f p.0) cut.0 a (flat_has f p.0 x a p.3 here),
       )
 
 -- ---- sorted lists

@@ -107,8 +107,24 @@ module _ {A : Type 0} (components : List (Graph × A)) (whole : Graph) (union : 
     acyclic = no_cycle_whole;
   }
 
+pub some_union : {A : Type 0} (components : List (Graph × A)) → ((c : Graph × A) → Contains components c → IsGraph c.0)
+    → ((c d : Graph × A) (id : ℕ) → Contains components c → Contains components d → Contains c.0.names id → Contains d.0.names id → c ≡ d)
+    → (whole : Graph) × IsUnion components whole
+some_union {A = A} components graphs apart =
+    let names : Graph × A → List ℕ = λ c. c.0.names in
+    let pairs : Graph × A → List (ℕ × ℕ) = λ c. c.0.pairs in (
+      record { names = flat_map names components; pairs = flat_map pairs components },
+      record {
+        names = λ id. ((λ h. flat_of names components id h), (λ there. flat_has names components there.0 id there.1 there.2));
+        pairs = λ a b. ((λ h. flat_of pairs components (a, b) h), (λ there. flat_has pairs components there.0 (a, b) there.1 there.2));
+        apart = apart;
+        graphs = graphs;
+      },
+    )
+
 pub keeps_components : {A : Type 0} → KeepsComponents A
 keeps_components = record {
+  some = some_union;
   ancestors = λ components whole d a b union member here. (ancestor_within components whole union d member a b here, ancestor_into components whole union d member a b);
   connected = λ components whole d a b union member here. (connected_within components whole union d member a b here, connected_into components whole union d member a b);
   covers = λ components whole d a b union member here. (cover_within components whole union d member a b here, cover_into components whole union d member a b here);

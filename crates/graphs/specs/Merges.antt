@@ -30,9 +30,12 @@ pub record IsUnion {A : Type 0} (components : List (Graph × A)) (whole : Graph)
   pub apart : (c d : Graph × A) (id : ℕ) → Contains components c → Contains components d → Contains c.0.names id → Contains d.0.names id → c ≡ d
   pub graphs : (c : Graph × A) → Contains components c → IsGraph c.0
 
--- Names of one component have in the whole graph the ancestors, the component and the covering pairs that they have in it. The whole
--- graph, its names and pairs listed once, is a graph.
+-- Graphs without a common name make one. Names of one component have in it the ancestors, the component and the covering pairs that they
+-- have in theirs. With its names and pairs listed once, it is a graph.
 pub record KeepsComponents (A : Type 0) : Type 0 where
+  pub some : (components : List (Graph × A)) → ((c : Graph × A) → Contains components c → IsGraph c.0)
+      → ((c d : Graph × A) (id : ℕ) → Contains components c → Contains components d → Contains c.0.names id → Contains d.0.names id → c ≡ d)
+      → (whole : Graph) × IsUnion components whole
   pub ancestors : (components : List (Graph × A)) (whole : Graph) (c : Graph × A) (a b : ℕ) → IsUnion components whole → Contains components c
       → Contains c.0.names b → IsAncestor whole.pairs a b ↔ IsAncestor c.0.pairs a b
   pub connected : (components : List (Graph × A)) (whole : Graph) (c : Graph × A) (a b : ℕ) → IsUnion components whole → Contains components c
