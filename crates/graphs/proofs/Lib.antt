@@ -9,3 +9,9 @@ pub mod RemovalLemmas
 pub mod ClosingLemmas
 pub mod ClosureGraphs
 pub mod RenamingLemmas
+pub mod OrderLemmas
+pub mod DropLemmas
+pub mod AlikeLemmas
+pub mod MergeLemmas
+pub mod UnionLemmas
+pub mod PartLemmas

@@ -8,3 +8,7 @@ pub mod Certificates
 pub mod Closing
 pub mod Diagrams
 pub mod Laws
+pub mod Drops
+pub mod Alikes
+pub mod OrderLaws
+pub mod Merges

@@ -1,5 +1,9 @@
 //! Laws over the definitions, each the contract of a function that does nothing.
 ghost use Rattle.graphs.specs.Laws.{AncestorsWithPair, ComponentsWithPair, StaysWithoutCycle, CertifiedPartsAreOptimal, OptimalBoundsClosedSets, FlatPartsBoundClosedSets, CornersAreUnique, OptimalEndsAreCorners, EqualRatesJoinOnce, NamesCanGo, StaysGraph, AncestorsWithoutName, VerdictsAreUnique, PairIsClosed, NameIsClosed, JoinedIsClosed, FewerAreClosed, RenamedIsClosed, ClosureTellsOfGraph, ClosuresHaveGraphs, CertificatesAreRenamed};
+ghost use Rattle.graphs.specs.Alikes.{AlikeGraphsAgree};
+ghost use Rattle.graphs.specs.Drops.{DropsKeepAncestors};
+ghost use Rattle.graphs.specs.Merges.{MergedPartsAreCertified, SortedListsMerge, UnionsKeepComponents};
+ghost use Rattle.graphs.specs.OrderLaws.{CertifiedPartsAgree, FirstPartsAreBest, LastPartIsLowest, NamesHaveOneRate, OptimalPartsBoundClosedSets};
 
 /// One more pair makes a name's ancestors those that it had and, where the pair's child is one of
 /// them, the ancestors of the pair's parent.
@@ -110,4 +114,55 @@ pub fn closures_have_graphs()
 /// A certificate over covering pairs is one by other names, where no two names become one.
 pub fn certificates_are_renamed()
     ensures { CertificatesAreRenamed }
+
+/// The diagram of an optimal order bounds every closed set of the graph at the line of each part, whatever the set's size.
+pub fn optimal_parts_bound_closed_sets()
+    ensures { OptimalPartsBoundClosedSets }
+{}
+
+/// A name's part has the same rate in all optimal orders of a graph.
+pub fn names_have_one_rate()
+    ensures { NamesHaveOneRate }
+{}
+
+/// The last part of an optimal order has the lowest rate of all sets with all descendants of their names, of which it is one.
+pub fn last_part_is_lowest()
+    ensures { LastPartIsLowest }
+{}
+
+/// No closed set that is no larger than some first parts of an optimal order has a greater fee than they, where the last of
+/// them has a fee of at least 0.
+pub fn first_parts_are_best()
+    ensures { FirstPartsAreBest }
+{}
+
+/// Names that are dropped with all their ancestors, or with all their descendants, leave the others' ancestors among themselves.
+pub fn drops_keep_ancestors()
+    ensures { DropsKeepAncestors }
+{}
+
+/// Graphs with the same names, sums and ancestors, however they were built, have the same components and corners, and the same
+/// orders are optimal for them with the same certificates.
+pub fn alike_graphs_agree()
+    ensures { AlikeGraphsAgree }
+{}
+
+/// Names of one component keep its ancestors and covering pairs in a graph that is made of several components.
+pub fn unions_keep_components()
+    ensures { UnionsKeepComponents }
+{}
+
+/// Certificates of components, merged by falling rate with each component's parts in their order, certify the graph of all components.
+pub fn merged_parts_are_certified()
+    ensures { MergedPartsAreCertified }
+{}
+
+/// A sorted list with the entries of sorted lists merges them, and its rates fall where the order is by falling rate.
+pub fn sorted_lists_merge()
+    ensures { SortedListsMerge }
+{}
+
+/// What all optimal orders have in common, what the last part is and what the first ones are worth, said of the parts of certificates.
+pub fn certified_parts_agree()
+    ensures { CertifiedPartsAgree }
 {}
