@@ -3,6 +3,7 @@ use Rattle.std.proofs.Common.{◌≡◌, ℕ, ◌-◌, ◌<◌, ◌≤◌, Bool,
 use Rattle.std.specs.Prelude.{pos, if◌then◌else◌}
 use Rattle.std.proofs.lemmas.Bool.{cases_lt, le-leb, lt-leb}
 use Rattle.std.proofs.lemmas.Int.{ints, by_lt_z}
+use Rattle.graphs.proofs.HeightLemmas.{height_early, height_late}
 use Rattle.fee_rate.proofs.Orders.{at_most_chains, same_at_most, same_back, same_chains, same_sum}
 use Rattle.arithmetic.proofs.Products.{mul-add_left, mul-add_right, mul-sub_left, mul-sub_right, mul_swap_ℤ, scale_keeps}
 use Rattle.arithmetic.proofs.Rates.{cross_trans}
@@ -65,12 +66,6 @@ straight_between us ls x y z upper lower from to low high =
 
 same_fee : (f g : ℤ) (n : ℕ) → f ≡ g → ◌≡◌ {A = Sum} (record { fee = f; size = n }) (record { fee = g; size = n })
 same_fee f g n e = same_sum _ _ e refl
-
-pub height_early : (p q : ℕ × ℤ) (rest : List (ℕ × ℤ)) (x : ℕ) → x ≤ q.0 → height_at (p ∷ q ∷ rest) x ≡ height_between p q x
-height_early p q rest x h = ap (λ (b : Bool). if b then height_between p q x else height_at (q ∷ rest) x) (le-leb x q.0 h)
-
-height_late : (p q : ℕ × ℤ) (rest : List (ℕ × ℤ)) (x : ℕ) → q.0 < x → height_at (p ∷ q ∷ rest) x ≡ height_at (q ∷ rest) x
-height_late p q rest x h = ap (λ (b : Bool). if b then height_between p q x else height_at (q ∷ rest) x) (lt-leb x q.0 h)
 
 pub straight_first : (p q : ℕ × ℤ) (rest : List (ℕ × ℤ)) (to : ℕ) → to ≤ q.0 → IsStraight (p ∷ q ∷ rest) to
 straight_first p q rest to h =

@@ -5,6 +5,7 @@ use Rattle.std.specs.Iterator.{AlwaysYields}
 use Rattle.std.specs.Ordering.{ordering_reverse}
 use Rattle.std.specs.declared.cmp.Ordering.{Ordering}
 use Rattle.std.specs.declared.cmp.Ordering.TheVariants.{Less, Equal, Greater}
+use Rattle.graphs.proofs.HeightLemmas.{height_early}
 use Rattle.lists.proofs.Entries.{not_empty, first_of, rest_of}
 use Rattle.fee_rate.proofs.Orders.{same_at_most, same_back, same_chains}
 use Rattle.arithmetic.proofs.Rates.{cross_trans_strict_left, cross_trans_strict_right}
@@ -16,7 +17,7 @@ use Rattle.diagram.specs.declared.sides.Side.{Side}
 use Rattle.diagram.specs.Points.{Rises, YieldsCorners}
 use Rattle.diagram.specs.Comparisons.{height_from, ArePoints, HasPoints, IsInRange, StandAt, Moves}
 use Rattle.diagram.proofs.StepLemmas.{step_some, step_none}
-use Rattle.diagram.proofs.HeightLemmas.{height_early, height_some, corner_height, fee_of}
+use Rattle.diagram.proofs.HeightLemmas.{height_some, corner_height, fee_of}
 
 -- ---- one walk
 pub points_next : {S : Type 0} (steps : S → Option (ℕ × ℤ) → S → Type 0) (s t : S) (r : Option (ℕ × ℤ)) (from : ℕ × ℤ) (more : List (ℕ × ℤ)) → AlwaysYields steps (λ corner. corner) s more → steps s r t

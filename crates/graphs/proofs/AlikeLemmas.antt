@@ -3,6 +3,7 @@ use Rattle.std.proofs.Common.{◌≡◌, ℕ, suc, zero, List, [], ◌∷◌, �
 use Rattle.std.specs.Prelude.{Contains, flat_map}
 use Rattle.std.proofs.lemmas.Int.{ints}
 use Rattle.std.proofs.lemmas.List.Elements.{Contains-append_left, Contains-append_right}
+use Rattle.arithmetic.proofs.Sums.{total_along, total-pos}
 use Rattle.fee_rate.proofs.Orders.{same_sum}
 use Rattle.lists.proofs.Distinct.{stays_before}
 use Rattle.lists.proofs.Entries.{Contains-head, Contains-later, Contains-cases, none_in_empty}
@@ -17,7 +18,6 @@ use Rattle.graphs.specs.Certificates.{Part, Certifies, IsCertificate, weight_in,
 use Rattle.graphs.specs.Diagrams.{AreCorners}
 use Rattle.graphs.specs.Alikes.{AreAlike}
 use Rattle.graphs.proofs.WalkLemmas.{walk_of_pair, AreConnected-sym, AreConnected-trans}
-use Rattle.graphs.proofs.FlowLemmas.{total_along, total-pos}
 use Rattle.graphs.proofs.TangentLemmas.{joined}
 use Rattle.graphs.proofs.BestLemmas.{sums_same_members, joined-Contains}
 use Rattle.graphs.proofs.DropLemmas.{up_walk}

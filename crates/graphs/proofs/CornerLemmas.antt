@@ -46,7 +46,7 @@ sum_of-append xs ys = same_sum _ _ (total-append (λ part. part.fee) xs ys) (sum
 sum_of-one : (x : Sum) → sum_of (x ∷ []) ≡ x
 sum_of-one x = same_sum (sum_of (x ∷ [])) x (omega (arith, ints)) (omega (arith, size_of-cons x []))
 
-sizes-rest : (x : Sum) (xs : List Sum) → HaveSizes (x ∷ xs) → HaveSizes xs
+pub sizes-rest : (x : Sum) (xs : List Sum) → HaveSizes (x ∷ xs) → HaveSizes xs
 sizes-rest x xs some part h = some part (Contains-later x part xs h)
 
 front_size : (xs before after : List Sum) → xs ≡ before ++ after → (sum_of before).size ≤ (sum_of xs).size
@@ -56,7 +56,7 @@ strict-rest : (x : Sum) (xs : List Sum) → FallsStrictly (x ∷ xs) → FallsSt
 strict-rest x [] falls = tt
 strict-rest x (y ∷ ys) falls = falls.1
 
-strict_falls : (xs : List Sum) → FallsStrictly xs → Falls xs
+pub strict_falls : (xs : List Sum) → FallsStrictly xs → Falls xs
 strict_falls [] falls = tt
 strict_falls (x ∷ []) falls = tt
 strict_falls (x ∷ y ∷ ys) falls = (below_at_most y x falls.0, strict_falls (y ∷ ys) falls.1)

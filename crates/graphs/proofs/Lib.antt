@@ -15,3 +15,4 @@ pub mod AlikeLemmas
 pub mod MergeLemmas
 pub mod UnionLemmas
 pub mod PartLemmas
+pub mod HeightLemmas

@@ -114,6 +114,7 @@ pub fn closures_have_graphs()
 /// A certificate over covering pairs is one by other names, where no two names become one.
 pub fn certificates_are_renamed()
     ensures { CertificatesAreRenamed }
+{}
 
 /// The diagram of an optimal order bounds every closed set of the graph at the line of each part, whatever the set's size.
 pub fn optimal_parts_bound_closed_sets()

@@ -3,3 +3,4 @@ pub mod Entries
 pub mod Distinct
 pub mod Rising
 pub mod Walks
+pub mod Iterators

@@ -4,6 +4,9 @@ use Rattle.std.specs.Prelude.{Contains, flat_map, sum_by}
 use Rattle.std.proofs.lemmas.Int.{ints}
 use Rattle.std.proofs.lemmas.List.Sums.{sum_by-cons, sum_by-append}
 use Rattle.std.proofs.lemmas.List.Elements.{Contains-append_left, Contains-append_right}
+use Rattle.graphs.proofs.CornerLemmas.{size_of-cons, sizes-rest}
+use Rattle.lists.proofs.Entries.{Contains-head, Contains-later}
+use Rattle.fee_rate.proofs.Orders.{same_at_most, at_most_chains}
 use Rattle.arithmetic.proofs.Products.{mul-add_left, mul-add_right}
 use Rattle.arithmetic.proofs.Rates.{cross_total}
 use Rattle.fee_rate.specs.declared.rates.Sum.{Sum}
@@ -11,7 +14,6 @@ use Rattle.fee_rate.specs.Rates.{AtMost, Same}
 use Rattle.graphs.specs.Rates.{sum_of, Falls}
 use Rattle.graphs.specs.Diagrams.{JoinsEqualRates}
 use Rattle.replacement.specs.Changes.{HaveSizes}
-use Rattle.replacement.proofs.PartLists.{Contains-head, Contains-later, size_of-cons, at_most_chains, sizes-rest}
 
 -- what of an integer is above 0
 abbrev pub above_zero : ℤ → ℕ
@@ -92,9 +94,6 @@ high_joined rate (x ∷ xs) high =
     let rest = high_joined rate xs (λ part h. high part (Contains-later x part xs h)) in
     omega (arith, ints, gains-cons rate x xs, gain_is rate x (high x (Contains-head x xs)), rest, beyond-joined rate x xs)
 
-same_low : (a b : Sum) → Same a b → AtMost a b
-same_low a b same = record { crossed = omega (arith, ints, same.crossed) }
-
 -- parts of one rate, joined, gain what they gained apart
 pub gain-joined : (rate : Sum) (group : List Sum) → group ≢ [] → HaveSizes group → ((a b : Sum) → Contains group a → Contains group b → Same a b)
     → gain rate (sum_of group) ≡ gains rate group
@@ -105,11 +104,11 @@ gain-joined rate (x ∷ xs) filled some equal =
     elim (cross_total x.fee rate.fee x.size rate.size) [
       | inl low ↦
           let all = low_joined rate (x ∷ xs)
-          (λ part h. at_most_chains part x rate size (same_low part x (equal part x h here)) (record { crossed = low })) in
+          (λ part h. at_most_chains part x rate size (same_at_most part x (equal part x h here)) (record { crossed = low })) in
           zero_none (beyond rate (sum_of (x ∷ xs))) all.1 ∙ sym all.0
       | inr high ↦
           let all = high_joined rate (x ∷ xs)
-          (λ part h. at_most_chains rate x part size (record { crossed = omega (arith, ints, high) }) (same_low x part (equal x part here h))) in
+          (λ part h. at_most_chains rate x part size (record { crossed = omega (arith, ints, high) }) (same_at_most x part (equal x part here h))) in
           ap above_zero (sym all)
     ]
 

@@ -7,12 +7,15 @@ use Rattle.std.proofs.lemmas.List.{append-nil}
 use Rattle.std.proofs.lemmas.List.Elements.{Contains-append_left, Contains-append_right}
 use Rattle.std.proofs.lemmas.List.Sums.{sum_by-cons, sum_by-append}
 use Rattle.std.proofs.lemmas.List.Sorted.{Contains-permutation, IsPermutation-refl, IsPermutation-cons, IsPermutation-middle, IsPermutation-trans, sum_by-IsPermutation}
+use Rattle.graphs.proofs.TangentLemmas.{falls-tail}
+use Rattle.fee_rate.proofs.Orders.{at_most_chains}
+use Rattle.lists.proofs.Entries.{Contains-head, Contains-later}
 use Rattle.fee_rate.specs.declared.rates.Sum.{Sum}
 use Rattle.fee_rate.specs.Limits.{IsSum, greatest_fee, greatest_count}
 use Rattle.graphs.specs.Rates.{sum_of, Falls}
 use Rattle.diagram.specs.Parts.{AreLevelParts}
 use Rattle.replacement.specs.Changes.{EndsNonNegative, AreNonNegative, IsEither, IsMerged, ChangesAreLevelParts, TestedPartsMerge, HaveSizes}
-use Rattle.replacement.proofs.PartLists.{last_decides, empty_ends, Contains-head, Contains-later, at_most_chains, falls-rest, non_negative-rest, all_non_negative}
+use Rattle.replacement.proofs.PartLists.{last_decides, empty_ends, non_negative-rest, all_non_negative}
 use Rattle.replacement.proofs.GainLemmas.{above_zero, zero_is}
 
 -- ---- sums of fees of at least 0
@@ -112,7 +115,7 @@ falls_from rate test first (x ∷ xs) some falls =
 
 may_begin : {T : Type 0} (rate : T → Sum) (x : T) (xs : List T) (b : Bool) → Falls (rate x ∷ map rate xs) → Falls (map rate (cond b (x ∷ xs) xs))
 may_begin rate x xs true falls = falls
-may_begin rate x xs false falls = falls-rest (rate x) (map rate xs) falls
+may_begin rate x xs false falls = falls-tail (rate x) (map rate xs) falls
 
 picked_fall : {T : Type 0} (rate : T → Sum) (test : T → Bool) (entries : List T) → HaveSizes (map rate entries) → Falls (map rate entries)
     → Falls (map rate (filter test entries))

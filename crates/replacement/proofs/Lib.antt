@@ -1,4 +1,3 @@
-pub mod Views
 pub mod PartLists
 pub mod GainLemmas
 pub mod TangentLemmas

@@ -4,6 +4,8 @@ use Rattle.std.specs.Prelude.{Contains, flat_map}
 use Rattle.std.proofs.lemmas.Int.{ints}
 use Rattle.std.proofs.lemmas.List.Elements.{Contains-append_left, Contains-append_right, Contains-append_cases}
 use Rattle.std.proofs.lemmas.List.Sorted.{Contains-permutation, IsPermutation-sym, sum_by-IsPermutation}
+use Rattle.lists.proofs.Entries.{Contains-head, Contains-later, Contains-cases, none_in_empty}
+use Rattle.graphs.proofs.CornerLemmas.{strict_falls, size_of-cons}
 use Rattle.fee_rate.specs.declared.rates.Sum.{Sum}
 use Rattle.fee_rate.specs.Rates.{AtMost, Below}
 use Rattle.graphs.specs.declared.names.Verdict.{Verdict}
@@ -11,7 +13,7 @@ use Rattle.graphs.specs.declared.names.Verdict.TheVariants.{Better, Worse, Equal
 use Rattle.graphs.specs.Rates.{sum_of, Falls}
 use Rattle.graphs.specs.Diagrams.{corners_of, Compares, FallsStrictly, IsAtOrAbove, JoinsEqualRates}
 use Rattle.replacement.specs.Changes.{AreNonNegative, IsMerged, CommonPartsKeepVerdicts}
-use Rattle.replacement.proofs.PartLists.{Contains-head, Contains-later, Contains-cases, none_in_empty, size_of-cons, non_negative-rest}
+use Rattle.replacement.proofs.PartLists.{non_negative-rest}
 use Rattle.replacement.proofs.GainLemmas.{gain, gains, gains-append, gains-segments}
 use Rattle.replacement.proofs.TangentLemmas.{GainAtLeast, above_gains, gains_above}
 
@@ -67,14 +69,6 @@ segments_non_negative parts segments all joins =
     let found : (segment : Sum) → Contains segments segment → (pos 0 ≤ℤ segment.fee) × (1 ≤ segment.size) =
     λ segment h. part_of joins.groups (subst AreNonNegative joins.all all) joins.filled segment (subst (λ zs. Contains zs segment) joins.sums h) in
     record { fees = λ segment h. (found segment h).0; some = λ segment h. (found segment h).1 }
-
-below_at_most : (a b : Sum) → Below a b → AtMost a b
-below_at_most a b less = record { crossed = omega (arith, ints, less.crossed) }
-
-strict_falls : (xs : List Sum) → FallsStrictly xs → Falls xs
-strict_falls [] falls = tt
-strict_falls (x ∷ []) falls = tt
-strict_falls (x ∷ y ∷ ys) falls = (below_at_most y x falls.0, strict_falls (y ∷ ys) falls.1)
 
 -- ---- diagrams
 -- the diagram of parts is at or above that of others exactly where they gain at least as much

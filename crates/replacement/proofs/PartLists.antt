@@ -3,6 +3,9 @@ use Rattle.std.proofs.Common.{◌≡◌, ℕ, zero, suc, ◌+◌, ◌≤◌, Lis
 use Rattle.std.specs.Prelude.{Contains}
 use Rattle.std.proofs.lemmas.Int.{ints}
 use Rattle.std.proofs.lemmas.List.Sums.{sum_by-cons}
+use Rattle.graphs.proofs.CornerLemmas.{sizes-rest}
+use Rattle.graphs.proofs.TangentLemmas.{falls-tail}
+use Rattle.lists.proofs.Entries.{Contains-head, Contains-later, Contains-cases, none_in_empty, rest_of}
 use Rattle.arithmetic.proofs.Products.{scale_keeps, scale_reflects}
 use Rattle.arithmetic.proofs.Rates.{cross_trans}
 use Rattle.fee_rate.specs.declared.rates.Sum.{Sum}
@@ -14,33 +17,10 @@ use Rattle.diagram.specs.Parts.{rate_of}
 use Rattle.replacement.specs.Changes.{EndsNonNegative, AreNonNegative, HaveSizes}
 
 -- ---- members
-pub Contains-head : {A : Type 0} (x : A) (xs : List A) → Contains (x ∷ xs) x
-Contains-head x xs = (0, omega arith, refl)
-
-pub Contains-later : {A : Type 0} (x y : A) (xs : List A) → Contains xs y → Contains (x ∷ xs) y
-Contains-later x y xs (k, below, same) = (suc k, omega arith, same)
-
-pub Contains-cases : {A : Type 0} (x y : A) (xs : List A) → Contains (x ∷ xs) y → (x ≡ y) ⊎ Contains xs y
-Contains-cases x y xs (zero, below, same) = inl same
-Contains-cases x y xs (suc k, below, same) = inr (k, omega arith, same)
-
-pub none_in_empty : {A : Type 0} (x : A) → Contains [] x → ⊥
-none_in_empty x (k, below, same) = omega arith
 
 -- ---- sums
-sum_parts : ℤ → ℕ → Sum
-sum_parts fee size = record { fee = fee; size = size }
-
-pub same_sum : (a b : Sum) → a.fee ≡ b.fee → a.size ≡ b.size → a ≡ b
-unfolding sum_parts
-same_sum a b fees sizes = ap (λ (f : ℤ). sum_parts f a.size) fees ∙ ap (λ (n : ℕ). sum_parts b.fee n) sizes
-
-pub size_of-cons : (x : Sum) (xs : List Sum) → (sum_of (x ∷ xs)).size ≡ x.size + (sum_of xs).size
-size_of-cons x xs = sum_by-cons (λ part. part.size) x xs
 
 -- ---- rates
-pub at_most_chains : (a b c : Sum) → 1 ≤ b.size → AtMost a b → AtMost b c → AtMost a c
-at_most_chains a b c some low high = record { crossed = cross_trans a.fee b.fee c.fee a.size b.size c.size (omega arith) low.crossed high.crossed }
 
 -- a rate stays at most another where the other's fee rises
 pub at_most_more : (a : Sum) (f g : ℤ) (n : ℕ) → f ≤ℤ g → AtMost a (record { fee = f; size = n }) → AtMost a (record { fee = g; size = n })
@@ -53,13 +33,6 @@ pub at_most_less : (a : Sum) (f g : ℤ) (n : ℕ) → f ≤ℤ g → AtMost (re
 at_most_less a f g n less low =
     let up = scale_keeps a.size f g less in
     record { crossed = omega (arith, ints, up, low.crossed) }
-
-pub falls-rest : (x : Sum) (xs : List Sum) → Falls (x ∷ xs) → Falls xs
-falls-rest x [] falls = tt
-falls-rest x (y ∷ ys) falls = falls.1
-
-pub sizes-rest : (x : Sum) (xs : List Sum) → HaveSizes (x ∷ xs) → HaveSizes xs
-sizes-rest x xs some part h = some part (Contains-later x part xs h)
 
 pub non_negative-rest : (x : Sum) (xs : List Sum) → AreNonNegative (x ∷ xs) → AreNonNegative xs
 non_negative-rest x xs paid = record {
@@ -90,7 +63,7 @@ all_non_negative parts some falls ends = record { fees = fees parts some falls e
     fees [] sizes down end part h = absurd (none_in_empty part h)
     fees (x ∷ xs) sizes down end part h = elim (Contains-cases x part xs h) [
       | inl it ↦ subst (λ (p : Sum). pos 0 ≤ℤ p.fee) it (first_non_negative x xs sizes down end)
-      | inr later ↦ fees xs (sizes-rest x xs sizes) (falls-rest x xs down) (ends-rest x xs end) part later
+      | inr later ↦ fees xs (sizes-rest x xs sizes) (falls-tail x xs down) (ends-rest x xs end) part later
     ]
 
 -- ---- the last part
@@ -98,14 +71,11 @@ not_at_end : {A : Type 0} (ys : List A) (y : A) → [] ≡ ys ++ y ∷ [] → �
 not_at_end [] y e = cc
 not_at_end (z ∷ ys) y e = cc
 
-tail_same : {A : Type 0} {a b : A} {xs ys : List A} → a ∷ xs ≡ b ∷ ys → xs ≡ ys
-tail_same e = cc
-
 last_same : {A : Type 0} (xs ys : List A) (x y : A) → xs ++ x ∷ [] ≡ ys ++ y ∷ [] → x ≡ y
 last_same [] [] x y e = cc
-last_same [] (b ∷ ys) x y e = absurd (not_at_end ys y (tail_same e))
-last_same (a ∷ xs) [] x y e = absurd (not_at_end xs x (sym (tail_same e)))
-last_same (a ∷ xs) (b ∷ ys) x y e = last_same xs ys x y (tail_same e)
+last_same [] (b ∷ ys) x y e = absurd (not_at_end ys y (rest_of e))
+last_same (a ∷ xs) [] x y e = absurd (not_at_end xs x (sym (rest_of e)))
+last_same (a ∷ xs) (b ∷ ys) x y e = last_same xs ys x y (rest_of e)
 
 pub last_decides : (before : List Sum) (last : Sum) → EndsNonNegative (before ++ last ∷ []) ↔ (pos 0 ≤ℤ last.fee)
 last_decides before last = (

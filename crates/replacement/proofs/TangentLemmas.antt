@@ -6,6 +6,11 @@ use Rattle.std.specs.Prelude.{if◌then◌else◌}
 use Rattle.std.proofs.Math.Nat.{mul-le-mul_left}
 use Rattle.std.proofs.lemmas.Bool.{cases_lt, le-leb, lt-leb}
 use Rattle.std.proofs.lemmas.Int.{ints}
+use Rattle.graphs.proofs.HeightLemmas.{height_early, height_late}
+use Rattle.graphs.proofs.CornerLemmas.{sizes-rest}
+use Rattle.graphs.proofs.TangentLemmas.{falls-tail}
+use Rattle.fee_rate.proofs.Orders.{same_sum, at_most_chains}
+use Rattle.lists.proofs.Entries.{Contains-head}
 use Rattle.arithmetic.proofs.Products.{mul-add_left, mul-add_right, mul-sub_left, mul_swap_ℤ, scale_keeps, scale_reflects}
 use Rattle.arithmetic.proofs.Rates.{cross_total}
 use Rattle.fee_rate.specs.declared.rates.Sum.{Sum}
@@ -14,7 +19,7 @@ use Rattle.fee_rate.specs.Rates.{AtMost}
 use Rattle.graphs.specs.Rates.{Falls}
 use Rattle.graphs.specs.Diagrams.{corners_of, ends_from, height_at, height_between, IsAtOrAbove}
 use Rattle.replacement.specs.Changes.{AreNonNegative, HaveSizes}
-use Rattle.replacement.proofs.PartLists.{Contains-head, same_sum, at_most_chains, at_most_more, at_most_less, falls-rest, non_negative-rest, sizes-rest}
+use Rattle.replacement.proofs.PartLists.{at_most_more, at_most_less, non_negative-rest}
 use Rattle.replacement.proofs.GainLemmas.{beyond, gain, gains, gain_most, gain_is, gains-cons, falling_none}
 
 -- the corners of segments from an origin on
@@ -22,11 +27,6 @@ abbrev points : Sum → List Sum → List (ℕ × ℤ)
 points origin parts = (origin.size, origin.fee) ∷ ends_from origin parts
 
 -- ---- heights on one segment, and past it
-height_early : (p q : ℕ × ℤ) (rest : List (ℕ × ℤ)) (x : ℕ) → x ≤ q.0 → height_at (p ∷ q ∷ rest) x ≡ height_between p q x
-height_early p q rest x h = ap (λ (b : Bool). if b then height_between p q x else height_at (q ∷ rest) x) (le-leb x q.0 h)
-
-height_late : (p q : ℕ × ℤ) (rest : List (ℕ × ℤ)) (x : ℕ) → q.0 < x → height_at (p ∷ q ∷ rest) x ≡ height_at (q ∷ rest) x
-height_late p q rest x h = ap (λ (b : Bool). if b then height_between p q x else height_at (q ∷ rest) x) (lt-leb x q.0 h)
 
 -- the height on a segment, so far behind its origin
 abbrev on_segment : Sum → Sum → ℕ → Sum
@@ -213,7 +213,7 @@ reached rate origin (s ∷ rest) falls some =
       | inl low ↦ inl (falling_none rate s rest some falls (record { crossed = low }))
       | inr less ↦
           let high : AtMost rate s = record { crossed = omega (arith, ints, less) } in
-          elim (reached rate (joined origin s) rest (falls-rest s rest falls) (sizes-rest s rest some)) [
+          elim (reached rate (joined origin s) rest (falls-tail s rest falls) (sizes-rest s rest some)) [
             | inl none ↦ inr (origin.size + s.size, omega arith, at_its_end rate origin s rest size high none)
             | inr (x, later, touches) ↦ inr (x, omega arith, touches_whole rate origin s rest x later high touches)
           ]

@@ -2,8 +2,8 @@ use Rattle.std.proofs.Common.{map}
 use Rattle.std.proofs.iter.Yields.{copies, fronts}
 use Rattle.std.proofs.lemmas.Iterator.{YieldsList-from_slice}
 use Rattle.std.proofs.lemmas.Iterator.Consumers.{YieldsList-at, YieldsList-from_copied}
+use Rattle.lists.proofs.Iterators.{always_viewed}
 use Rattle.diagram.specs.Parts.{rate_of}
-use Rattle.diagram.proofs.StepLemmas.{always_viewed}
 use Rattle.diagram.proofs.tests.slice_corners.Goals as goal
 
 pub corners-requires-clause-level : goal.corners-requires-clause-level

@@ -2,8 +2,8 @@ use Rattle.std.proofs.Common.{map}
 use Rattle.std.proofs.iter.Yields.{copies, fronts}
 use Rattle.std.proofs.lemmas.Iterator.{YieldsList-from_slice}
 use Rattle.std.proofs.lemmas.Iterator.Consumers.{YieldsList-at, YieldsList-from_copied}
+use Rattle.lists.proofs.Iterators.{always_viewed}
 use Rattle.diagram.specs.Parts.{rate_of}
-use Rattle.replacement.proofs.Views.{always_viewed}
 use Rattle.replacement.proofs.tests.compared.Goals as goal
 
 pub compare_full-requires-clause-main_level : goal.compare_full-requires-clause-main_level
