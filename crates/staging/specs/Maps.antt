@@ -1,4 +1,5 @@
--- What a contract sees of a map with a staged copy: two whole maps.
+-- What a contract sees of a map with a staged copy: two whole maps, as the levels MAIN and TOP of Bitcoin Core's `txgraph.h`
+-- with its `StartStaging`, `CommitStaging` and `AbortStaging`.
 use Rattle.std.specs.Prelude.{ℕ, Option, unwrap_or, refl}
 use Rattle.std.specs.Coded.{Coded, code_by, coded×, coded_ℕ, coded_option}
 use Rattle.std.specs.Ordering.{nat_cmp}

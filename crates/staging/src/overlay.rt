@@ -1,4 +1,4 @@
-ghost use Rattle.std.specs.Prelude.{◌≡◌, ◌+◌, ◌<◌, ◌≤◌, ◌↔◌, None, Some, IsTrue, IsOk, IsSome, OnOk, OnSome, is_some, nat_eq, option_copied};
+ghost use Rattle.std.specs.Prelude.{◌≡◌, ◌+◌, ◌<◌, ◌≤◌, None, Some, IsOk, IsSome, OnOk, OnSome, is_some, nat_eq, option_copied};
 ghost use Rattle.std.specs.FinMap as finmap;
 ghost use Rattle.indexmap.specs.IndexMap.{get as map_get, index_map_len, spare as room_of, Updates};
 ghost use Rattle.staging.specs.Maps.{top_of, map_of};
@@ -11,6 +11,9 @@ use std::alloc::Global;
 use std::marker::Model;
 
 /// A base map and, while something is staged, a second map that started as a copy of it.
+///
+/// `get` takes one or two look-ups, `put` and `remove` one. `commit` and `abort` cost the keys that were changed since
+/// `begin`, and `begin` costs nothing. `reserve` alone takes memory.
 #[derive(Drop)]
 pub struct Overlay<V> {
     base: IndexMap<u64, V>,
@@ -100,10 +103,16 @@ impl<V: Drop> Overlay<V> {
     {
         match level {
             Level::Main => self.base.get(&key),
-            Level::Top => match find(&self.changes, key) {
-                Some(change) => change.as_ref(),
-                None => self.base.get(&key),
-            },
+            Level::Top => self.get_top(key),
+        }
+    }
+
+    fn get_top(&self, key: u64) -> Option<&V>
+        ensures { option_copied result ≡ finmap.get (top_of self.now) key }
+    {
+        match find(&self.changes, key) {
+            Some(change) => change.as_ref(),
+            None => self.base.get(&key),
         }
     }
 
@@ -127,7 +136,8 @@ impl<V: Drop> Overlay<V> {
         Ok(())
     }
 
-    /// Gives a key of the top level this value. Takes no memory.
+    /// Gives a key of the top level this value. Where something is staged the base stays as it is. Takes no memory, and at most
+    /// one of the room that `reserve` made.
     pub fn put(&mut self, key: u64, value: V)
         requires { 1 ≤ self.old.spare }
         ensures top { top_of self.new ≡ finmap.insert (top_of self.old) key value }
@@ -138,7 +148,8 @@ impl<V: Drop> Overlay<V> {
         self.change(key, Some(value));
     }
 
-    /// Takes a key out of the top level, where it may have no value. Takes no memory.
+    /// Takes a key out of the top level, where it may have no value. Where something is staged the base stays as it is. Takes no
+    /// memory, and at most one of the room that `reserve` made.
     pub fn remove(&mut self, key: u64)
         requires { 1 ≤ self.old.spare }
         ensures top { top_of self.new ≡ finmap.remove (top_of self.old) key }
@@ -165,7 +176,7 @@ impl<V: Drop> Overlay<V> {
         self.spare -= 1;
     }
 
-    /// Stages a copy of the base, and answers `Ok`. Takes no memory.
+    /// Stages a copy of the base where nothing is staged, and answers `Ok`. Takes no memory, and the room stays.
     pub fn begin(&mut self) -> Result<(), NoMemory>
         requires { self.old.top ≡ None }
         ensures done { IsOk result }
@@ -177,7 +188,7 @@ impl<V: Drop> Overlay<V> {
         Ok(())
     }
 
-    /// Makes the staged map the base. Takes no memory.
+    /// Makes the staged map the base, where there is one. Takes no memory, and the room stays.
     pub fn commit(&mut self)
         requires { IsSome self.old.top }
         ensures base { Some self.new.base ≡ self.old.top }
@@ -190,7 +201,7 @@ impl<V: Drop> Overlay<V> {
         self.staged = false;
     }
 
-    /// Drops the staged map. Takes no memory.
+    /// Drops the staged map, where there is one, and the base stays as it is. Takes no memory, and the room stays.
     pub fn abort(&mut self)
         requires { IsSome self.old.top }
         ensures base { self.new.base ≡ self.old.base }

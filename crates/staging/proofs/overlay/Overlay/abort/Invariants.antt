@@ -1,4 +1,4 @@
-use Rattle.std.proofs.Common.{◌≡◌, ◌+◌, ◌≤◌, length}
+use Rattle.std.proofs.Common.{◌≡◌, ◌≤◌, length}
 use Rattle.indexmap.specs.IndexMap.{spare as room_of}
 use Rattle.staging.proofs.overlay.Overlay.abort.Given as goal
 

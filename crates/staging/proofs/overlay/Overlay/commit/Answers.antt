@@ -9,7 +9,7 @@ loop-key-preserved g c =
     let left = c.pop.new.self.entries in
     let made = entries-changed base c.change_reserved.new.map.entries c.in-Some.key c.in-Some.value c.change_reserved.ensures.updates.0 in (
       ap (λ m. applied m left) made
-          ∙ sym (applied-append (map_of_entries base) left c.in-Some.key c.in-Some.value)
+          ∙ sym (applied-append (map_of_entries base) c.in-Some.key c.in-Some.value left)
           ∙ ap (applied (map_of_entries base)) (sym c.in-Some.ensures.entries)
           ∙ c.loop-key.invariant.0,
       omega arith,
