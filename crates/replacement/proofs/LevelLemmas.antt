@@ -11,7 +11,8 @@ use Rattle.graphs.proofs.TangentLemmas.{falls-tail}
 use Rattle.fee_rate.proofs.Orders.{at_most_chains}
 use Rattle.lists.proofs.Entries.{Contains-head, Contains-later}
 use Rattle.fee_rate.specs.declared.rates.Sum.{Sum}
-use Rattle.fee_rate.specs.Limits.{IsSum, greatest_fee, greatest_count}
+use Rattle.fee_rate.specs.Limits.{IsSum}
+use Rattle.fee_rate.specs.declared.limits.TheConstants.{MAX_FEE, MAX_TOTAL}
 use Rattle.graphs.specs.Rates.{sum_of, Falls}
 use Rattle.diagram.specs.Parts.{AreLevelParts}
 use Rattle.replacement.specs.Changes.{EndsNonNegative, AreNonNegative, IsEither, IsMerged, ChangesAreLevelParts, TestedPartsMerge, HaveSizes}
@@ -48,11 +49,11 @@ front_fits : (alone common level front rest : List Sum) → AreLevelParts level 
 front_fits alone common level front rest parts all here merged e =
     let whole = level_sum level parts in
     let fees = split_sum paid alone common level front rest merged e in
-    let most : unsigned_abs (pos (sum_by paid level)) ≤ greatest_fee * greatest_count =
-    subst (λ (z : ℤ). unsigned_abs z ≤ greatest_fee * greatest_count) (total_paid level all) whole.fee in
-    let bound : sum_by paid front ≤ greatest_fee * greatest_count = omega (arith, fees, most) in
+    let most : unsigned_abs (pos (sum_by paid level)) ≤ MAX_FEE * MAX_TOTAL =
+    subst (λ (z : ℤ). unsigned_abs z ≤ MAX_FEE * MAX_TOTAL) (total_paid level all) whole.fee in
+    let bound : sum_by paid front ≤ MAX_FEE * MAX_TOTAL = omega (arith, fees, most) in
     record {
-      fee = subst (λ (z : ℤ). unsigned_abs z ≤ greatest_fee * greatest_count) (sym (total_paid front here)) bound;
+      fee = subst (λ (z : ℤ). unsigned_abs z ≤ MAX_FEE * MAX_TOTAL) (sym (total_paid front here)) bound;
       size = omega (arith, whole.size, split_sum (λ part. part.size) alone common level front rest merged e);
     }
 
