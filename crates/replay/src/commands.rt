@@ -9,16 +9,13 @@ ghost use Rattle.replay.specs.Sessions.{IsLine, Answers, HasRoom, Suits};
 
 use crate::answer::Answer;
 use crate::session::Piece;
-use graph_model::{IdBuf, Refusal};
+use graph_model::{IdBuf, MAX_LINE, Refusal};
 use std::marker::Brand;
 use std::sync::ledger;
 use std::sync::ledger::Blank;
 use step_count::{Ledger, NoLedger, Steps};
 use tx_graph::TxGraph;
 use wire::{Line, read_line};
-
-/// The most bytes that a line may have, without its line feed.
-const MAX_LINE: usize = 65_536;
 
 /// The answer to a line, after the graph has changed. Names that a reading finds are left in `ids`.
 pub(crate) fn answer<const W: usize>(

@@ -1,11 +1,9 @@
 ghost use Rattle.std.specs.Prelude.{◌≡◌, IfOk, OnErr};
 ghost use Rattle.replay.specs.Inputs.{ReadsTo, ReadFaults};
 
+use graph_model::MAX_INPUT;
 use outside::{NoMemory, Source};
 use std::alloc::Global;
-
-/// The most bytes that are read.
-const MAX_INPUT: usize = 268_435_456;
 
 /// How reading ended.
 #[derive(Clone, Copy, Debug, PartialEq, Eq)]

@@ -6,18 +6,11 @@ ghost use Rattle.outside.specs.Transfers.{Writes};
 
 use crate::answer::Outcome;
 use crate::commands::answer;
-use graph_model::{IdBuf, Limits};
+use graph_model::{DEFAULT_LIMITS, IdBuf};
 use outside::{Failed, NoMemory, Sink};
 use std::alloc::Global;
 use std::marker::Model;
 use tx_graph::TxGraph;
-
-/// The limits of a session until a command sets others.
-const DEFAULT_LIMITS: Limits = Limits {
-    count: 64,
-    size: 404_000,
-    total: 1_048_576,
-};
 
 /// How many names a line may list.
 const MAX_NAMES: usize = 32_766;

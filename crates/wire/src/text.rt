@@ -10,10 +10,8 @@ use crate::draft::{CertText, Draft};
 use crate::line::trimmed;
 use crate::row::read_row;
 use crate::words::split_at_byte;
+use graph_model::MAX_LINE;
 use std::alloc::Global;
-
-/// The most bytes that a line may have, a carriage return at its end counted.
-const MAX_LINE: usize = 65_536;
 
 /// The certificate text that bytes are, by their lines; what follows the last line feed is a line too.
 /// Fees are in satoshis, sizes in virtual bytes, amounts in satoshis times virtual bytes.
