@@ -5,17 +5,19 @@ use Rattle.std.proofs.lemmas.List.{get_or_append_left, get_or-append_right}
 use Rattle.std.proofs.lemmas.List.FromFn.{length-range_with_len, get_or-range_with_len}
 use Rattle.std.specs.List.{range_with_len}
 use Rattle.std.specs.FinSet as set
+use Rattle.lists.proofs.Cases.{or_false}
+use Rattle.lists.proofs.Distinct.{distinct_joined}
+use Rattle.lists.specs.Distinct.{AreDistinct}
 use Rattle.graphs.specs.Closures.{Closure, is_member, is_ancestor, rate_of, members_of, IsClosed, IsMerged, AddsPair, IsRelated}
-use Rattle.lists.proofs.Walks.{Walk-trans, Walk-back, Walk-push}
+use Rattle.lists.proofs.Walks.{Walk-trans, Walk-back, Walk-push, Walk-map}
 use Rattle.lists.specs.Walks.{Walk}
 use Rattle.bitset.specs.Places.{places, IsWithin}
 use Rattle.bitset.specs.Sets.{len-places}
 use Rattle.fee_rate.specs.declared.rates.FeeRate.{FeeRate}
-use Rattle.cluster_record.specs.Clusters.{AreOnce}
 use Rattle.cluster_record.specs.Changes.{Joins}
 use Rattle.cluster_record.specs.Named.{named, IsNamed}
 use Rattle.cluster_record.proofs.Names.{Stands, Stands-contains, named-ancestor, named-rate, member-stands}
-use Rattle.cluster_record.proofs.Kept.{walk_over, by_places, ancestor_ends}
+use Rattle.cluster_record.proofs.Kept.{by_places, ancestor_ends}
 use Rattle.cluster_record.proofs.Listings.{contains-members_of}
 
 -- ---- places without a gap
@@ -107,14 +109,8 @@ module _ (n : ℕ) (xs ys : List ℕ) (f g h : Closure) (one : IsNamed n xs f) (
       | inr later ↦ subst Side (let e : length xs + (p - length xs) ≡ p = omega arith in e) (Right (p - length xs) (let l : length all ≡ length xs + length ys = long in omega arith))
     ]
 
-    once_all : AreOnce all
-    once_all p q inside within same = cases p q (side p inside) (side q within) same
-      where
-        cases : (p q : ℕ) → Side p → Side q → slice_index all p ≡ slice_index all q → p ≡ q
-        cases p q (Left i first) (Left j second) same = one.once i j first second (sym (first_at i first) ∙ same ∙ first_at j second)
-        cases p q (Left i first) (Right j second) same = absurd (apart (slice_index xs i) (Stands-contains xs (slice_index xs i) (i, first, refl)) (Stands-contains ys (slice_index xs i) (j, second, sym (second_at j) ∙ sym same ∙ first_at i first)))
-        cases p q (Right i first) (Left j second) same = absurd (apart (slice_index xs j) (Stands-contains xs (slice_index xs j) (j, second, refl)) (Stands-contains ys (slice_index xs j) (i, first, sym (second_at i) ∙ same ∙ first_at j second)))
-        cases p q (Right i first) (Right j second) same = ap (λ k. length xs + k) (two.once i j first second (sym (second_at i) ∙ same ∙ second_at j))
+    once_all : AreDistinct all
+    once_all = distinct_joined xs ys one.once two.once apart
 
     more : (a d : ℕ) → is_ancestor h a d ≡ true → is_ancestor h' a d ≡ true
     more a d e = pair.ancestors a d ∙ ap (λ b. b || (is_ancestor h a parent && is_ancestor h (length xs + child) d)) e
@@ -150,10 +146,10 @@ module _ (n : ℕ) (xs ys : List ℕ) (f g h : Closure) (one : IsNamed n xs f) (
 
     -- each place is linked to the parent
     to_parent : (p : ℕ) → Side p → Walk (IsRelated h') p parent
-    to_parent p (Left i inside) = walk_over (IsRelated f) (IsRelated h') (λ k. k) first_related i parent (one.whole i parent inside low)
+    to_parent p (Left i inside) = Walk-map (λ k. k) (IsRelated f) (IsRelated h') first_related i parent (one.whole i parent inside low)
     to_parent p (Right j inside) =
         Walk-push (IsRelated h') (length xs + j) (length xs + child) parent
-        (walk_over (IsRelated g) (IsRelated h') (λ k. length xs + k) second_related j child (two.whole j child inside below)) (turn parent (length xs + child) joined_up)
+        (Walk-map (λ k. length xs + k) (IsRelated g) (IsRelated h') second_related j child (two.whole j child inside below)) (turn parent (length xs + child) joined_up)
 
     small_at : (p : ℕ) → Side p → (rate_of h' p).size ≤ 4000000
     small_at p (Left i inside) = subst (λ (r : FeeRate). r.size ≤ 4000000) (sym (first_rate i inside)) (one.small i inside)
@@ -171,7 +167,7 @@ module _ (n : ℕ) (xs ys : List ℕ) (f g h : Closure) (one : IsNamed n xs f) (
 
     -- ---- by names
 
-    no_ancestor : (zs : List ℕ) (k : Closure) → AreOnce zs → (a d : ℕ) → (Stands zs a → ⊥) ⊎ (Stands zs d → ⊥) → is_ancestor (named zs k) a d ≡ false
+    no_ancestor : (zs : List ℕ) (k : Closure) → AreDistinct zs → (a d : ℕ) → (Stands zs a → ⊥) ⊎ (Stands zs d → ⊥) → is_ancestor (named zs k) a d ≡ false
     no_ancestor zs k once a d absent = false_from_ne_true (is_ancestor (named zs k) a d) (λ up. let ends = ancestor_ends zs k once a d up in elim absent [ inl none ↦ none ends.0 | inr none ↦ none ends.1 ])
 
     not_second : (i : ℕ) → i < length xs → Stands ys (slice_index xs i) → ⊥
@@ -185,10 +181,6 @@ module _ (n : ℕ) (xs ys : List ℕ) (f g h : Closure) (one : IsNamed n xs f) (
 
     abbrev G : ℕ → ℕ → Bool
     G a d = is_ancestor (named ys g) a d
-
-    or_false : (b : Bool) → (b || false) ≡ b
-    or_false true = refl
-    or_false false = refl
 
     -- an ancestor in the merged graph is one in either
     either : (p q : ℕ) → Side p → Side q → is_ancestor h p q ≡ (F (slice_index all p) (slice_index all q) || G (slice_index all p) (slice_index all q))

@@ -2,19 +2,16 @@
 use Rattle.std.proofs.Common.{◌≡◌, ℕ, ℤ, ◌<◌, ◌≤◌, Bool, true, false, ◌&&◌, ◌||◌, List, [], ◌∷◌, length, slice_index, Option, Some, None, inl, inr, refl, sym, ap, ◌∙◌, subst, subst₂, lt-ltb, ltb-true, true≢false}
 use Rattle.std.proofs.lemmas.Bool.{cases_eq, cases_Bool, or_cases, and_parts}
 use Rattle.std.specs.FinMap as map
+use Rattle.lists.proofs.Walks.{Walk-map}
+use Rattle.lists.proofs.Distinct.{one_place}
+use Rattle.lists.specs.Distinct.{AreDistinct}
 use Rattle.graphs.specs.Closures.{Node, Closure, is_member, is_ancestor, rate_of, rate_in, no_rate, IsOrder, IsClosed, AddsPair, SetsFee, IsRelated, AreLinked}
 use Rattle.lists.proofs.Cases.{same_test}
 use Rattle.lists.specs.Walks.{Walk}
 use Rattle.fee_rate.specs.declared.rates.FeeRate.{FeeRate}
-use Rattle.cluster_record.specs.Clusters.{AreOnce, IsCluster}
+use Rattle.cluster_record.specs.Clusters.{IsCluster}
 use Rattle.cluster_record.specs.Named.{named, IsNamed}
 use Rattle.cluster_record.proofs.Names.{Stands, Contains-stands, Stands-contains, named-member, member-stands, named-rate, named-ancestor, ancestor-stands}
-
--- a walk goes over to the images of its vertices
-pub walk_over : {V U : Type 0} (step : V → V → Type 0) (other : U → U → Type 0) (f : V → U) → ((a b : V) → step a b → other (f a) (f b)) → (a b : V) → Walk step a b → Walk other (f a) (f b)
-walk_over step other f each a b ([], same) = ([], ap f same)
-walk_over step other f each a b (v ∷ vs, walk) =
-    let rest : Walk other (f v) (f b) = walk_over step other f each v b (vs, walk.1) in (f v ∷ rest.0, (each a v walk.0, rest.1))
 
 -- ---- names and places
 
@@ -34,13 +31,13 @@ module _ (n : ℕ) (names : List ℕ) (g : Closure) (kept : IsNamed n names g) w
   linked_named : (a b : ℕ) → Stands names a → Stands names b → AreLinked (named names g) a b
   linked_named a b first second =
       subst₂ (AreLinked (named names g)) first.2 second.2
-      (walk_over (IsRelated g) (IsRelated (named names g)) (slice_index names) related_named first.0 second.0 (kept.whole first.0 second.0 first.1 second.1))
+      (Walk-map (slice_index names) (IsRelated g) (IsRelated (named names g)) related_named first.0 second.0 (kept.whole first.0 second.0 first.1 second.1))
 
   transitive_named : (a b c : ℕ) → is_ancestor (named names g) a b ≡ true → is_ancestor (named names g) b c ≡ true → is_ancestor (named names g) a c ≡ true
   transitive_named a b c up down =
       let first = ancestor-stands names g kept.once a b up in
       let second = ancestor-stands names g kept.once b c down in
-      let same : first.1 ≡ second.0 = kept.once first.1 second.0 first.3 second.2 (first.5 ∙ sym second.4) in
+      let same : first.1 ≡ second.0 = one_place names first.1 second.0 0 kept.once first.3 second.2 (first.5 ∙ sym second.4) in
       let joined : is_ancestor g first.0 second.1 ≡ true = kept.order.transitive first.0 second.0 second.1 (subst (λ (q : ℕ). is_ancestor g first.0 q ≡ true) same first.6) second.6 in
       subst₂ (λ x y. is_ancestor (named names g) x y ≡ true) first.4 second.5 (named-ancestor names g kept.once first.0 second.1 first.2 second.3 ∙ joined)
 
@@ -48,8 +45,8 @@ module _ (n : ℕ) (names : List ℕ) (g : Closure) (kept : IsNamed n names g) w
   antisymmetric_named a b up down =
       let first = ancestor-stands names g kept.once a b up in
       let second = ancestor-stands names g kept.once b a down in
-      let one : second.0 ≡ first.1 = kept.once second.0 first.1 second.2 first.3 (second.4 ∙ sym first.5) in
-      let two : second.1 ≡ first.0 = kept.once second.1 first.0 second.3 first.2 (second.5 ∙ sym first.4) in
+      let one : second.0 ≡ first.1 = one_place names second.0 first.1 0 kept.once second.2 first.3 (second.4 ∙ sym first.5) in
+      let two : second.1 ≡ first.0 = one_place names second.1 first.0 0 kept.once second.3 first.2 (second.5 ∙ sym first.4) in
       let same : first.0 ≡ first.1 = kept.order.antisymmetric first.0 first.1 first.6 (subst₂ (λ p q. is_ancestor g p q ≡ true) one two second.6) in
       sym first.4 ∙ ap (slice_index names) same ∙ first.5
 
@@ -93,7 +90,7 @@ by_places names F G agree first second a d = same_test (F a d) (G a d)
     at_names one two = subst₂ (λ x y. F x y ≡ G x y) one.2 two.2 (agree one.0 two.0 one.1 two.1)
 
 -- a graph's names stand at places
-pub ancestor_ends : (names : List ℕ) (g : Closure) → AreOnce names → (a d : ℕ) → is_ancestor (named names g) a d ≡ true → Stands names a × Stands names d
+pub ancestor_ends : (names : List ℕ) (g : Closure) → AreDistinct names → (a d : ℕ) → is_ancestor (named names g) a d ≡ true → Stands names a × Stands names d
 ancestor_ends names g once a d up = let at = ancestor-stands names g once a d up in ((at.0, at.2, at.4), (at.1, at.3, at.5))
 
 pub rate-none : (g : Closure) (id : ℕ) → is_member g id ≡ false → rate_of g id ≡ no_rate
@@ -104,7 +101,7 @@ rate-none g id absent = cases (map.get g id) absent
     cases None e = refl
     cases (Some x) e = absurd (true≢false e)
 
-module _ (names : List ℕ) (g g' : Closure) (once : AreOnce names) where
+module _ (names : List ℕ) (g g' : Closure) (once : AreDistinct names) where
   pub same_members : (id : ℕ) → is_member (named names g') id ≡ is_member (named names g) id
   same_members id = same_test (is_member (named names g') id) (is_member (named names g) id)
       (λ e. let at = member-stands names g' once id e in subst (λ x. is_member (named names g) x ≡ true) at.2 (named-member names g once at.0 at.1))
@@ -155,7 +152,7 @@ module _ (n : ℕ) (names : List ℕ) (g g' : Closure) (kept : IsNamed n names g
     once = kept.once;
     members = λ p. members p ∙ kept.members p;
     order = closed.order;
-    whole = λ p q low below. walk_over (IsRelated g) (IsRelated g') (λ p. p) (more_related more) p q (kept.whole p q low below);
+    whole = λ p q low below. Walk-map (λ p. p) (IsRelated g) (IsRelated g') (more_related more) p q (kept.whole p q low below);
     small = λ p low. subst (λ s. s ≤ 4000000) (sym (sizes p)) (kept.small p low);
   }
 

@@ -7,6 +7,7 @@ use Rattle.std.specs.Ordering.{nat_cmp}
 use Rattle.std.specs.Cmp.{nat_cmp_total}
 use Rattle.std.specs.FinSet as set
 use Rattle.std.specs.FinMap as map
+use Rattle.lists.proofs.Distinct.{one_place}
 use Rattle.graphs.specs.Closures.{Closure, is_member, is_ancestor, rate_of, ancestors_of, descendants_of, members_of}
 use Rattle.bitset.specs.Places.{first_places, IsWithin}
 use Rattle.bitset.specs.Sets.{contains-first_places}
@@ -48,7 +49,7 @@ module _ (n : ℕ) (names : List ℕ) (g : Closure) (kept : IsNamed n names g) w
       (λ id at. subst (λ x. is_ancestor (named names g) x (slice_index names p) ≡ true) at.3 (named-ancestor names g kept.once at.0 p at.1 low ∙ sym (ap (λ s. set.contains s at.0) is) ∙ at.2))
       (λ id up.
       let at = ancestor-stands names g kept.once id (slice_index names p) up in
-      let same : at.1 ≡ p = kept.once at.1 p at.3 low at.5 in
+      let same : at.1 ≡ p = one_place names at.1 p 0 kept.once at.3 low at.5 in
       (at.0, at.2, ap (λ s. set.contains s at.0) is ∙ subst (λ q. is_ancestor g at.0 q ≡ true) same at.6, at.4))
       lists
 
@@ -58,7 +59,7 @@ module _ (n : ℕ) (names : List ℕ) (g : Closure) (kept : IsNamed n names g) w
       (named-ancestor names g kept.once p at.0 low at.1 ∙ (and_parts (is_member g at.0) (is_ancestor g p at.0) (sym (ap (λ s. set.contains s at.0) is ∙ contains-descendants_of g p at.0) ∙ at.2)).1))
       (λ id down.
       let at = ancestor-stands names g kept.once (slice_index names p) id down in
-      let same : at.0 ≡ p = kept.once at.0 p at.2 low at.4 in
+      let same : at.0 ≡ p = one_place names at.0 p 0 kept.once at.2 low at.4 in
       let above : is_ancestor g p at.1 ≡ true = subst (λ q. is_ancestor g q at.1 ≡ true) same at.6 in
       (at.1, at.3, ap (λ s. set.contains s at.1) is ∙ contains-descendants_of g p at.1 ∙ and_from (is_member g at.1) (is_ancestor g p at.1) (place_member n names g kept at.1 at.3) above, at.5))
       lists

@@ -10,38 +10,28 @@ use Rattle.std.specs.List.Sorted.{IsPermutation, IsNonDecreasing}
 use Rattle.std.specs.Cmp.{nat_eq_equiv}
 use Rattle.std.specs.Ordering.{nat_cmp}
 use Rattle.std.specs.FinSet as set
-use Rattle.lists.proofs.Entries.{Contains-map}
-use Rattle.lists.proofs.Rising.{rising_once, rising_at_least}
+use Rattle.graphs.proofs.RenamingLemmas.{distinct_map}
+use Rattle.lists.proofs.Distinct.{one_place}
+use Rattle.lists.specs.Distinct.{AreDistinct}
+use Rattle.lists.proofs.Entries.{Contains-map, map-Contains}
+use Rattle.lists.proofs.Rising.{rising_at_least, distinct_rising}
 use Rattle.lists.specs.Rising.{IsRising}
 use Rattle.bitset.specs.Places.{places, IsWithin}
 use Rattle.bitset.specs.Sets.{IsRising-places, Contains-places, places-Contains, places-here}
 use Rattle.graphs.specs.Graphs.{Lists}
-use Rattle.cluster_record.specs.Clusters.{AreOnce}
 use Rattle.cluster_record.specs.Changes.{IsChosen}
 
-pub map-Contains : {Y : Type 0} (f : ℕ → Y) (xs : List ℕ) (y : Y) → Contains (map f xs) y → (x : ℕ) × Contains xs x × (f x ≡ y)
-map-Contains f xs y here =
-    let low : here.0 < length xs = subst (λ n. here.0 < n) (length-map xs f) here.1 in
-    (slice_index xs here.0, Contains-get_or xs here.0 0 low, sym (get_or-map f xs here.0 0 y low) ∙ here.2)
-
--- the names of places differ where the places do
-pub map_once : (names xs : List ℕ) → AreOnce names → AreOnce xs → ((p : ℕ) → Contains xs p → p < length names) → AreOnce (map (slice_index names) xs)
-map_once names xs once apart within p q low below same =
-    let first : p < length xs = subst (λ n. p < n) (length-map xs (slice_index names)) low in
-    let second : q < length xs = subst (λ n. q < n) (length-map xs (slice_index names)) below in
-    apart p q first second (once (slice_index xs p) (slice_index xs q) (within (slice_index xs p) (Contains-get_or xs p 0 first)) (within (slice_index xs q) (Contains-get_or xs q 0 second))
-    (sym (get_or-map (slice_index names) xs p 0 0 first) ∙ same ∙ get_or-map (slice_index names) xs q 0 0 second))
-
-once_distinct : (xs : List ℕ) → AreOnce xs → IsDistinct nat_eq xs
+once_distinct : (xs : List ℕ) → AreDistinct xs → IsDistinct nat_eq xs
 once_distinct xs once = IsDistinct-from_apart nat_eq xs (λ i j d before below. ne_eqb (get_or xs i d) (get_or xs j d)
-    (λ same. let is : i ≡ j = once i j (omega arith) below (get_or_default xs i 0 d (omega arith) ∙ same ∙ get_or_default xs j d 0 below) in omega arith))
+    (λ same. let is : i ≡ j = one_place xs i j 0 once (omega arith) below (get_or_default xs i 0 d (omega arith) ∙ same ∙ get_or_default xs j d 0 below) in omega arith))
 
 module _ (n : ℕ) (names : List ℕ) (chosen : set.FinSet nat_cmp) (within : IsWithin (length names) chosen) where
   place_within : (p : ℕ) → Contains (places n chosen) p → p < length names
   place_within p here = within p (places-Contains n chosen p here).1
 
-  pub chosen_once : AreOnce names → AreOnce (map (slice_index names) (places n chosen))
-  chosen_once once = map_once names (places n chosen) once (rising_once (places n chosen) (IsRising-places n chosen)) place_within
+  pub chosen_once : AreDistinct names → AreDistinct (map (slice_index names) (places n chosen))
+  chosen_once once = distinct_map (slice_index names) (places n chosen) (distinct_rising (places n chosen) (IsRising-places n chosen))
+      (λ p q here there. one_place names p q 0 once (place_within p here) (place_within q there))
 
   -- the names of the places of a set are the names that it chooses
   pub names_chosen : IsWithin n chosen → (id : ℕ) → Contains (map (slice_index names) (places n chosen)) id ↔ IsChosen names chosen id
@@ -50,7 +40,7 @@ module _ (n : ℕ) (names : List ℕ) (chosen : set.FinSet nat_cmp) (within : Is
     λ at. subst (Contains (map (slice_index names) (places n chosen))) at.3 (Contains-map (slice_index names) (places n chosen) at.0 (Contains-places n chosen at.0 (bound at.0 at.2) at.2)),
   )
 
-  pub chosen_listed : IsWithin n chosen → AreOnce names → (ids sorted : List ℕ) → ids ≡ map (slice_index names) (places n chosen) → IsPermutation ids sorted → IsNonDecreasing sorted → Lists (IsChosen names chosen) sorted
+  pub chosen_listed : IsWithin n chosen → AreDistinct names → (ids sorted : List ℕ) → ids ≡ map (slice_index names) (places n chosen) → IsPermutation ids sorted → IsNonDecreasing sorted → Lists (IsChosen names chosen) sorted
   chosen_listed bound once ids sorted is moved rising = record {
     rising = IsStrictlyIncreasing-from_distinct sorted rising (IsDistinct-IsPermutation nat_eq nat_eq_equiv.symm ids sorted moved (subst (IsDistinct nat_eq) (sym is) (once_distinct _ (chosen_once once))));
     exact = λ id. (

@@ -6,9 +6,10 @@ use Rattle.std.specs.Ordering.{nat_cmp}
 use Rattle.std.specs.Cmp.{nat_cmp_total, unsigned_tied}
 use Rattle.std.specs.FinSet as set
 use Rattle.std.specs.FinMap as map
+use Rattle.lists.proofs.Distinct.{one_place}
+use Rattle.lists.specs.Distinct.{AreDistinct}
 use Rattle.graphs.specs.Closures.{Node, Closure, is_member, is_ancestor, ancestors_of, rate_of, rate_in, ancestors_in}
 use Rattle.bitset.specs.Sets.{contains-insert, contains-empty}
-use Rattle.cluster_record.specs.Clusters.{AreOnce}
 use Rattle.cluster_record.specs.Named.{names_where, named_node, named_below, named}
 
 -- ---- sets of names
@@ -53,11 +54,11 @@ get-none : (names : List ℕ) (g : Closure) (id : ℕ) → map.get (named_below 
 unfolding named_below
 get-none names g id = map.get-empty nat_cmp id
 
-get-here : (names : List ℕ) (g : Closure) (n p : ℕ) → AreOnce names → n ≤ length names → p < n → map.get (named_below names g n) (slice_index names p) ≡ Some (named_node names g p)
+get-here : (names : List ℕ) (g : Closure) (n p : ℕ) → AreDistinct names → n ≤ length names → p < n → map.get (named_below names g n) (slice_index names p) ≡ Some (named_node names g p)
 get-here names g zero p once within low = absurd (omega arith)
 get-here names g (suc n) p once within low = get-more names g n (slice_index names p) ∙ elim (cases_eq p n) as (λ _. cond (nat_eq (slice_index names p) (slice_index names n)) (Some (named_node names g n)) (map.get (named_below names g n) (slice_index names p)) ≡ Some (named_node names g p)) [
   | inl same ↦ ap (λ b. cond b (Some (named_node names g n)) (map.get (named_below names g n) (slice_index names p))) (eq-eqb (slice_index names p) (slice_index names n) (ap (slice_index names) same)) ∙ ap (λ m. Some (named_node names g m)) (sym same)
-  | inr other ↦ ap (λ b. cond b (Some (named_node names g n)) (map.get (named_below names g n) (slice_index names p))) (ne_eqb (slice_index names p) (slice_index names n) (λ e. other (once p n (omega arith) (omega arith) e))) ∙ get-here names g n p once (omega arith) (omega arith)
+  | inr other ↦ ap (λ b. cond b (Some (named_node names g n)) (map.get (named_below names g n) (slice_index names p))) (ne_eqb (slice_index names p) (slice_index names n) (λ e. other (one_place names p n 0 once (omega arith) (omega arith) e))) ∙ get-here names g n p once (omega arith) (omega arith)
 ]
 
 there_more : (names : List ℕ) (n id : ℕ) (b : Bool) (x : Node) (o : Option Node) → nat_eq id (slice_index names n) ≡ b → (is_some o ≡ true → (p : ℕ) × (p < n) × (slice_index names p ≡ id)) → is_some (cond b (Some x) o) ≡ true → (p : ℕ) × (p < suc n) × (slice_index names p ≡ id)
@@ -78,7 +79,7 @@ Contains-stands names id h = (h.0, h.1, get_or_default names h.0 0 id h.1 ∙ h.
 pub Stands-contains : (names : List ℕ) (id : ℕ) → Stands names id → Contains names id
 Stands-contains names id h = (h.0, h.1, get_or_default names h.0 id 0 h.1 ∙ h.2)
 
-module _ (names : List ℕ) (g : Closure) (once : AreOnce names) where
+module _ (names : List ℕ) (g : Closure) (once : AreDistinct names) where
   pub named-member : (p : ℕ) → p < length names → is_member (named names g) (slice_index names p) ≡ true
   unfolding is_member named
   named-member p low = ap is_some (get-here names g (length names) p once (omega arith) low)
@@ -119,6 +120,6 @@ module _ (names : List ℕ) (g : Closure) (once : AreOnce names) where
       cases true e = ap (λ s. set.contains s (slice_index names p)) (named-ancestors q below) ∙ names_where-contains names (λ x. is_ancestor g x q) (length names) p low e
       cases false e = false_from_ne_true _ (λ holds.
           let h = ancestor-stands (slice_index names p) (slice_index names q) holds in
-          let first : h.0 ≡ p = once h.0 p h.2 low h.4 in
-          let second : h.1 ≡ q = once h.1 q h.3 below h.5 in
+          let first : h.0 ≡ p = one_place names h.0 p 0 once h.2 low h.4 in
+          let second : h.1 ≡ q = one_place names h.1 q 0 once h.3 below h.5 in
           true≢false (sym h.6 ∙ ap (λ x. is_ancestor g x h.1) first ∙ ap (λ x. is_ancestor g p x) second ∙ e))

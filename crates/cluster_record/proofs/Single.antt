@@ -6,10 +6,12 @@ use Rattle.std.specs.Ordering.{nat_cmp}
 use Rattle.std.specs.FinMap as map
 use Rattle.std.specs.FinSet as set
 use Rattle.std.proofs.Common.{Option}
+use Rattle.lists.proofs.Cases.{or_false}
+use Rattle.lists.proofs.Entries.{none_in_empty}
+use Rattle.lists.specs.Distinct.{AreDistinct}
 use Rattle.graphs.specs.Closures.{Node, Closure, members_of, is_member, is_ancestor, ancestors_of, ancestors_in, rate_of, IsClosed, AddsPlace}
 use Rattle.bitset.specs.Sets.{contains-empty}
 use Rattle.fee_rate.specs.declared.rates.FeeRate.{FeeRate}
-use Rattle.cluster_record.specs.Clusters.{AreOnce}
 use Rattle.cluster_record.specs.Changes.{IsSingle}
 use Rattle.cluster_record.specs.Named.{named, IsNamed}
 use Rattle.cluster_record.proofs.Names.{named-rate, named-ancestor}
@@ -31,8 +33,8 @@ none_above : (a d : ℕ) → is_ancestor map.empty a d ≡ false
 unfolding ancestors_of
 none_above a d = ap (λ (o : Option Node). set.contains (ancestors_in o) a) (map.get-empty nat_cmp d) ∙ contains-empty a
 
-once_one : (id : ℕ) → AreOnce (id ∷ [])
-once_one id p q low below same = omega arith
+once_one : (id : ℕ) → AreDistinct (id ∷ [])
+once_one id = (none_in_empty id, tt)
 
 module _ (n : ℕ) (old g : Closure) (id : ℕ) (rate : FeeRate) (place : ℕ) (none : old ≡ map.empty) (adds : AddsPlace old g rate place) where
   first_place : place ≡ 0
@@ -44,19 +46,15 @@ module _ (n : ℕ) (old g : Closure) (id : ℕ) (rate : FeeRate) (place : ℕ) (
   members : (p : ℕ) → is_member g p ≡ nat_lt p 1
   members p =
       adds.members p ∙ ap₂ (λ q b. nat_eq p q || b) first_place (ap (λ g. is_member g p) none ∙ none_member p)
-      ∙ tests p
+      ∙ both_ways p
     where
-      tests : (p : ℕ) → (nat_eq p 0 || false) ≡ nat_lt p 1
-      tests p = grind (arith, nat_tests)
+      both_ways : (p : ℕ) → (nat_eq p 0 || false) ≡ nat_lt p 1
+      both_ways p = grind (arith, nat_tests)
 
   above : (a d : ℕ) → is_ancestor g a d ≡ (nat_eq a 0 && nat_eq d 0)
   above a d =
       adds.ancestors a d ∙ ap₂ (λ q b. (nat_eq a q && nat_eq d q) || b) first_place (ap (λ g. is_ancestor g a d) none ∙ none_above a d)
-      ∙ tests (nat_eq a 0 && nat_eq d 0)
-    where
-      tests : (b : Bool) → (b || false) ≡ b
-      tests true = refl
-      tests false = refl
+      ∙ or_false (nat_eq a 0 && nat_eq d 0)
 
   pub IsNamed-single : 1 ≤ n → rate.size ≤ 4000000 → IsClosed n g → IsNamed n (id ∷ []) g
   IsNamed-single room small closed = record {

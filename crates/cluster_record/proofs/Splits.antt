@@ -9,6 +9,7 @@ use Rattle.std.specs.Ordering.{nat_cmp}
 use Rattle.std.specs.FinSet as set
 use Rattle.std.specs.List.{range_with_len}
 use Rattle.std.proofs.lemmas.List.FromFn.{length-range_with_len, get_or-range_with_len}
+use Rattle.lists.proofs.Distinct.{one_place}
 use Rattle.graphs.specs.Closures.{Closure, is_ancestor, rate_of, HoldsMembers, IsNear, IsRelated}
 use Rattle.lists.proofs.Walks.{Walk-push, Walk-trans, Walk-back}
 use Rattle.lists.specs.Walks.{Walk, IsWalk}
@@ -257,7 +258,7 @@ module _ (n : ℕ) (names : List ℕ) (g : Closure) (kept : IsNamed n names g) (
     apart_from c here cluster id held other =
         let old = old_name c here cluster id held in
         let new = chosen_at id other in
-        let same : old.0 ≡ new.0 = kept.once old.0 new.0 old.1.low new.1 (old.2 ∙ sym new.3) in
+        let same : old.0 ≡ new.0 = one_place names old.0 new.0 0 kept.once old.1.low new.1 (old.2 ∙ sym new.3) in
         true≢false (sym (chosen_rest new.0 new.2) ∙ ap (set.contains rest) (sym same) ∙ old.1.taken)
 
     part_filled : part.names ≢ []
@@ -305,8 +306,8 @@ module _ (n : ℕ) (names : List ℕ) (g : Closure) (kept : IsNamed n names g) (
       ancestors = λ a d. (
         λ up.
             let done = so.there a d up in (
-              λ same. done.first_done.other (kept.once done.first place done.first_done.low low (done.first_is ∙ same)),
-              λ same. done.second_done.other (kept.once done.second place done.second_done.low low (done.second_is ∙ same)),
+              λ same. done.first_done.other (one_place names done.first place 0 kept.once done.first_done.low low (done.first_is ∙ same)),
+              λ same. done.second_done.other (one_place names done.second place 0 kept.once done.second_done.low low (done.second_is ∙ same)),
               subst₂ (λ x y. is_ancestor (named names g) x y ≡ true) done.first_is done.second_is (named-ancestor names g kept.once done.first done.second done.first_done.low done.second_done.low ∙ done.above),
             ),
         λ all.

@@ -3,9 +3,9 @@ use Rattle.std.specs.Prelude.{◌≡◌, ℕ, zero, suc, ◌<◌, ◌≤◌, Boo
 use Rattle.std.specs.Ordering.{nat_cmp}
 use Rattle.std.specs.FinSet as set
 use Rattle.std.specs.FinMap as map
+use Rattle.lists.specs.Distinct.{AreDistinct}
 use Rattle.graphs.specs.Closures.{Node, Closure, is_member, is_ancestor, rate_of, IsOrder, IsRelated}
 use Rattle.lists.specs.Walks.{Walk}
-use Rattle.cluster_record.specs.Clusters.{AreOnce}
 
 -- the names of the places below n that pass a test
 unfoldable pub names_where : List ℕ → (ℕ → Bool) → ℕ → set.FinSet nat_cmp
@@ -28,7 +28,7 @@ named names g = named_below names g (length names)
 -- What is kept of a cluster: its places are the numbers from 0 on, each has one name, and the places are one component.
 pub record IsNamed (n : ℕ) (names : List ℕ) (g : Closure) : Type 0 where
   pub few : length names ≤ n
-  pub once : AreOnce names
+  pub once : AreDistinct names
   pub members : (p : ℕ) → is_member g p ≡ nat_lt p (length names)
   pub order : IsOrder (is_member g) (is_ancestor g)
   pub whole : (p q : ℕ) → p < length names → q < length names → Walk (IsRelated g) p q

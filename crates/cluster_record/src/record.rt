@@ -1,10 +1,11 @@
 ghost use Rattle.std.specs.Prelude.{◌≡◌, ℕ, ◌+◌, ◌*◌, ◌<◌, ◌≤◌, ◌++◌, true, false, length, slice_index, map, sum_by, All, Contains, IfOk, OnOk};
 ghost use Rattle.std.specs.FinSet as set;
+ghost use Rattle.lists.specs.Distinct.{AreDistinct};
 ghost use Rattle.graphs.specs.Closures.{is_ancestor, rate_of, AddsPair, SetsFee, IsNear};
 ghost use Rattle.lists.specs.Walks.{Walk};
 ghost use Rattle.bitset.specs.Places.{IsWithin, places};
 ghost use Rattle.graphs.specs.Graphs.{Lists};
-ghost use Rattle.cluster_record.specs.Clusters.{IsCluster, AreOnce, AreApart};
+ghost use Rattle.cluster_record.specs.Clusters.{IsCluster, AreApart};
 ghost use Rattle.cluster_record.specs.Named.{named, IsNamed};
 ghost use Rattle.cluster_record.specs.Changes.{IsSingle, Joins, IsChosen, IsPartOf, IsSplit};
 
@@ -242,7 +243,7 @@ fn copy_names<const W: usize>(
 // Leaves the names of some places in `out`, in rising order.
 fn list_chosen<const W: usize>(names: &[TxId], chosen: &Bits<W>, out: &mut IdBuf)
     requires within { IsWithin (length names.now) chosen.now }
-    requires once { AreOnce names.now }
+    requires once { AreDistinct names.now }
     requires room { length names.now ≤ length out.old.ids + out.old.room }
     ensures lists { Lists (IsChosen names.now chosen.now) out.new.ids }
     ensures room { length out.new.ids + out.new.room ≡ length out.old.ids + out.old.room }

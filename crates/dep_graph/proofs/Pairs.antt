@@ -4,7 +4,6 @@ use Rattle.std.proofs.lemmas.Bool.{cases_lt, and_parts, and_from, or_cases, or_l
 use Rattle.std.proofs.lemmas.List.Elements.{Contains-get_or}
 use Rattle.std.specs.Ordering.{nat_cmp}
 use Rattle.std.specs.FinSet as fin
-use Rattle.std.proofs.Math.Bool.{or_comm}
 use Rattle.lists.proofs.Cases.{same_test, true_from_not}
 use Rattle.lists.proofs.Distinct.{one_place}
 use Rattle.lists.proofs.Entries.{Contains-cases, none_in_empty}
@@ -12,7 +11,7 @@ use Rattle.lists.proofs.Rising.{distinct_rising}
 use Rattle.graphs.specs.Graphs.{Graph}
 use Rattle.graphs.specs.Closures.{Closure, is_member, is_ancestor, members_of, IsClosed, IsCopy, IsMerged, HoldsMembers}
 use Rattle.graphs.specs.Closing.{Closes, IsClosureOf, with_name, with_pair, joined, within}
-use Rattle.graphs.proofs.ClosingLemmas.{closes_like, closes_name, closes_pair, closes_without, closes_without_all, closes_within, closes_both, closes_renamed, renamed_is}
+use Rattle.graphs.proofs.ClosingLemmas.{closes_like, closes_added, closes_pair, closes_without, closes_without_all, closes_within, closes_both, closes_renamed, renamed_is}
 use Rattle.bitset.specs.Places.{places, IsWithin}
 use Rattle.bitset.specs.Sets.{IsRising-places, Contains-places, places-Contains, contains-difference}
 use Rattle.dep_graph.specs.Numbers.{number_in, renumbered}
@@ -23,29 +22,8 @@ use Rattle.dep_graph.proofs.Kept.{contains-members_of}
 
 pub place_keeps_pairs : PlaceKeepsPairs
 place_keeps_pairs n place rate g h graph closed c adds =
-    closes_like (λ q. is_member g q || nat_eq q place) (is_ancestor h) (with_name graph place)
-    (closes_name (is_member g) (is_ancestor h) graph place (closes_like (is_member g) (is_ancestor g) graph c (is_member g) (is_ancestor h) (λ p. refl) was) adds.free
-    (adds.ancestors place place ∙ or_left (nat_eq place place && nat_eq place place) (is_ancestor g place place) (and_from (nat_eq place place) (nat_eq place place) (eq-eqb place place refl) (eq-eqb place place refl)))
-    (λ a here. (
-      false_from_ne_true (is_ancestor h a place) (λ up. true≢false (sym (closed.order.among a place (old a place here up)).1 ∙ adds.free)),
-      false_from_ne_true (is_ancestor h place a) (λ up. true≢false (sym (closed.order.among place a (other place a (λ same. apart a here same.1) up)).0 ∙ adds.free)),
-    )))
-    (is_member h) (is_ancestor h) (λ p. adds.members p ∙ or_comm (nat_eq p place) (is_member g p)) (λ a d here there. refl)
-  where
-    apart : (a : ℕ) → is_member g a ≡ true → nat_eq a place ≡ true → ⊥
-    apart a here same = true≢false (sym here ∙ ap (is_member g) (eqb-true a place same) ∙ adds.free)
-
-    other : (a d : ℕ) → ((nat_eq a place ≡ true) × (nat_eq d place ≡ true) → ⊥) → is_ancestor h a d ≡ true → is_ancestor g a d ≡ true
-    other a d never up = elim (or_cases (nat_eq a place && nat_eq d place) (is_ancestor g a d) (sym (adds.ancestors a d) ∙ up)) [
-      | inl new ↦ absurd (never (and_parts (nat_eq a place) (nat_eq d place) new))
-      | inr old ↦ old
-    ]
-
-    old : (a d : ℕ) → is_member g a ≡ true → is_ancestor h a d ≡ true → is_ancestor g a d ≡ true
-    old a d here up = other a d (λ same. apart a here same.0) up
-
-    was : (a d : ℕ) → is_member g a ≡ true → is_member g d ≡ true → is_ancestor h a d ≡ is_ancestor g a d
-    was a d here there = same_test (is_ancestor h a d) (is_ancestor g a d) (old a d here) (λ up. adds.ancestors a d ∙ or_right (nat_eq a place && nat_eq d place) (is_ancestor g a d) up)
+    closes_like (λ q. nat_eq q place || is_member g q) (λ a d. (nat_eq a place && nat_eq d place) || is_ancestor g a d) (with_name graph place)
+    (closes_added (is_member g) (is_ancestor g) graph place c adds.free closed.order.among) (is_member h) (is_ancestor h) adds.members (λ a d here there. adds.ancestors a d)
 
 pub pair_is_added : PairIsAdded
 pair_is_added parent child g h graph c in_parent in_child apart adds =

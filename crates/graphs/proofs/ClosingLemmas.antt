@@ -1,7 +1,8 @@
 -- Plain graphs and their closures, change by change.
 use Rattle.std.proofs.Common.{◌≡◌, ◌≢◌, ℕ, suc, zero, Bool, true, false, not, ◌&&◌, ◌||◌, nat_eq, List, [], ◌∷◌, ◌++◌, sym, refl, subst, ap, ap₂, ◌∙◌, inl, inr, ◌⊎◌, ◌↔◌, eqb-true, eq-eqb, ne_eqb, true≢false, append-nil}
 use Rattle.std.specs.Prelude.{Contains, filter, map}
-use Rattle.std.proofs.lemmas.Bool.{and_parts, and_from, or_cases, or_left, or_right}
+use Rattle.std.proofs.lemmas.Bool.{and_parts, and_from, or_cases, or_left, or_right, false_from_ne_true}
+use Rattle.std.proofs.Math.Bool.{or_comm}
 use Rattle.std.proofs.lemmas.List.Elements.{Contains-append_left, Contains-append_right, Contains-append_cases, Contains-push_cases}
 use Rattle.lists.proofs.Cases.{differs, same_test}
 use Rattle.lists.proofs.Entries.{Contains-head, Contains-later, Contains-cases, none_in_empty, Contains-filter, filter-Contains, map-Contains, Contains-map}
@@ -188,13 +189,34 @@ closes_one r id itself = record {
   );
 }
 
-pub closes_name : (m : ℕ → Bool) (r : ℕ → ℕ → Bool) (graph : Graph) (id : ℕ) → Closes m r graph → m id ≡ false → r id id ≡ true → ((a : ℕ) → m a ≡ true → (r a id ≡ false) × (r id a ≡ false))
+closes_name : (m : ℕ → Bool) (r : ℕ → ℕ → Bool) (graph : Graph) (id : ℕ) → Closes m r graph → m id ≡ false → r id id ≡ true → ((a : ℕ) → m a ≡ true → (r a id ≡ false) × (r id a ≡ false))
     → Closes (λ q. m q || nat_eq q id) r (with_name graph id)
 closes_name m r graph id c new itself apart =
     subst (λ (pairs : List (ℕ × ℕ)). Closes (λ q. m q || nat_eq q id) r (record { names = graph.names ++ id ∷ []; pairs = pairs })) (append-nil graph.pairs)
     (closes_both m (λ q. nat_eq q id) r graph (record { names = id ∷ []; pairs = [] }) c (closes_one r id itself)
     (λ p here same. true≢false (sym here ∙ ap m (eqb-true p id same) ∙ new))
     (λ a b here same. let is : b ≡ id = eqb-true b id same in let none = apart a here in (ap (r a) is ∙ none.0, ap (λ x. r x a) is ∙ none.1)))
+
+module _ (m : ℕ → Bool) (r : ℕ → ℕ → Bool) (graph : Graph) (id : ℕ) (c : Closes m r graph) (new : m id ≡ false) (among : (a d : ℕ) → r a d ≡ true → (m a ≡ true) × (m d ≡ true)) where
+  abbrev more : ℕ → ℕ → Bool
+  more a d = (nat_eq a id && nat_eq d id) || r a d
+
+  other : (a : ℕ) → m a ≡ true → nat_eq a id ≡ false
+  other a here = ne_eqb a id (λ same. true≢false (sym here ∙ ap m same ∙ new))
+
+  was : (a d : ℕ) → m a ≡ true → more a d ≡ r a d
+  was a d here = ap (λ b. (b && nat_eq d id) || r a d) (other a here)
+
+  pub closes_added : Closes (λ q. nat_eq q id || m q) more (with_name graph id)
+  closes_added =
+      closes_like (λ q. m q || nat_eq q id) more (with_name graph id)
+      (closes_name m more graph id (closes_like m r graph c m more (λ p. refl) (λ a d here there. was a d here)) new
+      (or_left (nat_eq id id && nat_eq id id) (r id id) (and_from (nat_eq id id) (nat_eq id id) (eq-eqb id id refl) (eq-eqb id id refl)))
+      (λ a here. (
+        was a id here ∙ false_from_ne_true (r a id) (λ up. true≢false (sym (among a id up).1 ∙ new)),
+        ap (λ b. (nat_eq id id && b) || r id a) (other a here) ∙ ap (λ b. (b && false) || r id a) (eq-eqb id id refl) ∙ false_from_ne_true (r id a) (λ up. true≢false (sym (among id a up).0 ∙ new)),
+      )))
+      (λ q. nat_eq q id || m q) more (λ q. or_comm (nat_eq q id) (m q)) (λ a d here there. refl)
 
 -- ---- names dropped
 

@@ -101,9 +101,9 @@ PairIsClosed =
 -- one more name, in no relation to the others
 abbrev pub NameIsClosed : Type 0
 NameIsClosed =
-    (member : ℕ → Bool) (above : ℕ → ℕ → Bool) (graph : Graph) (id : ℕ) → Closes member above graph
-    → member id ≡ false → above id id ≡ true → ((a : ℕ) → member a ≡ true → (above a id ≡ false) × (above id a ≡ false))
-    → Closes (λ q. member q || nat_eq q id) above (with_name graph id)
+    (member : ℕ → Bool) (above : ℕ → ℕ → Bool) (graph : Graph) (id : ℕ) → Closes member above graph → member id ≡ false
+    → ((a d : ℕ) → above a d ≡ true → (member a ≡ true) × (member d ≡ true))
+    → Closes (λ q. nat_eq q id || member q) (λ a d. (nat_eq a id && nat_eq d id) || above a d) (with_name graph id)
 
 -- two graphs of different names, none of the first in relation to one of the second, and then one more pair from the
 -- first to the second

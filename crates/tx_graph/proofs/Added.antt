@@ -3,6 +3,7 @@ use Rattle.std.proofs.Common.{◌≡◌, ◌≢◌, ℕ, ℤ, ◌<◌, Bool, tru
 use Rattle.std.proofs.lemmas.Bool.{cases_eq, false_from_ne_true, and_right}
 use Rattle.std.proofs.lemmas.Option.{none-some, same_Some}
 use Rattle.std.specs.FinMap as finmap
+use Rattle.lists.proofs.Cases.{or_false}
 use Rattle.graphs.specs.Closures.{is_member, is_ancestor, rate_of, AddsPair, SetsFee}
 use Rattle.fee_rate.specs.declared.rates.FeeRate.{FeeRate}
 use Rattle.cluster_record.specs.Clusters.{Cluster, IsCluster}
@@ -104,10 +105,6 @@ module _ (most : ℕ) (old : Shelf) (spots' : Spots) (slots' : List (Option Clus
       some_or true o = refl
       some_or false o = refl
 
-      or_false : (b : Bool) → (b || false) ≡ b
-      or_false true = refl
-      or_false false = refl
-
 -- ---- a cluster changed in place
 
 module _ (most : ℕ) (old : Shelf) (slots' : List (Option Cluster)) (issued' key : ℕ) (c c' : Cluster) (indexed : IsIndexed most old) (was : cluster_at old.slots key ≡ Some c) (now : cluster_at slots' key ≡ Some c')
@@ -197,7 +194,3 @@ module _ (most : ℕ) (old : Shelf) (slots' : List (Option Cluster)) (issued' ke
           above_elsewhere old changed a d refl (away d none) ∙ sym (ap (λ b. is_ancestor (graph_of old) a d || b) (and_right (is_ancestor (graph_of old) a p) (is_ancestor (graph_of old) q d) no) ∙ or_false (is_ancestor (graph_of old) a d))
     ];
   }
-    where
-      or_false : (b : Bool) → (b || false) ≡ b
-      or_false true = refl
-      or_false false = refl

@@ -7,7 +7,6 @@ use Rattle.std.proofs.lemmas.List.Sums.{sum_by-cons}
 use Rattle.std.specs.List.Sorted.{IsStrictlyIncreasing}
 use Rattle.lists.proofs.Entries.{Contains-head, Contains-later, Contains-cases}
 use Rattle.lists.specs.Distinct.{AreDistinct}
-use Rattle.cluster_record.specs.Clusters.{AreOnce}
 
 put : ℕ → List ℕ → List ℕ
 put x [] = x ∷ []
@@ -122,20 +121,6 @@ arranged_length [] = refl
 arranged_length (x ∷ xs) = put_length x (arranged xs) ∙ ap suc (arranged_length xs)
 
 -- ---- lists without a number twice
-
-pub once_distinct : (xs : List ℕ) → AreOnce xs → AreDistinct xs
-once_distinct [] once = tt
-once_distinct (x ∷ xs) once = (
-  λ here. let same : 0 ≡ suc here.0 = once 0 (suc here.0) (omega arith) (omega (arith, here.1)) (sym (get_or_default xs here.0 0 x here.1 ∙ here.2)) in omega arith,
-  once_distinct xs (λ p q low below same. let is : suc p ≡ suc q = once (suc p) (suc q) (omega arith) (omega arith) same in omega arith),
-)
-
-pub distinct_append : (xs ys : List ℕ) → AreDistinct xs → AreDistinct ys → ((x : ℕ) → Contains xs x → Contains ys x → ⊥) → AreDistinct (xs ++ ys)
-distinct_append [] ys first second apart = second
-distinct_append (x ∷ xs) ys first second apart = (
-  λ there. elim (Contains-append_cases xs ys x there) [ inl again ↦ first.0 again | inr other ↦ apart x (Contains-head x xs) other ],
-  distinct_append xs ys first.1 second (λ y here. apart y (Contains-later x y xs here)),
-)
 
 pub sum_same : (f g : ℕ → ℕ) (xs : List ℕ) → ((x : ℕ) → Contains xs x → f x ≡ g x) → sum_by f xs ≡ sum_by g xs
 sum_same f g [] same = refl

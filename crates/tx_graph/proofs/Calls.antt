@@ -15,7 +15,6 @@ use Rattle.graphs.specs.Graphs.{Lists}
 use Rattle.graph_model.specs.States.{State, IsLive}
 use Rattle.graph_model.specs.Commands.{Command, SetLimits, Add, Dep, SetFee, Remove}
 use Rattle.graph_model.specs.Refusals.{RefusalIs, First, NoRefusal}
-use Rattle.graphs.specs.Laws.{AncestorsWithPair, StaysWithoutCycle, NamesCanGo, StaysGraph, AncestorsWithoutName}
 use Rattle.graphs.specs.declared.names.Level.TheVariants.{Top}
 use Rattle.graph_model.specs.Replies.{Reply, Done}
 use Rattle.graphs.proofs.ListLemmas.{Lists-for}
@@ -103,7 +102,7 @@ module _ (limits : Limits) (begun : Bool) (additions : ℕ) (shelf : Shelf) wher
 
   live_len : (state : State) → StandsFor kept state → finmap.len shelf.spots ≡ finmap.len state.table
   live_len state stands =
-      len_is state stands ∙ len-names state.main.graph.names state.table stands.valid.names (λ q. subst (λ b. Contains state.main.graph.names q ↔ (b ≡ true)) (sym (live-member kept state q stands)) (stands.names q))
+      len_is state stands ∙ len-names state.main.graph.names state.table stands.valid.names (λ q. subst (λ b. Contains state.main.graph.names q ↔ (b ≡ true)) (sym (live-member kept state q stands)) (stands.closure.names q))
 
   module _ (id : ℕ) (fee : ℤ) (size : ℕ) (state : State) (stands : StandsFor kept state) (found : Option Refusal) where
     full_row : First (limits.total ≤ finmap.len shelf.spots) Full NoRefusal found → First (state.limits.total ≤ finmap.len state.table) Full NoRefusal found
@@ -188,16 +187,16 @@ module _ (limits : Limits) (begun : Bool) (additions : ℕ) (old new : Shelf) wh
   add_step id fee size row adds =
       steps_added (kept_of limits begun additions old) (kept_of limits true (additions + 1) new) id fee size refl refl (may_add limits old id fee size row).absent adds (add_row limits begun additions old id fee size None row)
 
-  pub dep_step : (most : ℕ) → IsIndexed most old → AncestorsWithPair → StaysWithoutCycle → (parent child : ℕ) → is_member (graph_of old) parent ≡ true → is_member (graph_of old) child ≡ true → is_ancestor (graph_of old) child parent ≡ false
+  pub dep_step : (most : ℕ) → IsIndexed most old → (parent child : ℕ) → is_member (graph_of old) parent ≡ true → is_member (graph_of old) child ≡ true → is_ancestor (graph_of old) child parent ≡ false
       → DepRefusalIs limits (graph_of old) parent child None → AddsPair (graph_of old) (graph_of new) parent child → MakesStep (kept_of limits begun additions old) (kept_of limits true additions new) (Dep parent child) Done
-  dep_step most indexed with_pair no_cycle parent child parent_live child_live no_way row pair =
-      steps_paired with_pair no_cycle (kept_of limits begun additions old) (kept_of limits true additions new) parent child refl refl (order_of most old indexed) parent_live child_live no_way pair
+  dep_step most indexed parent child parent_live child_live no_way row pair =
+      steps_paired (kept_of limits begun additions old) (kept_of limits true additions new) parent child refl refl parent_live child_live no_way pair
       (dep_row (kept_of limits begun additions old) parent child None (order_of most old indexed) row)
 
-  pub remove_step : (most : ℕ) → IsIndexed most old → NamesCanGo → StaysGraph → AncestorsWithoutName → (id : ℕ) → is_member (graph_of old) id ≡ true → DropsPlace (graph_of old) (graph_of new) id
+  pub remove_step : (id : ℕ) → is_member (graph_of old) id ≡ true → DropsPlace (graph_of old) (graph_of new) id
       → MakesStep (kept_of limits begun additions old) (kept_of limits true additions new) (Remove id) Done
-  remove_step most indexed can_go stays without id live drops =
-      steps_removed can_go stays without (kept_of limits begun additions old) (kept_of limits true additions new) id refl refl (order_of most old indexed) drops (known_here (kept_of limits begun additions old) Top id live)
+  remove_step id live drops =
+      steps_removed (kept_of limits begun additions old) (kept_of limits true additions new) id refl refl drops (known_here (kept_of limits begun additions old) Top id live)
 
 -- ---- readings
 

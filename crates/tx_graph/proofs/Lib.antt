@@ -5,7 +5,6 @@ mod Added
 mod Slots
 mod Joined
 mod Standing
-mod Links
 mod Rows
 mod Lens
 mod Stepping

@@ -6,6 +6,7 @@ use Rattle.std.proofs.lemmas.List.{get_or_append_left, get_or_push}
 use Rattle.std.proofs.lemmas.List.Elements.{Contains-append_left, Contains-push, Contains-push_cases}
 use Rattle.std.specs.List.{AllPairs}
 use Rattle.std.specs.FinMap as finmap
+use Rattle.lists.proofs.Cases.{same_test}
 use Rattle.lists.proofs.Entries.{Contains-head, Contains-later, Contains-cases}
 use Rattle.cluster_record.specs.Clusters.{Cluster, IsCluster, AreApart}
 use Rattle.name_book.specs.declared.spot.Spot.{Spot}
@@ -94,12 +95,7 @@ module _ (most : ℕ) (c : Cluster) (waiting : List Cluster) (spots spots' : Spo
   ]
 
   pub live_same : (id : ℕ) → is_some (finmap.get spots' id) ≡ is_some (finmap.get spots id)
-  live_same id = same_bool (is_some (finmap.get spots' id)) (is_some (finmap.get spots id)) (live_before id) (kept_live id)
-    where
-      same_bool : (x y : Bool) → (x ≡ true → y ≡ true) → (y ≡ true → x ≡ true) → x ≡ y
-      same_bool true y there back = sym (there refl)
-      same_bool false true there back = back refl
-      same_bool false false there back = refl
+  live_same id = same_test (is_some (finmap.get spots' id)) (is_some (finmap.get spots id)) (live_before id) (kept_live id)
 
   pub IsLoose-stored : IsLoose most spots' slots' waiting
   IsLoose-stored = record {

@@ -5,6 +5,7 @@ use Rattle.std.specs.FinMap as finmap
 use Rattle.std.proofs.lemmas.Bool.{false_from_ne_true}
 use Rattle.std.proofs.lemmas.List.Sums.{sum_by-append}
 use Rattle.std.proofs.lemmas.List.Elements.{Contains-append_left, Contains-append_right, Contains-append_cases}
+use Rattle.lists.proofs.Distinct.{distinct_joined}
 use Rattle.graphs.proofs.ClosingLemmas.{linked_back}
 use Rattle.graphs.specs.Closures.{is_ancestor, rate_of, IsRelated, AreLinked}
 use Rattle.lists.specs.Walks.{IsWalk}
@@ -22,7 +23,7 @@ use Rattle.tx_graph.specs.Joins.{JoinsTo, JoinsTooMany, JoinsTooLarge, DepRefusa
 use Rattle.tx_graph.proofs.Graphs.{above_in, above_from, names_of_above, in_live, one_key, rate_in_cluster, at_contains}
 use Rattle.tx_graph.proofs.Slots.{stands_in}
 use Rattle.tx_graph.proofs.Rows.{first_at_map}
-use Rattle.tx_graph.proofs.Arranged.{arranged, arranged_is, arranged_increasing, arranged_sum, arranged_length, once_distinct, distinct_append, sum_same}
+use Rattle.tx_graph.proofs.Arranged.{arranged, arranged_is, arranged_increasing, arranged_sum, arranged_length, sum_same}
 
 module _ (most : ℕ) (shelf : Shelf) (indexed : IsIndexed most shelf) where
   related_in : (key a d : ℕ) (c : Cluster) → cluster_at shelf.slots key ≡ Some c → Contains c.names a → IsRelated (graph_of shelf) a d → Contains c.names d
@@ -101,7 +102,7 @@ module _ (most : ℕ) (shelf : Shelf) (indexed : IsIndexed most shelf) where
 
     listed : Lists (λ id. AreLinked (graph_of shelf) id p ⊎ AreLinked (graph_of shelf) id q) members
     listed = record {
-      rising = arranged_increasing (a.names ++ b.names) (distinct_append a.names b.names (once_distinct a.names (indexed.whole first a one).once) (once_distinct b.names (indexed.whole second b two).once)
+      rising = arranged_increasing (a.names ++ b.names) (distinct_joined a.names b.names (indexed.whole first a one).once (indexed.whole second b two).once
           (λ id here there. apart (one_key most shelf indexed first second id a b one two here there)));
       exact = λ id. (
         λ here. elim (Contains-append_cases a.names b.names id ((arranged_is (a.names ++ b.names) id).0 here)) [

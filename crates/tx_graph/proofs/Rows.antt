@@ -14,8 +14,7 @@ use Rattle.graph_model.specs.Refusals.{RefusalIs, First, FirstAt, NoRefusal, Ove
 use Rattle.graphs.proofs.ListLemmas.{Lists-for}
 use Rattle.tx_graph.specs.Kept.{Kept, StandsFor, entry_of}
 use Rattle.tx_graph.specs.Joins.{JoinsTo, JoinsTooMany, JoinsTooLarge, DepRefusalIs}
-use Rattle.tx_graph.proofs.Standing.{state_of, of_states, level-main}
-use Rattle.tx_graph.proofs.Links.{connected-linked}
+use Rattle.tx_graph.proofs.Standing.{state_of, of_states, level-main, told, connected-linked}
 
 pub first_map : (cause cause' : Type 0) (why : Refusal) (later later' : Option Refusal → Type 0) (found : Option Refusal) → cause ↔ cause' → (later found → later' found) → First cause why later found → First cause' why later' found
 first_map cause cause' why later later' found same more row = elim row [
@@ -46,7 +45,7 @@ module _ (kept : Kept) (table : Table) (main : LevelState) (stands : StandsFor k
   state = state_of kept table main
 
   absent : (id : ℕ) → (is_member kept.graph id ≡ true → ⊥) ↔ (Contains main.graph.names id → ⊥)
-  absent id = (λ none here. none ((stands.names id).0 here), λ none member. none ((stands.names id).1 member))
+  absent id = (λ none here. none ((stands.closure.names id).0 here), λ none member. none ((stands.closure.names id).1 member))
 
   joins_to : (members : List ℕ) → JoinsTo kept.graph parent child members ↔ ((AreConnected main.graph.pairs parent child → ⊥) × Lists (λ id. AreConnected main.graph.pairs id parent ⊎ AreConnected main.graph.pairs id child) members)
   joins_to members = (
@@ -76,8 +75,8 @@ module _ (kept : Kept) (table : Table) (main : LevelState) (stands : StandsFor k
   -- a live name is an ancestor of itself
   cycle : is_member kept.graph parent ≡ true → (is_ancestor kept.graph child parent ≡ true) ↔ IsAncestor main.graph.pairs child parent
   cycle member = (
-    λ up. (stands.ancestors child parent).1 (inr up),
-    λ walk. elim ((stands.ancestors child parent).0 walk) [
+    λ up. (told kept state stands child parent).1 (inr up),
+    λ walk. elim ((told kept state stands child parent).0 walk) [
       | inl same ↦ subst (λ x. is_ancestor kept.graph x parent ≡ true) (sym same) (order.reflexive parent member)
       | inr up ↦ up
     ],
@@ -110,10 +109,10 @@ dep_row kept parent child found order row = of_states kept (λ state. RefusalIs 
 not_in_level : (kept : Kept) (table : Table) (main : LevelState) (level : Level) (id : ℕ) → StandsFor kept (state_of kept table main) → is_member kept.graph id ≡ false → Contains (level_of (state_of kept table main) level).graph.names id → ⊥
 not_in_level kept table main level id stands fails here =
     let there : Contains main.graph.names id = subst (λ (l : LevelState). Contains l.graph.names id) (level-main kept table main level) here in
-    true≢false (sym ((stands.names id).0 there) ∙ fails)
+    true≢false (sym ((stands.closure.names id).0 there) ∙ fails)
 
 in_level : (kept : Kept) (table : Table) (main : LevelState) (level : Level) (id : ℕ) → StandsFor kept (state_of kept table main) → is_member kept.graph id ≡ true → Contains (level_of (state_of kept table main) level).graph.names id
-in_level kept table main level id stands holds = subst (λ (l : LevelState). Contains l.graph.names id) (sym (level-main kept table main level)) ((stands.names id).1 holds)
+in_level kept table main level id stands holds = subst (λ (l : LevelState). Contains l.graph.names id) (sym (level-main kept table main level)) ((stands.closure.names id).1 holds)
 
 -- the row of every command whose only refusal is an unknown name
 pub unknown_here : (kept : Kept) (level : Level) (id : ℕ) → is_member kept.graph id ≡ false → (state : State) → StandsFor kept state → First (Contains (level_of state level).graph.names id → ⊥) (Unknown id) NoRefusal (Some (Unknown id))

@@ -4,7 +4,8 @@ use Rattle.std.proofs.lemmas.Bool.{cases_eq}
 use Rattle.std.proofs.lemmas.List.{get_or_default}
 use Rattle.std.specs.Cmp.{nat_cmp_total, unsigned_tied}
 use Rattle.std.specs.FinMap as finmap
-use Rattle.cluster_record.specs.Clusters.{AreOnce}
+use Rattle.lists.proofs.Distinct.{one_place}
+use Rattle.lists.specs.Distinct.{AreDistinct}
 use Rattle.name_book.specs.declared.spot.Spot.{Spot}
 use Rattle.name_book.specs.Books.{Spots}
 
@@ -20,11 +21,11 @@ put_other old new id spot is q other = get-put old new id spot is q ∙ ap (λ b
 pub get-drop : (old new : Spots) (id : ℕ) → new ≡ finmap.remove old id → (q : ℕ) → finmap.get new q ≡ cond (nat_eq q id) None (finmap.get old q)
 get-drop old new id is q = ap (λ m. finmap.get m q) is ∙ finmap.get-remove nat_cmp_total old id q ∙ ap (λ b. cond b None (finmap.get old q)) (unsigned_tied q id)
 
-module _ (key place : ℕ) (names : List ℕ) (first old new : Spots) (once : AreOnce names) (low : place < length names) (is : new ≡ finmap.insert old (slice_index names place) (record { «record» = key; place = place })) where
+module _ (key place : ℕ) (names : List ℕ) (first old new : Spots) (once : AreDistinct names) (low : place < length names) (is : new ≡ finmap.insert old (slice_index names place) (record { «record» = key; place = place })) where
   pub placed_more : ((p : ℕ) → p < place → finmap.get old (slice_index names p) ≡ Some (record { «record» = key; place = p })) → (p : ℕ) → p < place + 1 → finmap.get new (slice_index names p) ≡ Some (record { «record» = key; place = p })
   placed_more so p below = elim (cases_eq p place) [
     | inl same ↦ subst (λ q. finmap.get new (slice_index names q) ≡ Some (record { «record» = key; place = q })) (sym same) (put_here old new (slice_index names place) (record { «record» = key; place = place }) is)
-    | inr other ↦ put_other old new (slice_index names place) (record { «record» = key; place = place }) is (slice_index names p) (λ e. other (once p place (omega arith) low e)) ∙ so p (omega arith)
+    | inr other ↦ put_other old new (slice_index names place) (record { «record» = key; place = place }) is (slice_index names p) (λ e. other (one_place names p place 0 once (omega arith) low e)) ∙ so p (omega arith)
   ]
 
   here : Contains names (slice_index names place)

@@ -1,13 +1,14 @@
 -- Which states a graph stands for, and the steps of the machine that its calls are.
 use Rattle.std.proofs.Common.{◌≡◌, ℕ, true, sym, refl, ap, subst, ◌∙◌, inl, inr, ◌⊎◌, ◌↔◌, Option, None, Some, is_some}
-use Rattle.std.specs.Prelude.{Contains}
 use Rattle.std.specs.FinMap as finmap
-use Rattle.graphs.specs.Closures.{Node, Closure, is_member, is_ancestor}
+use Rattle.graphs.specs.Closures.{Node, Closure, is_member, is_ancestor, IsOrder, AreLinked}
+use Rattle.graphs.specs.Closing.{IsClosureOf}
+use Rattle.graphs.proofs.ClosingLemmas.{order_from, ancestors_told, connected_linked}
 use Rattle.graphs.specs.declared.names.Level.{Level}
 use Rattle.graphs.specs.declared.names.Level.TheVariants.{Main, Top}
 use Rattle.graph_model.specs.declared.names.Refusal.{Refusal}
 use Rattle.graph_model.specs.declared.names.Refusal.TheVariants.{Memory}
-use Rattle.graphs.specs.Graphs.{IsAncestor}
+use Rattle.graphs.specs.Graphs.{IsAncestor, AreConnected}
 use Rattle.graph_model.specs.States.{State, LevelState, Table, level_of}
 use Rattle.graph_model.specs.Commands.{Command}
 use Rattle.graph_model.specs.Refusals.{RefusalIs}
@@ -24,7 +25,18 @@ pub of_states : (kept : Kept) (P : State → Type 0) → ((table : Table) (main 
 of_states kept P holds state stands =
     let same : state_of kept state.table state.main ≡ state =
     λ i. record { limits = sym stands.limits i; begun = sym stands.begun i; table = state.table; main = state.main; staging = sym stands.staging i } in
-    subst P same (holds state.table state.main (record { limits = refl; begun = refl; table = stands.table; names = stands.names; ancestors = stands.ancestors; valid = stands.valid; staging = refl }))
+    subst P same (holds state.table state.main (record { limits = refl; begun = refl; table = stands.table; closure = stands.closure; among = stands.among; valid = stands.valid; staging = refl }))
+
+module _ (kept : Kept) (state : State) (stands : StandsFor kept state) where
+  pub order_kept : IsOrder (is_member kept.graph) (is_ancestor kept.graph)
+  order_kept = order_from (is_member kept.graph) (is_ancestor kept.graph) state.main.graph stands.closure stands.among
+
+  pub told : (a b : ℕ) → IsAncestor state.main.graph.pairs a b ↔ ((a ≡ b) ⊎ (is_ancestor kept.graph a b ≡ true))
+  told = ancestors_told (is_member kept.graph) (is_ancestor kept.graph) state.main.graph stands.closure order_kept
+
+  -- names are connected by pairs where steps to ancestors and descendants lead from the one to the other
+  pub connected-linked : (a b : ℕ) → AreConnected state.main.graph.pairs a b ↔ AreLinked kept.graph a b
+  connected-linked = connected_linked kept.graph state.main.graph order_kept stands.closure
 
 -- two graphs that differ at most in the count of additions
 pub record IsSameGraph (old new : Kept) : Type 0 where
@@ -43,8 +55,8 @@ stands_still old new same state stands = record {
   limits = stands.limits ∙ sym same.limits;
   begun = stands.begun ∙ sym same.begun;
   table = λ id. stands.table id ∙ ap (λ (g : Closure). entry_of (finmap.get g id)) (sym same.graph);
-  names = λ id. subst (λ (g : Closure). Contains state.main.graph.names id ↔ (is_member g id ≡ true)) (sym same.graph) (stands.names id);
-  ancestors = λ a b. subst (λ (g : Closure). IsAncestor state.main.graph.pairs a b ↔ ((a ≡ b) ⊎ (is_ancestor g a b ≡ true))) (sym same.graph) (stands.ancestors a b);
+  closure = subst (λ (g : Closure). IsClosureOf g state.main.graph) (sym same.graph) stands.closure;
+  among = subst (λ (g : Closure). (a d : ℕ) → is_ancestor g a d ≡ true → (is_member g a ≡ true) × (is_member g d ≡ true)) (sym same.graph) stands.among;
   valid = stands.valid;
   staging = stands.staging;
 }

@@ -21,12 +21,14 @@ use Rattle.graphs.specs.Removals.{IsWithout}
 use Rattle.graph_model.specs.Changes.{added, limited, with_fee, begun, with_graph}
 use Rattle.graph_model.specs.Changes as changes
 use Rattle.graph_model.specs.Replies.{Done, Ids, Number}
-use Rattle.graphs.specs.Laws.{AncestorsWithPair, StaysWithoutCycle, NamesCanGo, StaysGraph, AncestorsWithoutName}
-use Rattle.graphs.proofs.WalkLemmas.{IsAncestor-trans}
+use Rattle.graphs.specs.Closing.{IsClosureOf, with_name, with_pair}
+use Rattle.graphs.proofs.ClosingLemmas.{closes_like, closes_added, pair_above}
+use Rattle.graphs.proofs.RemovalLemmas.{some_without, graph_left}
+use Rattle.dep_graph.proofs.Pairs.{pair_is_added, pairs_are_bridged}
+use Rattle.lists.proofs.Cases.{same_test}
 use Rattle.graphs.proofs.ListLemmas.{Lists-for}
 use Rattle.tx_graph.specs.Kept.{Kept, StandsFor, MakesStep, entry_of, AddsName}
-use Rattle.tx_graph.proofs.Standing.{state_of, steps_accepted, level-main}
-use Rattle.tx_graph.proofs.Links.{connected-linked}
+use Rattle.tx_graph.proofs.Standing.{state_of, steps_accepted, level-main, order_kept, told, connected-linked}
 use Rattle.tx_graph.proofs.Rows.{size-of}
 use Rattle.tx_graph.proofs.Lens.{len-names}
 
@@ -56,13 +58,6 @@ get-put table id q entry = finmap.get-insert nat_cmp_total table id entry q ∙ 
 get-drop : (table : Table) (id q : ℕ) → finmap.get (finmap.remove table id) q ≡ cond (nat_eq q id) None (finmap.get table q)
 get-drop table id q = finmap.get-remove nat_cmp_total table id q ∙ ap (λ b. cond b None (finmap.get table q)) (unsigned_tied q id)
 
-distinct_push_pair : (xs : List (ℕ × ℕ)) (x : ℕ × ℕ) → AreDistinct xs → (Contains xs x → ⊥) → AreDistinct (xs ++ x ∷ [])
-distinct_push_pair [] x once none = (none, tt)
-distinct_push_pair (y ∷ ys) x once none = (
-  λ here. elim (Contains-push_cases ys x y here) [ inl again ↦ once.0 again | inr same ↦ none (subst (Contains (y ∷ ys)) (sym same) (Contains-head y ys)) ],
-  distinct_push_pair ys x once.1 (λ here. none (Contains-later y x ys here)),
-)
-
 -- ---- one more name
 
 module _ (old new : Kept) (id : ℕ) (fee : ℤ) (size : ℕ) (limits : new.limits ≡ old.limits) (begins : new.begun ≡ true) (absent : is_member old.graph id ≡ false) (adds : AddsName old.graph new.graph id (record { fee = fee; size = size })) where
@@ -76,18 +71,6 @@ module _ (old new : Kept) (id : ℕ) (fee : ℤ) (size : ℕ) (limits : new.limi
         ∙ sym (same_entry old.graph new.graph q (adds.members q ∙ ap (λ b. b || is_member old.graph q) (ne_eqb q id other)) (adds.rates q other))
   ]
 
-  names_added : (names : List ℕ) → ((q : ℕ) → Contains names q ↔ (is_member old.graph q ≡ true)) → (q : ℕ) → Contains (names ++ id ∷ []) q ↔ (is_member new.graph q ≡ true)
-  names_added names same q = (
-    λ here. adds.members q ∙ elim (Contains-push_cases names id q here) [
-      | inl was ↦ or_right (nat_eq q id) (is_member old.graph q) ((same q).0 was)
-      | inr is ↦ or_left (nat_eq q id) (is_member old.graph q) (eq-eqb q id (sym is))
-    ],
-    λ member. elim (or_cases (nat_eq q id) (is_member old.graph q) (sym (adds.members q) ∙ member)) [
-      | inl is ↦ subst (Contains (names ++ id ∷ [])) (sym (eqb-true q id is)) (Contains-push names id)
-      | inr was ↦ Contains-append_left names (id ∷ []) q ((same q).1 was)
-    ],
-  )
-
   pub steps_added : ((state : State) → StandsFor old state → RefusalIs state (Add id fee size) None) → MakesStep old new (Add id fee size) Done
   steps_added none = steps_accepted old new (Add id fee size) Done none (λ table main stands. (
     added (state_of old table main) id fee size,
@@ -95,19 +78,18 @@ module _ (old new : Kept) (id : ℕ) (fee : ℤ) (size : ℕ) (limits : new.limi
       limits = sym limits;
       begun = sym begins;
       table = table_added table main stands;
-      names = names_added main.graph.names stands.names;
-      ancestors = λ a b. (
-        λ walk. elim ((stands.ancestors a b).0 walk) [ inl same ↦ inl same | inr up ↦ inr (adds.ancestors a b ∙ or_right (nat_eq a id && nat_eq b id) (is_ancestor old.graph a b) up) ],
-        λ above. (stands.ancestors a b).1 (elim above [
-          | inl same ↦ inl same
-          | inr up ↦ elim (or_cases (nat_eq a id && nat_eq b id) (is_ancestor old.graph a b) (sym (adds.ancestors a b) ∙ up)) [
-            | inl both ↦ let is = and_parts (nat_eq a id) (nat_eq b id) both in inl (eqb-true a id is.0 ∙ sym (eqb-true b id is.1))
-            | inr was ↦ inr was
-          ]
-        ]),
-      );
+      closure = closes_like (λ q. nat_eq q id || is_member old.graph q) (λ a d. (nat_eq a id && nat_eq d id) || is_ancestor old.graph a d) (with_name main.graph id)
+          (closes_added (is_member old.graph) (is_ancestor old.graph) main.graph id stands.closure absent stands.among) (is_member new.graph) (is_ancestor new.graph) adds.members (λ a d here there. adds.ancestors a d);
+      among = λ a d up. elim (or_cases (nat_eq a id && nat_eq d id) (is_ancestor old.graph a d) (sym (adds.ancestors a d) ∙ up)) [
+        | inl both ↦
+            let is = and_parts (nat_eq a id) (nat_eq d id) both in
+            (adds.members a ∙ or_left (nat_eq a id) (is_member old.graph a) is.0, adds.members d ∙ or_left (nat_eq d id) (is_member old.graph d) is.1)
+        | inr was ↦
+            let both = stands.among a d was in
+            (adds.members a ∙ or_right (nat_eq a id) (is_member old.graph a) both.0, adds.members d ∙ or_right (nat_eq d id) (is_member old.graph d) both.1)
+      ];
       valid = record {
-        names = distinct_push main.graph.names id stands.valid.names (λ here. true≢false (sym ((stands.names id).0 here) ∙ absent));
+        names = distinct_push main.graph.names id stands.valid.names (λ here. true≢false (sym ((stands.closure.names id).0 here) ∙ absent));
         pairs = stands.valid.pairs;
         ends = λ parent child pair.
             let ends = stands.valid.ends parent child pair in (Contains-append_left main.graph.names (id ∷ []) parent ends.0, Contains-append_left main.graph.names (id ∷ []) child ends.1);
@@ -138,8 +120,8 @@ module _ (old new : Kept) (id : ℕ) (fee : ℤ) (limits : new.limits ≡ old.li
       limits = sym limits;
       begun = sym begins;
       table = table_paid table main stands;
-      names = λ q. subst (λ b. Contains main.graph.names q ↔ (b ≡ true)) (sym (sets.members q)) (stands.names q);
-      ancestors = λ a b. subst (λ x. IsAncestor main.graph.pairs a b ↔ ((a ≡ b) ⊎ (x ≡ true))) (sym (sets.ancestors a b)) (stands.ancestors a b);
+      closure = closes_like (is_member old.graph) (is_ancestor old.graph) main.graph stands.closure (is_member new.graph) (is_ancestor new.graph) sets.members (λ a d here there. sets.ancestors a d);
+      among = λ a d up. let both = stands.among a d (sym (sets.ancestors a d) ∙ up) in (sets.members a ∙ both.0, sets.members d ∙ both.1);
       valid = stands.valid;
       staging = refl;
     },
@@ -164,82 +146,52 @@ decide_pair (p ∷ ps) a b = elim (cases_eq p.0 a) [
       | inr none ↦ inr (λ here. elim (Contains-cases p (a, b) ps here) [ inl same ↦ other same | inr there ↦ none there ])
     ]
 
-module _ (with_pair : AncestorsWithPair) (no_cycle : StaysWithoutCycle) (old new : Kept) (parent child : ℕ) (limits : new.limits ≡ old.limits) (begins : new.begun ≡ true) (order : IsOrder (is_member old.graph) (is_ancestor old.graph))
+module _ (old new : Kept) (parent child : ℕ) (limits : new.limits ≡ old.limits) (begins : new.begun ≡ true)
     (parent_live : is_member old.graph parent ≡ true) (child_live : is_member old.graph child ≡ true) (no_way : is_ancestor old.graph child parent ≡ false) (pair : AddsPair old.graph new.graph parent child) where
   module _ (table : Table) (main : LevelState) (stands : StandsFor old (state_of old table main)) where
-    not_above : IsAncestor main.graph.pairs child parent → ⊥
-    not_above walk = elim ((stands.ancestors child parent).0 walk) [
-      | inl same ↦ true≢false (sym (order.reflexive parent parent_live) ∙ ap (λ x. is_ancestor old.graph x parent) (sym same) ∙ no_way)
-      | inr up ↦ true≢false (sym up ∙ no_way)
-    ]
-
-    -- an ancestor over one more pair, and in the new graph
-    Through : ℕ → ℕ → Type 0
-    Through a b = IsAncestor main.graph.pairs a b ⊎ (IsAncestor main.graph.pairs a parent × IsAncestor main.graph.pairs child b)
-
-    or_itself : (a b : ℕ) → is_member old.graph b ≡ true → IsAncestor main.graph.pairs a b → is_ancestor old.graph a b ≡ true
-    or_itself a b member walk = elim ((stands.ancestors a b).0 walk) [ inl same ↦ subst (λ x. is_ancestor old.graph x b ≡ true) (sym same) (order.reflexive b member) | inr up ↦ up ]
-
-    or_itself' : (a b : ℕ) → is_member old.graph a ≡ true → IsAncestor main.graph.pairs a b → is_ancestor old.graph a b ≡ true
-    or_itself' a b member walk = elim ((stands.ancestors a b).0 walk) [ inl same ↦ subst (λ x. is_ancestor old.graph a x ≡ true) same (order.reflexive a member) | inr up ↦ up ]
-
-    through_new : (a b : ℕ) → Through a b → (a ≡ b) ⊎ (is_ancestor new.graph a b ≡ true)
-    unfolding Through
-    through_new a b through = elim through [
-      | inl walk ↦ elim ((stands.ancestors a b).0 walk) [ inl same ↦ inl same | inr up ↦ inr (pair.ancestors a b ∙ or_left (is_ancestor old.graph a b) (is_ancestor old.graph a parent && is_ancestor old.graph child b) up) ]
-      | inr both ↦
-          inr (pair.ancestors a b ∙ or_right (is_ancestor old.graph a b) (is_ancestor old.graph a parent && is_ancestor old.graph child b)
-          (and_from (is_ancestor old.graph a parent) (is_ancestor old.graph child b) (or_itself a parent parent_live both.0) (or_itself' child b child_live both.1)))
-    ]
-
-    new_through : (a b : ℕ) → (a ≡ b) ⊎ (is_ancestor new.graph a b ≡ true) → Through a b
-    unfolding Through
-    new_through a b above = elim above [
-      | inl same ↦ inl (0, same)
-      | inr up ↦ elim (or_cases (is_ancestor old.graph a b) (is_ancestor old.graph a parent && is_ancestor old.graph child b) (sym (pair.ancestors a b) ∙ up)) [
-        | inl was ↦ inl ((stands.ancestors a b).1 (inr was))
-        | inr across ↦
-            let both = and_parts (is_ancestor old.graph a parent) (is_ancestor old.graph child b) across in inr ((stands.ancestors a parent).1 (inr both.0), (stands.ancestors child b).1 (inr both.1))
-      ]
-    ]
-
-    -- a pair that is there already makes no new ancestor
-    through_there : (a b : ℕ) → Contains main.graph.pairs (parent, child) → Through a b → IsAncestor main.graph.pairs a b
-    unfolding Through
-    through_there a b here through = elim through [
-      | inl walk ↦ walk
-      | inr both ↦
-          let first : IsAncestor main.graph.pairs a child = (suc both.0.0, (parent, both.0.1, here)) in
-          IsAncestor-trans main.graph.pairs a child b first both.1
-    ]
-
     same_table : (q : ℕ) → finmap.get table q ≡ entry_of (finmap.get new.graph q)
     same_table q = stands.table q ∙ sym (same_entry old.graph new.graph q (pair.members q) (pair.rates q))
 
-    same_names : (q : ℕ) → Contains main.graph.names q ↔ (is_member new.graph q ≡ true)
-    same_names q = subst (λ b. Contains main.graph.names q ↔ (b ≡ true)) (sym (pair.members q)) (stands.names q)
+    among_paired : (a d : ℕ) → is_ancestor new.graph a d ≡ true → (is_member new.graph a ≡ true) × (is_member new.graph d ≡ true)
+    among_paired a d up =
+        let both : (is_member old.graph a ≡ true) × (is_member old.graph d ≡ true) = elim (or_cases (is_ancestor old.graph a d) (is_ancestor old.graph a parent && is_ancestor old.graph child d) (sym (pair.ancestors a d) ∙ up)) [
+          | inl was ↦ stands.among a d was
+          | inr across ↦ let parts = and_parts (is_ancestor old.graph a parent) (is_ancestor old.graph child d) across in ((stands.among a parent parts.0).0, (stands.among child d parts.1).1)
+        ] in
+        (pair.members a ∙ both.0, pair.members d ∙ both.1)
 
-    valid_paired : (Contains main.graph.pairs (parent, child) → ⊥) → IsGraph (record { names = main.graph.names; pairs = main.graph.pairs ++ (parent, child) ∷ [] })
+    -- a pair that is there already makes no new ancestor
+    same_above : Contains main.graph.pairs (parent, child) → (a d : ℕ) → is_ancestor new.graph a d ≡ is_ancestor old.graph a d
+    same_above here a d = pair.ancestors a d ∙ same_test (is_ancestor old.graph a d || (is_ancestor old.graph a parent && is_ancestor old.graph child d)) (is_ancestor old.graph a d)
+        (λ e. elim (or_cases (is_ancestor old.graph a d) (is_ancestor old.graph a parent && is_ancestor old.graph child d) e) [
+          | inl was ↦ was
+          | inr across ↦
+              let parts = and_parts (is_ancestor old.graph a parent) (is_ancestor old.graph child d) across in
+              let order = order_kept old (state_of old table main) stands in
+              order.transitive a child d (order.transitive a parent child parts.0 (pair_above (is_member old.graph) (is_ancestor old.graph) main.graph stands.closure parent child here)) parts.1
+        ])
+        (or_left (is_ancestor old.graph a d) (is_ancestor old.graph a parent && is_ancestor old.graph child d))
+
+    paired : IsClosureOf new.graph (with_pair main.graph parent child)
+    paired = pair_is_added parent child old.graph new.graph main.graph stands.closure parent_live child_live no_way pair
+
+    valid_paired : (Contains main.graph.pairs (parent, child) → ⊥) → IsGraph (with_pair main.graph parent child)
     valid_paired none = record {
       names = stands.valid.names;
-      pairs = distinct_push_pair main.graph.pairs (parent, child) stands.valid.pairs none;
-      ends = λ a b here. elim (Contains-push_cases main.graph.pairs (parent, child) (a, b) here) [
-        | inl was ↦ stands.valid.ends a b was
-        | inr is ↦ (subst (Contains main.graph.names) (ap (λ (q : ℕ × ℕ). q.0) is) ((stands.names parent).1 parent_live), subst (Contains main.graph.names) (ap (λ (q : ℕ × ℕ). q.1) is) ((stands.names child).1 child_live))
-      ];
-      acyclic = (no_cycle main.graph.pairs parent child stands.valid.acyclic).1 not_above;
+      pairs = distinct_push main.graph.pairs (parent, child) stands.valid.pairs none;
+      ends = λ a b here. let both = paired.ends a b here in ((paired.names a).1 both.0, (paired.names b).1 both.1);
+      acyclic = paired.acyclic;
     }
 
     there_next : Contains main.graph.pairs (parent, child) → (next : State) × StandsFor new next × changes.AddsPair (state_of old table main) parent child next
-    unfolding Through
     there_next here = (
       begun (state_of old table main),
       record {
         limits = sym limits;
         begun = sym begins;
         table = same_table;
-        names = same_names;
-        ancestors = λ a b. (λ walk. through_new a b (inl walk), λ above. through_there a b here (new_through a b above));
+        closure = closes_like (is_member old.graph) (is_ancestor old.graph) main.graph stands.closure (is_member new.graph) (is_ancestor new.graph) pair.members (λ a d _ _. same_above here a d);
+        among = among_paired;
         valid = stands.valid;
         staging = refl;
       },
@@ -247,15 +199,14 @@ module _ (with_pair : AncestorsWithPair) (no_cycle : StaysWithoutCycle) (old new
     )
 
     new_next : (Contains main.graph.pairs (parent, child) → ⊥) → (next : State) × StandsFor new next × changes.AddsPair (state_of old table main) parent child next
-    unfolding Through
     new_next none = (
-      with_graph (begun (state_of old table main)) (record { names = main.graph.names; pairs = main.graph.pairs ++ (parent, child) ∷ [] }),
+      with_graph (begun (state_of old table main)) (with_pair main.graph parent child),
       record {
         limits = sym limits;
         begun = sym begins;
         table = same_table;
-        names = same_names;
-        ancestors = λ a b. let law = with_pair main.graph.pairs parent child a b in (λ walk. through_new a b (law.0 walk), λ above. law.1 (new_through a b above));
+        closure = paired;
+        among = among_paired;
         valid = valid_paired none;
         staging = refl;
       },
@@ -271,8 +222,7 @@ module _ (with_pair : AncestorsWithPair) (no_cycle : StaysWithoutCycle) (old new
 
 -- ---- a name is dropped
 
-module _ (can_go : NamesCanGo) (stays_graph : StaysGraph) (ancestors_without : AncestorsWithoutName) (old new : Kept) (id : ℕ) (limits : new.limits ≡ old.limits) (begins : new.begun ≡ true) (order : IsOrder (is_member old.graph) (is_ancestor old.graph))
-    (drops : DropsPlace old.graph new.graph id) where
+module _ (old new : Kept) (id : ℕ) (limits : new.limits ≡ old.limits) (begins : new.begun ≡ true) (drops : DropsPlace old.graph new.graph id) where
   table_dropped : (table : Table) (main : LevelState) → StandsFor old (state_of old table main) → (q : ℕ) → finmap.get (finmap.remove table id) q ≡ entry_of (finmap.get new.graph q)
   table_dropped table main stands q = get-drop table id q ∙ elim (cases_eq q id) [
     | inl same ↦
@@ -283,46 +233,22 @@ module _ (can_go : NamesCanGo) (stays_graph : StaysGraph) (ancestors_without : A
         ∙ sym (same_entry old.graph new.graph q (drops.members q ∙ ap (λ b. not b && is_member old.graph q) (ne_eqb q id other)) (drops.rates q other))
   ]
 
-  -- an ancestor in the new graph
-  above_now : (a b : ℕ) → a ≢ id → b ≢ id → is_ancestor old.graph a b ≡ true → is_ancestor new.graph a b ≡ true
-  above_now a b one two up =
-      drops.ancestors a b ∙ and_from (not (nat_eq a id)) (not (nat_eq b id) && is_ancestor old.graph a b) (ap not (ne_eqb a id one)) (and_from (not (nat_eq b id)) (is_ancestor old.graph a b) (ap not (ne_eqb b id two)) up)
-
-  above_was : (a b : ℕ) → is_ancestor new.graph a b ≡ true → (a ≢ id) × (b ≢ id) × (is_ancestor old.graph a b ≡ true)
-  above_was a b up =
-      let one = and_parts (not (nat_eq a id)) (not (nat_eq b id) && is_ancestor old.graph a b) (sym (drops.ancestors a b) ∙ up) in
-      let two = and_parts (not (nat_eq b id)) (is_ancestor old.graph a b) one.1 in
-      (λ same. true≢false (sym one.0 ∙ ap not (eq-eqb a id same)), λ same. true≢false (sym two.0 ∙ ap not (eq-eqb b id same)), two.1)
-
   pub steps_removed : ((state : State) → StandsFor old state → RefusalIs state (Remove id) None) → MakesStep old new (Remove id) Done
   steps_removed none = steps_accepted old new (Remove id) Done none (λ table main stands.
-      let rest = can_go main.graph id stands.valid in
+      let rest = some_without main.graph id stands.valid in
       let gone : Contains rest.0.names id → ⊥ = λ here. ((rest.1.names id).0 here).1 refl in (
         record (with_graph (begun (state_of old table main)) rest.0) { table = finmap.remove table id },
         record {
           limits = sym limits;
           begun = sym begins;
           table = table_dropped table main stands;
-          names = λ q. (
-            λ here.
-                let was = (rest.1.names q).0 here in
-                drops.members q ∙ and_from (not (nat_eq q id)) (is_member old.graph q) (ap not (ne_eqb q id was.1)) ((stands.names q).0 was.0),
-            λ member.
-                let both = and_parts (not (nat_eq q id)) (is_member old.graph q) (sym (drops.members q) ∙ member) in
-                (rest.1.names q).1 ((stands.names q).1 both.1, λ same. true≢false (sym both.0 ∙ ap not (eq-eqb q id same))),
-          );
-          ancestors = λ a b.
-              let law = ancestors_without main.graph rest.0 id rest.1 a b in (
-                λ walk. elim (law.0 walk) [
-                  | inl same ↦ inl same
-                  | inr was ↦ elim ((stands.ancestors a b).0 was.2) [ inl same ↦ inl same | inr up ↦ inr (above_now a b was.0 was.1 up) ]
-                ],
-                λ above. law.1 (elim above [
-                  | inl same ↦ inl same
-                  | inr up ↦ let was = above_was a b up in inr (was.0, was.1, (stands.ancestors a b).1 (inr was.2))
-                ]),
-              );
-          valid = stays_graph main.graph rest.0 id rest.1 stands.valid;
+          closure = pairs_are_bridged id old.graph new.graph main.graph rest.0 stands.closure rest.1 drops;
+          among = λ a d up.
+              let one = and_parts (not (nat_eq a id)) (not (nat_eq d id) && is_ancestor old.graph a d) (sym (drops.ancestors a d) ∙ up) in
+              let two = and_parts (not (nat_eq d id)) (is_ancestor old.graph a d) one.1 in
+              let both = stands.among a d two.1 in
+              (drops.members a ∙ and_from (not (nat_eq a id)) (is_member old.graph a) one.0 both.0, drops.members d ∙ and_from (not (nat_eq d id)) (is_member old.graph d) two.0 both.1);
+          valid = graph_left main.graph rest.0 id rest.1 stands.valid;
           staging = refl;
         },
         (refl, (rest.0, rest.1, inr ((λ kept. elim kept [ inl one ↦ gone one | inr two ↦ gone two ]), refl))),
@@ -337,8 +263,8 @@ steps_limited old new set limits begins graph none = steps_accepted old new (Set
     limits = sym limits;
     begun = sym begins;
     table = λ q. stands.table q ∙ ap (λ (g : Closure). entry_of (finmap.get g q)) (sym graph);
-    names = λ q. subst (λ (g : Closure). Contains main.graph.names q ↔ (is_member g q ≡ true)) (sym graph) (stands.names q);
-    ancestors = λ a b. subst (λ (g : Closure). IsAncestor main.graph.pairs a b ↔ ((a ≡ b) ⊎ (is_ancestor g a b ≡ true))) (sym graph) (stands.ancestors a b);
+    closure = subst (λ (g : Closure). IsClosureOf g main.graph) (sym graph) stands.closure;
+    among = subst (λ (g : Closure). (a d : ℕ) → is_ancestor g a d ≡ true → (is_member g a ≡ true) × (is_member g d ≡ true)) (sym graph) stands.among;
     valid = stands.valid;
     staging = refl;
   },
@@ -355,7 +281,7 @@ steps_counted kept level n long = steps_accepted kept kept (Count level) (Number
 ))
 
 pub len-live : (kept : Kept) (state : State) {X : Type 0} (m : finmap.FinMap nat_cmp X) → StandsFor kept state → ((q : ℕ) → finmap.contains_key m q ≡ is_member kept.graph q) → finmap.len m ≡ length state.main.graph.names
-len-live kept state m stands same = sym (len-names state.main.graph.names m stands.valid.names (λ q. subst (λ b. Contains state.main.graph.names q ↔ (b ≡ true)) (sym (same q)) (stands.names q)))
+len-live kept state m stands same = sym (len-names state.main.graph.names m stands.valid.names (λ q. subst (λ b. Contains state.main.graph.names q ↔ (b ≡ true)) (sym (same q)) (stands.closure.names q)))
 
 module _ (kept : Kept) (level : Level) (id : ℕ) (ids : List ℕ) (order : IsOrder (is_member kept.graph) (is_ancestor kept.graph)) (live : is_member kept.graph id ≡ true) where
   pub steps_clustered : ((state : State) → StandsFor kept state → RefusalIs state (Cluster id level) None) → Lists (λ q. AreLinked kept.graph id q) ids → MakesStep kept kept (Cluster id level) (Ids ids)
@@ -379,8 +305,8 @@ module _ (kept : Kept) (level : Level) (id : ℕ) (ids : List ℕ) (order : IsOr
       refl,
       ids,
       subst (λ (l : LevelState). Lists (λ a. IsAncestor l.graph.pairs a id) ids) (sym (level-main kept table main level))
-          (Lists-for (λ q. is_ancestor kept.graph q id ≡ true) (λ a. IsAncestor main.graph.pairs a id) ids (λ q up. (stands.ancestors q id).1 (inr up))
-          (λ q walk. elim ((stands.ancestors q id).0 walk) [ inl same ↦ subst (λ x. is_ancestor kept.graph x id ≡ true) (sym same) (order.reflexive id live) | inr up ↦ up ]) lists),
+          (Lists-for (λ q. is_ancestor kept.graph q id ≡ true) (λ a. IsAncestor main.graph.pairs a id) ids (λ q up. (told kept (state_of kept table main) stands q id).1 (inr up))
+          (λ q walk. elim ((told kept (state_of kept table main) stands q id).0 walk) [ inl same ↦ subst (λ x. is_ancestor kept.graph x id ≡ true) (sym same) (order.reflexive id live) | inr up ↦ up ]) lists),
       refl,
     ),
   ))
@@ -393,8 +319,8 @@ module _ (kept : Kept) (level : Level) (id : ℕ) (ids : List ℕ) (order : IsOr
       refl,
       ids,
       subst (λ (l : LevelState). Lists (λ d. IsAncestor l.graph.pairs id d) ids) (sym (level-main kept table main level))
-          (Lists-for (λ q. is_ancestor kept.graph id q ≡ true) (λ d. IsAncestor main.graph.pairs id d) ids (λ q up. (stands.ancestors id q).1 (inr up))
-          (λ q walk. elim ((stands.ancestors id q).0 walk) [ inl same ↦ subst (λ x. is_ancestor kept.graph id x ≡ true) same (order.reflexive id live) | inr up ↦ up ]) lists),
+          (Lists-for (λ q. is_ancestor kept.graph id q ≡ true) (λ d. IsAncestor main.graph.pairs id d) ids (λ q up. (told kept (state_of kept table main) stands id q).1 (inr up))
+          (λ q walk. elim ((told kept (state_of kept table main) stands id q).0 walk) [ inl same ↦ subst (λ x. is_ancestor kept.graph id x ≡ true) same (order.reflexive id live) | inr up ↦ up ]) lists),
       refl,
     ),
   ))

@@ -5,7 +5,8 @@ use Rattle.std.specs.FinMap as finmap
 use Rattle.graphs.specs.Closures.{Node, Closure, closure_code, is_member, is_ancestor, rate_of}
 use Rattle.fee_rate.specs.declared.rates.FeeRate.{FeeRate}
 use Rattle.graph_model.specs.declared.names.Limits.{Limits}
-use Rattle.graphs.specs.Graphs.{IsAncestor, IsGraph}
+use Rattle.graphs.specs.Graphs.{IsGraph}
+use Rattle.graphs.specs.Closing.{IsClosureOf}
 use Rattle.graph_model.specs.States.{State, Entry}
 use Rattle.graph_model.specs.Commands.{Command}
 use Rattle.graph_model.specs.Replies.{Reply}
@@ -30,15 +31,14 @@ abbrev pub entry_of : Option Node → Option Entry
 entry_of None = None
 entry_of (Some node) = Some (record { fee = node.rate.fee; size = node.rate.size })
 
--- A graph stands for each state with its limits, its names with their fees and sizes, and pairs along which a name's
--- ancestors are those that the graph keeps. Such states differ in pairs that other pairs imply, and in the order in
--- which they list names and pairs.
+-- A graph stands for each state with its limits, its names with their fees and sizes, and a graph whose closure it keeps.
+-- Such states differ in pairs that other pairs imply, and in the order in which they list names and pairs.
 pub record StandsFor (kept : Kept) (state : State) : Type 0 where
   pub limits : state.limits ≡ kept.limits
   pub begun : state.begun ≡ kept.begun
   pub table : (id : ℕ) → finmap.get state.table id ≡ entry_of (finmap.get kept.graph id)
-  pub names : (id : ℕ) → Contains state.main.graph.names id ↔ (is_member kept.graph id ≡ true)
-  pub ancestors : (a b : ℕ) → IsAncestor state.main.graph.pairs a b ↔ ((a ≡ b) ⊎ (is_ancestor kept.graph a b ≡ true))
+  pub closure : IsClosureOf kept.graph state.main.graph
+  pub among : (a d : ℕ) → is_ancestor kept.graph a d ≡ true → (is_member kept.graph a ≡ true) × (is_member kept.graph d ≡ true)
   pub valid : IsGraph state.main.graph
   pub staging : state.staging ≡ None
 

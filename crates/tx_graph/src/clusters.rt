@@ -1,8 +1,9 @@
 ghost use Rattle.std.specs.Prelude.{sum_by, MatchResult, is_some, ◌↔◌, ◌≡◌, ◌≢◌, ℕ, ◌+◌, ◌-◌, ◌*◌, ◌^◌, ◌<◌, ◌≤◌, [], false, None, Some, length, Contains, IsSome, IfOk, OnOk, OnErr};
 ghost use Rattle.std.specs.FinMap as finmap;
+ghost use Rattle.lists.specs.Distinct.{AreDistinct};
 ghost use Rattle.graphs.specs.Closures.{is_member, rate_of, is_ancestor, AddsPair, SetsFee, DropsPlace};
 ghost use Rattle.slab.specs.Slab.{get, HasRoomFor, slab_len};
-ghost use Rattle.cluster_record.specs.Clusters.{Cluster, AreOnce};
+ghost use Rattle.cluster_record.specs.Clusters.{Cluster};
 ghost use Rattle.tx_graph.specs.Kept.{AddsName};
 ghost use Rattle.tx_graph.specs.Shelves.{graph_of, cluster_at, IsIndexed, IsInOrder};
 ghost use Rattle.tx_graph.specs.Joins.{DepRefusalIs, SumRefusalIs};
@@ -290,7 +291,7 @@ fn take_out<const W: usize>(records: &mut Slab<Record<W>>, key: usize)
 
 // Puts the names of a cluster at its number, each at its place.
 fn settle(book: &mut NameBook, key: usize, names: &[TxId])
-    requires once { AreOnce names.now }
+    requires once { AreDistinct names.now }
     requires live { (id : ℕ) → Contains names.now id → IsSome (finmap.get book.old.spots id) }
     ensures settled { Settles key names.now book.old.spots book.new.spots }
     ensures issued { book.new.issued ≡ book.old.issued }
@@ -303,7 +304,7 @@ fn settle(book: &mut NameBook, key: usize, names: &[TxId])
 // Puts a cluster under a number, and its names there.
 fn store<const W: usize>(records: &mut Slab<Record<W>>, book: &mut NameBook, cluster: Record<W>)
     requires room { HasRoomFor records.old 1 }
-    requires once { AreOnce cluster.names }
+    requires once { AreDistinct cluster.names }
     requires live { (id : ℕ) → Contains cluster.names id → IsSome (finmap.get book.old.spots id) }
     ensures stored { Stores cluster.entry book.old.spots book.new.spots records.old.slots records.new.slots }
     ensures issued { book.new.issued ≡ book.old.issued }

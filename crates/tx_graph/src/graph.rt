@@ -11,10 +11,7 @@ ghost use Rattle.tx_graph.specs.Joins.{AddRefusalIs};
 
 use crate::clusters::Clusters;
 use fee_rate::FeeRate;
-use graph_model::{
-    IdBuf, Level, Limits, Refusal, TxId, ancestors_with_pair, ancestors_without_name, is_fee,
-    is_size, names_can_go, stays_graph, stays_without_cycle,
-};
+use graph_model::{IdBuf, Level, Limits, Refusal, TxId, is_fee, is_size};
 use outside::NoMemory;
 use std::alloc::Global;
 use std::marker::Model;
@@ -172,9 +169,6 @@ impl<const W: usize> TxGraph<W> {
             return Err(Refusal::Memory);
         }
         self.begun = true;
-        // One more pair adds the ancestors of its parent, and makes no cycle here.
-        ancestors_with_pair();
-        stays_without_cycle();
         Ok(())
     }
 
@@ -221,10 +215,6 @@ impl<const W: usize> TxGraph<W> {
             return Err(Refusal::Memory);
         }
         self.begun = true;
-        // What is left without the name is a graph, and the others keep the ancestors among them.
-        names_can_go();
-        stays_graph();
-        ancestors_without_name();
         Ok(())
     }
 

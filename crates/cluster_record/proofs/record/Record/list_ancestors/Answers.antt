@@ -1,8 +1,9 @@
 use Rattle.std.proofs.Common.{◌≡◌, ℕ, true, ◌*◌, ◌<◌, ◌≤◌, ◌+◌, List, length, arith, rules, sym, ap, subst, slice_index}
+use Rattle.lists.specs.Distinct.{AreDistinct}
 use Rattle.graphs.specs.Closures.{is_ancestor}
 use Rattle.bitset.specs.Places.{IsWithin}
 use Rattle.graphs.specs.Graphs.{Lists}
-use Rattle.cluster_record.specs.Clusters.{Cluster, AreOnce}
+use Rattle.cluster_record.specs.Clusters.{Cluster}
 use Rattle.cluster_record.specs.Changes.{IsChosen}
 use Rattle.cluster_record.proofs.Listings.{above_within, above_listed}
 use Rattle.cluster_record.proofs.record.Record.list_ancestors.Goals as goal
@@ -16,7 +17,7 @@ list_chosen-requires g c =
       search rules,
       (
         subst (λ (xs : List ℕ). IsWithin (length xs) c.ancestors.result) (sym c.as_slice.ensures) within,
-        (subst AreOnce (sym c.as_slice.ensures) c.self.invariant.once, omega arith),
+        (subst AreDistinct (sym c.as_slice.ensures) c.self.invariant.once, omega arith),
       ),
     )
 

@@ -1,7 +1,8 @@
 use Rattle.std.proofs.Common.{◌≡◌, ℕ, ◌*◌, ◌≤◌, ◌+◌, List, length, arith, rules, ◌∙◌, sym, ap, subst, Contains}
+use Rattle.lists.specs.Distinct.{AreDistinct}
 use Rattle.bitset.specs.Places.{first_places, IsWithin}
 use Rattle.graphs.specs.Graphs.{Lists}
-use Rattle.cluster_record.specs.Clusters.{Cluster, AreOnce}
+use Rattle.cluster_record.specs.Clusters.{Cluster}
 use Rattle.cluster_record.specs.Changes.{IsChosen}
 use Rattle.cluster_record.proofs.Listings.{all_within, all_listed}
 use Rattle.cluster_record.proofs.record.Record.list_names.Goals as goal
@@ -15,7 +16,7 @@ list_chosen-requires g c =
       search rules,
       (
         subst (λ (xs : List ℕ). IsWithin (length xs) c.first_n-all.result) (sym c.as_slice.ensures) within,
-        (subst AreOnce (sym c.as_slice.ensures) c.self.invariant.once, omega arith),
+        (subst AreDistinct (sym c.as_slice.ensures) c.self.invariant.once, omega arith),
       ),
     )
 

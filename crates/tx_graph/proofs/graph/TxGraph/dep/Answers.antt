@@ -63,13 +63,13 @@ pub invariant_of-self-2 : goal.invariant_of-self-2
 invariant_of-self-2 g c =
     sound_after g.row.W c.self.inside.clusters.issued c.connect.new.self.issued (kept_of c.self.inside.limits c.self.inside.begun c.self.inside.additions c.self.inside.clusters) (kept_of c.self.inside.limits true c.self.inside.additions c.connect.new.self) (Dep c.args.parent c.args.child) Done
     c.self.invariant c.self.invariant.in_range (c.connect.ensures.issued ∙ c.self.invariant.counted)
-    (dep_step c.self.inside.limits c.self.inside.begun c.self.inside.additions c.self.inside.clusters c.connect.new.self (64 * g.row.W) c.refused_dep.ensures.order.indexed c.ancestors_with_pair.ensures c.stays_without_cycle.ensures c.args.parent c.args.child
+    (dep_step c.self.inside.limits c.self.inside.begun c.self.inside.additions c.self.inside.clusters c.connect.new.self (64 * g.row.W) c.refused_dep.ensures.order.indexed c.args.parent c.args.child
     (member-spot c.self.inside.clusters c.args.parent ∙ ap is_some c.in_ok-above.ensures.parent) (member-spot c.self.inside.clusters c.args.child ∙ ap is_some c.in_ok-above.ensures.child) c.in_ok-above.ensures.no_cycle c.in_ok-above.ensures.row
     (when_ok c.connect.result (sym c.is_err.ensures.value ∙ c.if-is_err.false) c.connect.ensures.graph c.args.parent c.args.child c.in_ok-above.ensures.parent c.in_ok-above.ensures.child))
 
 pub returns-clause-step : goal.returns-clause-step
 returns-clause-step g c =
     from_view (kept_of c.self.inside.limits c.self.inside.begun c.self.inside.additions c.self.inside.clusters) c.args.self.now (kept_of c.self.inside.limits true c.self.inside.additions c.connect.new.self) (Dep c.args.parent c.args.child) Done c.self.view_is
-    (dep_step c.self.inside.limits c.self.inside.begun c.self.inside.additions c.self.inside.clusters c.connect.new.self (64 * g.row.W) c.refused_dep.ensures.order.indexed c.ancestors_with_pair.ensures c.stays_without_cycle.ensures c.args.parent c.args.child
+    (dep_step c.self.inside.limits c.self.inside.begun c.self.inside.additions c.self.inside.clusters c.connect.new.self (64 * g.row.W) c.refused_dep.ensures.order.indexed c.args.parent c.args.child
     (member-spot c.self.inside.clusters c.args.parent ∙ ap is_some c.in_ok-above.ensures.parent) (member-spot c.self.inside.clusters c.args.child ∙ ap is_some c.in_ok-above.ensures.child) c.in_ok-above.ensures.no_cycle c.in_ok-above.ensures.row
     (when_ok c.connect.result (sym c.is_err.ensures.value ∙ c.if-is_err.false) c.connect.ensures.graph c.args.parent c.args.child c.in_ok-above.ensures.parent c.in_ok-above.ensures.child))

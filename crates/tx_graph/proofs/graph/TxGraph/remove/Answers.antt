@@ -35,13 +35,11 @@ pub invariant_of-self-2 : goal.invariant_of-self-2
 invariant_of-self-2 g c =
     sound_after g.row.W c.self.inside.clusters.issued c.remove.new.self.issued (kept_of c.self.inside.limits c.self.inside.begun c.self.inside.additions c.self.inside.clusters) (kept_of c.self.inside.limits true c.self.inside.additions c.remove.new.self) (Remove c.args.id) Done
     c.self.invariant c.self.invariant.in_range (c.remove.ensures.issued ∙ c.self.invariant.counted)
-    (remove_step c.self.inside.limits c.self.inside.begun c.self.inside.additions c.self.inside.clusters c.remove.new.self (64 * g.row.W) c.spot.ensures.order.indexed
-    c.names_can_go.ensures c.stays_graph.ensures c.ancestors_without_name.ensures c.args.id (sym c.spot.ensures.live ∙ ap is_some c.in-Some.is)
+    (remove_step c.self.inside.limits c.self.inside.begun c.self.inside.additions c.self.inside.clusters c.remove.new.self c.args.id (sym c.spot.ensures.live ∙ ap is_some c.in-Some.is)
     (when_ok c.remove.result (sym c.is_err.ensures.value ∙ c.if-is_err.false) c.remove.ensures.graph))
 
 pub returns-clause-step : goal.returns-clause-step
 returns-clause-step g c =
     from_view (kept_of c.self.inside.limits c.self.inside.begun c.self.inside.additions c.self.inside.clusters) c.args.self.now (kept_of c.self.inside.limits true c.self.inside.additions c.remove.new.self) (Remove c.args.id) Done c.self.view_is
-    (remove_step c.self.inside.limits c.self.inside.begun c.self.inside.additions c.self.inside.clusters c.remove.new.self (64 * g.row.W) c.spot.ensures.order.indexed
-    c.names_can_go.ensures c.stays_graph.ensures c.ancestors_without_name.ensures c.args.id (sym c.spot.ensures.live ∙ ap is_some c.in-Some.is)
+    (remove_step c.self.inside.limits c.self.inside.begun c.self.inside.additions c.self.inside.clusters c.remove.new.self c.args.id (sym c.spot.ensures.live ∙ ap is_some c.in-Some.is)
     (when_ok c.remove.result (sym c.is_err.ensures.value ∙ c.if-is_err.false) c.remove.ensures.graph))
