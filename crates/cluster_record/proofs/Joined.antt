@@ -8,6 +8,7 @@ use Rattle.std.specs.FinSet as set
 use Rattle.lists.proofs.Cases.{or_false}
 use Rattle.lists.proofs.Distinct.{distinct_joined}
 use Rattle.lists.specs.Distinct.{AreDistinct}
+use Rattle.fee_rate.specs.declared.limits.TheConstants.{MAX_SIZE}
 use Rattle.graphs.specs.Closures.{Closure, is_member, is_ancestor, rate_of, members_of, IsClosed, IsMerged, AddsPair, IsRelated}
 use Rattle.lists.proofs.Walks.{Walk-trans, Walk-back, Walk-push, Walk-map}
 use Rattle.lists.specs.Walks.{Walk}
@@ -151,9 +152,9 @@ module _ (n : ℕ) (xs ys : List ℕ) (f g h : Closure) (one : IsNamed n xs f) (
         Walk-push (IsRelated h') (length xs + j) (length xs + child) parent
         (Walk-map (λ k. length xs + k) (IsRelated g) (IsRelated h') second_related j child (two.whole j child inside below)) (turn parent (length xs + child) joined_up)
 
-    small_at : (p : ℕ) → Side p → (rate_of h' p).size ≤ 4000000
-    small_at p (Left i inside) = subst (λ (r : FeeRate). r.size ≤ 4000000) (sym (first_rate i inside)) (one.small i inside)
-    small_at p (Right j inside) = subst (λ (r : FeeRate). r.size ≤ 4000000) (sym (second_rate j inside)) (two.small j inside)
+    small_at : (p : ℕ) → Side p → (rate_of h' p).size ≤ MAX_SIZE
+    small_at p (Left i inside) = subst (λ (r : FeeRate). r.size ≤ MAX_SIZE) (sym (first_rate i inside)) (one.small i inside)
+    small_at p (Right j inside) = subst (λ (r : FeeRate). r.size ≤ MAX_SIZE) (sym (second_rate j inside)) (two.small j inside)
 
     pub IsNamed-joined : IsClosed n h' → IsNamed n (xs ++ ys) h'
     IsNamed-joined closed = record {

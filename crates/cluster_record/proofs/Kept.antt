@@ -5,6 +5,7 @@ use Rattle.std.specs.FinMap as map
 use Rattle.lists.proofs.Walks.{Walk-map}
 use Rattle.lists.proofs.Distinct.{one_place}
 use Rattle.lists.specs.Distinct.{AreDistinct}
+use Rattle.fee_rate.specs.declared.limits.TheConstants.{MAX_SIZE}
 use Rattle.graphs.specs.Closures.{Node, Closure, is_member, is_ancestor, rate_of, rate_in, no_rate, IsOrder, IsClosed, AddsPair, SetsFee, IsRelated, AreLinked}
 use Rattle.lists.proofs.Cases.{same_test}
 use Rattle.lists.specs.Walks.{Walk}
@@ -74,7 +75,7 @@ module _ (n : ℕ) (names : List ℕ) (g : Closure) (kept : IsNamed n names g) w
     order = order_named;
     whole = λ a b first second. linked_named a b (member-stands names g kept.once a first) (member-stands names g kept.once b second);
     small = λ id member. let at = member-stands names g kept.once id member in
-        subst (λ x. (rate_of (named names g) x).size ≤ 4000000) at.2 (subst (λ (rate : FeeRate). rate.size ≤ 4000000) (sym (named-rate names g kept.once at.0 at.1)) (kept.small at.0 at.1));
+        subst (λ x. (rate_of (named names g) x).size ≤ MAX_SIZE) at.2 (subst (λ (rate : FeeRate). rate.size ≤ MAX_SIZE) (sym (named-rate names g kept.once at.0 at.1)) (kept.small at.0 at.1));
   }
 
 -- ---- changes
@@ -153,7 +154,7 @@ module _ (n : ℕ) (names : List ℕ) (g g' : Closure) (kept : IsNamed n names g
     members = λ p. members p ∙ kept.members p;
     order = closed.order;
     whole = λ p q low below. Walk-map (λ p. p) (IsRelated g) (IsRelated g') (more_related more) p q (kept.whole p q low below);
-    small = λ p low. subst (λ s. s ≤ 4000000) (sym (sizes p)) (kept.small p low);
+    small = λ p low. subst (λ s. s ≤ MAX_SIZE) (sym (sizes p)) (kept.small p low);
   }
 
   pub IsNamed-pair : (p q : ℕ) → AddsPair g g' p q → IsNamed n names g'

@@ -8,6 +8,7 @@ use Rattle.std.specs.Cmp.{nat_cmp_total}
 use Rattle.std.specs.FinSet as set
 use Rattle.std.specs.FinMap as map
 use Rattle.lists.proofs.Distinct.{one_place}
+use Rattle.fee_rate.specs.declared.limits.TheConstants.{MAX_SIZE}
 use Rattle.graphs.specs.Closures.{Closure, is_member, is_ancestor, rate_of, ancestors_of, descendants_of, members_of}
 use Rattle.bitset.specs.Places.{first_places, IsWithin}
 use Rattle.bitset.specs.Sets.{contains-first_places}
@@ -71,5 +72,5 @@ module _ (n : ℕ) (names : List ℕ) (g : Closure) (kept : IsNamed n names g) w
       let more : sum_by (λ id. (rate_of (named names g) id).size) (take (p + 1) names) ≡ sum_by (λ id. (rate_of (named names g) id).size) (take p names) + (rate_of (named names g) (slice_index names p)).size = sum_by_more (λ id. (rate_of (named names g) id).size) names p 0 low in
       omega arith
 
-  pub size_small : (p size : ℕ) → p < length names → size ≡ (rate_of g p).size → size ≤ 4000000
-  size_small p size low is = subst (λ s. s ≤ 4000000) (sym is) (kept.small p low)
+  pub size_small : (p size : ℕ) → p < length names → size ≡ (rate_of g p).size → size ≤ MAX_SIZE
+  size_small p size low is = subst (λ s. s ≤ MAX_SIZE) (sym is) (kept.small p low)

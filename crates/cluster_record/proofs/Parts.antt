@@ -3,6 +3,7 @@ use Rattle.std.proofs.Common.{◌≡◌, ℕ, ◌<◌, ◌≤◌, true, nat_lt, 
 use Rattle.std.proofs.lemmas.List.{length-map, get_or-map}
 use Rattle.std.specs.Ordering.{nat_cmp}
 use Rattle.std.specs.FinSet as set
+use Rattle.fee_rate.specs.declared.limits.TheConstants.{MAX_SIZE}
 use Rattle.graphs.specs.Closures.{Closure, is_ancestor, rate_of, IsClosed, IsNear, IsPart, IsRelated}
 use Rattle.lists.specs.Walks.{Walk, IsWalk}
 use Rattle.lists.proofs.Rising.{rising_once}
@@ -68,7 +69,7 @@ module _ (n : ℕ) (names : List ℕ) (g h : Closure) (chosen : set.FinSet nat_c
         numbered p q walk.0 first second walk.1;
     small = λ p low.
         let first : p < length ps = subst (λ m. p < m) own_long low in
-        subst (λ (r : FeeRate). r.size ≤ 4000000) (sym (rate p first)) (kept.small (slice_index ps p) (place_at p first).0);
+        subst (λ (r : FeeRate). r.size ≤ MAX_SIZE) (sym (rate p first)) (kept.small (slice_index ps p) (place_at p first).0);
   }
 
   own_rate : (id : ℕ) → Contains own id → rate_of (named own h) id ≡ rate_of (named names g) id

@@ -9,6 +9,7 @@ use Rattle.std.proofs.Common.{Option}
 use Rattle.lists.proofs.Cases.{or_false}
 use Rattle.lists.proofs.Entries.{none_in_empty}
 use Rattle.lists.specs.Distinct.{AreDistinct}
+use Rattle.fee_rate.specs.declared.limits.TheConstants.{MAX_SIZE}
 use Rattle.graphs.specs.Closures.{Node, Closure, members_of, is_member, is_ancestor, ancestors_of, ancestors_in, rate_of, IsClosed, AddsPlace}
 use Rattle.bitset.specs.Sets.{contains-empty}
 use Rattle.fee_rate.specs.declared.rates.FeeRate.{FeeRate}
@@ -56,14 +57,14 @@ module _ (n : ℕ) (old g : Closure) (id : ℕ) (rate : FeeRate) (place : ℕ) (
       adds.ancestors a d ∙ ap₂ (λ q b. (nat_eq a q && nat_eq d q) || b) first_place (ap (λ g. is_ancestor g a d) none ∙ none_above a d)
       ∙ or_false (nat_eq a 0 && nat_eq d 0)
 
-  pub IsNamed-single : 1 ≤ n → rate.size ≤ 4000000 → IsClosed n g → IsNamed n (id ∷ []) g
+  pub IsNamed-single : 1 ≤ n → rate.size ≤ MAX_SIZE → IsClosed n g → IsNamed n (id ∷ []) g
   IsNamed-single room small closed = record {
     few = room;
     once = once_one id;
     members = members;
     order = closed.order;
     whole = λ p q low below. ([], omega arith);
-    small = λ p low. subst (λ (r : FeeRate). r.size ≤ 4000000) (sym (ap (rate_of g) (let e : p ≡ 0 = omega arith in e ∙ sym first_place) ∙ adds.rate_is)) small;
+    small = λ p low. subst (λ (r : FeeRate). r.size ≤ MAX_SIZE) (sym (ap (rate_of g) (let e : p ≡ 0 = omega arith in e ∙ sym first_place) ∙ adds.rate_is)) small;
   }
 
   pub IsSingle-named : IsSingle id rate (record { names = id ∷ []; graph = named (id ∷ []) g })

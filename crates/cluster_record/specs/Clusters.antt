@@ -2,6 +2,7 @@
 use Rattle.std.specs.Prelude.{◌≡◌, ℕ, ◌<◌, ◌≤◌, ◌↔◌, true, List, length, slice_index, Contains, refl}
 use Rattle.std.specs.Coded.{Coded, code_by, coded×, coded_ℕ, coded_list}
 use Rattle.lists.specs.Distinct.{AreDistinct}
+use Rattle.fee_rate.specs.declared.limits.TheConstants.{MAX_SIZE}
 use Rattle.graphs.specs.Closures.{Closure, closure_code, is_member, is_ancestor, rate_of, IsOrder, AreLinked}
 
 pub record Cluster : Type 0 where
@@ -19,7 +20,7 @@ pub record IsCluster (most : ℕ) (c : Cluster) : Type 0 where
   pub members : (id : ℕ) → (is_member c.graph id ≡ true) ↔ Contains c.names id
   pub order : IsOrder (is_member c.graph) (is_ancestor c.graph)
   pub whole : (a b : ℕ) → is_member c.graph a ≡ true → is_member c.graph b ≡ true → AreLinked c.graph a b
-  pub small : (id : ℕ) → is_member c.graph id ≡ true → (rate_of c.graph id).size ≤ 4000000
+  pub small : (id : ℕ) → is_member c.graph id ≡ true → (rate_of c.graph id).size ≤ MAX_SIZE
 
 -- two clusters have no name in common
 abbrev pub AreApart : Cluster → Cluster → Type 0

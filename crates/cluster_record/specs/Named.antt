@@ -4,6 +4,7 @@ use Rattle.std.specs.Ordering.{nat_cmp}
 use Rattle.std.specs.FinSet as set
 use Rattle.std.specs.FinMap as map
 use Rattle.lists.specs.Distinct.{AreDistinct}
+use Rattle.fee_rate.specs.declared.limits.TheConstants.{MAX_SIZE}
 use Rattle.graphs.specs.Closures.{Node, Closure, is_member, is_ancestor, rate_of, IsOrder, IsRelated}
 use Rattle.lists.specs.Walks.{Walk}
 
@@ -32,4 +33,4 @@ pub record IsNamed (n : ℕ) (names : List ℕ) (g : Closure) : Type 0 where
   pub members : (p : ℕ) → is_member g p ≡ nat_lt p (length names)
   pub order : IsOrder (is_member g) (is_ancestor g)
   pub whole : (p q : ℕ) → p < length names → q < length names → Walk (IsRelated g) p q
-  pub small : (p : ℕ) → p < length names → (rate_of g p).size ≤ 4000000
+  pub small : (p : ℕ) → p < length names → (rate_of g p).size ≤ MAX_SIZE

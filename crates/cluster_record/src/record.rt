@@ -1,6 +1,7 @@
 ghost use Rattle.std.specs.Prelude.{◌≡◌, ℕ, ◌+◌, ◌*◌, ◌<◌, ◌≤◌, ◌++◌, true, false, length, slice_index, map, sum_by, All, Contains, IfOk, OnOk};
 ghost use Rattle.std.specs.FinSet as set;
 ghost use Rattle.lists.specs.Distinct.{AreDistinct};
+ghost use Rattle.fee_rate.specs.declared.limits.TheConstants.{MAX_SIZE, MAX_TOTAL};
 ghost use Rattle.graphs.specs.Closures.{is_ancestor, rate_of, AddsPair, SetsFee, IsNear};
 ghost use Rattle.lists.specs.Walks.{Walk};
 ghost use Rattle.bitset.specs.Places.{IsWithin, places};
@@ -45,7 +46,7 @@ impl<const W: usize> Record<W> {
     /// The cluster of one name, with its fee in satoshis and its size in virtual bytes.
     pub fn single(alloc: Global, id: TxId, fee: i64, size: u64) -> Result<Self, NoMemory>
         requires room { 1 ≤ W }
-        requires small { size ≤ 4000000 }
+        requires small { size ≤ MAX_SIZE }
         ensures single { IfOk result (IsSingle id (record { fee = fee; size = size })) }
         ensures whole { IfOk result (IsCluster (64 * W)) }
     {
@@ -77,9 +78,9 @@ impl<const W: usize> Record<W> {
 
     /// The total size of its names, in virtual bytes.
     pub fn size(&self) -> u64
-        requires { length self.now.names ≤ 1048576 }
+        requires { length self.now.names ≤ MAX_TOTAL }
         ensures sum { result ≡ sum_by (λ id. (rate_of self.now.graph id).size) self.now.names }
-        ensures small { result ≤ 4000000 * length self.now.names }
+        ensures small { result ≤ MAX_SIZE * length self.now.names }
     {
         let mut total = 0;
         for place in 0..self.names.len() {

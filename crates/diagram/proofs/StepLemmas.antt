@@ -10,4 +10,3 @@ step_some steps v s t x (y ∷ ys) yields step = let h = yields.1 x t step in (y
 pub step_none : {S A B : Type 0} (steps : S → Option A → S → Type 0) (v : A → B) (s t : S) (rest : List B) → AlwaysYields steps v s rest → steps s None t → rest ≡ []
 step_none steps v s t [] yields step = refl
 step_none steps v s t (y ∷ ys) yields step = absurd (yields.0 t step)
-

@@ -38,5 +38,6 @@ pub fn is_rate(rate: FeeRate) -> bool
 pub fn is_sum(sum: Sum) -> bool
     ensures { IsTrue result ↔ IsSum sum }
 {
-    sum.fee.unsigned_abs() <= u128::from(MAX_FEE) * u128::from(MAX_TOTAL) && sum.size <= MAX_SIZE * MAX_TOTAL
+    sum.fee.unsigned_abs() <= u128::from(MAX_FEE) * u128::from(MAX_TOTAL)
+        && sum.size <= MAX_SIZE * MAX_TOTAL
 }

@@ -11,9 +11,10 @@ mod names;
 
 pub use fee_rate::{is_fee, is_size};
 pub use graphs::{
-    Flow, IdBuf, IdList, Level, TxId, Verdict, ancestors_with_pair, ancestors_without_name, certified_parts_are_optimal,
-    components_with_pair, corners_are_unique, equal_rates_join_once, flat_parts_bound_closed_sets, names_can_go,
-    optimal_bounds_closed_sets, optimal_ends_are_corners, stays_graph, stays_without_cycle, verdicts_are_unique,
+    Flow, IdBuf, IdList, Level, TxId, Verdict, ancestors_with_pair, ancestors_without_name,
+    certified_parts_are_optimal, components_with_pair, corners_are_unique, equal_rates_join_once,
+    flat_parts_bound_closed_sets, names_can_go, optimal_bounds_closed_sets,
+    optimal_ends_are_corners, stays_graph, stays_without_cycle, verdicts_are_unique,
 };
 pub use laws::{answers_are_in_order, readings_lack_no_memory, refused_changes_nothing};
 pub use limits::{DEFAULT_LIMITS, MAX_CLUSTER_SIZE, MAX_COUNT, MAX_INPUT, MAX_LINE};

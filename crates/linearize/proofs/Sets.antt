@@ -133,4 +133,3 @@ len_remove n s p within m =
 -- a set within another has no more members
 pub len_within : (n : ℕ) (s a : fin.FinSet nat_cmp) → IsWithin n s → ((k : ℕ) → fin.contains a k ≡ true → fin.contains s k ≡ true) → fin.len a ≤ fin.len s
 len_within n s a within inside = let all = len_split n s a (fin.difference s a) within (split_minus s a inside) in omega (arith, all)
-

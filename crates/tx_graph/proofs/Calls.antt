@@ -4,6 +4,7 @@ use Rattle.std.specs.Prelude.{Contains}
 use Rattle.std.proofs.lemmas.Bool.{cases_lt, false_from_ne_true}
 use Rattle.std.proofs.lemmas.Option.{none-some}
 use Rattle.std.specs.FinMap as finmap
+use Rattle.fee_rate.specs.declared.limits.TheConstants.{MAX_SIZE}
 use Rattle.graphs.specs.Closures.{is_member, is_ancestor, rate_of, SetsFee, AddsPair, DropsPlace, AreLinked}
 use Rattle.fee_rate.specs.declared.rates.FeeRate.{FeeRate}
 use Rattle.graph_model.specs.declared.names.Limits.{Limits}
@@ -159,7 +160,7 @@ pub no_spot : (shelf : Shelf) (id : ℕ) → is_member (graph_of shelf) id ≡ f
 no_spot shelf id absent = none_seen (finmap.get shelf.spots id) (sym (member-spot shelf id) ∙ absent)
 
 pub record MayAdd (limits : Limits) (shelf : Shelf) (id size : ℕ) : Type 0 where
-  pub small : size ≤ 4000000
+  pub small : size ≤ MAX_SIZE
   pub absent : is_member (graph_of shelf) id ≡ false
   pub room : finmap.len shelf.spots < limits.total
 
@@ -171,7 +172,7 @@ may_add limits shelf id fee size row =
     let d = none_of (limits.size < size) (ClusterSize size) (First (limits.total ≤ finmap.len shelf.spots) Full NoRefusal) c.1 in
     let e = none_of (limits.total ≤ finmap.len shelf.spots) Full NoRefusal d.1 in
     record {
-      small = not_over 4000000 size (λ over. b.0 (λ is. omega (arith, is.1)));
+      small = not_over MAX_SIZE size (λ over. b.0 (λ is. omega (arith, is.1)));
       absent = false_from_ne_true (is_member (graph_of shelf) id) c.0;
       room = not_past limits.total (finmap.len shelf.spots) e.0;
     }

@@ -1,6 +1,7 @@
 ghost use Rattle.std.specs.Prelude.{sum_by, MatchResult, is_some, ◌↔◌, ◌≡◌, ◌≢◌, ℕ, ◌+◌, ◌-◌, ◌*◌, ◌^◌, ◌<◌, ◌≤◌, [], false, None, Some, length, Contains, IsSome, IfOk, OnOk, OnErr};
 ghost use Rattle.std.specs.FinMap as finmap;
 ghost use Rattle.lists.specs.Distinct.{AreDistinct};
+ghost use Rattle.fee_rate.specs.declared.limits.TheConstants.{MAX_SIZE};
 ghost use Rattle.graphs.specs.Closures.{is_member, rate_of, is_ancestor, AddsPair, SetsFee, DropsPlace};
 ghost use Rattle.slab.specs.Slab.{get, HasRoomFor, slab_len};
 ghost use Rattle.cluster_record.specs.Clusters.{Cluster};
@@ -89,7 +90,7 @@ impl<const W: usize> Clusters<W> {
     pub fn add(&mut self, id: TxId, fee: i64, size: u64) -> Result<(), NoMemory>
         requires absent { finmap.get self.old.spots id ≡ None }
         requires few { finmap.len self.old.spots + 1 ≤ 2 ^ 32 - 1 }
-        requires small { size ≤ 4000000 }
+        requires small { size ≤ MAX_SIZE }
         requires issued { self.old.issued < 2 ^ 64 - 1 }
         ensures ok { OnOk result (AddsName (graph_of self.old) (graph_of self.new) id
             (record { fee = fee; size = size })) }
