@@ -240,11 +240,12 @@ fn insert_or_stay(
         1 => Tag::MainOnly,
         _ => Tag::TopOnly,
     };
-    if index.contains(&nth(at)) {
+    let entry = nth(at);
+    if index.contains(&entry) {
         return Ok(false);
     }
-    if let Ok(()) = index.insert(nth(at), tag) {
-        plain.insert(nth(at), tag)?;
+    if let Ok(()) = index.insert(entry, tag) {
+        plain.insert(entry, tag)?;
     }
     Ok(agree(alloc, index, plain)?)
 }
