@@ -1,5 +1,5 @@
 -- A step of a walk: over the slots that are left, and over a tree.
-use Rattle.std.proofs.Common.{◌≡◌, ℕ, suc, ◌+◌, ◌-◌, ◌<◌, true, false, List, [], ◌∷◌, ◌++◌, map, length, take, drop, get_or, Some, refl, sym, ap, ◌∙◌, subst, arith, length-drop}
+use Rattle.std.proofs.Common.{◌≡◌, ℕ, suc, ◌+◌, ◌-◌, ◌<◌, true, false, List, [], ◌∷◌, ◌++◌, map, length, take, drop, get_or, Some, refl, ap, ◌∙◌, arith, length-drop}
 use Rattle.std.proofs.lemmas.List.{append-nil, map-append, get_or-drop}
 use Rattle.std.proofs.lemmas.Option.{get_or_from_slice_get, slice_get_within}
 use Rattle.std.proofs.Math.Seq.{take-suc, drop-cons}
@@ -8,12 +8,11 @@ use Rattle.chunk_index.specs.declared.entry.Entry.{Entry}
 use Rattle.chunk_index.specs.declared.key.Key.{Key}
 use Rattle.chunk_index.specs.declared.slot.Slot.{Slot}
 use Rattle.chunk_index.specs.declared.walk.Wanted.{Wanted}
-use Rattle.chunk_index.specs.Items.{Items, AreInOrder, entries_by}
-use Rattle.chunk_index.specs.Keys.{key_of, IsInOrder}
+use Rattle.chunk_index.specs.Items.{Items, entries_by}
 use Rattle.chunk_index.specs.Slots.{tag_of, entry_from, item_of}
 use Rattle.chunk_index.specs.Walks.{passes, left_in}
 use Rattle.chunk_index.proofs.Maps.{Slots}
-use Rattle.chunk_index.proofs.Tags.{entries-append, entries_in_order}
+use Rattle.chunk_index.proofs.Tags.{entries-append}
 
 module _ (all rest : Slots) (k : Key) (s : Slot) (wanted : Wanted) where
   pub first_counts : all ≡ (k, s) ∷ rest → passes wanted (tag_of s.place) ≡ true → left_in all wanted ≡ entry_from k s.number ∷ left_in rest wanted
@@ -59,8 +58,3 @@ module _ (xs : List Entry) (x : Entry) (a b : ℕ) where
       ∙ take-suc (drop a xs) (b - 1 - a) x room
       ∙ ap (λ (h : Entry). take (b - 1 - a) (drop a xs) ++ h ∷ [])
       (get_or-drop a xs (b - 1 - a) x ∙ ap (λ n. get_or xs n x) place ∙ get_or_from_slice_get xs (b - 1) x x at)
-
--- what a walk over the slots es has is in order
-pub walk_in_order : (es rest : Slots) (wanted : Wanted) (list : List Entry) → AreInOrder (map item_of es) → rest ≡ es → list ≡ left_in rest wanted → IsInOrder key_of list
-walk_in_order es rest wanted list order all is =
-    subst (IsInOrder key_of) (sym (is ∙ ap (λ (xs : Slots). left_in xs wanted) all)) (entries_in_order (passes wanted) (map item_of es) order)

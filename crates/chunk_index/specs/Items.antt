@@ -71,3 +71,8 @@ entries_in level = entries_by (is_in level)
 -- the entries of one tag
 abbrev pub entries_tagged : Tag → Items → List Entry
 entries_tagged tag = entries_by (same_tag tag)
+
+-- where the items are in order, the entries of each level and of each tag are
+pub record WalksAreInOrder : Type 0 where
+  pub level : (items : Items) (l : Level) → AreInOrder items → IsInOrder key_of (entries_in l items)
+  pub tag : (items : Items) (t : Tag) → AreInOrder items → IsInOrder key_of (entries_tagged t items)

@@ -1,7 +1,7 @@
 ghost use Rattle.std.specs.Prelude.{◌≡◌, [], true, false, OnOk, OnErr};
 ghost use Rattle.std.specs.BTreeMap.{insert_entry, IsOrdered};
 ghost use Rattle.chunk_index.specs.KeyOrder.{key_cmp};
-ghost use Rattle.chunk_index.specs.Keys.{IsInOrder, key_of};
+ghost use Rattle.chunk_index.specs.Keys.{key_of};
 ghost use Rattle.chunk_index.specs.Items.{AreInOrder, has, with_entry, without_entry, with_tag, entries_in, entries_tagged};
 
 use crate::Level;
@@ -116,7 +116,7 @@ impl ChunkIndex {
     /// A step costs a few nanoseconds while nothing is staged; else it goes past what the level doesn't have.
     pub fn walk(&self, level: Level) -> IndexWalk<'_>
         ensures entries { result ≡ entries_in level self.now }
-        ensures order { IsInOrder key_of result }
+        ensures order { AreInOrder self.now }
     {
         IndexWalk::over_slots(self.slots.iter(), Wanted::InLevel(level))
     }
@@ -126,7 +126,7 @@ impl ChunkIndex {
     /// Of main alone or of staging alone, no other entry is looked at.
     pub fn walk_only(&self, tag: Tag) -> IndexWalk<'_>
         ensures entries { result ≡ entries_tagged tag self.now }
-        ensures order { IsInOrder key_of result }
+        ensures order { AreInOrder self.now }
     {
         match tag {
             Tag::Both => IndexWalk::over_slots(self.slots.iter(), Wanted::OfBoth),

@@ -73,6 +73,7 @@ impl Key {
 }
 
 /// A fee times a size, where a size of 0 counts as 1.
+#[inline(always)]
 fn crossed(fee: i64, size: u64) -> i128
     ensures { result ≡ fee *ℤ pos (max 1 size) }
 {

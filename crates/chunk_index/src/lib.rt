@@ -1,4 +1,9 @@
 //! Parts of clusters in the order of their fee rates, each with the levels that it stands in.
+//!
+//! Contracts see an index as the list of its entries with their tags, in strict key order: falling rate by exact products,
+//! then rising serial, position and size. All entries stand in an ordered map; those of main alone, and those of staging
+//! alone, stand in a tree of their own as well. The node for it was made with the entry, and lies in the map while the
+//! entry is in both levels. So only an insertion takes memory, and a walk over one level alone sees nothing else.
 #![tactic(auto)]
 
 mod entry;
@@ -14,5 +19,5 @@ mod walk;
 pub use entry::{Entry, Tag};
 use graph_model::Level;
 pub use index::ChunkIndex;
-pub use laws::{changes_touch_one_key, keys_stand_by_rate};
+pub use laws::{changes_touch_one_key, keys_stand_by_rate, walks_are_in_order};
 pub use walk::IndexWalk;

@@ -227,3 +227,49 @@ fn trees_of_one_tag_stay_in_order(rt: HostRuntime) -> Result<(), Fail> {
     assert_eq!(rt; take_all(rt.alloc(), &rows)?, rows.len());
     Ok(())
 }
+
+/// An insertion on both, and whether they agree then; where there is no memory for it, neither has changed.
+fn insert_or_stay(
+    alloc: Global,
+    index: &mut ChunkIndex,
+    plain: &mut Plain,
+    at: u64,
+) -> Result<bool, NoMemory> {
+    let tag = match at % 3 {
+        0 => Tag::Both,
+        1 => Tag::MainOnly,
+        _ => Tag::TopOnly,
+    };
+    let entry = nth(at);
+    if index.contains(&entry) {
+        return Ok(false);
+    }
+    if let Ok(()) = index.insert(entry, tag) {
+        plain.insert(entry, tag)?;
+    }
+    Ok(agree(alloc, index, plain)?)
+}
+
+fn insert_some(alloc: Global) -> Result<bool, NoMemory> {
+    let mut index = ChunkIndex::new(alloc);
+    let mut plain = Plain {
+        items: Vec::new(alloc),
+    };
+    insert_each(alloc, &mut index, &mut plain)
+}
+
+fn insert_each(alloc: Global, index: &mut ChunkIndex, plain: &mut Plain) -> Result<bool, NoMemory> {
+    for at in 0..14 {
+        if !insert_or_stay(alloc, index, plain, at)? {
+            return Ok(false);
+        }
+    }
+    Ok(true)
+}
+
+// Run with one allocation refused, an insertion that it meets leaves all as it was.
+#[test]
+fn an_insertion_without_memory_changes_nothing(rt: HostRuntime) -> Result<(), Fail> {
+    assert!(rt; insert_some(rt.alloc())?);
+    Ok(())
+}

@@ -71,6 +71,7 @@ impl Tree {
     }
 
     /// What stands left of the root, the root's entry, its node, and what stands right of it.
+    #[inline(always)]
     fn into_parts(self) -> Option<(Tree, Entry, Box<Node>, Tree)>
         ensures parts { MatchOption result (self ≡ []) (λ p. self ≡ p.0 ++ p.1 ∷ p.3) }
         ensures balanced { MatchOption result (self ≡ []) (λ p. AreBalanced (length p.0) (length p.3)) }
@@ -88,6 +89,7 @@ impl Tree {
     }
 
     /// A tree of two whose sizes are balanced, and an entry between.
+    #[inline(always)]
     fn of_parts(left: Tree, entry: Entry, mut node: Box<Node>, right: Tree) -> Tree
         requires balanced { AreBalanced (length left) (length right) }
         requires fits { length left + length right + 1 < 2 ^ 64 }
@@ -102,6 +104,7 @@ impl Tree {
     }
 
     /// A tree of two whose sizes are nearly balanced, and an entry between.
+    #[inline(always)]
     fn join(left: Tree, entry: Entry, node: Box<Node>, right: Tree) -> Tree
         requires nearly { AreNearlyBalanced (length left) (length right) }
         requires fits { length left + length right + 1 < 2 ^ 64 }
