@@ -17,7 +17,7 @@ mod tree;
 mod walk;
 
 pub use entry::{Entry, Tag};
-use graph_model::Level;
+use graphs::Level;
 pub use index::ChunkIndex;
 pub use laws::{changes_touch_one_key, keys_stand_by_rate, walks_are_in_order};
 pub use walk::IndexWalk;
