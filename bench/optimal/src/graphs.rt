@@ -1,7 +1,7 @@
 //! Made-up clusters as dependency graphs.
 
 ghost use Rattle.std.specs.Prelude.{◌≡◌, ◌<◌, ◌≤◌, true};
-ghost use Rattle.dep_graph.specs.Graph.{is_member};
+ghost use Rattle.graphs.specs.Closures.{is_member};
 
 use crate::shapes::{Shape, drawn};
 use dep_graph::DepGraph;

@@ -7,7 +7,7 @@ mod shapes;
 
 ghost use Rattle.std.specs.Prelude.{◌≡◌, ◌<◌, ◌≤◌, true};
 ghost use Rattle.std.specs.FinSet as set;
-ghost use Rattle.dep_graph.specs.Graph.{members_of};
+ghost use Rattle.graphs.specs.Closures.{members_of};
 ghost use Rattle.linearize.specs.Graphs.{HasRates, IsComponent, most_members};
 
 use closure_flow::Scratch;

@@ -2,7 +2,7 @@ use Rattle.std.proofs.Common.{◌≡◌, ◌∙◌, ℕ, ap, sym}
 use Rattle.std.specs.Cmp.{nat_cmp_total}
 use Rattle.std.specs.FinMap as map
 use Rattle.std.specs.FinSet as fin
-use Rattle.dep_graph.specs.Graph.{Graph, is_member, members_of}
+use Rattle.graphs.specs.Closures.{Graph, is_member, members_of}
 use Rattle.optimal_bench.proofs.graphs.is_in.Goals as goal
 
 in_members : (dep : Graph) (p : ℕ) → fin.contains (members_of dep) p ≡ is_member dep p
