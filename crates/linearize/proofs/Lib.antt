@@ -8,7 +8,6 @@ mod Lists
 mod Orders
 mod Parts
 mod Places
-mod Plain
 mod Sets
 mod Sizes
 mod Solves

@@ -1,21 +1,10 @@
--- What a dependency graph says of a plain graph whose names are places.
-use Rattle.std.specs.Prelude.{◌≡◌, ◌↔◌, ℕ, true, Contains}
-use Rattle.graphs.specs.Closures.{Closure, is_member, is_ancestor, members_of, rate_of, IsNear}
+-- What is asked of a dependency graph whose members are to be ordered.
+use Rattle.std.specs.Prelude.{◌≡◌, ℕ, true}
+use Rattle.graphs.specs.Closures.{Closure, is_member, members_of, rate_of, IsNear}
 use Rattle.lists.specs.Walks.{Walk}
 use Rattle.fee_rate.specs.declared.rates.FeeRate.{FeeRate}
 use Rattle.fee_rate.specs.declared.rates.Sum.{Sum}
 use Rattle.fee_rate.specs.Limits.{IsRate}
-use Rattle.graphs.specs.Graphs as model
-
--- A plain graph has the members as its names, its pairs are of members, and the ancestors along them are those of the
--- dependency graph.
-pub record StandsFor (dep : Closure) (graph : model.Graph) : Type 0 where
-  pub names : (p : ℕ) → Contains graph.names p ↔ (is_member dep p ≡ true)
-  pub ends : (parent child : ℕ) → Contains graph.pairs (parent, child)
-      → (is_member dep parent ≡ true) × (is_member dep child ≡ true)
-  pub acyclic : model.HasNoCycle graph.pairs
-  pub ancestors : (a d : ℕ) → is_member dep a ≡ true → is_member dep d ≡ true
-      → model.IsAncestor graph.pairs a d ↔ (is_ancestor dep a d ≡ true)
 
 -- a fee and a size, as sums are
 abbrev pub sum_from : FeeRate → Sum

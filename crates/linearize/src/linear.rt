@@ -1,10 +1,11 @@
 ghost use Rattle.std.specs.Prelude.{◌≡◌, ◌+◌, ◌*◌, ◌^◌, ◌<◌, ◌≤◌, [], length, map, IfOk};
 ghost use Rattle.std.specs.FinSet as set;
+ghost use Rattle.graphs.specs.Closing.{IsClosureOf};
 ghost use Rattle.graphs.specs.Closures.{members_of, IsCover};
 ghost use Rattle.graphs.specs.Graphs as model;
 ghost use Rattle.graphs.specs.Certificates.{IsCertificate};
 ghost use Rattle.graphs.specs.Linearizations.{IsOptimal};
-ghost use Rattle.linearize.specs.Graphs.{HasRates, IsComponent, StandsFor, most_members, sum_at};
+ghost use Rattle.linearize.specs.Graphs.{HasRates, IsComponent, most_members, sum_at};
 ghost use Rattle.linearize.specs.Drafts.{AreShown, flows_in, named, placed};
 ghost use Rattle.linearize.specs.Orders.{AreCovers};
 ghost use Rattle.linearize.specs.Steps.{AreOfSolves};
@@ -102,10 +103,10 @@ pub fn optimal<L: Ledger, const W: usize>(
 
     // There is a plain graph that the members stand for. The parts certify each one over its covering pairs, and are
     // optimal.
-    ensures stands { (graph : model.Graph) × StandsFor dep.now graph }
-    ensures certificate { (graph : model.Graph) → StandsFor dep.now graph
+    ensures stands { (graph : model.Graph) × IsClosureOf dep.now graph }
+    ensures certificate { (graph : model.Graph) → IsClosureOf dep.now graph
         → IsCertificate (sum_at dep.now) graph (model.IsCover graph.pairs) out.new }
-    ensures optimal { (graph : model.Graph) → StandsFor dep.now graph
+    ensures optimal { (graph : model.Graph) → IsClosureOf dep.now graph
         → IsOptimal (sum_at dep.now) graph (map (λ part. part.ids) out.new) }
 
     // The steps are those of its solves. Of n members they are n at least, and at most 2 · (n + 2)^5 − 4 · (n + 2)^4.

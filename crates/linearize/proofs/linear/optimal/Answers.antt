@@ -12,7 +12,7 @@ use Rattle.linearize.specs.Steps.{AreOfSolves}
 use Rattle.linearize.proofs.Final.{certificate, has_sizes}
 use Rattle.linearize.proofs.Joined.{start_room}
 use Rattle.linearize.proofs.Places.{in_members}
-use Rattle.linearize.proofs.Plain.{stands}
+use Rattle.graphs.proofs.ClosureGraphs.{closures_have_graphs}
 use Rattle.linearize.proofs.Sizes.{words_fit, lists_fit, scratch_fits}
 use Rattle.linearize.proofs.Solves.{least_of, most_of}
 use Rattle.linearize.proofs.linear.optimal.Goals as goal
@@ -55,7 +55,7 @@ split-requires g c =
     )
 
 pub returns-clause-stands : goal.returns-clause-stands
-returns-clause-stands g c = stands (64 * g.row.W) c.args.dep.now c.members-members.ensures.closed
+returns-clause-stands g c = let made = closures_have_graphs (64 * g.row.W) c.args.dep.now c.members-members.ensures.closed in (made.0, made.2)
 
 pub returns-clause-certificate : goal.returns-clause-certificate
 returns-clause-certificate g c = λ graph stands.
