@@ -10,8 +10,7 @@ use Rattle.std.specs.List.Sorted.{IsPermutation, IsNonDecreasing}
 use Rattle.std.specs.Cmp.{nat_eq_equiv}
 use Rattle.std.specs.Ordering.{nat_cmp}
 use Rattle.std.specs.FinSet as set
-use Rattle.graphs.proofs.RenamingLemmas.{distinct_map}
-use Rattle.lists.proofs.Distinct.{one_place}
+use Rattle.lists.proofs.Distinct.{one_place, distinct_map}
 use Rattle.lists.specs.Distinct.{AreDistinct}
 use Rattle.lists.proofs.Entries.{Contains-map, map-Contains}
 use Rattle.lists.proofs.Rising.{rising_at_least, distinct_rising}

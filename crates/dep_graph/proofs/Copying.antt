@@ -21,10 +21,6 @@ filter_le f a (suc n) = elim (f a) as (λ b. length (cond b (a ∷ filter f (ran
   | false ↦ omega (arith, filter_le f (a + 1) n)
 ]
 
--- a set has no more members than there are places below a bound of it
-pub len_le : (k : ℕ) (s : fin.FinSet nat_cmp) → IsWithin k s → fin.len s ≤ k
-len_le k s within = subst (λ m. m ≤ k) (sym (len-places k s within)) (filter_le (fin.contains s) 0 k)
-
 -- ---- one copy for each place
 
 pub record Copying {X : Type 0} (d : X) (Made : ℕ → X → Type 0) (ps : List ℕ) (old new : List X) (ys zs : List ℕ) : Type 0 where

@@ -6,6 +6,7 @@ use Rattle.std.specs.Ordering.{nat_cmp}
 use Rattle.std.specs.Cmp.{nat_cmp_total, unsigned_tied}
 use Rattle.std.specs.FinSet as fin
 use Rattle.std.specs.FinMap as map
+use Rattle.graphs.proofs.Members.{contains-members_of}
 use Rattle.graphs.specs.Closures.{Node, Closure, is_member, rate_of, ancestors_of, is_ancestor, members_of, descendants_of, no_rate, rate_in, ancestors_in, IsOrder, IsClosed}
 use Rattle.bitset.specs.Places.{IsWithin}
 use Rattle.bitset.specs.Sets.{same_members, contains-empty}
@@ -71,10 +72,6 @@ module _ (n : ℕ) (members : fin.FinSet nat_cmp) (rates : List FeeRate) (up : L
       ∙ elim (fin.contains members d) as (λ b. fin.contains (ancestors_in (cond b (Some (node_at rates up d)) None)) a ≡ (b && fin.contains (set_at up d) a)) [ true ↦ refl | false ↦ contains-empty a ]
 
 -- ---- what is asked of any graph
-
-pub contains-members_of : (g : Closure) (p : ℕ) → fin.contains (members_of g) p ≡ is_member g p
-unfolding members_of is_member
-contains-members_of g p = fin.contains-from_list nat_cmp_total (map.keys g) p ∙ sym (map.contains_key-keys g p)
 
 tied : (p x : ℕ) → nat_cmp p x ≡ Equal → x ≡ p
 tied p x e = sym (fin.nat_cmp-IsAntisymmetric p x e)

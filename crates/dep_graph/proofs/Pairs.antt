@@ -4,6 +4,7 @@ use Rattle.std.proofs.lemmas.Bool.{cases_lt, and_parts, and_from, or_cases, or_l
 use Rattle.std.proofs.lemmas.List.Elements.{Contains-get_or}
 use Rattle.std.specs.Ordering.{nat_cmp}
 use Rattle.std.specs.FinSet as fin
+use Rattle.graphs.proofs.Members.{contains-members_of}
 use Rattle.lists.proofs.Cases.{same_test, true_from_not}
 use Rattle.lists.proofs.Distinct.{one_place}
 use Rattle.lists.proofs.Entries.{Contains-cases, none_in_empty}
@@ -16,7 +17,6 @@ use Rattle.bitset.specs.Places.{places, IsWithin}
 use Rattle.bitset.specs.Sets.{IsRising-places, Contains-places, places-Contains, contains-difference}
 use Rattle.dep_graph.specs.Numbers.{number_in, renumbered}
 use Rattle.dep_graph.specs.Laws.{PlaceKeepsPairs, PairIsAdded, PairsAreBridged, PairsAreParted, PartIsBridged}
-use Rattle.dep_graph.proofs.Kept.{contains-members_of}
 
 -- ---- changes in place
 

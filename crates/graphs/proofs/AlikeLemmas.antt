@@ -17,7 +17,7 @@ use Rattle.graphs.specs.Linearizations.{IsClosedWithin, IsTopological, StandsBef
 use Rattle.graphs.specs.Certificates.{Part, Certifies, IsCertificate, weight_in, given, gotten}
 use Rattle.graphs.specs.Diagrams.{AreCorners}
 use Rattle.graphs.specs.Alikes.{AreAlike}
-use Rattle.graphs.proofs.WalkLemmas.{walk_of_pair, AreConnected-sym, AreConnected-trans}
+use Rattle.graphs.proofs.WalkLemmas.{walk_of_pair, AreConnected-sym, AreConnected-trans, walk_connects}
 use Rattle.graphs.proofs.TangentLemmas.{joined}
 use Rattle.graphs.proofs.BestLemmas.{sums_same_members, joined-Contains}
 use Rattle.graphs.proofs.DropLemmas.{up_walk}
@@ -48,11 +48,6 @@ stands_trans order a b c once first second = (
   second.2,
   stays_before first.0 first.1 second.0 (c ∷ second.1) a b (sym first.2 ∙ second.2) (subst AreDistinct second.2 once) second.3 first.3,
 )
-
--- what is related is connected
-pub walk_connects : (pairs : List (ℕ × ℕ)) (a b n : ℕ) → Walk pairs a b n → AreConnected pairs a b
-walk_connects pairs a b zero same = (0, same)
-walk_connects pairs a b (suc n) walk = let most = walk_connects pairs a walk.0 n walk.1 in (suc most.0, (walk.0, most.1, inl walk.2))
 
 pub alike_back : (ra rb : ℕ → Sum) (a b : Graph) → AreAlike ra a rb b → AreAlike rb b ra a
 alike_back ra rb a b alike = record {

@@ -16,3 +16,4 @@ pub mod MergeLemmas
 pub mod UnionLemmas
 pub mod PartLemmas
 pub mod HeightLemmas
+pub mod Members

@@ -5,6 +5,7 @@ use Rattle.std.proofs.lemmas.Bool.{cases_eq}
 use Rattle.std.proofs.lemmas.List.{map-append}
 use Rattle.std.proofs.lemmas.List.Sums.{sum_by-cons}
 use Rattle.std.proofs.lemmas.List.Elements.{Contains-append_left, Contains-append_right}
+use Rattle.lists.proofs.Distinct.{distinct_map}
 use Rattle.lists.specs.Distinct.{AreDistinct}
 use Rattle.lists.proofs.Entries.{Contains-head, Contains-later, Contains-cases, none_in_empty, map-Contains, Contains-map}
 use Rattle.arithmetic.specs.Sums.{total}
@@ -19,15 +20,6 @@ use Rattle.graphs.specs.Laws.{CertificatesAreRenamed}
 use Rattle.graphs.proofs.ClosingLemmas.{new_pair, new_walk, old_walk, old_ancestor}
 
 -- ---- lists of what is made of each entry
-
-pub distinct_map : {A B : Type 0} (f : A → B) (xs : List A) → AreDistinct xs → ((x y : A) → Contains xs x → Contains xs y → f x ≡ f y → x ≡ y) → AreDistinct (map f xs)
-distinct_map f [] once apart = tt
-distinct_map {A = A} f (x ∷ xs) once apart = (
-  λ here.
-      let found = map-Contains f xs (f x) here in
-      once.0 (subst (λ (z : A). Contains xs z) (apart found.0 x (Contains-later x found.0 xs found.1) (Contains-head x xs) found.2) found.1),
-  distinct_map f xs once.1 (λ a b here there. apart a b (Contains-later x a xs here) (Contains-later x b xs there)),
-)
 
 pub sum_by-map : {A B : Type 0} (f : A → B) (g : B → ℕ) (h : A → ℕ) (xs : List A) → ((x : A) → Contains xs x → g (f x) ≡ h x) → sum_by g (map f xs) ≡ sum_by h xs
 sum_by-map f g h [] same = refl

@@ -4,6 +4,8 @@ use Rattle.std.specs.Prelude.{Contains}
 use Rattle.std.proofs.lemmas.Bool.{cases_eq, cases_Bool}
 use Rattle.std.proofs.lemmas.List.Elements.{Contains-append_right}
 use Rattle.std.specs.FinSet as fin
+use Rattle.graphs.proofs.Members.{contains-members_of}
+use Rattle.graphs.proofs.AlikeLemmas.{stands_trans}
 use Rattle.bitset.specs.Members.{to_remove, from_remove}
 use Rattle.lists.proofs.Cases.{clash, differs}
 use Rattle.lists.proofs.Distinct.{stays_before}
@@ -14,11 +16,7 @@ use Rattle.bitset.specs.Places.{places, IsWithin}
 use Rattle.bitset.specs.Sets.{Contains-places}
 use Rattle.graphs.specs.Linearizations.{StandsBefore}
 use Rattle.linearize.specs.Orders.{IsOrderOf}
-use Rattle.linearize.proofs.Places.{in_members}
 use Rattle.linearize.proofs.Sets.{len_remove, len_within}
-
-before_before : (order : List ℕ) (a b c : ℕ) → AreDistinct order → StandsBefore order a b → StandsBefore order b c → StandsBefore order a c
-before_before order a b c d one two = (two.0, two.1, two.2, stays_before one.0 one.1 two.0 (c ∷ two.1) a b (sym one.2 ∙ two.2) (subst (λ xs. AreDistinct xs) two.2 d) two.3 one.3)
 
 module _ (n : ℕ) (dep : Closure) (closed : IsClosed n dep) where
   above_within : (d : ℕ) → IsWithin n (ancestors_of dep d)
@@ -83,7 +81,7 @@ module _ (n : ℕ) (dep : Closure) (closed : IsClosed n dep) where
             | inl same ↦ inr same
             | inr not_d ↦
                 let member : is_member dep m ≡ true = (closed.order.among m d md).0 in
-                absurd (none m (Contains-places n (members_of dep) m (closed.within m member) (in_members dep m ∙ member)) (am, md, not_a, not_d))
+                absurd (none m (Contains-places n (members_of dep) m (closed.within m member) (contains-members_of dep m ∙ member)) (am, md, not_a, not_d))
           ]
         ];
       },
@@ -99,12 +97,12 @@ module _ (n : ℕ) (dep : Closure) (closed : IsClosed n dep) where
         | inl same ↦ subst (λ (j : ℕ). StandsBefore order j d) (sym same) (first step.0 d step.2)
         | inr other ↦
             let less = fewer_above step.0 d step.2.ancestor step.2.other in
-            before_before order a step.0 d once (by_steps order once first fuel a step.0 step.1 other (omega (arith, less, short))) (first step.0 d step.2)
+            stands_trans order a step.0 d once (by_steps order once first fuel a step.0 step.1 other (omega (arith, less, short))) (first step.0 d step.2)
       ]
 
   pub ancestors_first : (order : List ℕ) → IsOrderOf dep (members_of dep) order → (a d : ℕ) → is_ancestor dep a d ≡ true → a ≢ d → StandsBefore order a d
   ancestors_first order h a d e ne =
-      let member : (k : ℕ) → is_member dep k ≡ true → fin.contains (members_of dep) k ≡ true = λ k m. in_members dep k ∙ m in
+      let member : (k : ℕ) → is_member dep k ≡ true → fin.contains (members_of dep) k ≡ true = λ k m. contains-members_of dep k ∙ m in
       by_steps order h.once
       (λ p c cover. (let both = closed.order.among p c cover.ancestor in h.parents_first p c cover (member p both.0) (member c both.1)))
       (fin.len (ancestors_of dep d)) a d e ne (omega arith)

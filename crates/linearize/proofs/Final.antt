@@ -1,6 +1,7 @@
 -- What linearizes all members certifies each plain graph that they stand for.
 use Rattle.std.proofs.Common.{◌≡◌, ℕ, zero, suc, ◌⊎◌, inl, inr, true, List, [], ◌∷◌, refl, sym, ◌∙◌, subst}
 use Rattle.std.specs.Prelude.{Contains}
+use Rattle.graphs.proofs.Members.{contains-members_of}
 use Rattle.graphs.specs.Closures.{Closure, is_member, members_of, IsClosed, IsNear, IsRelated}
 use Rattle.graphs.specs.Closing.{IsClosureOf}
 use Rattle.graphs.proofs.ClosingLemmas.{connected_linked, covers_agree}
@@ -14,7 +15,6 @@ use Rattle.linearize.specs.Graphs.{HasRates, IsComponent, sum_at}
 use Rattle.linearize.specs.Drafts.{placed}
 use Rattle.linearize.specs.Splits.{Linearizes}
 use Rattle.linearize.proofs.Chains.{ancestors_first}
-use Rattle.linearize.proofs.Places.{in_members}
 use Rattle.std.proofs.lemmas.List.Elements.{Contains-append_left, Contains-append_right}
 
 module _ (n : ℕ) (dep : Closure) (graph : model.Graph) (closed : IsClosed n dep) (stands : IsClosureOf dep graph) where
@@ -34,14 +34,14 @@ module _ (n : ℕ) (dep : Closure) (graph : model.Graph) (closed : IsClosed n de
     ]
 
     member_of : (part : Part) (p : ℕ) → Contains parts part → Contains part.ids p → is_member dep p ≡ true
-    member_of part p h k = sym (in_members dep p) ∙ (linear.order.exact p).0 (in_part parts part p h k)
+    member_of part p h k = sym (contains-members_of dep p) ∙ (linear.order.exact p).0 (in_part parts part p h k)
 
     topological : IsTopological graph (placed parts)
     topological = record {
       once = linear.order.once;
       names = λ p. (
-        λ h. (stands.names p).1 (sym (in_members dep p) ∙ (linear.order.exact p).0 h),
-        λ h. (linear.order.exact p).1 (in_members dep p ∙ (stands.names p).0 h),
+        λ h. (stands.names p).1 (sym (contains-members_of dep p) ∙ (linear.order.exact p).0 h),
+        λ h. (linear.order.exact p).1 (contains-members_of dep p ∙ (stands.names p).0 h),
       );
       parents_first = λ p c pair.
           (let both = stands.ends p c pair in

@@ -7,16 +7,13 @@ use Rattle.std.specs.Ordering.{nat_cmp}
 use Rattle.std.specs.Cmp.{nat_cmp_total}
 use Rattle.std.specs.FinSet as fin
 use Rattle.std.specs.FinMap as map
+use Rattle.graphs.proofs.Members.{contains-members_of}
 use Rattle.graphs.specs.Closures.{Closure, is_member, members_of, IsCover}
 use Rattle.lists.proofs.Entries.{Contains-cases, none_in_empty}
 use Rattle.bitset.specs.Places.{places, IsWithin}
 use Rattle.bitset.specs.Sets.{places-here, Contains-places, len-places}
 use Rattle.closure_flow.specs.Closures.{parents_at}
 use Rattle.linearize.specs.Orders.{AreCovers}
-
-pub in_members : (dep : Closure) (p : ℕ) → fin.contains (members_of dep) p ≡ is_member dep p
-unfolding members_of is_member
-in_members dep p = fin.contains-from_list nat_cmp_total (map.keys dep) p ∙ sym (map.contains_key-keys dep p)
 
 -- ---- a loop over the places of a set: those that it gave, and those to come
 abbrev pub Goes : ℕ → fin.FinSet nat_cmp → List ℕ → List ℕ → Type 0
@@ -71,7 +68,7 @@ linked_more n dep s parents ys ws zs c covers h e inside are = record {
 pub linked_all : (n : ℕ) (dep : Closure) (s : fin.FinSet nat_cmp) (parents : List (fin.FinSet nat_cmp)) (ys ws : List ℕ)
     → s ≡ members_of dep → IsWithin n s → n ≤ length parents → Linked n dep s parents ys ws → ws ≡ [] → AreCovers dep parents
 linked_all n dep s parents ys ws is within room h e =
-    let member : (c : ℕ) → is_member dep c ≡ true → fin.contains s c ≡ true = λ c m. ap (λ t. fin.contains t c) is ∙ in_members dep c ∙ m in
+    let member : (c : ℕ) → is_member dep c ≡ true → fin.contains s c ≡ true = λ c m. ap (λ t. fin.contains t c) is ∙ contains-members_of dep c ∙ m in
     record {
       there = λ c m. (let low : c < n = within c (member c m) in omega arith);
       exact = λ p c m. h.done c p (subst (λ xs. Contains xs c) (sym (gone n s ys ws h.goes e)) (Contains-places n s c (within c (member c m)) (member c m)));
@@ -105,7 +102,7 @@ pub members_tested : (n : ℕ) (dep : Closure) (s : fin.FinSet nat_cmp) (P : ℕ
 members_tested n dep s P zs is e = tested_start n (members_of dep) P zs (e ∙ ap (places n) is)
 
 pub member_here : (n : ℕ) (dep : Closure) (P : ℕ → Type 0) (ys ws zs : List ℕ) (p : ℕ) → Tested n (members_of dep) P ys ws → ws ≡ p ∷ zs → is_member dep p ≡ true
-member_here n dep P ys ws zs p h e = sym (in_members dep p) ∙ tested_here n (members_of dep) P ys ws zs p h e
+member_here n dep P ys ws zs p h e = sym (contains-members_of dep p) ∙ tested_here n (members_of dep) P ys ws zs p h e
 
 pub each_member : (n : ℕ) (dep : Closure) (s : fin.FinSet nat_cmp) (P : ℕ → Type 0) (ys ws : List ℕ) → s ≡ members_of dep → IsWithin n s → Tested n (members_of dep) P ys ws → ws ≡ [] → (p : ℕ) → is_member dep p ≡ true → P p
-each_member n dep s P ys ws is within h e p m = tested_all n (members_of dep) P ys ws (subst (IsWithin n) is within) h e p (in_members dep p ∙ m)
+each_member n dep s P ys ws is within h e p m = tested_all n (members_of dep) P ys ws (subst (IsWithin n) is within) h e p (contains-members_of dep p ∙ m)

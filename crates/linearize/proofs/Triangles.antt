@@ -8,7 +8,7 @@ use Rattle.std.specs.Ordering.{nat_cmp}
 use Rattle.std.specs.FinSet as fin
 use Rattle.lists.proofs.Cases.{or_true}
 use Rattle.bitset.specs.Members.{from_remove, to_remove}
-use Rattle.lists.proofs.Distinct.{distinct_kept, distinct-filter}
+use Rattle.lists.proofs.Distinct.{distinct_kept, distinct-filter, distinct_map}
 use Rattle.graphs.specs.Closures.{Closure, IsCover, IsClosed}
 use Rattle.lists.proofs.Entries.{map-Contains, Contains-head, Contains-later, Contains-cases, none_in_empty, kept_cases, filter-Contains}
 use Rattle.lists.specs.Distinct.{AreDistinct}
@@ -25,14 +25,6 @@ length_inside n s (x ∷ xs) within d inside =
     omega (arith, rest, len_remove n s x within (inside x (Contains-head x xs)))
 
 -- ---- entries that pass a test
-
-distinct_map : {A B : Type 0} (f : A → B) (xs : List A) → AreDistinct xs → ((x y : A) → Contains xs x → Contains xs y → f x ≡ f y → x ≡ y) → AreDistinct (map f xs)
-distinct_map f [] d same = tt
-distinct_map f (x ∷ xs) d same = (
-  λ h. (let found = map-Contains f xs (f x) h in
-      d.0 (subst (λ z. Contains xs z) (same found.0 x (Contains-later x found.0 xs found.1) (Contains-head x xs) found.2) found.1)),
-  distinct_map f xs d.1 (λ y z a b e. same y z (Contains-later x y xs a) (Contains-later x z xs b) e),
-)
 
 module _ (n : ℕ) (dep : Closure) (closed : IsClosed n dep) where
   both_ways : (x y : ℕ) → IsCover dep x y → IsCover dep y x → ⊥

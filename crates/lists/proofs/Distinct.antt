@@ -1,12 +1,12 @@
 -- Lists in which no entry stands twice.
 use Rattle.std.proofs.Common.{◌≡◌, ℕ, zero, suc, ◌+◌, ◌<◌, ◌≤◌, List, [], ◌∷◌, ◌++◌, Bool, true, false, cond, length, get_or, take, refl, sym, ap, ◌∙◌, subst, inl, inr, ◌⊎◌, arith}
-use Rattle.std.specs.Prelude.{Contains}
+use Rattle.std.specs.Prelude.{Contains, map}
 use Rattle.std.specs.List.{filter}
 use Rattle.std.proofs.lemmas.List.Elements.{Contains-append_left, Contains-append_right, Contains-append_cases, Contains-push_cases}
 use Rattle.std.proofs.lemmas.List.{get_or_default, get_or-take, length-take-le}
 use Rattle.std.proofs.lemmas.Bool.{cases_eq, cases_lt}
 use Rattle.lists.specs.Distinct.{AreDistinct}
-use Rattle.lists.proofs.Entries.{Contains-head, Contains-later, Contains-cases, none_in_empty, filter-Contains}
+use Rattle.lists.proofs.Entries.{Contains-head, Contains-later, Contains-cases, none_in_empty, filter-Contains, map-Contains}
 
 pub distinct-append_left : {A : Type 0} (xs ys : List A) → AreDistinct (xs ++ ys) → AreDistinct xs
 distinct-append_left [] ys d = tt
@@ -68,6 +68,16 @@ stays_before (x ∷ before) after (c ∷ front) rest a b e d here h =
         | inr there ↦ Contains-later c a front (stays_before before after front rest a b tails d.1 there later)
       ]
     ]
+
+-- what is made of different entries, where no two become one
+pub distinct_map : {A B : Type 0} (f : A → B) (xs : List A) → AreDistinct xs → ((x y : A) → Contains xs x → Contains xs y → f x ≡ f y → x ≡ y) → AreDistinct (map f xs)
+distinct_map f [] once apart = tt
+distinct_map {A = A} f (x ∷ xs) once apart = (
+  λ here.
+      let found = map-Contains f xs (f x) here in
+      once.0 (subst (λ (z : A). Contains xs z) (apart found.0 x (Contains-later x found.0 xs found.1) (Contains-head x xs) found.2) found.1),
+  distinct_map f xs once.1 (λ a b here there. apart a b (Contains-later x a xs here) (Contains-later x b xs there)),
+)
 
 -- ---- by places
 

@@ -1,12 +1,13 @@
 use Rattle.std.proofs.Common.{rules, ◌≡◌, ◌≤◌, ◌<◌, ◌*◌, ◌++◌, ap, ◌∙◌, sym, subst, arith}
 use Rattle.std.proofs.lemmas.List.{get_or_read_under}
 use Rattle.std.specs.FinSet as fin
+use Rattle.bitset.specs.Members.{len_bound}
 use Rattle.bitset.specs.Places.{places}
 use Rattle.bitset.specs.Sets.{places-here}
 use Rattle.dep_graph.specs.Changes.{IsRenumbered}
 use Rattle.dep_graph.specs.Moves.{ChangesFrom}
 use Rattle.dep_graph.specs.Rows.{set_at}
-use Rattle.dep_graph.proofs.Copying.{Copying-start, Copying-more, Copying-all, len_le, met_within, met_renumbered}
+use Rattle.dep_graph.proofs.Copying.{Copying-start, Copying-more, Copying-all, met_within, met_renumbered}
 use Rattle.dep_graph.proofs.graph.copy_sets.Goals as goal
 
 pub loop-place-init : goal.loop-place-init
@@ -23,7 +24,7 @@ loop-place-preserved g c =
 
 pub number_anew-requires : goal.number_anew-requires
 number_anew-requires g c =
-    let few : fin.len c.args.within.now ≤ c.args.from.now.len = len_le c.args.from.now.len c.args.within.now c.requires.there in (
+    let few : fin.len c.args.within.now ≤ c.args.from.now.len = len_bound c.args.from.now.len c.args.within.now c.requires.there in (
       search rules,
       (
         λ i p after inside held.

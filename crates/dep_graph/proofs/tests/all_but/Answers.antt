@@ -1,9 +1,9 @@
 use Rattle.std.proofs.Common.{◌∙◌, ap, sym, not, nat_eq}
 use Rattle.std.proofs.lemmas.Bool.{and_parts}
 use Rattle.std.specs.FinSet as fin
+use Rattle.graphs.proofs.Members.{contains-members_of}
 use Rattle.graphs.specs.Closures.{members_of}
 use Rattle.bitset.specs.Sets.{contains-remove}
-use Rattle.dep_graph.proofs.Kept.{contains-members_of}
 use Rattle.dep_graph.proofs.tests.all_but.Goals as goal
 
 pub returns : goal.returns

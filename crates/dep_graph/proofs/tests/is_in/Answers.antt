@@ -1,6 +1,6 @@
 use Rattle.std.proofs.Common.{◌∙◌, ap}
 use Rattle.std.specs.FinSet as fin
-use Rattle.dep_graph.proofs.Kept.{contains-members_of}
+use Rattle.graphs.proofs.Members.{contains-members_of}
 use Rattle.dep_graph.proofs.tests.is_in.Goals as goal
 
 pub returns : goal.returns

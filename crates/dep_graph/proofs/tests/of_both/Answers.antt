@@ -1,9 +1,9 @@
 use Rattle.std.proofs.Common.{◌∙◌, ap, sym}
 use Rattle.std.proofs.lemmas.Bool.{and_parts}
 use Rattle.std.specs.FinSet as fin
+use Rattle.graphs.proofs.Members.{contains-members_of}
 use Rattle.graphs.specs.Closures.{members_of}
 use Rattle.bitset.specs.Sets.{contains-intersection}
-use Rattle.dep_graph.proofs.Kept.{contains-members_of}
 use Rattle.dep_graph.proofs.tests.of_both.Goals as goal
 
 pub returns : goal.returns

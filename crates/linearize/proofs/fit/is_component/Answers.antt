@@ -2,11 +2,11 @@ use Rattle.std.proofs.Common.{rules, ◌≡◌, ◌⊎◌, inl, inr, ◌∙◌, 
 use Rattle.std.specs.Cmp.{nat_cmp_total}
 use Rattle.std.specs.FinSet as fin
 use Rattle.std.specs.Ordering.{nat_cmp}
+use Rattle.graphs.proofs.Members.{contains-members_of}
 use Rattle.lists.proofs.Cases.{swap}
 use Rattle.bitset.specs.Members.{empty_has_none}
 use Rattle.graphs.specs.Closures.{Closure, is_member, members_of, IsNear}
 use Rattle.lists.specs.Walks.{IsWalk, Walk}
-use Rattle.linearize.proofs.Places.{in_members}
 use Rattle.linearize.proofs.fit.is_component.Goals as goal
 
 -- a walk among members, by steps to ancestors and descendants
@@ -37,11 +37,11 @@ back dep s (u ∷ us) a b w =
 -- a set that is the members' holds members
 member_of : (dep : Closure) (s : fin.FinSet nat_cmp) (p : ℕ)
     → s ≡ members_of dep → fin.contains s p ≡ true → is_member dep p ≡ true
-member_of dep s p is h = sym (in_members dep p) ∙ ap (λ t. fin.contains t p) (sym is) ∙ h
+member_of dep s p is h = sym (contains-members_of dep p) ∙ ap (λ t. fin.contains t p) (sym is) ∙ h
 
 of_member : (dep : Closure) (s : fin.FinSet nat_cmp) (p : ℕ)
     → s ≡ members_of dep → is_member dep p ≡ true → fin.contains s p ≡ true
-of_member dep s p is m = ap (λ t. fin.contains t p) is ∙ in_members dep p ∙ m
+of_member dep s p is m = ap (λ t. fin.contains t p) is ∙ contains-members_of dep p ∙ m
 
 pub component-requires : goal.component-requires
 component-requires g c =

@@ -1,8 +1,9 @@
 use Rattle.std.proofs.Common.{◌≡◌, ◌<◌, ◌*◌, ◌∙◌, ap, sym, subst, arith, refl, true}
 use Rattle.std.specs.FinSet as fin
+use Rattle.graphs.proofs.Members.{contains-members_of}
 use Rattle.graphs.specs.Closures.{members_of}
 use Rattle.bitset.specs.Places.{places, IsWithin}
-use Rattle.linearize.proofs.Places.{goes_here, in_members, linked_start, linked_more, linked_all}
+use Rattle.linearize.proofs.Places.{goes_here, linked_start, linked_more, linked_all}
 use Rattle.linearize.proofs.Sizes.{words_fit, lists_fit, offset_fits}
 use Rattle.linearize.proofs.linear.link.Goals as goal
 
@@ -12,7 +13,7 @@ loop-place-init g c = linked_start (64 * g.row.W) _ _ _ _ (c.into_iter-place-ite
 pub covers-requires : goal.covers-requires
 covers-requires g c = (
   lists_fit g.row.W c.requires.narrow,
-  (words_fit g.row.W c.requires.narrow, sym (in_members c.args.dep.now c.in-Some.place) ∙ (goes_here (64 * g.row.W) _ _ _ _ c.in-Some.place c.loop-place.invariant.goes c.in-Some.ensures.steps).1),
+  (words_fit g.row.W c.requires.narrow, sym (contains-members_of c.args.dep.now c.in-Some.place) ∙ (goes_here (64 * g.row.W) _ _ _ _ c.in-Some.place c.loop-place.invariant.goes c.in-Some.ensures.steps).1),
 )
 
 pub offset_bounds-parents-place : goal.offset_bounds-parents-place

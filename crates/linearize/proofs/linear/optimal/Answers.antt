@@ -1,5 +1,6 @@
 use Rattle.std.proofs.Common.{◌≡◌, ◌*◌, ◌∙◌, ℕ, ap, sym, subst, arith, lit<, true, List, map, ◌++◌}
 use Rattle.std.specs.FinSet as fin
+use Rattle.graphs.proofs.Members.{contains-members_of}
 use Rattle.graphs.specs.Closures.{is_member, members_of, IsClosed}
 use Rattle.bitset.specs.Places.{IsWithin}
 use Rattle.graphs.specs.Graphs as model
@@ -11,7 +12,6 @@ use Rattle.linearize.specs.Splits.{Adds}
 use Rattle.linearize.specs.Steps.{AreOfSolves}
 use Rattle.linearize.proofs.Final.{certificate, has_sizes}
 use Rattle.linearize.proofs.Joined.{start_room}
-use Rattle.linearize.proofs.Places.{in_members}
 use Rattle.graphs.proofs.ClosureGraphs.{closures_have_graphs}
 use Rattle.linearize.proofs.Sizes.{words_fit, lists_fit, scratch_fits}
 use Rattle.linearize.proofs.Solves.{least_of, most_of}
@@ -24,7 +24,7 @@ split-requires g c =
     let dep = c.args.dep.now in
     let closed : IsClosed n dep = c.members-members.ensures.closed in
     let is : c.members-members.result ≡ members_of dep = c.members-members.ensures.members in
-    let member : (p : ℕ) → fin.contains c.members-members.result p ≡ true → is_member dep p ≡ true = λ p m. sym (in_members dep p) ∙ subst (λ s. fin.contains s p ≡ true) is m in
+    let member : (p : ℕ) → fin.contains c.members-members.result p ≡ true → is_member dep p ≡ true = λ p m. sym (contains-members_of dep p) ∙ subst (λ s. fin.contains s p ≡ true) is m in
     let len : fin.len c.members-members.result ≡ fin.len (members_of dep) = ap (λ s. fin.len s) is in
     let within : IsWithin n c.members-members.result = λ p m. closed.within p (member p m) in (
       scratch_fits g.row.W narrow,
