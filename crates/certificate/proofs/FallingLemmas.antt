@@ -11,7 +11,7 @@ use Rattle.fee_rate.specs.Rates.{AtMost, Below}
 use Rattle.graphs.specs.Rates.{sums, Falls}
 use Rattle.graphs.specs.Certificates.{Txs, rate_in, HasFalling}
 use Rattle.graphs.specs.Certificates as model
-use Rattle.certificate.specs.declared.lists.Part.{Part}
+use Rattle.certificate.specs.declared.owned.Part.{Part}
 use Rattle.certificate.specs.Fallings.{rates_of, rate_at, AreSummed, AreRates}
 use Rattle.certificate.specs.Parts.{part_of, parts_of, order_of, ids_at}
 use Rattle.certificate.specs.Places.{ArePlaces}

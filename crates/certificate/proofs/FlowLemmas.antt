@@ -9,7 +9,7 @@ use Rattle.graphs.specs.Rates.{sums}
 use Rattle.graphs.specs.Certificates.{Certifies, HasFlows, given, gotten, weight_in}
 use Rattle.graphs.specs.Certificates as model
 use Rattle.certificate.specs.declared.flows.Account.{Account}
-use Rattle.certificate.specs.declared.lists.Part.{Part}
+use Rattle.certificate.specs.declared.owned.Part.{Part}
 use Rattle.certificate.specs.Accounts.{account_at, IsOpen, AreOpen, AreNet, KeepParts, AreInside, AreBalanced, ends_of}
 use Rattle.certificate.specs.Parts.{part_of, parts_of, ids_at, flows_at}
 use Rattle.certificate.specs.Places.{ArePlaces}

@@ -7,7 +7,7 @@ use Rattle.graphs.specs.Graphs.{AreConnected}
 use Rattle.graphs.specs.Linearizations.{IsTopological}
 use Rattle.graphs.specs.Certificates.{Txs, graph_of, HasOrder}
 use Rattle.graphs.specs.Certificates as model
-use Rattle.certificate.specs.declared.lists.Part.{Part}
+use Rattle.certificate.specs.declared.owned.Part.{Part}
 use Rattle.certificate.specs.Chains.{pair_at}
 use Rattle.certificate.specs.Groups.{AreGroups, AreWithin}
 use Rattle.certificate.specs.Orders.{IsOrderOf, AreRanks, Rise, AreOfOneGroup}

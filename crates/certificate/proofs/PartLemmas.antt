@@ -5,7 +5,7 @@ use Rattle.std.specs.List.{flat_map}
 use Rattle.std.proofs.lemmas.List.{get_or-map, length-map, get_or_default}
 use Rattle.std.proofs.lemmas.List.Elements.{Contains-append_left, Contains-append_right}
 use Rattle.graphs.specs.Certificates as model
-use Rattle.certificate.specs.declared.lists.Part.{Part}
+use Rattle.certificate.specs.declared.owned.Part.{Part}
 use Rattle.certificate.specs.Parts.{part_of, parts_of, order_of, ids_at}
 
 pub ids_here : (parts : List Part) (k : ℕ) (part : Part) → k < length parts → part ≡ get_or parts k part → part.ids ≡ ids_at parts k

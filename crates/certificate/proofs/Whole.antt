@@ -12,7 +12,7 @@ use Rattle.certificate.specs.Faults.{Says}
 use Rattle.certificate.specs.Places.{ArePlaces}
 use Rattle.certificate.specs.Tables.{names_of, AreInLimits}
 use Rattle.certificate.proofs.RateLemmas.{within_name}
-use Rattle.certificate.specs.declared.lists.Part.{Part}
+use Rattle.certificate.specs.declared.owned.Part.{Part}
 use Rattle.certificate.specs.Accounts.{ArePayable, amount_of}
 use Rattle.certificate.specs.Answers.{AreClaims}
 use Rattle.certificate.specs.Parts.{parts_of, ids_at, flows_at}

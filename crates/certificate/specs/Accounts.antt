@@ -6,7 +6,7 @@ use Rattle.graphs.specs.declared.names.Flow.{Flow}
 use Rattle.graphs.specs.Certificates.{given, gotten, weight_in}
 use Rattle.certificate.specs.declared.flows.Account.{Account}
 use Rattle.certificate.specs.declared.graph.Tables.{Tables}
-use Rattle.certificate.specs.declared.lists.Part.{Part}
+use Rattle.certificate.specs.declared.owned.Part.{Part}
 use Rattle.certificate.specs.Parts.{flows_at}
 
 abbrev pub account_at : List Account → ℕ → Account

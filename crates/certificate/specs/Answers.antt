@@ -1,7 +1,7 @@
 -- What `check` is handed.
 use Rattle.std.specs.Prelude.{◌≢◌, ◌^◌, ◌<◌, ◌≤◌, List, [], Contains, sum_by}
 use Rattle.graphs.specs.declared.names.Flow.{Flow}
-use Rattle.certificate.specs.declared.lists.Part.{Part}
+use Rattle.certificate.specs.declared.owned.Part.{Part}
 use Rattle.certificate.specs.Accounts.{amount_of}
 
 -- each part has a name, each amount is at least 1, and the amounts of all parts sum to less than 2^127

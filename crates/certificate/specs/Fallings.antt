@@ -4,7 +4,7 @@ use Rattle.fee_rate.specs.declared.rates.Sum.{Sum}
 use Rattle.fee_rate.specs.Limits.{IsSum}
 use Rattle.graphs.specs.Rates.{sums}
 use Rattle.graphs.specs.Certificates.{Txs, rate_in}
-use Rattle.certificate.specs.declared.lists.Part.{Part}
+use Rattle.certificate.specs.declared.owned.Part.{Part}
 use Rattle.certificate.specs.Parts.{ids_at}
 
 -- the rates of the parts, as written

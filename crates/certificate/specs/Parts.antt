@@ -2,7 +2,7 @@
 use Rattle.std.specs.Prelude.{ℕ, List, [], map, flat_map, slice_index_or}
 use Rattle.graphs.specs.declared.names.Flow.{Flow}
 use Rattle.graphs.specs.Certificates as model
-use Rattle.certificate.specs.declared.lists.Part.{Part}
+use Rattle.certificate.specs.declared.owned.Part.{Part}
 
 abbrev pub part_of : Part → model.Part
 part_of part = record { rate = part.rate; ids = part.ids; flows = part.flows }

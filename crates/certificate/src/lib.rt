@@ -13,13 +13,13 @@ mod fault;
 mod flows;
 mod graph;
 mod groups;
-mod lists;
 mod names;
 mod order;
+mod owned;
 
 pub use checker::check;
 pub use fault::CheckFault;
-pub use lists::{EdgeList, FlowList, Part, PartList, TxList, Written};
+pub use owned::{EdgeList, FlowList, Part, PartList, TxList, Written};
 
 #[cfg(test)]
 mod tests;

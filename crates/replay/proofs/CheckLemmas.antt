@@ -8,7 +8,7 @@ use Rattle.graphs.specs.Certificates.{Finding, Certified, NoGraph, NoOrder, NoFa
 use Rattle.graphs.specs.Certificates as model
 use Rattle.graph_model.specs.Lines.{Cut, with_last}
 use Rattle.graph_model.specs.Texts.{Text, IsText, HasPartTypes, NoSyntax, Found}
-use Rattle.certificate.specs.declared.lists.Part.{Part}
+use Rattle.certificate.specs.declared.owned.Part.{Part}
 use Rattle.certificate.specs.Answers.{AreClaims}
 use Rattle.certificate.specs.Parts.{part_of}
 use Rattle.wire.specs.Laws.{BytesHaveOneCut}

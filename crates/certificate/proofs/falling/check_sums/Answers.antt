@@ -3,7 +3,7 @@ use Rattle.std.specs.Prelude.{Contains}
 use Rattle.std.proofs.lemmas.Bool.{cases_eq}
 use Rattle.graphs.specs.Rates.{sums}
 use Rattle.graphs.specs.Certificates.{rate_in}
-use Rattle.certificate.specs.declared.lists.Part.{Part}
+use Rattle.certificate.specs.declared.owned.Part.{Part}
 use Rattle.certificate.specs.Fallings.{rate_at}
 use Rattle.certificate.specs.Parts.{ids_at}
 use Rattle.certificate.proofs.PartLemmas.{ids_here, order_has}

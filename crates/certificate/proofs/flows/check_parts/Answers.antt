@@ -6,7 +6,7 @@ use Rattle.fee_rate.specs.Limits.{IsSum}
 use Rattle.graphs.specs.Rates.{sums}
 use Rattle.graphs.specs.Certificates.{Certifies, HasFlows, rate_in}
 use Rattle.certificate.specs.declared.fault.CheckFault.TheVariants as faults
-use Rattle.certificate.specs.declared.lists.Part.{Part}
+use Rattle.certificate.specs.declared.owned.Part.{Part}
 use Rattle.certificate.specs.Accounts.{IsEdge, amount_of}
 use Rattle.certificate.specs.Parts.{parts_of, ids_at, flows_at}
 use Rattle.certificate.proofs.FallingLemmas.{rate_read}

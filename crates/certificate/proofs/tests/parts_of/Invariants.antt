@@ -1,7 +1,7 @@
 use Rattle.std.proofs.Common.{◌*◌, ◌^◌, ◌≤◌, ◌≢◌, []}
 use Rattle.std.specs.Prelude.{Contains, sum_by}
 use Rattle.graphs.specs.declared.names.Flow.{Flow}
-use Rattle.certificate.specs.declared.lists.Part.{Part}
+use Rattle.certificate.specs.declared.owned.Part.{Part}
 use Rattle.certificate.specs.Accounts.{amount_of}
 use Rattle.certificate.proofs.tests.parts_of.Given as goal
 

@@ -3,7 +3,7 @@ use Rattle.std.specs.Prelude.{Contains, sum_by}
 use Rattle.std.proofs.lemmas.List.Elements.{Contains-push_cases, All-contains}
 use Rattle.std.proofs.lemmas.List.Sums.{sum_by_push}
 use Rattle.graphs.specs.declared.names.Flow.{Flow}
-use Rattle.certificate.specs.declared.lists.Part.{Part}
+use Rattle.certificate.specs.declared.owned.Part.{Part}
 use Rattle.certificate.specs.Accounts.{amount_of}
 use Rattle.cross_tests.proofs.orders.claims_of.Goals as goal
 

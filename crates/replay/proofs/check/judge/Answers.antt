@@ -1,5 +1,5 @@
 use Rattle.std.proofs.Common.{List, subst, sym}
-use Rattle.certificate.specs.declared.lists.Part.{Part}
+use Rattle.certificate.specs.declared.owned.Part.{Part}
 use Rattle.std.specs.declared.result.Result.TheVariants.{Err}
 use Rattle.certificate.specs.Answers.{AreClaims}
 use Rattle.certificate.specs.Parts.{parts_of}

@@ -136,7 +136,7 @@ pub struct PartList {
 
 impl Model for PartList {
     ghost use Rattle.std.specs.Prelude.{List};
-    ghost use Rattle.certificate.specs.declared.lists.Part.{Part};
+    ghost use Rattle.certificate.specs.declared.owned.Part.{Part};
 
     ghost Value = { List Part };
 
