@@ -59,6 +59,12 @@ fn rows<K: ledger::Ledger>(rt: &impl Abort, alloc: Global, blank: Blank) -> Resu
     assert_eq!(rt; scratch.flow(1, 0), 60);
     assert_eq!(rt; scratch.flow(2, 0), 60);
     assert_eq!(rt; scratch.flow(0, 0), 0);
+    assert_eq!(rt; scratch.flow(0, 1), 0);
+    assert_eq!(rt; scratch.flow(0, 2), 0);
+    assert_eq!(rt; scratch.flow(1, 1), 0);
+    assert_eq!(rt; scratch.flow(1, 2), 0);
+    assert_eq!(rt; scratch.flow(2, 1), 0);
+    assert_eq!(rt; scratch.flow(2, 2), 0);
 
     assert!(rt; steps.ledger().shown() >= 4);
     Ok(())
