@@ -59,6 +59,7 @@ fn room_in<const W: usize>(alloc: Global) -> Option<Room<W>> {
 
 // Whether a graph can be ordered.
 fn suits<const W: usize>(graph: &DepGraph<W>) -> bool
+    requires words { W ≤ 2 }
     ensures some { result ≡ true → 0 < set.len (members_of graph.now) }
     ensures few { result ≡ true → set.len (members_of graph.now) ≤ most_members }
     ensures rates { result ≡ true → HasRates graph.now }
