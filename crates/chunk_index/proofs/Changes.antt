@@ -29,7 +29,8 @@ has-kept f k q (x ∷ xs) = by (f (key_cmp (item_key x) k)) refl (is_eq (key_cmp
     answer : is_eq (key_cmp (item_key x) q) ≡ true → f (key_cmp q k) ≡ f (key_cmp (item_key x) k)
     answer same = ap f (sym (key_cmp_total.congr (item_key x) q k ((Equal-is (key_cmp (item_key x) q)).0 same)))
 
-    by : (kept : Bool) → f (key_cmp (item_key x) k) ≡ kept → (same : Bool) → is_eq (key_cmp (item_key x) q) ≡ same → has_key item_key (kept_by item_key f k xs) q ≡ (f (key_cmp q k) && has_key item_key xs q)
+    by : (kept : Bool) → f (key_cmp (item_key x) k) ≡ kept → (same : Bool) → is_eq (key_cmp (item_key x) q) ≡ same
+        → has_key item_key (kept_by item_key f k xs) q ≡ (f (key_cmp q k) && has_key item_key xs q)
         → has_key item_key (kept_by item_key f k (x ∷ xs)) q ≡ (f (key_cmp q k) && has_key item_key (x ∷ xs) q)
     by true h true s rest = let there = answer s ∙ h in rw (h, s, there) refl
     by true h false s rest = rw (h, s) rest
@@ -50,7 +51,8 @@ has-inserted items e d t =
     list_any-append (λ x. is_eq (key_cmp (item_key x) (key_of d))) (kept_by item_key is_lt (key_of e) items) ((e, t) ∷ kept_by item_key is_gt (key_of e) items)
     ∙ ap (λ b. b || (is_same e d || has_key item_key (kept_by item_key is_gt (key_of e) items) (key_of d))) (has-kept is_lt (key_of e) (key_of d) items)
     ∙ ap (λ b. (is_lt (key_cmp (key_of d) (key_of e)) && has items d) || (is_same e d || b)) (has-kept is_gt (key_of e) (key_of d) items)
-    ∙ ap (λ o. (is_lt (key_cmp (key_of d) (key_of e)) && has items d) || (is_eq o || (is_gt (key_cmp (key_of d) (key_of e)) && has items d))) (key_cmp_total.antisymm (key_of e) (key_of d))
+    ∙ ap (λ o. (is_lt (key_cmp (key_of d) (key_of e)) && has items d) || (is_eq o || (is_gt (key_cmp (key_of d) (key_of e)) && has items d)))
+    (key_cmp_total.antisymm (key_of e) (key_of d))
     ∙ of_answer (key_cmp (key_of d) (key_of e)) (has items d)
     ∙ ap (λ b. b || has items d) (same_test (key_of e) (key_of d))
 
@@ -70,13 +72,18 @@ unfolding tag_set has_key
 has-retagged [] k q t = refl
 has-retagged (x ∷ xs) k q t = by (is_eq (key_cmp (item_key x) k)) refl (has-retagged xs k q t)
   where
-    by : (same : Bool) → is_eq (key_cmp (item_key x) k) ≡ same → has_key item_key (tag_set xs k t) q ≡ has_key item_key xs q → has_key item_key (tag_set (x ∷ xs) k t) q ≡ has_key item_key (x ∷ xs) q
+    by : (same : Bool) → is_eq (key_cmp (item_key x) k) ≡ same → has_key item_key (tag_set xs k t) q ≡ has_key item_key xs q
+        → has_key item_key (tag_set (x ∷ xs) k t) q ≡ has_key item_key (x ∷ xs) q
     by true s rest = rw s (ap (λ b. is_eq (key_cmp (item_key x) q) || b) rest)
     by false s rest = rw s (ap (λ b. is_eq (key_cmp (item_key x) q) || b) rest)
 
 pub one_key : ChangesOneKey
 one_key = record {
-  same = λ e d. (λ s. level_keys (key_of e) (key_of d) ((Equal-is (key_cmp (key_of e) (key_of d))).0 s), λ s. subst (λ (k : Key). is_eq (key_cmp (key_of e) k) ≡ true) s (ap is_eq (tied_itself key_cmp_total (key_of e))));
+  same = λ e d. (
+    λ s. level_keys (key_of e) (key_of d) ((Equal-is (key_cmp (key_of e) (key_of d))).0 s),
+    λ s. subst (λ (k : Key). is_eq (key_cmp
+        (key_of e) k) ≡ true) s (ap is_eq (tied_itself key_cmp_total (key_of e))),
+  );
   inserted = has-inserted;
   removed = has-removed;
   retagged = λ items e d t. has-retagged items (key_of e) (key_of d) t;

@@ -51,24 +51,29 @@ module _ (es : Slots) (m t : List Entry) (kept : IsKept (items_of es) m t) where
       apart e = cc
 
   -- ---- with a slot put in
-  module _ (new : Slots) (e : Entry) (place : Place) (lacks : has (items_of es) e ≡ false) (is : new ≡ insert_entry key_cmp es (key_of e) (record { number = e.number; place = place })) where
+  module _ (new : Slots) (e : Entry) (place : Place) (lacks : has (items_of es) e ≡ false) (is : new ≡ insert_entry key_cmp es (key_of e)
+      (record { number = e.number; place = place })) where
     pub put-items : items_of new ≡ put item_key (items_of es) (e, tag_of place)
     put-items = ap items_of is ∙ items-insert es (key_of e) (record { number = e.number; place = place }) kept.order lacks
 
-    comes : (p : Tag → Bool) (list : List Entry) → list ≡ entries_by p (items_of es) → cond (p (tag_of place)) (put key_of list e) list ≡ entries_by p (items_of new)
+    comes : (p : Tag → Bool) (list : List Entry) → list ≡ entries_by p (items_of es) → cond (p (tag_of place)) (put key_of list e) list
+        ≡ entries_by p (items_of new)
     comes p list was = by (p (tag_of place)) refl
       where
         stays : without key_of list (key_of e) ≡ list
-        stays = without_absent key_of list (key_of e) (ap (λ (xs : List Entry). has_key key_of xs (key_of e)) was ∙ lacks-entries p (items_of es) (key_of e) lacks)
+        stays = without_absent key_of list (key_of e) (ap (λ (xs : List Entry). has_key key_of xs (key_of e)) was ∙ lacks-entries p (items_of es)
+            (key_of e) lacks)
 
         whole : entries_by p (items_of new) ≡ moved (p (tag_of place)) list e
-        whole = ap (entries_by p) put-items ∙ entries-moved p (items_of es) e (tag_of place) kept.order ∙ ap (λ (xs : List Entry). moved (p (tag_of place)) xs e) (sym was)
+        whole = ap (entries_by p) put-items ∙ entries-moved p (items_of es) e (tag_of place) kept.order ∙ ap (λ (xs : List Entry). moved (p
+            (tag_of place)) xs e) (sym was)
 
         by : (passes : Bool) → p (tag_of place) ≡ passes → cond (p (tag_of place)) (put key_of list e) list ≡ entries_by p (items_of new)
         by true yields = rw yields (sym (whole ∙ rw yields (put-without key_of list e)))
         by false yields = rw yields (sym (whole ∙ rw yields stays))
 
-    pub put-kept : IsStrictlySortedBy key_cmp (keys_of new) → IsKept (items_of new) (cond (same_tag MainOnly (tag_of place)) (put key_of m e) m) (cond (same_tag TopOnly (tag_of place)) (put key_of t e) t)
+    pub put-kept : IsStrictlySortedBy key_cmp (keys_of new) → IsKept (items_of new) (cond (same_tag MainOnly (tag_of place)) (put key_of m e) m)
+        (cond (same_tag TopOnly (tag_of place)) (put key_of t e) t)
     put-kept sorted = record { order = items_in_order new sorted; main = comes (same_tag MainOnly) m kept.main; top = comes (same_tag TopOnly) t kept.top }
 
   -- ---- with a slot taken out
@@ -87,14 +92,16 @@ module _ (es : Slots) (m t : List Entry) (kept : IsKept (items_of es) m t) where
     pub tag-items : items_of new ≡ tag_set (items_of es) k (tag_of w.place)
     tag-items = ap items_of is ∙ items-set es k v w kept.order at number
 
-    changes : (p : Tag → Bool) (list : List Entry) → list ≡ entries_by p (items_of es) → moved (p (tag_of w.place)) list (entry_from k v.number) ≡ entries_by p (items_of new)
+    changes : (p : Tag → Bool) (list : List Entry) → list ≡ entries_by p (items_of es) → moved (p (tag_of w.place)) list (entry_from k v.number)
+        ≡ entries_by p (items_of new)
     changes p list was =
         ap (λ (xs : List Entry). moved (p (tag_of w.place)) xs (entry_from k v.number)) was
         ∙ sym (entries-moved p (items_of es) (entry_from k v.number) (tag_of w.place) kept.order)
         ∙ ap (entries_by p) (sym (tag-items ∙ found es k v kept.order at (tag_of w.place)))
 
     pub tag-kept : IsStrictlySortedBy key_cmp (keys_of new)
-        → IsKept (items_of new) (moved (same_tag MainOnly (tag_of w.place)) m (entry_from k v.number)) (moved (same_tag TopOnly (tag_of w.place)) t (entry_from k v.number))
+        → IsKept (items_of new) (moved (same_tag MainOnly (tag_of w.place)) m (entry_from k v.number)) (moved (same_tag TopOnly (tag_of w.place)) t
+        (entry_from k v.number))
     tag-kept sorted = record { order = items_in_order new sorted; main = changes (same_tag MainOnly) m kept.main; top = changes (same_tag TopOnly) t kept.top }
 
 -- an index of no entries

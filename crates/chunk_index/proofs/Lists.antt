@@ -266,9 +266,11 @@ module _ {A : Type 0} (key : A → Key) where
       c : IsCut [] x xs
       c = cut [] x xs order
 
-      by : (o : Ordering) → key_cmp k (key x) ≡ o → kept_by is_lt k xs ++ kept_by is_gt k xs ≡ without key xs k → kept_by is_lt k (x ∷ xs) ++ kept_by is_gt k (x ∷ xs) ≡ without key (x ∷ xs) k
+      by : (o : Ordering) → key_cmp k (key x) ≡ o → kept_by is_lt k xs ++ kept_by is_gt k xs ≡ without key xs k
+          → kept_by is_lt k (x ∷ xs) ++ kept_by is_gt k (x ∷ xs) ≡ without key (x ∷ xs) k
       by Less is rest =
-          ap (λ (t : List A). t ++ kept_by is_gt k (x ∷ xs)) (low-dropped [] x xs c k is_lt refl is) ∙ low-kept [] x xs c k is_gt refl is ∙ sym (low-kept [] x xs c k is_ne refl is)
+          ap (λ (t : List A). t ++ kept_by is_gt k (x ∷ xs)) (low-dropped [] x xs c k is_lt refl is) ∙ low-kept [] x xs c k is_gt refl is
+          ∙ sym (low-kept [] x xs c k is_ne refl is)
       by Equal is rest =
           ap (λ (t : List A). t ++ kept_by is_gt k (x ∷ xs)) (before-level [] x xs c k is) ∙ behind-level [] x xs c k is ∙ sym (without-level [] x xs c k is)
       by Greater is rest =
@@ -281,7 +283,8 @@ module _ {A : Type 0} (key : A → Key) where
   twice f g narrower k [] = refl
   twice f g narrower k (x ∷ xs) = by (g (key_cmp (key x) k)) refl (f (key_cmp (key x) k)) refl (twice f g narrower k xs)
     where
-      by : (b : Bool) → g (key_cmp (key x) k) ≡ b → (a : Bool) → f (key_cmp (key x) k) ≡ a → kept_by f k (kept_by g k xs) ≡ kept_by f k xs → kept_by f k (kept_by g k (x ∷ xs)) ≡ kept_by f k (x ∷ xs)
+      by : (b : Bool) → g (key_cmp (key x) k) ≡ b → (a : Bool) → f (key_cmp (key x) k) ≡ a → kept_by f k (kept_by g k xs) ≡ kept_by f k xs
+          → kept_by f k (kept_by g k (x ∷ xs)) ≡ kept_by f k (x ∷ xs)
       by true e true d rest = rw e (rw d (ap (λ (t : List A). x ∷ t) rest))
       by true e false d rest = rw e (rw d rest)
       by false e a d rest = let drops = narrower (key_cmp (key x) k) e in rw (e, drops) rest

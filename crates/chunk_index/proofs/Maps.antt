@@ -75,10 +75,12 @@ has-lookup k (e ∷ es) =
     ∙ sym (some_cond (test k e.0) e.1 (lookup (test k) es))
 
 -- ---- an insertion of a key that isn't there
-not_there : (k : Key) (e : Key × Slot) (es : Slots) → AreInOrder (items_of (e ∷ es)) → key_cmp k e.0 ≡ Equal → has_key item_key (items_of (e ∷ es)) k ≡ false → ⊥
+not_there : (k : Key) (e : Key × Slot) (es : Slots) → AreInOrder (items_of (e ∷ es)) → key_cmp k e.0 ≡ Equal → has_key item_key (items_of
+    (e ∷ es)) k ≡ false → ⊥
 not_there k e es order level lacks = false_true (sym lacks ∙ has-level item_key [] (item_of e) (items_of es) (first k e es order) k level)
 
-pub items-insert : (es : Slots) (k : Key) (v : Slot) → AreInOrder (items_of es) → has_key item_key (items_of es) k ≡ false → items_of (insert_entry key_cmp es k v) ≡ put item_key (items_of es) (item_of (k, v))
+pub items-insert : (es : Slots) (k : Key) (v : Slot) → AreInOrder (items_of es) → has_key item_key (items_of es) k ≡ false
+    → items_of (insert_entry key_cmp es k v) ≡ put item_key (items_of es) (item_of (k, v))
 unfolding put before behind
 items-insert [] k v order lacks = refl
 items-insert (e ∷ es) k v order lacks = by (key_cmp k e.0) refl (items-insert es k v (tail k e es order))
@@ -86,7 +88,8 @@ items-insert (e ∷ es) k v order lacks = by (key_cmp k e.0) refl (items-insert 
     c : IsCut item_key [] (item_of e) (items_of es)
     c = first k e es order
 
-    by : (o : Ordering) → key_cmp k e.0 ≡ o → (has_key item_key (items_of es) k ≡ false → items_of (insert_entry key_cmp es k v) ≡ put item_key (items_of es) (item_of (k, v)))
+    by : (o : Ordering) → key_cmp k e.0 ≡ o → (has_key item_key (items_of es) k ≡ false → items_of (insert_entry key_cmp es k v)
+        ≡ put item_key (items_of es) (item_of (k, v)))
         → items_of (insert_entry key_cmp (e ∷ es) k v) ≡ put item_key (items_of (e ∷ es)) (item_of (k, v))
     by Less is rest = rw is (sym (put-low item_key [] (item_of e) (items_of es) c k (item_of (k, v)) refl is))
     by Equal is rest = absurd (not_there k e es order is lacks)
@@ -125,7 +128,8 @@ tag-none k t (x ∷ xs) lacks =
     rw both.0 (ap (λ (s : Items). x ∷ s) (tag-none k t xs both.1))
 
 -- where a look-up of k finds the slot v: the items have the key, a new tag there is the item put anew, and so is a new slot with the same number
-pub found : (es : Slots) (k : Key) (v : Slot) → AreInOrder (items_of es) → lookup (test k) es ≡ Some v → (t : Tag) → tag_set (items_of es) k t ≡ put item_key (items_of es) (entry_from k v.number, t)
+pub found : (es : Slots) (k : Key) (v : Slot) → AreInOrder (items_of es) → lookup (test k) es ≡ Some v → (t : Tag) → tag_set (items_of es) k t
+    ≡ put item_key (items_of es) (entry_from k v.number, t)
 unfolding tag_set has_key
 found [] k v order at t = absurd (none_some v at)
   where
@@ -139,7 +143,8 @@ found (e ∷ es) k v order at t = by (key_cmp k e.0) refl (found es k v (tail k 
     same_slot : (a b : Slot) → Some a ≡ Some b → a ≡ b
     same_slot a b s = ap (λ o. unwrap_or o a) s
 
-    by : (o : Ordering) → key_cmp k e.0 ≡ o → (lookup (test k) es ≡ Some v → (t : Tag) → tag_set (items_of es) k t ≡ put item_key (items_of es) (entry_from k v.number, t))
+    by : (o : Ordering) → key_cmp k e.0 ≡ o → (lookup (test k) es ≡ Some v → (t : Tag) → tag_set (items_of es) k t ≡ put item_key (items_of es)
+        (entry_from k v.number, t))
         → tag_set (items_of (e ∷ es)) k t ≡ put item_key (items_of (e ∷ es)) (entry_from k v.number, t)
     by Less is rest =
         let lacks = has-low item_key [] (item_of e) (items_of es) c k is in
@@ -173,14 +178,16 @@ items-set (e ∷ es) k v w order at number = by (key_cmp k e.0) refl (items-set 
     same_slot : (a b : Slot) → Some a ≡ Some b → a ≡ b
     same_slot a b s = ap (λ o. unwrap_or o a) s
 
-    other : (o : Ordering) → key_cmp k e.0 ≡ o → is_eq o ≡ false → (lookup (test k) es ≡ Some v → w.number ≡ v.number → items_of (set_value (test k) es w) ≡ tag_set (items_of es) k (tag_of w.place))
+    other : (o : Ordering) → key_cmp k e.0 ≡ o → is_eq o ≡ false → (lookup (test k) es ≡ Some v → w.number ≡ v.number
+        → items_of (set_value (test k) es w) ≡ tag_set (items_of es) k (tag_of w.place))
         → items_of (set_value (test k) (e ∷ es) w) ≡ tag_set (items_of (e ∷ es)) k (tag_of w.place)
     other o is differs rest =
         let here : test k e.0 ≡ false = ap is_eq is ∙ differs in
         let tested = same_test k e.0 ∙ here in
         rw (here, tested) (ap (λ (s : Items). item_of e ∷ s) (rest (sym (ap (λ b. cond b (Some e.1) (lookup (test k) es)) here) ∙ at) number))
 
-    by : (o : Ordering) → key_cmp k e.0 ≡ o → (lookup (test k) es ≡ Some v → w.number ≡ v.number → items_of (set_value (test k) es w) ≡ tag_set (items_of es) k (tag_of w.place))
+    by : (o : Ordering) → key_cmp k e.0 ≡ o → (lookup (test k) es ≡ Some v → w.number ≡ v.number → items_of (set_value (test k) es w)
+        ≡ tag_set (items_of es) k (tag_of w.place))
         → items_of (set_value (test k) (e ∷ es) w) ≡ tag_set (items_of (e ∷ es)) k (tag_of w.place)
     by Less is rest = other Less is refl rest
     by Equal is rest =
@@ -189,5 +196,6 @@ items-set (e ∷ es) k v w order at number = by (key_cmp k e.0) refl (items-set 
         let same : w.number ≡ e.1.number = number ∙ sym (ap (λ (s : Slot). s.number) slot) in
         let tested = same_test k e.0 ∙ here in
         rw (here, tested) (ap (λ n. (entry_from e.0 n, tag_of w.place) ∷ items_of es) same
-        ∙ ap (λ (s : Items). (entry_from e.0 e.1.number, tag_of w.place) ∷ s) (sym (tag-none k (tag_of w.place) (items_of es) (lacks-level item_key [] (item_of e) (items_of es) c k is))))
+        ∙ ap (λ (s : Items). (entry_from e.0 e.1.number, tag_of w.place) ∷ s) (sym (tag-none k (tag_of w.place) (items_of es)
+        (lacks-level item_key [] (item_of e) (items_of es) c k is))))
     by Greater is rest = other Greater is refl rest

@@ -11,7 +11,8 @@ use Rattle.chunk_index.specs.KeyLaws.{key_cmp_total, level_keys, meaning}
 use Rattle.chunk_index.specs.Keys.{key_of}
 use Rattle.chunk_index.specs.KeyMeaning.{sum_of, StandsBefore, ComparesKeys, IsKeyOrder}
 
-rates : (a b : Entry) (o : Ordering) → rate_cmp a.rate b.rate ≡ o → MatchOrdering o (Below (sum_of b) (sum_of a)) (Same (sum_of a) (sum_of b)) (Below (sum_of a) (sum_of b))
+rates : (a b : Entry) (o : Ordering) → rate_cmp a.rate b.rate ≡ o → MatchOrdering o (Below (sum_of b) (sum_of a)) (Same (sum_of a) (sum_of b))
+    (Below (sum_of a) (sum_of b))
 rates a b Less e = record { crossed = meaning (b.rate.fee *ℤ pos (max 1 a.rate.size)) (a.rate.fee *ℤ pos (max 1 b.rate.size)) Less e }
 rates a b Equal e = record { crossed = sym (meaning (b.rate.fee *ℤ pos (max 1 a.rate.size)) (a.rate.fee *ℤ pos (max 1 b.rate.size)) Equal e) }
 rates a b Greater e = record { crossed = meaning (b.rate.fee *ℤ pos (max 1 a.rate.size)) (a.rate.fee *ℤ pos (max 1 b.rate.size)) Greater e }
@@ -48,7 +49,8 @@ compares a b =
     (level_keys (key_of a) (key_of b))
 
 -- four answers that say Less in turn
-in_turn : (a b : Entry) (r s p z : Ordering) → rate_cmp a.rate b.rate ≡ r → nat_cmp a.serial b.serial ≡ s → nat_cmp a.position b.position ≡ p → nat_cmp a.rate.size b.rate.size ≡ z
+in_turn : (a b : Entry) (r s p z : Ordering) → rate_cmp a.rate b.rate ≡ r → nat_cmp a.serial b.serial ≡ s → nat_cmp a.position b.position ≡ p
+    → nat_cmp a.rate.size b.rate.size ≡ z
     → ordering_then (ordering_then (ordering_then r s) p) z ≡ Less → key_cmp (key_of a) (key_of b) ≡ Less
 unfolding key_cmp
 in_turn a b r s p z er es ep ez less = rw (er, es, ep, ez) less
@@ -64,14 +66,18 @@ nat_level x y h = sym (nat_cmp_is x y Equal h)
 
 less : (a b : Entry) → StandsBefore a b → key_cmp (key_of a) (key_of b) ≡ Less
 less a b (inl below) =
-    let rate : rate_cmp a.rate b.rate ≡ Less = sym (int_cmp_is (b.rate.fee *ℤ pos (max 1 a.rate.size)) (a.rate.fee *ℤ pos (max 1 b.rate.size)) Less below.crossed) in
+    let rate : rate_cmp a.rate b.rate ≡ Less = sym (int_cmp_is (b.rate.fee *ℤ pos (max 1 a.rate.size)) (a.rate.fee *ℤ pos
+    (max 1 b.rate.size)) Less below.crossed) in
     in_turn a b Less (nat_cmp a.serial b.serial) (nat_cmp a.position b.position) (nat_cmp a.rate.size b.rate.size) rate refl refl refl refl
 less a b (inr (same, inl serial)) =
-    in_turn a b Equal Less (nat_cmp a.position b.position) (nat_cmp a.rate.size b.rate.size) (rate_level a b same) (nat_less a.serial b.serial serial) refl refl refl
+    in_turn a b Equal Less (nat_cmp a.position b.position) (nat_cmp a.rate.size b.rate.size) (rate_level a b same)
+    (nat_less a.serial b.serial serial) refl refl refl
 less a b (inr (same, inr (serial, inl position))) =
-    in_turn a b Equal Equal Less (nat_cmp a.rate.size b.rate.size) (rate_level a b same) (nat_level a.serial b.serial serial) (nat_less a.position b.position position) refl refl
+    in_turn a b Equal Equal Less (nat_cmp a.rate.size b.rate.size) (rate_level a b same) (nat_level a.serial b.serial serial)
+    (nat_less a.position b.position position) refl refl
 less a b (inr (same, inr (serial, inr (position, size)))) =
-    in_turn a b Equal Equal Equal Less (rate_level a b same) (nat_level a.serial b.serial serial) (nat_level a.position b.position position) (nat_less a.rate.size b.rate.size size) refl
+    in_turn a b Equal Equal Equal Less (rate_level a b same) (nat_level a.serial b.serial serial) (nat_level a.position b.position position)
+    (nat_less a.rate.size b.rate.size size) refl
 
 less_equal : Less ≡ Equal → ⊥
 less_equal e = cc

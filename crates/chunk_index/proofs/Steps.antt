@@ -25,7 +25,8 @@ pub record Stops (xs l r : List Entry) (k : Key) : Type 0 where
   pub has : has_key key_of xs k ≡ true
   pub without : l ++ r ≡ without key_of xs k
 
-module _ (xs l : List Entry) (h : Entry) (r : List Entry) (whole : xs ≡ l ++ h ∷ r) (order : IsInOrder key_of xs) (k asks at : Key) (is_k : asks ≡ k) (is_h : at ≡ key_of h) where
+module _ (xs l : List Entry) (h : Entry) (r : List Entry) (whole : xs ≡ l ++ h ∷ r) (order : IsInOrder key_of xs) (k asks at : Key) (is_k : asks
+    ≡ k) (is_h : at ≡ key_of h) where
   asked : (o : Ordering) → o ≡ key_cmp asks at → key_cmp k (key_of h) ≡ o
   asked o e = ap (key_cmp k) (sym is_h) ∙ ap (λ (q : Key). key_cmp q at) (sym is_k) ∙ sym e
 

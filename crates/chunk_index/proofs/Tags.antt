@@ -23,7 +23,8 @@ module _ (p : Tag → Bool) where
   kept-by f k [] = refl
   kept-by f k (x ∷ xs) = by (p x.1) refl (f (key_cmp (item_key x) k)) refl (kept-by f k xs)
     where
-      by : (tagged : Bool) → p x.1 ≡ tagged → (kept : Bool) → f (key_cmp (item_key x) k) ≡ kept → entries_by p (kept_by item_key f k xs) ≡ kept_by key_of f k (entries_by p xs)
+      by : (tagged : Bool) → p x.1 ≡ tagged → (kept : Bool) → f (key_cmp (item_key x) k) ≡ kept → entries_by p (kept_by item_key f k xs)
+          ≡ kept_by key_of f k (entries_by p xs)
           → entries_by p (kept_by item_key f k (x ∷ xs)) ≡ kept_by key_of f k (entries_by p (x ∷ xs))
       by true t true h rest = rw (t, h) (rw t (ap (λ (s : List Entry). x.0 ∷ s) rest))
       by true t false h rest = rw (t, h) rest
@@ -35,7 +36,8 @@ module _ (p : Tag → Bool) where
   entries-append [] ys = refl
   entries-append (x ∷ xs) ys = by (p x.1) refl (entries-append xs ys)
     where
-      by : (tagged : Bool) → p x.1 ≡ tagged → entries_by p (xs ++ ys) ≡ entries_by p xs ++ entries_by p ys → entries_by p (x ∷ xs ++ ys) ≡ entries_by p (x ∷ xs) ++ entries_by p ys
+      by : (tagged : Bool) → p x.1 ≡ tagged → entries_by p (xs ++ ys) ≡ entries_by p xs ++ entries_by p ys → entries_by p (x ∷ xs ++ ys)
+          ≡ entries_by p (x ∷ xs) ++ entries_by p ys
       by true t rest = rw t (ap (λ (s : List Entry). x.0 ∷ s) rest)
       by false t rest = rw t rest
 
@@ -62,12 +64,14 @@ module _ (p : Tag → Bool) where
       ∙ ap (λ (s : List Entry). kept_by key_of is_lt (key_of e) (entries_by p xs) ++ s) (kept-by is_gt (key_of e) xs))
 
   -- ---- they are in order, and no more than the items
-  all-entries : (k : Key) (xs : Items) → AllByRecursion (λ i. key_cmp k (item_key i) ≡ Less) xs → AllByRecursion (λ e. key_cmp k (key_of e) ≡ Less) (entries_by p xs)
+  all-entries : (k : Key) (xs : Items) → AllByRecursion (λ i. key_cmp k (item_key i) ≡ Less) xs → AllByRecursion (λ e. key_cmp k (key_of e)
+      ≡ Less) (entries_by p xs)
   unfolding entries_by
   all-entries k [] all = tt
   all-entries k (x ∷ xs) all = by (p x.1) refl (all-entries k xs all.1)
     where
-      by : (tagged : Bool) → p x.1 ≡ tagged → AllByRecursion (λ e. key_cmp k (key_of e) ≡ Less) (entries_by p xs) → AllByRecursion (λ e. key_cmp k (key_of e) ≡ Less) (entries_by p (x ∷ xs))
+      by : (tagged : Bool) → p x.1 ≡ tagged → AllByRecursion (λ e. key_cmp k (key_of e) ≡ Less) (entries_by p xs) → AllByRecursion (λ e. key_cmp k
+          (key_of e) ≡ Less) (entries_by p (x ∷ xs))
       by true t rest = rw t (all.0, rest)
       by false t rest = rw t rest
 
@@ -98,12 +102,14 @@ module _ (p : Tag → Bool) where
       both : (is_eq (key_cmp (item_key x) k) ≡ false) × (has_key item_key xs k ≡ false)
       both = neither (is_eq (key_cmp (item_key x) k)) (has_key item_key xs k) lacks
 
-      by : (tagged : Bool) → p x.1 ≡ tagged → is_eq (key_cmp (item_key x) k) ≡ false → has_key key_of (entries_by p xs) k ≡ false → has_key key_of (entries_by p (x ∷ xs)) k ≡ false
+      by : (tagged : Bool) → p x.1 ≡ tagged → is_eq (key_cmp (item_key x) k) ≡ false → has_key key_of (entries_by p xs) k ≡ false
+          → has_key key_of (entries_by p (x ∷ xs)) k ≡ false
       by true t differs rest = rw (t, differs) rest
       by false t differs rest = rw t rest
 
   -- so what is put under another tag changes nothing
-  pub entries-other : (xs : Items) (e : Entry) (t : Tag) → AreInOrder xs → has_key item_key xs (key_of e) ≡ false → p t ≡ false → entries_by p (put item_key xs (e, t)) ≡ entries_by p xs
+  pub entries-other : (xs : Items) (e : Entry) (t : Tag) → AreInOrder xs → has_key item_key xs (key_of e) ≡ false → p t ≡ false
+      → entries_by p (put item_key xs (e, t)) ≡ entries_by p xs
   entries-other xs e t order lacks other =
       entries-past xs e t other ∙ around key_of (entries_by p xs) (key_of e) (entries_in_order xs order)
       ∙ without_absent key_of (entries_by p xs) (key_of e) (lacks-entries xs (key_of e) lacks)
@@ -117,7 +123,8 @@ module _ (p : Tag → Bool) where
       by false is = rw is (entries-past xs e t is ∙ around key_of (entries_by p xs) (key_of e) (entries_in_order xs order))
 
   -- ---- where a look-up of a key finds a slot, the key is among the entries exactly where its tag passes
-  pub has-tagged : (es : Slots) (k : Key) (v : Slot) → AreInOrder (items_of es) → lookup (test k) es ≡ Some v → has_key key_of (entries_by p (items_of es)) k ≡ p (tag_of v.place)
+  pub has-tagged : (es : Slots) (k : Key) (v : Slot) → AreInOrder (items_of es) → lookup (test k) es ≡ Some v → has_key key_of (entries_by p
+      (items_of es)) k ≡ p (tag_of v.place)
   unfolding entries_by has_key
   has-tagged [] k v order at = absurd (none_some v at)
     where
@@ -134,16 +141,19 @@ module _ (p : Tag → Bool) where
       found_later : test k e.0 ≡ false → lookup (test k) es ≡ Some v
       found_later here = sym (ap (λ b. cond b (Some e.1) (lookup (test k) es)) here) ∙ at
 
-      later : (tagged : Bool) → p (tag_of e.1.place) ≡ tagged → test k e.0 ≡ false → has_key key_of (entries_by p (items_of es)) k ≡ p (tag_of v.place) → has_key key_of (entries_by p (items_of (e ∷ es))) k ≡ p (tag_of v.place)
+      later : (tagged : Bool) → p (tag_of e.1.place) ≡ tagged → test k e.0 ≡ false → has_key key_of (entries_by p (items_of es)) k
+          ≡ p (tag_of v.place) → has_key key_of (entries_by p (items_of (e ∷ es))) k ≡ p (tag_of v.place)
       later true t here rest = let differs = same_test k e.0 ∙ here in rw (t, differs) rest
       later false t here rest = rw t rest
 
-      by : (tagged : Bool) → p (tag_of e.1.place) ≡ tagged → (o : Ordering) → key_cmp k e.0 ≡ o → (lookup (test k) es ≡ Some v → has_key key_of (entries_by p (items_of es)) k ≡ p (tag_of v.place))
+      by : (tagged : Bool) → p (tag_of e.1.place) ≡ tagged → (o : Ordering) → key_cmp k e.0 ≡ o → (lookup (test k) es ≡ Some v
+          → has_key key_of (entries_by p (items_of es)) k ≡ p (tag_of v.place))
           → has_key key_of (entries_by p (items_of (e ∷ es))) k ≡ p (tag_of v.place)
       by tagged t Less is rest = later tagged t (ap is_eq is) (rest (found_later (ap is_eq is)))
       by true t Equal is rest =
           let same = same_test k e.0 ∙ ap is_eq is in
           rw (t, same) (sym t ∙ ap (λ (s : Slot). p (tag_of s.place)) (found_first (ap is_eq is)))
       by false t Equal is rest =
-          rw t (lacks-entries (items_of es) k (lacks-level item_key [] (item_of e) (items_of es) c k is) ∙ sym t ∙ ap (λ (s : Slot). p (tag_of s.place)) (found_first (ap is_eq is)))
+          rw t (lacks-entries (items_of es) k (lacks-level item_key [] (item_of e) (items_of es) c k is) ∙ sym t
+          ∙ ap (λ (s : Slot). p (tag_of s.place)) (found_first (ap is_eq is)))
       by tagged t Greater is rest = later tagged t (ap is_eq is) (rest (found_later (ap is_eq is)))

@@ -1,4 +1,5 @@
--- The model of an index: its entries, each with its tag, in strict key order; what each change leaves of them, and which of them stand in a level or have one tag.
+-- The model of an index: its entries, each with its tag, in strict key order; what each change leaves of them, and which of them stand in a
+-- level or have one tag.
 use Rattle.std.specs.Prelude.{Bool, true, false, cond, List, map}
 use Rattle.std.specs.List.{filter}
 use Rattle.std.specs.Ordering.{is_eq}

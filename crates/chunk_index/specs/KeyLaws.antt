@@ -4,12 +4,12 @@ use Rattle.std.proofs.lemmas.Int.{ints}
 use Rattle.std.proofs.lemmas.Cmp.{on_total, then_total}
 use Rattle.std.specs.declared.cmp.Ordering.{Ordering}
 use Rattle.std.specs.declared.cmp.Ordering.TheVariants.{Less, Equal, Greater}
-use Rattle.std.specs.Ordering.{nat_cmp, int_cmp, int_eq, is_eq, on, then_cmp, ordering_then, eq_by_cmp, MatchOrdering}
+use Rattle.std.specs.Ordering.{nat_cmp, int_cmp, int_eq, is_eq, then_cmp, ordering_then, eq_by_cmp, MatchOrdering}
 use Rattle.std.specs.Cmp.{IsTotalOrder, int_cmp_total, nat_cmp_total, int_ranked, int_cmp_is, ranked, both_ways, Equal-is, tied_itself, signed_Decides, unsigned_Decides}
 use Rattle.arithmetic.proofs.Products.{scale_reflects}
 use Rattle.arithmetic.proofs.Rates.{cross_trans, cross_trans_strict_left, cross_trans_strict_right}
 use Rattle.chunk_index.specs.declared.key.Key.{Key}
-use Rattle.chunk_index.specs.KeyOrder.{rate_cmp, key_cmp}
+use Rattle.chunk_index.specs.KeyOrder.{rate_cmp, by_rate, by_serial, by_position, by_size, key_cmp}
 
 -- Fees a, b, c over sizes r, s, t: where a over r is the rate of b over s, it stands to c over t as b over s does.
 alike : (a b c : ℤ) (r s t : ℕ) → 0 < r → 0 < s → 0 < t → (b *ℤ pos r) ≡ (a *ℤ pos s) → (o : Ordering)
@@ -50,8 +50,8 @@ rate_total = record {
 pub key_cmp_total : IsTotalOrder key_cmp
 unfolding key_cmp
 key_cmp_total =
-    then_total (then_total (then_total (on_total (λ (k : Key). k.rate) rate_total) (on_total (λ (k : Key). k.serial) nat_cmp_total)) (on_total (λ (k : Key). k.position) nat_cmp_total))
-    (on_total (λ (k : Key). k.rate.size) nat_cmp_total)
+    then_total (then_total (then_total (on_total (λ (k : Key). k.rate) rate_total) (on_total (λ (k : Key). k.serial) nat_cmp_total))
+    (on_total (λ (k : Key). k.position) nat_cmp_total)) (on_total (λ (k : Key). k.rate.size) nat_cmp_total)
 
 -- two comparisons in turn answer Equal only where both do
 both_equal : (a b : Ordering) → ordering_then a b ≡ Equal → (a ≡ Equal) × (b ≡ Equal)
@@ -87,12 +87,13 @@ same_fields x y fee size serial position =
 pub level_keys : (x y : Key) → key_cmp x y ≡ Equal → x ≡ y
 unfolding key_cmp
 level_keys x y e =
-    let size = both_equal (then_cmp (then_cmp (on (λ (k : Key). k.rate) rate_cmp) (on (λ (k : Key). k.serial) nat_cmp)) (on (λ (k : Key). k.position) nat_cmp) x y) (nat_cmp x.rate.size y.rate.size) e in
-    let position = both_equal (then_cmp (on (λ (k : Key). k.rate) rate_cmp) (on (λ (k : Key). k.serial) nat_cmp) x y) (nat_cmp x.position y.position) size.0 in
-    let serial = both_equal (rate_cmp x.rate y.rate) (nat_cmp x.serial y.serial) position.0 in
+    let size = both_equal (then_cmp (then_cmp by_rate by_serial) by_position x y) (by_size x y) e in
+    let position = both_equal (then_cmp by_rate by_serial x y) (by_position x y) size.0 in
+    let serial = both_equal (by_rate x y) (by_serial x y) position.0 in
     let sizes = nat_level x.rate.size y.rate.size size.1 in
-    same_fields x y (same_fee x.rate.fee y.rate.fee x.rate.size y.rate.size sizes (meaning (y.rate.fee *ℤ pos (max 1 x.rate.size)) (x.rate.fee *ℤ pos (max 1 y.rate.size)) Equal serial.0))
-    sizes (nat_level x.serial y.serial serial.1) (nat_level x.position y.position position.1)
+    let crossed = meaning (y.rate.fee *ℤ pos (max 1 x.rate.size)) (x.rate.fee *ℤ pos (max 1 y.rate.size)) Equal serial.0 in
+    same_fields x y (same_fee x.rate.fee y.rate.fee x.rate.size y.rate.size sizes crossed) sizes (nat_level x.serial y.serial serial.1)
+    (nat_level x.position y.position position.1)
 
 -- and what `==` of the fields says is what the order says
 fields_eq : Key → Key → Bool
@@ -114,7 +115,12 @@ equal_keys x y e =
 itself : (x : Key) → fields_eq x x ≡ true
 unfolding fields_eq
 itself x =
-    rw ((signed_Decides x.rate.fee x.rate.fee).1 refl, (unsigned_Decides x.rate.size x.rate.size).1 refl, (unsigned_Decides x.serial x.serial).1 refl, (unsigned_Decides x.position x.position).1 refl) refl
+    rw (
+      (signed_Decides x.rate.fee x.rate.fee).1 refl,
+      (unsigned_Decides x.rate.size x.rate.size).1 refl,
+      (unsigned_Decides x.serial x.serial).1 refl,
+      (unsigned_Decides x.position x.position).1 refl,
+    ) refl
 
 ties : (x y : Key) → fields_eq x y ≡ eq_by_cmp key_cmp x y
 ties x y =
@@ -122,6 +128,7 @@ ties x y =
     (λ e. subst (λ (k : Key). eq_by_cmp key_cmp x k ≡ true) (equal_keys x y e) (ap is_eq (tied_itself key_cmp_total x)))
     (λ e. subst (λ (k : Key). fields_eq x k ≡ true) (level_keys x y ((Equal-is (key_cmp x y)).0 e)) (itself x))
 
-pub key_ties : (x y : Key) → ((int_eq x.rate.fee y.rate.fee && (x.rate.size == y.rate.size)) && ((x.serial == y.serial) && (x.position == y.position))) ≡ eq_by_cmp key_cmp x y
+pub key_ties : (x y : Key) → ((int_eq x.rate.fee y.rate.fee && (x.rate.size == y.rate.size)) && ((x.serial == y.serial) &&
+    (x.position == y.position))) ≡ eq_by_cmp key_cmp x y
 unfolding fields_eq
 key_ties x y = ties x y

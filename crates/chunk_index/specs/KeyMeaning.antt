@@ -1,4 +1,5 @@
--- What the order of keys is, in words of rates: the entry of the higher rate stands first, among equal rates that of the lower serial, then of the lower position, then of the lower size. The key's order tells apart all that it compares.
+-- What the order of keys is, in words of rates: the entry of the higher rate stands first, among equal rates that of the lower serial, then
+-- of the lower position, then of the lower size. The key's order tells apart all that it compares.
 use Rattle.std.specs.Prelude.{◌≡◌, ◌<◌, ◌⊎◌, max}
 use Rattle.std.specs.declared.cmp.Ordering.{Ordering}
 use Rattle.std.specs.declared.cmp.Ordering.TheVariants.{Less, Equal, Greater}

@@ -1,4 +1,5 @@
--- When the sizes of two trees are balanced: with one added to each, neither is more than three times the other. So the depth of a tree is below 2.5 times the logarithm of its size.
+-- When the sizes of two trees are balanced: with one added to each, neither is more than three times the other. So the depth of a tree is
+-- below 2.5 times the logarithm of its size.
 use Rattle.std.specs.Prelude.{ℕ, ◌+◌, ◌*◌, ◌≤◌}
 
 pub record AreBalanced (l r : ℕ) : Type 0 where

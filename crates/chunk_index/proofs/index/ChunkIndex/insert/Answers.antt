@@ -18,7 +18,8 @@ put_in-requires-clause-order c = main-order c.self.inside.slots.entries c.self.i
 
 pub put_in-requires-clause-absent : goal.put_in-requires-clause-absent
 put_in-requires-clause-absent c =
-    main-lacks c.self.inside.slots.entries c.self.inside.main c.self.inside.top c.self.invariant (key_of c.args.entry) (ap (λ (items : Items). has items c.args.entry) c.self.view_is ∙ c.requires)
+    main-lacks c.self.inside.slots.entries c.self.inside.main c.self.inside.top c.self.invariant (key_of c.args.entry) (ap
+    (λ (items : Items). has items c.args.entry) c.self.view_is ∙ c.requires)
 
 pub put_in-requires-clause-fits : goal.put_in-requires-clause-fits
 put_in-requires-clause-fits c =
@@ -26,8 +27,10 @@ put_in-requires-clause-fits c =
 
 pub invariant_of-self-in-MainOnly : goal.invariant_of-self-in-MainOnly
 invariant_of-self-in-MainOnly c =
-    let kept = put-kept c.self.inside.slots.entries c.self.inside.main c.self.inside.top c.self.invariant c.insert_slot-in-MainOnly.new.slots.entries c.args.entry _
-    (ap (λ (items : Items). has items c.args.entry) c.self.view_is ∙ c.requires) c.in_ok-insert_slot-in-MainOnly.ensures.ok c.insert_slot-in-MainOnly.ensures.order in
+    let kept = put-kept c.self.inside.slots.entries c.self.inside.main c.self.inside.top c.self.invariant c.insert_slot-in-MainOnly.new.slots.entries
+    c.args.entry _
+    (ap (λ (items : Items). has items c.args.entry) c.self.view_is ∙ c.requires) c.in_ok-insert_slot-in-MainOnly.ensures.ok
+    c.insert_slot-in-MainOnly.ensures.order in
     let es = items_of c.insert_slot-in-MainOnly.new.slots.entries in
     subst (λ (t : List Entry). IsKept es t c.self.inside.top) (sym c.put_in.ensures) kept
 
@@ -36,7 +39,8 @@ put_in-requires-in-TopOnly-clause-order c = top-order c.self.inside.slots.entrie
 
 pub put_in-requires-in-TopOnly-clause-absent : goal.put_in-requires-in-TopOnly-clause-absent
 put_in-requires-in-TopOnly-clause-absent c =
-    top-lacks c.self.inside.slots.entries c.self.inside.main c.self.inside.top c.self.invariant (key_of c.args.entry) (ap (λ (items : Items). has items c.args.entry) c.self.view_is ∙ c.requires)
+    top-lacks c.self.inside.slots.entries c.self.inside.main c.self.inside.top c.self.invariant (key_of c.args.entry) (ap
+    (λ (items : Items). has items c.args.entry) c.self.view_is ∙ c.requires)
 
 pub put_in-requires-in-TopOnly-clause-fits : goal.put_in-requires-in-TopOnly-clause-fits
 put_in-requires-in-TopOnly-clause-fits c =
@@ -44,8 +48,10 @@ put_in-requires-in-TopOnly-clause-fits c =
 
 pub invariant_of-self-in-TopOnly : goal.invariant_of-self-in-TopOnly
 invariant_of-self-in-TopOnly c =
-    let kept = put-kept c.self.inside.slots.entries c.self.inside.main c.self.inside.top c.self.invariant c.insert_slot-in-TopOnly.new.slots.entries c.args.entry _
-    (ap (λ (items : Items). has items c.args.entry) c.self.view_is ∙ c.requires) c.in_ok-insert_slot-in-TopOnly.ensures.ok c.insert_slot-in-TopOnly.ensures.order in
+    let kept = put-kept c.self.inside.slots.entries c.self.inside.main c.self.inside.top c.self.invariant c.insert_slot-in-TopOnly.new.slots.entries
+    c.args.entry _
+    (ap (λ (items : Items). has items c.args.entry) c.self.view_is ∙ c.requires) c.in_ok-insert_slot-in-TopOnly.ensures.ok
+    c.insert_slot-in-TopOnly.ensures.order in
     let es = items_of c.insert_slot-in-TopOnly.new.slots.entries in
     subst (λ (t : List Entry). IsKept es c.self.inside.main t) (sym c.put_in-in-TopOnly.ensures) kept
 
@@ -59,10 +65,12 @@ pub returns-in_ok-insert_slot-in-MainOnly-clause-ok : goal.returns-in_ok-insert_
 returns-in_ok-insert_slot-in-MainOnly-clause-ok c =
     put-items c.self.inside.slots.entries c.self.inside.main c.self.inside.top c.self.invariant c.insert_slot-in-MainOnly.new.slots.entries c.args.entry _
     (ap (λ (items : Items). has items c.args.entry) c.self.view_is ∙ c.requires) c.in_ok-insert_slot-in-MainOnly.ensures.ok
-    ∙ ap (λ (items : Items). with_entry items c.args.entry MainOnly) c.self.view_is ∙ ap (λ (t : Tag). with_entry c.args.self.now c.args.entry t) (sym c.in-MainOnly.is)
+    ∙ ap (λ (items : Items). with_entry items c.args.entry MainOnly) c.self.view_is ∙ ap (λ (t : Tag). with_entry c.args.self.now c.args.entry t)
+    (sym c.in-MainOnly.is)
 
 pub returns-in_ok-insert_slot-in-TopOnly-clause-ok : goal.returns-in_ok-insert_slot-in-TopOnly-clause-ok
 returns-in_ok-insert_slot-in-TopOnly-clause-ok c =
     put-items c.self.inside.slots.entries c.self.inside.main c.self.inside.top c.self.invariant c.insert_slot-in-TopOnly.new.slots.entries c.args.entry _
     (ap (λ (items : Items). has items c.args.entry) c.self.view_is ∙ c.requires) c.in_ok-insert_slot-in-TopOnly.ensures.ok
-    ∙ ap (λ (items : Items). with_entry items c.args.entry TopOnly) c.self.view_is ∙ ap (λ (t : Tag). with_entry c.args.self.now c.args.entry t) (sym c.in-TopOnly.is)
+    ∙ ap (λ (items : Items). with_entry items c.args.entry TopOnly) c.self.view_is ∙ ap (λ (t : Tag). with_entry c.args.self.now c.args.entry t)
+    (sym c.in-TopOnly.is)

@@ -13,18 +13,21 @@ pub leave-requires-clause-main_order : goal.leave-requires-clause-main_order
 leave-requires-clause-main_order c = main-order c.self.inside.slots.entries c.self.inside.main c.self.inside.top c.self.invariant
 
 pub leave-requires-clause-main_has : goal.leave-requires-clause-main_has
-leave-requires-clause-main_has c = main-has c.self.inside.slots.entries c.self.inside.main c.self.inside.top c.self.invariant c.of-key.result c.in-Some.slot (sym c.in-Some.ensures.value)
+leave-requires-clause-main_has c = main-has c.self.inside.slots.entries c.self.inside.main c.self.inside.top c.self.invariant c.of-key.result
+    c.in-Some.slot (sym c.in-Some.ensures.value)
 
 pub leave-requires-clause-top_order : goal.leave-requires-clause-top_order
 leave-requires-clause-top_order c = top-order c.self.inside.slots.entries c.self.inside.main c.self.inside.top c.self.invariant
 
 pub leave-requires-clause-top_has : goal.leave-requires-clause-top_has
-leave-requires-clause-top_has c = top-has c.self.inside.slots.entries c.self.inside.main c.self.inside.top c.self.invariant c.of-key.result c.in-Some.slot (sym c.in-Some.ensures.value)
+leave-requires-clause-top_has c = top-has c.self.inside.slots.entries c.self.inside.main c.self.inside.top c.self.invariant c.of-key.result
+    c.in-Some.slot (sym c.in-Some.ensures.value)
 
 pub invariant_of-self : goal.invariant_of-self
 invariant_of-self c =
     let es = items_of c.remove.new.self.entries in
-    let kept = without-kept c.self.inside.slots.entries c.self.inside.main c.self.inside.top c.self.invariant c.remove.new.self.entries c.of-key.result c.remove.ensures.entries c.remove.ensures.ordered in
+    let kept = without-kept c.self.inside.slots.entries c.self.inside.main c.self.inside.top c.self.invariant c.remove.new.self.entries
+    c.of-key.result c.remove.ensures.entries c.remove.ensures.ordered in
     subst (λ (t : List Entry). IsKept es t c.leave.new.top) (sym c.leave.ensures.main)
     (subst (λ (t : List Entry). IsKept es (without key_of c.self.inside.main c.of-key.result) t) (sym c.leave.ensures.top) kept)
 
@@ -36,6 +39,7 @@ unreachable-requires c =
 
 pub returns : goal.returns
 returns c =
-    without-items c.self.inside.slots.entries c.self.inside.main c.self.inside.top c.self.invariant c.remove.new.self.entries c.of-key.result c.remove.ensures.entries
+    without-items c.self.inside.slots.entries c.self.inside.main c.self.inside.top c.self.invariant c.remove.new.self.entries c.of-key.result
+    c.remove.ensures.entries
     ∙ ap (λ (k : Key). without item_key (items_of c.self.inside.slots.entries) k) c.of-key.ensures
     ∙ ap (λ (items : Items). without_entry items c.args.entry.now) c.self.view_is

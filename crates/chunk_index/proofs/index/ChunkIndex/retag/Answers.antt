@@ -15,25 +15,30 @@ pub move_to-requires-clause-main_order : goal.move_to-requires-clause-main_order
 move_to-requires-clause-main_order c = main-order c.self.inside.slots.entries c.self.inside.main c.self.inside.top c.self.invariant
 
 pub move_to-requires-clause-main_has : goal.move_to-requires-clause-main_has
-move_to-requires-clause-main_has c = main-has c.self.inside.slots.entries c.self.inside.main c.self.inside.top c.self.invariant c.of-key.result c.in-Some.slot.now (sym c.in-Some.ensures.value)
+move_to-requires-clause-main_has c = main-has c.self.inside.slots.entries c.self.inside.main c.self.inside.top c.self.invariant c.of-key.result
+    c.in-Some.slot.now (sym c.in-Some.ensures.value)
 
 pub move_to-requires-clause-main_fits : goal.move_to-requires-clause-main_fits
-move_to-requires-clause-main_fits c = main-fits c.self.inside.slots.entries c.self.inside.main c.self.inside.top c.self.invariant (subst (λ n. n < 2 ^ 63) c.len.ensures.len c.len.ensures.small)
+move_to-requires-clause-main_fits c = main-fits c.self.inside.slots.entries c.self.inside.main c.self.inside.top c.self.invariant (subst
+    (λ n. n < 2 ^ 63) c.len.ensures.len c.len.ensures.small)
 
 pub move_to-requires-clause-top_order : goal.move_to-requires-clause-top_order
 move_to-requires-clause-top_order c = top-order c.self.inside.slots.entries c.self.inside.main c.self.inside.top c.self.invariant
 
 pub move_to-requires-clause-top_has : goal.move_to-requires-clause-top_has
-move_to-requires-clause-top_has c = top-has c.self.inside.slots.entries c.self.inside.main c.self.inside.top c.self.invariant c.of-key.result c.in-Some.slot.now (sym c.in-Some.ensures.value)
+move_to-requires-clause-top_has c = top-has c.self.inside.slots.entries c.self.inside.main c.self.inside.top c.self.invariant c.of-key.result
+    c.in-Some.slot.now (sym c.in-Some.ensures.value)
 
 pub move_to-requires-clause-top_fits : goal.move_to-requires-clause-top_fits
-move_to-requires-clause-top_fits c = top-fits c.self.inside.slots.entries c.self.inside.main c.self.inside.top c.self.invariant (subst (λ n. n < 2 ^ 63) c.len.ensures.len c.len.ensures.small)
+move_to-requires-clause-top_fits c = top-fits c.self.inside.slots.entries c.self.inside.main c.self.inside.top c.self.invariant (subst
+    (λ n. n < 2 ^ 63) c.len.ensures.len c.len.ensures.small)
 
 pub invariant_of-self : goal.invariant_of-self
 invariant_of-self c =
     let es = items_of (c.get_mut.follows.lender c.move_to.new.self).entries in
     let entry = entry_from c.of-key.result c.in-Some.slot.now.number in
-    let kept = tag-kept c.self.inside.slots.entries c.self.inside.main c.self.inside.top c.self.invariant (c.get_mut.follows.lender c.move_to.new.self).entries c.of-key.result c.in-Some.slot.now c.move_to.new.self
+    let kept = tag-kept c.self.inside.slots.entries c.self.inside.main c.self.inside.top c.self.invariant
+    (c.get_mut.follows.lender c.move_to.new.self).entries c.of-key.result c.in-Some.slot.now c.move_to.new.self
     (sym c.in-Some.ensures.value) c.move_to.ensures.number (c.get_mut.follows.holds c.move_to.new.self).0 (c.get_mut.follows.holds c.move_to.new.self).4 in
     let tag = c.move_to.ensures.tag in
     let main = c.move_to.ensures.main ∙ ap (λ (t : Tag). moved (same_tag MainOnly t) c.self.inside.main entry) (sym tag) in
@@ -49,7 +54,8 @@ unreachable-requires c =
 
 pub returns : goal.returns
 returns c =
-    tag-items c.self.inside.slots.entries c.self.inside.main c.self.inside.top c.self.invariant (c.get_mut.follows.lender c.move_to.new.self).entries c.of-key.result c.in-Some.slot.now c.move_to.new.self
+    tag-items c.self.inside.slots.entries c.self.inside.main c.self.inside.top c.self.invariant
+    (c.get_mut.follows.lender c.move_to.new.self).entries c.of-key.result c.in-Some.slot.now c.move_to.new.self
     (sym c.in-Some.ensures.value) c.move_to.ensures.number (c.get_mut.follows.holds c.move_to.new.self).0
     ∙ ap (λ (t : Tag). tag_set (items_of c.self.inside.slots.entries) c.of-key.result t) c.move_to.ensures.tag
     ∙ ap (λ (k : Key). tag_set (items_of c.self.inside.slots.entries) k c.args.tag) c.of-key.ensures

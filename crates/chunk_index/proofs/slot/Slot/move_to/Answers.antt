@@ -22,7 +22,8 @@ enter-requires-clause-top_order c =
     subst (IsInOrder key_of) (sym c.leave-node.ensures.top) (without_in_order key_of c.args.top.now c.args.key.now c.requires.top_order)
 
 pub enter-requires-clause-main_lacks : goal.enter-requires-clause-main_lacks
-enter-requires-clause-main_lacks c = lacks c.leave-node.new.main c.args.main.now c.args.key.now c.entry.result c.leave-node.ensures.main (ap key_of c.entry.ensures)
+enter-requires-clause-main_lacks c = lacks c.leave-node.new.main c.args.main.now c.args.key.now c.entry.result c.leave-node.ensures.main
+    (ap key_of c.entry.ensures)
 
 pub enter-requires-clause-top_lacks : goal.enter-requires-clause-top_lacks
 enter-requires-clause-top_lacks c = lacks c.leave-node.new.top c.args.top.now c.args.key.now c.entry.result c.leave-node.ensures.top (ap key_of c.entry.ensures)

@@ -21,5 +21,8 @@ loop-key-preserved c =
 
 pub returns : goal.returns
 unfolding entries_by
-returns c =
-    (sym c.loop-key.invariant ∙ ap (λ (es : Slots). left_in es c.loop-key.self.wanted) c.in_default.ensures.steps.0, ap (λ (es : Slots). left_in es c.loop-key.self.wanted) c.in_default.ensures.steps.1)
+returns c = (
+  sym c.loop-key.invariant ∙ ap (λ (es : Slots). left_in es c.loop-key.self.wanted) c.in_default.ensures.steps.0,
+  ap
+      (λ (es : Slots). left_in es c.loop-key.self.wanted) c.in_default.ensures.steps.1,
+)
