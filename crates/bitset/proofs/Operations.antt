@@ -1,5 +1,7 @@
 -- Each operation on words is the operation on the sets that they stand for.
-use Rattle.std.proofs.Common.{◌≡◌, ℕ, ◌+◌, ◌-◌, ◌*◌, ◌/◌, ◌%◌, ◌^◌, ◌<◌, ◌≤◌, Bool, true, false, not, ◌&&◌, ◌||◌, ◌≢◌, nat_eq, nat_lt, List, length, set, replicate, bit_and, bit_or, slice_index, inl, inr, refl, sym, ap, ap₂, ◌∙◌, arith, w64, lt-ltb, le-ltb, eq-eqb, ne_eqb, length-set, true≢false, below_more, lt_of_le_of_lt}
+use Rattle.std.proofs.Common.{◌≡◌, ℕ, ◌+◌, ◌-◌, ◌*◌, ◌/◌, ◌%◌, ◌^◌, ◌<◌, ◌≤◌, Bool, true, false, not, ◌&&◌, ◌||◌, ◌≢◌, nat_eq, nat_lt, List}
+use Rattle.std.proofs.Common.{length, set, replicate, bit_and, bit_or, slice_index, inl, inr, refl, sym, ap, ap₂, ◌∙◌, arith, w64, lt-ltb}
+use Rattle.std.proofs.Common.{le-ltb, eq-eqb, ne_eqb, length-set, true≢false, below_more, lt_of_le_of_lt}
 use Rattle.std.proofs.lemmas.Bool.{cases_lt, cases_eq, false_from_ne_true, and_parts}
 use Rattle.std.proofs.lemmas.List.{get_or_past, get_or-set_same, get_or-set_other, get_or-replicate, length-replicate}
 use Rattle.std.proofs.lemmas.Nat.{one_shl, pow_below, or_lt, and_le_l}
@@ -46,7 +48,8 @@ one_below : (k : ℕ) → k < 64 → 1 * 2 ^ k % 2 ^ 64 < 2 ^ 64
 one_below k h = rw one_shl (pow_below k 64 h)
 
 -- a word is written at the word of place p: the other words keep their places
-written : (words : List ℕ) (p v : ℕ) (now : ℕ → Bool) → p < 64 * length words → ((k : ℕ) → k < 64 → is_set v k ≡ now (64 * (p / 64) + k)) → ((q : ℕ) → q / 64 ≢ p / 64 → is_place words q ≡ now q) → (q : ℕ) → is_place (set words (p / 64) v) q ≡ now q
+written : (words : List ℕ) (p v : ℕ) (now : ℕ → Bool) → p < 64 * length words → ((k : ℕ) → k < 64 → is_set v k ≡ now (64 * (p / 64) + k))
+    → ((q : ℕ) → q / 64 ≢ p / 64 → is_place words q ≡ now q) → (q : ℕ) → is_place (set words (p / 64) v) q ≡ now q
 written words p v now h here there q =
     elim (cases_eq (q / 64) (p / 64)) as (λ _. is_place (set words (p / 64) v) q ≡ now q) [
       | inl same ↦
@@ -91,7 +94,9 @@ insert_is words p h = members_from _ _ (written words p _ (λ q. fin.contains (f
     ∙ sym (contains-insert (members_of words) p (64 * (p / 64) + k)))
     (λ q other. sym (contains-insert (members_of words) p q ∙ ap₂ (λ a b. a || b) (elsewhere p q other) (contains-members_of words q))))
 
-pub remove_is : (words : List ℕ) (p : ℕ) → p < 64 * length words → members_of (set words (p / 64) (bit_and (slice_index words (p / 64)) (2 ^ 64 - 1 - 1 * 2 ^ (p % 64) % 2 ^ 64))) ≡ fin.remove (members_of words) p
+pub remove_is : (words : List ℕ) (p : ℕ) → p < 64 * length words
+    → members_of (set words (p / 64) (bit_and (slice_index words (p / 64)) (2 ^ 64 - 1 - 1 * 2 ^ (p % 64) % 2 ^ 64))) ≡ fin.remove
+    (members_of words) p
 remove_is words p h = members_from _ _ (written words p _ (λ q. fin.contains (fin.remove (members_of words) p) q) h
     (λ k below.
     let bit : p % 64 < 64 = omega arith in
@@ -138,7 +143,8 @@ module _ (f : ℕ → ℕ → ℕ) where
   }
 
   -- where f leaves two empty words empty, all words are made
-  pub MadeUpTo-all : f 0 0 ≡ 0 → (w n : ℕ) (xs ys words : List ℕ) → AreWords w xs → AreWords w ys → w ≤ n → MadeUpTo f w xs ys words n → (i : ℕ) → slice_index words i ≡ f (slice_index xs i) (slice_index ys i)
+  pub MadeUpTo-all : f 0 0 ≡ 0 → (w n : ℕ) (xs ys words : List ℕ) → AreWords w xs → AreWords w ys → w ≤ n → MadeUpTo f w xs ys words n → (i : ℕ)
+      → slice_index words i ≡ f (slice_index xs i) (slice_index ys i)
   MadeUpTo-all none w n xs ys words h k end all i =
       elim (cases_lt i w) as (λ _. slice_index words i ≡ f (slice_index xs i) (slice_index ys i)) [
         | inl below ↦ all.made i (omega arith)
@@ -147,7 +153,8 @@ module _ (f : ℕ → ℕ → ℕ) where
             ∙ ap₂ f (sym (get_or_past xs i 0 (omega (arith, h.long)))) (sym (get_or_past ys i 0 (omega (arith, k.long))))
       ]
 
-  pub MadeUpTo-words : f 0 0 ≡ 0 → ((x y : ℕ) → x < 2 ^ 64 → y < 2 ^ 64 → f x y < 2 ^ 64) → (w n : ℕ) (xs ys words : List ℕ) → AreWords w xs → AreWords w ys → w ≤ n → MadeUpTo f w xs ys words n → AreWords w words
+  pub MadeUpTo-words : f 0 0 ≡ 0 → ((x y : ℕ) → x < 2 ^ 64 → y < 2 ^ 64 → f x y < 2 ^ 64) → (w n : ℕ) (xs ys words : List ℕ) → AreWords w xs
+      → AreWords w ys → w ≤ n → MadeUpTo f w xs ys words n → AreWords w words
   MadeUpTo-words none small w n xs ys words h k end all = record {
     long = all.long;
     fit = λ i. rw (MadeUpTo-all none w n xs ys words h k end all i) (small _ _ (h.fit i) (k.fit i));
@@ -173,7 +180,8 @@ is_set-without w ys x q h =
     is_set-and x (2 ^ 64 - 1 - slice_index ys (q / 64)) (q % 64)
     ∙ ap (λ b. is_set x (q % 64) && b) (is_set-not (slice_index ys (q / 64)) (q % 64) (h.fit (q / 64)) (omega arith))
 
-pub minus_is : (w : ℕ) (xs ys words : List ℕ) → AreWords w ys → ((i : ℕ) → slice_index words i ≡ without (slice_index xs i) (slice_index ys i)) → members_of words ≡ fin.difference (members_of xs) (members_of ys)
+pub minus_is : (w : ℕ) (xs ys words : List ℕ) → AreWords w ys → ((i : ℕ) → slice_index words i ≡ without (slice_index xs i) (slice_index ys i))
+    → members_of words ≡ fin.difference (members_of xs) (members_of ys)
 minus_is w xs ys words h made = members_from _ _ (λ q.
     ap (λ n. is_set n (q % 64)) (made (q / 64)) ∙ is_set-without w ys (slice_index xs (q / 64)) q h
     ∙ sym (contains-difference (members_of xs) (members_of ys) q ∙ ap₂ (λ a b. a && not b) (contains-members_of xs q) (contains-members_of ys q)))
@@ -197,14 +205,20 @@ lowest n some fits =
     let at : (trailing_zeros w64 n < 64) × (bit_at n (trailing_zeros w64 n) ≡ 1) × ((i : ℕ) → i < trailing_zeros w64 n → bit_at n i ≡ 0) = bit_at-trailing_zeros w64 n (omega arith) fits in
     (at.0, ap (λ m. nat_eq m 1) at.1, λ k h. ap (λ m. nat_eq m 1) (at.2 k h))
 
-pub not_subset_is : (w i : ℕ) (xs ys : List ℕ) → AreWords w ys → without (slice_index xs i) (slice_index ys i) ≢ 0 → without (slice_index xs i) (slice_index ys i) < 2 ^ 64 → fin.is_subset (members_of xs) (members_of ys) ≡ false
+pub not_subset_is : (w i : ℕ) (xs ys : List ℕ) → AreWords w ys → without (slice_index xs i) (slice_index ys i) ≢ 0
+    → without (slice_index xs i) (slice_index ys i) < 2 ^ 64 → fin.is_subset (members_of xs) (members_of ys) ≡ false
 not_subset_is w i xs ys h some fits =
-    let low : (trailing_zeros w64 (without (slice_index xs i) (slice_index ys i)) < 64) × (is_set (without (slice_index xs i) (slice_index ys i)) (trailing_zeros w64 (without (slice_index xs i) (slice_index ys i))) ≡ true) × ((k : ℕ) → k < trailing_zeros w64 (without (slice_index xs i) (slice_index ys i)) → is_set (without (slice_index xs i) (slice_index ys i)) k ≡ false) = lowest _ some fits in
+    let low : (trailing_zeros w64 (without (slice_index xs i) (slice_index ys i)) < 64)
+    × (is_set (without (slice_index xs i) (slice_index ys i)) (trailing_zeros w64 (without (slice_index xs i) (slice_index ys i))) ≡ true)
+    × ((k : ℕ) → k < trailing_zeros w64 (without (slice_index xs i) (slice_index ys i))
+    → is_set (without (slice_index xs i) (slice_index ys i)) k ≡ false) = lowest _ some fits in
     apart (trailing_zeros w64 (without (slice_index xs i) (slice_index ys i))) low.0 low.1
   where
     apart : (k : ℕ) → k < 64 → is_set (without (slice_index xs i) (slice_index ys i)) k ≡ true → fin.is_subset (members_of xs) (members_of ys) ≡ false
     apart k below here =
-        let parts : (is_set (slice_index xs i) k ≡ true) × (is_set (2 ^ 64 - 1 - slice_index ys i) k ≡ true) = and_parts _ _ (sym (is_set-and (slice_index xs i) (2 ^ 64 - 1 - slice_index ys i) k) ∙ here) in
+        let parts : (is_set (slice_index xs i) k ≡ true)
+        × (is_set (2 ^ 64 - 1 - slice_index ys i) k ≡ true) = and_parts _ _
+        (sym (is_set-and (slice_index xs i) (2 ^ 64 - 1 - slice_index ys i) k) ∙ here) in
         let absent : is_set (slice_index ys i) k ≡ false = false_from_not _ (sym (is_set-not (slice_index ys i) k (h.fit i) below) ∙ parts.1) in
         false_from_ne_true _ (λ e. true≢false (
         sym (fin.is_subset-contains nat_cmp_total (members_of xs) (members_of ys) e (64 * i + k) (contains-members_of xs (64 * i + k) ∙ is_place-at xs i k below ∙ parts.0))
@@ -212,9 +226,11 @@ not_subset_is w i xs ys h some fits =
 
 -- ---- the least place
 
-pub least_is : (w i : ℕ) (words : List ℕ) → AreWords w words → ((k : ℕ) → k < i → slice_index words k ≡ 0) → slice_index words i ≢ 0 → IsLeast (members_of words) (64 * i + trailing_zeros w64 (slice_index words i))
+pub least_is : (w i : ℕ) (words : List ℕ) → AreWords w words → ((k : ℕ) → k < i → slice_index words k ≡ 0) → slice_index words i ≢ 0
+    → IsLeast (members_of words) (64 * i + trailing_zeros w64 (slice_index words i))
 least_is w i words h none some =
-    let low : (trailing_zeros w64 (slice_index words i) < 64) × (is_set (slice_index words i) (trailing_zeros w64 (slice_index words i)) ≡ true) × ((k : ℕ) → k < trailing_zeros w64 (slice_index words i) → is_set (slice_index words i) k ≡ false) = lowest _ some (h.fit i) in
+    let low : (trailing_zeros w64 (slice_index words i) < 64) × (is_set (slice_index words i) (trailing_zeros w64 (slice_index words i)) ≡ true)
+    × ((k : ℕ) → k < trailing_zeros w64 (slice_index words i) → is_set (slice_index words i) k ≡ false) = lowest _ some (h.fit i) in
     record {
       member = contains-members_of words _ ∙ is_place-at words i _ low.0 ∙ low.1;
       below = λ q e. elim (cases_lt q (64 * i + trailing_zeros w64 (slice_index words i))) as (λ _. 64 * i + trailing_zeros w64 (slice_index words i) ≤ q) [

@@ -1,5 +1,6 @@
 -- Writing one amount of a network.
-use Rattle.std.proofs.Common.{◌≡◌, ℕ, ◌+◌, ◌*◌, ◌^◌, ◌<◌, ◌≤◌, ◌⊎◌, inl, inr, List, length, get_or, set, replicate, Bool, true, false, cond, ℤ, pos, ◌+ℤ◌, ◌-ℤ◌, refl, sym, ap, ◌∙◌, subst, arith, get_or-set_same, get_or-set_other}
+use Rattle.std.proofs.Common.{◌≡◌, ℕ, ◌+◌, ◌*◌, ◌^◌, ◌<◌, ◌≤◌, ◌⊎◌, inl, inr, List, length, get_or, set, replicate, Bool, true, false, cond}
+use Rattle.std.proofs.Common.{ℤ, pos, ◌+ℤ◌, ◌-ℤ◌, refl, sym, ap, ◌∙◌, subst, arith, get_or-set_same, get_or-set_other}
 use Rattle.std.proofs.Math.Nat.{mul-le-mul, mul-le-mul_right}
 use prog.Memory.{up}
 use Rattle.std.proofs.Math.ListN.{length-set}
@@ -33,7 +34,8 @@ pair_same n p q c d hc hd e =
     let parents : p ≡ q = pair_same_parent n p q c d hc hd e in
     (omega (arith, e, ap (λ (m : ℕ). m * n) parents), parents)
 
-pub sized_set : (n : ℕ) (into : List (fin.FinSet nat_cmp)) (amounts : List ℕ) (rest : List ℤ) (p i x : ℕ) (senders : fin.FinSet nat_cmp) → IsSized n into amounts rest → IsSized n (set into p senders) (set amounts i x) rest
+pub sized_set : (n : ℕ) (into : List (fin.FinSet nat_cmp)) (amounts : List ℕ) (rest : List ℤ) (p i x : ℕ) (senders : fin.FinSet nat_cmp)
+    → IsSized n into amounts rest → IsSized n (set into p senders) (set amounts i x) rest
 sized_set n into amounts rest p i x senders s =
     record { sets = length-set into p senders ∙ s.sets; pairs = length-set amounts i x ∙ s.pairs; rests = s.rests; small = s.small }
 
@@ -109,7 +111,8 @@ lean_set n into amounts rest child parent x senders s lean w =
     kept : (c p : ℕ) → p < n → ((c ≡ child) × (p ≡ parent) → ⊥) → fin.contains (parents_at into p) c ≡ true → (c < n) × (0 < get_or (set amounts (parent * n + child) x) (p * n + c) 0)
     kept c p hp apart m = (
       lean.child c p hp m,
-      subst (λ (y : ℕ). 0 < y) (sym (get_or-set_other amounts (parent * n + child) (p * n + c) x 0 (λ e. apart (pair_same n p parent c child (lean.child c p hp m) w.child_in e)))) (lean.amount c p hp m),
+      subst (λ (y : ℕ). 0 < y) (sym (get_or-set_other amounts (parent * n + child) (p * n + c) x 0
+          (λ e. apart (pair_same n p parent c child (lean.child c p hp m) w.child_in e)))) (lean.amount c p hp m),
     )
 
     both : (c p : ℕ) → p < n → fin.contains (parents_at (set into parent senders) p) c ≡ true → (c < n) × (0 < get_or (set amounts (parent * n + child) x) (p * n + c) 0)
@@ -147,7 +150,8 @@ pub lean_fresh : (n : ℕ) (amounts : List ℕ) → IsLean n (replicate n (fin.e
 lean_fresh n amounts = lean_none n _ amounts (λ p hp. get_or-replicate n p fin.empty fin.empty hp)
 
 -- a set that was read at a place within
-pub read_set : (n : ℕ) (into : List (fin.FinSet nat_cmp)) (amounts : List ℕ) (rest : List ℤ) (p c : ℕ) (s : fin.FinSet nat_cmp) → IsSized n into amounts rest → p < n → s ≡ get_or into p s → fin.contains (parents_at into p) c ≡ fin.contains s c
+pub read_set : (n : ℕ) (into : List (fin.FinSet nat_cmp)) (amounts : List ℕ) (rest : List ℤ) (p c : ℕ) (s : fin.FinSet nat_cmp)
+    → IsSized n into amounts rest → p < n → s ≡ get_or into p s → fin.contains (parents_at into p) c ≡ fin.contains s c
 read_set n into amounts rest p c s sized h e =
     ap (λ (f : fin.FinSet nat_cmp). fin.contains f c) (get_or_default into p fin.empty s (subst (λ (m : ℕ). p < m) (sym sized.sets) h) ∙ sym e)
 
@@ -164,7 +168,8 @@ pub read_rest : (n : ℕ) (into : List (fin.FinSet nat_cmp)) (amounts : List ℕ
 read_rest n into amounts rest p z sized h e = get_or_default rest p (pos 0) z (subst (λ (m : ℕ). p < m) (sym sized.rests) h) ∙ sym e
 
 -- a parent's set holds just the children that send it something
-pub senders_send : (n : ℕ) (into : List (fin.FinSet nat_cmp)) (amounts : List ℕ) (p c : ℕ) → IsLean n into amounts → p < n → fin.contains (parents_at into p) c ≡ true → (c < n) × (0 < sent n into amounts c p)
+pub senders_send : (n : ℕ) (into : List (fin.FinSet nat_cmp)) (amounts : List ℕ) (p c : ℕ) → IsLean n into amounts → p < n
+    → fin.contains (parents_at into p) c ≡ true → (c < n) × (0 < sent n into amounts c p)
 senders_send n into amounts p c lean h m =
     (lean.child c p h m, subst (λ (x : ℕ). 0 < x) (sym (sent_yes n into amounts c p m)) (lean.amount c p h m))
 
@@ -217,7 +222,8 @@ pub sized_rests : (n : ℕ) (into : List (fin.FinSet nat_cmp)) (amounts : List �
 sized_rests n into amounts rest p q y z s =
     record { sets = s.sets; pairs = s.pairs; rests = length-set (set rest p y) q z ∙ length-set rest p y ∙ s.rests; small = s.small }
 
-pub lean_begin : (n : ℕ) (into : List (fin.FinSet nat_cmp)) (amounts : List ℕ) (rest : List ℤ) (place : ℕ) → IsSized n into amounts rest → place < n → IsLean n into amounts → IsLean n (set into place fin.empty) amounts
+pub lean_begin : (n : ℕ) (into : List (fin.FinSet nat_cmp)) (amounts : List ℕ) (rest : List ℤ) (place : ℕ) → IsSized n into amounts rest → place < n
+    → IsLean n into amounts → IsLean n (set into place fin.empty) amounts
 lean_begin n into amounts rest place s h lean =
     record {
       child = λ c p hp m. lean.child c p hp (old c p m);
@@ -229,7 +235,9 @@ lean_begin n into amounts rest place s h lean =
 
     old : (c p : ℕ) → fin.contains (parents_at (set into place fin.empty) p) c ≡ true → fin.contains (parents_at into p) c ≡ true
     old c p m = elim (cases_eq p place) as (λ _. fin.contains (parents_at into p) c ≡ true) [
-      | inl e ↦ absurd (let k : false ≡ true = sym (contains-empty c) ∙ ap (λ (f : fin.FinSet nat_cmp). fin.contains f c) (sym (get_or-set_same into place fin.empty fin.empty inside) ∙ ap (λ (q : ℕ). parents_at (set into place fin.empty) q) (sym e)) ∙ m in cc)
+      | inl e ↦ absurd (let k : false ≡ true = sym (contains-empty c)
+          ∙ ap (λ (f : fin.FinSet nat_cmp). fin.contains f c)
+          (sym (get_or-set_same into place fin.empty fin.empty inside) ∙ ap (λ (q : ℕ). parents_at (set into place fin.empty) q) (sym e)) ∙ m in cc)
       | inr ne ↦ ap (λ (f : fin.FinSet nat_cmp). fin.contains f c) (sym (get_or-set_other into place p fin.empty fin.empty ne)) ∙ m
     ]
 
@@ -237,16 +245,19 @@ lean_begin n into amounts rest place s h lean =
 pub shifted : (rest : List ℤ) (from to amount t : ℕ) → from < length rest → to < length rest → (from ≡ to → ⊥)
     → weight_at (set (set rest from (weight_at rest from -ℤ pos amount)) to (weight_at rest to +ℤ pos amount)) t ≡ (weight_at rest t -ℤ only_at from (pos amount) t) +ℤ only_at to (pos amount) t
 shifted rest from to amount t hf ht apart =
-    elim (cases_eq t to) as (λ _. weight_at (set (set rest from (weight_at rest from -ℤ pos amount)) to (weight_at rest to +ℤ pos amount)) t ≡ (weight_at rest t -ℤ only_at from (pos amount) t) +ℤ only_at to (pos amount) t) [
+    elim (cases_eq t to) as (λ _. weight_at (set (set rest from (weight_at rest from -ℤ pos amount)) to (weight_at rest to +ℤ pos amount)) t ≡
+    (weight_at rest t -ℤ only_at from (pos amount) t) +ℤ only_at to (pos amount) t) [
       | inl e ↦
           let here : weight_at (set (set rest from (weight_at rest from -ℤ pos amount)) to (weight_at rest to +ℤ pos amount)) to ≡ weight_at rest to +ℤ pos amount =
           get_or-set_same (set rest from (weight_at rest from -ℤ pos amount)) to _ (pos 0) (subst (λ (m : ℕ). to < m) (sym (length-set rest from _)) ht) in
-          subst (λ (x : ℕ). weight_at (set (set rest from (weight_at rest from -ℤ pos amount)) to (weight_at rest to +ℤ pos amount)) x ≡ (weight_at rest x -ℤ only_at from (pos amount) x) +ℤ only_at to (pos amount) x) (sym e)
+          subst (λ (x : ℕ). weight_at (set (set rest from (weight_at rest from -ℤ pos amount)) to (weight_at rest to +ℤ pos amount)) x ≡
+          (weight_at rest x -ℤ only_at from (pos amount) x) +ℤ only_at to (pos amount) x) (sym e)
           (omega (arith, ints, here, only_at-here to (pos amount), only_at-else from to (pos amount) (λ q. apart (sym q))))
       | inr ne ↦
           let first : weight_at (set (set rest from (weight_at rest from -ℤ pos amount)) to (weight_at rest to +ℤ pos amount)) t ≡ weight_at (set rest from (weight_at rest from -ℤ pos amount)) t =
           get_or-set_other (set rest from (weight_at rest from -ℤ pos amount)) to t _ (pos 0) ne in
-          elim (cases_eq t from) as (λ _. weight_at (set (set rest from (weight_at rest from -ℤ pos amount)) to (weight_at rest to +ℤ pos amount)) t ≡ (weight_at rest t -ℤ only_at from (pos amount) t) +ℤ only_at to (pos amount) t) [
+          elim (cases_eq t from) as (λ _. weight_at (set (set rest from (weight_at rest from -ℤ pos amount)) to (weight_at rest to +ℤ pos amount)) t ≡
+          (weight_at rest t -ℤ only_at from (pos amount) t) +ℤ only_at to (pos amount) t) [
             | inl e ↦
                 let here : weight_at (set rest from (weight_at rest from -ℤ pos amount)) from ≡ weight_at rest from -ℤ pos amount = get_or-set_same rest from _ (pos 0) hf in
                 let here_t : weight_at (set rest from (weight_at rest from -ℤ pos amount)) t ≡ weight_at rest t -ℤ pos amount =
@@ -260,10 +271,12 @@ shifted rest from to amount t hf ht apart =
     ]
 
 -- nothing is shown that a place outside a set receives, or that something that is no place sends
-pub not_received : (n : ℕ) (within : fin.FinSet nat_cmp) (into : List (fin.FinSet nat_cmp)) (amounts : List ℕ) (c p : ℕ) → fin.contains within p ≡ false → cond (fin.contains within p) (sent n into amounts c p) 0 ≡ 0
+pub not_received : (n : ℕ) (within : fin.FinSet nat_cmp) (into : List (fin.FinSet nat_cmp)) (amounts : List ℕ) (c p : ℕ)
+    → fin.contains within p ≡ false → cond (fin.contains within p) (sent n into amounts c p) 0 ≡ 0
 not_received n within into amounts c p m = ap (λ (b : Bool). cond b (sent n into amounts c p) 0) m
 
-pub not_sent : (n : ℕ) (within : fin.FinSet nat_cmp) (into : List (fin.FinSet nat_cmp)) (amounts : List ℕ) (c p : ℕ) → IsLean n into amounts → IsWithin n within → n ≤ c → cond (fin.contains within p) (sent n into amounts c p) 0 ≡ 0
+pub not_sent : (n : ℕ) (within : fin.FinSet nat_cmp) (into : List (fin.FinSet nat_cmp)) (amounts : List ℕ) (c p : ℕ) → IsLean n into amounts
+    → IsWithin n within → n ≤ c → cond (fin.contains within p) (sent n into amounts c p) 0 ≡ 0
 not_sent n within into amounts c p lean below h =
     elim (cases_Bool (fin.contains within p)) as (λ _. cond (fin.contains within p) (sent n into amounts c p) 0 ≡ 0) [
       | inl m ↦
@@ -275,10 +288,12 @@ not_sent n within into amounts c p lean below h =
       | inr m ↦ not_received n within into amounts c p m
     ]
 
-pub shown_within : (n : ℕ) (within : fin.FinSet nat_cmp) (into : List (fin.FinSet nat_cmp)) (amounts : List ℕ) (c p : ℕ) → fin.contains within p ≡ true → cond (fin.contains within p) (sent n into amounts c p) 0 ≡ sent n into amounts c p
+pub shown_within : (n : ℕ) (within : fin.FinSet nat_cmp) (into : List (fin.FinSet nat_cmp)) (amounts : List ℕ) (c p : ℕ)
+    → fin.contains within p ≡ true → cond (fin.contains within p) (sent n into amounts c p) 0 ≡ sent n into amounts c p
 shown_within n within into amounts c p m = ap (λ (b : Bool). cond b (sent n into amounts c p) 0) m
 
-pub shown_only : (n : ℕ) (within : fin.FinSet nat_cmp) (into : List (fin.FinSet nat_cmp)) (amounts : List ℕ) (c p : ℕ) → IsLean n into amounts → IsWithin n within → 0 < cond (fin.contains within p) (sent n into amounts c p) 0 → (c < n) × (fin.contains within p ≡ true)
+pub shown_only : (n : ℕ) (within : fin.FinSet nat_cmp) (into : List (fin.FinSet nat_cmp)) (amounts : List ℕ) (c p : ℕ) → IsLean n into amounts
+    → IsWithin n within → 0 < cond (fin.contains within p) (sent n into amounts c p) 0 → (c < n) × (fin.contains within p ≡ true)
 shown_only n within into amounts c p lean below h =
     elim (cases_Bool (fin.contains within p)) as (λ _. (c < n) × (fin.contains within p ≡ true)) [
       | inl m ↦ (lean.child c p (below p m) (send_senders n into amounts p c (subst (λ (x : ℕ). 0 < x) (shown_within n within into amounts c p m) h)), m)

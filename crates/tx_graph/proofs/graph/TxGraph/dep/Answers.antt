@@ -19,7 +19,9 @@ returns-in_err-above-clause-step g c =
     let why = c.in_err-above.field-0.0 in
     subst (λ r. MakesStep c.args.self.now c.args.self.now (Dep c.args.parent c.args.child) (change_reply r)) (sym (error_is c.from_residual.result why c.from_residual.ensures.1))
     (both_views kept c.args.self.now (Dep c.args.parent c.args.child) (Refused why) c.self.view_is
-    (steps_refused kept kept (Dep c.args.parent c.args.child) why (itself kept) (dep_row kept c.args.parent c.args.child (Some why) (order_of (64 * g.row.W) c.self.inside.clusters c.refused_dep.ensures.order.indexed) c.in_err-above.ensures.row)))
+    (steps_refused kept kept (Dep c.args.parent c.args.child) why (itself kept)
+    (dep_row kept c.args.parent c.args.child (Some why)
+    (order_of (64 * g.row.W) c.self.inside.clusters c.refused_dep.ensures.order.indexed) c.in_err-above.ensures.row)))
 
 pub connect-requires : goal.connect-requires
 connect-requires g c = (
@@ -44,7 +46,9 @@ pub invariant_of-self : goal.invariant_of-self
 invariant_of-self g c =
     let kept = kept_of c.self.inside.limits c.self.inside.begun c.self.inside.additions c.self.inside.clusters in
     let same = when_err c.connect.result (sym c.is_err.ensures.value ∙ c.if-is_err.true) c.connect.ensures.err in
-    sound_after g.row.W c.self.inside.clusters.issued c.connect.new.self.issued kept (kept_of c.self.inside.limits c.self.inside.begun c.self.inside.additions c.connect.new.self) (Dep c.args.parent c.args.child) (Refused Memory)
+    sound_after g.row.W c.self.inside.clusters.issued c.connect.new.self.issued kept
+    (kept_of c.self.inside.limits c.self.inside.begun c.self.inside.additions c.connect.new.self) (Dep c.args.parent c.args.child)
+    (Refused Memory)
     c.self.invariant c.self.invariant.in_range (c.connect.ensures.issued ∙ c.self.invariant.counted)
     (steps_without_memory kept (kept_of c.self.inside.limits c.self.inside.begun c.self.inside.additions c.connect.new.self) (Dep c.args.parent c.args.child)
     (same_shelf c.self.inside.limits c.self.inside.begun c.self.inside.additions c.self.inside.clusters c.connect.new.self same)
@@ -61,15 +65,22 @@ returns-then-is_err-clause-step g c =
 
 pub invariant_of-self-2 : goal.invariant_of-self-2
 invariant_of-self-2 g c =
-    sound_after g.row.W c.self.inside.clusters.issued c.connect.new.self.issued (kept_of c.self.inside.limits c.self.inside.begun c.self.inside.additions c.self.inside.clusters) (kept_of c.self.inside.limits true c.self.inside.additions c.connect.new.self) (Dep c.args.parent c.args.child) Done
+    sound_after g.row.W c.self.inside.clusters.issued c.connect.new.self.issued
+    (kept_of c.self.inside.limits c.self.inside.begun c.self.inside.additions c.self.inside.clusters)
+    (kept_of c.self.inside.limits true c.self.inside.additions c.connect.new.self) (Dep c.args.parent c.args.child) Done
     c.self.invariant c.self.invariant.in_range (c.connect.ensures.issued ∙ c.self.invariant.counted)
     (dep_step c.self.inside.limits c.self.inside.begun c.self.inside.additions c.self.inside.clusters c.connect.new.self (64 * g.row.W) c.refused_dep.ensures.order.indexed c.args.parent c.args.child
-    (member-spot c.self.inside.clusters c.args.parent ∙ ap is_some c.in_ok-above.ensures.parent) (member-spot c.self.inside.clusters c.args.child ∙ ap is_some c.in_ok-above.ensures.child) c.in_ok-above.ensures.no_cycle c.in_ok-above.ensures.row
+    (member-spot c.self.inside.clusters c.args.parent ∙ ap is_some c.in_ok-above.ensures.parent)
+    (member-spot c.self.inside.clusters c.args.child
+    ∙ ap is_some c.in_ok-above.ensures.child) c.in_ok-above.ensures.no_cycle c.in_ok-above.ensures.row
     (when_ok c.connect.result (sym c.is_err.ensures.value ∙ c.if-is_err.false) c.connect.ensures.graph c.args.parent c.args.child c.in_ok-above.ensures.parent c.in_ok-above.ensures.child))
 
 pub returns-clause-step : goal.returns-clause-step
 returns-clause-step g c =
-    from_view (kept_of c.self.inside.limits c.self.inside.begun c.self.inside.additions c.self.inside.clusters) c.args.self.now (kept_of c.self.inside.limits true c.self.inside.additions c.connect.new.self) (Dep c.args.parent c.args.child) Done c.self.view_is
+    from_view (kept_of c.self.inside.limits c.self.inside.begun c.self.inside.additions c.self.inside.clusters) c.args.self.now
+    (kept_of c.self.inside.limits true c.self.inside.additions c.connect.new.self) (Dep c.args.parent c.args.child) Done c.self.view_is
     (dep_step c.self.inside.limits c.self.inside.begun c.self.inside.additions c.self.inside.clusters c.connect.new.self (64 * g.row.W) c.refused_dep.ensures.order.indexed c.args.parent c.args.child
-    (member-spot c.self.inside.clusters c.args.parent ∙ ap is_some c.in_ok-above.ensures.parent) (member-spot c.self.inside.clusters c.args.child ∙ ap is_some c.in_ok-above.ensures.child) c.in_ok-above.ensures.no_cycle c.in_ok-above.ensures.row
+    (member-spot c.self.inside.clusters c.args.parent ∙ ap is_some c.in_ok-above.ensures.parent)
+    (member-spot c.self.inside.clusters c.args.child
+    ∙ ap is_some c.in_ok-above.ensures.child) c.in_ok-above.ensures.no_cycle c.in_ok-above.ensures.row
     (when_ok c.connect.result (sym c.is_err.ensures.value ∙ c.if-is_err.false) c.connect.ensures.graph c.args.parent c.args.child c.in_ok-above.ensures.parent c.in_ok-above.ensures.child))
