@@ -1,5 +1,5 @@
 -- Flows bound every closed set within the part that they certify.
-use Rattle.std.proofs.Common.{◌≡◌, ℕ, ◌+◌, ◌≤◌, List, [], ◌∷◌, cond, inl, inr, ◌⊎◌, ℤ, pos, ◌+ℤ◌, ◌-ℤ◌, ◌*ℤ◌, refl, sym, ap, ◌∙◌, subst, arith, sum_by, nat_eq, eq-eqb, ne_eqb}
+use Rattle.std.proofs.Common.{◌≡◌, ℕ, ◌+◌, ◌≤◌, List, [], ◌∷◌, cond, inl, inr, ◌⊎◌, pos, ◌-ℤ◌, ◌*ℤ◌, refl, sym, ap, ◌∙◌, subst, arith, sum_by, nat_eq, eq-eqb, ne_eqb}
 use Rattle.std.specs.Prelude.{Contains}
 use Rattle.std.proofs.lemmas.Int.{ints}
 use Rattle.std.proofs.lemmas.Bool.{cases_eq}
@@ -8,7 +8,6 @@ use Rattle.lists.proofs.Entries.{Contains-head, Contains-later, Contains-cases}
 use Rattle.lists.specs.Distinct.{AreDistinct}
 use Rattle.arithmetic.specs.Sums.{total}
 use Rattle.arithmetic.proofs.Sums.{total-sub, total-scale, total_along, total-pos, total-pos-scale}
-use Rattle.arithmetic.proofs.Products.{mul-add_right}
 use Rattle.fee_rate.specs.declared.rates.Sum.{Sum}
 use Rattle.fee_rate.specs.Rates.{AtMost}
 use Rattle.graphs.specs.declared.names.Flow.{Flow}

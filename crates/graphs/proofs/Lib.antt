@@ -17,3 +17,4 @@ pub mod UnionLemmas
 pub mod PartLemmas
 pub mod HeightLemmas
 pub mod Members
+pub mod PickLemmas

@@ -12,3 +12,4 @@ pub mod Drops
 pub mod Alikes
 pub mod OrderLaws
 pub mod Merges
+pub mod Picks

@@ -4,6 +4,7 @@ ghost use Rattle.graphs.specs.Alikes.{AlikeGraphsAgree};
 ghost use Rattle.graphs.specs.Drops.{DropsKeepAncestors};
 ghost use Rattle.graphs.specs.Merges.{MergedPartsAreCertified, SortedListsMerge, UnionsKeepComponents};
 ghost use Rattle.graphs.specs.OrderLaws.{CertifiedPartsAgree, FirstPartsAreBest, LastPartIsLowest, NamesHaveOneRate, OptimalPartsBoundClosedSets};
+ghost use Rattle.graphs.specs.Picks.{PicksAreKept};
 
 /// One more pair makes a name's ancestors those that it had and, where the pair's child is one of
 /// them, the ancestors of the pair's parent.
@@ -166,4 +167,9 @@ pub fn sorted_lists_merge()
 /// What all optimal orders have in common, what the last part is and what the first ones are worth, said of the parts of certificates.
 pub fn certified_parts_agree()
     ensures { CertifiedPartsAgree }
+{}
+
+/// A pick is optimal, and stays one where components are merged, names are changed, or other pairs make the same ancestors.
+pub fn picks_are_kept()
+    ensures { PicksAreKept }
 {}

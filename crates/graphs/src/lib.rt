@@ -16,7 +16,8 @@ pub use laws::{
     equal_rates_join_once, fewer_are_closed, first_parts_are_best, flat_parts_bound_closed_sets,
     joined_is_closed, last_part_is_lowest, merged_parts_are_certified, name_is_closed,
     names_can_go, names_have_one_rate, optimal_bounds_closed_sets, optimal_ends_are_corners,
-    optimal_parts_bound_closed_sets, pair_is_closed, renamed_is_closed, sorted_lists_merge,
-    stays_graph, stays_without_cycle, unions_keep_components, verdicts_are_unique,
+    optimal_parts_bound_closed_sets, pair_is_closed, picks_are_kept, renamed_is_closed,
+    sorted_lists_merge, stays_graph, stays_without_cycle, unions_keep_components,
+    verdicts_are_unique,
 };
 pub use names::{Flow, Level, TxId, Verdict};
