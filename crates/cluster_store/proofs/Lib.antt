@@ -1,0 +1,4 @@
+pub mod Founds
+pub mod Fresh
+pub mod Steps
+pub mod Shown

@@ -1,0 +1,191 @@
+-- One position more of a cluster whose entries go out, come in, or get another tag.
+use Rattle.std.proofs.Common.{◌≡◌, ℕ, length, ◌+◌, ◌<◌, ◌≤◌, Bool, true, false, cond, not, ◌&&◌, ◌||◌, List, [], take, Option, Some, None, is_some, IsSome, nat_eq, inl, inr, refl, sym, ap, ◌∙◌, subst, arith}
+use Rattle.std.proofs.lemmas.Bool.{cases_lt}
+use Rattle.std.proofs.Math.Seq.{take-length}
+use Rattle.std.specs.List.{slice_get}
+use Rattle.std.specs.Cmp.{unsigned_Decides}
+use Rattle.fee_rate.specs.declared.rates.FeeRate.{FeeRate}
+use Rattle.graphs.specs.Certificates.{Part}
+use Rattle.chunk_index.specs.declared.entry.Entry.{Entry}
+use Rattle.chunk_index.specs.declared.entry.Tag.{Tag}
+use Rattle.chunk_index.specs.declared.key.Key.{Key}
+use Rattle.chunk_index.specs.Keys.{key_of}
+use Rattle.chunk_index.specs.Items.{Items, has, with_entry, without_entry, with_tag}
+use Rattle.cluster_store.specs.Keys.{key_part}
+use Rattle.cluster_store.specs.Kept.{same_key, found, is_rate, has_rate, fresh, Enters, Leaves}
+use Rattle.cluster_store.proofs.Founds.{same_is, same_self, found-put, found-without, found-tagged, has-found, again}
+use Rattle.cluster_store.proofs.Fresh.{take_below, take_past, rate_here, fresh-more}
+
+and_false : (b c : Bool) → (b && (false && c)) ≡ false
+and_false true c = refl
+and_false false c = refl
+
+-- the position itself is not among those before it
+pub fresh_not_yet : (n i : ℕ) (ps qs : List Part) (part : Part) → fresh n (take i ps) qs (key_part n i part) ≡ false
+unfolding fresh has_rate
+fresh_not_yet n i ps qs part =
+    ap (λ o. nat_eq n n && (is_rate (key_part n i part).rate o && not (has_rate qs (key_part n i part)))) (take_past ps i i (omega arith))
+    ∙ and_false (nat_eq n n) (not (has_rate qs (key_part n i part)))
+
+pub fresh_there : (n i count : ℕ) (ps qs : List Part) (part : Part) → slice_get ps i ≡ Some part → i < count → has_rate qs (key_part n i part) ≡ false
+    → fresh n (take count ps) qs (key_part n i part) ≡ true
+unfolding fresh has_rate
+fresh_there n i count ps qs part here below lacks =
+    ap (λ o. nat_eq n n && (is_rate (key_part n i part).rate o && not (has_rate qs (key_part n i part)))) (take_below ps count i below ∙ here)
+    ∙ rw ((unsigned_Decides n n).1 refl, rate_here part, lacks) refl
+
+more_plain : (b : Bool) → (b || false) ≡ b
+more_plain true = refl
+more_plain false = refl
+
+and_no : (b : Bool) → (b && false) ≡ false
+and_no true = refl
+and_no false = refl
+
+and_yes : (b : Bool) → (b && true) ≡ b
+and_yes true = refl
+and_yes false = refl
+
+module _ (n i : ℕ) (ps qs : List Part) (part : Part) (here : slice_get ps i ≡ Some part) where
+  -- where the others have the part, nothing more is fresh
+  pub fresh_passed : (k : Key) → has_rate qs (key_part n i part) ≡ true → fresh n (take (i + 1) ps) qs k ≡ fresh n (take i ps) qs k
+  fresh_passed k stays =
+      fresh-more n i ps qs part k here ∙ ap (λ b. fresh n (take i ps) qs k || (same_key (key_part n i part) k && not b)) stays
+      ∙ ap (λ b. fresh n (take i ps) qs k || b) (and_no (same_key (key_part n i part) k)) ∙ more_plain (fresh n (take i ps) qs k)
+
+  pub fresh_next : (k : Key) → has_rate qs (key_part n i part) ≡ false
+      → fresh n (take (i + 1) ps) qs k ≡ (fresh n (take i ps) qs k || same_key (key_part n i part) k)
+  fresh_next k differs =
+      fresh-more n i ps qs part k here ∙ ap (λ b. fresh n (take i ps) qs k || (same_key (key_part n i part) k && not b)) differs
+      ∙ ap (λ b. fresh n (take i ps) qs k || b) (and_yes (same_key (key_part n i part) k))
+
+or_cond : {A : Type 0} (a b : Bool) (x y : A) → cond b x (cond a x y) ≡ cond (a || b) x y
+or_cond true true x y = refl
+or_cond true false x y = refl
+or_cond false true x y = refl
+or_cond false false x y = refl
+
+module _ (n i count : ℕ) (ps qs : List Part) (part : Part) (e : Entry) (here : slice_get ps i ≡ Some part) (key : key_of e ≡ key_part n i part) where
+  rate_is : (b : Bool) → is_rate e.rate (slice_get qs i) ≡ b → has_rate qs (key_part n i part) ≡ b
+  unfolding has_rate
+  rate_is b is = ap (λ (k : Key). is_rate k.rate (slice_get qs i)) (sym key) ∙ is
+
+  -- ---- out
+  module _ (old cur : Items) (so_far : Leaves n (take i ps) qs old cur) where
+    pub leave_there : ((k : Key) → fresh n (take count ps) qs k ≡ true → IsSome (found old k)) → i < count → is_rate e.rate (slice_get qs i) ≡ false
+        → has cur e ≡ true
+    leave_there there below differs =
+        has-found cur e ∙ ap (λ (k : Key). is_some (found cur k)) key
+        ∙ ap is_some (so_far.tags (key_part n i part) ∙ ap (λ b. cond b None (found old (key_part n i part))) (fresh_not_yet n i ps qs part))
+        ∙ there (key_part n i part) (fresh_there n i count ps qs part here below (rate_is false differs))
+
+    pub leave_next : (next : Items) → next ≡ without_entry cur e → is_rate e.rate (slice_get qs i) ≡ false → Leaves n (take (i + 1) ps) qs old next
+    leave_next next is differs = record {
+      tags = λ k.
+          ap (λ (xs : Items). found xs k) is ∙ found-without cur e k ∙ ap (λ (l : Key). cond (same_key l k) None (found cur k)) key
+          ∙ ap (λ o. cond (same_key (key_part n i part) k) None o) (so_far.tags k)
+          ∙ or_cond (fresh n (take i ps) qs k) (same_key (key_part n i part) k) None (found old k)
+          ∙ ap (λ b. cond b None (found old k)) (sym (fresh_next n i ps qs part here k (rate_is false differs)));
+    }
+
+    pub leave_passed : is_rate e.rate (slice_get qs i) ≡ true → Leaves n (take (i + 1) ps) qs old cur
+    leave_passed stays = record {
+      tags = λ k. so_far.tags k ∙ ap (λ b. cond b None (found old k)) (sym (fresh_passed n i ps qs part here k (rate_is true stays)));
+    }
+
+  -- ---- in
+  module _ (tag : Tag) (old cur : Items) (so_far : Enters n tag (take i ps) qs old cur) where
+    pub enter_absent : ((k : Key) → fresh n (take count ps) qs k ≡ true → found old k ≡ None) → i < count → is_rate e.rate (slice_get qs i) ≡ false
+        → has cur e ≡ false
+    enter_absent absent below differs =
+        has-found cur e ∙ ap (λ (k : Key). is_some (found cur k)) key
+        ∙ ap is_some (so_far.tags (key_part n i part) ∙ ap (λ b. cond b (Some tag) (found old (key_part n i part))) (fresh_not_yet n i ps qs part)
+        ∙ absent (key_part n i part) (fresh_there n i count ps qs part here below (rate_is false differs)))
+
+    pub enter_next : (next : Items) → next ≡ with_entry cur e tag → is_rate e.rate (slice_get qs i) ≡ false → Enters n tag (take (i + 1) ps) qs old next
+    enter_next next is differs = record {
+      tags = λ k.
+          ap (λ (xs : Items). found xs k) is ∙ found-put cur e tag k ∙ ap (λ (l : Key). cond (same_key l k) (Some tag) (found cur k)) key
+          ∙ ap (λ o. cond (same_key (key_part n i part) k) (Some tag) o) (so_far.tags k)
+          ∙ or_cond (fresh n (take i ps) qs k) (same_key (key_part n i part) k) (Some tag) (found old k)
+          ∙ ap (λ b. cond b (Some tag) (found old k)) (sym (fresh_next n i ps qs part here k (rate_is false differs)));
+    }
+
+    pub enter_passed : is_rate e.rate (slice_get qs i) ≡ true → Enters n tag (take (i + 1) ps) qs old cur
+    enter_passed stays = record {
+      tags = λ k. so_far.tags k ∙ ap (λ b. cond b (Some tag) (found old k)) (sym (fresh_passed n i ps qs part here k (rate_is true stays)));
+    }
+
+    -- ---- another tag
+    pub retag_there : ((k : Key) → fresh n (take count ps) qs k ≡ true → IsSome (found old k)) → i < count → has_rate qs (key_part n i part) ≡ false
+        → has cur e ≡ true
+    retag_there there below lacks =
+        has-found cur e ∙ ap (λ (k : Key). is_some (found cur k)) key
+        ∙ ap is_some (so_far.tags (key_part n i part) ∙ ap (λ b. cond b (Some tag) (found old (key_part n i part))) (fresh_not_yet n i ps qs part))
+        ∙ there (key_part n i part) (fresh_there n i count ps qs part here below lacks)
+
+    again_some : (o : Option Tag) → IsSome o → again tag o ≡ Some tag
+    again_some None is = absurd (apart is)
+      where
+        apart : false ≡ true → ⊥
+        apart e = cc
+    again_some (Some t) is = refl
+
+    same_there : (k : Key) → has cur e ≡ true → (b : Bool) → same_key (key_part n i part) k ≡ b → cond b (again tag (found cur k)) (found cur k) ≡ cond b (Some tag) (found cur k)
+    same_there k is true s = again_some (found cur k) (ap (λ (l : Key). is_some (found cur l)) (sym (same_is (key_part n i part) k s)) ∙ ap (λ (l : Key). is_some (found cur l)) (sym key) ∙ sym (has-found cur e) ∙ is)
+    same_there k is false s = refl
+
+    pub retag_next : (next : Items) → next ≡ with_tag cur e tag → has cur e ≡ true → has_rate qs (key_part n i part) ≡ false
+        → Enters n tag (take (i + 1) ps) qs old next
+    retag_next next is there lacks = record {
+      tags = λ k.
+          ap (λ (xs : Items). found xs k) is ∙ found-tagged cur e tag k
+          ∙ ap (λ (l : Key). cond (same_key l k) (again tag (found cur k)) (found cur k)) key
+          ∙ same_there k there (same_key (key_part n i part) k) refl
+          ∙ ap (λ o. cond (same_key (key_part n i part) k) (Some tag) o) (so_far.tags k)
+          ∙ or_cond (fresh n (take i ps) qs k) (same_key (key_part n i part) k) (Some tag) (found old k)
+          ∙ ap (λ b. cond b (Some tag) (found old k)) (sym (fresh_next n i ps qs part here k lacks));
+    }
+
+-- ---- none and all
+
+pub fresh_none : (n : ℕ) (ps qs : List Part) (k : Key) → fresh n (take 0 ps) qs k ≡ false
+unfolding fresh has_rate
+fresh_none n ps qs k =
+    ap (λ o. nat_eq k.serial n && (is_rate k.rate o && not (has_rate qs k))) (take_past ps 0 k.position (omega arith))
+    ∙ and_false (nat_eq k.serial n) (not (has_rate qs k))
+
+pub leave_begins : (n : ℕ) (ps qs : List Part) (old : Items) → Leaves n (take 0 ps) qs old old
+leave_begins n ps qs old = record { tags = λ k. sym (ap (λ b. cond b None (found old k)) (fresh_none n ps qs k)) }
+
+pub enter_begins : (n : ℕ) (tag : Tag) (ps qs : List Part) (old : Items) → Enters n tag (take 0 ps) qs old old
+enter_begins n tag ps qs old = record { tags = λ k. sym (ap (λ b. cond b (Some tag) (found old k)) (fresh_none n ps qs k)) }
+
+pub all_fresh : (n : ℕ) (ps qs : List Part) (k : Key) → fresh n (take (length ps) ps) qs k ≡ true → fresh n ps qs k ≡ true
+all_fresh n ps qs k f = ap (λ (xs : List Part). fresh n xs qs k) (sym (take-length ps)) ∙ f
+
+pub none_has : (k : Key) → has_rate [] k ≡ false
+unfolding has_rate
+none_has k = refl
+
+-- in and out again, where none of them was there
+pub taken_back : (n : ℕ) (tag : Tag) (ps qs : List Part) (old mid new : Items) → Enters n tag ps qs old mid → Leaves n ps qs mid new
+    → ((k : Key) → fresh n ps qs k ≡ true → found old k ≡ None) → (k : Key) → found new k ≡ found old k
+taken_back n tag ps qs old mid new enters leaves absent k = leaves.tags k ∙ by (fresh n ps qs k) refl
+  where
+    by : (b : Bool) → fresh n ps qs k ≡ b → cond (fresh n ps qs k) None (found mid k) ≡ found old k
+    by true f = rw f (sym (absent k f))
+    by false f = rw f (enters.tags k ∙ rw f refl)
+
+-- what is fresh among the first is fresh among all
+pub fresh_all : (n i : ℕ) (ps qs : List Part) (k : Key) → fresh n (take i ps) qs k ≡ true → fresh n ps qs k ≡ true
+unfolding fresh has_rate
+fresh_all n i ps qs k f = elim (cases_lt k.position i) [
+  | inl low ↦ sym (ap (λ o. nat_eq k.serial n && (is_rate k.rate o && not (is_rate k.rate (slice_get qs k.position)))) (take_below ps i k.position low)) ∙ f
+  | inr high ↦
+      absurd (apart (sym (ap (λ o. nat_eq k.serial n && (is_rate k.rate o && not (is_rate k.rate (slice_get qs k.position)))) (take_past ps i k.position high)
+      ∙ and_false (nat_eq k.serial n) (not (is_rate k.rate (slice_get qs k.position)))) ∙ f))
+]
+  where
+    apart : false ≡ true → ⊥
+    apart e = cc

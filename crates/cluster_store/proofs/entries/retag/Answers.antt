@@ -1,0 +1,41 @@
+-- Each position is one more of those that have the tag.
+use Rattle.std.proofs.Common.{List, ◌≡◌, ◌<◌, ◌+◌, take, Some, [], get_or, length, slice_get, arith, sym, ap, ◌∙◌, subst, refl, false}
+use Rattle.std.proofs.lemmas.List.{take_all}
+use Rattle.std.proofs.lemmas.Option.{slice_get-get_or}
+use Rattle.graphs.specs.Certificates.{Part}
+use Rattle.cluster_store.specs.Keys.{key_part}
+use Rattle.cluster_store.specs.Kept.{Enters}
+use Rattle.cluster_store.specs.Stores.{no_part}
+use Rattle.cluster_store.proofs.Steps.{enter_begins, retag_there, retag_next, all_fresh, none_has}
+use Rattle.cluster_store.proofs.entries.retag.Goals as goal
+
+pub loop-at-init : goal.loop-at-init
+loop-at-init g c = enter_begins c.args.number c.args.tag c.args.cluster.now.parts [] c.args.index.now
+
+pub retag-requires : goal.retag-requires
+retag-requires g c =
+    let parts = c.args.cluster.now.parts in
+    let part = get_or parts c.loop-at.at no_part in
+    let within : c.loop-at.at < length parts = omega (arith, c.part_count-at-end.ensures) in
+    let here = slice_get-get_or parts c.loop-at.at no_part within in
+    retag_there c.args.number c.loop-at.at (length parts) parts [] part c.entry_of.result here (c.entry_of.ensures part here) c.args.tag c.args.index.now
+    c.loop-at.index c.loop-at.invariant (λ k f. c.requires.there k (all_fresh c.args.number parts [] k f)) within (none_has (key_part c.args.number c.loop-at.at part))
+
+pub loop-at-preserved : goal.loop-at-preserved
+loop-at-preserved g c =
+    let parts = c.args.cluster.now.parts in
+    let part = get_or parts c.loop-at.at no_part in
+    let within : c.loop-at.at < length parts = omega (arith, c.part_count-at-end.ensures) in
+    let here = slice_get-get_or parts c.loop-at.at no_part within in
+    let key = c.entry_of.ensures part here in
+    let lacks = none_has (key_part c.args.number c.loop-at.at part) in
+    retag_next c.args.number c.loop-at.at (length parts) parts [] part c.entry_of.result here key c.args.tag c.args.index.now c.loop-at.index c.loop-at.invariant
+    c.retag.new.self c.retag.ensures
+    (retag_there c.args.number c.loop-at.at (length parts) parts [] part c.entry_of.result here key c.args.tag c.args.index.now c.loop-at.index c.loop-at.invariant
+    (λ k f. c.requires.there k (all_fresh c.args.number parts [] k f)) within lacks) lacks
+
+pub returns : goal.returns
+returns g c =
+    let parts = c.args.cluster.now.parts in
+    let all : take c.loop-at.at parts ≡ parts = take_all c.loop-at.at parts (omega (arith, c.part_count-at-end.ensures, c.loop-at-test.false)) in
+    subst (λ (ps : List Part). Enters c.args.number c.args.tag ps [] c.args.index.now c.loop-at.index) all c.loop-at.invariant

@@ -1,0 +1,69 @@
+-- What changes of a store leave of its clusters.
+use Rattle.std.specs.Prelude.{◌≡◌, ℕ, ◌<◌, ◌-◌, ◌^◌, List, [], ◌∷◌, ◌++◌, map, length, Contains, Option, None, Some, slice_get, slice_index, IsSome, min, cond, nat_eq, Bool}
+use Rattle.std.specs.FinMap as finmap
+use Rattle.lists.specs.Distinct.{AreDistinct}
+use Rattle.graphs.specs.Closures.{rate_of}
+use Rattle.chunk_index.specs.declared.entry.Tag.{Tag}
+use Rattle.cluster.specs.Clusters.{Cluster}
+use Rattle.cluster_store.specs.declared.stored.Move.{Move}
+use Rattle.cluster_store.specs.Stores.{Stored, Exchange, Numbered}
+
+-- these stand under these numbers, one for one, which were free, and each number is another
+pub record Adds (added : List Stored) (numbers : List ℕ) (old new : Numbered) : Type 0 where
+  pub count : length numbers ≡ length added
+  pub once : AreDistinct numbers
+  pub free : (number : ℕ) → Contains numbers number → finmap.get old number ≡ None
+  pub stand : (at : ℕ) (s : Stored) → slice_get added at ≡ Some s → finmap.get new (slice_index numbers at) ≡ Some s
+
+-- what is left of a cluster that goes out, or stands in other levels
+abbrev pub moved_to : Option Tag → Option Stored → Option Stored
+moved_to None o = None
+moved_to (Some tag) None = None
+moved_to (Some tag) (Some s) = Some (record { cluster = s.cluster; tag = tag })
+
+-- each of these stands under its number in the place of the one that was there, with its tag
+abbrev pub Exchanges : List Exchange → Numbered → Numbered → Type 0
+Exchanges exchanged old new =
+    (x : Exchange) (s : Stored) → Contains exchanged x → finmap.get old x.number ≡ Some s
+    → finmap.get new x.number ≡ Some (record { cluster = x.cluster; tag = s.tag })
+
+-- each of these goes out, or stands in other levels
+abbrev pub Moves : List Move → Numbered → Numbered → Type 0
+Moves moves old new = (m : Move) → Contains moves m → finmap.get new m.number ≡ moved_to m.to (finmap.get old m.number)
+
+-- the numbers of the clusters that are there and change
+abbrev pub changing : List Exchange → List Move → List ℕ
+changing exchanged moves = map (λ x. x.number) exchanged ++ map (λ m. m.number) moves
+
+-- A whole change: clusters are exchanged, others are added under numbers that were free, others move; all else stays.
+pub record MakesChange (exchanged : List Exchange) (added : List Stored) (moved : List Move) (numbers : List ℕ) (old new : Numbered) : Type 0 where
+  pub exchanges : Exchanges exchanged old new
+  pub adds : Adds added numbers old new
+  pub moves : Moves moved old new
+  pub others : (number : ℕ) → (Contains numbers number → ⊥) → (Contains (changing exchanged moved) number → ⊥) → finmap.get new number ≡ finmap.get old number
+
+-- the clusters that change are there, and each changes once
+pub record AreThere (exchanged : List Exchange) (moves : List Move) (clusters : Numbered) : Type 0 where
+  pub once : AreDistinct (changing exchanged moves)
+  pub there : (number : ℕ) → Contains (changing exchanged moves) number → IsSome (finmap.get clusters number)
+
+-- ---- the bound of sizes
+
+-- the bound of no sizes
+abbrev pub most_least : ℕ
+most_least = 2 ^ 64 - 1
+
+-- the least of a number and some sizes
+abbrev pub lowest : (ℕ → ℕ) → List ℕ → ℕ → ℕ
+lowest size [] least = least
+lowest size (id ∷ ids) least = min (size id) (lowest size ids least)
+
+-- the least of a number and the sizes of the names of some clusters
+abbrev pub lowest_in : List Cluster → ℕ → ℕ
+lowest_in [] least = least
+lowest_in (c ∷ cs) least = lowest (λ id. (rate_of c.graph id).size) c.names (lowest_in cs least)
+
+-- where there is no cluster the bound begins anew, and else it is this one
+pub record EndsAt (clusters : Numbered) (wanted least : ℕ) : Type 0 where
+  pub none : ((number : ℕ) → finmap.get clusters number ≡ None) → least ≡ most_least
+  pub some : (number : ℕ) (s : Stored) → finmap.get clusters number ≡ Some s → least ≡ wanted

@@ -1,0 +1,9 @@
+pub mod Laws
+pub mod Moved
+pub mod Lent
+pub mod Stores
+pub mod Walks
+pub mod Slots
+pub mod Changes
+pub mod Keys
+pub mod Kept

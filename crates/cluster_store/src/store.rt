@@ -1,0 +1,171 @@
+ghost use Rattle.std.specs.Prelude.{◌≡◌, ◌≤◌, ◌*◌, ◌++◌, ℕ, None, Some, [], map, IsSome, IfOk, OnOk, OnErr, MatchOption};
+ghost use Rattle.std.specs.FinMap as finmap;
+ghost use Rattle.cluster_store.specs.Stores.{Stored as Kept, AreWhole, IsLeast, IsOrdered, shown_in, shown_only};
+ghost use Rattle.cluster_store.specs.Changes.{AreThere, EndsAt, MakesChange, lowest_in, moved_to, most_least};
+ghost use Rattle.cluster_store.specs.Moved.{Moved};
+
+use crate::clusters::{add_all, at, exchange_all, make_move, move_all, take_all};
+use crate::least::lowest;
+use crate::stored::{Exchange, Move, Stored};
+use crate::walk::PartWalk;
+use chunk_index::{ChunkIndex, Tag};
+use cluster::Cluster;
+use graphs::Level;
+use outside::NoMemory;
+use slab::Slab;
+use std::alloc::Global;
+use std::marker::Model;
+
+/// Clusters under numbers, each with the levels that it stands in, and the parts of all of them in one order.
+#[derive(Drop)]
+pub struct ClusterStore<const W: usize> {
+    alloc: Global,
+    slots: Slab<Stored<W>>,
+    index: ChunkIndex,
+    least: u64,
+}
+
+// Clauses see the clusters by their numbers, the parts in their order, and the bound of sizes.
+impl<const W: usize> Model for ClusterStore<W> {
+    ghost use Rattle.std.specs.Prelude.{◌*◌, map};
+    ghost use Rattle.cluster_store.specs.Stores.{Store, store_code};
+    ghost use Rattle.cluster_store.specs.Kept.{shelved, place_of, IsKept};
+
+    ghost Value = { Store };
+
+    ghost coded = { store_code };
+
+    ghost view = { λ a. record { clusters = shelved a.slots.slots; order = map place_of a.index; least = a.least } };
+
+    ghost invariant = { λ a. IsKept (64 * W) a.slots.slots a.index a.least };
+}
+
+impl<const W: usize> ClusterStore<W> {
+    /// No cluster. Takes no memory.
+    pub fn new(alloc: Global) -> Self
+        ensures { result ≡ record { clusters = finmap.empty; order = []; least = most_least } }
+    {
+        ClusterStore {
+            alloc,
+            slots: Slab::new(alloc),
+            index: ChunkIndex::new(alloc),
+            least: u64::MAX,
+        }
+    }
+
+    /// The cluster of a number, or `None` where the number has none.
+    pub fn get(&self, number: usize) -> Option<&Cluster<W>>
+        ensures { MatchOption result (finmap.get self.now.clusters number ≡ None)
+            (λ c. (s : Kept) × (finmap.get self.now.clusters number ≡ Some s) × (c.now ≡ s.cluster)) }
+    {
+        let _index = &self.index;
+        let _least = self.least;
+        match self.slots.get(number) {
+            Some(stored) => Some(stored.cluster()),
+            None => None,
+        }
+    }
+
+    /// The levels in which the cluster of a number stands, or `None` where the number has none.
+    pub fn tag(&self, number: usize) -> Option<Tag>
+        ensures { MatchOption result (finmap.get self.now.clusters number ≡ None)
+            (λ tag. (s : Kept) × (finmap.get self.now.clusters number ≡ Some s) × (tag ≡ s.tag)) }
+    {
+        let _index = &self.index;
+        let _least = self.least;
+        match self.slots.get(number) {
+            Some(stored) => Some(stored.tag()),
+            None => None,
+        }
+    }
+
+    /// A size that no name of any cluster is below, in virtual bytes. It only falls, to the sizes that come, and begins
+    /// anew where no cluster is left.
+    pub fn least(&self) -> u64
+        ensures value { result ≡ self.now.least }
+        ensures least { IsLeast self.now.clusters result }
+        ensures whole { AreWhole (64 * W) self.now.clusters }
+    {
+        let _slots = &self.slots;
+        let _index = &self.index;
+        self.least
+    }
+
+    /// The parts of a level, by falling rate, among equal rates by the numbers of the clusters, and of a cluster in their
+    /// order. Takes no memory.
+    pub fn walk(&self, level: Level) -> PartWalk<'_, Stored<W>>
+        ensures parts { result ≡ shown_in level self.now }
+        ensures order { IsOrdered self.now.clusters self.now.order }
+    {
+        let _least = self.least;
+        PartWalk::new(&self.slots, self.index.walk(level))
+    }
+
+    /// The parts of the clusters of one tag, in the same order. Takes no memory.
+    ///
+    /// Of main alone or of staging alone, no other part is looked at.
+    pub fn walk_only(&self, tag: Tag) -> PartWalk<'_, Stored<W>>
+        ensures parts { result ≡ shown_only tag self.now }
+        ensures order { IsOrdered self.now.clusters self.now.order }
+    {
+        let _least = self.least;
+        PartWalk::new(&self.slots, self.index.walk_only(tag))
+    }
+
+    /// Makes a whole change: clusters take the place of others under their numbers, in the same levels; others are added
+    /// under numbers that are free; others go out or get other levels. Answers the numbers of those that were added.
+    ///
+    /// Entries of the index that are the same for a cluster and the one in its place stay.
+    ///
+    /// # Errors
+    /// Where there is no memory for it. All is as it was.
+    pub fn change(
+        &mut self,
+        exchanged: Vec<Exchange<W>>,
+        added: Vec<Stored<W>>,
+        moves: &[Move],
+    ) -> Result<Vec<usize>, NoMemory>
+        requires { AreThere exchanged.items moves.now self.old.clusters }
+        ensures change { IfOk result
+            (λ numbers. MakesChange exchanged.entry.items added.entry.items moves.now numbers.items
+            self.old.clusters self.new.clusters) }
+        ensures least { OnOk result (EndsAt self.new.clusters
+            (lowest_in (map (λ x. x.cluster) exchanged.entry.items ++ map (λ s. s.cluster) added.entry.items) self.old.least)
+            self.new.least) }
+        ensures err { OnErr result (self.new ≡ self.old) }
+    {
+        let _walk = self.index.walk(Level::Main);
+        let least = lowest(self.least, exchanged.as_slice(), added.as_slice());
+        let numbers = add_all(self.alloc, &mut self.slots, &mut self.index, added)?;
+        if let Err(error) = exchange_all(&mut self.slots, &mut self.index, exchanged) {
+            take_all(&mut self.slots, &mut self.index, numbers);
+            let _walk = self.index.walk(Level::Main);
+            return Err(error);
+        }
+        move_all(&mut self.slots, &mut self.index, moves);
+        self.least = least;
+        self.begin_anew();
+        Ok(numbers)
+    }
+
+    // Where no cluster is left, any number is a bound of sizes.
+    fn begin_anew(&mut self)
+        ensures clusters { self.new.clusters ≡ self.old.clusters }
+        ensures least { EndsAt self.new.clusters self.old.least self.new.least }
+    {
+        let _index = &self.index;
+        if self.slots.is_empty() {
+            self.least = u64::MAX;
+        }
+    }
+
+    /// Takes the cluster of a number out, or gives it other levels. Takes no memory.
+    pub fn make_move(&mut self, number: usize, to: Option<Tag>)
+        requires { IsSome (finmap.get self.old.clusters number) }
+        ensures moved { Moved number to self.old.clusters self.new.clusters }
+        ensures least { EndsAt self.new.clusters self.old.least self.new.least }
+    {
+        make_move(&mut self.slots, &mut self.index, number, to);
+        self.begin_anew();
+    }
+}

@@ -1,0 +1,133 @@
+ghost use Rattle.std.specs.Prelude.{◌≡◌};
+
+use chunk_index::Tag;
+use crate::walk::Parts;
+use cluster::{Cluster, PartRef};
+use std::marker::Model;
+use std::mem;
+
+/// A cluster and the levels that it stands in.
+#[derive(Drop)]
+pub struct Stored<const W: usize> {
+    cluster: Cluster<W>,
+    tag: Tag,
+}
+
+impl<const W: usize> Model for Stored<W> {
+    ghost use Rattle.cluster_store.specs.Stores.{Stored as Kept, stored_code};
+
+    ghost Value = { Kept };
+
+    ghost coded = { stored_code };
+
+    ghost view = { λ s. record { cluster = s.cluster; tag = s.tag } };
+}
+
+impl<const W: usize> Stored<W> {
+    /// A cluster that is to stand in the levels of a tag.
+    pub fn new(cluster: Cluster<W>, tag: Tag) -> Self
+        ensures { result ≡ record { cluster = cluster.entry; tag = tag } }
+    {
+        Stored { cluster, tag }
+    }
+
+    /// The cluster.
+    pub fn cluster(&self) -> &Cluster<W>
+        ensures { result.now ≡ self.now.cluster }
+    {
+        let _tag = self.tag;
+        &self.cluster
+    }
+
+    /// The levels that it stands in.
+    pub fn tag(&self) -> Tag
+        ensures { result ≡ self.now.tag }
+    {
+        let _cluster = &self.cluster;
+        self.tag
+    }
+
+    /// Gives it other levels.
+    pub(crate) fn set_tag(&mut self, tag: Tag)
+        ensures { self.new ≡ record { cluster = self.old.cluster; tag = tag } }
+    {
+        let _cluster = &self.cluster;
+        self.tag = tag;
+    }
+
+    /// Puts another cluster in its place, and gives the one that was there.
+    pub(crate) fn replace(&mut self, cluster: Cluster<W>) -> Cluster<W>
+        ensures new { self.new ≡ record { cluster = cluster.entry; tag = self.old.tag } }
+        ensures old { result ≡ self.old.cluster }
+    {
+        mem::replace(&mut self.cluster, cluster)
+    }
+}
+
+/// What becomes of a cluster that is stored.
+#[derive(Clone, Copy, Debug, PartialEq, Eq)]
+pub struct Move {
+    /// The number of the cluster.
+    pub number: usize,
+    /// The levels that it is to stand in, or `None` where it goes out.
+    pub to: Option<Tag>,
+}
+
+/// A cluster that is to take the place of the one that stands under a number, in the same levels.
+#[derive(Drop)]
+pub struct Exchange<const W: usize> {
+    number: usize,
+    cluster: Cluster<W>,
+}
+
+impl<const W: usize> Model for Exchange<W> {
+    ghost use Rattle.cluster_store.specs.Stores.{Exchange as Kept, exchange_code};
+
+    ghost Value = { Kept };
+
+    ghost coded = { exchange_code };
+
+    ghost view = { λ x. record { number = x.number; cluster = x.cluster } };
+}
+
+impl<const W: usize> Exchange<W> {
+    /// The cluster that is to stand under a number.
+    pub fn new(number: usize, cluster: Cluster<W>) -> Self
+        ensures { result ≡ record { number = number; cluster = cluster.entry } }
+    {
+        Exchange { number, cluster }
+    }
+
+    /// The number.
+    pub fn number(&self) -> usize
+        ensures { result ≡ self.now.number }
+    {
+        let _cluster = &self.cluster;
+        self.number
+    }
+
+    /// The cluster.
+    pub fn cluster(&self) -> &Cluster<W>
+        ensures { result.now ≡ self.now.cluster }
+    {
+        let _number = self.number;
+        &self.cluster
+    }
+
+    /// Both.
+    pub(crate) fn into_parts(self) -> (usize, Cluster<W>)
+        ensures number { result.0 ≡ self.entry.number }
+        ensures cluster { result.1 ≡ self.entry.cluster }
+    {
+        (self.number, self.cluster)
+    }
+}
+
+impl<const W: usize> Parts for Stored<W> {
+    ghost parts = { λ s. s.cluster.parts };
+
+    fn part(&self, at: usize) -> PartRef<'_> {
+        let _tag = self.tag;
+        self.cluster.part(at)
+    }
+}
