@@ -2,3 +2,8 @@ pub mod Founds
 pub mod Fresh
 pub mod Steps
 pub mod Shown
+pub mod Slots
+pub mod Done
+pub mod Wide
+pub mod Results
+pub mod Adds

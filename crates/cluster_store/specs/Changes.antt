@@ -56,12 +56,12 @@ most_least = 2 ^ 64 - 1
 -- the least of a number and some sizes
 abbrev pub lowest : (ℕ → ℕ) → List ℕ → ℕ → ℕ
 lowest size [] least = least
-lowest size (id ∷ ids) least = min (size id) (lowest size ids least)
+lowest size (id ∷ ids) least = lowest size ids (min least (size id))
 
 -- the least of a number and the sizes of the names of some clusters
 abbrev pub lowest_in : List Cluster → ℕ → ℕ
 lowest_in [] least = least
-lowest_in (c ∷ cs) least = lowest (λ id. (rate_of c.graph id).size) c.names (lowest_in cs least)
+lowest_in (c ∷ cs) least = lowest_in cs (lowest (λ id. (rate_of c.graph id).size) c.names least)
 
 -- where there is no cluster the bound begins anew, and else it is this one
 pub record EndsAt (clusters : Numbered) (wanted least : ℕ) : Type 0 where

@@ -3,7 +3,7 @@ ghost use Rattle.std.specs.Prelude.{◌≡◌, ℕ, ◌+◌, ◌<◌, ◌≤◌,
 ghost use Rattle.lists.specs.Distinct.{AreDistinct};
 ghost use Rattle.slab.specs.Slab.{get, Updates, SameValues};
 ghost use Rattle.cluster_store.specs.Kept.{IsSameIndex, IsShown, IsWide};
-ghost use Rattle.cluster_store.specs.Slots.{AddsTo, AreOut, AreStored, EntersBeside, ExchangesAll, IsBeside, LeavesBeside, MovesAll, MovesIn, Places};
+ghost use Rattle.cluster_store.specs.Slots.{AddsOne, AddsTo, AreOut, AreStored, ExchangesAll, IsBeside, KeepsElsewhere, MovesAll, MovesIn, Places};
 
 use crate::entries::{enter, leave, retag};
 use crate::stored::{Exchange, Move, Stored};
@@ -115,17 +115,33 @@ pub fn add_all<const W: usize>(
     ensures err { OnErr result (SameValues slots.old slots.new) }
     ensures shown { IsShown slots.new.slots index.new }
 {
-    let mut numbers = Vec::with_capacity(alloc, added.len())?;
+    let mut numbers = Vec::new(alloc);
     for stored in added {
-        match add(slots, index, stored) {
-            Ok(number) => numbers.push(number)?,
-            Err(error) => {
-                take_all(slots, index, numbers);
-                return Err(error);
-            }
+        if let Err(error) = add_next(slots, index, stored, &mut numbers) {
+            take_all(slots, index, numbers);
+            return Err(error);
         }
     }
     Ok(numbers)
+}
+
+// Adds a cluster under a number that was free, and puts the number behind others.
+fn add_next<const W: usize>(
+    slots: &mut Slab<Stored<W>>,
+    index: &mut ChunkIndex,
+    stored: Stored<W>,
+    numbers: &mut Vec<usize>,
+) -> Result<(), NoMemory>
+    requires { IsShown slots.old.slots index.old }
+    ensures ok { OnOk result (AddsOne stored.entry numbers.old.items numbers.new.items slots.old.slots slots.new.slots) }
+    ensures err { OnErr result (SameValues slots.old slots.new) }
+    ensures numbers { OnErr result (numbers.new.items ≡ numbers.old.items) }
+    ensures shown { IsShown slots.new.slots index.new }
+{
+    numbers.reserve(1)?;
+    let number = add(slots, index, stored)?;
+    numbers.push_reserved(number);
+    Ok(())
 }
 
 /// Takes the clusters of numbers out.
@@ -151,8 +167,10 @@ pub fn move_all<const W: usize>(slots: &mut Slab<Stored<W>>, index: &mut ChunkIn
     ensures moved { MovesAll moves.now slots.old.slots slots.new.slots }
     ensures shown { IsShown slots.new.slots index.new }
 {
-    for at in 0..moves.len() {
-        make_move(slots, index, moves[at].number, moves[at].to);
+    let mut left = moves;
+    while let Some((last, rest)) = left.split_last() {
+        make_move(slots, index, last.number, last.to);
+        left = rest;
     }
 }
 
@@ -173,7 +191,9 @@ pub fn exchange_all<const W: usize>(
 {
     for at in 0..exchanged.len() {
         if let Err(error) = enter_beside(slots, index, &exchanged[at]) {
-            leave_beside(slots, index, exchanged, at);
+            let mut entered = exchanged;
+            entered.truncate(at);
+            leave_all(slots, index, entered);
             return Err(error);
         }
     }
@@ -189,7 +209,8 @@ fn enter_beside<const W: usize>(
 ) -> Result<(), NoMemory>
     requires there { IsSome (get slots.now exchange.now.number) }
     requires absent { IsBeside slots.now.slots exchange.now.number [] index.old }
-    ensures ok { OnOk result (EntersBeside slots.now.slots exchange.now index.old index.new) }
+    ensures here { OnOk result (IsBeside slots.now.slots exchange.now.number exchange.now.cluster.parts index.new) }
+    ensures others { OnOk result (KeepsElsewhere exchange.now.number index.old index.new) }
     ensures err { OnErr result (IsSameIndex index.old index.new) }
 {
     let stored = at(slots, exchange.number());
@@ -202,23 +223,35 @@ fn enter_beside<const W: usize>(
     )
 }
 
-// Takes the entries out that went in for the first clusters.
+// Takes them out again.
 fn leave_beside<const W: usize>(
     slots: &Slab<Stored<W>>,
     index: &mut ChunkIndex,
-    mut exchanged: Vec<Exchange<W>>,
-    count: usize,
+    exchange: &Exchange<W>,
 )
-    requires within { count ≤ length exchanged.items }
+    requires there { IsSome (get slots.now exchange.now.number) }
+    requires wide { IsBeside slots.now.slots exchange.now.number exchange.now.cluster.parts index.old }
+    ensures here { IsBeside slots.now.slots exchange.now.number [] index.new }
+    ensures others { KeepsElsewhere exchange.now.number index.old index.new }
+{
+    let other = at(slots, exchange.number()).cluster();
+    let cluster = exchange.cluster();
+    let count = cluster.part_count();
+    leave(index, exchange.number(), cluster, Some(other), count);
+}
+
+// Takes the entries out that went in for clusters that were to be exchanged.
+fn leave_all<const W: usize>(
+    slots: &Slab<Stored<W>>,
+    index: &mut ChunkIndex,
+    mut exchanged: Vec<Exchange<W>>,
+)
     requires there { AreStored (map (λ x. x.number) exchanged.items) slots.now.slots }
-    requires wide { IsWide slots.now.slots (take count exchanged.items) index.old }
+    requires wide { IsWide slots.now.slots exchanged.items index.old }
     ensures { IsShown slots.now.slots index.new }
 {
-    exchanged.truncate(count);
     while let Some(exchange) = exchanged.pop() {
-        let cluster = exchange.cluster();
-        let other = at(slots, exchange.number()).cluster();
-        leave(index, exchange.number(), cluster, Some(other), cluster.part_count());
+        leave_beside(slots, index, &exchange);
     }
 }
 
@@ -234,8 +267,7 @@ fn finish<const W: usize>(
     ensures shown { IsShown slots.new.slots index.new }
 {
     while let Some(exchange) = exchanged.pop() {
-        let (number, cluster) = exchange.into_parts();
-        replace(slots, index, number, cluster);
+        replace(slots, index, exchange);
     }
 }
 
@@ -243,18 +275,20 @@ fn finish<const W: usize>(
 fn replace<const W: usize>(
     slots: &mut Slab<Stored<W>>,
     index: &mut ChunkIndex,
-    number: usize,
-    cluster: Cluster<W>,
+    exchange: Exchange<W>,
 )
-    requires there { IsSome (get slots.old number) }
-    requires wide { IsBeside slots.old.slots number cluster.parts index.old }
-    ensures placed { Places slots.old.slots slots.new.slots number cluster.entry }
-    ensures left { LeavesBeside slots.old.slots number cluster.entry index.old index.new }
+    requires there { IsSome (get slots.old exchange.number) }
+    requires wide { IsBeside slots.old.slots exchange.number exchange.cluster.parts index.old }
+    ensures placed { Places slots.old.slots slots.new.slots exchange.entry.number exchange.entry.cluster }
+    ensures here { IsBeside slots.new.slots exchange.entry.number [] index.new }
+    ensures others { KeepsElsewhere exchange.entry.number index.old index.new }
 {
+    let (number, cluster) = exchange.into_parts();
     match slots.get_mut(number) {
         Some(stored) => {
             let gone = stored.replace(cluster);
-            leave(index, number, &gone, Some(stored.cluster()), gone.part_count());
+            let count = gone.part_count();
+            leave(index, number, &gone, Some(stored.cluster()), count);
         }
         None => unreachable!(),
     }

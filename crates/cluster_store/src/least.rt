@@ -1,7 +1,8 @@
 //! A bound on sizes that only falls.
-ghost use Rattle.std.specs.Prelude.{◌≡◌, ◌≤◌, ◌++◌, ◌*◌, ◌^◌, ◌-◌, map, min};
+ghost use Rattle.std.specs.Prelude.{◌≡◌, ◌≤◌, ◌++◌, ◌*◌, ◌^◌, ◌-◌, map, min, Contains};
 ghost use Rattle.graphs.specs.Closures.{rate_of};
 ghost use Rattle.cluster.specs.Clusters.{IsCluster};
+ghost use Rattle.cluster_store.specs.Stores.{Exchange as Kept, Stored as Added};
 ghost use Rattle.cluster_store.specs.Changes.{lowest, lowest_in};
 
 use crate::stored::{Exchange, Stored};
@@ -9,7 +10,8 @@ use cluster::Cluster;
 
 /// The least of a number and the sizes of the names of a cluster.
 fn lowest_of<const W: usize>(cluster: &Cluster<W>, least: u64) -> u64
-    ensures { result ≡ lowest (λ id. (rate_of cluster.now.graph id).size) cluster.now.names least }
+    ensures least { result ≡ lowest (λ id. (rate_of cluster.now.graph id).size) cluster.now.names least }
+    ensures whole { IsCluster (64 * W) cluster.now }
 {
     let names = cluster.names();
     let mut lowest = least;
@@ -19,14 +21,24 @@ fn lowest_of<const W: usize>(cluster: &Cluster<W>, least: u64) -> u64
     lowest
 }
 
-/// The least of a number and the sizes of the names of some clusters.
-pub fn lowest<const W: usize>(least: u64, exchanged: &[Exchange<W>], added: &[Stored<W>]) -> u64
-    ensures { result ≡ lowest_in (map (λ x. x.cluster) exchanged.now ++ map (λ s. s.cluster) added.now) least }
+/// The least of a number and the sizes of the names of clusters that are to be exchanged.
+pub fn lowest_exchanged<const W: usize>(least: u64, exchanged: &[Exchange<W>]) -> u64
+    ensures least { result ≡ lowest_in (map (λ x. x.cluster) exchanged.now) least }
+    ensures whole { (x : Kept) → Contains exchanged.now x → IsCluster (64 * W) x.cluster }
 {
     let mut lowest = least;
     for at in 0..exchanged.len() {
         lowest = lowest_of(exchanged[at].cluster(), lowest);
     }
+    lowest
+}
+
+/// The least of a number and the sizes of the names of clusters that are to be added.
+pub fn lowest_added<const W: usize>(least: u64, added: &[Stored<W>]) -> u64
+    ensures least { result ≡ lowest_in (map (λ s. s.cluster) added.now) least }
+    ensures whole { (s : Added) → Contains added.now s → IsCluster (64 * W) s.cluster }
+{
+    let mut lowest = least;
     for at in 0..added.len() {
         lowest = lowest_of(added[at].cluster(), lowest);
     }

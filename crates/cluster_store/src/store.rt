@@ -5,7 +5,7 @@ ghost use Rattle.cluster_store.specs.Changes.{AreThere, EndsAt, MakesChange, low
 ghost use Rattle.cluster_store.specs.Moved.{Moved};
 
 use crate::clusters::{add_all, at, exchange_all, make_move, move_all, take_all};
-use crate::least::lowest;
+use crate::least::{lowest_added, lowest_exchanged};
 use crate::stored::{Exchange, Move, Stored};
 use crate::walk::PartWalk;
 use chunk_index::{ChunkIndex, Tag};
@@ -130,12 +130,13 @@ impl<const W: usize> ClusterStore<W> {
             (λ numbers. MakesChange exchanged.entry.items added.entry.items moves.now numbers.items
             self.old.clusters self.new.clusters) }
         ensures least { OnOk result (EndsAt self.new.clusters
-            (lowest_in (map (λ x. x.cluster) exchanged.entry.items ++ map (λ s. s.cluster) added.entry.items) self.old.least)
+            (lowest_in (map (λ s. s.cluster) added.entry.items) (lowest_in (map (λ x. x.cluster) exchanged.entry.items) self.old.least))
             self.new.least) }
         ensures err { OnErr result (self.new ≡ self.old) }
     {
         let _walk = self.index.walk(Level::Main);
-        let least = lowest(self.least, exchanged.as_slice(), added.as_slice());
+        let least = lowest_exchanged(self.least, exchanged.as_slice());
+        let least = lowest_added(least, added.as_slice());
         let numbers = add_all(self.alloc, &mut self.slots, &mut self.index, added)?;
         if let Err(error) = exchange_all(&mut self.slots, &mut self.index, exchanged) {
             take_all(&mut self.slots, &mut self.index, numbers);

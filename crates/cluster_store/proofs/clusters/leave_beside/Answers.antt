@@ -1,0 +1,43 @@
+-- What the new cluster had beside the old one is out.
+use Rattle.std.proofs.Common.{rules, ◌≡◌, ◌≤◌, List, length, take, Some, refl, sym, ap, ◌∙◌, arith}
+use Rattle.std.proofs.lemmas.List.{take_all}
+use Rattle.graphs.specs.Certificates.{Part}
+use Rattle.cluster.specs.Clusters.{Cluster}
+use Rattle.cluster_store.specs.Kept.{at, Leaves}
+use Rattle.cluster_store.proofs.Results.{fresh_same, leaves_same}
+use Rattle.cluster_store.proofs.Wide.{leave_has, leaves_beside, keeps_left}
+use Rattle.cluster_store.proofs.clusters.leave_beside.Goals as goal
+
+pub leave-requires : goal.leave-requires
+leave-requires g c =
+    let x = c.args.exchange.now in
+    let s = c.at.result.now in
+    let is : at c.args.slots.now.slots x.number ≡ Some s = ap (at c.args.slots.now.slots) (sym c.number.ensures) ∙ c.at.ensures in
+    let low : length c.cluster-cluster.result.now.parts ≤ c.part_count-count.result = omega (arith, c.part_count-count.ensures) in
+    let all : take c.part_count-count.result c.cluster-cluster.result.now.parts ≡ x.cluster.parts =
+        take_all c.part_count-count.result c.cluster-cluster.result.now.parts low ∙ ap (λ (y : Cluster). y.parts) c.cluster-cluster.ensures in
+    (search rules, (omega (arith, c.part_count-count.ensures), λ k f.
+        leave_has c.args.slots.now.slots x.number s is x.cluster.parts c.args.index.now c.requires.wide k
+        (fresh_same c.number-2.result x.number (take c.part_count-count.result c.cluster-cluster.result.now.parts) x.cluster.parts c.cluster-other.result.now.parts
+        s.cluster.parts k c.number-2.ensures all (ap (λ (y : Cluster). y.parts) c.cluster-other.ensures) f)))
+
+pub returns-clause-here : goal.returns-clause-here
+returns-clause-here g c =
+    let x = c.args.exchange.now in
+    let s = c.at.result.now in
+    let is : at c.args.slots.now.slots x.number ≡ Some s = ap (at c.args.slots.now.slots) (sym c.number.ensures) ∙ c.at.ensures in
+    let low : length c.cluster-cluster.result.now.parts ≤ c.part_count-count.result = omega (arith, c.part_count-count.ensures) in
+    let all : take c.part_count-count.result c.cluster-cluster.result.now.parts ≡ x.cluster.parts =
+        take_all c.part_count-count.result c.cluster-cluster.result.now.parts low ∙ ap (λ (y : Cluster). y.parts) c.cluster-cluster.ensures in
+    leaves_beside c.args.slots.now.slots x.number s is x.cluster.parts c.args.index.now c.leave.new.index c.requires.wide
+    (leaves_same c.number-2.result x.number (take c.part_count-count.result c.cluster-cluster.result.now.parts) x.cluster.parts c.cluster-other.result.now.parts
+    s.cluster.parts c.args.index.now c.leave.new.index c.number-2.ensures all (ap (λ (y : Cluster). y.parts) c.cluster-other.ensures) c.leave.ensures)
+
+pub returns-clause-others : goal.returns-clause-others
+returns-clause-others g c =
+    let x = c.args.exchange.now in
+    let ps = take c.part_count-count.result c.cluster-cluster.result.now.parts in
+    let qs = c.cluster-other.result.now.parts in
+    let there : Leaves x.number ps qs c.args.index.now c.leave.new.index =
+        leaves_same c.number-2.result x.number ps ps qs qs c.args.index.now c.leave.new.index c.number-2.ensures refl refl c.leave.ensures in
+    keeps_left x.number ps qs c.args.index.now c.leave.new.index there

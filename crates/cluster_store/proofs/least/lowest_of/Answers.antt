@@ -1,0 +1,4 @@
+use Rattle.cluster_store.proofs.least.lowest_of.Goals as goal
+
+pub loop-at-preserved : goal.loop-at-preserved
+loop-at-preserved g c = ?
