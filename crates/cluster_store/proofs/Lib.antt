@@ -7,3 +7,4 @@ pub mod Done
 pub mod Wide
 pub mod Results
 pub mod Adds
+pub mod Shelves
