@@ -8,3 +8,5 @@ pub mod Wide
 pub mod Results
 pub mod Adds
 pub mod Shelves
+pub mod Walks
+pub mod Found

@@ -1,5 +1,5 @@
 -- How a store is kept: a slab of clusters, and an index of their parts, in which the serial of an entry is the number of its cluster.
-use Rattle.std.specs.Prelude.{◌≡◌, ℕ, ◌≤◌, Bool, true, false, ◌&&◌, not, cond, List, [], ◌∷◌, map, take, Contains, Option, None, Some, slice_get, slice_index_or, nat_eq}
+use Rattle.std.specs.Prelude.{◌≡◌, ℕ, ◌*◌, ◌≤◌, Bool, true, false, ◌&&◌, not, cond, List, [], ◌∷◌, map, take, Contains, Option, None, Some, slice_get, slice_index_or, nat_eq}
 use Rattle.std.specs.Ordering.{int_eq, is_eq}
 use Rattle.std.specs.FinMap as finmap
 use Rattle.slab.specs.Slab.{entries_from}
@@ -95,7 +95,9 @@ pub record IsWide (slots : Slots) (waiting : List Exchange) (items : Items) : Ty
 
 -- ---- what holds of every store
 
-pub record IsKept (most : ℕ) (slots : Slots) (items : Items) (least : ℕ) : Type 0 where
+-- A set of places has at most 64 words, the index is right, each cluster is whole, and no name has a size below the bound.
+pub record IsKept (w : ℕ) (slots : Slots) (items : Items) (least : ℕ) : Type 0 where
+  pub narrow : w ≤ 64
   pub shown : IsShown slots items
-  pub whole : (number : ℕ) (s : Stored) → at slots number ≡ Some s → IsCluster most s.cluster
+  pub whole : (number : ℕ) (s : Stored) → at slots number ≡ Some s → IsCluster (64 * w) s.cluster
   pub floor : (number : ℕ) (s : Stored) → at slots number ≡ Some s → (id : ℕ) → Contains s.cluster.names id → least ≤ (rate_of s.cluster.graph id).size

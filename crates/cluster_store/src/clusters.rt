@@ -1,7 +1,8 @@
 //! Clusters in a slab, and the index of their parts.
-ghost use Rattle.std.specs.Prelude.{◌≡◌, ℕ, ◌+◌, ◌<◌, ◌≤◌, ◌++◌, [], None, Some, IsSome, IfOk, OnOk, OnErr, Contains, length, map, take};
+ghost use Rattle.std.specs.Prelude.{◌≡◌, ℕ, ◌+◌, ◌<◌, ◌≤◌, ◌++◌, [], None, Some, IsSome, IfOk, OnOk, OnErr, MatchOption, Contains, length, map, take};
 ghost use Rattle.lists.specs.Distinct.{AreDistinct};
 ghost use Rattle.slab.specs.Slab.{get, Updates, SameValues};
+ghost use Rattle.cluster_store.specs.Stores.{Stored as Kept};
 ghost use Rattle.cluster_store.specs.Kept.{IsSameIndex, IsShown, IsWide};
 ghost use Rattle.cluster_store.specs.Slots.{AddsOne, AddsTo, AreOut, AreStored, ExchangesAll, IsBeside, KeepsElsewhere, MovesAll, MovesIn, Places};
 
@@ -21,6 +22,28 @@ pub fn at<const W: usize>(slots: &Slab<Stored<W>>, number: usize) -> &Stored<W>
     match slots.get(number) {
         Some(stored) => stored,
         None => unreachable!(),
+    }
+}
+
+/// The cluster of a number, if it has one.
+pub fn cluster_of<const W: usize>(slots: &Slab<Stored<W>>, number: usize) -> Option<&Cluster<W>>
+    ensures { MatchOption result (get slots.now number ≡ None)
+        (λ c. (s : Kept) × (get slots.now number ≡ Some s) × (c.now ≡ s.cluster)) }
+{
+    match slots.get(number) {
+        Some(stored) => Some(stored.cluster()),
+        None => None,
+    }
+}
+
+/// The levels in which the cluster of a number stands, if it has one.
+pub fn tag_of<const W: usize>(slots: &Slab<Stored<W>>, number: usize) -> Option<Tag>
+    ensures { MatchOption result (get slots.now number ≡ None)
+        (λ tag. (s : Kept) × (get slots.now number ≡ Some s) × (tag ≡ s.tag)) }
+{
+    match slots.get(number) {
+        Some(stored) => Some(stored.tag()),
+        None => None,
     }
 }
 

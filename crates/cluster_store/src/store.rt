@@ -4,7 +4,7 @@ ghost use Rattle.cluster_store.specs.Stores.{Stored as Kept, AreWhole, IsLeast, 
 ghost use Rattle.cluster_store.specs.Changes.{AreThere, EndsAt, MakesChange, lowest_in, moved_to, most_least};
 ghost use Rattle.cluster_store.specs.Moved.{Moved};
 
-use crate::clusters::{add_all, at, exchange_all, make_move, move_all, take_all};
+use crate::clusters::{add_all, cluster_of, exchange_all, make_move, move_all, tag_of, take_all};
 use crate::least::{lowest_added, lowest_exchanged};
 use crate::stored::{Exchange, Move, Stored};
 use crate::walk::PartWalk;
@@ -37,12 +37,13 @@ impl<const W: usize> Model for ClusterStore<W> {
 
     ghost view = { λ a. record { clusters = shelved a.slots.slots; order = map place_of a.index; least = a.least } };
 
-    ghost invariant = { λ a. IsKept (64 * W) a.slots.slots a.index a.least };
+    ghost invariant = { λ a. IsKept W a.slots.slots a.index a.least };
 }
 
 impl<const W: usize> ClusterStore<W> {
     /// No cluster. Takes no memory.
     pub fn new(alloc: Global) -> Self
+        requires { W ≤ 64 }
         ensures { result ≡ record { clusters = finmap.empty; order = []; least = most_least } }
     {
         ClusterStore {
@@ -60,10 +61,7 @@ impl<const W: usize> ClusterStore<W> {
     {
         let _index = &self.index;
         let _least = self.least;
-        match self.slots.get(number) {
-            Some(stored) => Some(stored.cluster()),
-            None => None,
-        }
+        cluster_of(&self.slots, number)
     }
 
     /// The levels in which the cluster of a number stands, or `None` where the number has none.
@@ -73,10 +71,7 @@ impl<const W: usize> ClusterStore<W> {
     {
         let _index = &self.index;
         let _least = self.least;
-        match self.slots.get(number) {
-            Some(stored) => Some(stored.tag()),
-            None => None,
-        }
+        tag_of(&self.slots, number)
     }
 
     /// A size that no name of any cluster is below, in virtual bytes. It only falls, to the sizes that come, and begins

@@ -1,7 +1,14 @@
+-- Nothing is counted exactly where nothing is shelved.
+use Rattle.std.proofs.Common.{◌≡◌, ℕ, true, false, Some, None, count_by, is_some, refl, sym, ap, ◌∙◌, subst}
+use Rattle.cluster_store.specs.Stores.{Store}
+use Rattle.cluster_store.specs.Changes.{EndsAt}
+use Rattle.cluster_store.proofs.Shelves.{ends_anew, ends_still}
 use Rattle.cluster_store.proofs.store.ClusterStore.begin_anew.Goals as goal
 
 pub returns-then-is_empty-clause-least : goal.returns-then-is_empty-clause-least
-returns-then-is_empty-clause-least g c = ?
+returns-then-is_empty-clause-least g c = ends_anew c.self.inside.slots.slots c.args.self.now.least (sym c.is_empty.ensures ∙ c.if-is_empty.true)
 
 pub returns-else-is_empty-clause-least : goal.returns-else-is_empty-clause-least
-returns-else-is_empty-clause-least g c = ?
+returns-else-is_empty-clause-least g c =
+    subst (λ (s : Store). EndsAt s.clusters c.args.self.now.least c.args.self.now.least) c.self.view_is
+    (ends_still c.self.inside.slots.slots c.args.self.now.least (sym c.is_empty.ensures ∙ c.if-is_empty.false))

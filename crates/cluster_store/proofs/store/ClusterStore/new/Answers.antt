@@ -1,7 +1,15 @@
+-- No slots and no entries.
+use Rattle.std.proofs.Common.{◌≡◌, ◌*◌, [], None, refl, sym, ap, ◌∙◌, subst}
+use Rattle.std.proofs.lemmas.Option.{none-some}
+use Rattle.chunk_index.specs.Items.{Items}
+use Rattle.cluster_store.specs.Stores.{Store}
+use Rattle.cluster_store.specs.Changes.{most_least}
+use Rattle.cluster_store.specs.Kept.{Slots, IsKept, shelved, place_of}
+use Rattle.cluster_store.proofs.Shelves.{none_kept, none_shelved}
 use Rattle.cluster_store.proofs.store.ClusterStore.new.Goals as goal
 
 pub invariant_of-result : goal.invariant_of-result
-invariant_of-result g c = ?
+invariant_of-result g c = none_kept g.row.W c.new.result.slots c.new-2.result 18446744073709551615 c.requires c.new.ensures.empty c.new-2.ensures
 
 pub returns : goal.returns
-returns g c = ?
+returns g c = none_shelved c.new.result.slots c.new-2.result 18446744073709551615 c.new.ensures.empty c.new-2.ensures

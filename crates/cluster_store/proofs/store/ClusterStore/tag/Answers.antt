@@ -1,10 +1,13 @@
+-- What is shelved under the number is what its slot has.
+use Rattle.std.proofs.Common.{rules, ◌≤◌, ap}
+use Rattle.cluster_store.specs.Stores.{Store}
+use Rattle.cluster_store.proofs.Found.{read_by}
 use Rattle.cluster_store.proofs.store.ClusterStore.tag.Goals as goal
 
-pub tag-requires : goal.tag-requires
-tag-requires g c = ?
+pub tag_of-requires : goal.tag_of-requires
+tag_of-requires g c = let narrow : g.row.W ≤ 64 = c.self.invariant.narrow in search rules
 
-pub returns-in-Some : goal.returns-in-Some
-returns-in-Some g c = ?
-
-pub returns-in-None : goal.returns-in-None
-returns-in-None g c = ?
+pub returns : goal.returns
+returns g c =
+    read_by c.tag_of.result (λ t. t) (λ s. s.tag) c.self.inside.slots.slots c.args.number c.args.self.now.clusters
+    (ap (λ (s : Store). s.clusters) c.self.view_is) c.tag_of.ensures
