@@ -10,3 +10,5 @@ pub mod Adds
 pub mod Shelves
 pub mod Walks
 pub mod Found
+pub mod Kept
+pub mod Lent
