@@ -24,10 +24,10 @@ decide_in (x ∷ xs) n = elim (cases_eq x n) [
   ]
 ]
 
-any_default : (xs : List ℕ) (i d e : ℕ) → i < length xs → get_or xs i d ≡ get_or xs i e
+pub any_default : (xs : List ℕ) (i d e : ℕ) → i < length xs → get_or xs i d ≡ get_or xs i e
 any_default xs i d e below = same_Some (get_or xs i d) (get_or xs i e) (sym (slice_get-get_or xs i d below) ∙ slice_get-get_or xs i e below)
 
-listed_at : (xs : List ℕ) (i : ℕ) → i < length xs → Contains xs (slice_index xs i)
+pub listed_at : (xs : List ℕ) (i : ℕ) → i < length xs → Contains xs (slice_index xs i)
 listed_at xs i below = (i, below, any_default xs i (slice_index xs i) 0 below)
 
 pub adds_none : (old : Slots) (numbers : List ℕ) → numbers ≡ [] → AddsTo [] numbers old old

@@ -21,7 +21,7 @@ module _ (w : ℕ) (slots : Slots) (items : Items) (least : ℕ) (kept : IsKept 
   pub shelved_whole : AreWhole (64 * w) (shelved slots)
   shelved_whole n s is = kept.whole n s (sym (get_shelved slots n) ∙ is)
 
-moved_cluster : (to : Option Tag) (o : Option Stored) (s : Stored) → moved_to to o ≡ Some s → (t : Stored) × (o ≡ Some t) × (t.cluster ≡ s.cluster)
+pub moved_cluster : (to : Option Tag) (o : Option Stored) (s : Stored) → moved_to to o ≡ Some s → (t : Stored) × (o ≡ Some t) × (t.cluster ≡ s.cluster)
 moved_cluster None o s is = absurd (none-some s is)
 moved_cluster (Some tag) None s is = absurd (none-some s is)
 moved_cluster (Some tag) (Some t) s is = (t, refl, ap (λ (x : Stored). x.cluster) (same_Some (record { cluster = t.cluster; tag = tag }) s is))

@@ -12,3 +12,5 @@ pub mod Walks
 pub mod Found
 pub mod Kept
 pub mod Lent
+pub mod Unique
+pub mod Changed

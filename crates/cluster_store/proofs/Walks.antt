@@ -38,7 +38,7 @@ listed_some (x ∷ items) i here = by (same_key (item_key x) (item_key i)) refl 
     by false s (inl same) rest = absurd (true_false (sym s ∙ ap (λ (y : Entry × Tag). same_key (item_key y) (item_key i)) same ∙ same_self (item_key i)))
     by false s (inr later) rest = rw s (rest later)
 
-all_at : {X : Type 0} (P : X → Type 0) (xs : List X) (y : X) → AllByRecursion P xs → Contains xs y → P y
+pub all_at : {X : Type 0} (P : X → Type 0) (xs : List X) (y : X) → AllByRecursion P xs → Contains xs y → P y
 all_at P [] y all here = absurd (none_in_empty y here)
 all_at P (x ∷ xs) y all here = elim (Contains-cases x y xs here) [ inl same ↦ subst P same all.0 | inr later ↦ all_at P xs y all.1 later ]
 

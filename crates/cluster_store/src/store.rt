@@ -132,7 +132,13 @@ impl<const W: usize> ClusterStore<W> {
         let _walk = self.index.walk(Level::Main);
         let least = lowest_exchanged(self.least, exchanged.as_slice());
         let least = lowest_added(least, added.as_slice());
-        let numbers = add_all(self.alloc, &mut self.slots, &mut self.index, added)?;
+        let numbers = match add_all(self.alloc, &mut self.slots, &mut self.index, added) {
+            Ok(numbers) => numbers,
+            Err(error) => {
+                let _walk = self.index.walk(Level::Main);
+                return Err(error);
+            }
+        };
         if let Err(error) = exchange_all(&mut self.slots, &mut self.index, exchanged) {
             take_all(&mut self.slots, &mut self.index, numbers);
             let _walk = self.index.walk(Level::Main);

@@ -1,0 +1,78 @@
+-- What is kept along a whole change, and where one step of it finds no memory.
+use Rattle.std.proofs.Common.{rules, ℕ, ◌≤◌, ◌≡◌, List, map, Contains, refl, ap, sym, ◌∙◌, subst}
+use Rattle.cluster.specs.Clusters.{IsCluster}
+use Rattle.cluster_store.specs.Stores.{Store, Stored, Exchange}
+use Rattle.cluster_store.specs.Changes.{lowest_in}
+use Rattle.cluster_store.specs.Kept.{IsKept}
+use Rattle.cluster_store.specs.Slots.{AddsTo}
+use Rattle.cluster_store.proofs.Adds.{adds_stored, adds_same, adds_undone}
+use Rattle.cluster_store.proofs.Changed.{kept_same, kept_changed, store_same, exchanged_stored, moves_stored, makes_change}
+use Rattle.cluster_store.proofs.store.ClusterStore.change.Goals as goal
+
+pub invariant_of-self : goal.invariant_of-self
+invariant_of-self g c =
+    kept_same g.row.W c.self.inside.slots.slots c.add_all.new.slots.slots c.self.inside.index c.add_all.new.index c.self.inside.least c.self.invariant
+    c.in-Err.ensures.err c.in-Err.ensures.shown
+
+pub returns-in-Err-clause-err : goal.returns-in-Err-clause-err
+returns-in-Err-clause-err g c =
+    store_same c.self.inside.slots.slots c.add_all.new.slots.slots c.self.inside.index c.add_all.new.index c.self.inside.least c.self.invariant.shown
+    c.in-Err.ensures.shown c.walk-walk.ensures.order c.walk-walk-in-Err.ensures.order c.in-Err.ensures.err ∙ c.self.view_is
+
+pub exchange_all-requires : goal.exchange_all-requires
+exchange_all-requires g c =
+    let narrow : g.row.W ≤ 64 = c.self.invariant.narrow in
+    (search rules, (search rules, (c.in-Ok.ensures.shown,
+    exchanged_stored c.args.exchanged.items c.args.moves.now c.self.inside.slots.slots c.args.self.now.clusters (ap (λ (s : Store). s.clusters) c.self.view_is) c.requires
+    c.args.added.items c.in-Ok.numbers.items c.add_all.new.slots.slots c.in-Ok.ensures.ok)))
+
+pub take_all-requires : goal.take_all-requires
+take_all-requires g c =
+    let narrow : g.row.W ≤ 64 = c.self.invariant.narrow in
+    (search rules, (c.in-Err-exchange_all.ensures.shown,
+    adds_stored c.args.added.items c.in-Ok.numbers.items c.self.inside.slots.slots c.exchange_all.new.slots.slots
+    (adds_same c.args.added.items c.in-Ok.numbers.items c.self.inside.slots.slots c.add_all.new.slots.slots c.in-Ok.ensures.ok c.in-Ok.numbers.items
+    c.exchange_all.new.slots.slots refl c.in-Err-exchange_all.ensures.err)))
+
+pub invariant_of-self-in-Err-exchange_all : goal.invariant_of-self-in-Err-exchange_all
+invariant_of-self-in-Err-exchange_all g c =
+    kept_same g.row.W c.self.inside.slots.slots c.take_all.new.slots.slots c.self.inside.index c.take_all.new.index c.self.inside.least c.self.invariant
+    (adds_undone c.args.added.items c.in-Ok.numbers.items c.self.inside.slots.slots c.exchange_all.new.slots.slots
+    (adds_same c.args.added.items c.in-Ok.numbers.items c.self.inside.slots.slots c.add_all.new.slots.slots c.in-Ok.ensures.ok c.in-Ok.numbers.items
+    c.exchange_all.new.slots.slots refl c.in-Err-exchange_all.ensures.err) c.take_all.new.slots.slots c.take_all.ensures.out) c.take_all.ensures.shown
+
+pub returns-in-Err-exchange_all-clause-err : goal.returns-in-Err-exchange_all-clause-err
+returns-in-Err-exchange_all-clause-err g c =
+    store_same c.self.inside.slots.slots c.take_all.new.slots.slots c.self.inside.index c.take_all.new.index c.self.inside.least c.self.invariant.shown
+    c.take_all.ensures.shown c.walk-walk.ensures.order c.walk-walk-in-Err-exchange_all.ensures.order
+    (adds_undone c.args.added.items c.in-Ok.numbers.items c.self.inside.slots.slots c.exchange_all.new.slots.slots
+    (adds_same c.args.added.items c.in-Ok.numbers.items c.self.inside.slots.slots c.add_all.new.slots.slots c.in-Ok.ensures.ok c.in-Ok.numbers.items
+    c.exchange_all.new.slots.slots refl c.in-Err-exchange_all.ensures.err) c.take_all.new.slots.slots c.take_all.ensures.out) ∙ c.self.view_is
+
+pub move_all-requires : goal.move_all-requires
+move_all-requires g c =
+    let narrow : g.row.W ≤ 64 = c.self.invariant.narrow in
+    (search rules, (c.in_default.ensures.shown,
+    moves_stored c.args.exchanged.items c.args.moves.now c.self.inside.slots.slots c.args.self.now.clusters (ap (λ (s : Store). s.clusters) c.self.view_is) c.requires
+    c.args.added.items c.in-Ok.numbers.items c.add_all.new.slots.slots c.in-Ok.ensures.ok c.exchange_all.new.slots.slots c.in_default.ensures.ok))
+
+pub invariant_of-self-2 : goal.invariant_of-self-2
+invariant_of-self-2 g c =
+    let first : c.lowest_exchanged-least.result ≡ lowest_in (map (λ (x : Exchange). x.cluster) c.args.exchanged.items) c.self.inside.least =
+        c.lowest_exchanged-least.ensures.least ∙ ap (λ (xs : List Exchange). lowest_in (map (λ (x : Exchange). x.cluster) xs) c.self.inside.least) c.as_slice.ensures.value in
+    let all : c.lowest_added-least.result
+        ≡ lowest_in (map (λ (s : Stored). s.cluster) c.args.added.items) (lowest_in (map (λ (x : Exchange). x.cluster) c.args.exchanged.items) c.self.inside.least) =
+        c.lowest_added-least.ensures.least ∙ ap (λ (xs : List Stored). lowest_in (map (λ (s : Stored). s.cluster) xs) c.lowest_exchanged-least.result) c.as_slice-2.ensures.value
+        ∙ ap (lowest_in (map (λ (s : Stored). s.cluster) c.args.added.items)) first in
+    subst (IsKept g.row.W c.move_all.new.slots.slots c.move_all.new.index) (sym all)
+    (kept_changed g.row.W c.args.exchanged.items c.args.moves.now c.self.inside.slots.slots c.args.self.now.clusters (ap (λ (s : Store). s.clusters) c.self.view_is) c.requires
+    c.args.added.items c.in-Ok.numbers.items c.add_all.new.slots.slots c.in-Ok.ensures.ok c.exchange_all.new.slots.slots c.in_default.ensures.ok
+    c.move_all.new.slots.slots c.move_all.ensures.moved c.self.inside.index c.move_all.new.index c.self.inside.least c.self.invariant c.move_all.ensures.shown
+    (λ x here. c.lowest_exchanged-least.ensures.whole x (subst (λ (xs : List Exchange). Contains xs x) (sym c.as_slice.ensures.value) here))
+    (λ a here. c.lowest_added-least.ensures.whole a (subst (λ (xs : List Stored). Contains xs a) (sym c.as_slice-2.ensures.value) here)))
+
+pub returns-clause-change : goal.returns-clause-change
+returns-clause-change g c =
+    makes_change c.args.exchanged.items c.args.moves.now c.self.inside.slots.slots c.args.self.now.clusters (ap (λ (s : Store). s.clusters) c.self.view_is) c.requires
+    c.args.added.items c.in-Ok.numbers.items c.add_all.new.slots.slots c.in-Ok.ensures.ok c.exchange_all.new.slots.slots c.in_default.ensures.ok
+    c.move_all.new.slots.slots c.move_all.ensures.moved c.begin_anew.new.self.clusters (sym c.begin_anew.ensures.clusters)
