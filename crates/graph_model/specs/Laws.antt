@@ -1,23 +1,31 @@
 -- What a reader would expect of the machine.
-use Rattle.std.specs.Prelude.{◌≡◌, ℕ, List, ◌++◌}
+use Rattle.std.specs.Prelude.{◌≡◌, ℕ, List, ◌++◌, Option}
 use Rattle.graph_model.specs.declared.names.Refusal.{Refusal}
 use Rattle.graph_model.specs.declared.names.Refusal.TheVariants.{Memory}
-use Rattle.graph_model.specs.States.{State}
+use Rattle.graph_model.specs.States.{PlainState, Picks, State}
 use Rattle.graph_model.specs.Commands.{Command}
-use Rattle.graph_model.specs.Replies.{Refused}
+use Rattle.graph_model.specs.Lines.{Meaning, Means}
+use Rattle.graph_model.specs.Replies.{Reply, Refused}
+use Rattle.graph_model.specs.Refusals.{RefusalIs}
 use Rattle.graph_model.specs.Steps.{Step, MayLackMemory}
-use Rattle.graph_model.specs.Runs.{Answer, Run}
+use Rattle.graph_model.specs.Runs.{Answer, Run, CommandsRun}
 
--- a run goes on from where an earlier one ended, with one answer a line in the order of the lines
-abbrev pub AnswersAreInOrder : Type 0
-AnswersAreInOrder =
-    (old mid new : State) (lines more : List (List ℕ)) (answers others : List Answer) → Run old lines answers mid → Run mid more others new
-    → Run old (lines ++ more) (answers ++ others) new
+-- a run goes on from where an earlier one ended, with one answer a line, or one reply a command, in their order
+pub record AnswersAreInOrder : Type 0 where
+  pub lines : (old mid new : PlainState) (lines more : List (List ℕ)) (answers others : List Answer) → Run old lines answers mid → Run mid more others new
+      → Run old (lines ++ more) (answers ++ others) new
+  pub commands : (old mid new : State) (commands more : List Command) (replies others : List Reply) → CommandsRun old commands replies mid
+      → CommandsRun mid more others new → CommandsRun old (commands ++ more) (replies ++ others) new
 
--- whatever the refusal, the state after a refused command is the one before
+-- whatever the refusal, the state after a refused command is the one before, picks included
 abbrev pub RefusedChangesNothing : Type 0
 RefusedChangesNothing = (old new : State) (command : Command) (why : Refusal) → Step old command (Refused why) new → new ≡ old
 
 -- a command that may not lack memory is never refused for it
 abbrev pub ReadingsLackNoMemory : Type 0
 ReadingsLackNoMemory = (old new : State) (command : Command) → (MayLackMemory command → ⊥) → Step old command (Refused Memory) new → ⊥
+
+-- A command meets at most one refusal in a state, or none, and not both; a line has at most one meaning.
+pub record RowsAreFunctions : Type 0 where
+  pub refusal : (state : PlainState) (command : Command) (one other : Option Refusal) → RefusalIs state command one → RefusalIs state command other → one ≡ other
+  pub meaning : (line : List ℕ) (one other : Meaning) → Means line one → Means line other → one ≡ other

@@ -18,4 +18,4 @@ pub use graphs::{
 };
 pub use laws::{answers_are_in_order, readings_lack_no_memory, refused_changes_nothing};
 pub use limits::{DEFAULT_LIMITS, MAX_CLUSTER_SIZE, MAX_COUNT, MAX_INPUT, MAX_LINE};
-pub use names::{Limits, Refusal};
+pub use names::{Limits, Place, Refusal};
