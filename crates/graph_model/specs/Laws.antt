@@ -4,7 +4,6 @@ use Rattle.graph_model.specs.declared.names.Refusal.{Refusal}
 use Rattle.graph_model.specs.declared.names.Refusal.TheVariants.{Memory}
 use Rattle.graph_model.specs.States.{PlainState, Picks, State}
 use Rattle.graph_model.specs.Commands.{Command}
-use Rattle.graph_model.specs.Lines.{Meaning, Means}
 use Rattle.graph_model.specs.Replies.{Reply, Refused}
 use Rattle.graph_model.specs.Refusals.{RefusalIs}
 use Rattle.graph_model.specs.Steps.{Step, MayLackMemory}
@@ -25,7 +24,6 @@ RefusedChangesNothing = (old new : State) (command : Command) (why : Refusal) �
 abbrev pub ReadingsLackNoMemory : Type 0
 ReadingsLackNoMemory = (old new : State) (command : Command) → (MayLackMemory command → ⊥) → Step old command (Refused Memory) new → ⊥
 
--- A command meets at most one refusal in a state, or none, and not both; a line has at most one meaning.
-pub record RowsAreFunctions : Type 0 where
-  pub refusal : (state : PlainState) (command : Command) (one other : Option Refusal) → RefusalIs state command one → RefusalIs state command other → one ≡ other
-  pub meaning : (line : List ℕ) (one other : Meaning) → Means line one → Means line other → one ≡ other
+-- a command meets at most one refusal in a state, or none, and not both
+abbrev pub RowsAreFunctions : Type 0
+RowsAreFunctions = (state : PlainState) (command : Command) (one other : Option Refusal) → RefusalIs state command one → RefusalIs state command other → one ≡ other

@@ -14,3 +14,4 @@ pub mod Answers
 pub mod Steps
 pub mod Runs
 pub mod Laws
+pub mod StagingLaws

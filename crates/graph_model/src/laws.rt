@@ -1,5 +1,6 @@
 //! Laws over the definitions, each the contract of a function that does nothing.
-ghost use Rattle.graph_model.specs.Laws.{AnswersAreInOrder, ReadingsLackNoMemory, RefusedChangesNothing};
+ghost use Rattle.graph_model.specs.Laws.{AnswersAreInOrder, ReadingsLackNoMemory, RefusedChangesNothing, RowsAreFunctions};
+ghost use Rattle.graph_model.specs.StagingLaws.{AbortLeavesMain};
 
 /// No answer is lost or out of order: a run over lines that come one after the other is the run over
 /// the first of them, and then over the others.
@@ -15,4 +16,14 @@ pub fn refused_changes_nothing()
 /// A reading is never refused for want of memory.
 pub fn readings_lack_no_memory()
     ensures { ReadingsLackNoMemory }
+{}
+
+/// A command meets one refusal in a state, or none, and no other.
+pub fn rows_are_functions()
+    ensures { RowsAreFunctions }
+{}
+
+/// A staging that is aborted leaves main's names, pairs, fees, sizes and pick, unless a fee was set meanwhile.
+pub fn abort_leaves_main()
+    ensures { AbortLeavesMain }
 {}

@@ -16,6 +16,9 @@ pub use graphs::{
     flat_parts_bound_closed_sets, names_can_go, optimal_bounds_closed_sets,
     optimal_ends_are_corners, stays_graph, stays_without_cycle, verdicts_are_unique,
 };
-pub use laws::{answers_are_in_order, readings_lack_no_memory, refused_changes_nothing};
+pub use laws::{
+    abort_leaves_main, answers_are_in_order, readings_lack_no_memory, refused_changes_nothing,
+    rows_are_functions,
+};
 pub use limits::{DEFAULT_LIMITS, MAX_CLUSTER_SIZE, MAX_COUNT, MAX_INPUT, MAX_LINE};
 pub use names::{Limits, Place, Refusal};
