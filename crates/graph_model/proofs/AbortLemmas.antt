@@ -90,7 +90,7 @@ module _ (first old new : State) (aside : IsAside first old) where
       let mid : with_top (begun old.plain) top ≡ record (begun old.plain) { staging = Some top } = staged_top (begun old.plain) aside.graph top aside.open_is in
       let main : (with_top (begun old.plain) top).main ≡ old.plain.main = ap (λ (p : PlainState). p.main) mid in
       let within : (id : ℕ) → Contains first.plain.main.names id → Contains (with_top (begun old.plain) top).main.names id = λ id here.
-          subst (λ (g : Graph). Contains g.names id) (sym (main ∙ aside.same.graph)) here in
+      subst (λ (g : Graph). Contains g.names id) (sym (main ∙ aside.same.graph)) here in
       goes_on first old new aside top (ap (λ (p : PlainState). p.main) forgets.same ∙ main)
       (λ id here. forgets.kept id (inl (within id here)) ∙ ap (λ (p : PlainState). finmap.get p.table id) mid)
       (ap (λ (p : PlainState). p.staging) forgets.same ∙ ap (λ (p : PlainState). p.staging) mid)

@@ -37,10 +37,13 @@ pub dep_row_along : (p q c p' q' c' : Type 0) (m l m' l' : ℕ → Type 0) (pare
     → ((n : ℕ) → m n ↔ m' n) → ((n : ℕ) → l n ↔ l' n) → DepRow p q c m l parent child found → DepRow p' q' c' m' l' parent child found
 dep_row_along p q c p' q' c' m l m' l' parent child found ps qs cs ms ls row = elim row [
   | inl here ↦ inl (ps.0 here.0, here.1)
-  | inr on ↦ inr (λ holds. on.0 (ps.1 holds), elim on.1 [
-    | inl here ↦ inl (qs.0 here.0, here.1)
-    | inr more ↦ inr (λ holds. more.0 (qs.1 holds), first_along Cycle (cs on.0 more.0) (first_at_along Count ms (first_at_along ClusterSize ls (λ none. none))) more.1)
-  ])
+  | inr on ↦ inr (
+    λ holds. on.0 (ps.1 holds),
+    elim on.1 [
+      | inl here ↦ inl (qs.0 here.0, here.1)
+      | inr more ↦ inr (λ holds. more.0 (qs.1 holds), first_along Cycle (cs on.0 more.0) (first_at_along Count ms (first_at_along ClusterSize ls (λ none. none))) more.1)
+    ],
+  )
 ]
 
 -- ---- no row has `memory`

@@ -1,12 +1,14 @@
 -- What a reader would expect of the machine.
-use Rattle.std.specs.Prelude.{◌≡◌, ℕ, List, ◌++◌, Option}
+use Rattle.std.specs.Prelude.{◌≡◌, ℕ, ◌≤◌, List, ◌++◌, Option}
 use Rattle.graph_model.specs.declared.names.Refusal.{Refusal}
 use Rattle.graph_model.specs.declared.names.Refusal.TheVariants.{Memory}
-use Rattle.graph_model.specs.States.{PlainState, Picks, State}
-use Rattle.graph_model.specs.Commands.{Command}
+use Rattle.graph_model.specs.Limits.{default_limits}
+use Rattle.graph_model.specs.States.{PlainState, State, start}
+use Rattle.graph_model.specs.Commands.{Command, HasTypes}
 use Rattle.graph_model.specs.Replies.{Reply, Refused}
 use Rattle.graph_model.specs.Refusals.{RefusalIs}
 use Rattle.graph_model.specs.Steps.{Step, MayLackMemory}
+use Rattle.graph_model.specs.Validity.{IsValidState}
 use Rattle.graph_model.specs.Runs.{Answer, Run, CommandsRun}
 
 -- a run goes on from where an earlier one ended, with one answer a line, or one reply a command, in their order
@@ -27,3 +29,8 @@ ReadingsLackNoMemory = (old new : State) (command : Command) → (MayLackMemory 
 -- a command meets at most one refusal in a state, or none, and not both
 abbrev pub RowsAreFunctions : Type 0
 RowsAreFunctions = (state : PlainState) (command : Command) (one other : Option Refusal) → RefusalIs state command one → RefusalIs state command other → one ≡ other
+
+-- A start is valid, and a step from a valid state leads to a valid one, where the command's numbers are of their types.
+pub record StepsKeepValid : Type 0 where
+  pub begins : (most : ℕ) → default_limits.count ≤ most → most ≤ 128 → IsValidState (start most)
+  pub goes_on : (old new : State) (command : Command) (reply : Reply) → HasTypes command → IsValidState old → Step old command reply new → IsValidState new

@@ -2,19 +2,27 @@
 use Rattle.std.specs.Prelude.{◌≡◌, ◌↔◌, ℕ, ◌^◌, ◌<◌, ◌≤◌, false, List, [], length, sum_by, Contains, Option, None, Some}
 use Rattle.std.specs.FinMap as finmap
 use Rattle.fee_rate.specs.Limits.{IsFee, IsSize}
-use Rattle.graphs.specs.Graphs.{Graph, IsGraph, AreConnected, Lists}
+use Rattle.lists.specs.Distinct.{AreDistinct}
+use Rattle.graphs.specs.Graphs.{Graph, IsGraph}
+use Rattle.graphs.specs.Linearizations.{IsTogether}
 use Rattle.graphs.specs.Certificates.{Part}
 use Rattle.graphs.specs.Picks.{IsPick}
 use Rattle.graph_model.specs.Limits.{AreInRange}
 use Rattle.graph_model.specs.States.{PlainState, Picks, State, Table, Entry, IsLive, size_of, rate_of}
 use Rattle.graph_model.specs.Changes.{IsKept}
 
--- a graph of 64-bit names, each of whose components is within the limits of a cluster
+-- names of a graph, each once, all in one component
+pub record AreOfOneComponent (graph : Graph) (ids : List ℕ) : Type 0 where
+  pub once : AreDistinct ids
+  pub inside : (id : ℕ) → Contains ids id → Contains graph.names id
+  pub together : IsTogether graph.pairs ids
+
+-- a graph of 64-bit names, of whose components none has more names, or a larger total size, than a cluster may have
 pub record IsLevel (state : PlainState) (graph : Graph) : Type 0 where
   pub whole : IsGraph graph
   pub names : (id : ℕ) → Contains graph.names id → id < 2 ^ 64
-  pub count : (id : ℕ) (members : List ℕ) → Contains graph.names id → Lists (AreConnected graph.pairs id) members → length members ≤ state.limits.count
-  pub size : (id : ℕ) (members : List ℕ) → Contains graph.names id → Lists (AreConnected graph.pairs id) members → sum_by (size_of state.table) members ≤ state.limits.size
+  pub count : (ids : List ℕ) → AreOfOneComponent graph ids → length ids ≤ state.limits.count
+  pub size : (ids : List ℕ) → AreOfOneComponent graph ids → sum_by (size_of state.table) ids ≤ state.limits.size
 
 -- staging, where there is one, is such a level
 abbrev pub IsStaging : PlainState → Option Graph → Type 0

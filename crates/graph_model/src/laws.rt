@@ -1,5 +1,5 @@
 //! Laws over the definitions, each the contract of a function that does nothing.
-ghost use Rattle.graph_model.specs.Laws.{AnswersAreInOrder, ReadingsLackNoMemory, RefusedChangesNothing, RowsAreFunctions};
+ghost use Rattle.graph_model.specs.Laws.{AnswersAreInOrder, ReadingsLackNoMemory, RefusedChangesNothing, RowsAreFunctions, StepsKeepValid};
 ghost use Rattle.graph_model.specs.StagingLaws.{AbortLeavesMain};
 
 /// No answer is lost or out of order: a run over lines that come one after the other is the run over
@@ -26,4 +26,9 @@ pub fn rows_are_functions()
 /// A staging that is aborted leaves main's names, pairs, fees, sizes and pick, unless a fee was set meanwhile.
 pub fn abort_leaves_main()
     ensures { AbortLeavesMain }
+{}
+
+/// A start is a valid state, and so is what a step makes of one.
+pub fn steps_keep_valid()
+    ensures { StepsKeepValid }
 {}

@@ -29,7 +29,7 @@ use Rattle.tx_graph.specs.Sound.{IsSound}
 use Rattle.tx_graph.proofs.Graphs.{order_of, member-spot, rate-at, above_in, above_from, at_contains, get-none}
 use Rattle.tx_graph.proofs.Slots.{stands_in}
 use Rattle.tx_graph.proofs.Standing.{IsSameGraph, live-member}
-use Rattle.tx_graph.proofs.Lens.{len-names}
+use Rattle.graph_model.proofs.TableLemmas.{len-names}
 use Rattle.graph_model.proofs.RowLemmas.{add_row_along}
 use Rattle.tx_graph.proofs.Rows.{dep_row, known_here}
 use Rattle.tx_graph.proofs.Stepping.{steps_limited, steps_paid, steps_added, steps_paired, steps_removed, len-live, has_entry}

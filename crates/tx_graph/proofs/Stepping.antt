@@ -30,7 +30,7 @@ use Rattle.graphs.proofs.ListLemmas.{Lists-for}
 use Rattle.tx_graph.specs.Kept.{Kept, StandsFor, MakesStep, entry_of, AddsName}
 use Rattle.tx_graph.proofs.Standing.{state_of, steps_accepted, level-main, order_kept, told, connected-linked}
 use Rattle.tx_graph.proofs.Rows.{size-of}
-use Rattle.tx_graph.proofs.Lens.{len-names}
+use Rattle.graph_model.proofs.TableLemmas.{len-names}
 
 -- ---- entries, by words
 

@@ -1,5 +1,5 @@
 -- How many keys a map has that has those of a list.
-use Rattle.std.proofs.Common.{◌≡◌, ◌≢◌, ℕ, suc, ◌-◌, Bool, true, false, cond, nat_eq, List, [], ◌∷◌, length, sym, refl, ap, subst, ◌∙◌, inl, inr, ◌↔◌, Option, None, Some, is_some, arith, eq-eqb, ne_eqb, true≢false}
+use Rattle.std.proofs.Common.{◌≡◌, ◌≢◌, ℕ, suc, zero, ◌≤◌, ◌-◌, Bool, true, false, cond, nat_eq, List, [], ◌∷◌, length, sym, refl, ap, subst, ◌∙◌, inl, inr, ◌↔◌, Option, None, Some, is_some, arith, eq-eqb, ne_eqb, true≢false}
 use Rattle.std.specs.Prelude.{Contains}
 use Rattle.std.proofs.lemmas.Bool.{cases_eq}
 use Rattle.std.specs.Ordering.{nat_cmp}
@@ -48,3 +48,26 @@ module _ {X : Type 0} where
         | inl here ↦ absurd (true≢false (sym (eq-eqb q x (sym here)) ∙ is))
         | inr later ↦ later
       ]
+
+  -- a map whose keys are among another's has no more of them
+  within : (n : ℕ) (some all : finmap.FinMap nat_cmp X) → finmap.len some ≡ n → ((q : ℕ) → finmap.contains_key some q ≡ true → finmap.contains_key all q ≡ true) → n ≤ finmap.len all
+  within zero some all long inside = omega arith
+  within (suc n) some all long inside =
+      let k = some_key some n long in
+      let has : finmap.contains_key all k.0 ≡ true = inside k.0 k.1 in
+      let less : finmap.len (finmap.remove all k.0) ≡ finmap.len all - 1 = finmap.len-remove nat_cmp_total all k.0 ∙ ap (λ b. cond b (finmap.len all - 1) (finmap.len all)) has in
+      let left : finmap.len (finmap.remove some k.0) ≡ n = finmap.len-remove nat_cmp_total some k.0 ∙ ap (λ b. cond b (finmap.len some - 1) (finmap.len some)) k.1 ∙ one_less (finmap.len some) n long in
+      let any : finmap.len all ≢ 0 = λ none. no_key all k.0 none has in
+      let rest : n ≤ finmap.len (finmap.remove all k.0) = within n (finmap.remove some k.0) (finmap.remove all k.0) left
+      (λ q here. contains-drop all k.0 q ∙ stays (nat_eq q k.0) (finmap.contains_key some q) (finmap.contains_key all q) (inside q) (sym (contains-drop some k.0 q) ∙ here)) in
+      omega arith
+    where
+      one_less : (a n : ℕ) → a ≡ suc n → a - 1 ≡ n
+      one_less a n is = omega arith
+
+      stays : (b x y : Bool) → (x ≡ true → y ≡ true) → cond b false x ≡ true → cond b false y ≡ true
+      stays true x y more e = absurd (true≢false (sym e))
+      stays false x y more e = more e
+
+  pub len-within : (some all : finmap.FinMap nat_cmp X) → ((q : ℕ) → finmap.contains_key some q ≡ true → finmap.contains_key all q ≡ true) → finmap.len some ≤ finmap.len all
+  len-within some all inside = within (finmap.len some) some all refl inside
