@@ -1,15 +1,12 @@
 -- While a staging is open, main stays as it is: no command but `commit`, `settle` and `fee` changes it.
-use Rattle.std.proofs.Common.{◌≡◌, ◌≢◌, ℕ, ℤ, true, List, [], ◌∷◌, ◌++◌, Option, None, Some, is_some, cond, sym, refl, ap, ap₂, subst, ◌∙◌, inl, inr, ◌⊎◌, nat_eq, ne_eqb}
-use Rattle.std.specs.Prelude.{Contains, IsSome}
-use Rattle.std.proofs.lemmas.Bool.{cases_eq}
-use Rattle.std.specs.Ordering.{nat_cmp}
+use Rattle.std.proofs.Common.{◌≡◌, ◌≢◌, ℕ, ℤ, true, List, [], ◌∷◌, Option, None, Some, is_some, cond, sym, refl, ap, subst, ◌∙◌, inl, inr, ◌⊎◌, ne_eqb}
+use Rattle.std.specs.Prelude.{Contains}
 use Rattle.std.specs.Cmp.{nat_cmp_total, unsigned_tied}
 use Rattle.std.specs.FinMap as finmap
 use Rattle.lists.proofs.Cases.{some_none}
 use Rattle.graphs.specs.Graphs.{Graph}
-use Rattle.graphs.specs.declared.names.Level.TheVariants.{Top}
 use Rattle.graph_model.specs.declared.names.Refusal.{Refusal}
-use Rattle.graph_model.specs.States.{PlainState, State, Table, Entry, level_of, with_top, rate_of, sum_in, IsLive, IsStaged}
+use Rattle.graph_model.specs.States.{PlainState, State, Table, Entry, with_top, rate_of, sum_in, IsLive, IsStaged}
 use Rattle.graph_model.specs.Commands.{Command, SetLimits, Add, Dep, SetFee, Remove, Mine, Evict, Stage, Commit, Abort, Settle, Compare, Order, Diagram, Proof, Cluster, Ancestors, Descendants, Chunk, Before, Block, Count}
 use Rattle.graph_model.specs.Replies.{Reply, Done}
 use Rattle.graph_model.specs.Refusals.{RefusalIs}

@@ -1,7 +1,6 @@
 -- Each change keeps valid states.
-use Rattle.std.proofs.Common.{◌≡◌, ◌≢◌, ℕ, ℤ, suc, zero, ◌+◌, ◌^◌, ◌<◌, ◌≤◌, Bool, true, false, cond, List, [], ◌∷◌, ◌++◌, length, Option, None, Some, is_some, sym, refl, ap, ap₂, subst, ◌∙◌, inl, inr, ◌⊎◌, ◌↔◌, arith, true≢false}
+use Rattle.std.proofs.Common.{◌≡◌, ℕ, ℤ, ◌+◌, ◌^◌, ◌<◌, ◌≤◌, cond, List, [], ◌∷◌, length, Option, None, Some, is_some, sym, refl, ap, subst, ◌∙◌, inl, inr, ◌⊎◌, ◌↔◌, arith, true≢false}
 use Rattle.std.specs.Prelude.{Contains, sum_by, unsigned_abs}
-use Rattle.std.specs.Ordering.{nat_cmp}
 use Rattle.std.specs.Cmp.{nat_cmp_total}
 use Rattle.std.specs.FinMap as finmap
 use Rattle.std.proofs.lemmas.Bool.{cases_eq, cases_lt, false_from_ne_true}
@@ -10,23 +9,16 @@ use Rattle.lists.proofs.Distinct.{distinct_push}
 use Rattle.fee_rate.specs.declared.limits.TheConstants.{MAX_FEE, MAX_SIZE}
 use Rattle.fee_rate.specs.Limits.{IsFee, IsSize}
 use Rattle.graphs.specs.declared.names.Level.TheVariants.{Top}
-use Rattle.graph_model.specs.declared.names.Limits.{Limits}
-use Rattle.graph_model.specs.declared.names.Refusal.TheVariants.{Count, ClusterSize}
-use Rattle.graphs.specs.Graphs.{Graph, AreConnected, IsGraph}
-use Rattle.graphs.specs.Removals.{IsWithout}
-use Rattle.graphs.specs.Drops.{DropsNames}
+use Rattle.graphs.specs.Graphs.{Graph, IsGraph}
 use Rattle.graphs.specs.Closing.{with_pair}
 use Rattle.graphs.proofs.PairLemmas.{no_cycle_with_pair}
-use Rattle.graphs.proofs.RemovalLemmas.{graph_left}
-use Rattle.graphs.proofs.DropLemmas as drops
-use Rattle.graph_model.specs.Limits.{AreInRange}
-use Rattle.graph_model.specs.States.{PlainState, Table, Entry, level_of, top_of, with_top, IsLive, IsStaged, size_in, size_of}
-use Rattle.graph_model.specs.Commands.{Add, Dep, SetFee}
-use Rattle.graph_model.specs.Refusals.{RefusalIs, JoinsTo}
-use Rattle.graph_model.specs.Changes.{added, begun, with_fee, staged, AddsPair, IsKept, Forgets, Removes, DropsFromMain, Commits, Aborts}
+use Rattle.graph_model.specs.States.{PlainState, Table, Entry, level_of, top_of, with_top, IsLive, size_in, size_of}
+use Rattle.graph_model.specs.Commands.{Add, Dep}
+use Rattle.graph_model.specs.Refusals.{RefusalIs}
+use Rattle.graph_model.specs.Changes.{added, begun, AddsPair, IsKept}
 use Rattle.graph_model.specs.Validity.{IsLevel, IsStaging, IsValid}
-use Rattle.graph_model.proofs.LevelLemmas.{same_level, level_within, level_joined, connects, one_pair, two_pairs}
-use Rattle.graph_model.proofs.ValidLemmas.{told_member, row_on, row_at_on, le_stable, get-put_same, get-put_other, level_added, with_more, in_top, top_level, staging_along, forgets_valid}
+use Rattle.graph_model.proofs.LevelLemmas.{same_level, level_joined}
+use Rattle.graph_model.proofs.ValidLemmas.{told_member, row_on, row_at_on, le_stable, get-put_same, get-put_other, level_added, with_more, top_level, staging_along}
 
 -- ---- the state with another top
 

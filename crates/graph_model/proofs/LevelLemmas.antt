@@ -1,5 +1,5 @@
 -- Components within the limits: what becomes of them when a graph changes.
-use Rattle.std.proofs.Common.{◌≡◌, ℕ, suc, zero, ◌+◌, ◌^◌, ◌<◌, ◌≤◌, Bool, true, false, List, [], ◌∷◌, ◌++◌, length, slice_index, sym, refl, ap, ap₂, subst, ◌∙◌, inl, inr, ◌⊎◌, ◌↔◌, arith, true≢false}
+use Rattle.std.proofs.Common.{◌≡◌, ℕ, suc, zero, ◌+◌, ◌^◌, ◌<◌, ◌≤◌, Bool, true, false, List, [], ◌∷◌, ◌++◌, length, sym, refl, ap, subst, ◌∙◌, inl, inr, ◌⊎◌, arith, true≢false}
 use Rattle.std.specs.Prelude.{Contains, sum_by, filter}
 use Rattle.std.specs.List.{range_with_len}
 use Rattle.std.specs.List.Sorted.{IsStrictlyIncreasing}
@@ -12,7 +12,6 @@ use Rattle.std.proofs.lemmas.List.Elements.{Contains-append_left, Contains-push,
 use Rattle.lists.specs.Distinct.{AreDistinct}
 use Rattle.lists.proofs.Entries.{Contains-head, Contains-later, Contains-cases, Contains-filter, filter-Contains, Contains-splits, none_in_empty}
 use Rattle.graphs.specs.Graphs.{Graph, Trail, AreConnected, IsGraph, Lists}
-use Rattle.graphs.specs.Linearizations.{IsTogether}
 use Rattle.graphs.specs.Closing.{with_pair}
 use Rattle.graphs.proofs.PairLemmas.{connected_across}
 use Rattle.graph_model.specs.States.{PlainState, size_of}
@@ -95,20 +94,20 @@ named graph whole a b (suc n) trail here = named graph whole a trail.0 n trail.1
 
 -- ---- whether names are connected can be told
 
-abbrev IsTold : Type 0 → Type 0
+abbrev pub IsTold : Type 0 → Type 0
 IsTold P = P ⊎ (P → ⊥)
 
-both_told : (P Q : Type 0) → IsTold P → IsTold Q → IsTold (P × Q)
+pub both_told : (P Q : Type 0) → IsTold P → IsTold Q → IsTold (P × Q)
 both_told P Q (inl p) (inl q) = inl (p, q)
 both_told P Q (inl p) (inr q) = inr (λ h. q h.1)
 both_told P Q (inr p) other = inr (λ h. p h.0)
 
-either_told : (P Q : Type 0) → IsTold P → IsTold Q → IsTold (P ⊎ Q)
+pub either_told : (P Q : Type 0) → IsTold P → IsTold Q → IsTold (P ⊎ Q)
 either_told P Q (inl p) other = inl (inl p)
 either_told P Q (inr p) (inl q) = inl (inr q)
 either_told P Q (inr p) (inr q) = inr (λ h. elim h [ inl a ↦ p a | inr b ↦ q b ])
 
-told_along : (P Q : Type 0) → (P → Q) → (Q → P) → IsTold P → IsTold Q
+pub told_along : (P Q : Type 0) → (P → Q) → (Q → P) → IsTold P → IsTold Q
 told_along P Q to from (inl p) = inl (to p)
 told_along P Q to from (inr p) = inr (λ q. p (from q))
 
@@ -116,13 +115,13 @@ no_trail : (a b n : ℕ) → Trail [] a b n → a ≡ b
 no_trail a b zero same = same
 no_trail a b (suc n) trail = elim trail.2 [ inl down ↦ absurd (none_in_empty (trail.0, b) down) | inr up ↦ absurd (none_in_empty (b, trail.0) up) ]
 
-turn_first : (pair : ℕ × ℕ) (pairs : List (ℕ × ℕ)) (x : ℕ × ℕ) → Contains (pair ∷ pairs) x → Contains (pairs ++ pair ∷ []) x
+pub turn_first : (pair : ℕ × ℕ) (pairs : List (ℕ × ℕ)) (x : ℕ × ℕ) → Contains (pair ∷ pairs) x → Contains (pairs ++ pair ∷ []) x
 turn_first pair pairs x here = elim (Contains-cases pair x pairs here) [
   | inl same ↦ subst (Contains (pairs ++ pair ∷ [])) same (Contains-push pairs pair)
   | inr later ↦ Contains-append_left pairs (pair ∷ []) x later
 ]
 
-turn_last : (pair : ℕ × ℕ) (pairs : List (ℕ × ℕ)) (x : ℕ × ℕ) → Contains (pairs ++ pair ∷ []) x → Contains (pair ∷ pairs) x
+pub turn_last : (pair : ℕ × ℕ) (pairs : List (ℕ × ℕ)) (x : ℕ × ℕ) → Contains (pairs ++ pair ∷ []) x → Contains (pair ∷ pairs) x
 turn_last pair pairs x here = elim (Contains-push_cases pairs pair x here) [
   | inl before ↦ Contains-later pair x pairs before
   | inr same ↦ subst (Contains (pair ∷ pairs)) same (Contains-head pair pairs)

@@ -6,3 +6,7 @@ pub mod LevelLemmas
 pub mod ValidLemmas
 pub mod ChangeLemmas
 pub mod StepLemmas
+pub mod EdgeLemmas
+pub mod SpellingLemmas
+pub mod AmountLemmas
+pub mod ProofLemmas

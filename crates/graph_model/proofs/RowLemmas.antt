@@ -1,8 +1,8 @@
 -- Rows of refusals: a row has one answer, none has `memory`, and equivalent causes give the same row.
-use Rattle.std.proofs.Common.{◌≡◌, ℕ, List, [], ◌∷◌, ◌++◌, Option, None, Some, sym, refl, ap, ap₂, subst, ◌∙◌, inl, inr, ◌⊎◌, ◌↔◌, length}
-use Rattle.std.specs.Prelude.{Contains, sum_by}
-use Rattle.lists.proofs.Entries.{first_of, rest_of, not_empty}
-use Rattle.graphs.specs.Graphs.{AreConnected, Lists}
+use Rattle.std.proofs.Common.{◌≡◌, ℕ, List, [], ◌∷◌, ◌++◌, Option, Some, sym, refl, ap, ◌∙◌, inl, inr, ◌⊎◌, ◌↔◌, length}
+use Rattle.std.specs.Prelude.{sum_by}
+use Rattle.lists.proofs.Entries.{first_of, rest_of}
+use Rattle.graphs.specs.Graphs.{AreConnected}
 use Rattle.graphs.proofs.ListLemmas.{Lists-same}
 use Rattle.graph_model.specs.declared.names.Refusal.{Refusal}
 use Rattle.graph_model.specs.declared.names.Refusal.TheVariants.{Late, Range, Fee, Size, Taken, ClusterSize, Full, Unknown, Cycle, Count, Staging, Twice, Parent, Empty, NoStaging, Memory}

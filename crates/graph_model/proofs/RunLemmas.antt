@@ -1,5 +1,5 @@
 -- Runs, and what leaves the state.
-use Rattle.std.proofs.Common.{◌≡◌, List, [], ◌∷◌, ◌++◌, Option, Some, subst, sym, inl, inr, refl}
+use Rattle.std.proofs.Common.{◌≡◌, List, [], ◌∷◌, ◌++◌, Option, Some, subst, sym, inl, inr}
 use Rattle.graph_model.specs.declared.names.Refusal.{Refusal}
 use Rattle.graph_model.specs.declared.names.Refusal.TheVariants.{Memory}
 use Rattle.graph_model.specs.States.{PlainState, Picks, State}
@@ -7,7 +7,6 @@ use Rattle.graph_model.specs.Commands.{Command, SetLimits, Add, Dep, SetFee, Rem
 use Rattle.graph_model.specs.Replies.{Reply, Refused}
 use Rattle.graph_model.specs.Answers.{Answers}
 use Rattle.graph_model.specs.Steps.{StepBy, PlainStep, Step, MayLackMemory}
-use Rattle.graph_model.specs.Refusals.{RefusalIs}
 use Rattle.graph_model.specs.Runs.{RunBy}
 use Rattle.graph_model.proofs.RowLemmas.{no_memory_in_row}
 

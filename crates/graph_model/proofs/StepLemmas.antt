@@ -1,5 +1,5 @@
 -- Steps keep valid states: the other changes, and the picks.
-use Rattle.std.proofs.Common.{◌≡◌, ◌≢◌, ℕ, ℤ, ◌+◌, ◌^◌, ◌<◌, ◌≤◌, Bool, true, false, cond, List, [], ◌∷◌, ◌++◌, length, Option, None, Some, is_some, sym, refl, ap, ap₂, subst, ◌∙◌, inl, inr, ◌⊎◌, ◌↔◌, arith, true≢false}
+use Rattle.std.proofs.Common.{◌≡◌, ℕ, ℤ, ◌+◌, ◌≤◌, true, cond, List, [], ◌∷◌, length, Option, None, Some, is_some, sym, refl, ap, subst, ◌∙◌, inl, inr, arith, true≢false}
 use Rattle.std.specs.Prelude.{Contains, sum_by}
 use Rattle.std.specs.Ordering.{nat_cmp}
 use Rattle.std.specs.Cmp.{nat_cmp_total}
@@ -10,27 +10,23 @@ use Rattle.lists.proofs.Entries.{Contains-head, none_in_empty}
 use Rattle.fee_rate.specs.declared.rates.Sum.{Sum}
 use Rattle.fee_rate.specs.Limits.{IsFee, IsSize}
 use Rattle.graphs.specs.declared.names.Level.TheVariants.{Top}
-use Rattle.graph_model.specs.declared.names.Refusal.{Refusal}
-use Rattle.graphs.specs.Graphs.{Graph, AreConnected, IsGraph}
-use Rattle.graphs.specs.Removals.{IsWithout}
-use Rattle.graphs.specs.Drops.{DropsNames}
+use Rattle.graphs.specs.Graphs.{Graph, IsGraph}
 use Rattle.graphs.specs.Certificates.{Part}
 use Rattle.graphs.specs.Picks.{IsPick}
-use Rattle.graphs.specs.Alikes.{AreAlike}
 use Rattle.graphs.proofs.RemovalLemmas.{graph_left}
 use Rattle.graphs.proofs.DropLemmas as drops
 use Rattle.graphs.proofs.PickLemmas.{picks_are_kept}
-use Rattle.graph_model.specs.Limits.{AreInRange, default_limits}
-use Rattle.graph_model.specs.States.{PlainState, Picks, State, Table, Entry, start, empty_graph, level_of, top_of, with_top, IsLive, IsStaged, size_in, size_of, sum_in, rate_of}
+use Rattle.graph_model.specs.Limits.{default_limits}
+use Rattle.graph_model.specs.States.{PlainState, Picks, State, Table, Entry, start, empty_graph, level_of, top_of, IsLive, size_in, size_of, sum_in, rate_of}
 use Rattle.graph_model.specs.Commands.{Command, HasTypes, SetLimits, Add, Dep, SetFee, Remove, Mine, Evict, Stage, Commit, Abort, Settle, Compare, Order, Diagram, Proof, Cluster, Ancestors, Descendants, Chunk, Before, Block, Count}
 use Rattle.graph_model.specs.Refusals.{RefusalIs}
 use Rattle.graph_model.specs.Replies.{Reply}
-use Rattle.graph_model.specs.Changes.{begun, with_fee, staged, IsKept, Forgets, Removes, DropsFromMain, Commits, Aborts, Changes}
-use Rattle.graph_model.specs.Steps.{Step, Accepts, PicksFollow, KeepsPicks, CommitsPick}
+use Rattle.graph_model.specs.Changes.{begun, with_fee, staged, Forgets, Removes, DropsFromMain, Commits, Aborts, Changes}
+use Rattle.graph_model.specs.Steps.{Step, PicksFollow, CommitsPick}
 use Rattle.graph_model.specs.Validity.{AreOfOneComponent, IsLevel, IsStaging, IsValid, IsPickOf, ArePicks, IsValidState}
 use Rattle.graph_model.specs.Laws.{StepsKeepValid}
 use Rattle.graph_model.proofs.LevelLemmas.{same_level, level_within, connects, one_pair, two_pairs}
-use Rattle.graph_model.proofs.ValidLemmas.{row_on, le_stable, get-put_same, get-put_other, in_top, top_level, staging_along, forgets_valid, valid_limited}
+use Rattle.graph_model.proofs.ValidLemmas.{row_on, get-put_same, get-put_other, top_level, staging_along, forgets_valid, valid_limited}
 use Rattle.graph_model.proofs.ChangeLemmas.{of_top, top_main, top_is, fee_stable, valid_added, valid_paired}
 
 -- ---- `fee`

@@ -71,3 +71,14 @@ module _ {X : Type 0} where
 
   pub len-within : (some all : finmap.FinMap nat_cmp X) → ((q : ℕ) → finmap.contains_key some q ≡ true → finmap.contains_key all q ≡ true) → finmap.len some ≤ finmap.len all
   len-within some all inside = within (finmap.len some) some all refl inside
+
+  -- names that are keys, each once, are no more than the keys
+  pub names-within : (xs : List ℕ) (m : finmap.FinMap nat_cmp X) → AreDistinct xs → ((q : ℕ) → Contains xs q → finmap.contains_key m q ≡ true) → length xs ≤ finmap.len m
+  names-within [] m once inside = omega arith
+  names-within (x ∷ xs) m once inside =
+      let has : finmap.contains_key m x ≡ true = inside x (Contains-head x xs) in
+      let less : finmap.len (finmap.remove m x) ≡ finmap.len m - 1 = finmap.len-remove nat_cmp_total m x ∙ ap (λ b. cond b (finmap.len m - 1) (finmap.len m)) has in
+      let some : finmap.len m ≢ 0 = λ none. no_key m x none has in
+      let rest : length xs ≤ finmap.len (finmap.remove m x) = names-within xs (finmap.remove m x) once.1 (λ q here.
+      contains-drop m x q ∙ ap (λ b. cond b false (finmap.contains_key m q)) (ne_eqb q x (λ e. once.0 (subst (Contains xs) e here))) ∙ inside q (Contains-later x q xs here)) in
+      omega arith

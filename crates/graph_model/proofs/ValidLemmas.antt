@@ -1,34 +1,26 @@
 -- Steps keep valid states.
-use Rattle.std.proofs.Common.{◌≡◌, ◌≢◌, ℕ, ℤ, suc, zero, ◌+◌, ◌^◌, ◌<◌, ◌≤◌, Bool, true, false, cond, List, [], ◌∷◌, ◌++◌, length, Option, None, Some, is_some, sym, refl, ap, ap₂, subst, ◌∙◌, inl, inr, ◌⊎◌, ◌↔◌, arith, true≢false, nat_eq, eq-eqb, ne_eqb}
+use Rattle.std.proofs.Common.{◌≡◌, ◌≢◌, ℕ, suc, zero, ◌^◌, ◌<◌, ◌≤◌, Bool, true, false, cond, List, [], ◌∷◌, ◌++◌, length, Option, None, Some, is_some, sym, refl, ap, subst, ◌∙◌, inl, inr, ◌⊎◌, arith, true≢false, nat_eq, eq-eqb, ne_eqb}
 use Rattle.std.specs.Prelude.{Contains, sum_by}
 use Rattle.std.specs.Ordering.{nat_cmp}
 use Rattle.std.specs.Cmp.{nat_cmp_total, unsigned_tied}
 use Rattle.std.specs.FinMap as finmap
 use Rattle.std.proofs.lemmas.Bool.{cases_eq, cases_lt}
-use Rattle.std.proofs.lemmas.List.Elements.{Contains-append_left, Contains-push, Contains-push_cases}
-use Rattle.lists.specs.Distinct.{AreDistinct}
+use Rattle.std.proofs.lemmas.List.Elements.{Contains-append_left, Contains-push_cases}
 use Rattle.lists.proofs.Cases.{some_none}
 use Rattle.lists.proofs.Distinct.{distinct_push}
 use Rattle.lists.proofs.Entries.{Contains-head, Contains-later, Contains-cases, none_in_empty}
-use Rattle.fee_rate.specs.Limits.{IsFee, IsSize}
 use Rattle.graphs.specs.declared.names.Level.TheVariants.{Top}
 use Rattle.graph_model.specs.declared.names.Limits.{Limits}
 use Rattle.graph_model.specs.declared.names.Refusal.{Refusal}
-use Rattle.graphs.specs.Graphs.{Graph, Trail, AreConnected, IsGraph}
-use Rattle.graphs.specs.Removals.{IsWithout}
-use Rattle.graphs.specs.Drops.{DropsNames}
-use Rattle.graphs.specs.Closing.{with_pair}
-use Rattle.graphs.proofs.PairLemmas.{no_cycle_with_pair}
-use Rattle.graphs.proofs.RemovalLemmas.{graph_left}
-use Rattle.graphs.proofs.DropLemmas as drops
+use Rattle.graphs.specs.Graphs.{Graph, Trail, IsGraph}
 use Rattle.graph_model.specs.Limits.{AreInRange}
-use Rattle.graph_model.specs.States.{PlainState, Table, Entry, level_of, top_of, with_top, IsLive, IsStaged, size_in, size_of}
-use Rattle.graph_model.specs.Commands.{SetLimits, Add, Dep, SetFee}
-use Rattle.graph_model.specs.Refusals.{RefusalIs, JoinsTo}
-use Rattle.graph_model.specs.Changes.{added, limited, begun, with_fee, staged, AddsPair, IsKept, Forgets, Removes, DropsFromMain, Commits, Aborts}
+use Rattle.graph_model.specs.States.{PlainState, Table, Entry, level_of, top_of, IsLive, size_in, size_of}
+use Rattle.graph_model.specs.Commands.{SetLimits}
+use Rattle.graph_model.specs.Refusals.{RefusalIs}
+use Rattle.graph_model.specs.Changes.{limited, IsKept, Forgets}
 use Rattle.graph_model.specs.Validity.{AreOfOneComponent, IsLevel, IsStaging, IsValid}
 use Rattle.graph_model.proofs.TableLemmas.{len-within}
-use Rattle.graph_model.proofs.LevelLemmas.{within, same_level, level_within, level_joined, connects, one_pair, two_pairs}
+use Rattle.graph_model.proofs.LevelLemmas.{within, same_level}
 
 -- ---- what can be told
 

@@ -1,6 +1,5 @@
 -- What an accepted command is answered: a function of the state before it.
 use Rattle.std.specs.Prelude.{◌≡◌, ◌↔◌, ℕ, ℤ, List, map, flat_map, length, Contains}
-use Rattle.graphs.specs.declared.names.Level.TheVariants.{Main}
 use Rattle.graphs.specs.declared.names.Verdict.{Verdict}
 use Rattle.graph_model.specs.declared.names.Place.{Place}
 use Rattle.graph_model.specs.declared.names.Place.TheVariants.{Before, Same, After}

@@ -1,9 +1,8 @@
 -- What an accepted command changes of the plain state.
-use Rattle.std.specs.Prelude.{◌≡◌, ◌≢◌, ℕ, ℤ, true, List, [], ◌∷◌, ◌++◌, Contains, ◌⊎◌, Option, None, Some}
+use Rattle.std.specs.Prelude.{◌≡◌, ℕ, ℤ, true, List, [], ◌∷◌, ◌++◌, Contains, ◌⊎◌, None, Some}
 use Rattle.std.specs.FinMap as finmap
 use Rattle.graph_model.specs.declared.names.Limits.{Limits}
 use Rattle.graphs.specs.declared.names.Level.TheVariants.{Top}
-use Rattle.graphs.specs.declared.names.Verdict.{Verdict}
 use Rattle.graphs.specs.declared.names.Verdict.TheVariants.{Better}
 use Rattle.graphs.specs.Graphs.{Graph}
 use Rattle.graphs.specs.Removals.{IsWithout}

@@ -15,3 +15,4 @@ pub mod Steps
 pub mod Runs
 pub mod Laws
 pub mod StagingLaws
+pub mod ProofLaws

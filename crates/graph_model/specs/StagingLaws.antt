@@ -1,5 +1,5 @@
 -- A staging that is aborted leaves main as it was.
-use Rattle.std.specs.Prelude.{◌≡◌, ◌≢◌, ℕ, List, [], ◌∷◌}
+use Rattle.std.specs.Prelude.{◌≡◌, ◌≢◌, List, ◌∷◌}
 use Rattle.graph_model.specs.States.{State}
 use Rattle.graph_model.specs.Commands.{Command, SetFee, Stage, Commit, Abort, Settle}
 use Rattle.graph_model.specs.Replies.{Reply, Done}

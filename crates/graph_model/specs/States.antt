@@ -1,6 +1,6 @@
 -- The state of a transaction graph: the plain state, which is limits, a table and graphs, and beside it the picks, the orders that the
 -- levels have. After Core's `txgraph.h`, the levels are the main graph and, where one is open, a staging copy of it.
-use Rattle.std.specs.Prelude.{◌≡◌, ℕ, ℤ, pos, Bool, false, List, [], Option, None, Some, IsSome}
+use Rattle.std.specs.Prelude.{ℕ, ℤ, pos, Bool, false, List, [], Option, None, Some, IsSome}
 use Rattle.std.specs.Ordering.{nat_cmp}
 use Rattle.std.specs.FinMap as finmap
 use Rattle.fee_rate.specs.declared.rates.Sum.{Sum}

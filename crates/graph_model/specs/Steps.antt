@@ -4,7 +4,6 @@ use Rattle.graphs.specs.declared.names.Verdict.TheVariants.{Better}
 use Rattle.graph_model.specs.declared.names.Refusal.{Refusal}
 use Rattle.graph_model.specs.declared.names.Refusal.TheVariants.{Memory}
 use Rattle.graphs.specs.Graphs.{Graph}
-use Rattle.graphs.specs.Picks.{IsPick}
 use Rattle.graph_model.specs.States.{PlainState, Picks, State, Table, rate_of}
 use Rattle.graph_model.specs.Commands.{Command, Add, Dep, SetFee, Remove, Mine, Evict, Block, Stage, Commit, Settle}
 use Rattle.graph_model.specs.Refusals.{RefusalIs}

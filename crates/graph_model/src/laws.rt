@@ -1,5 +1,6 @@
 //! Laws over the definitions, each the contract of a function that does nothing.
 ghost use Rattle.graph_model.specs.Laws.{AnswersAreInOrder, ReadingsLackNoMemory, RefusedChangesNothing, RowsAreFunctions, StepsKeepValid};
+ghost use Rattle.graph_model.specs.ProofLaws.{ProofsAreCertificates};
 ghost use Rattle.graph_model.specs.StagingLaws.{AbortLeavesMain};
 
 /// No answer is lost or out of order: a run over lines that come one after the other is the run over
@@ -31,4 +32,9 @@ pub fn abort_leaves_main()
 /// A start is a valid state, and so is what a step makes of one.
 pub fn steps_keep_valid()
     ensures { StepsKeepValid }
+{}
+
+/// The text that proves the order of a level is a certificate.
+pub fn proofs_are_certificates()
+    ensures { ProofsAreCertificates }
 {}
