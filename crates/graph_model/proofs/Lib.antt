@@ -10,3 +10,4 @@ pub mod EdgeLemmas
 pub mod SpellingLemmas
 pub mod AmountLemmas
 pub mod ProofLemmas
+pub mod SameLemmas

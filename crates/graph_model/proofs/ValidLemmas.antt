@@ -34,7 +34,7 @@ told_member (x ∷ xs) q = elim (cases_eq x q) [
   ]
 ]
 
-told_kept : (state : PlainState) (q : ℕ) → IsKept state q ⊎ (IsKept state q → ⊥)
+pub told_kept : (state : PlainState) (q : ℕ) → IsKept state q ⊎ (IsKept state q → ⊥)
 told_kept state q = elim (told_member state.main.names q) [
   | inl main ↦ inl (inl main)
   | inr none ↦ elim (told_member (level_of state Top).names q) [

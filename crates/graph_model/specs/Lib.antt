@@ -16,3 +16,4 @@ pub mod Runs
 pub mod Laws
 pub mod StagingLaws
 pub mod ProofLaws
+pub mod SameLaws

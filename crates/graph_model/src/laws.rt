@@ -1,6 +1,7 @@
 //! Laws over the definitions, each the contract of a function that does nothing.
 ghost use Rattle.graph_model.specs.Laws.{AnswersAreInOrder, ReadingsLackNoMemory, RefusedChangesNothing, RowsAreFunctions, StepsKeepValid};
 ghost use Rattle.graph_model.specs.ProofLaws.{ProofsAreCertificates};
+ghost use Rattle.graph_model.specs.SameLaws.{StepsAreFunctions};
 ghost use Rattle.graph_model.specs.StagingLaws.{AbortLeavesMain};
 
 /// No answer is lost or out of order: a run over lines that come one after the other is the run over
@@ -37,4 +38,9 @@ pub fn steps_keep_valid()
 /// The text that proves the order of a level is a certificate.
 pub fn proofs_are_certificates()
     ensures { ProofsAreCertificates }
+{}
+
+/// The same accepted command makes the same of states that differ in the order of names and pairs, and in picks, at most.
+pub fn steps_are_functions()
+    ensures { StepsAreFunctions }
 {}

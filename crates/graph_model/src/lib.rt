@@ -18,7 +18,7 @@ pub use graphs::{
 };
 pub use laws::{
     abort_leaves_main, answers_are_in_order, proofs_are_certificates, readings_lack_no_memory,
-    refused_changes_nothing, rows_are_functions, steps_keep_valid,
+    refused_changes_nothing, rows_are_functions, steps_are_functions, steps_keep_valid,
 };
 pub use limits::{DEFAULT_LIMITS, MAX_CLUSTER_SIZE, MAX_COUNT, MAX_INPUT, MAX_LINE};
 pub use names::{Limits, Place, Refusal};
