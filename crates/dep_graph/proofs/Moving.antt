@@ -1,7 +1,7 @@
 -- The loops that go over the places of a set, and those that change each set of a list from a number on.
 use Rattle.std.proofs.Common.{◌≡◌, ℕ, ◌+◌, ◌-◌, ◌*◌, ◌/◌, ◌%◌, ◌^◌, ◌<◌, ◌≤◌, Bool, true, false, cond, ◌||◌, nat_eq, List, [], ◌∷◌, ◌++◌, length, set, slice_index, inl, inr, refl, sym, ap, ◌∙◌, subst, subst₂, arith, eq-eqb, ne_eqb, eqb-true, append_assoc, append-nil, length-append, below_more, mod-eq_of_lt}
 use Rattle.std.proofs.Math.Nat.{div-mul-le_self}
-use Rattle.std.proofs.lemmas.Bool.{or_cases, false_from_ne_true}
+use Rattle.std.proofs.lemmas.Bool.{or_cases, or_left, or_right, false_from_ne_true}
 use Rattle.std.proofs.lemmas.List.{get_or-set_same, get_or-set_other, length-set}
 use Rattle.std.specs.Ordering.{nat_cmp}
 use Rattle.std.specs.FinSet as fin
@@ -9,7 +9,9 @@ use Rattle.lists.proofs.Rising.{rising_at_least, at_split}
 use Rattle.lists.specs.Rising.{IsRising}
 use Rattle.bitset.specs.Sets.{contains-insert, contains-empty}
 use Rattle.dep_graph.specs.Moves.{gap, standing, has_power, ChangesFrom}
-use Rattle.dep_graph.specs.Rows.{set_at}
+use Rattle.dep_graph.specs.declared.rows.Row.{Row}
+use Rattle.dep_graph.specs.Rows.{no_row, row_at, holds}
+use Rattle.dep_graph.specs.Changes.{BothBecome}
 use Rattle.dep_graph.proofs.Gaps.{gap_rises, standing_once, standing_below}
 
 -- ---- over the places of a set, which are ps: those of ys are behind, and `number` counts them
@@ -119,37 +121,70 @@ module _ (ps : List ℕ) (rise : IsRising ps) where
       ]
       from k false e f = longer k f
 
--- ---- over the sets of a list, from `first` on up to i
+-- ---- over the rows of a list, from `first` on up to i
 
-pub record Changing (Becomes : fin.FinSet nat_cmp → fin.FinSet nat_cmp → Type 0) (first : ℕ) (old new : List (fin.FinSet nat_cmp)) (i : ℕ) : Type 0 where
+abbrev pub Stands : Type 1
+Stands = fin.FinSet nat_cmp → fin.FinSet nat_cmp → Type 0
+
+pub record Changing {W : ℕ} (Becomes : Stands) (first : ℕ) (old new : List (Row W)) (i : ℕ) : Type 0 where
   pub long : length new ≡ length old
-  pub kept : (j : ℕ) → j < first → set_at new j ≡ set_at old j
-  pub changed : (j : ℕ) → first ≤ j → j < i → Becomes (set_at old j) (set_at new j)
-  pub rest : (j : ℕ) → i ≤ j → set_at new j ≡ set_at old j
+  pub kept : (j : ℕ) → j < first → row_at new j ≡ row_at old j
+  pub changed : (j : ℕ) → first ≤ j → j < i → BothBecome Becomes (row_at old j) (row_at new j)
+  pub rest : (j : ℕ) → i ≤ j → row_at new j ≡ row_at old j
 
-module _ (Becomes : fin.FinSet nat_cmp → fin.FinSet nat_cmp → Type 0) (first : ℕ) (old : List (fin.FinSet nat_cmp)) where
+module _ {W : ℕ} (Becomes : Stands) (first : ℕ) (old : List (Row W)) where
   pub Changing-start : Changing Becomes first old old first
   Changing-start = record { long = refl; kept = λ j h. refl; changed = λ j after before. absurd (omega arith); rest = λ j h. refl }
 
-  pub Changing-more : (new : List (fin.FinSet nat_cmp)) (i : ℕ) (s t : fin.FinSet nat_cmp) → first ≤ i → i < length new → s ≡ set_at new i → Becomes s t → Changing Becomes first old new i → Changing Becomes first old (set new i t) (i + 1)
-  Changing-more new i s t after inside is becomes h = record {
-    long = length-set new i t ∙ h.long;
-    kept = λ j low. get_or-set_other new i j t fin.empty (λ e. omega arith) ∙ h.kept j low;
-    changed = λ j from before. below_more (λ j. first ≤ j → Becomes (set_at old j) (set_at (set new i t) j)) i
-        (λ j before from. subst (Becomes (set_at old j)) (sym (get_or-set_other new i j t fin.empty (λ e. omega arith))) (h.changed j from before))
-        (λ _. subst₂ Becomes (is ∙ h.rest i (omega arith)) (sym (get_or-set_same new i t fin.empty inside)) becomes)
+  pub Changing-more : (new : List (Row W)) (i : ℕ) (was row : Row W) → first ≤ i → i < length new → was ≡ row_at new i → BothBecome Becomes was row
+      → Changing Becomes first old new i → Changing Becomes first old (set new i row) (i + 1)
+  Changing-more new i was row after inside is becomes h = record {
+    long = length-set new i row ∙ h.long;
+    kept = λ j low. get_or-set_other new i j row no_row (λ e. omega arith) ∙ h.kept j low;
+    changed = λ j from before. below_more (λ j. first ≤ j → BothBecome Becomes (row_at old j) (row_at (set new i row) j)) i
+        (λ j before from. subst (BothBecome Becomes (row_at old j)) (sym (get_or-set_other new i j row no_row (λ e. omega arith))) (h.changed j from before))
+        (λ _. subst₂ (BothBecome Becomes) (is ∙ h.rest i (omega arith)) (sym (get_or-set_same new i row no_row inside)) becomes)
         j before from;
-    rest = λ j behind. get_or-set_other new i j t fin.empty (λ e. omega arith) ∙ h.rest j (omega arith);
+    rest = λ j behind. get_or-set_other new i j row no_row (λ e. omega arith) ∙ h.rest j (omega arith);
   }
 
-  pub Changing-all : (new : List (fin.FinSet nat_cmp)) (i : ℕ) → length new ≤ i → Changing Becomes first old new i → ChangesFrom Becomes first old new
+  pub Changing-all : (new : List (Row W)) (i : ℕ) → length new ≤ i → Changing Becomes first old new i → ChangesFrom Becomes first old new
   Changing-all new i end h = record { long = h.long; kept = h.kept; changed = λ j from inside. h.changed j from (omega (arith, h.long)) }
 
 -- one change, and then another
-pub ChangesFrom-then : (First Second Both : fin.FinSet nat_cmp → fin.FinSet nat_cmp → Type 0) (first : ℕ) (old mid new : List (fin.FinSet nat_cmp)) → ((s t u : fin.FinSet nat_cmp) → First s t → Second t u → Both s u)
+pub ChangesFrom-then : {W : ℕ} (First Second Both : Stands) (first : ℕ) (old mid new : List (Row W)) → ((s t u : fin.FinSet nat_cmp) → First s t → Second t u → Both s u)
     → ChangesFrom First first old mid → ChangesFrom Second first mid new → ChangesFrom Both first old new
 ChangesFrom-then First Second Both first old mid new both one two = record {
   long = two.long ∙ one.long;
   kept = λ j low. two.kept j low ∙ one.kept j low;
-  changed = λ j from inside. both _ _ _ (one.changed j from inside) (two.changed j from (omega (arith, one.long)));
+  changed = λ j from inside. let a = one.changed j from inside in let b = two.changed j from (omega (arith, one.long)) in record {
+    rate = b.rate ∙ a.rate;
+    ancestors = both _ _ _ a.ancestors b.ancestors;
+    descendants = both _ _ _ a.descendants b.descendants;
+  };
 }
+
+-- no change, where it is one of each set that a row has
+pub ChangesFrom-same : {W : ℕ} (Becomes : Stands) (first : ℕ) (rows : List (Row W))
+    → ((i : ℕ) → first ≤ i → i < length rows → (s : fin.FinSet nat_cmp) → ((p : ℕ) → fin.contains s p ≡ true → holds (row_at rows i) p ≡ true) → Becomes s s)
+    → ChangesFrom Becomes first rows rows
+ChangesFrom-same Becomes first rows same = record {
+  long = refl;
+  kept = λ j low. refl;
+  changed = λ j from inside. record {
+    rate = refl;
+    ancestors = same j from inside (row_at rows j).ancestors (λ p e. or_left _ _ e);
+    descendants = same j from inside (row_at rows j).descendants (λ p e. or_right _ _ e);
+  };
+}
+
+-- what the change leaves in a set is in a row after it
+pub ChangesFrom-holds : {W : ℕ} {Becomes : Stands} {first : ℕ} {old new : List (Row W)} (P : ℕ → Type 0) → ChangesFrom Becomes first old new
+    → ((s t : fin.FinSet nat_cmp) → Becomes s t → (p : ℕ) → fin.contains t p ≡ true → P p)
+    → (i p : ℕ) → first ≤ i → i < length old → holds (row_at new i) p ≡ true → P p
+ChangesFrom-holds {W} {Becomes} {first} {old} {new} P c each i p from inside held =
+    let both = c.changed i from inside in
+    elim (or_cases (fin.contains (row_at new i).ancestors p) (fin.contains (row_at new i).descendants p) held) as (λ _. P p) [
+      | inl up ↦ each _ _ both.ancestors p up
+      | inr down ↦ each _ _ both.descendants p down
+    ]
