@@ -1,5 +1,6 @@
 -- What each change of what is kept makes of the graph.
-use Rattle.std.proofs.Common.{◌≡◌, ◌≢◌, ℕ, ◌<◌, ◌≤◌, Bool, true, false, cond, not, ◌&&◌, ◌||◌, ◌⊎◌, nat_eq, ℤ, List, length, set, slice_index_or, subst, inl, inr, refl, sym, ap, ap₂, ◌∙◌, arith}
+use Rattle.std.proofs.Common.{◌≡◌, ◌≢◌, ℕ, ◌<◌, ◌≤◌, Bool, true, false, cond, not, ◌&&◌, ◌||◌, ◌⊎◌, nat_eq, ℤ, List, length, set, slice_index_or, subst, inl}
+use Rattle.std.proofs.Common.{inr, refl, sym, ap, ap₂, ◌∙◌, arith}
 use Rattle.std.proofs.Common.{eq-eqb, ne_eqb, eqb-true, true≢false, Option, Some, None, MatchOption, unwrap_or, nat_lt, lt-ltb, ltb-true, lt_irrefl}
 use Rattle.std.proofs.lemmas.Bool.{cases_eq, cases_Bool, and_parts, false_from_ne_true}
 use Rattle.std.specs.List.{refill}
@@ -237,7 +238,8 @@ module _ {W n : ℕ} {members : fin.FinSet nat_cmp} {rows : List (Row W)} {g : C
         ∙ ap (λ s. cond (fin.contains ups a) (fin.contains (fin.remove s place) d) (fin.contains s d)) (same_part first (λ r. r.descendants) (λ r. refl) a)
         ∙ ap (λ b. cond (fin.contains ups a) b (fin.contains (row_at rows a).descendants d)) (contains-remove (row_at rows a).descendants place d)
         ∙ ap₂ (λ b c. cond b (stays d && c) c) (above_place a) (k.kept.mirrored a d both.1)
-        ∙ drop_down (stays a) (stays d) (above members rows a d) (above members rows a place) both.0 (λ f. ap (λ q. above members rows a q) (sym (is_place d f)))
+        ∙ drop_down (stays a) (stays d) (above members rows a d) (above members rows a place) both.0
+        (λ f. ap (λ q. above members rows a q) (sym (is_place d f)))
         ∙ sym (above'' a d)
 
     was : (p : ℕ) → fin.contains fewer p ≡ true → fin.contains members p ≡ true
@@ -247,7 +249,8 @@ module _ {W n : ℕ} {members : fin.FinSet nat_cmp} {rows : List (Row W)} {g : C
     drop_keeps = record {
       room = omega (arith, k.kept.room, first.long, second.long);
       there = λ p e. let low : p < length rows = k.kept.there p (was p e) in omega (arith, first.long, second.long);
-      order = IsOrder-like (λ q. stays q && fin.contains members q) (fin.contains fewer) (on stays (above members rows)) (above fewer rows') contains-fewer above''
+      order = IsOrder-like (λ q. stays q && fin.contains members q) (fin.contains fewer) (on stays (above members rows))
+          (above fewer rows') contains-fewer above''
           (IsOrder-on (fin.contains members) stays (above members rows) k.kept.order);
       mirrored = mirrored'';
     }
@@ -297,10 +300,12 @@ module _ {W n : ℕ} {members : fin.FinSet nat_cmp} {rows : List (Row W)} {g : C
       | inl same ↦
           ap₂ (λ x y. x && y) (at_place d same)
           (ap (λ q. fin.contains (row_at rows' q).ancestors a) same ∙ ap (λ r. fin.contains r.ancestors a) puts.here ∙ itself_is a)
-          ∙ sym (ap₂ (λ x y. (nat_eq a place && x) || y) (eq-eqb d place same) (not_above a d (inr same)) ∙ or_false (nat_eq a place && true) ∙ and_true (nat_eq a place))
+          ∙ sym (ap₂ (λ x y. (nat_eq a place && x) || y) (eq-eqb d place same) (not_above a d (inr same)) ∙ or_false (nat_eq a place && true)
+          ∙ and_true (nat_eq a place))
       | inr other ↦
           ap₂ (λ x y. x && y) (elsewhere d other) (ap (λ r. fin.contains r.ancestors a) (puts.others d other))
-          ∙ sym (ap (λ x. (nat_eq a place && x) || above members rows a d) (ne_eqb d place other) ∙ ap (λ x. x || above members rows a d) (and_false (nat_eq a place)))
+          ∙ sym (ap (λ x. (nat_eq a place && x) || above members rows a d) (ne_eqb d place other)
+          ∙ ap (λ x. x || above members rows a d) (and_false (nat_eq a place)))
     ]
 
     mirrored₃ : (a d : ℕ) → fin.contains more a ≡ true → fin.contains (row_at rows' a).descendants d ≡ above more rows' a d
@@ -320,7 +325,8 @@ module _ {W n : ℕ} {members : fin.FinSet nat_cmp} {rows : List (Row W)} {g : C
         | inl same ↦ omega (arith, puts.there)
         | inr other ↦ let was : p < length rows = k.kept.there p (sym (elsewhere p other) ∙ e) in omega (arith, puts.long)
       ];
-      order = IsOrder-like (λ q. nat_eq q place || fin.contains members q) (fin.contains more) (with_place (above members rows) place) (above more rows') contains-more
+      order = IsOrder-like (λ q. nat_eq q place || fin.contains members q) (fin.contains more) (with_place (above members rows) place)
+          (above more rows') contains-more
           above₃ (IsOrder-place (fin.contains members) (above members rows) place k.kept.order absent);
       mirrored = mirrored₃;
     }
@@ -333,7 +339,8 @@ module _ {W n : ℕ} {members : fin.FinSet nat_cmp} {rows : List (Row W)} {g : C
       free = is_member-kept k place ∙ absent;
       least = λ p e. is_member-kept k p ∙ first_free p e;
       members = λ p. is_member-graph_from n more rows' within₃ p ∙ contains-more p ∙ ap (λ b. nat_eq p place || b) (sym (is_member-kept k p));
-      rate_is = rate_of-graph_from n more rows' within₃ place ∙ ap (λ b. cond b (row_at rows' place).rate no_rate) (at_place place refl) ∙ ap (λ r. r.rate) puts.here;
+      rate_is = rate_of-graph_from n more rows' within₃ place ∙ ap (λ b. cond b (row_at rows' place).rate no_rate) (at_place place refl)
+          ∙ ap (λ r. r.rate) puts.here;
       rates = λ p ne.
           rate_of-graph_from n more rows' within₃ p
           ∙ ap₂ (λ b r. cond b r.rate no_rate) (elsewhere p ne) (puts.others p ne) ∙ sym (rate_of-kept k p);
@@ -354,7 +361,8 @@ free_is used members left None is none within = (
 )
   where
     tells : (p : ℕ) → fin.contains left p ≡ (nat_lt p used && not (fin.contains members p))
-    tells p = ap (λ s. fin.contains s p) is ∙ contains-difference (first_places used) members p ∙ ap (λ b. b && not (fin.contains members p)) (contains-first_places used p)
+    tells p = ap (λ s. fin.contains s p) is ∙ contains-difference (first_places used) members p
+        ∙ ap (λ b. b && not (fin.contains members p)) (contains-first_places used p)
 
     in_both : (p : ℕ) → not (fin.contains members p) ≡ false → fin.contains members p ≡ true
     in_both p e = true_from_not (fin.contains members p) e
@@ -368,7 +376,8 @@ free_is used members left (Some q) is least within = (
 )
   where
     tells : (p : ℕ) → fin.contains left p ≡ (nat_lt p used && not (fin.contains members p))
-    tells p = ap (λ s. fin.contains s p) is ∙ contains-difference (first_places used) members p ∙ ap (λ b. b && not (fin.contains members p)) (contains-first_places used p)
+    tells p = ap (λ s. fin.contains s p) is ∙ contains-difference (first_places used) members p
+        ∙ ap (λ b. b && not (fin.contains members p)) (contains-first_places used p)
 
     both : (nat_lt q used ≡ true) × (not (fin.contains members q) ≡ true)
     both = and_parts (nat_lt q used) (not (fin.contains members q)) (sym (tells q) ∙ least.member)

@@ -111,7 +111,8 @@ module _ {n : ℕ} {g : Closure} (closed : IsClosed n g) (within : fin.FinSet na
 
     new : (q : ℕ) → fin.contains reached' q ≡ true → (fin.contains reached q ≡ true) ⊎ IsNear g within p q
     new q f =
-        elim (or_cases (fin.contains reached q) (beside g p q && fin.contains within q) (sym (contains-reached q) ∙ f)) as (λ _. (fin.contains reached q ≡ true) ⊎ IsNear g within p q) [
+        elim (or_cases (fin.contains reached q) (beside g p q && fin.contains within q) (sym (contains-reached q) ∙ f))
+        as (λ _. (fin.contains reached q ≡ true) ⊎ IsNear g within p q) [
           | inl old ↦ inl old
           | inr fresh ↦
               let both : (beside g p q ≡ true) × (fin.contains within q ≡ true) = and_parts (beside g p q) (fin.contains within q) fresh in
@@ -127,18 +128,24 @@ module _ {n : ℕ} {g : Closure} (closed : IsClosed n g) (within : fin.FinSet na
         | inr near ↦ Walk-push (IsNear g within) place p q (s.walked p here.0) near
       ];
       finished = λ a q f step.
-          elim (or_cases (nat_eq a p) (fin.contains done a) (sym (ap (λ s. fin.contains s a) done_is ∙ contains-insert done p a) ∙ f)) as (λ _. fin.contains reached' q ≡ true) [
+          elim (or_cases (nat_eq a p) (fin.contains done a) (sym (ap (λ s. fin.contains s a) done_is ∙ contains-insert done p a) ∙ f))
+          as (λ _. fin.contains reached' q ≡ true) [
             | inl same ↦
                 let from_p : IsNear g within p q = subst (λ a. IsNear g within a q) (eqb-true a p same) step in
-                contains-reached q ∙ or_right (fin.contains reached q) _ (and_from (beside g p q) (fin.contains within q) (stands closed p q from_p.related) step.to_within)
+                contains-reached q ∙ or_right (fin.contains reached q) _
+                (and_from (beside g p q) (fin.contains within q) (stands closed p q from_p.related) step.to_within)
             | inr old ↦ still q (s.finished a q old step)
           ];
     }
 
-  pub Searched-all : {reached done left : fin.FinSet nat_cmp} → Searched (IsNear g within) within place reached done → left ≡ fin.difference reached done → left ≡ fin.empty
+  pub Searched-all : {reached done left : fin.FinSet nat_cmp} → Searched (IsNear g within) within place reached done → left ≡ fin.difference reached done
+      → left ≡ fin.empty
       → (p : ℕ) → (fin.contains reached p ≡ true) ↔ Walk (IsNear g within) place p
-  Searched-all {reached} {done} {left} s is none p =
-      (s.walked p, λ walk. Walk-keeps (IsNear g within) (λ q. fin.contains reached q ≡ true) (λ a b step e. s.finished a b (looked_at a e) step) place p walk s.start)
+  Searched-all {reached} {done} {left} s is none p = (
+    s.walked p,
+    λ walk. Walk-keeps (IsNear g within) (λ q. fin.contains reached q ≡ true)
+        (λ a b step e. s.finished a b (looked_at a e) step) place p walk s.start,
+  )
     where
       looked_at : (a : ℕ) → fin.contains reached a ≡ true → fin.contains done a ≡ true
       looked_at a e = elim (cases_Bool (fin.contains done a)) as (λ _. fin.contains done a ≡ true) [

@@ -1,5 +1,7 @@
 -- The loops that copy what is kept of the places of a set, numbered anew.
-use Rattle.std.proofs.Common.{◌≡◌, ℕ, zero, suc, ◌+◌, ◌-◌, ◌<◌, ◌≤◌, Bool, true, false, cond, ◌&&◌, ◌||◌, nat_eq, List, [], ◌∷◌, ◌++◌, length, filter, slice_index, inl, inr, refl, sym, ap, ap₂, ◌∙◌, subst, subst₂, arith, eq-eqb, ne_eqb, eqb-true, append_assoc, append-nil, length-append, true≢false}
+use Rattle.std.proofs.Common.{◌≡◌, ℕ, zero, suc, ◌+◌, ◌-◌, ◌<◌, ◌≤◌, Bool, true, false, cond, ◌&&◌, ◌||◌, nat_eq, List, [], ◌∷◌, ◌++◌, length, filter}
+use Rattle.std.proofs.Common.{slice_index, inl, inr, refl, sym, ap, ap₂, ◌∙◌, subst, subst₂, arith, eq-eqb, ne_eqb, eqb-true, append_assoc, append-nil}
+use Rattle.std.proofs.Common.{length-append, true≢false}
 use Rattle.std.proofs.lemmas.Bool.{cases_eq, and_parts, or_cases, false_from_ne_true}
 use Rattle.std.proofs.Math.Bool.{and-true}
 use Rattle.std.proofs.lemmas.List.Elements.{Contains-get_or}
@@ -94,17 +96,20 @@ met_numbered n first within s t u met is = record {
   only = is.only;
 }
 
-module _ {W : ℕ} (n : ℕ) (from : List (Row W)) (within : fin.FinSet nat_cmp) (old mid : List (Row W)) (met : Copies (MeetsRows from within) (places n within) old mid) where
+module _ {W : ℕ} (n : ℕ) (from : List (Row W)) (within : fin.FinSet nat_cmp) (old mid : List (Row W))
+    (met : Copies (MeetsRows from within) (places n within) old mid) where
   pub met_within : (i p : ℕ) → length old ≤ i → i < length mid → holds (row_at mid i) p ≡ true → fin.contains within p ≡ true
   met_within i p after inside held =
       let at : length old + (i - length old) ≡ i = omega arith in
-      let is = subst (λ k. IsMet within (row_at from (slice_index (places n within) (i - length old))) (row_at mid k)) at (met.made (i - length old) (omega (arith, met.long))) in
+      let is = subst (λ k. IsMet within (row_at from (slice_index (places n within) (i - length old))) (row_at mid k)) at
+      (met.made (i - length old) (omega (arith, met.long))) in
       elim (or_cases (fin.contains (row_at mid i).ancestors p) (fin.contains (row_at mid i).descendants p) held) as (λ _. fin.contains within p ≡ true) [
         | inl up ↦ met_holds _ _ within p is.ancestors up
         | inr down ↦ met_holds _ _ within p is.descendants down
       ]
 
-  pub met_renumbered : (new : List (Row W)) → ChangesFrom (IsRenumbered (places n within) (length old)) (length old) mid new → CopiesRows from (places n within) old new
+  pub met_renumbered : (new : List (Row W)) → ChangesFrom (IsRenumbered (places n within) (length old)) (length old) mid new
+      → CopiesRows from (places n within) old new
   met_renumbered new numbered = record {
     long = numbered.long ∙ met.long;
     kept = λ p low. numbered.kept p low ∙ met.kept p low;
@@ -134,17 +139,20 @@ module _ (ps : List ℕ) (first : ℕ) (s : fin.FinSet nat_cmp) where
     only = λ k f. absurd (true≢false (sym f ∙ ap (λ s. fin.contains s k) none ∙ contains-empty k));
   }
 
-  pub room_left : (t : fin.FinSet nat_cmp) (number m k : ℕ) (ys ws zs : List ℕ) (p : ℕ) → Numbering ps first s t number ys ws → ws ≡ p ∷ zs → length ps ≡ m → first + m ≤ k → number < k
+  pub room_left : (t : fin.FinSet nat_cmp) (number m k : ℕ) (ys ws zs : List ℕ) (p : ℕ) → Numbering ps first s t number ys ws → ws ≡ p ∷ zs → length ps ≡ m
+      → first + m ≤ k → number < k
   room_left t number m k ys ws zs p h e long room = omega (arith, h.number_is, ap length h.split, length-append ys ws, ap length e)
 
-  pub Numbering-more : (t t' : fin.FinSet nat_cmp) (number number' : ℕ) (ys ws zs : List ℕ) (p : ℕ) → Numbering ps first s t number ys ws → ws ≡ p ∷ zs → number' ≡ number + 1
+  pub Numbering-more : (t t' : fin.FinSet nat_cmp) (number number' : ℕ) (ys ws zs : List ℕ) (p : ℕ) → Numbering ps first s t number ys ws → ws ≡ p ∷ zs
+      → number' ≡ number + 1
       → t' ≡ cond (fin.contains s p) (fin.insert t number) t → Numbering ps first s t' number' (ys ++ p ∷ []) zs
   Numbering-more t t' number number' ys ws zs p h e next is = record {
     split = append_assoc ys (p ∷ []) zs ∙ ap (λ xs. ys ++ xs) (sym e) ∙ h.split;
     number_is = omega (arith, h.number_is, length-append ys (p ∷ []));
     here = λ i low. elim (cases_eq i (length ys)) as (λ _. fin.contains t' (first + i) ≡ fin.contains s (slice_index ps i)) [
       | inl same ↦
-          tells (first + i) ∙ ap₂ (λ a b. (fin.contains s p && a) || b) (eq-eqb (first + i) number (omega (arith, h.number_is))) (fresh (first + i) (omega arith))
+          tells (first + i) ∙ ap₂ (λ a b. (fin.contains s p && a) || b) (eq-eqb (first + i) number (omega (arith, h.number_is)))
+          (fresh (first + i) (omega arith))
           ∙ only_first (fin.contains s p)
           ∙ ap (fin.contains s) (sym (ap (slice_index ps) same ∙ at_split ps ys zs p (ap (λ xs. ys ++ xs) (sym e) ∙ h.split)))
       | inr other ↦
@@ -152,12 +160,13 @@ module _ (ps : List ℕ) (first : ℕ) (s : fin.FinSet nat_cmp) where
           tells (first + i) ∙ ap (λ a. (fin.contains s p && a) || fin.contains t (first + i)) (ne_eqb (first + i) number (λ f. omega (arith, h.number_is)))
           ∙ only_second (fin.contains s p) (fin.contains t (first + i)) ∙ h.here i before
     ];
-    only = λ k f. elim (or_cases (fin.contains s p && nat_eq k number) (fin.contains t k) (sym (tells k) ∙ f)) as (λ _. (first ≤ k) × (k < first + length (ys ++ p ∷ []))) [
-      | inl new ↦
-          let same : k ≡ number = eqb-true k number (and_parts (fin.contains s p) (nat_eq k number) new).1 in
-          (omega (arith, h.number_is), omega (arith, h.number_is, length-append ys (p ∷ [])))
-      | inr old ↦ ((h.only k old).0, omega (arith, (h.only k old).1, length-append ys (p ∷ [])))
-    ];
+    only = λ k f. elim (or_cases (fin.contains s p && nat_eq k number) (fin.contains t k) (sym (tells k) ∙ f))
+        as (λ _. (first ≤ k) × (k < first + length (ys ++ p ∷ []))) [
+          | inl new ↦
+              let same : k ≡ number = eqb-true k number (and_parts (fin.contains s p) (nat_eq k number) new).1 in
+              (omega (arith, h.number_is), omega (arith, h.number_is, length-append ys (p ∷ [])))
+          | inr old ↦ ((h.only k old).0, omega (arith, (h.only k old).1, length-append ys (p ∷ [])))
+        ];
   }
     where
       one : (b : Bool) (k : ℕ) → fin.contains (cond b (fin.insert t number) t) k ≡ ((b && nat_eq k number) || fin.contains t k)

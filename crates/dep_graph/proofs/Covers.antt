@@ -56,7 +56,8 @@ pub record CoversSoFar (n : ℕ) (g : Closure) (ups covers : fin.FinSet nat_cmp)
 pub CoversSoFar-start : (n : ℕ) (g : Closure) (ups : fin.FinSet nat_cmp) (zs : List ℕ) → zs ≡ places n ups → CoversSoFar n g ups ups [] zs
 CoversSoFar-start n g ups zs e = record { split = e; left = λ a. sym (and_true (fin.contains ups a)) }
 
-module _ {n : ℕ} {g : Closure} {ups covers : fin.FinSet nat_cmp} {ys ws : List ℕ} (h : CoversSoFar n g ups covers ys ws) {zs : List ℕ} {m : ℕ} (e : ws ≡ m ∷ zs) where
+module _ {n : ℕ} {g : Closure} {ups covers : fin.FinSet nat_cmp} {ys ws : List ℕ} (h : CoversSoFar n g ups covers ys ws) {zs : List ℕ} {m : ℕ}
+    (e : ws ≡ m ∷ zs) where
   pub CoversSoFar-here : (m < n) × (fin.contains ups m ≡ true)
   CoversSoFar-here = places-here n ups ys zs m (sym h.split ∙ ap (λ xs. ys ++ xs) e)
 

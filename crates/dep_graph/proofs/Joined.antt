@@ -42,7 +42,8 @@ Copies-none Made rows = record { long = omega arith; kept = λ p h. refl; made =
 
 -- ---- what two copies, one behind the other, leave
 
-module _ {W : ℕ} (from from' : List (Row W)) (ps qs : List ℕ) (mid new : List (Row W)) (one : CopiesRows from ps [] mid) (two : CopiesRows from' qs mid new) where
+module _ {W : ℕ} (from from' : List (Row W)) (ps qs : List ℕ) (mid new : List (Row W)) (one : CopiesRows from ps [] mid)
+    (two : CopiesRows from' qs mid new) where
   mid_long : length mid ≡ length ps
   mid_long = one.long ∙ omega arith
 
@@ -51,7 +52,8 @@ module _ {W : ℕ} (from from' : List (Row W)) (ps qs : List ℕ) (mid new : Lis
 
   first_row : (j : ℕ) → j < length ps → BothBecome (IsRenumbered ps 0) (row_at from (slice_index ps j)) (row_at new j)
   first_row j low =
-      subst (BothBecome (IsRenumbered ps 0) (row_at from (slice_index ps j))) (ap (row_at mid) zero_plus ∙ sym (two.kept j (omega (arith, mid_long)))) (one.made j low)
+      subst (BothBecome (IsRenumbered ps 0) (row_at from (slice_index ps j))) (ap (row_at mid) zero_plus ∙ sym (two.kept j (omega (arith, mid_long))))
+      (one.made j low)
     where
       zero_plus : length {A = Row W} [] + j ≡ j
       zero_plus = omega arith
@@ -122,7 +124,8 @@ module _ {W n : ℕ} {m₁ : fin.FinSet nat_cmp} {rows₁ : List (Row W)} {g₁ 
   -- what is related is related in one of the two
   split : (i j : ℕ) → above m rows i j ≡ true → Related i j ⊎ Related' i j
   split i j e =
-      let both : (fin.contains m j ≡ true) × (fin.contains (row_at rows j).ancestors i ≡ true) = and_parts (fin.contains m j) (fin.contains (row_at rows j).ancestors i) e in
+      let both : (fin.contains m j ≡ true) × (fin.contains (row_at rows j).ancestors i ≡ true) = and_parts (fin.contains m j)
+      (fin.contains (row_at rows j).ancestors i) e in
       elim (side j (m_low j both.0)) as (λ _. Related i j ⊎ Related' i j) [
         | inl low ↦
             let low' : i < length ps = omega (arith, ((up₁ j low).only i both.1).1) in
@@ -131,7 +134,14 @@ module _ {W n : ℕ} {m₁ : fin.FinSet nat_cmp} {rows₁ : List (Row W)} {g₁ 
             let there : (length ps ≤ i) × (i < end) = (up₂ b low).only i (ap (λ q. fin.contains (row_at rows q).ancestors i) (sym at) ∙ both.1) in
             let at' : i ≡ length ps + (i - length ps) = omega arith in
             let low' : i - length ps < length qs = omega arith in
-            inr (record { a = i - length ps; b = b; low = (low', low); at = (at', at); is = sym (R₂ (i - length ps) b low' low) ∙ sym (ap₂ (above m rows) at' at) ∙ e })
+            inr (record {
+              a = i - length ps;
+              b = b;
+              low = (low', low);
+              at = (at', at);
+              is = sym (R₂ (i - length ps) b low' low)
+                  ∙ sym (ap₂ (above m rows) at' at) ∙ e;
+            })
       ]
 
   joined_order : IsOrder (fin.contains m) (above m rows)
@@ -176,7 +186,8 @@ module _ {W n : ℕ} {m₁ : fin.FinSet nat_cmp} {rows₁ : List (Row W)} {g₁ 
   joined_mirrored : (a k : ℕ) → fin.contains m a ≡ true → fin.contains (row_at rows a).descendants k ≡ above m rows a k
   joined_mirrored a k e = same_test _ _ (downward (side a (m_low a e))) (λ f. upward (split a k f))
     where
-      downward : (a < length ps) ⊎ ((j : ℕ) × (j < length qs) × (a ≡ length ps + j)) → fin.contains (row_at rows a).descendants k ≡ true → above m rows a k ≡ true
+      downward : (a < length ps) ⊎ ((j : ℕ) × (j < length qs) × (a ≡ length ps + j)) → fin.contains (row_at rows a).descendants k ≡ true
+          → above m rows a k ≡ true
       downward (inl low) f =
           let low' : k < length ps = omega (arith, ((down₁ a low).only k f).1) in
           R₁ a k low low' ∙ sym (one.keeps.kept.mirrored (slice_index ps a) (slice_index ps k) (one.among a low)) ∙ sym (from_zero (down₁ a low) k low') ∙ f
@@ -266,5 +277,6 @@ count_is {W} {n} {members} {rows} k s all slice same size bytes some count is =
     (omega (arith, ap length same), omega (arith, ap length same))
 
 -- copies of a slice that is a list of rows
-pub copies_lent : {W : ℕ} (ps : List ℕ) {slice rows old old' new : List (Row W)} → slice ≡ rows → old ≡ old' → CopiesRows slice ps old new → CopiesRows rows ps old' new
+pub copies_lent : {W : ℕ} (ps : List ℕ) {slice rows old old' new : List (Row W)} → slice ≡ rows → old ≡ old' → CopiesRows slice ps old new
+    → CopiesRows rows ps old' new
 copies_lent ps {slice} {rows} {old} {old'} {new} same none copies = subst₂ (λ xs ys. CopiesRows xs ps ys new) same none copies

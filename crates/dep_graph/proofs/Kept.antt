@@ -1,12 +1,14 @@
 -- What a graph answers, by what is kept of it.
-use Rattle.std.proofs.Common.{◌≡◌, ℕ, zero, suc, ◌+◌, ◌<◌, ◌≤◌, Bool, true, false, cond, ◌&&◌, ◌⊎◌, nat_eq, nat_lt, List, [], length, Option, Some, None, is_some, inl, inr, refl, sym, ap, ap₂, ◌∙◌, subst, arith, lt-ltb, le-ltb, eq-eqb, ne_eqb, true≢false, add-one, Equal}
+use Rattle.std.proofs.Common.{◌≡◌, ℕ, zero, suc, ◌+◌, ◌<◌, ◌≤◌, Bool, true, false, cond, ◌&&◌, ◌⊎◌, nat_eq, nat_lt, List, [], length, Option, Some, None}
+use Rattle.std.proofs.Common.{is_some, inl, inr, refl, sym, ap, ap₂, ◌∙◌, subst, arith, lt-ltb, le-ltb, eq-eqb, ne_eqb, true≢false, add-one, Equal}
 use Rattle.std.proofs.lemmas.Bool.{cases_lt, cases_eq, and_parts, and_from}
 use Rattle.std.specs.Ordering.{nat_cmp}
 use Rattle.std.specs.Cmp.{nat_cmp_total, unsigned_tied}
 use Rattle.std.specs.FinSet as fin
 use Rattle.std.specs.FinMap as map
 use Rattle.graphs.proofs.Members.{contains-members_of}
-use Rattle.graphs.specs.Closures.{Node, Closure, is_member, rate_of, ancestors_of, is_ancestor, members_of, descendants_of, no_rate, rate_in, ancestors_in, IsOrder, IsClosed}
+use Rattle.graphs.specs.Closures.{Node, Closure, is_member, rate_of, ancestors_of, is_ancestor, members_of, descendants_of, no_rate, rate_in, ancestors_in}
+use Rattle.graphs.specs.Closures.{IsOrder, IsClosed}
 use Rattle.bitset.specs.Places.{IsWithin}
 use Rattle.bitset.specs.Sets.{same_members, contains-empty}
 use Rattle.dep_graph.specs.declared.rows.Row.{Row}
@@ -55,7 +57,8 @@ get-graph_where members node zero p =
 get-graph_where members node (suc n) p =
     get-put (graph_where members node n) n p (node n) (fin.contains members n)
     ∙ ap (λ b. cond (fin.contains members n) (cond (nat_eq p n) (Some (node n)) b) b) (get-graph_where members node n p)
-    ∙ more_below n p (fin.contains members n) (fin.contains members p) (Some (node n)) (Some (node p)) (λ e. ap (fin.contains members) e) (λ e. ap (λ q. Some (node q)) e)
+    ∙ more_below n p (fin.contains members n) (fin.contains members p) (Some (node n)) (Some (node p)) (λ e. ap (fin.contains members) e)
+    (λ e. ap (λ q. Some (node q)) e)
     ∙ ap (λ m. cond (nat_lt p m && fin.contains members p) (Some (node p)) None) (add-one n)
 
 module _ {W : ℕ} (n : ℕ) (members : fin.FinSet nat_cmp) (rows : List (Row W)) (within : IsWithin n members) where
@@ -75,7 +78,8 @@ module _ {W : ℕ} (n : ℕ) (members : fin.FinSet nat_cmp) (rows : List (Row W)
   unfolding rate_of
   rate_of-graph_from p =
       ap rate_in (get-graph_from p)
-      ∙ elim (fin.contains members p) as (λ b. rate_in (cond b (Some (node_of (row_at rows p))) None) ≡ cond b (row_at rows p).rate no_rate) [ true ↦ refl | false ↦ refl ]
+      ∙ elim (fin.contains members p)
+      as (λ b. rate_in (cond b (Some (node_of (row_at rows p))) None) ≡ cond b (row_at rows p).rate no_rate) [ true ↦ refl | false ↦ refl ]
 
   pub ancestors_of-graph_from : (p : ℕ) → ancestors_of (graph_from n members rows) p ≡ cond (fin.contains members p) (row_at rows p).ancestors fin.empty
   unfolding ancestors_of
@@ -90,7 +94,8 @@ module _ {W : ℕ} (n : ℕ) (members : fin.FinSet nat_cmp) (rows : List (Row W)
   unfolding ancestors_of
   is_ancestor-graph_from a d =
       ap (λ o. fin.contains (ancestors_in o) a) (get-graph_from d)
-      ∙ elim (fin.contains members d) as (λ b. fin.contains (ancestors_in (cond b (Some (node_of (row_at rows d))) None)) a ≡ (b && fin.contains (row_at rows d).ancestors a)) [
+      ∙ elim (fin.contains members d)
+      as (λ b. fin.contains (ancestors_in (cond b (Some (node_of (row_at rows d))) None)) a ≡ (b && fin.contains (row_at rows d).ancestors a)) [
         | true ↦ refl
         | false ↦ contains-empty a
       ]
@@ -126,7 +131,8 @@ pub record Keeps {W : ℕ} (n : ℕ) (members : fin.FinSet nat_cmp) (rows : List
   pub kept : IsKept n members rows
   pub view : graph_from n members rows ≡ g
 
-pub keeps : {W n : ℕ} {members : fin.FinSet nat_cmp} {rows : List (Row W)} {g : Closure} → IsKept n members rows → graph_from n members rows ≡ g → Keeps n members rows g
+pub keeps : {W n : ℕ} {members : fin.FinSet nat_cmp} {rows : List (Row W)} {g : Closure} → IsKept n members rows → graph_from n members rows ≡ g
+    → Keeps n members rows g
 keeps h view = record { kept = h; view = view }
 
 module _ {W n : ℕ} {members : fin.FinSet nat_cmp} {rows : List (Row W)} {g : Closure} (k : Keeps n members rows g) where
@@ -167,7 +173,8 @@ module _ {W n : ℕ} {members : fin.FinSet nat_cmp} {rows : List (Row W)} {g : C
 
     pub ancestors_there : (row_at rows p).ancestors ≡ ancestors_of g p
     ancestors_there =
-        sym (ap (λ g. ancestors_of g p) (sym k.view) ∙ ancestors_of-graph_from n members rows inside p ∙ ap (λ b. cond b (row_at rows p).ancestors fin.empty) member_there)
+        sym (ap (λ g. ancestors_of g p) (sym k.view) ∙ ancestors_of-graph_from n members rows inside p
+        ∙ ap (λ b. cond b (row_at rows p).ancestors fin.empty) member_there)
 
     pub descendants_there : (row_at rows p).descendants ≡ descendants_of g p
     descendants_there = same_members _ _ (λ d.

@@ -1,5 +1,6 @@
 -- A loop over the places of a set that changes what is kept of each.
-use Rattle.std.proofs.Common.{◌≡◌, ℕ, zero, suc, ◌+◌, ◌<◌, ◌≤◌, Bool, true, false, cond, ◌||◌, nat_eq, List, [], ◌∷◌, ◌++◌, length, filter, set, inl, inr, refl, sym, ap, ◌∙◌, subst, arith, eq-eqb, ne_eqb, append_assoc, append-nil}
+use Rattle.std.proofs.Common.{◌≡◌, ℕ, zero, suc, ◌+◌, ◌<◌, ◌≤◌, Bool, true, false, cond, ◌||◌, nat_eq, List, [], ◌∷◌, ◌++◌, length, filter, set, inl, inr}
+use Rattle.std.proofs.Common.{refl, sym, ap, ◌∙◌, subst, arith, eq-eqb, ne_eqb, append_assoc, append-nil}
 use Rattle.std.proofs.lemmas.Bool.{cases_eq, or_right}
 use Rattle.std.proofs.lemmas.List.{get_or-set_same, get_or-set_other, length-set}
 use Rattle.std.specs.List.{range_with_len}
@@ -51,8 +52,10 @@ among_out : (f : ℕ → Bool) (a n q : ℕ) → f q ≡ false → among (filter
 among_out f a zero q fails = refl
 among_out f a (suc n) q fails = cases (f a) refl (among_out f (a + 1) n q fails)
   where
-    cases : (b : Bool) → f a ≡ b → among (filter f (range_with_len (a + 1) n)) q ≡ false → among (cond b (a ∷ filter f (range_with_len (a + 1) n)) (filter f (range_with_len (a + 1) n))) q ≡ false
-    cases true e rest = ap (λ b. b || among (filter f (range_with_len (a + 1) n)) q) (ne_eqb q a (λ same. let both : true ≡ false = sym e ∙ ap f (sym same) ∙ fails in cc)) ∙ rest
+    cases : (b : Bool) → f a ≡ b → among (filter f (range_with_len (a + 1) n)) q ≡ false
+        → among (cond b (a ∷ filter f (range_with_len (a + 1) n)) (filter f (range_with_len (a + 1) n))) q ≡ false
+    cases true e rest = ap (λ b. b || among (filter f (range_with_len (a + 1) n)) q)
+        (ne_eqb q a (λ same. let both : true ≡ false = sym e ∙ ap f (sym same) ∙ fails in cc)) ∙ rest
     cases false e rest = rest
 
 -- the list of the members tells who is one
@@ -100,7 +103,8 @@ module _ {W n : ℕ} {f : Row W → Row W} {s : fin.FinSet nat_cmp} {old rows : 
           ap (λ q. row_at (set rows p row) q) same
           ∙ get_or-set_same rows p row no_row inside ∙ is
           ∙ ap f (h.done p ∙ ap (λ b. cond b (f (row_at old p)) (row_at old p)) fresh)
-          ∙ sym (ap (λ b. cond b (f (row_at old q)) (row_at old q)) (among-push ys p q ∙ ap (λ b. b || among ys q) (eq-eqb q p same)) ∙ ap (λ q. f (row_at old q)) same)
+          ∙ sym (ap (λ b. cond b (f (row_at old q)) (row_at old q)) (among-push ys p q ∙ ap (λ b. b || among ys q) (eq-eqb q p same))
+          ∙ ap (λ q. f (row_at old q)) same)
       | inr other ↦
           get_or-set_other rows p q row no_row other ∙ h.done q
           ∙ sym (ap (λ b. cond b (f (row_at old q)) (row_at old q)) (among-push ys p q ∙ ap (λ b. b || among ys q) (ne_eqb q p other)))

@@ -1,5 +1,7 @@
 -- The loops that go over the places of a set, and those that change each set of a list from a number on.
-use Rattle.std.proofs.Common.{◌≡◌, ℕ, ◌+◌, ◌-◌, ◌*◌, ◌/◌, ◌%◌, ◌^◌, ◌<◌, ◌≤◌, Bool, true, false, cond, ◌||◌, nat_eq, List, [], ◌∷◌, ◌++◌, length, set, slice_index, inl, inr, refl, sym, ap, ◌∙◌, subst, subst₂, arith, eq-eqb, ne_eqb, eqb-true, append_assoc, append-nil, length-append, below_more, mod-eq_of_lt}
+use Rattle.std.proofs.Common.{◌≡◌, ℕ, ◌+◌, ◌-◌, ◌*◌, ◌/◌, ◌%◌, ◌^◌, ◌<◌, ◌≤◌, Bool, true, false, cond, ◌||◌, nat_eq, List, [], ◌∷◌, ◌++◌, length, set}
+use Rattle.std.proofs.Common.{slice_index, inl, inr, refl, sym, ap, ◌∙◌, subst, subst₂, arith, eq-eqb, ne_eqb, eqb-true, append_assoc, append-nil}
+use Rattle.std.proofs.Common.{length-append, below_more, mod-eq_of_lt}
 use Rattle.std.proofs.Math.Nat.{div-mul-le_self}
 use Rattle.std.proofs.lemmas.Bool.{or_cases, or_left, or_right, false_from_ne_true}
 use Rattle.std.proofs.lemmas.List.{get_or-set_same, get_or-set_other, length-set}
@@ -25,27 +27,30 @@ pub record Choosing (ps : List ℕ) (power : ℕ) (s : fin.FinSet nat_cmp) (n : 
   pub here : (i : ℕ) → i < n → fin.contains s (standing ps power i) ≡ has_power ps power i
   pub only : (k : ℕ) → fin.contains s k ≡ true → (i : ℕ) × (i < n) × (k ≡ standing ps power i)
 
-module _ (ps : List ℕ) (rise : IsRising ps) where
-  pub Counting-start : (zs : List ℕ) → zs ≡ ps → Counting ps 0 [] zs
-  Counting-start zs e = record { split = e; number_is = omega arith }
+pub Counting-start : (ps zs : List ℕ) → zs ≡ ps → Counting ps 0 [] zs
+Counting-start ps zs e = record { split = e; number_is = omega arith }
 
-  pub Counting-more : (number number' : ℕ) (ys ws zs : List ℕ) (p : ℕ) → Counting ps number ys ws → ws ≡ p ∷ zs → number' ≡ number + 1 → Counting ps number' (ys ++ p ∷ []) zs
-  Counting-more number number' ys ws zs p h e next = record {
-    split = append_assoc ys (p ∷ []) zs ∙ ap (λ xs. ys ++ xs) (sym e) ∙ h.split;
+pub Counting-all : {ps : List ℕ} {number : ℕ} {ys ws : List ℕ} → Counting ps number ys ws → ws ≡ [] → length ys ≡ length ps
+Counting-all {ps} {number} {ys} {ws} h e = ap length (sym (append-nil ys) ∙ ap (λ xs. ys ++ xs) (sym e) ∙ h.split)
+
+module _ {ps : List ℕ} {number : ℕ} {ys ws : List ℕ} (h : Counting ps number ys ws) {zs : List ℕ} {p : ℕ} (e : ws ≡ p ∷ zs) where
+  pub next_split : ys ++ p ∷ zs ≡ ps
+  next_split = ap (λ xs. ys ++ xs) (sym e) ∙ h.split
+
+  pub Counting-more : (number' : ℕ) → number' ≡ number + 1 → Counting ps number' (ys ++ p ∷ []) zs
+  Counting-more number' next = record {
+    split = append_assoc ys (p ∷ []) zs ∙ next_split;
     number_is = omega (arith, h.number_is, length-append ys (p ∷ []));
   }
 
-  pub Counting-all : (number : ℕ) (ys ws : List ℕ) → Counting ps number ys ws → ws ≡ [] → length ys ≡ length ps
-  Counting-all number ys ws h e = ap length (sym (append-nil ys) ∙ ap (λ xs. ys ++ xs) (sym e) ∙ h.split)
+  -- p is the next place
+  next_is : slice_index ps number ≡ p
+  next_is = ap (slice_index ps) h.number_is ∙ at_split ps ys zs p next_split
 
-  module _ (number : ℕ) (ys ws zs : List ℕ) (p : ℕ) (h : Counting ps number ys ws) (e : ws ≡ p ∷ zs) where
-    -- p is the next place
-    pub next_is : slice_index ps number ≡ p
-    next_is = ap (slice_index ps) h.number_is ∙ at_split ps ys zs p (ap (λ xs. ys ++ xs) (sym e) ∙ h.split)
+  pub next_within : number < length ps
+  next_within = omega (arith, h.number_is, ap length h.split, length-append ys ws, ap length e)
 
-    pub next_within : number < length ps
-    next_within = omega (arith, h.number_is, ap length h.split, length-append ys ws, ap length e)
-
+  module _ (rise : IsRising ps) where
     pub next_low : number ≤ p
     next_low = let up : number ≤ slice_index ps number = rising_at_least ps rise number next_within in omega (arith, next_is)
 
@@ -64,9 +69,11 @@ module _ (ps : List ℕ) (rise : IsRising ps) where
     pub next_stands_below : (power : ℕ) → standing ps power number ≤ p
     next_stands_below power = omega (arith, standing_below ps rise power number next_within, next_is)
 
+module _ (ps : List ℕ) (rise : IsRising ps) where
   -- ---- the greatest gap
 
-  pub greatest_more : (number greatest : ℕ) (ys : List ℕ) (p : ℕ) → number ≡ length ys → number < length ps → greatest ≡ gap ps number → (i : ℕ) → i < length (ys ++ p ∷ []) → gap ps i ≤ greatest
+  pub greatest_more : (number greatest : ℕ) (ys : List ℕ) (p : ℕ) → number ≡ length ys → number < length ps → greatest ≡ gap ps number → (i : ℕ)
+      → i < length (ys ++ p ∷ []) → gap ps i ≤ greatest
   greatest_more number greatest ys p is low last i before =
       let rises : gap ps i ≤ gap ps number = gap_rises ps rise i number (omega (arith, length-append ys (p ∷ []))) low in omega arith
 
@@ -78,15 +85,19 @@ module _ (ps : List ℕ) (rise : IsRising ps) where
     only = λ k f. absurd (let both : true ≡ false = sym f ∙ ap (λ s. fin.contains s k) none ∙ contains-empty k in cc);
   }
 
-  pub Choosing-more : (power : ℕ) (s s' : fin.FinSet nat_cmp) (n : ℕ) → n < length ps → Choosing ps power s n → s' ≡ cond (has_power ps power n) (fin.insert s (standing ps power n)) s → Choosing ps power s' (n + 1)
+  pub Choosing-more : (power : ℕ) (s s' : fin.FinSet nat_cmp) (n : ℕ) → n < length ps → Choosing ps power s n
+      → s' ≡ cond (has_power ps power n) (fin.insert s (standing ps power n)) s → Choosing ps power s' (n + 1)
   Choosing-more power s s' n low h is = record {
     here = below_more (λ i. fin.contains s' (standing ps power i) ≡ has_power ps power i) n
         (λ i before. tells (standing ps power i) ∙ other i before ∙ h.here i before)
-        (tells (standing ps power n) ∙ ap (λ a. cond (has_power ps power n) (a || fin.contains s (standing ps power n)) (fin.contains s (standing ps power n))) (eq-eqb _ _ refl) ∙ ap (λ a. cond (has_power ps power n) true a) fresh ∙ itself (has_power ps power n));
+        (tells (standing ps power n)
+        ∙ ap (λ a. cond (has_power ps power n) (a || fin.contains s (standing ps power n)) (fin.contains s (standing ps power n))) (eq-eqb _ _ refl)
+        ∙ ap (λ a. cond (has_power ps power n) true a) fresh ∙ itself (has_power ps power n));
     only = λ k f. from k (has_power ps power n) refl (sym (tells k) ∙ f);
   }
     where
-      one : (b : Bool) (k : ℕ) → fin.contains (cond b (fin.insert s (standing ps power n)) s) k ≡ cond b (nat_eq k (standing ps power n) || fin.contains s k) (fin.contains s k)
+      one : (b : Bool) (k : ℕ)
+          → fin.contains (cond b (fin.insert s (standing ps power n)) s) k ≡ cond b (nat_eq k (standing ps power n) || fin.contains s k) (fin.contains s k)
       one true k = contains-insert s (standing ps power n) k
       one false k = refl
 
@@ -101,7 +112,8 @@ module _ (ps : List ℕ) (rise : IsRising ps) where
       same true x = refl
       same false x = refl
 
-      other : (i : ℕ) → i < n → cond (has_power ps power n) (nat_eq (standing ps power i) (standing ps power n) || fin.contains s (standing ps power i)) (fin.contains s (standing ps power i)) ≡ fin.contains s (standing ps power i)
+      other : (i : ℕ) → i < n → cond (has_power ps power n) (nat_eq (standing ps power i) (standing ps power n) || fin.contains s (standing ps power i))
+          (fin.contains s (standing ps power i)) ≡ fin.contains s (standing ps power i)
       other i before =
           ap (λ a. cond (has_power ps power n) (a || fin.contains s (standing ps power i)) (fin.contains s (standing ps power i)))
           (ne_eqb (standing ps power i) (standing ps power n) (λ e. let apart : i ≡ n = standing_once ps rise power i n (omega arith) low e in omega arith))
@@ -114,7 +126,8 @@ module _ (ps : List ℕ) (rise : IsRising ps) where
       longer : (k : ℕ) → fin.contains s k ≡ true → (i : ℕ) × (i < n + 1) × (k ≡ standing ps power i)
       longer k f = let at : (i : ℕ) × (i < n) × (k ≡ standing ps power i) = h.only k f in (at.0, omega (arith, at.1), at.2)
 
-      from : (k : ℕ) (b : Bool) → has_power ps power n ≡ b → cond b (nat_eq k (standing ps power n) || fin.contains s k) (fin.contains s k) ≡ true → (i : ℕ) × (i < n + 1) × (k ≡ standing ps power i)
+      from : (k : ℕ) (b : Bool) → has_power ps power n ≡ b → cond b (nat_eq k (standing ps power n) || fin.contains s k) (fin.contains s k) ≡ true
+          → (i : ℕ) × (i < n + 1) × (k ≡ standing ps power i)
       from k true e f = elim (or_cases (nat_eq k (standing ps power n)) (fin.contains s k) f) as (λ _. (i : ℕ) × (i < n + 1) × (k ≡ standing ps power i)) [
         | inl new ↦ (n, omega arith, eqb-true k (standing ps power n) new)
         | inr old ↦ longer k old
@@ -152,7 +165,8 @@ module _ {W : ℕ} (Becomes : Stands) (first : ℕ) (old : List (Row W)) where
   Changing-all new i end h = record { long = h.long; kept = h.kept; changed = λ j from inside. h.changed j from (omega (arith, h.long)) }
 
 -- one change, and then another
-pub ChangesFrom-then : {W : ℕ} (First Second Both : Stands) (first : ℕ) (old mid new : List (Row W)) → ((s t u : fin.FinSet nat_cmp) → First s t → Second t u → Both s u)
+pub ChangesFrom-then : {W : ℕ} (First Second Both : Stands) (first : ℕ) (old mid new : List (Row W))
+    → ((s t u : fin.FinSet nat_cmp) → First s t → Second t u → Both s u)
     → ChangesFrom First first old mid → ChangesFrom Second first mid new → ChangesFrom Both first old new
 ChangesFrom-then First Second Both first old mid new both one two = record {
   long = two.long ∙ one.long;

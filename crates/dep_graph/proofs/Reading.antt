@@ -1,5 +1,6 @@
 -- Rows as they are read in a slice, and as a slice gives them back to its list.
-use Rattle.std.proofs.Common.{◌≡◌, ℕ, ◌*◌, ◌^◌, ◌<◌, ◌≤◌, List, [], ◌∷◌, ◌++◌, length, set, slice_index_or, take, drop, inl, inr, refl, sym, ap, ◌∙◌, arith, length-append}
+use Rattle.std.proofs.Common.{◌≡◌, ℕ, ◌*◌, ◌^◌, ◌<◌, ◌≤◌, List, [], ◌∷◌, ◌++◌, length, set, slice_index_or, take, drop, inl, inr, refl, sym, ap, ◌∙◌, arith}
+use Rattle.std.proofs.Common.{length-append}
 use Rattle.std.proofs.Math.Nat.{mul-le-mul_left}
 use Rattle.std.proofs.lemmas.Bool.{cases_lt}
 use Rattle.std.proofs.lemmas.List.{get_or_read_under, get_or-set_same, get_or-set_other, get_or_push, get_or_append_left, get_or_past, length-set}
@@ -13,14 +14,16 @@ pub row_read : {W : ℕ} (rows : List (Row W)) (p : ℕ) (row : Row W) → row �
 row_read rows p row e low = get_or_read_under rows p (length rows) row no_row e low refl
 
 -- where the slice is the list
-pub row_lent : {W : ℕ} (slice rows : List (Row W)) (p : ℕ) (row : Row W) → slice ≡ rows → row ≡ slice_index_or slice p row → p < length rows → row ≡ row_at rows p
+pub row_lent : {W : ℕ} (slice rows : List (Row W)) (p : ℕ) (row : Row W) → slice ≡ rows → row ≡ slice_index_or slice p row → p < length rows
+    → row ≡ row_at rows p
 row_lent slice rows p row same e low = row_read rows p row (e ∙ ap (λ xs. slice_index_or xs p row) same) low
 
 pub row_there_lent : {W : ℕ} (slice rows : List (Row W)) (p : ℕ) → slice ≡ rows → p < length rows → p < length slice
 row_there_lent slice rows p same low = omega (arith, ap length same)
 
 -- the row of an index that is written, whatever stands behind the end
-pub row_written : {W : ℕ} (rows : List (Row W)) (p : ℕ) (row : Row W) → row ≡ slice_index_or rows p row → p < length rows → slice_index_or rows p row ≡ row_at rows p
+pub row_written : {W : ℕ} (rows : List (Row W)) (p : ℕ) (row : Row W) → row ≡ slice_index_or rows p row → p < length rows
+    → slice_index_or rows p row ≡ row_at rows p
 row_written rows p row e low = sym e ∙ row_read rows p row e low
 
 -- a slice of the same length takes the place of the whole list

@@ -25,7 +25,8 @@ AreMoving ps power s = (i : ℕ) → i < length ps → set.contains s (standing 
 
 -- those of s that are moving go down
 abbrev pub IsMovedDown : set.FinSet nat_cmp → ℕ → set.FinSet nat_cmp → set.FinSet nat_cmp → Type 0
-IsMovedDown moving by s t = (p : ℕ) → set.contains t p ≡ ((set.contains s p && not (set.contains moving p)) || (set.contains s (p + by) && set.contains moving (p + by)))
+IsMovedDown moving by s t = (p : ℕ)
+    → set.contains t p ≡ ((set.contains s p && not (set.contains moving p)) || (set.contains s (p + by) && set.contains moving (p + by)))
 
 -- all of s go up, as far as there are places
 abbrev pub IsMovedUp : ℕ → ℕ → set.FinSet nat_cmp → set.FinSet nat_cmp → Type 0

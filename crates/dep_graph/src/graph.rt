@@ -1,7 +1,8 @@
 ghost use Rattle.std.specs.Prelude.{◌≡◌, ℕ, ◌+◌, ◌*◌, ◌<◌, ◌≤◌, ◌↔◌, true, false, IfOk, OnErr};
 ghost use Rattle.std.specs.FinSet as set;
 ghost use Rattle.std.specs.FinMap as map;
-ghost use Rattle.graphs.specs.Closures.{is_member, rate_of, is_ancestor, members_of, ancestors_of, descendants_of, IsClosed, IsCover, IsNear, HoldsMembers, AddsPlace, AddsPair, SetsFee, DropsPlace, IsMerged, IsPart};
+ghost use Rattle.graphs.specs.Closures.{is_member, rate_of, is_ancestor, members_of, ancestors_of, descendants_of, IsClosed, IsCover, IsNear, HoldsMembers};
+ghost use Rattle.graphs.specs.Closures.{AddsPlace, AddsPair, SetsFee, DropsPlace, IsMerged, IsPart};
 ghost use Rattle.lists.specs.Walks.{Walk};
 ghost use Rattle.bitset.specs.Places.{IsWithin, places};
 

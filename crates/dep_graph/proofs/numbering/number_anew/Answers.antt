@@ -44,12 +44,14 @@ loop-left-preserved g c =
     let ps = places (64 * g.row.W) c.args.within.now in
     let rise = IsRising-places (64 * g.row.W) c.args.within.now in
     let power : c.loop-left.power < 64 =
-    power_low ps rise c.greatest_gap-left.result c.loop-left.power c.greatest_gap-left.type_inv (omega (arith, c.loop-left.invariant.1, c.loop-left-test.true)) in (
+    power_low ps rise c.greatest_gap-left.result c.loop-left.power c.greatest_gap-left.type_inv
+    (omega (arith, c.loop-left.invariant.1, c.loop-left-test.true)) in (
       ChangesFrom-then (IsStanding ps c.loop-left.power) (IsMovedDown c.moving.result (2 ^ c.loop-left.power)) (IsStanding ps (c.loop-left.power + 1))
           c.args.first c.args.rows.now c.loop-left.rows c.move_down.new.rows
           (λ s t u stand down. IsStanding-more ps rise c.loop-left.power c.moving.result s t u c.moving.ensures stand down)
           c.loop-left.invariant.0
-          (subst (λ by. ChangesFrom (IsMovedDown c.moving.result by) c.args.first c.loop-left.rows c.move_down.new.rows) (one_shl c.loop-left.power 64 power) c.move_down.ensures),
+          (subst (λ by. ChangesFrom (IsMovedDown c.moving.result by) c.args.first c.loop-left.rows c.move_down.new.rows)
+          (one_shl c.loop-left.power 64 power) c.move_down.ensures),
       ap (λ x. x / 2) c.loop-left.invariant.1 ∙ shr-shr c.greatest_gap-left.result c.loop-left.power 1,
     )
 
@@ -73,6 +75,7 @@ returns g c =
     let rise = IsRising-places n c.args.within.now in
     let done : c.greatest_gap-left.result / 2 ^ c.loop-left.power ≡ 0 = omega (arith, c.loop-left.invariant.1, c.loop-left-test.false) in
     let room : c.args.first + length ps ≤ n = omega (arith, c.requires.room, len-places n c.args.within.now c.greatest_gap-left.ensures.within) in
-    ChangesFrom-then (IsStanding ps c.loop-left.power) (IsMovedUp n c.args.first) (IsRenumbered ps c.args.first) c.args.first c.args.rows.now c.loop-left.rows c.move_up.new.rows
+    ChangesFrom-then (IsStanding ps c.loop-left.power) (IsMovedUp n c.args.first)
+    (IsRenumbered ps c.args.first) c.args.first c.args.rows.now c.loop-left.rows c.move_up.new.rows
     (λ s t u stand up. standing_up ps rise c.loop-left.power c.greatest_gap-left.result done c.greatest_gap-left.ensures.most s t stand n c.args.first u room up)
     c.loop-left.invariant.0 c.move_up.ensures

@@ -18,12 +18,14 @@ loop-place-init g c = (
 pub offset_bounds-from-place : goal.offset_bounds-from-place
 offset_bounds-from-place g c =
     let inside : c.in-Some.place < length c.args.from.now =
-    c.requires.there c.in-Some.place (places-here (64 * g.row.W) c.args.within.now _ _ c.in-Some.place (sym (seam c.loop-place.invariant.0 c.in-Some.ensures.steps))).1 in
+    c.requires.there c.in-Some.place
+    (places-here (64 * g.row.W) c.args.within.now _ _ c.in-Some.place (sym (seam c.loop-place.invariant.0 c.in-Some.ensures.steps))).1 in
     search rules
 
 pub bounds-from-place : goal.bounds-from-place
 bounds-from-place g c =
-    c.requires.there c.in-Some.place (places-here (64 * g.row.W) c.args.within.now _ _ c.in-Some.place (sym (seam c.loop-place.invariant.0 c.in-Some.ensures.steps))).1
+    c.requires.there c.in-Some.place
+    (places-here (64 * g.row.W) c.args.within.now _ _ c.in-Some.place (sym (seam c.loop-place.invariant.0 c.in-Some.ensures.steps))).1
 
 pub push_reserved-requires : goal.push_reserved-requires
 push_reserved-requires g c =
@@ -43,11 +45,13 @@ push_reserved-requires g c =
 pub loop-place-preserved : goal.loop-place-preserved
 loop-place-preserved g c =
     let inside : c.in-Some.place < length c.args.from.now =
-    c.requires.there c.in-Some.place (places-here (64 * g.row.W) c.args.within.now _ _ c.in-Some.place (sym (seam c.loop-place.invariant.0 c.in-Some.ensures.steps))).1 in (
+    c.requires.there c.in-Some.place
+    (places-here (64 * g.row.W) c.args.within.now _ _ c.in-Some.place (sym (seam c.loop-place.invariant.0 c.in-Some.ensures.steps))).1 in (
       Copying-more c.loop-place.invariant.0 c.in-Some.ensures.steps _
           (record { rate = c.index-from-place.result.rate; ancestors = c.meet.result; descendants = c.meet-in-loop-place.result })
           c.push_reserved.ensures.items
-          (subst (λ was. IsMet c.args.within.now was (record { rate = c.index-from-place.result.rate; ancestors = c.meet.result; descendants = c.meet-in-loop-place.result }))
+          (subst (λ was. IsMet c.args.within.now was
+          (record { rate = c.index-from-place.result.rate; ancestors = c.meet.result; descendants = c.meet-in-loop-place.result }))
           (row_read c.args.from.now c.in-Some.place c.index-from-place.result c.index-from-place.is inside)
           (record { rate = refl; ancestors = c.meet.ensures; descendants = c.meet-in-loop-place.ensures })),
       c.push_reserved.ensures.capacity ∙ c.loop-place.invariant.1,
@@ -92,4 +96,5 @@ returns-clause-rows g c =
     let numbered : ChangesFrom (IsRenumbered ps (length old)) (length old) mid new =
     subst (λ rows. ChangesFrom (IsRenumbered ps (length old)) (length old) rows new) c.as_mut_slice.ensures.value
     (subst (λ first. ChangesFrom (IsRenumbered ps first) first c.as_mut_slice.result.now new) c.len-first.ensures.value c.number_anew.ensures) in
-    subst (CopiesRows c.args.from.now ps old) (sym (refilled (length mid) mid new refl numbered.long)) (met_renumbered n c.args.from.now c.args.within.now old mid met new numbered)
+    subst (CopiesRows c.args.from.now ps old) (sym (refilled (length mid) mid new refl numbered.long))
+    (met_renumbered n c.args.from.now c.args.within.now old mid met new numbered)

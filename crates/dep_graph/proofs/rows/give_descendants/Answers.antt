@@ -22,7 +22,8 @@ pub loop-place-preserved : goal.loop-place-preserved
 loop-place-preserved g c =
     let inside : c.in-Some.place < length c.loop-place.rows = InProgress-inside c.loop-place.invariant c.in-Some.ensures.steps c.requires in
     InProgress-more c.loop-place.invariant c.in-Some.ensures.steps _ inside
-    (ap (λ (s : fin.FinSet nat_cmp). record (slice_index_or c.loop-place.rows c.in-Some.place c.index-rows-place.result) { descendants = s }) c.union-row.ensures
+    (ap (λ (s : fin.FinSet nat_cmp). record
+    (slice_index_or c.loop-place.rows c.in-Some.place c.index-rows-place.result) { descendants = s }) c.union-row.ensures
     ∙ ap (gives_descendants c.args.more.now) (row_written c.loop-place.rows c.in-Some.place c.index-rows-place.result c.index-rows-place.is inside))
 
 pub returns : goal.returns

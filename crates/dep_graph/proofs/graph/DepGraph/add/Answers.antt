@@ -39,6 +39,7 @@ returns-clause-ok g c =
     let low = free_low (64 * g.row.W) place c.len.result c.self.inside.members _ (inside k) (members_of-kept k) c.requires
     c.free_place-place.ensures.least c.free_place-place.ensures.within (omega (arith, c.self.invariant.room, c.len.ensures.value)) in
     let itself_is = λ (q : ℕ). ap (λ s. fin.contains s q) (c.insert.ensures ∙ ap (λ s. fin.insert s place) c.empty-itself.ensures) ∙ contains-only place q in
-    subst (λ fee. AddsPlace c.args.self.now (graph_from (64 * g.row.W) c.insert-2.new.self c.put.new.rows.items) (record { fee = fee; size = c.args.size }) place)
+    subst (λ fee. AddsPlace c.args.self.now (graph_from (64 * g.row.W) c.insert-2.new.self c.put.new.rows.items)
+    (record { fee = fee; size = c.args.size }) place)
     (to_z-of_z c.ranges.fee)
     (place_is k place _ c.free_place-place.ensures.free c.free_place-place.ensures.least low itself_is c.in_ok-put.ensures.ok c.insert-2.ensures)

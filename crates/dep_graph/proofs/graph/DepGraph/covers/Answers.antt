@@ -8,7 +8,8 @@ remove-requires g c = (search rules, c.row.ensures.closed.within c.args.place c.
 
 pub loop-middle-init : goal.loop-middle-init
 loop-middle-init g c =
-    CoversSoFar-start (64 * g.row.W) c.args.self.now c.remove.new.self _ (c.into_iter-middle-iterator.ensures.into_iter_gives ∙ c.iter-middle-items.ensures.places)
+    CoversSoFar-start (64 * g.row.W) c.args.self.now c.remove.new.self _
+    (c.into_iter-middle-iterator.ensures.into_iter_gives ∙ c.iter-middle-items.ensures.places)
 
 pub ancestors-further-requires : goal.ancestors-further-requires
 ancestors-further-requires g c = (

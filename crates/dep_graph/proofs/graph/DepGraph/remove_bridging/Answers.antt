@@ -16,8 +16,13 @@ take_ancestor-requires g c =
 pub take_descendant-requires : goal.take_descendant-requires
 take_descendant-requires g c =
     let k = keeps c.self.invariant c.self.view_is in
-    let ups = ups_within k c.args.place c.requires c.ancestors-above.ensures in
-    (search rules, (search rules, (λ p e. omega (arith, ups p e, c.take_ancestor.ensures.long, ap length c.as_mut_slice-rows.ensures.value), place_there k c.args.place c.requires)))
+    let ups = ups_within k c.args.place c.requires c.ancestors-above.ensures in (
+      search rules,
+      (
+        search rules,
+        (λ p e. omega (arith, ups p e, c.take_ancestor.ensures.long, ap length c.as_mut_slice-rows.ensures.value), place_there k c.args.place c.requires),
+      ),
+    )
 
 pub remove-requires : goal.remove-requires
 remove-requires g c = (search rules, place_there (keeps c.self.invariant c.self.view_is) c.args.place c.requires)
