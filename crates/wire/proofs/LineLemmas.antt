@@ -6,7 +6,7 @@ use Rattle.std.proofs.lemmas.List.{map-append}
 use Rattle.std.proofs.lemmas.List.Elements.{All-cons, All-nil, All-head, All-tail, All-append, All-weaker}
 use Rattle.std.proofs.lemmas.List.Splits.{slice_split_none, slice_split_at}
 use Rattle.lists.proofs.Entries.{All-front, All-back}
-use Rattle.graph_model.specs.Replies.{line_text}
+use Rattle.graph_model.specs.Words.{line_text}
 use Rattle.graph_model.specs.Lines.{IsOneLine, Cut, with_last, max_line}
 use Rattle.graph_model.specs.Texts.{Text, IsText, told, text_lines}
 use Rattle.wire.specs.declared.draft.CertText.{CertText}

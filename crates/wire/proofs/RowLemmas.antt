@@ -6,7 +6,7 @@ use Rattle.std.specs.Fmt.{signed_decimal}
 use Rattle.std.proofs.lemmas.Int.{ints}
 use Rattle.std.proofs.lemmas.Fmt.{decimal_injective, signed_decimal_injective}
 use Rattle.std.proofs.lemmas.List.Elements.{All-cons, All-nil, All-head, All-tail, All-map, All-weaker}
-use Rattle.graph_model.specs.Commands.{spaced}
+use Rattle.graph_model.specs.Words.{spaced}
 use Rattle.wire.specs.declared.row.Row.{Row}
 use Rattle.wire.specs.declared.row.Row.TheVariants as rows
 use Rattle.wire.specs.declared.row.Kind.{Kind}
@@ -18,7 +18,7 @@ use Rattle.wire.proofs.BigLemmas.{big_word, big_fee_word, big_injective, big_fee
 use Rattle.wire.proofs.FormLemmas.{differ_apart, one_word}
 
 -- words of no space are told from their text
-spaced_same : (w : List ℕ) (ws : List (List ℕ)) (v : List ℕ) (vs : List (List ℕ)) → All IsOneWord (w ∷ ws) → All IsOneWord (v ∷ vs) → spaced (w ∷ ws) ≡ spaced (v ∷ vs) → w ∷ ws ≡ v ∷ vs
+pub spaced_same : (w : List ℕ) (ws : List (List ℕ)) (v : List ℕ) (vs : List (List ℕ)) → All IsOneWord (w ∷ ws) → All IsOneWord (v ∷ vs) → spaced (w ∷ ws) ≡ spaced (v ∷ vs) → w ∷ ws ≡ v ∷ vs
 spaced_same w [] v [] one other is = ap (λ (x : List ℕ). x ∷ []) is
 spaced_same w [] v (y ∷ vs) one other is = absurd (split_unread w v (spaced (y ∷ vs)) (All-head IsOneWord w [] one) is)
 spaced_same w (x ∷ ws) v [] one other is = absurd (split_unread v w (spaced (x ∷ ws)) (All-head IsOneWord v [] other) (sym is))
@@ -48,7 +48,7 @@ row_one_words (rows.Flow flow) fits =
     three (codes "flow") (decimal flow.child) (decimal flow.parent) (decimal flow.amount) (one_word (codes "flow") refl) (decimal_word flow.child fits.0) (decimal_word flow.parent fits.1) (amount_word flow.amount fits.2)
 row_one_words rows.End fits = All-cons IsOneWord (codes "end") [] (one_word (codes "end") refl) (All-nil IsOneWord)
 
-names_same : (ids others : List ℕ) → All IsWide ids → All IsWide others → map decimal ids ≡ map decimal others → ids ≡ others
+pub names_same : (ids others : List ℕ) → All IsWide ids → All IsWide others → map decimal ids ≡ map decimal others → ids ≡ others
 names_same [] [] one other is = refl
 names_same [] (y ∷ ys) one other is = absurd (let e : [] ≡ decimal y ∷ map decimal ys = is in cc)
 names_same (x ∷ xs) [] one other is = absurd (let e : decimal x ∷ map decimal xs ≡ [] = is in cc)

@@ -1,8 +1,8 @@
 -- The lines of a certificate text, one by one, and what reading one gives.
-use Rattle.std.specs.Prelude.{◌≡◌, ◌≢◌, ℕ, ℤ, List, [], ◌∷◌, ◌++◌, map, flat_map, codes, decimal, FitsSigned, All, Result, Ok, Err}
+use Rattle.std.specs.Prelude.{◌≡◌, ℕ, ℤ, List, [], ◌∷◌, ◌++◌, map, flat_map, codes, decimal, FitsSigned, Result, Ok, Err}
 use Rattle.std.specs.Fmt.{signed_decimal}
 use Rattle.std.specs.Int.{w64}
-use Rattle.graph_model.specs.Commands.{spaced}
+use Rattle.graph_model.specs.Words.{spaced}
 use Rattle.graphs.specs.Certificates.{Part}
 use Rattle.graph_model.specs.Texts.{Text}
 use Rattle.wire.specs.declared.fault.TextFault.{TextFault}
@@ -12,6 +12,7 @@ use Rattle.wire.specs.declared.row.Row.TheVariants as rows
 use Rattle.wire.specs.declared.row.Kind.{Kind}
 use Rattle.wire.specs.declared.row.Kind.TheVariants as kinds
 use Rattle.wire.specs.Fields.{IsWide, IsAmount, IsBigFee}
+use Rattle.wire.specs.Forms.{AreNames}
 
 -- the first word of each line but `end`
 abbrev pub kind_word : Kind → List ℕ
@@ -19,13 +20,6 @@ kind_word kinds.Tx = codes "tx"
 kind_word kinds.Edge = codes "edge"
 kind_word kinds.Chunk = codes "chunk"
 kind_word kinds.Flow = codes "flow"
-
--- one name or more, with a space between them
-abbrev pub names_text : List ℕ → List ℕ
-names_text ids = spaced (map decimal ids)
-
-abbrev pub AreNames : List ℕ → Type 0
-AreNames ids = (ids ≢ []) × All IsWide ids
 
 -- the words of a line, and its one spelling
 abbrev pub row_words : Row → List (List ℕ)

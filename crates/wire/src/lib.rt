@@ -17,7 +17,7 @@ mod write;
 
 pub use draft::CertText;
 pub use fault::TextFault;
-pub use laws::{bytes_have_one_cut, lines_spell_one_text};
+pub use laws::{bytes_have_one_cut, line_spells_one_command, lines_spell_one_text};
 pub use line::{Line, read_line};
 pub use text::read_certificate;
 pub use words::split_at_byte;

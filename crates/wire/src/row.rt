@@ -1,7 +1,8 @@
 ghost use Rattle.std.specs.Prelude.{◌≡◌, ◌∷◌, ◌++◌, codes, decimal, IsTrue, ◌↔◌};
 ghost use Rattle.std.specs.Fmt.{signed_decimal};
 ghost use Rattle.wire.specs.Fields.{IsOneWord, ReadsAs, IsWide, IsAmount, IsBigFee, Always, pair_spelling, BothFit};
-ghost use Rattle.wire.specs.Rows.{row_line, HasRowTypes, names_text, AreNames, Gives, AddsName, kind_word};
+ghost use Rattle.wire.specs.Forms.{names_text, AreNames};
+ghost use Rattle.wire.specs.Rows.{row_line, HasRowTypes, Gives, AddsName, kind_word};
 
 use crate::TextFault;
 use crate::line::{id_fee_size, two_numbers};

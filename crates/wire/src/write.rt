@@ -1,8 +1,9 @@
 ghost use Rattle.std.specs.Prelude.{◌≡◌, ℕ, ◌∷◌, ◌++◌, Option, decimal, map};
 ghost use Rattle.std.specs.Fmt.{signed_decimal};
 ghost use Rattle.outside.specs.Transfers.{Writes};
-ghost use Rattle.graph_model.specs.Replies.{line_text, refusal_text, refusal_words};
-ghost use Rattle.graph_model.specs.Commands.{spaced};
+ghost use Rattle.graph_model.specs.Replies.{refusal_text, refusal_words};
+ghost use Rattle.graph_model.specs.Words.{line_text};
+ghost use Rattle.graph_model.specs.Words.{spaced};
 ghost use Rattle.wire.specs.Pieces.{GoesOn, number_after, words_text, sum_words, kept_of};
 
 use fee_rate::Sum;
