@@ -21,4 +21,7 @@ pub use laws::{bytes_have_one_cut, line_spells_one_command, lines_spell_one_text
 pub use line::{Line, read_line};
 pub use text::read_certificate;
 pub use words::split_at_byte;
-pub use write::{write_ids, write_refusal, write_word};
+pub use write::{
+    write_chunk, write_edge, write_flow, write_ids, write_point, write_refusal, write_tx,
+    write_word,
+};
