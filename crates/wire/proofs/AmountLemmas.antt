@@ -9,8 +9,8 @@ use Rattle.graphs.specs.Certificates.{Part, Txs}
 use Rattle.graph_model.specs.Words.{spaced}
 use Rattle.graph_model.specs.Lines.{without_return, is_quiet, max_input}
 use Rattle.graph_model.specs.Texts.{Text, IsText, told}
-use Rattle.wire.specs.declared.row.Row.{Row}
-use Rattle.wire.specs.declared.row.Row.TheVariants as rows
+use Rattle.wire.specs.declared.texts.row.Row.{Row}
+use Rattle.wire.specs.declared.texts.row.Row.TheVariants as rows
 use Rattle.wire.specs.Rows.{row_line, HasRowTypes, tx_row, edge_row, part_rows, rows_of}
 use Rattle.wire.specs.Drafts.{amount_of, lines_of}
 use Rattle.wire.proofs.ReadLemmas.{without_return_le}

@@ -7,12 +7,12 @@ use Rattle.std.proofs.lemmas.Int.{ints}
 use Rattle.std.proofs.lemmas.Fmt.{decimal_injective, signed_decimal_injective}
 use Rattle.std.proofs.lemmas.List.Elements.{All-cons, All-nil, All-head, All-tail, All-map, All-weaker}
 use Rattle.graph_model.specs.Words.{spaced}
-use Rattle.wire.specs.declared.row.Row.{Row}
-use Rattle.wire.specs.declared.row.Row.TheVariants as rows
-use Rattle.wire.specs.declared.row.Kind.{Kind}
-use Rattle.wire.specs.declared.row.Kind.TheVariants as kinds
+use Rattle.wire.specs.declared.texts.row.Row.{Row}
+use Rattle.wire.specs.declared.texts.row.Row.TheVariants as rows
+use Rattle.wire.specs.declared.texts.row.Kind.{Kind}
+use Rattle.wire.specs.declared.texts.row.Kind.TheVariants as kinds
 use Rattle.wire.specs.Fields.{ReadsAs, IsWide, IsAmount, IsOneWord, pair_spelling, BothFit}
-use Rattle.wire.specs.Rows.{kind_word, row_words, row_line, HasRowTypes}
+use Rattle.wire.specs.Rows.{kind_word, row_line, HasRowTypes}
 use Rattle.wire.proofs.ReadLemmas.{decimal_word, signed_word, same_split, split_unread}
 use Rattle.wire.proofs.BigLemmas.{big_word, big_fee_word, big_injective, big_fee_injective}
 use Rattle.wire.proofs.FormLemmas.{differ_apart, one_word}
@@ -33,6 +33,14 @@ amount_word n fits = big_word n (omega (arith, fits.1))
 
 three : (a b c d : List ℕ) → IsOneWord a → IsOneWord b → IsOneWord c → IsOneWord d → All IsOneWord (a ∷ b ∷ c ∷ d ∷ [])
 three a b c d p q r s = All-cons IsOneWord a (b ∷ c ∷ d ∷ []) p (All-cons IsOneWord b (c ∷ d ∷ []) q (All-cons IsOneWord c (d ∷ []) r (All-cons IsOneWord d [] s (All-nil IsOneWord))))
+
+-- the words of a line
+abbrev row_words : Row → List (List ℕ)
+row_words (rows.Tx id fee size) = codes "tx" ∷ decimal id ∷ signed_decimal fee ∷ decimal size ∷ []
+row_words (rows.Edge parent child) = codes "edge" ∷ decimal parent ∷ decimal child ∷ []
+row_words (rows.Chunk rate ids) = codes "chunk" ∷ signed_decimal rate.fee ∷ decimal rate.size ∷ map decimal ids
+row_words (rows.Flow flow) = codes "flow" ∷ decimal flow.child ∷ decimal flow.parent ∷ decimal flow.amount ∷ []
+row_words rows.End = codes "end" ∷ []
 
 row_one_words : (row : Row) → HasRowTypes row → All IsOneWord (row_words row)
 row_one_words (rows.Tx id fee size) fits =
