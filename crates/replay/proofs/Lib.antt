@@ -3,3 +3,5 @@ pub mod LineLemmas
 pub mod WordLemmas
 pub mod CheckLemmas
 pub mod LimitLemmas
+pub mod WindowLemmas
+pub mod CutLemmas

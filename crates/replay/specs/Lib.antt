@@ -7,3 +7,6 @@ pub mod Words
 pub mod Checks
 pub mod Verdicts
 pub mod Progress
+pub mod Windows
+pub mod Cutters
+pub mod Cuts

@@ -7,11 +7,14 @@ mod check;
 mod commands;
 mod input;
 mod lines;
+mod old_lines;
 mod session;
 #[cfg(test)]
 mod tests;
 mod top;
+mod window;
 
 pub use answer::Outcome;
+pub use lines::{Lines, Next};
 pub use session::{Piece, Session};
 pub use top::{Status, run};

@@ -15,7 +15,7 @@ ghost use Rattle.replay.specs.Checks.{IsChecked, IsCheckedInPart, IsRead};
 
 use crate::check::check_text;
 use crate::input::{End, Input, read_input};
-use crate::lines::answer_all;
+use crate::old_lines::answer_all;
 use crate::session::Session;
 use outside::{Failed, NoMemory, Sink, Source};
 use std::alloc::Global;

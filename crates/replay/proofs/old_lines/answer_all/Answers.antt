@@ -1,6 +1,6 @@
 use Rattle.std.proofs.Common.{refl, ap}
 use Rattle.replay.proofs.LineLemmas.{complete_output, last_output, last_front}
-use Rattle.replay.proofs.lines.answer_all.Goals as goal
+use Rattle.replay.proofs.old_lines.answer_all.Goals as goal
 
 pub returns-then-not-ended-clause-ok : goal.returns-then-not-ended-clause-ok
 returns-then-not-ended-clause-ok g c = rw c.if-not-ended.true (complete_output _ _ _ _ _ c.in-Ok.ensures.ok)

@@ -1,7 +1,7 @@
 use Rattle.std.proofs.Common.{length, length-append, ◌∷◌, ap, ◌∙◌, refl, arith}
 use Rattle.outside.specs.Faults.{one_more}
 use Rattle.replay.proofs.LineLemmas.{nothing_answered, line_answered, line_cut_off}
-use Rattle.replay.proofs.lines.answer_complete.Goals as goal
+use Rattle.replay.proofs.old_lines.answer_complete.Goals as goal
 
 pub loop-line-init : goal.loop-line-init
 loop-line-init g c = record { answered = nothing_answered c.args.session.now c.args.input.now (g.K.Sink.written c.args.sink.now) c.requires.fresh; same = refl; few = omega arith }

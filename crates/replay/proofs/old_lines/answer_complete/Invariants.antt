@@ -1,6 +1,6 @@
 use Rattle.std.proofs.Common.{◌≡◌, ◌≤◌, ◌+◌, length}
 use Rattle.replay.specs.Progress.{Answered}
-use Rattle.replay.proofs.lines.answer_complete.Given as goal
+use Rattle.replay.proofs.old_lines.answer_complete.Given as goal
 
 -- the lines before the rest were answered
 abbrev pub invariant-loop-line : goal.invariant-loop-line
