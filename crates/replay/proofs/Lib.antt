@@ -5,3 +5,4 @@ pub mod CheckLemmas
 pub mod LimitLemmas
 pub mod WindowLemmas
 pub mod CutLemmas
+pub mod GatherLemmas

@@ -10,3 +10,4 @@ pub mod Progress
 pub mod Windows
 pub mod Cutters
 pub mod Cuts
+pub mod Gatherings

@@ -5,9 +5,11 @@
 mod answer;
 mod check;
 mod commands;
+mod gathered;
 mod input;
 mod lines;
 mod old_lines;
+mod replies;
 mod session;
 #[cfg(test)]
 mod tests;
