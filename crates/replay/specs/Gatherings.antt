@@ -1,7 +1,8 @@
 -- Replies that gather before a sink.
 use Rattle.std.specs.Prelude.{◌≡◌, ℕ, List, ◌++◌, OnOk, OnErr}
-use Rattle.std.specs.Io.KnownBytes.{Appends, append_known}
+use Rattle.std.specs.Io.KnownBytes.{Appends}
 use Rattle.std.specs.declared.option.Option.{Option}
+use Rattle.std.specs.declared.option.Option.TheVariants.{None, Some}
 use Rattle.std.specs.declared.result.Result.{Result}
 use Rattle.outside.specs.Transfers.{AppendsFront}
 
@@ -18,8 +19,13 @@ Grows first now = (out : List ℕ) × Appends first now out
 abbrev pub Sends : Option (List ℕ) → Option (List ℕ) → List ℕ → List ℕ → Type 0
 Sends old new held left = (out : List ℕ) × (held ≡ out ++ left) × Appends old new out
 
--- What telling a text does: at Ok what went out and what is held grew by it together, at Err a front of what was held and of the text
--- went out.
+-- Where the sink tells its bytes: of all these some went out, and the rest is held.
+abbrev pub HasSent : Option (List ℕ) → Option (List ℕ) → List ℕ → List ℕ → Type 0
+HasSent None new all left = Unit {0}
+HasSent (Some x) None all left = ⊥
+HasSent (Some x) (Some y) all left = (out : List ℕ) × (all ≡ out ++ left) × (y ≡ x ++ out)
+
+-- What telling a text does: at Ok some of what was held and of the text went out, and the rest is held; at Err a front of them went out.
 pub record Gathers {T E : Type 0} (old new : Option (List ℕ)) (held left : List ℕ) (result : Result T E) (text : List ℕ) : Type 0 where
-  pub ok : OnOk result (Appends (append_known old held) (append_known new left) text)
+  pub ok : OnOk result (HasSent old new (held ++ text) left)
   pub err : OnErr result (AppendsFront old new (held ++ text))
