@@ -130,3 +130,13 @@ whole_next old new a b rest bytes is finds = record { more = finds.0; reads = fi
 
 pub long_next : (old new : Cutter) (a b : Option (List ℕ)) (rest : List ℕ) → (more : List ℕ) × Reads old new a b more × FindsNext new (rest ++ more) found.Long → GivesNext old new a b rest (next.Line TooLong)
 long_next old new a b rest finds = record { more = finds.0; reads = finds.1; gives = (finds.2.0, finds.2.1, finds.2.2) }
+
+-- more is read behind an input
+pub read_more : (old new : Stage) (a b c : Option (List ℕ)) (input more : List ℕ) (t u : ℕ) → TakesTo Open old a b input t → TakesTo old new b c more u → u ≡ t + length more → TakesTo Open new a c (input ++ more) u
+read_more Open new a b c input more t u one two sum = takes_on Open Open new a b c input more t u one refl two
+read_more Ended new a b c input more t u one two sum =
+    subst (λ (s : Stage). TakesTo Open s a c (input ++ more) u) (sym two.0)
+    (subst (λ (xs : List ℕ). Consumes a c xs × IsAtEnd c) (sym (ap (λ (xs : List ℕ). input ++ xs) two.2 ∙ append-nil input)) (subst (λ (o : Option (List ℕ)). Consumes a o input × IsAtEnd o) (sym two.1) one))
+read_more Past new a b c input more t u one two sum =
+    subst (λ (s : Stage). TakesTo Open s a c (input ++ more) u) (sym two.0)
+    (one.0, one.1, subst (λ (xs : List ℕ). Consumes a c (xs ++ one.0)) (sym (ap (λ (xs : List ℕ). input ++ xs) two.2 ∙ append-nil input)) (subst (λ (o : Option (List ℕ)). Consumes a o (input ++ one.0)) (sym two.1) one.2), omega (arith, sum, ap length two.2, one.3))

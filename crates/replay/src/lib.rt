@@ -3,12 +3,12 @@
 #![tactic(auto)]
 
 mod answer;
+mod answering;
 mod check;
 mod commands;
 mod gathered;
 mod input;
 mod lines;
-mod old_lines;
 mod replies;
 mod session;
 #[cfg(test)]

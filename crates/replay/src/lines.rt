@@ -156,7 +156,12 @@ impl Lines {
         let before = self.window.held().len();
         match self.window.fill(source) {
             Ok(count) => {
-                (self.taken, self.stage) = count_within(&mut self.window, before, count, self.taken);
+                (self.taken, self.stage) = count_within(
+                    &mut self.window,
+                    before,
+                    count,
+                    self.taken,
+                );
                 self.feed = feed_behind(self.window.held(), before);
                 Ok(())
             }
@@ -251,12 +256,7 @@ fn make_room(window: &mut Window, long: bool) -> bool
 }
 
 /// Drops what came past the limit on the input, and tells how many bytes were taken within it, and the stage.
-fn count_within(
-    window: &mut Window,
-    before: usize,
-    count: usize,
-    taken: usize,
-) -> (usize, Stage)
+fn count_within(window: &mut Window, before: usize, count: usize, taken: usize) -> (usize, Stage)
     requires before { before ≤ ROOM }
     requires taken { taken ≤ max_input }
     requires held { before + count ≡ length window.old.held }

@@ -27,12 +27,12 @@ reads-preserved g c =
     let going = c.reads-test.ensures.1 in
     record {
       reads = λ rest leaves.
-      let first = before.reads rest leaves in
-      let next = c.fill.ensures.reads (rest ++ first.0) first.2 in (
-        first.0 ++ next.0,
-        reads_on c.args.self.now c.reads.self c.fill.new.self _ _ _ first.0 next.0 first.1 going next.1,
-        subst (λ (bytes : List ℕ). Leaves c.fill.new.self bytes) (append_assoc rest first.0 next.0) next.2,
-      );
+          let first = before.reads rest leaves in
+          let next = c.fill.ensures.reads (rest ++ first.0) first.2 in (
+            first.0 ++ next.0,
+            reads_on c.args.self.now c.reads.self c.fill.new.self _ _ _ first.0 next.0 first.1 going next.1,
+            subst (λ (bytes : List ℕ). Leaves c.fill.new.self bytes) (append_assoc rest first.0 next.0) next.2,
+          );
       same = c.in-Ok.ensures.cause.ok ∙ before.same;
       lighter = omega (arith, before.lighter, c.fill.ensures.ahead);
       still = λ ready. still_open c.reads.self.held (subst (λ (k : Cutter). HasLine k.held ⊎ (k.stage ≢ Open)) (sym (before.still ready).1) ready) c.reads-test.ensures.0 (λ stopped. stopped going);
