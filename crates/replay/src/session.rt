@@ -6,6 +6,7 @@ ghost use Rattle.outside.specs.Transfers.{Writes};
 
 use crate::answer::Outcome;
 use crate::commands::answer;
+use crate::replies::Replies;
 use graph_model::{DEFAULT_LIMITS, IdBuf};
 use outside::{Failed, NoMemory, Sink};
 use std::alloc::Global;
@@ -50,6 +51,7 @@ impl<const W: usize> Session<W> {
     ghost use Rattle.tx_graph.specs.Kept.{Kept, StandsFor};
     ghost use Rattle.graph_model.specs.States.{State, start};
     ghost use Rattle.replay.specs.Answers.{outcome_of};
+    ghost use Rattle.replay.specs.Gatherings.{Gathers};
     ghost use Rattle.replay.specs.Sessions.{IsLine, Answers, Suits};
 
     /// A session at the start: default limits, no names. Takes the room that readings need.
@@ -90,5 +92,23 @@ impl<const W: usize> Session<W> {
     {
         let found = answer(&mut self.graph, &mut self.ids, piece);
         found.tell(self.ids.ids(), sink)
+    }
+
+    /// Answers one line as `one` does, where its reply gathers behind others before the sink.
+    pub(crate) fn gather<K: Sink>(
+        &mut self,
+        piece: Piece<'_>,
+        replies: &mut Replies,
+        sink: &mut K,
+    ) -> Result<Outcome, Failed>
+        requires { self.old.additions < 2 ^ 64 - 1 }
+        ensures line { (line : List ℕ) → IsLine piece.entry line → (answer : runs.Answer)
+            × Answers self.old self.new line answer
+            × Gathers (K.written sink.old) (K.written sink.new) replies.old replies.new result (answer_text answer) }
+        ensures cause { CountsFaults (K.faults sink.old) (K.faults sink.new) result }
+        ensures additions { self.new.additions ≤ self.old.additions + 1 }
+    {
+        let found = answer(&mut self.graph, &mut self.ids, piece);
+        replies.tell(&found, self.ids.ids(), sink)
     }
 }

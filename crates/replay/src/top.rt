@@ -13,11 +13,13 @@ ghost use Rattle.replay.specs.Statuses.{AreReplay, AreCheck, AreRefused, usage_t
 ghost use Rattle.replay.specs.Words.{IsCommand, IsName};
 ghost use Rattle.replay.specs.Checks.{IsChecked, IsCheckedInPart, IsRead};
 
+use crate::answering::answer_lines;
 use crate::check::check_text;
-use crate::input::{End, Input, read_input};
-use crate::lines::answer_all;
+use crate::input::End;
+use crate::lines::Lines;
+use crate::replies::Replies;
 use crate::session::Session;
-use outside::{Failed, NoMemory, Sink, Source};
+use outside::{Failed, Sink, Source};
 use std::alloc::Global;
 use wire::write_word;
 
@@ -142,26 +144,14 @@ fn replay_lines<S: Source, K: Sink>(alloc: Global, source: &mut S, sink: &mut K)
     let Ok(mut session) = Session::<1>::new(alloc) else {
         return Status::NoMemory;
     };
-    match read_input(alloc, source) {
-        Ok(input) => answer_input(&mut session, &input, sink),
-        Err(NoMemory) => Status::NoMemory,
-    }
-}
-
-/// Answers what was read, from the start.
-fn answer_input<K: Sink>(session: &mut Session<1>, input: &Input, sink: &mut K) -> Status
-    requires fresh { StandsFor session.old start }
-    requires few { session.old.additions + length input.now.bytes.items < 2 ^ 64 - 2 }
-    ensures answered { result ≢ Status.WriteFault → (result ≡ end_status input.now.end)
-        × WritesOutput (is_told input.now.end) input.now.bytes.items (K.written sink.old) (K.written sink.new) }
-    ensures cut_off { result ≡ Status.WriteFault
-        → WritesFront (is_told input.now.end) input.now.bytes.items (K.written sink.old) (K.written sink.new) }
-    ensures faults { (before now : ℕ) → ReadFaults input.now.end before now
-        → StatusFaults result before now (K.faults sink.old) (K.faults sink.new) }
-{
-    let told = matches!(input.end, End::Told);
-    match answer_all(session, &input.bytes, told, sink) {
-        Ok(()) => status_of(input.end),
+    let Ok(mut lines) = Lines::new(alloc) else {
+        return Status::NoMemory;
+    };
+    let Ok(mut replies) = Replies::new(alloc) else {
+        return Status::NoMemory;
+    };
+    match answer_lines(&mut session, &mut lines, &mut replies, source, sink) {
+        Ok(end) => status_of(end),
         Err(Failed) => Status::WriteFault,
     }
 }
