@@ -1,4 +1,4 @@
-use Rattle.std.proofs.Common.{ℕ, List, ◌≡◌, ◌+◌, ◌-◌, ◌≤◌, ◌++◌, length, take, drop, ap, sym, ◌∙◌, refl, arith, length-append, length-take-le, length-drop, take-append-drop}
+use Rattle.std.proofs.Common.{◌≡◌, ◌+◌, ◌-◌, ◌≤◌, ◌++◌, length, take, drop, ap, sym, ◌∙◌, refl, arith, length-append, length-take-le, length-drop, take-append-drop}
 use Rattle.replay.proofs.CutLemmas.{split_past}
 use Rattle.replay.proofs.lines.count_within.Goals as goal
 

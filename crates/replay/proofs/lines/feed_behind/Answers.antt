@@ -1,4 +1,4 @@
-use Rattle.std.proofs.Common.{◌∙◌, sym, refl, take, ap}
+use Rattle.std.proofs.Common.{◌∙◌, sym, refl, take}
 use Rattle.replay.proofs.CutLemmas.{feed_later}
 use Rattle.replay.proofs.lines.feed_behind.Goals as goal
 

@@ -1,11 +1,9 @@
-use Rattle.std.proofs.Common.{◌≡◌, ◌≢◌, ◌⊎◌, ℕ, List, [], ◌++◌, inl, inr, refl, sym, ap, subst, ◌∙◌, append_assoc, append-nil, rules, arith}
-use Rattle.std.proofs.KnownBytes.{Consumes-nil}
+use Rattle.std.proofs.Common.{◌≢◌, ◌⊎◌, ℕ, List, [], ◌++◌, inl, inr, refl, sym, subst, ◌∙◌, append_assoc, append-nil, arith}
 use Rattle.graph_model.specs.Lines.{IsOneLine}
-use Rattle.outside.specs.Faults.{one_more, Rose}
 use Rattle.replay.specs.declared.lines.Stage.TheVariants.{Open}
 use Rattle.replay.specs.Cutters.{Cutter}
-use Rattle.replay.specs.Cuts.{Leaves, HasLine, FindsNext, Reads}
-use Rattle.replay.proofs.CutLemmas.{reads_on, reads_none, reads_given, ends_one, not_line}
+use Rattle.replay.specs.Cuts.{Leaves, HasLine}
+use Rattle.replay.proofs.CutLemmas.{reads_on, reads_none, ends_one, not_line}
 use Rattle.replay.proofs.lines.Lines.find.Goals as goal
 
 pub reads-init : goal.reads-init

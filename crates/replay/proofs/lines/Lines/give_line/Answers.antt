@@ -1,4 +1,4 @@
-use Rattle.std.proofs.Common.{ℕ, ◌<◌, ◌≤◌, Some, sym, ap, ◌∙◌, subst, length, take, length-take-le, length-append, ◌∷◌, arith}
+use Rattle.std.proofs.Common.{◌≤◌, Some, sym, ap, subst, length, length-append, ◌∷◌, arith}
 use Rattle.graph_model.specs.Lines.{max_line}
 use Rattle.replay.specs.Cutters.{Cutter}
 use Rattle.replay.specs.Cuts.{EndsIn, HasFeed}

@@ -1,4 +1,4 @@
-use Rattle.std.proofs.Common.{◌≡◌, ◌<◌, ◌≤◌, refl, sym, ap, subst, ◌∙◌}
+use Rattle.std.proofs.Common.{◌<◌, ◌≤◌, refl, sym, ap, subst, ◌∙◌}
 use Rattle.graph_model.specs.Lines.{max_input}
 use Rattle.replay.specs.declared.lines.Next.TheVariants.{Line}
 use Rattle.replay.specs.declared.session.Piece.TheVariants.{Whole, TooLong}

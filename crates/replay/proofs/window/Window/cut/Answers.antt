@@ -1,4 +1,4 @@
-use Rattle.std.proofs.Common.{ℕ, ◌+◌, ◌-◌, ◌≤◌, length, drop, ap, ◌∙◌, arith, length-drop, length-take}
+use Rattle.std.proofs.Common.{◌+◌, ◌-◌, ◌≤◌, length, drop, ap, ◌∙◌, arith, length-take}
 use Rattle.replay.specs.Windows.{Sight}
 use Rattle.replay.proofs.WindowLemmas.{consumed}
 use Rattle.replay.proofs.window.Window.cut.Goals as goal

@@ -1,4 +1,4 @@
-use Rattle.std.proofs.Common.{ℕ, ◌≡◌, ◌+◌, ◌-◌, ◌≤◌, List, ◌++◌, length, take, ap, ◌∙◌, sym, arith, rules}
+use Rattle.std.proofs.Common.{◌≡◌, ◌-◌, ◌++◌, length, take, ap, ◌∙◌, sym, arith, rules}
 use Rattle.replay.specs.Windows.{Sight}
 use Rattle.replay.proofs.WindowLemmas.{more_held, same_held}
 use Rattle.replay.proofs.window.Window.fill.Goals as goal
