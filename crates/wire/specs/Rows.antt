@@ -1,6 +1,5 @@
 -- The lines of a certificate text, one by one, and what reading one gives.
 use Rattle.std.specs.Prelude.{◌≡◌, ℕ, ℤ, List, [], ◌∷◌, ◌++◌, map, flat_map, codes, decimal, FitsSigned, Result, Ok, Err}
-use Rattle.std.specs.Fmt.{signed_decimal}
 use Rattle.std.specs.Int.{w64}
 use Rattle.graphs.specs.Certificates.{Part}
 use Rattle.graph_model.specs.Texts.{Text, tx_line, edge_line, chunk_line, flow_line}

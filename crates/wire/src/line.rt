@@ -86,7 +86,8 @@ pub fn read_line(bytes: &[u8], ids: &mut IdBuf) -> Line
 
 /// The line without the carriage return at its end, if it has one there.
 pub(crate) fn trimmed(bytes: &[u8]) -> &[u8]
-    ensures { result.now ≡ without_return bytes.now }
+    ensures text { result.now ≡ without_return bytes.now }
+    ensures shorter { length result.now ≤ length bytes.now }
 {
     match before_return(bytes) {
         Some(front) => front,
