@@ -121,7 +121,7 @@ net_sums : (f g : ℕ → ℕ) (ts : List ℕ) → total (λ s. pos (f s) -ℤ p
 net_sums f g [] = refl
 net_sums f g (x ∷ xs) = omega (arith, ints, net_sums f g xs, sum_by-cons f x xs, sum_by-cons g x xs)
 
-out_and_in : (ts : List ℕ) (flow : ℕ → ℕ → ℕ) (t : ℕ) → net ts flow t ≡ pos (sum_by (λ p. flow t p) ts) -ℤ pos (sum_by (λ c. flow c t) ts)
+pub out_and_in : (ts : List ℕ) (flow : ℕ → ℕ → ℕ) (t : ℕ) → net ts flow t ≡ pos (sum_by (λ p. flow t p) ts) -ℤ pos (sum_by (λ c. flow c t) ts)
 unfolding net
 out_and_in ts flow t = net_sums (λ p. flow t p) (λ c. flow c t) ts
 
