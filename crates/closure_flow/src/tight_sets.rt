@@ -64,6 +64,7 @@ pub fn smallest_tight<L: Ledger, const W: usize>(
     ensures smallest { (weights : List ℤ) → IsBalanced (64 * W) weights parents.now within.entry (flow_of scratch.old)
         → IsSmallestTight (64 * W) weights parents.now within.entry result }
     ensures flow { scratch.new ≡ scratch.old }
+    ensures steps { steps.old ≤ steps.new }
     ensures steps_most { steps.new ≤ steps.old + set.len within.entry * set.len within.entry }
 {
     if within.count() == 1 {
@@ -92,7 +93,8 @@ fn fewest<L: Ledger, const W: usize>(
     requires parents { HasEach within.now parents.now }
     requires allowed { IsAllowed (64 * W) parents.now within.now (shown_in network.now) }
     ensures fewest { IsFewestDrawn (64 * W) parents.now within.now (shown_in network.now) result }
-    ensures steps { steps.new ≤ steps.old + set.len within.now * set.len within.now }
+    ensures steps { steps.old ≤ steps.new }
+    ensures steps_most { steps.new ≤ steps.old + set.len within.now * set.len within.now }
 {
     let mut best = *within;
     let mut left = *within;
@@ -142,7 +144,8 @@ fn draw<L: Ledger, const W: usize>(
     ensures all_taken { AreApart result past.now → steps.new ≡ steps.old + set.len result }
     ensures holds { set.contains result place ≡ true }
     ensures least { IsDrawnBy (64 * W) parents.now within.now (shown_in network.now) place result }
-    ensures steps { steps.new ≤ steps.old + set.len within.now }
+    ensures steps { steps.old ≤ steps.new }
+    ensures steps_most { steps.new ≤ steps.old + set.len within.now }
 {
     queue.clear();
     let mut start = Bits::empty();

@@ -18,7 +18,7 @@ use Rattle.graphs.specs.Certificates.{Part, weight_in, Certifies}
 use Rattle.linearize.specs.Drafts.{Written, placed}
 use Rattle.linearize.specs.Graphs.{sum_at}
 use Rattle.linearize.specs.Orders.{AreCovers, Balances, IsOrderOf, flows_of, sums_in}
-use Rattle.linearize.specs.Splits.{Linearizes, Adds}
+use Rattle.linearize.specs.Splits.{Linearizes, Adds, IsUncut, IsUncutPart}
 use Rattle.linearize.proofs.Certified.{in_of, ends_of, given_is, gotten_is}
 use Rattle.linearize.proofs.Lists.{distinct_places, total_any_order, sum_any_order}
 use Rattle.linearize.proofs.Triangles.{few_pairs}
@@ -86,24 +86,33 @@ module _ (n : ℕ) (dep : Closure) (parents : List (fin.FinSet nat_cmp)) (s : fi
     only : (P : Part → Type 0) → P part → (q : Part) → Contains (part ∷ []) q → P q
     only P here q h = elim (Contains-cases part q [] h) [ inl same ↦ subst P same here | inr none ↦ absurd (none_in_empty q none) ]
 
-    one_linear : 0 < fin.len s → length ids ≡ fin.len s → Linearizes n dep s (part ∷ [])
+    one_uncut : IsUncut n dep s → IsUncutPart n dep part
     unfolding part
-    one_linear some long = record {
+    one_uncut uncut x upper some same p h =
+        uncut x (record {
+          inside = λ q m. (order.exact q).0 (upper.inside q m);
+          parents = λ q c cover m q_in. upper.parents q c cover m ((order.exact q).1 q_in);
+        }) some same p ((order.exact p).0 h)
+
+    one_linear : 0 < fin.len s → length ids ≡ fin.len s → IsUncut n dep s → Linearizes n dep s (part ∷ [])
+    unfolding part
+    one_linear some long uncut = record {
       order = subst (λ xs. IsOrderOf dep s xs) (sym placed_one) order;
       filled = only (λ q. q.ids ≢ []) (λ none. (let zero_ : length ids ≡ 0 = ap length none in omega (arith, zero_, long, some)));
       falling = record { summed = only (λ q. q.rate ≡ sums (sum_at dep) q.ids) (sym (sums_of_order n dep s ids within order)); falling = tt };
       flows = only (λ q. Certifies (sum_at dep) (IsCover dep) q.ids q.flows) certified;
+      uncut = only (IsUncutPart n dep) (one_uncut uncut);
       at_most = λ rate bound. only (λ q. AtMost q.rate rate) (bound s (record { inside = λ p m. m; parents = λ p c e m p_in. p_in }));
       at_least = λ rate bound. only (λ q. AtMost rate q.rate) (bound s (record { inside = λ p m. m; children = λ p c e m c_in. c_in }));
     }
 
-    pub one_added : (old new : Written) (whole : Sum) → 0 < fin.len s → length ids ≡ fin.len s → whole ≡ sums_in n dep s
+    pub one_added : (old new : Written) (whole : Sum) → 0 < fin.len s → length ids ≡ fin.len s → IsUncut n dep s → whole ≡ sums_in n dep s
         → new ≡ record { parts = old.parts ++ record { rate = whole; ids = ids; flows = flows_of n parents s flow (places n s) } ∷ []; ids = []; flows = [] } → Adds n dep s old new
     unfolding part flows
-    one_added old new whole some long is made = record {
+    one_added old new whole some long uncut is made = record {
       parts = part ∷ [];
       is = made ∙ ap (λ (w : Sum). record { parts = old.parts ++ record { rate = w; ids = ids; flows = flows } ∷ []; ids = []; flows = [] }) is;
-      linear = one_linear some long;
+      linear = one_linear some long uncut;
       places = ap length placed_one ∙ long;
       few = (let one : length (part ∷ []) ≡ 1 = refl in omega (arith, some, one));
       few_flows = subst (λ (fs : List Flow). 4 * length fs ≤ fin.len s * fin.len s) (sym (append-nil flows)) few_flows;

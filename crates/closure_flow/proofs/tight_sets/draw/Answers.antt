@@ -89,8 +89,8 @@ returns-then-is_some-clause-least g c =
     c.toward-next.ensures)
     a.within a.only
 
-pub returns-then-is_some-clause-steps : goal.returns-then-is_some-clause-steps
-returns-then-is_some-clause-steps g c =
+pub returns-then-is_some-clause-steps_most : goal.returns-then-is_some-clause-steps_most
+returns-then-is_some-clause-steps_most g c =
     let k = c.in-Some.ensures in
     let few = drawing_few (64 * g.row.W) _ _ _ _ _ _ _ c.requires.below c.loop-at.invariant.0 in
     omega (arith, k.step, k.none, few, c.loop-at.invariant.1)
@@ -103,7 +103,7 @@ returns-clause-all_taken g c apart =
     let s = c.loop-at.invariant.0 in
     omega (arith, c.in_default.ensures.step, c.in_default.ensures.none, s.lists.count, c.loop-at.invariant.1)
 
-pub returns-clause-steps : goal.returns-clause-steps
-returns-clause-steps g c =
+pub returns-clause-steps_most : goal.returns-clause-steps_most
+returns-clause-steps_most g c =
     let few = drawing_few (64 * g.row.W) _ _ _ _ _ _ _ c.requires.below c.loop-at.invariant.0 in
     omega (arith, c.in_default.ensures.step, c.in_default.ensures.none, few, c.loop-at.invariant.1)

@@ -9,7 +9,7 @@ use Rattle.closure_flow.proofs.tight_sets.fewest.Goals as goal
 
 pub loop-place-init : goal.loop-place-init
 loop-place-init g c =
-    (seeking_start (64 * g.row.W) _ _ (shown_in c.args.network.now) c.requires.below c.requires.some c.requires.allowed, omega arith)
+    (seeking_start (64 * g.row.W) _ _ (shown_in c.args.network.now) c.requires.below c.requires.some c.requires.allowed, omega arith, omega arith)
 
 pub loop-place-preserved : goal.loop-place-preserved
 loop-place-preserved g c =
@@ -20,8 +20,9 @@ loop-place-preserved g c =
       subst (λ s. Seeking n c.args.parents.now c.args.within.now (shown_in c.args.network.now) c.smaller-best.result s) (sym c.remove.ensures)
           (seeking_step n _ _ (shown_in c.args.network.now) c.requires.below _ c.smaller-best.result c.loop-place.left c.minus-past.result c.draw-found.result
           c.in-Some.place c.loop-place.invariant.0 m c.minus-past.ensures d.drawn d.holds d.least e.one e.first e.second),
-      steps_left (set.len c.args.within.now) c.args.steps.now _ _ (set.len c.loop-place.left) _ c.loop-place.invariant.1
-          (subst (λ s. set.len s < set.len c.loop-place.left) (sym c.remove.ensures) (fewer c.loop-place.left c.in-Some.place m)) d.steps,
+      (let before = c.loop-place.invariant.1 in omega (arith, before, d.steps)),
+      steps_left (set.len c.args.within.now) c.args.steps.now _ _ (set.len c.loop-place.left) _ c.loop-place.invariant.2
+          (subst (λ s. set.len s < set.len c.loop-place.left) (sym c.remove.ensures) (fewer c.loop-place.left c.in-Some.place m)) d.steps_most,
     )
 
 pub smaller-best-requires : goal.smaller-best-requires

@@ -7,6 +7,7 @@ use Rattle.closure_flow.proofs.tight_sets.fewest.Given as goal
 abbrev pub invariant-loop-place : goal.invariant-loop-place
 invariant-loop-place g l =
     Seeking (64 * g.row.W) l.parents l.within (shown_in l.network) l.best l.left
+    × (l.fn.steps ≤ l.steps)
     × (l.steps + set.len l.left * set.len l.within ≤ l.fn.steps + set.len l.within * set.len l.within)
 
 abbrev pub decreases-loop-place : goal.decreases-loop-place

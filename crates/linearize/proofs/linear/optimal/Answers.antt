@@ -8,9 +8,10 @@ use Rattle.graphs.specs.Certificates.{Part, IsCertificate}
 use Rattle.graphs.specs.Linearizations.{IsOptimal}
 use Rattle.linearize.specs.Drafts.{Written}
 use Rattle.linearize.specs.Graphs.{sum_at}
+use Rattle.linearize.specs.Minimal.{AreMinimal}
 use Rattle.linearize.specs.Splits.{Adds}
 use Rattle.linearize.specs.Steps.{AreOfSolves}
-use Rattle.linearize.proofs.Final.{certificate, has_sizes}
+use Rattle.linearize.proofs.Final.{certificate, has_sizes, minimal}
 use Rattle.linearize.proofs.Joined.{start_room}
 use Rattle.graphs.proofs.ClosureGraphs.{closures_have_graphs}
 use Rattle.linearize.proofs.Sizes.{words_fit, lists_fit, scratch_fits}
@@ -75,6 +76,16 @@ returns-clause-optimal g c = λ graph stands.
     subst (λ (ps : List Part). IsOptimal (sum_at dep) graph (map (λ part. part.ids) ps)) (sym parts)
     (c.certified_parts_are_optimal.ensures.by_covers (sum_at dep) graph adds.parts (has_sizes n dep graph c.members-members.ensures.closed stands c.requires.rates)
     (certificate n dep graph c.members-members.ensures.closed stands adds.parts c.requires.component adds.linear)))
+
+pub returns-clause-minimal : goal.returns-clause-minimal
+returns-clause-minimal g c = λ graph stands.
+    (let n : ℕ = 64 * g.row.W in
+    let dep = c.args.dep.now in
+    let adds : Adds n dep (members_of dep) c.clear.new.self c.split.new.draft =
+    subst (λ s. Adds n dep s c.clear.new.self c.split.new.draft) c.members-members.ensures.members c.split.ensures.adds in
+    let parts : c.split.new.draft.parts ≡ adds.parts = ap (λ (w : Written). w.parts) adds.is ∙ ap (λ (w : Written). w.parts ++ adds.parts) c.clear.ensures in
+    subst (λ (ps : List Part). AreMinimal (sum_at dep) graph.pairs ps) (sym parts)
+    (minimal n dep graph c.members-members.ensures.closed stands adds.parts c.requires.component adds.linear))
 
 pub returns-clause-solves : goal.returns-clause-solves
 returns-clause-solves g c = subst (λ s. AreOfSolves (fin.len s) c.args.steps.now c.split.new.steps) c.members-members.ensures.members c.split.ensures.solves

@@ -27,7 +27,7 @@ returns g c =
     let list : List Flow = flows_of n c.args.parents.now c.args.within.now (flow_of c.args.scratch.now) (places n c.args.within.now) in
     let ids : List ℕ = c.put_places.new.draft.ids in
     one_added n c.args.dep.now c.args.parents.now c.args.within.now (flow_of c.args.scratch.now) c.requires.closed c.requires.members c.requires.covers ids c.requires.balanced c.put_places.ensures.order
-    c.args.draft.now c.close.new.self (sum_from c.args.whole) c.requires.some c.put_places.ensures.count c.requires.whole
+    c.args.draft.now c.close.new.self (sum_from c.args.whole) c.requires.some c.put_places.ensures.count c.requires.uncut c.requires.whole
     (c.close.ensures
     ∙ ap (λ (w : Written). record { parts = w.parts ++ record { rate = sum_from c.args.whole; ids = w.ids; flows = w.flows } ∷ []; ids = []; flows = [] }) c.send_all.ensures
     ∙ ap (λ (ps : List Part). record { parts = ps ++ record { rate = sum_from c.args.whole; ids = ids; flows = c.put_places.new.draft.flows ++ list } ∷ []; ids = []; flows = [] }) c.put_places.ensures.parts
