@@ -10,7 +10,7 @@ use Rattle.std.specs.FinSet as set
 use Rattle.lists.proofs.Cases.{clash}
 use Rattle.lists.proofs.Entries.{Contains-head}
 use Rattle.arithmetic.specs.Sums.{total}
-use Rattle.bitset.specs.Members.{empty_has_none, from_insert, len_bound, insert_here, from_remove, remove_other, in_minus, minus_parts, from_meet, to_meet}
+use Rattle.bitset.specs.Members.{empty_has_none, from_insert, len_bound, insert_here, from_remove, remove_other, in_minus, minus_parts, from_meet, to_meet, to_union_right}
 use Rattle.bitset.specs.Places.{IsLeast, IsWithin, places}
 use Rattle.bitset.specs.Sets.{contains-empty, len-places, places-Contains}
 use Rattle.closure_flow.specs.declared.queue.Entry.{Entry}
@@ -191,6 +191,10 @@ pub met_some : (o : Option ℕ) (b : Bool) (s : set.FinSet nat_cmp) → is_some 
     → (p : ℕ) × (set.contains s p ≡ true)
 met_some None b s e t m = absurd (let f : false ≡ true = e ∙ t in cc)
 met_some (Some p) b s e t m = (p, m.member)
+
+pub joined_next : (seen next all : set.FinSet nat_cmp) → all ≡ set.union seen next
+    → (t : ℕ) → set.contains next t ≡ true → set.contains all t ≡ true
+joined_next seen next all is t m = ap (λ s. set.contains s t) is ∙ to_union_right seen next t m
 
 -- two sets of which one was found to have a place of the other aren't apart
 pub not_apart : (seen next past met : set.FinSet nat_cmp) (p : ℕ) → met ≡ set.intersection next past → set.contains met p ≡ true

@@ -153,10 +153,10 @@ fn draw<L: Ledger, const W: usize>(
     let mut seen = put_all(queue, &Bits::empty(), &start, None);
     while let Some(at) = queue.take(steps) {
         let next = toward(network, parents, within, &seen, at);
-        seen = put_all(queue, &seen, &next, None);
         if next.meet(past).least().is_some() {
-            return seen;
+            return seen.union(&next);
         }
+        seen = put_all(queue, &seen, &next, None);
     }
     seen
 }

@@ -1,14 +1,15 @@
-use Rattle.std.proofs.Common.{◌≡◌, ◌⊎◌, ℕ, ◌+◌, ◌*◌, ◌∙◌, List, None, length, Bool, true, ap, sym, subst, arith}
+use Rattle.std.proofs.Common.{◌≡◌, ◌⊎◌, inl, inr, ℕ, ◌+◌, ◌*◌, ◌∙◌, List, None, length, Bool, true, ap, sym, subst, arith}
 use Rattle.std.specs.FinSet as set
 use Rattle.lists.proofs.Cases.{clash}
-use Rattle.bitset.specs.Members.{len_bound}
+use Rattle.bitset.specs.Members.{from_union, len_bound, to_union_left}
 use Rattle.bitset.specs.Sets.{contains-empty}
 use Rattle.closure_flow.specs.Queues.{Grows, IsBeyond}
+use Rattle.closure_flow.specs.Tight.{IsDrawnBy}
 use Rattle.closure_flow.specs.Views.{shown_in}
 use Rattle.closure_flow.specs.declared.queue.Entry.{Entry}
 use Rattle.closure_flow.proofs.Networks.{words_fit}
 use Rattle.closure_flow.proofs.Queues.{lists_none}
-use Rattle.closure_flow.proofs.TightSets.{Drawing, drawing_end, drawing_few, drawing_least, drawing_start, drawing_step, met_some, not_apart}
+use Rattle.closure_flow.proofs.TightSets.{Drawing, drawing_end, drawing_few, drawing_least, drawing_start, drawing_step, joined_next, met_some, not_apart}
 use Rattle.closure_flow.proofs.tight_sets.draw.Goals as goal
 
 pub insert-requires : goal.insert-requires
@@ -72,22 +73,31 @@ loop-at-smaller g c =
 pub returns-then-is_some-clause-drawn : goal.returns-then-is_some-clause-drawn
 returns-then-is_some-clause-drawn g c apart =
     let met = met_some c.least.result c.is_some.result c.meet.result (sym c.is_some.ensures) c.if-is_some.true c.least.ensures.least in
-    absurd (not_apart _ _ _ _ met.0 c.meet.ensures met.1 c.put_all-seen-in-Some.ensures.new apart)
+    absurd (not_apart _ _ _ _ met.0 c.meet.ensures met.1 (joined_next _ _ _ c.union.ensures) apart)
 
 pub returns-then-is_some-clause-all_taken : goal.returns-then-is_some-clause-all_taken
 returns-then-is_some-clause-all_taken g c apart =
     let met = met_some c.least.result c.is_some.result c.meet.result (sym c.is_some.ensures) c.if-is_some.true c.least.ensures.least in
-    absurd (not_apart _ _ _ _ met.0 c.meet.ensures met.1 c.put_all-seen-in-Some.ensures.new apart)
+    absurd (not_apart _ _ _ _ met.0 c.meet.ensures met.1 (joined_next _ _ _ c.union.ensures) apart)
+
+pub returns-then-is_some-clause-holds : goal.returns-then-is_some-clause-holds
+returns-then-is_some-clause-holds g c =
+    subst (λ s. set.contains s c.args.place ≡ true) (sym c.union.ensures)
+    (to_union_left c.loop-at.seen c.toward-next.result c.args.place c.loop-at.invariant.0.holds)
 
 pub returns-then-is_some-clause-least : goal.returns-then-is_some-clause-least
 returns-then-is_some-clause-least g c =
-    let n : ℕ = 64 * g.row.W in
-    let a = c.put_all-seen-in-Some.ensures in
     let flow = shown_in c.args.network.now in
-    drawing_least n _ _ flow c.args.place _ c.loop-at.queue.taken _ _ c.toward-next.result c.loop-at.invariant.0 c.in-Some.ensures.none
-    (subst (λ (t : ℕ). IsBeyond n c.args.parents.now c.args.within.now flow c.loop-at.seen t c.toward-next.result) c.in-Some.ensures.place
-    c.toward-next.ensures)
-    a.within a.only
+    subst (λ s. IsDrawnBy (64 * g.row.W) c.args.parents.now c.args.within.now flow c.args.place s) (sym c.union.ensures)
+    (drawing_least (64 * g.row.W) _ _ flow c.args.place _ c.loop-at.queue.taken _ _ c.toward-next.result c.loop-at.invariant.0
+    c.in-Some.ensures.none
+    (subst (λ (t : ℕ). IsBeyond (64 * g.row.W) c.args.parents.now c.args.within.now flow c.loop-at.seen t c.toward-next.result)
+    c.in-Some.ensures.place c.toward-next.ensures)
+    (λ k m. elim (from_union c.loop-at.seen c.toward-next.result k m) [
+      | inl was ↦ c.loop-at.invariant.0.below k was
+      | inr now ↦ c.requires.below k (c.toward-next.ensures.inside k now)
+    ])
+    (from_union c.loop-at.seen c.toward-next.result))
 
 pub returns-then-is_some-clause-steps_most : goal.returns-then-is_some-clause-steps_most
 returns-then-is_some-clause-steps_most g c =
