@@ -1,5 +1,6 @@
 -- What a set that no search leaves says of all closed sets.
-use Rattle.std.proofs.Common.{◌≡◌, ℕ, zero, suc, ◌<◌, inl, inr, List, [], ◌∷◌, Bool, true, false, cond, ℤ, pos, negsuc, ◌-ℤ◌, ◌≤ℤ◌, ◌<ℤ◌, refl, sym, ap, ◌∙◌, subst, arith}
+use Rattle.std.proofs.Common.{◌≡◌, ℕ, zero, suc, ◌<◌, inl, inr, List, [], ◌∷◌, Bool, true, false, cond, ℤ, pos}
+use Rattle.std.proofs.Common.{negsuc, ◌-ℤ◌, ◌≤ℤ◌, ◌<ℤ◌, refl, sym, ap, ◌∙◌, subst, arith}
 use Rattle.std.proofs.lemmas.Int.{ints}
 use Rattle.arithmetic.specs.Sums.{total}
 use Rattle.arithmetic.proofs.Sums.{total_same, total-sub, total_swap, total-zero}
@@ -28,16 +29,20 @@ pub net_inside : (ts : List ℕ) (F : ℕ → ℕ → ℕ) (m : ℕ → Bool)
     → total (inside m (net ts F)) ts ≡ total (λ t. total (λ s. cond (m t) (pos (F t s)) (pos 0) -ℤ cond (m s) (pos (F t s)) (pos 0)) ts) ts
 unfolding net
 net_inside ts F m =
-    let split : total (inside m (net ts F)) ts ≡ total (λ t. total (λ s. cond (m t) (pos (F t s)) (pos 0)) ts) ts -ℤ total (λ t. total (λ s. cond (m t) (pos (F s t)) (pos 0)) ts) ts =
+    let split : total (inside m (net ts F)) ts ≡ total (λ t. total (λ s. cond (m t) (pos (F t s)) (pos 0)) ts) ts -ℤ total
+    (λ t. total (λ s. cond (m t) (pos (F s t)) (pos 0)) ts) ts =
     total_same (inside m (net ts F)) (λ t. total (λ s. cond (m t) (pos (F t s)) (pos 0)) ts -ℤ total (λ s. cond (m t) (pos (F s t)) (pos 0)) ts) ts
     (λ t. inside_total (m t) (λ s. pos (F t s) -ℤ pos (F s t)) ts
-    ∙ total_same (λ s. cond (m t) (pos (F t s) -ℤ pos (F s t)) (pos 0)) (λ s. cond (m t) (pos (F t s)) (pos 0) -ℤ cond (m t) (pos (F s t)) (pos 0)) ts (λ s. inside_sub (m t) (pos (F t s)) (pos (F s t)))
+    ∙ total_same (λ s. cond (m t) (pos (F t s) -ℤ pos (F s t)) (pos 0)) (λ s. cond (m t) (pos (F t s)) (pos 0) -ℤ cond (m t) (pos (F s t)) (pos 0))
+    ts (λ s. inside_sub (m t) (pos (F t s)) (pos (F s t)))
     ∙ total-sub (λ s. cond (m t) (pos (F t s)) (pos 0)) (λ s. cond (m t) (pos (F s t)) (pos 0)) ts)
     ∙ total-sub (λ t. total (λ s. cond (m t) (pos (F t s)) (pos 0)) ts) (λ t. total (λ s. cond (m t) (pos (F s t)) (pos 0)) ts) ts in
     let swap : total (λ t. total (λ s. cond (m t) (pos (F s t)) (pos 0)) ts) ts ≡ total (λ t. total (λ s. cond (m s) (pos (F t s)) (pos 0)) ts) ts =
     total_swap (λ t s. cond (m t) (pos (F s t)) (pos 0)) ts ts in
-    let join : total (λ t. total (λ s. cond (m t) (pos (F t s)) (pos 0) -ℤ cond (m s) (pos (F t s)) (pos 0)) ts) ts ≡ total (λ t. total (λ s. cond (m t) (pos (F t s)) (pos 0)) ts) ts -ℤ total (λ t. total (λ s. cond (m s) (pos (F t s)) (pos 0)) ts) ts =
-    total_same (λ t. total (λ s. cond (m t) (pos (F t s)) (pos 0) -ℤ cond (m s) (pos (F t s)) (pos 0)) ts) (λ t. total (λ s. cond (m t) (pos (F t s)) (pos 0)) ts -ℤ total (λ s. cond (m s) (pos (F t s)) (pos 0)) ts) ts
+    let join : total (λ t. total (λ s. cond (m t) (pos (F t s)) (pos 0) -ℤ cond (m s) (pos (F t s)) (pos 0)) ts) ts ≡ total
+    (λ t. total (λ s. cond (m t) (pos (F t s)) (pos 0)) ts) ts -ℤ total (λ t. total (λ s. cond (m s) (pos (F t s)) (pos 0)) ts) ts =
+    total_same (λ t. total (λ s. cond (m t) (pos (F t s)) (pos 0) -ℤ cond (m s) (pos (F t s)) (pos 0)) ts)
+    (λ t. total (λ s. cond (m t) (pos (F t s)) (pos 0)) ts -ℤ total (λ s. cond (m s) (pos (F t s)) (pos 0)) ts) ts
     (λ t. total-sub (λ s. cond (m t) (pos (F t s)) (pos 0)) (λ s. cond (m s) (pos (F t s)) (pos 0)) ts)
     ∙ total-sub (λ t. total (λ s. cond (m t) (pos (F t s)) (pos 0)) ts) (λ t. total (λ s. cond (m s) (pos (F t s)) (pos 0)) ts) ts in
     split ∙ ap (λ (z : ℤ). total (λ t. total (λ s. cond (m t) (pos (F t s)) (pos 0)) ts) ts -ℤ z) swap ∙ sym join
@@ -59,7 +64,8 @@ pair_none true false (suc n) h k = absurd (let e : false ≡ true = h (omega ari
 pair_none false true (suc n) h k = absurd (let e : false ≡ true = k (omega arith) refl in cc)
 
 -- no flow leaves a closed set on balance
-pub net_of_closed : (ts : List ℕ) (F : ℕ → ℕ → ℕ) (m : ℕ → Bool) → ((c p : ℕ) → Among c ts → Among p ts → 0 < F c p → m c ≡ true → m p ≡ true) → total (inside m (net ts F)) ts ≤ℤ pos 0
+pub net_of_closed : (ts : List ℕ) (F : ℕ → ℕ → ℕ) (m : ℕ → Bool) → ((c p : ℕ) → Among c ts → Among p ts → 0 < F c p → m c ≡ true → m p ≡ true)
+    → total (inside m (net ts F)) ts ≤ℤ pos 0
 net_of_closed ts F m closed =
     let low : total (λ t. total (λ s. cond (m t) (pos (F t s)) (pos 0) -ℤ cond (m s) (pos (F t s)) (pos 0)) ts) ts ≤ℤ total {A = ℕ} (λ s. pos 0) ts =
     total_along_le (λ s. pos 0) (λ t. total (λ s. cond (m t) (pos (F t s)) (pos 0) -ℤ cond (m s) (pos (F t s)) (pos 0)) ts) ts

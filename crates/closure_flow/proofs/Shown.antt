@@ -22,14 +22,16 @@ row_is n f p none = elim (cases_lt p n) as (λ _. get_or (map f (range_with_len 
 -- a flow that is none where a place isn't below n is the one that its rows show
 pub flow_of-rows : (n : ℕ) (f : ℕ → ℕ → ℕ) → ((c p : ℕ) → n ≤ c → f c p ≡ 0) → ((c p : ℕ) → n ≤ p → f c p ≡ 0) → (c p : ℕ) → flow_of (rows n f) c p ≡ f c p
 flow_of-rows n f child parent c p = elim (cases_lt c n) as (λ _. flow_of (rows n f) c p ≡ f c p) [
-  | inl less ↦ ap (λ row. get_or row p 0) (get_or-map-range_with_len (λ k. map (f k) (range_with_len 0 n)) 0 n c c [] less (omega arith)) ∙ row_is n (f c) p (parent c p)
+  | inl less ↦ ap (λ row. get_or row p 0) (get_or-map-range_with_len (λ k. map (f k) (range_with_len 0 n)) 0 n c c [] less (omega arith))
+      ∙ row_is n (f c) p (parent c p)
   | inr more ↦
       let past = get_or_past (rows n f) c [] (omega (arith, more, length-map-range_with_len (λ k. map (f k) (range_with_len 0 n)) 0 n)) in
       ap (λ row. get_or row p 0) past ∙ sym (child c p (omega (arith, more)))
 ]
 
 -- so is that of a network
-pub shown_is : (n : ℕ) (within : set.FinSet nat_cmp) (into : List (set.FinSet nat_cmp)) (amounts : List ℕ) → IsLean n into amounts → IsWithin n within → (c p : ℕ) → flow_of (rows n (shown n within into amounts)) c p ≡ shown n within into amounts c p
+pub shown_is : (n : ℕ) (within : set.FinSet nat_cmp) (into : List (set.FinSet nat_cmp)) (amounts : List ℕ) → IsLean n into amounts
+    → IsWithin n within → (c p : ℕ) → flow_of (rows n (shown n within into amounts)) c p ≡ shown n within into amounts c p
 shown_is n within into amounts lean below =
     flow_of-rows n (shown n within into amounts) (λ c p past. not_sent n within into amounts c p lean below past)
     (λ c p past. not_received n within into amounts c p (false_from_ne_true _ (λ m. omega (arith, past, below p m))))

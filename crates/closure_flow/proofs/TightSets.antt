@@ -1,5 +1,6 @@
 -- Tight sets are those that a search finds: closed, with all that send flow to them.
-use Rattle.std.proofs.Common.{◌≡◌, ℕ, ◌+◌, ◌*◌, ◌^◌, ◌<◌, ◌≤◌, ◌⊎◌, inl, inr, List, [], ◌∷◌, length, Bool, true, false, cond, Option, Some, None, MatchOption, is_some, not}
+use Rattle.std.proofs.Common.{◌≡◌, ℕ, ◌+◌, ◌*◌, ◌^◌, ◌<◌, ◌≤◌, ◌⊎◌, inl, inr, List, [], ◌∷◌, length, Bool, true}
+use Rattle.std.proofs.Common.{false, cond, Option, Some, None, MatchOption, is_some, not}
 use Rattle.std.proofs.Common.{ℤ, pos, ◌<ℤ◌, refl, sym, ap, ◌∙◌, subst, arith}
 use Rattle.std.specs.Prelude.{Contains}
 use Rattle.std.proofs.lemmas.Bool.{cases_Bool, cases_eq, cases_lt, false_from_ne_true}
@@ -10,7 +11,8 @@ use Rattle.std.specs.FinSet as set
 use Rattle.lists.proofs.Cases.{clash}
 use Rattle.lists.proofs.Entries.{Contains-head}
 use Rattle.arithmetic.specs.Sums.{total}
-use Rattle.bitset.specs.Members.{empty_has_none, from_insert, len_bound, insert_here, from_remove, remove_other, in_minus, minus_parts, from_meet, to_meet, to_union_right}
+use Rattle.bitset.specs.Members.{empty_has_none, from_insert, len_bound, insert_here, from_remove, remove_other}
+use Rattle.bitset.specs.Members.{in_minus, minus_parts, from_meet, to_meet, to_union_right}
 use Rattle.bitset.specs.Places.{IsLeast, IsWithin, places}
 use Rattle.bitset.specs.Sets.{contains-empty, len-places, places-Contains}
 use Rattle.closure_flow.specs.declared.queue.Entry.{Entry}

@@ -1,5 +1,6 @@
 -- Where each covering parent stands before its children, each ancestor stands before its descendants.
-use Rattle.std.proofs.Common.{◌≡◌, ◌≢◌, ℕ, zero, suc, ◌+◌, ◌<◌, ◌≤◌, ◌⊎◌, inl, inr, true, false, not, nat_eq, List, [], ◌∷◌, ◌++◌, sym, ap, ◌∙◌, subst, arith, eq-eqb}
+use Rattle.std.proofs.Common.{◌≡◌, ◌≢◌, ℕ, zero, suc, ◌+◌, ◌<◌, ◌≤◌, ◌⊎◌, inl, inr, true, false, not, nat_eq, List}
+use Rattle.std.proofs.Common.{[], ◌∷◌, ◌++◌, sym, ap, ◌∙◌, subst, arith, eq-eqb}
 use Rattle.std.specs.Prelude.{Contains}
 use Rattle.std.proofs.lemmas.Bool.{cases_eq, cases_Bool}
 use Rattle.std.proofs.lemmas.List.Elements.{Contains-append_right}
@@ -28,7 +29,8 @@ module _ (n : ℕ) (dep : Closure) (closed : IsClosed n dep) where
       let own : is_ancestor dep d d ≡ true = closed.order.reflexive d (closed.order.among a d e).1 in
       let inside : fin.len (ancestors_of dep a) ≤ fin.len (fin.remove (ancestors_of dep d) d) =
       len_within n _ _ (λ k m. above_within d k (from_remove (ancestors_of dep d) d k m).1)
-      (λ k m. to_remove (ancestors_of dep d) d k (λ same. ne (closed.order.antisymmetric a d e (subst (λ (j : ℕ). is_ancestor dep j a ≡ true) same m))) (closed.order.transitive k a d m e)) in
+      (λ k m. to_remove (ancestors_of dep d) d k
+      (λ same. ne (closed.order.antisymmetric a d e (subst (λ (j : ℕ). is_ancestor dep j a ≡ true) same m))) (closed.order.transitive k a d m e)) in
       omega (arith, inside, len_remove n (ancestors_of dep d) d (above_within d) own)
 
   -- a third place between two
@@ -61,7 +63,8 @@ module _ (n : ℕ) (dep : Closure) (closed : IsClosed n dep) where
   ]
 
   -- a covering parent that a proper ancestor is, or stands above
-  last_step : (fuel a d : ℕ) → is_ancestor dep a d ≡ true → a ≢ d → fin.len (ancestors_of dep d) ≤ fin.len (ancestors_of dep a) + fuel → (p : ℕ) × (is_ancestor dep a p ≡ true) × IsCover dep p d
+  last_step : (fuel a d : ℕ) → is_ancestor dep a d ≡ true → a ≢ d → fin.len (ancestors_of dep d) ≤ fin.len (ancestors_of dep a) + fuel
+      → (p : ℕ) × (is_ancestor dep a p ≡ true) × IsCover dep p d
   last_step zero a d e ne short = absurd (omega (arith, fewer_above a d e ne, short))
   last_step (suc fuel) a d e ne short = elim (some_between a d (places n (members_of dep))) [
     | inl third ↦

@@ -100,7 +100,8 @@ module _ (n : ℕ) (dep : Closure) (graph : model.Graph) (closed : IsClosed n de
       order = record {
         topological = topological;
         together = λ part h a b a_in b_in.
-            (let w = component a b (member_of part a h a_in) (member_of part b h b_in) in (connected_linked dep graph closed.order stands a b).1 (w.0, walk_linked w.0 a b w.1));
+            (let w = component a b (member_of part a h a_in) (member_of part b h b_in) in
+            (connected_linked dep graph closed.order stands a b).1 (w.0, walk_linked w.0 a b w.1));
       };
       falling = linear.falling;
       flows = λ part h. (let c = linear.flows part h in record {

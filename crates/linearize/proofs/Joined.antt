@@ -1,5 +1,7 @@
 -- A set is cut on a closed set of greatest weight: what the two are linearized to, one behind the other, linearizes the set.
-use Rattle.std.proofs.Common.{◌≡◌, ◌≢◌, ℕ, zero, suc, ◌+◌, ◌*◌, ◌^◌, ◌<◌, ◌≤◌, inl, inr, true, List, [], ◌∷◌, ◌++◌, length, map, sum_by, ℤ, pos, ◌+ℤ◌, ◌*ℤ◌, ◌≤ℤ◌, ◌<ℤ◌, unsigned_abs, refl, sym, ap, ◌∙◌, subst, arith, append_assoc, length-append}
+use Rattle.std.proofs.Common.{◌≡◌, ◌≢◌, ℕ, zero, suc, ◌+◌, ◌*◌, ◌^◌, ◌<◌, ◌≤◌, inl, inr, true, List, [], ◌∷◌, ◌++◌}
+use Rattle.std.proofs.Common.{length, map, sum_by, ℤ, pos, ◌+ℤ◌, ◌*ℤ◌, ◌≤ℤ◌, ◌<ℤ◌, unsigned_abs, refl, sym, ap, ◌∙◌}
+use Rattle.std.proofs.Common.{subst, arith, append_assoc, length-append}
 use Rattle.std.specs.Prelude.{Contains}
 use Rattle.std.proofs.lemmas.Int.{ints}
 use Rattle.std.proofs.lemmas.List.Sums.{sum_by-cons}
@@ -44,7 +46,8 @@ at_least_whole : (whole own : Sum) → pos 0 ≤ℤ weight_in whole own → AtMo
 at_least_whole whole own h = record { crossed = omega (arith, ints, h) }
 
 -- ---- lists of parts
-falls_joined : (xs ys : List Part) → Falls (map (λ part. part.rate) xs) → Falls (map (λ part. part.rate) ys) → ((x y : Part) → Contains xs x → Contains ys y → AtMost y.rate x.rate) → Falls (map (λ part. part.rate) (xs ++ ys))
+falls_joined : (xs ys : List Part) → Falls (map (λ part. part.rate) xs) → Falls (map (λ part. part.rate) ys)
+    → ((x y : Part) → Contains xs x → Contains ys y → AtMost y.rate x.rate) → Falls (map (λ part. part.rate) (xs ++ ys))
 falls_joined [] ys f g low = g
 falls_joined (x ∷ []) [] f g low = tt
 falls_joined (x ∷ []) (y ∷ ys) f g low = (low x y (Contains-head x []) (Contains-head y ys), g)
@@ -57,10 +60,12 @@ splits_at (a ∷ xs) x h = elim (Contains-cases a x xs h) [
   | inr later ↦ let found = splits_at xs x later in (a ∷ found.0, found.1, ap (λ zs. a ∷ zs) found.2)
 ]
 
-either_part : (P : Part → Type 0) (xs ys : List Part) → ((q : Part) → Contains xs q → P q) → ((q : Part) → Contains ys q → P q) → (q : Part) → Contains (xs ++ ys) q → P q
+either_part : (P : Part → Type 0) (xs ys : List Part) → ((q : Part) → Contains xs q → P q) → ((q : Part) → Contains ys q → P q) → (q : Part)
+    → Contains (xs ++ ys) q → P q
 either_part P xs ys f g q h = elim (Contains-append_cases xs ys q h) [ inl left ↦ f q left | inr right ↦ g q right ]
 
-module _ (n : ℕ) (dep : Closure) (s c : fin.FinSet nat_cmp) (closed : IsClosed n dep) (members : HoldsMembers dep s) (rates : HasRates dep) (best : IsCut n dep s c) where
+module _ (n : ℕ) (dep : Closure) (s c : fin.FinSet nat_cmp) (closed : IsClosed n dep) (members : HoldsMembers dep s) (rates : HasRates dep)
+    (best : IsCut n dep s c) where
   rest : fin.FinSet nat_cmp
   rest = fin.difference s c
 
@@ -118,7 +123,8 @@ module _ (n : ℕ) (dep : Closure) (s c : fin.FinSet nat_cmp) (closed : IsClosed
 
     order : IsOrderOf dep s (placed first ++ placed second)
     order = record {
-      once = distinct_joined (placed first) (placed second) one.order.once two.order.once (λ p a b. (minus_parts s c p ((two.order.exact p).0 b)).1 ((one.order.exact p).0 a));
+      once = distinct_joined (placed first) (placed second) one.order.once two.order.once
+          (λ p a b. (minus_parts s c p ((two.order.exact p).0 b)).1 ((one.order.exact p).0 a));
       exact = λ p. (
         λ h. elim (Contains-append_cases (placed first) (placed second) p h) [
           | inl a ↦ best.upper.inside p ((one.order.exact p).0 a)
@@ -126,16 +132,19 @@ module _ (n : ℕ) (dep : Closure) (s c : fin.FinSet nat_cmp) (closed : IsClosed
         ],
         λ m. elim (cases_Bool (fin.contains c p)) [
           | inl here ↦ Contains-append_left (placed first) (placed second) p ((one.order.exact p).1 here)
-          | inr out ↦ Contains-append_right (placed first) (placed second) p ((two.order.exact p).1 (in_minus s c p m (λ here. clash (fin.contains c p) here out)))
+          | inr out ↦ Contains-append_right (placed first) (placed second) p
+              ((two.order.exact p).1 (in_minus s c p m (λ here. clash (fin.contains c p) here out)))
         ],
       );
       parents_first = λ p d cover p_in d_in. elim (cases_Bool (fin.contains c d)) [
-        | inl d_here ↦ stands-append_right (placed first) (placed second) p d (one.order.parents_first p d cover (best.upper.parents p d cover d_here p_in) d_here)
+        | inl d_here ↦ stands-append_right (placed first) (placed second) p d
+            (one.order.parents_first p d cover (best.upper.parents p d cover d_here p_in) d_here)
         | inr d_out ↦
             let d_rest : fin.contains (fin.difference s c) d ≡ true = in_minus s c d d_in (λ here. clash (fin.contains c d) here d_out) in
             elim (cases_Bool (fin.contains c p)) [
               | inl p_here ↦ stands_across (placed first) (placed second) p d ((one.order.exact p).1 p_here) ((two.order.exact d).1 d_rest)
-              | inr p_out ↦ stands-append_left (placed first) (placed second) p d (two.order.parents_first p d cover (in_minus s c p p_in (λ here. clash (fin.contains c p) here p_out)) d_rest)
+              | inr p_out ↦ stands-append_left (placed first) (placed second) p d
+                  (two.order.parents_first p d cover (in_minus s c p p_in (λ here. clash (fin.contains c p) here p_out)) d_rest)
             ]
       ];
     }
@@ -149,7 +158,8 @@ module _ (n : ℕ) (dep : Closure) (s c : fin.FinSet nat_cmp) (closed : IsClosed
       filled = either_part (λ q. q.ids ≢ []) first second one.filled two.filled;
       falling = record {
         summed = either_part (λ q. q.rate ≡ sums (sum_at dep) q.ids) first second one.falling.summed two.falling.summed;
-        falling = falls_joined first second one.falling.falling two.falling.falling (λ a b h k. at_most_chains b.rate (sums_in n dep s) a.rate whole_some (low b k) (high a h));
+        falling = falls_joined first second one.falling.falling two.falling.falling
+            (λ a b h k. at_most_chains b.rate (sums_in n dep s) a.rate whole_some (low b k) (high a h));
       };
       flows = either_part (λ q. Certifies (sum_at dep) (IsCover dep) q.ids q.flows) first second one.flows two.flows;
       uncut = either_part (IsUncutPart n dep) first second one.uncut two.uncut;
@@ -158,12 +168,16 @@ module _ (n : ℕ) (dep : Closure) (s c : fin.FinSet nat_cmp) (closed : IsClosed
             inside = λ p m. best.upper.inside p (upper.inside p m);
             parents = λ p d cover m p_in. upper.parents p d cover m (best.upper.parents p d cover (upper.inside d m) p_in);
           })))
-          (λ q h. at_most_chains q.rate (sums_in n dep s) rate whole_some (low q h) (bound s (record { inside = λ p m. m; parents = λ p d cover m p_in. p_in })));
+          (λ q h. at_most_chains q.rate (sums_in n dep s) rate whole_some (low q h)
+          (bound s (record { inside = λ p m. m; parents = λ p d cover m p_in. p_in })));
       at_least = λ rate bound. either_part (λ q. AtMost rate q.rate) first second
-          (λ q h. at_most_chains rate (sums_in n dep s) q.rate whole_some (bound s (record { inside = λ p m. m; children = λ p d cover m d_in. d_in })) (high q h))
+          (λ q h. at_most_chains rate (sums_in n dep s) q.rate whole_some
+          (bound s (record { inside = λ p m. m; children = λ p d cover m d_in. d_in })) (high q h))
           (two.at_least rate (λ y lower. bound y (record {
             inside = λ p m. (minus_parts s c p (lower.inside p m)).0;
-            children = λ p d cover m d_in. lower.children p d cover m (in_minus s c d d_in (λ here. (minus_parts s c p (lower.inside p m)).1 (best.upper.parents p d cover here (minus_parts s c p (lower.inside p m)).0)));
+            children = λ p d cover m d_in. lower.children p d cover m
+                (in_minus s c d d_in (λ here. (minus_parts s c p (lower.inside p m)).1
+                (best.upper.parents p d cover here (minus_parts s c p (lower.inside p m)).0)));
           })));
     }
 
@@ -186,10 +200,12 @@ module _ (n : ℕ) (dep : Closure) (s c : fin.FinSet nat_cmp) (closed : IsClosed
       let square = ap (λ (k : ℕ). k * k) both_lens in
       let parts : mid.parts ≡ old.parts ++ adds.parts = ap (λ (w : Written). w.parts) adds.is in
       let a : length (placed mid.parts) ≡ length (placed old.parts) + length (placed adds.parts) =
-      ap (λ ps. length (placed ps)) parts ∙ ap length (flat_map-append (λ part. part.ids) old.parts adds.parts) ∙ length-append (placed old.parts) (placed adds.parts) in
+      ap (λ ps. length (placed ps)) parts ∙ ap length (flat_map-append (λ part. part.ids) old.parts adds.parts)
+      ∙ length-append (placed old.parts) (placed adds.parts) in
       let b : length mid.parts ≡ length old.parts + length adds.parts = ap length parts ∙ length-append old.parts adds.parts in
       let d : length (flows_in mid.parts) ≡ length (flows_in old.parts) + length (flows_in adds.parts) =
-      ap (λ ps. length (flows_in ps)) parts ∙ ap length (flat_map-append (λ part. part.flows) old.parts adds.parts) ∙ length-append (flows_in old.parts) (flows_in adds.parts) in
+      ap (λ ps. length (flows_in ps)) parts ∙ ap length (flat_map-append (λ part. part.flows) old.parts adds.parts)
+      ∙ length-append (flows_in old.parts) (flows_in adds.parts) in
       record {
         ids = ap (λ (w : Written). w.ids) adds.is;
         flows = ap (λ (w : Written). w.flows) adds.is;
@@ -209,7 +225,8 @@ module _ (n : ℕ) (dep : Closure) (s c : fin.FinSet nat_cmp) (closed : IsClosed
       ap length (flat_map-append (λ part. part.flows) one.parts two.parts) ∙ length-append (flows_in one.parts) (flows_in two.parts) in
       record {
         parts = one.parts ++ two.parts;
-        is = two.is ∙ ap (λ (ps : List Part). record { parts = ps; ids = []; flows = [] }) (ap (λ (ps : List Part). ps ++ two.parts) parts ∙ append_assoc old.parts one.parts two.parts);
+        is = two.is ∙ ap (λ (ps : List Part). record { parts = ps; ids = []; flows = [] })
+            (ap (λ (ps : List Part). ps ++ two.parts) parts ∙ append_assoc old.parts one.parts two.parts);
         linear = joined one.parts two.parts one.linear two.linear;
         places = (let p = one.places in let q = two.places in omega (arith, both_lens, a, p, q));
         few = (let p = one.few in let q = two.few in omega (arith, both_lens, b, p, q));
@@ -217,11 +234,13 @@ module _ (n : ℕ) (dep : Closure) (s c : fin.FinSet nat_cmp) (closed : IsClosed
       }
 
 -- an empty draft has room for every set
-pub start_room : (n : ℕ) (s : fin.FinSet nat_cmp) (written : Written) → IsWithin n s → written ≡ record { parts = []; ids = []; flows = [] } → HasRoom n s written
-start_room n s written within empty = subst (HasRoom n s) (sym empty) (let low : fin.len s ≤ n = len_bound n s within in let square = mul-le-mul low low in record {
-  ids = refl;
-  flows = refl;
-  for_places = omega (arith, low);
-  for_parts = omega (arith, low);
-  for_flows = omega (arith, square);
-})
+pub start_room : (n : ℕ) (s : fin.FinSet nat_cmp) (written : Written) → IsWithin n s → written ≡ record { parts = []; ids = []; flows = [] }
+    → HasRoom n s written
+start_room n s written within empty = subst (HasRoom n s) (sym empty)
+    (let low : fin.len s ≤ n = len_bound n s within in let square = mul-le-mul low low in record {
+      ids = refl;
+      flows = refl;
+      for_places = omega (arith, low);
+      for_parts = omega (arith, low);
+      for_flows = omega (arith, square);
+    })

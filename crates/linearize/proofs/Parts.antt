@@ -1,5 +1,6 @@
 -- A balanced set as one part.
-use Rattle.std.proofs.Common.{◌≡◌, ◌≢◌, ℕ, ◌*◌, ◌<◌, ◌≤◌, inl, inr, true, List, [], ◌∷◌, ◌++◌, length, map, pos, ◌-ℤ◌, refl, sym, ap, ◌∙◌, subst, arith, append-nil}
+use Rattle.std.proofs.Common.{◌≡◌, ◌≢◌, ℕ, ◌*◌, ◌<◌, ◌≤◌, inl, inr, true, List, [], ◌∷◌, ◌++◌, length, map, pos, ◌-ℤ◌}
+use Rattle.std.proofs.Common.{refl, sym, ap, ◌∙◌, subst, arith, append-nil}
 use Rattle.std.specs.Prelude.{Contains}
 use Rattle.std.proofs.lemmas.List.{length-map}
 use Rattle.std.specs.Ordering.{nat_cmp}
@@ -23,13 +24,15 @@ use Rattle.linearize.proofs.Certified.{in_of, ends_of, given_is, gotten_is}
 use Rattle.linearize.proofs.Lists.{distinct_places, total_any_order, sum_any_order}
 use Rattle.linearize.proofs.Triangles.{few_pairs}
 
-pub sums_of_order : (n : ℕ) (dep : Closure) (s : fin.FinSet nat_cmp) (ids : List ℕ) → IsWithin n s → IsOrderOf dep s ids → sums (sum_at dep) ids ≡ sums_in n dep s
+pub sums_of_order : (n : ℕ) (dep : Closure) (s : fin.FinSet nat_cmp) (ids : List ℕ) → IsWithin n s → IsOrderOf dep s ids
+    → sums (sum_at dep) ids ≡ sums_in n dep s
 sums_of_order n dep s ids within order =
     let fee : (sums (sum_at dep) ids).fee ≡ (sums_in n dep s).fee = total_any_order (λ p. (sum_at dep p).fee) n ids s within order.once order.exact in
     let size : (sums (sum_at dep) ids).size ≡ (sums_in n dep s).size = sum_any_order (λ p. (sum_at dep p).size) n ids s within order.once order.exact in
     λ i. record { fee = fee i; size = size i }
 
-module _ (n : ℕ) (dep : Closure) (parents : List (fin.FinSet nat_cmp)) (s : fin.FinSet nat_cmp) (flow : ℕ → ℕ → ℕ) (closed : IsClosed n dep) (members : HoldsMembers dep s) (covers : AreCovers dep parents) where
+module _ (n : ℕ) (dep : Closure) (parents : List (fin.FinSet nat_cmp)) (s : fin.FinSet nat_cmp) (flow : ℕ → ℕ → ℕ) (closed : IsClosed n dep)
+    (members : HoldsMembers dep s) (covers : AreCovers dep parents) where
   within : IsWithin n s
   within k m = closed.within k (members k m)
 
@@ -41,13 +44,15 @@ module _ (n : ℕ) (dep : Closure) (parents : List (fin.FinSet nat_cmp)) (s : fi
   sent_in f h =
       let sent = in_of n parents s flow (places n s) f h in
       let child : fin.contains s f.child ≡ true = (places-Contains n s f.child sent.child).1 in
-      let both : (fin.contains (parents_at parents f.child) f.parent ≡ true) × (fin.contains s f.parent ≡ true) = from_meet _ s f.parent (places-Contains n _ f.parent sent.parent).1 in
+      let both : (fin.contains (parents_at parents f.child) f.parent ≡ true) × (fin.contains s f.parent ≡ true) =
+      from_meet _ s f.parent (places-Contains n _ f.parent sent.parent).1 in
       (child, both.1, (covers.exact f.parent f.child (members f.child child)).0 both.0, sent.some)
 
   pub few_flows : 4 * length (flows_of n parents s flow (places n s)) ≤ fin.len s * fin.len s
   unfolding flows
   few_flows =
-      let of_pair : (c p : ℕ) → Contains {X = ℕ × ℕ} (map (λ f. (f.child, f.parent)) flows) (c, p) → (fin.contains s c ≡ true) × (fin.contains s p ≡ true) × IsCover dep p c = λ c p h.
+      let of_pair : (c p : ℕ) → Contains {X = ℕ × ℕ} (map (λ f. (f.child, f.parent)) flows) (c, p)
+      → (fin.contains s c ≡ true) × (fin.contains s p ≡ true) × IsCover dep p c = λ c p h.
       (let found = map-Contains (λ (f : Flow). (f.child, f.parent)) flows (c, p) h in
       let at = sent_in found.0 found.1 in (
         subst (λ (e : ℕ × ℕ). fin.contains s e.0 ≡ true) found.2 at.0,
@@ -107,7 +112,12 @@ module _ (n : ℕ) (dep : Closure) (parents : List (fin.FinSet nat_cmp)) (s : fi
     }
 
     pub one_added : (old new : Written) (whole : Sum) → 0 < fin.len s → length ids ≡ fin.len s → IsUncut n dep s → whole ≡ sums_in n dep s
-        → new ≡ record { parts = old.parts ++ record { rate = whole; ids = ids; flows = flows_of n parents s flow (places n s) } ∷ []; ids = []; flows = [] } → Adds n dep s old new
+        → new ≡ record {
+          parts = old.parts ++ record { rate = whole; ids = ids; flows = flows_of n parents s flow (places n s) } ∷ [];
+          ids =
+              [];
+          flows = [];
+        } → Adds n dep s old new
     unfolding part flows
     one_added old new whole some long uncut is made = record {
       parts = part ∷ [];

@@ -23,7 +23,13 @@ draw-requires g c =
         omega arith,
         (
           words_fit g.row.W _ _ _ net.sized,
-          (c.count-places.ensures.within, (c.requires.parents, (c.requires.place, allowed n weights _ _ (shown_in net) c.count-places.ensures.within balanced))),
+          (
+            c.count-places.ensures.within,
+            (
+              c.requires.parents,
+              (c.requires.place, allowed n weights _ _ (shown_in net) c.count-places.ensures.within balanced),
+            ),
+          ),
         ),
       ),
     )

@@ -25,7 +25,8 @@ split-requires g c =
     let dep = c.args.dep.now in
     let closed : IsClosed n dep = c.members-members.ensures.closed in
     let is : c.members-members.result ≡ members_of dep = c.members-members.ensures.members in
-    let member : (p : ℕ) → fin.contains c.members-members.result p ≡ true → is_member dep p ≡ true = λ p m. sym (contains-members_of dep p) ∙ subst (λ s. fin.contains s p ≡ true) is m in
+    let member : (p : ℕ) → fin.contains c.members-members.result p ≡ true → is_member dep p ≡ true = λ p m. sym (contains-members_of dep p)
+    ∙ subst (λ s. fin.contains s p ≡ true) is m in
     let len : fin.len c.members-members.result ≡ fin.len (members_of dep) = ap (λ s. fin.len s) is in
     let within : IsWithin n c.members-members.result = λ p m. closed.within p (member p m) in (
       scratch_fits g.row.W narrow,
@@ -62,7 +63,8 @@ pub returns-clause-certificate : goal.returns-clause-certificate
 returns-clause-certificate g c = λ graph stands.
     (let n : ℕ = 64 * g.row.W in
     let dep = c.args.dep.now in
-    let adds : Adds n dep (members_of dep) c.clear.new.self c.split.new.draft = subst (λ s. Adds n dep s c.clear.new.self c.split.new.draft) c.members-members.ensures.members c.split.ensures.adds in
+    let adds : Adds n dep (members_of dep) c.clear.new.self c.split.new.draft =
+    subst (λ s. Adds n dep s c.clear.new.self c.split.new.draft) c.members-members.ensures.members c.split.ensures.adds in
     let parts : c.split.new.draft.parts ≡ adds.parts = ap (λ (w : Written). w.parts) adds.is ∙ ap (λ (w : Written). w.parts ++ adds.parts) c.clear.ensures in
     subst (λ (ps : List Part). IsCertificate (sum_at dep) graph (model.IsCover graph.pairs) ps) (sym parts)
     (certificate n dep graph c.members-members.ensures.closed stands adds.parts c.requires.component adds.linear))
@@ -71,10 +73,12 @@ pub returns-clause-optimal : goal.returns-clause-optimal
 returns-clause-optimal g c = λ graph stands.
     (let n : ℕ = 64 * g.row.W in
     let dep = c.args.dep.now in
-    let adds : Adds n dep (members_of dep) c.clear.new.self c.split.new.draft = subst (λ s. Adds n dep s c.clear.new.self c.split.new.draft) c.members-members.ensures.members c.split.ensures.adds in
+    let adds : Adds n dep (members_of dep) c.clear.new.self c.split.new.draft =
+    subst (λ s. Adds n dep s c.clear.new.self c.split.new.draft) c.members-members.ensures.members c.split.ensures.adds in
     let parts : c.split.new.draft.parts ≡ adds.parts = ap (λ (w : Written). w.parts) adds.is ∙ ap (λ (w : Written). w.parts ++ adds.parts) c.clear.ensures in
     subst (λ (ps : List Part). IsOptimal (sum_at dep) graph (map (λ part. part.ids) ps)) (sym parts)
-    (c.certified_parts_are_optimal.ensures.by_covers (sum_at dep) graph adds.parts (has_sizes n dep graph c.members-members.ensures.closed stands c.requires.rates)
+    (c.certified_parts_are_optimal.ensures.by_covers (sum_at dep) graph adds.parts
+    (has_sizes n dep graph c.members-members.ensures.closed stands c.requires.rates)
     (certificate n dep graph c.members-members.ensures.closed stands adds.parts c.requires.component adds.linear)))
 
 pub returns-clause-minimal : goal.returns-clause-minimal

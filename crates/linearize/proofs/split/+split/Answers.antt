@@ -42,7 +42,8 @@ split-requires g t c κs within =
                         few = (let few = r.few in omega (arith, lens, few));
                         rates = r.rates;
                         covers = r.covers;
-                        room = subst (HasRoom n first) (sym c.in-Some.ensures.draft) (first_room n dep s first r.closed r.members r.rates best c.args.draft.now r.room);
+                        room = subst (HasRoom n first) (sym c.in-Some.ensures.draft)
+                            (first_room n dep s first r.closed r.members r.rates best c.args.draft.now r.room);
                       },
                       (let room = c.requires.weights in omega (arith, room, c.best.auto.weights)),
                     ),
@@ -68,7 +69,8 @@ split-requires-in-Some g t c κs within =
     let lens : fin.len s ≡ fin.len first + fin.len (fin.difference s first) = both_lens n dep s first r.closed r.members r.rates best in
     let some : 0 < fin.len first = best.some in
     let others : 0 < fin.len (fin.difference s first) = best.others in
-    let one : Adds n dep first c.args.draft.now c.split.new.draft = subst (λ w. Adds n dep first w c.split.new.draft) c.in-Some.ensures.draft c.split.ensures.adds in (
+    let one : Adds n dep first c.args.draft.now c.split.new.draft =
+    subst (λ w. Adds n dep first w c.split.new.draft) c.in-Some.ensures.draft c.split.ensures.adds in (
       (let less : fin.len c.minus-rest.result < fin.len s = omega (arith, same, lens, some) in search rules),
       (
         within,
@@ -92,7 +94,8 @@ split-requires-in-Some g t c κs within =
                         few = (let few = r.few in omega (arith, same, lens, few));
                         rates = r.rates;
                         covers = r.covers;
-                        room = subst (λ x. HasRoom n x c.split.new.draft) (sym is) (second_room n dep s first r.closed r.members r.rates best c.args.draft.now c.split.new.draft r.room one);
+                        room = subst (λ x. HasRoom n x c.split.new.draft) (sym is)
+                            (second_room n dep s first r.closed r.members r.rates best c.args.draft.now c.split.new.draft r.room one);
                       },
                       (let room = c.requires.weights in omega (arith, room, c.best.auto.weights, c.split.auto.weights)),
                     ),
@@ -126,7 +129,8 @@ returns-in-Some-clause-solves g t c =
     let lens = both_lens (64 * g.row.W) c.args.dep.now s first r.closed r.members r.rates c.in-Some.ensures.cut in
     two_solves (fin.len s) (fin.len first) (fin.len (fin.difference s first)) _ c.best.new.steps c.split.new.steps _ lens c.best.ensures.solve
     c.split.ensures.solves
-    (subst (λ x. AreOfSolves (fin.len x) c.split.new.steps c.split-in-Some.new.steps) {y = fin.difference s first} c.minus-rest.ensures c.split-in-Some.ensures.solves)
+    (subst (λ x. AreOfSolves (fin.len x) c.split.new.steps c.split-in-Some.new.steps)
+    {y = fin.difference s first} c.minus-rest.ensures c.split-in-Some.ensures.solves)
 
 pub returns-in_default-clause-solves : goal.returns-in_default-clause-solves
 returns-in_default-clause-solves g t c = one_solve _ _ _ c.requires.ready.some c.best.ensures.solve

@@ -14,7 +14,8 @@ pub solve-requires : goal.solve-requires
 solve-requires g c =
     let n : ℕ = 64 * g.row.W in
     let within : IsWithin n c.args.within.now = λ k m. c.requires.ready.closed.within k (c.requires.ready.members k m) in
-    let are : (t : ℕ) → fin.contains c.args.within.now t ≡ true → weight_at c.weigh.new.weights t ≡ weight_in (sums_in n c.args.dep.now c.args.within.now) (sum_at c.args.dep.now t) = λ t m.
+    let are : (t : ℕ) → fin.contains c.args.within.now t ≡ true
+    → weight_at c.weigh.new.weights t ≡ weight_in (sums_in n c.args.dep.now c.args.within.now) (sum_at c.args.dep.now t) = λ t m.
     c.weigh.ensures.are t m ∙ ap (λ w. weight_in w (sum_at c.args.dep.now t)) c.sum-whole.ensures.is in (
       scratch_fits g.row.W c.requires.narrow,
       (
@@ -25,7 +26,10 @@ solve-requires g c =
             λ t m. (let low : t < n = within t m in let room = c.requires.weights in omega (arith, low, room, c.weigh.auto.weights)),
             (
               λ t m. c.requires.ready.covers.there t (c.requires.ready.members t m),
-              (weights_even n c.args.dep.now c.args.parents.now c.weigh.new.weights c.args.within.now are, weights_small n c.weigh.new.weights c.args.within.now within c.requires.ready.few c.weigh.ensures.small),
+              (
+                weights_even n c.args.dep.now c.args.parents.now c.weigh.new.weights c.args.within.now are,
+                weights_small n c.weigh.new.weights c.args.within.now within c.requires.ready.few c.weigh.ensures.small,
+              ),
             ),
           ),
         ),
@@ -35,7 +39,8 @@ solve-requires g c =
 pub finish-requires : goal.finish-requires
 finish-requires g c =
     let n : ℕ = 64 * g.row.W in
-    let are : (t : ℕ) → fin.contains c.args.within.now t ≡ true → weight_at c.weigh.new.weights t ≡ weight_in (sums_in n c.args.dep.now c.args.within.now) (sum_at c.args.dep.now t) = λ t m.
+    let are : (t : ℕ) → fin.contains c.args.within.now t ≡ true
+    → weight_at c.weigh.new.weights t ≡ weight_in (sums_in n c.args.dep.now c.args.within.now) (sum_at c.args.dep.now t) = λ t m.
     c.weigh.ensures.are t m ∙ ap (λ w. weight_in w (sum_at c.args.dep.now t)) c.sum-whole.ensures.is in (
       scratch_fits g.row.W c.requires.narrow,
       (
