@@ -1,7 +1,7 @@
 -- Tight sets are those that a search finds: closed, with all that send flow to them.
 use Rattle.std.proofs.Common.{◌≡◌, ℕ, ◌+◌, ◌*◌, ◌^◌, ◌<◌, ◌≤◌, ◌⊎◌, inl, inr, List, [], ◌∷◌, length, Bool, true}
 use Rattle.std.proofs.Common.{false, cond, Option, Some, None, MatchOption, is_some, not}
-use Rattle.std.proofs.Common.{ℤ, pos, ◌<ℤ◌, refl, sym, ap, ◌∙◌, subst, arith}
+use Rattle.std.proofs.Common.{ℤ, pos, refl, sym, ap, ◌∙◌, subst, arith}
 use Rattle.std.specs.Prelude.{Contains}
 use Rattle.std.proofs.lemmas.Bool.{cases_Bool, cases_eq, cases_lt, false_from_ne_true}
 use Rattle.std.proofs.lemmas.Int.{ints}
@@ -12,21 +12,20 @@ use Rattle.lists.proofs.Cases.{clash}
 use Rattle.lists.proofs.Entries.{Contains-head}
 use Rattle.arithmetic.specs.Sums.{total}
 use Rattle.bitset.specs.Members.{empty_has_none, from_insert, len_bound, insert_here, from_remove, remove_other}
-use Rattle.bitset.specs.Members.{in_minus, minus_parts, from_meet, to_meet, to_union_right}
+use Rattle.bitset.specs.Members.{minus_parts, from_meet, to_meet, to_union_right}
 use Rattle.bitset.specs.Places.{IsLeast, IsWithin, places}
 use Rattle.bitset.specs.Sets.{contains-empty, len-places, places-Contains}
 use Rattle.closure_flow.specs.declared.queue.Entry.{Entry}
 use Rattle.closure_flow.specs.Closures.{IsBalanced, IsClosed, parents_at, weight_at, weight_of}
 use Rattle.closure_flow.specs.Flows.{Among, net}
 use Rattle.closure_flow.specs.Networks.{IsAllowed, IsSized}
-use Rattle.closure_flow.specs.Queues.{Grows, IsBeyond, Lists, from_at, place_at}
+use Rattle.closure_flow.specs.Queues.{Grows, IsBeyond, Lists, place_at}
 use Rattle.closure_flow.specs.Tight.{AreApart, IsDrawn, IsDrawnBy, IsFewestDrawn, IsLeastTight, IsSmallestTight, IsTight}
 use Rattle.closure_flow.proofs.Budgets.{len_mono}
 use Rattle.closure_flow.proofs.Cuts.{inside, net_of_entered, net_of_sealed}
 use Rattle.closure_flow.proofs.Lists.{total_along}
 use Rattle.closure_flow.proofs.Optimum.{counted_some, out_and_in, weight_inside}
 use Rattle.closure_flow.proofs.Paths.{among_places, places_among}
-use Rattle.closure_flow.proofs.Queues.{fewer}
 
 -- ---- drawn sets are the tight ones
 module _ (n : ℕ) (weights : List ℤ) (parents : List (set.FinSet nat_cmp)) (within : set.FinSet nat_cmp) (flow : ℕ → ℕ → ℕ)

@@ -346,7 +346,7 @@ fn slope<const W: usize>(alloc: Global, first: i64, step: i64) -> Result<Rows, F
     Ok(Rows { rates, pairs })
 }
 
-/// Chains in which the fee rises, stays, and falls.
+/// Chains in which the fee rises, stays, and falls: one part, and in the other two each member is one.
 fn chains<L: Ledger, const W: usize>(
     rt: &impl Abort,
     room: &mut Room<W>,
@@ -354,12 +354,9 @@ fn chains<L: Ledger, const W: usize>(
 ) -> Result<(), Fail>
     requires { W ≤ 2 }
 {
-    let sums = [
-        (2016, 134_400_000_000_000_000),
-        (8128, 268_800_000_000_000_000),
-    ];
+    let sums = [2016, 8128];
     assert!(rt; W > 0);
-    let (rising, level) = sums[W - 1];
+    let rising = sums[W - 1];
     let size = 64 * W as u64;
     let rows = slope::<W>(room.alloc, 0, 1)?;
     case(
@@ -377,7 +374,7 @@ fn chains<L: Ledger, const W: usize>(
         steps,
         rows.rates.as_slice(),
         rows.pairs.as_slice(),
-        &[(level, size)],
+        rows.rates.as_slice(),
     )?;
     let rows = slope::<W>(room.alloc, 64, -1)?;
     certified(

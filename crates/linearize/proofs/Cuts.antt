@@ -1,6 +1,6 @@
 -- Weights of sets, what the solver asks of them, and what its answers say: what a set may be cut on, and that it can't be cut.
-use Rattle.std.proofs.Common.{◌≡◌, ℕ, zero, suc, ◌+◌, ◌*◌, ◌^◌, ◌<◌, ◌≤◌, inl, inr, true, List, [], ◌∷◌, length, sum_by, ℤ, pos, ◌+ℤ◌}
-use Rattle.std.proofs.Common.{◌*ℤ◌, ◌≤ℤ◌, ◌<ℤ◌, unsigned_abs, refl, sym, ap, ◌∙◌, subst, arith}
+use Rattle.std.proofs.Common.{◌≡◌, ℕ, zero, suc, ◌*◌, ◌^◌, ◌<◌, ◌≤◌, inl, inr, true, List, [], ◌∷◌, length, sum_by, ℤ, pos, ◌+ℤ◌}
+use Rattle.std.proofs.Common.{◌≤ℤ◌, ◌<ℤ◌, unsigned_abs, refl, sym, ap, ◌∙◌, subst, arith}
 use Rattle.std.specs.Prelude.{Contains}
 use Rattle.std.proofs.lemmas.Bool.{cases_Bool}
 use Rattle.std.proofs.lemmas.Int.{ints}
@@ -16,15 +16,14 @@ use Rattle.lists.proofs.Cases.{clash}
 use Rattle.lists.proofs.Entries.{Contains-head, Contains-later}
 use Rattle.closure_flow.specs.Closures as closure
 use Rattle.closure_flow.specs.Closures.{weight_at, weight_of, IsNoneHeavier}
-use Rattle.closure_flow.specs.Tight.{IsSmallestTight, IsTight}
+use Rattle.closure_flow.specs.Tight.{IsSmallestTight}
 use Rattle.fee_rate.specs.declared.rates.Sum.{Sum}
-use Rattle.fee_rate.specs.Rates.{Same}
 use Rattle.graphs.proofs.FlowLemmas.{weight_of_sums}
 use Rattle.graphs.specs.Closures.{Closure, HoldsMembers}
 use Rattle.graphs.specs.Certificates.{weight_in}
 use Rattle.linearize.specs.Graphs.{sum_at}
 use Rattle.linearize.specs.Orders.{AreCovers, Balances, sums_in}
-use Rattle.linearize.specs.Splits.{IsCut, IsSolved, IsUncut, IsUpper}
+use Rattle.linearize.specs.Splits.{IsCut, IsUncut, IsUpper}
 use Rattle.linearize.proofs.Sets.{IsSplit, split_minus, total_split, len_remove, len_split}
 
 -- ---- weights

@@ -1,6 +1,6 @@
 -- A set is cut on a closed set of greatest weight: what the two are linearized to, one behind the other, linearizes the set.
-use Rattle.std.proofs.Common.{◌≡◌, ◌≢◌, ℕ, zero, suc, ◌+◌, ◌*◌, ◌^◌, ◌<◌, ◌≤◌, inl, inr, true, List, [], ◌∷◌, ◌++◌}
-use Rattle.std.proofs.Common.{length, map, sum_by, ℤ, pos, ◌+ℤ◌, ◌*ℤ◌, ◌≤ℤ◌, ◌<ℤ◌, unsigned_abs, refl, sym, ap, ◌∙◌}
+use Rattle.std.proofs.Common.{◌≡◌, ◌≢◌, ℕ, ◌+◌, ◌*◌, ◌≤◌, inl, inr, true, List, [], ◌∷◌, ◌++◌}
+use Rattle.std.proofs.Common.{length, map, pos, ◌≤ℤ◌, refl, sym, ap, ◌∙◌}
 use Rattle.std.proofs.Common.{subst, arith, append_assoc, length-append}
 use Rattle.std.specs.Prelude.{Contains}
 use Rattle.std.proofs.lemmas.Int.{ints}
@@ -15,26 +15,18 @@ use Rattle.fee_rate.proofs.Orders.{at_most_chains}
 use Rattle.bitset.specs.Members.{minus_parts, in_minus, from_union, to_union_left, to_union_right, len_bound}
 use Rattle.lists.proofs.Cases.{clash}
 use Rattle.graphs.proofs.BestLemmas.{stands-append_right, stands-append_left, stands_across}
-use Rattle.graphs.proofs.FlowLemmas.{weight_of_sums}
 use Rattle.graphs.specs.Closures.{Closure, IsCover, IsClosed, HoldsMembers, rate_of}
 use Rattle.lists.proofs.Entries.{Contains-head, Contains-later, Contains-cases, none_in_empty}
 use Rattle.lists.proofs.Distinct.{distinct_joined}
-use Rattle.arithmetic.specs.Sums.{total}
-use Rattle.arithmetic.proofs.Sums.{total-sub, total-scale, total_along}
-use Rattle.arithmetic.proofs.Products.{mul-add_right}
-use Rattle.arithmetic.proofs.Rates.{cross_trans}
 use Rattle.bitset.specs.Places.{places, IsWithin}
-use Rattle.bitset.specs.Sets.{places-Contains, places-empty, len-places}
-use Rattle.closure_flow.specs.Closures as closure
-use Rattle.closure_flow.specs.Closures.{weight_at, weight_of, IsNoneHeavier, parents_at}
+use Rattle.bitset.specs.Sets.{places-Contains, len-places}
 use Rattle.fee_rate.specs.declared.rates.Sum.{Sum}
 use Rattle.fee_rate.specs.Rates.{AtMost}
 use Rattle.graphs.specs.Rates.{sums, Falls}
-use Rattle.graphs.specs.Linearizations.{StandsBefore}
 use Rattle.graphs.specs.Certificates.{Part, weight_in, Certifies}
 use Rattle.linearize.specs.Drafts.{Written, placed, flows_in}
 use Rattle.linearize.specs.Graphs.{sum_at, HasRates}
-use Rattle.linearize.specs.Orders.{AreCovers, Balances, IsOrderOf, sums_in}
+use Rattle.linearize.specs.Orders.{IsOrderOf, sums_in}
 use Rattle.linearize.specs.Splits.{Linearizes, Adds, HasRoom, IsCut, IsUncutPart, IsUpper, IsLower}
 use Rattle.linearize.proofs.Cuts.{value_split}
 use Rattle.linearize.proofs.Sets.{IsSplit, split_minus, split_union, len_split}

@@ -1,19 +1,17 @@
 -- Distinct lists, and sums that pick one entry.
-use Rattle.std.proofs.Common.{◌≡◌, ℕ, ◌<◌, inl, inr, true, cond, nat_eq, List, [], ◌∷◌, ◌++◌, map, sum_by, ℤ, pos}
+use Rattle.std.proofs.Common.{◌≡◌, ℕ, inl, inr, true, cond, nat_eq, List, [], ◌∷◌, sum_by, ℤ, pos}
 use Rattle.std.proofs.Common.{refl, sym, ap, ◌∙◌, subst, arith, eq-eqb, ne_eqb}
 use Rattle.std.specs.Prelude.{Contains, ◌↔◌}
 use Rattle.std.proofs.lemmas.Int.{ints}
 use Rattle.std.proofs.lemmas.Bool.{cases_eq, false_from_ne_true}
 use Rattle.std.proofs.lemmas.List.Sums.{sum_by-cons}
-use Rattle.std.proofs.lemmas.List.Elements.{Contains-append_cases}
 use Rattle.std.specs.Ordering.{nat_cmp}
 use Rattle.std.specs.FinSet as fin
 use Rattle.arithmetic.proofs.Sums.{total-pos}
 use Rattle.bitset.specs.Members.{from_remove, to_remove}
-use Rattle.lists.proofs.Rising.{above_in, distinct_rising}
+use Rattle.lists.proofs.Rising.{distinct_rising}
 use Rattle.lists.proofs.Entries.{Contains-head, Contains-later, Contains-cases, none_in_empty}
 use Rattle.lists.specs.Distinct.{AreDistinct}
-use Rattle.lists.specs.Rising.{IsRising, AllAbove}
 use Rattle.arithmetic.specs.Sums.{total}
 use Rattle.bitset.specs.Places.{places, IsWithin}
 use Rattle.bitset.specs.Sets.{IsRising-places, places-empty, same_members, contains-empty}

@@ -8,7 +8,7 @@ use Rattle.std.specs.FinSet as fin
 use Rattle.bitset.specs.Members.{from_meet, to_meet, from_remove, to_remove, empty_has_none}
 use Rattle.lists.proofs.Distinct.{distinct_push}
 use Rattle.graphs.specs.Closures.{Closure, is_ancestor, ancestors_of, IsClosed}
-use Rattle.lists.proofs.Entries.{Contains-head, Contains-later, Contains-cases, none_in_empty}
+use Rattle.lists.proofs.Entries.{Contains-cases, none_in_empty}
 use Rattle.lists.specs.Distinct.{AreDistinct}
 use Rattle.bitset.specs.Places.{IsWithin}
 use Rattle.graphs.specs.Linearizations.{StandsBefore}

@@ -1,12 +1,10 @@
 -- Sets of places: members of changed sets, and sums over a set that is two others side by side.
-use Rattle.std.proofs.Common.{◌≡◌, ℕ, ◌+◌, ◌<◌, ◌≤◌, ◌⊎◌, inl, inr, Bool, true, false, cond, not, ◌&&◌, ◌||◌, nat_eq}
+use Rattle.std.proofs.Common.{◌≡◌, ℕ, ◌+◌, ◌<◌, ◌≤◌, ◌⊎◌, inl, inr, Bool, true, false, cond, not, ◌||◌}
 use Rattle.std.proofs.Common.{List, [], ◌∷◌, length, sum_by, ℤ, pos, ◌+ℤ◌, refl, sym, ap, ◌∙◌, subst, arith, eq-eqb}
 use Rattle.std.proofs.Common.{ne_eqb}
 use Rattle.std.proofs.lemmas.Int.{ints}
 use Rattle.std.proofs.lemmas.Bool.{cases_eq, false_from_ne_true, cases_Bool}
 use Rattle.std.proofs.lemmas.List.Sums.{sum_by-cons}
-use Rattle.std.proofs.lemmas.List.Filters.{length-filter_both}
-use Rattle.std.proofs.lemmas.List.FromFn.{length-range_with_len}
 use Rattle.std.specs.List.{range_with_len}
 use Rattle.std.specs.Ordering.{nat_cmp}
 use Rattle.std.specs.FinSet as fin
@@ -15,8 +13,8 @@ use Rattle.bitset.specs.Members.{from_remove, to_remove, from_union, to_union_le
 use Rattle.arithmetic.specs.Sums.{total}
 use Rattle.arithmetic.proofs.Sums.{total-add, total-filter_cond, total_same, total-pos}
 use Rattle.bitset.specs.Places.{places, IsWithin, IsLeast}
-use Rattle.bitset.specs.Sets.{contains-insert, contains-remove, contains-union, contains-intersection}
-use Rattle.bitset.specs.Sets.{contains-difference, contains-empty, len-places, places-least, places-empty}
+use Rattle.bitset.specs.Sets.{contains-insert}
+use Rattle.bitset.specs.Sets.{contains-empty, len-places, places-least, places-empty}
 use Rattle.bitset.specs.Sets.{same_members}
 
 not_is : (b : Bool) → not b ≡ true → b ≡ true → ⊥

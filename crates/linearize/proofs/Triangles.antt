@@ -10,9 +10,9 @@ use Rattle.std.specs.Ordering.{nat_cmp}
 use Rattle.std.specs.FinSet as fin
 use Rattle.lists.proofs.Cases.{or_true}
 use Rattle.bitset.specs.Members.{from_remove, to_remove}
-use Rattle.lists.proofs.Distinct.{distinct_kept, distinct-filter, distinct_map}
+use Rattle.lists.proofs.Distinct.{distinct-filter, distinct_map}
 use Rattle.graphs.specs.Closures.{Closure, IsCover, IsClosed}
-use Rattle.lists.proofs.Entries.{map-Contains, Contains-head, Contains-later, Contains-cases, none_in_empty, kept_cases, filter-Contains}
+use Rattle.lists.proofs.Entries.{map-Contains, Contains-head, Contains-later, filter-Contains}
 use Rattle.lists.specs.Distinct.{AreDistinct}
 use Rattle.bitset.specs.Places.{IsWithin}
 use Rattle.linearize.proofs.Sets.{len_remove}

@@ -1,4 +1,4 @@
-use Rattle.std.proofs.Common.{◌≡◌, ◌⊎◌, inl, inr, ℕ, ◌+◌, ◌*◌, ◌∙◌, List, None, length, Bool, true, ap, sym, subst, arith}
+use Rattle.std.proofs.Common.{◌≡◌, ◌⊎◌, inl, inr, ℕ, ◌+◌, ◌*◌, ◌∙◌, List, None, true, ap, sym, subst, arith}
 use Rattle.std.specs.FinSet as set
 use Rattle.lists.proofs.Cases.{clash}
 use Rattle.bitset.specs.Members.{from_union, len_bound, to_union_left}

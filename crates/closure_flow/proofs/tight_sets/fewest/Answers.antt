@@ -1,7 +1,6 @@
-use Rattle.std.proofs.Common.{◌≡◌, ◌<◌, ℕ, ◌+◌, ◌*◌, ◌∙◌, true, ap, sym, subst, arith}
+use Rattle.std.proofs.Common.{◌<◌, ℕ, ◌*◌, sym, subst, arith}
 use Rattle.std.specs.FinSet as set
 use Rattle.closure_flow.specs.Views.{shown_in}
-use Rattle.bitset.specs.Members.{len_bound}
 use Rattle.closure_flow.proofs.Networks.{words_fit}
 use Rattle.closure_flow.proofs.Queues.{fewer}
 use Rattle.closure_flow.proofs.TightSets.{Seeking, few_fit, seeking_start, seeking_step, seeking_end, seeking_one, steps_left}

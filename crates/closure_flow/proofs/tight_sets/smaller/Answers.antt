@@ -1,7 +1,4 @@
-use Rattle.std.proofs.Common.{ℕ, ◌*◌, ◌∙◌, inl, inr, ap, sym, subst, arith, refl}
-use Rattle.std.specs.FinSet as set
-use Rattle.bitset.specs.Members.{from_meet, to_meet}
-use Rattle.closure_flow.proofs.Optimum.{none_is_empty}
+use Rattle.std.proofs.Common.{inl, inr, arith, refl}
 use Rattle.closure_flow.proofs.TightSets.{apart_of_none, met_none}
 use Rattle.closure_flow.proofs.tight_sets.smaller.Goals as goal
 use Rattle.closure_flow.proofs.tight_sets.smaller.Goals.{else-is_none-via-then-is_none+else-count, else-is_none-via-else-is_none}

@@ -1,5 +1,4 @@
-use Rattle.std.proofs.Common.{◌≡◌, ℕ, ◌*◌, ◌∙◌, sym, arith}
-use Rattle.std.specs.FinSet as set
+use Rattle.std.proofs.Common.{ℕ, ◌*◌, arith}
 use Rattle.closure_flow.specs.Scratches.{flow_of}
 use Rattle.closure_flow.specs.Views.{shown_in}
 use Rattle.closure_flow.proofs.Networks.{network_fits, words_fit}

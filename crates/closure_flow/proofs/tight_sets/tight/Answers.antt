@@ -1,10 +1,4 @@
-use Rattle.std.proofs.Common.{◌≡◌, ◌<◌, ℕ, ◌*◌, ◌∙◌, List, ℤ, ap, sym, subst, arith, length, true}
-use Rattle.std.specs.FinSet as set
-use Rattle.lists.proofs.Cases.{clash}
-use Rattle.bitset.specs.Sets.{contains-empty}
-use Rattle.closure_flow.specs.Closures.{IsBalanced}
-use Rattle.closure_flow.specs.Scratches.{flow_of}
-use Rattle.closure_flow.specs.Tight.{AreApart}
+use Rattle.std.proofs.Common.{ℕ, ◌*◌, arith}
 use Rattle.closure_flow.specs.Views.{shown_in}
 use Rattle.closure_flow.proofs.Networks.{network_fits, words_fit}
 use Rattle.closure_flow.proofs.Shown.{balanced_shown}

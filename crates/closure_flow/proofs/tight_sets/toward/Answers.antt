@@ -1,5 +1,4 @@
-use Rattle.std.proofs.Common.{ℕ, ◌*◌, ◌∙◌, sym, arith}
-use Rattle.closure_flow.specs.Views.{shown_in}
+use Rattle.std.proofs.Common.{ℕ, ◌*◌}
 use Rattle.closure_flow.proofs.Networks.{network_fits, read_parents, shown_only, words_fit}
 use Rattle.closure_flow.proofs.Searches.{beyond_is}
 use Rattle.closure_flow.proofs.tight_sets.toward.Goals as goal

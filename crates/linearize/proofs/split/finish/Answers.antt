@@ -1,6 +1,5 @@
-use Rattle.std.proofs.Common.{◌≡◌, ◌<◌, ◌≤◌, ◌*◌, ◌∙◌, ℕ, sym, subst, arith, lit<, true}
+use Rattle.std.proofs.Common.{◌<◌, ◌≤◌, ◌*◌, ℕ, sym, subst, arith, lit<}
 use Rattle.std.specs.FinSet as fin
-use Rattle.bitset.specs.Places.{IsWithin}
 use Rattle.closure_flow.specs.Scratches.{Flow, flow_of}
 use Rattle.linearize.specs.Orders.{Balances}
 use Rattle.linearize.proofs.Cuts.{balances_of, cut_on, uncut_of}
