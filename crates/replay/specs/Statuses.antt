@@ -4,7 +4,7 @@ use Rattle.std.specs.Io.KnownBytes.{Appends}
 use Rattle.std.specs.declared.option.Option.{Option}
 use Rattle.outside.specs.Faults.{Rose}
 use Rattle.outside.specs.Transfers.{AppendsFront}
-use Rattle.graph_model.specs.Replies.{line_text}
+use Rattle.graph_model.specs.Words.{line_text}
 use Rattle.replay.specs.declared.input.End.{End}
 use Rattle.replay.specs.declared.input.End.TheVariants.{Told, Fault, Limit}
 use Rattle.replay.specs.declared.top.Status.{Status}

@@ -1,7 +1,7 @@
 //! The command `check`: whether a text is a certificate.
 ghost use Rattle.std.specs.Prelude.{◌≡◌, ◌≢◌, ℕ, ◌^◌, ◌<◌, ◌≤◌, ◌⊎◌, IfOk, length};
 ghost use Rattle.std.specs.Io.KnownBytes.{Appends};
-ghost use Rattle.graph_model.specs.Replies.{line_text};
+ghost use Rattle.graph_model.specs.Words.{line_text};
 ghost use Rattle.graph_model.specs.Lines.{max_input};
 ghost use Rattle.graph_model.specs.Texts.{Verification, Found, HasTextTypes, verification_text};
 ghost use Rattle.wire.specs.Drafts.{text_of, amount_of};
