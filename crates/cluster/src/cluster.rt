@@ -11,7 +11,7 @@ ghost use Rattle.cluster.specs.Steps.{GrowsWithin, least_steps, most_steps, leas
 
 use crate::list::ClusterList;
 use crate::making::{certified, copied, part};
-use crate::order::Order;
+use crate::order::{Order, flows_between, names_between};
 use crate::places::{list_chosen, place_of, take_out};
 use crate::work::Work;
 use bitset::Bits;
@@ -281,8 +281,8 @@ impl<const W: usize> Cluster<W> {
                 fee: part.fee,
                 size: part.size,
             },
-            ids: &self.order.names.as_slice()[from..part.end],
-            flows: &self.order.flows.as_slice()[flow_from..part.flow_end],
+            ids: names_between(self.order.names.as_slice(), from, part.end),
+            flows: flows_between(self.order.flows.as_slice(), flow_from, part.flow_end),
         }
     }
 

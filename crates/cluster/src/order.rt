@@ -1,4 +1,4 @@
-ghost use Rattle.std.specs.Prelude.{◌≡◌, ℕ, ◌*◌, ◌+◌, ◌<◌, ◌≤◌, ◌++◌, [], ◌∷◌, length, slice_index, map, Contains, IfOk, OnOk};
+ghost use Rattle.std.specs.Prelude.{◌≡◌, ℕ, ◌*◌, ◌+◌, ◌<◌, ◌≤◌, ◌++◌, [], ◌∷◌, length, slice_index, map, take, drop, ◌-◌, Contains, IfOk, OnOk};
 ghost use Rattle.std.specs.List.Sorted.{IsPermutation};
 ghost use Rattle.lists.specs.Distinct.{AreDistinct};
 ghost use Rattle.cluster.specs.Orders.{at_positions, named_at, AreRising, AreBelow, AddsFlows, IsPlaced, IsRead, StandAt};
@@ -27,6 +27,24 @@ pub(crate) struct Order {
     pub(crate) names: SmallVec<TxId, 2>,
     pub(crate) parts: SmallVec<PartEnd, 1>,
     pub(crate) flows: Vec<Flow>,
+}
+
+/// The names from one position on, before another.
+pub(crate) fn names_between(names: &[TxId], from: usize, to: usize) -> &[TxId]
+    requires start { from ≤ to }
+    requires end { to ≤ length names.now }
+    ensures { result.now ≡ take (to - from) (drop from names.now) }
+{
+    &names[from..to]
+}
+
+/// The flows from one position on, before another.
+pub(crate) fn flows_between(flows: &[Flow], from: usize, to: usize) -> &[Flow]
+    requires start { from ≤ to }
+    requires end { to ≤ length flows.now }
+    ensures { result.now ≡ take (to - from) (drop from flows.now) }
+{
+    &flows[from..to]
 }
 
 /// The order of a name alone.
@@ -67,6 +85,7 @@ pub(crate) fn read<const W: usize>(
     stand(linear.order(), positions);
     let mut order = SmallVec::new(alloc);
     name_places(&mut order, names, linear.order())?;
+    let own_names = order.as_slice();
     let shown = linear.parts();
     let all = linear.flows();
     let mut parts = SmallVec::new(alloc);
@@ -75,9 +94,9 @@ pub(crate) fn read<const W: usize>(
     for at in 0..shown.len() {
         let part = shown[at];
         add_flows(
-            &all[from..part.flow_end],
+            between(all, from, part.flow_end),
             positions,
-            order.as_slice(),
+            own_names,
             moved,
             &mut flows,
         )?;
@@ -89,6 +108,15 @@ pub(crate) fn read<const W: usize>(
         parts,
         flows,
     })
+}
+
+// The flows from one position on, before another.
+fn between(flows: &[PlaceFlow], from: usize, to: usize) -> &[PlaceFlow]
+    requires start { from ≤ to }
+    requires end { to ≤ length flows.now }
+    ensures { result.now ≡ take (to - from) (drop from flows.now) }
+{
+    &flows[from..to]
 }
 
 // A part's fee and size, and where it ends.
@@ -142,7 +170,7 @@ fn add_flows(
     ensures { OnOk result (AddsFlows own.now positions.now order.now flows.old.items flows.new.items) }
 {
     move_flows(own, positions, moved)?;
-    sort_flows(moved.as_mut_slice());
+    sort_flows(moved);
     name_flows(moved.as_slice(), order, flows)
 }
 
@@ -168,9 +196,9 @@ fn move_flows(
 }
 
 // Puts flows in their order: by child, then by parent.
-fn sort_flows(moved: &mut [PlaceFlow])
-    ensures same { IsPermutation moved.old moved.new }
-    ensures rises { AreRising moved.new }
+fn sort_flows(moved: &mut Vec<PlaceFlow>)
+    ensures same { IsPermutation moved.old.items moved.new.items }
+    ensures rises { AreRising moved.new.items }
 {
     moved.sort_unstable_by_key(|flow| (flow.child, flow.parent));
 }
