@@ -25,7 +25,7 @@ module _ (n : ℕ) (names : List ℕ) (g : Closure) (kept : IsNamed n names g) w
   pub member_place : (p : ℕ) → is_member g p ≡ true → p < length names
   member_place p member = ltb-true p (length names) (sym (kept.members p) ∙ member)
 
-  related_named : (p q : ℕ) → IsRelated g p q → IsRelated (named names g) (slice_index names p) (slice_index names q)
+  pub related_named : (p q : ℕ) → IsRelated g p q → IsRelated (named names g) (slice_index names p) (slice_index names q)
   related_named p q related = elim related [
     | inl up ↦ let ends = kept.order.among p q up in inl (named-ancestor names g kept.once p q (member_place p ends.0) (member_place q ends.1) ∙ up)
     | inr down ↦ let ends = kept.order.among q p down in inr (named-ancestor names g kept.once q p (member_place q ends.0) (member_place p ends.1) ∙ down)

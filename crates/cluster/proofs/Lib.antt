@@ -14,6 +14,9 @@ mod Reading
 mod Picking
 mod Following
 mod Solving
+mod At
+mod Linking
+mod Joining
 mod Oks
 mod Lone
 mod Copied

@@ -1,18 +1,12 @@
-use Rattle.std.proofs.Common.{◌≡◌, ◌*◌, ◌<◌, ℕ, length, slice_index, true, rules, sym, ap, ◌∙◌, subst}
-use Rattle.std.specs.Prelude.{Contains}
-use Rattle.fee_rate.specs.declared.rates.FeeRate.{FeeRate}
-use Rattle.graphs.specs.Closures.{is_member, rate_of}
+use Rattle.std.proofs.Common.{◌≡◌, ◌∙◌, sym, subst}
+use Rattle.graphs.specs.Closures.{rate_of}
 use Rattle.cluster.specs.Clusters.{Cluster}
-use Rattle.cluster.specs.Named.{named}
-use Rattle.cluster.proofs.Kept.{place_member}
-use Rattle.cluster.proofs.Names.{named-rate}
+use Rattle.cluster.proofs.At.{at_in, rate_at}
 use Rattle.cluster.proofs.cluster.Cluster.rate.Goals as goal
 
-pub rate-requires : goal.rate-requires
-rate-requires g c = ?
-
-pub place_of-requires : goal.place_of-requires
-place_of-requires g c = ?
-
 pub returns : goal.returns
-returns g c = ?
+returns g c =
+    c.rate.ensures
+    ∙ sym (subst (λ (s : Cluster). rate_of s.graph c.args.id ≡ rate_of c.self.inside.dep c.place_of.result) c.self.view_is
+    (rate_at c.self.inside.names.items c.self.inside.dep c.self.invariant.place.once c.place_of.result c.args.id
+    (at_in c.as_slice.result.now c.self.inside.names.items c.place_of.result c.args.id c.as_slice.ensures c.place_of.ensures.within c.place_of.ensures.here)))
