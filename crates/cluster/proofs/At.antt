@@ -1,8 +1,6 @@
 -- What a name has, by its place.
-use Rattle.std.proofs.Common.{◌≡◌, ℕ, ◌<◌, Bool, true, List, length, slice_index, sym, ap, ap₂, ◌∙◌, subst, subst₂}
-use Rattle.std.specs.FinSet as set
-use Rattle.graphs.specs.Closures.{Closure, is_ancestor, rate_of, AddsPair, SetsFee}
-use Rattle.fee_rate.specs.declared.rates.FeeRate.{FeeRate}
+use Rattle.std.proofs.Common.{◌≡◌, ℕ, ◌<◌, List, length, slice_index, sym, ap, ap₂, ◌∙◌, subst}
+use Rattle.graphs.specs.Closures.{Closure, is_ancestor, rate_of}
 use Rattle.lists.specs.Distinct.{AreDistinct}
 use Rattle.cluster.specs.Named.{named}
 use Rattle.cluster.proofs.Names.{named-rate, named-ancestor}

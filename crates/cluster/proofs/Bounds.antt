@@ -3,14 +3,14 @@ use Rattle.std.proofs.Common.{◌≡◌, ◌≢◌, ◌↔◌, ◌⊎◌, ℕ, z
 use Rattle.std.specs.Prelude.{sum_by}
 use Rattle.std.specs.List.{flat_map, AllPairs}
 use Rattle.std.proofs.lemmas.List.Sums.{sum_by-append}
-use Rattle.std.proofs.lemmas.List.Elements.{Contains-append_cases, Contains-append_left, Contains-append_right, Contains-push_cases, Contains-push}
+use Rattle.std.proofs.lemmas.List.Elements.{Contains-append_cases, Contains-append_left, Contains-append_right, Contains-push_cases}
 use Rattle.std.proofs.lemmas.List.{map_push}
-use Rattle.lists.proofs.Distinct.{distinct_joined, distinct_without, distinct-append_left, distinct-append_right}
-use Rattle.lists.proofs.Entries.{Contains-cases, Contains-head, Contains-later, none_in_empty, Contains-splits, map-Contains, Contains-map}
+use Rattle.lists.proofs.Distinct.{distinct_joined, distinct-append_left, distinct-append_right}
+use Rattle.lists.proofs.Entries.{Contains-cases, Contains-head, Contains-later, none_in_empty, Contains-splits, map-Contains}
 use Rattle.lists.proofs.Walks.{Walk-keeps}
 use Rattle.lists.specs.Distinct.{AreDistinct}
 use Rattle.lists.specs.Walks.{Walk}
-use Rattle.graphs.specs.Closures.{Closure, is_member, is_ancestor, IsRelated}
+use Rattle.graphs.specs.Closures.{Closure}
 use Rattle.cluster.specs.Changes.{AreComponents, AreNearLeft, IsLeft}
 use Rattle.cluster.specs.Clusters.{Cluster, AreApart}
 use Rattle.cluster.specs.Steps.{most_steps, least_steps, most_steps_of, least_steps_of, GrowsWithin}
@@ -121,6 +121,9 @@ module _ (w : ℕ → ℕ) where
   abbrev cost : List (List ℕ) → ℕ
   cost lists = sum_by (λ ids. w (length ids)) lists
 
+  cost_first : (m : List ℕ) (ms : List (List ℕ)) → cost (m ∷ ms) ≡ w (length m) + cost ms
+  cost_first m ms = sum_by-append (λ (ids : List ℕ). w (length ids)) (m ∷ []) ms ∙ ap (λ k. k + cost ms) (Rattle.std.proofs.Common.zero-add (w (length m)))
+
   at_most : (done lists : List (List ℕ)) → AreApartLists done → ((m : List ℕ) → Contains done m → (x : ℕ) × Contains m x) → ((m : List ℕ) → Contains done m → IsMatched lists m) → cost done ≤ cost lists
   unfolding AreApartLists
   at_most [] lists apart some match = omega arith
@@ -128,25 +131,27 @@ module _ (w : ℕ → ℕ) where
       let one : IsMatched lists m = match m (Contains-head m ms) in
       let cut = Contains-splits lists one.list one.there in
       let rest : cost ms ≤ cost (cut.0 ++ cut.1) = at_most ms (cut.0 ++ cut.1) apart.1 (λ k here. some k (Contains-later m k ms here)) (λ k here.
-          (let other : IsMatched lists k = match k (Contains-later m k ms here) in
-          record {
-            list = other.list;
-            there = elim (Contains-append_cases cut.0 (one.list ∷ cut.1) other.list (subst (λ (zs : List (List ℕ)). Contains zs other.list) cut.2 other.there)) [
-              | inl before ↦ Contains-append_left cut.0 cut.1 other.list before
-              | inr after ↦ elim (Contains-cases one.list other.list cut.1 after) [
-                | inl equal ↦
-                    let at = some k (Contains-later m k ms here) in
-                    absurd (apart.0 k here at.0 ((one.same at.0).1 (subst (λ (ys : List ℕ). Contains ys at.0) (sym equal) ((other.same at.0).0 at.1))) at.1)
-                | inr later ↦ Contains-append_right cut.0 cut.1 other.list later
-              ]
-            ];
-            same = other.same;
-            long = other.long;
-          })) in
+      (let other : IsMatched lists k = match k (Contains-later m k ms here) in
+      record {
+        list = other.list;
+        there = elim (Contains-append_cases cut.0 (one.list ∷ cut.1) other.list (subst (λ (zs : List (List ℕ)). Contains zs other.list) cut.2 other.there)) [
+          | inl before ↦ Contains-append_left cut.0 cut.1 other.list before
+          | inr after ↦ elim (Contains-cases one.list other.list cut.1 after) [
+            | inl equal ↦
+                let at = some k (Contains-later m k ms here) in
+                absurd (apart.0 k here at.0 ((one.same at.0).1 (subst (λ (ys : List ℕ). Contains ys at.0) (sym equal) ((other.same at.0).0 at.1))) at.1)
+            | inr later ↦ Contains-append_right cut.0 cut.1 other.list later
+          ]
+        ];
+        same = other.same;
+        long = other.long;
+      })) in
       let whole : cost lists ≡ cost (cut.0 ++ one.list ∷ cut.1) = ap cost cut.2 in
       let split : cost (cut.0 ++ one.list ∷ cut.1) ≡ cost cut.0 + cost (one.list ∷ cut.1) = sum_by-append (λ (ids : List ℕ). w (length ids)) cut.0 (one.list ∷ cut.1) in
       let joined : cost (cut.0 ++ cut.1) ≡ cost cut.0 + cost cut.1 = sum_by-append (λ (ids : List ℕ). w (length ids)) cut.0 cut.1 in
       let same : w (length m) ≡ w (length one.list) = ap w one.long in
+      let first : cost (m ∷ ms) ≡ w (length m) + cost ms = cost_first m ms in
+      let second : cost (one.list ∷ cut.1) ≡ w (length one.list) + cost cut.1 = cost_first one.list cut.1 in
       omega arith
 
 -- some of the components cost no more than all

@@ -1,21 +1,22 @@
 -- The component that is taken out next.
-use Rattle.std.proofs.Common.{◌≡◌, ◌*◌, ℕ, ◌<◌, ◌≤◌, true, false, List, [], map, length, slice_index, Contains, inl, inr, ◌⊎◌, ◌↔◌, refl, sym, ap, ◌∙◌, subst, subst₂, arith, true≢false}
+use Rattle.std.proofs.Common.{◌≡◌, ℕ, ◌<◌, ◌≤◌, true, List, [], map, length, slice_index, Contains, inl, inr, ◌↔◌, refl, sym, ap, ◌∙◌, subst, subst₂, arith, true≢false}
 use Rattle.std.specs.Ordering.{nat_cmp}
 use Rattle.std.specs.FinSet as set
 use Rattle.lists.proofs.Distinct.{one_place}
 use Rattle.lists.proofs.Walks.{Walk-map, Walk-push}
 use Rattle.lists.specs.Walks.{Walk}
 use Rattle.bitset.specs.Places.{places, IsLeast, IsWithin}
-use Rattle.graphs.specs.Closures.{Closure, is_member, is_ancestor, IsNear, IsRelated}
+use Rattle.graphs.specs.Closures.{Closure, is_ancestor, IsNear, IsRelated}
 use Rattle.cluster.specs.Changes.{IsChosen, AreNearLeft, IsLeft}
 use Rattle.cluster.specs.Clusters.{Cluster, IsCluster}
 use Rattle.cluster.specs.Named.{named, IsNamed}
 use Rattle.cluster.proofs.Bounds.{IsOneOf}
-use Rattle.cluster.proofs.Kept.{related_named}
+use Rattle.cluster.proofs.Kept.{related_named, place_member}
 use Rattle.cluster.proofs.Lists.{chosen_once, names_chosen}
 use Rattle.cluster.proofs.Names.{named-member, member-stands, named-ancestor}
-use Rattle.cluster.proofs.Splits.{Splitting, component_inside, component_whole}
-use Rattle.std.proofs.lemmas.List.Elements.{Contains-get_or}
+use Rattle.lists.proofs.Entries.{Contains-map}
+use Rattle.bitset.specs.Sets.{contains-empty}
+use Rattle.cluster.proofs.Splits.{Splitting, IsDoneAt, component_inside, component_whole}
 use Rattle.std.proofs.Common.{All}
 
 module _ (n : ℕ) (names : List ℕ) (g : Closure) (kept : IsNamed n names g) (gone : List ℕ) (rest chosen : set.FinSet nat_cmp) (parts : List Cluster) (first : ℕ) (so : Splitting n names g gone rest parts) (least : IsLeast rest first)
@@ -71,7 +72,7 @@ module _ (n : ℕ) (names : List ℕ) (g : Closure) (kept : IsNamed n names g) (
   pub chosen_one : IsOneOf (named names g) gone ids
   chosen_one = record {
     once = chosen_once n names chosen chosen_within kept.once;
-    some = (slice_index names first, held first chosen_some.1);
+    some = (slice_index names first, held first ((is first).1 ([], refl)));
     left = λ a here. (let at = at_chosen a here in subst (IsLeft (named names g) gone) at.3 (left_at at.0 (in_rest at.0 at.2)));
     whole = joined;
     alone = spreads;
@@ -84,3 +85,27 @@ module _ (n : ℕ) (names : List ℕ) (g : Closure) (kept : IsNamed n names g) (
       let at = at_chosen x new in
       let same : done.first ≡ at.0 = one_place names done.first at.0 0 kept.once done.first_done.low at.1 (done.first_is ∙ sym at.3) in
       true≢false (sym (in_rest at.0 at.2) ∙ ap (set.contains rest) (sym same) ∙ done.first_done.taken)
+
+-- ---- the parts so far
+
+pub part_whole : (n : ℕ) (parts : List Cluster) → All (IsCluster n) parts → (c : Cluster) → Contains parts c → IsCluster n c
+part_whole n parts all c here = subst (IsCluster n) here.2 (all here.0 c here.1)
+
+-- where nothing is left to do, every name that is left is in a part
+pub held_all : (n : ℕ) (names : List ℕ) (g : Closure) (kept : IsNamed n names g) (gone : List ℕ) (rest : set.FinSet nat_cmp) (parts : List Cluster) → Splitting n names g gone rest parts → rest ≡ set.empty
+    → (id : ℕ) → IsLeft (named names g) gone id → (m : List ℕ) × Contains (map (λ (c : Cluster). c.names) parts) m × Contains m id
+held_all n names g kept gone rest parts so none id left =
+    let at = member-stands names g kept.once id left.0 in
+    let done : IsDoneAt names gone rest at.0 = record { low = at.1; other = λ held. left.1 (subst (Contains gone) at.2 held); taken = ap (λ s. set.contains s at.0) none ∙ contains-empty at.0 } in
+    let up = so.back id id (record {
+      first = at.0;
+      second = at.0;
+      first_done = done;
+      second_done = done;
+      first_is = at.2;
+      second_is = at.2;
+      above = kept.order.reflexive at.0 (place_member n names g kept at.0 at.1);
+    }) in
+    let cluster : IsCluster n up.0 = part_whole n parts so.whole up.0 up.1 in
+    let member : Contains up.0.names id = (cluster.members id).0 (cluster.order.among id id up.2).0 in
+    (up.0.names, Contains-map (λ (c : Cluster). c.names) parts up.0 up.1, member)

@@ -1,6 +1,6 @@
 -- The part of a graph that has all its members is the same graph.
-use Rattle.std.proofs.Common.{◌≡◌, ℕ, ◌+◌, ◌<◌, ◌≤◌, Bool, true, false, nat_lt, List, length, slice_index, inl, inr, ◌⊎◌, refl, sym, ap, ap₂, ◌∙◌, subst, subst₂, arith, zero-add, lt-ltb, le-ltb, ltb-true}
-use Rattle.std.proofs.lemmas.Bool.{cases_lt, false_from_ne_true}
+use Rattle.std.proofs.Common.{◌≡◌, ℕ, ◌<◌, true, false, nat_lt, List, length, slice_index, inl, inr, sym, ap, ap₂, ◌∙◌, subst, subst₂, zero-add, le-ltb}
+use Rattle.std.proofs.lemmas.Bool.{cases_lt}
 use Rattle.fee_rate.specs.declared.rates.FeeRate.{FeeRate}
 use Rattle.fee_rate.specs.Limits.{IsRate}
 use Rattle.graphs.specs.Closures.{Closure, is_member, is_ancestor, rate_of, members_of, IsClosed, IsPart, IsRelated}

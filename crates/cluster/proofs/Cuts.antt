@@ -1,11 +1,10 @@
 -- Lists that are joined of others, and cut again at their ends.
-use Rattle.std.proofs.Common.{◌≡◌, ℕ, zero, suc, ◌+◌, ◌-◌, ◌<◌, ◌≤◌, List, [], ◌∷◌, ◌++◌, length, map, take, drop, get_or, slice_index, refl, sym, ap, ap₂, ◌∙◌, subst, arith, length-append, append-nil}
+use Rattle.std.proofs.Common.{◌≡◌, ℕ, zero, suc, ◌+◌, ◌-◌, ◌<◌, ◌≤◌, List, [], ◌∷◌, ◌++◌, length, map, take, drop, get_or, slice_index, refl, sym, ap, ap₂, ◌∙◌, arith, length-append, append-nil}
 use Rattle.std.proofs.Math.Seq.{drop-append_seam}
 use Rattle.std.specs.List.{flat_map}
 use Rattle.lists.proofs.Entries.{first_of, rest_of, not_empty}
 use Rattle.graphs.specs.declared.names.Flow.{Flow}
 use Rattle.graphs.specs.Certificates.{Part}
-use Rattle.fee_rate.specs.declared.rates.Sum.{Sum}
 use Rattle.linearize.specs.Drafts.{placed, flows_in, totals}
 use Rattle.cluster.specs.declared.order.PartEnd.{PartEnd}
 use Rattle.cluster.specs.Kept.{cut_from, cut, sum_in, AreCut}

@@ -1,10 +1,9 @@
 -- Parts that were read are a pick where the parts that they were read from are certified.
-use Rattle.std.proofs.Common.{◌≡◌, ◌≢◌, ℕ, zero, suc, ◌+◌, ◌-◌, ◌<◌, ◌≤◌, Bool, List, [], ◌∷◌, ◌++◌, length, map, take, drop, get_or, slice_index, slice_index_or, Contains, inl, inr, ◌⊎◌, refl, sym, ap, ap₂, ◌∙◌, subst, subst₂, arith, length-append}
+use Rattle.std.proofs.Common.{◌≡◌, ℕ, suc, ◌+◌, ◌-◌, ◌<◌, ◌≤◌, List, [], ◌∷◌, ◌++◌, length, map, take, drop, get_or, slice_index, Contains, inl, inr, ◌⊎◌, refl, sym, ap, ◌∙◌, subst, subst₂, arith, length-append}
 use Rattle.std.proofs.lemmas.Bool.{cases_eq}
 use Rattle.std.proofs.lemmas.List.{length-map, get_or-map, get_or_default, map-append, take-append-drop, get_or-take, length-take-le, get_or_append_left, get_or-append_right}
 use Rattle.std.proofs.lemmas.List.Elements.{Contains-get_or}
 use Rattle.std.proofs.Math.Seq.{drop-cons}
-use Rattle.std.specs.List.{flat_map}
 use Rattle.lists.proofs.Distinct.{one_place, places_apart}
 use Rattle.lists.proofs.Entries.{Contains-cases, Contains-head, Contains-later, none_in_empty, Contains-map}
 use Rattle.lists.specs.Distinct.{AreDistinct}
@@ -19,7 +18,7 @@ use Rattle.graphs.specs.Merges.{Precedes}
 use Rattle.graphs.specs.Picks.{IsPick, FollowOrder, links_of}
 use Rattle.linearize.specs.declared.draft.PlaceFlow.{PlaceFlow}
 use Rattle.linearize.specs.Drafts.{placed}
-use Rattle.cluster.specs.Orders.{named_at, renamed_flow, AreBelow, AreRising, IsNoLater, AreRead, IsReadPart}
+use Rattle.cluster.specs.Orders.{named_at, renamed_flow, AreRead, IsReadPart}
 use Rattle.cluster.proofs.Moves.{Certifies-moved}
 use Rattle.cluster.proofs.Reading.{map_map, rates_read, placed_read}
 

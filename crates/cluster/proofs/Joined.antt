@@ -15,9 +15,9 @@ use Rattle.lists.specs.Walks.{Walk}
 use Rattle.bitset.specs.Places.{places, IsWithin}
 use Rattle.bitset.specs.Sets.{len-places}
 use Rattle.fee_rate.specs.declared.rates.FeeRate.{FeeRate}
-use Rattle.cluster.specs.Changes.{Joins, is_above, AreAcross}
+use Rattle.cluster.specs.Changes.{Joins, is_above}
 use Rattle.cluster.specs.Named.{named, IsNamed}
-use Rattle.cluster.proofs.Names.{Stands, Contains-stands, Stands-contains, named-ancestor, named-rate, member-stands}
+use Rattle.cluster.proofs.Names.{Stands, Stands-contains, named-ancestor, named-rate, member-stands}
 use Rattle.cluster.proofs.Kept.{by_places, ancestor_ends}
 use Rattle.cluster.proofs.Listings.{contains-members_of}
 

@@ -1,6 +1,7 @@
 -- Two clusters in one, by the names that are linked.
-use Rattle.std.proofs.Common.{◌≡◌, ℕ, ◌+◌, ◌-◌, ◌<◌, ◌≤◌, Bool, true, false, List, ◌++◌, length, slice_index, Contains, inl, inr, ◌⊎◌, refl, sym, ap, ◌∙◌, subst, subst₂, arith, length-append, lt-ltb, nat_lt}
+use Rattle.std.proofs.Common.{◌≡◌, ℕ, ◌+◌, ◌-◌, ◌<◌, ◌≤◌, true, false, List, ◌++◌, length, slice_index, Contains, inl, inr, refl, sym, ap, ◌∙◌, subst, subst₂, arith, length-append, lt-ltb}
 use Rattle.std.proofs.lemmas.List.{get_or_append_left, get_or-append_right}
+use Rattle.std.proofs.lemmas.List.Elements.{Contains-append_left, Contains-append_right}
 use Rattle.lists.proofs.Distinct.{one_place, distinct_joined}
 use Rattle.lists.specs.Distinct.{AreDistinct}
 use Rattle.graphs.specs.Closures.{Closure, is_member, is_ancestor, members_of, IsClosed, IsMerged, AddsPair}
@@ -58,3 +59,9 @@ module _ (n : ℕ) (xs ys : List ℕ) (f g h : Closure) (one : IsNamed n xs f) (
     pub join_graph : Joins (named xs f) (named ys g) parent child (named (xs ++ ys) new)
     join_graph =
         subst₂ (λ (x y : ℕ). Joins (named xs f) (named ys g) x y (named (xs ++ ys) new)) above.here below.here (Joins-named n xs ys f g h one two few apart merged new a b pair above.low below.low)
+
+pub in_both : (xs ys : List ℕ) (parent child : ℕ) → AreAcross xs ys parent child → Contains (xs ++ ys) parent × Contains (xs ++ ys) child
+in_both xs ys parent child sides = elim sides [
+  | inl up ↦ (Contains-append_left xs ys parent up.0, Contains-append_right xs ys child up.1)
+  | inr down ↦ (Contains-append_right xs ys parent down.0, Contains-append_left xs ys child down.1)
+]

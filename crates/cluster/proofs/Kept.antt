@@ -1,5 +1,5 @@
 -- What is kept of a cluster makes it one, by names, and still does after a change of its places.
-use Rattle.std.proofs.Common.{◌≡◌, ℕ, ℤ, ◌<◌, ◌≤◌, Bool, true, false, ◌&&◌, ◌||◌, List, [], ◌∷◌, length, slice_index, Option, Some, None, inl, inr, refl, sym, ap, ◌∙◌, subst, subst₂, lt-ltb, ltb-true, true≢false}
+use Rattle.std.proofs.Common.{◌≡◌, ℕ, ℤ, ◌<◌, Bool, true, false, ◌&&◌, ◌||◌, List, length, slice_index, Option, Some, None, inl, inr, refl, sym, ap, ◌∙◌, subst, subst₂, lt-ltb, ltb-true, true≢false}
 use Rattle.std.proofs.lemmas.Bool.{cases_eq, cases_Bool, or_cases, and_parts}
 use Rattle.std.specs.FinMap as map
 use Rattle.lists.proofs.Walks.{Walk-map}
@@ -8,7 +8,6 @@ use Rattle.lists.specs.Distinct.{AreDistinct}
 use Rattle.fee_rate.specs.Limits.{IsFee, IsRate}
 use Rattle.graphs.specs.Closures.{Node, Closure, is_member, is_ancestor, rate_of, rate_in, no_rate, IsOrder, IsClosed, AddsPair, SetsFee, IsRelated, AreLinked}
 use Rattle.lists.proofs.Cases.{same_test}
-use Rattle.lists.specs.Walks.{Walk}
 use Rattle.fee_rate.specs.declared.rates.FeeRate.{FeeRate}
 use Rattle.graphs.specs.Certificates.{Part}
 use Rattle.cluster.specs.Changes.{IsSame}

@@ -14,9 +14,13 @@ mod Reading
 mod Picking
 mod Following
 mod Solving
+mod Lone
+mod Oks
 mod At
+mod Copied
 mod Linking
 mod Joining
-mod Oks
-mod Lone
-mod Copied
+mod Splits
+mod Bounds
+mod Chosen
+mod Parting

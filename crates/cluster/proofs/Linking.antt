@@ -1,9 +1,8 @@
 -- A copy of a cluster's graph, with a change, by names.
-use Rattle.std.proofs.Common.{◌≡◌, ℕ, ℤ, ◌<◌, Bool, true, false, List, length, slice_index, refl, sym, ap, ◌∙◌, subst, subst₂}
+use Rattle.std.proofs.Common.{◌≡◌, ℕ, ℤ, true, false, List, sym, ◌∙◌, subst, subst₂}
 use Rattle.fee_rate.specs.Limits.{IsFee}
 use Rattle.graphs.specs.Closures.{Closure, is_member, is_ancestor, IsClosed, AddsPair, SetsFee}
 use Rattle.cluster.specs.Changes.{IsSame}
-use Rattle.cluster.specs.Clusters.{Cluster}
 use Rattle.cluster.specs.Named.{named, IsNamed}
 use Rattle.cluster.proofs.At.{IsAt, above_at}
 use Rattle.cluster.proofs.Kept.{place_member, AddsPair-named, SetsFee-named, AddsPair-same, SetsFee-same, IsNamed-pair, IsNamed-fee}

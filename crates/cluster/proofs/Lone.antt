@@ -2,15 +2,14 @@
 use Rattle.std.proofs.Common.{◌≡◌, ◌≢◌, ℕ, ℤ, ◌+◌, ◌<◌, ◌≤◌, Bool, true, List, [], ◌∷◌, ◌++◌, length, map, slice_index, Contains, refl, sym, ap, ap₂, ◌∙◌, subst, arith, pos, ◌-ℤ◌, ◌*ℤ◌, ◌+ℤ◌, ltb-true}
 use Rattle.std.proofs.lemmas.Int.{ints}
 use Rattle.lists.proofs.Entries.{Contains-cases, Contains-head, none_in_empty}
-use Rattle.lists.specs.Distinct.{AreDistinct}
 use Rattle.fee_rate.specs.declared.rates.FeeRate.{FeeRate}
 use Rattle.fee_rate.specs.declared.rates.Sum.{Sum}
 use Rattle.graphs.specs.declared.names.Flow.{Flow}
 use Rattle.graphs.specs.Graphs.{Graph, IsCover}
 use Rattle.graphs.specs.Rates.{sums}
 use Rattle.graphs.specs.Linearizations.{IsTopological, IsTogether}
-use Rattle.graphs.specs.Certificates.{Part, IsCertificate, Certifies, weight_in}
-use Rattle.graphs.specs.Closures.{Closure, is_member, is_ancestor, rate_of}
+use Rattle.graphs.specs.Certificates.{Part, Certifies, weight_in}
+use Rattle.graphs.specs.Closures.{Closure, is_member, rate_of}
 use Rattle.graphs.specs.Closing.{IsClosureOf}
 use Rattle.graphs.specs.Picks.{IsPick, FollowOrder, links_of}
 use Rattle.std.proofs.Common.{Result, Ok, Err, IfOk}
@@ -21,7 +20,7 @@ use Rattle.cluster.specs.Clusters.{sum_at}
 use Rattle.cluster.specs.Kept.{IsOrdered, AreCut, cut, sum_in}
 use Rattle.cluster.specs.Named.{named, IsNamed}
 use Rattle.cluster.proofs.Cuts.{cut_whole}
-use Rattle.cluster.proofs.Names.{Contains-stands, named-member, member-stands, named-rate}
+use Rattle.cluster.proofs.Names.{named-member, member-stands, named-rate}
 
 only : (x y : ℕ) → Contains (x ∷ []) y → x ≡ y
 only x y here = elim (Contains-cases x y [] here) as (λ _. x ≡ y) [ Rattle.std.proofs.Common.inl same ↦ same | Rattle.std.proofs.Common.inr later ↦ absurd (none_in_empty y later) ]

@@ -1,6 +1,6 @@
 -- Certificates whose flows stand in another order.
-use Rattle.std.proofs.Common.{◌≡◌, ◌≢◌, ℕ, ◌<◌, ◌≤◌, Bool, true, false, ◌&&◌, nat_eq, List, [], ◌∷◌, length, map, get_or, Contains, inl, inr, refl, sym, ap, ap₂, ◌∙◌, subst, arith, eq-eqb, ne_eqb, eqb-true, true≢false, cond, pos, ◌-ℤ◌}
-use Rattle.std.specs.Prelude.{sum_by, ◌==◌, if◌then◌else◌}
+use Rattle.std.proofs.Common.{◌≡◌, ℕ, Bool, true, false, ◌&&◌, nat_eq, List, [], ◌∷◌, map, get_or, Contains, inl, inr, refl, sym, ap, ap₂, ◌∙◌, eq-eqb, eqb-true, true≢false, pos, ◌-ℤ◌}
+use Rattle.std.specs.Prelude.{◌==◌, if◌then◌else◌}
 use Rattle.std.proofs.lemmas.Bool.{and_parts, false_from_ne_true}
 use Rattle.std.proofs.lemmas.List.Sorted.{IsPermutation-map, IsPermutation-sym, Contains-permutation, sum_by-IsPermutation}
 use Rattle.std.proofs.lemmas.Map.Keys.{IsDistinct-from_apart, IsDistinct-IsPermutation, IsDistinct-head, IsDistinct-tail}
@@ -11,8 +11,7 @@ use Rattle.lists.proofs.Entries.{Contains-cases, none_in_empty}
 use Rattle.lists.specs.Distinct.{AreDistinct}
 use Rattle.fee_rate.specs.declared.rates.Sum.{Sum}
 use Rattle.graphs.specs.declared.names.Flow.{Flow}
-use Rattle.graphs.specs.Certificates.{Certifies, given, gotten, weight_in}
-use Rattle.graphs.specs.Rates.{sums}
+use Rattle.graphs.specs.Certificates.{Certifies}
 
 -- whether two links are the same
 abbrev same_link : ℕ × ℕ → ℕ × ℕ → Bool

@@ -1,36 +1,19 @@
 -- What certifies an order of places is a pick by their names.
-use Rattle.std.proofs.Common.{◌≡◌, ◌≢◌, ◌↔◌, ℕ, zero, suc, ◌+◌, ◌<◌, ◌≤◌, Bool, true, false, cond, nat_eq, List, [], ◌∷◌, ◌++◌, length, map, take, drop, get_or, slice_index, slice_index_or, Contains, inl, inr, ◌⊎◌, refl, sym, ap, ap₂, ◌∙◌, subst, subst₂, arith, eqb-true, eq-eqb, true≢false}
-use Rattle.std.proofs.lemmas.Bool.{cases_eq, cases_Bool, cases_order}
-use Rattle.std.proofs.lemmas.List.{length-map, get_or-map, get_or_default}
+use Rattle.std.proofs.Common.{◌≡◌, ◌↔◌, ℕ, suc, ◌<◌, Bool, true, false, cond, nat_eq, List, [], ◌∷◌, length, map, slice_index, Contains, inl, inr, refl, sym, ap, ap₂, ◌∙◌, subst, subst₂, arith, eqb-true, eq-eqb, true≢false}
 use Rattle.std.proofs.lemmas.List.Elements.{Contains-get_or}
-use Rattle.std.specs.List.{flat_map}
-use Rattle.std.specs.List.Sorted.{IsPermutation}
-use Rattle.lists.proofs.Cases.{same_test}
-use Rattle.lists.proofs.Distinct.{one_place, places_apart}
-use Rattle.lists.proofs.Entries.{Contains-cases, Contains-head, Contains-later, none_in_empty, map-Contains, Contains-map}
-use Rattle.lists.specs.Distinct.{AreDistinct}
-use Rattle.fee_rate.specs.declared.rates.Sum.{Sum}
+use Rattle.lists.proofs.Distinct.{one_place}
+use Rattle.lists.proofs.Entries.{Contains-cases, none_in_empty, map-Contains, Contains-map}
 use Rattle.fee_rate.specs.declared.rates.FeeRate.{FeeRate}
-use Rattle.graphs.specs.declared.names.Flow.{Flow}
 use Rattle.graphs.specs.Graphs.{Graph, IsCover}
-use Rattle.graphs.specs.Rates.{sums, Falls}
-use Rattle.graphs.specs.Linearizations.{StandsBefore, IsTopological, IsTogether}
-use Rattle.graphs.specs.Certificates.{Part, IsCertificate, Certifies}
-use Rattle.graphs.specs.Closures.{Closure, is_member, is_ancestor, rate_of}
-use Rattle.graphs.specs.Closing.{IsClosureOf, Closes, renamed, renamed_part, KeepsApart, IsRenamed}
+use Rattle.graphs.specs.Certificates.{Part, IsCertificate}
+use Rattle.graphs.specs.Closures.{Closure, is_member, is_ancestor}
+use Rattle.graphs.specs.Closing.{IsClosureOf, renamed, renamed_part, KeepsApart, IsRenamed}
 use Rattle.graphs.specs.Laws.{RenamedIsClosed, CertificatesAreRenamed}
-use Rattle.graphs.specs.Merges.{Precedes}
-use Rattle.graphs.specs.Picks.{IsPick, FollowOrder, links_of}
-use Rattle.linearize.specs.declared.draft.PlaceFlow.{PlaceFlow}
-use Rattle.linearize.specs.Drafts.{placed}
 use Rattle.linearize.specs.Graphs as linear
-use Rattle.cluster.specs.Clusters.{ArePicked, sum_at}
+use Rattle.cluster.specs.Clusters.{sum_at}
 use Rattle.cluster.specs.Named.{named, IsNamed}
-use Rattle.cluster.specs.Orders.{named_at, renamed_flow, AreBelow, AreRising, IsNoLater, AreRead, IsReadPart}
-use Rattle.cluster.proofs.Names.{Stands, Contains-stands, Stands-contains, named-member, member-stands, named-rate, named-ancestor}
+use Rattle.cluster.proofs.Names.{Stands-contains, named-member, member-stands, named-rate, named-ancestor}
 use Rattle.cluster.proofs.Kept.{place_member, member_place}
-use Rattle.cluster.proofs.Moves.{Certifies-moved}
-use Rattle.cluster.proofs.Reading.{rates_read, placed_read}
 
 -- ---- the place of a name
 

@@ -15,8 +15,8 @@ use Rattle.linearize.specs.declared.draft.PlaceFlow.{PlaceFlow}
 use Rattle.linearize.specs.Drafts.{AreShown, placed, flows_in, named, totals}
 use Rattle.linearize.specs.Graphs.{sum_from}
 use Rattle.cluster.specs.declared.order.PartEnd.{PartEnd}
-use Rattle.cluster.specs.Kept.{AreCut, end_of, sum_in}
-use Rattle.cluster.specs.Orders.{at_positions, named_at, renamed_flow, AreBelow, AreRising, AddsFlows, AreRead, IsPlaced, IsRead, IsReadPart, StandAt}
+use Rattle.cluster.specs.Kept.{end_of, sum_in}
+use Rattle.cluster.specs.Orders.{at_positions, named_at, renamed_flow, AreBelow, AddsFlows, AreRead, IsPlaced, IsRead, IsReadPart, StandAt}
 use Rattle.cluster.proofs.Cuts.{reach, reach_more, reach_within, segment, at_reach, ended}
 
 -- tests on the entries of a list decide of what they are mapped to

@@ -1,5 +1,5 @@
 -- Flows that are sorted by child, then by parent.
-use Rattle.std.proofs.Common.{◌≡◌, ℕ, ◌<◌, ◌≤◌, Bool, true, false, cond, nat_lt, nat_eq, List, length, slice_index_or, inl, inr, ◌⊎◌, refl, sym, ap, ◌∙◌, arith, lt-ltb, le-ltb, eq-eqb, true≢false}
+use Rattle.std.proofs.Common.{◌≡◌, ℕ, ◌<◌, ◌≤◌, false, cond, nat_eq, List, slice_index_or, inl, inr, ◌⊎◌, sym, ap, ◌∙◌, arith, lt-ltb, le-ltb, eq-eqb, true≢false}
 use Rattle.std.proofs.lemmas.Bool.{cases_order, cases_lt}
 use Rattle.std.proofs.lemmas.Cmp.{on_total, then_total}
 use Rattle.std.proofs.lemmas.List.Sorted.{sorted_far, ranks_by}
@@ -9,7 +9,7 @@ use Rattle.std.specs.Cmp.{nat_cmp_total, IsTotalOrder}
 use Rattle.std.specs.List.Sorted.{IsSortedByKey}
 use Rattle.std.specs.Ordering.{nat_cmp, ordering_then, is_lt}
 use Rattle.linearize.specs.declared.draft.PlaceFlow.{PlaceFlow}
-use Rattle.cluster.specs.Orders.{AreRising, IsNoLater}
+use Rattle.cluster.specs.Orders.{AreRising}
 
 abbrev pub ends : PlaceFlow → ℕ × ℕ
 ends flow = (flow.child, flow.parent)

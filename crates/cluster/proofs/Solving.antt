@@ -1,13 +1,12 @@
 -- What the solver asks of a cluster's graph, and what its order gives.
-use Rattle.std.proofs.Common.{◌≡◌, ℕ, ◌+◌, ◌*◌, ◌^◌, ◌<◌, ◌≤◌, Bool, true, List, length, map, slice_index, Contains, inl, inr, refl, sym, ap, ◌∙◌, subst, subst₂, arith, lt-ltb, nat_lt, cond}
+use Rattle.std.proofs.Common.{◌≡◌, ℕ, ◌+◌, ◌*◌, ◌^◌, ◌≤◌, true, List, length, map, slice_index, inl, inr, sym, ◌∙◌, subst, arith}
 use Rattle.std.specs.FinSet as set
 use Rattle.lists.proofs.Distinct.{distinct_map}
 use Rattle.lists.proofs.Walks.{Walk-map}
 use Rattle.lists.specs.Distinct.{AreDistinct}
-use Rattle.lists.specs.Walks.{Walk, IsWalk}
 use Rattle.graphs.specs.Graphs.{Graph, IsCover}
 use Rattle.graphs.specs.Certificates.{Part, IsCertificate}
-use Rattle.graphs.specs.Closures.{Closure, is_member, is_ancestor, rate_of, members_of, IsNear, IsRelated}
+use Rattle.graphs.specs.Closures.{Closure, members_of, IsNear, IsRelated}
 use Rattle.graphs.specs.Closing.{IsClosureOf}
 use Rattle.graphs.specs.Laws.{RenamedIsClosed, CertificatesAreRenamed}
 use Rattle.graphs.specs.declared.names.Flow.{Flow}

@@ -1,5 +1,5 @@
 -- The loop that takes one component after another out of a cluster without a place.
-use Rattle.std.proofs.Common.{◌≡◌, ◌≢◌, ℕ, ◌<◌, ◌≤◌, Bool, true, false, not, ◌&&◌, cond, nat_eq, nat_lt, List, [], ◌∷◌, ◌++◌, length, filter, slice_index, get_or, Contains, All, zero-add, inl, inr, ◌⊎◌, ◌↔◌, refl, sym, ap, ap₂, ◌∙◌, subst, subst₂, arith, eq-eqb, ne_eqb, lt-ltb, ltb-true, true≢false}
+use Rattle.std.proofs.Common.{◌≡◌, ◌≢◌, ℕ, ◌<◌, ◌≤◌, Bool, true, false, not, ◌&&◌, cond, List, [], ◌∷◌, ◌++◌, length, filter, slice_index, get_or, Contains, All, zero-add, inl, inr, ◌⊎◌, ◌↔◌, refl, sym, ap, ap₂, ◌∙◌, subst, subst₂, arith, lt-ltb, ltb-true, true≢false}
 use Rattle.std.proofs.Common.{Option, Some, None, MatchOption}
 use Rattle.std.proofs.lemmas.Bool.{cases_eq, cases_Bool, and_parts, and_from, false_from_ne_true}
 use Rattle.std.proofs.lemmas.List.Elements.{Contains-append_left, Contains-push, Contains-push_cases, All-push, Contains-get_or}
@@ -15,7 +15,7 @@ use Rattle.lists.proofs.Walks.{Walk-push, Walk-trans, Walk-back}
 use Rattle.lists.specs.Walks.{Walk, IsWalk}
 use Rattle.lists.proofs.Entries.{Contains-cases}
 use Rattle.bitset.specs.Places.{places, first_places, IsLeast, IsWithin}
-use Rattle.bitset.specs.Sets.{contains-first_places, contains-remove, contains-difference, contains-empty, len-places}
+use Rattle.bitset.specs.Sets.{contains-first_places, contains-difference, contains-empty, len-places}
 use Rattle.cluster.specs.Clusters.{Cluster, IsCluster, AreApart}
 use Rattle.cluster.specs.Changes.{IsChosen, IsPartOf, IsAncestorIn, IsSplit}
 use Rattle.cluster.specs.Named.{named, IsNamed}

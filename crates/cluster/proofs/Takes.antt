@@ -1,6 +1,6 @@
 -- Places taken out of a set by their names.
-use Rattle.std.proofs.Common.{◌≡◌, ◌≢◌, ℕ, ◌+◌, ◌<◌, ◌≤◌, ◌↔◌, Bool, true, false, not, ◌&&◌, nat_eq, List, [], ◌∷◌, ◌++◌, take, length, slice_index, Contains, inl, inr, refl, sym, ap, ◌∙◌, subst, arith, ne_eqb, eq-eqb, true≢false}
-use Rattle.std.proofs.lemmas.Bool.{cases_eq, and_parts, and_from}
+use Rattle.std.proofs.Common.{◌≡◌, ℕ, ◌+◌, ◌<◌, ◌↔◌, true, not, ◌&&◌, nat_eq, List, [], ◌∷◌, ◌++◌, take, length, slice_index, Contains, inl, inr, sym, ap, ◌∙◌, subst, ne_eqb, eq-eqb, true≢false}
+use Rattle.std.proofs.lemmas.Bool.{and_parts, and_from}
 use Rattle.std.proofs.lemmas.List.{take_more}
 use Rattle.std.proofs.lemmas.List.Elements.{Contains-append_left, Contains-push, Contains-push_cases}
 use Rattle.std.specs.Ordering.{nat_cmp}

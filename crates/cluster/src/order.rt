@@ -2,7 +2,8 @@ ghost use Rattle.std.specs.Prelude.{◌≡◌, ℕ, ◌*◌, ◌+◌, ◌<◌, �
 ghost use Rattle.std.specs.List.Sorted.{IsPermutation};
 ghost use Rattle.lists.specs.Distinct.{AreDistinct};
 ghost use Rattle.cluster.specs.Orders.{at_positions, named_at, AreRising, AreBelow, AddsFlows, IsPlaced, IsRead, StandAt};
-ghost use Rattle.cluster.specs.Kept.{end_of};
+ghost use Rattle.cluster.specs.Kept.{end_of, sum_in};
+ghost use Rattle.linearize.specs.Graphs.{sum_from};
 
 use fee_rate::FeeRate;
 use graphs::{Flow, TxId};
@@ -45,6 +46,40 @@ pub(crate) fn flows_between(flows: &[Flow], from: usize, to: usize) -> &[Flow]
     ensures { result.now ≡ take (to - from) (drop from flows.now) }
 {
     &flows[from..to]
+}
+
+/// Where the names of the part at a position begin: where those of the part before it end.
+pub(crate) fn names_start(parts: &[PartEnd], at: usize) -> usize
+    requires { at < length parts.now }
+    ensures first { at ≡ 0 → result ≡ 0 }
+    ensures later { (k : ℕ) → at ≡ k + 1 → result ≡ slice_index (map (λ part. part.end) parts.now) k }
+{
+    if at == 0 {
+        return 0;
+    }
+    parts[at - 1].end
+}
+
+/// Where the flows of the part at a position begin: where those of the part before it end.
+pub(crate) fn flows_start(parts: &[PartEnd], at: usize) -> usize
+    requires { at < length parts.now }
+    ensures first { at ≡ 0 → result ≡ 0 }
+    ensures later { (k : ℕ) → at ≡ k + 1 → result ≡ slice_index (map (λ part. part.flow_end) parts.now) k }
+{
+    if at == 0 {
+        return 0;
+    }
+    parts[at - 1].flow_end
+}
+
+/// The fee and the size of a part.
+pub(crate) fn rate_in(part: PartEnd) -> FeeRate
+    ensures { sum_from result ≡ sum_in part }
+{
+    FeeRate {
+        fee: part.fee,
+        size: part.size,
+    }
 }
 
 /// The order of a name alone.

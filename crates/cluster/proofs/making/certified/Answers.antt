@@ -1,4 +1,4 @@
-use Rattle.std.proofs.Common.{◌*◌, List, ℕ, subst, sym}
+use Rattle.std.proofs.Common.{◌*◌, List, ℕ, subst}
 use Rattle.cluster.specs.Kept.{IsOrdered, cut}
 use Rattle.cluster.proofs.Kept.{IsCluster-named}
 use Rattle.cluster.proofs.making.certified.Goals as goal

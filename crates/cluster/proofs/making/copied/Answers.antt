@@ -1,7 +1,7 @@
-use Rattle.std.proofs.Common.{◌≡◌, ◌*◌, true, rules, sym, ap, ◌∙◌, subst}
+use Rattle.std.proofs.Common.{◌*◌, rules, sym, ap, ◌∙◌, subst}
 use Rattle.std.specs.FinSet as set
 use Rattle.bitset.specs.Places.{places}
-use Rattle.graphs.specs.Closures.{is_member, members_of, IsPart}
+use Rattle.graphs.specs.Closures.{IsPart}
 use Rattle.cluster.proofs.Copied.{is_same, is_named}
 use Rattle.cluster.proofs.Listings.{contains-members_of}
 use Rattle.cluster.proofs.making.copied.Goals as goal

@@ -1,5 +1,4 @@
-use Rattle.std.proofs.Common.{◌≡◌, ◌*◌, ◌++◌, List, ℕ, length, map, slice_index, ap, ◌∙◌, sym, subst, subst₂, rules}
-use Rattle.std.proofs.lemmas.List.{length-map}
+use Rattle.std.proofs.Common.{◌≡◌, ◌*◌, ◌++◌, List, ℕ, map, slice_index, ap, ◌∙◌, sym, subst, subst₂, rules}
 use Rattle.bitset.specs.Places.{places}
 use Rattle.cluster.specs.Changes.{IsPartOf}
 use Rattle.cluster.specs.Named.{named, IsNamed}
@@ -16,9 +15,9 @@ certified-requires g c =
       (
         search rules,
         (
-        search rules,
-        subst (λ (xs : List ℕ). IsNamed (64 * g.row.W) xs c.in_ok-dep.dep) (sym items)
-            (IsNamed-part (64 * g.row.W) c.args.names.now c.args.dep.now c.in_ok-dep.dep c.args.chosen c.requires.named c.requires.within c.requires.some c.in_ok-dep.ensures c.members-members.ensures.closed c.requires.whole),
+          search rules,
+          subst (λ (xs : List ℕ). IsNamed (64 * g.row.W) xs c.in_ok-dep.dep) (sym items)
+              (IsNamed-part (64 * g.row.W) c.args.names.now c.args.dep.now c.in_ok-dep.dep c.args.chosen c.requires.named c.requires.within c.requires.some c.in_ok-dep.ensures c.members-members.ensures.closed c.requires.whole),
         ),
       ),
     )

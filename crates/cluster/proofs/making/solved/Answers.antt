@@ -1,4 +1,4 @@
-use Rattle.std.proofs.Common.{◌≡◌, ◌≤◌, ◌<◌, ◌*◌, ◌+◌, ◌^◌, ℕ, length, subst, sym, ap, ◌∙◌, arith, rules}
+use Rattle.std.proofs.Common.{◌≡◌, ◌≤◌, ◌*◌, length, arith, rules}
 use Rattle.std.specs.FinSet as set
 use Rattle.std.proofs.lemmas.Result.{IfOk-weaker}
 use Rattle.graphs.specs.Closures.{members_of}

@@ -1,4 +1,4 @@
-use Rattle.std.proofs.Common.{◌≡◌, ◌++◌, List, map, length, sym, ap, ◌∙◌, subst}
+use Rattle.std.proofs.Common.{List, map, sym, subst}
 use Rattle.std.specs.List.Sorted.{IsPermutation}
 use Rattle.std.proofs.lemmas.List.Sorted.{Contains-permutation, IsPermutation-sym}
 use Rattle.linearize.specs.declared.draft.PlaceFlow.{PlaceFlow}

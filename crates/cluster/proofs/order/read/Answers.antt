@@ -1,14 +1,9 @@
-use Rattle.std.proofs.Common.{◌≡◌, ◌≤◌, ◌<◌, ◌-◌, ◌+◌, ◌++◌, ℕ, List, [], ◌∷◌, slice_index_or, length, map, take, drop, slice_index, sym, ap, ◌∙◌, subst, arith}
+use Rattle.std.proofs.Common.{◌≡◌, ◌≤◌, ◌<◌, ◌+◌, ◌++◌, ℕ, List, [], ◌∷◌, slice_index_or, length, map, slice_index, sym, ap, ◌∙◌, subst, arith}
 use Rattle.std.specs.Prelude.{Contains, pos}
 use Rattle.linearize.specs.declared.draft.LinearPart.{LinearPart}
-use Rattle.linearize.specs.declared.draft.PlaceFlow.{PlaceFlow}
-use Rattle.linearize.specs.Drafts.{placed, named}
-use Rattle.graphs.specs.Certificates.{Part}
-use Rattle.lists.proofs.Entries.{none_in_empty}
-use Rattle.std.proofs.Common.{get_or}
-use Rattle.std.proofs.lemmas.List.Elements.{Contains-get_or}
-use Rattle.cluster.specs.Orders.{AddsFlows, AreBelow, IsRead, StandAt, at_positions}
-use Rattle.cluster.proofs.Reading.{Reading, Reading-start, Reading-more, Reading-all, cut_below, cut_moved, ends_within, flow_end_at}
+use Rattle.linearize.specs.Drafts.{placed}
+use Rattle.cluster.specs.Orders.{AddsFlows, StandAt}
+use Rattle.cluster.proofs.Reading.{Reading, Reading-more, Reading-all, cut_below, cut_moved, ends_within, flow_end_at}
 use Rattle.cluster.proofs.order.read.Goals as goal
 
 abbrev no_end : LinearPart

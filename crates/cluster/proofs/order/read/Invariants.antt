@@ -1,4 +1,3 @@
-use Rattle.std.proofs.Common.{◌≡◌}
 use Rattle.cluster.proofs.Reading.{Reading}
 use Rattle.cluster.proofs.order.read.Given as goal
 

@@ -1,4 +1,4 @@
-use Rattle.std.proofs.Common.{◌≡◌, ℕ, ◌*◌, List, length, false, rules, sym, ap, ◌∙◌, subst, subst₂}
+use Rattle.std.proofs.Common.{◌≡◌, ℕ, ◌*◌, List, false, rules, sym, ap, ◌∙◌, subst, subst₂}
 use Rattle.graphs.specs.Closures.{Closure, is_ancestor, AddsPair}
 use Rattle.cluster.specs.Clusters.{Cluster}
 use Rattle.cluster.specs.Named.{named, IsNamed}

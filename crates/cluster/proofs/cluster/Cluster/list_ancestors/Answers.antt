@@ -1,4 +1,4 @@
-use Rattle.std.proofs.Common.{◌≡◌, ℕ, true, ◌*◌, ◌<◌, ◌≤◌, ◌+◌, List, length, arith, rules, sym, ap, subst, slice_index}
+use Rattle.std.proofs.Common.{◌≡◌, ℕ, true, ◌*◌, ◌≤◌, ◌+◌, List, length, arith, rules, sym, ap, subst}
 use Rattle.lists.specs.Distinct.{AreDistinct}
 use Rattle.graphs.specs.Closures.{is_ancestor}
 use Rattle.bitset.specs.Places.{IsWithin}

@@ -1,4 +1,4 @@
-use Rattle.std.proofs.Common.{◌≡◌, ℕ, ℤ, ◌*◌, ◌≤◌, List, [], ◌∷◌, ◌++◌, length, sym, ap, ◌∙◌, subst, subst₂, rules, arith, to_z-of_z}
+use Rattle.std.proofs.Common.{◌≡◌, ℕ, ℤ, ◌*◌, ◌≤◌, List, [], ◌∷◌, ◌++◌, length, sym, ap, ◌∙◌, subst, rules, arith, to_z-of_z}
 use Rattle.std.specs.FinSet as set
 use Rattle.graphs.specs.Closures.{Closure, members_of, AddsPlace}
 use Rattle.cluster.specs.Clusters.{Cluster}

@@ -1,4 +1,4 @@
-use Rattle.std.proofs.Common.{◌≡◌, ℕ, ℤ, ◌*◌, List, length, rules, sym, ap, ◌∙◌, subst, subst₂, to_z-of_z}
+use Rattle.std.proofs.Common.{◌≡◌, ℕ, ℤ, ◌*◌, List, rules, sym, ap, ◌∙◌, subst, subst₂, to_z-of_z}
 use Rattle.graphs.specs.Closures.{Closure, SetsFee}
 use Rattle.cluster.specs.Clusters.{Cluster}
 use Rattle.cluster.specs.Named.{named, IsNamed}
