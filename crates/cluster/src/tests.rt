@@ -210,19 +210,78 @@ fn rate(fee: i64, size: u64) -> FeeRate {
     FeeRate { fee, size }
 }
 
-// A pair whose child pays more, a chain, and a star.
-fn small<L: Ledger, const W: usize>(
+// A cluster by its names: each but the first depends on one before it, and has a fee and a size.
+fn built<L: Ledger, const W: usize>(
     rt: &impl Abort,
     room: &mut Room<W>,
     steps: &mut Steps<L>,
-) -> Result<(), Fail>
+    rows: &[(TxId, TxId, i64, u64)],
+) -> Result<Cluster<W>, Fail>
     requires { W ≤ 2 }
 {
+    assert!(rt; rows.len() > 0);
+    let (_, first, fee, size) = rows[0];
+    let mut cluster = alone(rt, room, steps, first, rate(fee, size))?;
+    for at in 1..rows.len() {
+        let (parent, id, fee, size) = rows[at];
+        cluster = grown(rt, room, steps, &cluster, parent, id, rate(fee, size))?;
+    }
+    Ok(cluster)
+}
+
+// Another fee of a name, and what the parts are then.
+fn fee_case<L: Ledger, const W: usize>(
+    rt: &impl Abort,
+    room: &mut Room<W>,
+    steps: &mut Steps<L>,
+    old: &Cluster<W>,
+    change: (TxId, i64),
+    parts: &[(i64, u64)],
+) -> Result<(), Fail> {
     let alloc = room.alloc;
-    let one = alone(rt, room, steps, 1, rate(100, 200))?;
-    checked(rt, alloc, &one, &[(100, 200)])?;
-    let pair = grown(rt, room, steps, &one, 1, 2, rate(900, 200))?;
-    checked(rt, alloc, &pair, &[(1000, 400)])?;
+    let new = paying(rt, room, steps, old, change.0, change.1)?;
+    checked(rt, alloc, &new, parts)
+}
+
+// One more dependency, and what the parts are then.
+fn link_case<L: Ledger, const W: usize>(
+    rt: &impl Abort,
+    room: &mut Room<W>,
+    steps: &mut Steps<L>,
+    old: &Cluster<W>,
+    pair: (TxId, TxId),
+    parts: &[(i64, u64)],
+) -> Result<(), Fail> {
+    let alloc = room.alloc;
+    let new = linked(rt, room, steps, old, pair.0, pair.1)?;
+    checked(rt, alloc, &new, parts)
+}
+
+// The clusters without a name: how many they are, and the parts of one of them.
+fn left_case<L: Ledger, const W: usize>(
+    rt: &impl Abort,
+    room: &mut Room<W>,
+    steps: &mut Steps<L>,
+    old: &Cluster<W>,
+    id: TxId,
+    wanted: (usize, usize),
+    parts: &[(i64, u64)],
+) -> Result<(), Fail> {
+    let alloc = room.alloc;
+    let rest = left(rt, room, steps, old, id)?;
+    assert_eq!(rt; rest.len(), wanted.0);
+    assert!(rt; wanted.1 < rest.len());
+    checked(rt, alloc, &rest[wanted.1], parts)
+}
+
+// A child pays for its parent, by what it sends.
+fn pair_is_one_part<L: Ledger, const W: usize>(
+    rt: &impl Abort,
+    room: &mut Room<W>,
+    steps: &mut Steps<L>,
+    pair: &Cluster<W>,
+) -> Result<(), Fail> {
+    checked(rt, room.alloc, pair, &[(1000, 400)])?;
     assert_eq!(rt; pair.order(), [1, 2].as_slice());
     assert!(rt; pair.part_count() > 0);
     let flow = Flow {
@@ -231,45 +290,75 @@ fn small<L: Ledger, const W: usize>(
         amount: 160_000,
     };
     assert_eq!(rt; pair.part(0).flows, [flow].as_slice());
-    let turned = paying(rt, room, steps, &pair, 1, 901)?;
-    checked(rt, alloc, &turned, &[(901, 200), (900, 200)])?;
-    let rest = left(rt, room, steps, &pair, 1)?;
-    assert_eq!(rt; rest.len(), 1);
-    checked(rt, alloc, &rest[0], &[(900, 200)])
+    fee_case(rt, room, steps, pair, (1, 901), &[(901, 200), (900, 200)])?;
+    left_case(rt, room, steps, pair, 1, (1, 0), &[(900, 200)])
 }
 
-// 1 above 2 and 3, and 4 below 2: without 1 two clusters are left, and without 2 the others stay together.
-fn split<L: Ledger, const W: usize>(
+// Without all names no cluster is left.
+fn all_go<L: Ledger, const W: usize>(
+    rt: &impl Abort,
+    room: &mut Room<W>,
+    steps: &mut Steps<L>,
+    old: &Cluster<W>,
+) -> Result<(), Fail> {
+    let none = old.without(room.alloc, old.names(), &mut room.work, steps)?;
+    assert_eq!(rt; none.len(), 0);
+    Ok(())
+}
+
+// Without none of the names one cluster of all is left.
+fn none_goes<L: Ledger, const W: usize>(
+    rt: &impl Abort,
+    room: &mut Room<W>,
+    steps: &mut Steps<L>,
+    old: &Cluster<W>,
+) -> Result<(), Fail> {
+    let all = old.without(room.alloc, [].as_slice(), &mut room.work, steps)?;
+    assert_eq!(rt; all.len(), 1);
+    for cluster in all {
+        assert_eq!(rt; cluster.names(), old.names());
+    }
+    Ok(())
+}
+
+// 1 is above 2 and 3, and 4 below 2: without 1 two clusters are left, and without 2 the others stay together.
+fn four_fall_apart<L: Ledger, const W: usize>(
+    rt: &impl Abort,
+    room: &mut Room<W>,
+    steps: &mut Steps<L>,
+    four: &Cluster<W>,
+) -> Result<(), Fail> {
+    checked(rt, room.alloc, four, &[(12, 20), (5, 10)])?;
+    link_case(rt, room, steps, four, (3, 4), &[(12, 20), (5, 10)])?;
+    left_case(rt, room, steps, four, 1, (2, 0), &[(6, 5), (5, 10)])?;
+    left_case(rt, room, steps, four, 1, (2, 1), &[(6, 5)])?;
+    left_case(rt, room, steps, four, 2, (1, 0), &[(11, 25)])?;
+    all_go(rt, room, steps, four)?;
+    none_goes(rt, room, steps, four)
+}
+
+fn pair<L: Ledger, const W: usize>(
     rt: &impl Abort,
     room: &mut Room<W>,
     steps: &mut Steps<L>,
 ) -> Result<(), Fail>
     requires { W ≤ 2 }
 {
-    let alloc = room.alloc;
-    let one = alone(rt, room, steps, 1, rate(0, 10))?;
-    let two = grown(rt, room, steps, &one, 1, 2, rate(6, 5))?;
-    let three = grown(rt, room, steps, &two, 1, 3, rate(6, 5))?;
-    checked(rt, alloc, &three, &[(12, 20)])?;
-    let four = grown(rt, room, steps, &three, 2, 4, rate(5, 10))?;
-    checked(rt, alloc, &four, &[(12, 20), (5, 10)])?;
-    let joined = linked(rt, room, steps, &four, 3, 4)?;
-    checked(rt, alloc, &joined, &[(12, 20), (5, 10)])?;
-    let apart = left(rt, room, steps, &four, 1)?;
-    assert_eq!(rt; apart.len(), 2);
-    checked(rt, alloc, &apart[0], &[(6, 5), (5, 10)])?;
-    checked(rt, alloc, &apart[1], &[(6, 5)])?;
-    let bridged = left(rt, room, steps, &four, 2)?;
-    assert_eq!(rt; bridged.len(), 1);
-    checked(rt, alloc, &bridged[0], &[(11, 25)])?;
-    let none = four.without(alloc, four.names(), &mut room.work, steps)?;
-    assert_eq!(rt; none.len(), 0);
-    let all = four.without(alloc, [].as_slice(), &mut room.work, steps)?;
-    assert_eq!(rt; all.len(), 1);
-    for cluster in all {
-        assert_eq!(rt; cluster.names(), four.names());
-    }
-    Ok(())
+    let rows = [(1, 1, 100, 200), (1, 2, 900, 200)];
+    let cluster = built(rt, room, steps, &rows)?;
+    pair_is_one_part(rt, room, steps, &cluster)
+}
+
+fn four<L: Ledger, const W: usize>(
+    rt: &impl Abort,
+    room: &mut Room<W>,
+    steps: &mut Steps<L>,
+) -> Result<(), Fail>
+    requires { W ≤ 2 }
+{
+    let rows = [(1, 1, 0, 10), (1, 2, 6, 5), (1, 3, 6, 5), (2, 4, 5, 10)];
+    let cluster = built(rt, room, steps, &rows)?;
+    four_fall_apart(rt, room, steps, &cluster)
 }
 
 // A chain of so many names, of which each pays more than the one before it.
@@ -288,20 +377,49 @@ fn chain<L: Ledger, const W: usize>(
     Ok(cluster)
 }
 
-// As many names as there is room for.
-fn full<L: Ledger>(rt: &impl Abort, room: &mut Room<2>, steps: &mut Steps<L>) -> Result<(), Fail> {
+// 64 names in a chain are one part.
+fn half<L: Ledger>(rt: &impl Abort, room: &mut Room<2>, steps: &mut Steps<L>) -> Result<(), Fail> {
     let alloc = room.alloc;
-    let half = chain(rt, room, steps, 64)?;
-    checked(rt, alloc, &half, &[(2016, 64)])?;
-    let whole = chain(rt, room, steps, 128)?;
-    checked(rt, alloc, &whole, &[(8128, 128)])?;
-    let linked = linked(rt, room, steps, &whole, 0, 127)?;
-    checked(rt, alloc, &linked, &[(8128, 128)])?;
-    let poorer = paying(rt, room, steps, &whole, 127, -1)?;
-    checked(rt, alloc, &poorer, &[(8001, 127), (-1, 1)])?;
-    let bridged = left(rt, room, steps, &whole, 64)?;
-    assert_eq!(rt; bridged.len(), 1);
-    checked(rt, alloc, &bridged[0], &[(8064, 127)])
+    let cluster = chain(rt, room, steps, 64)?;
+    checked(rt, alloc, &cluster, &[(2016, 64)])
+}
+
+fn whole_is_one_part<L: Ledger>(
+    rt: &impl Abort,
+    room: &mut Room<2>,
+    steps: &mut Steps<L>,
+    whole: &Cluster<2>,
+) -> Result<(), Fail> {
+    checked(rt, room.alloc, whole, &[(8128, 128)])?;
+    link_case(rt, room, steps, whole, (0, 127), &[(8128, 128)])?;
+    fee_case(rt, room, steps, whole, (127, -1), &[(8001, 127), (-1, 1)])?;
+    left_case(rt, room, steps, whole, 64, (1, 0), &[(8064, 127)])
+}
+
+// As many names as there is room for.
+fn whole<L: Ledger>(rt: &impl Abort, room: &mut Room<2>, steps: &mut Steps<L>) -> Result<(), Fail> {
+    let cluster = chain(rt, room, steps, 128)?;
+    whole_is_one_part(rt, room, steps, &cluster)
+}
+
+fn narrow<L: Ledger>(rt: &impl Abort, alloc: Global, steps: &mut Steps<L>) -> Result<(), Fail> {
+    let mut room = Room::<1> {
+        alloc,
+        work: Work::new(alloc)?,
+    };
+    pair(rt, &mut room, steps)?;
+    four(rt, &mut room, steps)
+}
+
+fn wide<L: Ledger>(rt: &impl Abort, alloc: Global, steps: &mut Steps<L>) -> Result<(), Fail> {
+    let mut room = Room::<2> {
+        alloc,
+        work: Work::new(alloc)?,
+    };
+    pair(rt, &mut room, steps)?;
+    four(rt, &mut room, steps)?;
+    half(rt, &mut room, steps)?;
+    whole(rt, &mut room, steps)
 }
 
 fn rows<K: ledger::Ledger>(rt: &impl Abort, alloc: Global, blank: Blank) -> Result<(), Fail>
@@ -310,19 +428,8 @@ fn rows<K: ledger::Ledger>(rt: &impl Abort, alloc: Global, blank: Blank) -> Resu
     requires some { 0 < blank.parts }
 {
     let mut steps = Steps::new(Counted::<K>::new(blank));
-    let mut narrow = Room::<1> {
-        alloc,
-        work: Work::new(alloc)?,
-    };
-    small(rt, &mut narrow, &mut steps)?;
-    split(rt, &mut narrow, &mut steps)?;
-    let mut wide = Room::<2> {
-        alloc,
-        work: Work::new(alloc)?,
-    };
-    small(rt, &mut wide, &mut steps)?;
-    split(rt, &mut wide, &mut steps)?;
-    full(rt, &mut wide, &mut steps)
+    narrow(rt, alloc, &mut steps)?;
+    wide(rt, alloc, &mut steps)
 }
 
 #[test]
