@@ -1,0 +1,7 @@
+pub mod Clusters
+pub mod Named
+pub mod Changes
+pub mod Steps
+pub mod Kept
+pub mod Orders
+pub mod Laws

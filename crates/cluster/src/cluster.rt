@@ -1,0 +1,341 @@
+ghost use Rattle.std.specs.Prelude.{◌≡◌, ℕ, ◌+◌, ◌*◌, ◌<◌, ◌≤◌, ◌++◌, true, false, List, length, map, flat_map, slice_get, sum_by, Some, All, Contains, IfOk, OnOk};
+ghost use Rattle.fee_rate.specs.Limits.{IsFee, IsRate};
+ghost use Rattle.fee_rate.specs.declared.limits.TheConstants.{MAX_SIZE, MAX_TOTAL};
+ghost use Rattle.graphs.specs.Closures.{is_ancestor, rate_of, AddsPair, SetsFee};
+ghost use Rattle.graphs.specs.Graphs.{Lists};
+ghost use Rattle.linearize.specs.Graphs.{sum_from};
+ghost use Rattle.cluster.specs.Clusters.{IsCluster, AreApart};
+ghost use Rattle.cluster.specs.Named.{named, IsNamed};
+ghost use Rattle.cluster.specs.Changes.{IsSingle, Joins, AreAcross, IsSplit, AreComponents};
+ghost use Rattle.cluster.specs.Steps.{GrowsWithin, least_steps, most_steps, least_steps_of, most_steps_of};
+
+use crate::list::ClusterList;
+use crate::making::{certified, copied, part};
+use crate::order::{Order, flows_between, flows_start, names_between, names_start, rate_in};
+use crate::places::{list_chosen, place_of, take_out};
+use crate::work::Work;
+use bitset::Bits;
+use dep_graph::DepGraph;
+use fee_rate::FeeRate;
+use graphs::{Flow, IdBuf, TxId};
+use outside::NoMemory;
+use smallvec::SmallVec;
+use std::alloc::Global;
+use std::marker::Model;
+use step_count::{Ledger, Steps};
+
+/// A part of a cluster's order, lent: its total fee in satoshis and its total size in virtual bytes, its names in their
+/// order, and the flows that show that no closed set within it has a greater rate. Amounts are satoshis times virtual
+/// bytes. The flows stand by child, then by parent, in the order of the names.
+#[derive(Clone, Copy)]
+pub struct PartRef<'a> {
+    pub rate: FeeRate,
+    pub ids: &'a [TxId],
+    pub flows: &'a [Flow],
+}
+
+/// A cluster: transactions that dependencies join, each with its name, its fee in satoshis and its size in virtual bytes,
+/// the ancestor relation between them, and an optimal order of them, in parts with the flows that certify it.
+#[derive(Drop)]
+pub struct Cluster<const W: usize> {
+    // the name of each place of the graph; the places are the numbers from 0 on
+    pub(crate) names: SmallVec<TxId, 2>,
+    pub(crate) dep: DepGraph<W>,
+    pub(crate) order: Order,
+}
+
+// Clauses see the names in the order of their places, the graph of the names, and the parts.
+impl<const W: usize> Model for Cluster<W> {
+    ghost use Rattle.std.specs.Prelude.{◌*◌};
+    ghost use Rattle.cluster.specs.Clusters.{Cluster, cluster_code};
+    ghost use Rattle.cluster.specs.Named.{named};
+    ghost use Rattle.cluster.specs.Kept.{cut, IsKept};
+
+    ghost Value = { Cluster };
+
+    ghost coded = { cluster_code };
+
+    ghost view = { λ c. record {
+      names = c.names.items;
+      graph = named c.names.items c.dep;
+      parts = cut c.order.parts.items c.order.names.items c.order.flows.items;
+    } };
+
+    ghost invariant = { λ c.
+        IsKept (64 * W) c.names.items c.dep c.order.parts.items c.order.names.items c.order.flows.items };
+}
+
+impl<const W: usize> Cluster<W> {
+    /// The cluster of one name, with its fee in satoshis and its size in virtual bytes. Its order takes no step.
+    pub fn single<L: Ledger>(
+        alloc: Global,
+        id: TxId,
+        fee: i64,
+        size: u64,
+        work: &mut Work<W>,
+        steps: &mut Steps<L>,
+    ) -> Result<Self, NoMemory>
+        requires { IsRate (record { fee = fee; size = size }) }
+        ensures single { IfOk result (IsSingle id (record { fee = fee; size = size })) }
+        ensures whole { IfOk result (IsCluster (64 * W)) }
+        ensures steps { steps.new ≡ steps.old }
+    {
+        let _room = &work.positions;
+        let mut dep = DepGraph::new(alloc);
+        let _place = dep.add(fee, size)?;
+        let _members = dep.members();
+        let mut names = SmallVec::new(alloc);
+        names.push(id)?;
+        certified(alloc, names, dep, work, steps)
+    }
+
+    /// The cluster in which `child` depends on `parent`, both names of this one. This one stays as it is.
+    pub fn linked<L: Ledger>(
+        &self,
+        alloc: Global,
+        parent: TxId,
+        child: TxId,
+        work: &mut Work<W>,
+        steps: &mut Steps<L>,
+    ) -> Result<Cluster<W>, NoMemory>
+        requires parent { Contains self.now.names parent }
+        requires child { Contains self.now.names child }
+        requires no_cycle { is_ancestor self.now.graph child parent ≡ false }
+        ensures names { IfOk result (λ c. c.names ≡ self.now.names) }
+        ensures graph { IfOk result (λ c. AddsPair self.now.graph c.graph parent child) }
+        ensures whole { IfOk result (IsCluster (64 * W)) }
+        ensures steps { GrowsWithin (most_steps (length self.now.names)) steps.old steps.new }
+        ensures least { OnOk result (steps.old + least_steps (length self.now.names) ≤ steps.new) }
+    {
+        let mut dep = copied(alloc, self.names.as_slice(), &self.dep)?;
+        let _order = &self.order;
+        let names = SmallVec::from_slice(alloc, self.names.as_slice())?;
+        let above = place_of(names.as_slice(), parent);
+        let below = place_of(names.as_slice(), child);
+        dep.add_dep(above, below);
+        let _members = dep.members();
+        certified(alloc, names, dep, work, steps)
+    }
+
+    /// The cluster of the names of both, where `child` depends on `parent`, the one a name of this, the other of the other.
+    /// The names of this come first. Both clusters stay as they are.
+    pub fn joined<L: Ledger>(
+        &self,
+        alloc: Global,
+        other: &Cluster<W>,
+        parent: TxId,
+        child: TxId,
+        work: &mut Work<W>,
+        steps: &mut Steps<L>,
+    ) -> Result<Cluster<W>, NoMemory>
+        requires few { length self.now.names + length other.now.names ≤ 64 * W }
+        requires apart { AreApart self.now other.now }
+        requires across { AreAcross self.now.names other.now.names parent child }
+        ensures names { IfOk result (λ c. c.names ≡ self.now.names ++ other.now.names) }
+        ensures graph { IfOk result (λ c. Joins self.now.graph other.now.graph parent child c.graph) }
+        ensures whole { IfOk result (IsCluster (64 * W)) }
+        ensures steps { GrowsWithin (most_steps (length self.now.names + length other.now.names)) steps.old
+            steps.new }
+        ensures least { OnOk result
+            (steps.old + least_steps (length self.now.names + length other.now.names) ≤ steps.new) }
+    {
+        let _order = &self.order;
+        let _order = &other.order;
+        let mut names = SmallVec::from_slice(alloc, self.names.as_slice())?;
+        names.extend_from_slice(other.names.as_slice())?;
+        let mut dep = self.dep.merge(alloc, &other.dep)?;
+        let _members = dep.members();
+        let above = place_of(names.as_slice(), parent);
+        let below = place_of(names.as_slice(), child);
+        dep.add_dep(above, below);
+        let _members = dep.members();
+        certified(alloc, names, dep, work, steps)
+    }
+
+    /// The clusters that are left without some names: one for each component of the other names, which keep the ancestors
+    /// that they had among them. This cluster stays as it is.
+    pub fn without<L: Ledger>(
+        &self,
+        alloc: Global,
+        names: &[TxId],
+        work: &mut Work<W>,
+        steps: &mut Steps<L>,
+    ) -> Result<ClusterList<W>, NoMemory>
+        requires { (id : ℕ) → Contains names.now id → Contains self.now.names id }
+        ensures split { IfOk result (λ left. IsSplit self.now.graph names.now left) }
+        ensures whole { IfOk result (λ left. All (IsCluster (64 * W)) left) }
+        ensures components { IfOk result (λ left. AreComponents self.now.graph names.now (map (λ c. c.names) left)) }
+        ensures grew { steps.old ≤ steps.new }
+        ensures steps { (lists : List (List ℕ)) → AreComponents self.now.graph names.now lists
+            → steps.new ≤ steps.old + most_steps_of lists }
+        ensures least { IfOk result (λ left. steps.old + least_steps_of (map (λ c. c.names) left) ≤ steps.new) }
+    {
+        let _order = &self.order;
+        let mut rest = Bits::first_n(self.names.len());
+        take_out(self.names.as_slice(), names, &mut rest);
+        let mut clusters = Vec::new(alloc);
+        while let Some(first) = rest.least() {
+            let chosen = self.dep.component(first, rest);
+            let made = part(alloc, self.names.as_slice(), &self.dep, chosen, work, steps)?;
+            clusters.push(made)?;
+            rest = rest.minus(&chosen);
+        }
+        Ok(ClusterList { clusters })
+    }
+
+    /// The cluster in which a name of this one has another fee, in satoshis. This one stays as it is.
+    pub fn with_fee<L: Ledger>(
+        &self,
+        alloc: Global,
+        id: TxId,
+        fee: i64,
+        work: &mut Work<W>,
+        steps: &mut Steps<L>,
+    ) -> Result<Cluster<W>, NoMemory>
+        requires id { Contains self.now.names id }
+        requires fee { IsFee fee }
+        ensures names { IfOk result (λ c. c.names ≡ self.now.names) }
+        ensures graph { IfOk result (λ c. SetsFee self.now.graph c.graph id fee) }
+        ensures whole { IfOk result (IsCluster (64 * W)) }
+        ensures steps { GrowsWithin (most_steps (length self.now.names)) steps.old steps.new }
+        ensures least { OnOk result (steps.old + least_steps (length self.now.names) ≤ steps.new) }
+    {
+        let mut dep = copied(alloc, self.names.as_slice(), &self.dep)?;
+        let _order = &self.order;
+        let names = SmallVec::from_slice(alloc, self.names.as_slice())?;
+        dep.set_fee(place_of(names.as_slice(), id), fee);
+        let _members = dep.members();
+        certified(alloc, names, dep, work, steps)
+    }
+
+    /// Whether the one name is an ancestor of the other, both names of this cluster.
+    pub fn reaches(&self, a: TxId, b: TxId) -> bool
+        requires a_in { Contains self.now.names a }
+        requires b_in { Contains self.now.names b }
+        ensures { result ≡ is_ancestor self.now.graph a b }
+    {
+        let _order = &self.order;
+        let above = place_of(self.names.as_slice(), a);
+        let below = place_of(self.names.as_slice(), b);
+        self.dep.would_cycle(below, above)
+    }
+
+    /// The names, each at its place.
+    pub fn names(&self) -> &[TxId]
+        ensures names { result.now ≡ self.now.names }
+        ensures whole { IsCluster (64 * W) self.now }
+    {
+        let _dep = &self.dep;
+        let _order = &self.order;
+        self.names.as_slice()
+    }
+
+    /// The dependency graph, by the places of the names.
+    pub fn dep(&self) -> &DepGraph<W>
+        ensures graph { self.now.graph ≡ named self.now.names result.now }
+        ensures places { IsNamed (64 * W) self.now.names result.now }
+    {
+        let _names = &self.names;
+        let _order = &self.order;
+        &self.dep
+    }
+
+    /// The names in the order of the parts.
+    pub fn order(&self) -> &[TxId]
+        ensures { result.now ≡ flat_map (λ part. part.ids) self.now.parts }
+    {
+        let _names = &self.names;
+        let _dep = &self.dep;
+        self.order.names.as_slice()
+    }
+
+    /// How many parts there are.
+    pub fn part_count(&self) -> usize
+        ensures { result ≡ length self.now.parts }
+    {
+        let _names = &self.names;
+        let _dep = &self.dep;
+        self.order.parts.len()
+    }
+
+    /// The part at a position.
+    pub fn part(&self, at: usize) -> PartRef<'_>
+        requires { at < length self.now.parts }
+        ensures { slice_get self.now.parts at ≡ Some (record {
+          rate = sum_from result.rate;
+          ids = result.ids.now;
+          flows = result.flows.now;
+        }) }
+    {
+        let _names = &self.names;
+        let _dep = &self.dep;
+        let parts = self.order.parts.as_slice();
+        let part = parts[at];
+        let from = names_start(parts, at);
+        let flow_from = flows_start(parts, at);
+        PartRef {
+            rate: rate_in(part),
+            ids: names_between(self.order.names.as_slice(), from, part.end),
+            flows: flows_between(self.order.flows.as_slice(), flow_from, part.flow_end),
+        }
+    }
+
+    /// Fee and size of a name of the cluster.
+    pub fn rate(&self, id: TxId) -> FeeRate
+        requires { Contains self.now.names id }
+        ensures { result ≡ rate_of self.now.graph id }
+    {
+        let _order = &self.order;
+        self.dep.rate(place_of(self.names.as_slice(), id))
+    }
+
+    /// The total size of its names, in virtual bytes.
+    pub fn size(&self) -> u64
+        requires { length self.now.names ≤ MAX_TOTAL }
+        ensures sum { result ≡ sum_by (λ id. (rate_of self.now.graph id).size) self.now.names }
+        ensures small { result ≤ MAX_SIZE * length self.now.names }
+    {
+        let _order = &self.order;
+        let mut total = 0;
+        for place in 0..self.names.len() {
+            total += self.dep.rate(place).size;
+        }
+        total
+    }
+
+    /// Leaves the names in `out`, in rising order. Takes no memory.
+    pub fn list_names(&self, out: &mut IdBuf)
+        requires { 64 * W ≤ length out.old.ids + out.old.room }
+        ensures lists { Lists (λ id. Contains self.now.names id) out.new.ids }
+        ensures room { length out.new.ids + out.new.room ≡ length out.old.ids + out.old.room }
+    {
+        let _dep = &self.dep;
+        let _order = &self.order;
+        let all = Bits::<W>::first_n(self.names.len());
+        list_chosen(self.names.as_slice(), &all, out);
+    }
+
+    /// Leaves the ancestors of a name of the cluster in `out`, in rising order, itself among them. Takes no memory.
+    pub fn list_ancestors(&self, id: TxId, out: &mut IdBuf)
+        requires id { Contains self.now.names id }
+        requires room { 64 * W ≤ length out.old.ids + out.old.room }
+        ensures lists { Lists (λ other. is_ancestor self.now.graph other id ≡ true) out.new.ids }
+        ensures room { length out.new.ids + out.new.room ≡ length out.old.ids + out.old.room }
+    {
+        let _order = &self.order;
+        let place = place_of(self.names.as_slice(), id);
+        list_chosen(self.names.as_slice(), &self.dep.ancestors(place), out);
+    }
+
+    /// Leaves the descendants of a name of the cluster in `out`, in rising order, itself among them. Takes no memory.
+    pub fn list_descendants(&self, id: TxId, out: &mut IdBuf)
+        requires id { Contains self.now.names id }
+        requires room { 64 * W ≤ length out.old.ids + out.old.room }
+        ensures lists { Lists (λ other. is_ancestor self.now.graph id other ≡ true) out.new.ids }
+        ensures room { length out.new.ids + out.new.room ≡ length out.old.ids + out.old.room }
+    {
+        let _order = &self.order;
+        let place = place_of(self.names.as_slice(), id);
+        list_chosen(self.names.as_slice(), &self.dep.descendants(place), out);
+    }
+}

@@ -1,0 +1,130 @@
+ghost use Rattle.std.specs.Prelude.{◌≡◌, ℕ, ◌*◌, ◌+◌, ◌<◌, ◌≤◌, true, length, slice_index, map, IfOk, OnOk};
+ghost use Rattle.std.specs.FinSet as set;
+ghost use Rattle.lists.specs.Walks.{Walk};
+ghost use Rattle.bitset.specs.Places.{IsWithin, places};
+ghost use Rattle.graphs.specs.Closures.{IsNear};
+ghost use Rattle.cluster.specs.Clusters.{IsCluster};
+ghost use Rattle.cluster.specs.Named.{named, IsNamed};
+ghost use Rattle.cluster.specs.Changes.{IsSame, IsPartOf};
+ghost use Rattle.cluster.specs.Kept.{IsOrdered};
+ghost use Rattle.cluster.specs.Steps.{GrowsWithin, least_steps, most_steps};
+
+use crate::cluster::Cluster;
+use crate::order::{Order, lone, read};
+use crate::places::copy_names;
+use crate::work::Work;
+use bitset::Bits;
+use dep_graph::DepGraph;
+use graphs::{TxId, certificates_are_renamed, renamed_is_closed};
+use linearize::optimal;
+use outside::NoMemory;
+use smallvec::SmallVec;
+use std::alloc::Global;
+use step_count::{Ledger, Steps};
+
+/// The cluster of a dependency graph whose places have these names, with an optimal order.
+pub(crate) fn certified<L: Ledger, const W: usize>(
+    alloc: Global,
+    names: SmallVec<TxId, 2>,
+    dep: DepGraph<W>,
+    work: &mut Work<W>,
+    steps: &mut Steps<L>,
+) -> Result<Cluster<W>, NoMemory>
+    requires { IsNamed (64 * W) names.items dep }
+    ensures names { IfOk result (λ c. c.names ≡ names.items) }
+    ensures graph { IfOk result (λ c. c.graph ≡ named names.items dep.entry) }
+    ensures whole { IfOk result (IsCluster (64 * W)) }
+    ensures steps { GrowsWithin (most_steps (length names.items)) steps.old steps.new }
+    ensures least { OnOk result (steps.old + least_steps (length names.items) ≤ steps.new) }
+    ensures alone { length names.items ≡ 1 → steps.new ≡ steps.old }
+{
+    let order = ordered(alloc, names.as_slice(), &dep, work, steps)?;
+    Ok(Cluster { names, dep, order })
+}
+
+// An optimal order of a dependency graph, by the names of its places.
+fn ordered<L: Ledger, const W: usize>(
+    alloc: Global,
+    names: &[TxId],
+    dep: &DepGraph<W>,
+    work: &mut Work<W>,
+    steps: &mut Steps<L>,
+) -> Result<Order, NoMemory>
+    requires { IsNamed (64 * W) names.now dep.now }
+    ensures order { IfOk result (λ o. IsOrdered names.now dep.now o.parts.items o.names.items o.flows.items) }
+    ensures steps { GrowsWithin (most_steps (length names.now)) steps.old steps.new }
+    ensures least { OnOk result (steps.old + least_steps (length names.now) ≤ steps.new) }
+    ensures alone { length names.now ≡ 1 → steps.new ≡ steps.old }
+{
+    if names.len() == 1 {
+        return lone(alloc, names[0], dep.rate(0));
+    }
+    solved(alloc, names, dep, work, steps)
+}
+
+// The order that the solver finds.
+fn solved<L: Ledger, const W: usize>(
+    alloc: Global,
+    names: &[TxId],
+    dep: &DepGraph<W>,
+    work: &mut Work<W>,
+    steps: &mut Steps<L>,
+) -> Result<Order, NoMemory>
+    requires { IsNamed (64 * W) names.now dep.now }
+    ensures order { IfOk result (λ o. IsOrdered names.now dep.now o.parts.items o.names.items o.flows.items) }
+    ensures steps { GrowsWithin (most_steps (length names.now)) steps.old steps.new }
+    ensures least { steps.old + length names.now ≤ steps.new }
+{
+    optimal(&mut work.scratch, dep, &mut work.linear, steps);
+    renamed_is_closed();
+    certificates_are_renamed();
+    read(
+        alloc,
+        names,
+        &work.linear,
+        work.positions.as_mut_slice(),
+        &mut work.flows,
+    )
+}
+
+/// The same dependency graph once more.
+pub(crate) fn copied<const W: usize>(
+    alloc: Global,
+    names: &[TxId],
+    dep: &DepGraph<W>,
+) -> Result<DepGraph<W>, NoMemory>
+    requires { IsNamed (64 * W) names.now dep.now }
+    ensures same { IfOk result (IsSame dep.now) }
+    ensures named { IfOk result (IsNamed (64 * W) names.now) }
+{
+    let copy = dep.part(alloc, dep.members())?;
+    let _members = copy.members();
+    Ok(copy)
+}
+
+/// The cluster of the places of a component, with their names.
+pub(crate) fn part<L: Ledger, const W: usize>(
+    alloc: Global,
+    names: &[TxId],
+    dep: &DepGraph<W>,
+    chosen: Bits<W>,
+    work: &mut Work<W>,
+    steps: &mut Steps<L>,
+) -> Result<Cluster<W>, NoMemory>
+    requires named { IsNamed (64 * W) names.now dep.now }
+    requires within { IsWithin (length names.now) chosen }
+    requires some { (p : ℕ) × (set.contains chosen p ≡ true) }
+    requires whole { (p q : ℕ) → set.contains chosen p ≡ true → set.contains chosen q ≡ true
+        → Walk (IsNear dep.now chosen) p q }
+    ensures names { IfOk result (λ c. c.names ≡ map (slice_index names.now) (places (64 * W) chosen.entry)) }
+    ensures part { IfOk result (λ c. IsPartOf names.now (named names.now dep.now) chosen.entry c.names c.graph) }
+    ensures whole { IfOk result (IsCluster (64 * W)) }
+    ensures steps { GrowsWithin (most_steps (length (places (64 * W) chosen.entry))) steps.old steps.new }
+    ensures least { OnOk result (steps.old + least_steps (length (places (64 * W) chosen.entry)) ≤ steps.new) }
+{
+    let mut own = SmallVec::new(alloc);
+    copy_names(&mut own, names, &chosen)?;
+    let dep = dep.part(alloc, chosen)?;
+    let _members = dep.members();
+    certified(alloc, own, dep, work, steps)
+}

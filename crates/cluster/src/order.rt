@@ -1,0 +1,255 @@
+ghost use Rattle.std.specs.Prelude.{◌≡◌, ℕ, ◌*◌, ◌+◌, ◌<◌, ◌≤◌, ◌++◌, [], ◌∷◌, length, slice_index, map, take, drop, ◌-◌, Contains, IfOk, OnOk};
+ghost use Rattle.std.specs.List.Sorted.{IsPermutation};
+ghost use Rattle.lists.specs.Distinct.{AreDistinct};
+ghost use Rattle.cluster.specs.Orders.{at_positions, named_at, AreRising, AreBelow, AddsFlows, IsPlaced, IsRead, StandAt};
+ghost use Rattle.cluster.specs.Kept.{end_of, sum_in};
+ghost use Rattle.linearize.specs.Graphs.{sum_from};
+
+use fee_rate::FeeRate;
+use graphs::{Flow, TxId};
+use linearize::{Linear, LinearPart, PlaceFlow};
+use outside::NoMemory;
+use smallvec::SmallVec;
+use std::alloc::Global;
+
+/// The total fee of a part in satoshis, its total size in virtual bytes, and the positions before which its names end among
+/// the names of an order and its flows among the flows.
+#[derive(Clone, Copy, Default)]
+pub(crate) struct PartEnd {
+    pub(crate) fee: i64,
+    pub(crate) size: u64,
+    pub(crate) end: usize,
+    pub(crate) flow_end: usize,
+}
+
+/// An order in parts: its names, of each part its rate and where its names and its flows end, and the flows.
+#[derive(Drop)]
+pub(crate) struct Order {
+    pub(crate) names: SmallVec<TxId, 2>,
+    pub(crate) parts: SmallVec<PartEnd, 1>,
+    pub(crate) flows: Vec<Flow>,
+}
+
+/// The names from one position on, before another.
+pub(crate) fn names_between(names: &[TxId], from: usize, to: usize) -> &[TxId]
+    requires start { from ≤ to }
+    requires end { to ≤ length names.now }
+    ensures { result.now ≡ take (to - from) (drop from names.now) }
+{
+    &names[from..to]
+}
+
+/// The flows from one position on, before another.
+pub(crate) fn flows_between(flows: &[Flow], from: usize, to: usize) -> &[Flow]
+    requires start { from ≤ to }
+    requires end { to ≤ length flows.now }
+    ensures { result.now ≡ take (to - from) (drop from flows.now) }
+{
+    &flows[from..to]
+}
+
+/// Where the names of the part at a position begin: where those of the part before it end.
+pub(crate) fn names_start(parts: &[PartEnd], at: usize) -> usize
+    requires { at < length parts.now }
+    ensures first { at ≡ 0 → result ≡ 0 }
+    ensures later { (k : ℕ) → at ≡ k + 1 → result ≡ slice_index (map (λ part. part.end) parts.now) k }
+{
+    if at == 0 {
+        return 0;
+    }
+    parts[at - 1].end
+}
+
+/// Where the flows of the part at a position begin: where those of the part before it end.
+pub(crate) fn flows_start(parts: &[PartEnd], at: usize) -> usize
+    requires { at < length parts.now }
+    ensures first { at ≡ 0 → result ≡ 0 }
+    ensures later { (k : ℕ) → at ≡ k + 1 → result ≡ slice_index (map (λ part. part.flow_end) parts.now) k }
+{
+    if at == 0 {
+        return 0;
+    }
+    parts[at - 1].flow_end
+}
+
+/// The fee and the size of a part.
+pub(crate) fn rate_in(part: PartEnd) -> FeeRate
+    ensures { sum_from result ≡ sum_in part }
+{
+    FeeRate {
+        fee: part.fee,
+        size: part.size,
+    }
+}
+
+/// The order of a name alone.
+pub(crate) fn lone(alloc: Global, id: TxId, rate: FeeRate) -> Result<Order, NoMemory>
+    ensures names { IfOk result (λ o. o.names.items ≡ id ∷ []) }
+    ensures parts { IfOk result (λ o. o.parts.items ≡ record { fee = rate.fee; size = rate.size; end = 1; flow_end = 0 } ∷ []) }
+    ensures flows { IfOk result (λ o. o.flows.items ≡ []) }
+{
+    let mut names = SmallVec::new(alloc);
+    names.push(id)?;
+    let mut parts = SmallVec::new(alloc);
+    parts.push(PartEnd {
+        fee: rate.fee,
+        size: rate.size,
+        end: 1,
+        flow_end: 0,
+    })?;
+    Ok(Order {
+        names,
+        parts,
+        flows: Vec::new(alloc),
+    })
+}
+
+/// An order of places, by the names of the places. The flows of each part stand by child, then by parent, in the order's
+/// positions.
+pub(crate) fn read<const W: usize>(
+    alloc: Global,
+    names: &[TxId],
+    linear: &Linear<W>,
+    positions: &mut [usize],
+    moved: &mut Vec<PlaceFlow>,
+) -> Result<Order, NoMemory>
+    requires room { length names.now ≤ length positions.old }
+    requires placed { IsPlaced (length names.now) linear.now }
+    ensures { IfOk result (λ o. IsRead names.now linear.now o.parts.items o.names.items o.flows.items) }
+{
+    stand(linear.order(), positions);
+    let mut order = SmallVec::new(alloc);
+    name_places(&mut order, names, linear.order())?;
+    let own_names = order.as_slice();
+    let shown = linear.parts();
+    let all = linear.flows();
+    let mut parts = SmallVec::new(alloc);
+    let mut flows = Vec::new(alloc);
+    let mut from = 0;
+    for at in 0..shown.len() {
+        let part = shown[at];
+        add_flows(
+            between(all, from, part.flow_end),
+            positions,
+            own_names,
+            moved,
+            &mut flows,
+        )?;
+        parts.push(end_of(part))?;
+        from = part.flow_end;
+    }
+    Ok(Order {
+        names: order,
+        parts,
+        flows,
+    })
+}
+
+// The flows from one position on, before another.
+fn between(flows: &[PlaceFlow], from: usize, to: usize) -> &[PlaceFlow]
+    requires start { from ≤ to }
+    requires end { to ≤ length flows.now }
+    ensures { result.now ≡ take (to - from) (drop from flows.now) }
+{
+    &flows[from..to]
+}
+
+// A part's fee and size, and where it ends.
+fn end_of(part: LinearPart) -> PartEnd
+    ensures { result ≡ end_of part }
+{
+    PartEnd {
+        fee: part.rate.fee,
+        size: part.rate.size,
+        end: part.end,
+        flow_end: part.flow_end,
+    }
+}
+
+// Keeps where each place of an order stands.
+fn stand(order: &[usize], positions: &mut [usize])
+    requires once { AreDistinct order.now }
+    requires within { (p : ℕ) → Contains order.now p → p < length positions.old }
+    ensures { StandAt order.now positions.new }
+{
+    for at in 0..order.len() {
+        positions[order[at]] = at;
+    }
+}
+
+// Adds the names of places.
+fn name_places(
+    order: &mut SmallVec<TxId, 2>,
+    names: &[TxId],
+    places: &[usize],
+) -> Result<(), NoMemory>
+    requires { (p : ℕ) → Contains places.now p → p < length names.now }
+    ensures { OnOk result (order.new.items ≡ order.old.items ++ map (slice_index names.now) places.now) }
+{
+    for at in 0..places.len() {
+        order.push(names[places[at]])?;
+    }
+    Ok(())
+}
+
+// Adds the flows of a part by names, by child and then by parent in the order's positions.
+fn add_flows(
+    own: &[PlaceFlow],
+    positions: &[usize],
+    order: &[TxId],
+    moved: &mut Vec<PlaceFlow>,
+    flows: &mut Vec<Flow>,
+) -> Result<(), NoMemory>
+    requires there { AreBelow (length positions.now) own.now }
+    requires within { AreBelow (length order.now) (map (at_positions positions.now) own.now) }
+    ensures { OnOk result (AddsFlows own.now positions.now order.now flows.old.items flows.new.items) }
+{
+    move_flows(own, positions, moved)?;
+    sort_flows(moved);
+    name_flows(moved.as_slice(), order, flows)
+}
+
+// Leaves flows by the positions of their places.
+fn move_flows(
+    own: &[PlaceFlow],
+    positions: &[usize],
+    moved: &mut Vec<PlaceFlow>,
+) -> Result<(), NoMemory>
+    requires { AreBelow (length positions.now) own.now }
+    ensures { OnOk result (moved.new.items ≡ map (at_positions positions.now) own.now) }
+{
+    moved.clear();
+    for at in 0..own.len() {
+        let flow = own[at];
+        moved.push(PlaceFlow {
+            child: positions[flow.child],
+            parent: positions[flow.parent],
+            amount: flow.amount,
+        })?;
+    }
+    Ok(())
+}
+
+// Puts flows in their order: by child, then by parent.
+fn sort_flows(moved: &mut Vec<PlaceFlow>)
+    ensures same { IsPermutation moved.old.items moved.new.items }
+    ensures rises { AreRising moved.new.items }
+{
+    moved.sort_unstable_by_key(|flow| (flow.child, flow.parent));
+}
+
+// Adds flows by the names at their positions.
+fn name_flows(moved: &[PlaceFlow], order: &[TxId], flows: &mut Vec<Flow>) -> Result<(), NoMemory>
+    requires { AreBelow (length order.now) moved.now }
+    ensures { OnOk result (flows.new.items ≡ flows.old.items ++ map (named_at order.now) moved.now) }
+{
+    for at in 0..moved.len() {
+        let flow = moved[at];
+        flows.push(Flow {
+            child: order[flow.child],
+            parent: order[flow.parent],
+            amount: flow.amount,
+        })?;
+    }
+    Ok(())
+}

@@ -1,0 +1,46 @@
+ghost use Rattle.std.specs.Prelude.{◌≡◌, ◌*◌, ◌≤◌, IfOk};
+
+use closure_flow::Scratch;
+use linearize::{Linear, PlaceFlow};
+use outside::NoMemory;
+use std::alloc::Global;
+use std::marker::Model;
+
+/// The room in which the orders of clusters of at most 64·W names are made.
+#[derive(Drop)]
+pub struct Work<const W: usize> {
+    pub(crate) scratch: Scratch<W>,
+    pub(crate) linear: Linear<W>,
+    // where each place stands in the order
+    pub(crate) positions: Vec<usize>,
+    // the flows of a part, by these positions
+    pub(crate) flows: Vec<PlaceFlow>,
+}
+
+// Clauses see how many names there is room for.
+impl<const W: usize> Model for Work<W> {
+    ghost use Rattle.std.specs.Prelude.{ℕ, ◌*◌, ◌≤◌, vec_len};
+
+    ghost Value = { ℕ };
+
+    ghost view = { λ w. 64 * W };
+
+    ghost invariant = { λ w. (64 * W ≤ vec_len w.positions) × (1 ≤ W) × (W ≤ 64) };
+}
+
+impl<const W: usize> Work<W> {
+    /// Room for clusters of 64·W names. All its memory is taken here.
+    pub fn new(alloc: Global) -> Result<Self, NoMemory>
+        requires wide { 1 ≤ W }
+        requires narrow { W ≤ 64 }
+        ensures { IfOk result (λ w. w ≡ 64 * W) }
+    {
+        let places = 64 * W;
+        Ok(Work {
+            scratch: Scratch::new(alloc)?,
+            linear: Linear::new(alloc)?,
+            positions: vec![in alloc; 0; places]?,
+            flows: Vec::with_capacity(alloc, places * places / 4)?,
+        })
+    }
+}
