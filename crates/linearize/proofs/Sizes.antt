@@ -9,19 +9,6 @@ padded x m h = omega arith
 pub words_fit : (w : ℕ) → 64 * w < 2 ^ 32 → up 8 (0 + w * 8) < 2 ^ 63
 words_fit w narrow = let a = padded (0 + w * 8) (2 ^ 30) (omega arith) in omega arith
 
--- a set and three lists
-lists_small : (w : ℕ) → 64 * w < 2 ^ 32 → up 8 (up 8 (up 8 (up 8 (0 + up 8 (0 + w * 8)) + 24) + 24) + 24) ≤ 2 ^ 35
-lists_small w narrow =
-    let a = padded (0 + w * 8) (2 ^ 30) (omega arith) in
-    let b = padded (0 + up 8 (0 + w * 8)) (2 ^ 31) (omega arith) in
-    let c = padded (up 8 (0 + up 8 (0 + w * 8)) + 24) (2 ^ 32) (omega arith) in
-    let d = padded (up 8 (up 8 (0 + up 8 (0 + w * 8)) + 24) + 24) (2 ^ 33) (omega arith) in
-    let e = padded (up 8 (up 8 (up 8 (0 + up 8 (0 + w * 8)) + 24) + 24) + 24) (2 ^ 34) (omega arith) in
-    omega arith
-
-pub lists_fit : (w : ℕ) → 64 * w < 2 ^ 32 → up 8 (up 8 (up 8 (up 8 (0 + up 8 (0 + w * 8)) + 24) + 24) + 24) < 2 ^ 63
-lists_fit w narrow = let a = lists_small w narrow in omega arith
-
 -- three sets, three lists and a queue
 pub scratch_fits : (w : ℕ) → 64 * w < 2 ^ 32
     → up 8 (up 8 (0 + up 8 (up 8 (up 8 (up 8 (up 8 (up 8 (0 + up 8 (0 + w * 8)) + up 8 (0 + w * 8)) + up 8 (0 + w * 8)) + 24) + 24) + 24)) + 32) < 2 ^ 63

@@ -1,10 +1,10 @@
-use Rattle.std.proofs.Common.{◌≡◌, ◌<◌, ◌*◌, ◌∙◌, ap, sym, subst, arith, refl, true}
+use Rattle.std.proofs.Common.{rules, ◌≡◌, ◌<◌, ◌*◌, ◌∙◌, ap, sym, subst, arith, refl, true}
 use Rattle.std.specs.FinSet as fin
 use Rattle.graphs.proofs.Members.{contains-members_of}
 use Rattle.graphs.specs.Closures.{members_of}
 use Rattle.bitset.specs.Places.{places, IsWithin}
 use Rattle.linearize.proofs.Places.{goes_here, linked_start, linked_more, linked_all}
-use Rattle.linearize.proofs.Sizes.{words_fit, lists_fit, offset_fits}
+use Rattle.linearize.proofs.Sizes.{words_fit, offset_fits}
 use Rattle.linearize.proofs.linear.link.Goals as goal
 
 pub loop-place-init : goal.loop-place-init
@@ -13,7 +13,7 @@ loop-place-init g c = linked_start (64 * g.row.W) _ _ _ _
 
 pub covers-requires : goal.covers-requires
 covers-requires g c = (
-  lists_fit g.row.W c.requires.narrow,
+  search rules,
   (
     words_fit g.row.W c.requires.narrow,
     sym (contains-members_of c.args.dep.now c.in-Some.place)

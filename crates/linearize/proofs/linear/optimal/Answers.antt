@@ -1,4 +1,4 @@
-use Rattle.std.proofs.Common.{◌≡◌, ◌*◌, ◌∙◌, ℕ, ap, sym, subst, arith, lit<, true, List, map, ◌++◌}
+use Rattle.std.proofs.Common.{rules, ◌≡◌, ◌*◌, ◌∙◌, ℕ, ap, sym, subst, arith, lit<, true, List, map, ◌++◌}
 use Rattle.std.specs.FinSet as fin
 use Rattle.graphs.proofs.Members.{contains-members_of}
 use Rattle.graphs.specs.Closures.{is_member, members_of, IsClosed}
@@ -14,7 +14,7 @@ use Rattle.linearize.specs.Steps.{AreOfSolves}
 use Rattle.linearize.proofs.Final.{certificate, has_sizes, minimal}
 use Rattle.linearize.proofs.Joined.{start_room}
 use Rattle.graphs.proofs.ClosureGraphs.{closures_have_graphs}
-use Rattle.linearize.proofs.Sizes.{words_fit, lists_fit, scratch_fits}
+use Rattle.linearize.proofs.Sizes.{words_fit, scratch_fits}
 use Rattle.linearize.proofs.Solves.{least_of, most_of}
 use Rattle.linearize.proofs.linear.optimal.Goals as goal
 
@@ -31,7 +31,7 @@ split-requires g c =
     let within : IsWithin n c.members-members.result = λ p m. closed.within p (member p m) in (
       scratch_fits g.row.W narrow,
       (
-        lists_fit g.row.W narrow,
+        search rules,
         (
           words_fit g.row.W narrow,
           (

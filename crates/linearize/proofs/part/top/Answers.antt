@@ -1,12 +1,12 @@
-use Rattle.std.proofs.Common.{◌≡◌, ◌*◌, ◌∙◌, ap, subst, true}
+use Rattle.std.proofs.Common.{rules, ◌≡◌, ◌*◌, ◌∙◌, ap, subst, true}
 use Rattle.std.specs.FinSet as fin
 use Rattle.bitset.specs.Members.{from_meet, from_remove}
 use Rattle.linearize.proofs.Orders.{higher, is_top}
-use Rattle.linearize.proofs.Sizes.{words_fit, lists_fit}
+use Rattle.linearize.proofs.Sizes.{words_fit}
 use Rattle.linearize.proofs.part.top.Goals as goal
 
 pub ancestors-requires : goal.ancestors-requires
-ancestors-requires g c = (lists_fit g.row.W c.requires.narrow, (words_fit g.row.W c.requires.narrow, c.requires.members _ c.loop-next.invariant))
+ancestors-requires g c = (search rules, (words_fit g.row.W c.requires.narrow, c.requires.members _ c.loop-next.invariant))
 
 pub remove-requires : goal.remove-requires
 remove-requires g c = (words_fit g.row.W c.requires.narrow, c.requires.closed.within _ (c.requires.members _ c.loop-next.invariant))

@@ -4,7 +4,7 @@ use Rattle.bitset.specs.Members.{minus_parts}
 use Rattle.linearize.specs.Splits.{Adds, HasRoom}
 use Rattle.linearize.specs.Steps.{AreOfSolves}
 use Rattle.linearize.proofs.Joined.{both_lens, first_room, second_room, both_added}
-use Rattle.linearize.proofs.Sizes.{words_fit, lists_fit, scratch_fits}
+use Rattle.linearize.proofs.Sizes.{words_fit, scratch_fits}
 use Rattle.linearize.proofs.Solves.{one_solve, two_solves}
 use Rattle.linearize.proofs.split.+split.Goals as goal
 
@@ -27,7 +27,7 @@ split-requires g t c κs within =
           (
             scratch_fits g.row.W c.requires.narrow,
             (
-              lists_fit g.row.W c.requires.narrow,
+              search rules,
               (
                 words_fit g.row.W c.requires.narrow,
                 (
@@ -79,7 +79,7 @@ split-requires-in-Some g t c κs within =
           (
             scratch_fits g.row.W c.requires.narrow,
             (
-              lists_fit g.row.W c.requires.narrow,
+              search rules,
               (
                 words_fit g.row.W c.requires.narrow,
                 (

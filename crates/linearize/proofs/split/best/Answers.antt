@@ -1,4 +1,4 @@
-use Rattle.std.proofs.Common.{◌≡◌, ◌<◌, ◌*◌, ◌∙◌, ℕ, ap, arith, lit<, true}
+use Rattle.std.proofs.Common.{rules, ◌≡◌, ◌<◌, ◌*◌, ◌∙◌, ℕ, ap, arith, lit<, true}
 use Rattle.std.specs.FinSet as fin
 use Rattle.bitset.specs.Places.{IsWithin}
 use Rattle.closure_flow.specs.Closures.{weight_at}
@@ -7,7 +7,7 @@ use Rattle.linearize.specs.Graphs.{sum_at}
 use Rattle.linearize.specs.Orders.{sums_in}
 use Rattle.linearize.proofs.Cuts.{best_of, weights_even, weights_small}
 use Rattle.linearize.proofs.Solves.{of_one}
-use Rattle.linearize.proofs.Sizes.{words_fit, lists_fit, scratch_fits, answer_fits}
+use Rattle.linearize.proofs.Sizes.{words_fit, scratch_fits, answer_fits}
 use Rattle.linearize.proofs.split.best.Goals as goal
 
 pub solve-requires : goal.solve-requires
@@ -44,7 +44,7 @@ finish-requires g c =
     c.weigh.ensures.are t m ∙ ap (λ w. weight_in w (sum_at c.args.dep.now t)) c.sum-whole.ensures.is in (
       scratch_fits g.row.W c.requires.narrow,
       (
-        lists_fit g.row.W c.requires.narrow,
+        search rules,
         (
           words_fit g.row.W c.requires.narrow,
           (

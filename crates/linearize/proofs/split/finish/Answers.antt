@@ -1,10 +1,10 @@
-use Rattle.std.proofs.Common.{◌<◌, ◌≤◌, ◌*◌, ℕ, sym, subst, arith, lit<}
+use Rattle.std.proofs.Common.{rules, ◌<◌, ◌≤◌, ◌*◌, ℕ, sym, subst, arith, lit<}
 use Rattle.std.specs.FinSet as fin
 use Rattle.closure_flow.specs.Scratches.{Flow, flow_of}
 use Rattle.linearize.specs.Orders.{Balances}
 use Rattle.linearize.proofs.Cuts.{balances_of, cut_on, uncut_of}
 use Rattle.linearize.proofs.Sets.{len_within}
-use Rattle.linearize.proofs.Sizes.{words_fit, lists_fit, scratch_fits}
+use Rattle.linearize.proofs.Sizes.{words_fit, scratch_fits}
 use Rattle.linearize.proofs.split.finish.Goals as goal
 
 pub returns-then-count-clause-cut : goal.returns-then-count-clause-cut
@@ -34,7 +34,7 @@ emit-requires g c =
     (balances_of n c.args.dep.now c.args.parents.now s.weights c.args.within.now s.are (flow_of c.args.scratch.now) s.balanced) in (
       scratch_fits g.row.W c.requires.narrow,
       (
-        lists_fit g.row.W c.requires.narrow,
+        search rules,
         (
           words_fit g.row.W c.requires.narrow,
           (

@@ -1,4 +1,4 @@
-use Rattle.std.proofs.Common.{◌≡◌, ◌<◌, ◌*◌, ◌+◌, ◌∷◌, [], ◌++◌, ◌∙◌, ℕ, ℤ, ◌+ℤ◌, ap, sym, subst, arith, length, to_z, of_z}
+use Rattle.std.proofs.Common.{rules, ◌≡◌, ◌<◌, ◌*◌, ◌+◌, ◌∷◌, [], ◌++◌, ◌∙◌, ℕ, ℤ, ◌+ℤ◌, ap, sym, subst, arith, length, to_z, of_z}
 use Rattle.std.specs.FinSet as fin
 use Rattle.std.proofs.lemmas.Int.{to_z-of_z, fits_signed_from_abs}
 use mir.Syntax.{w64}
@@ -7,12 +7,11 @@ use Rattle.graphs.specs.Closures.{rate_of}
 use Rattle.fee_rate.specs.Limits.{IsRate}
 use Rattle.linearize.proofs.Places.{goes_here, goes_below}
 use Rattle.linearize.proofs.Totals.{Summed, summed_more, fee_fits, size_fits, summed_small, summed_all}
-use Rattle.linearize.proofs.Sizes.{lists_fit}
 use Rattle.linearize.proofs.split.sum.Goals as goal
 
 pub rate-rate-requires : goal.rate-rate-requires
 rate-rate-requires g c = (
-  lists_fit g.row.W c.requires.narrow,
+  search rules,
   c.requires.members _
       (goes_here (64 * g.row.W) _ _ _ _ c.in-Some.place c.loop-place.invariant.goes c.in-Some.ensures.steps).1,
 )

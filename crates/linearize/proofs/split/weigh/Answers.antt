@@ -1,4 +1,4 @@
-use Rattle.std.proofs.Common.{◌≡◌, ◌<◌, ◌*◌, ◌∷◌, ◌++◌, [], ◌∙◌, ℤ, ap, sym, subst, arith, true, set}
+use Rattle.std.proofs.Common.{rules, ◌≡◌, ◌<◌, ◌*◌, ◌∷◌, ◌++◌, [], ◌∙◌, ℤ, ap, sym, subst, arith, true, set}
 use Rattle.std.specs.FinSet as fin
 use Rattle.std.proofs.lemmas.Int.{to_z-of_z, fits_signed_from_abs}
 use mir.Syntax.{w128}
@@ -8,7 +8,6 @@ use Rattle.graphs.specs.Certificates.{weight_in}
 use Rattle.linearize.specs.Graphs.{sum_from}
 use Rattle.linearize.proofs.Places.{goes_here}
 use Rattle.linearize.proofs.Totals.{IsWeight, Weighed, weighed_start, weighed_more, weighed_all}
-use Rattle.linearize.proofs.Sizes.{lists_fit}
 use Rattle.linearize.proofs.split.weigh.Goals as goal
 
 pub loop-place-init : goal.loop-place-init
@@ -16,7 +15,7 @@ loop-place-init g c = weighed_start (64 * g.row.W) _ _ _ _ _ (c.into_iter-place-
 
 pub rate-requires : goal.rate-requires
 rate-requires g c = (
-  lists_fit g.row.W c.requires.narrow,
+  search rules,
   c.requires.members _
       (goes_here (64 * g.row.W) _ _ _ _ c.in-Some.place c.loop-place.invariant.goes c.in-Some.ensures.steps).1,
 )

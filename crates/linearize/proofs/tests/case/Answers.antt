@@ -2,7 +2,7 @@ use Rattle.std.proofs.Common.{rules, ◌≡◌, ◌*◌, ◌^◌, ◌<◌, ◌�
 use Rattle.std.specs.FinSet as fin
 use Rattle.graphs.specs.Closures.{members_of}
 use Rattle.linearize.specs.Graphs.{most_members}
-use Rattle.linearize.proofs.Sizes.{lists_fit, scratch_fits}
+use Rattle.linearize.proofs.Sizes.{scratch_fits}
 use Rattle.linearize.proofs.tests.case.Goals as goal
 
 pub optimal-requires : goal.optimal-requires
@@ -18,4 +18,4 @@ optimal-requires g c =
     let rated : c.has_rates.result ≡ true = search rules in
     let in_range = c.has_rates.ensures.0 rated in
     let one = c.is_component.ensures.0 joined in
-    (scratch_fits w narrow, (lists_fit w narrow, (lit< tt, (some, (few, (in_range, one))))))
+    (scratch_fits w narrow, (search rules, (lit< tt, (some, (few, (in_range, one))))))
