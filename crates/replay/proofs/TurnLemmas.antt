@@ -146,7 +146,7 @@ behind new input rest lines line (inr given) (one, inl cut) = absurd (omega (ari
 behind new input rest lines line (inr given) (one, inr last) = absurd (last.2 (sym last.1 ∙ given.1))
 
 -- the run goes on by one line
-one_more : (lines : List (List ℕ)) (answers : List Answer) (state next : PlainState) (line : List ℕ) (answer : Answer) → Run (plain_start MAX_COUNT) lines answers state → LineStep state line answer next → Run start (lines ++ line ∷ []) (answers ++ answer ∷ []) next
+one_more : (lines : List (List ℕ)) (answers : List Answer) (state next : PlainState) (line : List ℕ) (answer : Answer) → Run (plain_start MAX_COUNT) lines answers state → LineStep state line answer next → Run (plain_start MAX_COUNT) (lines ++ line ∷ []) (answers ++ answer ∷ []) next
 one_more lines answers state next line answer run step = run-append LineStep (plain_start MAX_COUNT) state next lines (line ∷ []) answers (answer ∷ []) run (next, step, refl)
 
 -- a line was given behind those that were answered
