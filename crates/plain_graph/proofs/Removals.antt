@@ -158,7 +158,7 @@ forgets : (old : Kept) (table : Table) (id : ℕ) (pairs : List (ℕ × ℕ)) �
     → Forgets (with_top (begun (state_of old table)) (graph_without id old.txs pairs)) (record (with_top (begun (state_of old table)) (graph_without id old.txs pairs)) { table = finmap.remove table id })
 forgets old table id pairs dropped has =
     let stays : (q : ℕ) → Contains (names_of (without_name id old.txs)) q → finmap.get (finmap.remove table id) q ≡ finmap.get table q = λ q here.
-        finmap.get-remove nat_cmp_total table id q ∙ ap (λ b. cond b None (finmap.get table q)) (unsigned_tied q id ∙ ne_eqb q id ((without-named id old.txs q).0 here).1) in
+    finmap.get-remove nat_cmp_total table id q ∙ ap (λ b. cond b None (finmap.get table q)) (unsigned_tied q id ∙ ne_eqb q id ((without-named id old.txs q).0 here).1) in
     record {
       same = refl;
       kept = λ q kept. elim kept [ inl one ↦ stays q one | inr two ↦ stays q two ];
@@ -172,8 +172,7 @@ steps_removed old new id limits begins txs pairs once here =
     (λ table has.
     let dropped = has_dropped old.txs table id once here has in
     let graph : Graph = graph_without id old.txs new.pairs in
-    let left : PlainState = with_top (begun (state_of old table)) graph in
-    (
+    let left : PlainState = with_top (begun (state_of old table)) graph in (
       record left { table = finmap.remove table id },
       record {
         limits = sym limits;

@@ -112,8 +112,7 @@ module _ (limits : Limits) (begun : Bool) (additions : ℕ) (shelf : Shelf) wher
   module _ (id : ℕ) (fee : ℤ) (size : ℕ) (state : PlainState) (stands : StandsFor kept state) (found : Option Refusal) where
     add_row_here : AddRefusalIs limits (graph_of shelf) (finmap.len shelf.spots) id fee size found → RefusalIs state (Add id fee size) found
     add_row_here = add_row_along _ _ _ _ _ _ _ _ _ _ size found (λ h. h, λ h. h) (λ h. h, λ h. h) (live_iff kept state id stands)
-        (λ over. subst (λ (l : Limits). l.size < size) (sym stands.limits) over, λ over. subst (λ (l : Limits). l.size < size) stands.limits over)
-        (
+        (λ over. subst (λ (l : Limits). l.size < size) (sym stands.limits) over, λ over. subst (λ (l : Limits). l.size < size) stands.limits over) (
           λ full. subst₂ (λ (l : Limits) n. l.total ≤ n) (sym stands.limits) (live_len state stands) full,
           λ full. subst₂ (λ (l : Limits) n. l.total ≤ n) stands.limits (sym (live_len state stands)) full,
         )

@@ -242,7 +242,7 @@ module _ (old new : Kept) (id : ℕ) (limits : new.limits ≡ old.limits) (begin
       → Forgets (with_top (begun (state_of old table main)) rest) (record (with_top (begun (state_of old table main)) rest) { table = finmap.remove table id })
   forgets table main rest stands without =
       let stays : (q : ℕ) → Contains rest.names q → finmap.get (finmap.remove table id) q ≡ finmap.get table q = λ q here.
-          get-drop table id q ∙ ap (λ b. cond b None (finmap.get table q)) (ne_eqb q id ((without.names q).0 here).1) in
+      get-drop table id q ∙ ap (λ b. cond b None (finmap.get table q)) (ne_eqb q id ((without.names q).0 here).1) in
       record {
         same = refl;
         kept = λ q kept. elim kept [ inl one ↦ stays q one | inr two ↦ stays q two ];
@@ -256,8 +256,7 @@ module _ (old new : Kept) (id : ℕ) (limits : new.limits ≡ old.limits) (begin
 
   pub steps_removed : ((state : PlainState) → StandsFor old state → RefusalIs state (Remove id) None) → MakesStep old new (Remove id) Done
   steps_removed none = steps_accepted old new (Remove id) Done none (λ table main stands.
-      let rest = some_without main id stands.valid in
-      (
+      let rest = some_without main id stands.valid in (
         record (with_top (begun (state_of old table main)) rest.0) { table = finmap.remove table id },
         record {
           limits = sym limits;
@@ -311,36 +310,45 @@ module _ (kept : Kept) (level : Level) (id : ℕ) (ids : List ℕ) (order : IsOr
   steps_clustered none lists = steps_accepted kept kept (Cluster id level) (Ids ids) none (λ table main stands. (
     state_of kept table main,
     stands,
-    λ picks. record { answer = (
-      ids,
-      subst (λ (l : Graph). Lists (AreConnected l.pairs id) ids) (sym (level-main kept table main level))
-          (Lists-for (λ q. AreLinked kept.graph id q) (AreConnected main.pairs id) ids (λ q linked. (connected-linked kept (state_of kept table main) stands id q).1 linked) (λ q trail. (connected-linked kept (state_of kept table main) stands id q).0 trail) lists),
-      refl,
-    ); change = refl },
+    λ picks. record {
+      answer = (
+        ids,
+        subst (λ (l : Graph). Lists (AreConnected l.pairs id) ids) (sym (level-main kept table main level))
+            (Lists-for (λ q. AreLinked kept.graph id q) (AreConnected main.pairs id) ids (λ q linked. (connected-linked kept (state_of kept table main) stands id q).1 linked) (λ q trail. (connected-linked kept (state_of kept table main) stands id q).0 trail) lists),
+        refl,
+      );
+      change = refl;
+    },
   ))
 
   pub steps_ascended : ((state : PlainState) → StandsFor kept state → RefusalIs state (Ancestors id level) None) → Lists (λ q. is_ancestor kept.graph q id ≡ true) ids → MakesStep kept kept (Ancestors id level) (Ids ids)
   steps_ascended none lists = steps_accepted kept kept (Ancestors id level) (Ids ids) none (λ table main stands. (
     state_of kept table main,
     stands,
-    λ picks. record { answer = (
-      ids,
-      subst (λ (l : Graph). Lists (λ a. IsAncestor l.pairs a id) ids) (sym (level-main kept table main level))
-          (Lists-for (λ q. is_ancestor kept.graph q id ≡ true) (λ a. IsAncestor main.pairs a id) ids (λ q up. (told kept (state_of kept table main) stands q id).1 (inr up))
-          (λ q walk. elim ((told kept (state_of kept table main) stands q id).0 walk) [ inl same ↦ subst (λ x. is_ancestor kept.graph x id ≡ true) (sym same) (order.reflexive id live) | inr up ↦ up ]) lists),
-      refl,
-    ); change = refl },
+    λ picks. record {
+      answer = (
+        ids,
+        subst (λ (l : Graph). Lists (λ a. IsAncestor l.pairs a id) ids) (sym (level-main kept table main level))
+            (Lists-for (λ q. is_ancestor kept.graph q id ≡ true) (λ a. IsAncestor main.pairs a id) ids (λ q up. (told kept (state_of kept table main) stands q id).1 (inr up))
+            (λ q walk. elim ((told kept (state_of kept table main) stands q id).0 walk) [ inl same ↦ subst (λ x. is_ancestor kept.graph x id ≡ true) (sym same) (order.reflexive id live) | inr up ↦ up ]) lists),
+        refl,
+      );
+      change = refl;
+    },
   ))
 
   pub steps_descended : ((state : PlainState) → StandsFor kept state → RefusalIs state (Descendants id level) None) → Lists (λ q. is_ancestor kept.graph id q ≡ true) ids → MakesStep kept kept (Descendants id level) (Ids ids)
   steps_descended none lists = steps_accepted kept kept (Descendants id level) (Ids ids) none (λ table main stands. (
     state_of kept table main,
     stands,
-    λ picks. record { answer = (
-      ids,
-      subst (λ (l : Graph). Lists (λ d. IsAncestor l.pairs id d) ids) (sym (level-main kept table main level))
-          (Lists-for (λ q. is_ancestor kept.graph id q ≡ true) (λ d. IsAncestor main.pairs id d) ids (λ q up. (told kept (state_of kept table main) stands id q).1 (inr up))
-          (λ q walk. elim ((told kept (state_of kept table main) stands id q).0 walk) [ inl same ↦ subst (λ x. is_ancestor kept.graph id x ≡ true) same (order.reflexive id live) | inr up ↦ up ]) lists),
-      refl,
-    ); change = refl },
+    λ picks. record {
+      answer = (
+        ids,
+        subst (λ (l : Graph). Lists (λ d. IsAncestor l.pairs id d) ids) (sym (level-main kept table main level))
+            (Lists-for (λ q. is_ancestor kept.graph id q ≡ true) (λ d. IsAncestor main.pairs id d) ids (λ q up. (told kept (state_of kept table main) stands id q).1 (inr up))
+            (λ q walk. elim ((told kept (state_of kept table main) stands id q).0 walk) [ inl same ↦ subst (λ x. is_ancestor kept.graph id x ≡ true) same (order.reflexive id live) | inr up ↦ up ]) lists),
+        refl,
+      );
+      change = refl;
+    },
   ))
