@@ -233,15 +233,24 @@ fn a_text_is_a_certificate_or_the_first_fault_is_told(rt: HostRuntime) -> Result
     Ok(())
 }
 
-#[test]
-fn a_line_has_at_most_65536_bytes(rt: HostRuntime) -> Result<(), Fail> {
-    let alloc = rt.alloc();
-    let mut input = vec![in alloc; b'x'; 65_537]?;
+/// A line of 65,537 bytes, one of 65,536, and a command.
+fn long_lines(alloc: Global) -> Result<Vec<u8>, AllocError> {
+    let mut input = Vec::new(alloc);
+    for _ in 0..65_537 {
+        input.push(b'x')?;
+    }
     input.push(b'\n')?;
     for _ in 0..65_536 {
         input.push(b'x')?;
     }
     input.extend_from_slice(b"\ncount main\n")?;
+    Ok(input)
+}
+
+#[test]
+fn a_line_has_at_most_65536_bytes(rt: HostRuntime) -> Result<(), Fail> {
+    let alloc = rt.alloc();
+    let input = long_lines(alloc)?;
     let words = words(alloc, &["txgraph", "replay"])?;
     for piece in [1, 2, 4096] {
         let mut source = MemSource::new(alloc, &input, piece, &[], None)?;
