@@ -22,7 +22,7 @@ use Rattle.cluster.specs.Orders.{named_at, renamed_flow, AreRead, IsReadPart}
 use Rattle.cluster.proofs.Moves.{Certifies-moved}
 use Rattle.cluster.proofs.Reading.{map_map, rates_read, placed_read}
 
-matched : (f : ℕ → ℕ) (order : List ℕ) (ps qs : List Part) → AreRead f order ps qs → (q : Part) → Contains qs q → (p : Part) × Contains ps p × IsReadPart f order p q
+pub matched : (f : ℕ → ℕ) (order : List ℕ) (ps qs : List Part) → AreRead f order ps qs → (q : Part) → Contains qs q → (p : Part) × Contains ps p × IsReadPart f order p q
 matched f order [] [] read q here = absurd (none_in_empty q here)
 matched f order [] (y ∷ qs) read q here = absurd read
 matched f order (x ∷ ps) [] read q here = absurd read

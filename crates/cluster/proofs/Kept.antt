@@ -11,7 +11,7 @@ use Rattle.lists.proofs.Cases.{same_test}
 use Rattle.fee_rate.specs.declared.rates.FeeRate.{FeeRate}
 use Rattle.graphs.specs.Certificates.{Part}
 use Rattle.cluster.specs.Changes.{IsSame}
-use Rattle.cluster.specs.Clusters.{IsCluster, ArePicked}
+use Rattle.cluster.specs.Clusters.{IsCluster, ArePicked, AreUncut}
 use Rattle.cluster.specs.Named.{named, IsNamed}
 use Rattle.cluster.proofs.Names.{Stands, Contains-stands, Stands-contains, named-member, member-stands, named-rate, named-ancestor, ancestor-stands}
 
@@ -68,8 +68,8 @@ module _ (n : ℕ) (names : List ℕ) (g : Closure) (kept : IsNamed n names g) w
   pub stands_member : (id : ℕ) → Stands names id → is_member (named names g) id ≡ true
   stands_member id at = subst (λ x. is_member (named names g) x ≡ true) at.2 (named-member names g kept.once at.0 at.1)
 
-  pub IsCluster-named : (parts : List Part) → ArePicked (named names g) parts → IsCluster n (record { names = names; graph = named names g; parts = parts })
-  IsCluster-named parts picked = record {
+  pub IsCluster-named : (parts : List Part) → ArePicked (named names g) parts → AreUncut (named names g) parts → IsCluster n (record { names = names; graph = named names g; parts = parts })
+  IsCluster-named parts picked uncut = record {
     some = kept.some;
     few = kept.few;
     once = kept.once;
@@ -79,6 +79,7 @@ module _ (n : ℕ) (names : List ℕ) (g : Closure) (kept : IsNamed n names g) w
     rates = λ id member. let at = member-stands names g kept.once id member in
         subst (λ x. IsRate (rate_of (named names g) x)) at.2 (subst (λ (rate : FeeRate). IsRate rate) (sym (named-rate names g kept.once at.0 at.1)) (kept.rates at.0 at.1));
     picked = picked;
+    uncut = uncut;
   }
 
 -- ---- changes

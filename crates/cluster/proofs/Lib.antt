@@ -13,6 +13,7 @@ mod Moves
 mod Reading
 mod Picking
 mod Following
+mod Uncut
 mod Solving
 mod Lone
 mod Oks

@@ -7,7 +7,8 @@ use Rattle.fee_rate.specs.declared.rates.Sum.{Sum}
 use Rattle.graphs.specs.declared.names.Flow.{Flow}
 use Rattle.graphs.specs.Graphs.{Graph, IsCover}
 use Rattle.graphs.specs.Rates.{sums}
-use Rattle.graphs.specs.Linearizations.{IsTopological, IsTogether}
+use Rattle.graphs.specs.Linearizations.{IsTopological, IsTogether, IsClosedWithin}
+use Rattle.linearize.specs.Minimal.{IsMinimal, AreMinimal}
 use Rattle.graphs.specs.Certificates.{Part, Certifies, weight_in}
 use Rattle.graphs.specs.Closures.{Closure, is_member, rate_of}
 use Rattle.graphs.specs.Closing.{IsClosureOf}
@@ -90,6 +91,13 @@ module _ (n : ℕ) (id : ℕ) (g : Closure) (kept : IsNamed n (id ∷ []) g) whe
         no_flow [] rest b e = Rattle.lists.proofs.Entries.not_empty (sym e)
         no_flow (x ∷ front) rest b e = Rattle.lists.proofs.Entries.not_empty (sym e)
 
+  lone_uncut : (pairs : List (ℕ × ℕ)) → AreMinimal (sum_at whole) pairs (part ∷ [])
+  lone_uncut pairs p here = subst (λ (q : Part). IsMinimal (sum_at whole) pairs q.ids) (only_part part p here) (λ set closed some same x in_part. holds set closed some x (only id x in_part))
+    where
+      holds : (set : List ℕ) → IsClosedWithin pairs (id ∷ []) set → set ≢ [] → (x : ℕ) → id ≡ x → Contains set x
+      holds [] closed some x is = absurd (some refl)
+      holds (y ∷ set) closed some x is = subst (Contains (y ∷ set)) (sym (only id y (closed.inside y (Contains-head y set))) ∙ is) (Contains-head y set)
+
   pub lone_ordered : (ends : List PartEnd) (order : List ℕ) (flows : List Flow) (rate : FeeRate) → rate ≡ rate_of g 0 → ends ≡ record { fee = rate.fee; size = rate.size; end = 1; flow_end = 0 } ∷ [] → order ≡ id ∷ [] → flows ≡ []
       → IsOrdered (id ∷ []) g ends order flows
   lone_ordered ends order flows rate rate_is ends_is order_is flows_is =
@@ -106,6 +114,7 @@ module _ (n : ℕ) (id : ℕ) (g : Closure) (kept : IsNamed n (id ∷ []) g) whe
       record {
         ends = subst (λ (ps : List Part). AreCut ends order flows ps) (sym is) so;
         picked = λ graph closes. subst (λ (ps : List Part). IsPick (sum_at whole) graph ps) (sym is) (lone_pick graph closes);
+        uncut = λ graph closes. subst (λ (ps : List Part). AreMinimal (sum_at whole) graph.pairs ps) (sym is) (lone_uncut graph.pairs);
       }
 
 one_name : (names : List ℕ) → length names ≡ 1 → names ≡ slice_index names 0 ∷ []

@@ -34,6 +34,10 @@ place_there (x ∷ xs) id here = one (nat_eq id x) refl (place_there xs id)
       | inr later ↦ let at = rest later in (omega (arith, at.0), at.1)
     ]
 
+-- the fee and the size of a place are those of its name
+pub named_sum : (n : ℕ) (names : List ℕ) (g : Closure) → IsNamed n names g → (p : ℕ) → p < length names → sum_at (named names g) (slice_index names p) ≡ linear.sum_at g p
+named_sum n names g kept p low = ap (λ (r : FeeRate). record { fee = r.fee; size = r.size }) (named-rate names g kept.once p low)
+
 -- ---- from places to names
 
 module _ (n : ℕ) (names : List ℕ) (g : Closure) (kept : IsNamed n names g) (graph : Graph) (closes : IsClosureOf (named names g) graph) where
@@ -46,19 +50,19 @@ module _ (n : ℕ) (names : List ℕ) (g : Closure) (kept : IsNamed n names g) (
   in_names : (id : ℕ) → Contains graph.names id → Contains names id
   in_names id here = Stands-contains names id (member-stands names g kept.once id ((closes.names id).0 here))
 
-  at_place : (id : ℕ) → Contains graph.names id → (place id < length names) × (slice_index names (place id) ≡ id)
+  pub at_place : (id : ℕ) → Contains graph.names id → (place id < length names) × (slice_index names (place id) ≡ id)
   at_place id here = place_there names id (in_names id here)
 
   member_at : (id : ℕ) → is_member (named names g) id ≡ true → (place id < length names) × (slice_index names (place id) ≡ id)
   member_at id member = place_there names id (Stands-contains names id (member-stands names g kept.once id member))
 
-  place_of_name : (p : ℕ) → p < length names → place (slice_index names p) ≡ p
+  pub place_of_name : (p : ℕ) → p < length names → place (slice_index names p) ≡ p
   place_of_name p low = let at = place_there names (slice_index names p) (Contains-get_or names p 0 low) in one_place names (place (slice_index names p)) p 0 kept.once at.0 low at.1
 
   keeps_apart : KeepsApart place graph.names
   keeps_apart a b first second same = sym (at_place a first).1 ∙ ap (slice_index names) same ∙ (at_place b second).1
 
-  is_renamed : IsRenamed place graph by_places
+  pub is_renamed : IsRenamed place graph by_places
   is_renamed = record {
     names = λ id. (map-Contains place graph.names id, λ h. subst (Contains by_places.names) h.2 (Contains-map place graph.names h.0 h.1));
     pairs = λ parent child. (
@@ -118,7 +122,7 @@ module _ (n : ℕ) (names : List ℕ) (g : Closure) (kept : IsNamed n names g) (
   }
 
   rates_are : (p : ℕ) → Contains by_places.names p → sum_at (named names g) (slice_index names p) ≡ linear.sum_at g p
-  rates_are p here = ap (λ (r : FeeRate). record { fee = r.fee; size = r.size }) (named-rate names g kept.once p (place_low p here))
+  rates_are p here = named_sum n names g kept p (place_low p here)
 
   pub certificate_by_names : CertificatesAreRenamed → (parts : List Part) → IsCertificate (linear.sum_at g) by_places (IsCover by_places.pairs) parts
       → IsCertificate (sum_at (named names g)) graph (IsCover graph.pairs) (map (renamed_part (slice_index names)) parts)

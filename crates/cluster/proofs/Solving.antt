@@ -1,20 +1,22 @@
 -- What the solver asks of a cluster's graph, and what its order gives.
 use Rattle.std.proofs.Common.{◌≡◌, ℕ, ◌+◌, ◌*◌, ◌^◌, ◌≤◌, true, List, length, map, slice_index, inl, inr, sym, ◌∙◌, subst, arith}
 use Rattle.std.specs.FinSet as set
-use Rattle.lists.proofs.Distinct.{distinct_map}
+use Rattle.lists.proofs.Distinct.{distinct_map, one_place}
 use Rattle.lists.proofs.Walks.{Walk-map}
 use Rattle.lists.specs.Distinct.{AreDistinct}
 use Rattle.graphs.specs.Graphs.{Graph, IsCover}
 use Rattle.graphs.specs.Certificates.{Part, IsCertificate}
 use Rattle.graphs.specs.Closures.{Closure, members_of, IsNear, IsRelated}
-use Rattle.graphs.specs.Closing.{IsClosureOf}
+use Rattle.graphs.specs.Closing.{IsClosureOf, renamed}
+use Rattle.graphs.specs.Picks.{IsPick}
+use Rattle.linearize.specs.Minimal.{AreMinimal}
 use Rattle.graphs.specs.Laws.{RenamedIsClosed, CertificatesAreRenamed}
 use Rattle.graphs.specs.declared.names.Flow.{Flow}
 use Rattle.linearize.specs.Drafts.{placed}
 use Rattle.linearize.specs.Graphs as linear
 use Rattle.linearize.specs.Graphs.{HasRates, IsComponent}
 use Rattle.cluster.specs.declared.order.PartEnd.{PartEnd}
-use Rattle.cluster.specs.Clusters.{ArePicked}
+use Rattle.cluster.specs.Clusters.{ArePicked, AreUncut, sum_at}
 use Rattle.cluster.specs.Kept.{IsOrdered, AreCut, cut}
 use Rattle.cluster.specs.Named.{named, IsNamed}
 use Rattle.cluster.specs.Orders.{IsPlaced, IsRead}
@@ -23,8 +25,9 @@ use Rattle.cluster.proofs.Cuts.{cut_whole}
 use Rattle.cluster.proofs.Following.{pick_read}
 use Rattle.cluster.proofs.Kept.{member_place}
 use Rattle.cluster.proofs.Listings.{contains-members_of}
-use Rattle.cluster.proofs.Picking.{closes_places, certificate_by_names}
-use Rattle.cluster.proofs.Reading.{placed_read}
+use Rattle.cluster.proofs.Picking.{place_in, closes_places, certificate_by_names}
+use Rattle.cluster.proofs.Reading.{in_placed, placed_read}
+use Rattle.cluster.proofs.Uncut.{uncut_read}
 
 pub within_most : (n m before after : ℕ) → n ≡ m → after + 4 * (n + 2) ^ 4 ≤ before + 2 * (n + 2) ^ 5 → before + n ≤ after → GrowsWithin (most_steps m) before after
 within_most n m before after same most least = subst (λ (k : ℕ). GrowsWithin (most_steps k) before after) same (record { grew = omega arith; few = omega arith })
@@ -53,19 +56,23 @@ module _ (n : ℕ) (names : List ℕ) (g : Closure) (kept : IsNamed n names g) w
     inside = λ part here flow there. (certificate.flows part here).inside flow there;
   }
 
-  -- the order that was read is a pick
-  pub is_ordered : RenamedIsClosed → CertificatesAreRenamed → (parts : List Part) → ((graph : Graph) → IsClosureOf g graph → IsCertificate (linear.sum_at g) graph (IsCover graph.pairs) parts) → IsPlaced (length names) parts
+  -- the order that was read is a pick, which can't be cut further
+  pub is_ordered : RenamedIsClosed → CertificatesAreRenamed → (parts : List Part) → ((graph : Graph) → IsClosureOf g graph → IsCertificate (linear.sum_at g) graph (IsCover graph.pairs) parts)
+      → ((graph : Graph) → IsClosureOf g graph → AreMinimal (linear.sum_at g) graph.pairs parts) → IsPlaced (length names) parts
       → (ends : List PartEnd) (order : List ℕ) (flows : List Flow) → IsRead names parts ends order flows → IsOrdered names g ends order flows
-  is_ordered closing renaming parts certified placed_are ends order flows read =
+  is_ordered closing renaming parts certified minimal placed_are ends order flows read =
       let whole : cut ends order flows ≡ read.parts = cut_whole ends order flows read.parts read.ends in
       let order_is : order ≡ map (slice_index names) (placed parts) = sym read.ends.order_is ∙ placed_read names order parts read.parts read.read in
       let once : AreDistinct order =
       subst AreDistinct (sym order_is) (distinct_map (slice_index names) (placed parts) placed_are.once
-      (λ x y here there same. Rattle.lists.proofs.Distinct.one_place names x y 0 kept.once (placed_are.below x here) (placed_are.below y there) same)) in
+      (λ x y here there same. one_place names x y 0 kept.once (placed_are.below x here) (placed_are.below y there) same)) in
+      let pick : (graph : Graph) → IsClosureOf (named names g) graph → IsPick (sum_at (named names g)) graph read.parts =
+      λ graph closes. pick_read (sum_at (named names g)) graph names order parts read.parts once read.read
+      (certificate_by_names n names g kept graph closes renaming parts (certified (renamed (place_in names) graph) (closes_places n names g kept graph closes closing))) in
       record {
         ends = subst (λ (ps : List Part). AreCut ends order flows ps) (sym whole) read.ends;
-        picked = λ graph closes.
-            subst (λ (ps : List Part). Rattle.graphs.specs.Picks.IsPick (Rattle.cluster.specs.Clusters.sum_at (named names g)) graph ps) (sym whole)
-            (pick_read (Rattle.cluster.specs.Clusters.sum_at (named names g)) graph names order parts read.parts once read.read
-            (certificate_by_names n names g kept graph closes renaming parts (certified (Rattle.graphs.specs.Closing.renamed (Rattle.cluster.proofs.Picking.place_in names) graph) (closes_places n names g kept graph closes closing))));
+        picked = subst (ArePicked (named names g)) (sym whole) pick;
+        uncut = subst (AreUncut (named names g)) (sym whole) (λ graph closes.
+            uncut_read n names g kept graph closes parts read.parts order placed_are read.read (minimal (renamed (place_in names) graph) (closes_places n names g kept graph closes closing))
+            (λ q here id there. ((pick graph closes).certificate.order.topological.names id).0 (in_placed read.parts q id here there)));
       }

@@ -35,7 +35,7 @@ read-requires g c =
 
 pub returns-clause-order : goal.returns-clause-order
 returns-clause-order g c =
-    IfOk-weaker c.read.result _ _ (λ (o : Order) read. is_ordered (64 * g.row.W) c.args.names.now c.args.dep.now c.requires c.renamed_is_closed.ensures c.certificates_are_renamed.ensures c.optimal.new.out c.optimal.ensures.certificate
+    IfOk-weaker c.read.result _ _ (λ (o : Order) read. is_ordered (64 * g.row.W) c.args.names.now c.args.dep.now c.requires c.renamed_is_closed.ensures c.certificates_are_renamed.ensures c.optimal.new.out c.optimal.ensures.certificate c.optimal.ensures.minimal
     (is_placed (64 * g.row.W) c.args.names.now c.args.dep.now c.requires c.optimal.ensures.stands.0 c.optimal.new.out c.optimal.ensures.stands.1 (c.optimal.ensures.certificate c.optimal.ensures.stands.0 c.optimal.ensures.stands.1))
     o.parts.items o.names.items o.flows.items read) c.read.ensures
 
