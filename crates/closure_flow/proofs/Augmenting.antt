@@ -1,5 +1,7 @@
 -- Sending along the path to an entry, step by step, and what it uses up.
-use Rattle.std.proofs.Common.{◌≡◌, ℕ, zero, suc, ◌+◌, ◌-◌, ◌<◌, ◌≤◌, ◌⊎◌, inl, inr, List, length, true, false, min, unsigned_abs, Option, Some, None, ℤ, pos, negsuc, neg_ℤ, ◌+ℤ◌, ◌-ℤ◌, ◌<ℤ◌, refl, sym, ap, ◌∙◌, subst, arith}
+use Rattle.std.proofs.Common.{◌≡◌, ℕ, zero, suc, ◌+◌, ◌-◌, ◌<◌, ◌≤◌, ◌⊎◌, inl, inr, List, length, true, false, min}
+use Rattle.std.proofs.Common.{unsigned_abs, Option, Some, None, ℤ, pos, negsuc, neg_ℤ, ◌+ℤ◌, ◌-ℤ◌, ◌<ℤ◌, refl, sym}
+use Rattle.std.proofs.Common.{ap, ◌∙◌, subst, arith}
 use Rattle.std.proofs.lemmas.Bool.{cases_eq, cases_lt}
 use Rattle.std.proofs.lemmas.Int.{ints}
 use Rattle.std.specs.Ordering.{nat_cmp}
@@ -52,7 +54,13 @@ module _ (n : ℕ) (parents : List (set.FinSet nat_cmp)) (within : set.FinSet na
       by : back es at (k + m) ≤ back es at k → (o : Option ℕ) → from_at es (back es at (k + m)) ≡ o → back es at (k + suc m) ≤ back es at k
       by so_far None e = omega (arith, so_far, ap (back es at) next, ap (λ (o : Option ℕ). before_of o (back es at (k + m))) e)
       by so_far (Some j) e =
-          omega (arith, so_far, (s.step (back es at (k + m)) j (back_inside (k + m)) e).0, ap (back es at) next, ap (λ (o : Option ℕ). before_of o (back es at (k + m))) e)
+          omega (
+            arith,
+            so_far,
+            (s.step (back es at (k + m)) j (back_inside (k + m)) e).0,
+            ap (back es at) next,
+            ap (λ (o : Option ℕ). before_of o (back es at (k + m))) e,
+          )
 
   -- the places of a step are apart from each entry before it
   pub step_in : (u v : ℕ) → IsStep es at u v → (set.contains within u ≡ true) × (set.contains within v ≡ true)
@@ -71,16 +79,19 @@ pub record Sent (parents : List (set.FinSet nat_cmp)) (within : set.FinSet nat_c
   pub grown : (c p : ℕ) → set.contains within c ≡ true → set.contains within p ≡ true → F c p < G c p → IsStep es at c p
   pub taken : (u v : ℕ) (step : IsStep es at u v) → step.k < k → set.contains (parents_at parents u) v ≡ false → G v u + amount ≡ F v u
 
-pub sent_none : (parents : List (set.FinSet nat_cmp)) (within : set.FinSet nat_cmp) (F : ℕ → ℕ → ℕ) (es : List Entry) (at amount : ℕ) → Sent parents within F F es at at amount
+pub sent_none : (parents : List (set.FinSet nat_cmp)) (within : set.FinSet nat_cmp) (F : ℕ → ℕ → ℕ) (es : List Entry) (at amount : ℕ)
+    → Sent parents within F F es at at amount
 sent_none parents within F es at amount =
     record { k = 0; is = refl; grown = λ c p m l h. absurd (omega (arith, h)); taken = λ u v step h. absurd (omega (arith, h)) }
 
-pub sent_step : (n : ℕ) (parents : List (set.FinSet nat_cmp)) (within : set.FinSet nat_cmp) (F G H : ℕ → ℕ → ℕ) (rest : ℕ → ℤ) (es : List Entry) (at here before amount : ℕ)
+pub sent_step : (n : ℕ) (parents : List (set.FinSet nat_cmp)) (within : set.FinSet nat_cmp) (F G H : ℕ → ℕ → ℕ) (rest : ℕ → ℤ) (es : List Entry)
+    (at here before amount : ℕ)
     → IsWithin n within → IsSearch n parents within F rest es → at < length es → from_at es here ≡ Some before
     → Sends n parents within F G es at here amount → Sent parents within F G es at here amount
     → Pushes n parents within G H (place_at es before) (place_at es here) amount
     → ((c p : ℕ) → c < n → p < n → G c p < H c p → (c ≡ place_at es before) × (p ≡ place_at es here))
-    → (set.contains (parents_at parents (place_at es before)) (place_at es here) ≡ false → H (place_at es here) (place_at es before) + amount ≡ G (place_at es here) (place_at es before))
+    → (set.contains (parents_at parents (place_at es before)) (place_at es here) ≡ false
+    → H (place_at es here) (place_at es before) + amount ≡ G (place_at es here) (place_at es before))
     → Sent parents within F H es at before amount
 sent_step n parents within F G H rest es at here before amount below s h from sends sent push more back_flow =
     record { k = suc sent.k; is = next; grown = grown; taken = taken }
@@ -98,7 +109,13 @@ sent_step n parents within F G H rest es at here before amount below s h from se
     less = (s.step here before in_here from).0
 
     this : IsStep es at (place_at es before) (place_at es here)
-    this = record { k = sent.k; found = ap (from_at es) (sym sent.is) ∙ from ∙ ap (λ (i : ℕ). Some i) next; first = ap (place_at es) next; next = ap (place_at es) sent.is }
+    this = record {
+      k = sent.k;
+      found = ap (from_at es) (sym sent.is) ∙ from ∙ ap (λ (i : ℕ). Some i) next;
+      first = ap (place_at es) next;
+      next =
+          ap (place_at es) sent.is;
+    }
 
     grown : (c p : ℕ) → set.contains within c ≡ true → set.contains within p ≡ true → F c p < H c p → IsStep es at c p
     grown c p mc mp g = elim (cases_lt (F c p) (G c p)) as (λ _. IsStep es at c p) [
@@ -115,14 +132,16 @@ sent_step n parents within F G H rest es at here before amount below s h from se
           let high : here < back es at step.k = omega (arith, sent.is, lower n parents within F rest es at s h u v step, above step.k earlier) in
           let in_step : back es at step.k < length es = omega (arith, h, back_below n parents within F rest es at step.k s h) in
           let not_here : v ≡ place_at es here → ⊥ = λ e. omega (arith, high, s.once (back es at step.k) here in_step in_here (sym step.next ∙ e)) in
-          let not_before : v ≡ place_at es before → ⊥ = λ e. omega (arith, high, less, s.once (back es at step.k) before in_step (omega (arith, less, in_here)) (sym step.next ∙ e)) in
+          let not_before : v ≡ place_at es before → ⊥ =
+          λ e. omega (arith, high, less, s.once (back es at step.k) before in_step (omega (arith, less, in_here)) (sym step.next ∙ e)) in
           omega (arith, push.others v u (below v both.1) (below u both.0) (λ q. not_before q.0) (λ q. not_here q.0), sent.taken u v step earlier out)
       | inr late ↦
           let same : step.k ≡ sent.k = omega (arith, l, late) in
           let eu : u ≡ place_at es before = step.first ∙ ap (λ (m : ℕ). place_at es (back es at (suc m))) same ∙ ap (place_at es) (sym next) in
           let ev : v ≡ place_at es here = step.next ∙ ap (λ (m : ℕ). place_at es (back es at m)) same ∙ ap (place_at es) (sym sent.is) in
           let gone : H (place_at es here) (place_at es before) + amount ≡ F (place_at es here) (place_at es before) =
-          back_flow (subst (λ (y : ℕ). set.contains (parents_at parents (place_at es before)) y ≡ false) ev (subst (λ (x : ℕ). set.contains (parents_at parents x) v ≡ false) eu out))
+          back_flow (subst (λ (y : ℕ). set.contains (parents_at parents (place_at es before)) y ≡ false) ev
+          (subst (λ (x : ℕ). set.contains (parents_at parents x) v ≡ false) eu out))
           ∙ sends.still here before (omega arith) (omega (arith, less)) in
           subst (λ (y : ℕ). H y u + amount ≡ F y u) (sym ev) (subst (λ (x : ℕ). H (place_at es here) x + amount ≡ F (place_at es here) x) (sym eu) gone)
     ]
@@ -140,7 +159,8 @@ sent_all n parents within F G es at here amount sent none u v step out = elim (c
   | inl less ↦ sent.taken u v step less out
   | inr more ↦
       let along : sent.k + (step.k - sent.k) ≡ step.k = omega (arith, more) in
-      let same : back es at step.k ≡ here = ap (back es at) (sym along) ∙ stuck es at sent.k (step.k - sent.k) (ap (from_at es) (sym sent.is) ∙ none) ∙ sym sent.is in
+      let same : back es at step.k ≡ here = ap (back es at) (sym along) ∙ stuck es at sent.k (step.k - sent.k) (ap (from_at es) (sym sent.is) ∙ none)
+      ∙ sym sent.is in
       let clash_ : None ≡ Some (back es at (suc step.k)) = sym none ∙ ap (from_at es) (sym same) ∙ step.found in
       absurd (let k : None ≡ Some (back es at (suc step.k)) = clash_ in cc)
 ]
@@ -168,11 +188,18 @@ narrowed_step parents flow es at limit here before amount x old from now =
       k = suc old.k;
       is = next;
       least = elim now as (λ _. (x ≡ limit) ⊎ ((u : ℕ) × (v : ℕ) × IsStep es at u v × (set.contains (parents_at parents u) v ≡ false) × (flow v u ≡ x))) [
-        | inl same ↦ subst (λ (y : ℕ). (y ≡ limit) ⊎ ((u : ℕ) × (v : ℕ) × IsStep es at u v × (set.contains (parents_at parents u) v ≡ false) × (flow v u ≡ y))) (sym same) old.least
+        | inl same ↦ subst (λ (y : ℕ). (y ≡ limit) ⊎
+            ((u : ℕ) × (v : ℕ) × IsStep es at u v × (set.contains (parents_at parents u) v ≡ false) × (flow v u ≡ y))) (sym same) old.least
         | inr against ↦ inr (
           place_at es before,
           place_at es here,
-          record { k = old.k; found = ap (from_at es) (sym old.is) ∙ from ∙ ap (λ (i : ℕ). Some i) next; first = ap (place_at es) next; next = ap (place_at es) old.is },
+          record {
+            k = old.k;
+            found = ap (from_at es) (sym old.is) ∙ from ∙ ap (λ (i : ℕ). Some i) next;
+            first = ap (place_at es) next;
+            next =
+                ap (place_at es) old.is;
+          },
           against.0,
           against.1,
         )
@@ -184,18 +211,20 @@ exact (pos k) m e h = ap (λ (x : ℕ). pos x) e
 exact (negsuc k) m e h = absurd (omega (arith, ints, h))
 
 pub narrowed_all : (parents : List (set.FinSet nat_cmp)) (flow : ℕ → ℕ → ℕ) (rest : ℕ → ℤ) (es : List Entry) (at limit here amount m x : ℕ)
-    → Narrowed parents flow es at limit here amount → from_at es here ≡ None → m ≡ unsigned_abs (rest (place_at es here)) → pos 0 <ℤ rest (place_at es here) → x ≡ min amount m
+    → Narrowed parents flow es at limit here amount → from_at es here ≡ None → m ≡ unsigned_abs (rest (place_at es here))
+    → pos 0 <ℤ rest (place_at es here) → x ≡ min amount m
     → IsNarrowest parents flow rest es at limit x
-narrowed_all parents flow rest es at limit here amount m x old none abs above least = elim (cases_lt amount m) as (λ _. IsNarrowest parents flow rest es at limit x) [
-  | inl less ↦
-      let same : amount ≡ x = omega (arith, least, less) in
-      subst (λ (y : ℕ). IsNarrowest parents flow rest es at limit y) same
-      (elim old.least as (λ _. IsNarrowest parents flow rest es at limit amount) [ inl l ↦ inl l | inr step ↦ inr (inr step) ])
-  | inr more ↦
-      let same : m ≡ x = omega (arith, least, more) in
-      subst (λ (y : ℕ). IsNarrowest parents flow rest es at limit y) same
-      (inr (inl (here, record { k = old.k; none = none; is = old.is }, exact (rest (place_at es here)) m abs above)))
-]
+narrowed_all parents flow rest es at limit here amount m x old none abs above least =
+    elim (cases_lt amount m) as (λ _. IsNarrowest parents flow rest es at limit x) [
+      | inl less ↦
+          let same : amount ≡ x = omega (arith, least, less) in
+          subst (λ (y : ℕ). IsNarrowest parents flow rest es at limit y) same
+          (elim old.least as (λ _. IsNarrowest parents flow rest es at limit amount) [ inl l ↦ inl l | inr step ↦ inr (inr step) ])
+      | inr more ↦
+          let same : m ≡ x = omega (arith, least, more) in
+          subst (λ (y : ℕ). IsNarrowest parents flow rest es at limit y) same
+          (inr (inl (here, record { k = old.k; none = none; is = old.is }, exact (rest (place_at es here)) m abs above)))
+    ]
 
 -- what is lacking, as the code computes it
 pub exact_lack : (z : ℤ) (m : ℕ) → m ≡ unsigned_abs z → z <ℤ pos 0 → z ≡ neg_ℤ (pos m)
@@ -235,7 +264,8 @@ module _ (n : ℕ) (parents : List (set.FinSet nat_cmp)) (within : set.FinSet na
     ]
   ]
 
-  pub along : (es : List Entry) (at : ℕ) → ((c p : ℕ) → set.contains within c ≡ true → set.contains within p ≡ true → F c p < G c p → IsStep es at c p) → Along n parents within F G r s es at
+  pub along : (es : List Entry) (at : ℕ) →
+      ((c p : ℕ) → set.contains within c ≡ true → set.contains within p ≡ true → F c p < G c p → IsStep es at c p) → Along n parents within F G r s es at
   along es at grown = record { below = m.below; grown = grown; over = over; short = short }
 
   pub uses_up : (es : List Entry) (at limit : ℕ) → IsSearch n parents within F r es → at < length es

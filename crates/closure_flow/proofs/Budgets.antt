@@ -1,5 +1,6 @@
 -- How many searches there can be: each augmentation uses something up, and what can be used up is counted.
-use Rattle.std.proofs.Common.{◌≡◌, ℕ, suc, ◌+◌, ◌-◌, ◌*◌, ◌<◌, ◌≤◌, inl, inr, List, length, Bool, true, false, cond, ◌&&◌, ◌||◌, nat_lt, ℤ, pos, ◌<ℤ◌, refl, ◌∙◌, subst, arith}
+use Rattle.std.proofs.Common.{◌≡◌, ℕ, suc, ◌+◌, ◌-◌, ◌*◌, ◌<◌, ◌≤◌, inl, inr, List, length, Bool, true, false, cond}
+use Rattle.std.proofs.Common.{◌&&◌, ◌||◌, nat_lt, ℤ, pos, ◌<ℤ◌, refl, ◌∙◌, subst, arith}
 use Rattle.std.proofs.Math.Nat.{mul-le-mul_right}
 use Rattle.std.proofs.lemmas.Bool.{cases_eq}
 use Rattle.std.proofs.lemmas.List.Sums.{count_by-le-length, length-filter}
@@ -27,19 +28,22 @@ most_unsettled rest ts = count_by-le-length (λ t. is_some_left (rest t)) ts
 
 most_uphill : (parents : List (set.FinSet nat_cmp)) (flow : ℕ → ℕ → ℕ) (label : ℕ → ℕ) (ts : List ℕ) → uphill parents flow label ts ≤ length ts * length ts
 unfolding uphill
-most_uphill parents flow label ts = sum_bound (λ u. count_by (is_uphill parents flow label u) ts) ts (length ts) (λ u. count_by-le-length (is_uphill parents flow label u) ts)
+most_uphill parents flow label ts = sum_bound (λ u. count_by (is_uphill parents flow label u) ts) ts (length ts)
+    (λ u. count_by-le-length (is_uphill parents flow label u) ts)
 
 -- nothing rises where all labels are 0
 none_uphill : (parents : List (set.FinSet nat_cmp)) (flow : ℕ → ℕ → ℕ) (ts : List ℕ) → uphill parents flow (λ t. 0) ts ≡ 0
 unfolding uphill
-none_uphill parents flow ts = sum_none (λ u. count_by (is_uphill parents flow (λ t. 0) u) ts) ts (λ u. sum_none _ ts (λ v. flat (set.contains _ v || nat_lt 0 (flow v u))))
+none_uphill parents flow ts = sum_none (λ u. count_by (is_uphill parents flow (λ t. 0) u) ts) ts
+    (λ u. sum_none _ ts (λ v. flat (set.contains _ v || nat_lt 0 (flow v u))))
   where
     flat : (b : Bool) → ◌≡◌ {A = ℕ} (cond (b && false) 1 0) 0
     flat true = refl
     flat false = refl
 
 -- ---- what was used up, and the steps that it took
-pub record Budget (parents : List (set.FinSet nat_cmp)) (within : set.FinSet nat_cmp) (ts : List ℕ) (flow : ℕ → ℕ → ℕ) (rest : ℕ → ℤ) (m before steps : ℕ) : Type 0 where
+pub record Budget (parents : List (set.FinSet nat_cmp)) (within : set.FinSet nat_cmp) (ts : List ℕ) (flow : ℕ → ℕ → ℕ) (rest : ℕ → ℤ)
+    (m before steps : ℕ) : Type 0 where
   pub label : ℕ → ℕ
   -- how far it is at least, how much farther it can get, and how many augmentations there were
   pub end : ℕ
@@ -50,7 +54,8 @@ pub record Budget (parents : List (set.FinSet nat_cmp)) (within : set.FinSet nat
   pub spent : unsettled rest ts + uphill parents flow label ts + farther * (m * m) + done ≤ m * (m * m) + m
   pub taken : steps ≤ before + done * m
 
-pub budget_start : (parents : List (set.FinSet nat_cmp)) (within : set.FinSet nat_cmp) (ts : List ℕ) (flow : ℕ → ℕ → ℕ) (rest : ℕ → ℤ) (m before : ℕ) → length ts ≡ m → Budget parents within ts flow rest m before before
+pub budget_start : (parents : List (set.FinSet nat_cmp)) (within : set.FinSet nat_cmp) (ts : List ℕ) (flow : ℕ → ℕ → ℕ) (rest : ℕ → ℤ) (m before : ℕ)
+    → length ts ≡ m → Budget parents within ts flow rest m before before
 budget_start parents within ts flow rest m before e =
     record {
       label = λ t. 0;
@@ -64,7 +69,8 @@ budget_start parents within ts flow rest m before e =
     }
 
 -- one search and one augmentation more
-pub budget_step : (n : ℕ) (parents : List (set.FinSet nat_cmp)) (within : set.FinSet nat_cmp) (F G : ℕ → ℕ → ℕ) (r s : ℕ → ℤ) (es : List Entry) (at m before steps more : ℕ)
+pub budget_step : (n : ℕ) (parents : List (set.FinSet nat_cmp)) (within : set.FinSet nat_cmp) (F G : ℕ → ℕ → ℕ) (r s : ℕ → ℤ) (es : List Entry)
+    (at m before steps more : ℕ)
     → IsSearch n parents within F r es → at < length es → length es ≤ m → length (places n within) ≡ m → r (place_at es at) <ℤ pos 0
     → IsShortest parents within F r es at
     → ((label : ℕ → ℕ) (end : ℕ) → IsLabelling parents within F r label end → Climbs es at label → Spends parents within (places n within) F r G s label end)
@@ -86,11 +92,13 @@ budget_step n parents within F G r s es at m before steps more search inside few
           }
       | inr other ↦
           let new = spends path.label (path.label (place_at es at)) path.valid path.climbs in
-          let up_ : b.end < path.label (place_at es at) = omega (arith, other, not_lower n parents within F r es at search inside path b.label b.end b.valid low) in
+          let up_ : b.end < path.label (place_at es at) =
+          omega (arith, other, not_lower n parents within F r es at search inside path b.label b.end b.valid low) in
           let short = short_way n parents within F r es at search inside path in
           let left : path.label (place_at es at) + (m - path.label (place_at es at)) ≡ m = omega (arith, short, inside, few) in
           let less : suc (m - path.label (place_at es at)) * (m * m) ≤ b.farther * (m * m) = mul-le-mul_right (m * m) (omega (arith, up_, left, b.far)) in
-          let sides : uphill parents F path.label (places n within) ≤ m * m = subst (λ (k : ℕ). uphill parents F path.label (places n within) ≤ k * k) all (most_uphill parents F path.label (places n within)) in
+          let sides : uphill parents F path.label (places n within) ≤ m * m =
+          subst (λ (k : ℕ). uphill parents F path.label (places n within) ≤ k * k) all (most_uphill parents F path.label (places n within)) in
           record {
             label = path.label;
             end = path.label (place_at es at);
@@ -98,12 +106,15 @@ budget_step n parents within F G r s es at m before steps more search inside few
             done = suc b.done;
             valid = new.valid;
             far = left;
-            spent = spent_less (unsettled r (places n within)) (unsettled s (places n within)) (uphill parents F b.label (places n within)) (uphill parents F path.label (places n within)) (uphill parents G path.label (places n within)) b.farther (m - path.label (place_at es at)) (m * m) b.done (m * (m * m) + m) b.spent new.fewer sides less;
+            spent = spent_less (unsettled r (places n within)) (unsettled s (places n within)) (uphill parents F b.label (places n within))
+                (uphill parents F path.label (places n within)) (uphill parents G path.label (places n within)) b.farther
+                (m - path.label (place_at es at)) (m * m) b.done (m * (m * m) + m) b.spent new.fewer sides less;
             taken = omega (arith, counted, b.taken);
           }
     ]
   where
-    spent_less : (u u' h p p' f f' mm done most : ℕ) → u + h + f * mm + done ≤ most → u' + p' < u + p → p ≤ mm → suc f' * mm ≤ f * mm → u' + p' + f' * mm + suc done ≤ most
+    spent_less : (u u' h p p' f f' mm done most : ℕ) → u + h + f * mm + done ≤ most → u' + p' < u + p → p ≤ mm → suc f' * mm ≤ f * mm
+        → u' + p' + f' * mm + suc done ≤ most
     spent_less u u' h p p' f f' mm done most a b c d = omega (arith, a, b, c, d)
 
 -- the last search

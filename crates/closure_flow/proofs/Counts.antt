@@ -35,5 +35,7 @@ none_then_one a b e f = subst (λ (c : Bool). cond c 1 0 < cond b 1 0) (sym e) (
 pub count_mono : (p q : ℕ → Bool) (xs : List ℕ) → ((x : ℕ) → Among x xs → p x ≡ true → q x ≡ true) → count_by p xs ≤ count_by q xs
 count_mono p q xs h = sum_mono (λ x. cond (p x) 1 0) (λ x. cond (q x) 1 0) xs (λ x m. one_or_none (p x) (q x) (h x m))
 
-pub count_strict : (p q : ℕ → Bool) (xs : List ℕ) (a : ℕ) → ((x : ℕ) → Among x xs → p x ≡ true → q x ≡ true) → Among a xs → p a ≡ false → q a ≡ true → count_by p xs < count_by q xs
-count_strict p q xs a h m e f = sum_strict (λ x. cond (p x) 1 0) (λ x. cond (q x) 1 0) xs a (λ x k. one_or_none (p x) (q x) (h x k)) m (none_then_one (p a) (q a) e f)
+pub count_strict : (p q : ℕ → Bool) (xs : List ℕ) (a : ℕ) → ((x : ℕ) → Among x xs → p x ≡ true → q x ≡ true) → Among a xs → p a ≡ false → q a ≡ true
+    → count_by p xs < count_by q xs
+count_strict p q xs a h m e f = sum_strict (λ x. cond (p x) 1 0) (λ x. cond (q x) 1 0) xs a (λ x k. one_or_none (p x) (q x) (h x k)) m
+    (none_then_one (p a) (q a) e f)

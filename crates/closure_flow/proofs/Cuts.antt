@@ -1,5 +1,6 @@
 -- What a set that no search leaves says of all closed sets.
-use Rattle.std.proofs.Common.{◌≡◌, ℕ, zero, suc, ◌<◌, inl, inr, List, [], ◌∷◌, Bool, true, false, cond, ℤ, pos, negsuc, ◌-ℤ◌, ◌≤ℤ◌, ◌<ℤ◌, refl, sym, ap, ◌∙◌, arith}
+use Rattle.std.proofs.Common.{◌≡◌, ℕ, zero, suc, ◌<◌, inl, inr, List, [], ◌∷◌, Bool, true, false, cond, ℤ, pos}
+use Rattle.std.proofs.Common.{negsuc, ◌-ℤ◌, ◌≤ℤ◌, ◌<ℤ◌, refl, sym, ap, ◌∙◌, subst, arith}
 use Rattle.std.proofs.lemmas.Int.{ints}
 use Rattle.arithmetic.specs.Sums.{total}
 use Rattle.arithmetic.proofs.Sums.{total_same, total-sub, total_swap, total-zero}
@@ -28,16 +29,20 @@ pub net_inside : (ts : List ℕ) (F : ℕ → ℕ → ℕ) (m : ℕ → Bool)
     → total (inside m (net ts F)) ts ≡ total (λ t. total (λ s. cond (m t) (pos (F t s)) (pos 0) -ℤ cond (m s) (pos (F t s)) (pos 0)) ts) ts
 unfolding net
 net_inside ts F m =
-    let split : total (inside m (net ts F)) ts ≡ total (λ t. total (λ s. cond (m t) (pos (F t s)) (pos 0)) ts) ts -ℤ total (λ t. total (λ s. cond (m t) (pos (F s t)) (pos 0)) ts) ts =
+    let split : total (inside m (net ts F)) ts ≡ total (λ t. total (λ s. cond (m t) (pos (F t s)) (pos 0)) ts) ts -ℤ total
+    (λ t. total (λ s. cond (m t) (pos (F s t)) (pos 0)) ts) ts =
     total_same (inside m (net ts F)) (λ t. total (λ s. cond (m t) (pos (F t s)) (pos 0)) ts -ℤ total (λ s. cond (m t) (pos (F s t)) (pos 0)) ts) ts
     (λ t. inside_total (m t) (λ s. pos (F t s) -ℤ pos (F s t)) ts
-    ∙ total_same (λ s. cond (m t) (pos (F t s) -ℤ pos (F s t)) (pos 0)) (λ s. cond (m t) (pos (F t s)) (pos 0) -ℤ cond (m t) (pos (F s t)) (pos 0)) ts (λ s. inside_sub (m t) (pos (F t s)) (pos (F s t)))
+    ∙ total_same (λ s. cond (m t) (pos (F t s) -ℤ pos (F s t)) (pos 0)) (λ s. cond (m t) (pos (F t s)) (pos 0) -ℤ cond (m t) (pos (F s t)) (pos 0))
+    ts (λ s. inside_sub (m t) (pos (F t s)) (pos (F s t)))
     ∙ total-sub (λ s. cond (m t) (pos (F t s)) (pos 0)) (λ s. cond (m t) (pos (F s t)) (pos 0)) ts)
     ∙ total-sub (λ t. total (λ s. cond (m t) (pos (F t s)) (pos 0)) ts) (λ t. total (λ s. cond (m t) (pos (F s t)) (pos 0)) ts) ts in
     let swap : total (λ t. total (λ s. cond (m t) (pos (F s t)) (pos 0)) ts) ts ≡ total (λ t. total (λ s. cond (m s) (pos (F t s)) (pos 0)) ts) ts =
     total_swap (λ t s. cond (m t) (pos (F s t)) (pos 0)) ts ts in
-    let join : total (λ t. total (λ s. cond (m t) (pos (F t s)) (pos 0) -ℤ cond (m s) (pos (F t s)) (pos 0)) ts) ts ≡ total (λ t. total (λ s. cond (m t) (pos (F t s)) (pos 0)) ts) ts -ℤ total (λ t. total (λ s. cond (m s) (pos (F t s)) (pos 0)) ts) ts =
-    total_same (λ t. total (λ s. cond (m t) (pos (F t s)) (pos 0) -ℤ cond (m s) (pos (F t s)) (pos 0)) ts) (λ t. total (λ s. cond (m t) (pos (F t s)) (pos 0)) ts -ℤ total (λ s. cond (m s) (pos (F t s)) (pos 0)) ts) ts
+    let join : total (λ t. total (λ s. cond (m t) (pos (F t s)) (pos 0) -ℤ cond (m s) (pos (F t s)) (pos 0)) ts) ts ≡ total
+    (λ t. total (λ s. cond (m t) (pos (F t s)) (pos 0)) ts) ts -ℤ total (λ t. total (λ s. cond (m s) (pos (F t s)) (pos 0)) ts) ts =
+    total_same (λ t. total (λ s. cond (m t) (pos (F t s)) (pos 0) -ℤ cond (m s) (pos (F t s)) (pos 0)) ts)
+    (λ t. total (λ s. cond (m t) (pos (F t s)) (pos 0)) ts -ℤ total (λ s. cond (m s) (pos (F t s)) (pos 0)) ts) ts
     (λ t. total-sub (λ s. cond (m t) (pos (F t s)) (pos 0)) (λ s. cond (m s) (pos (F t s)) (pos 0)) ts)
     ∙ total-sub (λ t. total (λ s. cond (m t) (pos (F t s)) (pos 0)) ts) (λ t. total (λ s. cond (m s) (pos (F t s)) (pos 0)) ts) ts in
     split ∙ ap (λ (z : ℤ). total (λ t. total (λ s. cond (m t) (pos (F t s)) (pos 0)) ts) ts -ℤ z) swap ∙ sym join
@@ -59,7 +64,8 @@ pair_none true false (suc n) h k = absurd (let e : false ≡ true = h (omega ari
 pair_none false true (suc n) h k = absurd (let e : false ≡ true = k (omega arith) refl in cc)
 
 -- no flow leaves a closed set on balance
-pub net_of_closed : (ts : List ℕ) (F : ℕ → ℕ → ℕ) (m : ℕ → Bool) → ((c p : ℕ) → Among c ts → Among p ts → 0 < F c p → m c ≡ true → m p ≡ true) → total (inside m (net ts F)) ts ≤ℤ pos 0
+pub net_of_closed : (ts : List ℕ) (F : ℕ → ℕ → ℕ) (m : ℕ → Bool) → ((c p : ℕ) → Among c ts → Among p ts → 0 < F c p → m c ≡ true → m p ≡ true)
+    → total (inside m (net ts F)) ts ≤ℤ pos 0
 net_of_closed ts F m closed =
     let low : total (λ t. total (λ s. cond (m t) (pos (F t s)) (pos 0) -ℤ cond (m s) (pos (F t s)) (pos 0)) ts) ts ≤ℤ total {A = ℕ} (λ s. pos 0) ts =
     total_along_le (λ s. pos 0) (λ t. total (λ s. cond (m t) (pos (F t s)) (pos 0) -ℤ cond (m s) (pos (F t s)) (pos 0)) ts) ts
@@ -83,6 +89,40 @@ net_of_sealed ts F m closed sealed =
     (λ s hs. pair_none (m t) (m s) (F t s) (closed t s ht hs) (sealed t s ht hs))
     ∙ total-zero ts)
     ∙ total-zero ts
+
+-- a sum of terms that aren't above 0 isn't, and where one is below 0 it is
+total_low : (f : ℕ → ℤ) (ts : List ℕ) → ((s : ℕ) → Among s ts → f s ≤ℤ pos 0) → total f ts ≤ℤ pos 0
+total_low f [] low = omega (arith, ints)
+total_low f (x ∷ xs) low = omega (arith, ints, low x (inl refl), total_low f xs (λ s h. low s (inr h)))
+
+total_below : (f : ℕ → ℤ) (k : ℕ) (ts : List ℕ) → ((s : ℕ) → Among s ts → f s ≤ℤ pos 0) → Among k ts → f k <ℤ pos 0
+    → total f ts <ℤ pos 0
+total_below f k [] low h less = absurd h
+total_below f k (x ∷ xs) low (inl e) less =
+    let head : f x <ℤ pos 0 = subst (λ (n : ℕ). f n <ℤ pos 0) e less in
+    omega (arith, ints, head, total_low f xs (λ s h. low s (inr h)))
+total_below f k (x ∷ xs) low (inr h) less =
+    omega (arith, ints, low x (inl refl), total_below f k xs (λ s m. low s (inr m)) h less)
+
+pair_below : (a b : Bool) (n : ℕ) → a ≡ false → b ≡ true → 0 < n → (cond a (pos n) (pos 0) -ℤ cond b (pos n) (pos 0)) <ℤ pos 0
+pair_below false true n e f h = omega (arith, ints, h)
+pair_below true b n e f h = absurd (let k : true ≡ false = e in cc)
+pair_below false false n e f h = absurd (let k : false ≡ true = f in cc)
+
+-- less than none leaves a closed set that some enters
+pub net_of_entered : (ts : List ℕ) (F : ℕ → ℕ → ℕ) (m : ℕ → Bool) (c p : ℕ)
+    → ((c p : ℕ) → Among c ts → Among p ts → 0 < F c p → m c ≡ true → m p ≡ true)
+    → Among c ts → Among p ts → 0 < F c p → m p ≡ true → m c ≡ false
+    → total (inside m (net ts F)) ts <ℤ pos 0
+net_of_entered ts F m c p closed hc hp some p_in c_out =
+    let term : ℕ → ℕ → ℤ = λ t s. cond (m t) (pos (F t s)) (pos 0) -ℤ cond (m s) (pos (F t s)) (pos 0) in
+    let each : (t s : ℕ) → Among t ts → Among s ts → term t s ≤ℤ pos 0 =
+    λ t s ht hs. pair_low (m t) (m s) (F t s) (closed t s ht hs) in
+    let here : total (term c) ts <ℤ pos 0 =
+    total_below (term c) p ts (λ s hs. each c s hc hs) hp (pair_below (m c) (m p) (F c p) c_out p_in some) in
+    let all : total (λ t. total (term t) ts) ts <ℤ pos 0 =
+    total_below (λ t. total (term t) ts) c ts (λ t ht. total_low (term t) ts (λ s hs. each t s ht hs)) hc here in
+    omega (arith, ints, all, net_inside ts F m)
 
 -- the rests of a set are at most all that is above 0, and just that where the set has all of it and nothing below 0
 pub rests_low : (rest : ℕ → ℤ) (m : ℕ → Bool) (ts : List ℕ) → total (inside m rest) ts ≤ℤ pos (surplus rest ts)

@@ -1,5 +1,6 @@
 -- The first places as a set to solve: its sums are those of the whole lists.
-use Rattle.std.proofs.Common.{◌≡◌, ℕ, zero, suc, ◌+◌, ◌<◌, ◌≤◌, List, [], ◌∷◌, length, get_or, Bool, true, false, cond, nat_lt, ℤ, pos, unsigned_abs, refl, sym, ap, ◌∙◌, arith, lt-ltb, le-ltb}
+use Rattle.std.proofs.Common.{◌≡◌, ℕ, zero, suc, ◌+◌, ◌<◌, ◌≤◌, List, [], ◌∷◌, length, get_or, Bool, true, false}
+use Rattle.std.proofs.Common.{cond, nat_lt, ℤ, pos, unsigned_abs, refl, sym, ap, ◌∙◌, arith, lt-ltb, le-ltb}
 use Rattle.std.proofs.lemmas.Bool.Decides.{nat_tests}
 use Rattle.std.proofs.lemmas.Int.{ints}
 use Rattle.std.proofs.lemmas.List.Sums.{sum_by-cons}
@@ -20,7 +21,8 @@ first_pass : (a k n end : ℕ) → a + k ≡ end → k ≤ n → filter (λ q. n
 first_pass a zero n end e h = none_pass (λ q. nat_lt q end) a n (λ q l. le-ltb q end (omega arith))
 first_pass a (suc k) zero end e h = absurd (omega arith)
 first_pass a (suc k) (suc n) end e h =
-    ap (λ (b : Bool). cond b (a ∷ filter (λ q. nat_lt q end) (range_with_len (a + 1) n)) (filter (λ q. nat_lt q end) (range_with_len (a + 1) n))) (lt-ltb a end (omega arith))
+    ap (λ (b : Bool). cond b (a ∷ filter (λ q. nat_lt q end) (range_with_len (a + 1) n)) (filter (λ q. nat_lt q end) (range_with_len (a + 1) n)))
+    (lt-ltb a end (omega arith))
     ∙ ap (λ xs. a ∷ xs) (first_pass (a + 1) k n end (omega arith) (omega arith))
 
 pub places-first : (n k : ℕ) → k ≤ n → places n (first_places k) ≡ range_with_len 0 k
@@ -28,7 +30,8 @@ places-first n k h =
     filter_agree_from (set.contains (first_places k)) (λ q. nat_lt q k) 0 n (λ q l. contains-first_places k q)
     ∙ first_pass 0 k n k (omega arith) h
 
-pub total_read : (ws : List ℤ) (f : ℕ → ℤ) (a : ℕ) → ((i : ℕ) → i < length ws → f (a + i) ≡ get_or ws i (pos 0)) → total f (range_with_len a (length ws)) ≡ total (λ z. z) ws
+pub total_read : (ws : List ℤ) (f : ℕ → ℤ) (a : ℕ) → ((i : ℕ) → i < length ws → f (a + i) ≡ get_or ws i (pos 0))
+    → total f (range_with_len a (length ws)) ≡ total (λ z. z) ws
 total_read [] f a h = refl
 total_read (w ∷ ws) f a h =
     let first : f a ≡ w = ap f (let e : a ≡ a + 0 = omega arith in e) ∙ h 0 (omega arith) in
@@ -36,7 +39,8 @@ total_read (w ∷ ws) f a h =
     total_read ws f (a + 1) (λ i l. ap f (let e : (a + 1) + i ≡ a + suc i = omega arith in e) ∙ h (suc i) (omega arith)) in
     omega (arith, ints, first, others)
 
-pub sum_read : (ws : List ℤ) (f : ℕ → ℕ) (a : ℕ) → ((i : ℕ) → i < length ws → f (a + i) ≡ unsigned_abs (get_or ws i (pos 0))) → sum_by f (range_with_len a (length ws)) ≡ sum_by unsigned_abs ws
+pub sum_read : (ws : List ℤ) (f : ℕ → ℕ) (a : ℕ) → ((i : ℕ) → i < length ws → f (a + i) ≡ unsigned_abs (get_or ws i (pos 0)))
+    → sum_by f (range_with_len a (length ws)) ≡ sum_by unsigned_abs ws
 sum_read [] f a h = refl
 sum_read (w ∷ ws) f a h =
     let first : f a ≡ unsigned_abs w = ap f (let e : a ≡ a + 0 = omega arith in e) ∙ h 0 (omega arith) in
@@ -47,7 +51,8 @@ sum_read (w ∷ ws) f a h =
 pub weight-first : (n : ℕ) (ws : List ℤ) → length ws ≤ n → weight_of n ws (first_places (length ws)) ≡ total (λ z. z) ws
 weight-first n ws h = ap (total (weight_at ws)) (places-first n (length ws) h) ∙ total_read ws (weight_at ws) 0 (λ i l. ap (weight_at ws) (omega arith))
 
-pub small-first : (n : ℕ) (ws : List ℤ) → length ws ≤ n → sum_by (λ t. unsigned_abs (weight_at ws t)) (places n (first_places (length ws))) ≡ sum_by unsigned_abs ws
+pub small-first : (n : ℕ) (ws : List ℤ) → length ws ≤ n
+    → sum_by (λ t. unsigned_abs (weight_at ws t)) (places n (first_places (length ws))) ≡ sum_by unsigned_abs ws
 small-first n ws h =
     ap (sum_by (λ t. unsigned_abs (weight_at ws t))) (places-first n (length ws) h)
     ∙ sum_read ws (λ t. unsigned_abs (weight_at ws t)) 0 (λ i l. ap (λ t. unsigned_abs (weight_at ws t)) (omega arith))

@@ -1,5 +1,6 @@
 -- The first flow: amounts that go from a place to parents of it, each place in its turn.
-use Rattle.std.proofs.Common.{◌≡◌, ℕ, ◌+◌, ◌-◌, ◌^◌, ◌<◌, ◌≤◌, ◌⊎◌, inl, inr, List, Bool, true, false, cond, nat_eq, ℤ, pos, negsuc, ◌+ℤ◌, ◌-ℤ◌, ◌<ℤ◌, refl, sym, ap, ◌∙◌, subst, arith, eq-eqb, ne_eqb}
+use Rattle.std.proofs.Common.{◌≡◌, ℕ, ◌+◌, ◌-◌, ◌^◌, ◌<◌, ◌≤◌, ◌⊎◌, inl, inr, List, Bool, true, false, cond, nat_eq}
+use Rattle.std.proofs.Common.{ℤ, pos, negsuc, ◌+ℤ◌, ◌-ℤ◌, ◌<ℤ◌, refl, sym, ap, ◌∙◌, subst, arith, eq-eqb, ne_eqb}
 use Rattle.std.proofs.lemmas.Bool.{cases_eq}
 use Rattle.std.proofs.lemmas.Int.{ints}
 use Rattle.std.specs.Ordering.{nat_cmp}
@@ -101,7 +102,8 @@ this_or_not c p a b = elim (cases_eq c a) as (λ _. ((c ≡ a) × (p ≡ b)) ⊎
 ]
 
 first_hand : (n : ℕ) (parents : List (set.FinSet nat_cmp)) (within to_come : set.FinSet nat_cmp) (F G : ℕ → ℕ → ℕ) (r s : ℕ → ℤ) (from to amount : ℕ)
-    → IsHanding n parents within to_come r from to amount → Hands n F r G s from to amount → IsFirst n parents within to_come F r → IsFirst n parents within to_come G s
+    → IsHanding n parents within to_come r from to amount → Hands n F r G s from to amount → IsFirst n parents within to_come F r
+    → IsFirst n parents within to_come G s
 first_hand n parents within to_come F G r s from to amount h k old =
     record { allowed = allowed; inside = old.inside; held = held; fresh = fresh; short = omega (arith, lower, old.short) }
   where
@@ -112,14 +114,16 @@ first_hand n parents within to_come F G r s from to amount h k old =
     allowed c p hc m f = elim (this_or_not c p from to) as (λ _. (set.contains within c ≡ true) × (set.contains (parents_at parents c) p ≡ true)) [
       | inl e ↦ (
         ap (λ (x : ℕ). set.contains within x) e.0 ∙ h.from_in,
-        subst (λ (x : ℕ). set.contains (parents_at parents x) p ≡ true) (sym e.0) (subst (λ (y : ℕ). set.contains (parents_at parents from) y ≡ true) (sym e.1) h.pair),
+        subst (λ (x : ℕ). set.contains (parents_at parents x) p ≡ true) (sym e.0)
+            (subst (λ (y : ℕ). set.contains (parents_at parents from) y ≡ true) (sym e.1) h.pair),
       )
       | inr ne ↦ old.allowed c p hc m (subst (λ (x : ℕ). 0 < x) (k.others c p hc (h.below p m) ne) f)
     ]
 
     at_from : (p : ℕ) → set.contains within p ≡ true → G from p + up (s from) < 2 ^ 126
     at_from p m =
-        let less : up (s from) + amount ≡ up (r from) = ap (λ (z : ℤ). up z + amount) (rest_from n parents within to_come F G r s from to amount h k) ∙ up_left (r from) amount h.left in
+        let less : up (s from) + amount ≡ up (r from) = ap (λ (z : ℤ). up z + amount) (rest_from n parents within to_come F G r s from to amount h k)
+        ∙ up_left (r from) amount h.left in
         elim (cases_eq p to) as (λ _. G from p + up (s from) < 2 ^ 126) [
           | inl e ↦ subst (λ (y : ℕ). G from y + up (s from) < 2 ^ 126) (sym e) (omega (arith, k.here, less, old.held from to h.from_in h.to_in))
           | inr ne ↦ omega (arith, k.others from p (h.below from h.from_in) (h.below p m) (λ q. ne q.1), less, old.held from p h.from_in m)
@@ -130,7 +134,14 @@ first_hand n parents within to_come F G r s from to amount h k old =
         let same : G to p ≡ F to p = k.others to p (h.below to h.to_in) (h.below p m) (λ q. h.apart (sym q.0)) in
         let is : s to ≡ r to +ℤ pos amount = rest_to n parents within to_come F G r s from to amount h k in
         elim h.sink as (λ _. G to p + up (s to) < 2 ^ 126) [
-          | inl later ↦ omega (arith, same, old.fresh to p later m, up_within s to (places n within) (among_places n within to (h.below to h.to_in) h.to_in), lower, old.short)
+          | inl later ↦ omega (
+            arith,
+            same,
+            old.fresh to p later m,
+            up_within s to (places n within) (among_places n within to (h.below to h.to_in) h.to_in),
+            lower,
+            old.short,
+          )
           | inr lacks ↦ omega (arith, same, ap up is, up_filled (r to) amount lacks, old.held to p h.to_in m)
         ]
 
@@ -139,7 +150,12 @@ first_hand n parents within to_come F G r s from to amount h k old =
       | inl e ↦ subst (λ (x : ℕ). G x p + up (s x) < 2 ^ 126) (sym e) (at_from p m)
       | inr ne ↦ elim (cases_eq c to) as (λ _. G c p + up (s c) < 2 ^ 126) [
         | inl e ↦ subst (λ (x : ℕ). G x p + up (s x) < 2 ^ 126) (sym e) (at_to p m)
-        | inr nf ↦ omega (arith, k.others c p (h.below c a) (h.below p m) (λ q. ne q.0), ap up (rest_other n F G r s from to amount c k (h.below c a) ne nf), old.held c p a m)
+        | inr nf ↦ omega (
+          arith,
+          k.others c p (h.below c a) (h.below p m) (λ q. ne q.0),
+          ap up (rest_other n F G r s from to amount c k (h.below c a) ne nf),
+          old.held c p a m,
+        )
       ]
     ]
 
@@ -151,7 +167,8 @@ first_hand n parents within to_come F G r s from to amount h k old =
 hands_keep : (n : ℕ) (parents : List (set.FinSet nat_cmp)) (within to_come : set.FinSet nat_cmp) (F G : ℕ → ℕ → ℕ) (r s : ℕ → ℤ) (from to amount : ℕ)
     → IsHanding n parents within to_come r from to amount → Hands n F r G s from to amount → Keeps n within F r G s
 hands_keep n parents within to_come F G r s from to amount h k t m =
-    same (s t) (r t) (net (places n within) G t) (net (places n within) F t) (only_at from (pos amount) t) (only_at to (pos amount) t) (k.rests t (h.below t m)) moved
+    same (s t) (r t) (net (places n within) G t) (net (places n within) F t) (only_at from (pos amount) t) (only_at to (pos amount) t)
+    (k.rests t (h.below t m)) moved
   where
     moved : net (places n within) G t ≡ (net (places n within) F t +ℤ only_at from (pos amount) t) -ℤ only_at to (pos amount) t
     moved =
@@ -164,12 +181,18 @@ hands_keep n parents within to_come F G r s from to amount h k t m =
     same x y z w a b e f = omega (arith, ints, e, f)
 
 pub arranges_hand : (n : ℕ) (parents : List (set.FinSet nat_cmp)) (within to_come : set.FinSet nat_cmp) (F G : ℕ → ℕ → ℕ) (r s : ℕ → ℤ) (from to amount : ℕ)
-    → IsHanding n parents within to_come r from to amount → Hands n F r G s from to amount → IsFirst n parents within to_come F r → Arranges n parents within to_come F r G s
+    → IsHanding n parents within to_come r from to amount → Hands n F r G s from to amount → IsFirst n parents within to_come F r
+    → Arranges n parents within to_come F r G s
 arranges_hand n parents within to_come F G r s from to amount h k old =
-    record { first = first_hand n parents within to_come F G r s from to amount h k old; keeps = hands_keep n parents within to_come F G r s from to amount h k }
+    record {
+      first = first_hand n parents within to_come F G r s from to amount h k old;
+      keeps =
+          hands_keep n parents within to_come F G r s from to amount h k;
+    }
 
 -- ---- one after another
-pub arranges_none : (n : ℕ) (parents : List (set.FinSet nat_cmp)) (within to_come : set.FinSet nat_cmp) (F : ℕ → ℕ → ℕ) (r : ℕ → ℤ) → IsFirst n parents within to_come F r → Arranges n parents within to_come F r F r
+pub arranges_none : (n : ℕ) (parents : List (set.FinSet nat_cmp)) (within to_come : set.FinSet nat_cmp) (F : ℕ → ℕ → ℕ) (r : ℕ → ℤ)
+    → IsFirst n parents within to_come F r → Arranges n parents within to_come F r F r
 arranges_none n parents within to_come F r f = record { first = f; keeps = λ t h. refl }
 
 pub arranges_more : (n : ℕ) (parents : List (set.FinSet nat_cmp)) (within before to_come : set.FinSet nat_cmp) (F G H : ℕ → ℕ → ℕ) (r s u : ℕ → ℤ)
@@ -177,7 +200,8 @@ pub arranges_more : (n : ℕ) (parents : List (set.FinSet nat_cmp)) (within befo
 arranges_more n parents within before to_come F G H r s u a b = record { first = b.first; keeps = λ t h. b.keeps t h ∙ a.keeps t h }
 
 -- a place has its turn
-pub first_turn : (n : ℕ) (parents : List (set.FinSet nat_cmp)) (within to_come : set.FinSet nat_cmp) (F : ℕ → ℕ → ℕ) (r : ℕ → ℤ) (place : ℕ) → IsFirst n parents within to_come F r → IsFirst n parents within (set.remove to_come place) F r
+pub first_turn : (n : ℕ) (parents : List (set.FinSet nat_cmp)) (within to_come : set.FinSet nat_cmp) (F : ℕ → ℕ → ℕ) (r : ℕ → ℤ) (place : ℕ)
+    → IsFirst n parents within to_come F r → IsFirst n parents within (set.remove to_come place) F r
 first_turn n parents within to_come F r place f =
     record {
       allowed = f.allowed;
@@ -198,7 +222,8 @@ first_start n parents within F r below none small =
       short = small;
     }
 
-pub first_improves : (n : ℕ) (parents : List (set.FinSet nat_cmp)) (within to_come : set.FinSet nat_cmp) (F G : ℕ → ℕ → ℕ) (r s : ℕ → ℤ) → Arranges n parents within to_come F r G s → Improves n parents within F r G s
+pub first_improves : (n : ℕ) (parents : List (set.FinSet nat_cmp)) (within to_come : set.FinSet nat_cmp) (F G : ℕ → ℕ → ℕ) (r s : ℕ → ℤ)
+    → Arranges n parents within to_come F r G s → Improves n parents within F r G s
 first_improves n parents within to_come F G r s a =
     record {
       steady = record {
@@ -212,7 +237,12 @@ first_improves n parents within to_come F G r s a =
 -- ---- what was given
 pub hands_none : (n : ℕ) (F : ℕ → ℕ → ℕ) (r : ℕ → ℤ) (from to : ℕ) → Hands n F r F r from to 0
 hands_none n F r from to =
-    record { here = omega arith; others = λ c p hc hp ne. refl; rests = λ t h. same (r t) (only_at from (pos 0) t) (only_at to (pos 0) t) (nothing from t) (nothing to t) }
+    record {
+      here = omega arith;
+      others = λ c p hc hp ne. refl;
+      rests =
+          λ t h. same (r t) (only_at from (pos 0) t) (only_at to (pos 0) t) (nothing from t) (nothing to t);
+    }
   where
     nothing : (k t : ℕ) → only_at k (pos 0) t ≡ pos 0
     nothing k t = either (nat_eq t k)
@@ -235,7 +265,8 @@ room_for_left n parents within to_come F r from to amount f below a b h =
     (omega (arith, ints, h, left, held, all), omega (arith, h, f.held from to a b))
 
 pub arranges_give : (n : ℕ) (parents : List (set.FinSet nat_cmp)) (within to_come : set.FinSet nat_cmp) (F G : ℕ → ℕ → ℕ) (r s : ℕ → ℤ) (from to : ℕ)
-    → IsWithin n within → set.contains within from ≡ true → set.contains within to ≡ true → set.contains (parents_at parents from) to ≡ true → (from ≡ to → ⊥) → set.contains to_come from ≡ false
+    → IsWithin n within → set.contains within from ≡ true → set.contains within to ≡ true → set.contains (parents_at parents from) to ≡ true
+    → (from ≡ to → ⊥) → set.contains to_come from ≡ false
     → Gives n F r G s from to → IsFirst n parents within to_come F r → Arranges n parents within to_come F r G s
 arranges_give n parents within to_come F G r s from to below a b pair apart past k f =
     arranges_hand n parents within to_come F G r s from to k.amount

@@ -1,6 +1,8 @@
 -- What sending along a shortest path does to a labelling: it stays one, no pair of places is new where it rises, and a
 -- pair or a place that was unsettled is used up.
-use Rattle.std.proofs.Common.{◌≡◌, ℕ, zero, suc, ◌+◌, ◌<◌, ◌≤◌, ◌⊎◌, inl, inr, List, length, Bool, true, false, ◌&&◌, ◌||◌, nat_eq, nat_lt, Option, Some, None, ℤ, pos, negsuc, ◌<ℤ◌, refl, sym, ap, ◌∙◌, subst, arith, eq-eqb, ne_eqb}
+use Rattle.std.proofs.Common.{◌≡◌, ℕ, zero, suc, ◌+◌, ◌<◌, ◌≤◌, ◌⊎◌, inl, inr, List, length, Bool, true, false, ◌&&◌}
+use Rattle.std.proofs.Common.{◌||◌, nat_eq, nat_lt, Option, Some, None, ℤ, pos, negsuc, ◌<ℤ◌, refl, sym, ap, ◌∙◌}
+use Rattle.std.proofs.Common.{subst, arith, eq-eqb, ne_eqb}
 use Rattle.std.proofs.lemmas.Bool.{cases_eq, cases_lt, lt-ltb, ltb-true, false_from_ne_true}
 use Rattle.std.proofs.lemmas.Int.{ints}
 use Rattle.std.specs.List.{count_by}
@@ -37,7 +39,8 @@ right_of true b e = refl
 right_of false b e = e
 
 -- ---- what is uphill
-leads_of : (parents : List (set.FinSet nat_cmp)) (flow : ℕ → ℕ → ℕ) (label : ℕ → ℕ) (u v : ℕ) → is_uphill parents flow label u v ≡ true → Leads parents flow u v × (label v ≡ label u + 1)
+leads_of : (parents : List (set.FinSet nat_cmp)) (flow : ℕ → ℕ → ℕ) (label : ℕ → ℕ) (u v : ℕ) → is_uphill parents flow label u v ≡ true
+    → Leads parents flow u v × (label v ≡ label u + 1)
 leads_of parents flow label u v e =
     let both = both_of (set.contains (parents_at parents u) v || nat_lt 0 (flow v u)) (nat_eq (label v) (label u + 1)) e in (
       elim (either_of (set.contains (parents_at parents u) v) (nat_lt 0 (flow v u)) both.0) as (λ _. Leads parents flow u v) [
@@ -47,7 +50,8 @@ leads_of parents flow label u v e =
       elim (cases_eq (label v) (label u + 1)) as (λ _. label v ≡ label u + 1) [ inl same ↦ same | inr other ↦ clash _ both.1 (ne_eqb _ _ other) ],
     )
 
-of_leads : (parents : List (set.FinSet nat_cmp)) (flow : ℕ → ℕ → ℕ) (label : ℕ → ℕ) (u v : ℕ) → Leads parents flow u v → label v ≡ label u + 1 → is_uphill parents flow label u v ≡ true
+of_leads : (parents : List (set.FinSet nat_cmp)) (flow : ℕ → ℕ → ℕ) (label : ℕ → ℕ) (u v : ℕ) → Leads parents flow u v → label v ≡ label u + 1
+    → is_uphill parents flow label u v ≡ true
 of_leads parents flow label u v (inl p) e = to_both _ _ (left_of _ _ p) (eq-eqb _ _ e)
 of_leads parents flow label u v (inr f) e = to_both _ _ (right_of _ _ (lt-ltb 0 (flow v u) f)) (eq-eqb _ _ e)
 
@@ -67,7 +71,8 @@ none_left : (z : ℤ) → z ≡ pos 0 → is_some_left z ≡ false
 none_left z e = ap is_some_left e
 
 -- ---- an amount that went along the path to an entry, as far as its labelling goes
-pub record Along (n : ℕ) (parents : List (set.FinSet nat_cmp)) (within : set.FinSet nat_cmp) (F G : ℕ → ℕ → ℕ) (r s : ℕ → ℤ) (es : List Entry) (at : ℕ) : Type 0 where
+pub record Along (n : ℕ) (parents : List (set.FinSet nat_cmp)) (within : set.FinSet nat_cmp) (F G : ℕ → ℕ → ℕ) (r s : ℕ → ℤ) (es : List Entry)
+    (at : ℕ) : Type 0 where
   pub below : IsWithin n within
   -- a pair has more flow only where the path goes along it
   pub grown : (c p : ℕ) → set.contains within c ≡ true → set.contains within p ≡ true → F c p < G c p → IsStep es at c p
@@ -79,9 +84,11 @@ pub record Along (n : ℕ) (parents : List (set.FinSet nat_cmp)) (within : set.F
 abbrev pub UsesUp : (parents : List (set.FinSet nat_cmp)) (within : set.FinSet nat_cmp) (F G : ℕ → ℕ → ℕ) (r s : ℕ → ℤ) (es : List Entry) (at : ℕ) → Type 0
 UsesUp parents within F G r s es at =
     ((t : ℕ) × (set.contains within t ≡ true) × (s t ≡ pos 0) × ((pos 0 <ℤ r t) ⊎ (r t <ℤ pos 0)))
-    ⊎ ((u : ℕ) × (v : ℕ) × IsStep es at u v × (set.contains within u ≡ true) × (set.contains within v ≡ true) × (set.contains (parents_at parents u) v ≡ false) × (0 < F v u) × (G v u ≡ 0))
+    ⊎ ((u : ℕ) × (v : ℕ) × IsStep es at u v × (set.contains within u ≡ true) × (set.contains within v ≡ true) ×
+    (set.contains (parents_at parents u) v ≡ false) × (0 < F v u) × (G v u ≡ 0))
 
-still_labels : (n : ℕ) (parents : List (set.FinSet nat_cmp)) (within : set.FinSet nat_cmp) (F G : ℕ → ℕ → ℕ) (r s : ℕ → ℤ) (es : List Entry) (at : ℕ) (label : ℕ → ℕ) (end : ℕ)
+still_labels : (n : ℕ) (parents : List (set.FinSet nat_cmp)) (within : set.FinSet nat_cmp) (F G : ℕ → ℕ → ℕ) (r s : ℕ → ℤ) (es : List Entry) (at : ℕ)
+    (label : ℕ → ℕ) (end : ℕ)
     → Along n parents within F G r s es at → Climbs es at label → IsLabelling parents within F r label end → IsLabelling parents within G s label end
 still_labels n parents within F G r s es at label end a climbs valid =
     record {
@@ -97,7 +104,8 @@ still_labels n parents within F G r s es at label end a climbs valid =
     }
 
 -- each pair of places where the labelling rises was one before
-still_uphill : (n : ℕ) (parents : List (set.FinSet nat_cmp)) (within : set.FinSet nat_cmp) (F G : ℕ → ℕ → ℕ) (r s : ℕ → ℤ) (es : List Entry) (at : ℕ) (label : ℕ → ℕ)
+still_uphill : (n : ℕ) (parents : List (set.FinSet nat_cmp)) (within : set.FinSet nat_cmp) (F G : ℕ → ℕ → ℕ) (r s : ℕ → ℤ) (es : List Entry) (at : ℕ)
+    (label : ℕ → ℕ)
     → Along n parents within F G r s es at → Climbs es at label → (u v : ℕ) → Among u (places n within) → Among v (places n within)
     → is_uphill parents G label u v ≡ true → is_uphill parents F label u v ≡ true
 still_uphill n parents within F G r s es at label a climbs u v hu hv e =
@@ -126,12 +134,14 @@ unfolding unsettled
 fewer_unsettled n parents within F G r s es at a =
     count_mono (λ t. is_some_left (s t)) (λ t. is_some_left (r t)) (places n within) (still_some n parents within F G r s es at a)
 
-fewer_uphill : (n : ℕ) (parents : List (set.FinSet nat_cmp)) (within : set.FinSet nat_cmp) (F G : ℕ → ℕ → ℕ) (r s : ℕ → ℤ) (es : List Entry) (at : ℕ) (label : ℕ → ℕ)
+fewer_uphill : (n : ℕ) (parents : List (set.FinSet nat_cmp)) (within : set.FinSet nat_cmp) (F G : ℕ → ℕ → ℕ) (r s : ℕ → ℤ) (es : List Entry) (at : ℕ)
+    (label : ℕ → ℕ)
     → Along n parents within F G r s es at → Climbs es at label → uphill parents G label (places n within) ≤ uphill parents F label (places n within)
 unfolding uphill
 fewer_uphill n parents within F G r s es at label a climbs =
     sum_mono (λ u. count_by (is_uphill parents G label u) (places n within)) (λ u. count_by (is_uphill parents F label u) (places n within)) (places n within)
-    (λ u hu. count_mono (is_uphill parents G label u) (is_uphill parents F label u) (places n within) (λ v hv. still_uphill n parents within F G r s es at label a climbs u v hu hv))
+    (λ u hu. count_mono (is_uphill parents G label u) (is_uphill parents F label u) (places n within)
+    (λ v hv. still_uphill n parents within F G r s es at label a climbs u v hu hv))
 
 less_unsettled : (n : ℕ) (parents : List (set.FinSet nat_cmp)) (within : set.FinSet nat_cmp) (F G : ℕ → ℕ → ℕ) (r s : ℕ → ℤ) (es : List Entry) (at t : ℕ)
     → Along n parents within F G r s es at → set.contains within t ≡ true → s t ≡ pos 0 → (pos 0 <ℤ r t) ⊎ (r t <ℤ pos 0)
@@ -141,7 +151,8 @@ less_unsettled n parents within F G r s es at t a m none some =
     count_strict (λ t. is_some_left (s t)) (λ t. is_some_left (r t)) (places n within) t (still_some n parents within F G r s es at a)
     (among_places n within t (a.below t m) m) (none_left (s t) none) (left_some (r t) some)
 
-less_uphill : (n : ℕ) (parents : List (set.FinSet nat_cmp)) (within : set.FinSet nat_cmp) (F G : ℕ → ℕ → ℕ) (r s : ℕ → ℤ) (es : List Entry) (at : ℕ) (label : ℕ → ℕ) (u v : ℕ)
+less_uphill : (n : ℕ) (parents : List (set.FinSet nat_cmp)) (within : set.FinSet nat_cmp) (F G : ℕ → ℕ → ℕ) (r s : ℕ → ℤ) (es : List Entry) (at : ℕ)
+    (label : ℕ → ℕ) (u v : ℕ)
     → Along n parents within F G r s es at → Climbs es at label → IsStep es at u v → set.contains within u ≡ true → set.contains within v ≡ true
     → set.contains (parents_at parents u) v ≡ false → 0 < F v u → G v u ≡ 0
     → uphill parents G label (places n within) < uphill parents F label (places n within)
@@ -151,26 +162,35 @@ less_uphill n parents within F G r s es at label u v a climbs step mu mv out som
     let hv = among_places n within v (a.below v mv) mv in
     let gone : is_uphill parents G label u v ≡ false =
     false_from_ne_true _ (λ e. elim (leads_of parents G label u v e).0 as (λ _. ⊥) [ inl p ↦ clash _ p out | inr f ↦ omega (arith, f, none) ]) in
-    sum_strict (λ u. count_by (is_uphill parents G label u) (places n within)) (λ u. count_by (is_uphill parents F label u) (places n within)) (places n within) u
-    (λ x hx. count_mono (is_uphill parents G label x) (is_uphill parents F label x) (places n within) (λ y hy. still_uphill n parents within F G r s es at label a climbs x y hx hy))
+    sum_strict (λ u. count_by (is_uphill parents G label u) (places n within)) (λ u. count_by (is_uphill parents F label u) (places n within))
+    (places n within) u
+    (λ x hx. count_mono (is_uphill parents G label x) (is_uphill parents F label x) (places n within)
+    (λ y hy. still_uphill n parents within F G r s es at label a climbs x y hx hy))
     hu
-    (count_strict (is_uphill parents G label u) (is_uphill parents F label u) (places n within) v (λ y hy. still_uphill n parents within F G r s es at label a climbs u y hu hy) hv gone
+    (count_strict (is_uphill parents G label u) (is_uphill parents F label u) (places n within) v
+    (λ y hy. still_uphill n parents within F G r s es at label a climbs u y hu hy) hv gone
     (of_leads parents F label u v (inr some) (climbs u v step)))
 
-pub spends : (n : ℕ) (parents : List (set.FinSet nat_cmp)) (within : set.FinSet nat_cmp) (F G : ℕ → ℕ → ℕ) (r s : ℕ → ℤ) (es : List Entry) (at : ℕ) (label : ℕ → ℕ) (end : ℕ)
+pub spends : (n : ℕ) (parents : List (set.FinSet nat_cmp)) (within : set.FinSet nat_cmp) (F G : ℕ → ℕ → ℕ) (r s : ℕ → ℤ) (es : List Entry) (at : ℕ)
+    (label : ℕ → ℕ) (end : ℕ)
     → Along n parents within F G r s es at → UsesUp parents within F G r s es at → Climbs es at label → IsLabelling parents within F r label end
     → Spends parents within (places n within) F r G s label end
 spends n parents within F G r s es at label end a used climbs valid =
     record {
       valid = still_labels n parents within F G r s es at label end a climbs valid;
-      fewer = elim used as (λ _. unsettled s (places n within) + uphill parents G label (places n within) < unsettled r (places n within) + uphill parents F label (places n within)) [
-        | inl place ↦ omega (arith, less_unsettled n parents within F G r s es at place.0 a place.1 place.2 place.3, fewer_uphill n parents within F G r s es at label a climbs)
-        | inr pair ↦ omega (
-          arith,
-          fewer_unsettled n parents within F G r s es at a,
-          less_uphill n parents within F G r s es at label pair.0 pair.1 a climbs pair.2 pair.3 pair.4 pair.5 pair.6 pair.7,
-        )
-      ];
+      fewer = elim used as (λ _. unsettled s (places n within) + uphill parents G label (places n within) < unsettled r (places n within)
+          + uphill parents F label (places n within)) [
+            | inl place ↦ omega (
+              arith,
+              less_unsettled n parents within F G r s es at place.0 a place.1 place.2 place.3,
+              fewer_uphill n parents within F G r s es at label a climbs,
+            )
+            | inr pair ↦ omega (
+              arith,
+              fewer_unsettled n parents within F G r s es at a,
+              less_uphill n parents within F G r s es at label pair.0 pair.1 a climbs pair.2 pair.3 pair.4 pair.5 pair.6 pair.7,
+            )
+          ];
     }
 
 -- ---- a labelling beside the one that shows a path shortest
@@ -206,7 +226,8 @@ module _ (n : ℕ) (parents : List (set.FinSet nat_cmp)) (within : set.FinSet na
   not_above zero k h = absurd (omega arith)
   not_above (suc fuel) k h = by (from_at es (back es at k)) refl (λ less. not_above fuel (suc k) less)
     where
-      by : (o : Option ℕ) → from_at es (back es at k) ≡ o → (back es at (suc k) < fuel → label (place_at es (back es at (suc k))) ≤ path.label (place_at es (back es at (suc k))))
+      by : (o : Option ℕ) → from_at es (back es at k) ≡ o
+          → (back es at (suc k) < fuel → label (place_at es (back es at (suc k))) ≤ path.label (place_at es (back es at (suc k))))
           → label (place_at es (back es at k)) ≤ path.label (place_at es (back es at k))
       by None e rest_ = omega (arith, valid.starts _ (s.inside _ (back_inside k)) (s.start _ (back_inside k) e))
       by (Some j) e rest_ =
@@ -247,7 +268,9 @@ module _ (n : ℕ) (parents : List (set.FinSet nat_cmp)) (within : set.FinSet na
       hk : back es at k < length es
       hk = back_inside n parents within flow rest es at s inside path path.label _ path.valid k
 
-      by : (o : Option ℕ) → from_at es (back es at k) ≡ o → (back es at (suc k) < fuel → path.label (place_at es (back es at (suc k))) ≤ back es at (suc k)) → path.label (place_at es (back es at k)) ≤ back es at k
+      by : (o : Option ℕ) → from_at es (back es at k) ≡ o
+          → (back es at (suc k) < fuel → path.label (place_at es (back es at (suc k))) ≤ back es at (suc k))
+          → path.label (place_at es (back es at k)) ≤ back es at k
       by None e rest_ = omega (arith, path.valid.starts _ (s.inside _ hk) (s.start _ hk e))
       by (Some j) e rest_ =
           let d = edge n parents within flow rest es at s inside path path.label _ path.valid k j e in

@@ -1,6 +1,8 @@
 -- How many steps a search took to each entry. What it found first is not farther than what it found later, so the path
 -- to the first entry that lacks something is a shortest one.
-use Rattle.std.proofs.Common.{◌≡◌, ℕ, zero, suc, ◌+◌, ◌<◌, ◌≤◌, ◌⊎◌, inl, inr, List, [], length, Bool, true, false, cond, min, nat_lt, Option, Some, None, ℤ, pos, ◌<ℤ◌, ◌≤ℤ◌, refl, sym, ap, ◌∙◌, subst, arith}
+use Rattle.std.proofs.Common.{◌≡◌, ℕ, zero, suc, ◌+◌, ◌<◌, ◌≤◌, ◌⊎◌, inl, inr, List, [], length, Bool, true, false}
+use Rattle.std.proofs.Common.{cond, min, nat_lt, Option, Some, None, ℤ, pos, ◌<ℤ◌, ◌≤ℤ◌, refl, sym, ap, ◌∙◌, subst}
+use Rattle.std.proofs.Common.{arith}
 use Rattle.std.proofs.lemmas.Bool.{cases_lt, lt-ltb, le-ltb, cases_Bool}
 use Rattle.std.proofs.lemmas.Int.{ints}
 use Rattle.std.specs.Ordering.{nat_cmp}
@@ -12,7 +14,8 @@ use Rattle.closure_flow.specs.Labels.{IsShortest, Leads, back, before_of}
 use Rattle.closure_flow.proofs.Searches.{Searching, new_or_old}
 
 -- the entries of a search, of which some were taken, with how many steps it took to each
-pub record Levels (parents : List (set.FinSet nat_cmp)) (within : set.FinSet nat_cmp) (flow : ℕ → ℕ → ℕ) (rest : ℕ → ℤ) (es : List Entry) (taken : ℕ) : Type 0 where
+pub record Levels (parents : List (set.FinSet nat_cmp)) (within : set.FinSet nat_cmp) (flow : ℕ → ℕ → ℕ) (rest : ℕ → ℤ) (es : List Entry) (taken : ℕ)
+    : Type 0 where
   pub level : ℕ → ℕ
   pub starts : (i : ℕ) → i < length es → from_at es i ≡ None → level i ≡ 0
   pub climbs : (i j : ℕ) → i < length es → from_at es i ≡ Some j → level i ≡ level j + 1
@@ -22,7 +25,8 @@ pub record Levels (parents : List (set.FinSet nat_cmp)) (within : set.FinSet nat
   pub found : (i v : ℕ) → i < taken → set.contains within v ≡ true → Leads parents flow (place_at es i) v
       → (k : ℕ) × (k < length es) × (place_at es k ≡ v) × (level k ≤ level i + 1)
 
-pub levels_start : (parents : List (set.FinSet nat_cmp)) (within : set.FinSet nat_cmp) (flow : ℕ → ℕ → ℕ) (rest : ℕ → ℤ) (old es : List Entry) (starts : set.FinSet nat_cmp) (k : ℕ)
+pub levels_start : (parents : List (set.FinSet nat_cmp)) (within : set.FinSet nat_cmp) (flow : ℕ → ℕ → ℕ) (rest : ℕ → ℤ) (old es : List Entry)
+    (starts : set.FinSet nat_cmp) (k : ℕ)
     → Grows old es starts None → old ≡ [] → k ≡ 0 → Levels parents within flow rest es k
 levels_start parents within flow rest old es starts k g none zeroth =
     record {
@@ -35,7 +39,8 @@ levels_start parents within flow rest old es starts k g none zeroth =
       found = λ i v h m l. absurd (omega (arith, h, zeroth));
     }
 
-pub levels_step : (n : ℕ) (parents : List (set.FinSet nat_cmp)) (within : set.FinSet nat_cmp) (flow : ℕ → ℕ → ℕ) (rest : ℕ → ℤ) (es es' : List Entry) (k : ℕ) (seen seen' next : set.FinSet nat_cmp)
+pub levels_step : (n : ℕ) (parents : List (set.FinSet nat_cmp)) (within : set.FinSet nat_cmp) (flow : ℕ → ℕ → ℕ) (rest : ℕ → ℤ) (es es' : List Entry)
+    (k : ℕ) (seen seen' next : set.FinSet nat_cmp)
     → Searching n parents within flow rest es k seen → Levels parents within flow rest es k → k < length es
     → IsBeyond n parents within flow seen (place_at es k) next
     → Lists es' seen' → Grows es es' next (Some k)
@@ -129,7 +134,8 @@ back_below n parents within flow rest es at (suc k) s h = step (back_below n par
     step so_far None e = so_far
     step so_far (Some j) e = omega (arith, so_far, (s.step (back es at k) j (omega (arith, so_far, h)) e).0)
 
-pub shortest : (n : ℕ) (parents : List (set.FinSet nat_cmp)) (within : set.FinSet nat_cmp) (flow : ℕ → ℕ → ℕ) (rest : ℕ → ℤ) (es : List Entry) (k : ℕ) (seen : set.FinSet nat_cmp)
+pub shortest : (n : ℕ) (parents : List (set.FinSet nat_cmp)) (within : set.FinSet nat_cmp) (flow : ℕ → ℕ → ℕ) (rest : ℕ → ℤ) (es : List Entry)
+    (k : ℕ) (seen : set.FinSet nat_cmp)
     → Searching n parents within flow rest es k seen → Levels parents within flow rest es k → k < length es
     → IsShortest parents within flow rest es k
 shortest n parents within flow rest es k seen s lv hk =
@@ -191,13 +197,15 @@ shortest n parents within flow rest es k seen s lv hk =
     before_k : (i : ℕ) → i < length es → lv.level i < lv.level k → i < k
     before_k i h less = elim (cases_lt i k) as (λ _. i < k) [ inl yes_ ↦ yes_ | inr more ↦ absurd (omega (arith, less, lv.rising k i (omega (arith, more)) h)) ]
 
-    from : (i u v : ℕ) → i < length es → place_at es i ≡ u → set.contains within v ≡ true → Leads parents flow u v → (lv.level i < lv.level k) ⊎ (lv.level k ≤ lv.level i) → label v ≤ label u + 1
+    from : (i u v : ℕ) → i < length es → place_at es i ≡ u → set.contains within v ≡ true → Leads parents flow u v
+        → (lv.level i < lv.level k) ⊎ (lv.level k ≤ lv.level i) → label v ≤ label u + 1
     from i u v h e m leads (inl less) =
         let f = lv.found i v (before_k i h less) m (subst (λ (t : ℕ). Leads parents flow t v) (sym e) leads) in
         omega (arith, here i u h e, here f.0 v f.1 f.2, f.3)
     from i u v h e m leads (inr more) = omega (arith, more, most v, here i u h e)
 
-    high : (i t : ℕ) → i < length es → place_at es i ≡ t → rest t <ℤ pos 0 → (lv.level i < lv.level k) ⊎ (lv.level k ≤ lv.level i) → label (place_at es k) ≤ label t
+    high : (i t : ℕ) → i < length es → place_at es i ≡ t → rest t <ℤ pos 0 → (lv.level i < lv.level k) ⊎ (lv.level k ≤ lv.level i)
+        → label (place_at es k) ≤ label t
     high i t h e low (inl less) =
         absurd (omega (arith, ints, low, subst (λ (x : ℕ). pos 0 ≤ℤ rest x) e (s.swept.content i (before_k i h less))))
     high i t h e low (inr more) = omega (arith, more, most (place_at es k), here i t h e)

@@ -13,6 +13,7 @@ pub mod Networks
 pub mod Searches
 pub mod Shown
 pub mod Steadiness
+pub mod TightSets
 pub mod Powers
 pub mod Optimum
 pub mod Paths

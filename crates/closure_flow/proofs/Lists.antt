@@ -1,5 +1,6 @@
 -- Sums over a rising list of which one or two terms change.
-use Rattle.std.proofs.Common.{◌≡◌, ℕ, ◌+◌, ◌-◌, ◌<◌, ◌≤◌, inl, inr, List, [], ◌∷◌, Bool, cond, nat_eq, ℤ, pos, negsuc, ◌+ℤ◌, ◌-ℤ◌, neg_ℤ, ◌≤ℤ◌, refl, sym, ap, ◌∙◌, subst, arith, eq-eqb, ne_eqb}
+use Rattle.std.proofs.Common.{◌≡◌, ℕ, ◌+◌, ◌-◌, ◌<◌, ◌≤◌, inl, inr, List, [], ◌∷◌, Bool, cond, nat_eq, ℤ, pos, negsuc}
+use Rattle.std.proofs.Common.{◌+ℤ◌, ◌-ℤ◌, neg_ℤ, ◌≤ℤ◌, refl, sym, ap, ◌∙◌, subst, arith, eq-eqb, ne_eqb}
 use Rattle.std.proofs.lemmas.Int.{ints}
 use Rattle.std.proofs.lemmas.Bool.{cases_eq}
 use Rattle.lists.specs.Rising.{AllAbove, IsRising}
@@ -24,7 +25,8 @@ total_along f g [] e = refl
 total_along f g (x ∷ xs) e = omega (arith, ints, e x (inl refl), total_along f g xs (λ s h. e s (inr h)))
 
 -- one term is larger by d
-pub total_bump : (f g : ℕ → ℤ) (k : ℕ) (d : ℤ) (ts : List ℕ) → IsRising ts → Among k ts → ((s : ℕ) → Among s ts → (s ≡ k → ⊥) → g s ≡ f s) → g k ≡ f k +ℤ d → total g ts ≡ total f ts +ℤ d
+pub total_bump : (f g : ℕ → ℤ) (k : ℕ) (d : ℤ) (ts : List ℕ) → IsRising ts → Among k ts → ((s : ℕ) → Among s ts → (s ≡ k → ⊥) → g s ≡ f s)
+    → g k ≡ f k +ℤ d → total g ts ≡ total f ts +ℤ d
 total_bump f g k d [] r h same here = absurd h
 total_bump f g k d (x ∷ xs) r (inl e) same here =
     let tail : total g xs ≡ total f xs =
@@ -49,32 +51,36 @@ net_bump ts F G a b d r ha hb apart here same t ht =
           let from_a : (t ≡ b → ⊥) = λ q. apart (sym e ∙ q) in
           let moved : total (λ s. pos (G t s) -ℤ pos (G s t)) ts ≡ total (λ s. pos (F t s) -ℤ pos (F s t)) ts +ℤ d =
           total_bump (λ s. pos (F t s) -ℤ pos (F s t)) (λ s. pos (G t s) -ℤ pos (G s t)) b d ts r hb
-          (λ s m ne. ap (λ (n : ℕ). pos n -ℤ pos (G s t)) (same t s ht m (λ q. ne q.1)) ∙ ap (λ (n : ℕ). pos (F t s) -ℤ pos n) (same s t m ht (λ q. from_a q.1)))
+          (λ s m ne. ap (λ (n : ℕ). pos n -ℤ pos (G s t)) (same t s ht m (λ q. ne q.1))
+          ∙ ap (λ (n : ℕ). pos (F t s) -ℤ pos n) (same s t m ht (λ q. from_a q.1)))
           (let up_ : pos (G t b) ≡ pos (F t b) +ℤ d = subst (λ (n : ℕ). pos (G n b) ≡ pos (F n b) +ℤ d) (sym e) here in
           let back : G b t ≡ F b t = same b t hb ht (λ q. from_a q.1) in
           omega (arith, ints)) in
           let at_a : only_at a d t ≡ d = subst (λ (n : ℕ). only_at a d n ≡ d) (sym e) (only_at-here a d) in
           let at_b : only_at b d t ≡ pos 0 = only_at-else b t d from_a in
           omega (arith, ints)
-      | inr ne_a ↦ elim (cases_eq t b) as (λ _. total (λ s. pos (G t s) -ℤ pos (G s t)) ts ≡ (total (λ s. pos (F t s) -ℤ pos (F s t)) ts +ℤ only_at a d t) -ℤ only_at b d t) [
-        | inl e ↦
-            let moved : total (λ s. pos (G t s) -ℤ pos (G s t)) ts ≡ total (λ s. pos (F t s) -ℤ pos (F s t)) ts +ℤ neg_ℤ d =
-            total_bump (λ s. pos (F t s) -ℤ pos (F s t)) (λ s. pos (G t s) -ℤ pos (G s t)) a (neg_ℤ d) ts r ha
-            (λ s m ne. ap (λ (n : ℕ). pos n -ℤ pos (G s t)) (same t s ht m (λ q. ne_a q.0)) ∙ ap (λ (n : ℕ). pos (F t s) -ℤ pos n) (same s t m ht (λ q. ne q.0)))
-            (let up_ : pos (G a t) ≡ pos (F a t) +ℤ d = subst (λ (n : ℕ). pos (G a n) ≡ pos (F a n) +ℤ d) (sym e) here in
-            let back : G t a ≡ F t a = same t a ht ha (λ q. ne_a q.0) in
-            omega (arith, ints)) in
-            let at_a : only_at a d t ≡ pos 0 = only_at-else a t d ne_a in
-            let at_b : only_at b d t ≡ d = subst (λ (n : ℕ). only_at b d n ≡ d) (sym e) (only_at-here b d) in
-            omega (arith, ints)
-        | inr ne_b ↦
-            let moved : total (λ s. pos (G t s) -ℤ pos (G s t)) ts ≡ total (λ s. pos (F t s) -ℤ pos (F s t)) ts =
-            total_along (λ s. pos (F t s) -ℤ pos (F s t)) (λ s. pos (G t s) -ℤ pos (G s t)) ts
-            (λ s m. ap (λ (n : ℕ). pos n -ℤ pos (G s t)) (same t s ht m (λ q. ne_a q.0)) ∙ ap (λ (n : ℕ). pos (F t s) -ℤ pos n) (same s t m ht (λ q. ne_b q.1))) in
-            let at_a : only_at a d t ≡ pos 0 = only_at-else a t d ne_a in
-            let at_b : only_at b d t ≡ pos 0 = only_at-else b t d ne_b in
-            omega (arith, ints)
-      ]
+      | inr ne_a ↦ elim (cases_eq t b) as (λ _. total (λ s. pos (G t s) -ℤ pos (G s t)) ts ≡
+          (total (λ s. pos (F t s) -ℤ pos (F s t)) ts +ℤ only_at a d t) -ℤ only_at b d t) [
+            | inl e ↦
+                let moved : total (λ s. pos (G t s) -ℤ pos (G s t)) ts ≡ total (λ s. pos (F t s) -ℤ pos (F s t)) ts +ℤ neg_ℤ d =
+                total_bump (λ s. pos (F t s) -ℤ pos (F s t)) (λ s. pos (G t s) -ℤ pos (G s t)) a (neg_ℤ d) ts r ha
+                (λ s m ne. ap (λ (n : ℕ). pos n -ℤ pos (G s t)) (same t s ht m (λ q. ne_a q.0))
+                ∙ ap (λ (n : ℕ). pos (F t s) -ℤ pos n) (same s t m ht (λ q. ne q.0)))
+                (let up_ : pos (G a t) ≡ pos (F a t) +ℤ d = subst (λ (n : ℕ). pos (G a n) ≡ pos (F a n) +ℤ d) (sym e) here in
+                let back : G t a ≡ F t a = same t a ht ha (λ q. ne_a q.0) in
+                omega (arith, ints)) in
+                let at_a : only_at a d t ≡ pos 0 = only_at-else a t d ne_a in
+                let at_b : only_at b d t ≡ d = subst (λ (n : ℕ). only_at b d n ≡ d) (sym e) (only_at-here b d) in
+                omega (arith, ints)
+            | inr ne_b ↦
+                let moved : total (λ s. pos (G t s) -ℤ pos (G s t)) ts ≡ total (λ s. pos (F t s) -ℤ pos (F s t)) ts =
+                total_along (λ s. pos (F t s) -ℤ pos (F s t)) (λ s. pos (G t s) -ℤ pos (G s t)) ts
+                (λ s m. ap (λ (n : ℕ). pos n -ℤ pos (G s t)) (same t s ht m (λ q. ne_a q.0))
+                ∙ ap (λ (n : ℕ). pos (F t s) -ℤ pos n) (same s t m ht (λ q. ne_b q.1))) in
+                let at_a : only_at a d t ≡ pos 0 = only_at-else a t d ne_a in
+                let at_b : only_at b d t ≡ pos 0 = only_at-else b t d ne_b in
+                omega (arith, ints)
+          ]
     ]
 
 -- ---- what is above and below 0
@@ -100,7 +106,8 @@ unfolding surplus
 surplus_along f g [] e = refl
 surplus_along f g (x ∷ xs) e = omega (arith, ap up (e x (inl refl)), surplus_along f g xs (λ s h. e s (inr h)))
 
-pub surplus_bump : (f g : ℕ → ℤ) (k : ℕ) (ts : List ℕ) → IsRising ts → Among k ts → ((s : ℕ) → Among s ts → (s ≡ k → ⊥) → g s ≡ f s) → surplus g ts + up (f k) ≡ surplus f ts + up (g k)
+pub surplus_bump : (f g : ℕ → ℤ) (k : ℕ) (ts : List ℕ) → IsRising ts → Among k ts → ((s : ℕ) → Among s ts → (s ≡ k → ⊥) → g s ≡ f s)
+    → surplus g ts + up (f k) ≡ surplus f ts + up (g k)
 unfolding surplus
 surplus_bump f g k [] r h same = absurd h
 surplus_bump f g k (x ∷ xs) r (inl e) same =

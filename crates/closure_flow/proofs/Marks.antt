@@ -40,7 +40,8 @@ marked_set within within' marked new rest place z P old h here others m =
     at : weight_at (set rest place z) place ≡ z
     at = get_or-set_same rest place z (pos 0) h
 
-pub marked_none : (within marked : fin.FinSet nat_cmp) (rest : List ℤ) (P : ℤ → Type 0) → within ≡ fin.empty → marked ≡ fin.empty → AreMarked within marked rest P
+pub marked_none : (within marked : fin.FinSet nat_cmp) (rest : List ℤ) (P : ℤ → Type 0) → within ≡ fin.empty → marked ≡ fin.empty
+    → AreMarked within marked rest P
 marked_none within marked rest P e f =
     record {
       sound = λ t k. clash _ k (ap (λ s. fin.contains s t) f ∙ contains-empty t);

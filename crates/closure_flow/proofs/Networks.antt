@@ -1,6 +1,6 @@
 -- Writing one amount of a network.
-use Rattle.std.proofs.Common.{◌≡◌, ℕ, ◌+◌, ◌*◌, ◌^◌, ◌<◌, ◌≤◌, ◌⊎◌, inl, inr, List, length, get_or, set, replicate, Bool, true, false, cond}
-use Rattle.std.proofs.Common.{ℤ, pos, ◌+ℤ◌, ◌-ℤ◌, refl, sym, ap, ◌∙◌, subst, arith, get_or-set_same, get_or-set_other}
+use Rattle.std.proofs.Common.{◌≡◌, ℕ, ◌+◌, ◌*◌, ◌^◌, ◌<◌, ◌≤◌, inl, inr, List, length, get_or, set, replicate, Bool, true, false, cond}
+use Rattle.std.proofs.Common.{ℤ, pos, ◌+ℤ◌, ◌-ℤ◌, sym, ap, ◌∙◌, subst, arith, get_or-set_same, get_or-set_other}
 use Rattle.std.proofs.Math.Nat.{mul-le-mul, mul-le-mul_right}
 use prog.Memory.{up}
 use Rattle.std.proofs.Math.ListN.{length-set}
@@ -47,7 +47,8 @@ pub record Writes (n : ℕ) (into : List (fin.FinSet nat_cmp)) (child parent x :
   pub none : x ≡ 0 → fin.contains senders child ≡ false
   pub some : 0 < x → fin.contains senders child ≡ true
 
-pub sent_yes : (n : ℕ) (into : List (fin.FinSet nat_cmp)) (amounts : List ℕ) (c p : ℕ) → fin.contains (parents_at into p) c ≡ true → sent n into amounts c p ≡ get_or amounts (p * n + c) 0
+pub sent_yes : (n : ℕ) (into : List (fin.FinSet nat_cmp)) (amounts : List ℕ) (c p : ℕ) → fin.contains (parents_at into p) c ≡ true
+    → sent n into amounts c p ≡ get_or amounts (p * n + c) 0
 unfolding sent
 sent_yes n into amounts c p e = ap (λ (b : Bool). cond b (get_or amounts (p * n + c) 0) 0) e
 
@@ -56,7 +57,8 @@ unfolding sent
 sent_no n into amounts c p e = ap (λ (b : Bool). cond b (get_or amounts (p * n + c) 0) 0) e
 
 sent_same : (n m : ℕ) (into to : List (fin.FinSet nat_cmp)) (amounts new : List ℕ) (c p : ℕ)
-    → fin.contains (parents_at to p) c ≡ fin.contains (parents_at into p) c → get_or new (p * n + c) 0 ≡ get_or amounts (p * n + c) 0 → sent n to new c p ≡ sent n into amounts c p
+    → fin.contains (parents_at to p) c ≡ fin.contains (parents_at into p) c → get_or new (p * n + c) 0 ≡ get_or amounts (p * n + c) 0
+    → sent n to new c p ≡ sent n into amounts c p
 unfolding sent
 sent_same n m into to amounts new c p e f =
     ap (λ (b : Bool). cond b (get_or new (p * n + c) 0) 0) e ∙ ap (λ (x : ℕ). cond (fin.contains (parents_at into p) c) x 0) f
@@ -66,7 +68,8 @@ pub sent-here : (n : ℕ) (into : List (fin.FinSet nat_cmp)) (amounts : List ℕ
     → sent n (set into parent senders) (set amounts (parent * n + child) x) child parent ≡ x
 sent-here n into amounts rest child parent x senders s w =
     let inside : parent < length into = subst (λ (m : ℕ). parent < m) (sym s.sets) w.parent_in in
-    let at : parent * n + child < length amounts = subst (λ (m : ℕ). parent * n + child < m) (sym s.pairs) (pair_within n parent child w.parent_in w.child_in) in
+    let at : parent * n + child < length amounts =
+    subst (λ (m : ℕ). parent * n + child < m) (sym s.pairs) (pair_within n parent child w.parent_in w.child_in) in
     let here : parents_at (set into parent senders) parent ≡ senders = get_or-set_same into parent senders fin.empty inside in
     elim (cases_lt 0 x) as (λ _. sent n (set into parent senders) (set amounts (parent * n + child) x) child parent ≡ x) [
       | inl some ↦
@@ -108,31 +111,37 @@ lean_set n into amounts rest child parent x senders s lean w =
     at : parent * n + child < length amounts
     at = subst (λ (m : ℕ). parent * n + child < m) (sym s.pairs) (pair_within n parent child w.parent_in w.child_in)
 
-    kept : (c p : ℕ) → p < n → ((c ≡ child) × (p ≡ parent) → ⊥) → fin.contains (parents_at into p) c ≡ true → (c < n) × (0 < get_or (set amounts (parent * n + child) x) (p * n + c) 0)
+    kept : (c p : ℕ) → p < n → ((c ≡ child) × (p ≡ parent) → ⊥) → fin.contains (parents_at into p) c ≡ true
+        → (c < n) × (0 < get_or (set amounts (parent * n + child) x) (p * n + c) 0)
     kept c p hp apart m = (
       lean.child c p hp m,
       subst (λ (y : ℕ). 0 < y) (sym (get_or-set_other amounts (parent * n + child) (p * n + c) x 0
           (λ e. apart (pair_same n p parent c child (lean.child c p hp m) w.child_in e)))) (lean.amount c p hp m),
     )
 
-    both : (c p : ℕ) → p < n → fin.contains (parents_at (set into parent senders) p) c ≡ true → (c < n) × (0 < get_or (set amounts (parent * n + child) x) (p * n + c) 0)
+    both : (c p : ℕ) → p < n → fin.contains (parents_at (set into parent senders) p) c ≡ true
+        → (c < n) × (0 < get_or (set amounts (parent * n + child) x) (p * n + c) 0)
     both c p hp m =
         elim (cases_eq p parent) as (λ _. (c < n) × (0 < get_or (set amounts (parent * n + child) x) (p * n + c) 0)) [
           | inl e ↦
               let there : fin.contains senders c ≡ true =
-              ap (λ (f : fin.FinSet nat_cmp). fin.contains f c) (sym (get_or-set_same into parent senders fin.empty inside) ∙ ap (λ (q : ℕ). parents_at (set into parent senders) q) (sym e)) ∙ m in
+              ap (λ (f : fin.FinSet nat_cmp). fin.contains f c)
+              (sym (get_or-set_same into parent senders fin.empty inside) ∙ ap (λ (q : ℕ). parents_at (set into parent senders) q) (sym e)) ∙ m in
               elim (cases_eq c child) as (λ _. (c < n) × (0 < get_or (set amounts (parent * n + child) x) (p * n + c) 0)) [
                 | inl f ↦
                     let positive : 0 < x = elim (cases_lt 0 x) as (λ _. 0 < x) [
                       | inl some ↦ some
-                      | inr none ↦ absurd (let k : false ≡ true = sym (w.none (omega (arith, none))) ∙ ap (λ (d : ℕ). fin.contains senders d) (sym f) ∙ there in cc)
+                      | inr none ↦ absurd (let k : false ≡ true = sym (w.none (omega (arith, none))) ∙ ap (λ (d : ℕ). fin.contains senders d) (sym f)
+                          ∙ there in cc)
                     ] in
                     let here : get_or (set amounts (parent * n + child) x) (p * n + c) 0 ≡ x =
-                    ap (λ (i : ℕ). get_or (set amounts (parent * n + child) x) i 0) (omega (arith, ap (λ (q : ℕ). q * n) e, f)) ∙ get_or-set_same amounts (parent * n + child) x 0 at in
+                    ap (λ (i : ℕ). get_or (set amounts (parent * n + child) x) i 0) (omega (arith, ap (λ (q : ℕ). q * n) e, f))
+                    ∙ get_or-set_same amounts (parent * n + child) x 0 at in
                     (subst (λ (d : ℕ). d < n) (sym f) w.child_in, subst (λ (y : ℕ). 0 < y) (sym here) positive)
                 | inr ne ↦ kept c p hp (λ q. ne q.0) (ap (λ (q : ℕ). fin.contains (parents_at into q) c) e ∙ sym (w.other c ne) ∙ there)
               ]
-          | inr ne ↦ kept c p hp (λ q. ne q.1) (ap (λ (f : fin.FinSet nat_cmp). fin.contains f c) (sym (get_or-set_other into parent p senders fin.empty ne)) ∙ m)
+          | inr ne ↦ kept c p hp (λ q. ne q.1) (ap (λ (f : fin.FinSet nat_cmp). fin.contains f c)
+              (sym (get_or-set_other into parent p senders fin.empty ne)) ∙ m)
         ]
 
 -- nothing flows in a network of empty sets
@@ -164,7 +173,8 @@ writes_read n into amounts rest child parent x old new sized hc hp e other none 
     record { child_in = hc; parent_in = hp; other = λ c ne. other c ne ∙ sym (read_set n into amounts rest parent c old sized hp e); none = none; some = some }
 
 -- a rest that was read at a place within
-pub read_rest : (n : ℕ) (into : List (fin.FinSet nat_cmp)) (amounts : List ℕ) (rest : List ℤ) (p : ℕ) (z : ℤ) → IsSized n into amounts rest → p < n → z ≡ get_or rest p z → weight_at rest p ≡ z
+pub read_rest : (n : ℕ) (into : List (fin.FinSet nat_cmp)) (amounts : List ℕ) (rest : List ℤ) (p : ℕ) (z : ℤ) → IsSized n into amounts rest → p < n
+    → z ≡ get_or rest p z → weight_at rest p ≡ z
 read_rest n into amounts rest p z sized h e = get_or_default rest p (pos 0) z (subst (λ (m : ℕ). p < m) (sym sized.rests) h) ∙ sym e
 
 -- a parent's set holds just the children that send it something
@@ -173,14 +183,16 @@ pub senders_send : (n : ℕ) (into : List (fin.FinSet nat_cmp)) (amounts : List 
 senders_send n into amounts p c lean h m =
     (lean.child c p h m, subst (λ (x : ℕ). 0 < x) (sym (sent_yes n into amounts c p m)) (lean.amount c p h m))
 
-pub send_senders : (n : ℕ) (into : List (fin.FinSet nat_cmp)) (amounts : List ℕ) (p c : ℕ) → 0 < sent n into amounts c p → fin.contains (parents_at into p) c ≡ true
+pub send_senders : (n : ℕ) (into : List (fin.FinSet nat_cmp)) (amounts : List ℕ) (p c : ℕ) → 0 < sent n into amounts c p
+    → fin.contains (parents_at into p) c ≡ true
 send_senders n into amounts p c h =
     elim (cases_Bool (fin.contains (parents_at into p) c)) as (λ _. fin.contains (parents_at into p) c ≡ true) [
       | inl m ↦ m
       | inr m ↦ absurd (omega (arith, h, sent_no n into amounts c p m))
     ]
 
-pub read_parents : (parents : List (fin.FinSet nat_cmp)) (p q : ℕ) (s : fin.FinSet nat_cmp) → p < length parents → s ≡ get_or parents p s → fin.contains (parents_at parents p) q ≡ fin.contains s q
+pub read_parents : (parents : List (fin.FinSet nat_cmp)) (p q : ℕ) (s : fin.FinSet nat_cmp) → p < length parents → s ≡ get_or parents p s
+    → fin.contains (parents_at parents p) q ≡ fin.contains s q
 read_parents parents p q s h e = ap (λ (f : fin.FinSet nat_cmp). fin.contains f q) (get_or_default parents p fin.empty s h ∙ sym e)
 
 -- a set of so few places lies in a small part of memory
@@ -194,7 +206,8 @@ words_fit w into amounts rest s =
 pub network_fits : (w : ℕ) (into : List (fin.FinSet nat_cmp)) (amounts : List ℕ) (rest : List ℤ) → IsSized (64 * w) into amounts rest
     → up 8 (up 8 (up 8 (up 8 (up 8 (up 8 (0 + up 8 (0 + w * 8)) + up 8 (0 + w * 8)) + up 8 (0 + w * 8)) + 24) + 24) + 24) < 2 ^ 63
 network_fits w into amounts rest s =
-    elim (cases_lt w (2 ^ 32)) as (λ _. up 8 (up 8 (up 8 (up 8 (up 8 (up 8 (0 + up 8 (0 + w * 8)) + up 8 (0 + w * 8)) + up 8 (0 + w * 8)) + 24) + 24) + 24) < 2 ^ 63) [
+    elim (cases_lt w (2 ^ 32)) as (λ _. up 8
+    (up 8 (up 8 (up 8 (up 8 (up 8 (0 + up 8 (0 + w * 8)) + up 8 (0 + w * 8)) + up 8 (0 + w * 8)) + 24) + 24) + 24) < 2 ^ 63) [
       | inl few ↦ (
           let u : ℕ = up 8 (0 + w * 8) in
           let u1 : ℕ = up 8 (0 + u) in
@@ -210,15 +223,18 @@ network_fits w into amounts rest s =
     padded : (x : ℕ) → up 8 x < x + 8
     padded x = omega arith
 
-    bounded : (a b c d e f k w : ℕ) → w < 2 ^ 32 → a < 0 + w * 8 + 8 → b < 0 + a + 8 → c < b + a + 8 → d < c + a + 8 → e < d + 24 + 8 → f < e + 24 + 8 → k < f + 24 + 8 → k < 2 ^ 63
+    bounded : (a b c d e f k w : ℕ) → w < 2 ^ 32 → a < 0 + w * 8 + 8 → b < 0 + a + 8 → c < b + a + 8 → d < c + a + 8 → e < d + 24 + 8
+        → f < e + 24 + 8 → k < f + 24 + 8 → k < 2 ^ 63
     bounded a b c d e f k w few ha hb hc hd he hf hk = omega arith
 
 -- ---- a place begun anew
-pub sized_begin : (n : ℕ) (into : List (fin.FinSet nat_cmp)) (amounts : List ℕ) (rest : List ℤ) (p : ℕ) (z : ℤ) → IsSized n into amounts rest → IsSized n (set into p fin.empty) amounts (set rest p z)
+pub sized_begin : (n : ℕ) (into : List (fin.FinSet nat_cmp)) (amounts : List ℕ) (rest : List ℤ) (p : ℕ) (z : ℤ) → IsSized n into amounts rest
+    → IsSized n (set into p fin.empty) amounts (set rest p z)
 sized_begin n into amounts rest p z s =
     record { sets = length-set into p fin.empty ∙ s.sets; pairs = s.pairs; rests = length-set rest p z ∙ s.rests; small = s.small }
 
-pub sized_rests : (n : ℕ) (into : List (fin.FinSet nat_cmp)) (amounts : List ℕ) (rest : List ℤ) (p q : ℕ) (y z : ℤ) → IsSized n into amounts rest → IsSized n into amounts (set (set rest p y) q z)
+pub sized_rests : (n : ℕ) (into : List (fin.FinSet nat_cmp)) (amounts : List ℕ) (rest : List ℤ) (p q : ℕ) (y z : ℤ) → IsSized n into amounts rest
+    → IsSized n into amounts (set (set rest p y) q z)
 sized_rests n into amounts rest p q y z s =
     record { sets = s.sets; pairs = s.pairs; rests = length-set (set rest p y) q z ∙ length-set rest p y ∙ s.rests; small = s.small }
 
@@ -243,26 +259,31 @@ lean_begin n into amounts rest place s h lean =
 
 -- two rests written, one after the other
 pub shifted : (rest : List ℤ) (from to amount t : ℕ) → from < length rest → to < length rest → (from ≡ to → ⊥)
-    → weight_at (set (set rest from (weight_at rest from -ℤ pos amount)) to (weight_at rest to +ℤ pos amount)) t ≡ (weight_at rest t -ℤ only_at from (pos amount) t) +ℤ only_at to (pos amount) t
+    → weight_at (set (set rest from (weight_at rest from -ℤ pos amount)) to (weight_at rest to +ℤ pos amount)) t ≡
+    (weight_at rest t -ℤ only_at from (pos amount) t) +ℤ only_at to (pos amount) t
 shifted rest from to amount t hf ht apart =
     elim (cases_eq t to) as (λ _. weight_at (set (set rest from (weight_at rest from -ℤ pos amount)) to (weight_at rest to +ℤ pos amount)) t ≡
     (weight_at rest t -ℤ only_at from (pos amount) t) +ℤ only_at to (pos amount) t) [
       | inl e ↦
-          let here : weight_at (set (set rest from (weight_at rest from -ℤ pos amount)) to (weight_at rest to +ℤ pos amount)) to ≡ weight_at rest to +ℤ pos amount =
+          let here : weight_at (set (set rest from (weight_at rest from -ℤ pos amount)) to (weight_at rest to +ℤ pos amount))
+          to ≡ weight_at rest to +ℤ pos amount =
           get_or-set_same (set rest from (weight_at rest from -ℤ pos amount)) to _ (pos 0) (subst (λ (m : ℕ). to < m) (sym (length-set rest from _)) ht) in
           subst (λ (x : ℕ). weight_at (set (set rest from (weight_at rest from -ℤ pos amount)) to (weight_at rest to +ℤ pos amount)) x ≡
           (weight_at rest x -ℤ only_at from (pos amount) x) +ℤ only_at to (pos amount) x) (sym e)
           (omega (arith, ints, here, only_at-here to (pos amount), only_at-else from to (pos amount) (λ q. apart (sym q))))
       | inr ne ↦
-          let first : weight_at (set (set rest from (weight_at rest from -ℤ pos amount)) to (weight_at rest to +ℤ pos amount)) t ≡ weight_at (set rest from (weight_at rest from -ℤ pos amount)) t =
+          let first : weight_at (set (set rest from (weight_at rest from -ℤ pos amount)) to (weight_at rest to +ℤ pos amount)) t ≡ weight_at
+          (set rest from (weight_at rest from -ℤ pos amount)) t =
           get_or-set_other (set rest from (weight_at rest from -ℤ pos amount)) to t _ (pos 0) ne in
           elim (cases_eq t from) as (λ _. weight_at (set (set rest from (weight_at rest from -ℤ pos amount)) to (weight_at rest to +ℤ pos amount)) t ≡
           (weight_at rest t -ℤ only_at from (pos amount) t) +ℤ only_at to (pos amount) t) [
             | inl e ↦
-                let here : weight_at (set rest from (weight_at rest from -ℤ pos amount)) from ≡ weight_at rest from -ℤ pos amount = get_or-set_same rest from _ (pos 0) hf in
+                let here : weight_at (set rest from (weight_at rest from -ℤ pos amount)) from ≡ weight_at rest from -ℤ pos amount =
+                get_or-set_same rest from _ (pos 0) hf in
                 let here_t : weight_at (set rest from (weight_at rest from -ℤ pos amount)) t ≡ weight_at rest t -ℤ pos amount =
                 subst (λ (x : ℕ). weight_at (set rest from (weight_at rest from -ℤ pos amount)) x ≡ weight_at rest x -ℤ pos amount) (sym e) here in
-                let one : only_at from (pos amount) t ≡ pos amount = subst (λ (x : ℕ). only_at from (pos amount) x ≡ pos amount) (sym e) (only_at-here from (pos amount)) in
+                let one : only_at from (pos amount) t ≡ pos amount =
+                subst (λ (x : ℕ). only_at from (pos amount) x ≡ pos amount) (sym e) (only_at-here from (pos amount)) in
                 omega (arith, ints, first, here_t, one, only_at-else to t (pos amount) ne)
             | inr nf ↦
                 let second : weight_at (set rest from (weight_at rest from -ℤ pos amount)) t ≡ weight_at rest t = get_or-set_other rest from t _ (pos 0) nf in

@@ -1,5 +1,7 @@
 -- When no search goes on: the places reached are a closed set of greatest weight, and none is reached exactly where the flow is balanced.
-use Rattle.std.proofs.Common.{◌≡◌, ℕ, ◌^◌, ◌<◌, ◌≤◌, inl, inr, List, [], ◌∷◌, length, Bool, true, false, not, cond, Option, Some, None, MatchOption, is_some, ℤ, pos, negsuc, ◌+ℤ◌, ◌-ℤ◌, ◌<ℤ◌, unsigned_abs, refl, sym, ap, ◌∙◌, subst, arith}
+use Rattle.std.proofs.Common.{◌≡◌, ℕ, ◌^◌, ◌<◌, ◌≤◌, inl, inr, List, [], ◌∷◌, length, Bool, true, false, not, cond}
+use Rattle.std.proofs.Common.{Option, Some, None, MatchOption, is_some, ℤ, pos, negsuc, ◌+ℤ◌, ◌-ℤ◌, ◌<ℤ◌}
+use Rattle.std.proofs.Common.{unsigned_abs, refl, sym, ap, ◌∙◌, subst, arith}
 use Rattle.std.proofs.lemmas.Int.{ints}
 use Rattle.std.proofs.lemmas.List.Sums.{sum_by-cons}
 use Rattle.std.specs.List.{count_by, range_with_len, sum_by}
@@ -25,10 +27,13 @@ inside_twice false true z h = absurd (let f : false ≡ true = h refl in cc)
 inside_twice false false z h = refl
 
 -- the weight of a set within another, as a sum over that
-pub weight_inside : (n : ℕ) (weights : List ℤ) (within s : set.FinSet nat_cmp) → ((t : ℕ) → set.contains s t ≡ true → set.contains within t ≡ true) → weight_of n weights s ≡ total (inside (set.contains s) (weight_at weights)) (places n within)
+pub weight_inside : (n : ℕ) (weights : List ℤ) (within s : set.FinSet nat_cmp) → ((t : ℕ) → set.contains s t ≡ true → set.contains within t ≡ true)
+    → weight_of n weights s ≡ total (inside (set.contains s) (weight_at weights)) (places n within)
 weight_inside n weights within s h =
     total-filter_cond (weight_at weights) (set.contains s) (range_with_len 0 n)
-    ∙ sym (total_same (λ t. cond (set.contains within t) (cond (set.contains s t) (weight_at weights t) (pos 0)) (pos 0)) (λ t. cond (set.contains s t) (weight_at weights t) (pos 0)) (range_with_len 0 n) (λ t. inside_twice (set.contains within t) (set.contains s t) (weight_at weights t) (h t)))
+    ∙ sym (total_same (λ t. cond (set.contains within t) (cond (set.contains s t) (weight_at weights t) (pos 0)) (pos 0))
+    (λ t. cond (set.contains s t) (weight_at weights t) (pos 0)) (range_with_len 0 n)
+    (λ t. inside_twice (set.contains within t) (set.contains s t) (weight_at weights t) (h t)))
     ∙ sym (total-filter_cond (inside (set.contains s) (weight_at weights)) (set.contains within) (range_with_len 0 n))
 
 -- what is left and what flows, place by place
@@ -41,16 +46,19 @@ inside_add : (b : Bool) (x y z : ℤ) → x +ℤ y ≡ z → cond b z (pos 0) �
 inside_add true x y z e = sym e
 inside_add false x y z e = refl
 
-pub weight_split : (n : ℕ) (weights : List ℤ) (parents : List (set.FinSet nat_cmp)) (within : set.FinSet nat_cmp) (flow : ℕ → ℕ → ℕ) (rest : ℕ → ℤ) (m : ℕ → Bool)
+pub weight_split : (n : ℕ) (weights : List ℤ) (parents : List (set.FinSet nat_cmp)) (within : set.FinSet nat_cmp) (flow : ℕ → ℕ → ℕ) (rest : ℕ → ℤ)
+    (m : ℕ → Bool)
     → Ends n weights parents within flow rest
-    → total (inside m (weight_at weights)) (places n within) ≡ total (inside m rest) (places n within) +ℤ total (inside m (net (places n within) flow)) (places n within)
+    → total (inside m (weight_at weights)) (places n within) ≡ total (inside m rest) (places n within) +ℤ total
+    (inside m (net (places n within) flow)) (places n within)
 weight_split n weights parents within flow rest m e =
     total_along (λ t. inside m rest t +ℤ inside m (net (places n within) flow) t) (inside m (weight_at weights)) (places n within)
     (λ t h. inside_add (m t) (rest t) (net (places n within) flow t) (weight_at weights t) (e.left t (places_among n within t h).1))
     ∙ total-add (inside m rest) (inside m (net (places n within) flow)) (places n within)
 
 -- flow out of a closed set stays in it
-stays : (n : ℕ) (weights : List ℤ) (parents : List (set.FinSet nat_cmp)) (within : set.FinSet nat_cmp) (flow : ℕ → ℕ → ℕ) (rest : ℕ → ℤ) (s : set.FinSet nat_cmp)
+stays : (n : ℕ) (weights : List ℤ) (parents : List (set.FinSet nat_cmp)) (within : set.FinSet nat_cmp) (flow : ℕ → ℕ → ℕ) (rest : ℕ → ℤ)
+    (s : set.FinSet nat_cmp)
     → Ends n weights parents within flow rest → IsClosed parents within s
     → (c p : ℕ) → Among c (places n within) → Among p (places n within) → 0 < flow c p → set.contains s c ≡ true → set.contains s p ≡ true
 stays n weights parents within flow rest s e closed c p hc hp f m =
@@ -69,10 +77,12 @@ none_heavier n weights parents within flow rest e s closed =
       rests_low rest (set.contains s) (places n within),
     )
 
-pub sealed_closed : (n : ℕ) (parents : List (set.FinSet nat_cmp)) (within : set.FinSet nat_cmp) (flow : ℕ → ℕ → ℕ) (rest : ℕ → ℤ) (s : set.FinSet nat_cmp) → IsSealed n parents within flow rest s → IsClosed parents within s
+pub sealed_closed : (n : ℕ) (parents : List (set.FinSet nat_cmp)) (within : set.FinSet nat_cmp) (flow : ℕ → ℕ → ℕ) (rest : ℕ → ℤ)
+    (s : set.FinSet nat_cmp) → IsSealed n parents within flow rest s → IsClosed parents within s
 sealed_closed n parents within flow rest s sealed = record { inside = sealed.inside; upward = sealed.along }
 
-pub sealed_weight : (n : ℕ) (weights : List ℤ) (parents : List (set.FinSet nat_cmp)) (within : set.FinSet nat_cmp) (flow : ℕ → ℕ → ℕ) (rest : ℕ → ℤ) (s : set.FinSet nat_cmp)
+pub sealed_weight : (n : ℕ) (weights : List ℤ) (parents : List (set.FinSet nat_cmp)) (within : set.FinSet nat_cmp) (flow : ℕ → ℕ → ℕ) (rest : ℕ → ℤ)
+    (s : set.FinSet nat_cmp)
     → Ends n weights parents within flow rest → IsSealed n parents within flow rest s → weight_of n weights s ≡ pos (surplus rest (places n within))
 sealed_weight n weights parents within flow rest s e sealed =
     omega (
@@ -93,7 +103,8 @@ sealed_some n parents within flow rest s t below sealed m =
     omega (arith, ints, up_within rest u.0 (places n within) (among_places n within u.0 (below u.0 u.1) u.1), u.2)
 
 -- ---- where nothing was reached
-pub nothing_over : (n : ℕ) (weights : List ℤ) (parents : List (set.FinSet nat_cmp)) (within : set.FinSet nat_cmp) (flow : ℕ → ℕ → ℕ) (rest : ℕ → ℤ) (s : set.FinSet nat_cmp)
+pub nothing_over : (n : ℕ) (weights : List ℤ) (parents : List (set.FinSet nat_cmp)) (within : set.FinSet nat_cmp) (flow : ℕ → ℕ → ℕ) (rest : ℕ → ℤ)
+    (s : set.FinSet nat_cmp)
     → Ends n weights parents within flow rest → IsSealed n parents within flow rest s → s ≡ set.empty → surplus rest (places n within) ≡ 0
 nothing_over n weights parents within flow rest s e sealed none =
     let zero_ : weight_of n weights s ≡ pos 0 = ap (weight_of n weights) none ∙ ap (total (weight_at weights)) (places-empty n) in
@@ -121,7 +132,7 @@ net_sums : (f g : ℕ → ℕ) (ts : List ℕ) → total (λ s. pos (f s) -ℤ p
 net_sums f g [] = refl
 net_sums f g (x ∷ xs) = omega (arith, ints, net_sums f g xs, sum_by-cons f x xs, sum_by-cons g x xs)
 
-out_and_in : (ts : List ℕ) (flow : ℕ → ℕ → ℕ) (t : ℕ) → net ts flow t ≡ pos (sum_by (λ p. flow t p) ts) -ℤ pos (sum_by (λ c. flow c t) ts)
+pub out_and_in : (ts : List ℕ) (flow : ℕ → ℕ → ℕ) (t : ℕ) → net ts flow t ≡ pos (sum_by (λ p. flow t p) ts) -ℤ pos (sum_by (λ c. flow c t) ts)
 unfolding net
 out_and_in ts flow t = net_sums (λ p. flow t p) (λ c. flow c t) ts
 
@@ -135,8 +146,10 @@ balanced_flow n weights parents within flow shown rest e sum none same only =
       even = λ t m.
           all_even n weights parents within flow rest e sum none t m
           ∙ out_and_in (places n within) flow t
-          ∙ ap (λ (k : ℕ). pos k -ℤ pos (sum_by (λ c. flow c t) (places n within))) (sum_along (λ p. flow t p) (λ p. shown t p) (places n within) (λ p h. sym (same t p (places_among n within p h).1)))
-          ∙ ap (λ (k : ℕ). pos (sum_by (λ p. shown t p) (places n within)) -ℤ pos k) (sum_along (λ c. flow c t) (λ c. shown c t) (places n within) (λ c h. sym (same c t m)));
+          ∙ ap (λ (k : ℕ). pos k -ℤ pos (sum_by (λ c. flow c t) (places n within)))
+          (sum_along (λ p. flow t p) (λ p. shown t p) (places n within) (λ p h. sym (same t p (places_among n within p h).1)))
+          ∙ ap (λ (k : ℕ). pos (sum_by (λ p. shown t p) (places n within)) -ℤ pos k)
+          (sum_along (λ c. flow c t) (λ c. shown c t) (places n within) (λ c h. sym (same c t m)));
       child = λ c p f. (both c p f).0;
       parent = λ c p f. (only c p f).1;
       pair = λ c p f. (both c p f).1;
@@ -153,11 +166,17 @@ unfolding net
 net_none ts flow t h none =
     total_along (λ s. pos 0) (λ s. pos (flow t s) -ℤ pos (flow s t)) ts (λ s hs. omega (arith, ints, none t s hs, none s t h)) ∙ total-zero ts
 
-pub surplus_small : (weights rest : ℕ → ℤ) (ts : List ℕ) → ((t : ℕ) → Among t ts → rest t ≡ weights t) → surplus rest ts ≤ sum_by (λ t. unsigned_abs (weights t)) ts
+pub surplus_small : (weights rest : ℕ → ℤ) (ts : List ℕ) → ((t : ℕ) → Among t ts → rest t ≡ weights t)
+    → surplus rest ts ≤ sum_by (λ t. unsigned_abs (weights t)) ts
 unfolding surplus
 surplus_small weights rest [] e = omega arith
 surplus_small weights rest (t ∷ ts) e =
-    omega (arith, sum_by-cons (λ x. unsigned_abs (weights x)) t ts, surplus_small weights rest ts (λ s h. e s (inr h)), at_most (rest t) (weights t) (e t (inl refl)))
+    omega (
+      arith,
+      sum_by-cons (λ x. unsigned_abs (weights x)) t ts,
+      surplus_small weights rest ts (λ s h. e s (inr h)),
+      at_most (rest t) (weights t) (e t (inl refl)),
+    )
   where
     at_most : (y z : ℤ) → y ≡ z → up y ≤ unsigned_abs z
     at_most y (pos k) q = omega (arith, ints, q)
@@ -167,7 +186,8 @@ pub small_start : (n : ℕ) (weights : ℕ → ℤ) (within w : set.FinSet nat_c
     → ((t : ℕ) → set.contains within t ≡ true → rest t ≡ weights t) → sum_by (λ t. unsigned_abs (weights t)) (places n within) < 2 ^ 126
     → surplus rest (places n w) < 2 ^ 126
 small_start n weights within w rest e left small =
-    subst (λ x. surplus rest (places n x) < 2 ^ 126) (sym e) (omega (arith, surplus_small weights rest (places n within) (λ t h. left t (places_among n within t h).1), small))
+    subst (λ x. surplus rest (places n x) < 2 ^ 126) (sym e)
+    (omega (arith, surplus_small weights rest (places n within) (λ t h. left t (places_among n within t h).1), small))
 
 pub left_start : (n : ℕ) (weights : ℕ → ℤ) (within : set.FinSet nat_cmp) (flow : ℕ → ℕ → ℕ) (rest : ℕ → ℤ)
     → IsWithin n within
@@ -178,11 +198,13 @@ left_start n weights within flow rest below left none t m =
 
 -- ---- the whole run
 -- what is left and what flows at the end, and the places reached last
-pub record Run (n : ℕ) (weights : List ℤ) (parents : List (set.FinSet nat_cmp)) (within : set.FinSet nat_cmp) (flow : ℕ → ℕ → ℕ) (rest : ℕ → ℤ) (reached : set.FinSet nat_cmp) : Type 0 where
+pub record Run (n : ℕ) (weights : List ℤ) (parents : List (set.FinSet nat_cmp)) (within : set.FinSet nat_cmp) (flow : ℕ → ℕ → ℕ) (rest : ℕ → ℤ)
+    (reached : set.FinSet nat_cmp) : Type 0 where
   pub ends : Ends n weights parents within flow rest
   pub sealed : IsSealed n parents within flow rest reached
 
-pub run_of : (n : ℕ) (weights : List ℤ) (parents : List (set.FinSet nat_cmp)) (within w1 w2 w3 : set.FinSet nat_cmp) (F G H : ℕ → ℕ → ℕ) (r s u : ℕ → ℤ) (reached : set.FinSet nat_cmp)
+pub run_of : (n : ℕ) (weights : List ℤ) (parents : List (set.FinSet nat_cmp)) (within w1 w2 w3 : set.FinSet nat_cmp) (F G H : ℕ → ℕ → ℕ)
+    (r s u : ℕ → ℤ) (reached : set.FinSet nat_cmp)
     → IsWithin n w1 → w1 ≡ within → w2 ≡ w1 → w3 ≡ w2
     → ((t : ℕ) → set.contains within t ≡ true → r t ≡ weight_at weights t) → ((c p : ℕ) → set.contains within p ≡ true → F c p ≡ 0)
     → Improves n parents w1 F r G s → Improves n parents w2 G s H u → IsSealed n parents w3 H u reached
@@ -200,20 +222,25 @@ run_of n weights parents within w1 w2 w3 F G H r s u reached below e1 e2 e3 left
       sealed = subst (λ x. IsSealed n parents x H u reached) (e3 ∙ e2 ∙ e1) sealed;
     }
 
-pub none_where_sealed : (n : ℕ) (weights : List ℤ) (parents : List (set.FinSet nat_cmp)) (within : set.FinSet nat_cmp) (flow : ℕ → ℕ → ℕ) (rest : ℕ → ℤ) (s : set.FinSet nat_cmp)
+pub none_where_sealed : (n : ℕ) (weights : List ℤ) (parents : List (set.FinSet nat_cmp)) (within : set.FinSet nat_cmp) (flow : ℕ → ℕ → ℕ)
+    (rest : ℕ → ℤ) (s : set.FinSet nat_cmp)
     → Ends n weights parents within flow rest → IsSealed n parents within flow rest s → s ≡ set.empty → IsNoneHeavier n weights parents within (pos 0)
 none_where_sealed n weights parents within flow rest s e sealed none =
-    subst (λ (k : ℕ). IsNoneHeavier n weights parents within (pos k)) (nothing_over n weights parents within flow rest s e sealed none) (none_heavier n weights parents within flow rest e)
+    subst (λ (k : ℕ). IsNoneHeavier n weights parents within (pos k)) (nothing_over n weights parents within flow rest s e sealed none)
+    (none_heavier n weights parents within flow rest e)
 
-pub positive_where_some : (n : ℕ) (weights : List ℤ) (parents : List (set.FinSet nat_cmp)) (within : set.FinSet nat_cmp) (flow : ℕ → ℕ → ℕ) (rest : ℕ → ℤ) (s : set.FinSet nat_cmp) (t : ℕ)
+pub positive_where_some : (n : ℕ) (weights : List ℤ) (parents : List (set.FinSet nat_cmp)) (within : set.FinSet nat_cmp) (flow : ℕ → ℕ → ℕ)
+    (rest : ℕ → ℤ) (s : set.FinSet nat_cmp) (t : ℕ)
     → Ends n weights parents within flow rest → IsSealed n parents within flow rest s → set.contains s t ≡ true → pos 0 <ℤ weight_of n weights s
 positive_where_some n weights parents within flow rest s t e sealed m =
     omega (arith, ints, sealed_weight n weights parents within flow rest s e sealed, sealed_some n parents within flow rest s t e.below sealed m)
 
-pub greatest_where_sealed : (n : ℕ) (weights : List ℤ) (parents : List (set.FinSet nat_cmp)) (within : set.FinSet nat_cmp) (flow : ℕ → ℕ → ℕ) (rest : ℕ → ℤ) (s : set.FinSet nat_cmp)
+pub greatest_where_sealed : (n : ℕ) (weights : List ℤ) (parents : List (set.FinSet nat_cmp)) (within : set.FinSet nat_cmp) (flow : ℕ → ℕ → ℕ)
+    (rest : ℕ → ℤ) (s : set.FinSet nat_cmp)
     → Ends n weights parents within flow rest → IsSealed n parents within flow rest s → IsNoneHeavier n weights parents within (weight_of n weights s)
 greatest_where_sealed n weights parents within flow rest s e sealed =
-    subst (λ (z : ℤ). IsNoneHeavier n weights parents within z) (sym (sealed_weight n weights parents within flow rest s e sealed)) (none_heavier n weights parents within flow rest e)
+    subst (λ (z : ℤ). IsNoneHeavier n weights parents within z) (sym (sealed_weight n weights parents within flow rest s e sealed))
+    (none_heavier n weights parents within flow rest e)
 
 -- ---- counting
 count_le : (p : ℕ → Bool) (xs : List ℕ) → count_by p xs ≤ length xs
@@ -232,10 +259,12 @@ pub counted_some : (s : set.FinSet nat_cmp) (t : ℕ) → set.contains s t ≡ t
 counted_some s t m = omega (arith, fewer s t m)
 
 -- ---- whether there is a least place
-pub none_is_empty : (o : Option ℕ) (b : Bool) (s : set.FinSet nat_cmp) → is_some o ≡ not b → b ≡ true → MatchOption o (s ≡ set.empty) (IsLeast s) → s ≡ set.empty
+pub none_is_empty : (o : Option ℕ) (b : Bool) (s : set.FinSet nat_cmp) → is_some o ≡ not b → b ≡ true → MatchOption o (s ≡ set.empty) (IsLeast s)
+    → s ≡ set.empty
 none_is_empty None b s e t m = m
 none_is_empty (Some p) b s e t m = absurd (let f : true ≡ false = e ∙ ap not t in cc)
 
-pub some_is_least : (o : Option ℕ) (b : Bool) (s : set.FinSet nat_cmp) → is_some o ≡ not b → b ≡ false → MatchOption o (s ≡ set.empty) (IsLeast s) → (p : ℕ) × (set.contains s p ≡ true)
+pub some_is_least : (o : Option ℕ) (b : Bool) (s : set.FinSet nat_cmp) → is_some o ≡ not b → b ≡ false → MatchOption o (s ≡ set.empty) (IsLeast s)
+    → (p : ℕ) × (set.contains s p ≡ true)
 some_is_least None b s e t m = absurd (let f : false ≡ true = e ∙ ap not t in cc)
 some_is_least (Some p) b s e t m = (p, m.member)

@@ -1,5 +1,7 @@
 -- Sending along a path, one pair at a time, and what it leaves.
-use Rattle.std.proofs.Common.{◌≡◌, ℕ, zero, suc, ◌+◌, ◌<◌, ◌≤◌, ◌⊎◌, inl, inr, List, ◌∷◌, length, Bool, true, false, cond, min, nat_eq, Option, Some, None, MatchOption, ℤ, pos, negsuc, ◌+ℤ◌, ◌-ℤ◌, neg_ℤ, ◌≤ℤ◌, ◌<ℤ◌, unsigned_abs, refl, sym, ap, ◌∙◌, subst, arith}
+use Rattle.std.proofs.Common.{◌≡◌, ℕ, zero, suc, ◌+◌, ◌<◌, ◌≤◌, ◌⊎◌, inl, inr, List, ◌∷◌, length, Bool, true, false}
+use Rattle.std.proofs.Common.{cond, min, nat_eq, Option, Some, None, MatchOption, ℤ, pos, negsuc, ◌+ℤ◌, ◌-ℤ◌, neg_ℤ}
+use Rattle.std.proofs.Common.{◌≤ℤ◌, ◌<ℤ◌, unsigned_abs, refl, sym, ap, ◌∙◌, subst, arith}
 use Rattle.std.proofs.lemmas.Bool.{cases_eq}
 use Rattle.std.proofs.lemmas.Int.{ints}
 use Rattle.std.specs.List.{filter, range_with_len}
@@ -35,7 +37,8 @@ among_filter p a (suc n) k h l m =
 pub among_places : (n : ℕ) (s : set.FinSet nat_cmp) (k : ℕ) → k < n → set.contains s k ≡ true → Among k (places n s)
 among_places n s k h m = among_filter (set.contains s) 0 n k (omega arith) (omega arith) m
 
-kept_from : (p : ℕ → Bool) (b : Bool) (x k a n : ℕ) (ys : List ℕ) → p x ≡ b → x < a + n → (Among k ys → (k < a + n) × (p k ≡ true)) → Among k (cond b (x ∷ ys) ys) → (k < a + n) × (p k ≡ true)
+kept_from : (p : ℕ → Bool) (b : Bool) (x k a n : ℕ) (ys : List ℕ) → p x ≡ b → x < a + n → (Among k ys → (k < a + n) × (p k ≡ true))
+    → Among k (cond b (x ∷ ys) ys) → (k < a + n) × (p k ≡ true)
 kept_from p true x k a n ys e l rest (inl same) = (subst (λ (y : ℕ). y < a + n) (sym same) l, ap p same ∙ e)
 kept_from p true x k a n ys e l rest (inr h) = rest h
 kept_from p false x k a n ys e l rest h = rest h
@@ -73,10 +76,12 @@ pushes n parents within G H from to amount a b d below old u_in v_in other way h
     ts = places n within
 
     a_in : set.contains within a ≡ true
-    a_in = elim way as (λ _. set.contains within a ≡ true) [ inl f ↦ ap (λ (x : ℕ). set.contains within x) f.0 ∙ u_in | inr f ↦ ap (λ (x : ℕ). set.contains within x) f.0 ∙ v_in ]
+    a_in = elim way as (λ _. set.contains within a ≡ true)
+        [ inl f ↦ ap (λ (x : ℕ). set.contains within x) f.0 ∙ u_in | inr f ↦ ap (λ (x : ℕ). set.contains within x) f.0 ∙ v_in ]
 
     b_in : set.contains within b ≡ true
-    b_in = elim way as (λ _. set.contains within b ≡ true) [ inl f ↦ ap (λ (x : ℕ). set.contains within x) f.1 ∙ v_in | inr f ↦ ap (λ (x : ℕ). set.contains within x) f.1 ∙ u_in ]
+    b_in = elim way as (λ _. set.contains within b ≡ true)
+        [ inl f ↦ ap (λ (x : ℕ). set.contains within x) f.1 ∙ v_in | inr f ↦ ap (λ (x : ℕ). set.contains within x) f.1 ∙ u_in ]
 
     a_not_b : a ≡ b → ⊥
     a_not_b e = elim way as (λ _. ⊥) [ inl f ↦ other (sym f.0 ∙ e ∙ f.1) | inr f ↦ other (sym f.1 ∙ sym e ∙ f.0) ]
@@ -150,14 +155,22 @@ pushes n parents within G H from to amount a b d below old u_in v_in other way h
     ]
 
 -- ---- along a path, from its end back to its start
-pub sends_none : (n : ℕ) (parents : List (set.FinSet nat_cmp)) (within : set.FinSet nat_cmp) (F : ℕ → ℕ → ℕ) (es : List Entry) (at amount : ℕ) → IsAllowed n parents within F → Sends n parents within F F es at at amount
+pub sends_none : (n : ℕ) (parents : List (set.FinSet nat_cmp)) (within : set.FinSet nat_cmp) (F : ℕ → ℕ → ℕ) (es : List Entry) (at amount : ℕ)
+    → IsAllowed n parents within F → Sends n parents within F F es at at amount
 sends_none n parents within F es at amount allowed =
-    record { moved = λ t m. same (net (places n within) F t) (only_at (place_at es at) (pos amount) t); more = λ c p m k. omega arith; still = λ i j h k. refl; allowed = allowed }
+    record {
+      moved = λ t m. same (net (places n within) F t) (only_at (place_at es at) (pos amount) t);
+      more = λ c p m k. omega arith;
+      still =
+          λ i j h k. refl;
+      allowed = allowed;
+    }
   where
     same : (x y : ℤ) → x ≡ (x +ℤ y) -ℤ y
     same x y = omega (arith, ints)
 
-pub sends_step : (n : ℕ) (parents : List (set.FinSet nat_cmp)) (within : set.FinSet nat_cmp) (F G H : ℕ → ℕ → ℕ) (rest : ℕ → ℤ) (es : List Entry) (at here before amount : ℕ)
+pub sends_step : (n : ℕ) (parents : List (set.FinSet nat_cmp)) (within : set.FinSet nat_cmp) (F G H : ℕ → ℕ → ℕ) (rest : ℕ → ℤ) (es : List Entry)
+    (at here before amount : ℕ)
     → IsWithin n within → IsSearch n parents within F rest es → here < length es → before < here
     → Sends n parents within F G es at here amount → Pushes n parents within G H (place_at es before) (place_at es here) amount
     → Sends n parents within F H es at before amount
@@ -167,8 +180,11 @@ sends_step n parents within F G H rest es at here before amount below s h lt sen
     first : before < length es
     first = omega (arith, lt, h)
 
-    moved : (t : ℕ) → set.contains within t ≡ true → net (places n within) H t ≡ (net (places n within) F t +ℤ only_at (place_at es before) (pos amount) t) -ℤ only_at (place_at es at) (pos amount) t
-    moved t m = joined (net (places n within) H t) (net (places n within) G t) (net (places n within) F t) (only_at (place_at es before) (pos amount) t) (only_at (place_at es here) (pos amount) t) (only_at (place_at es at) (pos amount) t) (push.moved t m) (sent.moved t m)
+    moved : (t : ℕ) → set.contains within t ≡ true
+        → net (places n within) H t ≡ (net (places n within) F t +ℤ only_at (place_at es before) (pos amount) t) -ℤ only_at (place_at es at) (pos amount) t
+    moved t m = joined (net (places n within) H t) (net (places n within) G t) (net (places n within) F t)
+        (only_at (place_at es before) (pos amount) t) (only_at (place_at es here) (pos amount) t) (only_at (place_at es at) (pos amount) t)
+        (push.moved t m) (sent.moved t m)
       where
         joined : (x y z u v w : ℤ) → x ≡ (y +ℤ u) -ℤ v → y ≡ (z +ℤ v) -ℤ w → x ≡ (z +ℤ u) -ℤ w
         joined x y z u v w e f = omega (arith, ints, e, f)
@@ -193,64 +209,82 @@ sends_step n parents within F G H rest es at here before amount below s h lt sen
 
     more : (c p : ℕ) → set.contains within c ≡ true → set.contains within p ≡ true → H c p ≤ F c p + amount
     more c p m k = elim (this_or_not c p (place_at es before) (place_at es here)) as (λ _. H c p ≤ F c p + amount) [
-      | inl e ↦ subst (λ (x : ℕ). H x p ≤ F x p + amount) (sym e.0) (subst (λ (y : ℕ). H (place_at es before) y ≤ F (place_at es before) y + amount) (sym e.1) (at_pair before here (omega (arith, lt)) (omega arith)))
+      | inl e ↦ subst (λ (x : ℕ). H x p ≤ F x p + amount) (sym e.0)
+          (subst (λ (y : ℕ). H (place_at es before) y ≤ F (place_at es before) y + amount) (sym e.1) (at_pair before here (omega (arith, lt)) (omega arith)))
       | inr ne ↦ elim (this_or_not c p (place_at es here) (place_at es before)) as (λ _. H c p ≤ F c p + amount) [
-        | inl e ↦ subst (λ (x : ℕ). H x p ≤ F x p + amount) (sym e.0) (subst (λ (y : ℕ). H (place_at es here) y ≤ F (place_at es here) y + amount) (sym e.1) (at_pair here before (omega arith) (omega (arith, lt))))
+        | inl e ↦ subst (λ (x : ℕ). H x p ≤ F x p + amount) (sym e.0)
+            (subst (λ (y : ℕ). H (place_at es here) y ≤ F (place_at es here) y + amount) (sym e.1) (at_pair here before (omega arith) (omega (arith, lt))))
         | inr nf ↦ omega (arith, push.others c p (below c m) (below p k) ne nf, sent.more c p m k)
       ]
     ]
 
 -- ---- what a path lets through
-pub fits_start : (parents : List (set.FinSet nat_cmp)) (flow : ℕ → ℕ → ℕ) (rest : ℕ → ℤ) (es : List Entry) (i amount : ℕ) → from_at es i ≡ None → pos amount ≤ℤ rest (place_at es i) → Fits parents flow rest es i amount
+pub fits_start : (parents : List (set.FinSet nat_cmp)) (flow : ℕ → ℕ → ℕ) (rest : ℕ → ℤ) (es : List Entry) (i amount : ℕ) → from_at es i ≡ None
+    → pos amount ≤ℤ rest (place_at es i) → Fits parents flow rest es i amount
 fits_start parents flow rest es i amount none enough =
     record {
       steps = 1;
-      lets = subst (λ (o : Option ℕ). MatchOption o (pos amount ≤ℤ rest (place_at es i)) (λ j. LetsThrough parents flow amount (place_at es j) (place_at es i) × PathLets parents flow rest es amount 0 j)) (sym none) enough;
+      lets = subst (λ (o : Option ℕ). MatchOption o (pos amount ≤ℤ rest (place_at es i))
+          (λ j. LetsThrough parents flow amount (place_at es j) (place_at es i) × PathLets parents flow rest es amount 0 j)) (sym none) enough;
     }
 
-pub fits_step : (parents : List (set.FinSet nat_cmp)) (flow : ℕ → ℕ → ℕ) (rest : ℕ → ℤ) (es : List Entry) (i j amount : ℕ) → from_at es i ≡ Some j → LetsThrough parents flow amount (place_at es j) (place_at es i) → Fits parents flow rest es j amount → Fits parents flow rest es i amount
+pub fits_step : (parents : List (set.FinSet nat_cmp)) (flow : ℕ → ℕ → ℕ) (rest : ℕ → ℤ) (es : List Entry) (i j amount : ℕ) → from_at es i ≡ Some j
+    → LetsThrough parents flow amount (place_at es j) (place_at es i) → Fits parents flow rest es j amount → Fits parents flow rest es i amount
 fits_step parents flow rest es i j amount some lets before =
     record {
       steps = suc before.steps;
-      lets = subst (λ (o : Option ℕ). MatchOption o (pos amount ≤ℤ rest (place_at es i)) (λ k. LetsThrough parents flow amount (place_at es k) (place_at es i) × PathLets parents flow rest es amount before.steps k)) (sym some) (lets, before.lets);
+      lets = subst (λ (o : Option ℕ). MatchOption o (pos amount ≤ℤ rest (place_at es i))
+          (λ k. LetsThrough parents flow amount (place_at es k) (place_at es i) × PathLets parents flow rest es amount before.steps k)) (sym some)
+          (lets, before.lets);
     }
 
 lets_at : (parents : List (set.FinSet nat_cmp)) (flow : ℕ → ℕ → ℕ) (rest : ℕ → ℤ) (es : List Entry) (i amount k : ℕ) → PathLets parents flow rest es amount k i
-    → (m : ℕ) × MatchOption (from_at es i) (pos amount ≤ℤ rest (place_at es i)) (λ j. LetsThrough parents flow amount (place_at es j) (place_at es i) × PathLets parents flow rest es amount m j)
+    → (m : ℕ) × MatchOption (from_at es i) (pos amount ≤ℤ rest (place_at es i))
+    (λ j. LetsThrough parents flow amount (place_at es j) (place_at es i) × PathLets parents flow rest es amount m j)
 lets_at parents flow rest es i amount zero l = absurd l
 lets_at parents flow rest es i amount (suc k) l = (k, l)
 
-pub fits_enough : (parents : List (set.FinSet nat_cmp)) (flow : ℕ → ℕ → ℕ) (rest : ℕ → ℤ) (es : List Entry) (i amount : ℕ) → Fits parents flow rest es i amount → from_at es i ≡ None → pos amount ≤ℤ rest (place_at es i)
+pub fits_enough : (parents : List (set.FinSet nat_cmp)) (flow : ℕ → ℕ → ℕ) (rest : ℕ → ℤ) (es : List Entry) (i amount : ℕ)
+    → Fits parents flow rest es i amount → from_at es i ≡ None → pos amount ≤ℤ rest (place_at es i)
 fits_enough parents flow rest es i amount f none =
     let l = lets_at parents flow rest es i amount f.steps f.lets in
-    subst (λ (o : Option ℕ). MatchOption o (pos amount ≤ℤ rest (place_at es i)) (λ j. LetsThrough parents flow amount (place_at es j) (place_at es i) × PathLets parents flow rest es amount l.0 j)) none l.1
+    subst (λ (o : Option ℕ). MatchOption o (pos amount ≤ℤ rest (place_at es i))
+    (λ j. LetsThrough parents flow amount (place_at es j) (place_at es i) × PathLets parents flow rest es amount l.0 j)) none l.1
 
-pub fits_next : (parents : List (set.FinSet nat_cmp)) (flow : ℕ → ℕ → ℕ) (rest : ℕ → ℤ) (es : List Entry) (i j amount : ℕ) → Fits parents flow rest es i amount → from_at es i ≡ Some j → LetsThrough parents flow amount (place_at es j) (place_at es i) × Fits parents flow rest es j amount
+pub fits_next : (parents : List (set.FinSet nat_cmp)) (flow : ℕ → ℕ → ℕ) (rest : ℕ → ℤ) (es : List Entry) (i j amount : ℕ)
+    → Fits parents flow rest es i amount → from_at es i ≡ Some j
+    → LetsThrough parents flow amount (place_at es j) (place_at es i) × Fits parents flow rest es j amount
 fits_next parents flow rest es i j amount f some =
     let l = lets_at parents flow rest es i amount f.steps f.lets in
-    let both = subst (λ (o : Option ℕ). MatchOption o (pos amount ≤ℤ rest (place_at es i)) (λ k. LetsThrough parents flow amount (place_at es k) (place_at es i) × PathLets parents flow rest es amount l.0 k)) some l.1 in
+    let both = subst (λ (o : Option ℕ). MatchOption o (pos amount ≤ℤ rest (place_at es i))
+    (λ k. LetsThrough parents flow amount (place_at es k) (place_at es i) × PathLets parents flow rest es amount l.0 k)) some l.1 in
     (both.0, record { steps = l.0; lets = both.1 })
 
-pub lets_less : (parents : List (set.FinSet nat_cmp)) (flow : ℕ → ℕ → ℕ) (less amount from to : ℕ) → less ≤ amount → LetsThrough parents flow amount from to → LetsThrough parents flow less from to
+pub lets_less : (parents : List (set.FinSet nat_cmp)) (flow : ℕ → ℕ → ℕ) (less amount from to : ℕ) → less ≤ amount
+    → LetsThrough parents flow amount from to → LetsThrough parents flow less from to
 lets_less parents flow less amount from to h (inl m) = inl m
 lets_less parents flow less amount from to h (inr m) = inr (omega (arith, h, m))
 
 -- what still lets an amount through when the flows among the entries before are as they were
-pub lets_still : (parents : List (set.FinSet nat_cmp)) (F G : ℕ → ℕ → ℕ) (amount from to : ℕ) → G to from ≡ F to from → LetsThrough parents F amount from to → LetsThrough parents G amount from to
+pub lets_still : (parents : List (set.FinSet nat_cmp)) (F G : ℕ → ℕ → ℕ) (amount from to : ℕ) → G to from ≡ F to from
+    → LetsThrough parents F amount from to → LetsThrough parents G amount from to
 lets_still parents F G amount from to e (inl m) = inl m
 lets_still parents F G amount from to e (inr m) = inr (omega (arith, e, m))
 
 -- a step between two places, under other names for them
-pub along_step : (parents : List (set.FinSet nat_cmp)) (flow : ℕ → ℕ → ℕ) {u v a b : ℕ} → u ≡ a → v ≡ b → (set.contains (parents_at parents u) v ≡ true) ⊎ (0 < flow v u) → (set.contains (parents_at parents a) b ≡ true) ⊎ (0 < flow b a)
+pub along_step : (parents : List (set.FinSet nat_cmp)) (flow : ℕ → ℕ → ℕ) {u v a b : ℕ} → u ≡ a → v ≡ b
+    → (set.contains (parents_at parents u) v ≡ true) ⊎ (0 < flow v u) → (set.contains (parents_at parents a) b ≡ true) ⊎ (0 < flow b a)
 along_step parents flow {u} {v} {a} {b} e f step =
-    subst (λ (x : ℕ). (set.contains (parents_at parents x) b ≡ true) ⊎ (0 < flow b x)) e (subst (λ (y : ℕ). (set.contains (parents_at parents u) y ≡ true) ⊎ (0 < flow y u)) f step)
+    subst (λ (x : ℕ). (set.contains (parents_at parents x) b ≡ true) ⊎ (0 < flow b x)) e
+    (subst (λ (y : ℕ). (set.contains (parents_at parents u) y ≡ true) ⊎ (0 < flow y u)) f step)
 
 -- what a start has left
 pub start_left : (z : ℤ) (m : ℕ) → m ≡ unsigned_abs z → pos 0 <ℤ z → (pos m ≤ℤ z) × (0 < m)
 start_left (pos k) m e h = (omega (arith, ints, e), omega (arith, ints, e, h))
 start_left (negsuc k) m e h = absurd (omega (arith, ints, h))
 
-pub against_only : (parents : List (set.FinSet nat_cmp)) (flow : ℕ → ℕ → ℕ) (amount from to : ℕ) → LetsThrough parents flow amount from to → set.contains (parents_at parents from) to ≡ false → amount ≤ flow to from
+pub against_only : (parents : List (set.FinSet nat_cmp)) (flow : ℕ → ℕ → ℕ) (amount from to : ℕ) → LetsThrough parents flow amount from to
+    → set.contains (parents_at parents from) to ≡ false → amount ≤ flow to from
 against_only parents flow amount from to (inl m) n = clash _ m n
 against_only parents flow amount from to (inr m) n = m
 

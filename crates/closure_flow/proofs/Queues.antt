@@ -1,5 +1,6 @@
 -- Entries that are put behind a queue's, and what a search knows of them.
-use Rattle.std.proofs.Common.{◌≡◌, ℕ, ◌+◌, ◌<◌, ◌⊎◌, inl, inr, List, [], ◌∷◌, ◌++◌, length, true, false, Option, refl, sym, ap, ◌∙◌, subst, arith, length-append}
+use Rattle.std.proofs.Common.{◌≡◌, ℕ, ◌+◌, ◌<◌, ◌⊎◌, inl, inr, List, [], ◌∷◌, ◌++◌, length, true, false, Option, refl}
+use Rattle.std.proofs.Common.{sym, ap, ◌∙◌, subst, arith, length-append}
 use Rattle.std.proofs.lemmas.Bool.{cases_eq, cases_lt}
 use Rattle.std.proofs.lemmas.List.{get_or_push, get_or_append_left}
 use Rattle.std.specs.Ordering.{nat_cmp}
@@ -44,7 +45,8 @@ lists_none =
       count = sym (set.len-empty nat_cmp);
     }
 
-pub lists_push : (es : List Entry) (seen : set.FinSet nat_cmp) (e : Entry) → Lists es seen → set.contains seen e.place ≡ false → Lists (es ++ e ∷ []) (set.insert seen e.place)
+pub lists_push : (es : List Entry) (seen : set.FinSet nat_cmp) (e : Entry) → Lists es seen → set.contains seen e.place ≡ false
+    → Lists (es ++ e ∷ []) (set.insert seen e.place)
 lists_push es seen e l out =
     record {
       each = λ i h. elim (last_or_old es e i h) as (λ _. set.contains (set.insert seen e.place) (place_at (es ++ e ∷ []) i) ≡ true) [
@@ -61,10 +63,12 @@ lists_push es seen e l out =
           elim (last_or_old es e i h) as (λ _. i ≡ j) [
             | inl old_i ↦ elim (last_or_old es e j k) as (λ _. i ≡ j) [
               | inl old_j ↦ l.once i j old_i old_j (sym (place_old es e i old_i) ∙ same ∙ place_old es e j old_j)
-              | inr last_j ↦ clash _ (l.each i old_i) (ap (λ (t : ℕ). set.contains seen t) (sym (place_old es e i old_i) ∙ same ∙ place_new es e j last_j) ∙ out)
+              | inr last_j ↦ clash _ (l.each i old_i) (ap (λ (t : ℕ). set.contains seen t)
+                  (sym (place_old es e i old_i) ∙ same ∙ place_new es e j last_j) ∙ out)
             ]
             | inr last_i ↦ elim (last_or_old es e j k) as (λ _. i ≡ j) [
-              | inl old_j ↦ clash _ (l.each j old_j) (ap (λ (t : ℕ). set.contains seen t) (sym (place_old es e j old_j) ∙ sym same ∙ place_new es e i last_i) ∙ out)
+              | inl old_j ↦ clash _ (l.each j old_j) (ap (λ (t : ℕ). set.contains seen t)
+                  (sym (place_old es e j old_j) ∙ sym same ∙ place_new es e i last_i) ∙ out)
               | inr last_j ↦ sym last_i ∙ last_j
             ]
           ];
@@ -87,11 +91,13 @@ pub grows_none : (es : List Entry) (next : set.FinSet nat_cmp) (from : Option �
 grows_none es next from =
     record { longer = omega arith; kept = λ i h. (refl, refl); added = λ i h k. absurd (omega arith) }
 
-pub putting_none : (n : ℕ) (es : List Entry) (seen next : set.FinSet nat_cmp) (from : Option ℕ) → Lists es seen → IsWithin n seen → ((t : ℕ) → set.contains next t ≡ true → set.contains seen t ≡ false) → Putting n es es seen seen next next from
+pub putting_none : (n : ℕ) (es : List Entry) (seen next : set.FinSet nat_cmp) (from : Option ℕ) → Lists es seen → IsWithin n seen
+    → ((t : ℕ) → set.contains next t ≡ true → set.contains seen t ≡ false) → Putting n es es seen seen next next from
 putting_none n es seen next from l w apart =
     record { lists = l; within = w; apart = apart; among = λ t m. m; grows = grows_none es next from; old = λ t m. m; got = λ t m. inl m; only = λ t m. inl m }
 
-grows_push : (before es : List Entry) (next : set.FinSet nat_cmp) (from : Option ℕ) (e : Entry) → Grows before es next from → set.contains next e.place ≡ true → e.from ≡ from → Grows before (es ++ e ∷ []) next from
+grows_push : (before es : List Entry) (next : set.FinSet nat_cmp) (from : Option ℕ) (e : Entry) → Grows before es next from
+    → set.contains next e.place ≡ true → e.from ≡ from → Grows before (es ++ e ∷ []) next from
 grows_push before es next from e g m f =
     record {
       longer = omega (arith, g.longer, length_push es e);

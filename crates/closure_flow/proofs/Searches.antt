@@ -1,5 +1,6 @@
 -- A search step by step: the start, one place taken, the end.
-use Rattle.std.proofs.Common.{◌≡◌, ℕ, ◌+◌, ◌<◌, ◌≤◌, ◌⊎◌, inl, inr, List, [], length, true, false, Option, Some, None, ℤ, pos, negsuc, ◌<ℤ◌, ◌≤ℤ◌, refl, sym, ap, ◌∙◌, subst, arith}
+use Rattle.std.proofs.Common.{◌≡◌, ℕ, ◌+◌, ◌<◌, ◌≤◌, ◌⊎◌, inl, inr, List, [], length, true, false, Option, Some, None}
+use Rattle.std.proofs.Common.{ℤ, pos, negsuc, ◌<ℤ◌, ◌≤ℤ◌, refl, sym, ap, ◌∙◌, subst, arith}
 use Rattle.std.proofs.lemmas.Bool.{cases_lt, cases_Bool}
 use Rattle.std.proofs.lemmas.Int.{ints}
 use Rattle.std.specs.Ordering.{nat_cmp}
@@ -14,7 +15,8 @@ use Rattle.closure_flow.specs.Networks.{IsAllowed}
 use Rattle.closure_flow.specs.Queues.{place_at, from_at, Lists, Grows, IsBeyond, IsSearch, IsSwept, IsSealed}
 
 -- what holds of a search of which some entries were taken
-pub record Searching (n : ℕ) (parents : List (set.FinSet nat_cmp)) (within : set.FinSet nat_cmp) (flow : ℕ → ℕ → ℕ) (rest : ℕ → ℤ) (es : List Entry) (taken : ℕ) (seen : set.FinSet nat_cmp) : Type 0 where
+pub record Searching (n : ℕ) (parents : List (set.FinSet nat_cmp)) (within : set.FinSet nat_cmp) (flow : ℕ → ℕ → ℕ) (rest : ℕ → ℤ) (es : List Entry)
+    (taken : ℕ) (seen : set.FinSet nat_cmp) : Type 0 where
   pub lists : Lists es seen
   pub below : IsWithin n seen
   pub inside : (t : ℕ) → set.contains seen t ≡ true → set.contains within t ≡ true
@@ -23,9 +25,11 @@ pub record Searching (n : ℕ) (parents : List (set.FinSet nat_cmp)) (within : s
 
 -- positions behind the old ones are new
 pub new_or_old : (old new : List Entry) (i : ℕ) → (i < length old) ⊎ (length old ≤ i)
-new_or_old old new i = elim (cases_lt i (length old)) as (λ _. (i < length old) ⊎ (length old ≤ i)) [ inl less ↦ inl less | inr more ↦ inr (omega (arith, more)) ]
+new_or_old old new i = elim (cases_lt i (length old)) as (λ _. (i < length old) ⊎ (length old ≤ i))
+    [ inl less ↦ inl less | inr more ↦ inr (omega (arith, more)) ]
 
-pub searching_start : (n : ℕ) (parents : List (set.FinSet nat_cmp)) (within : set.FinSet nat_cmp) (flow : ℕ → ℕ → ℕ) (rest : ℕ → ℤ) (es : List Entry) (starts seen : set.FinSet nat_cmp)
+pub searching_start : (n : ℕ) (parents : List (set.FinSet nat_cmp)) (within : set.FinSet nat_cmp) (flow : ℕ → ℕ → ℕ) (rest : ℕ → ℤ) (es : List Entry)
+    (starts seen : set.FinSet nat_cmp)
     → ((t : ℕ) → set.contains starts t ≡ true → (set.contains within t ≡ true) × (pos 0 <ℤ rest t))
     → ((t : ℕ) → set.contains within t ≡ true → pos 0 <ℤ rest t → set.contains starts t ≡ true)
     → Lists es seen → IsWithin n seen → Grows [] es starts None
@@ -55,7 +59,8 @@ searching_start n parents within flow rest es starts seen sound complete l w g n
     is_start : (t : ℕ) → set.contains seen t ≡ true → set.contains starts t ≡ true
     is_start t m = elim (only t m) as (λ _. set.contains starts t ≡ true) [ inl none ↦ clash _ none (contains-empty t) | inr some ↦ some ]
 
-pub searching_step : (n : ℕ) (parents : List (set.FinSet nat_cmp)) (within : set.FinSet nat_cmp) (flow : ℕ → ℕ → ℕ) (rest : ℕ → ℤ) (es es' : List Entry) (k : ℕ) (seen seen' next : set.FinSet nat_cmp)
+pub searching_step : (n : ℕ) (parents : List (set.FinSet nat_cmp)) (within : set.FinSet nat_cmp) (flow : ℕ → ℕ → ℕ) (rest : ℕ → ℤ)
+    (es es' : List Entry) (k : ℕ) (seen seen' next : set.FinSet nat_cmp)
     → IsAllowed n parents within flow
     → Searching n parents within flow rest es k seen → k < length es → pos 0 ≤ℤ rest (place_at es k)
     → IsBeyond n parents within flow seen (place_at es k) next
@@ -80,20 +85,22 @@ searching_step n parents within flow rest es es' k seen seen' next allowed s hk 
           | inl was ↦ subst (λ (t : ℕ). pos 0 <ℤ rest t) (sym (g.kept i was).0) (s.search.start i was (sym (g.kept i was).1 ∙ e))
           | inr now ↦ absurd (let f : Some k ≡ None = sym (g.added i now h).1 ∙ e in cc)
         ];
-        step = λ i j h e. elim (new_or_old es es' i) as (λ _. (j < i) × ((set.contains (parents_at parents (place_at es' j)) (place_at es' i) ≡ true) ⊎ (0 < flow (place_at es' i) (place_at es' j)))) [
-          | inl was ↦
-              let before = s.search.step i j was (sym (g.kept i was).1 ∙ e) in
-              let first : j < length es = omega (arith, before.0, was) in
-              (before.0, moved i j (sym (g.kept i was).0) (sym (g.kept j first).0) before.1)
-          | inr now ↦
-              let same : Some j ≡ Some k = sym e ∙ (g.added i now h).1 in
-              let is : k ≡ j = cc in (
-                omega (arith, is, hk, now),
-                subst (λ (q : ℕ). (set.contains (parents_at parents (place_at es' q)) (place_at es' i) ≡ true) ⊎ (0 < flow (place_at es' i) (place_at es' q))) is
-                    (subst (λ (t : ℕ). (set.contains (parents_at parents t) (place_at es' i) ≡ true) ⊎ (0 < flow (place_at es' i) t)) (sym (g.kept k hk).0)
-                    (b.reached (place_at es' i) (g.added i now h).0)),
-              )
-        ];
+        step = λ i j h e. elim (new_or_old es es' i) as
+            (λ _. (j < i) × ((set.contains (parents_at parents (place_at es' j)) (place_at es' i) ≡ true) ⊎ (0 < flow (place_at es' i) (place_at es' j)))) [
+              | inl was ↦
+                  let before = s.search.step i j was (sym (g.kept i was).1 ∙ e) in
+                  let first : j < length es = omega (arith, before.0, was) in
+                  (before.0, moved i j (sym (g.kept i was).0) (sym (g.kept j first).0) before.1)
+              | inr now ↦
+                  let same : Some j ≡ Some k = sym e ∙ (g.added i now h).1 in
+                  let is : k ≡ j = cc in (
+                    omega (arith, is, hk, now),
+                    subst (λ (q : ℕ). (set.contains (parents_at parents (place_at es' q)) (place_at es' i) ≡ true) ⊎
+                        (0 < flow (place_at es' i) (place_at es' q))) is
+                        (subst (λ (t : ℕ). (set.contains (parents_at parents t) (place_at es' i) ≡ true) ⊎ (0 < flow (place_at es' i) t)) (sym (g.kept k hk).0)
+                        (b.reached (place_at es' i) (g.added i now h).0)),
+                  )
+            ];
       };
       swept = record {
         starts = λ t m h. old t (s.swept.starts t m h);
@@ -118,8 +125,10 @@ searching_step n parents within flow rest es es' k seen seen' next allowed s hk 
     next_inside : (t : ℕ) → set.contains next t ≡ true → set.contains within t ≡ true
     next_inside t m = b.inside t m
 
-    moved : (i j : ℕ) {x y : ℕ} → x ≡ place_at es' i → y ≡ place_at es' j → (set.contains (parents_at parents y) x ≡ true) ⊎ (0 < flow x y) → (set.contains (parents_at parents (place_at es' j)) (place_at es' i) ≡ true) ⊎ (0 < flow (place_at es' i) (place_at es' j))
-    moved i j {x} {y} e f (inl m) = inl (subst (λ (t : ℕ). set.contains (parents_at parents (place_at es' j)) t ≡ true) e (subst (λ (t : ℕ). set.contains (parents_at parents t) x ≡ true) f m))
+    moved : (i j : ℕ) {x y : ℕ} → x ≡ place_at es' i → y ≡ place_at es' j → (set.contains (parents_at parents y) x ≡ true) ⊎ (0 < flow x y)
+        → (set.contains (parents_at parents (place_at es' j)) (place_at es' i) ≡ true) ⊎ (0 < flow (place_at es' i) (place_at es' j))
+    moved i j {x} {y} e f (inl m) = inl (subst (λ (t : ℕ). set.contains (parents_at parents (place_at es' j)) t ≡ true) e
+        (subst (λ (t : ℕ). set.contains (parents_at parents t) x ≡ true) f m))
     moved i j {x} {y} e f (inr m) = inr (subst (λ (t : ℕ). 0 < flow t (place_at es' j)) e (subst (λ (t : ℕ). 0 < flow x t) f m))
 
     taken_or_this : (i : ℕ) → i < k + 1 → (i < k) ⊎ (i ≡ k)
@@ -132,7 +141,8 @@ searching_step n parents within flow rest es es' k seen seen' next allowed s hk 
     either t (inl m) = old t m
     either t (inr m) = new t m
 
-pub searching_end : (n : ℕ) (parents : List (set.FinSet nat_cmp)) (within : set.FinSet nat_cmp) (flow : ℕ → ℕ → ℕ) (rest : ℕ → ℤ) (es : List Entry) (k : ℕ) (seen : set.FinSet nat_cmp)
+pub searching_end : (n : ℕ) (parents : List (set.FinSet nat_cmp)) (within : set.FinSet nat_cmp) (flow : ℕ → ℕ → ℕ) (rest : ℕ → ℤ) (es : List Entry)
+    (k : ℕ) (seen : set.FinSet nat_cmp)
     → Searching n parents within flow rest es k seen → k ≡ length es → IsSealed n parents within flow rest seen
 searching_end n parents within flow rest es k seen s all =
     record {
@@ -160,7 +170,8 @@ searching_end n parents within flow rest es k seen s all =
     taken i h = omega (arith, h, all)
 
 -- an entry that isn't taken yet leaves work
-pub some_left : (n : ℕ) (parents : List (set.FinSet nat_cmp)) (within : set.FinSet nat_cmp) (flow : ℕ → ℕ → ℕ) (rest : ℕ → ℤ) (es : List Entry) (k : ℕ) (seen : set.FinSet nat_cmp)
+pub some_left : (n : ℕ) (parents : List (set.FinSet nat_cmp)) (within : set.FinSet nat_cmp) (flow : ℕ → ℕ → ℕ) (rest : ℕ → ℤ) (es : List Entry)
+    (k : ℕ) (seen : set.FinSet nat_cmp)
     → Searching n parents within flow rest es k seen → k < length es → k < n
 some_left n parents within flow rest es k seen s h = omega (arith, h, s.lists.count, len_bound n seen s.below)
 
@@ -173,7 +184,8 @@ not_short z h = elim (cases_lt_z z) as (λ _. pos 0 ≤ℤ z) [ inl low ↦ absu
     cases_lt_z (negsuc n) = inl (omega (arith, ints))
 
 -- ---- one step from a place
-pub beyond_is : (n : ℕ) (parents : List (set.FinSet nat_cmp)) (within : set.FinSet nat_cmp) (flow : ℕ → ℕ → ℕ) (seen up down met all next : set.FinSet nat_cmp) (t : ℕ)
+pub beyond_is : (n : ℕ) (parents : List (set.FinSet nat_cmp)) (within : set.FinSet nat_cmp) (flow : ℕ → ℕ → ℕ)
+    (seen up down met all next : set.FinSet nat_cmp) (t : ℕ)
     → IsAllowed n parents within flow → set.contains within t ≡ true
     → ((q : ℕ) → set.contains (parents_at parents t) q ≡ set.contains up q)
     → ((c : ℕ) → set.contains down c ≡ true → (c < n) × (0 < flow c t))
@@ -191,7 +203,8 @@ beyond_is n parents within flow seen up down met all next t allowed here ups sen
         | inl a ↦ inl (ups u ∙ a.0)
         | inr f ↦ inr (senders u f).1
       ];
-      along = λ p m w. new p (subst (λ s. set.contains s p ≡ true) (sym ea) (to_union_left met down p (subst (λ s. set.contains s p ≡ true) (sym em) (to_meet up within p (sym (ups p) ∙ m) w))));
+      along = λ p m w. new p (subst (λ s. set.contains s p ≡ true) (sym ea)
+          (to_union_left met down p (subst (λ s. set.contains s p ≡ true) (sym em) (to_meet up within p (sym (ups p) ∙ m) w))));
       against = λ c h f. new c (subst (λ s. set.contains s c ≡ true) (sym ea) (to_union_right met down c (back c f)));
     }
   where
@@ -199,10 +212,11 @@ beyond_is n parents within flow seen up down met all next t allowed here ups sen
     parts u m = from_minus all seen u (subst (λ s. set.contains s u ≡ true) en m)
 
     either : (u : ℕ) → set.contains next u ≡ true → ((set.contains up u ≡ true) × (set.contains within u ≡ true)) ⊎ (set.contains down u ≡ true)
-    either u m = elim (from_union met down u (subst (λ s. set.contains s u ≡ true) ea (parts u m).0)) as (λ _. ((set.contains up u ≡ true) × (set.contains within u ≡ true)) ⊎ (set.contains down u ≡ true)) [
-      | inl a ↦ inl (from_meet up within u (subst (λ s. set.contains s u ≡ true) em a))
-      | inr b ↦ inr b
-    ]
+    either u m = elim (from_union met down u (subst (λ s. set.contains s u ≡ true) ea (parts u m).0)) as
+        (λ _. ((set.contains up u ≡ true) × (set.contains within u ≡ true)) ⊎ (set.contains down u ≡ true)) [
+          | inl a ↦ inl (from_meet up within u (subst (λ s. set.contains s u ≡ true) em a))
+          | inr b ↦ inr b
+        ]
 
     new : (u : ℕ) → set.contains all u ≡ true → (set.contains seen u ≡ true) ⊎ (set.contains next u ≡ true)
     new u m = elim (cases_Bool (set.contains seen u)) as (λ _. (set.contains seen u ≡ true) ⊎ (set.contains next u ≡ true)) [

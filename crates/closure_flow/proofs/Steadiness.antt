@@ -1,5 +1,6 @@
 -- What an amount that went from one place to another leaves.
-use Rattle.std.proofs.Common.{◌≡◌, ℕ, ◌+◌, ◌^◌, ◌<◌, ◌≤◌, List, true, min, ℤ, pos, negsuc, ◌+ℤ◌, ◌-ℤ◌, neg_ℤ, ◌≤ℤ◌, ◌<ℤ◌, unsigned_abs, SFits, to_z, of_z, get_or, refl, sym, ap, ◌∙◌, subst, arith}
+use Rattle.std.proofs.Common.{◌≡◌, ℕ, ◌+◌, ◌^◌, ◌<◌, ◌≤◌, List, true, min, ℤ, pos, negsuc, ◌+ℤ◌, ◌-ℤ◌, neg_ℤ, ◌≤ℤ◌}
+use Rattle.std.proofs.Common.{◌<ℤ◌, unsigned_abs, SFits, to_z, of_z, get_or, refl, sym, ap, ◌∙◌, subst, arith}
 use Rattle.std.proofs.lemmas.Int.{ints, to_z-of_z}
 use Rattle.std.specs.Int.{w128}
 use Rattle.std.specs.Ordering.{nat_cmp}
@@ -14,14 +15,16 @@ use Rattle.closure_flow.proofs.Networks.{read_rest}
 use Rattle.closure_flow.proofs.Paths.{among_places, places_among}
 
 -- the flows and the rests after an amount went from a start to an end
-pub record Moves (n : ℕ) (parents : List (set.FinSet nat_cmp)) (within : set.FinSet nat_cmp) (F G : ℕ → ℕ → ℕ) (r s : ℕ → ℤ) (start end amount : ℕ) : Type 0 where
+pub record Moves (n : ℕ) (parents : List (set.FinSet nat_cmp)) (within : set.FinSet nat_cmp) (F G : ℕ → ℕ → ℕ) (r s : ℕ → ℤ) (start end amount : ℕ)
+    : Type 0 where
   pub below : IsWithin n within
   pub first : set.contains within start ≡ true
   pub last : set.contains within end ≡ true
   pub some : 0 < amount
   pub enough : pos amount ≤ℤ r start
   pub lacks : r end ≤ℤ neg_ℤ (pos amount)
-  pub moved : (t : ℕ) → set.contains within t ≡ true → net (places n within) G t ≡ (net (places n within) F t +ℤ only_at start (pos amount) t) -ℤ only_at end (pos amount) t
+  pub moved : (t : ℕ) → set.contains within t ≡ true
+      → net (places n within) G t ≡ (net (places n within) F t +ℤ only_at start (pos amount) t) -ℤ only_at end (pos amount) t
   pub more : (c p : ℕ) → set.contains within c ≡ true → set.contains within p ≡ true → G c p ≤ F c p + amount
   pub allowed : IsAllowed n parents within G
   pub rests : (t : ℕ) → t < n → s t ≡ (r t -ℤ only_at start (pos amount) t) +ℤ only_at end (pos amount) t
@@ -60,7 +63,8 @@ moves_steady n parents within F G r s start end amount m old =
 pub moves_keeps : (n : ℕ) (parents : List (set.FinSet nat_cmp)) (within : set.FinSet nat_cmp) (F G : ℕ → ℕ → ℕ) (r s : ℕ → ℤ) (start end amount : ℕ)
     → Moves n parents within F G r s start end amount → Keeps n within F r G s
 moves_keeps n parents within F G r s start end amount m t h =
-    same (s t) (r t) (net (places n within) G t) (net (places n within) F t) (only_at start (pos amount) t) (only_at end (pos amount) t) (m.rests t (m.below t h)) (m.moved t h)
+    same (s t) (r t) (net (places n within) G t) (net (places n within) F t) (only_at start (pos amount) t) (only_at end (pos amount) t)
+    (m.rests t (m.below t h)) (m.moved t h)
   where
     same : (x y z w a b : ℤ) → x ≡ (y -ℤ a) +ℤ b → z ≡ (w +ℤ a) -ℤ b → x +ℤ z ≡ y +ℤ w
     same x y z w a b e f = omega (arith, ints, e, f)
@@ -93,7 +97,8 @@ has_some (negsuc k) m e h = absurd (omega (arith, ints, h))
 
 -- a rest that was read, with its absolute value as the code computes it
 pub read_lack : (n : ℕ) (into : List (set.FinSet nat_cmp)) (amounts : List ℕ) (rest : List ℤ) (place : ℕ) (z : ℤ) (m x : ℕ)
-    → IsSized n into amounts rest → place < n → z ≡ get_or rest place z → SFits w128 z → m ≡ unsigned_abs (to_z w128 (of_z w128 z)) → weight_at rest place <ℤ pos 0 → x ≤ m
+    → IsSized n into amounts rest → place < n → z ≡ get_or rest place z → SFits w128 z → m ≡ unsigned_abs (to_z w128 (of_z w128 z))
+    → weight_at rest place <ℤ pos 0 → x ≤ m
     → weight_at rest place ≤ℤ neg_ℤ (pos x)
 read_lack n into amounts rest place z m x s h e fine abs low l =
     let read = read_rest n into amounts rest place z s h e in
@@ -101,7 +106,8 @@ read_lack n into amounts rest place z m x s h e fine abs low l =
     (lacking_of z m x (abs ∙ ap unsigned_abs (to_z-of_z w128 z fine)) (subst (λ (y : ℤ). y <ℤ pos 0) read low) l)
 
 pub read_left : (n : ℕ) (into : List (set.FinSet nat_cmp)) (amounts : List ℕ) (rest : List ℤ) (place : ℕ) (z : ℤ) (m x : ℕ)
-    → IsSized n into amounts rest → place < n → z ≡ get_or rest place z → SFits w128 z → m ≡ unsigned_abs (to_z w128 (of_z w128 z)) → pos 0 <ℤ weight_at rest place → x ≤ m
+    → IsSized n into amounts rest → place < n → z ≡ get_or rest place z → SFits w128 z → m ≡ unsigned_abs (to_z w128 (of_z w128 z))
+    → pos 0 <ℤ weight_at rest place → x ≤ m
     → pos x ≤ℤ weight_at rest place
 read_left n into amounts rest place z m x s h e fine abs low l =
     let read = read_rest n into amounts rest place z s h e in
@@ -120,15 +126,18 @@ giving n into amounts rest from to y z l m x s hf ht ey ez fy fz ly mz least abo
   λ e. omega (arith, ints, above, under, ap (weight_at rest) e),
 )
 
-pub same_sent : (n : ℕ) (into into' : List (set.FinSet nat_cmp)) (amounts amounts' : List ℕ) → into' ≡ into → amounts' ≡ amounts → sent n into amounts ≡ sent n into' amounts'
+pub same_sent : (n : ℕ) (into into' : List (set.FinSet nat_cmp)) (amounts amounts' : List ℕ) → into' ≡ into → amounts' ≡ amounts
+    → sent n into amounts ≡ sent n into' amounts'
 same_sent n into into' amounts amounts' e f = ap (λ xs. sent n xs amounts) (sym e) ∙ ap (sent n into') (sym f)
 
 pub both_some : (y z : ℤ) (l m : ℕ) → l ≡ unsigned_abs y → m ≡ unsigned_abs z → pos 0 <ℤ y → z <ℤ pos 0 → 0 < min l m
 both_some y z l m e f h k = omega (arith, has_some y l e h, lacks_some z m f k)
 
 -- ---- one improvement after another
-pub improves_none : (n : ℕ) (parents : List (set.FinSet nat_cmp)) (within : set.FinSet nat_cmp) (F : ℕ → ℕ → ℕ) (r : ℕ → ℤ) → IsSteady n parents within F r → Improves n parents within F r F r
+pub improves_none : (n : ℕ) (parents : List (set.FinSet nat_cmp)) (within : set.FinSet nat_cmp) (F : ℕ → ℕ → ℕ) (r : ℕ → ℤ)
+    → IsSteady n parents within F r → Improves n parents within F r F r
 improves_none n parents within F r s = record { steady = s; keeps = λ t h. refl }
 
-pub improves_more : (n : ℕ) (parents : List (set.FinSet nat_cmp)) (within : set.FinSet nat_cmp) (F G H : ℕ → ℕ → ℕ) (r s u : ℕ → ℤ) → Improves n parents within F r G s → Improves n parents within G s H u → Improves n parents within F r H u
+pub improves_more : (n : ℕ) (parents : List (set.FinSet nat_cmp)) (within : set.FinSet nat_cmp) (F G H : ℕ → ℕ → ℕ) (r s u : ℕ → ℤ)
+    → Improves n parents within F r G s → Improves n parents within G s H u → Improves n parents within F r H u
 improves_more n parents within F G H r s u a b = record { steady = b.steady; keeps = λ t h. b.keeps t h ∙ a.keeps t h }

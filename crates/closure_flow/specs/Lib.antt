@@ -6,4 +6,5 @@ pub mod Networks
 pub mod Outcomes
 pub mod Queues
 pub mod Scratches
+pub mod Tight
 pub mod Views

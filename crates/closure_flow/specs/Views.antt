@@ -11,10 +11,15 @@ use Rattle.closure_flow.specs.Labels.{IsLabelling, IsNarrowest, IsShortest, Spen
 use Rattle.closure_flow.specs.Networks.{Arranges, Fits, Gives, Hands, Improves, IsAllowed, IsFirst, IsSteady}
 use Rattle.closure_flow.specs.Networks.{LetsThrough, Pushes, sent}
 use Rattle.closure_flow.specs.Queues.{IsBeyond, IsSealed, IsSearch}
+use Rattle.closure_flow.specs.Scratches.{shown}
 
 -- what a child sends to a parent
 abbrev pub flow_in : {W : ℕ} → Network W → ℕ → ℕ → ℕ
 flow_in {W} network = sent (64 * W) network.into.items network.amounts.items
+
+-- what is shown of that: only places that the network is for receive something
+abbrev pub shown_in : {W : ℕ} → Network W → ℕ → ℕ → ℕ
+shown_in {W} network = shown (64 * W) network.within network.into.items network.amounts.items
 
 -- what is left at a place
 abbrev pub rest_in : {W : ℕ} → Network W → ℕ → ℤ

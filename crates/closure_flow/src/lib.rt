@@ -12,10 +12,12 @@ mod queue;
 mod scratch;
 mod search;
 mod solver;
+mod tight_sets;
 
 pub use queue::{Entry, Queue};
 pub use scratch::Scratch;
 pub use solver::{Outcome, solve};
+pub use tight_sets::{smallest_tight, tight};
 
 #[cfg(test)]
 mod tests;

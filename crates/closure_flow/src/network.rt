@@ -30,11 +30,11 @@ pub(crate) struct Network<const W: usize> {
 }
 
 impl<const W: usize> Network<W> {
-    ghost use Rattle.std.specs.Prelude.{◌≡◌, ℕ, ◌+◌, ◌*◌, ◌<◌, ◌^◌, true, pos, ◌+ℤ◌, ◌-ℤ◌, ◌≤ℤ◌, ◌<ℤ◌};
+    ghost use Rattle.std.specs.Prelude.{◌≡◌, ◌↔◌, ℕ, ◌+◌, ◌*◌, ◌<◌, ◌^◌, true, pos, ◌+ℤ◌, ◌-ℤ◌, ◌≤ℤ◌, ◌<ℤ◌};
     ghost use Rattle.std.specs.Prelude.{length, slice_set, IfOk};
     ghost use Rattle.std.specs.FinSet as set;
     ghost use Rattle.closure_flow.specs.Flows.{only_at};
-    ghost use Rattle.closure_flow.specs.Views.{flow_in, rest_in};
+    ghost use Rattle.closure_flow.specs.Views.{flow_in, rest_in, shown_in};
 
     /// A network of no places.
     pub(crate) fn new(alloc: Global) -> Result<Self, NoMemory>
@@ -87,6 +87,18 @@ impl<const W: usize> Network<W> {
             self.amounts[self.place_of(child, parent)]
         } else {
             0
+        }
+    }
+
+    /// The children that send a parent flow, none where the network is not for the parent.
+    pub(crate) fn senders(&self, parent: usize) -> Bits<W>
+        requires { parent < 64 * W }
+        ensures { (c : ℕ) → (set.contains result c ≡ true) ↔ (0 < shown_in self.now c parent) }
+    {
+        if self.within.has(parent) {
+            self.into[parent]
+        } else {
+            Bits::empty()
         }
     }
 

@@ -1,7 +1,7 @@
 ghost use Rattle.std.specs.Prelude.{◌≡◌, ◌*◌, ◌^◌, ◌<◌, ◌≤◌, length, pos, unsigned_abs, sum_by};
 ghost use Rattle.arithmetic.specs.Sums.{total};
 
-use crate::{Outcome, Scratch, solve};
+use crate::{Outcome, Scratch, smallest_tight, solve, tight};
 use bitset::Bits;
 use std::alloc::Global;
 use std::marker::Brand;
@@ -28,6 +28,32 @@ fn solved<L: Ledger, const W: usize>(
     match solve(scratch, weights, parents, all, steps) {
         Outcome::Better(set) => Some((set.count(), set.least())),
         Outcome::Balanced => None,
+    }
+}
+
+// The same where it is balanced: how many places the least tight set of a place has, and the smallest one of all.
+fn tight_sets<L: Ledger, const W: usize>(
+    scratch: &mut Scratch<W>,
+    weights: &[i128],
+    parents: &[Bits<W>],
+    place: usize,
+    steps: &mut Steps<L>,
+) -> Option<(usize, usize)>
+    requires words { W ≤ 2 }
+    requires place { place < length weights.now }
+    requires room { length weights.now ≤ 64 * W }
+    requires parents { length parents.now ≡ length weights.now }
+    requires sum { total (λ z. z) weights.now ≡ pos 0 }
+    requires small { sum_by unsigned_abs weights.now < 2 ^ 126 }
+{
+    let all = Bits::first_n(weights.len());
+    match solve(scratch, weights, parents, all, steps) {
+        Outcome::Better(_) => None,
+        Outcome::Balanced => {
+            let least = tight(scratch, parents, all, place, steps);
+            let smallest = smallest_tight(scratch, parents, all, steps);
+            Some((least.count(), smallest.count()))
+        }
     }
 }
 
@@ -131,6 +157,39 @@ fn edges<K: ledger::Ledger>(rt: &impl Abort, alloc: Global, blank: Blank) -> Res
     Ok(())
 }
 
+// Tight sets: of a chain of weights 0, of a parent with two children that send it flow, and of a zigzag that falls in two.
+fn cuts<K: ledger::Ledger>(rt: &impl Abort, alloc: Global, blank: Blank) -> Result<(), Fail>
+    requires name { blank.name ≡ K.name }
+    requires parts { blank.parts ≡ K.parts }
+    requires some { 0 < blank.parts }
+{
+    let mut scratch = Scratch::<1>::new(alloc)?;
+    let mut steps = Steps::new(NoLedger::<K>::new(blank));
+    let none = Bits::<1>::empty();
+    let first = Bits::<1>::first_n(1);
+    let mut second = Bits::<1>::empty();
+    second.insert(1);
+
+    let chain = [none, first, second];
+    let level = tight_sets(&mut scratch, &[0, 0, 0], &chain, 1, &mut steps);
+    assert_eq!(rt; level, Some((2, 1)));
+    let falling = tight_sets(&mut scratch, &[1, 0, -1], &chain, 1, &mut steps);
+    assert_eq!(rt; falling, None);
+
+    let fan = [none, first, first];
+    let paid = tight_sets(&mut scratch, &[-2, 1, 1], &fan, 0, &mut steps);
+    assert_eq!(rt; paid, Some((3, 3)));
+
+    let mut ends = first;
+    ends.insert(2);
+    let zigzag = [none, first, none, ends];
+    let lower = tight_sets(&mut scratch, &[-4, 4, -4, 4], &zigzag, 0, &mut steps);
+    assert_eq!(rt; lower, Some((2, 2)));
+    let upper = tight_sets(&mut scratch, &[-4, 4, -4, 4], &zigzag, 2, &mut steps);
+    assert_eq!(rt; upper, Some((4, 2)));
+    Ok(())
+}
+
 // Stars each way in two words: many children of one parent, many parents of one child.
 fn stars<K: ledger::Ledger>(rt: &impl Abort, alloc: Global, blank: Blank) -> Result<(), Fail>
     requires name { blank.name ≡ K.name }
@@ -174,5 +233,6 @@ fn stars<K: ledger::Ledger>(rt: &impl Abort, alloc: Global, blank: Blank) -> Res
 fn worked_rows_are_answered(rt: HostRuntime) -> Result<(), Fail> {
     rows::<Brand>(&rt, rt.alloc(), Blank::new(1))?;
     edges::<Brand>(&rt, rt.alloc(), Blank::new(1))?;
-    stars::<Brand>(&rt, rt.alloc(), Blank::new(1))
+    stars::<Brand>(&rt, rt.alloc(), Blank::new(1))?;
+    cuts::<Brand>(&rt, rt.alloc(), Blank::new(1))
 }

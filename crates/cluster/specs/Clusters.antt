@@ -10,6 +10,7 @@ use Rattle.graphs.specs.Closures.{Closure, closure_code, is_member, is_ancestor,
 use Rattle.graphs.specs.Closing.{IsClosureOf}
 use Rattle.graphs.specs.Certificates.{Part}
 use Rattle.graphs.specs.Picks.{IsPick}
+use Rattle.linearize.specs.Minimal.{AreMinimal}
 
 pub record Cluster : Type 0 where
   pub names : List ℕ
@@ -40,8 +41,12 @@ sum_at g id = record { fee = (rate_of g id).fee; size = (rate_of g id).size }
 abbrev pub ArePicked : Closure → List Part → Type 0
 ArePicked g parts = (graph : Graph) → IsClosureOf g graph → IsPick (sum_at g) graph parts
 
+-- None of the parts can be cut further: no smaller set that is closed within it has its rate.
+abbrev pub AreUncut : Closure → List Part → Type 0
+AreUncut g parts = (graph : Graph) → IsClosureOf g graph → AreMinimal (sum_at g) graph.pairs parts
+
 -- What holds of every cluster of at most so many names: it has a name, each name stands once, ancestry is an order on the
--- names, they are one component, fees and sizes are in range, and the parts are a pick.
+-- names, they are one component, fees and sizes are in range, and the parts are a pick, none of which can be cut further.
 pub record IsCluster (most : ℕ) (c : Cluster) : Type 0 where
   pub some : 1 ≤ length c.names
   pub few : length c.names ≤ most
@@ -51,6 +56,7 @@ pub record IsCluster (most : ℕ) (c : Cluster) : Type 0 where
   pub whole : (a b : ℕ) → is_member c.graph a ≡ true → is_member c.graph b ≡ true → AreLinked c.graph a b
   pub rates : (id : ℕ) → is_member c.graph id ≡ true → IsRate (rate_of c.graph id)
   pub picked : ArePicked c.graph c.parts
+  pub uncut : AreUncut c.graph c.parts
 
 -- two clusters have no name in common
 abbrev pub AreApart : Cluster → Cluster → Type 0

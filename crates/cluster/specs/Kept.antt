@@ -7,7 +7,7 @@ use Rattle.linearize.specs.declared.draft.LinearPart.{LinearPart}
 use Rattle.linearize.specs.Drafts.{placed, flows_in, totals}
 use Rattle.fee_rate.specs.declared.rates.Sum.{Sum}
 use Rattle.cluster.specs.declared.order.PartEnd.{PartEnd}
-use Rattle.cluster.specs.Clusters.{ArePicked}
+use Rattle.cluster.specs.Clusters.{ArePicked, AreUncut}
 use Rattle.cluster.specs.Named.{named, IsNamed}
 
 -- the fee and the size of a part, as a sum
@@ -40,6 +40,7 @@ pub record AreCut (shown : List PartEnd) (order : List ℕ) (flows : List Flow) 
 pub record IsOrdered (names : List ℕ) (g : Closure) (shown : List PartEnd) (order : List ℕ) (flows : List Flow) : Type 0 where
   pub ends : AreCut shown order flows (cut shown order flows)
   pub picked : ArePicked (named names g) (cut shown order flows)
+  pub uncut : AreUncut (named names g) (cut shown order flows)
 
 -- what is kept of a cluster
 pub record IsKept (n : ℕ) (names : List ℕ) (g : Closure) (shown : List PartEnd) (order : List ℕ) (flows : List Flow) : Type 0 where

@@ -1,5 +1,6 @@
 -- How an order of places is read by names.
-use Rattle.std.specs.Prelude.{◌≡◌, ◌⊎◌, ℕ, ◌+◌, ◌<◌, ◌≤◌, List, [], ◌∷◌, ◌++◌, length, map, slice_index, slice_index_or, Contains}
+use Rattle.std.specs.Prelude.{◌≡◌, ◌⊎◌, ℕ, ◌+◌, ◌<◌, ◌≤◌, List, ◌++◌, length, map, slice_index, slice_index_or, Contains}
+use Rattle.std.specs.List.{AllZip}
 use Rattle.std.specs.List.Sorted.{IsPermutation}
 use Rattle.lists.specs.Distinct.{AreDistinct}
 use Rattle.graphs.specs.declared.names.Flow.{Flow}
@@ -71,10 +72,7 @@ pub record IsReadPart (f : ℕ → ℕ) (order : List ℕ) (old new : Part) : Ty
 
 -- parts of places by names, one for one
 abbrev pub AreRead : (ℕ → ℕ) → List ℕ → List Part → List Part → Type 0
-AreRead f order [] [] = Unit {0}
-AreRead f order [] (q ∷ qs) = ⊥
-AreRead f order (p ∷ ps) [] = ⊥
-AreRead f order (p ∷ ps) (q ∷ qs) = IsReadPart f order p q × AreRead f order ps qs
+AreRead f order old new = AllZip (IsReadPart f order) old new
 
 -- an order of places was read
 pub record IsRead (names : List ℕ) (old : List Part) (shown : List PartEnd) (order : List ℕ) (flows : List Flow) : Type 0 where

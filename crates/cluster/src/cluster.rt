@@ -11,7 +11,7 @@ ghost use Rattle.cluster.specs.Steps.{GrowsWithin, least_steps, most_steps, leas
 
 use crate::list::ClusterList;
 use crate::making::{certified, copied, part};
-use crate::order::Order;
+use crate::order::{Order, flows_between, flows_start, names_between, names_start, rate_in};
 use crate::places::{list_chosen, place_of, take_out};
 use crate::work::Work;
 use bitset::Bits;
@@ -270,19 +270,13 @@ impl<const W: usize> Cluster<W> {
         let _names = &self.names;
         let _dep = &self.dep;
         let parts = self.order.parts.as_slice();
-        let (from, flow_from) = if at == 0 {
-            (0, 0)
-        } else {
-            (parts[at - 1].end, parts[at - 1].flow_end)
-        };
         let part = parts[at];
+        let from = names_start(parts, at);
+        let flow_from = flows_start(parts, at);
         PartRef {
-            rate: FeeRate {
-                fee: part.fee,
-                size: part.size,
-            },
-            ids: &self.order.names.as_slice()[from..part.end],
-            flows: &self.order.flows.as_slice()[flow_from..part.flow_end],
+            rate: rate_in(part),
+            ids: names_between(self.order.names.as_slice(), from, part.end),
+            flows: flows_between(self.order.flows.as_slice(), flow_from, part.flow_end),
         }
     }
 

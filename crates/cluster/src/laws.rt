@@ -1,4 +1,4 @@
-ghost use Rattle.cluster.specs.Laws.{ClustersAreOptimal, PartsAreComponents};
+ghost use Rattle.cluster.specs.Laws.{ClustersAreOptimal};
 
 use graphs::{closures_have_graphs, picks_are_kept};
 
@@ -9,8 +9,3 @@ pub fn clusters_are_optimal()
     closures_have_graphs();
     picks_are_kept();
 }
-
-/// What a cluster is split into are the components of what is left of it.
-pub fn parts_are_components()
-    ensures { PartsAreComponents }
-{}

@@ -14,7 +14,7 @@ mod places;
 mod work;
 
 pub use cluster::{Cluster, PartRef};
-pub use laws::{clusters_are_optimal, parts_are_components};
+pub use laws::clusters_are_optimal;
 pub use list::ClusterList;
 pub use work::Work;
 

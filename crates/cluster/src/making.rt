@@ -15,7 +15,7 @@ use crate::places::copy_names;
 use crate::work::Work;
 use bitset::Bits;
 use dep_graph::DepGraph;
-use graphs::{TxId, picks_are_kept, renamed_is_closed};
+use graphs::{TxId, certificates_are_renamed, renamed_is_closed};
 use linearize::optimal;
 use outside::NoMemory;
 use smallvec::SmallVec;
@@ -77,7 +77,7 @@ fn solved<L: Ledger, const W: usize>(
 {
     optimal(&mut work.scratch, dep, &mut work.linear, steps);
     renamed_is_closed();
-    picks_are_kept();
+    certificates_are_renamed();
     read(
         alloc,
         names,

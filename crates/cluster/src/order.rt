@@ -1,8 +1,9 @@
-ghost use Rattle.std.specs.Prelude.{◌≡◌, ℕ, ◌*◌, ◌+◌, ◌<◌, ◌≤◌, ◌++◌, [], ◌∷◌, length, slice_index, map, Contains, IfOk, OnOk};
+ghost use Rattle.std.specs.Prelude.{◌≡◌, ℕ, ◌*◌, ◌+◌, ◌<◌, ◌≤◌, ◌++◌, [], ◌∷◌, length, slice_index, map, take, drop, ◌-◌, Contains, IfOk, OnOk};
 ghost use Rattle.std.specs.List.Sorted.{IsPermutation};
 ghost use Rattle.lists.specs.Distinct.{AreDistinct};
 ghost use Rattle.cluster.specs.Orders.{at_positions, named_at, AreRising, AreBelow, AddsFlows, IsPlaced, IsRead, StandAt};
-ghost use Rattle.cluster.specs.Kept.{end_of};
+ghost use Rattle.cluster.specs.Kept.{end_of, sum_in};
+ghost use Rattle.linearize.specs.Graphs.{sum_from};
 
 use fee_rate::FeeRate;
 use graphs::{Flow, TxId};
@@ -27,6 +28,58 @@ pub(crate) struct Order {
     pub(crate) names: SmallVec<TxId, 2>,
     pub(crate) parts: SmallVec<PartEnd, 1>,
     pub(crate) flows: Vec<Flow>,
+}
+
+/// The names from one position on, before another.
+pub(crate) fn names_between(names: &[TxId], from: usize, to: usize) -> &[TxId]
+    requires start { from ≤ to }
+    requires end { to ≤ length names.now }
+    ensures { result.now ≡ take (to - from) (drop from names.now) }
+{
+    &names[from..to]
+}
+
+/// The flows from one position on, before another.
+pub(crate) fn flows_between(flows: &[Flow], from: usize, to: usize) -> &[Flow]
+    requires start { from ≤ to }
+    requires end { to ≤ length flows.now }
+    ensures { result.now ≡ take (to - from) (drop from flows.now) }
+{
+    &flows[from..to]
+}
+
+/// Where the names of the part at a position begin: where those of the part before it end.
+pub(crate) fn names_start(parts: &[PartEnd], at: usize) -> usize
+    requires { at < length parts.now }
+    ensures first { at ≡ 0 → result ≡ 0 }
+    ensures later { (k : ℕ) → at ≡ k + 1 → result ≡ slice_index (map (λ part. part.end) parts.now) k }
+{
+    if at == 0 {
+        return 0;
+    }
+    parts[at - 1].end
+}
+
+/// Where the flows of the part at a position begin: where those of the part before it end.
+pub(crate) fn flows_start(parts: &[PartEnd], at: usize) -> usize
+    requires { at < length parts.now }
+    ensures first { at ≡ 0 → result ≡ 0 }
+    ensures later { (k : ℕ) → at ≡ k + 1 → result ≡ slice_index (map (λ part. part.flow_end) parts.now) k }
+{
+    if at == 0 {
+        return 0;
+    }
+    parts[at - 1].flow_end
+}
+
+/// The fee and the size of a part.
+pub(crate) fn rate_in(part: PartEnd) -> FeeRate
+    ensures { sum_from result ≡ sum_in part }
+{
+    FeeRate {
+        fee: part.fee,
+        size: part.size,
+    }
 }
 
 /// The order of a name alone.
@@ -67,6 +120,7 @@ pub(crate) fn read<const W: usize>(
     stand(linear.order(), positions);
     let mut order = SmallVec::new(alloc);
     name_places(&mut order, names, linear.order())?;
+    let own_names = order.as_slice();
     let shown = linear.parts();
     let all = linear.flows();
     let mut parts = SmallVec::new(alloc);
@@ -75,9 +129,9 @@ pub(crate) fn read<const W: usize>(
     for at in 0..shown.len() {
         let part = shown[at];
         add_flows(
-            &all[from..part.flow_end],
+            between(all, from, part.flow_end),
             positions,
-            order.as_slice(),
+            own_names,
             moved,
             &mut flows,
         )?;
@@ -89,6 +143,15 @@ pub(crate) fn read<const W: usize>(
         parts,
         flows,
     })
+}
+
+// The flows from one position on, before another.
+fn between(flows: &[PlaceFlow], from: usize, to: usize) -> &[PlaceFlow]
+    requires start { from ≤ to }
+    requires end { to ≤ length flows.now }
+    ensures { result.now ≡ take (to - from) (drop from flows.now) }
+{
+    &flows[from..to]
 }
 
 // A part's fee and size, and where it ends.
@@ -142,7 +205,7 @@ fn add_flows(
     ensures { OnOk result (AddsFlows own.now positions.now order.now flows.old.items flows.new.items) }
 {
     move_flows(own, positions, moved)?;
-    sort_flows(moved.as_mut_slice());
+    sort_flows(moved);
     name_flows(moved.as_slice(), order, flows)
 }
 
@@ -168,9 +231,9 @@ fn move_flows(
 }
 
 // Puts flows in their order: by child, then by parent.
-fn sort_flows(moved: &mut [PlaceFlow])
-    ensures same { IsPermutation moved.old moved.new }
-    ensures rises { AreRising moved.new }
+fn sort_flows(moved: &mut Vec<PlaceFlow>)
+    ensures same { IsPermutation moved.old.items moved.new.items }
+    ensures rises { AreRising moved.new.items }
 {
     moved.sort_unstable_by_key(|flow| (flow.child, flow.parent));
 }

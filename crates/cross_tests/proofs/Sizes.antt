@@ -2,13 +2,6 @@
 use Rattle.std.proofs.Common.{ℕ, zero, suc, ◌+◌, ◌*◌, ◌^◌, ◌<◌, ◌≤◌, arith, lit<}
 use prog.Memory.{up}
 
--- a set and three lists
-pub lists_fit : (w : ℕ) → w ≤ 2 → up 8 (up 8 (up 8 (up 8 (0 + up 8 (0 + w * 8)) + 24) + 24) + 24) < 2 ^ 63
-lists_fit zero few = lit< tt
-lists_fit (suc zero) few = lit< tt
-lists_fit (suc (suc zero)) few = lit< tt
-lists_fit (suc (suc (suc w))) few = absurd (omega (arith, few))
-
 -- three sets, three lists and a queue
 pub scratch_fits : (w : ℕ) → w ≤ 2
     → up 8 (up 8 (0 + up 8 (up 8 (up 8 (up 8 (up 8 (up 8 (0 + up 8 (0 + w * 8)) + up 8 (0 + w * 8)) + up 8 (0 + w * 8)) + 24) + 24) + 24)) + 32) < 2 ^ 63

@@ -273,7 +273,7 @@ fn extremes<L: Ledger, const W: usize>(
     requires { W ≤ 2 }
 {
     let equal = [(2, 1), (4, 2), (2, 1)];
-    case(rt, room, steps, &equal, &[(0, 1), (1, 2)], &[(8, 4)])?;
+    case(rt, room, steps, &equal, &[(0, 1), (1, 2)], &equal)?;
     let falling = [(-1, 1), (-5, 1)];
     case(rt, room, steps, &falling, &[(0, 1)], &falling)?;
     case(rt, room, steps, &[(-5, 1), (3, 1)], &[(0, 1)], &[(-2, 2)])?;
@@ -283,7 +283,7 @@ fn extremes<L: Ledger, const W: usize>(
     let owed = [(-most, 4_000_000), (most, 1)];
     case(rt, room, steps, &owed, &[(0, 1)], &[(0, 4_000_001)])?;
     let large = [(most, 4_000_000), (most, 4_000_000)];
-    case(rt, room, steps, &large, &[(0, 1)], &[(2 * most, 8_000_000)])
+    case(rt, room, steps, &large, &[(0, 1)], &large)
 }
 
 /// How places depend on one another.
@@ -346,7 +346,7 @@ fn slope<const W: usize>(alloc: Global, first: i64, step: i64) -> Result<Rows, F
     Ok(Rows { rates, pairs })
 }
 
-/// Chains in which the fee rises, stays, and falls.
+/// Chains in which the fee rises, stays, and falls: one part, and in the other two each member is one.
 fn chains<L: Ledger, const W: usize>(
     rt: &impl Abort,
     room: &mut Room<W>,
@@ -354,12 +354,9 @@ fn chains<L: Ledger, const W: usize>(
 ) -> Result<(), Fail>
     requires { W ≤ 2 }
 {
-    let sums = [
-        (2016, 134_400_000_000_000_000),
-        (8128, 268_800_000_000_000_000),
-    ];
+    let sums = [2016, 8128];
     assert!(rt; W > 0);
-    let (rising, level) = sums[W - 1];
+    let rising = sums[W - 1];
     let size = 64 * W as u64;
     let rows = slope::<W>(room.alloc, 0, 1)?;
     case(
@@ -377,7 +374,7 @@ fn chains<L: Ledger, const W: usize>(
         steps,
         rows.rates.as_slice(),
         rows.pairs.as_slice(),
-        &[(level, size)],
+        rows.rates.as_slice(),
     )?;
     let rows = slope::<W>(room.alloc, 64, -1)?;
     certified(

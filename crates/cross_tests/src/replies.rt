@@ -1,5 +1,5 @@
 //! The session answers lines as the plain lists do.
-use graph_model::{IdBuf, Refusal};
+use graph_model::{IdBuf, MAX_LINE, Refusal};
 use outside::{Failed, MemSink, Sink};
 use plain_graph::Plain;
 use replay::{Piece, Session};
@@ -38,7 +38,6 @@ fn reply<K: Sink>(
     assert!(rt; graph.additions() < 1_000_000);
     match line {
         Line::Quiet => Ok(()),
-        Line::Syntax => write_word(sink, "refused syntax"),
         Line::Limits(limits) => tell(sink, graph.set_limits(limits)),
         Line::Add(id, fee, size) => tell(sink, graph.add(id, fee, size)),
         Line::Dep(parent, child) => tell(sink, graph.dep(parent, child)),
@@ -57,6 +56,8 @@ fn reply<K: Sink>(
             tell_found(sink, graph, done)
         }
         Line::Count(level) => write_ids(sink, "count", None, &[graph.count(level) as u64]),
+        // No form, or a command without a body.
+        _ => write_word(sink, "refused syntax"),
     }
 }
 
@@ -100,6 +101,7 @@ fn agree<const W: usize>(
     session
         .one(Piece::Whole(line.as_bytes()), &mut fast)
         .expect(rt, "the sink has room");
+    assert!(rt; line.len() <= MAX_LINE);
     let meant = read_line(line.as_bytes(), &mut ids);
     reply(rt, plain, meant, &mut slow).expect(rt, "the sink has room");
     assert_eq!(rt; fast.written(), slow.written(), "at {line:?}");

@@ -1,55 +1,47 @@
 -- What each change of what is kept makes of the graph.
-use Rattle.std.proofs.Common.{◌≡◌, ◌≢◌, ℕ, ◌<◌, ◌≤◌, Bool, true, false, cond, not, ◌&&◌, ◌||◌, ◌⊎◌, nat_eq, ℤ, List, length, set, slice_index_or, inl, inr, refl, sym, ap, ap₂, ◌∙◌, arith, eq-eqb, ne_eqb, eqb-true, true≢false, Option, Some, None, MatchOption, unwrap_or, nat_lt, lt-ltb, ltb-true, lt_irrefl}
+use Rattle.std.proofs.Common.{◌≡◌, ◌≢◌, ℕ, ◌<◌, ◌≤◌, Bool, true, false, cond, not, ◌&&◌, ◌||◌, ◌⊎◌, nat_eq, ℤ, List, length, set, slice_index_or, subst, inl}
+use Rattle.std.proofs.Common.{inr, refl, sym, ap, ap₂, ◌∙◌, arith}
+use Rattle.std.proofs.Common.{eq-eqb, ne_eqb, eqb-true, true≢false, Option, Some, None, MatchOption, unwrap_or, nat_lt, lt-ltb, ltb-true, lt_irrefl}
 use Rattle.std.proofs.lemmas.Bool.{cases_eq, cases_Bool, and_parts, false_from_ne_true}
-use Rattle.std.proofs.lemmas.List.{get_or_read_under, get_or-set_same, get_or-set_other}
+use Rattle.std.specs.List.{refill}
 use Rattle.std.specs.Ordering.{nat_cmp}
 use Rattle.std.specs.FinSet as fin
 use Rattle.lists.proofs.Cases.{false_from_not, true_from_not, and_true, and_false, or_false}
-use Rattle.graphs.specs.Closures.{Closure, is_member, rate_of, is_ancestor, no_rate, AddsPlace, AddsPair, SetsFee, DropsPlace}
+use Rattle.graphs.specs.Closures.{Closure, is_member, rate_of, is_ancestor, ancestors_of, descendants_of, no_rate, AddsPlace, AddsPair, SetsFee, DropsPlace}
 use Rattle.bitset.specs.Places.{IsWithin, IsLeast, first_places}
 use Rattle.bitset.specs.Sets.{contains-insert, contains-remove, contains-union, contains-difference, contains-empty, contains-first_places}
 use Rattle.fee_rate.specs.declared.rates.FeeRate.{FeeRate}
-use Rattle.dep_graph.specs.Rows.{rate_at, set_at, graph_from, above, IsKept}
-use Rattle.dep_graph.specs.Changes.{ChangesAt, PutsAt, gives, takes}
-use Rattle.dep_graph.proofs.Kept.{is_member-graph_from, rate_of-graph_from, is_ancestor-graph_from, is_member-kept, is_ancestor-kept, kept_within, member_there, IsOrder-like}
+use Rattle.dep_graph.specs.declared.rows.Row.{Row}
+use Rattle.dep_graph.specs.Rows.{row_at, graph_from, above, IsKept}
+use Rattle.dep_graph.specs.Changes.{ChangesAt, PutsAt, gives_ancestors, gives_descendants, takes_ancestor, takes_descendant}
+use Rattle.dep_graph.proofs.Kept.{Keeps, is_member-graph_from, rate_of-graph_from, is_ancestor-graph_from, kept_within, inside}
+use Rattle.dep_graph.proofs.Kept.{is_member-kept, is_ancestor-kept, rate_of-kept, member_there, row_there, descendants_there, IsOrder-like}
+use Rattle.dep_graph.proofs.Reading.{row_lent, written_lent, PutsAt-set}
 use Rattle.dep_graph.proofs.Orders.{with_pair, with_place, on, IsOrder-pair, IsOrder-place, IsOrder-on}
 
--- the rate of a kept member, of any graph that is kept
-pub rate_of-kept : (n : ℕ) (members : fin.FinSet nat_cmp) (rates : List FeeRate) (up : List (fin.FinSet nat_cmp)) (g : Closure) → IsWithin n members → graph_from n members rates up ≡ g → (p : ℕ) → rate_of g p ≡ cond (fin.contains members p) (rate_at rates p) no_rate
-rate_of-kept n members rates up g within view p = ap (λ g. rate_of g p) (sym view) ∙ rate_of-graph_from n members rates up within p
+-- ---- parts of rows
 
--- ---- another fee
+module _ {W : ℕ} {f : Row W → Row W} {places : fin.FinSet nat_cmp} {old new : List (Row W)} (c : ChangesAt f places old new) where
+  -- a part that the change leaves
+  same_part : {A : Type 0} (part : Row W → A) → ((row : Row W) → part (f row) ≡ part row) → (p : ℕ) → part (row_at new p) ≡ part (row_at old p)
+  same_part part same p = ap part (c.rows p) ∙ either (fin.contains places p)
+    where
+      either : (b : Bool) → part (cond b (f (row_at old p)) (row_at old p)) ≡ part (row_at old p)
+      either true = same (row_at old p)
+      either false = refl
 
-pub SetsFee-kept : (n : ℕ) (members : fin.FinSet nat_cmp) (old new : List FeeRate) (up : List (fin.FinSet nat_cmp)) (g : Closure) (place : ℕ) (fee : ℤ) → IsWithin n members → graph_from n members old up ≡ g → fin.contains members place ≡ true
-    → rate_at new place ≡ record { fee = fee; size = (rate_at old place).size } → ((p : ℕ) → p ≢ place → rate_at new p ≡ rate_at old p) → SetsFee g (graph_from n members new up) place fee
-SetsFee-kept n members old new up g place fee within view there now others = record {
-  members = λ p. is_member-graph_from n members new up within p ∙ sym (ap (λ g. is_member g p) (sym view) ∙ is_member-graph_from n members old up within p);
-  rate_is = rate_of-graph_from n members new up within place ∙ ap (λ b. cond b (rate_at new place) no_rate) there ∙ now
-      ∙ ap (λ r. record { fee = fee; size = r.size }) (sym (rate_of-kept n members old up g within view place ∙ ap (λ b. cond b (rate_at old place) no_rate) there));
-  rates = λ p ne. rate_of-graph_from n members new up within p ∙ ap (λ r. cond (fin.contains members p) r no_rate) (others p ne) ∙ sym (rate_of-kept n members old up g within view p);
-  ancestors = λ a d. is_ancestor-graph_from n members new up within a d ∙ sym (ap (λ g. is_ancestor g a d) (sym view) ∙ is_ancestor-graph_from n members old up within a d);
-}
+  -- what stands in a set after it
+  changed : (part : Row W → fin.FinSet nat_cmp) (p q : ℕ) → fin.contains (part (row_at new p)) q
+      ≡ cond (fin.contains places p) (fin.contains (part (f (row_at old p))) q) (fin.contains (part (row_at old p)) q)
+  changed part p q = ap (λ row. fin.contains (part row) q) (c.rows p) ∙ either (fin.contains places p)
+    where
+      either : (b : Bool) → fin.contains (part (cond b (f (row_at old p)) (row_at old p))) q
+          ≡ cond b (fin.contains (part (f (row_at old p))) q) (fin.contains (part (row_at old p)) q)
+      either true = refl
+      either false = refl
 
-pub IsKept-rates : (n : ℕ) (members : fin.FinSet nat_cmp) (old new : List FeeRate) (up down : List (fin.FinSet nat_cmp)) → IsKept n members old up down → length new ≡ length old → IsKept n members new up down
-IsKept-rates n members old new up down h long = record {
-  room = omega (arith, h.room);
-  rated = λ p e. let low : p < length old = h.rated p e in omega arith;
-  upward = h.upward;
-  downward = h.downward;
-  order = h.order;
-  mirrored = h.mirrored;
-}
-
--- the rate of one member is written
-pub set_fee_is : (n : ℕ) (members : fin.FinSet nat_cmp) (rates : List FeeRate) (up : List (fin.FinSet nat_cmp)) (g : Closure) (place k : ℕ) (fee : ℤ) (item rate : FeeRate) → IsWithin n members → graph_from n members rates up ≡ g → fin.contains members place ≡ true
-    → item ≡ slice_index_or rates place item → place < k → k ≡ length rates → rate ≡ record { fee = fee; size = item.size } → SetsFee g (graph_from n members (set rates place rate) up) place fee
-set_fee_is n members rates up g place k fee item rate within view there read low long is =
-    let inside : place < length rates = omega arith in
-    SetsFee-kept n members rates (set rates place rate) up g place fee within view there
-    (get_or-set_same rates place rate no_rate inside ∙ is ∙ ap (λ r. record { fee = fee; size = r.size }) (get_or_read_under rates place k item no_rate read low long))
-    (λ p ne. get_or-set_other rates place p rate no_rate ne)
-
--- ---- one more pair
+pub room_put : {W n place : ℕ} {row : Row W} {old new : List (Row W)} → PutsAt place row old new → length old ≤ n → place < n → length new ≤ n
+room_put {W} {n} {place} {row} {old} {new} puts room low = elim puts.most as (λ _. length new ≤ n) [ inl e ↦ omega arith | inr e ↦ omega arith ]
 
 -- the ancestors of d, with those that a pair gives it
 pair_up : (md ud cd ap : Bool) → (cd ≡ true → md ≡ true) → (md && (cond cd (ud || ap) ud)) ≡ ((md && ud) || (ap && cd))
@@ -71,72 +63,138 @@ pair_down true false cd = refl
 pair_down false true cd = refl
 pair_down false false cd = refl
 
--- what stands in a set after a change
-changed : (f : fin.FinSet nat_cmp → fin.FinSet nat_cmp) (places : fin.FinSet nat_cmp) (old new : List (fin.FinSet nat_cmp)) → ChangesAt f places old new → (p q : ℕ) → fin.contains (set_at new p) q ≡ cond (fin.contains places p) (fin.contains (f (set_at old p)) q) (fin.contains (set_at old p) q)
-changed f places old new c p q = ap (λ s. fin.contains s q) (c.sets p)
-    ∙ elim (fin.contains places p) as (λ b. fin.contains (cond b (f (set_at old p)) (set_at old p)) q ≡ cond b (fin.contains (f (set_at old p)) q) (fin.contains (set_at old p) q)) [ true ↦ refl | false ↦ refl ]
+module _ {W n : ℕ} {members : fin.FinSet nat_cmp} {rows : List (Row W)} {g : Closure} (k : Keeps n members rows g) where
+  -- ---- another fee
 
-module _ (n : ℕ) (members : fin.FinSet nat_cmp) (rates : List FeeRate) (up down : List (fin.FinSet nat_cmp)) (h : IsKept n members rates up down) (g : Closure) (view : graph_from n members rates up ≡ g) where
+  module _ (place : ℕ) (place_in : is_member g place ≡ true) (fee : ℤ) {row : Row W} {rows' : List (Row W)} (puts : PutsAt place row rows rows')
+      (row_is : row ≡ record (row_at rows place) { rate = record { fee = fee; size = (row_at rows place).rate.size } }) where
+    same_set : (part : Row W → fin.FinSet nat_cmp) → part row ≡ part (row_at rows place) → (p : ℕ) → part (row_at rows' p) ≡ part (row_at rows p)
+    same_set part same p = elim (cases_eq p place) as (λ _. part (row_at rows' p) ≡ part (row_at rows p)) [
+      | inl e ↦ ap (λ q. part (row_at rows' q)) e ∙ ap part puts.here ∙ same ∙ ap (λ q. part (row_at rows q)) (sym e)
+      | inr e ↦ ap part (puts.others p e)
+    ]
+
+    above-fee : (a d : ℕ) → above members rows' a d ≡ above members rows a d
+    above-fee a d = ap (λ s. fin.contains members d && fin.contains s a) (same_set (λ r. r.ancestors) (ap (λ r. r.ancestors) row_is) d)
+
+    pub fee_keeps : IsKept n members rows'
+    fee_keeps = record {
+      room = room_put puts k.kept.room (inside k place (member_there k place place_in));
+      there = λ p e. let low : p < length rows = k.kept.there p e in omega (arith, puts.long);
+      order = IsOrder-like (fin.contains members) (fin.contains members) (above members rows) (above members rows') (λ p. refl) above-fee k.kept.order;
+      mirrored = λ a d e.
+          ap (λ s. fin.contains s d) (same_set (λ r. r.descendants) (ap (λ r. r.descendants) row_is) a)
+          ∙ k.kept.mirrored a d e ∙ sym (above-fee a d);
+    }
+
+    rate-there : rate_of g place ≡ (row_at rows place).rate
+    rate-there = rate_of-kept k place ∙ ap (λ b. cond b (row_at rows place).rate no_rate) (member_there k place place_in)
+
+    pub fee_is : SetsFee g (graph_from n members rows') place fee
+    fee_is = record {
+      members = λ p. is_member-graph_from n members rows' (inside k) p ∙ sym (is_member-kept k p);
+      rate_is =
+          rate_of-graph_from n members rows' (inside k) place
+          ∙ ap (λ b. cond b (row_at rows' place).rate no_rate) (member_there k place place_in)
+          ∙ ap (λ r. r.rate) (puts.here ∙ row_is) ∙ ap (λ r. record { fee = fee; size = r.size }) (sym rate-there);
+      rates = λ p ne.
+          rate_of-graph_from n members rows' (inside k) p
+          ∙ ap (λ r. cond (fin.contains members p) r.rate no_rate) (puts.others p ne) ∙ sym (rate_of-kept k p);
+      ancestors = λ a d. is_ancestor-graph_from n members rows' (inside k) a d ∙ above-fee a d ∙ sym (is_ancestor-kept k a d);
+    }
+
+  -- the fee is written in a slice that is the list of rows
+  module _ (place : ℕ) (place_in : is_member g place ≡ true) (fee : ℤ) (slice : List (Row W)) (same : slice ≡ rows)
+      (row : Row W) (read : row ≡ slice_index_or slice place row) where
+    abbrev fee_written : Row W
+    fee_written = record (slice_index_or slice place row) { rate = record { fee = fee; size = (slice_index_or slice place row).rate.size } }
+
+    written_is : fee_written ≡ record (row_at rows place) { rate = record { fee = fee; size = (row_at rows place).rate.size } }
+    written_is =
+        ap (λ (r : Row W). record r { rate = record { fee = fee; size = r.rate.size } })
+        (sym read ∙ row_lent slice rows place row same read (row_there k place place_in))
+
+    puts_fee : PutsAt place fee_written rows (set rows place fee_written)
+    puts_fee = PutsAt-set rows place fee_written (row_there k place place_in)
+
+    same_rows : set rows place fee_written ≡ refill (length rows) rows (set slice place fee_written)
+    same_rows = sym (written_lent slice rows place fee_written same (row_there k place place_in))
+
+    pub fee_written_keeps : IsKept n members (refill (length rows) rows (set slice place fee_written))
+    fee_written_keeps = subst (IsKept n members) same_rows (fee_keeps place place_in fee puts_fee written_is)
+
+    pub fee_written_is : SetsFee g (graph_from n members (refill (length rows) rows (set slice place fee_written))) place fee
+    fee_written_is = subst (λ xs. SetsFee g (graph_from n members xs) place fee) same_rows (fee_is place place_in fee puts_fee written_is)
+
+  -- ---- one more pair
+
   module _ (parent child : ℕ) (parent_in : is_member g parent ≡ true) (child_in : is_member g child ≡ true) (no_cycle : is_ancestor g child parent ≡ false)
-      (ups downs : fin.FinSet nat_cmp) (ups_are : ups ≡ set_at up parent) (downs_are : downs ≡ set_at down child) (up' down' : List (fin.FinSet nat_cmp))
-      (first : ChangesAt (gives ups) downs up up') (second : ChangesAt (gives downs) ups down down') where
-    below_child : (d : ℕ) → fin.contains downs d ≡ above members up child d
-    below_child d = ap (λ s. fin.contains s d) downs_are ∙ h.mirrored child d (member_there n members rates up down h g view child child_in)
+      {ups downs : fin.FinSet nat_cmp} (ups_are : ups ≡ ancestors_of g parent) (downs_are : downs ≡ descendants_of g child)
+      {mid rows' : List (Row W)} (first : ChangesAt (gives_ancestors ups) downs rows mid) (second : ChangesAt (gives_descendants downs) ups mid rows') where
+    below_child : (d : ℕ) → fin.contains downs d ≡ above members rows child d
+    below_child d = ap (λ s. fin.contains s d) (downs_are ∙ sym (descendants_there k child child_in)) ∙ k.kept.mirrored child d (member_there k child child_in)
 
-    above_parent : (a : ℕ) → fin.contains ups a ≡ above members up a parent
-    above_parent a = ap (λ s. fin.contains s a) ups_are ∙ ap (λ b. b && fin.contains (set_at up parent) a) (sym (member_there n members rates up down h g view parent parent_in))
+    above_parent : (a : ℕ) → fin.contains ups a ≡ above members rows a parent
+    above_parent a = ap (λ s. fin.contains s a) ups_are ∙ is_ancestor-kept k a parent
 
-    above' : (a d : ℕ) → above members up' a d ≡ with_pair (above members up) parent child a d
+    above' : (a d : ℕ) → above members rows' a d ≡ with_pair (above members rows) parent child a d
     above' a d =
         ap (λ b. fin.contains members d && b)
-        (changed (gives ups) downs up up' first d a
-        ∙ ap (λ b. cond (fin.contains downs d) b (fin.contains (set_at up d) a)) (contains-union (set_at up d) ups a)
-        ∙ ap₂ (λ b c. cond b (fin.contains (set_at up d) a || c) (fin.contains (set_at up d) a)) (below_child d) (above_parent a))
-        ∙ pair_up (fin.contains members d) (fin.contains (set_at up d) a) (above members up child d) (above members up a parent) (λ e. (and_parts (fin.contains members d) (fin.contains (set_at up d) child) e).0)
+        (ap (λ s. fin.contains s a) (same_part second (λ r. r.ancestors) (λ r. refl) d)
+        ∙ changed first (λ r. r.ancestors) d a
+        ∙ ap (λ b. cond (fin.contains downs d) b (fin.contains (row_at rows d).ancestors a)) (contains-union (row_at rows d).ancestors ups a)
+        ∙ ap₂ (λ b c. cond b (fin.contains (row_at rows d).ancestors a || c) (fin.contains (row_at rows d).ancestors a)) (below_child d) (above_parent a))
+        ∙ pair_up (fin.contains members d) (fin.contains (row_at rows d).ancestors a) (above members rows child d) (above members rows a parent)
+        (λ e. (and_parts (fin.contains members d) (fin.contains (row_at rows d).ancestors child) e).0)
 
-    mirrored' : (a d : ℕ) → fin.contains members a ≡ true → fin.contains (set_at down' a) d ≡ above members up' a d
+    mirrored' : (a d : ℕ) → fin.contains members a ≡ true → fin.contains (row_at rows' a).descendants d ≡ above members rows' a d
     mirrored' a d e =
-        changed (gives downs) ups down down' second a d
-        ∙ ap (λ b. cond (fin.contains ups a) b (fin.contains (set_at down a) d)) (contains-union (set_at down a) downs d)
-        ∙ ap₂ (λ b c. cond b (fin.contains (set_at down a) d || c) (fin.contains (set_at down a) d)) (above_parent a) (below_child d)
-        ∙ pair_down (fin.contains (set_at down a) d) (above members up a parent) (above members up child d)
-        ∙ ap (λ b. b || (above members up a parent && above members up child d)) (h.mirrored a d e)
+        changed second (λ r. r.descendants) a d
+        ∙ ap (λ s. cond (fin.contains ups a) (fin.contains (fin.union s downs) d) (fin.contains s d)) (same_part first (λ r. r.descendants) (λ r. refl) a)
+        ∙ ap (λ b. cond (fin.contains ups a) b (fin.contains (row_at rows a).descendants d)) (contains-union (row_at rows a).descendants downs d)
+        ∙ ap₂ (λ b c. cond b (fin.contains (row_at rows a).descendants d || c) (fin.contains (row_at rows a).descendants d)) (above_parent a) (below_child d)
+        ∙ pair_down (fin.contains (row_at rows a).descendants d) (above members rows a parent) (above members rows child d)
+        ∙ ap (λ b. b || (above members rows a parent && above members rows child d)) (k.kept.mirrored a d e)
         ∙ sym (above' a d)
 
-    pub pair_keeps : IsKept n members rates up' down'
+    pub pair_keeps : IsKept n members rows'
     pair_keeps = record {
-      room = h.room;
-      rated = h.rated;
-      upward = λ p e. let low : p < length up = h.upward p e in omega (arith, first.long);
-      downward = λ p e. let low : p < length down = h.downward p e in omega (arith, second.long);
-      order = IsOrder-like (fin.contains members) (fin.contains members) (with_pair (above members up) parent child) (above members up') (λ p. refl) above'
-          (IsOrder-pair (fin.contains members) (above members up) parent child h.order (sym (is_ancestor-kept n members rates up down h g view child parent) ∙ no_cycle));
+      room = omega (arith, k.kept.room, first.long, second.long);
+      there = λ p e. let low : p < length rows = k.kept.there p e in omega (arith, first.long, second.long);
+      order = IsOrder-like (fin.contains members) (fin.contains members) (with_pair (above members rows) parent child) (above members rows') (λ p. refl) above'
+          (IsOrder-pair (fin.contains members) (above members rows) parent child k.kept.order (sym (is_ancestor-kept k child parent) ∙ no_cycle));
       mirrored = mirrored';
     }
 
-    pub pair_is : AddsPair g (graph_from n members rates up') parent child
+    same_rate : (p : ℕ) → (row_at rows' p).rate ≡ (row_at rows p).rate
+    same_rate p = same_part second (λ r. r.rate) (λ r. refl) p ∙ same_part first (λ r. r.rate) (λ r. refl) p
+
+    pub pair_is : AddsPair g (graph_from n members rows') parent child
     pair_is = record {
-      members = λ p. is_member-graph_from n members rates up' (kept_within n members rates up down h) p ∙ sym (is_member-kept n members rates up down h g view p);
-      rates = λ p. rate_of-graph_from n members rates up' (kept_within n members rates up down h) p ∙ sym (rate_of-kept n members rates up g (kept_within n members rates up down h) view p);
+      members = λ p. is_member-graph_from n members rows' (inside k) p ∙ sym (is_member-kept k p);
+      rates = λ p.
+          rate_of-graph_from n members rows' (inside k) p
+          ∙ ap (λ r. cond (fin.contains members p) r no_rate) (same_rate p) ∙ sym (rate_of-kept k p);
       ancestors = λ a d.
-          is_ancestor-graph_from n members rates up' (kept_within n members rates up down h) a d ∙ above' a d
-          ∙ ap₂ (λ x y. x || y) (sym (is_ancestor-kept n members rates up down h g view a d))
-          (ap₂ (λ x y. x && y) (sym (is_ancestor-kept n members rates up down h g view a parent)) (sym (is_ancestor-kept n members rates up down h g view child d)));
+          is_ancestor-graph_from n members rows' (inside k) a d ∙ above' a d
+          ∙ ap₂ (λ x y. x || y) (sym (is_ancestor-kept k a d))
+          (ap₂ (λ x y. x && y) (sym (is_ancestor-kept k a parent)) (sym (is_ancestor-kept k child d)));
     }
 
   -- ---- one member fewer
 
   module _ (place : ℕ) (place_in : is_member g place ≡ true)
-      (ups downs : fin.FinSet nat_cmp) (ups_are : ups ≡ set_at up place) (downs_are : downs ≡ set_at down place) (up' down' : List (fin.FinSet nat_cmp))
-      (first : ChangesAt (takes place) downs up up') (second : ChangesAt (takes place) ups down down') (fewer : fin.FinSet nat_cmp) (fewer_are : fewer ≡ fin.remove members place) where
+      {ups downs : fin.FinSet nat_cmp} (ups_are : ups ≡ ancestors_of g place) (downs_are : downs ≡ descendants_of g place)
+      {mid rows' : List (Row W)} (first : ChangesAt (takes_ancestor place) downs rows mid) (second : ChangesAt (takes_descendant place) ups mid rows')
+      {fewer : fin.FinSet nat_cmp} (fewer_are : fewer ≡ fin.remove members place) where
     abbrev stays : ℕ → Bool
     stays p = not (nat_eq p place)
 
-    below_place : (d : ℕ) → fin.contains downs d ≡ above members up place d
-    below_place d = ap (λ s. fin.contains s d) downs_are ∙ h.mirrored place d (member_there n members rates up down h g view place place_in)
+    below_place : (d : ℕ) → fin.contains downs d ≡ above members rows place d
+    below_place d = ap (λ s. fin.contains s d) (downs_are ∙ sym (descendants_there k place place_in)) ∙ k.kept.mirrored place d (member_there k place place_in)
 
-    above_place : (a : ℕ) → fin.contains ups a ≡ above members up a place
-    above_place a = ap (λ s. fin.contains s a) ups_are ∙ ap (λ b. b && fin.contains (set_at up place) a) (sym (member_there n members rates up down h g view place place_in))
+    above_place : (a : ℕ) → fin.contains ups a ≡ above members rows a place
+    above_place a = ap (λ s. fin.contains s a) ups_are ∙ is_ancestor-kept k a place
 
     contains-fewer : (p : ℕ) → fin.contains fewer p ≡ (stays p && fin.contains members p)
     contains-fewer p = ap (λ s. fin.contains s p) fewer_are ∙ contains-remove members place p
@@ -152,131 +210,149 @@ module _ (n : ℕ) (members : fin.FinSet nat_cmp) (rates : List FeeRate) (up dow
     drop_up true true ud false true e = refl
     drop_up true true ud false false e = sym (e refl)
 
-    same_where : (p q : ℕ) → stays p ≡ false → p ≡ q → q ≡ place
-    same_where p q e same = sym same ∙ eqb-true p place (true_from_not (nat_eq p place) e)
-
     is_place : (p : ℕ) → stays p ≡ false → p ≡ place
-    is_place p e = same_where p p e refl
+    is_place p e = eqb-true p place (true_from_not (nat_eq p place) e)
 
-    above'' : (a d : ℕ) → above fewer up' a d ≡ on stays (above members up) a d
+    above'' : (a d : ℕ) → above fewer rows' a d ≡ on stays (above members rows) a d
     above'' a d =
         ap₂ (λ x y. x && y) (contains-fewer d)
-        (changed (takes place) downs up up' first d a
-        ∙ ap (λ b. cond (fin.contains downs d) b (fin.contains (set_at up d) a)) (contains-remove (set_at up d) place a)
-        ∙ ap (λ b. cond b (stays a && fin.contains (set_at up d) a) (fin.contains (set_at up d) a)) (below_place d))
-        ∙ drop_up (stays d) (fin.contains members d) (fin.contains (set_at up d) a) (stays a) (above members up place d) (λ e. ap (λ q. above members up q d) (sym (is_place a e)))
+        (ap (λ s. fin.contains s a) (same_part second (λ r. r.ancestors) (λ r. refl) d)
+        ∙ changed first (λ r. r.ancestors) d a
+        ∙ ap (λ b. cond (fin.contains downs d) b (fin.contains (row_at rows d).ancestors a)) (contains-remove (row_at rows d).ancestors place a)
+        ∙ ap (λ b. cond b (stays a && fin.contains (row_at rows d).ancestors a) (fin.contains (row_at rows d).ancestors a)) (below_place d))
+        ∙ drop_up (stays d) (fin.contains members d) (fin.contains (row_at rows d).ancestors a) (stays a) (above members rows place d)
+        (λ e. ap (λ q. above members rows q d) (sym (is_place a e)))
 
     -- the same downward
-    drop_down : (sa sd ad ap : Bool) → sa ≡ true → (sd ≡ false → ap ≡ ad) → cond ap (sd && ad) ad ≡ (sa && (sd && ad))
-    drop_down false sd ad ap e f = absurd (true≢false (sym e))
+    drop_down : (sa sd ad pd : Bool) → sa ≡ true → (sd ≡ false → pd ≡ ad) → cond pd (sd && ad) ad ≡ (sa && (sd && ad))
+    drop_down false sd ad pd e f = absurd (true≢false (sym e))
     drop_down true true ad true e f = refl
     drop_down true true ad false e f = refl
     drop_down true false ad true e f = refl
     drop_down true false ad false e f = sym (f refl)
 
-    mirrored'' : (a d : ℕ) → fin.contains fewer a ≡ true → fin.contains (set_at down' a) d ≡ above fewer up' a d
+    mirrored'' : (a d : ℕ) → fin.contains fewer a ≡ true → fin.contains (row_at rows' a).descendants d ≡ above fewer rows' a d
     mirrored'' a d e =
         let both : (stays a ≡ true) × (fin.contains members a ≡ true) = and_parts (stays a) (fin.contains members a) (sym (contains-fewer a) ∙ e) in
-        changed (takes place) ups down down' second a d
-        ∙ ap (λ b. cond (fin.contains ups a) b (fin.contains (set_at down a) d)) (contains-remove (set_at down a) place d)
-        ∙ ap₂ (λ b c. cond b (stays d && c) c) (above_place a) (h.mirrored a d both.1)
-        ∙ drop_down (stays a) (stays d) (above members up a d) (above members up a place) both.0 (λ f. ap (λ q. above members up a q) (sym (is_place d f)))
+        changed second (λ r. r.descendants) a d
+        ∙ ap (λ s. cond (fin.contains ups a) (fin.contains (fin.remove s place) d) (fin.contains s d)) (same_part first (λ r. r.descendants) (λ r. refl) a)
+        ∙ ap (λ b. cond (fin.contains ups a) b (fin.contains (row_at rows a).descendants d)) (contains-remove (row_at rows a).descendants place d)
+        ∙ ap₂ (λ b c. cond b (stays d && c) c) (above_place a) (k.kept.mirrored a d both.1)
+        ∙ drop_down (stays a) (stays d) (above members rows a d) (above members rows a place) both.0
+        (λ f. ap (λ q. above members rows a q) (sym (is_place d f)))
         ∙ sym (above'' a d)
 
     was : (p : ℕ) → fin.contains fewer p ≡ true → fin.contains members p ≡ true
     was p e = (and_parts (stays p) (fin.contains members p) (sym (contains-fewer p) ∙ e)).1
 
-    pub drop_keeps : IsKept n fewer rates up' down'
+    pub drop_keeps : IsKept n fewer rows'
     drop_keeps = record {
-      room = h.room;
-      rated = λ p e. h.rated p (was p e);
-      upward = λ p e. let low : p < length up = h.upward p (was p e) in omega (arith, first.long);
-      downward = λ p e. let low : p < length down = h.downward p (was p e) in omega (arith, second.long);
-      order = IsOrder-like (λ q. stays q && fin.contains members q) (fin.contains fewer) (on stays (above members up)) (above fewer up') contains-fewer above''
-          (IsOrder-on (fin.contains members) stays (above members up) h.order);
+      room = omega (arith, k.kept.room, first.long, second.long);
+      there = λ p e. let low : p < length rows = k.kept.there p (was p e) in omega (arith, first.long, second.long);
+      order = IsOrder-like (λ q. stays q && fin.contains members q) (fin.contains fewer) (on stays (above members rows))
+          (above fewer rows') contains-fewer above''
+          (IsOrder-on (fin.contains members) stays (above members rows) k.kept.order);
       mirrored = mirrored'';
     }
 
     within'' : IsWithin n fewer
-    within'' p e = kept_within n members rates up down h p (was p e)
+    within'' p e = inside k p (was p e)
 
-    pub drop_is : DropsPlace g (graph_from n fewer rates up') place
+    same_rate'' : (p : ℕ) → (row_at rows' p).rate ≡ (row_at rows p).rate
+    same_rate'' p = same_part second (λ r. r.rate) (λ r. refl) p ∙ same_part first (λ r. r.rate) (λ r. refl) p
+
+    pub drop_is : DropsPlace g (graph_from n fewer rows') place
     drop_is = record {
-      members = λ p. is_member-graph_from n fewer rates up' within'' p ∙ contains-fewer p ∙ ap (λ b. stays p && b) (sym (is_member-kept n members rates up down h g view p));
+      members = λ p. is_member-graph_from n fewer rows' within'' p ∙ contains-fewer p ∙ ap (λ b. stays p && b) (sym (is_member-kept k p));
       rates = λ p ne.
-          rate_of-graph_from n fewer rates up' within'' p ∙ ap (λ b. cond b (rate_at rates p) no_rate) (contains-fewer p ∙ ap (λ b. not b && fin.contains members p) (ne_eqb p place ne))
-          ∙ sym (rate_of-kept n members rates up g (kept_within n members rates up down h) view p);
-      ancestors = λ a d. is_ancestor-graph_from n fewer rates up' within'' a d ∙ above'' a d ∙ ap (λ b. stays a && (stays d && b)) (sym (is_ancestor-kept n members rates up down h g view a d));
+          rate_of-graph_from n fewer rows' within'' p
+          ∙ ap₂ (λ b r. cond b r no_rate) (contains-fewer p ∙ ap (λ b. not b && fin.contains members p) (ne_eqb p place ne)) (same_rate'' p)
+          ∙ sym (rate_of-kept k p);
+      ancestors = λ a d.
+          is_ancestor-graph_from n fewer rows' within'' a d ∙ above'' a d ∙ ap (λ b. stays a && (stays d && b)) (sym (is_ancestor-kept k a d));
     }
 
   -- ---- one more member
 
-  module _ (place : ℕ) (rate : FeeRate) (absent : fin.contains members place ≡ false) (first_free : (p : ℕ) → p < place → fin.contains members p ≡ true) (low : place < n)
-      (itself : fin.FinSet nat_cmp) (itself_is : (q : ℕ) → fin.contains itself q ≡ nat_eq q place)
-      (rates' : List FeeRate) (up' down' : List (fin.FinSet nat_cmp)) (one : PutsAt place rate rates rates') (two : PutsAt place itself up up') (three : PutsAt place itself down down')
-      (more : fin.FinSet nat_cmp) (more_are : more ≡ fin.insert members place) where
+  module _ (place : ℕ) (rate : FeeRate) (absent : fin.contains members place ≡ false) (first_free : (p : ℕ) → p < place → fin.contains members p ≡ true)
+      (low : place < n) {itself : fin.FinSet nat_cmp} (itself_is : (q : ℕ) → fin.contains itself q ≡ nat_eq q place)
+      {rows' : List (Row W)} (puts : PutsAt place (record { rate = rate; ancestors = itself; descendants = itself }) rows rows')
+      {more : fin.FinSet nat_cmp} (more_are : more ≡ fin.insert members place) where
     contains-more : (p : ℕ) → fin.contains more p ≡ (nat_eq p place || fin.contains members p)
     contains-more p = ap (λ s. fin.contains s p) more_are ∙ contains-insert members place p
 
-    not_above : (a d : ℕ) → (a ≡ place) ⊎ (d ≡ place) → above members up a d ≡ false
-    not_above a d e = false_from_ne_true _ (λ t.
-        let both : (fin.contains members a ≡ true) × (fin.contains members d ≡ true) = h.order.among a d t in
-        true≢false (elim e as (λ _. true ≡ false) [ inl f ↦ sym both.0 ∙ ap (fin.contains members) f ∙ absent | inr f ↦ sym both.1 ∙ ap (fin.contains members) f ∙ absent ]))
+    at_place : (p : ℕ) → p ≡ place → fin.contains more p ≡ true
+    at_place p e = contains-more p ∙ ap (λ b. b || fin.contains members p) (eq-eqb p place e)
 
-    above₃ : (a d : ℕ) → above more up' a d ≡ with_place (above members up) place a d
-    above₃ a d = elim (cases_eq d place) as (λ _. above more up' a d ≡ with_place (above members up) place a d) [
+    elsewhere : (p : ℕ) → p ≢ place → fin.contains more p ≡ fin.contains members p
+    elsewhere p ne = contains-more p ∙ ap (λ b. b || fin.contains members p) (ne_eqb p place ne)
+
+    not_above : (a d : ℕ) → (a ≡ place) ⊎ (d ≡ place) → above members rows a d ≡ false
+    not_above a d e = false_from_ne_true _ (λ t.
+        let both : (fin.contains members a ≡ true) × (fin.contains members d ≡ true) = k.kept.order.among a d t in
+        true≢false (elim e as (λ _. true ≡ false) [
+          | inl f ↦ sym both.0 ∙ ap (fin.contains members) f ∙ absent
+          | inr f ↦ sym both.1 ∙ ap (fin.contains members) f ∙ absent
+        ]))
+
+    above₃ : (a d : ℕ) → above more rows' a d ≡ with_place (above members rows) place a d
+    above₃ a d = elim (cases_eq d place) as (λ _. above more rows' a d ≡ with_place (above members rows) place a d) [
       | inl same ↦
-          ap₂ (λ x y. x && y) (contains-more d ∙ ap (λ b. b || fin.contains members d) (eq-eqb d place same)) (ap (λ q. fin.contains (set_at up' q) a) same ∙ ap (λ s. fin.contains s a) (two.here fin.empty) ∙ itself_is a)
-          ∙ sym (ap₂ (λ x y. (nat_eq a place && x) || y) (eq-eqb d place same) (not_above a d (inr same)) ∙ or_false (nat_eq a place && true) ∙ and_true (nat_eq a place))
+          ap₂ (λ x y. x && y) (at_place d same)
+          (ap (λ q. fin.contains (row_at rows' q).ancestors a) same ∙ ap (λ r. fin.contains r.ancestors a) puts.here ∙ itself_is a)
+          ∙ sym (ap₂ (λ x y. (nat_eq a place && x) || y) (eq-eqb d place same) (not_above a d (inr same)) ∙ or_false (nat_eq a place && true)
+          ∙ and_true (nat_eq a place))
       | inr other ↦
-          ap₂ (λ x y. x && y) (contains-more d ∙ ap (λ b. b || fin.contains members d) (ne_eqb d place other)) (ap (λ s. fin.contains s a) (two.others d fin.empty other))
-          ∙ sym (ap (λ x. (nat_eq a place && x) || above members up a d) (ne_eqb d place other) ∙ ap (λ x. x || above members up a d) (and_false (nat_eq a place)))
+          ap₂ (λ x y. x && y) (elsewhere d other) (ap (λ r. fin.contains r.ancestors a) (puts.others d other))
+          ∙ sym (ap (λ x. (nat_eq a place && x) || above members rows a d) (ne_eqb d place other)
+          ∙ ap (λ x. x || above members rows a d) (and_false (nat_eq a place)))
     ]
 
-    mirrored₃ : (a d : ℕ) → fin.contains more a ≡ true → fin.contains (set_at down' a) d ≡ above more up' a d
-    mirrored₃ a d e = elim (cases_eq a place) as (λ _. fin.contains (set_at down' a) d ≡ above more up' a d) [
+    mirrored₃ : (a d : ℕ) → fin.contains more a ≡ true → fin.contains (row_at rows' a).descendants d ≡ above more rows' a d
+    mirrored₃ a d e = elim (cases_eq a place) as (λ _. fin.contains (row_at rows' a).descendants d ≡ above more rows' a d) [
       | inl same ↦
-          ap (λ q. fin.contains (set_at down' q) d) same ∙ ap (λ s. fin.contains s d) (three.here fin.empty) ∙ itself_is d
+          ap (λ q. fin.contains (row_at rows' q).descendants d) same ∙ ap (λ r. fin.contains r.descendants d) puts.here ∙ itself_is d
           ∙ sym (above₃ a d ∙ ap₂ (λ x y. (x && nat_eq d place) || y) (eq-eqb a place same) (not_above a d (inl same)) ∙ or_false (nat_eq d place))
       | inr other ↦
-          ap (λ s. fin.contains s d) (three.others a fin.empty other) ∙ h.mirrored a d (sym (contains-more a ∙ ap (λ b. b || fin.contains members a) (ne_eqb a place other)) ∙ e)
-          ∙ sym (above₃ a d ∙ ap (λ x. (x && nat_eq d place) || above members up a d) (ne_eqb a place other))
+          ap (λ r. fin.contains r.descendants d) (puts.others a other) ∙ k.kept.mirrored a d (sym (elsewhere a other) ∙ e)
+          ∙ sym (above₃ a d ∙ ap (λ x. (x && nat_eq d place) || above members rows a d) (ne_eqb a place other))
     ]
 
-    there : {X : Type 0} (old new : List X) (x : X) → PutsAt place x old new → IsWithin (length old) members → IsWithin (length new) more
-    there old new x puts within p e = elim (cases_eq p place) as (λ _. p < length new) [
-      | inl same ↦ omega (arith, puts.there)
-      | inr other ↦ let was : p < length old = within p (sym (contains-more p ∙ ap (λ b. b || fin.contains members p) (ne_eqb p place other)) ∙ e) in omega (arith, puts.long)
-    ]
-
-    pub place_keeps : IsKept n more rates' up' down'
+    pub place_keeps : IsKept n more rows'
     place_keeps = record {
-      room = elim one.most as (λ _. length rates' ≤ n) [ inl e ↦ omega (arith, h.room) | inr e ↦ omega arith ];
-      rated = there rates rates' rate one h.rated;
-      upward = there up up' itself two h.upward;
-      downward = there down down' itself three h.downward;
-      order = IsOrder-like (λ q. nat_eq q place || fin.contains members q) (fin.contains more) (with_place (above members up) place) (above more up') contains-more above₃
-          (IsOrder-place (fin.contains members) (above members up) place h.order absent);
+      room = room_put puts k.kept.room low;
+      there = λ p e. elim (cases_eq p place) as (λ _. p < length rows') [
+        | inl same ↦ omega (arith, puts.there)
+        | inr other ↦ let was : p < length rows = k.kept.there p (sym (elsewhere p other) ∙ e) in omega (arith, puts.long)
+      ];
+      order = IsOrder-like (λ q. nat_eq q place || fin.contains members q) (fin.contains more) (with_place (above members rows) place)
+          (above more rows') contains-more
+          above₃ (IsOrder-place (fin.contains members) (above members rows) place k.kept.order absent);
       mirrored = mirrored₃;
     }
 
-    pub place_is : AddsPlace g (graph_from n more rates' up') rate place
-    place_is =
-        let within : IsWithin n more = kept_within n more rates' up' down' place_keeps in record {
-          free = is_member-kept n members rates up down h g view place ∙ absent;
-          least = λ p e. is_member-kept n members rates up down h g view p ∙ first_free p e;
-          members = λ p. is_member-graph_from n more rates' up' within p ∙ contains-more p ∙ ap (λ b. nat_eq p place || b) (sym (is_member-kept n members rates up down h g view p));
-          rate_is = rate_of-graph_from n more rates' up' within place ∙ ap (λ b. cond b (rate_at rates' place) no_rate) (contains-more place ∙ ap (λ b. b || fin.contains members place) (eq-eqb place place refl)) ∙ one.here no_rate;
-          rates = λ p ne.
-              rate_of-graph_from n more rates' up' within p
-              ∙ ap₂ (λ b r. cond b r no_rate) (contains-more p ∙ ap (λ b. b || fin.contains members p) (ne_eqb p place ne)) (one.others p no_rate ne)
-              ∙ sym (rate_of-kept n members rates up g (kept_within n members rates up down h) view p);
-          ancestors = λ a d. is_ancestor-graph_from n more rates' up' within a d ∙ above₃ a d ∙ ap (λ b. (nat_eq a place && nat_eq d place) || b) (sym (is_ancestor-kept n members rates up down h g view a d));
-        }
+    within₃ : IsWithin n more
+    within₃ = kept_within n more rows' place_keeps
+
+    pub place_is : AddsPlace g (graph_from n more rows') rate place
+    place_is = record {
+      free = is_member-kept k place ∙ absent;
+      least = λ p e. is_member-kept k p ∙ first_free p e;
+      members = λ p. is_member-graph_from n more rows' within₃ p ∙ contains-more p ∙ ap (λ b. nat_eq p place || b) (sym (is_member-kept k p));
+      rate_is = rate_of-graph_from n more rows' within₃ place ∙ ap (λ b. cond b (row_at rows' place).rate no_rate) (at_place place refl)
+          ∙ ap (λ r. r.rate) puts.here;
+      rates = λ p ne.
+          rate_of-graph_from n more rows' within₃ p
+          ∙ ap₂ (λ b r. cond b r.rate no_rate) (elsewhere p ne) (puts.others p ne) ∙ sym (rate_of-kept k p);
+      ancestors = λ a d.
+          is_ancestor-graph_from n more rows' within₃ a d ∙ above₃ a d
+          ∙ ap (λ b. (nat_eq a place && nat_eq d place) || b) (sym (is_ancestor-kept k a d));
+    }
 
 -- ---- the least place that is free
 
-pub free_is : (used : ℕ) (members left : fin.FinSet nat_cmp) (r : Option ℕ) → left ≡ fin.difference (first_places used) members → MatchOption r (left ≡ fin.empty) (IsLeast left) → IsWithin used members
+pub free_is : (used : ℕ) (members left : fin.FinSet nat_cmp) (r : Option ℕ) → left ≡ fin.difference (first_places used) members
+    → MatchOption r (left ≡ fin.empty) (IsLeast left) → IsWithin used members
     → (fin.contains members (unwrap_or r used) ≡ false) × ((p : ℕ) → p < unwrap_or r used → fin.contains members p ≡ true) × (unwrap_or r used ≤ used)
 free_is used members left None is none within = (
   false_from_ne_true _ (λ e. let low : used < used = within used e in lt_irrefl used low),
@@ -285,7 +361,8 @@ free_is used members left None is none within = (
 )
   where
     tells : (p : ℕ) → fin.contains left p ≡ (nat_lt p used && not (fin.contains members p))
-    tells p = ap (λ s. fin.contains s p) is ∙ contains-difference (first_places used) members p ∙ ap (λ b. b && not (fin.contains members p)) (contains-first_places used p)
+    tells p = ap (λ s. fin.contains s p) is ∙ contains-difference (first_places used) members p
+        ∙ ap (λ b. b && not (fin.contains members p)) (contains-first_places used p)
 
     in_both : (p : ℕ) → not (fin.contains members p) ≡ false → fin.contains members p ≡ true
     in_both p e = true_from_not (fin.contains members p) e
@@ -299,7 +376,8 @@ free_is used members left (Some q) is least within = (
 )
   where
     tells : (p : ℕ) → fin.contains left p ≡ (nat_lt p used && not (fin.contains members p))
-    tells p = ap (λ s. fin.contains s p) is ∙ contains-difference (first_places used) members p ∙ ap (λ b. b && not (fin.contains members p)) (contains-first_places used p)
+    tells p = ap (λ s. fin.contains s p) is ∙ contains-difference (first_places used) members p
+        ∙ ap (λ b. b && not (fin.contains members p)) (contains-first_places used p)
 
     both : (nat_lt q used ≡ true) × (not (fin.contains members q) ≡ true)
     both = and_parts (nat_lt q used) (not (fin.contains members q)) (sym (tells q) ∙ least.member)

@@ -1,5 +1,6 @@
 -- Places that go down by the powers of two in their gaps: they stay apart, and end at their numbers.
-use Rattle.std.proofs.Common.{◌≡◌, ℕ, suc, ◌+◌, ◌-◌, ◌*◌, ◌/◌, ◌%◌, ◌^◌, ◌<◌, ◌≤◌, Bool, true, false, not, ◌&&◌, ◌||◌, nat_lt, List, length, slice_index, Contains, inl, inr, refl, sym, ap, ap₂, ◌∙◌, arith, pow-suc, eqb-true, eq-eqb, lt-ltb, le-ltb, true≢false}
+use Rattle.std.proofs.Common.{◌≡◌, ℕ, suc, ◌+◌, ◌-◌, ◌*◌, ◌/◌, ◌%◌, ◌^◌, ◌<◌, ◌≤◌, Bool, true, false, not, ◌&&◌, ◌||◌, nat_lt, List, length, slice_index}
+use Rattle.std.proofs.Common.{Contains, inl, inr, refl, sym, ap, ap₂, ◌∙◌, arith, pow-suc, eqb-true, eq-eqb, lt-ltb, le-ltb, true≢false}
 use Rattle.std.proofs.Math.Nat.{div-mul-le_self, mul-le-mul_right, div-one, div-eq_of_lt}
 use Rattle.std.proofs.Math.Bool.{and-true, or-false}
 use Rattle.std.proofs.Math.Pow.{pow_mono, shr_mono}

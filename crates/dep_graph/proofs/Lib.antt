@@ -10,3 +10,4 @@ pub mod Loops
 pub mod Moving
 pub mod Orders
 pub mod Pairs
+pub mod Reading

@@ -1,5 +1,6 @@
 -- A loop over the places of a set that changes what is kept of each.
-use Rattle.std.proofs.Common.{◌≡◌, ℕ, zero, suc, ◌+◌, ◌<◌, ◌≤◌, Bool, true, false, cond, ◌||◌, nat_eq, List, [], ◌∷◌, ◌++◌, length, filter, set, inl, inr, refl, sym, ap, ◌∙◌, subst, arith, eq-eqb, ne_eqb, append_assoc, append-nil}
+use Rattle.std.proofs.Common.{◌≡◌, ℕ, zero, suc, ◌+◌, ◌<◌, ◌≤◌, Bool, true, false, cond, ◌||◌, nat_eq, List, [], ◌∷◌, ◌++◌, length, filter, set, inl, inr}
+use Rattle.std.proofs.Common.{refl, sym, ap, ◌∙◌, subst, arith, eq-eqb, ne_eqb, append_assoc, append-nil}
 use Rattle.std.proofs.lemmas.Bool.{cases_eq, or_right}
 use Rattle.std.proofs.lemmas.List.{get_or-set_same, get_or-set_other, length-set}
 use Rattle.std.specs.List.{range_with_len}
@@ -9,7 +10,8 @@ use Rattle.lists.proofs.Cases.{or_swap}
 use Rattle.lists.specs.Rising.{IsRising, AllAbove}
 use Rattle.bitset.specs.Places.{places, IsWithin}
 use Rattle.bitset.specs.Sets.{IsRising-places, places-here}
-use Rattle.dep_graph.specs.Rows.{set_at}
+use Rattle.dep_graph.specs.declared.rows.Row.{Row}
+use Rattle.dep_graph.specs.Rows.{no_row, row_at}
 use Rattle.dep_graph.specs.Changes.{ChangesAt}
 
 -- whether q is one of the numbers
@@ -50,8 +52,10 @@ among_out : (f : ℕ → Bool) (a n q : ℕ) → f q ≡ false → among (filter
 among_out f a zero q fails = refl
 among_out f a (suc n) q fails = cases (f a) refl (among_out f (a + 1) n q fails)
   where
-    cases : (b : Bool) → f a ≡ b → among (filter f (range_with_len (a + 1) n)) q ≡ false → among (cond b (a ∷ filter f (range_with_len (a + 1) n)) (filter f (range_with_len (a + 1) n))) q ≡ false
-    cases true e rest = ap (λ b. b || among (filter f (range_with_len (a + 1) n)) q) (ne_eqb q a (λ same. let both : true ≡ false = sym e ∙ ap f (sym same) ∙ fails in cc)) ∙ rest
+    cases : (b : Bool) → f a ≡ b → among (filter f (range_with_len (a + 1) n)) q ≡ false
+        → among (cond b (a ∷ filter f (range_with_len (a + 1) n)) (filter f (range_with_len (a + 1) n))) q ≡ false
+    cases true e rest = ap (λ b. b || among (filter f (range_with_len (a + 1) n)) q)
+        (ne_eqb q a (λ same. let both : true ≡ false = sym e ∙ ap f (sym same) ∙ fails in cc)) ∙ rest
     cases false e rest = rest
 
 -- the list of the members tells who is one
@@ -62,44 +66,50 @@ among-places n s within q = cases (fin.contains s q) refl
     cases true e = let low : q < n = within q e in among_in (fin.contains s) 0 n q e (omega arith) (omega arith)
     cases false e = among_out (fin.contains s) 0 n q e
 
--- after the places ys and before the places zs
-pub record InProgress (n : ℕ) (f : fin.FinSet nat_cmp → fin.FinSet nat_cmp) (s : fin.FinSet nat_cmp) (old rows : List (fin.FinSet nat_cmp)) (ys zs : List ℕ) : Type 0 where
+-- after the places ys and before the places zs, where f is done to the row of each
+pub record InProgress {W : ℕ} (n : ℕ) (f : Row W → Row W) (s : fin.FinSet nat_cmp) (old rows : List (Row W)) (ys zs : List ℕ) : Type 0 where
   pub long : length rows ≡ length old
   pub split : ys ++ zs ≡ places n s
-  pub done : (p : ℕ) → set_at rows p ≡ cond (among ys p) (f (set_at old p)) (set_at old p)
+  pub done : (p : ℕ) → row_at rows p ≡ cond (among ys p) (f (row_at old p)) (row_at old p)
 
-module _ (n : ℕ) (f : fin.FinSet nat_cmp → fin.FinSet nat_cmp) (s : fin.FinSet nat_cmp) where
-  pub InProgress-start : (old : List (fin.FinSet nat_cmp)) (zs : List ℕ) → zs ≡ places n s → InProgress n f s old old [] zs
+module _ {W : ℕ} (n : ℕ) (f : Row W → Row W) (s : fin.FinSet nat_cmp) where
+  pub InProgress-start : (old : List (Row W)) (zs : List ℕ) → zs ≡ places n s → InProgress n f s old old [] zs
   InProgress-start old zs e = record { long = refl; split = e; done = λ p. refl }
 
-  pub InProgress-here : (old rows : List (fin.FinSet nat_cmp)) (ys ws zs : List ℕ) (p : ℕ) → InProgress n f s old rows ys ws → ws ≡ p ∷ zs → (p < n) × (fin.contains s p ≡ true)
-  InProgress-here old rows ys ws zs p h e = places-here n s ys zs p (sym h.split ∙ ap (λ xs. ys ++ xs) e)
+  pub InProgress-all : (old rows : List (Row W)) (ys ws : List ℕ) → IsWithin n s → InProgress n f s old rows ys ws → ws ≡ [] → ChangesAt f s old rows
+  InProgress-all old rows ys ws within h e = record {
+    long = h.long;
+    rows = λ p. h.done p ∙ ap (λ b. cond b (f (row_at old p)) (row_at old p)) (ap (λ xs. among xs p) all ∙ among-places n s within p);
+  }
+    where
+      all : ys ≡ places n s
+      all = sym (append-nil ys) ∙ ap (λ xs. ys ++ xs) (sym e) ∙ h.split
 
-  pub InProgress-inside : (old rows : List (fin.FinSet nat_cmp)) (ys ws zs : List ℕ) (p k m : ℕ) → InProgress n f s old rows ys ws → ws ≡ p ∷ zs → IsWithin k s → k ≡ length old → m ≡ length rows → p < m
-  InProgress-inside old rows ys ws zs p k m h e within before now =
-      let inside : p < k = within p (InProgress-here old rows ys ws zs p h e).1 in omega (arith, h.long)
+module _ {W n : ℕ} {f : Row W → Row W} {s : fin.FinSet nat_cmp} {old rows : List (Row W)} {ys ws : List ℕ} (h : InProgress n f s old rows ys ws)
+    {zs : List ℕ} {p : ℕ} (e : ws ≡ p ∷ zs) where
+  -- the next place is one of the set, so it has a row
+  pub InProgress-here : (p < n) × (fin.contains s p ≡ true)
+  InProgress-here = places-here n s ys zs p (sym h.split ∙ ap (λ xs. ys ++ xs) e)
 
-  pub InProgress-more : (old rows : List (fin.FinSet nat_cmp)) (ys ws zs : List ℕ) (p : ℕ) (v : fin.FinSet nat_cmp) → InProgress n f s old rows ys ws → ws ≡ p ∷ zs → p < length rows → v ≡ f (set_at rows p) → InProgress n f s old (set rows p v) (ys ++ p ∷ []) zs
-  InProgress-more old rows ys ws zs p v h e inside is = record {
-    long = length-set rows p v ∙ h.long;
+  pub InProgress-inside : IsWithin (length old) s → p < length rows
+  InProgress-inside within = let inside : p < length old = within p InProgress-here.1 in omega (arith, h.long)
+
+  pub InProgress-more : (row : Row W) → p < length rows → row ≡ f (row_at rows p) → InProgress n f s old (set rows p row) (ys ++ p ∷ []) zs
+  InProgress-more row inside is = record {
+    long = length-set rows p row ∙ h.long;
     split = append_assoc ys (p ∷ []) zs ∙ ap (λ xs. ys ++ xs) (sym e) ∙ h.split;
-    done = λ q. elim (cases_eq q p) as (λ _. set_at (set rows p v) q ≡ cond (among (ys ++ p ∷ []) q) (f (set_at old q)) (set_at old q)) [
+    done = λ q. elim (cases_eq q p) as (λ _. row_at (set rows p row) q ≡ cond (among (ys ++ p ∷ []) q) (f (row_at old q)) (row_at old q)) [
       | inl same ↦
-          ap (λ q. set_at (set rows p v) q) same
-          ∙ get_or-set_same rows p v fin.empty inside ∙ is
-          ∙ ap f (h.done p ∙ ap (λ b. cond b (f (set_at old p)) (set_at old p)) fresh)
-          ∙ sym (ap (λ b. cond b (f (set_at old q)) (set_at old q)) (among-push ys p q ∙ ap (λ b. b || among ys q) (eq-eqb q p same)) ∙ ap (λ q. f (set_at old q)) same)
+          ap (λ q. row_at (set rows p row) q) same
+          ∙ get_or-set_same rows p row no_row inside ∙ is
+          ∙ ap f (h.done p ∙ ap (λ b. cond b (f (row_at old p)) (row_at old p)) fresh)
+          ∙ sym (ap (λ b. cond b (f (row_at old q)) (row_at old q)) (among-push ys p q ∙ ap (λ b. b || among ys q) (eq-eqb q p same))
+          ∙ ap (λ q. f (row_at old q)) same)
       | inr other ↦
-          get_or-set_other rows p q v fin.empty other ∙ h.done q
-          ∙ sym (ap (λ b. cond b (f (set_at old q)) (set_at old q)) (among-push ys p q ∙ ap (λ b. b || among ys q) (ne_eqb q p other)))
+          get_or-set_other rows p q row no_row other ∙ h.done q
+          ∙ sym (ap (λ b. cond b (f (row_at old q)) (row_at old q)) (among-push ys p q ∙ ap (λ b. b || among ys q) (ne_eqb q p other)))
     ];
   }
     where
       fresh : among ys p ≡ false
       fresh = among-before ys zs p (subst IsRising (sym h.split ∙ ap (λ xs. ys ++ xs) e) (IsRising-places n s))
-
-  pub InProgress-all : (old rows : List (fin.FinSet nat_cmp)) (ys ws : List ℕ) → IsWithin n s → InProgress n f s old rows ys ws → ws ≡ [] → ChangesAt f s old rows
-  InProgress-all old rows ys ws within h e = record {
-    long = h.long;
-    sets = λ p. h.done p ∙ ap (λ b. cond b (f (set_at old p)) (set_at old p)) (ap (λ xs. among xs p) (sym (append-nil ys) ∙ ap (λ xs. ys ++ xs) (sym e) ∙ h.split) ∙ among-places n s within p);
-  }

@@ -1,6 +1,7 @@
 -- The laws on plain graphs.
-use Rattle.std.proofs.Common.{◌≡◌, ℕ, suc, ◌+◌, ◌-◌, ◌<◌, ◌≤◌, Bool, true, false, cond, not, ◌&&◌, ◌||◌, ◌↔◌, nat_eq, nat_lt, List, [], ◌∷◌, length, slice_index, Contains, inl, inr, refl, sym, ap, ap₂, ◌∙◌, arith, eq-eqb, eqb-true, true≢false, ltb-true, lt-ltb, le-ltb}
-use Rattle.std.proofs.lemmas.Bool.{cases_lt, and_parts, and_from, or_cases, or_left, or_right, false_from_ne_true}
+use Rattle.std.proofs.Common.{◌≡◌, ℕ, suc, ◌+◌, ◌-◌, ◌<◌, ◌≤◌, Bool, true, false, cond, not, ◌&&◌, ◌||◌, ◌↔◌, nat_eq, nat_lt, List, [], ◌∷◌, length}
+use Rattle.std.proofs.Common.{slice_index, Contains, inl, inr, refl, sym, ap, ap₂, ◌∙◌, arith, eq-eqb, eqb-true, true≢false, ltb-true, lt-ltb, le-ltb}
+use Rattle.std.proofs.lemmas.Bool.{cases_lt, and_parts, and_from, or_left, false_from_ne_true}
 use Rattle.std.proofs.lemmas.List.Elements.{Contains-get_or}
 use Rattle.std.specs.Ordering.{nat_cmp}
 use Rattle.std.specs.FinSet as fin
@@ -12,7 +13,8 @@ use Rattle.lists.proofs.Rising.{distinct_rising}
 use Rattle.graphs.specs.Graphs.{Graph}
 use Rattle.graphs.specs.Closures.{Closure, is_member, is_ancestor, members_of, IsClosed, IsCopy, IsMerged, HoldsMembers}
 use Rattle.graphs.specs.Closing.{Closes, IsClosureOf, with_name, with_pair, joined, within}
-use Rattle.graphs.proofs.ClosingLemmas.{closes_like, closes_added, closes_pair, closes_without, closes_without_all, closes_within, closes_both, closes_renamed, renamed_is}
+use Rattle.graphs.proofs.ClosingLemmas.{closes_like, closes_added, closes_pair, closes_without, closes_without_all, closes_within, closes_both}
+use Rattle.graphs.proofs.ClosingLemmas.{closes_renamed, renamed_is}
 use Rattle.bitset.specs.Places.{places, IsWithin}
 use Rattle.bitset.specs.Sets.{IsRising-places, Contains-places, places-Contains, contains-difference}
 use Rattle.dep_graph.specs.Numbers.{number_in, renumbered}

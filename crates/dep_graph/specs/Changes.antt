@@ -1,43 +1,53 @@
--- What is done to the sets of several places.
-use Rattle.std.specs.Prelude.{◌≡◌, ◌≢◌, ◌⊎◌, ◌≤◌, ◌<◌, ◌+◌, ℕ, true, cond, List, length, slice_index, slice_index_or}
+-- What is done to the rows of several places.
+use Rattle.std.specs.Prelude.{◌≡◌, ◌≢◌, ◌⊎◌, ◌≤◌, ◌<◌, ◌+◌, ℕ, true, cond, List, length, slice_index}
 use Rattle.std.specs.Ordering.{nat_cmp}
 use Rattle.std.specs.FinSet as set
-use Rattle.graphs.specs.Closures.{no_rate}
-use Rattle.fee_rate.specs.declared.rates.FeeRate.{FeeRate}
-use Rattle.dep_graph.specs.Rows.{rate_at, set_at}
-
--- f is done to the set of each of these places, and the other sets stay
-pub record ChangesAt (f : set.FinSet nat_cmp → set.FinSet nat_cmp) (places : set.FinSet nat_cmp) (old new : List (set.FinSet nat_cmp)) : Type 0 where
-  pub long : length new ≡ length old
-  pub sets : (p : ℕ) → set_at new p ≡ cond (set.contains places p) (f (set_at old p)) (set_at old p)
-
-abbrev pub gives : set.FinSet nat_cmp → set.FinSet nat_cmp → set.FinSet nat_cmp
-gives more s = set.union s more
-
-abbrev pub takes : ℕ → set.FinSet nat_cmp → set.FinSet nat_cmp
-takes gone s = set.remove s gone
-
--- x stands at a place that the list had, or behind its end, and the other items stay
-pub record PutsAt {X : Type 0} (place : ℕ) (x : X) (old new : List X) : Type 0 where
-  pub long : length old ≤ length new
-  pub here : (d : X) → slice_index_or new place d ≡ x
-  pub there : place < length new
-  pub most : (length new ≤ length old) ⊎ (length new ≡ place + 1)
-  pub others : (p : ℕ) (d : X) → p ≢ place → slice_index_or new p d ≡ slice_index_or old p d
-
--- behind the items of a list stand one for each number of ps, in this order
-pub record Copies {X : Type 0} (d : X) (Made : ℕ → X → Type 0) (ps : List ℕ) (old new : List X) : Type 0 where
-  pub long : length new ≡ length old + length ps
-  pub kept : (p : ℕ) → p < length old → slice_index_or new p d ≡ slice_index_or old p d
-  pub made : (i : ℕ) → i < length ps → Made (slice_index ps i) (slice_index_or new (length old + i) d)
-
-abbrev pub CopiesRates : List FeeRate → List ℕ → List FeeRate → List FeeRate → Type 0
-CopiesRates from ps old new = Copies no_rate (λ p rate. rate ≡ rate_at from p) ps old new
+use Rattle.dep_graph.specs.declared.rows.Row.{Row}
+use Rattle.dep_graph.specs.Rows.{row_at}
 
 -- the numbers from `first` on stand for the places ps: those are in t that stand for a place in s
 pub record IsRenumbered (ps : List ℕ) (first : ℕ) (s t : set.FinSet nat_cmp) : Type 0 where
   pub here : (i : ℕ) → i < length ps → set.contains t (first + i) ≡ set.contains s (slice_index ps i)
   pub only : (k : ℕ) → set.contains t k ≡ true → (first ≤ k) × (k < first + length ps)
 
-abbrev pub CopiesSets : List (set.FinSet nat_cmp) → List ℕ → List (set.FinSet nat_cmp) → List (set.FinSet nat_cmp) → Type 0
-CopiesSets from ps old new = Copies set.empty (λ p s. IsRenumbered ps (length old) (set_at from p) s) ps old new
+module _ {W : ℕ} where
+  abbrev pub gives_ancestors : set.FinSet nat_cmp → Row W → Row W
+  gives_ancestors more row = record row { ancestors = set.union row.ancestors more }
+
+  abbrev pub gives_descendants : set.FinSet nat_cmp → Row W → Row W
+  gives_descendants more row = record row { descendants = set.union row.descendants more }
+
+  abbrev pub takes_ancestor : ℕ → Row W → Row W
+  takes_ancestor gone row = record row { ancestors = set.remove row.ancestors gone }
+
+  abbrev pub takes_descendant : ℕ → Row W → Row W
+  takes_descendant gone row = record row { descendants = set.remove row.descendants gone }
+
+  -- f is done to the row of each of these places, and the other rows stay
+  pub record ChangesAt (f : Row W → Row W) (places : set.FinSet nat_cmp) (old new : List (Row W)) : Type 0 where
+    pub long : length new ≡ length old
+    pub rows : (p : ℕ) → row_at new p ≡ cond (set.contains places p) (f (row_at old p)) (row_at old p)
+
+  -- a row stands at a place that the list had, or behind its end, and the other rows stay
+  pub record PutsAt (place : ℕ) (row : Row W) (old new : List (Row W)) : Type 0 where
+    pub long : length old ≤ length new
+    pub here : row_at new place ≡ row
+    pub there : place < length new
+    pub most : (length new ≤ length old) ⊎ (length new ≡ place + 1)
+    pub others : (p : ℕ) → p ≢ place → row_at new p ≡ row_at old p
+
+  -- behind the rows of a list stand one for each number of ps, in this order
+  pub record Copies (Made : ℕ → Row W → Type 0) (ps : List ℕ) (old new : List (Row W)) : Type 0 where
+    pub long : length new ≡ length old + length ps
+    pub kept : (p : ℕ) → p < length old → row_at new p ≡ row_at old p
+    pub made : (i : ℕ) → i < length ps → Made (slice_index ps i) (row_at new (length old + i))
+
+  -- the rate stays, and both sets become sets that stand so to them
+  pub record BothBecome (Becomes : set.FinSet nat_cmp → set.FinSet nat_cmp → Type 0) (old new : Row W) : Type 0 where
+    pub rate : new.rate ≡ old.rate
+    pub ancestors : Becomes old.ancestors new.ancestors
+    pub descendants : Becomes old.descendants new.descendants
+
+  -- copies of the rows of the places ps, with the places in them numbered as they stand
+  abbrev pub CopiesRows : List (Row W) → List ℕ → List (Row W) → List (Row W) → Type 0
+  CopiesRows from ps old new = Copies (λ p row. BothBecome (IsRenumbered ps (length old)) (row_at from p) row) ps old new

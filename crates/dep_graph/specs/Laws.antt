@@ -12,11 +12,13 @@ use Rattle.dep_graph.specs.Numbers.{renumbered}
 
 -- a new member brings no pair
 abbrev pub PlaceKeepsPairs : Type 0
-PlaceKeepsPairs = (n place : ℕ) (rate : FeeRate) (g h : Closure) (graph : Graph) → IsClosed n g → IsClosureOf g graph → AddsPlace g h rate place → IsClosureOf h (with_name graph place)
+PlaceKeepsPairs = (n place : ℕ) (rate : FeeRate) (g h : Closure) (graph : Graph) → IsClosed n g → IsClosureOf g graph → AddsPlace g h rate place
+    → IsClosureOf h (with_name graph place)
 
 -- a dependency is one more pair
 abbrev pub PairIsAdded : Type 0
-PairIsAdded = (parent child : ℕ) (g h : Closure) (graph : Graph) → IsClosureOf g graph → is_member g parent ≡ true → is_member g child ≡ true → is_ancestor g child parent ≡ false
+PairIsAdded = (parent child : ℕ) (g h : Closure) (graph : Graph) → IsClosureOf g graph → is_member g parent ≡ true → is_member g child ≡ true
+    → is_ancestor g child parent ≡ false
     → AddsPair g h parent child → IsClosureOf h (with_pair graph parent child)
 
 -- a member is dropped when the pairs across it are there

@@ -3,7 +3,9 @@
 use Rattle.std.specs.Prelude.{◌≡◌, ℕ, ◌+◌, ◌-◌, ◌*◌, ◌/◌, ◌%◌, ◌^◌, ◌≤◌, ◌<◌, ◌&&◌, ◌||◌, Bool, not, nat_eq, nat_lt, List, length, slice_index}
 use Rattle.std.specs.Ordering.{nat_cmp}
 use Rattle.std.specs.FinSet as set
-use Rattle.dep_graph.specs.Rows.{set_at}
+use Rattle.dep_graph.specs.declared.rows.Row.{Row}
+use Rattle.dep_graph.specs.Rows.{row_at}
+use Rattle.dep_graph.specs.Changes.{BothBecome}
 
 -- how far place i of the list has to go down to i
 abbrev pub gap : List ℕ → ℕ → ℕ
@@ -23,14 +25,15 @@ AreMoving ps power s = (i : ℕ) → i < length ps → set.contains s (standing 
 
 -- those of s that are moving go down
 abbrev pub IsMovedDown : set.FinSet nat_cmp → ℕ → set.FinSet nat_cmp → set.FinSet nat_cmp → Type 0
-IsMovedDown moving by s t = (p : ℕ) → set.contains t p ≡ ((set.contains s p && not (set.contains moving p)) || (set.contains s (p + by) && set.contains moving (p + by)))
+IsMovedDown moving by s t = (p : ℕ)
+    → set.contains t p ≡ ((set.contains s p && not (set.contains moving p)) || (set.contains s (p + by) && set.contains moving (p + by)))
 
 -- all of s go up, as far as there are places
 abbrev pub IsMovedUp : ℕ → ℕ → set.FinSet nat_cmp → set.FinSet nat_cmp → Type 0
 IsMovedUp n by s t = (p : ℕ) → set.contains t p ≡ (nat_lt p n && (not (nat_lt p by) && set.contains s (p - by)))
 
--- each set of a list from `first` on becomes one that stands so to it, and the others stay
-pub record ChangesFrom (Becomes : set.FinSet nat_cmp → set.FinSet nat_cmp → Type 0) (first : ℕ) (old new : List (set.FinSet nat_cmp)) : Type 0 where
+-- both sets of each row from `first` on become sets that stand so to them, and all else stays
+pub record ChangesFrom {W : ℕ} (Becomes : set.FinSet nat_cmp → set.FinSet nat_cmp → Type 0) (first : ℕ) (old new : List (Row W)) : Type 0 where
   pub long : length new ≡ length old
-  pub kept : (i : ℕ) → i < first → set_at new i ≡ set_at old i
-  pub changed : (i : ℕ) → first ≤ i → i < length old → Becomes (set_at old i) (set_at new i)
+  pub kept : (i : ℕ) → i < first → row_at new i ≡ row_at old i
+  pub changed : (i : ℕ) → first ≤ i → i < length old → BothBecome Becomes (row_at old i) (row_at new i)

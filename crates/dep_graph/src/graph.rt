@@ -1,15 +1,18 @@
-ghost use Rattle.std.specs.Prelude.{◌≡◌, ℕ, ◌+◌, ◌*◌, ◌<◌, ◌≤◌, ◌↔◌, true, false, IfOk, OnOk, OnErr, vec_len};
+ghost use Rattle.std.specs.Prelude.{◌≡◌, ℕ, ◌+◌, ◌*◌, ◌<◌, ◌≤◌, ◌↔◌, true, false, IfOk, OnErr};
 ghost use Rattle.std.specs.FinSet as set;
 ghost use Rattle.std.specs.FinMap as map;
-ghost use Rattle.graphs.specs.Closures.{is_member, rate_of, is_ancestor, members_of, ancestors_of, descendants_of, IsClosed, IsCover, IsNear, HoldsMembers, AddsPlace, AddsPair, SetsFee, DropsPlace, IsMerged, IsPart};
+ghost use Rattle.graphs.specs.Closures.{is_member, rate_of, is_ancestor, members_of, ancestors_of, descendants_of, IsClosed, IsCover, IsNear, HoldsMembers};
+ghost use Rattle.graphs.specs.Closures.{AddsPlace, AddsPair, SetsFee, DropsPlace, IsMerged, IsPart};
 ghost use Rattle.lists.specs.Walks.{Walk};
 ghost use Rattle.bitset.specs.Places.{IsWithin, places};
-ghost use Rattle.dep_graph.specs.Changes.{ChangesAt, PutsAt, CopiesRates, CopiesSets, gives, takes};
 
-use crate::numbering::number_anew;
+use crate::rows::{
+    Row, Rows, copy_rows, give_ancestors, give_descendants, put, take_ancestor, take_descendant,
+};
 use bitset::Bits;
 use fee_rate::FeeRate;
 use outside::NoMemory;
+use smallvec::SmallVec;
 use std::alloc::Global;
 use std::marker::Model;
 
@@ -19,10 +22,7 @@ use std::marker::Model;
 #[derive(Drop)]
 pub struct DepGraph<const W: usize> {
     members: Bits<W>,
-    rates: Vec<FeeRate>,
-    // the ancestors of each member, and its descendants, itself among both
-    up: Vec<Bits<W>>,
-    down: Vec<Bits<W>>,
+    rows: Rows<W>,
 }
 
 // Clauses see a map from the members to their rates and ancestors.
@@ -35,9 +35,9 @@ impl<const W: usize> Model for DepGraph<W> {
 
     ghost coded = { closure_code };
 
-    ghost view = { λ g. graph_from (64 * W) g.members g.rates.items g.up.items };
+    ghost view = { λ g. graph_from (64 * W) g.members g.rows.items };
 
-    ghost invariant = { λ g. IsKept (64 * W) g.members g.rates.items g.up.items g.down.items };
+    ghost invariant = { λ g. IsKept (64 * W) g.members g.rows.items };
 }
 
 impl<const W: usize> DepGraph<W> {
@@ -47,9 +47,7 @@ impl<const W: usize> DepGraph<W> {
     {
         DepGraph {
             members: Bits::empty(),
-            rates: Vec::new(alloc),
-            up: Vec::new(alloc),
-            down: Vec::new(alloc),
+            rows: SmallVec::new(alloc),
         }
     }
 
@@ -66,7 +64,7 @@ impl<const W: usize> DepGraph<W> {
         requires { is_member self.now place ≡ true }
         ensures { result ≡ rate_of self.now place }
     {
-        self.rates[place]
+        self.row(place).rate
     }
 
     /// The ancestors of a member, itself among them.
@@ -74,7 +72,7 @@ impl<const W: usize> DepGraph<W> {
         requires { is_member self.now place ≡ true }
         ensures { result ≡ ancestors_of self.now place }
     {
-        self.up[place]
+        self.row(place).ancestors
     }
 
     /// The descendants of a member, itself among them.
@@ -82,7 +80,7 @@ impl<const W: usize> DepGraph<W> {
         requires { is_member self.now place ≡ true }
         ensures { result ≡ descendants_of self.now place }
     {
-        self.down[place]
+        self.row(place).descendants
     }
 
     /// Whether a dependency of `child` on `parent` would make a member its own proper ancestor.
@@ -91,7 +89,18 @@ impl<const W: usize> DepGraph<W> {
         requires child { is_member self.now child ≡ true }
         ensures { result ≡ is_ancestor self.now child parent }
     {
-        self.up[parent].has(child)
+        self.row(parent).ancestors.has(child)
+    }
+
+    // The row of a member.
+    fn row(&self, place: usize) -> &Row<W>
+        requires { is_member self.now place ≡ true }
+        ensures rate { result.now.rate ≡ rate_of self.now place }
+        ensures ancestors { result.now.ancestors ≡ ancestors_of self.now place }
+        ensures descendants { result.now.descendants ≡ descendants_of self.now place }
+        ensures closed { IsClosed (64 * W) self.now }
+    {
+        &self.rows[place]
     }
 
     /// Changes the fee of a member, in satoshis.
@@ -99,7 +108,7 @@ impl<const W: usize> DepGraph<W> {
         requires { is_member self.old place ≡ true }
         ensures { SetsFee self.old self.new place fee }
     {
-        self.rates[place].fee = fee;
+        self.rows[place].rate.fee = fee;
     }
 
     /// Adds a member that depends on no other, at the least place that is free: `fee` in satoshis, `size` in virtual
@@ -109,12 +118,15 @@ impl<const W: usize> DepGraph<W> {
         ensures ok { IfOk result (AddsPlace self.old self.new (record { fee = fee; size = size })) }
         ensures err { OnErr result (self.new ≡ self.old) }
     {
-        let place = free_place(&self.members, self.rates.len());
+        let place = free_place(&self.members, self.rows.len());
         let mut itself = Bits::empty();
         itself.insert(place);
-        put(&mut self.rates, place, FeeRate { fee, size })?;
-        put(&mut self.up, place, itself)?;
-        put(&mut self.down, place, itself)?;
+        let row = Row {
+            rate: FeeRate { fee, size },
+            ancestors: itself,
+            descendants: itself,
+        };
+        put(&mut self.rows, place, row)?;
         self.members.insert(place);
         Ok(place)
     }
@@ -126,10 +138,11 @@ impl<const W: usize> DepGraph<W> {
         requires no_cycle { is_ancestor self.old child parent ≡ false }
         ensures { AddsPair self.old self.new parent child }
     {
-        let above = self.up[parent];
-        let below = self.down[child];
-        give(&mut self.up, &below, &above);
-        give(&mut self.down, &above, &below);
+        let above = self.ancestors(parent);
+        let below = self.descendants(child);
+        let rows = self.rows.as_mut_slice();
+        give_ancestors(rows, &below, &above);
+        give_descendants(rows, &above, &below);
     }
 
     /// Drops a member. The others keep the relation among themselves, so an ancestor over the member stays one.
@@ -137,10 +150,11 @@ impl<const W: usize> DepGraph<W> {
         requires { is_member self.old place ≡ true }
         ensures { DropsPlace self.old self.new place }
     {
-        let above = self.up[place];
-        let below = self.down[place];
-        take(&mut self.up, &below, place);
-        take(&mut self.down, &above, place);
+        let above = self.ancestors(place);
+        let below = self.descendants(place);
+        let rows = self.rows.as_mut_slice();
+        take_ancestor(rows, &below, place);
+        take_descendant(rows, &above, place);
         self.members.remove(place);
     }
 
@@ -149,11 +163,11 @@ impl<const W: usize> DepGraph<W> {
         requires { is_member self.now place ≡ true }
         ensures { (p : ℕ) → (set.contains result p ≡ true) ↔ IsCover self.now p place }
     {
-        let mut above = self.up[place];
+        let mut above = self.row(place).ancestors;
         above.remove(place);
         let mut covers = above;
         for middle in above.iter() {
-            let mut further = self.up[middle];
+            let mut further = self.ancestors(middle);
             further.remove(middle);
             covers = covers.minus(&further);
         }
@@ -167,11 +181,12 @@ impl<const W: usize> DepGraph<W> {
         requires place { set.contains within place ≡ true }
         ensures { (p : ℕ) → (set.contains result p ≡ true) ↔ Walk (IsNear self.now within.entry) place p }
     {
-        let mut reached = self.up[place].meet(&within);
+        let mut reached = self.row(place).ancestors.meet(&within);
         let mut done = Bits::empty();
         while let Some(next) = reached.minus(&done).least() {
             done.insert(next);
-            let near = self.up[next].union(&self.down[next]).meet(&within);
+            let row = self.row(next);
+            let near = row.ancestors.union(&row.descendants).meet(&within);
             reached = reached.union(&near);
         }
         reached
@@ -184,21 +199,15 @@ impl<const W: usize> DepGraph<W> {
         ensures { IfOk result (IsMerged self.now other.now (places (64 * W) (members_of self.now))
             (places (64 * W) (members_of other.now))) }
     {
-        let mut rates = Vec::new(alloc);
-        copy_rates(&mut rates, &self.rates, &self.members)?;
-        copy_rates(&mut rates, &other.rates, &other.members)?;
-        let mut up = Vec::new(alloc);
-        copy_sets(&mut up, &self.up, &self.members)?;
-        copy_sets(&mut up, &other.up, &other.members)?;
-        let mut down = Vec::new(alloc);
-        copy_sets(&mut down, &self.down, &self.members)?;
-        copy_sets(&mut down, &other.down, &other.members)?;
-        let members = Bits::first_n(rates.len());
+        let first = self.rows.as_slice();
+        let second = other.rows.as_slice();
+        let count = self.members.count() + other.members.count();
+        let mut rows = SmallVec::with_capacity(alloc, count)?;
+        copy_rows(&mut rows, first, &self.members);
+        copy_rows(&mut rows, second, &other.members);
         Ok(DepGraph {
-            members,
-            rates,
-            up,
-            down,
+            members: Bits::first_n(count),
+            rows,
         })
     }
 
@@ -208,18 +217,13 @@ impl<const W: usize> DepGraph<W> {
         requires { HoldsMembers self.now within }
         ensures { IfOk result (IsPart self.now (places (64 * W) within.entry)) }
     {
-        let mut rates = Vec::new(alloc);
-        copy_rates(&mut rates, &self.rates, &within)?;
-        let mut up = Vec::new(alloc);
-        copy_sets(&mut up, &self.up, &within)?;
-        let mut down = Vec::new(alloc);
-        copy_sets(&mut down, &self.down, &within)?;
-        let members = Bits::first_n(rates.len());
+        let whole = self.rows.as_slice();
+        let count = within.count();
+        let mut rows = SmallVec::with_capacity(alloc, count)?;
+        copy_rows(&mut rows, whole, &within);
         Ok(DepGraph {
-            members,
-            rates,
-            up,
-            down,
+            members: Bits::first_n(count),
+            rows,
         })
     }
 }
@@ -233,72 +237,4 @@ fn free_place<const W: usize>(members: &Bits<W>, used: usize) -> usize
     ensures within { result ≤ used }
 {
     Bits::first_n(used).minus(members).least().unwrap_or(used)
-}
-
-// Puts an item at a place that the list has, or behind its end.
-fn put<T: Drop>(items: &mut Vec<T>, place: usize, item: T) -> Result<(), NoMemory>
-    requires { place ≤ vec_len items.old }
-    ensures ok { IfOk result (λ _. PutsAt place item items.old.items items.new.items) }
-    ensures err { OnErr result ((items.new.items ≡ items.old.items) × (vec_len items.new ≡ vec_len items.old)) }
-{
-    if place < items.len() {
-        items[place] = item;
-    } else {
-        items.push(item)?;
-    }
-    Ok(())
-}
-
-// Each of the places has more in its set.
-fn give<const W: usize>(sets: &mut Vec<Bits<W>>, places: &Bits<W>, more: &Bits<W>)
-    requires { IsWithin (vec_len sets.old) places.now }
-    ensures { ChangesAt (gives more.now) places.now sets.old.items sets.new.items }
-{
-    for place in places.iter() {
-        sets[place] = sets[place].union(more);
-    }
-}
-
-// Each of the places has one place fewer in its set.
-fn take<const W: usize>(sets: &mut Vec<Bits<W>>, places: &Bits<W>, gone: usize)
-    requires within { IsWithin (vec_len sets.old) places.now }
-    requires place { gone < 64 * W }
-    ensures { ChangesAt (takes gone) places.now sets.old.items sets.new.items }
-{
-    for place in places.iter() {
-        sets[place].remove(gone);
-    }
-}
-
-// Puts the rates of these places behind the others, in rising order.
-fn copy_rates<const W: usize>(
-    rates: &mut Vec<FeeRate>,
-    from: &Vec<FeeRate>,
-    within: &Bits<W>,
-) -> Result<(), NoMemory>
-    requires { IsWithin (vec_len from.now) within.now }
-    ensures { OnOk result (CopiesRates from.now.items (places (64 * W) within.now) rates.old.items rates.new.items) }
-{
-    for place in within.iter() {
-        rates.push(from[place])?;
-    }
-    Ok(())
-}
-
-// Puts the sets of these places behind the others, in rising order, with the places in them numbered as they stand.
-fn copy_sets<const W: usize>(
-    sets: &mut Vec<Bits<W>>,
-    from: &Vec<Bits<W>>,
-    within: &Bits<W>,
-) -> Result<(), NoMemory>
-    requires there { IsWithin (vec_len from.now) within.now }
-    requires room { vec_len sets.old + set.len within.now ≤ 64 * W }
-    ensures { OnOk result (CopiesSets from.now.items (places (64 * W) within.now) sets.old.items sets.new.items) }
-{
-    let first = sets.len();
-    for place in within.iter() {
-        sets.push(from[place].meet(within))?;
-    }
-    number_anew(sets, first, within);
-    Ok(())
 }

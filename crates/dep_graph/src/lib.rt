@@ -1,12 +1,13 @@
 //! The dependency graph of a cluster: fees, sizes, and who is an ancestor of whom.
 //!
-//! [`DepGraph<W>`] keeps for each place the set of its ancestors and that of its descendants, so each question about
-//! them is answered by a few operations on words.
+//! [`DepGraph<W>`] keeps for each place a row: fee and size, the set of its ancestors and that of its descendants. So
+//! each question about them is answered by a few operations on words, and a graph of one member takes no allocation.
 #![tactic(auto)]
 
 mod graph;
 mod laws;
 mod numbering;
+mod rows;
 
 pub use graph::DepGraph;
 pub use laws::{

@@ -1,33 +1,34 @@
-// Places numbered anew, in all sets of a list at once.
+// Places numbered anew, in all rows of a list at once.
 //
 // The places of a set go down to the numbers from 0 on, by the powers of two in their gaps. A place's gap rises with
 // the place, so no two places meet on the way, and one step of word operations a set and power is enough.
-ghost use Rattle.std.specs.Prelude.{◌≡◌, ℕ, ◌+◌, ◌*◌, ◌^◌, ◌<◌, ◌≤◌, true, length, vec_len};
+ghost use Rattle.std.specs.Prelude.{◌≡◌, ℕ, ◌+◌, ◌*◌, ◌^◌, ◌<◌, ◌≤◌, true, length};
 ghost use Rattle.std.specs.FinSet as set;
 ghost use Rattle.bitset.specs.Places.{IsWithin, places};
 ghost use Rattle.dep_graph.specs.Changes.{IsRenumbered};
 ghost use Rattle.dep_graph.specs.Moves.{gap, AreMoving, ChangesFrom, IsMovedDown, IsMovedUp};
-ghost use Rattle.dep_graph.specs.Rows.{set_at};
+ghost use Rattle.dep_graph.specs.Rows.{row_at, holds};
 
+use crate::rows::Row;
 use bitset::Bits;
 
-/// Numbers the places of `within` anew in the sets from `first` on, which hold no others: in rising order, and from
+/// Numbers the places of `within` anew in the rows from `first` on, which hold no others: in rising order, and from
 /// `first` on too.
-pub(crate) fn number_anew<const W: usize>(sets: &mut Vec<Bits<W>>, first: usize, within: &Bits<W>)
-    requires held { (i p : ℕ) → first ≤ i → i < vec_len sets.old → set.contains (set_at sets.old.items i) p ≡ true
+pub(crate) fn number_anew<const W: usize>(rows: &mut [Row<W>], first: usize, within: &Bits<W>)
+    requires held { (i p : ℕ) → first ≤ i → i < length rows.old → holds (row_at rows.old i) p ≡ true
         → set.contains within.now p ≡ true }
     requires room { first + set.len within.now ≤ 64 * W }
     requires fits { first + set.len within.now < 2 ^ 64 }
-    ensures { ChangesFrom (IsRenumbered (places (64 * W) within.now) first) first sets.old.items sets.new.items }
+    ensures { ChangesFrom (IsRenumbered (places (64 * W) within.now) first) first rows.old rows.new }
 {
     let mut left = greatest_gap(within);
     let mut power = 0;
     while left > 0 {
-        move_down(sets, first, &moving(within, power), 1 << power);
+        move_down(rows, first, &moving(within, power), 1 << power);
         left /= 2;
         power += 1;
     }
-    move_up(sets, first);
+    move_up(rows, first);
 }
 
 // The gap of the last place, which is the greatest.
@@ -63,12 +64,17 @@ fn moving<const W: usize>(within: &Bits<W>, power: usize) -> Bits<W>
     moving
 }
 
-// In the sets from `first` on, those of the places that are moving go down.
-fn move_down<const W: usize>(sets: &mut Vec<Bits<W>>, first: usize, moving: &Bits<W>, by: usize)
-    ensures { ChangesFrom (IsMovedDown moving.now by) first sets.old.items sets.new.items }
+// In the rows from `first` on, those of the places that are moving go down.
+fn move_down<const W: usize>(rows: &mut [Row<W>], first: usize, moving: &Bits<W>, by: usize)
+    ensures { ChangesFrom (IsMovedDown moving.now by) first rows.old rows.new }
 {
-    for i in first..sets.len() {
-        sets[i] = moved_down(&sets[i], moving, by);
+    for i in first..rows.len() {
+        let row = rows[i];
+        rows[i] = Row {
+            rate: row.rate,
+            ancestors: moved_down(&row.ancestors, moving, by),
+            descendants: moved_down(&row.descendants, moving, by),
+        };
     }
 }
 
@@ -79,13 +85,17 @@ fn moved_down<const W: usize>(set: &Bits<W>, moving: &Bits<W>, by: usize) -> Bit
     set.minus(moving).union(&set.meet(moving).lowered(by))
 }
 
-// In the sets from `first` on, each place goes up by `first`.
-fn move_up<const W: usize>(sets: &mut Vec<Bits<W>>, first: usize)
-    requires { (i p : ℕ) → first ≤ i → i < vec_len sets.old → set.contains (set_at sets.old.items i) p ≡ true
-        → p + first < 2 ^ 64 }
-    ensures { ChangesFrom (IsMovedUp (64 * W) first) first sets.old.items sets.new.items }
+// In the rows from `first` on, each place goes up by `first`.
+fn move_up<const W: usize>(rows: &mut [Row<W>], first: usize)
+    requires { (i p : ℕ) → first ≤ i → i < length rows.old → holds (row_at rows.old i) p ≡ true → p + first < 2 ^ 64 }
+    ensures { ChangesFrom (IsMovedUp (64 * W) first) first rows.old rows.new }
 {
-    for i in first..sets.len() {
-        sets[i] = sets[i].raised(first);
+    for i in first..rows.len() {
+        let row = rows[i];
+        rows[i] = Row {
+            rate: row.rate,
+            ancestors: row.ancestors.raised(first),
+            descendants: row.descendants.raised(first),
+        };
     }
 }

@@ -1,1 +1,13 @@
+pub mod RowLemmas
 pub mod RunLemmas
+pub mod AbortLemmas
+pub mod TableLemmas
+pub mod LevelLemmas
+pub mod ValidLemmas
+pub mod ChangeLemmas
+pub mod StepLemmas
+pub mod EdgeLemmas
+pub mod SpellingLemmas
+pub mod AmountLemmas
+pub mod ProofLemmas
+pub mod SameLemmas

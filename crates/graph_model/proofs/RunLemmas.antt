@@ -1,65 +1,76 @@
 -- Runs, and what leaves the state.
-use Rattle.std.proofs.Common.{◌≡◌, ℕ, List, [], ◌∷◌, ◌++◌, subst}
+use Rattle.std.proofs.Common.{◌≡◌, List, [], ◌∷◌, ◌++◌, Option, Some, subst, sym, inl, inr}
 use Rattle.graph_model.specs.declared.names.Refusal.{Refusal}
-use Rattle.graph_model.specs.States.{State}
-use Rattle.graph_model.specs.Commands.{Command, SetLimits, Add, Dep, SetFee, Remove, Cluster, Ancestors, Descendants, Count}
-use Rattle.graph_model.specs.Replies.{Refused}
-use Rattle.graph_model.specs.Steps.{Step, Accepts, MayLackMemory}
-use Rattle.graph_model.specs.Refusals.{RefusalIs}
 use Rattle.graph_model.specs.declared.names.Refusal.TheVariants.{Memory}
-use Rattle.std.proofs.Common.{Some, sym}
-use Rattle.graph_model.specs.Runs.{Answer, Run}
-use Rattle.std.proofs.Common.{inl, inr}
+use Rattle.graph_model.specs.States.{PlainState, Picks, State}
+use Rattle.graph_model.specs.Commands.{Command, SetLimits, Add, Dep, SetFee, Remove, Mine, Evict, Stage, Commit, Abort, Settle, Compare, Order, Diagram, Proof, Cluster, Ancestors, Descendants, Chunk, Before, Block, Count}
+use Rattle.graph_model.specs.Replies.{Reply, Refused}
+use Rattle.graph_model.specs.Answers.{Answers}
+use Rattle.graph_model.specs.Steps.{StepBy, PlainStep, Step, MayLackMemory}
+use Rattle.graph_model.specs.Runs.{RunBy}
+use Rattle.graph_model.proofs.RowLemmas.{no_memory_in_row}
 
-pub run-append : (old mid new : State) (lines more : List (List ℕ)) (answers others : List Answer) → Run old lines answers mid → Run mid more others new → Run old (lines ++ more) (answers ++ others) new
-run-append old mid new [] more [] others same run = subst (λ (state : State). Run state more others new) same run
-run-append old mid new [] more (answer ∷ answers) others run _ = absurd run
-run-append old mid new (line ∷ lines) more [] others run _ = absurd run
-run-append old mid new (line ∷ lines) more (answer ∷ answers) others run next = (run.0, run.1, run-append run.0 mid new lines more answers others run.2 next)
+pub run-append : {S I O : Type 0} (step : S → I → O → S → Type 0) (old mid new : S) (is more : List I) (os others : List O) → RunBy step old is os mid → RunBy step mid more others new
+    → RunBy step old (is ++ more) (os ++ others) new
+run-append step old mid new [] more [] others same run = subst (λ state. RunBy step state more others new) same run
+run-append step old mid new [] more (o ∷ os) others run _ = absurd run
+run-append step old mid new (i ∷ is) more [] others run _ = absurd run
+run-append step old mid new (i ∷ is) more (o ∷ os) others run next = (run.0, run.1, run-append step run.0 mid new is more os others run.2 next)
 
-no_accepted_refusal : (old new : State) (command : Command) (why : Refusal) → Accepts old command (Refused why) new → ⊥
-no_accepted_refusal old new (SetLimits count size total) why h = let e = h.0 in cc
-no_accepted_refusal old new (Add id fee size) why h = let e = h.0 in cc
-no_accepted_refusal old new (Dep parent child) why h = let e = h.0 in cc
-no_accepted_refusal old new (SetFee id fee) why h = let e = h.0 in cc
-no_accepted_refusal old new (Remove id) why h = let e = h.0 in cc
-no_accepted_refusal old new (Cluster id level) why h = let e = h.3 in cc
-no_accepted_refusal old new (Ancestors id level) why h = let e = h.3 in cc
-no_accepted_refusal old new (Descendants id level) why h = let e = h.3 in cc
-no_accepted_refusal old new (Count level) why h = let e = h.1 in cc
+no_accepted_refusal : (picks : Picks) (old : PlainState) (command : Command) (why : Refusal) → Answers picks old command (Refused why) → ⊥
+no_accepted_refusal picks old (SetLimits count size total) why h = cc
+no_accepted_refusal picks old (Add id fee size) why h = cc
+no_accepted_refusal picks old (Dep parent child) why h = cc
+no_accepted_refusal picks old (SetFee id fee) why h = cc
+no_accepted_refusal picks old (Remove id) why h = cc
+no_accepted_refusal picks old (Mine ids) why h = cc
+no_accepted_refusal picks old Evict why h = let e = h.2 in cc
+no_accepted_refusal picks old Stage why h = cc
+no_accepted_refusal picks old Commit why h = cc
+no_accepted_refusal picks old Abort why h = cc
+no_accepted_refusal picks old Settle why h = let e = h.2 in cc
+no_accepted_refusal picks old Compare why h = let e = h.2 in cc
+no_accepted_refusal picks old (Order level) why h = cc
+no_accepted_refusal picks old (Diagram level) why h = let e = h.2 in cc
+no_accepted_refusal picks old (Proof level) why h = let e = h.2 in cc
+no_accepted_refusal picks old (Cluster id level) why h = let e = h.2 in cc
+no_accepted_refusal picks old (Ancestors id level) why h = let e = h.2 in cc
+no_accepted_refusal picks old (Descendants id level) why h = let e = h.2 in cc
+no_accepted_refusal picks old (Chunk id) why h = let e = h.3 in cc
+no_accepted_refusal picks old (Before a b) why h = let e = h.2 in cc
+no_accepted_refusal picks old (Block size) why h = let e = h.2 in cc
+no_accepted_refusal picks old (Count level) why h = cc
 
-pub refused_keeps_state : (old new : State) (command : Command) (why : Refusal) → Step old command (Refused why) new → new ≡ old
-refused_keeps_state old new command why step = elim step [
+-- a refused step of a machine whose accepted commands aren't answered by refusals leaves the state
+keeps : {S : Type 0} (refuses : S → Command → Option Refusal → Type 0) (accepts : S → Command → Reply → S → Type 0) (old new : S) (command : Command) (why : Refusal)
+    → (accepts old command (Refused why) new → ⊥) → StepBy refuses accepts old command (Refused why) new → new ≡ old
+keeps refuses accepts old new command why none step = elim step [
   | inl refused ↦ refused.same
   | inr rest ↦ elim rest [
     | inl lacks ↦ lacks.same
-    | inr accepted ↦ absurd (no_accepted_refusal old new command why accepted.accepts)
+    | inr accepted ↦ absurd (none accepted.accepts)
   ]
 ]
 
--- no row of refusals has `memory`
-no_memory_in_row : (state : State) (command : Command) → (MayLackMemory command → ⊥) → RefusalIs state command (Some Memory) → ⊥
-no_memory_in_row state (SetLimits count size total) reads refused = elim refused [
-  | inl late ↦ let e = late.1 in cc
-  | inr rest ↦ elim rest.1 [ inl range ↦ let e = range.1 in cc | inr later ↦ let e = later.1 in cc ]
-]
-no_memory_in_row state (Add id fee size) reads refused = reads tt
-no_memory_in_row state (Dep parent child) reads refused = reads tt
-no_memory_in_row state (SetFee id fee) reads refused = reads tt
-no_memory_in_row state (Remove id) reads refused = reads tt
-no_memory_in_row state (Cluster id level) reads refused = elim refused [ inl first ↦ let e = first.1 in cc | inr later ↦ let e = later.1 in cc ]
-no_memory_in_row state (Ancestors id level) reads refused = elim refused [ inl first ↦ let e = first.1 in cc | inr later ↦ let e = later.1 in cc ]
-no_memory_in_row state (Descendants id level) reads refused = elim refused [ inl first ↦ let e = first.1 in cc | inr later ↦ let e = later.1 in cc ]
-no_memory_in_row state (Count level) reads refused = cc
+pub refused_keeps_state : (old new : State) (command : Command) (why : Refusal) → Step old command (Refused why) new → new ≡ old
+refused_keeps_state old new command why = keeps _ _ old new command why (λ accepts. no_accepted_refusal old.picks old.plain command why accepts.plain.answer)
+
+pub refused_keeps_plain : (picks : Picks) (old new : PlainState) (command : Command) (why : Refusal) → PlainStep picks old command (Refused why) new → new ≡ old
+refused_keeps_plain picks old new command why = keeps _ _ old new command why (λ accepts. no_accepted_refusal picks old command why accepts.answer)
 
 reason : (why : Refusal) → Refused why ≡ Refused Memory → why ≡ Memory
 reason why is = cc
 
-pub readings_lack_none : (old new : State) (command : Command) → (MayLackMemory command → ⊥) → Step old command (Refused Memory) new → ⊥
-readings_lack_none old new command reads step = elim step [
-  | inl refused ↦ no_memory_in_row old command reads (subst (λ (why : Refusal). RefusalIs old command (Some why)) (reason refused.why (sym refused.told)) refused.first)
+lacks_none : {S : Type 0} (refuses : S → Command → Option Refusal → Type 0) (accepts : S → Command → Reply → S → Type 0) (old new : S) (command : Command)
+    → (refuses old command (Some Memory) → ⊥) → (accepts old command (Refused Memory) new → ⊥) → (MayLackMemory command → ⊥) → StepBy refuses accepts old command (Refused Memory) new → ⊥
+lacks_none refuses accepts old new command row none reads step = elim step [
+  | inl refused ↦ row (subst (λ (why : Refusal). refuses old command (Some why)) (reason refused.why (sym refused.told)) refused.first)
   | inr rest ↦ elim rest [
     | inl lacks ↦ reads lacks.may
-    | inr accepted ↦ no_accepted_refusal old new command Memory accepted.accepts
+    | inr accepted ↦ none accepted.accepts
   ]
 ]
+
+pub readings_lack_none : (old new : State) (command : Command) → (MayLackMemory command → ⊥) → Step old command (Refused Memory) new → ⊥
+readings_lack_none old new command =
+    lacks_none _ _ old new command (no_memory_in_row old.plain command) (λ accepts. no_accepted_refusal old.picks old.plain command Memory accepts.plain.answer)

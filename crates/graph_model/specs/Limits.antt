@@ -2,12 +2,12 @@
 use Rattle.std.specs.Prelude.{ℕ, ◌≤◌}
 use Rattle.fee_rate.specs.declared.limits.TheConstants.{MAX_TOTAL}
 use Rattle.graph_model.specs.declared.names.Limits.{Limits}
-use Rattle.graph_model.specs.declared.limits.TheConstants.{MAX_COUNT, MAX_CLUSTER_SIZE, DEFAULT_LIMITS}
+use Rattle.graph_model.specs.declared.limits.TheConstants.{MAX_CLUSTER_SIZE, DEFAULT_LIMITS}
 
--- the limits that may be set: names of a cluster, total size of a cluster, live names
-pub record AreInRange (limits : Limits) : Type 0 where
+-- The limits that may be set where a cluster may be allowed so many names: names of a cluster, total size of a cluster, live names.
+pub record AreInRange (most : ℕ) (limits : Limits) : Type 0 where
   pub count_low : 1 ≤ limits.count
-  pub count_high : limits.count ≤ MAX_COUNT
+  pub count_high : limits.count ≤ most
   pub size_low : 1 ≤ limits.size
   pub size_high : limits.size ≤ MAX_CLUSTER_SIZE
   pub total_low : 1 ≤ limits.total

@@ -1,14 +1,14 @@
 -- Which refusal a command meets: the first of its row whose cause holds, and none where no cause does.
-use Rattle.std.specs.Prelude.{◌≡◌, ℕ, true, ◌<◌, ◌≤◌, List, length, sum_by, Contains, ◌⊎◌, Option, None, Some}
+use Rattle.std.specs.Prelude.{◌≡◌, ℕ, true, ◌<◌, ◌≤◌, List, [], ◌∷◌, ◌++◌, length, sum_by, Contains, ◌⊎◌, Option, None, Some}
 use Rattle.std.specs.FinMap as finmap
 use Rattle.graph_model.specs.declared.names.Refusal.{Refusal}
 use Rattle.graph_model.specs.declared.names.Refusal.TheVariants.{Late, Range, Fee, Size, Taken, ClusterSize, Full, Unknown, Cycle, Count, Staging, Twice, Parent, Empty, NoStaging, Memory}
 use Rattle.graphs.specs.declared.names.Level.{Level}
-use Rattle.graphs.specs.declared.names.Level.TheVariants.{Top}
+use Rattle.graphs.specs.declared.names.Level.TheVariants.{Main, Top}
 use Rattle.fee_rate.specs.Limits.{IsFee, IsSize}
 use Rattle.graph_model.specs.Limits.{AreInRange}
 use Rattle.graphs.specs.Graphs.{IsAncestor, AreConnected, Lists}
-use Rattle.graph_model.specs.States.{State, level_of, IsLive, size_of}
+use Rattle.graph_model.specs.States.{PlainState, level_of, IsStaged, IsLive, size_of}
 use Rattle.graph_model.specs.Commands.{Command}
 use Rattle.graph_model.specs.Commands as commands
 
@@ -42,9 +42,19 @@ FirstAt cause why later found = ((n : ℕ) × cause n × (found ≡ Some (why n)
 abbrev pub NoRefusal : Option Refusal → Type 0
 NoRefusal found = found ≡ None
 
+-- the row of an addition of this size, by its causes
+abbrev pub AddRow : (bad_fee bad_size taken large full : Type 0) → ℕ → Option Refusal → Type 0
+AddRow bad_fee bad_size taken large full size =
+    First bad_fee Fee (First bad_size Size (First taken Taken (First large (ClusterSize size) (First full Full NoRefusal))))
+
+-- the row of a pair, by its causes
+abbrev pub DepRow : (no_parent no_child cycle : Type 0) → (too_many too_large : ℕ → Type 0) → ℕ → ℕ → Option Refusal → Type 0
+DepRow no_parent no_child cycle too_many too_large parent child =
+    First no_parent (Unknown parent) (First no_child (Unknown child) (First cycle Cycle (FirstAt too_many Count (FirstAt too_large ClusterSize NoRefusal))))
+
 -- the name isn't in the level
-abbrev pub IsAbsent : State → Level → ℕ → Type 0
-IsAbsent state level id = Contains (level_of state level).graph.names id → ⊥
+abbrev pub IsAbsent : PlainState → Level → ℕ → Type 0
+IsAbsent state level id = Contains (level_of state level).names id → ⊥
 
 -- the members of the component that a pair would make of two
 abbrev pub JoinsTo : List (ℕ × ℕ) → ℕ → ℕ → List ℕ → Type 0
@@ -52,35 +62,61 @@ JoinsTo pairs parent child members =
     (AreConnected pairs parent child → ⊥) × Lists (λ id. AreConnected pairs id parent ⊎ AreConnected pairs id child) members
 
 -- a pair would make a component of n names, more than may be
-abbrev pub OverCount : State → ℕ → ℕ → ℕ → Type 0
+abbrev pub OverCount : PlainState → ℕ → ℕ → ℕ → Type 0
 OverCount state parent child n =
-    (members : List ℕ) × JoinsTo (level_of state Top).graph.pairs parent child members × (n ≡ length members) × (state.limits.count < n)
+    (members : List ℕ) × JoinsTo (level_of state Top).pairs parent child members × (n ≡ length members) × (state.limits.count < n)
 
 -- a pair would make a component of this total size, larger than may be
-abbrev pub OverSize : State → ℕ → ℕ → ℕ → Type 0
+abbrev pub OverSize : PlainState → ℕ → ℕ → ℕ → Type 0
 OverSize state parent child n =
-    (members : List ℕ) × JoinsTo (level_of state Top).graph.pairs parent child members × (n ≡ sum_by (size_of state.table) members) × (state.limits.size < n)
+    (members : List ℕ) × JoinsTo (level_of state Top).pairs parent child members × (n ≡ sum_by (size_of state.table) members) × (state.limits.size < n)
+
+-- The first entry of a list with a property, which may ask for what stands before the entry.
+pub record IsFirst (P : List ℕ → ℕ → Type 0) (ids : List ℕ) (id : ℕ) : Type 0 where
+  pub before : List ℕ
+  pub after : List ℕ
+  pub cut : ids ≡ before ++ id ∷ after
+  pub has : P before id
+  pub earlier : (front rest : List ℕ) (other : ℕ) → before ≡ front ++ other ∷ rest → P front other → ⊥
+
+-- the name stands earlier in the list too
+abbrev pub StandsTwice : List ℕ → ℕ → Type 0
+StandsTwice before id = Contains before id
+
+-- the name has an ancestor in main that isn't listed
+abbrev pub LacksAncestor : PlainState → List ℕ → ℕ → Type 0
+LacksAncestor state ids id = (a : ℕ) × IsAncestor state.main.pairs a id × (Contains ids a → ⊥)
 
 -- the refusal that a command meets in a state
-abbrev pub RefusalIs : State → Command → Option Refusal → Type 0
+abbrev pub RefusalIs : PlainState → Command → Option Refusal → Type 0
 RefusalIs state (commands.SetLimits count size total) =
     First (state.begun ≡ true) Late
-    (First (AreInRange (record { count = count; size = size; total = total }) → ⊥) Range NoRefusal)
+    (First (AreInRange state.most (record { count = count; size = size; total = total }) → ⊥) Range NoRefusal)
 RefusalIs state (commands.Add id fee size) =
-    First (IsFee fee → ⊥) Fee
-    (First (IsSize size → ⊥) Size
-    (First (IsLive state id) Taken
-    (First (state.limits.size < size) (ClusterSize size)
-    (First (state.limits.total ≤ finmap.len state.table) Full NoRefusal))))
+    AddRow (IsFee fee → ⊥) (IsSize size → ⊥) (IsLive state id) (state.limits.size < size) (state.limits.total ≤ finmap.len state.table) size
 RefusalIs state (commands.Dep parent child) =
-    First (IsAbsent state Top parent) (Unknown parent)
-    (First (IsAbsent state Top child) (Unknown child)
-    (First (IsAncestor (level_of state Top).graph.pairs child parent) Cycle
-    (FirstAt (OverCount state parent child) Count
-    (FirstAt (OverSize state parent child) ClusterSize NoRefusal))))
+    DepRow (IsAbsent state Top parent) (IsAbsent state Top child) (IsAncestor (level_of state Top).pairs child parent)
+    (OverCount state parent child) (OverSize state parent child) parent child
 RefusalIs state (commands.SetFee id fee) = First (IsFee fee → ⊥) Fee (First (IsLive state id → ⊥) (Unknown id) NoRefusal)
 RefusalIs state (commands.Remove id) = First (IsAbsent state Top id) (Unknown id) NoRefusal
+RefusalIs state (commands.Mine ids) =
+    First (IsStaged state) Staging
+    (FirstAt (IsFirst StandsTwice ids) Twice
+    (FirstAt (IsFirst (λ before id. IsAbsent state Main id) ids) Unknown
+    (FirstAt (IsFirst (λ before id. LacksAncestor state ids id) ids) Parent NoRefusal)))
+RefusalIs state commands.Evict = First (IsStaged state) Staging (First (state.main.names ≡ []) Empty NoRefusal)
+RefusalIs state commands.Stage = First (IsStaged state) Staging NoRefusal
+RefusalIs state commands.Commit = First (IsStaged state → ⊥) NoStaging NoRefusal
+RefusalIs state commands.Abort = First (IsStaged state → ⊥) NoStaging NoRefusal
+RefusalIs state commands.Settle = First (IsStaged state → ⊥) NoStaging NoRefusal
+RefusalIs state commands.Compare = First (IsStaged state → ⊥) NoStaging NoRefusal
 RefusalIs state (commands.Cluster id level) = First (IsAbsent state level id) (Unknown id) NoRefusal
 RefusalIs state (commands.Ancestors id level) = First (IsAbsent state level id) (Unknown id) NoRefusal
 RefusalIs state (commands.Descendants id level) = First (IsAbsent state level id) (Unknown id) NoRefusal
+RefusalIs state (commands.Chunk id) = First (IsAbsent state Main id) (Unknown id) NoRefusal
+RefusalIs state (commands.Before a b) = First (IsAbsent state Main a) (Unknown a) (First (IsAbsent state Main b) (Unknown b) NoRefusal)
+RefusalIs state (commands.Order level) = NoRefusal
+RefusalIs state (commands.Diagram level) = NoRefusal
+RefusalIs state (commands.Proof level) = NoRefusal
+RefusalIs state (commands.Block size) = NoRefusal
 RefusalIs state (commands.Count level) = NoRefusal

@@ -1,14 +1,34 @@
--- Replies, and the text of each: one line, ended by a line feed.
-use Rattle.std.specs.Prelude.{ℕ, List, [], ◌∷◌, ◌++◌, map, codes, decimal, Result, Ok, Err}
+-- Replies, and the text of each: lines, each ended by a line feed.
+use Rattle.std.specs.Prelude.{ℕ, ℤ, List, [], ◌∷◌, ◌++◌, map, flat_map, codes, decimal, Result, Ok, Err}
+use Rattle.std.specs.Fmt.{signed_decimal}
+use Rattle.fee_rate.specs.declared.rates.Sum.{Sum}
+use Rattle.graphs.specs.declared.names.Verdict.{Verdict}
+use Rattle.graphs.specs.declared.names.Verdict.TheVariants.{Better, Worse, Equal, Incomparable}
+use Rattle.graph_model.specs.declared.names.Place.{Place}
+use Rattle.graph_model.specs.declared.names.Place.TheVariants.{Before, Same, After}
 use Rattle.graph_model.specs.declared.names.Refusal.{Refusal}
 use Rattle.graph_model.specs.declared.names.Refusal.TheVariants.{Late, Range, Fee, Size, Taken, ClusterSize, Full, Unknown, Cycle, Count, Staging, Twice, Parent, Empty, NoStaging, Memory}
-use Rattle.graph_model.specs.Commands.{spaced}
+use Rattle.graphs.specs.Certificates.{Part}
+use Rattle.graph_model.specs.Words.{spaced, line_text}
+use Rattle.graph_model.specs.Texts.{Text, text_lines, chunk_line}
 
 pub data Reply : Type 0 where
   Refused : (why : Refusal) → Reply
   Done : Reply
   Ids : (ids : List ℕ) → Reply
   Number : (n : ℕ) → Reply
+  -- the parts of an order, the corners of a diagram, and the text that proves an order
+  Parts : (parts : List Part) → Reply
+  Points : (points : List (ℕ × ℤ)) → Reply
+  Proves : (text : Text) → Reply
+  -- one part, and where one name stands to another
+  OnePart : (part : Part) → Reply
+  Stands : (place : Place) → Reply
+  Compared : (verdict : Verdict) → Reply
+  Settled : (verdict : Verdict) → Reply
+  -- the part that was dropped, and the sum and the names of a block
+  Evicted : (part : Part) → Reply
+  Built : (sum : Sum) (ids : List ℕ) → Reply
 
 -- the words of a refusal, after `refused`
 abbrev pub refusal_words : Refusal → List (List ℕ)
@@ -29,21 +49,50 @@ refusal_words Empty = codes "empty" ∷ []
 refusal_words NoStaging = codes "nostaging" ∷ []
 refusal_words Memory = codes "memory" ∷ []
 
--- a line of text, with its line feed
-abbrev pub line_text : List ℕ → List ℕ
-line_text bytes = bytes ++ 10 ∷ []
-
 abbrev pub refusal_text : Refusal → List ℕ
 refusal_text why = line_text (spaced (codes "refused" ∷ refusal_words why))
 
-abbrev pub words_of_reply : Reply → List (List ℕ)
-words_of_reply (Refused why) = codes "refused" ∷ refusal_words why
-words_of_reply Done = codes "ok" ∷ []
-words_of_reply (Ids ids) = codes "ids" ∷ map decimal ids
-words_of_reply (Number n) = codes "count" ∷ decimal n ∷ []
+abbrev pub verdict_word : Verdict → List ℕ
+verdict_word Better = codes "better"
+verdict_word Worse = codes "worse"
+verdict_word Equal = codes "equal"
+verdict_word Incomparable = codes "incomparable"
+
+-- whether a settlement committed, and its verdict
+abbrev pub settled_words : Verdict → List (List ℕ)
+settled_words Better = codes "committed" ∷ codes "better" ∷ []
+settled_words verdict = codes "aborted" ∷ verdict_word verdict ∷ []
+
+abbrev pub place_word : Place → List ℕ
+place_word Before = codes "before"
+place_word Same = codes "same"
+place_word After = codes "after"
+
+-- the size of a corner first, then its fee
+abbrev pub point_line : ℕ × ℤ → List ℕ
+point_line point = spaced (codes "point" ∷ decimal point.0 ∷ signed_decimal point.1 ∷ [])
+
+-- a word, then fee and size of some names together, then the names
+abbrev pub sum_line : List ℕ → Sum → List ℕ → List ℕ
+sum_line word sum ids = spaced (word ∷ signed_decimal sum.fee ∷ decimal sum.size ∷ map decimal ids)
+
+abbrev pub lines_of : Reply → List (List ℕ)
+lines_of (Refused why) = spaced (codes "refused" ∷ refusal_words why) ∷ []
+lines_of Done = codes "ok" ∷ []
+lines_of (Ids ids) = spaced (codes "ids" ∷ map decimal ids) ∷ []
+lines_of (Number n) = spaced (codes "count" ∷ decimal n ∷ []) ∷ []
+lines_of (Parts parts) = map chunk_line parts ++ codes "end" ∷ []
+lines_of (Points points) = map point_line points ++ codes "end" ∷ []
+lines_of (Proves text) = text_lines text
+lines_of (OnePart part) = chunk_line part ∷ []
+lines_of (Stands place) = place_word place ∷ []
+lines_of (Compared verdict) = verdict_word verdict ∷ []
+lines_of (Settled verdict) = spaced (settled_words verdict) ∷ []
+lines_of (Evicted part) = sum_line (codes "evicted") part.rate part.ids ∷ []
+lines_of (Built sum ids) = sum_line (codes "block") sum ids ∷ []
 
 abbrev pub text_of : Reply → List ℕ
-text_of reply = line_text (spaced (words_of_reply reply))
+text_of reply = flat_map line_text (lines_of reply)
 
 -- the reply of a change, and of a reading of names
 abbrev pub change_reply : {T : Type 0} → Result T Refusal → Reply

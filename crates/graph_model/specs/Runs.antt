@@ -1,10 +1,27 @@
--- Runs over lines, from bytes to bytes.
+-- Runs over commands, and over lines, from bytes to bytes.
 use Rattle.std.specs.Prelude.{◌≡◌, ℕ, ◌<◌, ◌≤◌, List, [], ◌∷◌, flat_map, length, codes}
-use Rattle.graph_model.specs.States.{State, start}
+use Rattle.graph_model.specs.States.{PlainState, Picks, State, plain_start}
+use Rattle.graph_model.specs.Words.{line_text}
 use Rattle.graph_model.specs.Commands.{Command}
-use Rattle.graph_model.specs.Replies.{Reply, text_of, line_text}
-use Rattle.graph_model.specs.Steps.{Step}
+use Rattle.graph_model.specs.Replies.{Reply, text_of}
+use Rattle.graph_model.specs.Steps.{PlainStep, Step}
 use Rattle.graph_model.specs.Lines.{Quiet, Says, NoForm, Means, max_line}
+use Rattle.graph_model.specs.declared.limits.TheConstants.{MAX_COUNT}
+
+-- from old, these inputs may get these outputs, one each in their order, by steps that lead to new
+abbrev pub RunBy : {S I O : Type 0} → (S → I → O → S → Type 0) → S → List I → List O → S → Type 0
+RunBy step old [] [] new = new ≡ old
+RunBy {S} step old (i ∷ is) (o ∷ os) new = (next : S) × step old i o next × RunBy step next is os new
+RunBy step old [] (o ∷ os) new = ⊥
+RunBy step old (i ∷ is) [] new = ⊥
+
+-- commands, one after another
+abbrev pub CommandsRun : State → List Command → List Reply → State → Type 0
+CommandsRun = RunBy Step
+
+-- The steps of the commands that are built: they read no pick, so each is one of the plain state whatever the picks are.
+abbrev pub BuiltStep : PlainState → Command → Reply → PlainState → Type 0
+BuiltStep old command reply new = (picks : Picks) → PlainStep picks old command reply new
 
 -- what a line is answered
 pub data Answer : Type 0 where
@@ -14,14 +31,14 @@ pub data Answer : Type 0 where
   Replies : (reply : Reply) → Answer
 
 -- from old, a line may get this answer and lead to new
-abbrev pub LineStep : State → List ℕ → Answer → State → Type 0
+abbrev pub LineStep : PlainState → List ℕ → Answer → PlainState → Type 0
 LineStep old line Silence new = (length line ≤ max_line) × Means line Quiet × (new ≡ old)
 LineStep old line TooLong new = (max_line < length line) × (new ≡ old)
 LineStep old line Unread new = (length line ≤ max_line) × Means line NoForm × (new ≡ old)
 LineStep old line (Replies reply) new =
-    (length line ≤ max_line) × (command : Command) × Means line (Says command) × Step old command reply new
+    (length line ≤ max_line) × (command : Command) × Means line (Says command) × BuiltStep old command reply new
 
--- the text of an answer: nothing, or one line
+-- the text of an answer: nothing, or its lines
 abbrev pub answer_text : Answer → List ℕ
 answer_text Silence = []
 answer_text TooLong = line_text (codes "refused line")
@@ -29,12 +46,9 @@ answer_text Unread = line_text (codes "refused syntax")
 answer_text (Replies reply) = text_of reply
 
 -- from old, the lines may get these answers, one a line in their order, and lead to new
-abbrev pub Run : State → List (List ℕ) → List Answer → State → Type 0
-Run old [] [] new = new ≡ old
-Run old (line ∷ lines) (answer ∷ answers) new = (next : State) × LineStep old line answer next × Run next lines answers new
-Run old [] (answer ∷ answers) new = ⊥
-Run old (line ∷ lines) [] new = ⊥
+abbrev pub Run : PlainState → List (List ℕ) → List Answer → PlainState → Type 0
+Run = RunBy LineStep
 
 -- the text may be the output of a run over these lines, from the start
 abbrev pub MayWrite : List (List ℕ) → List ℕ → Type 0
-MayWrite lines text = (answers : List Answer) × (end : State) × Run start lines answers end × (text ≡ flat_map answer_text answers)
+MayWrite lines text = (answers : List Answer) × (end : PlainState) × Run (plain_start MAX_COUNT) lines answers end × (text ≡ flat_map answer_text answers)

@@ -1,12 +1,15 @@
--- The state of a transaction graph.
-use Rattle.std.specs.Prelude.{ℕ, ℤ, Bool, false, [], Option, None, Some, IsSome}
+-- The state of a transaction graph: the plain state, which is limits, a table and graphs, and beside it the picks, the orders that the
+-- levels have. After Core's `txgraph.h`, the levels are the main graph and, where one is open, a staging copy of it.
+use Rattle.std.specs.Prelude.{ℕ, ℤ, pos, Bool, false, List, [], Option, None, Some, IsSome}
 use Rattle.std.specs.Ordering.{nat_cmp}
 use Rattle.std.specs.FinMap as finmap
+use Rattle.fee_rate.specs.declared.rates.Sum.{Sum}
 use Rattle.graph_model.specs.declared.names.Limits.{Limits}
 use Rattle.graphs.specs.declared.names.Level.{Level}
 use Rattle.graphs.specs.declared.names.Level.TheVariants.{Main, Top}
 use Rattle.graph_model.specs.Limits.{default_limits}
 use Rattle.graphs.specs.Graphs.{Graph}
+use Rattle.graphs.specs.Certificates.{Part}
 
 -- what the table has of a name
 pub record Entry : Type 0 where
@@ -17,41 +20,59 @@ pub record Entry : Type 0 where
 abbrev pub Table : Type 0
 Table = finmap.FinMap nat_cmp Entry
 
--- a level: the main graph, or the staging copy of it
-pub record LevelState : Type 0 where
-  pub graph : Graph
-
-pub record State : Type 0 where
+pub record PlainState : Type 0 where
   pub limits : Limits
+  -- the most names that the limit of a cluster may allow
+  pub most : ℕ
   -- whether a changing command was accepted
   pub begun : Bool
   pub table : Table
-  pub main : LevelState
-  pub staging : Option LevelState
+  pub main : Graph
+  pub staging : Option Graph
+
+-- the pick of each level, the parts of its order with their flows
+pub record Picks : Type 0 where
+  pub main : List Part
+  pub staging : Option (List Part)
+
+pub record State : Type 0 where
+  pub plain : PlainState
+  pub picks : Picks
 
 -- no name and no pair
-abbrev pub empty_level : LevelState
-empty_level = record { graph = record { names = []; pairs = [] } }
+abbrev pub empty_graph : Graph
+empty_graph = record { names = []; pairs = [] }
 
--- the state at the start
-abbrev pub start : State
-start = record { limits = default_limits; begun = false; table = finmap.empty; main = empty_level; staging = None }
+-- the state at the start, where a cluster may be allowed so many names
+abbrev pub plain_start : ℕ → PlainState
+plain_start most = record { limits = default_limits; most = most; begun = false; table = finmap.empty; main = empty_graph; staging = None }
 
--- the staging level where there is one, else main
-abbrev pub top_of : LevelState → Option LevelState → LevelState
+abbrev pub start : ℕ → State
+start most = record { plain = plain_start most; picks = record { main = []; staging = None } }
+
+-- what staging has where there is one, else what main has
+abbrev pub top_of : {A : Type 0} → A → Option A → A
 top_of main None = main
 top_of main (Some staging) = staging
 
-abbrev pub level_of : State → Level → LevelState
+-- of a level: its graph, and its pick
+abbrev pub level_of : PlainState → Level → Graph
 level_of state Main = state.main
 level_of state Top = top_of state.main state.staging
 
+abbrev pub pick_of : Picks → Level → List Part
+pick_of picks Main = picks.main
+pick_of picks Top = top_of picks.main picks.staging
+
 -- the state with another top level
-abbrev pub with_top : State → LevelState → State
-with_top state top = elim state.staging as (λ _. State) [ None ↦ record state { main = top } | Some _ ↦ record state { staging = Some top } ]
+abbrev pub with_top : PlainState → Graph → PlainState
+with_top state top = elim state.staging as (λ _. PlainState) [ None ↦ record state { main = top } | Some _ ↦ record state { staging = Some top } ]
+
+abbrev pub IsStaged : PlainState → Type 0
+IsStaged state = IsSome state.staging
 
 -- the name is in main or in staging
-abbrev pub IsLive : State → ℕ → Type 0
+abbrev pub IsLive : PlainState → ℕ → Type 0
 IsLive state id = IsSome (finmap.get state.table id)
 
 -- the size that the table has of a name, 0 of one that isn't live
@@ -61,3 +82,11 @@ size_in (Some entry) = entry.size
 
 abbrev pub size_of : Table → ℕ → ℕ
 size_of table id = size_in (finmap.get table id)
+
+-- fee and size that the table has of a name, both 0 of one that isn't live
+abbrev pub sum_in : Option Entry → Sum
+sum_in None = record { fee = pos 0; size = 0 }
+sum_in (Some entry) = record { fee = entry.fee; size = entry.size }
+
+abbrev pub rate_of : Table → ℕ → Sum
+rate_of table id = sum_in (finmap.get table id)

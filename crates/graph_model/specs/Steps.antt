@@ -1,60 +1,90 @@
 -- One command: which reply it may get in a state, and which state may follow.
-use Rattle.std.specs.Prelude.{◌≡◌, ℕ, List, length, ◌⊎◌, None, Some}
+use Rattle.std.specs.Prelude.{◌≡◌, ℕ, Option, None, Some, ◌⊎◌, Contains}
+use Rattle.graphs.specs.declared.names.Verdict.TheVariants.{Better}
 use Rattle.graph_model.specs.declared.names.Refusal.{Refusal}
 use Rattle.graph_model.specs.declared.names.Refusal.TheVariants.{Memory}
-use Rattle.graphs.specs.Graphs.{IsAncestor, AreConnected, Lists}
-use Rattle.graph_model.specs.States.{State, level_of}
-use Rattle.graph_model.specs.Commands.{Command, SetLimits, Add, Dep, SetFee, Remove, Cluster, Ancestors, Descendants, Count}
+use Rattle.graphs.specs.Graphs.{Graph}
+use Rattle.graph_model.specs.States.{PlainState, Picks, State, Table, rate_of}
+use Rattle.graph_model.specs.Commands.{Command, Add, Dep, SetFee, Remove, Mine, Evict, Block, Stage, Commit, Settle}
 use Rattle.graph_model.specs.Refusals.{RefusalIs}
-use Rattle.graph_model.specs.Changes.{limited, added, AddsPair, with_fee, Removes}
-use Rattle.graph_model.specs.Replies.{Reply, Refused, Done, Ids, Number}
+use Rattle.graph_model.specs.Changes.{Changes}
+use Rattle.graph_model.specs.Answers.{Answers}
+use Rattle.graph_model.specs.Verdicts.{VerdictIs}
+use Rattle.graph_model.specs.Replies.{Reply, Refused}
+use Rattle.graph_model.specs.Validity.{ArePicks}
 
 -- the commands that may be refused for want of memory
 abbrev pub MayLackMemory : Command → Type 0
-MayLackMemory (SetLimits count size total) = ⊥
 MayLackMemory (Add id fee size) = Unit {0}
 MayLackMemory (Dep parent child) = Unit {0}
 MayLackMemory (SetFee id fee) = Unit {0}
 MayLackMemory (Remove id) = Unit {0}
-MayLackMemory (Cluster id level) = ⊥
-MayLackMemory (Ancestors id level) = ⊥
-MayLackMemory (Descendants id level) = ⊥
-MayLackMemory (Count level) = ⊥
-
--- the reply to an accepted command, and the state after it
-abbrev pub Accepts : State → Command → Reply → State → Type 0
-Accepts old (SetLimits count size total) reply new =
-    (reply ≡ Done) × (new ≡ limited old (record { count = count; size = size; total = total }))
-Accepts old (Add id fee size) reply new = (reply ≡ Done) × (new ≡ added old id fee size)
-Accepts old (Dep parent child) reply new = (reply ≡ Done) × AddsPair old parent child new
-Accepts old (SetFee id fee) reply new = (reply ≡ Done) × (new ≡ with_fee old id fee)
-Accepts old (Remove id) reply new = (reply ≡ Done) × Removes old id new
-Accepts old (Cluster id level) reply new =
-    (new ≡ old) × (ids : List ℕ) × Lists (AreConnected (level_of old level).graph.pairs id) ids × (reply ≡ Ids ids)
-Accepts old (Ancestors id level) reply new =
-    (new ≡ old) × (ids : List ℕ) × Lists (λ a. IsAncestor (level_of old level).graph.pairs a id) ids × (reply ≡ Ids ids)
-Accepts old (Descendants id level) reply new =
-    (new ≡ old) × (ids : List ℕ) × Lists (λ d. IsAncestor (level_of old level).graph.pairs id d) ids × (reply ≡ Ids ids)
-Accepts old (Count level) reply new = (new ≡ old) × (reply ≡ Number (length (level_of old level).graph.names))
+MayLackMemory (Mine ids) = Unit {0}
+MayLackMemory Evict = Unit {0}
+MayLackMemory (Block size) = Unit {0}
+MayLackMemory command = ⊥
 
 -- a refused command changes nothing
-pub record IsRefused (old : State) (command : Command) (reply : Reply) (new : State) : Type 0 where
+pub record IsRefused {S : Type 0} (refuses : S → Command → Option Refusal → Type 0) (old : S) (command : Command) (reply : Reply) (new : S) : Type 0 where
   pub why : Refusal
-  pub first : RefusalIs old command (Some why)
+  pub first : refuses old command (Some why)
   pub told : reply ≡ Refused why
   pub same : new ≡ old
 
 -- nor does one that finds no memory, which comes after every other refusal
-pub record LacksMemory (old : State) (command : Command) (reply : Reply) (new : State) : Type 0 where
-  pub none : RefusalIs old command None
+pub record LacksMemory {S : Type 0} (refuses : S → Command → Option Refusal → Type 0) (old : S) (command : Command) (reply : Reply) (new : S) : Type 0 where
+  pub none : refuses old command None
   pub may : MayLackMemory command
   pub told : reply ≡ Refused Memory
   pub same : new ≡ old
 
-pub record IsAccepted (old : State) (command : Command) (reply : Reply) (new : State) : Type 0 where
-  pub none : RefusalIs old command None
+pub record IsAccepted {S : Type 0} (refuses : S → Command → Option Refusal → Type 0) (Accepts : S → Command → Reply → S → Type 0)
+    (old : S) (command : Command) (reply : Reply) (new : S) : Type 0 where
+  pub none : refuses old command None
   pub accepts : Accepts old command reply new
+
+-- A step of a machine, by the refusals of its commands and by what may follow an accepted one.
+abbrev pub StepBy : {S : Type 0} → (S → Command → Option Refusal → Type 0) → (S → Command → Reply → S → Type 0) → S → Command → Reply → S → Type 0
+StepBy refuses Accepts old command reply new =
+    IsRefused refuses old command reply new ⊎ (LacksMemory refuses old command reply new ⊎ IsAccepted refuses Accepts old command reply new)
+
+-- the plain part of an accepted command, where the levels have these picks: what it is answered, and what it changes
+pub record AcceptsPlainly (picks : Picks) (old : PlainState) (command : Command) (reply : Reply) (new : PlainState) : Type 0 where
+  pub answer : Answers picks old command reply
+  pub change : Changes picks old command new
+
+-- the plain part of a step
+abbrev pub PlainStep : Picks → PlainState → Command → Reply → PlainState → Type 0
+PlainStep picks = StepBy RefusalIs (AcceptsPlainly picks)
+
+-- these names have the same fees and sizes in both tables
+abbrev pub HaveSameRates : Table → Table → Graph → Type 0
+HaveSameRates old new graph = (id : ℕ) → Contains graph.names id → rate_of new id ≡ rate_of old id
+
+-- A level whose graph is as it was, and the fees and sizes of its names too, keeps its pick; any other has any pick there is.
+pub record KeepsPicks (old new : State) : Type 0 where
+  pub picks : ArePicks new.plain new.picks
+  pub main : new.plain.main ≡ old.plain.main → HaveSameRates old.plain.table new.plain.table new.plain.main → new.picks.main ≡ old.picks.main
+  pub staging : (graph : Graph) → old.plain.staging ≡ Some graph → new.plain.staging ≡ Some graph → HaveSameRates old.plain.table new.plain.table graph
+      → new.picks.staging ≡ old.picks.staging
+
+-- main has the pick that staging had
+abbrev pub CommitsPick : Picks → Picks → Type 0
+CommitsPick old new = (old.staging ≡ Some new.main) × (new.staging ≡ None)
+
+-- which picks follow an accepted command
+abbrev pub PicksFollow : State → Command → State → Type 0
+PicksFollow old Stage new = new.picks ≡ record { main = old.picks.main; staging = Some old.picks.main }
+PicksFollow old Commit new = CommitsPick old.picks new.picks
+PicksFollow old Settle new =
+    (VerdictIs old.plain Better × CommitsPick old.picks new.picks) ⊎ ((VerdictIs old.plain Better → ⊥) × KeepsPicks old new)
+PicksFollow old command new = KeepsPicks old new
+
+-- an accepted command: its plain part, and which picks follow
+pub record Accepts (old : State) (command : Command) (reply : Reply) (new : State) : Type 0 where
+  pub plain : AcceptsPlainly old.picks old.plain command reply new.plain
+  pub picks : PicksFollow old command new
 
 -- from old, the command may get this reply and lead to new
 abbrev pub Step : State → Command → Reply → State → Type 0
-Step old command reply new = IsRefused old command reply new ⊎ (LacksMemory old command reply new ⊎ IsAccepted old command reply new)
+Step = StepBy (λ state. RefusalIs state.plain) Accepts

@@ -1,10 +1,9 @@
 -- Certificate texts, and what is said of one.
-use Rattle.std.specs.Prelude.{◌≡◌, ◌≢◌, ℕ, ◌^◌, ◌<◌, ◌≤◌, not, unsigned_abs, FitsSigned, List, [], ◌∷◌, ◌++◌, map, filter, flat_map, length, codes, decimal, All}
+use Rattle.std.specs.Prelude.{◌≡◌, ◌≢◌, ℕ, ℤ, ◌^◌, ◌<◌, ◌≤◌, not, unsigned_abs, FitsSigned, List, [], ◌∷◌, ◌++◌, map, filter, flat_map, length, codes, decimal, All}
 use Rattle.std.specs.Fmt.{signed_decimal}
 use Rattle.std.specs.Int.{w64}
 use Rattle.graphs.specs.declared.names.Flow.{Flow}
-use Rattle.graph_model.specs.Commands.{spaced}
-use Rattle.graph_model.specs.Replies.{line_text}
+use Rattle.graph_model.specs.Words.{spaced, line_text}
 use Rattle.graph_model.specs.Lines.{max_line, without_return, is_quiet}
 use Rattle.graphs.specs.Certificates.{Part, Txs, Finding, Certified, NoGraph, NoOrder, NoFalling, NoFlow, Finds}
 
@@ -13,6 +12,12 @@ pub record Text : Type 0 where
   pub txs : Txs
   pub edges : List (ℕ × ℕ)
   pub parts : List Part
+
+abbrev pub tx_line : ℕ → ℤ → ℕ → List ℕ
+tx_line id fee size = spaced (codes "tx" ∷ decimal id ∷ signed_decimal fee ∷ decimal size ∷ [])
+
+abbrev pub edge_line : ℕ → ℕ → List ℕ
+edge_line parent child = spaced (codes "edge" ∷ decimal parent ∷ decimal child ∷ [])
 
 abbrev pub flow_line : Flow → List ℕ
 flow_line flow = spaced (codes "flow" ∷ decimal flow.child ∷ decimal flow.parent ∷ decimal flow.amount ∷ [])
@@ -27,9 +32,7 @@ part_lines part = chunk_line part ∷ map flow_line part.flows
 -- the lines of a text: transactions, edges, parts, and `end`
 abbrev pub text_lines : Text → List (List ℕ)
 text_lines text =
-    map (λ tx. spaced (codes "tx" ∷ decimal tx.0 ∷ signed_decimal tx.1 ∷ decimal tx.2 ∷ [])) text.txs
-    ++ map (λ edge. spaced (codes "edge" ∷ decimal edge.0 ∷ decimal edge.1 ∷ [])) text.edges
-    ++ flat_map part_lines text.parts ++ codes "end" ∷ []
+    map (λ tx. tx_line tx.0 tx.1 tx.2) text.txs ++ map (λ edge. edge_line edge.0 edge.1) text.edges ++ flat_map part_lines text.parts ++ codes "end" ∷ []
 
 -- a part has names, and its fee and its amounts are at most 10^30 either way
 pub record HasPartTypes (part : Part) : Type 0 where

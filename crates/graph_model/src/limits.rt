@@ -1,5 +1,6 @@
 ghost use Rattle.std.specs.Prelude.{◌↔◌, IsTrue};
 ghost use Rattle.graph_model.specs.Limits.{AreInRange};
+ghost use Rattle.graph_model.specs.declared.limits.TheConstants.{MAX_COUNT};
 
 use crate::Limits;
 use fee_rate::MAX_TOTAL;
@@ -26,7 +27,7 @@ pub const MAX_INPUT: usize = 268_435_456;
 impl Limits {
     /// Whether they may be set: each is in its range.
     pub fn are_in_range(&self) -> bool
-        ensures { IsTrue result ↔ AreInRange self.now }
+        ensures { IsTrue result ↔ AreInRange MAX_COUNT self.now }
     {
         (1..=MAX_COUNT).contains(&self.count)
             && (1..=MAX_CLUSTER_SIZE).contains(&self.size)

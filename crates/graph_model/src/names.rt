@@ -13,6 +13,17 @@ pub struct Limits {
     pub total: u64,
 }
 
+/// Where one name stands to another in an order.
+#[derive(Clone, Copy, Debug, PartialEq, Eq)]
+pub enum Place {
+    /// In front of it.
+    Before,
+    /// They are one name.
+    Same,
+    /// Behind it.
+    After,
+}
+
 /// Why a command was refused. A refused command changes nothing.
 #[derive(Clone, Copy, Debug, PartialEq, Eq)]
 pub enum Refusal {

@@ -1,5 +1,6 @@
 -- The flows of a balanced set certify it.
-use Rattle.std.proofs.Common.{◌≡◌, ℕ, ◌+◌, ◌<◌, ◌≤◌, inl, inr, Bool, true, false, cond, nat_eq, List, [], ◌∷◌, ◌++◌, map, sum_by, ℤ, pos, refl, sym, ap, ◌∙◌, subst, arith}
+use Rattle.std.proofs.Common.{◌≡◌, ℕ, ◌+◌, ◌<◌, ◌≤◌, inl, inr, Bool, true, false, cond, nat_eq, List, [], ◌∷◌, ◌++◌}
+use Rattle.std.proofs.Common.{map, sum_by, ℤ, pos, refl, sym, ap, ◌∙◌, subst, arith}
 use Rattle.std.specs.Prelude.{Contains}
 use Rattle.std.proofs.lemmas.Int.{ints}
 use Rattle.std.proofs.lemmas.Bool.{cases_lt, cases_Bool}
@@ -40,28 +41,36 @@ cond_zero false = refl
 
 given_one : (flow : ℕ → ℕ → ℕ) (c p id : ℕ) → given (flows_from flow c (p ∷ [])) id ≡ cond (nat_eq c id) (flow c p) 0
 given_one flow c p id = elim (cases_lt 0 (flow c p)) as (λ _. given (flows_from flow c (p ∷ [])) id ≡ cond (nat_eq c id) (flow c p) 0) [
-  | inl some ↦ ap (λ fs. given fs id) (from_one flow c p some) ∙ (let one = sum_by-cons (λ (f : Flow). cond (nat_eq f.child id) f.amount 0) (record { child = c; parent = p; amount = flow c p }) [] in omega (arith, one))
-  | inr none ↦ ap (λ fs. given fs id) (from_none flow c p none) ∙ (let zero_ : flow c p ≡ 0 = omega (arith, none) in sym (ap (λ (k : ℕ). cond (nat_eq c id) k 0) zero_ ∙ cond_zero (nat_eq c id)))
+  | inl some ↦ ap (λ fs. given fs id) (from_one flow c p some)
+      ∙ (let one = sum_by-cons (λ (f : Flow). cond (nat_eq f.child id) f.amount 0) (record { child = c; parent = p; amount = flow c p }) [] in
+      omega (arith, one))
+  | inr none ↦ ap (λ fs. given fs id) (from_none flow c p none)
+      ∙ (let zero_ : flow c p ≡ 0 = omega (arith, none) in sym (ap (λ (k : ℕ). cond (nat_eq c id) k 0) zero_ ∙ cond_zero (nat_eq c id)))
 ]
 
 gotten_one : (flow : ℕ → ℕ → ℕ) (c p id : ℕ) → gotten (flows_from flow c (p ∷ [])) id ≡ cond (nat_eq p id) (flow c p) 0
 gotten_one flow c p id = elim (cases_lt 0 (flow c p)) as (λ _. gotten (flows_from flow c (p ∷ [])) id ≡ cond (nat_eq p id) (flow c p) 0) [
-  | inl some ↦ ap (λ fs. gotten fs id) (from_one flow c p some) ∙ (let one = sum_by-cons (λ (f : Flow). cond (nat_eq f.parent id) f.amount 0) (record { child = c; parent = p; amount = flow c p }) [] in omega (arith, one))
-  | inr none ↦ ap (λ fs. gotten fs id) (from_none flow c p none) ∙ (let zero_ : flow c p ≡ 0 = omega (arith, none) in sym (ap (λ (k : ℕ). cond (nat_eq p id) k 0) zero_ ∙ cond_zero (nat_eq p id)))
+  | inl some ↦ ap (λ fs. gotten fs id) (from_one flow c p some)
+      ∙ (let one = sum_by-cons (λ (f : Flow). cond (nat_eq f.parent id) f.amount 0) (record { child = c; parent = p; amount = flow c p }) [] in
+      omega (arith, one))
+  | inr none ↦ ap (λ fs. gotten fs id) (from_none flow c p none)
+      ∙ (let zero_ : flow c p ≡ 0 = omega (arith, none) in sym (ap (λ (k : ℕ). cond (nat_eq p id) k 0) zero_ ∙ cond_zero (nat_eq p id)))
 ]
 
 given_from : (flow : ℕ → ℕ → ℕ) (c id : ℕ) (ps : List ℕ) → given (flows_from flow c ps) id ≡ cond (nat_eq c id) (sum_by (flow c) ps) 0
 given_from flow c id [] = ap (λ fs. given fs id) (from_nil flow c) ∙ sym (cond_zero (nat_eq c id))
 given_from flow c id (p ∷ ps) =
     ap (λ fs. given fs id) (from_append flow c (p ∷ []) ps) ∙ given_joined (flows_from flow c (p ∷ [])) (flows_from flow c ps) id
-    ∙ ap (λ (k : ℕ). k + given (flows_from flow c ps) id) (given_one flow c p id) ∙ ap (λ (k : ℕ). cond (nat_eq c id) (flow c p) 0 + k) (given_from flow c id ps)
+    ∙ ap (λ (k : ℕ). k + given (flows_from flow c ps) id) (given_one flow c p id)
+    ∙ ap (λ (k : ℕ). cond (nat_eq c id) (flow c p) 0 + k) (given_from flow c id ps)
     ∙ cond_add (nat_eq c id) (flow c p) (sum_by (flow c) ps) ∙ ap (λ (k : ℕ). cond (nat_eq c id) k 0) (sym (sum_by-cons (flow c) p ps))
 
 gotten_from : (flow : ℕ → ℕ → ℕ) (c id : ℕ) (ps : List ℕ) → gotten (flows_from flow c ps) id ≡ sum_by (pick id (flow c)) ps
 gotten_from flow c id [] = ap (λ fs. gotten fs id) (from_nil flow c)
 gotten_from flow c id (p ∷ ps) =
     ap (λ fs. gotten fs id) (from_append flow c (p ∷ []) ps) ∙ gotten_joined (flows_from flow c (p ∷ [])) (flows_from flow c ps) id
-    ∙ ap (λ (k : ℕ). k + gotten (flows_from flow c ps) id) (gotten_one flow c p id) ∙ ap (λ (k : ℕ). cond (nat_eq p id) (flow c p) 0 + k) (gotten_from flow c id ps)
+    ∙ ap (λ (k : ℕ). k + gotten (flows_from flow c ps) id) (gotten_one flow c p id)
+    ∙ ap (λ (k : ℕ). cond (nat_eq p id) (flow c p) 0 + k) (gotten_from flow c id ps)
     ∙ sym (sum_by-cons (λ q. cond (nat_eq q id) (flow c q) 0) p ps)
 
 module _ (n : ℕ) (parents : List (fin.FinSet nat_cmp)) (s : fin.FinSet nat_cmp) (flow : ℕ → ℕ → ℕ) where
@@ -101,17 +110,20 @@ module _ (n : ℕ) (parents : List (fin.FinSet nat_cmp)) (s : fin.FinSet nat_cmp
     sent_within c =
         let one = total-filter_cond (λ p. pos (flow c p)) (fin.contains (fin.intersection (parents_at parents c) s)) (range_with_len 0 n) in
         let two = total-filter_cond (λ p. pos (flow c p)) (fin.contains s) (range_with_len 0 n) in
-        let each = total_same (λ p. cond (fin.contains (fin.intersection (parents_at parents c) s) p) (pos (flow c p)) (pos 0)) (λ p. cond (fin.contains s p) (pos (flow c p)) (pos 0)) (range_with_len 0 n)
-        (λ p. term (fin.contains (fin.intersection (parents_at parents c) s) p) (fin.contains s p) (pos (flow c p)) (λ m. (from_meet (parents_at parents c) s p m).1) (λ m out. ap pos (zero_else c p m out))) in
+        let each = total_same (λ p. cond (fin.contains (fin.intersection (parents_at parents c) s) p) (pos (flow c p)) (pos 0))
+        (λ p. cond (fin.contains s p) (pos (flow c p)) (pos 0)) (range_with_len 0 n)
+        (λ p. term (fin.contains (fin.intersection (parents_at parents c) s) p) (fin.contains s p) (pos (flow c p))
+        (λ m. (from_meet (parents_at parents c) s p m).1) (λ m out. ap pos (zero_else c p m out))) in
         omega (arith, ints, one, two, each, total-pos (flow c) (parents_within n parents s c), total-pos (flow c) (places n s))
 
     got_from : (c id : ℕ) → fin.contains s id ≡ true → sum_by (pick id (flow c)) (parents_within n parents s c) ≡ flow c id
-    got_from c id m = elim (cases_Bool (fin.contains (fin.intersection (parents_at parents c) s) id)) as (λ _. sum_by (pick id (flow c)) (parents_within n parents s c) ≡ flow c id) [
-      | inl here ↦ pick_in id (flow c) (parents_within n parents s c) (distinct_places n _) (Contains-places n _ id (within id m) here)
-      | inr out ↦
-          pick_out id (flow c) (parents_within n parents s c) (λ h. (let g : true ≡ false = sym (places-Contains n _ id h).1 ∙ out in cc))
-          ∙ sym (zero_else c id m out)
-    ]
+    got_from c id m = elim (cases_Bool (fin.contains (fin.intersection (parents_at parents c) s) id)) as
+        (λ _. sum_by (pick id (flow c)) (parents_within n parents s c) ≡ flow c id) [
+          | inl here ↦ pick_in id (flow c) (parents_within n parents s c) (distinct_places n _) (Contains-places n _ id (within id m) here)
+          | inr out ↦
+              pick_out id (flow c) (parents_within n parents s c) (λ h. (let g : true ≡ false = sym (places-Contains n _ id h).1 ∙ out in cc))
+              ∙ sym (zero_else c id m out)
+        ]
 
     same_sums : (f g : ℕ → ℕ) (xs : List ℕ) → ((x : ℕ) → f x ≡ g x) → sum_by f xs ≡ sum_by g xs
     same_sums f g [] e = refl
@@ -124,7 +136,8 @@ module _ (n : ℕ) (parents : List (fin.FinSet nat_cmp)) (s : fin.FinSet nat_cmp
         ∙ sent_within id
 
     pub gotten_is : (id : ℕ) → fin.contains s id ≡ true → gotten (flows_of n parents s flow (places n s)) id ≡ sum_by (λ c. flow c id) (places n s)
-    gotten_is id m = gotten_of id (places n s) ∙ same_sums (λ c. sum_by (pick id (flow c)) (parents_within n parents s c)) (λ c. flow c id) (places n s) (λ c. got_from c id m)
+    gotten_is id m = gotten_of id (places n s)
+        ∙ same_sums (λ c. sum_by (pick id (flow c)) (parents_within n parents s c)) (λ c. flow c id) (places n s) (λ c. got_from c id m)
 
   -- ---- what is in the list
   pub record Sent (cs : List ℕ) (f : Flow) : Type 0 where
@@ -138,7 +151,11 @@ module _ (n : ℕ) (parents : List (fin.FinSet nat_cmp)) (s : fin.FinSet nat_cmp
       elim (Contains-append_cases (flows_from flow c (p ∷ [])) (flows_from flow c ps) f (subst (λ fs. Contains fs f) (from_append flow c (p ∷ []) ps) h)) [
         | inl here ↦ elim (cases_lt 0 (flow c p)) as (λ _. (f.child ≡ c) × Contains (p ∷ ps) f.parent × (1 ≤ f.amount)) [
           | inl some ↦ elim (Contains-cases _ f [] (subst (λ fs. Contains fs f) (from_one flow c p some) here)) [
-            | inl same ↦ (ap (λ (x : Flow). x.child) (sym same), subst (λ (x : Flow). Contains (p ∷ ps) x.parent) same (Contains-head p ps), subst (λ (x : Flow). 1 ≤ x.amount) same (omega (arith, some)))
+            | inl same ↦ (
+              ap (λ (x : Flow). x.child) (sym same),
+              subst (λ (x : Flow). Contains (p ∷ ps) x.parent) same (Contains-head p ps),
+              subst (λ (x : Flow). 1 ≤ x.amount) same (omega (arith, some)),
+            )
             | inr none ↦ absurd (none_in_empty f none)
           ]
           | inr none ↦ absurd (none_in_empty f (subst (λ fs. Contains fs f) (from_none flow c p none) here))
@@ -149,7 +166,8 @@ module _ (n : ℕ) (parents : List (fin.FinSet nat_cmp)) (s : fin.FinSet nat_cmp
   pub in_of : (cs : List ℕ) (f : Flow) → Contains (flows_of n parents s flow cs) f → Sent cs f
   in_of [] f h = absurd (none_in_empty f (subst (λ fs. Contains fs f) (of_nil n parents s flow) h))
   in_of (c ∷ cs) f h =
-      elim (Contains-append_cases (flows_from flow c (parents_within n parents s c)) (flows_of n parents s flow cs) f (subst (λ fs. Contains fs f) (of_cons c cs) h)) [
+      elim (Contains-append_cases (flows_from flow c (parents_within n parents s c)) (flows_of n parents s flow cs) f
+      (subst (λ fs. Contains fs f) (of_cons c cs) h)) [
         | inl here ↦
             let found = in_from c (parents_within n parents s c) f here in
             record {
@@ -169,20 +187,24 @@ module _ (n : ℕ) (parents : List (fin.FinSet nat_cmp)) (s : fin.FinSet nat_cmp
       let rest = ends_from c ps d.1 in
       elim (cases_lt 0 (flow c p)) as (λ _. AreDistinct {A = ℕ × ℕ} (map (λ f. (f.child, f.parent)) (flows_from flow c (p ∷ ps)))) [
         | inl some ↦
-            subst (λ fs. AreDistinct {A = ℕ × ℕ} (map (λ f. (f.child, f.parent)) fs)) (sym (from_append flow c (p ∷ []) ps ∙ ap (λ fs. fs ++ flows_from flow c ps) (from_one flow c p some))) (
+            subst (λ fs. AreDistinct {A = ℕ × ℕ} (map (λ f. (f.child, f.parent)) fs))
+            (sym (from_append flow c (p ∷ []) ps ∙ ap (λ fs. fs ++ flows_from flow c ps) (from_one flow c p some))) (
               λ h. (let found = map-Contains (λ f. (f.child, f.parent)) (flows_from flow c ps) (c, p) h in
                   let at = in_from c ps found.0 found.1 in
                   d.0 (subst (λ (k : ℕ). Contains ps k) (ap (λ (e : ℕ × ℕ). e.1) found.2) at.1)),
               rest,
             )
         | inr none ↦
-            subst (λ fs. AreDistinct {A = ℕ × ℕ} (map (λ f. (f.child, f.parent)) fs)) (sym (from_append flow c (p ∷ []) ps ∙ ap (λ fs. fs ++ flows_from flow c ps) (from_none flow c p none))) rest
+            subst (λ fs. AreDistinct {A = ℕ × ℕ} (map (λ f. (f.child, f.parent)) fs))
+            (sym (from_append flow c (p ∷ []) ps ∙ ap (λ fs. fs ++ flows_from flow c ps) (from_none flow c p none))) rest
       ]
 
   pub ends_of : (cs : List ℕ) → AreDistinct cs → AreDistinct {A = ℕ × ℕ} (map (λ f. (f.child, f.parent)) (flows_of n parents s flow cs))
   ends_of [] d = subst (λ fs. AreDistinct {A = ℕ × ℕ} (map (λ f. (f.child, f.parent)) fs)) (sym (of_nil n parents s flow)) tt
   ends_of (c ∷ cs) d =
-      subst (λ es. AreDistinct {A = ℕ × ℕ} es) (sym (ap (map (λ (f : Flow). (f.child, f.parent))) (of_cons c cs) ∙ map-append (λ (f : Flow). (f.child, f.parent)) (flows_from flow c (parents_within n parents s c)) (flows_of n parents s flow cs)))
+      subst (λ es. AreDistinct {A = ℕ × ℕ} es)
+      (sym (ap (map (λ (f : Flow). (f.child, f.parent))) (of_cons c cs)
+      ∙ map-append (λ (f : Flow). (f.child, f.parent)) (flows_from flow c (parents_within n parents s c)) (flows_of n parents s flow cs)))
       (distinct_joined _ _ (ends_from c (parents_within n parents s c) (distinct_places n _)) (ends_of cs d.1) (λ e one two.
       (let a = map-Contains (λ f. (f.child, f.parent)) (flows_from flow c (parents_within n parents s c)) e one in
       let b = map-Contains (λ f. (f.child, f.parent)) (flows_of n parents s flow cs) e two in

@@ -1,16 +1,15 @@
 -- Where each covering parent stands before its children, each ancestor stands before its descendants.
-use Rattle.std.proofs.Common.{◌≡◌, ◌≢◌, ℕ, zero, suc, ◌+◌, ◌<◌, ◌≤◌, ◌⊎◌, inl, inr, true, false, not, nat_eq, List, [], ◌∷◌, ◌++◌, sym, ap, ◌∙◌, subst, arith, eq-eqb}
+use Rattle.std.proofs.Common.{◌≡◌, ◌≢◌, ℕ, zero, suc, ◌+◌, ◌<◌, ◌≤◌, ◌⊎◌, inl, inr, true, List}
+use Rattle.std.proofs.Common.{[], ◌∷◌, sym, ◌∙◌, subst, arith}
 use Rattle.std.specs.Prelude.{Contains}
 use Rattle.std.proofs.lemmas.Bool.{cases_eq, cases_Bool}
-use Rattle.std.proofs.lemmas.List.Elements.{Contains-append_right}
 use Rattle.std.specs.FinSet as fin
 use Rattle.graphs.proofs.Members.{contains-members_of}
 use Rattle.graphs.proofs.AlikeLemmas.{stands_trans}
 use Rattle.bitset.specs.Members.{to_remove, from_remove}
-use Rattle.lists.proofs.Cases.{clash, differs}
-use Rattle.lists.proofs.Distinct.{stays_before}
+use Rattle.lists.proofs.Cases.{clash}
 use Rattle.graphs.specs.Closures.{Closure, is_member, is_ancestor, ancestors_of, members_of, IsCover, IsClosed}
-use Rattle.lists.proofs.Entries.{Contains-head, Contains-later, Contains-cases, none_in_empty}
+use Rattle.lists.proofs.Entries.{Contains-cases, none_in_empty}
 use Rattle.lists.specs.Distinct.{AreDistinct}
 use Rattle.bitset.specs.Places.{places, IsWithin}
 use Rattle.bitset.specs.Sets.{Contains-places}
@@ -28,7 +27,8 @@ module _ (n : ℕ) (dep : Closure) (closed : IsClosed n dep) where
       let own : is_ancestor dep d d ≡ true = closed.order.reflexive d (closed.order.among a d e).1 in
       let inside : fin.len (ancestors_of dep a) ≤ fin.len (fin.remove (ancestors_of dep d) d) =
       len_within n _ _ (λ k m. above_within d k (from_remove (ancestors_of dep d) d k m).1)
-      (λ k m. to_remove (ancestors_of dep d) d k (λ same. ne (closed.order.antisymmetric a d e (subst (λ (j : ℕ). is_ancestor dep j a ≡ true) same m))) (closed.order.transitive k a d m e)) in
+      (λ k m. to_remove (ancestors_of dep d) d k
+      (λ same. ne (closed.order.antisymmetric a d e (subst (λ (j : ℕ). is_ancestor dep j a ≡ true) same m))) (closed.order.transitive k a d m e)) in
       omega (arith, inside, len_remove n (ancestors_of dep d) d (above_within d) own)
 
   -- a third place between two
@@ -61,7 +61,8 @@ module _ (n : ℕ) (dep : Closure) (closed : IsClosed n dep) where
   ]
 
   -- a covering parent that a proper ancestor is, or stands above
-  last_step : (fuel a d : ℕ) → is_ancestor dep a d ≡ true → a ≢ d → fin.len (ancestors_of dep d) ≤ fin.len (ancestors_of dep a) + fuel → (p : ℕ) × (is_ancestor dep a p ≡ true) × IsCover dep p d
+  last_step : (fuel a d : ℕ) → is_ancestor dep a d ≡ true → a ≢ d → fin.len (ancestors_of dep d) ≤ fin.len (ancestors_of dep a) + fuel
+      → (p : ℕ) × (is_ancestor dep a p ≡ true) × IsCover dep p d
   last_step zero a d e ne short = absurd (omega (arith, fewer_above a d e ne, short))
   last_step (suc fuel) a d e ne short = elim (some_between a d (places n (members_of dep))) [
     | inl third ↦

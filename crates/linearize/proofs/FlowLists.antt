@@ -1,5 +1,7 @@
 -- The flows of a part as a list: how it is written, and what each place sends and gets by it.
-use Rattle.std.proofs.Common.{◌≡◌, ℕ, ◌+◌, ◌*◌, ◌<◌, ◌≤◌, Bool, cond, nat_lt, List, [], ◌∷◌, ◌++◌, length, map, filter, refl, sym, ap, ◌∙◌, arith, append_assoc, append-nil, length-append, lt-ltb, le-ltb}
+use Rattle.std.proofs.Common.{◌≡◌, ℕ, ◌+◌, ◌*◌, ◌<◌, ◌≤◌, Bool, cond, nat_lt, List, [], ◌∷◌, ◌++◌, length, map}
+use Rattle.std.proofs.Common.{filter, refl, sym, ap, ◌∙◌, arith, append_assoc, append-nil, length-append, lt-ltb}
+use Rattle.std.proofs.Common.{le-ltb}
 use Rattle.std.proofs.lemmas.List.{map-append}
 use Rattle.std.proofs.lemmas.List.Elements.{filter-append}
 use Rattle.std.proofs.lemmas.List.Concat.{flat_map-append}
@@ -26,11 +28,13 @@ pub from_none : (flow : ℕ → ℕ → ℕ) (c p : ℕ) → flow c p ≤ 0 → 
 unfolding flows_from
 from_none flow c p none = ap (λ (b : Bool). map (λ q. record { child = c; parent = q; amount = flow c q }) (cond b (p ∷ []) [])) (le-ltb 0 (flow c p) none)
 
-pub of_append : (n : ℕ) (parents : List (fin.FinSet nat_cmp)) (s : fin.FinSet nat_cmp) (flow : ℕ → ℕ → ℕ) (xs ys : List ℕ) → flows_of n parents s flow (xs ++ ys) ≡ flows_of n parents s flow xs ++ flows_of n parents s flow ys
+pub of_append : (n : ℕ) (parents : List (fin.FinSet nat_cmp)) (s : fin.FinSet nat_cmp) (flow : ℕ → ℕ → ℕ) (xs ys : List ℕ)
+    → flows_of n parents s flow (xs ++ ys) ≡ flows_of n parents s flow xs ++ flows_of n parents s flow ys
 unfolding flows_of
 of_append n parents s flow xs ys = flat_map-append (λ c. flows_from flow c (parents_within n parents s c)) xs ys
 
-pub of_one : (n : ℕ) (parents : List (fin.FinSet nat_cmp)) (s : fin.FinSet nat_cmp) (flow : ℕ → ℕ → ℕ) (c : ℕ) → flows_of n parents s flow (c ∷ []) ≡ flows_from flow c (parents_within n parents s c)
+pub of_one : (n : ℕ) (parents : List (fin.FinSet nat_cmp)) (s : fin.FinSet nat_cmp) (flow : ℕ → ℕ → ℕ) (c : ℕ)
+    → flows_of n parents s flow (c ∷ []) ≡ flows_from flow c (parents_within n parents s c)
 unfolding flows_of
 of_one n parents s flow c = append-nil (flows_from flow c (parents_within n parents s c))
 
@@ -64,18 +68,22 @@ pub record Sending (n : ℕ) (s : fin.FinSet nat_cmp) (list : List ℕ → List 
 abbrev pub Joins : (List ℕ → List Flow) → Type 0
 Joins list = (xs ys : List ℕ) → list (xs ++ ys) ≡ list xs ++ list ys
 
-pub sending_start : (n : ℕ) (s : fin.FinSet nat_cmp) (list : List ℕ → List Flow) (old : Written) (zs : List ℕ) → list [] ≡ [] → zs ≡ places n s → Sending n s list old old [] zs
+pub sending_start : (n : ℕ) (s : fin.FinSet nat_cmp) (list : List ℕ → List Flow) (old : Written) (zs : List ℕ) → list [] ≡ [] → zs ≡ places n s
+    → Sending n s list old old [] zs
 sending_start n s list old zs none e = record { goes = e; is = with_none old ∙ ap (with_flows old) (sym none) }
 
-pub sending_more : (n : ℕ) (s : fin.FinSet nat_cmp) (list : List ℕ → List Flow) (old now next : Written) (ys ws zs : List ℕ) (p : ℕ) (more : List Flow) → Joins list → Sending n s list old now ys ws → ws ≡ p ∷ zs
+pub sending_more : (n : ℕ) (s : fin.FinSet nat_cmp) (list : List ℕ → List Flow) (old now next : Written) (ys ws zs : List ℕ) (p : ℕ)
+    (more : List Flow) → Joins list → Sending n s list old now ys ws → ws ≡ p ∷ zs
     → list (p ∷ []) ≡ more → next ≡ with_flows now more → Sending n s list old next (ys ++ p ∷ []) zs
 sending_more n s list old now next ys ws zs p more joins h e one is = record {
   goes = goes_on n s ys ws zs p h.goes e;
-  is = is ∙ ap (λ w. with_flows w more) h.is ∙ with_more old (list ys) more ∙ ap (λ fs. with_flows old (list ys ++ fs)) (sym one) ∙ ap (with_flows old) (sym (joins ys (p ∷ [])));
+  is = is ∙ ap (λ w. with_flows w more) h.is ∙ with_more old (list ys) more ∙ ap (λ fs. with_flows old (list ys ++ fs)) (sym one)
+      ∙ ap (with_flows old) (sym (joins ys (p ∷ [])));
 }
 
 -- what is to be written for the next place fits where the whole list does
-pub sending_room : (n : ℕ) (s : fin.FinSet nat_cmp) (list : List ℕ → List Flow) (old now : Written) (ys ws zs : List ℕ) (p most : ℕ) → Joins list → Sending n s list old now ys ws → ws ≡ p ∷ zs
+pub sending_room : (n : ℕ) (s : fin.FinSet nat_cmp) (list : List ℕ → List Flow) (old now : Written) (ys ws zs : List ℕ) (p most : ℕ) → Joins list
+    → Sending n s list old now ys ws → ws ≡ p ∷ zs
     → 4 * (length (all_flows old) + length (list (places n s))) ≤ most → 4 * (length (all_flows now) + length (list (p ∷ []))) ≤ most
 sending_room n s list old now ys ws zs p most joins h e room =
     let split : list (places n s) ≡ list ys ++ (list (p ∷ []) ++ list zs) =
@@ -86,11 +94,14 @@ sending_room n s list old now ys ws zs p most joins h e room =
     let so_far : length (all_flows now) ≡ length (all_flows old) + length (list ys) = ap (λ w. length (all_flows w)) h.is ∙ length_with old (list ys) in
     omega arith
 
-pub sending_all : (n : ℕ) (s : fin.FinSet nat_cmp) (list : List ℕ → List Flow) (old now : Written) (ys ws : List ℕ) → Sending n s list old now ys ws → ws ≡ [] → now ≡ with_flows old (list (places n s))
+pub sending_all : (n : ℕ) (s : fin.FinSet nat_cmp) (list : List ℕ → List Flow) (old now : Written) (ys ws : List ℕ) → Sending n s list old now ys ws
+    → ws ≡ [] → now ≡ with_flows old (list (places n s))
 sending_all n s list old now ys ws h e = h.is ∙ ap (λ xs. with_flows old (list xs)) (gone n s ys ws h.goes e)
 
-pub from_start : (n : ℕ) (s : fin.FinSet nat_cmp) (flow : ℕ → ℕ → ℕ) (c : ℕ) (old : Written) (zs : List ℕ) → zs ≡ places n s → Sending n s (flows_from flow c) old old [] zs
+pub from_start : (n : ℕ) (s : fin.FinSet nat_cmp) (flow : ℕ → ℕ → ℕ) (c : ℕ) (old : Written) (zs : List ℕ) → zs ≡ places n s
+    → Sending n s (flows_from flow c) old old [] zs
 from_start n s flow c old zs e = sending_start n s (flows_from flow c) old zs (from_nil flow c) e
 
-pub of_start : (n : ℕ) (s : fin.FinSet nat_cmp) (parents : List (fin.FinSet nat_cmp)) (flow : ℕ → ℕ → ℕ) (old : Written) (zs : List ℕ) → zs ≡ places n s → Sending n s (flows_of n parents s flow) old old [] zs
+pub of_start : (n : ℕ) (s : fin.FinSet nat_cmp) (parents : List (fin.FinSet nat_cmp)) (flow : ℕ → ℕ → ℕ) (old : Written) (zs : List ℕ)
+    → zs ≡ places n s → Sending n s (flows_of n parents s flow) old old [] zs
 of_start n s parents flow old zs e = sending_start n s (flows_of n parents s flow) old zs (of_nil n parents s flow) e

@@ -1,5 +1,7 @@
--- A set is split by a closed set of greatest weight: what the two are linearized to, one behind the other, linearizes the set.
-use Rattle.std.proofs.Common.{◌≡◌, ◌≢◌, ℕ, zero, suc, ◌+◌, ◌*◌, ◌^◌, ◌<◌, ◌≤◌, inl, inr, true, List, [], ◌∷◌, ◌++◌, length, map, sum_by, ℤ, pos, ◌+ℤ◌, ◌*ℤ◌, ◌≤ℤ◌, ◌<ℤ◌, unsigned_abs, refl, sym, ap, ◌∙◌, subst, arith, append_assoc, length-append}
+-- A set is cut on a closed set of greatest weight: what the two are linearized to, one behind the other, linearizes the set.
+use Rattle.std.proofs.Common.{◌≡◌, ◌≢◌, ℕ, ◌+◌, ◌*◌, ◌≤◌, inl, inr, true, List, [], ◌∷◌, ◌++◌}
+use Rattle.std.proofs.Common.{length, map, pos, ◌≤ℤ◌, refl, sym, ap, ◌∙◌}
+use Rattle.std.proofs.Common.{subst, arith, append_assoc, length-append}
 use Rattle.std.specs.Prelude.{Contains}
 use Rattle.std.proofs.lemmas.Int.{ints}
 use Rattle.std.proofs.lemmas.List.Sums.{sum_by-cons}
@@ -13,91 +15,21 @@ use Rattle.fee_rate.proofs.Orders.{at_most_chains}
 use Rattle.bitset.specs.Members.{minus_parts, in_minus, from_union, to_union_left, to_union_right, len_bound}
 use Rattle.lists.proofs.Cases.{clash}
 use Rattle.graphs.proofs.BestLemmas.{stands-append_right, stands-append_left, stands_across}
-use Rattle.graphs.proofs.FlowLemmas.{weight_of_sums}
 use Rattle.graphs.specs.Closures.{Closure, IsCover, IsClosed, HoldsMembers, rate_of}
 use Rattle.lists.proofs.Entries.{Contains-head, Contains-later, Contains-cases, none_in_empty}
 use Rattle.lists.proofs.Distinct.{distinct_joined}
-use Rattle.arithmetic.specs.Sums.{total}
-use Rattle.arithmetic.proofs.Sums.{total-sub, total-scale, total_along}
-use Rattle.arithmetic.proofs.Products.{mul-add_right}
-use Rattle.arithmetic.proofs.Rates.{cross_trans}
 use Rattle.bitset.specs.Places.{places, IsWithin}
-use Rattle.bitset.specs.Sets.{places-Contains, places-empty, len-places}
-use Rattle.closure_flow.specs.Closures as closure
-use Rattle.closure_flow.specs.Closures.{weight_at, weight_of, IsNoneHeavier, parents_at}
+use Rattle.bitset.specs.Sets.{places-Contains, len-places}
 use Rattle.fee_rate.specs.declared.rates.Sum.{Sum}
 use Rattle.fee_rate.specs.Rates.{AtMost}
 use Rattle.graphs.specs.Rates.{sums, Falls}
-use Rattle.graphs.specs.Linearizations.{StandsBefore}
 use Rattle.graphs.specs.Certificates.{Part, weight_in, Certifies}
 use Rattle.linearize.specs.Drafts.{Written, placed, flows_in}
 use Rattle.linearize.specs.Graphs.{sum_at, HasRates}
-use Rattle.linearize.specs.Orders.{AreCovers, Balances, IsOrderOf, sums_in}
-use Rattle.linearize.specs.Splits.{Linearizes, Adds, HasRoom, IsBest, IsUpper, IsLower}
-use Rattle.linearize.proofs.Sets.{IsSplit, split_minus, split_union, total_split, len_split}
-
--- ---- weights
-
--- the weight of a set in a whole
-abbrev value : ℕ → Closure → Sum → fin.FinSet nat_cmp → ℤ
-value n dep whole x = weight_in whole (sums_in n dep x)
-
-value_split : (n : ℕ) (dep : Closure) (whole : Sum) (s a b : fin.FinSet nat_cmp) → IsSplit s a b → value n dep whole s ≡ value n dep whole a +ℤ value n dep whole b
-value_split n dep whole s a b split =
-    sym (weight_of_sums whole (sum_at dep) (places n s))
-    ∙ total_split (λ t. weight_in whole (sum_at dep t)) n s a b split
-    ∙ (λ i. weight_of_sums whole (sum_at dep) (places n a) i +ℤ weight_of_sums whole (sum_at dep) (places n b) i)
-
-value_empty : (n : ℕ) (dep : Closure) (whole : Sum) (s : fin.FinSet nat_cmp) → fin.len s ≡ 0 → value n dep whole s ≡ pos 0
-value_empty n dep whole s none =
-    sym (weight_of_sums whole (sum_at dep) (places n s))
-    ∙ ap (λ t. total (λ p. weight_in whole (sum_at dep p)) (places n t)) (fin.empty_of_len s none)
-    ∙ ap (total (λ p. weight_in whole (sum_at dep p))) (places-empty n)
-
-pub best_of : (n : ℕ) (dep : Closure) (parents : List (fin.FinSet nat_cmp)) (weights : List ℤ) (s c : fin.FinSet nat_cmp) → HoldsMembers dep s → AreCovers dep parents
-    → ((t : ℕ) → fin.contains s t ≡ true → weight_at weights t ≡ weight_in (sums_in n dep s) (sum_at dep t))
-    → closure.IsClosed parents s c → pos 0 <ℤ weight_of n weights c → IsNoneHeavier n weights parents s (weight_of n weights c) → IsBest n dep s c
-best_of n dep parents weights s c members covers are closed positive greatest =
-    let is : (x : fin.FinSet nat_cmp) → ((t : ℕ) → fin.contains x t ≡ true → fin.contains s t ≡ true) → weight_of n weights x ≡ value n dep (sums_in n dep s) x = λ x inside.
-    total_along (weight_at weights) (λ t. weight_in (sums_in n dep s) (sum_at dep t)) (places n x) (λ t h. are t (inside t (places-Contains n x t h).1))
-    ∙ weight_of_sums (sums_in n dep s) (sum_at dep) (places n x) in
-    record {
-      upper = record {
-        inside = closed.inside;
-        parents = λ p d cover m p_in. closed.upward d p m ((covers.exact p d (members d (closed.inside d m))).1 cover) p_in;
-      };
-      positive = subst (λ (z : ℤ). pos 0 <ℤ z) (is c closed.inside) positive;
-      greatest = λ x upper.
-          subst (λ (z : ℤ). z ≤ℤ value n dep (sums_in n dep s) c) (is x upper.inside)
-          (subst (λ (z : ℤ). weight_of n weights x ≤ℤ z) (is c closed.inside) (greatest x (record {
-            inside = upper.inside;
-            upward = λ t p m e p_in. upper.parents p t ((covers.exact p t (members t (upper.inside t m))).0 e) m p_in;
-          })));
-    }
-
--- a balanced flow of these weights balances the set
-pub balances_of : (n : ℕ) (dep : Closure) (parents : List (fin.FinSet nat_cmp)) (weights : List ℤ) (s : fin.FinSet nat_cmp) (flow : ℕ → ℕ → ℕ)
-    → ((t : ℕ) → fin.contains s t ≡ true → weight_at weights t ≡ weight_in (sums_in n dep s) (sum_at dep t))
-    → closure.IsBalanced n weights parents s flow → Balances n dep parents s flow
-balances_of n dep parents weights s flow are balanced = record { even = λ t m. sym (are t m) ∙ balanced.even t m; pair = balanced.pair }
-
--- ---- what the solver asks for
-pub weights_even : (n : ℕ) (dep : Closure) (weights : List ℤ) (s : fin.FinSet nat_cmp)
-    → ((t : ℕ) → fin.contains s t ≡ true → weight_at weights t ≡ weight_in (sums_in n dep s) (sum_at dep t)) → weight_of n weights s ≡ pos 0
-weights_even n dep weights s are =
-    total_along (weight_at weights) (λ t. weight_in (sums_in n dep s) (sum_at dep t)) (places n s) (λ t h. are t (places-Contains n s t h).1)
-    ∙ weight_of_sums (sums_in n dep s) (sum_at dep) (places n s) ∙ omega (arith, ints)
-
-small_sum : (f : ℕ → ℕ) (xs : List ℕ) → ((x : ℕ) → Contains xs x → f x < 2 ^ 99) → sum_by f xs ≤ length xs * 2 ^ 99
-small_sum f [] h = omega arith
-small_sum f (x ∷ xs) h = let a = h x (Contains-head x xs) in omega (arith, sum_by-cons f x xs, small_sum f xs (λ y k. h y (Contains-later x y xs k)), a)
-
-pub weights_small : (n : ℕ) (weights : List ℤ) (s : fin.FinSet nat_cmp) → IsWithin n s → fin.len s ≤ 4096 → ((t : ℕ) → fin.contains s t ≡ true → unsigned_abs (weight_at weights t) < 2 ^ 99)
-    → sum_by (λ t. unsigned_abs (weight_at weights t)) (places n s) < 2 ^ 126
-weights_small n weights s within few small =
-    let a = small_sum (λ t. unsigned_abs (weight_at weights t)) (places n s) (λ t h. small t (places-Contains n s t h).1) in
-    let long = len-places n s within in
-    omega (arith, a, long, few)
+use Rattle.linearize.specs.Orders.{IsOrderOf, sums_in}
+use Rattle.linearize.specs.Splits.{Linearizes, Adds, HasRoom, IsCut, IsUncutPart, IsUpper, IsLower}
+use Rattle.linearize.proofs.Cuts.{value_split}
+use Rattle.linearize.proofs.Sets.{IsSplit, split_minus, split_union, len_split}
 
 at_most_whole : (whole own : Sum) → weight_in whole own ≤ℤ pos 0 → AtMost own whole
 at_most_whole whole own h = record { crossed = omega (arith, ints, h) }
@@ -106,7 +38,8 @@ at_least_whole : (whole own : Sum) → pos 0 ≤ℤ weight_in whole own → AtMo
 at_least_whole whole own h = record { crossed = omega (arith, ints, h) }
 
 -- ---- lists of parts
-falls_joined : (xs ys : List Part) → Falls (map (λ part. part.rate) xs) → Falls (map (λ part. part.rate) ys) → ((x y : Part) → Contains xs x → Contains ys y → AtMost y.rate x.rate) → Falls (map (λ part. part.rate) (xs ++ ys))
+falls_joined : (xs ys : List Part) → Falls (map (λ part. part.rate) xs) → Falls (map (λ part. part.rate) ys)
+    → ((x y : Part) → Contains xs x → Contains ys y → AtMost y.rate x.rate) → Falls (map (λ part. part.rate) (xs ++ ys))
 falls_joined [] ys f g low = g
 falls_joined (x ∷ []) [] f g low = tt
 falls_joined (x ∷ []) (y ∷ ys) f g low = (low x y (Contains-head x []) (Contains-head y ys), g)
@@ -119,13 +52,12 @@ splits_at (a ∷ xs) x h = elim (Contains-cases a x xs h) [
   | inr later ↦ let found = splits_at xs x later in (a ∷ found.0, found.1, ap (λ zs. a ∷ zs) found.2)
 ]
 
-either_part : (P : Part → Type 0) (xs ys : List Part) → ((q : Part) → Contains xs q → P q) → ((q : Part) → Contains ys q → P q) → (q : Part) → Contains (xs ++ ys) q → P q
+either_part : (P : Part → Type 0) (xs ys : List Part) → ((q : Part) → Contains xs q → P q) → ((q : Part) → Contains ys q → P q) → (q : Part)
+    → Contains (xs ++ ys) q → P q
 either_part P xs ys f g q h = elim (Contains-append_cases xs ys q h) [ inl left ↦ f q left | inr right ↦ g q right ]
 
-module _ (n : ℕ) (dep : Closure) (s c : fin.FinSet nat_cmp) (closed : IsClosed n dep) (members : HoldsMembers dep s) (rates : HasRates dep) (best : IsBest n dep s c) where
-  whole : Sum
-  whole = sums_in n dep s
-
+module _ (n : ℕ) (dep : Closure) (s c : fin.FinSet nat_cmp) (closed : IsClosed n dep) (members : HoldsMembers dep s) (rates : HasRates dep)
+    (best : IsCut n dep s c) where
   rest : fin.FinSet nat_cmp
   rest = fin.difference s c
 
@@ -135,26 +67,6 @@ module _ (n : ℕ) (dep : Closure) (s c : fin.FinSet nat_cmp) (closed : IsClosed
   halves : IsSplit s c rest
   unfolding rest
   halves = split_minus s c best.upper.inside
-
-  pub c_some : 0 < fin.len c
-  unfolding whole
-  c_some = positive_len (fin.len c) refl
-    where
-      positive_len : (k : ℕ) → fin.len c ≡ k → 0 < k
-      positive_len zero e = absurd (let v = value_empty n dep (sums_in n dep s) c e in let p = best.positive in omega (arith, ints, v, p))
-      positive_len (suc k) e = omega arith
-
-  pub rest_some : 0 < fin.len (fin.difference s c)
-  unfolding whole rest halves
-  rest_some = positive_len (fin.len (fin.difference s c)) refl
-    where
-      positive_len : (k : ℕ) → fin.len (fin.difference s c) ≡ k → 0 < k
-      positive_len zero e = absurd (
-          let v = value_empty n dep (sums_in n dep s) (fin.difference s c) e in
-          let all = value_split n dep (sums_in n dep s) s c (fin.difference s c) (split_minus s c best.upper.inside) in
-          let p = best.positive in
-          omega (arith, ints, v, all, p))
-      positive_len (suc k) e = omega arith
 
   -- each upper set of the rest has at most the rate of the whole
   rest_low : (x : fin.FinSet nat_cmp) → IsUpper dep (fin.difference s c) x → AtMost (sums_in n dep x) (sums_in n dep s)
@@ -191,7 +103,7 @@ module _ (n : ℕ) (dep : Closure) (s c : fin.FinSet nat_cmp) (closed : IsClosed
   whole_some = some_size (places n s) (λ p h. (rates p (members p (places-Contains n s p h).1)).some) (len-places n s within)
     where
       some_size : (xs : List ℕ) → ((p : ℕ) → Contains xs p → 1 ≤ (rate_of dep p).size) → fin.len s ≡ length xs → 1 ≤ (sums (sum_at dep) xs).size
-      some_size [] h long = absurd (omega (arith, long, c_some, len_split n s c (fin.difference s c) within (split_minus s c best.upper.inside)))
+      some_size [] h long = absurd (omega (arith, long, best.some, len_split n s c (fin.difference s c) within (split_minus s c best.upper.inside)))
       some_size (x ∷ xs) h long = omega (arith, h x (Contains-head x xs), sum_by-cons (λ p. (sum_at dep p).size) x xs)
 
   module _ (first second : List Part) (one : Linearizes n dep c first) (two : Linearizes n dep (fin.difference s c) second) where
@@ -203,7 +115,8 @@ module _ (n : ℕ) (dep : Closure) (s c : fin.FinSet nat_cmp) (closed : IsClosed
 
     order : IsOrderOf dep s (placed first ++ placed second)
     order = record {
-      once = distinct_joined (placed first) (placed second) one.order.once two.order.once (λ p a b. (minus_parts s c p ((two.order.exact p).0 b)).1 ((one.order.exact p).0 a));
+      once = distinct_joined (placed first) (placed second) one.order.once two.order.once
+          (λ p a b. (minus_parts s c p ((two.order.exact p).0 b)).1 ((one.order.exact p).0 a));
       exact = λ p. (
         λ h. elim (Contains-append_cases (placed first) (placed second) p h) [
           | inl a ↦ best.upper.inside p ((one.order.exact p).0 a)
@@ -211,16 +124,19 @@ module _ (n : ℕ) (dep : Closure) (s c : fin.FinSet nat_cmp) (closed : IsClosed
         ],
         λ m. elim (cases_Bool (fin.contains c p)) [
           | inl here ↦ Contains-append_left (placed first) (placed second) p ((one.order.exact p).1 here)
-          | inr out ↦ Contains-append_right (placed first) (placed second) p ((two.order.exact p).1 (in_minus s c p m (λ here. clash (fin.contains c p) here out)))
+          | inr out ↦ Contains-append_right (placed first) (placed second) p
+              ((two.order.exact p).1 (in_minus s c p m (λ here. clash (fin.contains c p) here out)))
         ],
       );
       parents_first = λ p d cover p_in d_in. elim (cases_Bool (fin.contains c d)) [
-        | inl d_here ↦ stands-append_right (placed first) (placed second) p d (one.order.parents_first p d cover (best.upper.parents p d cover d_here p_in) d_here)
+        | inl d_here ↦ stands-append_right (placed first) (placed second) p d
+            (one.order.parents_first p d cover (best.upper.parents p d cover d_here p_in) d_here)
         | inr d_out ↦
             let d_rest : fin.contains (fin.difference s c) d ≡ true = in_minus s c d d_in (λ here. clash (fin.contains c d) here d_out) in
             elim (cases_Bool (fin.contains c p)) [
               | inl p_here ↦ stands_across (placed first) (placed second) p d ((one.order.exact p).1 p_here) ((two.order.exact d).1 d_rest)
-              | inr p_out ↦ stands-append_left (placed first) (placed second) p d (two.order.parents_first p d cover (in_minus s c p p_in (λ here. clash (fin.contains c p) here p_out)) d_rest)
+              | inr p_out ↦ stands-append_left (placed first) (placed second) p d
+                  (two.order.parents_first p d cover (in_minus s c p p_in (λ here. clash (fin.contains c p) here p_out)) d_rest)
             ]
       ];
     }
@@ -234,20 +150,26 @@ module _ (n : ℕ) (dep : Closure) (s c : fin.FinSet nat_cmp) (closed : IsClosed
       filled = either_part (λ q. q.ids ≢ []) first second one.filled two.filled;
       falling = record {
         summed = either_part (λ q. q.rate ≡ sums (sum_at dep) q.ids) first second one.falling.summed two.falling.summed;
-        falling = falls_joined first second one.falling.falling two.falling.falling (λ a b h k. at_most_chains b.rate (sums_in n dep s) a.rate whole_some (low b k) (high a h));
+        falling = falls_joined first second one.falling.falling two.falling.falling
+            (λ a b h k. at_most_chains b.rate (sums_in n dep s) a.rate whole_some (low b k) (high a h));
       };
       flows = either_part (λ q. Certifies (sum_at dep) (IsCover dep) q.ids q.flows) first second one.flows two.flows;
+      uncut = either_part (IsUncutPart n dep) first second one.uncut two.uncut;
       at_most = λ rate bound. either_part (λ q. AtMost q.rate rate) first second
           (one.at_most rate (λ x upper. bound x (record {
             inside = λ p m. best.upper.inside p (upper.inside p m);
             parents = λ p d cover m p_in. upper.parents p d cover m (best.upper.parents p d cover (upper.inside d m) p_in);
           })))
-          (λ q h. at_most_chains q.rate (sums_in n dep s) rate whole_some (low q h) (bound s (record { inside = λ p m. m; parents = λ p d cover m p_in. p_in })));
+          (λ q h. at_most_chains q.rate (sums_in n dep s) rate whole_some (low q h)
+          (bound s (record { inside = λ p m. m; parents = λ p d cover m p_in. p_in })));
       at_least = λ rate bound. either_part (λ q. AtMost rate q.rate) first second
-          (λ q h. at_most_chains rate (sums_in n dep s) q.rate whole_some (bound s (record { inside = λ p m. m; children = λ p d cover m d_in. d_in })) (high q h))
+          (λ q h. at_most_chains rate (sums_in n dep s) q.rate whole_some
+          (bound s (record { inside = λ p m. m; children = λ p d cover m d_in. d_in })) (high q h))
           (two.at_least rate (λ y lower. bound y (record {
             inside = λ p m. (minus_parts s c p (lower.inside p m)).0;
-            children = λ p d cover m d_in. lower.children p d cover m (in_minus s c d d_in (λ here. (minus_parts s c p (lower.inside p m)).1 (best.upper.parents p d cover here (minus_parts s c p (lower.inside p m)).0)));
+            children = λ p d cover m d_in. lower.children p d cover m
+                (in_minus s c d d_in (λ here. (minus_parts s c p (lower.inside p m)).1
+                (best.upper.parents p d cover here (minus_parts s c p (lower.inside p m)).0)));
           })));
     }
 
@@ -270,10 +192,12 @@ module _ (n : ℕ) (dep : Closure) (s c : fin.FinSet nat_cmp) (closed : IsClosed
       let square = ap (λ (k : ℕ). k * k) both_lens in
       let parts : mid.parts ≡ old.parts ++ adds.parts = ap (λ (w : Written). w.parts) adds.is in
       let a : length (placed mid.parts) ≡ length (placed old.parts) + length (placed adds.parts) =
-      ap (λ ps. length (placed ps)) parts ∙ ap length (flat_map-append (λ part. part.ids) old.parts adds.parts) ∙ length-append (placed old.parts) (placed adds.parts) in
+      ap (λ ps. length (placed ps)) parts ∙ ap length (flat_map-append (λ part. part.ids) old.parts adds.parts)
+      ∙ length-append (placed old.parts) (placed adds.parts) in
       let b : length mid.parts ≡ length old.parts + length adds.parts = ap length parts ∙ length-append old.parts adds.parts in
       let d : length (flows_in mid.parts) ≡ length (flows_in old.parts) + length (flows_in adds.parts) =
-      ap (λ ps. length (flows_in ps)) parts ∙ ap length (flat_map-append (λ part. part.flows) old.parts adds.parts) ∙ length-append (flows_in old.parts) (flows_in adds.parts) in
+      ap (λ ps. length (flows_in ps)) parts ∙ ap length (flat_map-append (λ part. part.flows) old.parts adds.parts)
+      ∙ length-append (flows_in old.parts) (flows_in adds.parts) in
       record {
         ids = ap (λ (w : Written). w.ids) adds.is;
         flows = ap (λ (w : Written). w.flows) adds.is;
@@ -293,7 +217,8 @@ module _ (n : ℕ) (dep : Closure) (s c : fin.FinSet nat_cmp) (closed : IsClosed
       ap length (flat_map-append (λ part. part.flows) one.parts two.parts) ∙ length-append (flows_in one.parts) (flows_in two.parts) in
       record {
         parts = one.parts ++ two.parts;
-        is = two.is ∙ ap (λ (ps : List Part). record { parts = ps; ids = []; flows = [] }) (ap (λ (ps : List Part). ps ++ two.parts) parts ∙ append_assoc old.parts one.parts two.parts);
+        is = two.is ∙ ap (λ (ps : List Part). record { parts = ps; ids = []; flows = [] })
+            (ap (λ (ps : List Part). ps ++ two.parts) parts ∙ append_assoc old.parts one.parts two.parts);
         linear = joined one.parts two.parts one.linear two.linear;
         places = (let p = one.places in let q = two.places in omega (arith, both_lens, a, p, q));
         few = (let p = one.few in let q = two.few in omega (arith, both_lens, b, p, q));
@@ -301,11 +226,13 @@ module _ (n : ℕ) (dep : Closure) (s c : fin.FinSet nat_cmp) (closed : IsClosed
       }
 
 -- an empty draft has room for every set
-pub start_room : (n : ℕ) (s : fin.FinSet nat_cmp) (written : Written) → IsWithin n s → written ≡ record { parts = []; ids = []; flows = [] } → HasRoom n s written
-start_room n s written within empty = subst (HasRoom n s) (sym empty) (let low : fin.len s ≤ n = len_bound n s within in let square = mul-le-mul low low in record {
-  ids = refl;
-  flows = refl;
-  for_places = omega (arith, low);
-  for_parts = omega (arith, low);
-  for_flows = omega (arith, square);
-})
+pub start_room : (n : ℕ) (s : fin.FinSet nat_cmp) (written : Written) → IsWithin n s → written ≡ record { parts = []; ids = []; flows = [] }
+    → HasRoom n s written
+start_room n s written within empty = subst (HasRoom n s) (sym empty)
+    (let low : fin.len s ≤ n = len_bound n s within in let square = mul-le-mul low low in record {
+      ids = refl;
+      flows = refl;
+      for_places = omega (arith, low);
+      for_parts = omega (arith, low);
+      for_flows = omega (arith, square);
+    })

@@ -1,5 +1,6 @@
 mod Certified
 mod Chains
+mod Cuts
 mod DraftLemmas
 mod Final
 mod FlowLists

@@ -8,7 +8,7 @@ use Rattle.std.specs.FinSet as fin
 use Rattle.bitset.specs.Members.{from_meet, to_meet, from_remove, to_remove, empty_has_none}
 use Rattle.lists.proofs.Distinct.{distinct_push}
 use Rattle.graphs.specs.Closures.{Closure, is_ancestor, ancestors_of, IsClosed}
-use Rattle.lists.proofs.Entries.{Contains-head, Contains-later, Contains-cases, none_in_empty}
+use Rattle.lists.proofs.Entries.{Contains-cases, none_in_empty}
 use Rattle.lists.specs.Distinct.{AreDistinct}
 use Rattle.bitset.specs.Places.{IsWithin}
 use Rattle.graphs.specs.Linearizations.{StandsBefore}
@@ -16,18 +16,21 @@ use Rattle.linearize.specs.Orders.{IsOrderOf}
 use Rattle.linearize.proofs.Sets.{len_remove, len_within}
 
 -- another ancestor in a set has fewer ancestors in it
-pub higher : (n : ℕ) (dep : Closure) (left : fin.FinSet nat_cmp) (p q : ℕ) → IsClosed n dep → fin.contains left p ≡ true → fin.contains (fin.remove (fin.intersection (ancestors_of dep p) left) p) q ≡ true
+pub higher : (n : ℕ) (dep : Closure) (left : fin.FinSet nat_cmp) (p q : ℕ) → IsClosed n dep → fin.contains left p ≡ true
+    → fin.contains (fin.remove (fin.intersection (ancestors_of dep p) left) p) q ≡ true
     → fin.len (fin.intersection (ancestors_of dep q) left) < fin.len (fin.intersection (ancestors_of dep p) left)
 higher n dep left p q closed here m =
     let order = closed.order in
     let r : (q ≡ p → ⊥) × (fin.contains (fin.intersection (ancestors_of dep p) left) q ≡ true) = from_remove _ p q m in
     let both : (is_ancestor dep q p ≡ true) × (fin.contains left q ≡ true) = from_meet _ _ q r.1 in
     let own : fin.contains (fin.intersection (ancestors_of dep p) left) p ≡ true = to_meet _ _ p (order.reflexive p (order.among q p both.0).1) here in
-    let within : IsWithin n (fin.intersection (ancestors_of dep p) left) = λ k h. closed.within k (order.among k p (from_meet (ancestors_of dep p) left k h).0).0 in
+    let within : IsWithin n (fin.intersection (ancestors_of dep p) left) =
+    λ k h. closed.within k (order.among k p (from_meet (ancestors_of dep p) left k h).0).0 in
     let fewer : fin.len (fin.intersection (ancestors_of dep q) left) ≤ fin.len (fin.remove (fin.intersection (ancestors_of dep p) left) p) =
     len_within n _ _ (λ k h. within k (from_remove (fin.intersection (ancestors_of dep p) left) p k h).1)
     (λ k h. (let part : (is_ancestor dep k q ≡ true) × (fin.contains left k ≡ true) = from_meet (ancestors_of dep q) left k h in
-    to_remove _ p k (λ e. r.0 (order.antisymmetric q p both.0 (subst (λ (j : ℕ). is_ancestor dep j q ≡ true) e part.0))) (to_meet _ _ k (order.transitive k q p part.0 both.0) part.1))) in
+    to_remove _ p k (λ e. r.0 (order.antisymmetric q p both.0 (subst (λ (j : ℕ). is_ancestor dep j q ≡ true) e part.0)))
+    (to_meet _ _ k (order.transitive k q p part.0 both.0) part.1))) in
     omega (arith, fewer, len_remove n _ p within own)
 
 -- where nothing else is above it in a set
@@ -59,10 +62,12 @@ placing_start n dep s ids none = subst (λ xs. Placing n dep s s xs) (sym none) 
 before_push : (xs : List ℕ) (x a b : ℕ) → StandsBefore xs a b → StandsBefore (xs ++ x ∷ []) a b
 before_push xs x a b h = (h.0, h.1 ++ x ∷ [], ap (λ ys. ys ++ x ∷ []) h.2 ∙ append_assoc h.0 (b ∷ h.1) (x ∷ []), h.3)
 
-pub placing_more : (n : ℕ) (dep : Closure) (s left rest : fin.FinSet nat_cmp) (ids : List ℕ) (p : ℕ) → IsWithin n s → Placing n dep s left ids → fin.contains left p ≡ true
+pub placing_more : (n : ℕ) (dep : Closure) (s left rest : fin.FinSet nat_cmp) (ids : List ℕ) (p : ℕ) → IsWithin n s → Placing n dep s left ids
+    → fin.contains left p ≡ true
     → ((q : ℕ) → is_ancestor dep q p ≡ true → fin.contains left q ≡ true → q ≡ p) → rest ≡ fin.remove left p → Placing n dep s rest (ids ++ p ∷ [])
 placing_more n dep s left rest ids p within h m top is =
-    let stays : (k : ℕ) → fin.contains rest k ≡ true → (k ≡ p → ⊥) × (fin.contains left k ≡ true) = λ k r. from_remove left p k (subst (λ t. fin.contains t k ≡ true) is r) in
+    let stays : (k : ℕ) → fin.contains rest k ≡ true
+    → (k ≡ p → ⊥) × (fin.contains left k ≡ true) = λ k r. from_remove left p k (subst (λ t. fin.contains t k ≡ true) is r) in
     record {
       inside = λ k r. h.inside k (stays k r).1;
       once = distinct_push ids p h.once (λ at. ((h.exact p).0 at).1 m);
@@ -76,7 +81,8 @@ placing_more n dep s left rest ids p within h m top is =
         ],
         λ out. elim (cases_eq k p) as (λ _. Contains (ids ++ p ∷ []) k) [
           | inl same ↦ subst (λ (j : ℕ). Contains (ids ++ p ∷ []) j) (sym same) (Contains-push ids p)
-          | inr other ↦ Contains-append_left ids (p ∷ []) k ((h.exact k).1 (out.0, λ l. out.1 (subst (λ t. fin.contains t k ≡ true) (sym is) (to_remove left p k other l))))
+          | inr other ↦ Contains-append_left ids (p ∷ []) k
+              ((h.exact k).1 (out.0, λ l. out.1 (subst (λ t. fin.contains t k ≡ true) (sym is) (to_remove left p k other l))))
         ],
       );
       above = λ a k e ne a_in at. elim (Contains-append_cases ids (p ∷ []) k at) [
@@ -91,10 +97,12 @@ placing_more n dep s left rest ids p within h m top is =
           | inr none ↦ absurd (none_in_empty k none)
         ]
       ];
-      count = (let long = length-append ids (p ∷ []) in let one = len_remove n left p (λ k l. within k (h.inside k l)) m in let len_ = ap (λ t. fin.len t) is in omega (arith, long, one, len_, h.count));
+      count = (let long = length-append ids (p ∷ []) in let one = len_remove n left p (λ k l. within k (h.inside k l)) m in let len_ =
+          ap (λ t. fin.len t) is in omega (arith, long, one, len_, h.count));
     }
 
-pub placing_all : (n : ℕ) (dep : Closure) (s left : fin.FinSet nat_cmp) (ids : List ℕ) → Placing n dep s left ids → left ≡ fin.empty → IsOrderOf dep s ids × (length ids ≡ fin.len s)
+pub placing_all : (n : ℕ) (dep : Closure) (s left : fin.FinSet nat_cmp) (ids : List ℕ) → Placing n dep s left ids → left ≡ fin.empty
+    → IsOrderOf dep s ids × (length ids ≡ fin.len s)
 placing_all n dep s left ids h none =
     let all : (k : ℕ) → fin.contains s k ≡ true → Contains ids k = λ k m. (h.exact k).1 (m, λ l. empty_has_none left k l none) in (
       record {

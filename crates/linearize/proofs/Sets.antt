@@ -1,10 +1,10 @@
 -- Sets of places: members of changed sets, and sums over a set that is two others side by side.
-use Rattle.std.proofs.Common.{◌≡◌, ℕ, ◌+◌, ◌<◌, ◌≤◌, ◌⊎◌, inl, inr, Bool, true, false, cond, not, ◌&&◌, ◌||◌, nat_eq, List, [], ◌∷◌, length, sum_by, ℤ, pos, ◌+ℤ◌, refl, sym, ap, ◌∙◌, subst, arith, eq-eqb, ne_eqb}
+use Rattle.std.proofs.Common.{◌≡◌, ℕ, ◌+◌, ◌<◌, ◌≤◌, ◌⊎◌, inl, inr, Bool, true, false, cond, not, ◌||◌}
+use Rattle.std.proofs.Common.{List, [], ◌∷◌, length, sum_by, ℤ, pos, ◌+ℤ◌, refl, sym, ap, ◌∙◌, subst, arith, eq-eqb}
+use Rattle.std.proofs.Common.{ne_eqb}
 use Rattle.std.proofs.lemmas.Int.{ints}
 use Rattle.std.proofs.lemmas.Bool.{cases_eq, false_from_ne_true, cases_Bool}
 use Rattle.std.proofs.lemmas.List.Sums.{sum_by-cons}
-use Rattle.std.proofs.lemmas.List.Filters.{length-filter_both}
-use Rattle.std.proofs.lemmas.List.FromFn.{length-range_with_len}
 use Rattle.std.specs.List.{range_with_len}
 use Rattle.std.specs.Ordering.{nat_cmp}
 use Rattle.std.specs.FinSet as fin
@@ -13,7 +13,9 @@ use Rattle.bitset.specs.Members.{from_remove, to_remove, from_union, to_union_le
 use Rattle.arithmetic.specs.Sums.{total}
 use Rattle.arithmetic.proofs.Sums.{total-add, total-filter_cond, total_same, total-pos}
 use Rattle.bitset.specs.Places.{places, IsWithin, IsLeast}
-use Rattle.bitset.specs.Sets.{contains-insert, contains-remove, contains-union, contains-intersection, contains-difference, contains-empty, len-places, places-least, places-empty, same_members}
+use Rattle.bitset.specs.Sets.{contains-insert}
+use Rattle.bitset.specs.Sets.{contains-empty, len-places, places-least, places-empty}
+use Rattle.bitset.specs.Sets.{same_members}
 
 not_is : (b : Bool) → not b ≡ true → b ≡ true → ⊥
 not_is true e f = let g : false ≡ true = e in cc
@@ -49,7 +51,8 @@ in_single : (p q : ℕ) → fin.contains (single p) q ≡ true → q ≡ p
 unfolding single
 in_single p q m = elim (cases_eq q p) as (λ _. q ≡ p) [
   | inl same ↦ same
-  | inr other ↦ clash (fin.contains (fin.insert fin.empty p) q) m (contains-insert fin.empty p q ∙ ap (λ (b : Bool). b || fin.contains {R = nat_cmp} fin.empty q) (ne_eqb q p other) ∙ contains-empty q)
+  | inr other ↦ clash (fin.contains (fin.insert fin.empty p) q) m
+      (contains-insert fin.empty p q ∙ ap (λ (b : Bool). b || fin.contains {R = nat_cmp} fin.empty q) (ne_eqb q p other) ∙ contains-empty q)
 ]
 
 single_in : (p : ℕ) → fin.contains (single p) p ≡ true
@@ -73,7 +76,8 @@ split_remove s p m = record {
 places_single : (n p : ℕ) → p < n → places n (single p) ≡ p ∷ []
 places_single n p inside =
     places-least n (single p) p (single_least p) inside
-    ∙ ap (λ t. p ∷ places n t) (same_members (fin.remove (single p) p) fin.empty (λ q. false_from_ne_true _ (λ m. (let r = from_remove (single p) p q m in r.0 (in_single p q r.1))) ∙ sym (contains-empty q)))
+    ∙ ap (λ t. p ∷ places n t) (same_members (fin.remove (single p) p) fin.empty
+    (λ q. false_from_ne_true _ (λ m. (let r = from_remove (single p) p q m in r.0 (in_single p q r.1))) ∙ sym (contains-empty q)))
     ∙ ap (λ qs. p ∷ qs) (places-empty n)
 
 -- ---- sums
@@ -90,8 +94,10 @@ total_split f n s a b split =
     let one = total-filter_cond f (fin.contains s) (range_with_len 0 n) in
     let two = total-filter_cond f (fin.contains a) (range_with_len 0 n) in
     let three = total-filter_cond f (fin.contains b) (range_with_len 0 n) in
-    let each : total (λ k. cond (fin.contains s k) (f k) (pos 0)) (range_with_len 0 n) ≡ total (λ k. cond (fin.contains a k) (f k) (pos 0) +ℤ cond (fin.contains b k) (f k) (pos 0)) (range_with_len 0 n) =
-    total_same _ _ (range_with_len 0 n) (λ k. term_split (fin.contains s k) (fin.contains a k) (fin.contains b k) (f k) (split.left k) (split.right k) (split.either k) (split.apart k)) in
+    let each : total (λ k. cond (fin.contains s k) (f k) (pos 0)) (range_with_len 0 n) ≡ total
+    (λ k. cond (fin.contains a k) (f k) (pos 0) +ℤ cond (fin.contains b k) (f k) (pos 0)) (range_with_len 0 n) =
+    total_same _ _ (range_with_len 0 n) (λ k. term_split (fin.contains s k) (fin.contains a k) (fin.contains b k) (f k) (split.left k)
+    (split.right k) (split.either k) (split.apart k)) in
     let both = total-add (λ k. cond (fin.contains a k) (f k) (pos 0)) (λ k. cond (fin.contains b k) (f k) (pos 0)) (range_with_len 0 n) in
     omega (arith, ints, one, two, three, each, both)
 
@@ -118,7 +124,8 @@ len_split n s a b within split =
       len-places n b (λ k m. within k (split.right k m)),
     )
 
-pub total_remove : (f : ℕ → ℤ) (n : ℕ) (s : fin.FinSet nat_cmp) (p : ℕ) → p < n → fin.contains s p ≡ true → total f (places n s) ≡ f p +ℤ total f (places n (fin.remove s p))
+pub total_remove : (f : ℕ → ℤ) (n : ℕ) (s : fin.FinSet nat_cmp) (p : ℕ) → p < n → fin.contains s p ≡ true
+    → total f (places n s) ≡ f p +ℤ total f (places n (fin.remove s p))
 total_remove f n s p inside m =
     let all = total_split f n s (single p) (fin.remove s p) (split_remove s p m) in
     let one : total f (places n (single p)) ≡ f p +ℤ pos 0 = ap (total f) (places_single n p inside) in
@@ -127,7 +134,8 @@ total_remove f n s p inside m =
 pub len_remove : (n : ℕ) (s : fin.FinSet nat_cmp) (p : ℕ) → IsWithin n s → fin.contains s p ≡ true → fin.len s ≡ 1 + fin.len (fin.remove s p)
 len_remove n s p within m =
     let all = len_split n s (single p) (fin.remove s p) within (split_remove s p m) in
-    let one : fin.len (single p) ≡ 1 = len-places n (single p) (λ q h. subst (λ (k : ℕ). k < n) (sym (in_single p q h)) (within p m)) ∙ ap length (places_single n p (within p m)) in
+    let one : fin.len (single p) ≡ 1 = len-places n (single p) (λ q h. subst (λ (k : ℕ). k < n) (sym (in_single p q h)) (within p m))
+    ∙ ap length (places_single n p (within p m)) in
     omega (arith, all, one)
 
 -- a set within another has no more members

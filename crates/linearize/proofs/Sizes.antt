@@ -9,19 +9,6 @@ padded x m h = omega arith
 pub words_fit : (w : ℕ) → 64 * w < 2 ^ 32 → up 8 (0 + w * 8) < 2 ^ 63
 words_fit w narrow = let a = padded (0 + w * 8) (2 ^ 30) (omega arith) in omega arith
 
--- a set and three lists
-lists_small : (w : ℕ) → 64 * w < 2 ^ 32 → up 8 (up 8 (up 8 (up 8 (0 + up 8 (0 + w * 8)) + 24) + 24) + 24) ≤ 2 ^ 35
-lists_small w narrow =
-    let a = padded (0 + w * 8) (2 ^ 30) (omega arith) in
-    let b = padded (0 + up 8 (0 + w * 8)) (2 ^ 31) (omega arith) in
-    let c = padded (up 8 (0 + up 8 (0 + w * 8)) + 24) (2 ^ 32) (omega arith) in
-    let d = padded (up 8 (up 8 (0 + up 8 (0 + w * 8)) + 24) + 24) (2 ^ 33) (omega arith) in
-    let e = padded (up 8 (up 8 (up 8 (0 + up 8 (0 + w * 8)) + 24) + 24) + 24) (2 ^ 34) (omega arith) in
-    omega arith
-
-pub lists_fit : (w : ℕ) → 64 * w < 2 ^ 32 → up 8 (up 8 (up 8 (up 8 (0 + up 8 (0 + w * 8)) + 24) + 24) + 24) < 2 ^ 63
-lists_fit w narrow = let a = lists_small w narrow in omega arith
-
 -- three sets, three lists and a queue
 pub scratch_fits : (w : ℕ) → 64 * w < 2 ^ 32
     → up 8 (up 8 (0 + up 8 (up 8 (up 8 (up 8 (up 8 (up 8 (0 + up 8 (0 + w * 8)) + up 8 (0 + w * 8)) + up 8 (0 + w * 8)) + 24) + 24) + 24)) + 32) < 2 ^ 63
@@ -34,12 +21,14 @@ scratch_fits w narrow =
     let five : ℕ = up 8 (four + 24) in
     let six : ℕ = up 8 (five + 24) in
     bounded (w * 8) words one two three four five six (up 8 (0 + six)) (up 8 (up 8 (0 + six) + 32)) (omega arith)
-    (plain (0 + w * 8)) (plain (0 + words)) (plain (one + words)) (plain (two + words)) (plain (three + 24)) (plain (four + 24)) (plain (five + 24)) (plain (0 + six)) (plain (up 8 (0 + six) + 32))
+    (plain (0 + w * 8)) (plain (0 + words)) (plain (one + words)) (plain (two + words)) (plain (three + 24)) (plain (four + 24)) (plain (five + 24))
+    (plain (0 + six)) (plain (up 8 (0 + six) + 32))
   where
     plain : (x : ℕ) → up 8 x ≤ x + 8
     plain x = omega arith
 
-    bounded : (x a b c d e f g h k : ℕ) → x ≤ 2 ^ 30 → a ≤ 0 + x + 8 → b ≤ 0 + a + 8 → c ≤ b + a + 8 → d ≤ c + a + 8 → e ≤ d + 24 + 8 → f ≤ e + 24 + 8 → g ≤ f + 24 + 8 → h ≤ 0 + g + 8 → k ≤ h + 32 + 8 → k < 2 ^ 63
+    bounded : (x a b c d e f g h k : ℕ) → x ≤ 2 ^ 30 → a ≤ 0 + x + 8 → b ≤ 0 + a + 8 → c ≤ b + a + 8 → d ≤ c + a + 8 → e ≤ d + 24 + 8
+        → f ≤ e + 24 + 8 → g ≤ f + 24 + 8 → h ≤ 0 + g + 8 → k ≤ h + 32 + 8 → k < 2 ^ 63
     bounded x a b c d e f g h k small ha hb hc hd he hf hg hh hk = omega arith
 
 pub offset_fits : (w place : ℕ) → 64 * w < 2 ^ 32 → place < 64 * w → place * up 8 (0 + w * 8) < 2 ^ 64

@@ -1,5 +1,6 @@
 -- Sums of fees and sizes over places, and weights.
-use Rattle.std.proofs.Common.{◌≡◌, ℕ, ◌+◌, ◌*◌, ◌^◌, ◌<◌, ◌≤◌, true, List, [], ◌∷◌, ◌++◌, length, set, ℤ, pos, ◌+ℤ◌, unsigned_abs, refl, sym, ap, ◌∙◌, subst, arith, length-append}
+use Rattle.std.proofs.Common.{◌≡◌, ℕ, ◌+◌, ◌*◌, ◌^◌, ◌<◌, ◌≤◌, true, List, [], ◌∷◌, ◌++◌, length, set, ℤ, pos, ◌+ℤ◌}
+use Rattle.std.proofs.Common.{unsigned_abs, refl, sym, ap, ◌∙◌, subst, arith, length-append}
 use Rattle.std.specs.Prelude.{Contains}
 use Rattle.std.proofs.lemmas.Int.{ints}
 use Rattle.std.proofs.lemmas.List.Sums.{sum_by-cons, sum_by-append}
@@ -35,7 +36,8 @@ abs_add x y m k a b = omega (arith, ints)
 pub summed_start : (n : ℕ) (dep : Closure) (s : fin.FinSet nat_cmp) (zs : List ℕ) → zs ≡ places n s → Summed n dep s [] zs (pos 0) 0
 summed_start n dep s zs e = record { goes = e; fee_is = refl; size_is = refl; fee_small = omega (arith, ints); size_small = omega arith }
 
-pub summed_more : (n : ℕ) (dep : Closure) (s : fin.FinSet nat_cmp) (ys ws zs : List ℕ) (fee : ℤ) (size : ℕ) (p : ℕ) → IsRate (rate_of dep p) → Summed n dep s ys ws fee size → ws ≡ p ∷ zs
+pub summed_more : (n : ℕ) (dep : Closure) (s : fin.FinSet nat_cmp) (ys ws zs : List ℕ) (fee : ℤ) (size : ℕ) (p : ℕ) → IsRate (rate_of dep p)
+    → Summed n dep s ys ws fee size → ws ≡ p ∷ zs
     → Summed n dep s (ys ++ p ∷ []) zs (fee +ℤ (rate_of dep p).fee) (size + (rate_of dep p).size)
 summed_more n dep s ys ws zs fee size p rate h e =
     let longer : length (ys ++ p ∷ []) ≡ length ys + 1 = length-append ys (p ∷ []) in
@@ -44,8 +46,10 @@ summed_more n dep s ys ws zs fee size p rate h e =
     record {
       goes = goes_on n s ys ws zs p h.goes e;
       fee_is = (let t = total-append (λ q. (sum_at dep q).fee) ys (p ∷ []) in let f = h.fee_is in omega (arith, ints, t, f));
-      size_is = (let t = sum_by-append (λ q. (sum_at dep q).size) ys (p ∷ []) in let f = h.size_is in let o = sum_by-cons (λ q. (sum_at dep q).size) p [] in omega (arith, t, f, o));
-      fee_small = subst (λ (m : ℕ). unsigned_abs (fee +ℤ (rate_of dep p).fee) ≤ m) (sym more) (abs_add fee (rate_of dep p).fee (MAX_FEE * length ys) MAX_FEE h.fee_small rate.fee);
+      size_is = (let t = sum_by-append (λ q. (sum_at dep q).size) ys (p ∷ []) in let f = h.size_is in let o =
+          sum_by-cons (λ q. (sum_at dep q).size) p [] in omega (arith, t, f, o));
+      fee_small = subst (λ (m : ℕ). unsigned_abs (fee +ℤ (rate_of dep p).fee) ≤ m) (sym more)
+          (abs_add fee (rate_of dep p).fee (MAX_FEE * length ys) MAX_FEE h.fee_small rate.fee);
       size_small = subst (λ (m : ℕ). size + (rate_of dep p).size ≤ m) (sym wider) (let a = h.size_small in let b = rate.size in omega (arith, a, b));
     }
 
@@ -61,14 +65,16 @@ size_fits size more k h few m =
     let b : MAX_SIZE * k ≤ MAX_SIZE * 4095 = mul-le-mul_left MAX_SIZE (let l : k ≤ 4095 = omega arith in l) in
     omega (arith, b)
 
-pub summed_small : (n : ℕ) (dep : Closure) (s : fin.FinSet nat_cmp) (ys ws : List ℕ) (fee : ℤ) (size : ℕ) → IsWithin n s → fin.len s ≤ 4096 → Summed n dep s ys ws fee size → ws ≡ []
+pub summed_small : (n : ℕ) (dep : Closure) (s : fin.FinSet nat_cmp) (ys ws : List ℕ) (fee : ℤ) (size : ℕ) → IsWithin n s → fin.len s ≤ 4096
+    → Summed n dep s ys ws fee size → ws ≡ []
     → size ≤ MAX_SIZE * 4096
 summed_small n dep s ys ws fee size within few h e =
     let long : length ys ≤ 4096 = (let l = ap length (gone n s ys ws h.goes e) in let k = len-places n s within in omega arith) in
     let b : MAX_SIZE * length ys ≤ MAX_SIZE * 4096 = mul-le-mul_left MAX_SIZE long in
     let z = h.size_small in omega (arith, b, z)
 
-pub summed_all : (n : ℕ) (dep : Closure) (s : fin.FinSet nat_cmp) (ys ws : List ℕ) (fee : ℤ) (size : ℕ) → Summed n dep s ys ws fee size → ws ≡ [] → (let total_ : Sum = record { fee = fee; size = size } in total_ ≡ sums_in n dep s)
+pub summed_all : (n : ℕ) (dep : Closure) (s : fin.FinSet nat_cmp) (ys ws : List ℕ) (fee : ℤ) (size : ℕ) → Summed n dep s ys ws fee size → ws ≡ []
+    → (let total_ : Sum = record { fee = fee; size = size } in total_ ≡ sums_in n dep s)
 summed_all n dep s ys ws fee size h e =
     let all = gone n s ys ws h.goes e in
     let f : fee ≡ (sums_in n dep s).fee = h.fee_is ∙ ap (λ xs. (sums (sum_at dep) xs).fee) all in
@@ -84,16 +90,20 @@ pub record Weighed (n : ℕ) (dep : Closure) (s : fin.FinSet nat_cmp) (whole : S
   pub goes : Goes n s ys zs
   pub done : (t : ℕ) → Contains ys t → IsWeight dep whole t (weight_at weights t)
 
-pub weighed_start : (n : ℕ) (dep : Closure) (s : fin.FinSet nat_cmp) (whole : Sum) (weights : List ℤ) (zs : List ℕ) → zs ≡ places n s → Weighed n dep s whole weights [] zs
+pub weighed_start : (n : ℕ) (dep : Closure) (s : fin.FinSet nat_cmp) (whole : Sum) (weights : List ℤ) (zs : List ℕ) → zs ≡ places n s
+    → Weighed n dep s whole weights [] zs
 weighed_start n dep s whole weights zs e = record { goes = e; done = λ t h. absurd (none_in_empty t h) }
 
-pub weighed_more : (n : ℕ) (dep : Closure) (s : fin.FinSet nat_cmp) (whole : Sum) (weights : List ℤ) (ys ws zs : List ℕ) (t : ℕ) (w : ℤ) → Weighed n dep s whole weights ys ws → ws ≡ t ∷ zs → t < length weights
+pub weighed_more : (n : ℕ) (dep : Closure) (s : fin.FinSet nat_cmp) (whole : Sum) (weights : List ℤ) (ys ws zs : List ℕ) (t : ℕ) (w : ℤ)
+    → Weighed n dep s whole weights ys ws → ws ≡ t ∷ zs → t < length weights
     → IsWeight dep whole t w → Weighed n dep s whole (set weights t w) (ys ++ t ∷ []) zs
 weighed_more n dep s whole weights ys ws zs t w h e inside is = record {
   goes = goes_on n s ys ws zs t h.goes e;
   done = rows_more (pos 0) (IsWeight dep whole) weights ys t w inside h.done is;
 }
 
-pub weighed_all : (n : ℕ) (dep : Closure) (s : fin.FinSet nat_cmp) (whole : Sum) (weights : List ℤ) (ys ws : List ℕ) → IsWithin n s → Weighed n dep s whole weights ys ws → ws ≡ []
+pub weighed_all : (n : ℕ) (dep : Closure) (s : fin.FinSet nat_cmp) (whole : Sum) (weights : List ℤ) (ys ws : List ℕ) → IsWithin n s
+    → Weighed n dep s whole weights ys ws → ws ≡ []
     → (t : ℕ) → fin.contains s t ≡ true → IsWeight dep whole t (weight_at weights t)
-weighed_all n dep s whole weights ys ws within h e t m = h.done t (subst (λ xs. Contains xs t) (sym (gone n s ys ws h.goes e)) (Contains-places n s t (within t m) m))
+weighed_all n dep s whole weights ys ws within h e t m =
+    h.done t (subst (λ xs. Contains xs t) (sym (gone n s ys ws h.goes e)) (Contains-places n s t (within t m) m))

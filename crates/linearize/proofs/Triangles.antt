@@ -1,5 +1,7 @@
 -- Covering pairs are few: m places have at most m · m / 4, since no three places are pairwise joined (Mantel, 1907).
-use Rattle.std.proofs.Common.{◌≡◌, ℕ, zero, suc, ◌+◌, ◌*◌, ◌≤◌, ◌⊎◌, inl, inr, Bool, true, false, cond, not, ◌||◌, nat_eq, List, [], ◌∷◌, length, map, filter, refl, sym, ap, ◌∙◌, subst, arith, eq-eqb, ne_eqb}
+use Rattle.std.proofs.Common.{◌≡◌, ℕ, zero, suc, ◌+◌, ◌*◌, ◌≤◌, ◌⊎◌, inl, inr, Bool, true, false, cond, not, ◌||◌}
+use Rattle.std.proofs.Common.{nat_eq, List, [], ◌∷◌, length, map, filter, refl, sym, ap, ◌∙◌, subst, arith, eq-eqb}
+use Rattle.std.proofs.Common.{ne_eqb}
 use Rattle.std.specs.Prelude.{Contains}
 use Rattle.std.proofs.lemmas.Bool.{cases_eq, cases_Bool}
 use Rattle.std.proofs.lemmas.List.{length-map}
@@ -8,15 +10,16 @@ use Rattle.std.specs.Ordering.{nat_cmp}
 use Rattle.std.specs.FinSet as fin
 use Rattle.lists.proofs.Cases.{or_true}
 use Rattle.bitset.specs.Members.{from_remove, to_remove}
-use Rattle.lists.proofs.Distinct.{distinct_kept, distinct-filter, distinct_map}
+use Rattle.lists.proofs.Distinct.{distinct-filter, distinct_map}
 use Rattle.graphs.specs.Closures.{Closure, IsCover, IsClosed}
-use Rattle.lists.proofs.Entries.{map-Contains, Contains-head, Contains-later, Contains-cases, none_in_empty, kept_cases, filter-Contains}
+use Rattle.lists.proofs.Entries.{map-Contains, Contains-head, Contains-later, filter-Contains}
 use Rattle.lists.specs.Distinct.{AreDistinct}
 use Rattle.bitset.specs.Places.{IsWithin}
 use Rattle.linearize.proofs.Sets.{len_remove}
 
 -- distinct members of a set are at most as many as it has
-length_inside : (n : ℕ) (s : fin.FinSet nat_cmp) (xs : List ℕ) → IsWithin n s → AreDistinct xs → ((x : ℕ) → Contains xs x → fin.contains s x ≡ true) → length xs ≤ fin.len s
+length_inside : (n : ℕ) (s : fin.FinSet nat_cmp) (xs : List ℕ) → IsWithin n s → AreDistinct xs → ((x : ℕ) → Contains xs x → fin.contains s x ≡ true)
+    → length xs ≤ fin.len s
 length_inside n s [] within d inside = omega arith
 length_inside n s (x ∷ xs) within d inside =
     let rest : length xs ≤ fin.len (fin.remove s x) =
@@ -157,10 +160,12 @@ module _ (n : ℕ) (dep : Closure) (closed : IsClosed n dep) where
         same at = elim s.way [
           | inl sw ↦ elim t.way [
             | inl tw ↦ sw ∙ (λ i. (at i, x)) ∙ sym tw
-            | inr tw ↦ absurd (both_ways x s.at (subst (λ (k : ℕ × ℕ). IsCover dep k.1 k.0) sw cd) (subst (λ (k : ℕ × ℕ). IsCover dep k.1 k.0) (tw ∙ (λ i. (x, sym at i))) ce))
+            | inr tw ↦ absurd (both_ways x s.at (subst (λ (k : ℕ × ℕ). IsCover dep k.1 k.0) sw cd)
+                (subst (λ (k : ℕ × ℕ). IsCover dep k.1 k.0) (tw ∙ (λ i. (x, sym at i))) ce))
           ]
           | inr sw ↦ elim t.way [
-            | inl tw ↦ absurd (both_ways x s.at (subst (λ (k : ℕ × ℕ). IsCover dep k.1 k.0) (tw ∙ (λ i. (sym at i, x))) ce) (subst (λ (k : ℕ × ℕ). IsCover dep k.1 k.0) sw cd))
+            | inl tw ↦ absurd (both_ways x s.at (subst (λ (k : ℕ × ℕ). IsCover dep k.1 k.0) (tw ∙ (λ i. (sym at i, x))) ce)
+                (subst (λ (k : ℕ × ℕ). IsCover dep k.1 k.0) sw cd))
             | inr tw ↦ sw ∙ (λ i. (x, at i)) ∙ sym tw
           ]
         ]
@@ -199,7 +204,8 @@ module _ (n : ℕ) (dep : Closure) (closed : IsClosed n dep) where
 
       few_touch : length (filter touches es) ≤ fin.len others
       few_touch =
-          let d : AreDistinct (map other (filter touches es)) = distinct_map other (filter touches es) (distinct-filter touches es pairs.once.1) (λ x y hx hy same.
+          let d : AreDistinct (map other (filter touches es)) =
+          distinct_map other (filter touches es) (distinct-filter touches es pairs.once.1) (λ x y hx hy same.
           (let fx = filter-Contains touches es x hx in
           let fy = filter-Contains touches es y hy in
           one_tie (other x) x y (of_tail x fx.1).1 (of_tail y fy.1).1 (ties x fx.0) (subst (λ (k : ℕ). Ties k y) (sym same) (ties y fy.0)))) in
@@ -225,8 +231,10 @@ module _ (n : ℕ) (dep : Closure) (closed : IsClosed n dep) where
       rest_pairs = record {
         once = distinct-filter misses es pairs.once.1;
         cover = λ c p h. pairs.cover c p (Contains-later (a, b) (c, p) es (filter-Contains misses es (c, p) h).1);
-        child = λ c p h. (let f = filter-Contains misses es (c, p) h in to_others c (no_end c (ends_of_miss (c, p) f.0).0) (pairs.child c p (Contains-later (a, b) (c, p) es f.1)));
-        parent = λ c p h. (let f = filter-Contains misses es (c, p) h in to_others p (no_end p (ends_of_miss (c, p) f.0).1) (pairs.parent c p (Contains-later (a, b) (c, p) es f.1)));
+        child = λ c p h. (let f = filter-Contains misses es (c, p) h in
+            to_others c (no_end c (ends_of_miss (c, p) f.0).0) (pairs.child c p (Contains-later (a, b) (c, p) es f.1)));
+        parent = λ c p h. (let f = filter-Contains misses es (c, p) h in
+            to_others p (no_end p (ends_of_miss (c, p) f.0).1) (pairs.parent c p (Contains-later (a, b) (c, p) es f.1)));
       }
 
       shared : length (filter touches es) + length (filter misses es) ≡ length es
@@ -245,7 +253,8 @@ module _ (n : ℕ) (dep : Closure) (closed : IsClosed n dep) where
   few_by (suc k) s (e ∷ es) within h short =
       let first : IsCover dep e.1 e.0 = h.cover e.0 e.1 (Contains-head e es) in
       fewer e.0 e.1 first s within es h
-      (few_by k (others e.0 e.1 first s within es h) (filter (misses e.0 e.1 first s within es h) es) (others_within e.0 e.1 first s within es h) (rest_pairs e.0 e.1 first s within es h)
+      (few_by k (others e.0 e.1 first s within es h) (filter (misses e.0 e.1 first s within es h) es) (others_within e.0 e.1 first s within es h)
+      (rest_pairs e.0 e.1 first s within es h)
       (omega (arith, short, shared e.0 e.1 first s within es h)))
 
   pub few_pairs : (s : fin.FinSet nat_cmp) (pairs : List (ℕ × ℕ)) → IsWithin n s → Pairs s pairs → 4 * length pairs ≤ fin.len s * fin.len s

@@ -1,5 +1,6 @@
 pub mod Drafts
 pub mod Graphs
+pub mod Minimal
 pub mod Orders
 pub mod Splits
 pub mod Steps

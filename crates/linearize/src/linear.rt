@@ -7,6 +7,7 @@ ghost use Rattle.graphs.specs.Certificates.{IsCertificate};
 ghost use Rattle.graphs.specs.Linearizations.{IsOptimal};
 ghost use Rattle.linearize.specs.Graphs.{HasRates, IsComponent, most_members, sum_at};
 ghost use Rattle.linearize.specs.Drafts.{AreShown, flows_in, named, placed};
+ghost use Rattle.linearize.specs.Minimal.{AreMinimal};
 ghost use Rattle.linearize.specs.Orders.{AreCovers};
 ghost use Rattle.linearize.specs.Steps.{AreOfSolves};
 
@@ -85,7 +86,8 @@ impl<const W: usize> Linear<W> {
     }
 }
 
-/// Leaves an optimal order of the members, its parts and a flow for each part that certifies it.
+/// Leaves an optimal order of the members, its parts and a flow for each part that certifies it. No part can be cut
+/// further: no smaller set that is closed within it has its rate.
 ///
 /// The members are one component, and at least one. Fees and sizes are those of transactions, and the members at
 /// most 4,096, so that 64 bits hold the fee of each part. It takes no memory, and counts each place that a search
@@ -108,6 +110,10 @@ pub fn optimal<L: Ledger, const W: usize>(
         → IsCertificate (sum_at dep.now) graph (model.IsCover graph.pairs) out.new }
     ensures optimal { (graph : model.Graph) → IsClosureOf dep.now graph
         → IsOptimal (sum_at dep.now) graph (map (λ part. part.ids) out.new) }
+
+    // No part can be cut further: none has a smaller set of its rate, closed within it.
+    ensures minimal { (graph : model.Graph) → IsClosureOf dep.now graph
+        → AreMinimal (sum_at dep.now) graph.pairs out.new }
 
     // The steps are those of its solves. Of n members they are n at least, and at most 2 · (n + 2)^5 − 4 · (n + 2)^4.
     ensures solves { AreOfSolves (set.len (members_of dep.now)) steps.old steps.new }

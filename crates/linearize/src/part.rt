@@ -6,7 +6,7 @@ ghost use Rattle.closure_flow.specs.Scratches.{flow_of};
 ghost use Rattle.linearize.specs.Graphs.{sum_from};
 ghost use Rattle.linearize.specs.Drafts.{Takes, placed, with_flows};
 ghost use Rattle.linearize.specs.Orders.{AreCovers, Balances, IsOrderOf, flows_from, flows_in_set, sums_in};
-ghost use Rattle.linearize.specs.Splits.{Adds, HasRoom};
+ghost use Rattle.linearize.specs.Splits.{Adds, HasRoom, IsUncut};
 
 use crate::draft::{Draft, PlaceFlow};
 use bitset::Bits;
@@ -14,7 +14,7 @@ use closure_flow::Scratch;
 use dep_graph::DepGraph;
 use fee_rate::FeeRate;
 
-/// Writes a balanced set as one part: its places, parents first, and the flow that the solver left.
+/// Writes a balanced set that can't be cut as one part: its places, parents first, and the flow that the solver left.
 pub(crate) fn emit<const W: usize>(
     scratch: &Scratch<W>,
     dep: &DepGraph<W>,
@@ -30,6 +30,7 @@ pub(crate) fn emit<const W: usize>(
     requires covers { AreCovers dep.now parents.now }
     requires whole { sum_from whole ≡ sums_in (64 * W) dep.now within.now }
     requires balanced { Balances (64 * W) dep.now parents.now within.now (flow_of scratch.now) }
+    requires uncut { IsUncut (64 * W) dep.now within.now }
     requires room { HasRoom (64 * W) within.now draft.old }
     ensures { Adds (64 * W) dep.now within.now draft.old draft.new }
 {

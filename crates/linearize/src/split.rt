@@ -2,26 +2,25 @@ ghost use Rattle.std.specs.Prelude.{◌≡◌, ℕ, ◌+◌, ◌*◌, ◌<◌, �
 ghost use Rattle.std.specs.Prelude.{IfSome, MatchOption};
 ghost use Rattle.std.specs.FinSet as set;
 ghost use Rattle.graphs.specs.Closures.{HoldsMembers};
-ghost use Rattle.closure_flow.specs.Bounds.{most_steps};
 ghost use Rattle.closure_flow.specs.Closures.{weight_at};
+ghost use Rattle.closure_flow.specs.Scratches.{flow_of};
 ghost use Rattle.fee_rate.specs.Limits.{IsRate};
 ghost use Rattle.fee_rate.specs.declared.limits.TheConstants.{MAX_SIZE};
 ghost use Rattle.graphs.specs.Certificates.{weight_in};
 ghost use Rattle.linearize.specs.Graphs.{HasRates, most_members, sum_at, sum_from};
 ghost use Rattle.linearize.specs.Orders.{sums_in};
-ghost use Rattle.linearize.specs.Splits.{Adds, IsBest, IsReady};
-ghost use Rattle.linearize.specs.Steps.{AreOfSolves};
+ghost use Rattle.linearize.specs.Splits.{Adds, IsCut, IsReady, IsSolved};
+ghost use Rattle.linearize.specs.Steps.{AreOfOne, AreOfSolves};
 
 use crate::draft::Draft;
 use crate::part::emit;
 use bitset::Bits;
-use closure_flow::{Outcome, Scratch, solve};
+use closure_flow::{Outcome, Scratch, smallest_tight, solve};
 use dep_graph::DepGraph;
 use fee_rate::{FeeRate, product};
 use step_count::{Ledger, Steps};
 
-/// Linearizes a set of members: as one part where it is balanced, else a closed set of greatest weight and then the
-/// others.
+/// Linearizes a set of members: as one part where it can't be cut, else what it is cut on and then the others.
 pub(crate) fn split<L: Ledger, const W: usize>(
     scratch: &mut Scratch<W>,
     dep: &DepGraph<W>,
@@ -44,7 +43,7 @@ pub(crate) fn split<L: Ledger, const W: usize>(
     }
 }
 
-// Writes a set as one part where it is balanced. Else it answers a closed set of greatest weight.
+// Writes a set as one part where it can't be cut. Else it answers what to cut it on.
 fn best<L: Ledger, const W: usize>(
     scratch: &mut Scratch<W>,
     dep: &DepGraph<W>,
@@ -57,22 +56,48 @@ fn best<L: Ledger, const W: usize>(
     requires narrow { 64 * W < 2 ^ 32 }
     requires ready { IsReady (64 * W) dep.now parents.now within.now draft.old }
     requires weights { 64 * W ≤ length weights.old }
-    ensures best { IfSome result (IsBest (64 * W) dep.now within.now) }
+    ensures cut { IfSome result (IsCut (64 * W) dep.now within.now) }
     ensures draft { MatchOption result
         (Adds (64 * W) dep.now within.now draft.old draft.new)
         (λ _. draft.new ≡ draft.old) }
-    ensures least { steps.old + set.len within.now ≤ steps.new }
-    ensures most { steps.new ≤ steps.old + most_steps (set.len within.now) }
+    ensures solve { AreOfOne (set.len within.now) steps.old steps.new }
 {
     let whole = sum(dep, within);
     weigh(dep, within, whole, weights);
     match solve(scratch, weights, parents, *within, steps) {
         Outcome::Better(first) => Some(first),
-        Outcome::Balanced => {
-            emit(scratch, dep, parents, within, whole, draft);
-            None
-        }
+        Outcome::Balanced => finish(scratch, dep, parents, within, whole, draft, steps),
     }
+}
+
+// Writes a balanced set as one part where no smaller set is closed within it and has its rate. Else it answers the
+// smallest one.
+fn finish<L: Ledger, const W: usize>(
+    scratch: &mut Scratch<W>,
+    dep: &DepGraph<W>,
+    parents: &[Bits<W>],
+    within: &Bits<W>,
+    whole: FeeRate,
+    draft: &mut Draft<W>,
+    steps: &mut Steps<L>,
+) -> Option<Bits<W>>
+    requires narrow { 64 * W < 2 ^ 32 }
+    requires ready { IsReady (64 * W) dep.now parents.now within.now draft.old }
+    requires whole { sum_from whole ≡ sums_in (64 * W) dep.now within.now }
+    requires solved { IsSolved (64 * W) dep.now parents.now within.now (flow_of scratch.old) }
+    ensures cut { IfSome result (IsCut (64 * W) dep.now within.now) }
+    ensures draft { MatchOption result
+        (Adds (64 * W) dep.now within.now draft.old draft.new)
+        (λ _. draft.new ≡ draft.old) }
+    ensures steps { steps.old ≤ steps.new }
+    ensures most { steps.new ≤ steps.old + set.len within.now * set.len within.now }
+{
+    let first = smallest_tight(scratch, parents, *within, steps);
+    if first.count() < within.count() {
+        return Some(first);
+    }
+    emit(scratch, dep, parents, within, whole, draft);
+    None
 }
 
 // The fee and the size of some members together.

@@ -10,7 +10,7 @@ use Rattle.lists.specs.Distinct.{AreDistinct}
 use Rattle.fee_rate.specs.declared.limits.TheConstants.{MAX_SIZE}
 use Rattle.graph_model.specs.declared.names.Limits.{Limits}
 use Rattle.graph_model.specs.declared.names.Refusal.{Refusal}
-use Rattle.graph_model.specs.States.{State, Entry, Table, size_of, size_in}
+use Rattle.graph_model.specs.States.{PlainState, Entry, Table, size_of, size_in}
 use Rattle.graph_model.specs.Changes.{with_fee}
 use Rattle.graph_model.specs.Commands.{SetFee}
 use Rattle.graph_model.specs.Refusals.{RefusalIs}
@@ -86,7 +86,7 @@ has_paid txs table id fee some has = record {
       ∙ sym (length-map txs (paying id fee));
 }
 
-pub steps_paid : (old new : Kept) (id : ℕ) (fee : ℤ) → new.limits ≡ old.limits → new.begun ≡ true → new.txs ≡ map (paying id fee) old.txs → new.pairs ≡ old.pairs → IsSome (entry_in old.txs id) → ((state : State) → StandsFor old state → RefusalIs state (SetFee id fee) None)
+pub steps_paid : (old new : Kept) (id : ℕ) (fee : ℤ) → new.limits ≡ old.limits → new.begun ≡ true → new.txs ≡ map (paying id fee) old.txs → new.pairs ≡ old.pairs → IsSome (entry_in old.txs id) → ((state : PlainState) → StandsFor old state → RefusalIs state (SetFee id fee) None)
     → Steps old new (SetFee id fee) Done
 steps_paid old new id fee limits begun txs pairs some none =
     steps_accepted old new (SetFee id fee) Done none
@@ -95,6 +95,7 @@ steps_paid old new id fee limits begun txs pairs some none =
       with_fee (state_of old table) id fee,
       record {
         limits = sym limits;
+        most = refl;
         begun = sym begun;
         table = λ q. paid.gets q ∙ ap (λ txs. entry_in txs q) (sym txs);
         live = paid.live ∙ ap length (sym txs);
@@ -102,7 +103,7 @@ steps_paid old new id fee limits begun txs pairs some none =
         pairs = sym pairs;
         staging = refl;
       },
-      (refl, refl),
+      λ picks. record { answer = refl; change = refl },
     ))
 
 -- what the fields keep after a change of fee
@@ -117,5 +118,5 @@ sound_paid set txs pairs places id fee sound = record {
 }
 
 -- the refusal of `fee` at an equal fee
-pub at_new_fee : (kept : Kept) (id : ℕ) (given fee : ℤ) (found : Option Refusal) → given ≡ fee → ((state : State) → StandsFor kept state → RefusalIs state (SetFee id given) found) → (state : State) → StandsFor kept state → RefusalIs state (SetFee id fee) found
-at_new_fee kept id given fee found same refused = subst (λ (fee : ℤ). (state : State) → StandsFor kept state → RefusalIs state (SetFee id fee) found) same refused
+pub at_new_fee : (kept : Kept) (id : ℕ) (given fee : ℤ) (found : Option Refusal) → given ≡ fee → ((state : PlainState) → StandsFor kept state → RefusalIs state (SetFee id given) found) → (state : PlainState) → StandsFor kept state → RefusalIs state (SetFee id fee) found
+at_new_fee kept id given fee found same refused = subst (λ (fee : ℤ). (state : PlainState) → StandsFor kept state → RefusalIs state (SetFee id fee) found) same refused

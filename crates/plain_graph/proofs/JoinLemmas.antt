@@ -5,7 +5,7 @@ use Rattle.graph_model.specs.declared.names.Limits.{Limits}
 use Rattle.graph_model.specs.declared.names.Refusal.{Refusal}
 use Rattle.graph_model.specs.declared.names.Refusal.TheVariants.{Unknown, Cycle, Count, ClusterSize}
 use Rattle.graphs.specs.Graphs.{IsAncestor, AreConnected}
-use Rattle.graph_model.specs.States.{State, Table, size_of, size_in}
+use Rattle.graph_model.specs.States.{PlainState, Table, size_of, size_in}
 use Rattle.graph_model.specs.Commands.{Dep}
 use Rattle.graph_model.specs.Refusals.{RefusalIs, JoinsTo, NoRefusal, FirstAt}
 use Rattle.graphs.proofs.ListLemmas.{Lists-same}
@@ -58,9 +58,9 @@ same_total_of : (txs : List Tx) (table : Table) → HasTable txs table → ◌�
 same_total_of txs table has = λ i ids. same_totals txs table has ids i
 
 -- the row of `dep`, of names that are live and no cycle, ends with the joined component's
-pub dep_join : (kept : Kept) (a b : ℕ) (found : Option Refusal) → Contains (names_of kept.txs) a → Contains (names_of kept.txs) b → (IsAncestor kept.pairs b a → ⊥) → JoinRefusalIs kept.limits kept.txs kept.pairs a b found → (state : State) → StandsFor kept state → RefusalIs state (Dep a b) found
+pub dep_join : (kept : Kept) (a b : ℕ) (found : Option Refusal) → Contains (names_of kept.txs) a → Contains (names_of kept.txs) b → (IsAncestor kept.pairs b a → ⊥) → JoinRefusalIs kept.limits kept.txs kept.pairs a b found → (state : PlainState) → StandsFor kept state → RefusalIs state (Dep a b) found
 dep_join kept a b found here there no_cycle join =
-    of_states kept (λ (state : State). RefusalIs state (Dep a b) found)
+    of_states kept (λ (state : PlainState). RefusalIs state (Dep a b) found)
     (λ table has. inr (
       λ absent. absent here,
       inr (
@@ -73,13 +73,13 @@ dep_join kept a b found here there no_cycle join =
       ),
     ))
 
-pub dep_cycle : (kept : Kept) (a b : ℕ) → Contains (names_of kept.txs) a → Contains (names_of kept.txs) b → IsAncestor kept.pairs b a → (state : State) → StandsFor kept state → RefusalIs state (Dep a b) (Some Cycle)
+pub dep_cycle : (kept : Kept) (a b : ℕ) → Contains (names_of kept.txs) a → Contains (names_of kept.txs) b → IsAncestor kept.pairs b a → (state : PlainState) → StandsFor kept state → RefusalIs state (Dep a b) (Some Cycle)
 dep_cycle kept a b here there cycle =
-    of_states kept (λ (state : State). RefusalIs state (Dep a b) (Some Cycle)) (λ table has. inr (λ absent. absent here, inr (λ absent. absent there, inl (cycle, refl))))
+    of_states kept (λ (state : PlainState). RefusalIs state (Dep a b) (Some Cycle)) (λ table has. inr (λ absent. absent here, inr (λ absent. absent there, inl (cycle, refl))))
 
-pub dep_no_parent : (kept : Kept) (a b : ℕ) → (Contains (names_of kept.txs) a → ⊥) → (state : State) → StandsFor kept state → RefusalIs state (Dep a b) (Some (Unknown a))
-dep_no_parent kept a b absent = of_states kept (λ (state : State). RefusalIs state (Dep a b) (Some (Unknown a))) (λ table has. inl (absent, refl))
+pub dep_no_parent : (kept : Kept) (a b : ℕ) → (Contains (names_of kept.txs) a → ⊥) → (state : PlainState) → StandsFor kept state → RefusalIs state (Dep a b) (Some (Unknown a))
+dep_no_parent kept a b absent = of_states kept (λ (state : PlainState). RefusalIs state (Dep a b) (Some (Unknown a))) (λ table has. inl (absent, refl))
 
-pub dep_no_child : (kept : Kept) (a b : ℕ) → Contains (names_of kept.txs) a → (Contains (names_of kept.txs) b → ⊥) → (state : State) → StandsFor kept state → RefusalIs state (Dep a b) (Some (Unknown b))
+pub dep_no_child : (kept : Kept) (a b : ℕ) → Contains (names_of kept.txs) a → (Contains (names_of kept.txs) b → ⊥) → (state : PlainState) → StandsFor kept state → RefusalIs state (Dep a b) (Some (Unknown b))
 dep_no_child kept a b here absent =
-    of_states kept (λ (state : State). RefusalIs state (Dep a b) (Some (Unknown b))) (λ table has. inr (λ missing. missing here, inl (absent, refl)))
+    of_states kept (λ (state : PlainState). RefusalIs state (Dep a b) (Some (Unknown b))) (λ table has. inr (λ missing. missing here, inl (absent, refl)))

@@ -1,5 +1,5 @@
 -- Transactions without a name, and the step of the machine that a removal is.
-use Rattle.std.proofs.Common.{◌≡◌, ◌≢◌, ℕ, ◌+◌, ◌-◌, ◌≤◌, Bool, true, false, cond, eqb, not, List, [], ◌∷◌, length, filter, sym, refl, ap, subst, ◌∙◌, inl, inr, ◌↔◌, arith, Option, None, Some}
+use Rattle.std.proofs.Common.{◌≡◌, ◌≢◌, ℕ, ◌+◌, ◌-◌, ◌≤◌, Bool, true, false, cond, eqb, not, List, [], ◌∷◌, length, filter, sym, refl, ap, subst, ◌∙◌, inl, inr, ◌↔◌, arith, ne_eqb, Option, None, Some}
 use Rattle.std.specs.Prelude.{Contains, is_some}
 use Rattle.std.specs.FinMap as finmap
 use Rattle.std.specs.Cmp.{nat_cmp_total, unsigned_tied}
@@ -11,9 +11,9 @@ use Rattle.fee_rate.specs.declared.limits.TheConstants.{MAX_SIZE}
 use Rattle.graph_model.specs.declared.names.Limits.{Limits}
 use Rattle.graph_model.specs.declared.names.Refusal.TheVariants.{Unknown}
 use Rattle.graphs.specs.Graphs.{Graph}
-use Rattle.graph_model.specs.States.{State, Entry, Table}
+use Rattle.graph_model.specs.States.{PlainState, Entry, Table, with_top}
 use Rattle.graphs.specs.Removals.{IsWithout}
-use Rattle.graph_model.specs.Changes.{IsKept, begun, with_graph}
+use Rattle.graph_model.specs.Changes.{begun, Forgets}
 use Rattle.graph_model.specs.Commands.{Remove}
 use Rattle.graph_model.specs.Refusals.{RefusalIs}
 use Rattle.graph_model.specs.Replies.{Done}
@@ -22,7 +22,7 @@ use Rattle.plain_graph.specs.Plain.{Kept, StandsFor, Steps, entry_in}
 use Rattle.plain_graph.specs.Sound.{names_of, IsSound}
 use Rattle.plain_graph.specs.Rests.{without_name, ArePairsWithout}
 use Rattle.plain_graph.specs.Walks.{EndsAreAmong}
-use Rattle.plain_graph.proofs.Entries.{entry_of, Contains-entry}
+use Rattle.plain_graph.proofs.Entries.{entry_of, Contains-entry, entry-Contains}
 use Rattle.plain_graph.proofs.Standing.{HasTable, state_of, of_states, steps_accepted}
 
 -- the names that aren't this one
@@ -140,11 +140,30 @@ is_without id txs old new once pairs = record {
   pairs_once = pairs.1;
 }
 
-pub remove_unknown : (kept : Kept) (id : ℕ) → (Contains (names_of kept.txs) id → ⊥) → (state : State) → StandsFor kept state → RefusalIs state (Remove id) (Some (Unknown id))
-remove_unknown kept id absent = of_states kept (λ (state : State). RefusalIs state (Remove id) (Some (Unknown id))) (λ table has. inl (absent, refl))
+pub remove_unknown : (kept : Kept) (id : ℕ) → (Contains (names_of kept.txs) id → ⊥) → (state : PlainState) → StandsFor kept state → RefusalIs state (Remove id) (Some (Unknown id))
+remove_unknown kept id absent = of_states kept (λ (state : PlainState). RefusalIs state (Remove id) (Some (Unknown id))) (λ table has. inl (absent, refl))
 
-pub remove_unrefused : (kept : Kept) (id : ℕ) → Contains (names_of kept.txs) id → (state : State) → StandsFor kept state → RefusalIs state (Remove id) None
-remove_unrefused kept id here = of_states kept (λ (state : State). RefusalIs state (Remove id) None) (λ table has. inr (λ absent. absent here, refl))
+pub remove_unrefused : (kept : Kept) (id : ℕ) → Contains (names_of kept.txs) id → (state : PlainState) → StandsFor kept state → RefusalIs state (Remove id) None
+remove_unrefused kept id here = of_states kept (λ (state : PlainState). RefusalIs state (Remove id) None) (λ table has. inr (λ absent. absent here, refl))
+
+no_entry_of : (txs : List Tx) (q : ℕ) → (Contains (names_of txs) q → ⊥) → entry_in txs q ≡ None
+no_entry_of txs q absent = none_from (entry_in txs q) (λ some. absent (entry-Contains txs q some))
+  where
+    none_from : (found : Option Entry) → (is_some found ≡ true → ⊥) → found ≡ None
+    none_from None none = refl
+    none_from (Some entry) none = absurd (none refl)
+
+-- the table that is left has the names that are left, and no other
+forgets : (old : Kept) (table : Table) (id : ℕ) (pairs : List (ℕ × ℕ)) → HasTable (without_name id old.txs) (finmap.remove table id) → HasTable old.txs table
+    → Forgets (with_top (begun (state_of old table)) (graph_without id old.txs pairs)) (record (with_top (begun (state_of old table)) (graph_without id old.txs pairs)) { table = finmap.remove table id })
+forgets old table id pairs dropped has =
+    let stays : (q : ℕ) → Contains (names_of (without_name id old.txs)) q → finmap.get (finmap.remove table id) q ≡ finmap.get table q = λ q here.
+    finmap.get-remove nat_cmp_total table id q ∙ ap (λ b. cond b None (finmap.get table q)) (unsigned_tied q id ∙ ne_eqb q id ((without-named id old.txs q).0 here).1) in
+    record {
+      same = refl;
+      kept = λ q kept. elim kept [ inl one ↦ stays q one | inr two ↦ stays q two ];
+      dropped = λ q gone. dropped.gets q ∙ no_entry_of (without_name id old.txs) q (λ here. gone (inl here));
+    }
 
 pub steps_removed : (old new : Kept) (id : ℕ) → new.limits ≡ old.limits → new.begun ≡ true → new.txs ≡ without_name id old.txs → ArePairsWithout old.pairs id new.pairs → AreDistinct (names_of old.txs) → Contains (names_of old.txs) id → Steps old new (Remove id) Done
 steps_removed old new id limits begins txs pairs once here =
@@ -153,11 +172,11 @@ steps_removed old new id limits begins txs pairs once here =
     (λ table has.
     let dropped = has_dropped old.txs table id once here has in
     let graph : Graph = graph_without id old.txs new.pairs in
-    let left : State = with_graph (begun (state_of old table)) graph in
-    let gone : IsKept left id → ⊥ = λ kept. elim kept [ inl main ↦ ((without-named id old.txs id).0 main).1 refl | inr top ↦ ((without-named id old.txs id).0 top).1 refl ] in (
+    let left : PlainState = with_top (begun (state_of old table)) graph in (
       record left { table = finmap.remove table id },
       record {
         limits = sym limits;
+        most = refl;
         begun = sym begins;
         table = λ q. dropped.gets q ∙ ap (λ txs. entry_in txs q) (sym txs);
         live = dropped.live ∙ ap length (sym txs);
@@ -165,7 +184,7 @@ steps_removed old new id limits begins txs pairs once here =
         pairs = refl;
         staging = refl;
       },
-      (refl, (graph, is_without id old.txs old.pairs new.pairs once pairs, inr (gone, refl))),
+      λ picks. record { answer = refl; change = (graph, is_without id old.txs old.pairs new.pairs once pairs, forgets old table id new.pairs dropped has) },
     ))
 
 -- the pairs that are left are of names that are left

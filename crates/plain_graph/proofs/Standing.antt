@@ -11,7 +11,9 @@ use Rattle.std.specs.Cmp.{nat_cmp_total, unsigned_tied}
 use Rattle.std.proofs.lemmas.List.{map_push, length_push, length-map}
 use Rattle.graph_model.specs.declared.names.Refusal.{Refusal}
 use Rattle.graph_model.specs.declared.names.Refusal.TheVariants.{Memory}
-use Rattle.graph_model.specs.States.{State, LevelState, Table, Entry, level_of, start}
+use Rattle.graphs.specs.Graphs.{Graph}
+use Rattle.graph_model.specs.States.{PlainState, Picks, Table, Entry, level_of, plain_start}
+use Rattle.graph_model.specs.declared.limits.TheConstants.{MAX_COUNT}
 use Rattle.graph_model.specs.Changes.{added, limited}
 use Rattle.graph_model.specs.Commands.{Command, SetLimits, Add, Count}
 use Rattle.graph_model.specs.Limits.{default_limits}
@@ -19,7 +21,7 @@ use Rattle.graphs.specs.declared.names.Level.{Level}
 use Rattle.graphs.specs.declared.names.Level.TheVariants.{Main, Top}
 use Rattle.graph_model.specs.Refusals.{RefusalIs}
 use Rattle.graph_model.specs.Replies.{Reply, Refused, Done, Number}
-use Rattle.graph_model.specs.Steps.{Accepts, MayLackMemory}
+use Rattle.graph_model.specs.Steps.{AcceptsPlainly, MayLackMemory}
 use Rattle.plain_graph.specs.declared.tx.Tx.{Tx}
 use Rattle.plain_graph.specs.Plain.{Kept, StandsFor, Steps, entry_in}
 use Rattle.plain_graph.specs.Sound.{names_of, IsSound}
@@ -32,18 +34,18 @@ pub record HasTable (txs : List Tx) (table : Table) : Type 0 where
   pub live : finmap.len table ≡ length txs
 
 -- the one state with this table that a plain graph stands for
-abbrev pub state_of : Kept → Table → State
+abbrev pub state_of : Kept → Table → PlainState
 state_of kept table =
-    record { limits = kept.limits; begun = kept.begun; table = table; main = record { graph = record { names = names_of kept.txs; pairs = kept.pairs } }; staging = None }
+    record { limits = kept.limits; most = MAX_COUNT; begun = kept.begun; table = table; main = record { names = names_of kept.txs; pairs = kept.pairs }; staging = None }
 
 pub stands_for : (kept : Kept) (table : Table) → HasTable kept.txs table → StandsFor kept (state_of kept table)
-stands_for kept table has = record { limits = refl; begun = refl; table = has.gets; live = has.live; names = refl; pairs = refl; staging = refl }
+stands_for kept table has = record { limits = refl; most = refl; begun = refl; table = has.gets; live = has.live; names = refl; pairs = refl; staging = refl }
 
 -- What holds of each state that has the graph's parts holds of each that it stands for.
-pub of_states : (kept : Kept) (P : State → Type 0) → ((table : Table) → HasTable kept.txs table → P (state_of kept table)) → (state : State) → StandsFor kept state → P state
+pub of_states : (kept : Kept) (P : PlainState → Type 0) → ((table : Table) → HasTable kept.txs table → P (state_of kept table)) → (state : PlainState) → StandsFor kept state → P state
 of_states kept P holds state stands =
     let same : state_of kept state.table ≡ state =
-    λ i. record { limits = sym stands.limits i; begun = sym stands.begun i; table = state.table; main = record { graph = record { names = sym stands.names i; pairs = sym stands.pairs i } }; staging = sym stands.staging i } in
+    λ i. record { limits = sym stands.limits i; most = sym stands.most i; begun = sym stands.begun i; table = state.table; main = record { names = sym stands.names i; pairs = sym stands.pairs i }; staging = sym stands.staging i } in
     subst P same (holds state.table (record { gets = stands.table; live = stands.live }))
 
 -- two graphs that differ at most in what the last reading found and in the count of additions
@@ -59,9 +61,10 @@ same_as given old new is same = subst (λ (kept : Kept). IsSameGraph kept new) i
 pub itself : (kept : Kept) → IsSameGraph kept kept
 itself kept = record { limits = refl; begun = refl; txs = refl; pairs = refl }
 
-pub stands_still : (old new : Kept) → IsSameGraph old new → (state : State) → StandsFor old state → StandsFor new state
+pub stands_still : (old new : Kept) → IsSameGraph old new → (state : PlainState) → StandsFor old state → StandsFor new state
 stands_still old new same state stands = record {
   limits = stands.limits ∙ sym same.limits;
+  most = stands.most;
   begun = stands.begun ∙ sym same.begun;
   table = λ id. stands.table id ∙ ap (λ txs. entry_in txs id) (sym same.txs);
   live = stands.live ∙ ap length (sym same.txs);
@@ -70,19 +73,19 @@ stands_still old new same state stands = record {
   staging = stands.staging;
 }
 
-pub steps_refused : (old new : Kept) (command : Command) (why : Refusal) → IsSameGraph old new → ((state : State) → StandsFor old state → RefusalIs state command (Some why)) → Steps old new command (Refused why)
+pub steps_refused : (old new : Kept) (command : Command) (why : Refusal) → IsSameGraph old new → ((state : PlainState) → StandsFor old state → RefusalIs state command (Some why)) → Steps old new command (Refused why)
 steps_refused old new command why same refused state stands =
-    (state, stands_still old new same state stands, inl (record { why = why; first = refused state stands; told = refl; same = refl }))
+    (state, stands_still old new same state stands, λ picks. inl (record { why = why; first = refused state stands; told = refl; same = refl }))
 
-pub steps_without_memory : (old new : Kept) (command : Command) → IsSameGraph old new → MayLackMemory command → ((state : State) → StandsFor old state → RefusalIs state command None) → Steps old new command (Refused Memory)
+pub steps_without_memory : (old new : Kept) (command : Command) → IsSameGraph old new → MayLackMemory command → ((state : PlainState) → StandsFor old state → RefusalIs state command None) → Steps old new command (Refused Memory)
 steps_without_memory old new command same may none state stands =
-    (state, stands_still old new same state stands, inr (inl (record { none = none state stands; may = may; told = refl; same = refl })))
+    (state, stands_still old new same state stands, λ picks. inr (inl (record { none = none state stands; may = may; told = refl; same = refl })))
 
-pub steps_accepted : (old new : Kept) (command : Command) (reply : Reply) → ((state : State) → StandsFor old state → RefusalIs state command None) → ((table : Table) → HasTable old.txs table → (next : State) × StandsFor new next × Accepts (state_of old table) command reply next) → Steps old new command reply
+pub steps_accepted : (old new : Kept) (command : Command) (reply : Reply) → ((state : PlainState) → StandsFor old state → RefusalIs state command None) → ((table : Table) → HasTable old.txs table → (next : PlainState) × StandsFor new next × ((picks : Picks) → AcceptsPlainly picks (state_of old table) command reply next)) → Steps old new command reply
 steps_accepted old new command reply none accepts state stands =
-    let P : State → Type 0 = λ (state : State). (next : State) × StandsFor new next × Accepts state command reply next in
+    let P : PlainState → Type 0 = λ (state : PlainState). (next : PlainState) × StandsFor new next × ((picks : Picks) → AcceptsPlainly picks state command reply next) in
     let next : P state = of_states old P accepts state stands in
-    (next.0, next.1, inr (inr (record { none = none state stands; accepts = next.2 })))
+    (next.0, next.1, λ picks. inr (inr (record { none = none state stands; accepts = next.2 picks })))
 
 -- the table with one more name
 has_one_more : (txs : List Tx) (tx : Tx) (table : Table) → entry_in txs tx.id ≡ None → HasTable txs table → HasTable (txs ++ tx ∷ []) (finmap.insert table tx.id (entry_of tx))
@@ -98,7 +101,7 @@ has_one_more txs tx table none has = record {
 }
 
 pub steps_added : (old new : Kept) (tx : Tx) → new.limits ≡ old.limits → new.begun ≡ true → new.txs ≡ old.txs ++ tx ∷ [] → new.pairs ≡ old.pairs → entry_in old.txs tx.id ≡ None
-    → ((state : State) → StandsFor old state → RefusalIs state (Add tx.id tx.fee tx.size) None) → Steps old new (Add tx.id tx.fee tx.size) Done
+    → ((state : PlainState) → StandsFor old state → RefusalIs state (Add tx.id tx.fee tx.size) None) → Steps old new (Add tx.id tx.fee tx.size) Done
 steps_added old new tx limits begun txs pairs none unrefused =
     steps_accepted old new (Add tx.id tx.fee tx.size) Done unrefused
     (λ table has.
@@ -106,6 +109,7 @@ steps_added old new tx limits begun txs pairs none unrefused =
       added (state_of old table) tx.id tx.fee tx.size,
       record {
         limits = sym limits;
+        most = refl;
         begun = sym begun;
         table = λ id. more.gets id ∙ ap (λ txs. entry_in txs id) (sym txs);
         live = more.live ∙ ap length (sym txs);
@@ -113,10 +117,10 @@ steps_added old new tx limits begun txs pairs none unrefused =
         pairs = sym pairs;
         staging = refl;
       },
-      (refl, refl),
+      λ picks. record { answer = refl; change = refl },
     ))
 
-pub steps_limited : (old new : Kept) (limits : Limits) → new.limits ≡ limits → new.begun ≡ true → new.txs ≡ old.txs → new.pairs ≡ old.pairs → ((state : State) → StandsFor old state → RefusalIs state (SetLimits limits.count limits.size limits.total) None)
+pub steps_limited : (old new : Kept) (limits : Limits) → new.limits ≡ limits → new.begun ≡ true → new.txs ≡ old.txs → new.pairs ≡ old.pairs → ((state : PlainState) → StandsFor old state → RefusalIs state (SetLimits limits.count limits.size limits.total) None)
     → Steps old new (SetLimits limits.count limits.size limits.total) Done
 steps_limited old new limits is begun txs pairs none =
     steps_accepted old new (SetLimits limits.count limits.size limits.total) Done none
@@ -124,6 +128,7 @@ steps_limited old new limits is begun txs pairs none =
       limited (state_of old table) limits,
       record {
         limits = sym is;
+        most = refl;
         begun = sym begun;
         table = λ id. has.gets id ∙ ap (λ txs. entry_in txs id) (sym txs);
         live = has.live ∙ ap length (sym txs);
@@ -131,11 +136,12 @@ steps_limited old new limits is begun txs pairs none =
         pairs = sym pairs;
         staging = refl;
       },
-      (refl, refl),
+      λ picks. record { answer = refl; change = refl },
     ))
 
-pub stands_at_start : (kept : Kept) → kept.limits ≡ default_limits → kept.begun ≡ false → kept.txs ≡ [] → kept.pairs ≡ [] → StandsFor kept start
+pub stands_at_start : (kept : Kept) → kept.limits ≡ default_limits → kept.begun ≡ false → kept.txs ≡ [] → kept.pairs ≡ [] → StandsFor kept (plain_start MAX_COUNT)
 stands_at_start kept limits begun txs pairs = record {
+  most = refl;
   limits = sym limits;
   begun = sym begun;
   table = λ id. finmap.get-empty nat_cmp id ∙ ap (λ txs. entry_in txs id) (sym txs);
@@ -156,7 +162,10 @@ steps_counted kept level n same =
     (λ table has. (
       state_of kept table,
       stands_for kept table has,
-      (refl, ap Number (same ∙ sym (length-map kept.txs (λ (tx : Tx). tx.id)) ∙ ap (λ (of : LevelState). length of.graph.names) (sym (level-main kept table level)))),
+      λ picks. record {
+        answer = ap Number (same ∙ sym (length-map kept.txs (λ (tx : Tx). tx.id)) ∙ ap (λ (of : Graph). length of.names) (sym (level-main kept table level)));
+        change = refl;
+      },
     ))
 
 among_more : (txs : List Tx) (tx : Tx) (id : ℕ) → Contains (names_of txs) id → Contains (names_of (txs ++ tx ∷ [])) id
@@ -178,5 +187,5 @@ sound_added set txs tx pairs places more sound none small room = record {
 }
 
 -- the refusal of `add` at an equal fee
-pub at_fee : (kept : Kept) (id : ℕ) (given fee : ℤ) (size : ℕ) (found : Option Refusal) → given ≡ fee → ((state : State) → StandsFor kept state → RefusalIs state (Add id given size) found) → (state : State) → StandsFor kept state → RefusalIs state (Add id fee size) found
-at_fee kept id given fee size found same refused = subst (λ (fee : ℤ). (state : State) → StandsFor kept state → RefusalIs state (Add id fee size) found) same refused
+pub at_fee : (kept : Kept) (id : ℕ) (given fee : ℤ) (size : ℕ) (found : Option Refusal) → given ≡ fee → ((state : PlainState) → StandsFor kept state → RefusalIs state (Add id given size) found) → (state : PlainState) → StandsFor kept state → RefusalIs state (Add id fee size) found
+at_fee kept id given fee size found same refused = subst (λ (fee : ℤ). (state : PlainState) → StandsFor kept state → RefusalIs state (Add id fee size) found) same refused

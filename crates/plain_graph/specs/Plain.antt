@@ -3,10 +3,11 @@
 use Rattle.std.specs.Prelude.{◌≡◌, ℕ, Bool, List, [], ◌∷◌, map, length, Option, None, Some, ◌==◌, if◌then◌else◌}
 use Rattle.std.specs.FinMap as finmap
 use Rattle.graph_model.specs.declared.names.Limits.{Limits}
-use Rattle.graph_model.specs.States.{State, Entry}
+use Rattle.graph_model.specs.States.{PlainState, Entry}
 use Rattle.graph_model.specs.Commands.{Command}
 use Rattle.graph_model.specs.Replies.{Reply}
-use Rattle.graph_model.specs.Steps.{Step}
+use Rattle.graph_model.specs.Runs.{BuiltStep}
+use Rattle.graph_model.specs.declared.limits.TheConstants.{MAX_COUNT}
 use Rattle.plain_graph.specs.declared.tx.Tx.{Tx}
 
 -- what the plain graph keeps
@@ -26,15 +27,16 @@ entry_in [] id = None
 entry_in (tx ∷ txs) id = if tx.id == id then Some (record { fee = tx.fee; size = tx.size }) else entry_in txs id
 
 -- a plain graph stands for the state with its names in their order, its pairs and its table
-pub record StandsFor (kept : Kept) (state : State) : Type 0 where
+pub record StandsFor (kept : Kept) (state : PlainState) : Type 0 where
   pub limits : state.limits ≡ kept.limits
+  pub most : state.most ≡ MAX_COUNT
   pub begun : state.begun ≡ kept.begun
   pub table : (id : ℕ) → finmap.get state.table id ≡ entry_in kept.txs id
   pub live : finmap.len state.table ≡ length kept.txs
-  pub names : state.main.graph.names ≡ map (λ tx. tx.id) kept.txs
-  pub pairs : state.main.graph.pairs ≡ kept.pairs
+  pub names : state.main.names ≡ map (λ tx. tx.id) kept.txs
+  pub pairs : state.main.pairs ≡ kept.pairs
   pub staging : state.staging ≡ None
 
 -- From every state that the graph stood for, the call is a step of the machine to one that it stands for now.
 abbrev pub Steps : Kept → Kept → Command → Reply → Type 0
-Steps old new command reply = (state : State) → StandsFor old state → (next : State) × StandsFor new next × Step state command reply next
+Steps old new command reply = (state : PlainState) → StandsFor old state → (next : PlainState) × StandsFor new next × BuiltStep state command reply next

@@ -1,6 +1,7 @@
 ghost use Rattle.std.specs.Prelude.{◌≡◌, ◌+◌, ◌-◌, ◌*◌, ◌^◌, ◌<◌, ◌≤◌, false, [], ◌∷◌, length, IfOk, OnOk, if◌then◌else◌, is_ok, MatchResult, Contains, IsSome};
 ghost use Rattle.fee_rate.specs.declared.limits.TheConstants.{MAX_SIZE};
 ghost use Rattle.graph_model.specs.Limits.{AreInRange};
+ghost use Rattle.graph_model.specs.declared.limits.TheConstants.{MAX_COUNT};
 ghost use Rattle.graphs.specs.Graphs.{AreConnected};
 ghost use Rattle.plain_graph.specs.Walks.{HoldsAll};
 ghost use Rattle.plain_graph.specs.Sound.{AreSmall};
@@ -62,7 +63,7 @@ fn refused_join(
     parent: TxId,
     child: TxId,
 ) -> Option<Refusal>
-    requires in_range { AreInRange limits.now }
+    requires in_range { AreInRange MAX_COUNT limits.now }
     requires small { AreSmall txs.now }
     requires apart { AreConnected pairs.now parent child → ⊥ }
     requires room { HoldsAll pairs.now (parent ∷ child ∷ []) (length found.old.ids + found.old.room) }
@@ -84,7 +85,7 @@ fn refused_join(
 impl Plain {
     ghost use Rattle.graph_model.specs.Replies.{change_reply, names_reply};
     ghost use Rattle.plain_graph.specs.Plain.{Kept, StandsFor, Steps, entry_in};
-    ghost use Rattle.graph_model.specs.States.{State, start};
+    ghost use Rattle.graph_model.specs.States.{PlainState, plain_start};
     ghost use Rattle.graph_model.specs.Refusals.{RefusalIs};
     ghost use Rattle.graphs.specs.Graphs.{Lists};
     ghost use Rattle.plain_graph.specs.Sound.{names_of};
@@ -93,7 +94,7 @@ impl Plain {
     /// An empty graph with the default limits: clusters of at most 64 names and 404,000 virtual
     /// bytes, and 1,048,576 live names. Fails where there is no memory for its first room.
     pub fn new(alloc: Global) -> Result<Plain, NoMemory>
-        ensures start { IfOk result (λ graph. StandsFor graph start) }
+        ensures start { IfOk result (λ graph. StandsFor graph (plain_start MAX_COUNT)) }
         ensures additions { IfOk result (λ graph. graph.additions ≡ 0) }
     {
         Ok(Plain {
@@ -116,9 +117,9 @@ impl Plain {
 
     /// Why `set_limits` is refused.
     fn refused_limits(&self, limits: &Limits) -> Option<Refusal>
-        ensures first { (state : State) → StandsFor self.now state
+        ensures first { (state : PlainState) → StandsFor self.now state
             → RefusalIs state (SetLimits limits.now.count limits.now.size limits.now.total) result }
-        ensures in_range { result ≡ None → AreInRange limits.now }
+        ensures in_range { result ≡ None → AreInRange MAX_COUNT limits.now }
     {
         if self.begun {
             return Some(Refusal::Late);
@@ -147,7 +148,7 @@ impl Plain {
 
     /// Why `add` is refused, other than for want of memory.
     fn refused_add(&self, id: TxId, fee: i64, size: u64) -> Option<Refusal>
-        ensures first { (state : State) → StandsFor self.now state → RefusalIs state (Add id fee size) result }
+        ensures first { (state : PlainState) → StandsFor self.now state → RefusalIs state (Add id fee size) result }
         ensures new_name { result ≡ None → entry_in self.now.txs id ≡ None }
         ensures small { result ≡ None → size ≤ MAX_SIZE }
     {
@@ -197,7 +198,7 @@ impl Plain {
 
     /// Why `dep` is refused, other than for want of memory. Takes no memory.
     fn refused_dep(&mut self, parent: TxId, child: TxId) -> Option<Refusal>
-        ensures first { (state : State) → StandsFor self.old state → RefusalIs state (Dep parent child) result }
+        ensures first { (state : PlainState) → StandsFor self.old state → RefusalIs state (Dep parent child) result }
         ensures ends { result ≡ None → Contains (names_of self.old.txs) parent
             × Contains (names_of self.old.txs) child }
         ensures same { self.new ≡ record self.old { found = self.new.found } }
@@ -250,7 +251,7 @@ impl Plain {
 
     /// Why `fee` is refused, other than for want of memory.
     fn refused_fee(&self, id: TxId, fee: i64) -> Option<Refusal>
-        ensures first { (state : State) → StandsFor self.now state → RefusalIs state (SetFee id fee) result }
+        ensures first { (state : PlainState) → StandsFor self.now state → RefusalIs state (SetFee id fee) result }
         ensures live { result ≡ None → IsSome (entry_in self.now.txs id) }
     {
         if !is_fee(fee) {

@@ -16,9 +16,8 @@ not_past all input more None few some long read = read
 not_past all input more (Some left) few some long read = absurd (omega (arith, ap length read, length-append (input ++ more) left, length-append input more))
 
 -- nor is the limit told then
-pub within_limit : {X : Type 0} (left_old left_new : Option (List ℕ)) (end : End) (input : List ℕ) (status : Status) → ReadsTo end left_old left_new input → (status ≢ statuses.WriteFault → (status ≡ end_status end) × X)
-    → IfSome left_old (λ all. length all ≤ max_input → status ≢ statuses.InputLimit)
+pub within_limit : (left_old left_new : Option (List ℕ)) (end : End) (input : List ℕ) (status : Status) → ReadsTo end left_old left_new input → status ≡ end_status end → IfSome left_old (λ all. length all ≤ max_input → status ≢ statuses.InputLimit)
 within_limit None left_new end input status read is = tt
-within_limit (Some all) left_new Told input status read is = λ few e. absurd (let told = (is (λ w. cc)).0 in cc)
-within_limit (Some all) left_new Fault input status read is = λ few e. absurd (let told = (is (λ w. cc)).0 in cc)
+within_limit (Some all) left_new Told input status read is = λ few e. absurd (cc)
+within_limit (Some all) left_new Fault input status read is = λ few e. absurd (cc)
 within_limit (Some all) left_new Limit input status read is = λ few e. not_past all input read.0 left_new few read.1 read.3 read.2

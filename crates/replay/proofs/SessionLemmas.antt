@@ -1,8 +1,12 @@
 -- One line of a session.
-use Rattle.std.proofs.Common.{◌≡◌, ℕ, ◌≤◌, List, length, subst, sym}
-use Rattle.graph_model.specs.States.{State}
+use Rattle.std.proofs.Common.{◌≡◌, ℕ, ◌≤◌, List, length, subst, sym, ap, inl, inr, ◌⊎◌}
+use Rattle.graphs.specs.declared.names.Level.{Level}
+use Rattle.wire.specs.declared.line.Line.{Line}
+use Rattle.wire.specs.declared.line.Line.TheVariants as lines
+use Rattle.wire.specs.Readings.{meaning_of}
+use Rattle.graph_model.specs.States.{PlainState}
 use Rattle.graph_model.specs.Commands.{Command}
-use Rattle.graph_model.specs.Lines.{Meaning, Says, Means, max_line}
+use Rattle.graph_model.specs.Lines.{Meaning, Says, NoForm, Means, max_line}
 use Rattle.graph_model.specs.Replies.{Reply}
 use Rattle.graph_model.specs.Runs.{Answer, Replies, LineStep}
 use Rattle.tx_graph.specs.Kept.{Kept, StandsFor, MakesStep}
@@ -16,7 +20,7 @@ command_answers before old new line meaning command reply answer short means say
     (step.0, step.1, rw is (short, command, subst (λ (m : Meaning). Means line m) says means, step.2))
 
 -- a quiet line, and one that is no command, change nothing
-pub nothing_answers : (before old : Kept) (line : List ℕ) (meaning given : Meaning) (answer : Answer) → length line ≤ max_line → Means line meaning → meaning ≡ given → old ≡ before → ((state : State) → Means line given → LineStep state line answer state)
+pub nothing_answers : (before old : Kept) (line : List ℕ) (meaning given : Meaning) (answer : Answer) → length line ≤ max_line → Means line meaning → meaning ≡ given → old ≡ before → ((state : PlainState) → Means line given → LineStep state line answer state)
     → Answers before old line answer
 nothing_answers before old line meaning given answer short means is same step state stands =
     (state, subst (λ (k : Kept). StandsFor k state) (sym same) stands, step state (subst (λ (m : Meaning). Means line m) is means))
@@ -30,3 +34,13 @@ reading_answers before old line meaning command reply answer short means says st
 -- a reply suits a line that says a command
 pub reply_suits : (line : List ℕ) (meaning : Meaning) (command : Command) (reply : Reply) (answer : Answer) → length line ≤ max_line → Means line meaning → meaning ≡ Says command → answer ≡ Replies reply → Suits line answer
 reply_suits line meaning command reply answer short means says is = rw is (short, command, subst (λ (m : Meaning). Means line m) says means)
+
+-- the lines of commands that have no body yet
+abbrev pub IsUnbuilt : Line → Type 0
+IsUnbuilt line =
+    ((line ≡ lines.Mine) ⊎ ((line ≡ lines.Evict) ⊎ ((line ≡ lines.Stage) ⊎ ((line ≡ lines.Commit) ⊎ ((line ≡ lines.Abort) ⊎ ((line ≡ lines.Settle) ⊎ ((line ≡ lines.Compare) ⊎ (((x : Level) × (line ≡ lines.Order x)) ⊎ (((x : Level) × (line ≡ lines.Diagram x)) ⊎ (((x : Level) × (line ≡ lines.Proof x)) ⊎ (((x : ℕ) × (line ≡ lines.Chunk x)) ⊎ (((x : ℕ) × (y : ℕ) × (line ≡ lines.Before x y)) ⊎ ((x : ℕ) × (line ≡ lines.Block x))))))))))))))
+
+-- such a line is in no form
+pub unbuilt_form : (line : Line) (ids : List ℕ) → IsUnbuilt line → meaning_of line ids ≡ NoForm
+unbuilt_form line ids e0 =
+    elim e0 [ inl is ↦ ap (λ l. meaning_of l ids) is | inr e1 ↦ elim e1 [ inl is ↦ ap (λ l. meaning_of l ids) is | inr e2 ↦ elim e2 [ inl is ↦ ap (λ l. meaning_of l ids) is | inr e3 ↦ elim e3 [ inl is ↦ ap (λ l. meaning_of l ids) is | inr e4 ↦ elim e4 [ inl is ↦ ap (λ l. meaning_of l ids) is | inr e5 ↦ elim e5 [ inl is ↦ ap (λ l. meaning_of l ids) is | inr e6 ↦ elim e6 [ inl is ↦ ap (λ l. meaning_of l ids) is | inr e7 ↦ elim e7 [ inl is ↦ ap (λ l. meaning_of l ids) is.1 | inr e8 ↦ elim e8 [ inl is ↦ ap (λ l. meaning_of l ids) is.1 | inr e9 ↦ elim e9 [ inl is ↦ ap (λ l. meaning_of l ids) is.1 | inr e10 ↦ elim e10 [ inl is ↦ ap (λ l. meaning_of l ids) is.1 | inr e11 ↦ elim e11 [ inl is ↦ ap (λ l. meaning_of l ids) is.2 | inr e12 ↦ ap (λ l. meaning_of l ids) e12.1 ] ] ] ] ] ] ] ] ] ] ] ]

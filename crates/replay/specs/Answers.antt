@@ -20,9 +20,7 @@ answer_of (kept.Number n) found = runs.Replies (Number n)
 
 abbrev pub reply_outcome : Reply → Outcome
 reply_outcome (Refused why) = outcomes.Refused (number_of why)
-reply_outcome Done = outcomes.Accepted
-reply_outcome (Ids ids) = outcomes.Accepted
-reply_outcome (Number n) = outcomes.Accepted
+reply_outcome reply = outcomes.Accepted
 
 -- what is told of an answer beside its text
 abbrev pub outcome_of : runs.Answer → Outcome

@@ -6,4 +6,7 @@ pub mod Statuses
 pub mod Words
 pub mod Checks
 pub mod Verdicts
-pub mod Progress
+pub mod Windows
+pub mod Cutters
+pub mod Cuts
+pub mod Gatherings

@@ -3,7 +3,7 @@ use Rattle.std.specs.Prelude.{◌≡◌, ℕ, List, ◌++◌, flat_map, All, ◌
 use Rattle.std.specs.Io.KnownBytes.{Appends}
 use Rattle.std.specs.declared.option.Option.{Option}
 use Rattle.outside.specs.Transfers.{AppendsFront}
-use Rattle.graph_model.specs.Replies.{line_text}
+use Rattle.graph_model.specs.Words.{line_text}
 use Rattle.graph_model.specs.Lines.{Cut, IsOneLine, with_last}
 use Rattle.graph_model.specs.Runs.{MayWrite}
 

@@ -1,8 +1,10 @@
 -- How the program ends.
-use Rattle.std.specs.Prelude.{◌≡◌, ℕ, List, [], ◌∷◌, codes, Bool, true, false, ◌⊎◌}
+use Rattle.std.specs.Prelude.{◌≡◌, ℕ, List, [], ◌∷◌, codes, Bool, true, false}
+use Rattle.std.specs.Io.KnownBytes.{Appends}
 use Rattle.std.specs.declared.option.Option.{Option}
 use Rattle.outside.specs.Faults.{Rose}
-use Rattle.graph_model.specs.Replies.{line_text}
+use Rattle.outside.specs.Transfers.{AppendsFront}
+use Rattle.graph_model.specs.Words.{line_text}
 use Rattle.replay.specs.declared.input.End.{End}
 use Rattle.replay.specs.declared.input.End.TheVariants.{Told, Fault, Limit}
 use Rattle.replay.specs.declared.top.Status.{Status}
@@ -54,17 +56,55 @@ end_status Limit = statuses.InputLimit
 abbrev pub NoFaults : ℕ → ℕ → ℕ → ℕ → Type 0
 NoFaults reads_old reads_new writes_old writes_new = (reads_new ≡ reads_old) × (writes_new ≡ writes_old)
 
--- The faults of source and sink by status. At most one read and one write fail, and a fault always shows: a failed
--- write by WriteFault, a failed read by ReadFault, or by WriteFault where a reply to the lines before it couldn't be written.
+-- The faults of source and sink by status. At most one read or one write fails, and it always shows in the status.
 abbrev pub StatusFaults : Status → ℕ → ℕ → ℕ → ℕ → Type 0
 StatusFaults statuses.Done reads_old reads_new writes_old writes_new = NoFaults reads_old reads_new writes_old writes_new
 StatusFaults statuses.No reads_old reads_new writes_old writes_new = NoFaults reads_old reads_new writes_old writes_new
 StatusFaults statuses.Usage reads_old reads_new writes_old writes_new = NoFaults reads_old reads_new writes_old writes_new
 StatusFaults statuses.ReadFault reads_old reads_new writes_old writes_new = Rose reads_old reads_new × (writes_new ≡ writes_old)
-StatusFaults statuses.WriteFault reads_old reads_new writes_old writes_new =
-    ((reads_new ≡ reads_old) ⊎ Rose reads_old reads_new) × Rose writes_old writes_new
+StatusFaults statuses.WriteFault reads_old reads_new writes_old writes_new = (reads_new ≡ reads_old) × Rose writes_old writes_new
 StatusFaults statuses.NoMemory reads_old reads_new writes_old writes_new = NoFaults reads_old reads_new writes_old writes_new
 StatusFaults statuses.InputLimit reads_old reads_new writes_old writes_new = NoFaults reads_old reads_new writes_old writes_new
+
+-- `replay`: what was read and what was written, by status. The sink is as it was where there was no memory.
+abbrev pub Replays : {K : Type 0} → Status → Option (List ℕ) → Option (List ℕ) → (K → Option (List ℕ)) → K → K → Type 0
+Replays statuses.Done left_old left_new written old new = IsAnswered Told left_old left_new (written old) (written new)
+Replays statuses.No left_old left_new written old new = ⊥
+Replays statuses.Usage left_old left_new written old new = ⊥
+Replays statuses.ReadFault left_old left_new written old new = IsAnswered Fault left_old left_new (written old) (written new)
+Replays statuses.WriteFault left_old left_new written old new = IsCutOff left_old left_new (written old) (written new)
+Replays statuses.NoMemory left_old left_new written old new = new ≡ old
+Replays statuses.InputLimit left_old left_new written old new = IsAnswered Limit left_old left_new (written old) (written new)
+
+-- refused words: what was written, by status
+abbrev pub Refuses : {K : Type 0} → Status → (K → Option (List ℕ)) → K → K → Type 0
+Refuses statuses.Done written old new = ⊥
+Refuses statuses.No written old new = ⊥
+Refuses statuses.Usage written old new = Appends (written old) (written new) usage_text
+Refuses statuses.ReadFault written old new = ⊥
+Refuses statuses.WriteFault written old new = AppendsFront (written old) (written new) usage_text
+Refuses statuses.NoMemory written old new = ⊥
+Refuses statuses.InputLimit written old new = ⊥
+
+-- Usage comes with refused words alone, and No with `check` alone
+abbrev pub SuitsWords : Status → List (List ℕ) → Type 0
+SuitsWords statuses.Done words = Unit {0}
+SuitsWords statuses.No words = AreCheck words
+SuitsWords statuses.Usage words = AreRefused words
+SuitsWords statuses.ReadFault words = Unit {0}
+SuitsWords statuses.WriteFault words = Unit {0}
+SuitsWords statuses.NoMemory words = Unit {0}
+SuitsWords statuses.InputLimit words = Unit {0}
+
+-- a command ends so where no read and no write fails
+abbrev pub EndsWell : Status → Type 0
+EndsWell statuses.Done = Unit {0}
+EndsWell statuses.No = Unit {0}
+EndsWell statuses.Usage = ⊥
+EndsWell statuses.ReadFault = ⊥
+EndsWell statuses.WriteFault = ⊥
+EndsWell statuses.NoMemory = Unit {0}
+EndsWell statuses.InputLimit = Unit {0}
 
 -- the exit status of the program
 abbrev pub status_code : Status → ℕ

@@ -1,14 +1,14 @@
 //! The command `check`: whether a text is a certificate.
 ghost use Rattle.std.specs.Prelude.{◌≡◌, ◌≢◌, ℕ, ◌^◌, ◌<◌, ◌≤◌, ◌⊎◌, IfOk, length};
 ghost use Rattle.std.specs.Io.KnownBytes.{Appends};
-ghost use Rattle.graph_model.specs.Replies.{line_text};
+ghost use Rattle.graph_model.specs.Words.{line_text};
 ghost use Rattle.graph_model.specs.Lines.{max_input};
 ghost use Rattle.graph_model.specs.Texts.{Verification, Found, HasTextTypes, verification_text};
 ghost use Rattle.wire.specs.Drafts.{text_of, amount_of};
 ghost use Rattle.graphs.specs.Certificates.{Certified};
 ghost use Rattle.outside.specs.Transfers.{AppendsFront};
 ghost use Rattle.replay.specs.Verdicts.{verification_of, IsSaidOf};
-ghost use Rattle.replay.specs.Checks.{IsVerified, IsChecked, IsCheckedInPart, IsRead};
+ghost use Rattle.replay.specs.Checks.{IsVerified, Checks};
 ghost use Rattle.replay.specs.Statuses.{StatusFaults};
 
 use crate::input::{End, read_input};
@@ -32,22 +32,10 @@ pub(crate) enum Said {
 /// Reads a text to its end, checks it, and writes what is said of it. Where reading doesn't come to the end,
 /// nothing is written.
 pub(crate) fn check_text<S: Source, K: Sink>(alloc: Global, source: &mut S, sink: &mut K) -> Status
-    ensures done { result ≡ Status.Done
-        → IsChecked (Found Certified) (S.left source.old) (S.left source.new) (K.written sink.old)
-        (K.written sink.new) }
-    ensures no { result ≡ Status.No → (said : Verification) × (said ≢ Found Certified)
-        × IsChecked said (S.left source.old) (S.left source.new) (K.written sink.old) (K.written sink.new) }
-    ensures read_fault { result ≡ Status.ReadFault → IsRead End.Fault (S.left source.old) (S.left source.new)
-        × (sink.new ≡ sink.old) }
-    ensures input_limit { result ≡ Status.InputLimit → IsRead End.Limit (S.left source.old) (S.left source.new)
-        × (sink.new ≡ sink.old) }
-    ensures write_fault { result ≡ Status.WriteFault
-        → IsCheckedInPart (S.left source.old) (S.left source.new) (K.written sink.old) (K.written sink.new)
-        × (S.faults source.new ≡ S.faults source.old) }
+    ensures checks { Checks result (S.left source.old) (S.left source.new) K.written sink.old sink.new }
     ensures no_memory { result ≡ Status.NoMemory → sink.new ≡ sink.old }
     ensures faults { StatusFaults result (S.faults source.old) (S.faults source.new) (K.faults sink.old)
         (K.faults sink.new) }
-    ensures never_usage { result ≢ Status.Usage }
 {
     let Ok(input) = read_input(alloc, source) else {
         return Status::NoMemory;

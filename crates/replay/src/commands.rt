@@ -66,9 +66,9 @@ pub(crate) trait Obeys {
     fn obey<L: Ledger>(&mut self, ids: &mut IdBuf, line: Line, steps: &mut Steps<L>) -> Answer
         requires few { (kept self.old).additions < 2 ^ 64 - 1 }
         requires room { HasRoom words ids.old }
-        ensures line { (bytes : List ℕ) → length bytes ≤ max_line → Means bytes (meaning_of line)
+        ensures line { (bytes : List ℕ) → length bytes ≤ max_line → Means bytes (meaning_of line ids.old.ids)
             → Answers (kept self.old) (kept self.new) bytes (answer_of result ids.new.ids) }
-        ensures suits { (bytes : List ℕ) → length bytes ≤ max_line → Means bytes (meaning_of line)
+        ensures suits { (bytes : List ℕ) → length bytes ≤ max_line → Means bytes (meaning_of line ids.old.ids)
             → Suits bytes (answer_of result ids.new.ids) }
         ensures additions { (kept self.new).additions ≤ (kept self.old).additions + 1 }
         ensures room { HasRoom words ids.new };
@@ -83,6 +83,20 @@ impl<const W: usize> Obeys for TxGraph<W> {
         match line {
             Line::Quiet => Answer::Silence,
             Line::Syntax => Answer::Unread,
+            // No body does these yet.
+            Line::Mine
+            | Line::Evict
+            | Line::Stage
+            | Line::Commit
+            | Line::Abort
+            | Line::Settle
+            | Line::Compare
+            | Line::Order(_)
+            | Line::Diagram(_)
+            | Line::Proof(_)
+            | Line::Chunk(_)
+            | Line::Before(_, _)
+            | Line::Block(_) => Answer::Unread,
             Line::Limits(limits) => changed(self.set_limits(limits)),
             Line::Add(id, fee, size) => changed(self.add(id, fee, size, steps)),
             Line::Dep(parent, child) => changed(self.dep(parent, child, steps)),
@@ -108,9 +122,9 @@ fn obey_unpaid<K: ledger::Ledger, G: Obeys>(
     requires some { 0 < blank.parts }
     requires few { (G.kept graph.old).additions < 2 ^ 64 - 1 }
     requires room { HasRoom G.words ids.old }
-    ensures line { (bytes : List ℕ) → length bytes ≤ max_line → Means bytes (meaning_of line)
+    ensures line { (bytes : List ℕ) → length bytes ≤ max_line → Means bytes (meaning_of line ids.old.ids)
         → Answers (G.kept graph.old) (G.kept graph.new) bytes (answer_of result ids.new.ids) }
-    ensures suits { (bytes : List ℕ) → length bytes ≤ max_line → Means bytes (meaning_of line)
+    ensures suits { (bytes : List ℕ) → length bytes ≤ max_line → Means bytes (meaning_of line ids.old.ids)
         → Suits bytes (answer_of result ids.new.ids) }
     ensures additions { (G.kept graph.new).additions ≤ (G.kept graph.old).additions + 1 }
     ensures room { HasRoom G.words ids.new }

@@ -3,15 +3,20 @@
 #![tactic(auto)]
 
 mod answer;
+mod answering;
 mod check;
 mod commands;
+mod gathered;
 mod input;
 mod lines;
+mod replies;
 mod session;
 #[cfg(test)]
 mod tests;
 mod top;
+mod window;
 
 pub use answer::Outcome;
+pub use lines::{Lines, Next};
 pub use session::{Piece, Session};
 pub use top::{Status, run};

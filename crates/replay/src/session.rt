@@ -6,6 +6,7 @@ ghost use Rattle.outside.specs.Transfers.{Writes};
 
 use crate::answer::Outcome;
 use crate::commands::answer;
+use crate::replies::Replies;
 use graph_model::{DEFAULT_LIMITS, IdBuf};
 use outside::{Failed, NoMemory, Sink};
 use std::alloc::Global;
@@ -48,15 +49,17 @@ impl<const W: usize> Model for Session<W> {
 
 impl<const W: usize> Session<W> {
     ghost use Rattle.tx_graph.specs.Kept.{Kept, StandsFor};
-    ghost use Rattle.graph_model.specs.States.{State, start};
+    ghost use Rattle.graph_model.specs.States.{PlainState, plain_start};
+    ghost use Rattle.graph_model.specs.declared.limits.TheConstants.{MAX_COUNT};
     ghost use Rattle.replay.specs.Answers.{outcome_of};
+    ghost use Rattle.replay.specs.Gatherings.{Gathers};
     ghost use Rattle.replay.specs.Sessions.{IsLine, Answers, Suits};
 
     /// A session at the start: default limits, no names. Takes the room that readings need.
     pub fn new(alloc: Global) -> Result<Session<W>, NoMemory>
         requires wide { 1 ≤ W }
         requires narrow { W ≤ 2 }
-        ensures start { IfOk result (λ session. StandsFor session start) }
+        ensures start { IfOk result (λ session. StandsFor session (plain_start MAX_COUNT)) }
         ensures additions { IfOk result (λ session. session.additions ≡ 0) }
     {
         Ok(Session {
@@ -69,7 +72,7 @@ impl<const W: usize> Session<W> {
     /// other calls say of such states says something.
     pub fn additions(&self) -> u64
         ensures additions { result ≡ self.now.additions }
-        ensures stands { (state : State) × StandsFor self.now state }
+        ensures stands { (state : PlainState) × StandsFor self.now state }
     {
         self.graph.additions()
     }
@@ -90,5 +93,23 @@ impl<const W: usize> Session<W> {
     {
         let found = answer(&mut self.graph, &mut self.ids, piece);
         found.tell(self.ids.ids(), sink)
+    }
+
+    /// Answers one line as `one` does, where its reply gathers behind others before the sink.
+    pub(crate) fn gather<K: Sink>(
+        &mut self,
+        piece: Piece<'_>,
+        replies: &mut Replies,
+        sink: &mut K,
+    ) -> Result<Outcome, Failed>
+        requires { self.old.additions < 2 ^ 64 - 1 }
+        ensures line { (line : List ℕ) → IsLine piece.entry line → (answer : runs.Answer)
+            × Answers self.old self.new line answer
+            × Gathers (K.written sink.old) (K.written sink.new) replies.old replies.new result (answer_text answer) }
+        ensures cause { CountsFaults (K.faults sink.old) (K.faults sink.new) result }
+        ensures additions { self.new.additions ≤ self.old.additions + 1 }
+    {
+        let found = answer(&mut self.graph, &mut self.ids, piece);
+        replies.tell(&found, self.ids.ids(), sink)
     }
 }

@@ -1,5 +1,5 @@
 use super::*;
-use outside::{MemSink, MemSource};
+use outside::{Failed, MemSink, MemSource};
 use std::alloc::{AllocError, Global};
 use std::test::Fail;
 
@@ -84,16 +84,19 @@ fn replies_are_the_same_whatever_the_pieces(rt: HostRuntime) -> Result<(), Fail>
 fn faults_and_words_give_their_status(rt: HostRuntime) -> Result<(), Fail> {
     let alloc = rt.alloc();
     let replay = words(alloc, &["txgraph", "replay"])?;
-    let input = b"count main\ncount main\ncou";
-    let mut source = MemSource::new(alloc, input, 25, &[2], None)?;
-    let mut sink = MemSink::new(alloc, 64, &[], 4096)?;
-    assert_eq!(rt; run(alloc, &replay, &mut source, &mut sink).code(), 3);
-    assert_eq!(rt; sink.written(), b"count 0\ncount 0\n".as_slice());
+    for piece in [1, 2, 4096] {
+        let input = b"count main\ncount main\ncou";
+        let mut source = MemSource::new(alloc, input, piece, &[], Some(25))?;
+        let mut sink = MemSink::new(alloc, piece, &[], 4096)?;
+        assert_eq!(rt; run(alloc, &replay, &mut source, &mut sink).code(), 3);
+        assert_eq!(rt; sink.written(), b"count 0\ncount 0\n".as_slice());
 
-    let mut source = MemSource::new(alloc, b"add 1 1 1\nadd 2 1 1\n", 64, &[], None)?;
-    let mut sink = MemSink::new(alloc, 64, &[], 3)?;
-    assert_eq!(rt; run(alloc, &replay, &mut source, &mut sink).code(), 4);
-    assert_eq!(rt; sink.written(), b"ok\n".as_slice());
+        let input = b"add 1 1 1\nadd 2 1 1\n";
+        let mut source = MemSource::new(alloc, input, piece, &[], None)?;
+        let mut sink = MemSink::new(alloc, piece, &[], 3)?;
+        assert_eq!(rt; run(alloc, &replay, &mut source, &mut sink).code(), 4);
+        assert_eq!(rt; sink.written(), b"ok\n".as_slice());
+    }
 
     for refused in [
         &["txgraph", "replay", "x"].as_slice(),
@@ -230,22 +233,128 @@ fn a_text_is_a_certificate_or_the_first_fault_is_told(rt: HostRuntime) -> Result
     Ok(())
 }
 
-#[test]
-fn a_line_has_at_most_65536_bytes(rt: HostRuntime) -> Result<(), Fail> {
-    let alloc = rt.alloc();
-    let mut input = vec![in alloc; b'x'; 65_537]?;
+/// A line of 65,537 bytes, one of 65,536, and a command.
+fn long_lines(alloc: Global) -> Result<Vec<u8>, AllocError> {
+    let mut input = Vec::new(alloc);
+    for _ in 0..65_537 {
+        input.push(b'x')?;
+    }
     input.push(b'\n')?;
     for _ in 0..65_536 {
         input.push(b'x')?;
     }
     input.extend_from_slice(b"\ncount main\n")?;
-    let mut source = MemSource::new(alloc, &input, 4096, &[], None)?;
-    let mut sink = MemSink::new(alloc, 4096, &[], 4096)?;
+    Ok(input)
+}
+
+#[test]
+fn a_line_has_at_most_65536_bytes(rt: HostRuntime) -> Result<(), Fail> {
+    let alloc = rt.alloc();
+    let input = long_lines(alloc)?;
     let words = words(alloc, &["txgraph", "replay"])?;
-    assert_eq!(rt; run(alloc, &words, &mut source, &mut sink).code(), 0);
+    for piece in [1, 2, 4096] {
+        let mut source = MemSource::new(alloc, &input, piece, &[], None)?;
+        let mut sink = MemSink::new(alloc, piece, &[], 4096)?;
+        assert_eq!(rt; run(alloc, &words, &mut source, &mut sink).code(), 0);
+        assert_eq!(rt;
+            sink.written(),
+            b"refused line\nrefused syntax\ncount 0\n".as_slice()
+        );
+    }
+    Ok(())
+}
+
+/// Four lines and their replies. `proof` is no command yet: once it is, its reply stands here.
+const FOUR: &str = "add 1 100 200\nadd 2 900 200\ndep 1 2\nproof main\n";
+
+const FOUR_REPLIES: &str = "ok\nok\nok\nrefused syntax\n";
+
+#[test]
+fn a_sink_that_stops_has_a_front_of_the_replies(rt: HostRuntime) -> Result<(), Fail> {
+    let alloc = rt.alloc();
+    let words = words(alloc, &["txgraph", "replay"])?;
+    let replies = FOUR_REPLIES.as_bytes();
+    for stop in 0..=replies.len() {
+        let mut source = MemSource::new(alloc, FOUR.as_bytes(), 1, &[], None)?;
+        let mut sink = MemSink::new(alloc, 1, &[], stop)?;
+        let status = run(alloc, &words, &mut source, &mut sink);
+        let (front, rest) = replies.split_at(stop);
+        let wanted = if rest.is_empty() {
+            Status::Done
+        } else {
+            Status::WriteFault
+        };
+        assert_eq!(rt; status, wanted, "at {stop}");
+        assert_eq!(rt; sink.written(), front, "at {stop}");
+    }
+    Ok(())
+}
+
+/// For the stops of a source over the four lines, the last of each range and the replies by then.
+const STOPS: [(usize, &str); 5] = [
+    (13, ""),
+    (27, "ok\n"),
+    (35, "ok\nok\n"),
+    (46, "ok\nok\nok\n"),
+    (47, FOUR_REPLIES),
+];
+
+#[test]
+fn a_source_that_stops_has_its_complete_lines_answered(rt: HostRuntime) -> Result<(), Fail> {
+    let alloc = rt.alloc();
+    let words = words(alloc, &["txgraph", "replay"])?;
+    let mut stop = 0;
+    for (last, replies) in STOPS {
+        for at in stop..=last {
+            let mut source = MemSource::new(alloc, FOUR.as_bytes(), 1, &[], Some(at))?;
+            let mut sink = MemSink::new(alloc, 1, &[], 4096)?;
+            let status = run(alloc, &words, &mut source, &mut sink);
+            assert_eq!(rt; status, Status::ReadFault, "at {at}");
+            assert_eq!(rt; sink.written(), replies.as_bytes(), "at {at}");
+        }
+        stop = last + 1;
+    }
+    let mut source = MemSource::new(alloc, FOUR.as_bytes(), 1, &[1], None)?;
+    let mut sink = MemSink::new(alloc, 1, &[], 4096)?;
     assert_eq!(rt;
-        sink.written(),
-        b"refused line\nrefused syntax\ncount 0\n".as_slice()
+        run(alloc, &words, &mut source, &mut sink),
+        Status::ReadFault
     );
+    assert_eq!(rt; sink.written(), b"".as_slice());
+    Ok(())
+}
+
+#[test]
+fn a_line_has_made_its_step_where_its_reply_failed(rt: HostRuntime) -> Result<(), Fail> {
+    let alloc = rt.alloc();
+    let mut session = Session::<1>::new(alloc)?;
+    let mut broken = MemSink::new(alloc, 1, &[], 0)?;
+    assert_eq!(rt;
+        session.one(Piece::Whole(b"add 1 1 1"), &mut broken),
+        Err(Failed)
+    );
+    let mut sink = MemSink::new(alloc, 64, &[], 64)?;
+    assert_eq!(rt;
+        session.one(Piece::Whole(b"count main"), &mut sink),
+        Ok(Outcome::Accepted)
+    );
+    assert_eq!(rt; sink.written(), b"count 1\n".as_slice());
+    Ok(())
+}
+
+#[test]
+fn lines_are_cut_whatever_the_pieces(rt: HostRuntime) -> Result<(), Fail> {
+    let alloc = rt.alloc();
+    for piece in [1, 2, 4096] {
+        let mut source = MemSource::new(alloc, b"a\n\nbc", piece, &[], None)?;
+        let mut lines = Lines::new(alloc)?;
+        for wanted in [b"a".as_slice(), b"".as_slice(), b"bc".as_slice()] {
+            match lines.next(&mut source) {
+                Next::Line(Piece::Whole(line)) => assert_eq!(rt; line, wanted),
+                _ => assert!(rt; false, "a line is left"),
+            }
+        }
+        assert!(rt; matches!(lines.next(&mut source), Next::End));
+    }
     Ok(())
 }

@@ -1,23 +1,17 @@
-ghost use Rattle.std.specs.Prelude.{◌≡◌, ◌≢◌, ℕ, ◌+◌, ◌-◌, ◌^◌, ◌≤◌, ◌<◌, ◌⊎◌, IfSome, length, MatchOption, codes, map, string_bytes};
-ghost use Rattle.std.specs.Io.KnownBytes.{Appends};
+ghost use Rattle.std.specs.Prelude.{◌≡◌, ◌≢◌, ℕ, ◌≤◌, IfSome, length, MatchOption, codes, map, string_bytes};
 ghost use Rattle.graph_model.specs.Lines.{max_input};
 ghost use Rattle.outside.specs.Faults.{Rose};
-ghost use Rattle.outside.specs.Transfers.{AppendsFront, Writes};
-ghost use Rattle.graph_model.specs.Texts.{Verification, Found};
-ghost use Rattle.graphs.specs.Certificates.{Certified};
-ghost use Rattle.tx_graph.specs.Kept.{StandsFor};
-ghost use Rattle.graph_model.specs.States.{start};
-ghost use Rattle.replay.specs.Inputs.{ReadFaults};
-ghost use Rattle.replay.specs.Outputs.{WritesOutput, WritesFront};
-ghost use Rattle.replay.specs.Statuses.{AreReplay, AreCheck, AreRefused, usage_text, IsAnswered, IsCutOff, StatusFaults, end_status, is_told, status_code};
+ghost use Rattle.replay.specs.Statuses.{AreReplay, AreCheck, AreRefused, Replays, Refuses, SuitsWords, EndsWell, StatusFaults, end_status, status_code};
 ghost use Rattle.replay.specs.Words.{IsCommand, IsName};
-ghost use Rattle.replay.specs.Checks.{IsChecked, IsCheckedInPart, IsRead};
+ghost use Rattle.replay.specs.Checks.{Checks};
 
+use crate::answering::answer_lines;
 use crate::check::check_text;
-use crate::input::{End, Input, read_input};
-use crate::lines::answer_all;
+use crate::input::End;
+use crate::lines::Lines;
+use crate::replies::Replies;
 use crate::session::Session;
-use outside::{Failed, NoMemory, Sink, Source};
+use outside::{Failed, Sink, Source};
 use std::alloc::Global;
 use wire::write_word;
 
@@ -56,57 +50,25 @@ pub fn run<S: Source, K: Sink>(
     source: &mut S,
     sink: &mut K,
 ) -> Status
-    // `replay`: what was read and what was written, by status.
-    ensures done { result ≡ Status.Done → AreReplay (map string_bytes words.now)
-        → IsAnswered End.Told (S.left source.old) (S.left source.new) (K.written sink.old) (K.written sink.new) }
-    ensures read_fault { result ≡ Status.ReadFault → AreReplay (map string_bytes words.now)
-        → IsAnswered End.Fault (S.left source.old) (S.left source.new) (K.written sink.old) (K.written sink.new) }
-    ensures input_limit { result ≡ Status.InputLimit → AreReplay (map string_bytes words.now)
-        → IsAnswered End.Limit (S.left source.old) (S.left source.new) (K.written sink.old) (K.written sink.new) }
-    ensures write_fault { result ≡ Status.WriteFault → AreReplay (map string_bytes words.now)
-        → IsCutOff (S.left source.old) (S.left source.new) (K.written sink.old) (K.written sink.new) }
-
-    // `check`: the same. Where the text wasn't read to its end, nothing is written.
-    ensures check_yes { result ≡ Status.Done → AreCheck (map string_bytes words.now)
-        → IsChecked (Found Certified) (S.left source.old) (S.left source.new) (K.written sink.old)
-        (K.written sink.new) }
-    ensures check_no { result ≡ Status.No → (said : Verification) × (said ≢ Found Certified)
-        × IsChecked said (S.left source.old) (S.left source.new) (K.written sink.old) (K.written sink.new) }
-    ensures check_read_fault { result ≡ Status.ReadFault → AreCheck (map string_bytes words.now)
-        → IsRead End.Fault (S.left source.old) (S.left source.new) × (sink.new ≡ sink.old) }
-    ensures check_input_limit { result ≡ Status.InputLimit → AreCheck (map string_bytes words.now)
-        → IsRead End.Limit (S.left source.old) (S.left source.new) × (sink.new ≡ sink.old) }
-    ensures check_write_fault { result ≡ Status.WriteFault → AreCheck (map string_bytes words.now)
-        → IsCheckedInPart (S.left source.old) (S.left source.new) (K.written sink.old) (K.written sink.new)
-        × (S.faults source.new ≡ S.faults source.old) }
-
-    // Refused words, and want of memory.
-    ensures usage { result ≡ Status.Usage → Appends (K.written sink.old) (K.written sink.new) usage_text }
-    ensures write_fault_usage { result ≡ Status.WriteFault → AreRefused (map string_bytes words.now)
-        → AppendsFront (K.written sink.old) (K.written sink.new) usage_text }
+    // By what the words name: what was read and what was written, by status. With refused words nothing is read.
+    ensures replays { AreReplay (map string_bytes words.now)
+        → Replays result (S.left source.old) (S.left source.new) K.written sink.old sink.new }
+    ensures checks { AreCheck (map string_bytes words.now)
+        → Checks result (S.left source.old) (S.left source.new) K.written sink.old sink.new }
+    ensures refuses { AreRefused (map string_bytes words.now) → (source.new ≡ source.old)
+        × Refuses result K.written sink.old sink.new }
     ensures no_memory { result ≡ Status.NoMemory → sink.new ≡ sink.old }
 
-    // The cause of each status that isn't Done. A fault always shows in the status.
+    // The cause of each status: the words, or a read or a write that failed. A fault always shows in the status.
+    ensures words { SuitsWords result (map string_bytes words.now) }
     ensures faults { StatusFaults result (S.faults source.old) (S.faults source.new) (K.faults sink.old)
         (K.faults sink.new) }
-    ensures usage_cause { result ≡ Status.Usage → AreRefused (map string_bytes words.now) }
-    ensures no_cause { result ≡ Status.No → AreCheck (map string_bytes words.now) }
 
     // With accepted words and no fault: Done or, for `check`, No; want of memory; or past the limit.
-    ensures complete { AreReplay (map string_bytes words.now)
+    ensures complete { (AreRefused (map string_bytes words.now) → ⊥)
         → (Rose (S.faults source.old) (S.faults source.new) → ⊥)
-        → (Rose (K.faults sink.old) (K.faults sink.new) → ⊥)
-        → (result ≡ Status.Done) ⊎ ((result ≡ Status.InputLimit) ⊎ (result ≡ Status.NoMemory)) }
-    ensures check_complete { AreCheck (map string_bytes words.now)
-        → (Rose (S.faults source.old) (S.faults source.new) → ⊥)
-        → (Rose (K.faults sink.old) (K.faults sink.new) → ⊥)
-        → (result ≡ Status.Done) ⊎ ((result ≡ Status.No)
-        ⊎ ((result ≡ Status.InputLimit) ⊎ (result ≡ Status.NoMemory))) }
+        → (Rose (K.faults sink.old) (K.faults sink.new) → ⊥) → EndsWell result }
     ensures within_limit { IfSome (S.left source.old) (λ bytes. length bytes ≤ max_input → result ≢ Status.InputLimit) }
-
-    // Refused words: nothing is read, and the status is Usage, or WriteFault where the usage line can't be written.
-    ensures refused_words { AreRefused (map string_bytes words.now) → (source.new ≡ source.old)
-        × ((result ≡ Status.Usage) ⊎ (result ≡ Status.WriteFault)) }
 {
     match command_of(words) {
         Some(Command::Replay) => replay_lines(alloc, source, sink),
@@ -124,44 +86,23 @@ enum Command {
 
 /// Reads lines of commands to the end, and answers them.
 fn replay_lines<S: Source, K: Sink>(alloc: Global, source: &mut S, sink: &mut K) -> Status
-    ensures done { result ≡ Status.Done
-        → IsAnswered End.Told (S.left source.old) (S.left source.new) (K.written sink.old) (K.written sink.new) }
-    ensures read_fault { result ≡ Status.ReadFault
-        → IsAnswered End.Fault (S.left source.old) (S.left source.new) (K.written sink.old) (K.written sink.new) }
-    ensures input_limit { result ≡ Status.InputLimit
-        → IsAnswered End.Limit (S.left source.old) (S.left source.new) (K.written sink.old) (K.written sink.new) }
-    ensures write_fault { result ≡ Status.WriteFault
-        → IsCutOff (S.left source.old) (S.left source.new) (K.written sink.old) (K.written sink.new) }
+    ensures replays { Replays result (S.left source.old) (S.left source.new) K.written sink.old sink.new }
     ensures no_memory { result ≡ Status.NoMemory → sink.new ≡ sink.old }
     ensures faults { StatusFaults result (S.faults source.old) (S.faults source.new) (K.faults sink.old)
         (K.faults sink.new) }
-    ensures never_usage { result ≢ Status.Usage }
-    ensures never_no { result ≢ Status.No }
     ensures within_limit { IfSome (S.left source.old) (λ bytes. length bytes ≤ max_input → result ≢ Status.InputLimit) }
 {
     let Ok(mut session) = Session::<1>::new(alloc) else {
         return Status::NoMemory;
     };
-    match read_input(alloc, source) {
-        Ok(input) => answer_input(&mut session, &input, sink),
-        Err(NoMemory) => Status::NoMemory,
-    }
-}
-
-/// Answers what was read, from the start.
-fn answer_input<K: Sink>(session: &mut Session<1>, input: &Input, sink: &mut K) -> Status
-    requires fresh { StandsFor session.old start }
-    requires few { session.old.additions + length input.now.bytes.items < 2 ^ 64 - 2 }
-    ensures answered { result ≢ Status.WriteFault → (result ≡ end_status input.now.end)
-        × WritesOutput (is_told input.now.end) input.now.bytes.items (K.written sink.old) (K.written sink.new) }
-    ensures cut_off { result ≡ Status.WriteFault
-        → WritesFront (is_told input.now.end) input.now.bytes.items (K.written sink.old) (K.written sink.new) }
-    ensures faults { (before now : ℕ) → ReadFaults input.now.end before now
-        → StatusFaults result before now (K.faults sink.old) (K.faults sink.new) }
-{
-    let told = matches!(input.end, End::Told);
-    match answer_all(session, &input.bytes, told, sink) {
-        Ok(()) => status_of(input.end),
+    let Ok(mut lines) = Lines::new(alloc) else {
+        return Status::NoMemory;
+    };
+    let Ok(mut replies) = Replies::new(alloc) else {
+        return Status::NoMemory;
+    };
+    match answer_lines(&mut session, &mut lines, &mut replies, source, sink) {
+        Ok(end) => status_of(end),
         Err(Failed) => Status::WriteFault,
     }
 }
@@ -202,10 +143,7 @@ fn named(word: &str) -> Option<Command>
 
 /// Writes the usage line.
 fn refuse_words<K: Sink>(sink: &mut K) -> Status
-    ensures told { (result ≡ Status.Usage) ⊎ (result ≡ Status.WriteFault) }
-    ensures usage { result ≡ Status.Usage → Appends (K.written sink.old) (K.written sink.new) usage_text }
-    ensures write_fault { result ≡ Status.WriteFault
-        → AppendsFront (K.written sink.old) (K.written sink.new) usage_text }
+    ensures refuses { Refuses result K.written sink.old sink.new }
     ensures faults { (reads : ℕ) → StatusFaults result reads reads (K.faults sink.old) (K.faults sink.new) }
 {
     match write_word(sink, "usage: txgraph replay | check | gen SEED COUNT") {

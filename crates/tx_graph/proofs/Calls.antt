@@ -12,8 +12,9 @@ use Rattle.graph_model.specs.declared.names.Refusal.{Refusal}
 use Rattle.graph_model.specs.declared.names.Refusal.TheVariants.{Late, Range, Fee, Size, Taken, Full, ClusterSize, Unknown}
 use Rattle.fee_rate.specs.Limits.{IsFee, IsSize}
 use Rattle.graph_model.specs.Limits.{AreInRange}
+use Rattle.graph_model.specs.declared.limits.TheConstants.{MAX_COUNT}
 use Rattle.graphs.specs.Graphs.{Lists}
-use Rattle.graph_model.specs.States.{State, IsLive}
+use Rattle.graph_model.specs.States.{PlainState, IsLive}
 use Rattle.graph_model.specs.Commands.{Command, SetLimits, Add, Dep, SetFee, Remove}
 use Rattle.graph_model.specs.Refusals.{RefusalIs, First, NoRefusal}
 use Rattle.graphs.specs.declared.names.Level.TheVariants.{Top}
@@ -28,8 +29,9 @@ use Rattle.tx_graph.specs.Sound.{IsSound}
 use Rattle.tx_graph.proofs.Graphs.{order_of, member-spot, rate-at, above_in, above_from, at_contains, get-none}
 use Rattle.tx_graph.proofs.Slots.{stands_in}
 use Rattle.tx_graph.proofs.Standing.{IsSameGraph, live-member}
-use Rattle.tx_graph.proofs.Lens.{len-names}
-use Rattle.tx_graph.proofs.Rows.{first_map, dep_row, known_here}
+use Rattle.graph_model.proofs.TableLemmas.{len-names}
+use Rattle.graph_model.proofs.RowLemmas.{add_row_along}
+use Rattle.tx_graph.proofs.Rows.{dep_row, known_here}
 use Rattle.tx_graph.proofs.Stepping.{steps_limited, steps_paid, steps_added, steps_paired, steps_removed, len-live, has_entry}
 use Rattle.tx_graph.proofs.Pairs.{linked_in}
 
@@ -48,7 +50,7 @@ pub both_views : (kept value : Kept) (command : Command) (reply : Reply) → kep
 both_views kept value command reply is step = subst (λ (k : Kept). MakesStep k k command reply) is step
 
 -- a graph after a step is sound
-pub sound_after : (w issued then : ℕ) (old new : Kept) (command : Command) (reply : Reply) → IsSound w issued old → AreInRange new.limits → then ≡ new.additions → MakesStep old new command reply → IsSound w then new
+pub sound_after : (w issued then : ℕ) (old new : Kept) (command : Command) (reply : Reply) → IsSound w issued old → AreInRange MAX_COUNT new.limits → then ≡ new.additions → MakesStep old new command reply → IsSound w then new
 sound_after w issued then old new command reply sound in_range counted step =
     let next = step sound.stands.0 sound.stands.1 in record { in_range = in_range; wide = sound.wide; counted = counted; stands = (next.0, next.1) }
 
@@ -66,78 +68,65 @@ error_is (Err y) e is = ap Err is
 
 -- ---- rows
 
-pub late_row : (kept : Kept) (set : Limits) → kept.begun ≡ true → (state : State) → StandsFor kept state → RefusalIs state (SetLimits set.count set.size set.total) (Some Late)
+pub late_row : (kept : Kept) (set : Limits) → kept.begun ≡ true → (state : PlainState) → StandsFor kept state → RefusalIs state (SetLimits set.count set.size set.total) (Some Late)
 late_row kept set begun state stands = inl (stands.begun ∙ begun, refl)
 
-early : (kept : Kept) → kept.begun ≡ false → (state : State) → StandsFor kept state → state.begun ≡ true → ⊥
+early : (kept : Kept) → kept.begun ≡ false → (state : PlainState) → StandsFor kept state → state.begun ≡ true → ⊥
 early kept not_yet state stands is = true≢false (sym is ∙ stands.begun ∙ not_yet)
 
-pub range_row : (kept : Kept) (set : Limits) → kept.begun ≡ false → (AreInRange set → ⊥) → (state : State) → StandsFor kept state → RefusalIs state (SetLimits set.count set.size set.total) (Some Range)
-range_row kept set not_yet out state stands = inr (early kept not_yet state stands, inl (out, refl))
+pub range_row : (kept : Kept) (set : Limits) → kept.begun ≡ false → (AreInRange MAX_COUNT set → ⊥) → (state : PlainState) → StandsFor kept state → RefusalIs state (SetLimits set.count set.size set.total) (Some Range)
+range_row kept set not_yet out state stands =
+    inr (early kept not_yet state stands, inl ((λ is. out (subst (λ most. AreInRange most set) stands.most is)), refl))
 
-pub limits_row : (kept : Kept) (set : Limits) → kept.begun ≡ false → AreInRange set → (state : State) → StandsFor kept state → RefusalIs state (SetLimits set.count set.size set.total) None
-limits_row kept set not_yet in_range state stands = inr (early kept not_yet state stands, inr (λ out. out in_range, refl))
+pub limits_row : (kept : Kept) (set : Limits) → kept.begun ≡ false → AreInRange MAX_COUNT set → (state : PlainState) → StandsFor kept state → RefusalIs state (SetLimits set.count set.size set.total) None
+limits_row kept set not_yet in_range state stands =
+    inr (early kept not_yet state stands, inr (λ out. out (subst (λ most. AreInRange most set) (sym stands.most) in_range), refl))
 
-pub limits_step : (limits set : Limits) (begun : Bool) (additions : ℕ) (shelf : Shelf) → begun ≡ false → AreInRange set → MakesStep (kept_of limits begun additions shelf) (kept_of set true additions shelf) (SetLimits set.count set.size set.total) Done
+pub limits_step : (limits set : Limits) (begun : Bool) (additions : ℕ) (shelf : Shelf) → begun ≡ false → AreInRange MAX_COUNT set → MakesStep (kept_of limits begun additions shelf) (kept_of set true additions shelf) (SetLimits set.count set.size set.total) Done
 limits_step limits set begun additions shelf not_yet in_range =
     steps_limited (kept_of limits begun additions shelf) (kept_of set true additions shelf) set refl refl refl (limits_row (kept_of limits begun additions shelf) set not_yet in_range)
 
-live_iff : (kept : Kept) (state : State) (id : ℕ) → StandsFor kept state → (is_member kept.graph id ≡ true) ↔ IsLive state id
+live_iff : (kept : Kept) (state : PlainState) (id : ℕ) → StandsFor kept state → (is_member kept.graph id ≡ true) ↔ IsLive state id
 live_iff kept state id stands = (λ member. live-member kept state id stands ∙ member, λ live. sym (live-member kept state id stands) ∙ live)
 
-pub fee_out_row : (kept : Kept) (id : ℕ) (fee : ℤ) → (IsFee fee → ⊥) → (state : State) → StandsFor kept state → RefusalIs state (SetFee id fee) (Some Fee)
+pub fee_out_row : (kept : Kept) (id : ℕ) (fee : ℤ) → (IsFee fee → ⊥) → (state : PlainState) → StandsFor kept state → RefusalIs state (SetFee id fee) (Some Fee)
 fee_out_row kept id fee out state stands = inl (out, refl)
 
-pub fee_unknown_row : (kept : Kept) (id : ℕ) (fee : ℤ) → IsFee fee → is_member kept.graph id ≡ false → (state : State) → StandsFor kept state → RefusalIs state (SetFee id fee) (Some (Unknown id))
+pub fee_unknown_row : (kept : Kept) (id : ℕ) (fee : ℤ) → IsFee fee → is_member kept.graph id ≡ false → (state : PlainState) → StandsFor kept state → RefusalIs state (SetFee id fee) (Some (Unknown id))
 fee_unknown_row kept id fee in_range absent state stands = inr (λ out. out in_range, inl (λ live. true≢false (sym ((live_iff kept state id stands).1 live) ∙ absent), refl))
 
-pub fee_row : (kept : Kept) (id : ℕ) (fee : ℤ) → IsFee fee → is_member kept.graph id ≡ true → (state : State) → StandsFor kept state → RefusalIs state (SetFee id fee) None
+pub fee_row : (kept : Kept) (id : ℕ) (fee : ℤ) → IsFee fee → is_member kept.graph id ≡ true → (state : PlainState) → StandsFor kept state → RefusalIs state (SetFee id fee) None
 fee_row kept id fee in_range member state stands = inr (λ out. out in_range, inr (λ none. none ((live_iff kept state id stands).0 member), refl))
 
 module _ (limits : Limits) (begun : Bool) (additions : ℕ) (shelf : Shelf) where
   abbrev kept : Kept
   kept = kept_of limits begun additions shelf
 
-  pub len_is : (state : State) → StandsFor kept state → finmap.len shelf.spots ≡ length state.main.graph.names
+  pub len_is : (state : PlainState) → StandsFor kept state → finmap.len shelf.spots ≡ length state.main.names
   len_is state stands = len-live kept state shelf.spots stands (λ q. sym (member-spot shelf q))
 
-  live_len : (state : State) → StandsFor kept state → finmap.len shelf.spots ≡ finmap.len state.table
+  live_len : (state : PlainState) → StandsFor kept state → finmap.len shelf.spots ≡ finmap.len state.table
   live_len state stands =
-      len_is state stands ∙ len-names state.main.graph.names state.table stands.valid.names (λ q. subst (λ b. Contains state.main.graph.names q ↔ (b ≡ true)) (sym (live-member kept state q stands)) (stands.closure.names q))
+      len_is state stands ∙ len-names state.main.names state.table stands.valid.names (λ q. subst (λ b. Contains state.main.names q ↔ (b ≡ true)) (sym (live-member kept state q stands)) (stands.closure.names q))
 
-  module _ (id : ℕ) (fee : ℤ) (size : ℕ) (state : State) (stands : StandsFor kept state) (found : Option Refusal) where
-    full_row : First (limits.total ≤ finmap.len shelf.spots) Full NoRefusal found → First (state.limits.total ≤ finmap.len state.table) Full NoRefusal found
-    full_row = first_map (limits.total ≤ finmap.len shelf.spots) (state.limits.total ≤ finmap.len state.table) Full NoRefusal NoRefusal found (
-      λ full. subst₂ (λ (l : Limits) n. l.total ≤ n) (sym stands.limits) (live_len state stands) full,
-      λ full. subst₂ (λ (l : Limits) n. l.total ≤ n) stands.limits (sym (live_len state stands)) full,
-    )
-        (λ none. none)
-
-    large_row : First (limits.size < size) (ClusterSize size) (First (limits.total ≤ finmap.len shelf.spots) Full NoRefusal) found → First (state.limits.size < size) (ClusterSize size) (First (state.limits.total ≤ finmap.len state.table) Full NoRefusal) found
-    large_row = first_map (limits.size < size) (state.limits.size < size) (ClusterSize size) (First (limits.total ≤ finmap.len shelf.spots) Full NoRefusal) (First (state.limits.total ≤ finmap.len state.table) Full NoRefusal) found
-        (λ over. subst (λ (l : Limits). l.size < size) (sym stands.limits) over, λ over. subst (λ (l : Limits). l.size < size) stands.limits over)
-        full_row
-
-    taken_row : First (is_member (graph_of shelf) id ≡ true) Taken (First (limits.size < size) (ClusterSize size) (First (limits.total ≤ finmap.len shelf.spots) Full NoRefusal)) found → First (IsLive state id) Taken (First (state.limits.size < size) (ClusterSize size) (First (state.limits.total ≤ finmap.len state.table) Full NoRefusal)) found
-    taken_row = first_map (is_member (graph_of shelf) id ≡ true) (IsLive state id) Taken (First (limits.size < size) (ClusterSize size) (First (limits.total ≤ finmap.len shelf.spots) Full NoRefusal)) (First (state.limits.size < size) (ClusterSize size) (First (state.limits.total ≤ finmap.len state.table) Full NoRefusal)) found
-        (live_iff kept state id stands) large_row
-
+  module _ (id : ℕ) (fee : ℤ) (size : ℕ) (state : PlainState) (stands : StandsFor kept state) (found : Option Refusal) where
     add_row_here : AddRefusalIs limits (graph_of shelf) (finmap.len shelf.spots) id fee size found → RefusalIs state (Add id fee size) found
-    add_row_here row = elim row [
-      | inl bad ↦ inl bad
-      | inr (fine, on) ↦ inr (fine, elim on [ inl bad ↦ inl bad | inr (good, rest) ↦ inr (good, taken_row rest) ])
-    ]
+    add_row_here = add_row_along _ _ _ _ _ _ _ _ _ _ size found (λ h. h, λ h. h) (λ h. h, λ h. h) (live_iff kept state id stands)
+        (λ over. subst (λ (l : Limits). l.size < size) (sym stands.limits) over, λ over. subst (λ (l : Limits). l.size < size) stands.limits over) (
+          λ full. subst₂ (λ (l : Limits) n. l.total ≤ n) (sym stands.limits) (live_len state stands) full,
+          λ full. subst₂ (λ (l : Limits) n. l.total ≤ n) stands.limits (sym (live_len state stands)) full,
+        )
 
-  pub add_row : (id : ℕ) (fee : ℤ) (size : ℕ) (found : Option Refusal) → AddRefusalIs limits (graph_of shelf) (finmap.len shelf.spots) id fee size found → (state : State) → StandsFor kept state → RefusalIs state (Add id fee size) found
+  pub add_row : (id : ℕ) (fee : ℤ) (size : ℕ) (found : Option Refusal) → AddRefusalIs limits (graph_of shelf) (finmap.len shelf.spots) id fee size found → (state : PlainState) → StandsFor kept state → RefusalIs state (Add id fee size) found
   add_row id fee size found row state stands = add_row_here id fee size state stands found row
 
   -- ---- sums
 
-  pub sums_none : (id : ℕ) → finmap.get shelf.spots id ≡ None → (state : State) → StandsFor kept state → finmap.get state.table id ≡ None
+  pub sums_none : (id : ℕ) → finmap.get shelf.spots id ≡ None → (state : PlainState) → StandsFor kept state → finmap.get state.table id ≡ None
   sums_none id none state stands = stands.table id ∙ ap entry_of (get-none shelf id none)
 
   pub sums_some : (id : ℕ) (spot : Spot) (c : Cluster) (rate : FeeRate) → finmap.get shelf.spots id ≡ Some spot → cluster_at shelf.slots spot.record ≡ Some c → slice_index c.names spot.place ≡ id → rate ≡ rate_of c.graph (slice_index c.names spot.place)
-      → (state : State) → StandsFor kept state → finmap.get state.table id ≡ Some (record { fee = rate.fee; size = rate.size })
+      → (state : PlainState) → StandsFor kept state → finmap.get state.table id ≡ Some (record { fee = rate.fee; size = rate.size })
   sums_some id spot c rate is there at rated state stands =
       stands.table id ∙ has_entry (graph_of shelf) id rate (member-spot shelf id ∙ ap is_some is) (rate-at shelf id spot c is there ∙ ap (rate_of c.graph) (sym at) ∙ sym rated)
 

@@ -6,7 +6,6 @@ mod Slots
 mod Joined
 mod Standing
 mod Rows
-mod Lens
 mod Stepping
 mod Arranged
 mod Pairs

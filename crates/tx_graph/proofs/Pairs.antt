@@ -22,7 +22,7 @@ use Rattle.name_book.specs.declared.spot.Spot.{Spot}
 use Rattle.tx_graph.specs.Joins.{JoinsTo, JoinsTooMany, JoinsTooLarge, DepRefusalIs, SumRefusalIs}
 use Rattle.tx_graph.proofs.Graphs.{above_in, above_from, names_of_above, in_live, one_key, rate_in_cluster, at_contains}
 use Rattle.tx_graph.proofs.Slots.{stands_in}
-use Rattle.tx_graph.proofs.Rows.{first_at_map}
+use Rattle.graph_model.proofs.RowLemmas.{first_at_along}
 use Rattle.tx_graph.proofs.Arranged.{arranged, arranged_is, arranged_increasing, arranged_sum, arranged_length, sum_same}
 
 module _ (most : ℕ) (shelf : Shelf) (indexed : IsIndexed most shelf) where
@@ -154,10 +154,7 @@ module _ (most : ℕ) (shelf : Shelf) (indexed : IsIndexed most shelf) where
         λ none. none (in_live most shelf indexed second q b two q_in),
         inr (
           no_way,
-          first_at_map (λ n. (n ≡ length a.names + length b.names) × (limits.count < n)) (JoinsTooMany limits (graph_of shelf) p q) Count
-              (FirstAt (λ n. (n ≡ sum_by (λ id. (rate_of a.graph id).size) a.names + sum_by (λ id. (rate_of b.graph id).size) b.names) × (limits.size < n)) ClusterSize NoRefusal)
-              (FirstAt (JoinsTooLarge limits (graph_of shelf) p q) ClusterSize NoRefusal) found many
-              (first_at_map (λ n. (n ≡ sum_by (λ id. (rate_of a.graph id).size) a.names + sum_by (λ id. (rate_of b.graph id).size) b.names) × (limits.size < n)) (JoinsTooLarge limits (graph_of shelf) p q) ClusterSize NoRefusal NoRefusal found large (λ none. none)) row,
+          first_at_along Count many (first_at_along ClusterSize large (λ none. none)) row,
         ),
       ),
     )

@@ -7,57 +7,46 @@ use Rattle.graphs.specs.Closures.{Node, is_member, is_ancestor, rate_of, rate_in
 use Rattle.graphs.specs.declared.names.Level.{Level}
 use Rattle.graph_model.specs.declared.names.Refusal.{Refusal}
 use Rattle.graph_model.specs.declared.names.Refusal.TheVariants.{Unknown, Cycle, Count, ClusterSize}
-use Rattle.graphs.specs.Graphs.{IsAncestor, AreConnected, Lists}
-use Rattle.graph_model.specs.States.{State, LevelState, Table, level_of, size_of, size_in}
+use Rattle.graphs.specs.Graphs.{Graph, IsAncestor, AreConnected, Lists}
+use Rattle.graph_model.specs.States.{PlainState, Table, level_of, size_of, size_in}
 use Rattle.graph_model.specs.Commands.{Dep}
-use Rattle.graph_model.specs.Refusals.{RefusalIs, First, FirstAt, NoRefusal, OverCount, OverSize}
+use Rattle.graph_model.specs.Refusals.{RefusalIs, First, NoRefusal, OverCount, OverSize}
+use Rattle.graph_model.proofs.RowLemmas.{dep_row_along}
 use Rattle.graphs.proofs.ListLemmas.{Lists-for}
 use Rattle.tx_graph.specs.Kept.{Kept, StandsFor, entry_of}
 use Rattle.tx_graph.specs.Joins.{JoinsTo, JoinsTooMany, JoinsTooLarge, DepRefusalIs}
 use Rattle.tx_graph.proofs.Standing.{state_of, of_states, level-main, told, connected-linked}
-
-pub first_map : (cause cause' : Type 0) (why : Refusal) (later later' : Option Refusal → Type 0) (found : Option Refusal) → cause ↔ cause' → (later found → later' found) → First cause why later found → First cause' why later' found
-first_map cause cause' why later later' found same more row = elim row [
-  | inl here ↦ inl (same.0 here.0, here.1)
-  | inr on ↦ inr (λ holds. on.0 (same.1 holds), more on.1)
-]
-
-pub first_at_map : (cause cause' : ℕ → Type 0) (why : ℕ → Refusal) (later later' : Option Refusal → Type 0) (found : Option Refusal) → ((n : ℕ) → cause n ↔ cause' n) → (later found → later' found) → FirstAt cause why later found → FirstAt cause' why later' found
-first_at_map cause cause' why later later' found same more row = elim row [
-  | inl here ↦ inl (here.0, (same here.0).0 here.1, here.2)
-  | inr on ↦ inr (λ n holds. on.0 n ((same n).1 holds), more on.1)
-]
 
 -- the sizes of the table are those of the graph
 size_entry : (o : Option Node) → size_in (entry_of o) ≡ (rate_in o).size
 size_entry None = refl
 size_entry (Some node) = refl
 
-pub size-of : (kept : Kept) (state : State) (id : ℕ) → StandsFor kept state → size_of state.table id ≡ (rate_of kept.graph id).size
+pub size-of : (kept : Kept) (state : PlainState) (id : ℕ) → StandsFor kept state → size_of state.table id ≡ (rate_of kept.graph id).size
 unfolding rate_of
 size-of kept state id stands = ap size_in (stands.table id) ∙ size_entry (finmap.get kept.graph id)
 
-sizes-of : (kept : Kept) (state : State) → StandsFor kept state → (ids : List ℕ) → sum_by (size_of state.table) ids ≡ sum_by (λ id. (rate_of kept.graph id).size) ids
+sizes-of : (kept : Kept) (state : PlainState) → StandsFor kept state → (ids : List ℕ) → sum_by (size_of state.table) ids ≡ sum_by (λ id. (rate_of kept.graph id).size) ids
 sizes-of kept state stands ids = λ i. sum_by (λ id. size-of kept state id stands i) ids
 
-module _ (kept : Kept) (table : Table) (main : LevelState) (stands : StandsFor kept (state_of kept table main)) (order : IsOrder (is_member kept.graph) (is_ancestor kept.graph)) (parent child : ℕ) where
-  abbrev state : State
+module _ (kept : Kept) (table : Table) (main : Graph) (stands : StandsFor kept (state_of kept table main)) (order : IsOrder (is_member kept.graph) (is_ancestor kept.graph)) (parent child : ℕ) where
+  abbrev state : PlainState
   state = state_of kept table main
 
-  absent : (id : ℕ) → (is_member kept.graph id ≡ true → ⊥) ↔ (Contains main.graph.names id → ⊥)
+  absent : (id : ℕ) → (is_member kept.graph id ≡ true → ⊥) ↔ (Contains main.names id → ⊥)
   absent id = (λ none here. none ((stands.closure.names id).0 here), λ none member. none ((stands.closure.names id).1 member))
 
-  joins_to : (members : List ℕ) → JoinsTo kept.graph parent child members ↔ ((AreConnected main.graph.pairs parent child → ⊥) × Lists (λ id. AreConnected main.graph.pairs id parent ⊎ AreConnected main.graph.pairs id child) members)
+  joins_to : (members : List ℕ) → JoinsTo kept.graph parent child members ↔ ((AreConnected main.pairs parent child → ⊥) × Lists (λ id. AreConnected main.pairs id parent ⊎ AreConnected main.pairs id child) members)
   joins_to members = (
     λ joins. (
       λ trail. joins.0 ((connected-linked kept state stands parent child).0 trail),
-      Lists-for (λ id. AreLinked kept.graph id parent ⊎ AreLinked kept.graph id child) (λ id. AreConnected main.graph.pairs id parent ⊎ AreConnected main.graph.pairs id child) members
+      Lists-for (λ id. AreLinked kept.graph id parent ⊎ AreLinked kept.graph id child) (λ id. AreConnected main.pairs id parent ⊎ AreConnected main.pairs id child) members
           (λ id linked. elim linked [ inl x ↦ inl ((connected-linked kept state stands id parent).1 x) | inr y ↦ inr ((connected-linked kept state stands id child).1 y) ])
           (λ id trail. elim trail [ inl x ↦ inl ((connected-linked kept state stands id parent).0 x) | inr y ↦ inr ((connected-linked kept state stands id child).0 y) ]) joins.1,
     ),
     λ joins. (
       λ linked. joins.0 ((connected-linked kept state stands parent child).1 linked),
-      Lists-for (λ id. AreConnected main.graph.pairs id parent ⊎ AreConnected main.graph.pairs id child) (λ id. AreLinked kept.graph id parent ⊎ AreLinked kept.graph id child) members
+      Lists-for (λ id. AreConnected main.pairs id parent ⊎ AreConnected main.pairs id child) (λ id. AreLinked kept.graph id parent ⊎ AreLinked kept.graph id child) members
           (λ id trail. elim trail [ inl x ↦ inl ((connected-linked kept state stands id parent).0 x) | inr y ↦ inr ((connected-linked kept state stands id child).0 y) ])
           (λ id linked. elim linked [ inl x ↦ inl ((connected-linked kept state stands id parent).1 x) | inr y ↦ inr ((connected-linked kept state stands id child).1 y) ]) joins.1,
     ),
@@ -73,7 +62,7 @@ module _ (kept : Kept) (table : Table) (main : LevelState) (stands : StandsFor k
   )
 
   -- a live name is an ancestor of itself
-  cycle : is_member kept.graph parent ≡ true → (is_ancestor kept.graph child parent ≡ true) ↔ IsAncestor main.graph.pairs child parent
+  cycle : is_member kept.graph parent ≡ true → (is_ancestor kept.graph child parent ≡ true) ↔ IsAncestor main.pairs child parent
   cycle member = (
     λ up. (told kept state stands child parent).1 (inr up),
     λ walk. elim ((told kept state stands child parent).0 walk) [
@@ -82,41 +71,27 @@ module _ (kept : Kept) (table : Table) (main : LevelState) (stands : StandsFor k
     ],
   )
 
-  dep_tail : (found : Option Refusal) → FirstAt (JoinsTooMany kept.limits kept.graph parent child) Count (FirstAt (JoinsTooLarge kept.limits kept.graph parent child) ClusterSize NoRefusal) found → FirstAt (OverCount state parent child) Count (FirstAt (OverSize state parent child) ClusterSize NoRefusal) found
-  dep_tail found row = first_at_map (JoinsTooMany kept.limits kept.graph parent child) (OverCount state parent child) Count (FirstAt (JoinsTooLarge kept.limits kept.graph parent child) ClusterSize NoRefusal) (FirstAt (OverSize state parent child) ClusterSize NoRefusal) found too_many
-      (first_at_map (JoinsTooLarge kept.limits kept.graph parent child) (OverSize state parent child) ClusterSize NoRefusal NoRefusal found too_large (λ none. none)) row
-
   dep_row_here : (found : Option Refusal) → DepRefusalIs kept.limits kept.graph parent child found → RefusalIs state (Dep parent child) found
-  dep_row_here found row = elim row [
-    | inl no_parent ↦ inl ((absent parent).0 no_parent.0, no_parent.1)
-    | inr on ↦
-        let member : is_member kept.graph parent ≡ true = true_from_ne_false (is_member kept.graph parent) (λ fails. on.0 (λ holds. true≢false (sym holds ∙ fails))) in
-        inr (
-          (λ none. on.0 ((absent parent).1 none)),
-          first_map (is_member kept.graph child ≡ true → ⊥) (Contains main.graph.names child → ⊥) (Unknown child)
-              (First (is_ancestor kept.graph child parent ≡ true) Cycle (FirstAt (JoinsTooMany kept.limits kept.graph parent child) Count (FirstAt (JoinsTooLarge kept.limits kept.graph parent child) ClusterSize NoRefusal)))
-              (First (IsAncestor main.graph.pairs child parent) Cycle (FirstAt (OverCount state parent child) Count (FirstAt (OverSize state parent child) ClusterSize NoRefusal)))
-              found (absent child)
-              (first_map (is_ancestor kept.graph child parent ≡ true) (IsAncestor main.graph.pairs child parent) Cycle (FirstAt (JoinsTooMany kept.limits kept.graph parent child) Count (FirstAt (JoinsTooLarge kept.limits kept.graph parent child) ClusterSize NoRefusal)) (FirstAt (OverCount state parent child) Count (FirstAt (OverSize state parent child) ClusterSize NoRefusal)) found (cycle member) (dep_tail found)) on.1,
-        )
-  ]
+  dep_row_here found = dep_row_along _ _ _ _ _ _ (JoinsTooMany kept.limits kept.graph parent child) (JoinsTooLarge kept.limits kept.graph parent child)
+      (OverCount state parent child) (OverSize state parent child) parent child found (absent parent) (absent child)
+      (λ there _. cycle (true_from_ne_false (is_member kept.graph parent) (λ fails. there (λ holds. true≢false (sym holds ∙ fails))))) too_many too_large
 
-pub dep_row : (kept : Kept) (parent child : ℕ) (found : Option Refusal) → IsOrder (is_member kept.graph) (is_ancestor kept.graph) → DepRefusalIs kept.limits kept.graph parent child found → (state : State) → StandsFor kept state → RefusalIs state (Dep parent child) found
+pub dep_row : (kept : Kept) (parent child : ℕ) (found : Option Refusal) → IsOrder (is_member kept.graph) (is_ancestor kept.graph) → DepRefusalIs kept.limits kept.graph parent child found → (state : PlainState) → StandsFor kept state → RefusalIs state (Dep parent child) found
 dep_row kept parent child found order row = of_states kept (λ state. RefusalIs state (Dep parent child) found) (λ table main stands. dep_row_here kept table main stands order parent child found row)
 
 -- ---- a name that must be in a level
 
-not_in_level : (kept : Kept) (table : Table) (main : LevelState) (level : Level) (id : ℕ) → StandsFor kept (state_of kept table main) → is_member kept.graph id ≡ false → Contains (level_of (state_of kept table main) level).graph.names id → ⊥
+not_in_level : (kept : Kept) (table : Table) (main : Graph) (level : Level) (id : ℕ) → StandsFor kept (state_of kept table main) → is_member kept.graph id ≡ false → Contains (level_of (state_of kept table main) level).names id → ⊥
 not_in_level kept table main level id stands fails here =
-    let there : Contains main.graph.names id = subst (λ (l : LevelState). Contains l.graph.names id) (level-main kept table main level) here in
+    let there : Contains main.names id = subst (λ (l : Graph). Contains l.names id) (level-main kept table main level) here in
     true≢false (sym ((stands.closure.names id).0 there) ∙ fails)
 
-in_level : (kept : Kept) (table : Table) (main : LevelState) (level : Level) (id : ℕ) → StandsFor kept (state_of kept table main) → is_member kept.graph id ≡ true → Contains (level_of (state_of kept table main) level).graph.names id
-in_level kept table main level id stands holds = subst (λ (l : LevelState). Contains l.graph.names id) (sym (level-main kept table main level)) ((stands.closure.names id).1 holds)
+in_level : (kept : Kept) (table : Table) (main : Graph) (level : Level) (id : ℕ) → StandsFor kept (state_of kept table main) → is_member kept.graph id ≡ true → Contains (level_of (state_of kept table main) level).names id
+in_level kept table main level id stands holds = subst (λ (l : Graph). Contains l.names id) (sym (level-main kept table main level)) ((stands.closure.names id).1 holds)
 
 -- the row of every command whose only refusal is an unknown name
-pub unknown_here : (kept : Kept) (level : Level) (id : ℕ) → is_member kept.graph id ≡ false → (state : State) → StandsFor kept state → First (Contains (level_of state level).graph.names id → ⊥) (Unknown id) NoRefusal (Some (Unknown id))
-unknown_here kept level id fails = of_states kept (λ state. First (Contains (level_of state level).graph.names id → ⊥) (Unknown id) NoRefusal (Some (Unknown id))) (λ table main stands. inl (not_in_level kept table main level id stands fails, refl))
+pub unknown_here : (kept : Kept) (level : Level) (id : ℕ) → is_member kept.graph id ≡ false → (state : PlainState) → StandsFor kept state → First (Contains (level_of state level).names id → ⊥) (Unknown id) NoRefusal (Some (Unknown id))
+unknown_here kept level id fails = of_states kept (λ state. First (Contains (level_of state level).names id → ⊥) (Unknown id) NoRefusal (Some (Unknown id))) (λ table main stands. inl (not_in_level kept table main level id stands fails, refl))
 
-pub known_here : (kept : Kept) (level : Level) (id : ℕ) → is_member kept.graph id ≡ true → (state : State) → StandsFor kept state → First (Contains (level_of state level).graph.names id → ⊥) (Unknown id) NoRefusal None
-known_here kept level id holds = of_states kept (λ state. First (Contains (level_of state level).graph.names id → ⊥) (Unknown id) NoRefusal None) (λ table main stands. inr (λ none. none (in_level kept table main level id stands holds), refl))
+pub known_here : (kept : Kept) (level : Level) (id : ℕ) → is_member kept.graph id ≡ true → (state : PlainState) → StandsFor kept state → First (Contains (level_of state level).names id → ⊥) (Unknown id) NoRefusal None
+known_here kept level id holds = of_states kept (λ state. First (Contains (level_of state level).names id → ⊥) (Unknown id) NoRefusal None) (λ table main stands. inr (λ none. none (in_level kept table main level id stands holds), refl))

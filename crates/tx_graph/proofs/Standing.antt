@@ -8,35 +8,36 @@ use Rattle.graphs.specs.declared.names.Level.{Level}
 use Rattle.graphs.specs.declared.names.Level.TheVariants.{Main, Top}
 use Rattle.graph_model.specs.declared.names.Refusal.{Refusal}
 use Rattle.graph_model.specs.declared.names.Refusal.TheVariants.{Memory}
-use Rattle.graphs.specs.Graphs.{IsAncestor, AreConnected}
-use Rattle.graph_model.specs.States.{State, LevelState, Table, level_of}
+use Rattle.graphs.specs.Graphs.{Graph, IsAncestor, AreConnected}
+use Rattle.graph_model.specs.States.{PlainState, Picks, Table, level_of}
 use Rattle.graph_model.specs.Commands.{Command}
 use Rattle.graph_model.specs.Refusals.{RefusalIs}
 use Rattle.graph_model.specs.Replies.{Reply, Refused}
-use Rattle.graph_model.specs.Steps.{Accepts, MayLackMemory}
+use Rattle.graph_model.specs.Steps.{AcceptsPlainly, MayLackMemory}
+use Rattle.graph_model.specs.declared.limits.TheConstants.{MAX_COUNT}
 use Rattle.tx_graph.specs.Kept.{Kept, StandsFor, MakesStep, entry_of}
 
 -- a state with this table and this main graph
-abbrev pub state_of : Kept → Table → LevelState → State
-state_of kept table main = record { limits = kept.limits; begun = kept.begun; table = table; main = main; staging = None }
+abbrev pub state_of : Kept → Table → Graph → PlainState
+state_of kept table main = record { limits = kept.limits; most = MAX_COUNT; begun = kept.begun; table = table; main = main; staging = None }
 
 -- what holds of each such state that the graph stands for holds of each that it stands for
-pub of_states : (kept : Kept) (P : State → Type 0) → ((table : Table) (main : LevelState) → StandsFor kept (state_of kept table main) → P (state_of kept table main)) → (state : State) → StandsFor kept state → P state
+pub of_states : (kept : Kept) (P : PlainState → Type 0) → ((table : Table) (main : Graph) → StandsFor kept (state_of kept table main) → P (state_of kept table main)) → (state : PlainState) → StandsFor kept state → P state
 of_states kept P holds state stands =
     let same : state_of kept state.table state.main ≡ state =
-    λ i. record { limits = sym stands.limits i; begun = sym stands.begun i; table = state.table; main = state.main; staging = sym stands.staging i } in
-    subst P same (holds state.table state.main (record { limits = refl; begun = refl; table = stands.table; closure = stands.closure; among = stands.among; valid = stands.valid; staging = refl }))
+    λ i. record { limits = sym stands.limits i; most = sym stands.most i; begun = sym stands.begun i; table = state.table; main = state.main; staging = sym stands.staging i } in
+    subst P same (holds state.table state.main (record { limits = refl; most = refl; begun = refl; table = stands.table; closure = stands.closure; among = stands.among; valid = stands.valid; staging = refl }))
 
-module _ (kept : Kept) (state : State) (stands : StandsFor kept state) where
+module _ (kept : Kept) (state : PlainState) (stands : StandsFor kept state) where
   pub order_kept : IsOrder (is_member kept.graph) (is_ancestor kept.graph)
-  order_kept = order_from (is_member kept.graph) (is_ancestor kept.graph) state.main.graph stands.closure stands.among
+  order_kept = order_from (is_member kept.graph) (is_ancestor kept.graph) state.main stands.closure stands.among
 
-  pub told : (a b : ℕ) → IsAncestor state.main.graph.pairs a b ↔ ((a ≡ b) ⊎ (is_ancestor kept.graph a b ≡ true))
-  told = ancestors_told (is_member kept.graph) (is_ancestor kept.graph) state.main.graph stands.closure order_kept
+  pub told : (a b : ℕ) → IsAncestor state.main.pairs a b ↔ ((a ≡ b) ⊎ (is_ancestor kept.graph a b ≡ true))
+  told = ancestors_told (is_member kept.graph) (is_ancestor kept.graph) state.main stands.closure order_kept
 
   -- names are connected by pairs where steps to ancestors and descendants lead from the one to the other
-  pub connected-linked : (a b : ℕ) → AreConnected state.main.graph.pairs a b ↔ AreLinked kept.graph a b
-  connected-linked = connected_linked kept.graph state.main.graph order_kept stands.closure
+  pub connected-linked : (a b : ℕ) → AreConnected state.main.pairs a b ↔ AreLinked kept.graph a b
+  connected-linked = connected_linked kept.graph state.main order_kept stands.closure
 
 -- two graphs that differ at most in the count of additions
 pub record IsSameGraph (old new : Kept) : Type 0 where
@@ -50,34 +51,35 @@ itself kept = record { limits = refl; begun = refl; graph = refl }
 pub same_kept : (old new : Kept) → new ≡ old → IsSameGraph old new
 same_kept old new same = record { limits = ap (λ (k : Kept). k.limits) same; begun = ap (λ (k : Kept). k.begun) same; graph = ap (λ (k : Kept). k.graph) same }
 
-pub stands_still : (old new : Kept) → IsSameGraph old new → (state : State) → StandsFor old state → StandsFor new state
+pub stands_still : (old new : Kept) → IsSameGraph old new → (state : PlainState) → StandsFor old state → StandsFor new state
 stands_still old new same state stands = record {
   limits = stands.limits ∙ sym same.limits;
+  most = stands.most;
   begun = stands.begun ∙ sym same.begun;
   table = λ id. stands.table id ∙ ap (λ (g : Closure). entry_of (finmap.get g id)) (sym same.graph);
-  closure = subst (λ (g : Closure). IsClosureOf g state.main.graph) (sym same.graph) stands.closure;
+  closure = subst (λ (g : Closure). IsClosureOf g state.main) (sym same.graph) stands.closure;
   among = subst (λ (g : Closure). (a d : ℕ) → is_ancestor g a d ≡ true → (is_member g a ≡ true) × (is_member g d ≡ true)) (sym same.graph) stands.among;
   valid = stands.valid;
   staging = stands.staging;
 }
 
-pub steps_refused : (old new : Kept) (command : Command) (why : Refusal) → IsSameGraph old new → ((state : State) → StandsFor old state → RefusalIs state command (Some why)) → MakesStep old new command (Refused why)
+pub steps_refused : (old new : Kept) (command : Command) (why : Refusal) → IsSameGraph old new → ((state : PlainState) → StandsFor old state → RefusalIs state command (Some why)) → MakesStep old new command (Refused why)
 steps_refused old new command why same refused state stands =
-    (state, stands_still old new same state stands, inl (record { why = why; first = refused state stands; told = refl; same = refl }))
+    (state, stands_still old new same state stands, λ picks. inl (record { why = why; first = refused state stands; told = refl; same = refl }))
 
-pub steps_without_memory : (old new : Kept) (command : Command) → IsSameGraph old new → MayLackMemory command → ((state : State) → StandsFor old state → RefusalIs state command None) → MakesStep old new command (Refused Memory)
+pub steps_without_memory : (old new : Kept) (command : Command) → IsSameGraph old new → MayLackMemory command → ((state : PlainState) → StandsFor old state → RefusalIs state command None) → MakesStep old new command (Refused Memory)
 steps_without_memory old new command same may none state stands =
-    (state, stands_still old new same state stands, inr (inl (record { none = none state stands; may = may; told = refl; same = refl })))
+    (state, stands_still old new same state stands, λ picks. inr (inl (record { none = none state stands; may = may; told = refl; same = refl })))
 
-pub steps_accepted : (old new : Kept) (command : Command) (reply : Reply) → ((state : State) → StandsFor old state → RefusalIs state command None)
-    → ((table : Table) (main : LevelState) → StandsFor old (state_of old table main) → (next : State) × StandsFor new next × Accepts (state_of old table main) command reply next) → MakesStep old new command reply
+pub steps_accepted : (old new : Kept) (command : Command) (reply : Reply) → ((state : PlainState) → StandsFor old state → RefusalIs state command None)
+    → ((table : Table) (main : Graph) → StandsFor old (state_of old table main) → (next : PlainState) × StandsFor new next × ((picks : Picks) → AcceptsPlainly picks (state_of old table main) command reply next)) → MakesStep old new command reply
 steps_accepted old new command reply none accepts state stands =
-    let P : State → Type 0 = λ (state : State). (next : State) × StandsFor new next × Accepts state command reply next in
+    let P : PlainState → Type 0 = λ (state : PlainState). (next : PlainState) × StandsFor new next × ((picks : Picks) → AcceptsPlainly picks state command reply next) in
     let next : P state = of_states old P accepts state stands in
-    (next.0, next.1, inr (inr (record { none = none state stands; accepts = next.2 })))
+    (next.0, next.1, λ picks. inr (inr (record { none = none state stands; accepts = next.2 picks })))
 
 -- without a staging level both words speak of main
-pub level-main : (kept : Kept) (table : Table) (main : LevelState) (level : Level) → level_of (state_of kept table main) level ≡ main
+pub level-main : (kept : Kept) (table : Table) (main : Graph) (level : Level) → level_of (state_of kept table main) level ≡ main
 level-main kept table main Main = refl
 level-main kept table main Top = refl
 
@@ -86,6 +88,6 @@ some_entry None = refl
 some_entry (Some node) = refl
 
 -- a name is live where it is a member
-pub live-member : (kept : Kept) (state : State) (id : ℕ) → StandsFor kept state → is_some (finmap.get state.table id) ≡ is_member kept.graph id
+pub live-member : (kept : Kept) (state : PlainState) (id : ℕ) → StandsFor kept state → is_some (finmap.get state.table id) ≡ is_member kept.graph id
 unfolding is_member
 live-member kept state id stands = ap is_some (stands.table id) ∙ some_entry (finmap.get kept.graph id)

@@ -6,7 +6,8 @@ use Rattle.std.specs.FinMap as finmap
 use Rattle.lists.proofs.Entries.{none_in_empty}
 use Rattle.graph_model.specs.declared.names.Limits.{Limits}
 use Rattle.graphs.specs.Closures.{is_member}
-use Rattle.graph_model.specs.States.{start}
+use Rattle.graph_model.specs.States.{plain_start}
+use Rattle.graph_model.specs.declared.limits.TheConstants.{MAX_COUNT}
 use Rattle.tx_graph.specs.Kept.{StandsFor, entry_of}
 use Rattle.tx_graph.specs.Shelves.{Shelf, graph_of}
 use Rattle.tx_graph.proofs.Graphs.{member-spot, above-none, get-none}
@@ -18,8 +19,9 @@ module _ (limits : Limits) (shelf : Shelf) (empty : shelf.spots ≡ finmap.empty
   none_live : (id : ℕ) → is_member (graph_of shelf) id ≡ true → Contains [] id
   none_live id member = absurd (true≢false (sym member ∙ member-spot shelf id ∙ ap is_some (no_spot id)))
 
-  pub stands_start : StandsFor (record { limits = limits; begun = false; graph = graph_of shelf; additions = 0 }) (record start { limits = limits })
+  pub stands_start : StandsFor (record { limits = limits; begun = false; graph = graph_of shelf; additions = 0 }) (record (plain_start MAX_COUNT) { limits = limits })
   stands_start = record {
+    most = refl;
     limits = refl;
     begun = refl;
     table = λ id. finmap.get-empty nat_cmp id ∙ sym (ap entry_of (get-none shelf id (no_spot id)));

@@ -1,7 +1,7 @@
 -- The accepted steps.
 use Rattle.std.proofs.Common.{suc, arith, ◌≡◌, ◌≢◌, ℕ, ℤ, Bool, true, false, cond, not, ◌&&◌, ◌||◌, nat_eq, List, [], ◌∷◌, ◌++◌, length, sym, refl, ap, ap₂, subst, ◌∙◌, inl, inr, ◌⊎◌, ◌↔◌, Option, None, Some, is_some, eq-eqb, ne_eqb, eqb-true, true≢false}
 use Rattle.std.specs.Prelude.{Contains}
-use Rattle.std.proofs.lemmas.Bool.{cases_eq, or_cases, or_left, or_right, and_parts, and_from}
+use Rattle.std.proofs.lemmas.Bool.{cases_eq, false_from_ne_true, or_cases, or_left, or_right, and_parts, and_from}
 use Rattle.std.proofs.lemmas.List.Elements.{Contains-append_left, Contains-push, Contains-push_cases}
 use Rattle.std.specs.Ordering.{nat_cmp}
 use Rattle.std.specs.Cmp.{nat_cmp_total, unsigned_tied}
@@ -13,12 +13,12 @@ use Rattle.lists.specs.Distinct.{AreDistinct}
 use Rattle.fee_rate.specs.declared.rates.FeeRate.{FeeRate}
 use Rattle.graph_model.specs.declared.names.Limits.{Limits}
 use Rattle.graphs.specs.declared.names.Level.{Level}
-use Rattle.graphs.specs.Graphs.{IsAncestor, AreConnected, IsGraph, Lists}
-use Rattle.graph_model.specs.States.{State, LevelState, Table, Entry, size_of}
+use Rattle.graphs.specs.Graphs.{Graph, IsAncestor, AreConnected, IsGraph, Lists}
+use Rattle.graph_model.specs.States.{PlainState, Picks, Table, Entry, size_of, with_top}
 use Rattle.graph_model.specs.Commands.{SetLimits, Add, Dep, SetFee, Remove, Cluster, Ancestors, Descendants, Count}
 use Rattle.graph_model.specs.Refusals.{RefusalIs}
 use Rattle.graphs.specs.Removals.{IsWithout}
-use Rattle.graph_model.specs.Changes.{added, limited, with_fee, begun, with_graph}
+use Rattle.graph_model.specs.Changes.{added, limited, with_fee, begun, Forgets}
 use Rattle.graph_model.specs.Changes as changes
 use Rattle.graph_model.specs.Replies.{Done, Ids, Number}
 use Rattle.graphs.specs.Closing.{IsClosureOf, with_name, with_pair}
@@ -30,7 +30,7 @@ use Rattle.graphs.proofs.ListLemmas.{Lists-for}
 use Rattle.tx_graph.specs.Kept.{Kept, StandsFor, MakesStep, entry_of, AddsName}
 use Rattle.tx_graph.proofs.Standing.{state_of, steps_accepted, level-main, order_kept, told, connected-linked}
 use Rattle.tx_graph.proofs.Rows.{size-of}
-use Rattle.tx_graph.proofs.Lens.{len-names}
+use Rattle.graph_model.proofs.TableLemmas.{len-names}
 
 -- ---- entries, by words
 
@@ -61,7 +61,7 @@ get-drop table id q = finmap.get-remove nat_cmp_total table id q ∙ ap (λ b. c
 -- ---- one more name
 
 module _ (old new : Kept) (id : ℕ) (fee : ℤ) (size : ℕ) (limits : new.limits ≡ old.limits) (begins : new.begun ≡ true) (absent : is_member old.graph id ≡ false) (adds : AddsName old.graph new.graph id (record { fee = fee; size = size })) where
-  table_added : (table : Table) (main : LevelState) → StandsFor old (state_of old table main) → (q : ℕ) → finmap.get (finmap.insert table id (record { fee = fee; size = size })) q ≡ entry_of (finmap.get new.graph q)
+  table_added : (table : Table) (main : Graph) → StandsFor old (state_of old table main) → (q : ℕ) → finmap.get (finmap.insert table id (record { fee = fee; size = size })) q ≡ entry_of (finmap.get new.graph q)
   table_added table main stands q = get-put table id q (record { fee = fee; size = size }) ∙ elim (cases_eq q id) [
     | inl same ↦
         ap (λ b. cond b (Some (record { fee = fee; size = size })) (finmap.get table q)) (eq-eqb q id same)
@@ -71,15 +71,16 @@ module _ (old new : Kept) (id : ℕ) (fee : ℤ) (size : ℕ) (limits : new.limi
         ∙ sym (same_entry old.graph new.graph q (adds.members q ∙ ap (λ b. b || is_member old.graph q) (ne_eqb q id other)) (adds.rates q other))
   ]
 
-  pub steps_added : ((state : State) → StandsFor old state → RefusalIs state (Add id fee size) None) → MakesStep old new (Add id fee size) Done
+  pub steps_added : ((state : PlainState) → StandsFor old state → RefusalIs state (Add id fee size) None) → MakesStep old new (Add id fee size) Done
   steps_added none = steps_accepted old new (Add id fee size) Done none (λ table main stands. (
     added (state_of old table main) id fee size,
     record {
       limits = sym limits;
+      most = refl;
       begun = sym begins;
       table = table_added table main stands;
-      closure = closes_like (λ q. nat_eq q id || is_member old.graph q) (λ a d. (nat_eq a id && nat_eq d id) || is_ancestor old.graph a d) (with_name main.graph id)
-          (closes_added (is_member old.graph) (is_ancestor old.graph) main.graph id stands.closure absent stands.among) (is_member new.graph) (is_ancestor new.graph) adds.members (λ a d here there. adds.ancestors a d);
+      closure = closes_like (λ q. nat_eq q id || is_member old.graph q) (λ a d. (nat_eq a id && nat_eq d id) || is_ancestor old.graph a d) (with_name main id)
+          (closes_added (is_member old.graph) (is_ancestor old.graph) main id stands.closure absent stands.among) (is_member new.graph) (is_ancestor new.graph) adds.members (λ a d here there. adds.ancestors a d);
       among = λ a d up. elim (or_cases (nat_eq a id && nat_eq d id) (is_ancestor old.graph a d) (sym (adds.ancestors a d) ∙ up)) [
         | inl both ↦
             let is = and_parts (nat_eq a id) (nat_eq d id) both in
@@ -89,21 +90,21 @@ module _ (old new : Kept) (id : ℕ) (fee : ℤ) (size : ℕ) (limits : new.limi
             (adds.members a ∙ or_right (nat_eq a id) (is_member old.graph a) both.0, adds.members d ∙ or_right (nat_eq d id) (is_member old.graph d) both.1)
       ];
       valid = record {
-        names = distinct_push main.graph.names id stands.valid.names (λ here. true≢false (sym ((stands.closure.names id).0 here) ∙ absent));
+        names = distinct_push main.names id stands.valid.names (λ here. true≢false (sym ((stands.closure.names id).0 here) ∙ absent));
         pairs = stands.valid.pairs;
         ends = λ parent child pair.
-            let ends = stands.valid.ends parent child pair in (Contains-append_left main.graph.names (id ∷ []) parent ends.0, Contains-append_left main.graph.names (id ∷ []) child ends.1);
+            let ends = stands.valid.ends parent child pair in (Contains-append_left main.names (id ∷ []) parent ends.0, Contains-append_left main.names (id ∷ []) child ends.1);
         acyclic = stands.valid.acyclic;
       };
       staging = refl;
     },
-    (refl, refl),
+    λ picks. record { answer = refl; change = refl },
   ))
 
 -- ---- another fee
 
 module _ (old new : Kept) (id : ℕ) (fee : ℤ) (limits : new.limits ≡ old.limits) (begins : new.begun ≡ true) (live : is_member old.graph id ≡ true) (sets : SetsFee old.graph new.graph id fee) where
-  table_paid : (table : Table) (main : LevelState) → StandsFor old (state_of old table main) → (q : ℕ) → finmap.get (finmap.insert table id (record { fee = fee; size = size_of table id })) q ≡ entry_of (finmap.get new.graph q)
+  table_paid : (table : Table) (main : Graph) → StandsFor old (state_of old table main) → (q : ℕ) → finmap.get (finmap.insert table id (record { fee = fee; size = size_of table id })) q ≡ entry_of (finmap.get new.graph q)
   table_paid table main stands q = get-put table id q (record { fee = fee; size = size_of table id }) ∙ elim (cases_eq q id) [
     | inl same ↦
         ap (λ b. cond b (Some (record { fee = fee; size = size_of table id })) (finmap.get table q)) (eq-eqb q id same)
@@ -113,19 +114,20 @@ module _ (old new : Kept) (id : ℕ) (fee : ℤ) (limits : new.limits ≡ old.li
         ap (λ b. cond b (Some (record { fee = fee; size = size_of table id })) (finmap.get table q)) (ne_eqb q id other) ∙ stands.table q ∙ sym (same_entry old.graph new.graph q (sets.members q) (sets.rates q other))
   ]
 
-  pub steps_paid : ((state : State) → StandsFor old state → RefusalIs state (SetFee id fee) None) → MakesStep old new (SetFee id fee) Done
+  pub steps_paid : ((state : PlainState) → StandsFor old state → RefusalIs state (SetFee id fee) None) → MakesStep old new (SetFee id fee) Done
   steps_paid none = steps_accepted old new (SetFee id fee) Done none (λ table main stands. (
     with_fee (state_of old table main) id fee,
     record {
       limits = sym limits;
+      most = refl;
       begun = sym begins;
       table = table_paid table main stands;
-      closure = closes_like (is_member old.graph) (is_ancestor old.graph) main.graph stands.closure (is_member new.graph) (is_ancestor new.graph) sets.members (λ a d here there. sets.ancestors a d);
+      closure = closes_like (is_member old.graph) (is_ancestor old.graph) main stands.closure (is_member new.graph) (is_ancestor new.graph) sets.members (λ a d here there. sets.ancestors a d);
       among = λ a d up. let both = stands.among a d (sym (sets.ancestors a d) ∙ up) in (sets.members a ∙ both.0, sets.members d ∙ both.1);
       valid = stands.valid;
       staging = refl;
     },
-    (refl, refl),
+    λ picks. record { answer = refl; change = refl },
   ))
 
 -- ---- a pair
@@ -148,7 +150,7 @@ decide_pair (p ∷ ps) a b = elim (cases_eq p.0 a) [
 
 module _ (old new : Kept) (parent child : ℕ) (limits : new.limits ≡ old.limits) (begins : new.begun ≡ true)
     (parent_live : is_member old.graph parent ≡ true) (child_live : is_member old.graph child ≡ true) (no_way : is_ancestor old.graph child parent ≡ false) (pair : AddsPair old.graph new.graph parent child) where
-  module _ (table : Table) (main : LevelState) (stands : StandsFor old (state_of old table main)) where
+  module _ (table : Table) (main : Graph) (stands : StandsFor old (state_of old table main)) where
     same_table : (q : ℕ) → finmap.get table q ≡ entry_of (finmap.get new.graph q)
     same_table q = stands.table q ∙ sym (same_entry old.graph new.graph q (pair.members q) (pair.rates q))
 
@@ -161,36 +163,37 @@ module _ (old new : Kept) (parent child : ℕ) (limits : new.limits ≡ old.limi
         (pair.members a ∙ both.0, pair.members d ∙ both.1)
 
     -- a pair that is there already makes no new ancestor
-    same_above : Contains main.graph.pairs (parent, child) → (a d : ℕ) → is_ancestor new.graph a d ≡ is_ancestor old.graph a d
+    same_above : Contains main.pairs (parent, child) → (a d : ℕ) → is_ancestor new.graph a d ≡ is_ancestor old.graph a d
     same_above here a d = pair.ancestors a d ∙ same_test (is_ancestor old.graph a d || (is_ancestor old.graph a parent && is_ancestor old.graph child d)) (is_ancestor old.graph a d)
         (λ e. elim (or_cases (is_ancestor old.graph a d) (is_ancestor old.graph a parent && is_ancestor old.graph child d) e) [
           | inl was ↦ was
           | inr across ↦
               let parts = and_parts (is_ancestor old.graph a parent) (is_ancestor old.graph child d) across in
               let order = order_kept old (state_of old table main) stands in
-              order.transitive a child d (order.transitive a parent child parts.0 (pair_above (is_member old.graph) (is_ancestor old.graph) main.graph stands.closure parent child here)) parts.1
+              order.transitive a child d (order.transitive a parent child parts.0 (pair_above (is_member old.graph) (is_ancestor old.graph) main stands.closure parent child here)) parts.1
         ])
         (or_left (is_ancestor old.graph a d) (is_ancestor old.graph a parent && is_ancestor old.graph child d))
 
-    paired : IsClosureOf new.graph (with_pair main.graph parent child)
-    paired = pair_is_added parent child old.graph new.graph main.graph stands.closure parent_live child_live no_way pair
+    paired : IsClosureOf new.graph (with_pair main parent child)
+    paired = pair_is_added parent child old.graph new.graph main stands.closure parent_live child_live no_way pair
 
-    valid_paired : (Contains main.graph.pairs (parent, child) → ⊥) → IsGraph (with_pair main.graph parent child)
+    valid_paired : (Contains main.pairs (parent, child) → ⊥) → IsGraph (with_pair main parent child)
     valid_paired none = record {
       names = stands.valid.names;
-      pairs = distinct_push main.graph.pairs (parent, child) stands.valid.pairs none;
+      pairs = distinct_push main.pairs (parent, child) stands.valid.pairs none;
       ends = λ a b here. let both = paired.ends a b here in ((paired.names a).1 both.0, (paired.names b).1 both.1);
       acyclic = paired.acyclic;
     }
 
-    there_next : Contains main.graph.pairs (parent, child) → (next : State) × StandsFor new next × changes.AddsPair (state_of old table main) parent child next
+    there_next : Contains main.pairs (parent, child) → (next : PlainState) × StandsFor new next × changes.AddsPair (state_of old table main) parent child next
     there_next here = (
       begun (state_of old table main),
       record {
         limits = sym limits;
+        most = refl;
         begun = sym begins;
         table = same_table;
-        closure = closes_like (is_member old.graph) (is_ancestor old.graph) main.graph stands.closure (is_member new.graph) (is_ancestor new.graph) pair.members (λ a d _ _. same_above here a d);
+        closure = closes_like (is_member old.graph) (is_ancestor old.graph) main stands.closure (is_member new.graph) (is_ancestor new.graph) pair.members (λ a d _ _. same_above here a d);
         among = among_paired;
         valid = stands.valid;
         staging = refl;
@@ -198,11 +201,12 @@ module _ (old new : Kept) (parent child : ℕ) (limits : new.limits ≡ old.limi
       inl (here, refl),
     )
 
-    new_next : (Contains main.graph.pairs (parent, child) → ⊥) → (next : State) × StandsFor new next × changes.AddsPair (state_of old table main) parent child next
+    new_next : (Contains main.pairs (parent, child) → ⊥) → (next : PlainState) × StandsFor new next × changes.AddsPair (state_of old table main) parent child next
     new_next none = (
-      with_graph (begun (state_of old table main)) (with_pair main.graph parent child),
+      with_top (begun (state_of old table main)) (with_pair main parent child),
       record {
         limits = sym limits;
+        most = refl;
         begun = sym begins;
         table = same_table;
         closure = paired;
@@ -213,17 +217,17 @@ module _ (old new : Kept) (parent child : ℕ) (limits : new.limits ≡ old.limi
       inr (none, refl),
     )
 
-  pub steps_paired : ((state : State) → StandsFor old state → RefusalIs state (Dep parent child) None) → MakesStep old new (Dep parent child) Done
+  pub steps_paired : ((state : PlainState) → StandsFor old state → RefusalIs state (Dep parent child) None) → MakesStep old new (Dep parent child) Done
   steps_paired none = steps_accepted old new (Dep parent child) Done none (λ table main stands.
-      elim (decide_pair main.graph.pairs parent child) [
-        | inl here ↦ let next = there_next table main stands here in (next.0, next.1, (refl, next.2))
-        | inr fresh ↦ let next = new_next table main stands fresh in (next.0, next.1, (refl, next.2))
+      elim (decide_pair main.pairs parent child) [
+        | inl here ↦ let next = there_next table main stands here in (next.0, next.1, λ picks. record { answer = refl; change = next.2 })
+        | inr fresh ↦ let next = new_next table main stands fresh in (next.0, next.1, λ picks. record { answer = refl; change = next.2 })
       ])
 
 -- ---- a name is dropped
 
 module _ (old new : Kept) (id : ℕ) (limits : new.limits ≡ old.limits) (begins : new.begun ≡ true) (drops : DropsPlace old.graph new.graph id) where
-  table_dropped : (table : Table) (main : LevelState) → StandsFor old (state_of old table main) → (q : ℕ) → finmap.get (finmap.remove table id) q ≡ entry_of (finmap.get new.graph q)
+  table_dropped : (table : Table) (main : Graph) → StandsFor old (state_of old table main) → (q : ℕ) → finmap.get (finmap.remove table id) q ≡ entry_of (finmap.get new.graph q)
   table_dropped table main stands q = get-drop table id q ∙ elim (cases_eq q id) [
     | inl same ↦
         ap (λ b. cond b None (finmap.get table q)) (eq-eqb q id same)
@@ -233,94 +237,118 @@ module _ (old new : Kept) (id : ℕ) (limits : new.limits ≡ old.limits) (begin
         ∙ sym (same_entry old.graph new.graph q (drops.members q ∙ ap (λ b. not b && is_member old.graph q) (ne_eqb q id other)) (drops.rates q other))
   ]
 
-  pub steps_removed : ((state : State) → StandsFor old state → RefusalIs state (Remove id) None) → MakesStep old new (Remove id) Done
+  -- the table has the names that are left, and no other
+  forgets : (table : Table) (main rest : Graph) → StandsFor old (state_of old table main) → IsWithout main id rest
+      → Forgets (with_top (begun (state_of old table main)) rest) (record (with_top (begun (state_of old table main)) rest) { table = finmap.remove table id })
+  forgets table main rest stands without =
+      let stays : (q : ℕ) → Contains rest.names q → finmap.get (finmap.remove table id) q ≡ finmap.get table q = λ q here.
+      get-drop table id q ∙ ap (λ b. cond b None (finmap.get table q)) (ne_eqb q id ((without.names q).0 here).1) in
+      record {
+        same = refl;
+        kept = λ q kept. elim kept [ inl one ↦ stays q one | inr two ↦ stays q two ];
+        dropped = λ q gone. get-drop table id q ∙ elim (cases_eq q id) [
+          | inl same ↦ ap (λ b. cond b None (finmap.get table q)) (eq-eqb q id same)
+          | inr other ↦
+              ap (λ b. cond b None (finmap.get table q)) (ne_eqb q id other) ∙ stands.table q ∙ entry-words old.graph q
+              ∙ ap (λ b. entry_from b (rate_of old.graph q)) (false_from_ne_true (is_member old.graph q) (λ member. gone (inl ((without.names q).1 ((stands.closure.names q).1 member, other)))))
+        ];
+      }
+
+  pub steps_removed : ((state : PlainState) → StandsFor old state → RefusalIs state (Remove id) None) → MakesStep old new (Remove id) Done
   steps_removed none = steps_accepted old new (Remove id) Done none (λ table main stands.
-      let rest = some_without main.graph id stands.valid in
-      let gone : Contains rest.0.names id → ⊥ = λ here. ((rest.1.names id).0 here).1 refl in (
-        record (with_graph (begun (state_of old table main)) rest.0) { table = finmap.remove table id },
+      let rest = some_without main id stands.valid in (
+        record (with_top (begun (state_of old table main)) rest.0) { table = finmap.remove table id },
         record {
           limits = sym limits;
+          most = refl;
           begun = sym begins;
           table = table_dropped table main stands;
-          closure = pairs_are_bridged id old.graph new.graph main.graph rest.0 stands.closure rest.1 drops;
+          closure = pairs_are_bridged id old.graph new.graph main rest.0 stands.closure rest.1 drops;
           among = λ a d up.
               let one = and_parts (not (nat_eq a id)) (not (nat_eq d id) && is_ancestor old.graph a d) (sym (drops.ancestors a d) ∙ up) in
               let two = and_parts (not (nat_eq d id)) (is_ancestor old.graph a d) one.1 in
               let both = stands.among a d two.1 in
               (drops.members a ∙ and_from (not (nat_eq a id)) (is_member old.graph a) one.0 both.0, drops.members d ∙ and_from (not (nat_eq d id)) (is_member old.graph d) two.0 both.1);
-          valid = graph_left main.graph rest.0 id rest.1 stands.valid;
+          valid = graph_left main rest.0 id rest.1 stands.valid;
           staging = refl;
         },
-        (refl, (rest.0, rest.1, inr ((λ kept. elim kept [ inl one ↦ gone one | inr two ↦ gone two ]), refl))),
+        λ picks. record { answer = refl; change = (rest.0, rest.1, forgets table main rest.0 stands rest.1) },
       ))
 
 -- ---- limits
 
-pub steps_limited : (old new : Kept) (set : Limits) → new.limits ≡ set → new.begun ≡ true → new.graph ≡ old.graph → ((state : State) → StandsFor old state → RefusalIs state (SetLimits set.count set.size set.total) None) → MakesStep old new (SetLimits set.count set.size set.total) Done
+pub steps_limited : (old new : Kept) (set : Limits) → new.limits ≡ set → new.begun ≡ true → new.graph ≡ old.graph → ((state : PlainState) → StandsFor old state → RefusalIs state (SetLimits set.count set.size set.total) None) → MakesStep old new (SetLimits set.count set.size set.total) Done
 steps_limited old new set limits begins graph none = steps_accepted old new (SetLimits set.count set.size set.total) Done none (λ table main stands. (
   limited (state_of old table main) set,
   record {
     limits = sym limits;
+    most = refl;
     begun = sym begins;
     table = λ q. stands.table q ∙ ap (λ (g : Closure). entry_of (finmap.get g q)) (sym graph);
-    closure = subst (λ (g : Closure). IsClosureOf g main.graph) (sym graph) stands.closure;
+    closure = subst (λ (g : Closure). IsClosureOf g main) (sym graph) stands.closure;
     among = subst (λ (g : Closure). (a d : ℕ) → is_ancestor g a d ≡ true → (is_member g a ≡ true) × (is_member g d ≡ true)) (sym graph) stands.among;
     valid = stands.valid;
     staging = refl;
   },
-  (refl, refl),
+  λ picks. record { answer = refl; change = refl },
 ))
 
 -- ---- readings
 
-pub steps_counted : (kept : Kept) (level : Level) (n : ℕ) → ((state : State) → StandsFor kept state → n ≡ length state.main.graph.names) → MakesStep kept kept (Count level) (Number n)
+pub steps_counted : (kept : Kept) (level : Level) (n : ℕ) → ((state : PlainState) → StandsFor kept state → n ≡ length state.main.names) → MakesStep kept kept (Count level) (Number n)
 steps_counted kept level n long = steps_accepted kept kept (Count level) (Number n) (λ state stands. refl) (λ table main stands. (
   state_of kept table main,
   stands,
-  (refl, ap Number (long (state_of kept table main) stands ∙ ap (λ (l : LevelState). length l.graph.names) (sym (level-main kept table main level)))),
+  λ picks. record { answer = ap Number (long (state_of kept table main) stands ∙ ap (λ (l : Graph). length l.names) (sym (level-main kept table main level))); change = refl },
 ))
 
-pub len-live : (kept : Kept) (state : State) {X : Type 0} (m : finmap.FinMap nat_cmp X) → StandsFor kept state → ((q : ℕ) → finmap.contains_key m q ≡ is_member kept.graph q) → finmap.len m ≡ length state.main.graph.names
-len-live kept state m stands same = sym (len-names state.main.graph.names m stands.valid.names (λ q. subst (λ b. Contains state.main.graph.names q ↔ (b ≡ true)) (sym (same q)) (stands.closure.names q)))
+pub len-live : (kept : Kept) (state : PlainState) {X : Type 0} (m : finmap.FinMap nat_cmp X) → StandsFor kept state → ((q : ℕ) → finmap.contains_key m q ≡ is_member kept.graph q) → finmap.len m ≡ length state.main.names
+len-live kept state m stands same = sym (len-names state.main.names m stands.valid.names (λ q. subst (λ b. Contains state.main.names q ↔ (b ≡ true)) (sym (same q)) (stands.closure.names q)))
 
 module _ (kept : Kept) (level : Level) (id : ℕ) (ids : List ℕ) (order : IsOrder (is_member kept.graph) (is_ancestor kept.graph)) (live : is_member kept.graph id ≡ true) where
-  pub steps_clustered : ((state : State) → StandsFor kept state → RefusalIs state (Cluster id level) None) → Lists (λ q. AreLinked kept.graph id q) ids → MakesStep kept kept (Cluster id level) (Ids ids)
+  pub steps_clustered : ((state : PlainState) → StandsFor kept state → RefusalIs state (Cluster id level) None) → Lists (λ q. AreLinked kept.graph id q) ids → MakesStep kept kept (Cluster id level) (Ids ids)
   steps_clustered none lists = steps_accepted kept kept (Cluster id level) (Ids ids) none (λ table main stands. (
     state_of kept table main,
     stands,
-    (
-      refl,
-      ids,
-      subst (λ (l : LevelState). Lists (AreConnected l.graph.pairs id) ids) (sym (level-main kept table main level))
-          (Lists-for (λ q. AreLinked kept.graph id q) (AreConnected main.graph.pairs id) ids (λ q linked. (connected-linked kept (state_of kept table main) stands id q).1 linked) (λ q trail. (connected-linked kept (state_of kept table main) stands id q).0 trail) lists),
-      refl,
-    ),
+    λ picks. record {
+      answer = (
+        ids,
+        subst (λ (l : Graph). Lists (AreConnected l.pairs id) ids) (sym (level-main kept table main level))
+            (Lists-for (λ q. AreLinked kept.graph id q) (AreConnected main.pairs id) ids (λ q linked. (connected-linked kept (state_of kept table main) stands id q).1 linked) (λ q trail. (connected-linked kept (state_of kept table main) stands id q).0 trail) lists),
+        refl,
+      );
+      change = refl;
+    },
   ))
 
-  pub steps_ascended : ((state : State) → StandsFor kept state → RefusalIs state (Ancestors id level) None) → Lists (λ q. is_ancestor kept.graph q id ≡ true) ids → MakesStep kept kept (Ancestors id level) (Ids ids)
+  pub steps_ascended : ((state : PlainState) → StandsFor kept state → RefusalIs state (Ancestors id level) None) → Lists (λ q. is_ancestor kept.graph q id ≡ true) ids → MakesStep kept kept (Ancestors id level) (Ids ids)
   steps_ascended none lists = steps_accepted kept kept (Ancestors id level) (Ids ids) none (λ table main stands. (
     state_of kept table main,
     stands,
-    (
-      refl,
-      ids,
-      subst (λ (l : LevelState). Lists (λ a. IsAncestor l.graph.pairs a id) ids) (sym (level-main kept table main level))
-          (Lists-for (λ q. is_ancestor kept.graph q id ≡ true) (λ a. IsAncestor main.graph.pairs a id) ids (λ q up. (told kept (state_of kept table main) stands q id).1 (inr up))
-          (λ q walk. elim ((told kept (state_of kept table main) stands q id).0 walk) [ inl same ↦ subst (λ x. is_ancestor kept.graph x id ≡ true) (sym same) (order.reflexive id live) | inr up ↦ up ]) lists),
-      refl,
-    ),
+    λ picks. record {
+      answer = (
+        ids,
+        subst (λ (l : Graph). Lists (λ a. IsAncestor l.pairs a id) ids) (sym (level-main kept table main level))
+            (Lists-for (λ q. is_ancestor kept.graph q id ≡ true) (λ a. IsAncestor main.pairs a id) ids (λ q up. (told kept (state_of kept table main) stands q id).1 (inr up))
+            (λ q walk. elim ((told kept (state_of kept table main) stands q id).0 walk) [ inl same ↦ subst (λ x. is_ancestor kept.graph x id ≡ true) (sym same) (order.reflexive id live) | inr up ↦ up ]) lists),
+        refl,
+      );
+      change = refl;
+    },
   ))
 
-  pub steps_descended : ((state : State) → StandsFor kept state → RefusalIs state (Descendants id level) None) → Lists (λ q. is_ancestor kept.graph id q ≡ true) ids → MakesStep kept kept (Descendants id level) (Ids ids)
+  pub steps_descended : ((state : PlainState) → StandsFor kept state → RefusalIs state (Descendants id level) None) → Lists (λ q. is_ancestor kept.graph id q ≡ true) ids → MakesStep kept kept (Descendants id level) (Ids ids)
   steps_descended none lists = steps_accepted kept kept (Descendants id level) (Ids ids) none (λ table main stands. (
     state_of kept table main,
     stands,
-    (
-      refl,
-      ids,
-      subst (λ (l : LevelState). Lists (λ d. IsAncestor l.graph.pairs id d) ids) (sym (level-main kept table main level))
-          (Lists-for (λ q. is_ancestor kept.graph id q ≡ true) (λ d. IsAncestor main.graph.pairs id d) ids (λ q up. (told kept (state_of kept table main) stands id q).1 (inr up))
-          (λ q walk. elim ((told kept (state_of kept table main) stands id q).0 walk) [ inl same ↦ subst (λ x. is_ancestor kept.graph id x ≡ true) same (order.reflexive id live) | inr up ↦ up ]) lists),
-      refl,
-    ),
+    λ picks. record {
+      answer = (
+        ids,
+        subst (λ (l : Graph). Lists (λ d. IsAncestor l.pairs id d) ids) (sym (level-main kept table main level))
+            (Lists-for (λ q. is_ancestor kept.graph id q ≡ true) (λ d. IsAncestor main.pairs id d) ids (λ q up. (told kept (state_of kept table main) stands id q).1 (inr up))
+            (λ q walk. elim ((told kept (state_of kept table main) stands id q).0 walk) [ inl same ↦ subst (λ x. is_ancestor kept.graph id x ≡ true) same (order.reflexive id live) | inr up ↦ up ]) lists),
+        refl,
+      );
+      change = refl;
+    },
   ))

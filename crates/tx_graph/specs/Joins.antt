@@ -3,10 +3,10 @@ use Rattle.std.specs.Prelude.{◌≡◌, ◌⊎◌, ℕ, ℤ, ◌<◌, ◌≤◌
 use Rattle.graphs.specs.Closures.{Closure, is_member, is_ancestor, rate_of, AreLinked}
 use Rattle.graph_model.specs.declared.names.Limits.{Limits}
 use Rattle.graph_model.specs.declared.names.Refusal.{Refusal}
-use Rattle.graph_model.specs.declared.names.Refusal.TheVariants.{Fee, Size, Taken, Full, ClusterSize, Unknown, Cycle, Count}
+use Rattle.graph_model.specs.declared.names.Refusal.TheVariants.{ClusterSize, Count}
 use Rattle.fee_rate.specs.Limits.{IsFee, IsSize}
 use Rattle.graphs.specs.Graphs.{Lists}
-use Rattle.graph_model.specs.Refusals.{First, FirstAt, NoRefusal}
+use Rattle.graph_model.specs.Refusals.{FirstAt, NoRefusal, AddRow, DepRow}
 
 -- the members of the cluster that a pair would make of two
 abbrev pub JoinsTo : Closure → ℕ → ℕ → List ℕ → Type 0
@@ -23,11 +23,8 @@ JoinsTooLarge limits graph parent child n = (members : List ℕ) × JoinsTo grap
 -- the refusal that a pair meets
 abbrev pub DepRefusalIs : Limits → Closure → ℕ → ℕ → Option Refusal → Type 0
 DepRefusalIs limits graph parent child =
-    First (is_member graph parent ≡ true → ⊥) (Unknown parent)
-    (First (is_member graph child ≡ true → ⊥) (Unknown child)
-    (First (is_ancestor graph child parent ≡ true) Cycle
-    (FirstAt (JoinsTooMany limits graph parent child) Count
-    (FirstAt (JoinsTooLarge limits graph parent child) ClusterSize NoRefusal))))
+    DepRow (is_member graph parent ≡ true → ⊥) (is_member graph child ≡ true → ⊥) (is_ancestor graph child parent ≡ true)
+    (JoinsTooMany limits graph parent child) (JoinsTooLarge limits graph parent child) parent child
 
 -- the refusal that two numbers of names and two sizes meet when they are put together
 abbrev pub SumRefusalIs : Limits → ℕ → ℕ → Option Refusal → Type 0
@@ -38,8 +35,4 @@ SumRefusalIs limits count size =
 -- the refusal that an addition meets where so many names are live
 abbrev pub AddRefusalIs : Limits → Closure → ℕ → ℕ → ℤ → ℕ → Option Refusal → Type 0
 AddRefusalIs limits graph live id fee size =
-    First (IsFee fee → ⊥) Fee
-    (First (IsSize size → ⊥) Size
-    (First (is_member graph id ≡ true) Taken
-    (First (limits.size < size) (ClusterSize size)
-    (First (limits.total ≤ live) Full NoRefusal))))
+    AddRow (IsFee fee → ⊥) (IsSize size → ⊥) (is_member graph id ≡ true) (limits.size < size) (limits.total ≤ live) size

@@ -7,10 +7,11 @@ use Rattle.fee_rate.specs.declared.rates.FeeRate.{FeeRate}
 use Rattle.graph_model.specs.declared.names.Limits.{Limits}
 use Rattle.graphs.specs.Graphs.{IsGraph}
 use Rattle.graphs.specs.Closing.{IsClosureOf}
-use Rattle.graph_model.specs.States.{State, Entry}
+use Rattle.graph_model.specs.States.{PlainState, Entry}
 use Rattle.graph_model.specs.Commands.{Command}
 use Rattle.graph_model.specs.Replies.{Reply}
-use Rattle.graph_model.specs.Steps.{Step}
+use Rattle.graph_model.specs.Runs.{BuiltStep}
+use Rattle.graph_model.specs.declared.limits.TheConstants.{MAX_COUNT}
 
 -- The limits, whether a change was accepted, each name with its fee, its size and its ancestors, and how many additions
 -- were accepted. Pairs aren't kept.
@@ -33,18 +34,19 @@ entry_of (Some node) = Some (record { fee = node.rate.fee; size = node.rate.size
 
 -- A graph stands for each state with its limits, its names with their fees and sizes, and a graph whose closure it keeps.
 -- Such states differ in pairs that other pairs imply, and in the order in which they list names and pairs.
-pub record StandsFor (kept : Kept) (state : State) : Type 0 where
+pub record StandsFor (kept : Kept) (state : PlainState) : Type 0 where
   pub limits : state.limits ≡ kept.limits
+  pub most : state.most ≡ MAX_COUNT
   pub begun : state.begun ≡ kept.begun
   pub table : (id : ℕ) → finmap.get state.table id ≡ entry_of (finmap.get kept.graph id)
-  pub closure : IsClosureOf kept.graph state.main.graph
+  pub closure : IsClosureOf kept.graph state.main
   pub among : (a d : ℕ) → is_ancestor kept.graph a d ≡ true → (is_member kept.graph a ≡ true) × (is_member kept.graph d ≡ true)
-  pub valid : IsGraph state.main.graph
+  pub valid : IsGraph state.main
   pub staging : state.staging ≡ None
 
 -- From every state that the graph stood for, the call is a step of the machine to one that it stands for now.
 abbrev pub MakesStep : Kept → Kept → Command → Reply → Type 0
-MakesStep old new command reply = (state : State) → StandsFor old state → (next : State) × StandsFor new next × Step state command reply next
+MakesStep old new command reply = (state : PlainState) → StandsFor old state → (next : PlainState) × StandsFor new next × BuiltStep state command reply next
 
 -- one more name, in no relation to the others
 pub record AddsName (old new : Closure) (id : ℕ) (rate : FeeRate) : Type 0 where

@@ -1,7 +1,8 @@
 ghost use Rattle.std.specs.Prelude.{◌≡◌, ◌+◌, ◌-◌, ◌*◌, ◌^◌, ◌<◌, ◌≤◌, ◌↔◌, true, None, Some, length, option_map, is_ok, if◌then◌else◌, IsTrue, IfOk, OnErr, Contains};
 ghost use Rattle.std.specs.FinMap as finmap;
 ghost use Rattle.graph_model.specs.Limits.{AreInRange};
-ghost use Rattle.graph_model.specs.States.{State, start, level_of};
+ghost use Rattle.graph_model.specs.declared.limits.TheConstants.{MAX_COUNT};
+ghost use Rattle.graph_model.specs.States.{PlainState, plain_start, level_of};
 ghost use Rattle.graph_model.specs.Commands.{SetLimits, Add, Dep, SetFee, Remove, Cluster, Ancestors, Descendants, Count};
 ghost use Rattle.graph_model.specs.Refusals.{RefusalIs};
 ghost use Rattle.graph_model.specs.Replies.{Number, change_reply, names_reply};
@@ -76,10 +77,10 @@ fn refused_add<const W: usize>(
 impl<const W: usize> TxGraph<W> {
     /// A graph without names under these limits, which are in range. It takes no memory yet.
     pub fn new(alloc: Global, limits: Limits) -> Result<Self, NoMemory>
-        requires in_range { AreInRange limits }
+        requires in_range { AreInRange MAX_COUNT limits }
         requires wide { 1 ≤ W }
         requires narrow { W ≤ 2 }
-        ensures start { IfOk result (λ graph. StandsFor graph (record start { limits = limits })) }
+        ensures start { IfOk result (λ graph. StandsFor graph (record (plain_start MAX_COUNT) { limits = limits })) }
         ensures additions { IfOk result (λ graph. graph.additions ≡ 0) }
     {
         Ok(TxGraph {
@@ -93,7 +94,7 @@ impl<const W: usize> TxGraph<W> {
     /// How many additions were accepted.
     pub fn additions(&self) -> u64
         ensures additions { result ≡ self.now.additions }
-        ensures stands { (state : State) × StandsFor self.now state }
+        ensures stands { (state : PlainState) × StandsFor self.now state }
     {
         self.additions
     }
@@ -283,8 +284,8 @@ impl<const W: usize> TxGraph<W> {
 
     /// Whether a level has the name.
     pub fn exists(&self, level: Level, id: TxId) -> bool
-        ensures { (state : State) → StandsFor self.now state → IsTrue result
-            ↔ Contains (level_of state level).graph.names id }
+        ensures { (state : PlainState) → StandsFor self.now state → IsTrue result
+            ↔ Contains (level_of state level).names id }
     {
         // There is no staging, so both words speak of main.
         let _ = level;
@@ -293,7 +294,7 @@ impl<const W: usize> TxGraph<W> {
 
     /// The fee of a live name, in satoshis, and its size, in virtual bytes; `None` where the name isn't live.
     pub fn sums(&self, id: TxId) -> Option<FeeRate>
-        ensures { (state : State) → StandsFor self.now state
+        ensures { (state : PlainState) → StandsFor self.now state
             → finmap.get state.table id ≡ option_map (λ rate. record { fee = rate.fee; size = rate.size }) result }
     {
         let spot = self.clusters.spot(id)?;

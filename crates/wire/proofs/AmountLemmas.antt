@@ -6,13 +6,14 @@ use Rattle.std.proofs.lemmas.List.Elements.{All-head, All-tail}
 use Rattle.std.proofs.lemmas.List.Sums.{sum_by-cons}
 use Rattle.graphs.specs.declared.names.Flow.{Flow}
 use Rattle.graphs.specs.Certificates.{Part, Txs}
-use Rattle.graph_model.specs.Commands.{spaced}
+use Rattle.graph_model.specs.Words.{spaced}
 use Rattle.graph_model.specs.Lines.{without_return, is_quiet, max_input}
 use Rattle.graph_model.specs.Texts.{Text, IsText, told}
-use Rattle.wire.specs.declared.row.Row.{Row}
-use Rattle.wire.specs.declared.row.Row.TheVariants as rows
+use Rattle.wire.specs.declared.texts.row.Row.{Row}
+use Rattle.wire.specs.declared.texts.row.Row.TheVariants as rows
 use Rattle.wire.specs.Rows.{row_line, HasRowTypes, tx_row, edge_row, part_rows, rows_of}
 use Rattle.wire.specs.Drafts.{amount_of, lines_of}
+use Rattle.wire.proofs.ReadLemmas.{without_return_le}
 use Rattle.wire.proofs.TextLemmas.{rows_text, rows_typed}
 
 -- the bytes of lines
@@ -32,16 +33,11 @@ total_lines (byte ∷ bytes) =
       | false ↦ omega (arith, total_lines bytes, total_onto byte (lines_of bytes))
     ]
 
-return_le : (line : List ℕ) → length (without_return line) ≤ length line
-return_le [] = omega arith
-return_le (byte ∷ []) = elim (nat_eq byte 13) as (λ b. length (cond b [] (byte ∷ [])) ≤ 1) [ true ↦ omega arith | false ↦ omega arith ]
-return_le (byte ∷ next ∷ line) = omega (arith, return_le (next ∷ line))
-
 total_told : (lines : List (List ℕ)) → total (told lines) ≤ total lines
 total_told [] = omega arith
 total_told (line ∷ lines) =
     elim (not (is_quiet (without_return line))) as (λ b. total (cond b (without_return line ∷ told lines) (told lines)) ≤ length line + total lines) [
-      | true ↦ omega (arith, total_told lines, return_le line)
+      | true ↦ omega (arith, total_told lines, without_return_le line)
       | false ↦ omega (arith, total_told lines)
     ]
 

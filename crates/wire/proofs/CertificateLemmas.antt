@@ -3,9 +3,9 @@ use Rattle.std.proofs.Common.{ℕ, ◌<◌, ◌≤◌, ◌^◌, List, sym, subst
 use Rattle.std.specs.Prelude.{IfOk, IsErrOf}
 use Rattle.graph_model.specs.Lines.{Cut, with_last, max_input}
 use Rattle.graph_model.specs.Texts.{Text, HasTextTypes, IsText}
-use Rattle.wire.specs.declared.draft.CertText.{CertText}
-use Rattle.wire.specs.declared.fault.TextFault.{TextFault}
-use Rattle.wire.specs.declared.fault.TextFault.TheVariants as faults
+use Rattle.wire.specs.declared.texts.draft.CertText.{CertText}
+use Rattle.wire.specs.declared.texts.fault.TextFault.{TextFault}
+use Rattle.wire.specs.declared.texts.fault.TextFault.TheVariants as faults
 use Rattle.wire.specs.Drafts.{text_of, amount_of, ReadsLines, lines_of}
 use Rattle.wire.proofs.LineLemmas.{cut_lines, last_is_text, text_is_last}
 use Rattle.wire.proofs.AmountLemmas.{few_amounts}

@@ -5,14 +5,15 @@ use Rattle.std.specs.Fmt.{signed_decimal}
 use Rattle.std.proofs.lemmas.List.Concat.{flat_map-append}
 use Rattle.std.proofs.lemmas.List.Elements.{All-head, All-tail, All-push}
 use Rattle.fee_rate.specs.declared.rates.Sum.{Sum}
-use Rattle.graph_model.specs.Commands.{spaced}
-use Rattle.wire.specs.declared.fault.TextFault.{TextFault}
-use Rattle.wire.specs.declared.fault.TextFault.TheVariants as faults
-use Rattle.wire.specs.declared.row.Row.{Row}
-use Rattle.wire.specs.declared.row.Row.TheVariants as rows
-use Rattle.wire.specs.declared.row.Kind.TheVariants as kinds
+use Rattle.graph_model.specs.Words.{spaced}
+use Rattle.wire.specs.declared.texts.fault.TextFault.{TextFault}
+use Rattle.wire.specs.declared.texts.fault.TextFault.TheVariants as faults
+use Rattle.wire.specs.declared.texts.row.Row.{Row}
+use Rattle.wire.specs.declared.texts.row.Row.TheVariants as rows
+use Rattle.wire.specs.declared.texts.row.Kind.TheVariants as kinds
 use Rattle.wire.specs.Fields.{IsWide, IsBigFee, IsOneWord}
-use Rattle.wire.specs.Rows.{kind_word, names_text, AreNames, row_line, HasRowTypes, Gives, AddsName}
+use Rattle.wire.specs.Rows.{kind_word, row_line, HasRowTypes, Gives, AddsName}
+use Rattle.wire.specs.Forms.{names_text, AreNames}
 use Rattle.wire.proofs.ReadLemmas.{decimal_word, same_split, split_unread}
 use Rattle.wire.proofs.BigLemmas.{big_fee_word}
 use Rattle.wire.proofs.FormLemmas.{differ_apart}

@@ -1,9 +1,9 @@
 -- Drafts as stages of a text.
 use Rattle.std.proofs.Common.{◌≡◌, List, ◌∷◌, ◌++◌, sym, ap, map, None, ◌∙◌, refl}
 use Rattle.graph_model.specs.Texts.{Text}
-use Rattle.wire.specs.declared.draft.Draft.{Draft}
-use Rattle.wire.specs.declared.draft.Draft.TheVariants as drafts
-use Rattle.wire.specs.declared.row.Row.{Row}
+use Rattle.wire.specs.declared.texts.draft.Draft.{Draft}
+use Rattle.wire.specs.declared.texts.draft.Draft.TheVariants as drafts
+use Rattle.wire.specs.declared.texts.row.Row.{Row}
 use Rattle.wire.specs.Rows.{rows_of}
 use Rattle.certificate.specs.Parts.{part_of}
 use Rattle.wire.specs.Drafts.{text_of, open_part, written}

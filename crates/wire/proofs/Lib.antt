@@ -3,7 +3,9 @@ pub mod ReadLemmas
 pub mod BigLemmas
 pub mod FormLemmas
 pub mod RowLemmas
+pub mod CommandLemmas
 pub mod ChunkLemmas
+pub mod NameLemmas
 pub mod StageLemmas
 pub mod DraftLemmas
 pub mod TextLemmas

@@ -6,14 +6,14 @@ use Rattle.std.proofs.lemmas.List.{map-append}
 use Rattle.std.proofs.lemmas.List.Elements.{All-cons, All-nil, All-head, All-tail, All-append, All-weaker}
 use Rattle.std.proofs.lemmas.List.Splits.{slice_split_none, slice_split_at}
 use Rattle.lists.proofs.Entries.{All-front, All-back}
-use Rattle.graph_model.specs.Replies.{line_text}
+use Rattle.graph_model.specs.Words.{line_text}
 use Rattle.graph_model.specs.Lines.{IsOneLine, Cut, with_last, max_line}
 use Rattle.graph_model.specs.Texts.{Text, IsText, told, text_lines}
-use Rattle.wire.specs.declared.draft.CertText.{CertText}
-use Rattle.wire.specs.declared.draft.Draft.{Draft}
-use Rattle.wire.specs.declared.fault.TextFault.{TextFault}
-use Rattle.wire.specs.declared.fault.TextFault.TheVariants as faults
-use Rattle.wire.specs.declared.row.Row.{Row}
+use Rattle.wire.specs.declared.texts.draft.CertText.{CertText}
+use Rattle.wire.specs.declared.texts.draft.Draft.{Draft}
+use Rattle.wire.specs.declared.texts.fault.TextFault.{TextFault}
+use Rattle.wire.specs.declared.texts.fault.TextFault.TheVariants as faults
+use Rattle.wire.specs.declared.texts.row.Row.{Row}
 use Rattle.wire.specs.Rows.{row_line, HasRowTypes, rows_of}
 use Rattle.wire.specs.Drafts.{text_of, written, Finishes, TakesLine, ReadsLines, lines_of}
 use Rattle.wire.proofs.TextLemmas.{rows_text, rows_typed, typed_text, rows_same, told_append}

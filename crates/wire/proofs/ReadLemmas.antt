@@ -17,6 +17,11 @@ without_return_last [] = refl
 without_return_last (byte ∷ []) = refl
 without_return_last (byte ∷ next ∷ front) = ap (λ (xs : List ℕ). byte ∷ xs) (without_return_last (next ∷ front))
 
+pub without_return_le : (line : List ℕ) → length (without_return line) ≤ length line
+without_return_le [] = omega arith
+without_return_le (byte ∷ []) = elim (nat_eq byte 13) as (λ b. length (cond b [] (byte ∷ [])) ≤ 1) [ true ↦ omega arith | false ↦ omega arith ]
+without_return_le (byte ∷ next ∷ line) = omega (arith, without_return_le (next ∷ line))
+
 -- reading on makes a number no smaller
 pub read_on-le : (n : ℕ) (digits : List ℕ) → n ≤ read_on n digits
 read_on-le n [] = omega arith

@@ -6,19 +6,19 @@ use Rattle.std.specs.Fmt.{signed_decimal}
 use Rattle.std.proofs.lemmas.Int.{ints}
 use Rattle.std.proofs.lemmas.Fmt.{decimal_injective, signed_decimal_injective}
 use Rattle.std.proofs.lemmas.List.Elements.{All-cons, All-nil, All-head, All-tail, All-map, All-weaker}
-use Rattle.graph_model.specs.Commands.{spaced}
-use Rattle.wire.specs.declared.row.Row.{Row}
-use Rattle.wire.specs.declared.row.Row.TheVariants as rows
-use Rattle.wire.specs.declared.row.Kind.{Kind}
-use Rattle.wire.specs.declared.row.Kind.TheVariants as kinds
+use Rattle.graph_model.specs.Words.{spaced}
+use Rattle.wire.specs.declared.texts.row.Row.{Row}
+use Rattle.wire.specs.declared.texts.row.Row.TheVariants as rows
+use Rattle.wire.specs.declared.texts.row.Kind.{Kind}
+use Rattle.wire.specs.declared.texts.row.Kind.TheVariants as kinds
 use Rattle.wire.specs.Fields.{ReadsAs, IsWide, IsAmount, IsOneWord, pair_spelling, BothFit}
-use Rattle.wire.specs.Rows.{kind_word, row_words, row_line, HasRowTypes}
+use Rattle.wire.specs.Rows.{kind_word, row_line, HasRowTypes}
 use Rattle.wire.proofs.ReadLemmas.{decimal_word, signed_word, same_split, split_unread}
 use Rattle.wire.proofs.BigLemmas.{big_word, big_fee_word, big_injective, big_fee_injective}
 use Rattle.wire.proofs.FormLemmas.{differ_apart, one_word}
 
 -- words of no space are told from their text
-spaced_same : (w : List ℕ) (ws : List (List ℕ)) (v : List ℕ) (vs : List (List ℕ)) → All IsOneWord (w ∷ ws) → All IsOneWord (v ∷ vs) → spaced (w ∷ ws) ≡ spaced (v ∷ vs) → w ∷ ws ≡ v ∷ vs
+pub spaced_same : (w : List ℕ) (ws : List (List ℕ)) (v : List ℕ) (vs : List (List ℕ)) → All IsOneWord (w ∷ ws) → All IsOneWord (v ∷ vs) → spaced (w ∷ ws) ≡ spaced (v ∷ vs) → w ∷ ws ≡ v ∷ vs
 spaced_same w [] v [] one other is = ap (λ (x : List ℕ). x ∷ []) is
 spaced_same w [] v (y ∷ vs) one other is = absurd (split_unread w v (spaced (y ∷ vs)) (All-head IsOneWord w [] one) is)
 spaced_same w (x ∷ ws) v [] one other is = absurd (split_unread v w (spaced (x ∷ ws)) (All-head IsOneWord v [] other) (sym is))
@@ -34,6 +34,14 @@ amount_word n fits = big_word n (omega (arith, fits.1))
 three : (a b c d : List ℕ) → IsOneWord a → IsOneWord b → IsOneWord c → IsOneWord d → All IsOneWord (a ∷ b ∷ c ∷ d ∷ [])
 three a b c d p q r s = All-cons IsOneWord a (b ∷ c ∷ d ∷ []) p (All-cons IsOneWord b (c ∷ d ∷ []) q (All-cons IsOneWord c (d ∷ []) r (All-cons IsOneWord d [] s (All-nil IsOneWord))))
 
+-- the words of a line
+abbrev row_words : Row → List (List ℕ)
+row_words (rows.Tx id fee size) = codes "tx" ∷ decimal id ∷ signed_decimal fee ∷ decimal size ∷ []
+row_words (rows.Edge parent child) = codes "edge" ∷ decimal parent ∷ decimal child ∷ []
+row_words (rows.Chunk rate ids) = codes "chunk" ∷ signed_decimal rate.fee ∷ decimal rate.size ∷ map decimal ids
+row_words (rows.Flow flow) = codes "flow" ∷ decimal flow.child ∷ decimal flow.parent ∷ decimal flow.amount ∷ []
+row_words rows.End = codes "end" ∷ []
+
 row_one_words : (row : Row) → HasRowTypes row → All IsOneWord (row_words row)
 row_one_words (rows.Tx id fee size) fits =
     three (codes "tx") (decimal id) (signed_decimal fee) (decimal size) (one_word (codes "tx") refl) (decimal_word id fits.0) (signed_word fee fits.1) (decimal_word size fits.2)
@@ -48,7 +56,7 @@ row_one_words (rows.Flow flow) fits =
     three (codes "flow") (decimal flow.child) (decimal flow.parent) (decimal flow.amount) (one_word (codes "flow") refl) (decimal_word flow.child fits.0) (decimal_word flow.parent fits.1) (amount_word flow.amount fits.2)
 row_one_words rows.End fits = All-cons IsOneWord (codes "end") [] (one_word (codes "end") refl) (All-nil IsOneWord)
 
-names_same : (ids others : List ℕ) → All IsWide ids → All IsWide others → map decimal ids ≡ map decimal others → ids ≡ others
+pub names_same : (ids others : List ℕ) → All IsWide ids → All IsWide others → map decimal ids ≡ map decimal others → ids ≡ others
 names_same [] [] one other is = refl
 names_same [] (y ∷ ys) one other is = absurd (let e : [] ≡ decimal y ∷ map decimal ys = is in cc)
 names_same (x ∷ xs) [] one other is = absurd (let e : decimal x ∷ map decimal xs ≡ [] = is in cc)

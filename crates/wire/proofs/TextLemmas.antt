@@ -8,11 +8,11 @@ use Rattle.lists.proofs.Entries.{All-front, All-back}
 use Rattle.graphs.specs.Certificates.{Part}
 use Rattle.graph_model.specs.Lines.{without_return, is_quiet}
 use Rattle.graph_model.specs.Texts.{Text, HasPartTypes, HasTextTypes, IsText, told, text_lines, part_lines}
-use Rattle.wire.specs.declared.draft.Draft.{Draft}
-use Rattle.wire.specs.declared.fault.TextFault.{TextFault}
-use Rattle.wire.specs.declared.fault.TextFault.TheVariants as faults
-use Rattle.wire.specs.declared.row.Row.{Row}
-use Rattle.wire.specs.declared.row.Row.TheVariants as rows
+use Rattle.wire.specs.declared.texts.draft.Draft.{Draft}
+use Rattle.wire.specs.declared.texts.fault.TextFault.{TextFault}
+use Rattle.wire.specs.declared.texts.fault.TextFault.TheVariants as faults
+use Rattle.wire.specs.declared.texts.row.Row.{Row}
+use Rattle.wire.specs.declared.texts.row.Row.TheVariants as rows
 use Rattle.wire.specs.Rows.{row_line, HasRowTypes, tx_row, edge_row, part_rows, rows_of, Gives}
 use Rattle.wire.specs.Drafts.{Continues, TakesText}
 use Rattle.wire.proofs.RowLemmas.{row_same}

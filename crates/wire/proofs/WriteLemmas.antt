@@ -6,7 +6,7 @@ use Rattle.outside.specs.Faults.{one_more}
 use Rattle.outside.specs.Transfers.{Writes}
 use Rattle.outside.proofs.Fronts.{AppendsFront-after, AppendsFront-longer}
 use Rattle.wire.specs.Pieces.{GoesOn, words_text}
-use Rattle.graph_model.specs.Commands.{spaced}
+use Rattle.graph_model.specs.Words.{spaced}
 use Rattle.graph_model.specs.Replies.{refusal_words}
 use Rattle.graph_model.specs.declared.names.Refusal.{Refusal}
 use Rattle.graph_model.specs.declared.names.Refusal.TheVariants.{Late, Range, Fee, Size, Taken, ClusterSize, Full, Unknown, Cycle, Count, Staging, Twice, Parent, Empty, NoStaging, Memory}

@@ -4,13 +4,13 @@ use Rattle.std.specs.List.{slice_split}
 use Rattle.graphs.specs.Certificates.{Part}
 use Rattle.graph_model.specs.Lines.{max_line}
 use Rattle.graph_model.specs.Texts.{Text, HasTextTypes, IsText, told, text_lines}
-use Rattle.wire.specs.declared.draft.CertText.{CertText}
-use Rattle.wire.specs.declared.draft.OpenPart.{OpenPart}
-use Rattle.wire.specs.declared.draft.Draft.{Draft}
-use Rattle.wire.specs.declared.draft.Draft.TheVariants as drafts
-use Rattle.wire.specs.declared.fault.TextFault.{TextFault}
-use Rattle.wire.specs.declared.fault.TextFault.TheVariants as faults
-use Rattle.wire.specs.declared.row.Row.{Row}
+use Rattle.wire.specs.declared.texts.draft.CertText.{CertText}
+use Rattle.wire.specs.declared.texts.draft.OpenPart.{OpenPart}
+use Rattle.wire.specs.declared.texts.draft.Draft.{Draft}
+use Rattle.wire.specs.declared.texts.draft.Draft.TheVariants as drafts
+use Rattle.wire.specs.declared.texts.fault.TextFault.{TextFault}
+use Rattle.wire.specs.declared.texts.fault.TextFault.TheVariants as faults
+use Rattle.wire.specs.declared.texts.row.Row.{Row}
 use Rattle.certificate.specs.Parts.{part_of}
 use Rattle.wire.specs.Rows.{row_line, HasRowTypes, tx_row, edge_row, part_rows, rows_of}
 

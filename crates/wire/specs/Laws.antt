@@ -1,7 +1,12 @@
 -- What a reader would expect of lines and certificate texts.
 use Rattle.std.specs.Prelude.{◌≡◌, ℕ, List}
-use Rattle.graph_model.specs.Lines.{Cut}
+use Rattle.graph_model.specs.Commands.{Command}
+use Rattle.graph_model.specs.Lines.{Cut, Spells}
 use Rattle.graph_model.specs.Texts.{Text, IsText}
+
+-- a line spells one command at most
+abbrev pub LineSpellsOneCommand : Type 0
+LineSpellsOneCommand = (text : List ℕ) (a b : Command) → Spells text a → Spells text b → a ≡ b
 
 -- lines spell one text at most
 abbrev pub LinesSpellOneText : Type 0

@@ -1,17 +1,16 @@
 -- The lines of a certificate text, one by one, and what reading one gives.
-use Rattle.std.specs.Prelude.{◌≡◌, ◌≢◌, ℕ, ℤ, List, [], ◌∷◌, ◌++◌, map, flat_map, codes, decimal, FitsSigned, All, Result, Ok, Err}
-use Rattle.std.specs.Fmt.{signed_decimal}
+use Rattle.std.specs.Prelude.{◌≡◌, ℕ, ℤ, List, [], ◌∷◌, ◌++◌, map, flat_map, codes, decimal, FitsSigned, Result, Ok, Err}
 use Rattle.std.specs.Int.{w64}
-use Rattle.graph_model.specs.Commands.{spaced}
 use Rattle.graphs.specs.Certificates.{Part}
-use Rattle.graph_model.specs.Texts.{Text}
-use Rattle.wire.specs.declared.fault.TextFault.{TextFault}
-use Rattle.wire.specs.declared.fault.TextFault.TheVariants as faults
-use Rattle.wire.specs.declared.row.Row.{Row}
-use Rattle.wire.specs.declared.row.Row.TheVariants as rows
-use Rattle.wire.specs.declared.row.Kind.{Kind}
-use Rattle.wire.specs.declared.row.Kind.TheVariants as kinds
+use Rattle.graph_model.specs.Texts.{Text, tx_line, edge_line, chunk_line, flow_line}
+use Rattle.wire.specs.declared.texts.fault.TextFault.{TextFault}
+use Rattle.wire.specs.declared.texts.fault.TextFault.TheVariants as faults
+use Rattle.wire.specs.declared.texts.row.Row.{Row}
+use Rattle.wire.specs.declared.texts.row.Row.TheVariants as rows
+use Rattle.wire.specs.declared.texts.row.Kind.{Kind}
+use Rattle.wire.specs.declared.texts.row.Kind.TheVariants as kinds
 use Rattle.wire.specs.Fields.{IsWide, IsAmount, IsBigFee}
+use Rattle.wire.specs.Forms.{AreNames}
 
 -- the first word of each line but `end`
 abbrev pub kind_word : Kind → List ℕ
@@ -20,23 +19,13 @@ kind_word kinds.Edge = codes "edge"
 kind_word kinds.Chunk = codes "chunk"
 kind_word kinds.Flow = codes "flow"
 
--- one name or more, with a space between them
-abbrev pub names_text : List ℕ → List ℕ
-names_text ids = spaced (map decimal ids)
-
-abbrev pub AreNames : List ℕ → Type 0
-AreNames ids = (ids ≢ []) × All IsWide ids
-
--- the words of a line, and its one spelling
-abbrev pub row_words : Row → List (List ℕ)
-row_words (rows.Tx id fee size) = codes "tx" ∷ decimal id ∷ signed_decimal fee ∷ decimal size ∷ []
-row_words (rows.Edge parent child) = codes "edge" ∷ decimal parent ∷ decimal child ∷ []
-row_words (rows.Chunk rate ids) = codes "chunk" ∷ signed_decimal rate.fee ∷ decimal rate.size ∷ map decimal ids
-row_words (rows.Flow flow) = codes "flow" ∷ decimal flow.child ∷ decimal flow.parent ∷ decimal flow.amount ∷ []
-row_words rows.End = codes "end" ∷ []
-
+-- the one spelling of a line
 abbrev pub row_line : Row → List ℕ
-row_line row = spaced (row_words row)
+row_line (rows.Tx id fee size) = tx_line id fee size
+row_line (rows.Edge parent child) = edge_line parent child
+row_line (rows.Chunk rate ids) = chunk_line (record { rate = rate; ids = ids; flows = [] })
+row_line (rows.Flow flow) = flow_line flow
+row_line rows.End = codes "end"
 
 -- a line's numbers are of their types
 abbrev pub HasRowTypes : Row → Type 0

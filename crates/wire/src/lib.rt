@@ -2,23 +2,23 @@
 //! certificates.
 #![tactic(auto)]
 
-mod draft;
-mod fault;
 mod form;
 mod laws;
 mod line;
 mod numbers;
-mod row;
+mod replies;
 #[cfg(test)]
 mod tests;
-mod text;
+mod texts;
 mod words;
 mod write;
 
-pub use draft::CertText;
-pub use fault::TextFault;
-pub use laws::{bytes_have_one_cut, lines_spell_one_text};
+pub use laws::{bytes_have_one_cut, line_spells_one_command, lines_spell_one_text};
 pub use line::{Line, read_line};
-pub use text::read_certificate;
+pub use replies::{place_word, settled_words, verdict_word};
+pub use texts::{CertText, TextFault, read_certificate};
 pub use words::split_at_byte;
-pub use write::{write_ids, write_refusal, write_word};
+pub use write::{
+    write_chunk, write_edge, write_flow, write_ids, write_point, write_refusal, write_tx,
+    write_word,
+};

@@ -1,12 +1,12 @@
-ghost use Rattle.std.specs.Prelude.{◌≡◌, ◌≢◌, [], ◌-◌, slice_index, MatchOption, ◌+◌, ◌≤◌, ◌∷◌, ◌++◌, length};
-ghost use Rattle.graph_model.specs.Lines.{Means, without_return};
-ghost use Rattle.graph_model.specs.Commands.{level_word};
+ghost use Rattle.std.specs.Prelude.{◌≡◌, ◌≢◌, ℕ, List, [], ◌-◌, slice_index, MatchOption, IfSome, IfNone, ◌+◌, ◌*◌, ◌<◌, ◌≤◌, ◌∷◌, ◌++◌, length};
+ghost use Rattle.graph_model.specs.Lines.{Means, max_line, without_return};
+ghost use Rattle.graph_model.specs.Words.{level_word};
 ghost use Rattle.std.specs.Prelude.{decimal, FitsSigned};
 ghost use Rattle.std.specs.Int.{w64};
 ghost use Rattle.std.specs.Fmt.{signed_decimal};
 ghost use Rattle.wire.specs.Fields.{IsOneWord, ReadsAs, IsWide, Always, pair_spelling, BothFit};
-ghost use Rattle.wire.specs.Forms.{form_word};
-ghost use Rattle.wire.specs.Readings.{meaning_of, TextMeans};
+ghost use Rattle.wire.specs.Forms.{form_word, names_text, AreNames};
+ghost use Rattle.wire.specs.Readings.{said_by, meaning_of, LineSays, TextSays, FormSays};
 
 use crate::form::{Form, form_of};
 use crate::numbers::{number, signed_number};
@@ -30,32 +30,64 @@ pub enum Line {
     Fee(TxId, i64),
     /// `remove ID`
     Remove(TxId),
+    /// `mine ID ..`: the names stand in the buffer that the line was read with.
+    Mine,
+    /// `evict`
+    Evict,
+    /// `stage`
+    Stage,
+    /// `commit`
+    Commit,
+    /// `abort`
+    Abort,
+    /// `settle`
+    Settle,
+    /// `compare`
+    Compare,
+    /// `order L`
+    Order(Level),
+    /// `diagram L`
+    Diagram(Level),
+    /// `proof L`
+    Proof(Level),
     /// `cluster ID L`
     Cluster(TxId, Level),
     /// `ancestors ID L`
     Ancestors(TxId, Level),
     /// `descendants ID L`
     Descendants(TxId, Level),
+    /// `chunk ID`
+    Chunk(TxId),
+    /// `before ID ID`
+    Before(TxId, TxId),
+    /// `block SIZE`
+    Block(u64),
     /// `count L`
     Count(Level),
 }
 
-/// What a line says, without its line feed. A carriage return at its end is dropped.
+/// What a line says, without its line feed: of at most 65,536 bytes, with a carriage return at its end, which is
+/// dropped. What `ids` held goes; it holds the names that a `mine` lists, in their order, and else nothing.
 pub fn read_line(bytes: &[u8], ids: &mut IdBuf) -> Line
-    requires { 32766 ≤ length ids.old.ids + ids.old.room }
-    ensures meaning { Means bytes.now (meaning_of result) }
-    ensures ids { ids.new ≡ ids.old }
+    requires short { length bytes.now ≤ max_line }
+    requires room { 32766 ≤ length ids.old.ids + ids.old.room }
+    ensures says { LineSays bytes.now (said_by result ids.new.ids) }
+    ensures meaning { Means bytes.now (meaning_of result ids.new.ids) }
+    ensures names { (result ≡ Line.Mine → ⊥) → ids.new.ids ≡ [] }
+    ensures room { length ids.new.ids + ids.new.room ≡ length ids.old.ids + ids.old.room }
 {
+    ids.clear();
     let text = trimmed(bytes);
     match text {
         [] | [b'#', ..] => Line::Quiet,
-        _ => read_text(text),
+        _ => read_text(text, ids),
     }
 }
 
 /// The line without the carriage return at its end, if it has one there.
 pub(crate) fn trimmed(bytes: &[u8]) -> &[u8]
-    ensures { result.now ≡ without_return bytes.now }
+    ensures text { result.now ≡ without_return bytes.now }
+    ensures shorter { length result.now ≤ length bytes.now }
 {
     match before_return(bytes) {
         Some(front) => front,
@@ -75,131 +107,156 @@ fn before_return(bytes: &[u8]) -> Option<&[u8]>
 }
 
 /// What a line says that is neither empty nor a comment.
-fn read_text(text: &[u8]) -> Line
-    ensures { TextMeans text.now (meaning_of result) }
+fn read_text(text: &[u8], ids: &mut IdBuf) -> Line
+    requires empty { ids.old.ids ≡ [] }
+    requires room { length text.now < 2 * ids.old.room + 5 }
+    ensures says { TextSays text.now (said_by result ids.new.ids) }
+    ensures names { (result ≡ Line.Mine → ⊥) → ids.new.ids ≡ [] }
+    ensures room { length ids.new.ids + ids.new.room ≡ ids.old.room }
 {
     match split_at_byte(text, b' ') {
-        Some((word, rest)) => read_form(word, rest),
+        Some((word, rest)) => read_words(word, rest, ids),
+        None => read_word(text),
+    }
+}
+
+/// What a line of one word says.
+fn read_word(word: &[u8]) -> Line
+    requires { IsOneWord word.now }
+    ensures says { (ids : List ℕ) → TextSays word.now (said_by result ids) }
+    ensures names { result ≡ Line.Mine → ⊥ }
+{
+    match form_of(word) {
+        Some(form) => bare(form),
         None => Line::Syntax,
+    }
+}
+
+/// What a line of a form's first word alone says.
+fn bare(form: Form) -> Line
+    ensures says { (ids : List ℕ) → TextSays (form_word form) (said_by result ids) }
+    ensures names { result ≡ Line.Mine → ⊥ }
+{
+    match form {
+        Form::Evict => Line::Evict,
+        Form::Stage => Line::Stage,
+        Form::Commit => Line::Commit,
+        Form::Abort => Line::Abort,
+        Form::Settle => Line::Settle,
+        Form::Compare => Line::Compare,
+        _ => Line::Syntax,
     }
 }
 
 /// What a line of this first word and this rest says.
-fn read_form(word: &[u8], rest: &[u8]) -> Line
-    requires { IsOneWord word.now }
-    ensures { TextMeans (word.now ++ 32 ∷ rest.now) (meaning_of result) }
+fn read_words(word: &[u8], rest: &[u8], ids: &mut IdBuf) -> Line
+    requires one { IsOneWord word.now }
+    requires empty { ids.old.ids ≡ [] }
+    requires room { length word.now + length rest.now < 2 * ids.old.room + 4 }
+    ensures says { TextSays (word.now ++ 32 ∷ rest.now) (said_by result ids.new.ids) }
+    ensures names { (result ≡ Line.Mine → ⊥) → ids.new.ids ≡ [] }
+    ensures room { length ids.new.ids + ids.new.room ≡ ids.old.room }
 {
     match form_of(word) {
-        Some(form) => read_rest(form, rest),
+        Some(Form::Mine) => mine(rest, ids),
+        Some(form) => read_fields(form, rest),
         None => Line::Syntax,
     }
 }
 
-/// What a command's line says, by what follows its first word.
-fn read_rest(form: Form, rest: &[u8]) -> Line
-    ensures { TextMeans (form_word form ++ 32 ∷ rest.now) (meaning_of result) }
+/// What a line of this form with fields of its own kinds says.
+fn read_fields(form: Form, rest: &[u8]) -> Line
+    requires { form ≢ Form.Mine }
+    ensures says { (ids : List ℕ) → TextSays (form_word form ++ 32 ∷ rest.now) (said_by result ids) }
+    ensures names { result ≡ Line.Mine → ⊥ }
+{
+    match fields(form, rest) {
+        Some(line) => line,
+        None => Line::Syntax,
+    }
+}
+
+/// The line of this form with these fields, a row for each form.
+fn fields(form: Form, rest: &[u8]) -> Option<Line>
+    requires { form ≢ Form.Mine }
+    ensures { (ids : List ℕ) → FormSays (form_word form ++ 32 ∷ rest.now) result ids }
 {
     match form {
-        Form::Limits => limits(rest),
-        Form::Add => add(rest),
-        Form::Dep => dep(rest),
-        Form::Fee => fee(rest),
-        Form::Remove => remove(rest),
-        Form::Cluster => cluster(rest),
-        Form::Ancestors => ancestors(rest),
-        Form::Descendants => descendants(rest),
-        Form::Count => count(rest),
+        Form::Limits => {
+            let (count, (size, total)) = three_numbers(rest)?;
+            Some(Line::Limits(Limits { count, size, total }))
+        }
+        Form::Add => {
+            let (id, (fee, size)) = id_fee_size(rest)?;
+            Some(Line::Add(id, fee, size))
+        }
+        Form::Dep => {
+            let (parent, child) = two_numbers(rest)?;
+            Some(Line::Dep(parent, child))
+        }
+        Form::Fee => {
+            let (id, fee) = id_fee(rest)?;
+            Some(Line::Fee(id, fee))
+        }
+        Form::Remove => Some(Line::Remove(number(rest)?)),
+        Form::Order => Some(Line::Order(level(rest)?)),
+        Form::Diagram => Some(Line::Diagram(level(rest)?)),
+        Form::Proof => Some(Line::Proof(level(rest)?)),
+        Form::Cluster => {
+            let (id, level) = id_level(rest)?;
+            Some(Line::Cluster(id, level))
+        }
+        Form::Ancestors => {
+            let (id, level) = id_level(rest)?;
+            Some(Line::Ancestors(id, level))
+        }
+        Form::Descendants => {
+            let (id, level) = id_level(rest)?;
+            Some(Line::Descendants(id, level))
+        }
+        Form::Chunk => Some(Line::Chunk(number(rest)?)),
+        Form::Before => {
+            let (a, b) = two_numbers(rest)?;
+            Some(Line::Before(a, b))
+        }
+        Form::Block => Some(Line::Block(number(rest)?)),
+        Form::Count => Some(Line::Count(level(rest)?)),
+        _ => None,
     }
 }
 
-/// `limits N N N`
-fn limits(rest: &[u8]) -> Line
-    ensures { TextMeans (form_word Form.Limits ++ 32 ∷ rest.now) (meaning_of result) }
+/// `mine ID ..`
+fn mine(rest: &[u8], ids: &mut IdBuf) -> Line
+    requires empty { ids.old.ids ≡ [] }
+    requires room { length rest.now < 2 * ids.old.room }
+    ensures says { TextSays (form_word Form.Mine ++ 32 ∷ rest.now) (said_by result ids.new.ids) }
+    ensures names { (result ≡ Line.Mine → ⊥) → ids.new.ids ≡ [] }
+    ensures room { length ids.new.ids + ids.new.room ≡ ids.old.room }
 {
-    match three_numbers(rest) {
-        Some((count, (size, total))) => Line::Limits(Limits { count, size, total }),
-        None => Line::Syntax,
+    match names(rest, ids) {
+        Some(()) => Line::Mine,
+        None => {
+            ids.clear();
+            Line::Syntax
+        }
     }
 }
 
-/// `add ID FEE SIZE`
-fn add(rest: &[u8]) -> Line
-    ensures { TextMeans (form_word Form.Add ++ 32 ∷ rest.now) (meaning_of result) }
+/// `ID ..`: the names are added.
+fn names(text: &[u8], ids: &mut IdBuf) -> Option<()>
+    requires empty { ids.old.ids ≡ [] }
+    requires room { length text.now < 2 * ids.old.room }
+    ensures found { IfSome result (λ done. AreNames ids.new.ids × (text.now ≡ names_text ids.new.ids)) }
+    ensures none { IfNone result ((names : List ℕ) → AreNames names → text.now ≡ names_text names → ⊥) }
+    ensures room { length ids.new.ids + ids.new.room ≡ ids.old.room }
 {
-    match id_fee_size(rest) {
-        Some((id, (fee, size))) => Line::Add(id, fee, size),
-        None => Line::Syntax,
+    let mut rest = text;
+    while let Some((word, more)) = split_at_byte(rest, b' ') {
+        ids.push(number(word)?);
+        rest = more;
     }
-}
-
-/// `dep ID ID`
-fn dep(rest: &[u8]) -> Line
-    ensures { TextMeans (form_word Form.Dep ++ 32 ∷ rest.now) (meaning_of result) }
-{
-    match two_numbers(rest) {
-        Some((parent, child)) => Line::Dep(parent, child),
-        None => Line::Syntax,
-    }
-}
-
-/// `fee ID FEE`
-fn fee(rest: &[u8]) -> Line
-    ensures { TextMeans (form_word Form.Fee ++ 32 ∷ rest.now) (meaning_of result) }
-{
-    match id_fee(rest) {
-        Some((id, fee)) => Line::Fee(id, fee),
-        None => Line::Syntax,
-    }
-}
-
-/// `remove ID`
-fn remove(rest: &[u8]) -> Line
-    ensures { TextMeans (form_word Form.Remove ++ 32 ∷ rest.now) (meaning_of result) }
-{
-    match number(rest) {
-        Some(id) => Line::Remove(id),
-        None => Line::Syntax,
-    }
-}
-
-/// `cluster ID L`
-fn cluster(rest: &[u8]) -> Line
-    ensures { TextMeans (form_word Form.Cluster ++ 32 ∷ rest.now) (meaning_of result) }
-{
-    match id_level(rest) {
-        Some((id, level)) => Line::Cluster(id, level),
-        None => Line::Syntax,
-    }
-}
-
-/// `ancestors ID L`
-fn ancestors(rest: &[u8]) -> Line
-    ensures { TextMeans (form_word Form.Ancestors ++ 32 ∷ rest.now) (meaning_of result) }
-{
-    match id_level(rest) {
-        Some((id, level)) => Line::Ancestors(id, level),
-        None => Line::Syntax,
-    }
-}
-
-/// `descendants ID L`
-fn descendants(rest: &[u8]) -> Line
-    ensures { TextMeans (form_word Form.Descendants ++ 32 ∷ rest.now) (meaning_of result) }
-{
-    match id_level(rest) {
-        Some((id, level)) => Line::Descendants(id, level),
-        None => Line::Syntax,
-    }
-}
-
-/// `count L`
-fn count(rest: &[u8]) -> Line
-    ensures { TextMeans (form_word Form.Count ++ 32 ∷ rest.now) (meaning_of result) }
-{
-    match level(rest) {
-        Some(level) => Line::Count(level),
-        None => Line::Syntax,
-    }
+    ids.push(number(rest)?);
+    Some(())
 }
 
 /// `N N N`

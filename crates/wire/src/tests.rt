@@ -1,26 +1,239 @@
 use super::*;
+use crate::numbers::{amount, big_fee, number, signed_number};
 use fee_rate::Sum;
-use graph_model::Refusal;
+use graph_model::{Flow, IdBuf, Level, Limits, Place, Refusal, Verdict};
 use outside::MemSink;
+use std::process::Abort;
 use std::test::Fail;
+
+/// What a line says, read with room for as many names as a line can list.
+fn read(rt: &impl Abort, ids: &mut IdBuf, line: &[u8]) -> Line {
+    assert!(rt; line.len() <= 65_536);
+    assert!(rt; ids.capacity() >= 32_766);
+    read_line(line, ids)
+}
+
+#[test]
+fn each_form_is_read(rt: HostRuntime) -> Result<(), Fail> {
+    let limits = Line::Limits(Limits {
+        count: 0,
+        size: 1,
+        total: 18_446_744_073_709_551_615,
+    });
+    let lines = [
+        ("", Line::Quiet),
+        ("\r", Line::Quiet),
+        ("#add 1 1 1", Line::Quiet),
+        ("limits 0 1 18446744073709551615", limits),
+        ("add 1 -2 3\r", Line::Add(1, -2, 3)),
+        ("dep 1 2", Line::Dep(1, 2)),
+        ("fee 1 -2", Line::Fee(1, -2)),
+        ("remove 1", Line::Remove(1)),
+        ("mine 1", Line::Mine),
+        ("mine 3 1 2\r", Line::Mine),
+        ("evict", Line::Evict),
+        ("stage", Line::Stage),
+        ("commit", Line::Commit),
+        ("abort", Line::Abort),
+        ("settle", Line::Settle),
+        ("compare", Line::Compare),
+        ("order main", Line::Order(Level::Main)),
+        ("diagram top", Line::Diagram(Level::Top)),
+        ("proof main", Line::Proof(Level::Main)),
+        ("cluster 1 top", Line::Cluster(1, Level::Top)),
+        ("ancestors 1 main", Line::Ancestors(1, Level::Main)),
+        ("descendants 1 top", Line::Descendants(1, Level::Top)),
+        ("chunk 1", Line::Chunk(1)),
+        ("before 1 2", Line::Before(1, 2)),
+        ("block 1", Line::Block(1)),
+        ("count main", Line::Count(Level::Main)),
+        ("mine", Line::Syntax),
+        ("mine ", Line::Syntax),
+        ("mine 1 ", Line::Syntax),
+        ("mine 1  2", Line::Syntax),
+        ("mine 1 x", Line::Syntax),
+        ("evict 1", Line::Syntax),
+        ("evict ", Line::Syntax),
+        (" evict", Line::Syntax),
+        ("Evict", Line::Syntax),
+        ("evict\r\r", Line::Syntax),
+        ("order", Line::Syntax),
+        ("order mai", Line::Syntax),
+        ("order main top", Line::Syntax),
+        ("add 1 2", Line::Syntax),
+        ("add 1 2 3 4", Line::Syntax),
+        ("before 1", Line::Syntax),
+        ("unknown 1", Line::Syntax),
+    ];
+    let mut ids = IdBuf::new(rt.alloc(), 32_766)?;
+    for (text, expected) in lines {
+        assert_eq!(rt; read(&rt, &mut ids, text.as_bytes()), expected);
+    }
+    assert_eq!(rt; ids.ids().len(), 0);
+    assert_eq!(rt; read(&rt, &mut ids, b"mine 3 1 2"), Line::Mine);
+    assert_eq!(rt; ids.ids(), [3, 1, 2].as_slice());
+    assert_eq!(rt; read(&rt, &mut ids, b"evict"), Line::Evict);
+    assert_eq!(rt; ids.ids().len(), 0);
+    Ok(())
+}
+
+#[test]
+fn the_longest_line_lists_32766_names(rt: HostRuntime) -> Result<(), Fail> {
+    let mut line = b"mine".to_vec(rt.alloc())?;
+    for _ in 0..32_766 {
+        line.extend_from_slice(b" 7")?;
+    }
+    assert_eq!(rt; line.len(), 65_536);
+    let mut ids = IdBuf::new(rt.alloc(), 32_766)?;
+    assert_eq!(rt; read(&rt, &mut ids, &line), Line::Mine);
+    assert_eq!(rt; ids.ids().len(), 32_766);
+    assert!(rt; ids.ids().iter().all(|id| *id == 7));
+    Ok(())
+}
+
+/// How a word is read: as a name, a size or a number of a line, as a fee, and in a certificate as a fee and as an amount.
+type Numbers = (Option<u64>, Option<i64>, Option<i128>, Option<u128>);
+
+#[test]
+fn numbers_are_read_within_their_ranges(rt: HostRuntime) -> Result<(), Fail> {
+    let most = 1_000_000_000_000_000_000_000_000_000_000;
+    let none = (None, None, None, None);
+    let words: [(&str, Numbers); 23] = [
+        ("0", (Some(0), Some(0), Some(0), None)),
+        ("1", (Some(1), Some(1), Some(1), Some(1))),
+        (
+            "9223372036854775807",
+            (
+                Some(9_223_372_036_854_775_807),
+                Some(9_223_372_036_854_775_807),
+                Some(9_223_372_036_854_775_807),
+                Some(9_223_372_036_854_775_807),
+            ),
+        ),
+        (
+            "9223372036854775808",
+            (
+                Some(9_223_372_036_854_775_808),
+                None,
+                Some(9_223_372_036_854_775_808),
+                Some(9_223_372_036_854_775_808),
+            ),
+        ),
+        (
+            "18446744073709551615",
+            (
+                Some(18_446_744_073_709_551_615),
+                None,
+                Some(18_446_744_073_709_551_615),
+                Some(18_446_744_073_709_551_615),
+            ),
+        ),
+        (
+            "18446744073709551616",
+            (
+                None,
+                None,
+                Some(18_446_744_073_709_551_616),
+                Some(18_446_744_073_709_551_616),
+            ),
+        ),
+        (
+            "1000000000000000000000000000000",
+            (
+                None,
+                None,
+                Some(most),
+                Some(1_000_000_000_000_000_000_000_000_000_000),
+            ),
+        ),
+        ("1000000000000000000000000000001", none),
+        ("-1", (None, Some(-1), Some(-1), None)),
+        (
+            "-9223372036854775808",
+            (
+                None,
+                Some(-9_223_372_036_854_775_808),
+                Some(-9_223_372_036_854_775_808),
+                None,
+            ),
+        ),
+        (
+            "-9223372036854775809",
+            (None, None, Some(-9_223_372_036_854_775_809), None),
+        ),
+        (
+            "-1000000000000000000000000000000",
+            (None, None, Some(-most), None),
+        ),
+        ("-1000000000000000000000000000001", none),
+        ("99999999999999999999999999999999999999999", none),
+        ("", none),
+        ("-", none),
+        ("-0", none),
+        ("--1", none),
+        ("+1", none),
+        ("00", none),
+        ("01", none),
+        ("-01", none),
+        ("1a", none),
+    ];
+    for (word, expected) in words {
+        let bytes = word.as_bytes();
+        let found = (
+            number(bytes),
+            signed_number(bytes),
+            big_fee(bytes),
+            amount(bytes),
+        );
+        assert_eq!(rt; found, expected);
+    }
+    Ok(())
+}
 
 #[test]
 fn replies_are_lines_of_text(rt: HostRuntime) -> Result<(), Fail> {
-    let mut sink = MemSink::new(rt.alloc(), 7, &[], 256)?;
-    let sums = Some(Sum {
+    let mut sink = MemSink::new(rt.alloc(), 7, &[], 1_024)?;
+    let sums = Sum {
         fee: -2_100_000_000_000_000_000_000,
         size: 220,
-    });
+    };
+    let flow = Flow {
+        child: 2,
+        parent: 1,
+        amount: 1_000_000_000_000_000_000_000_000_000_000,
+    };
     assert_eq!(rt; write_word(&mut sink, "ok"), Ok(()));
     assert_eq!(rt;
-        write_ids(&mut sink, "block", sums, &[3, 18_446_744_073_709_551_615]),
+        write_word(&mut sink, verdict_word(Verdict::Incomparable)),
+        Ok(())
+    );
+    assert_eq!(rt;
+        write_word(&mut sink, settled_words(Verdict::Worse)),
+        Ok(())
+    );
+    assert_eq!(rt; write_word(&mut sink, place_word(Place::Same)), Ok(()));
+    assert_eq!(rt;
+        write_ids(
+            &mut sink,
+            "block",
+            Some(sums),
+            &[3, 18_446_744_073_709_551_615]
+        ),
         Ok(())
     );
     assert_eq!(rt; write_ids(&mut sink, "ids", None, &[]), Ok(()));
+    assert_eq!(rt; write_chunk(&mut sink, sums, &[2, 1]), Ok(()));
+    assert_eq!(rt; write_point(&mut sink, 0, -1), Ok(()));
+    assert_eq!(rt;
+        write_tx(&mut sink, 1, -9_223_372_036_854_775_808, 2),
+        Ok(())
+    );
+    assert_eq!(rt; write_edge(&mut sink, 1, 2), Ok(()));
+    assert_eq!(rt; write_flow(&mut sink, flow), Ok(()));
     assert_eq!(rt; write_refusal(&mut sink, &Refusal::Count(65)), Ok(()));
     assert_eq!(rt; write_refusal(&mut sink, &Refusal::NoStaging), Ok(()));
     let text =
-        "ok\nblock -2100000000000000000000 220 3 18446744073709551615\nids\nrefused count 65\nrefused nostaging\n";
+        "ok\nincomparable\naborted worse\nsame\nblock -2100000000000000000000 220 3 18446744073709551615\nids\nchunk -2100000000000000000000 220 2 1\npoint 0 -1\ntx 1 -9223372036854775808 2\nedge 1 2\nflow 2 1 1000000000000000000000000000000\nrefused count 65\nrefused nostaging\n";
     assert_eq!(rt; sink.written(), text.as_bytes());
     Ok(())
 }

@@ -1,12 +1,14 @@
-ghost use Rattle.std.specs.Prelude.{◌≡◌, ℕ, ◌∷◌, ◌++◌, Option, decimal, map};
+ghost use Rattle.std.specs.Prelude.{◌≡◌, ℕ, [], ◌∷◌, ◌++◌, Option, decimal, map};
 ghost use Rattle.std.specs.Fmt.{signed_decimal};
 ghost use Rattle.outside.specs.Transfers.{Writes};
-ghost use Rattle.graph_model.specs.Replies.{line_text, refusal_text, refusal_words};
-ghost use Rattle.graph_model.specs.Commands.{spaced};
-ghost use Rattle.wire.specs.Pieces.{GoesOn, number_after, words_text, sum_words, kept_of};
+ghost use Rattle.graph_model.specs.Replies.{refusal_text, refusal_words, point_line};
+ghost use Rattle.graph_model.specs.Texts.{tx_line, edge_line, chunk_line, flow_line};
+ghost use Rattle.graph_model.specs.Words.{line_text};
+ghost use Rattle.graph_model.specs.Words.{spaced};
+ghost use Rattle.wire.specs.Pieces.{GoesOn, number_after, words_text, sum_words, kept_of, number_word};
 
 use fee_rate::Sum;
-use graph_model::Refusal;
+use graph_model::{Flow, Refusal, TxId};
 use itoa::Buffer;
 use outside::{Failed, Sink};
 
@@ -161,4 +163,117 @@ pub fn write_ids<K: Sink>(
     let so_far = more_sums(so_far, sink, sums);
     let so_far = more_numbers(so_far, sink, ids);
     more(so_far, sink, b"\n")
+}
+
+/// Writes the line of a part: `chunk FEE SIZE ID ..`, the fee in satoshis, the size in virtual bytes, the names in their
+/// order.
+pub fn write_chunk<K: Sink>(sink: &mut K, rate: Sum, ids: &[TxId]) -> Result<(), Failed>
+    ensures { Writes (K.written sink.old) (K.written sink.new) (K.faults sink.old) (K.faults sink.new) result
+        (line_text (chunk_line (record { rate = rate; ids = ids.now; flows = [] }))) }
+{
+    write_ids(sink, "chunk", Some(rate), ids)
+}
+
+/// A number of a line.
+#[derive(Clone, Copy, Debug)]
+enum Number {
+    Plain(u64),
+    Signed(i128),
+    Large(u128),
+}
+
+/// Goes on with a space and a number of any kind.
+fn more_any<K: Sink>(so_far: Result<(), Failed>, sink: &mut K, number: Number) -> Result<(), Failed>
+    ensures { GoesOn so_far (K.written sink.old) (K.written sink.new) (K.faults sink.old)
+        (K.faults sink.new) result (32 ∷ number_word number) }
+{
+    match number {
+        Number::Plain(n) => more_number(so_far, sink, n),
+        Number::Signed(n) => more_signed(so_far, sink, n),
+        Number::Large(n) => more_large(so_far, sink, n),
+    }
+}
+
+/// Goes on with a space and a number of up to 128 bits.
+fn more_large<K: Sink>(so_far: Result<(), Failed>, sink: &mut K, n: u128) -> Result<(), Failed>
+    ensures { GoesOn so_far (K.written sink.old) (K.written sink.new) (K.faults sink.old)
+        (K.faults sink.new) result (32 ∷ decimal n) }
+{
+    let mut buffer = Buffer::new();
+    let so_far = more(so_far, sink, b" ");
+    more(so_far, sink, buffer.format(n).as_bytes())
+}
+
+/// Goes on with a space and a number for each of these.
+fn more_each<K: Sink>(
+    so_far: Result<(), Failed>,
+    sink: &mut K,
+    numbers: &[Number],
+) -> Result<(), Failed>
+    ensures { GoesOn so_far (K.written sink.old) (K.written sink.new) (K.faults sink.old)
+        (K.faults sink.new) result (words_text (map number_word numbers.now)) }
+{
+    let mut so_far = so_far;
+    for number in numbers {
+        so_far = more_any(so_far, sink, *number);
+    }
+    so_far
+}
+
+/// Writes a line of a word and numbers.
+fn write_numbers<K: Sink>(sink: &mut K, head: &str, numbers: &[Number]) -> Result<(), Failed>
+    ensures { Writes (K.written sink.old) (K.written sink.new) (K.faults sink.old) (K.faults sink.new) result
+        (line_text (spaced (head.now ∷ map number_word numbers.now))) }
+{
+    let so_far = sink.write_all(head.as_bytes());
+    let so_far = more_each(so_far, sink, numbers);
+    more(so_far, sink, b"\n")
+}
+
+/// Writes the line of a corner of a diagram: `point SIZE FEE`, the size in virtual bytes, the fee in satoshis.
+pub fn write_point<K: Sink>(sink: &mut K, size: u64, fee: i128) -> Result<(), Failed>
+    ensures { Writes (K.written sink.old) (K.written sink.new) (K.faults sink.old) (K.faults sink.new) result
+        (line_text (point_line (size, fee))) }
+{
+    write_numbers(sink, "point", &[Number::Plain(size), Number::Signed(fee)])
+}
+
+/// Writes the line of a transaction: `tx ID FEE SIZE`, the fee in satoshis, the size in virtual bytes.
+pub fn write_tx<K: Sink>(sink: &mut K, id: TxId, fee: i64, size: u64) -> Result<(), Failed>
+    ensures { Writes (K.written sink.old) (K.written sink.new) (K.faults sink.old) (K.faults sink.new) result
+        (line_text (tx_line id fee size)) }
+{
+    write_numbers(
+        sink,
+        "tx",
+        &[
+            Number::Plain(id),
+            Number::Signed(i128::from(fee)),
+            Number::Plain(size),
+        ],
+    )
+}
+
+/// Writes the line of an edge: `edge ID ID`, the parent first.
+pub fn write_edge<K: Sink>(sink: &mut K, parent: TxId, child: TxId) -> Result<(), Failed>
+    ensures { Writes (K.written sink.old) (K.written sink.new) (K.faults sink.old) (K.faults sink.new) result
+        (line_text (edge_line parent child)) }
+{
+    write_ids(sink, "edge", None, &[parent, child])
+}
+
+/// Writes the line of a flow: `flow ID ID AMOUNT`, the child first, the amount in satoshis times virtual bytes.
+pub fn write_flow<K: Sink>(sink: &mut K, flow: Flow) -> Result<(), Failed>
+    ensures { Writes (K.written sink.old) (K.written sink.new) (K.faults sink.old) (K.faults sink.new) result
+        (line_text (flow_line flow)) }
+{
+    write_numbers(
+        sink,
+        "flow",
+        &[
+            Number::Plain(flow.child),
+            Number::Plain(flow.parent),
+            Number::Large(flow.amount),
+        ],
+    )
 }

@@ -23,10 +23,13 @@ settle-requires g c =
     let net = c.loop-at.network in
     let place = c.entry-place.result.place in
     let w = sym i.within in
-    let here : set.contains c.args.network.now.within place ≡ true = subst (λ (t : ℕ). set.contains c.args.network.now.within t ≡ true) (sym c.entry-place.ensures.place) (c.requires.lists.each (c.loop-at.at - 1) (omega (arith, i.at))) in
+    let here : set.contains c.args.network.now.within place ≡ true =
+    subst (λ (t : ℕ). set.contains c.args.network.now.within t ≡ true) (sym c.entry-place.ensures.place)
+    (c.requires.lists.each (c.loop-at.at - 1) (omega (arith, i.at))) in
     let over : set.contains net.over place ≡ true = subst (λ (b : Bool). b ≡ true) c.has.ensures c.if-has.true in
     let first : IsFirst n c.args.parents.now c.args.network.now.within c.remove.new.self (sent n net.into.items net.amounts.items) (weight_at net.rest.items) =
-    subst (λ s. IsFirst n c.args.parents.now c.args.network.now.within s (sent n net.into.items net.amounts.items) (weight_at net.rest.items)) (sym c.remove.ensures) (first_turn n _ _ _ _ _ place i.arranges.first) in (
+    subst (λ s. IsFirst n c.args.parents.now c.args.network.now.within s (sent n net.into.items net.amounts.items) (weight_at net.rest.items))
+    (sym c.remove.ensures) (first_turn n _ _ _ _ _ place i.arranges.first) in (
       network_fits g.row.W _ _ _ net.sized,
       (
         words_fit g.row.W _ _ _ net.sized,
@@ -55,7 +58,8 @@ loop-at-preserved-then-has g c =
     record {
       arranges =
           arranges_more n _ _ _ _ _ _ _ _ _ _ i.arranges
-          (subst (λ s. Arranges n c.args.parents.now s c.remove.new.self (sent n net.into.items net.amounts.items) (weight_at net.rest.items) (sent n new.into.items new.amounts.items) (weight_at new.rest.items)) i.within c.settle.ensures.arranges);
+          (subst (λ s. Arranges n c.args.parents.now s c.remove.new.self (sent n net.into.items net.amounts.items) (weight_at net.rest.items)
+          (sent n new.into.items new.amounts.items) (weight_at new.rest.items)) i.within c.settle.ensures.arranges);
       within = c.settle.ensures.within ∙ i.within;
       at = omega (arith, i.at);
     }

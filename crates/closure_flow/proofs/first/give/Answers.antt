@@ -22,7 +22,8 @@ hand-requires g c =
     let tk = c.if-lacks-lt0.true in
     let above : pos 0 <ℤ weight_at net.rest.items c.args.from = omega (arith, ints, rl, tl) in
     let under : weight_at net.rest.items c.args.to <ℤ pos 0 = omega (arith, ints, rk, tk) in
-    let f = giving n _ _ net.rest.items c.args.from c.args.to _ _ _ _ c.min-amount.result net.sized hf ht c.index-left.ensures c.index-lacks.ensures fine_left fine_lacks c.unsigned_abs.ensures.value c.unsigned_abs-then-lacks-lt0.ensures.value c.min-amount.ensures above under in
+    let f = giving n _ _ net.rest.items c.args.from c.args.to _ _ _ _ c.min-amount.result net.sized hf ht c.index-left.ensures c.index-lacks.ensures
+    fine_left fine_lacks c.unsigned_abs.ensures.value c.unsigned_abs-then-lacks-lt0.ensures.value c.min-amount.ensures above under in
     let least : c.min-amount.result ≤ up (weight_at net.rest.items c.args.from) = omega (arith, ints, f.0) in (
       network_fits g.row.W _ _ _ net.sized,
       (c.requires.from, (c.requires.to, (f.2, (f.0, (room_below _ _ f.1, omega (arith, c.requires.held, least)))))),
@@ -42,7 +43,8 @@ returns-then-lacks-lt0-clause-gives g c =
     let tk = c.if-lacks-lt0.true in
     let above : pos 0 <ℤ weight_at net.rest.items c.args.from = omega (arith, ints, rl, tl) in
     let under : weight_at net.rest.items c.args.to <ℤ pos 0 = omega (arith, ints, rk, tk) in
-    let f = giving n _ _ net.rest.items c.args.from c.args.to _ _ _ _ c.min-amount.result net.sized hf ht c.index-left.ensures c.index-lacks.ensures fine_left fine_lacks c.unsigned_abs.ensures.value c.unsigned_abs-then-lacks-lt0.ensures.value c.min-amount.ensures above under in
+    let f = giving n _ _ net.rest.items c.args.from c.args.to _ _ _ _ c.min-amount.result net.sized hf ht c.index-left.ensures c.index-lacks.ensures
+    fine_left fine_lacks c.unsigned_abs.ensures.value c.unsigned_abs-then-lacks-lt0.ensures.value c.min-amount.ensures above under in
     record { amount = c.min-amount.result; left = omega (arith, ints, f.0); lacked = omega (arith, ints, f.1); hands = c.hand.ensures.hands }
 
 pub returns-else-left-gt0-clause-gives : goal.returns-else-left-gt0-clause-gives

@@ -14,5 +14,6 @@ returns-clause-hands g c =
       here = ap (λ (f : ℕ → ℕ → ℕ). f c.args.from c.args.to) (sym flow) ∙ c.set_sent.ensures.here ∙ ap (λ (x : ℕ). x + c.args.amount) c.sent-flow.ensures;
       others = λ d p hd hp ne. ap (λ (f : ℕ → ℕ → ℕ). f d p) (sym flow) ∙ c.set_sent.ensures.others d p hd hp ne;
       rests = λ t h.
-          subst (λ (r : ℕ → ℤ). weight_at new.rest.items t ≡ (r t -ℤ only_at c.args.from (pos c.args.amount) t) +ℤ only_at c.args.to (pos c.args.amount) t) rest (c.shift.ensures.rest t h);
+          subst (λ (r : ℕ → ℤ). weight_at new.rest.items t ≡ (r t -ℤ only_at c.args.from (pos c.args.amount) t) +ℤ only_at c.args.to
+          (pos c.args.amount) t) rest (c.shift.ensures.rest t h);
     }

@@ -20,10 +20,13 @@ hand-requires g c =
     let read = read_rest n _ _ _ c.args.place _ net.sized here c.index-left.ensures in
     let test = c.if-left-le0.false in
     let above : pos 0 <ℤ weight_at net.rest.items c.args.place = omega (arith, ints, read, test) in
-    let enough : pos c.unsigned_abs.result ≤ℤ weight_at net.rest.items c.args.place = read_left n _ _ net.rest.items c.args.place _ c.unsigned_abs.result c.unsigned_abs.result net.sized here c.index-left.ensures fine c.unsigned_abs.ensures.value above (omega arith) in
+    let enough : pos c.unsigned_abs.result ≤ℤ weight_at net.rest.items c.args.place =
+    read_left n _ _ net.rest.items c.args.place _ c.unsigned_abs.result c.unsigned_abs.result net.sized here c.index-left.ensures fine
+    c.unsigned_abs.ensures.value above (omega arith) in
     let left : c.unsigned_abs.result ≤ up (weight_at net.rest.items c.args.place) = omega (arith, ints, enough) in
     let parent : set.contains net.within c.in-Some.parent ≡ true = c.requires.first.inside c.in-Some.parent c.in-Some.ensures.to_come in
-    let room = room_for_left n _ _ _ (sent n net.into.items net.amounts.items) (weight_at net.rest.items) c.args.place c.in-Some.parent c.unsigned_abs.result c.requires.first net.inside c.requires.place parent left in (
+    let room = room_for_left n _ _ _ (sent n net.into.items net.amounts.items) (weight_at net.rest.items)
+    c.args.place c.in-Some.parent c.unsigned_abs.result c.requires.first net.inside c.requires.place parent left in (
       network_fits g.row.W _ _ _ net.sized,
       (
         c.requires.place,
@@ -40,7 +43,9 @@ returns-in-Some-clause-arranges g c =
     let read = read_rest n _ _ _ c.args.place _ net.sized here c.index-left.ensures in
     let test = c.if-left-le0.false in
     let above : pos 0 <ℤ weight_at net.rest.items c.args.place = omega (arith, ints, read, test) in
-    let enough : pos c.unsigned_abs.result ≤ℤ weight_at net.rest.items c.args.place = read_left n _ _ net.rest.items c.args.place _ c.unsigned_abs.result c.unsigned_abs.result net.sized here c.index-left.ensures fine c.unsigned_abs.ensures.value above (omega arith) in
+    let enough : pos c.unsigned_abs.result ≤ℤ weight_at net.rest.items c.args.place =
+    read_left n _ _ net.rest.items c.args.place _ c.unsigned_abs.result c.unsigned_abs.result net.sized here c.index-left.ensures fine
+    c.unsigned_abs.ensures.value above (omega arith) in
     arranges_hand n _ _ _ _ _ _ _ c.args.place c.in-Some.parent c.unsigned_abs.result
     (record {
       below = net.inside;

@@ -51,7 +51,8 @@ loop-parent-preserved g c =
     record {
       arranges =
           arranges_more n _ _ _ _ _ _ _ _ _ _ i.arranges
-          (arranges_give n _ _ _ _ _ _ _ c.args.place c.in-Some.parent c.args.network.now.inside c.requires.place parent.0 parent.1 parent.2 c.requires.past c.give.ensures.gives i.arranges.first);
+          (arranges_give n _ _ _ _ _ _ _ c.args.place c.in-Some.parent c.args.network.now.inside c.requires.place parent.0 parent.1 parent.2
+          c.requires.past c.give.ensures.gives i.arranges.first);
       within = c.give.ensures.within ∙ i.within;
       to = λ t m. i.to t (from_remove _ c.in-Some.parent t (subst (λ s. set.contains s t ≡ true) c.remove.ensures m)).1;
     }
@@ -63,4 +64,5 @@ returns-clause-arranges g c =
     let old = c.loop-parent.network in
     let new = c.hand_on.new.network in
     arranges_more n _ _ _ _ _ _ _ _ _ _ i.arranges
-    (subst (λ s. Arranges n c.args.parents.now s c.args.to_come.now (sent n old.into.items old.amounts.items) (weight_at old.rest.items) (sent n new.into.items new.amounts.items) (weight_at new.rest.items)) i.within c.hand_on.ensures.arranges)
+    (subst (λ s. Arranges n c.args.parents.now s c.args.to_come.now (sent n old.into.items old.amounts.items) (weight_at old.rest.items)
+    (sent n new.into.items new.amounts.items) (weight_at new.rest.items)) i.within c.hand_on.ensures.arranges)

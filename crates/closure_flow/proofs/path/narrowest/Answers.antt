@@ -31,7 +31,10 @@ step_limit-amount-requires g c =
           subst (λ (t : ℕ). t < length c.args.parents.now) u (c.requires.parents _ (s.inside _ first)),
           (
             subst (λ (t : ℕ). t < n) u (s.below _ first),
-            (subst (λ (t : ℕ). t < n) v (s.below _ c.loop-before.invariant.0), (c.loop-before.invariant.1, along_step c.args.parents.now (sent n c.args.network.now.into.items c.args.network.now.amounts.items) u v back.1)),
+            (
+              subst (λ (t : ℕ). t < n) v (s.below _ c.loop-before.invariant.0),
+              (c.loop-before.invariant.1, along_step c.args.parents.now (sent n c.args.network.now.into.items c.args.network.now.amounts.items) u v back.1),
+            ),
           ),
         ),
       ),
@@ -43,17 +46,26 @@ loop-before-preserved g c =
     let lower = (c.requires.search.step _ _ c.loop-before.invariant.0 from).0 in
     let flow = sent (64 * g.row.W) c.args.network.now.into.items c.args.network.now.amounts.items in
     let tight =
-    subst (λ (t : ℕ). (c.step_limit-amount.result ≡ c.loop-before.amount) ⊎ ((set.contains (parents_at c.args.parents.now (place_at c.args.queue.now.entries c.in-Some.before)) t ≡ false) × (flow t (place_at c.args.queue.now.entries c.in-Some.before) ≡ c.step_limit-amount.result))) c.entry-to.ensures.place
-    (subst (λ (t : ℕ). (c.step_limit-amount.result ≡ c.loop-before.amount) ⊎ ((set.contains (parents_at c.args.parents.now t) c.entry-to.result.place ≡ false) × (flow c.entry-to.result.place t ≡ c.step_limit-amount.result))) c.entry-from.ensures.place c.step_limit-amount.ensures.narrowest) in
-    let lets : LetsThrough c.args.parents.now flow c.step_limit-amount.result (place_at c.args.queue.now.entries c.in-Some.before) (place_at c.args.queue.now.entries c.loop-before.here) =
-    subst (λ (t : ℕ). LetsThrough c.args.parents.now flow c.step_limit-amount.result (place_at c.args.queue.now.entries c.in-Some.before) t) c.entry-to.ensures.place
-    (subst (λ (t : ℕ). LetsThrough c.args.parents.now flow c.step_limit-amount.result t c.entry-to.result.place) c.entry-from.ensures.place c.step_limit-amount.ensures.lets) in (
+    subst (λ (t : ℕ). (c.step_limit-amount.result ≡ c.loop-before.amount) ⊎
+    ((set.contains (parents_at c.args.parents.now (place_at c.args.queue.now.entries c.in-Some.before)) t ≡ false) ×
+    (flow t (place_at c.args.queue.now.entries c.in-Some.before) ≡ c.step_limit-amount.result))) c.entry-to.ensures.place
+    (subst (λ (t : ℕ). (c.step_limit-amount.result ≡ c.loop-before.amount) ⊎
+    ((set.contains (parents_at c.args.parents.now t) c.entry-to.result.place ≡ false) ×
+    (flow c.entry-to.result.place t ≡ c.step_limit-amount.result))) c.entry-from.ensures.place c.step_limit-amount.ensures.narrowest) in
+    let lets : LetsThrough c.args.parents.now flow c.step_limit-amount.result (place_at c.args.queue.now.entries c.in-Some.before)
+    (place_at c.args.queue.now.entries c.loop-before.here) =
+    subst (λ (t : ℕ). LetsThrough c.args.parents.now flow c.step_limit-amount.result (place_at c.args.queue.now.entries c.in-Some.before) t)
+    c.entry-to.ensures.place
+    (subst (λ (t : ℕ). LetsThrough c.args.parents.now flow c.step_limit-amount.result t c.entry-to.result.place)
+    c.entry-from.ensures.place c.step_limit-amount.ensures.lets) in (
       omega (arith, lower, c.loop-before.invariant.0),
       c.step_limit-amount.ensures.some,
       omega (arith, c.step_limit-amount.ensures.most, c.loop-before.invariant.2),
       λ y h f. c.loop-before.invariant.3 y (omega (arith, h, c.step_limit-amount.ensures.most))
-          (fits_step _ _ _ _ _ _ y from (lets_less c.args.parents.now flow y c.step_limit-amount.result (place_at c.args.queue.now.entries c.in-Some.before) (place_at c.args.queue.now.entries c.loop-before.here) h lets) f),
-      narrowed_step c.args.parents.now flow c.args.queue.now.entries c.args.at c.args.limit c.loop-before.here c.in-Some.before c.loop-before.amount c.step_limit-amount.result c.loop-before.invariant.4 from tight,
+          (fits_step _ _ _ _ _ _ y from (lets_less c.args.parents.now flow y c.step_limit-amount.result
+          (place_at c.args.queue.now.entries c.in-Some.before) (place_at c.args.queue.now.entries c.loop-before.here) h lets) f),
+      narrowed_step c.args.parents.now flow c.args.queue.now.entries c.args.at
+          c.args.limit c.loop-before.here c.in-Some.before c.loop-before.amount c.step_limit-amount.result c.loop-before.invariant.4 from tight,
     )
 
 pub returns-clause-some : goal.returns-clause-some
@@ -61,10 +73,12 @@ returns-clause-some g c =
     let none = sym c.entry.ensures.from ∙ c.in_default.is in
     let at = c.entry-start.ensures.place in
     let fine : SFits w128 c.index.result.now = search rules in
-    let read = read_rest (64 * g.row.W) _ _ _ c.entry-start.result.place _ c.args.network.now.sized (subst (λ (t : ℕ). t < 64 * g.row.W) (sym at) (c.requires.search.below _ c.loop-before.invariant.0)) c.index.ensures in
+    let read = read_rest (64 * g.row.W) _ _ _ c.entry-start.result.place _ c.args.network.now.sized
+    (subst (λ (t : ℕ). t < 64 * g.row.W) (sym at) (c.requires.search.below _ c.loop-before.invariant.0)) c.index.ensures in
     let above : pos 0 <ℤ c.index.result.now =
     subst (λ (z : ℤ). pos 0 <ℤ z) (ap (weight_at c.args.network.now.rest.items) (sym at) ∙ read) (c.requires.search.start _ c.loop-before.invariant.0 none) in
-    let abs : c.unsigned_abs.result ≡ unsigned_abs c.index.result.now = c.unsigned_abs.ensures.value ∙ ap unsigned_abs (to_z-of_z w128 c.index.result.now fine) in
+    let abs : c.unsigned_abs.result ≡ unsigned_abs c.index.result.now = c.unsigned_abs.ensures.value
+    ∙ ap unsigned_abs (to_z-of_z w128 c.index.result.now fine) in
     omega (arith, c.min.ensures, c.loop-before.invariant.1, (start_left c.index.result.now c.unsigned_abs.result abs above).1)
 
 pub returns-clause-fits : goal.returns-clause-fits
@@ -72,11 +86,16 @@ returns-clause-fits g c =
     let none = sym c.entry.ensures.from ∙ c.in_default.is in
     let at = c.entry-start.ensures.place in
     let fine : SFits w128 c.index.result.now = search rules in
-    let read = read_rest (64 * g.row.W) _ _ _ c.entry-start.result.place _ c.args.network.now.sized (subst (λ (t : ℕ). t < 64 * g.row.W) (sym at) (c.requires.search.below _ c.loop-before.invariant.0)) c.index.ensures in
-    let here : weight_at c.args.network.now.rest.items (place_at c.args.queue.now.entries c.loop-before.here) ≡ c.index.result.now = ap (weight_at c.args.network.now.rest.items) (sym at) ∙ read in
+    let read = read_rest (64 * g.row.W) _ _ _ c.entry-start.result.place _ c.args.network.now.sized
+    (subst (λ (t : ℕ). t < 64 * g.row.W) (sym at) (c.requires.search.below _ c.loop-before.invariant.0)) c.index.ensures in
+    let here : weight_at c.args.network.now.rest.items (place_at c.args.queue.now.entries c.loop-before.here) ≡ c.index.result.now =
+    ap (weight_at c.args.network.now.rest.items) (sym at) ∙ read in
     let above : pos 0 <ℤ c.index.result.now = subst (λ (z : ℤ). pos 0 <ℤ z) here (c.requires.search.start _ c.loop-before.invariant.0 none) in
-    let abs : c.unsigned_abs.result ≡ unsigned_abs c.index.result.now = c.unsigned_abs.ensures.value ∙ ap unsigned_abs (to_z-of_z w128 c.index.result.now fine) in
-    let enough : pos c.min.result ≤ℤ c.index.result.now = subst (λ (m : ℕ). pos m ≤ℤ c.index.result.now) (sym c.min.ensures) (enough_of c.index.result.now c.unsigned_abs.result c.loop-before.amount abs above) in
+    let abs : c.unsigned_abs.result ≡ unsigned_abs c.index.result.now = c.unsigned_abs.ensures.value
+    ∙ ap unsigned_abs (to_z-of_z w128 c.index.result.now fine) in
+    let enough : pos c.min.result ≤ℤ c.index.result.now =
+    subst (λ (m : ℕ). pos m ≤ℤ c.index.result.now) (sym c.min.ensures)
+    (enough_of c.index.result.now c.unsigned_abs.result c.loop-before.amount abs above) in
     c.loop-before.invariant.3 c.min.result (omega (arith, c.min.ensures))
     (fits_start _ _ _ _ _ _ none (subst (λ (z : ℤ). pos c.min.result ≤ℤ z) (sym here) enough))
 
@@ -85,8 +104,13 @@ returns-clause-narrowest g c =
     let none = sym c.entry.ensures.from ∙ c.in_default.is in
     let at = c.entry-start.ensures.place in
     let fine : SFits w128 c.index.result.now = search rules in
-    let read = read_rest (64 * g.row.W) _ _ _ c.entry-start.result.place _ c.args.network.now.sized (subst (λ (t : ℕ). t < 64 * g.row.W) (sym at) (c.requires.search.below _ c.loop-before.invariant.0)) c.index.ensures in
-    let here : weight_at c.args.network.now.rest.items (place_at c.args.queue.now.entries c.loop-before.here) ≡ c.index.result.now = ap (weight_at c.args.network.now.rest.items) (sym at) ∙ read in
-    let abs : c.unsigned_abs.result ≡ unsigned_abs c.index.result.now = c.unsigned_abs.ensures.value ∙ ap unsigned_abs (to_z-of_z w128 c.index.result.now fine) in
-    narrowed_all c.args.parents.now (sent (64 * g.row.W) c.args.network.now.into.items c.args.network.now.amounts.items) (weight_at c.args.network.now.rest.items) c.args.queue.now.entries c.args.at c.args.limit c.loop-before.here c.loop-before.amount c.unsigned_abs.result c.min.result
+    let read = read_rest (64 * g.row.W) _ _ _ c.entry-start.result.place _ c.args.network.now.sized
+    (subst (λ (t : ℕ). t < 64 * g.row.W) (sym at) (c.requires.search.below _ c.loop-before.invariant.0)) c.index.ensures in
+    let here : weight_at c.args.network.now.rest.items (place_at c.args.queue.now.entries c.loop-before.here) ≡ c.index.result.now =
+    ap (weight_at c.args.network.now.rest.items) (sym at) ∙ read in
+    let abs : c.unsigned_abs.result ≡ unsigned_abs c.index.result.now = c.unsigned_abs.ensures.value
+    ∙ ap unsigned_abs (to_z-of_z w128 c.index.result.now fine) in
+    narrowed_all c.args.parents.now (sent (64 * g.row.W) c.args.network.now.into.items c.args.network.now.amounts.items)
+    (weight_at c.args.network.now.rest.items)
+    c.args.queue.now.entries c.args.at c.args.limit c.loop-before.here c.loop-before.amount c.unsigned_abs.result c.min.result
     c.loop-before.invariant.4 none (abs ∙ ap unsigned_abs (sym here)) (c.requires.search.start _ c.loop-before.invariant.0 none) c.min.ensures

@@ -16,8 +16,11 @@ loop-place-smaller g c = rw c.remove.ensures (fewer _ _ c.in-Some.ensures.least.
 pub loop-place-preserved : goal.loop-place-preserved
 loop-place-preserved g c =
     let member = c.in-Some.ensures.least.member in
-    rw (c.push.ensures.entries, c.insert.ensures, c.remove.ensures)
-    (putting_push (64 * g.row.W) _ _ _ _ _ _ _ _ c.loop-place.invariant.0 member (c.in-Some.ensures.within _ member) refl, c.push.ensures.taken ∙ c.loop-place.invariant.1)
+    rw (c.push.ensures.entries, c.insert.ensures, c.remove.ensures) (
+      putting_push (64 * g.row.W) _ _ _ _ _ _ _ _ c.loop-place.invariant.0 member (c.in-Some.ensures.within _ member) refl,
+      c.push.ensures.taken
+          ∙ c.loop-place.invariant.1,
+    )
 
 pub returns-clause-new : goal.returns-clause-new
 returns-clause-new g c t m =

@@ -35,7 +35,8 @@ loop-place-smaller g c =
     let a = c.put_all-seen-in-Some.ensures in
     let net = c.args.network.now in
     let n : ℕ = 64 * g.row.W in
-    let room = some_left n c.args.parents.now net.within (sent n net.into.items net.amounts.items) (weight_at net.rest.items) c.loop-place.queue.entries c.loop-place.queue.taken c.loop-place.seen c.loop-place.invariant.0 k.none in
+    let room = some_left n c.args.parents.now net.within (sent n net.into.items net.amounts.items) (weight_at net.rest.items)
+    c.loop-place.queue.entries c.loop-place.queue.taken c.loop-place.seen c.loop-place.invariant.0 k.none in
     omega (arith, a.taken, k.taken, room)
 
 pub loop-place-preserved : goal.loop-place-preserved
@@ -55,14 +56,17 @@ loop-place-preserved g c =
     let grows : Grows c.loop-place.queue.entries c.put_all-seen-in-Some.new.queue.entries c.beyond-next.result (Some c.loop-place.queue.taken) =
     subst (λ (i : ℕ). Grows c.loop-place.queue.entries c.put_all-seen-in-Some.new.queue.entries c.beyond-next.result (Some i)) before
     (subst (λ (es : List Entry). Grows es c.put_all-seen-in-Some.new.queue.entries c.beyond-next.result (Some (c.taken-at.result - 1))) k.entries a.grows) in (
-      subst (λ (i : ℕ). Searching n c.args.parents.now c.args.network.now.within flow rest c.put_all-seen-in-Some.new.queue.entries i c.put_all-seen-in-Some.result) now
+      subst (λ (i : ℕ). Searching n c.args.parents.now c.args.network.now.within flow rest c.put_all-seen-in-Some.new.queue.entries
+          i c.put_all-seen-in-Some.result) now
           (searching_step n _ _ flow rest _ _ c.loop-place.queue.taken _ _ c.beyond-next.result c.requires.allowed s k.none
           (subst (λ (t : ℕ). pos 0 ≤ℤ rest t) k.place content)
-          (subst (λ (t : ℕ). IsBeyond n c.args.parents.now c.args.network.now.within flow c.loop-place.seen t c.beyond-next.result) k.place c.beyond-next.ensures)
+          (subst (λ (t : ℕ). IsBeyond n c.args.parents.now c.args.network.now.within flow c.loop-place.seen t c.beyond-next.result)
+          k.place c.beyond-next.ensures)
           a.lists a.within grows a.old a.new a.only),
       subst (λ (i : ℕ). Levels c.args.parents.now c.args.network.now.within flow rest c.put_all-seen-in-Some.new.queue.entries i) now
           (levels_step n _ _ flow rest _ _ c.loop-place.queue.taken _ _ c.beyond-next.result s c.loop-place.invariant.1 k.none
-          (subst (λ (t : ℕ). IsBeyond n c.args.parents.now c.args.network.now.within flow c.loop-place.seen t c.beyond-next.result) k.place c.beyond-next.ensures)
+          (subst (λ (t : ℕ). IsBeyond n c.args.parents.now c.args.network.now.within flow c.loop-place.seen t c.beyond-next.result)
+          k.place c.beyond-next.ensures)
           a.lists grows a.old a.new c.args.network.now.inside),
       omega (arith, k.step, k.taken, a.taken, c.loop-place.invariant.2),
     )
@@ -70,7 +74,8 @@ loop-place-preserved g c =
 pub loop-place-init : goal.loop-place-init
 loop-place-init g c = (
   search rules,
-  levels_start _ _ _ _ _ _ c.args.network.now.over _ c.put_all-seen.ensures.grows c.clear.ensures.entries (c.put_all-seen.ensures.taken ∙ c.clear.ensures.taken),
+  levels_start _ _ _ _ _ _ c.args.network.now.over _ c.put_all-seen.ensures.grows c.clear.ensures.entries
+      (c.put_all-seen.ensures.taken ∙ c.clear.ensures.taken),
   omega (arith, c.put_all-seen.ensures.taken, c.clear.ensures.taken),
 )
 
@@ -92,9 +97,19 @@ returns-clause-end g c = searching_end (64 * g.row.W) _ _ _ _ _ _ _ c.loop-place
 pub returns-then-has-clause-few : goal.returns-then-has-clause-few
 returns-then-has-clause-few g c =
     let i = c.loop-place.invariant.0 in
-    omega (arith, ap length c.in-Some.ensures.entries, i.lists.count, len_mono (64 * g.row.W) c.loop-place.seen c.args.network.now.within c.args.network.now.inside i.inside)
+    omega (
+      arith,
+      ap length c.in-Some.ensures.entries,
+      i.lists.count,
+      len_mono (64 * g.row.W) c.loop-place.seen c.args.network.now.within c.args.network.now.inside i.inside,
+    )
 
 pub returns-clause-few : goal.returns-clause-few
 returns-clause-few g c =
     let i = c.loop-place.invariant.0 in
-    omega (arith, ap length c.in_default.ensures.entries, i.lists.count, len_mono (64 * g.row.W) c.loop-place.seen c.args.network.now.within c.args.network.now.inside i.inside)
+    omega (
+      arith,
+      ap length c.in_default.ensures.entries,
+      i.lists.count,
+      len_mono (64 * g.row.W) c.loop-place.seen c.args.network.now.within c.args.network.now.inside i.inside,
+    )

@@ -7,8 +7,10 @@ use Rattle.closure_flow.proofs.search.search.Given as goal
 
 abbrev pub invariant-loop-place : goal.invariant-loop-place
 invariant-loop-place g l =
-    Searching (64 * g.row.W) l.parents l.network.within (sent (64 * g.row.W) l.network.into.items l.network.amounts.items) (weight_at l.network.rest.items) l.queue.entries l.queue.taken l.seen
-    × Levels l.parents l.network.within (sent (64 * g.row.W) l.network.into.items l.network.amounts.items) (weight_at l.network.rest.items) l.queue.entries l.queue.taken
+    Searching (64 * g.row.W) l.parents l.network.within (sent (64 * g.row.W) l.network.into.items l.network.amounts.items)
+    (weight_at l.network.rest.items) l.queue.entries l.queue.taken l.seen
+    × Levels l.parents l.network.within (sent (64 * g.row.W) l.network.into.items l.network.amounts.items) (weight_at l.network.rest.items)
+    l.queue.entries l.queue.taken
     × (l.steps ≡ l.fn.steps + l.queue.taken)
 
 abbrev pub decreases-loop-place : goal.decreases-loop-place

@@ -28,8 +28,10 @@ loop-at-preserved g c =
     let es = c.search-reach.new.queue.entries in
     let e = c.search-reach.ensures in
     let at = rw c.in-Some.is at e.position in
-    let b : Budget ps wl (places n wl) F r (set.len wl) c.args.steps.now c.loop-at.steps = subst (λ x. Budget ps x (places n x) F r (set.len x) c.args.steps.now c.loop-at.steps) (sym w) c.loop-at.invariant.3 in
-    let next = budget_step n ps wl F G r s es c.in-Some.at (set.len wl) c.args.steps.now c.loop-at.steps c.search-reach.new.steps e.search (omega (arith, at, e.within)) e.few (sym (len-places n wl c.loop-at.network.inside)) (rw c.in-Some.is at e.end) (rw c.in-Some.is at e.shortest)
+    let b : Budget ps wl (places n wl) F r (set.len wl) c.args.steps.now c.loop-at.steps =
+    subst (λ x. Budget ps x (places n x) F r (set.len x) c.args.steps.now c.loop-at.steps) (sym w) c.loop-at.invariant.3 in
+    let next = budget_step n ps wl F G r s es c.in-Some.at (set.len wl) c.args.steps.now c.loop-at.steps c.search-reach.new.steps e.search
+    (omega (arith, at, e.within)) e.few (sym (len-places n wl c.loop-at.network.inside)) (rw c.in-Some.is at e.end) (rw c.in-Some.is at e.shortest)
     c.augment.ensures.spends (omega (arith, e.steps, e.within, e.few)) b in (
       search rules,
       search rules,

@@ -9,10 +9,12 @@ use Rattle.closure_flow.proofs.solver.complete.Given as goal
 
 abbrev pub invariant-loop-at : goal.invariant-loop-at
 invariant-loop-at g l =
-    Improves (64 * g.row.W) l.parents l.fn.network.within (sent (64 * g.row.W) l.fn.network.into.items l.fn.network.amounts.items) (weight_at l.fn.network.rest.items) (sent (64 * g.row.W) l.network.into.items l.network.amounts.items) (weight_at l.network.rest.items)
+    Improves (64 * g.row.W) l.parents l.fn.network.within (sent (64 * g.row.W) l.fn.network.into.items l.fn.network.amounts.items)
+    (weight_at l.fn.network.rest.items) (sent (64 * g.row.W) l.network.into.items l.network.amounts.items) (weight_at l.network.rest.items)
     × (l.network.within ≡ l.fn.network.within)
     × (l.fn.steps ≤ l.steps)
-    × Budget l.parents l.fn.network.within (places (64 * g.row.W) l.fn.network.within) (sent (64 * g.row.W) l.network.into.items l.network.amounts.items) (weight_at l.network.rest.items) (set.len l.fn.network.within) l.fn.steps l.steps
+    × Budget l.parents l.fn.network.within (places (64 * g.row.W) l.fn.network.within)
+    (sent (64 * g.row.W) l.network.into.items l.network.amounts.items) (weight_at l.network.rest.items) (set.len l.fn.network.within) l.fn.steps l.steps
 
 abbrev pub decreases-loop-at : goal.decreases-loop-at
 decreases-loop-at g l = surplus (weight_at l.network.rest.items) (places (64 * g.row.W) l.fn.network.within)

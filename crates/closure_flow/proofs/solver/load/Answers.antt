@@ -48,12 +48,15 @@ loop-place-preserved g c =
     let n : ℕ = 64 * g.row.W in
     let i = c.loop-place.invariant in
     let k = c.in-Some.ensures in
-    let here : set.contains c.args.within.now c.in-Some.place ≡ true = subst (λ (t : ℕ). set.contains c.args.within.now t ≡ true) (sym k.place) (i.1.each _ k.none) in
+    let here : set.contains c.args.within.now c.in-Some.place ≡ true =
+    subst (λ (t : ℕ). set.contains c.args.within.now t ≡ true) (sym k.place) (i.1.each _ k.none) in
     let below : c.in-Some.place < n = c.put_all-all.ensures.within _ (c.put_all-all.ensures.new _ here) in
     let fine : SFits w128 (weight_at c.args.weights.now c.in-Some.place) = search rules in
-    let loaded : Loads c.args.weights.now c.begin.new.self.within c.begin.new.self.into.items c.begin.new.self.rest.items c.loop-place.queue.entries (c.loop-place.queue.taken + 1) =
+    let loaded : Loads c.args.weights.now c.begin.new.self.within c.begin.new.self.into.items c.begin.new.self.rest.items c.loop-place.queue.entries
+    (c.loop-place.queue.taken + 1) =
     rw (c.begin.ensures.within, c.begin.ensures.into, c.begin.ensures.rest)
-    (loads_step n _ _ _ _ _ _ c.loop-place.queue.taken c.in-Some.place _ _ c.loop-place.network.sized i.1 k.none k.place below (to_z-of_z w128 (weight_at c.args.weights.now c.in-Some.place) fine) i.0) in (
+    (loads_step n _ _ _ _ _ _ c.loop-place.queue.taken c.in-Some.place _ _ c.loop-place.network.sized i.1 k.none k.place below
+    (to_z-of_z w128 (weight_at c.args.weights.now c.in-Some.place) fine) i.0) in (
       rw (k.entries, k.taken) loaded,
       subst (λ (es : List Entry). Lists es c.args.within.now) (sym k.entries) i.1,
       omega (arith, k.step, k.taken, i.2),

@@ -13,7 +13,8 @@ solve-requires g c =
     let ws = c.args.weights.now in
     let e = c.first_n-all.ensures in
     let few = c.requires.words in
-    let inside : (t : ℕ) → set.contains c.first_n-all.result t ≡ true → t < length ws = λ t m. within-first (length ws) t (ap (λ s. set.contains s t) (sym e) ∙ m) in (
+    let inside : (t : ℕ) → set.contains c.first_n-all.result t ≡ true
+    → t < length ws = λ t m. within-first (length ws) t (ap (λ s. set.contains s t) (sym e) ∙ m) in (
       omega arith,
       (
         omega arith,

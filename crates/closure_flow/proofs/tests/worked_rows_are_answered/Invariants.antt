@@ -9,3 +9,6 @@ ghosts-edges g a = record { name = a.blank.name; parts = a.blank.parts }
 
 abbrev pub ghosts-stars : goal.ghosts-stars
 ghosts-stars g a = record { name = a.blank.name; parts = a.blank.parts }
+
+abbrev pub ghosts-cuts : goal.ghosts-cuts
+ghosts-cuts g a = record { name = a.blank.name; parts = a.blank.parts }

@@ -2,7 +2,7 @@ use Rattle.std.proofs.Common.{rules, ◌≡◌, ◌<◌, ◌≤◌, ap, arith, l
 use Rattle.std.specs.FinSet as fin
 use Rattle.graphs.specs.Closures.{members_of}
 use Rattle.linearize.specs.Graphs.{most_members}
-use Rattle.cross_tests.proofs.Sizes.{lists_fit, scratch_fits}
+use Rattle.cross_tests.proofs.Sizes.{scratch_fits}
 use Rattle.cross_tests.proofs.orders.certified.Goals as goal
 
 pub optimal-requires : goal.optimal-requires
@@ -17,4 +17,4 @@ optimal-requires g c =
     let joined : c.is_component.result ≡ true = search rules in
     let in_range = c.has_rates.ensures.0 rated in
     let one = c.is_component.ensures.0 joined in
-    (scratch_fits w c.requires, (lists_fit w c.requires, (lit< tt, (some, (few, (in_range, one))))))
+    (scratch_fits w c.requires, (search rules, (lit< tt, (some, (few, (in_range, one))))))

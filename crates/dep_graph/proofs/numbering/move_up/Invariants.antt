@@ -4,4 +4,4 @@ use Rattle.dep_graph.proofs.Moving.{Changing}
 use Rattle.dep_graph.proofs.numbering.move_up.Given as goal
 
 abbrev pub invariant-loop-i : goal.invariant-loop-i
-invariant-loop-i g l = Changing (IsMovedUp (64 * g.row.W) l.first) l.first l.initial.sets.items l.sets.items l.i
+invariant-loop-i g l = Changing (IsMovedUp (64 * g.row.W) l.first) l.first l.initial.rows l.rows l.i

@@ -1,4 +1,4 @@
-use Rattle.std.proofs.Common.{◌≡◌, ◌*◌, ◌∙◌, ℕ, ap, sym, subst, arith, lit<, true, List, map, ◌++◌}
+use Rattle.std.proofs.Common.{rules, ◌≡◌, ◌*◌, ◌∙◌, ℕ, ap, sym, subst, arith, lit<, true, List, map, ◌++◌}
 use Rattle.std.specs.FinSet as fin
 use Rattle.graphs.proofs.Members.{contains-members_of}
 use Rattle.graphs.specs.Closures.{is_member, members_of, IsClosed}
@@ -8,12 +8,13 @@ use Rattle.graphs.specs.Certificates.{Part, IsCertificate}
 use Rattle.graphs.specs.Linearizations.{IsOptimal}
 use Rattle.linearize.specs.Drafts.{Written}
 use Rattle.linearize.specs.Graphs.{sum_at}
+use Rattle.linearize.specs.Minimal.{AreMinimal}
 use Rattle.linearize.specs.Splits.{Adds}
 use Rattle.linearize.specs.Steps.{AreOfSolves}
-use Rattle.linearize.proofs.Final.{certificate, has_sizes}
+use Rattle.linearize.proofs.Final.{certificate, has_sizes, minimal}
 use Rattle.linearize.proofs.Joined.{start_room}
 use Rattle.graphs.proofs.ClosureGraphs.{closures_have_graphs}
-use Rattle.linearize.proofs.Sizes.{words_fit, lists_fit, scratch_fits}
+use Rattle.linearize.proofs.Sizes.{words_fit, scratch_fits}
 use Rattle.linearize.proofs.Solves.{least_of, most_of}
 use Rattle.linearize.proofs.linear.optimal.Goals as goal
 
@@ -24,12 +25,13 @@ split-requires g c =
     let dep = c.args.dep.now in
     let closed : IsClosed n dep = c.members-members.ensures.closed in
     let is : c.members-members.result ≡ members_of dep = c.members-members.ensures.members in
-    let member : (p : ℕ) → fin.contains c.members-members.result p ≡ true → is_member dep p ≡ true = λ p m. sym (contains-members_of dep p) ∙ subst (λ s. fin.contains s p ≡ true) is m in
+    let member : (p : ℕ) → fin.contains c.members-members.result p ≡ true → is_member dep p ≡ true = λ p m. sym (contains-members_of dep p)
+    ∙ subst (λ s. fin.contains s p ≡ true) is m in
     let len : fin.len c.members-members.result ≡ fin.len (members_of dep) = ap (λ s. fin.len s) is in
     let within : IsWithin n c.members-members.result = λ p m. closed.within p (member p m) in (
       scratch_fits g.row.W narrow,
       (
-        lists_fit g.row.W narrow,
+        search rules,
         (
           words_fit g.row.W narrow,
           (
@@ -61,7 +63,8 @@ pub returns-clause-certificate : goal.returns-clause-certificate
 returns-clause-certificate g c = λ graph stands.
     (let n : ℕ = 64 * g.row.W in
     let dep = c.args.dep.now in
-    let adds : Adds n dep (members_of dep) c.clear.new.self c.split.new.draft = subst (λ s. Adds n dep s c.clear.new.self c.split.new.draft) c.members-members.ensures.members c.split.ensures.adds in
+    let adds : Adds n dep (members_of dep) c.clear.new.self c.split.new.draft =
+    subst (λ s. Adds n dep s c.clear.new.self c.split.new.draft) c.members-members.ensures.members c.split.ensures.adds in
     let parts : c.split.new.draft.parts ≡ adds.parts = ap (λ (w : Written). w.parts) adds.is ∙ ap (λ (w : Written). w.parts ++ adds.parts) c.clear.ensures in
     subst (λ (ps : List Part). IsCertificate (sum_at dep) graph (model.IsCover graph.pairs) ps) (sym parts)
     (certificate n dep graph c.members-members.ensures.closed stands adds.parts c.requires.component adds.linear))
@@ -70,11 +73,23 @@ pub returns-clause-optimal : goal.returns-clause-optimal
 returns-clause-optimal g c = λ graph stands.
     (let n : ℕ = 64 * g.row.W in
     let dep = c.args.dep.now in
-    let adds : Adds n dep (members_of dep) c.clear.new.self c.split.new.draft = subst (λ s. Adds n dep s c.clear.new.self c.split.new.draft) c.members-members.ensures.members c.split.ensures.adds in
+    let adds : Adds n dep (members_of dep) c.clear.new.self c.split.new.draft =
+    subst (λ s. Adds n dep s c.clear.new.self c.split.new.draft) c.members-members.ensures.members c.split.ensures.adds in
     let parts : c.split.new.draft.parts ≡ adds.parts = ap (λ (w : Written). w.parts) adds.is ∙ ap (λ (w : Written). w.parts ++ adds.parts) c.clear.ensures in
     subst (λ (ps : List Part). IsOptimal (sum_at dep) graph (map (λ part. part.ids) ps)) (sym parts)
-    (c.certified_parts_are_optimal.ensures.by_covers (sum_at dep) graph adds.parts (has_sizes n dep graph c.members-members.ensures.closed stands c.requires.rates)
+    (c.certified_parts_are_optimal.ensures.by_covers (sum_at dep) graph adds.parts
+    (has_sizes n dep graph c.members-members.ensures.closed stands c.requires.rates)
     (certificate n dep graph c.members-members.ensures.closed stands adds.parts c.requires.component adds.linear)))
+
+pub returns-clause-minimal : goal.returns-clause-minimal
+returns-clause-minimal g c = λ graph stands.
+    (let n : ℕ = 64 * g.row.W in
+    let dep = c.args.dep.now in
+    let adds : Adds n dep (members_of dep) c.clear.new.self c.split.new.draft =
+    subst (λ s. Adds n dep s c.clear.new.self c.split.new.draft) c.members-members.ensures.members c.split.ensures.adds in
+    let parts : c.split.new.draft.parts ≡ adds.parts = ap (λ (w : Written). w.parts) adds.is ∙ ap (λ (w : Written). w.parts ++ adds.parts) c.clear.ensures in
+    subst (λ (ps : List Part). AreMinimal (sum_at dep) graph.pairs ps) (sym parts)
+    (minimal n dep graph c.members-members.ensures.closed stands adds.parts c.requires.component adds.linear))
 
 pub returns-clause-solves : goal.returns-clause-solves
 returns-clause-solves g c = subst (λ s. AreOfSolves (fin.len s) c.args.steps.now c.split.new.steps) c.members-members.ensures.members c.split.ensures.solves

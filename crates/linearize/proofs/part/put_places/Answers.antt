@@ -30,7 +30,8 @@ loop-first-preserved g c =
     let i = c.loop-first.invariant in
     let within : IsWithin (64 * g.row.W) c.args.within.now = λ k m. c.requires.closed.within k (c.requires.members k m) in (
       subst (λ xs. Placing (64 * g.row.W) c.args.dep.now c.args.within.now c.remove.new.self xs) (sym (ap (λ w. w.ids) c.put.ensures))
-          (placing_more (64 * g.row.W) c.args.dep.now c.args.within.now c.loop-first.left c.remove.new.self c.loop-first.draft.ids c.top-place.result within i.0 c.top-place.ensures.there c.top-place.ensures.top c.remove.ensures),
+          (placing_more (64 * g.row.W) c.args.dep.now c.args.within.now c.loop-first.left c.remove.new.self c.loop-first.draft.ids c.top-place.result
+          within i.0 c.top-place.ensures.there c.top-place.ensures.top c.remove.ensures),
       ap (λ w. w.parts) c.put.ensures ∙ i.1,
       ap (λ w. w.flows) c.put.ensures ∙ i.2,
     )

@@ -3,8 +3,8 @@ use Rattle.std.specs.FinSet as fin
 use Rattle.bitset.specs.Members.{minus_parts}
 use Rattle.linearize.specs.Splits.{Adds, HasRoom}
 use Rattle.linearize.specs.Steps.{AreOfSolves}
-use Rattle.linearize.proofs.Joined.{c_some, rest_some, both_lens, first_room, second_room, both_added}
-use Rattle.linearize.proofs.Sizes.{words_fit, lists_fit, scratch_fits}
+use Rattle.linearize.proofs.Joined.{both_lens, first_room, second_room, both_added}
+use Rattle.linearize.proofs.Sizes.{words_fit, scratch_fits}
 use Rattle.linearize.proofs.Solves.{one_solve, two_solves}
 use Rattle.linearize.proofs.split.+split.Goals as goal
 
@@ -12,13 +12,13 @@ pub split-requires : goal.split-requires
 split-requires g t c κs within =
     let n : ℕ = 64 * g.row.W in
     let r = c.requires.ready in
-    let best = c.in-Some.ensures.best in
+    let best = c.in-Some.ensures.cut in
     let dep = c.args.dep.now in
     let s = c.args.within.now in
     let first = c.in-Some.first in
     let lens : fin.len s ≡ fin.len first + fin.len (fin.difference s first) = both_lens n dep s first r.closed r.members r.rates best in
-    let some : 0 < fin.len first = c_some n dep s first r.closed r.members r.rates best in
-    let others : 0 < fin.len (fin.difference s first) = rest_some n dep s first r.closed r.members r.rates best in (
+    let some : 0 < fin.len first = best.some in
+    let others : 0 < fin.len (fin.difference s first) = best.others in (
       (let less : fin.len first < fin.len s = omega (arith, lens, others) in search rules),
       (
         within,
@@ -27,7 +27,7 @@ split-requires g t c κs within =
           (
             scratch_fits g.row.W c.requires.narrow,
             (
-              lists_fit g.row.W c.requires.narrow,
+              search rules,
               (
                 words_fit g.row.W c.requires.narrow,
                 (
@@ -42,7 +42,8 @@ split-requires g t c κs within =
                         few = (let few = r.few in omega (arith, lens, few));
                         rates = r.rates;
                         covers = r.covers;
-                        room = subst (HasRoom n first) (sym c.in-Some.ensures.draft) (first_room n dep s first r.closed r.members r.rates best c.args.draft.now r.room);
+                        room = subst (HasRoom n first) (sym c.in-Some.ensures.draft)
+                            (first_room n dep s first r.closed r.members r.rates best c.args.draft.now r.room);
                       },
                       (let room = c.requires.weights in omega (arith, room, c.best.auto.weights)),
                     ),
@@ -59,16 +60,17 @@ pub split-requires-in-Some : goal.split-requires-in-Some
 split-requires-in-Some g t c κs within =
     let n : ℕ = 64 * g.row.W in
     let r = c.requires.ready in
-    let best = c.in-Some.ensures.best in
+    let best = c.in-Some.ensures.cut in
     let dep = c.args.dep.now in
     let s = c.args.within.now in
     let first = c.in-Some.first in
     let is : c.minus-rest.result ≡ fin.difference s first = c.minus-rest.ensures in
     let same : fin.len c.minus-rest.result ≡ fin.len (fin.difference s first) = ap (λ x. fin.len x) is in
     let lens : fin.len s ≡ fin.len first + fin.len (fin.difference s first) = both_lens n dep s first r.closed r.members r.rates best in
-    let some : 0 < fin.len first = c_some n dep s first r.closed r.members r.rates best in
-    let others : 0 < fin.len (fin.difference s first) = rest_some n dep s first r.closed r.members r.rates best in
-    let one : Adds n dep first c.args.draft.now c.split.new.draft = subst (λ w. Adds n dep first w c.split.new.draft) c.in-Some.ensures.draft c.split.ensures.adds in (
+    let some : 0 < fin.len first = best.some in
+    let others : 0 < fin.len (fin.difference s first) = best.others in
+    let one : Adds n dep first c.args.draft.now c.split.new.draft =
+    subst (λ w. Adds n dep first w c.split.new.draft) c.in-Some.ensures.draft c.split.ensures.adds in (
       (let less : fin.len c.minus-rest.result < fin.len s = omega (arith, same, lens, some) in search rules),
       (
         within,
@@ -77,7 +79,7 @@ split-requires-in-Some g t c κs within =
           (
             scratch_fits g.row.W c.requires.narrow,
             (
-              lists_fit g.row.W c.requires.narrow,
+              search rules,
               (
                 words_fit g.row.W c.requires.narrow,
                 (
@@ -92,7 +94,8 @@ split-requires-in-Some g t c κs within =
                         few = (let few = r.few in omega (arith, same, lens, few));
                         rates = r.rates;
                         covers = r.covers;
-                        room = subst (λ x. HasRoom n x c.split.new.draft) (sym is) (second_room n dep s first r.closed r.members r.rates best c.args.draft.now c.split.new.draft r.room one);
+                        room = subst (λ x. HasRoom n x c.split.new.draft) (sym is)
+                            (second_room n dep s first r.closed r.members r.rates best c.args.draft.now c.split.new.draft r.room one);
                       },
                       (let room = c.requires.weights in omega (arith, room, c.best.auto.weights, c.split.auto.weights)),
                     ),
@@ -109,7 +112,7 @@ pub returns-in-Some-clause-adds : goal.returns-in-Some-clause-adds
 returns-in-Some-clause-adds g t c =
     let n : ℕ = 64 * g.row.W in
     let r = c.requires.ready in
-    let best = c.in-Some.ensures.best in
+    let best = c.in-Some.ensures.cut in
     let dep = c.args.dep.now in
     let s = c.args.within.now in
     let first = c.in-Some.first in
@@ -123,9 +126,11 @@ returns-in-Some-clause-solves g t c =
     let r = c.requires.ready in
     let s = c.args.within.now in
     let first = c.in-Some.first in
-    let lens = both_lens (64 * g.row.W) c.args.dep.now s first r.closed r.members r.rates c.in-Some.ensures.best in
-    two_solves (fin.len s) (fin.len first) (fin.len (fin.difference s first)) _ c.best.new.steps c.split.new.steps _ lens c.best.ensures.least c.best.ensures.most c.split.ensures.solves
-    (subst (λ x. AreOfSolves (fin.len x) c.split.new.steps c.split-in-Some.new.steps) {y = fin.difference s first} c.minus-rest.ensures c.split-in-Some.ensures.solves)
+    let lens = both_lens (64 * g.row.W) c.args.dep.now s first r.closed r.members r.rates c.in-Some.ensures.cut in
+    two_solves (fin.len s) (fin.len first) (fin.len (fin.difference s first)) _ c.best.new.steps c.split.new.steps _ lens c.best.ensures.solve
+    c.split.ensures.solves
+    (subst (λ x. AreOfSolves (fin.len x) c.split.new.steps c.split-in-Some.new.steps)
+    {y = fin.difference s first} c.minus-rest.ensures c.split-in-Some.ensures.solves)
 
 pub returns-in_default-clause-solves : goal.returns-in_default-clause-solves
-returns-in_default-clause-solves g t c = one_solve _ _ _ c.requires.ready.some c.best.ensures.least c.best.ensures.most
+returns-in_default-clause-solves g t c = one_solve _ _ _ c.requires.ready.some c.best.ensures.solve

@@ -1,19 +1,21 @@
-use Rattle.std.proofs.Common.{◌≡◌, ◌<◌, ◌*◌, ◌∙◌, ℕ, ap, arith, lit<, true}
+use Rattle.std.proofs.Common.{rules, ◌≡◌, ◌<◌, ◌*◌, ◌∙◌, ℕ, ap, arith, lit<, true}
 use Rattle.std.specs.FinSet as fin
 use Rattle.bitset.specs.Places.{IsWithin}
 use Rattle.closure_flow.specs.Closures.{weight_at}
 use Rattle.graphs.specs.Certificates.{weight_in}
 use Rattle.linearize.specs.Graphs.{sum_at}
 use Rattle.linearize.specs.Orders.{sums_in}
-use Rattle.linearize.proofs.Joined.{balances_of, best_of, weights_even, weights_small}
-use Rattle.linearize.proofs.Sizes.{words_fit, lists_fit, scratch_fits, answer_fits}
+use Rattle.linearize.proofs.Cuts.{best_of, weights_even, weights_small}
+use Rattle.linearize.proofs.Solves.{of_one}
+use Rattle.linearize.proofs.Sizes.{words_fit, scratch_fits, answer_fits}
 use Rattle.linearize.proofs.split.best.Goals as goal
 
 pub solve-requires : goal.solve-requires
 solve-requires g c =
     let n : ℕ = 64 * g.row.W in
     let within : IsWithin n c.args.within.now = λ k m. c.requires.ready.closed.within k (c.requires.ready.members k m) in
-    let are : (t : ℕ) → fin.contains c.args.within.now t ≡ true → weight_at c.weigh.new.weights t ≡ weight_in (sums_in n c.args.dep.now c.args.within.now) (sum_at c.args.dep.now t) = λ t m.
+    let are : (t : ℕ) → fin.contains c.args.within.now t ≡ true
+    → weight_at c.weigh.new.weights t ≡ weight_in (sums_in n c.args.dep.now c.args.within.now) (sum_at c.args.dep.now t) = λ t m.
     c.weigh.ensures.are t m ∙ ap (λ w. weight_in w (sum_at c.args.dep.now t)) c.sum-whole.ensures.is in (
       scratch_fits g.row.W c.requires.narrow,
       (
@@ -24,22 +26,25 @@ solve-requires g c =
             λ t m. (let low : t < n = within t m in let room = c.requires.weights in omega (arith, low, room, c.weigh.auto.weights)),
             (
               λ t m. c.requires.ready.covers.there t (c.requires.ready.members t m),
-              (weights_even n c.args.dep.now c.weigh.new.weights c.args.within.now are, weights_small n c.weigh.new.weights c.args.within.now within c.requires.ready.few c.weigh.ensures.small),
+              (
+                weights_even n c.args.dep.now c.args.parents.now c.weigh.new.weights c.args.within.now are,
+                weights_small n c.weigh.new.weights c.args.within.now within c.requires.ready.few c.weigh.ensures.small,
+              ),
             ),
           ),
         ),
       ),
     )
 
-pub emit-requires : goal.emit-requires
-emit-requires g c =
+pub finish-requires : goal.finish-requires
+finish-requires g c =
     let n : ℕ = 64 * g.row.W in
-    let are : (t : ℕ) → fin.contains c.args.within.now t ≡ true → weight_at c.weigh.new.weights t ≡ weight_in (sums_in n c.args.dep.now c.args.within.now) (sum_at c.args.dep.now t) = λ t m.
-    c.weigh.ensures.are t m ∙ ap (λ w. weight_in w (sum_at c.args.dep.now t)) c.sum-whole.ensures.is in
-    let r = c.requires.ready in (
+    let are : (t : ℕ) → fin.contains c.args.within.now t ≡ true
+    → weight_at c.weigh.new.weights t ≡ weight_in (sums_in n c.args.dep.now c.args.within.now) (sum_at c.args.dep.now t) = λ t m.
+    c.weigh.ensures.are t m ∙ ap (λ w. weight_in w (sum_at c.args.dep.now t)) c.sum-whole.ensures.is in (
       scratch_fits g.row.W c.requires.narrow,
       (
-        lists_fit g.row.W c.requires.narrow,
+        search rules,
         (
           words_fit g.row.W c.requires.narrow,
           (
@@ -47,19 +52,10 @@ emit-requires g c =
             (
               c.requires.narrow,
               (
-                r.closed,
+                c.requires.ready,
                 (
-                  r.members,
-                  (
-                    r.some,
-                    (
-                      r.covers,
-                      (
-                        c.sum-whole.ensures.is,
-                        (balances_of n c.args.dep.now c.args.parents.now c.weigh.new.weights c.args.within.now _ are c.in-Balanced.ensures.flow, r.room),
-                      ),
-                    ),
-                  ),
+                  c.sum-whole.ensures.is,
+                  record { weights = c.weigh.new.weights; are = are; none = c.in-Balanced.ensures.none; balanced = c.in-Balanced.ensures.flow },
                 ),
               ),
             ),
@@ -68,8 +64,17 @@ emit-requires g c =
       ),
     )
 
-pub returns-in-Better-clause-best : goal.returns-in-Better-clause-best
-returns-in-Better-clause-best g c =
-    best_of (64 * g.row.W) c.args.dep.now c.args.parents.now c.weigh.new.weights c.args.within.now c.in-Better.first c.requires.ready.members c.requires.ready.covers
+pub returns-in-Better-clause-cut : goal.returns-in-Better-clause-cut
+returns-in-Better-clause-cut g c =
+    best_of (64 * g.row.W) c.args.dep.now c.args.parents.now c.weigh.new.weights c.args.within.now
     (λ t m. c.weigh.ensures.are t m ∙ ap (λ w. weight_in w (sum_at c.args.dep.now t)) c.sum-whole.ensures.is)
+    c.requires.ready.members c.requires.ready.covers c.in-Better.first
     c.in-Better.ensures.closed c.in-Better.ensures.positive c.in-Better.ensures.greatest
+
+pub returns-in-Better-clause-solve : goal.returns-in-Better-clause-solve
+returns-in-Better-clause-solve g c =
+    of_one _ _ c.solve.new.steps _ c.in-Better.ensures.steps_least c.in-Better.ensures.steps_most (omega arith) (omega arith)
+
+pub returns-in-Balanced-clause-solve : goal.returns-in-Balanced-clause-solve
+returns-in-Balanced-clause-solve g c =
+    of_one _ _ c.solve.new.steps _ c.in-Balanced.ensures.steps_least c.in-Balanced.ensures.steps_most c.finish.ensures.steps c.finish.ensures.most

@@ -1,4 +1,4 @@
-use Rattle.std.proofs.Common.{rules, ◌≡◌, ℕ, ◌*◌, ◌^◌, ◌<◌, ◌≤◌, ℤ, pos, ◌-ℤ◌, ◌*ℤ◌, unsigned_abs, to_z, of_z, FitsSigned, ap, sym, ◌∙◌, arith}
+use Rattle.std.proofs.Common.{rules, ◌≡◌, ℕ, ◌*◌, ◌^◌, ◌<◌, ◌≤◌, ℤ, pos, ◌-ℤ◌, ◌*ℤ◌, unsigned_abs, to_z, of_z, FitsSigned, ap, ◌∙◌, arith}
 use Rattle.std.proofs.lemmas.Int.{ints, fits_signed_from_abs, to_z-of_z}
 use Rattle.std.specs.Int.{w64, w128}
 use Rattle.arithmetic.proofs.Bounds.{product_bound}
@@ -24,16 +24,24 @@ small z fits = omega (arith, ints, fits)
 
 pub returns-clause-is : goal.returns-clause-is
 returns-clause-is c =
-    let above : c.product.result ≡ c.args.own.fee *ℤ pos c.args.whole.size = product_is _ _ c.args.own.fee c.args.whole.size c.product.ensures.product (c.from.ensures ∙ to_z-of_z w64 c.args.own.fee (search rules)) (omega arith) in
+    let above : c.product.result ≡ c.args.own.fee *ℤ pos c.args.whole.size =
+    product_is _ _ c.args.own.fee c.args.whole.size c.product.ensures.product (c.from.ensures ∙ to_z-of_z w64 c.args.own.fee (search rules))
+    (omega arith) in
     let fine : FitsSigned w64 c.args.whole.fee = search rules in
-    let below : c.product-2.result ≡ c.args.whole.fee *ℤ pos c.args.own.size = product_is _ _ c.args.whole.fee c.args.own.size c.product-2.ensures.product (c.from-2.ensures ∙ to_z-of_z w64 c.args.whole.fee fine) (omega (arith, small c.args.whole.fee fine)) in
+    let below : c.product-2.result ≡ c.args.whole.fee *ℤ pos c.args.own.size =
+    product_is _ _ c.args.whole.fee c.args.own.size c.product-2.ensures.product (c.from-2.ensures ∙ to_z-of_z w64 c.args.whole.fee fine)
+    (omega (arith, small c.args.whole.fee fine)) in
     differ c.product.result c.product-2.result c.product.ensures.level c.product-2.ensures.level ∙ (λ i. above i -ℤ below i)
 
 pub returns-clause-small : goal.returns-clause-small
 returns-clause-small c =
-    let above : c.product.result ≡ c.args.own.fee *ℤ pos c.args.whole.size = product_is _ _ c.args.own.fee c.args.whole.size c.product.ensures.product (c.from.ensures ∙ to_z-of_z w64 c.args.own.fee (search rules)) (omega arith) in
+    let above : c.product.result ≡ c.args.own.fee *ℤ pos c.args.whole.size =
+    product_is _ _ c.args.own.fee c.args.whole.size c.product.ensures.product (c.from.ensures ∙ to_z-of_z w64 c.args.own.fee (search rules))
+    (omega arith) in
     let fine : FitsSigned w64 c.args.whole.fee = search rules in
-    let below : c.product-2.result ≡ c.args.whole.fee *ℤ pos c.args.own.size = product_is _ _ c.args.whole.fee c.args.own.size c.product-2.ensures.product (c.from-2.ensures ∙ to_z-of_z w64 c.args.whole.fee fine) (omega (arith, small c.args.whole.fee fine)) in
+    let below : c.product-2.result ≡ c.args.whole.fee *ℤ pos c.args.own.size =
+    product_is _ _ c.args.whole.fee c.args.own.size c.product-2.ensures.product (c.from-2.ensures ∙ to_z-of_z w64 c.args.whole.fee fine)
+    (omega (arith, small c.args.whole.fee fine)) in
     let one = bounded c.product.result c.args.own.fee c.args.whole.size above (omega arith) c.requires.size in
     let two = bounded c.product-2.result c.args.whole.fee c.args.own.size below (small c.args.whole.fee fine) (omega (arith, c.requires.own.size)) in
     let is = differ c.product.result c.product-2.result c.product.ensures.level c.product-2.ensures.level in

@@ -1,6 +1,6 @@
 use Rattle.wire.proofs.ReadLemmas.{pair_reads, pair_unread, decimal_word}
 use Rattle.std.proofs.Common.{decimal}
-use Rattle.graph_model.specs.Commands.{level_word}
+use Rattle.graph_model.specs.Words.{level_word}
 use Rattle.wire.specs.Fields.{IsWide, Always}
 use Rattle.wire.proofs.line.id_level.Goals as goal
 

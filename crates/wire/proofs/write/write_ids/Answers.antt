@@ -1,5 +1,5 @@
 use Rattle.std.proofs.Common.{◌≡◌, List, ℕ, ◌++◌, ◌∷◌, [], ap, ◌∙◌, refl, map, decimal}
-use Rattle.graph_model.specs.Commands.{spaced}
+use Rattle.graph_model.specs.Words.{spaced}
 use Rattle.wire.specs.Pieces.{words_text, sum_words}
 use Rattle.wire.proofs.WriteLemmas.{writes_on, goes_further, spaced_words, words_text-append}
 use Rattle.wire.proofs.write.write_ids.Goals as goal

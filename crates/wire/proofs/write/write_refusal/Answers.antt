@@ -1,5 +1,5 @@
 use Rattle.std.proofs.Common.{◌≡◌, List, ℕ, ◌++◌, ◌∷◌, [], ap, sym, refl}
-use Rattle.graph_model.specs.Commands.{spaced}
+use Rattle.graph_model.specs.Words.{spaced}
 use Rattle.graph_model.specs.Replies.{refusal_words}
 use Rattle.wire.specs.Pieces.{number_after}
 use Rattle.wire.proofs.WriteLemmas.{writes_on, goes_further, refusal_line}

@@ -24,7 +24,8 @@ invariant_of-result g c =
         rests = ap length rest ∙ length-replicate _ _ ∙ places;
         small = subst (λ (m : ℕ). m < 2 ^ 64) pairs fits;
       };
-      lean = subst (λ xs. IsLean n xs c.in_ok-vec-2.field-0.items) (sym (into ∙ ap (λ (m : ℕ). replicate m c.empty-4.result) places ∙ ap (replicate n) c.empty-4.ensures)) (lean_fresh n c.in_ok-vec-2.field-0.items);
+      lean = subst (λ xs. IsLean n xs c.in_ok-vec-2.field-0.items)
+          (sym (into ∙ ap (λ (m : ℕ). replicate m c.empty-4.result) places ∙ ap (replicate n) c.empty-4.ensures)) (lean_fresh n c.in_ok-vec-2.field-0.items);
       over_is = marked_none _ _ _ _ c.empty.ensures c.empty-2.ensures;
       short_is = marked_none _ _ _ _ c.empty.ensures c.empty-3.ensures;
       inside = λ p m. clash _ m (ap (λ s. fin.contains s p) c.empty.ensures ∙ contains-empty p);

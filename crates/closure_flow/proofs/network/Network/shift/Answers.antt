@@ -58,9 +58,12 @@ returns-clause-rest g c t h =
     let held = read_rest n _ _ r c.args.to _ c.args.self.now.sized (inside _ c.requires.to) c.index-2.ensures in
     let enough = c.requires.enough in
     let room = c.requires.room in
-    let one : to_z w128 (of_z w128 (to_z w128 (of_z w128 c.index.result.now) -ℤ to_z w128 c.args.amount)) ≡ weight_at r c.args.from -ℤ pos c.args.amount = omega (arith, ints, left, enough) in
-    let two : to_z w128 (of_z w128 (to_z w128 (of_z w128 c.index-2.result.now) +ℤ to_z w128 c.args.amount)) ≡ weight_at r c.args.to +ℤ pos c.args.amount = omega (arith, ints, left, held, enough, room) in
-    ap (λ (y : ℤ). weight_at (set (set r c.args.from y) c.args.to (to_z w128 (of_z w128 (to_z w128 (of_z w128 c.index-2.result.now) +ℤ to_z w128 c.args.amount)))) t) one
+    let one : to_z w128 (of_z w128 (to_z w128 (of_z w128 c.index.result.now) -ℤ to_z w128 c.args.amount))
+    ≡ weight_at r c.args.from -ℤ pos c.args.amount = omega (arith, ints, left, enough) in
+    let two : to_z w128 (of_z w128 (to_z w128 (of_z w128 c.index-2.result.now) +ℤ to_z w128 c.args.amount))
+    ≡ weight_at r c.args.to +ℤ pos c.args.amount = omega (arith, ints, left, held, enough, room) in
+    ap (λ (y : ℤ). weight_at (set (set r c.args.from y) c.args.to
+    (to_z w128 (of_z w128 (to_z w128 (of_z w128 c.index-2.result.now) +ℤ to_z w128 c.args.amount)))) t) one
     ∙ ap (λ (y : ℤ). weight_at (set (set r c.args.from (weight_at r c.args.from -ℤ pos c.args.amount)) c.args.to y) t) two
     ∙ shifted r c.args.from c.args.to c.args.amount t
     (subst (λ (m : ℕ). c.args.from < m) (sym c.args.self.now.sized.rests) (inside _ c.requires.from))

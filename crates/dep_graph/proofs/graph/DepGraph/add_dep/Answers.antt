@@ -1,38 +1,40 @@
-use Rattle.std.proofs.Common.{rules, ◌*◌}
-use Rattle.dep_graph.proofs.Kept.{up_there, down_there, up_read, down_read, up_inside, down_inside}
+use Rattle.std.proofs.Common.{rules, ◌*◌, length, ap, ◌∙◌, subst, sym, refl, arith}
+use Rattle.graphs.specs.Closures.{AddsPair}
+use Rattle.dep_graph.specs.Rows.{IsKept, graph_from}
+use Rattle.dep_graph.specs.Changes.{ChangesAt, gives_ancestors}
+use Rattle.dep_graph.proofs.Kept.{keeps, ups_within, downs_within}
 use Rattle.dep_graph.proofs.Changed.{pair_keeps, pair_is}
+use Rattle.dep_graph.proofs.Reading.{refilled}
 use Rattle.dep_graph.proofs.graph.DepGraph.add_dep.Goals as goal
 
-pub index-requires : goal.index-requires
-index-requires g c = up_there (64 * g.row.W) c.self.inside.members c.self.inside.rates.items c.self.inside.up.items c.self.inside.down.items c.self.invariant c.args.self.now c.self.view_is c.args.parent c.requires.parent _ c.self.inside.up.ok.0
+pub give_ancestors-requires : goal.give_ancestors-requires
+give_ancestors-requires g c =
+    let downs = downs_within (keeps c.self.invariant c.self.view_is) c.args.child c.requires.child c.descendants-below.ensures in
+    (search rules, (search rules, λ p e. omega (arith, downs p e, ap length c.as_mut_slice-rows.ensures.value)))
 
-pub index-requires-2 : goal.index-requires-2
-index-requires-2 g c = down_there (64 * g.row.W) c.self.inside.members c.self.inside.rates.items c.self.inside.up.items c.self.inside.down.items c.self.invariant c.args.self.now c.self.view_is c.args.child c.requires.child _ c.self.inside.down.ok.0
-
-pub give-requires : goal.give-requires
-give-requires g c = (
-  search rules,
-  down_inside (64 * g.row.W) c.self.inside.members c.self.inside.rates.items c.self.inside.up.items c.self.inside.down.items c.self.invariant c.args.self.now c.self.view_is c.args.child c.requires.child _ _
-      (down_read (64 * g.row.W) c.self.inside.members c.self.inside.rates.items c.self.inside.up.items c.self.inside.down.items c.self.invariant c.args.self.now c.self.view_is c.args.child c.requires.child _ _ c.index-2.ensures c.self.inside.down.ok.0) c.self.inside.up.ok.0,
-)
-
-pub give-requires-2 : goal.give-requires-2
-give-requires-2 g c = (
-  search rules,
-  up_inside (64 * g.row.W) c.self.inside.members c.self.inside.rates.items c.self.inside.up.items c.self.inside.down.items c.self.invariant c.args.self.now c.self.view_is c.args.parent c.requires.parent _ _
-      (up_read (64 * g.row.W) c.self.inside.members c.self.inside.rates.items c.self.inside.up.items c.self.inside.down.items c.self.invariant c.args.self.now c.self.view_is c.args.parent c.requires.parent _ _ c.index.ensures c.self.inside.up.ok.0) c.self.inside.down.ok.0,
-)
+pub give_descendants-requires : goal.give_descendants-requires
+give_descendants-requires g c =
+    let ups = ups_within (keeps c.self.invariant c.self.view_is) c.args.parent c.requires.parent c.ancestors-above.ensures in
+    (search rules, (search rules, λ p e. omega (arith, ups p e, c.give_ancestors.ensures.long, ap length c.as_mut_slice-rows.ensures.value)))
 
 pub invariant_of-self : goal.invariant_of-self
 invariant_of-self g c =
-    pair_keeps (64 * g.row.W) c.self.inside.members c.self.inside.rates.items c.self.inside.up.items c.self.inside.down.items c.self.invariant c.args.self.now c.self.view_is c.args.parent c.args.child c.requires.parent c.requires.child c.requires.no_cycle _ _
-    (up_read (64 * g.row.W) c.self.inside.members c.self.inside.rates.items c.self.inside.up.items c.self.inside.down.items c.self.invariant c.args.self.now c.self.view_is c.args.parent c.requires.parent _ _ c.index.ensures c.self.inside.up.ok.0)
-    (down_read (64 * g.row.W) c.self.inside.members c.self.inside.rates.items c.self.inside.up.items c.self.inside.down.items c.self.invariant c.args.self.now c.self.view_is c.args.child c.requires.child _ _ c.index-2.ensures c.self.inside.down.ok.0)
-    _ _ c.give.ensures c.give-2.ensures
+    let rows = c.self.inside.rows.items in
+    let first : ChangesAt (gives_ancestors c.ancestors-above.result) c.descendants-below.result rows c.give_ancestors.new.rows =
+    subst (λ xs. ChangesAt (gives_ancestors c.ancestors-above.result) c.descendants-below.result xs c.give_ancestors.new.rows)
+    c.as_mut_slice-rows.ensures.value c.give_ancestors.ensures in
+    subst (IsKept (64 * g.row.W) c.self.inside.members)
+    (sym (refilled (length rows) rows c.give_descendants.new.rows refl (c.give_descendants.ensures.long ∙ first.long)))
+    (pair_keeps (keeps c.self.invariant c.self.view_is) c.args.parent c.args.child c.requires.parent c.requires.child c.requires.no_cycle
+    c.ancestors-above.ensures c.descendants-below.ensures first c.give_descendants.ensures)
 
 pub returns : goal.returns
 returns g c =
-    pair_is (64 * g.row.W) c.self.inside.members c.self.inside.rates.items c.self.inside.up.items c.self.inside.down.items c.self.invariant c.args.self.now c.self.view_is c.args.parent c.args.child c.requires.parent c.requires.child c.requires.no_cycle _ _
-    (up_read (64 * g.row.W) c.self.inside.members c.self.inside.rates.items c.self.inside.up.items c.self.inside.down.items c.self.invariant c.args.self.now c.self.view_is c.args.parent c.requires.parent _ _ c.index.ensures c.self.inside.up.ok.0)
-    (down_read (64 * g.row.W) c.self.inside.members c.self.inside.rates.items c.self.inside.up.items c.self.inside.down.items c.self.invariant c.args.self.now c.self.view_is c.args.child c.requires.child _ _ c.index-2.ensures c.self.inside.down.ok.0)
-    _ _ c.give.ensures c.give-2.ensures
+    let rows = c.self.inside.rows.items in
+    let first : ChangesAt (gives_ancestors c.ancestors-above.result) c.descendants-below.result rows c.give_ancestors.new.rows =
+    subst (λ xs. ChangesAt (gives_ancestors c.ancestors-above.result) c.descendants-below.result xs c.give_ancestors.new.rows)
+    c.as_mut_slice-rows.ensures.value c.give_ancestors.ensures in
+    subst (λ xs. AddsPair c.args.self.now (graph_from (64 * g.row.W) c.self.inside.members xs) c.args.parent c.args.child)
+    (sym (refilled (length rows) rows c.give_descendants.new.rows refl (c.give_descendants.ensures.long ∙ first.long)))
+    (pair_is (keeps c.self.invariant c.self.view_is) c.args.parent c.args.child c.requires.parent c.requires.child c.requires.no_cycle
+    c.ancestors-above.ensures c.descendants-below.ensures first c.give_descendants.ensures)

@@ -1,53 +1,50 @@
-use Rattle.std.proofs.Common.{rules, ◌*◌}
-use Rattle.dep_graph.proofs.Kept.{up_there, down_there, up_read, down_read, up_inside, down_inside, kept_within, member_there}
+use Rattle.std.proofs.Common.{rules, ◌*◌, length, ap, ◌∙◌, subst, sym, refl, arith}
+use Rattle.graphs.specs.Closures.{DropsPlace}
+use Rattle.dep_graph.specs.Rows.{IsKept, graph_from}
+use Rattle.dep_graph.specs.Changes.{ChangesAt, takes_ancestor}
+use Rattle.dep_graph.proofs.Kept.{keeps, place_there, ups_within, downs_within}
 use Rattle.dep_graph.proofs.Changed.{drop_keeps, drop_is}
+use Rattle.dep_graph.proofs.Reading.{refilled}
 use Rattle.dep_graph.proofs.graph.DepGraph.remove_bridging.Goals as goal
 
-pub index-requires : goal.index-requires
-index-requires g c = up_there (64 * g.row.W) c.self.inside.members c.self.inside.rates.items c.self.inside.up.items c.self.inside.down.items c.self.invariant c.args.self.now c.self.view_is c.args.place c.requires _ c.self.inside.up.ok.0
+pub take_ancestor-requires : goal.take_ancestor-requires
+take_ancestor-requires g c =
+    let k = keeps c.self.invariant c.self.view_is in
+    let downs = downs_within k c.args.place c.requires c.descendants-below.ensures in
+    (search rules, (search rules, (λ p e. omega (arith, downs p e, ap length c.as_mut_slice-rows.ensures.value), place_there k c.args.place c.requires)))
 
-pub index-requires-2 : goal.index-requires-2
-index-requires-2 g c = down_there (64 * g.row.W) c.self.inside.members c.self.inside.rates.items c.self.inside.up.items c.self.inside.down.items c.self.invariant c.args.self.now c.self.view_is c.args.place c.requires _ c.self.inside.down.ok.0
-
-pub take-requires : goal.take-requires
-take-requires g c = (
-  search rules,
-  (
-    down_inside (64 * g.row.W) c.self.inside.members c.self.inside.rates.items c.self.inside.up.items c.self.inside.down.items c.self.invariant c.args.self.now c.self.view_is c.args.place c.requires _ _
-        (down_read (64 * g.row.W) c.self.inside.members c.self.inside.rates.items c.self.inside.up.items c.self.inside.down.items c.self.invariant c.args.self.now c.self.view_is c.args.place c.requires _ _ c.index-2.ensures c.self.inside.down.ok.0) c.self.inside.up.ok.0,
-    kept_within (64 * g.row.W) c.self.inside.members c.self.inside.rates.items c.self.inside.up.items c.self.inside.down.items c.self.invariant c.args.place
-        (member_there (64 * g.row.W) c.self.inside.members c.self.inside.rates.items c.self.inside.up.items c.self.inside.down.items c.self.invariant c.args.self.now c.self.view_is c.args.place c.requires),
-  ),
-)
-
-pub take-requires-2 : goal.take-requires-2
-take-requires-2 g c = (
-  search rules,
-  (
-    up_inside (64 * g.row.W) c.self.inside.members c.self.inside.rates.items c.self.inside.up.items c.self.inside.down.items c.self.invariant c.args.self.now c.self.view_is c.args.place c.requires _ _
-        (up_read (64 * g.row.W) c.self.inside.members c.self.inside.rates.items c.self.inside.up.items c.self.inside.down.items c.self.invariant c.args.self.now c.self.view_is c.args.place c.requires _ _ c.index.ensures c.self.inside.up.ok.0) c.self.inside.down.ok.0,
-    kept_within (64 * g.row.W) c.self.inside.members c.self.inside.rates.items c.self.inside.up.items c.self.inside.down.items c.self.invariant c.args.place
-        (member_there (64 * g.row.W) c.self.inside.members c.self.inside.rates.items c.self.inside.up.items c.self.inside.down.items c.self.invariant c.args.self.now c.self.view_is c.args.place c.requires),
-  ),
-)
+pub take_descendant-requires : goal.take_descendant-requires
+take_descendant-requires g c =
+    let k = keeps c.self.invariant c.self.view_is in
+    let ups = ups_within k c.args.place c.requires c.ancestors-above.ensures in (
+      search rules,
+      (
+        search rules,
+        (λ p e. omega (arith, ups p e, c.take_ancestor.ensures.long, ap length c.as_mut_slice-rows.ensures.value), place_there k c.args.place c.requires),
+      ),
+    )
 
 pub remove-requires : goal.remove-requires
-remove-requires g c = (
-  search rules,
-  kept_within (64 * g.row.W) c.self.inside.members c.self.inside.rates.items c.self.inside.up.items c.self.inside.down.items c.self.invariant c.args.place
-      (member_there (64 * g.row.W) c.self.inside.members c.self.inside.rates.items c.self.inside.up.items c.self.inside.down.items c.self.invariant c.args.self.now c.self.view_is c.args.place c.requires),
-)
+remove-requires g c = (search rules, place_there (keeps c.self.invariant c.self.view_is) c.args.place c.requires)
 
 pub invariant_of-self : goal.invariant_of-self
 invariant_of-self g c =
-    drop_keeps (64 * g.row.W) c.self.inside.members c.self.inside.rates.items c.self.inside.up.items c.self.inside.down.items c.self.invariant c.args.self.now c.self.view_is c.args.place c.requires _ _
-    (up_read (64 * g.row.W) c.self.inside.members c.self.inside.rates.items c.self.inside.up.items c.self.inside.down.items c.self.invariant c.args.self.now c.self.view_is c.args.place c.requires _ _ c.index.ensures c.self.inside.up.ok.0)
-    (down_read (64 * g.row.W) c.self.inside.members c.self.inside.rates.items c.self.inside.up.items c.self.inside.down.items c.self.invariant c.args.self.now c.self.view_is c.args.place c.requires _ _ c.index-2.ensures c.self.inside.down.ok.0)
-    _ _ c.take.ensures c.take-2.ensures _ c.remove.ensures
+    let rows = c.self.inside.rows.items in
+    let first : ChangesAt (takes_ancestor c.args.place) c.descendants-below.result rows c.take_ancestor.new.rows =
+    subst (λ xs. ChangesAt (takes_ancestor c.args.place) c.descendants-below.result xs c.take_ancestor.new.rows)
+    c.as_mut_slice-rows.ensures.value c.take_ancestor.ensures in
+    subst (IsKept (64 * g.row.W) c.remove.new.self)
+    (sym (refilled (length rows) rows c.take_descendant.new.rows refl (c.take_descendant.ensures.long ∙ first.long)))
+    (drop_keeps (keeps c.self.invariant c.self.view_is) c.args.place c.requires c.ancestors-above.ensures c.descendants-below.ensures
+    first c.take_descendant.ensures c.remove.ensures)
 
 pub returns : goal.returns
 returns g c =
-    drop_is (64 * g.row.W) c.self.inside.members c.self.inside.rates.items c.self.inside.up.items c.self.inside.down.items c.self.invariant c.args.self.now c.self.view_is c.args.place c.requires _ _
-    (up_read (64 * g.row.W) c.self.inside.members c.self.inside.rates.items c.self.inside.up.items c.self.inside.down.items c.self.invariant c.args.self.now c.self.view_is c.args.place c.requires _ _ c.index.ensures c.self.inside.up.ok.0)
-    (down_read (64 * g.row.W) c.self.inside.members c.self.inside.rates.items c.self.inside.up.items c.self.inside.down.items c.self.invariant c.args.self.now c.self.view_is c.args.place c.requires _ _ c.index-2.ensures c.self.inside.down.ok.0)
-    _ _ c.take.ensures c.take-2.ensures _ c.remove.ensures
+    let rows = c.self.inside.rows.items in
+    let first : ChangesAt (takes_ancestor c.args.place) c.descendants-below.result rows c.take_ancestor.new.rows =
+    subst (λ xs. ChangesAt (takes_ancestor c.args.place) c.descendants-below.result xs c.take_ancestor.new.rows)
+    c.as_mut_slice-rows.ensures.value c.take_ancestor.ensures in
+    subst (λ xs. DropsPlace c.args.self.now (graph_from (64 * g.row.W) c.remove.new.self xs) c.args.place)
+    (sym (refilled (length rows) rows c.take_descendant.new.rows refl (c.take_descendant.ensures.long ∙ first.long)))
+    (drop_is (keeps c.self.invariant c.self.view_is) c.args.place c.requires c.ancestors-above.ensures c.descendants-below.ensures
+    first c.take_descendant.ensures c.remove.ensures)

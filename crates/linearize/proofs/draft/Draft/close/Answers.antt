@@ -18,8 +18,13 @@ pub invariant_of-self : goal.invariant_of-self
 invariant_of-self g c =
     let s = c.self.inside in
     let last : LinearPart = record { rate = c.args.rate; end = c.len-end.result; flow_end = c.len-flow_end.result } in
-    let items : c.push-pushed.new.self.items ≡ s.parts.items ++ last ∷ [] = search rules in
-    (subst (λ xs. IsKept xs s.order.items s.flows.items) (sym items) (kept_close s.parts.items s.order.items s.flows.items last (search rules) (search rules) c.self.invariant.0), search rules, search rules, search rules)
+    let items : c.push-pushed.new.self.items ≡ s.parts.items ++ last ∷ [] = search rules in (
+      subst (λ xs. IsKept xs s.order.items s.flows.items) (sym items)
+          (kept_close s.parts.items s.order.items s.flows.items last (search rules) (search rules) c.self.invariant.0),
+      search rules,
+      search rules,
+      search rules,
+    )
 
 pub returns : goal.returns
 returns g c =
@@ -28,4 +33,9 @@ returns g c =
     let items : c.push-pushed.new.self.items ≡ s.parts.items ++ last ∷ [] = search rules in
     ap (λ xs. written_of xs s.order.items s.flows.items) items
     ∙ written_close s.parts.items s.order.items s.flows.items last (search rules) (search rules) c.self.invariant.0
-    ∙ ap (λ (w : Written). record { parts = w.parts ++ record { rate = sum_from c.args.rate; ids = w.ids; flows = w.flows } ∷ []; ids = []; flows = [] }) c.self.view_is
+    ∙ ap (λ (w : Written). record {
+      parts = w.parts ++ record { rate = sum_from c.args.rate; ids = w.ids; flows = w.flows } ∷ [];
+      ids = [];
+      flows =
+          [];
+    }) c.self.view_is

@@ -15,8 +15,13 @@ prove-unreachable-requires g c =
 pub invariant_of-self : goal.invariant_of-self
 invariant_of-self g c =
     let s = c.self.inside in
-    let items : c.push-pushed.new.self.items ≡ s.order.items ++ c.args.place ∷ [] = search rules in
-    (subst (λ xs. IsKept s.parts.items xs s.flows.items) (sym items) (kept_put s.parts.items s.order.items s.flows.items c.args.place c.self.invariant.0), search rules, search rules, search rules)
+    let items : c.push-pushed.new.self.items ≡ s.order.items ++ c.args.place ∷ [] = search rules in (
+      subst (λ xs. IsKept s.parts.items xs s.flows.items) (sym items)
+          (kept_put s.parts.items s.order.items s.flows.items c.args.place c.self.invariant.0),
+      search rules,
+      search rules,
+      search rules,
+    )
 
 pub returns : goal.returns
 returns g c =

@@ -1,0 +1,227 @@
+-- Lists of names that are some of the components of what is left of a graph.
+use Rattle.std.proofs.Common.{◌≡◌, ◌≢◌, ◌↔◌, ◌⊎◌, ℕ, zero, suc, ◌+◌, ◌*◌, ◌^◌, ◌<◌, ◌≤◌, List, [], ◌∷◌, ◌++◌, length, map, get_or, Contains, inl, inr, refl, sym, ap, ◌∙◌, subst, arith, length-append}
+use Rattle.std.specs.Prelude.{sum_by}
+use Rattle.std.specs.List.{flat_map, AllPairs}
+use Rattle.std.proofs.lemmas.List.Sums.{sum_by-append}
+use Rattle.std.proofs.lemmas.List.Elements.{Contains-append_cases, Contains-append_left, Contains-append_right, Contains-push_cases}
+use Rattle.std.proofs.lemmas.List.{map_push}
+use Rattle.lists.proofs.Distinct.{distinct_joined, distinct-append_left, distinct-append_right}
+use Rattle.lists.proofs.Entries.{Contains-cases, Contains-head, Contains-later, none_in_empty, Contains-splits, map-Contains}
+use Rattle.lists.proofs.Walks.{Walk-keeps}
+use Rattle.lists.specs.Distinct.{AreDistinct}
+use Rattle.lists.specs.Walks.{Walk}
+use Rattle.graphs.specs.Closures.{Closure}
+use Rattle.cluster.specs.Changes.{AreComponents, AreNearLeft, IsLeft}
+use Rattle.cluster.specs.Clusters.{Cluster, AreApart}
+use Rattle.cluster.specs.Steps.{most_steps, least_steps, most_steps_of, least_steps_of, GrowsWithin}
+
+-- ---- lists with the same entries
+
+no_longer : (xs ys : List ℕ) → AreDistinct xs → ((x : ℕ) → Contains xs x → Contains ys x) → length xs ≤ length ys
+no_longer [] ys once within = omega arith
+no_longer (x ∷ xs) ys once within =
+    let cut = Contains-splits ys x (within x (Contains-head x xs)) in
+    let rest : length xs ≤ length (cut.0 ++ cut.1) = no_longer xs (cut.0 ++ cut.1) once.1 (λ y here. elim (Contains-append_cases cut.0 (x ∷ cut.1) y (subst (λ (zs : List ℕ). Contains zs y) cut.2 (within y (Contains-later x y xs here)))) [
+      | inl before ↦ Contains-append_left cut.0 cut.1 y before
+      | inr after ↦ elim (Contains-cases x y cut.1 after) [
+        | inl same ↦ absurd (once.0 (subst (Contains xs) (sym same) here))
+        | inr later ↦ Contains-append_right cut.0 cut.1 y later
+      ]
+    ]) in
+    omega (arith, ap length cut.2, length-append cut.0 (x ∷ cut.1), length-append cut.0 cut.1)
+
+-- ---- lists apart
+
+-- no entry of one list is in a later one
+pub AreApartLists : List (List ℕ) → Type 0
+AreApartLists [] = Unit {0}
+AreApartLists (m ∷ ms) = ((k : List ℕ) → Contains ms k → (x : ℕ) → Contains m x → Contains k x → ⊥) × AreApartLists ms
+
+pub apart_names : (parts : List Cluster) → AllPairs AreApart parts → AreApartLists (map (λ c. c.names) parts)
+unfolding AreApartLists
+apart_names [] pairs = tt
+apart_names (c ∷ cs) pairs = (
+  λ k here x one two.
+      (let at = map-Contains (λ (d : Cluster). d.names) cs k here in
+      let is : get_or cs at.1.0 at.0 ≡ at.0 = at.1.2 in
+      pairs 0 (suc at.1.0) at.0 (omega arith) (omega (arith, at.1.1)) x one (subst (λ (d : Cluster). Contains d.names x) (sym is) (subst (λ (ys : List ℕ). Contains ys x) (sym at.2) two))),
+  apart_names cs (λ i j d before below. pairs (suc i) (suc j) d (omega arith) (omega arith)),
+)
+
+pub apart_push : (ms : List (List ℕ)) (k : List ℕ) → AreApartLists ms → ((m : List ℕ) → Contains ms m → (x : ℕ) → Contains m x → Contains k x → ⊥) → AreApartLists (ms ++ k ∷ [])
+unfolding AreApartLists
+apart_push [] k apart other = ((λ j here. absurd (none_in_empty j here)), tt)
+apart_push (m ∷ ms) k apart other = (
+  λ j here x one two. elim (Contains-push_cases ms k j here) [
+    | inl old ↦ apart.0 j old x one two
+    | inr new ↦ other m (Contains-head m ms) x one (subst (λ (ys : List ℕ). Contains ys x) (sym new) two)
+  ],
+  apart_push ms k apart.1 (λ j here. other j (Contains-later m j ms here)),
+)
+
+in_flat : (ms : List (List ℕ)) (x : ℕ) → Contains (flat_map (λ ids. ids) ms) x → (m : List ℕ) × Contains ms m × Contains m x
+in_flat [] x here = absurd (none_in_empty x here)
+in_flat (m ∷ ms) x here = elim (Contains-append_cases m (flat_map (λ ids. ids) ms) x here) [
+  | inl first ↦ (m, Contains-head m ms, first)
+  | inr later ↦ let rest = in_flat ms x later in (rest.0, Contains-later m rest.0 ms rest.1, rest.2)
+]
+
+flat_in : (ms : List (List ℕ)) (m : List ℕ) (x : ℕ) → Contains ms m → Contains m x → Contains (flat_map (λ ids. ids) ms) x
+flat_in [] m x here there = absurd (none_in_empty m here)
+flat_in (k ∷ ms) m x here there = elim (Contains-cases k m ms here) [
+  | inl same ↦ Contains-append_left k (flat_map (λ ids. ids) ms) x (subst (λ (ys : List ℕ). Contains ys x) (sym same) there)
+  | inr later ↦ Contains-append_right k (flat_map (λ ids. ids) ms) x (flat_in ms m x later there)
+]
+
+once_in_flat : (ms : List (List ℕ)) (m : List ℕ) → AreDistinct (flat_map (λ ids. ids) ms) → Contains ms m → AreDistinct m
+once_in_flat [] m once here = absurd (none_in_empty m here)
+once_in_flat (k ∷ ms) m once here = elim (Contains-cases k m ms here) [
+  | inl same ↦ subst AreDistinct same (distinct-append_left k (flat_map (λ ids. ids) ms) once)
+  | inr later ↦ once_in_flat ms m (distinct-append_right k (flat_map (λ ids. ids) ms) once) later
+]
+
+flat_once : (ms : List (List ℕ)) → ((m : List ℕ) → Contains ms m → AreDistinct m) → AreApartLists ms → AreDistinct (flat_map (λ ids. ids) ms)
+unfolding AreApartLists
+flat_once [] each apart = tt
+flat_once (m ∷ ms) each apart =
+    distinct_joined m (flat_map (λ ids. ids) ms) (each m (Contains-head m ms)) (flat_once ms (λ k here. each k (Contains-later m k ms here)) apart.1)
+    (λ x one two. let at = in_flat ms x two in apart.0 at.0 at.1 x one at.2)
+
+-- ---- components
+
+-- a list of all names of one component of what is left
+pub record IsOneOf (g : Closure) (gone ids : List ℕ) : Type 0 where
+  pub once : AreDistinct ids
+  pub some : (x : ℕ) × Contains ids x
+  pub left : (a : ℕ) → Contains ids a → IsLeft g gone a
+  pub whole : (a b : ℕ) → Contains ids a → Contains ids b → Walk (AreNearLeft g gone) a b
+  pub alone : (a b : ℕ) → Contains ids a → AreNearLeft g gone a b → Contains ids b
+
+-- one of some lists has the same entries, and is as long
+record IsMatched (lists : List (List ℕ)) (m : List ℕ) : Type 0 where
+  list : List ℕ
+  there : Contains lists list
+  same : (x : ℕ) → Contains m x ↔ Contains list x
+  long : length m ≡ length list
+
+matched : (g : Closure) (gone : List ℕ) (lists : List (List ℕ)) (m : List ℕ) → AreComponents g gone lists → IsOneOf g gone m → IsMatched lists m
+matched g gone lists m all one =
+    let x : ℕ = one.some.0 in
+    let here : Contains m x = one.some.1 in
+    let at = in_flat lists x ((all.exact x).1 (one.left x here)) in
+    let into : (y : ℕ) → Contains m y → Contains at.0 y =
+    λ y held. Walk-keeps (AreNearLeft g gone) (Contains at.0) (λ a b step there. all.alone at.0 at.1 a b there step) x y (one.whole x y here held) at.2 in
+    let from : (y : ℕ) → Contains at.0 y → Contains m y =
+    λ y held. Walk-keeps (AreNearLeft g gone) (Contains m) (λ a b step there. one.alone a b there step) x y (all.whole at.0 at.1 x y at.2 held) here in
+    let up : length m ≤ length at.0 = no_longer m at.0 one.once into in
+    let down : length at.0 ≤ length m = no_longer at.0 m (once_in_flat lists at.0 all.once at.1) from in
+    record { list = at.0; there = at.1; same = λ y. (into y, from y); long = omega arith }
+
+module _ (w : ℕ → ℕ) where
+  abbrev cost : List (List ℕ) → ℕ
+  cost lists = sum_by (λ ids. w (length ids)) lists
+
+  cost_first : (m : List ℕ) (ms : List (List ℕ)) → cost (m ∷ ms) ≡ w (length m) + cost ms
+  cost_first m ms = sum_by-append (λ (ids : List ℕ). w (length ids)) (m ∷ []) ms ∙ ap (λ k. k + cost ms) (Rattle.std.proofs.Common.zero-add (w (length m)))
+
+  at_most : (done lists : List (List ℕ)) → AreApartLists done → ((m : List ℕ) → Contains done m → (x : ℕ) × Contains m x) → ((m : List ℕ) → Contains done m → IsMatched lists m) → cost done ≤ cost lists
+  unfolding AreApartLists
+  at_most [] lists apart some match = omega arith
+  at_most (m ∷ ms) lists apart some match =
+      let one : IsMatched lists m = match m (Contains-head m ms) in
+      let cut = Contains-splits lists one.list one.there in
+      let rest : cost ms ≤ cost (cut.0 ++ cut.1) = at_most ms (cut.0 ++ cut.1) apart.1 (λ k here. some k (Contains-later m k ms here)) (λ k here.
+      (let other : IsMatched lists k = match k (Contains-later m k ms here) in
+      record {
+        list = other.list;
+        there = elim (Contains-append_cases cut.0 (one.list ∷ cut.1) other.list (subst (λ (zs : List (List ℕ)). Contains zs other.list) cut.2 other.there)) [
+          | inl before ↦ Contains-append_left cut.0 cut.1 other.list before
+          | inr after ↦ elim (Contains-cases one.list other.list cut.1 after) [
+            | inl equal ↦
+                let at = some k (Contains-later m k ms here) in
+                absurd (apart.0 k here at.0 ((one.same at.0).1 (subst (λ (ys : List ℕ). Contains ys at.0) (sym equal) ((other.same at.0).0 at.1))) at.1)
+            | inr later ↦ Contains-append_right cut.0 cut.1 other.list later
+          ]
+        ];
+        same = other.same;
+        long = other.long;
+      })) in
+      let whole : cost lists ≡ cost (cut.0 ++ one.list ∷ cut.1) = ap cost cut.2 in
+      let split : cost (cut.0 ++ one.list ∷ cut.1) ≡ cost cut.0 + cost (one.list ∷ cut.1) = sum_by-append (λ (ids : List ℕ). w (length ids)) cut.0 (one.list ∷ cut.1) in
+      let joined : cost (cut.0 ++ cut.1) ≡ cost cut.0 + cost cut.1 = sum_by-append (λ (ids : List ℕ). w (length ids)) cut.0 cut.1 in
+      let same : w (length m) ≡ w (length one.list) = ap w one.long in
+      let first : cost (m ∷ ms) ≡ w (length m) + cost ms = cost_first m ms in
+      let second : cost (one.list ∷ cut.1) ≡ w (length one.list) + cost cut.1 = cost_first one.list cut.1 in
+      omega arith
+
+-- some of the components cost no more than all
+pub bounded : (g : Closure) (gone : List ℕ) (done lists : List (List ℕ)) → AreApartLists done → ((m : List ℕ) → Contains done m → IsOneOf g gone m) → AreComponents g gone lists → most_steps_of done ≤ most_steps_of lists
+bounded g gone done lists apart each all = at_most most_steps done lists apart (λ m here. (each m here).some) (λ m here. matched g gone lists m all (each m here))
+
+-- components that hold every name that is left are all
+pub are_components : (g : Closure) (gone : List ℕ) (done : List (List ℕ)) → AreApartLists done → ((m : List ℕ) → Contains done m → IsOneOf g gone m) → ((id : ℕ) → IsLeft g gone id → (m : List ℕ) × Contains done m × Contains m id) → AreComponents g gone done
+are_components g gone done apart each holds = record {
+  once = flat_once done (λ m here. (each m here).once) apart;
+  exact = λ id. (
+    λ here. (let at = in_flat done id here in (each at.0 at.1).left id at.2),
+    λ left. (let at = holds id left in flat_in done at.0 id at.1 at.2),
+  );
+  whole = λ ids here. (each ids here).whole;
+  alone = λ ids here. (each ids here).alone;
+}
+
+-- ---- steps
+
+-- so many steps were taken for the parts so far, each of which is a component
+pub record IsCounted (g : Closure) (gone : List ℕ) (parts : List Cluster) (before now : ℕ) : Type 0 where
+  pub each : (m : List ℕ) → Contains (map (λ c. c.names) parts) m → IsOneOf g gone m
+  pub grew : before ≤ now
+  pub most : now ≤ before + most_steps_of (map (λ c. c.names) parts)
+  pub least : before + least_steps_of (map (λ c. c.names) parts) ≤ now
+
+pub IsCounted-start : (g : Closure) (gone : List ℕ) (parts : List Cluster) (before : ℕ) → parts ≡ [] → IsCounted g gone parts before before
+IsCounted-start g gone parts before none = subst (λ (cs : List Cluster). IsCounted g gone cs before before) (sym none) (record { each = λ m here. absurd (none_in_empty m here); grew = omega arith; most = omega arith; least = omega arith })
+
+module _ (g : Closure) (gone : List ℕ) (parts : List Cluster) (before now next : ℕ) (ids : List ℕ) (so : IsCounted g gone parts before now) (one : IsOneOf g gone ids) (grows : GrowsWithin (most_steps (length ids)) now next) where
+  names_more : (part : Cluster) → part.names ≡ ids → map (λ (c : Cluster). c.names) (parts ++ part ∷ []) ≡ map (λ (c : Cluster). c.names) parts ++ ids ∷ []
+  names_more part is = map_push (λ (c : Cluster). c.names) parts part ∙ ap (λ ys. map (λ (c : Cluster). c.names) parts ++ ys ∷ []) is
+
+  each_more : (m : List ℕ) → Contains (map (λ (c : Cluster). c.names) parts ++ ids ∷ []) m → IsOneOf g gone m
+  each_more m here = elim (Contains-push_cases (map (λ (c : Cluster). c.names) parts) ids m here) [
+    | inl old ↦ so.each m old
+    | inr new ↦ subst (IsOneOf g gone) new one
+  ]
+
+  most_more : next ≤ before + most_steps_of (map (λ (c : Cluster). c.names) parts ++ ids ∷ [])
+  most_more =
+      let split : most_steps_of (map (λ (c : Cluster). c.names) parts ++ ids ∷ []) ≡ most_steps_of (map (λ (c : Cluster). c.names) parts) + most_steps_of (ids ∷ []) = sum_by-append (λ (ys : List ℕ). most_steps (length ys)) (map (λ (c : Cluster). c.names) parts) (ids ∷ []) in
+      let last : most_steps_of (ids ∷ []) ≡ most_steps (length ids) = omega arith in
+      let few : next ≤ now + most_steps (length ids) = grows.few in
+      let most : now ≤ before + most_steps_of (map (λ (c : Cluster). c.names) parts) = so.most in
+      omega arith
+
+  pub IsCounted-more : (part : Cluster) → part.names ≡ ids → now + least_steps (length ids) ≤ next → IsCounted g gone (parts ++ part ∷ []) before next
+  IsCounted-more part is enough = record {
+    each = λ m here. each_more m (subst (λ (ms : List (List ℕ)). Contains ms m) (names_more part is) here);
+    grew = (let first : before ≤ now = so.grew in let then : now ≤ next = grows.grew in omega arith);
+    most = subst (λ (ms : List (List ℕ)). next ≤ before + most_steps_of ms) (sym (names_more part is)) most_more;
+    least = subst (λ (ms : List (List ℕ)). before + least_steps_of ms ≤ next) (sym (names_more part is))
+        (let split : least_steps_of (map (λ (c : Cluster). c.names) parts ++ ids ∷ []) ≡ least_steps_of (map (λ (c : Cluster). c.names) parts) + least_steps_of (ids ∷ []) = sum_by-append (λ (ys : List ℕ). least_steps (length ys)) (map (λ (c : Cluster). c.names) parts) (ids ∷ []) in
+        let last : least_steps_of (ids ∷ []) ≡ least_steps (length ids) = omega arith in
+        let some : before + least_steps_of (map (λ (c : Cluster). c.names) parts) ≤ now = so.least in
+        omega arith);
+  }
+
+  -- what is bound where one more part is not finished
+  pub stopped : AllPairs AreApart parts → ((c : Cluster) → Contains parts c → (x : ℕ) → Contains c.names x → Contains ids x → ⊥) → (lists : List (List ℕ)) → AreComponents g gone lists → next ≤ before + most_steps_of lists
+  stopped apart other lists all =
+      let bound : most_steps_of (map (λ (c : Cluster). c.names) parts ++ ids ∷ []) ≤ most_steps_of lists =
+      bounded g gone (map (λ (c : Cluster). c.names) parts ++ ids ∷ []) lists
+      (apart_push (map (λ (c : Cluster). c.names) parts) ids (apart_names parts apart) (λ m here x first second. (let at = map-Contains (λ (c : Cluster). c.names) parts m here in other at.0 at.1 x (subst (λ (ys : List ℕ). Contains ys x) (sym at.2) first) second)))
+      each_more all in
+      let most : next ≤ before + most_steps_of (map (λ (c : Cluster). c.names) parts ++ ids ∷ []) = most_more in omega arith
+
+pub finished : (g : Closure) (gone : List ℕ) (parts : List Cluster) (before now : ℕ) → IsCounted g gone parts before now → AllPairs AreApart parts → (lists : List (List ℕ)) → AreComponents g gone lists → now ≤ before + most_steps_of lists
+finished g gone parts before now so apart lists all =
+    let bound : most_steps_of (map (λ (c : Cluster). c.names) parts) ≤ most_steps_of lists = bounded g gone (map (λ (c : Cluster). c.names) parts) lists (apart_names parts apart) so.each all in
+    let most : now ≤ before + most_steps_of (map (λ (c : Cluster). c.names) parts) = so.most in omega arith

@@ -1,0 +1,89 @@
+use Rattle.std.proofs.Common.{◌≡◌, ℕ, ◌*◌, ◌+◌, ◌≤◌, ◌++◌, List, length, rules, arith, sym, ap, ap₂, ◌∙◌, subst, subst₂, Contains}
+use Rattle.std.specs.FinSet as set
+use Rattle.graphs.specs.Closures.{members_of}
+use Rattle.cluster.specs.Clusters.{Cluster, AreApart}
+use Rattle.cluster.specs.Changes.{Joins, AreAcross}
+use Rattle.cluster.specs.Named.{named, IsNamed}
+use Rattle.cluster.proofs.At.{at_in}
+use Rattle.cluster.proofs.Joined.{members_long}
+use Rattle.cluster.proofs.Joining.{join_asks, join_kept, join_graph, in_both}
+use Rattle.cluster.proofs.Oks.{one_ok}
+use Rattle.cluster.proofs.cluster.Cluster.joined.Goals as goal
+
+pub merge-requires : goal.merge-requires
+merge-requires g c =
+    let first : set.len (members_of c.self.inside.dep) ≡ length c.self.inside.names.items = members_long (64 * g.row.W) c.self.inside.names.items c.self.inside.dep c.self.invariant.place in
+    let second : set.len (members_of c.other.inside.dep) ≡ length c.other.inside.names.items = members_long (64 * g.row.W) c.other.inside.names.items c.other.inside.dep c.other.invariant.place in
+    let one : length c.self.inside.names.items ≡ length c.args.self.now.names = ap (λ (s : Cluster). length s.names) c.self.view_is in
+    let two : length c.other.inside.names.items ≡ length c.args.other.now.names = ap (λ (s : Cluster). length s.names) c.other.view_is in
+    let few : length c.args.self.now.names + length c.args.other.now.names ≤ 64 * g.row.W = c.requires.few in
+    (search rules, omega arith)
+
+pub place_of-above-requires : goal.place_of-above-requires
+place_of-above-requires g c =
+    let items : c.extend_from_slice.new.self.items ≡ c.self.inside.names.items ++ c.other.inside.names.items =
+    c.in_ok-extend_from_slice.ensures.ok ∙ ap₂ {A = List ℕ} {B = List ℕ} (λ xs ys. xs ++ ys) (c.in_ok-names.ensures.ok ∙ c.as_slice.ensures) c.as_slice-2.ensures in
+    subst (λ (xs : List ℕ). Contains xs c.args.parent) (sym (c.as_slice-3.ensures ∙ items))
+    (in_both c.self.inside.names.items c.other.inside.names.items c.args.parent c.args.child
+    (subst₂ (λ (s t : Cluster). AreAcross s.names t.names c.args.parent c.args.child) (sym c.self.view_is) (sym c.other.view_is) c.requires.across)).0
+
+pub place_of-below-requires : goal.place_of-below-requires
+place_of-below-requires g c =
+    let items : c.extend_from_slice.new.self.items ≡ c.self.inside.names.items ++ c.other.inside.names.items =
+    c.in_ok-extend_from_slice.ensures.ok ∙ ap₂ {A = List ℕ} {B = List ℕ} (λ xs ys. xs ++ ys) (c.in_ok-names.ensures.ok ∙ c.as_slice.ensures) c.as_slice-2.ensures in
+    subst (λ (xs : List ℕ). Contains xs c.args.child) (sym (c.as_slice-4.ensures ∙ items))
+    (in_both c.self.inside.names.items c.other.inside.names.items c.args.parent c.args.child
+    (subst₂ (λ (s t : Cluster). AreAcross s.names t.names c.args.parent c.args.child) (sym c.self.view_is) (sym c.other.view_is) c.requires.across)).1
+
+pub add_dep-requires : goal.add_dep-requires
+add_dep-requires g c =
+    let items : c.extend_from_slice.new.self.items ≡ c.self.inside.names.items ++ c.other.inside.names.items =
+    c.in_ok-extend_from_slice.ensures.ok ∙ ap₂ {A = List ℕ} {B = List ℕ} (λ xs ys. xs ++ ys) (c.in_ok-names.ensures.ok ∙ c.as_slice.ensures) c.as_slice-2.ensures in
+    let asks = join_asks (64 * g.row.W) c.self.inside.names.items c.other.inside.names.items c.self.inside.dep c.other.inside.dep c.in_ok-dep.dep c.self.invariant.place c.other.invariant.place
+    (subst₂ (λ (s t : Cluster). length s.names + length t.names ≤ 64 * g.row.W) (sym c.self.view_is) (sym c.other.view_is) c.requires.few)
+    (subst₂ AreApart (sym c.self.view_is) (sym c.other.view_is) c.requires.apart) c.in_ok-dep.ensures c.place_of-above.result c.place_of-below.result c.args.parent c.args.child
+    (at_in c.as_slice-3.result.now (c.self.inside.names.items ++ c.other.inside.names.items) c.place_of-above.result c.args.parent (c.as_slice-3.ensures ∙ items) c.place_of-above.ensures.within c.place_of-above.ensures.here)
+    (at_in c.as_slice-4.result.now (c.self.inside.names.items ++ c.other.inside.names.items) c.place_of-below.result c.args.child (c.as_slice-4.ensures ∙ items) c.place_of-below.ensures.within c.place_of-below.ensures.here)
+    (subst₂ (λ (s t : Cluster). AreAcross s.names t.names c.args.parent c.args.child) (sym c.self.view_is) (sym c.other.view_is) c.requires.across) in
+    (search rules, (asks.0, (asks.1, asks.2)))
+
+pub certified-requires : goal.certified-requires
+certified-requires g c =
+    let items : c.extend_from_slice.new.self.items ≡ c.self.inside.names.items ++ c.other.inside.names.items =
+    c.in_ok-extend_from_slice.ensures.ok ∙ ap₂ {A = List ℕ} {B = List ℕ} (λ xs ys. xs ++ ys) (c.in_ok-names.ensures.ok ∙ c.as_slice.ensures) c.as_slice-2.ensures in (
+      search rules,
+      (
+        search rules,
+        (
+          search rules,
+          subst (λ (xs : List ℕ). IsNamed (64 * g.row.W) xs c.add_dep.new.self) (sym items)
+              (join_kept (64 * g.row.W) c.self.inside.names.items c.other.inside.names.items c.self.inside.dep c.other.inside.dep c.in_ok-dep.dep c.self.invariant.place c.other.invariant.place
+              (subst₂ (λ (s t : Cluster). length s.names + length t.names ≤ 64 * g.row.W) (sym c.self.view_is) (sym c.other.view_is) c.requires.few)
+              (subst₂ AreApart (sym c.self.view_is) (sym c.other.view_is) c.requires.apart) c.in_ok-dep.ensures c.place_of-above.result c.place_of-below.result c.args.parent c.args.child
+              (at_in c.as_slice-3.result.now (c.self.inside.names.items ++ c.other.inside.names.items) c.place_of-above.result c.args.parent (c.as_slice-3.ensures ∙ items) c.place_of-above.ensures.within c.place_of-above.ensures.here)
+              (at_in c.as_slice-4.result.now (c.self.inside.names.items ++ c.other.inside.names.items) c.place_of-below.result c.args.child (c.as_slice-4.ensures ∙ items) c.place_of-below.ensures.within c.place_of-below.ensures.here)
+              (subst₂ (λ (s t : Cluster). AreAcross s.names t.names c.args.parent c.args.child) (sym c.self.view_is) (sym c.other.view_is) c.requires.across) c.add_dep.new.self c.add_dep.ensures c.members-members-2.ensures.closed),
+        ),
+      ),
+    )
+
+pub returns-clause-names : goal.returns-clause-names
+returns-clause-names g c =
+    let items : c.extend_from_slice.new.self.items ≡ c.self.inside.names.items ++ c.other.inside.names.items =
+    c.in_ok-extend_from_slice.ensures.ok ∙ ap₂ {A = List ℕ} {B = List ℕ} (λ xs ys. xs ++ ys) (c.in_ok-names.ensures.ok ∙ c.as_slice.ensures) c.as_slice-2.ensures in
+    one_ok c.certified.result (λ k. k.names ≡ c.extend_from_slice.new.self.items) (λ k. k.names ≡ c.args.self.now.names ++ c.args.other.now.names)
+    (λ k names. names ∙ items ∙ ap₂ {A = List ℕ} {B = List ℕ} (λ xs ys. xs ++ ys) (ap (λ (s : Cluster). s.names) c.self.view_is) (ap (λ (s : Cluster). s.names) c.other.view_is)) c.certified.ensures.names
+
+pub returns-clause-graph : goal.returns-clause-graph
+returns-clause-graph g c =
+    let items : c.extend_from_slice.new.self.items ≡ c.self.inside.names.items ++ c.other.inside.names.items =
+    c.in_ok-extend_from_slice.ensures.ok ∙ ap₂ {A = List ℕ} {B = List ℕ} (λ xs ys. xs ++ ys) (c.in_ok-names.ensures.ok ∙ c.as_slice.ensures) c.as_slice-2.ensures in
+    let made = join_graph (64 * g.row.W) c.self.inside.names.items c.other.inside.names.items c.self.inside.dep c.other.inside.dep c.in_ok-dep.dep c.self.invariant.place c.other.invariant.place
+    (subst₂ (λ (s t : Cluster). length s.names + length t.names ≤ 64 * g.row.W) (sym c.self.view_is) (sym c.other.view_is) c.requires.few)
+    (subst₂ AreApart (sym c.self.view_is) (sym c.other.view_is) c.requires.apart) c.in_ok-dep.ensures c.place_of-above.result c.place_of-below.result c.args.parent c.args.child
+    (at_in c.as_slice-3.result.now (c.self.inside.names.items ++ c.other.inside.names.items) c.place_of-above.result c.args.parent (c.as_slice-3.ensures ∙ items) c.place_of-above.ensures.within c.place_of-above.ensures.here)
+    (at_in c.as_slice-4.result.now (c.self.inside.names.items ++ c.other.inside.names.items) c.place_of-below.result c.args.child (c.as_slice-4.ensures ∙ items) c.place_of-below.ensures.within c.place_of-below.ensures.here)
+    (subst₂ (λ (s t : Cluster). AreAcross s.names t.names c.args.parent c.args.child) (sym c.self.view_is) (sym c.other.view_is) c.requires.across) c.add_dep.new.self c.add_dep.ensures in
+    one_ok c.certified.result (λ k. k.graph ≡ named c.extend_from_slice.new.self.items c.add_dep.new.self) (λ k. Joins c.args.self.now.graph c.args.other.now.graph c.args.parent c.args.child k.graph)
+    (λ k graph. subst (Joins c.args.self.now.graph c.args.other.now.graph c.args.parent c.args.child) (sym (graph ∙ ap (λ (xs : List ℕ). named xs c.add_dep.new.self) items))
+    (subst₂ (λ (s t : Cluster). Joins s.graph t.graph c.args.parent c.args.child (named (c.self.inside.names.items ++ c.other.inside.names.items) c.add_dep.new.self)) c.self.view_is c.other.view_is made)) c.certified.ensures.graph

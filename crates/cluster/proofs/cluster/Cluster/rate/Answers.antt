@@ -1,0 +1,12 @@
+use Rattle.std.proofs.Common.{◌≡◌, ◌∙◌, sym, subst}
+use Rattle.graphs.specs.Closures.{rate_of}
+use Rattle.cluster.specs.Clusters.{Cluster}
+use Rattle.cluster.proofs.At.{at_in, rate_at}
+use Rattle.cluster.proofs.cluster.Cluster.rate.Goals as goal
+
+pub returns : goal.returns
+returns g c =
+    c.rate.ensures
+    ∙ sym (subst (λ (s : Cluster). rate_of s.graph c.args.id ≡ rate_of c.self.inside.dep c.place_of.result) c.self.view_is
+    (rate_at c.self.inside.names.items c.self.inside.dep c.self.invariant.place.once c.place_of.result c.args.id
+    (at_in c.as_slice.result.now c.self.inside.names.items c.place_of.result c.args.id c.as_slice.ensures c.place_of.ensures.within c.place_of.ensures.here)))

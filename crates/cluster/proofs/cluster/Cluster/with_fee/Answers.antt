@@ -1,0 +1,48 @@
+use Rattle.std.proofs.Common.{◌≡◌, ℕ, ℤ, ◌*◌, List, rules, sym, ap, ◌∙◌, subst, subst₂, to_z-of_z}
+use Rattle.graphs.specs.Closures.{Closure, SetsFee}
+use Rattle.cluster.specs.Clusters.{Cluster}
+use Rattle.cluster.specs.Named.{named, IsNamed}
+use Rattle.cluster.proofs.At.{at_in}
+use Rattle.cluster.proofs.Linking.{fee_asks, fee_kept, fee_graph}
+use Rattle.cluster.proofs.Oks.{one_ok}
+use Rattle.cluster.proofs.cluster.Cluster.with_fee.Goals as goal
+
+pub set_fee-requires : goal.set_fee-requires
+set_fee-requires g c = (
+  search rules,
+  fee_asks (64 * g.row.W) c.self.inside.names.items c.self.inside.dep c.in_ok-dep.dep c.self.invariant.place c.in_ok-dep.ensures.same
+      (subst (λ (xs : List ℕ). IsNamed (64 * g.row.W) xs c.in_ok-dep.dep) c.as_slice.ensures c.in_ok-dep.ensures.named) c.place_of.result c.args.id c.args.fee
+      (at_in c.as_slice-3.result.now c.self.inside.names.items c.place_of.result c.args.id (c.as_slice-3.ensures ∙ c.in_ok-names.ensures.ok ∙ c.as_slice-2.ensures) c.place_of.ensures.within c.place_of.ensures.here),
+)
+
+pub certified-requires : goal.certified-requires
+certified-requires g c =
+    let items : c.in_ok-names.names.items ≡ c.self.inside.names.items = c.in_ok-names.ensures.ok ∙ c.as_slice-2.ensures in (
+      search rules,
+      (
+        search rules,
+        (
+          search rules,
+          subst (λ (xs : List ℕ). IsNamed (64 * g.row.W) xs c.set_fee.new.self) (sym items)
+              (fee_kept (64 * g.row.W) c.self.inside.names.items c.self.inside.dep c.in_ok-dep.dep c.self.invariant.place c.in_ok-dep.ensures.same
+              (subst (λ (xs : List ℕ). IsNamed (64 * g.row.W) xs c.in_ok-dep.dep) c.as_slice.ensures c.in_ok-dep.ensures.named) c.place_of.result c.args.id c.args.fee
+              (at_in c.as_slice-3.result.now c.self.inside.names.items c.place_of.result c.args.id (c.as_slice-3.ensures ∙ items) c.place_of.ensures.within c.place_of.ensures.here)
+              c.set_fee.new.self (subst (λ (z : ℤ). SetsFee c.in_ok-dep.dep c.set_fee.new.self c.place_of.result z) (to_z-of_z c.ranges.fee) c.set_fee.ensures) c.requires.fee c.members-members.ensures.closed),
+        ),
+      ),
+    )
+
+pub returns-clause-names : goal.returns-clause-names
+returns-clause-names g c =
+    one_ok c.certified.result (λ k. k.names ≡ c.in_ok-names.names.items) (λ k. k.names ≡ c.args.self.now.names)
+    (λ k names. names ∙ c.in_ok-names.ensures.ok ∙ c.as_slice-2.ensures ∙ ap (λ (s : Cluster). s.names) c.self.view_is) c.certified.ensures.names
+
+pub returns-clause-graph : goal.returns-clause-graph
+returns-clause-graph g c =
+    let items : c.in_ok-names.names.items ≡ c.self.inside.names.items = c.in_ok-names.ensures.ok ∙ c.as_slice-2.ensures in
+    let made = fee_graph (64 * g.row.W) c.self.inside.names.items c.self.inside.dep c.in_ok-dep.dep c.self.invariant.place c.in_ok-dep.ensures.same
+    (subst (λ (xs : List ℕ). IsNamed (64 * g.row.W) xs c.in_ok-dep.dep) c.as_slice.ensures c.in_ok-dep.ensures.named) c.place_of.result c.args.id c.args.fee
+    (at_in c.as_slice-3.result.now c.self.inside.names.items c.place_of.result c.args.id (c.as_slice-3.ensures ∙ items) c.place_of.ensures.within c.place_of.ensures.here)
+    c.set_fee.new.self (subst (λ (z : ℤ). SetsFee c.in_ok-dep.dep c.set_fee.new.self c.place_of.result z) (to_z-of_z c.ranges.fee) c.set_fee.ensures) in
+    one_ok c.certified.result (λ k. k.graph ≡ named c.in_ok-names.names.items c.set_fee.new.self) (λ k. SetsFee c.args.self.now.graph k.graph c.args.id c.args.fee)
+    (λ k graph. subst₂ (λ (s : Cluster) (h : Closure). SetsFee s.graph h c.args.id c.args.fee) c.self.view_is (sym (graph ∙ ap (λ (xs : List ℕ). named xs c.set_fee.new.self) items)) made) c.certified.ensures.graph

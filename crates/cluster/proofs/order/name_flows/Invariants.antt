@@ -1,0 +1,6 @@
+use Rattle.std.proofs.Common.{◌≡◌, ◌++◌, map, take}
+use Rattle.cluster.specs.Orders.{named_at}
+use Rattle.cluster.proofs.order.name_flows.Given as goal
+
+abbrev pub invariant-loop-at : goal.invariant-loop-at
+invariant-loop-at l = l.flows.items ≡ l.initial.flows.items ++ map (named_at l.order) (take l.at l.moved)

@@ -1,0 +1,313 @@
+-- Steps keep valid states: the other changes, and the picks.
+use Rattle.std.proofs.Common.{◌≡◌, ℕ, ℤ, ◌+◌, ◌≤◌, true, cond, List, [], ◌∷◌, length, Option, None, Some, is_some, sym, refl, ap, subst, ◌∙◌, inl, inr, arith, true≢false}
+use Rattle.std.specs.Prelude.{Contains, sum_by}
+use Rattle.std.specs.Ordering.{nat_cmp}
+use Rattle.std.specs.Cmp.{nat_cmp_total}
+use Rattle.std.specs.FinMap as finmap
+use Rattle.std.proofs.lemmas.Bool.{cases_eq}
+use Rattle.lists.proofs.Cases.{some_none}
+use Rattle.lists.proofs.Entries.{Contains-head, none_in_empty}
+use Rattle.fee_rate.specs.declared.rates.Sum.{Sum}
+use Rattle.fee_rate.specs.Limits.{IsFee, IsSize}
+use Rattle.graphs.specs.declared.names.Level.TheVariants.{Top}
+use Rattle.graphs.specs.Graphs.{Graph, IsGraph}
+use Rattle.graphs.specs.Certificates.{Part}
+use Rattle.graphs.specs.Picks.{IsPick}
+use Rattle.graphs.proofs.RemovalLemmas.{graph_left}
+use Rattle.graphs.proofs.DropLemmas as drops
+use Rattle.graphs.proofs.PickLemmas.{picks_are_kept}
+use Rattle.graph_model.specs.Limits.{default_limits}
+use Rattle.graph_model.specs.States.{PlainState, Picks, State, Table, Entry, start, empty_graph, level_of, top_of, IsLive, size_in, size_of, sum_in, rate_of}
+use Rattle.graph_model.specs.Commands.{Command, HasTypes, SetLimits, Add, Dep, SetFee, Remove, Mine, Evict, Stage, Commit, Abort, Settle, Compare, Order, Diagram, Proof, Cluster, Ancestors, Descendants, Chunk, Before, Block, Count}
+use Rattle.graph_model.specs.Refusals.{RefusalIs}
+use Rattle.graph_model.specs.Replies.{Reply}
+use Rattle.graph_model.specs.Changes.{begun, with_fee, staged, Forgets, Removes, DropsFromMain, Commits, Aborts, Changes}
+use Rattle.graph_model.specs.Steps.{Step, PicksFollow, CommitsPick}
+use Rattle.graph_model.specs.Validity.{AreOfOneComponent, IsLevel, IsStaging, IsValid, IsPickOf, ArePicks, IsValidState}
+use Rattle.graph_model.specs.Laws.{StepsKeepValid}
+use Rattle.graph_model.proofs.LevelLemmas.{same_level, level_within, connects, one_pair, two_pairs}
+use Rattle.graph_model.proofs.ValidLemmas.{row_on, get-put_same, get-put_other, top_level, staging_along, forgets_valid, valid_limited}
+use Rattle.graph_model.proofs.ChangeLemmas.{of_top, top_main, top_is, fee_stable, valid_added, valid_paired}
+
+-- ---- `fee`
+
+module _ (old : PlainState) (id : ℕ) (fee : ℤ) (valid : IsValid old) (row : RefusalIs old (SetFee id fee) None) where
+  abbrev entry : Entry
+  entry = record { fee = fee; size = size_of old.table id }
+
+  abbrev paid : Table
+  paid = finmap.insert old.table id entry
+
+  good_fee : IsFee fee
+  good_fee = fee_stable fee (row_on row).0
+
+  live : IsLive old id
+  live = some_stable (finmap.get old.table id) (row_on (row_on row).1).0
+    where
+      some_stable : (o : Option Entry) → ((is_some o ≡ true → ⊥) → ⊥) → is_some o ≡ true
+      some_stable None nn = absurd (nn (λ e. true≢false (sym e)))
+      some_stable (Some e) nn = refl
+
+  same_size : (q : ℕ) → size_of paid q ≡ size_of old.table q
+  same_size q = elim (cases_eq q id) [
+    | inl same ↦ ap size_in (get-put_same old.table id q entry same) ∙ ap (size_of old.table) (sym same)
+    | inr other ↦ ap size_in (get-put_other old.table id q entry other)
+  ]
+
+  same_live : (q : ℕ) → is_some (finmap.get paid q) ≡ is_some (finmap.get old.table q)
+  same_live q = elim (cases_eq q id) [
+    | inl same ↦ ap is_some (get-put_same old.table id q entry same) ∙ sym (ap (λ n. is_some (finmap.get old.table n)) same ∙ live)
+    | inr other ↦ ap is_some (get-put_other old.table id q entry other)
+  ]
+
+  good_size : (o : Option Entry) → is_some o ≡ true → ((e : Entry) → o ≡ Some e → IsFee e.fee × IsSize e.size) → IsSize (size_in o)
+  good_size None none rates = absurd (true≢false (sym none))
+  good_size (Some e) some rates = (rates e refl).1
+
+  one_entry : (a b : Entry) → Some a ≡ Some b → a ≡ b
+  one_entry a b same = cc
+
+  pub valid_paid : IsValid (with_fee old id fee)
+  valid_paid = record {
+    limits = valid.limits;
+    most = valid.most;
+    main = same_level old (with_fee old id fee) old.main refl (λ q here. same_size q) valid.main;
+    staging = staging_along old (with_fee old id fee) old.staging refl (λ graph is q here. same_size q) valid.staging;
+    live = λ q. (λ now. (valid.live q).0 (sym (same_live q) ∙ now), λ kept. same_live q ∙ (valid.live q).1 kept);
+    few = subst (λ n. n ≤ old.limits.total) (sym (finmap.len-insert nat_cmp_total old.table id entry
+        ∙ ap (λ b. cond b (finmap.len old.table) (finmap.len old.table + 1)) live)) valid.few;
+    rates = λ q e is. elim (cases_eq q id) [
+      | inl same ↦ subst (λ (x : Entry). IsFee x.fee × IsSize x.size) (one_entry entry e (sym (get-put_same old.table id q entry same) ∙ is))
+          (good_fee, good_size (finmap.get old.table id) live (λ e is. valid.rates id e is))
+      | inr other ↦ valid.rates q e (sym (get-put_other old.table id q entry other) ∙ is)
+    ];
+    fresh = λ not_yet. absurd (true≢false not_yet);
+  }
+
+-- ---- `remove`
+
+valid_removed : (old new : PlainState) (id : ℕ) → IsValid old → Removes old id new → IsValid new
+valid_removed old new id valid (graph, without, forgets) =
+    let top : Graph = level_of old Top in
+    let level : IsLevel old graph = level_within old old top graph refl (graph_left top graph id without (top_level old valid).whole) (λ q here. ((without.names q).0 here).0)
+    (connects graph.pairs top.pairs (λ a b pair. elim ((without.pairs a b).0 pair).2 [ inl was ↦ one_pair top.pairs a b was | inr across ↦ two_pairs top.pairs a id b across.0 across.1 ]))
+    (λ q here. refl) (top_level old valid) in
+    of_top (begun old) graph (λ mid. Forgets mid new → IsValid new)
+    (λ alone. forgets_valid old (record (begun old) { main = graph }) new valid refl refl refl refl
+    (same_level old (record (begun old) { main = graph }) graph refl (λ q here. refl) level)
+    (subst (IsStaging (record (begun old) { main = graph })) (sym alone) tt)
+    (λ q kept. inr (elim kept [
+      | inl here ↦ ((without.names q).0 here).0
+      | inr here ↦ ((without.names q).0 (subst (λ (g : Graph). Contains g.names q) (ap (top_of graph) alone) here)).0
+    ])))
+    (λ was open_is. forgets_valid old (record (begun old) { staging = Some graph }) new valid refl refl refl refl
+    (same_level old (record (begun old) { staging = Some graph }) old.main refl (λ q here. refl) valid.main)
+    (same_level old (record (begun old) { staging = Some graph }) graph refl (λ q here. refl) level)
+    (λ q kept. elim kept [ inl here ↦ inl here | inr here ↦ inr ((without.names q).0 here).0 ]))
+    forgets
+
+-- ---- `mine` and `evict`
+
+valid_dropped : (old new : PlainState) (ids : List ℕ) → IsValid old → old.staging ≡ None → DropsFromMain old ids new → IsValid new
+valid_dropped old new ids valid alone (graph, without, forgets) =
+    let level : IsLevel old graph = level_within old old old.main graph refl (drops.graph_left old.main graph ids without valid.main.whole) (λ q here. ((without.names q).0 here).0)
+    (connects graph.pairs old.main.pairs (λ a b pair. one_pair old.main.pairs a b ((without.pairs a b).0 pair).2)) (λ q here. refl) valid.main in
+    forgets_valid old (record (begun old) { main = graph }) new valid refl refl refl refl
+    (same_level old (record (begun old) { main = graph }) graph refl (λ q here. refl) level)
+    (subst (IsStaging (record (begun old) { main = graph })) (sym alone) tt)
+    (λ q kept. inl (elim kept [
+      | inl here ↦ ((without.names q).0 here).0
+      | inr here ↦ ((without.names q).0 (subst (λ (g : Graph). Contains g.names q) (ap (top_of graph) alone) here)).0
+    ]))
+    forgets
+
+-- ---- `stage`, `commit`, `abort`
+
+valid_staged : (old : PlainState) → IsValid old → old.staging ≡ None → IsValid (staged old)
+valid_staged old valid alone = record {
+  limits = valid.limits;
+  most = valid.most;
+  main = same_level old (staged old) old.main refl (λ q here. refl) valid.main;
+  staging = same_level old (staged old) old.main refl (λ q here. refl) valid.main;
+  live = λ q. (
+    λ live. elim ((valid.live q).0 live) [ inl main ↦ inl main | inr top ↦ inl (subst (λ (g : Graph). Contains g.names q) (top_main old alone) top) ],
+    λ kept. (valid.live q).1 (inl (elim kept [ inl main ↦ main | inr main ↦ main ])),
+  );
+  few = valid.few;
+  rates = valid.rates;
+  fresh = λ not_yet. absurd (true≢false not_yet);
+}
+
+valid_committed : (old new : PlainState) → IsValid old → Commits old new → IsValid new
+valid_committed old new valid =
+    forgets_valid old (record (begun old) { main = level_of old Top; staging = None }) new valid refl refl refl refl
+    (same_level old (record (begun old) { main = level_of old Top; staging = None }) (level_of old Top) refl (λ q here. refl) (top_level old valid)) tt
+    (λ q kept. inr (elim kept [ inl here ↦ here | inr here ↦ here ]))
+
+valid_aborted : (old new : PlainState) → IsValid old → Aborts old new → IsValid new
+valid_aborted old new valid =
+    forgets_valid old (record (begun old) { staging = None }) new valid refl refl refl refl
+    (same_level old (record (begun old) { staging = None }) old.main refl (λ q here. refl) valid.main) tt
+    (λ q kept. inl (elim kept [ inl here ↦ here | inr here ↦ here ]))
+
+-- ---- rows
+
+not_staged : (staging : Option Graph) → (is_some staging ≡ true → ⊥) → staging ≡ None
+not_staged None none = refl
+not_staged (Some graph) none = absurd (none refl)
+
+-- ---- the plain state
+
+valid_plain : (picks : Picks) (old new : PlainState) (command : Command) → HasTypes command → IsValid old → RefusalIs old command None → Changes picks old command new → IsValid new
+valid_plain picks old new (SetLimits count size total) types valid row change = subst IsValid (sym change) (valid_limited old (record { count = count; size = size; total = total }) valid row)
+valid_plain picks old new (Add id fee size) types valid row change = subst IsValid (sym change) (valid_added old id fee size valid types.0 row)
+valid_plain picks old new (Dep parent child) types valid row change = valid_paired old new parent child valid row change
+valid_plain picks old new (SetFee id fee) types valid row change = subst IsValid (sym change) (valid_paid old id fee valid row)
+valid_plain picks old new (Remove id) types valid row change = valid_removed old new id valid change
+valid_plain picks old new (Mine ids) types valid row change = valid_dropped old new ids valid (not_staged old.staging (row_on row).0) change
+valid_plain picks old new Evict types valid row change = valid_dropped old new change.0.ids valid (not_staged old.staging (row_on row).0) change.2
+valid_plain picks old new Stage types valid row change = subst IsValid (sym change) (valid_staged old valid (not_staged old.staging (row_on row).0))
+valid_plain picks old new Commit types valid row change = valid_committed old new valid change
+valid_plain picks old new Abort types valid row change = valid_aborted old new valid change
+valid_plain picks old new Settle types valid row change = elim change [ inl commits ↦ valid_committed old new valid commits.1 | inr aborts ↦ valid_aborted old new valid aborts.1 ]
+valid_plain picks old new Compare types valid row change = subst IsValid (sym change) valid
+valid_plain picks old new (Order level) types valid row change = subst IsValid (sym change) valid
+valid_plain picks old new (Diagram level) types valid row change = subst IsValid (sym change) valid
+valid_plain picks old new (Proof level) types valid row change = subst IsValid (sym change) valid
+valid_plain picks old new (Cluster id level) types valid row change = subst IsValid (sym change) valid
+valid_plain picks old new (Ancestors id level) types valid row change = subst IsValid (sym change) valid
+valid_plain picks old new (Descendants id level) types valid row change = subst IsValid (sym change) valid
+valid_plain picks old new (Chunk id) types valid row change = subst IsValid (sym change) valid
+valid_plain picks old new (Before a b) types valid row change = subst IsValid (sym change) valid
+valid_plain picks old new (Block size) types valid row change = subst IsValid (sym change) valid
+valid_plain picks old new (Count level) types valid row change = subst IsValid (sym change) valid
+
+-- ---- the picks
+
+-- a pick stays one where the names keep their fees and sizes
+pick_along : (ra rb : ℕ → Sum) (graph : Graph) (parts : List Part) → IsGraph graph → ((id : ℕ) → Contains graph.names id → ra id ≡ rb id) → IsPick ra graph parts → IsPick rb graph parts
+pick_along ra rb graph parts whole same = (picks_are_kept.alike ra rb graph graph (record {
+  names = λ id. (λ here. here, λ here. here);
+  sums = same;
+  ancestors = λ x y. (λ walk. walk, λ walk. walk);
+}) whole whole parts).0
+
+picks_staged : (old new : State) → IsValidState old → new.plain ≡ staged old.plain → new.picks ≡ record { main = old.picks.main; staging = Some old.picks.main } → ArePicks new.plain new.picks
+picks_staged old new valid plain picks =
+    let all : ArePicks (staged old.plain) (record { main = old.picks.main; staging = Some old.picks.main }) = record { main = valid.picks.main; staging = valid.picks.main } in
+    subst (λ (s : State). ArePicks s.plain s.picks) (λ i. record { plain = sym plain i; picks = sym picks i }) all
+
+module _ (old new : State) (valid : IsValidState old) (commits : Commits old.plain new.plain) (pick : CommitsPick old.picks new.picks) where
+  -- with a pick of staging there is a staging
+  staging_pick : (staging : Option Graph) → IsPickOf old.plain.table staging (Some new.picks.main) → old.plain.staging ≡ staging → IsPick (rate_of old.plain.table) (level_of old.plain Top) new.picks.main
+  staging_pick None none is = absurd none
+  staging_pick (Some graph) has is = subst (λ (g : Graph). IsPick (rate_of old.plain.table) g new.picks.main) (sym (top_is old.plain graph is)) has
+
+  had : IsPick (rate_of old.plain.table) (level_of old.plain Top) new.picks.main
+  had = staging_pick old.plain.staging (subst (IsPickOf old.plain.table old.plain.staging) pick.0 valid.picks.staging) refl
+
+  main_is : new.plain.main ≡ level_of old.plain Top
+  main_is = ap (λ (p : PlainState). p.main) commits.same
+
+  picks_committed : ArePicks new.plain new.picks
+  picks_committed = record {
+    main = subst (λ (g : Graph). IsPick (rate_of new.plain.table) g new.picks.main) (sym main_is)
+        (pick_along (rate_of old.plain.table) (rate_of new.plain.table) (level_of old.plain Top) new.picks.main (top_level old.plain valid.plain).whole
+        (λ id here. sym (ap sum_in (commits.kept id (inl here)))) had);
+    staging = subst (λ (s : PlainState). IsPickOf new.plain.table s.staging new.picks.staging) (sym commits.same) (subst (IsPickOf new.plain.table None) (sym pick.1) tt);
+  }
+
+valid_picks : (old new : State) (command : Command) → IsValidState old → Changes old.picks old.plain command new.plain → PicksFollow old command new → ArePicks new.plain new.picks
+valid_picks old new Stage valid change follow = picks_staged old new valid change follow
+valid_picks old new Commit valid change follow = picks_committed old new valid change follow
+valid_picks old new Settle valid change follow = elim follow [
+  | inl better ↦ elim change [ inl commits ↦ picks_committed old new valid commits.1 better.1 | inr aborts ↦ absurd (aborts.0 better.0) ]
+  | inr worse ↦ worse.1.picks
+]
+valid_picks old new (SetLimits count size total) valid change follow = follow.picks
+valid_picks old new (Add id fee size) valid change follow = follow.picks
+valid_picks old new (Dep parent child) valid change follow = follow.picks
+valid_picks old new (SetFee id fee) valid change follow = follow.picks
+valid_picks old new (Remove id) valid change follow = follow.picks
+valid_picks old new (Mine ids) valid change follow = follow.picks
+valid_picks old new Evict valid change follow = follow.picks
+valid_picks old new Abort valid change follow = follow.picks
+valid_picks old new Compare valid change follow = follow.picks
+valid_picks old new (Order level) valid change follow = follow.picks
+valid_picks old new (Diagram level) valid change follow = follow.picks
+valid_picks old new (Proof level) valid change follow = follow.picks
+valid_picks old new (Cluster id level) valid change follow = follow.picks
+valid_picks old new (Ancestors id level) valid change follow = follow.picks
+valid_picks old new (Descendants id level) valid change follow = follow.picks
+valid_picks old new (Chunk id) valid change follow = follow.picks
+valid_picks old new (Before a b) valid change follow = follow.picks
+valid_picks old new (Block size) valid change follow = follow.picks
+valid_picks old new (Count level) valid change follow = follow.picks
+
+step_valid : (old new : State) (command : Command) (reply : Reply) → HasTypes command → IsValidState old → Step old command reply new → IsValidState new
+step_valid old new command reply types valid step = elim step [
+  | inl refused ↦ subst IsValidState (sym refused.same) valid
+  | inr rest ↦ elim rest [
+    | inl lacks ↦ subst IsValidState (sym lacks.same) valid
+    | inr fine ↦ record {
+      plain = valid_plain old.picks old.plain new.plain command types valid.plain fine.none fine.accepts.plain.change;
+      picks = valid_picks old new command valid fine.accepts.plain.change fine.accepts.picks;
+    }
+  ]
+]
+
+-- ---- the start
+
+start_valid : (most : ℕ) → default_limits.count ≤ most → most ≤ 128 → IsValidState (start most)
+start_valid most low high =
+    let empty : IsLevel (start most).plain (start most).plain.main = record {
+      whole = record { names = tt; pairs = tt; ends = λ parent child here. absurd (none_in_empty (parent, child) here); acyclic = λ a n walk. none_in_empty (walk.0, a) walk.2 };
+      names = λ id here. absurd (none_in_empty id here);
+      count = λ ids of. no_more ids of;
+      size = λ ids of. no_size ids of;
+    } in
+    record {
+      plain = record {
+        limits = record { count_low = omega arith; count_high = low; size_low = omega arith; size_high = omega arith; total_low = omega arith; total_high = omega arith };
+        most = high;
+        main = empty;
+        staging = tt;
+        live = λ id. (
+          λ live. absurd (true≢false (sym live ∙ ap is_some (finmap.get-empty nat_cmp id))),
+          λ kept. absurd (elim kept [ inl here ↦ none_in_empty id here | inr here ↦ none_in_empty id here ]),
+        );
+        few = let none : finmap.len {X = Entry} {R = nat_cmp} finmap.empty ≡ 0 = finmap.len-empty nat_cmp Entry in omega arith;
+        rates = λ id entry is. absurd (some_none entry (sym is ∙ finmap.get-empty nat_cmp id));
+        fresh = λ not_yet. (refl, refl);
+      };
+      picks = record {
+        main = record {
+          certificate = record {
+            filled = λ part here. absurd (none_in_empty part here);
+            order = record {
+              topological = record {
+                once = tt;
+                names = λ id. (λ here. here, λ here. here);
+                parents_first = λ parent child here. absurd (none_in_empty (parent, child) here);
+              };
+              together = λ part here. absurd (none_in_empty part here);
+            };
+            falling = record { summed = λ part here. absurd (none_in_empty part here); falling = tt };
+            flows = λ part here. absurd (none_in_empty part here);
+          };
+          flows_in_order = λ part here. absurd (none_in_empty part here);
+        };
+        staging = tt;
+      };
+    }
+  where
+    no_more : (ids : List ℕ) → AreOfOneComponent empty_graph ids → length ids ≤ default_limits.count
+    no_more [] of = omega arith
+    no_more (x ∷ xs) of = absurd (none_in_empty x (of.inside x (Contains-head x xs)))
+
+    no_size : (ids : List ℕ) → AreOfOneComponent empty_graph ids → sum_by (size_of finmap.empty) ids ≤ default_limits.size
+    no_size [] of = omega arith
+    no_size (x ∷ xs) of = absurd (none_in_empty x (of.inside x (Contains-head x xs)))
+
+pub steps_keep_valid : StepsKeepValid
+steps_keep_valid = record { begins = start_valid; goes_on = step_valid }

@@ -1,0 +1,5 @@
+use Rattle.graph_model.proofs.RowLemmas.{one_refusal}
+use Rattle.graph_model.proofs.laws.rows_are_functions.Goals as goal
+
+pub returns : goal.returns
+returns c = one_refusal

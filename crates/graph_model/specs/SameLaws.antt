@@ -1,0 +1,47 @@
+-- The plain part of a step is a function of the state, up to the order in which names and pairs are listed.
+use Rattle.std.specs.Prelude.{◌≡◌, ◌≢◌, ◌↔◌, ℕ, Option, None, Some, Contains}
+use Rattle.std.specs.FinMap as finmap
+use Rattle.graphs.specs.Graphs.{Graph}
+use Rattle.graph_model.specs.States.{PlainState, Picks}
+use Rattle.graph_model.specs.Commands.{Command, Evict, Order, Proof, Chunk, Before, Block}
+use Rattle.graph_model.specs.Replies.{Reply}
+use Rattle.graph_model.specs.Steps.{AcceptsPlainly}
+use Rattle.graph_model.specs.Validity.{IsValid}
+
+-- the same names and the same pairs, in whatever order
+pub record IsSameGraph (a b : Graph) : Type 0 where
+  pub names : (id : ℕ) → Contains a.names id ↔ Contains b.names id
+  pub pairs : (x y : ℕ) → Contains a.pairs (x, y) ↔ Contains b.pairs (x, y)
+
+abbrev pub IsSameStaging : Option Graph → Option Graph → Type 0
+IsSameStaging None None = Unit {0}
+IsSameStaging (Some a) (Some b) = IsSameGraph a b
+IsSameStaging None (Some b) = ⊥
+IsSameStaging (Some a) None = ⊥
+
+-- the same state, but for the order in which names and pairs are listed
+pub record IsSameState (a b : PlainState) : Type 0 where
+  pub limits : a.limits ≡ b.limits
+  pub most : a.most ≡ b.most
+  pub begun : a.begun ≡ b.begun
+  pub table : (id : ℕ) → finmap.get a.table id ≡ finmap.get b.table id
+  pub main : IsSameGraph a.main b.main
+  pub staging : IsSameStaging a.staging b.staging
+
+-- the commands whose answer, and the one whose change, is read off a pick
+abbrev pub ReadsNoPick : Command → Type 0
+ReadsNoPick Evict = ⊥
+ReadsNoPick (Order level) = ⊥
+ReadsNoPick (Proof level) = ⊥
+ReadsNoPick (Chunk id) = ⊥
+ReadsNoPick (Before a b) = ⊥
+ReadsNoPick (Block size) = ⊥
+ReadsNoPick command = Unit {0}
+
+-- From valid states that are the same, whatever their picks, an accepted command leads to states that are the same, unless it is `evict`,
+-- and gets the same reply, where that is read off no pick.
+pub record StepsAreFunctions : Type 0 where
+  pub states : (pa pb : Picks) (a b a' b' : PlainState) (command : Command) (ra rb : Reply) → IsValid a → IsValid b → IsSameState a b → command ≢ Evict
+      → AcceptsPlainly pa a command ra a' → AcceptsPlainly pb b command rb b' → IsSameState a' b'
+  pub replies : (pa pb : Picks) (a b a' b' : PlainState) (command : Command) (ra rb : Reply) → IsValid a → IsValid b → IsSameState a b → ReadsNoPick command
+      → AcceptsPlainly pa a command ra a' → AcceptsPlainly pb b command rb b' → ra ≡ rb

@@ -1,5 +1,0 @@
-use Rattle.wire.proofs.RowLemmas.{kind_no_row}
-use Rattle.wire.proofs.row.read_words.Goals as goal
-
-pub returns-in-None : goal.returns-in-None
-returns-in-None c = kind_no_row c.args.word.now c.args.rest.now c.requires c.in-None.ensures
