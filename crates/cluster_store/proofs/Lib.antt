@@ -14,3 +14,4 @@ pub mod Kept
 pub mod Lent
 pub mod Unique
 pub mod Changed
+pub mod Orders

@@ -20,10 +20,10 @@ less_not_equal : Less ≡ Equal → ⊥
 less_not_equal e = cc
 
 module _ {A : Type 0} (key : A → Key) where
-  both_before : (x y : A) → key_cmp (key x) (key y) ≡ Less → key_cmp (key y) (key x) ≡ Less → ⊥
+  pub both_before : (x y : A) → key_cmp (key x) (key y) ≡ Less → key_cmp (key y) (key x) ≡ Less → ⊥
   both_before x y p q = less_not_greater (sym q ∙ key_cmp_total.antisymm (key y) (key x) ∙ ap ordering_reverse p)
 
-  before_itself : (x : A) → key_cmp (key x) (key x) ≡ Less → ⊥
+  pub before_itself : (x : A) → key_cmp (key x) (key x) ≡ Less → ⊥
   before_itself x p = less_not_equal (sym p ∙ tied_itself key_cmp_total (key x))
 
   pub behind_first : (x y : A) (xs : List A) → IsInOrder key (x ∷ xs) → Contains xs y → key_cmp (key x) (key y) ≡ Less

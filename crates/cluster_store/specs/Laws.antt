@@ -29,11 +29,13 @@ LevelsArePicked =
     (most : ℕ) (store : Store) (level : Level) (rate : ℕ → Sum) (graphs : List (Graph × ℕ)) (whole : Graph) → IsStore most store
     → AreGraphs level store.clusters rate graphs → IsUnion graphs whole → IsPick rate whole (parts_of_level level store)
 
--- There is one order of the parts of a store's clusters. Where some clusters go out, come in or change their levels, the parts of the others
--- keep their order.
+-- the cluster of a number, if it has one, stands under it still, whatever the levels
+abbrev pub Stays : Numbered → Numbered → ℕ → Type 0
+Stays old new number = (s : Stored) → finmap.get old number ≡ Some s → (t : Stored) × (finmap.get new number ≡ Some t) × (t.cluster ≡ s.cluster)
+
+-- There is one order of the parts of a store's clusters. Where some clusters go out, come in or change their levels, the parts of those that
+-- stay keep their order, also among equal rates.
 pub record OrdersAreKept : Type 0 where
   pub one : (clusters : Numbered) (a b : List (ℕ × ℕ)) → IsOrdered clusters a → IsOrdered clusters b → a ≡ b
   pub kept : (old new : Store) → IsOrdered old.clusters old.order → IsOrdered new.clusters new.order → (x y : ℕ × ℕ)
-      → ((s : Stored) → finmap.get old.clusters x.0 ≡ Some s → (t : Stored) × (finmap.get new.clusters x.0 ≡ Some t) × (t.cluster ≡ s.cluster))
-      → ((s : Stored) → finmap.get old.clusters y.0 ≡ Some s → (t : Stored) × (finmap.get new.clusters y.0 ≡ Some t) × (t.cluster ≡ s.cluster))
-      → Precedes old.order x y → Precedes new.order x y
+      → Stays old.clusters new.clusters x.0 → Stays old.clusters new.clusters y.0 → Precedes old.order x y → Precedes new.order x y

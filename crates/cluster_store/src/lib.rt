@@ -9,7 +9,7 @@ mod store;
 mod stored;
 mod walk;
 
-pub use laws::{levels_are_picked, orders_are_kept};
+pub use laws::orders_are_kept;
 pub use store::ClusterStore;
 pub use stored::{Exchange, Move, Stored};
 pub use walk::{PartWalk, Parts, ShownPart};
