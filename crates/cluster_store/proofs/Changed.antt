@@ -40,8 +40,8 @@ pub store_same : (slots slots' : Slots) (items items' : Items) (least : ℕ) →
 store_same slots slots' items items' least shown shown' order order' same =
     let clusters : shelved slots' ≡ shelved slots = same_shelved slots' slots same in
     let places : map place_of items' ≡ map place_of items =
-        one_order (shelved slots) (map place_of items') (map place_of items)
-        (subst (λ (m : Numbered). IsOrdered m (map place_of items')) clusters (is_ordered slots' items' shown' order')) (is_ordered slots items shown order) in
+    one_order (shelved slots) (map place_of items') (map place_of items)
+    (subst (λ (m : Numbered). IsOrdered m (map place_of items')) clusters (is_ordered slots' items' shown' order')) (is_ordered slots items shown order) in
     ap (λ (m : Numbered). record { clusters = m; order = map place_of items'; least = least }) clusters
     ∙ ap (λ (ps : List (ℕ × ℕ)). record { clusters = shelved slots; order = ps; least = least }) places
 
@@ -215,12 +215,12 @@ kept_changed w exchanged moves old clusters is there added numbers cur adds mid 
       let low : all ≤ first = lowest_in_le (map (λ (s : Stored). s.cluster) added) first in
       origin exchanged moves old clusters is there added numbers cur adds mid done new moved (λ c. (id : ℕ) → Contains c.names id → all ≤ (rate_of c.graph id).size)
       (λ x here id named.
-          let one = lowest_in_each (map (λ (y : Exchange). y.cluster) exchanged) least x.cluster id (Contains-map (λ (y : Exchange). y.cluster) exchanged x here) named in
-          omega (arith, one, low))
+      let one = lowest_in_each (map (λ (y : Exchange). y.cluster) exchanged) least x.cluster id (Contains-map (λ (y : Exchange). y.cluster) exchanged x here) named in
+      omega (arith, one, low))
       (λ a here id named.
-          lowest_in_each (map (λ (s : Stored). s.cluster) added) first a.cluster id (Contains-map (λ (s : Stored). s.cluster) added a here) named)
+      lowest_in_each (map (λ (s : Stored). s.cluster) added) first a.cluster id (Contains-map (λ (s : Stored). s.cluster) added a here) named)
       (λ n t here id named.
-          let one = kept.floor n t here id named in
-          let two = lowest_in_le (map (λ (y : Exchange). y.cluster) exchanged) least in
-          omega (arith, one, two, low));
+      let one = kept.floor n t here id named in
+      let two = lowest_in_le (map (λ (y : Exchange). y.cluster) exchanged) least in
+      omega (arith, one, two, low));
 }

@@ -117,7 +117,7 @@ found-tagged (x ∷ xs) e t k = by (same_key (item_key x) (key_of e)) refl (same
     by true h false s rest = rw (h, s) rest
     by false h true s rest =
         let there : same_key (key_of e) k ≡ false =
-            same_turned (key_of e) k ∙ ap (λ (l : Key). same_key l (key_of e)) (sym (same_is (item_key x) k s)) ∙ h in
+        same_turned (key_of e) k ∙ ap (λ (l : Key). same_key l (key_of e)) (sym (same_is (item_key x) k s)) ∙ h in
         rw (h, s, there) refl
     by false h false s rest = rw (h, s) rest
 

@@ -48,10 +48,10 @@ key_here number position part k serial at is =
     let fee : part.rate.fee ≡ k.rate.fee = (signed_Decides part.rate.fee k.rate.fee).0 both.0 in
     let size : part.rate.size ≡ k.rate.size = (unsigned_Decides part.rate.size k.rate.size).0 both.1 in
     let same : of_fields part.rate.fee part.rate.size number position ≡ of_fields k.rate.fee k.rate.size k.serial k.position =
-        ap (λ (f : ℤ). of_fields f part.rate.size number position) fee
-        ∙ ap (λ (s : ℕ). of_fields k.rate.fee s number position) size
-        ∙ ap (λ (s : ℕ). of_fields k.rate.fee k.rate.size s position) (sym serial)
-        ∙ ap (λ (s : ℕ). of_fields k.rate.fee k.rate.size k.serial s) (sym at) in
+    ap (λ (f : ℤ). of_fields f part.rate.size number position) fee
+    ∙ ap (λ (s : ℕ). of_fields k.rate.fee s number position) size
+    ∙ ap (λ (s : ℕ). of_fields k.rate.fee k.rate.size s position) (sym serial)
+    ∙ ap (λ (s : ℕ). of_fields k.rate.fee k.rate.size k.serial s) (sym at) in
     same
 
 -- one part more
@@ -63,7 +63,7 @@ has_rate-more n i ps part k here serial = elim (cases_eq k.position i) [
   | inr other ↦
       let more : slice_get (take (i + 1) ps) k.position ≡ slice_get (take i ps) k.position = around k.position other in
       let apart : same_key (key_part n i part) k ≡ false =
-          false_from_ne_true (same_key (key_part n i part) k) (λ s. other (sym (ap (λ (l : Key). l.position) (same_is (key_part n i part) k s)))) in
+      false_from_ne_true (same_key (key_part n i part) k) (λ s. other (sym (ap (λ (l : Key). l.position) (same_is (key_part n i part) k s)))) in
       ap (is_rate k.rate) more ∙ rw apart (sym (or_false (is_rate k.rate (slice_get (take i ps) k.position))))
 ]
   where

@@ -15,3 +15,5 @@ pub mod Lent
 pub mod Unique
 pub mod Changed
 pub mod Orders
+pub mod Rates
+pub mod Levels

@@ -76,7 +76,7 @@ orders_kept old new first second x y x_stays y_stays before =
     let whole = before.2 in
     let x_in : Contains old.order x = subst (λ (ps : List (ℕ × ℕ)). Contains ps x) (sym whole) (Contains-append_left before.0 (y ∷ before.1) x before.3) in
     let y_in : Contains old.order y =
-        subst (λ (ps : List (ℕ × ℕ)). Contains ps y) (sym whole) (Contains-append_right before.0 (y ∷ before.1) y (Contains-head y before.1)) in
+    subst (λ (ps : List (ℕ × ℕ)). Contains ps y) (sym whole) (Contains-append_right before.0 (y ∷ before.1) y (Contains-head y before.1)) in
     let less = precedes_less (key_at old.clusters) before.0 before.1 x y (subst (IsInOrder (key_at old.clusters)) whole first.sorted) before.3 in
     less_precedes (key_at new.clusters) new.order x y second.sorted (still_there old new first second x x_stays x_in) (still_there old new first second y y_stays y_in)
     (ap (λ (k : Key). key_cmp k (key_at new.clusters y)) (still_keyed old new first second x x_stays x_in)

@@ -55,27 +55,31 @@ module _ (slots : Slots) (items : Items) (shown : IsShown slots items) (n : ℕ)
     elsewhere k other = shown.tags k ∙ ap (λ o. tag_for o k) (sym (others k.serial other))
 
     pub shown_added : (s : Stored) → at slots n ≡ None → at slots' n ≡ Some s → Enters n s.tag s.cluster.parts [] items items' → IsShown slots' items'
-    shown_added s free is enters = record { tags = λ k. elim (cases_eq k.serial n) [
-      | inl serial ↦
-          enters.tags k ∙ ap (λ b. cond b (Some s.tag) (found items k)) (fresh_alone n s.cluster.parts k serial)
-          ∙ ap (λ o. cond (has_rate s.cluster.parts k) (Some s.tag) o) (tag_there None free k serial)
-          ∙ sym (ap (λ m. tag_for (at slots' m) k) serial ∙ ap (λ p. tag_for p k) is)
-      | inr other ↦ enters.tags k ∙ ap (λ b. cond b (Some s.tag) (found items k)) (fresh_elsewhere n s.cluster.parts [] k other) ∙ elsewhere k other
-    ] }
+    shown_added s free is enters = record {
+      tags = λ k. elim (cases_eq k.serial n) [
+        | inl serial ↦
+            enters.tags k ∙ ap (λ b. cond b (Some s.tag) (found items k)) (fresh_alone n s.cluster.parts k serial)
+            ∙ ap (λ o. cond (has_rate s.cluster.parts k) (Some s.tag) o) (tag_there None free k serial)
+            ∙ sym (ap (λ m. tag_for (at slots' m) k) serial ∙ ap (λ p. tag_for p k) is)
+        | inr other ↦ enters.tags k ∙ ap (λ b. cond b (Some s.tag) (found items k)) (fresh_elsewhere n s.cluster.parts [] k other) ∙ elsewhere k other
+      ];
+    }
 
     gone : (b : Bool) (t : Tag) → cond b None (cond b (Some t) None) ≡ None
     gone true t = refl
     gone false t = refl
 
     pub shown_removed : (s : Stored) → at slots n ≡ Some s → at slots' n ≡ None → Leaves n s.cluster.parts [] items items' → IsShown slots' items'
-    shown_removed s is free leaves = record { tags = λ k. elim (cases_eq k.serial n) [
-      | inl serial ↦
-          leaves.tags k ∙ ap (λ b. cond b None (found items k)) (fresh_alone n s.cluster.parts k serial)
-          ∙ ap (λ o. cond (has_rate s.cluster.parts k) None o) (tag_there (Some s) is k serial)
-          ∙ gone (has_rate s.cluster.parts k) s.tag
-          ∙ sym (ap (λ m. tag_for (at slots' m) k) serial ∙ ap (λ p. tag_for p k) free)
-      | inr other ↦ leaves.tags k ∙ ap (λ b. cond b None (found items k)) (fresh_elsewhere n s.cluster.parts [] k other) ∙ elsewhere k other
-    ] }
+    shown_removed s is free leaves = record {
+      tags = λ k. elim (cases_eq k.serial n) [
+        | inl serial ↦
+            leaves.tags k ∙ ap (λ b. cond b None (found items k)) (fresh_alone n s.cluster.parts k serial)
+            ∙ ap (λ o. cond (has_rate s.cluster.parts k) None o) (tag_there (Some s) is k serial)
+            ∙ gone (has_rate s.cluster.parts k) s.tag
+            ∙ sym (ap (λ m. tag_for (at slots' m) k) serial ∙ ap (λ p. tag_for p k) free)
+        | inr other ↦ leaves.tags k ∙ ap (λ b. cond b None (found items k)) (fresh_elsewhere n s.cluster.parts [] k other) ∙ elsewhere k other
+      ];
+    }
 
     again : (b : Bool) (t u : Tag) → cond b (Some t) (cond b (Some u) None) ≡ cond b (Some t) None
     again true t u = refl
@@ -83,14 +87,16 @@ module _ (slots : Slots) (items : Items) (shown : IsShown slots items) (n : ℕ)
 
     pub shown_tagged : (s : Stored) (t : Tag) → at slots n ≡ Some s → at slots' n ≡ Some (record { cluster = s.cluster; tag = t })
         → Enters n t s.cluster.parts [] items items' → IsShown slots' items'
-    shown_tagged s t is now enters = record { tags = λ k. elim (cases_eq k.serial n) [
-      | inl serial ↦
-          enters.tags k ∙ ap (λ b. cond b (Some t) (found items k)) (fresh_alone n s.cluster.parts k serial)
-          ∙ ap (λ o. cond (has_rate s.cluster.parts k) (Some t) o) (tag_there (Some s) is k serial)
-          ∙ again (has_rate s.cluster.parts k) t s.tag
-          ∙ sym (ap (λ m. tag_for (at slots' m) k) serial ∙ ap (λ p. tag_for p k) now)
-      | inr other ↦ enters.tags k ∙ ap (λ b. cond b (Some t) (found items k)) (fresh_elsewhere n s.cluster.parts [] k other) ∙ elsewhere k other
-    ] }
+    shown_tagged s t is now enters = record {
+      tags = λ k. elim (cases_eq k.serial n) [
+        | inl serial ↦
+            enters.tags k ∙ ap (λ b. cond b (Some t) (found items k)) (fresh_alone n s.cluster.parts k serial)
+            ∙ ap (λ o. cond (has_rate s.cluster.parts k) (Some t) o) (tag_there (Some s) is k serial)
+            ∙ again (has_rate s.cluster.parts k) t s.tag
+            ∙ sym (ap (λ m. tag_for (at slots' m) k) serial ∙ ap (λ p. tag_for p k) now)
+        | inr other ↦ enters.tags k ∙ ap (λ b. cond b (Some t) (found items k)) (fresh_elsewhere n s.cluster.parts [] k other) ∙ elsewhere k other
+      ];
+    }
 
 -- the same under other lists and indexes
 pub shown_alike : (slots slots' : Slots) (items items' : Items) → IsShown slots items → ((m : ℕ) → at slots' m ≡ at slots m)

@@ -56,7 +56,7 @@ module _ {A : Type 0} (key : A → Key) where
   ordered_once (x ∷ xs) (y ∷ ys) first second there back =
       let same : x ≡ y = first_same x y xs ys first second (there x (Contains-head x xs)) (back y (Contains-head y ys)) in
       let rest : xs ≡ ys =
-          ordered_once xs ys (rest_order x xs first) (rest_order y ys second) (rest_inside x y xs ys first same there) (rest_inside y x ys xs second (sym same) back) in
+      ordered_once xs ys (rest_order x xs first) (rest_order y ys second) (rest_inside x y xs ys first same there) (rest_inside y x ys xs second (sym same) back) in
       ap (λ (z : A). z ∷ xs) same ∙ ap (λ (zs : List A). y ∷ zs) rest
 
 pub one_order : (clusters : Numbered) (a b : List (ℕ × ℕ)) → IsOrdered clusters a → IsOrdered clusters b → a ≡ b

@@ -132,7 +132,7 @@ module _ (slots : Slots) (items : Items) (shown : IsShown slots items) (order : 
       all_less [] within less = tt
       all_less (y ∷ ys) within less = (
         ap (λ (k : Key). key_cmp k (key_at (shelved slots) (place_of y))) first_key
-        ∙ ap (key_cmp (item_key x)) (same_key_at y (within y (Contains-head y ys))) ∙ less.0,
+            ∙ ap (key_cmp (item_key x)) (same_key_at y (within y (Contains-head y ys))) ∙ less.0,
         all_less ys (λ i here. within i (Contains-later y i ys here)) less.1,
       )
 
@@ -141,8 +141,8 @@ module _ (slots : Slots) (items : Items) (shown : IsShown slots items) (order : 
       let one = map-Contains place_of items place here in
       let is = part_of_item one.0 one.1 in
       let low : one.0.0.position < length (parts_in (finmap.get (shelved slots) one.0.0.serial)) =
-          subst (λ o. one.0.0.position < length (parts_in o)) (sym (get_shelved slots one.0.0.serial ∙ is.there))
-          (slice_get_within is.stored.cluster.parts one.0.0.position is.part is.here) in
+      subst (λ o. one.0.0.position < length (parts_in o)) (sym (get_shelved slots one.0.0.serial ∙ is.there))
+      (slice_get_within is.stored.cluster.parts one.0.0.position is.part is.here) in
       subst (λ (p : ℕ × ℕ). p.1 < length (parts_in (finmap.get (shelved slots) p.0))) one.2 low
 
   low_found : (n position : ℕ) (o : Option Stored) → at slots n ≡ o → position < length (parts_in o) → Contains (map place_of items) (n, position)

@@ -73,24 +73,28 @@ module _ (slots : Slots) (xs : List Exchange) (y : Exchange) (apart : Contains (
 
   pub wide_more : (items items' : Items) → IsWide slots xs items → IsBeside slots y.number y.cluster.parts items' → KeepsElsewhere y.number items items'
       → IsWide slots (xs ++ y ∷ []) items'
-  wide_more items items' wide here others = record { tags = λ k. elim (cases_eq k.serial y.number) [
-    | inl serial ↦
-        here.tags k serial ∙ sym (ap (λ m. tag_wide (at slots m) (waiting_at (xs ++ y ∷ []) m) k) serial
-        ∙ ap (λ (ps : List Part). tag_wide (at slots y.number) ps k) (waiting_last xs y apart))
-    | inr other ↦ others k other ∙ wide.tags k ∙ ap (λ (ps : List Part). tag_wide (at slots k.serial) ps k) (sym (waiting_other xs y k.serial other))
-  ] }
+  wide_more items items' wide here others = record {
+    tags = λ k. elim (cases_eq k.serial y.number) [
+      | inl serial ↦
+          here.tags k serial ∙ sym (ap (λ m. tag_wide (at slots m) (waiting_at (xs ++ y ∷ []) m) k) serial
+          ∙ ap (λ (ps : List Part). tag_wide (at slots y.number) ps k) (waiting_last xs y apart))
+      | inr other ↦ others k other ∙ wide.tags k ∙ ap (λ (ps : List Part). tag_wide (at slots k.serial) ps k) (sym (waiting_other xs y k.serial other))
+    ];
+  }
 
   -- its entries went out, and under its number stands what stands there now
   pub wide_fewer : (slots' : Slots) (items items' : Items) → IsWide slots (xs ++ y ∷ []) items → ((m : ℕ) → m ≢ y.number → at slots' m ≡ at slots m)
       → IsBeside slots' y.number [] items' → KeepsElsewhere y.number items items' → IsWide slots' xs items'
-  wide_fewer slots' items items' wide same here others = record { tags = λ k. elim (cases_eq k.serial y.number) [
-    | inl serial ↦
-        here.tags k serial ∙ sym (ap (λ m. tag_wide (at slots' m) (waiting_at xs m) k) serial
-        ∙ ap (λ (ps : List Part). tag_wide (at slots' y.number) ps k) (waiting_none xs y.number apart))
-    | inr other ↦
-        others k other ∙ wide.tags k ∙ ap (λ (ps : List Part). tag_wide (at slots k.serial) ps k) (waiting_other xs y k.serial other)
-        ∙ ap (λ o. tag_wide o (waiting_at xs k.serial) k) (sym (same k.serial other))
-  ] }
+  wide_fewer slots' items items' wide same here others = record {
+    tags = λ k. elim (cases_eq k.serial y.number) [
+      | inl serial ↦
+          here.tags k serial ∙ sym (ap (λ m. tag_wide (at slots' m) (waiting_at xs m) k) serial
+          ∙ ap (λ (ps : List Part). tag_wide (at slots' y.number) ps k) (waiting_none xs y.number apart))
+      | inr other ↦
+          others k other ∙ wide.tags k ∙ ap (λ (ps : List Part). tag_wide (at slots k.serial) ps k) (waiting_other xs y k.serial other)
+          ∙ ap (λ o. tag_wide o (waiting_at xs k.serial) k) (sym (same k.serial other))
+    ];
+  }
 
 -- ---- the entries of one
 

@@ -1,7 +1,7 @@
 ghost use Rattle.std.specs.Prelude.{◌≡◌};
 
-use chunk_index::Tag;
 use crate::walk::Parts;
+use chunk_index::Tag;
 use cluster::{Cluster, PartRef};
 use std::marker::Model;
 use std::mem;

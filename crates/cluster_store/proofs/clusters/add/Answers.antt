@@ -22,9 +22,9 @@ returns-clause-shown g c =
     let free : at c.args.slots.now.slots n ≡ None = ap (λ (s : Slots). at s n) (sym same) ∙ c.vacant_key-number.ensures.vacant in
     let here : c.insert_reserved.result ≡ n = c.insert_reserved.ensures.key ∙ sym c.vacant_key-number.ensures.value in
     let is : at c.insert_reserved.new.self.slots n ≡ Some c.args.stored =
-        ap (at c.insert_reserved.new.self.slots) (sym here) ∙ c.insert_reserved.ensures.updates.changed in
+    ap (at c.insert_reserved.new.self.slots) (sym here) ∙ c.insert_reserved.ensures.updates.changed in
     let enters : Enters n c.args.stored.tag c.args.stored.cluster.parts [] c.args.index.now c.enter.new.index =
-        subst (λ (t : Tag). Enters n t c.args.stored.cluster.parts [] c.args.index.now c.enter.new.index) c.tag.ensures
-        (subst (λ (x : Cluster). Enters n c.tag.result x.parts [] c.args.index.now c.enter.new.index) c.cluster.ensures c.in_ok-enter.ensures.ok) in
+    subst (λ (t : Tag). Enters n t c.args.stored.cluster.parts [] c.args.index.now c.enter.new.index) c.tag.ensures
+    (subst (λ (x : Cluster). Enters n c.tag.result x.parts [] c.args.index.now c.enter.new.index) c.cluster.ensures c.in_ok-enter.ensures.ok) in
     shown_added c.args.slots.now.slots c.args.index.now c.requires n c.insert_reserved.new.self.slots c.enter.new.index
     (λ m other. c.insert_reserved.ensures.updates.others m (λ e. other (e ∙ here)) ∙ ap (λ (s : Slots). at s m) same) c.args.stored free is enters

@@ -15,10 +15,15 @@ loop-stored-init g c = record {
 }
 
 pub take_all-requires : goal.take_all-requires
-take_all-requires g c = (search rules, (c.in-Err.ensures.shown,
+take_all-requires g c = (
+  search rules,
+  (
+    c.in-Err.ensures.shown,
     adds_stored c.loop-stored.yielded c.add_next.new.numbers.items c.args.slots.now.slots c.add_next.new.slots.slots
-    (adds_same c.loop-stored.yielded c.loop-stored.numbers.items c.args.slots.now.slots c.loop-stored.slots.slots c.loop-stored.invariant.adds
-    c.add_next.new.numbers.items c.add_next.new.slots.slots c.in-Err.ensures.numbers c.in-Err.ensures.err)))
+        (adds_same c.loop-stored.yielded c.loop-stored.numbers.items c.args.slots.now.slots c.loop-stored.slots.slots c.loop-stored.invariant.adds
+        c.add_next.new.numbers.items c.add_next.new.slots.slots c.in-Err.ensures.numbers c.in-Err.ensures.err),
+  ),
+)
 
 pub returns-in-Err-clause-err : goal.returns-in-Err-clause-err
 returns-in-Err-clause-err g c =
@@ -39,7 +44,7 @@ loop-stored-preserved g c = record {
 pub returns-clause-ok : goal.returns-clause-ok
 returns-clause-ok g c =
     let none : c.loop-stored.stored-iterator.rest.items ≡ [] =
-        no_items c.loop-stored.stored-iterator.rest.items (sym c.loop-stored.stored-iterator.rest.ok.0 ∙ c.in-None.ensures.steps.0) in
+    no_items c.loop-stored.stored-iterator.rest.items (sym c.loop-stored.stored-iterator.rest.ok.0 ∙ c.in-None.ensures.steps.0) in
     let all : c.loop-stored.yielded ≡ c.args.added.items =
-        sym (append-nil c.loop-stored.yielded) ∙ ap (λ (xs : List Stored). c.loop-stored.yielded ++ xs) (sym none) ∙ c.loop-stored.invariant.split in
+    sym (append-nil c.loop-stored.yielded) ∙ ap (λ (xs : List Stored). c.loop-stored.yielded ++ xs) (sym none) ∙ c.loop-stored.invariant.split in
     subst (λ (xs : List Stored). AddsTo xs c.loop-stored.numbers.items c.args.slots.now.slots c.loop-stored.slots.slots) all c.loop-stored.invariant.adds

@@ -10,11 +10,13 @@ pub enter-requires : goal.enter-requires
 enter-requires g c =
     let x = c.args.exchange.now in
     let s = c.at-stored.result.now in
-    let is : at c.args.slots.now.slots x.number ≡ Some s = ap (at c.args.slots.now.slots) (sym c.number.ensures) ∙ c.at-stored.ensures in
-    (search rules, λ k f.
-        enter_lacks c.args.slots.now.slots x.number s is x.cluster.parts c.args.index.now c.requires.absent k
-        (fresh_same c.number-2.result x.number c.cluster.result.now.parts x.cluster.parts c.cluster-2.result.now.parts s.cluster.parts k c.number-2.ensures
-        (ap (λ (y : Cluster). y.parts) c.cluster.ensures) (ap (λ (y : Cluster). y.parts) c.cluster-2.ensures) f))
+    let is : at c.args.slots.now.slots x.number ≡ Some s = ap (at c.args.slots.now.slots) (sym c.number.ensures) ∙ c.at-stored.ensures in (
+      search rules,
+      λ k f.
+          enter_lacks c.args.slots.now.slots x.number s is x.cluster.parts c.args.index.now c.requires.absent k
+          (fresh_same c.number-2.result x.number c.cluster.result.now.parts x.cluster.parts c.cluster-2.result.now.parts s.cluster.parts k c.number-2.ensures
+          (ap (λ (y : Cluster). y.parts) c.cluster.ensures) (ap (λ (y : Cluster). y.parts) c.cluster-2.ensures) f),
+    )
 
 pub returns-clause-here : goal.returns-clause-here
 returns-clause-here g c =
@@ -22,17 +24,17 @@ returns-clause-here g c =
     let s = c.at-stored.result.now in
     let is : at c.args.slots.now.slots x.number ≡ Some s = ap (at c.args.slots.now.slots) (sym c.number.ensures) ∙ c.at-stored.ensures in
     on_ok c.enter.result c.enter.ensures.ok (λ enters.
-        enters_beside c.args.slots.now.slots x.number s is x.cluster.parts c.args.index.now c.enter.new.index c.requires.absent
-        (enters_same c.number-2.result x.number c.tag.result s.tag c.cluster.result.now.parts x.cluster.parts c.cluster-2.result.now.parts s.cluster.parts
-        c.args.index.now c.enter.new.index c.number-2.ensures c.tag.ensures (ap (λ (y : Cluster). y.parts) c.cluster.ensures)
-        (ap (λ (y : Cluster). y.parts) c.cluster-2.ensures) enters))
+    enters_beside c.args.slots.now.slots x.number s is x.cluster.parts c.args.index.now c.enter.new.index c.requires.absent
+    (enters_same c.number-2.result x.number c.tag.result s.tag c.cluster.result.now.parts x.cluster.parts c.cluster-2.result.now.parts s.cluster.parts
+    c.args.index.now c.enter.new.index c.number-2.ensures c.tag.ensures (ap (λ (y : Cluster). y.parts) c.cluster.ensures)
+    (ap (λ (y : Cluster). y.parts) c.cluster-2.ensures) enters))
 
 pub returns-clause-others : goal.returns-clause-others
 returns-clause-others g c =
     let x = c.args.exchange.now in
     let s = c.at-stored.result.now in
     on_ok c.enter.result c.enter.ensures.ok (λ enters.
-        keeps_entered x.number s.tag x.cluster.parts s.cluster.parts c.args.index.now c.enter.new.index
-        (enters_same c.number-2.result x.number c.tag.result s.tag c.cluster.result.now.parts x.cluster.parts c.cluster-2.result.now.parts s.cluster.parts
-        c.args.index.now c.enter.new.index c.number-2.ensures c.tag.ensures (ap (λ (y : Cluster). y.parts) c.cluster.ensures)
-        (ap (λ (y : Cluster). y.parts) c.cluster-2.ensures) enters))
+    keeps_entered x.number s.tag x.cluster.parts s.cluster.parts c.args.index.now c.enter.new.index
+    (enters_same c.number-2.result x.number c.tag.result s.tag c.cluster.result.now.parts x.cluster.parts c.cluster-2.result.now.parts s.cluster.parts
+    c.args.index.now c.enter.new.index c.number-2.ensures c.tag.ensures (ap (λ (y : Cluster). y.parts) c.cluster.ensures)
+    (ap (λ (y : Cluster). y.parts) c.cluster-2.ensures) enters))

@@ -15,11 +15,16 @@ leave-requires g c =
     let is : at c.args.slots.now.slots x.number ≡ Some s = ap (at c.args.slots.now.slots) (sym c.number.ensures) ∙ c.at.ensures in
     let low : length c.cluster-cluster.result.now.parts ≤ c.part_count-count.result = omega (arith, c.part_count-count.ensures) in
     let all : take c.part_count-count.result c.cluster-cluster.result.now.parts ≡ x.cluster.parts =
-        take_all c.part_count-count.result c.cluster-cluster.result.now.parts low ∙ ap (λ (y : Cluster). y.parts) c.cluster-cluster.ensures in
-    (search rules, (omega (arith, c.part_count-count.ensures), λ k f.
-        leave_has c.args.slots.now.slots x.number s is x.cluster.parts c.args.index.now c.requires.wide k
-        (fresh_same c.number-2.result x.number (take c.part_count-count.result c.cluster-cluster.result.now.parts) x.cluster.parts c.cluster-other.result.now.parts
-        s.cluster.parts k c.number-2.ensures all (ap (λ (y : Cluster). y.parts) c.cluster-other.ensures) f)))
+    take_all c.part_count-count.result c.cluster-cluster.result.now.parts low ∙ ap (λ (y : Cluster). y.parts) c.cluster-cluster.ensures in (
+      search rules,
+      (
+        omega (arith, c.part_count-count.ensures),
+        λ k f.
+            leave_has c.args.slots.now.slots x.number s is x.cluster.parts c.args.index.now c.requires.wide k
+            (fresh_same c.number-2.result x.number (take c.part_count-count.result c.cluster-cluster.result.now.parts) x.cluster.parts c.cluster-other.result.now.parts
+            s.cluster.parts k c.number-2.ensures all (ap (λ (y : Cluster). y.parts) c.cluster-other.ensures) f),
+      ),
+    )
 
 pub returns-clause-here : goal.returns-clause-here
 returns-clause-here g c =
@@ -28,7 +33,7 @@ returns-clause-here g c =
     let is : at c.args.slots.now.slots x.number ≡ Some s = ap (at c.args.slots.now.slots) (sym c.number.ensures) ∙ c.at.ensures in
     let low : length c.cluster-cluster.result.now.parts ≤ c.part_count-count.result = omega (arith, c.part_count-count.ensures) in
     let all : take c.part_count-count.result c.cluster-cluster.result.now.parts ≡ x.cluster.parts =
-        take_all c.part_count-count.result c.cluster-cluster.result.now.parts low ∙ ap (λ (y : Cluster). y.parts) c.cluster-cluster.ensures in
+    take_all c.part_count-count.result c.cluster-cluster.result.now.parts low ∙ ap (λ (y : Cluster). y.parts) c.cluster-cluster.ensures in
     leaves_beside c.args.slots.now.slots x.number s is x.cluster.parts c.args.index.now c.leave.new.index c.requires.wide
     (leaves_same c.number-2.result x.number (take c.part_count-count.result c.cluster-cluster.result.now.parts) x.cluster.parts c.cluster-other.result.now.parts
     s.cluster.parts c.args.index.now c.leave.new.index c.number-2.ensures all (ap (λ (y : Cluster). y.parts) c.cluster-other.ensures) c.leave.ensures)
@@ -39,5 +44,5 @@ returns-clause-others g c =
     let ps = take c.part_count-count.result c.cluster-cluster.result.now.parts in
     let qs = c.cluster-other.result.now.parts in
     let there : Leaves x.number ps qs c.args.index.now c.leave.new.index =
-        leaves_same c.number-2.result x.number ps ps qs qs c.args.index.now c.leave.new.index c.number-2.ensures refl refl c.leave.ensures in
+    leaves_same c.number-2.result x.number ps ps qs qs c.args.index.now c.leave.new.index c.number-2.ensures refl refl c.leave.ensures in
     keeps_left x.number ps qs c.args.index.now c.leave.new.index there

@@ -19,13 +19,18 @@ leave-requires g c =
     let is : at slots x.number ≡ Some s = ap (at slots) (sym c.into_parts-number.ensures.number) ∙ sym c.in-Some.ensures.value in
     let low : length c.replace-gone.result.parts ≤ c.part_count-count.result = omega (arith, c.part_count-count.ensures) in
     let all : take c.part_count-count.result c.replace-gone.result.parts ≡ s.cluster.parts =
-        take_all c.part_count-count.result c.replace-gone.result.parts low ∙ ap (λ (y : Cluster). y.parts) c.replace-gone.ensures.old in
+    take_all c.part_count-count.result c.replace-gone.result.parts low ∙ ap (λ (y : Cluster). y.parts) c.replace-gone.ensures.old in
     let new : c.cluster.result.now.parts ≡ x.cluster.parts =
-        ap (λ (y : Cluster). y.parts) (c.cluster.ensures ∙ ap (λ (t : Stored). t.cluster) c.replace-gone.ensures.new ∙ c.into_parts-number.ensures.cluster) in
-    (search rules, (omega (arith, c.part_count-count.ensures), λ k f.
-        gone_has slots x.number s is x.cluster.parts c.args.index.now c.requires.wide k
-        (fresh_same c.into_parts-number.result.0 x.number (take c.part_count-count.result c.replace-gone.result.parts) s.cluster.parts c.cluster.result.now.parts
-        x.cluster.parts k c.into_parts-number.ensures.number all new f)))
+    ap (λ (y : Cluster). y.parts) (c.cluster.ensures ∙ ap (λ (t : Stored). t.cluster) c.replace-gone.ensures.new ∙ c.into_parts-number.ensures.cluster) in (
+      search rules,
+      (
+        omega (arith, c.part_count-count.ensures),
+        λ k f.
+            gone_has slots x.number s is x.cluster.parts c.args.index.now c.requires.wide k
+            (fresh_same c.into_parts-number.result.0 x.number (take c.part_count-count.result c.replace-gone.result.parts) s.cluster.parts c.cluster.result.now.parts
+            x.cluster.parts k c.into_parts-number.ensures.number all new f),
+      ),
+    )
 
 pub returns-clause-placed : goal.returns-clause-placed
 returns-clause-placed g c =
@@ -36,7 +41,7 @@ returns-clause-placed g c =
     let number : n ≡ x.number = c.into_parts-number.ensures.number in
     let is : at slots n ≡ Some s = sym c.in-Some.ensures.value in
     let put : c.replace-gone.new.self ≡ record { cluster = x.cluster; tag = s.tag } =
-        c.replace-gone.ensures.new ∙ ap (λ (y : Cluster). record { cluster = y; tag = s.tag }) c.into_parts-number.ensures.cluster in
+    c.replace-gone.ensures.new ∙ ap (λ (y : Cluster). record { cluster = y; tag = s.tag }) c.into_parts-number.ensures.cluster in
     subst (λ (m : ℕ). Sets slots (set slots n (Some c.replace-gone.new.self)) m (with_cluster x.cluster (at slots m))) number
     (record {
       changed = set_here slots n s c.replace-gone.new.self is ∙ ap Some put ∙ sym (ap (with_cluster x.cluster) is);
@@ -53,10 +58,10 @@ returns-clause-here g c =
     let is : at slots x.number ≡ Some s = ap (at slots) (sym number) ∙ sym c.in-Some.ensures.value in
     let low : length c.replace-gone.result.parts ≤ c.part_count-count.result = omega (arith, c.part_count-count.ensures) in
     let all : take c.part_count-count.result c.replace-gone.result.parts ≡ s.cluster.parts =
-        take_all c.part_count-count.result c.replace-gone.result.parts low ∙ ap (λ (y : Cluster). y.parts) c.replace-gone.ensures.old in
+    take_all c.part_count-count.result c.replace-gone.result.parts low ∙ ap (λ (y : Cluster). y.parts) c.replace-gone.ensures.old in
     let cluster : c.replace-gone.new.self.cluster ≡ x.cluster = ap (λ (t : Stored). t.cluster) c.replace-gone.ensures.new ∙ c.into_parts-number.ensures.cluster in
     let now : at (set slots n (Some c.replace-gone.new.self)) x.number ≡ Some c.replace-gone.new.self =
-        ap (at (set slots n (Some c.replace-gone.new.self))) (sym number) ∙ set_here slots n s c.replace-gone.new.self (sym c.in-Some.ensures.value) in
+    ap (at (set slots n (Some c.replace-gone.new.self))) (sym number) ∙ set_here slots n s c.replace-gone.new.self (sym c.in-Some.ensures.value) in
     replaces slots x.number s is x.cluster.parts c.args.index.now (set slots n (Some c.replace-gone.new.self)) c.replace-gone.new.self c.leave.new.index now
     (ap (λ (y : Cluster). y.parts) cluster) (ap (λ (t : Stored). t.tag) c.replace-gone.ensures.new) c.requires.wide
     (leaves_same n x.number (take c.part_count-count.result c.replace-gone.result.parts) s.cluster.parts c.cluster.result.now.parts x.cluster.parts
@@ -68,5 +73,5 @@ returns-clause-others g c =
     let ps = take c.part_count-count.result c.replace-gone.result.parts in
     let qs = c.cluster.result.now.parts in
     let there : Leaves c.args.exchange.number ps qs c.args.index.now c.leave.new.index =
-        leaves_same n c.args.exchange.number ps ps qs qs c.args.index.now c.leave.new.index c.into_parts-number.ensures.number refl refl c.leave.ensures in
+    leaves_same n c.args.exchange.number ps ps qs qs c.args.index.now c.leave.new.index c.into_parts-number.ensures.number refl refl c.leave.ensures in
     keeps_left c.args.exchange.number ps qs c.args.index.now c.leave.new.index there

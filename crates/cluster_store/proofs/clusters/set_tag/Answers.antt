@@ -9,17 +9,19 @@ use Rattle.cluster_store.proofs.clusters.set_tag.Goals as goal
 
 pub retag-requires : goal.retag-requires
 retag-requires g c =
-    let is : at c.args.slots.now.slots c.args.number ≡ Some c.in-Some.stored.now = sym c.in-Some.ensures.value in
-    (search rules, λ k f.
-        stored_there c.args.slots.now.slots c.args.index.now c.requires.shown c.args.number c.in-Some.stored.now is [] k
-        (subst (λ (x : Cluster). fresh c.args.number x.parts [] k ≡ true) c.cluster.ensures f))
+    let is : at c.args.slots.now.slots c.args.number ≡ Some c.in-Some.stored.now = sym c.in-Some.ensures.value in (
+      search rules,
+      λ k f.
+          stored_there c.args.slots.now.slots c.args.index.now c.requires.shown c.args.number c.in-Some.stored.now is [] k
+          (subst (λ (x : Cluster). fresh c.args.number x.parts [] k ≡ true) c.cluster.ensures f),
+    )
 
 pub returns-clause-shown : goal.returns-clause-shown
 returns-clause-shown g c =
     let slots = c.args.slots.now.slots in
     let is : at slots c.args.number ≡ Some c.in-Some.stored.now = sym c.in-Some.ensures.value in
     let enters : Enters c.args.number c.args.tag c.in-Some.stored.now.cluster.parts [] c.args.index.now c.retag.new.index =
-        subst (λ (x : Cluster). Enters c.args.number c.args.tag x.parts [] c.args.index.now c.retag.new.index) c.cluster.ensures c.retag.ensures in
+    subst (λ (x : Cluster). Enters c.args.number c.args.tag x.parts [] c.args.index.now c.retag.new.index) c.cluster.ensures c.retag.ensures in
     shown_tagged slots c.args.index.now c.requires.shown c.args.number (set slots c.args.number (Some c.set_tag.new.self)) c.retag.new.index
     (λ m other. set_other slots c.args.number m c.set_tag.new.self other) c.in-Some.stored.now c.args.tag is
     (set_here slots c.args.number c.in-Some.stored.now c.set_tag.new.self is ∙ ap Some c.set_tag.ensures) enters

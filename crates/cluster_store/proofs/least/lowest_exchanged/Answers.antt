@@ -16,7 +16,7 @@ loop-at-preserved g c =
     let below : c.loop-at.at < length xs = omega arith in
     let here : x ≡ get_or xs c.loop-at.at x = c.index-exchanged-at.is in
     let cut : drop c.loop-at.at xs ≡ x ∷ drop (suc c.loop-at.at) xs =
-        drop-cons xs c.loop-at.at x below ∙ ap (λ (y : Exchange). y ∷ drop (suc c.loop-at.at) xs) (sym here) in
+    drop-cons xs c.loop-at.at x below ∙ ap (λ (y : Exchange). y ∷ drop (suc c.loop-at.at) xs) (sym here) in
     let most = λ (d : Cluster). lowest (λ id. (rate_of d.graph id).size) d.names c.loop-at.lowest in
     let result : c.lowest_of-lowest.result ≡ most x.cluster = c.lowest_of-lowest.ensures.least ∙ ap most c.cluster.ensures in
     let whole : IsCluster (64 * g.row.W) x.cluster = subst (IsCluster (64 * g.row.W)) c.cluster.ensures c.lowest_of-lowest.ensures.whole in

@@ -21,18 +21,29 @@ returns-in-Err-clause-err g c =
 
 pub exchange_all-requires : goal.exchange_all-requires
 exchange_all-requires g c =
-    let narrow : g.row.W ≤ 64 = c.self.invariant.narrow in
-    (search rules, (search rules, (c.in-Ok.ensures.shown,
-    exchanged_stored c.args.exchanged.items c.args.moves.now c.self.inside.slots.slots c.args.self.now.clusters (ap (λ (s : Store). s.clusters) c.self.view_is) c.requires
-    c.args.added.items c.in-Ok.numbers.items c.add_all.new.slots.slots c.in-Ok.ensures.ok)))
+    let narrow : g.row.W ≤ 64 = c.self.invariant.narrow in (
+      search rules,
+      (
+        search rules,
+        (
+          c.in-Ok.ensures.shown,
+          exchanged_stored c.args.exchanged.items c.args.moves.now c.self.inside.slots.slots c.args.self.now.clusters (ap (λ (s : Store). s.clusters) c.self.view_is) c.requires
+              c.args.added.items c.in-Ok.numbers.items c.add_all.new.slots.slots c.in-Ok.ensures.ok,
+        ),
+      ),
+    )
 
 pub take_all-requires : goal.take_all-requires
 take_all-requires g c =
-    let narrow : g.row.W ≤ 64 = c.self.invariant.narrow in
-    (search rules, (c.in-Err-exchange_all.ensures.shown,
-    adds_stored c.args.added.items c.in-Ok.numbers.items c.self.inside.slots.slots c.exchange_all.new.slots.slots
-    (adds_same c.args.added.items c.in-Ok.numbers.items c.self.inside.slots.slots c.add_all.new.slots.slots c.in-Ok.ensures.ok c.in-Ok.numbers.items
-    c.exchange_all.new.slots.slots refl c.in-Err-exchange_all.ensures.err)))
+    let narrow : g.row.W ≤ 64 = c.self.invariant.narrow in (
+      search rules,
+      (
+        c.in-Err-exchange_all.ensures.shown,
+        adds_stored c.args.added.items c.in-Ok.numbers.items c.self.inside.slots.slots c.exchange_all.new.slots.slots
+            (adds_same c.args.added.items c.in-Ok.numbers.items c.self.inside.slots.slots c.add_all.new.slots.slots c.in-Ok.ensures.ok c.in-Ok.numbers.items
+            c.exchange_all.new.slots.slots refl c.in-Err-exchange_all.ensures.err),
+      ),
+    )
 
 pub invariant_of-self-in-Err-exchange_all : goal.invariant_of-self-in-Err-exchange_all
 invariant_of-self-in-Err-exchange_all g c =
@@ -51,19 +62,23 @@ returns-in-Err-exchange_all-clause-err g c =
 
 pub move_all-requires : goal.move_all-requires
 move_all-requires g c =
-    let narrow : g.row.W ≤ 64 = c.self.invariant.narrow in
-    (search rules, (c.in_default.ensures.shown,
-    moves_stored c.args.exchanged.items c.args.moves.now c.self.inside.slots.slots c.args.self.now.clusters (ap (λ (s : Store). s.clusters) c.self.view_is) c.requires
-    c.args.added.items c.in-Ok.numbers.items c.add_all.new.slots.slots c.in-Ok.ensures.ok c.exchange_all.new.slots.slots c.in_default.ensures.ok))
+    let narrow : g.row.W ≤ 64 = c.self.invariant.narrow in (
+      search rules,
+      (
+        c.in_default.ensures.shown,
+        moves_stored c.args.exchanged.items c.args.moves.now c.self.inside.slots.slots c.args.self.now.clusters (ap (λ (s : Store). s.clusters) c.self.view_is) c.requires
+            c.args.added.items c.in-Ok.numbers.items c.add_all.new.slots.slots c.in-Ok.ensures.ok c.exchange_all.new.slots.slots c.in_default.ensures.ok,
+      ),
+    )
 
 pub invariant_of-self-2 : goal.invariant_of-self-2
 invariant_of-self-2 g c =
     let first : c.lowest_exchanged-least.result ≡ lowest_in (map (λ (x : Exchange). x.cluster) c.args.exchanged.items) c.self.inside.least =
-        c.lowest_exchanged-least.ensures.least ∙ ap (λ (xs : List Exchange). lowest_in (map (λ (x : Exchange). x.cluster) xs) c.self.inside.least) c.as_slice.ensures.value in
+    c.lowest_exchanged-least.ensures.least ∙ ap (λ (xs : List Exchange). lowest_in (map (λ (x : Exchange). x.cluster) xs) c.self.inside.least) c.as_slice.ensures.value in
     let all : c.lowest_added-least.result
-        ≡ lowest_in (map (λ (s : Stored). s.cluster) c.args.added.items) (lowest_in (map (λ (x : Exchange). x.cluster) c.args.exchanged.items) c.self.inside.least) =
-        c.lowest_added-least.ensures.least ∙ ap (λ (xs : List Stored). lowest_in (map (λ (s : Stored). s.cluster) xs) c.lowest_exchanged-least.result) c.as_slice-2.ensures.value
-        ∙ ap (lowest_in (map (λ (s : Stored). s.cluster) c.args.added.items)) first in
+    ≡ lowest_in (map (λ (s : Stored). s.cluster) c.args.added.items) (lowest_in (map (λ (x : Exchange). x.cluster) c.args.exchanged.items) c.self.inside.least) =
+    c.lowest_added-least.ensures.least ∙ ap (λ (xs : List Stored). lowest_in (map (λ (s : Stored). s.cluster) xs) c.lowest_exchanged-least.result) c.as_slice-2.ensures.value
+    ∙ ap (lowest_in (map (λ (s : Stored). s.cluster) c.args.added.items)) first in
     subst (IsKept g.row.W c.move_all.new.slots.slots c.move_all.new.index) (sym all)
     (kept_changed g.row.W c.args.exchanged.items c.args.moves.now c.self.inside.slots.slots c.args.self.now.clusters (ap (λ (s : Store). s.clusters) c.self.view_is) c.requires
     c.args.added.items c.in-Ok.numbers.items c.add_all.new.slots.slots c.in-Ok.ensures.ok c.exchange_all.new.slots.slots c.in_default.ensures.ok
