@@ -1,16 +1,15 @@
 -- One cluster more under a number of its own.
-use Rattle.std.proofs.Common.{false, true, zero, suc, ◌≡◌, ◌≢◌, ℕ, ◌+◌, ◌<◌, ◌≤◌, List, [], ◌∷◌, ◌++◌, length, get_or, Option, None, Some, is_some, IsSome, Contains, inl, inr, ◌⊎◌, refl, sym, ap, ◌∙◌, subst, arith, length-append}
+use Rattle.std.proofs.Common.{false, true, zero, suc, ◌≡◌, ℕ, ◌+◌, ◌<◌, ◌≤◌, List, [], ◌∷◌, ◌++◌, length, get_or, Option, None, Some, is_some, IsSome, Contains, inl, inr, ◌⊎◌, refl, sym, ap, ◌∙◌, subst, arith}
 use Rattle.std.proofs.lemmas.Bool.{cases_lt, cases_eq}
 use Rattle.std.proofs.lemmas.List.{length_push, get_or_append_left, get_or_push}
 use Rattle.std.proofs.lemmas.List.Elements.{Contains-append_left, Contains-push, Contains-push_cases}
 use Rattle.std.proofs.lemmas.Option.{none-some, same_Some, slice_get_cases, slice_get-get_or, slice_get_within}
 use Rattle.std.specs.List.{slice_get, slice_index}
-use Rattle.lists.specs.Distinct.{AreDistinct}
 use Rattle.lists.proofs.Distinct.{distinct_push}
 use Rattle.lists.proofs.Entries.{Contains-head, Contains-later, Contains-cases, none_in_empty}
 use Rattle.cluster_store.specs.Stores.{Stored}
 use Rattle.cluster_store.specs.Kept.{Slots, at}
-use Rattle.cluster_store.specs.Slots.{Sets, AreStored, AreOut, AddsTo, AddsOne}
+use Rattle.cluster_store.specs.Slots.{AreStored, AreOut, AddsTo, AddsOne}
 use Rattle.cluster_store.proofs.Done.{map_same}
 
 -- a number is in a list or not

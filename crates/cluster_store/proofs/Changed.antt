@@ -1,20 +1,18 @@
 -- A whole change of the slots.
-use Rattle.std.proofs.Common.{false, true, ◌≡◌, ◌≢◌, ℕ, ◌*◌, ◌<◌, ◌≤◌, length, get_or, List, [], ◌∷◌, ◌++◌, map, min, Option, Some, None, is_some, IsSome, Contains, inl, inr, ◌⊎◌, refl, sym, ap, ◌∙◌, subst, arith}
+use Rattle.std.proofs.Common.{false, true, ◌≡◌, ℕ, ◌*◌, ◌<◌, ◌≤◌, length, get_or, List, [], ◌∷◌, map, min, Option, Some, None, is_some, IsSome, Contains, inl, inr, ◌⊎◌, sym, ap, ◌∙◌, subst, arith}
 use Rattle.std.proofs.lemmas.Option.{none-some, same_Some, slice_get_cases, slice_get_within}
 use Rattle.std.proofs.lemmas.List.Elements.{Contains-append_left, Contains-append_right, Contains-append_cases}
 use Rattle.std.specs.List.{slice_get, slice_index}
 use Rattle.std.specs.FinMap as finmap
-use Rattle.lists.specs.Distinct.{AreDistinct}
 use Rattle.lists.proofs.Distinct.{distinct-append_left, distinct-append_right, distinct_apart}
-use Rattle.lists.proofs.Entries.{map-Contains, Contains-map, Contains-head, Contains-later, Contains-cases, none_in_empty}
+use Rattle.lists.proofs.Entries.{map-Contains, Contains-map, Contains-cases, none_in_empty}
 use Rattle.graphs.specs.Closures.{rate_of}
-use Rattle.chunk_index.specs.declared.entry.Tag.{Tag}
 use Rattle.chunk_index.specs.Items.{Items, AreInOrder}
 use Rattle.cluster.specs.Clusters.{Cluster, IsCluster}
 use Rattle.cluster_store.specs.declared.stored.Move.{Move}
 use Rattle.cluster_store.specs.Stores.{Stored, Exchange, Store, Numbered, IsOrdered}
 use Rattle.cluster_store.specs.Changes.{moved_to, changing, lowest, lowest_in, MakesChange, AreThere}
-use Rattle.cluster_store.specs.Slots.{Done, AreStored, AddsTo, ExchangesAll, MovesAll, with_cluster}
+use Rattle.cluster_store.specs.Slots.{AreStored, AddsTo, ExchangesAll, MovesAll, with_cluster}
 use Rattle.cluster_store.specs.Kept.{Slots, at, shelved, place_of, IsShown, IsKept}
 use Rattle.cluster_store.proofs.Adds.{decide_in, listed_at, any_default}
 use Rattle.cluster_store.proofs.Kept.{moved_cluster}

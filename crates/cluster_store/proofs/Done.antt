@@ -1,11 +1,11 @@
 -- One more change of a list of changes, the last of those that are left, is done.
-use Rattle.std.proofs.Common.{false, true, ◌<◌, ◌↔◌, length, suc, get_or, take, drop, arith, ◌≡◌, ◌≢◌, ℕ, List, [], ◌∷◌, ◌++◌, map, Option, None, Some, IsSome, is_some, Contains, inl, inr, refl, sym, ap, ◌∙◌, subst, append_assoc}
+use Rattle.std.proofs.Common.{false, true, ◌<◌, ◌↔◌, length, suc, get_or, take, drop, arith, ◌≡◌, ℕ, List, [], ◌∷◌, ◌++◌, map, Option, None, Some, IsSome, is_some, Contains, inl, inr, refl, sym, ap, ◌∙◌, subst, append_assoc}
 use Rattle.std.proofs.lemmas.Bool.{cases_eq}
 use Rattle.std.proofs.Math.Seq.{take-suc}
 use Rattle.std.proofs.lemmas.List.{map-append, append-nil, take-append-drop}
-use Rattle.std.proofs.lemmas.List.Elements.{Contains-append_left, Contains-append_right, Contains-push}
+use Rattle.std.proofs.lemmas.List.Elements.{Contains-append_left, Contains-push}
 use Rattle.lists.specs.Distinct.{AreDistinct}
-use Rattle.lists.proofs.Distinct.{distinct-append_left, distinct-append_right, distinct_apart}
+use Rattle.lists.proofs.Distinct.{distinct-append_left, distinct_apart}
 use Rattle.lists.proofs.Entries.{Contains-head, Contains-later, Contains-cases, Contains-map, none_in_empty}
 use Rattle.cluster_store.specs.Stores.{Stored}
 use Rattle.cluster_store.specs.Kept.{Slots, at}

@@ -1,5 +1,5 @@
 -- What stands under a number, read from the slots.
-use Rattle.std.proofs.Common.{◌≡◌, ℕ, Option, Some, None, MatchOption, sym, ◌∙◌, subst}
+use Rattle.std.proofs.Common.{◌≡◌, ℕ, Option, Some, None, MatchOption, ◌∙◌, subst}
 use Rattle.std.specs.FinMap as finmap
 use Rattle.cluster_store.specs.Stores.{Stored, Numbered}
 use Rattle.cluster_store.specs.Kept.{Slots, at, shelved}

@@ -1,5 +1,5 @@
 -- What is kept where clusters change.
-use Rattle.std.proofs.Common.{◌≡◌, ◌≢◌, ℕ, ◌*◌, ◌≤◌, Option, Some, None, IsSome, is_some, Contains, inl, inr, refl, sym, ap, ◌∙◌, subst}
+use Rattle.std.proofs.Common.{◌≡◌, ℕ, ◌*◌, ◌≤◌, Option, Some, None, IsSome, is_some, Contains, inl, inr, refl, sym, ap, ◌∙◌, subst}
 use Rattle.std.proofs.lemmas.Bool.{cases_eq}
 use Rattle.std.proofs.lemmas.Option.{none-some, same_Some}
 use Rattle.std.specs.FinMap as finmap
@@ -10,7 +10,7 @@ use Rattle.cluster.specs.Clusters.{IsCluster}
 use Rattle.cluster_store.specs.Stores.{Stored, Numbered, AreWhole, IsLeast}
 use Rattle.cluster_store.specs.Changes.{moved_to}
 use Rattle.cluster_store.specs.Moved.{Moved}
-use Rattle.cluster_store.specs.Slots.{Sets, MovesIn}
+use Rattle.cluster_store.specs.Slots.{MovesIn}
 use Rattle.cluster_store.specs.Kept.{Slots, at, shelved, IsShown, IsKept}
 use Rattle.cluster_store.proofs.Shelves.{get_shelved}
 

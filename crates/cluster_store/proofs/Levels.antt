@@ -1,5 +1,5 @@
 -- The parts of a level, merged, are a pick of its graph.
-use Rattle.std.proofs.Common.{◌≡◌, ℕ, ◌+◌, ◌<◌, ◌≤◌, Bool, true, false, ◌&&◌, List, [], ◌∷◌, ◌++◌, map, flat_map, length, get_or, sum_by, nat_lt, Option, Some, None, Contains, inl, inr, refl, sym, ap, ◌∙◌, subst, arith}
+use Rattle.std.proofs.Common.{◌≡◌, ℕ, ◌+◌, ◌<◌, ◌≤◌, Bool, true, false, ◌&&◌, List, [], ◌∷◌, map, flat_map, length, get_or, sum_by, nat_lt, Option, Some, None, Contains, inl, inr, refl, sym, ap, ◌∙◌, subst, arith}
 use Rattle.std.proofs.lemmas.Bool.Decides.{nat_tests}
 use Rattle.std.proofs.lemmas.Option.{slice_get-get_or, get_or_from_slice_get}
 use Rattle.std.proofs.lemmas.List.Sums.{sum_by-cons}
@@ -20,14 +20,12 @@ use Rattle.graphs.specs.Certificates.{Part}
 use Rattle.graphs.specs.Merges.{IsMerge, IsSorted, IsUnion, SortedListsMerge}
 use Rattle.graphs.specs.Picks.{IsPick, PicksAreKept}
 use Rattle.graphs.specs.declared.names.Level.{Level}
-use Rattle.chunk_index.specs.declared.entry.Tag.{Tag}
-use Rattle.chunk_index.specs.declared.key.Key.{Key}
 use Rattle.chunk_index.specs.KeyOrder.{key_cmp}
 use Rattle.chunk_index.specs.Keys.{IsInOrder}
 use Rattle.chunk_index.specs.Items.{is_in}
 use Rattle.cluster.specs.Clusters.{Cluster, IsCluster, sum_at}
-use Rattle.cluster_store.specs.Stores.{Stored, Numbered, Store, Shown, IsStore, no_part, parts_in, part_at, key_at, passes, places_by, places_in, shown_at, shown_in, parts_of_level}
-use Rattle.cluster_store.specs.Laws.{Stands, AreGraphs}
+use Rattle.cluster_store.specs.Stores.{Stored, Numbered, Store, Shown, IsStore, no_part, parts_in, part_at, key_at, passes, places_by, places_in, shown_at, parts_of_level}
+use Rattle.cluster_store.specs.Laws.{AreGraphs}
 use Rattle.cluster_store.proofs.Fresh.{both_true}
 use Rattle.cluster_store.proofs.Unique.{both_before, behind_first, rest_order}
 use Rattle.cluster_store.proofs.Rates.{before_rates, places_from, places_listed, listed_places, places_parts, places_in_order}
@@ -125,7 +123,7 @@ module _ (most : ℕ) (c : Cluster) (is : IsCluster most c) (graph : Graph) (clo
   part_sizes p here =
       let total : p.rate ≡ sums (sum_at c.graph) p.ids = own.certificate.falling.summed p here in
       let some = some_name p.ids (own.certificate.filled p here) (λ id. (sum_at c.graph id).size) (λ id listed.
-          (is.rates id ((closes.names id).0 ((own.certificate.order.topological.names id).0 (in_part c.parts p id here listed)))).some) in
+      (is.rates id ((closes.names id).0 ((own.certificate.order.topological.names id).0 (in_part c.parts p id here listed)))).some) in
       let size : p.rate.size ≡ sum_by (λ id. (sum_at c.graph id).size) p.ids = ap (λ (s : Sum). s.size) total in
       omega (arith, some, size)
 
@@ -151,7 +149,6 @@ fused clusters (k ∷ ks) = ap (λ (ps : List Part). part_at clusters k ∷ ps) 
 
 module _ (picks : PicksAreKept) (merging : SortedListsMerge) (most : ℕ) (store : Store) (level : Level) (rate : ℕ → Sum) (graphs : List (Graph × ℕ)) (whole : Graph)
     (is : IsStore most store) (are : AreGraphs level store.clusters rate graphs) (union : IsUnion graphs whole) where
-
   component : Graph × ℕ → Graph × List (ℕ × ℕ)
   component g = (g.0, places_from g.1 0 (parts_in (finmap.get store.clusters g.1)))
 
@@ -188,9 +185,9 @@ module _ (picks : PicksAreKept) (merging : SortedListsMerge) (most : ℕ) (store
         sorted_places store.clusters (places_from g.1 0 (parts_in (finmap.get store.clusters g.1)))
         (places_in_order store.clusters g.1 0 (parts_in (finmap.get store.clusters g.1)) follows own_falls own_sizes)
         (λ x there.
-            let one = places_listed g.1 0 (parts_in (finmap.get store.clusters g.1)) x there in
-            let low : x.1 < length (parts_in (finmap.get store.clusters g.1)) = omega (arith, one.2) in
-            own_real x one.0 low)
+        let one = places_listed g.1 0 (parts_in (finmap.get store.clusters g.1)) x there in
+        let low : x.1 < length (parts_in (finmap.get store.clusters g.1)) = omega (arith, one.2) in
+        own_real x one.0 low)
 
     own_picked : IsPick rate g.0 (map (part_at store.clusters) (component g).1)
     unfolding component
@@ -240,7 +237,6 @@ module _ (picks : PicksAreKept) (merging : SortedListsMerge) (most : ℕ) (store
 
   -- ---- and the level's places merge those of these
 
-
   key_graph : (x : ℕ × ℕ) → Contains (places_in level store) x → (g : Graph) × Contains graphs (g, x.0) × (x.1 < length (parts_in (finmap.get store.clusters x.0)))
   unfolding places_by
   key_graph x here =
@@ -263,10 +259,11 @@ module _ (picks : PicksAreKept) (merging : SortedListsMerge) (most : ℕ) (store
   unfolding component
   key_listed x here =
       let g = key_graph x here in
-      let low : x.1 < 0 + length (parts_in (finmap.get store.clusters x.0)) = omega (arith, g.2) in
-      (places_from x.0 0 (parts_in (finmap.get store.clusters x.0)),
-      Contains-map (λ (c : Graph × List (ℕ × ℕ)). c.1) (map component graphs) (component (g.0, x.0)) (Contains-map component graphs (g.0, x.0) g.1),
-      listed_places x.0 0 (parts_in (finmap.get store.clusters x.0)) x.1 (omega arith) low)
+      let low : x.1 < 0 + length (parts_in (finmap.get store.clusters x.0)) = omega (arith, g.2) in (
+        places_from x.0 0 (parts_in (finmap.get store.clusters x.0)),
+        Contains-map (λ (c : Graph × List (ℕ × ℕ)). c.1) (map component graphs) (component (g.0, x.0)) (Contains-map component graphs (g.0, x.0) g.1),
+        listed_places x.0 0 (parts_in (finmap.get store.clusters x.0)) x.1 (omega arith) low,
+      )
 
   stands_there : (g : Graph × ℕ) (here : Contains graphs g) → passes (is_in level) (finmap.get store.clusters g.1) ≡ true
   stands_there g here = ap (passes (is_in level)) (are.stand g here).1.1 ∙ (are.stand g here).1.3

@@ -11,7 +11,7 @@ use Rattle.chunk_index.specs.declared.key.Key.{Key}
 use Rattle.chunk_index.specs.KeyOrder.{key_cmp}
 use Rattle.chunk_index.specs.Keys.{IsInOrder}
 use Rattle.cluster.specs.Clusters.{Cluster}
-use Rattle.cluster_store.specs.Stores.{Stored, Numbered, Store, no_part, parts_in, key_in, key_at, IsOrdered}
+use Rattle.cluster_store.specs.Stores.{Stored, Numbered, Store, no_part, parts_in, key_at, IsOrdered}
 use Rattle.cluster_store.specs.Laws.{Stays, OrdersAreKept}
 use Rattle.cluster_store.proofs.Unique.{both_before, before_itself, behind_first, rest_order, one_order}
 

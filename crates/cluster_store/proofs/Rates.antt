@@ -1,13 +1,12 @@
 -- The places of a cluster stand in key order, since rates fall there.
-use Rattle.std.proofs.Common.{◌≡◌, ℕ, zero, suc, ◌+◌, ◌<◌, ◌≤◌, max, ℤ, pos, ◌*ℤ◌, ◌≤ℤ◌, ◌<ℤ◌, Bool, true, false, List, [], ◌∷◌, map, length, get_or, Contains, inl, inr, refl, sym, ap, ◌∙◌, subst, arith}
+use Rattle.std.proofs.Common.{◌≡◌, ℕ, suc, ◌+◌, ◌<◌, ◌≤◌, max, ℤ, pos, ◌*ℤ◌, ◌≤ℤ◌, ◌<ℤ◌, List, [], ◌∷◌, map, length, get_or, Contains, inl, inr, refl, sym, ap, ◌∙◌, subst, arith}
 use Rattle.std.proofs.lemmas.Bool.{cases_eq, cases_lt}
 use Rattle.std.proofs.lemmas.Int.{ints}
 use Rattle.std.specs.List.{AllByRecursion}
 use Rattle.std.specs.declared.cmp.Ordering.{Ordering}
 use Rattle.std.specs.declared.cmp.Ordering.TheVariants.{Less, Equal, Greater}
-use Rattle.std.specs.Ordering.{nat_cmp, int_cmp, ordering_then}
+use Rattle.std.specs.Ordering.{nat_cmp, ordering_then}
 use Rattle.std.specs.Cmp.{ranked, int_ranked, tied_itself, nat_cmp_total}
-use Rattle.std.specs.FinMap as finmap
 use Rattle.lists.proofs.Entries.{Contains-head, Contains-later, Contains-cases, none_in_empty}
 use Rattle.fee_rate.specs.Rates.{AtMost}
 use Rattle.graphs.specs.Rates.{Falls}
@@ -17,7 +16,7 @@ use Rattle.chunk_index.specs.KeyOrder.{rate_cmp, by_rate, by_serial, by_position
 use Rattle.chunk_index.specs.KeyLaws.{key_cmp_total}
 use Rattle.chunk_index.specs.Keys.{IsInOrder}
 use Rattle.cluster_store.specs.Keys.{key_part}
-use Rattle.cluster_store.specs.Stores.{Numbered, no_part, parts_in, part_at, key_at}
+use Rattle.cluster_store.specs.Stores.{Numbered, no_part, part_at, key_at}
 
 least_one : (s : ℕ) → 1 ≤ s → max 1 s ≡ s
 least_one s some = omega arith
@@ -73,11 +72,11 @@ before_rates x y less x_some y_some =
         → (y.rate.fee *ℤ pos (max 1 x.rate.size)) ≤ℤ (x.rate.fee *ℤ pos (max 1 y.rate.size))
     by Less e l =
         let low : (y.rate.fee *ℤ pos (max 1 x.rate.size)) <ℤ (x.rate.fee *ℤ pos (max 1 y.rate.size)) =
-            int_ranked (y.rate.fee *ℤ pos (max 1 x.rate.size)) (x.rate.fee *ℤ pos (max 1 y.rate.size)) Less (sym e) in
+        int_ranked (y.rate.fee *ℤ pos (max 1 x.rate.size)) (x.rate.fee *ℤ pos (max 1 y.rate.size)) Less (sym e) in
         omega (arith, ints, low)
     by Equal e l =
         let same : (y.rate.fee *ℤ pos (max 1 x.rate.size)) ≡ (x.rate.fee *ℤ pos (max 1 y.rate.size)) =
-            int_ranked (y.rate.fee *ℤ pos (max 1 x.rate.size)) (x.rate.fee *ℤ pos (max 1 y.rate.size)) Equal (sym e) in
+        int_ranked (y.rate.fee *ℤ pos (max 1 x.rate.size)) (x.rate.fee *ℤ pos (max 1 y.rate.size)) Equal (sym e) in
         omega (arith, ints, same)
     by Greater e l = absurd (greater_less (rw e at l))
 
@@ -147,7 +146,7 @@ module _ (clusters : Numbered) (n : ℕ) where
   places_in_order i (p ∷ q ∷ ps) follow falls sizes =
       let rest = places_in_order (i + 1) (q ∷ ps) (follow_next i p (q ∷ ps) follow) falls.1 (λ r here. sizes r (Contains-later p r (q ∷ ps) here)) in
       let less : key_cmp (key_at clusters (n, i)) (key_at clusters (n, i + 1)) ≡ Less =
-          ap (λ (k : Key). key_cmp k (key_at clusters (n, i + 1))) (first_key i p (q ∷ ps) follow)
-          ∙ ap (key_cmp (key_part n i p)) (first_key (i + 1) q ps (follow_next i p (q ∷ ps) follow))
-          ∙ next_behind n i p q falls.0 (sizes p (Contains-head p (q ∷ ps))) (sizes q (Contains-later p q (q ∷ ps) (Contains-head q ps))) in
+      ap (λ (k : Key). key_cmp k (key_at clusters (n, i + 1))) (first_key i p (q ∷ ps) follow)
+      ∙ ap (key_cmp (key_part n i p)) (first_key (i + 1) q ps (follow_next i p (q ∷ ps) follow))
+      ∙ next_behind n i p q falls.0 (sizes p (Contains-head p (q ∷ ps))) (sizes q (Contains-later p q (q ∷ ps) (Contains-head q ps))) in
       ((less, all_behind (n, i) (n, i + 1) (places_from n (i + 1 + 1) ps) less rest.0), rest)

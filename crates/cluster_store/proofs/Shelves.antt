@@ -1,6 +1,6 @@
 -- The clusters by their numbers are what the slots have.
-use Rattle.std.proofs.Common.{◌≡◌, ◌≢◌, ℕ, zero, suc, ◌+◌, ◌<◌, ◌≤◌, ◌==◌, Bool, true, false, cond, List, [], ◌∷◌, Option, Some, None, is_some, IsSome, map, refl, sym, ap, ◌∙◌, subst, arith, count_by}
-use Rattle.std.proofs.lemmas.Bool.{false_from_ne_true, cases_eq}
+use Rattle.std.proofs.Common.{◌≡◌, ◌≢◌, ℕ, zero, suc, ◌+◌, ◌<◌, ◌≤◌, ◌==◌, true, false, cond, [], ◌∷◌, Option, Some, None, is_some, map, refl, sym, ap, ◌∙◌, subst, arith, count_by}
+use Rattle.std.proofs.lemmas.Bool.{false_from_ne_true}
 use Rattle.std.proofs.lemmas.Option.{none-some}
 use Rattle.std.proofs.lemmas.List.Sums.{sum_by-cons}
 use Rattle.std.specs.Ordering.{nat_cmp, eq_by_cmp, is_eq}
@@ -8,7 +8,7 @@ use Rattle.std.specs.Cmp.{nat_cmp_total, tied_itself, Equal-is, unsigned_Decides
 use Rattle.std.specs.FinMap as finmap
 use Rattle.slab.specs.Slab.{entries_from}
 use Rattle.chunk_index.specs.Items.{Items}
-use Rattle.cluster_store.specs.Stores.{Stored, Store, Numbered}
+use Rattle.cluster_store.specs.Stores.{Stored, Store}
 use Rattle.cluster_store.specs.Changes.{EndsAt, most_least}
 use Rattle.cluster_store.specs.Kept.{Slots, at, found, shelved, place_of, IsKept}
 

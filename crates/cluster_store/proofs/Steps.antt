@@ -1,10 +1,9 @@
 -- One position more of a cluster whose entries go out, come in, or get another tag.
-use Rattle.std.proofs.Common.{◌≡◌, ℕ, length, ◌+◌, ◌<◌, ◌≤◌, Bool, true, false, cond, not, ◌&&◌, ◌||◌, List, [], take, Option, Some, None, is_some, IsSome, nat_eq, inl, inr, refl, sym, ap, ◌∙◌, subst, arith}
+use Rattle.std.proofs.Common.{◌≡◌, ℕ, length, ◌+◌, ◌<◌, Bool, true, false, cond, not, ◌&&◌, ◌||◌, List, [], take, Option, Some, None, is_some, IsSome, nat_eq, inl, inr, refl, sym, ap, ◌∙◌, arith}
 use Rattle.std.proofs.lemmas.Bool.{cases_lt}
 use Rattle.std.proofs.Math.Seq.{take-length}
 use Rattle.std.specs.List.{slice_get}
 use Rattle.std.specs.Cmp.{unsigned_Decides}
-use Rattle.fee_rate.specs.declared.rates.FeeRate.{FeeRate}
 use Rattle.graphs.specs.Certificates.{Part}
 use Rattle.chunk_index.specs.declared.entry.Entry.{Entry}
 use Rattle.chunk_index.specs.declared.entry.Tag.{Tag}
@@ -13,7 +12,7 @@ use Rattle.chunk_index.specs.Keys.{key_of}
 use Rattle.chunk_index.specs.Items.{Items, has, with_entry, without_entry, with_tag}
 use Rattle.cluster_store.specs.Keys.{key_part}
 use Rattle.cluster_store.specs.Kept.{same_key, found, is_rate, has_rate, fresh, Enters, Leaves}
-use Rattle.cluster_store.proofs.Founds.{same_is, same_self, found-put, found-without, found-tagged, has-found, again}
+use Rattle.cluster_store.proofs.Founds.{same_is, found-put, found-without, found-tagged, has-found, again}
 use Rattle.cluster_store.proofs.Fresh.{take_below, take_past, rate_here, fresh-more}
 
 and_false : (b c : Bool) → (b && (false && c)) ≡ false

@@ -1,5 +1,5 @@
 -- Which parts the entries of the index stand for.
-use Rattle.std.proofs.Common.{◌≡◌, ℕ, ◌<◌, Bool, true, false, cond, ◌&&◌, List, [], ◌∷◌, map, length, get_or, Option, Some, None, is_some, IsSome, Contains, inl, inr, ◌⊎◌, ◌↔◌, refl, sym, ap, ◌∙◌, subst, arith}
+use Rattle.std.proofs.Common.{◌≡◌, ℕ, ◌<◌, Bool, true, false, cond, List, [], ◌∷◌, map, length, get_or, Option, Some, None, is_some, IsSome, Contains, inl, inr, ◌⊎◌, refl, sym, ap, ◌∙◌, subst, arith}
 use Rattle.std.proofs.lemmas.Option.{none-some, same_Some, slice_get-get_or, slice_get_within, get_or_from_slice_get}
 use Rattle.std.specs.List.{filter, slice_get, AllByRecursion}
 use Rattle.std.specs.Ordering.{is_eq}
@@ -12,12 +12,12 @@ use Rattle.chunk_index.specs.declared.entry.Entry.{Entry}
 use Rattle.chunk_index.specs.declared.entry.Tag.{Tag}
 use Rattle.chunk_index.specs.declared.key.Key.{Key}
 use Rattle.chunk_index.specs.KeyOrder.{key_cmp}
-use Rattle.chunk_index.specs.Keys.{key_of, IsInOrder}
+use Rattle.chunk_index.specs.Keys.{IsInOrder}
 use Rattle.chunk_index.specs.Items.{Items, item_key, AreInOrder, entries_by}
 use Rattle.cluster_store.specs.Keys.{key_part}
-use Rattle.cluster_store.specs.Stores.{Stored, Numbered, Store, Shown, no_part, parts_by, parts_in, part_in, part_at, key_at, key_in, passes, places_by, shown_at, shown_by, IsOrdered}
+use Rattle.cluster_store.specs.Stores.{Stored, Shown, no_part, parts_by, parts_in, part_in, key_at, key_in, passes, places_by, shown_at, shown_by, IsOrdered}
 use Rattle.cluster_store.specs.Kept.{Slots, at, shelved, place_of, same_key, found, is_rate, has_rate, tag_for, IsShown}
-use Rattle.cluster_store.specs.Walks.{parts_at, shown_of, HasParts}
+use Rattle.cluster_store.specs.Walks.{shown_of, HasParts}
 use Rattle.cluster_store.proofs.Founds.{same_is, same_self}
 use Rattle.cluster_store.proofs.Fresh.{key_here, rate_here}
 use Rattle.cluster_store.proofs.Shelves.{get_shelved}

@@ -9,7 +9,7 @@ use Rattle.chunk_index.specs.declared.key.Key.{Key}
 use Rattle.chunk_index.specs.Items.{Items}
 use Rattle.cluster_store.specs.Stores.{Stored, Exchange}
 use Rattle.cluster_store.specs.Kept.{Slots, at, found, has_rate, tag_for, tag_wide, waiting_at, fresh, IsShown, IsSameIndex, IsWide, Enters, Leaves}
-use Rattle.cluster_store.specs.Slots.{Sets, IsBeside, KeepsElsewhere}
+use Rattle.cluster_store.specs.Slots.{IsBeside, KeepsElsewhere}
 use Rattle.cluster_store.proofs.Shown.{fresh_serial, fresh_has, fresh_here, fresh_elsewhere}
 
 -- ---- what waits under a number

@@ -1,5 +1,5 @@
 -- What changes of a store leave of its clusters.
-use Rattle.std.specs.Prelude.{◌≡◌, ℕ, ◌<◌, ◌-◌, ◌^◌, List, [], ◌∷◌, ◌++◌, map, length, Contains, Option, None, Some, slice_get, slice_index, IsSome, min, cond, nat_eq, Bool}
+use Rattle.std.specs.Prelude.{◌≡◌, ℕ, ◌-◌, ◌^◌, List, [], ◌∷◌, ◌++◌, map, length, Contains, Option, None, Some, slice_get, slice_index, IsSome, min}
 use Rattle.std.specs.FinMap as finmap
 use Rattle.lists.specs.Distinct.{AreDistinct}
 use Rattle.graphs.specs.Closures.{rate_of}

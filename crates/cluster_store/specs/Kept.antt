@@ -1,5 +1,5 @@
 -- How a store is kept: a slab of clusters, and an index of their parts, in which the serial of an entry is the number of its cluster.
-use Rattle.std.specs.Prelude.{◌≡◌, ℕ, ◌*◌, ◌≤◌, Bool, true, false, ◌&&◌, not, cond, List, [], ◌∷◌, map, take, Contains, Option, None, Some, slice_get, slice_index_or, nat_eq}
+use Rattle.std.specs.Prelude.{◌≡◌, ℕ, ◌*◌, ◌≤◌, Bool, false, ◌&&◌, not, cond, List, [], ◌∷◌, Contains, Option, None, Some, slice_get, slice_index_or, nat_eq}
 use Rattle.std.specs.Ordering.{int_eq, is_eq}
 use Rattle.std.specs.FinMap as finmap
 use Rattle.slab.specs.Slab.{entries_from}

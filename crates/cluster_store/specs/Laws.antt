@@ -1,8 +1,8 @@
 -- What a reader would expect of the definitions.
-use Rattle.std.specs.Prelude.{◌≡◌, ℕ, List, map, Contains, ◌↔◌, true, Some}
+use Rattle.std.specs.Prelude.{◌≡◌, ℕ, List, Contains, true, Some}
 use Rattle.std.specs.FinMap as finmap
 use Rattle.fee_rate.specs.declared.rates.Sum.{Sum}
-use Rattle.graphs.specs.Graphs.{Graph, IsGraph}
+use Rattle.graphs.specs.Graphs.{Graph}
 use Rattle.graphs.specs.Closing.{IsClosureOf}
 use Rattle.graphs.specs.Merges.{Precedes, IsUnion}
 use Rattle.graphs.specs.Picks.{IsPick}

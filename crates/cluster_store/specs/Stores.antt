@@ -1,13 +1,12 @@
 -- What a store has: clusters under numbers, each with the levels that it stands in, and the parts of all of them in one order.
-use Rattle.std.specs.Prelude.{◌≡◌, ℕ, ◌<◌, ◌≤◌, ◌&&◌, Bool, false, zero, suc, pos, List, [], map, length, Contains, ◌↔◌, Option, None, Some, slice_index_or, slice_get, refl, nat_eq, cond}
+use Rattle.std.specs.Prelude.{◌≡◌, ℕ, ◌<◌, ◌≤◌, Bool, false, zero, suc, pos, List, [], map, length, Contains, ◌↔◌, Option, None, Some, slice_index_or, refl}
 use Rattle.std.specs.List.{filter}
 use Rattle.std.specs.Coded.{Coded, code_by, coded×, coded_ℕ, coded_list}
-use Rattle.std.specs.Ordering.{nat_cmp, int_eq}
+use Rattle.std.specs.Ordering.{nat_cmp}
 use Rattle.std.specs.FinMap as finmap
 use Rattle.graphs.specs.Closures.{rate_of}
 use Rattle.graphs.specs.Certificates.{Part}
 use Rattle.graphs.specs.declared.names.Level.{Level}
-use Rattle.fee_rate.specs.declared.rates.Sum.{Sum}
 use Rattle.chunk_index.specs.declared.entry.Tag.{Tag}
 use Rattle.chunk_index.specs.declared.entry.Tag.TheVariants.{Both, MainOnly, TopOnly}
 use Rattle.chunk_index.specs.declared.key.Key.{Key}

@@ -1,5 +1,5 @@
 -- What a walk over the entries of an index shows of what is kept under numbers.
-use Rattle.std.specs.Prelude.{ℕ, ◌<◌, List, length, Contains, Option, None, slice_index_or}
+use Rattle.std.specs.Prelude.{◌<◌, List, length, Contains, Option, None, slice_index_or}
 use Rattle.graphs.specs.Certificates.{Part}
 use Rattle.chunk_index.specs.declared.entry.Entry.{Entry}
 use Rattle.cluster_store.specs.declared.walk.ShownPart.{ShownPart}

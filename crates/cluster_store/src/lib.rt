@@ -1,4 +1,9 @@
 //! The clusters of a transaction graph, each with the levels that it stands in, and the merged parts of each level.
+//!
+//! Contracts see clusters under numbers, and the parts of all of them in one order; a level's parts are those of the clusters
+//! that stand in it. The clusters are kept in a slab, their parts in an index in which the serial of an entry is the number of
+//! its cluster. One call makes a whole change: first every entry that differs goes in, and where there is no memory for one,
+//! those that went in come out again; only then are clusters exchanged and old entries taken out, which can't fail.
 #![tactic(auto)]
 
 mod clusters;
@@ -9,7 +14,7 @@ mod store;
 mod stored;
 mod walk;
 
-pub use laws::orders_are_kept;
+pub use laws::{levels_are_picked, orders_are_kept};
 pub use store::ClusterStore;
 pub use stored::{Exchange, Move, Stored};
 pub use walk::{PartWalk, Parts, ShownPart};

@@ -1,9 +1,7 @@
 -- The parts of the new cluster are under a number that had none.
-use Rattle.std.proofs.Common.{rules, ◌≡◌, ◌≢◌, ℕ, List, None, Some, [], Option, refl, sym, ap, ◌∙◌, subst}
-use Rattle.graphs.specs.Certificates.{Part}
+use Rattle.std.proofs.Common.{rules, ◌≡◌, None, Some, [], sym, ap, ◌∙◌, subst}
 use Rattle.cluster.specs.Clusters.{Cluster}
 use Rattle.chunk_index.specs.declared.entry.Tag.{Tag}
-use Rattle.cluster_store.specs.Stores.{Stored}
 use Rattle.cluster_store.specs.Kept.{Slots, at, Enters}
 use Rattle.cluster_store.proofs.Shown.{free_absent, shown_added}
 use Rattle.cluster_store.proofs.clusters.add.Goals as goal

@@ -1,10 +1,10 @@
 -- One cluster more waits with its entries; where there is no memory for them, those of the others go out again.
-use Rattle.std.proofs.Common.{rules, ◌≡◌, ◌≤◌, ℕ, suc, ◌+◌, List, [], ◌∷◌, ◌++◌, map, take, drop, length, refl, sym, ap, ◌∙◌, subst, arith, add-one}
+use Rattle.std.proofs.Common.{rules, ◌≡◌, ◌≤◌, ◌+◌, List, [], ◌∷◌, ◌++◌, map, take, drop, length, sym, ap, ◌∙◌, subst, arith, add-one}
 use Rattle.std.proofs.lemmas.List.{take_all, take-append-drop}
 use Rattle.cluster_store.specs.Stores.{Exchange}
 use Rattle.cluster_store.specs.Kept.{IsWide}
 use Rattle.cluster_store.specs.Slots.{AreStored}
-use Rattle.cluster_store.proofs.Done.{stored_front, stored_apart, stored_last, stored_at, stored_part, next_taken, none_taken}
+use Rattle.cluster_store.proofs.Done.{stored_apart, stored_last, stored_at, stored_part, next_taken, none_taken}
 use Rattle.cluster_store.proofs.Wide.{beside_before, wide_begins, wide_more, wide_same}
 use Rattle.cluster_store.proofs.clusters.exchange_all.Goals as goal
 

@@ -1,7 +1,6 @@
 -- What the new cluster had beside the old one is out.
-use Rattle.std.proofs.Common.{rules, ◌≡◌, ◌≤◌, List, length, take, Some, refl, sym, ap, ◌∙◌, arith}
+use Rattle.std.proofs.Common.{rules, ◌≡◌, ◌≤◌, length, take, Some, refl, sym, ap, ◌∙◌, arith}
 use Rattle.std.proofs.lemmas.List.{take_all}
-use Rattle.graphs.specs.Certificates.{Part}
 use Rattle.cluster.specs.Clusters.{Cluster}
 use Rattle.cluster_store.specs.Kept.{at, Leaves}
 use Rattle.cluster_store.proofs.Results.{fresh_same, leaves_same}

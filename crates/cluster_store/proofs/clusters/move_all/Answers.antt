@@ -1,5 +1,5 @@
 -- One move more is made.
-use Rattle.std.proofs.Common.{rules, ◌≡◌, ℕ, List, [], ◌∷◌, ◌++◌, length, None, refl, sym, subst}
+use Rattle.std.proofs.Common.{rules, ◌≡◌, List, [], ◌∷◌, ◌++◌, length, refl, subst}
 use Rattle.cluster_store.specs.declared.stored.Move.{Move}
 use Rattle.cluster_store.specs.Changes.{moved_to}
 use Rattle.cluster_store.proofs.Done.{IsHalf, half_begins, half_ends, half_there, half_next, nothing_left}

@@ -1,11 +1,10 @@
 -- The new cluster stands there, and what only the old one had is out.
-use Rattle.std.proofs.Common.{rules, ◌≡◌, ◌≢◌, ◌≤◌, ℕ, List, length, take, set, Some, refl, sym, ap, ◌∙◌, subst, arith}
+use Rattle.std.proofs.Common.{rules, ◌≡◌, ◌≤◌, ℕ, length, take, set, Some, refl, sym, ap, ◌∙◌, subst, arith}
 use Rattle.std.proofs.lemmas.List.{take_all}
-use Rattle.graphs.specs.Certificates.{Part}
 use Rattle.cluster.specs.Clusters.{Cluster}
 use Rattle.cluster_store.specs.Stores.{Stored}
-use Rattle.cluster_store.specs.Kept.{Slots, at, Leaves}
-use Rattle.cluster_store.specs.Slots.{Sets, IsBeside, with_cluster}
+use Rattle.cluster_store.specs.Kept.{at, Leaves}
+use Rattle.cluster_store.specs.Slots.{Sets, with_cluster}
 use Rattle.cluster_store.proofs.Results.{fresh_same, leaves_same}
 use Rattle.cluster_store.proofs.Slots.{set_here, set_other}
 use Rattle.cluster_store.proofs.Wide.{gone_has, replaces, keeps_left}

@@ -1,8 +1,7 @@
 -- The parts of the cluster are there, and have the new tag.
-use Rattle.std.proofs.Common.{rules, ◌≡◌, ◌≢◌, ℕ, None, Some, [], true, set, refl, sym, ap, ◌∙◌, subst}
+use Rattle.std.proofs.Common.{rules, ◌≡◌, Some, [], true, set, sym, ap, ◌∙◌, subst}
 use Rattle.cluster.specs.Clusters.{Cluster}
-use Rattle.cluster_store.specs.Stores.{Stored}
-use Rattle.cluster_store.specs.Kept.{Slots, at, fresh, Enters}
+use Rattle.cluster_store.specs.Kept.{at, fresh, Enters}
 use Rattle.cluster_store.proofs.Shown.{stored_there, shown_tagged}
 use Rattle.cluster_store.proofs.Slots.{set_here, set_other}
 use Rattle.cluster_store.proofs.clusters.set_tag.Goals as goal

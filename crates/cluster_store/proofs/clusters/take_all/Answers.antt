@@ -1,5 +1,5 @@
 -- One number more is out.
-use Rattle.std.proofs.Common.{rules, ◌≡◌, ℕ, List, [], ◌∷◌, ◌++◌, None, sym, subst}
+use Rattle.std.proofs.Common.{rules, ◌≡◌, ℕ, List, [], ◌∷◌, ◌++◌, None, subst}
 use Rattle.cluster_store.proofs.Done.{IsHalf, half_begins, half_ends, half_there, half_next, stored_same, nothing_left}
 use Rattle.cluster_store.proofs.clusters.take_all.Goals as goal
 

@@ -1,5 +1,5 @@
 -- what is past of the numbers is out
-use Rattle.std.proofs.Common.{ℕ, Option, None, vec_len}
+use Rattle.std.proofs.Common.{ℕ, None, vec_len}
 use Rattle.cluster_store.specs.Kept.{IsShown}
 use Rattle.cluster_store.proofs.Done.{IsHalf}
 use Rattle.cluster_store.proofs.clusters.take_all.Given as goal

@@ -1,9 +1,9 @@
 -- The parts of the cluster are there, and go out.
-use Rattle.std.proofs.Common.{rules, ◌≡◌, ◌≢◌, ◌≤◌, ℕ, List, take, length, true, None, Some, [], sym, ap, ◌∙◌, subst, arith}
+use Rattle.std.proofs.Common.{rules, ◌≡◌, List, take, true, Some, [], sym, ap, ◌∙◌, subst, arith}
 use Rattle.std.proofs.lemmas.List.{take_all}
 use Rattle.graphs.specs.Certificates.{Part}
 use Rattle.cluster.specs.Clusters.{Cluster}
-use Rattle.cluster_store.specs.Kept.{Slots, at, fresh, Leaves}
+use Rattle.cluster_store.specs.Kept.{at, fresh, Leaves}
 use Rattle.cluster_store.proofs.Shown.{stored_there, shown_removed}
 use Rattle.cluster_store.proofs.clusters.take_out.Goals as goal
 

@@ -1,5 +1,5 @@
 -- Each position is one more of those that are in; where there is no memory for one, those before it go out again.
-use Rattle.std.proofs.Common.{List, ◌≡◌, ◌<◌, ◌+◌, take, Some, get_or, length, option_copied, slice_get, arith, sym, ap, ◌∙◌, subst}
+use Rattle.std.proofs.Common.{List, ◌≡◌, ◌<◌, ◌+◌, take, get_or, length, option_copied, arith, sym, ◌∙◌, subst}
 use Rattle.std.proofs.lemmas.List.{take_all}
 use Rattle.std.proofs.lemmas.Option.{slice_get-get_or}
 use Rattle.graphs.specs.Certificates.{Part}

@@ -1,5 +1,5 @@
 -- Each position is one more of those that are out.
-use Rattle.std.proofs.Common.{◌≡◌, ◌<◌, Some, ◌+◌, take, get_or, length, option_copied, slice_get, arith, sym, ap, ◌∙◌, subst}
+use Rattle.std.proofs.Common.{◌<◌, ◌+◌, take, get_or, length, option_copied, arith, sym, ◌∙◌, subst}
 use Rattle.std.proofs.lemmas.Option.{slice_get-get_or}
 use Rattle.chunk_index.specs.Items.{Items}
 use Rattle.cluster_store.specs.Stores.{no_part}

@@ -1,5 +1,5 @@
 -- Each position is one more of those that have the tag.
-use Rattle.std.proofs.Common.{List, ◌≡◌, ◌<◌, ◌+◌, take, Some, [], get_or, length, slice_get, arith, sym, ap, ◌∙◌, subst, refl, false}
+use Rattle.std.proofs.Common.{List, ◌≡◌, ◌<◌, take, [], get_or, length, arith, subst}
 use Rattle.std.proofs.lemmas.List.{take_all}
 use Rattle.std.proofs.lemmas.Option.{slice_get-get_or}
 use Rattle.graphs.specs.Certificates.{Part}

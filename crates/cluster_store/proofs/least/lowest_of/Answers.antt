@@ -1,5 +1,5 @@
 -- One size more is counted.
-use Rattle.std.proofs.Common.{◌≡◌, ◌<◌, ◌+◌, ℕ, suc, List, length, drop, get_or, min, sym, ap, ◌∙◌, arith, add-one, drop-cons}
+use Rattle.std.proofs.Common.{◌≡◌, ◌<◌, ℕ, suc, List, length, drop, get_or, min, sym, ap, ◌∙◌, arith, add-one, drop-cons}
 use Rattle.graphs.specs.Closures.{rate_of}
 use Rattle.fee_rate.specs.declared.rates.FeeRate.{FeeRate}
 use Rattle.cluster_store.specs.Changes.{lowest}

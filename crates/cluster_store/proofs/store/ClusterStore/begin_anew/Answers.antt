@@ -1,5 +1,5 @@
 -- Nothing is counted exactly where nothing is shelved.
-use Rattle.std.proofs.Common.{◌≡◌, ℕ, true, false, Some, None, count_by, is_some, refl, sym, ap, ◌∙◌, subst}
+use Rattle.std.proofs.Common.{sym, ◌∙◌, subst}
 use Rattle.cluster_store.specs.Stores.{Store}
 use Rattle.cluster_store.specs.Changes.{EndsAt}
 use Rattle.cluster_store.proofs.Shelves.{ends_anew, ends_still}

@@ -1,10 +1,8 @@
 -- What is kept along a whole change, and where one step of it finds no memory.
-use Rattle.std.proofs.Common.{rules, ℕ, ◌≤◌, ◌≡◌, List, map, Contains, refl, ap, sym, ◌∙◌, subst}
-use Rattle.cluster.specs.Clusters.{IsCluster}
+use Rattle.std.proofs.Common.{rules, ◌≤◌, ◌≡◌, List, map, Contains, refl, ap, sym, ◌∙◌, subst}
 use Rattle.cluster_store.specs.Stores.{Store, Stored, Exchange}
 use Rattle.cluster_store.specs.Changes.{lowest_in}
 use Rattle.cluster_store.specs.Kept.{IsKept}
-use Rattle.cluster_store.specs.Slots.{AddsTo}
 use Rattle.cluster_store.proofs.Adds.{adds_stored, adds_same, adds_undone}
 use Rattle.cluster_store.proofs.Changed.{kept_same, kept_changed, store_same, exchanged_stored, moves_stored, makes_change}
 use Rattle.cluster_store.proofs.store.ClusterStore.change.Goals as goal

@@ -1,5 +1,5 @@
 -- What is kept of the slots holds of the clusters by their numbers.
-use Rattle.std.proofs.Common.{◌≡◌, ◌*◌, subst}
+use Rattle.std.proofs.Common.{◌*◌, subst}
 use Rattle.cluster_store.specs.Stores.{Store, AreWhole, IsLeast}
 use Rattle.cluster_store.proofs.Kept.{shelved_least, shelved_whole}
 use Rattle.cluster_store.proofs.store.ClusterStore.least.Goals as goal

@@ -1,5 +1,5 @@
 -- One cluster moves, and the others are kept as they were.
-use Rattle.std.proofs.Common.{rules, ◌≡◌, ◌≤◌, refl, sym, ap, ◌∙◌}
+use Rattle.std.proofs.Common.{rules, ◌≤◌, sym, ap}
 use Rattle.cluster_store.specs.Stores.{Store}
 use Rattle.cluster_store.proofs.Kept.{kept_moved, shelved_moved, shelved_there}
 use Rattle.cluster_store.proofs.store.ClusterStore.make_move.Goals as goal

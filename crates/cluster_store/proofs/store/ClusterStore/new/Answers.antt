@@ -1,10 +1,4 @@
 -- No slots and no entries.
-use Rattle.std.proofs.Common.{◌≡◌, ◌*◌, [], None, refl, sym, ap, ◌∙◌, subst}
-use Rattle.std.proofs.lemmas.Option.{none-some}
-use Rattle.chunk_index.specs.Items.{Items}
-use Rattle.cluster_store.specs.Stores.{Store}
-use Rattle.cluster_store.specs.Changes.{most_least}
-use Rattle.cluster_store.specs.Kept.{Slots, IsKept, shelved, place_of}
 use Rattle.cluster_store.proofs.Shelves.{none_kept, none_shelved}
 use Rattle.cluster_store.proofs.store.ClusterStore.new.Goals as goal
 

@@ -1,8 +1,7 @@
 -- The entries of a level stand for its parts.
-use Rattle.std.proofs.Common.{◌≡◌, List, map, sym, ap, ◌∙◌, subst}
-use Rattle.chunk_index.specs.declared.entry.Entry.{Entry}
-use Rattle.chunk_index.specs.Items.{is_in, entries_in}
-use Rattle.cluster_store.specs.Stores.{Stored, Store, Shown, shown_in, IsOrdered}
+use Rattle.std.proofs.Common.{map, sym, ap, ◌∙◌, subst}
+use Rattle.chunk_index.specs.Items.{is_in}
+use Rattle.cluster_store.specs.Stores.{Stored, Store, shown_in, IsOrdered}
 use Rattle.cluster_store.specs.Walks.{HasParts, shown_of}
 use Rattle.cluster_store.proofs.Walks.{has_parts, is_ordered, walk_shows}
 use Rattle.cluster_store.proofs.store.ClusterStore.walk.Goals as goal

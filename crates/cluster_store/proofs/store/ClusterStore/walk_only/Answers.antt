@@ -1,6 +1,5 @@
 -- The entries of one tag stand for the parts of its clusters.
-use Rattle.std.proofs.Common.{◌≡◌, List, map, sym, ap, ◌∙◌, subst}
-use Rattle.chunk_index.specs.declared.entry.Entry.{Entry}
+use Rattle.std.proofs.Common.{map, sym, ap, ◌∙◌, subst}
 use Rattle.chunk_index.specs.Items.{same_tag}
 use Rattle.cluster_store.specs.Stores.{Stored, Store, shown_only, IsOrdered}
 use Rattle.cluster_store.specs.Walks.{HasParts, shown_of}

@@ -1,5 +1,5 @@
 -- The last entry that is left stands for the last part that is.
-use Rattle.std.proofs.Common.{◌≡◌, List, [], ◌∷◌, ◌++◌, map, Some, None, sym, ap, ◌∙◌, subst, Contains}
+use Rattle.std.proofs.Common.{[], ◌∷◌, ◌++◌, map, sym, ap, ◌∙◌}
 use Rattle.std.proofs.lemmas.List.{map-append}
 use Rattle.cluster_store.specs.Stores.{Shown}
 use Rattle.cluster_store.specs.Lent.{lent}

@@ -1,5 +1,5 @@
 -- The first entry that is left stands for the first part that is.
-use Rattle.std.proofs.Common.{◌≡◌, List, ◌∷◌, map, Some, None, sym, ap, ◌∙◌, subst, Contains}
+use Rattle.std.proofs.Common.{List, ◌∷◌, map, sym, ap, ◌∙◌, subst, Contains}
 use Rattle.lists.proofs.Entries.{Contains-later}
 use Rattle.chunk_index.specs.declared.entry.Entry.{Entry}
 use Rattle.cluster_store.specs.Stores.{Shown}
