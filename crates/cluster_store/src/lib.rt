@@ -12,6 +12,8 @@ mod laws;
 mod least;
 mod store;
 mod stored;
+#[cfg(test)]
+mod tests;
 mod walk;
 
 pub use laws::{levels_are_picked, orders_are_kept};
