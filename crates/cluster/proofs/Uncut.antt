@@ -1,5 +1,5 @@
 -- Parts that can't be cut further by places can't be by their names.
-use Rattle.std.proofs.Common.{◌≡◌, ◌≢◌, ℕ, ◌<◌, List, [], ◌∷◌, length, map, slice_index, Contains, refl, sym, ap, ap₂, ◌∙◌, subst, subst₂}
+use Rattle.std.proofs.Common.{◌≡◌, ◌≢◌, ℕ, ◌<◌, List, [], ◌∷◌, length, map, slice_index, Contains, refl, sym, ap, ◌∙◌, subst, subst₂}
 use Rattle.lists.proofs.Distinct.{distinct_map}
 use Rattle.lists.proofs.Entries.{map-Contains, Contains-map, not_empty}
 use Rattle.fee_rate.specs.Rates.{Same}

@@ -17,3 +17,6 @@ pub use cluster::{Cluster, PartRef};
 pub use laws::clusters_are_optimal;
 pub use list::ClusterList;
 pub use work::Work;
+
+#[cfg(test)]
+mod tests;
