@@ -1,251 +1,363 @@
-ghost use Rattle.std.specs.Prelude.{sum_by, MatchResult, is_some, ◌↔◌, ◌≡◌, ◌≢◌, ℕ, ◌+◌, ◌-◌, ◌*◌, ◌^◌, ◌<◌, ◌≤◌, [], false, None, Some, length, Contains, IsSome, IfOk, OnOk, OnErr};
+ghost use Rattle.std.specs.Prelude.{sum_by, MatchOption, MatchResult, ◌≡◌, ◌≢◌, ℕ, ◌+◌, ◌*◌, ◌^◌, ◌<◌, ◌≤◌, false, true, None, Some, List, [], ◌∷◌, length, map, All, Contains, IsSome, IfOk, OnOk, OnErr};
 ghost use Rattle.std.specs.FinMap as finmap;
-ghost use Rattle.lists.specs.Distinct.{AreDistinct};
-ghost use Rattle.fee_rate.specs.declared.limits.TheConstants.{MAX_SIZE};
-ghost use Rattle.graphs.specs.Closures.{is_member, rate_of, is_ancestor, AddsPair, SetsFee, DropsPlace};
-ghost use Rattle.slab.specs.Slab.{get, HasRoomFor, slab_len};
-ghost use Rattle.cluster_record.specs.Clusters.{Cluster};
+ghost use Rattle.fee_rate.specs.Limits.{IsFee, IsRate};
+ghost use Rattle.graphs.specs.Closures.{is_member, is_ancestor, rate_of, AddsPair, SetsFee, DropsPlace, AreLinked};
+ghost use Rattle.graphs.specs.Graphs.{Lists};
+ghost use Rattle.staging.specs.Maps.{Maps};
+ghost use Rattle.chunk_index.specs.declared.entry.Tag.TheVariants.{Both};
+ghost use Rattle.cluster.specs.Clusters.{IsCluster, ArePicked};
+ghost use Rattle.cluster.specs.Clusters as records;
+ghost use Rattle.cluster.specs.Changes.{AreComponents};
+ghost use Rattle.cluster.specs.Steps.{GrowsWithin, most_steps, most_steps_of};
+ghost use Rattle.cluster_store.specs.Stores.{Numbered};
+ghost use Rattle.cluster_store.specs.Stores as stores;
 ghost use Rattle.tx_graph.specs.Kept.{AddsName};
-ghost use Rattle.tx_graph.specs.Shelves.{graph_of, cluster_at, IsIndexed, IsInOrder};
+ghost use Rattle.tx_graph.specs.Shelves.{no_clusters, graph_of, parts_of, cluster_at, IsClusterOf};
 ghost use Rattle.tx_graph.specs.Joins.{DepRefusalIs, SumRefusalIs};
-ghost use Rattle.tx_graph.specs.Moves.{Settles, Stores, IsLoose, IsShelved};
+ghost use Rattle.tx_graph.specs.Moves.{AreAt, AreFarApartIn, HoldsAll, IsLink, IsWithin, Points, PointsAll, Replaces};
 
-use cluster_record::Record;
-use graph_model::{Limits, Refusal, TxId};
-use name_book::{NameBook, Spot};
+use chunk_index::Tag;
+use cluster::{Cluster, Work};
+use cluster_store::{ClusterStore, Exchange, Stored};
+use graph_model::{Level, Limits, Refusal, TxId};
 use outside::NoMemory;
-use slab::Slab;
+use staging::Overlay;
 use std::alloc::Global;
 use std::marker::Model;
+use step_count::{Ledger, Steps};
 
-/// The clusters of a graph, each under a number, and where each name stands.
+/// How two names stand, of which the one may become a parent of the other.
+#[derive(Clone, Copy, Debug)]
+pub enum Link {
+    /// It is an ancestor already.
+    There,
+    /// Neither is an ancestor of the other, and both are of the cluster of this number.
+    Within(usize),
+    /// They are of the clusters of these numbers, the parent's first.
+    Between(usize, usize),
+}
+
+/// The clusters of a graph, each under a number, and the number of each name's cluster.
 #[derive(Drop)]
 pub struct Clusters<const W: usize> {
     alloc: Global,
-    book: NameBook,
-    records: Slab<Record<W>>,
+    numbers: Overlay<usize>,
+    // how many names there are
+    count: usize,
+    store: ClusterStore<W>,
+    work: Work<W>,
 }
 
 impl<const W: usize> Model for Clusters<W> {
-    ghost use Rattle.tx_graph.specs.Shelves.{Shelf, shelf_code, IsInOrder};
+    ghost use Rattle.tx_graph.specs.Shelves.{Shelf, shelf_code, IsKept};
 
     ghost Value = { Shelf };
 
     ghost coded = { shelf_code };
 
-    ghost view = { λ a. record { spots = a.book.spots; slots = a.records.slots; issued = a.book.issued } };
+    ghost view = { λ a. record { numbers = a.numbers.base; store = a.store } };
 
-    ghost invariant = { λ a. IsInOrder W (record { spots = a.book.spots; slots = a.records.slots; issued = a.book.issued }) };
+    ghost invariant = { λ a. IsKept W a.numbers a.store a.count };
 }
 
 impl<const W: usize> Clusters<W> {
-    /// No cluster and no name. Takes no memory.
-    pub fn new(alloc: Global) -> Self
+    /// No cluster and no name, with the room in which orders are made.
+    pub fn new(alloc: Global) -> Result<Self, NoMemory>
         requires wide { 1 ≤ W }
         requires narrow { W ≤ 2 }
-        ensures { result ≡ record { spots = finmap.empty; slots = []; issued = 0 } }
+        ensures empty { IfOk result (λ shelf. shelf ≡ no_clusters) }
+        ensures picked { IfOk result (λ shelf. ArePicked (graph_of shelf) (parts_of shelf)) }
     {
-        Clusters {
+        Ok(Clusters {
             alloc,
-            book: NameBook::new(alloc),
-            records: Slab::new(alloc),
-        }
+            numbers: Overlay::new(alloc),
+            count: 0,
+            store: ClusterStore::new(alloc),
+            work: Work::new(alloc)?,
+        })
     }
 
     /// How many names there are.
     pub fn len(&self) -> usize
-        ensures { result ≡ finmap.len self.now.spots }
+        ensures { result ≡ finmap.len self.now.numbers }
     {
-        self.book.len()
+        let _numbers = &self.numbers;
+        let _store = &self.store;
+        self.count
     }
 
     /// Whether a name is live.
     pub fn is_live(&self, id: TxId) -> bool
         ensures { result ≡ is_member (graph_of self.now) id }
     {
-        self.book.get(id).is_some()
+        let _store = &self.store;
+        number_of(&self.numbers, id).is_some()
     }
 
-    /// Where a name stands, or `None` where it isn't live.
-    pub fn spot(&self, id: TxId) -> Option<Spot>
-        ensures spot { result ≡ finmap.get self.now.spots id }
-        ensures order { IsInOrder W self.now }
-        ensures live { is_some result ≡ is_member (graph_of self.now) id }
+    /// The cluster of a name, or `None` where the name isn't live.
+    pub fn find(&self, id: TxId) -> Option<&Cluster<W>>
+        ensures { MatchOption result (is_member (graph_of self.now) id ≡ false)
+            (λ c. (is_member (graph_of self.now) id ≡ true) × IsClusterOf (graph_of self.now) id c.now × IsCluster (64 * W) c.now) }
     {
-        let _records = &self.records;
-        self.book.get(id)
-    }
-
-    /// The cluster in which a name stands.
-    pub fn record(&self, spot: Spot) -> &Record<W>
-        requires { (id : ℕ) × (finmap.get self.now.spots id ≡ Some spot) }
-        ensures { cluster_at self.now.slots spot.record ≡ Some result.now }
-    {
-        let _book = &self.book;
-        at(&self.records, spot.record)
+        let _count = self.count;
+        let store = &self.store;
+        match number_of(&self.numbers, id) {
+            Some(number) => Some(at(store, number)),
+            None => None,
+        }
     }
 
     /// Makes a cluster of a name that isn't live, with its fee in satoshis and its size in virtual bytes. Without
     /// memory all stays as it was.
-    pub fn add(&mut self, id: TxId, fee: i64, size: u64) -> Result<(), NoMemory>
-        requires absent { finmap.get self.old.spots id ≡ None }
-        requires few { finmap.len self.old.spots + 1 ≤ 2 ^ 32 - 1 }
-        requires small { size ≤ MAX_SIZE }
-        requires issued { self.old.issued < 2 ^ 64 - 1 }
-        ensures ok { OnOk result (AddsName (graph_of self.old) (graph_of self.new) id
+    pub fn add<L: Ledger>(
+        &mut self,
+        id: TxId,
+        fee: i64,
+        size: u64,
+        steps: &mut Steps<L>,
+    ) -> Result<(), NoMemory>
+        requires absent { is_member (graph_of self.old) id ≡ false }
+        requires rate { IsRate (record { fee = fee; size = size }) }
+        requires few { finmap.len self.old.numbers + 1 < 2 ^ 64 }
+        ensures graph { OnOk result (AddsName (graph_of self.old) (graph_of self.new) id
             (record { fee = fee; size = size })) }
-        ensures issued { OnOk result (self.new.issued ≡ self.old.issued + 1) }
+        ensures picked { ArePicked (graph_of self.new) (parts_of self.new) }
         ensures err { OnErr result (self.new ≡ self.old) }
+        ensures steps { steps.new ≡ steps.old }
     {
-        self.records.reserve(1)?;
-        self.book.reserve(1)?;
-        let record = Record::single(self.alloc, id, fee, size)?;
-        let key = self.records.insert_reserved(record);
-        let spot = Spot {
-            record: key,
-            place: 0,
-        };
-        self.book.insert(id, spot);
+        self.numbers.reserve(1)?;
+        let cluster = Cluster::single(self.alloc, id, fee, size, &mut self.work, steps)?;
+        let number = self.store.add(Stored::new(cluster, Tag::Both))?;
+        self.numbers.put(id, number);
+        self.count += 1;
         Ok(())
     }
 
-    /// Changes the fee of the name at a spot, in satoshis.
-    pub fn set_fee(&mut self, spot: Spot, fee: i64)
-        requires { (id : ℕ) × (finmap.get self.old.spots id ≡ Some spot) }
-        ensures graph { (id : ℕ) → finmap.get self.old.spots id ≡ Some spot
-            → SetsFee (graph_of self.old) (graph_of self.new) id fee }
-        ensures issued { self.new.issued ≡ self.old.issued }
-    {
-        let _book = &self.book;
-        match self.records.get_mut(spot.record) {
-            Some(record) => record.set_fee(spot.place, fee),
-            None => unreachable!(),
-        }
-    }
-
-    /// Makes one name depend on another of its cluster, of which it is no ancestor. Takes no memory.
-    pub fn link(&mut self, parent: Spot, child: Spot)
-        requires parent { (id : ℕ) × (finmap.get self.old.spots id ≡ Some parent) }
-        requires child { (id : ℕ) × (finmap.get self.old.spots id ≡ Some child) }
-        requires together { parent.record ≡ child.record }
-        requires no_cycle { (p c : ℕ) → finmap.get self.old.spots p ≡ Some parent
-            → finmap.get self.old.spots c ≡ Some child → is_ancestor (graph_of self.old) c p ≡ false }
-        ensures graph { (p c : ℕ) → finmap.get self.old.spots p ≡ Some parent
-            → finmap.get self.old.spots c ≡ Some child → AddsPair (graph_of self.old) (graph_of self.new) p c }
-        ensures issued { self.new.issued ≡ self.old.issued }
-    {
-        let _book = &self.book;
-        match self.records.get_mut(parent.record) {
-            Some(record) => record.link(parent.place, child.place),
-            None => unreachable!(),
-        }
-    }
-
-    /// Makes one name depend on another of another cluster, and so one cluster of both. Without memory all stays as it
-    /// was.
-    pub fn join(&mut self, parent: Spot, child: Spot) -> Result<(), NoMemory>
-        requires parent { (id : ℕ) × (finmap.get self.old.spots id ≡ Some parent) }
-        requires child { (id : ℕ) × (finmap.get self.old.spots id ≡ Some child) }
-        requires apart { parent.record ≢ child.record }
-        requires few { (a b : Cluster) → cluster_at self.old.slots parent.record ≡ Some a
-            → cluster_at self.old.slots child.record ≡ Some b → length a.names + length b.names ≤ 64 * W }
-        ensures graph { OnOk result ((p c : ℕ) → finmap.get self.old.spots p ≡ Some parent
-            → finmap.get self.old.spots c ≡ Some child → AddsPair (graph_of self.old) (graph_of self.new) p c) }
-        ensures issued { self.new.issued ≡ self.old.issued }
+    /// Gives a live name another fee, in satoshis. A fee that is the same changes nothing. Without memory all stays as
+    /// it was.
+    pub fn set_fee<L: Ledger>(
+        &mut self,
+        id: TxId,
+        fee: i64,
+        steps: &mut Steps<L>,
+    ) -> Result<(), NoMemory>
+        requires live { is_member (graph_of self.old) id ≡ true }
+        requires fee { IsFee fee }
+        ensures graph { OnOk result (SetsFee (graph_of self.old) (graph_of self.new) id fee) }
+        ensures still { (rate_of (graph_of self.old) id).fee ≡ fee → self.new ≡ self.old }
+        ensures picked { ArePicked (graph_of self.new) (parts_of self.new) }
         ensures err { OnErr result (self.new ≡ self.old) }
+        ensures free { (rate_of (graph_of self.old) id).fee ≡ fee → steps.new ≡ steps.old }
+        ensures steps { (ids : List ℕ) → Lists (AreLinked (graph_of self.old) id) ids
+            → GrowsWithin (most_steps (length ids)) steps.old steps.new }
     {
-        let above = at(&self.records, parent.record);
-        let below = at(&self.records, child.record);
-        let joined = above.joined(self.alloc, below, parent.place, child.place)?;
-        take_out(&mut self.records, parent.record);
-        take_out(&mut self.records, child.record);
-        store(&mut self.records, &mut self.book, joined);
-        Ok(())
-    }
-
-    /// Makes one name depend on another, of which it is no ancestor, in their cluster or in one of both. Takes memory
-    /// only for one of both, and without it all stays as it was.
-    pub fn connect(&mut self, parent: Spot, child: Spot) -> Result<(), NoMemory>
-        requires parent { (id : ℕ) × (finmap.get self.old.spots id ≡ Some parent) }
-        requires child { (id : ℕ) × (finmap.get self.old.spots id ≡ Some child) }
-        requires no_cycle { (p c : ℕ) → finmap.get self.old.spots p ≡ Some parent
-            → finmap.get self.old.spots c ≡ Some child → is_ancestor (graph_of self.old) c p ≡ false }
-        requires few { parent.record ≢ child.record → (a b : Cluster)
-            → cluster_at self.old.slots parent.record ≡ Some a → cluster_at self.old.slots child.record ≡ Some b
-            → length a.names + length b.names ≤ 64 * W }
-        ensures graph { OnOk result ((p c : ℕ) → finmap.get self.old.spots p ≡ Some parent
-            → finmap.get self.old.spots c ≡ Some child → AddsPair (graph_of self.old) (graph_of self.new) p c) }
-        ensures issued { self.new.issued ≡ self.old.issued }
-        ensures err { OnErr result (self.new ≡ self.old) }
-    {
-        if parent.record == child.record {
-            self.link(parent, child);
+        let number = live_number(&self.numbers, id);
+        let cluster = at(&self.store, number);
+        if cluster.rate(id).fee == fee {
             return Ok(());
         }
-        self.join(parent, child)
+        let changed = cluster.with_fee(self.alloc, id, fee, &mut self.work, steps)?;
+        self.store.exchange(number, changed)
     }
 
-    /// Why `dep` is refused, other than for want of memory; or where both names stand.
-    pub fn refused_dep(
-        &self,
-        limits: &Limits,
+    /// Makes a live name a parent of another, where `link` says how they stand. A parent that is an ancestor already
+    /// changes nothing. Without memory all stays as it was.
+    pub fn connect<L: Ledger>(
+        &mut self,
+        link: Link,
         parent: TxId,
         child: TxId,
-    ) -> Result<(Spot, Spot), Refusal>
-        requires { limits.now.count ≤ 64 }
-        ensures order { IsInOrder W self.now }
-        ensures row { MatchResult result (λ _. DepRefusalIs limits.now (graph_of self.now) parent child None)
-            (λ why. DepRefusalIs limits.now (graph_of self.now) parent child (Some why)) }
-        ensures parent { IfOk result (λ spots. finmap.get self.now.spots parent ≡ Some spots.0) }
-        ensures child { IfOk result (λ spots. finmap.get self.now.spots child ≡ Some spots.1) }
-        ensures no_cycle { OnOk result (is_ancestor (graph_of self.now) child parent ≡ false) }
-        ensures few { IfOk result
-            (λ spots. spots.0.record ≢ spots.1.record → (a b : Cluster)
-            → cluster_at self.now.slots spots.0.record ≡ Some a
-            → cluster_at self.now.slots spots.1.record ≡ Some b → length a.names + length b.names ≤ 64 * W) }
+        steps: &mut Steps<L>,
+    ) -> Result<(), NoMemory>
+        requires { IsLink W self.old parent child link }
+        ensures graph { OnOk result (AddsPair (graph_of self.old) (graph_of self.new) parent child) }
+        ensures still { is_ancestor (graph_of self.old) parent child ≡ true → self.new ≡ self.old }
+        ensures picked { ArePicked (graph_of self.new) (parts_of self.new) }
+        ensures err { OnErr result (self.new ≡ self.old) }
+        ensures free { is_ancestor (graph_of self.old) parent child ≡ true → steps.new ≡ steps.old }
+        ensures steps { (ids : List ℕ)
+            → Lists (λ q. AreLinked (graph_of self.old) q parent ⊎ AreLinked (graph_of self.old) q child) ids
+            → GrowsWithin (most_steps (length ids)) steps.old steps.new }
     {
-        let Some(above) = self.spot(parent) else {
-            return Err(Refusal::Unknown(parent));
-        };
-        let Some(below) = self.spot(child) else {
-            return Err(Refusal::Unknown(child));
-        };
-        let _records = &self.records;
-        let first = self.record(above);
-        if above.record == below.record {
-            if first.reaches(below.place, above.place) {
-                return Err(Refusal::Cycle);
-            }
-            return Ok((above, below));
-        }
-        match refused_sum(limits, first, self.record(below)) {
-            Some(why) => Err(why),
-            None => Ok((above, below)),
+        match link {
+            Link::There => Ok(()),
+            Link::Within(number) => self.link(number, parent, child, steps),
+            Link::Between(above, below) => self.join(above, below, parent, child, steps),
         }
     }
 
-    /// Drops the name at a spot. The others keep the ancestors that they had among them, and each component of those
-    /// of its cluster that are left is a cluster then. Without memory all stays as it was.
-    pub fn remove(&mut self, id: TxId, spot: Spot) -> Result<(), NoMemory>
-        requires { finmap.get self.old.spots id ≡ Some spot }
-        ensures graph { OnOk result (DropsPlace (graph_of self.old) (graph_of self.new) id) }
-        ensures issued { self.new.issued ≡ self.old.issued }
+    // Makes a name a parent of another of its cluster.
+    fn link<L: Ledger>(
+        &mut self,
+        number: usize,
+        parent: TxId,
+        child: TxId,
+        steps: &mut Steps<L>,
+    ) -> Result<(), NoMemory>
+        requires { IsLink W self.old parent child (Link.Within number) }
+        ensures graph { OnOk result (AddsPair (graph_of self.old) (graph_of self.new) parent child) }
+        ensures picked { ArePicked (graph_of self.new) (parts_of self.new) }
         ensures err { OnErr result (self.new ≡ self.old) }
+        ensures steps { (ids : List ℕ)
+            → Lists (λ q. AreLinked (graph_of self.old) q parent ⊎ AreLinked (graph_of self.old) q child) ids
+            → GrowsWithin (most_steps (length ids)) steps.old steps.new }
     {
-        let parts = at(&self.records, spot.record).without(self.alloc, spot.place)?;
-        self.records.reserve(parts.len())?;
-        take_out(&mut self.records, spot.record);
-        self.book.remove(id);
-        store_all(&mut self.records, &mut self.book, parts);
+        let cluster = at(&self.store, number);
+        let changed = cluster.linked(self.alloc, parent, child, &mut self.work, steps)?;
+        self.store.exchange(number, changed)
+    }
+
+    // Makes a name a parent of another of another cluster, and so one cluster of both, under the number of the one with
+    // more names.
+    fn join<L: Ledger>(
+        &mut self,
+        above: usize,
+        below: usize,
+        parent: TxId,
+        child: TxId,
+        steps: &mut Steps<L>,
+    ) -> Result<(), NoMemory>
+        requires { IsLink W self.old parent child (Link.Between above below) }
+        ensures graph { OnOk result (AddsPair (graph_of self.old) (graph_of self.new) parent child) }
+        ensures picked { ArePicked (graph_of self.new) (parts_of self.new) }
+        ensures err { OnErr result (self.new ≡ self.old) }
+        ensures steps { (ids : List ℕ)
+            → Lists (λ q. AreLinked (graph_of self.old) q parent ⊎ AreLinked (graph_of self.old) q child) ids
+            → GrowsWithin (most_steps (length ids)) steps.old steps.new }
+    {
+        let (stays, goes) = larger_first(&self.store, above, below);
+        let larger = at(&self.store, stays);
+        let smaller = at(&self.store, goes);
+        let from = larger.names().len();
+        self.numbers.reserve(smaller.names().len())?;
+        let joined = larger.joined(self.alloc, smaller, parent, child, &mut self.work, steps)?;
+        self.store.exchange(stays, joined)?;
+        self.store.make_move(goes, None);
+        let names = at(&self.store, stays).names();
+        point(&mut self.numbers, names.split_at(from).1, stays);
         Ok(())
     }
+
+    /// Why `dep` is refused, other than for want of memory; or how the two names stand.
+    pub fn refused_dep(&self, limits: &Limits, parent: TxId, child: TxId) -> Result<Link, Refusal>
+        requires { limits.now.count ≤ 64 }
+        ensures row { MatchResult result (λ _. DepRefusalIs limits.now (graph_of self.now) parent child None)
+            (λ why. DepRefusalIs limits.now (graph_of self.now) parent child (Some why)) }
+        ensures link { IfOk result (IsLink W self.now parent child) }
+    {
+        let _count = self.count;
+        let Some(above) = number_of(&self.numbers, parent) else {
+            return Err(Refusal::Unknown(parent));
+        };
+        let Some(below) = number_of(&self.numbers, child) else {
+            return Err(Refusal::Unknown(child));
+        };
+        let first = at(&self.store, above);
+        if above == below {
+            return way_within(first, above, parent, child);
+        }
+        match refused_sum(limits, first, at(&self.store, below)) {
+            Some(why) => Err(why),
+            None => Ok(Link::Between(above, below)),
+        }
+    }
+
+    /// Drops a live name. The others keep the ancestors that they had among them, and each component of those of its
+    /// cluster that are left is a cluster then. Without memory all stays as it was.
+    pub fn remove<L: Ledger>(&mut self, id: TxId, steps: &mut Steps<L>) -> Result<(), NoMemory>
+        requires { is_member (graph_of self.old) id ≡ true }
+        ensures graph { OnOk result (DropsPlace (graph_of self.old) (graph_of self.new) id) }
+        ensures picked { ArePicked (graph_of self.new) (parts_of self.new) }
+        ensures err { OnErr result (self.new ≡ self.old) }
+        ensures grew { steps.old ≤ steps.new }
+        ensures steps { (c : records.Cluster) (lists : List (List ℕ)) → IsClusterOf (graph_of self.old) id c
+            → AreComponents c.graph (id ∷ []) lists → steps.new ≤ steps.old + most_steps_of lists }
+    {
+        let number = live_number(&self.numbers, id);
+        let names = [id];
+        let cluster = at(&self.store, number);
+        let left = cluster.without(self.alloc, &names, &mut self.work, steps)?;
+        let left = left.into_vec();
+        let few = name_count(left.as_slice())?;
+        self.numbers.reserve(few)?;
+        let made = put_apart(self.alloc, &mut self.store, number, left)?;
+        self.numbers.remove(id);
+        self.count -= 1;
+        point_all(&mut self.numbers, &self.store, made.as_slice());
+        Ok(())
+    }
+}
+
+// The number of a name's cluster.
+fn number_of(numbers: &Overlay<usize>, id: TxId) -> Option<usize>
+    ensures { result ≡ finmap.get numbers.now.base id }
+{
+    numbers.get(Level::Main, id).copied()
+}
+
+// The number of a live name's cluster.
+fn live_number(numbers: &Overlay<usize>, id: TxId) -> usize
+    requires { IsSome (finmap.get numbers.now.base id) }
+    ensures { finmap.get numbers.now.base id ≡ Some result }
+{
+    match number_of(numbers, id) {
+        Some(number) => number,
+        None => unreachable!(),
+    }
+}
+
+// The cluster of a number that has one.
+fn at<const W: usize>(store: &ClusterStore<W>, number: usize) -> &Cluster<W>
+    requires { IsSome (cluster_at store.now.clusters number) }
+    ensures { cluster_at store.now.clusters number ≡ Some result.now }
+{
+    match store.get(number) {
+        Some(cluster) => cluster,
+        None => unreachable!(),
+    }
+}
+
+// Two numbers that have clusters, first the one whose cluster has more names.
+fn larger_first<const W: usize>(
+    store: &ClusterStore<W>,
+    above: usize,
+    below: usize,
+) -> (usize, usize)
+    requires above { IsSome (cluster_at store.now.clusters above) }
+    requires below { IsSome (cluster_at store.now.clusters below) }
+    ensures { ((result.0 ≡ above) × (result.1 ≡ below)) ⊎ ((result.0 ≡ below) × (result.1 ≡ above)) }
+{
+    if at(store, above).names().len() < at(store, below).names().len() {
+        return (below, above);
+    }
+    (above, below)
+}
+
+// How two names of one cluster stand.
+fn way_within<const W: usize>(
+    cluster: &Cluster<W>,
+    number: usize,
+    parent: TxId,
+    child: TxId,
+) -> Result<Link, Refusal>
+    requires parent { Contains cluster.now.names parent }
+    requires child { Contains cluster.now.names child }
+    ensures { IsWithin cluster.now number parent child result }
+{
+    if cluster.reaches(child, parent) {
+        return Err(Refusal::Cycle);
+    }
+    if cluster.reaches(parent, child) {
+        return Ok(Link::There);
+    }
+    Ok(Link::Within(number))
 }
 
 // Which limit two clusters break together.
 fn refused_sum<const W: usize>(
     limits: &Limits,
-    first: &Record<W>,
-    second: &Record<W>,
+    first: &Cluster<W>,
+    second: &Cluster<W>,
 ) -> Option<Refusal>
     requires { limits.now.count ≤ 64 }
     ensures row { SumRefusalIs limits.now (length first.now.names + length second.now.names)
@@ -264,74 +376,88 @@ fn refused_sum<const W: usize>(
     None
 }
 
-// The cluster under a number that has one.
-fn at<const W: usize>(records: &Slab<Record<W>>, key: usize) -> &Record<W>
-    requires { IsSome (get records.now key) }
-    ensures { get records.now key ≡ Some result.now }
+// Gives names the number of their cluster.
+fn point(numbers: &mut Overlay<usize>, names: &[TxId], number: usize)
+    requires none_staged { numbers.old.top ≡ None }
+    requires room { length names.now ≤ numbers.old.spare }
+    ensures points { Points number names.now numbers.old.base numbers.new.base }
+    ensures none_staged { numbers.new.top ≡ None }
+    ensures room { numbers.old.spare ≤ numbers.new.spare + length names.now }
 {
-    match records.get(key) {
-        Some(record) => record,
-        None => unreachable!(),
+    for id in names {
+        numbers.put(*id, number);
     }
 }
 
-// Drops the cluster under a number that has one.
-fn take_out<const W: usize>(records: &mut Slab<Record<W>>, key: usize)
-    requires { IsSome (get records.old key) }
-    ensures gone { get records.new key ≡ None }
-    ensures others { (other : ℕ) → other ≢ key → get records.new other ≡ get records.old other }
-    ensures len { slab_len records.new + 1 ≡ slab_len records.old }
-    ensures capacity { records.new.capacity ≡ records.old.capacity }
-    ensures room { HasRoomFor records.new 1 }
-{
-    match records.try_remove(key) {
-        Some(_) => {}
-        None => unreachable!(),
-    }
-}
-
-// Puts the names of a cluster at its number, each at its place.
-fn settle(book: &mut NameBook, key: usize, names: &[TxId])
-    requires once { AreDistinct names.now }
-    requires live { (id : ℕ) → Contains names.now id → IsSome (finmap.get book.old.spots id) }
-    ensures settled { Settles key names.now book.old.spots book.new.spots }
-    ensures issued { book.new.issued ≡ book.old.issued }
-{
-    for place in 0..names.len() {
-        book.set(names[place], Spot { record: key, place });
-    }
-}
-
-// Puts a cluster under a number, and its names there.
-fn store<const W: usize>(records: &mut Slab<Record<W>>, book: &mut NameBook, cluster: Record<W>)
-    requires room { HasRoomFor records.old 1 }
-    requires once { AreDistinct cluster.names }
-    requires live { (id : ℕ) → Contains cluster.names id → IsSome (finmap.get book.old.spots id) }
-    ensures stored { Stores cluster.entry book.old.spots book.new.spots records.old.slots records.new.slots }
-    ensures issued { book.new.issued ≡ book.old.issued }
-    ensures room { slab_len records.new ≡ slab_len records.old + 1 }
-    ensures capacity { records.new.capacity ≡ records.old.capacity }
-{
-    let key = records.vacant_key();
-    settle(book, key, cluster.names());
-    records.insert_reserved(cluster);
-}
-
-// Puts each cluster under a number, and its names there.
-fn store_all<const W: usize>(
-    records: &mut Slab<Record<W>>,
-    book: &mut NameBook,
-    mut parts: Vec<Record<W>>,
+// Gives the names of the clusters of some numbers these numbers.
+fn point_all<const W: usize>(
+    numbers: &mut Overlay<usize>,
+    store: &ClusterStore<W>,
+    list: &[usize],
 )
-    requires room { HasRoomFor records.old (length parts.items) }
-    requires loose { IsLoose (64 * W) book.old.spots records.old.slots parts.items }
-    ensures indexed { IsIndexed (64 * W)
-        (record { spots = book.new.spots; slots = records.new.slots; issued = book.new.issued }) }
-    ensures same { (c : Cluster) → IsShelved records.new.slots [] c ↔ IsShelved records.old.slots parts.entry.items c }
-    ensures names { (id : ℕ) → is_some (finmap.get book.new.spots id) ≡ is_some (finmap.get book.old.spots id) }
-    ensures issued { book.new.issued ≡ book.old.issued }
+    requires none_staged { numbers.old.top ≡ None }
+    requires apart { AreFarApartIn store.now.clusters list.now }
+    requires room { (clusters : List records.Cluster) × AreAt store.now.clusters list.now clusters
+        × (sum_by (λ c. length c.names) clusters ≤ numbers.old.spare) }
+    ensures points { PointsAll store.now.clusters list.now numbers.old.base numbers.new.base }
+    ensures none_staged { numbers.new.top ≡ None }
 {
-    while let Some(part) = parts.pop() {
-        store(records, book, part);
+    for i in 0..list.len() {
+        point(numbers, at(store, list[i]).names(), list[i]);
     }
+}
+
+// How many names some clusters have, and one more.
+fn name_count<const W: usize>(clusters: &[Cluster<W>]) -> Result<usize, NoMemory>
+    ensures { IfOk result (λ n. n ≡ sum_by (λ c. length c.names) clusters.now + 1) }
+{
+    let mut count: usize = 1;
+    for cluster in clusters {
+        count = count.checked_add(cluster.names().len()).ok_or(NoMemory)?;
+    }
+    Ok(count)
+}
+
+// Puts clusters in the place of the one of a number: one of them under it, and the others under numbers that were free,
+// which it answers. Without memory all stays as it was.
+fn put_apart<const W: usize>(
+    alloc: Global,
+    store: &mut ClusterStore<W>,
+    number: usize,
+    mut left: Vec<Cluster<W>>,
+) -> Result<Vec<usize>, NoMemory>
+    requires there { IsSome (cluster_at store.old.clusters number) }
+    requires both { HoldsAll (λ s. s.tag ≡ Both) store.old.clusters }
+    ensures replaces { IfOk result (λ made. Replaces number left.entry.items made.items store.old.clusters store.new.clusters) }
+    ensures both { HoldsAll (λ s. s.tag ≡ Both) store.new.clusters }
+    ensures store { stores.IsStore (64 * W) store.new }
+    ensures err { OnErr result (store.new ≡ store.old) }
+{
+    match left.pop() {
+        None => {
+            store.make_move(number, None);
+            Ok(Vec::new(alloc))
+        }
+        Some(last) => {
+            let mut exchanged = Vec::with_capacity(alloc, 1)?;
+            exchanged.push_reserved(Exchange::new(number, last));
+            let added = all_both(alloc, left)?;
+            store.change(exchanged, added, &[])
+        }
+    }
+}
+
+// Clusters that are to stand in both levels.
+fn all_both<const W: usize>(
+    alloc: Global,
+    clusters: Vec<Cluster<W>>,
+) -> Result<Vec<Stored<W>>, NoMemory>
+    ensures { IfOk result
+        (λ all. all.items ≡ map (λ c. record { cluster = c; tag = Both }) clusters.entry.items) }
+{
+    let mut all = Vec::with_capacity(alloc, clusters.len())?;
+    for cluster in clusters {
+        all.push_reserved(Stored::new(cluster, Tag::Both));
+    }
+    Ok(all)
 }

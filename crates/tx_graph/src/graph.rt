@@ -1,13 +1,19 @@
-ghost use Rattle.std.specs.Prelude.{◌≡◌, ◌+◌, ◌-◌, ◌*◌, ◌^◌, ◌<◌, ◌≤◌, ◌↔◌, true, None, Some, length, option_map, is_ok, if◌then◌else◌, IsTrue, IfOk, OnErr, Contains};
+ghost use Rattle.std.specs.Prelude.{◌≡◌, ◌≢◌, ℕ, ◌+◌, ◌-◌, ◌*◌, ◌^◌, ◌<◌, ◌≤◌, ◌⊎◌, ◌↔◌, true, None, Some, List, [], ◌∷◌, length, option_map, is_ok, if◌then◌else◌, IsTrue, IfOk, IfErr, OnErr, Contains};
 ghost use Rattle.std.specs.FinMap as finmap;
+ghost use Rattle.graphs.specs.Closures.{is_ancestor, rate_of, AreLinked};
+ghost use Rattle.graphs.specs.Graphs.{Lists};
 ghost use Rattle.graph_model.specs.Limits.{AreInRange};
 ghost use Rattle.graph_model.specs.declared.limits.TheConstants.{MAX_COUNT};
-ghost use Rattle.graph_model.specs.States.{PlainState, plain_start, level_of};
+ghost use Rattle.graph_model.specs.declared.names.Refusal.TheVariants.{Memory};
+ghost use Rattle.graph_model.specs.States.{State, level_of};
 ghost use Rattle.graph_model.specs.Commands.{SetLimits, Add, Dep, SetFee, Remove, Cluster, Ancestors, Descendants, Count};
 ghost use Rattle.graph_model.specs.Refusals.{RefusalIs};
 ghost use Rattle.graph_model.specs.Replies.{Number, change_reply, names_reply};
-ghost use Rattle.tx_graph.specs.Kept.{Kept, StandsFor, MakesStep};
-ghost use Rattle.tx_graph.specs.Shelves.{graph_of};
+ghost use Rattle.cluster.specs.Clusters as records;
+ghost use Rattle.cluster.specs.Changes.{AreComponents};
+ghost use Rattle.cluster.specs.Steps.{GrowsWithin, most_steps, most_steps_of};
+ghost use Rattle.tx_graph.specs.Kept.{Kept, StandsFor, MakesStep, start_within};
+ghost use Rattle.tx_graph.specs.Shelves.{graph_of, IsClusterOf};
 ghost use Rattle.tx_graph.specs.Joins.{AddRefusalIs};
 
 use crate::clusters::Clusters;
@@ -20,9 +26,10 @@ use step_count::{Ledger, Steps};
 
 /// A transaction graph by clusters of at most 64·W names, where W is 1 or 2.
 ///
-/// It keeps each name's ancestors and not the pairs that they came from, so it stands for every state of the machine
-/// with these ancestors. Each call is a step of the machine from each such state. There is no staging yet: both words
-/// for a level speak of main. Nor does a call count steps yet: those that are passed stay as they are.
+/// It keeps each name's ancestors and not the pairs that they came from, and an optimal order, so it stands for every
+/// state of the machine with these ancestors and this order. Each call is a step of the machine from each such state.
+/// There is no staging yet: both words for a level speak of main. A call that changes the graph solves the clusters that
+/// it makes and no others, and counts the steps of that in a ledger of the caller's.
 #[derive(Drop)]
 pub struct TxGraph<const W: usize> {
     limits: Limits,
@@ -34,16 +41,28 @@ pub struct TxGraph<const W: usize> {
 // Clauses see the graph by names. Every value stands for some state.
 impl<const W: usize> Model for TxGraph<W> {
     ghost use Rattle.tx_graph.specs.Kept.{Kept, kept_code};
-    ghost use Rattle.tx_graph.specs.Shelves.{graph_of};
+    ghost use Rattle.tx_graph.specs.Shelves.{graph_of, parts_of};
     ghost use Rattle.tx_graph.specs.Sound.{IsSound};
 
     ghost Value = { Kept };
 
     ghost coded = { kept_code };
 
-    ghost view = { λ a. record { limits = a.limits; begun = a.begun; graph = graph_of a.clusters; additions = a.additions } };
+    ghost view = { λ a. record {
+      limits = a.limits;
+      begun = a.begun;
+      graph = graph_of a.clusters;
+      parts = parts_of a.clusters;
+      additions = a.additions;
+    } };
 
-    ghost invariant = { λ a. IsSound W a.clusters.issued (record { limits = a.limits; begun = a.begun; graph = graph_of a.clusters; additions = a.additions }) };
+    ghost invariant = { λ a. IsSound W (record {
+      limits = a.limits;
+      begun = a.begun;
+      graph = graph_of a.clusters;
+      parts = parts_of a.clusters;
+      additions = a.additions;
+    }) };
 }
 
 /// Why `add` is refused, other than for want of memory.
@@ -54,7 +73,7 @@ fn refused_add<const W: usize>(
     fee: i64,
     size: u64,
 ) -> Option<Refusal>
-    ensures row { AddRefusalIs limits.now (graph_of clusters.now) (finmap.len clusters.now.spots) id fee size result }
+    ensures row { AddRefusalIs limits.now (graph_of clusters.now) (finmap.len clusters.now.numbers) id fee size result }
 {
     if !is_fee(fee) {
         return Some(Refusal::Fee);
@@ -75,26 +94,26 @@ fn refused_add<const W: usize>(
 }
 
 impl<const W: usize> TxGraph<W> {
-    /// A graph without names under these limits, which are in range. It takes no memory yet.
+    /// A graph without names under these limits, which are in range. Takes the room in which orders are made.
     pub fn new(alloc: Global, limits: Limits) -> Result<Self, NoMemory>
         requires in_range { AreInRange MAX_COUNT limits }
         requires wide { 1 ≤ W }
         requires narrow { W ≤ 2 }
-        ensures start { IfOk result (λ graph. StandsFor graph (record (plain_start MAX_COUNT) { limits = limits })) }
+        ensures start { IfOk result (λ graph. StandsFor graph (start_within limits)) }
         ensures additions { IfOk result (λ graph. graph.additions ≡ 0) }
     {
         Ok(TxGraph {
             limits,
             begun: false,
             additions: 0,
-            clusters: Clusters::new(alloc),
+            clusters: Clusters::new(alloc)?,
         })
     }
 
     /// How many additions were accepted.
     pub fn additions(&self) -> u64
         ensures additions { result ≡ self.now.additions }
-        ensures stands { (state : PlainState) × StandsFor self.now state }
+        ensures stands { (state : State) × StandsFor self.now state }
     {
         self.additions
     }
@@ -136,11 +155,10 @@ impl<const W: usize> TxGraph<W> {
         ensures additions { self.new.additions ≡ self.old.additions + (if is_ok result then 1 else 0) }
         ensures steps { steps.new ≡ steps.old }
     {
-        let _steps = steps;
         if let Some(why) = refused_add(&self.limits, &self.clusters, id, fee, size) {
             return Err(why);
         }
-        if self.clusters.add(id, fee, size).is_err() {
+        if self.clusters.add(id, fee, size, steps).is_err() {
             return Err(Refusal::Memory);
         }
         self.begun = true;
@@ -148,12 +166,13 @@ impl<const W: usize> TxGraph<W> {
         Ok(())
     }
 
-    /// Makes one name a parent of another. A pair that is there already is accepted again.
+    /// Makes one name a parent of another. Where it is an ancestor already nothing changes, and no step is counted.
     ///
     /// Refused, by the first of these that holds: `Unknown` with the name where the parent or the child isn't live,
     /// `Cycle` where the child is an ancestor of the parent, `Count` and `ClusterSize`, with what the cluster would
     /// have, where the pair would join two to one over a limit, `Memory` where there is none. The graph stays as it was
-    /// then.
+    /// then. The steps grow by at most 2·(n+2)^5, where n is the number of names of the cluster that is made, and only
+    /// where it is made or memory is lacking for it.
     pub fn dep<L: Ledger>(
         &mut self,
         parent: TxId,
@@ -162,21 +181,25 @@ impl<const W: usize> TxGraph<W> {
     ) -> Result<(), Refusal>
         ensures step { MakesStep self.old self.new (Dep parent child) (change_reply result) }
         ensures additions { self.new.additions ≡ self.old.additions }
-        ensures steps { steps.new ≡ steps.old }
+        ensures refused { IfErr result (λ why. why ≢ Memory → steps.new ≡ steps.old) }
+        ensures nothing { is_ancestor self.old.graph parent child ≡ true → steps.new ≡ steps.old }
+        ensures steps { (ids : List ℕ)
+            → Lists (λ q. AreLinked self.old.graph q parent ⊎ AreLinked self.old.graph q child) ids
+            → GrowsWithin (most_steps (length ids)) steps.old steps.new }
     {
-        let _steps = steps;
-        let (above, below) = self.clusters.refused_dep(&self.limits, parent, child)?;
-        if self.clusters.connect(above, below).is_err() {
+        let link = self.clusters.refused_dep(&self.limits, parent, child)?;
+        if self.clusters.connect(link, parent, child, steps).is_err() {
             return Err(Refusal::Memory);
         }
         self.begun = true;
         Ok(())
     }
 
-    /// Sets the fee of a name, in satoshis. Takes no memory.
+    /// Sets the fee of a name, in satoshis. Where it has that fee already nothing changes, and no step is counted.
     ///
     /// Refused, by the first of these that holds: `Fee` where the number is out of range, `Unknown` where the name
-    /// isn't live. The graph stays as it was then.
+    /// isn't live, `Memory` where there is none. The graph stays as it was then. The steps grow by at most 2·(n+2)^5,
+    /// where n is the number of names of the cluster, and only where it is made anew or memory is lacking for it.
     pub fn fee<L: Ledger>(
         &mut self,
         id: TxId,
@@ -185,16 +208,20 @@ impl<const W: usize> TxGraph<W> {
     ) -> Result<(), Refusal>
         ensures step { MakesStep self.old self.new (SetFee id fee) (change_reply result) }
         ensures additions { self.new.additions ≡ self.old.additions }
-        ensures steps { steps.new ≡ steps.old }
+        ensures refused { IfErr result (λ why. why ≢ Memory → steps.new ≡ steps.old) }
+        ensures nothing { (rate_of self.old.graph id).fee ≡ fee → steps.new ≡ steps.old }
+        ensures steps { (ids : List ℕ) → Lists (AreLinked self.old.graph id) ids
+            → GrowsWithin (most_steps (length ids)) steps.old steps.new }
     {
-        let _steps = steps;
         if !is_fee(fee) {
             return Err(Refusal::Fee);
         }
-        let Some(spot) = self.clusters.spot(id) else {
+        if !self.clusters.is_live(id) {
             return Err(Refusal::Unknown(id));
-        };
-        self.clusters.set_fee(spot, fee);
+        }
+        if self.clusters.set_fee(id, fee, steps).is_err() {
+            return Err(Refusal::Memory);
+        }
         self.begun = true;
         Ok(())
     }
@@ -202,17 +229,20 @@ impl<const W: usize> TxGraph<W> {
     /// Removes a name. The others keep the ancestors that they had among them.
     ///
     /// Refused with `Unknown` where the name isn't live, and else with `Memory` where there is none. The graph stays as
-    /// it was then.
+    /// it was then. The steps grow by at most the sum of 2·(n+2)^5 over the clusters that are left of the name's one,
+    /// where n is the number of names of each.
     pub fn remove<L: Ledger>(&mut self, id: TxId, steps: &mut Steps<L>) -> Result<(), Refusal>
         ensures step { MakesStep self.old self.new (Remove id) (change_reply result) }
         ensures additions { self.new.additions ≡ self.old.additions }
-        ensures steps { steps.new ≡ steps.old }
+        ensures refused { IfErr result (λ why. why ≢ Memory → steps.new ≡ steps.old) }
+        ensures grew { steps.old ≤ steps.new }
+        ensures steps { (c : records.Cluster) (lists : List (List ℕ)) → IsClusterOf self.old.graph id c
+            → AreComponents c.graph (id ∷ []) lists → steps.new ≤ steps.old + most_steps_of lists }
     {
-        let _steps = steps;
-        let Some(spot) = self.clusters.spot(id) else {
+        if !self.clusters.is_live(id) {
             return Err(Refusal::Unknown(id));
-        };
-        if self.clusters.remove(id, spot).is_err() {
+        }
+        if self.clusters.remove(id, steps).is_err() {
             return Err(Refusal::Memory);
         }
         self.begun = true;
@@ -230,10 +260,10 @@ impl<const W: usize> TxGraph<W> {
     {
         // There is no staging, so both words speak of main.
         let _ = level;
-        let Some(spot) = self.clusters.spot(id) else {
+        let Some(cluster) = self.clusters.find(id) else {
             return Err(Refusal::Unknown(id));
         };
-        self.clusters.record(spot).list_names(out);
+        cluster.list_names(out);
         Ok(())
     }
 
@@ -248,10 +278,10 @@ impl<const W: usize> TxGraph<W> {
     {
         // There is no staging, so both words speak of main.
         let _ = level;
-        let Some(spot) = self.clusters.spot(id) else {
+        let Some(cluster) = self.clusters.find(id) else {
             return Err(Refusal::Unknown(id));
         };
-        self.clusters.record(spot).list_ancestors(spot.place, out);
+        cluster.list_ancestors(id, out);
         Ok(())
     }
 
@@ -266,10 +296,10 @@ impl<const W: usize> TxGraph<W> {
     {
         // There is no staging, so both words speak of main.
         let _ = level;
-        let Some(spot) = self.clusters.spot(id) else {
+        let Some(cluster) = self.clusters.find(id) else {
             return Err(Refusal::Unknown(id));
         };
-        self.clusters.record(spot).list_descendants(spot.place, out);
+        cluster.list_descendants(id, out);
         Ok(())
     }
 
@@ -284,8 +314,8 @@ impl<const W: usize> TxGraph<W> {
 
     /// Whether a level has the name.
     pub fn exists(&self, level: Level, id: TxId) -> bool
-        ensures { (state : PlainState) → StandsFor self.now state → IsTrue result
-            ↔ Contains (level_of state level).names id }
+        ensures { (state : State) → StandsFor self.now state → IsTrue result
+            ↔ Contains (level_of state.plain level).names id }
     {
         // There is no staging, so both words speak of main.
         let _ = level;
@@ -294,10 +324,10 @@ impl<const W: usize> TxGraph<W> {
 
     /// The fee of a live name, in satoshis, and its size, in virtual bytes; `None` where the name isn't live.
     pub fn sums(&self, id: TxId) -> Option<FeeRate>
-        ensures { (state : PlainState) → StandsFor self.now state
-            → finmap.get state.table id ≡ option_map (λ rate. record { fee = rate.fee; size = rate.size }) result }
+        ensures { (state : State) → StandsFor self.now state
+            → finmap.get state.plain.table id ≡ option_map (λ rate. record { fee = rate.fee; size = rate.size }) result }
     {
-        let spot = self.clusters.spot(id)?;
-        Some(self.clusters.record(spot).rate(spot.place))
+        let cluster = self.clusters.find(id)?;
+        Some(cluster.rate(id))
     }
 }
