@@ -1,9 +1,9 @@
 -- The clusters of a graph, each under a number, and under which number the cluster of each name stands.
-use Rattle.std.specs.Prelude.{◌≡◌, ℕ, ◌*◌, ◌≤◌, [], List, map, length, Contains, Option, None, Some, option_map, refl}
+use Rattle.std.specs.Prelude.{◌≡◌, ◌↔◌, ℕ, ◌*◌, ◌≤◌, true, [], List, map, length, Contains, Option, None, Some, option_map, refl}
 use Rattle.std.specs.Coded.{Coded, code_by, coded×, coded_ℕ}
 use Rattle.std.specs.FinMap as finmap
 use Rattle.std.specs.FinSet as set
-use Rattle.graphs.specs.Closures.{Node, Closure, is_ancestor, rate_of, ancestors_of, no_rate, AreLinked}
+use Rattle.graphs.specs.Closures.{Node, Closure, is_member, is_ancestor, rate_of, ancestors_of, no_rate, AreLinked}
 use Rattle.graphs.specs.Certificates.{Part}
 use Rattle.graphs.specs.declared.names.Level.TheVariants.{Main}
 use Rattle.staging.specs.Maps.{Map, Maps}
@@ -76,6 +76,7 @@ pub record IsKept (w : ℕ) (maps : Maps ℕ) (store : Store) (count : ℕ) : Ty
 
 -- The cluster of a name: the graph says of its names what it says of them, and links them to no other.
 pub record IsClusterOf (graph : Closure) (id : ℕ) (c : Cluster) : Type 0 where
+  pub members : (q : ℕ) → (is_member c.graph q ≡ true) ↔ Contains c.names q
   pub here : Contains c.names id
   pub linked : (q : ℕ) → Contains c.names q → AreLinked graph id q
   pub alone : (q : ℕ) → AreLinked graph id q → Contains c.names q
