@@ -1,13 +1,2 @@
 mod Graphs
-mod Loose
-mod Settling
-mod Added
-mod Slots
-mod Joined
-mod Standing
-mod Rows
-mod Stepping
-mod Arranged
-mod Pairs
-mod Starts
-mod Calls
+mod Found
