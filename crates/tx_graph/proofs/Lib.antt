@@ -1,2 +1,4 @@
 mod Graphs
 mod Found
+mod Changed
+mod Joined
