@@ -1,8 +1,8 @@
 -- The cluster of a name, told by the graph.
-use Rattle.std.proofs.Common.{◌≡◌, ℕ, true, false, List, [], ◌∷◌, Contains, Some, None, inl, inr, ◌⊎◌, refl, sym, ap, ◌∙◌, subst, true≢false}
+use Rattle.std.proofs.Common.{◌≡◌, ℕ, true, Contains, Some, inl, inr}
 use Rattle.lists.proofs.Cases.{same_test}
-use Rattle.lists.specs.Walks.{IsWalk}
-use Rattle.graphs.specs.Closures.{is_member, is_ancestor, IsRelated, AreLinked}
+use Rattle.lists.proofs.Walks.{Walk-map, Walk-keeps}
+use Rattle.graphs.specs.Closures.{is_ancestor, IsRelated}
 use Rattle.cluster.specs.Clusters.{Cluster}
 use Rattle.tx_graph.specs.Shelves.{Shelf, cluster_at, graph_of, IsIndexed, IsClusterOf}
 use Rattle.tx_graph.proofs.Graphs.{above_in, above_from, names_of_above, rate_in_cluster}
@@ -14,16 +14,11 @@ module _ (most : ℕ) (shelf : Shelf) (indexed : IsIndexed most shelf.numbers sh
     | inr down ↦ (names_of_above most shelf indexed number d a c is (above_from most shelf indexed number d a c is (inr here) down)).0
   ]
 
-  walk_in : (a d : ℕ) (vs : List ℕ) → Contains c.names a → IsWalk (IsRelated (graph_of shelf)) a vs d → Contains c.names d
-  walk_in a d [] here same = subst (Contains c.names) same here
-  walk_in a d (v ∷ vs) here walk = walk_in v d vs (related_in a v here walk.0) walk.1
-
-  walk_out : (a d : ℕ) (vs : List ℕ) → IsWalk (IsRelated c.graph) a vs d → IsWalk (IsRelated (graph_of shelf)) a vs d
-  walk_out a d [] same = same
-  walk_out a d (v ∷ vs) walk = (
-    elim walk.0 [ inl up ↦ inl (above_in most shelf indexed number a v c is up) | inr down ↦ inr (above_in most shelf indexed number v a c is down) ],
-    walk_out v d vs walk.1,
-  )
+  related_out : (a d : ℕ) → IsRelated c.graph a d → IsRelated (graph_of shelf) a d
+  related_out a d related = elim related [
+    | inl up ↦ inl (above_in most shelf indexed number a d c is up)
+    | inr down ↦ inr (above_in most shelf indexed number d a c is down)
+  ]
 
   pub cluster_of : (id : ℕ) → Contains c.names id → IsClusterOf (graph_of shelf) id c
   cluster_of id here =
@@ -32,9 +27,9 @@ module _ (most : ℕ) (shelf : Shelf) (indexed : IsIndexed most shelf.numbers sh
         members = cluster.members;
         here = here;
         linked = λ q there.
-            let walk = cluster.whole id q ((cluster.members id).1 here) ((cluster.members q).1 there) in
-            (walk.0, walk_out id q walk.0 walk.1);
-        alone = λ q linked. walk_in id q linked.0 here linked.1;
+            Walk-map (λ x. x) (IsRelated c.graph) (IsRelated (graph_of shelf)) related_out id q
+            (cluster.whole id q ((cluster.members id).1 here) ((cluster.members q).1 there));
+        alone = λ q linked. Walk-keeps (IsRelated (graph_of shelf)) (Contains c.names) (λ a d related there. related_in a d there related) id q linked here;
         above = λ a d there. same_test (is_ancestor (graph_of shelf) a d) (is_ancestor c.graph a d)
             (above_from most shelf indexed number a d c is (inr there)) (above_in most shelf indexed number a d c is);
         below = λ a d there. same_test (is_ancestor (graph_of shelf) a d) (is_ancestor c.graph a d)

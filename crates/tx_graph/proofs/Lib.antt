@@ -2,3 +2,6 @@ mod Graphs
 mod Found
 mod Changed
 mod Joined
+mod Arranged
+mod Pairs
+mod Sizes
