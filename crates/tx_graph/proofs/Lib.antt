@@ -5,3 +5,4 @@ mod Joined
 mod Arranged
 mod Pairs
 mod Sizes
+mod Merged
