@@ -1,4 +1,4 @@
-ghost use Rattle.std.specs.Prelude.{sum_by, MatchOption, MatchResult, ◌≡◌, ◌≢◌, ℕ, ◌+◌, ◌*◌, ◌^◌, ◌<◌, ◌≤◌, false, true, None, Some, List, [], ◌∷◌, length, map, All, Contains, IsSome, IfOk, OnOk, OnErr};
+ghost use Rattle.std.specs.Prelude.{sum_by, MatchOption, MatchResult, ◌≡◌, ◌≢◌, ℕ, ◌+◌, ◌*◌, ◌^◌, ◌<◌, ◌≤◌, ◌⊎◌, false, true, None, Some, List, [], ◌∷◌, length, map, All, Contains, IsSome, IfOk, OnOk, OnErr};
 ghost use Rattle.std.specs.FinMap as finmap;
 ghost use Rattle.fee_rate.specs.Limits.{IsFee, IsRate};
 ghost use Rattle.graphs.specs.Closures.{is_member, is_ancestor, rate_of, AddsPair, SetsFee, DropsPlace, AreLinked};
