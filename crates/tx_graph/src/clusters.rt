@@ -1,4 +1,4 @@
-ghost use Rattle.std.specs.Prelude.{sum_by, MatchOption, MatchResult, ◌≡◌, ◌≢◌, ℕ, ◌+◌, ◌*◌, ◌^◌, ◌<◌, ◌≤◌, false, true, None, Some, List, [], ◌∷◌, length, map, All, Contains, IsSome, IfOk, OnOk, OnErr};
+ghost use Rattle.std.specs.Prelude.{sum_by, MatchOption, MatchResult, ◌≡◌, ◌≢◌, ◌⊎◌, ℕ, ◌+◌, ◌*◌, ◌^◌, ◌<◌, ◌≤◌, false, true, None, Some, List, [], ◌∷◌, length, map, All, Contains, IsSome, IfOk, OnOk, OnErr};
 ghost use Rattle.std.specs.FinMap as finmap;
 ghost use Rattle.fee_rate.specs.Limits.{IsFee, IsRate};
 ghost use Rattle.graphs.specs.Closures.{is_member, is_ancestor, rate_of, AddsPair, SetsFee, DropsPlace, AreLinked};
@@ -325,6 +325,7 @@ fn larger_first<const W: usize>(
     above: usize,
     below: usize,
 ) -> (usize, usize)
+    requires narrow { W ≤ 2 }
     requires above { IsSome (cluster_at store.now.clusters above) }
     requires below { IsSome (cluster_at store.now.clusters below) }
     ensures { ((result.0 ≡ above) × (result.1 ≡ below)) ⊎ ((result.0 ≡ below) × (result.1 ≡ above)) }
@@ -397,6 +398,7 @@ fn point_all<const W: usize>(
     store: &ClusterStore<W>,
     list: &[usize],
 )
+    requires narrow { W ≤ 2 }
     requires none_staged { numbers.old.top ≡ None }
     requires apart { AreFarApartIn store.now.clusters list.now }
     requires room { (clusters : List records.Cluster) × AreAt store.now.clusters list.now clusters
@@ -411,6 +413,7 @@ fn point_all<const W: usize>(
 
 // How many names some clusters have, and one more.
 fn name_count<const W: usize>(clusters: &[Cluster<W>]) -> Result<usize, NoMemory>
+    requires { W ≤ 2 }
     ensures { IfOk result (λ n. n ≡ sum_by (λ c. length c.names) clusters.now + 1) }
 {
     let mut count: usize = 1;
@@ -428,11 +431,12 @@ fn put_apart<const W: usize>(
     number: usize,
     mut left: Vec<Cluster<W>>,
 ) -> Result<Vec<usize>, NoMemory>
+    requires narrow { W ≤ 2 }
     requires there { IsSome (cluster_at store.old.clusters number) }
     requires both { HoldsAll (λ s. s.tag ≡ Both) store.old.clusters }
     ensures replaces { IfOk result (λ made. Replaces number left.entry.items made.items store.old.clusters store.new.clusters) }
     ensures both { HoldsAll (λ s. s.tag ≡ Both) store.new.clusters }
-    ensures store { stores.IsStore (64 * W) store.new }
+    ensures store { OnOk result (stores.IsStore (64 * W) store.new) }
     ensures err { OnErr result (store.new ≡ store.old) }
 {
     match left.pop() {
@@ -454,6 +458,7 @@ fn all_both<const W: usize>(
     alloc: Global,
     clusters: Vec<Cluster<W>>,
 ) -> Result<Vec<Stored<W>>, NoMemory>
+    requires { W ≤ 2 }
     ensures { IfOk result
         (λ all. all.items ≡ map (λ c. record { cluster = c; tag = Both }) clusters.entry.items) }
 {
