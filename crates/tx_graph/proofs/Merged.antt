@@ -8,7 +8,7 @@ use Rattle.chunk_index.specs.Items.{is_in}
 use Rattle.cluster.specs.Clusters.{Cluster, ArePicked}
 use Rattle.cluster_store.specs.Stores.{Stored, Numbered}
 use Rattle.cluster_store.specs.Laws.{Stands, IsLevel}
-use Rattle.cluster_store.proofs.Levels.{levels_are_picked}
+use Rattle.cluster_store.proofs.Unions.{levels_are_picked}
 use Rattle.tx_graph.specs.Shelves.{Shelf, cluster_at, graph_of, parts_of, IsInOrder}
 use Rattle.tx_graph.proofs.Graphs.{above_in, in_above, in_live, live_in, one_number, rate_in_cluster}
 
