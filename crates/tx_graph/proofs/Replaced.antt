@@ -9,8 +9,7 @@ use Rattle.lists.proofs.Entries.{Contains-head, Contains-cases}
 use Rattle.chunk_index.specs.declared.entry.Tag.TheVariants.{Both}
 use Rattle.cluster.specs.Clusters.{Cluster}
 use Rattle.cluster_store.specs.Stores.{Stored, Exchange, Numbered, Store}
-use Rattle.cluster_store.specs.Changes.{AreThere, MakesChange}
-use Rattle.tx_graph.specs.Stub.{Sets}
+use Rattle.cluster_store.specs.Changes.{AreThere, MakesChange, Sets}
 use Rattle.tx_graph.specs.Shelves.{cluster_at}
 use Rattle.tx_graph.specs.Moves.{AreAt, HoldsAll, Replaces}
 use Rattle.tx_graph.proofs.Pointing.{decide_in, place_of}
@@ -29,7 +28,7 @@ stored_there clusters number there = ap is_some (stored_some clusters number the
 pub replaces_none : (number : ℕ) (old new : Numbered) → Sets number None old new → Replaces number [] [] old new
 replaces_none number old new sets = record {
   rest = [];
-  last = inl (refl, refl, ap (option_map (λ (s : Stored). s.cluster)) sets.there);
+  last = inl (refl, refl, ap (option_map (λ (s : Stored). s.cluster)) sets.changed);
   once = tt;
   free = λ n here. absurd (omega (arith, here.1));
   stand = record { count = refl; stand = λ i c is. absurd (none-some c is) };
@@ -38,7 +37,7 @@ replaces_none number old new sets = record {
 
 pub both_none : (number : ℕ) (old new : Numbered) → Sets number None old new → HoldsAll (λ s. s.tag ≡ Both) old → HoldsAll (λ s. s.tag ≡ Both) new
 both_none number old new sets both n s is = elim (cases_eq n number) [
-  | inl same ↦ absurd (none-some s (sym sets.there ∙ ap (finmap.get new) (sym same) ∙ is))
+  | inl same ↦ absurd (none-some s (sym sets.changed ∙ ap (finmap.get new) (sym same) ∙ is))
   | inr other ↦ both n s (sym (sets.others n other) ∙ is)
 ]
 

@@ -1,11 +1,12 @@
 ghost use Rattle.std.specs.Prelude.{sum_by, MatchOption, MatchResult, ◌≡◌, ◌≢◌, ◌⊎◌, ℕ, ◌+◌, ◌*◌, ◌^◌, ◌<◌, ◌≤◌, false, true, None, Some, List, [], ◌∷◌, length, map, All, Contains, IsSome, IfOk, OnOk, OnErr};
+ghost use Rattle.std.specs.List.{AllPairs};
 ghost use Rattle.std.specs.FinMap as finmap;
 ghost use Rattle.fee_rate.specs.Limits.{IsFee, IsRate};
 ghost use Rattle.graphs.specs.Closures.{is_member, is_ancestor, rate_of, AddsPair, SetsFee, DropsPlace, AreLinked};
 ghost use Rattle.graphs.specs.Graphs.{Lists};
 ghost use Rattle.staging.specs.Maps.{Maps};
 ghost use Rattle.chunk_index.specs.declared.entry.Tag.TheVariants.{Both};
-ghost use Rattle.cluster.specs.Clusters.{IsCluster, ArePicked};
+ghost use Rattle.cluster.specs.Clusters.{IsCluster, ArePicked, AreApart};
 ghost use Rattle.cluster.specs.Clusters as records;
 ghost use Rattle.cluster.specs.Changes.{AreComponents};
 ghost use Rattle.cluster.specs.Steps.{GrowsWithin, most_steps, most_steps_of};
@@ -277,13 +278,8 @@ impl<const W: usize> Clusters<W> {
         let names = [id];
         let cluster = at(&self.store, number);
         let left = cluster.without(self.alloc, &names, &mut self.work, steps)?;
-        let left = left.into_vec();
-        let few = name_count(left.as_slice())?;
-        self.numbers.reserve(few)?;
-        let made = put_apart(self.alloc, &mut self.store, number, left)?;
-        self.numbers.remove(id);
+        fall_apart(self.alloc, &mut self.numbers, &mut self.store, number, id, left.into_vec())?;
         self.count -= 1;
-        point_all(&mut self.numbers, &self.store, made.as_slice());
         Ok(())
     }
 }
@@ -407,6 +403,38 @@ fn point_all<const W: usize>(
     for i in 0..list.len() {
         point(numbers, at(store, list[i]).names(), list[i]);
     }
+}
+
+// Takes a name out, and puts what is left of its cluster in the place of the one of the number. Without memory all stays as
+// it was.
+fn fall_apart<const W: usize>(
+    alloc: Global,
+    numbers: &mut Overlay<usize>,
+    store: &mut ClusterStore<W>,
+    number: usize,
+    id: TxId,
+    left: Vec<Cluster<W>>,
+) -> Result<(), NoMemory>
+    requires narrow { W ≤ 2 }
+    requires none_staged { numbers.old.top ≡ None }
+    requires there { IsSome (cluster_at store.old.clusters number) }
+    requires both { HoldsAll (λ s. s.tag ≡ Both) store.old.clusters }
+    requires apart { AllPairs AreApart left.items }
+    ensures parted { OnOk result ((made : List ℕ)
+        × Replaces number left.entry.items made store.old.clusters store.new.clusters
+        × PointsAll store.new.clusters made (finmap.remove numbers.old.base id) numbers.new.base) }
+    ensures none_staged { numbers.new.top ≡ None }
+    ensures both { HoldsAll (λ s. s.tag ≡ Both) store.new.clusters }
+    ensures store { OnOk result (stores.IsStore (64 * W) store.new) }
+    ensures same_numbers { OnErr result (numbers.new.base ≡ numbers.old.base) }
+    ensures same_store { OnErr result (store.new ≡ store.old) }
+{
+    let few = name_count(left.as_slice())?;
+    numbers.reserve(few)?;
+    let made = put_apart(alloc, store, number, left)?;
+    numbers.remove(id);
+    point_all(numbers, store, made.as_slice());
+    Ok(())
 }
 
 // How many names some clusters have, and one more.
