@@ -10,3 +10,4 @@ mod Pointing
 mod Parted
 mod Replaced
 mod Alike
+mod Removed

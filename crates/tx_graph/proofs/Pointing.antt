@@ -194,7 +194,7 @@ first_in m [] is = inl (finmap.len-entries m ∙ ap length is)
 first_in m (e ∷ es) is = inr (
   e.0,
   ap is_some (finmap.get-entries m e.0 ∙ ap (finmap.find nat_cmp e.0) is
-  ∙ ap (λ b. cond b (Some e.1) (finmap.find nat_cmp e.0 es)) (unsigned_tied e.0 e.0 ∙ eq-eqb e.0 e.0 refl)),
+      ∙ ap (λ b. cond b (Some e.1) (finmap.find nat_cmp e.0 es)) (unsigned_tied e.0 e.0 ∙ eq-eqb e.0 e.0 refl)),
 )
 
 no_keys : (m : Numbers) (q : ℕ) → finmap.len m ≡ 0 → finmap.contains_key m q ≡ true → ⊥

@@ -278,7 +278,14 @@ impl<const W: usize> Clusters<W> {
         let names = [id];
         let cluster = at(&self.store, number);
         let left = cluster.without(self.alloc, &names, &mut self.work, steps)?;
-        fall_apart(self.alloc, &mut self.numbers, &mut self.store, number, id, left.into_vec())?;
+        fall_apart(
+            self.alloc,
+            &mut self.numbers,
+            &mut self.store,
+            number,
+            id,
+            left.into_vec(),
+        )?;
         self.count -= 1;
         Ok(())
     }
@@ -387,11 +394,7 @@ fn point(numbers: &mut Overlay<usize>, names: &[TxId], number: usize)
 }
 
 // Gives the names of the clusters of some numbers these numbers.
-fn point_all<const W: usize>(
-    numbers: &mut Overlay<usize>,
-    store: &ClusterStore<W>,
-    list: &[usize],
-)
+fn point_all<const W: usize>(numbers: &mut Overlay<usize>, store: &ClusterStore<W>, list: &[usize])
     requires narrow { W ≤ 2 }
     requires none_staged { numbers.old.top ≡ None }
     requires apart { AreFarApartIn store.now.clusters list.now }
