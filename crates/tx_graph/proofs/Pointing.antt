@@ -41,7 +41,8 @@ pub base_is : (maps : Maps ℕ) → maps.top ≡ None → top_of maps ≡ maps.b
 base_is maps none = ap (λ o. unwrap_or o maps.base) none
 
 -- what is done to the top level is done to the base
-pub base_changes : (f : Map ℕ → Map ℕ) (old new : Maps ℕ) → old.top ≡ None → is_some new.top ≡ is_some old.top → top_of new ≡ f (top_of old) → new.base ≡ f old.base
+pub base_changes : (f : Map ℕ → Map ℕ) (old new : Maps ℕ) → old.top ≡ None → is_some new.top ≡ is_some old.top
+    → top_of new ≡ f (top_of old) → new.base ≡ f old.base
 base_changes f old new none same is = sym (base_is new (still_none old new none same)) ∙ is ∙ ap f (base_is old none)
 
 -- ---- some names

@@ -49,7 +49,8 @@ in_both c = record { cluster = c; tag = Both }
 abbrev pub one_exchange : ℕ → Cluster → List Exchange
 one_exchange number last = record { number = number; cluster = last } ∷ []
 
-pub there_once : (number : ℕ) (last : Cluster) (clusters : Numbered) → IsSome (cluster_at clusters number) → AreThere (one_exchange number last) [] clusters
+pub there_once : (number : ℕ) (last : Cluster) (clusters : Numbered) → IsSome (cluster_at clusters number)
+    → AreThere (one_exchange number last) [] clusters
 there_once number last clusters there = record {
   once = ((λ here. omega (arith, here.1)), tt);
   there = λ n here. elim (Contains-cases number n [] here) [
@@ -67,7 +68,8 @@ module _ (number : ℕ) (last : Cluster) (rest : List Cluster) (made : List ℕ)
   now_there : (s : Stored) × (finmap.get old number ≡ Some s) × (finmap.get new number ≡ Some (record { cluster = last; tag = s.tag }))
   now_there =
       let was = stored_some old number there in
-      (was.0, was.1, change.exchanges (record { number = number; cluster = last }) was.0 (Contains-head (record { number = number; cluster = last }) []) was.1)
+      let x : Exchange = record { number = number; cluster = last } in
+      (was.0, was.1, change.exchanges x was.0 (Contains-head x []) was.1)
 
   not_changing : (n : ℕ) → n ≢ number → Contains (number ∷ []) n → ⊥
   not_changing n other here = elim (Contains-cases number n [] here) [ inl same ↦ other (sym same) | inr later ↦ omega (arith, later.1) ]
@@ -80,7 +82,8 @@ module _ (number : ℕ) (last : Cluster) (rest : List Cluster) (made : List ℕ)
     free = change.adds.free;
     stand = record {
       count = change.adds.count ∙ length-map rest in_both;
-      stand = λ i c at. ap (option_map (λ (s : Stored). s.cluster)) (change.adds.stand i (in_both c) (slice_get-map in_both rest i ∙ ap (option_map in_both) at));
+      stand = λ i c at. ap (option_map (λ (s : Stored). s.cluster))
+          (change.adds.stand i (in_both c) (slice_get-map in_both rest i ∙ ap (option_map in_both) at));
     };
     others = λ n other none. change.others n none (not_changing n other);
   }
@@ -97,7 +100,8 @@ module _ (number : ℕ) (last : Cluster) (rest : List Cluster) (made : List ℕ)
         ]
     | inr out ↦ elim (cases_eq n number) [
       | inl same ↦
-          let one : record { cluster = last; tag = now_there.0.tag } ≡ s = same_Some (record { cluster = last; tag = now_there.0.tag }) s (sym now_there.2 ∙ ap (finmap.get new) (sym same) ∙ is) in
+          let now : Stored = record { cluster = last; tag = now_there.0.tag } in
+          let one : now ≡ s = same_Some now s (sym now_there.2 ∙ ap (finmap.get new) (sym same) ∙ is) in
           ap (λ (t : Stored). t.tag) (sym one) ∙ both number now_there.0 now_there.1
       | inr other ↦ both n s (sym (change.others n out (not_changing n other)) ∙ is)
     ]

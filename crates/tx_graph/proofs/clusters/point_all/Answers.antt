@@ -19,7 +19,8 @@ point-requires-clause-room g c =
     let low : c.loop-i.i < length c.args.list.now = omega arith in
     let found = c.requires.room.0 in
     let room = c.loop-i.invariant.room found c.requires.room.1 c.requires.room.2 in
-    let one = room_at c.args.store.now.clusters c.args.list.now found c.loop-i.i c.loop-i.numbers.spare c.at.result.now c.requires.room.1 low c.at.ensures room in
+    let one = room_at c.args.store.now.clusters c.args.list.now found c.loop-i.i c.loop-i.numbers.spare c.at.result.now
+    c.requires.room.1 low c.at.ensures room in
     omega (arith, one, ap length c.names.ensures.names)
 
 pub loop-i-preserved : goal.loop-i-preserved
@@ -29,8 +30,8 @@ loop-i-preserved g c =
     let points : Points number c.at.result.now.names c.loop-i.numbers.base c.point.new.numbers.base =
     subst (λ (xs : List ℕ). Points number xs c.loop-i.numbers.base c.point.new.numbers.base) c.names.ensures.names c.point.ensures.points in
     record {
-      points = all_more c.loop-i.i c.args.store.now.clusters c.args.list.now c.args.numbers.now.base c.loop-i.numbers.base c.point.new.numbers.base c.at.result.now
-          c.loop-i.invariant.points c.requires.apart low c.at.ensures points;
+      points = all_more c.loop-i.i c.args.store.now.clusters c.args.list.now c.args.numbers.now.base c.loop-i.numbers.base c.point.new.numbers.base
+          c.at.result.now c.loop-i.invariant.points c.requires.apart low c.at.ensures points;
       none_staged = c.point.ensures.none_staged;
       room = λ found at few.
           let one = room_at c.args.store.now.clusters c.args.list.now found c.loop-i.i c.loop-i.numbers.spare c.at.result.now at low c.at.ensures

@@ -22,7 +22,8 @@ returns-in_ok-added-in-Some-clause-replaces g c =
     c.push_reserved.ensures.items ∙ ap (λ (xs : List Exchange). xs ++ c.new-in-Some.result ∷ []) c.in_ok-exchanged-in-Some.ensures.items
     ∙ ap (λ (x : Exchange). x ∷ []) c.new-in-Some.ensures in
     let change = subst₂
-    (λ (xs : List Exchange) (ss : List Stored). IfOk c.change.result (λ made. MakesChange xs ss [] made.items c.args.store.now.clusters c.change.new.self.clusters))
+    (λ (xs : List Exchange) (ss : List Stored). IfOk c.change.result
+    (λ made. MakesChange xs ss [] made.items c.args.store.now.clusters c.change.new.self.clusters))
     exchanged c.in_ok-added-in-Some.ensures c.change.ensures.change in
     IfOk-weaker c.change.result _ _
     (λ made made_is. replaces_some c.args.number c.in-Some.last c.pop.new.self.items made.items c.args.store.now.clusters c.change.new.self.clusters
@@ -34,7 +35,8 @@ returns-in_ok-added-in-Some-clause-both g c =
     c.push_reserved.ensures.items ∙ ap (λ (xs : List Exchange). xs ++ c.new-in-Some.result ∷ []) c.in_ok-exchanged-in-Some.ensures.items
     ∙ ap (λ (x : Exchange). x ∷ []) c.new-in-Some.ensures in
     let change = subst₂
-    (λ (xs : List Exchange) (ss : List Stored). IfOk c.change.result (λ made. MakesChange xs ss [] made.items c.args.store.now.clusters c.change.new.self.clusters))
+    (λ (xs : List Exchange) (ss : List Stored). IfOk c.change.result
+    (λ made. MakesChange xs ss [] made.items c.args.store.now.clusters c.change.new.self.clusters))
     exchanged c.in_ok-added-in-Some.ensures c.change.ensures.change in
     both_after (λ made. made.items) c.change.result c.args.number c.in-Some.last c.pop.new.self.items c.args.store.now c.change.new.self
     c.requires.there change c.change.ensures.err c.requires.both

@@ -32,13 +32,15 @@ without-requires g c =
     (search rules, (search rules, (search rules, only_name c.at-cluster.result.now.names c.args.id here)))
 
 pub returns-in_err-left-clause-picked : goal.returns-in_err-left-clause-picked
-returns-in_err-left-clause-picked g c = picked_of g.row.W (record { numbers = c.self.inside.numbers.base; store = c.self.inside.store }) c.self.invariant.order
+returns-in_err-left-clause-picked g c =
+    let old : Shelf = record { numbers = c.self.inside.numbers.base; store = c.self.inside.store } in
+    picked_of g.row.W old c.self.invariant.order
 
 pub returns-in_err-left-clause-steps : goal.returns-in_err-left-clause-steps
 returns-in_err-left-clause-steps g c d lists told components =
     let old : Shelf = record { numbers = c.self.inside.numbers.base; store = c.self.inside.store } in
-    c.without.ensures.steps lists (components_there g.row.W c.args.self.now old c.args.id c.live_number-number.result c.at-cluster.result.now d lists c.self.view_is
-    c.self.invariant.order c.live_number-number.ensures c.at-cluster.ensures told components)
+    c.without.ensures.steps lists (components_there g.row.W c.args.self.now old c.args.id c.live_number-number.result c.at-cluster.result.now d lists
+    c.self.view_is c.self.invariant.order c.live_number-number.ensures c.at-cluster.ensures told components)
 
 pub fall_apart-requires : goal.fall_apart-requires
 fall_apart-requires g c =
@@ -58,8 +60,8 @@ returns-in_err-fall_apart-clause-picked g c =
 pub returns-in_err-fall_apart-clause-steps : goal.returns-in_err-fall_apart-clause-steps
 returns-in_err-fall_apart-clause-steps g c d lists told components =
     let old : Shelf = record { numbers = c.self.inside.numbers.base; store = c.self.inside.store } in
-    c.without.ensures.steps lists (components_there g.row.W c.args.self.now old c.args.id c.live_number-number.result c.at-cluster.result.now d lists c.self.view_is
-    c.self.invariant.order c.live_number-number.ensures c.at-cluster.ensures told components)
+    c.without.ensures.steps lists (components_there g.row.W c.args.self.now old c.args.id c.live_number-number.result c.at-cluster.result.now d lists
+    c.self.view_is c.self.invariant.order c.live_number-number.ensures c.at-cluster.ensures told components)
 
 pub overflow_sub-self : goal.overflow_sub-self
 overflow_sub-self g c =
@@ -136,5 +138,5 @@ returns-clause-picked g c =
 pub returns-clause-steps : goal.returns-clause-steps
 returns-clause-steps g c d lists told components =
     let old : Shelf = record { numbers = c.self.inside.numbers.base; store = c.self.inside.store } in
-    c.without.ensures.steps lists (components_there g.row.W c.args.self.now old c.args.id c.live_number-number.result c.at-cluster.result.now d lists c.self.view_is
-    c.self.invariant.order c.live_number-number.ensures c.at-cluster.ensures told components)
+    c.without.ensures.steps lists (components_there g.row.W c.args.self.now old c.args.id c.live_number-number.result c.at-cluster.result.now d lists
+    c.self.view_is c.self.invariant.order c.live_number-number.ensures c.at-cluster.ensures told components)
