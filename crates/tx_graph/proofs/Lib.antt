@@ -6,3 +6,8 @@ mod Arranged
 mod Pairs
 mod Sizes
 mod Merged
+mod Pointing
+mod Parted
+mod Replaced
+mod Alike
+mod Removed
