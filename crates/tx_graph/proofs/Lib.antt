@@ -5,6 +5,7 @@ mod Added
 mod Slots
 mod Joined
 mod Standing
+mod Picked
 mod Rows
 mod Stepping
 mod Arranged

@@ -13,7 +13,7 @@ use Rattle.graph_model.specs.Commands.{Dep}
 use Rattle.graph_model.specs.Refusals.{RefusalIs, First, NoRefusal, OverCount, OverSize}
 use Rattle.graph_model.proofs.RowLemmas.{dep_row_along}
 use Rattle.graphs.proofs.ListLemmas.{Lists-for}
-use Rattle.tx_graph.specs.Kept.{Kept, StandsFor, entry_of}
+use Rattle.tx_graph.specs.Kept.{Kept, StandsPlainly, entry_of}
 use Rattle.tx_graph.specs.Joins.{JoinsTo, JoinsTooMany, JoinsTooLarge, DepRefusalIs}
 use Rattle.tx_graph.proofs.Standing.{state_of, of_states, level-main, told, connected-linked}
 
@@ -22,14 +22,14 @@ size_entry : (o : Option Node) → size_in (entry_of o) ≡ (rate_in o).size
 size_entry None = refl
 size_entry (Some node) = refl
 
-pub size-of : (kept : Kept) (state : PlainState) (id : ℕ) → StandsFor kept state → size_of state.table id ≡ (rate_of kept.graph id).size
+pub size-of : (kept : Kept) (state : PlainState) (id : ℕ) → StandsPlainly kept state → size_of state.table id ≡ (rate_of kept.graph id).size
 unfolding rate_of
 size-of kept state id stands = ap size_in (stands.table id) ∙ size_entry (finmap.get kept.graph id)
 
-sizes-of : (kept : Kept) (state : PlainState) → StandsFor kept state → (ids : List ℕ) → sum_by (size_of state.table) ids ≡ sum_by (λ id. (rate_of kept.graph id).size) ids
+sizes-of : (kept : Kept) (state : PlainState) → StandsPlainly kept state → (ids : List ℕ) → sum_by (size_of state.table) ids ≡ sum_by (λ id. (rate_of kept.graph id).size) ids
 sizes-of kept state stands ids = λ i. sum_by (λ id. size-of kept state id stands i) ids
 
-module _ (kept : Kept) (table : Table) (main : Graph) (stands : StandsFor kept (state_of kept table main)) (order : IsOrder (is_member kept.graph) (is_ancestor kept.graph)) (parent child : ℕ) where
+module _ (kept : Kept) (table : Table) (main : Graph) (stands : StandsPlainly kept (state_of kept table main)) (order : IsOrder (is_member kept.graph) (is_ancestor kept.graph)) (parent child : ℕ) where
   abbrev state : PlainState
   state = state_of kept table main
 
@@ -76,22 +76,22 @@ module _ (kept : Kept) (table : Table) (main : Graph) (stands : StandsFor kept (
       (OverCount state parent child) (OverSize state parent child) parent child found (absent parent) (absent child)
       (λ there _. cycle (true_from_ne_false (is_member kept.graph parent) (λ fails. there (λ holds. true≢false (sym holds ∙ fails))))) too_many too_large
 
-pub dep_row : (kept : Kept) (parent child : ℕ) (found : Option Refusal) → IsOrder (is_member kept.graph) (is_ancestor kept.graph) → DepRefusalIs kept.limits kept.graph parent child found → (state : PlainState) → StandsFor kept state → RefusalIs state (Dep parent child) found
+pub dep_row : (kept : Kept) (parent child : ℕ) (found : Option Refusal) → IsOrder (is_member kept.graph) (is_ancestor kept.graph) → DepRefusalIs kept.limits kept.graph parent child found → (state : PlainState) → StandsPlainly kept state → RefusalIs state (Dep parent child) found
 dep_row kept parent child found order row = of_states kept (λ state. RefusalIs state (Dep parent child) found) (λ table main stands. dep_row_here kept table main stands order parent child found row)
 
 -- ---- a name that must be in a level
 
-not_in_level : (kept : Kept) (table : Table) (main : Graph) (level : Level) (id : ℕ) → StandsFor kept (state_of kept table main) → is_member kept.graph id ≡ false → Contains (level_of (state_of kept table main) level).names id → ⊥
+not_in_level : (kept : Kept) (table : Table) (main : Graph) (level : Level) (id : ℕ) → StandsPlainly kept (state_of kept table main) → is_member kept.graph id ≡ false → Contains (level_of (state_of kept table main) level).names id → ⊥
 not_in_level kept table main level id stands fails here =
     let there : Contains main.names id = subst (λ (l : Graph). Contains l.names id) (level-main kept table main level) here in
     true≢false (sym ((stands.closure.names id).0 there) ∙ fails)
 
-in_level : (kept : Kept) (table : Table) (main : Graph) (level : Level) (id : ℕ) → StandsFor kept (state_of kept table main) → is_member kept.graph id ≡ true → Contains (level_of (state_of kept table main) level).names id
+in_level : (kept : Kept) (table : Table) (main : Graph) (level : Level) (id : ℕ) → StandsPlainly kept (state_of kept table main) → is_member kept.graph id ≡ true → Contains (level_of (state_of kept table main) level).names id
 in_level kept table main level id stands holds = subst (λ (l : Graph). Contains l.names id) (sym (level-main kept table main level)) ((stands.closure.names id).1 holds)
 
 -- the row of every command whose only refusal is an unknown name
-pub unknown_here : (kept : Kept) (level : Level) (id : ℕ) → is_member kept.graph id ≡ false → (state : PlainState) → StandsFor kept state → First (Contains (level_of state level).names id → ⊥) (Unknown id) NoRefusal (Some (Unknown id))
+pub unknown_here : (kept : Kept) (level : Level) (id : ℕ) → is_member kept.graph id ≡ false → (state : PlainState) → StandsPlainly kept state → First (Contains (level_of state level).names id → ⊥) (Unknown id) NoRefusal (Some (Unknown id))
 unknown_here kept level id fails = of_states kept (λ state. First (Contains (level_of state level).names id → ⊥) (Unknown id) NoRefusal (Some (Unknown id))) (λ table main stands. inl (not_in_level kept table main level id stands fails, refl))
 
-pub known_here : (kept : Kept) (level : Level) (id : ℕ) → is_member kept.graph id ≡ true → (state : PlainState) → StandsFor kept state → First (Contains (level_of state level).names id → ⊥) (Unknown id) NoRefusal None
+pub known_here : (kept : Kept) (level : Level) (id : ℕ) → is_member kept.graph id ≡ true → (state : PlainState) → StandsPlainly kept state → First (Contains (level_of state level).names id → ⊥) (Unknown id) NoRefusal None
 known_here kept level id holds = of_states kept (λ state. First (Contains (level_of state level).names id → ⊥) (Unknown id) NoRefusal None) (λ table main stands. inr (λ none. none (in_level kept table main level id stands holds), refl))

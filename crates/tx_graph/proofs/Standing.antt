@@ -1,8 +1,9 @@
--- Which states a graph stands for, and the steps of the machine that its calls are.
-use Rattle.std.proofs.Common.{◌≡◌, ℕ, true, sym, refl, ap, subst, ◌∙◌, inl, inr, ◌⊎◌, ◌↔◌, Option, None, Some, is_some}
+-- Which states a graph stands for, and the steps of the machine that change nothing.
+use Rattle.std.proofs.Common.{◌≡◌, ℕ, true, sym, refl, ap, subst, ◌∙◌, inl, inr, ◌⊎◌, ◌↔◌, List, Option, None, Some, is_some}
 use Rattle.std.specs.FinMap as finmap
 use Rattle.graphs.specs.Closures.{Node, Closure, is_member, is_ancestor, IsOrder, AreLinked}
 use Rattle.graphs.specs.Closing.{IsClosureOf}
+use Rattle.graphs.specs.Certificates.{Part}
 use Rattle.graphs.proofs.ClosingLemmas.{order_from, ancestors_told, connected_linked}
 use Rattle.graphs.specs.declared.names.Level.{Level}
 use Rattle.graphs.specs.declared.names.Level.TheVariants.{Main, Top}
@@ -13,22 +14,39 @@ use Rattle.graph_model.specs.States.{PlainState, Picks, Table, level_of}
 use Rattle.graph_model.specs.Commands.{Command}
 use Rattle.graph_model.specs.Refusals.{RefusalIs}
 use Rattle.graph_model.specs.Replies.{Reply, Refused}
-use Rattle.graph_model.specs.Steps.{AcceptsPlainly, MayLackMemory}
+use Rattle.graph_model.specs.Steps.{MayLackMemory}
 use Rattle.graph_model.specs.declared.limits.TheConstants.{MAX_COUNT}
-use Rattle.tx_graph.specs.Kept.{Kept, StandsFor, MakesStep, entry_of}
+use Rattle.tx_graph.specs.Kept.{Kept, StandsPlainly, MakesStep, entry_of}
 
 -- a state with this table and this main graph
 abbrev pub state_of : Kept → Table → Graph → PlainState
 state_of kept table main = record { limits = kept.limits; most = MAX_COUNT; begun = kept.begun; table = table; main = main; staging = None }
 
 -- what holds of each such state that the graph stands for holds of each that it stands for
-pub of_states : (kept : Kept) (P : PlainState → Type 0) → ((table : Table) (main : Graph) → StandsFor kept (state_of kept table main) → P (state_of kept table main)) → (state : PlainState) → StandsFor kept state → P state
+pub of_states : (kept : Kept) (P : PlainState → Type 0)
+    → ((table : Table) (main : Graph) → StandsPlainly kept (state_of kept table main) → P (state_of kept table main))
+    → (state : PlainState) → StandsPlainly kept state → P state
 of_states kept P holds state stands =
-    let same : state_of kept state.table state.main ≡ state =
-    λ i. record { limits = sym stands.limits i; most = sym stands.most i; begun = sym stands.begun i; table = state.table; main = state.main; staging = sym stands.staging i } in
-    subst P same (holds state.table state.main (record { limits = refl; most = refl; begun = refl; table = stands.table; closure = stands.closure; among = stands.among; valid = stands.valid; staging = refl }))
+    let same : state_of kept state.table state.main ≡ state = λ i. record {
+      limits = sym stands.limits i;
+      most = sym stands.most i;
+      begun = sym stands.begun i;
+      table = state.table;
+      main = state.main;
+      staging = sym stands.staging i;
+    } in
+    subst P same (holds state.table state.main (record {
+      limits = refl;
+      most = refl;
+      begun = refl;
+      table = stands.table;
+      closure = stands.closure;
+      among = stands.among;
+      valid = stands.valid;
+      staging = refl;
+    }))
 
-module _ (kept : Kept) (state : PlainState) (stands : StandsFor kept state) where
+module _ (kept : Kept) (state : PlainState) (stands : StandsPlainly kept state) where
   pub order_kept : IsOrder (is_member kept.graph) (is_ancestor kept.graph)
   order_kept = order_from (is_member kept.graph) (is_ancestor kept.graph) state.main stands.closure stands.among
 
@@ -39,19 +57,21 @@ module _ (kept : Kept) (state : PlainState) (stands : StandsFor kept state) wher
   pub connected-linked : (a b : ℕ) → AreConnected state.main.pairs a b ↔ AreLinked kept.graph a b
   connected-linked = connected_linked kept.graph state.main order_kept stands.closure
 
+-- what a command meets in every state that the graph stands for
+abbrev pub Meets : Kept → Command → Option Refusal → Type 0
+Meets kept command found = (state : PlainState) → StandsPlainly kept state → RefusalIs state command found
+
 -- two graphs that differ at most in the count of additions
 pub record IsSameGraph (old new : Kept) : Type 0 where
   pub limits : new.limits ≡ old.limits
   pub begun : new.begun ≡ old.begun
   pub graph : new.graph ≡ old.graph
+  pub parts : new.parts ≡ old.parts
 
 pub itself : (kept : Kept) → IsSameGraph kept kept
-itself kept = record { limits = refl; begun = refl; graph = refl }
+itself kept = record { limits = refl; begun = refl; graph = refl; parts = refl }
 
-pub same_kept : (old new : Kept) → new ≡ old → IsSameGraph old new
-same_kept old new same = record { limits = ap (λ (k : Kept). k.limits) same; begun = ap (λ (k : Kept). k.begun) same; graph = ap (λ (k : Kept). k.graph) same }
-
-pub stands_still : (old new : Kept) → IsSameGraph old new → (state : PlainState) → StandsFor old state → StandsFor new state
+pub stands_still : (old new : Kept) → IsSameGraph old new → (state : PlainState) → StandsPlainly old state → StandsPlainly new state
 stands_still old new same state stands = record {
   limits = stands.limits ∙ sym same.limits;
   most = stands.most;
@@ -63,20 +83,25 @@ stands_still old new same state stands = record {
   staging = stands.staging;
 }
 
-pub steps_refused : (old new : Kept) (command : Command) (why : Refusal) → IsSameGraph old new → ((state : PlainState) → StandsFor old state → RefusalIs state command (Some why)) → MakesStep old new command (Refused why)
-steps_refused old new command why same refused state stands =
-    (state, stands_still old new same state stands, λ picks. inl (record { why = why; first = refused state stands; told = refl; same = refl }))
+-- the picks of a graph without a staging
+abbrev pub picks_of : List Part → Picks
+picks_of parts = record { main = parts; staging = None }
 
-pub steps_without_memory : (old new : Kept) (command : Command) → IsSameGraph old new → MayLackMemory command → ((state : PlainState) → StandsFor old state → RefusalIs state command None) → MakesStep old new command (Refused Memory)
-steps_without_memory old new command same may none state stands =
-    (state, stands_still old new same state stands, λ picks. inr (inl (record { none = none state stands; may = may; told = refl; same = refl })))
+pub steps_refused : (old new : Kept) (command : Command) (why : Refusal) → IsSameGraph old new → Meets old command (Some why)
+    → MakesStep old new command (Refused why)
+steps_refused old new command why same refused state stands = (
+  state,
+  record { plain = stands_still old new same state.plain stands.plain; picks = stands.picks ∙ ap picks_of (sym same.parts) },
+  inl (record { why = why; first = refused state.plain stands.plain; told = refl; same = refl }),
+)
 
-pub steps_accepted : (old new : Kept) (command : Command) (reply : Reply) → ((state : PlainState) → StandsFor old state → RefusalIs state command None)
-    → ((table : Table) (main : Graph) → StandsFor old (state_of old table main) → (next : PlainState) × StandsFor new next × ((picks : Picks) → AcceptsPlainly picks (state_of old table main) command reply next)) → MakesStep old new command reply
-steps_accepted old new command reply none accepts state stands =
-    let P : PlainState → Type 0 = λ (state : PlainState). (next : PlainState) × StandsFor new next × ((picks : Picks) → AcceptsPlainly picks state command reply next) in
-    let next : P state = of_states old P accepts state stands in
-    (next.0, next.1, λ picks. inr (inr (record { none = none state stands; accepts = next.2 picks })))
+pub steps_without_memory : (old new : Kept) (command : Command) → IsSameGraph old new → MayLackMemory command → Meets old command None
+    → MakesStep old new command (Refused Memory)
+steps_without_memory old new command same may none state stands = (
+  state,
+  record { plain = stands_still old new same state.plain stands.plain; picks = stands.picks ∙ ap picks_of (sym same.parts) },
+  inr (inl (record { none = none state.plain stands.plain; may = may; told = refl; same = refl })),
+)
 
 -- without a staging level both words speak of main
 pub level-main : (kept : Kept) (table : Table) (main : Graph) (level : Level) → level_of (state_of kept table main) level ≡ main
@@ -88,6 +113,6 @@ some_entry None = refl
 some_entry (Some node) = refl
 
 -- a name is live where it is a member
-pub live-member : (kept : Kept) (state : PlainState) (id : ℕ) → StandsFor kept state → is_some (finmap.get state.table id) ≡ is_member kept.graph id
+pub live-member : (kept : Kept) (state : PlainState) (id : ℕ) → StandsPlainly kept state → is_some (finmap.get state.table id) ≡ is_member kept.graph id
 unfolding is_member
 live-member kept state id stands = ap is_some (stands.table id) ∙ some_entry (finmap.get kept.graph id)
