@@ -81,7 +81,7 @@ module _ (added : List Stored) (numbers : List ℕ) (old cur : Slots) (adds : Ad
     low_stands i t below is =
         let there : i < length numbers = omega (arith, adds.count) in
         ap (at new) (get_or_append_left numbers (one.number ∷ []) 0 i there)
-        ∙ one.sets.others (slice_index numbers i) (λ e. fresh_number (subst (Contains numbers) e (listed_at numbers i there)))
+        ∙ one.writes.others (slice_index numbers i) (λ e. fresh_number (subst (Contains numbers) e (listed_at numbers i there)))
         ∙ adds.stand i t is
 
     front_get : (xs : List Stored) (i : ℕ) → i < length xs → slice_get (xs ++ s ∷ []) i ≡ slice_get xs i
@@ -107,9 +107,9 @@ module _ (added : List Stored) (numbers : List ℕ) (old cur : Slots) (adds : Ad
         | inr high ↦
             let within = slice_get_within (added ++ s ∷ []) i t is in
             let last : i ≡ length added = omega (arith, within, length_push added s) in
-            ap (at new) (get_or_push numbers one.number 0 i (adds.count ∙ sym last)) ∙ one.sets.changed ∙ sym (last_get added i last) ∙ is
+            ap (at new) (get_or_push numbers one.number 0 i (adds.count ∙ sym last)) ∙ one.writes.changed ∙ sym (last_get added i last) ∙ is
       ];
       others = λ m none.
-          one.sets.others m (λ e. none (subst (Contains (numbers ++ one.number ∷ [])) (sym e) (Contains-push numbers one.number)))
+          one.writes.others m (λ e. none (subst (Contains (numbers ++ one.number ∷ [])) (sym e) (Contains-push numbers one.number)))
           ∙ adds.others m (λ here. none (Contains-append_left numbers (one.number ∷ []) m here));
     })

@@ -7,12 +7,12 @@ use Rattle.std.specs.FinMap as finmap
 use Rattle.lists.proofs.Distinct.{distinct-append_left, distinct-append_right, distinct_apart}
 use Rattle.lists.proofs.Entries.{map-Contains, Contains-map, Contains-cases, none_in_empty}
 use Rattle.graphs.specs.Closures.{rate_of}
-use Rattle.chunk_index.specs.Items.{Items, AreInOrder}
+use Rattle.chunk_index.specs.Items.{Items}
 use Rattle.cluster.specs.Clusters.{Cluster, IsCluster}
 use Rattle.cluster_store.specs.declared.stored.Move.{Move}
 use Rattle.cluster_store.specs.Stores.{Stored, Exchange, Store, Numbered, IsOrdered}
-use Rattle.cluster_store.specs.Changes.{moved_to, changing, lowest, lowest_in, MakesChange, AreThere}
-use Rattle.cluster_store.specs.Slots.{AreStored, AddsTo, ExchangesAll, MovesAll, with_cluster}
+use Rattle.cluster_store.specs.Changes.{moved_to, with_cluster, changing, lowest, lowest_in, MakesChange, AreThere}
+use Rattle.cluster_store.specs.Slots.{AreStored, AddsTo, ExchangesAll, MovesAll}
 use Rattle.cluster_store.specs.Kept.{Slots, at, shelved, place_of, IsShown, IsKept}
 use Rattle.cluster_store.proofs.Adds.{decide_in, listed_at, any_default}
 use Rattle.cluster_store.proofs.Kept.{moved_cluster}
@@ -31,15 +31,14 @@ kept_same w slots slots' items items' least kept same shown = record {
   floor = λ n s is. kept.floor n s (sym (same n) ∙ is);
 }
 
-pub store_same : (slots slots' : Slots) (items items' : Items) (least : ℕ) → IsShown slots items → IsShown slots' items' → AreInOrder items → AreInOrder items'
-    → ((n : ℕ) → at slots' n ≡ at slots n)
+pub store_same : (slots slots' : Slots) (items items' : Items) (least : ℕ) → IsShown slots items → IsShown slots' items' → ((n : ℕ) → at slots' n ≡ at slots n)
     → ◌≡◌ {A = Store} (record { clusters = shelved slots'; order = map place_of items'; least = least })
     (record { clusters = shelved slots; order = map place_of items; least = least })
-store_same slots slots' items items' least shown shown' order order' same =
+store_same slots slots' items items' least shown shown' same =
     let clusters : shelved slots' ≡ shelved slots = same_shelved slots' slots same in
     let places : map place_of items' ≡ map place_of items =
     one_order (shelved slots) (map place_of items') (map place_of items)
-    (subst (λ (m : Numbered). IsOrdered m (map place_of items')) clusters (is_ordered slots' items' shown' order')) (is_ordered slots items shown order) in
+    (subst (λ (m : Numbered). IsOrdered m (map place_of items')) clusters (is_ordered slots' items' shown')) (is_ordered slots items shown) in
     ap (λ (m : Numbered). record { clusters = m; order = map place_of items'; least = least }) clusters
     ∙ ap (λ (ps : List (ℕ × ℕ)). record { clusters = shelved slots; order = ps; least = least }) places
 

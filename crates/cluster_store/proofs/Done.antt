@@ -9,22 +9,22 @@ use Rattle.lists.proofs.Distinct.{distinct-append_left, distinct_apart}
 use Rattle.lists.proofs.Entries.{Contains-head, Contains-later, Contains-cases, Contains-map, none_in_empty}
 use Rattle.cluster_store.specs.Stores.{Stored}
 use Rattle.cluster_store.specs.Kept.{Slots, at}
-use Rattle.cluster_store.specs.Slots.{Sets, AreStored, Done}
+use Rattle.cluster_store.specs.Slots.{Writes, AreStored, Done}
 
 module _ {X : Type 0} (number : X → ℕ) (f : X → Option Stored → Option Stored) where
   pub done_none : (slots : Slots) → Done number f [] slots slots
   done_none slots = record { each = λ x here. absurd (none_in_empty x here); others = λ m _. refl }
 
   pub done_more : (x : X) (xs : List X) (old cur new : Slots) → Done number f xs old cur → (Contains (map number xs) (number x) → ⊥)
-      → Sets cur new (number x) (f x (at cur (number x))) → Done number f (x ∷ xs) old new
-  done_more x xs old cur new done apart sets = record {
+      → Writes cur new (number x) (f x (at cur (number x))) → Done number f (x ∷ xs) old new
+  done_more x xs old cur new done apart writes = record {
     each = λ y here. elim (Contains-cases x y xs here) [
-      | inl same ↦ subst (λ (z : X). at new (number z) ≡ f z (at old (number z))) same (sets.changed ∙ ap (f x) (done.others (number x) apart))
+      | inl same ↦ subst (λ (z : X). at new (number z) ≡ f z (at old (number z))) same (writes.changed ∙ ap (f x) (done.others (number x) apart))
       | inr later ↦
-          sets.others (number y) (λ e. apart (subst (Contains (map number xs)) e (Contains-map number xs y later))) ∙ done.each y later
+          writes.others (number y) (λ e. apart (subst (Contains (map number xs)) e (Contains-map number xs y later))) ∙ done.each y later
     ];
     others = λ m none.
-        sets.others m (λ e. none (subst (Contains (map number (x ∷ xs))) (sym e) (Contains-head (number x) (map number xs))))
+        writes.others m (λ e. none (subst (Contains (map number (x ∷ xs))) (sym e) (Contains-head (number x) (map number xs))))
         ∙ done.others m (λ here. none (Contains-later (number x) m (map number xs) here));
   }
 
@@ -61,11 +61,11 @@ module _ {X : Type 0} (number : X → ℕ) (f : X → Option Stored → Option S
         ap is_some half_same
         ∙ there.there (number x) (subst (λ (ns : List ℕ). Contains ns (number x)) (sym whole) (Contains-append_left (map number (left ++ x ∷ [])) (map number half.past) (number x) last_in))
 
-    pub half_next : (new : Slots) → Sets cur new (number x) (f x (at cur (number x))) → IsHalf all left old new
-    half_next new sets = record {
+    pub half_next : (new : Slots) → Writes cur new (number x) (f x (at cur (number x))) → IsHalf all left old new
+    half_next new writes = record {
       past = x ∷ half.past;
       split = split_on;
-      done = done_more x half.past old cur new half.done half_apart sets;
+      done = done_more x half.past old cur new half.done half_apart writes;
     }
 
     -- the others that are left have other numbers

@@ -1,13 +1,11 @@
--- The parts of a level, merged, are a pick of its graph.
+-- The parts of a level, merged, are a pick of a graph that is made of graphs with the closures of its clusters.
 use Rattle.std.proofs.Common.{◌≡◌, ℕ, ◌+◌, ◌<◌, ◌≤◌, Bool, true, false, ◌&&◌, List, [], ◌∷◌, map, flat_map, length, get_or, sum_by, nat_lt, Option, Some, None, Contains, inl, inr, refl, sym, ap, ◌∙◌, subst, arith}
 use Rattle.std.proofs.lemmas.Bool.Decides.{nat_tests}
 use Rattle.std.proofs.lemmas.Option.{slice_get-get_or, get_or_from_slice_get}
 use Rattle.std.proofs.lemmas.List.Sums.{sum_by-cons}
 use Rattle.std.proofs.lemmas.List.Concat.{flat_map-cons}
 use Rattle.std.proofs.lemmas.List.Elements.{Contains-append_left, Contains-append_right}
-use Rattle.std.specs.List.{AllByRecursion, filter}
-use Rattle.std.specs.declared.cmp.Ordering.{Ordering}
-use Rattle.std.specs.declared.cmp.Ordering.TheVariants.{Less, Equal, Greater}
+use Rattle.std.specs.declared.cmp.Ordering.TheVariants.{Less}
 use Rattle.std.specs.Ordering.{is_lt}
 use Rattle.std.specs.FinMap as finmap
 use Rattle.lists.proofs.Entries.{Contains-head, Contains-later, Contains-cases, none_in_empty, Contains-filter, filter-Contains, map-Contains, Contains-map}
@@ -17,16 +15,19 @@ use Rattle.graphs.specs.Graphs.{Graph, IsGraph}
 use Rattle.graphs.specs.Rates.{sums, Falls}
 use Rattle.graphs.specs.Closing.{IsClosureOf}
 use Rattle.graphs.specs.Certificates.{Part}
-use Rattle.graphs.specs.Merges.{IsMerge, IsSorted, IsUnion, SortedListsMerge}
-use Rattle.graphs.specs.Picks.{IsPick, PicksAreKept}
+use Rattle.graphs.specs.Merges.{IsMerge, IsSorted, IsUnion}
+use Rattle.graphs.specs.Picks.{IsPick}
 use Rattle.graphs.specs.declared.names.Level.{Level}
+use Rattle.graphs.proofs.MergeLemmas.{sorted_merge, sorted_falls}
+use Rattle.graphs.proofs.PickLemmas.{picks_are_kept}
 use Rattle.chunk_index.specs.KeyOrder.{key_cmp}
 use Rattle.chunk_index.specs.Keys.{IsInOrder}
 use Rattle.chunk_index.specs.Items.{is_in}
 use Rattle.cluster.specs.Clusters.{Cluster, IsCluster, sum_at}
-use Rattle.cluster_store.specs.Stores.{Stored, Numbered, Store, Shown, IsStore, no_part, parts_in, part_at, key_at, passes, places_by, places_in, shown_at, parts_of_level}
-use Rattle.cluster_store.specs.Laws.{AreGraphs}
+use Rattle.cluster_store.specs.Stores.{Stored, Numbered, Store, Shown, IsOrdered, no_part, parts_in, part_at, key_at, passes, places_by, places_in, shown_at, parts_of_level}
+use Rattle.cluster_store.specs.Laws.{Stands}
 use Rattle.cluster_store.proofs.Fresh.{both_true}
+use Rattle.cluster_store.proofs.Sorted.{less_of, filter_in_order}
 use Rattle.cluster_store.proofs.Unique.{both_before, behind_first, rest_order}
 use Rattle.cluster_store.proofs.Rates.{before_rates, places_from, places_listed, listed_places, places_parts, places_in_order}
 
@@ -40,11 +41,6 @@ comes_before clusters x y = is_real clusters x && (is_real clusters y && is_lt (
 
 false_true : false ≡ true → ⊥
 false_true e = cc
-
-less_of : (o : Ordering) → is_lt o ≡ true → o ≡ Less
-less_of Less e = refl
-less_of Equal e = absurd (false_true e)
-less_of Greater e = absurd (false_true e)
 
 real_size : (n : ℕ) → nat_lt 0 n ≡ true → 1 ≤ n
 real_size n e = grind (arith, nat_tests)
@@ -80,23 +76,6 @@ module _ (clusters : Numbered) where
     sorted_places xs (rest_order (key_at clusters) x xs order) (λ y here. real y (Contains-later x y xs here)),
   )
 
-  all_kept : {A : Type 0} (P : A → Type 0) (p : A → Bool) (xs : List A) → AllByRecursion P xs → AllByRecursion P (filter p xs)
-  all_kept P p [] all = tt
-  all_kept P p (x ∷ xs) all = by (p x) refl (all_kept P p xs all.1)
-    where
-      by : (b : Bool) → p x ≡ b → AllByRecursion P (filter p xs) → AllByRecursion P (filter p (x ∷ xs))
-      by true e rest = rw e (all.0, rest)
-      by false e rest = rw e rest
-
-  pub filter_in_order : (p : ℕ × ℕ → Bool) (xs : List (ℕ × ℕ)) → IsInOrder (key_at clusters) xs → IsInOrder (key_at clusters) (filter p xs)
-  unfolding IsInOrder
-  filter_in_order p [] order = tt
-  filter_in_order p (x ∷ xs) order = by (p x) refl (filter_in_order p xs order.1)
-    where
-      by : (b : Bool) → p x ≡ b → IsInOrder (key_at clusters) (filter p xs) → IsInOrder (key_at clusters) (filter p (x ∷ xs))
-      by true e rest = rw e (all_kept (λ (y : ℕ × ℕ). key_cmp (key_at clusters x) (key_at clusters y) ≡ Less) p xs order.0, rest)
-      by false e rest = rw e rest
-
 -- ---- one cluster
 
 in_part : (parts : List Part) (p : Part) (id : ℕ) → Contains parts p → Contains p.ids id → Contains (flat_map (λ part. part.ids) parts) id
@@ -130,15 +109,22 @@ module _ (most : ℕ) (c : Cluster) (is : IsCluster most c) (graph : Graph) (clo
   pub part_rates : Falls (map (λ part. part.rate) c.parts)
   part_rates = own.certificate.falling.falling
 
-  pub picked_by : (picks : PicksAreKept) (rate : ℕ → Sum) → IsGraph graph → ((id : ℕ) → Contains c.names id → sum_at c.graph id ≡ rate id) → IsPick rate graph c.parts
-  picked_by picks rate whole same =
-      (picks.alike (sum_at c.graph) rate graph graph (record {
+  pub picked_by : (rate : ℕ → Sum) → IsGraph graph → ((id : ℕ) → Contains c.names id → sum_at c.graph id ≡ rate id) → IsPick rate graph c.parts
+  picked_by rate whole same =
+      (picks_are_kept.alike (sum_at c.graph) rate graph graph (record {
         names = λ id. ((λ h. h), (λ h. h));
         sums = λ id here. same id ((is.members id).0 ((closes.names id).0 here));
         ancestors = λ x y. ((λ h. h), (λ h. h));
       }) whole whole c.parts).0 own
 
 -- ---- the level
+
+-- Graphs, each with the number of a cluster that stands in the level and whose closure it is; there is one for each such cluster. `rate` has the
+-- fees and sizes of their names.
+pub record AreGraphs (level : Level) (clusters : Numbered) (rate : ℕ → Sum) (graphs : List (Graph × ℕ)) : Type 0 where
+  pub stand : (g : Graph × ℕ) → Contains graphs g
+      → (c : Cluster) × Stands level clusters g.1 c × IsClosureOf c.graph g.0 × ((id : ℕ) → Contains c.names id → sum_at c.graph id ≡ rate id)
+  pub all : (number : ℕ) (c : Cluster) → Stands level clusters number c → (g : Graph) × Contains graphs (g, number)
 
 listed : (ps : List Part) (i : ℕ) → i < length ps → Contains ps (get_or ps i no_part)
 listed ps i low = (i, low, get_or_from_slice_get ps i (get_or ps i no_part) (get_or ps i no_part) (slice_get-get_or ps i no_part low))
@@ -147,8 +133,9 @@ fused : (clusters : Numbered) (ks : List (ℕ × ℕ)) → map (λ (s : Shown). 
 fused clusters [] = refl
 fused clusters (k ∷ ks) = ap (λ (ps : List Part). part_at clusters k ∷ ps) (fused clusters ks)
 
-module _ (picks : PicksAreKept) (merging : SortedListsMerge) (most : ℕ) (store : Store) (level : Level) (rate : ℕ → Sum) (graphs : List (Graph × ℕ)) (whole : Graph)
-    (is : IsStore most store) (are : AreGraphs level store.clusters rate graphs) (union : IsUnion graphs whole) where
+module _ (most : ℕ) (store : Store) (level : Level) (rate : ℕ → Sum) (graphs : List (Graph × ℕ)) (whole : Graph)
+    (ordered : IsOrdered store.clusters store.order) (clusters_are : (n : ℕ) (c : Cluster) → Stands level store.clusters n c → IsCluster most c)
+    (are : AreGraphs level store.clusters rate graphs) (union : IsUnion graphs whole) where
   component : Graph × ℕ → Graph × List (ℕ × ℕ)
   component g = (g.0, places_from g.1 0 (parts_in (finmap.get store.clusters g.1)))
 
@@ -158,7 +145,7 @@ module _ (picks : PicksAreKept) (merging : SortedListsMerge) (most : ℕ) (store
     own_parts = ap parts_in (are.stand g here).1.1 ∙ ap (λ (c : Cluster). c.parts) (are.stand g here).1.2
 
     own_cluster : IsCluster most (are.stand g here).0
-    own_cluster = subst (IsCluster most) (are.stand g here).1.2 (is.whole g.1 (are.stand g here).1.0 (are.stand g here).1.1)
+    own_cluster = clusters_are g.1 (are.stand g here).0 (are.stand g here).1
 
     own_sizes : (p : Part) → Contains (parts_in (finmap.get store.clusters g.1)) p → 1 ≤ p.rate.size
     own_sizes p listed_part =
@@ -193,7 +180,7 @@ module _ (picks : PicksAreKept) (merging : SortedListsMerge) (most : ℕ) (store
     unfolding component
     own_picked =
         subst (IsPick rate g.0) (sym (places_parts store.clusters g.1 0 (parts_in (finmap.get store.clusters g.1)) follows ∙ own_parts))
-        (picked_by most (are.stand g here).0 own_cluster g.0 (are.stand g here).2 picks rate (union.graphs g here) (are.stand g here).3)
+        (picked_by most (are.stand g here).0 own_cluster g.0 (are.stand g here).2 rate (union.graphs g here) (are.stand g here).3)
 
   -- ---- the graph of the level is made of these
 
@@ -242,7 +229,7 @@ module _ (picks : PicksAreKept) (merging : SortedListsMerge) (most : ℕ) (store
   key_graph x here =
       let kept = filter-Contains (λ (place : ℕ × ℕ). passes (is_in level) (finmap.get store.clusters place.0)) store.order x here in
       let g = of (finmap.get store.clusters x.0) refl kept.0 in
-      (g.0, g.1, (is.ordered.exact x).0 kept.1)
+      (g.0, g.1, (ordered.exact x).0 kept.1)
     where
       of : (o : Option Stored) → finmap.get store.clusters x.0 ≡ o → passes (is_in level) o ≡ true → (g : Graph) × Contains graphs (g, x.0)
       of None there pass = absurd (false_true pass)
@@ -252,7 +239,7 @@ module _ (picks : PicksAreKept) (merging : SortedListsMerge) (most : ℕ) (store
   unfolding places_by
   keys_sorted =
       sorted_places store.clusters (places_in level store)
-      (filter_in_order store.clusters (λ (place : ℕ × ℕ). passes (is_in level) (finmap.get store.clusters place.0)) store.order is.ordered.sorted)
+      (filter_in_order (key_at store.clusters) (λ (place : ℕ × ℕ). passes (is_in level) (finmap.get store.clusters place.0)) store.order ordered.sorted)
       (λ x here. let g = key_graph x here in own_real (g.0, x.0) g.1 x refl g.2)
 
   key_listed : (x : ℕ × ℕ) → Contains (places_in level store) x → (list : List (ℕ × ℕ)) × Contains (map (λ c. c.1) (map component graphs)) list × Contains list x
@@ -278,7 +265,7 @@ module _ (picks : PicksAreKept) (merging : SortedListsMerge) (most : ℕ) (store
       let low : x.1 < length (parts_in (finmap.get store.clusters g.0.1)) = omega (arith, one.2) in
       let there : x.1 < length (parts_in (finmap.get store.clusters x.0)) = subst (λ n. x.1 < length (parts_in (finmap.get store.clusters n))) (sym one.0) low in
       Contains-filter (λ (place : ℕ × ℕ). passes (is_in level) (finmap.get store.clusters place.0)) store.order x
-      (ap (λ n. passes (is_in level) (finmap.get store.clusters n)) one.0 ∙ stands_there g.0 g.1) ((is.ordered.exact x).1 there)
+      (ap (λ n. passes (is_in level) (finmap.get store.clusters n)) one.0 ∙ stands_there g.0 g.1) ((ordered.exact x).1 there)
 
   list_sorted : (list : List (ℕ × ℕ)) → Contains (map (λ c. c.1) (map component graphs)) list → IsSorted (comes_before store.clusters) list
   list_sorted list in_lists =
@@ -288,14 +275,14 @@ module _ (picks : PicksAreKept) (merging : SortedListsMerge) (most : ℕ) (store
 
   keys_merge : IsMerge (map (λ c. c.1) (map component graphs)) (places_in level store)
   keys_merge =
-      merging.merges (comes_before store.clusters) (map (λ c. c.1) (map component graphs)) (places_in level store) (never_both store.clusters) list_sorted keys_sorted
+      sorted_merge (comes_before store.clusters) (map (λ c. c.1) (map component graphs)) (places_in level store) (never_both store.clusters) list_sorted keys_sorted
       (λ x. (key_listed x, λ there. listed_key x there.0 there.1 there.2))
 
   keys_fall : Falls (map (λ key. (part_at store.clusters key).rate) (places_in level store))
   keys_fall =
-      merging.falls (comes_before store.clusters) (λ key. (part_at store.clusters key).rate) (places_in level store) (before_falls store.clusters) keys_sorted
+      sorted_falls (comes_before store.clusters) (λ key. (part_at store.clusters key).rate) (places_in level store) (before_falls store.clusters) keys_sorted
 
   pub level_picked : IsPick rate whole (parts_of_level level store)
   level_picked =
       subst (IsPick rate whole) (sym (fused store.clusters (places_in level store)))
-      (picks.merged rate (part_at store.clusters) (map component graphs) whole (places_in level store) components_make components_picked keys_merge keys_fall)
+      (picks_are_kept.merged rate (part_at store.clusters) (map component graphs) whole (places_in level store) components_make components_picked keys_merge keys_fall)

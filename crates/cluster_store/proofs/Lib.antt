@@ -1,5 +1,6 @@
 pub mod Founds
 pub mod Fresh
+pub mod Sorted
 pub mod Steps
 pub mod Shown
 pub mod Slots
@@ -14,6 +15,9 @@ pub mod Kept
 pub mod Lent
 pub mod Unique
 pub mod Changed
+pub mod Single
 pub mod Orders
 pub mod Rates
 pub mod Levels
+pub mod Once
+pub mod Unions

@@ -7,6 +7,7 @@ use Rattle.std.specs.Ordering.{nat_cmp, eq_by_cmp, is_eq}
 use Rattle.std.specs.Cmp.{nat_cmp_total, tied_itself, Equal-is, unsigned_Decides}
 use Rattle.std.specs.FinMap as finmap
 use Rattle.slab.specs.Slab.{entries_from}
+use Rattle.chunk_index.specs.Keys.{IsInOrder}
 use Rattle.chunk_index.specs.Items.{Items}
 use Rattle.cluster_store.specs.Stores.{Stored, Store}
 use Rattle.cluster_store.specs.Changes.{EndsAt, most_least}
@@ -71,10 +72,10 @@ count_none (Some s ∷ slots) none = absurd (none-some s (sym (none 0)))
 -- ---- no slots and no entries
 
 empty_kept : (w least : ℕ) → w ≤ 64 → IsKept w [] [] least
-unfolding found
+unfolding found IsInOrder
 empty_kept w least narrow = record {
   narrow = narrow;
-  shown = record { tags = λ k. refl };
+  shown = record { sorted = tt; tags = λ k. refl };
   whole = λ n s is. absurd (none-some s is);
   floor = λ n s is id here. absurd (none-some s is);
 }

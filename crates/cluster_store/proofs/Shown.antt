@@ -56,6 +56,7 @@ module _ (slots : Slots) (items : Items) (shown : IsShown slots items) (n : ℕ)
 
     pub shown_added : (s : Stored) → at slots n ≡ None → at slots' n ≡ Some s → Enters n s.tag s.cluster.parts [] items items' → IsShown slots' items'
     shown_added s free is enters = record {
+      sorted = enters.sorted shown.sorted;
       tags = λ k. elim (cases_eq k.serial n) [
         | inl serial ↦
             enters.tags k ∙ ap (λ b. cond b (Some s.tag) (found items k)) (fresh_alone n s.cluster.parts k serial)
@@ -71,6 +72,7 @@ module _ (slots : Slots) (items : Items) (shown : IsShown slots items) (n : ℕ)
 
     pub shown_removed : (s : Stored) → at slots n ≡ Some s → at slots' n ≡ None → Leaves n s.cluster.parts [] items items' → IsShown slots' items'
     shown_removed s is free leaves = record {
+      sorted = leaves.sorted shown.sorted;
       tags = λ k. elim (cases_eq k.serial n) [
         | inl serial ↦
             leaves.tags k ∙ ap (λ b. cond b None (found items k)) (fresh_alone n s.cluster.parts k serial)
@@ -88,6 +90,7 @@ module _ (slots : Slots) (items : Items) (shown : IsShown slots items) (n : ℕ)
     pub shown_tagged : (s : Stored) (t : Tag) → at slots n ≡ Some s → at slots' n ≡ Some (record { cluster = s.cluster; tag = t })
         → Enters n t s.cluster.parts [] items items' → IsShown slots' items'
     shown_tagged s t is now enters = record {
+      sorted = enters.sorted shown.sorted;
       tags = λ k. elim (cases_eq k.serial n) [
         | inl serial ↦
             enters.tags k ∙ ap (λ b. cond b (Some t) (found items k)) (fresh_alone n s.cluster.parts k serial)
@@ -97,8 +100,3 @@ module _ (slots : Slots) (items : Items) (shown : IsShown slots items) (n : ℕ)
         | inr other ↦ enters.tags k ∙ ap (λ b. cond b (Some t) (found items k)) (fresh_elsewhere n s.cluster.parts [] k other) ∙ elsewhere k other
       ];
     }
-
--- the same under other lists and indexes
-pub shown_alike : (slots slots' : Slots) (items items' : Items) → IsShown slots items → ((m : ℕ) → at slots' m ≡ at slots m)
-    → ((k : Key) → found items' k ≡ found items k) → IsShown slots' items'
-shown_alike slots slots' items items' shown same tags = record { tags = λ k. tags k ∙ shown.tags k ∙ ap (λ o. tag_for o k) (sym (same k.serial)) }

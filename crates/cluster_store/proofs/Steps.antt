@@ -1,5 +1,5 @@
 -- One position more of a cluster whose entries go out, come in, or get another tag.
-use Rattle.std.proofs.Common.{◌≡◌, ℕ, length, ◌+◌, ◌<◌, Bool, true, false, cond, not, ◌&&◌, ◌||◌, List, [], take, Option, Some, None, is_some, IsSome, nat_eq, inl, inr, refl, sym, ap, ◌∙◌, arith}
+use Rattle.std.proofs.Common.{◌≡◌, ℕ, length, ◌+◌, ◌<◌, Bool, true, false, cond, not, ◌&&◌, ◌||◌, List, [], take, Option, Some, None, is_some, IsSome, nat_eq, inl, inr, refl, sym, ap, ◌∙◌, subst, arith}
 use Rattle.std.proofs.lemmas.Bool.{cases_lt}
 use Rattle.std.proofs.Math.Seq.{take-length}
 use Rattle.std.specs.List.{slice_get}
@@ -9,10 +9,11 @@ use Rattle.chunk_index.specs.declared.entry.Entry.{Entry}
 use Rattle.chunk_index.specs.declared.entry.Tag.{Tag}
 use Rattle.chunk_index.specs.declared.key.Key.{Key}
 use Rattle.chunk_index.specs.Keys.{key_of}
-use Rattle.chunk_index.specs.Items.{Items, has, with_entry, without_entry, with_tag}
+use Rattle.chunk_index.specs.Items.{Items, AreInOrder, has, with_entry, without_entry, with_tag}
 use Rattle.cluster_store.specs.Keys.{key_part}
-use Rattle.cluster_store.specs.Kept.{same_key, found, is_rate, has_rate, fresh, Enters, Leaves}
+use Rattle.cluster_store.specs.Kept.{same_key, found, is_rate, has_rate, fresh, Enters, Leaves, IsSameIndex}
 use Rattle.cluster_store.proofs.Founds.{same_is, found-put, found-without, found-tagged, has-found, again}
+use Rattle.cluster_store.proofs.Sorted.{entry_in_order, less_in_order, tag_in_order}
 use Rattle.cluster_store.proofs.Fresh.{take_below, take_past, rate_here, fresh-more}
 
 and_false : (b c : Bool) → (b && (false && c)) ≡ false
@@ -80,6 +81,7 @@ module _ (n i count : ℕ) (ps qs : List Part) (part : Part) (e : Entry) (here :
 
     pub leave_next : (next : Items) → next ≡ without_entry cur e → is_rate e.rate (slice_get qs i) ≡ false → Leaves n (take (i + 1) ps) qs old next
     leave_next next is differs = record {
+      sorted = λ order. subst AreInOrder (sym is) (less_in_order cur e (so_far.sorted order));
       tags = λ k.
           ap (λ (xs : Items). found xs k) is ∙ found-without cur e k ∙ ap (λ (l : Key). cond (same_key l k) None (found cur k)) key
           ∙ ap (λ o. cond (same_key (key_part n i part) k) None o) (so_far.tags k)
@@ -89,6 +91,7 @@ module _ (n i count : ℕ) (ps qs : List Part) (part : Part) (e : Entry) (here :
 
     pub leave_passed : is_rate e.rate (slice_get qs i) ≡ true → Leaves n (take (i + 1) ps) qs old cur
     leave_passed stays = record {
+      sorted = so_far.sorted;
       tags = λ k. so_far.tags k ∙ ap (λ b. cond b None (found old k)) (sym (fresh_passed n i ps qs part here k (rate_is true stays)));
     }
 
@@ -103,6 +106,7 @@ module _ (n i count : ℕ) (ps qs : List Part) (part : Part) (e : Entry) (here :
 
     pub enter_next : (next : Items) → next ≡ with_entry cur e tag → is_rate e.rate (slice_get qs i) ≡ false → Enters n tag (take (i + 1) ps) qs old next
     enter_next next is differs = record {
+      sorted = λ order. subst AreInOrder (sym is) (entry_in_order cur e tag (so_far.sorted order));
       tags = λ k.
           ap (λ (xs : Items). found xs k) is ∙ found-put cur e tag k ∙ ap (λ (l : Key). cond (same_key l k) (Some tag) (found cur k)) key
           ∙ ap (λ o. cond (same_key (key_part n i part) k) (Some tag) o) (so_far.tags k)
@@ -112,6 +116,7 @@ module _ (n i count : ℕ) (ps qs : List Part) (part : Part) (e : Entry) (here :
 
     pub enter_passed : is_rate e.rate (slice_get qs i) ≡ true → Enters n tag (take (i + 1) ps) qs old cur
     enter_passed stays = record {
+      sorted = so_far.sorted;
       tags = λ k. so_far.tags k ∙ ap (λ b. cond b (Some tag) (found old k)) (sym (fresh_passed n i ps qs part here k (rate_is true stays)));
     }
 
@@ -137,6 +142,7 @@ module _ (n i count : ℕ) (ps qs : List Part) (part : Part) (e : Entry) (here :
     pub retag_next : (next : Items) → next ≡ with_tag cur e tag → has cur e ≡ true → has_rate qs (key_part n i part) ≡ false
         → Enters n tag (take (i + 1) ps) qs old next
     retag_next next is there lacks = record {
+      sorted = λ order. subst AreInOrder (sym is) (tag_in_order cur e tag (so_far.sorted order));
       tags = λ k.
           ap (λ (xs : Items). found xs k) is ∙ found-tagged cur e tag k
           ∙ ap (λ (l : Key). cond (same_key l k) (again tag (found cur k)) (found cur k)) key
@@ -155,10 +161,10 @@ fresh_none n ps qs k =
     ∙ and_false (nat_eq k.serial n) (not (has_rate qs k))
 
 pub leave_begins : (n : ℕ) (ps qs : List Part) (old : Items) → Leaves n (take 0 ps) qs old old
-leave_begins n ps qs old = record { tags = λ k. sym (ap (λ b. cond b None (found old k)) (fresh_none n ps qs k)) }
+leave_begins n ps qs old = record { sorted = λ order. order; tags = λ k. sym (ap (λ b. cond b None (found old k)) (fresh_none n ps qs k)) }
 
 pub enter_begins : (n : ℕ) (tag : Tag) (ps qs : List Part) (old : Items) → Enters n tag (take 0 ps) qs old old
-enter_begins n tag ps qs old = record { tags = λ k. sym (ap (λ b. cond b (Some tag) (found old k)) (fresh_none n ps qs k)) }
+enter_begins n tag ps qs old = record { sorted = λ order. order; tags = λ k. sym (ap (λ b. cond b (Some tag) (found old k)) (fresh_none n ps qs k)) }
 
 pub all_fresh : (n : ℕ) (ps qs : List Part) (k : Key) → fresh n (take (length ps) ps) qs k ≡ true → fresh n ps qs k ≡ true
 all_fresh n ps qs k f = ap (λ (xs : List Part). fresh n xs qs k) (sym (take-length ps)) ∙ f
@@ -169,12 +175,15 @@ none_has k = refl
 
 -- in and out again, where none of them was there
 pub taken_back : (n : ℕ) (tag : Tag) (ps qs : List Part) (old mid new : Items) → Enters n tag ps qs old mid → Leaves n ps qs mid new
-    → ((k : Key) → fresh n ps qs k ≡ true → found old k ≡ None) → (k : Key) → found new k ≡ found old k
-taken_back n tag ps qs old mid new enters leaves absent k = leaves.tags k ∙ by (fresh n ps qs k) refl
+    → ((k : Key) → fresh n ps qs k ≡ true → found old k ≡ None) → IsSameIndex old new
+taken_back n tag ps qs old mid new enters leaves absent = record {
+  sorted = λ order. leaves.sorted (enters.sorted order);
+  tags = λ k. leaves.tags k ∙ by k (fresh n ps qs k) refl;
+}
   where
-    by : (b : Bool) → fresh n ps qs k ≡ b → cond (fresh n ps qs k) None (found mid k) ≡ found old k
-    by true f = rw f (sym (absent k f))
-    by false f = rw f (enters.tags k ∙ rw f refl)
+    by : (k : Key) (b : Bool) → fresh n ps qs k ≡ b → cond (fresh n ps qs k) None (found mid k) ≡ found old k
+    by k true f = rw f (sym (absent k f))
+    by k false f = rw f (enters.tags k ∙ rw f refl)
 
 -- what is fresh among the first is fresh among all
 pub fresh_all : (n i : ℕ) (ps qs : List Part) (k : Key) → fresh n (take i ps) qs k ≡ true → fresh n ps qs k ≡ true

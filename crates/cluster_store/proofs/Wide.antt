@@ -49,10 +49,10 @@ wide_alone None k = refl
 wide_alone (Some s) k = alone (has_rate s.cluster.parts k) s.tag
 
 pub wide_begins : (slots : Slots) (items : Items) → IsShown slots items → IsWide slots [] items
-wide_begins slots items shown = record { tags = λ k. shown.tags k ∙ wide_alone (at slots k.serial) k }
+wide_begins slots items shown = record { sorted = shown.sorted; tags = λ k. shown.tags k ∙ wide_alone (at slots k.serial) k }
 
 pub wide_ends : (slots : Slots) (items : Items) → IsWide slots [] items → IsShown slots items
-wide_ends slots items wide = record { tags = λ k. wide.tags k ∙ sym (wide_alone (at slots k.serial) k) }
+wide_ends slots items wide = record { sorted = wide.sorted; tags = λ k. wide.tags k ∙ sym (wide_alone (at slots k.serial) k) }
 
 -- ---- one more waits, or one fewer
 
@@ -74,11 +74,12 @@ module _ (slots : Slots) (xs : List Exchange) (y : Exchange) (apart : Contains (
   pub wide_more : (items items' : Items) → IsWide slots xs items → IsBeside slots y.number y.cluster.parts items' → KeepsElsewhere y.number items items'
       → IsWide slots (xs ++ y ∷ []) items'
   wide_more items items' wide here others = record {
+    sorted = others.sorted wide.sorted;
     tags = λ k. elim (cases_eq k.serial y.number) [
       | inl serial ↦
           here.tags k serial ∙ sym (ap (λ m. tag_wide (at slots m) (waiting_at (xs ++ y ∷ []) m) k) serial
           ∙ ap (λ (ps : List Part). tag_wide (at slots y.number) ps k) (waiting_last xs y apart))
-      | inr other ↦ others k other ∙ wide.tags k ∙ ap (λ (ps : List Part). tag_wide (at slots k.serial) ps k) (sym (waiting_other xs y k.serial other))
+      | inr other ↦ others.tags k other ∙ wide.tags k ∙ ap (λ (ps : List Part). tag_wide (at slots k.serial) ps k) (sym (waiting_other xs y k.serial other))
     ];
   }
 
@@ -86,12 +87,13 @@ module _ (slots : Slots) (xs : List Exchange) (y : Exchange) (apart : Contains (
   pub wide_fewer : (slots' : Slots) (items items' : Items) → IsWide slots (xs ++ y ∷ []) items → ((m : ℕ) → m ≢ y.number → at slots' m ≡ at slots m)
       → IsBeside slots' y.number [] items' → KeepsElsewhere y.number items items' → IsWide slots' xs items'
   wide_fewer slots' items items' wide same here others = record {
+    sorted = others.sorted wide.sorted;
     tags = λ k. elim (cases_eq k.serial y.number) [
       | inl serial ↦
           here.tags k serial ∙ sym (ap (λ m. tag_wide (at slots' m) (waiting_at xs m) k) serial
           ∙ ap (λ (ps : List Part). tag_wide (at slots' y.number) ps k) (waiting_none xs y.number apart))
       | inr other ↦
-          others k other ∙ wide.tags k ∙ ap (λ (ps : List Part). tag_wide (at slots k.serial) ps k) (waiting_other xs y k.serial other)
+          others.tags k other ∙ wide.tags k ∙ ap (λ (ps : List Part). tag_wide (at slots k.serial) ps k) (waiting_other xs y k.serial other)
           ∙ ap (λ o. tag_wide o (waiting_at xs k.serial) k) (sym (same k.serial other))
     ];
   }
@@ -99,10 +101,16 @@ module _ (slots : Slots) (xs : List Exchange) (y : Exchange) (apart : Contains (
 -- ---- the entries of one
 
 pub keeps_entered : (n : ℕ) (tag : Tag) (ps qs : List Part) (old new : Items) → Enters n tag ps qs old new → KeepsElsewhere n old new
-keeps_entered n tag ps qs old new enters k other = enters.tags k ∙ ap (λ b. cond b (Some tag) (found old k)) (fresh_elsewhere n ps qs k other)
+keeps_entered n tag ps qs old new enters = record {
+  sorted = enters.sorted;
+  tags = λ k other. enters.tags k ∙ ap (λ b. cond b (Some tag) (found old k)) (fresh_elsewhere n ps qs k other);
+}
 
 pub keeps_left : (n : ℕ) (ps qs : List Part) (old new : Items) → Leaves n ps qs old new → KeepsElsewhere n old new
-keeps_left n ps qs old new leaves k other = leaves.tags k ∙ ap (λ b. cond b None (found old k)) (fresh_elsewhere n ps qs k other)
+keeps_left n ps qs old new leaves = record {
+  sorted = leaves.sorted;
+  tags = λ k other. leaves.tags k ∙ ap (λ b. cond b None (found old k)) (fresh_elsewhere n ps qs k other);
+}
 
 entered : (a b : Bool) (t : Tag) → cond (b && not a) (Some t) (cond a (Some t) None) ≡ cond a (Some t) (cond b (Some t) None)
 entered true true t = refl
@@ -203,4 +211,4 @@ module _ (slots : Slots) (n : ℕ) (s : Stored) (is : at slots n ≡ Some s) (ps
   }
 
 pub wide_same : (slots : Slots) (xs : List Exchange) (items items' : Items) → IsWide slots xs items → IsSameIndex items items' → IsWide slots xs items'
-wide_same slots xs items items' wide same = record { tags = λ k. same.tags k ∙ wide.tags k }
+wide_same slots xs items items' wide same = record { sorted = same.sorted wide.sorted; tags = λ k. same.tags k ∙ wide.tags k }

@@ -1,5 +1,5 @@
 -- What changes of a store leave of its clusters.
-use Rattle.std.specs.Prelude.{◌≡◌, ℕ, ◌-◌, ◌^◌, List, [], ◌∷◌, ◌++◌, map, length, Contains, Option, None, Some, slice_get, slice_index, IsSome, min}
+use Rattle.std.specs.Prelude.{◌≡◌, ◌≢◌, ℕ, ◌-◌, ◌^◌, List, [], ◌∷◌, ◌++◌, map, length, Contains, Option, None, Some, slice_get, slice_index, IsSome, min}
 use Rattle.std.specs.FinMap as finmap
 use Rattle.lists.specs.Distinct.{AreDistinct}
 use Rattle.graphs.specs.Closures.{rate_of}
@@ -7,6 +7,11 @@ use Rattle.chunk_index.specs.declared.entry.Tag.{Tag}
 use Rattle.cluster.specs.Clusters.{Cluster}
 use Rattle.cluster_store.specs.declared.stored.Move.{Move}
 use Rattle.cluster_store.specs.Stores.{Stored, Exchange, Numbered}
+
+-- under the number is this now, and under other numbers what there was
+pub record Sets (number : ℕ) (o : Option Stored) (old new : Numbered) : Type 0 where
+  pub changed : finmap.get new number ≡ o
+  pub others : (other : ℕ) → other ≢ number → finmap.get new other ≡ finmap.get old other
 
 -- these stand under these numbers, one for one, which were free, and each number is another
 pub record Adds (added : List Stored) (numbers : List ℕ) (old new : Numbered) : Type 0 where
@@ -21,11 +26,16 @@ moved_to None o = None
 moved_to (Some tag) None = None
 moved_to (Some tag) (Some s) = Some (record { cluster = s.cluster; tag = tag })
 
+-- another cluster, in the same levels
+abbrev pub with_cluster : Cluster → Option Stored → Option Stored
+with_cluster c None = None
+with_cluster c (Some s) = Some (record { cluster = c; tag = s.tag })
+
 -- each of these stands under its number in the place of the one that was there, with its tag
 abbrev pub Exchanges : List Exchange → Numbered → Numbered → Type 0
 Exchanges exchanged old new =
     (x : Exchange) (s : Stored) → Contains exchanged x → finmap.get old x.number ≡ Some s
-    → finmap.get new x.number ≡ Some (record { cluster = x.cluster; tag = s.tag })
+    → finmap.get new x.number ≡ with_cluster x.cluster (Some s)
 
 -- each of these goes out, or stands in other levels
 abbrev pub Moves : List Move → Numbered → Numbered → Type 0

@@ -10,7 +10,7 @@ use Rattle.chunk_index.specs.declared.entry.Entry.{Entry}
 use Rattle.chunk_index.specs.declared.entry.Tag.{Tag}
 use Rattle.chunk_index.specs.declared.key.Key.{Key}
 use Rattle.chunk_index.specs.KeyOrder.{key_cmp}
-use Rattle.chunk_index.specs.Items.{Items, item_key}
+use Rattle.chunk_index.specs.Items.{Items, item_key, AreInOrder}
 use Rattle.cluster.specs.Clusters.{Cluster, IsCluster}
 use Rattle.cluster_store.specs.Stores.{Stored, Exchange, Numbered}
 
@@ -50,11 +50,16 @@ abbrev pub tag_for : Option Stored → Key → Option Tag
 tag_for None k = None
 tag_for (Some s) k = cond (has_rate s.cluster.parts k) (Some s.tag) None
 
--- the index has exactly the keys of the parts, with the tags of their clusters
+-- the index has exactly the keys of the parts, with the tags of their clusters, in key order
 pub record IsShown (slots : Slots) (items : Items) : Type 0 where
+  pub sorted : AreInOrder items
   pub tags : (k : Key) → found items k ≡ tag_for (at slots k.serial) k
 
 -- ---- what changes of a cluster's entries
+
+-- An index that was in key order is still.
+abbrev pub StaysSorted : Items → Items → Type 0
+StaysSorted old new = AreInOrder old → AreInOrder new
 
 -- the parts of a cluster, none where there is no cluster
 abbrev pub parts_of : Option Cluster → List Part
@@ -67,14 +72,17 @@ fresh number parts others k = nat_eq k.serial number && (has_rate parts k && not
 
 -- the keys of some parts under a number that others lack are in, with a tag
 pub record Enters (number : ℕ) (tag : Tag) (parts others : List Part) (old new : Items) : Type 0 where
+  pub sorted : StaysSorted old new
   pub tags : (k : Key) → found new k ≡ cond (fresh number parts others k) (Some tag) (found old k)
 
 -- they are out
 pub record Leaves (number : ℕ) (parts others : List Part) (old new : Items) : Type 0 where
+  pub sorted : StaysSorted old new
   pub tags : (k : Key) → found new k ≡ cond (fresh number parts others k) None (found old k)
 
 -- every key has what it had
 pub record IsSameIndex (old new : Items) : Type 0 where
+  pub sorted : StaysSorted old new
   pub tags : (k : Key) → found new k ≡ found old k
 
 -- ---- while clusters are exchanged
@@ -89,8 +97,9 @@ abbrev pub tag_wide : Option Stored → List Part → Key → Option Tag
 tag_wide None others k = None
 tag_wide (Some s) others k = cond (has_rate s.cluster.parts k) (Some s.tag) (cond (has_rate others k) (Some s.tag) None)
 
--- the index has the keys of the parts, and those of the clusters that wait to be exchanged
+-- the index has the keys of the parts, and those of the clusters that wait to be exchanged, in key order
 pub record IsWide (slots : Slots) (waiting : List Exchange) (items : Items) : Type 0 where
+  pub sorted : AreInOrder items
   pub tags : (k : Key) → found items k ≡ tag_wide (at slots k.serial) (waiting_at waiting k.serial) k
 
 -- ---- what holds of every store

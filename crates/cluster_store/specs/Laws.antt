@@ -1,33 +1,30 @@
 -- What a reader would expect of the definitions.
-use Rattle.std.specs.Prelude.{◌≡◌, ℕ, List, Contains, true, Some}
+use Rattle.std.specs.Prelude.{◌≡◌, ◌↔◌, ℕ, List, Contains, true, Some}
 use Rattle.std.specs.FinMap as finmap
-use Rattle.fee_rate.specs.declared.rates.Sum.{Sum}
-use Rattle.graphs.specs.Graphs.{Graph}
-use Rattle.graphs.specs.Closing.{IsClosureOf}
-use Rattle.graphs.specs.Merges.{Precedes, IsUnion}
-use Rattle.graphs.specs.Picks.{IsPick}
+use Rattle.graphs.specs.Closures.{Closure, is_member, is_ancestor, rate_of}
+use Rattle.graphs.specs.Merges.{Precedes}
 use Rattle.graphs.specs.declared.names.Level.{Level}
 use Rattle.chunk_index.specs.Items.{is_in}
-use Rattle.cluster.specs.Clusters.{Cluster, sum_at}
-use Rattle.cluster_store.specs.Stores.{Stored, Numbered, Store, IsStore, IsOrdered, parts_of_level}
+use Rattle.cluster.specs.Clusters.{Cluster, IsCluster, ArePicked}
+use Rattle.cluster_store.specs.Stores.{Stored, Numbered, Store, IsOrdered, parts_of_level}
 
 -- the cluster stands under the number, in the level
 abbrev pub Stands : Level → Numbered → ℕ → Cluster → Type 0
 Stands level clusters number c = (s : Stored) × (finmap.get clusters number ≡ Some s) × (s.cluster ≡ c) × (is_in level s.tag ≡ true)
 
--- Graphs, each with the number of a cluster that stands in the level and whose closure it is; there is one for each such cluster. `rate` has the
--- fees and sizes of their names.
-pub record AreGraphs (level : Level) (clusters : Numbered) (rate : ℕ → Sum) (graphs : List (Graph × ℕ)) : Type 0 where
-  pub stand : (g : Graph × ℕ) → Contains graphs g
-      → (c : Cluster) × Stands level clusters g.1 c × IsClosureOf c.graph g.0 × ((id : ℕ) → Contains c.names id → sum_at c.graph id ≡ rate id)
-  pub all : (number : ℕ) (c : Cluster) → Stands level clusters number c → (g : Graph) × Contains graphs (g, number)
-  pub once : (g h : Graph) (number : ℕ) → Contains graphs (g, number) → Contains graphs (h, number) → g ≡ h
+-- One graph of all clusters of a level, which have no name in common: its members, their ancestors and their fees and sizes are theirs.
+pub record IsLevel (level : Level) (clusters : Numbered) (g : Closure) : Type 0 where
+  pub apart : (n m id : ℕ) (c d : Cluster) → Stands level clusters n c → Stands level clusters m d → Contains c.names id → Contains d.names id → n ≡ m
+  pub members : (id : ℕ) → (is_member g id ≡ true) ↔ ((n : ℕ) × (c : Cluster) × Stands level clusters n c × Contains c.names id)
+  pub ancestors : (a d : ℕ) → (is_ancestor g a d ≡ true) ↔ ((n : ℕ) × (c : Cluster) × Stands level clusters n c × (is_ancestor c.graph a d ≡ true))
+  pub rates : (n id : ℕ) (c : Cluster) → Stands level clusters n c → Contains c.names id → rate_of g id ≡ rate_of c.graph id
 
--- Where the clusters of a level have no name in common, the level's parts are a pick of every graph that is made of graphs with their closures.
+-- Where each cluster of a level is one of at most so many names, the level's parts are a pick of the graph of the level. Of clusters that don't
+-- stand there nothing is asked.
 abbrev pub LevelsArePicked : Type 0
 LevelsArePicked =
-    (most : ℕ) (store : Store) (level : Level) (rate : ℕ → Sum) (graphs : List (Graph × ℕ)) (whole : Graph) → IsStore most store
-    → AreGraphs level store.clusters rate graphs → IsUnion graphs whole → IsPick rate whole (parts_of_level level store)
+    (most : ℕ) (store : Store) (level : Level) (g : Closure) → IsOrdered store.clusters store.order
+    → ((n : ℕ) (c : Cluster) → Stands level store.clusters n c → IsCluster most c) → IsLevel level store.clusters g → ArePicked g (parts_of_level level store)
 
 -- the cluster of a number, if it has one, stands under it still, whatever the levels
 abbrev pub Stays : Numbered → Numbered → ℕ → Type 0

@@ -1,5 +1,4 @@
 pub mod Laws
-pub mod Moved
 pub mod Lent
 pub mod Stores
 pub mod Walks

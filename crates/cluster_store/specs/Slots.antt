@@ -8,16 +8,16 @@ use Rattle.chunk_index.specs.Items.{Items}
 use Rattle.cluster.specs.Clusters.{Cluster}
 use Rattle.cluster_store.specs.declared.stored.Move.{Move}
 use Rattle.cluster_store.specs.Stores.{Stored, Exchange}
-use Rattle.cluster_store.specs.Changes.{moved_to}
-use Rattle.cluster_store.specs.Kept.{Slots, at, found, tag_wide}
+use Rattle.cluster_store.specs.Changes.{moved_to, with_cluster}
+use Rattle.cluster_store.specs.Kept.{Slots, at, found, tag_wide, StaysSorted}
 
--- the number has another content, and the others have what they had
-pub record Sets (old new : Slots) (number : ℕ) (o : Option Stored) : Type 0 where
+-- the slot of the number has another content, and the others have what they had
+pub record Writes (old new : Slots) (number : ℕ) (o : Option Stored) : Type 0 where
   pub changed : at new number ≡ o
   pub others : (other : ℕ) → other ≢ number → at new other ≡ at old other
 
 abbrev pub MovesIn : Slots → Slots → ℕ → Option Tag → Type 0
-MovesIn old new number to = Sets old new number (moved_to to (at old number))
+MovesIn old new number to = Writes old new number (moved_to to (at old number))
 
 -- ---- several numbers
 
@@ -47,13 +47,8 @@ pub record AddsTo (added : List Stored) (numbers : List ℕ) (old new : Slots) :
 abbrev pub MovesAll : List Move → Slots → Slots → Type 0
 MovesAll = Done (λ m. m.number) (λ m. moved_to m.to)
 
--- another cluster, in the same levels
-abbrev pub with_cluster : Cluster → Option Stored → Option Stored
-with_cluster c None = None
-with_cluster c (Some s) = Some (record { cluster = c; tag = s.tag })
-
 abbrev pub Places : Slots → Slots → ℕ → Cluster → Type 0
-Places old new number c = Sets old new number (with_cluster c (at old number))
+Places old new number c = Writes old new number (with_cluster c (at old number))
 
 -- each of these stands in the place of another
 abbrev pub ExchangesAll : List Exchange → Slots → Slots → Type 0
@@ -64,12 +59,13 @@ pub record IsBeside (slots : Slots) (number : ℕ) (beside : List Part) (items :
   pub tags : (k : Key) → k.serial ≡ number → found items k ≡ tag_wide (at slots number) beside k
 
 -- under other numbers each key has what it had
-abbrev pub KeepsElsewhere : ℕ → Items → Items → Type 0
-KeepsElsewhere number old new = (k : Key) → k.serial ≢ number → found new k ≡ found old k
+pub record KeepsElsewhere (number : ℕ) (old new : Items) : Type 0 where
+  pub sorted : StaysSorted old new
+  pub tags : (k : Key) → k.serial ≢ number → found new k ≡ found old k
 
 -- one more cluster stands under a number that was free, which is put behind others
 pub record AddsOne (s : Stored) (before after : List ℕ) (old new : Slots) : Type 0 where
   pub number : ℕ
   pub listed : after ≡ before ++ number ∷ []
   pub free : at old number ≡ None
-  pub sets : Sets old new number (Some s)
+  pub writes : Writes old new number (Some s)

@@ -224,6 +224,26 @@ pub fn exchange_all<const W: usize>(
     Ok(())
 }
 
+/// Puts a cluster in the place of another, in the same levels.
+///
+/// # Errors
+/// Where there is no memory for all entries that differ. Those that went in are out again.
+pub fn exchange<const W: usize>(
+    slots: &mut Slab<Stored<W>>,
+    index: &mut ChunkIndex,
+    exchange: Exchange<W>,
+) -> Result<(), NoMemory>
+    requires shown { IsShown slots.old.slots index.old }
+    requires there { IsSome (get slots.old exchange.number) }
+    ensures ok { OnOk result (Places slots.old.slots slots.new.slots exchange.entry.number exchange.entry.cluster) }
+    ensures err { OnErr result (SameValues slots.old slots.new) }
+    ensures shown { IsShown slots.new.slots index.new }
+{
+    enter_beside(slots, index, &exchange)?;
+    replace(slots, index, exchange);
+    Ok(())
+}
+
 // Puts the entries of a cluster in that the one in whose place it is to come lacks.
 fn enter_beside<const W: usize>(
     slots: &Slab<Stored<W>>,

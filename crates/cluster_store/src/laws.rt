@@ -1,15 +1,10 @@
 //! Laws over the definitions, each the contract of a function that does nothing.
 ghost use Rattle.cluster_store.specs.Laws.{LevelsArePicked, OrdersAreKept};
 
-use graphs::{picks_are_kept, sorted_lists_merge};
-
 /// Where the clusters of a level have no name in common, the level's parts are a pick of its graph, and so an optimal order.
 pub fn levels_are_picked()
     ensures { LevelsArePicked }
-{
-    picks_are_kept();
-    sorted_lists_merge();
-}
+{}
 
 /// There is one order of the parts of a store's clusters, and the parts of clusters that stay keep theirs.
 #[tactic(auto, using(crate::proofs::Orders::orders_are_kept))]

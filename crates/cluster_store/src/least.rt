@@ -9,7 +9,7 @@ use crate::stored::{Exchange, Stored};
 use cluster::Cluster;
 
 /// The least of a number and the sizes of the names of a cluster.
-fn lowest_of<const W: usize>(cluster: &Cluster<W>, least: u64) -> u64
+pub fn lowest_of<const W: usize>(cluster: &Cluster<W>, least: u64) -> u64
     ensures least { result ≡ lowest (λ id. (rate_of cluster.now.graph id).size) cluster.now.names least }
     ensures whole { IsCluster (64 * W) cluster.now }
 {

@@ -1,11 +1,12 @@
-ghost use Rattle.std.specs.Prelude.{◌≡◌, ◌≤◌, ◌*◌, ◌++◌, ℕ, None, Some, [], map, IsSome, IfOk, OnOk, OnErr, MatchOption};
+ghost use Rattle.std.specs.Prelude.{◌≡◌, ◌≤◌, ◌*◌, ◌++◌, ℕ, None, Some, [], ◌∷◌, map, IsSome, IfOk, OnOk, OnErr, MatchOption};
 ghost use Rattle.std.specs.FinMap as finmap;
-ghost use Rattle.cluster_store.specs.Stores.{Stored as Kept, AreWhole, IsLeast, IsOrdered, shown_in, shown_only};
-ghost use Rattle.cluster_store.specs.Changes.{AreThere, EndsAt, MakesChange, lowest_in, moved_to, most_least};
-ghost use Rattle.cluster_store.specs.Moved.{Moved};
+ghost use Rattle.cluster_store.specs.Stores.{Stored as Kept, IsStore, AreWhole, IsLeast, IsOrdered, shown_in, shown_only};
+ghost use Rattle.cluster_store.specs.Changes.{AreThere, EndsAt, MakesChange, Sets, lowest_in, moved_to, most_least, with_cluster};
 
-use crate::clusters::{add_all, cluster_of, exchange_all, make_move, move_all, tag_of, take_all};
-use crate::least::{lowest_added, lowest_exchanged};
+use crate::clusters::{
+    add, add_all, cluster_of, exchange, exchange_all, make_move, move_all, tag_of, take_all,
+};
+use crate::least::{lowest_added, lowest_exchanged, lowest_of};
 use crate::stored::{Exchange, Move, Stored};
 use crate::walk::PartWalk;
 use chunk_index::{ChunkIndex, Tag};
@@ -44,7 +45,8 @@ impl<const W: usize> ClusterStore<W> {
     /// No cluster. Takes no memory.
     pub fn new(alloc: Global) -> Self
         requires { W ≤ 64 }
-        ensures { result ≡ record { clusters = finmap.empty; order = []; least = most_least } }
+        ensures empty { result ≡ record { clusters = finmap.empty; order = []; least = most_least } }
+        ensures store { IsStore (64 * W) result }
     {
         ClusterStore {
             alloc,
@@ -128,20 +130,13 @@ impl<const W: usize> ClusterStore<W> {
             (lowest_in (map (λ s. s.cluster) added.entry.items) (lowest_in (map (λ x. x.cluster) exchanged.entry.items) self.old.least))
             self.new.least) }
         ensures err { OnErr result (self.new ≡ self.old) }
+        ensures store { IsStore (64 * W) self.new }
     {
-        let _walk = self.index.walk(Level::Main);
         let least = lowest_exchanged(self.least, exchanged.as_slice());
         let least = lowest_added(least, added.as_slice());
-        let numbers = match add_all(self.alloc, &mut self.slots, &mut self.index, added) {
-            Ok(numbers) => numbers,
-            Err(error) => {
-                let _walk = self.index.walk(Level::Main);
-                return Err(error);
-            }
-        };
+        let numbers = add_all(self.alloc, &mut self.slots, &mut self.index, added)?;
         if let Err(error) = exchange_all(&mut self.slots, &mut self.index, exchanged) {
             take_all(&mut self.slots, &mut self.index, numbers);
-            let _walk = self.index.walk(Level::Main);
             return Err(error);
         }
         move_all(&mut self.slots, &mut self.index, moves);
@@ -154,6 +149,7 @@ impl<const W: usize> ClusterStore<W> {
     fn begin_anew(&mut self)
         ensures clusters { self.new.clusters ≡ self.old.clusters }
         ensures least { EndsAt self.new.clusters self.old.least self.new.least }
+        ensures store { IsStore (64 * W) self.new }
     {
         let _index = &self.index;
         if self.slots.is_empty() {
@@ -161,11 +157,49 @@ impl<const W: usize> ClusterStore<W> {
         }
     }
 
+    /// Adds one cluster under a number that is free, and answers the number. It does no more than a change of that one alone.
+    ///
+    /// # Errors
+    /// Where there is no memory for it. All is as it was.
+    pub fn add(&mut self, stored: Stored<W>) -> Result<usize, NoMemory>
+        ensures added { IfOk result (λ number. (finmap.get self.old.clusters number ≡ None)
+            × Sets number (Some stored.entry) self.old.clusters self.new.clusters) }
+        ensures least { OnOk result (EndsAt self.new.clusters (lowest_in (stored.entry.cluster ∷ []) self.old.least) self.new.least) }
+        ensures err { OnErr result (self.new ≡ self.old) }
+        ensures store { IsStore (64 * W) self.new }
+    {
+        let least = lowest_of(stored.cluster(), self.least);
+        let number = add(&mut self.slots, &mut self.index, stored)?;
+        self.least = least;
+        Ok(number)
+    }
+
+    /// Puts one cluster in the place of the one that stands under a number, in the same levels. It does no more than a change
+    /// of that one alone: entries of the index that are the same for both stay.
+    ///
+    /// # Errors
+    /// Where there is no memory for it. All is as it was.
+    pub fn exchange(&mut self, number: usize, cluster: Cluster<W>) -> Result<(), NoMemory>
+        requires { IsSome (finmap.get self.old.clusters number) }
+        ensures exchanged { OnOk result (Sets number (with_cluster cluster.entry (finmap.get self.old.clusters number))
+            self.old.clusters self.new.clusters) }
+        ensures least { OnOk result (EndsAt self.new.clusters (lowest_in (cluster.entry ∷ []) self.old.least) self.new.least) }
+        ensures err { OnErr result (self.new ≡ self.old) }
+        ensures store { IsStore (64 * W) self.new }
+    {
+        let least = lowest_of(&cluster, self.least);
+        let exchanged = Exchange::new(number, cluster);
+        exchange(&mut self.slots, &mut self.index, exchanged)?;
+        self.least = least;
+        Ok(())
+    }
+
     /// Takes the cluster of a number out, or gives it other levels. Takes no memory.
     pub fn make_move(&mut self, number: usize, to: Option<Tag>)
         requires { IsSome (finmap.get self.old.clusters number) }
-        ensures moved { Moved number to self.old.clusters self.new.clusters }
+        ensures moved { Sets number (moved_to to (finmap.get self.old.clusters number)) self.old.clusters self.new.clusters }
         ensures least { EndsAt self.new.clusters self.old.least self.new.least }
+        ensures store { IsStore (64 * W) self.new }
     {
         make_move(&mut self.slots, &mut self.index, number, to);
         self.begin_anew();

@@ -1,8 +1,6 @@
 mod Graphs
-mod Loose
-mod Settling
-mod Added
-mod Slots
+mod Found
+mod Changed
 mod Joined
 mod Standing
 mod Picked
@@ -10,5 +8,7 @@ mod Rows
 mod Stepping
 mod Arranged
 mod Pairs
+mod Sizes
+mod Merged
 mod Starts
 mod Calls

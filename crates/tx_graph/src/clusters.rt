@@ -11,8 +11,6 @@ ghost use Rattle.cluster.specs.Changes.{AreComponents};
 ghost use Rattle.cluster.specs.Steps.{GrowsWithin, most_steps, most_steps_of};
 ghost use Rattle.cluster_store.specs.Stores.{Numbered};
 ghost use Rattle.cluster_store.specs.Stores as stores;
-ghost use Rattle.cluster_store.specs.Changes.{AreThere, MakesChange};
-ghost use Rattle.tx_graph.specs.Stub.{Sets, with_cluster};
 ghost use Rattle.tx_graph.specs.Kept.{AddsName};
 ghost use Rattle.tx_graph.specs.Shelves.{no_clusters, graph_of, parts_of, cluster_at, IsClusterOf};
 ghost use Rattle.tx_graph.specs.Joins.{DepRefusalIs, SumRefusalIs};
@@ -129,7 +127,7 @@ impl<const W: usize> Clusters<W> {
     {
         self.numbers.reserve(1)?;
         let cluster = Cluster::single(self.alloc, id, fee, size, &mut self.work, steps)?;
-        let number = stub_add(&mut self.store, Stored::new(cluster, Tag::Both))?;
+        let number = self.store.add(Stored::new(cluster, Tag::Both))?;
         self.numbers.put(id, number);
         self.count += 1;
         Ok(())
@@ -159,7 +157,7 @@ impl<const W: usize> Clusters<W> {
             return Ok(());
         }
         let changed = cluster.with_fee(self.alloc, id, fee, &mut self.work, steps)?;
-        stub_exchange(&mut self.store, number, changed)
+        self.store.exchange(number, changed)
     }
 
     /// Makes a live name a parent of another, where `link` says how they stand. A parent that is an ancestor already
@@ -206,7 +204,7 @@ impl<const W: usize> Clusters<W> {
     {
         let cluster = at(&self.store, number);
         let changed = cluster.linked(self.alloc, parent, child, &mut self.work, steps)?;
-        stub_exchange(&mut self.store, number, changed)
+        self.store.exchange(number, changed)
     }
 
     // Makes a name a parent of another of another cluster, and so one cluster of both, under the number of the one with
@@ -233,8 +231,8 @@ impl<const W: usize> Clusters<W> {
         let from = larger.names().len();
         self.numbers.reserve(smaller.names().len())?;
         let joined = larger.joined(self.alloc, smaller, parent, child, &mut self.work, steps)?;
-        stub_exchange(&mut self.store, stays, joined)?;
-        stub_move(&mut self.store, goes);
+        self.store.exchange(stays, joined)?;
+        self.store.make_move(goes, None);
         let names = at(&self.store, stays).names();
         point(&mut self.numbers, names.split_at(from).1, stays);
         Ok(())
@@ -437,14 +435,14 @@ fn put_apart<const W: usize>(
 {
     match left.pop() {
         None => {
-            stub_move(store, number);
+            store.make_move(number, None);
             Ok(Vec::new(alloc))
         }
         Some(last) => {
             let mut exchanged = Vec::with_capacity(alloc, 1)?;
             exchanged.push_reserved(Exchange::new(number, last));
             let added = all_both(alloc, left)?;
-            stub_change(store, exchanged, added)
+            store.change(exchanged, added, &[])
         }
     }
 }
@@ -462,44 +460,4 @@ fn all_both<const W: usize>(
         all.push_reserved(Stored::new(cluster, Tag::Both));
     }
     Ok(all)
-}
-
-fn stub_add<const W: usize>(store: &mut ClusterStore<W>, stored: Stored<W>) -> Result<usize, NoMemory>
-    ensures added { IfOk result (λ number. (finmap.get store.old.clusters number ≡ None)
-        × Sets number (Some stored.entry) store.old.clusters store.new.clusters) }
-    ensures store { stores.IsStore (64 * W) store.new }
-    ensures err { OnErr result (store.new ≡ store.old) }
-{
-    let _s = stored;
-    Ok(0)
-}
-
-fn stub_exchange<const W: usize>(store: &mut ClusterStore<W>, number: usize, cluster: Cluster<W>) -> Result<(), NoMemory>
-    requires { IsSome (finmap.get store.old.clusters number) }
-    ensures exchanged { OnOk result (Sets number (with_cluster cluster.entry (finmap.get store.old.clusters number))
-        store.old.clusters store.new.clusters) }
-    ensures store { stores.IsStore (64 * W) store.new }
-    ensures err { OnErr result (store.new ≡ store.old) }
-{
-    let _x = Exchange::new(number, cluster);
-    Ok(())
-}
-
-fn stub_move<const W: usize>(store: &mut ClusterStore<W>, number: usize)
-    requires { IsSome (finmap.get store.old.clusters number) }
-    ensures moved { Sets number None store.old.clusters store.new.clusters }
-    ensures store { stores.IsStore (64 * W) store.new }
-{
-    store.make_move(number, None)
-}
-
-fn stub_change<const W: usize>(store: &mut ClusterStore<W>, exchanged: Vec<Exchange<W>>, added: Vec<Stored<W>>) -> Result<Vec<usize>, NoMemory>
-    requires { AreThere exchanged.items [] store.old.clusters }
-    ensures change { IfOk result
-        (λ numbers. MakesChange exchanged.entry.items added.entry.items [] numbers.items
-        store.old.clusters store.new.clusters) }
-    ensures store { stores.IsStore (64 * W) store.new }
-    ensures err { OnErr result (store.new ≡ store.old) }
-{
-    store.change(exchanged, added, &[])
 }

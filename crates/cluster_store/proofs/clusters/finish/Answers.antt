@@ -2,7 +2,7 @@
 use Rattle.std.proofs.Common.{rules, ◌≡◌, List, [], ◌∷◌, ◌++◌, subst}
 use Rattle.cluster_store.specs.Stores.{Exchange}
 use Rattle.cluster_store.specs.Kept.{IsWide}
-use Rattle.cluster_store.specs.Slots.{with_cluster}
+use Rattle.cluster_store.specs.Changes.{with_cluster}
 use Rattle.cluster_store.proofs.Done.{IsHalf, half_begins, half_ends, half_there, half_next, half_alone, nothing_left}
 use Rattle.cluster_store.proofs.Wide.{beside_last, wide_fewer, wide_ends}
 use Rattle.cluster_store.proofs.clusters.finish.Goals as goal

@@ -2,7 +2,7 @@
 use Rattle.std.proofs.Common.{vec_len}
 use Rattle.cluster_store.specs.Stores.{Exchange}
 use Rattle.cluster_store.specs.Kept.{IsWide}
-use Rattle.cluster_store.specs.Slots.{with_cluster}
+use Rattle.cluster_store.specs.Changes.{with_cluster}
 use Rattle.cluster_store.proofs.Done.{IsHalf}
 use Rattle.cluster_store.proofs.clusters.finish.Given as goal
 

@@ -4,7 +4,8 @@ use Rattle.std.proofs.lemmas.List.{take_all}
 use Rattle.cluster.specs.Clusters.{Cluster}
 use Rattle.cluster_store.specs.Stores.{Stored}
 use Rattle.cluster_store.specs.Kept.{at, Leaves}
-use Rattle.cluster_store.specs.Slots.{Sets, with_cluster}
+use Rattle.cluster_store.specs.Changes.{with_cluster}
+use Rattle.cluster_store.specs.Slots.{Writes}
 use Rattle.cluster_store.proofs.Results.{fresh_same, leaves_same}
 use Rattle.cluster_store.proofs.Slots.{set_here, set_other}
 use Rattle.cluster_store.proofs.Wide.{gone_has, replaces, keeps_left}
@@ -41,7 +42,7 @@ returns-clause-placed g c =
     let is : at slots n ≡ Some s = sym c.in-Some.ensures.value in
     let put : c.replace-gone.new.self ≡ record { cluster = x.cluster; tag = s.tag } =
     c.replace-gone.ensures.new ∙ ap (λ (y : Cluster). record { cluster = y; tag = s.tag }) c.into_parts-number.ensures.cluster in
-    subst (λ (m : ℕ). Sets slots (set slots n (Some c.replace-gone.new.self)) m (with_cluster x.cluster (at slots m))) number
+    subst (λ (m : ℕ). Writes slots (set slots n (Some c.replace-gone.new.self)) m (with_cluster x.cluster (at slots m))) number
     (record {
       changed = set_here slots n s c.replace-gone.new.self is ∙ ap Some put ∙ sym (ap (with_cluster x.cluster) is);
       others = λ m other. set_other slots n m c.replace-gone.new.self other;

@@ -28,10 +28,8 @@ returns-in-Err-clause-err g c =
     let others = parts_of (option_copied c.args.other) in
     let out : Leaves c.args.number (take c.loop-at.at parts) others c.loop-at.index c.leave.new.index =
     subst (λ (xs : Items). Leaves c.args.number (take c.loop-at.at parts) others xs c.leave.new.index) c.in-Err.ensures.err c.leave.ensures in
-    record {
-      tags = taken_back c.args.number c.args.tag (take c.loop-at.at parts) others c.args.index.now c.loop-at.index c.leave.new.index c.loop-at.invariant out
-          (λ k f. c.requires.absent k (fresh_all c.args.number c.loop-at.at parts others k f));
-    }
+    taken_back c.args.number c.args.tag (take c.loop-at.at parts) others c.args.index.now c.loop-at.index c.leave.new.index c.loop-at.invariant out
+    (λ k f. c.requires.absent k (fresh_all c.args.number c.loop-at.at parts others k f))
 
 pub loop-at-preserved : goal.loop-at-preserved
 loop-at-preserved g c =

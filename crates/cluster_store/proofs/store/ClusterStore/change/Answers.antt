@@ -3,6 +3,8 @@ use Rattle.std.proofs.Common.{rules, ◌≤◌, ◌≡◌, List, map, Contains, 
 use Rattle.cluster_store.specs.Stores.{Store, Stored, Exchange}
 use Rattle.cluster_store.specs.Changes.{lowest_in}
 use Rattle.cluster_store.specs.Kept.{IsKept}
+use Rattle.cluster_store.proofs.Kept.{kept_store}
+use Rattle.cluster_store.proofs.Results.{on_err}
 use Rattle.cluster_store.proofs.Adds.{adds_stored, adds_same, adds_undone}
 use Rattle.cluster_store.proofs.Changed.{kept_same, kept_changed, store_same, exchanged_stored, moves_stored, makes_change}
 use Rattle.cluster_store.proofs.store.ClusterStore.change.Goals as goal
@@ -10,12 +12,15 @@ use Rattle.cluster_store.proofs.store.ClusterStore.change.Goals as goal
 pub invariant_of-self : goal.invariant_of-self
 invariant_of-self g c =
     kept_same g.row.W c.self.inside.slots.slots c.add_all.new.slots.slots c.self.inside.index c.add_all.new.index c.self.inside.least c.self.invariant
-    c.in-Err.ensures.err c.in-Err.ensures.shown
+    c.in_err-numbers.ensures.err c.in_err-numbers.ensures.shown
 
-pub returns-in-Err-clause-err : goal.returns-in-Err-clause-err
-returns-in-Err-clause-err g c =
-    store_same c.self.inside.slots.slots c.add_all.new.slots.slots c.self.inside.index c.add_all.new.index c.self.inside.least c.self.invariant.shown
-    c.in-Err.ensures.shown c.walk-walk.ensures.order c.walk-walk-in-Err.ensures.order c.in-Err.ensures.err ∙ c.self.view_is
+pub returns-in_err-numbers-clause-err : goal.returns-in_err-numbers-clause-err
+returns-in_err-numbers-clause-err g c =
+    on_err c.from_residual.result (store_same c.self.inside.slots.slots c.add_all.new.slots.slots c.self.inside.index c.add_all.new.index c.self.inside.least
+    c.self.invariant.shown c.in_err-numbers.ensures.shown c.in_err-numbers.ensures.err ∙ c.self.view_is)
+
+pub returns-in_err-numbers-clause-store : goal.returns-in_err-numbers-clause-store
+returns-in_err-numbers-clause-store g c = kept_store g.row.W c.add_all.new.slots.slots c.add_all.new.index c.self.inside.least (invariant_of-self g c)
 
 pub exchange_all-requires : goal.exchange_all-requires
 exchange_all-requires g c =
@@ -24,9 +29,9 @@ exchange_all-requires g c =
       (
         search rules,
         (
-          c.in-Ok.ensures.shown,
+          c.in_ok-numbers.ensures.shown,
           exchanged_stored c.args.exchanged.items c.args.moves.now c.self.inside.slots.slots c.args.self.now.clusters (ap (λ (s : Store). s.clusters) c.self.view_is) c.requires
-              c.args.added.items c.in-Ok.numbers.items c.add_all.new.slots.slots c.in-Ok.ensures.ok,
+              c.args.added.items c.in_ok-numbers.numbers.items c.add_all.new.slots.slots c.in_ok-numbers.ensures.ok,
         ),
       ),
     )
@@ -36,27 +41,27 @@ take_all-requires g c =
     let narrow : g.row.W ≤ 64 = c.self.invariant.narrow in (
       search rules,
       (
-        c.in-Err-exchange_all.ensures.shown,
-        adds_stored c.args.added.items c.in-Ok.numbers.items c.self.inside.slots.slots c.exchange_all.new.slots.slots
-            (adds_same c.args.added.items c.in-Ok.numbers.items c.self.inside.slots.slots c.add_all.new.slots.slots c.in-Ok.ensures.ok c.in-Ok.numbers.items
-            c.exchange_all.new.slots.slots refl c.in-Err-exchange_all.ensures.err),
+        c.in-Err.ensures.shown,
+        adds_stored c.args.added.items c.in_ok-numbers.numbers.items c.self.inside.slots.slots c.exchange_all.new.slots.slots
+            (adds_same c.args.added.items c.in_ok-numbers.numbers.items c.self.inside.slots.slots c.add_all.new.slots.slots c.in_ok-numbers.ensures.ok c.in_ok-numbers.numbers.items
+            c.exchange_all.new.slots.slots refl c.in-Err.ensures.err),
       ),
     )
 
-pub invariant_of-self-in-Err-exchange_all : goal.invariant_of-self-in-Err-exchange_all
-invariant_of-self-in-Err-exchange_all g c =
+pub invariant_of-self-in-Err : goal.invariant_of-self-in-Err
+invariant_of-self-in-Err g c =
     kept_same g.row.W c.self.inside.slots.slots c.take_all.new.slots.slots c.self.inside.index c.take_all.new.index c.self.inside.least c.self.invariant
-    (adds_undone c.args.added.items c.in-Ok.numbers.items c.self.inside.slots.slots c.exchange_all.new.slots.slots
-    (adds_same c.args.added.items c.in-Ok.numbers.items c.self.inside.slots.slots c.add_all.new.slots.slots c.in-Ok.ensures.ok c.in-Ok.numbers.items
-    c.exchange_all.new.slots.slots refl c.in-Err-exchange_all.ensures.err) c.take_all.new.slots.slots c.take_all.ensures.out) c.take_all.ensures.shown
+    (adds_undone c.args.added.items c.in_ok-numbers.numbers.items c.self.inside.slots.slots c.exchange_all.new.slots.slots
+    (adds_same c.args.added.items c.in_ok-numbers.numbers.items c.self.inside.slots.slots c.add_all.new.slots.slots c.in_ok-numbers.ensures.ok c.in_ok-numbers.numbers.items
+    c.exchange_all.new.slots.slots refl c.in-Err.ensures.err) c.take_all.new.slots.slots c.take_all.ensures.out) c.take_all.ensures.shown
 
-pub returns-in-Err-exchange_all-clause-err : goal.returns-in-Err-exchange_all-clause-err
-returns-in-Err-exchange_all-clause-err g c =
+pub returns-in-Err-clause-err : goal.returns-in-Err-clause-err
+returns-in-Err-clause-err g c =
     store_same c.self.inside.slots.slots c.take_all.new.slots.slots c.self.inside.index c.take_all.new.index c.self.inside.least c.self.invariant.shown
-    c.take_all.ensures.shown c.walk-walk.ensures.order c.walk-walk-in-Err-exchange_all.ensures.order
-    (adds_undone c.args.added.items c.in-Ok.numbers.items c.self.inside.slots.slots c.exchange_all.new.slots.slots
-    (adds_same c.args.added.items c.in-Ok.numbers.items c.self.inside.slots.slots c.add_all.new.slots.slots c.in-Ok.ensures.ok c.in-Ok.numbers.items
-    c.exchange_all.new.slots.slots refl c.in-Err-exchange_all.ensures.err) c.take_all.new.slots.slots c.take_all.ensures.out) ∙ c.self.view_is
+    c.take_all.ensures.shown
+    (adds_undone c.args.added.items c.in_ok-numbers.numbers.items c.self.inside.slots.slots c.exchange_all.new.slots.slots
+    (adds_same c.args.added.items c.in_ok-numbers.numbers.items c.self.inside.slots.slots c.add_all.new.slots.slots c.in_ok-numbers.ensures.ok c.in_ok-numbers.numbers.items
+    c.exchange_all.new.slots.slots refl c.in-Err.ensures.err) c.take_all.new.slots.slots c.take_all.ensures.out) ∙ c.self.view_is
 
 pub move_all-requires : goal.move_all-requires
 move_all-requires g c =
@@ -65,7 +70,7 @@ move_all-requires g c =
       (
         c.in_default.ensures.shown,
         moves_stored c.args.exchanged.items c.args.moves.now c.self.inside.slots.slots c.args.self.now.clusters (ap (λ (s : Store). s.clusters) c.self.view_is) c.requires
-            c.args.added.items c.in-Ok.numbers.items c.add_all.new.slots.slots c.in-Ok.ensures.ok c.exchange_all.new.slots.slots c.in_default.ensures.ok,
+            c.args.added.items c.in_ok-numbers.numbers.items c.add_all.new.slots.slots c.in_ok-numbers.ensures.ok c.exchange_all.new.slots.slots c.in_default.ensures.ok,
       ),
     )
 
@@ -79,7 +84,7 @@ invariant_of-self-2 g c =
     ∙ ap (lowest_in (map (λ (s : Stored). s.cluster) c.args.added.items)) first in
     subst (IsKept g.row.W c.move_all.new.slots.slots c.move_all.new.index) (sym all)
     (kept_changed g.row.W c.args.exchanged.items c.args.moves.now c.self.inside.slots.slots c.args.self.now.clusters (ap (λ (s : Store). s.clusters) c.self.view_is) c.requires
-    c.args.added.items c.in-Ok.numbers.items c.add_all.new.slots.slots c.in-Ok.ensures.ok c.exchange_all.new.slots.slots c.in_default.ensures.ok
+    c.args.added.items c.in_ok-numbers.numbers.items c.add_all.new.slots.slots c.in_ok-numbers.ensures.ok c.exchange_all.new.slots.slots c.in_default.ensures.ok
     c.move_all.new.slots.slots c.move_all.ensures.moved c.self.inside.index c.move_all.new.index c.self.inside.least c.self.invariant c.move_all.ensures.shown
     (λ x here. c.lowest_exchanged-least.ensures.whole x (subst (λ (xs : List Exchange). Contains xs x) (sym c.as_slice.ensures.value) here))
     (λ a here. c.lowest_added-least.ensures.whole a (subst (λ (xs : List Stored). Contains xs a) (sym c.as_slice-2.ensures.value) here)))
@@ -87,5 +92,8 @@ invariant_of-self-2 g c =
 pub returns-clause-change : goal.returns-clause-change
 returns-clause-change g c =
     makes_change c.args.exchanged.items c.args.moves.now c.self.inside.slots.slots c.args.self.now.clusters (ap (λ (s : Store). s.clusters) c.self.view_is) c.requires
-    c.args.added.items c.in-Ok.numbers.items c.add_all.new.slots.slots c.in-Ok.ensures.ok c.exchange_all.new.slots.slots c.in_default.ensures.ok
+    c.args.added.items c.in_ok-numbers.numbers.items c.add_all.new.slots.slots c.in_ok-numbers.ensures.ok c.exchange_all.new.slots.slots c.in_default.ensures.ok
     c.move_all.new.slots.slots c.move_all.ensures.moved c.begin_anew.new.self.clusters (sym c.begin_anew.ensures.clusters)
+
+pub returns-in-Err-clause-store : goal.returns-in-Err-clause-store
+returns-in-Err-clause-store g c = kept_store g.row.W c.take_all.new.slots.slots c.take_all.new.index c.self.inside.least (invariant_of-self-in-Err g c)
