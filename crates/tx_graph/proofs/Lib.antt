@@ -2,6 +2,10 @@ mod Graphs
 mod Found
 mod Changed
 mod Joined
+mod Standing
+mod Picked
+mod Rows
+mod Stepping
 mod Arranged
 mod Pairs
 mod Sizes
@@ -11,3 +15,5 @@ mod Parted
 mod Replaced
 mod Alike
 mod Removed
+mod Starts
+mod Calls
