@@ -15,5 +15,6 @@ mod Parted
 mod Replaced
 mod Alike
 mod Removed
+mod Exchanged
 mod Starts
 mod Calls
