@@ -10,4 +10,5 @@ mod Pointing
 mod Parted
 mod Replaced
 mod Alike
+mod Swaps
 mod Removed
