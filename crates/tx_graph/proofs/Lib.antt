@@ -14,6 +14,7 @@ mod Pointing
 mod Parted
 mod Replaced
 mod Alike
+mod Swaps
 mod Removed
 mod Exchanged
 mod Starts

@@ -1,11 +1,13 @@
 -- A name leaves, and what is left of its cluster takes its place.
 use Rattle.std.proofs.Common.{◌≡◌, ℕ, ◌+◌, ◌-◌, ◌*◌, ◌≤◌, true, List, [], ◌∷◌, Contains, All, Some, None, is_some, IsSome, inl, inr, refl, sym, ap, ◌∙◌, subst, subst₂, arith}
+use Rattle.std.specs.List.Sorted.{IsPermutation}
+use Rattle.std.proofs.lemmas.List.Sorted.{IsPermutation-sym, All-permutation, Contains-permutation}
 use Rattle.std.specs.FinMap as finmap
 use Rattle.lists.proofs.Entries.{Contains-cases}
-use Rattle.graphs.specs.Closures.{is_member, DropsPlace}
+use Rattle.graphs.specs.Closures.{Closure, is_member, DropsPlace}
 use Rattle.staging.specs.Maps.{Maps}
 use Rattle.chunk_index.specs.declared.entry.Tag.TheVariants.{Both}
-use Rattle.cluster.specs.Clusters.{Cluster, IsCluster, ArePicked}
+use Rattle.cluster.specs.Clusters.{Cluster, IsCluster, ArePicked, AreApart}
 use Rattle.cluster.specs.Changes.{IsSplit, AreComponents}
 use Rattle.cluster_store.specs.Stores.{Store, IsStore}
 use Rattle.tx_graph.specs.Shelves.{Numbers, Shelf, cluster_at, graph_of, parts_of, IsInOrder, IsKept, IsClusterOf}
@@ -15,6 +17,7 @@ use Rattle.tx_graph.proofs.Found.{cluster_of}
 use Rattle.tx_graph.proofs.Merged.{picked_of}
 use Rattle.tx_graph.proofs.Pointing.{len_some}
 use Rattle.tx_graph.proofs.Parted.{FallsApart, IsIndexed-parted, DropsPlace-parted, len_parted}
+use Rattle.tx_graph.proofs.Swaps.{all_pairs_permuted}
 use Rattle.tx_graph.proofs.Alike.{components_alike}
 
 -- the same numbers and the same store
@@ -48,6 +51,21 @@ components_there w now shelf id number c d lists view order at was told componen
     let told' = subst (λ (s : Shelf). IsClusterOf (graph_of s) id d) (sym view) told in
     components_alike (graph_of shelf) id (id ∷ []) d c lists told' (cluster_of (64 * w) shelf order.indexed number c was id here) components
 
+-- the clusters that are left, in another order
+split_permuted : (graph : Closure) (gone : List ℕ) (left all : List Cluster) → IsPermutation left all → IsSplit graph gone left → IsSplit graph gone all
+split_permuted graph gone left all order split = record {
+  ancestors = λ a d. (
+    λ up. (split.ancestors a d).0 (up.0, back up.0 up.1, up.2),
+    λ both. let up = (split.ancestors a d).1 both in (up.0, Contains-permutation left all up.0 order up.1, up.2),
+  );
+  rates = λ c here. split.rates c (back c here);
+  apart = all_pairs_permuted AreApart (λ x y apart id one two. apart id two one) left all order split.apart;
+  filled = λ c here. split.filled c (back c here);
+}
+  where
+    back : (c : Cluster) → Contains all c → Contains left c
+    back c here = Contains-permutation all left c (IsPermutation-sym left all order) here
+
 -- what is known after a name left
 pub record Removal (w id number count : ℕ) (c : Cluster) (left : List Cluster) (old new : Shelf) : Type 0 where
   pub order : IsInOrder w old
@@ -56,29 +74,29 @@ pub record Removal (w id number count : ℕ) (c : Cluster) (left : List Cluster)
   pub was : cluster_at old.store.clusters number ≡ Some c
   pub split : IsSplit c.graph (id ∷ []) left
   pub whole : All (IsCluster (64 * w)) left
-  pub parted : (made : List ℕ) × Replaces number left made old.store.clusters new.store.clusters
+  pub parted : (all : List Cluster) × (made : List ℕ) × IsPermutation left all × Replaces number all made old.store.clusters new.store.clusters
       × PointsAll new.store.clusters made (finmap.remove old.numbers id) new.numbers
   pub both : HoldsAll (λ s. s.tag ≡ Both) new.store.clusters
   pub sound : IsStore (64 * w) new.store
 
 module _ (w id number count : ℕ) (c : Cluster) (left : List Cluster) (old new : Shelf) (r : Removal w id number count c left old new) where
-  falls : FallsApart (64 * w) number id c left r.parted.0 (finmap.remove old.numbers id) old new
+  falls : FallsApart (64 * w) number id c r.parted.0 r.parted.1 (finmap.remove old.numbers id) old new
   falls = record {
     indexed = r.order.indexed;
     was = r.was;
     held = stands_in (64 * w) old number id c r.order.indexed r.at r.was;
-    split = r.split;
-    whole = r.whole;
-    replaces = r.parted.1;
+    split = split_permuted c.graph (id ∷ []) left r.parted.0 r.parted.2 r.split;
+    whole = All-permutation (IsCluster (64 * w)) left r.parted.0 r.parted.2 r.whole;
+    replaces = r.parted.3;
     dropped = refl;
-    points = r.parted.2;
+    points = r.parted.4;
   }
 
   pub order_removed : IsInOrder w new
   order_removed = record {
     wide = r.order.wide;
     narrow = r.order.narrow;
-    indexed = IsIndexed-parted (64 * w) number id c left r.parted.0 (finmap.remove old.numbers id) old new falls;
+    indexed = IsIndexed-parted (64 * w) number id c r.parted.0 r.parted.1 (finmap.remove old.numbers id) old new falls;
     store = r.sound;
     both = r.both;
   }
@@ -88,9 +106,9 @@ module _ (w id number count : ℕ) (c : Cluster) (left : List Cluster) (old new 
 
   pub counted_removed : count - 1 ≡ finmap.len new.numbers
   counted_removed =
-      let less = len_parted (64 * w) number id c left r.parted.0 (finmap.remove old.numbers id) old new falls in
+      let less = len_parted (64 * w) number id c r.parted.0 r.parted.1 (finmap.remove old.numbers id) old new falls in
       omega (arith, less, r.counted)
 
   pub drops_removed : (now : Shelf) → old ≡ now → DropsPlace (graph_of now) (graph_of new) id
   drops_removed now view = subst (λ (s : Shelf). DropsPlace (graph_of s) (graph_of new) id) view
-      (DropsPlace-parted (64 * w) number id c left r.parted.0 (finmap.remove old.numbers id) old new falls)
+      (DropsPlace-parted (64 * w) number id c r.parted.0 r.parted.1 (finmap.remove old.numbers id) old new falls)

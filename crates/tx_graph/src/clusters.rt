@@ -1,5 +1,6 @@
-ghost use Rattle.std.specs.Prelude.{sum_by, MatchOption, MatchResult, ◌≡◌, ◌≢◌, ◌⊎◌, ℕ, ◌+◌, ◌*◌, ◌^◌, ◌<◌, ◌≤◌, false, true, None, Some, List, [], ◌∷◌, length, map, All, Contains, IsSome, IfOk, OnOk, OnErr};
+ghost use Rattle.std.specs.Prelude.{sum_by, MatchOption, MatchResult, ◌≡◌, ◌≢◌, ◌⊎◌, ℕ, ◌+◌, ◌*◌, ◌^◌, ◌<◌, ◌≤◌, false, true, None, Some, List, [], ◌∷◌, length, map, slice_index_or, All, Contains, IsSome, IfOk, OnOk, OnErr};
 ghost use Rattle.std.specs.List.{AllPairs};
+ghost use Rattle.std.specs.List.Sorted.{IsPermutation};
 ghost use Rattle.std.specs.FinMap as finmap;
 ghost use Rattle.fee_rate.specs.Limits.{IsFee, IsRate};
 ghost use Rattle.graphs.specs.Closures.{is_member, is_ancestor, rate_of, AddsPair, SetsFee, DropsPlace, AreLinked};
@@ -442,15 +443,15 @@ fn fall_apart<const W: usize>(
     store: &mut ClusterStore<W>,
     number: usize,
     id: TxId,
-    left: Vec<Cluster<W>>,
+    mut left: Vec<Cluster<W>>,
 ) -> Result<(), NoMemory>
     requires narrow { W ≤ 2 }
     requires none_staged { numbers.old.top ≡ None }
     requires there { IsSome (cluster_at store.old.clusters number) }
     requires both { HoldsAll (λ s. s.tag ≡ Both) store.old.clusters }
     requires apart { AllPairs AreApart left.items }
-    ensures parted { OnOk result ((made : List ℕ)
-        × Replaces number left.entry.items made store.old.clusters store.new.clusters
+    ensures parted { OnOk result ((all : List records.Cluster) × (made : List ℕ) × IsPermutation {X = records.Cluster} left.entry.items all
+        × Replaces number all made store.old.clusters store.new.clusters
         × PointsAll store.new.clusters made (finmap.remove numbers.old.base id) numbers.new.base) }
     ensures none_staged { numbers.new.top ≡ None }
     ensures both { HoldsAll (λ s. s.tag ≡ Both) store.new.clusters }
@@ -458,12 +459,42 @@ fn fall_apart<const W: usize>(
     ensures same_numbers { OnErr result (numbers.new.base ≡ numbers.old.base) }
     ensures same_store { OnErr result (store.new ≡ store.old) }
 {
+    largest_last(&mut left);
     let few = name_count(left.as_slice())?;
     numbers.reserve(few)?;
     let made = put_apart(alloc, store, number, left)?;
     numbers.remove(id);
     point_all(numbers, store, made.as_slice());
     Ok(())
+}
+
+// Puts one of the most names last, so that most names keep their number.
+fn largest_last<const W: usize>(clusters: &mut Vec<Cluster<W>>)
+    requires { W ≤ 2 }
+    ensures { IsPermutation {X = records.Cluster} clusters.old.items clusters.new.items }
+{
+    if clusters.is_empty() {
+        return;
+    }
+    let last = clusters.len() - 1;
+    let place = largest(clusters.as_slice());
+    clusters.swap(place, last);
+}
+
+// The place of one of the most names.
+fn largest<const W: usize>(clusters: &[Cluster<W>]) -> usize
+    requires narrow { W ≤ 2 }
+    requires some { 1 ≤ length clusters.now }
+    ensures place { result < length clusters.now }
+    ensures most { All (λ c. length c.names ≤ length (slice_index_or clusters.now result c).names) clusters.now }
+{
+    let mut best = 0;
+    for i in 0..clusters.len() {
+        if clusters[best].names().len() < clusters[i].names().len() {
+            best = i;
+        }
+    }
+    best
 }
 
 // How many names some clusters have, and one more.
