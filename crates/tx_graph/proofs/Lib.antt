@@ -19,3 +19,5 @@ mod Removed
 mod Exchanged
 mod Starts
 mod Calls
+mod Sides
+mod Linked

@@ -34,12 +34,12 @@ pub record AreTogether (g : Closure) (p q : ℕ) (c : Cluster) : Type 0 where
   pub cluster : IsClusterOf g p c
   pub q_in : Contains c.names q
 
-module _ (limits : Limits) (g : Closure) (p q : ℕ) (c : Cluster) (t : AreTogether g p q c) where
+module _ (g : Closure) (p q : ℕ) (c : Cluster) (t : AreTogether g p q c) where
   linked_already : AreLinked g p q
   linked_already = t.cluster.linked q t.q_in
 
-  pub within_row : is_ancestor g q p ≡ false → DepRefusalIs limits g p q None
-  within_row apart = inr (
+  pub within_row : (limits : Limits) → is_ancestor g q p ≡ false → DepRefusalIs limits g p q None
+  within_row limits apart = inr (
     λ none. none t.p_live,
     inr (
       λ none. none t.q_live,
@@ -47,8 +47,8 @@ module _ (limits : Limits) (g : Closure) (p q : ℕ) (c : Cluster) (t : AreToget
     ),
   )
 
-  pub cycle_row : is_ancestor g q p ≡ true → DepRefusalIs limits g p q (Some Cycle)
-  cycle_row up = inr (λ none. none t.p_live, inr (λ none. none t.q_live, inl (up, refl)))
+  pub cycle_row : (limits : Limits) → is_ancestor g q p ≡ true → DepRefusalIs limits g p q (Some Cycle)
+  cycle_row limits up = inr (λ none. none t.p_live, inr (λ none. none t.q_live, inl (up, refl)))
 
   pub either_listed : AreDistinct c.names → Lists (IsLinkedToEither g p q) (arranged c.names)
   either_listed once = record {
@@ -74,7 +74,7 @@ pub record AreBetween (g : Closure) (p q : ℕ) (a b : Cluster) : Type 0 where
   pub second_once : AreDistinct b.names
   pub apart : (id : ℕ) → Contains a.names id → Contains b.names id → ⊥
 
-module _ (limits : Limits) (g : Closure) (p q : ℕ) (a b : Cluster) (t : AreBetween g p q a b) where
+module _ (g : Closure) (p q : ℕ) (a b : Cluster) (t : AreBetween g p q a b) where
   abbrev members : List ℕ
   members = arranged (a.names ++ b.names)
 
@@ -124,23 +124,23 @@ module _ (limits : Limits) (g : Closure) (p q : ℕ) (a b : Cluster) (t : AreBet
   same_members : (others : List ℕ) → JoinsTo g p q others → others ≡ members
   same_members others so = Lists-same (IsLinkedToEither g p q) others members so.1 both_listed
 
-  many : (n : ℕ) → ((n ≡ length a.names + length b.names) × (limits.count < n)) ↔ JoinsTooMany limits g p q n
-  many n = (
+  many : (limits : Limits) (n : ℕ) → ((n ≡ length a.names + length b.names) × (limits.count < n)) ↔ JoinsTooMany limits g p q n
+  many limits n = (
     λ over. (members, joins, over.0 ∙ sym count_is, over.1),
     λ too. (too.2 ∙ ap length (same_members too.0 too.1) ∙ count_is, too.3),
   )
 
-  large : (n : ℕ) → ((n ≡ sizes_of a + sizes_of b) × (limits.size < n)) ↔ JoinsTooLarge limits g p q n
-  large n = (
+  large : (limits : Limits) (n : ℕ) → ((n ≡ sizes_of a + sizes_of b) × (limits.size < n)) ↔ JoinsTooLarge limits g p q n
+  large limits n = (
     λ over. (members, joins, over.0 ∙ sym size_is, over.1),
     λ too. (too.2 ∙ ap (sum_by size_in_graph) (same_members too.0 too.1) ∙ size_is, too.3),
   )
 
-  pub between_row : (found : Option Refusal) → SumRefusalIs limits (length a.names + length b.names) (sizes_of a + sizes_of b) found → DepRefusalIs limits g p q found
-  between_row found row = inr (
+  pub between_row : (limits : Limits) (found : Option Refusal) → SumRefusalIs limits (length a.names + length b.names) (sizes_of a + sizes_of b) found → DepRefusalIs limits g p q found
+  between_row limits found row = inr (
     λ none. none t.p_live,
     inr (
       λ none. none t.q_live,
-      inr (no_way, first_at_along Count many (first_at_along ClusterSize large (λ none. none)) row),
+      inr (no_way, first_at_along Count (many limits) (first_at_along ClusterSize (large limits) (λ none. none)) row),
     ),
   )
