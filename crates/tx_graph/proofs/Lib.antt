@@ -2,6 +2,10 @@ mod Graphs
 mod Found
 mod Changed
 mod Joined
+mod Standing
+mod Picked
+mod Rows
+mod Stepping
 mod Arranged
 mod Pairs
 mod Sizes
@@ -12,3 +16,6 @@ mod Replaced
 mod Alike
 mod Swaps
 mod Removed
+mod Exchanged
+mod Starts
+mod Calls

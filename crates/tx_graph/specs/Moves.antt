@@ -1,5 +1,5 @@
 -- How names move from number to number.
-use Rattle.std.specs.Prelude.{◌≡◌, ◌≢◌, ◌⊎◌, ℕ, ◌+◌, ◌*◌, ◌≤◌, false, true, List, [], ◌∷◌, ◌++◌, length, slice_get, slice_index, Contains, None, Some, Result, MatchResult}
+use Rattle.std.specs.Prelude.{◌≡◌, ◌≢◌, ◌⊎◌, ℕ, ◌+◌, ◌*◌, ◌≤◌, false, true, List, [], ◌∷◌, ◌++◌, length, drop, slice_get, slice_index, Contains, None, Some, Result, MatchResult}
 use Rattle.std.specs.FinMap as finmap
 use Rattle.lists.specs.Distinct.{AreDistinct}
 use Rattle.graphs.specs.Closures.{is_ancestor}
@@ -7,6 +7,7 @@ use Rattle.graph_model.specs.declared.names.Refusal.{Refusal}
 use Rattle.graph_model.specs.declared.names.Refusal.TheVariants.{Cycle}
 use Rattle.cluster.specs.Clusters.{Cluster}
 use Rattle.cluster_store.specs.Stores.{Stored, Numbered}
+use Rattle.cluster_store.specs.Changes.{Sets, with_cluster}
 use Rattle.tx_graph.specs.Shelves.{Numbers, Shelf, cluster_at, graph_of}
 use Rattle.tx_graph.specs.declared.clusters.Link.{Link}
 use Rattle.tx_graph.specs.declared.clusters.Link.TheVariants.{There, Within, Between}
@@ -24,6 +25,13 @@ IsNamedIn clusters list id = (number : ℕ) × Contains list number × (c : Clus
 pub record PointsAll (clusters : Numbered) (list : List ℕ) (old new : Numbers) : Type 0 where
   pub pointed : (number id : ℕ) (c : Cluster) → Contains list number → cluster_at clusters number ≡ Some c → Contains c.names id → finmap.get new id ≡ Some number
   pub others : (id : ℕ) → (IsNamedIn clusters list id → ⊥) → finmap.get new id ≡ finmap.get old id
+
+-- One cluster stands in the place of two, under the number of the first, and its names from some position on have that number.
+pub record ComeTogether (stays goes : ℕ) (joined : Cluster) (from : ℕ) (old new : Numbered) (numbers numbers' : Numbers) : Type 0 where
+  pub mid : Numbered
+  pub exchanged : Sets stays (with_cluster joined (finmap.get old stays)) old mid
+  pub gone : Sets goes None mid new
+  pub points : Points stays (drop from joined.names) numbers numbers'
 
 -- How a pair of names stands that may be added: the one is an ancestor of the other already, or neither is and they are of one cluster,
 -- or of two, which together have no more names than may be.

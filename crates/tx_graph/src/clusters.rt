@@ -16,7 +16,7 @@ ghost use Rattle.cluster_store.specs.Stores as stores;
 ghost use Rattle.tx_graph.specs.Kept.{AddsName};
 ghost use Rattle.tx_graph.specs.Shelves.{no_clusters, graph_of, parts_of, cluster_at, IsClusterOf};
 ghost use Rattle.tx_graph.specs.Joins.{DepRefusalIs, SumRefusalIs};
-ghost use Rattle.tx_graph.specs.Moves.{AreAt, AreFarApartIn, HoldsAll, IsLink, IsWithin, Points, PointsAll, Replaces};
+ghost use Rattle.tx_graph.specs.Moves.{AreAt, AreFarApartIn, ComeTogether, HoldsAll, IsLink, IsWithin, Points, PointsAll, Replaces};
 
 use chunk_index::Tag;
 use cluster::{Cluster, Work};
@@ -229,15 +229,10 @@ impl<const W: usize> Clusters<W> {
     {
         let (stays, goes) = larger_first(&self.store, above, below);
         let larger = at(&self.store, stays);
-        let smaller = at(&self.store, goes);
         let from = larger.names().len();
-        self.numbers.reserve(smaller.names().len())?;
+        let smaller = at(&self.store, goes);
         let joined = larger.joined(self.alloc, smaller, parent, child, &mut self.work, steps)?;
-        self.store.exchange(stays, joined)?;
-        self.store.make_move(goes, None);
-        let names = at(&self.store, stays).names();
-        point(&mut self.numbers, names.split_at(from).1, stays);
-        Ok(())
+        come_together(&mut self.numbers, &mut self.store, stays, goes, joined, from)
     }
 
     /// Why `dep` is refused, other than for want of memory; or how the two names stand.
@@ -392,6 +387,37 @@ fn point(numbers: &mut Overlay<usize>, names: &[TxId], number: usize)
     for id in names {
         numbers.put(*id, number);
     }
+}
+
+// Puts one cluster in the place of two, under the number of the first, of whose names there are `from`. Without memory all
+// stays as it was.
+fn come_together<const W: usize>(
+    numbers: &mut Overlay<usize>,
+    store: &mut ClusterStore<W>,
+    stays: usize,
+    goes: usize,
+    joined: Cluster<W>,
+    from: usize,
+) -> Result<(), NoMemory>
+    requires narrow { W ≤ 2 }
+    requires none_staged { numbers.old.top ≡ None }
+    requires apart { stays ≢ goes }
+    requires first { IsSome (cluster_at store.old.clusters stays) }
+    requires second { IsSome (cluster_at store.old.clusters goes) }
+    requires from { from ≤ length joined.names }
+    ensures joined { OnOk result (ComeTogether stays goes joined.entry from store.old.clusters store.new.clusters
+        numbers.old.base numbers.new.base) }
+    ensures none_staged { numbers.new.top ≡ None }
+    ensures store { OnOk result (stores.IsStore (64 * W) store.new) }
+    ensures same_numbers { OnErr result (numbers.new.base ≡ numbers.old.base) }
+    ensures same_store { OnErr result (store.new ≡ store.old) }
+{
+    numbers.reserve(joined.names().len())?;
+    store.exchange(stays, joined)?;
+    store.make_move(goes, None);
+    let names = at(store, stays).names();
+    point(numbers, names.split_at(from).1, stays);
+    Ok(())
 }
 
 // Gives the names of the clusters of some numbers these numbers.

@@ -1,3 +1,0 @@
-pub mod Clusters
-pub mod Named
-pub mod Changes
