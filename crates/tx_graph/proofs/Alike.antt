@@ -1,7 +1,7 @@
 -- Two clusters that the graph tells alike have the same components without some names.
-use Rattle.std.proofs.Common.{◌≡◌, ℕ, true, List, [], ◌∷◌, Contains, inl, inr, ◌⊎◌, sym, ◌∙◌}
+use Rattle.std.proofs.Common.{◌≡◌, ℕ, true, List, [], ◌∷◌, inl, inr, sym, ◌∙◌}
 use Rattle.lists.specs.Walks.{IsWalk}
-use Rattle.graphs.specs.Closures.{Closure, is_member, is_ancestor, IsRelated}
+use Rattle.graphs.specs.Closures.{Closure, is_ancestor}
 use Rattle.cluster.specs.Clusters.{Cluster}
 use Rattle.cluster.specs.Changes.{IsLeft, AreNearLeft, AreComponents}
 use Rattle.tx_graph.specs.Shelves.{IsClusterOf}

@@ -1,10 +1,10 @@
 -- A cluster in parts.
-use Rattle.std.proofs.Common.{◌≡◌, ◌≢◌, ℕ, ◌+◌, ◌<◌, ◌≤◌, Bool, true, false, cond, not, ◌&&◌, nat_eq, List, [], ◌∷◌, ◌++◌, length, get_or, Contains, All, Option, Some, None, is_some, inl, inr, ◌⊎◌, ◌↔◌, refl, sym, ap, ◌∙◌, subst, subst₂, arith, eq-eqb, ne_eqb, true≢false, length-append}
-use Rattle.std.specs.Prelude.{slice_get, slice_index, sum_by, option_map}
+use Rattle.std.proofs.Common.{◌≡◌, ◌≢◌, ℕ, ◌+◌, ◌<◌, ◌≤◌, Bool, true, false, cond, not, ◌&&◌, nat_eq, List, [], ◌∷◌, ◌++◌, length, get_or, Contains, All, Option, Some, None, is_some, inl, inr, ◌⊎◌, refl, sym, ap, ◌∙◌, subst, subst₂, arith, eq-eqb, ne_eqb, true≢false, length-append}
+use Rattle.std.specs.Prelude.{slice_index, sum_by, option_map}
 use Rattle.std.specs.List.{AllPairs}
 use Rattle.std.proofs.lemmas.Bool.{cases_eq, cases_lt, cases_Bool, and_parts, and_from}
-use Rattle.std.proofs.lemmas.Option.{none-some, same_Some, slice_get-get_or, slice_get_within}
-use Rattle.std.proofs.lemmas.List.{get_or_append_left, get_or_push, get_or_default}
+use Rattle.std.proofs.lemmas.Option.{none-some, same_Some, slice_get-get_or}
+use Rattle.std.proofs.lemmas.List.{get_or_append_left, get_or_push}
 use Rattle.std.proofs.lemmas.List.Sums.{sum_by_push}
 use Rattle.std.proofs.lemmas.List.Elements.{Contains-append_left, Contains-push, Contains-push_cases, All-contains}
 use Rattle.std.specs.FinMap as finmap
@@ -17,7 +17,8 @@ use Rattle.cluster_store.specs.Stores.{Stored, Numbered}
 use Rattle.tx_graph.specs.Shelves.{Numbers, Shelf, cluster_at, graph_of, StandsAt, IsIndexed}
 use Rattle.tx_graph.specs.Moves.{AreAt, AreFarApartIn, IsNamedIn, PointsAll, Replaces}
 use Rattle.tx_graph.proofs.Graphs.{member-number, rate-none, rate_in_cluster, above_in, in_above, names_of_above, one_number, live_in}
-use Rattle.tx_graph.proofs.Pointing.{decide_in, decide_named, place_of, at_place, get-drop, len_drop, same_len}
+use Rattle.tx_graph.proofs.Changed.{decide_in}
+use Rattle.tx_graph.proofs.Pointing.{decide_named, place_of, at_place, get-drop, len_drop, same_len}
 
 -- ---- a list and one more
 
@@ -84,6 +85,9 @@ far_of clusters list found at apart n m id c d here there is so held too =
             absurd (away id too held)
       ]
     ]
+
+at_same : (clusters : Numbered) (n m number : ℕ) (d : Cluster) → n ≡ number → m ≡ number → cluster_at clusters m ≡ Some d → cluster_at clusters n ≡ Some d
+at_same clusters n m number d one two is = ap (cluster_at clusters) (one ∙ sym two) ∙ is
 
 -- ---- the change
 
@@ -243,7 +247,7 @@ module _ (most number gone : ℕ) (c : Cluster) (left : List Cluster) (made : Li
             let part = from_left id other (subst (λ (e : Cluster). Contains e.names id) one at.here) in
             let now = at_number number left made was_of now_of f.replaces part.0 part.1 in
             elim now.2 [
-              | inl here ↦ record { cluster = part.0; there = ap (cluster_at now_of) (same ∙ sym here) ∙ now.1; here = part.2 }
+              | inl here ↦ record { cluster = part.0; there = at_same now_of n now.0 number part.0 same here now.1; here = part.2 }
               | inr in_made ↦ absurd (none (now.0, in_made, part.0, now.1, part.2))
             ]
       ]

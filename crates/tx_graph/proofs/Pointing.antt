@@ -1,6 +1,6 @@
 -- Names that get numbers.
-use Rattle.std.proofs.Common.{◌≡◌, ◌≢◌, ℕ, zero, suc, ◌+◌, ◌-◌, ◌<◌, ◌≤◌, Bool, true, false, cond, nat_eq, List, [], ◌∷◌, map, length, get_or, drop, Contains, Option, Some, None, is_some, IsSome, inl, inr, ◌⊎◌, refl, sym, ap, ◌∙◌, subst, arith, eq-eqb, ne_eqb, true≢false}
-use Rattle.std.specs.Prelude.{unwrap_or, slice_get, slice_index, sum_by}
+use Rattle.std.proofs.Common.{◌≡◌, ◌≢◌, ℕ, zero, suc, ◌+◌, ◌-◌, ◌<◌, ◌≤◌, Bool, true, false, cond, nat_eq, List, [], ◌∷◌, length, get_or, drop, Contains, Option, Some, None, is_some, IsSome, inl, inr, ◌⊎◌, refl, sym, ap, ◌∙◌, subst, arith, eq-eqb, ne_eqb, true≢false}
+use Rattle.std.specs.Prelude.{unwrap_or, slice_index, sum_by}
 use Rattle.std.proofs.lemmas.Bool.{cases_eq}
 use Rattle.std.proofs.lemmas.Option.{none-some, same_Some, slice_get_cases, slice_get-get_or}
 use Rattle.std.proofs.lemmas.List.Sums.{sum_by-drop_more}
@@ -13,6 +13,7 @@ use Rattle.cluster.specs.Clusters.{Cluster}
 use Rattle.cluster_store.specs.Stores.{Numbered}
 use Rattle.tx_graph.specs.Shelves.{Numbers, cluster_at}
 use Rattle.tx_graph.specs.Moves.{Points, PointsAll, IsNamedIn, AreAt, AreFarApartIn}
+use Rattle.tx_graph.proofs.Changed.{decide_in}
 
 -- ---- one name
 
@@ -46,16 +47,6 @@ pub base_changes : (f : Map ℕ → Map ℕ) (old new : Maps ℕ) → old.top �
 base_changes f old new none same is = sym (base_is new (still_none old new none same)) ∙ is ∙ ap f (base_is old none)
 
 -- ---- some names
-
-pub decide_in : (xs : List ℕ) (id : ℕ) → Contains xs id ⊎ (Contains xs id → ⊥)
-decide_in [] id = inr (λ here. omega (arith, here.1))
-decide_in (x ∷ xs) id = elim (cases_eq x id) [
-  | inl same ↦ inl (subst (Contains (x ∷ xs)) same (Contains-head x xs))
-  | inr other ↦ elim (decide_in xs id) [
-    | inl later ↦ inl (Contains-later x id xs later)
-    | inr none ↦ inr (λ here. elim (Contains-cases x id xs here) [ inl same ↦ other same | inr later ↦ none later ])
-  ]
-]
 
 -- the names before the place have the number, and the others what they had
 pub record PointsTo (place number : ℕ) (names : List ℕ) (old new : Numbers) : Type 0 where

@@ -1,21 +1,19 @@
 -- A name leaves, and what is left of its cluster takes its place.
-use Rattle.std.proofs.Common.{◌≡◌, ℕ, ◌+◌, ◌-◌, ◌*◌, ◌≤◌, true, List, [], ◌∷◌, Contains, All, Some, None, is_some, IsSome, inl, inr, refl, sym, ap, ◌∙◌, subst, subst₂, arith}
+use Rattle.std.proofs.Common.{◌≡◌, ℕ, ◌-◌, ◌*◌, true, List, [], ◌∷◌, Contains, All, Some, is_some, IsSome, inl, inr, refl, sym, ap, ◌∙◌, subst, subst₂, arith}
 use Rattle.std.specs.List.Sorted.{IsPermutation}
 use Rattle.std.proofs.lemmas.List.Sorted.{IsPermutation-sym, All-permutation, Contains-permutation}
 use Rattle.std.specs.FinMap as finmap
 use Rattle.lists.proofs.Entries.{Contains-cases}
 use Rattle.graphs.specs.Closures.{Closure, is_member, DropsPlace}
-use Rattle.staging.specs.Maps.{Maps}
 use Rattle.chunk_index.specs.declared.entry.Tag.TheVariants.{Both}
 use Rattle.cluster.specs.Clusters.{Cluster, IsCluster, ArePicked, AreApart}
 use Rattle.cluster.specs.Changes.{IsSplit, AreComponents}
 use Rattle.cluster_store.specs.Stores.{Store, IsStore}
-use Rattle.tx_graph.specs.Shelves.{Numbers, Shelf, cluster_at, graph_of, parts_of, IsInOrder, IsKept, IsClusterOf}
+use Rattle.tx_graph.specs.Shelves.{Numbers, Shelf, cluster_at, graph_of, parts_of, IsInOrder, IsClusterOf}
 use Rattle.tx_graph.specs.Moves.{HoldsAll, PointsAll, Replaces}
 use Rattle.tx_graph.proofs.Graphs.{member-number, stands_in}
 use Rattle.tx_graph.proofs.Found.{cluster_of}
 use Rattle.tx_graph.proofs.Merged.{picked_of}
-use Rattle.tx_graph.proofs.Pointing.{len_some}
 use Rattle.tx_graph.proofs.Parted.{FallsApart, IsIndexed-parted, DropsPlace-parted, len_parted}
 use Rattle.tx_graph.proofs.Swaps.{all_pairs_permuted}
 use Rattle.tx_graph.proofs.Alike.{components_alike}

@@ -1,6 +1,6 @@
 -- Clusters in the place of one, by what the store says of a whole change.
-use Rattle.std.proofs.Common.{◌≡◌, ◌≢◌, ℕ, List, [], ◌∷◌, ◌++◌, map, length, Contains, Option, Some, None, is_some, IsSome, Result, Ok, Err, IfOk, OnErr, inl, inr, ◌⊎◌, refl, sym, ap, ◌∙◌, subst, arith, true≢false}
-use Rattle.std.specs.Prelude.{slice_get, slice_index, option_map}
+use Rattle.std.proofs.Common.{◌≡◌, ◌≢◌, ℕ, List, [], ◌∷◌, ◌++◌, map, Contains, Option, Some, None, is_some, IsSome, Result, Ok, Err, IfOk, OnErr, inl, inr, refl, sym, ap, ◌∙◌, subst, arith, true≢false}
+use Rattle.std.specs.Prelude.{slice_get, option_map}
 use Rattle.std.proofs.lemmas.Bool.{cases_eq}
 use Rattle.std.proofs.lemmas.List.{length-map}
 use Rattle.std.proofs.lemmas.Option.{none-some, same_Some, slice_get-map, slice_get_cases}
@@ -11,8 +11,9 @@ use Rattle.cluster.specs.Clusters.{Cluster}
 use Rattle.cluster_store.specs.Stores.{Stored, Exchange, Numbered, Store}
 use Rattle.cluster_store.specs.Changes.{AreThere, MakesChange, Sets}
 use Rattle.tx_graph.specs.Shelves.{cluster_at}
-use Rattle.tx_graph.specs.Moves.{AreAt, HoldsAll, Replaces}
-use Rattle.tx_graph.proofs.Pointing.{decide_in, place_of}
+use Rattle.tx_graph.specs.Moves.{HoldsAll, Replaces}
+use Rattle.tx_graph.proofs.Changed.{decide_in}
+use Rattle.tx_graph.proofs.Pointing.{place_of}
 
 stored_some : (clusters : Numbered) (number : ℕ) → IsSome (cluster_at clusters number) → (s : Stored) × (finmap.get clusters number ≡ Some s)
 stored_some clusters number there = from (finmap.get clusters number) there

@@ -58,10 +58,12 @@ module _ {X : Type 0} (R : X → X → Type 0) (turn : (x y : X) → R x y → R
     stood : (k : ℕ) (d : X) → get_or xs (turned a b k) d ≡ get_or (swap xs a b) k d
     stood k d =
         let swapped = swapped_from_swap xs (swap xs a b) a b d a_low b_low refl in
+        let was : ℕ → X = λ q. get_or xs q d in
+        let now : ℕ → X = λ q. get_or (swap xs a b) q d in
         elim (which a b k) [
-          | inl same ↦ ap (λ q. get_or xs (turned a b q) d) same ∙ ap (λ q. get_or xs q d) (turned_first a b) ∙ sym swapped.0 ∙ ap (λ q. get_or (swap xs a b) q d) (sym same)
-          | inr (inl same) ↦ ap (λ q. get_or xs (turned a b q) d) same ∙ ap (λ q. get_or xs q d) (turned_second a b) ∙ sym swapped.1 ∙ ap (λ q. get_or (swap xs a b) q d) (sym same)
-          | inr (inr other) ↦ ap (λ q. get_or xs q d) (turned_other a b k other.0 other.1) ∙ sym (swapped.2 k other.0 other.1)
+          | inl same ↦ ap was (ap (turned a b) same ∙ turned_first a b) ∙ sym swapped.0 ∙ ap now (sym same)
+          | inr (inl same) ↦ ap was (ap (turned a b) same ∙ turned_second a b) ∙ sym swapped.1 ∙ ap now (sym same)
+          | inr (inr other) ↦ ap was (turned_other a b k other.0 other.1) ∙ sym (swapped.2 k other.0 other.1)
         ]
 
     all_pairs_swap : AllPairs R xs → AllPairs R (swap xs a b)

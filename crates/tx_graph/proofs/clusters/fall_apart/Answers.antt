@@ -1,7 +1,7 @@
 -- The clusters under numbers that were free have no name in common, and there is room for their names.
-use Rattle.std.proofs.Common.{rules, ◌≡◌, ◌≤◌, ◌+◌, List, ℕ, None, ap, sym, ◌∙◌, subst, arith}
+use Rattle.std.proofs.Common.{rules, ◌≡◌, ◌≤◌, ◌+◌, List, ℕ, ap, sym, ◌∙◌, subst, arith}
 use Rattle.cluster.specs.Clusters.{AreApart}
-use Rattle.tx_graph.specs.Moves.{AreAt, Replaces}
+use Rattle.tx_graph.specs.Moves.{Replaces}
 use Rattle.tx_graph.proofs.Pointing.{names_in, still_none}
 use Rattle.tx_graph.proofs.Parted.{far, fewer}
 use Rattle.tx_graph.proofs.Swaps.{all_pairs_permuted}

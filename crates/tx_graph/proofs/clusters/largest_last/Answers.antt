@@ -1,5 +1,5 @@
 -- Two of them change places.
-use Rattle.std.proofs.Common.{◌≡◌, ◌<◌, ◌-◌, length, ap, arith}
+use Rattle.std.proofs.Common.{◌<◌, ◌-◌, length, ap, arith}
 use Rattle.std.proofs.lemmas.List.Sorted.{IsPermutation-swap}
 use Rattle.tx_graph.proofs.clusters.largest_last.Goals as goal
 

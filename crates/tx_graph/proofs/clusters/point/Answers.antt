@@ -1,9 +1,9 @@
 -- One name more has the number.
-use Rattle.std.proofs.Common.{◌≡◌, ◌<◌, ◌≤◌, ◌+◌, ℕ, length, get_or, Contains, slice_index_or, arith}
+use Rattle.std.proofs.Common.{◌<◌, length, slice_index_or, arith}
 use Rattle.std.proofs.lemmas.List.{get_or_default}
 use Rattle.std.specs.FinMap as finmap
 use Rattle.tx_graph.specs.Shelves.{Numbers}
-use Rattle.tx_graph.proofs.Pointing.{at_place, base_changes, still_none, points_none, points_more, points_all_of}
+use Rattle.tx_graph.proofs.Pointing.{at_place, base_changes, still_none, points_more}
 use Rattle.tx_graph.proofs.clusters.point.Goals as goal
 
 pub loop-id-preserved : goal.loop-id-preserved

@@ -1,8 +1,7 @@
 -- The names of one cluster more have its number.
-use Rattle.std.proofs.Common.{rules, ◌≡◌, ◌≤◌, ◌<◌, ◌+◌, ℕ, List, length, drop, slice_index_or, ap, sym, ◌∙◌, subst, arith}
-use Rattle.cluster.specs.Clusters.{Cluster}
-use Rattle.tx_graph.specs.Moves.{Points, PointsAll}
-use Rattle.tx_graph.proofs.Pointing.{PointsAllTo, names_in, one_at, room_at, all_none, all_more, all_of}
+use Rattle.std.proofs.Common.{rules, ◌≡◌, ◌≤◌, ◌<◌, ℕ, List, length, slice_index_or, ap, subst, arith}
+use Rattle.tx_graph.specs.Moves.{Points}
+use Rattle.tx_graph.proofs.Pointing.{PointsAllTo, one_at, room_at, all_more, all_of}
 use Rattle.tx_graph.proofs.clusters.point_all.Goals as goal
 
 pub at-requires : goal.at-requires

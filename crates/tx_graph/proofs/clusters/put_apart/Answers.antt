@@ -1,9 +1,9 @@
 -- The last of the clusters is exchanged for the one of the number, and the others are added.
-use Rattle.std.proofs.Common.{rules, ◌≡◌, ◌∷◌, ◌++◌, ◌≤◌, [], List, Vec, map, IfOk, ap, sym, ◌∙◌, subst, subst₂}
+use Rattle.std.proofs.Common.{rules, ◌≡◌, ◌∷◌, ◌++◌, ◌≤◌, [], List, IfOk, ap, sym, ◌∙◌, subst, subst₂}
 use Rattle.std.proofs.lemmas.Result.{IfOk-weaker}
 use Rattle.cluster_store.specs.Stores.{Stored, Exchange}
 use Rattle.cluster_store.specs.Changes.{AreThere, MakesChange}
-use Rattle.tx_graph.proofs.Replaced.{in_both, one_exchange, there_once, replaces_some, both_after}
+use Rattle.tx_graph.proofs.Replaced.{one_exchange, there_once, replaces_some, both_after}
 use Rattle.tx_graph.proofs.clusters.put_apart.Goals as goal
 
 pub change-requires : goal.change-requires

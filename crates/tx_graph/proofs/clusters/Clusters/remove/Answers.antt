@@ -1,11 +1,9 @@
 -- The name's cluster falls apart, and the names are one fewer.
-use Rattle.std.proofs.Common.{rules, ◌≡◌, ◌≤◌, ◌*◌, ◌∷◌, [], ℕ, List, All, Contains, Some, is_some, ap, sym, ◌∙◌, subst, subst₂, arith}
-use Rattle.std.specs.FinMap as finmap
-use Rattle.lists.proofs.Entries.{Contains-cases}
+use Rattle.std.proofs.Common.{rules, ◌≤◌, ◌*◌, ◌∷◌, [], All, is_some, ap, sym, subst, arith}
 use Rattle.std.specs.List.{AllPairs}
-use Rattle.cluster.specs.Clusters.{Cluster, IsCluster, AreApart}
+use Rattle.cluster.specs.Clusters.{IsCluster, AreApart}
 use Rattle.cluster.specs.Changes.{IsSplit}
-use Rattle.tx_graph.specs.Shelves.{Shelf, graph_of, IsInOrder}
+use Rattle.tx_graph.specs.Shelves.{Shelf}
 use Rattle.tx_graph.proofs.Graphs.{stands_in}
 use Rattle.tx_graph.proofs.Merged.{picked_of}
 use Rattle.tx_graph.proofs.Pointing.{len_some}
