@@ -1,12 +1,14 @@
 -- Two names, the one of which becomes a parent of the other, and their clusters.
-use Rattle.std.proofs.Common.{◌≡◌, ◌≢◌, ℕ, ◌+◌, ◌*◌, ◌≤◌, true, List, length, Some, is_some, inl, inr, ◌⊎◌, sym, ap, ◌∙◌, subst₂, arith}
+use Rattle.std.proofs.Common.{◌≡◌, ◌≢◌, ℕ, ◌+◌, ◌*◌, ◌≤◌, true, List, length, Some, is_some, inl, inr, ◌⊎◌, sym, ap, ◌∙◌, subst, subst₂, arith}
 use Rattle.std.specs.FinMap as finmap
 use Rattle.graphs.specs.Closures.{is_member, is_ancestor}
 use Rattle.graphs.specs.Graphs.{Lists}
 use Rattle.cluster.specs.Clusters.{Cluster, AreApart}
 use Rattle.cluster.specs.Changes.{AreAcross}
+use Rattle.cluster.specs.Steps.{GrowsWithin, most_steps}
 use Rattle.tx_graph.specs.Shelves.{Shelf, cluster_at, graph_of, IsInOrder}
 use Rattle.tx_graph.specs.Moves.{IsLink}
+use Rattle.tx_graph.specs.declared.clusters.Link.{Link}
 use Rattle.tx_graph.specs.declared.clusters.Link.TheVariants.{Within, Between}
 use Rattle.tx_graph.proofs.Graphs.{member-number, one_number, stands_in}
 use Rattle.tx_graph.proofs.Found.{cluster_of}
@@ -104,3 +106,30 @@ module _ (w : ℕ) (shelf : Shelf) (order : IsInOrder w shelf) (p q : ℕ) where
       let b = order.indexed.stands q below link.1 in
       let b' = between above below a.cluster b.cluster link.0 link.1 link.2 a.there b.there in
       no_way_down (graph_of shelf) p q a.cluster b.cluster b' up
+
+-- ---- seen from the shelf before a call
+
+pub link_before : (w : ℕ) (now old : Shelf) (p q : ℕ) (link : Link) → old ≡ now → IsLink w now p q link → IsLink w old p q link
+link_before w now old p q link view is = subst (λ (s : Shelf). IsLink w s p q link) (sym view) is
+
+-- the steps of an order of the cluster of two names, told by the graph
+pub count_from : (w : ℕ) (now old : Shelf) (order : IsInOrder w old) (p q number : ℕ) (c : Cluster) (ids : List ℕ) {before after : ℕ} → old ≡ now → IsLink w now p q (Within number)
+    → cluster_at old.store.clusters number ≡ Some c → Lists (IsLinkedToEither (graph_of now) p q) ids → GrowsWithin (most_steps (length c.names)) before after
+    → GrowsWithin (most_steps (length ids)) before after
+count_from w now old order p q number c ids {before} {after} view is at lists grows =
+    let lists' = subst (λ (s : Shelf). Lists (IsLinkedToEither (graph_of s) p q) ids) (sym view) lists in
+    let count = count_within w old order p q number c ids (link_before w now old p q (Within number) view is) at lists' in
+    subst (λ n. GrowsWithin (most_steps n) before after) (sym count) grows
+
+pub sides_before : (w : ℕ) (now old : Shelf) (order : IsInOrder w old) (p q above below stays goes : ℕ) (larger smaller : Cluster) → old ≡ now → IsLink w now p q (Between above below)
+    → AreTurned above below stays goes → cluster_at old.store.clusters stays ≡ Some larger → cluster_at old.store.clusters goes ≡ Some smaller
+    → Sides w old order p q stays goes larger smaller
+sides_before w now old order p q above below stays goes larger smaller view is turned one two =
+    sides w old order p q above below stays goes larger smaller (link_before w now old p q (Between above below) view is) turned one two
+
+pub count_both : (w : ℕ) (now old : Shelf) (order : IsInOrder w old) (p q stays goes : ℕ) (larger smaller : Cluster) (ids : List ℕ) {before after : ℕ} → old ≡ now
+    → Sides w old order p q stays goes larger smaller → Lists (IsLinkedToEither (graph_of now) p q) ids
+    → GrowsWithin (most_steps (length larger.names + length smaller.names)) before after → GrowsWithin (most_steps (length ids)) before after
+count_both w now old order p q stays goes larger smaller ids {before} {after} view is lists grows =
+    subst (λ n. GrowsWithin (most_steps n) before after)
+    (sym (is.count ids (subst (λ (s : Shelf). Lists (IsLinkedToEither (graph_of s) p q) ids) (sym view) lists))) grows
