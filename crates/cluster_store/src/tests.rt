@@ -31,7 +31,12 @@ fn alone<L: Ledger>(
 ) -> Result<Cluster<1>, Fail>
     ensures { IfOk result (λ c. c.names ≡ row.0 ∷ []) }
 {
-    assert!(rt; is_rate(FeeRate { fee: row.1, size: 1 }));
+    assert!(rt;
+        is_rate(FeeRate {
+            fee: row.1,
+            size: 1
+        })
+    );
     Ok(Cluster::single(room.alloc, row.0, row.1, 1, &mut room.work, steps)?)
 }
 
@@ -204,12 +209,21 @@ fn all_rows(rt: &impl Abort, table: &mut Table) -> Result<(), Fail> {
         (Act::Add(Tag::TopOnly), ["12", "13", "1", "2", "3"]),
         (Act::Add(Tag::Both), ["124", "134", "14", "2", "3"]),
         (Act::Add(Tag::Both), ["17248", "17348", "1748", "2", "3"]),
-        (Act::Move(1, Some(Tag::Both)), ["17248", "173248", "17248", "", "3"]),
-        (Act::Move(4, Some(Tag::MainOnly)), ["17248", "1324", "124", "78", "3"]),
+        (
+            Act::Move(1, Some(Tag::Both)),
+            ["17248", "173248", "17248", "", "3"],
+        ),
+        (
+            Act::Move(4, Some(Tag::MainOnly)),
+            ["17248", "1324", "124", "78", "3"],
+        ),
         (Act::Exchange(2), ["17248", "3124", "124", "78", "3"]),
         (Act::Move(0, None), ["7248", "324", "24", "78", "3"]),
         (Act::Exchange(4), ["7824", "324", "24", "78", "3"]),
-        (Act::Move(2, Some(Tag::Both)), ["37824", "324", "324", "78", ""]),
+        (
+            Act::Move(2, Some(Tag::Both)),
+            ["37824", "324", "324", "78", ""],
+        ),
         (Act::Change(1, 4), ["342", "3542", "342", "", "5"]),
         (Act::Move(1, None), ["34", "354", "34", "", "5"]),
         (Act::Move(2, None), ["4", "54", "4", "", "5"]),
