@@ -61,8 +61,6 @@ impl<const W: usize> ClusterStore<W> {
         ensures { MatchOption result (finmap.get self.now.clusters number ≡ None)
             (λ c. (s : Kept) × (finmap.get self.now.clusters number ≡ Some s) × (c.now ≡ s.cluster)) }
     {
-        let _index = &self.index;
-        let _least = self.least;
         cluster_of(&self.slots, number)
     }
 
@@ -71,8 +69,6 @@ impl<const W: usize> ClusterStore<W> {
         ensures { MatchOption result (finmap.get self.now.clusters number ≡ None)
             (λ tag. (s : Kept) × (finmap.get self.now.clusters number ≡ Some s) × (tag ≡ s.tag)) }
     {
-        let _index = &self.index;
-        let _least = self.least;
         tag_of(&self.slots, number)
     }
 
@@ -83,8 +79,6 @@ impl<const W: usize> ClusterStore<W> {
         ensures least { IsLeast self.now.clusters result }
         ensures whole { AreWhole (64 * W) self.now.clusters }
     {
-        let _slots = &self.slots;
-        let _index = &self.index;
         self.least
     }
 
@@ -94,7 +88,6 @@ impl<const W: usize> ClusterStore<W> {
         ensures parts { result ≡ shown_in level self.now }
         ensures order { IsOrdered self.now.clusters self.now.order }
     {
-        let _least = self.least;
         PartWalk::new(&self.slots, self.index.walk(level))
     }
 
@@ -105,7 +98,6 @@ impl<const W: usize> ClusterStore<W> {
         ensures parts { result ≡ shown_only tag self.now }
         ensures order { IsOrdered self.now.clusters self.now.order }
     {
-        let _least = self.least;
         PartWalk::new(&self.slots, self.index.walk_only(tag))
     }
 
@@ -151,7 +143,6 @@ impl<const W: usize> ClusterStore<W> {
         ensures least { EndsAt self.new.clusters self.old.least self.new.least }
         ensures store { IsStore (64 * W) self.new }
     {
-        let _index = &self.index;
         if self.slots.is_empty() {
             self.least = u64::MAX;
         }

@@ -35,7 +35,6 @@ impl<const W: usize> Stored<W> {
     pub fn cluster(&self) -> &Cluster<W>
         ensures { result.now ≡ self.now.cluster }
     {
-        let _tag = self.tag;
         &self.cluster
     }
 
@@ -43,7 +42,6 @@ impl<const W: usize> Stored<W> {
     pub fn tag(&self) -> Tag
         ensures { result ≡ self.now.tag }
     {
-        let _cluster = &self.cluster;
         self.tag
     }
 
@@ -51,7 +49,6 @@ impl<const W: usize> Stored<W> {
     pub(crate) fn set_tag(&mut self, tag: Tag)
         ensures { self.new ≡ record { cluster = self.old.cluster; tag = tag } }
     {
-        let _cluster = &self.cluster;
         self.tag = tag;
     }
 
@@ -102,7 +99,6 @@ impl<const W: usize> Exchange<W> {
     pub fn number(&self) -> usize
         ensures { result ≡ self.now.number }
     {
-        let _cluster = &self.cluster;
         self.number
     }
 
@@ -110,7 +106,6 @@ impl<const W: usize> Exchange<W> {
     pub fn cluster(&self) -> &Cluster<W>
         ensures { result.now ≡ self.now.cluster }
     {
-        let _number = self.number;
         &self.cluster
     }
 
@@ -127,7 +122,6 @@ impl<const W: usize> Parts for Stored<W> {
     ghost parts = { λ s. s.cluster.parts };
 
     fn part(&self, at: usize) -> PartRef<'_> {
-        let _tag = self.tag;
         self.cluster.part(at)
     }
 }

@@ -1,6 +1,6 @@
-ghost use Rattle.std.specs.Prelude.{◌≡◌, ◌<◌};
+ghost use Rattle.std.specs.Prelude.{◌≡◌, ◌<◌, [], ◌∷◌, IfOk};
 
-use crate::{ClusterStore, Exchange, PartWalk, Parts, Stored};
+use crate::{ClusterStore, Exchange, Move, PartWalk, Stored};
 use chunk_index::Tag;
 use cluster::{Cluster, Work};
 use fee_rate::{FeeRate, is_rate};
@@ -12,6 +12,8 @@ use std::sync::ledger;
 use std::sync::ledger::Blank;
 use std::test::Fail;
 use step_count::{Counted, Ledger, Steps};
+
+// ---- clusters, all made before the store is
 
 // The room for making clusters.
 #[derive(Drop)]
@@ -25,102 +27,242 @@ fn alone<L: Ledger>(
     rt: &impl Abort,
     room: &mut Room,
     steps: &mut Steps<L>,
-    id: TxId,
-    fee: i64,
+    row: (TxId, i64),
+) -> Result<Cluster<1>, Fail>
+    ensures { IfOk result (λ c. c.names ≡ row.0 ∷ []) }
+{
+    assert!(rt;
+        is_rate(FeeRate {
+            fee: row.1,
+            size: 1
+        })
+    );
+    Ok(Cluster::single(room.alloc, row.0, row.1, 1, &mut room.work, steps)?)
+}
+
+// The cluster of a name and another that depends on it.
+fn pair<L: Ledger>(
+    rt: &impl Abort,
+    room: &mut Room,
+    steps: &mut Steps<L>,
+    parent: (TxId, i64),
+    child: (TxId, i64),
 ) -> Result<Cluster<1>, Fail> {
-    let rate = FeeRate { fee, size: 1 };
-    assert!(rt; is_rate(rate));
-    Ok(Cluster::single(room.alloc, id, fee, 1, &mut room.work, steps)?)
+    let old = alone(rt, room, steps, parent)?;
+    let one = alone(rt, room, steps, child)?;
+    assert!(rt; parent.0 != child.0);
+    Ok(old.joined(room.alloc, &one, parent.0, child.0, &mut room.work, steps)?)
 }
 
-// Adds it, and answers its number.
-fn put<L: Ledger>(
+// Clusters of one name, or of one and another that depends on it.
+fn made<L: Ledger>(
     rt: &impl Abort,
     room: &mut Room,
     steps: &mut Steps<L>,
-    store: &mut ClusterStore<1>,
-    row: (TxId, i64, Tag),
-) -> Result<usize, Fail> {
-    let cluster = alone(rt, room, steps, row.0, row.1)?;
-    let mut added = Vec::with_capacity(room.alloc, 1)?;
-    added.push_reserved(Stored::new(cluster, row.2));
-    let numbers = store.change(Vec::new(room.alloc), added, [].as_slice())?;
+    rows: &[((TxId, i64), Option<(TxId, i64)>)],
+) -> Result<Vec<Cluster<1>>, Fail> {
+    let mut clusters = Vec::new(room.alloc);
+    for row in rows {
+        let cluster = match row.1 {
+            Some(child) => pair(rt, room, steps, row.0, child)?,
+            None => alone(rt, room, steps, row.0)?,
+        };
+        clusters.push(cluster)?;
+    }
+    Ok(clusters)
+}
+
+// ---- the table
+
+// A store, the numbers of its clusters in the order in which they came, and the clusters that are still to come, the next
+// one last.
+#[derive(Drop)]
+struct Table {
+    alloc: Global,
+    store: ClusterStore<1>,
+    numbers: Vec<usize>,
+    clusters: Vec<Cluster<1>>,
+}
+
+// What a row does. Clusters are told by when they came.
+#[derive(Clone, Copy)]
+enum Act {
+    // The next cluster is added, in these levels.
+    Add(Tag),
+    // The next cluster takes the place of that one.
+    Exchange(usize),
+    // That one goes out, or stands in other levels.
+    Move(usize, Option<Tag>),
+    // The next cluster takes the place of the first of these, the one after it is added to staging, and the second of these
+    // goes out, in one change.
+    Change(usize, usize),
+}
+
+fn next(rt: &impl Abort, table: &mut Table) -> Cluster<1> {
+    match table.clusters.pop() {
+        Some(cluster) => cluster,
+        None => panic!(rt; "no cluster is left"),
+    }
+}
+
+fn number(rt: &impl Abort, table: &Table, at: usize) -> usize {
+    assert!(rt; at < table.numbers.len());
+    table.numbers[at]
+}
+
+fn add(rt: &impl Abort, table: &mut Table, tag: Tag) -> Result<(), Fail> {
+    let cluster = next(rt, table);
+    let number = table.store.add(Stored::new(cluster, tag))?;
+    table.numbers.push(number)?;
+    Ok(())
+}
+
+fn exchange(rt: &impl Abort, table: &mut Table, at: usize) -> Result<(), Fail> {
+    let cluster = next(rt, table);
+    let number = number(rt, table, at);
+    assert!(rt; table.store.tag(number).is_some());
+    table.store.exchange(number, cluster)?;
+    Ok(())
+}
+
+fn make_move(rt: &impl Abort, table: &mut Table, at: usize, to: Option<Tag>) {
+    let number = number(rt, table, at);
+    assert!(rt; table.store.tag(number).is_some());
+    table.store.make_move(number, to);
+}
+
+fn change(rt: &impl Abort, table: &mut Table, exchanged: usize, out: usize) -> Result<(), Fail> {
+    let mut exchanges = Vec::with_capacity(table.alloc, 1)?;
+    let mut added = Vec::with_capacity(table.alloc, 1)?;
+    let at = number(rt, table, exchanged);
+    let gone = number(rt, table, out);
+    exchanges.push_reserved(Exchange::new(at, next(rt, table)));
+    added.push_reserved(Stored::new(next(rt, table), Tag::TopOnly));
+    let moves = [Move {
+        number: gone,
+        to: None,
+    }];
+    assert!(rt; at != gone);
+    assert!(rt; table.store.tag(at).is_some());
+    assert!(rt; table.store.tag(gone).is_some());
+    let numbers = table.store.change(exchanges, added, moves.as_slice())?;
     assert!(rt; numbers.len() == 1);
-    Ok(numbers[0])
-}
-
-// Moves a cluster that is there.
-fn shift(rt: &impl Abort, store: &mut ClusterStore<1>, number: usize, to: Option<Tag>) {
-    match store.tag(number) {
-        None => assert!(rt; false),
-        Some(_) => store.make_move(number, to),
-    }
-}
-
-// Asserts that a walk gives these names, one a part.
-fn gives<T: Parts>(rt: &impl Abort, walk: PartWalk<'_, T>, ids: &[TxId]) {
-    let mut at = 0;
-    for shown in walk {
-        assert!(rt; at < ids.len());
-        assert_eq!(rt; shown.part.ids, [ids[at]].as_slice());
-        at += 1;
-    }
-    assert_eq!(rt; at, ids.len());
-}
-
-// Asserts what the levels show.
-fn shows(rt: &impl Abort, store: &ClusterStore<1>, main: &[TxId], top: &[TxId]) {
-    gives(rt, store.walk(Level::Main), main);
-    gives(rt, store.walk(Level::Top), top);
-}
-
-fn steps_of_a_table<L: Ledger>(
-    rt: &impl Abort,
-    room: &mut Room,
-    steps: &mut Steps<L>,
-    store: &mut ClusterStore<1>,
-) -> Result<(), Fail> {
-    let a = put(rt, room, steps, store, (1, 10, Tag::Both))?;
-    let b = put(rt, room, steps, store, (2, 5, Tag::MainOnly))?;
-    let c = put(rt, room, steps, store, (3, 7, Tag::TopOnly))?;
-    shows(rt, store, [1, 2].as_slice(), [1, 3].as_slice());
-    gives(rt, store.walk_only(Tag::TopOnly), [3].as_slice());
-    put(rt, room, steps, store, (4, 5, Tag::Both))?;
-    shows(rt, store, [1, 2, 4].as_slice(), [1, 3, 4].as_slice());
-    shift(rt, store, b, Some(Tag::Both));
-    shows(rt, store, [1, 2, 4].as_slice(), [1, 3, 2, 4].as_slice());
-    shift(rt, store, a, None);
-    shift(rt, store, c, Some(Tag::Both));
-    shows(rt, store, [3, 2, 4].as_slice(), [3, 2, 4].as_slice());
-    assert_eq!(rt; store.least(), 1);
+    table.numbers.push(numbers[0])?;
     Ok(())
 }
 
-// A cluster takes the place of another: the name pays more, and its part moves to the front of the level.
-fn exchange<L: Ledger>(
-    rt: &impl Abort,
-    room: &mut Room,
-    steps: &mut Steps<L>,
-    store: &mut ClusterStore<1>,
-) -> Result<(), Fail> {
-    let number = put(rt, room, steps, store, (9, 1, Tag::TopOnly))?;
-    let cluster = alone(rt, room, steps, 9, 50)?;
-    let mut exchanged = Vec::with_capacity(room.alloc, 1)?;
-    exchanged.push_reserved(Exchange::new(number, cluster));
-    assert!(rt; store.tag(number).is_some());
-    store.change(exchanged, Vec::new(room.alloc), [].as_slice())?;
-    shows(rt, store, [3, 2, 4].as_slice(), [9, 3, 2, 4].as_slice());
+fn obey(rt: &impl Abort, table: &mut Table, act: Act) -> Result<(), Fail> {
+    match act {
+        Act::Add(tag) => add(rt, table, tag),
+        Act::Exchange(at) => exchange(rt, table, at),
+        Act::Move(at, to) => {
+            make_move(rt, table, at, to);
+            Ok(())
+        }
+        Act::Change(at, out) => change(rt, table, at, out),
+    }
+}
+
+// The walks: main, staging on top, both, main alone, staging alone.
+fn walk(store: &ClusterStore<1>, at: usize) -> PartWalk<'_, Stored<1>> {
+    match at {
+        0 => store.walk(Level::Main),
+        1 => store.walk(Level::Top),
+        2 => store.walk_only(Tag::Both),
+        3 => store.walk_only(Tag::MainOnly),
+        _ => store.walk_only(Tag::TopOnly),
+    }
+}
+
+// The name that a digit stands for.
+fn name(digit: u8) -> TxId {
+    u64::from(digit.wrapping_sub(b'0'))
+}
+
+// Asserts that a walk gives these names, one a part, from the front.
+fn gives(rt: &impl Abort, mut walk: PartWalk<'_, Stored<1>>, names: &[u8]) {
+    for digit in names {
+        match walk.next() {
+            Some(shown) => assert_eq!(rt; shown.part.ids, [name(*digit)].as_slice()),
+            None => panic!(rt; "a part is missing"),
+        }
+    }
+    assert!(rt; walk.next().is_none());
+}
+
+// The same from the back.
+fn gives_back(rt: &impl Abort, mut walk: PartWalk<'_, Stored<1>>, names: &[u8]) {
+    for digit in names.iter().rev() {
+        match walk.next_back() {
+            Some(shown) => assert_eq!(rt; shown.part.ids, [name(*digit)].as_slice()),
+            None => panic!(rt; "a part is missing"),
+        }
+    }
+    assert!(rt; walk.next_back().is_none());
+}
+
+// Rows, and the names that the five walks give after each, a digit a name.
+fn all_rows(rt: &impl Abort, table: &mut Table) -> Result<(), Fail> {
+    let rows = [
+        (Act::Add(Tag::Both), ["1", "1", "1", "", ""]),
+        (Act::Add(Tag::MainOnly), ["12", "1", "1", "2", ""]),
+        (Act::Add(Tag::TopOnly), ["12", "13", "1", "2", "3"]),
+        (Act::Add(Tag::Both), ["124", "134", "14", "2", "3"]),
+        (Act::Add(Tag::Both), ["17248", "17348", "1748", "2", "3"]),
+        (
+            Act::Move(1, Some(Tag::Both)),
+            ["17248", "173248", "17248", "", "3"],
+        ),
+        (
+            Act::Move(4, Some(Tag::MainOnly)),
+            ["17248", "1324", "124", "78", "3"],
+        ),
+        (Act::Exchange(2), ["17248", "3124", "124", "78", "3"]),
+        (Act::Move(0, None), ["7248", "324", "24", "78", "3"]),
+        (Act::Exchange(4), ["7824", "324", "24", "78", "3"]),
+        (
+            Act::Move(2, Some(Tag::Both)),
+            ["37824", "324", "324", "78", ""],
+        ),
+        (Act::Change(1, 4), ["342", "3542", "342", "", "5"]),
+        (Act::Move(1, None), ["34", "354", "34", "", "5"]),
+        (Act::Move(2, None), ["4", "54", "4", "", "5"]),
+        (Act::Move(3, None), ["", "5", "", "", "5"]),
+        (Act::Move(5, None), ["", "", "", "", ""]),
+    ];
+    for (act, walks) in rows {
+        obey(rt, table, act)?;
+        for at in 0..5 {
+            gives(rt, walk(&table.store, at), walks[at].as_bytes());
+            gives_back(rt, walk(&table.store, at), walks[at].as_bytes());
+        }
+    }
     Ok(())
 }
 
-fn all_rows<L: Ledger>(rt: &impl Abort, alloc: Global, steps: &mut Steps<L>) -> Result<(), Fail> {
+fn begun<L: Ledger>(rt: &impl Abort, alloc: Global, steps: &mut Steps<L>) -> Result<Table, Fail> {
     let mut room = Room {
         alloc,
         work: Work::new(alloc)?,
     };
-    let mut store = ClusterStore::new(alloc);
-    steps_of_a_table(rt, &mut room, steps, &mut store)?;
-    exchange(rt, &mut room, steps, &mut store)
+    let rows = [
+        ((5, 6), None),
+        ((2, 1), None),
+        ((7, 9), Some((8, 6))),
+        ((3, 50), None),
+        ((7, 9), Some((8, 4))),
+        ((4, 5), None),
+        ((3, 7), None),
+        ((2, 5), None),
+        ((1, 10), None),
+    ];
+    let clusters = made(rt, &mut room, steps, &rows)?;
+    Ok(Table {
+        alloc,
+        store: ClusterStore::new(alloc),
+        numbers: Vec::new(alloc),
+        clusters,
+    })
 }
 
 fn rows<K: ledger::Ledger>(rt: &impl Abort, alloc: Global, blank: Blank) -> Result<(), Fail>
@@ -129,10 +271,11 @@ fn rows<K: ledger::Ledger>(rt: &impl Abort, alloc: Global, blank: Blank) -> Resu
     requires some { 0 < blank.parts }
 {
     let mut steps = Steps::new(Counted::<K>::new(blank));
-    all_rows(rt, alloc, &mut steps)
+    let mut table = begun(rt, alloc, &mut steps)?;
+    all_rows(rt, &mut table)
 }
 
-// Clusters come, change their levels, are exchanged and go, and each level shows its parts by rate, equal ones by number.
+// Clusters come, change their levels, are exchanged and go, and each walk shows its parts by rate, equal ones by number.
 #[test]
 fn levels_show_their_parts_by_rate(rt: HostRuntime) -> Result<(), Fail> {
     rows::<Brand>(&rt, rt.alloc(), Blank::new(1))
