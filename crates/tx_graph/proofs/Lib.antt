@@ -10,5 +10,10 @@ mod Arranged
 mod Pairs
 mod Sizes
 mod Merged
+mod Pointing
+mod Parted
+mod Replaced
+mod Alike
+mod Removed
 mod Starts
 mod Calls

@@ -1,11 +1,12 @@
-ghost use Rattle.std.specs.Prelude.{sum_by, MatchOption, MatchResult, ◌≡◌, ◌≢◌, ℕ, ◌+◌, ◌*◌, ◌^◌, ◌<◌, ◌≤◌, false, true, None, Some, List, [], ◌∷◌, length, map, All, Contains, IsSome, IfOk, OnOk, OnErr};
+ghost use Rattle.std.specs.Prelude.{sum_by, MatchOption, MatchResult, ◌≡◌, ◌≢◌, ◌⊎◌, ℕ, ◌+◌, ◌*◌, ◌^◌, ◌<◌, ◌≤◌, false, true, None, Some, List, [], ◌∷◌, length, map, All, Contains, IsSome, IfOk, OnOk, OnErr};
+ghost use Rattle.std.specs.List.{AllPairs};
 ghost use Rattle.std.specs.FinMap as finmap;
 ghost use Rattle.fee_rate.specs.Limits.{IsFee, IsRate};
 ghost use Rattle.graphs.specs.Closures.{is_member, is_ancestor, rate_of, AddsPair, SetsFee, DropsPlace, AreLinked};
 ghost use Rattle.graphs.specs.Graphs.{Lists};
 ghost use Rattle.staging.specs.Maps.{Maps};
 ghost use Rattle.chunk_index.specs.declared.entry.Tag.TheVariants.{Both};
-ghost use Rattle.cluster.specs.Clusters.{IsCluster, ArePicked};
+ghost use Rattle.cluster.specs.Clusters.{IsCluster, ArePicked, AreApart};
 ghost use Rattle.cluster.specs.Clusters as records;
 ghost use Rattle.cluster.specs.Changes.{AreComponents};
 ghost use Rattle.cluster.specs.Steps.{GrowsWithin, most_steps, most_steps_of};
@@ -277,13 +278,15 @@ impl<const W: usize> Clusters<W> {
         let names = [id];
         let cluster = at(&self.store, number);
         let left = cluster.without(self.alloc, &names, &mut self.work, steps)?;
-        let left = left.into_vec();
-        let few = name_count(left.as_slice())?;
-        self.numbers.reserve(few)?;
-        let made = put_apart(self.alloc, &mut self.store, number, left)?;
-        self.numbers.remove(id);
+        fall_apart(
+            self.alloc,
+            &mut self.numbers,
+            &mut self.store,
+            number,
+            id,
+            left.into_vec(),
+        )?;
         self.count -= 1;
-        point_all(&mut self.numbers, &self.store, made.as_slice());
         Ok(())
     }
 }
@@ -323,6 +326,7 @@ fn larger_first<const W: usize>(
     above: usize,
     below: usize,
 ) -> (usize, usize)
+    requires narrow { W ≤ 2 }
     requires above { IsSome (cluster_at store.now.clusters above) }
     requires below { IsSome (cluster_at store.now.clusters below) }
     ensures { ((result.0 ≡ above) × (result.1 ≡ below)) ⊎ ((result.0 ≡ below) × (result.1 ≡ above)) }
@@ -390,11 +394,8 @@ fn point(numbers: &mut Overlay<usize>, names: &[TxId], number: usize)
 }
 
 // Gives the names of the clusters of some numbers these numbers.
-fn point_all<const W: usize>(
-    numbers: &mut Overlay<usize>,
-    store: &ClusterStore<W>,
-    list: &[usize],
-)
+fn point_all<const W: usize>(numbers: &mut Overlay<usize>, store: &ClusterStore<W>, list: &[usize])
+    requires narrow { W ≤ 2 }
     requires none_staged { numbers.old.top ≡ None }
     requires apart { AreFarApartIn store.now.clusters list.now }
     requires room { (clusters : List records.Cluster) × AreAt store.now.clusters list.now clusters
@@ -407,8 +408,41 @@ fn point_all<const W: usize>(
     }
 }
 
+// Takes a name out, and puts what is left of its cluster in the place of the one of the number. Without memory all stays as
+// it was.
+fn fall_apart<const W: usize>(
+    alloc: Global,
+    numbers: &mut Overlay<usize>,
+    store: &mut ClusterStore<W>,
+    number: usize,
+    id: TxId,
+    left: Vec<Cluster<W>>,
+) -> Result<(), NoMemory>
+    requires narrow { W ≤ 2 }
+    requires none_staged { numbers.old.top ≡ None }
+    requires there { IsSome (cluster_at store.old.clusters number) }
+    requires both { HoldsAll (λ s. s.tag ≡ Both) store.old.clusters }
+    requires apart { AllPairs AreApart left.items }
+    ensures parted { OnOk result ((made : List ℕ)
+        × Replaces number left.entry.items made store.old.clusters store.new.clusters
+        × PointsAll store.new.clusters made (finmap.remove numbers.old.base id) numbers.new.base) }
+    ensures none_staged { numbers.new.top ≡ None }
+    ensures both { HoldsAll (λ s. s.tag ≡ Both) store.new.clusters }
+    ensures store { OnOk result (stores.IsStore (64 * W) store.new) }
+    ensures same_numbers { OnErr result (numbers.new.base ≡ numbers.old.base) }
+    ensures same_store { OnErr result (store.new ≡ store.old) }
+{
+    let few = name_count(left.as_slice())?;
+    numbers.reserve(few)?;
+    let made = put_apart(alloc, store, number, left)?;
+    numbers.remove(id);
+    point_all(numbers, store, made.as_slice());
+    Ok(())
+}
+
 // How many names some clusters have, and one more.
 fn name_count<const W: usize>(clusters: &[Cluster<W>]) -> Result<usize, NoMemory>
+    requires { W ≤ 2 }
     ensures { IfOk result (λ n. n ≡ sum_by (λ c. length c.names) clusters.now + 1) }
 {
     let mut count: usize = 1;
@@ -426,11 +460,12 @@ fn put_apart<const W: usize>(
     number: usize,
     mut left: Vec<Cluster<W>>,
 ) -> Result<Vec<usize>, NoMemory>
+    requires narrow { W ≤ 2 }
     requires there { IsSome (cluster_at store.old.clusters number) }
     requires both { HoldsAll (λ s. s.tag ≡ Both) store.old.clusters }
     ensures replaces { IfOk result (λ made. Replaces number left.entry.items made.items store.old.clusters store.new.clusters) }
     ensures both { HoldsAll (λ s. s.tag ≡ Both) store.new.clusters }
-    ensures store { stores.IsStore (64 * W) store.new }
+    ensures store { OnOk result (stores.IsStore (64 * W) store.new) }
     ensures err { OnErr result (store.new ≡ store.old) }
 {
     match left.pop() {
@@ -452,6 +487,7 @@ fn all_both<const W: usize>(
     alloc: Global,
     clusters: Vec<Cluster<W>>,
 ) -> Result<Vec<Stored<W>>, NoMemory>
+    requires { W ≤ 2 }
     ensures { IfOk result
         (λ all. all.items ≡ map (λ c. record { cluster = c; tag = Both }) clusters.entry.items) }
 {
