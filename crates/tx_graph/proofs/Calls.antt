@@ -136,6 +136,12 @@ module _ (limits : Limits) (begun : Bool) (additions : ℕ) (shelf : Shelf) wher
         λ full. subst₂ (λ (l : Limits) n. l.total ≤ n) stands.limits (sym (live_len state stands)) full,
       ) row
 
+-- the row of an addition that has none of the earlier causes ends with how many names are live
+pub last_row : (limits : Limits) (graph : Closure) (live id : ℕ) (fee : ℤ) (size : ℕ) (found : Option Refusal) → IsFee fee → IsSize size
+    → is_member graph id ≡ false → size ≤ limits.size → First (limits.total ≤ live) Full NoRefusal found → AddRefusalIs limits graph live id fee size found
+last_row limits graph live id fee size found pays measures absent small last =
+    inr (λ out. out pays, inr (λ out. out measures, inr (λ taken. true≢false (sym taken ∙ absent), inr (λ over. omega (arith, over, small), last))))
+
 -- ---- what an addition that isn't refused may count on
 
 none_of : (cause : Type 0) (why : Refusal) (later : Option Refusal → Type 0) → First cause why later None → (cause → ⊥) × later None

@@ -15,7 +15,7 @@ use Rattle.graph_model.proofs.RowLemmas.{dep_row_along}
 use Rattle.graphs.proofs.ListLemmas.{Lists-for}
 use Rattle.tx_graph.specs.Kept.{Kept, StandsPlainly, entry_of}
 use Rattle.tx_graph.specs.Joins.{JoinsTo, JoinsTooMany, JoinsTooLarge, DepRefusalIs}
-use Rattle.tx_graph.proofs.Standing.{state_of, of_states, level-main, told, connected-linked}
+use Rattle.tx_graph.proofs.Standing.{state_of, of_states, level-main, told, connected-linked, Meets}
 
 -- the sizes of the table are those of the graph
 size_entry : (o : Option Node) → size_in (entry_of o) ≡ (rate_in o).size
@@ -26,29 +26,46 @@ pub size-of : (kept : Kept) (state : PlainState) (id : ℕ) → StandsPlainly ke
 unfolding rate_of
 size-of kept state id stands = ap size_in (stands.table id) ∙ size_entry (finmap.get kept.graph id)
 
-sizes-of : (kept : Kept) (state : PlainState) → StandsPlainly kept state → (ids : List ℕ) → sum_by (size_of state.table) ids ≡ sum_by (λ id. (rate_of kept.graph id).size) ids
+sizes-of : (kept : Kept) (state : PlainState) → StandsPlainly kept state → (ids : List ℕ)
+    → sum_by (size_of state.table) ids ≡ sum_by (λ id. (rate_of kept.graph id).size) ids
 sizes-of kept state stands ids = λ i. sum_by (λ id. size-of kept state id stands i) ids
 
-module _ (kept : Kept) (table : Table) (main : Graph) (stands : StandsPlainly kept (state_of kept table main)) (order : IsOrder (is_member kept.graph) (is_ancestor kept.graph)) (parent child : ℕ) where
+module _ (kept : Kept) (table : Table) (main : Graph) (stands : StandsPlainly kept (state_of kept table main))
+    (order : IsOrder (is_member kept.graph) (is_ancestor kept.graph)) (parent child : ℕ) where
   abbrev state : PlainState
   state = state_of kept table main
 
   absent : (id : ℕ) → (is_member kept.graph id ≡ true → ⊥) ↔ (Contains main.names id → ⊥)
   absent id = (λ none here. none ((stands.closure.names id).0 here), λ none member. none ((stands.closure.names id).1 member))
 
-  joins_to : (members : List ℕ) → JoinsTo kept.graph parent child members ↔ ((AreConnected main.pairs parent child → ⊥) × Lists (λ id. AreConnected main.pairs id parent ⊎ AreConnected main.pairs id child) members)
+  -- a name is linked to one of the two, or connected to it
+  abbrev IsNear : ℕ → Type 0
+  IsNear id = AreLinked kept.graph id parent ⊎ AreLinked kept.graph id child
+
+  abbrev IsJoined : ℕ → Type 0
+  IsJoined id = AreConnected main.pairs id parent ⊎ AreConnected main.pairs id child
+
+  near_joined : (id : ℕ) → IsNear id ↔ IsJoined id
+  near_joined id = (
+    λ near. elim near [
+      | inl x ↦ inl ((connected-linked kept state stands id parent).1 x)
+      | inr y ↦ inr ((connected-linked kept state stands id child).1 y)
+    ],
+    λ met. elim met [
+      | inl x ↦ inl ((connected-linked kept state stands id parent).0 x)
+      | inr y ↦ inr ((connected-linked kept state stands id child).0 y)
+    ],
+  )
+
+  joins_to : (members : List ℕ) → JoinsTo kept.graph parent child members ↔ ((AreConnected main.pairs parent child → ⊥) × Lists IsJoined members)
   joins_to members = (
     λ joins. (
       λ trail. joins.0 ((connected-linked kept state stands parent child).0 trail),
-      Lists-for (λ id. AreLinked kept.graph id parent ⊎ AreLinked kept.graph id child) (λ id. AreConnected main.pairs id parent ⊎ AreConnected main.pairs id child) members
-          (λ id linked. elim linked [ inl x ↦ inl ((connected-linked kept state stands id parent).1 x) | inr y ↦ inr ((connected-linked kept state stands id child).1 y) ])
-          (λ id trail. elim trail [ inl x ↦ inl ((connected-linked kept state stands id parent).0 x) | inr y ↦ inr ((connected-linked kept state stands id child).0 y) ]) joins.1,
+      Lists-for IsNear IsJoined members (λ id. (near_joined id).0) (λ id. (near_joined id).1) joins.1,
     ),
     λ joins. (
       λ linked. joins.0 ((connected-linked kept state stands parent child).1 linked),
-      Lists-for (λ id. AreConnected main.pairs id parent ⊎ AreConnected main.pairs id child) (λ id. AreLinked kept.graph id parent ⊎ AreLinked kept.graph id child) members
-          (λ id trail. elim trail [ inl x ↦ inl ((connected-linked kept state stands id parent).0 x) | inr y ↦ inr ((connected-linked kept state stands id child).0 y) ])
-          (λ id linked. elim linked [ inl x ↦ inl ((connected-linked kept state stands id parent).1 x) | inr y ↦ inr ((connected-linked kept state stands id child).1 y) ]) joins.1,
+      Lists-for IsJoined IsNear members (λ id. (near_joined id).1) (λ id. (near_joined id).0) joins.1,
     ),
   )
 
@@ -76,22 +93,40 @@ module _ (kept : Kept) (table : Table) (main : Graph) (stands : StandsPlainly ke
       (OverCount state parent child) (OverSize state parent child) parent child found (absent parent) (absent child)
       (λ there _. cycle (true_from_ne_false (is_member kept.graph parent) (λ fails. there (λ holds. true≢false (sym holds ∙ fails))))) too_many too_large
 
-pub dep_row : (kept : Kept) (parent child : ℕ) (found : Option Refusal) → IsOrder (is_member kept.graph) (is_ancestor kept.graph) → DepRefusalIs kept.limits kept.graph parent child found → (state : PlainState) → StandsPlainly kept state → RefusalIs state (Dep parent child) found
-dep_row kept parent child found order row = of_states kept (λ state. RefusalIs state (Dep parent child) found) (λ table main stands. dep_row_here kept table main stands order parent child found row)
+pub dep_row : (kept : Kept) (parent child : ℕ) (found : Option Refusal) → IsOrder (is_member kept.graph) (is_ancestor kept.graph)
+    → DepRefusalIs kept.limits kept.graph parent child found → Meets kept (Dep parent child) found
+dep_row kept parent child found order row =
+    of_states kept (λ state. RefusalIs state (Dep parent child) found)
+    (λ table main stands. dep_row_here kept table main stands order parent child found row)
 
 -- ---- a name that must be in a level
 
-not_in_level : (kept : Kept) (table : Table) (main : Graph) (level : Level) (id : ℕ) → StandsPlainly kept (state_of kept table main) → is_member kept.graph id ≡ false → Contains (level_of (state_of kept table main) level).names id → ⊥
+abbrev IsIn : PlainState → Level → ℕ → Type 0
+IsIn state level id = Contains (level_of state level).names id
+
+not_in_level : (kept : Kept) (table : Table) (main : Graph) (level : Level) (id : ℕ) → StandsPlainly kept (state_of kept table main)
+    → is_member kept.graph id ≡ false → IsIn (state_of kept table main) level id → ⊥
 not_in_level kept table main level id stands fails here =
     let there : Contains main.names id = subst (λ (l : Graph). Contains l.names id) (level-main kept table main level) here in
     true≢false (sym ((stands.closure.names id).0 there) ∙ fails)
 
-in_level : (kept : Kept) (table : Table) (main : Graph) (level : Level) (id : ℕ) → StandsPlainly kept (state_of kept table main) → is_member kept.graph id ≡ true → Contains (level_of (state_of kept table main) level).names id
-in_level kept table main level id stands holds = subst (λ (l : Graph). Contains l.names id) (sym (level-main kept table main level)) ((stands.closure.names id).1 holds)
+in_level : (kept : Kept) (table : Table) (main : Graph) (level : Level) (id : ℕ) → StandsPlainly kept (state_of kept table main)
+    → is_member kept.graph id ≡ true → IsIn (state_of kept table main) level id
+in_level kept table main level id stands holds =
+    subst (λ (l : Graph). Contains l.names id) (sym (level-main kept table main level)) ((stands.closure.names id).1 holds)
 
 -- the row of every command whose only refusal is an unknown name
-pub unknown_here : (kept : Kept) (level : Level) (id : ℕ) → is_member kept.graph id ≡ false → (state : PlainState) → StandsPlainly kept state → First (Contains (level_of state level).names id → ⊥) (Unknown id) NoRefusal (Some (Unknown id))
-unknown_here kept level id fails = of_states kept (λ state. First (Contains (level_of state level).names id → ⊥) (Unknown id) NoRefusal (Some (Unknown id))) (λ table main stands. inl (not_in_level kept table main level id stands fails, refl))
+abbrev pub NameRow : Level → ℕ → PlainState → Option Refusal → Type 0
+NameRow level id state found = First (IsIn state level id → ⊥) (Unknown id) NoRefusal found
 
-pub known_here : (kept : Kept) (level : Level) (id : ℕ) → is_member kept.graph id ≡ true → (state : PlainState) → StandsPlainly kept state → First (Contains (level_of state level).names id → ⊥) (Unknown id) NoRefusal None
-known_here kept level id holds = of_states kept (λ state. First (Contains (level_of state level).names id → ⊥) (Unknown id) NoRefusal None) (λ table main stands. inr (λ none. none (in_level kept table main level id stands holds), refl))
+pub unknown_here : (kept : Kept) (level : Level) (id : ℕ) → is_member kept.graph id ≡ false → (state : PlainState) → StandsPlainly kept state
+    → NameRow level id state (Some (Unknown id))
+unknown_here kept level id fails =
+    of_states kept (λ state. NameRow level id state (Some (Unknown id)))
+    (λ table main stands. inl (not_in_level kept table main level id stands fails, refl))
+
+pub known_here : (kept : Kept) (level : Level) (id : ℕ) → is_member kept.graph id ≡ true → (state : PlainState) → StandsPlainly kept state
+    → NameRow level id state None
+known_here kept level id holds =
+    of_states kept (λ state. NameRow level id state None)
+    (λ table main stands. inr (λ none. none (in_level kept table main level id stands holds), refl))

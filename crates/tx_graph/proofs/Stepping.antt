@@ -50,7 +50,8 @@ entry-words g q = by_words (finmap.get g q)
 same_entry : (g h : Closure) (q : ℕ) → is_member h q ≡ is_member g q → rate_of h q ≡ rate_of g q → entry_of (finmap.get h q) ≡ entry_of (finmap.get g q)
 same_entry g h q member rate = entry-words h q ∙ ap₂ entry_from member rate ∙ sym (entry-words g q)
 
-pub has_entry : (g : Closure) (q : ℕ) (rate : FeeRate) → is_member g q ≡ true → rate_of g q ≡ rate → entry_of (finmap.get g q) ≡ Some (record { fee = rate.fee; size = rate.size })
+pub has_entry : (g : Closure) (q : ℕ) (rate : FeeRate) → is_member g q ≡ true → rate_of g q ≡ rate
+    → entry_of (finmap.get g q) ≡ Some (record { fee = rate.fee; size = rate.size })
 has_entry g q rate member is = entry-words g q ∙ ap₂ entry_from member is
 
 pub has_none : (g : Closure) (q : ℕ) → is_member g q ≡ false → entry_of (finmap.get g q) ≡ None
@@ -64,12 +65,15 @@ get-drop table id q = finmap.get-remove nat_cmp_total table id q ∙ ap (λ b. c
 
 -- ---- one more name
 
-module _ (old new : Kept) (id : ℕ) (fee : ℤ) (size : ℕ) (limits : new.limits ≡ old.limits) (begins : new.begun ≡ true) (absent : is_member old.graph id ≡ false) (adds : AddsName old.graph new.graph id (record { fee = fee; size = size })) where
-  table_added : (table : Table) (main : Graph) → StandsPlainly old (state_of old table main) → (q : ℕ) → finmap.get (finmap.insert table id (record { fee = fee; size = size })) q ≡ entry_of (finmap.get new.graph q)
+module _ (old new : Kept) (id : ℕ) (fee : ℤ) (size : ℕ) (limits : new.limits ≡ old.limits) (begins : new.begun ≡ true)
+    (absent : is_member old.graph id ≡ false) (adds : AddsName old.graph new.graph id (record { fee = fee; size = size })) where
+  table_added : (table : Table) (main : Graph) → StandsPlainly old (state_of old table main) → (q : ℕ)
+      → finmap.get (finmap.insert table id (record { fee = fee; size = size })) q ≡ entry_of (finmap.get new.graph q)
   table_added table main stands q = get-put table id q (record { fee = fee; size = size }) ∙ elim (cases_eq q id) [
     | inl same ↦
         ap (λ b. cond b (Some (record { fee = fee; size = size })) (finmap.get table q)) (eq-eqb q id same)
-        ∙ sym (has_entry new.graph q (record { fee = fee; size = size }) (adds.members q ∙ or_left (nat_eq q id) (is_member old.graph q) (eq-eqb q id same)) (ap (rate_of new.graph) same ∙ adds.rate_is))
+        ∙ sym (has_entry new.graph q (record { fee = fee; size = size })
+        (adds.members q ∙ or_left (nat_eq q id) (is_member old.graph q) (eq-eqb q id same)) (ap (rate_of new.graph) same ∙ adds.rate_is))
     | inr other ↦
         ap (λ b. cond b (Some (record { fee = fee; size = size })) (finmap.get table q)) (ne_eqb q id other) ∙ stands.table q
         ∙ sym (same_entry old.graph new.graph q (adds.members q ∙ ap (λ b. b || is_member old.graph q) (ne_eqb q id other)) (adds.rates q other))
@@ -84,7 +88,8 @@ module _ (old new : Kept) (id : ℕ) (fee : ℤ) (size : ℕ) (limits : new.limi
       begun = sym begins;
       table = table_added table main stands;
       closure = closes_like (λ q. nat_eq q id || is_member old.graph q) (λ a d. (nat_eq a id && nat_eq d id) || is_ancestor old.graph a d) (with_name main id)
-          (closes_added (is_member old.graph) (is_ancestor old.graph) main id stands.closure absent stands.among) (is_member new.graph) (is_ancestor new.graph) adds.members (λ a d here there. adds.ancestors a d);
+          (closes_added (is_member old.graph) (is_ancestor old.graph) main id stands.closure absent stands.among)
+          (is_member new.graph) (is_ancestor new.graph) adds.members (λ a d here there. adds.ancestors a d);
       among = λ a d up. elim (or_cases (nat_eq a id && nat_eq d id) (is_ancestor old.graph a d) (sym (adds.ancestors a d) ∙ up)) [
         | inl both ↦
             let is = and_parts (nat_eq a id) (nat_eq d id) both in
@@ -97,7 +102,8 @@ module _ (old new : Kept) (id : ℕ) (fee : ℤ) (size : ℕ) (limits : new.limi
         names = distinct_push main.names id stands.valid.names (λ here. true≢false (sym ((stands.closure.names id).0 here) ∙ absent));
         pairs = stands.valid.pairs;
         ends = λ parent child pair.
-            let ends = stands.valid.ends parent child pair in (Contains-append_left main.names (id ∷ []) parent ends.0, Contains-append_left main.names (id ∷ []) child ends.1);
+            let ends = stands.valid.ends parent child pair in
+            (Contains-append_left main.names (id ∷ []) parent ends.0, Contains-append_left main.names (id ∷ []) child ends.1);
         acyclic = stands.valid.acyclic;
       };
       staging = refl;
@@ -116,15 +122,19 @@ module _ (old new : Kept) (id : ℕ) (fee : ℤ) (size : ℕ) (limits : new.limi
 
 -- ---- another fee
 
-module _ (old new : Kept) (id : ℕ) (fee : ℤ) (limits : new.limits ≡ old.limits) (begins : new.begun ≡ true) (live : is_member old.graph id ≡ true) (sets : SetsFee old.graph new.graph id fee) where
-  table_paid : (table : Table) (main : Graph) → StandsPlainly old (state_of old table main) → (q : ℕ) → finmap.get (finmap.insert table id (record { fee = fee; size = size_of table id })) q ≡ entry_of (finmap.get new.graph q)
+module _ (old new : Kept) (id : ℕ) (fee : ℤ) (limits : new.limits ≡ old.limits) (begins : new.begun ≡ true)
+    (live : is_member old.graph id ≡ true) (sets : SetsFee old.graph new.graph id fee) where
+  table_paid : (table : Table) (main : Graph) → StandsPlainly old (state_of old table main) → (q : ℕ)
+      → finmap.get (finmap.insert table id (record { fee = fee; size = size_of table id })) q ≡ entry_of (finmap.get new.graph q)
   table_paid table main stands q = get-put table id q (record { fee = fee; size = size_of table id }) ∙ elim (cases_eq q id) [
     | inl same ↦
         ap (λ b. cond b (Some (record { fee = fee; size = size_of table id })) (finmap.get table q)) (eq-eqb q id same)
         ∙ ap (λ n. Some (record { fee = fee; size = n })) (size-of old (state_of old table main) id stands)
-        ∙ sym (has_entry new.graph q (record { fee = fee; size = (rate_of old.graph id).size }) (sets.members q ∙ ap (is_member old.graph) same ∙ live) (ap (rate_of new.graph) same ∙ sets.rate_is))
+        ∙ sym (has_entry new.graph q (record { fee = fee; size = (rate_of old.graph id).size })
+        (sets.members q ∙ ap (is_member old.graph) same ∙ live) (ap (rate_of new.graph) same ∙ sets.rate_is))
     | inr other ↦
-        ap (λ b. cond b (Some (record { fee = fee; size = size_of table id })) (finmap.get table q)) (ne_eqb q id other) ∙ stands.table q ∙ sym (same_entry old.graph new.graph q (sets.members q) (sets.rates q other))
+        ap (λ b. cond b (Some (record { fee = fee; size = size_of table id })) (finmap.get table q)) (ne_eqb q id other)
+        ∙ stands.table q ∙ sym (same_entry old.graph new.graph q (sets.members q) (sets.rates q other))
   ]
 
   accepts_paid : AcceptsAll old new (SetFee id fee) Done
@@ -135,7 +145,8 @@ module _ (old new : Kept) (id : ℕ) (fee : ℤ) (limits : new.limits ≡ old.li
       most = refl;
       begun = sym begins;
       table = table_paid table main stands;
-      closure = closes_like (is_member old.graph) (is_ancestor old.graph) main stands.closure (is_member new.graph) (is_ancestor new.graph) sets.members (λ a d here there. sets.ancestors a d);
+      closure = closes_like (is_member old.graph) (is_ancestor old.graph) main stands.closure
+          (is_member new.graph) (is_ancestor new.graph) sets.members (λ a d here there. sets.ancestors a d);
       among = λ a d up. let both = stands.among a d (sym (sets.ancestors a d) ∙ up) in (sets.members a ∙ both.0, sets.members d ∙ both.1);
       valid = stands.valid;
       staging = refl;
@@ -171,28 +182,35 @@ decide_pair (p ∷ ps) a b = elim (cases_eq p.0 a) [
     ]
 
 module _ (old new : Kept) (parent child : ℕ) (limits : new.limits ≡ old.limits) (begins : new.begun ≡ true)
-    (parent_live : is_member old.graph parent ≡ true) (child_live : is_member old.graph child ≡ true) (no_way : is_ancestor old.graph child parent ≡ false) (pair : AddsPair old.graph new.graph parent child) where
+    (parent_live : is_member old.graph parent ≡ true) (child_live : is_member old.graph child ≡ true)
+    (no_way : is_ancestor old.graph child parent ≡ false) (pair : AddsPair old.graph new.graph parent child) where
   module _ (table : Table) (main : Graph) (stands : StandsPlainly old (state_of old table main)) where
     same_table : (q : ℕ) → finmap.get table q ≡ entry_of (finmap.get new.graph q)
     same_table q = stands.table q ∙ sym (same_entry old.graph new.graph q (pair.members q) (pair.rates q))
 
     among_paired : (a d : ℕ) → is_ancestor new.graph a d ≡ true → (is_member new.graph a ≡ true) × (is_member new.graph d ≡ true)
     among_paired a d up =
-        let both : (is_member old.graph a ≡ true) × (is_member old.graph d ≡ true) = elim (or_cases (is_ancestor old.graph a d) (is_ancestor old.graph a parent && is_ancestor old.graph child d) (sym (pair.ancestors a d) ∙ up)) [
+        let both : (is_member old.graph a ≡ true) × (is_member old.graph d ≡ true) =
+        elim (or_cases (is_ancestor old.graph a d) (is_ancestor old.graph a parent && is_ancestor old.graph child d) (sym (pair.ancestors a d) ∙ up)) [
           | inl was ↦ stands.among a d was
-          | inr across ↦ let parts = and_parts (is_ancestor old.graph a parent) (is_ancestor old.graph child d) across in ((stands.among a parent parts.0).0, (stands.among child d parts.1).1)
+          | inr across ↦
+              let parts = and_parts (is_ancestor old.graph a parent) (is_ancestor old.graph child d) across in
+              ((stands.among a parent parts.0).0, (stands.among child d parts.1).1)
         ] in
         (pair.members a ∙ both.0, pair.members d ∙ both.1)
 
     -- a pair that is there already makes no new ancestor
     same_above : Contains main.pairs (parent, child) → (a d : ℕ) → is_ancestor new.graph a d ≡ is_ancestor old.graph a d
-    same_above here a d = pair.ancestors a d ∙ same_test (is_ancestor old.graph a d || (is_ancestor old.graph a parent && is_ancestor old.graph child d)) (is_ancestor old.graph a d)
+    same_above here a d =
+        pair.ancestors a d
+        ∙ same_test (is_ancestor old.graph a d || (is_ancestor old.graph a parent && is_ancestor old.graph child d)) (is_ancestor old.graph a d)
         (λ e. elim (or_cases (is_ancestor old.graph a d) (is_ancestor old.graph a parent && is_ancestor old.graph child d) e) [
           | inl was ↦ was
           | inr across ↦
               let parts = and_parts (is_ancestor old.graph a parent) (is_ancestor old.graph child d) across in
               let order = order_kept old (state_of old table main) stands in
-              order.transitive a child d (order.transitive a parent child parts.0 (pair_above (is_member old.graph) (is_ancestor old.graph) main stands.closure parent child here)) parts.1
+              order.transitive a child d
+              (order.transitive a parent child parts.0 (pair_above (is_member old.graph) (is_ancestor old.graph) main stands.closure parent child here)) parts.1
         ])
         (or_left (is_ancestor old.graph a d) (is_ancestor old.graph a parent && is_ancestor old.graph child d))
 
@@ -210,7 +228,8 @@ module _ (old new : Kept) (parent child : ℕ) (limits : new.limits ≡ old.limi
       acyclic = paired.acyclic;
     }
 
-    there_next : Contains main.pairs (parent, child) → (next : PlainState) × StandsPlainly new next × changes.AddsPair (state_of old table main) parent child next
+    there_next : Contains main.pairs (parent, child)
+        → (next : PlainState) × StandsPlainly new next × changes.AddsPair (state_of old table main) parent child next
     there_next here = (
       begun (state_of old table main),
       record {
@@ -218,7 +237,8 @@ module _ (old new : Kept) (parent child : ℕ) (limits : new.limits ≡ old.limi
         most = refl;
         begun = sym begins;
         table = same_table;
-        closure = closes_like (is_member old.graph) (is_ancestor old.graph) main stands.closure (is_member new.graph) (is_ancestor new.graph) pair.members (λ a d _ _. same_above here a d);
+        closure = closes_like (is_member old.graph) (is_ancestor old.graph) main stands.closure
+            (is_member new.graph) (is_ancestor new.graph) pair.members (λ a d _ _. same_above here a d);
         among = among_paired;
         valid = stands.valid;
         staging = refl;
@@ -226,7 +246,8 @@ module _ (old new : Kept) (parent child : ℕ) (limits : new.limits ≡ old.limi
       inl (here, refl),
     )
 
-    new_next : (Contains main.pairs (parent, child) → ⊥) → (next : PlainState) × StandsPlainly new next × changes.AddsPair (state_of old table main) parent child next
+    new_next : (Contains main.pairs (parent, child) → ⊥)
+        → (next : PlainState) × StandsPlainly new next × changes.AddsPair (state_of old table main) parent child next
     new_next none = (
       with_top (begun (state_of old table main)) (with_pair main parent child),
       record {
@@ -252,7 +273,8 @@ module _ (old new : Kept) (parent child : ℕ) (limits : new.limits ≡ old.limi
   was_above : IsOrder (is_member old.graph) (is_ancestor old.graph) → AreSameLevel old.graph new.graph → is_ancestor old.graph parent child ≡ true
   was_above order same =
       let across : (is_ancestor old.graph parent parent && is_ancestor old.graph child child) ≡ true =
-      and_from (is_ancestor old.graph parent parent) (is_ancestor old.graph child child) (order.reflexive parent parent_live) (order.reflexive child child_live) in
+      and_from (is_ancestor old.graph parent parent) (is_ancestor old.graph child child)
+      (order.reflexive parent parent_live) (order.reflexive child child_live) in
       sym (same.above parent child) ∙ pair.ancestors parent child
       ∙ or_right (is_ancestor old.graph parent child) (is_ancestor old.graph parent parent && is_ancestor old.graph child child) across
 
@@ -266,11 +288,13 @@ module _ (old new : Kept) (parent child : ℕ) (limits : new.limits ≡ old.limi
 
 module _ (old new : Kept) (id : ℕ) (limits : new.limits ≡ old.limits) (begins : new.begun ≡ true) (live : is_member old.graph id ≡ true)
     (drops : DropsPlace old.graph new.graph id) where
-  table_dropped : (table : Table) (main : Graph) → StandsPlainly old (state_of old table main) → (q : ℕ) → finmap.get (finmap.remove table id) q ≡ entry_of (finmap.get new.graph q)
+  table_dropped : (table : Table) (main : Graph) → StandsPlainly old (state_of old table main) → (q : ℕ)
+      → finmap.get (finmap.remove table id) q ≡ entry_of (finmap.get new.graph q)
   table_dropped table main stands q = get-drop table id q ∙ elim (cases_eq q id) [
     | inl same ↦
         ap (λ b. cond b None (finmap.get table q)) (eq-eqb q id same)
-        ∙ sym (entry-words new.graph q ∙ ap (λ b. entry_from b (rate_of new.graph q)) (drops.members q ∙ ap (λ b. not b && is_member old.graph q) (eq-eqb q id same)))
+        ∙ sym (entry-words new.graph q
+        ∙ ap (λ b. entry_from b (rate_of new.graph q)) (drops.members q ∙ ap (λ b. not b && is_member old.graph q) (eq-eqb q id same)))
     | inr other ↦
         ap (λ b. cond b None (finmap.get table q)) (ne_eqb q id other) ∙ stands.table q
         ∙ sym (same_entry old.graph new.graph q (drops.members q ∙ ap (λ b. not b && is_member old.graph q) (ne_eqb q id other)) (drops.rates q other))
@@ -289,7 +313,8 @@ module _ (old new : Kept) (id : ℕ) (limits : new.limits ≡ old.limits) (begin
           | inl same ↦ ap (λ b. cond b None (finmap.get table q)) (eq-eqb q id same)
           | inr other ↦
               ap (λ b. cond b None (finmap.get table q)) (ne_eqb q id other) ∙ stands.table q ∙ entry-words old.graph q
-              ∙ ap (λ b. entry_from b (rate_of old.graph q)) (false_from_ne_true (is_member old.graph q) (λ member. gone (inl ((without.names q).1 ((stands.closure.names q).1 member, other)))))
+              ∙ ap (λ b. entry_from b (rate_of old.graph q)) (false_from_ne_true (is_member old.graph q)
+              (λ member. gone (inl ((without.names q).1 ((stands.closure.names q).1 member, other)))))
         ];
       }
 
@@ -316,8 +341,10 @@ module _ (old new : Kept) (id : ℕ) (limits : new.limits ≡ old.limits) (begin
           among = λ a d up.
               let one = and_parts (not (nat_eq a id)) (not (nat_eq d id) && is_ancestor old.graph a d) (sym (drops.ancestors a d) ∙ up) in
               let two = and_parts (not (nat_eq d id)) (is_ancestor old.graph a d) one.1 in
-              let both = stands.among a d two.1 in
-              (drops.members a ∙ and_from (not (nat_eq a id)) (is_member old.graph a) one.0 both.0, drops.members d ∙ and_from (not (nat_eq d id)) (is_member old.graph d) two.0 both.1);
+              let both = stands.among a d two.1 in (
+                drops.members a ∙ and_from (not (nat_eq a id)) (is_member old.graph a) one.0 both.0,
+                drops.members d ∙ and_from (not (nat_eq d id)) (is_member old.graph d) two.0 both.1,
+              );
           valid = graph_left main rest.0 id rest.1 stands.valid;
           staging = refl;
         },
@@ -364,10 +391,11 @@ steps_limited old new set limits begins graph parts picked none =
 -- a reading is answered from the graph
 abbrev IsAnswered : Kept → Command → Reply → Type 0
 IsAnswered kept command reply =
-    (table : Table) (main : Graph) → StandsPlainly kept (state_of kept table main) → (picks : Picks) → AcceptsPlainly picks (state_of kept table main) command reply (state_of kept table main)
+    (table : Table) (main : Graph) → StandsPlainly kept (state_of kept table main) → (picks : Picks)
+    → AcceptsPlainly picks (state_of kept table main) command reply (state_of kept table main)
 
-steps_read : (kept : Kept) (command : Command) (reply : Reply) → ArePicked kept.graph kept.parts → KeepsCommand command → Meets kept command None → IsAnswered kept command reply
-    → MakesStep kept kept command reply
+steps_read : (kept : Kept) (command : Command) (reply : Reply) → ArePicked kept.graph kept.parts → KeepsCommand command → Meets kept command None
+    → IsAnswered kept command reply → MakesStep kept kept command reply
 steps_read kept command reply picked follow none answered =
     steps_accepted kept kept command reply none (λ table main stands. (state_of kept table main, stands, answered table main stands)) follow
     (record { picked = picked; same = λ same. refl })
