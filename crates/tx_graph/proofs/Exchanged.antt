@@ -25,7 +25,7 @@ elsewhere_same old new number o sets other apart = ap (option_map (λ (s : Store
 -- everything has the property where what changed has it
 all_sets : (P : Stored → Type 0) (old new : Numbered) (number : ℕ) (o : Option Stored) → Sets number o old new → HoldsAll P old → ((s : Stored) → o ≡ Some s → P s) → HoldsAll P new
 all_sets P old new number o sets all here k s is = elim (cases_eq k number) [
-  | inl same ↦ here s (sym sets.there ∙ ap (finmap.get new) (sym same) ∙ is)
+  | inl same ↦ here s (sym sets.changed ∙ ap (finmap.get new) (sym same) ∙ is)
   | inr other ↦ all k s (sym (sets.others k other) ∙ is)
 ]
 
@@ -48,7 +48,7 @@ module _ (w id number : ℕ) (rate : FeeRate) (c : Cluster) (old new : Shelf) (o
     single = one.single;
     whole = one.whole;
     free = cluster_is old.store.clusters number None one.added.0;
-    here = cluster_is new.store.clusters number (Some (record { cluster = c; tag = Both })) one.added.1.there;
+    here = cluster_is new.store.clusters number (Some (record { cluster = c; tag = Both })) one.added.1.changed;
     elsewhere = elsewhere_same old.store.clusters new.store.clusters number (Some (record { cluster = c; tag = Both })) one.added.1;
     put = one.put;
   }
@@ -87,7 +87,7 @@ both_with old new number c c' was both sets =
 
 here_with : (old new : Numbered) (number : ℕ) (c c' : Cluster) → cluster_at old number ≡ Some c → Sets number (with_cluster c' (finmap.get old number)) old new → cluster_at new number ≡ Some c'
 here_with old new number c c' was sets =
-    let s = there_with old number c c' was in cluster_is new number (Some (record { cluster = c'; tag = s.0.tag })) (sets.there ∙ s.2)
+    let s = there_with old number c c' was in cluster_is new number (Some (record { cluster = c'; tag = s.0.tag })) (sets.changed ∙ s.2)
 
 module _ (w number : ℕ) (c c' : Cluster) (old : Shelf) (store : Store) (other : StoresOther w number c c' old store) where
   pub is_exchanged : IsExchanged (64 * w) old store number c c'
@@ -139,7 +139,7 @@ module _ (w first second p q : ℕ) (a b m : Cluster) (old : Shelf) (mid : Numbe
     one = j.one;
     two = j.two;
     here = joined_there first second a m old.store.clusters mid new.store.clusters j.apart j.one j.exchanged j.gone;
-    gone = cluster_is new.store.clusters second None j.gone.there;
+    gone = cluster_is new.store.clusters second None j.gone.changed;
     elsewhere = λ other not_first not_second.
         elsewhere_same mid new.store.clusters second None j.gone other not_second
         ∙ elsewhere_same old.store.clusters mid first (with_cluster m (finmap.get old.store.clusters first)) j.exchanged other not_first;

@@ -11,7 +11,7 @@ use Rattle.tx_graph.proofs.Changed.{adds_pair, sets_fee}
 use Rattle.tx_graph.proofs.Exchanged.{StoresOther, is_exchanged, order_exchanged}
 
 -- What is known when a cluster was made of one under a number and the store was asked to exchange them.
-pub record Tried {T E : Type 0} (w number : ℕ) (c c' : Cluster) (old : Shelf) (store : Store) (result : Result T E) : Type 0 where
+pub record Tried {T : Type 0} {E : Type 0} (w number : ℕ) (c c' : Cluster) (old : Shelf) (store : Store) (result : Result T E) : Type 0 where
   pub order : IsInOrder w old
   pub was : cluster_at old.store.clusters number ≡ Some c
   pub names : c'.names ≡ c.names
@@ -20,25 +20,25 @@ pub record Tried {T E : Type 0} (w number : ℕ) (c c' : Cluster) (old : Shelf) 
   pub same : OnErr result (store ≡ old.store)
   pub sound : IsStore (64 * w) store
 
-other_of : {T E : Type 0} (w number : ℕ) (c c' : Cluster) (old : Shelf) (store : Store) (x : T) → Tried {T} {E} w number c c' old store (Ok x) → StoresOther w number c c' old store
+other_of : {T : Type 0} {E : Type 0} (w number : ℕ) (c c' : Cluster) (old : Shelf) (store : Store) (x : T) → Tried {T = T} {E = E} w number c c' old store (Ok x) → StoresOther w number c c' old store
 other_of w number c c' old store x t = record { order = t.order; was = t.was; names = t.names; whole = t.whole; exchanged = t.exchanged; sound = t.sound }
 
-pub order_tried : {T E : Type 0} (w number : ℕ) (c c' : Cluster) (old : Shelf) (store : Store) (result : Result T E) → Tried w number c c' old store result
+pub order_tried : {T : Type 0} {E : Type 0} (w number : ℕ) (c c' : Cluster) (old : Shelf) (store : Store) (result : Result T E) → Tried w number c c' old store result
     → IsInOrder w (record { numbers = old.numbers; store = store })
 order_tried w number c c' old store (Ok x) t = order_exchanged w number c c' old store (other_of w number c c' old store x t)
 order_tried w number c c' old store (Err e) t = subst (λ (s : Store). IsInOrder w (record { numbers = old.numbers; store = s })) (sym t.same) t.order
 
 -- the same, with numbers that are the old ones
-pub order_tried_in : {T E : Type 0} (w number : ℕ) (c c' : Cluster) (old : Shelf) (numbers : Numbers) (store : Store) (result : Result T E) → Tried w number c c' old store result
+pub order_tried_in : {T : Type 0} {E : Type 0} (w number : ℕ) (c c' : Cluster) (old : Shelf) (numbers : Numbers) (store : Store) (result : Result T E) → Tried w number c c' old store result
     → numbers ≡ old.numbers → IsInOrder w (record { numbers = numbers; store = store })
 order_tried_in w number c c' old numbers store result t same =
     subst (λ (m : Numbers). IsInOrder w (record { numbers = m; store = store })) (sym same) (order_tried w number c c' old store result t)
 
-pub picked_tried : {T E : Type 0} (w number : ℕ) (c c' : Cluster) (old : Shelf) (store : Store) (result : Result T E) → Tried w number c c' old store result
+pub picked_tried : {T : Type 0} {E : Type 0} (w number : ℕ) (c c' : Cluster) (old : Shelf) (store : Store) (result : Result T E) → Tried w number c c' old store result
     → ArePicked (graph_of (record { numbers = old.numbers; store = store })) (parts_of (record { numbers = old.numbers; store = store }))
 picked_tried w number c c' old store result t = picked_of w (record { numbers = old.numbers; store = store }) (order_tried w number c c' old store result t)
 
-pub pair_tried : {T E : Type 0} (w number p q : ℕ) (c c' : Cluster) (old now : Shelf) (store : Store) (result : Result T E) → Tried w number c c' old store result
+pub pair_tried : {T : Type 0} {E : Type 0} (w number p q : ℕ) (c c' : Cluster) (old now : Shelf) (store : Store) (result : Result T E) → Tried w number c c' old store result
     → old ≡ now → Contains c.names p → Contains c.names q → AddsPair c.graph c'.graph p q
     → OnOk result (AddsPair (graph_of now) (graph_of (record { numbers = old.numbers; store = store })) p q)
 pair_tried w number p q c c' old now store (Ok x) t view first second pair =
@@ -46,7 +46,7 @@ pair_tried w number p q c c' old now store (Ok x) t view first second pair =
     (adds_pair (64 * w) old store number c c' (is_exchanged w number c c' old store (other_of w number c c' old store x t)) p q first second pair)
 pair_tried w number p q c c' old now store (Err e) t view first second pair = tt
 
-pub fee_tried : {T E : Type 0} (w number id : ℕ) (fee : ℤ) (c c' : Cluster) (old now : Shelf) (store : Store) (result : Result T E) → Tried w number c c' old store result
+pub fee_tried : {T : Type 0} {E : Type 0} (w number id : ℕ) (fee : ℤ) (c c' : Cluster) (old now : Shelf) (store : Store) (result : Result T E) → Tried w number c c' old store result
     → old ≡ now → Contains c.names id → SetsFee c.graph c'.graph id fee
     → OnOk result (SetsFee (graph_of now) (graph_of (record { numbers = old.numbers; store = store })) id fee)
 fee_tried w number id fee c c' old now store (Ok x) t view here sets =

@@ -23,7 +23,7 @@ linked-requires g c =
     let link = link_before g.row.W c.args.self.now old c.args.parent c.args.child (Within c.args.number) c.self.view_is c.requires in
     let both = together g.row.W old c.self.invariant.order c.args.parent c.args.child c.args.number c.at-cluster.result.now link.0 link.1 c.at-cluster.ensures in
     let no_cycle = sym (both.cluster.above c.args.child c.args.parent both.cluster.here) ∙ link.3 in
-    (search rules, (search rules, (search rules, (both.cluster.here, (both.q_in, no_cycle)))))
+    (search rules, (search rules, (both.cluster.here, (both.q_in, no_cycle))))
 
 pub returns-in_err-changed-clause-picked : goal.returns-in_err-changed-clause-picked
 returns-in_err-changed-clause-picked g c =
