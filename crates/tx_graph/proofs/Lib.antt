@@ -21,3 +21,6 @@ mod Starts
 mod Calls
 mod Sides
 mod Linked
+mod Together
+mod Absent
+mod Ways

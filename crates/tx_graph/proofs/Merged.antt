@@ -51,3 +51,6 @@ module _ (w : ℕ) (shelf : Shelf) (order : IsInOrder w shelf) where
   pub picked_of : ArePicked (graph_of shelf) (parts_of shelf)
   picked_of = levels_are_picked (64 * w) shelf.store Main (graph_of shelf) order.store.ordered
       (λ n c is. order.indexed.whole n c (there n c is)) is_level
+
+pub picked_before : (w : ℕ) (now old : Shelf) → old ≡ now → IsInOrder w old → ArePicked (graph_of now) (parts_of now)
+picked_before w now old view order = subst (λ (s : Shelf). ArePicked (graph_of s) (parts_of s)) view (picked_of w old order)

@@ -1,5 +1,5 @@
 -- Two names, the one of which becomes a parent of the other, and their clusters.
-use Rattle.std.proofs.Common.{◌≡◌, ◌≢◌, ℕ, ◌+◌, ◌*◌, ◌≤◌, true, List, length, Some, is_some, inl, inr, ◌⊎◌, sym, ap, ◌∙◌, subst, subst₂, arith}
+use Rattle.std.proofs.Common.{◌≡◌, ◌≢◌, ℕ, ◌+◌, ◌*◌, ◌≤◌, true, List, length, Some, IsSome, is_some, inl, inr, ◌⊎◌, sym, ap, ◌∙◌, subst, subst₂, arith}
 use Rattle.std.specs.FinMap as finmap
 use Rattle.graphs.specs.Closures.{is_member, is_ancestor}
 use Rattle.graphs.specs.Graphs.{Lists}
@@ -133,3 +133,15 @@ pub count_both : (w : ℕ) (now old : Shelf) (order : IsInOrder w old) (p q stay
 count_both w now old order p q stays goes larger smaller ids {before} {after} view is lists grows =
     subst (λ n. GrowsWithin (most_steps n) before after)
     (sym (is.count ids (subst (λ (s : Shelf). Lists (IsLinkedToEither (graph_of s) p q) ids) (sym view) lists))) grows
+
+-- both numbers have clusters, in whichever order they stand
+pub turned_there : (w : ℕ) (now old : Shelf) (order : IsInOrder w old) (p q above below stays goes : ℕ) → old ≡ now → IsLink w now p q (Between above below)
+    → AreTurned above below stays goes → IsSome (cluster_at old.store.clusters stays) × IsSome (cluster_at old.store.clusters goes)
+turned_there w now old order p q above below stays goes view is turned =
+    let link = link_before w now old p q (Between above below) view is in
+    let first : IsSome (cluster_at old.store.clusters above) = ap is_some (order.indexed.stands p above link.0).there in
+    let second : IsSome (cluster_at old.store.clusters below) = ap is_some (order.indexed.stands q below link.1).there in
+    elim turned [
+      | inl same ↦ subst₂ (λ s g. IsSome (cluster_at old.store.clusters s) × IsSome (cluster_at old.store.clusters g)) (sym same.0) (sym same.1) (first, second)
+      | inr same ↦ subst₂ (λ s g. IsSome (cluster_at old.store.clusters s) × IsSome (cluster_at old.store.clusters g)) (sym same.0) (sym same.1) (second, first)
+    ]

@@ -181,6 +181,7 @@ impl<const W: usize> Clusters<W> {
             → Lists (λ q. AreLinked (graph_of self.old) q parent ⊎ AreLinked (graph_of self.old) q child) ids
             → GrowsWithin (most_steps (length ids)) steps.old steps.new }
     {
+        let _count = self.count;
         match link {
             Link::There => Ok(()),
             Link::Within(number) => self.link(number, parent, child, steps),
