@@ -13,7 +13,7 @@ use Rattle.graph_model.specs.Runs.{Answer, Run, CommandsRun}
 
 -- a run goes on from where an earlier one ended, with one answer a line, or one reply a command, in their order
 pub record AnswersAreInOrder : Type 0 where
-  pub lines : (old mid new : PlainState) (lines more : List (List ℕ)) (answers others : List Answer) → Run old lines answers mid → Run mid more others new
+  pub lines : (old mid new : State) (lines more : List (List ℕ)) (answers others : List Answer) → Run old lines answers mid → Run mid more others new
       → Run old (lines ++ more) (answers ++ others) new
   pub commands : (old mid new : State) (commands more : List Command) (replies others : List Reply) → CommandsRun old commands replies mid
       → CommandsRun mid more others new → CommandsRun old (commands ++ more) (replies ++ others) new

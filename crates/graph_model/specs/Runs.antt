@@ -1,6 +1,6 @@
 -- Runs over commands, and over lines, from bytes to bytes.
 use Rattle.std.specs.Prelude.{◌≡◌, ℕ, ◌<◌, ◌≤◌, List, [], ◌∷◌, flat_map, length, codes}
-use Rattle.graph_model.specs.States.{PlainState, Picks, State, plain_start}
+use Rattle.graph_model.specs.States.{PlainState, Picks, State, start}
 use Rattle.graph_model.specs.Words.{line_text}
 use Rattle.graph_model.specs.Commands.{Command}
 use Rattle.graph_model.specs.Replies.{Reply, text_of}
@@ -19,7 +19,7 @@ RunBy step old (i ∷ is) [] new = ⊥
 abbrev pub CommandsRun : State → List Command → List Reply → State → Type 0
 CommandsRun = RunBy Step
 
--- The steps of the commands that are built: they read no pick, so each is one of the plain state whatever the picks are.
+-- a step of the plain state alone, whatever the picks are: one of a command that reads no pick
 abbrev pub BuiltStep : PlainState → Command → Reply → PlainState → Type 0
 BuiltStep old command reply new = (picks : Picks) → PlainStep picks old command reply new
 
@@ -31,12 +31,12 @@ pub data Answer : Type 0 where
   Replies : (reply : Reply) → Answer
 
 -- from old, a line may get this answer and lead to new
-abbrev pub LineStep : PlainState → List ℕ → Answer → PlainState → Type 0
+abbrev pub LineStep : State → List ℕ → Answer → State → Type 0
 LineStep old line Silence new = (length line ≤ max_line) × Means line Quiet × (new ≡ old)
 LineStep old line TooLong new = (max_line < length line) × (new ≡ old)
 LineStep old line Unread new = (length line ≤ max_line) × Means line NoForm × (new ≡ old)
 LineStep old line (Replies reply) new =
-    (length line ≤ max_line) × (command : Command) × Means line (Says command) × BuiltStep old command reply new
+    (length line ≤ max_line) × (command : Command) × Means line (Says command) × Step old command reply new
 
 -- the text of an answer: nothing, or its lines
 abbrev pub answer_text : Answer → List ℕ
@@ -46,9 +46,9 @@ answer_text Unread = line_text (codes "refused syntax")
 answer_text (Replies reply) = text_of reply
 
 -- from old, the lines may get these answers, one a line in their order, and lead to new
-abbrev pub Run : PlainState → List (List ℕ) → List Answer → PlainState → Type 0
+abbrev pub Run : State → List (List ℕ) → List Answer → State → Type 0
 Run = RunBy LineStep
 
 -- the text may be the output of a run over these lines, from the start
 abbrev pub MayWrite : List (List ℕ) → List ℕ → Type 0
-MayWrite lines text = (answers : List Answer) × (end : PlainState) × Run (plain_start MAX_COUNT) lines answers end × (text ≡ flat_map answer_text answers)
+MayWrite lines text = (answers : List Answer) × (end : State) × Run (start MAX_COUNT) lines answers end × (text ≡ flat_map answer_text answers)

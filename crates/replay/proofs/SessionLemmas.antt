@@ -4,7 +4,7 @@ use Rattle.graphs.specs.declared.names.Level.{Level}
 use Rattle.wire.specs.declared.line.Line.{Line}
 use Rattle.wire.specs.declared.line.Line.TheVariants as lines
 use Rattle.wire.specs.Readings.{meaning_of}
-use Rattle.graph_model.specs.States.{PlainState}
+use Rattle.graph_model.specs.States.{State}
 use Rattle.graph_model.specs.Commands.{Command}
 use Rattle.graph_model.specs.Lines.{Meaning, Says, NoForm, Means, max_line}
 use Rattle.graph_model.specs.Replies.{Reply}
@@ -20,7 +20,7 @@ command_answers before old new line meaning command reply answer short means say
     (step.0, step.1, rw is (short, command, subst (λ (m : Meaning). Means line m) says means, step.2))
 
 -- a quiet line, and one that is no command, change nothing
-pub nothing_answers : (before old : Kept) (line : List ℕ) (meaning given : Meaning) (answer : Answer) → length line ≤ max_line → Means line meaning → meaning ≡ given → old ≡ before → ((state : PlainState) → Means line given → LineStep state line answer state)
+pub nothing_answers : (before old : Kept) (line : List ℕ) (meaning given : Meaning) (answer : Answer) → length line ≤ max_line → Means line meaning → meaning ≡ given → old ≡ before → ((state : State) → Means line given → LineStep state line answer state)
     → Answers before old line answer
 nothing_answers before old line meaning given answer short means is same step state stands =
     (state, subst (λ (k : Kept). StandsFor k state) (sym same) stands, step state (subst (λ (m : Meaning). Means line m) is means))

@@ -5,7 +5,7 @@ use Rattle.std.proofs.lemmas.List.Elements.{All-nil, All-push}
 use Rattle.std.specs.Io.KnownBytes.{Appends}
 use Rattle.std.proofs.KnownBytes.{Consumes-nil, Appends-nil}
 use Rattle.outside.specs.Transfers.{AppendsFront}
-use Rattle.graph_model.specs.States.{PlainState, plain_start}
+use Rattle.graph_model.specs.States.{State, start}
 use Rattle.graph_model.specs.declared.limits.TheConstants.{MAX_COUNT}
 use Rattle.graph_model.specs.Words.{line_text}
 use Rattle.graph_model.specs.Lines.{IsOneLine, Cut, with_last, max_input}
@@ -38,9 +38,9 @@ pub record Played (kept : Kept) (cutter : Cutter) (held : List ℕ) (left now fi
   pub rest : List ℕ
   pub lines : List (List ℕ)
   pub answers : List Answer
-  pub state : PlainState
+  pub state : State
   pub stands : StandsFor kept state
-  pub run : Run (plain_start MAX_COUNT) lines answers state
+  pub run : Run (start MAX_COUNT) lines answers state
   pub read : TakesTo Open cutter.stage left now input cutter.taken
   pub taken : cutter.taken ≡ length input
   pub leaves : Leaves cutter rest
@@ -49,13 +49,13 @@ pub record Played (kept : Kept) (cutter : Cutter) (held : List ℕ) (left now fi
   pub few : kept.additions + length rest ≤ length input
 
 -- before the first line
-pub played_nothing : (kept : Kept) (cutter : Cutter) (held : List ℕ) (left first : Option (List ℕ)) → StandsFor kept (plain_start MAX_COUNT) → kept.additions ≡ 0 → cutter.held ≡ [] → cutter.long ≡ false → cutter.taken ≡ 0 → cutter.stage ≡ Open → held ≡ [] → Played kept cutter held left left first first
+pub played_nothing : (kept : Kept) (cutter : Cutter) (held : List ℕ) (left first : Option (List ℕ)) → StandsFor kept (start MAX_COUNT) → kept.additions ≡ 0 → cutter.held ≡ [] → cutter.long ≡ false → cutter.taken ≡ 0 → cutter.stage ≡ Open → held ≡ [] → Played kept cutter held left left first first
 played_nothing kept cutter held left first stands added none short taken going empty = record {
   input = [];
   rest = [];
   lines = [];
   answers = [];
-  state = plain_start MAX_COUNT;
+  state = start MAX_COUNT;
   stands = stands;
   run = refl;
   read = subst (λ (s : Stage). TakesTo Open s left left [] cutter.taken) (sym going) (Consumes-nil left);
@@ -146,8 +146,8 @@ behind new input rest lines line (inr given) (one, inl cut) = absurd (omega (ari
 behind new input rest lines line (inr given) (one, inr last) = absurd (last.2 (sym last.1 ∙ given.1))
 
 -- the run goes on by one line
-one_more : (lines : List (List ℕ)) (answers : List Answer) (state next : PlainState) (line : List ℕ) (answer : Answer) → Run (plain_start MAX_COUNT) lines answers state → LineStep state line answer next → Run (plain_start MAX_COUNT) (lines ++ line ∷ []) (answers ++ answer ∷ []) next
-one_more lines answers state next line answer run step = run-append LineStep (plain_start MAX_COUNT) state next lines (line ∷ []) answers (answer ∷ []) run (next, step, refl)
+one_more : (lines : List (List ℕ)) (answers : List Answer) (state next : State) (line : List ℕ) (answer : Answer) → Run (start MAX_COUNT) lines answers state → LineStep state line answer next → Run (start MAX_COUNT) (lines ++ line ∷ []) (answers ++ answer ∷ []) next
+one_more lines answers state next line answer run step = run-append LineStep (start MAX_COUNT) state next lines (line ∷ []) answers (answer ∷ []) run (next, step, refl)
 
 -- a line was given behind those that were answered
 pub record Turn (kept : Kept) (cutter new : Cutter) (held : List ℕ) (left before now first written : Option (List ℕ)) (line : List ℕ) : Type 0 where
@@ -187,9 +187,9 @@ pub record Got (stage : Stage) (left now : Option (List ℕ)) : Type 0 where
   pub rest : List ℕ
   pub lines : List (List ℕ)
   pub answers : List Answer
-  pub state : PlainState
+  pub state : State
   pub count : ℕ
-  pub run : Run (plain_start MAX_COUNT) lines answers state
+  pub run : Run (start MAX_COUNT) lines answers state
   pub read : TakesTo Open stage left now input count
   pub taken : count ≡ length input
   pub within : count ≤ max_input

@@ -1,7 +1,7 @@
 -- One line of a session.
 use Rattle.std.specs.Prelude.{◌≡◌, ℕ, ◌+◌, ◌*◌, ◌<◌, ◌≤◌, List, length}
 use Rattle.graphs.specs.Rooms.{Room}
-use Rattle.graph_model.specs.States.{PlainState}
+use Rattle.graph_model.specs.States.{State}
 use Rattle.graph_model.specs.Commands.{Command}
 use Rattle.graph_model.specs.Lines.{Means, Quiet, Says, NoForm, max_line}
 use Rattle.graph_model.specs.Runs.{Answer, Silence, Unread, Replies, LineStep}
@@ -17,7 +17,7 @@ IsLine TooLong line = max_line < length line
 
 -- From every state that the session stood for, the line may get this answer, and leads to a state that it stands for now.
 abbrev pub Answers : Kept → Kept → List ℕ → Answer → Type 0
-Answers old new line answer = (state : PlainState) → StandsFor old state → (next : PlainState) × StandsFor new next × LineStep state line answer next
+Answers old new line answer = (state : State) → StandsFor old state → (next : State) × StandsFor new next × LineStep state line answer next
 
 -- The line alone allows this answer: silence exactly where it is quiet, too long and unread by its bytes, a reply where it says a command.
 abbrev pub Suits : List ℕ → Answer → Type 0

@@ -1,7 +1,7 @@
 //! The command `replay`: the lines of a source are answered as they come.
 ghost use Rattle.std.specs.Prelude.{◌≡◌, ◌≢◌, ℕ, ◌≤◌, ◌⊎◌, List, [], false, IfOk, OnOk, OnErr, MatchResult};
 ghost use Rattle.std.specs.Io.KnownBytes.{Appends};
-ghost use Rattle.graph_model.specs.States.{plain_start};
+ghost use Rattle.graph_model.specs.States.{start};
 ghost use Rattle.graph_model.specs.declared.limits.TheConstants.{MAX_COUNT};
 ghost use Rattle.outside.specs.Faults.{CountsFaults};
 ghost use Rattle.outside.specs.Transfers.{AppendsFront};
@@ -26,7 +26,7 @@ pub(crate) fn answer_lines<S: Source, K: Sink>(
     source: &mut S,
     sink: &mut K,
 ) -> Result<End, Failed>
-    requires fresh { StandsFor session.old (plain_start MAX_COUNT) }
+    requires fresh { StandsFor session.old (start MAX_COUNT) }
     requires none_added { session.old.additions ≡ 0 }
     requires none_held { lines.old.held ≡ [] }
     requires none_dropped { lines.old.long ≡ false }

@@ -49,7 +49,7 @@ impl<const W: usize> Model for Session<W> {
 
 impl<const W: usize> Session<W> {
     ghost use Rattle.tx_graph.specs.Kept.{Kept, StandsFor};
-    ghost use Rattle.graph_model.specs.States.{PlainState, plain_start};
+    ghost use Rattle.graph_model.specs.States.{State, start};
     ghost use Rattle.graph_model.specs.declared.limits.TheConstants.{MAX_COUNT};
     ghost use Rattle.replay.specs.Answers.{outcome_of};
     ghost use Rattle.replay.specs.Gatherings.{Gathers};
@@ -59,7 +59,7 @@ impl<const W: usize> Session<W> {
     pub fn new(alloc: Global) -> Result<Session<W>, NoMemory>
         requires wide { 1 ≤ W }
         requires narrow { W ≤ 2 }
-        ensures start { IfOk result (λ session. StandsFor session (plain_start MAX_COUNT)) }
+        ensures start { IfOk result (λ session. StandsFor session (start MAX_COUNT)) }
         ensures additions { IfOk result (λ session. session.additions ≡ 0) }
     {
         Ok(Session {
@@ -72,7 +72,7 @@ impl<const W: usize> Session<W> {
     /// other calls say of such states says something.
     pub fn additions(&self) -> u64
         ensures additions { result ≡ self.now.additions }
-        ensures stands { (state : PlainState) × StandsFor self.now state }
+        ensures stands { (state : State) × StandsFor self.now state }
     {
         self.graph.additions()
     }

@@ -1,7 +1,7 @@
 use Rattle.std.proofs.Common.{subst}
-use Rattle.graph_model.specs.States.{PlainState}
+use Rattle.graph_model.specs.States.{State}
 use Rattle.tx_graph.specs.Kept.{Kept, StandsFor}
 use Rattle.replay.proofs.session.Session.additions.Goals as goal
 
 pub returns-clause-stands : goal.returns-clause-stands
-returns-clause-stands g c = subst (λ (k : Kept). (state : PlainState) × StandsFor k state) c.self.view_is c.additions.ensures.stands
+returns-clause-stands g c = subst (λ (k : Kept). (state : State) × StandsFor k state) c.self.view_is c.additions.ensures.stands
