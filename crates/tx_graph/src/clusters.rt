@@ -233,7 +233,14 @@ impl<const W: usize> Clusters<W> {
         let from = larger.names().len();
         let smaller = at(&self.store, goes);
         let joined = larger.joined(self.alloc, smaller, parent, child, &mut self.work, steps)?;
-        come_together(&mut self.numbers, &mut self.store, stays, goes, joined, from)
+        come_together(
+            &mut self.numbers,
+            &mut self.store,
+            stays,
+            goes,
+            joined,
+            from,
+        )
     }
 
     /// Why `dep` is refused, other than for want of memory; or how the two names stand.

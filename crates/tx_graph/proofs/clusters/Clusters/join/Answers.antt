@@ -175,4 +175,3 @@ returns-clause-steps g c ids lists =
     c.larger_first-stays.result.1 c.at-larger.result.now c.at-smaller.result.now c.self.view_is c.requires c.larger_first-stays.ensures c.at-larger.ensures c.at-smaller.ensures in
     count_both g.row.W c.args.self.now old c.self.invariant.order c.args.parent c.args.child c.larger_first-stays.result.0 c.larger_first-stays.result.1
     c.at-larger.result.now c.at-smaller.result.now ids c.self.view_is is lists c.joined.ensures.steps
-
