@@ -1,8 +1,6 @@
 -- Numbers in rising order.
-use Rattle.std.proofs.Common.{◌≡◌, ℕ, suc, zero, ◌+◌, ◌<◌, ◌≤◌, Bool, true, false, cond, nat_lt, List, [], ◌∷◌, ◌++◌, length, slice_index, sym, refl, ap, subst, ◌∙◌, inl, inr, ◌⊎◌, ◌↔◌, arith, ltb-true, ltb-false}
+use Rattle.std.proofs.Common.{◌≡◌, ℕ, suc, zero, ◌+◌, ◌<◌, ◌≤◌, Bool, true, false, cond, nat_lt, List, [], ◌∷◌, length, slice_index, sym, refl, ap, subst, ◌∙◌, inl, inr, ◌⊎◌, ◌↔◌, arith, ltb-true, ltb-false}
 use Rattle.std.specs.Prelude.{Contains, sum_by}
-use Rattle.std.proofs.lemmas.List.{get_or_default}
-use Rattle.std.proofs.lemmas.List.Elements.{Contains-append_cases}
 use Rattle.std.proofs.lemmas.List.Sums.{sum_by-cons}
 use Rattle.std.specs.List.Sorted.{IsStrictlyIncreasing}
 use Rattle.lists.proofs.Entries.{Contains-head, Contains-later, Contains-cases}

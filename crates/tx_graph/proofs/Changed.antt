@@ -10,10 +10,10 @@ use Rattle.graphs.specs.Closures.{is_member, is_ancestor, rate_of, AddsPair, Set
 use Rattle.fee_rate.specs.declared.rates.FeeRate.{FeeRate}
 use Rattle.cluster.specs.Clusters.{Cluster, IsCluster}
 use Rattle.cluster.specs.Changes.{IsSingle}
-use Rattle.cluster_store.specs.Stores.{Numbered, Store}
+use Rattle.cluster_store.specs.Stores.{Store}
 use Rattle.tx_graph.specs.Kept.{AddsName}
 use Rattle.tx_graph.specs.Shelves.{Shelf, Numbers, cluster_at, graph_of, StandsAt, IsIndexed}
-use Rattle.tx_graph.proofs.Graphs.{member-number, rate-at, above-at, rate-none, above-none, cases_number, rate_in_cluster, above_from, names_of_above}
+use Rattle.tx_graph.proofs.Graphs.{member-number, rate-at, above-at, rate-none, above-none, cases_number, above_from, names_of_above}
 
 -- a name is in a list or not
 pub decide_in : (xs : List ℕ) (id : ℕ) → Contains xs id ⊎ (Contains xs id → ⊥)

@@ -1,5 +1,5 @@
 -- What the store's calls leave of a shelf: one cluster more, one in the place of another, one of two.
-use Rattle.std.proofs.Common.{◌≡◌, ◌≢◌, ℕ, ◌+◌, ◌*◌, ◌≤◌, true, false, List, [], ◌∷◌, ◌++◌, length, Contains, Option, Some, None, option_map, is_some, IsSome, inl, inr, refl, sym, ap, ◌∙◌, subst, arith}
+use Rattle.std.proofs.Common.{◌≡◌, ◌≢◌, ℕ, ◌*◌, ◌++◌, Option, Some, None, option_map, inl, inr, sym, ap, ◌∙◌}
 use Rattle.std.proofs.lemmas.Bool.{cases_eq}
 use Rattle.std.proofs.lemmas.Option.{none-some, same_Some}
 use Rattle.std.specs.FinMap as finmap
@@ -9,9 +9,9 @@ use Rattle.cluster.specs.Clusters.{Cluster, IsCluster}
 use Rattle.cluster.specs.Changes.{IsSingle, Joins, AreAcross}
 use Rattle.cluster_store.specs.Stores.{Stored, Numbered, Store, IsStore}
 use Rattle.cluster_store.specs.Changes.{Sets, with_cluster}
-use Rattle.tx_graph.specs.Shelves.{Numbers, Shelf, cluster_at, IsInOrder}
+use Rattle.tx_graph.specs.Shelves.{Shelf, cluster_at, IsInOrder}
 use Rattle.tx_graph.specs.Moves.{HoldsAll, Points}
-use Rattle.tx_graph.proofs.Merged.{stored_at, at_stored}
+use Rattle.tx_graph.proofs.Merged.{stored_at}
 use Rattle.tx_graph.proofs.Changed.{IsAdded, indexed_added, IsExchanged, indexed_exchanged}
 use Rattle.tx_graph.proofs.Joined.{IsJoined, indexed_joined}
 

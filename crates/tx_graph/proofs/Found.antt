@@ -1,5 +1,5 @@
 -- The cluster of a name, told by the graph.
-use Rattle.std.proofs.Common.{◌≡◌, ℕ, true, Contains, Some, inl, inr}
+use Rattle.std.proofs.Common.{◌≡◌, ℕ, Contains, Some, inl, inr}
 use Rattle.lists.proofs.Cases.{same_test}
 use Rattle.lists.proofs.Walks.{Walk-map, Walk-keeps}
 use Rattle.graphs.specs.Closures.{is_ancestor, IsRelated}

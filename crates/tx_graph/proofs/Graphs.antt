@@ -7,7 +7,7 @@ use Rattle.std.specs.FinMap as finmap
 use Rattle.graphs.specs.Closures.{Node, is_member, is_ancestor, ancestors_of, ancestors_in, rate_of, rate_in, no_rate, IsOrder}
 use Rattle.cluster.specs.Clusters.{Cluster}
 use Rattle.cluster_store.specs.Stores.{Numbered}
-use Rattle.std.proofs.lemmas.Option.{none-some, same_Some}
+use Rattle.std.proofs.lemmas.Option.{same_Some}
 use Rattle.tx_graph.specs.Shelves.{Shelf, cluster_at, node_in, graph_of, StandsAt, IsIndexed}
 
 -- ---- one name

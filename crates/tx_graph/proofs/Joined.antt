@@ -1,16 +1,16 @@
 -- Two clusters in one.
-use Rattle.std.proofs.Common.{◌≡◌, ◌≢◌, ℕ, true, false, ◌&&◌, ◌||◌, List, [], ◌∷◌, ◌++◌, Contains, Option, Some, None, is_some, inl, inr, ◌⊎◌, refl, sym, ap, ◌∙◌, subst}
+use Rattle.std.proofs.Common.{◌≡◌, ◌≢◌, ℕ, true, ◌&&◌, ◌||◌, ◌++◌, Contains, Some, None, is_some, inl, inr, ◌⊎◌, sym, ap, ◌∙◌, subst}
 use Rattle.std.proofs.lemmas.Bool.{cases_eq, or_cases, or_left, or_right, and_parts, and_from}
 use Rattle.std.proofs.lemmas.Option.{none-some, same_Some}
 use Rattle.std.proofs.lemmas.List.Elements.{Contains-append_left, Contains-append_right, Contains-append_cases}
 use Rattle.std.specs.FinMap as finmap
 use Rattle.lists.proofs.Cases.{same_test}
-use Rattle.graphs.specs.Closures.{is_member, is_ancestor, rate_of, AddsPair}
+use Rattle.graphs.specs.Closures.{is_ancestor, rate_of, AddsPair}
 use Rattle.cluster.specs.Clusters.{Cluster, IsCluster}
 use Rattle.cluster.specs.Changes.{Joins, is_above, AreAcross}
 use Rattle.tx_graph.specs.Shelves.{Shelf, cluster_at, graph_of, StandsAt, IsIndexed}
 use Rattle.tx_graph.specs.Moves.{Points}
-use Rattle.tx_graph.proofs.Graphs.{member-number, rate_in_cluster, above_in, above_from, in_above, names_of_above, one_number}
+use Rattle.tx_graph.proofs.Graphs.{member-number, rate_in_cluster, above_in, above_from, in_above, one_number}
 use Rattle.tx_graph.proofs.Changed.{decide_in, rate_elsewhere, StaysUnder}
 
 -- One cluster of the names of two stands under the number of the first of them, the number of the second has none, and the names of the second

@@ -1,5 +1,5 @@
 -- A cluster that a call made takes the place of the one it was made of, or there was no memory for it.
-use Rattle.std.proofs.Common.{◌≡◌, ℕ, ℤ, ◌*◌, List, length, Contains, Option, Some, None, refl, sym, ap, ◌∙◌, subst, subst₂, Result, Ok, Err, OnOk, OnErr}
+use Rattle.std.proofs.Common.{◌≡◌, ℕ, ℤ, ◌*◌, List, length, Contains, Some, refl, sym, ap, ◌∙◌, subst, Result, Ok, Err, OnOk, OnErr}
 use Rattle.std.specs.FinMap as finmap
 use Rattle.std.proofs.Common.{SFits, w64, of_z, to_z}
 use Rattle.std.proofs.lemmas.Int.{to_z-of_z}

@@ -1,9 +1,8 @@
 -- The merged parts of a shelf are a pick of its graph.
-use Rattle.std.proofs.Common.{◌≡◌, ℕ, ◌*◌, true, Contains, Option, Some, None, option_map, refl, sym, ap, ◌∙◌, subst}
+use Rattle.std.proofs.Common.{◌≡◌, ℕ, ◌*◌, Option, Some, None, option_map, refl, ap, ◌∙◌, subst}
 use Rattle.std.proofs.lemmas.Option.{none-some, same_Some}
 use Rattle.std.specs.FinMap as finmap
 use Rattle.graphs.specs.declared.names.Level.TheVariants.{Main}
-use Rattle.chunk_index.specs.declared.entry.Tag.{Tag}
 use Rattle.chunk_index.specs.Items.{is_in}
 use Rattle.cluster.specs.Clusters.{Cluster, ArePicked}
 use Rattle.cluster_store.specs.Stores.{Stored, Numbered}

@@ -1,10 +1,8 @@
 -- An accepted change with the parts that the graph has after it: a level that stays as it is keeps its parts.
-use Rattle.std.proofs.Common.{◌≡◌, ℕ, true, sym, refl, ap, subst, ◌∙◌, inr, List, Option, None, Some}
+use Rattle.std.proofs.Common.{◌≡◌, ℕ, true, sym, refl, ap, subst, ◌∙◌, inr, Option, None, Some}
 use Rattle.std.proofs.lemmas.Option.{none-some}
-use Rattle.std.specs.Prelude.{Contains}
 use Rattle.std.specs.FinMap as finmap
 use Rattle.lists.proofs.Cases.{same_test}
-use Rattle.fee_rate.specs.declared.rates.FeeRate.{FeeRate}
 use Rattle.fee_rate.specs.declared.rates.Sum.{Sum}
 use Rattle.graphs.specs.Closures.{Node, Closure, is_member, is_ancestor, rate_of, rate_in}
 use Rattle.graphs.specs.Closing.{IsClosureOf}
@@ -13,7 +11,7 @@ use Rattle.graphs.specs.Picks.{IsPick}
 use Rattle.cluster.specs.Clusters.{ArePicked, sum_at}
 use Rattle.graph_model.specs.States.{PlainState, Picks, State, Table, sum_in}
 use Rattle.graph_model.specs.States as states
-use Rattle.graph_model.specs.Validity.{ArePicks, IsPickOf}
+use Rattle.graph_model.specs.Validity.{IsPickOf}
 use Rattle.graph_model.specs.Commands.{Command}
 use Rattle.graph_model.specs.Replies.{Reply}
 use Rattle.graph_model.specs.Steps.{AcceptsPlainly, HaveSameRates, KeepsPicks, PicksFollow}

@@ -6,7 +6,7 @@ use Rattle.std.proofs.lemmas.Bool.{true_from_ne_false}
 use Rattle.graphs.specs.Closures.{Node, is_member, is_ancestor, rate_of, rate_in, IsOrder, AreLinked}
 use Rattle.graphs.specs.declared.names.Level.{Level}
 use Rattle.graph_model.specs.declared.names.Refusal.{Refusal}
-use Rattle.graph_model.specs.declared.names.Refusal.TheVariants.{Unknown, Cycle, Count, ClusterSize}
+use Rattle.graph_model.specs.declared.names.Refusal.TheVariants.{Unknown}
 use Rattle.graphs.specs.Graphs.{Graph, IsAncestor, AreConnected, Lists}
 use Rattle.graph_model.specs.States.{PlainState, Table, level_of, size_of, size_in}
 use Rattle.graph_model.specs.Commands.{Dep}

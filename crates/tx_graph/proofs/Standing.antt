@@ -13,7 +13,7 @@ use Rattle.graphs.specs.Graphs.{Graph, IsAncestor, AreConnected}
 use Rattle.graph_model.specs.States.{PlainState, Picks, Table, level_of}
 use Rattle.graph_model.specs.Commands.{Command}
 use Rattle.graph_model.specs.Refusals.{RefusalIs}
-use Rattle.graph_model.specs.Replies.{Reply, Refused}
+use Rattle.graph_model.specs.Replies.{Refused}
 use Rattle.graph_model.specs.Steps.{MayLackMemory}
 use Rattle.graph_model.specs.declared.limits.TheConstants.{MAX_COUNT}
 use Rattle.tx_graph.specs.Kept.{Kept, StandsPlainly, MakesStep, entry_of}

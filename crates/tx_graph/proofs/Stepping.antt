@@ -1,15 +1,14 @@
 -- The accepted steps.
-use Rattle.std.proofs.Common.{suc, arith, ◌≡◌, ◌≢◌, ℕ, ℤ, Bool, true, false, cond, not, ◌&&◌, ◌||◌, nat_eq, List, [], ◌∷◌, ◌++◌, length, sym, refl, ap, ap₂, subst, ◌∙◌, inl, inr, ◌⊎◌, ◌↔◌, Option, None, Some, is_some, eq-eqb, ne_eqb, eqb-true, true≢false}
+use Rattle.std.proofs.Common.{arith, ◌≡◌, ℕ, ℤ, Bool, true, false, cond, not, ◌&&◌, ◌||◌, nat_eq, List, [], ◌∷◌, length, sym, refl, ap, ap₂, subst, ◌∙◌, inl, inr, ◌⊎◌, ◌↔◌, Option, None, Some, is_some, eq-eqb, ne_eqb, true≢false}
 use Rattle.std.specs.Prelude.{Contains}
 use Rattle.std.proofs.lemmas.Bool.{cases_eq, false_from_ne_true, or_cases, or_left, or_right, and_parts, and_from}
-use Rattle.std.proofs.lemmas.List.Elements.{Contains-append_left, Contains-push, Contains-push_cases}
+use Rattle.std.proofs.lemmas.List.Elements.{Contains-append_left}
 use Rattle.std.specs.Ordering.{nat_cmp}
 use Rattle.std.specs.Cmp.{nat_cmp_total, unsigned_tied}
 use Rattle.std.specs.FinMap as finmap
 use Rattle.graphs.specs.Closures.{Node, Closure, is_member, is_ancestor, rate_of, rate_in, IsOrder, AddsPair, SetsFee, DropsPlace, AreLinked}
 use Rattle.lists.proofs.Distinct.{distinct_push}
 use Rattle.lists.proofs.Entries.{Contains-head, Contains-later, Contains-cases}
-use Rattle.lists.specs.Distinct.{AreDistinct}
 use Rattle.fee_rate.specs.declared.rates.FeeRate.{FeeRate}
 use Rattle.graph_model.specs.declared.names.Limits.{Limits}
 use Rattle.graphs.specs.declared.names.Level.{Level}
@@ -29,7 +28,7 @@ use Rattle.graphs.proofs.ListLemmas.{Lists-for}
 use Rattle.cluster.specs.Clusters.{ArePicked}
 use Rattle.tx_graph.specs.Kept.{Kept, StandsPlainly, MakesStep, entry_of, AddsName}
 use Rattle.tx_graph.proofs.Standing.{state_of, level-main, told, connected-linked, order_kept, Meets}
-use Rattle.tx_graph.proofs.Picked.{AreSameLevel, KeepsParts, AcceptsAll, KeepsCommand, steps_accepted}
+use Rattle.tx_graph.proofs.Picked.{AreSameLevel, AcceptsAll, KeepsCommand, steps_accepted}
 use Rattle.tx_graph.proofs.Rows.{size-of}
 use Rattle.graph_model.proofs.TableLemmas.{len-names}
 

@@ -1,5 +1,5 @@
 -- How two names stand, and which refusal a pair of them meets.
-use Rattle.std.proofs.Common.{◌≡◌, ◌≢◌, ℕ, ◌+◌, ◌*◌, ◌≤◌, ◌&&◌, ◌||◌, true, false, length, Option, Some, None, inl, inr, refl, sym, ap, ◌∙◌, subst, Result, Ok, Err, MatchResult, IfOk, true≢false}
+use Rattle.std.proofs.Common.{◌≡◌, ◌≢◌, ℕ, ◌+◌, ◌*◌, ◌&&◌, ◌||◌, true, length, Option, Some, None, inl, inr, refl, sym, ◌∙◌, subst, Result, Ok, Err, MatchResult, IfOk, true≢false}
 use Rattle.std.specs.Prelude.{sum_by}
 use Rattle.std.specs.FinMap as finmap
 use Rattle.std.proofs.lemmas.Bool.{or_cases, or_left, and_parts}
@@ -13,7 +13,7 @@ use Rattle.tx_graph.specs.Shelves.{Shelf, cluster_at, graph_of, IsInOrder}
 use Rattle.tx_graph.specs.Joins.{DepRefusalIs, SumRefusalIs}
 use Rattle.tx_graph.specs.Moves.{IsLink, IsWithin}
 use Rattle.tx_graph.specs.declared.clusters.Link.{Link}
-use Rattle.tx_graph.specs.declared.clusters.Link.TheVariants.{There, Within, Between}
+use Rattle.tx_graph.specs.declared.clusters.Link.TheVariants.{Between}
 use Rattle.tx_graph.proofs.Pairs.{AreTogether, within_row, cycle_row, between_row}
 use Rattle.tx_graph.proofs.Graphs.{order_of}
 use Rattle.tx_graph.proofs.Sides.{together, between, not_yet, link_before}

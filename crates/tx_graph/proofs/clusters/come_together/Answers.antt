@@ -1,5 +1,5 @@
 -- One cluster stands in the place of two, and the names of the second have the number of the first.
-use Rattle.std.proofs.Common.{rules, ◌≡◌, ◌≤◌, ◌+◌, length, drop, is_some, sym, ap, ◌∙◌, subst₂, arith}
+use Rattle.std.proofs.Common.{rules, ◌≤◌, length, drop, is_some, ap, ◌∙◌, subst₂, arith}
 use Rattle.tx_graph.specs.Shelves.{Numbers}
 use Rattle.tx_graph.specs.Moves.{Points}
 use Rattle.tx_graph.proofs.Together.{there_joined, names_lent, room_behind}

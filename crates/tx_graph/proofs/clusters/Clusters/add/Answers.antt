@@ -1,5 +1,5 @@
 -- A cluster of a new name.
-use Rattle.std.proofs.Common.{rules, ◌≡◌, ℕ, ℤ, ◌*◌, ◌≤◌, Some, None, sym, ap, ◌∙◌, subst}
+use Rattle.std.proofs.Common.{◌≡◌, ℤ, ◌*◌, Some, None, ap, ◌∙◌, subst}
 use Rattle.std.proofs.lemmas.Int.{to_z-of_z}
 use Rattle.std.specs.Int.{w64}
 use Rattle.std.specs.FinMap as finmap

@@ -1,5 +1,5 @@
 -- A parent that is an ancestor already changes nothing, and of two clusters none is.
-use Rattle.std.proofs.Common.{◌≡◌, sym, ap, ◌∙◌, subst}
+use Rattle.std.proofs.Common.{subst}
 use Rattle.tx_graph.specs.Shelves.{Shelf}
 use Rattle.tx_graph.specs.Moves.{IsLink}
 use Rattle.tx_graph.specs.declared.clusters.Link.{Link}

@@ -1,5 +1,5 @@
 -- The cluster of a name.
-use Rattle.std.proofs.Common.{rules, ◌≡◌, ◌≤◌, ◌*◌, sym, ap, ◌∙◌, is_some}
+use Rattle.std.proofs.Common.{rules, ◌≤◌, sym, ◌∙◌}
 use Rattle.tx_graph.specs.Shelves.{Shelf}
 use Rattle.tx_graph.proofs.Removed.{some_there}
 use Rattle.tx_graph.proofs.Linked.{is_cluster_of}

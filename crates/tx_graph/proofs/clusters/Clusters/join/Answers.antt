@@ -1,5 +1,5 @@
 -- One cluster comes of two, under the number of the one with more names.
-use Rattle.std.proofs.Common.{rules, ◌≡◌, ◌≤◌, ◌+◌, ◌*◌, length, is_some, sym, ap, ◌∙◌, subst, arith, length-append}
+use Rattle.std.proofs.Common.{rules, ◌≤◌, length, is_some, ap, ◌∙◌, arith, length-append}
 use Rattle.tx_graph.specs.Shelves.{Shelf}
 use Rattle.tx_graph.specs.declared.clusters.Link.TheVariants.{Between}
 use Rattle.tx_graph.proofs.Merged.{picked_of}

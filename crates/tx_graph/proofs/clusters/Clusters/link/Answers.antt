@@ -1,7 +1,6 @@
 -- A name becomes a parent of another of its cluster.
-use Rattle.std.proofs.Common.{rules, ◌≡◌, ◌≤◌, ◌*◌, ℕ, sym, ◌∙◌, subst}
-use Rattle.tx_graph.specs.Shelves.{Shelf, graph_of}
-use Rattle.tx_graph.specs.Moves.{IsLink}
+use Rattle.std.proofs.Common.{rules, ◌≤◌, sym, ◌∙◌}
+use Rattle.tx_graph.specs.Shelves.{Shelf}
 use Rattle.tx_graph.specs.declared.clusters.Link.TheVariants.{Within}
 use Rattle.tx_graph.proofs.Merged.{picked_of}
 use Rattle.tx_graph.proofs.Removed.{some_there}

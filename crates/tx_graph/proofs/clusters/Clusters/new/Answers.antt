@@ -1,6 +1,4 @@
 -- No name and no cluster.
-use Rattle.std.proofs.Common.{◌*◌, sym, ap}
-use Rattle.tx_graph.specs.Shelves.{Shelf}
 use Rattle.tx_graph.proofs.Absent.{kept_empty}
 use Rattle.tx_graph.proofs.Merged.{picked_of}
 use Rattle.tx_graph.proofs.clusters.Clusters.new.Goals as goal

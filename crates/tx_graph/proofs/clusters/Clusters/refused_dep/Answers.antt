@@ -1,5 +1,5 @@
 -- Which refusal a pair meets, or how its names stand.
-use Rattle.std.proofs.Common.{rules, ◌≡◌, ◌≤◌, ◌*◌, Some, None, is_some, sym, ap, ◌∙◌}
+use Rattle.std.proofs.Common.{rules, ◌≤◌, ◌*◌, Some, None, sym, ap, ◌∙◌}
 use Rattle.tx_graph.specs.Shelves.{Shelf}
 use Rattle.tx_graph.proofs.Graphs.{stands_in}
 use Rattle.tx_graph.proofs.Removed.{some_there}

@@ -1,5 +1,5 @@
 -- A live name gets another fee, where it hasn't that fee already.
-use Rattle.std.proofs.Common.{rules, ◌≡◌, ◌≤◌, ℤ, is_some, sym, ap, ◌∙◌, subst}
+use Rattle.std.proofs.Common.{rules, ◌≤◌, ℤ, is_some, sym, ap, ◌∙◌, subst}
 use Rattle.std.proofs.lemmas.Int.{to_z-of_z}
 use Rattle.std.proofs.Common.{of_z}
 use Rattle.std.specs.Int.{w64}

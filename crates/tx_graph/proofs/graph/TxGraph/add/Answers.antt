@@ -1,4 +1,4 @@
-use Rattle.std.proofs.Common.{◌≡◌, ◌≤◌, ◌<◌, ◌+◌, true, None, Some, sym, ap, ◌∙◌, subst, arith, rules}
+use Rattle.std.proofs.Common.{◌≤◌, ◌<◌, ◌+◌, true, None, Some, sym, ◌∙◌, subst, arith, rules}
 use Rattle.std.proofs.lemmas.Int.{to_z-of_z}
 use Rattle.std.specs.Int.{w64}
 use Rattle.std.specs.FinMap as finmap
@@ -6,7 +6,7 @@ use Rattle.fee_rate.specs.Limits.{IsRate}
 use Rattle.graph_model.specs.declared.names.Refusal.TheVariants.{Memory}
 use Rattle.graph_model.specs.Commands.{Add}
 use Rattle.graph_model.specs.Replies.{Done, Refused}
-use Rattle.tx_graph.specs.Kept.{Kept, AddsName}
+use Rattle.tx_graph.specs.Kept.{AddsName}
 use Rattle.tx_graph.specs.Shelves.{graph_of}
 use Rattle.tx_graph.specs.Joins.{AddRefusalIs}
 use Rattle.tx_graph.proofs.Standing.{steps_refused, steps_without_memory, itself}

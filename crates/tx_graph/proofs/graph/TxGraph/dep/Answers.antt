@@ -1,8 +1,8 @@
-use Rattle.std.proofs.Common.{◌≡◌, false, true, None, Some, sym, ◌∙◌, subst}
+use Rattle.std.proofs.Common.{true, None, Some, sym, ◌∙◌, subst}
 use Rattle.graph_model.specs.Commands.{Dep}
 use Rattle.graph_model.specs.Replies.{Done, Refused, change_reply}
 use Rattle.graph_model.specs.declared.names.Refusal.TheVariants.{Memory}
-use Rattle.tx_graph.specs.Kept.{Kept, MakesStep}
+use Rattle.tx_graph.specs.Kept.{MakesStep}
 use Rattle.tx_graph.proofs.Standing.{steps_refused, steps_without_memory, itself}
 use Rattle.tx_graph.proofs.Rows.{dep_row}
 use Rattle.tx_graph.proofs.Calls.{kept_of, same_shelf, from_view, both_views, sound_after, order_sound, when_ok, when_err, error_is, dep_step, GrowsForPair}

@@ -1,12 +1,11 @@
-use Rattle.std.proofs.Common.{◌≡◌, true, false, sym, ap, ◌∙◌, subst, true≢false}
+use Rattle.std.proofs.Common.{true, sym, ◌∙◌, subst, true≢false}
 use Rattle.std.proofs.lemmas.Int.{to_z-of_z}
 use Rattle.std.specs.Int.{w64}
 use Rattle.fee_rate.specs.Limits.{IsFee}
-use Rattle.graphs.specs.Closures.{SetsFee, rate_of}
+use Rattle.graphs.specs.Closures.{SetsFee}
 use Rattle.graph_model.specs.declared.names.Refusal.TheVariants.{Fee, Unknown, Memory}
 use Rattle.graph_model.specs.Commands.{SetFee}
 use Rattle.graph_model.specs.Replies.{Done, Refused}
-use Rattle.tx_graph.specs.Kept.{Kept}
 use Rattle.tx_graph.specs.Shelves.{graph_of}
 use Rattle.tx_graph.proofs.Standing.{steps_refused, steps_without_memory, itself}
 use Rattle.tx_graph.proofs.Calls.{kept_of, same_shelf, from_view, both_views, sound_after, sound_still, when_ok, when_err, fee_out_row, fee_unknown_row, fee_row, fee_step, GrowsForName, FreeForFee}

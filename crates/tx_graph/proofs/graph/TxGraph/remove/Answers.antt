@@ -1,4 +1,4 @@
-use Rattle.std.proofs.Common.{true, false, sym, ◌∙◌, subst}
+use Rattle.std.proofs.Common.{true, sym, ◌∙◌, subst}
 use Rattle.graphs.specs.declared.names.Level.TheVariants.{Top}
 use Rattle.graph_model.specs.declared.names.Refusal.TheVariants.{Memory, Unknown}
 use Rattle.graph_model.specs.Commands.{Remove}
