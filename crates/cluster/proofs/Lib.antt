@@ -25,3 +25,5 @@ mod Splits
 mod Bounds
 mod Chosen
 mod Parting
+mod Placed
+mod Nearest

@@ -14,7 +14,7 @@ use Rattle.cluster.specs.Named.{names_where, named_node, named_below, named}
 
 -- ---- sets of names
 
-abbrev Chosen : List ℕ → (ℕ → Bool) → ℕ → ℕ → Type 0
+abbrev pub Chosen : List ℕ → (ℕ → Bool) → ℕ → ℕ → Type 0
 Chosen names f n x = (p : ℕ) × (p < n) × (f p ≡ true) × (slice_index names p ≡ x)
 
 chosen_earlier : (names : List ℕ) (f : ℕ → Bool) (n x : ℕ) → Chosen names f n x → Chosen names f (suc n) x
@@ -27,7 +27,7 @@ chosen_more names f n x true s passes rest e = elim (or_cases (nat_eq x (slice_i
 ]
 chosen_more names f n x false s fails rest e = chosen_earlier names f n x (rest e)
 
-contains-names_where : (names : List ℕ) (f : ℕ → Bool) (n x : ℕ) → set.contains (names_where names f n) x ≡ true → Chosen names f n x
+pub contains-names_where : (names : List ℕ) (f : ℕ → Bool) (n x : ℕ) → set.contains (names_where names f n) x ≡ true → Chosen names f n x
 unfolding names_where
 contains-names_where names f zero x e = absurd (true≢false (sym e ∙ contains-empty x))
 contains-names_where names f (suc n) x e = chosen_more names f n x (f n) (names_where names f n) refl (contains-names_where names f n x) e
@@ -39,7 +39,7 @@ name_more names f n p true s e passes low rest = contains-insert s (slice_index 
 ]
 name_more names f n p false s e passes low rest = rest (elim (cases_eq p n) as (λ _. p < n) [ inl same ↦ absurd (true≢false (sym passes ∙ ap f same ∙ e)) | inr other ↦ omega arith ])
 
-names_where-contains : (names : List ℕ) (f : ℕ → Bool) (n p : ℕ) → p < n → f p ≡ true → set.contains (names_where names f n) (slice_index names p) ≡ true
+pub names_where-contains : (names : List ℕ) (f : ℕ → Bool) (n p : ℕ) → p < n → f p ≡ true → set.contains (names_where names f n) (slice_index names p) ≡ true
 unfolding names_where
 names_where-contains names f zero p low passes = absurd (omega arith)
 names_where-contains names f (suc n) p low passes = name_more names f n p (f n) (names_where names f n) refl passes low (λ below. names_where-contains names f n p below passes)

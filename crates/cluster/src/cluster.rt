@@ -1,14 +1,17 @@
 ghost use Rattle.std.specs.Prelude.{◌≡◌, ℕ, ◌+◌, ◌*◌, ◌<◌, ◌≤◌, ◌++◌, true, false, List, length, map, flat_map, slice_get, sum_by, Some, All, Contains, IfOk, OnOk};
 ghost use Rattle.fee_rate.specs.Limits.{IsFee, IsRate};
 ghost use Rattle.fee_rate.specs.declared.limits.TheConstants.{MAX_SIZE, MAX_TOTAL};
-ghost use Rattle.graphs.specs.Closures.{is_ancestor, rate_of, AddsPair, SetsFee};
+ghost use Rattle.graphs.specs.Closures.{is_ancestor, rate_of, AddsPair, SetsFee, IsCover};
 ghost use Rattle.graphs.specs.Graphs.{Lists};
+ghost use Rattle.graphs.specs.Certificates.{Part};
 ghost use Rattle.linearize.specs.Graphs.{sum_from};
 ghost use Rattle.cluster.specs.Clusters.{IsCluster, AreApart};
 ghost use Rattle.cluster.specs.Named.{named, IsNamed};
+ghost use Rattle.cluster.specs.Covers.{ListsInOrder};
 ghost use Rattle.cluster.specs.Changes.{IsSingle, Joins, AreAcross, IsSplit, AreComponents};
 ghost use Rattle.cluster.specs.Steps.{GrowsWithin, least_steps, most_steps, least_steps_of, most_steps_of};
 
+use crate::covers::Covers;
 use crate::list::ClusterList;
 use crate::making::{certified, copied, part};
 use crate::order::{Order, flows_between, flows_start, names_between, names_start, rate_in};
@@ -278,6 +281,33 @@ impl<const W: usize> Cluster<W> {
             ids: names_between(self.order.names.as_slice(), from, part.end),
             flows: flows_between(self.order.flows.as_slice(), flow_from, part.flow_end),
         }
+    }
+
+    /// The position of the part that has a name of the cluster.
+    pub fn part_of(&self, id: TxId) -> usize
+        requires { Contains self.now.names id }
+        ensures { (part : Part) × (slice_get self.now.parts result ≡ Some part) × Contains part.ids id }
+    {
+        let _names = &self.names;
+        for at in 0..self.part_count() {
+            if self.part(at).ids.contains(&id) {
+                return at;
+            }
+        }
+        unreachable!()
+    }
+
+    /// The parents of a name of the cluster with nothing between, in the cluster's order. Takes no memory.
+    pub fn covers(&self, id: TxId) -> Covers<'_, W>
+        requires { Contains self.now.names id }
+        ensures { ListsInOrder (λ a. IsCover self.now.graph a id) (flat_map (λ part. part.ids) self.now.parts) result }
+    {
+        let names = self.names.as_slice();
+        Covers::new(
+            names,
+            self.order.names.as_slice(),
+            self.dep.covers(place_of(names, id)),
+        )
     }
 
     /// Fee and size of a name of the cluster.

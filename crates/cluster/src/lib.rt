@@ -6,6 +6,7 @@
 #![tactic(auto)]
 
 mod cluster;
+mod covers;
 mod laws;
 mod list;
 mod making;
@@ -14,6 +15,7 @@ mod places;
 mod work;
 
 pub use cluster::{Cluster, PartRef};
+pub use covers::Covers;
 pub use laws::clusters_are_optimal;
 pub use list::ClusterList;
 pub use work::Work;
