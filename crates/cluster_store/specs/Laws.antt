@@ -1,7 +1,9 @@
 -- What a reader would expect of the definitions.
-use Rattle.std.specs.Prelude.{◌≡◌, ◌↔◌, ℕ, List, Contains, true, Some}
+use Rattle.std.specs.Prelude.{◌≡◌, ◌↔◌, ℕ, List, flat_map, Contains, true, Some, slice_get}
 use Rattle.std.specs.FinMap as finmap
 use Rattle.graphs.specs.Closures.{Closure, is_member, is_ancestor, rate_of}
+use Rattle.graphs.specs.Certificates.{Part}
+use Rattle.graphs.specs.Linearizations.{StandsBefore}
 use Rattle.graphs.specs.Merges.{Precedes}
 use Rattle.graphs.specs.declared.names.Level.{Level}
 use Rattle.chunk_index.specs.Items.{is_in}
@@ -36,3 +38,25 @@ pub record OrdersAreKept : Type 0 where
   pub one : (clusters : Numbered) (a b : List (ℕ × ℕ)) → IsOrdered clusters a → IsOrdered clusters b → a ≡ b
   pub kept : (old new : Store) → IsOrdered old.clusters old.order → IsOrdered new.clusters new.order → (x y : ℕ × ℕ)
       → Stays old.clusters new.clusters x.0 → Stays old.clusters new.clusters y.0 → Precedes old.order x y → Precedes new.order x y
+
+-- the names of a level, in the order of its parts
+abbrev pub names_in_order : Level → Store → List ℕ
+names_in_order level store = flat_map (λ part. part.ids) (parts_of_level level store)
+
+-- a part stands at a place, in the level
+abbrev pub StandsAt : Level → Numbered → ℕ × ℕ → Part → Type 0
+StandsAt level clusters place part = (c : Cluster) × Stands level clusters place.0 c × (slice_get c.parts place.1 ≡ Some part)
+
+-- Each part of a cluster of a level is among the level's, and its names stand there in their order. The names of one part stand before those
+-- of another where the part does.
+pub record PartsStandInOrder (level : Level) (store : Store) : Type 0 where
+  pub there : (place : ℕ × ℕ) (part : Part) → StandsAt level store.clusters place part → Contains store.order place
+  pub shown : (place : ℕ × ℕ) (part : Part) → StandsAt level store.clusters place part → Contains (parts_of_level level store) part
+  pub within : (place : ℕ × ℕ) (part : Part) (a b : ℕ) → StandsAt level store.clusters place part → StandsBefore part.ids a b
+      → StandsBefore (names_in_order level store) a b
+  pub before : (x y : ℕ × ℕ) (p q : Part) (a b : ℕ) → StandsAt level store.clusters x p → StandsAt level store.clusters y q → Precedes store.order x y
+      → Contains p.ids a → Contains q.ids b → StandsBefore (names_in_order level store) a b
+
+-- so it is in every store
+abbrev pub AllStandInOrder : Type 0
+AllStandInOrder = (level : Level) (store : Store) → IsOrdered store.clusters store.order → PartsStandInOrder level store

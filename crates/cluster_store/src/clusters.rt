@@ -2,13 +2,14 @@
 ghost use Rattle.std.specs.Prelude.{◌≡◌, ℕ, ◌+◌, ◌<◌, ◌≤◌, ◌++◌, [], None, Some, IsSome, IfOk, OnOk, OnErr, MatchOption, Contains, length, map, take};
 ghost use Rattle.lists.specs.Distinct.{AreDistinct};
 ghost use Rattle.slab.specs.Slab.{get, Updates, SameValues};
-ghost use Rattle.cluster_store.specs.Stores.{Stored as Kept};
+ghost use Rattle.chunk_index.specs.Keys.{key_of};
+ghost use Rattle.cluster_store.specs.Stores.{Stored as Kept, key_in, parts_in};
 ghost use Rattle.cluster_store.specs.Kept.{IsSameIndex, IsShown, IsWide};
 ghost use Rattle.cluster_store.specs.Slots.{AddsOne, AddsTo, AreOut, AreStored, ExchangesAll, IsBeside, KeepsElsewhere, MovesAll, MovesIn, Places};
 
-use crate::entries::{enter, leave, retag};
+use crate::entries::{enter, entry_of, leave, retag};
 use crate::stored::{Exchange, Move, Stored};
-use chunk_index::{ChunkIndex, Tag};
+use chunk_index::{ChunkIndex, Entry, Tag};
 use cluster::Cluster;
 use outside::NoMemory;
 use slab::Slab;
@@ -33,6 +34,17 @@ pub fn cluster_of<const W: usize>(slots: &Slab<Stored<W>>, number: usize) -> Opt
     match slots.get(number) {
         Some(stored) => Some(stored.cluster()),
         None => None,
+    }
+}
+
+/// The entry of a part, told by the number of its cluster and its position there.
+pub fn entry_at<const W: usize>(slots: &Slab<Stored<W>>, place: (usize, usize)) -> Entry
+    requires { place.1 < length (parts_in (get slots.now place.0)) }
+    ensures { key_of result ≡ key_in (get slots.now place.0) place }
+{
+    match slots.get(place.0) {
+        Some(stored) => entry_of(place.0, stored.cluster(), place.1),
+        None => unreachable!(),
     }
 }
 

@@ -10,8 +10,8 @@ use cluster::Cluster;
 use fee_rate::FeeRate;
 use outside::NoMemory;
 
-// The entry of the part at a position of a cluster.
-fn entry_of<const W: usize>(number: usize, cluster: &Cluster<W>, at: usize) -> Entry
+/// The entry of the part at a position of a cluster.
+pub fn entry_of<const W: usize>(number: usize, cluster: &Cluster<W>, at: usize) -> Entry
     requires { at < length cluster.now.parts }
     ensures { (part : Part) → slice_get cluster.now.parts at ≡ Some part → key_of result ≡ key_part number at part }
 {

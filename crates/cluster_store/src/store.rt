@@ -1,10 +1,12 @@
-ghost use Rattle.std.specs.Prelude.{◌≡◌, ◌≤◌, ◌*◌, ◌++◌, ℕ, None, Some, [], ◌∷◌, map, IsSome, IfOk, OnOk, OnErr, MatchOption};
+ghost use Rattle.std.specs.Prelude.{◌≡◌, ◌↔◌, ◌≤◌, ◌*◌, ◌++◌, ℕ, true, None, Some, [], ◌∷◌, map, Contains, IsSome, IfOk, OnOk, OnErr, MatchOption};
 ghost use Rattle.std.specs.FinMap as finmap;
+ghost use Rattle.graphs.specs.Merges.{Precedes};
 ghost use Rattle.cluster_store.specs.Stores.{Stored as Kept, IsStore, AreWhole, IsLeast, IsOrdered, shown_in, shown_only};
 ghost use Rattle.cluster_store.specs.Changes.{AreThere, EndsAt, MakesChange, Sets, lowest_in, moved_to, most_least, with_cluster};
 
 use crate::clusters::{
-    add, add_all, cluster_of, exchange, exchange_all, make_move, move_all, tag_of, take_all,
+    add, add_all, cluster_of, entry_at, exchange, exchange_all, make_move, move_all, tag_of,
+    take_all,
 };
 use crate::least::{lowest_added, lowest_exchanged, lowest_of};
 use crate::stored::{Exchange, Move, Stored};
@@ -99,6 +101,15 @@ impl<const W: usize> ClusterStore<W> {
         ensures order { IsOrdered self.now.clusters self.now.order }
     {
         PartWalk::new(&self.slots, self.index.walk_only(tag))
+    }
+
+    /// Whether walks show one part before another. A part is told by the number of its cluster and its position there.
+    pub fn comes_before(&self, a: (usize, usize), b: (usize, usize)) -> bool
+        requires a { Contains self.now.order a }
+        requires b { Contains self.now.order b }
+        ensures { (result ≡ true) ↔ Precedes self.now.order a b }
+    {
+        entry_at(&self.slots, a).is_before(&entry_at(&self.slots, b))
     }
 
     /// Makes a whole change: clusters take the place of others under their numbers, in the same levels; others are added

@@ -1,0 +1,27 @@
+-- The part of the lower key comes first.
+use Rattle.std.proofs.Common.{◌≡◌, ◌↔◌, ℕ, ◌≤◌, List, true, sym, ap, rules, subst, Contains}
+use Rattle.graphs.specs.Merges.{Precedes}
+use Rattle.cluster_store.specs.Stores.{Store}
+use Rattle.cluster_store.proofs.Before.{place_low, told_before}
+use Rattle.cluster_store.proofs.store.ClusterStore.comes_before.Goals as goal
+
+pub entry_at-requires : goal.entry_at-requires
+entry_at-requires g c =
+    let narrow : g.row.W ≤ 64 = c.self.invariant.narrow in
+    let low = place_low c.self.inside.slots.slots c.self.inside.index c.self.invariant.shown c.args.a c.args.b c.args.a
+    (subst (λ (s : Store). Contains s.order c.args.a) (sym c.self.view_is) c.requires.a) in
+    (search rules, low)
+
+pub entry_at-requires-2 : goal.entry_at-requires-2
+entry_at-requires-2 g c =
+    let narrow : g.row.W ≤ 64 = c.self.invariant.narrow in
+    let low = place_low c.self.inside.slots.slots c.self.inside.index c.self.invariant.shown c.args.a c.args.b c.args.b
+    (subst (λ (s : Store). Contains s.order c.args.b) (sym c.self.view_is) c.requires.b) in
+    (search rules, low)
+
+pub returns : goal.returns
+returns g c =
+    subst (λ (s : Store). (c.is_before.result ≡ true) ↔ Precedes s.order c.args.a c.args.b) c.self.view_is
+    (told_before c.self.inside.slots.slots c.self.inside.index c.self.invariant.shown c.args.a c.args.b _ _ c.entry_at.ensures c.entry_at-2.ensures
+    (subst (λ (s : Store). Contains s.order c.args.a) (sym c.self.view_is) c.requires.a)
+    (subst (λ (s : Store). Contains s.order c.args.b) (sym c.self.view_is) c.requires.b) c.is_before.result c.is_before.ensures)
