@@ -1,28 +1,33 @@
--- Which of two parts walks show first.
-use Rattle.std.proofs.Common.{◌≡◌, ◌↔◌, ℕ, ◌<◌, Bool, true, cond, List, ◌++◌, ◌∷◌, map, flat_map, length, Contains, Option, sym, ap, ap₂, ◌∙◌, subst, subst₂}
+-- Which of two parts walks show first, and where the parts and the names of a cluster stand among those of a level.
+use Rattle.std.proofs.Common.{◌≡◌, ◌↔◌, ◌⊎◌, ℕ, ◌+◌, ◌<◌, ◌≤◌, Bool, true, cond, List, ◌++◌, ◌∷◌, map, flat_map, length, get_or, Contains, Option, arith, inl, inr, sym, ap, ap₂, ◌∙◌, subst, subst₂}
 use Rattle.std.proofs.lemmas.List.{map-append, append_assoc}
-use Rattle.std.proofs.lemmas.List.Elements.{Contains-append_left, Contains-append_right, filter-append}
+use Rattle.std.proofs.lemmas.List.Elements.{Contains-append_cases, Contains-append_left, Contains-append_right, filter-append}
+use Rattle.std.proofs.lemmas.List.Folds.{flat_map-map}
 use Rattle.std.proofs.lemmas.Option.{get_or_from_slice_get, slice_get_within}
 use Rattle.std.proofs.lemmas.Simd.{map-map}
-use Rattle.std.proofs.lemmas.List.Concat.{flat_map-append, flat_map-cons}
 use Rattle.std.specs.declared.cmp.Ordering.TheVariants.{Less}
 use Rattle.std.specs.List.{filter, slice_index_or}
 use Rattle.std.specs.FinMap as finmap
-use Rattle.lists.proofs.Entries.{Contains-filter, Contains-map, Contains-splits}
+use Rattle.lists.proofs.Entries.{Contains-head, Contains-cases, Contains-filter, Contains-map, Contains-splits}
 use Rattle.graphs.specs.declared.names.Level.{Level}
 use Rattle.graphs.specs.Certificates.{Part}
 use Rattle.graphs.specs.Linearizations.{StandsBefore}
 use Rattle.graphs.specs.Merges.{Precedes}
+use Rattle.graphs.specs.Rates.{Falls}
+use Rattle.graphs.proofs.ClosureGraphs.{closures_have_graphs}
+use Rattle.graphs.proofs.MergeLemmas.{flat_stands, stands_within, stands_apart}
 use Rattle.chunk_index.specs.declared.key.Key.{Key}
 use Rattle.chunk_index.specs.Items.{Items, is_in}
 use Rattle.chunk_index.specs.KeyOrder.{key_cmp}
 use Rattle.chunk_index.specs.Keys.{IsInOrder}
-use Rattle.cluster.specs.Clusters.{Cluster}
-use Rattle.cluster_store.specs.Laws.{StandsAt, PartsStandInOrder}
-use Rattle.cluster_store.specs.Stores.{Stored, Store, Shown, IsOrdered, key_in, key_at, no_part, parts_in, part_at, parts_of_level, passes, places_by, places_in, shown_at}
+use Rattle.cluster.specs.Clusters.{Cluster, IsCluster}
+use Rattle.cluster.proofs.Placed.{beyond, closed}
+use Rattle.cluster_store.specs.Laws.{Stands, StandsAt, PartsStandInOrder, AllStandInOrder, names_in_order}
+use Rattle.cluster_store.specs.Stores.{Stored, Store, Shown, IsStore, key_in, key_at, no_part, parts_in, part_at, parts_of_level, passes, places_by, places_in, shown_at}
 use Rattle.cluster_store.specs.Kept.{Slots, at, shelved, place_of, IsShown}
-use Rattle.cluster_store.proofs.Levels.{in_part}
+use Rattle.cluster_store.proofs.Levels.{part_sizes, part_rates}
 use Rattle.cluster_store.proofs.Orders.{precedes_less, less_precedes}
+use Rattle.cluster_store.proofs.Rates.{places_from, places_in_order, places_listed, places_parts}
 use Rattle.cluster_store.proofs.Shelves.{get_shelved}
 use Rattle.cluster_store.proofs.Walks.{is_ordered}
 
@@ -57,78 +62,141 @@ precedes_filter {A} f xs x y x_kept y_kept before = (
 precedes_map : {A B : Type 0} (f : A → B) (xs : List A) (x y : A) → Precedes xs x y → Precedes (map f xs) (f x) (f y)
 precedes_map f xs x y before = (map f before.0, map f before.1, ap (map f) before.2 ∙ map-append f before.0 (y ∷ before.1), Contains-map f before.0 x before.3)
 
--- names of some parts, of a part and of others behind it
-joined : (front rest : List Part) (q : Part) (f r : List ℕ) (b : ℕ) → q.ids ≡ f ++ b ∷ r
-    → flat_map (λ part. part.ids) (front ++ q ∷ rest) ≡ (flat_map (λ part. part.ids) front ++ f) ++ b ∷ (r ++ flat_map (λ part. part.ids) rest)
-joined front rest q f r b cut =
-    flat_map-append (λ (part : Part). part.ids) front (q ∷ rest)
-    ∙ ap (λ (xs : List ℕ). flat_map (λ (part : Part). part.ids) front ++ xs)
-    (flat_map-cons (λ (part : Part). part.ids) q rest ∙ ap (λ (xs : List ℕ). xs ++ flat_map (λ (part : Part). part.ids) rest) cut
-    ∙ append_assoc f (b ∷ r) (flat_map (λ (part : Part). part.ids) rest))
-    ∙ sym (append_assoc (flat_map (λ (part : Part). part.ids) front) f (b ∷ (r ++ flat_map (λ (part : Part). part.ids) rest)))
+-- of two entries one stands before the other, or they are the same
+pub either_way : {A : Type 0} (xs : List A) (x y : A) → Contains xs x → Contains xs y → (x ≡ y) ⊎ (Precedes xs x y ⊎ Precedes xs y x)
+either_way xs x y x_in y_in =
+    let cut = Contains-splits xs x x_in in
+    elim (Contains-append_cases cut.0 (x ∷ cut.1) y (subst (λ zs. Contains zs y) cut.2 y_in)) [
+      | inl first ↦ inr (inr (cut.0, cut.1, cut.2, first))
+      | inr later ↦ elim (Contains-cases x y cut.1 later) [
+        | inl same ↦ inl same
+        | inr behind ↦
+            let rest = Contains-splits cut.1 y behind in
+            inr (inl (
+              cut.0 ++ x ∷ rest.0,
+              rest.1,
+              cut.2 ∙ ap (λ zs. cut.0 ++ x ∷ zs) rest.2 ∙ sym (append_assoc cut.0 (x ∷ rest.0) (y ∷ rest.1)),
+              Contains-append_right cut.0 (x ∷ rest.0) x (Contains-head x rest.0),
+            ))
+      ]
+    ]
 
-names_before : (parts : List Part) (p q : Part) (a b : ℕ) → Precedes parts p q → Contains p.ids a → Contains q.ids b → StandsBefore (flat_map (λ part. part.ids) parts) a b
-names_before parts p q a b before a_in b_in =
-    let cut = Contains-splits q.ids b b_in in (
-      flat_map (λ (part : Part). part.ids) before.0 ++ cut.0,
-      cut.1 ++ flat_map (λ (part : Part). part.ids) before.1,
-      ap (flat_map (λ (part : Part). part.ids)) before.2 ∙ joined before.0 before.1 q cut.0 cut.1 b cut.2,
-      Contains-append_left (flat_map (λ (part : Part). part.ids) before.0) cut.0 a (in_part before.0 p a before.3 a_in),
-    )
-
-names_within : (parts : List Part) (p : Part) (a b : ℕ) → Contains parts p → StandsBefore p.ids a b → StandsBefore (flat_map (λ part. part.ids) parts) a b
-names_within parts p a b here before =
-    let cut = Contains-splits parts p here in (
-      flat_map (λ (part : Part). part.ids) cut.0 ++ before.0,
-      before.1 ++ flat_map (λ (part : Part). part.ids) cut.1,
-      ap (flat_map (λ (part : Part). part.ids)) cut.2 ∙ joined cut.0 cut.1 p before.0 before.1 b before.2,
-      Contains-append_right (flat_map (λ (part : Part). part.ids) cut.0) before.0 a before.3,
-    )
-
-module _ (level : Level) (store : Store) (ordered : IsOrdered store.clusters store.order) where
+module _ (most : ℕ) (level : Level) (store : Store) (is : IsStore most store) where
   kept : (place : ℕ × ℕ) → Bool
   kept place = passes (is_in level) (finmap.get store.clusters place.0)
+
+  -- the names of a place's part
+  abbrev names_at : ℕ × ℕ → List ℕ
+  names_at place = (part_at store.clusters place).ids
 
   -- a level's parts, by their places
   by_places : map (part_at store.clusters) (places_in level store) ≡ parts_of_level level store
   by_places = sym (map-map (λ (s : Shown). s.part) (shown_at store.clusters) (places_in level store))
 
-  module _ (place : ℕ × ℕ) (p : Part) (stands : StandsAt level store.clusters place p) where
-    of_cluster : parts_in (finmap.get store.clusters place.0) ≡ stands.0.parts
-    of_cluster = ap parts_in stands.1.1 ∙ ap (λ (c : Cluster). c.parts) stands.1.2
+  names_by_places : flat_map names_at (places_in level store) ≡ names_in_order level store
+  names_by_places = sym (flat_map-map (λ (part : Part). part.ids) (part_at store.clusters) (places_in level store)) ∙ ap (flat_map (λ (part : Part). part.ids)) by_places
 
-    part_is : part_at store.clusters place ≡ p
-    part_is = ap (λ (ps : List Part). slice_index_or ps place.1 no_part) of_cluster ∙ get_or_from_slice_get stands.0.parts place.1 p no_part stands.2
+  -- a place that has a part, in the level
+  kept_there : (place : ℕ × ℕ) → kept place ≡ true → place.1 < length (parts_in (finmap.get store.clusters place.0)) → Contains (places_in level store) place
+  unfolding kept places_by
+  kept_there place keeps low = Contains-filter kept store.order place keeps ((is.ordered.exact place).1 low)
 
-    passes_test : kept place ≡ true
+  kept_before : (x y : ℕ × ℕ) → kept x ≡ true → kept y ≡ true → Precedes store.order x y → Precedes (places_in level store) x y
+  unfolding kept places_by
+  kept_before x y x_kept y_kept before = precedes_filter kept store.order x y x_kept y_kept before
+
+  module _ (n : ℕ) (c : Cluster) (stands : Stands level store.clusters n c) where
+    of_cluster : parts_in (finmap.get store.clusters n) ≡ c.parts
+    of_cluster = ap parts_in stands.1 ∙ ap (λ (c : Cluster). c.parts) stands.2
+
+    passes_test : passes (is_in level) (finmap.get store.clusters n) ≡ true
+    passes_test = ap (passes (is_in level)) stands.1 ∙ stands.3
+
+    whole : IsCluster most c
+    whole = subst (IsCluster most) stands.2 (is.whole n stands.0 stands.1)
+
+    -- the places of its parts
+    own : List (ℕ × ℕ)
+    own = places_from n 0 (parts_in (finmap.get store.clusters n))
+
+    follows : (j : ℕ) → j < length (parts_in (finmap.get store.clusters n)) → part_at store.clusters (n, 0 + j) ≡ get_or (parts_in (finmap.get store.clusters n)) j no_part
+    follows j low = let same : 0 + j ≡ j = omega arith in ap (λ k. get_or (parts_in (finmap.get store.clusters n)) k no_part) same
+
+    own_sorted : IsInOrder (key_at store.clusters) own
+    unfolding own
+    own_sorted =
+        let graph = closures_have_graphs (beyond c.names) c.graph (closed most c whole) in
+        places_in_order store.clusters n 0 (parts_in (finmap.get store.clusters n)) follows
+        (subst (λ (ps : List Part). Falls (map (λ (part : Part). part.rate) ps)) (sym of_cluster) (part_rates most c whole graph.0 graph.2))
+        (λ p here. part_sizes most c whole graph.0 graph.2 p (subst (λ (ps : List Part). Contains ps p) of_cluster here))
+
+    own_low : (x : ℕ × ℕ) → Contains own x → (x.0 ≡ n) × (x.1 < length (parts_in (finmap.get store.clusters x.0)))
+    unfolding own
+    own_low x here =
+        let at = places_listed n 0 (parts_in (finmap.get store.clusters n)) x here in
+        (at.0, subst (λ m. x.1 < length (parts_in (finmap.get store.clusters m))) (sym at.0) (let low : x.1 < length (parts_in (finmap.get store.clusters n)) = omega (arith, at.2) in low))
+
+    own_kept : (x : ℕ × ℕ) → Contains own x → kept x ≡ true
     unfolding kept
-    passes_test = ap (passes (is_in level)) stands.1.1 ∙ stands.1.3
+    own_kept x here = ap (λ m. passes (is_in level) (finmap.get store.clusters m)) (own_low x here).0 ∙ passes_test
 
-    place_there : Contains store.order place
-    place_there =
-        (ordered.exact place).1 (subst (λ (ps : List Part). place.1 < length ps) (sym of_cluster) (slice_get_within stands.0.parts place.1 p stands.2))
+    own_names : flat_map names_at own ≡ flat_map (λ part. part.ids) c.parts
+    unfolding own
+    own_names =
+        sym (flat_map-map (λ (part : Part). part.ids) (part_at store.clusters) own)
+        ∙ ap (flat_map (λ (part : Part). part.ids)) (places_parts store.clusters n 0 (parts_in (finmap.get store.clusters n)) follows ∙ of_cluster)
+
+    -- the parts of one cluster stand in the store's order
+    own_before : (x y : ℕ × ℕ) → Precedes own x y → Precedes store.order x y
+    own_before x y before =
+        let x_in : Contains own x = subst (λ zs. Contains zs x) (sym before.2) (Contains-append_left before.0 (y ∷ before.1) x before.3) in
+        let y_in : Contains own y = subst (λ zs. Contains zs y) (sym before.2) (Contains-append_right before.0 (y ∷ before.1) y (Contains-head y before.1)) in
+        less_precedes (key_at store.clusters) store.order x y is.ordered.sorted ((is.ordered.exact x).1 (own_low x x_in).1) ((is.ordered.exact y).1 (own_low y y_in).1)
+        (precedes_less (key_at store.clusters) before.0 before.1 x y (subst (IsInOrder (key_at store.clusters)) before.2 own_sorted) before.3)
+
+    names_inside : (a b : ℕ) → StandsBefore (flat_map (λ part. part.ids) c.parts) a b → StandsBefore (names_in_order level store) a b
+    names_inside a b before =
+        subst (λ ids. StandsBefore ids a b) names_by_places
+        (elim (flat_stands names_at own a b (subst (λ ids. StandsBefore ids a b) (sym own_names) before)) [
+          | inl one ↦ stands_within names_at (places_in level store) one.0 a b (kept_there one.0 (own_kept one.0 one.1) (own_low one.0 one.1).1) one.2
+          | inr two ↦
+              let x_in : Contains own two.0 = subst (λ zs. Contains zs two.0) (sym two.2.2) (Contains-append_left two.2.0 (two.1 ∷ two.2.1) two.0 two.2.3) in
+              let y_in : Contains own two.1 = subst (λ zs. Contains zs two.1) (sym two.2.2) (Contains-append_right two.2.0 (two.1 ∷ two.2.1) two.1 (Contains-head two.1 two.2.1)) in
+              stands_apart names_at (places_in level store) two.0 two.1 a b (kept_before two.0 two.1 (own_kept two.0 x_in) (own_kept two.1 y_in) (own_before two.0 two.1 two.2)) two.3 two.4
+        ])
+
+  module _ (place : ℕ × ℕ) (p : Part) (stands : StandsAt level store.clusters place p) where
+    part_is : part_at store.clusters place ≡ p
+    part_is =
+        ap (λ (ps : List Part). slice_index_or ps place.1 no_part) (of_cluster place.0 stands.0 stands.1) ∙ get_or_from_slice_get stands.0.parts place.1 p no_part stands.2
+
+    part_low : place.1 < length (parts_in (finmap.get store.clusters place.0))
+    part_low = subst (λ (ps : List Part). place.1 < length ps) (sym (of_cluster place.0 stands.0 stands.1)) (slice_get_within stands.0.parts place.1 p stands.2)
+
+    part_kept : kept place ≡ true
+    unfolding kept
+    part_kept = passes_test place.0 stands.0 stands.1
 
     part_shown : Contains (parts_of_level level store) p
-    unfolding kept places_by
     part_shown =
         subst (λ (ps : List Part). Contains ps p) by_places
         (subst (Contains (map (part_at store.clusters) (places_in level store))) part_is
-        (Contains-map (part_at store.clusters) (places_in level store) place (Contains-filter kept store.order place passes_test place_there)))
+        (Contains-map (part_at store.clusters) (places_in level store) place (kept_there place part_kept part_low)))
 
-  parts_before : (x y : ℕ × ℕ) (p q : Part) → StandsAt level store.clusters x p → StandsAt level store.clusters y q → Precedes store.order x y
-      → Precedes (parts_of_level level store) p q
-  unfolding kept places_by
-  parts_before x y p q first second before =
-      subst (λ (ps : List Part). Precedes ps p q) by_places
-      (subst₂ (Precedes (map (part_at store.clusters) (places_in level store))) (part_is x p first) (part_is y q second)
-      (precedes_map (part_at store.clusters) (places_in level store) x y
-      (precedes_filter kept store.order x y (passes_test x p first) (passes_test y q second) before)))
+  parts_before : (x y : ℕ × ℕ) (p q : Part) (a b : ℕ) → StandsAt level store.clusters x p → StandsAt level store.clusters y q → Precedes store.order x y
+      → Contains p.ids a → Contains q.ids b → StandsBefore (names_in_order level store) a b
+  parts_before x y p q a b first second before a_in b_in =
+      subst (λ ids. StandsBefore ids a b) names_by_places
+      (stands_apart names_at (places_in level store) x y a b (kept_before x y (part_kept x p first) (part_kept y q second) before)
+      (subst (λ (r : Part). Contains r.ids a) (sym (part_is x p first)) a_in) (subst (λ (r : Part). Contains r.ids b) (sym (part_is y q second)) b_in))
 
-  pub parts_stand_in_order : PartsStandInOrder level store
-  parts_stand_in_order = record {
-    there = place_there;
+  pub in_order : PartsStandInOrder level store
+  in_order = record {
+    there = λ place part stands. (is.ordered.exact place).1 (part_low place part stands);
     shown = part_shown;
-    within = λ place part a b stands before. names_within (parts_of_level level store) part a b (part_shown place part stands) before;
-    before = λ x y p q a b first second before a_in b_in.
-        names_before (parts_of_level level store) p q a b (parts_before x y p q first second before) a_in b_in;
+    inside = names_inside;
+    before = parts_before;
   }
+
+pub parts_stand_in_order : AllStandInOrder
+parts_stand_in_order most level store is = in_order most level store is

@@ -78,7 +78,7 @@ module _ (clusters : Numbered) where
 
 -- ---- one cluster
 
-pub in_part : (parts : List Part) (p : Part) (id : ℕ) → Contains parts p → Contains p.ids id → Contains (flat_map (λ part. part.ids) parts) id
+in_part : (parts : List Part) (p : Part) (id : ℕ) → Contains parts p → Contains p.ids id → Contains (flat_map (λ part. part.ids) parts) id
 in_part [] p id here listed = absurd (none_in_empty p here)
 in_part (q ∷ parts) p id here listed = elim (Contains-cases q p parts here) [
   | inl same ↦

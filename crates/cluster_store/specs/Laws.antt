@@ -8,7 +8,7 @@ use Rattle.graphs.specs.Merges.{Precedes}
 use Rattle.graphs.specs.declared.names.Level.{Level}
 use Rattle.chunk_index.specs.Items.{is_in}
 use Rattle.cluster.specs.Clusters.{Cluster, IsCluster, ArePicked}
-use Rattle.cluster_store.specs.Stores.{Stored, Numbered, Store, IsOrdered, parts_of_level}
+use Rattle.cluster_store.specs.Stores.{Stored, Numbered, Store, IsOrdered, IsStore, parts_of_level}
 
 -- the cluster stands under the number, in the level
 abbrev pub Stands : Level → Numbered → ℕ → Cluster → Type 0
@@ -47,16 +47,16 @@ names_in_order level store = flat_map (λ part. part.ids) (parts_of_level level 
 abbrev pub StandsAt : Level → Numbered → ℕ × ℕ → Part → Type 0
 StandsAt level clusters place part = (c : Cluster) × Stands level clusters place.0 c × (slice_get c.parts place.1 ≡ Some part)
 
--- Each part of a cluster of a level is among the level's, and its names stand there in their order. The names of one part stand before those
--- of another where the part does.
+-- Each part of a cluster of a level is among the level's. The names of a cluster stand there in its order, and the names of one part stand
+-- before those of another where the part does.
 pub record PartsStandInOrder (level : Level) (store : Store) : Type 0 where
   pub there : (place : ℕ × ℕ) (part : Part) → StandsAt level store.clusters place part → Contains store.order place
   pub shown : (place : ℕ × ℕ) (part : Part) → StandsAt level store.clusters place part → Contains (parts_of_level level store) part
-  pub within : (place : ℕ × ℕ) (part : Part) (a b : ℕ) → StandsAt level store.clusters place part → StandsBefore part.ids a b
+  pub inside : (n : ℕ) (c : Cluster) → Stands level store.clusters n c → (a b : ℕ) → StandsBefore (flat_map (λ part. part.ids) c.parts) a b
       → StandsBefore (names_in_order level store) a b
   pub before : (x y : ℕ × ℕ) (p q : Part) (a b : ℕ) → StandsAt level store.clusters x p → StandsAt level store.clusters y q → Precedes store.order x y
       → Contains p.ids a → Contains q.ids b → StandsBefore (names_in_order level store) a b
 
 -- so it is in every store
 abbrev pub AllStandInOrder : Type 0
-AllStandInOrder = (level : Level) (store : Store) → IsOrdered store.clusters store.order → PartsStandInOrder level store
+AllStandInOrder = (most : ℕ) (level : Level) (store : Store) → IsStore most store → PartsStandInOrder level store

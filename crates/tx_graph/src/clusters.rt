@@ -4,24 +4,32 @@ ghost use Rattle.std.specs.List.Sorted.{IsPermutation};
 ghost use Rattle.std.specs.FinMap as finmap;
 ghost use Rattle.fee_rate.specs.Limits.{IsFee, IsRate};
 ghost use Rattle.graphs.specs.Closures.{is_member, is_ancestor, rate_of, AddsPair, SetsFee, DropsPlace, AreLinked};
-ghost use Rattle.graphs.specs.Graphs.{Lists};
+ghost use Rattle.graphs.specs.Certificates.{Part};
+ghost use Rattle.graphs.specs.Closing.{IsClosureOf};
+ghost use Rattle.graphs.specs.Graphs.{Graph, Lists};
+ghost use Rattle.graphs.specs.Linearizations.{StandsBefore, IsOptimal};
+ghost use Rattle.graphs.specs.declared.names.Level.TheVariants.{Main};
+ghost use Rattle.graph_model.specs.Answers.{StandsTo, order_of};
 ghost use Rattle.staging.specs.Maps.{Maps};
 ghost use Rattle.chunk_index.specs.declared.entry.Tag.TheVariants.{Both};
-ghost use Rattle.cluster.specs.Clusters.{IsCluster, ArePicked, AreApart};
+ghost use Rattle.cluster.specs.Clusters.{IsCluster, ArePicked, AreApart, sum_at};
 ghost use Rattle.cluster.specs.Clusters as records;
 ghost use Rattle.cluster.specs.Changes.{AreComponents};
 ghost use Rattle.cluster.specs.Steps.{GrowsWithin, most_steps, most_steps_of};
+ghost use Rattle.cluster_store.specs.Laws.{StandsAt};
+ghost use Rattle.cluster_store.specs.Lent.{lent};
 ghost use Rattle.cluster_store.specs.Stores.{Numbered};
 ghost use Rattle.cluster_store.specs.Stores as stores;
 ghost use Rattle.tx_graph.specs.Kept.{AddsName};
 ghost use Rattle.tx_graph.specs.Shelves.{no_clusters, graph_of, parts_of, cluster_at, IsClusterOf};
 ghost use Rattle.tx_graph.specs.Joins.{DepRefusalIs, SumRefusalIs};
+ghost use Rattle.tx_graph.specs.Readings.{HasPart, ListsCovers};
 ghost use Rattle.tx_graph.specs.Moves.{AreAt, AreFarApartIn, ComeTogether, HoldsAll, IsLink, IsWithin, Points, PointsAll, Replaces};
 
 use chunk_index::Tag;
-use cluster::{Cluster, Work};
-use cluster_store::{ClusterStore, Exchange, Stored};
-use graph_model::{Level, Limits, Refusal, TxId};
+use cluster::{Cluster, Covers, PartRef, Work};
+use cluster_store::{ClusterStore, Exchange, PartWalk, Stored};
+use graph_model::{Level, Limits, Place, Refusal, TxId};
 use outside::NoMemory;
 use staging::Overlay;
 use std::alloc::Global;
@@ -107,6 +115,68 @@ impl<const W: usize> Clusters<W> {
             Some(number) => Some(at(store, number)),
             None => None,
         }
+    }
+
+    /// The parts of all clusters, in their order, which is an optimal one of every graph that is stood for.
+    pub fn parts(&self) -> PartWalk<'_, Stored<W>>
+        ensures parts { map (λ s. s.part) result ≡ parts_of self.now }
+        ensures optimal { (graph : Graph) → IsClosureOf (graph_of self.now) graph
+            → IsOptimal (sum_at (graph_of self.now)) graph (map (λ part. part.ids) (parts_of self.now)) }
+    {
+        let _numbers = &self.numbers;
+        let _count = self.count;
+        self.store.walk(Level::Main)
+    }
+
+    /// Where the part stands that has a name: the number of its cluster, and its position there. `None` where the name
+    /// isn't live.
+    pub fn place_of(&self, id: TxId) -> Option<(usize, usize)>
+        ensures { MatchOption result (is_member (graph_of self.now) id ≡ false)
+            (λ place. (is_member (graph_of self.now) id ≡ true) × HasPart self.now place id) }
+    {
+        let _count = self.count;
+        let store = &self.store;
+        match number_of(&self.numbers, id) {
+            Some(number) => Some((number, at(store, number).part_of(id))),
+            None => None,
+        }
+    }
+
+    /// The part at a place that has one.
+    pub fn part(&self, place: (usize, usize)) -> PartRef<'_>
+        requires { (part : Part) × StandsAt Main self.now.store.clusters place part }
+        ensures stands { StandsAt Main self.now.store.clusters place (lent result) }
+        ensures shown { Contains (parts_of self.now) (lent result) }
+    {
+        let _count = self.count;
+        let _numbers = &self.numbers;
+        at(&self.store, place.0).part(place.1)
+    }
+
+    /// Where one name stands to another in the order, by the places of the parts that have them.
+    pub fn compare(&self, first: (usize, usize), a: TxId, second: (usize, usize), b: TxId) -> Place
+        requires a { HasPart self.now first a }
+        requires b { HasPart self.now second b }
+        ensures { StandsTo (order_of (parts_of self.now)) a b result }
+    {
+        if a == b {
+            return Place::Same;
+        }
+        let is_first = if first == second {
+            comes_first(self.part(first).ids, a, b)
+        } else {
+            self.store.comes_before(first, second)
+        };
+        if is_first { Place::Before } else { Place::After }
+    }
+
+    /// The parents of a live name with nothing between, as they stand in the order.
+    pub fn covers(&self, id: TxId) -> Covers<'_, W>
+        requires { is_member (graph_of self.now) id ≡ true }
+        ensures { ListsCovers (graph_of self.now) (order_of (parts_of self.now)) id result }
+    {
+        let _count = self.count;
+        at(&self.store, live_number(&self.numbers, id)).covers(id)
     }
 
     /// Makes a cluster of a name that isn't live, with its fee in satoshis and its size in virtual bytes. Without
@@ -293,6 +363,25 @@ impl<const W: usize> Clusters<W> {
         self.count -= 1;
         Ok(())
     }
+}
+
+// Whether of two names of a part the one stands before the other.
+fn comes_first(ids: &[TxId], a: TxId, b: TxId) -> bool
+    requires a { Contains ids.now a }
+    requires b { Contains ids.now b }
+    requires apart { a ≢ b }
+    ensures before { result ≡ true → StandsBefore ids.now a b }
+    ensures after { result ≡ false → StandsBefore ids.now b a }
+{
+    for at in 0..ids.len() {
+        if ids[at] == a {
+            return true;
+        }
+        if ids[at] == b {
+            return false;
+        }
+    }
+    unreachable!()
 }
 
 // The number of a name's cluster.

@@ -1,24 +1,30 @@
-ghost use Rattle.std.specs.Prelude.{◌≡◌, ◌≢◌, ℕ, ◌+◌, ◌-◌, ◌*◌, ◌^◌, ◌<◌, ◌≤◌, ◌⊎◌, ◌↔◌, true, None, Some, List, [], ◌∷◌, length, option_map, is_ok, if◌then◌else◌, IsTrue, IfOk, IfErr, OnErr, Contains};
+ghost use Rattle.std.specs.Prelude.{◌≡◌, ◌≢◌, ℕ, ◌+◌, ◌-◌, ◌*◌, ◌^◌, ◌<◌, ◌≤◌, ◌⊎◌, ◌↔◌, true, None, Some, List, [], ◌∷◌, length, reverse, option_map, is_ok, if◌then◌else◌, IsTrue, IfOk, IfErr, OnErr, Contains};
 ghost use Rattle.std.specs.FinMap as finmap;
-ghost use Rattle.graphs.specs.Closures.{is_ancestor, rate_of, AreLinked};
+ghost use Rattle.graphs.specs.Closures.{is_member, is_ancestor, rate_of, AreLinked};
 ghost use Rattle.graphs.specs.Graphs.{Lists};
 ghost use Rattle.graph_model.specs.Limits.{AreInRange};
 ghost use Rattle.graph_model.specs.declared.limits.TheConstants.{MAX_COUNT};
 ghost use Rattle.graph_model.specs.declared.names.Refusal.TheVariants.{Memory};
 ghost use Rattle.graph_model.specs.States.{State, level_of};
-ghost use Rattle.graph_model.specs.Commands.{SetLimits, Add, Dep, SetFee, Remove, Cluster, Ancestors, Descendants, Count};
+ghost use Rattle.graph_model.specs.Answers.{order_of};
+ghost use Rattle.graph_model.specs.Commands as commands;
+ghost use Rattle.graph_model.specs.Commands.{SetLimits, Add, Dep, SetFee, Remove, Cluster, Ancestors, Descendants, Chunk, Before, Proof, Count};
 ghost use Rattle.graph_model.specs.Refusals.{RefusalIs};
-ghost use Rattle.graph_model.specs.Replies.{Number, change_reply, names_reply};
+ghost use Rattle.graph_model.specs.Replies.{Number, Parts, Proves, change_reply, names_reply};
+ghost use Rattle.graph_model.specs.Texts.{Text};
 ghost use Rattle.cluster.specs.Clusters as records;
 ghost use Rattle.cluster.specs.Changes.{AreComponents};
 ghost use Rattle.cluster.specs.Steps.{GrowsWithin, most_steps, most_steps_of};
 ghost use Rattle.tx_graph.specs.Kept.{Kept, StandsFor, MakesStep, start_within};
 ghost use Rattle.tx_graph.specs.Shelves.{graph_of, IsClusterOf};
 ghost use Rattle.tx_graph.specs.Joins.{AddRefusalIs};
+ghost use Rattle.tx_graph.specs.Readings.{IsBestOrder, IsTextOf, ListsCovers, part_reply, place_reply};
 
 use crate::clusters::Clusters;
+use crate::order::{Order, OrderBack};
+use cluster::{Covers, PartRef};
 use fee_rate::FeeRate;
-use graph_model::{IdBuf, Level, Limits, Refusal, TxId, is_fee, is_size};
+use graph_model::{IdBuf, Level, Limits, Place, Refusal, TxId, is_fee, is_size};
 use outside::NoMemory;
 use std::alloc::Global;
 use std::marker::Model;
@@ -303,6 +309,67 @@ impl<const W: usize> TxGraph<W> {
         Ok(())
     }
 
+    /// The parts of a level in its order, each with its names and the flows that certify it. Takes no memory.
+    ///
+    /// They are the pick of every state that the graph stands for, an optimal order of the whole level. A text of it that
+    /// lists its covering pairs proves so.
+    pub fn order(&self, level: Level) -> Order<'_, W>
+        ensures parts { result ≡ self.now.parts }
+        ensures step { MakesStep self.now self.now (commands.Order level) (Parts result) }
+        ensures best { (state : State) → StandsFor self.now state → IsBestOrder state level result }
+        ensures proof { (text : Text) → IsTextOf self.now text → MakesStep self.now self.now (Proof level) (Proves text) }
+    {
+        // There is no staging, so both words speak of main.
+        let _ = level;
+        Order::new(self.clusters.parts())
+    }
+
+    /// The same parts from the last to the first. Takes no memory.
+    pub fn order_back(&self, level: Level) -> OrderBack<'_, W>
+        ensures { result ≡ reverse self.now.parts }
+    {
+        // There is no staging, so both words speak of main.
+        let _ = level;
+        OrderBack::new(self.clusters.parts())
+    }
+
+    /// The part of main that has a name. Takes no memory.
+    ///
+    /// Refused with `Unknown` exactly where the name isn't in main.
+    pub fn chunk(&self, id: TxId) -> Result<PartRef<'_>, Refusal>
+        ensures step { MakesStep self.now self.now (Chunk id) (part_reply result) }
+    {
+        match self.clusters.place_of(id) {
+            Some(place) => Ok(self.clusters.part(place)),
+            None => Err(Refusal::Unknown(id)),
+        }
+    }
+
+    /// Where one name stands to another in main's order: `Same` exactly where they are the same. Takes no memory.
+    ///
+    /// Refused with `Unknown` and the first of the two that isn't in main.
+    pub fn before(&self, a: TxId, b: TxId) -> Result<Place, Refusal>
+        ensures step { MakesStep self.now self.now (Before a b) (place_reply result) }
+    {
+        let Some(first) = self.clusters.place_of(a) else {
+            return Err(Refusal::Unknown(a));
+        };
+        let Some(second) = self.clusters.place_of(b) else {
+            return Err(Refusal::Unknown(b));
+        };
+        Ok(self.clusters.compare(first, a, second, b))
+    }
+
+    /// The parents of a name of a level with nothing between, as they stand in its order. Takes no memory.
+    pub fn covers(&self, level: Level, id: TxId) -> Covers<'_, W>
+        requires { is_member self.now.graph id ≡ true }
+        ensures { ListsCovers self.now.graph (order_of self.now.parts) id result }
+    {
+        // There is no staging, so both words speak of main.
+        let _ = level;
+        self.clusters.covers(id)
+    }
+
     /// How many names a level has.
     pub fn count(&self, level: Level) -> usize
         ensures { MakesStep self.now self.now (Count level) (Number result) }
@@ -320,6 +387,17 @@ impl<const W: usize> TxGraph<W> {
         // There is no staging, so both words speak of main.
         let _ = level;
         self.clusters.is_live(id)
+    }
+
+    /// The fee of a live name, in satoshis, and its size, in virtual bytes.
+    pub fn rate(&self, id: TxId) -> FeeRate
+        requires { is_member self.now.graph id ≡ true }
+        ensures { result ≡ rate_of self.now.graph id }
+    {
+        match self.clusters.find(id) {
+            Some(cluster) => cluster.rate(id),
+            None => unreachable!(),
+        }
     }
 
     /// The fee of a live name, in satoshis, and its size, in virtual bytes; `None` where the name isn't live.

@@ -6,8 +6,11 @@
 
 mod clusters;
 mod graph;
+mod order;
 
+pub use cluster::{Covers, PartRef};
 pub use graph::TxGraph;
+pub use order::{Order, OrderBack};
 
 #[cfg(test)]
 mod tests;
