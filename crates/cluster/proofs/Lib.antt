@@ -25,5 +25,5 @@ mod Splits
 mod Bounds
 mod Chosen
 mod Parting
-mod Placed
+pub mod Placed
 mod Nearest

@@ -21,4 +21,4 @@ pub mod Rates
 pub mod Levels
 pub mod Once
 pub mod Unions
-mod Before
+pub mod Before

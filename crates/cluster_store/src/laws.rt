@@ -12,7 +12,7 @@ pub fn orders_are_kept()
     ensures { OrdersAreKept }
 {}
 
-/// The parts of a level's clusters are the level's, and stand there in the order of the store.
+/// The parts of a level's clusters are the level's, and their names stand there in the order of the cluster.
 pub fn parts_stand_in_order()
     ensures { AllStandInOrder }
 {}

@@ -1,4 +1,4 @@
-ghost use Rattle.std.specs.Prelude.{◌≡◌, ◌↔◌, ◌≤◌, ◌*◌, ◌++◌, ℕ, true, None, Some, [], ◌∷◌, map, Contains, IsSome, IfOk, OnOk, OnErr, MatchOption};
+ghost use Rattle.std.specs.Prelude.{◌≡◌, ◌≢◌, ◌↔◌, ◌≤◌, ◌*◌, ◌++◌, ℕ, false, true, None, Some, [], ◌∷◌, map, Contains, IsSome, IfOk, OnOk, OnErr, MatchOption};
 ghost use Rattle.std.specs.FinMap as finmap;
 ghost use Rattle.graphs.specs.Merges.{Precedes};
 ghost use Rattle.cluster_store.specs.Stores.{Stored as Kept, IsStore, AreWhole, IsLeast, IsOrdered, shown_in, shown_only};
@@ -107,7 +107,8 @@ impl<const W: usize> ClusterStore<W> {
     pub fn comes_before(&self, a: (usize, usize), b: (usize, usize)) -> bool
         requires a { Contains self.now.order a }
         requires b { Contains self.now.order b }
-        ensures { (result ≡ true) ↔ Precedes self.now.order a b }
+        ensures before { (result ≡ true) ↔ Precedes self.now.order a b }
+        ensures behind { a ≢ b → result ≡ false → Precedes self.now.order b a }
     {
         entry_at(&self.slots, a).is_before(&entry_at(&self.slots, b))
     }

@@ -24,3 +24,4 @@ mod Linked
 mod Together
 mod Absent
 mod Ways
+mod Telling

@@ -39,7 +39,7 @@ sum-of : (kept : Kept) (state : PlainState) (id : ℕ) → StandsPlainly kept st
 unfolding rate_of
 sum-of kept state id stands = ap sum_in (stands.table id) ∙ sum_entry (finmap.get kept.graph id)
 
-sums-of : (kept : Kept) (state : PlainState) → StandsPlainly kept state → sum_at kept.graph ≡ states.rate_of state.table
+pub sums-of : (kept : Kept) (state : PlainState) → StandsPlainly kept state → sum_at kept.graph ≡ states.rate_of state.table
 sums-of kept state stands = λ i id. sym (sum-of kept state id stands) i
 
 -- ---- which levels are the same
@@ -81,7 +81,7 @@ module _ (old new : Kept) (before after : PlainState) (stood : StandsPlainly old
 abbrev pub KeepsCommand : Command → Type 0
 KeepsCommand command = (a b : State) → KeepsPicks a b → PicksFollow a command b
 
-picks_follow : (old new : Kept) (state : State) (next : PlainState) → StandsPlainly old state.plain → StandsPlainly new next
+pub picks_follow : (old new : Kept) (state : State) (next : PlainState) → StandsPlainly old state.plain → StandsPlainly new next
     → state.picks ≡ picks_of old.parts → KeepsParts old new → KeepsPicks state (record { plain = next; picks = picks_of new.parts })
 picks_follow old new state next stood stands picks keeps = record {
   picks = record {
