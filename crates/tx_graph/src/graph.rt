@@ -21,7 +21,7 @@ ghost use Rattle.tx_graph.specs.Joins.{AddRefusalIs};
 ghost use Rattle.tx_graph.specs.Readings.{IsBestOrder, IsTextOf, ListsCovers, part_reply, place_reply};
 
 use crate::clusters::Clusters;
-use crate::order::{Order, OrderBack};
+use crate::order::{Backward, Forward, Order, OrderBack};
 use cluster::{Covers, PartRef};
 use fee_rate::FeeRate;
 use graph_model::{IdBuf, Level, Limits, Place, Refusal, TxId, is_fee, is_size};
@@ -321,7 +321,7 @@ impl<const W: usize> TxGraph<W> {
     {
         // There is no staging, so both words speak of main.
         let _ = level;
-        Order::new(self.clusters.parts())
+        Forward::new(self.clusters.parts())
     }
 
     /// The same parts from the last to the first. Takes no memory.
@@ -330,7 +330,7 @@ impl<const W: usize> TxGraph<W> {
     {
         // There is no staging, so both words speak of main.
         let _ = level;
-        OrderBack::new(self.clusters.parts())
+        Backward::new(self.clusters.parts())
     }
 
     /// The part of main that has a name. Takes no memory.

@@ -1,16 +1,22 @@
 ghost use Rattle.std.specs.Prelude.{◌≡◌, map, reverse};
 
 use cluster::PartRef;
-use cluster_store::{PartWalk, Stored};
+use cluster_store::{PartWalk, Parts, Stored};
 use std::marker::Model;
 
-/// The parts of a level in its order, lent. Contracts see those that are still to come.
+/// The parts of a level in its order, lent.
+pub type Order<'a, const W: usize> = Forward<'a, Stored<W>>;
+
+/// The parts of a level from the last to the first, lent.
+pub type OrderBack<'a, const W: usize> = Backward<'a, Stored<W>>;
+
+/// Parts in their order, lent. Contracts see those that are still to come.
 #[derive(Drop)]
-pub struct Order<'a, const W: usize> {
-    parts: PartWalk<'a, Stored<W>>,
+pub struct Forward<'a, T: Parts> {
+    parts: PartWalk<'a, T>,
 }
 
-impl<'a, const W: usize> Model for Order<'a, W> {
+impl<'a, T: Parts> Model for Forward<'a, T> {
     ghost use Rattle.std.specs.Prelude.{List, map};
     ghost use Rattle.std.specs.Coded.{coded_list};
     ghost use Rattle.graphs.specs.Certificates.{Part};
@@ -23,16 +29,16 @@ impl<'a, const W: usize> Model for Order<'a, W> {
     ghost view = { λ a. map (λ s. s.part) a.parts };
 }
 
-impl<'a, const W: usize> Order<'a, W> {
+impl<'a, T: Parts> Forward<'a, T> {
     /// The parts that a walk shows.
-    pub(crate) fn new(parts: PartWalk<'a, Stored<W>>) -> Self
+    pub(crate) fn new(parts: PartWalk<'a, T>) -> Self
         ensures { result ≡ map (λ s. s.part) parts.entry }
     {
-        Order { parts }
+        Forward { parts }
     }
 }
 
-impl<'a, const W: usize> Iterator for Order<'a, W> {
+impl<'a, T: Parts + 'a> Iterator for Forward<'a, T> {
     type Item = PartRef<'a>;
 
     ghost use Rattle.std.specs.Iterator.{YieldsFirstBy, item_count};
@@ -48,13 +54,13 @@ impl<'a, const W: usize> Iterator for Order<'a, W> {
     }
 }
 
-/// The parts of a level from the last to the first, lent. Contracts see those that are still to come.
+/// Parts from the last to the first, lent. Contracts see those that are still to come.
 #[derive(Drop)]
-pub struct OrderBack<'a, const W: usize> {
-    parts: PartWalk<'a, Stored<W>>,
+pub struct Backward<'a, T: Parts> {
+    parts: PartWalk<'a, T>,
 }
 
-impl<'a, const W: usize> Model for OrderBack<'a, W> {
+impl<'a, T: Parts> Model for Backward<'a, T> {
     ghost use Rattle.std.specs.Prelude.{List, map, reverse};
     ghost use Rattle.std.specs.Coded.{coded_list};
     ghost use Rattle.graphs.specs.Certificates.{Part};
@@ -67,16 +73,16 @@ impl<'a, const W: usize> Model for OrderBack<'a, W> {
     ghost view = { λ a. reverse (map (λ s. s.part) a.parts) };
 }
 
-impl<'a, const W: usize> OrderBack<'a, W> {
+impl<'a, T: Parts> Backward<'a, T> {
     /// The parts that a walk shows, from its end.
-    pub(crate) fn new(parts: PartWalk<'a, Stored<W>>) -> Self
+    pub(crate) fn new(parts: PartWalk<'a, T>) -> Self
         ensures { result ≡ reverse (map (λ s. s.part) parts.entry) }
     {
-        OrderBack { parts }
+        Backward { parts }
     }
 }
 
-impl<'a, const W: usize> Iterator for OrderBack<'a, W> {
+impl<'a, T: Parts + 'a> Iterator for Backward<'a, T> {
     type Item = PartRef<'a>;
 
     ghost use Rattle.std.specs.Iterator.{YieldsFirstBy, item_count};
