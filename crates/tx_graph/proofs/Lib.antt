@@ -25,3 +25,5 @@ mod Together
 mod Absent
 mod Ways
 mod Telling
+mod Firsts
+mod Places

@@ -29,7 +29,7 @@ module _ (w : ℕ) (shelf : Shelf) (order : IsInOrder w shelf) where
   there : (n : ℕ) (c : Cluster) → Stands Main clusters n c → cluster_at clusters n ≡ Some c
   there n c stands = at_stored clusters n stands.0 stands.1 ∙ ap Some stands.2
 
-  stands : (n : ℕ) (c : Cluster) → cluster_at clusters n ≡ Some c → Stands Main clusters n c
+  pub stands : (n : ℕ) (c : Cluster) → cluster_at clusters n ≡ Some c → Stands Main clusters n c
   stands n c is =
       let s = stored_at clusters n c is in (s.0, s.1, s.2, ap (is_in Main) (order.both n s.0 s.1))
 

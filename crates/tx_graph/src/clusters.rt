@@ -167,7 +167,11 @@ impl<const W: usize> Clusters<W> {
         } else {
             self.store.comes_before(first, second)
         };
-        if is_first { Place::Before } else { Place::After }
+        if is_first {
+            Place::Before
+        } else {
+            Place::After
+        }
     }
 
     /// The parents of a live name with nothing between, as they stand in the order.
