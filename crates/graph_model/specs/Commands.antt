@@ -79,5 +79,6 @@ IsBuilt Commit = ⊥
 IsBuilt Abort = ⊥
 IsBuilt Settle = ⊥
 IsBuilt Compare = ⊥
+IsBuilt (Diagram level) = ⊥
 IsBuilt (Block size) = ⊥
 IsBuilt command = Unit {0}
