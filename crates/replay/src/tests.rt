@@ -307,10 +307,10 @@ fn a_line_has_at_most_65536_bytes(rt: HostRuntime) -> Result<(), Fail> {
     Ok(())
 }
 
-/// Four lines and their replies. `proof` is no command yet: once it is, its reply stands here.
+/// Four lines and their replies.
 const FOUR: &str = "add 1 100 200\nadd 2 900 200\ndep 1 2\nproof main\n";
 
-const FOUR_REPLIES: &str = "ok\nok\nok\nrefused syntax\n";
+const FOUR_REPLIES: &str = "ok\nok\nok\ntx 1 100 200\ntx 2 900 200\nedge 1 2\nchunk 1000 400 1 2\nflow 2 1 160000\nend\n";
 
 #[test]
 fn a_sink_that_stops_has_a_front_of_the_replies(rt: HostRuntime) -> Result<(), Fail> {
