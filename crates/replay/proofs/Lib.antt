@@ -6,3 +6,5 @@ pub mod WindowLemmas
 pub mod CutLemmas
 pub mod GatherLemmas
 pub mod TurnLemmas
+pub mod WritingLemmas
+pub mod TextLemmas

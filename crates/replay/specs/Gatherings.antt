@@ -1,10 +1,13 @@
 -- Replies that gather before a sink.
-use Rattle.std.specs.Prelude.{◌≡◌, ℕ, List, ◌++◌, OnOk, OnErr}
+use Rattle.std.specs.Prelude.{◌≡◌, ℕ, List, ◌++◌, IfOk, OnOk, OnErr}
 use Rattle.std.specs.Io.KnownBytes.{Appends}
 use Rattle.std.specs.declared.option.Option.{Option}
 use Rattle.std.specs.declared.option.Option.TheVariants.{None, Some}
 use Rattle.std.specs.declared.result.Result.{Result}
 use Rattle.outside.specs.Transfers.{AppendsFront}
+use Rattle.graph_model.specs.Runs.{Answer, answer_text}
+use Rattle.replay.specs.declared.answer.Outcome.{Outcome}
+use Rattle.replay.specs.Answers.{outcome_of}
 
 -- a sink, and what is held before it
 pub record Outlet (K : Type 0) : Type 0 where
@@ -29,3 +32,8 @@ HasSent (Some x) (Some y) all left = (out : List ℕ) × (all ≡ out ++ left) �
 pub record Gathers {T E : Type 0} (old new : Option (List ℕ)) (held left : List ℕ) (result : Result T E) (text : List ℕ) : Type 0 where
   pub ok : OnOk result (HasSent old new (held ++ text) left)
   pub err : OnErr result (AppendsFront old new (held ++ text))
+
+-- the text of an answer of which this is so gathered, and its outcome is told
+abbrev pub GathersAnswer : {E : Type 0} → (Answer → Type 0) → Option (List ℕ) → Option (List ℕ) → List ℕ → List ℕ → Result Outcome E → Type 0
+GathersAnswer IsSo old new held left result =
+    (answer : Answer) × IsSo answer × Gathers old new held left result (answer_text answer) × IfOk result (λ outcome. outcome ≡ outcome_of answer)

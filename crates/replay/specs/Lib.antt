@@ -10,3 +10,4 @@ pub mod Windows
 pub mod Cutters
 pub mod Cuts
 pub mod Gatherings
+pub mod Writings

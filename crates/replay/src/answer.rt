@@ -1,11 +1,13 @@
-ghost use Rattle.std.specs.Prelude.{◌≡◌, IfOk};
-ghost use Rattle.graph_model.specs.Runs.{answer_text};
+ghost use Rattle.std.specs.Prelude.{◌≡◌, ℕ, List, IfOk};
+ghost use Rattle.std.specs.declared.option.Option.{Option};
 ghost use Rattle.outside.specs.Transfers.{Writes};
-ghost use Rattle.replay.specs.Answers.{answer_of, outcome_of};
+ghost use Rattle.replay.specs.Answers.{Tells, WritesAnswer};
 
-use graph_model::{Refusal, TxId};
+use crate::commands::Obeys;
+use crate::reading::Reading;
+use graph_model::{Place, Refusal, TxId};
 use outside::{Failed, Sink};
-use wire::{write_ids, write_refusal, write_word};
+use wire::{place_word, write_ids, write_refusal, write_word};
 
 /// How a line was answered.
 #[derive(Clone, Copy, Debug, PartialEq, Eq)]
@@ -30,47 +32,44 @@ pub(crate) enum Answer {
     /// the names that the graph found
     Names,
     Number(u64),
+    Stands(Place),
+    /// what the graph is read for as it is written
+    Reads(Reading),
 }
 
 impl Answer {
     /// Writes the text of the answer, and tells the outcome.
-    pub(crate) fn tell<K: Sink>(&self, found: &[TxId], sink: &mut K) -> Result<Outcome, Failed>
-        ensures written { Writes (K.written sink.old) (K.written sink.new) (K.faults sink.old)
-            (K.faults sink.new) result (answer_text (answer_of self.now found.now)) }
-        ensures told { IfOk result (λ outcome. outcome ≡ outcome_of (answer_of self.now found.now)) }
-    {
-        match self.write(found, sink) {
-            Ok(()) => Ok(self.outcome(found)),
-            Err(failed) => Err(failed),
-        }
-    }
-
-    /// What is told of the answer beside its text.
-    fn outcome(&self, found: &[TxId]) -> Outcome
-        ensures { result ≡ outcome_of (answer_of self.now found.now) }
+    pub(crate) fn tell<G: Obeys, K: Sink>(
+        &self,
+        graph: &G,
+        found: &[TxId],
+        sink: &mut K,
+    ) -> Result<Outcome, Failed>
+        ensures { WritesAnswer (Tells (G.kept graph.now) self.now found.now) (K.written sink.old) (K.written sink.new)
+            (K.faults sink.old) (K.faults sink.new) result }
     {
         match self {
-            Answer::Silence => Outcome::Quiet,
-            Answer::TooLong => Outcome::Refused(1),
-            Answer::Unread => Outcome::Refused(2),
-            Answer::Refused(why) => Outcome::Refused(why.number()),
-            Answer::Done | Answer::Names | Answer::Number(_) => Outcome::Accepted,
+            Answer::Silence => Ok(Outcome::Quiet),
+            Answer::TooLong => told(write_word(sink, "refused line"), Outcome::Refused(1)),
+            Answer::Unread => told(write_word(sink, "refused syntax"), Outcome::Refused(2)),
+            Answer::Refused(why) => told(write_refusal(sink, why), Outcome::Refused(why.number())),
+            Answer::Done => told(write_word(sink, "ok"), Outcome::Accepted),
+            Answer::Names => told(write_ids(sink, "ids", None, found), Outcome::Accepted),
+            Answer::Number(n) => told(write_ids(sink, "count", None, &[*n]), Outcome::Accepted),
+            Answer::Stands(place) => told(write_word(sink, place_word(*place)), Outcome::Accepted),
+            Answer::Reads(reading) => graph.read(*reading, sink),
         }
     }
+}
 
-    /// Writes the text of the answer.
-    fn write<K: Sink>(&self, found: &[TxId], sink: &mut K) -> Result<(), Failed>
-        ensures { Writes (K.written sink.old) (K.written sink.new) (K.faults sink.old) (K.faults sink.new) result
-            (answer_text (answer_of self.now found.now)) }
-    {
-        match self {
-            Answer::Silence => Ok(()),
-            Answer::TooLong => write_word(sink, "refused line"),
-            Answer::Unread => write_word(sink, "refused syntax"),
-            Answer::Refused(why) => write_refusal(sink, why),
-            Answer::Done => write_word(sink, "ok"),
-            Answer::Names => write_ids(sink, "ids", None, found),
-            Answer::Number(n) => write_ids(sink, "count", None, &[*n]),
-        }
+/// The outcome where the text was written.
+pub(crate) fn told(written: Result<(), Failed>, outcome: Outcome) -> Result<Outcome, Failed>
+    ensures writes { (old new : Option (List ℕ)) (before now : ℕ) (text : List ℕ)
+        → Writes old new before now written text → Writes old new before now result text }
+    ensures told { IfOk result (λ o. o ≡ outcome) }
+{
+    match written {
+        Ok(()) => Ok(outcome),
+        Err(failed) => Err(failed),
     }
 }

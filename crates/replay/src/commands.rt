@@ -4,12 +4,16 @@ ghost use Rattle.graph_model.specs.Lines.{max_line, Means};
 ghost use Rattle.wire.specs.Readings.{meaning_of};
 ghost use Rattle.graph_model.specs.Replies.{change_reply, names_reply};
 ghost use Rattle.tx_graph.specs.Kept.{Kept};
-ghost use Rattle.replay.specs.Answers.{answer_of};
+ghost use Rattle.tx_graph.specs.Readings.{place_reply};
+ghost use Rattle.replay.specs.Answers.{MayTell, IsReadOf, WritesAnswer, command_of};
 ghost use Rattle.replay.specs.Sessions.{IsLine, Answers, HasRoom, Suits};
 
-use crate::answer::Answer;
+use crate::answer::{Answer, Outcome};
+use crate::reading::Reading;
 use crate::session::Piece;
-use graph_model::{IdBuf, MAX_LINE, Refusal};
+use graph_model::{IdBuf, MAX_LINE, Place, Refusal};
+use crate::writing::{write_order, write_part, write_proof};
+use outside::{Failed, Sink};
 use std::marker::Brand;
 use std::sync::ledger;
 use std::sync::ledger::Blank;
@@ -26,8 +30,9 @@ pub(crate) fn answer<const W: usize>(
     requires few { graph.old.additions < 2 ^ 64 - 1 }
     requires room { HasRoom W ids.old }
     ensures line { (line : List ℕ) → IsLine piece.entry line
-        → Answers graph.old graph.new line (answer_of result ids.new.ids) }
-    ensures suits { (line : List ℕ) → IsLine piece.entry line → Suits line (answer_of result ids.new.ids) }
+        → MayTell graph.new result ids.new.ids (Answers graph.old graph.new line) }
+    ensures suits { (line : List ℕ) → IsLine piece.entry line
+        → MayTell graph.new result ids.new.ids (Suits line) }
     ensures additions { graph.new.additions ≤ graph.old.additions + 1 }
     ensures room { HasRoom W ids.new }
 {
@@ -41,8 +46,8 @@ pub(crate) fn answer<const W: usize>(
 fn read<const W: usize>(graph: &mut TxGraph<W>, ids: &mut IdBuf, bytes: &[u8]) -> Answer
     requires few { graph.old.additions < 2 ^ 64 - 1 }
     requires room { HasRoom W ids.old }
-    ensures line { Answers graph.old graph.new bytes.now (answer_of result ids.new.ids) }
-    ensures suits { Suits bytes.now (answer_of result ids.new.ids) }
+    ensures line { MayTell graph.new result ids.new.ids (Answers graph.old graph.new bytes.now) }
+    ensures suits { MayTell graph.new result ids.new.ids (Suits bytes.now) }
     ensures additions { graph.new.additions ≤ graph.old.additions + 1 }
     ensures room { HasRoom W ids.new }
 {
@@ -67,11 +72,16 @@ pub(crate) trait Obeys {
         requires few { (kept self.old).additions < 2 ^ 64 - 1 }
         requires room { HasRoom words ids.old }
         ensures line { (bytes : List ℕ) → length bytes ≤ max_line → Means bytes (meaning_of line ids.old.ids)
-            → Answers (kept self.old) (kept self.new) bytes (answer_of result ids.new.ids) }
+            → MayTell (kept self.new) result ids.new.ids (Answers (kept self.old) (kept self.new) bytes) }
         ensures suits { (bytes : List ℕ) → length bytes ≤ max_line → Means bytes (meaning_of line ids.old.ids)
-            → Suits bytes (answer_of result ids.new.ids) }
+            → MayTell (kept self.new) result ids.new.ids (Suits bytes) }
         ensures additions { (kept self.new).additions ≤ (kept self.old).additions + 1 }
         ensures room { HasRoom words ids.new };
+
+    /// Writes the reply to a reading, and tells the outcome.
+    fn read<K: Sink>(&self, reading: Reading, sink: &mut K) -> Result<Outcome, Failed>
+        ensures { WritesAnswer (IsReadOf (kept self.now) (command_of reading)) (K.written sink.old)
+            (K.written sink.new) (K.faults sink.old) (K.faults sink.new) result };
 }
 
 impl<const W: usize> Obeys for TxGraph<W> {
@@ -91,11 +101,7 @@ impl<const W: usize> Obeys for TxGraph<W> {
             | Line::Abort
             | Line::Settle
             | Line::Compare
-            | Line::Order(_)
             | Line::Diagram(_)
-            | Line::Proof(_)
-            | Line::Chunk(_)
-            | Line::Before(_, _)
             | Line::Block(_) => Answer::Unread,
             Line::Limits(limits) => changed(self.set_limits(limits)),
             Line::Add(id, fee, size) => changed(self.add(id, fee, size, steps)),
@@ -106,6 +112,18 @@ impl<const W: usize> Obeys for TxGraph<W> {
             Line::Ancestors(id, level) => named(self.ancestors(level, id, ids)),
             Line::Descendants(id, level) => named(self.descendants(level, id, ids)),
             Line::Count(level) => Answer::Number(self.count(level) as u64),
+            Line::Before(a, b) => placed(self.before(a, b)),
+            Line::Order(level) => Answer::Reads(Reading::Order(level)),
+            Line::Proof(level) => Answer::Reads(Reading::Proof(level)),
+            Line::Chunk(id) => Answer::Reads(Reading::Chunk(id)),
+        }
+    }
+
+    fn read<K: Sink>(&self, reading: Reading, sink: &mut K) -> Result<Outcome, Failed> {
+        match reading {
+            Reading::Order(level) => write_order(self, level, sink),
+            Reading::Proof(level) => write_proof(self, level, sink),
+            Reading::Chunk(id) => write_part(self.chunk(id), sink),
         }
     }
 }
@@ -123,9 +141,9 @@ fn obey_unpaid<K: ledger::Ledger, G: Obeys>(
     requires few { (G.kept graph.old).additions < 2 ^ 64 - 1 }
     requires room { HasRoom G.words ids.old }
     ensures line { (bytes : List ℕ) → length bytes ≤ max_line → Means bytes (meaning_of line ids.old.ids)
-        → Answers (G.kept graph.old) (G.kept graph.new) bytes (answer_of result ids.new.ids) }
+        → MayTell (G.kept graph.new) result ids.new.ids (Answers (G.kept graph.old) (G.kept graph.new) bytes) }
     ensures suits { (bytes : List ℕ) → length bytes ≤ max_line → Means bytes (meaning_of line ids.old.ids)
-        → Suits bytes (answer_of result ids.new.ids) }
+        → MayTell (G.kept graph.new) result ids.new.ids (Suits bytes) }
     ensures additions { (G.kept graph.new).additions ≤ (G.kept graph.old).additions + 1 }
     ensures room { HasRoom G.words ids.new }
 {
@@ -135,7 +153,7 @@ fn obey_unpaid<K: ledger::Ledger, G: Obeys>(
 
 /// The answer to a change.
 fn changed(done: Result<(), Refusal>) -> Answer
-    ensures { (found : List ℕ) → answer_of result found ≡ runs.Replies (change_reply done) }
+    ensures { (graph : Kept) (found : List ℕ) → MayTell graph result found (λ answer. answer ≡ runs.Replies (change_reply done)) }
 {
     match done {
         Ok(()) => Answer::Done,
@@ -145,10 +163,21 @@ fn changed(done: Result<(), Refusal>) -> Answer
 
 /// The answer to a reading of names.
 fn named(done: Result<(), Refusal>) -> Answer
-    ensures { (found : List ℕ) → answer_of result found ≡ runs.Replies (names_reply done found) }
+    ensures { (graph : Kept) (found : List ℕ) → MayTell graph result found (λ answer. answer ≡ runs.Replies (names_reply done found)) }
 {
     match done {
         Ok(()) => Answer::Names,
+        Err(why) => Answer::Refused(why),
+    }
+}
+
+/// The answer to where one name stands to another.
+fn placed(found: Result<Place, Refusal>) -> Answer
+    ensures { (graph : Kept) (names : List ℕ)
+        → MayTell graph result names (λ answer. answer ≡ runs.Replies (place_reply found)) }
+{
+    match found {
+        Ok(place) => Answer::Stands(place),
         Err(why) => Answer::Refused(why),
     }
 }

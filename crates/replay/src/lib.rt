@@ -9,12 +9,14 @@ mod commands;
 mod gathered;
 mod input;
 mod lines;
+mod reading;
 mod replies;
 mod session;
 #[cfg(test)]
 mod tests;
 mod top;
 mod window;
+mod writing;
 
 pub use answer::Outcome;
 pub use lines::{Lines, Next};

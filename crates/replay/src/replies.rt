@@ -1,12 +1,12 @@
 ghost use Rattle.std.specs.Prelude.{◌≡◌, ℕ, ◌<◌, List, [], ◌++◌, IfOk, OnOk, OnErr, vec_capacity};
 ghost use Rattle.std.specs.Io.KnownBytes.{Appends};
-ghost use Rattle.graph_model.specs.Runs.{answer_text};
 ghost use Rattle.outside.specs.Faults.{CountsFaults};
 ghost use Rattle.outside.specs.Transfers.{AppendsFront};
-ghost use Rattle.replay.specs.Answers.{answer_of, outcome_of};
-ghost use Rattle.replay.specs.Gatherings.{Gathers, Grows};
+ghost use Rattle.replay.specs.Answers.{Tells};
+ghost use Rattle.replay.specs.Gatherings.{GathersAnswer, Grows};
 
 use crate::answer::{Answer, Outcome};
+use crate::commands::Obeys;
 use crate::gathered::{Gathered, Opening, send};
 use core::mem::replace_with;
 use graph_model::TxId;
@@ -57,57 +57,56 @@ impl Replies {
 
     /// Holds the text of an answer, and tells the outcome. Where the room is full, what is held goes out. The first write
     /// that fails ends it; a front of what was held and of the text went out then.
-    pub(crate) fn tell<K: Sink>(
+    pub(crate) fn tell<G: Obeys, K: Sink>(
         &mut self,
+        graph: &G,
         answer: &Answer,
         found: &[TxId],
         sink: &mut K,
     ) -> Result<Outcome, Failed>
-        ensures gathers { Gathers (K.written sink.old) (K.written sink.new) self.old self.new result
-            (answer_text (answer_of answer.now found.now)) }
+        ensures gathers { GathersAnswer (Tells (G.kept graph.now) answer.now found.now) (K.written sink.old)
+            (K.written sink.new) self.old self.new result }
         ensures cause { CountsFaults (K.faults sink.old) (K.faults sink.new) result }
-        ensures told { IfOk result (λ outcome. outcome ≡ outcome_of (answer_of answer.now found.now)) }
     {
         let held = replace(&mut self.held, Vec::new(self.alloc));
-        let (outcome, held) = replace_with(sink, (answer, found, held), tell_behind);
+        let (outcome, held) = replace_with(sink, (graph, answer, found, held), tell_behind);
         self.held = held;
         outcome
     }
 }
 
 /// Writes the text of an answer behind what is held before a sink.
-fn tell_behind<K: Sink>(
+fn tell_behind<G: Obeys, K: Sink>(
     sink: K,
-    told: (&Answer, &[TxId], Vec<u8>),
+    told: (&G, &Answer, &[TxId], Vec<u8>),
 ) -> (K, (Result<Outcome, Failed>, Vec<u8>))
-    requires { 0 < vec_capacity told.2 }
-    ensures gathers { Gathers (K.written sink) (K.written result.0) told.entry.2.items result.1.1.items result.1.0
-        (answer_text (answer_of told.entry.0.now told.entry.1.now)) }
+    requires { 0 < vec_capacity told.3 }
+    ensures gathers { GathersAnswer (Tells (G.kept told.entry.0.now) told.entry.1.now told.entry.2.now) (K.written sink)
+        (K.written result.0) told.entry.3.items result.1.1.items result.1.0 }
     ensures cause { CountsFaults (K.faults sink) (K.faults result.0) result.1.0 }
-    ensures told { IfOk result.1.0 (λ outcome. outcome ≡ outcome_of (answer_of told.entry.0.now told.entry.1.now)) }
     ensures room { 0 < vec_capacity result.1.1 }
 {
-    let (answer, found, held) = told;
-    tell_from::<Brand, K>(sink, answer, found, held)
+    let (graph, answer, found, held) = told;
+    tell_from::<Brand, G, K>(sink, graph, answer, found, held)
 }
 
 /// The same, where it is known what the sink had been given.
-fn tell_from<L: Opening, K: Sink>(
+fn tell_from<L: Opening, G: Obeys, K: Sink>(
     sink: K,
+    graph: &G,
     answer: &Answer,
     found: &[TxId],
     held: Vec<u8>,
 ) -> (K, (Result<Outcome, Failed>, Vec<u8>))
     requires first { K.written sink ≡ L.first }
     requires room { 0 < vec_capacity held }
-    ensures gathers { Gathers (K.written sink) (K.written result.0) held.items result.1.1.items result.1.0
-        (answer_text (answer_of answer.now found.now)) }
+    ensures gathers { GathersAnswer (Tells (G.kept graph.now) answer.now found.now) (K.written sink)
+        (K.written result.0) held.items result.1.1.items result.1.0 }
     ensures cause { CountsFaults (K.faults sink) (K.faults result.0) result.1.0 }
-    ensures told { IfOk result.1.0 (λ outcome. outcome ≡ outcome_of (answer_of answer.now found.now)) }
     ensures room { 0 < vec_capacity result.1.1 }
 {
     let mut gathered = Gathered::<K, L>::new(sink, held);
-    let outcome = answer.tell(found, &mut gathered);
+    let outcome = answer.tell(graph, found, &mut gathered);
     let (sink, held) = gathered.into_parts();
     (sink, (outcome, held))
 }

@@ -92,7 +92,7 @@ impl<const W: usize> Session<W> {
         ensures additions { self.new.additions ≤ self.old.additions + 1 }
     {
         let found = answer(&mut self.graph, &mut self.ids, piece);
-        found.tell(self.ids.ids(), sink)
+        found.tell(&self.graph, self.ids.ids(), sink)
     }
 
     /// Answers one line as `one` does, where its reply gathers behind others before the sink.
@@ -110,6 +110,6 @@ impl<const W: usize> Session<W> {
         ensures additions { self.new.additions ≤ self.old.additions + 1 }
     {
         let found = answer(&mut self.graph, &mut self.ids, piece);
-        replies.tell(&found, self.ids.ids(), sink)
+        replies.tell(&self.graph, &found, self.ids.ids(), sink)
     }
 }

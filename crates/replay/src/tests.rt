@@ -61,7 +61,36 @@ const RUNS: [(&str, &str); 15] = [
         "add 1 1 1\nfee 1 2100000000000000\nfee 1 2100000000000001\nfee 9 -2100000000000001\nfee 9 5\nfee 1 -0\nfee 1 5 5\nlimits 64 404000 0\nremove 01\nremove main\ncluster 1\ncluster 9 main\nlimits 64 1 1 1\n",
         "ok\nok\nrefused fee\nrefused fee\nrefused unknown 9\nrefused syntax\nrefused syntax\nrefused late\nrefused syntax\nrefused syntax\nrefused syntax\nrefused unknown 9\nrefused syntax\n",
     ),
-    ("order main\nstage\n", "refused syntax\nrefused syntax\n"),
+    ("compare\nstage\n", "refused syntax\nrefused syntax\n"),
+];
+
+/// Inputs of `replay` that ask for the order, with their outputs.
+const ORDERS: [(&str, &str); 7] = [
+    ("add 1 1000 200\norder main\n", "ok\nchunk 1000 200 1\nend\n"),
+    (
+        "add 1 100 200\nadd 2 900 200\ndep 1 2\nproof main\nchunk 1\nchunk 3\n",
+        "ok\nok\nok\ntx 1 100 200\ntx 2 900 200\nedge 1 2\nchunk 1000 400 1 2\nflow 2 1 160000\nend\nchunk 1000 400 1 2\nrefused unknown 3\n",
+    ),
+    (
+        "add 1 900 200\nadd 2 100 200\ndep 1 2\norder main\n",
+        "ok\nok\nok\nchunk 900 200 1\nchunk 100 200 2\nend\n",
+    ),
+    (
+        "add 1 -5 1\nadd 2 9 1\nadd 3 9 1\ndep 1 2\ndep 2 3\ndep 1 3\nproof top\n",
+        "ok\nok\nok\nok\nok\nok\ntx 1 -5 1\ntx 2 9 1\ntx 3 9 1\nedge 1 2\nedge 2 3\nchunk 13 3 1 2 3\nflow 2 1 28\nflow 3 2 14\nend\n",
+    ),
+    (
+        "add 1 10 1\nadd 2 1 1\nbefore 1 2\nbefore 2 1\nbefore 2 2\nbefore 1 7\n",
+        "ok\nok\nbefore\nafter\nsame\nrefused unknown 7\n",
+    ),
+    (
+        "add 1 1 1\nadd 2 2 1\nfee 1 5\nfee 9 -2100000000000001\norder main\n",
+        "ok\nok\nok\nrefused fee\nchunk 5 1 1\nchunk 2 1 2\nend\n",
+    ),
+    (
+        "order bottom\norder main\nproof top\n",
+        "refused syntax\nend\nend\n",
+    ),
 ];
 
 #[test]
@@ -76,6 +105,20 @@ fn replies_are_the_same_whatever_the_pieces(rt: HostRuntime) -> Result<(), Fail>
             assert_eq!(rt; status, Status::Done, "at {input:?}");
             assert_eq!(rt; sink.written(), output.as_bytes(), "at {input:?}");
         }
+    }
+    Ok(())
+}
+
+#[test]
+fn orders_are_told(rt: HostRuntime) -> Result<(), Fail> {
+    let alloc = rt.alloc();
+    let words = words(alloc, &["txgraph", "replay"])?;
+    for (input, output) in ORDERS {
+        let mut source = MemSource::new(alloc, input.as_bytes(), 4096, &[], None)?;
+        let mut sink = MemSink::new(alloc, 4096, &[], 4096)?;
+        let status = run(alloc, &words, &mut source, &mut sink);
+        assert_eq!(rt; status, Status::Done, "at {input:?}");
+        assert_eq!(rt; sink.written(), output.as_bytes(), "at {input:?}");
     }
     Ok(())
 }
@@ -264,10 +307,10 @@ fn a_line_has_at_most_65536_bytes(rt: HostRuntime) -> Result<(), Fail> {
     Ok(())
 }
 
-/// Four lines and their replies. `proof` is no command yet: once it is, its reply stands here.
+/// Four lines and their replies.
 const FOUR: &str = "add 1 100 200\nadd 2 900 200\ndep 1 2\nproof main\n";
 
-const FOUR_REPLIES: &str = "ok\nok\nok\nrefused syntax\n";
+const FOUR_REPLIES: &str = "ok\nok\nok\ntx 1 100 200\ntx 2 900 200\nedge 1 2\nchunk 1000 400 1 2\nflow 2 1 160000\nend\n";
 
 #[test]
 fn a_sink_that_stops_has_a_front_of_the_replies(rt: HostRuntime) -> Result<(), Fail> {

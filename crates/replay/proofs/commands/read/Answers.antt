@@ -1,5 +1,5 @@
 use Rattle.replay.proofs.commands.read.Goals as goal
 
 pub returns-clause-line : goal.returns-clause-line
-returns-clause-line g c state stands =
-    c.obey_unpaid.ensures.line c.args.bytes.now c.if-bytes-gt-MAX_LINE.false c.read_line-line.ensures.meaning state stands
+returns-clause-line g c answer told state stands =
+    c.obey_unpaid.ensures.line c.args.bytes.now c.if-bytes-gt-MAX_LINE.false c.read_line-line.ensures.meaning answer told state stands

@@ -1,12 +1,12 @@
 use Rattle.std.proofs.Common.{subst, sym, List, ℕ, ◌≡◌}
-use Rattle.replay.specs.Answers.{answer_of}
+use Rattle.replay.specs.Answers.{Tells}
 use Rattle.replay.specs.Sessions.{Answers, Suits}
 use Rattle.replay.proofs.session.Session.one.Goals as goal
 
 pub returns-clause-line : goal.returns-clause-line
 returns-clause-line g c line is =
-    let found = c.answer-found.result in
-    let ids : c.answer-found.new.ids.ids ≡ c.ids.result.now = sym c.ids.ensures in
-    let answers : Answers c.args.self.now c.answer-found.new.graph line (answer_of found c.ids.result.now) =
-    subst (λ (names : List ℕ). Answers c.args.self.now c.answer-found.new.graph line (answer_of found names)) ids (subst (λ k. Answers k c.answer-found.new.graph line (answer_of found c.answer-found.new.ids.ids)) c.self.view_is (c.answer-found.ensures.line line is)) in
-    (answer_of found c.ids.result.now, answers, c.tell.ensures.written, c.tell.ensures.told, subst (λ (names : List ℕ). Suits line (answer_of found names)) ids (c.answer-found.ensures.suits line is))
+    let told = c.tell.ensures in
+    let ids : c.ids.result.now ≡ c.answer-found.new.ids.ids = c.ids.ensures in
+    let tells = subst (λ (names : List ℕ). Tells c.answer-found.new.graph c.answer-found.result names told.0) ids told.1 in
+    let answers = subst (λ k. Answers k c.answer-found.new.graph line told.0) c.self.view_is (c.answer-found.ensures.line line is told.0 tells) in
+    (told.0, answers, told.2, told.3, c.answer-found.ensures.suits line is told.0 tells)

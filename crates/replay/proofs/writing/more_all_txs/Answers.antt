@@ -1,0 +1,24 @@
+use Rattle.std.proofs.Common.{rules, ◌≡◌, List, ℕ, map, sym, ap, ◌∙◌}
+use Rattle.cluster_store.specs.Lent.{lent}
+use Rattle.std.proofs.lemmas.List.{map-append}
+use Rattle.graphs.specs.Certificates.{Part}
+use Rattle.graph_model.specs.Answers.{order_of}
+use Rattle.replay.specs.Writings.{tx_line_of}
+use Rattle.replay.proofs.WritingLemmas.{lines_on, rest_on, flat_map_push, held_by}
+use Rattle.replay.proofs.writing.more_all_txs.Goals as goal
+
+pub more_txs-so_far-requires : goal.more_txs-so_far-requires
+more_txs-so_far-requires g c = (
+  search rules,
+  λ id here. c.requires id (held_by (λ (part : Part). part.ids) c.args.parts (map lent c.loop-part.yielded) c.loop-part.part-iterator c.next.new.self (lent c.in-Some.part) c.loop-part.invariant.rest c.in-Some.ensures.steps id here),
+)
+
+pub loop-part-preserved : goal.loop-part-preserved
+loop-part-preserved g c =
+    let line = tx_line_of c.args.graph.now.graph in
+    let before = order_of (map lent c.loop-part.yielded) in
+    let own = c.in-Some.part.ids.now in
+    record {
+      rest = rest_on lent c.args.parts c.loop-part.yielded c.loop-part.part-iterator c.next.new.self c.in-Some.part c.loop-part.invariant.rest c.in-Some.ensures.steps;
+      out = lines_on _ _ _ _ _ _ _ _ _ (map line before) (map line own) _ c.loop-part.invariant.out c.more_txs-so_far.ensures (ap (map line) (flat_map_push (λ (part : Part). part.ids) lent c.loop-part.yielded c.in-Some.part) ∙ map-append line before own);
+    }

@@ -1,0 +1,16 @@
+use Rattle.std.proofs.Common.{◌≡◌, List, ℕ, map, flat_map, ◌∷◌, [], ◌++◌, refl, sym, ◌∙◌, append_assoc}
+use Rattle.cluster_store.specs.Lent.{lent}
+use Rattle.graph_model.specs.Texts.{chunk_line, flow_line, part_lines}
+use Rattle.replay.proofs.WritingLemmas.{lines_on, rest_on, flat_map_push}
+use Rattle.replay.proofs.writing.more_parts.Goals as goal
+
+pub loop-part-preserved : goal.loop-part-preserved
+loop-part-preserved g c =
+    let so_far = flat_map part_lines (map lent c.loop-part.yielded) in
+    let chunk = chunk_line (lent c.in-Some.part) ∷ [] in
+    let flows = map flow_line c.in-Some.part.flows.now in
+    let headed = lines_on _ _ _ _ _ _ _ _ _ (so_far) (chunk) _ c.loop-part.invariant.out c.more-so_far.ensures (refl) in
+    record {
+      rest = rest_on lent c.args.parts c.loop-part.yielded c.loop-part.part-iterator c.next.new.self c.in-Some.part c.loop-part.invariant.rest c.in-Some.ensures.steps;
+      out = lines_on _ _ _ _ _ _ _ _ _ (so_far ++ chunk) (flows) _ headed c.more_flows-so_far.ensures (flat_map_push part_lines lent c.loop-part.yielded c.in-Some.part ∙ sym (append_assoc so_far chunk flows));
+    }

@@ -1,0 +1,9 @@
+use graph_model::{Level, TxId};
+
+/// What a graph is read for. The reply goes from the graph to the sink piece by piece.
+#[derive(Clone, Copy, Debug, PartialEq, Eq)]
+pub(crate) enum Reading {
+    Order(Level),
+    Proof(Level),
+    Chunk(TxId),
+}
