@@ -126,7 +126,7 @@ fn prove<const W: usize>(
     let mut source = MemSource::new(alloc, proof.written(), PROOF, &[], None)?;
     let words = [format!(in alloc; "txgraph")?, format!(in alloc; "check")?];
     assert!(rt; run(alloc, &words, &mut source, &mut said) == Status::Done);
-    assert_eq!(rt; said.written(), b"yes\n");
+    assert_eq!(rt; said.written(), b"yes\n".as_slice());
     Ok(())
 }
 
