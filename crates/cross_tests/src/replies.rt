@@ -1,8 +1,8 @@
-//! The session answers lines as the plain lists do.
+//! The session answers lines as the plain lists do, and proves its orders to the checker.
 use graph_model::{IdBuf, MAX_LINE, Refusal};
-use outside::{Failed, MemSink, Sink};
+use outside::{Failed, MemSink, MemSource, Sink};
 use plain_graph::Plain;
-use replay::{Piece, Session};
+use replay::{Piece, Session, Status, run};
 use std::alloc::{AllocError, Global};
 use std::process::Abort;
 use std::test::Fail;
@@ -108,6 +108,28 @@ fn agree<const W: usize>(
     Ok(())
 }
 
+/// Room for the proof of a level, in bytes.
+const PROOF: usize = 1_000_000;
+
+/// Hands the proof of main to the checker, which must say `yes`.
+fn prove<const W: usize>(
+    rt: &impl Abort,
+    alloc: Global,
+    session: &mut Session<W>,
+) -> Result<(), Fail> {
+    let mut proof = MemSink::new(alloc, PROOF, &[], PROOF)?;
+    let mut said = MemSink::new(alloc, 16, &[], 16)?;
+    assert!(rt; session.additions() < 1_000_000);
+    session
+        .one(Piece::Whole(b"proof main"), &mut proof)
+        .expect(rt, "the sink has room");
+    let mut source = MemSource::new(alloc, proof.written(), PROOF, &[], None)?;
+    let words = [format!(in alloc; "txgraph")?, format!(in alloc; "check")?];
+    assert!(rt; run(alloc, &words, &mut source, &mut said) == Status::Done);
+    assert_eq!(rt; said.written(), b"yes\n".as_slice());
+    Ok(())
+}
+
 /// Where runs begin, and the line that sets their limits.
 const RUNS: [(u64, &str); 5] = [
     (1, "limits 64 256000000 1048576"),
@@ -128,9 +150,12 @@ fn agree_on_run<const W: usize>(
 ) -> Result<(), Fail> {
     let mut state = seed;
     agree(rt, alloc, session, plain, limits)?;
-    for at in 1..1500 {
+    for at in 1..4000 {
         let line = line_at(alloc, &mut state, at)?;
         agree(rt, alloc, session, plain, &line)?;
+        if at % 100 == 0 {
+            prove(rt, alloc, session)?;
+        }
     }
     agree(rt, alloc, session, plain, limits)
 }

@@ -1,10 +1,10 @@
 -- The steps of the readings of an order, which tell of the picks.
-use Rattle.std.proofs.Common.{◌≡◌, ℕ, true, false, List, map, Contains, ◌↔◌, sym, refl, ap, ap₂, subst, subst₂, ◌∙◌, inl, inr, Option, None, Some, true≢false}
+use Rattle.std.proofs.Common.{◌≡◌, ℕ, true, false, List, map, Contains, ◌↔◌, sym, refl, ap, ap₂, subst, subst₂, ◌∙◌, inl, inr, None, Some, true≢false}
 use Rattle.fee_rate.specs.declared.rates.Sum.{Sum}
 use Rattle.graphs.specs.declared.names.Level.{Level}
 use Rattle.graphs.specs.declared.names.Level.TheVariants.{Main, Top}
 use Rattle.graphs.specs.Certificates.{Part}
-use Rattle.graphs.specs.Closures.{is_member, rate_of, IsCover}
+use Rattle.graphs.specs.Closures.{is_member}
 use Rattle.graphs.specs.Closing.{IsClosureOf}
 use Rattle.graphs.specs.Graphs.{Graph}
 use Rattle.graphs.specs.Graphs as plain

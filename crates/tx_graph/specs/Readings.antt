@@ -1,5 +1,5 @@
 -- What the readings of an order find.
-use Rattle.std.specs.Prelude.{◌≡◌, ◌↔◌, ℕ, List, map, flat_map, Contains, Result, Ok, Err}
+use Rattle.std.specs.Prelude.{◌≡◌, ◌↔◌, ℕ, List, map, Contains, Result, Ok, Err}
 use Rattle.graphs.specs.declared.names.Level.{Level}
 use Rattle.graphs.specs.declared.names.Level.TheVariants.{Main}
 use Rattle.graphs.specs.Certificates.{Part}

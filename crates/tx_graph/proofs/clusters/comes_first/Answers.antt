@@ -1,4 +1,4 @@
-use Rattle.std.proofs.Common.{length, take, Contains, sym, subst}
+use Rattle.std.proofs.Common.{Contains, sym, subst}
 use Rattle.std.proofs.lemmas.List.{take_all}
 use Rattle.lists.proofs.Entries.{none_in_empty}
 use Rattle.tx_graph.proofs.Firsts.{later_first, not_yet}

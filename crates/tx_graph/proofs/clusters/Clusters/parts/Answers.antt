@@ -1,5 +1,5 @@
 -- The merged parts are an optimal order of what is kept.
-use Rattle.std.proofs.Common.{List, map, subst}
+use Rattle.std.proofs.Common.{map, subst}
 use Rattle.graphs.specs.Closing.{IsClosureOf}
 use Rattle.graphs.specs.Graphs.{Graph}
 use Rattle.graphs.specs.Linearizations.{IsOptimal}
