@@ -21,7 +21,8 @@ use Rattle.replay.specs.Writings.{ListsEach, tx_line_of, edges_lines}
 use Rattle.replay.proofs.WritingLemmas.{map_twice}
 
 -- ---- edges child by child
-pub each_append : (graph : Closure) (order xs ys : List ℕ) (one two : List (ℕ × ℕ)) → ListsEach graph order xs one → ListsEach graph order ys two → ListsEach graph order (xs ++ ys) (one ++ two)
+pub each_append : (graph : Closure) (order xs ys : List ℕ) (one two : List (ℕ × ℕ)) → ListsEach graph order xs one → ListsEach graph order ys two
+    → ListsEach graph order (xs ++ ys) (one ++ two)
 each_append graph order [] ys one two first second = rw first second
 each_append graph order (x ∷ xs) ys one two first second = (
   first.0,
@@ -31,7 +32,8 @@ each_append graph order (x ∷ xs) ys one two first second = (
   ap (λ (edges : List (ℕ × ℕ)). edges ++ two) first.4 ∙ append_assoc (map (λ (parent : ℕ). (parent, x)) first.0) first.1 two,
 )
 
-pub each_one : (graph : Closure) (order : List ℕ) (child : ℕ) (parents : List ℕ) → ListsCovers graph order child parents → ListsEach graph order (child ∷ []) (map (λ (parent : ℕ). (parent, child)) parents)
+pub each_one : (graph : Closure) (order : List ℕ) (child : ℕ) (parents : List ℕ) → ListsCovers graph order child parents
+    → ListsEach graph order (child ∷ []) (map (λ (parent : ℕ). (parent, child)) parents)
 each_one graph order child parents covers = (parents, [], covers, refl, sym (append-nil (map (λ (parent : ℕ). (parent, child)) parents)))
 
 either : {P Q R : Type 0} → P ⊎ Q → (P → R) → (Q → R) → R
@@ -39,15 +41,20 @@ either (inl p) f g = f p
 either (inr q) f g = g q
 
 -- whether such an edge is listed
-first_exact : (graph : Closure) (order xs : List ℕ) (x : ℕ) (parents : List ℕ) (a d : ℕ) → ListsCovers graph order x parents → Contains {X = ℕ × ℕ} (map (λ (parent : ℕ). (parent, x)) parents) (a, d) → Contains (x ∷ xs) d × IsCover graph a d
+first_exact : (graph : Closure) (order xs : List ℕ) (x : ℕ) (parents : List ℕ) (a d : ℕ) → ListsCovers graph order x parents
+    → Contains {X = ℕ × ℕ} (map (λ (parent : ℕ). (parent, x)) parents) (a, d) → Contains (x ∷ xs) d × IsCover graph a d
 first_exact graph order xs x parents a d covers here =
     let found = map-Contains (λ (parent : ℕ). (parent, x)) parents (a, d) here in
     let parent : found.0 ≡ a = ap (λ (edge : ℕ × ℕ). edge.0) found.2 in
     let child : x ≡ d = ap (λ (edge : ℕ × ℕ). edge.1) found.2 in
     (subst (λ (y : ℕ). Contains (x ∷ xs) y) child (Contains-head x xs), subst₂ (λ (p c : ℕ). IsCover graph p c) parent child ((covers.exact found.0).0 found.1))
 
-pub each_exact : (graph : Closure) (order ids : List ℕ) (edges : List (ℕ × ℕ)) → ListsEach graph order ids edges → (a d : ℕ) → Contains edges (a, d) ↔ (Contains ids d × IsCover graph a d)
-each_exact graph order [] edges none a d = (λ here. absurd (none_in_empty (a, d) (subst (λ (es : List (ℕ × ℕ)). Contains es (a, d)) none here)), λ both. absurd (none_in_empty d both.0))
+pub each_exact : (graph : Closure) (order ids : List ℕ) (edges : List (ℕ × ℕ)) → ListsEach graph order ids edges → (a d : ℕ)
+    → Contains edges (a, d) ↔ (Contains ids d × IsCover graph a d)
+each_exact graph order [] edges none a d = (
+  λ here. absurd (none_in_empty (a, d) (subst (λ (es : List (ℕ × ℕ)). Contains es (a, d)) none here)),
+  λ both. absurd (none_in_empty d both.0),
+)
 each_exact graph order (x ∷ xs) edges each a d =
     let own : List (ℕ × ℕ) = map (λ (parent : ℕ). (parent, x)) each.0 in
     let later = each_exact graph order xs each.1 each.3 a d in
@@ -69,11 +76,13 @@ later_of : {A : Type 0} (R : A → A → Type 0) (xs front rest : List A) (a b :
 later_of R xs [] rest a b each is here = absurd (none_in_empty a here)
 later_of R [] (y ∷ front) rest a b each is here = absurd (not_empty (sym is))
 later_of {A} R (x ∷ xs) (y ∷ front) rest a b each is here = elim (Contains-cases y a front here) [
-  | inl same ↦ subst (λ (z : A). R z b) (first_of is ∙ same) (each.0 b (subst (λ (zs : List A). Contains zs b) (sym (rest_of is)) (Contains-append_right front (b ∷ rest) b (Contains-head b rest))))
+  | inl same ↦ subst (λ (z : A). R z b) (first_of is ∙ same) (each.0 b
+      (subst (λ (zs : List A). Contains zs b) (sym (rest_of is)) (Contains-append_right front (b ∷ rest) b (Contains-head b rest))))
   | inr far ↦ later_of R xs front rest a b each.1 (rest_of is) far
 ]
 
-each_joined : {A : Type 0} (R : A → A → Type 0) (xs ys : List A) → EachLater R xs → EachLater R ys → ((x y : A) → Contains xs x → Contains ys y → R x y) → EachLater R (xs ++ ys)
+each_joined : {A : Type 0} (R : A → A → Type 0) (xs ys : List A) → EachLater R xs → EachLater R ys → ((x y : A) → Contains xs x → Contains ys y → R x y)
+    → EachLater R (xs ++ ys)
 each_joined R [] ys one two across = two
 each_joined R (x ∷ xs) ys one two across = (
   λ y here. elim (Contains-append_cases xs ys y here) [ inl first ↦ one.0 y first | inr second ↦ across x y (Contains-head x xs) second ],
@@ -105,12 +114,16 @@ Before order a b = StandsBefore order a.0 b.0 ⊎ ((a.0 ≡ b.0) × StandsBefore
 abbrev swapped : ℕ × ℕ → ℕ × ℕ
 swapped edge = (edge.1, edge.0)
 
-each_follows : (graph : Closure) (order front ids : List ℕ) (edges : List (ℕ × ℕ)) → order ≡ front ++ ids → ListsEach graph order ids edges → EachLater (Before order) (map swapped edges)
+each_follows : (graph : Closure) (order front ids : List ℕ) (edges : List (ℕ × ℕ)) → order ≡ front ++ ids → ListsEach graph order ids edges
+    → EachLater (Before order) (map swapped edges)
 each_follows graph order front [] edges cut none = subst (λ (es : List (ℕ × ℕ)). EachLater (Before order) (map swapped es)) (sym none) tt
 each_follows graph order front (x ∷ xs) edges cut each =
     let own = map (λ (parent : ℕ). (parent, x)) each.0 in
     let links = map (λ (parent : ℕ). (x, parent)) each.0 in
-    let on : map swapped edges ≡ links ++ map swapped each.1 = ap (map swapped) each.4 ∙ map-append swapped own each.1 ∙ ap (λ (ls : List (ℕ × ℕ)). ls ++ map swapped each.1) (map_twice swapped (λ (parent : ℕ). (parent, x)) each.0) in
+    let on : map swapped edges ≡ links ++ map swapped each.1 =
+    ap (map swapped) each.4
+        ∙ map-append swapped own each.1
+        ∙ ap (λ (ls : List (ℕ × ℕ)). ls ++ map swapped each.1) (map_twice swapped (λ (parent : ℕ). (parent, x)) each.0) in
     let mine = each_mapped (Before order) (λ (parent : ℕ). (x, parent)) each.0 (λ a b before. inr (refl, each.2.in_order a b before)) in
     let others = each_follows graph order (front ++ x ∷ []) xs each.1 (cut ∙ sym (append_assoc front (x ∷ []) xs)) each.3 in
     subst (EachLater (Before order)) (sym on) (each_joined (Before order) links (map swapped each.1) mine others (λ a b there here.
@@ -118,28 +131,42 @@ each_follows graph order front (x ∷ xs) edges cut each =
       let second = map-Contains swapped each.1 b here in
       let child = ((each_exact graph order xs each.1 each.3 second.0.0 second.0.1).0 second.1).0 in
       let at = cut_at xs second.0.1 child in
-      let stands : StandsBefore order x second.0.1 = (front ++ x ∷ at.0, at.1, cut ∙ ap (λ (zs : List ℕ). front ++ x ∷ zs) at.2 ∙ sym (append_assoc front (x ∷ at.0) (second.0.1 ∷ at.1)), Contains-append_right front (x ∷ at.0) x (Contains-head x at.0)) in
+      let stands : StandsBefore order x second.0.1 = (
+        front ++ x ∷ at.0,
+        at.1,
+        cut ∙ ap (λ (zs : List ℕ). front ++ x ∷ zs) at.2 ∙ sym (append_assoc front (x ∷ at.0) (second.0.1 ∷ at.1)),
+        Contains-append_right front (x ∷ at.0) x (Contains-head x at.0),
+      ) in
       subst₂ (Before order) first.2 second.2 (inl stands)))
 
-pub edges_follow : (graph : Closure) (order : List ℕ) (edges : List (ℕ × ℕ)) → ListsEach graph order order edges → FollowOrder order (map (λ edge. (edge.1, edge.0)) edges)
-edges_follow graph order edges each a b before = later_of (Before order) (map swapped edges) before.0 before.1 a b (each_follows graph order [] order edges refl each) before.2 before.3
+pub edges_follow : (graph : Closure) (order : List ℕ) (edges : List (ℕ × ℕ)) → ListsEach graph order order edges
+    → FollowOrder order (map (λ edge. (edge.1, edge.0)) edges)
+edges_follow graph order edges each a b before = later_of (Before order) (map swapped edges) before.0 before.1 a b
+    (each_follows graph order [] order edges refl each) before.2 before.3
 
 -- ---- the names of the parts
 level_is : (kept : Kept) (state : PlainState) (level : Level) → StandsPlainly kept state → level_of state level ≡ state.main
 level_is kept state Main stands = refl
 level_is kept state Top stands = ap (top_of state.main) stands.staging
 
-pub names_live : (kept : Kept) (state : State) (level : Level) (parts : List Part) → StandsFor kept state → IsBestOrder state level parts → (id : ℕ) → Contains (order_of parts) id ↔ (is_member kept.graph id ≡ true)
+pub names_live : (kept : Kept) (state : State) (level : Level) (parts : List Part) → StandsFor kept state → IsBestOrder state level parts → (id : ℕ)
+    → Contains (order_of parts) id ↔ (is_member kept.graph id ≡ true)
 names_live kept state level parts stands best id =
-    let names = subst (λ (graph : Graph). Contains (order_of parts) id ↔ Contains graph.names id) (level_is kept state.plain level stands.plain) (best.certified.certificate.order.topological.names id) in
+    let names = subst (λ (graph : Graph). Contains (order_of parts) id ↔ Contains graph.names id) (level_is kept state.plain level stands.plain)
+        (best.certified.certificate.order.topological.names id) in
     let live = stands.plain.closure.names id in
     (λ here. live.0 (names.0 here), λ here. names.1 (live.1 here))
 
 -- ---- the text
 abbrev pub text_with : Kept → List (ℕ × ℕ) → Text
-text_with kept edges = record { txs = map (λ id. (id, (rate_of kept.graph id).fee, (rate_of kept.graph id).size)) (order_of kept.parts); edges = edges; parts = kept.parts }
+text_with kept edges = record {
+  txs = map (λ id. (id, (rate_of kept.graph id).fee, (rate_of kept.graph id).size)) (order_of kept.parts);
+  edges = edges;
+  parts = kept.parts;
+}
 
-pub text_is : (kept : Kept) (state : State) (level : Level) (edges : List (ℕ × ℕ)) → StandsFor kept state → IsBestOrder state level kept.parts → ListsEach kept.graph (order_of kept.parts) (order_of kept.parts) edges → IsTextOf kept (text_with kept edges)
+pub text_is : (kept : Kept) (state : State) (level : Level) (edges : List (ℕ × ℕ)) → StandsFor kept state → IsBestOrder state level kept.parts
+    → ListsEach kept.graph (order_of kept.parts) (order_of kept.parts) edges → IsTextOf kept (text_with kept edges)
 text_is kept state level edges stands best each = record {
   txs = refl;
   exact = λ a d.
@@ -153,5 +180,7 @@ text_is kept state level edges stands best each = record {
 pub text_lines_are : (kept : Kept) (edges : List (ℕ × ℕ)) (first last : List Part) → first ≡ kept.parts → last ≡ kept.parts
     → text_lines (text_with kept edges) ≡ map (tx_line_of kept.graph) (order_of first) ++ edges_lines edges ++ flat_map part_lines last ++ codes "end" ∷ []
 text_lines_are kept edges first last one two =
-    let txs = map_twice (λ (tx : ℕ × ℤ × ℕ). tx_line tx.0 tx.1 tx.2) (λ id. (id, (rate_of kept.graph id).fee, (rate_of kept.graph id).size)) (order_of kept.parts) in
-    ap₂ (λ (lines : List (List ℕ)) (parts : List Part). lines ++ edges_lines edges ++ flat_map part_lines parts ++ codes "end" ∷ []) (txs ∙ ap (λ (parts : List Part). map (tx_line_of kept.graph) (order_of parts)) (sym one)) (sym two)
+    let txs = map_twice (λ (tx : ℕ × ℤ × ℕ). tx_line tx.0 tx.1 tx.2) (λ id. (id, (rate_of kept.graph id).fee, (rate_of kept.graph id).size))
+        (order_of kept.parts) in
+    ap₂ (λ (lines : List (List ℕ)) (parts : List Part). lines ++ edges_lines edges ++ flat_map part_lines parts ++ codes "end" ∷ [])
+        (txs ∙ ap (λ (parts : List Part). map (tx_line_of kept.graph) (order_of parts)) (sym one)) (sym two)

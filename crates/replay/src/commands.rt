@@ -58,7 +58,7 @@ fn read<const W: usize>(graph: &mut TxGraph<W>, ids: &mut IdBuf, bytes: &[u8]) -
     obey_unpaid::<Brand, TxGraph<W>>(graph, ids, line, Blank::new(1))
 }
 
-/// What obeys commands.
+/// What obeys commands, and is read.
 ///
 /// A graph does so through this trait because a function that is given a token of its own ledger can't have a number of
 /// words among its parameters.

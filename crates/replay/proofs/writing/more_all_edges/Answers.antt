@@ -12,7 +12,8 @@ use Rattle.replay.proofs.writing.more_all_edges.Goals as goal
 pub more_edges-so_far-requires : goal.more_edges-so_far-requires
 more_edges-so_far-requires g c = (
   search rules,
-  λ id here. c.requires id (held_by (λ (part : Part). part.ids) c.args.parts (map lent c.loop-part.yielded) c.loop-part.part-iterator c.next.new.self (lent c.in-Some.part) c.loop-part.invariant.rest c.in-Some.ensures.steps id here),
+  λ id here. c.requires id (held_by (λ (part : Part). part.ids) c.args.parts (map lent c.loop-part.yielded) c.loop-part.part-iterator c.next.new.self
+      (lent c.in-Some.part) c.loop-part.invariant.rest c.in-Some.ensures.steps id here),
 )
 
 pub loop-part-preserved : goal.loop-part-preserved
@@ -27,7 +28,8 @@ loop-part-preserved g c =
       rest = rest_on lent c.args.parts c.loop-part.yielded c.loop-part.part-iterator c.next.new.self c.in-Some.part c.loop-part.invariant.rest c.in-Some.ensures.steps;
       out = (
         edges ++ own,
-        subst (λ (ids : List ℕ). ListsEach graph order ids (edges ++ own)) (sym (flat_map_push (λ (part : Part). part.ids) lent c.loop-part.yielded c.in-Some.part)) each,
+        subst (λ (ids : List ℕ). ListsEach graph order ids (edges ++ own))
+            (sym (flat_map_push (λ (part : Part). part.ids) lent c.loop-part.yielded c.in-Some.part)) each,
         lines_on _ _ _ _ _ _ _ _ _ (edges_lines edges) (edges_lines own) _ out more (map-append (λ (edge : ℕ × ℕ). edge_line edge.0 edge.1) edges own),
       );
     }

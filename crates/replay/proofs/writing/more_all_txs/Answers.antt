@@ -10,7 +10,8 @@ use Rattle.replay.proofs.writing.more_all_txs.Goals as goal
 pub more_txs-so_far-requires : goal.more_txs-so_far-requires
 more_txs-so_far-requires g c = (
   search rules,
-  λ id here. c.requires id (held_by (λ (part : Part). part.ids) c.args.parts (map lent c.loop-part.yielded) c.loop-part.part-iterator c.next.new.self (lent c.in-Some.part) c.loop-part.invariant.rest c.in-Some.ensures.steps id here),
+  λ id here. c.requires id (held_by (λ (part : Part). part.ids) c.args.parts (map lent c.loop-part.yielded) c.loop-part.part-iterator c.next.new.self
+      (lent c.in-Some.part) c.loop-part.invariant.rest c.in-Some.ensures.steps id here),
 )
 
 pub loop-part-preserved : goal.loop-part-preserved
@@ -20,5 +21,6 @@ loop-part-preserved g c =
     let own = c.in-Some.part.ids.now in
     record {
       rest = rest_on lent c.args.parts c.loop-part.yielded c.loop-part.part-iterator c.next.new.self c.in-Some.part c.loop-part.invariant.rest c.in-Some.ensures.steps;
-      out = lines_on _ _ _ _ _ _ _ _ _ (map line before) (map line own) _ c.loop-part.invariant.out c.more_txs-so_far.ensures (ap (map line) (flat_map_push (λ (part : Part). part.ids) lent c.loop-part.yielded c.in-Some.part) ∙ map-append line before own);
+      out = lines_on _ _ _ _ _ _ _ _ _ (map line before) (map line own) _ c.loop-part.invariant.out c.more_txs-so_far.ensures
+          (ap (map line) (flat_map_push (λ (part : Part). part.ids) lent c.loop-part.yielded c.in-Some.part) ∙ map-append line before own);
     }

@@ -9,5 +9,6 @@ use Rattle.replay.proofs.writing.more_parts.Given as goal
 abbrev pub invariant-loop-part : goal.invariant-loop-part
 invariant-loop-part g l = record {
   rest : l.fn.parts ≡ map lent l.yielded ++ l.part-iterator;
-  out : GoesOnLines l.fn.so_far (g.K.Sink.written l.fn.sink) (g.K.Sink.written l.sink) (g.K.Sink.faults l.fn.sink) (g.K.Sink.faults l.sink) l.so_far (flat_map part_lines (map lent l.yielded));
+  out : GoesOnLines l.fn.so_far (g.K.Sink.written l.fn.sink) (g.K.Sink.written l.sink) (g.K.Sink.faults l.fn.sink) (g.K.Sink.faults l.sink) l.so_far
+      (flat_map part_lines (map lent l.yielded));
 }

@@ -5,4 +5,5 @@ use Rattle.replay.proofs.writing.more_txs.Given as goal
 -- the transactions so far were written
 abbrev pub invariant-loop-id : goal.invariant-loop-id
 invariant-loop-id g l =
-    GoesOnLines l.fn.so_far (g.K.Sink.written l.fn.sink) (g.K.Sink.written l.sink) (g.K.Sink.faults l.fn.sink) (g.K.Sink.faults l.sink) l.so_far (map (tx_line_of l.fn.graph.graph) (take l.id-index l.ids))
+    GoesOnLines l.fn.so_far (g.K.Sink.written l.fn.sink) (g.K.Sink.written l.sink) (g.K.Sink.faults l.fn.sink) (g.K.Sink.faults l.sink) l.so_far
+        (map (tx_line_of l.fn.graph.graph) (take l.id-index l.ids))

@@ -13,12 +13,14 @@ use Rattle.replay.proofs.writing.write_proof.Goals as goal
 pub more_all_txs-so_far-requires : goal.more_all_txs-so_far-requires
 more_all_txs-so_far-requires g c =
     let state = c.additions-additions.ensures.stands in
-    (search rules, (search rules, λ id here. (names_live c.args.graph.now state.0 c.args.level c.order.result state.1 (c.order.ensures.best state.0 state.1) id).0 here))
+    let best = c.order.ensures.best state.0 state.1 in
+    (search rules, (search rules, λ id here. (names_live c.args.graph.now state.0 c.args.level c.order.result state.1 best id).0 here))
 
 pub more_all_edges-so_far-requires : goal.more_all_edges-so_far-requires
 more_all_edges-so_far-requires g c =
     let state = c.additions-additions.ensures.stands in
-    (search rules, (search rules, λ id here. (names_live c.args.graph.now state.0 c.args.level c.order-2.result state.1 (c.order-2.ensures.best state.0 state.1) id).0 here))
+    let best = c.order-2.ensures.best state.0 state.1 in
+    (search rules, (search rules, λ id here. (names_live c.args.graph.now state.0 c.args.level c.order-2.result state.1 best id).0 here))
 
 pub returns : goal.returns
 returns g c =
@@ -27,13 +29,15 @@ returns g c =
     let last = c.order-3.result in
     let edges = c.more_all_edges-so_far.ensures.0 in
     let each : ListsEach kept.graph (order_of kept.parts) (order_of kept.parts) edges =
-    subst (λ (parts : List Part). ListsEach kept.graph (order_of kept.parts) (order_of parts) edges) c.order-2.ensures.parts c.more_all_edges-so_far.ensures.1 in
+    subst (λ (parts : List Part). ListsEach kept.graph (order_of kept.parts) (order_of parts) edges)
+        c.order-2.ensures.parts c.more_all_edges-so_far.ensures.1 in
     let txs = map (tx_line_of kept.graph) (order_of first) in
     let pairs = edges_lines edges in
     let parts = flat_map part_lines last in
     let one = lines_on _ _ _ _ _ _ (Ok tt) _ _ txs pairs (txs ++ pairs) c.more_all_txs-so_far.ensures c.more_all_edges-so_far.ensures.2 refl in
     let two = lines_on _ _ _ _ _ _ (Ok tt) _ _ (txs ++ pairs) parts (txs ++ pairs ++ parts) one c.more_parts-so_far.ensures refl in
-    let written = lines_on _ _ _ _ _ _ (Ok tt) _ _ (txs ++ pairs ++ parts) (codes "end" ∷ []) _ two c.more.ensures (text_lines_are kept edges first last c.order.ensures.parts c.order-3.ensures.parts) in
+    let written = lines_on _ _ _ _ _ _ (Ok tt) _ _ (txs ++ pairs ++ parts) (codes "end" ∷ []) _ two c.more.ensures
+        (text_lines_are kept edges first last c.order.ensures.parts c.order-3.ensures.parts) in
     let text = text_with kept edges in (
       runs.Replies (Proves text),
       (

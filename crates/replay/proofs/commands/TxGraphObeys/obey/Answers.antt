@@ -1,7 +1,7 @@
 use Rattle.std.proofs.Common.{subst, ◌∙◌, refl, sym, ap, rules, ℤ, FitsSigned}
 use Rattle.std.specs.Int.{w64}
 use Rattle.std.proofs.lemmas.Int.{to_z-of_z}
-use Rattle.graph_model.specs.Commands.{Add, SetFee}
+use Rattle.graph_model.specs.Commands.{Add, SetFee, Order, Proof, Chunk, Before}
 use Rattle.graph_model.specs.Replies.{Number}
 use Rattle.graph_model.specs.Lines.{Quiet, NoForm, Says, Means}
 use Rattle.graph_model.specs.Runs.{Silence, Unread}
@@ -79,25 +79,25 @@ pub returns-in-Mine-clause-suits : goal.returns-in-Mine-clause-suits
 returns-in-Mine-clause-suits g c bytes short means answer told = rw told (short, subst (Means bytes) (unbuilt_form c.args.line c.args.ids.now.ids c.in-Mine.is) means)
 
 pub returns-in-Order-clause-line : goal.returns-in-Order-clause-line
-returns-in-Order-clause-line g c bytes short means answer told = read_answers _ _ bytes _ _ answer short means (ap (λ l. meaning_of l c.args.ids.now.ids) c.in-Order.is) refl told
+returns-in-Order-clause-line g c bytes short means answer told = read_answers _ _ bytes _ (Order c.in-Order.level) answer short means (ap (λ l. meaning_of l c.args.ids.now.ids) c.in-Order.is) refl told
 
 pub returns-in-Order-clause-suits : goal.returns-in-Order-clause-suits
-returns-in-Order-clause-suits g c bytes short means answer told = read_suits _ bytes _ _ answer short means (ap (λ l. meaning_of l c.args.ids.now.ids) c.in-Order.is) told
+returns-in-Order-clause-suits g c bytes short means answer told = read_suits _ bytes _ (Order c.in-Order.level) answer short means (ap (λ l. meaning_of l c.args.ids.now.ids) c.in-Order.is) told
 
 pub returns-in-Proof-clause-line : goal.returns-in-Proof-clause-line
-returns-in-Proof-clause-line g c bytes short means answer told = read_answers _ _ bytes _ _ answer short means (ap (λ l. meaning_of l c.args.ids.now.ids) c.in-Proof.is) refl told
+returns-in-Proof-clause-line g c bytes short means answer told = read_answers _ _ bytes _ (Proof c.in-Proof.level) answer short means (ap (λ l. meaning_of l c.args.ids.now.ids) c.in-Proof.is) refl told
 
 pub returns-in-Proof-clause-suits : goal.returns-in-Proof-clause-suits
-returns-in-Proof-clause-suits g c bytes short means answer told = read_suits _ bytes _ _ answer short means (ap (λ l. meaning_of l c.args.ids.now.ids) c.in-Proof.is) told
+returns-in-Proof-clause-suits g c bytes short means answer told = read_suits _ bytes _ (Proof c.in-Proof.level) answer short means (ap (λ l. meaning_of l c.args.ids.now.ids) c.in-Proof.is) told
 
 pub returns-in-Chunk-clause-line : goal.returns-in-Chunk-clause-line
-returns-in-Chunk-clause-line g c bytes short means answer told = read_answers _ _ bytes _ _ answer short means (ap (λ l. meaning_of l c.args.ids.now.ids) c.in-Chunk.is) refl told
+returns-in-Chunk-clause-line g c bytes short means answer told = read_answers _ _ bytes _ (Chunk c.in-Chunk.id) answer short means (ap (λ l. meaning_of l c.args.ids.now.ids) c.in-Chunk.is) refl told
 
 pub returns-in-Chunk-clause-suits : goal.returns-in-Chunk-clause-suits
-returns-in-Chunk-clause-suits g c bytes short means answer told = read_suits _ bytes _ _ answer short means (ap (λ l. meaning_of l c.args.ids.now.ids) c.in-Chunk.is) told
+returns-in-Chunk-clause-suits g c bytes short means answer told = read_suits _ bytes _ (Chunk c.in-Chunk.id) answer short means (ap (λ l. meaning_of l c.args.ids.now.ids) c.in-Chunk.is) told
 
 pub returns-in-Before-clause-line : goal.returns-in-Before-clause-line
-returns-in-Before-clause-line g c bytes short means answer told = reading_answers _ _ bytes _ _ _ _ short means (ap (λ l. meaning_of l c.args.ids.now.ids) c.in-Before.is) c.before.ensures.step refl (c.placed.ensures _ _ answer told)
+returns-in-Before-clause-line g c bytes short means answer told = reading_answers _ _ bytes _ (Before c.in-Before.a c.in-Before.b) _ _ short means (ap (λ l. meaning_of l c.args.ids.now.ids) c.in-Before.is) c.before.ensures.step refl (c.placed.ensures _ _ answer told)
 
 pub returns-in-Before-clause-suits : goal.returns-in-Before-clause-suits
-returns-in-Before-clause-suits g c bytes short means answer told = reply_suits bytes _ _ _ _ short means (ap (λ l. meaning_of l c.args.ids.now.ids) c.in-Before.is) (c.placed.ensures _ _ answer told)
+returns-in-Before-clause-suits g c bytes short means answer told = reply_suits bytes _ (Before c.in-Before.a c.in-Before.b) _ _ short means (ap (λ l. meaning_of l c.args.ids.now.ids) c.in-Before.is) (c.placed.ensures _ _ answer told)
