@@ -57,14 +57,13 @@ each_exact graph order [] edges none a d = (
 )
 each_exact graph order (x ∷ xs) edges each a d =
     let own : List (ℕ × ℕ) = map (λ (parent : ℕ). (parent, x)) each.0 in
-    let later = each_exact graph order xs each.1 each.3 a d in
-    (
+    let later = each_exact graph order xs each.1 each.3 a d in (
       λ here. either (Contains-append_cases {X = ℕ × ℕ} own each.1 (a, d) (subst (λ (es : List (ℕ × ℕ)). Contains es (a, d)) each.4 here))
-        (first_exact graph order xs x each.0 a d each.2) (λ rest. let got = later.0 rest in (Contains-later x d xs got.0, got.1)),
+          (first_exact graph order xs x each.0 a d each.2) (λ rest. let got = later.0 rest in (Contains-later x d xs got.0, got.1)),
       λ both. subst (λ (es : List (ℕ × ℕ)). Contains es (a, d)) (sym each.4) (either (Contains-cases x d xs both.0)
-        (λ same. Contains-append_left {X = ℕ × ℕ} own each.1 (a, d) (subst (λ (y : ℕ). Contains {X = ℕ × ℕ} own (a, y)) same
+          (λ same. Contains-append_left {X = ℕ × ℕ} own each.1 (a, d) (subst (λ (y : ℕ). Contains {X = ℕ × ℕ} own (a, y)) same
           (Contains-map (λ (parent : ℕ). (parent, x)) each.0 a ((each.2.exact a).1 (subst (λ (y : ℕ). IsCover graph a y) (sym same) both.1)))))
-        (λ rest. Contains-append_right {X = ℕ × ℕ} own each.1 (a, d) (later.1 (rest, both.1)))),
+          (λ rest. Contains-append_right {X = ℕ × ℕ} own each.1 (a, d) (later.1 (rest, both.1)))),
     )
 
 -- ---- what holds of each entry and every later one
@@ -101,9 +100,9 @@ each_mapped : {A B : Type 0} (R : B → B → Type 0) (f : A → B) (xs : List A
 each_mapped R f [] follows = tt
 each_mapped {A} {B} R f (x ∷ xs) follows = (
   λ y here.
-    let found = map-Contains f xs y here in
-    let cut = cut_at xs found.0 found.1 in
-    subst (λ (z : B). R (f x) z) found.2 (follows x found.0 (x ∷ cut.0, cut.1, ap (λ (zs : List A). x ∷ zs) cut.2, Contains-head x cut.0)),
+      let found = map-Contains f xs y here in
+      let cut = cut_at xs found.0 found.1 in
+      subst (λ (z : B). R (f x) z) found.2 (follows x found.0 (x ∷ cut.0, cut.1, ap (λ (zs : List A). x ∷ zs) cut.2, Contains-head x cut.0)),
   each_mapped R f xs (λ a b before. follows a b (x ∷ before.0, before.1, ap (λ (zs : List A). x ∷ zs) before.2, Contains-later x a before.0 before.3)),
 )
 
@@ -122,22 +121,22 @@ each_follows graph order front (x ∷ xs) edges cut each =
     let links = map (λ (parent : ℕ). (x, parent)) each.0 in
     let on : map swapped edges ≡ links ++ map swapped each.1 =
     ap (map swapped) each.4
-        ∙ map-append swapped own each.1
-        ∙ ap (λ (ls : List (ℕ × ℕ)). ls ++ map swapped each.1) (map_twice swapped (λ (parent : ℕ). (parent, x)) each.0) in
+    ∙ map-append swapped own each.1
+    ∙ ap (λ (ls : List (ℕ × ℕ)). ls ++ map swapped each.1) (map_twice swapped (λ (parent : ℕ). (parent, x)) each.0) in
     let mine = each_mapped (Before order) (λ (parent : ℕ). (x, parent)) each.0 (λ a b before. inr (refl, each.2.in_order a b before)) in
     let others = each_follows graph order (front ++ x ∷ []) xs each.1 (cut ∙ sym (append_assoc front (x ∷ []) xs)) each.3 in
     subst (EachLater (Before order)) (sym on) (each_joined (Before order) links (map swapped each.1) mine others (λ a b there here.
-      let first = map-Contains (λ (parent : ℕ). (x, parent)) each.0 a there in
-      let second = map-Contains swapped each.1 b here in
-      let child = ((each_exact graph order xs each.1 each.3 second.0.0 second.0.1).0 second.1).0 in
-      let at = cut_at xs second.0.1 child in
-      let stands : StandsBefore order x second.0.1 = (
-        front ++ x ∷ at.0,
-        at.1,
-        cut ∙ ap (λ (zs : List ℕ). front ++ x ∷ zs) at.2 ∙ sym (append_assoc front (x ∷ at.0) (second.0.1 ∷ at.1)),
-        Contains-append_right front (x ∷ at.0) x (Contains-head x at.0),
-      ) in
-      subst₂ (Before order) first.2 second.2 (inl stands)))
+    let first = map-Contains (λ (parent : ℕ). (x, parent)) each.0 a there in
+    let second = map-Contains swapped each.1 b here in
+    let child = ((each_exact graph order xs each.1 each.3 second.0.0 second.0.1).0 second.1).0 in
+    let at = cut_at xs second.0.1 child in
+    let stands : StandsBefore order x second.0.1 = (
+      front ++ x ∷ at.0,
+      at.1,
+      cut ∙ ap (λ (zs : List ℕ). front ++ x ∷ zs) at.2 ∙ sym (append_assoc front (x ∷ at.0) (second.0.1 ∷ at.1)),
+      Contains-append_right front (x ∷ at.0) x (Contains-head x at.0),
+    ) in
+    subst₂ (Before order) first.2 second.2 (inl stands)))
 
 pub edges_follow : (graph : Closure) (order : List ℕ) (edges : List (ℕ × ℕ)) → ListsEach graph order order edges
     → FollowOrder order (map (λ edge. (edge.1, edge.0)) edges)
@@ -153,7 +152,7 @@ pub names_live : (kept : Kept) (state : State) (level : Level) (parts : List Par
     → Contains (order_of parts) id ↔ (is_member kept.graph id ≡ true)
 names_live kept state level parts stands best id =
     let names = subst (λ (graph : Graph). Contains (order_of parts) id ↔ Contains graph.names id) (level_is kept state.plain level stands.plain)
-        (best.certified.certificate.order.topological.names id) in
+    (best.certified.certificate.order.topological.names id) in
     let live = stands.plain.closure.names id in
     (λ here. live.0 (names.0 here), λ here. names.1 (live.1 here))
 
@@ -170,9 +169,9 @@ pub text_is : (kept : Kept) (state : State) (level : Level) (edges : List (ℕ �
 text_is kept state level edges stands best each = record {
   txs = refl;
   exact = λ a d.
-    let exact = each_exact kept.graph (order_of kept.parts) (order_of kept.parts) edges each a d in
-    let here = names_live kept state level kept.parts stands best d in
-    (λ listed. (exact.0 listed).1, λ cover. exact.1 (here.1 (stands.plain.among a d cover.ancestor).1, cover));
+      let exact = each_exact kept.graph (order_of kept.parts) (order_of kept.parts) edges each a d in
+      let here = names_live kept state level kept.parts stands best d in
+      (λ listed. (exact.0 listed).1, λ cover. exact.1 (here.1 (stands.plain.among a d cover.ancestor).1, cover));
   in_order = edges_follow kept.graph (order_of kept.parts) edges each;
   parts = refl;
 }
@@ -181,6 +180,6 @@ pub text_lines_are : (kept : Kept) (edges : List (ℕ × ℕ)) (first last : Lis
     → text_lines (text_with kept edges) ≡ map (tx_line_of kept.graph) (order_of first) ++ edges_lines edges ++ flat_map part_lines last ++ codes "end" ∷ []
 text_lines_are kept edges first last one two =
     let txs = map_twice (λ (tx : ℕ × ℤ × ℕ). tx_line tx.0 tx.1 tx.2) (λ id. (id, (rate_of kept.graph id).fee, (rate_of kept.graph id).size))
-        (order_of kept.parts) in
+    (order_of kept.parts) in
     ap₂ (λ (lines : List (List ℕ)) (parts : List Part). lines ++ edges_lines edges ++ flat_map part_lines parts ++ codes "end" ∷ [])
-        (txs ∙ ap (λ (parts : List Part). map (tx_line_of kept.graph) (order_of parts)) (sym one)) (sym two)
+    (txs ∙ ap (λ (parts : List Part). map (tx_line_of kept.graph) (order_of parts)) (sym one)) (sym two)

@@ -30,14 +30,14 @@ pub lines_on : {T E : Type 0} (a b c : Option (List ℕ)) (p q s : ℕ) (start s
     → GoesOnLines start a c p s result lines
 lines_on a b c p q s start so_far result first second lines was more is =
     goes_further a b c p q s start so_far result (flat_map line_text first) (flat_map line_text second) (flat_map line_text lines) was more
-        (ap (flat_map line_text) is ∙ flat_map-append line_text first second)
+    (ap (flat_map line_text) is ∙ flat_map-append line_text first second)
 
 -- ---- what an iterator gave, and what is still to come
 pub rest_on : {A B : Type 0} (f : A → B) (all : List B) (given : List A) (now next : List B) (x : A) → all ≡ map f given ++ now → now ≡ f x ∷ next
     → all ≡ map f (given ++ x ∷ []) ++ next
 rest_on f all given now next x is step =
     is ∙ ap (λ (ys : List _). map f given ++ ys) step ∙ sym (append_assoc (map f given) (f x ∷ []) next) ∙ ap (λ (ys : List _). ys ++ next)
-        (sym (map-append f given (x ∷ [])))
+    (sym (map-append f given (x ∷ [])))
 
 pub rest_end : {B : Type 0} (all given now : List B) → all ≡ given ++ now → now ≡ [] → all ≡ given
 rest_end all given now is none = is ∙ ap (λ (ys : List _). given ++ ys) none ∙ append-nil given
@@ -49,7 +49,7 @@ pub flat_map_push : {A B C : Type 0} (g : B → List C) (f : A → B) (given : L
     → flat_map g (map f (given ++ x ∷ [])) ≡ flat_map g (map f given) ++ g (f x)
 flat_map_push g f given x =
     ap (flat_map g) (map-append f given (x ∷ [])) ∙ flat_map-append g (map f given) (f x ∷ []) ∙ ap (λ (ys : List _). flat_map g (map f given) ++ ys)
-        (append-nil (g (f x)))
+    (append-nil (g (f x)))
 
 pub rest_same : {A : Type 0} (all given now next : List A) (x : A) → all ≡ given ++ now → now ≡ x ∷ next → all ≡ (given ++ x ∷ []) ++ next
 rest_same all given now next x is step = is ∙ ap (λ (ys : List _). given ++ ys) step ∙ sym (append_assoc given (x ∷ []) next)
@@ -60,7 +60,7 @@ pub held_by : {B C : Type 0} (g : B → List C) (all front now next : List B) (x
 held_by g all front now next x is step y here =
     subst (λ (zs : List _). Contains (flat_map g zs) y) (sym (is ∙ ap (λ (ys : List _). front ++ ys) step))
     (subst (λ (zs : List _). Contains zs y) (sym (flat_map-append g front (x ∷ next)))
-        (Contains-append_right (flat_map g front) (g x ++ flat_map g next) y (Contains-append_left (g x) (flat_map g next) y here)))
+    (Contains-append_right (flat_map g front) (g x ++ flat_map g next) y (Contains-append_left (g x) (flat_map g next) y here)))
 
 pub map_take : {A B : Type 0} (f : A → B) (xs : List A) (i : ℕ) (d : A) → i < length xs → map f (take (i + 1) xs) ≡ map f (take i xs) ++ f (get_or xs i d) ∷ []
 map_take f xs i d below = ap (map f) (take_more xs i d below) ∙ map-append f (take i xs) (get_or xs i d ∷ [])

@@ -66,7 +66,10 @@ const RUNS: [(&str, &str); 15] = [
 
 /// Inputs of `replay` that ask for the order, with their outputs.
 const ORDERS: [(&str, &str); 7] = [
-    ("add 1 1000 200\norder main\n", "ok\nchunk 1000 200 1\nend\n"),
+    (
+        "add 1 1000 200\norder main\n",
+        "ok\nchunk 1000 200 1\nend\n",
+    ),
     (
         "add 1 100 200\nadd 2 900 200\ndep 1 2\nproof main\nchunk 1\nchunk 3\n",
         "ok\nok\nok\ntx 1 100 200\ntx 2 900 200\nedge 1 2\nchunk 1000 400 1 2\nflow 2 1 160000\nend\nchunk 1000 400 1 2\nrefused unknown 3\n",
@@ -310,7 +313,8 @@ fn a_line_has_at_most_65536_bytes(rt: HostRuntime) -> Result<(), Fail> {
 /// Four lines and their replies.
 const FOUR: &str = "add 1 100 200\nadd 2 900 200\ndep 1 2\nproof main\n";
 
-const FOUR_REPLIES: &str = "ok\nok\nok\ntx 1 100 200\ntx 2 900 200\nedge 1 2\nchunk 1000 400 1 2\nflow 2 1 160000\nend\n";
+const FOUR_REPLIES: &str =
+    "ok\nok\nok\ntx 1 100 200\ntx 2 900 200\nedge 1 2\nchunk 1000 400 1 2\nflow 2 1 160000\nend\n";
 
 #[test]
 fn a_sink_that_stops_has_a_front_of_the_replies(rt: HostRuntime) -> Result<(), Fail> {

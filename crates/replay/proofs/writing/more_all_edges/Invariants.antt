@@ -10,5 +10,5 @@ invariant-loop-part g l = record {
   rest : l.fn.parts ≡ map lent l.yielded ++ l.part-iterator;
   out : (edges : List (ℕ × ℕ)) × ListsEach l.fn.graph.graph (order_of l.fn.graph.parts) (order_of (map lent l.yielded)) edges
       × GoesOnLines l.fn.so_far (g.K.Sink.written l.fn.sink) (g.K.Sink.written l.sink) (g.K.Sink.faults l.fn.sink) (g.K.Sink.faults l.sink) l.so_far
-          (edges_lines edges);
+      (edges_lines edges);
 }

@@ -18,7 +18,7 @@ loop-id-preserved g c =
     let own = map (λ (parent : ℕ). (parent, id)) parents in
     let each = each_append graph order before (id ∷ []) edges own c.loop-id.invariant.1 (each_one graph order id parents c.covers.ensures) in
     let lines = map-append (λ (edge : ℕ × ℕ). edge_line edge.0 edge.1) edges own ∙ ap (λ (more : List (List ℕ)). edges_lines edges ++ more)
-        (map_twice (λ (edge : ℕ × ℕ). edge_line edge.0 edge.1) (λ (parent : ℕ). (parent, id)) parents) in (
+    (map_twice (λ (edge : ℕ × ℕ). edge_line edge.0 edge.1) (λ (parent : ℕ). (parent, id)) parents) in (
       edges ++ own,
       subst (λ (ids : List ℕ). ListsEach graph order ids (edges ++ own)) (sym (take_more c.args.ids.now c.loop-id.id-index 0 c.loop-id-test.true)) each,
       lines_on _ _ _ _ _ _ _ _ _ (edges_lines edges)

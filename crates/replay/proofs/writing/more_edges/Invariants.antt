@@ -8,4 +8,4 @@ abbrev pub invariant-loop-id : goal.invariant-loop-id
 invariant-loop-id g l =
     (edges : List (ℕ × ℕ)) × ListsEach l.fn.graph.graph (order_of l.fn.graph.parts) (take l.id-index l.ids) edges
     × GoesOnLines l.fn.so_far (g.K.Sink.written l.fn.sink) (g.K.Sink.written l.sink) (g.K.Sink.faults l.fn.sink) (g.K.Sink.faults l.sink) l.so_far
-        (edges_lines edges)
+    (edges_lines edges)

@@ -7,4 +7,4 @@ use Rattle.replay.proofs.writing.more_flows.Given as goal
 abbrev pub invariant-loop-flow : goal.invariant-loop-flow
 invariant-loop-flow g l =
     GoesOnLines l.fn.so_far (g.K.Sink.written l.fn.sink) (g.K.Sink.written l.sink) (g.K.Sink.faults l.fn.sink) (g.K.Sink.faults l.sink) l.so_far
-        (map flow_line (take l.flow-index l.flows))
+    (map flow_line (take l.flow-index l.flows))

@@ -12,5 +12,5 @@ loop-id-preserved g c =
     let id = get_or c.args.ids.now c.loop-id.id-index 0 in
     let line = λ (rate : FeeRate). tx_line id rate.fee rate.size in
     lines_on _ _ _ _ _ _ _ _ _ so_far (line c.rate.result ∷ []) _ c.loop-id.invariant c.more-so_far.ensures
-        (map_take (tx_line_of graph) c.args.ids.now c.loop-id.id-index 0 c.loop-id-test.true ∙ ap (λ (rate : FeeRate). so_far ++ line rate ∷ [])
-        (sym c.rate.ensures))
+    (map_take (tx_line_of graph) c.args.ids.now c.loop-id.id-index 0 c.loop-id-test.true ∙ ap (λ (rate : FeeRate). so_far ++ line rate ∷ [])
+    (sym c.rate.ensures))

@@ -30,21 +30,21 @@ returns g c =
     let edges = c.more_all_edges-so_far.ensures.0 in
     let each : ListsEach kept.graph (order_of kept.parts) (order_of kept.parts) edges =
     subst (λ (parts : List Part). ListsEach kept.graph (order_of kept.parts) (order_of parts) edges)
-        c.order-2.ensures.parts c.more_all_edges-so_far.ensures.1 in
+    c.order-2.ensures.parts c.more_all_edges-so_far.ensures.1 in
     let txs = map (tx_line_of kept.graph) (order_of first) in
     let pairs = edges_lines edges in
     let parts = flat_map part_lines last in
     let one = lines_on _ _ _ _ _ _ (Ok tt) _ _ txs pairs (txs ++ pairs) c.more_all_txs-so_far.ensures c.more_all_edges-so_far.ensures.2 refl in
     let two = lines_on _ _ _ _ _ _ (Ok tt) _ _ (txs ++ pairs) parts (txs ++ pairs ++ parts) one c.more_parts-so_far.ensures refl in
     let written = lines_on _ _ _ _ _ _ (Ok tt) _ _ (txs ++ pairs ++ parts) (codes "end" ∷ []) _ two c.more.ensures
-        (text_lines_are kept edges first last c.order.ensures.parts c.order-3.ensures.parts) in
+    (text_lines_are kept edges first last c.order.ensures.parts c.order-3.ensures.parts) in
     let text = text_with kept edges in (
       runs.Replies (Proves text),
       (
         Proves text,
         λ state stands.
-          let best = subst (IsBestOrder state c.args.level) c.order.ensures.parts (c.order.ensures.best state stands) in
-          c.order.ensures.proof text (text_is kept state c.args.level edges stands best each) state stands,
+            let best = subst (IsBestOrder state c.args.level) c.order.ensures.parts (c.order.ensures.best state stands) in
+            c.order.ensures.proof text (text_is kept state c.args.level edges stands best each) state stands,
         refl,
       ),
       c.told.ensures.writes _ _ _ _ _ written,
