@@ -97,7 +97,7 @@ pub returns-in-Chunk-clause-suits : goal.returns-in-Chunk-clause-suits
 returns-in-Chunk-clause-suits g c bytes short means answer told = read_suits _ bytes _ (Chunk c.in-Chunk.id) answer short means (ap (λ l. meaning_of l c.args.ids.now.ids) c.in-Chunk.is) told
 
 pub returns-in-Before-clause-line : goal.returns-in-Before-clause-line
-returns-in-Before-clause-line g c bytes short means answer told = reading_answers _ _ bytes _ (Before c.in-Before.a c.in-Before.b) _ _ short means (ap (λ l. meaning_of l c.args.ids.now.ids) c.in-Before.is) c.before.ensures.step refl (c.placed.ensures _ _ answer told)
+returns-in-Before-clause-line g c bytes short means answer told = reading_answers _ _ bytes _ (Before c.in-Before.a c.in-Before.b) _ _ short means (ap (λ l. meaning_of l c.args.ids.now.ids) c.in-Before.is) c.before-in-Before.ensures.step refl (c.placed.ensures _ _ answer told)
 
 pub returns-in-Before-clause-suits : goal.returns-in-Before-clause-suits
 returns-in-Before-clause-suits g c bytes short means answer told = reply_suits bytes _ (Before c.in-Before.a c.in-Before.b) _ _ short means (ap (λ l. meaning_of l c.args.ids.now.ids) c.in-Before.is) (c.placed.ensures _ _ answer told)
