@@ -22,3 +22,4 @@ pub mod Levels
 pub mod Once
 pub mod Unions
 pub mod Before
+pub mod Told

@@ -8,7 +8,7 @@ use Rattle.graphs.specs.Merges.{Precedes}
 use Rattle.graphs.specs.declared.names.Level.{Level}
 use Rattle.chunk_index.specs.Items.{is_in}
 use Rattle.cluster.specs.Clusters.{Cluster, IsCluster, ArePicked}
-use Rattle.cluster_store.specs.Stores.{Stored, Numbered, Store, IsOrdered, IsStore, parts_of_level}
+use Rattle.cluster_store.specs.Stores.{Stored, Numbered, Store, IsOrdered, IsStore, shown_in, parts_of_level}
 
 -- the cluster stands under the number, in the level
 abbrev pub Stands : Level → Numbered → ℕ → Cluster → Type 0
@@ -60,3 +60,15 @@ pub record PartsStandInOrder (level : Level) (store : Store) : Type 0 where
 -- so it is in every store
 abbrev pub AllStandInOrder : Type 0
 AllStandInOrder = (most : ℕ) (level : Level) (store : Store) → IsStore most store → PartsStandInOrder level store
+
+-- the same clusters stand under the same numbers, in a level of some and in a level of others, whatever their other levels
+abbrev pub HaveSameClusters : Level → Numbered → Level → Numbered → Type 0
+HaveSameClusters a one b two = (n : ℕ) (c : Cluster) → Stands a one n c ↔ Stands b two n c
+
+-- The parts of a level are told by the clusters that stand in it: where those of two levels, of one store or of two, are the same under the
+-- same numbers, the levels have the same parts in the same order, also among equal rates. What else the stores hold is free.
+pub record PartsAreToldByClusters : Type 0 where
+  pub shown : (a b : Level) (one two : Store) → IsOrdered one.clusters one.order → IsOrdered two.clusters two.order
+      → HaveSameClusters a one.clusters b two.clusters → shown_in a one ≡ shown_in b two
+  pub parts : (a b : Level) (one two : Store) → IsOrdered one.clusters one.order → IsOrdered two.clusters two.order
+      → HaveSameClusters a one.clusters b two.clusters → parts_of_level a one ≡ parts_of_level b two

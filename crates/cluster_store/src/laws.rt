@@ -1,5 +1,5 @@
 //! Laws over the definitions, each the contract of a function that does nothing.
-ghost use Rattle.cluster_store.specs.Laws.{LevelsArePicked, OrdersAreKept, AllStandInOrder};
+ghost use Rattle.cluster_store.specs.Laws.{LevelsArePicked, OrdersAreKept, AllStandInOrder, PartsAreToldByClusters};
 
 /// Where the clusters of a level have no name in common, the level's parts are a pick of its graph, and so an optimal order.
 pub fn levels_are_picked()
@@ -15,4 +15,11 @@ pub fn orders_are_kept()
 /// The parts of a level's clusters are the level's, and their names stand there in the order of the cluster.
 pub fn parts_stand_in_order()
     ensures { AllStandInOrder }
+{}
+
+/// Where the same clusters stand under the same numbers in two levels, of one store or of two, both have the same parts in the
+/// same order, also among equal rates.
+#[tactic(auto, using(crate::proofs::Told::parts_are_told_by_clusters))]
+pub fn parts_are_told_by_clusters()
+    ensures { PartsAreToldByClusters }
 {}

@@ -16,7 +16,9 @@ mod stored;
 mod tests;
 mod walk;
 
-pub use laws::{levels_are_picked, orders_are_kept, parts_stand_in_order};
+pub use laws::{
+    levels_are_picked, orders_are_kept, parts_are_told_by_clusters, parts_stand_in_order,
+};
 pub use store::ClusterStore;
 pub use stored::{Exchange, Move, Stored};
 pub use walk::{PartWalk, Parts, ShownPart};

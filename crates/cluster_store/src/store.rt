@@ -1,6 +1,7 @@
-ghost use Rattle.std.specs.Prelude.{◌≡◌, ◌≢◌, ◌↔◌, ◌≤◌, ◌*◌, ◌++◌, ℕ, false, true, None, Some, [], ◌∷◌, map, Contains, IsSome, IfOk, OnOk, OnErr, MatchOption};
+ghost use Rattle.std.specs.Prelude.{◌≡◌, ◌≢◌, ◌↔◌, ◌≤◌, ◌*◌, ◌++◌, ℕ, false, true, None, Some, [], ◌∷◌, map, Contains, IsSome, IfOk, IfSome, OnOk, OnErr, MatchOption};
 ghost use Rattle.std.specs.FinMap as finmap;
 ghost use Rattle.graphs.specs.Merges.{Precedes};
+ghost use Rattle.cluster.specs.Clusters.{IsCluster};
 ghost use Rattle.cluster_store.specs.Stores.{Stored as Kept, IsStore, AreWhole, IsLeast, IsOrdered, shown_in, shown_only};
 ghost use Rattle.cluster_store.specs.Changes.{AreThere, EndsAt, MakesChange, Sets, lowest_in, moved_to, most_least, with_cluster};
 
@@ -60,8 +61,9 @@ impl<const W: usize> ClusterStore<W> {
 
     /// The cluster of a number, or `None` where the number has none.
     pub fn get(&self, number: usize) -> Option<&Cluster<W>>
-        ensures { MatchOption result (finmap.get self.now.clusters number ≡ None)
+        ensures cluster { MatchOption result (finmap.get self.now.clusters number ≡ None)
             (λ c. (s : Kept) × (finmap.get self.now.clusters number ≡ Some s) × (c.now ≡ s.cluster)) }
+        ensures whole { IfSome result (λ c. IsCluster (64 * W) c.now) }
     {
         cluster_of(&self.slots, number)
     }

@@ -1,13 +1,17 @@
 -- What is shelved under the number is what its slot has.
-use Rattle.std.proofs.Common.{rules, ◌≤◌, ap}
+use Rattle.std.proofs.Common.{rules, ◌*◌, ◌≤◌, ap}
 use Rattle.cluster_store.specs.Stores.{Store}
-use Rattle.cluster_store.proofs.Found.{read_by}
+use Rattle.cluster_store.proofs.Found.{read_by, whole_by}
 use Rattle.cluster_store.proofs.store.ClusterStore.get.Goals as goal
 
 pub cluster_of-requires : goal.cluster_of-requires
 cluster_of-requires g c = let narrow : g.row.W ≤ 64 = c.self.invariant.narrow in search rules
 
-pub returns : goal.returns
-returns g c =
+pub returns-clause-cluster : goal.returns-clause-cluster
+returns-clause-cluster g c =
     read_by c.cluster_of.result (λ x. x.now) (λ s. s.cluster) c.self.inside.slots.slots c.args.number c.args.self.now.clusters
     (ap (λ (s : Store). s.clusters) c.self.view_is) c.cluster_of.ensures
+
+pub returns-clause-whole : goal.returns-clause-whole
+returns-clause-whole g c =
+    whole_by c.cluster_of.result (λ x. x.now) (64 * g.row.W) c.self.inside.slots.slots c.args.number c.self.invariant.whole c.cluster_of.ensures
