@@ -1,2 +1,10 @@
-pub mod BookLemmas
-pub mod Gets
+pub mod Changes
+pub mod Entries
+pub mod Kept
+pub mod PassedOver
+pub mod KeyRings
+pub mod Rings
+pub mod Rungs
+pub mod Steps
+pub mod TableLemmas
+pub mod Unions

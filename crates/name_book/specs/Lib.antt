@@ -1,1 +1,4 @@
 pub mod Books
+pub mod Changes
+pub mod Tables
+pub mod Walks

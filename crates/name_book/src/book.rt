@@ -1,46 +1,65 @@
-ghost use Rattle.std.specs.Prelude.{◌≡◌, ◌+◌, ◌-◌, ◌<◌, ◌≤◌, ◌^◌, None, IsOk, IsSome, OnOk};
+ghost use Rattle.std.specs.Prelude.{◌≡◌, ◌≢◌, ◌+◌, ◌-◌, ◌<◌, ◌≤◌, ◌^◌, ℕ, false, Some, IsOk, IsSome, OnOk};
 ghost use Rattle.std.specs.FinMap as finmap;
+ghost use Rattle.std.specs.FinSet as set;
+ghost use Rattle.name_book.specs.Books.{has, IsNamed, after, AreRung, IsRing, ring_of, AreRings};
+ghost use Rattle.name_book.specs.Changes.{KeepsRing, GainsAlone, Loses, CutsOut, Unites};
+ghost use Rattle.name_book.specs.Tables.{key_of};
 
-use crate::spot::Spot;
+use crate::ring::RingNames;
 use graphs::TxId;
 use indexmap::IndexMap;
-use node_pool::{Key, Pool, PoolFault, keys_are_used_once};
+use node_pool::{Key, Pool, PoolFault};
 use outside::NoMemory;
 use std::alloc::Global;
 use std::marker::Model;
 
-/// The live names, each with its spot.
+/// The live names, with two partitions of them into rings. A ring is told by its number, 0 or 1, and a name in it: the
+/// names that share a ring with that name, one after the other and round again.
 #[derive(Drop)]
 pub struct NameBook {
     // The key of each live name's node.
     names: IndexMap<TxId, Key>,
-    // The spot of each live name.
-    nodes: Pool<Spot, 2>,
+    // The names, with their rings. A change of them is followed by a call of their law, which the invariant cites.
+    nodes: Pool<TxId, 2>,
     // How many names can be inserted with the room that was taken.
     spare: usize,
 }
 
 impl Model for NameBook {
     ghost use Rattle.indexmap.specs.IndexMap.{spare as index_spare};
-    ghost use Rattle.name_book.specs.Books.{Book, book_code, spots_of, IsBook};
+    ghost use Rattle.name_book.specs.Books.{Book, book_code};
+    ghost use Rattle.name_book.specs.Tables.{book_of, IsTable};
 
     ghost Value = { Book };
 
     ghost coded = { book_code };
 
-    ghost view = { λ b. record { spots = spots_of b.nodes b.names.entries; spare = b.spare; issued = b.nodes.issued } };
+    ghost view = { λ b. book_of b.nodes b.names.entries b.spare };
 
-    ghost invariant = { λ b. IsBook b.nodes b.names.entries (index_spare b.names) b.spare };
+    ghost invariant = { λ b. IsTable b.nodes b.names.entries (index_spare b.names) b.spare };
+}
+
+// The key of a live name.
+fn find_key(names: &IndexMap<TxId, Key>, id: TxId) -> Key
+    requires { IsSome (key_of names.now.entries id) }
+    ensures { key_of names.now.entries id ≡ Some result }
+{
+    match names.get(&id) {
+        Some(&key) => key,
+        None => unreachable!(),
+    }
 }
 
 impl NameBook {
     /// A table of no names. Takes no memory.
     pub fn new(alloc: Global) -> NameBook
-        ensures { result ≡ record { spots = finmap.empty; spare = 0; issued = 0 } }
+        ensures { result ≡ record { names = set.empty; ring_0 = finmap.empty; ring_1 = finmap.empty; spare = 0; issued = 0 } }
     {
+        let nodes = Pool::new(alloc);
+        nodes.rings_go_round();
         NameBook {
             names: IndexMap::new(alloc),
-            nodes: Pool::new(alloc),
+            nodes,
             spare: 0,
         }
     }
@@ -48,20 +67,22 @@ impl NameBook {
     /// Makes room for `n` more names, so that as many calls of `insert` can't fail.
     ///
     /// # Errors
-    /// Where there is no memory for them, and the room isn't there already. The names and their spots are as they were, and the room is no less.
+    /// Where there is no memory for them, and the room isn't there already. Names and rings are as they were, and the room is no
+    /// less.
     pub fn reserve(&mut self, n: usize) -> Result<(), NoMemory>
-        requires few { finmap.len self.old.spots + n ≤ 2 ^ 32 - 1 }
+        requires few { set.len self.old.names + n ≤ 2 ^ 32 - 1 }
         ensures room { OnOk result (n ≤ self.new.spare) }
         ensures ready { n ≤ self.old.spare → IsOk result }
         ensures kept { self.old.spare ≤ self.new.spare }
-        ensures spots { self.new.spots ≡ self.old.spots }
-        ensures issued { self.new.issued ≡ self.old.issued }
+        ensures same { self.new ≡ record self.old { spare = self.new.spare } }
     {
         if n <= self.spare {
             return Ok(());
         }
         self.names.reserve(n)?;
-        match self.nodes.reserve(n) {
+        let reserved = self.nodes.reserve(n);
+        self.nodes.rings_go_round();
+        match reserved {
             Ok(()) => {}
             Err(PoolFault::Memory) => return Err(NoMemory),
             Err(PoolFault::Full) => unreachable!(),
@@ -72,63 +93,114 @@ impl NameBook {
 
     /// How many names are live.
     pub fn len(&self) -> usize
-        ensures { result ≡ finmap.len self.now.spots }
+        ensures { result ≡ set.len self.now.names }
     {
         self.names.len()
     }
 
-    /// The spot of a name, or `None` where it isn't live.
-    pub fn get(&self, id: TxId) -> Option<Spot>
-        ensures { result ≡ finmap.get self.now.spots id }
+    /// Whether a name is live.
+    pub fn has(&self, id: TxId) -> bool
+        ensures { result ≡ has self.now id }
     {
-        let key = *self.names.get(&id)?;
-        let spot = *self.nodes.get(key)?;
-        Some(spot)
+        self.names.contains_key(&id)
     }
 
-    /// Adds a name that isn't live, with its spot. Takes no memory.
-    pub fn insert(&mut self, id: TxId, spot: Spot)
-        requires absent { finmap.get self.old.spots id ≡ None }
+    /// Adds a name that isn't live, alone in both rings. Takes no memory.
+    pub fn insert(&mut self, id: TxId)
+        requires absent { has self.old id ≡ false }
         requires spare { 1 ≤ self.old.spare }
         requires issued { self.old.issued < 2 ^ 64 - 1 }
-        ensures spots { self.new.spots ≡ finmap.insert self.old.spots id spot }
+        ensures names { self.new.names ≡ set.insert self.old.names id }
+        ensures rings { (r : ℕ) → r < 2 → GainsAlone self.old self.new r id }
         ensures spare { self.new.spare + 1 ≡ self.old.spare }
         ensures issued { self.new.issued ≡ self.old.issued + 1 }
     {
-        let key = self.nodes.insert(spot);
+        let key = self.nodes.insert(id);
+        self.nodes.rings_go_round();
         match self.names.insert(id, key) {
             Ok(_) => self.spare -= 1,
             Err(_) => unreachable!(),
         }
     }
 
-    /// Gives a live name another spot. Takes no memory.
-    pub fn set(&mut self, id: TxId, spot: Spot)
-        requires live { IsSome (finmap.get self.old.spots id) }
-        ensures spots { self.new.spots ≡ finmap.insert self.old.spots id spot }
-        ensures spare { self.new.spare ≡ self.old.spare }
-        ensures issued { self.new.issued ≡ self.old.issued }
-    {
-        // A write through `get_mut` changes the spot of its key alone.
-        keys_are_used_once(&self.nodes);
-        let Some(&key) = self.names.get(&id) else {
-            unreachable!()
-        };
-        match self.nodes.get_mut(key) {
-            Some(place) => *place = spot,
-            None => unreachable!(),
-        }
-    }
-
-    /// Drops a live name. Takes no memory.
+    /// Drops a live name. In both rings the others of its ring stay together, in their order. Takes no memory.
     pub fn remove(&mut self, id: TxId)
-        requires live { IsSome (finmap.get self.old.spots id) }
-        ensures spots { self.new.spots ≡ finmap.remove self.old.spots id }
+        requires live { IsNamed self.old id }
+        ensures names { self.new.names ≡ set.remove self.old.names id }
+        ensures rings { (r : ℕ) → r < 2 → Loses self.old self.new r id }
         ensures spare { self.new.spare ≡ self.old.spare }
         ensures issued { self.new.issued ≡ self.old.issued }
     {
         if let Some(key) = self.names.swap_remove(&id) {
             self.nodes.take(key);
+            self.nodes.rings_go_round();
         }
+    }
+
+    /// Makes one ring `r` of those of `a` and `b`, which are two: a join within one ring would part it. What came after `b` comes
+    /// after `a` then, and what came after `a` after `b`. The rings of the other number stay, in their order. Takes no memory.
+    pub fn join(&mut self, r: usize, a: TxId, b: TxId)
+        requires r_in_range { r < 2 }
+        requires a { IsNamed self.old a }
+        requires b { IsNamed self.old b }
+        requires apart { AreRung self.old r a b → ⊥ }
+        ensures names { self.new.names ≡ self.old.names }
+        ensures united { Unites self.old self.new r a b }
+        ensures others { (q : ℕ) → q < 2 → q ≢ r → KeepsRing self.old self.new q }
+        ensures spare { self.new.spare ≡ self.old.spare }
+        ensures issued { self.new.issued ≡ self.old.issued }
+    {
+        let key_a = find_key(&self.names, a);
+        let key_b = find_key(&self.names, b);
+        self.nodes.join_rings(r, key_a, key_b);
+        self.nodes.rings_go_round();
+    }
+
+    /// Cuts a live name out of its ring `r`: it is alone then, and the others stay together, in their order. The rings of the other
+    /// number stay, in their order. Takes no memory.
+    pub fn cut(&mut self, r: usize, a: TxId)
+        requires r_in_range { r < 2 }
+        requires live { IsNamed self.old a }
+        ensures names { self.new.names ≡ self.old.names }
+        ensures cut { CutsOut self.old self.new r a }
+        ensures others { (q : ℕ) → q < 2 → q ≢ r → KeepsRing self.old self.new q }
+        ensures spare { self.new.spare ≡ self.old.spare }
+        ensures issued { self.new.issued ≡ self.old.issued }
+    {
+        let key = find_key(&self.names, a);
+        self.nodes.cut(r, key);
+        self.nodes.rings_go_round();
+    }
+
+    /// The names of the ring `r` of `a`, each once, `a` first, each before the name after it.
+    pub fn ring(&self, r: usize, a: TxId) -> RingNames<'_>
+        requires r_in_range { r < 2 }
+        requires live { IsNamed self.now a }
+        ensures list { result ≡ ring_of self.now r a }
+        ensures ring { IsRing self.now r a result }
+    {
+        let key = find_key(&self.names, a);
+        RingNames::new(&self.nodes, self.nodes.ring(r, key))
+    }
+
+    /// The name after `a` in its ring `r`: `a` itself where it is alone. Going on so passes the names of `ring(r, a)` in their order,
+    /// and comes back to `a`, also while rings of the other number change.
+    pub fn next(&self, r: usize, a: TxId) -> TxId
+        requires r_in_range { r < 2 }
+        requires live { IsNamed self.now a }
+        ensures { result ≡ after self.now r a }
+    {
+        let mut names = self.ring(r, a);
+        let _first = names.next();
+        names.next().unwrap_or(a)
+    }
+
+    /// A law: to share a ring is an equivalence among the live names, and steps from a name go over its ring, each name once,
+    /// and come back to it.
+    #[inline]
+    pub fn rings_go_round(&self)
+        ensures { AreRings self.now }
+    {
+        let _spare = self.spare;
     }
 }

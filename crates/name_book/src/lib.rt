@@ -1,13 +1,12 @@
-//! The live names of a transaction graph, and where the transaction of each stands.
+//! The live names of a transaction graph, with two rings of names.
 //!
-//! Each name has a node of its own in a pool, and an index finds the node's key. A name that is removed and inserted
-//! again gets a node with a new key.
+//! Each name has a node of its own in a pool, and an index finds the node's key. Callers speak of names alone.
 #![tactic(auto)]
 
 mod book;
-mod spot;
+mod ring;
 #[cfg(test)]
 mod tests;
 
 pub use book::NameBook;
-pub use spot::Spot;
+pub use ring::RingNames;

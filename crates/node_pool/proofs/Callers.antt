@@ -1,7 +1,10 @@
 -- For the callers of a pool: its rings are the parts of an equivalence, and a new key is apart from the others.
-use Rattle.std.proofs.Common.{◌≡◌, ◌≢◌, ℕ, Option, Some, None, IsSome, refl, sym, ap, subst, ◌∙◌, true≢false}
+use Rattle.std.proofs.Common.{◌≡◌, ◌≢◌, ℕ, suc, List, [], ◌∷◌, Option, Some, None, IsSome, slice_get, refl, sym, ap, subst, ◌∙◌, arith, true≢false}
+use Rattle.std.specs.Prelude.{Contains}
 use Rattle.node_pool.specs.declared.pool.Key.{Key}
-use Rattle.node_pool.specs.Nodes.{Nodes, value_at, IsLive, next_slot, SameRing, Updates, PartsFrom}
+use Rattle.node_pool.specs.Nodes.{Nodes, value_at, IsLive, next_slot, next_key, SameRing, Updates, PartsFrom}
+use Rattle.node_pool.specs.Cycles.{GoesAlong}
+use Rattle.node_pool.specs.RingKeys.{IsRing}
 use Rattle.node_pool.proofs.Cycles.{Reaches-trans}
 
 module _ {T : Type 0} where
@@ -34,3 +37,18 @@ module _ {T : Type 0} where
   -- a key that is parted shares no ring with another
   pub apart-parted : (old new : Nodes T) (r : ℕ) (key other : Key) → PartsFrom old new r key → other ≢ key → SameRing new r other key → ⊥
   apart-parted old new r key other parts differs ring = differs (parts.alone other (SameRing-sym new r other key ring))
+
+  -- a ring is of live keys, so the key after a live one is live
+  pub ring-live : (n : Nodes T) (r : ℕ) (a : Key) (keys : List Key) → IsRing n r a keys → (x : Key) → Contains keys x → IsLive n x
+  ring-live n r a keys ring x listed = ((ring.members x).0 listed).to
+
+  pub next-live : (n : Nodes T) (r : ℕ) (a : Key) (keys : List Key) → IsRing n r a keys → IsLive n a → IsLive n (next_key n r a)
+  next-live n r a keys ring live = from keys ring.first ring.along (ring-live n r a keys ring)
+    where
+      later : (ys : List Key) → GoesAlong (next_key n r) (next_key n r a) ys a → ((x : Key) → Contains ys x → IsLive n x) → IsLive n (next_key n r a)
+      later [] goes all = subst (IsLive n) (sym goes) live
+      later (y ∷ ys) goes all = subst (IsLive n) (sym goes.0) (all y (0, omega arith, refl))
+
+      from : (xs : List Key) → slice_get xs 0 ≡ Some a → GoesAlong (next_key n r) a xs a → ((x : Key) → Contains xs x → IsLive n x) → IsLive n (next_key n r a)
+      from [] first goes all = absurd (cc)
+      from (x ∷ xs) first goes all = later xs goes.1 (λ y listed. all y (suc listed.0, omega arith, listed.2))

@@ -14,3 +14,4 @@ pub mod PoolLemmas
 pub mod SlotsLemmas
 pub mod LinkLemmas
 pub mod WalkLemmas
+pub mod OrderLemmas

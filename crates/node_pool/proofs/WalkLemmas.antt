@@ -3,11 +3,11 @@ use Rattle.std.proofs.Common.{◌≡◌, ◌≢◌, ℕ, zero, suc, ◌+◌, ◌
 use Rattle.std.proofs.lemmas.Bool.{cases_eq}
 use Rattle.std.proofs.lemmas.Bool.Decides.{eqb_tells, leb_tells}
 use Rattle.std.proofs.lemmas.Option.{slice_get_within, get_or_from_slice_get}
-use Rattle.node_pool.specs.Cycles.{walked}
+use Rattle.node_pool.specs.Cycles.{walked, GoesAlong}
 use Rattle.node_pool.proofs.Cycles.{walked-add, Reaches-sym}
 use Rattle.node_pool.specs.declared.pool.Key.{Key}
 use Rattle.node_pool.specs.declared.pool.Node.{Node}
-use Rattle.node_pool.specs.Nodes.{Nodes, numbered, number_of, node_at, key_in, HasNode, IsLive, next_slot}
+use Rattle.node_pool.specs.Nodes.{Nodes, numbered, number_of, node_at, key_in, HasNode, IsLive, next_slot, next_key}
 use Rattle.node_pool.specs.RingKeys.{keys_from, IsRing}
 use Rattle.node_pool.proofs.RingLemmas.{numbered-some, numbered-same}
 
@@ -74,7 +74,7 @@ module _ {T : Type 0} (n : Nodes T) (r : ℕ) where
       ]
 
   -- a live key is the key of its slot
-  key_in-live : (x : Key) → IsLive n x → key_in n x.slot ≡ x
+  pub key_in-live : (x : Key) → IsLive n x → key_in n x.slot ≡ x
   key_in-live x live =
       let here = numbered-some x.number (node_at n x.slot) live in
       λ j. record { slot = x.slot; number = (ap number_of here.1 ∙ here.2) j }
@@ -85,6 +85,14 @@ module _ {T : Type 0} (n : Nodes T) (r : ℕ) where
       by_cases : (o : Option (Node T)) → IsSome o → IsSome (numbered (number_of o) o)
       by_cases None held = absurd (true≢false (sym held))
       by_cases (Some node) held = subst IsSome (sym (numbered-same node.number node refl)) refl
+
+  -- keys that stand where steps lead follow one another
+  along-reads : (keys : List Key) (x : Key) → key_in n x.slot ≡ x → ((i : ℕ) → i < length keys → slice_get keys i ≡ Some (key_in n (walked f i x.slot)))
+      → GoesAlong (next_key n r) x keys (key_in n (walked f (length keys) x.slot))
+  along-reads [] x own reads = sym own
+  along-reads (y ∷ keys) x own reads =
+      let first : Some y ≡ Some (key_in n x.slot) = reads 0 (omega arith) in
+      (sym own ∙ cc, along-reads keys (next_key n r x) refl (λ i below. reads (suc i) (omega arith)))
 
   module _ (a : Key) (live : IsLive n a) (left : ℕ) (back : (k : ℕ) × (k < left) × (walked f (suc k) a.slot ≡ a.slot)) (one_to_one : (s t : ℕ) → f s ≡ f t → s ≡ t) (stays : (s : ℕ) → HasNode n s → HasNode n (f s)) where
     abbrev keys : List Key
@@ -164,5 +172,7 @@ module _ {T : Type 0} (n : Nodes T) (r : ℕ) where
                 let read : get_or keys less.0 x ≡ key_in n (walked f less.0 a.slot) = get_or_from_slice_get keys less.0 _ x ((Walks-keys a.slot left a.slot).reads less.0 less.1) in
                 (less.0, less.1, read ∙ ap (key_in n) (less.2 ∙ ring.steps.1) ∙ key_in-live x ring.to),
           );
+          along = subst (GoesAlong (next_key n r) a keys) (ap (key_in n) round.0 ∙ key_in-live a live)
+              (along-reads keys a (key_in-live a live) (Walks-keys a.slot left a.slot).reads);
           few = omega (arith, length-keys_from a.slot left a.slot);
         }

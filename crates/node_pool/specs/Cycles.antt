@@ -1,5 +1,5 @@
 -- Steps of a function from a number to the next one. Where it is a permutation, the numbers lie in cycles.
-use Rattle.std.specs.Prelude.{◌≡◌, ◌≢◌, ℕ, zero, suc}
+use Rattle.std.specs.Prelude.{◌≡◌, ◌≢◌, ℕ, zero, suc, List, [], ◌∷◌}
 
 -- where so many steps lead
 abbrev pub walked : (ℕ → ℕ) → ℕ → ℕ → ℕ
@@ -9,6 +9,11 @@ walked next (suc k) s = walked next k (next s)
 -- steps lead from s to t
 abbrev pub Reaches : (ℕ → ℕ) → ℕ → ℕ → Type 0
 Reaches next s t = (k : ℕ) × (walked next k s ≡ t)
+
+-- steps from a go through the list, first to last, and the step after its last leads to b
+abbrev pub GoesAlong : {A : Type 0} → (A → A) → A → List A → A → Type 0
+GoesAlong next a [] b = a ≡ b
+GoesAlong next a (x ∷ xs) b = (a ≡ x) × GoesAlong next (next a) xs b
 
 -- one function goes back what the other goes forward
 abbrev pub IsMutual : (ℕ → ℕ) → (ℕ → ℕ) → Type 0

@@ -1,7 +1,8 @@
--- What holds over any sequence of calls of a pool.
-use Rattle.std.specs.Prelude.{◌≡◌, List, [], ◌∷◌, Some, None}
+-- What holds of a pool, and over any sequence of calls.
+use Rattle.std.specs.Prelude.{◌≡◌, ℕ, ◌<◌, List, [], ◌∷◌, Some, None}
 use Rattle.std.specs.List.{All}
 use Rattle.node_pool.specs.declared.pool.Key.{Key}
+use Rattle.node_pool.specs.RingKeys.{IsRing}
 use Rattle.node_pool.specs.Nodes.{Nodes, value_at, IsLive, IsSpent, KeepsSpent, Updates, with_value}
 
 module _ {T : Type 0} where
@@ -22,3 +23,7 @@ module _ {T : Type 0} where
 
   abbrev pub WritesStayInPlace : Nodes T → Type 0
   WritesStayInPlace pool = (key : Key) (value : T) → IsLive pool key → WritesOneValue pool key value
+
+  -- each live key has a ring in each of R partitions
+  abbrev pub RingsGoRound : ℕ → Nodes T → Type 0
+  RingsGoRound R pool = (r : ℕ) (a : Key) → r < R → IsLive pool a → (keys : List Key) × IsRing pool r a keys

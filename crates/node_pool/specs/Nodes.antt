@@ -77,6 +77,10 @@ module _ {T : Type 0} where
   abbrev pub next_slot : Nodes T → ℕ → ℕ → ℕ
   next_slot n r slot = slice_index_or n.next (slot * n.partitions + r) slot
 
+  -- the key after this one in the r-th partition
+  abbrev pub next_key : Nodes T → ℕ → Key → Key
+  next_key n r key = key_in n (next_slot n r key.slot)
+
   -- two keys have nodes in one ring of the r-th partition: steps along the ring lead from each to the other
   pub record SameRing (n : Nodes T) (r : ℕ) (a b : Key) : Type 0 where
     pub from : IsLive n a
@@ -111,6 +115,22 @@ module _ {T : Type 0} where
   UnitesRings old new r a b =
       (x y : Key) → SameRing new r x y ↔ (SameRing old r x y ⊎ (SameRing old r x a × SameRing old r b y)
       ⊎ (SameRing old r x b × SameRing old r a y))
+
+  -- in the r-th partition the same key comes after each as did
+  abbrev pub SameOrder : Nodes T → Nodes T → ℕ → Type 0
+  SameOrder old new r = (key : Key) → IsLive old key → next_key new r key ≡ next_key old r key
+
+  -- in the r-th partition a and b have each other's next key, and every other key the one that it had
+  pub record ExchangesNext (old new : Nodes T) (r : ℕ) (a b : Key) : Type 0 where
+    pub at_a : next_key new r a ≡ next_key old r b
+    pub at_b : next_key new r b ≡ next_key old r a
+    pub others : (x : Key) → IsLive old x → x ≢ a → x ≢ b → next_key new r x ≡ next_key old r x
+
+  -- in the r-th partition the key before this one now comes before the key after it, and every other has the next key
+  -- that it had
+  pub record PassesOver (old new : Nodes T) (r : ℕ) (key : Key) : Type 0 where
+    pub past : (x : Key) → IsLive old x → x ≢ key → next_key old r x ≡ key → next_key new r x ≡ next_key old r key
+    pub others : (x : Key) → IsLive old x → x ≢ key → next_key old r x ≢ key → next_key new r x ≡ next_key old r x
 
   -- a node with another value
   abbrev pub with_node_value : T → Option (Node T) → Option (Node T)

@@ -2,7 +2,7 @@
 ghost use Rattle.std.specs.Prelude.{◌≡◌, ◌≢◌, ◌+◌, ◌-◌, ◌<◌, ◌≤◌, ◌^◌, ◌↔◌, ℕ, [], Some, None, Err, IsOk, IsTrue, OnOk, OnSome, IfNone, option_copied};
 ghost use Rattle.std.specs.Option.{option_copied_mut};
 ghost use Rattle.std.specs.Borrow.{sem};
-ghost use Rattle.node_pool.specs.Nodes.{Nodes, value_at, IsLive, IsSpent, KeepsSpent, IsNext, live_count, SameRing, SameValues, SameCounts, SameRings, Updates, PartsFrom, UnitesRings, HasNode, key_in, next_slot};
+ghost use Rattle.node_pool.specs.Nodes.{Nodes, value_at, IsLive, IsSpent, KeepsSpent, IsNext, live_count, SameRing, SameValues, SameCounts, SameRings, Updates, PartsFrom, UnitesRings, SameOrder, ExchangesNext, PassesOver, HasNode, key_in, next_slot, next_key};
 
 use crate::ring::Ring;
 use crate::rings::Rings;
@@ -96,6 +96,7 @@ impl<T, const R: usize> Pool<T, R> {
             × (self.new.issued ≡ self.old.issued) }
         ensures spent { KeepsSpent self.old self.new }
         ensures rings { (r : ℕ) → r < R → SameRings self.old self.new r }
+        ensures order { (r : ℕ) → r < R → SameOrder self.old self.new r }
     {
         if n <= self.spare() {
             return Ok(());
@@ -124,6 +125,7 @@ impl<T, const R: usize> Pool<T, R> {
         ensures spare { OnOk result (self.old.spare < self.new.spare) }
         ensures kept { self.old.spare ≤ self.new.spare }
         ensures rings { (r : ℕ) → r < R → SameRings self.old self.new r }
+        ensures order { (r : ℕ) → r < R → SameOrder self.old self.new r }
     {
         if self.rings.slots() == self.nodes.room() {
             self.rings.grow()?;
@@ -131,7 +133,7 @@ impl<T, const R: usize> Pool<T, R> {
         self.nodes.grow()
     }
 
-    /// Adds a node with this value, alone in each of its rings.
+    /// Adds a node with this value, alone in each of its rings. The others follow one another as they did.
     pub fn insert(&mut self, value: T) -> Key
         requires spare { 1 ≤ self.old.spare }
         requires issued { self.old.issued < 2 ^ 64 - 1 }
@@ -142,6 +144,7 @@ impl<T, const R: usize> Pool<T, R> {
             × (self.new.issued ≡ self.old.issued + 1) }
         ensures spent { KeepsSpent self.old self.new }
         ensures rings { (r : ℕ) → r < R → PartsFrom self.old self.new r result }
+        ensures order { (r : ℕ) → r < R → SameOrder self.old self.new r × (next_key self.new r result ≡ result) }
     {
         let number = self.issued;
         self.issued += 1;
@@ -187,7 +190,8 @@ impl<T, const R: usize> Pool<T, R> {
         &mut node.value
     }
 
-    /// Takes the node out of the pool and of its rings, and answers its value.
+    /// Takes the node out of the pool and of its rings, and answers its value. The others of a ring stay together, in their
+    /// order.
     pub fn take(&mut self, key: Key) -> Option<T>
         ensures value { result ≡ value_at self.old key }
         ensures updates { Updates self.old self.new key None }
@@ -197,6 +201,7 @@ impl<T, const R: usize> Pool<T, R> {
         ensures spare { self.old.spare ≤ self.new.spare }
         ensures issued { self.new.issued ≡ self.old.issued }
         ensures rings { (r : ℕ) → r < R → PartsFrom self.old self.new r key }
+        ensures order { OnSome result ((r : ℕ) → r < R → PassesOver self.old self.new r key) }
         ensures absent { IfNone result (self.new ≡ self.old) }
     {
         if !self.is_live(key) {
@@ -209,7 +214,8 @@ impl<T, const R: usize> Pool<T, R> {
         Some(value)
     }
 
-    /// Unites the rings of `a` and `b` in the `r`-th partition.
+    /// Unites the rings of `a` and `b` in the `r`-th partition: what came after `b` now comes after `a`, and what came after
+    /// `a` after `b`. The other partitions stay, in their order.
     pub fn join_rings(&mut self, r: usize, a: Key, b: Key)
         requires r_in_range { r < R }
         requires a { IsLive self.old a }
@@ -219,12 +225,15 @@ impl<T, const R: usize> Pool<T, R> {
         ensures counts { SameCounts self.old self.new }
         ensures spent { KeepsSpent self.old self.new }
         ensures united { UnitesRings self.old self.new r a b }
+        ensures exchanged { ExchangesNext self.old self.new r a b }
         ensures others { (q : ℕ) → q < R → q ≢ r → SameRings self.old self.new q }
+        ensures order { (q : ℕ) → q < R → q ≢ r → SameOrder self.old self.new q }
     {
         self.rings.join(r, a.slot, b.slot);
     }
 
-    /// Parts `a` from the others of its ring in the `r`-th partition.
+    /// Parts `a` from the others of its ring in the `r`-th partition, which stay together, in their order. The other partitions
+    /// stay as they are.
     pub fn cut(&mut self, r: usize, a: Key)
         requires r_in_range { r < R }
         requires live { IsLive self.old a }
@@ -232,7 +241,9 @@ impl<T, const R: usize> Pool<T, R> {
         ensures counts { SameCounts self.old self.new }
         ensures spent { KeepsSpent self.old self.new }
         ensures parted { PartsFrom self.old self.new r a }
+        ensures passed { PassesOver self.old self.new r a × (next_key self.new r a ≡ a) }
         ensures others { (q : ℕ) → q < R → q ≢ r → SameRings self.old self.new q }
+        ensures order { (q : ℕ) → q < R → q ≢ r → SameOrder self.old self.new q }
     {
         self.rings.cut(r, a.slot);
     }
@@ -261,8 +272,9 @@ impl<T, const R: usize> Pool<T, R> {
 
 impl<T, const R: usize> Pool<T, R> {
     ghost use Rattle.node_pool.specs.RingKeys.{ring_keys, IsRing};
+    ghost use Rattle.node_pool.specs.Laws.{RingsGoRound};
 
-    /// The keys of the ring of `a` in the `r`-th partition, each once, `a` first.
+    /// The keys of the ring of `a` in the `r`-th partition, each once, `a` first, each before the key after it.
     pub fn ring(&self, r: usize, a: Key) -> Ring<'_, T, R>
         requires r_in_range { r < R }
         requires live { IsLive self.now a }
@@ -275,5 +287,13 @@ impl<T, const R: usize> Pool<T, R> {
             slot: a.slot,
             left: self.rings.slots(),
         }
+    }
+
+    /// A law: in each partition steps from a live key go over the keys of its ring, each once, and come back to it.
+    #[inline]
+    pub fn rings_go_round(&self)
+        ensures { RingsGoRound R self.now }
+    {
+        let _issued = self.issued;
     }
 }

@@ -1,33 +1,53 @@
-use Rattle.std.proofs.Common.{◌≡◌, ◌≢◌, ◌-◌, ◌≤◌, ℕ, Some, length, ap, ◌∙◌, arith, false, nat_eq}
-use Rattle.std.specs.FinMap as finmap
-use Rattle.node_pool.specs.declared.pool.Key.{Key}
-use Rattle.node_pool.specs.Nodes.{live_count}
+use Rattle.std.specs.FinSet as set
+use Rattle.std.proofs.Common.{◌≡◌, ◌-◌, ◌≤◌, None, length, sym, ap, ◌∙◌, arith}
 use Rattle.indexmap.specs.IndexMap.{spare}
-use Rattle.name_book.specs.Books.{Book, key_of}
-use Rattle.name_book.proofs.BookLemmas.{no_key, differs-fresh, spots-put, book-put, len-put}
+use Rattle.node_pool.specs.Nodes.{live_count}
+use Rattle.name_book.specs.Books.{Book, has}
+use Rattle.name_book.specs.Tables.{key_of, AreKeys}
+use Rattle.name_book.proofs.Entries.{names-keys, no_some}
+use Rattle.name_book.proofs.Kept.{put-own, names-put, len-put}
+use Rattle.name_book.proofs.Changes.{gains-alone}
 use Rattle.name_book.proofs.book.NameBook.insert.Goals as goal
+
+-- the name had no key
+none : (c : goal.After-self-1) → key_of c.self.inside.names.entries c.args.id ≡ None
+none c =
+    no_some (key_of c.self.inside.names.entries c.args.id)
+    (sym (names-keys c.self.inside.names.entries c.args.id) ∙ ap (λ (b : Book). has b c.args.id) c.self.view_is ∙ c.requires.absent)
+
+owned : (c : goal.After-self-1) → AreKeys c.insert-key.new.self c.insert.new.self.entries
+owned c =
+    put-own c.self.inside.nodes c.insert-key.new.self c.self.inside.names.entries c.insert.new.self.entries c.args.id c.insert-key.result
+    c.self.invariant.own c.insert-key.ensures.updates c.insert-key.ensures.fresh (none c) c.in-Ok.ensures.updates.0
 
 pub invariant_of-self : goal.invariant_of-self
 invariant_of-self c =
-    let book = c.self.invariant in
-    let nodes = c.self.inside.nodes in let new = c.insert-key.new.self in
+    let table = c.self.invariant in
+    let new = c.insert-key.new.self in
     let es = c.self.inside.names.entries in let now = c.insert.new.self.entries in
-    let key = c.insert-key.result in
-    let differs : (q : ℕ) (other : Key) → nat_eq c.args.id q ≡ false → key_of es q ≡ Some other → other ≢ key =
-    λ q other apart has. differs-fresh nodes es key book.live c.insert-key.ensures.fresh q other has in
-    let none = no_key nodes es c.args.id (ap (λ (b : Book). finmap.get b.spots c.args.id) c.self.view_is ∙ c.requires.absent) in
-    let len = len-put c.in-Ok.field-0 (length now) (length es) (c.in-Ok.ensures.old ∙ none) c.in-Ok.ensures.len in
+    let len = len-put c.in-Ok.field-0 (length now) (length es) (c.in-Ok.ensures.old ∙ none c) c.in-Ok.ensures.len in
     let counts = c.insert-key.ensures.counts in
-    let count : live_count new ≡ length now = omega (arith, counts.0, len, book.count) in
-    let index-room : c.self.inside.spare - 1 ≤ spare c.insert.new.self = omega (arith, c.insert.ensures.spare, book.index-room) in
-    let node-room : c.self.inside.spare - 1 ≤ new.spare = omega (arith, counts.1, book.node-room) in
-    book-put nodes new es now c.args.id key c.args.spot c.insert-key.ensures.updates c.in-Ok.ensures.updates.0 differs
-    (spare c.self.inside.names) c.self.inside.spare (spare c.insert.new.self) (c.self.inside.spare - 1) book c.insert.ensures.unique count index-room node-room
+    let count : live_count new ≡ length now = omega (arith, counts.0, len, table.count) in
+    let index-room : c.self.inside.spare - 1 ≤ spare c.insert.new.self = omega (arith, c.insert.ensures.spare, table.index-room) in
+    let node-room : c.self.inside.spare - 1 ≤ new.spare = omega (arith, counts.1, table.node-room) in
+    record {
+      once = c.insert.ensures.unique;
+      own = owned c;
+      rings = c.rings_go_round.ensures;
+      count = count;
+      index-room = index-room;
+      node-room = node-room;
+    }
 
-pub returns-clause-spots : goal.returns-clause-spots
-returns-clause-spots c =
-    let nodes = c.self.inside.nodes in let es = c.self.inside.names.entries in let key = c.insert-key.result in
-    let differs : (q : ℕ) (other : Key) → nat_eq c.args.id q ≡ false → key_of es q ≡ Some other → other ≢ key =
-    λ q other apart has. differs-fresh nodes es key c.self.invariant.live c.insert-key.ensures.fresh q other has in
-    spots-put nodes c.insert-key.new.self es c.insert.new.self.entries c.args.id key c.args.spot c.insert-key.ensures.updates c.in-Ok.ensures.updates.0 differs
-    ∙ ap (λ (b : Book). finmap.insert b.spots c.args.id c.args.spot) c.self.view_is
+pub returns-clause-names : goal.returns-clause-names
+returns-clause-names c =
+    names-put c.self.inside.names.entries c.insert.new.self.entries c.args.id c.insert-key.result c.in-Ok.ensures.updates.0
+    ∙ ap (λ (b : Book). set.insert b.names c.args.id) c.self.view_is
+
+pub returns-clause-rings : goal.returns-clause-rings
+returns-clause-rings c r below =
+    let made = c.insert-key.ensures in
+    rw (← c.self.view_is) (gains-alone c.self.inside.nodes c.insert-key.new.self c.self.inside.names.entries c.insert.new.self.entries
+    c.self.invariant.own (owned c)
+    c.self.invariant.rings c.rings_go_round.ensures c.self.inside.spare (c.self.inside.spare - 1) r below c.args.id c.insert-key.result
+    made.updates made.fresh (none c) c.in-Ok.ensures.updates.0 (made.rings r below) (made.order r below).0 (made.order r below).1)

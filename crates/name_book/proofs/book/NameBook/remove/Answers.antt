@@ -1,34 +1,64 @@
-use Rattle.std.proofs.Common.{◌≡◌, ◌≤◌, IsSome, length, sym, ap, subst, ◌∙◌, arith}
-use Rattle.std.specs.FinMap as finmap
-use Rattle.node_pool.specs.Nodes.{live_count}
+use Rattle.std.proofs.Common.{◌≡◌, ◌+◌, ◌≤◌, ◌<◌, ℕ, IsSome, is_some, length, sym, ap, ◌∙◌, arith, true≢false}
+use Rattle.std.specs.FinSet as set
 use Rattle.indexmap.specs.IndexMap.{spare}
-use Rattle.name_book.specs.Books.{Book}
-use Rattle.name_book.proofs.BookLemmas.{has_key, differs-own, spots-drop, book-drop, len-drop, took}
+use Rattle.node_pool.specs.Nodes.{IsLive, PassesOver, live_count}
+use Rattle.name_book.specs.Books.{Book, has}
+use Rattle.name_book.specs.Tables.{key_of, AreKeys}
+use Rattle.name_book.proofs.Entries.{names-keys}
+use Rattle.name_book.proofs.TableLemmas.{live-own}
+use Rattle.name_book.proofs.Kept.{drop-own, names-drop, len-drop, took}
+use Rattle.name_book.proofs.Changes.{loses}
 use Rattle.name_book.proofs.book.NameBook.remove.Goals as goal
+
+owned : (c : goal.After-rings_go_round) → AreKeys c.take.new.self c.swap_remove.new.self.entries
+owned c =
+    drop-own c.self.inside.nodes c.take.new.self c.self.inside.names.entries c.swap_remove.new.self.entries c.args.id c.in-Some.key
+    c.self.invariant.own c.take.ensures.updates (sym c.in-Some.ensures.value) c.swap_remove.ensures.updates.0
+
+live : (c : goal.After-rings_go_round) → IsLive c.self.inside.nodes c.in-Some.key
+live c = live-own c.self.inside.nodes c.self.inside.names.entries c.self.invariant.own c.args.id c.in-Some.key (sym c.in-Some.ensures.value)
 
 pub invariant_of-self : goal.invariant_of-self
 invariant_of-self c =
-    let book = c.self.invariant in
-    let nodes = c.self.inside.nodes in let new = c.take.new.self in
+    let table = c.self.invariant in
+    let nodes = c.self.inside.nodes in let new = c.take.new.self in let key = c.in-Some.key in
     let es = c.self.inside.names.entries in let now = c.swap_remove.new.self.entries in
-    let key = c.in-Some.key in
-    let own = sym c.in-Some.ensures.value in
     let len = len-drop c.swap_remove.result key (length now) (length es) c.in-Some.is c.swap_remove.ensures.len in
-    let fewer = took nodes key c.take.result (live_count new) (book.live c.args.id key own) c.take.ensures.value c.take.ensures.counts in
-    let count : live_count new ≡ length now = omega (arith, fewer, len, book.count) in
-    let index-room : c.self.inside.spare ≤ spare c.swap_remove.new.self = omega (arith, c.swap_remove.ensures.room.0, book.index-room) in
-    let node-room : c.self.inside.spare ≤ new.spare = omega (arith, c.take.ensures.spare, book.node-room) in
-    book-drop nodes new es now c.args.id key c.take.ensures.updates c.swap_remove.ensures.updates.0 (differs-own es c.args.id key book.apart own)
-    (spare c.self.inside.names) c.self.inside.spare (spare c.swap_remove.new.self) c.self.inside.spare book c.swap_remove.ensures.unique count index-room node-room
+    let fewer = took nodes key c.take.result (live_count new + 1 ≡ live_count nodes) (live c) c.take.ensures.value c.take.ensures.counts in
+    let count : live_count new ≡ length now = omega (arith, fewer, len, table.count) in
+    let index-room : c.self.inside.spare ≤ spare c.swap_remove.new.self = omega (arith, c.swap_remove.ensures.room.0, table.index-room) in
+    let node-room : c.self.inside.spare ≤ new.spare = omega (arith, c.take.ensures.spare, table.node-room) in
+    record {
+      once = c.swap_remove.ensures.unique;
+      own = owned c;
+      rings = c.rings_go_round.ensures;
+      count = count;
+      index-room = index-room;
+      node-room = node-room;
+    }
 
-pub returns-in-Some-clause-spots : goal.returns-in-Some-clause-spots
-returns-in-Some-clause-spots c =
-    let es = c.self.inside.names.entries in
-    let own = sym c.in-Some.ensures.value in
-    spots-drop c.self.inside.nodes c.take.new.self es c.swap_remove.new.self.entries c.args.id c.in-Some.key c.take.ensures.updates c.swap_remove.ensures.updates.0 (differs-own es c.args.id c.in-Some.key c.self.invariant.apart own)
-    ∙ ap (λ (b : Book). finmap.remove b.spots c.args.id) c.self.view_is
+pub returns-in-Some-clause-names : goal.returns-in-Some-clause-names
+returns-in-Some-clause-names c =
+    names-drop c.self.inside.names.entries c.swap_remove.new.self.entries c.args.id c.swap_remove.ensures.updates.0
+    ∙ ap (λ (b : Book). set.remove b.names c.args.id) c.self.view_is
 
-pub returns-in_default-clause-spots : goal.returns-in_default-clause-spots
-returns-in_default-clause-spots c =
-    let none = sym c.swap_remove.ensures.value ∙ c.in_default.is in
-    absurd (has_key c.self.inside.nodes c.self.inside.names.entries c.args.id none (subst IsSome (ap (λ (b : Book). finmap.get b.spots c.args.id) (sym c.self.view_is)) c.requires.live))
+pub returns-in-Some-clause-rings : goal.returns-in-Some-clause-rings
+returns-in-Some-clause-rings c r below =
+    let nodes = c.self.inside.nodes in let new = c.take.new.self in let key = c.in-Some.key in
+    let passes = took nodes key c.take.result ((q : ℕ) → q < 2 → PassesOver nodes new q key) (live c) c.take.ensures.value c.take.ensures.order in
+    rw (← c.self.view_is) (loses nodes new c.self.inside.names.entries c.swap_remove.new.self.entries c.self.invariant.own (owned c)
+    c.self.invariant.rings c.rings_go_round.ensures c.self.inside.spare c.self.inside.spare r below c.args.id key
+    c.take.ensures.updates (sym c.in-Some.ensures.value) c.swap_remove.ensures.updates.0 (c.take.ensures.rings r below) (passes r below))
+
+-- a live name has a key
+never : (c : goal.In_default) → ⊥
+never c =
+    let named : IsSome (key_of c.self.inside.names.entries c.args.id) =
+    sym (names-keys c.self.inside.names.entries c.args.id) ∙ ap (λ (b : Book). has b c.args.id) c.self.view_is ∙ c.requires.live in
+    true≢false (sym named ∙ ap is_some (sym c.swap_remove.ensures.value ∙ c.in_default.is))
+
+pub returns-in_default-clause-names : goal.returns-in_default-clause-names
+returns-in_default-clause-names c = absurd (never c)
+
+pub returns-in_default-clause-rings : goal.returns-in_default-clause-rings
+returns-in_default-clause-rings c r below = absurd (never c)

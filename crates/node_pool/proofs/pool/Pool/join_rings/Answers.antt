@@ -1,5 +1,6 @@
 use Rattle.std.proofs.Common.{◌≢◌, refl}
 use Rattle.node_pool.proofs.PoolLemmas.{IsHeld-of_live, apart-steps, elsewhere-next, IsPool-join, unites_join, same_rings}
+use Rattle.node_pool.proofs.OrderLemmas.{SameOrder-of, ExchangesNext-of}
 use Rattle.node_pool.proofs.pool.Pool.join_rings.Goals as goal
 
 pub invariant_of-self : goal.invariant_of-self
@@ -20,3 +21,15 @@ returns-clause-others g c q below apart =
     let s = c.self.inside.nodes in let l = c.self.inside.rings in let i = c.self.inside.issued in
     let same = elsewhere-next g.row.R s l i c.self.invariant c.join.new.self c.args.r q c.join.ensures.elsewhere below apart in
     rw (← c.self.view_is) (same_rings g.row.R s l i c.self.invariant s c.join.new.self q refl same)
+
+pub returns-clause-exchanged : goal.returns-clause-exchanged
+returns-clause-exchanged g c =
+    let s = c.self.inside.nodes in let l = c.self.inside.rings in let i = c.self.inside.issued in
+    rw (← c.self.view_is) (ExchangesNext-of g.row.R s l i c.self.invariant c.join.new.self c.args.r c.args.a c.args.b c.join.ensures.next
+    (rw (← c.self.view_is) at c.requires.a) (rw (← c.self.view_is) at c.requires.b))
+
+pub returns-clause-order : goal.returns-clause-order
+returns-clause-order g c q below apart =
+    let s = c.self.inside.nodes in let l = c.self.inside.rings in let i = c.self.inside.issued in
+    let same = elsewhere-next g.row.R s l i c.self.invariant c.join.new.self c.args.r q c.join.ensures.elsewhere below apart in
+    rw (← c.self.view_is) (SameOrder-of s s l c.join.new.self i i q refl same)

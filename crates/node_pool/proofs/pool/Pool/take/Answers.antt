@@ -5,6 +5,7 @@ use Rattle.node_pool.specs.Pool.{nodes_of}
 use Rattle.node_pool.proofs.LinkLemmas.{IsCutBelow-step, IsCutBelow-most}
 use Rattle.node_pool.proofs.PoolLemmas.{IsPool-take, parts_cut, others_taken}
 use Rattle.node_pool.proofs.RingLemmas.{numbered-some}
+use Rattle.node_pool.proofs.OrderLemmas.{PassesOver-of}
 use Rattle.node_pool.proofs.pool.Pool.take.Goals as goal
 
 pub loop-r-preserved : goal.loop-r-preserved
@@ -33,3 +34,13 @@ returns-clause-rings g c r below =
     let gone : value_at (nodes_of c.remove-value.new.self c.loop-r.self-inside.rings i) key ≡ None = ap (numbered key.number) updates.changed in
     rw (← c.self.view_is, kept.1) (parts_cut g.row.R s l i c.self.invariant c.remove-value.new.self c.loop-r.self-inside.rings i r key below (cut.next r below) live
     (others_taken s c.remove-value.new.self key here.0 here.2 here.1 updates) (λ x stays _. absurd (true≢false (sym (subst IsSome gone stays)))))
+
+pub returns-clause-order : goal.returns-clause-order
+returns-clause-order g c r below =
+    let kept = c.loop-r.invariant in
+    let s = c.self.inside.nodes in let l = c.self.inside.rings in let i = c.self.inside.issued in let key = c.args.key in
+    let cut = IsCutBelow-most l c.loop-r.self-inside.rings key.slot c.loop-r.r g.row.R c.loop-r-test.false kept.2 in
+    let updates = rw kept.0 at c.remove-value.ensures.updates in
+    let live : IsLive (nodes_of s l i) key = rw (← c.self.view_is) at (c.is_live.ensures.0 c.if-not-is_live.false) in
+    rw (← c.self.view_is, kept.1) (PassesOver-of g.row.R s l i c.self.invariant c.remove-value.new.self c.loop-r.self-inside.rings i r key below
+    (cut.next r below) live updates.others)
