@@ -1,9 +1,10 @@
 -- A name that is live, and one that isn't; a shelf with one name more, and one without any.
-use Rattle.std.proofs.Common.{◌≡◌, ℕ, ◌+◌, ◌*◌, ◌≤◌, true, false, cond, Option, Some, None, option_map, is_some, refl, sym, ap, ◌∙◌, subst, true≢false}
+use Rattle.std.proofs.Common.{◌≡◌, ℕ, ◌+◌, ◌-◌, ◌*◌, ◌<◌, ◌≤◌, true, false, cond, Option, Some, None, option_map, is_some, refl, sym, ap, ◌∙◌, subst, true≢false, arith}
 use Rattle.std.proofs.lemmas.Option.{none-some}
 use Rattle.std.specs.Ordering.{nat_cmp}
 use Rattle.std.specs.Cmp.{nat_cmp_total}
 use Rattle.std.specs.FinMap as finmap
+use Rattle.fee_rate.specs.declared.limits.TheConstants.{MAX_TOTAL}
 use Rattle.graphs.specs.Closures.{is_member}
 use Rattle.staging.specs.Maps.{Maps}
 use Rattle.cluster_store.specs.Stores.{Stored, Store, IsStore}
@@ -33,11 +34,23 @@ len_put old new id number count put absent counted =
     ap (λ n. n + 1) counted
     ∙ sym (ap finmap.len put ∙ finmap.len-insert nat_cmp_total old id number ∙ ap (λ b. cond b (finmap.len old) (finmap.len old + 1)) (ap is_some absent))
 
+-- where fewer names were there than are added up, one more is no more than these
+pub still_few : (now shelf : Shelf) (count : ℕ) → shelf ≡ now → finmap.len now.numbers < MAX_TOTAL → count ≡ finmap.len shelf.numbers
+    → count + 1 ≤ MAX_TOTAL
+still_few now shelf count view few counted =
+    let less : finmap.len shelf.numbers < MAX_TOTAL = subst (λ (s : Shelf). finmap.len s.numbers < MAX_TOTAL) (sym view) few in
+    omega (arith, counted)
+
+-- and one fewer is so too
+pub fewer : (count : ℕ) → count ≤ MAX_TOTAL → count - 1 ≤ MAX_TOTAL
+fewer count few = omega arith
+
 -- room that was made changes no number
 pub kept_reserved : (w count : ℕ) (old new : Maps ℕ) (store : Store) → IsKept w old store count → new.base ≡ old.base → new.top ≡ old.top → IsKept w new store count
 kept_reserved w count old new store kept base top = record {
   none_staged = top ∙ kept.none_staged;
   counted = kept.counted ∙ ap finmap.len (sym base);
+  few = kept.few;
   order = subst (λ (m : Numbers). IsInOrder w (record { numbers = m; store = store })) (sym base) kept.order;
 }
 
@@ -50,6 +63,7 @@ pub kept_empty : (w : ℕ) (maps : Maps ℕ) (store : Store) → 1 ≤ w → w �
 kept_empty w maps store wide narrow none empty sound = record {
   none_staged = ap (λ (m : Maps ℕ). m.top) none;
   counted = sym (ap (λ (m : Maps ℕ). finmap.len m.base) none ∙ finmap.len-empty nat_cmp ℕ);
+  few = omega arith;
   order = record {
     wide = wide;
     narrow = narrow;

@@ -27,3 +27,6 @@ mod Ways
 mod Telling
 mod Firsts
 mod Places
+mod Staying
+mod Untouched
+mod Levels

@@ -27,7 +27,7 @@ pub record Tried {T : Type 0} {E : Type 0} (w number : ℕ) (c c' : Cluster) (ol
   pub same : OnErr result (store ≡ old.store)
   pub sound : IsStore (64 * w) store
 
-other_of : {T : Type 0} {E : Type 0} (w number : ℕ) (c c' : Cluster) (old : Shelf) (store : Store) (x : T) → Tried {T = T} {E = E} w number c c' old store (Ok x) → StoresOther w number c c' old store
+pub other_of : {T : Type 0} {E : Type 0} (w number : ℕ) (c c' : Cluster) (old : Shelf) (store : Store) (x : T) → Tried {T = T} {E = E} w number c c' old store (Ok x) → StoresOther w number c c' old store
 other_of w number c c' old store x t = record { order = t.order; was = t.was; names = t.names; whole = t.whole; exchanged = t.exchanged; sound = t.sound }
 
 pub order_tried : {T : Type 0} {E : Type 0} (w number : ℕ) (c c' : Cluster) (old : Shelf) (store : Store) (result : Result T E) → Tried w number c c' old store result

@@ -26,14 +26,14 @@ module _ (w : ℕ) (shelf : Shelf) (order : IsInOrder w shelf) where
   abbrev clusters : Numbered
   clusters = shelf.store.clusters
 
-  there : (n : ℕ) (c : Cluster) → Stands Main clusters n c → cluster_at clusters n ≡ Some c
+  pub there : (n : ℕ) (c : Cluster) → Stands Main clusters n c → cluster_at clusters n ≡ Some c
   there n c stands = at_stored clusters n stands.0 stands.1 ∙ ap Some stands.2
 
   pub stands : (n : ℕ) (c : Cluster) → cluster_at clusters n ≡ Some c → Stands Main clusters n c
   stands n c is =
       let s = stored_at clusters n c is in (s.0, s.1, s.2, ap (is_in Main) (order.both n s.0 s.1))
 
-  is_level : IsLevel Main clusters (graph_of shelf)
+  pub is_level : IsLevel Main clusters (graph_of shelf)
   is_level = record {
     apart = λ n m id c d one two here also. one_number (64 * w) shelf order.indexed n m id c d (there n c one) (there m d two) here also;
     members = λ id. (

@@ -1,5 +1,5 @@
 -- Where the parts of names stand, and what stands there.
-use Rattle.std.proofs.Common.{◌≡◌, ◌≢◌, ℕ, ◌*◌, ◌≤◌, ◌&&◌, nat_eq, true, false, true≢false, eq-eqb, eqb-true, List, flat_map, map, Contains, Some, sym, ap, ◌∙◌, subst}
+use Rattle.std.proofs.Common.{◌≡◌, ◌≢◌, ℕ, ◌*◌, ◌&&◌, nat_eq, true, false, true≢false, eq-eqb, eqb-true, List, flat_map, map, Contains, Some, sym, ap, ◌∙◌, subst}
 use Rattle.std.proofs.lemmas.Bool.{and_parts, and_from}
 use Rattle.std.proofs.lemmas.Option.{same_Some, slice_get_within, get_or_from_slice_get}
 use Rattle.std.specs.Prelude.{slice_get}
@@ -14,7 +14,6 @@ use Rattle.graphs.specs.Merges.{Precedes}
 use Rattle.graphs.specs.Rates.{HasSizes}
 use Rattle.graphs.proofs.MergeLemmas.{stands_within}
 use Rattle.graphs.proofs.PickLemmas.{picks_are_kept}
-use Rattle.fee_rate.specs.declared.rates.FeeRate.{FeeRate}
 use Rattle.cluster.specs.Clusters.{Cluster, sum_at}
 use Rattle.cluster.specs.Covers.{ListsInOrder}
 use Rattle.cluster_store.specs.Laws.{StandsAt, PartsStandInOrder}
@@ -23,8 +22,8 @@ use Rattle.cluster_store.proofs.Before.{parts_stand_in_order}
 use Rattle.graph_model.specs.Answers.{order_of}
 use Rattle.tx_graph.specs.Readings.{HasPart, ListsCovers}
 use Rattle.tx_graph.specs.Shelves.{Shelf, cluster_at, graph_of, parts_of, IsInOrder, IsClusterOf}
+use Rattle.tx_graph.proofs.Levels.{rated}
 use Rattle.tx_graph.proofs.Merged.{stands, picked_of}
-use Rattle.tx_graph.proofs.Graphs.{live_in, rate_in_cluster}
 use Rattle.tx_graph.proofs.Firsts.{unfiltered}
 use Rattle.tx_graph.proofs.Found.{cluster_of}
 
@@ -66,11 +65,7 @@ module _ (w : ℕ) (shelf : Shelf) (order : IsInOrder w shelf) where
 
   -- the merged parts are an optimal order of every graph with that closure
   sizes : (graph : Graph) → IsClosureOf (graph_of shelf) graph → HasSizes (sum_at (graph_of shelf)) graph.names
-  sizes graph closes id here =
-      let at = live_in (64 * w) shelf order.indexed id ((closes.names id).0 here) in
-      let whole = order.indexed.whole at.0 at.2.cluster at.2.there in
-      let same = rate_in_cluster (64 * w) shelf order.indexed at.0 id at.2.cluster at.2.there at.2.here in
-      subst (λ (rate : FeeRate). 1 ≤ rate.size) (sym same) (whole.rates id ((whole.members id).1 at.2.here)).some
+  sizes graph closes id here = (rated w shelf order id ((closes.names id).0 here)).some
 
   pub optimal_of : (graph : Graph) → IsClosureOf (graph_of shelf) graph → IsOptimal (sum_at (graph_of shelf)) graph (map (λ part. part.ids) (parts_of shelf))
   optimal_of graph closes =

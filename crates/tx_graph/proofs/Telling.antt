@@ -1,28 +1,33 @@
 -- The steps of the readings of an order, which tell of the picks.
 use Rattle.std.proofs.Common.{◌≡◌, ℕ, true, false, List, map, Contains, ◌↔◌, sym, refl, ap, ap₂, subst, subst₂, ◌∙◌, inl, inr, None, Some, true≢false}
 use Rattle.fee_rate.specs.declared.rates.Sum.{Sum}
+use Rattle.fee_rate.specs.Limits.{IsRate}
 use Rattle.graphs.specs.declared.names.Level.{Level}
 use Rattle.graphs.specs.declared.names.Level.TheVariants.{Main, Top}
 use Rattle.graphs.specs.Certificates.{Part}
 use Rattle.graphs.specs.Closures.{is_member}
+use Rattle.graphs.specs.Closures as closures
+use Rattle.graphs.specs.Diagrams.{corners_of, AreCorners, JoinsEqualRates}
 use Rattle.graphs.specs.Closing.{IsClosureOf}
 use Rattle.graphs.specs.Graphs.{Graph}
 use Rattle.graphs.specs.Graphs as plain
 use Rattle.graphs.specs.Linearizations.{IsOptimal}
 use Rattle.graphs.specs.Picks.{FollowOrder, IsPick}
 use Rattle.graphs.proofs.ClosingLemmas.{covers_agree}
+use Rattle.graphs.proofs.CornerLemmas.{optimal_ends}
 use Rattle.cluster.specs.Clusters.{ArePicked, sum_at}
 use Rattle.graph_model.specs.declared.names.Place.{Place}
 use Rattle.graph_model.specs.declared.names.Refusal.TheVariants.{Unknown}
 use Rattle.graph_model.specs.Answers.{order_of, StandsTo, ListsCovers}
-use Rattle.graph_model.specs.Commands.{Command, Chunk, Before, Order, Proof}
-use Rattle.graph_model.specs.Replies.{Reply, Parts, Proves, OnePart, Stands}
+use Rattle.graph_model.specs.Commands.{Command, Chunk, Before, Order, Diagram, Proof}
+use Rattle.graph_model.specs.Replies.{Reply, Parts, Points, Proves, OnePart, Stands}
 use Rattle.graph_model.specs.States.{PlainState, Picks, State, level_of, pick_of, top_of}
 use Rattle.graph_model.specs.States as states
 use Rattle.graph_model.specs.Steps.{AcceptsPlainly, KeepsPicks}
 use Rattle.graph_model.specs.Texts.{Text}
 use Rattle.tx_graph.specs.Kept.{Kept, StandsPlainly, StandsFor, MakesStep}
 use Rattle.tx_graph.specs.Readings.{IsBestOrder, IsTextOf}
+use Rattle.tx_graph.proofs.Levels.{rates_told}
 use Rattle.tx_graph.proofs.Standing.{Meets, order_kept, picks_of}
 use Rattle.tx_graph.proofs.Picked.{KeepsCommand, picks_follow, sums-of}
 
@@ -72,6 +77,31 @@ best_order kept level picked optimal state stands =
       optimal = subst₂ (λ (rate : ℕ → Sum) (g : Graph). IsOptimal rate g (map (λ part. part.ids) kept.parts)) rates graph
           (optimal state.plain.main stands.plain.closure);
     }
+
+-- ---- the diagram
+
+-- the segments that the parts make where equal rates are joined end at the corners of every state's graph
+pub steps_drawn : (kept : Kept) (level : Level) (segments : List Sum) → ArePicked kept.graph kept.parts
+    → ((graph : Graph) → IsClosureOf kept.graph graph → IsOptimal (sum_at kept.graph) graph (map (λ part. part.ids) kept.parts))
+    → ((id : ℕ) → is_member kept.graph id ≡ true → IsRate (closures.rate_of kept.graph id))
+    → JoinsEqualRates (map (λ part. part.rate) kept.parts) segments → MakesStep kept kept (Diagram level) (Points (corners_of segments))
+steps_drawn kept level segments picked optimal rates joins =
+    steps_told kept (Diagram level) (Points (corners_of segments)) picked (λ a b keeps. keeps) (λ state stands. refl) (λ state stands.
+    let main = state.plain.main in
+    let summed = (picked main stands.plain.closure).certificate.falling.summed in
+    let ends : AreCorners (sum_at kept.graph) main (corners_of segments) =
+    optimal_ends (sum_at kept.graph) main (map (λ part. part.ids) kept.parts) segments stands.plain.valid.names
+    (λ id here. (rates id ((stands.plain.closure.names id).0 here)).some) (optimal main stands.plain.closure)
+    (subst (λ (ss : List Sum). JoinsEqualRates ss segments) (rates_told (sum_at kept.graph) kept.parts summed) joins) in
+    record {
+      answer = (
+        corners_of segments,
+        subst₂ (λ (rate : ℕ → Sum) (g : Graph). AreCorners rate g (corners_of segments)) (sums-of kept state.plain stands.plain)
+            (sym (level_is kept state.plain level stands.plain)) ends,
+        refl,
+      );
+      change = refl;
+    })
 
 -- ---- one part, and two names
 

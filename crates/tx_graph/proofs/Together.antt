@@ -52,7 +52,7 @@ pub record JoinTried {T : Type 0} {E : Type 0} (w p q stays goes from : ℕ) (a 
   pub same_numbers : OnErr result (new.numbers ≡ old.numbers)
   pub same_store : OnErr result (new.store ≡ old.store)
 
-joined_of : {T : Type 0} {E : Type 0} (w p q stays goes from : ℕ) (a b m : Cluster) (old new : Shelf) (x : T)
+pub joined_of : {T : Type 0} {E : Type 0} (w p q stays goes from : ℕ) (a b m : Cluster) (old new : Shelf) (x : T)
     → (t : JoinTried {T = T} {E = E} w p q stays goes from a b m old new (Ok x)) → StoresJoined w stays goes p q a b m old t.together.mid new
 joined_of w p q stays goes from a b m old new x t = record {
   order = t.order;
@@ -72,7 +72,7 @@ joined_of w p q stays goes from a b m old new x t = record {
     behind : drop from m.names ≡ b.names
     behind = ap (λ n. drop n m.names) t.from_is ∙ ap (drop (length a.names)) t.names ∙ drop-append_seam a.names b.names
 
-same_shelf : (old new : Shelf) → new.numbers ≡ old.numbers → new.store ≡ old.store → new ≡ old
+pub same_shelf : (old new : Shelf) → new.numbers ≡ old.numbers → new.store ≡ old.store → new ≡ old
 same_shelf old new numbers store = λ i. record { numbers = numbers i; store = store i }
 
 pub order_join : {T : Type 0} {E : Type 0} (w p q stays goes from : ℕ) (a b m : Cluster) (old new : Shelf) (result : Result T E)

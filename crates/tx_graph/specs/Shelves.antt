@@ -3,6 +3,7 @@ use Rattle.std.specs.Prelude.{◌≡◌, ◌↔◌, ℕ, ◌*◌, ◌≤◌, tru
 use Rattle.std.specs.Coded.{Coded, code_by, coded×, coded_ℕ}
 use Rattle.std.specs.FinMap as finmap
 use Rattle.std.specs.FinSet as set
+use Rattle.fee_rate.specs.declared.limits.TheConstants.{MAX_TOTAL}
 use Rattle.graphs.specs.Closures.{Node, Closure, is_member, is_ancestor, rate_of, ancestors_of, no_rate, AreLinked}
 use Rattle.graphs.specs.Certificates.{Part}
 use Rattle.graphs.specs.declared.names.Level.TheVariants.{Main}
@@ -66,10 +67,11 @@ pub record IsInOrder (w : ℕ) (shelf : Shelf) : Type 0 where
   pub store : IsStore (64 * w) shelf.store
   pub both : (number : ℕ) (s : Stored) → finmap.get shelf.store.clusters number ≡ Some s → s.tag ≡ Both
 
--- what is kept of a shelf: nothing is staged, and the names are counted
+-- what is kept of a shelf: nothing is staged, and the names are counted and no more than are added up
 pub record IsKept (w : ℕ) (maps : Maps ℕ) (store : Store) (count : ℕ) : Type 0 where
   pub none_staged : maps.top ≡ None
   pub counted : count ≡ finmap.len maps.base
+  pub few : count ≤ MAX_TOTAL
   pub order : IsInOrder w (record { numbers = maps.base; store = store })
 
 -- ---- a cluster, told by the graph

@@ -3,6 +3,7 @@ ghost use Rattle.std.specs.List.{AllPairs};
 ghost use Rattle.std.specs.List.Sorted.{IsPermutation};
 ghost use Rattle.std.specs.FinMap as finmap;
 ghost use Rattle.fee_rate.specs.Limits.{IsFee, IsRate};
+ghost use Rattle.fee_rate.specs.declared.limits.TheConstants.{MAX_TOTAL};
 ghost use Rattle.graphs.specs.Closures.{is_member, is_ancestor, rate_of, AddsPair, SetsFee, DropsPlace, AreLinked};
 ghost use Rattle.graphs.specs.Certificates.{Part};
 ghost use Rattle.graphs.specs.Closing.{IsClosureOf};
@@ -11,6 +12,7 @@ ghost use Rattle.graphs.specs.Linearizations.{StandsBefore, IsOptimal};
 ghost use Rattle.graphs.specs.declared.names.Level.TheVariants.{Main};
 ghost use Rattle.graph_model.specs.Answers.{StandsTo, order_of};
 ghost use Rattle.staging.specs.Maps.{Maps};
+ghost use Rattle.diagram.specs.Parts.{AreLevelParts};
 ghost use Rattle.chunk_index.specs.declared.entry.Tag.TheVariants.{Both};
 ghost use Rattle.cluster.specs.Clusters.{IsCluster, ArePicked, AreApart, sum_at};
 ghost use Rattle.cluster.specs.Clusters as records;
@@ -24,6 +26,7 @@ ghost use Rattle.tx_graph.specs.Kept.{AddsName};
 ghost use Rattle.tx_graph.specs.Shelves.{no_clusters, graph_of, parts_of, cluster_at, IsClusterOf};
 ghost use Rattle.tx_graph.specs.Joins.{DepRefusalIs, SumRefusalIs};
 ghost use Rattle.tx_graph.specs.Readings.{HasPart, ListsCovers};
+ghost use Rattle.tx_graph.specs.Stays.{KeepsComponents};
 ghost use Rattle.tx_graph.specs.Moves.{AreAt, AreFarApartIn, ComeTogether, HoldsAll, IsLink, IsWithin, Points, PointsAll, Replaces};
 
 use chunk_index::Tag;
@@ -117,9 +120,13 @@ impl<const W: usize> Clusters<W> {
         }
     }
 
-    /// The parts of all clusters, in their order, which is an optimal one of every graph that is stood for.
+    /// The parts of all clusters, in their order, which is an optimal one of every graph that is stood for. Names have
+    /// fees and sizes in range, and the parts are those of a level: of falling rate, with sums in range.
     pub fn parts(&self) -> PartWalk<'_, Stored<W>>
         ensures parts { map (λ s. s.part) result ≡ parts_of self.now }
+        ensures rates { (id : ℕ) → is_member (graph_of self.now) id ≡ true → IsRate (rate_of (graph_of self.now) id) }
+        ensures level { (graph : Graph) → IsClosureOf (graph_of self.now) graph
+            → AreLevelParts (map (λ part. part.rate) (parts_of self.now)) }
         ensures optimal { (graph : Graph) → IsClosureOf (graph_of self.now) graph
             → IsOptimal (sum_at (graph_of self.now)) graph (map (λ part. part.ids) (parts_of self.now)) }
     {
@@ -183,8 +190,8 @@ impl<const W: usize> Clusters<W> {
         at(&self.store, live_number(&self.numbers, id)).covers(id)
     }
 
-    /// Makes a cluster of a name that isn't live, with its fee in satoshis and its size in virtual bytes. Without
-    /// memory all stays as it was.
+    /// Makes a cluster of a name that isn't live, with its fee in satoshis and its size in virtual bytes. Fewer names are
+    /// there than are added up. Without memory all stays as it was.
     pub fn add<L: Ledger>(
         &mut self,
         id: TxId,
@@ -194,10 +201,11 @@ impl<const W: usize> Clusters<W> {
     ) -> Result<(), NoMemory>
         requires absent { is_member (graph_of self.old) id ≡ false }
         requires rate { IsRate (record { fee = fee; size = size }) }
-        requires few { finmap.len self.old.numbers + 1 < 2 ^ 64 }
+        requires few { finmap.len self.old.numbers < MAX_TOTAL }
         ensures graph { OnOk result (AddsName (graph_of self.old) (graph_of self.new) id
             (record { fee = fee; size = size })) }
         ensures picked { ArePicked (graph_of self.new) (parts_of self.new) }
+        ensures stays { KeepsComponents (graph_of self.old) (parts_of self.old) (graph_of self.new) (parts_of self.new) }
         ensures err { OnErr result (self.new ≡ self.old) }
         ensures steps { steps.new ≡ steps.old }
     {
@@ -222,6 +230,7 @@ impl<const W: usize> Clusters<W> {
         ensures graph { OnOk result (SetsFee (graph_of self.old) (graph_of self.new) id fee) }
         ensures still { (rate_of (graph_of self.old) id).fee ≡ fee → self.new ≡ self.old }
         ensures picked { ArePicked (graph_of self.new) (parts_of self.new) }
+        ensures stays { KeepsComponents (graph_of self.old) (parts_of self.old) (graph_of self.new) (parts_of self.new) }
         ensures err { OnErr result (self.new ≡ self.old) }
         ensures free { (rate_of (graph_of self.old) id).fee ≡ fee → steps.new ≡ steps.old }
         ensures steps { (ids : List ℕ) → Lists (AreLinked (graph_of self.old) id) ids
@@ -249,6 +258,7 @@ impl<const W: usize> Clusters<W> {
         ensures graph { OnOk result (AddsPair (graph_of self.old) (graph_of self.new) parent child) }
         ensures still { is_ancestor (graph_of self.old) parent child ≡ true → self.new ≡ self.old }
         ensures picked { ArePicked (graph_of self.new) (parts_of self.new) }
+        ensures stays { KeepsComponents (graph_of self.old) (parts_of self.old) (graph_of self.new) (parts_of self.new) }
         ensures err { OnErr result (self.new ≡ self.old) }
         ensures free { is_ancestor (graph_of self.old) parent child ≡ true → steps.new ≡ steps.old }
         ensures steps { (ids : List ℕ)
@@ -274,6 +284,7 @@ impl<const W: usize> Clusters<W> {
         requires { IsLink W self.old parent child (Link.Within number) }
         ensures graph { OnOk result (AddsPair (graph_of self.old) (graph_of self.new) parent child) }
         ensures picked { ArePicked (graph_of self.new) (parts_of self.new) }
+        ensures stays { KeepsComponents (graph_of self.old) (parts_of self.old) (graph_of self.new) (parts_of self.new) }
         ensures err { OnErr result (self.new ≡ self.old) }
         ensures steps { (ids : List ℕ)
             → Lists (λ q. AreLinked (graph_of self.old) q parent ⊎ AreLinked (graph_of self.old) q child) ids
@@ -297,6 +308,7 @@ impl<const W: usize> Clusters<W> {
         requires { IsLink W self.old parent child (Link.Between above below) }
         ensures graph { OnOk result (AddsPair (graph_of self.old) (graph_of self.new) parent child) }
         ensures picked { ArePicked (graph_of self.new) (parts_of self.new) }
+        ensures stays { KeepsComponents (graph_of self.old) (parts_of self.old) (graph_of self.new) (parts_of self.new) }
         ensures err { OnErr result (self.new ≡ self.old) }
         ensures steps { (ids : List ℕ)
             → Lists (λ q. AreLinked (graph_of self.old) q parent ⊎ AreLinked (graph_of self.old) q child) ids
@@ -347,6 +359,7 @@ impl<const W: usize> Clusters<W> {
         requires { is_member (graph_of self.old) id ≡ true }
         ensures graph { OnOk result (DropsPlace (graph_of self.old) (graph_of self.new) id) }
         ensures picked { ArePicked (graph_of self.new) (parts_of self.new) }
+        ensures stays { KeepsComponents (graph_of self.old) (parts_of self.old) (graph_of self.new) (parts_of self.new) }
         ensures err { OnErr result (self.new ≡ self.old) }
         ensures grew { steps.old ≤ steps.new }
         ensures steps { (c : records.Cluster) (lists : List (List ℕ)) → IsClusterOf (graph_of self.old) id c

@@ -1,4 +1,5 @@
-ghost use Rattle.std.specs.Prelude.{◌≡◌, ◌≢◌, ℕ, ◌+◌, ◌-◌, ◌*◌, ◌^◌, ◌<◌, ◌≤◌, ◌⊎◌, ◌↔◌, true, None, Some, List, [], ◌∷◌, length, reverse, option_map, is_ok, if◌then◌else◌, IsTrue, IfOk, IfErr, OnErr, Contains};
+ghost use Rattle.std.specs.Prelude.{◌≡◌, ◌≢◌, ℕ, ℤ, ◌+◌, ◌-◌, ◌*◌, ◌^◌, ◌<◌, ◌≤◌, ◌⊎◌, ◌↔◌, true, None, Some, List, [], ◌∷◌, length, reverse, option_map, is_ok, if◌then◌else◌, IsTrue, IfOk, IfErr, OnErr, Contains};
+ghost use Rattle.std.specs.Iterator.{IsFinite};
 ghost use Rattle.std.specs.FinMap as finmap;
 ghost use Rattle.graphs.specs.Closures.{is_member, is_ancestor, rate_of, AreLinked};
 ghost use Rattle.graphs.specs.Graphs.{Lists};
@@ -10,8 +11,9 @@ ghost use Rattle.graph_model.specs.Answers.{order_of};
 ghost use Rattle.graph_model.specs.Commands as commands;
 ghost use Rattle.graph_model.specs.Commands.{SetLimits, Add, Dep, SetFee, Remove, Cluster, Ancestors, Descendants, Chunk, Before, Proof, Count};
 ghost use Rattle.graph_model.specs.Refusals.{RefusalIs};
-ghost use Rattle.graph_model.specs.Replies.{Number, Parts, Proves, change_reply, names_reply};
+ghost use Rattle.graph_model.specs.Replies.{Number, Parts, Points, Proves, change_reply, names_reply};
 ghost use Rattle.graph_model.specs.Texts.{Text};
+ghost use Rattle.diagram.specs.Points.{YieldsCorners};
 ghost use Rattle.cluster.specs.Clusters as records;
 ghost use Rattle.cluster.specs.Changes.{AreComponents};
 ghost use Rattle.cluster.specs.Steps.{GrowsWithin, most_steps, most_steps_of};
@@ -19,10 +21,12 @@ ghost use Rattle.tx_graph.specs.Kept.{Kept, StandsFor, MakesStep, start_within};
 ghost use Rattle.tx_graph.specs.Shelves.{graph_of, IsClusterOf};
 ghost use Rattle.tx_graph.specs.Joins.{AddRefusalIs};
 ghost use Rattle.tx_graph.specs.Readings.{IsBestOrder, IsTextOf, ListsCovers, part_reply, place_reply};
+ghost use Rattle.tx_graph.specs.Stays.{KeepsComponents};
 
 use crate::clusters::Clusters;
-use crate::order::{Backward, Forward, Order, OrderBack};
+use crate::order::{Backward, Diagram, Forward, Order, OrderBack, Rates};
 use cluster::{Covers, PartRef};
+use diagram::corners;
 use fee_rate::FeeRate;
 use graph_model::{IdBuf, Level, Limits, Place, Refusal, TxId, is_fee, is_size};
 use outside::NoMemory;
@@ -35,7 +39,8 @@ use step_count::{Ledger, Steps};
 /// It keeps each name's ancestors and not the pairs that they came from, and an optimal order, so it stands for every
 /// state of the machine with these ancestors and this order. Each call is a step of the machine from each such state.
 /// There is no staging yet: both words for a level speak of main. A call that changes the graph solves the clusters that
-/// it makes and no others, and counts the steps of that in a ledger of the caller's.
+/// it makes and no others, and counts the steps of that in a ledger of the caller's. Whatever it answers, a component that
+/// stays, with the same names, ancestors, fees and sizes, keeps its parts and their flows, in their order.
 #[derive(Drop)]
 pub struct TxGraph<const W: usize> {
     limits: Limits,
@@ -158,6 +163,7 @@ impl<const W: usize> TxGraph<W> {
     ) -> Result<(), Refusal>
         requires { self.old.additions < 2 ^ 64 - 1 }
         ensures step { MakesStep self.old self.new (Add id fee size) (change_reply result) }
+        ensures stays { KeepsComponents self.old.graph self.old.parts self.new.graph self.new.parts }
         ensures additions { self.new.additions ≡ self.old.additions + (if is_ok result then 1 else 0) }
         ensures steps { steps.new ≡ steps.old }
     {
@@ -186,6 +192,7 @@ impl<const W: usize> TxGraph<W> {
         steps: &mut Steps<L>,
     ) -> Result<(), Refusal>
         ensures step { MakesStep self.old self.new (Dep parent child) (change_reply result) }
+        ensures stays { KeepsComponents self.old.graph self.old.parts self.new.graph self.new.parts }
         ensures additions { self.new.additions ≡ self.old.additions }
         ensures refused { IfErr result (λ why. why ≢ Memory → steps.new ≡ steps.old) }
         ensures nothing { is_ancestor self.old.graph parent child ≡ true → steps.new ≡ steps.old }
@@ -213,6 +220,7 @@ impl<const W: usize> TxGraph<W> {
         steps: &mut Steps<L>,
     ) -> Result<(), Refusal>
         ensures step { MakesStep self.old self.new (SetFee id fee) (change_reply result) }
+        ensures stays { KeepsComponents self.old.graph self.old.parts self.new.graph self.new.parts }
         ensures additions { self.new.additions ≡ self.old.additions }
         ensures refused { IfErr result (λ why. why ≢ Memory → steps.new ≡ steps.old) }
         ensures nothing { (rate_of self.old.graph id).fee ≡ fee → steps.new ≡ steps.old }
@@ -239,6 +247,7 @@ impl<const W: usize> TxGraph<W> {
     /// where n is the number of names of each.
     pub fn remove<L: Ledger>(&mut self, id: TxId, steps: &mut Steps<L>) -> Result<(), Refusal>
         ensures step { MakesStep self.old self.new (Remove id) (change_reply result) }
+        ensures stays { KeepsComponents self.old.graph self.old.parts self.new.graph self.new.parts }
         ensures additions { self.new.additions ≡ self.old.additions }
         ensures refused { IfErr result (λ why. why ≢ Memory → steps.new ≡ steps.old) }
         ensures grew { steps.old ≤ steps.new }
@@ -331,6 +340,21 @@ impl<const W: usize> TxGraph<W> {
         // There is no staging, so both words speak of main.
         let _ = level;
         Backward::new(self.clusters.parts())
+    }
+
+    /// The corners of a level's diagram, from (0, 0) on: the ends of its parts where equal rates are joined. Takes no
+    /// memory.
+    ///
+    /// They are the corners of the graph of every state that the graph stands for, whichever order it has.
+    pub fn diagram(&self, level: Level) -> Diagram<'_, W>
+        ensures can { ⟦<Diagram<'static, W> as Iterator>⟧.can_next result }
+        ensures ends { IsFinite (⟦<Diagram<'static, W> as Iterator>⟧.remaining result) }
+        ensures step { (points : List (ℕ × ℤ)) × YieldsCorners ⟦<Diagram<'static, W> as Iterator>⟧.next_gives result points
+            × MakesStep self.now self.now (commands.Diagram level) (Points points) }
+    {
+        // There is no staging, so both words speak of main.
+        let _ = level;
+        corners(Rates::new(self.clusters.parts()))
     }
 
     /// The part of main that has a name. Takes no memory.

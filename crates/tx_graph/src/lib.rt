@@ -10,7 +10,7 @@ mod order;
 
 pub use cluster::{Covers, PartRef};
 pub use graph::TxGraph;
-pub use order::{Backward, Forward, Order, OrderBack};
+pub use order::{Backward, Diagram, Forward, Order, OrderBack, Rates};
 
 #[cfg(test)]
 mod tests;

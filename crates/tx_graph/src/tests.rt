@@ -159,6 +159,33 @@ fn implied<L: Ledger>(
     play(rt, alloc, &rows, out, steps)
 }
 
+// A parent is paid for by its child, in the order and in the diagram, and equal rates are joined in the diagram.
+fn drawn<L: Ledger>(
+    rt: &impl Abort,
+    alloc: Global,
+    out: &mut IdBuf,
+    steps: &mut Steps<L>,
+) -> Result<(), Fail> {
+    let done: Result<&[TxId], Refusal> = Ok([].as_slice());
+    let mut graph = TxGraph::<1>::new(alloc, ROOMY)?;
+    for call in [
+        Call::Add(1, 1, 1),
+        Call::Add(2, 2, 2),
+        Call::Add(3, 9, 1),
+        Call::Add(4, -5, 1),
+        Call::Dep(4, 3),
+    ] {
+        expect(rt, &mut graph, call, done, out, steps);
+    }
+    let points: [(u64, i128); 3] = [(0, 0), (2, 4), (5, 7)];
+    assert!(rt; graph.diagram(Level::Main).eq(points.iter().copied()));
+    match graph.order(Level::Main).next() {
+        Some(part) => assert_eq!(rt; part.ids, [4, 3].as_slice()),
+        None => panic!(rt; "no part"),
+    }
+    Ok(())
+}
+
 fn sequences<K: ledger::Ledger>(rt: &impl Abort, alloc: Global, blank: Blank) -> Result<(), Fail>
     requires name { blank.name ≡ K.name }
     requires parts { blank.parts ≡ K.parts }
@@ -168,7 +195,8 @@ fn sequences<K: ledger::Ledger>(rt: &impl Abort, alloc: Global, blank: Blank) ->
     let mut out = IdBuf::new(alloc, 128)?;
     bridged(rt, alloc, &mut out, &mut steps)?;
     limited(rt, alloc, &mut out, &mut steps)?;
-    implied(rt, alloc, &mut out, &mut steps)
+    implied(rt, alloc, &mut out, &mut steps)?;
+    drawn(rt, alloc, &mut out, &mut steps)
 }
 
 #[test]
@@ -378,4 +406,77 @@ fn removals<K: ledger::Ledger>(rt: &impl Abort, alloc: Global, blank: Blank) -> 
 #[test]
 fn clusters_fall_apart_from_the_middle(rt: HostRuntime) -> Result<(), Fail> {
     removals::<Brand>(&rt, rt.alloc(), Blank::new(1))
+}
+
+// Makes one chain of the names 1 to 64, each with its name as its fee.
+fn chain<L: Ledger>(
+    rt: &impl Abort,
+    graph: &mut TxGraph<1>,
+    out: &mut IdBuf,
+    steps: &mut Steps<L>,
+) {
+    let done: Result<&[TxId], Refusal> = Ok([].as_slice());
+    for id in 1..65u64 {
+        expect(rt, graph, Call::Add(id, id as i64, 1), done, out, steps);
+        if id > 1 {
+            expect(rt, graph, Call::Dep(id - 1, id), done, out, steps);
+        }
+    }
+}
+
+// Makes calls on a chain, and compares what each answers, and how many steps it adds with a least and a greatest number.
+fn count_on_a_chain<K: ledger::Ledger>(
+    rt: &impl Abort,
+    graph: &mut TxGraph<1>,
+    out: &mut IdBuf,
+    steps: &mut Steps<Counted<K>>,
+) {
+    let done: Result<&[TxId], Refusal> = Ok([].as_slice());
+    let rows = [
+        (Call::Add(65, 65, 1), done, 0, 486),
+        (Call::Dep(1, 2), done, 0, 0),
+        (Call::Dep(1, 64), done, 0, 0),
+        (Call::Fee(64, 64), done, 0, 0),
+        (Call::Limits(1, 1, 1), Err(Refusal::Late), 0, 0),
+        (Call::Add(66, i64::MAX, 1), Err(Refusal::Fee), 0, 0),
+        (Call::Add(66, 1, 0), Err(Refusal::Size), 0, 0),
+        (Call::Add(3, 3, 1), Err(Refusal::Taken), 0, 0),
+        (
+            Call::Add(66, 1, 404_001),
+            Err(Refusal::ClusterSize(404_001)),
+            0,
+            0,
+        ),
+        (Call::Dep(66, 1), Err(Refusal::Unknown(66)), 0, 0),
+        (Call::Dep(64, 1), Err(Refusal::Cycle), 0, 0),
+        (Call::Dep(64, 65), Err(Refusal::Count(65)), 0, 0),
+        (Call::Fee(64, i64::MIN), Err(Refusal::Fee), 0, 0),
+        (Call::Fee(66, 1), Err(Refusal::Unknown(66)), 0, 0),
+        (Call::Remove(66), Err(Refusal::Unknown(66)), 0, 0),
+        (Call::Fee(64, 1000), done, 64, 2_504_665_152),
+    ];
+    for (call, answer, least, most) in rows {
+        let before = steps.ledger().shown();
+        expect(rt, graph, call, answer, out, steps);
+        let added = steps.ledger().shown().saturating_sub(before);
+        assert!(rt; least <= added && added <= most, "{call:?} adds {added}");
+    }
+}
+
+fn counts<K: ledger::Ledger>(rt: &impl Abort, alloc: Global, blank: Blank) -> Result<(), Fail>
+    requires name { blank.name ≡ K.name }
+    requires parts { blank.parts ≡ K.parts }
+    requires some { 0 < blank.parts }
+{
+    let mut steps = Steps::new(Counted::<K>::new(blank));
+    let mut out = IdBuf::new(alloc, 128)?;
+    let mut graph = TxGraph::<1>::new(alloc, ROOMY)?;
+    chain(rt, &mut graph, &mut out, &mut steps);
+    count_on_a_chain(rt, &mut graph, &mut out, &mut steps);
+    Ok(())
+}
+
+#[test]
+fn steps_are_counted(rt: HostRuntime) -> Result<(), Fail> {
+    counts::<Brand>(&rt, rt.alloc(), Blank::new(1))
 }

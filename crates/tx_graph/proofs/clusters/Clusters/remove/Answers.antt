@@ -1,13 +1,15 @@
 -- The name's cluster falls apart, and the names are one fewer.
-use Rattle.std.proofs.Common.{rules, ◌≤◌, ◌*◌, ◌∷◌, [], All, is_some, ap, sym, subst, arith}
+use Rattle.std.proofs.Common.{rules, ◌≤◌, ◌*◌, ◌∷◌, [], All, is_some, ap, sym, ◌∙◌, subst, arith}
 use Rattle.std.specs.List.{AllPairs}
 use Rattle.cluster.specs.Clusters.{IsCluster, AreApart}
 use Rattle.cluster.specs.Changes.{IsSplit}
 use Rattle.tx_graph.specs.Shelves.{Shelf}
+use Rattle.tx_graph.proofs.Absent.{fewer}
 use Rattle.tx_graph.proofs.Graphs.{stands_in}
 use Rattle.tx_graph.proofs.Merged.{picked_of}
 use Rattle.tx_graph.proofs.Pointing.{len_some}
 use Rattle.tx_graph.proofs.Removed.{Removal, order_same, live_some, some_there, only_name, components_there, order_removed, picked_removed, counted_removed, drops_removed}
+use Rattle.tx_graph.proofs.Untouched.{same_keeps, keeps_removed}
 use Rattle.tx_graph.proofs.clusters.Clusters.remove.Goals as goal
 
 pub live_number-number-requires : goal.live_number-number-requires
@@ -88,6 +90,7 @@ invariant_of-self-2 g c =
     record {
       none_staged = c.fall_apart.ensures.none_staged;
       counted = counted_removed g.row.W c.args.id number c.self.inside.count cluster left old new removal;
+      few = fewer c.self.inside.count c.self.invariant.few;
       order = order_removed g.row.W c.args.id number c.self.inside.count cluster left old new removal;
     }
 
@@ -138,3 +141,30 @@ returns-clause-steps g c d lists told components =
     let old : Shelf = record { numbers = c.self.inside.numbers.base; store = c.self.inside.store } in
     c.without.ensures.steps lists (components_there g.row.W c.args.self.now old c.args.id c.live_number-number.result c.at-cluster.result.now d lists
     c.self.view_is c.self.invariant.order c.live_number-number.ensures c.at-cluster.ensures told components)
+
+pub returns-in_err-fall_apart-clause-stays : goal.returns-in_err-fall_apart-clause-stays
+returns-in_err-fall_apart-clause-stays g c =
+    let new : Shelf = record { numbers = c.fall_apart.new.numbers.base; store = c.fall_apart.new.store } in
+    same_keeps c.args.self.now new
+    ((λ i. record { numbers = c.in_err-fall_apart.ensures.same_numbers i; store = c.in_err-fall_apart.ensures.same_store i }) ∙ c.self.view_is)
+
+pub returns-clause-stays : goal.returns-clause-stays
+returns-clause-stays g c =
+    let number = c.live_number-number.result in
+    let cluster = c.at-cluster.result.now in
+    let left = c.into_vec.result.items in
+    let old : Shelf = record { numbers = c.self.inside.numbers.base; store = c.self.inside.store } in
+    let new : Shelf = record { numbers = c.fall_apart.new.numbers.base; store = c.fall_apart.new.store } in
+    let removal : Removal g.row.W c.args.id number c.self.inside.count cluster left old new =
+    record {
+      order = c.self.invariant.order;
+      counted = c.self.invariant.counted;
+      at = c.live_number-number.ensures;
+      was = c.at-cluster.ensures;
+      split = subst (IsSplit cluster.graph (c.args.id ∷ [])) (sym c.into_vec.ensures) c.in_ok-left.ensures.split;
+      whole = subst (All (IsCluster (64 * g.row.W))) (sym c.into_vec.ensures) c.in_ok-left.ensures.whole;
+      parted = c.in_ok-fall_apart.ensures.parted;
+      both = c.fall_apart.ensures.both;
+      sound = c.in_ok-fall_apart.ensures.store;
+    } in
+    keeps_removed g.row.W c.args.id number c.self.inside.count cluster left c.args.self.now old new removal c.self.view_is

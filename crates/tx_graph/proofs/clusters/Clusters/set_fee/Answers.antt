@@ -10,6 +10,7 @@ use Rattle.tx_graph.specs.Shelves.{Shelf, graph_of}
 use Rattle.tx_graph.proofs.Merged.{picked_of, picked_before, stored_at}
 use Rattle.tx_graph.proofs.Removed.{live_some, some_there}
 use Rattle.tx_graph.proofs.Linked.{Tried, order_tried, picked_tried, fee_tried, same_tried, same_reading, sets_same, held, rate_there, count_linked}
+use Rattle.tx_graph.proofs.Untouched.{same_keeps, keeps_fee}
 use Rattle.tx_graph.proofs.clusters.Clusters.set_fee.Goals as goal
 
 pub live_number-number-requires : goal.live_number-number-requires
@@ -79,6 +80,7 @@ invariant_of-self-2 g c =
     record {
       none_staged = c.self.invariant.none_staged;
       counted = c.self.invariant.counted;
+      few = c.self.invariant.few;
       order = order_tried g.row.W c.live_number-number.result c.at-cluster.result.now c.in_ok-changed.changed old c.exchange.new.self c.exchange.result tried;
     }
 
@@ -140,3 +142,26 @@ pub returns-clause-steps : goal.returns-clause-steps
 returns-clause-steps g c ids lists =
     let old : Shelf = record { numbers = c.self.inside.numbers.base; store = c.self.inside.store } in
     count_linked g.row.W c.args.self.now old c.self.invariant.order c.args.id c.live_number-number.result c.at-cluster.result.now c.self.view_is c.live_number-number.ensures c.at-cluster.ensures ids lists c.with_fee.ensures.steps
+
+pub returns-in_err-changed-clause-stays : goal.returns-in_err-changed-clause-stays
+returns-in_err-changed-clause-stays g c = same_keeps c.args.self.now (record { numbers = c.self.inside.numbers.base; store = c.self.inside.store }) c.self.view_is
+
+pub returns-clause-stays : goal.returns-clause-stays
+returns-clause-stays g c =
+    let old : Shelf = record { numbers = c.self.inside.numbers.base; store = c.self.inside.store } in
+    let tried : Tried g.row.W c.live_number-number.result c.at-cluster.result.now c.in_ok-changed.changed old c.exchange.new.self c.exchange.result = record {
+      order = c.self.invariant.order;
+      was = c.at-cluster.ensures;
+      names = c.in_ok-changed.ensures.names;
+      whole = c.in_ok-changed.ensures.whole;
+      exchanged = c.exchange.ensures.exchanged;
+      same = c.exchange.ensures.err;
+      sound = c.exchange.ensures.store;
+    } in
+    let there = rate_there g.row.W c.args.self.now old c.self.invariant.order c.args.id c.live_number-number.result c.at-cluster.result.now c.self.view_is
+    c.live_number-number.ensures c.at-cluster.ensures in
+    keeps_fee g.row.W c.live_number-number.result c.args.id c.args.fee c.at-cluster.result.now c.in_ok-changed.changed old c.args.self.now c.exchange.new.self
+    c.exchange.result tried c.self.view_is
+    (held g.row.W c.args.self.now old c.self.invariant.order c.args.id c.live_number-number.result c.at-cluster.result.now c.self.view_is c.live_number-number.ensures c.at-cluster.ensures)
+    (subst (λ (z : ℤ). SetsFee c.at-cluster.result.now.graph c.in_ok-changed.changed.graph c.args.id z) (to_z-of_z w64 c.args.fee c.ranges.fee) c.in_ok-changed.ensures.graph)
+    (λ same. c.if-rate-fee.false (ap (of_z w64) (sym (ap (λ (r : FeeRate). r.fee) (there ∙ sym c.rate.ensures)) ∙ same)))
