@@ -79,6 +79,5 @@ IsBuilt Commit = ⊥
 IsBuilt Abort = ⊥
 IsBuilt Settle = ⊥
 IsBuilt Compare = ⊥
-IsBuilt (Diagram level) = ⊥
 IsBuilt (Block size) = ⊥
 IsBuilt command = Unit {0}

@@ -8,3 +8,5 @@ pub mod GatherLemmas
 pub mod TurnLemmas
 pub mod WritingLemmas
 pub mod TextLemmas
+pub mod FeedLemmas
+pub mod AcceptLemmas

@@ -4,7 +4,7 @@ use Rattle.std.specs.declared.option.Option.{Option}
 use Rattle.std.specs.declared.result.Result.{Result}
 use Rattle.outside.specs.Transfers.{Writes}
 use Rattle.graph_model.specs.Commands.{Command}
-use Rattle.graph_model.specs.Commands as commands
+use Rattle.graph_model.specs.Lines.{Meaning, Quiet, NoForm, Says}
 use Rattle.graph_model.specs.Refusals.{number_of}
 use Rattle.graph_model.specs.Replies.{Reply, Refused, Done, Ids, Number, Stands}
 use Rattle.graph_model.specs.Runs.{answer_text}
@@ -14,18 +14,21 @@ use Rattle.replay.specs.declared.answer.Answer.{Answer}
 use Rattle.replay.specs.declared.answer.Answer.TheVariants as kept
 use Rattle.replay.specs.declared.answer.Outcome.{Outcome}
 use Rattle.replay.specs.declared.answer.Outcome.TheVariants as outcomes
-use Rattle.replay.specs.declared.reading.Reading.{Reading}
-use Rattle.replay.specs.declared.reading.Reading.TheVariants as readings
+use Rattle.replay.specs.Requests.{reading_command}
 
--- the command that a reading answers
-abbrev pub command_of : Reading → Command
-command_of (readings.Order level) = commands.Order level
-command_of (readings.Proof level) = commands.Proof level
-command_of (readings.Chunk id) = commands.Chunk id
+-- the command may be answered so, where the graph goes from the one value to the other
+abbrev pub IsStepOf : Kept → Kept → Command → runs.Answer → Type 0
+IsStepOf old new command answer = (reply : Reply) × MakesStep old new command reply × (answer ≡ runs.Replies reply)
 
 -- the command may be answered so, and leaves the graph as it is
 abbrev pub IsReadOf : Kept → Command → runs.Answer → Type 0
-IsReadOf graph command answer = (reply : Reply) × MakesStep graph graph command reply × (answer ≡ runs.Replies reply)
+IsReadOf graph = IsStepOf graph graph
+
+-- what a line means is answered so: a command by the reply of a step, and all else without a change of the graph
+abbrev pub AnswersMeaning : Meaning → Kept → Kept → runs.Answer → Type 0
+AnswersMeaning Quiet old new answer = (answer ≡ runs.Silence) × (new ≡ old)
+AnswersMeaning NoForm old new answer = (answer ≡ runs.Unread) × (new ≡ old)
+AnswersMeaning (Says command) old new answer = IsStepOf old new command answer
 
 -- the answer to a line, with the graph as it is after the line and the names that were found in it
 abbrev pub Tells : Kept → Answer → List ℕ → runs.Answer → Type 0
@@ -37,7 +40,7 @@ Tells graph kept.Done found answer = answer ≡ runs.Replies Done
 Tells graph kept.Names found answer = answer ≡ runs.Replies (Ids found)
 Tells graph (kept.Number n) found answer = answer ≡ runs.Replies (Number n)
 Tells graph (kept.Stands place) found answer = answer ≡ runs.Replies (Stands place)
-Tells graph (kept.Reads reading) found answer = IsReadOf graph (command_of reading) answer
+Tells graph (kept.Reads reading) found answer = IsReadOf graph (reading_command reading) answer
 
 -- whatever the answer is, this is so of it
 abbrev pub MayTell : Kept → Answer → List ℕ → (runs.Answer → Type 0) → Type 0

@@ -1,3 +1,4 @@
+pub mod Requests
 pub mod Answers
 pub mod Sessions
 pub mod Inputs
@@ -11,3 +12,4 @@ pub mod Cutters
 pub mod Cuts
 pub mod Gatherings
 pub mod Writings
+pub mod CheckLaws

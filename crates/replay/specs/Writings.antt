@@ -4,6 +4,7 @@ use Rattle.std.specs.declared.option.Option.{Option}
 use Rattle.std.specs.declared.result.Result.{Result}
 use Rattle.graphs.specs.Closures.{Closure, rate_of}
 use Rattle.cluster_store.specs.Lent.{lent}
+use Rattle.graph_model.specs.Replies.{point_line}
 use Rattle.graph_model.specs.Words.{line_text}
 use Rattle.graph_model.specs.Texts.{tx_line, edge_line, chunk_line, flow_line}
 use Rattle.wire.specs.Pieces.{GoesOn}
@@ -17,6 +18,7 @@ line_of (written.Tx id rate) = tx_line id rate.fee rate.size
 line_of (written.Edge parent child) = edge_line parent child
 line_of (written.Chunk part) = chunk_line (lent part)
 line_of (written.Flow flow) = flow_line flow
+line_of (written.Point size fee) = point_line (size, fee)
 line_of written.End = codes "end"
 
 -- the next lines are written where all so far was, and else nothing happens

@@ -1,17 +1,18 @@
 ghost use Rattle.std.specs.Prelude.{◌≡◌, ℕ, ◌+◌, ◌-◌, ◌^◌, ◌<◌, ◌≤◌, List, length};
 ghost use Rattle.graph_model.specs.Runs as runs;
-ghost use Rattle.graph_model.specs.Lines.{max_line, Means};
 ghost use Rattle.wire.specs.Readings.{meaning_of};
 ghost use Rattle.graph_model.specs.Replies.{change_reply, names_reply};
 ghost use Rattle.tx_graph.specs.Kept.{Kept};
 ghost use Rattle.tx_graph.specs.Readings.{place_reply};
-ghost use Rattle.replay.specs.Answers.{MayTell, IsReadOf, WritesAnswer, command_of};
+ghost use Rattle.replay.specs.Answers.{AnswersMeaning, MayTell, IsReadOf, WritesAnswer};
+ghost use Rattle.replay.specs.Requests.{reading_command};
 ghost use Rattle.replay.specs.Sessions.{IsLine, Answers, HasRoom, Suits};
 
 use crate::answer::{Answer, Outcome};
 use crate::reading::Reading;
+use crate::request::Request;
 use crate::session::Piece;
-use crate::writing::{write_order, write_part, write_proof};
+use crate::writing::{write_diagram, write_order, write_part, write_proof};
 use graph_model::{IdBuf, MAX_LINE, Place, Refusal};
 use outside::{Failed, Sink};
 use std::marker::Brand;
@@ -71,16 +72,14 @@ pub(crate) trait Obeys {
     fn obey<L: Ledger>(&mut self, ids: &mut IdBuf, line: Line, steps: &mut Steps<L>) -> Answer
         requires few { (kept self.old).additions < 2 ^ 64 - 1 }
         requires room { HasRoom words ids.old }
-        ensures line { (bytes : List ℕ) → length bytes ≤ max_line → Means bytes (meaning_of line ids.old.ids)
-            → MayTell (kept self.new) result ids.new.ids (Answers (kept self.old) (kept self.new) bytes) }
-        ensures suits { (bytes : List ℕ) → length bytes ≤ max_line → Means bytes (meaning_of line ids.old.ids)
-            → MayTell (kept self.new) result ids.new.ids (Suits bytes) }
+        ensures answers { MayTell (kept self.new) result ids.new.ids
+            (AnswersMeaning (meaning_of line ids.old.ids) (kept self.old) (kept self.new)) }
         ensures additions { (kept self.new).additions ≤ (kept self.old).additions + 1 }
         ensures room { HasRoom words ids.new };
 
     /// Writes the reply to a reading, and tells the outcome.
     fn read<K: Sink>(&self, reading: Reading, sink: &mut K) -> Result<Outcome, Failed>
-        ensures { WritesAnswer (IsReadOf (kept self.now) (command_of reading)) (K.written sink.old)
+        ensures { WritesAnswer (IsReadOf (kept self.now) (reading_command reading)) (K.written sink.old)
             (K.written sink.new) (K.faults sink.old) (K.faults sink.new) result };
 }
 
@@ -90,38 +89,21 @@ impl<const W: usize> Obeys for TxGraph<W> {
     ghost words = { W };
 
     fn obey<L: Ledger>(&mut self, ids: &mut IdBuf, line: Line, steps: &mut Steps<L>) -> Answer {
-        match line {
-            Line::Quiet => Answer::Silence,
-            Line::Syntax => Answer::Unread,
-            // No body does these yet.
-            Line::Mine
-            | Line::Evict
-            | Line::Stage
-            | Line::Commit
-            | Line::Abort
-            | Line::Settle
-            | Line::Compare
-            | Line::Diagram(_)
-            | Line::Block(_) => Answer::Unread,
-            Line::Limits(limits) => changed(self.set_limits(limits)),
-            Line::Add(id, fee, size) => changed(self.add(id, fee, size, steps)),
-            Line::Dep(parent, child) => changed(self.dep(parent, child, steps)),
-            Line::Fee(id, fee) => changed(self.fee(id, fee, steps)),
-            Line::Remove(id) => changed(self.remove(id, steps)),
-            Line::Cluster(id, level) => named(self.cluster(level, id, ids)),
-            Line::Ancestors(id, level) => named(self.ancestors(level, id, ids)),
-            Line::Descendants(id, level) => named(self.descendants(level, id, ids)),
-            Line::Count(level) => Answer::Number(self.count(level) as u64),
-            Line::Before(a, b) => placed(self.before(a, b)),
-            Line::Order(level) => Answer::Reads(Reading::Order(level)),
-            Line::Proof(level) => Answer::Reads(Reading::Proof(level)),
-            Line::Chunk(id) => Answer::Reads(Reading::Chunk(id)),
+        match Request::from(line) {
+            Request::Silence => Answer::Silence,
+            Request::Unread => Answer::Unread,
+            Request::Change(change) => changed(change.make(self, steps)),
+            Request::Search(search) => named(search.find(self, ids)),
+            Request::Count(level) => Answer::Number(self.count(level) as u64),
+            Request::Before(a, b) => placed(self.before(a, b)),
+            Request::Read(reading) => Answer::Reads(reading),
         }
     }
 
     fn read<K: Sink>(&self, reading: Reading, sink: &mut K) -> Result<Outcome, Failed> {
         match reading {
             Reading::Order(level) => write_order(self, level, sink),
+            Reading::Diagram(level) => write_diagram(self, level, sink),
             Reading::Proof(level) => write_proof(self, level, sink),
             Reading::Chunk(id) => write_part(self.chunk(id), sink),
         }
@@ -140,10 +122,8 @@ fn obey_unpaid<K: ledger::Ledger, G: Obeys>(
     requires some { 0 < blank.parts }
     requires few { (G.kept graph.old).additions < 2 ^ 64 - 1 }
     requires room { HasRoom G.words ids.old }
-    ensures line { (bytes : List ℕ) → length bytes ≤ max_line → Means bytes (meaning_of line ids.old.ids)
-        → MayTell (G.kept graph.new) result ids.new.ids (Answers (G.kept graph.old) (G.kept graph.new) bytes) }
-    ensures suits { (bytes : List ℕ) → length bytes ≤ max_line → Means bytes (meaning_of line ids.old.ids)
-        → MayTell (G.kept graph.new) result ids.new.ids (Suits bytes) }
+    ensures answers { MayTell (G.kept graph.new) result ids.new.ids
+        (AnswersMeaning (meaning_of line ids.old.ids) (G.kept graph.old) (G.kept graph.new)) }
     ensures additions { (G.kept graph.new).additions ≤ (G.kept graph.old).additions + 1 }
     ensures room { HasRoom G.words ids.new }
 {

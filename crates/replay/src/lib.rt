@@ -8,9 +8,11 @@ mod check;
 mod commands;
 mod gathered;
 mod input;
+mod laws;
 mod lines;
 mod reading;
 mod replies;
+mod request;
 mod session;
 #[cfg(test)]
 mod tests;
@@ -19,6 +21,7 @@ mod window;
 mod writing;
 
 pub use answer::Outcome;
+pub use laws::check_accepts_proofs;
 pub use lines::{Lines, Next};
 pub use session::{Piece, Session};
 pub use top::{Status, run};

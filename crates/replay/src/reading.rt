@@ -4,6 +4,7 @@ use graph_model::{Level, TxId};
 #[derive(Clone, Copy, Debug, PartialEq, Eq)]
 pub(crate) enum Reading {
     Order(Level),
+    Diagram(Level),
     Proof(Level),
     Chunk(TxId),
 }

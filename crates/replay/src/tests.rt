@@ -65,7 +65,7 @@ const RUNS: [(&str, &str); 15] = [
 ];
 
 /// Inputs of `replay` that ask for the order, with their outputs.
-const ORDERS: [(&str, &str); 7] = [
+const ORDERS: [(&str, &str); 9] = [
     (
         "add 1 1000 200\norder main\n",
         "ok\nchunk 1000 200 1\nend\n",
@@ -91,8 +91,16 @@ const ORDERS: [(&str, &str); 7] = [
         "ok\nok\nok\nrefused fee\nchunk 5 1 1\nchunk 2 1 2\nend\n",
     ),
     (
-        "order bottom\norder main\nproof top\n",
-        "refused syntax\nend\nend\n",
+        "add 1 0 10\nadd 2 6 5\nadd 3 6 5\nadd 4 5 10\ndep 1 2\ndep 1 3\ndiagram main\n",
+        "ok\nok\nok\nok\nok\nok\npoint 0 0\npoint 20 12\npoint 30 17\nend\n",
+    ),
+    (
+        "add 1 1 1\nadd 2 2 2\nadd 3 -5 1\ndiagram top\n",
+        "ok\nok\nok\npoint 0 0\npoint 3 3\npoint 4 -2\nend\n",
+    ),
+    (
+        "order bottom\norder main\nproof top\ndiagram bottom\ndiagram main\n",
+        "refused syntax\nend\nend\nrefused syntax\npoint 0 0\nend\n",
     ),
 ];
 
@@ -253,6 +261,7 @@ const TEXTS: [(&str, &str); 29] = [
 
 #[test]
 fn a_text_is_a_certificate_or_the_first_fault_is_told(rt: HostRuntime) -> Result<(), Fail> {
+    check_accepts_proofs::<MemSink>();
     let alloc = rt.alloc();
     let words = words(alloc, &["txgraph", "check"])?;
     for (text, said) in TEXTS {

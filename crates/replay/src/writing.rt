@@ -1,8 +1,10 @@
-ghost use Rattle.std.specs.Prelude.{◌≡◌, ℕ, true, List, [], ◌∷◌, map, flat_map, Contains};
+ghost use Rattle.std.specs.Prelude.{◌≡◌, ℕ, ℤ, true, List, [], ◌∷◌, map, flat_map, Contains};
+ghost use Rattle.std.specs.Iterator.{AlwaysYields, IsFinite};
 ghost use Rattle.graphs.specs.Closures.{is_member};
 ghost use Rattle.graph_model.specs.Answers.{order_of};
 ghost use Rattle.graph_model.specs.Commands as commands;
 ghost use Rattle.graph_model.specs.Runs as runs;
+ghost use Rattle.graph_model.specs.Replies.{point_line};
 ghost use Rattle.graph_model.specs.Words.{line_text};
 ghost use Rattle.outside.specs.Transfers.{Writes};
 ghost use Rattle.graph_model.specs.Texts.{chunk_line, edge_line, flow_line, part_lines};
@@ -16,7 +18,7 @@ use fee_rate::{FeeRate, Sum};
 use graph_model::{Flow, Level, Refusal, TxId};
 use outside::{Failed, Sink};
 use tx_graph::{Covers, Order, PartRef, TxGraph};
-use wire::{write_chunk, write_edge, write_flow, write_refusal, write_tx, write_word};
+use wire::{write_chunk, write_edge, write_flow, write_point, write_refusal, write_tx, write_word};
 
 /// A line of a reply that goes out line by line.
 #[derive(Clone, Copy)]
@@ -25,6 +27,7 @@ enum Line<'a> {
     Edge(TxId, TxId),
     Chunk(PartRef<'a>),
     Flow(Flow),
+    Point(u64, i128),
     End,
 }
 
@@ -49,6 +52,7 @@ fn write_line<K: Sink>(line: Line<'_>, sink: &mut K) -> Result<(), Failed>
         Line::Edge(parent, child) => write_edge(sink, parent, child),
         Line::Chunk(part) => write_chunk(sink, Sum::from(part.rate), part.ids),
         Line::Flow(flow) => write_flow(sink, flow),
+        Line::Point(size, fee) => write_point(sink, size, fee),
         Line::End => write_word(sink, "end"),
     }
 }
@@ -79,6 +83,38 @@ pub(crate) fn write_order<const W: usize, K: Sink>(
         (K.faults sink.old) (K.faults sink.new) result }
 {
     let so_far = more_chunks(Ok(()), graph.order(level), sink);
+    told(more(so_far, Line::End, sink), Outcome::Accepted)
+}
+
+/// Goes on with the lines of corners.
+fn more_points<I: Iterator<Item = (u64, i128)>, K: Sink>(
+    so_far: Result<(), Failed>,
+    points: I,
+    sink: &mut K,
+) -> Result<(), Failed>
+    requires can { I.can_next points }
+    requires ends { IsFinite (I.remaining points) }
+    ensures { (list : List (ℕ × ℤ)) → AlwaysYields I.next_gives (λ point. point) points list
+        → GoesOnLines so_far (K.written sink.old) (K.written sink.new) (K.faults sink.old) (K.faults sink.new) result
+        (map point_line list) }
+{
+    let mut so_far = so_far;
+    for (size, fee) in points {
+        so_far = more(so_far, Line::Point(size, fee), sink);
+    }
+    so_far
+}
+
+/// Writes the reply to `diagram`: the corners, and `end`.
+pub(crate) fn write_diagram<const W: usize, K: Sink>(
+    graph: &TxGraph<W>,
+    level: Level,
+    sink: &mut K,
+) -> Result<Outcome, Failed>
+    ensures { WritesAnswer (IsReadOf graph.now (commands.Diagram level)) (K.written sink.old) (K.written sink.new)
+        (K.faults sink.old) (K.faults sink.new) result }
+{
+    let so_far = more_points(Ok(()), graph.diagram(level), sink);
     told(more(so_far, Line::End, sink), Outcome::Accepted)
 }
 

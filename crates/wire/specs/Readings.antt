@@ -41,7 +41,6 @@ meaning_of lines.Commit ids = NoForm
 meaning_of lines.Abort ids = NoForm
 meaning_of lines.Settle ids = NoForm
 meaning_of lines.Compare ids = NoForm
-meaning_of (lines.Diagram level) ids = NoForm
 meaning_of (lines.Block size) ids = NoForm
 meaning_of line ids = said_by line ids
 

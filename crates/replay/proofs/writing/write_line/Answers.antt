@@ -1,5 +1,5 @@
 use Rattle.std.proofs.Common.{◌≡◌, ℤ, FitsSigned, rules, List, ℕ, subst, sym, ap, ◌∙◌}
-use Rattle.std.specs.Int.{w64}
+use Rattle.std.specs.Int.{w64, w128}
 use Rattle.std.proofs.lemmas.Int.{to_z-of_z}
 use Rattle.replay.proofs.WritingLemmas.{chunk_writes}
 use Rattle.replay.proofs.writing.write_line.Goals as goal
@@ -15,3 +15,6 @@ returns-in-Chunk g c = rw c.in-Chunk.is (chunk_writes _ _ _ _ _ c.in-Chunk.part 
 
 pub returns-in-Flow : goal.returns-in-Flow
 returns-in-Flow g c = rw c.in-Flow.is c.write_flow.ensures
+
+pub returns-in-Point : goal.returns-in-Point
+returns-in-Point g c = let fits : FitsSigned w128 c.in-Point.fee = search rules in rw c.in-Point.is (rw (to_z-of_z w128 c.in-Point.fee fits) at c.write_point.ensures)

@@ -5,6 +5,9 @@ use Rattle.replay.proofs.commands.TxGraphObeys.read.Goals as goal
 pub returns-in-Order : goal.returns-in-Order
 returns-in-Order g c = rw c.in-Order.is c.write_order.ensures
 
+pub returns-in-Diagram : goal.returns-in-Diagram
+returns-in-Diagram g c = rw c.in-Diagram.is c.write_diagram.ensures
+
 pub returns-in-Proof : goal.returns-in-Proof
 returns-in-Proof g c = rw c.in-Proof.is c.write_proof.ensures
 

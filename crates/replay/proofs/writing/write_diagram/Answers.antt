@@ -1,0 +1,12 @@
+use Rattle.std.proofs.Common.{map, codes, Ok, ◌∷◌, [], refl}
+use Rattle.graph_model.specs.Replies.{Points, point_line}
+use Rattle.graph_model.specs.Runs as runs
+use Rattle.replay.proofs.WritingLemmas.{lines_on}
+use Rattle.replay.proofs.writing.write_diagram.Goals as goal
+
+pub returns : goal.returns
+returns g c =
+    let (points, yields, step) = c.diagram.ensures.step in
+    let out = c.more_points-so_far.ensures points yields.yields in
+    let written = lines_on _ _ _ _ _ _ (Ok tt) _ _ (map point_line points) (codes "end" ∷ []) _ out c.more.ensures refl in
+    (runs.Replies (Points points), (Points points, step, refl), c.told.ensures.writes _ _ _ _ _ written, c.told.ensures.told)

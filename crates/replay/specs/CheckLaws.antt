@@ -1,0 +1,52 @@
+-- What a reader would expect of the two commands together: what `proof` writes is answered `yes` by `check`.
+use Rattle.std.specs.Prelude.{◌≡◌, ◌↔◌, ◌⊎◌, ℕ, ◌≤◌, List, length, codes, Contains, Option, Some}
+use Rattle.std.specs.List.{zip}
+use Rattle.std.specs.Io.KnownBytes.{Appends}
+use Rattle.outside.specs.Transfers.{AppendsFront}
+use Rattle.graphs.specs.declared.names.Level.{Level}
+use Rattle.graphs.specs.Certificates.{Certified}
+use Rattle.graph_model.specs.Words.{line_text}
+use Rattle.graph_model.specs.Lines.{Means, Says, max_input}
+use Rattle.graph_model.specs.Commands.{Proof}
+use Rattle.graph_model.specs.States.{State, start}
+use Rattle.graph_model.specs.Validity.{IsValidState}
+use Rattle.graph_model.specs.Replies.{Reply, text_of}
+use Rattle.graph_model.specs.Steps.{Step}
+use Rattle.graph_model.specs.Runs.{Answer, answer_text, Run}
+use Rattle.graph_model.specs.Texts.{Verification, Found}
+use Rattle.graph_model.specs.declared.limits.TheConstants.{MAX_COUNT}
+use Rattle.replay.specs.declared.top.Status.{Status}
+use Rattle.replay.specs.declared.top.Status.TheVariants as statuses
+use Rattle.replay.specs.Statuses.{EndsWell}
+use Rattle.replay.specs.Checks.{IsVerified, Checks}
+
+-- the line that `check` writes of a certificate
+abbrev pub yes_text : List ℕ
+yes_text = line_text (codes "yes")
+
+-- What `check` has written, by status, where it can say nothing but `yes`: all of it at `Done`, a front of it where a write failed, and
+-- nothing where a read failed or memory was short. There is no other end.
+abbrev pub SaysYes : {K : Type 0} → Status → (K → Option (List ℕ)) → K → K → Type 0
+SaysYes statuses.Done written old new = Appends (written old) (written new) yes_text
+SaysYes statuses.No written old new = ⊥
+SaysYes statuses.Usage written old new = ⊥
+SaysYes statuses.ReadFault written old new = new ≡ old
+SaysYes statuses.WriteFault written old new = AppendsFront (written old) (written new) yes_text
+SaysYes statuses.NoMemory written old new = new ≡ old
+SaysYes statuses.InputLimit written old new = ⊥
+
+-- One thing can be said of these bytes, that they are a certificate. So where a source has just them, no more than may be read, `check`
+-- says `yes` of them. Where it ends as it does without a fault, it has said so, or memory was short.
+pub record AreAccepted {K : Type 0} (written : K → Option (List ℕ)) (bytes : List ℕ) : Type 0 where
+  pub said : (said : Verification) → IsVerified bytes said ↔ (said ≡ Found Certified)
+  pub answered : length bytes ≤ max_input → (status : Status) (left : Option (List ℕ)) (old new : K) → Checks status (Some bytes) left written old new
+      → SaysYes status written old new × (EndsWell status → (status ≡ statuses.Done) ⊎ (status ≡ statuses.NoMemory))
+
+-- In a valid state the text of the reply to `proof` is accepted. So in every run from the start, whatever lines come before it, the bytes
+-- that answer a line which says `proof` are accepted.
+pub record CheckAcceptsProofs {K : Type 0} (written : K → Option (List ℕ)) : Type 0 where
+  pub steps : (old new : State) (level : Level) (reply : Reply) → IsValidState old → Step old (Proof level) reply new
+      → AreAccepted written (text_of reply)
+  pub runs : (lines : List (List ℕ)) (answers : List Answer) (end : State) → Run (start MAX_COUNT) lines answers end
+      → (line : List ℕ) (level : Level) (answer : Answer) → Contains (zip lines answers) (line, answer) → Means line (Says (Proof level))
+      → AreAccepted written (answer_text answer)

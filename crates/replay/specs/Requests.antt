@@ -1,0 +1,43 @@
+-- What lines ask for, as commands.
+use Rattle.std.specs.Prelude.{◌≡◌}
+use Rattle.graph_model.specs.Commands.{Command}
+use Rattle.graph_model.specs.Commands as commands
+use Rattle.graph_model.specs.Lines.{Meaning, Quiet, NoForm, Says}
+use Rattle.graph_model.specs.Runs as runs
+use Rattle.tx_graph.specs.Kept.{Kept}
+use Rattle.replay.specs.declared.reading.Reading.{Reading}
+use Rattle.replay.specs.declared.reading.Reading.TheVariants as readings
+use Rattle.replay.specs.declared.request.Change.{Change}
+use Rattle.replay.specs.declared.request.Change.TheVariants as changes
+use Rattle.replay.specs.declared.request.Request.{Request}
+use Rattle.replay.specs.declared.request.Request.TheVariants as requests
+use Rattle.replay.specs.declared.request.Search.{Search}
+use Rattle.replay.specs.declared.request.Search.TheVariants as searches
+
+abbrev pub change_command : Change → Command
+change_command (changes.Limits set) = commands.SetLimits set.count set.size set.total
+change_command (changes.Add id fee size) = commands.Add id fee size
+change_command (changes.Dep parent child) = commands.Dep parent child
+change_command (changes.Fee id fee) = commands.SetFee id fee
+change_command (changes.Remove id) = commands.Remove id
+
+abbrev pub search_command : Search → Command
+search_command (searches.Cluster id level) = commands.Cluster id level
+search_command (searches.Ancestors id level) = commands.Ancestors id level
+search_command (searches.Descendants id level) = commands.Descendants id level
+
+abbrev pub reading_command : Reading → Command
+reading_command (readings.Order level) = commands.Order level
+reading_command (readings.Diagram level) = commands.Diagram level
+reading_command (readings.Proof level) = commands.Proof level
+reading_command (readings.Chunk id) = commands.Chunk id
+
+-- what a line means that asks for this
+abbrev pub asked : Request → Meaning
+asked requests.Silence = Quiet
+asked requests.Unread = NoForm
+asked (requests.Change change) = Says (change_command change)
+asked (requests.Search search) = Says (search_command search)
+asked (requests.Count level) = Says (commands.Count level)
+asked (requests.Before a b) = Says (commands.Before a b)
+asked (requests.Read reading) = Says (reading_command reading)
