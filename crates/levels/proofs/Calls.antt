@@ -1,0 +1,79 @@
+-- What is known of a shelf when a call of it ends: its maps of numbers, its store, and that it is in order.
+use Rattle.std.proofs.Common.{◌≡◌, ℕ, ◌*◌, Bool, false, List, [], ◌∷◌, ◌++◌, length, drop, Option, Some, None, is_some, IsSome, refl, sym, ap, ap₂, ◌∙◌, true≢false}
+use Rattle.std.specs.Prelude.{OnSome, unwrap_or}
+use Rattle.std.proofs.lemmas.Option.{same_Some}
+use Rattle.std.proofs.Math.Seq.{drop-append_seam}
+use Rattle.std.specs.FinMap as finmap
+use Rattle.graphs.specs.declared.names.Level.TheVariants.{Top}
+use Rattle.cluster.specs.Clusters.{Cluster}
+use Rattle.cluster_store.specs.Stores.{Numbered, Store, IsStore}
+use Rattle.staging.specs.Maps.{Maps, top_of}
+use Rattle.levels.specs.Changes.{PointsOne}
+use Rattle.levels.specs.Shelves.{Shelf, IsInOrder, seen_at, stored_at}
+use Rattle.levels.specs.Tops.{Exchanged, TopRebuilds}
+use Rattle.levels.specs.Views.{Numbers}
+use Rattle.levels.proofs.Coming.{only_one, other_one}
+use Rattle.levels.proofs.Making.{Shifts}
+use Rattle.levels.proofs.Pointing.{on_some, put_here, put_other}
+use Rattle.levels.proofs.Seen.{seen_is_stored}
+use Rattle.levels.proofs.Shelved.{order_changed}
+
+abbrev pub shelf_of : Maps ℕ → Store → Shelf
+shelf_of numbers store = record { main = numbers.base; staging = numbers.top; store = store }
+
+-- ---- the top level of two maps changes
+
+-- a staging stays one, and where there is one the base stays as it is
+pub record Turns (old new : Maps ℕ) : Type 0 where
+  pub kept : is_some new.top ≡ is_some old.top
+  pub base : IsSome old.top → new.base ≡ old.base
+
+pub turns_same : (old new : Maps ℕ) → new.base ≡ old.base → new.top ≡ old.top → Turns old new
+turns_same old new base top = record { kept = ap is_some top; base = λ some. base }
+
+pub turns_by : (old new : Maps ℕ) → is_some new.top ≡ is_some old.top → OnSome old.top (new.base ≡ old.base) → Turns old new
+turns_by old new kept base = record { kept = kept; base = on_some old.top base }
+
+pub turns_then : (a b d : Maps ℕ) → Turns a b → Turns b d → Turns a d
+turns_then a b d one two = record { kept = two.kept ∙ one.kept; base = λ some. two.base (one.kept ∙ some) ∙ one.base some }
+
+pub same_top : (old new : Maps ℕ) → new.base ≡ old.base → new.top ≡ old.top → top_of new ≡ top_of old
+same_top old new base top = ap₂ (λ (o : Option Numbers) (m : Numbers). unwrap_or o m) top base
+
+-- what holds where nothing is staged
+pub none_staged : (o : Option Numbers) (staged : Bool) → staged ≡ is_some o → staged ≡ false → o ≡ None
+none_staged None staged is shut = refl
+none_staged (Some m) staged is shut = absurd (true≢false (sym is ∙ shut))
+
+-- one name gets a number
+pub points_put : (id made : ℕ) (old mid new : Numbers) → mid ≡ old → new ≡ finmap.insert mid id made → PointsOne made (id ∷ []) old new
+points_put id made old mid new same is = record {
+  pointed = λ q here. ap (λ (m : Numbers). finmap.get m q) is ∙ ap (finmap.get (finmap.insert mid id made)) (only_one id q here) ∙ put_here mid id made;
+  others = λ q out.
+      ap (λ (m : Numbers). finmap.get m q) is ∙ put_other mid id made q (other_one id q out) ∙ ap (λ (m : Numbers). finmap.get m q) same;
+}
+
+-- ---- names of clusters that are stored
+
+-- the names of the cluster that is seen under a number are those of the one that is stored there
+pub names_seen : (clusters : Numbered) (number : ℕ) (a x : Cluster) (names : List ℕ) → seen_at Top clusters number ≡ Some a → stored_at clusters number ≡ Some x
+    → names ≡ x.names → names ≡ a.names
+names_seen clusters number a x names seen stored is =
+    is ∙ ap (λ (e : Cluster). e.names) (same_Some x a (sym stored ∙ seen_is_stored Top clusters number a seen))
+
+-- the names behind those of the first of two clusters are those of the second
+pub names_behind : (a b names rest : List ℕ) (from : ℕ) → names ≡ a ++ b → rest ≡ drop from names → from ≡ length a → rest ≡ b
+names_behind a b names rest from is behind at = behind ∙ ap₂ (λ (n : ℕ) (xs : List ℕ). drop n xs) at is ∙ drop-append_seam a b
+
+-- ---- the shelf
+
+pub shifted : (staged : Bool) (outs made : List ℕ) (news : List Cluster) (a b : Maps ℕ) (s t : Store) → Turns a b → staged ≡ is_some a.top
+    → Exchanged staged outs made news s.clusters t.clusters → Shifts staged outs made news (shelf_of a s) (shelf_of b t)
+shifted staged outs made news a b s t turns is exchanged = record { exchanged = exchanged; is_staged = is; kept = turns.kept; base = turns.base }
+
+-- what was rebuilt is in order
+pub order_shifted : (w : ℕ) (staged : Bool) (outs made : List ℕ) (olds news : List Cluster) (gone : List ℕ) (old new : Shelf) → IsInOrder w old
+    → Shifts staged outs made news old new → TopRebuilds w outs made olds news gone old new → IsStore (64 * w) new.store → IsInOrder w new
+order_shifted w staged outs made olds news gone old new order s r store =
+    order_changed w outs made olds news gone old new order r
+    (λ none. s.exchanged.both (s.is_staged ∙ sym s.kept ∙ ap is_some none)) store

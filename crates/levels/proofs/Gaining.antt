@@ -1,0 +1,99 @@
+-- The rings are right again where a name came in, and where room was made.
+use Rattle.std.proofs.Common.{◌≡◌, ◌≢◌, ◌↔◌, ℕ, zero, suc, Bool, true, false, [], ◌∷◌, Option, Some, None, is_some, IsSome, Contains, inl, inr, refl, sym, ap, ◌∙◌, subst, true≢false}
+use Rattle.std.specs.Prelude.{unwrap_or, MatchOption}
+use Rattle.std.proofs.lemmas.Option.{none-some}
+use Rattle.std.specs.FinMap as finmap
+use Rattle.lists.proofs.Entries.{Contains-head, Contains-cases, none_in_empty}
+use Rattle.fee_rate.specs.declared.rates.FeeRate.{FeeRate}
+use Rattle.graphs.specs.declared.names.Level.TheVariants.{Main, Top}
+use Rattle.cluster.specs.Clusters.{Cluster}
+use Rattle.name_book.specs.Books.{Book, AreRung, IsNamed}
+use Rattle.levels.specs.Changes.{PointsOne}
+use Rattle.levels.specs.Changes as changes
+use Rattle.levels.specs.Kept.{SuitsShelf}
+use Rattle.levels.specs.Moves.{AddsOne}
+use Rattle.levels.specs.Rings.{Ringed, AreRight}
+use Rattle.levels.specs.Shelves.{Shelf, IsInOrder, numbers_at}
+use Rattle.levels.specs.Views.{Numbers}
+use Rattle.levels.proofs.Naming.{Gains, right_added, right_added_staged}
+
+-- ---- room that was made
+
+rung_still : (book : Book) (s r a b : ℕ) → AreRung (record book { spare = s }) r a b ↔ AreRung book r a b
+rung_still book s zero a b = (
+  λ rung. record { from = rung.from; to = rung.to; steps = rung.steps; back = rung.back },
+  λ rung. record { from = rung.from; to = rung.to; steps = rung.steps; back = rung.back },
+)
+rung_still book s (suc r) a b = (
+  λ rung. record { from = rung.from; to = rung.to; steps = rung.steps; back = rung.back },
+  λ rung. record { from = rung.from; to = rung.to; steps = rung.steps; back = rung.back },
+)
+
+marked_still : (book : Book) (s x : ℕ) (o : Option ℕ)
+    → MatchOption o ⊥ (λ t. AreRung (record book { spare = s }) 1 t x) ↔ MatchOption o ⊥ (λ t. AreRung book 1 t x)
+marked_still book s x None = (λ h. h, λ h. h)
+marked_still book s x (Some t) = rung_still book s 1 t x
+
+pub right_reserved : (old new : Ringed) (main top : Numbers) → new ≡ record old { book = record old.book { spare = new.book.spare } } → AreRight old main top
+    → AreRight new main top
+right_reserved old new main top same right = subst (λ (r : Ringed). AreRight r main top) (sym same) (record {
+  names = right.names;
+  zero = λ a b. (
+    λ share. (right.zero a b).0 ((rung_still old.book new.book.spare 0 a b).0 share),
+    λ is. (rung_still old.book new.book.spare 0 a b).1 ((right.zero a b).1 is),
+  );
+  touched = λ id. (
+    λ marked. (right.touched id).0 ((marked_still old.book new.book.spare id old.touched).0 marked),
+    λ apart. (marked_still old.book new.book.spare id old.touched).1 ((right.touched id).1 apart),
+  );
+})
+
+-- ---- a name that is in neither level
+
+pub no_number : (o : Option ℕ) → (IsSome o → ⊥) → o ≡ None
+no_number None lacks = refl
+no_number (Some n) lacks = absurd (lacks refl)
+
+pub absent_main : (rings : Ringed) (shelf : Shelf) (id : ℕ) → SuitsShelf rings shelf → (IsNamed rings.book id → ⊥) → finmap.get (numbers_at Main shelf) id ≡ None
+absent_main rings shelf id right absent = no_number (finmap.get shelf.main id) (λ some. absent ((right.names id).1 (inl some)))
+
+pub absent_top : (rings : Ringed) (shelf : Shelf) (id : ℕ) → SuitsShelf rings shelf → (IsNamed rings.book id → ⊥) → finmap.get (numbers_at Top shelf) id ≡ None
+absent_top rings shelf id right absent = no_number (finmap.get (numbers_at Top shelf) id) (λ some. absent ((right.names id).1 (inr some)))
+
+-- ---- where it came in
+
+none_staged : (o : Option Numbers) → false ≡ is_some o → o ≡ None
+none_staged None is = refl
+none_staged (Some m) is = absurd (true≢false (sym is))
+
+module _ (w id : ℕ) (rate : FeeRate) (old new : Shelf) (before : IsInOrder w old) (adds : AddsOne w id rate old new) where
+  points : PointsOne adds.made (id ∷ []) (numbers_at Top old) (numbers_at Top new)
+  points = record {
+    pointed = λ q here. adds.rebuilds.top.points.pointed 0 q adds.now refl (subst (λ xs. Contains xs q) (sym adds.single.names) here);
+    others = λ q out. adds.rebuilds.top.points.others q (λ (named : changes.IsNamed (adds.now ∷ []) q).
+        elim (Contains-cases adds.now named.0 [] named.1) [
+          | inl same ↦ out (subst (λ xs. Contains xs q) (ap (λ (c : Cluster). c.names) (sym same) ∙ adds.single.names) named.2)
+          | inr none ↦ none_in_empty named.0 none
+        ]) (none_in_empty q);
+  }
+
+  free : (x : ℕ) → finmap.get (numbers_at Top old) x ≢ Some adds.made
+  free x is =
+      let at = before.top.stands x adds.made is in
+      elim (adds.rebuilds.top.exchanges.room adds.made (Contains-head adds.made [])) [
+        | inl out ↦ none_in_empty adds.made out
+        | inr none ↦ none-some at.cluster (sym none ∙ at.there)
+      ]
+
+  pub right_gained : (rings later : Ringed) → SuitsShelf rings old → finmap.get old.main id ≡ None → (staged : Bool) → staged ≡ is_some new.staging
+      → Gains staged id rings later → SuitsShelf later new
+  right_gained rings later right lacks true is gains =
+      let some : IsSome old.staging = sym adds.rebuilds.staged ∙ sym is in
+      subst (λ (m : Numbers). AreRight later m (numbers_at Top new)) (sym (adds.rebuilds.base some))
+      (right_added_staged id adds.made old.main (numbers_at Top old) (numbers_at Top new) lacks adds.absent points rings later right gains)
+  right_gained rings later right lacks false is gains =
+      let none = none_staged new.staging is in
+      let first = none_staged old.staging (is ∙ adds.rebuilds.staged) in
+      let one : old.main ≡ numbers_at Top old = sym (ap (λ o. unwrap_or o old.main) first) in
+      subst (λ (m : Numbers). AreRight later m (numbers_at Top new)) (ap (λ o. unwrap_or o new.main) none)
+      (right_added id adds.made old.main (numbers_at Top old) (numbers_at Top new) lacks adds.absent points rings later right one free gains)

@@ -1,0 +1,161 @@
+-- What is kept of the levels, seen from the levels.
+use Rattle.std.proofs.Common.{◌≡◌, ◌↔◌, ℕ, ◌≤◌, true, false, List, [], length, Contains, Option, Some, None, is_some, IsSome, inl, inr, refl, sym, ap, ◌∙◌, subst, arith, true≢false}
+use Rattle.std.specs.Prelude.{option_map, unwrap_or, MatchOption}
+use Rattle.std.proofs.lemmas.Option.{none-some}
+use Rattle.std.specs.Ordering.{nat_cmp}
+use Rattle.std.proofs.lemmas.List.Kept.{AllPairs-from_increasing}
+use Rattle.std.specs.FinMap as finmap
+use Rattle.std.specs.FinSet as set
+use Rattle.lists.specs.Distinct.{AreDistinct}
+use Rattle.lists.proofs.Distinct.{distinct_from_places}
+use Rattle.graphs.specs.Closures.{Closure}
+use Rattle.graphs.specs.Graphs.{Lists}
+use Rattle.graphs.specs.declared.names.Level.{Level}
+use Rattle.graphs.specs.declared.names.Level.TheVariants.{Main, Top}
+use Rattle.fee_rate.specs.declared.limits.TheConstants.{MAX_TOTAL}
+use Rattle.name_book.specs.Books.{AreRung, IsNamed}
+use Rattle.cluster_store.specs.Stores.{parts_of_level, places_by}
+use Rattle.levels.specs.Kept.{IsKept, SuitsShelf}
+use Rattle.levels.specs.Levels.{Levels, IsLive, level_at, no_names}
+use Rattle.levels.specs.Rings.{Ringed, AreRight, IsMarked}
+use Rattle.levels.specs.Shelves.{Shelf, IsInOrder, IsTouched, levels_of, seen_at, no_clusters, numbers_at, one_of, view_of}
+use Rattle.levels.specs.Views.{Numbers, graph_of}
+use Rattle.levels.proofs.Counts.{graph_len, set_len, set_listed}
+use Rattle.levels.proofs.Fewer.{few_at}
+use Rattle.levels.proofs.Finds.{alike, graph_is, level_is, member_is}
+use Rattle.levels.proofs.Unmoved.{same_one}
+
+-- numbers in rising order are apart
+lists_once : {P : ℕ → Type 0} (ids : List ℕ) → Lists P ids → AreDistinct ids
+lists_once ids lists =
+    distinct_from_places ids (λ i j d before below same.
+    let less = AllPairs-from_increasing ids lists.rising i j d before below in omega (arith, less, same))
+
+module _ (w issued : ℕ) (shelf : Shelf) (now : Levels) (order : IsInOrder w shelf) (view : levels_of shelf issued ≡ now) where
+  -- a level has as many names as it has numbers
+  pub level_len : (level : Level) → finmap.len (numbers_at level shelf) ≡ finmap.len (level_at now level).graph
+  level_len level =
+      sym (graph_len (view_of level shelf)) ∙ ap (λ (g : Closure). finmap.len g) (sym (graph_is w issued shelf now order view level))
+
+  -- a live name is one of the rings
+  pub live_named : (rings : Ringed) → SuitsShelf rings shelf → (id : ℕ) → IsLive now id ↔ IsNamed rings.book id
+  live_named rings right id = (
+    λ live. (right.names id).1 (elim live [
+      | inl main ↦ inl (sym (member_is w issued shelf now order view Main id) ∙ main)
+      | inr top ↦ inr (sym (member_is w issued shelf now order view Top id) ∙ top)
+    ]),
+    λ named. elim ((right.names id).0 named) [
+      | inl main ↦ inl (member_is w issued shelf now order view Main id ∙ main)
+      | inr top ↦ inr (member_is w issued shelf now order view Top id ∙ top)
+    ],
+  )
+
+  pub live_counted : (rings : Ringed) → SuitsShelf rings shelf → (ids : List ℕ) → Lists (IsLive now) ids → length ids ≡ set.len rings.book.names
+  live_counted rings right ids lists =
+      set_len rings.book.names ids (lists_once ids lists) (λ id. (
+        λ here. (live_named rings right id).0 ((lists.exact id).0 here),
+        λ named. (lists.exact id).1 ((live_named rings right id).1 named),
+      ))
+
+  pub live_listed : (rings : Ringed) → SuitsShelf rings shelf → (ids : List ℕ) × Lists (IsLive now) ids × (set.len rings.book.names ≡ length ids)
+  live_listed rings right =
+      let names = set_listed rings.book.names in
+      let lists : Lists (IsLive now) names.0 = record {
+        rising = names.1.rising;
+        exact = λ id. (
+          λ here. (live_named rings right id).1 ((names.1.exact id).0 here),
+          λ live. (names.1.exact id).1 ((live_named rings right id).0 live),
+        );
+      } in
+      (names.0, lists, sym (live_counted rings right names.0 lists))
+
+-- ---- no name, and a staging that is opened
+
+no_name : (id : ℕ) → IsSome (finmap.get {X = ℕ} (finmap.empty {R = nat_cmp}) id) → ⊥
+no_name id some = true≢false (sym some ∙ ap is_some (finmap.get-empty nat_cmp id))
+
+right_none : (rings : Ringed) → ((id : ℕ) → IsNamed rings.book id → ⊥) → rings.touched ≡ None → AreRight rings finmap.empty finmap.empty
+right_none rings none touched = record {
+  names = λ id. (λ named. absurd (none id named), λ held. absurd (elim held [ inl main ↦ no_name id main | inr top ↦ no_name id top ]));
+  zero = λ a b. (
+    λ share. absurd (none a share.from),
+    λ is. absurd (elim is [ inl one ↦ none a one.0 | inr of ↦ none-some of.0 (sym (finmap.get-empty nat_cmp a) ∙ of.1) ]),
+  );
+  touched = λ id. (
+    λ marked. absurd (subst (λ (o : Option ℕ). MatchOption o ⊥ (λ t. AreRung rings.book 1 t id)) touched marked),
+    λ apart. absurd (apart refl),
+  );
+}
+
+pub kept_none : (w : ℕ) (shelf : Shelf) (rings : Ringed) → shelf ≡ no_clusters → IsInOrder w shelf → ((id : ℕ) → IsNamed rings.book id → ⊥)
+    → rings.touched ≡ None → rings.book.issued ≡ 0 → set.len rings.book.names ≡ 0 → IsKept w shelf rings 0 0 0
+kept_none w shelf rings empty order none touched issued len = record {
+  order = order;
+  right = subst (λ (s : Shelf). SuitsShelf rings s) (sym empty) (right_none rings none touched);
+  mains = sym (ap (λ (s : Shelf). finmap.len s.main) empty ∙ finmap.len-empty nat_cmp ℕ);
+  tops = sym (ap (λ (s : Shelf). finmap.len (numbers_at Top s)) empty ∙ finmap.len-empty nat_cmp ℕ);
+  issued = sym issued;
+  few = subst (λ n. n ≤ MAX_TOTAL) (sym len) (omega arith);
+}
+
+pub levels_none : (shelf : Shelf) → shelf ≡ no_clusters → levels_of shelf 0 ≡ no_names
+unfolding places_by
+levels_none shelf empty =
+    let graph : graph_of (view_of Main no_clusters) ≡ finmap.empty =
+    finmap.empty_of_len (graph_of (view_of Main no_clusters)) (graph_len (view_of Main no_clusters) ∙ finmap.len-empty nat_cmp ℕ) in
+    ap (λ (s : Shelf). levels_of s 0) empty
+    ∙ (λ i. record { main = record { graph = graph i; parts = parts_of_level Main no_clusters.store }; staging = None; issued = 0 })
+
+-- there is a staging of the shelf where the levels have one
+pub shelf_staged : (shelf : Shelf) (issued : ℕ) (now : Levels) → levels_of shelf issued ≡ now → is_some shelf.staging ≡ is_some now.staging
+shelf_staged shelf issued now view = from shelf.staging ∙ ap (λ (l : Levels). is_some l.staging) view
+  where
+    from : (o : Option Numbers) → is_some o ≡ is_some (option_map (λ _. one_of Top shelf) o)
+    from None = refl
+    from (Some m) = refl
+
+pub shelf_alone : (shelf : Shelf) (issued : ℕ) (now : Levels) → levels_of shelf issued ≡ now → now.staging ≡ None → shelf.staging ≡ None
+shelf_alone shelf issued now view none = from shelf.staging (shelf_staged shelf issued now view ∙ ap is_some none)
+  where
+    from : (o : Option Numbers) → is_some o ≡ false → o ≡ None
+    from None is = refl
+    from (Some m) is = absurd (true≢false is)
+
+pub levels_begun : (w issued : ℕ) (shelf new : Shelf) (now : Levels) → IsInOrder w shelf → levels_of shelf issued ≡ now → now.staging ≡ None
+    → new ≡ record shelf { staging = Some shelf.main } → levels_of new issued ≡ record now { staging = Some now.main }
+levels_begun w issued shelf new now order view none is =
+    let alone = shelf_alone shelf issued now view none in
+    let top : one_of Top (record shelf { staging = Some shelf.main }) ≡ one_of Main shelf =
+    ap (λ o. one_of Top (record shelf { staging = o })) (sym alone) ∙ sym (alike w shelf order alone) in
+    ap (λ (s : Shelf). levels_of s issued) is
+    ∙ (λ i. record { main = one_of Main shelf; staging = Some (top i); issued = issued })
+    ∙ ap (λ (l : Levels). record l { staging = Some l.main }) view
+
+-- ---- a staging that is closed
+
+pub touched_named : (rings : Ringed) (shelf : Shelf) → SuitsShelf rings shelf → (o : Option (List ℕ))
+    → MatchOption o ((x : ℕ) → IsMarked rings x → ⊥) (λ names. AreDistinct names × ((x : ℕ) → Contains names x ↔ IsMarked rings x))
+    → (id : ℕ) → IsTouched shelf id → Contains (unwrap_or o []) id
+touched_named rings shelf right None none id touched = absurd (none id ((right.touched id).1 touched))
+touched_named rings shelf right (Some names) all id touched = (all.1 id).1 ((right.touched id).1 touched)
+
+pub levels_closed : (w issued : ℕ) (shelf new : Shelf) (now : Levels) → IsInOrder w shelf → IsInOrder w new → levels_of shelf issued ≡ now → (stays : Level)
+    → new.main ≡ numbers_at stays shelf → new.staging ≡ None → ((n : ℕ) → seen_at Main new.store.clusters n ≡ seen_at stays shelf.store.clusters n)
+    → levels_of new issued ≡ record now { main = level_at now stays; staging = None }
+levels_closed w issued shelf new now order after view stays main none seen =
+    let same : one_of Main new ≡ level_at now stays =
+    same_one w shelf new order after Main stays main seen ∙ sym (level_is w issued shelf now order view stays) in
+    λ i. record { main = same i; staging = option_map (λ _. one_of Top new) (none i); issued = (view i).issued }
+
+-- each level has no more names than the levels together
+pub few_kept : (w mains tops issued : ℕ) (shelf : Shelf) (rings : Ringed) → IsKept w shelf rings mains tops issued → (level : Level)
+    → finmap.len (numbers_at level shelf) ≤ MAX_TOTAL
+few_kept w mains tops issued shelf rings kept level =
+    let among = few_at w shelf rings kept.order kept.right level in
+    let few = kept.few in
+    omega (arith, among, few)
+
+pub tops_few : (w mains tops issued : ℕ) (shelf : Shelf) (rings : Ringed) → IsKept w shelf rings mains tops issued → tops ≤ MAX_TOTAL
+tops_few w mains tops issued shelf rings kept =
+    let few = few_kept w mains tops issued shelf rings kept Top in
+    omega (arith, few, kept.tops)

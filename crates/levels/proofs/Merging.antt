@@ -1,0 +1,183 @@
+-- What stands in one level alone merges with what stands in both to the level, told by the tags of the clusters.
+use Rattle.std.proofs.Common.{◌≡◌, ℕ, ◌<◌, ◌≤◌, pos, ◌≤ℤ◌, Bool, true, List, [], ◌∷◌, ◌++◌, map, length, get_or, nat_lt, Option, None, Some, Contains, ◌↔◌, refl, sym, ap, ◌∙◌, subst, subst₂, arith}
+use Rattle.std.proofs.lemmas.List.{map-append}
+use Rattle.std.specs.FinMap as finmap
+use Rattle.std.specs.Iterator.{AlwaysYields, YieldsFirstBy}
+use Rattle.std.specs.List.{filter}
+use Rattle.std.proofs.lemmas.Bool.Decides.{nat_tests}
+use Rattle.std.proofs.lemmas.Option.{slice_get-get_or, get_or_from_slice_get}
+use Rattle.lists.proofs.Entries.{map-Contains, not_empty, first_of, rest_of}
+use Rattle.fee_rate.specs.declared.rates.FeeRate.{FeeRate}
+use Rattle.fee_rate.specs.declared.rates.Sum.{Sum}
+use Rattle.graphs.specs.declared.names.Level.{Level}
+use Rattle.graphs.specs.declared.names.Level.TheVariants.{Main, Top}
+use Rattle.graphs.specs.Certificates.{Part}
+use Rattle.graphs.specs.Rates.{Falls}
+use Rattle.graphs.proofs.ClosureGraphs.{closures_have_graphs}
+use Rattle.graphs.proofs.MergeLemmas.{sorted_falls}
+use Rattle.chunk_index.specs.declared.entry.Tag.{Tag}
+use Rattle.chunk_index.specs.declared.entry.Tag.TheVariants.{Both, MainOnly, TopOnly}
+use Rattle.chunk_index.specs.Items.{is_in, same_tag}
+use Rattle.cluster.specs.Clusters.{IsCluster}
+use Rattle.cluster.proofs.Placed.{beyond, closed}
+use Rattle.cluster_store.specs.Stores.{Stored, Numbered, Store, Shown, IsStore, no_part, parts_in, part_in, part_at, passes, places_by, shown_at, shown_by, shown_in, shown_only, parts_of_level}
+use Rattle.cluster_store.proofs.Levels.{comes_before, before_falls, sorted_places, part_sizes}
+use Rattle.diagram.specs.Parts.{rate_of, AreLevelParts, YieldsParts}
+use Rattle.replacement.specs.Changes.{EndsNonNegative, AreNonNegative, HaveSizes, IsEither, IsMerged, YieldsChanges}
+use Rattle.replacement.proofs.LevelLemmas.{changes_are_level_parts, tested_parts_merge}
+use Rattle.replacement.proofs.PartLists.{empty_ends, last_decides}
+use Rattle.levels.specs.Orders.{sums_of}
+
+-- ---- what walks show
+
+-- an iterator that shows what is left gives it
+pub always_first : {A B : Type 0} (view : A → B) (s list : List B) → s ≡ list
+    → AlwaysYields {S = List B} {A = A} (YieldsFirstBy view (λ rest. rest)) view s list
+always_first view s [] is = λ x t step. not_empty (sym step ∙ is)
+always_first view s (y ∷ ys) is = (
+  λ t step. not_empty (sym is ∙ step.0),
+  λ x t step. let both = sym step ∙ is in (first_of both, always_first view t ys (rest_of both)),
+)
+
+-- the rates of what is shown are those of its parts
+pub rates_shown : (shown : List Shown) → map (λ (s : Shown). s.part.rate) shown ≡ sums_of (map (λ (s : Shown). s.part) shown)
+rates_shown [] = refl
+rates_shown (s ∷ shown) = ap (λ (rest : List Sum). s.part.rate ∷ rest) (rates_shown shown)
+
+-- ---- what walks over a level show
+
+module _ (level : Level) (store : Store) where
+  -- whether its last part has a fee of at least 0
+  pub ends_by_last : (front : List Shown) (last : Shown) → shown_in level store ≡ front ++ last ∷ []
+      → (pos 0 ≤ℤ last.part.rate.fee) ↔ EndsNonNegative (sums_of (parts_of_level level store))
+  ends_by_last front last is =
+      let told : sums_of (parts_of_level level store) ≡ map (λ (s : Shown). s.part.rate) front ++ last.part.rate ∷ [] =
+      sym (rates_shown (shown_in level store)) ∙ ap (map (λ (s : Shown). s.part.rate)) is ∙ map-append (λ (s : Shown). s.part.rate) front (last ∷ []) in
+      let decides = last_decides (map (λ (s : Shown). s.part.rate) front) last.part.rate in (
+        λ pays. subst EndsNonNegative (sym told) (decides.1 pays),
+        λ ends. decides.0 (subst EndsNonNegative told ends),
+      )
+
+  pub none_ends : shown_in level store ≡ [] → EndsNonNegative (sums_of (parts_of_level level store))
+  none_ends none = subst EndsNonNegative (ap (λ (shown : List Shown). sums_of (map (λ (s : Shown). s.part) shown)) (sym none)) empty_ends
+
+  -- the fees and sizes of all its parts
+  pub yields_level : (walk : List Shown) (rates : List Sum) → rates ≡ map (λ (s : Shown). s.part.rate) walk → walk ≡ shown_in level store
+      → AreLevelParts (sums_of (parts_of_level level store))
+      → YieldsParts {S = List Sum} (YieldsFirstBy rate_of (λ rest. rest)) rates (sums_of (parts_of_level level store))
+  yields_level walk rates are shown level_parts = record {
+    yields = always_first {A = FeeRate} rate_of rates (sums_of (parts_of_level level store))
+        (are ∙ ap (map (λ (s : Shown). s.part.rate)) shown ∙ rates_shown (shown_in level store));
+    level = level_parts;
+  }
+
+-- ---- what stands under tags
+
+abbrev rate_at : Numbered → ℕ × ℕ → Sum
+rate_at clusters place = (part_at clusters place).rate
+
+rates_of_places : (clusters : Numbered) (places : List (ℕ × ℕ))
+    → map (λ (s : Shown). s.part.rate) (map (shown_at clusters) places) ≡ map (rate_at clusters) places
+rates_of_places clusters [] = refl
+rates_of_places clusters (place ∷ places) = ap (λ (rest : List Sum). rate_at clusters place ∷ rest) (rates_of_places clusters places)
+
+-- the rates of the parts whose clusters' tags pass a test
+abbrev pub rates_by : (Tag → Bool) → Store → List Sum
+rates_by test store = map (λ (s : Shown). s.part.rate) (shown_by test store)
+
+abbrev test_at : (Tag → Bool) → Numbered → ℕ × ℕ → Bool
+test_at test clusters place = passes test (finmap.get clusters place.0)
+
+tested : (test : Tag → Bool) (store : Store) → rates_by test store ≡ map (rate_at store.clusters) (filter (test_at test store.clusters) store.order)
+unfolding places_by
+tested test store = rates_of_places store.clusters (filter (test_at test store.clusters) store.order)
+
+-- ---- every part that is stored has a size, and rates fall
+
+size_real : (n : ℕ) → 1 ≤ n → nat_lt 0 n ≡ true
+size_real n e = grind (arith, nat_tests)
+
+listed : (ps : List Part) (i : ℕ) → i < length ps → Contains ps (get_or ps i no_part)
+listed ps i low = (i, low, get_or_from_slice_get ps i (get_or ps i no_part) (get_or ps i no_part) (slice_get-get_or ps i no_part low))
+
+module _ (most : ℕ) (store : Store) (is : IsStore most store) where
+  sized_in : (place : ℕ × ℕ) (o : Option Stored) → finmap.get store.clusters place.0 ≡ o → place.1 < length (parts_in o) → 1 ≤ (part_in o place.1).rate.size
+  sized_in place None there low = absurd (omega (arith, low))
+  sized_in place (Some s) there low =
+      let whole : IsCluster most s.cluster = is.whole place.0 s there in
+      let graph = closures_have_graphs (beyond s.cluster.names) s.cluster.graph (closed most s.cluster whole) in
+      part_sizes most s.cluster whole graph.0 graph.2 (get_or s.cluster.parts place.1 no_part) (listed s.cluster.parts place.1 low)
+
+  sized : (place : ℕ × ℕ) → Contains store.order place → 1 ≤ (rate_at store.clusters place).size
+  sized place here = sized_in place (finmap.get store.clusters place.0) refl ((is.ordered.exact place).0 here)
+
+  all_sized : HaveSizes (map (rate_at store.clusters) store.order)
+  all_sized rate here =
+      let found = map-Contains (rate_at store.clusters) store.order rate here in
+      subst (λ (s : Sum). 1 ≤ s.size) found.2 (sized found.0 found.1)
+
+  all_fall : Falls (map (rate_at store.clusters) store.order)
+  all_fall =
+      sorted_falls (comes_before store.clusters) (rate_at store.clusters) store.order (before_falls store.clusters)
+      (sorted_places store.clusters store.order is.ordered.sorted (λ place here. size_real (rate_at store.clusters place).size (sized place here)))
+
+  falls_by : (test : Tag → Bool) → Falls (rates_by test store)
+  falls_by test =
+      subst Falls (sym (tested test store))
+      (tested_parts_merge.falling (rate_at store.clusters) (test_at test store.clusters) store.order all_sized all_fall)
+
+  either_at : (alone common level : Tag → Bool) → ((tag : Tag) → IsEither (alone tag) (common tag) (level tag)) → (place : ℕ × ℕ)
+      → IsEither (test_at alone store.clusters place) (test_at common store.clusters place) (test_at level store.clusters place)
+  either_at alone common level each place = by (finmap.get store.clusters place.0)
+    where
+      by : (o : Option Stored) → IsEither (passes alone o) (passes common o) (passes level o)
+      by None = refl
+      by (Some s) = each s.tag
+
+  merges : (alone common level : Tag → Bool) → ((tag : Tag) → IsEither (alone tag) (common tag) (level tag))
+      → IsMerged (rates_by alone store) (rates_by common store) (rates_by level store)
+  merges alone common level each =
+      let made = tested_parts_merge.merged (rate_at store.clusters) (test_at alone store.clusters) (test_at common store.clusters)
+      (test_at level store.clusters) store.order all_sized all_fall (either_at alone common level each) in
+      subst (λ (l : List Sum). IsMerged (rates_by alone store) (rates_by common store) l) (sym (tested level store))
+      (subst₂ (λ (a b : List Sum). IsMerged a b (map (rate_at store.clusters) (filter (test_at level store.clusters) store.order)))
+      (sym (tested alone store)) (sym (tested common store)) made)
+
+  -- ---- a level, and the tag of what stands in it alone
+
+  module _ (level : Level) (tag : Tag) (alone : (t : Tag) → IsEither (same_tag tag t) (same_tag Both t) (is_in level t)) where
+    pub level_merges : IsMerged (rates_by (same_tag tag) store) (rates_by (same_tag Both) store) (sums_of (parts_of_level level store))
+    level_merges =
+        subst (λ (l : List Sum). IsMerged (rates_by (same_tag tag) store) (rates_by (same_tag Both) store) l) (rates_shown (shown_in level store))
+        (merges (same_tag tag) (same_tag Both) (is_in level) alone)
+
+    module _ (are : AreLevelParts (sums_of (parts_of_level level store))) (ends : EndsNonNegative (sums_of (parts_of_level level store))) where
+      alone_are_parts : AreLevelParts (rates_by (same_tag tag) store) × EndsNonNegative (rates_by (same_tag tag) store)
+      alone_are_parts =
+          changes_are_level_parts.alone (rates_by (same_tag tag) store) (rates_by (same_tag Both) store) (sums_of (parts_of_level level store)) are ends
+          level_merges (falls_by (same_tag tag))
+
+      pub yields_alone : (walk : List Shown) (rates : List Sum) → rates ≡ map (λ (s : Shown). s.part.rate) walk → walk ≡ shown_only tag store
+          → YieldsChanges {S = List Sum} (YieldsFirstBy rate_of (λ rest. rest)) rates (rates_by (same_tag tag) store)
+      yields_alone walk rates told shown = record {
+        yields = record {
+          yields = always_first {A = FeeRate} rate_of rates (rates_by (same_tag tag) store) (told ∙ ap (map (λ (s : Shown). s.part.rate)) shown);
+          level = alone_are_parts.0;
+        };
+        last = alone_are_parts.1;
+      }
+
+      pub common_pays : AreNonNegative (rates_by (same_tag Both) store)
+      common_pays =
+          changes_are_level_parts.common (rates_by (same_tag tag) store) (rates_by (same_tag Both) store) (sums_of (parts_of_level level store)) are ends
+          level_merges
+
+pub main_alone : (t : Tag) → IsEither (same_tag MainOnly t) (same_tag Both t) (is_in Main t)
+main_alone Both = refl
+main_alone MainOnly = refl
+main_alone TopOnly = refl
+
+pub top_alone : (t : Tag) → IsEither (same_tag TopOnly t) (same_tag Both t) (is_in Top t)
+top_alone Both = refl
+top_alone MainOnly = refl
+top_alone TopOnly = refl

@@ -1,0 +1,127 @@
+-- The rings are right again where a name was added.
+use Rattle.std.proofs.Common.{◌≡◌, ◌≢◌, ℕ, Bool, true, false, [], ◌∷◌, Some, None, is_some, IsSome, inl, inr, ◌⊎◌, ◌↔◌, refl, sym, ap, ◌∙◌, true≢false}
+use Rattle.std.proofs.lemmas.Bool.{cases_eq}
+use Rattle.std.proofs.lemmas.Option.{none-some, same_Some}
+use Rattle.std.specs.FinMap as finmap
+use Rattle.lists.proofs.Entries.{Contains-head, Contains-cases, none_in_empty}
+use Rattle.name_book.specs.Books.{IsNamed}
+use Rattle.levels.specs.Changes.{PointsOne}
+use Rattle.levels.specs.Rings.{Ringed, AreRight, IsMarked, ShareMain}
+use Rattle.levels.specs.Views.{Numbers}
+
+-- what the rings have after a name was added
+pub record Gains (staged : Bool) (id : ℕ) (old new : Ringed) : Type 0 where
+  pub names : (x : ℕ) → IsNamed new.book x ↔ (IsNamed old.book x ⊎ (x ≡ id))
+  pub main : (x y : ℕ) → ShareMain new x y ↔ (ShareMain old x y ⊎ ((x ≡ id) × (y ≡ id)))
+  pub touched : (x : ℕ) → IsMarked new x ↔ (IsMarked old x ⊎ ((staged ≡ true) × (x ≡ id)))
+
+module _ (id number : ℕ) (main top later : Numbers) (absent_main : finmap.get main id ≡ None) (absent : finmap.get top id ≡ None)
+    (points : PointsOne number (id ∷ []) top later) (before after : Ringed) (right : AreRight before main top) where
+  here : finmap.get later id ≡ Some number
+  here = points.pointed id (Contains-head id [])
+
+  away : (x : ℕ) → x ≢ id → finmap.get later x ≡ finmap.get top x
+  away x other = points.others x (λ at. elim (Contains-cases id x [] at) [ inl same ↦ other (sym same) | inr none ↦ none_in_empty x none ])
+
+  pub right_added_staged : Gains true id before after → AreRight after main later
+  right_added_staged gains = record {
+    names = λ x. (
+      λ named. elim ((gains.names x).0 named) [
+        | inl was ↦ elim ((right.names x).0 was) [
+          | inl one ↦ inl one
+          | inr two ↦ inr (ap is_some (away x (λ same. true≢false (sym two ∙ ap is_some (ap (finmap.get top) same ∙ absent)))) ∙ two)
+        ]
+        | inr same ↦ inr (ap is_some (ap (finmap.get later) same ∙ here))
+      ],
+      λ held. elim (cases_eq x id) [
+        | inl same ↦ (gains.names x).1 (inr same)
+        | inr other ↦ (gains.names x).1 (inl ((right.names x).1 (elim held [ inl one ↦ inl one | inr two ↦ inr (ap is_some (sym (away x other)) ∙ two) ])))
+      ],
+    );
+    zero = λ a b. (
+      λ share. elim ((gains.main a b).0 share) [
+        | inl was ↦ elim ((right.zero a b).0 was) [ inl one ↦ inl ((gains.names a).1 (inl one.0), one.1) | inr two ↦ inr two ]
+        | inr both ↦ inl ((gains.names a).1 (inr both.0), both.0 ∙ sym both.1)
+      ],
+      λ either. (gains.main a b).1 (elim either [
+        | inl one ↦ elim ((gains.names a).0 one.0) [
+          | inl was ↦ inl ((right.zero a b).1 (inl (was, one.1)))
+          | inr same ↦ inr (same, sym one.1 ∙ same)
+        ]
+        | inr two ↦ inl ((right.zero a b).1 (inr two))
+      ]),
+    );
+    touched = λ x. (
+      λ marked is. elim ((gains.touched x).0 marked) [
+        | inl was ↦ (right.touched x).0 was (is ∙ away x (λ same. (right.touched x).0 was (ap (finmap.get main) same ∙ absent_main ∙ sym absent ∙ ap (finmap.get top) (sym same))))
+        | inr both ↦ none-some number (sym absent_main ∙ ap (finmap.get main) (sym both.1) ∙ is ∙ ap (finmap.get later) both.1 ∙ here)
+      ],
+      λ apart. elim (cases_eq x id) [
+        | inl same ↦ (gains.touched x).1 (inr (refl, same))
+        | inr other ↦ (gains.touched x).1 (inl ((right.touched x).1 (λ is. apart (is ∙ sym (away x other)))))
+      ],
+    );
+  }
+
+  -- without a staging both levels have the same numbers
+  pub right_added : main ≡ top → ((x : ℕ) → finmap.get top x ≢ Some number) → Gains false id before after → AreRight after later later
+  right_added same_levels free gains = record {
+    names = λ x. (
+      λ named. elim ((gains.names x).0 named) [
+        | inl was ↦
+            let some : IsSome (finmap.get top x) = elim ((right.names x).0 was) [ inl one ↦ ap (λ (m : Numbers). is_some (finmap.get m x)) (sym same_levels) ∙ one | inr two ↦ two ] in
+            inr (ap is_some (away x (λ same. true≢false (sym some ∙ ap is_some (ap (finmap.get top) same ∙ absent)))) ∙ some)
+        | inr same ↦ inr (ap is_some (ap (finmap.get later) same ∙ here))
+      ],
+      λ held. elim (cases_eq x id) [
+        | inl same ↦ (gains.names x).1 (inr same)
+        | inr other ↦
+            let some : IsSome (finmap.get later x) = elim held [ inl one ↦ one | inr two ↦ two ] in
+            (gains.names x).1 (inl ((right.names x).1 (inr (ap is_some (sym (away x other)) ∙ some))))
+      ],
+    );
+    zero = λ a b. (
+      λ share. elim ((gains.main a b).0 share) [
+        | inl was ↦ elim ((right.zero a b).0 was) [
+          | inl one ↦ inl ((gains.names a).1 (inl one.0), one.1)
+          | inr two ↦
+              let in_top : (y : ℕ) → finmap.get main y ≡ Some two.0 → finmap.get later y ≡ Some two.0 = λ y is.
+              let there : finmap.get top y ≡ Some two.0 = ap (λ (m : Numbers). finmap.get m y) (sym same_levels) ∙ is in
+              away y (λ same. none-some two.0 (sym (ap (finmap.get top) same ∙ absent) ∙ there)) ∙ there in
+              inr (two.0, in_top a two.1, in_top b two.2)
+        ]
+        | inr both ↦ inl ((gains.names a).1 (inr both.0), both.0 ∙ sym both.1)
+      ],
+      λ either. (gains.main a b).1 (elim either [
+        | inl one ↦ elim ((gains.names a).0 one.0) [
+          | inl was ↦ inl ((right.zero a b).1 (inl (was, one.1)))
+          | inr same ↦ inr (same, sym one.1 ∙ same)
+        ]
+        | inr two ↦ elim (cases_eq a id) [
+          | inl first ↦ elim (cases_eq b id) [
+            | inl second ↦ inr (first, second)
+            | inr other ↦
+                let is : number ≡ two.0 = same_Some number two.0 (sym here ∙ ap (finmap.get later) (sym first) ∙ two.1) in
+                absurd (free b (sym (away b other) ∙ two.2 ∙ ap Some (sym is)))
+          ]
+          | inr apart ↦ elim (cases_eq b id) [
+            | inl second ↦
+                let is : number ≡ two.0 = same_Some number two.0 (sym here ∙ ap (finmap.get later) (sym second) ∙ two.2) in
+                absurd (free a (sym (away a apart) ∙ two.1 ∙ ap Some (sym is)))
+            | inr other ↦ inl ((right.zero a b).1 (inr (
+              two.0,
+              ap (λ (m : Numbers). finmap.get m a) same_levels ∙ sym (away a apart) ∙ two.1,
+              ap (λ (m : Numbers). finmap.get m b) same_levels ∙ sym (away b other) ∙ two.2,
+            )))
+          ]
+        ]
+      ]),
+    );
+    touched = λ x. (
+      λ marked is. elim ((gains.touched x).0 marked) [
+        | inl was ↦ (right.touched x).0 was (ap (λ (m : Numbers). finmap.get m x) same_levels)
+        | inr both ↦ true≢false (sym both.0)
+      ],
+      λ apart. absurd (apart refl),
+    );
+  }

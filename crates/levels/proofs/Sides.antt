@@ -1,0 +1,134 @@
+-- Two names of the top level, the one of which becomes a parent of the other, and their clusters.
+use Rattle.std.proofs.Common.{◌≡◌, ◌≢◌, ℕ, ◌+◌, ◌*◌, ◌≤◌, length, List, Some, IsSome, inl, inr, ◌⊎◌, sym, ap, ◌∙◌, subst, subst₂, arith}
+use Rattle.std.specs.FinMap as finmap
+use Rattle.graphs.specs.declared.names.Level.TheVariants.{Top}
+use Rattle.graphs.specs.Closures.{Closure}
+use Rattle.graphs.specs.Graphs.{Lists}
+use Rattle.cluster.specs.Clusters.{Cluster, AreApart}
+use Rattle.cluster.specs.Changes.{AreAcross}
+use Rattle.cluster.specs.Steps.{GrowsWithin, most_steps}
+use Rattle.levels.specs.Shelves.{Shelf, IsInOrder, numbers_at, seen_at, stored_at, view_of}
+use Rattle.levels.specs.Views.{graph_of}
+use Rattle.levels.specs.Links.{IsLink}
+use Rattle.levels.specs.declared.links.Link.TheVariants.{Within, Between}
+use Rattle.levels.proofs.Graphs.{one_number}
+use Rattle.levels.proofs.Pairs.{IsLinkedToEither, AreTogether, AreBetween}
+use Rattle.levels.proofs.Sizes.{either_count, both_count}
+use Rattle.levels.proofs.Under.{live, held, is_stored, its_cluster, seen_there}
+
+-- the one number and the other, in this order or turned round
+abbrev pub AreTurned : ℕ → ℕ → ℕ → ℕ → Type 0
+AreTurned above below first second = ((first ≡ above) × (second ≡ below)) ⊎ ((first ≡ below) × (second ≡ above))
+
+module _ (w : ℕ) (shelf : Shelf) (order : IsInOrder w shelf) (p q : ℕ) where
+  abbrev graph : Closure
+  graph = graph_of (view_of Top shelf)
+
+  abbrev HasNumber : ℕ → ℕ → Type 0
+  HasNumber id number = finmap.get (numbers_at Top shelf) id ≡ Some number
+
+  abbrev StandsUnder : ℕ → Cluster → Type 0
+  StandsUnder number c = seen_at Top shelf.store.clusters number ≡ Some c
+
+  -- ---- names of one cluster
+
+  pub together : (number : ℕ) (c : Cluster) → HasNumber p number → HasNumber q number → StandsUnder number c → AreTogether graph p q c
+  together number c p_is q_is at = record {
+    p_live = live Top shelf p number p_is;
+    q_live = live Top shelf q number q_is;
+    cluster = its_cluster w shelf order Top p number p_is c at;
+    q_in = held w shelf order Top q number q_is c at;
+  }
+
+  -- the steps of an order of the cluster of two names, told by the graph
+  pub count_within : (number : ℕ) (c : Cluster) (ids : List ℕ) {before after : ℕ} → IsLink w shelf p q (Within number) → StandsUnder number c
+      → Lists (IsLinkedToEither graph p q) ids → GrowsWithin (most_steps (length c.names)) before after → GrowsWithin (most_steps (length ids)) before after
+  count_within number c ids {before} {after} link at lists grows =
+      subst (λ n. GrowsWithin (most_steps n) before after)
+      (sym (either_count graph p q c ids (together number c link.0 link.1 at) (order.top.whole number c at).once lists)) grows
+
+  -- ---- names of two clusters
+
+  pub between : (above below : ℕ) (a b : Cluster) → HasNumber p above → HasNumber q below → above ≢ below
+      → StandsUnder above a → StandsUnder below b → AreBetween graph p q a b
+  between above below a b p_is q_is apart one two = record {
+    p_live = live Top shelf p above p_is;
+    q_live = live Top shelf q below q_is;
+    first = its_cluster w shelf order Top p above p_is a one;
+    second = its_cluster w shelf order Top q below q_is b two;
+    first_once = (order.top.whole above a one).once;
+    second_once = (order.top.whole below b two).once;
+    apart = λ id here there. apart (one_number (64 * w) (view_of Top shelf) order.top above below id a b one two here there);
+  }
+
+  abbrev IsKept : ℕ → Cluster → Type 0
+  IsKept number c = stored_at shelf.store.clusters number ≡ Some c
+
+  -- what is known of the two clusters, in whichever order they stand
+  pub record Sides (first second : ℕ) (one other : Cluster) : Type 0 where
+    pub apart : first ≢ second
+    pub one_at : StandsUnder first one
+    pub other_at : StandsUnder second other
+    pub across : AreAcross one.names other.names p q
+    pub few : length one.names + length other.names ≤ 64 * w
+    pub alone : AreApart one other
+    pub count : (ids : List ℕ) → Lists (IsLinkedToEither graph p q) ids → length ids ≡ length one.names + length other.names
+
+  sides_in_order : (above below : ℕ) (a b : Cluster) → IsLink w shelf p q (Between above below) → IsKept above a → IsKept below b → Sides above below a b
+  sides_in_order above below a b link one two =
+      let one_at = seen_there w shelf order Top p above link.0 a one in
+      let other_at = seen_there w shelf order Top q below link.1 b two in
+      let between = between above below a b link.0 link.1 link.2 one_at other_at in
+      record {
+        apart = link.2;
+        one_at = one_at;
+        other_at = other_at;
+        across = inl (between.first.here, between.second.here);
+        few = link.3 a b one_at other_at;
+        alone = between.apart;
+        count = λ ids lists. both_count graph p q a b ids between lists;
+      }
+
+  turned_round : (above below : ℕ) (a b : Cluster) → Sides above below a b → Sides below above b a
+  turned_round above below a b is =
+      let few = is.few in
+      record {
+        apart = λ same. is.apart (sym same);
+        one_at = is.other_at;
+        other_at = is.one_at;
+        across = elim is.across [ inl across ↦ inr across | inr across ↦ inl across ];
+        few = omega (arith, few);
+        alone = λ id here there. is.alone id there here;
+        count = λ ids lists. let sum = is.count ids lists in omega (arith, sum);
+      }
+
+  pub sides : (above below first second : ℕ) (one other : Cluster) → IsLink w shelf p q (Between above below) → AreTurned above below first second
+      → IsKept first one → IsKept second other → Sides first second one other
+  sides above below first second one other link turned here there = elim turned [
+    | inl same ↦
+        subst₂ (λ s t. Sides s t one other) (sym same.0) (sym same.1) (sides_in_order above below one other link
+        (ap (stored_at shelf.store.clusters) (sym same.0) ∙ here) (ap (stored_at shelf.store.clusters) (sym same.1) ∙ there))
+    | inr same ↦
+        subst₂ (λ s t. Sides s t one other) (sym same.0) (sym same.1)
+        (turned_round above below other one (sides_in_order above below other one link
+        (ap (stored_at shelf.store.clusters) (sym same.1) ∙ there) (ap (stored_at shelf.store.clusters) (sym same.0) ∙ here)))
+  ]
+
+  -- both numbers have clusters, in whichever order they stand
+  pub turned_there : (above below first second : ℕ) → IsLink w shelf p q (Between above below) → AreTurned above below first second
+      → IsSome (stored_at shelf.store.clusters first) × IsSome (stored_at shelf.store.clusters second)
+  turned_there above below first second link turned =
+      let one = is_stored w shelf order Top p above link.0 in
+      let two = is_stored w shelf order Top q below link.1 in
+      let there : ℕ → Type 0 = λ n. IsSome (stored_at shelf.store.clusters n) in
+      elim turned [
+        | inl same ↦ (subst there (sym same.0) one, subst there (sym same.1) two)
+        | inr same ↦ (subst there (sym same.0) two, subst there (sym same.1) one)
+      ]
+
+  -- the steps of an order of both
+  pub count_between : (first second : ℕ) (one other : Cluster) (ids : List ℕ) {before after : ℕ} → Sides first second one other
+      → Lists (IsLinkedToEither graph p q) ids → GrowsWithin (most_steps (length one.names + length other.names)) before after
+      → GrowsWithin (most_steps (length ids)) before after
+  count_between first second one other ids {before} {after} is lists grows =
+      subst (λ n. GrowsWithin (most_steps n) before after) (sym (is.count ids lists)) grows

@@ -1,0 +1,221 @@
+-- The parts of a level: an optimal order, by falling rate, with sums in range where the level has no more names than are added up.
+use Rattle.std.proofs.Common.{◌≡◌, ◌≢◌, ℕ, suc, ◌+◌, ◌-◌, ◌*◌, ◌<◌, ◌≤◌, Bool, true, false, cond, not, ◌&&◌, ◌||◌, ne_eqb, IsSome, List, [], ◌∷◌, ◌++◌, length, map, Contains, get_or, refl, sym, ap, ◌∙◌, subst, arith, length-append, true≢false, eqb-true}
+use Rattle.std.specs.List.{list_any}
+use Rattle.std.specs.Ordering.{nat_cmp, eq_by_cmp}
+use Rattle.std.specs.Cmp.{nat_cmp_total, unsigned_tied}
+use Rattle.std.specs.FinMap as finmap
+use Rattle.std.specs.FinSet as set
+use Rattle.std.proofs.lemmas.Int.{ints}
+use Rattle.std.proofs.lemmas.List.Concat.{flat_map-append}
+use Rattle.std.proofs.lemmas.List.Elements.{Contains-append_left, Contains-append_right, Contains-get_or}
+use Rattle.std.proofs.lemmas.List.Sums.{sum_by-le}
+use Rattle.lists.specs.Distinct.{AreDistinct}
+use Rattle.lists.proofs.Entries.{Contains-head, Contains-later, Contains-splits, map-Contains, first_of, rest_of}
+use Rattle.arithmetic.proofs.Sums.{total_within}
+use Rattle.fee_rate.specs.declared.limits.TheConstants.{MAX_FEE, MAX_SIZE, MAX_TOTAL}
+use Rattle.fee_rate.specs.declared.rates.FeeRate.{FeeRate}
+use Rattle.fee_rate.specs.declared.rates.Sum.{Sum}
+use Rattle.fee_rate.specs.Limits.{IsRate, IsSum}
+use Rattle.graphs.specs.declared.names.Level.{Level}
+use Rattle.graphs.specs.Certificates.{Part, IsCertificate}
+use Rattle.graphs.specs.Closures.{Closure, is_member, rate_of, IsClosed}
+use Rattle.graphs.specs.Closing.{IsClosureOf}
+use Rattle.graphs.specs.Graphs.{Graph, IsGraph, IsCover}
+use Rattle.graphs.specs.Rates.{sum_of, sums, HasSizes}
+use Rattle.graphs.proofs.BestLemmas.{sizes_some, sum_of-joined}
+use Rattle.graphs.proofs.ClosureGraphs.{closures_have_graphs}
+use Rattle.graphs.proofs.PickLemmas.{picks_are_kept}
+use Rattle.graphs.proofs.TangentLemmas.{joined}
+use Rattle.graph_model.proofs.TableLemmas.{len-names}
+use Rattle.graph_model.specs.Answers.{order_of}
+use Rattle.cluster.specs.Clusters.{sum_at}
+use Rattle.diagram.specs.Parts.{AreLevelParts}
+use Rattle.levels.specs.Levels.{HasPick, IsBest}
+use Rattle.levels.specs.Orders.{sums_of}
+use Rattle.levels.specs.Shelves.{Shelf, IsInOrder, numbers_at, one_of, view_of}
+use Rattle.levels.specs.Views.{IsIndexed}
+use Rattle.levels.proofs.Finds.{indexed_at, picked}
+use Rattle.levels.proofs.Graphs.{live_in, member-number, rate_in_cluster}
+use Rattle.levels.proofs.Graphs as graphs
+
+-- ---- lists
+
+-- a front of what a list becomes comes of a front of the list
+map_front : {A B : Type 0} (f : A → B) (xs : List A) (front rest : List B) → map f xs ≡ front ++ rest
+    → (ys zs : List A) × (xs ≡ ys ++ zs) × (front ≡ map f ys)
+map_front f xs [] rest is = ([], xs, refl, refl)
+map_front f [] (y ∷ front) rest is = cc
+map_front f (x ∷ xs) (y ∷ front) rest is =
+    let more = map_front f xs front rest (rest_of is) in
+    let head : f x ≡ y = first_of is in
+    (x ∷ more.0, more.1, ap (λ zs. x ∷ zs) more.2, (λ i. sym head i ∷ more.3 i))
+
+joined_ids : (parts : List Part) → joined (map (λ part. part.ids) parts) ≡ order_of parts
+joined_ids [] = refl
+joined_ids (p ∷ parts) = ap (λ ids. p.ids ++ ids) (joined_ids parts)
+
+-- parts have the sums over their names
+rates_told : (rate : ℕ → Sum) (parts : List Part) → ((part : Part) → Contains parts part → part.rate ≡ sums rate part.ids)
+    → sums_of parts ≡ map (sums rate) (map (λ part. part.ids) parts)
+rates_told rate [] summed = refl
+rates_told rate (p ∷ parts) summed =
+    λ i. summed p (Contains-head p parts) i ∷ rates_told rate parts (λ q here. summed q (Contains-later p q parts here)) i
+
+sum_told : (rate : ℕ → Sum) (parts : List Part) → ((part : Part) → Contains parts part → part.rate ≡ sums rate part.ids)
+    → sum_of (sums_of parts) ≡ sums rate (order_of parts)
+sum_told rate parts summed =
+    ap sum_of (rates_told rate parts summed) ∙ sum_of-joined rate (map (λ part. part.ids) parts) ∙ ap (sums rate) (joined_ids parts)
+
+-- names with fees and sizes in range, no more of them than are added up, have a sum in range
+sum_fits : (g : Closure) (ids : List ℕ) → ((id : ℕ) → Contains ids id → IsRate (rate_of g id)) → length ids ≤ MAX_TOTAL
+    → IsSum (sums (sum_at g) ids)
+sum_fits g ids rates few =
+    let fees = total_within (λ id. (sum_at g id).fee) MAX_FEE ids (λ k d inside. (rates (get_or ids k d) (Contains-get_or ids k d inside)).fee) in
+    let sizes = sum_by-le (λ id. (sum_at g id).size) MAX_SIZE ids (λ k d inside. (rates (get_or ids k d) (Contains-get_or ids k d inside)).size) in
+    record { fee = omega (arith, ints); size = omega (arith, ints) }
+
+-- as many different names as a list has are at most those of a set that has them
+few_names : (s : set.FinSet nat_cmp) (ids : List ℕ) → AreDistinct ids → ((x : ℕ) → Contains ids x → set.contains s x ≡ true) → length ids ≤ set.len s
+few_names s [] once all = omega arith
+few_names s (x ∷ ids) once all =
+    let here : set.contains s x ≡ true = all x (Contains-head x ids) in
+    let rest : length ids ≤ set.len (set.remove s x) = few_names (set.remove s x) ids once.1 (λ y listed.
+    set.contains-remove nat_cmp_total s x y
+    ∙ ap (λ b. not b && set.contains s y) (unsigned_tied y x ∙ ne_eqb y x (λ same. once.0 (subst (Contains ids) same listed)))
+    ∙ all y (Contains-later x y ids listed)) in
+    let less : set.len (set.remove s x) ≡ set.len s - 1 = set.len-remove nat_cmp_total s x ∙ ap (λ b. cond b (set.len s - 1) (set.len s)) here in
+    let some : set.len s ≢ 0 = λ none. true≢false (sym here ∙ ap (λ t. set.contains t x) (set.empty_of_len s none) ∙ set.contains-empty nat_cmp x) in
+    omega (arith, rest, less, some)
+
+-- a number that no entry of a list reaches
+past : List ℕ → ℕ
+past [] = 0
+past (x ∷ xs) = suc x + past xs
+
+under_past : (xs : List ℕ) (q : ℕ) → list_any (eq_by_cmp nat_cmp q) xs ≡ true → q < past xs
+unfolding past
+under_past [] q some = absurd (true≢false (sym some))
+under_past (x ∷ xs) q some = by (eq_by_cmp nat_cmp q x) refl some (under_past xs q)
+  where
+    by : (b : Bool) → eq_by_cmp nat_cmp q x ≡ b → (b || list_any (eq_by_cmp nat_cmp q) xs) ≡ true → (list_any (eq_by_cmp nat_cmp q) xs ≡ true → q < past xs)
+        → q < suc x + past xs
+    by true same any rest = let is : q ≡ x = eqb-true q x (sym (unsigned_tied q x) ∙ same) in omega (arith, is)
+    by false other any rest = let low : q < past xs = rest any in omega (arith, low)
+
+-- ---- the parts of a level of a shelf
+
+module _ (w : ℕ) (shelf : Shelf) (order : IsInOrder w shelf) (level : Level) where
+  abbrev known : Closure
+  known = (one_of level shelf).graph
+
+  abbrev parts : List Part
+  parts = (one_of level shelf).parts
+
+  indexed : IsIndexed (64 * w) (view_of level shelf)
+  indexed = indexed_at w shelf order level
+
+  its_pick : HasPick (one_of level shelf)
+  its_pick = picked (64 * w) level shelf indexed order.store
+
+  pub rated : (id : ℕ) → is_member known id ≡ true → IsRate (rate_of known id)
+  rated id live =
+      let at = live_in (64 * w) (view_of level shelf) indexed id live in
+      let whole = indexed.whole at.0 at.2.cluster at.2.there in
+      let same = rate_in_cluster (64 * w) (view_of level shelf) indexed at.0 id at.2.cluster at.2.there at.2.here in
+      subst (λ (rate : FeeRate). IsRate rate) (sym same) (whole.rates id ((whole.members id).1 at.2.here))
+
+  sizes : (graph : Graph) → IsClosureOf known graph → HasSizes (sum_at known) graph.names
+  sizes graph closes id here = (rated id ((closes.names id).0 here)).some
+
+  -- the parts are an optimal order of every graph with that closure
+  pub best : IsBest (one_of level shelf)
+  best graph closes = picks_are_kept.optimal (sum_at known) graph parts (sizes graph closes) (its_pick graph closes)
+
+  -- and there is one
+  closed : IsClosed (past (finmap.keys known)) known
+  unfolding is_member
+  closed = record {
+    within = λ q member. under_past (finmap.keys known) q (sym (finmap.contains_key-keys known q) ∙ member);
+    order = graphs.order_of (64 * w) (view_of level shelf) indexed;
+  }
+
+  some_graph : (graph : Graph) × IsGraph graph × IsClosureOf known graph
+  some_graph = closures_have_graphs (past (finmap.keys known)) known closed
+
+  module _ (graph : Graph) (closes : IsClosureOf known graph) where
+    certificate : IsCertificate (sum_at known) graph (IsCover graph.pairs) parts
+    certificate = (its_pick graph closes).certificate
+
+    live : (id : ℕ) → Contains (order_of parts) id → is_member known id ≡ true
+    live id here = (closes.names id).0 ((certificate.order.topological.names id).0 here)
+
+    -- the parts have each name once
+    counted : length (order_of parts) ≡ finmap.len (numbers_at level shelf)
+    counted = len-names (order_of parts) (numbers_at level shelf) certificate.order.topological.once (λ id. (
+      λ here. sym (member-number (view_of level shelf) id) ∙ live id here,
+      λ there. (certificate.order.topological.names id).1 ((closes.names id).1 (member-number (view_of level shelf) id ∙ there)),
+    ))
+
+    -- and they are no more than a set has that has them all
+    within : (names : set.FinSet nat_cmp) → ((id : ℕ) → IsSome (finmap.get (numbers_at level shelf) id) → set.contains names id ≡ true)
+        → finmap.len (numbers_at level shelf) ≤ set.len names
+    within names all =
+        let few = few_names names (order_of parts) certificate.order.topological.once
+        (λ id here. all id (sym (member-number (view_of level shelf) id) ∙ live id here)) in
+        omega (arith, counted, few)
+
+    module _ (few : finmap.len (numbers_at level shelf) ≤ MAX_TOTAL) where
+      as_many : length (order_of parts) ≤ MAX_TOTAL
+      as_many = omega (arith, counted, few)
+
+      -- the sum over names that stand together in the order
+      piece_fits : (before ids after : List ℕ) → order_of parts ≡ before ++ (ids ++ after) → IsSum (sums (sum_at known) ids)
+      piece_fits before ids after is = sum_fits known ids
+          (λ id here. rated id (live id (subst (λ (zs : List ℕ). Contains zs id) (sym is)
+          (Contains-append_right before (ids ++ after) id (Contains-append_left ids after id here)))))
+          (omega (arith, as_many, ap length is, length-append before (ids ++ after), length-append ids after))
+
+      part_fits : (part : Part) → Contains parts part → IsSum part.rate
+      part_fits part here =
+          let cut = Contains-splits parts part here in
+          subst (λ (s : Sum). IsSum s) (sym (certificate.falling.summed part here)) (piece_fits (order_of cut.0) part.ids (order_of cut.1)
+          (ap order_of cut.2 ∙ flat_map-append (λ (p : Part). p.ids) cut.0 (part ∷ cut.1)))
+
+      part_some : (part : Part) → Contains parts part → 1 ≤ part.rate.size
+      part_some part here =
+          let cut = Contains-splits parts part here in
+          let is : order_of parts ≡ order_of cut.0 ++ (part.ids ++ order_of cut.1) =
+          ap order_of cut.2 ∙ flat_map-append (λ (p : Part). p.ids) cut.0 (part ∷ cut.1) in
+          let some : HasSizes (sum_at known) part.ids = λ id there. (rated id (live id (subst (λ (zs : List ℕ). Contains zs id) (sym is)
+          (Contains-append_right (order_of cut.0) (part.ids ++ order_of cut.1) id (Contains-append_left part.ids (order_of cut.1) id there))))).some in
+          subst (λ (s : Sum). 1 ≤ s.size) (sym (certificate.falling.summed part here))
+          (sizes_some (sum_at known) part.ids (certificate.filled part here) some)
+
+      front_fits : (ys zs : List Part) → parts ≡ ys ++ zs → IsSum (sum_of (sums_of ys))
+      front_fits ys zs is =
+          let summed : (part : Part) → Contains ys part → part.rate ≡ sums (sum_at known) part.ids =
+          λ part here. certificate.falling.summed part (subst (λ (ps : List Part). Contains ps part) (sym is) (Contains-append_left ys zs part here)) in
+          subst (λ (s : Sum). IsSum s) (sym (sum_told (sum_at known) ys summed))
+          (piece_fits [] (order_of ys) (order_of zs) (ap order_of is ∙ flat_map-append (λ (p : Part). p.ids) ys zs))
+
+      parts_of_graph : AreLevelParts (sums_of parts)
+      parts_of_graph = record {
+        falling = certificate.falling.falling;
+        some = λ rate here.
+            let found = map-Contains (λ (part : Part). part.rate) parts rate here in
+            subst (λ (s : Sum). 1 ≤ s.size) found.2 (part_some found.0 found.1);
+        ranged = λ rate here.
+            let found = map-Contains (λ (part : Part). part.rate) parts rate here in
+            subst (λ (s : Sum). IsSum s) found.2 (part_fits found.0 found.1);
+        fits = λ front rest is.
+            let cut = map_front (λ (part : Part). part.rate) parts front rest is in
+            subst (λ (ss : List Sum). IsSum (sum_of ss)) (sym cut.3) (front_fits cut.0 cut.1 cut.2);
+      }
+
+  pub level_parts : finmap.len (numbers_at level shelf) ≤ MAX_TOTAL → AreLevelParts (sums_of parts)
+  level_parts few = parts_of_graph some_graph.0 some_graph.2 few
+
+  -- a level has no more names than a set that has them all
+  pub no_more : (names : set.FinSet nat_cmp) → ((id : ℕ) → IsSome (finmap.get (numbers_at level shelf) id) → set.contains names id ≡ true)
+      → finmap.len (numbers_at level shelf) ≤ set.len names
+  no_more = within some_graph.0 some_graph.2

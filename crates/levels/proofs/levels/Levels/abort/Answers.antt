@@ -1,0 +1,18 @@
+use Rattle.std.proofs.Common.{rules, ◌∙◌}
+use Rattle.graphs.specs.declared.names.Level.TheVariants.{Main}
+use Rattle.levels.proofs.Keeping.{levels_closed, shelf_staged, touched_named}
+use Rattle.levels.proofs.levels.Levels.abort.Goals as goal
+
+pub close-requires : goal.close-requires
+close-requires g c = (
+  search rules,
+  (
+    shelf_staged c.self.inside.shelves c.self.inside.issued c.args.self.now c.self.view_is ∙ c.requires,
+    touched_named c.self.inside.rings c.self.inside.shelves c.self.invariant.right c.touched.result c.touched.ensures,
+  ),
+)
+
+pub returns : goal.returns
+returns g c =
+    levels_closed g.row.W c.self.inside.issued c.self.inside.shelves c.close.new.self c.args.self.now c.self.invariant.order c.close.ensures.order
+    c.self.view_is Main c.close.ensures.main c.close.ensures.staging c.close.ensures.seen

@@ -1,0 +1,42 @@
+use Rattle.std.proofs.Common.{rules, ◌≡◌, ◌≤◌, ℕ, true, sym, ap, ◌∙◌, subst}
+use Rattle.fee_rate.specs.Limits.{IsRate}
+use Rattle.graphs.specs.Closures.{is_member, rate_of}
+use Rattle.diagram.specs.Parts.{AreLevelParts}
+use Rattle.levels.specs.Levels.{OneLevel, IsBest}
+use Rattle.levels.specs.Orders.{sums_of}
+use Rattle.levels.proofs.Finds.{level_is}
+use Rattle.levels.proofs.Keeping.{few_kept}
+use Rattle.levels.proofs.levels.Levels.parts.Goals as goal
+
+pub parts-requires : goal.parts-requires
+parts-requires g c =
+    let narrow : g.row.W ≤ 2 = c.self.invariant.order.narrow in (
+      search rules,
+      (
+        search rules,
+        (
+          c.self.invariant.order,
+          few_kept g.row.W c.self.inside.mains c.self.inside.tops c.self.inside.issued c.self.inside.shelves c.self.inside.rings c.self.invariant c.args.level,
+        ),
+      ),
+    )
+
+pub returns-clause-parts : goal.returns-clause-parts
+returns-clause-parts g c =
+    c.parts.ensures.parts
+    ∙ ap (λ (l : OneLevel). l.parts) (sym (level_is g.row.W c.self.inside.issued c.self.inside.shelves c.args.self.now c.self.invariant.order c.self.view_is c.args.level))
+
+pub returns-clause-best : goal.returns-clause-best
+returns-clause-best g c =
+    subst IsBest (sym (level_is g.row.W c.self.inside.issued c.self.inside.shelves c.args.self.now c.self.invariant.order c.self.view_is c.args.level))
+    c.parts.ensures.best
+
+pub returns-clause-rates : goal.returns-clause-rates
+returns-clause-rates g c =
+    subst (λ (l : OneLevel). (id : ℕ) → is_member l.graph id ≡ true → IsRate (rate_of l.graph id))
+    (sym (level_is g.row.W c.self.inside.issued c.self.inside.shelves c.args.self.now c.self.invariant.order c.self.view_is c.args.level)) c.parts.ensures.rates
+
+pub returns-clause-level : goal.returns-clause-level
+returns-clause-level g c =
+    subst (λ (l : OneLevel). AreLevelParts (sums_of l.parts))
+    (sym (level_is g.row.W c.self.inside.issued c.self.inside.shelves c.args.self.now c.self.invariant.order c.self.view_is c.args.level)) c.parts.ensures.level

@@ -1,0 +1,12 @@
+-- The merged parts are an optimal order of the level, and those of a level.
+use Rattle.levels.proofs.Summing.{best, level_parts, rated}
+use Rattle.levels.proofs.shelves.Shelves.parts.Goals as goal
+
+pub returns-clause-best : goal.returns-clause-best
+returns-clause-best g c = best g.row.W c.args.self.now c.requires.order c.args.level
+
+pub returns-clause-rates : goal.returns-clause-rates
+returns-clause-rates g c = rated g.row.W c.args.self.now c.requires.order c.args.level
+
+pub returns-clause-level : goal.returns-clause-level
+returns-clause-level g c = level_parts g.row.W c.args.self.now c.requires.order c.args.level c.requires.few

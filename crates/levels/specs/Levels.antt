@@ -1,0 +1,88 @@
+-- The levels of a graph: main, and staging where there is one.
+use Rattle.std.specs.Prelude.{◌≡◌, ◌≢◌, ◌⊎◌, ℕ, ℤ, true, false, ◌&&◌, ◌||◌, nat_eq, [], List, map, Option, None, Some, IfSome, is_some, refl}
+use Rattle.std.specs.Coded.{Coded, code_by, coded×, coded_list, coded_option, coded_ℕ}
+use Rattle.std.specs.FinMap as finmap
+use Rattle.graphs.specs.declared.names.Level.{Level}
+use Rattle.graphs.specs.declared.names.Level.TheVariants.{Main, Top}
+use Rattle.graphs.specs.Closures.{Closure, closure_code, is_member, is_ancestor, rate_of, SetsFee}
+use Rattle.fee_rate.specs.declared.rates.FeeRate.{FeeRate}
+use Rattle.graphs.specs.Closing.{IsClosureOf}
+use Rattle.graphs.specs.Certificates.{Part}
+use Rattle.graphs.specs.Graphs.{Graph}
+use Rattle.graphs.specs.Linearizations.{IsOptimal}
+use Rattle.graph_model.specs.States.{top_of}
+use Rattle.cluster.specs.Clusters.{part_code, sum_at, ArePicked}
+
+-- of a level: each name with its fee, its size and its ancestors, and the parts of its order
+pub record OneLevel : Type 0 where
+  pub graph : Closure
+  pub parts : List Part
+
+-- main, staging where there is one, and how many names were added so far
+pub record Levels : Type 0 where
+  pub main : OneLevel
+  pub staging : Option OneLevel
+  pub issued : ℕ
+
+abbrev pub level_code : Coded OneLevel
+level_code =
+    code_by (Closure × List Part) (coded× closure_code (coded_list part_code)) (λ l. (l.graph, l.parts)) (λ p. record { graph = p.0; parts = p.1 }) (λ _. refl)
+
+abbrev pub levels_code : Coded Levels
+levels_code =
+    code_by (OneLevel × (Option OneLevel × ℕ)) (coded× level_code (coded× (coded_option level_code) coded_ℕ))
+    (λ l. (l.main, (l.staging, l.issued))) (λ p. record { main = p.0; staging = p.1.0; issued = p.1.1 }) (λ _. refl)
+
+-- no name
+abbrev pub empty_level : OneLevel
+empty_level = record { graph = finmap.empty; parts = [] }
+
+abbrev pub no_names : Levels
+no_names = record { main = empty_level; staging = None; issued = 0 }
+
+-- a level by its word: the top level is staging where there is one, else main
+abbrev pub level_at : Levels → Level → OneLevel
+level_at levels Main = levels.main
+level_at levels Top = top_of levels.main levels.staging
+
+-- another top level
+abbrev pub with_top : Levels → OneLevel → Levels
+with_top levels top = elim levels.staging as (λ _. Levels) [ None ↦ record levels { main = top } | Some _ ↦ record levels { staging = Some top } ]
+
+-- The top level changes so, and main stays where there is a staging.
+abbrev pub ChangesTop : (Closure → Closure → Type 0) → Levels → Levels → Type 0
+ChangesTop Changes old new = (top : OneLevel) × Changes (level_at old Top).graph top.graph × (new ≡ with_top old top)
+
+-- the name is in main or in staging
+abbrev pub IsLive : Levels → ℕ → Type 0
+IsLive levels id = (is_member levels.main.graph id ≡ true) ⊎ (is_member (level_at levels Top).graph id ≡ true)
+
+-- the parts of a level are a pick of it
+abbrev pub HasPick : OneLevel → Type 0
+HasPick level = ArePicked level.graph level.parts
+
+abbrev pub HavePicks : Levels → Type 0
+HavePicks levels = HasPick levels.main × IfSome levels.staging HasPick
+
+-- and an optimal order of every graph that the level is the closure of
+abbrev pub IsBest : OneLevel → Type 0
+IsBest level = (graph : Graph) → IsClosureOf level.graph graph → IsOptimal (sum_at level.graph) graph (map (λ part. part.ids) level.parts)
+
+-- one more name, in no relation to the others
+pub record AddsName (old new : Closure) (id : ℕ) (rate : FeeRate) : Type 0 where
+  pub members : (q : ℕ) → is_member new q ≡ (nat_eq q id || is_member old q)
+  pub rate_is : rate_of new id ≡ rate
+  pub rates : (q : ℕ) → q ≢ id → rate_of new q ≡ rate_of old q
+  pub ancestors : (a d : ℕ) → is_ancestor new a d ≡ ((nat_eq a id && nat_eq d id) || is_ancestor old a d)
+
+-- the name has another fee where the level has it, and else the level stays
+abbrev pub SetsFeeOf : ℕ → ℤ → OneLevel → OneLevel → Type 0
+SetsFeeOf id fee old new =
+    (is_member old.graph id ≡ true → SetsFee old.graph new.graph id fee) × (is_member old.graph id ≡ false → new ≡ old)
+
+-- the same in both levels
+pub record SetsFeeIn (id : ℕ) (fee : ℤ) (old new : Levels) : Type 0 where
+  pub main : SetsFeeOf id fee old.main new.main
+  pub staged : is_some new.staging ≡ is_some old.staging
+  pub top : SetsFeeOf id fee (level_at old Top) (level_at new Top)
+  pub issued : new.issued ≡ old.issued

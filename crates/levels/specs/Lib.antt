@@ -1,0 +1,14 @@
+pub mod Changes
+pub mod Joins
+pub mod Kept
+pub mod Levels
+pub mod Links
+pub mod Moves
+pub mod Orders
+pub mod Places
+pub mod Rings
+pub mod Settling
+pub mod Shelves
+pub mod Stays
+pub mod Tops
+pub mod Views

@@ -1,0 +1,369 @@
+ghost use Rattle.std.specs.Prelude.{◌≡◌, ◌≢◌, ◌⊎◌, ℕ, ◌+◌, ◌-◌, ◌*◌, ◌^◌, ◌<◌, ◌≤◌, false, true, cond, None, Some, List, ◌∷◌, [], length, is_some, map, Contains, IsSome, IfOk, IfErr, OnOk, OnErr, MatchOption, MatchResult};
+ghost use Rattle.std.specs.FinMap as finmap;
+ghost use Rattle.fee_rate.specs.Limits.{IsFee, IsRate};
+ghost use Rattle.fee_rate.specs.declared.limits.TheConstants.{MAX_TOTAL};
+ghost use Rattle.graphs.specs.Closures.{is_member, is_ancestor, rate_of, AddsPair, SetsFee, DropsPlace, AreLinked};
+ghost use Rattle.graphs.specs.Graphs.{Lists};
+ghost use Rattle.graphs.specs.declared.names.Level.TheVariants.{Main, Top};
+ghost use Rattle.graph_model.specs.declared.names.Refusal.TheVariants.{Memory};
+ghost use Rattle.graph_model.specs.Answers.{order_of, StandsTo};
+ghost use Rattle.cluster.specs.Changes.{AreComponents};
+ghost use Rattle.cluster.specs.Clusters.{IsCluster};
+ghost use Rattle.cluster.specs.Clusters as records;
+ghost use Rattle.cluster.specs.Steps.{GrowsWithin, most_steps, most_steps_of};
+ghost use Rattle.cluster_store.specs.Lent.{lent};
+ghost use Rattle.diagram.specs.Parts.{AreLevelParts};
+ghost use Rattle.levels.specs.Orders.{ComparesParts, ListsCovers, sums_of};
+ghost use Rattle.levels.specs.Levels.{AddsName, ChangesTop, HavePicks, IsBest, IsLive, SetsFeeIn, level_at, no_names};
+ghost use Rattle.levels.specs.Joins.{DepRefusalIs};
+ghost use Rattle.levels.specs.Levels as specs_levels;
+ghost use Rattle.levels.specs.Shelves.{numbers_at};
+ghost use Rattle.levels.specs.Stays.{AllStay};
+ghost use Rattle.graphs.specs.declared.names.Level as graph_level;
+ghost use Rattle.levels.specs.Views.{IsClusterOf};
+
+use crate::moving::{add_name, connect, drop_name};
+use crate::rings::Rings;
+use crate::settling::settle_rings;
+use crate::shelves::Shelves;
+use cluster::{Cluster, Covers, PartRef, Work};
+use cluster_store::{PartWalk, Stored};
+use graph_model::{Level, Limits, Place, Refusal, TxId, Verdict};
+use outside::NoMemory;
+use std::alloc::Global;
+use std::marker::Model;
+use step_count::{Ledger, Steps};
+
+/// The clusters of both levels of a graph, of at most 64·W names each, where W is 1 or 2.
+#[derive(Drop)]
+pub struct Levels<const W: usize> {
+    shelves: Shelves<W>,
+    rings: Rings,
+    // how many names main has, how many the top level, and how many were added so far
+    mains: usize,
+    tops: usize,
+    issued: u64,
+    work: Work<W>,
+}
+
+impl<const W: usize> Model for Levels<W> {
+    ghost use Rattle.levels.specs.Levels.{Levels as Kept, levels_code};
+    ghost use Rattle.levels.specs.Shelves.{levels_of};
+    ghost use Rattle.levels.specs.Kept.{IsKept};
+
+    ghost Value = { Kept };
+
+    ghost coded = { levels_code };
+
+    ghost view = { λ a. levels_of a.shelves a.issued };
+
+    ghost invariant = { λ a. IsKept W a.shelves a.rings a.mains a.tops a.issued };
+}
+
+impl<const W: usize> Levels<W> {
+    /// No name and no staging, with the room in which orders are made.
+    pub fn new(alloc: Global) -> Result<Self, NoMemory>
+        requires wide { 1 ≤ W }
+        requires narrow { W ≤ 2 }
+        ensures { IfOk result (λ levels. levels ≡ no_names) }
+    {
+        Ok(Levels {
+            shelves: Shelves::new(alloc),
+            rings: Rings::new(alloc),
+            mains: 0,
+            tops: 0,
+            issued: 0,
+            work: Work::new(alloc)?,
+        })
+    }
+
+    /// How many names were added so far.
+    pub fn issued(&self) -> u64
+        ensures { result ≡ self.now.issued }
+    {
+        let _shelves = &self.shelves;
+        self.issued
+    }
+
+    /// Whether there is a staging.
+    pub fn is_staged(&self) -> bool
+        ensures { result ≡ is_some self.now.staging }
+    {
+        let _count = self.mains;
+        self.shelves.is_staged()
+    }
+
+    /// How many names a level has.
+    pub fn count(&self, level: Level) -> usize
+        ensures { result ≡ finmap.len (level_at self.now level).graph }
+    {
+        let _shelves = &self.shelves;
+        match level {
+            Level::Main => self.mains,
+            Level::Top => self.tops,
+        }
+    }
+
+    /// How many names the levels have together.
+    pub fn live(&self) -> usize
+        ensures count { (ids : List ℕ) → Lists (IsLive self.now) ids → result ≡ length ids }
+        ensures listed { (ids : List ℕ) × Lists (IsLive self.now) ids × (result ≡ length ids) }
+        ensures few { result ≤ MAX_TOTAL }
+    {
+        let _shelves = &self.shelves;
+        self.rings.len()
+    }
+
+    /// Whether a level has a name.
+    pub fn has(&self, level: Level, id: TxId) -> bool
+        ensures { result ≡ is_member (level_at self.now level).graph id }
+    {
+        let _count = self.mains;
+        self.shelves.number(level, id).is_some()
+    }
+
+    /// The cluster of a name in a level, or `None` where the level hasn't the name.
+    pub fn find(&self, level: Level, id: TxId) -> Option<&Cluster<W>>
+        ensures { MatchOption result (is_member (level_at self.now level).graph id ≡ false)
+            (λ c. (is_member (level_at self.now level).graph id ≡ true)
+            × IsClusterOf (level_at self.now level).graph id c.now × IsCluster (64 * W) c.now) }
+    {
+        let _count = self.mains;
+        match self.shelves.number(level, id) {
+            Some(number) => Some(self.shelves.at(number)),
+            None => None,
+        }
+    }
+
+    /// Adds a name that is in neither level to the top level, with its fee in satoshis and its size in virtual bytes. Without
+    /// memory all stays as it was.
+    pub fn add<L: Ledger>(
+        &mut self,
+        id: TxId,
+        fee: i64,
+        size: u64,
+        steps: &mut Steps<L>,
+    ) -> Result<(), NoMemory>
+        requires absent { IsLive self.old id → ⊥ }
+        requires rate { IsRate (record { fee = fee; size = size }) }
+        requires few { (ids : List ℕ) × Lists (IsLive self.old) ids × (length ids < MAX_TOTAL) }
+        requires issued { self.old.issued < 2 ^ 64 - 1 }
+        ensures added { OnOk result ((new : specs_levels.Levels) × ChangesTop (λ old new. AddsName old new id
+            (record { fee = fee; size = size })) self.old new × (self.new ≡ record new { issued = self.old.issued + 1 })) }
+        ensures picks { HavePicks self.new }
+        ensures stays { AllStay self.old self.new }
+        ensures err { OnErr result (self.new ≡ self.old) }
+        ensures steps { steps.new ≡ steps.old }
+    {
+        add_name(
+            &mut self.shelves,
+            &mut self.rings,
+            id,
+            fee,
+            size,
+            &mut self.work,
+            steps,
+        )?;
+        self.issued += 1;
+        self.tops += 1;
+        self.mains = main_count(self.shelves.is_staged(), self.mains, self.tops);
+        Ok(())
+    }
+
+    /// Makes a name of the top level a parent of another. Where it is an ancestor already nothing changes, and no step is counted.
+    ///
+    /// Refused, by the first of these that holds: `Unknown` with the name where the parent or the child isn't in the top level,
+    /// `Cycle` where the child is an ancestor of the parent, `Count` and `ClusterSize`, with what the cluster would have, where the
+    /// pair would join two to one over a limit, `Memory` where there is none. All stays as it was then.
+    pub fn dep<L: Ledger>(
+        &mut self,
+        limits: &Limits,
+        parent: TxId,
+        child: TxId,
+        steps: &mut Steps<L>,
+    ) -> Result<(), Refusal>
+        requires { limits.now.count ≤ 64 }
+        ensures row { MatchResult result (λ _. DepRefusalIs limits.now (level_at self.old Top).graph parent child None)
+            (λ why. ((why ≡ Memory) × DepRefusalIs limits.now (level_at self.old Top).graph parent child None)
+            ⊎ ((why ≢ Memory) × DepRefusalIs limits.now (level_at self.old Top).graph parent child (Some why))) }
+        ensures linked { OnOk result (ChangesTop (λ old new. AddsPair old new parent child) self.old self.new) }
+        ensures still { is_ancestor (level_at self.old Top).graph parent child ≡ true → (self.new ≡ self.old) × (steps.new ≡ steps.old) }
+        ensures picks { HavePicks self.new }
+        ensures stays { AllStay self.old self.new }
+        ensures err { OnErr result (self.new ≡ self.old) }
+        ensures refused { IfErr result (λ why. why ≢ Memory → steps.new ≡ steps.old) }
+        ensures steps { (ids : List ℕ)
+            → Lists (λ q. AreLinked (level_at self.old Top).graph q parent ⊎ AreLinked (level_at self.old Top).graph q child) ids
+            → GrowsWithin (most_steps (length ids)) steps.old steps.new }
+    {
+        let link = self.shelves.refused_dep(limits, parent, child)?;
+        match connect(
+            &mut self.shelves,
+            &mut self.rings,
+            link,
+            parent,
+            child,
+            &mut self.work,
+            steps,
+        ) {
+            Ok(()) => Ok(()),
+            Err(NoMemory) => Err(Refusal::Memory),
+        }
+    }
+
+    /// Gives a name another fee, in satoshis, in each level that has it. A fee that is the same changes nothing. Without memory all
+    /// stays as it was.
+    pub fn set_fee<L: Ledger>(
+        &mut self,
+        id: TxId,
+        fee: i64,
+        steps: &mut Steps<L>,
+    ) -> Result<(), NoMemory>
+        requires live { IsLive self.old id }
+        requires fee { IsFee fee }
+        requires one { is_member self.old.main.graph id ≡ true → is_member (level_at self.old Top).graph id ≡ true
+            → rate_of self.old.main.graph id ≡ rate_of (level_at self.old Top).graph id }
+        ensures fee { OnOk result (SetsFeeIn id fee self.old self.new) }
+        ensures still { ((level : graph_level.Level) → is_member (level_at self.old level).graph id ≡ true
+            → (rate_of (level_at self.old level).graph id).fee ≡ fee) → (self.new ≡ self.old) × (steps.new ≡ steps.old) }
+        ensures picks { HavePicks self.new }
+        ensures stays { AllStay self.old self.new }
+        ensures err { OnErr result (self.new ≡ self.old) }
+        ensures grew { steps.old ≤ steps.new }
+        ensures alone { self.old.staging ≡ None → (ids : List ℕ) → Lists (AreLinked self.old.main.graph id) ids
+            → GrowsWithin (most_steps (length ids)) steps.old steps.new }
+        ensures steps { (mains tops : List ℕ) → Lists (AreLinked self.old.main.graph id) mains
+            → Lists (AreLinked (level_at self.old Top).graph id) tops
+            → steps.new ≤ steps.old + most_steps (length mains) + most_steps (length tops) }
+    {
+        let _count = self.mains;
+        self.shelves.set_fee(id, fee, &mut self.work, steps)
+    }
+
+    /// Drops a name of the top level. The others keep the ancestors that they had among them. Without memory all stays as it was.
+    pub fn remove<L: Ledger>(&mut self, id: TxId, steps: &mut Steps<L>) -> Result<(), NoMemory>
+        requires { is_member (level_at self.old Top).graph id ≡ true }
+        ensures dropped { OnOk result (ChangesTop (λ old new. DropsPlace old new id) self.old self.new) }
+        ensures picks { HavePicks self.new }
+        ensures stays { AllStay self.old self.new }
+        ensures err { OnErr result (self.new ≡ self.old) }
+        ensures grew { steps.old ≤ steps.new }
+        ensures steps { (c : records.Cluster) (lists : List (List ℕ)) → IsClusterOf (level_at self.old Top).graph id c
+            → AreComponents c.graph (id ∷ []) lists → steps.new ≤ steps.old + most_steps_of lists }
+    {
+        let number = top_number(&self.shelves, id);
+        drop_name(
+            &mut self.shelves,
+            &mut self.rings,
+            number,
+            id,
+            &mut self.work,
+            steps,
+        )?;
+        self.tops -= 1;
+        self.mains = main_count(self.shelves.is_staged(), self.mains, self.tops);
+        Ok(())
+    }
+
+    /// Opens a staging that is as main is. Takes no memory.
+    pub fn stage(&mut self)
+        requires { self.old.staging ≡ None }
+        ensures { self.new ≡ record self.old { staging = Some self.old.main } }
+    {
+        self.shelves.begin();
+        self.tops = self.mains;
+    }
+
+    /// Makes main what staging is, and closes it. Takes no memory.
+    pub fn commit(&mut self)
+        requires { IsSome self.old.staging }
+        ensures { self.new ≡ record self.old { main = level_at self.old Top; staging = None } }
+    {
+        self.shelves.close(Level::Top, self.rings.touched());
+        settle_rings(&mut self.rings, &self.shelves);
+        self.mains = self.tops;
+    }
+
+    /// Closes staging; main stays as it is. Takes no memory.
+    pub fn abort(&mut self)
+        requires { IsSome self.old.staging }
+        ensures { self.new ≡ record self.old { staging = None } }
+    {
+        self.shelves.close(Level::Main, self.rings.touched());
+        settle_rings(&mut self.rings, &self.shelves);
+        self.tops = self.mains;
+    }
+}
+
+impl<const W: usize> Levels<W> {
+    /// The parts of a level in its order, from the first. Takes no memory.
+    pub fn parts(&self, level: Level) -> PartWalk<'_, Stored<W>>
+        ensures parts { map (λ s. s.part) result ≡ (level_at self.now level).parts }
+        ensures best { IsBest (level_at self.now level) }
+        ensures rates { (id : ℕ) → is_member (level_at self.now level).graph id ≡ true
+            → IsRate (rate_of (level_at self.now level).graph id) }
+        ensures level { AreLevelParts (sums_of (level_at self.now level).parts) }
+    {
+        let _count = self.mains;
+        self.shelves.parts(level)
+    }
+
+    /// The part of main that has a name, or `None` where main hasn't the name. Takes no memory.
+    pub fn chunk(&self, id: TxId) -> Option<PartRef<'_>>
+        ensures { MatchOption result (is_member self.now.main.graph id ≡ false)
+            (λ part. (is_member self.now.main.graph id ≡ true) × Contains self.now.main.parts (lent part)
+            × Contains (lent part).ids id) }
+    {
+        let _count = self.mains;
+        self.shelves.chunk(id)
+    }
+
+    /// Where one name of main stands to another in its order. Takes no memory.
+    pub fn place(&self, a: TxId, b: TxId) -> Place
+        requires a { is_member self.now.main.graph a ≡ true }
+        requires b { is_member self.now.main.graph b ≡ true }
+        ensures { StandsTo (order_of self.now.main.parts) a b result }
+    {
+        let _count = self.mains;
+        self.shelves.place(a, b)
+    }
+
+    /// The parents of a name of a level with nothing between, as they stand in its order. Takes no memory.
+    pub fn covers(&self, level: Level, id: TxId) -> Covers<'_, W>
+        requires { is_member (level_at self.now level).graph id ≡ true }
+        ensures { ListsCovers (level_at self.now level).graph (order_of (level_at self.now level).parts) id result }
+    {
+        let _count = self.mains;
+        self.shelves.covers(level, id)
+    }
+
+    /// How staging stands to main, by their diagrams. It costs the parts that stand in one level alone, where the last part of each
+    /// level that has one has a fee of at least 0, and else all parts. Takes no memory.
+    pub fn compare(&self) -> Verdict
+        requires { IsSome self.now.staging }
+        ensures verdict { ComparesParts self.now.main.parts (level_at self.now Top).parts result }
+        ensures rates { (level : graph_level.Level) (id : ℕ) → is_member (level_at self.now level).graph id ≡ true
+            → IsRate (rate_of (level_at self.now level).graph id) }
+    {
+        let _count = self.mains;
+        self.shelves.compare()
+    }
+}
+
+// How many names main has, by how many it had and how many the top level has: without a staging the two are one.
+fn main_count(staged: bool, mains: usize, tops: usize) -> usize
+    ensures { result ≡ cond staged mains tops }
+{
+    if staged { mains } else { tops }
+}
+
+// The number of the cluster of a name that the top level has.
+fn top_number<const W: usize>(shelves: &Shelves<W>, id: TxId) -> usize
+    requires { IsSome (finmap.get (numbers_at Top shelves.now) id) }
+    ensures { finmap.get (numbers_at Top shelves.now) id ≡ Some result }
+{
+    match shelves.number(Level::Top, id) {
+        Some(number) => number,
+        None => unreachable!(),
+    }
+}

@@ -1,0 +1,26 @@
+//! The clusters of both levels of a transaction graph, main and staging where there is one.
+//!
+//! `Shelves` has each cluster under a number, and for each level the number of each name's cluster: contracts see of a level the
+//! clusters that stand in it, the numbers of its names, and the graph that these make. A cluster that serves both levels is kept
+//! once. What changes in the top level leaves main as it is while there is a staging, at the cost of the clusters that change: one
+//! that main keeps isn't changed, another takes its place under a number of its own. `Rings` has the names of both levels, those of
+//! one cluster of main in a ring, and those that staging touched in another.
+#![tactic(auto)]
+
+mod changes;
+mod comparing;
+mod levels;
+mod links;
+mod moving;
+mod numbers;
+mod rates;
+mod readings;
+mod rings;
+mod settling;
+mod shelves;
+mod stored;
+#[cfg(test)]
+mod tests;
+
+pub use levels::Levels;
+pub use rates::Rates;

@@ -1,0 +1,227 @@
+//! Changes of the shelves together with the rings.
+ghost use Rattle.std.specs.Prelude.{◌≡◌, ◌⊎◌, ◌↔◌, ℕ, ◌+◌, ◌-◌, ◌^◌, ◌<◌, ◌≤◌, true, Some, List, ◌∷◌, [], length, is_some, OnOk, OnErr};
+ghost use Rattle.std.specs.FinMap as finmap;
+ghost use Rattle.std.specs.FinSet as set;
+ghost use Rattle.fee_rate.specs.Limits.{IsRate};
+ghost use Rattle.fee_rate.specs.declared.limits.TheConstants.{MAX_TOTAL};
+ghost use Rattle.graphs.specs.declared.names.Level.TheVariants.{Main, Top};
+ghost use Rattle.graphs.specs.Closures.{is_ancestor, AreLinked};
+ghost use Rattle.graphs.specs.Graphs.{Lists};
+ghost use Rattle.cluster.specs.Changes.{AreComponents};
+ghost use Rattle.std.specs.List.{AllPairs};
+ghost use Rattle.cluster.specs.Clusters.{AreApart};
+ghost use Rattle.cluster.specs.Clusters as records;
+ghost use Rattle.cluster.specs.Steps.{GrowsWithin, most_steps, most_steps_of};
+ghost use Rattle.name_book.specs.Books.{IsNamed};
+ghost use Rattle.levels.specs.Changes.{AreAt};
+ghost use Rattle.levels.specs.Changes as changes;
+ghost use Rattle.levels.specs.Kept.{SuitsShelf};
+ghost use Rattle.levels.specs.Links.{IsLink};
+ghost use Rattle.levels.specs.Moves.{AddsOne, Connects, DropsName, JoinsTwo, LinksOne};
+ghost use Rattle.levels.specs.Rings.{AreNamedOnce, IsMarked, LeftMain, ShareMain};
+ghost use Rattle.levels.specs.Shelves.{IsInOrder, numbers_at, stored_at, view_of};
+ghost use Rattle.levels.specs.Views.{graph_of, IsClusterOf};
+
+use crate::links::Link;
+use crate::rings::Rings;
+use crate::shelves::Shelves;
+use cluster::{Cluster, Work};
+use graph_model::{Level, TxId};
+use outside::NoMemory;
+use step_count::{Ledger, Steps};
+
+/// Adds a name that is in neither level to the top level, alone in a cluster, with its fee in satoshis and its size in virtual bytes.
+/// Without memory all stays as it was, but for room that was made.
+pub(crate) fn add_name<const W: usize, L: Ledger>(
+    shelves: &mut Shelves<W>,
+    rings: &mut Rings,
+    id: TxId,
+    fee: i64,
+    size: u64,
+    work: &mut Work<W>,
+    steps: &mut Steps<L>,
+) -> Result<(), NoMemory>
+    requires order { IsInOrder W shelves.old }
+    requires right { SuitsShelf rings.old shelves.old }
+    requires absent { IsNamed rings.old.book id → ⊥ }
+    requires rate { IsRate (record { fee = fee; size = size }) }
+    requires few { set.len rings.old.book.names < MAX_TOTAL }
+    requires issued { rings.old.book.issued < 2 ^ 64 - 1 }
+    ensures added { OnOk result (AddsOne W id (record { fee = fee; size = size }) shelves.old shelves.new) }
+    ensures order { IsInOrder W shelves.new }
+    ensures right { SuitsShelf rings.new shelves.new }
+    ensures names { OnOk result ((set.len rings.new.book.names ≡ set.len rings.old.book.names + 1)
+        × (rings.new.book.issued ≡ rings.old.book.issued + 1)) }
+    ensures err { OnErr result ((shelves.new ≡ shelves.old) × (set.len rings.new.book.names ≡ set.len rings.old.book.names)
+        × (rings.new.book.issued ≡ rings.old.book.issued)) }
+    ensures steps { steps.new ≡ steps.old }
+{
+    rings.reserve()?;
+    let cluster = Cluster::single(shelves.alloc, id, fee, size, work, steps)?;
+    shelves.add(id, cluster)?;
+    rings.add(id, shelves.is_staged());
+    Ok(())
+}
+
+/// Makes a name of the top level a parent of another of its cluster. Without memory all stays as it was.
+pub(crate) fn link<const W: usize, L: Ledger>(
+    shelves: &mut Shelves<W>,
+    rings: &mut Rings,
+    number: usize,
+    parent: TxId,
+    child: TxId,
+    work: &mut Work<W>,
+    steps: &mut Steps<L>,
+) -> Result<(), NoMemory>
+    requires order { IsInOrder W shelves.old }
+    requires right { SuitsShelf rings.old shelves.old }
+    requires link { IsLink W shelves.old parent child (Link.Within number) }
+    ensures linked { OnOk result (LinksOne W number parent child shelves.old shelves.new) }
+    ensures order { IsInOrder W shelves.new }
+    ensures right { SuitsShelf rings.new shelves.new }
+    ensures staged { is_some shelves.new.staging ≡ is_some shelves.old.staging }
+    ensures names { (set.len rings.new.book.names ≡ set.len rings.old.book.names) × (rings.new.book.issued ≡ rings.old.book.issued) }
+    ensures err { OnErr result ((shelves.new ≡ shelves.old) × (rings.new ≡ rings.old)) }
+    ensures steps { (ids : List ℕ)
+        → Lists (λ q. AreLinked (graph_of (view_of Top shelves.old)) q parent ⊎ AreLinked (graph_of (view_of Top shelves.old)) q child) ids
+        → GrowsWithin (most_steps (length ids)) steps.old steps.new }
+{
+    shelves.link(number, parent, child, work, steps)?;
+    touch_left(shelves, rings, number);
+    Ok(())
+}
+
+/// Makes a name of the top level a parent of another of another cluster, and so one cluster of both. Without memory all stays as it was.
+pub(crate) fn join<const W: usize, L: Ledger>(
+    shelves: &mut Shelves<W>,
+    rings: &mut Rings,
+    above: usize,
+    below: usize,
+    parent: TxId,
+    child: TxId,
+    work: &mut Work<W>,
+    steps: &mut Steps<L>,
+) -> Result<(), NoMemory>
+    requires order { IsInOrder W shelves.old }
+    requires right { SuitsShelf rings.old shelves.old }
+    requires link { IsLink W shelves.old parent child (Link.Between above below) }
+    ensures joined { OnOk result (JoinsTwo W above below parent child shelves.old shelves.new) }
+    ensures order { IsInOrder W shelves.new }
+    ensures right { SuitsShelf rings.new shelves.new }
+    ensures staged { is_some shelves.new.staging ≡ is_some shelves.old.staging }
+    ensures names { (set.len rings.new.book.names ≡ set.len rings.old.book.names) × (rings.new.book.issued ≡ rings.old.book.issued) }
+    ensures err { OnErr result ((shelves.new ≡ shelves.old) × (rings.new ≡ rings.old)) }
+    ensures steps { (ids : List ℕ)
+        → Lists (λ q. AreLinked (graph_of (view_of Top shelves.old)) q parent ⊎ AreLinked (graph_of (view_of Top shelves.old)) q child) ids
+        → GrowsWithin (most_steps (length ids)) steps.old steps.new }
+{
+    shelves.join(above, below, parent, child, work, steps)?;
+    if shelves.is_staged() {
+        touch_left(shelves, rings, above);
+        touch_left(shelves, rings, below);
+    } else {
+        rings.join(parent, child);
+    }
+    Ok(())
+}
+
+/// Makes a name of the top level a parent of another, where `link` says how they stand. A parent that is an ancestor already changes
+/// nothing. Without memory all stays as it was.
+pub(crate) fn connect<const W: usize, L: Ledger>(
+    shelves: &mut Shelves<W>,
+    rings: &mut Rings,
+    link: Link,
+    parent: TxId,
+    child: TxId,
+    work: &mut Work<W>,
+    steps: &mut Steps<L>,
+) -> Result<(), NoMemory>
+    requires order { IsInOrder W shelves.old }
+    requires right { SuitsShelf rings.old shelves.old }
+    requires link { IsLink W shelves.old parent child link }
+    ensures linked { OnOk result (Connects W parent child shelves.old shelves.new) }
+    ensures still { is_ancestor (graph_of (view_of Top shelves.old)) parent child ≡ true
+        → (shelves.new ≡ shelves.old) × (rings.new ≡ rings.old) × (steps.new ≡ steps.old) }
+    ensures order { IsInOrder W shelves.new }
+    ensures right { SuitsShelf rings.new shelves.new }
+    ensures staged { is_some shelves.new.staging ≡ is_some shelves.old.staging }
+    ensures names { (set.len rings.new.book.names ≡ set.len rings.old.book.names) × (rings.new.book.issued ≡ rings.old.book.issued) }
+    ensures err { OnErr result ((shelves.new ≡ shelves.old) × (rings.new ≡ rings.old)) }
+    ensures steps { (ids : List ℕ)
+        → Lists (λ q. AreLinked (graph_of (view_of Top shelves.old)) q parent ⊎ AreLinked (graph_of (view_of Top shelves.old)) q child) ids
+        → GrowsWithin (most_steps (length ids)) steps.old steps.new }
+{
+    match link {
+        Link::There => Ok(()),
+        Link::Within(number) => self::link(shelves, rings, number, parent, child, work, steps),
+        Link::Between(above, below) => join(
+            shelves, rings, above, below, parent, child, work, steps,
+        ),
+    }
+}
+
+/// Drops a name of the top level. The others keep the ancestors that they had among them. Without memory all stays as it was.
+pub(crate) fn drop_name<const W: usize, L: Ledger>(
+    shelves: &mut Shelves<W>,
+    rings: &mut Rings,
+    number: usize,
+    id: TxId,
+    work: &mut Work<W>,
+    steps: &mut Steps<L>,
+) -> Result<(), NoMemory>
+    requires order { IsInOrder W shelves.old }
+    requires right { SuitsShelf rings.old shelves.old }
+    requires number { finmap.get (numbers_at Top shelves.old) id ≡ Some number }
+    ensures dropped { OnOk result ((made : List ℕ) × DropsName W number id made shelves.old shelves.new) }
+    ensures order { IsInOrder W shelves.new }
+    ensures right { SuitsShelf rings.new shelves.new }
+    ensures staged { is_some shelves.new.staging ≡ is_some shelves.old.staging }
+    ensures names { (set.len rings.new.book.names ≤ set.len rings.old.book.names) × (rings.new.book.issued ≡ rings.old.book.issued) }
+    ensures err { OnErr result ((shelves.new ≡ shelves.old) × (rings.new ≡ rings.old)) }
+    ensures grew { steps.old ≤ steps.new }
+    ensures steps { (c : records.Cluster) (lists : List (List ℕ)) → IsClusterOf (graph_of (view_of Top shelves.old)) id c
+        → AreComponents c.graph (id ∷ []) lists → steps.new ≤ steps.old + most_steps_of lists }
+{
+    let made = shelves.remove(number, id, work, steps)?;
+    touch_left(shelves, rings, number);
+    if !shelves.is_staged() {
+        rings.forget(id);
+        part_all(rings, shelves, made.as_slice());
+    } else if shelves.number(Level::Main, id).is_none() {
+        rings.forget(id);
+    }
+    Ok(())
+}
+
+/// Touches the names of a cluster of main that the top level has left.
+fn touch_left<const W: usize>(shelves: &Shelves<W>, rings: &mut Rings, number: usize)
+    requires order { IsInOrder W shelves.now }
+    requires untouched { (x : ℕ) → LeftMain shelves.now number x → IsNamed rings.old.book x × (IsMarked rings.old x → ⊥) }
+    ensures names { rings.new.book.names ≡ rings.old.book.names }
+    ensures main { (x y : ℕ) → ShareMain rings.new x y ↔ ShareMain rings.old x y }
+    ensures touched { (x : ℕ) → IsMarked rings.new x ↔ (IsMarked rings.old x ⊎ LeftMain shelves.now number x) }
+    ensures issued { rings.new.book.issued ≡ rings.old.book.issued }
+{
+    if shelves.is_left(number) {
+        rings.touch_all(shelves.at(number).names());
+    }
+}
+
+/// Makes rings of main of the names of some clusters, a ring of each.
+fn part_all<const W: usize>(rings: &mut Rings, shelves: &Shelves<W>, list: &[usize])
+    requires order { IsInOrder W shelves.now }
+    requires clusters { (clusters : List records.Cluster) × AreAt (stored_at shelves.now.store.clusters) list.now clusters }
+    requires live { (clusters : List records.Cluster) (x : ℕ) → AreAt (stored_at shelves.now.store.clusters) list.now clusters
+        → changes.IsNamed clusters x → IsNamed rings.old.book x }
+    requires apart { (clusters : List records.Cluster) → AreAt (stored_at shelves.now.store.clusters) list.now clusters → AllPairs AreApart clusters }
+    ensures names { rings.new.book.names ≡ rings.old.book.names }
+    ensures main { (clusters : List records.Cluster) (x y : ℕ) → AreAt (stored_at shelves.now.store.clusters) list.now clusters
+        → ShareMain rings.new x y ↔ ((ShareMain rings.old x y × (changes.IsNamed clusters x → ⊥) × (changes.IsNamed clusters y → ⊥))
+        ⊎ AreNamedOnce clusters x y) }
+    ensures touched { (x : ℕ) → IsMarked rings.new x ↔ IsMarked rings.old x }
+    ensures issued { rings.new.book.issued ≡ rings.old.book.issued }
+{
+    for number in list {
+        rings.part(shelves.at(*number).names());
+    }
+}

@@ -1,0 +1,350 @@
+ghost use Rattle.std.specs.Prelude.{◌≡◌, ◌≢◌, ◌++◌, ℕ, ◌+◌, ◌*◌, ◌^◌, ◌<◌, ◌≤◌, true, false, None, Some, List, [], ◌∷◌, length, is_some, Contains, IsSome, IfOk, OnOk, OnErr, MatchOption, IfSome, unwrap_or, IsTrue, sum_by, ◌↔◌};
+ghost use Rattle.std.specs.List.{AllPairs};
+ghost use Rattle.std.specs.FinMap as finmap;
+ghost use Rattle.graphs.specs.declared.names.Level as levels;
+ghost use Rattle.graphs.specs.declared.names.Level.TheVariants.{Main, Top};
+ghost use Rattle.chunk_index.specs.declared.entry.Tag.TheVariants.{MainOnly};
+ghost use Rattle.staging.specs.Maps.{top_of};
+ghost use Rattle.graphs.specs.Closures.{is_member};
+ghost use Rattle.cluster.specs.Clusters.{IsCluster, AreApart};
+ghost use Rattle.cluster_store.specs.Stores.{IsStore};
+ghost use Rattle.cluster.specs.Clusters as records;
+ghost use Rattle.levels.specs.Changes.{IsNamed};
+ghost use Rattle.levels.specs.Tops.{AreSettledOrSame, AreTold, ExchangedAt, IsSettledAt, Settles, TopRebuilds};
+ghost use Rattle.levels.specs.Shelves.{IsInOrder, no_clusters, numbers_at, seen_at, stored_at, tag_at, view_of, IsTouched};
+ghost use Rattle.levels.specs.Views.{graph_of, IsClusterOf};
+
+use crate::numbers::{live_number, number_of, point, point_all};
+use crate::stored::{at, come_in, come_together, new_tag, put_apart, settle, tag_of};
+use chunk_index::Tag;
+use cluster::Cluster;
+use cluster_store::{ClusterStore, Exchange, Stored};
+use graph_model::{Level, TxId};
+use name_book::RingNames;
+use outside::NoMemory;
+use staging::Overlay;
+use std::alloc::Global;
+use std::marker::Model;
+
+/// The clusters of both levels, each under a number, and for each level the number of each name's cluster.
+#[derive(Drop)]
+pub struct Shelves<const W: usize> {
+    pub(crate) alloc: Global,
+    numbers: Overlay<usize>,
+    store: ClusterStore<W>,
+}
+
+impl<const W: usize> Model for Shelves<W> {
+    ghost use Rattle.levels.specs.Shelves.{Shelf, shelf_code, IsInOrder};
+
+    ghost Value = { Shelf };
+
+    ghost coded = { shelf_code };
+
+    ghost view = { λ a. record { main = a.numbers.base; staging = a.numbers.top; store = a.store } };
+
+    ghost invariant = { λ a. IsInOrder W (record { main = a.numbers.base; staging = a.numbers.top; store = a.store }) };
+}
+
+impl<const W: usize> Shelves<W> {
+    /// No cluster and no name. Takes no memory.
+    pub fn new(alloc: Global) -> Self
+        requires wide { 1 ≤ W }
+        requires narrow { W ≤ 2 }
+        ensures empty { result ≡ no_clusters }
+        ensures order { IsInOrder W result }
+    {
+        Shelves {
+            alloc,
+            numbers: Overlay::new(alloc),
+            store: ClusterStore::new(alloc),
+        }
+    }
+
+    /// Whether there is a staging.
+    pub fn is_staged(&self) -> bool
+        ensures { result ≡ is_some self.now.staging }
+    {
+        let _store = &self.store;
+        self.numbers.staged()
+    }
+
+    /// The number of the cluster of a name in a level, or `None` where the level hasn't the name.
+    pub fn number(&self, level: Level, id: TxId) -> Option<usize>
+        ensures number { result ≡ finmap.get (numbers_at level self.now) id }
+        ensures stands { IfSome result (λ number. (c : records.Cluster)
+            × (seen_at level self.now.store.clusters number ≡ Some c) × Contains c.names id) }
+    {
+        let _store = &self.store;
+        number_of(&self.numbers, level, id)
+    }
+
+    /// The cluster of a number that has one.
+    pub fn at(&self, number: usize) -> &Cluster<W>
+        requires { IsSome (stored_at self.now.store.clusters number) }
+        ensures { stored_at self.now.store.clusters number ≡ Some result.now }
+    {
+        let _numbers = &self.numbers;
+        at(&self.store, number)
+    }
+
+    /// The clusters under their numbers, and the parts of all of them in one order.
+    pub(crate) fn store(&self) -> &ClusterStore<W>
+        ensures { result.now ≡ self.now.store }
+    {
+        let _numbers = &self.numbers;
+        &self.store
+    }
+
+    /// The levels that the cluster of a number stands in.
+    pub fn tag(&self, number: usize) -> Tag
+        requires { IsSome (stored_at self.now.store.clusters number) }
+        ensures { tag_at self.now.store.clusters number ≡ Some result }
+    {
+        let _numbers = &self.numbers;
+        tag_of(&self.store, number)
+    }
+
+    /// Whether main alone has the cluster of a number: staging has left it.
+    pub fn is_left(&self, number: usize) -> bool
+        ensures { IsTrue result ↔ (tag_at self.now.store.clusters number ≡ Some MainOnly) }
+    {
+        let _numbers = &self.numbers;
+        self.store.tag(number) == Some(Tag::MainOnly)
+    }
+
+    /// Puts the cluster of a new name into the top level. Without memory all stays as it was.
+    pub fn add(&mut self, id: TxId, cluster: Cluster<W>) -> Result<(), NoMemory>
+        requires name { cluster.names ≡ id ∷ [] }
+        requires whole { IsCluster (64 * W) cluster }
+        requires main { finmap.get (numbers_at Main self.old) id ≡ None }
+        requires top { finmap.get (numbers_at Top self.old) id ≡ None }
+        ensures top { OnOk result ((made : ℕ) × TopRebuilds W [] (made ∷ []) [] (cluster.entry ∷ []) [] self.old self.new) }
+        ensures err { OnErr result (self.new ≡ self.old) }
+        ensures order { IsInOrder W self.new }
+    {
+        self.numbers.reserve(1)?;
+        let tag = new_tag(self.numbers.staged());
+        let number = self.store.add(Stored::new(cluster, tag))?;
+        self.numbers.put(id, number);
+        Ok(())
+    }
+
+    /// Puts a cluster of the same names in the place of the one of a number in the top level. Without memory all stays as it was.
+    pub(crate) fn exchange(&mut self, number: usize, cluster: Cluster<W>) -> Result<(), NoMemory>
+        requires whole { IsCluster (64 * W) cluster }
+        requires there { (c : records.Cluster) × (seen_at Top self.old.store.clusters number ≡ Some c) × (cluster.names ≡ c.names) }
+        ensures top { OnOk result ((c : records.Cluster) × (made : ℕ) × (seen_at Top self.old.store.clusters number ≡ Some c)
+            × TopRebuilds W (number ∷ []) (made ∷ []) (c ∷ []) (cluster.entry ∷ []) [] self.old self.new) }
+        ensures err { OnErr result (self.new ≡ self.old) }
+        ensures order { IsInOrder W self.new }
+    {
+        let staged = self.numbers.staged();
+        self.numbers.reserve(cluster.names().len())?;
+        let made = come_in(&mut self.store, staged, number, cluster)?;
+        if made != number {
+            point(&mut self.numbers, at(&self.store, made).names(), made);
+        }
+        Ok(())
+    }
+
+    /// Puts one cluster in the place of two of the top level; its names are those of the first and then those of the second.
+    /// Without memory all stays as it was.
+    pub(crate) fn fuse(
+        &mut self,
+        first: usize,
+        second: usize,
+        joined: Cluster<W>,
+    ) -> Result<(), NoMemory>
+        requires whole { IsCluster (64 * W) joined }
+        requires apart { first ≢ second }
+        requires there { (a b : records.Cluster) × (seen_at Top self.old.store.clusters first ≡ Some a)
+            × (seen_at Top self.old.store.clusters second ≡ Some b) × (joined.names ≡ a.names ++ b.names) }
+        ensures top { OnOk result ((a b : records.Cluster) × (made : ℕ) × (seen_at Top self.old.store.clusters first ≡ Some a)
+            × (seen_at Top self.old.store.clusters second ≡ Some b)
+            × TopRebuilds W (first ∷ second ∷ []) (made ∷ []) (a ∷ b ∷ []) (joined.entry ∷ []) [] self.old self.new) }
+        ensures err { OnErr result (self.new ≡ self.old) }
+        ensures order { IsInOrder W self.new }
+    {
+        let staged = self.numbers.staged();
+        let behind = at(&self.store, first).names().len();
+        self.numbers.reserve(joined.names().len())?;
+        let made = come_together(&mut self.store, staged, first, second, joined)?;
+        let from = if made == first { behind } else { 0 };
+        point(
+            &mut self.numbers,
+            at(&self.store, made).names().split_at(from).1,
+            made,
+        );
+        Ok(())
+    }
+
+    /// Takes a name out of the top level and puts what is left of its cluster in the place of that one, the last under its number
+    /// where that may be. Answers the numbers of the others, which were free. Without memory all stays as it was.
+    pub(crate) fn split(
+        &mut self,
+        number: usize,
+        id: TxId,
+        left: Vec<Cluster<W>>,
+    ) -> Result<Vec<usize>, NoMemory>
+        requires whole { (c : records.Cluster) → Contains left.items c → IsCluster (64 * W) c }
+        requires apart { AllPairs AreApart left.items }
+        requires there { (c : records.Cluster) × (seen_at Top self.old.store.clusters number ≡ Some c) × Contains c.names id
+            × ((q : ℕ) → IsNamed left.items q ↔ (Contains c.names q × (q ≢ id))) }
+        ensures top { IfOk result (λ made. (c : records.Cluster) × (all : List ℕ) × (seen_at Top self.old.store.clusters number ≡ Some c)
+            × TopRebuilds W (number ∷ []) all (c ∷ []) left.entry.items (id ∷ []) self.old self.new
+            × AreTold number left.entry.items all made.items) }
+        ensures err { OnErr result (self.new ≡ self.old) }
+        ensures order { IsInOrder W self.new }
+    {
+        let staged = self.numbers.staged();
+        let few = name_count(left.as_slice())?;
+        self.numbers.reserve(few)?;
+        let made = put_apart(self.alloc, &mut self.store, staged, number, left)?;
+        self.numbers.remove(id);
+        point_all(&mut self.numbers, &self.store, made.as_slice());
+        Ok(made)
+    }
+}
+
+impl<const W: usize> Shelves<W> {
+    /// Gives a cluster that serves the levels under one number another of the same names. Without memory all stays as it was.
+    pub(crate) fn exchange_shared(
+        &mut self,
+        number: usize,
+        cluster: Cluster<W>,
+    ) -> Result<(), NoMemory>
+        requires whole { IsCluster (64 * W) cluster }
+        requires there { (c : records.Cluster) × (stored_at self.old.store.clusters number ≡ Some c) × (cluster.names ≡ c.names) }
+        ensures levels { (level : levels.Level) → OnOk result (ExchangedAt W number cluster.entry level self.old self.new) }
+        ensures numbers { (self.new.main ≡ self.old.main) × (self.new.staging ≡ self.old.staging) }
+        ensures err { OnErr result (self.new ≡ self.old) }
+        ensures order { IsInOrder W self.new }
+    {
+        let _numbers = &self.numbers;
+        self.store.exchange(number, cluster)
+    }
+
+    /// Gives two clusters, the one of main alone and the other of the top level alone, others of the same names. Without memory all
+    /// stays as it was.
+    pub(crate) fn exchange_both(
+        &mut self,
+        main: usize,
+        new_main: Cluster<W>,
+        top: usize,
+        new_top: Cluster<W>,
+    ) -> Result<(), NoMemory>
+        requires narrow { W ≤ 2 }
+        requires apart { main ≢ top }
+        requires whole_main { IsCluster (64 * W) new_main }
+        requires whole_top { IsCluster (64 * W) new_top }
+        requires main { (c : records.Cluster) × (seen_at Main self.old.store.clusters main ≡ Some c)
+            × (seen_at Top self.old.store.clusters main ≡ None) × (new_main.names ≡ c.names) }
+        requires top { (c : records.Cluster) × (seen_at Top self.old.store.clusters top ≡ Some c)
+            × (seen_at Main self.old.store.clusters top ≡ None) × (new_top.names ≡ c.names) }
+        ensures main { OnOk result (ExchangedAt W main new_main.entry Main self.old self.new) }
+        ensures top { OnOk result (ExchangedAt W top new_top.entry Top self.old self.new) }
+        ensures numbers { (self.new.main ≡ self.old.main) × (self.new.staging ≡ self.old.staging) }
+        ensures err { OnErr result (self.new ≡ self.old) }
+        ensures order { IsInOrder W self.new }
+    {
+        let _numbers = &self.numbers;
+        let mut exchanged = Vec::with_capacity(self.alloc, 2)?;
+        exchanged.push_reserved(Exchange::new(main, new_main));
+        exchanged.push_reserved(Exchange::new(top, new_top));
+        self.store.change(exchanged, Vec::new(self.alloc), &[])?;
+        Ok(())
+    }
+
+    /// Opens a staging that is as main is. Takes no memory.
+    pub fn begin(&mut self)
+        requires { self.old.staging ≡ None }
+        ensures staged { self.new ≡ record self.old { staging = Some self.old.main } }
+        ensures order { IsInOrder W self.new }
+    {
+        let _store = &self.store;
+        match self.numbers.begin() {
+            Ok(()) => {}
+            Err(_) => unreachable!(),
+        }
+    }
+
+    /// Closes the staging: the level of the word is main then, and its clusters are all that are left. Takes no memory. `touched`
+    /// has at least the names whose clusters the levels don't share.
+    pub fn close(&mut self, stays: Level, touched: Option<RingNames<'_>>)
+        requires staged { IsSome self.old.staging }
+        requires touched { (id : ℕ) → IsTouched self.old id → Contains (unwrap_or touched []) id }
+        ensures main { self.new.main ≡ numbers_at stays self.old }
+        ensures staging { self.new.staging ≡ None }
+        ensures seen { (n : ℕ) → seen_at Main self.new.store.clusters n ≡ seen_at stays self.old.store.clusters n }
+        ensures order { IsInOrder W self.new }
+    {
+        settle_touched(&self.numbers, &mut self.store, stays, touched);
+        match stays {
+            Level::Main => self.numbers.abort(),
+            Level::Top => self.numbers.commit(),
+        }
+    }
+}
+
+/// Settles the clusters of some names, if there are any, where a staging is closed.
+fn settle_touched<const W: usize>(
+    numbers: &Overlay<usize>,
+    store: &mut ClusterStore<W>,
+    stays: Level,
+    touched: Option<RingNames<'_>>,
+)
+    ensures settles { Settles stays (unwrap_or touched.entry []) numbers.now store.old.clusters store.new.clusters }
+    ensures store { IsStore (64 * W) store.old → IsStore (64 * W) store.new }
+{
+    if let Some(names) = touched {
+        settle_names(numbers, store, stays, names);
+    }
+}
+
+/// Settles the clusters of some names, where a staging is closed.
+fn settle_names<const W: usize>(
+    numbers: &Overlay<usize>,
+    store: &mut ClusterStore<W>,
+    stays: Level,
+    names: RingNames<'_>,
+)
+    ensures settles { Settles stays names.entry numbers.now store.old.clusters store.new.clusters }
+    ensures store { IsStore (64 * W) store.old → IsStore (64 * W) store.new }
+{
+    for id in names {
+        settle_name(numbers, store, stays, id);
+    }
+}
+
+/// Settles the clusters of a name, where a staging is closed.
+fn settle_name<const W: usize>(
+    numbers: &Overlay<usize>,
+    store: &mut ClusterStore<W>,
+    stays: Level,
+    id: TxId,
+)
+    ensures main { IfSome (finmap.get numbers.now.base id) (λ n. IsSettledAt stays n store.old.clusters store.new.clusters) }
+    ensures top { IfSome (finmap.get (top_of numbers.now) id) (λ n. IsSettledAt stays n store.old.clusters store.new.clusters) }
+    ensures others { AreSettledOrSame stays store.old.clusters store.new.clusters }
+    ensures store { IsStore (64 * W) store.old → IsStore (64 * W) store.new }
+{
+    if let Some(number) = number_of(numbers, Level::Main, id) {
+        settle(store, stays, number);
+    }
+    if let Some(number) = number_of(numbers, Level::Top, id) {
+        settle(store, stays, number);
+    }
+}
+
+/// How many names some clusters have, and one more.
+fn name_count<const W: usize>(clusters: &[Cluster<W>]) -> Result<usize, NoMemory>
+    requires { W ≤ 2 }
+    ensures { IfOk result (λ n. n ≡ sum_by (λ c. length c.names) clusters.now + 1) }
+{
+    let mut count: usize = 1;
+    for cluster in clusters {
+        count = count.checked_add(cluster.names().len()).ok_or(NoMemory)?;
+    }
+    Ok(count)
+}
