@@ -1,5 +1,5 @@
 -- What the calls of a graph need of its parts.
-use Rattle.std.proofs.Common.{◌≡◌, ℕ, ℤ, ◌<◌, ◌≤◌, ◌+◌, Bool, true, false, List, [], ◌∷◌, length, sym, refl, ap, subst, subst₂, ◌∙◌, inl, inr, ◌⊎◌, ◌↔◌, Option, None, Some, true≢false, arith, Result, Ok, Err, OnOk, OnErr, is_err, IsErrAnd}
+use Rattle.std.proofs.Common.{◌≡◌, ◌≢◌, ℕ, ℤ, ◌<◌, ◌≤◌, ◌+◌, Bool, true, false, List, [], ◌∷◌, length, sym, refl, ap, subst, ◌∙◌, inl, inr, ◌⊎◌, Option, None, Some, true≢false, arith, Result, Ok, Err, OnOk, OnErr, is_err, IsErrAnd, is_some}
 use Rattle.std.specs.Prelude.{Contains, unsigned_abs}
 use Rattle.std.proofs.lemmas.Bool.{cases_lt, false_from_ne_true, true_from_ne_false}
 use Rattle.std.proofs.lemmas.Option.{none-some}
@@ -7,42 +7,49 @@ use Rattle.std.specs.FinMap as finmap
 use Rattle.fee_rate.specs.declared.limits.TheConstants.{MAX_FEE, MAX_SIZE}
 use Rattle.fee_rate.specs.declared.rates.FeeRate.{FeeRate}
 use Rattle.fee_rate.specs.Limits.{IsFee, IsSize}
-use Rattle.graphs.specs.Closures.{Closure, is_member, is_ancestor, rate_of, IsOrder, SetsFee, AddsPair, DropsPlace, AreLinked}
 use Rattle.graphs.specs.declared.names.Level.{Level}
-use Rattle.graphs.specs.declared.names.Level.TheVariants.{Top}
-use Rattle.graphs.specs.Graphs.{Graph, Lists}
+use Rattle.graphs.specs.declared.names.Level.TheVariants.{Main, Top}
+use Rattle.graphs.specs.Closures.{Closure, is_member, is_ancestor, rate_of, IsOrder, AddsPair, DropsPlace, AreLinked}
+use Rattle.graphs.specs.declared.names.Verdict.{Verdict}
+use Rattle.graphs.specs.declared.names.Verdict.TheVariants.{Better, Worse, Equal, Incomparable}
+use Rattle.graphs.specs.Graphs.{Lists}
 use Rattle.graphs.proofs.ListLemmas.{Lists-for}
-use Rattle.cluster.specs.Clusters.{Cluster, ArePicked}
+use Rattle.cluster.specs.Clusters.{Cluster}
 use Rattle.cluster.specs.Changes.{AreComponents}
 use Rattle.cluster.specs.Steps.{GrowsWithin, most_steps, most_steps_of}
+use Rattle.graph_model.specs.declared.limits.TheConstants.{MAX_COUNT}
 use Rattle.graph_model.specs.declared.names.Limits.{Limits}
 use Rattle.graph_model.specs.declared.names.Refusal.{Refusal}
-use Rattle.graph_model.specs.declared.names.Refusal.TheVariants.{Late, Range, Fee, Size, Taken, Full, Count, ClusterSize, Unknown, Cycle}
+use Rattle.graph_model.specs.declared.names.Refusal.TheVariants.{Fee, Size, Taken, Full, Count, ClusterSize, Unknown, Cycle, Memory}
 use Rattle.graph_model.specs.Limits.{AreInRange}
-use Rattle.graph_model.specs.declared.limits.TheConstants.{MAX_COUNT}
-use Rattle.graph_model.specs.States.{PlainState, State, IsLive, level_of}
-use Rattle.graph_model.specs.Commands.{Command, SetLimits, Add, Dep, SetFee, Remove}
+use Rattle.graph_model.specs.States.{Entry, State}
+use Rattle.graph_model.specs.Commands.{Command, SetLimits, Add, Dep, SetFee, Remove, Stage, Commit, Abort, Settle}
 use Rattle.graph_model.specs.Refusals.{First, FirstAt, NoRefusal}
-use Rattle.graph_model.specs.Replies.{Reply, Done}
-use Rattle.graph_model.proofs.TableLemmas.{len-names}
-use Rattle.graph_model.proofs.RowLemmas.{add_row_along}
-use Rattle.tx_graph.specs.Kept.{Kept, StandsPlainly, StandsFor, MakesStep, AddsName}
-use Rattle.tx_graph.specs.Shelves.{Shelf, graph_of, parts_of, IsClusterOf}
-use Rattle.tx_graph.specs.Joins.{AddRefusalIs, DepRefusalIs, JoinsTooMany, JoinsTooLarge}
+use Rattle.graph_model.specs.Replies.{Reply, Refused, Done, Settled}
+use Rattle.tx_graph.specs.Additions.{AddRefusalIs, CountsLive}
+use Rattle.levels.specs.Joins.{DepRefusalIs, JoinsTooMany, JoinsTooLarge}
+use Rattle.tx_graph.specs.Kept.{Kept, StandsFor, MakesStep, entry_of}
+use Rattle.levels.specs.Levels.{OneLevel, Levels, HavePicks, AddsName, ChangesTop, SetsFeeIn, level_at, IsLive}
+use Rattle.levels.specs.Levels as levels
 use Rattle.tx_graph.specs.Sound.{IsSound}
-use Rattle.tx_graph.proofs.Graphs.{member-number}
-use Rattle.tx_graph.proofs.Standing.{state_of, of_states, level-main, IsSameGraph, Meets, live-member, order_kept}
-use Rattle.tx_graph.proofs.Rows.{dep_row, known_here}
-use Rattle.tx_graph.proofs.Stepping.{steps_limited, steps_paid, steps_added, steps_paired, steps_removed, len-live, has_entry, has_none}
+use Rattle.levels.specs.Orders.{ComparesParts}
+use Rattle.levels.specs.Views.{IsClusterOf}
+use Rattle.tx_graph.proofs.Added.{steps_added}
+use Rattle.tx_graph.proofs.Counting.{add_row, live_listed, counted}
+use Rattle.tx_graph.proofs.Dropped.{steps_dropped}
+use Rattle.tx_graph.proofs.Drawn.{AreRated}
+use Rattle.tx_graph.proofs.Limited.{steps_limited}
+use Rattle.tx_graph.proofs.Paid.{steps_paid}
+use Rattle.tx_graph.proofs.Paired.{steps_paired}
+use Rattle.tx_graph.proofs.Rows.{limits_row, fee_row, dep_row, known_here, closed_row, open_row}
+use Rattle.tx_graph.proofs.Settled.{steps_settled, steps_unsettled}
+use Rattle.tx_graph.proofs.Staged.{opened, committed, aborted, picks_of_opened, picks_of_committed, picks_of_aborted, steps_opened, steps_committed, steps_aborted}
+use Rattle.tx_graph.proofs.Standing.{Meets, graph_at, order_kept, steps_refused, steps_without_memory}
+use Rattle.tx_graph.proofs.Tops.{AreTopped, topped_from, topped_with}
 
 -- what a graph keeps, by its fields
-abbrev pub kept_of : Limits → Bool → ℕ → Shelf → Kept
-kept_of limits begun additions shelf =
-    record { limits = limits; begun = begun; graph = graph_of shelf; parts = parts_of shelf; additions = additions }
-
-pub same_shelf : (limits : Limits) (begun : Bool) (additions : ℕ) (old new : Shelf) → new ≡ old
-    → IsSameGraph (kept_of limits begun additions old) (kept_of limits begun additions new)
-same_shelf limits begun additions old new same = record { limits = refl; begun = refl; graph = ap graph_of same; parts = ap parts_of same }
+abbrev pub kept_of : Limits → Bool → Levels → Kept
+kept_of limits begun levels = record { limits = limits; begun = begun; levels = levels }
 
 -- a step from the fields is one from the value
 pub from_view : (old value new : Kept) (command : Command) (reply : Reply) → old ≡ value → MakesStep old new command reply
@@ -53,20 +60,39 @@ pub both_views : (kept value : Kept) (command : Command) (reply : Reply) → kep
     → MakesStep value value command reply
 both_views kept value command reply is step = subst (λ (k : Kept). MakesStep k k command reply) is step
 
+-- a step that leaves levels as they were
+pub same_levels : (limits : Limits) (begun : Bool) (old new : Levels) (value : Kept) (command : Command) (reply : Reply) → new ≡ old
+    → kept_of limits begun old ≡ value → MakesStep (kept_of limits begun old) (kept_of limits begun old) command reply
+    → MakesStep value (kept_of limits begun new) command reply
+same_levels limits begun old new value command reply same is step =
+    from_view (kept_of limits begun old) value (kept_of limits begun new) command reply is
+    (subst (λ (l : Levels). MakesStep (kept_of limits begun old) (kept_of limits begun l) command reply) (sym same) step)
+
 -- a graph after a step is sound
-pub sound_after : (w : ℕ) (old new : Kept) (command : Command) (reply : Reply) → IsSound w old → AreInRange MAX_COUNT new.limits
-    → ArePicked new.graph new.parts → MakesStep old new command reply → IsSound w new
-sound_after w old new command reply sound in_range picked step =
+pub sound_after : (old new : Kept) (command : Command) (reply : Reply) → IsSound old → AreInRange MAX_COUNT new.limits → HavePicks new.levels
+    → MakesStep old new command reply → IsSound new
+sound_after old new command reply sound in_range picked step =
     let next = step sound.stands.0 sound.stands.1 in
-    record { in_range = in_range; wide = sound.wide; picked = picked; stands = (next.0, next.1) }
+    record { in_range = in_range; picked = picked; stands = (next.0, next.1) }
 
 -- and one that stays
-pub sound_still : (w : ℕ) (limits : Limits) (begun : Bool) (additions : ℕ) (old new : Shelf) → new ≡ old → IsSound w (kept_of limits begun additions old)
-    → IsSound w (kept_of limits begun additions new)
-sound_still w limits begun additions old new same = subst (λ (s : Shelf). IsSound w (kept_of limits begun additions s)) (sym same)
+pub sound_still : (limits : Limits) (begun : Bool) (old new : Levels) → new ≡ old → IsSound (kept_of limits begun old) → IsSound (kept_of limits begun new)
+sound_still limits begun old new same = subst (λ (l : Levels). IsSound (kept_of limits begun l)) (sym same)
 
-pub order_sound : (w : ℕ) (kept : Kept) → IsSound w kept → IsOrder (is_member kept.graph) (is_ancestor kept.graph)
-order_sound w kept sound = order_kept kept sound.stands.0.plain sound.stands.1.plain
+order_sound : (kept : Kept) → IsSound kept → (level : Level)
+    → IsOrder (is_member (level_at kept.levels level).graph) (is_ancestor (level_at kept.levels level).graph)
+order_sound kept sound level = order_kept _ _ (graph_at kept sound.stands.0.plain sound.stands.1.plain level)
+
+-- a name has the same fee and size in both levels
+pub rates_agree : (kept : Kept) → IsSound kept → (id : ℕ) → is_member kept.levels.main.graph id ≡ true → is_member (level_at kept.levels Top).graph id ≡ true
+    → rate_of kept.levels.main.graph id ≡ rate_of (level_at kept.levels Top).graph id
+rates_agree kept sound id one two =
+    let table = sound.stands.1.plain.table in
+    ap rate_in (sym (table.names Main id one) ∙ table.names Top id two)
+  where
+    rate_in : Option Entry → FeeRate
+    rate_in None = record { fee = (rate_of kept.levels.main.graph id).fee; size = 0 }
+    rate_in (Some entry) = record { fee = entry.fee; size = entry.size }
 
 pub when_ok : {T E P : Type 0} (r : Result T E) → is_err r ≡ false → OnOk r P → P
 when_ok (Ok x) is holds = holds
@@ -80,69 +106,23 @@ pub error_is : {T E : Type 0} (r : Result T E) (e : E) → IsErrAnd r (λ y. y �
 error_is (Ok x) e is = absurd is
 error_is (Err y) e is = ap Err is
 
--- ---- rows
-
-pub late_row : (kept : Kept) (set : Limits) → kept.begun ≡ true → Meets kept (SetLimits set.count set.size set.total) (Some Late)
-late_row kept set begun state stands = inl (stands.begun ∙ begun, refl)
-
-early : (kept : Kept) → kept.begun ≡ false → (state : PlainState) → StandsPlainly kept state → state.begun ≡ true → ⊥
-early kept not_yet state stands is = true≢false (sym is ∙ stands.begun ∙ not_yet)
-
-pub range_row : (kept : Kept) (set : Limits) → kept.begun ≡ false → (AreInRange MAX_COUNT set → ⊥)
-    → Meets kept (SetLimits set.count set.size set.total) (Some Range)
-range_row kept set not_yet out state stands =
-    inr (early kept not_yet state stands, inl ((λ is. out (subst (λ most. AreInRange most set) stands.most is)), refl))
-
-pub limits_row : (kept : Kept) (set : Limits) → kept.begun ≡ false → AreInRange MAX_COUNT set
-    → Meets kept (SetLimits set.count set.size set.total) None
-limits_row kept set not_yet in_range state stands =
-    inr (early kept not_yet state stands, inr (λ out. out (subst (λ most. AreInRange most set) (sym stands.most) in_range), refl))
-
-live_iff : (kept : Kept) (state : PlainState) (id : ℕ) → StandsPlainly kept state → (is_member kept.graph id ≡ true) ↔ IsLive state id
-live_iff kept state id stands = (λ member. live-member kept state id stands ∙ member, λ live. sym (live-member kept state id stands) ∙ live)
-
-pub fee_out_row : (kept : Kept) (id : ℕ) (fee : ℤ) → (IsFee fee → ⊥) → Meets kept (SetFee id fee) (Some Fee)
-fee_out_row kept id fee out state stands = inl (out, refl)
-
-pub fee_unknown_row : (kept : Kept) (id : ℕ) (fee : ℤ) → IsFee fee → is_member kept.graph id ≡ false → Meets kept (SetFee id fee) (Some (Unknown id))
-fee_unknown_row kept id fee in_range absent state stands =
-    inr (λ out. out in_range, inl (λ live. true≢false (sym ((live_iff kept state id stands).1 live) ∙ absent), refl))
-
-pub fee_row : (kept : Kept) (id : ℕ) (fee : ℤ) → IsFee fee → is_member kept.graph id ≡ true → Meets kept (SetFee id fee) None
-fee_row kept id fee in_range member state stands =
-    inr (λ out. out in_range, inr (λ none. none ((live_iff kept state id stands).0 member), refl))
-
-module _ (limits : Limits) (begun : Bool) (additions : ℕ) (shelf : Shelf) where
-  abbrev kept : Kept
-  kept = kept_of limits begun additions shelf
-
-  pub len_is : (state : PlainState) → StandsPlainly kept state → finmap.len shelf.numbers ≡ length state.main.names
-  len_is state stands = len-live kept state shelf.numbers stands (λ q. sym (member-number shelf q))
-
-  live_len : (state : PlainState) → StandsPlainly kept state → finmap.len shelf.numbers ≡ finmap.len state.table
-  live_len state stands =
-      len_is state stands
-      ∙ len-names state.main.names state.table stands.valid.names
-      (λ q. subst (λ b. Contains state.main.names q ↔ (b ≡ true)) (sym (live-member kept state q stands)) (stands.closure.names q))
-
-  pub add_row : (id : ℕ) (fee : ℤ) (size : ℕ) (found : Option Refusal)
-      → AddRefusalIs limits (graph_of shelf) (finmap.len shelf.numbers) id fee size found → Meets kept (Add id fee size) found
-  add_row id fee size found row state stands =
-      add_row_along _ _ _ _ _ _ _ _ _ _ size found (λ h. h, λ h. h) (λ h. h, λ h. h) (live_iff kept state id stands) (
-        λ over. subst (λ (l : Limits). l.size < size) (sym stands.limits) over,
-        λ over. subst (λ (l : Limits). l.size < size) stands.limits over,
-      ) (
-        λ full. subst₂ (λ (l : Limits) n. l.total ≤ n) (sym stands.limits) (live_len state stands) full,
-        λ full. subst₂ (λ (l : Limits) n. l.total ≤ n) stands.limits (sym (live_len state stands)) full,
-      ) row
+-- ---- what an addition that isn't refused may count on
 
 -- the row of an addition that has none of the earlier causes ends with how many names are live
-pub last_row : (limits : Limits) (graph : Closure) (live id : ℕ) (fee : ℤ) (size : ℕ) (found : Option Refusal) → IsFee fee → IsSize size
-    → is_member graph id ≡ false → size ≤ limits.size → First (limits.total ≤ live) Full NoRefusal found → AddRefusalIs limits graph live id fee size found
-last_row limits graph live id fee size found pays measures absent small last =
-    inr (λ out. out pays, inr (λ out. out measures, inr (λ taken. true≢false (sym taken ∙ absent), inr (λ over. omega (arith, over, small), last))))
+pub last_row : (limits : Limits) (levels : Levels) (live id : ℕ) (fee : ℤ) (size : ℕ) (found : Option Refusal) → IsFee fee → IsSize size
+    → (IsLive levels id → ⊥) → size ≤ limits.size → First (limits.total ≤ live) Full NoRefusal found → AddRefusalIs limits levels live id fee size found
+last_row limits levels live id fee size found pays measures absent small last =
+    inr (λ out. out pays, inr (λ out. out measures, inr (absent, inr (λ over. omega (arith, over, small), last))))
 
--- ---- what an addition that isn't refused may count on
+-- the row of an addition, however many names are live
+abbrev pub AddRowIs : Kept → ℕ → ℤ → ℕ → Option Refusal → Type 0
+AddRowIs kept id fee size found = (live : ℕ) → CountsLive kept.levels live → AddRefusalIs kept.limits kept.levels live id fee size found
+
+pub add_met : (kept : Kept) (id : ℕ) (fee : ℤ) (size : ℕ) (found : Option Refusal) → AddRowIs kept id fee size found → Meets kept (Add id fee size) found
+add_met kept id fee size found row =
+    let names = live_listed kept.levels in
+    let counts = counted kept.levels names.0 names.1 in
+    add_row kept (length names.0) id fee size found counts (row (length names.0) counts)
 
 none_of : (cause : Type 0) (why : Refusal) (later : Option Refusal → Type 0) → First cause why later None → (cause → ⊥) × later None
 none_of cause why later row = elim row [ inl here ↦ absurd (none-some why here.1) | inr on ↦ on ]
@@ -154,27 +134,27 @@ not_past : (a b : ℕ) → (a ≤ b → ⊥) → b < a
 not_past a b no_way = elim (cases_lt b a) [ inl over ↦ over | inr past ↦ absurd (no_way past) ]
 
 -- what an addition meets that isn't refused
-pub record MayAdd (limits : Limits) (graph : Closure) (live id : ℕ) (fee : ℤ) (size : ℕ) : Type 0 where
+pub record MayAdd (limits : Limits) (levels : Levels) (live id : ℕ) (fee : ℤ) (size : ℕ) : Type 0 where
   pub pays : IsFee fee
   pub measures : IsSize size
-  pub absent : is_member graph id ≡ false
+  pub absent : IsLive levels id → ⊥
   pub room : live < limits.total
 
-pub may_add : (limits : Limits) (graph : Closure) (live id : ℕ) (fee : ℤ) (size : ℕ) → AddRefusalIs limits graph live id fee size None
-    → MayAdd limits graph live id fee size
-may_add limits graph live id fee size row =
+pub may_add : (limits : Limits) (levels : Levels) (live id : ℕ) (fee : ℤ) (size : ℕ) → AddRefusalIs limits levels live id fee size None
+    → MayAdd limits levels live id fee size
+may_add limits levels live id fee size row =
     let full : Option Refusal → Type 0 = First (limits.total ≤ live) Full NoRefusal in
     let large : Option Refusal → Type 0 = First (limits.size < size) (ClusterSize size) full in
-    let taken : Option Refusal → Type 0 = First (is_member graph id ≡ true) Taken large in
+    let taken : Option Refusal → Type 0 = First (IsLive levels id) Taken large in
     let a = none_of (IsFee fee → ⊥) Fee (First (IsSize size → ⊥) Size taken) row in
     let b = none_of (IsSize size → ⊥) Size taken a.1 in
-    let c = none_of (is_member graph id ≡ true) Taken large b.1 in
+    let c = none_of (IsLive levels id) Taken large b.1 in
     let d = none_of (limits.size < size) (ClusterSize size) full c.1 in
     let e = none_of (limits.total ≤ live) Full NoRefusal d.1 in
     record {
       pays = not_over MAX_FEE (unsigned_abs fee) (λ over. a.0 (λ is. omega (arith, over, is)));
       measures = (not_over size 1 (λ none. b.0 (λ is. omega (arith, none, is.0))), not_over MAX_SIZE size (λ over. b.0 (λ is. omega (arith, over, is.1))));
-      absent = false_from_ne_true (is_member graph id) c.0;
+      absent = c.0;
       room = not_past limits.total live e.0;
     }
 
@@ -184,7 +164,7 @@ pub record MayPair (graph : Closure) (parent child : ℕ) : Type 0 where
   pub below : is_member graph child ≡ true
   pub no_way : is_ancestor graph child parent ≡ false
 
-pub may_pair : (limits : Limits) (graph : Closure) (parent child : ℕ) → DepRefusalIs limits graph parent child None → MayPair graph parent child
+may_pair : (limits : Limits) (graph : Closure) (parent child : ℕ) → DepRefusalIs limits graph parent child None → MayPair graph parent child
 may_pair limits graph parent child row =
     let large : Option Refusal → Type 0 =
     FirstAt (JoinsTooMany limits graph parent child) Count (FirstAt (JoinsTooLarge limits graph parent child) ClusterSize NoRefusal) in
@@ -197,46 +177,122 @@ may_pair limits graph parent child row =
     member_from : (id : ℕ) → ((is_member graph id ≡ true → ⊥) → ⊥) → is_member graph id ≡ true
     member_from id none = true_from_ne_false (is_member graph id) (λ fails. none (λ holds. true≢false (sym holds ∙ fails)))
 
--- ---- accepted changes
+-- a pair that is refused
+pub dep_refused : (kept : Kept) (parent child : ℕ) (why : Refusal)
+    → ((why ≡ Memory) × DepRefusalIs kept.limits (level_at kept.levels Top).graph parent child None)
+    ⊎ ((why ≢ Memory) × DepRefusalIs kept.limits (level_at kept.levels Top).graph parent child (Some why))
+    → MakesStep kept kept (Dep parent child) (Refused why)
+dep_refused kept parent child why row = elim row [
+  | inl lacks ↦
+      subst (λ r. MakesStep kept kept (Dep parent child) (Refused r)) (sym lacks.0)
+      (steps_without_memory kept (Dep parent child) tt (dep_row kept parent child None lacks.1))
+  | inr met ↦ steps_refused kept (Dep parent child) why (dep_row kept parent child (Some why) met.1)
+]
 
-pub limits_step : (limits set : Limits) (begun : Bool) (additions : ℕ) (shelf : Shelf) → ArePicked (graph_of shelf) (parts_of shelf)
-    → begun ≡ false → AreInRange MAX_COUNT set
-    → MakesStep (kept_of limits begun additions shelf) (kept_of set true additions shelf) (SetLimits set.count set.size set.total) Done
-limits_step limits set begun additions shelf picked not_yet in_range =
-    steps_limited (kept_of limits begun additions shelf) (kept_of set true additions shelf) set refl refl refl refl picked
-    (limits_row (kept_of limits begun additions shelf) set not_yet in_range)
+-- ---- accepted changes of the top level
 
-module _ (limits : Limits) (begun : Bool) (additions : ℕ) (old new : Shelf) (picked : ArePicked (graph_of new) (parts_of new)) where
+-- the levels after an accepted addition
+abbrev pub IsAddedTo : ℕ → ℤ → ℕ → Levels → Levels → Type 0
+IsAddedTo id fee size old new =
+    (mid : Levels) × ChangesTop (λ a b. AddsName a b id (record { fee = fee; size = size })) old mid × (new ≡ record mid { issued = old.issued + 1 })
+
+topped_same : (old new : Levels) (top : OneLevel) → new ≡ levels.with_top old top → AreTopped old top new
+topped_same old new top is = subst (AreTopped old top) (sym is) (topped_from old top)
+
+topped_added : (old mid new : Levels) (top : OneLevel) (n : ℕ) → mid ≡ levels.with_top old top → new ≡ record mid { issued = n } → AreTopped old top new
+topped_added old mid new top n is made =
+    subst (AreTopped old top) (sym (made ∙ ap (λ (l : Levels). record l { issued = n }) is)) (topped_with old top n)
+
+module _ (limits : Limits) (begun : Bool) (old new : Levels) (picked : HavePicks new) where
   abbrev before : Kept
-  before = kept_of limits begun additions old
+  before = kept_of limits begun old
 
   abbrev after : Kept
-  after = kept_of limits true additions new
+  after = kept_of limits true new
 
-  pub fee_step : (id : ℕ) (fee : ℤ) → IsFee fee → is_member (graph_of old) id ≡ true → SetsFee (graph_of old) (graph_of new) id fee
-      → ((rate_of (graph_of old) id).fee ≡ fee → new ≡ old) → MakesStep before after (SetFee id fee) Done
-  fee_step id fee in_range live sets still =
-      steps_paid before after id fee refl refl live sets (fee_row before id fee in_range live) picked (λ same. ap parts_of (still same))
+  pub add_step : (id : ℕ) (fee : ℤ) (size : ℕ) → AddRowIs before id fee size None → IsAddedTo id fee size old new
+      → MakesStep before after (Add id fee size) Done
+  add_step id fee size row added =
+      let change = added.1 in
+      let names = live_listed old in
+      let may = may_add limits old (length names.0) id fee size (row (length names.0) (counted old names.0 names.1)) in
+      steps_added before after id fee size refl refl may.absent change.0 change.1
+      (topped_added old added.0 new change.0 (old.issued + 1) change.2 added.2) (add_met before id fee size None row) picked
 
-  pub add_step : (id : ℕ) (fee : ℤ) (size : ℕ) → AddRefusalIs limits (graph_of old) (finmap.len old.numbers) id fee size None
-      → AddsName (graph_of old) (graph_of new) id (record { fee = fee; size = size })
-      → MakesStep before (kept_of limits true (additions + 1) new) (Add id fee size) Done
-  add_step id fee size row adds =
-      steps_added before (kept_of limits true (additions + 1) new) id fee size refl refl
-      (may_add limits (graph_of old) (finmap.len old.numbers) id fee size row).absent adds
-      (add_row limits begun additions old id fee size None row) picked
+  pub dep_step : IsSound before → (parent child : ℕ) → DepRefusalIs limits (level_at old Top).graph parent child None
+      → ChangesTop (λ a b. AddsPair a b parent child) old new → (is_ancestor (level_at old Top).graph parent child ≡ true → new ≡ old)
+      → MakesStep before after (Dep parent child) Done
+  dep_step sound parent child row change still =
+      let may = may_pair limits (level_at old Top).graph parent child row in
+      steps_paired before after parent child refl refl may.above may.below may.no_way change.0 change.1 (topped_same old new change.0 change.2) still
+      (order_sound before sound Top) (dep_row before parent child None row) picked
 
-  pub dep_step : IsOrder (is_member (graph_of old)) (is_ancestor (graph_of old)) → (parent child : ℕ)
-      → DepRefusalIs limits (graph_of old) parent child None → AddsPair (graph_of old) (graph_of new) parent child
-      → (is_ancestor (graph_of old) parent child ≡ true → new ≡ old) → MakesStep before after (Dep parent child) Done
-  dep_step order parent child row pair still =
-      let may = may_pair limits (graph_of old) parent child row in
-      steps_paired before after parent child refl refl may.above may.below may.no_way pair order
-      (dep_row before parent child None order row) picked (λ there. ap parts_of (still there))
-
-  pub remove_step : (id : ℕ) → is_member (graph_of old) id ≡ true → DropsPlace (graph_of old) (graph_of new) id
+  pub remove_step : (id : ℕ) → is_member (level_at old Top).graph id ≡ true → ChangesTop (λ a b. DropsPlace a b id) old new
       → MakesStep before after (Remove id) Done
-  remove_step id live drops = steps_removed before after id refl refl live drops (known_here before Top id live) picked
+  remove_step id live change =
+      steps_dropped before after id refl refl live change.0 change.1 (topped_same old new change.0 change.2) (known_here before Top id live) picked
+
+  pub fee_step : (id : ℕ) (fee : ℤ) → IsFee fee → IsLive old id → SetsFeeIn id fee old new
+      → (((level : Level) → is_member (level_at old level).graph id ≡ true → (rate_of (level_at old level).graph id).fee ≡ fee) → new ≡ old)
+      → MakesStep before after (SetFee id fee) Done
+  fee_step id fee in_range live sets still =
+      steps_paid before after id fee refl refl live sets still (fee_row before id fee in_range live) picked
+
+-- ---- other limits
+
+pub limits_step : (limits set : Limits) (begun : Bool) (levels : Levels) → HavePicks levels → begun ≡ false → AreInRange MAX_COUNT set
+    → MakesStep (kept_of limits begun levels) (kept_of set true levels) (SetLimits set.count set.size set.total) Done
+limits_step limits set begun levels picked not_yet in_range =
+    steps_limited (kept_of limits begun levels) (kept_of set true levels) set refl refl refl
+    (limits_row (kept_of limits begun levels) set not_yet in_range) picked
+
+-- ---- staging
+
+pub picks_opened : (old new : Levels) → new ≡ opened old → HavePicks old → HavePicks new
+picks_opened old new is picked = subst HavePicks (sym is) (picks_of_opened old picked)
+
+pub picks_committed : (old new : Levels) → new ≡ committed old → HavePicks old → HavePicks new
+picks_committed old new is picked = subst HavePicks (sym is) (picks_of_committed old picked)
+
+pub picks_aborted : (old new : Levels) → new ≡ aborted old → HavePicks old → HavePicks new
+picks_aborted old new is picked = subst HavePicks (sym is) (picks_of_aborted old picked)
+
+better_or_not : (verdict : Verdict) → (verdict ≡ Better) ⊎ (verdict ≢ Better)
+better_or_not Better = inl refl
+better_or_not Worse = inr (λ e. cc)
+better_or_not Equal = inr (λ e. cc)
+better_or_not Incomparable = inr (λ e. cc)
+
+pub picks_settled : (old new : Levels) (verdict : Verdict) → (verdict ≡ Better → new ≡ committed old) → (verdict ≢ Better → new ≡ aborted old)
+    → HavePicks old → HavePicks new
+picks_settled old new verdict better other picked = elim (better_or_not verdict) [
+  | inl is ↦ picks_committed old new (better is) picked
+  | inr not ↦ picks_aborted old new (other not) picked
+]
+
+module _ (limits : Limits) (begun : Bool) (old new : Levels) where
+  abbrev first : Kept
+  first = kept_of limits begun old
+
+  abbrev last : Kept
+  last = kept_of limits true new
+
+  pub stage_step : is_some old.staging ≡ false → new ≡ opened old → MakesStep first last Stage Done
+  stage_step alone is = steps_opened first last refl refl alone is (closed_row first alone)
+
+  pub commit_step : HavePicks old → is_some old.staging ≡ true → new ≡ committed old → MakesStep first last Commit Done
+  commit_step picked open_is is = steps_committed first last refl refl is open_is (open_row first open_is)
+
+  pub abort_step : HavePicks old → is_some old.staging ≡ true → new ≡ aborted old → MakesStep first last Abort Done
+  abort_step picked open_is is = steps_aborted first last refl refl is picked (open_row first open_is)
+
+  pub settle_step : (verdict : Verdict) → HavePicks old → AreRated old → ComparesParts old.main.parts (level_at old Top).parts verdict
+      → is_some old.staging ≡ true → (verdict ≡ Better → new ≡ committed old) → (verdict ≢ Better → new ≡ aborted old)
+      → MakesStep first last Settle (Settled verdict)
+  settle_step verdict picked rated compares open_is better other = elim (better_or_not verdict) [
+    | inl is ↦ steps_settled first last verdict picked rated compares open_is refl refl is (better is)
+    | inr not ↦ steps_unsettled first last verdict picked rated compares open_is refl refl not (other not)
+  ]
 
 -- ---- readings
 
@@ -252,44 +308,32 @@ module _ (graph : Closure) (id : ℕ) (c : Cluster) (cluster : IsClusterOf graph
   descendants_list = Lists-for (λ q. is_ancestor c.graph id q ≡ true) (λ q. is_ancestor graph id q ≡ true) ids
       (λ q up. cluster.below id q cluster.here ∙ up) (λ q up. sym (cluster.below id q cluster.here) ∙ up)
 
-pub sums_none : (kept : Kept) (id : ℕ) → is_member kept.graph id ≡ false → (state : State) → StandsFor kept state
-    → finmap.get state.plain.table id ≡ None
-sums_none kept id absent state stands = stands.plain.table id ∙ has_none kept.graph id absent
-
-pub sums_some : (kept : Kept) (id : ℕ) (c : Cluster) (rate : FeeRate) → is_member kept.graph id ≡ true → IsClusterOf kept.graph id c
-    → rate ≡ rate_of c.graph id → (state : State) → StandsFor kept state
+pub sums_some : (kept : Kept) (level : Level) (id : ℕ) (c : Cluster) (rate : FeeRate) → is_member (level_at kept.levels level).graph id ≡ true
+    → IsClusterOf (level_at kept.levels level).graph id c → rate ≡ rate_of c.graph id → (state : State) → StandsFor kept state
     → finmap.get state.plain.table id ≡ Some (record { fee = rate.fee; size = rate.size })
-sums_some kept id c rate live cluster rated state stands =
-    stands.plain.table id ∙ has_entry kept.graph id rate live (cluster.rates id cluster.here ∙ sym rated)
-
--- a level has the members
-pub level_has : (kept : Kept) (level : Level) (id : ℕ) (state : State) → StandsFor kept state
-    → (is_member kept.graph id ≡ true) ↔ Contains (level_of state.plain level).names id
-level_has kept level id state stands =
-    of_states kept (λ plain. (is_member kept.graph id ≡ true) ↔ Contains (level_of plain level).names id)
-    (λ table main plainly.
-    let names : (l : Graph) → l ≡ main → (is_member kept.graph id ≡ true) ↔ Contains l.names id = λ l same.
-    subst (λ (g : Graph). (is_member kept.graph id ≡ true) ↔ Contains g.names id) (sym same)
-    ((plainly.closure.names id).1, (plainly.closure.names id).0) in
-    names (level_of (state_of kept table main) level) (level-main kept table main level))
-    state.plain stands.plain
+sums_some kept level id c rate live cluster rated state stands =
+    stands.plain.table.names level id live ∙ ap (λ r. Some (entry_of r)) (cluster.rates id cluster.here ∙ sym rated)
 
 -- ---- steps
 
 -- the steps of a call that makes one cluster of the names that are linked to one of two
 abbrev pub GrowsForPair : ℕ → ℕ → ℕ → ℕ → Kept → Type 0
 GrowsForPair parent child start end kept =
-    (ids : List ℕ) → Lists (λ q. AreLinked kept.graph q parent ⊎ AreLinked kept.graph q child) ids → GrowsWithin (most_steps (length ids)) start end
+    let graph = (level_at kept.levels Top).graph in
+    (ids : List ℕ) → Lists (λ q. AreLinked graph q parent ⊎ AreLinked graph q child) ids → GrowsWithin (most_steps (length ids)) start end
 
--- and of one that makes the cluster of a name anew
-abbrev pub GrowsForName : ℕ → ℕ → ℕ → Kept → Type 0
-GrowsForName id start end kept = (ids : List ℕ) → Lists (AreLinked kept.graph id) ids → GrowsWithin (most_steps (length ids)) start end
+-- and of one that makes the cluster of a name anew, where there is no staging
+abbrev pub GrowsForOne : ℕ → ℕ → ℕ → Kept → Type 0
+GrowsForOne id start end kept =
+    kept.levels.staging ≡ None → (ids : List ℕ) → Lists (AreLinked kept.levels.main.graph id) ids → GrowsWithin (most_steps (length ids)) start end
 
 -- and of one that drops a name from its cluster
 abbrev pub GrowsForParts : ℕ → ℕ → ℕ → Kept → Type 0
 GrowsForParts id start end kept =
-    (c : Cluster) (lists : List (List ℕ)) → IsClusterOf kept.graph id c → AreComponents c.graph (id ∷ []) lists → end ≤ start + most_steps_of lists
+    (c : Cluster) (lists : List (List ℕ)) → IsClusterOf (level_at kept.levels Top).graph id c → AreComponents c.graph (id ∷ []) lists
+    → end ≤ start + most_steps_of lists
 
 -- a fee that is the same takes no step
 abbrev pub FreeForFee : ℕ → ℤ → ℕ → ℕ → Kept → Type 0
-FreeForFee id fee start end kept = (rate_of kept.graph id).fee ≡ fee → end ≡ start
+FreeForFee id fee start end kept =
+    ((level : Level) → is_member (level_at kept.levels level).graph id ≡ true → (rate_of (level_at kept.levels level).graph id).fee ≡ fee) → end ≡ start

@@ -1,22 +1,24 @@
--- An accepted change with the parts that the graph has after it: a level that stays as it is keeps its parts.
+-- An accepted change with the parts that the levels have after it: a level that stays as it is keeps its parts.
 use Rattle.std.proofs.Common.{◌≡◌, ℕ, true, sym, refl, ap, subst, ◌∙◌, inr, Option, None, Some}
-use Rattle.std.proofs.lemmas.Option.{none-some}
-use Rattle.std.specs.FinMap as finmap
+use Rattle.std.specs.Prelude.{Contains, option_map, IfSome}
 use Rattle.lists.proofs.Cases.{same_test}
 use Rattle.fee_rate.specs.declared.rates.Sum.{Sum}
-use Rattle.graphs.specs.Closures.{Node, Closure, is_member, is_ancestor, rate_of, rate_in}
-use Rattle.graphs.specs.Closing.{IsClosureOf}
+use Rattle.graphs.specs.declared.names.Level.{Level}
+use Rattle.graphs.specs.declared.names.Level.TheVariants.{Main, Top}
+use Rattle.graphs.specs.Closures.{Closure, is_member, is_ancestor, rate_of}
 use Rattle.graphs.specs.Graphs.{Graph}
 use Rattle.graphs.specs.Picks.{IsPick}
-use Rattle.cluster.specs.Clusters.{ArePicked, sum_at}
-use Rattle.graph_model.specs.States.{PlainState, Picks, State, Table, sum_in}
+use Rattle.graphs.proofs.PickLemmas.{picks_are_kept}
+use Rattle.cluster.specs.Clusters.{sum_at}
+use Rattle.graph_model.specs.States.{PlainState, Picks, State, Table}
 use Rattle.graph_model.specs.States as states
-use Rattle.graph_model.specs.Validity.{IsPickOf}
+use Rattle.graph_model.specs.Validity.{ArePicks, IsPickOf}
 use Rattle.graph_model.specs.Commands.{Command}
 use Rattle.graph_model.specs.Replies.{Reply}
 use Rattle.graph_model.specs.Steps.{AcceptsPlainly, HaveSameRates, KeepsPicks, PicksFollow}
-use Rattle.tx_graph.specs.Kept.{Kept, StandsPlainly, MakesStep, entry_of}
-use Rattle.tx_graph.proofs.Standing.{state_of, of_states, Meets, picks_of}
+use Rattle.levels.specs.Levels.{OneLevel, Levels, HasPick, HavePicks, level_at}
+use Rattle.tx_graph.specs.Kept.{Kept, HasRates, IsGraphOf, IsStagingOf, StandsPlainly, StandsFor, MakesStep, picks_of}
+use Rattle.tx_graph.proofs.Standing.{Meets, open_level, sum_kept}
 
 -- the same names with the same ancestors, fees and sizes
 pub record AreSameLevel (old new : Closure) : Type 0 where
@@ -24,56 +26,73 @@ pub record AreSameLevel (old new : Closure) : Type 0 where
   pub above : (a d : ℕ) → is_ancestor new a d ≡ is_ancestor old a d
   pub rates : (q : ℕ) → is_member new q ≡ true → rate_of new q ≡ rate_of old q
 
--- the parts after a call are a pick, and those before it where the level is the same
-pub record KeepsParts (old new : Kept) : Type 0 where
-  pub picked : ArePicked new.graph new.parts
-  pub same : AreSameLevel old.graph new.graph → new.parts ≡ old.parts
+-- the parts after a call are picks, and of a level that is the same those before it
+pub record KeepsParts (old new : Levels) : Type 0 where
+  pub picked : HavePicks new
+  pub main : AreSameLevel old.main.graph new.main.graph → new.main.parts ≡ old.main.parts
+  pub staging : (a b : OneLevel) → old.staging ≡ Some a → new.staging ≡ Some b → AreSameLevel a.graph b.graph → b.parts ≡ a.parts
 
--- ---- the table has the sums of the graph
+-- ---- the parts are picks
 
-sum_entry : (o : Option Node) → sum_in (entry_of o) ≡ record { fee = (rate_in o).fee; size = (rate_in o).size }
-sum_entry None = refl
-sum_entry (Some node) = refl
+pub pick_at : (levels : Levels) (level : Level) → HavePicks levels → HasPick (level_at levels level)
+pick_at levels Main picked = picked.0
+pick_at levels Top picked = by levels.staging picked.1
+  where
+    by : (staging : Option OneLevel) → IfSome staging HasPick → HasPick (states.top_of levels.main staging)
+    by None picks = picked.0
+    by (Some one) picks = picks
 
-sum-of : (kept : Kept) (state : PlainState) (id : ℕ) → StandsPlainly kept state → states.rate_of state.table id ≡ sum_at kept.graph id
-unfolding rate_of
-sum-of kept state id stands = ap sum_in (stands.table id) ∙ sum_entry (finmap.get kept.graph id)
+-- a pick of a level is one of a graph of it, by fees and sizes that agree on its names
+pub pick_here : (level : OneLevel) (graph : Graph) (rate : ℕ → Sum) → HasPick level → IsGraphOf level graph
+    → ((id : ℕ) → is_member level.graph id ≡ true → rate id ≡ sum_at level.graph id) → IsPick rate graph level.parts
+pick_here level graph rate pick of same =
+    (picks_are_kept.alike (sum_at level.graph) rate graph graph (record {
+      names = λ id. (λ here. here, λ here. here);
+      sums = λ id here. sym (same id ((of.closure.names id).0 here));
+      ancestors = λ x y. (λ walk. walk, λ walk. walk);
+    }) of.valid of.valid level.parts).0 (pick graph of.closure)
 
-pub sums-of : (kept : Kept) (state : PlainState) → StandsPlainly kept state → sum_at kept.graph ≡ states.rate_of state.table
-sums-of kept state stands = λ i id. sym (sum-of kept state id stands) i
+staging_picked : (table : Table) (level : Option OneLevel) (staging : Option Graph) → IfSome level HasPick → IsStagingOf level staging
+    → ((one : OneLevel) → level ≡ Some one → (id : ℕ) → is_member one.graph id ≡ true → states.rate_of table id ≡ sum_at one.graph id)
+    → IsPickOf table staging (option_map (λ (one : OneLevel). one.parts) level)
+staging_picked table None None pick of same = tt
+staging_picked table None (Some graph) pick of same = absurd of
+staging_picked table (Some level) None pick of same = absurd of
+staging_picked table (Some level) (Some graph) pick of same = pick_here level graph (states.rate_of table) pick of (same level refl)
+
+-- the top level is the staging that there is
+staging_sums : (levels : Levels) (table : Table) → HasRates levels table → (one : OneLevel) → levels.staging ≡ Some one
+    → (id : ℕ) → is_member one.graph id ≡ true → states.rate_of table id ≡ sum_at one.graph id
+staging_sums levels table rates one is =
+    let top : level_at levels Top ≡ one = ap (states.top_of levels.main) is in
+    subst (λ (l : OneLevel). (id : ℕ) → is_member l.graph id ≡ true → states.rate_of table id ≡ sum_at l.graph id) top (sum_kept levels table rates Top)
+
+pub are_picks : (kept : Kept) (state : PlainState) → HavePicks kept.levels → StandsPlainly kept state → ArePicks state (picks_of kept.levels)
+are_picks kept state picked stands = record {
+  main = pick_here kept.levels.main state.main (states.rate_of state.table) picked.0 stands.main (sum_kept kept.levels state.table stands.table Main);
+  staging = staging_picked state.table kept.levels.staging state.staging picked.1 stands.staging (staging_sums kept.levels state.table stands.table);
+}
 
 -- ---- which levels are the same
 
-Stays : Closure → Type 0
-Stays g = (a d : ℕ) → is_ancestor g a d ≡ true → (is_member g a ≡ true) × (is_member g d ≡ true)
+above_too : (g h : OneLevel) (graph : Graph) (a d : ℕ) → IsGraphOf g graph → IsGraphOf h graph → is_ancestor g.graph a d ≡ true
+    → is_ancestor h.graph a d ≡ true
+above_too g h graph a d first second up =
+    let ends = first.among a d up in
+    let walk = (first.closure.ancestors a d ends.0 ends.1).1 up in
+    (second.closure.ancestors a d ((second.closure.names a).0 ((first.closure.names a).1 ends.0))
+    ((second.closure.names d).0 ((first.closure.names d).1 ends.1))).0 walk
 
-above_too : (g h : Closure) (graph : Graph) (a d : ℕ) → IsClosureOf g graph → IsClosureOf h graph → Stays g → is_ancestor g a d ≡ true
-    → is_ancestor h a d ≡ true
-unfolding Stays
-above_too g h graph a d first second among up =
-    let ends = among a d up in
-    let walk = (first.ancestors a d ends.0 ends.1).1 up in
-    (second.ancestors a d ((second.names a).0 ((first.names a).1 ends.0)) ((second.names d).0 ((first.names d).1 ends.1))).0 walk
-
-module _ (old new : Kept) (before after : PlainState) (stood : StandsPlainly old before) (stands : StandsPlainly new after)
-    (main : after.main ≡ before.main) (rates : HaveSameRates before.table after.table after.main) where
-  closed : IsClosureOf new.graph before.main
-  closed = subst (IsClosureOf new.graph) main stands.closure
-
-  rate_kept : (q : ℕ) → is_member new.graph q ≡ true → rate_of new.graph q ≡ rate_of old.graph q
-  rate_kept q member = ap (λ (s : Sum). record { fee = s.fee; size = s.size })
-      (sym (sum-of new after q stands) ∙ rates q ((stands.closure.names q).1 member) ∙ sum-of old before q stood)
-
-  pub same_level : AreSameLevel old.graph new.graph
-  unfolding Stays
-  same_level = record {
-    members = λ q. same_test (is_member new.graph q) (is_member old.graph q)
-        (λ member. (stood.closure.names q).0 ((closed.names q).1 member)) (λ member. (closed.names q).0 ((stood.closure.names q).1 member));
-    above = λ a d. same_test (is_ancestor new.graph a d) (is_ancestor old.graph a d)
-        (above_too new.graph old.graph before.main a d closed stood.closure stands.among)
-        (above_too old.graph new.graph before.main a d stood.closure closed stood.among);
-    rates = rate_kept;
-  }
+-- two levels that a graph is of are the same where fees and sizes are
+same_level : (old new : OneLevel) (graph : Graph) → IsGraphOf old graph → IsGraphOf new graph
+    → ((q : ℕ) → Contains graph.names q → sum_at new.graph q ≡ sum_at old.graph q) → AreSameLevel old.graph new.graph
+same_level old new graph stood stands same = record {
+  members = λ q. same_test (is_member new.graph q) (is_member old.graph q)
+      (λ member. (stood.closure.names q).0 ((stands.closure.names q).1 member)) (λ member. (stands.closure.names q).0 ((stood.closure.names q).1 member));
+  above = λ a d. same_test (is_ancestor new.graph a d) (is_ancestor old.graph a d)
+      (above_too new old graph a d stands stood) (above_too old new graph a d stood stands);
+  rates = λ q member. ap (λ (s : Sum). record { fee = s.fee; size = s.size }) (same q ((stands.closure.names q).1 member));
+}
 
 -- ---- which picks follow
 
@@ -81,38 +100,60 @@ module _ (old new : Kept) (before after : PlainState) (stood : StandsPlainly old
 abbrev pub KeepsCommand : Command → Type 0
 KeepsCommand command = (a b : State) → KeepsPicks a b → PicksFollow a command b
 
-pub picks_follow : (old new : Kept) (state : State) (next : PlainState) → StandsPlainly old state.plain → StandsPlainly new next
-    → state.picks ≡ picks_of old.parts → KeepsParts old new → KeepsPicks state (record { plain = next; picks = picks_of new.parts })
-picks_follow old new state next stood stands picks keeps = record {
-  picks = record {
-    main = subst (λ (rate : ℕ → Sum). IsPick rate next.main new.parts) (sums-of new next stands) (keeps.picked next.main stands.closure);
-    staging = subst (λ (staging : Option Graph). IsPickOf next.table staging None) (sym stands.staging) tt;
-  };
-  main = λ main rates. keeps.same (same_level old new state.plain next stood stands main rates) ∙ sym (ap (λ (p : Picks). p.main) picks);
-  staging = λ graph was is rates. absurd (none-some graph (sym stood.staging ∙ was));
-}
+module _ (old new : Kept) (state : State) (next : PlainState) (stood : StandsFor old state) (stands : StandsPlainly new next)
+    (keeps : KeepsParts old.levels new.levels) where
+  main_kept : next.main ≡ state.plain.main → HaveSameRates state.plain.table next.table next.main → new.levels.main.parts ≡ old.levels.main.parts
+  main_kept is rates =
+      let of : IsGraphOf new.levels.main state.plain.main = subst (IsGraphOf new.levels.main) is stands.main in
+      keeps.main (same_level old.levels.main new.levels.main state.plain.main stood.plain.main of
+      (λ q here.
+      let there : Contains next.main.names q = subst (λ (g : Graph). Contains g.names q) (sym is) here in
+      sym (sum_kept new.levels next.table stands.table Main q ((of.closure.names q).0 here)) ∙ rates q there
+      ∙ sum_kept old.levels state.plain.table stood.plain.table Main q ((stood.plain.main.closure.names q).0 here)))
+
+  staging_kept : (graph : Graph) → state.plain.staging ≡ Some graph → next.staging ≡ Some graph → HaveSameRates state.plain.table next.table graph
+      → (picks_of new.levels).staging ≡ (picks_of old.levels).staging
+  staging_kept graph was is rates =
+      let a = open_level old.levels.staging state.plain.staging graph stood.plain.staging was in
+      let b = open_level new.levels.staging next.staging graph stands.staging is in
+      let same = keeps.staging a.0 b.0 a.1 b.1 (same_level a.0 b.0 graph a.2 b.2 (λ q here.
+      sym (staging_sums new.levels next.table stands.table b.0 b.1 q ((b.2.closure.names q).0 here)) ∙ rates q here
+      ∙ staging_sums old.levels state.plain.table stood.plain.table a.0 a.1 q ((a.2.closure.names q).0 here))) in
+      ap (option_map (λ (one : OneLevel). one.parts)) b.1 ∙ ap Some same ∙ sym (ap (option_map (λ (one : OneLevel). one.parts)) a.1)
+
+  pub picks_follow : KeepsPicks state (record { plain = next; picks = picks_of new.levels })
+  picks_follow = record {
+    picks = are_picks new next keeps.picked stands;
+    main = λ is rates. main_kept is rates ∙ sym (ap (λ (p : Picks). p.main) stood.picks);
+    staging = λ graph was is rates. staging_kept graph was is rates ∙ sym (ap (λ (p : Picks). p.staging) stood.picks);
+  }
 
 -- ---- accepted commands
 
 -- the plain part of an accepted command, from every plain state that the graph stood for
 abbrev pub AcceptsAll : Kept → Kept → Command → Reply → Type 0
-AcceptsAll old new command reply = (table : Table) (main : Graph) → StandsPlainly old (state_of old table main)
-    → (next : PlainState) × StandsPlainly new next × ((picks : Picks) → AcceptsPlainly picks (state_of old table main) command reply next)
+AcceptsAll old new command reply = (state : PlainState) → StandsPlainly old state
+    → (next : PlainState) × StandsPlainly new next × ((picks : Picks) → AcceptsPlainly picks state command reply next)
 
-pub steps_accepted : (old new : Kept) (command : Command) (reply : Reply) → Meets old command None → AcceptsAll old new command reply
-    → KeepsCommand command → KeepsParts old new → MakesStep old new command reply
-steps_accepted old new command reply none accepts follow keeps state stands =
-    let P : PlainState → Type 0 = λ (plain : PlainState).
-    (next : PlainState) × StandsPlainly new next × ((picks : Picks) → AcceptsPlainly picks plain command reply next) in
-    let made : P state.plain = of_states old P accepts state.plain stands.plain in
-    let next : State = record { plain = made.0; picks = picks_of new.parts } in (
-      next,
+-- the picks that follow it are the parts
+abbrev pub Follows : Kept → Kept → Command → Type 0
+Follows old new command = (state : State) (next : PlainState) → StandsFor old state → StandsPlainly new next
+    → PicksFollow state command (record { plain = next; picks = picks_of new.levels })
+
+pub steps_made : (old new : Kept) (command : Command) (reply : Reply) → Meets old command None → AcceptsAll old new command reply
+    → Follows old new command → MakesStep old new command reply
+steps_made old new command reply none accepts follow state stands =
+    let made = accepts state.plain stands.plain in (
+      record { plain = made.0; picks = picks_of new.levels },
       record { plain = made.1; picks = refl },
       inr (inr (record {
         none = none state.plain stands.plain;
-        accepts = record {
-          plain = made.2 state.picks;
-          picks = follow state next (picks_follow old new state made.0 stands.plain made.1 stands.picks keeps);
-        };
+        accepts = record { plain = made.2 state.picks; picks = follow state made.0 stands made.1 };
       })),
     )
+
+pub steps_accepted : (old new : Kept) (command : Command) (reply : Reply) → Meets old command None → AcceptsAll old new command reply
+    → KeepsCommand command → KeepsParts old.levels new.levels → MakesStep old new command reply
+steps_accepted old new command reply none accepts follow keeps =
+    steps_made old new command reply none accepts
+    (λ state next stood stands. follow state (record { plain = next; picks = picks_of new.levels }) (picks_follow old new state next stood stands keeps))

@@ -1,132 +1,223 @@
--- The rows of refusals, by the graph that is kept.
-use Rattle.std.proofs.Common.{◌≡◌, ℕ, true, false, List, sym, refl, subst, ap, ◌∙◌, inl, inr, ◌⊎◌, ◌↔◌, Option, None, Some, true≢false}
+-- The rows of refusals, by the levels that are kept.
+use Rattle.std.proofs.Common.{◌≡◌, ℕ, ℤ, ◌<◌, true, false, List, sym, refl, subst, ◌∙◌, inl, inr, ◌⊎◌, ◌↔◌, Option, None, Some, is_some, true≢false}
 use Rattle.std.specs.Prelude.{Contains, sum_by}
-use Rattle.std.specs.FinMap as finmap
 use Rattle.std.proofs.lemmas.Bool.{true_from_ne_false}
-use Rattle.graphs.specs.Closures.{Node, is_member, is_ancestor, rate_of, rate_in, IsOrder, AreLinked}
+use Rattle.lists.proofs.Walks.{Walk-keeps}
+use Rattle.fee_rate.specs.Limits.{IsFee}
 use Rattle.graphs.specs.declared.names.Level.{Level}
-use Rattle.graph_model.specs.declared.names.Refusal.{Refusal}
-use Rattle.graph_model.specs.declared.names.Refusal.TheVariants.{Unknown}
+use Rattle.graphs.specs.declared.names.Level.TheVariants.{Main, Top}
+use Rattle.graphs.specs.Closures.{is_member, is_ancestor, rate_of, IsRelated, AreLinked}
 use Rattle.graphs.specs.Graphs.{Graph, IsAncestor, AreConnected, Lists}
-use Rattle.graph_model.specs.States.{PlainState, Table, level_of, size_of, size_in}
-use Rattle.graph_model.specs.Commands.{Dep}
-use Rattle.graph_model.specs.Refusals.{RefusalIs, First, NoRefusal, OverCount, OverSize}
-use Rattle.graph_model.proofs.RowLemmas.{dep_row_along}
+use Rattle.graphs.proofs.ClosingLemmas.{linked_back}
 use Rattle.graphs.proofs.ListLemmas.{Lists-for}
-use Rattle.tx_graph.specs.Kept.{Kept, StandsPlainly, entry_of}
-use Rattle.tx_graph.specs.Joins.{JoinsTo, JoinsTooMany, JoinsTooLarge, DepRefusalIs}
-use Rattle.tx_graph.proofs.Standing.{state_of, of_states, level-main, told, connected-linked, Meets}
+use Rattle.graph_model.specs.declared.limits.TheConstants.{MAX_COUNT}
+use Rattle.graph_model.specs.declared.names.Limits.{Limits}
+use Rattle.graph_model.specs.declared.names.Refusal.{Refusal}
+use Rattle.graph_model.specs.declared.names.Refusal.TheVariants.{Late, Range, Fee, Unknown, Cycle, Count, ClusterSize, Staging, NoStaging}
+use Rattle.graph_model.specs.Limits.{AreInRange}
+use Rattle.graph_model.specs.States.{PlainState, level_of, size_of, IsStaged}
+use Rattle.graph_model.specs.Commands.{SetLimits, Dep, SetFee, Before}
+use Rattle.graph_model.specs.Refusals.{RefusalIs, First, NoRefusal, OverCount, OverSize}
+use Rattle.graph_model.proofs.LevelLemmas.{same_sum}
+use Rattle.graph_model.proofs.RowLemmas.{first_along, first_at_along}
+use Rattle.levels.specs.Levels.{OneLevel, level_at, IsLive}
+use Rattle.levels.specs.Joins.{JoinsTo, JoinsTooMany, JoinsTooLarge, DepRefusalIs}
+use Rattle.tx_graph.specs.Kept.{Kept, IsGraphOf, StandsPlainly}
+use Rattle.tx_graph.proofs.Standing.{order_kept, told, connected-linked, graph_at, named, staged, live_told, size_kept, Meets}
 
--- the sizes of the table are those of the graph
-size_entry : (o : Option Node) → size_in (entry_of o) ≡ (rate_in o).size
-size_entry None = refl
-size_entry (Some node) = refl
+-- ---- limits
 
-pub size-of : (kept : Kept) (state : PlainState) (id : ℕ) → StandsPlainly kept state → size_of state.table id ≡ (rate_of kept.graph id).size
-unfolding rate_of
-size-of kept state id stands = ap size_in (stands.table id) ∙ size_entry (finmap.get kept.graph id)
+pub late_row : (kept : Kept) (set : Limits) → kept.begun ≡ true → Meets kept (SetLimits set.count set.size set.total) (Some Late)
+late_row kept set begun state stands = inl (stands.begun ∙ begun, refl)
 
-sizes-of : (kept : Kept) (state : PlainState) → StandsPlainly kept state → (ids : List ℕ)
-    → sum_by (size_of state.table) ids ≡ sum_by (λ id. (rate_of kept.graph id).size) ids
-sizes-of kept state stands ids = λ i. sum_by (λ id. size-of kept state id stands i) ids
+early : (kept : Kept) → kept.begun ≡ false → (state : PlainState) → StandsPlainly kept state → state.begun ≡ true → ⊥
+early kept not_yet state stands is = true≢false (sym is ∙ stands.begun ∙ not_yet)
 
-module _ (kept : Kept) (table : Table) (main : Graph) (stands : StandsPlainly kept (state_of kept table main))
-    (order : IsOrder (is_member kept.graph) (is_ancestor kept.graph)) (parent child : ℕ) where
-  abbrev state : PlainState
-  state = state_of kept table main
+pub range_row : (kept : Kept) (set : Limits) → kept.begun ≡ false → (AreInRange MAX_COUNT set → ⊥)
+    → Meets kept (SetLimits set.count set.size set.total) (Some Range)
+range_row kept set not_yet out state stands =
+    inr (early kept not_yet state stands, inl ((λ is. out (subst (λ most. AreInRange most set) stands.most is)), refl))
 
-  absent : (id : ℕ) → (is_member kept.graph id ≡ true → ⊥) ↔ (Contains main.names id → ⊥)
-  absent id = (λ none here. none ((stands.closure.names id).0 here), λ none member. none ((stands.closure.names id).1 member))
+pub limits_row : (kept : Kept) (set : Limits) → kept.begun ≡ false → AreInRange MAX_COUNT set
+    → Meets kept (SetLimits set.count set.size set.total) None
+limits_row kept set not_yet in_range state stands =
+    inr (early kept not_yet state stands, inr (λ out. out (subst (λ most. AreInRange most set) (sym stands.most) in_range), refl))
+
+-- ---- fees
+
+pub fee_out_row : (kept : Kept) (id : ℕ) (fee : ℤ) → (IsFee fee → ⊥) → Meets kept (SetFee id fee) (Some Fee)
+fee_out_row kept id fee out state stands = inl (out, refl)
+
+pub fee_unknown_row : (kept : Kept) (id : ℕ) (fee : ℤ) → IsFee fee → (IsLive kept.levels id → ⊥) → Meets kept (SetFee id fee) (Some (Unknown id))
+fee_unknown_row kept id fee in_range absent state stands =
+    inr (λ out. out in_range, inl (λ live. absent ((live_told kept.levels state.table stands.table id).1 live), refl))
+
+pub fee_row : (kept : Kept) (id : ℕ) (fee : ℤ) → IsFee fee → IsLive kept.levels id → Meets kept (SetFee id fee) None
+fee_row kept id fee in_range live state stands =
+    inr (λ out. out in_range, inr (λ none. none ((live_told kept.levels state.table stands.table id).0 live), refl))
+
+-- ---- a name that must be in a level
+
+-- the row of every command whose only refusal is an unknown name
+abbrev pub NameRow : Level → ℕ → PlainState → Option Refusal → Type 0
+NameRow level id state found = First (Contains (level_of state level).names id → ⊥) (Unknown id) NoRefusal found
+
+pub unknown_here : (kept : Kept) (level : Level) (id : ℕ) → is_member (level_at kept.levels level).graph id ≡ false
+    → (state : PlainState) → StandsPlainly kept state → NameRow level id state (Some (Unknown id))
+unknown_here kept level id fails state stands = inl (λ here. true≢false (sym ((named kept state stands level id).0 here) ∙ fails), refl)
+
+pub known_here : (kept : Kept) (level : Level) (id : ℕ) → is_member (level_at kept.levels level).graph id ≡ true
+    → (state : PlainState) → StandsPlainly kept state → NameRow level id state None
+known_here kept level id holds state stands = inr (λ none. none ((named kept state stands level id).1 holds), refl)
+
+pub no_first_row : (kept : Kept) (a b : ℕ) → is_member kept.levels.main.graph a ≡ false → Meets kept (Before a b) (Some (Unknown a))
+no_first_row kept a b fails state stands = inl (λ here. true≢false (sym ((named kept state stands Main a).0 here) ∙ fails), refl)
+
+pub no_second_row : (kept : Kept) (a b : ℕ) → is_member kept.levels.main.graph a ≡ true → is_member kept.levels.main.graph b ≡ false
+    → Meets kept (Before a b) (Some (Unknown b))
+no_second_row kept a b holds fails state stands =
+    inr (λ none. none ((named kept state stands Main a).1 holds), inl (λ here. true≢false (sym ((named kept state stands Main b).0 here) ∙ fails), refl))
+
+pub both_row : (kept : Kept) (a b : ℕ) → is_member kept.levels.main.graph a ≡ true → is_member kept.levels.main.graph b ≡ true
+    → Meets kept (Before a b) None
+both_row kept a b one two state stands =
+    inr (λ none. none ((named kept state stands Main a).1 one), inr (λ none. none ((named kept state stands Main b).1 two), refl))
+
+-- ---- a staging that must be open, or closed
+
+abbrev pub StagingRow : PlainState → Option Refusal → Type 0
+StagingRow state found = First (IsStaged state) Staging NoRefusal found
+
+abbrev pub NoStagingRow : PlainState → Option Refusal → Type 0
+NoStagingRow state found = First (IsStaged state → ⊥) NoStaging NoRefusal found
+
+pub staged_row : (kept : Kept) → is_some kept.levels.staging ≡ true → (state : PlainState) → StandsPlainly kept state → StagingRow state (Some Staging)
+staged_row kept is state stands = inl (staged kept state stands ∙ is, refl)
+
+pub closed_row : (kept : Kept) → is_some kept.levels.staging ≡ false → (state : PlainState) → StandsPlainly kept state → StagingRow state None
+closed_row kept is state stands = inr (λ there. true≢false (sym there ∙ staged kept state stands ∙ is), refl)
+
+pub unstaged_row : (kept : Kept) → is_some kept.levels.staging ≡ false → (state : PlainState) → StandsPlainly kept state
+    → NoStagingRow state (Some NoStaging)
+unstaged_row kept is state stands = inl (λ there. true≢false (sym there ∙ staged kept state stands ∙ is), refl)
+
+pub open_row : (kept : Kept) → is_some kept.levels.staging ≡ true → (state : PlainState) → StandsPlainly kept state → NoStagingRow state None
+open_row kept is state stands = inr (λ none. none (staged kept state stands ∙ is), refl)
+
+-- ---- pairs
+
+module _ (kept : Kept) (state : PlainState) (stands : StandsPlainly kept state) (parent child : ℕ) where
+  abbrev top : OneLevel
+  top = level_at kept.levels Top
+
+  abbrev graph : Graph
+  graph = level_of state Top
+
+  of : IsGraphOf top graph
+  of = graph_at kept state stands Top
+
+  absent : (id : ℕ) → (is_member top.graph id ≡ true → ⊥) ↔ (Contains graph.names id → ⊥)
+  absent id = (λ none here. none ((of.closure.names id).0 here), λ none member. none ((of.closure.names id).1 member))
 
   -- a name is linked to one of the two, or connected to it
   abbrev IsNear : ℕ → Type 0
-  IsNear id = AreLinked kept.graph id parent ⊎ AreLinked kept.graph id child
+  IsNear id = AreLinked top.graph id parent ⊎ AreLinked top.graph id child
 
   abbrev IsJoined : ℕ → Type 0
-  IsJoined id = AreConnected main.pairs id parent ⊎ AreConnected main.pairs id child
+  IsJoined id = AreConnected graph.pairs id parent ⊎ AreConnected graph.pairs id child
+
+  linked : (a b : ℕ) → AreConnected graph.pairs a b ↔ AreLinked top.graph a b
+  linked = connected-linked top graph of
 
   near_joined : (id : ℕ) → IsNear id ↔ IsJoined id
   near_joined id = (
-    λ near. elim near [
-      | inl x ↦ inl ((connected-linked kept state stands id parent).1 x)
-      | inr y ↦ inr ((connected-linked kept state stands id child).1 y)
-    ],
-    λ met. elim met [
-      | inl x ↦ inl ((connected-linked kept state stands id parent).0 x)
-      | inr y ↦ inr ((connected-linked kept state stands id child).0 y)
-    ],
+    λ near. elim near [ inl x ↦ inl ((linked id parent).1 x) | inr y ↦ inr ((linked id child).1 y) ],
+    λ met. elim met [ inl x ↦ inl ((linked id parent).0 x) | inr y ↦ inr ((linked id child).0 y) ],
   )
 
-  joins_to : (members : List ℕ) → JoinsTo kept.graph parent child members ↔ ((AreConnected main.pairs parent child → ⊥) × Lists IsJoined members)
+  joins_to : (members : List ℕ) → JoinsTo top.graph parent child members ↔ ((AreConnected graph.pairs parent child → ⊥) × Lists IsJoined members)
   joins_to members = (
     λ joins. (
-      λ trail. joins.0 ((connected-linked kept state stands parent child).0 trail),
+      λ trail. joins.0 ((linked parent child).0 trail),
       Lists-for IsNear IsJoined members (λ id. (near_joined id).0) (λ id. (near_joined id).1) joins.1,
     ),
     λ joins. (
-      λ linked. joins.0 ((connected-linked kept state stands parent child).1 linked),
+      λ meet. joins.0 ((linked parent child).1 meet),
       Lists-for IsJoined IsNear members (λ id. (near_joined id).1) (λ id. (near_joined id).0) joins.1,
     ),
   )
 
-  too_many : (n : ℕ) → JoinsTooMany kept.limits kept.graph parent child n ↔ OverCount state parent child n
-  too_many n = (λ many. (many.0, (joins_to many.0).0 many.1, many.2, many.3), λ many. (many.0, (joins_to many.0).1 many.1, many.2, many.3))
-
-  too_large : (n : ℕ) → JoinsTooLarge kept.limits kept.graph parent child n ↔ OverSize state parent child n
-  too_large n = (
-    λ large. (large.0, (joins_to large.0).0 large.1, large.2 ∙ sym (sizes-of kept state stands large.0), large.3),
-    λ large. (large.0, (joins_to large.0).1 large.1, large.2 ∙ sizes-of kept state stands large.0, large.3),
+  too_many : (n : ℕ) → JoinsTooMany kept.limits top.graph parent child n ↔ OverCount state parent child n
+  too_many n = (
+    λ many. (many.0, (joins_to many.0).0 many.1, many.2, subst (λ (l : Limits). l.count < n) (sym stands.limits) many.3),
+    λ many. (many.0, (joins_to many.0).1 many.1, many.2, subst (λ (l : Limits). l.count < n) stands.limits many.3),
   )
 
-  -- a live name is an ancestor of itself
-  cycle : is_member kept.graph parent ≡ true → (is_ancestor kept.graph child parent ≡ true) ↔ IsAncestor main.pairs child parent
-  cycle member = (
-    λ up. (told kept state stands child parent).1 (inr up),
-    λ walk. elim ((told kept state stands child parent).0 walk) [
-      | inl same ↦ subst (λ x. is_ancestor kept.graph x parent ≡ true) (sym same) (order.reflexive parent member)
-      | inr up ↦ up
-    ],
-  )
+  -- what is linked to a name of the level is one
+  near_here : (a id : ℕ) → is_member top.graph a ≡ true → AreLinked top.graph id a → is_member top.graph id ≡ true
+  near_here a id here meet =
+      Walk-keeps (IsRelated top.graph) (λ q. is_member top.graph q ≡ true)
+      (λ x y related there. elim related [ inl up ↦ (of.among x y up).1 | inr down ↦ (of.among y x down).0 ]) a id (linked_back top.graph id a meet) here
 
-  dep_row_here : (found : Option Refusal) → DepRefusalIs kept.limits kept.graph parent child found → RefusalIs state (Dep parent child) found
-  dep_row_here found = dep_row_along _ _ _ _ _ _ (JoinsTooMany kept.limits kept.graph parent child) (JoinsTooLarge kept.limits kept.graph parent child)
-      (OverCount state parent child) (OverSize state parent child) parent child found (absent parent) (absent child)
-      (λ there _. cycle (true_from_ne_false (is_member kept.graph parent) (λ fails. there (λ holds. true≢false (sym holds ∙ fails))))) too_many too_large
+  module _ (above : is_member top.graph parent ≡ true) (below : is_member top.graph child ≡ true) where
+    members_here : (members : List ℕ) → JoinsTo top.graph parent child members → (id : ℕ) → Contains members id → is_member top.graph id ≡ true
+    members_here members joins id here = elim ((joins.1.exact id).0 here) [
+      | inl meet ↦ near_here parent id above meet
+      | inr meet ↦ near_here child id below meet
+    ]
 
-pub dep_row : (kept : Kept) (parent child : ℕ) (found : Option Refusal) → IsOrder (is_member kept.graph) (is_ancestor kept.graph)
-    → DepRefusalIs kept.limits kept.graph parent child found → Meets kept (Dep parent child) found
-dep_row kept parent child found order row =
-    of_states kept (λ state. RefusalIs state (Dep parent child) found)
-    (λ table main stands. dep_row_here kept table main stands order parent child found row)
+    -- fees and sizes of the table are those of the level
+    sizes : (members : List ℕ) → JoinsTo top.graph parent child members
+        → sum_by (size_of state.table) members ≡ sum_by (λ id. (rate_of top.graph id).size) members
+    sizes members joins =
+        same_sum (size_of state.table) (λ id. (rate_of top.graph id).size) members
+        (λ id here. size_kept kept.levels state.table stands.table Top id (members_here members joins id here))
 
--- ---- a name that must be in a level
+    too_large : (n : ℕ) → JoinsTooLarge kept.limits top.graph parent child n ↔ OverSize state parent child n
+    too_large n = (
+      λ large. (
+        large.0,
+        (joins_to large.0).0 large.1,
+        large.2 ∙ sym (sizes large.0 large.1),
+        subst (λ (l : Limits). l.size < n) (sym stands.limits) large.3,
+      ),
+      λ large.
+          let joins = (joins_to large.0).1 large.1 in
+          (large.0, joins, large.2 ∙ sizes large.0 joins, subst (λ (l : Limits). l.size < n) stands.limits large.3),
+    )
 
-abbrev IsIn : PlainState → Level → ℕ → Type 0
-IsIn state level id = Contains (level_of state level).names id
+    -- a name of the level is an ancestor of itself
+    cycle : (is_ancestor top.graph child parent ≡ true) ↔ IsAncestor graph.pairs child parent
+    cycle = (
+      λ up. (told top graph of child parent).1 (inr up),
+      λ walk. elim ((told top graph of child parent).0 walk) [
+        | inl same ↦ subst (λ x. is_ancestor top.graph x parent ≡ true) (sym same) ((order_kept top graph of).reflexive parent above)
+        | inr up ↦ up
+      ],
+    )
 
-not_in_level : (kept : Kept) (table : Table) (main : Graph) (level : Level) (id : ℕ) → StandsPlainly kept (state_of kept table main)
-    → is_member kept.graph id ≡ false → IsIn (state_of kept table main) level id → ⊥
-not_in_level kept table main level id stands fails here =
-    let there : Contains main.names id = subst (λ (l : Graph). Contains l.names id) (level-main kept table main level) here in
-    true≢false (sym ((stands.closure.names id).0 there) ∙ fails)
+  here_from : (id : ℕ) → ((is_member top.graph id ≡ true → ⊥) → ⊥) → is_member top.graph id ≡ true
+  here_from id there = true_from_ne_false (is_member top.graph id) (λ fails. there (λ holds. true≢false (sym holds ∙ fails)))
 
-in_level : (kept : Kept) (table : Table) (main : Graph) (level : Level) (id : ℕ) → StandsPlainly kept (state_of kept table main)
-    → is_member kept.graph id ≡ true → IsIn (state_of kept table main) level id
-in_level kept table main level id stands holds =
-    subst (λ (l : Graph). Contains l.names id) (sym (level-main kept table main level)) ((stands.closure.names id).1 holds)
+  dep_row_here : (found : Option Refusal) → DepRefusalIs kept.limits top.graph parent child found → RefusalIs state (Dep parent child) found
+  dep_row_here found row = elim row [
+    | inl here ↦ inl ((absent parent).0 here.0, here.1)
+    | inr on ↦ inr (
+      λ holds. on.0 ((absent parent).1 holds),
+      elim on.1 [
+        | inl here ↦ inl ((absent child).0 here.0, here.1)
+        | inr more ↦
+            let above = here_from parent on.0 in
+            let below = here_from child more.0 in
+            inr (
+              λ holds. more.0 ((absent child).1 holds),
+              first_along Cycle (cycle above below)
+                  (first_at_along Count too_many (first_at_along ClusterSize (too_large above below) (λ none. none))) more.1,
+            )
+      ],
+    )
+  ]
 
--- the row of every command whose only refusal is an unknown name
-abbrev pub NameRow : Level → ℕ → PlainState → Option Refusal → Type 0
-NameRow level id state found = First (IsIn state level id → ⊥) (Unknown id) NoRefusal found
-
-pub unknown_here : (kept : Kept) (level : Level) (id : ℕ) → is_member kept.graph id ≡ false → (state : PlainState) → StandsPlainly kept state
-    → NameRow level id state (Some (Unknown id))
-unknown_here kept level id fails =
-    of_states kept (λ state. NameRow level id state (Some (Unknown id)))
-    (λ table main stands. inl (not_in_level kept table main level id stands fails, refl))
-
-pub known_here : (kept : Kept) (level : Level) (id : ℕ) → is_member kept.graph id ≡ true → (state : PlainState) → StandsPlainly kept state
-    → NameRow level id state None
-known_here kept level id holds =
-    of_states kept (λ state. NameRow level id state None)
-    (λ table main stands. inr (λ none. none (in_level kept table main level id stands holds), refl))
+pub dep_row : (kept : Kept) (parent child : ℕ) (found : Option Refusal) → DepRefusalIs kept.limits (level_at kept.levels Top).graph parent child found
+    → Meets kept (Dep parent child) found
+dep_row kept parent child found row state stands = dep_row_here kept state stands parent child found row

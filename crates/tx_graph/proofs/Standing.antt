@@ -1,118 +1,134 @@
 -- Which states a graph stands for, and the steps of the machine that change nothing.
-use Rattle.std.proofs.Common.{◌≡◌, ℕ, true, sym, refl, ap, subst, ◌∙◌, inl, inr, ◌⊎◌, ◌↔◌, List, Option, None, Some, is_some}
+use Rattle.std.proofs.Common.{◌≡◌, ℕ, Bool, true, false, sym, refl, ap, subst, ◌∙◌, inl, inr, ◌⊎◌, ◌↔◌, Option, None, Some, is_some, true≢false}
+use Rattle.std.specs.Prelude.{Contains}
 use Rattle.std.specs.FinMap as finmap
-use Rattle.graphs.specs.Closures.{Node, Closure, is_member, is_ancestor, IsOrder, AreLinked}
-use Rattle.graphs.specs.Closing.{IsClosureOf}
-use Rattle.graphs.specs.Certificates.{Part}
-use Rattle.graphs.proofs.ClosingLemmas.{order_from, ancestors_told, connected_linked}
+use Rattle.lists.proofs.Cases.{some_none}
 use Rattle.graphs.specs.declared.names.Level.{Level}
 use Rattle.graphs.specs.declared.names.Level.TheVariants.{Main, Top}
+use Rattle.graphs.specs.Closures.{is_member, is_ancestor, IsOrder, AreLinked}
+use Rattle.graphs.specs.Graphs.{Graph, IsAncestor, AreConnected}
+use Rattle.graphs.proofs.ClosingLemmas.{order_from, ancestors_told, connected_linked}
+use Rattle.cluster.specs.Clusters.{sum_at}
 use Rattle.graph_model.specs.declared.names.Refusal.{Refusal}
 use Rattle.graph_model.specs.declared.names.Refusal.TheVariants.{Memory}
-use Rattle.graphs.specs.Graphs.{Graph, IsAncestor, AreConnected}
-use Rattle.graph_model.specs.States.{PlainState, Picks, Table, level_of}
+use Rattle.graph_model.specs.States.{PlainState, Picks, Table, level_of, pick_of, top_of, sum_in, size_of, IsStaged}
+use Rattle.graph_model.specs.States as states
 use Rattle.graph_model.specs.Commands.{Command}
 use Rattle.graph_model.specs.Refusals.{RefusalIs}
 use Rattle.graph_model.specs.Replies.{Refused}
 use Rattle.graph_model.specs.Steps.{MayLackMemory}
-use Rattle.graph_model.specs.declared.limits.TheConstants.{MAX_COUNT}
-use Rattle.tx_graph.specs.Kept.{Kept, StandsPlainly, MakesStep, entry_of}
+use Rattle.levels.specs.Levels.{OneLevel, Levels, level_at, IsLive}
+use Rattle.tx_graph.specs.Kept.{Kept, HasRates, IsGraphOf, IsStagingOf, StandsPlainly, MakesStep, picks_of}
 
--- a state with this table and this main graph
-abbrev pub state_of : Kept → Table → Graph → PlainState
-state_of kept table main = record { limits = kept.limits; most = MAX_COUNT; begun = kept.begun; table = table; main = main; staging = None }
+-- ---- one level
 
--- what holds of each such state that the graph stands for holds of each that it stands for
-pub of_states : (kept : Kept) (P : PlainState → Type 0)
-    → ((table : Table) (main : Graph) → StandsPlainly kept (state_of kept table main) → P (state_of kept table main))
-    → (state : PlainState) → StandsPlainly kept state → P state
-of_states kept P holds state stands =
-    let same : state_of kept state.table state.main ≡ state = λ i. record {
-      limits = sym stands.limits i;
-      most = sym stands.most i;
-      begun = sym stands.begun i;
-      table = state.table;
-      main = state.main;
-      staging = sym stands.staging i;
-    } in
-    subst P same (holds state.table state.main (record {
-      limits = refl;
-      most = refl;
-      begun = refl;
-      table = stands.table;
-      closure = stands.closure;
-      among = stands.among;
-      valid = stands.valid;
-      staging = refl;
-    }))
+module _ (level : OneLevel) (graph : Graph) (of : IsGraphOf level graph) where
+  pub order_kept : IsOrder (is_member level.graph) (is_ancestor level.graph)
+  order_kept = order_from (is_member level.graph) (is_ancestor level.graph) graph of.closure of.among
 
-module _ (kept : Kept) (state : PlainState) (stands : StandsPlainly kept state) where
-  pub order_kept : IsOrder (is_member kept.graph) (is_ancestor kept.graph)
-  order_kept = order_from (is_member kept.graph) (is_ancestor kept.graph) state.main stands.closure stands.among
-
-  pub told : (a b : ℕ) → IsAncestor state.main.pairs a b ↔ ((a ≡ b) ⊎ (is_ancestor kept.graph a b ≡ true))
-  told = ancestors_told (is_member kept.graph) (is_ancestor kept.graph) state.main stands.closure order_kept
+  pub told : (a b : ℕ) → IsAncestor graph.pairs a b ↔ ((a ≡ b) ⊎ (is_ancestor level.graph a b ≡ true))
+  told = ancestors_told (is_member level.graph) (is_ancestor level.graph) graph of.closure order_kept
 
   -- names are connected by pairs where steps to ancestors and descendants lead from the one to the other
-  pub connected-linked : (a b : ℕ) → AreConnected state.main.pairs a b ↔ AreLinked kept.graph a b
-  connected-linked = connected_linked kept.graph state.main order_kept stands.closure
+  pub connected-linked : (a b : ℕ) → AreConnected graph.pairs a b ↔ AreLinked level.graph a b
+  connected-linked = connected_linked level.graph graph order_kept of.closure
+
+-- ---- both levels
+
+staged_alike : (level : Option OneLevel) (staging : Option Graph) → IsStagingOf level staging → is_some staging ≡ is_some level
+staged_alike None None of = refl
+staged_alike None (Some graph) of = absurd of
+staged_alike (Some level) None of = absurd of
+staged_alike (Some level) (Some graph) of = refl
+
+top_graph : (main : OneLevel) (graph : Graph) (level : Option OneLevel) (staging : Option Graph) → IsGraphOf main graph → IsStagingOf level staging
+    → IsGraphOf (top_of main level) (top_of graph staging)
+top_graph main graph None None one of = one
+top_graph main graph None (Some staging) one of = absurd of
+top_graph main graph (Some level) None one of = absurd of
+top_graph main graph (Some level) (Some staging) one of = of
+
+-- the graph of an open staging
+pub open_level : (level : Option OneLevel) (staging : Option Graph) (graph : Graph) → IsStagingOf level staging → staging ≡ Some graph
+    → (one : OneLevel) × (level ≡ Some one) × IsGraphOf one graph
+open_level None None graph of is = absurd (some_none graph (sym is))
+open_level None (Some other) graph of is = absurd of
+open_level (Some one) None graph of is = absurd of
+open_level (Some one) (Some other) graph of is = (one, refl, subst (IsGraphOf one) (one_of other graph is) of)
+  where
+    one_of : (a b : Graph) → Some a ≡ Some b → a ≡ b
+    one_of a b same = cc
+
+pub closed_level : (level : Option OneLevel) (staging : Option Graph) → IsStagingOf level staging → staging ≡ None → level ≡ None
+closed_level None None of is = refl
+closed_level None (Some other) of is = absurd of
+closed_level (Some one) None of is = absurd of
+closed_level (Some one) (Some other) of is = absurd (some_none other is)
+
+module _ (kept : Kept) (state : PlainState) (stands : StandsPlainly kept state) where
+  pub graph_at : (level : Level) → IsGraphOf (level_at kept.levels level) (level_of state level)
+  graph_at Main = stands.main
+  graph_at Top = top_graph kept.levels.main state.main kept.levels.staging state.staging stands.main stands.staging
+
+  pub named : (level : Level) (id : ℕ) → Contains (level_of state level).names id ↔ (is_member (level_at kept.levels level).graph id ≡ true)
+  named level = (graph_at level).closure.names
+
+  pub staged : is_some state.staging ≡ is_some kept.levels.staging
+  staged = staged_alike kept.levels.staging state.staging stands.staging
+
+pub picks_at : (levels : Levels) (level : Level) → pick_of (picks_of levels) level ≡ (level_at levels level).parts
+picks_at levels Main = refl
+picks_at levels Top = by levels.staging
+  where
+    by : (staging : Option OneLevel)
+        → pick_of (picks_of (record levels { staging = staging })) Top ≡ (level_at (record levels { staging = staging }) Top).parts
+    by None = refl
+    by (Some one) = refl
+
+-- ---- what is live
+
+told_live : (a b : Bool) → ((a ≡ true) ⊎ (b ≡ true)) ⊎ (((a ≡ true) ⊎ (b ≡ true)) → ⊥)
+told_live true b = inl (inl refl)
+told_live false true = inl (inr refl)
+told_live false false = inr (λ live. elim live [ inl one ↦ true≢false (sym one) | inr two ↦ true≢false (sym two) ])
+
+pub live_or_not : (levels : Levels) (id : ℕ) → IsLive levels id ⊎ (IsLive levels id → ⊥)
+live_or_not levels id = told_live (is_member levels.main.graph id) (is_member (level_at levels Top).graph id)
+
+-- a name of a level is live
+pub live_at : (levels : Levels) (level : Level) (id : ℕ) → is_member (level_at levels level).graph id ≡ true → IsLive levels id
+live_at levels Main id member = inl member
+live_at levels Top id member = inr member
+
+-- ---- tables
+
+module _ (levels : Levels) (table : Table) (rates : HasRates levels table) where
+  -- the sum of a name of a level
+  pub sum_kept : (level : Level) (id : ℕ) → is_member (level_at levels level).graph id ≡ true
+      → states.rate_of table id ≡ sum_at (level_at levels level).graph id
+  sum_kept level id member = ap sum_in (rates.names level id member)
+
+  pub size_kept : (level : Level) (id : ℕ) → is_member (level_at levels level).graph id ≡ true
+      → size_of table id ≡ (sum_at (level_at levels level).graph id).size
+  size_kept level id member = ap states.size_in (rates.names level id member)
+
+  -- a name is live where it is in a level
+  pub live_told : (id : ℕ) → IsLive levels id ↔ (is_some (finmap.get table id) ≡ true)
+  live_told id = (
+    λ live. elim live [ inl one ↦ ap is_some (rates.names Main id one) | inr two ↦ ap is_some (rates.names Top id two) ],
+    λ there. elim (live_or_not levels id) [ inl live ↦ live | inr none ↦ absurd (true≢false (sym there ∙ ap is_some (rates.none id none))) ],
+  )
+
+-- ---- steps that change nothing
 
 -- what a command meets in every state that the graph stands for
 abbrev pub Meets : Kept → Command → Option Refusal → Type 0
 Meets kept command found = (state : PlainState) → StandsPlainly kept state → RefusalIs state command found
 
--- two graphs that differ at most in the count of additions
-pub record IsSameGraph (old new : Kept) : Type 0 where
-  pub limits : new.limits ≡ old.limits
-  pub begun : new.begun ≡ old.begun
-  pub graph : new.graph ≡ old.graph
-  pub parts : new.parts ≡ old.parts
+pub steps_refused : (kept : Kept) (command : Command) (why : Refusal) → Meets kept command (Some why) → MakesStep kept kept command (Refused why)
+steps_refused kept command why refused state stands =
+    (state, stands, inl (record { why = why; first = refused state.plain stands.plain; told = refl; same = refl }))
 
-pub itself : (kept : Kept) → IsSameGraph kept kept
-itself kept = record { limits = refl; begun = refl; graph = refl; parts = refl }
-
-pub stands_still : (old new : Kept) → IsSameGraph old new → (state : PlainState) → StandsPlainly old state → StandsPlainly new state
-stands_still old new same state stands = record {
-  limits = stands.limits ∙ sym same.limits;
-  most = stands.most;
-  begun = stands.begun ∙ sym same.begun;
-  table = λ id. stands.table id ∙ ap (λ (g : Closure). entry_of (finmap.get g id)) (sym same.graph);
-  closure = subst (λ (g : Closure). IsClosureOf g state.main) (sym same.graph) stands.closure;
-  among = subst (λ (g : Closure). (a d : ℕ) → is_ancestor g a d ≡ true → (is_member g a ≡ true) × (is_member g d ≡ true)) (sym same.graph) stands.among;
-  valid = stands.valid;
-  staging = stands.staging;
-}
-
--- the picks of a graph without a staging
-abbrev pub picks_of : List Part → Picks
-picks_of parts = record { main = parts; staging = None }
-
-pub steps_refused : (old new : Kept) (command : Command) (why : Refusal) → IsSameGraph old new → Meets old command (Some why)
-    → MakesStep old new command (Refused why)
-steps_refused old new command why same refused state stands = (
-  state,
-  record { plain = stands_still old new same state.plain stands.plain; picks = stands.picks ∙ ap picks_of (sym same.parts) },
-  inl (record { why = why; first = refused state.plain stands.plain; told = refl; same = refl }),
-)
-
-pub steps_without_memory : (old new : Kept) (command : Command) → IsSameGraph old new → MayLackMemory command → Meets old command None
-    → MakesStep old new command (Refused Memory)
-steps_without_memory old new command same may none state stands = (
-  state,
-  record { plain = stands_still old new same state.plain stands.plain; picks = stands.picks ∙ ap picks_of (sym same.parts) },
-  inr (inl (record { none = none state.plain stands.plain; may = may; told = refl; same = refl })),
-)
-
--- without a staging level both words speak of main
-pub level-main : (kept : Kept) (table : Table) (main : Graph) (level : Level) → level_of (state_of kept table main) level ≡ main
-level-main kept table main Main = refl
-level-main kept table main Top = refl
-
-some_entry : (o : Option Node) → is_some (entry_of o) ≡ is_some o
-some_entry None = refl
-some_entry (Some node) = refl
-
--- a name is live where it is a member
-pub live-member : (kept : Kept) (state : PlainState) (id : ℕ) → StandsPlainly kept state → is_some (finmap.get state.table id) ≡ is_member kept.graph id
-unfolding is_member
-live-member kept state id stands = ap is_some (stands.table id) ∙ some_entry (finmap.get kept.graph id)
+pub steps_without_memory : (kept : Kept) (command : Command) → MayLackMemory command → Meets kept command None → MakesStep kept kept command (Refused Memory)
+steps_without_memory kept command may none state stands =
+    (state, stands, inr (inl (record { none = none state.plain stands.plain; may = may; told = refl; same = refl })))

@@ -1,52 +1,84 @@
--- A graph without names.
-use Rattle.std.proofs.Common.{◌≡◌, ℕ, true, false, [], sym, refl, ap, ◌∙◌, None, is_some, true≢false}
-use Rattle.std.specs.Prelude.{Contains}
-use Rattle.std.specs.Ordering.{nat_cmp}
+-- A graph without names stands for the start.
+use Rattle.std.proofs.Common.{◌≡◌, ℕ, true, false, [], sym, refl, ap, subst, ◌∙◌, is_some, true≢false}
 use Rattle.std.specs.FinMap as finmap
+use Rattle.std.specs.FinSet as set
+use Rattle.std.specs.Ordering.{nat_cmp}
 use Rattle.lists.proofs.Entries.{none_in_empty}
-use Rattle.graphs.specs.Closures.{is_member}
+use Rattle.graphs.specs.declared.names.Level.TheVariants.{Main, Top}
+use Rattle.graphs.specs.Closures.{is_member, is_ancestor, ancestors_in, ancestors_of}
+use Rattle.cluster.specs.Clusters.{ArePicked}
 use Rattle.graph_model.specs.declared.names.Limits.{Limits}
-use Rattle.graph_model.specs.States.{plain_start}
-use Rattle.graph_model.specs.declared.limits.TheConstants.{MAX_COUNT}
-use Rattle.cluster_store.specs.Stores.{places_by}
-use Rattle.tx_graph.specs.Kept.{StandsPlainly, StandsFor, entry_of, start_within}
-use Rattle.tx_graph.specs.Shelves.{Shelf, graph_of, parts_of, no_clusters}
-use Rattle.tx_graph.proofs.Graphs.{member-number, above-none, get-none}
-use Rattle.tx_graph.proofs.Standing.{picks_of}
+use Rattle.graph_model.specs.States.{empty_graph}
+use Rattle.tx_graph.specs.Kept.{IsGraphOf, StandsFor, start_within}
+use Rattle.levels.specs.Levels.{Levels, HavePicks, empty_level, no_names}
 use Rattle.tx_graph.proofs.Calls.{kept_of}
 
-no_parts : parts_of no_clusters ≡ []
-unfolding places_by
-no_parts = refl
+no_member : (id : ℕ) → is_member empty_level.graph id ≡ false
+unfolding is_member
+no_member id = ap is_some (finmap.get-empty nat_cmp id)
 
-module _ (limits : Limits) (shelf : Shelf) (empty : shelf ≡ no_clusters) where
-  no_number : (id : ℕ) → finmap.get shelf.numbers id ≡ None
-  no_number id = ap (λ (s : Shelf). finmap.get s.numbers id) empty ∙ finmap.get-empty nat_cmp id
+none_live : {P : Type 0} (id : ℕ) → is_member empty_level.graph id ≡ true → P
+none_live id member = absurd (true≢false (sym member ∙ no_member id))
 
-  none_live : (id : ℕ) → is_member (graph_of shelf) id ≡ true → Contains [] id
-  none_live id member = absurd (true≢false (sym member ∙ member-number shelf id ∙ ap is_some (no_number id)))
+no_ancestor : (a d : ℕ) → is_ancestor empty_level.graph a d ≡ false
+unfolding ancestors_of
+no_ancestor a d = ap (λ o. set.contains (ancestors_in o) a) (finmap.get-empty nat_cmp d) ∙ set.contains-empty nat_cmp a
 
-  stands_plainly : StandsPlainly (kept_of limits false 0 shelf) (record (plain_start MAX_COUNT) { limits = limits })
-  stands_plainly = record {
-    most = refl;
-    limits = refl;
-    begun = refl;
-    table = λ id. finmap.get-empty nat_cmp id ∙ sym (ap entry_of (get-none shelf id (no_number id)));
-    closure = record {
-      names = λ id. (λ here. absurd (none_in_empty id here), none_live id);
-      ends = λ parent child here. absurd (none_in_empty (parent, child) here);
-      acyclic = λ a n walk. none_in_empty (walk.0, a) walk.2;
-      ancestors = λ a d here there. absurd (none_in_empty a (none_live a here));
+-- an order without parts is a pick of every graph without names
+no_parts_picked : ArePicked empty_level.graph []
+no_parts_picked graph closes = record {
+  certificate = record {
+    filled = λ part here. absurd (none_in_empty part here);
+    order = record {
+      topological = record {
+        once = tt;
+        names = λ id. (λ here. absurd (none_in_empty id here), λ here. none_live id ((closes.names id).0 here));
+        parents_first = λ parent child pair. none_live parent (closes.ends parent child pair).0;
+      };
+      together = λ part here. absurd (none_in_empty part here);
     };
-    among = λ a d up. absurd (true≢false (sym up ∙ above-none shelf a d (no_number d)));
-    valid = record {
-      names = tt;
-      pairs = tt;
-      ends = λ parent child here. absurd (none_in_empty (parent, child) here);
-      acyclic = λ a n walk. none_in_empty (walk.0, a) walk.2;
+    falling = record { summed = λ part here. absurd (none_in_empty part here); falling = tt };
+    flows = λ part here. absurd (none_in_empty part here);
+  };
+  flows_in_order = λ part here. absurd (none_in_empty part here);
+}
+
+graph_of_none : IsGraphOf empty_level empty_graph
+graph_of_none = record {
+  closure = record {
+    names = λ id. (λ here. absurd (none_in_empty id here), λ member. none_live id member);
+    ends = λ parent child here. absurd (none_in_empty (parent, child) here);
+    acyclic = λ a n walk. none_in_empty (walk.0, a) walk.2;
+    ancestors = λ a d here there. none_live a here;
+  };
+  among = λ a d up. absurd (true≢false (sym up ∙ no_ancestor a d));
+  valid = record {
+    names = tt;
+    pairs = tt;
+    ends = λ parent child here. absurd (none_in_empty (parent, child) here);
+    acyclic = λ a n walk. none_in_empty (walk.0, a) walk.2;
+  };
+}
+
+pub picks_none : (levels : Levels) → levels ≡ no_names → HavePicks levels
+picks_none levels is = subst HavePicks (sym is) (no_parts_picked, tt)
+
+module _ (limits : Limits) where
+  none_stands : StandsFor (kept_of limits false no_names) (start_within limits)
+  none_stands = record {
+    plain = record {
+      most = refl;
+      limits = refl;
+      begun = refl;
+      table = record {
+        names = elim [ Main ↦ λ id member. none_live id member | Top ↦ λ id member. none_live id member ];
+        none = λ id _. finmap.get-empty nat_cmp id;
+      };
+      main = graph_of_none;
+      staging = tt;
     };
-    staging = refl;
+    picks = refl;
   }
 
-  pub stands_start : StandsFor (kept_of limits false 0 shelf) (start_within limits)
-  stands_start = record { plain = stands_plainly; picks = ap picks_of (sym (ap parts_of empty ∙ no_parts)) }
+  pub stands_start : (levels : Levels) → levels ≡ no_names → StandsFor (kept_of limits false levels) (start_within limits)
+  stands_start levels is = subst (λ (l : Levels). StandsFor (kept_of limits false l) (start_within limits)) (sym is) none_stands

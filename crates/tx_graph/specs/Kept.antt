@@ -1,63 +1,75 @@
 -- What a transaction graph keeps, and which states it stands for.
-use Rattle.std.specs.Prelude.{◌≡◌, ℕ, Bool, true, List, [], Option, None, Some, ◌&&◌, ◌||◌, ◌≢◌, nat_eq, refl}
-use Rattle.std.specs.Coded.{Coded, code_by, coded×, coded_ℕ, coded_bool, coded_list}
+use Rattle.std.specs.Prelude.{◌≡◌, ℕ, Bool, true, [], Option, None, Some, option_map, refl}
+use Rattle.std.specs.Coded.{Coded, code_by, coded×, coded_ℕ, coded_bool}
 use Rattle.std.specs.FinMap as finmap
-use Rattle.graphs.specs.Closures.{Node, Closure, closure_code, is_member, is_ancestor, rate_of}
-use Rattle.graphs.specs.Certificates.{Part}
 use Rattle.fee_rate.specs.declared.rates.FeeRate.{FeeRate}
-use Rattle.graph_model.specs.declared.names.Limits.{Limits}
-use Rattle.graphs.specs.Graphs.{IsGraph}
+use Rattle.graphs.specs.declared.names.Level.{Level}
+use Rattle.graphs.specs.Closures.{is_member, is_ancestor, rate_of}
 use Rattle.graphs.specs.Closing.{IsClosureOf}
-use Rattle.graph_model.specs.States.{PlainState, State, Entry, plain_start}
+use Rattle.graphs.specs.Graphs.{Graph, IsGraph}
+use Rattle.graph_model.specs.declared.limits.TheConstants.{MAX_COUNT}
+use Rattle.graph_model.specs.declared.names.Limits.{Limits}
 use Rattle.graph_model.specs.Commands.{Command}
 use Rattle.graph_model.specs.Replies.{Reply}
+use Rattle.graph_model.specs.States.{Entry, Table, Picks, PlainState, State, plain_start}
 use Rattle.graph_model.specs.Steps.{Step}
-use Rattle.graph_model.specs.declared.limits.TheConstants.{MAX_COUNT}
-use Rattle.cluster.specs.Clusters.{part_code}
+use Rattle.levels.specs.Levels.{OneLevel, Levels, levels_code, level_at, IsLive}
 
--- The limits, whether a change was accepted, each name with its fee, its size and its ancestors, the parts of the order, and how many
--- additions were accepted. Pairs aren't kept.
+-- The limits, whether a change was accepted, and the levels: of each its names with their fees, sizes and ancestors, and the parts of its
+-- order. Pairs aren't kept.
 pub record Kept : Type 0 where
   pub limits : Limits
   pub begun : Bool
-  pub graph : Closure
-  pub parts : List Part
-  pub additions : ℕ
+  pub levels : Levels
 
 abbrev pub kept_code : Coded Kept
 kept_code =
-    code_by ((ℕ × (ℕ × ℕ)) × (Bool × (Closure × (List Part × ℕ))))
-    (coded× (coded× coded_ℕ (coded× coded_ℕ coded_ℕ)) (coded× coded_bool (coded× closure_code (coded× (coded_list part_code) coded_ℕ))))
-    (λ k. ((k.limits.count, (k.limits.size, k.limits.total)), (k.begun, (k.graph, (k.parts, k.additions)))))
-    (λ p. record {
-      limits = record { count = p.0.0; size = p.0.1.0; total = p.0.1.1 };
-      begun = p.1.0;
-      graph = p.1.1.0;
-      parts = p.1.1.1.0;
-      additions = p.1.1.1.1;
-    }) (λ _. refl)
+    code_by ((ℕ × (ℕ × ℕ)) × (Bool × Levels)) (coded× (coded× coded_ℕ (coded× coded_ℕ coded_ℕ)) (coded× coded_bool levels_code))
+    (λ k. ((k.limits.count, (k.limits.size, k.limits.total)), (k.begun, k.levels)))
+    (λ p. record { limits = record { count = p.0.0; size = p.0.1.0; total = p.0.1.1 }; begun = p.1.0; levels = p.1.1 }) (λ _. refl)
 
--- fee and size of a name that has them
-abbrev pub entry_of : Option Node → Option Entry
-entry_of None = None
-entry_of (Some node) = Some (record { fee = node.rate.fee; size = node.rate.size })
+-- what a table has of a name of this fee and size
+abbrev pub entry_of : FeeRate → Entry
+entry_of rate = record { fee = rate.fee; size = rate.size }
 
--- A graph stands for each plain state with its limits, its names with their fees and sizes, and a main graph whose closure it keeps.
+-- A table has of each name of a level the fee and the size that the level keeps, so that a name of both levels has one fee and one size, and
+-- nothing of other names.
+pub record HasRates (levels : Levels) (table : Table) : Type 0 where
+  pub names : (level : Level) (id : ℕ) → is_member (level_at levels level).graph id ≡ true
+      → finmap.get table id ≡ Some (entry_of (rate_of (level_at levels level).graph id))
+  pub none : (id : ℕ) → (IsLive levels id → ⊥) → finmap.get table id ≡ None
+
+-- A plain graph has the closure that a level keeps, which relates names of the level alone.
+pub record IsGraphOf (level : OneLevel) (graph : Graph) : Type 0 where
+  pub closure : IsClosureOf level.graph graph
+  pub among : (a d : ℕ) → is_ancestor level.graph a d ≡ true → (is_member level.graph a ≡ true) × (is_member level.graph d ≡ true)
+  pub valid : IsGraph graph
+
+-- there is a staging in both or in neither, with its closure
+abbrev pub IsStagingOf : Option OneLevel → Option Graph → Type 0
+IsStagingOf None None = Unit {0}
+IsStagingOf (Some level) (Some graph) = IsGraphOf level graph
+IsStagingOf None (Some graph) = ⊥
+IsStagingOf (Some level) None = ⊥
+
+-- A graph stands for each plain state with its limits, a table of its names, and for each level that it keeps a graph of that closure.
 pub record StandsPlainly (kept : Kept) (state : PlainState) : Type 0 where
   pub limits : state.limits ≡ kept.limits
   pub most : state.most ≡ MAX_COUNT
   pub begun : state.begun ≡ kept.begun
-  pub table : (id : ℕ) → finmap.get state.table id ≡ entry_of (finmap.get kept.graph id)
-  pub closure : IsClosureOf kept.graph state.main
-  pub among : (a d : ℕ) → is_ancestor kept.graph a d ≡ true → (is_member kept.graph a ≡ true) × (is_member kept.graph d ≡ true)
-  pub valid : IsGraph state.main
-  pub staging : state.staging ≡ None
+  pub table : HasRates kept.levels state.table
+  pub main : IsGraphOf kept.levels.main state.main
+  pub staging : IsStagingOf kept.levels.staging state.staging
 
--- It stands for the states with such a plain state and with its parts as main's pick. They differ in pairs that other pairs imply, and in
+-- the parts of each level
+abbrev pub picks_of : Levels → Picks
+picks_of levels = record { main = levels.main.parts; staging = option_map (λ (level : OneLevel). level.parts) levels.staging }
+
+-- It stands for the states with such a plain state and with its parts as the picks. They differ in pairs that other pairs imply, and in
 -- the order in which they list names and pairs.
 pub record StandsFor (kept : Kept) (state : State) : Type 0 where
   pub plain : StandsPlainly kept state.plain
-  pub picks : state.picks ≡ record { main = kept.parts; staging = None }
+  pub picks : state.picks ≡ picks_of kept.levels
 
 -- the state at the start, under these limits
 abbrev pub start_within : Limits → State
@@ -66,10 +78,3 @@ start_within limits = record { plain = record (plain_start MAX_COUNT) { limits =
 -- From every state that the graph stood for, the call is a step of the machine to one that it stands for now.
 abbrev pub MakesStep : Kept → Kept → Command → Reply → Type 0
 MakesStep old new command reply = (state : State) → StandsFor old state → (next : State) × StandsFor new next × Step state command reply next
-
--- one more name, in no relation to the others
-pub record AddsName (old new : Closure) (id : ℕ) (rate : FeeRate) : Type 0 where
-  pub members : (q : ℕ) → is_member new q ≡ (nat_eq q id || is_member old q)
-  pub rate_is : rate_of new id ≡ rate
-  pub rates : (q : ℕ) → q ≢ id → rate_of new q ≡ rate_of old q
-  pub ancestors : (a d : ℕ) → is_ancestor new a d ≡ ((nat_eq a id && nat_eq d id) || is_ancestor old a d)

@@ -4,7 +4,6 @@
 //! machine that `graph_model` defines, and each call is a step of it.
 #![tactic(auto)]
 
-mod clusters;
 mod graph;
 mod order;
 

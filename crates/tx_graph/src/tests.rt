@@ -2,7 +2,7 @@ ghost use Rattle.std.specs.Prelude.{◌≡◌, ◌<◌, ◌≤◌};
 
 use crate::TxGraph;
 use fee_rate::FeeRate;
-use graph_model::{IdBuf, Level, Limits, Refusal, TxId};
+use graph_model::{IdBuf, Level, Limits, Refusal, TxId, Verdict};
 use std::alloc::Global;
 use std::marker::Brand;
 use std::process::Abort;
@@ -17,7 +17,7 @@ const ROOMY: Limits = Limits {
     total: 100_000,
 };
 
-// A call of the graph. `Cluster`, `Ancestors` and `Descendants` are of main.
+// A call of the graph. `Cluster`, `Ancestors` and `Descendants` are of main, `Top` is the cluster of the top level.
 #[derive(Clone, Copy, Debug)]
 enum Call {
     Limits(u64, u64, u64),
@@ -28,6 +28,10 @@ enum Call {
     Cluster(TxId),
     Ancestors(TxId),
     Descendants(TxId),
+    Top(TxId),
+    Stage,
+    Commit,
+    Abort,
 }
 
 // Makes a call, which leaves the names that it lists in `out`, and none where it lists none.
@@ -54,6 +58,10 @@ fn make<const W: usize, L: Ledger>(
         Call::Cluster(id) => graph.cluster(Level::Main, id, out),
         Call::Ancestors(id) => graph.ancestors(Level::Main, id, out),
         Call::Descendants(id) => graph.descendants(Level::Main, id, out),
+        Call::Top(id) => graph.cluster(Level::Top, id, out),
+        Call::Stage => graph.stage(),
+        Call::Commit => graph.commit(),
+        Call::Abort => graph.abort(),
     }
 }
 
@@ -186,6 +194,64 @@ fn drawn<L: Ledger>(
     Ok(())
 }
 
+// A staging leaves main alone until it is committed, and is gone when it is dropped.
+fn staged<L: Ledger>(
+    rt: &impl Abort,
+    alloc: Global,
+    out: &mut IdBuf,
+    steps: &mut Steps<L>,
+) -> Result<(), Fail> {
+    let done: Result<&[TxId], Refusal> = Ok([].as_slice());
+    let rows = [
+        (Call::Commit, Err(Refusal::NoStaging)),
+        (Call::Add(1, 1, 1), done),
+        (Call::Add(2, 1, 1), done),
+        (Call::Stage, done),
+        (Call::Stage, Err(Refusal::Staging)),
+        (Call::Dep(1, 2), done),
+        (Call::Cluster(1), Ok([1].as_slice())),
+        (Call::Top(1), Ok([1, 2].as_slice())),
+        (Call::Abort, done),
+        (Call::Abort, Err(Refusal::NoStaging)),
+        (Call::Top(1), Ok([1].as_slice())),
+        (Call::Stage, done),
+        (Call::Remove(1), done),
+        (Call::Add(1, 2, 2), Err(Refusal::Taken)),
+        (Call::Top(1), Err(Refusal::Unknown(1))),
+        (Call::Commit, done),
+        (Call::Cluster(1), Err(Refusal::Unknown(1))),
+        (Call::Add(1, 2, 2), done),
+        (Call::Cluster(1), Ok([1].as_slice())),
+    ];
+    play(rt, alloc, &rows, out, steps)
+}
+
+// A name has one fee in both levels, and staging is settled by the two diagrams.
+fn settled<L: Ledger>(
+    rt: &impl Abort,
+    alloc: Global,
+    out: &mut IdBuf,
+    steps: &mut Steps<L>,
+) -> Result<(), Fail> {
+    let done: Result<&[TxId], Refusal> = Ok([].as_slice());
+    let mut graph = TxGraph::<1>::new(alloc, ROOMY)?;
+    assert_eq!(rt; graph.compare(), Err(Refusal::NoStaging));
+    for call in [Call::Add(1, 5, 1), Call::Stage, Call::Remove(1)] {
+        expect(rt, &mut graph, call, done, out, steps);
+    }
+    assert_eq!(rt; graph.compare(), Ok(Verdict::Worse));
+    assert_eq!(rt; graph.settle(), Ok(Verdict::Worse));
+    assert!(rt; !graph.staged());
+    for call in [Call::Stage, Call::Fee(1, -5), Call::Remove(1)] {
+        expect(rt, &mut graph, call, done, out, steps);
+    }
+    assert_eq!(rt; graph.sums(1), Some(FeeRate { fee: -5, size: 1 }));
+    assert_eq!(rt; graph.settle(), Ok(Verdict::Better));
+    assert_eq!(rt; graph.count(Level::Main), 0);
+    assert_eq!(rt; graph.sums(1), None);
+    Ok(())
+}
+
 fn sequences<K: ledger::Ledger>(rt: &impl Abort, alloc: Global, blank: Blank) -> Result<(), Fail>
     requires name { blank.name ≡ K.name }
     requires parts { blank.parts ≡ K.parts }
@@ -196,7 +262,9 @@ fn sequences<K: ledger::Ledger>(rt: &impl Abort, alloc: Global, blank: Blank) ->
     bridged(rt, alloc, &mut out, &mut steps)?;
     limited(rt, alloc, &mut out, &mut steps)?;
     implied(rt, alloc, &mut out, &mut steps)?;
-    drawn(rt, alloc, &mut out, &mut steps)
+    drawn(rt, alloc, &mut out, &mut steps)?;
+    staged(rt, alloc, &mut out, &mut steps)?;
+    settled(rt, alloc, &mut out, &mut steps)
 }
 
 #[test]
@@ -406,77 +474,4 @@ fn removals<K: ledger::Ledger>(rt: &impl Abort, alloc: Global, blank: Blank) -> 
 #[test]
 fn clusters_fall_apart_from_the_middle(rt: HostRuntime) -> Result<(), Fail> {
     removals::<Brand>(&rt, rt.alloc(), Blank::new(1))
-}
-
-// Makes one chain of the names 1 to 64, each with its name as its fee.
-fn chain<L: Ledger>(
-    rt: &impl Abort,
-    graph: &mut TxGraph<1>,
-    out: &mut IdBuf,
-    steps: &mut Steps<L>,
-) {
-    let done: Result<&[TxId], Refusal> = Ok([].as_slice());
-    for id in 1..65u64 {
-        expect(rt, graph, Call::Add(id, id as i64, 1), done, out, steps);
-        if id > 1 {
-            expect(rt, graph, Call::Dep(id - 1, id), done, out, steps);
-        }
-    }
-}
-
-// Makes calls on a chain, and compares what each answers, and how many steps it adds with a least and a greatest number.
-fn count_on_a_chain<K: ledger::Ledger>(
-    rt: &impl Abort,
-    graph: &mut TxGraph<1>,
-    out: &mut IdBuf,
-    steps: &mut Steps<Counted<K>>,
-) {
-    let done: Result<&[TxId], Refusal> = Ok([].as_slice());
-    let rows = [
-        (Call::Add(65, 65, 1), done, 0, 486),
-        (Call::Dep(1, 2), done, 0, 0),
-        (Call::Dep(1, 64), done, 0, 0),
-        (Call::Fee(64, 64), done, 0, 0),
-        (Call::Limits(1, 1, 1), Err(Refusal::Late), 0, 0),
-        (Call::Add(66, i64::MAX, 1), Err(Refusal::Fee), 0, 0),
-        (Call::Add(66, 1, 0), Err(Refusal::Size), 0, 0),
-        (Call::Add(3, 3, 1), Err(Refusal::Taken), 0, 0),
-        (
-            Call::Add(66, 1, 404_001),
-            Err(Refusal::ClusterSize(404_001)),
-            0,
-            0,
-        ),
-        (Call::Dep(66, 1), Err(Refusal::Unknown(66)), 0, 0),
-        (Call::Dep(64, 1), Err(Refusal::Cycle), 0, 0),
-        (Call::Dep(64, 65), Err(Refusal::Count(65)), 0, 0),
-        (Call::Fee(64, i64::MIN), Err(Refusal::Fee), 0, 0),
-        (Call::Fee(66, 1), Err(Refusal::Unknown(66)), 0, 0),
-        (Call::Remove(66), Err(Refusal::Unknown(66)), 0, 0),
-        (Call::Fee(64, 1000), done, 64, 2_504_665_152),
-    ];
-    for (call, answer, least, most) in rows {
-        let before = steps.ledger().shown();
-        expect(rt, graph, call, answer, out, steps);
-        let added = steps.ledger().shown().saturating_sub(before);
-        assert!(rt; least <= added && added <= most, "{call:?} adds {added}");
-    }
-}
-
-fn counts<K: ledger::Ledger>(rt: &impl Abort, alloc: Global, blank: Blank) -> Result<(), Fail>
-    requires name { blank.name ≡ K.name }
-    requires parts { blank.parts ≡ K.parts }
-    requires some { 0 < blank.parts }
-{
-    let mut steps = Steps::new(Counted::<K>::new(blank));
-    let mut out = IdBuf::new(alloc, 128)?;
-    let mut graph = TxGraph::<1>::new(alloc, ROOMY)?;
-    chain(rt, &mut graph, &mut out, &mut steps);
-    count_on_a_chain(rt, &mut graph, &mut out, &mut steps);
-    Ok(())
-}
-
-#[test]
-fn steps_are_counted(rt: HostRuntime) -> Result<(), Fail> {
-    counts::<Brand>(&rt, rt.alloc(), Blank::new(1))
 }

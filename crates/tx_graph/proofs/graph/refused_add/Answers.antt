@@ -1,30 +1,59 @@
-use Rattle.std.proofs.Common.{◌≤◌, ◌<◌, None, Some, sym, ◌∙◌, subst, inl, inr, refl, arith}
+use Rattle.std.proofs.Common.{ℕ, arith, ◌≤◌, ◌<◌, false, true, sym, ◌∙◌, subst, inl, inr, refl, true≢false, None, Some}
 use Rattle.std.proofs.lemmas.Int.{to_z-of_z}
 use Rattle.std.specs.Int.{w64}
-use Rattle.std.specs.FinMap as finmap
 use Rattle.fee_rate.specs.Limits.{IsFee}
 use Rattle.graph_model.specs.declared.names.Refusal.TheVariants.{Full}
-use Rattle.tx_graph.specs.Shelves.{graph_of}
 use Rattle.tx_graph.proofs.Calls.{last_row}
+use Rattle.tx_graph.proofs.Counting.{one_count}
 use Rattle.tx_graph.proofs.graph.refused_add.Goals as goal
 
-pub returns-then-len-limits : goal.returns-then-len-limits
-returns-then-len-limits g c =
+pub returns-then-is_live : goal.returns-then-is_live
+returns-then-is_live g c =
     let pays = subst IsFee (to_z-of_z w64 c.args.fee c.ranges.fee) (c.is_fee.ensures.0 c.if-not-is_fee.false) in
-    let full : c.args.limits.now.total ≤ c.len.result = c.if-len-limits.true in
     record {
-      row = last_row c.args.limits.now (graph_of c.args.clusters.now) (finmap.len c.args.clusters.now.numbers) c.args.id c.args.fee c.args.size (Some Full)
-          pays (c.is_size.ensures.0 c.if-not-is_size.false) (sym c.is_live.ensures ∙ c.if-is_live.false) c.if-size-limits.false
-          (inl (subst (λ n. c.args.limits.now.total ≤ n) c.len.ensures full, refl));
+      row = λ live counts.
+          inr (λ out. out pays, inr (λ out. out (c.is_size.ensures.0 c.if-not-is_size.false), inl (c.is_live.ensures.0 c.if-is_live.true, refl)));
+    }
+
+pub returns-then-size-limits : goal.returns-then-size-limits
+returns-then-size-limits g c =
+    let pays = subst IsFee (to_z-of_z w64 c.args.fee c.ranges.fee) (c.is_fee.ensures.0 c.if-not-is_fee.false) in
+    record {
+      row = λ live counts.
+          inr (
+            λ out. out pays,
+            inr (
+              λ out. out (c.is_size.ensures.0 c.if-not-is_size.false),
+              inr (
+                λ here. true≢false (sym (c.is_live.ensures.1 here) ∙ c.if-is_live.false),
+                inl (c.if-size-limits.true, refl),
+              ),
+            ),
+          );
+    }
+
+pub returns-then-live-limits : goal.returns-then-live-limits
+returns-then-live-limits g c =
+    let pays = subst IsFee (to_z-of_z w64 c.args.fee c.ranges.fee) (c.is_fee.ensures.0 c.if-not-is_fee.false) in
+    let full : c.args.limits.now.total ≤ c.live.result = c.if-live-limits.true in
+    record {
+      row = λ live counts.
+          last_row c.args.limits.now c.args.levels.now live c.args.id c.args.fee c.args.size (Some Full) pays
+          (c.is_size.ensures.0 c.if-not-is_size.false) (λ here. true≢false (sym (c.is_live.ensures.1 here) ∙ c.if-is_live.false)) c.if-size-limits.false
+          (inl (subst (λ n. c.args.limits.now.total ≤ n) (one_count c.args.levels.now c.live.result live c.live.ensures.count counts) full, refl));
     }
 
 pub returns : goal.returns
 returns g c =
     let pays = subst IsFee (to_z-of_z w64 c.args.fee c.ranges.fee) (c.is_fee.ensures.0 c.if-not-is_fee.false) in
-    let room : c.len.result < c.args.limits.now.total = c.if-len-limits.false in
-    let live = subst (λ n. n < c.args.limits.now.total) c.len.ensures room in
+    let room : c.live.result < c.args.limits.now.total = c.if-live-limits.false in
     record {
-      row = last_row c.args.limits.now (graph_of c.args.clusters.now) (finmap.len c.args.clusters.now.numbers) c.args.id c.args.fee c.args.size None
-          pays (c.is_size.ensures.0 c.if-not-is_size.false) (sym c.is_live.ensures ∙ c.if-is_live.false) c.if-size-limits.false
-          (inr (λ full. omega (arith, full, live), refl));
+      row = λ live counts.
+          let left = subst (λ n. n < c.args.limits.now.total) (one_count c.args.levels.now c.live.result live c.live.ensures.count counts) room in
+          last_row c.args.limits.now c.args.levels.now live c.args.id c.args.fee c.args.size None pays
+          (c.is_size.ensures.0 c.if-not-is_size.false) (λ here. true≢false (sym (c.is_live.ensures.1 here) ∙ c.if-is_live.false)) c.if-size-limits.false
+          (inr (no_room c.args.limits.now.total live left, refl));
     }
+  where
+    no_room : (total live : ℕ) → live < total → total ≤ live → ⊥
+    no_room total live left full = omega (arith, full, left)

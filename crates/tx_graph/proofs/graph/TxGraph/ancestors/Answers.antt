@@ -1,24 +1,24 @@
 use Rattle.graph_model.specs.Commands.{Ancestors}
 use Rattle.graph_model.specs.declared.names.Refusal.TheVariants.{Unknown}
 use Rattle.graph_model.specs.Replies.{Refused, Ids}
-use Rattle.tx_graph.proofs.Standing.{steps_refused, itself}
-use Rattle.tx_graph.proofs.Rows.{unknown_here, known_here}
-use Rattle.tx_graph.proofs.Stepping.{steps_ascended}
+use Rattle.levels.specs.Levels.{level_at}
 use Rattle.tx_graph.proofs.Calls.{kept_of, both_views, ancestors_list}
+use Rattle.tx_graph.proofs.Reading.{steps_ascended}
+use Rattle.tx_graph.proofs.Rows.{unknown_here}
+use Rattle.tx_graph.proofs.Standing.{steps_refused}
 use Rattle.tx_graph.proofs.graph.TxGraph.ancestors.Goals as goal
 
 pub returns-in_default-clause-step : goal.returns-in_default-clause-step
 returns-in_default-clause-step g c =
-    let kept = kept_of c.self.inside.limits c.self.inside.begun c.self.inside.additions c.self.inside.clusters in
+    let kept = kept_of c.self.inside.limits c.self.inside.begun c.self.inside.levels in
     both_views kept c.args.self.now (Ancestors c.args.id c.args.level) (Refused (Unknown c.args.id)) c.self.view_is
-    (steps_refused kept kept (Ancestors c.args.id c.args.level) (Unknown c.args.id) (itself kept)
-    (unknown_here kept c.args.level c.args.id c.in_default.ensures))
+    (steps_refused kept (Ancestors c.args.id c.args.level) (Unknown c.args.id) (unknown_here kept c.args.level c.args.id c.in_default.ensures))
 
 pub returns-clause-step : goal.returns-clause-step
 returns-clause-step g c =
-    let kept = kept_of c.self.inside.limits c.self.inside.begun c.self.inside.additions c.self.inside.clusters in
+    let kept = kept_of c.self.inside.limits c.self.inside.begun c.self.inside.levels in
     let found = c.in-Some.ensures in
     let ids = c.list_ancestors.new.out.ids in
     both_views kept c.args.self.now (Ancestors c.args.id c.args.level) (Ids ids) c.self.view_is
-    (steps_ascended kept c.args.level c.args.id ids c.self.invariant.picked found.0 (known_here kept c.args.level c.args.id found.0)
-    (ancestors_list kept.graph c.args.id c.in-Some.cluster.now found.1 ids c.list_ancestors.ensures.lists))
+    (steps_ascended kept c.args.level c.args.id ids c.self.invariant.picked found.0
+    (ancestors_list (level_at kept.levels c.args.level).graph c.args.id c.in-Some.cluster.now found.1 ids c.list_ancestors.ensures.lists))

@@ -1,33 +1,36 @@
--- Names stand as the parts that have them.
+use Rattle.std.proofs.Common.{sym, ◌∙◌}
 use Rattle.graph_model.specs.declared.names.Refusal.TheVariants.{Unknown}
 use Rattle.graph_model.specs.Commands.{Before}
 use Rattle.graph_model.specs.Replies.{Refused, Stands}
 use Rattle.tx_graph.proofs.Calls.{kept_of, both_views}
-use Rattle.tx_graph.proofs.Standing.{steps_refused, itself}
-use Rattle.tx_graph.proofs.Telling.{steps_compared, no_first_row, no_second_row}
+use Rattle.tx_graph.proofs.Rows.{no_first_row, no_second_row}
+use Rattle.tx_graph.proofs.Standing.{steps_refused}
+use Rattle.tx_graph.proofs.Telling.{steps_placed}
 use Rattle.tx_graph.proofs.graph.TxGraph.before.Goals as goal
 
-pub returns-in_default : goal.returns-in_default
-returns-in_default g c =
-    let kept = kept_of c.self.inside.limits c.self.inside.begun c.self.inside.additions c.self.inside.clusters in
+pub returns-then-not-has : goal.returns-then-not-has
+returns-then-not-has g c =
+    let kept = kept_of c.self.inside.limits c.self.inside.begun c.self.inside.levels in
     record {
       step = both_views kept c.args.self.now (Before c.args.a c.args.b) (Refused (Unknown c.args.a)) c.self.view_is
-          (steps_refused kept kept (Before c.args.a c.args.b) (Unknown c.args.a) (itself kept) (no_first_row kept c.args.a c.args.b c.in_default.ensures));
+          (steps_refused kept (Before c.args.a c.args.b) (Unknown c.args.a)
+          (no_first_row kept c.args.a c.args.b (sym c.has.ensures ∙ c.if-not-has.true)));
     }
 
-pub returns-in_default-place_of : goal.returns-in_default-place_of
-returns-in_default-place_of g c =
-    let kept = kept_of c.self.inside.limits c.self.inside.begun c.self.inside.additions c.self.inside.clusters in
+pub returns-then-not-has-2 : goal.returns-then-not-has-2
+returns-then-not-has-2 g c =
+    let kept = kept_of c.self.inside.limits c.self.inside.begun c.self.inside.levels in
     record {
       step = both_views kept c.args.self.now (Before c.args.a c.args.b) (Refused (Unknown c.args.b)) c.self.view_is
-          (steps_refused kept kept (Before c.args.a c.args.b) (Unknown c.args.b) (itself kept)
-          (no_second_row kept c.args.a c.args.b c.in-Some.ensures.0 c.in_default-place_of.ensures));
+          (steps_refused kept (Before c.args.a c.args.b) (Unknown c.args.b)
+          (no_second_row kept c.args.a c.args.b (sym c.has.ensures ∙ c.if-not-has.false) (sym c.has-2.ensures ∙ c.if-not-has-2.true)));
     }
 
 pub returns : goal.returns
 returns g c =
-    let kept = kept_of c.self.inside.limits c.self.inside.begun c.self.inside.additions c.self.inside.clusters in
+    let kept = kept_of c.self.inside.limits c.self.inside.begun c.self.inside.levels in
     record {
-      step = both_views kept c.args.self.now (Before c.args.a c.args.b) (Stands c.compare.result) c.self.view_is
-          (steps_compared kept c.args.a c.args.b c.compare.result c.self.invariant.picked c.in-Some.ensures.0 c.in-Some-place_of.ensures.0 c.compare.ensures);
+      step = both_views kept c.args.self.now (Before c.args.a c.args.b) (Stands c.place.result) c.self.view_is
+          (steps_placed kept c.args.a c.args.b c.place.result c.self.invariant.picked (sym c.has.ensures ∙ c.if-not-has.false)
+          (sym c.has-2.ensures ∙ c.if-not-has-2.false) c.place.ensures);
     }

@@ -1,14 +1,13 @@
 use Rattle.tx_graph.specs.Kept.{start_within}
-use Rattle.tx_graph.proofs.Starts.{stands_start}
+use Rattle.tx_graph.proofs.Starts.{picks_none, stands_start}
 use Rattle.tx_graph.proofs.graph.TxGraph.new.Goals as goal
 
 pub invariant_of-result : goal.invariant_of-result
 invariant_of-result g c = record {
   in_range = c.requires.in_range;
-  wide = c.requires.wide;
-  picked = c.in_ok-new.ensures.picked;
-  stands = (start_within c.args.limits, stands_start c.args.limits c.in_ok-new.field-0 c.in_ok-new.ensures.empty);
+  picked = picks_none c.in_ok-new.field-0 c.in_ok-new.ensures;
+  stands = (start_within c.args.limits, stands_start c.args.limits c.in_ok-new.field-0 c.in_ok-new.ensures);
 }
 
 pub returns-clause-start : goal.returns-clause-start
-returns-clause-start g c = stands_start c.args.limits c.in_ok-new.field-0 c.in_ok-new.ensures.empty
+returns-clause-start g c = stands_start c.args.limits c.in_ok-new.field-0 c.in_ok-new.ensures

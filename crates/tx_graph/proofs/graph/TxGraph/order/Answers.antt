@@ -5,29 +5,31 @@ use Rattle.graph_model.specs.Commands.{Order, Proof}
 use Rattle.graph_model.specs.Replies.{Parts, Proves}
 use Rattle.graph_model.specs.States.{State}
 use Rattle.tx_graph.specs.Kept.{Kept, StandsFor, MakesStep}
+use Rattle.levels.specs.Levels.{level_at}
 use Rattle.tx_graph.specs.Readings.{IsBestOrder, IsTextOf}
 use Rattle.tx_graph.proofs.Calls.{kept_of}
 use Rattle.tx_graph.proofs.Telling.{steps_ordered, steps_proved, best_order}
 use Rattle.tx_graph.proofs.graph.TxGraph.order.Goals as goal
 
 pub returns-clause-parts : goal.returns-clause-parts
-returns-clause-parts g c = c.new.ensures ∙ c.parts.ensures.parts ∙ ap (λ (k : Kept). k.parts) c.self.view_is
+returns-clause-parts g c = c.new.ensures ∙ c.parts.ensures.parts ∙ ap (λ (k : Kept). (level_at k.levels c.args.level).parts) c.self.view_is
 
 pub returns-clause-step : goal.returns-clause-step
 returns-clause-step g c =
-    let kept = kept_of c.self.inside.limits c.self.inside.begun c.self.inside.additions c.self.inside.clusters in
+    let kept = kept_of c.self.inside.limits c.self.inside.begun c.self.inside.levels in
     subst (λ (parts : List Part). MakesStep c.args.self.now c.args.self.now (Order c.args.level) (Parts parts)) (sym (returns-clause-parts g c))
-    (subst (λ (k : Kept). MakesStep k k (Order c.args.level) (Parts k.parts)) c.self.view_is (steps_ordered kept c.args.level c.self.invariant.picked))
+    (subst (λ (k : Kept). MakesStep k k (Order c.args.level) (Parts (level_at k.levels c.args.level).parts)) c.self.view_is
+    (steps_ordered kept c.args.level c.self.invariant.picked))
 
 pub returns-clause-best : goal.returns-clause-best
 returns-clause-best g c =
-    let kept = kept_of c.self.inside.limits c.self.inside.begun c.self.inside.additions c.self.inside.clusters in
+    let kept = kept_of c.self.inside.limits c.self.inside.begun c.self.inside.levels in
     subst (λ (parts : List Part). (state : State) → StandsFor c.args.self.now state → IsBestOrder state c.args.level parts) (sym (returns-clause-parts g c))
-    (subst (λ (k : Kept). (state : State) → StandsFor k state → IsBestOrder state c.args.level k.parts) c.self.view_is
-    (best_order kept c.args.level c.self.invariant.picked c.parts.ensures.optimal))
+    (subst (λ (k : Kept). (state : State) → StandsFor k state → IsBestOrder state c.args.level (level_at k.levels c.args.level).parts) c.self.view_is
+    (best_order kept c.args.level c.self.invariant.picked c.parts.ensures.best))
 
 pub returns-clause-proof : goal.returns-clause-proof
 returns-clause-proof g c text is =
-    let kept = kept_of c.self.inside.limits c.self.inside.begun c.self.inside.additions c.self.inside.clusters in
-    subst (λ (k : Kept). IsTextOf k text → MakesStep k k (Proof c.args.level) (Proves text)) c.self.view_is
+    let kept = kept_of c.self.inside.limits c.self.inside.begun c.self.inside.levels in
+    subst (λ (k : Kept). IsTextOf (level_at k.levels c.args.level) text → MakesStep k k (Proof c.args.level) (Proves text)) c.self.view_is
     (steps_proved kept c.args.level text c.self.invariant.picked) is

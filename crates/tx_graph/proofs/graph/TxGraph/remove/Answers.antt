@@ -3,32 +3,28 @@ use Rattle.graphs.specs.declared.names.Level.TheVariants.{Top}
 use Rattle.graph_model.specs.declared.names.Refusal.TheVariants.{Memory, Unknown}
 use Rattle.graph_model.specs.Commands.{Remove}
 use Rattle.graph_model.specs.Replies.{Done, Refused}
-use Rattle.tx_graph.proofs.Standing.{steps_refused, steps_without_memory, itself}
+use Rattle.tx_graph.proofs.Calls.{kept_of, same_levels, from_view, both_views, sound_after, sound_still, when_ok, when_err, remove_step, GrowsForParts}
 use Rattle.tx_graph.proofs.Rows.{unknown_here, known_here}
-use Rattle.tx_graph.proofs.Calls.{kept_of, same_shelf, from_view, both_views, sound_after, sound_still, when_ok, when_err, remove_step, GrowsForParts}
+use Rattle.tx_graph.proofs.Standing.{steps_refused, steps_without_memory}
 use Rattle.tx_graph.proofs.graph.TxGraph.remove.Goals as goal
 
-pub returns-then-not-is_live-clause-step : goal.returns-then-not-is_live-clause-step
-returns-then-not-is_live-clause-step g c =
-    let kept = kept_of c.self.inside.limits c.self.inside.begun c.self.inside.additions c.self.inside.clusters in
+pub returns-then-not-has-clause-step : goal.returns-then-not-has-clause-step
+returns-then-not-has-clause-step g c =
+    let kept = kept_of c.self.inside.limits c.self.inside.begun c.self.inside.levels in
     both_views kept c.args.self.now (Remove c.args.id) (Refused (Unknown c.args.id)) c.self.view_is
-    (steps_refused kept kept (Remove c.args.id) (Unknown c.args.id) (itself kept)
-    (unknown_here kept Top c.args.id (sym c.is_live.ensures ∙ c.if-not-is_live.true)))
+    (steps_refused kept (Remove c.args.id) (Unknown c.args.id) (unknown_here kept Top c.args.id (sym c.has.ensures ∙ c.if-not-has.true)))
 
 pub invariant_of-self : goal.invariant_of-self
 invariant_of-self g c =
-    sound_still g.row.W c.self.inside.limits c.self.inside.begun c.self.inside.additions c.self.inside.clusters c.remove.new.self
+    sound_still c.self.inside.limits c.self.inside.begun c.self.inside.levels c.remove.new.self
     (when_err c.remove.result (sym c.is_err.ensures.value ∙ c.if-is_err.true) c.remove.ensures.err) c.self.invariant
 
 pub returns-then-is_err-clause-step : goal.returns-then-is_err-clause-step
 returns-then-is_err-clause-step g c =
-    let kept = kept_of c.self.inside.limits c.self.inside.begun c.self.inside.additions c.self.inside.clusters in
-    let new = kept_of c.self.inside.limits c.self.inside.begun c.self.inside.additions c.remove.new.self in
-    let same = when_err c.remove.result (sym c.is_err.ensures.value ∙ c.if-is_err.true) c.remove.ensures.err in
-    from_view kept c.args.self.now new (Remove c.args.id) (Refused Memory) c.self.view_is
-    (steps_without_memory kept new (Remove c.args.id)
-    (same_shelf c.self.inside.limits c.self.inside.begun c.self.inside.additions c.self.inside.clusters c.remove.new.self same) tt
-    (known_here kept Top c.args.id (sym c.is_live.ensures ∙ c.if-not-is_live.false)))
+    let kept = kept_of c.self.inside.limits c.self.inside.begun c.self.inside.levels in
+    same_levels c.self.inside.limits c.self.inside.begun c.self.inside.levels c.remove.new.self c.args.self.now (Remove c.args.id) (Refused Memory)
+    (when_err c.remove.result (sym c.is_err.ensures.value ∙ c.if-is_err.true) c.remove.ensures.err) c.self.view_is
+    (steps_without_memory kept (Remove c.args.id) tt (known_here kept Top c.args.id (sym c.has.ensures ∙ c.if-not-has.false)))
 
 pub returns-then-is_err-clause-steps : goal.returns-then-is_err-clause-steps
 returns-then-is_err-clause-steps g c =
@@ -37,19 +33,19 @@ returns-then-is_err-clause-steps g c =
 pub invariant_of-self-2 : goal.invariant_of-self-2
 invariant_of-self-2 g c =
     let done = sym c.is_err.ensures.value ∙ c.if-is_err.false in
-    sound_after g.row.W (kept_of c.self.inside.limits c.self.inside.begun c.self.inside.additions c.self.inside.clusters)
-    (kept_of c.self.inside.limits true c.self.inside.additions c.remove.new.self) (Remove c.args.id) Done
-    c.self.invariant c.self.invariant.in_range c.remove.ensures.picked
-    (remove_step c.self.inside.limits c.self.inside.begun c.self.inside.additions c.self.inside.clusters c.remove.new.self c.remove.ensures.picked
-    c.args.id (sym c.is_live.ensures ∙ c.if-not-is_live.false) (when_ok c.remove.result done c.remove.ensures.graph))
+    sound_after (kept_of c.self.inside.limits c.self.inside.begun c.self.inside.levels)
+    (kept_of c.self.inside.limits true c.remove.new.self) (Remove c.args.id) Done
+    c.self.invariant c.self.invariant.in_range c.remove.ensures.picks
+    (remove_step c.self.inside.limits c.self.inside.begun c.self.inside.levels c.remove.new.self c.remove.ensures.picks
+    c.args.id (sym c.has.ensures ∙ c.if-not-has.false) (when_ok c.remove.result done c.remove.ensures.dropped))
 
 pub returns-clause-step : goal.returns-clause-step
 returns-clause-step g c =
     let done = sym c.is_err.ensures.value ∙ c.if-is_err.false in
-    from_view (kept_of c.self.inside.limits c.self.inside.begun c.self.inside.additions c.self.inside.clusters) c.args.self.now
-    (kept_of c.self.inside.limits true c.self.inside.additions c.remove.new.self) (Remove c.args.id) Done c.self.view_is
-    (remove_step c.self.inside.limits c.self.inside.begun c.self.inside.additions c.self.inside.clusters c.remove.new.self c.remove.ensures.picked
-    c.args.id (sym c.is_live.ensures ∙ c.if-not-is_live.false) (when_ok c.remove.result done c.remove.ensures.graph))
+    from_view (kept_of c.self.inside.limits c.self.inside.begun c.self.inside.levels)
+    c.args.self.now (kept_of c.self.inside.limits true c.remove.new.self) (Remove c.args.id) Done c.self.view_is
+    (remove_step c.self.inside.limits c.self.inside.begun c.self.inside.levels c.remove.new.self c.remove.ensures.picks
+    c.args.id (sym c.has.ensures ∙ c.if-not-has.false) (when_ok c.remove.result done c.remove.ensures.dropped))
 
 pub returns-clause-steps : goal.returns-clause-steps
 returns-clause-steps g c =

@@ -1,39 +1,37 @@
-use Rattle.std.proofs.Common.{true, sym, ◌∙◌, true≢false}
+use Rattle.std.proofs.Common.{true, sym, refl, ◌∙◌, true≢false}
 use Rattle.graph_model.specs.Commands.{SetLimits}
 use Rattle.graph_model.specs.declared.names.Refusal.TheVariants.{Late, Range}
 use Rattle.graph_model.specs.Replies.{Done, Refused}
-use Rattle.tx_graph.proofs.Standing.{steps_refused, itself}
-use Rattle.tx_graph.proofs.Calls.{kept_of, from_view, both_views, sound_after, late_row, range_row, limits_step}
+use Rattle.tx_graph.proofs.Calls.{kept_of, from_view, both_views, sound_after, limits_step}
+use Rattle.tx_graph.proofs.Rows.{late_row, range_row}
+use Rattle.tx_graph.proofs.Standing.{steps_refused}
 use Rattle.tx_graph.proofs.graph.TxGraph.set_limits.Goals as goal
 
 pub returns-then-self-clause-step : goal.returns-then-self-clause-step
 returns-then-self-clause-step g c =
-    let kept = kept_of c.self.inside.limits c.self.inside.begun c.self.inside.additions c.self.inside.clusters in
+    let kept = kept_of c.self.inside.limits c.self.inside.begun c.self.inside.levels in
     let command = SetLimits c.args.limits.count c.args.limits.size c.args.limits.total in
     both_views kept c.args.self.now command (Refused Late) c.self.view_is
-    (steps_refused kept kept command Late (itself kept) (late_row kept c.args.limits c.if-self.true))
+    (steps_refused kept command Late (late_row kept c.args.limits c.if-self.true))
 
 pub returns-then-not-are_in_range-clause-step : goal.returns-then-not-are_in_range-clause-step
 returns-then-not-are_in_range-clause-step g c =
-    let kept = kept_of c.self.inside.limits c.self.inside.begun c.self.inside.additions c.self.inside.clusters in
+    let kept = kept_of c.self.inside.limits c.self.inside.begun c.self.inside.levels in
     let command = SetLimits c.args.limits.count c.args.limits.size c.args.limits.total in
     both_views kept c.args.self.now command (Refused Range) c.self.view_is
-    (steps_refused kept kept command Range (itself kept)
+    (steps_refused kept command Range
     (range_row kept c.args.limits c.if-self.false (λ fine. true≢false (sym (c.are_in_range.ensures.1 fine) ∙ c.if-not-are_in_range.true))))
 
 pub invariant_of-self : goal.invariant_of-self
 invariant_of-self g c =
     let in_range = c.are_in_range.ensures.0 c.if-not-are_in_range.false in
-    sound_after g.row.W (kept_of c.self.inside.limits c.self.inside.begun c.self.inside.additions c.self.inside.clusters)
-    (kept_of c.args.limits true c.self.inside.additions c.self.inside.clusters)
+    sound_after (kept_of c.self.inside.limits c.self.inside.begun c.self.inside.levels) (kept_of c.args.limits true c.self.inside.levels)
     (SetLimits c.args.limits.count c.args.limits.size c.args.limits.total) Done c.self.invariant in_range c.self.invariant.picked
-    (limits_step c.self.inside.limits c.args.limits c.self.inside.begun c.self.inside.additions c.self.inside.clusters c.self.invariant.picked
-    c.if-self.false in_range)
+    (limits_step c.self.inside.limits c.args.limits c.self.inside.begun c.self.inside.levels c.self.invariant.picked c.if-self.false in_range)
 
 pub returns-clause-step : goal.returns-clause-step
 returns-clause-step g c =
-    from_view (kept_of c.self.inside.limits c.self.inside.begun c.self.inside.additions c.self.inside.clusters) c.args.self.now
-    (kept_of c.args.limits true c.self.inside.additions c.self.inside.clusters)
+    from_view (kept_of c.self.inside.limits c.self.inside.begun c.self.inside.levels) c.args.self.now (kept_of c.args.limits true c.self.inside.levels)
     (SetLimits c.args.limits.count c.args.limits.size c.args.limits.total) Done c.self.view_is
-    (limits_step c.self.inside.limits c.args.limits c.self.inside.begun c.self.inside.additions c.self.inside.clusters c.self.invariant.picked
-    c.if-self.false (c.are_in_range.ensures.0 c.if-not-are_in_range.false))
+    (limits_step c.self.inside.limits c.args.limits c.self.inside.begun c.self.inside.levels c.self.invariant.picked c.if-self.false
+    (c.are_in_range.ensures.0 c.if-not-are_in_range.false))

@@ -1,8 +1,0 @@
-use Rattle.std.proofs.Common.{take, Contains}
-use Rattle.tx_graph.proofs.clusters.comes_first.Given as goal
-
-abbrev pub invariant-loop-at : goal.invariant-loop-at
-invariant-loop-at l = record {
-  a : Contains (take l.at l.ids) l.a → ⊥;
-  b : Contains (take l.at l.ids) l.b → ⊥;
-}

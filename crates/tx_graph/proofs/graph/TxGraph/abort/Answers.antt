@@ -1,0 +1,29 @@
+use Rattle.std.proofs.Common.{true, sym, ◌∙◌}
+use Rattle.graph_model.specs.Commands.{Abort}
+use Rattle.graph_model.specs.declared.names.Refusal.TheVariants.{NoStaging}
+use Rattle.graph_model.specs.Replies.{Done, Refused}
+use Rattle.tx_graph.proofs.Calls.{kept_of, from_view, both_views, sound_after, abort_step, picks_aborted}
+use Rattle.tx_graph.proofs.Rows.{unstaged_row}
+use Rattle.tx_graph.proofs.Standing.{steps_refused}
+use Rattle.tx_graph.proofs.graph.TxGraph.abort.Goals as goal
+
+pub returns-then-not-is_staged-clause-step : goal.returns-then-not-is_staged-clause-step
+returns-then-not-is_staged-clause-step g c =
+    let kept = kept_of c.self.inside.limits c.self.inside.begun c.self.inside.levels in
+    both_views kept c.args.self.now Abort (Refused NoStaging) c.self.view_is
+    (steps_refused kept Abort NoStaging (unstaged_row kept (sym c.is_staged.ensures ∙ c.if-not-is_staged.true)))
+
+pub invariant_of-self : goal.invariant_of-self
+invariant_of-self g c =
+    sound_after (kept_of c.self.inside.limits c.self.inside.begun c.self.inside.levels)
+    (kept_of c.self.inside.limits true c.abort.new.self) Abort Done c.self.invariant c.self.invariant.in_range
+    (picks_aborted c.self.inside.levels c.abort.new.self c.abort.ensures c.self.invariant.picked)
+    (abort_step c.self.inside.limits c.self.inside.begun c.self.inside.levels c.abort.new.self c.self.invariant.picked
+    (sym c.is_staged.ensures ∙ c.if-not-is_staged.false) c.abort.ensures)
+
+pub returns-clause-step : goal.returns-clause-step
+returns-clause-step g c =
+    from_view (kept_of c.self.inside.limits c.self.inside.begun c.self.inside.levels)
+    c.args.self.now (kept_of c.self.inside.limits true c.abort.new.self) Abort Done c.self.view_is
+    (abort_step c.self.inside.limits c.self.inside.begun c.self.inside.levels c.abort.new.self c.self.invariant.picked
+    (sym c.is_staged.ensures ∙ c.if-not-is_staged.false) c.abort.ensures)

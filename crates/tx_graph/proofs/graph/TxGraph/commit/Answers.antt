@@ -1,0 +1,29 @@
+use Rattle.std.proofs.Common.{true, sym, ◌∙◌}
+use Rattle.graph_model.specs.Commands.{Commit}
+use Rattle.graph_model.specs.declared.names.Refusal.TheVariants.{NoStaging}
+use Rattle.graph_model.specs.Replies.{Done, Refused}
+use Rattle.tx_graph.proofs.Calls.{kept_of, from_view, both_views, sound_after, commit_step, picks_committed}
+use Rattle.tx_graph.proofs.Rows.{unstaged_row}
+use Rattle.tx_graph.proofs.Standing.{steps_refused}
+use Rattle.tx_graph.proofs.graph.TxGraph.commit.Goals as goal
+
+pub returns-then-not-is_staged-clause-step : goal.returns-then-not-is_staged-clause-step
+returns-then-not-is_staged-clause-step g c =
+    let kept = kept_of c.self.inside.limits c.self.inside.begun c.self.inside.levels in
+    both_views kept c.args.self.now Commit (Refused NoStaging) c.self.view_is
+    (steps_refused kept Commit NoStaging (unstaged_row kept (sym c.is_staged.ensures ∙ c.if-not-is_staged.true)))
+
+pub invariant_of-self : goal.invariant_of-self
+invariant_of-self g c =
+    sound_after (kept_of c.self.inside.limits c.self.inside.begun c.self.inside.levels)
+    (kept_of c.self.inside.limits true c.commit.new.self) Commit Done c.self.invariant c.self.invariant.in_range
+    (picks_committed c.self.inside.levels c.commit.new.self c.commit.ensures c.self.invariant.picked)
+    (commit_step c.self.inside.limits c.self.inside.begun c.self.inside.levels c.commit.new.self c.self.invariant.picked
+    (sym c.is_staged.ensures ∙ c.if-not-is_staged.false) c.commit.ensures)
+
+pub returns-clause-step : goal.returns-clause-step
+returns-clause-step g c =
+    from_view (kept_of c.self.inside.limits c.self.inside.begun c.self.inside.levels)
+    c.args.self.now (kept_of c.self.inside.limits true c.commit.new.self) Commit Done c.self.view_is
+    (commit_step c.self.inside.limits c.self.inside.begun c.self.inside.levels c.commit.new.self c.self.invariant.picked
+    (sym c.is_staged.ensures ∙ c.if-not-is_staged.false) c.commit.ensures)

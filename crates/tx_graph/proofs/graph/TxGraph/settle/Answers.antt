@@ -1,0 +1,32 @@
+use Rattle.std.proofs.Common.{true, sym, ◌∙◌}
+use Rattle.graph_model.specs.Commands.{Settle}
+use Rattle.graph_model.specs.declared.names.Refusal.TheVariants.{NoStaging}
+use Rattle.graph_model.specs.Replies.{Settled, Refused}
+use Rattle.tx_graph.proofs.Calls.{kept_of, from_view, both_views, sound_after, settle_step, picks_settled}
+use Rattle.tx_graph.proofs.Rows.{unstaged_row}
+use Rattle.tx_graph.proofs.Standing.{steps_refused}
+use Rattle.tx_graph.proofs.graph.TxGraph.settle.Goals as goal
+
+pub returns-then-not-is_staged-clause-step : goal.returns-then-not-is_staged-clause-step
+returns-then-not-is_staged-clause-step g c =
+    let kept = kept_of c.self.inside.limits c.self.inside.begun c.self.inside.levels in
+    both_views kept c.args.self.now Settle (Refused NoStaging) c.self.view_is
+    (steps_refused kept Settle NoStaging (unstaged_row kept (sym c.is_staged.ensures ∙ c.if-not-is_staged.true)))
+
+pub invariant_of-self : goal.invariant_of-self
+invariant_of-self g c =
+    sound_after (kept_of c.self.inside.limits c.self.inside.begun c.self.inside.levels)
+    (kept_of c.self.inside.limits true c.close.new.levels) Settle (Settled c.compare-verdict.result) c.self.invariant
+    c.self.invariant.in_range
+    (picks_settled c.self.inside.levels c.close.new.levels c.compare-verdict.result c.close.ensures.better c.close.ensures.other c.self.invariant.picked)
+    (settle_step c.self.inside.limits c.self.inside.begun c.self.inside.levels c.close.new.levels c.compare-verdict.result c.self.invariant.picked
+    c.compare-verdict.ensures.rates c.compare-verdict.ensures.verdict (sym c.is_staged.ensures ∙ c.if-not-is_staged.false)
+    c.close.ensures.better c.close.ensures.other)
+
+pub returns-clause-step : goal.returns-clause-step
+returns-clause-step g c =
+    from_view (kept_of c.self.inside.limits c.self.inside.begun c.self.inside.levels)
+    c.args.self.now (kept_of c.self.inside.limits true c.close.new.levels) Settle (Settled c.compare-verdict.result) c.self.view_is
+    (settle_step c.self.inside.limits c.self.inside.begun c.self.inside.levels c.close.new.levels c.compare-verdict.result c.self.invariant.picked
+    c.compare-verdict.ensures.rates c.compare-verdict.ensures.verdict (sym c.is_staged.ensures ∙ c.if-not-is_staged.false)
+    c.close.ensures.better c.close.ensures.other)
