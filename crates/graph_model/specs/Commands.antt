@@ -74,10 +74,5 @@ HasTypes command = Unit {0}
 abbrev pub IsBuilt : Command → Type 0
 IsBuilt (Mine ids) = ⊥
 IsBuilt Evict = ⊥
-IsBuilt Stage = ⊥
-IsBuilt Commit = ⊥
-IsBuilt Abort = ⊥
-IsBuilt Settle = ⊥
-IsBuilt Compare = ⊥
 IsBuilt (Block size) = ⊥
 IsBuilt command = Unit {0}

@@ -1,5 +1,5 @@
 -- The text that proves an order.
-use Rattle.std.proofs.Common.{◌≡◌, ℕ, ℤ, true, List, [], ◌∷◌, ◌++◌, map, codes, Contains, ◌↔◌, refl, sym, ap, ap₂, subst, subst₂, ◌∙◌, append_assoc, append-nil, inl, inr, ◌⊎◌}
+use Rattle.std.proofs.Common.{◌≡◌, ℕ, ℤ, true, List, [], ◌∷◌, ◌++◌, map, codes, Contains, ◌↔◌, Option, None, Some, refl, sym, ap, ap₂, subst, subst₂, ◌∙◌, append_assoc, append-nil, inl, inr, ◌⊎◌}
 use Rattle.std.specs.Prelude.{flat_map}
 use Rattle.std.proofs.lemmas.List.{map-append}
 use Rattle.std.proofs.lemmas.List.Elements.{Contains-append_left, Contains-append_right, Contains-append_cases}
@@ -15,8 +15,10 @@ use Rattle.graphs.specs.Picks.{FollowOrder}
 use Rattle.graph_model.specs.Answers.{order_of}
 use Rattle.graph_model.specs.States.{PlainState, State, level_of, top_of}
 use Rattle.graph_model.specs.Texts.{Text, text_lines, part_lines, tx_line}
-use Rattle.tx_graph.specs.Kept.{Kept, StandsPlainly, StandsFor}
-use Rattle.tx_graph.specs.Readings.{ListsCovers, IsBestOrder, IsTextOf}
+use Rattle.levels.specs.Levels.{OneLevel, level_at}
+use Rattle.levels.specs.Orders.{ListsCovers}
+use Rattle.tx_graph.specs.Kept.{Kept, IsGraphOf, IsStagingOf, StandsPlainly, StandsFor}
+use Rattle.tx_graph.specs.Readings.{IsBestOrder, IsTextOf}
 use Rattle.replay.specs.Writings.{ListsEach, tx_line_of, edges_lines}
 use Rattle.replay.proofs.WritingLemmas.{map_twice}
 
@@ -144,42 +146,49 @@ edges_follow graph order edges each a b before = later_of (Before order) (map sw
     (each_follows graph order [] order edges refl each) before.2 before.3
 
 -- ---- the names of the parts
-level_is : (kept : Kept) (state : PlainState) (level : Level) → StandsPlainly kept state → level_of state level ≡ state.main
-level_is kept state Main stands = refl
-level_is kept state Top stands = ap (top_of state.main) stands.staging
+top_graph : (main : OneLevel) (graph : Graph) (staging : Option OneLevel) (staged : Option Graph) → IsGraphOf main graph → IsStagingOf staging staged
+    → IsGraphOf (top_of main staging) (top_of graph staged)
+top_graph main graph None None one of = one
+top_graph main graph None (Some other) one of = absurd of
+top_graph main graph (Some level) None one of = absurd of
+top_graph main graph (Some level) (Some other) one of = of
+
+pub graph_at : (kept : Kept) (state : PlainState) (level : Level) → StandsPlainly kept state → IsGraphOf (level_at kept.levels level) (level_of state level)
+graph_at kept state Main stands = stands.main
+graph_at kept state Top stands = top_graph kept.levels.main state.main kept.levels.staging state.staging stands.main stands.staging
 
 pub names_live : (kept : Kept) (state : State) (level : Level) (parts : List Part) → StandsFor kept state → IsBestOrder state level parts → (id : ℕ)
-    → Contains (order_of parts) id ↔ (is_member kept.graph id ≡ true)
+    → Contains (order_of parts) id ↔ (is_member (level_at kept.levels level).graph id ≡ true)
 names_live kept state level parts stands best id =
-    let names = subst (λ (graph : Graph). Contains (order_of parts) id ↔ Contains graph.names id) (level_is kept state.plain level stands.plain)
-    (best.certified.certificate.order.topological.names id) in
-    let live = stands.plain.closure.names id in
+    let names = best.certified.certificate.order.topological.names id in
+    let live = (graph_at kept state.plain level stands.plain).closure.names id in
     (λ here. live.0 (names.0 here), λ here. names.1 (live.1 here))
 
 -- ---- the text
-abbrev pub text_with : Kept → List (ℕ × ℕ) → Text
-text_with kept edges = record {
-  txs = map (λ id. (id, (rate_of kept.graph id).fee, (rate_of kept.graph id).size)) (order_of kept.parts);
+abbrev pub text_with : OneLevel → List (ℕ × ℕ) → Text
+text_with level edges = record {
+  txs = map (λ id. (id, (rate_of level.graph id).fee, (rate_of level.graph id).size)) (order_of level.parts);
   edges = edges;
-  parts = kept.parts;
+  parts = level.parts;
 }
 
-pub text_is : (kept : Kept) (state : State) (level : Level) (edges : List (ℕ × ℕ)) → StandsFor kept state → IsBestOrder state level kept.parts
-    → ListsEach kept.graph (order_of kept.parts) (order_of kept.parts) edges → IsTextOf kept (text_with kept edges)
-text_is kept state level edges stands best each = record {
+pub text_is : (level : OneLevel) (graph : Graph) (edges : List (ℕ × ℕ)) → IsGraphOf level graph
+    → ((id : ℕ) → Contains (order_of level.parts) id ↔ (is_member level.graph id ≡ true))
+    → ListsEach level.graph (order_of level.parts) (order_of level.parts) edges → IsTextOf level (text_with level edges)
+text_is level graph edges of names each = record {
   txs = refl;
   exact = λ a d.
-      let exact = each_exact kept.graph (order_of kept.parts) (order_of kept.parts) edges each a d in
-      let here = names_live kept state level kept.parts stands best d in
-      (λ listed. (exact.0 listed).1, λ cover. exact.1 (here.1 (stands.plain.among a d cover.ancestor).1, cover));
-  in_order = edges_follow kept.graph (order_of kept.parts) edges each;
+      let exact = each_exact level.graph (order_of level.parts) (order_of level.parts) edges each a d in
+      (λ listed. (exact.0 listed).1, λ cover. exact.1 ((names d).1 (of.among a d cover.ancestor).1, cover));
+  in_order = edges_follow level.graph (order_of level.parts) edges each;
   parts = refl;
 }
 
-pub text_lines_are : (kept : Kept) (edges : List (ℕ × ℕ)) (first last : List Part) → first ≡ kept.parts → last ≡ kept.parts
-    → text_lines (text_with kept edges) ≡ map (tx_line_of kept.graph) (order_of first) ++ edges_lines edges ++ flat_map part_lines last ++ codes "end" ∷ []
-text_lines_are kept edges first last one two =
-    let txs = map_twice (λ (tx : ℕ × ℤ × ℕ). tx_line tx.0 tx.1 tx.2) (λ id. (id, (rate_of kept.graph id).fee, (rate_of kept.graph id).size))
-    (order_of kept.parts) in
+pub text_lines_are : (level : OneLevel) (edges : List (ℕ × ℕ)) (first last : List Part) → first ≡ level.parts → last ≡ level.parts
+    → text_lines (text_with level edges)
+    ≡ map (tx_line_of level.graph) (order_of first) ++ edges_lines edges ++ flat_map part_lines last ++ codes "end" ∷ []
+text_lines_are level edges first last one two =
+    let txs = map_twice (λ (tx : ℕ × ℤ × ℕ). tx_line tx.0 tx.1 tx.2) (λ id. (id, (rate_of level.graph id).fee, (rate_of level.graph id).size))
+    (order_of level.parts) in
     ap₂ (λ (lines : List (List ℕ)) (parts : List Part). lines ++ edges_lines edges ++ flat_map part_lines parts ++ codes "end" ∷ [])
-    (txs ∙ ap (λ (parts : List Part). map (tx_line_of kept.graph) (order_of parts)) (sym one)) (sym two)
+    (txs ∙ ap (λ (parts : List Part). map (tx_line_of level.graph) (order_of parts)) (sym one)) (sym two)

@@ -46,10 +46,10 @@ pub record Played (kept : Kept) (cutter : Cutter) (held : List ℕ) (left now fi
   pub leaves : Leaves cutter rest
   pub given : AreGiven cutter.stage input lines rest
   pub sent : HasSent first written (flat_map answer_text answers) held
-  pub few : kept.additions + length rest ≤ length input
+  pub few : kept.levels.issued + length rest ≤ length input
 
 -- before the first line
-pub played_nothing : (kept : Kept) (cutter : Cutter) (held : List ℕ) (left first : Option (List ℕ)) → StandsFor kept (start MAX_COUNT) → kept.additions ≡ 0 → cutter.held ≡ [] → cutter.long ≡ false → cutter.taken ≡ 0 → cutter.stage ≡ Open → held ≡ [] → Played kept cutter held left left first first
+pub played_nothing : (kept : Kept) (cutter : Cutter) (held : List ℕ) (left first : Option (List ℕ)) → StandsFor kept (start MAX_COUNT) → kept.levels.issued ≡ 0 → cutter.held ≡ [] → cutter.long ≡ false → cutter.taken ≡ 0 → cutter.stage ≡ Open → held ≡ [] → Played kept cutter held left left first first
 played_nothing kept cutter held left first stands added none short taken going empty = record {
   input = [];
   rest = [];
@@ -157,7 +157,7 @@ pub record Turn (kept : Kept) (cutter new : Cutter) (held : List ℕ) (left befo
   pub gives : GivesLine new (played.rest ++ more) line
 
 pub played_line : (kept next : Kept) (cutter new : Cutter) (held left_held line : List ℕ) (left before now first sent written : Option (List ℕ)) (answer : Answer) → Turn kept cutter new held left before now first sent line → Answers kept next line answer
-    → HasSent sent written (held ++ answer_text answer) left_held → next.additions ≤ kept.additions + 1 → Played next new left_held left now first written
+    → HasSent sent written (held ++ answer_text answer) left_held → next.levels.issued ≤ kept.levels.issued + 1 → Played next new left_held left now first written
 played_line kept next cutter new held left_held line left before now first sent written answer turn answers tells added =
     let played = turn.played in
     let more = turn.more in

@@ -6,7 +6,7 @@ use Rattle.outside.specs.Transfers.{Writes}
 use Rattle.graph_model.specs.Commands.{Command}
 use Rattle.graph_model.specs.Lines.{Meaning, Quiet, NoForm, Says}
 use Rattle.graph_model.specs.Refusals.{number_of}
-use Rattle.graph_model.specs.Replies.{Reply, Refused, Done, Ids, Number, Stands}
+use Rattle.graph_model.specs.Replies.{Reply, Refused, Done, Ids, Number, Stands, Compared, Settled}
 use Rattle.graph_model.specs.Runs.{answer_text}
 use Rattle.graph_model.specs.Runs as runs
 use Rattle.tx_graph.specs.Kept.{Kept, MakesStep}
@@ -40,6 +40,8 @@ Tells graph kept.Done found answer = answer ≡ runs.Replies Done
 Tells graph kept.Names found answer = answer ≡ runs.Replies (Ids found)
 Tells graph (kept.Number n) found answer = answer ≡ runs.Replies (Number n)
 Tells graph (kept.Stands place) found answer = answer ≡ runs.Replies (Stands place)
+Tells graph (kept.Compared verdict) found answer = answer ≡ runs.Replies (Compared verdict)
+Tells graph (kept.Settled verdict) found answer = answer ≡ runs.Replies (Settled verdict)
 Tells graph (kept.Reads reading) found answer = IsReadOf graph (reading_command reading) answer
 
 -- whatever the answer is, this is so of it

@@ -20,6 +20,9 @@ change_command (changes.Add id fee size) = commands.Add id fee size
 change_command (changes.Dep parent child) = commands.Dep parent child
 change_command (changes.Fee id fee) = commands.SetFee id fee
 change_command (changes.Remove id) = commands.Remove id
+change_command changes.Stage = commands.Stage
+change_command changes.Commit = commands.Commit
+change_command changes.Abort = commands.Abort
 
 abbrev pub search_command : Search → Command
 search_command (searches.Cluster id level) = commands.Cluster id level
@@ -40,4 +43,6 @@ asked (requests.Change change) = Says (change_command change)
 asked (requests.Search search) = Says (search_command search)
 asked (requests.Count level) = Says (commands.Count level)
 asked (requests.Before a b) = Says (commands.Before a b)
+asked requests.Compare = Says commands.Compare
+asked requests.Settle = Says commands.Settle
 asked (requests.Read reading) = Says (reading_command reading)

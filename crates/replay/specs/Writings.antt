@@ -8,7 +8,7 @@ use Rattle.graph_model.specs.Replies.{point_line}
 use Rattle.graph_model.specs.Words.{line_text}
 use Rattle.graph_model.specs.Texts.{tx_line, edge_line, chunk_line, flow_line}
 use Rattle.wire.specs.Pieces.{GoesOn}
-use Rattle.tx_graph.specs.Readings.{ListsCovers}
+use Rattle.levels.specs.Orders.{ListsCovers}
 use Rattle.replay.specs.declared.writing.Line.{Line}
 use Rattle.replay.specs.declared.writing.Line.TheVariants as written
 

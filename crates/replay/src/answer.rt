@@ -5,9 +5,9 @@ ghost use Rattle.replay.specs.Answers.{Tells, WritesAnswer};
 
 use crate::commands::Obeys;
 use crate::reading::Reading;
-use graph_model::{Place, Refusal, TxId};
+use graph_model::{Place, Refusal, TxId, Verdict};
 use outside::{Failed, Sink};
-use wire::{place_word, write_ids, write_refusal, write_word};
+use wire::{place_word, settled_words, verdict_word, write_ids, write_refusal, write_word};
 
 /// How a line was answered.
 #[derive(Clone, Copy, Debug, PartialEq, Eq)]
@@ -33,6 +33,10 @@ pub(crate) enum Answer {
     Names,
     Number(u64),
     Stands(Place),
+    /// how staging stands to main
+    Compared(Verdict),
+    /// how it stood to main when it was closed
+    Settled(Verdict),
     /// what the graph is read for as it is written
     Reads(Reading),
 }
@@ -57,6 +61,12 @@ impl Answer {
             Answer::Names => told(write_ids(sink, "ids", None, found), Outcome::Accepted),
             Answer::Number(n) => told(write_ids(sink, "count", None, &[*n]), Outcome::Accepted),
             Answer::Stands(place) => told(write_word(sink, place_word(*place)), Outcome::Accepted),
+            Answer::Compared(verdict) => {
+                told(write_word(sink, verdict_word(*verdict)), Outcome::Accepted)
+            }
+            Answer::Settled(verdict) => {
+                told(write_word(sink, settled_words(*verdict)), Outcome::Accepted)
+            }
             Answer::Reads(reading) => graph.read(*reading, sink),
         }
     }

@@ -27,7 +27,7 @@ pub(crate) fn answer_lines<S: Source, K: Sink>(
     sink: &mut K,
 ) -> Result<End, Failed>
     requires fresh { StandsFor session.old (start MAX_COUNT) }
-    requires none_added { session.old.additions ≡ 0 }
+    requires none_added { session.old.levels.issued ≡ 0 }
     requires none_held { lines.old.held ≡ [] }
     requires none_dropped { lines.old.long ≡ false }
     requires none_taken { lines.old.taken ≡ 0 }

@@ -3,7 +3,7 @@ ghost use Rattle.graph_model.specs.Runs as runs;
 ghost use Rattle.wire.specs.Readings.{meaning_of};
 ghost use Rattle.graph_model.specs.Replies.{change_reply, names_reply};
 ghost use Rattle.tx_graph.specs.Kept.{Kept};
-ghost use Rattle.tx_graph.specs.Readings.{place_reply};
+ghost use Rattle.tx_graph.specs.Readings.{place_reply, compare_reply, settle_reply};
 ghost use Rattle.replay.specs.Answers.{AnswersMeaning, MayTell, IsReadOf, WritesAnswer};
 ghost use Rattle.replay.specs.Requests.{reading_command};
 ghost use Rattle.replay.specs.Sessions.{IsLine, Answers, HasRoom, Suits};
@@ -13,7 +13,7 @@ use crate::reading::Reading;
 use crate::request::Request;
 use crate::session::Piece;
 use crate::writing::{write_diagram, write_order, write_part, write_proof};
-use graph_model::{IdBuf, MAX_LINE, Place, Refusal};
+use graph_model::{IdBuf, MAX_LINE, Place, Refusal, Verdict};
 use outside::{Failed, Sink};
 use std::marker::Brand;
 use std::sync::ledger;
@@ -28,13 +28,13 @@ pub(crate) fn answer<const W: usize>(
     ids: &mut IdBuf,
     piece: Piece<'_>,
 ) -> Answer
-    requires few { graph.old.additions < 2 ^ 64 - 1 }
+    requires few { graph.old.levels.issued < 2 ^ 64 - 1 }
     requires room { HasRoom W ids.old }
     ensures line { (line : List ℕ) → IsLine piece.entry line
         → MayTell graph.new result ids.new.ids (Answers graph.old graph.new line) }
     ensures suits { (line : List ℕ) → IsLine piece.entry line
         → MayTell graph.new result ids.new.ids (Suits line) }
-    ensures additions { graph.new.additions ≤ graph.old.additions + 1 }
+    ensures additions { graph.new.levels.issued ≤ graph.old.levels.issued + 1 }
     ensures room { HasRoom W ids.new }
 {
     match piece {
@@ -45,11 +45,11 @@ pub(crate) fn answer<const W: usize>(
 
 /// The answer to a line of these bytes.
 fn read<const W: usize>(graph: &mut TxGraph<W>, ids: &mut IdBuf, bytes: &[u8]) -> Answer
-    requires few { graph.old.additions < 2 ^ 64 - 1 }
+    requires few { graph.old.levels.issued < 2 ^ 64 - 1 }
     requires room { HasRoom W ids.old }
     ensures line { MayTell graph.new result ids.new.ids (Answers graph.old graph.new bytes.now) }
     ensures suits { MayTell graph.new result ids.new.ids (Suits bytes.now) }
-    ensures additions { graph.new.additions ≤ graph.old.additions + 1 }
+    ensures additions { graph.new.levels.issued ≤ graph.old.levels.issued + 1 }
     ensures room { HasRoom W ids.new }
 {
     if bytes.len() > MAX_LINE {
@@ -70,11 +70,11 @@ pub(crate) trait Obeys {
 
     /// The answer to what a line says.
     fn obey<L: Ledger>(&mut self, ids: &mut IdBuf, line: Line, steps: &mut Steps<L>) -> Answer
-        requires few { (kept self.old).additions < 2 ^ 64 - 1 }
+        requires few { (kept self.old).levels.issued < 2 ^ 64 - 1 }
         requires room { HasRoom words ids.old }
         ensures answers { MayTell (kept self.new) result ids.new.ids
             (AnswersMeaning (meaning_of line ids.old.ids) (kept self.old) (kept self.new)) }
-        ensures additions { (kept self.new).additions ≤ (kept self.old).additions + 1 }
+        ensures additions { (kept self.new).levels.issued ≤ (kept self.old).levels.issued + 1 }
         ensures room { HasRoom words ids.new };
 
     /// Writes the reply to a reading, and tells the outcome.
@@ -96,6 +96,8 @@ impl<const W: usize> Obeys for TxGraph<W> {
             Request::Search(search) => named(search.find(self, ids)),
             Request::Count(level) => Answer::Number(self.count(level) as u64),
             Request::Before(a, b) => placed(self.before(a, b)),
+            Request::Compare => compared(self.compare()),
+            Request::Settle => settled(self.settle()),
             Request::Read(reading) => Answer::Reads(reading),
         }
     }
@@ -120,11 +122,11 @@ fn obey_unpaid<K: ledger::Ledger, G: Obeys>(
     requires name { blank.name ≡ K.name }
     requires parts { blank.parts ≡ K.parts }
     requires some { 0 < blank.parts }
-    requires few { (G.kept graph.old).additions < 2 ^ 64 - 1 }
+    requires few { (G.kept graph.old).levels.issued < 2 ^ 64 - 1 }
     requires room { HasRoom G.words ids.old }
     ensures answers { MayTell (G.kept graph.new) result ids.new.ids
         (AnswersMeaning (meaning_of line ids.old.ids) (G.kept graph.old) (G.kept graph.new)) }
-    ensures additions { (G.kept graph.new).additions ≤ (G.kept graph.old).additions + 1 }
+    ensures additions { (G.kept graph.new).levels.issued ≤ (G.kept graph.old).levels.issued + 1 }
     ensures room { HasRoom G.words ids.new }
 {
     let mut steps = Steps::new(NoLedger::<K>::new(blank));
@@ -158,6 +160,28 @@ fn placed(found: Result<Place, Refusal>) -> Answer
 {
     match found {
         Ok(place) => Answer::Stands(place),
+        Err(why) => Answer::Refused(why),
+    }
+}
+
+/// The answer to how staging stands to main.
+fn compared(found: Result<Verdict, Refusal>) -> Answer
+    ensures { (graph : Kept) (names : List ℕ)
+        → MayTell graph result names (λ answer. answer ≡ runs.Replies (compare_reply found)) }
+{
+    match found {
+        Ok(verdict) => Answer::Compared(verdict),
+        Err(why) => Answer::Refused(why),
+    }
+}
+
+/// The answer to a settlement.
+fn settled(done: Result<Verdict, Refusal>) -> Answer
+    ensures { (graph : Kept) (names : List ℕ)
+        → MayTell graph result names (λ answer. answer ≡ runs.Replies (settle_reply done)) }
+{
+    match done {
+        Ok(verdict) => Answer::Settled(verdict),
         Err(why) => Answer::Refused(why),
     }
 }

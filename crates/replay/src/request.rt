@@ -22,6 +22,10 @@ pub(crate) enum Request {
     Count(Level),
     /// where one name stands to another
     Before(TxId, TxId),
+    /// how staging stands to main
+    Compare,
+    /// that staging is committed where it is better, and else dropped
+    Settle,
     Read(Reading),
 }
 
@@ -33,6 +37,9 @@ pub(crate) enum Change {
     Dep(TxId, TxId),
     Fee(TxId, i64),
     Remove(TxId),
+    Stage,
+    Commit,
+    Abort,
 }
 
 /// Which names are looked for in a level.
@@ -53,20 +60,17 @@ impl From<Line> for Request {
     fn from(line: Line) -> Request {
         match line {
             Line::Quiet => Request::Silence,
-            Line::Syntax
-            | Line::Mine
-            | Line::Evict
-            | Line::Stage
-            | Line::Commit
-            | Line::Abort
-            | Line::Settle
-            | Line::Compare
-            | Line::Block(_) => Request::Unread,
+            Line::Syntax | Line::Mine | Line::Evict | Line::Block(_) => Request::Unread,
             Line::Limits(limits) => Request::Change(Change::Limits(limits)),
             Line::Add(id, fee, size) => Request::Change(Change::Add(id, fee, size)),
             Line::Dep(parent, child) => Request::Change(Change::Dep(parent, child)),
             Line::Fee(id, fee) => Request::Change(Change::Fee(id, fee)),
             Line::Remove(id) => Request::Change(Change::Remove(id)),
+            Line::Stage => Request::Change(Change::Stage),
+            Line::Commit => Request::Change(Change::Commit),
+            Line::Abort => Request::Change(Change::Abort),
+            Line::Settle => Request::Settle,
+            Line::Compare => Request::Compare,
             Line::Cluster(id, level) => Request::Search(Search::Cluster(id, level)),
             Line::Ancestors(id, level) => Request::Search(Search::Ancestors(id, level)),
             Line::Descendants(id, level) => Request::Search(Search::Descendants(id, level)),
@@ -87,9 +91,9 @@ impl Change {
         graph: &mut TxGraph<W>,
         steps: &mut Steps<L>,
     ) -> Result<(), Refusal>
-        requires few { graph.old.additions < 2 ^ 64 - 1 }
+        requires few { graph.old.levels.issued < 2 ^ 64 - 1 }
         ensures step { MakesStep graph.old graph.new (change_command self) (change_reply result) }
-        ensures additions { graph.new.additions ≤ graph.old.additions + 1 }
+        ensures additions { graph.new.levels.issued ≤ graph.old.levels.issued + 1 }
     {
         match self {
             Change::Limits(limits) => graph.set_limits(limits),
@@ -97,6 +101,9 @@ impl Change {
             Change::Dep(parent, child) => graph.dep(parent, child, steps),
             Change::Fee(id, fee) => graph.fee(id, fee, steps),
             Change::Remove(id) => graph.remove(id, steps),
+            Change::Stage => graph.stage(),
+            Change::Commit => graph.commit(),
+            Change::Abort => graph.abort(),
         }
     }
 }

@@ -60,7 +60,7 @@ impl<const W: usize> Session<W> {
         requires wide { 1 ≤ W }
         requires narrow { W ≤ 2 }
         ensures start { IfOk result (λ session. StandsFor session (start MAX_COUNT)) }
-        ensures additions { IfOk result (λ session. session.additions ≡ 0) }
+        ensures additions { IfOk result (λ session. session.levels.issued ≡ 0) }
     {
         Ok(Session {
             graph: TxGraph::new(alloc, DEFAULT_LIMITS)?,
@@ -71,7 +71,7 @@ impl<const W: usize> Session<W> {
     /// How many additions were accepted. The session always stands for some state, so that what the
     /// other calls say of such states says something.
     pub fn additions(&self) -> u64
-        ensures additions { result ≡ self.now.additions }
+        ensures additions { result ≡ self.now.levels.issued }
         ensures stands { (state : State) × StandsFor self.now state }
     {
         self.graph.additions()
@@ -81,7 +81,7 @@ impl<const W: usize> Session<W> {
     /// `Failed`: the sink's faults rose by one then, and else they are as they were. At `Failed` a
     /// front of the reply was written, and the graph has changed all the same.
     pub fn one<K: Sink>(&mut self, piece: Piece<'_>, sink: &mut K) -> Result<Outcome, Failed>
-        requires { self.old.additions < 2 ^ 64 - 1 }
+        requires { self.old.levels.issued < 2 ^ 64 - 1 }
         // One line of a run: its answer, the state that follows, and what was written and told of it.
         ensures line { (line : List ℕ) → IsLine piece.entry line → (answer : runs.Answer)
             × Answers self.old self.new line answer
@@ -89,7 +89,7 @@ impl<const W: usize> Session<W> {
             (answer_text answer)
             × IfOk result (λ outcome. outcome ≡ outcome_of answer) × Suits line answer }
         ensures cause { CountsFaults (K.faults sink.old) (K.faults sink.new) result }
-        ensures additions { self.new.additions ≤ self.old.additions + 1 }
+        ensures additions { self.new.levels.issued ≤ self.old.levels.issued + 1 }
     {
         let found = answer(&mut self.graph, &mut self.ids, piece);
         found.tell(&self.graph, self.ids.ids(), sink)
@@ -102,12 +102,12 @@ impl<const W: usize> Session<W> {
         replies: &mut Replies,
         sink: &mut K,
     ) -> Result<Outcome, Failed>
-        requires { self.old.additions < 2 ^ 64 - 1 }
+        requires { self.old.levels.issued < 2 ^ 64 - 1 }
         ensures line { (line : List ℕ) → IsLine piece.entry line → (answer : runs.Answer)
             × Answers self.old self.new line answer
             × Gathers (K.written sink.old) (K.written sink.new) replies.old replies.new result (answer_text answer) }
         ensures cause { CountsFaults (K.faults sink.old) (K.faults sink.new) result }
-        ensures additions { self.new.additions ≤ self.old.additions + 1 }
+        ensures additions { self.new.levels.issued ≤ self.old.levels.issued + 1 }
     {
         let found = answer(&mut self.graph, &mut self.ids, piece);
         replies.tell(&self.graph, &found, self.ids.ids(), sink)

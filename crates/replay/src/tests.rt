@@ -1,6 +1,7 @@
 use super::*;
 use outside::{Failed, MemSink, MemSource};
 use std::alloc::{AllocError, Global};
+use std::process::Abort;
 use std::test::Fail;
 
 /// The words of a command line.
@@ -61,7 +62,10 @@ const RUNS: [(&str, &str); 15] = [
         "add 1 1 1\nfee 1 2100000000000000\nfee 1 2100000000000001\nfee 9 -2100000000000001\nfee 9 5\nfee 1 -0\nfee 1 5 5\nlimits 64 404000 0\nremove 01\nremove main\ncluster 1\ncluster 9 main\nlimits 64 1 1 1\n",
         "ok\nok\nrefused fee\nrefused fee\nrefused unknown 9\nrefused syntax\nrefused syntax\nrefused late\nrefused syntax\nrefused syntax\nrefused syntax\nrefused unknown 9\nrefused syntax\n",
     ),
-    ("compare\nstage\n", "refused syntax\nrefused syntax\n"),
+    (
+        "mine 1\nevict\nblock 1\n",
+        "refused syntax\nrefused syntax\nrefused syntax\n",
+    ),
 ];
 
 /// Inputs of `replay` that ask for the order, with their outputs.
@@ -104,6 +108,58 @@ const ORDERS: [(&str, &str); 9] = [
     ),
 ];
 
+/// Inputs of `replay` with a staging, with their outputs.
+const STAGINGS: [(&str, &str); 12] = [
+    (
+        "add 1 100 200\nstage\nremove 1\nadd 2 500 100\ncompare\nsettle\ncount main\norder main\n",
+        "ok\nok\nok\nok\nbetter\ncommitted better\ncount 1\nchunk 500 100 2\nend\n",
+    ),
+    (
+        "add 1 100 100\nstage\nremove 1\nadd 2 150 300\ncompare\nsettle\nancestors 1 main\n",
+        "ok\nok\nok\nok\nincomparable\naborted incomparable\nids 1\n",
+    ),
+    (
+        "stage\ncompare\nstage\nabort\ncommit\n",
+        "ok\nequal\nrefused staging\nok\nrefused nostaging\n",
+    ),
+    (
+        "add 9 -10 1\nstage\nadd 2 0 1\ncompare\n",
+        "ok\nok\nok\nbetter\n",
+    ),
+    (
+        "add 1 9 9\nstage\nremove 1\nadd 1 5 5\nfee 1 7\nabort\nchunk 1\n",
+        "ok\nok\nok\nrefused taken\nok\nok\nchunk 7 9 1\n",
+    ),
+    (
+        "add 1 4 2\nstage\nadd 2 9 3\ndep 1 2\norder main\norder top\ndescendants 1 main\ndescendants 1 top\ncommit\ncount main\n",
+        "ok\nok\nok\nok\nchunk 4 2 1\nend\nchunk 13 5 1 2\nend\nids 1\nids 1 2\nok\ncount 2\n",
+    ),
+    (
+        "add 1 1 1\nstage\nfee 1 5\norder top\nchunk 1\n",
+        "ok\nok\nok\nchunk 5 1 1\nend\nchunk 5 1 1\n",
+    ),
+    (
+        "add 1 1 1\nstage\nremove 1\ncommit\nadd 1 2 2\norder main\n",
+        "ok\nok\nok\nok\nok\nchunk 2 2 1\nend\n",
+    ),
+    (
+        "add 1 5 1\nstage\nremove 1\ncompare\nsettle\nfee 1 -5\nstage\nremove 1\nsettle\ncount main\n",
+        "ok\nok\nok\nworse\naborted worse\nok\nok\nok\ncommitted better\ncount 0\n",
+    ),
+    (
+        "add 5 50 10\nadd 1 100 100\nstage\nremove 1\nadd 2 150 300\ncompare\nsettle\ncount main\n",
+        "ok\nok\nok\nok\nok\nincomparable\naborted incomparable\ncount 2\n",
+    ),
+    (
+        "settle\ncompare\nabort\ncommit\nstage\nlimits 64 404000 2\nsettle top\nsettle\nstage 1\n",
+        "refused nostaging\nrefused nostaging\nrefused nostaging\nrefused nostaging\nok\nrefused late\nrefused syntax\naborted equal\nrefused syntax\n",
+    ),
+    (
+        "add 1 100 200\nstage\nadd 2 900 200\ndep 1 2\nproof main\nproof top\ndiagram top\ncluster 2 main\ncount top\n",
+        "ok\nok\nok\nok\ntx 1 100 200\nchunk 100 200 1\nend\ntx 1 100 200\ntx 2 900 200\nedge 1 2\nchunk 1000 400 1 2\nflow 2 1 160000\nend\npoint 0 0\npoint 400 1000\nend\nrefused unknown 2\ncount 2\n",
+    ),
+];
+
 #[test]
 fn replies_are_the_same_whatever_the_pieces(rt: HostRuntime) -> Result<(), Fail> {
     let alloc = rt.alloc();
@@ -120,11 +176,10 @@ fn replies_are_the_same_whatever_the_pieces(rt: HostRuntime) -> Result<(), Fail>
     Ok(())
 }
 
-#[test]
-fn orders_are_told(rt: HostRuntime) -> Result<(), Fail> {
-    let alloc = rt.alloc();
+/// Runs `replay` on inputs, and compares what it writes with their outputs.
+fn replay_all(rt: &impl Abort, alloc: Global, runs: &[(&str, &str)]) -> Result<(), Fail> {
     let words = words(alloc, &["txgraph", "replay"])?;
-    for (input, output) in ORDERS {
+    for (input, output) in runs {
         let mut source = MemSource::new(alloc, input.as_bytes(), 4096, &[], None)?;
         let mut sink = MemSink::new(alloc, 4096, &[], 4096)?;
         let status = run(alloc, &words, &mut source, &mut sink);
@@ -132,6 +187,16 @@ fn orders_are_told(rt: HostRuntime) -> Result<(), Fail> {
         assert_eq!(rt; sink.written(), output.as_bytes(), "at {input:?}");
     }
     Ok(())
+}
+
+#[test]
+fn orders_are_told(rt: HostRuntime) -> Result<(), Fail> {
+    replay_all(&rt, rt.alloc(), &ORDERS)
+}
+
+#[test]
+fn stagings_are_told(rt: HostRuntime) -> Result<(), Fail> {
+    replay_all(&rt, rt.alloc(), &STAGINGS)
 }
 
 #[test]

@@ -10,6 +10,7 @@ ghost use Rattle.outside.specs.Transfers.{Writes};
 ghost use Rattle.graph_model.specs.Texts.{chunk_line, edge_line, flow_line, part_lines};
 ghost use Rattle.cluster_store.specs.Lent.{lent};
 ghost use Rattle.replay.specs.Answers.{IsReadOf, WritesAnswer};
+ghost use Rattle.levels.specs.Levels.{level_at};
 ghost use Rattle.tx_graph.specs.Readings.{part_reply};
 ghost use Rattle.replay.specs.Writings.{GoesOnLines, ListsEach, line_of, tx_line_of, edges_lines};
 
@@ -169,16 +170,17 @@ fn more_parts<const W: usize, K: Sink>(
 fn more_txs<const W: usize, K: Sink>(
     so_far: Result<(), Failed>,
     graph: &TxGraph<W>,
+    level: Level,
     ids: &[TxId],
     sink: &mut K,
 ) -> Result<(), Failed>
-    requires { (id : ℕ) → Contains ids.now id → is_member graph.now.graph id ≡ true }
+    requires { (id : ℕ) → Contains ids.now id → is_member (level_at graph.now.levels level).graph id ≡ true }
     ensures { GoesOnLines so_far (K.written sink.old) (K.written sink.new) (K.faults sink.old)
-        (K.faults sink.new) result (map (tx_line_of graph.now.graph) ids.now) }
+        (K.faults sink.new) result (map (tx_line_of (level_at graph.now.levels level).graph) ids.now) }
 {
     let mut so_far = so_far;
     for id in ids {
-        so_far = more(so_far, Line::Tx(*id, graph.rate(*id)), sink);
+        so_far = more(so_far, Line::Tx(*id, graph.rate(level, *id)), sink);
     }
     so_far
 }
@@ -187,16 +189,17 @@ fn more_txs<const W: usize, K: Sink>(
 fn more_all_txs<const W: usize, K: Sink>(
     so_far: Result<(), Failed>,
     graph: &TxGraph<W>,
+    level: Level,
     parts: Order<'_, W>,
     sink: &mut K,
 ) -> Result<(), Failed>
-    requires { (id : ℕ) → Contains (order_of parts) id → is_member graph.now.graph id ≡ true }
+    requires { (id : ℕ) → Contains (order_of parts) id → is_member (level_at graph.now.levels level).graph id ≡ true }
     ensures { GoesOnLines so_far (K.written sink.old) (K.written sink.new) (K.faults sink.old)
-        (K.faults sink.new) result (map (tx_line_of graph.now.graph) (order_of parts.entry)) }
+        (K.faults sink.new) result (map (tx_line_of (level_at graph.now.levels level).graph) (order_of parts.entry)) }
 {
     let mut so_far = so_far;
     for part in parts {
-        so_far = more_txs(so_far, graph, part.ids, sink);
+        so_far = more_txs(so_far, graph, level, part.ids, sink);
     }
     so_far
 }
@@ -226,8 +229,9 @@ fn more_edges<const W: usize, K: Sink>(
     ids: &[TxId],
     sink: &mut K,
 ) -> Result<(), Failed>
-    requires { (id : ℕ) → Contains ids.now id → is_member graph.now.graph id ≡ true }
-    ensures { (edges : List (ℕ × ℕ)) × ListsEach graph.now.graph (order_of graph.now.parts) ids.now edges
+    requires { (id : ℕ) → Contains ids.now id → is_member (level_at graph.now.levels level).graph id ≡ true }
+    ensures { (edges : List (ℕ × ℕ)) × ListsEach (level_at graph.now.levels level).graph
+        (order_of (level_at graph.now.levels level).parts) ids.now edges
         × GoesOnLines so_far (K.written sink.old) (K.written sink.new) (K.faults sink.old) (K.faults sink.new) result
         (edges_lines edges) }
 {
@@ -246,9 +250,10 @@ fn more_all_edges<const W: usize, K: Sink>(
     parts: Order<'_, W>,
     sink: &mut K,
 ) -> Result<(), Failed>
-    requires { (id : ℕ) → Contains (order_of parts) id → is_member graph.now.graph id ≡ true }
+    requires { (id : ℕ) → Contains (order_of parts) id → is_member (level_at graph.now.levels level).graph id ≡ true }
     ensures { (edges : List (ℕ × ℕ))
-        × ListsEach graph.now.graph (order_of graph.now.parts) (order_of parts.entry) edges
+        × ListsEach (level_at graph.now.levels level).graph (order_of (level_at graph.now.levels level).parts)
+        (order_of parts.entry) edges
         × GoesOnLines so_far (K.written sink.old) (K.written sink.new) (K.faults sink.old) (K.faults sink.new) result
         (edges_lines edges) }
 {
@@ -271,7 +276,7 @@ pub(crate) fn write_proof<const W: usize, K: Sink>(
 {
     // by the states that the graph stands for, the names of the parts are live
     let _additions = graph.additions();
-    let so_far = more_all_txs(Ok(()), graph, graph.order(level), sink);
+    let so_far = more_all_txs(Ok(()), graph, level, graph.order(level), sink);
     let so_far = more_all_edges(so_far, graph, level, graph.order(level), sink);
     let so_far = more_parts(so_far, graph.order(level), sink);
     told(more(so_far, Line::End, sink), Outcome::Accepted)

@@ -36,11 +36,6 @@ said_by (lines.Count level) ids = Says (commands.Count level)
 abbrev pub meaning_of : Line → List ℕ → Meaning
 meaning_of lines.Mine ids = NoForm
 meaning_of lines.Evict ids = NoForm
-meaning_of lines.Stage ids = NoForm
-meaning_of lines.Commit ids = NoForm
-meaning_of lines.Abort ids = NoForm
-meaning_of lines.Settle ids = NoForm
-meaning_of lines.Compare ids = NoForm
 meaning_of (lines.Block size) ids = NoForm
 meaning_of line ids = said_by line ids
 

@@ -4,6 +4,7 @@ use Rattle.std.proofs.lemmas.List.{map-append}
 use Rattle.graphs.specs.Certificates.{Part}
 use Rattle.graph_model.specs.Answers.{order_of}
 use Rattle.graph_model.specs.Texts.{edge_line}
+use Rattle.levels.specs.Levels.{level_at}
 use Rattle.replay.specs.Writings.{ListsEach, edges_lines}
 use Rattle.replay.proofs.TextLemmas.{each_append}
 use Rattle.replay.proofs.WritingLemmas.{lines_on, rest_on, flat_map_push, held_by}
@@ -18,8 +19,9 @@ more_edges-so_far-requires g c = (
 
 pub loop-part-preserved : goal.loop-part-preserved
 loop-part-preserved g c =
-    let graph = c.args.graph.now.graph in
-    let order = order_of c.args.graph.now.parts in
+    let level = level_at c.args.graph.now.levels c.args.level in
+    let graph = level.graph in
+    let order = order_of level.parts in
     let before = order_of (map lent c.loop-part.yielded) in
     let (edges, was, out) = c.loop-part.invariant.out in
     let (own, is, more) = c.more_edges-so_far.ensures in

@@ -3,6 +3,7 @@ use Rattle.cluster_store.specs.Lent.{lent}
 use Rattle.std.proofs.lemmas.List.{map-append}
 use Rattle.graphs.specs.Certificates.{Part}
 use Rattle.graph_model.specs.Answers.{order_of}
+use Rattle.levels.specs.Levels.{level_at}
 use Rattle.replay.specs.Writings.{tx_line_of}
 use Rattle.replay.proofs.WritingLemmas.{lines_on, rest_on, flat_map_push, held_by}
 use Rattle.replay.proofs.writing.more_all_txs.Goals as goal
@@ -16,7 +17,7 @@ more_txs-so_far-requires g c = (
 
 pub loop-part-preserved : goal.loop-part-preserved
 loop-part-preserved g c =
-    let line = tx_line_of c.args.graph.now.graph in
+    let line = tx_line_of (level_at c.args.graph.now.levels c.args.level).graph in
     let before = order_of (map lent c.loop-part.yielded) in
     let own = c.in-Some.part.ids.now in
     record {

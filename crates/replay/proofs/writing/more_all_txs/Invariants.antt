@@ -1,6 +1,7 @@
 use Rattle.std.proofs.Common.{◌≡◌, ℕ, List, ◌++◌, map, take}
 use Rattle.cluster_store.specs.Lent.{lent}
 use Rattle.graph_model.specs.Answers.{order_of}
+use Rattle.levels.specs.Levels.{level_at}
 use Rattle.replay.specs.Writings.{GoesOnLines, tx_line_of}
 use Rattle.replay.proofs.writing.more_all_txs.Given as goal
 
@@ -9,5 +10,5 @@ abbrev pub invariant-loop-part : goal.invariant-loop-part
 invariant-loop-part g l = record {
   rest : l.fn.parts ≡ map lent l.yielded ++ l.part-iterator;
   out : GoesOnLines l.fn.so_far (g.K.Sink.written l.fn.sink) (g.K.Sink.written l.sink) (g.K.Sink.faults l.fn.sink) (g.K.Sink.faults l.sink) l.so_far
-      (map (tx_line_of l.fn.graph.graph) (order_of (map lent l.yielded)));
+      (map (tx_line_of (level_at l.fn.graph.levels l.fn.level).graph) (order_of (map lent l.yielded)));
 }

@@ -2,6 +2,7 @@ use Rattle.std.proofs.Common.{◌≡◌, List, ℕ, map, take, get_or, ◌∷◌
 use Rattle.std.proofs.lemmas.List.{map-append, take_more}
 use Rattle.graph_model.specs.Answers.{order_of}
 use Rattle.graph_model.specs.Texts.{edge_line}
+use Rattle.levels.specs.Levels.{level_at}
 use Rattle.replay.specs.Writings.{ListsEach, edges_lines}
 use Rattle.replay.proofs.TextLemmas.{each_append, each_one}
 use Rattle.replay.proofs.WritingLemmas.{lines_on, map_twice}
@@ -9,8 +10,9 @@ use Rattle.replay.proofs.writing.more_edges.Goals as goal
 
 pub loop-id-preserved : goal.loop-id-preserved
 loop-id-preserved g c =
-    let graph = c.args.graph.now.graph in
-    let order = order_of c.args.graph.now.parts in
+    let level = level_at c.args.graph.now.levels c.args.level in
+    let graph = level.graph in
+    let order = order_of level.parts in
     let before = take c.loop-id.id-index c.args.ids.now in
     let id = get_or c.args.ids.now c.loop-id.id-index 0 in
     let edges = c.loop-id.invariant.0 in

@@ -1,12 +1,14 @@
 use Rattle.std.proofs.Common.{rules, ◌≡◌, ◌≤◌, ◌+◌, ◌-◌, ℕ, List, map, flat_map, codes, Contains, Ok, ◌∷◌, [], ◌++◌, refl, sym, subst}
 use Rattle.graphs.specs.Certificates.{Part}
 use Rattle.graph_model.specs.Answers.{order_of}
+use Rattle.graph_model.specs.States.{level_of}
 use Rattle.graph_model.specs.Replies.{Proves}
 use Rattle.graph_model.specs.Runs as runs
 use Rattle.graph_model.specs.Texts.{part_lines}
+use Rattle.levels.specs.Levels.{level_at}
 use Rattle.tx_graph.specs.Readings.{IsBestOrder}
 use Rattle.replay.specs.Writings.{ListsEach, tx_line_of, edges_lines}
-use Rattle.replay.proofs.TextLemmas.{names_live, text_with, text_is, text_lines_are}
+use Rattle.replay.proofs.TextLemmas.{graph_at, names_live, text_with, text_is, text_lines_are}
 use Rattle.replay.proofs.WritingLemmas.{lines_on}
 use Rattle.replay.proofs.writing.write_proof.Goals as goal
 
@@ -25,26 +27,29 @@ more_all_edges-so_far-requires g c =
 pub returns : goal.returns
 returns g c =
     let kept = c.args.graph.now in
+    let level = level_at kept.levels c.args.level in
     let first = c.order.result in
     let last = c.order-3.result in
     let edges = c.more_all_edges-so_far.ensures.0 in
-    let each : ListsEach kept.graph (order_of kept.parts) (order_of kept.parts) edges =
-    subst (λ (parts : List Part). ListsEach kept.graph (order_of kept.parts) (order_of parts) edges)
+    let each : ListsEach level.graph (order_of level.parts) (order_of level.parts) edges =
+    subst (λ (parts : List Part). ListsEach level.graph (order_of level.parts) (order_of parts) edges)
     c.order-2.ensures.parts c.more_all_edges-so_far.ensures.1 in
-    let txs = map (tx_line_of kept.graph) (order_of first) in
+    let txs = map (tx_line_of level.graph) (order_of first) in
     let pairs = edges_lines edges in
     let parts = flat_map part_lines last in
     let one = lines_on _ _ _ _ _ _ (Ok tt) _ _ txs pairs (txs ++ pairs) c.more_all_txs-so_far.ensures c.more_all_edges-so_far.ensures.2 refl in
     let two = lines_on _ _ _ _ _ _ (Ok tt) _ _ (txs ++ pairs) parts (txs ++ pairs ++ parts) one c.more_parts-so_far.ensures refl in
     let written = lines_on _ _ _ _ _ _ (Ok tt) _ _ (txs ++ pairs ++ parts) (codes "end" ∷ []) _ two c.more.ensures
-    (text_lines_are kept edges first last c.order.ensures.parts c.order-3.ensures.parts) in
-    let text = text_with kept edges in (
+    (text_lines_are level edges first last c.order.ensures.parts c.order-3.ensures.parts) in
+    let text = text_with level edges in (
       runs.Replies (Proves text),
       (
         Proves text,
         λ state stands.
             let best = subst (IsBestOrder state c.args.level) c.order.ensures.parts (c.order.ensures.best state stands) in
-            c.order.ensures.proof text (text_is kept state c.args.level edges stands best each) state stands,
+            let graph = graph_at kept state.plain c.args.level stands.plain in
+            let names = names_live kept state c.args.level level.parts stands best in
+            c.order.ensures.proof text (text_is level (level_of state.plain c.args.level) edges graph names each) state stands,
         refl,
       ),
       c.told.ensures.writes _ _ _ _ _ written,

@@ -1,5 +1,5 @@
 use Rattle.std.proofs.Common.{◌≡◌, ℕ, List, refl, sym, map, decimal, ◌∷◌, []}
-use Rattle.graph_model.specs.Replies.{Refused, Done, Ids, Number, Stands}
+use Rattle.graph_model.specs.Replies.{Refused, Done, Ids, Number, Stands, Compared, Settled}
 use Rattle.graph_model.specs.Runs as runs
 use Rattle.replay.proofs.WritingLemmas.{one_line}
 use Rattle.replay.proofs.answer.Answer.tell.Goals as goal
@@ -43,4 +43,20 @@ returns-in-Stands g c = (
   rw c.in-Stands.is refl,
   c.told-in-Stands.ensures.writes _ _ _ _ _ (one_line _ _ _ _ _ _ (rw c.place_word.ensures at c.write_word-in-Stands.ensures)),
   c.told-in-Stands.ensures.told,
+)
+
+pub returns-in-Compared : goal.returns-in-Compared
+returns-in-Compared g c = (
+  runs.Replies (Compared c.in-Compared.verdict),
+  rw c.in-Compared.is refl,
+  c.told-in-Compared.ensures.writes _ _ _ _ _ (one_line _ _ _ _ _ _ (rw c.verdict_word.ensures at c.write_word-in-Compared.ensures)),
+  c.told-in-Compared.ensures.told,
+)
+
+pub returns-in-Settled : goal.returns-in-Settled
+returns-in-Settled g c = (
+  runs.Replies (Settled c.in-Settled.verdict),
+  rw c.in-Settled.is refl,
+  c.told-in-Settled.ensures.writes _ _ _ _ _ (one_line _ _ _ _ _ _ (rw c.settled_words.ensures at c.write_word-in-Settled.ensures)),
+  c.told-in-Settled.ensures.told,
 )

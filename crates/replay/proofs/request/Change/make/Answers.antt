@@ -28,3 +28,12 @@ returns-in-Fee-clause-step g c =
 
 pub returns-in-Remove-clause-step : goal.returns-in-Remove-clause-step
 returns-in-Remove-clause-step g c = rw c.in-Remove.is c.remove.ensures.step
+
+pub returns-in-Stage-clause-step : goal.returns-in-Stage-clause-step
+returns-in-Stage-clause-step g c = rw c.in-Stage.is c.stage.ensures.step
+
+pub returns-in-Commit-clause-step : goal.returns-in-Commit-clause-step
+returns-in-Commit-clause-step g c = rw c.in-Commit.is c.commit.ensures.step
+
+pub returns-in-Abort-clause-step : goal.returns-in-Abort-clause-step
+returns-in-Abort-clause-step g c = rw c.in-Abort.is c.abort.ensures.step
