@@ -1,12 +1,95 @@
 //! The session answers lines as the plain lists do, and proves its orders to the checker.
-use graph_model::{IdBuf, MAX_LINE, Refusal};
-use outside::{Failed, MemSink, MemSource, Sink};
+use graph_model::{IdBuf, Level, Limits, MAX_LINE, Refusal, TxId};
+use outside::{Failed, MemSink, MemSource, NoMemory, Sink};
 use plain_graph::Plain;
 use replay::{Piece, Session, Status, run};
 use std::alloc::{AllocError, Global};
 use std::process::Abort;
 use std::test::Fail;
 use wire::{Line, read_line, write_ids, write_refusal, write_word};
+
+/// The plain lists of both levels.
+#[derive(Drop)]
+struct Lists {
+    /// the names that are live, for refusals that ask both levels
+    live: Plain,
+    main: Plain,
+    staging: Option<Plain>,
+}
+
+impl Lists {
+    fn new(alloc: Global) -> Result<Lists, NoMemory> {
+        Ok(Lists {
+            live: Plain::new(alloc)?,
+            main: Plain::new(alloc)?,
+            staging: None,
+        })
+    }
+
+    fn level(&mut self, level: Level) -> &mut Plain {
+        match (level, &mut self.staging) {
+            (Level::Top, Some(staging)) => staging,
+            _ => &mut self.main,
+        }
+    }
+
+    fn set_limits(&mut self, limits: Limits) -> Result<(), Refusal> {
+        self.live.set_limits(limits)?;
+        self.main.set_limits(limits)
+    }
+
+    fn add(&mut self, rt: &impl Abort, id: TxId, fee: i64, size: u64) -> Result<(), Refusal> {
+        assert!(rt; self.live.additions() < 1_000_000);
+        self.live.add(id, fee, size)?;
+        let top = self.level(Level::Top);
+        assert!(rt; top.additions() < 1_000_000);
+        top.add(id, fee, size)
+    }
+
+    /// The fee goes to each level that has the name.
+    fn fee(&mut self, id: TxId, fee: i64) -> Result<(), Refusal> {
+        self.live.fee(id, fee)?;
+        let main = self.main.fee(id, fee);
+        match &mut self.staging {
+            Some(staging) => main.or(staging.fee(id, fee)),
+            None => main,
+        }
+    }
+
+    /// A name that main keeps stays live.
+    fn remove(&mut self, id: TxId) -> Result<(), Refusal> {
+        self.level(Level::Top).remove(id)?;
+        match self.main.cluster(id, Level::Main) {
+            Ok(()) => Ok(()),
+            Err(_) => self.live.remove(id),
+        }
+    }
+
+    fn stage(&mut self) -> Result<(), Refusal> {
+        if self.staging.is_some() {
+            return Err(Refusal::Staging);
+        }
+        self.staging = Some(copy(&self.main)?);
+        Ok(())
+    }
+
+    /// Closes staging, which becomes main or is dropped.
+    fn close(&mut self, commits: bool) -> Result<(), Refusal> {
+        let Some(staging) = self.staging.take() else {
+            return Err(Refusal::NoStaging);
+        };
+        if commits {
+            self.main = staging;
+        }
+        self.live = copy(&self.main)?;
+        Ok(())
+    }
+}
+
+/// The same lists once more.
+fn copy(graph: &Plain) -> Result<Plain, Refusal> {
+    graph.copied().map_err(|_| Refusal::Memory)
+}
 
 /// Writes the reply to a change.
 fn tell<K: Sink>(sink: &mut K, done: Result<(), Refusal>) -> Result<(), Failed> {
@@ -31,31 +114,39 @@ fn tell_found<K: Sink>(
 /// Answers what a line says over the plain lists.
 fn reply<K: Sink>(
     rt: &impl Abort,
-    graph: &mut Plain,
+    lists: &mut Lists,
     line: Line,
     sink: &mut K,
 ) -> Result<(), Failed> {
-    assert!(rt; graph.additions() < 1_000_000);
     match line {
         Line::Quiet => Ok(()),
-        Line::Limits(limits) => tell(sink, graph.set_limits(limits)),
-        Line::Add(id, fee, size) => tell(sink, graph.add(id, fee, size)),
-        Line::Dep(parent, child) => tell(sink, graph.dep(parent, child)),
-        Line::Fee(id, fee) => tell(sink, graph.fee(id, fee)),
-        Line::Remove(id) => tell(sink, graph.remove(id)),
+        Line::Limits(limits) => tell(sink, lists.set_limits(limits)),
+        Line::Add(id, fee, size) => tell(sink, lists.add(rt, id, fee, size)),
+        Line::Dep(parent, child) => tell(sink, lists.level(Level::Top).dep(parent, child)),
+        Line::Fee(id, fee) => tell(sink, lists.fee(id, fee)),
+        Line::Remove(id) => tell(sink, lists.remove(id)),
+        Line::Stage => tell(sink, lists.stage()),
+        Line::Commit => tell(sink, lists.close(true)),
+        Line::Abort => tell(sink, lists.close(false)),
         Line::Cluster(id, level) => {
+            let graph = lists.level(level);
             let done = graph.cluster(id, level);
             tell_found(sink, graph, done)
         }
         Line::Ancestors(id, level) => {
+            let graph = lists.level(level);
             let done = graph.ancestors(id, level);
             tell_found(sink, graph, done)
         }
         Line::Descendants(id, level) => {
+            let graph = lists.level(level);
             let done = graph.descendants(id, level);
             tell_found(sink, graph, done)
         }
-        Line::Count(level) => write_ids(sink, "count", None, &[graph.count(level) as u64]),
+        Line::Count(level) => {
+            let count = lists.level(level).count(level) as u64;
+            write_ids(sink, "count", None, &[count])
+        }
         // No form, or a command without a body.
         _ => write_word(sink, "refused syntax"),
     }
@@ -67,23 +158,51 @@ fn draw(state: &mut u64, below: u64) -> u64 {
     (*state / 65_536).checked_rem(below).unwrap_or(0)
 }
 
+/// A line about stagings: as often one that opens one as one that closes it.
+fn staging_line(drawn: u64) -> &'static str {
+    match drawn {
+        0..4 => "stage",
+        4..6 => "commit",
+        6 => "abort",
+        _ => "settle",
+    }
+}
+
 /// The `at`-th line of a run of commands on names near each other.
 fn line_at(alloc: Global, state: &mut u64, at: u64) -> Result<String, AllocError> {
     let child = at.saturating_sub(draw(state, at.min(40)));
     let parent = child.saturating_sub(draw(state, child.min(12)));
+    let level = if draw(state, 2) == 0 { "main" } else { "top" };
     match draw(state, 20) {
-        0..8 => {
+        0..7 => {
             let size = 100 + draw(state, 900) % 900;
-            format!(in alloc; "add {at} {child} {size}")
+            let sign = if draw(state, 4) == 0 { "-" } else { "" };
+            format!(in alloc; "add {at} {sign}{child} {size}")
         }
-        8..14 => format!(in alloc; "dep {parent} {child}"),
-        14 => format!(in alloc; "fee {child} -{at}"),
-        15 => format!(in alloc; "remove {child}"),
-        16 => format!(in alloc; "cluster {child} main"),
-        17 => format!(in alloc; "ancestors {child} top"),
-        18 => format!(in alloc; "descendants {parent} main"),
-        _ => format!(in alloc; "count top"),
+        7..13 => format!(in alloc; "dep {parent} {child}"),
+        13 => format!(in alloc; "fee {child} -{at}"),
+        14 => format!(in alloc; "remove {child}"),
+        15 => format!(in alloc; "cluster {child} {level}"),
+        16 => format!(in alloc; "ancestors {child} {level}"),
+        17 => format!(in alloc; "descendants {parent} {level}"),
+        18 => format!(in alloc; "count {level}"),
+        _ => String::from_str(alloc, staging_line(draw(state, 8))),
     }
+}
+
+/// What a session replies to a line.
+fn said<const W: usize>(
+    rt: &impl Abort,
+    alloc: Global,
+    session: &mut Session<W>,
+    line: &str,
+) -> Result<MemSink, Fail> {
+    let mut sink = MemSink::new(alloc, PROOF, &[], PROOF)?;
+    assert!(rt; session.additions() < 1_000_000);
+    session
+        .one(Piece::Whole(line.as_bytes()), &mut sink)
+        .expect(rt, "the sink has room");
+    Ok(sink)
 }
 
 /// Hands a line to both, and compares the replies.
@@ -91,42 +210,57 @@ fn agree<const W: usize>(
     rt: &impl Abort,
     alloc: Global,
     session: &mut Session<W>,
-    plain: &mut Plain,
+    lists: &mut Lists,
     line: &str,
 ) -> Result<(), Fail> {
-    let mut fast = MemSink::new(alloc, 4096, &[], 4096)?;
+    let fast = said(rt, alloc, session, line)?;
     let mut slow = MemSink::new(alloc, 4096, &[], 4096)?;
     let mut ids = IdBuf::new(alloc, 32_766)?;
-    assert!(rt; session.additions() < 1_000_000);
-    session
-        .one(Piece::Whole(line.as_bytes()), &mut fast)
-        .expect(rt, "the sink has room");
     assert!(rt; line.len() <= MAX_LINE);
     let meant = read_line(line.as_bytes(), &mut ids);
-    reply(rt, plain, meant, &mut slow).expect(rt, "the sink has room");
+    reply(rt, lists, meant, &mut slow).expect(rt, "the sink has room");
     assert_eq!(rt; fast.written(), slow.written(), "at {line:?}");
     Ok(())
 }
 
-/// Room for the proof of a level, in bytes.
+/// Lets the session settle, which must commit exactly what it says is better, and closes the lists' staging as it did.
+fn settle<const W: usize>(
+    rt: &impl Abort,
+    alloc: Global,
+    session: &mut Session<W>,
+    lists: &mut Lists,
+) -> Result<(), Fail> {
+    let verdict = said(rt, alloc, session, "compare")?;
+    let done = said(rt, alloc, session, "settle")?;
+    let commits = verdict.written() == b"better\n".as_slice();
+    let head = match lists.close(commits) {
+        Ok(()) if commits => "committed ",
+        Ok(()) => "aborted ",
+        Err(_) => "",
+    };
+    let mut wanted = MemSink::new(alloc, 64, &[], 64)?;
+    wanted.write_all(head.as_bytes())?;
+    wanted.write_all(verdict.written())?;
+    assert_eq!(rt; done.written(), wanted.written());
+    Ok(())
+}
+
+/// Room for a reply of a session, in bytes.
 const PROOF: usize = 1_000_000;
 
-/// Hands the proof of main to the checker, which must say `yes`.
+/// Hands the proof of a level to the checker, which must say `yes`.
 fn prove<const W: usize>(
     rt: &impl Abort,
     alloc: Global,
     session: &mut Session<W>,
+    line: &str,
 ) -> Result<(), Fail> {
-    let mut proof = MemSink::new(alloc, PROOF, &[], PROOF)?;
-    let mut said = MemSink::new(alloc, 16, &[], 16)?;
-    assert!(rt; session.additions() < 1_000_000);
-    session
-        .one(Piece::Whole(b"proof main"), &mut proof)
-        .expect(rt, "the sink has room");
+    let proof = said(rt, alloc, session, line)?;
+    let mut yes = MemSink::new(alloc, 16, &[], 16)?;
     let mut source = MemSource::new(alloc, proof.written(), PROOF, &[], None)?;
     let words = [format!(in alloc; "txgraph")?, format!(in alloc; "check")?];
-    assert!(rt; run(alloc, &words, &mut source, &mut said) == Status::Done);
-    assert_eq!(rt; said.written(), b"yes\n".as_slice());
+    assert!(rt; run(alloc, &words, &mut source, &mut yes) == Status::Done);
+    assert_eq!(rt; yes.written(), b"yes\n".as_slice());
     Ok(())
 }
 
@@ -144,27 +278,32 @@ fn agree_on_run<const W: usize>(
     rt: &impl Abort,
     alloc: Global,
     session: &mut Session<W>,
-    plain: &mut Plain,
+    lists: &mut Lists,
     seed: u64,
     limits: &str,
 ) -> Result<(), Fail> {
     let mut state = seed;
-    agree(rt, alloc, session, plain, limits)?;
-    for at in 1..4000 {
+    agree(rt, alloc, session, lists, limits)?;
+    for at in 1..6001 {
         let line = line_at(alloc, &mut state, at)?;
-        agree(rt, alloc, session, plain, &line)?;
+        if line.as_str() == "settle" {
+            settle(rt, alloc, session, lists)?;
+        } else {
+            agree(rt, alloc, session, lists, &line)?;
+        }
         if at % 100 == 0 {
-            prove(rt, alloc, session)?;
+            prove(rt, alloc, session, "proof main")?;
+            prove(rt, alloc, session, "proof top")?;
         }
     }
-    agree(rt, alloc, session, plain, limits)
+    agree(rt, alloc, session, lists, limits)
 }
 
 /// A run of lines from the start.
 fn agree_from_start(rt: &impl Abort, alloc: Global, seed: u64, limits: &str) -> Result<(), Fail> {
     let mut session = Session::<1>::new(alloc)?;
-    let mut plain = Plain::new(alloc)?;
-    agree_on_run(rt, alloc, &mut session, &mut plain, seed, limits)
+    let mut lists = Lists::new(alloc)?;
+    agree_on_run(rt, alloc, &mut session, &mut lists, seed, limits)
 }
 
 #[test]

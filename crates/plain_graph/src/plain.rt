@@ -108,6 +108,25 @@ impl Plain {
         })
     }
 
+    /// Another graph of the same names and pairs, under the same limits. No reading has found a name in it.
+    pub fn copied(&self) -> Result<Plain, NoMemory>
+        ensures { IfOk result (λ graph. graph ≡ record self.now { found = [] }) }
+    {
+        let mut txs = Vec::new(self.alloc);
+        txs.extend_from_slice(&self.txs)?;
+        let mut pairs = Vec::new(self.alloc);
+        pairs.extend_from_slice(&self.pairs)?;
+        Ok(Plain {
+            alloc: self.alloc,
+            limits: self.limits,
+            begun: self.begun,
+            txs,
+            pairs,
+            found: IdBuf::new(self.alloc, self.found.capacity())?,
+            additions: self.additions,
+        })
+    }
+
     /// How many additions were accepted.
     pub fn additions(&self) -> u64
         ensures { result ≡ self.now.additions }

@@ -153,3 +153,19 @@ fn removals_keep_the_ancestors_of_the_others(rt: HostRuntime) -> Result<(), Fail
     assert_eq!(rt; graph.dep(4, 1), Err(Refusal::Cycle));
     Ok(())
 }
+
+#[test]
+fn a_copy_changes_by_itself(rt: HostRuntime) -> Result<(), Fail> {
+    let mut graph = Plain::new(rt.alloc())?;
+    add(&rt, &mut graph, 1, 1, 1)?;
+    add(&rt, &mut graph, 2, 1, 1)?;
+    graph.dep(1, 2)?;
+    let mut copy = graph.copied()?;
+    copy.remove(1)?;
+    copy.ancestors(2, Level::Main)?;
+    assert_eq!(rt; copy.found(), [2].as_slice());
+    graph.ancestors(2, Level::Main)?;
+    assert_eq!(rt; graph.found(), [1, 2].as_slice());
+    assert_eq!(rt; graph.additions(), copy.additions());
+    Ok(())
+}
