@@ -20,6 +20,3 @@ mod owned;
 pub use checker::check;
 pub use fault::CheckFault;
 pub use owned::{EdgeList, FlowList, Part, PartList, TxList, Written};
-
-#[cfg(test)]
-mod tests;

@@ -11,8 +11,6 @@ mod index;
 mod key;
 mod laws;
 mod slot;
-#[cfg(test)]
-mod tests;
 mod tree;
 mod walk;
 

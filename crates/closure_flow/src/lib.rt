@@ -18,6 +18,3 @@ pub use queue::{Entry, Queue};
 pub use scratch::Scratch;
 pub use solver::{Outcome, solve};
 pub use tight_sets::{smallest_tight, tight};
-
-#[cfg(test)]
-mod tests;

@@ -19,6 +19,3 @@ pub use covers::Covers;
 pub use laws::clusters_are_optimal;
 pub use list::ClusterList;
 pub use work::Work;
-
-#[cfg(test)]
-mod tests;

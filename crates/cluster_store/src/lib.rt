@@ -12,8 +12,6 @@ mod laws;
 mod least;
 mod store;
 mod stored;
-#[cfg(test)]
-mod tests;
 mod walk;
 
 pub use laws::{

@@ -7,3 +7,5 @@
 mod orders;
 #[cfg(test)]
 mod replies;
+#[cfg(test)]
+mod replay_tests;

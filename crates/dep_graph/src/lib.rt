@@ -15,6 +15,3 @@ pub use laws::{
     part_bridges_what_it_leaves_out, part_keeps_the_pairs_within,
     remove_bridging_bridges_the_pairs,
 };
-
-#[cfg(test)]
-mod tests;

@@ -19,8 +19,6 @@ mod rings;
 mod settling;
 mod shelves;
 mod stored;
-#[cfg(test)]
-mod tests;
 
 pub use levels::Levels;
 pub use rates::Rates;

@@ -14,6 +14,3 @@ mod split;
 pub use draft::{LinearPart, PlaceFlow};
 pub use fit::{has_rates, is_component};
 pub use linear::{Linear, optimal};
-
-#[cfg(test)]
-mod tests;

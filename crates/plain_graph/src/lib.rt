@@ -4,8 +4,6 @@
 
 mod pairs;
 mod plain;
-#[cfg(test)]
-mod tests;
 mod tx;
 mod txs;
 mod walk;

@@ -14,8 +14,6 @@ mod reading;
 mod replies;
 mod request;
 mod session;
-#[cfg(test)]
-mod tests;
 mod top;
 mod window;
 mod writing;

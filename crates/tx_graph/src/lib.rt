@@ -10,6 +10,3 @@ mod order;
 pub use cluster::{Covers, PartRef};
 pub use graph::TxGraph;
 pub use order::{Backward, Diagram, Forward, Order, OrderBack, Rates};
-
-#[cfg(test)]
-mod tests;

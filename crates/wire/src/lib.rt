@@ -7,8 +7,6 @@ mod laws;
 mod line;
 mod numbers;
 mod replies;
-#[cfg(test)]
-mod tests;
 mod texts;
 mod words;
 mod write;

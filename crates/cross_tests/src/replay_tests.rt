@@ -1,0 +1,481 @@
+use outside::{Failed, MemSink, MemSource};
+use std::alloc::{AllocError, Global};
+use std::process::Abort;
+use std::test::Fail;
+use replay::{Lines, Next, Outcome, Piece, Session, Status, check_accepts_proofs, run};
+
+/// The words of a command line.
+fn words(alloc: Global, words: &[&str]) -> Result<Vec<String>, AllocError> {
+    let mut all = Vec::new(alloc);
+    for word in words {
+        all.push(String::from_str(alloc, word)?)?;
+    }
+    Ok(all)
+}
+
+/// Inputs of `replay` with their outputs.
+const RUNS: [(&str, &str); 15] = [
+    ("", ""),
+    ("add 1 1000 200\n", "ok\n"),
+    (
+        "add 1 1 1\nadd 2 1 1\nadd 3 1 1\ndep 1 2\ndep 2 1\ndep 1 1\ndep 1 3\ndep 2 3\ndescendants 1 main\n",
+        "ok\nok\nok\nok\nrefused cycle\nrefused cycle\nok\nok\nids 1 2 3\n",
+    ),
+    (
+        "add 1 1 404001\nadd 2 1 404000\nadd 3 1 1\ndep 2 3\nancestors 9 top\ncount top\n",
+        "refused clustersize 404001\nok\nok\nrefused clustersize 404001\nrefused unknown 9\ncount 2\n",
+    ),
+    ("# c\n\nadd 1 5 5\r\ncount main", "ok\ncount 1\n"),
+    (
+        "add 1 2100000000000000 1\nadd 2 -2100000000000000 404000\nadd 3 2100000000000001 1\nadd 3 -2100000000000001 1\nadd 4 0 0\nadd 5 0 4000001\nadd 1 0 1\n",
+        "ok\nok\nrefused fee\nrefused fee\nrefused size\nrefused size\nrefused taken\n",
+    ),
+    (
+        "add 18446744073709551615 9223372036854775807 18446744073709551615\nadd 18446744073709551616 0 1\nadd 1 9223372036854775808 1\nadd 1 -9223372036854775808 1\nadd 1 -9223372036854775809 1\n",
+        "refused fee\nrefused syntax\nrefused syntax\nrefused fee\nrefused syntax\n",
+    ),
+    (
+        "add 1 01 1\nadd 1 -0 1\nadd  1 1 1\nadd 1 1 1 \nadd 1 +1 1\nadd 1 1\nadd\n add 1 1 1\ncount bottom\ncount main\r\r\n",
+        "refused syntax\nrefused syntax\nrefused syntax\nrefused syntax\nrefused syntax\nrefused syntax\nrefused syntax\nrefused syntax\nrefused syntax\nrefused syntax\n",
+    ),
+    (
+        "add 7 1 1\nadd 5 1 1\nadd 6 1 1\ndep 7 6\ndep 6 5\nancestors 5 main\ndescendants 7 top\nancestors 7 main\ndep 7 5\ndep 8 5\ndep 5 8\n",
+        "ok\nok\nok\nok\nok\nids 5 6 7\nids 5 6 7\nids 7\nok\nrefused unknown 8\nrefused unknown 8\n",
+    ),
+    (
+        "add 1 1 1\nadd 2 1 1\nadd 3 1 1\ndep 1 2\ndep 2 3\nremove 2\nancestors 3 top\nremove 1\ncluster 3 top\n",
+        "ok\nok\nok\nok\nok\nok\nids 1 3\nok\nids 3\n",
+    ),
+    (
+        "limits 2 1000 10\nadd 1 1 1\nadd 2 1 1\nadd 3 1 1\ndep 1 2\ndep 2 3\ndep 1 2\n",
+        "ok\nok\nok\nok\nok\nrefused count 3\nok\n",
+    ),
+    (
+        "limits 65 1 1\nlimits 64 404000 1\nlimits 64 404000 2\nadd 1 1 1\nadd 2 1 1\nremove 1\nadd 2 1 1\n",
+        "refused range\nok\nrefused late\nok\nrefused full\nok\nok\n",
+    ),
+    (
+        "add 1 1 1\nadd 2 1 1\nadd 3 1 1\ndep 1 2\ndep 2 3\ndep 1 3\ncluster 1 main\nremove 2\ncluster 1 main\ndescendants 1 top\nremove 2\n",
+        "ok\nok\nok\nok\nok\nok\nids 1 2 3\nok\nids 1 3\nids 1 3\nrefused unknown 2\n",
+    ),
+    (
+        "add 1 1 1\nfee 1 2100000000000000\nfee 1 2100000000000001\nfee 9 -2100000000000001\nfee 9 5\nfee 1 -0\nfee 1 5 5\nlimits 64 404000 0\nremove 01\nremove main\ncluster 1\ncluster 9 main\nlimits 64 1 1 1\n",
+        "ok\nok\nrefused fee\nrefused fee\nrefused unknown 9\nrefused syntax\nrefused syntax\nrefused late\nrefused syntax\nrefused syntax\nrefused syntax\nrefused unknown 9\nrefused syntax\n",
+    ),
+    (
+        "mine 1\nevict\nblock 1\n",
+        "refused syntax\nrefused syntax\nrefused syntax\n",
+    ),
+];
+
+/// Inputs of `replay` that ask for the order, with their outputs.
+const ORDERS: [(&str, &str); 9] = [
+    (
+        "add 1 1000 200\norder main\n",
+        "ok\nchunk 1000 200 1\nend\n",
+    ),
+    (
+        "add 1 100 200\nadd 2 900 200\ndep 1 2\nproof main\nchunk 1\nchunk 3\n",
+        "ok\nok\nok\ntx 1 100 200\ntx 2 900 200\nedge 1 2\nchunk 1000 400 1 2\nflow 2 1 160000\nend\nchunk 1000 400 1 2\nrefused unknown 3\n",
+    ),
+    (
+        "add 1 900 200\nadd 2 100 200\ndep 1 2\norder main\n",
+        "ok\nok\nok\nchunk 900 200 1\nchunk 100 200 2\nend\n",
+    ),
+    (
+        "add 1 -5 1\nadd 2 9 1\nadd 3 9 1\ndep 1 2\ndep 2 3\ndep 1 3\nproof top\n",
+        "ok\nok\nok\nok\nok\nok\ntx 1 -5 1\ntx 2 9 1\ntx 3 9 1\nedge 1 2\nedge 2 3\nchunk 13 3 1 2 3\nflow 2 1 28\nflow 3 2 14\nend\n",
+    ),
+    (
+        "add 1 10 1\nadd 2 1 1\nbefore 1 2\nbefore 2 1\nbefore 2 2\nbefore 1 7\n",
+        "ok\nok\nbefore\nafter\nsame\nrefused unknown 7\n",
+    ),
+    (
+        "add 1 1 1\nadd 2 2 1\nfee 1 5\nfee 9 -2100000000000001\norder main\n",
+        "ok\nok\nok\nrefused fee\nchunk 5 1 1\nchunk 2 1 2\nend\n",
+    ),
+    (
+        "add 1 0 10\nadd 2 6 5\nadd 3 6 5\nadd 4 5 10\ndep 1 2\ndep 1 3\ndiagram main\n",
+        "ok\nok\nok\nok\nok\nok\npoint 0 0\npoint 20 12\npoint 30 17\nend\n",
+    ),
+    (
+        "add 1 1 1\nadd 2 2 2\nadd 3 -5 1\ndiagram top\n",
+        "ok\nok\nok\npoint 0 0\npoint 3 3\npoint 4 -2\nend\n",
+    ),
+    (
+        "order bottom\norder main\nproof top\ndiagram bottom\ndiagram main\n",
+        "refused syntax\nend\nend\nrefused syntax\npoint 0 0\nend\n",
+    ),
+];
+
+/// Inputs of `replay` with a staging, with their outputs.
+const STAGINGS: [(&str, &str); 12] = [
+    (
+        "add 1 100 200\nstage\nremove 1\nadd 2 500 100\ncompare\nsettle\ncount main\norder main\n",
+        "ok\nok\nok\nok\nbetter\ncommitted better\ncount 1\nchunk 500 100 2\nend\n",
+    ),
+    (
+        "add 1 100 100\nstage\nremove 1\nadd 2 150 300\ncompare\nsettle\nancestors 1 main\n",
+        "ok\nok\nok\nok\nincomparable\naborted incomparable\nids 1\n",
+    ),
+    (
+        "stage\ncompare\nstage\nabort\ncommit\n",
+        "ok\nequal\nrefused staging\nok\nrefused nostaging\n",
+    ),
+    (
+        "add 9 -10 1\nstage\nadd 2 0 1\ncompare\n",
+        "ok\nok\nok\nbetter\n",
+    ),
+    (
+        "add 1 9 9\nstage\nremove 1\nadd 1 5 5\nfee 1 7\nabort\nchunk 1\n",
+        "ok\nok\nok\nrefused taken\nok\nok\nchunk 7 9 1\n",
+    ),
+    (
+        "add 1 4 2\nstage\nadd 2 9 3\ndep 1 2\norder main\norder top\ndescendants 1 main\ndescendants 1 top\ncommit\ncount main\n",
+        "ok\nok\nok\nok\nchunk 4 2 1\nend\nchunk 13 5 1 2\nend\nids 1\nids 1 2\nok\ncount 2\n",
+    ),
+    (
+        "add 1 1 1\nstage\nfee 1 5\norder top\nchunk 1\n",
+        "ok\nok\nok\nchunk 5 1 1\nend\nchunk 5 1 1\n",
+    ),
+    (
+        "add 1 1 1\nstage\nremove 1\ncommit\nadd 1 2 2\norder main\n",
+        "ok\nok\nok\nok\nok\nchunk 2 2 1\nend\n",
+    ),
+    (
+        "add 1 5 1\nstage\nremove 1\ncompare\nsettle\nfee 1 -5\nstage\nremove 1\nsettle\ncount main\n",
+        "ok\nok\nok\nworse\naborted worse\nok\nok\nok\ncommitted better\ncount 0\n",
+    ),
+    (
+        "add 5 50 10\nadd 1 100 100\nstage\nremove 1\nadd 2 150 300\ncompare\nsettle\ncount main\n",
+        "ok\nok\nok\nok\nok\nincomparable\naborted incomparable\ncount 2\n",
+    ),
+    (
+        "settle\ncompare\nabort\ncommit\nstage\nlimits 64 404000 2\nsettle top\nsettle\nstage 1\n",
+        "refused nostaging\nrefused nostaging\nrefused nostaging\nrefused nostaging\nok\nrefused late\nrefused syntax\naborted equal\nrefused syntax\n",
+    ),
+    (
+        "add 1 100 200\nstage\nadd 2 900 200\ndep 1 2\nproof main\nproof top\ndiagram top\ncluster 2 main\ncount top\n",
+        "ok\nok\nok\nok\ntx 1 100 200\nchunk 100 200 1\nend\ntx 1 100 200\ntx 2 900 200\nedge 1 2\nchunk 1000 400 1 2\nflow 2 1 160000\nend\npoint 0 0\npoint 400 1000\nend\nrefused unknown 2\ncount 2\n",
+    ),
+];
+
+#[test]
+fn replies_are_the_same_whatever_the_pieces(rt: HostRuntime) -> Result<(), Fail> {
+    let alloc = rt.alloc();
+    let words = words(alloc, &["txgraph", "replay"])?;
+    for (input, output) in RUNS {
+        for piece in [1, 2, 4096] {
+            let mut source = MemSource::new(alloc, input.as_bytes(), piece, &[], None)?;
+            let mut sink = MemSink::new(alloc, piece, &[], 4096)?;
+            let status = run(alloc, &words, &mut source, &mut sink);
+            assert_eq!(rt; status, Status::Done, "at {input:?}");
+            assert_eq!(rt; sink.written(), output.as_bytes(), "at {input:?}");
+        }
+    }
+    Ok(())
+}
+
+/// Runs `replay` on inputs, and compares what it writes with their outputs.
+fn replay_all(rt: &impl Abort, alloc: Global, runs: &[(&str, &str)]) -> Result<(), Fail> {
+    let words = words(alloc, &["txgraph", "replay"])?;
+    for (input, output) in runs {
+        let mut source = MemSource::new(alloc, input.as_bytes(), 4096, &[], None)?;
+        let mut sink = MemSink::new(alloc, 4096, &[], 4096)?;
+        let status = run(alloc, &words, &mut source, &mut sink);
+        assert_eq!(rt; status, Status::Done, "at {input:?}");
+        assert_eq!(rt; sink.written(), output.as_bytes(), "at {input:?}");
+    }
+    Ok(())
+}
+
+#[test]
+fn orders_are_told(rt: HostRuntime) -> Result<(), Fail> {
+    replay_all(&rt, rt.alloc(), &ORDERS)
+}
+
+#[test]
+fn stagings_are_told(rt: HostRuntime) -> Result<(), Fail> {
+    replay_all(&rt, rt.alloc(), &STAGINGS)
+}
+
+#[test]
+fn faults_and_words_give_their_status(rt: HostRuntime) -> Result<(), Fail> {
+    let alloc = rt.alloc();
+    let replay = words(alloc, &["txgraph", "replay"])?;
+    for piece in [1, 2, 4096] {
+        let input = b"count main\ncount main\ncou";
+        let mut source = MemSource::new(alloc, input, piece, &[], Some(25))?;
+        let mut sink = MemSink::new(alloc, piece, &[], 4096)?;
+        assert_eq!(rt; run(alloc, &replay, &mut source, &mut sink).code(), 3);
+        assert_eq!(rt; sink.written(), b"count 0\ncount 0\n".as_slice());
+
+        let input = b"add 1 1 1\nadd 2 1 1\n";
+        let mut source = MemSource::new(alloc, input, piece, &[], None)?;
+        let mut sink = MemSink::new(alloc, piece, &[], 3)?;
+        assert_eq!(rt; run(alloc, &replay, &mut source, &mut sink).code(), 4);
+        assert_eq!(rt; sink.written(), b"ok\n".as_slice());
+    }
+
+    for refused in [
+        &["txgraph", "replay", "x"].as_slice(),
+        &["txgraph"].as_slice(),
+        &["txgraph", "gen", "1", "4"].as_slice(),
+    ] {
+        let mut source = MemSource::new(alloc, b"add 1 1 1\n", 64, &[], None)?;
+        let mut sink = MemSink::new(alloc, 64, &[], 4096)?;
+        let refused = words(alloc, refused)?;
+        assert_eq!(rt; run(alloc, &refused, &mut source, &mut sink).code(), 2);
+        assert_eq!(rt;
+            sink.written(),
+            b"usage: txgraph replay | check | gen SEED COUNT\n".as_slice()
+        );
+    }
+    Ok(())
+}
+
+/// Texts of `check` with what is said of them.
+const TEXTS: [(&str, &str); 29] = [
+    (
+        "tx 1 100 200\ntx 2 900 200\nedge 1 2\nchunk 1000 400 1 2\nflow 2 1 160000\nend\n",
+        "yes\n",
+    ),
+    (
+        "tx 1 100 200\ntx 2 900 200\nedge 1 2\nchunk 1000 400 1 2\nflow 2 1 159999\nend\n",
+        "no flow\n",
+    ),
+    (
+        "tx 1 100 200\ntx 2 900 200\nedge 1 2\nedge 1 2\nchunk 1000 400 1 2\nflow 2 1 160000\nend\n",
+        "no graph\n",
+    ),
+    (
+        "tx 1 100 200\ntx 2 900 200\nedge 1 2\nedge 2 1\nchunk 1000 400 1 2\nflow 2 1 160000\nend\n",
+        "no graph\n",
+    ),
+    (
+        "tx 1 100 200\ntx 2 900 200\nedge 1 2\nchunk 1000 400 2 1\nflow 2 1 160000\nend\n",
+        "no order\n",
+    ),
+    (
+        "tx 1 100 200\ntx 2 900 200\nedge 1 2\nchunk 1001 400 1 2\nflow 2 1 160000\nend\n",
+        "no falling\n",
+    ),
+    ("", "no syntax\n"),
+    ("end\n", "yes\n"),
+    (
+        "tx 1 0 10\ntx 2 6 5\ntx 3 6 5\nedge 1 2\nedge 1 3\nchunk 12 20 1 2 3\nflow 2 1 120\nflow 3 2 60\nend\n",
+        "no flow\n",
+    ),
+    (
+        "tx 1 1 1\ntx 2 2 1\nchunk 1 1 1\nchunk 2 1 2\nend\n",
+        "no falling\n",
+    ),
+    ("tx 1 1 1\ntx 2 2 2\nchunk 3 3 1 2\nend\n", "no order\n"),
+    (
+        "tx 1 1 1\ntx 2 1 1\nedge 1 2\nedge 2 1\nchunk 2 2 1 2\nend\n",
+        "no graph\n",
+    ),
+    ("tx 1 1 1\nedge 1 1\nchunk 1 1 1\nend\n", "no graph\n"),
+    (
+        "tx 1 2100000000000001 1\nchunk 2100000000000001 1 1\nend\n",
+        "no graph\n",
+    ),
+    ("tx 1 1 1\nchunk 1 1 2\nend\n", "no order\n"),
+    ("tx 1 1 1\nend\n", "no order\n"),
+    (
+        "tx 1 1 1\nchunk 1000000000000000000000000000000 1 1\nend\n",
+        "no falling\n",
+    ),
+    (
+        "tx 1 1 1\nchunk 1000000000000000000000000000001 1 1\nend\n",
+        "no syntax\n",
+    ),
+    (
+        "tx 1 100 200\ntx 2 900 200\nedge 1 2\nchunk 1000 400 1 2\nflow 2 1 80000\nflow 2 1 80000\nend\n",
+        "no flow\n",
+    ),
+    (
+        "tx 1 100 200\ntx 2 900 200\nedge 1 2\nchunk 1000 400 1 2\nflow 2 1 0\nend\n",
+        "no syntax\n",
+    ),
+    (
+        "tx 1 100 200\ntx 2 900 200\nedge 1 2\nchunk 1000 400 1 2\nflow 2 9 160000\nend\n",
+        "no flow\n",
+    ),
+    (
+        "tx 1 900 200\ntx 2 100 200\nedge 1 2\nchunk 900 200 1\nchunk 100 200 2\nflow 2 1 1\nend\n",
+        "no flow\n",
+    ),
+    ("end\nend\n", "no syntax\n"),
+    ("edge 1 2\ntx 1 1 1\nend\n", "no syntax\n"),
+    ("end\n# x\n", "yes\n"),
+    (
+        "tx 1 0 1\ntx 2 0 1\ntx 3 3 1\nedge 1 2\nedge 2 3\nedge 1 3\nchunk 3 3 1 2 3\nflow 3 1 3\nflow 3 2 3\nend\n",
+        "yes\n",
+    ),
+    ("# a\r\n\ntx 1 1 1\r\nchunk 1 1 1\nend", "yes\n"),
+    (
+        "tx 1 1 1\ntx 2 1 1\nedge 1 2\nedge 1 2\nchunk 2 2 1 2\nend\n",
+        "no graph\n",
+    ),
+    (
+        "tx 1 5 1\ntx 2 3 1\nchunk 5 1 1\nchunk 3 1 2\nend\n",
+        "yes\n",
+    ),
+];
+
+#[test]
+fn a_text_is_a_certificate_or_the_first_fault_is_told(rt: HostRuntime) -> Result<(), Fail> {
+    check_accepts_proofs::<MemSink>();
+    let alloc = rt.alloc();
+    let words = words(alloc, &["txgraph", "check"])?;
+    for (text, said) in TEXTS {
+        let mut source = MemSource::new(alloc, text.as_bytes(), 7, &[], None)?;
+        let mut sink = MemSink::new(alloc, 3, &[], 64)?;
+        let status = run(alloc, &words, &mut source, &mut sink);
+        let wanted = if said == "yes\n" {
+            Status::Done
+        } else {
+            Status::No
+        };
+        assert_eq!(rt; status, wanted, "at {text:?}");
+        assert_eq!(rt; sink.written(), said.as_bytes(), "at {text:?}");
+    }
+    // Without its end nothing is said of a text, and past a full sink no more.
+    let mut source = MemSource::new(alloc, b"end\n", 7, &[2], None)?;
+    let mut sink = MemSink::new(alloc, 3, &[], 64)?;
+    assert_eq!(rt; run(alloc, &words, &mut source, &mut sink).code(), 3);
+    assert_eq!(rt; sink.written(), b"".as_slice());
+    let mut source = MemSource::new(alloc, b"end\n", 7, &[], None)?;
+    let mut sink = MemSink::new(alloc, 1, &[], 2)?;
+    assert_eq!(rt; run(alloc, &words, &mut source, &mut sink).code(), 4);
+    assert_eq!(rt; sink.written(), b"ye".as_slice());
+    Ok(())
+}
+
+/// A line of 65,537 bytes, one of 65,536, and a command.
+fn long_lines(alloc: Global) -> Result<Vec<u8>, AllocError> {
+    let mut input = Vec::new(alloc);
+    for _ in 0..65_537 {
+        input.push(b'x')?;
+    }
+    input.push(b'\n')?;
+    for _ in 0..65_536 {
+        input.push(b'x')?;
+    }
+    input.extend_from_slice(b"\ncount main\n")?;
+    Ok(input)
+}
+
+#[test]
+fn a_line_has_at_most_65536_bytes(rt: HostRuntime) -> Result<(), Fail> {
+    let alloc = rt.alloc();
+    let input = long_lines(alloc)?;
+    let words = words(alloc, &["txgraph", "replay"])?;
+    for piece in [1, 2, 4096] {
+        let mut source = MemSource::new(alloc, &input, piece, &[], None)?;
+        let mut sink = MemSink::new(alloc, piece, &[], 4096)?;
+        assert_eq!(rt; run(alloc, &words, &mut source, &mut sink).code(), 0);
+        assert_eq!(rt;
+            sink.written(),
+            b"refused line\nrefused syntax\ncount 0\n".as_slice()
+        );
+    }
+    Ok(())
+}
+
+/// Four lines and their replies.
+const FOUR: &str = "add 1 100 200\nadd 2 900 200\ndep 1 2\nproof main\n";
+
+const FOUR_REPLIES: &str =
+    "ok\nok\nok\ntx 1 100 200\ntx 2 900 200\nedge 1 2\nchunk 1000 400 1 2\nflow 2 1 160000\nend\n";
+
+#[test]
+fn a_sink_that_stops_has_a_front_of_the_replies(rt: HostRuntime) -> Result<(), Fail> {
+    let alloc = rt.alloc();
+    let words = words(alloc, &["txgraph", "replay"])?;
+    let replies = FOUR_REPLIES.as_bytes();
+    for stop in 0..=replies.len() {
+        let mut source = MemSource::new(alloc, FOUR.as_bytes(), 1, &[], None)?;
+        let mut sink = MemSink::new(alloc, 1, &[], stop)?;
+        let status = run(alloc, &words, &mut source, &mut sink);
+        let (front, rest) = replies.split_at(stop);
+        let wanted = if rest.is_empty() {
+            Status::Done
+        } else {
+            Status::WriteFault
+        };
+        assert_eq!(rt; status, wanted, "at {stop}");
+        assert_eq!(rt; sink.written(), front, "at {stop}");
+    }
+    Ok(())
+}
+
+/// For the stops of a source over the four lines, the last of each range and the replies by then.
+const STOPS: [(usize, &str); 5] = [
+    (13, ""),
+    (27, "ok\n"),
+    (35, "ok\nok\n"),
+    (46, "ok\nok\nok\n"),
+    (47, FOUR_REPLIES),
+];
+
+#[test]
+fn a_source_that_stops_has_its_complete_lines_answered(rt: HostRuntime) -> Result<(), Fail> {
+    let alloc = rt.alloc();
+    let words = words(alloc, &["txgraph", "replay"])?;
+    let mut stop = 0;
+    for (last, replies) in STOPS {
+        for at in stop..=last {
+            let mut source = MemSource::new(alloc, FOUR.as_bytes(), 1, &[], Some(at))?;
+            let mut sink = MemSink::new(alloc, 1, &[], 4096)?;
+            let status = run(alloc, &words, &mut source, &mut sink);
+            assert_eq!(rt; status, Status::ReadFault, "at {at}");
+            assert_eq!(rt; sink.written(), replies.as_bytes(), "at {at}");
+        }
+        stop = last + 1;
+    }
+    let mut source = MemSource::new(alloc, FOUR.as_bytes(), 1, &[1], None)?;
+    let mut sink = MemSink::new(alloc, 1, &[], 4096)?;
+    assert_eq!(rt;
+        run(alloc, &words, &mut source, &mut sink),
+        Status::ReadFault
+    );
+    assert_eq!(rt; sink.written(), b"".as_slice());
+    Ok(())
+}
+
+#[test]
+fn a_line_has_made_its_step_where_its_reply_failed(rt: HostRuntime) -> Result<(), Fail> {
+    let alloc = rt.alloc();
+    let mut session = Session::<1>::new(alloc)?;
+    let mut broken = MemSink::new(alloc, 1, &[], 0)?;
+    assert_eq!(rt;
+        session.one(Piece::Whole(b"add 1 1 1"), &mut broken),
+        Err(Failed)
+    );
+    let mut sink = MemSink::new(alloc, 64, &[], 64)?;
+    assert_eq!(rt;
+        session.one(Piece::Whole(b"count main"), &mut sink),
+        Ok(Outcome::Accepted)
+    );
+    assert_eq!(rt; sink.written(), b"count 1\n".as_slice());
+    Ok(())
+}
+
+#[test]
+fn lines_are_cut_whatever_the_pieces(rt: HostRuntime) -> Result<(), Fail> {
+    let alloc = rt.alloc();
+    for piece in [1, 2, 4096] {
+        let mut source = MemSource::new(alloc, b"a\n\nbc", piece, &[], None)?;
+        let mut lines = Lines::new(alloc)?;
+        for wanted in [b"a".as_slice(), b"".as_slice(), b"bc".as_slice()] {
+            match lines.next(&mut source) {
+                Next::Line(Piece::Whole(line)) => assert_eq!(rt; line, wanted),
+                _ => assert!(rt; false, "a line is left"),
+            }
+        }
+        assert!(rt; matches!(lines.next(&mut source), Next::End));
+    }
+    Ok(())
+}

@@ -1,0 +1,275 @@
+use chunk_index::{ChunkIndex, Entry, IndexWalk, Level, Tag};
+use fee_rate::FeeRate;
+use outside::NoMemory;
+use std::alloc::{AllocError, Global};
+use std::cmp::Ordering;
+use std::test::Fail;
+
+/// What a row of the table does.
+#[derive(Clone, Copy, Debug)]
+enum Step {
+    Insert(Tag),
+    Retag(Tag),
+    Remove,
+}
+
+fn entry(fee: i64, size: u64, serial: u64, position: usize) -> Entry {
+    Entry {
+        rate: FeeRate { fee, size },
+        serial,
+        position,
+        number: 7,
+    }
+}
+
+/// The order of the rows by itself, for small numbers.
+fn stands_before(a: &Entry, b: &Entry) -> bool {
+    let left = i128::from(b.rate.fee) * i128::from(a.rate.size);
+    let right = i128::from(a.rate.fee) * i128::from(b.rate.size);
+    let by_rate = left.cmp(&right);
+    let by_serial = by_rate.then(a.serial.cmp(&b.serial));
+    let by_position = by_serial.then(a.position.cmp(&b.position));
+    by_position.then(a.rate.size.cmp(&b.rate.size)) == Ordering::Less
+}
+
+/// A sorted list of entries with their tags, as slow as can be.
+#[derive(Drop)]
+struct Plain {
+    items: Vec<(Entry, Tag)>,
+}
+
+impl Plain {
+    fn insert(&mut self, entry: Entry, tag: Tag) -> Result<(), AllocError> {
+        let mut at = 0;
+        for (i, item) in self.items.iter().enumerate() {
+            if stands_before(&item.0, &entry) {
+                at = i + 1;
+            }
+        }
+        if at <= self.items.len() {
+            self.items.insert(at, (entry, tag))?;
+        }
+        Ok(())
+    }
+
+    fn remove(&mut self, entry: &Entry) {
+        self.items.retain(|item| item.0 != *entry);
+    }
+
+    fn retag(&mut self, entry: &Entry, tag: Tag) {
+        for item in self.items.iter_mut() {
+            if item.0 == *entry {
+                item.1 = tag;
+            }
+        }
+    }
+}
+
+/// Whether a walk gives the listed entries of these tags, and from the back the same in reverse.
+fn gives(
+    alloc: Global,
+    forward: IndexWalk<'_>,
+    backward: IndexWalk<'_>,
+    plain: &Plain,
+    tags: &[Tag],
+) -> Result<bool, AllocError> {
+    let mut there = Vec::new(alloc);
+    for item in &plain.items {
+        if tags.contains(&item.1) {
+            there.push(item.0)?;
+        }
+    }
+    let mut onward = Vec::new(alloc);
+    for entry in forward {
+        onward.push(entry)?;
+    }
+    let mut back = Vec::new(alloc);
+    for entry in backward.rev() {
+        back.push(entry)?;
+    }
+    back.reverse();
+    Ok(onward.as_slice() == there.as_slice() && back.as_slice() == there.as_slice())
+}
+
+fn agree(alloc: Global, index: &ChunkIndex, plain: &Plain) -> Result<bool, AllocError> {
+    let levels = [
+        (Level::Main, [Tag::Both, Tag::MainOnly]),
+        (Level::Top, [Tag::Both, Tag::TopOnly]),
+    ];
+    for (level, tags) in levels {
+        if !gives(alloc, index.walk(level), index.walk(level), plain, &tags)? {
+            return Ok(false);
+        }
+    }
+    for tag in [Tag::Both, Tag::MainOnly, Tag::TopOnly] {
+        if !gives(
+            alloc,
+            index.walk_only(tag),
+            index.walk_only(tag),
+            plain,
+            &[tag],
+        )? {
+            return Ok(false);
+        }
+    }
+    Ok(true)
+}
+
+/// One row on both, and whether they could take it and agree then.
+fn take(
+    alloc: Global,
+    index: &mut ChunkIndex,
+    plain: &mut Plain,
+    step: Step,
+    entry: Entry,
+) -> Result<bool, NoMemory> {
+    let there = index.contains(&entry);
+    match step {
+        Step::Insert(tag) => {
+            if there {
+                return Ok(false);
+            }
+            index.insert(entry, tag)?;
+            plain.insert(entry, tag)?;
+        }
+        Step::Retag(tag) => {
+            if !there {
+                return Ok(false);
+            }
+            index.retag(&entry, tag);
+            plain.retag(&entry, tag);
+        }
+        Step::Remove => {
+            if !there {
+                return Ok(false);
+            }
+            index.remove(&entry);
+            plain.remove(&entry);
+        }
+    }
+    Ok(agree(alloc, index, plain)?)
+}
+
+/// All rows; how many were taken before the first where the two differ.
+fn take_all(alloc: Global, rows: &[(Step, Entry)]) -> Result<usize, NoMemory> {
+    let mut index = ChunkIndex::new(alloc);
+    let mut plain = Plain {
+        items: Vec::new(alloc),
+    };
+    take_rows(alloc, &mut index, &mut plain, rows)
+}
+
+fn take_rows(
+    alloc: Global,
+    index: &mut ChunkIndex,
+    plain: &mut Plain,
+    rows: &[(Step, Entry)],
+) -> Result<usize, NoMemory> {
+    for (at, row) in rows.iter().enumerate() {
+        if !take(alloc, index, plain, row.0, row.1)? {
+            return Ok(at);
+        }
+    }
+    Ok(rows.len())
+}
+
+#[test]
+fn walks_are_those_of_a_sorted_list(rt: HostRuntime) -> Result<(), Fail> {
+    let rows = [
+        (Step::Insert(Tag::Both), entry(10, 4, 3, 0)),
+        (Step::Insert(Tag::Both), entry(5, 2, 2, 9)),
+        (Step::Insert(Tag::MainOnly), entry(5, 2, 2, 1)),
+        (Step::Insert(Tag::TopOnly), entry(-3, 1, 1, 0)),
+        (Step::Insert(Tag::TopOnly), entry(10, 4, 2, 1)),
+        (Step::Insert(Tag::MainOnly), entry(7, 1, 9, 9)),
+        (Step::Retag(Tag::MainOnly), entry(10, 4, 3, 0)),
+        (Step::Retag(Tag::TopOnly), entry(5, 2, 2, 9)),
+        (Step::Retag(Tag::TopOnly), entry(7, 1, 9, 9)),
+        (Step::Retag(Tag::MainOnly), entry(5, 2, 2, 1)),
+        (Step::Remove, entry(10, 4, 2, 1)),
+        (Step::Retag(Tag::Both), entry(7, 1, 9, 9)),
+        (Step::Remove, entry(5, 2, 2, 1)),
+        (Step::Remove, entry(7, 1, 9, 9)),
+        (Step::Retag(Tag::Both), entry(-3, 1, 1, 0)),
+        (Step::Insert(Tag::Both), entry(5, 2, 2, 1)),
+    ];
+    assert_eq!(rt; take_all(rt.alloc(), &rows)?, rows.len());
+    Ok(())
+}
+
+/// A hundred rows that fill trees of one tag, and then change and empty them.
+fn many_rows(alloc: Global) -> Result<Vec<(Step, Entry)>, NoMemory> {
+    let mut rows = Vec::new(alloc);
+    for i in 0..50u64 {
+        let tag = if i % 5 == 0 { Tag::Both } else { Tag::TopOnly };
+        rows.push((Step::Insert(tag), nth(i)))?;
+    }
+    for i in 0..50u64 {
+        let step = match i % 4 {
+            0 => Step::Retag(Tag::MainOnly),
+            1 => Step::Remove,
+            2 => Step::Retag(Tag::Both),
+            _ => Step::Retag(Tag::TopOnly),
+        };
+        rows.push((step, nth(i * 13 % 50)))?;
+    }
+    Ok(rows)
+}
+
+/// Entries in no order.
+fn nth(i: u64) -> Entry {
+    entry((i % 50 * 37 % 53) as i64, 1 + i % 7, i / 2, 0)
+}
+
+#[test]
+fn trees_of_one_tag_stay_in_order(rt: HostRuntime) -> Result<(), Fail> {
+    let rows = many_rows(rt.alloc())?;
+    assert_eq!(rt; take_all(rt.alloc(), &rows)?, rows.len());
+    Ok(())
+}
+
+/// An insertion on both, and whether they agree then; where there is no memory for it, neither has changed.
+fn insert_or_stay(
+    alloc: Global,
+    index: &mut ChunkIndex,
+    plain: &mut Plain,
+    at: u64,
+) -> Result<bool, NoMemory> {
+    let tag = match at % 3 {
+        0 => Tag::Both,
+        1 => Tag::MainOnly,
+        _ => Tag::TopOnly,
+    };
+    let entry = nth(at);
+    if index.contains(&entry) {
+        return Ok(false);
+    }
+    if let Ok(()) = index.insert(entry, tag) {
+        plain.insert(entry, tag)?;
+    }
+    Ok(agree(alloc, index, plain)?)
+}
+
+fn insert_some(alloc: Global) -> Result<bool, NoMemory> {
+    let mut index = ChunkIndex::new(alloc);
+    let mut plain = Plain {
+        items: Vec::new(alloc),
+    };
+    insert_each(alloc, &mut index, &mut plain)
+}
+
+fn insert_each(alloc: Global, index: &mut ChunkIndex, plain: &mut Plain) -> Result<bool, NoMemory> {
+    for at in 0..14 {
+        if !insert_or_stay(alloc, index, plain, at)? {
+            return Ok(false);
+        }
+    }
+    Ok(true)
+}
+
+// Run with one allocation refused, an insertion that it meets leaves all as it was.
+#[test]
+fn an_insertion_without_memory_changes_nothing(rt: HostRuntime) -> Result<(), Fail> {
+    assert!(rt; insert_some(rt.alloc())?);
+    Ok(())
+}

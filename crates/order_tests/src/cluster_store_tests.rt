@@ -1,0 +1,282 @@
+ghost use Rattle.std.specs.Prelude.{◌≡◌, ◌<◌, [], ◌∷◌, IfOk};
+
+use cluster_store::{ClusterStore, Exchange, Move, PartWalk, Stored};
+use chunk_index::Tag;
+use cluster::{Cluster, Work};
+use fee_rate::{FeeRate, is_rate};
+use graphs::{Level, TxId};
+use std::alloc::Global;
+use std::marker::Brand;
+use std::process::Abort;
+use std::sync::ledger;
+use std::sync::ledger::Blank;
+use std::test::Fail;
+use step_count::{Counted, Ledger, Steps};
+
+// ---- clusters, all made before the store is
+
+// The room for making clusters.
+#[derive(Drop)]
+struct Room {
+    alloc: Global,
+    work: Work<1>,
+}
+
+// The cluster of one name of size 1, with its fee.
+fn alone<L: Ledger>(
+    rt: &impl Abort,
+    room: &mut Room,
+    steps: &mut Steps<L>,
+    row: (TxId, i64),
+) -> Result<Cluster<1>, Fail>
+    ensures { IfOk result (λ c. c.names ≡ row.0 ∷ []) }
+{
+    assert!(rt;
+        is_rate(FeeRate {
+            fee: row.1,
+            size: 1
+        })
+    );
+    Ok(Cluster::single(room.alloc, row.0, row.1, 1, &mut room.work, steps)?)
+}
+
+// The cluster of a name and another that depends on it.
+fn pair<L: Ledger>(
+    rt: &impl Abort,
+    room: &mut Room,
+    steps: &mut Steps<L>,
+    parent: (TxId, i64),
+    child: (TxId, i64),
+) -> Result<Cluster<1>, Fail> {
+    let old = alone(rt, room, steps, parent)?;
+    let one = alone(rt, room, steps, child)?;
+    assert!(rt; parent.0 != child.0);
+    Ok(old.joined(room.alloc, &one, parent.0, child.0, &mut room.work, steps)?)
+}
+
+// Clusters of one name, or of one and another that depends on it.
+fn made<L: Ledger>(
+    rt: &impl Abort,
+    room: &mut Room,
+    steps: &mut Steps<L>,
+    rows: &[((TxId, i64), Option<(TxId, i64)>)],
+) -> Result<Vec<Cluster<1>>, Fail> {
+    let mut clusters = Vec::new(room.alloc);
+    for row in rows {
+        let cluster = match row.1 {
+            Some(child) => pair(rt, room, steps, row.0, child)?,
+            None => alone(rt, room, steps, row.0)?,
+        };
+        clusters.push(cluster)?;
+    }
+    Ok(clusters)
+}
+
+// ---- the table
+
+// A store, the numbers of its clusters in the order in which they came, and the clusters that are still to come, the next
+// one last.
+#[derive(Drop)]
+struct Table {
+    alloc: Global,
+    store: ClusterStore<1>,
+    numbers: Vec<usize>,
+    clusters: Vec<Cluster<1>>,
+}
+
+// What a row does. Clusters are told by when they came.
+#[derive(Clone, Copy)]
+enum Act {
+    // The next cluster is added, in these levels.
+    Add(Tag),
+    // The next cluster takes the place of that one.
+    Exchange(usize),
+    // That one goes out, or stands in other levels.
+    Move(usize, Option<Tag>),
+    // The next cluster takes the place of the first of these, the one after it is added to staging, and the second of these
+    // goes out, in one change.
+    Change(usize, usize),
+}
+
+fn next(rt: &impl Abort, table: &mut Table) -> Cluster<1> {
+    match table.clusters.pop() {
+        Some(cluster) => cluster,
+        None => panic!(rt; "no cluster is left"),
+    }
+}
+
+fn number(rt: &impl Abort, table: &Table, at: usize) -> usize {
+    assert!(rt; at < table.numbers.len());
+    table.numbers[at]
+}
+
+fn add(rt: &impl Abort, table: &mut Table, tag: Tag) -> Result<(), Fail> {
+    let cluster = next(rt, table);
+    let number = table.store.add(Stored::new(cluster, tag))?;
+    table.numbers.push(number)?;
+    Ok(())
+}
+
+fn exchange(rt: &impl Abort, table: &mut Table, at: usize) -> Result<(), Fail> {
+    let cluster = next(rt, table);
+    let number = number(rt, table, at);
+    assert!(rt; table.store.tag(number).is_some());
+    table.store.exchange(number, cluster)?;
+    Ok(())
+}
+
+fn make_move(rt: &impl Abort, table: &mut Table, at: usize, to: Option<Tag>) {
+    let number = number(rt, table, at);
+    assert!(rt; table.store.tag(number).is_some());
+    table.store.make_move(number, to);
+}
+
+fn change(rt: &impl Abort, table: &mut Table, exchanged: usize, out: usize) -> Result<(), Fail> {
+    let mut exchanges = Vec::with_capacity(table.alloc, 1)?;
+    let mut added = Vec::with_capacity(table.alloc, 1)?;
+    let at = number(rt, table, exchanged);
+    let gone = number(rt, table, out);
+    exchanges.push_reserved(Exchange::new(at, next(rt, table)));
+    added.push_reserved(Stored::new(next(rt, table), Tag::TopOnly));
+    let moves = [Move {
+        number: gone,
+        to: None,
+    }];
+    assert!(rt; at != gone);
+    assert!(rt; table.store.tag(at).is_some());
+    assert!(rt; table.store.tag(gone).is_some());
+    let numbers = table.store.change(exchanges, added, moves.as_slice())?;
+    assert!(rt; numbers.len() == 1);
+    table.numbers.push(numbers[0])?;
+    Ok(())
+}
+
+fn obey(rt: &impl Abort, table: &mut Table, act: Act) -> Result<(), Fail> {
+    match act {
+        Act::Add(tag) => add(rt, table, tag),
+        Act::Exchange(at) => exchange(rt, table, at),
+        Act::Move(at, to) => {
+            make_move(rt, table, at, to);
+            Ok(())
+        }
+        Act::Change(at, out) => change(rt, table, at, out),
+    }
+}
+
+// The walks: main, staging on top, both, main alone, staging alone.
+fn walk(store: &ClusterStore<1>, at: usize) -> PartWalk<'_, Stored<1>> {
+    match at {
+        0 => store.walk(Level::Main),
+        1 => store.walk(Level::Top),
+        2 => store.walk_only(Tag::Both),
+        3 => store.walk_only(Tag::MainOnly),
+        _ => store.walk_only(Tag::TopOnly),
+    }
+}
+
+// The name that a digit stands for.
+fn name(digit: u8) -> TxId {
+    u64::from(digit.wrapping_sub(b'0'))
+}
+
+// Asserts that a walk gives these names, one a part, from the front.
+fn gives(rt: &impl Abort, mut walk: PartWalk<'_, Stored<1>>, names: &[u8]) {
+    for digit in names {
+        match walk.next() {
+            Some(shown) => assert_eq!(rt; shown.part.ids, [name(*digit)].as_slice()),
+            None => panic!(rt; "a part is missing"),
+        }
+    }
+    assert!(rt; walk.next().is_none());
+}
+
+// The same from the back.
+fn gives_back(rt: &impl Abort, mut walk: PartWalk<'_, Stored<1>>, names: &[u8]) {
+    for digit in names.iter().rev() {
+        match walk.next_back() {
+            Some(shown) => assert_eq!(rt; shown.part.ids, [name(*digit)].as_slice()),
+            None => panic!(rt; "a part is missing"),
+        }
+    }
+    assert!(rt; walk.next_back().is_none());
+}
+
+// Rows, and the names that the five walks give after each, a digit a name.
+fn all_rows(rt: &impl Abort, table: &mut Table) -> Result<(), Fail> {
+    let rows = [
+        (Act::Add(Tag::Both), ["1", "1", "1", "", ""]),
+        (Act::Add(Tag::MainOnly), ["12", "1", "1", "2", ""]),
+        (Act::Add(Tag::TopOnly), ["12", "13", "1", "2", "3"]),
+        (Act::Add(Tag::Both), ["124", "134", "14", "2", "3"]),
+        (Act::Add(Tag::Both), ["17248", "17348", "1748", "2", "3"]),
+        (
+            Act::Move(1, Some(Tag::Both)),
+            ["17248", "173248", "17248", "", "3"],
+        ),
+        (
+            Act::Move(4, Some(Tag::MainOnly)),
+            ["17248", "1324", "124", "78", "3"],
+        ),
+        (Act::Exchange(2), ["17248", "3124", "124", "78", "3"]),
+        (Act::Move(0, None), ["7248", "324", "24", "78", "3"]),
+        (Act::Exchange(4), ["7824", "324", "24", "78", "3"]),
+        (
+            Act::Move(2, Some(Tag::Both)),
+            ["37824", "324", "324", "78", ""],
+        ),
+        (Act::Change(1, 4), ["342", "3542", "342", "", "5"]),
+        (Act::Move(1, None), ["34", "354", "34", "", "5"]),
+        (Act::Move(2, None), ["4", "54", "4", "", "5"]),
+        (Act::Move(3, None), ["", "5", "", "", "5"]),
+        (Act::Move(5, None), ["", "", "", "", ""]),
+    ];
+    for (act, walks) in rows {
+        obey(rt, table, act)?;
+        for at in 0..5 {
+            gives(rt, walk(&table.store, at), walks[at].as_bytes());
+            gives_back(rt, walk(&table.store, at), walks[at].as_bytes());
+        }
+    }
+    Ok(())
+}
+
+fn begun<L: Ledger>(rt: &impl Abort, alloc: Global, steps: &mut Steps<L>) -> Result<Table, Fail> {
+    let mut room = Room {
+        alloc,
+        work: Work::new(alloc)?,
+    };
+    let rows = [
+        ((5, 6), None),
+        ((2, 1), None),
+        ((7, 9), Some((8, 6))),
+        ((3, 50), None),
+        ((7, 9), Some((8, 4))),
+        ((4, 5), None),
+        ((3, 7), None),
+        ((2, 5), None),
+        ((1, 10), None),
+    ];
+    let clusters = made(rt, &mut room, steps, &rows)?;
+    Ok(Table {
+        alloc,
+        store: ClusterStore::new(alloc),
+        numbers: Vec::new(alloc),
+        clusters,
+    })
+}
+
+fn rows<K: ledger::Ledger>(rt: &impl Abort, alloc: Global, blank: Blank) -> Result<(), Fail>
+    requires name { blank.name ≡ K.name }
+    requires parts { blank.parts ≡ K.parts }
+    requires some { 0 < blank.parts }
+{
+    let mut steps = Steps::new(Counted::<K>::new(blank));
+    let mut table = begun(rt, alloc, &mut steps)?;
+    all_rows(rt, &mut table)
+}
+
+// Clusters come, change their levels, are exchanged and go, and each walk shows its parts by rate, equal ones by number.
+#[test]
+fn levels_show_their_parts_by_rate(rt: HostRuntime) -> Result<(), Fail> {
+    rows::<Brand>(&rt, rt.alloc(), Blank::new(1))
+}

@@ -1,0 +1,242 @@
+ghost use Rattle.std.specs.Prelude.{◌*◌, ◌^◌, ◌≢◌, ◌≤◌, [], All, IfOk};
+ghost use Rattle.certificate.specs.Accounts.{amount_of};
+ghost use Rattle.certificate.specs.Answers.{AreClaims};
+
+use certificate::{CheckFault, EdgeList, FlowList, Part, TxList, Written, check};
+use fee_rate::Sum;
+use graphs::{Flow, IdList};
+use std::alloc::Global;
+use std::process::Abort;
+use std::test::Fail;
+
+/// A part as a row has it: fee and size, names, and flows as (child, parent, amount).
+type Claim<'a> = ((i128, u64), &'a [u64], &'a [(u64, u64, u128)]);
+
+/// Flows whose amounts are asserted to be at least 1 and far below the limit.
+fn flows_of(rt: &impl Abort, alloc: Global, rows: &[(u64, u64, u128)]) -> Result<Vec<Flow>, Fail>
+    ensures some { IfOk result (λ flows. All (λ flow. 1 ≤ flow.amount) flows.items) }
+    ensures small { IfOk result (λ flows. amount_of flows.items ≤ 100 * 2 ^ 64) }
+{
+    assert!(rt; rows.len() <= 100);
+    let mut flows = Vec::new(alloc);
+    for (child, parent, amount) in rows {
+        assert!(rt; *amount >= 1);
+        assert!(rt; *amount <= 0xffff_ffff_ffff_ffff);
+        flows.push(Flow {
+            child: *child,
+            parent: *parent,
+            amount: *amount,
+        })?;
+    }
+    Ok(flows)
+}
+
+/// A part that has a name.
+fn part_of<'a>(rt: &impl Abort, alloc: Global, claim: &'a Claim<'a>) -> Result<Part, Fail>
+    ensures filled { IfOk result (λ part. part.ids ≢ []) }
+    ensures some { IfOk result (λ part. All (λ flow. 1 ≤ flow.amount) part.flows) }
+    ensures small { IfOk result (λ part. amount_of part.flows ≤ 100 * 2 ^ 64) }
+{
+    assert!(rt; claim.1.len() > 0);
+    let ids = claim.1.to_vec(alloc)?;
+    let flows = flows_of(rt, alloc, claim.2)?;
+    Ok(Part {
+        rate: Sum {
+            fee: claim.0.0,
+            size: claim.0.1,
+        },
+        ids: IdList::from_vec(ids),
+        flows: FlowList::from_vec(flows),
+    })
+}
+
+/// The parts of a row.
+fn parts_of<'a>(rt: &impl Abort, alloc: Global, claims: &'a [Claim<'a>]) -> Result<Vec<Part>, Fail>
+    ensures { IfOk result (λ parts. AreClaims parts.items) }
+{
+    assert!(rt; claims.len() <= 100);
+    let mut parts = Vec::new(alloc);
+    for claim in claims {
+        parts.push(part_of(rt, alloc, claim)?)?;
+    }
+    Ok(parts)
+}
+
+/// What `check` answers on a row.
+fn answer<'a>(
+    rt: &impl Abort,
+    alloc: Global,
+    txs: &[(u64, i64, u64)],
+    edges: &[(u64, u64)],
+    claims: &'a [Claim<'a>],
+) -> Result<Result<(), CheckFault>, Fail> {
+    let parts = parts_of(rt, alloc, claims)?;
+    let graph = Written {
+        txs: TxList::from_vec(txs.to_vec(alloc)?),
+        edges: EdgeList::from_vec(edges.to_vec(alloc)?),
+    };
+    Ok(check(alloc, &graph, parts.as_slice()))
+}
+
+#[test]
+fn a_certificate_is_accepted(rt: HostRuntime) -> Result<(), Fail> {
+    let alloc = rt.alloc();
+    let want = Ok(());
+    let found = answer(&rt, alloc, &[], &[], &[])?;
+    assert_eq!(rt; found, want);
+    let found = answer(
+        &rt,
+        alloc,
+        &[(1, 100, 200), (2, 900, 200)],
+        &[(1, 2)],
+        &[((1000, 400), &[1, 2], &[(2, 1, 160_000)])],
+    )?;
+    assert_eq!(rt; found, want);
+    let found = answer(
+        &rt,
+        alloc,
+        &[(1, 0, 1), (2, 0, 1), (3, 3, 1)],
+        &[(1, 2), (2, 3), (1, 3)],
+        &[((3, 3), &[1, 2, 3], &[(3, 1, 3), (3, 2, 3)])],
+    )?;
+    assert_eq!(rt; found, want);
+    Ok(())
+}
+
+#[test]
+fn what_is_no_graph_is_refused_first(rt: HostRuntime) -> Result<(), Fail> {
+    let alloc = rt.alloc();
+    let want = Err(CheckFault::Graph);
+    let found = answer(
+        &rt,
+        alloc,
+        &[(1, 100, 200), (2, 900, 200)],
+        &[(1, 2), (2, 1)],
+        &[((1000, 400), &[1, 2], &[(2, 1, 160_000)])],
+    )?;
+    assert_eq!(rt; found, want);
+    let found = answer(
+        &rt,
+        alloc,
+        &[(1, 1, 1), (2, 1, 1)],
+        &[(1, 2), (2, 1)],
+        &[((2, 2), &[1, 2], &[])],
+    )?;
+    assert_eq!(rt; found, want);
+    let found = answer(&rt, alloc, &[(1, 1, 1)], &[(1, 1)], &[((1, 1), &[1], &[])])?;
+    assert_eq!(rt; found, want);
+    let found = answer(
+        &rt,
+        alloc,
+        &[(1, 2_100_000_000_000_001, 1)],
+        &[],
+        &[((2_100_000_000_000_001, 1), &[1], &[])],
+    )?;
+    assert_eq!(rt; found, want);
+    Ok(())
+}
+
+#[test]
+fn what_is_no_order_is_refused(rt: HostRuntime) -> Result<(), Fail> {
+    let alloc = rt.alloc();
+    let want = Err(CheckFault::Order);
+    let found = answer(
+        &rt,
+        alloc,
+        &[(1, 100, 200), (2, 900, 200)],
+        &[(1, 2)],
+        &[((1000, 400), &[2, 1], &[(2, 1, 160_000)])],
+    )?;
+    assert_eq!(rt; found, want);
+    let found = answer(
+        &rt,
+        alloc,
+        &[(1, 1, 1), (2, 2, 2)],
+        &[],
+        &[((3, 3), &[1, 2], &[])],
+    )?;
+    assert_eq!(rt; found, want);
+    let found = answer(&rt, alloc, &[(1, 1, 1)], &[], &[((1, 1), &[2], &[])])?;
+    assert_eq!(rt; found, want);
+    let found = answer(&rt, alloc, &[(1, 1, 1)], &[], &[])?;
+    assert_eq!(rt; found, want);
+    Ok(())
+}
+
+#[test]
+fn rates_that_do_not_fall_are_refused(rt: HostRuntime) -> Result<(), Fail> {
+    let alloc = rt.alloc();
+    let want = Err(CheckFault::Falling);
+    let found = answer(
+        &rt,
+        alloc,
+        &[(1, 100, 200), (2, 900, 200)],
+        &[(1, 2)],
+        &[((1001, 400), &[1, 2], &[(2, 1, 160_000)])],
+    )?;
+    assert_eq!(rt; found, want);
+    let found = answer(
+        &rt,
+        alloc,
+        &[(1, 1, 1), (2, 2, 1)],
+        &[],
+        &[((1, 1), &[1], &[]), ((2, 1), &[2], &[])],
+    )?;
+    assert_eq!(rt; found, want);
+    let found = answer(
+        &rt,
+        alloc,
+        &[(1, 1, 1)],
+        &[],
+        &[((1_000_000_000_000_000_000_000_000_000_000, 1), &[1], &[])],
+    )?;
+    assert_eq!(rt; found, want);
+    Ok(())
+}
+
+#[test]
+fn flows_that_do_not_certify_are_refused(rt: HostRuntime) -> Result<(), Fail> {
+    let alloc = rt.alloc();
+    let want = Err(CheckFault::Flow);
+    let found = answer(
+        &rt,
+        alloc,
+        &[(1, 100, 200), (2, 900, 200)],
+        &[(1, 2)],
+        &[((1000, 400), &[1, 2], &[(2, 1, 159_999)])],
+    )?;
+    assert_eq!(rt; found, want);
+    let found = answer(
+        &rt,
+        alloc,
+        &[(1, 0, 10), (2, 6, 5), (3, 6, 5)],
+        &[(1, 2), (1, 3)],
+        &[((12, 20), &[1, 2, 3], &[(2, 1, 120), (3, 2, 60)])],
+    )?;
+    assert_eq!(rt; found, want);
+    let found = answer(
+        &rt,
+        alloc,
+        &[(1, 100, 200), (2, 900, 200)],
+        &[(1, 2)],
+        &[((1000, 400), &[1, 2], &[(2, 1, 80_000), (2, 1, 80_000)])],
+    )?;
+    assert_eq!(rt; found, want);
+    let found = answer(
+        &rt,
+        alloc,
+        &[(1, 100, 200), (2, 900, 200)],
+        &[(1, 2)],
+        &[((1000, 400), &[1, 2], &[(2, 9, 160_000)])],
+    )?;
+    assert_eq!(rt; found, want);
+    let found = answer(
+        &rt,
+        alloc,
+        &[(1, 900, 200), (2, 100, 200)],
+        &[(1, 2)],
+        &[((900, 200), &[1], &[]), ((100, 200), &[2], &[(2, 1, 1)])],
+    )?;
+    assert_eq!(rt; found, want);
+    Ok(())
+}
