@@ -6,6 +6,6 @@
 #[cfg(test)]
 mod orders;
 #[cfg(test)]
-mod replies;
-#[cfg(test)]
 mod replay_tests;
+#[cfg(test)]
+mod replies;

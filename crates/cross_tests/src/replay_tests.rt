@@ -1,8 +1,8 @@
 use outside::{Failed, MemSink, MemSource};
+use replay::{Lines, Next, Outcome, Piece, Session, Status, check_accepts_proofs, run};
 use std::alloc::{AllocError, Global};
 use std::process::Abort;
 use std::test::Fail;
-use replay::{Lines, Next, Outcome, Piece, Session, Status, check_accepts_proofs, run};
 
 /// The words of a command line.
 fn words(alloc: Global, words: &[&str]) -> Result<Vec<String>, AllocError> {

@@ -1,5 +1,6 @@
-use chunk_index::{ChunkIndex, Entry, IndexWalk, Level, Tag};
+use chunk_index::{ChunkIndex, Entry, IndexWalk, Tag};
 use fee_rate::FeeRate;
+use graphs::Level;
 use outside::NoMemory;
 use std::alloc::{AllocError, Global};
 use std::cmp::Ordering;

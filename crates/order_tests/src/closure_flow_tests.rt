@@ -1,8 +1,8 @@
 ghost use Rattle.std.specs.Prelude.{◌≡◌, ◌*◌, ◌^◌, ◌<◌, ◌≤◌, length, pos, unsigned_abs, sum_by};
 ghost use Rattle.arithmetic.specs.Sums.{total};
 
-use closure_flow::{Outcome, Scratch, smallest_tight, solve, tight};
 use bitset::Bits;
+use closure_flow::{Outcome, Scratch, smallest_tight, solve, tight};
 use std::alloc::Global;
 use std::marker::Brand;
 use std::process::Abort;

@@ -1,8 +1,8 @@
 ghost use Rattle.std.specs.Prelude.{◌≡◌, ◌<◌, [], ◌∷◌, IfOk};
 
-use cluster_store::{ClusterStore, Exchange, Move, PartWalk, Stored};
 use chunk_index::Tag;
 use cluster::{Cluster, Work};
+use cluster_store::{ClusterStore, Exchange, Move, PartWalk, Stored};
 use fee_rate::{FeeRate, is_rate};
 use graphs::{Level, TxId};
 use std::alloc::Global;

@@ -2,8 +2,8 @@ ghost use Rattle.std.specs.Prelude.{◌≡◌, ◌≢◌, ◌↔◌, ◌*◌, �
 ghost use Rattle.certificate.specs.Accounts.{amount_of};
 ghost use Rattle.certificate.specs.Answers.{AreClaims};
 
-use cluster::{Cluster, Work};
 use certificate::{EdgeList, FlowList, Part, TxList, Written, check};
+use cluster::{Cluster, Work};
 use fee_rate::{FeeRate, Sum, is_fee, is_rate};
 use graphs::{Flow, IdList, TxId};
 use std::alloc::Global;

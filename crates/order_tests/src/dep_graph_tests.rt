@@ -4,8 +4,8 @@ ghost use Rattle.graphs.specs.Closures.{HoldsMembers, is_member};
 ghost use Rattle.bitset.specs.Places.{places};
 ghost use Rattle.dep_graph.specs.Changes.{IsRenumbered};
 
-use dep_graph::DepGraph;
 use bitset::Bits;
+use dep_graph::DepGraph;
 use fee_rate::FeeRate;
 use std::alloc::Global;
 use std::process::Abort;

@@ -1,8 +1,8 @@
 ghost use Rattle.std.specs.Prelude.{◌≡◌, ◌<◌};
 
-use levels::Levels;
 use fee_rate::{FeeRate, is_rate};
 use graph_model::{Level, Limits, TxId};
+use levels::Levels;
 use std::marker::Brand;
 use std::process::Abort;
 use std::sync::ledger;

@@ -8,9 +8,9 @@ mod chunk_index_tests;
 #[cfg(test)]
 mod closure_flow_tests;
 #[cfg(test)]
-mod cluster_tests;
-#[cfg(test)]
 mod cluster_store_tests;
+#[cfg(test)]
+mod cluster_tests;
 #[cfg(test)]
 mod dep_graph_tests;
 #[cfg(test)]

@@ -1,9 +1,9 @@
 ghost use Rattle.std.specs.Prelude.{◌≡◌, ◌*◌, ◌<◌, ◌≤◌};
 ghost use Rattle.graphs.specs.Closures.{is_member};
 
-use linearize::{Linear, PlaceFlow, has_rates, is_component, optimal};
 use closure_flow::Scratch;
 use dep_graph::DepGraph;
+use linearize::{Linear, PlaceFlow, has_rates, is_component, optimal};
 use std::alloc::Global;
 use std::marker::Brand;
 use std::process::Abort;

@@ -1,5 +1,5 @@
-use plain_graph::Plain;
 use graph_model::{Level, Limits, Refusal};
+use plain_graph::Plain;
 use std::process::Abort;
 use std::test::Fail;
 

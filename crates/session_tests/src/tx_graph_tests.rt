@@ -1,6 +1,5 @@
 ghost use Rattle.std.specs.Prelude.{◌≡◌, ◌<◌, ◌≤◌};
 
-use tx_graph::TxGraph;
 use fee_rate::FeeRate;
 use graph_model::{IdBuf, Level, Limits, Refusal, TxId, Verdict};
 use std::alloc::Global;
@@ -10,6 +9,7 @@ use std::sync::ledger;
 use std::sync::ledger::Blank;
 use std::test::Fail;
 use step_count::{Counted, Ledger, Steps};
+use tx_graph::TxGraph;
 
 const ROOMY: Limits = Limits {
     count: 64,

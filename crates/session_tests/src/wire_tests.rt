@@ -3,7 +3,11 @@ use graph_model::{Flow, IdBuf, Level, Limits, Place, Refusal, Verdict};
 use outside::MemSink;
 use std::process::Abort;
 use std::test::Fail;
-use wire::{CertText, Line, TextFault, place_word, read_certificate, read_line, settled_words, verdict_word, write_chunk, write_edge, write_flow, write_ids, write_point, write_refusal, write_tx, write_word};
+use wire::{
+    CertText, Line, TextFault, place_word, read_certificate, read_line, settled_words,
+    verdict_word, write_chunk, write_edge, write_flow, write_ids, write_point, write_refusal,
+    write_tx, write_word,
+};
 
 /// What a line says, read with room for as many names as a line can list.
 fn read(rt: &impl Abort, ids: &mut IdBuf, line: &[u8]) -> Line {
