@@ -1,4 +1,5 @@
 pub mod Changes
+pub mod Copies
 pub mod Kept
 pub mod Lists
 pub mod Maps

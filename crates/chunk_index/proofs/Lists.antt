@@ -103,23 +103,26 @@ module _ {A : Type 0} (key : A → Key) where
       by true e rest = rw e (omega (arith, rest))
       by false e rest = rw e (omega (arith, rest))
 
-  all-without : (P : A → Type 0) (xs : List A) (k : Key) → AllByRecursion P xs → AllByRecursion P (without key xs k)
-  unfolding without
-  all-without P [] k all = tt
-  all-without P (x ∷ xs) k all = by (is_ne (key_cmp (key x) k)) refl (all-without P xs k all.1)
+  all-filter : (P : A → Type 0) (test : A → Bool) (xs : List A) → AllByRecursion P xs → AllByRecursion P (filter test xs)
+  all-filter P test [] all = tt
+  all-filter P test (x ∷ xs) all = by (test x) refl (all-filter P test xs all.1)
     where
-      by : (stays : Bool) → is_ne (key_cmp (key x) k) ≡ stays → AllByRecursion P (without key xs k) → AllByRecursion P (without key (x ∷ xs) k)
+      by : (stays : Bool) → test x ≡ stays → AllByRecursion P (filter test xs) → AllByRecursion P (filter test (x ∷ xs))
       by true e rest = rw e (all.0, rest)
       by false e rest = rw e rest
 
-  pub without_in_order : (xs : List A) (k : Key) → IsInOrder key xs → IsInOrder key (without key xs k)
-  unfolding without IsInOrder
-  without_in_order [] k order = tt
-  without_in_order (x ∷ xs) k order = by (is_ne (key_cmp (key x) k)) refl (without_in_order xs k order.1)
+  pub filter_in_order : (test : A → Bool) (xs : List A) → IsInOrder key xs → IsInOrder key (filter test xs)
+  unfolding IsInOrder
+  filter_in_order test [] order = tt
+  filter_in_order test (x ∷ xs) order = by (test x) refl (filter_in_order test xs order.1)
     where
-      by : (stays : Bool) → is_ne (key_cmp (key x) k) ≡ stays → IsInOrder key (without key xs k) → IsInOrder key (without key (x ∷ xs) k)
-      by true e rest = rw e (all-without (λ y. key_cmp (key x) (key y) ≡ Less) xs k order.0, rest)
+      by : (stays : Bool) → test x ≡ stays → IsInOrder key (filter test xs) → IsInOrder key (filter test (x ∷ xs))
+      by true e rest = rw e (all-filter (λ y. key_cmp (key x) (key y) ≡ Less) test xs order.0, rest)
       by false e rest = rw e rest
+
+  pub without_in_order : (xs : List A) (k : Key) → IsInOrder key xs → IsInOrder key (without key xs k)
+  unfolding without
+  without_in_order xs k order = filter_in_order (λ x. is_ne (key_cmp (key x) k)) xs order
 
   -- ---- what a cut of a list in order is
   pub record IsCut (l : List A) (h : A) (r : List A) : Type 0 where

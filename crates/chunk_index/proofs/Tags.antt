@@ -18,7 +18,7 @@ use Rattle.chunk_index.proofs.Maps.{Slots, items_of, test, first, tail, same_tes
 
 module _ (p : Tag → Bool) where
   -- a test of keys may come before or after the test of tags
-  kept-by : (f : Ordering → Bool) (k : Key) (xs : Items) → entries_by p (kept_by item_key f k xs) ≡ kept_by key_of f k (entries_by p xs)
+  pub kept-by : (f : Ordering → Bool) (k : Key) (xs : Items) → entries_by p (kept_by item_key f k xs) ≡ kept_by key_of f k (entries_by p xs)
   unfolding entries_by
   kept-by f k [] = refl
   kept-by f k (x ∷ xs) = by (p x.1) refl (f (key_cmp (item_key x) k)) refl (kept-by f k xs)

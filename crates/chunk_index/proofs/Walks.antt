@@ -1,18 +1,26 @@
 -- A step of a walk: over the slots that are left, and over a tree.
-use Rattle.std.proofs.Common.{◌≡◌, ℕ, suc, ◌+◌, ◌-◌, ◌<◌, true, false, List, [], ◌∷◌, ◌++◌, map, length, take, drop, get_or, Some, refl, ap, ◌∙◌, arith, length-drop}
-use Rattle.std.proofs.lemmas.List.{append-nil, map-append, get_or-drop}
-use Rattle.std.proofs.lemmas.Option.{get_or_from_slice_get, slice_get_within}
-use Rattle.std.proofs.Math.Seq.{take-suc, drop-cons}
+use Rattle.std.proofs.Common.{◌≡◌, Bool, ◌&&◌, ℕ, suc, ◌+◌, ◌-◌, ◌<◌, ◌≤◌, true, false, List, [], ◌∷◌, ◌++◌, map, length, take, drop, get_or, min, Option, None, Some, MatchOption, refl, sym, ap, ◌∙◌, append_assoc, arith, length-drop}
+use Rattle.std.proofs.lemmas.List.{append-nil, map-append, get_or-drop, drop-drop, length-take-le}
+use Rattle.std.proofs.lemmas.Option.{get_or_from_slice_get}
+use Rattle.std.proofs.Math.Seq.{take-suc, take-add, drop-cons}
 use Rattle.std.specs.List.{slice_get, slice_range}
+use Rattle.std.specs.BTreeMap.Range.{entries_between}
+use Rattle.std.specs.Ordering.{is_le, is_ge, ordering_reverse}
+use Rattle.std.specs.declared.cmp.Ordering.{Ordering}
+use Rattle.std.specs.declared.cmp.Ordering.TheVariants.{Less, Equal, Greater}
+use Rattle.std.specs.declared.ops.Bound.TheVariants.{Included, Unbounded}
 use Rattle.chunk_index.specs.declared.entry.Entry.{Entry}
 use Rattle.chunk_index.specs.declared.key.Key.{Key}
 use Rattle.chunk_index.specs.declared.slot.Slot.{Slot}
 use Rattle.chunk_index.specs.declared.walk.Wanted.{Wanted}
-use Rattle.chunk_index.specs.Items.{Items, entries_by}
+use Rattle.chunk_index.specs.KeyOrder.{key_cmp}
+use Rattle.chunk_index.specs.Keys.{key_of, not_before}
+use Rattle.chunk_index.specs.Items.{Items, item_key, entries_by}
 use Rattle.chunk_index.specs.Slots.{tag_of, entry_from, item_of}
 use Rattle.chunk_index.specs.Walks.{passes, left_in}
+use Rattle.chunk_index.proofs.Lists.{turned, kept_by}
 use Rattle.chunk_index.proofs.Maps.{Slots}
-use Rattle.chunk_index.proofs.Tags.{entries-append}
+use Rattle.chunk_index.proofs.Tags.{entries-append, kept-by}
 
 module _ (all rest : Slots) (k : Key) (s : Slot) (wanted : Wanted) where
   pub first_counts : all ≡ (k, s) ∷ rest → passes wanted (tag_of s.place) ≡ true → left_in all wanted ≡ entry_from k s.number ∷ left_in rest wanted
@@ -37,24 +45,82 @@ module _ (all rest : Slots) (k : Key) (s : Slot) (wanted : Wanted) where
   unfolding entries_by
   last_passed is counts = last_split is ∙ rw counts (append-nil (left_in rest wanted))
 
-module _ (xs : List Entry) (x : Entry) (a b : ℕ) where
-  pub range_first : a < b → slice_get xs a ≡ Some x → slice_range xs a b ≡ x ∷ slice_range xs (a + 1) b
-  range_first below at =
-      let within : a < length xs = slice_get_within xs a x at in
+-- ---- what stands in a range of the map
+pub all_between : (es : Slots) → entries_between key_cmp Unbounded Unbounded es ≡ es
+all_between [] = refl
+all_between (e ∷ es) = ap (λ (t : Slots). e ∷ t) (all_between es)
+
+turn_le : (o : Ordering) → (is_le o && true) ≡ is_ge (ordering_reverse o)
+turn_le Less = refl
+turn_le Equal = refl
+turn_le Greater = refl
+
+items_from : (k : Key) (es : Slots) → map item_of (entries_between key_cmp (Included k) Unbounded es) ≡ kept_by item_key is_ge k (map item_of es)
+items_from k [] = refl
+items_from k (e ∷ es) = by (is_ge (key_cmp e.0 k)) refl (items_from k es)
+  where
+    tested : (is_le (key_cmp k e.0) && true) ≡ is_ge (key_cmp e.0 k)
+    tested = turn_le (key_cmp k e.0) ∙ sym (ap is_ge (turned k e.0 (key_cmp k e.0) refl))
+
+    by : (stays : Bool) → is_ge (key_cmp e.0 k) ≡ stays
+        → map item_of (entries_between key_cmp (Included k) Unbounded es) ≡ kept_by item_key is_ge k (map item_of es)
+        → map item_of (entries_between key_cmp (Included k) Unbounded (e ∷ es)) ≡ kept_by item_key is_ge k (map item_of (e ∷ es))
+    by true is rest = let here = tested ∙ is in rw (here, is) (ap (λ (t : Items). item_of e ∷ t) rest)
+    by false is rest = let here = tested ∙ is in rw (here, is) rest
+
+-- what is wanted of the slots from a key on is what is wanted of all, but for what stands before the key
+pub left_from : (k : Key) (es : Slots) (wanted : Wanted)
+    → left_in (entries_between key_cmp (Included k) Unbounded es) wanted ≡ not_before key_of (left_in es wanted) k
+unfolding not_before
+left_from k es wanted = ap (λ (t : Items). entries_by (passes wanted) t) (items_from k es) ∙ kept-by (passes wanted) is_ge k (map item_of es)
+
+-- ---- the first and the last of a part of a list
+module _ (xs : List Entry) (d : Entry) (a b : ℕ) where
+  pub part_first : a < b → a < length xs → slice_range xs a b ≡ get_or xs a d ∷ slice_range xs (a + 1) b
+  part_first below within =
       let more : b - a ≡ suc (b - (a + 1)) = omega arith in
       let next : suc a ≡ a + 1 = omega arith in
       ap (λ n. take n (drop a xs)) more
-      ∙ ap (λ (t : List Entry). take (suc (b - (a + 1))) t) (drop-cons xs a x within)
-      ∙ ap (λ (h : Entry). h ∷ take (b - (a + 1)) (drop (suc a) xs)) (get_or_from_slice_get xs a x x at)
-      ∙ ap (λ n. x ∷ take (b - (a + 1)) (drop n xs)) next
+      ∙ ap (λ (t : List Entry). take (suc (b - (a + 1))) t) (drop-cons xs a d within)
+      ∙ ap (λ n. get_or xs a d ∷ take (b - (a + 1)) (drop n xs)) next
 
-  pub range_last : a < b → slice_get xs (b - 1) ≡ Some x → slice_range xs a b ≡ slice_range xs a (b - 1) ++ x ∷ []
-  range_last below at =
-      let within : b - 1 < length xs = slice_get_within xs (b - 1) x at in
+  pub part_last : a < b → b ≤ length xs → slice_range xs a b ≡ slice_range xs a (b - 1) ++ get_or xs (b - 1) d ∷ []
+  part_last below within =
       let more : b - a ≡ suc (b - 1 - a) = omega arith in
       let place : a + (b - 1 - a) ≡ b - 1 = omega arith in
       let room : b - 1 - a < length (drop a xs) = omega (arith, length-drop a xs) in
       ap (λ n. take n (drop a xs)) more
-      ∙ take-suc (drop a xs) (b - 1 - a) x room
-      ∙ ap (λ (h : Entry). take (b - 1 - a) (drop a xs) ++ h ∷ [])
-      (get_or-drop a xs (b - 1 - a) x ∙ ap (λ n. get_or xs n x) place ∙ get_or_from_slice_get xs (b - 1) x x at)
+      ∙ take-suc (drop a xs) (b - 1 - a) d room
+      ∙ ap (λ (h : Entry). take (b - 1 - a) (drop a xs) ++ h ∷ []) (get_or-drop a xs (b - 1 - a) d ∙ ap (λ n. get_or xs n d) place)
+
+-- ---- a walk over a tree xs from a up to b, behind what was read ahead
+module _ (xs : List Entry) (a b : ℕ) where
+  pub tree_last : (ahead : List Entry) (x : Entry) → a < b → b ≤ length xs → slice_get xs (b - 1) ≡ Some x
+      → ahead ++ slice_range xs a b ≡ (ahead ++ slice_range xs a (b - 1)) ++ x ∷ []
+  tree_last ahead x below within at =
+      ap (λ (t : List Entry). ahead ++ t) (part_last xs x a b below within ∙ ap (λ (h : Entry). slice_range xs a (b - 1) ++ h ∷ [])
+      (get_or_from_slice_get xs (b - 1) x x at))
+      ∙ sym (append_assoc ahead (slice_range xs a (b - 1)) (x ∷ []))
+
+  -- the first n of them stand before the others
+  parted : (n : ℕ) → n ≤ b - a → slice_range xs a b ≡ take n (drop a xs) ++ slice_range xs (a + n) b
+  parted n few =
+      let sum : b - a ≡ n + (b - (a + n)) = omega arith in
+      ap (λ m. take m (drop a xs)) sum
+      ∙ take-add n (b - (a + n)) (drop a xs)
+      ∙ ap (λ (t : List Entry). take n (drop a xs) ++ take (b - (a + n)) t) (drop-drop n a xs)
+
+  -- once as many were read as are left, up to a number above 0, a walk goes on with what was read
+  pub tree_first : (n most : ℕ) (ahead got rest : List Entry) (o : Option Entry) → n ≡ min (b - a) most → 0 < most → b ≤ length xs → ahead ≡ []
+      → got ≡ take n (drop a xs) → MatchOption o ((got ≡ []) × (rest ≡ [])) (λ x. got ≡ x ∷ rest)
+      → MatchOption o ((ahead ++ slice_range xs a b ≡ []) × (rest ++ slice_range xs (a + n) b ≡ [])) (λ x. ahead ++ slice_range xs a b
+      ≡ x ∷ (rest ++ slice_range xs (a + n) b))
+  tree_first n most ahead got rest None size some within none read (all, left) =
+      let few : n ≤ length (drop a xs) = omega (arith, length-drop a xs) in
+      let nothing : n ≡ 0 = sym (length-take-le n (drop a xs) few) ∙ ap length (sym read ∙ all) in
+      let whole : b - a ≡ 0 = omega arith in
+      let past : b - (a + n) ≡ 0 = omega arith in
+      (rw (none, whole) refl, rw (left, past) refl)
+  tree_first n most ahead got rest (Some x) size some within none read found =
+      let few : n ≤ b - a = omega arith in
+      rw none (parted n few ∙ ap (λ (t : List Entry). t ++ slice_range xs (a + n) b) (sym read ∙ found))

@@ -10,7 +10,7 @@ use Rattle.chunk_index.specs.declared.entry.Tag.{Tag}
 use Rattle.chunk_index.specs.declared.entry.Tag.TheVariants.{Both, MainOnly, TopOnly}
 use Rattle.chunk_index.specs.declared.key.Key.{Key}
 use Rattle.chunk_index.specs.KeyOrder.{key_cmp}
-use Rattle.chunk_index.specs.Keys.{key_of, IsInOrder, has_key, put, without}
+use Rattle.chunk_index.specs.Keys.{key_of, IsInOrder, has_key, not_before, put, without}
 
 abbrev pub Items : Type 0
 Items = List (Entry × Tag)
@@ -73,7 +73,8 @@ entries_in level = entries_by (is_in level)
 abbrev pub entries_tagged : Tag → Items → List Entry
 entries_tagged tag = entries_by (same_tag tag)
 
--- where the items are in order, the entries of each level and of each tag are
+-- where the items are in order, the entries of each level and of each tag are, and so are those of a tag that don't stand before a key
 pub record WalksAreInOrder : Type 0 where
   pub level : (items : Items) (l : Level) → AreInOrder items → IsInOrder key_of (entries_in l items)
   pub tag : (items : Items) (t : Tag) → AreInOrder items → IsInOrder key_of (entries_tagged t items)
+  pub rest : (items : Items) (t : Tag) (k : Key) → AreInOrder items → IsInOrder key_of (not_before key_of (entries_tagged t items) k)

@@ -2,7 +2,7 @@
 use Rattle.std.specs.Prelude.{◌≡◌, Bool, List, [], ◌∷◌, ◌++◌}
 use Rattle.std.specs.List.{filter, list_any, AllByRecursion}
 use Rattle.std.specs.declared.cmp.Ordering.TheVariants.{Less}
-use Rattle.std.specs.Ordering.{is_lt, is_eq, is_ne, is_gt}
+use Rattle.std.specs.Ordering.{is_lt, is_eq, is_ne, is_gt, is_ge}
 use Rattle.chunk_index.specs.declared.entry.Entry.{Entry}
 use Rattle.chunk_index.specs.declared.key.Key.{Key}
 use Rattle.chunk_index.specs.KeyOrder.{key_cmp}
@@ -27,6 +27,10 @@ module _ {A : Type 0} (key : A → Key) where
 
   unfoldable pub behind : List A → Key → List A
   behind xs k = filter (λ x. is_gt (key_cmp (key x) k)) xs
+
+  -- the items whose keys don't stand before k
+  unfoldable pub not_before : List A → Key → List A
+  not_before xs k = filter (λ x. is_ge (key_cmp (key x) k)) xs
 
   -- x in its place: behind all items whose keys stand before its own, and before the others
   unfoldable pub put : List A → A → List A

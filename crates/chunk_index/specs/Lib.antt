@@ -1,4 +1,5 @@
 pub mod Changes
+pub mod Floors
 pub mod Items
 pub mod KeyLaws
 pub mod KeyMeaning

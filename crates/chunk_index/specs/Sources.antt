@@ -1,5 +1,5 @@
 -- What a walk has left.
-use Rattle.std.specs.Prelude.{List, slice_range}
+use Rattle.std.specs.Prelude.{List, ◌++◌, slice_range}
 use Rattle.chunk_index.specs.declared.entry.Entry.{Entry}
 use Rattle.chunk_index.specs.declared.walk.Source.{Source}
 use Rattle.chunk_index.specs.declared.walk.Source.TheVariants.{Slots, Tree}
@@ -10,8 +10,9 @@ use Rattle.chunk_index.specs.Walks.{left_in}
 abbrev pub slots_left : SlotSpan → List Entry
 slots_left s = left_in s.entries s.wanted
 
+-- what was read ahead, and what is left of the tree
 abbrev pub tree_left : TreeSpan → List Entry
-tree_left t = slice_range t.tree.now t.from t.to
+tree_left t = t.ahead ++ slice_range t.tree.now t.from t.to
 
 abbrev pub rest_of : Source → List Entry
 rest_of (Slots s) = slots_left s

@@ -1,13 +1,14 @@
 ghost use Rattle.std.specs.Prelude.{◌≡◌, [], true, false, OnOk, OnErr};
 ghost use Rattle.std.specs.BTreeMap.{insert_entry, IsOrdered};
+ghost use Rattle.chunk_index.specs.declared.entry.Tag.TheVariants.{Both};
 ghost use Rattle.chunk_index.specs.KeyOrder.{key_cmp};
-ghost use Rattle.chunk_index.specs.Keys.{key_of};
+ghost use Rattle.chunk_index.specs.Keys.{key_of, not_before};
 ghost use Rattle.chunk_index.specs.Items.{AreInOrder, has, with_entry, without_entry, with_tag, entries_in, entries_tagged};
 
 use crate::Level;
 use crate::entry::{Entry, Tag};
-use crate::key::Key;
 use crate::slot::{Place, Slot, put_in};
+use crate::sort_key::SortKey;
 use crate::tree::{Node, Tree};
 use crate::walk::{IndexWalk, Wanted};
 use outside::NoMemory;
@@ -20,7 +21,7 @@ use std::marker::Model;
 pub struct ChunkIndex {
     alloc: Global,
     // All entries.
-    slots: BTreeMap<Key, Slot>,
+    slots: BTreeMap<SortKey, Slot>,
     // Those of main alone.
     main: Tree,
     // Those of staging alone.
@@ -56,7 +57,7 @@ impl ChunkIndex {
         ensures found { result ≡ has self.now entry.now }
         ensures order { AreInOrder self.now }
     {
-        self.slots.contains_key(&Key::of(entry))
+        self.slots.contains_key(&SortKey::of(entry))
     }
 
     /// Puts an entry in its place, under a tag. No entry of its key is there.
@@ -90,7 +91,7 @@ impl ChunkIndex {
         requires { has self.old entry.now ≡ true }
         ensures { self.new ≡ without_entry self.old entry.now }
     {
-        let key = Key::of(entry);
+        let key = SortKey::of(entry);
         let Some(mut slot) = self.slots.remove(&key) else {
             unreachable!()
         };
@@ -104,7 +105,7 @@ impl ChunkIndex {
     {
         // No tree has more entries than the map.
         prove!(self.slots.len() < usize::MAX);
-        let key = Key::of(entry);
+        let key = SortKey::of(entry);
         match self.slots.get_mut(&key) {
             Some(slot) => slot.move_to(tag, &key, &mut self.main, &mut self.top),
             None => unreachable!(),
@@ -118,7 +119,7 @@ impl ChunkIndex {
         ensures entries { result ≡ entries_in level self.now }
         ensures order { AreInOrder self.now }
     {
-        IndexWalk::over_slots(self.slots.iter(), Wanted::InLevel(level))
+        IndexWalk::over_slots(self.slots.range(..), Wanted::InLevel(level))
     }
 
     /// The entries of one tag, in key order. Takes no memory.
@@ -129,10 +130,20 @@ impl ChunkIndex {
         ensures order { AreInOrder self.now }
     {
         match tag {
-            Tag::Both => IndexWalk::over_slots(self.slots.iter(), Wanted::OfBoth),
+            Tag::Both => IndexWalk::over_slots(self.slots.range(..), Wanted::OfBoth),
             Tag::MainOnly => IndexWalk::over_tree(&self.main),
             Tag::TopOnly => IndexWalk::over_tree(&self.top),
         }
+    }
+
+    /// The entries of both levels that don't stand before an entry, in key order. Takes no memory.
+    ///
+    /// To start costs one search, wherever the entry stands, and the entry itself needn't be there.
+    pub fn walk_shared_from(&self, first: &Entry) -> IndexWalk<'_>
+        ensures entries { result ≡ not_before key_of (entries_tagged Both self.now) (key_of first.now) }
+        ensures order { AreInOrder self.now }
+    {
+        IndexWalk::over_slots(self.slots.range(SortKey::of(first)..), Wanted::OfBoth)
     }
 }
 
@@ -140,7 +151,11 @@ impl ChunkIndex {
 ///
 /// # Errors
 /// Where there is no memory for it. The slots are as they were.
-fn insert_slot(slots: &mut BTreeMap<Key, Slot>, entry: Entry, place: Place) -> Result<(), NoMemory>
+fn insert_slot(
+    slots: &mut BTreeMap<SortKey, Slot>,
+    entry: Entry,
+    place: Place,
+) -> Result<(), NoMemory>
     ensures ok { OnOk result (slots.new.entries ≡ insert_entry key_cmp slots.old.entries (key_of entry) (record { number = entry.number; place = place })) }
     ensures err { OnErr result (slots.new.entries ≡ slots.old.entries) }
     ensures order { IsOrdered key_cmp slots.new }
@@ -149,6 +164,6 @@ fn insert_slot(slots: &mut BTreeMap<Key, Slot>, entry: Entry, place: Place) -> R
         number: entry.number,
         place,
     };
-    slots.insert(Key::of(&entry), slot)?;
+    slots.insert(SortKey::of(&entry), slot)?;
     Ok(())
 }

@@ -29,9 +29,14 @@ impl Ord for Key {
     ghost matches_eq = { key_ties };
 
     fn cmp(&self, other: &Key) -> Ordering {
-        crossed(other.rate.fee, self.rate.size)
-            .cmp(&crossed(self.rate.fee, other.rate.size))
-            .then(self.serial.cmp(&other.serial))
+        let ours = crossed(other.rate.fee, self.rate.size);
+        let theirs = crossed(self.rate.fee, other.rate.size);
+        let by_rate = ours.cmp(&theirs);
+        if by_rate.is_ne() {
+            return by_rate;
+        }
+        self.serial
+            .cmp(&other.serial)
             .then(self.position.cmp(&other.position))
             .then(self.rate.size.cmp(&other.rate.size))
     }

@@ -6,11 +6,13 @@
 //! entry is in both levels. So only an insertion takes memory, and a walk over one level alone sees nothing else.
 #![tactic(auto)]
 
+mod ahead;
 mod entry;
 mod index;
 mod key;
 mod laws;
 mod slot;
+mod sort_key;
 mod tree;
 mod walk;
 

@@ -5,7 +5,7 @@ ghost use Rattle.chunk_index.specs.Keys.{IsInOrder, has_key, key_of, put, withou
 ghost use Rattle.chunk_index.specs.Slots.{entry_from, moved, tag_of};
 
 use crate::entry::{Entry, Tag};
-use crate::key::Key;
+use crate::sort_key::SortKey;
 use crate::tree::{Node, Tree};
 use std::mem;
 
@@ -39,7 +39,7 @@ impl Slot {
 
     #[tactic(auto, using(crate::proofs::Lists::without_absent))]
     /// Takes the node of a key from where it is. The tag is void from then on.
-    pub fn leave(&mut self, key: &Key, main: &mut Tree, top: &mut Tree) -> Box<Node>
+    pub fn leave(&mut self, key: &SortKey, main: &mut Tree, top: &mut Tree) -> Box<Node>
         requires main_order { IsInOrder key_of main.old }
         requires top_order { IsInOrder key_of top.old }
         requires main_has { has_key key_of main.old key.now ≡ same_tag MainOnly (tag_of self.old.place) }
@@ -56,7 +56,7 @@ impl Slot {
     }
 
     /// Gives the entry of a key another tag, and moves its node to where that wants it.
-    pub fn move_to(&mut self, tag: Tag, key: &Key, main: &mut Tree, top: &mut Tree)
+    pub fn move_to(&mut self, tag: Tag, key: &SortKey, main: &mut Tree, top: &mut Tree)
         requires main_order { IsInOrder key_of main.old }
         requires top_order { IsInOrder key_of top.old }
         requires main_has { has_key key_of main.old key.now ≡ same_tag MainOnly (tag_of self.old.place) }
@@ -117,12 +117,12 @@ pub fn put_in(tree: &mut Tree, entry: Entry, node: Box<Node>)
 }
 
 /// Takes the entry of a key out of a tree, and gives its node. The entry is there.
-fn take_out(tree: &mut Tree, key: &Key) -> Box<Node>
+fn take_out(tree: &mut Tree, key: &SortKey) -> Box<Node>
     requires order { IsInOrder key_of tree.old }
     requires there { has_key key_of tree.old key.now ≡ true }
     ensures { tree.new ≡ without key_of tree.old key.now }
 {
-    let (left, node) = mem::replace(tree, Tree::new()).remove(key);
+    let (left, node) = mem::replace(tree, Tree::new()).remove(key.exact());
     *tree = left;
     node
 }

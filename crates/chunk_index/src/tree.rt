@@ -1,4 +1,4 @@
-ghost use Rattle.std.specs.Prelude.{◌≡◌, ◌+◌, ◌*◌, ◌^◌, ◌<◌, ◌≤◌, [], ◌∷◌, ◌++◌, length, MatchOption, Some, true, false, slice_get};
+ghost use Rattle.std.specs.Prelude.{◌≡◌, ◌+◌, ◌*◌, ◌^◌, ◌<◌, ◌≤◌, [], ◌∷◌, ◌++◌, length, MatchOption, Some, true, false, slice_get, take, drop};
 ghost use Rattle.chunk_index.specs.Keys.{IsInOrder, has_key, key_of, put, without};
 ghost use Rattle.chunk_index.specs.Trees.{AreBalanced, AreNearlyBalanced};
 
@@ -222,6 +222,32 @@ impl Tree {
                     node.entry
                 } else {
                     node.right.get(at - node.left.len - 1)
+                }
+            }
+        }
+    }
+
+    /// Fills a slice with the entries from the one with that many before it on. A few steps to get there, then about one an entry.
+    pub fn copy_from(&self, at: usize, out: &mut [Entry])
+        requires { at + length out.old ≤ length self.now }
+        ensures { out.new ≡ take (length out.old) (drop at self.now) }
+    {
+        if out.is_empty() {
+            return;
+        }
+        match &self.root {
+            None => unreachable!(),
+            Some(root) => {
+                let node: &Node = root;
+                let left = node.left.len;
+                if left < at {
+                    node.right.copy_from(at - left - 1, out);
+                } else if out.len() <= left - at {
+                    node.left.copy_from(at, out);
+                } else {
+                    node.left.copy_from(at, &mut out[..left - at]);
+                    out[left - at] = node.entry;
+                    node.right.copy_from(0, &mut out[left - at + 1..]);
                 }
             }
         }

@@ -3,9 +3,10 @@ ghost use Rattle.std.specs.Iterator.{YieldsFirst, YieldsLast, item_count};
 ghost use Rattle.chunk_index.specs.Walks.{left_in, passes};
 
 use crate::Level;
+use crate::ahead::Ahead;
 use crate::entry::{Entry, Tag};
-use crate::key::Key;
 use crate::slot::Slot;
+use crate::sort_key::SortKey;
 use crate::tree::Tree;
 use std::collections::btree_map;
 use std::marker::Model;
@@ -37,13 +38,15 @@ enum Source<'a> {
 /// The slots that are left, and which of them count.
 #[derive(Drop)]
 struct SlotSpan<'a> {
-    entries: btree_map::Iter<'a, Key, Slot>,
+    entries: btree_map::Range<'a, SortKey, Slot>,
     wanted: Wanted,
 }
 
-/// The entries of a tree from the one with `from` before it up to the one with `to` before it, that one not included.
+/// Entries that were read ahead, and behind them those of a tree from the one with `from` before it up to the one with `to`
+/// before it, that one not included.
 #[derive(Drop)]
 struct TreeSpan<'a> {
+    ahead: Ahead,
     tree: &'a Tree,
     from: usize,
     to: usize,
@@ -73,7 +76,7 @@ impl Wanted {
 
 impl<'a> IndexWalk<'a> {
     /// Over the wanted ones of some slots.
-    pub fn over_slots(entries: btree_map::Iter<'a, Key, Slot>, wanted: Wanted) -> IndexWalk<'a>
+    pub fn over_slots(entries: btree_map::Range<'a, SortKey, Slot>, wanted: Wanted) -> IndexWalk<'a>
         ensures { result ≡ left_in entries.entry wanted }
     {
         IndexWalk {
@@ -87,6 +90,7 @@ impl<'a> IndexWalk<'a> {
     {
         IndexWalk {
             source: Source::Tree(TreeSpan {
+                ahead: Ahead::new(),
                 tree,
                 from: 0,
                 to: tree.len(),
@@ -152,16 +156,17 @@ impl<'a> SlotSpan<'a> {
 impl<'a> TreeSpan<'a> {
     ghost use Rattle.chunk_index.specs.Sources.{tree_left};
 
-    /// The first entry that is left.
+    /// The first entry that is left. Where none was read ahead, some are read, for one search by rank.
     fn take_first(&mut self) -> Option<Entry>
         ensures { YieldsFirst tree_left self.old result self.new }
     {
-        if self.from == self.to {
-            return None;
+        if let Some(entry) = self.ahead.take_first() {
+            return Some(entry);
         }
-        let entry = self.tree.get(self.from);
-        self.from += 1;
-        Some(entry)
+        let count = (self.to - self.from).min(Ahead::MOST);
+        self.ahead.read(self.tree, self.from, count);
+        self.from += count;
+        self.ahead.take_first()
     }
 
     /// The last entry that is left.
@@ -169,7 +174,7 @@ impl<'a> TreeSpan<'a> {
         ensures { YieldsLast tree_left self.old result self.new }
     {
         if self.from == self.to {
-            return None;
+            return self.ahead.take_last();
         }
         self.to -= 1;
         Some(self.tree.get(self.to))
