@@ -1,5 +1,7 @@
 pub mod Changes
+pub mod Changing
 pub mod Entries
+pub mod Gathering
 pub mod Kept
 pub mod PassedOver
 pub mod KeyRings

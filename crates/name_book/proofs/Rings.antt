@@ -1,6 +1,6 @@
 -- To share a ring is an equivalence among the live names, a ring is one list, and steps go round it. Where its steps stay, so does
 -- the list.
-use Rattle.std.proofs.Common.{◌≡◌, ◌≢◌, ◌↔◌, ◌==◌, ℕ, zero, suc, ◌-◌, ◌≤◌, true, false, cond, not, ◌&&◌, List, [], ◌∷◌, length, if◌then◌else◌, Some, None, refl, sym, ap, subst, ◌∙◌, inl, inr, arith, true≢false}
+use Rattle.std.proofs.Common.{◌≡◌, ◌≢◌, ◌↔◌, ◌==◌, ℕ, zero, suc, ◌-◌, ◌≤◌, true, false, cond, not, ◌&&◌, List, [], ◌∷◌, length, if◌then◌else◌, slice_get, Some, None, refl, sym, ap, subst, ◌∙◌, inl, inr, arith, true≢false}
 use Rattle.std.specs.Prelude.{Contains}
 use Rattle.std.specs.Option.{unwrap_or}
 use Rattle.std.specs.Ordering.{nat_cmp}
@@ -13,7 +13,7 @@ use Rattle.lists.specs.Distinct.{AreDistinct}
 use Rattle.lists.proofs.Entries.{Contains-head, Contains-later, Contains-cases}
 use Rattle.node_pool.specs.Cycles.{walked, Reaches, GoesAlong}
 use Rattle.node_pool.proofs.Cycles.{Reaches-trans}
-use Rattle.name_book.specs.Books.{Book, IsNamed, steps_in, after, AreRung, IsRing, names_from, names_until, ring_of}
+use Rattle.name_book.specs.Books.{Book, IsNamed, steps_in, after, other_after, AreRung, IsRing, names_from, names_until, ring_of}
 use Rattle.name_book.specs.Changes.{KeepsRing}
 
 pub none_some : {A : Type 0} (x : A) → None ≡ Some x → ⊥
@@ -204,3 +204,14 @@ ring-next book r a [] named ring = absurd (none_some a ring.first)
 ring-next book r a (x ∷ []) named ring = subst (AreRung book r a) (sym ring.along.1) (rung-itself book r a named)
 ring-next book r a (x ∷ y ∷ ids) named ring =
     subst (AreRung book r a) (sym ring.along.1.0) ((ring.members y).0 (Contains-later x y (y ∷ ids) (Contains-head y ids)))
+
+-- the second of a ring's names is the one after the first
+pub ring-second : (book : Book) (r a : ℕ) (ids : List ℕ) → IsRing book r a ids → slice_get ids 1 ≡ other_after book r a
+ring-second book r a [] ring = absurd (none_some a ring.first)
+ring-second book r a (x ∷ []) ring = sym (ap (λ b. cond b None (Some (after book r a))) (eq-eqb (after book r a) a ring.along.1))
+ring-second book r a (x ∷ y ∷ ids) ring =
+    let on : after book r a ≢ a = λ back. ring.once.0 (subst (Contains (y ∷ ids)) (sym ring.along.1.0 ∙ back ∙ ring.along.0) (Contains-head y ids)) in
+    elim (eqb_tells (after book r a) a) [
+      | inl back ↦ absurd (on back.1)
+      | inr other ↦ ap Some (sym ring.along.1.0) ∙ sym (ap (λ b. cond b None (Some (after book r a))) other.0)
+    ]

@@ -1,5 +1,5 @@
 -- What a contract sees of a table of names: the names, and in each of two rings the name after each.
-use Rattle.std.specs.Prelude.{◌≡◌, ◌<◌, ◌↔◌, ◌==◌, ℕ, zero, suc, Bool, true, List, [], ◌∷◌, Some, unwrap_or, slice_get, Contains, refl, if◌then◌else◌}
+use Rattle.std.specs.Prelude.{◌≡◌, ◌<◌, ◌↔◌, ◌==◌, ℕ, zero, suc, Bool, true, List, [], ◌∷◌, Option, Some, None, unwrap_or, slice_get, Contains, refl, if◌then◌else◌}
 use Rattle.std.specs.Coded.{Coded, code_by, coded×, coded_ℕ}
 use Rattle.std.specs.Ordering.{nat_cmp}
 use Rattle.std.specs.FinMap as finmap
@@ -46,6 +46,10 @@ steps_in book (suc r) = book.ring_1
 -- the name after this one in its ring r: itself where it is alone, or isn't live
 abbrev pub after : Book → ℕ → ℕ → ℕ
 after book r id = unwrap_or (finmap.get (steps_in book r) id) id
+
+-- the name after this one in its ring r, where it isn't alone
+abbrev pub other_after : Book → ℕ → ℕ → Option ℕ
+other_after book r id = if after book r id == id then None else Some (after book r id)
 
 -- b stands in the ring r of a: both are live, and steps lead from each to the other
 pub record AreRung (book : Book) (r a b : ℕ) : Type 0 where

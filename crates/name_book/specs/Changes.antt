@@ -1,6 +1,6 @@
 -- What becomes of a ring of names, said three ways: which name comes after each, which two share a ring, and what the rings are as
 -- lists.
-use Rattle.std.specs.Prelude.{◌≡◌, ◌≢◌, ◌⊎◌, ◌↔◌, ◌==◌, ℕ, not, List, ◌∷◌, ◌++◌, if◌then◌else◌}
+use Rattle.std.specs.Prelude.{◌≡◌, ◌≢◌, ◌⊎◌, ◌↔◌, ◌==◌, ℕ, not, List, ◌∷◌, ◌++◌, Contains, if◌then◌else◌}
 use Rattle.std.specs.List.{filter}
 use Rattle.name_book.specs.Books.{Book, IsNamed, steps_in, after, AreRung, names_until, ring_of}
 
@@ -52,3 +52,23 @@ pub record Unites (old new : Book) (r a b : ℕ) : Type 0 where
       ⊎ (AreRung old r x b × AreRung old r a y))
   pub lists : (x : ℕ) → IsNamed old x → (AreRung old r x a → ⊥) → (AreRung old r x b → ⊥) → ring_of new r x ≡ ring_of old r x
   pub one : (xs ys : List ℕ) → ring_of old r a ≡ a ∷ xs → ring_of old r b ≡ b ∷ ys → ring_of new r a ≡ a ∷ ys ++ b ∷ xs
+
+-- two names share ring r, and neither is one of these
+abbrev pub AreRungBeside : Book → ℕ → List ℕ → ℕ → ℕ → Type 0
+AreRungBeside book r ids x y = AreRung book r x y × (Contains ids x → ⊥) × (Contains ids y → ⊥)
+
+-- these names leave their rings r, and make one of their own
+abbrev pub MakesRing : Book → Book → ℕ → List ℕ → Type 0
+MakesRing old new r ids = (x y : ℕ) → AreRung new r x y ↔ (AreRungBeside old r ids x y ⊎ (Contains ids x × Contains ids y))
+
+-- a name stands in the ring r of another, or is one of these
+abbrev pub ComesTo : Book → ℕ → ℕ → List ℕ → ℕ → Type 0
+ComesTo book r to ids x = AreRung book r to x ⊎ Contains ids x
+
+-- these names leave their rings r, and join that of another name
+abbrev pub Gathers : Book → Book → ℕ → ℕ → List ℕ → Type 0
+Gathers old new r to ids = (x y : ℕ) → AreRung new r x y ↔ (AreRungBeside old r ids x y ⊎ (ComesTo old r to ids x × ComesTo old r to ids y))
+
+-- these names join the ring r of another name, and the others share it as they did
+abbrev pub JoinsAll : Book → Book → ℕ → ℕ → List ℕ → Type 0
+JoinsAll old new r to ids = (x y : ℕ) → AreRung new r x y ↔ (AreRung old r x y ⊎ (ComesTo old r to ids x × ComesTo old r to ids y))

@@ -1,11 +1,11 @@
 -- How a table of names is kept: an index from each name to the key of its node, and the nodes, whose values are the names.
-use Rattle.std.specs.Prelude.{◌≡◌, ◌≤◌, ◌↔◌, ℕ, List, map, length, Option, Some, nat_eq, unwrap_or}
+use Rattle.std.specs.Prelude.{◌≡◌, ◌≢◌, ◌<◌, ◌≤◌, ◌↔◌, ℕ, List, map, length, Option, Some, nat_eq, unwrap_or}
 use Rattle.std.specs.List.{IsDistinct}
 use Rattle.std.specs.Map.{keys_of, lookup}
 use Rattle.std.specs.FinMap as finmap
 use Rattle.std.specs.FinSet as set
 use Rattle.node_pool.specs.declared.pool.Key.{Key}
-use Rattle.node_pool.specs.Nodes.{Nodes, value_at, next_key, live_count}
+use Rattle.node_pool.specs.Nodes.{Nodes, value_at, next_key, live_count, SameValues, SameCounts, SameOrder}
 use Rattle.node_pool.specs.Laws.{RingsGoRound}
 use Rattle.name_book.specs.Books.{Book, Steps}
 
@@ -47,3 +47,9 @@ pub record IsTable (nodes : Nodes ℕ) (entries : List (ℕ × Key)) (room spare
   pub count : live_count nodes ≡ length entries
   pub index-room : spare ≤ room
   pub node-room : spare ≤ nodes.spare
+
+-- Ring r of some nodes changes, and nothing else: the names stay in their nodes, and the rings of the other number in their order.
+pub record ChangesRing (old new : Nodes ℕ) (r : ℕ) : Type 0 where
+  pub values : SameValues old new
+  pub counts : SameCounts old new
+  pub order : (q : ℕ) → q < 2 → q ≢ r → SameOrder old new q

@@ -1,10 +1,11 @@
-ghost use Rattle.std.specs.Prelude.{◌≡◌, ◌≢◌, ◌+◌, ◌-◌, ◌<◌, ◌≤◌, ◌^◌, ℕ, false, Some, IsOk, IsSome, OnOk};
+ghost use Rattle.std.specs.Prelude.{◌≡◌, ◌≢◌, ◌+◌, ◌-◌, ◌<◌, ◌≤◌, ◌^◌, ℕ, false, Contains, IsOk, OnOk};
 ghost use Rattle.std.specs.FinMap as finmap;
 ghost use Rattle.std.specs.FinSet as set;
-ghost use Rattle.name_book.specs.Books.{has, IsNamed, after, AreRung, IsRing, ring_of, AreRings};
-ghost use Rattle.name_book.specs.Changes.{KeepsRing, GainsAlone, Loses, CutsOut, Unites};
-ghost use Rattle.name_book.specs.Tables.{key_of};
+ghost use Rattle.lists.specs.Distinct.{AreDistinct};
+ghost use Rattle.name_book.specs.Books.{has, IsNamed, after, other_after, AreRung, IsRing, ring_of, AreRings};
+ghost use Rattle.name_book.specs.Changes.{KeepsRing, GainsAlone, Loses, CutsOut, Unites, MakesRing, JoinsAll};
 
+use crate::keys::{cut_key, find_key, join_names, move_names, name_after};
 use crate::ring::RingNames;
 use graphs::TxId;
 use indexmap::IndexMap;
@@ -37,17 +38,6 @@ impl Model for NameBook {
     ghost view = { λ b. book_of b.nodes b.names.entries b.spare };
 
     ghost invariant = { λ b. IsTable b.nodes b.names.entries (index_spare b.names) b.spare };
-}
-
-// The key of a live name.
-fn find_key(names: &IndexMap<TxId, Key>, id: TxId) -> Key
-    requires { IsSome (key_of names.now.entries id) }
-    ensures { key_of names.now.entries id ≡ Some result }
-{
-    match names.get(&id) {
-        Some(&key) => key,
-        None => unreachable!(),
-    }
 }
 
 impl NameBook {
@@ -170,6 +160,65 @@ impl NameBook {
         let key = find_key(&self.names, a);
         self.nodes.cut(r, key);
         self.nodes.rings_go_round();
+    }
+
+    /// Names leave their rings `r` and make one of their own. The others of each ring stay together. The rings of the other number stay,
+    /// in their order. Takes no memory, and looks each name up once.
+    pub fn make_ring(&mut self, r: usize, names: &[TxId])
+        requires r_in_range { r < 2 }
+        requires live { (x : ℕ) → Contains names.now x → IsNamed self.old x }
+        requires once { AreDistinct names.now }
+        ensures names { self.new.names ≡ self.old.names }
+        ensures made { MakesRing self.old self.new r names.now }
+        ensures others { (q : ℕ) → q < 2 → q ≢ r → KeepsRing self.old self.new q }
+        ensures spare { self.new.spare ≡ self.old.spare }
+        ensures issued { self.new.issued ≡ self.old.issued }
+    {
+        if let Some((&first, rest)) = names.split_first() {
+            let to = find_key(&self.names, first);
+            cut_key(&mut self.nodes, r, to);
+            move_names(&mut self.nodes, &self.names, r, to, rest);
+            self.nodes.rings_go_round();
+        }
+    }
+
+    /// Joins names, each alone in its ring `r`, to the ring of `to`, which is none of them. The rings of the other number stay, in
+    /// their order. Takes no memory, and looks each name up once.
+    pub fn join_all(&mut self, r: usize, to: TxId, names: &[TxId])
+        requires r_in_range { r < 2 }
+        requires to { IsNamed self.old to }
+        requires live { (x : ℕ) → Contains names.now x → IsNamed self.old x }
+        requires apart { Contains names.now to → ⊥ }
+        requires once { AreDistinct names.now }
+        requires alone { (x y : ℕ) → Contains names.now x → AreRung self.old r x y → x ≡ y }
+        ensures names { self.new.names ≡ self.old.names }
+        ensures joined { JoinsAll self.old self.new r to names.now }
+        ensures others { (q : ℕ) → q < 2 → q ≢ r → KeepsRing self.old self.new q }
+        ensures spare { self.new.spare ≡ self.old.spare }
+        ensures issued { self.new.issued ≡ self.old.issued }
+    {
+        let key = find_key(&self.names, to);
+        join_names(&mut self.nodes, &self.names, r, key, names);
+        self.nodes.rings_go_round();
+    }
+
+    /// Cuts a live name out of its ring `r` as `cut` does, and answers the name that came after it, or `None` where it was alone. Takes
+    /// no memory, and looks the name up once.
+    pub fn cut_next(&mut self, r: usize, a: TxId) -> Option<TxId>
+        requires r_in_range { r < 2 }
+        requires live { IsNamed self.old a }
+        ensures next { result ≡ other_after self.old r a }
+        ensures names { self.new.names ≡ self.old.names }
+        ensures cut { CutsOut self.old self.new r a }
+        ensures others { (q : ℕ) → q < 2 → q ≢ r → KeepsRing self.old self.new q }
+        ensures spare { self.new.spare ≡ self.old.spare }
+        ensures issued { self.new.issued ≡ self.old.issued }
+    {
+        let key = find_key(&self.names, a);
+        let next = name_after(&self.nodes, r, key);
+        cut_key(&mut self.nodes, r, key);
+        self.nodes.rings_go_round();
+        next
     }
 
     /// The names of the ring `r` of `a`, each once, `a` first, each before the name after it.

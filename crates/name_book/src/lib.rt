@@ -4,6 +4,7 @@
 #![tactic(auto)]
 
 mod book;
+mod keys;
 mod ring;
 #[cfg(test)]
 mod tests;

@@ -2,11 +2,13 @@ ghost use Rattle.std.specs.Prelude.{◌≡◌, ◌+◌, ◌-◌, ◌<◌, ◌≤
 ghost use Rattle.name_book.specs.Books.{IsNamed, AreRung};
 
 mod rounds;
+mod several;
 
 use crate::NameBook;
 use graphs::TxId;
 use outside::NoMemory;
 use rounds::{cut_each, remove_ring};
+use several::{join_all, make_ring};
 use std::process::Abort;
 use std::test::Fail;
 
@@ -19,6 +21,9 @@ enum Step {
     Cut(usize, TxId),
     CutEach(TxId),
     RemoveRing(usize, TxId),
+    MakeRing(usize, [TxId; 3]),
+    JoinAll(usize, TxId, [TxId; 2]),
+    CutNext(usize, TxId),
 }
 
 // Whether `b` stands in the ring of `a`.
@@ -35,8 +40,8 @@ fn are_rung(book: &NameBook, r: usize, a: TxId, b: TxId) -> bool
     false
 }
 
-// Takes a step where its condition holds, and else none.
-fn take(book: &mut NameBook, step: Step) -> Result<(), NoMemory>
+// Takes a step where its condition holds, and else none. Answers the name that `cut_next` does.
+fn take(book: &mut NameBook, step: Step) -> Result<Option<TxId>, NoMemory>
     requires issued { book.old.issued < 2 ^ 64 - 1 }
     ensures issued { book.new.issued ≤ book.old.issued + 1 }
 {
@@ -72,8 +77,15 @@ fn take(book: &mut NameBook, step: Step) -> Result<(), NoMemory>
                 remove_ring(book, r, id);
             }
         }
+        Step::MakeRing(r, names) => make_ring(book, r, names),
+        Step::JoinAll(r, to, names) => join_all(book, r, to, names),
+        Step::CutNext(r, a) => {
+            if r < 2 && book.has(a) {
+                return Ok(book.cut_next(r, a));
+            }
+        }
     }
-    Ok(())
+    Ok(None)
 }
 
 // Whether these are the names of a ring in their order; none are where the name isn't live.
@@ -97,7 +109,7 @@ fn shows(book: &NameBook, r: usize, id: TxId, want: &[TxId]) -> bool
 fn follow_the_table(rt: &impl Abort, book: &mut NameBook) -> Result<(), NoMemory>
     requires { book.old.issued ≡ 0 }
 {
-    let rows: [(Step, TxId, &[TxId], &[TxId]); 16] = [
+    let rows: [(Step, TxId, &[TxId], &[TxId]); 20] = [
         (Step::Insert(1), 1, &[1], &[1]),
         (Step::Insert(2), 2, &[2], &[2]),
         (Step::Join(0, 1, 2), 1, &[1, 2], &[1]),
@@ -112,7 +124,11 @@ fn follow_the_table(rt: &impl Abort, book: &mut NameBook) -> Result<(), NoMemory
         (Step::Insert(3), 3, &[3], &[3]),
         (Step::Join(0, 2, 1), 1, &[1, 2, 4], &[1]),
         (Step::Join(1, 3, 4), 2, &[2, 4, 1], &[2, 4, 3]),
-        (Step::CutEach(1), 2, &[2, 4, 1], &[2]),
+        (Step::MakeRing(0, [4, 3, 1]), 4, &[4, 1, 3], &[4, 3, 2]),
+        (Step::CutNext(0, 3), 1, &[1, 4], &[1]),
+        (Step::JoinAll(0, 4, [2, 3]), 4, &[4, 3, 2, 1], &[4, 3, 2]),
+        (Step::CutEach(1), 2, &[2, 1, 4, 3], &[2]),
+        (Step::Cut(0, 3), 3, &[3], &[3]),
         (Step::RemoveRing(0, 4), 2, &[], &[]),
     ];
     for (step, of, ring_0, ring_1) in rows {
@@ -129,4 +145,15 @@ fn rings_follow_the_table(rt: HostRuntime) -> Result<(), Fail> {
     let mut book = NameBook::new(rt.alloc());
     let result = follow_the_table(&rt, &mut book);
     Ok(result?)
+}
+
+#[test]
+fn a_cut_tells_the_name_after(rt: HostRuntime) -> Result<(), Fail> {
+    let mut book = NameBook::new(rt.alloc());
+    take(&mut book, Step::Insert(1))?;
+    take(&mut book, Step::Insert(2))?;
+    take(&mut book, Step::Join(0, 1, 2))?;
+    assert_eq!(rt; take(&mut book, Step::CutNext(0, 1))?, Some(2));
+    assert_eq!(rt; take(&mut book, Step::CutNext(0, 1))?, None);
+    Ok(())
 }
