@@ -1,5 +1,5 @@
 -- What stands in a level beside others: where the level's fees are at least 0, it is parts of a level, and so are the entries that a test picks.
-use Rattle.std.proofs.Common.{◌≡◌, ℕ, ◌*◌, ◌≤◌, unsigned_abs, Bool, true, false, cond, List, [], ◌∷◌, ◌++◌, map, ℤ, pos, refl, sym, ap, subst, arith}
+use Rattle.std.proofs.Common.{◌≡◌, ℕ, ◌*◌, ◌≤◌, unsigned_abs, Bool, true, false, cond, List, [], ◌∷◌, ◌++◌, map, ℤ, pos, negsuc, ◌≤ℤ◌, refl, sym, ap, subst, arith}
 use Rattle.std.specs.Prelude.{Contains, filter, sum_by}
 use Rattle.std.specs.List.Sorted.{IsPermutation}
 use Rattle.std.proofs.lemmas.Int.{ints}
@@ -17,9 +17,16 @@ use Rattle.graphs.specs.Rates.{sum_of, Falls}
 use Rattle.diagram.specs.Parts.{AreLevelParts}
 use Rattle.replacement.specs.Changes.{EndsNonNegative, AreNonNegative, IsEither, IsMerged, ChangesAreLevelParts, TestedPartsMerge, HaveSizes}
 use Rattle.replacement.proofs.PartLists.{last_decides, empty_ends, non_negative-rest, all_non_negative}
-use Rattle.replacement.proofs.GainLemmas.{above_zero, zero_is}
 
 -- ---- sums of fees of at least 0
+abbrev above_zero : ℤ → ℕ
+above_zero (pos n) = n
+above_zero (negsuc n) = 0
+
+zero_is : (z : ℤ) → pos 0 ≤ℤ z → pos (above_zero z) ≡ z
+zero_is (pos n) h = refl
+zero_is (negsuc n) h = absurd (omega (arith, ints, h))
+
 abbrev paid : Sum → ℕ
 paid part = above_zero part.fee
 

@@ -1,5 +1,6 @@
 pub mod PartLists
-pub mod GainLemmas
-pub mod TangentLemmas
+pub mod SlopeLists
+pub mod SlopeHeights
 pub mod MergeLemmas
+pub mod MergedWalks
 pub mod LevelLemmas

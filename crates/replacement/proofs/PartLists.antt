@@ -1,39 +1,20 @@
 -- Lists of parts: members, fees, sums.
-use Rattle.std.proofs.Common.{◌≡◌, ℕ, zero, suc, ◌+◌, ◌≤◌, List, [], ◌∷◌, ◌++◌, map, length, ◌↔◌, ◌⊎◌, inl, inr, ℤ, pos, ◌≤ℤ◌, refl, sym, ap, ◌∙◌, subst, arith}
+use Rattle.std.proofs.Common.{◌≡◌, ◌≤◌, List, [], ◌∷◌, ◌++◌, map, length, ◌↔◌, inl, inr, pos, ◌≤ℤ◌, refl, sym, ap, ◌∙◌, subst, arith}
 use Rattle.std.specs.Prelude.{Contains}
 use Rattle.std.proofs.lemmas.Int.{ints}
-use Rattle.std.proofs.lemmas.List.Sums.{sum_by-cons}
 use Rattle.graphs.proofs.CornerLemmas.{sizes-rest}
 use Rattle.graphs.proofs.TangentLemmas.{falls-tail}
 use Rattle.lists.proofs.Entries.{Contains-head, Contains-later, Contains-cases, none_in_empty, rest_of}
 use Rattle.arithmetic.proofs.Products.{scale_keeps, scale_reflects}
-use Rattle.arithmetic.proofs.Rates.{cross_trans}
 use Rattle.fee_rate.specs.declared.rates.Sum.{Sum}
 use Rattle.fee_rate.specs.Rates.{AtMost}
-use Rattle.graphs.specs.Rates.{sum_of, Falls}
+use Rattle.graphs.specs.Rates.{Falls}
 use Rattle.fee_rate.specs.declared.rates.FeeRate.{FeeRate}
 use Rattle.std.proofs.lemmas.List.{map-append}
 use Rattle.diagram.specs.Parts.{rate_of}
 use Rattle.replacement.specs.Changes.{EndsNonNegative, AreNonNegative, HaveSizes}
 
--- ---- members
-
--- ---- sums
-
--- ---- rates
-
--- a rate stays at most another where the other's fee rises
-pub at_most_more : (a : Sum) (f g : ℤ) (n : ℕ) → f ≤ℤ g → AtMost a (record { fee = f; size = n }) → AtMost a (record { fee = g; size = n })
-at_most_more a f g n more low =
-    let up = scale_keeps a.size f g more in
-    record { crossed = omega (arith, ints, up, low.crossed) }
-
--- and where its own falls
-pub at_most_less : (a : Sum) (f g : ℤ) (n : ℕ) → f ≤ℤ g → AtMost (record { fee = g; size = n }) a → AtMost (record { fee = f; size = n }) a
-at_most_less a f g n less low =
-    let up = scale_keeps a.size f g less in
-    record { crossed = omega (arith, ints, up, low.crossed) }
-
+-- ---- fees of at least 0
 pub non_negative-rest : (x : Sum) (xs : List Sum) → AreNonNegative (x ∷ xs) → AreNonNegative xs
 non_negative-rest x xs paid = record {
   fees = λ part h. paid.fees part (Contains-later x part xs h);

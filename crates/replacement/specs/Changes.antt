@@ -1,10 +1,10 @@
 -- Levels told by their changes: the parts that stand in one level alone, beside those that stand in both.
-use Rattle.std.specs.Prelude.{◌≡◌, ◌↔◌, ◌≤◌, pos, ◌≤ℤ◌, Bool, true, false, List, [], ◌∷◌, ◌++◌, map, filter, Contains, Option}
+use Rattle.std.specs.Prelude.{◌≡◌, ◌↔◌, ◌⊎◌, ◌+◌, ◌≤◌, pos, ◌≤ℤ◌, Bool, true, false, List, [], ◌∷◌, ◌++◌, map, filter, Contains, Option}
 use Rattle.std.specs.List.Sorted.{IsPermutation}
 use Rattle.fee_rate.specs.declared.rates.FeeRate.{FeeRate}
 use Rattle.fee_rate.specs.declared.rates.Sum.{Sum}
 use Rattle.graphs.specs.declared.names.Verdict.{Verdict}
-use Rattle.graphs.specs.Rates.{Falls}
+use Rattle.graphs.specs.Rates.{sum_of, Falls}
 use Rattle.graphs.specs.Diagrams.{corners_of, Compares, JoinsEqualRates}
 use Rattle.diagram.specs.Parts.{AreLevelParts, YieldsParts}
 
@@ -44,6 +44,27 @@ CommonPartsKeepVerdicts =
     (mains tops common main top old new before after : List Sum) (verdict : Verdict)
     → AreNonNegative mains → AreNonNegative tops → AreNonNegative common → IsMerged mains common main → IsMerged tops common top
     → JoinsEqualRates mains old → JoinsEqualRates tops new → JoinsEqualRates main before → JoinsEqualRates top after
+    → Compares (corners_of new) (corners_of old) verdict ↔ Compares (corners_of after) (corners_of before) verdict
+
+-- parts together are at least as large as two other lists differ in size
+pub record CoverDifference (mains tops parts : List Sum) : Type 0 where
+  pub main : (sum_of mains).size ≤ (sum_of tops).size + (sum_of parts).size
+  pub top : (sum_of tops).size ≤ (sum_of mains).size + (sum_of parts).size
+
+-- Parts that stand in both of two levels, in falling rate: upper ones, and behind them a tail that is enough to compare the
+-- levels by, as it covers the difference of what stands in one alone, or as no upper part has a fee below 0.
+pub record IsEnough (mains tops upper tail : List Sum) : Type 0 where
+  pub falling : Falls (upper ++ tail)
+  pub some : HaveSizes (upper ++ tail)
+  pub enough : ((part : Sum) → Contains upper part → pos 0 ≤ℤ part.fee) ⊎ CoverDifference mains tops tail
+
+-- Of the parts that stand in both levels the best ones change no verdict, where the others are enough: the levels compare as they do without them.
+abbrev pub BestCommonPartsKeepVerdicts : Type 0
+BestCommonPartsKeepVerdicts =
+    (mains tops upper tail low_main low_top main top old new before after : List Sum) (verdict : Verdict)
+    → HaveSizes mains → HaveSizes tops → IsEnough mains tops upper tail
+    → IsMerged mains tail low_main → IsMerged tops tail low_top → IsMerged mains (upper ++ tail) main → IsMerged tops (upper ++ tail) top
+    → JoinsEqualRates low_main old → JoinsEqualRates low_top new → JoinsEqualRates main before → JoinsEqualRates top after
     → Compares (corners_of new) (corners_of old) verdict ↔ Compares (corners_of after) (corners_of before) verdict
 
 -- Where the last part of a level has a fee of at least 0, all parts have one, and what stands in it alone, in falling rate, is parts of a level again.

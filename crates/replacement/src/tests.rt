@@ -1,10 +1,13 @@
-ghost use Rattle.std.specs.Prelude.{◌≤◌, length, map};
+ghost use Rattle.std.specs.Prelude.{◌≤◌, length, map, All, IsTrue};
+ghost use Rattle.fee_rate.specs.Limits.{IsRate};
 ghost use Rattle.diagram.specs.Parts.{rate_of, AreLevelParts};
 ghost use Rattle.replacement.specs.Changes.{EndsNonNegative};
 
-use crate::{compare_changed, compare_full, ends_non_negative, tested_parts_merge};
+use crate::{
+    compare_changed, compare_full, compare_with_tail, ends_non_negative, tested_parts_merge,
+};
 use diagram::are_level_parts;
-use fee_rate::FeeRate;
+use fee_rate::{FeeRate, is_rate};
 use graphs::Verdict;
 use std::alloc::{AllocError, Global};
 use std::test::Fail;
@@ -43,6 +46,43 @@ fn verdict_of_changes(main_only: &[FeeRate], top_only: &[FeeRate]) -> Option<Ver
         && ends_non_negative(top_only)
     {
         return Some(compared_changed(main_only, top_only));
+    }
+    None
+}
+
+/// Whether parts are few, and each has the fee and the size of a transaction.
+fn are_few(parts: &[FeeRate]) -> bool
+    ensures { IsTrue result → (length parts.now ≤ 8) × All IsRate parts.now }
+{
+    parts.len() <= 8 && parts.iter().all(|part| is_rate(*part))
+}
+
+/// The verdict of what stands in each level alone, and of a tail of what stands in both.
+fn compared_with_tail(main_only: &[FeeRate], top_only: &[FeeRate], tail: &[FeeRate]) -> Verdict
+    requires main { AreLevelParts (map rate_of main_only.now) }
+    requires main_few { (length main_only.now ≤ 8) × All IsRate main_only.now }
+    requires top { AreLevelParts (map rate_of top_only.now) }
+    requires top_few { (length top_only.now ≤ 8) × All IsRate top_only.now }
+    requires tail { AreLevelParts (map rate_of tail.now) }
+    requires tail_few { (length tail.now ≤ 8) × All IsRate tail.now }
+{
+    compare_with_tail(
+        main_only.iter().copied(),
+        top_only.iter().copied(),
+        tail.iter().copied(),
+        tail.iter().copied(),
+    )
+}
+
+/// The verdict of changes and a tail, `None` where they aren't those of levels.
+fn verdict_with_tail(
+    main_only: &[FeeRate],
+    top_only: &[FeeRate],
+    tail: &[FeeRate],
+) -> Option<Verdict> {
+    let levels = are_level_parts(main_only) && are_level_parts(top_only) && are_level_parts(tail);
+    if levels && are_few(main_only) && are_few(top_only) && are_few(tail) {
+        return Some(compared_with_tail(main_only, top_only, tail));
     }
     None
 }
@@ -117,6 +157,23 @@ fn part(fee: i64, size: u64) -> FeeRate {
     FeeRate { fee, size }
 }
 
+/// Two levels, what stands in each alone, and a tail of what stands in both.
+#[derive(Clone, Copy)]
+struct Staged<'a> {
+    main: &'a [FeeRate],
+    top: &'a [FeeRate],
+    main_only: &'a [FeeRate],
+    top_only: &'a [FeeRate],
+    tail: &'a [FeeRate],
+}
+
+/// Whether the changes with the tail have the verdict of the whole levels, and the reverse where exchanged.
+fn tail_is_enough(staged: &Staged, there: Verdict, back: Verdict) -> bool {
+    has_verdict(staged.main, staged.top, there, back)
+        && verdict_with_tail(staged.main_only, staged.top_only, staged.tail) == Some(there)
+        && verdict_with_tail(staged.top_only, staged.main_only, staged.tail) == Some(back)
+}
+
 #[test]
 fn staging_is_better_where_it_is_nowhere_below(rt: HostRuntime) -> Result<(), Fail> {
     let (better, worse) = (Verdict::Better, Verdict::Worse);
@@ -160,6 +217,71 @@ fn a_common_part_below_zero_decides(rt: HostRuntime) -> Result<(), Fail> {
         Some(Verdict::Equal)
     );
     assert_eq!(rt; verdict_of_changes(&main, &top), None);
+    Ok(())
+}
+
+#[test]
+fn the_worst_common_parts_are_enough(rt: HostRuntime) -> Result<(), Fail> {
+    let rows = [
+        // As large as the difference: the better part of a negative fee is left out.
+        (
+            Staged {
+                main: &[part(-5, 3), part(-10, 1)],
+                top: &[part(0, 1), part(-5, 3), part(-10, 1)],
+                main_only: &[],
+                top_only: &[part(0, 1)],
+                tail: &[part(-10, 1)],
+            },
+            Verdict::Better,
+            Verdict::Worse,
+        ),
+        // Better parts of positive fee are left out too.
+        (
+            Staged {
+                main: &[part(50, 10), part(100, 100), part(-1, 200)],
+                top: &[part(50, 10), part(150, 300), part(-1, 200)],
+                main_only: &[part(100, 100)],
+                top_only: &[part(150, 300)],
+                tail: &[part(-1, 200)],
+            },
+            Verdict::Incomparable,
+            Verdict::Incomparable,
+        ),
+        // The tail stands before a change.
+        (
+            Staged {
+                main: &[part(-10, 1), part(-20, 1)],
+                top: &[part(-5, 2), part(-10, 1)],
+                main_only: &[part(-20, 1)],
+                top_only: &[part(-5, 2)],
+                tail: &[part(-10, 1)],
+            },
+            Verdict::Better,
+            Verdict::Worse,
+        ),
+        // Of equal sizes changes need no tail.
+        (
+            Staged {
+                main: &[part(-3, 1), part(-3, 1)],
+                top: &[part(-3, 1), part(-4, 1)],
+                main_only: &[part(-3, 1)],
+                top_only: &[part(-4, 1)],
+                tail: &[],
+            },
+            Verdict::Worse,
+            Verdict::Better,
+        ),
+    ];
+    for (staged, there, back) in &rows {
+        assert!(rt; tail_is_enough(staged, *there, *back));
+    }
+    // One that is too short may tell another verdict.
+    let (main, top) = ([part(-10, 1)], [part(0, 1), part(-10, 1)]);
+    assert!(rt; has_verdict(&main, &top, Verdict::Better, Verdict::Worse));
+    assert_eq!(rt;
+        verdict_with_tail(&[], &[part(0, 1)], &[]),
+        Some(Verdict::Equal)
+    );
     Ok(())
 }
 
