@@ -23,3 +23,5 @@ pub mod Once
 pub mod Unions
 pub mod Before
 pub mod Told
+pub mod RateWalks
+pub mod Tails

@@ -95,7 +95,7 @@ module _ (slots : Slots) (items : Items) (shown : IsShown slots items) where
   pub part_of_item : (i : Entry × Tag) → Contains items i → IsPartOf (at slots i.0.serial) (item_key i) i.1
   part_of_item i here = tag_part (at slots i.0.serial) (item_key i) i.1 (sym (shown.tags (item_key i)) ∙ listed_found items i shown.sorted here)
 
-  listed_tag : (p : Tag → Bool) (xs : Items) (e : Entry) → Contains (entries_by p xs) e → (t : Tag) × Contains xs (e, t)
+  pub listed_tag : (p : Tag → Bool) (xs : Items) (e : Entry) → Contains (entries_by p xs) e → (t : Tag) × Contains xs (e, t)
   unfolding entries_by
   listed_tag p xs e here =
       let found_it = map-Contains (λ (i : Entry × Tag). i.0) (filter (λ i. p i.1) xs) e here in

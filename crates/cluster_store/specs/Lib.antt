@@ -6,3 +6,4 @@ pub mod Slots
 pub mod Changes
 pub mod Keys
 pub mod Kept
+pub mod Rates

@@ -10,13 +10,16 @@ mod clusters;
 mod entries;
 mod laws;
 mod least;
+mod rate_walk;
 mod store;
 mod stored;
+mod tail;
 mod walk;
 
 pub use laws::{
     levels_are_picked, orders_are_kept, parts_are_told_by_clusters, parts_stand_in_order,
 };
+pub use rate_walk::RateWalk;
 pub use store::ClusterStore;
 pub use stored::{Exchange, Move, Stored};
 pub use walk::{PartWalk, Parts, ShownPart};

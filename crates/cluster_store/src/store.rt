@@ -3,6 +3,8 @@ ghost use Rattle.std.specs.FinMap as finmap;
 ghost use Rattle.graphs.specs.Merges.{Precedes};
 ghost use Rattle.cluster.specs.Clusters.{IsCluster};
 ghost use Rattle.cluster_store.specs.Stores.{Stored as Kept, IsStore, AreWhole, IsLeast, IsOrdered, shown_in, shown_only};
+ghost use Rattle.chunk_index.specs.declared.entry.Tag.TheVariants.{Both};
+ghost use Rattle.cluster_store.specs.Rates.{IsTail};
 ghost use Rattle.cluster_store.specs.Changes.{AreThere, EndsAt, MakesChange, Sets, lowest_in, moved_to, most_least, with_cluster};
 
 use crate::clusters::{
@@ -10,7 +12,9 @@ use crate::clusters::{
     take_all,
 };
 use crate::least::{lowest_added, lowest_exchanged, lowest_of};
+use crate::rate_walk::RateWalk;
 use crate::stored::{Exchange, Move, Stored};
+use crate::tail::first_of_tail;
 use crate::walk::PartWalk;
 use chunk_index::{ChunkIndex, Tag};
 use cluster::Cluster;
@@ -103,6 +107,40 @@ impl<const W: usize> ClusterStore<W> {
         ensures order { IsOrdered self.now.clusters self.now.order }
     {
         PartWalk::new(&self.slots, self.index.walk_only(tag))
+    }
+
+    /// The fees and sizes of the parts of a level, in the same order. Takes no memory, and looks at no cluster.
+    pub fn rates(&self, level: Level) -> RateWalk<'_>
+        ensures { result ≡ map (λ s. s.part.rate) (shown_in level self.now) }
+    {
+        let _slots = &self.slots;
+        RateWalk::new(self.index.walk(level))
+    }
+
+    /// The fees and sizes of the parts of the clusters of one tag, in the same order. Takes no memory, and looks at no
+    /// cluster; of main alone or of staging alone, no other part is looked at.
+    pub fn rates_only(&self, tag: Tag) -> RateWalk<'_>
+        ensures { result ≡ map (λ s. s.part.rate) (shown_only tag self.now) }
+    {
+        let _slots = &self.slots;
+        RateWalk::new(self.index.walk_only(tag))
+    }
+
+    /// The fees and sizes of parts at the end of those that stand in both levels, in the same order, for two walks: of the last
+    /// ones of negative fee, as many as are this large together, in virtual bytes, or all. Takes no memory, and looks at no
+    /// other part but one.
+    pub fn last_shared(&self, size: u64) -> (RateWalk<'_>, RateWalk<'_>)
+        ensures tail { IsTail size (map (λ s. s.part.rate) (shown_only Both self.now)) result.0 }
+        ensures same { result.1 ≡ result.0 }
+    {
+        let _slots = &self.slots;
+        match first_of_tail(&self.index, size) {
+            None => (RateWalk::none(), RateWalk::none()),
+            Some(first) => (
+                RateWalk::new(self.index.walk_shared_from(&first)),
+                RateWalk::new(self.index.walk_shared_from(&first)),
+            ),
+        }
     }
 
     /// Whether walks show one part before another. A part is told by the number of its cluster and its position there.
