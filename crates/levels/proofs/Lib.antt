@@ -18,7 +18,6 @@ mod Finds
 mod Firsts
 mod Forgetting
 mod Found
-mod Fronts
 mod Gaining
 mod Graphs
 mod Joining
@@ -63,3 +62,4 @@ mod Turning
 mod Under
 mod Unmoved
 mod Ways
+mod Tailed

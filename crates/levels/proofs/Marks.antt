@@ -1,18 +1,30 @@
 -- What becomes of the touched names, where the table of names changes.
-use Rattle.std.proofs.Common.{◌≡◌, ◌≢◌, ◌⊎◌, ◌↔◌, ◌==◌, ℕ, zero, suc, [], ◌∷◌, length, ◌+◌, ◌-◌, Bool, true, false, cond, not, ◌&&◌, ◌||◌, nat_eq, Option, Some, None, refl, sym, ap, subst, ◌∙◌, inl, inr, true≢false, arith}
+use Rattle.std.proofs.Common.{◌≡◌, ◌≢◌, ◌⊎◌, ◌↔◌, ◌==◌, ℕ, zero, suc, List, [], ◌∷◌, length, Contains, ◌+◌, ◌-◌, Bool, true, false, cond, not, ◌&&◌, ◌||◌, nat_eq, Option, Some, None, refl, sym, ap, subst, ◌∙◌, inl, inr, true≢false, arith}
 use Rattle.std.specs.Ordering.{nat_cmp}
-use Rattle.std.specs.Cmp.{nat_cmp_total, unsigned_tied}
+use Rattle.std.specs.Cmp.{nat_cmp_total, nat_eq_equiv, unsigned_tied}
+use Rattle.std.specs.Option.{option_eq}
 use Rattle.std.specs.FinSet as set
-use Rattle.std.proofs.lemmas.Bool.{cases_eq}
+use Rattle.std.proofs.lemmas.Bool.{cases_eq, eqb-true}
 use Rattle.std.proofs.lemmas.Bool.Decides.{eqb_tells}
 use Rattle.std.proofs.lemmas.Option.{none-some, same_Some}
+use Rattle.lists.proofs.Entries.{Contains-head, Contains-later, Contains-cases}
 use Rattle.name_book.specs.Books.{Book, IsNamed, after, names_from, ring_of, AreRung}
-use Rattle.name_book.specs.Changes.{GainsAlone, KeepsRing, PassesOver, Unites}
+use Rattle.name_book.specs.Changes.{GainsAlone, KeepsRing, CutsOut, PassesOver, Unites, JoinsAll}
 use Rattle.name_book.proofs.Rings.{rung-itself, rung-turned, rung-linked, ring-alone}
 use Rattle.levels.specs.Rings.{Ringed, IsMarked, AreMarks, next_of, ring_from}
 
 abbrev pub rings_of : Book → Option ℕ → Ringed
 rings_of book touched = record { book = book; touched = touched }
+
+-- ---- the touched name that is kept
+
+-- it is this one, or it isn't
+pub touched-is : (touched : Option ℕ) (id : ℕ) → option_eq nat_eq touched (Some id) ≡ true → touched ≡ Some id
+touched-is None id e = cc
+touched-is (Some t) id e = ap Some (eqb-true t id e)
+
+pub touched-other : (touched : Option ℕ) (id : ℕ) → option_eq nat_eq touched (Some id) ≡ false → touched ≢ Some id
+touched-other touched id differs same = true≢false (sym (nat_eq_equiv.refl id) ∙ ap (λ o. option_eq nat_eq o (Some id)) (sym same) ∙ differs)
 
 -- ---- the live names
 
@@ -83,7 +95,7 @@ marked-named book None x h = absurd h
 marked-named book (Some t) x h = h.to
 
 -- a name that isn't touched is alone
-unmarked-alone : (rings : Ringed) (a b : ℕ) → AreMarks rings → (IsMarked rings a → ⊥) → AreRung rings.book 1 a b → a ≡ b
+pub unmarked-alone : (rings : Ringed) (a b : ℕ) → AreMarks rings → (IsMarked rings a → ⊥) → AreRung rings.book 1 a b → a ≡ b
 unmarked-alone rings a b marks out rung =
     elim (cases_eq a b) [ inl same ↦ same | inr apart ↦ absurd (out (marks.alone a b rung apart)) ]
 
@@ -153,6 +165,40 @@ module _ (old new : Book) (first id : ℕ) (names : new.names ≡ old.names) (un
     ];
   }
 
+-- more names are touched, beside one
+module _ (old new : Book) (first : ℕ) (ids : List ℕ) (names : new.names ≡ old.names) (joins : JoinsAll old new 1 first ids)
+    (marks : AreMarks (rings_of old (Some first))) where
+  pub all-marked : (x : ℕ) → AreRung new 1 first x ↔ (AreRung old 1 first x ⊎ Contains ids x)
+  all-marked x = (
+    λ rung. elim ((joins first x).0 rung) [ inl was ↦ inl was | inr both ↦ both.1 ],
+    λ h. (joins first x).1 (inr (inl (rung-itself old 1 first (marks.live first refl)), h)),
+  )
+
+  pub all-marks : AreMarks (rings_of new (Some first))
+  all-marks = record {
+    live = λ t is. named-same old new names t (marks.live t is);
+    alone = λ a b rung apart. (all-marked a).1 (elim ((joins a b).0 rung) [ inl was ↦ inl (marks.alone a b was apart) | inr both ↦ both.0 ]);
+  }
+
+-- none was touched, and the first of some names is kept
+module _ (old new : Book) (first : ℕ) (rest : List ℕ) (names : new.names ≡ old.names) (joins : JoinsAll old new 1 first rest) (live : IsNamed old first)
+    (marks : AreMarks (rings_of old None)) where
+  pub list-marked : (x : ℕ) → AreRung new 1 first x ↔ (⊥ ⊎ Contains (first ∷ rest) x)
+  list-marked x =
+      let marked = all-marked old new first rest names joins (marks-first old first live marks) x in (
+        λ rung. inr (elim (marked.0 rung) [
+          | inl was ↦ subst (Contains (first ∷ rest)) (unmarked-alone (rings_of old None) first x marks (λ none. none) was) (Contains-head first rest)
+          | inr later ↦ Contains-later first x rest later
+        ]),
+        λ h. marked.1 (elim h [
+          | inl none ↦ absurd none
+          | inr here ↦ elim (Contains-cases first x rest here) [
+            | inl same ↦ inl (subst (AreRung old 1 first) same (rung-itself old 1 first live))
+            | inr later ↦ inr later
+          ]
+        ]),
+      )
+
 -- a name comes in
 module _ (old new : Book) (touched : Option ℕ) (id : ℕ) (absent : IsNamed old id → ⊥) (gains : GainsAlone old new 1 id)
     (marks : AreMarks (rings_of old touched)) where
@@ -207,6 +253,29 @@ module _ (book : Book) (id next : ℕ) (link : AreRung book 1 id next) (marks : 
     alone = λ a b rung apart. (next-marked a).1 (marks.alone a b rung apart);
   }
 
+-- the touched name that is kept is passed over
+module _ (book : Book) (id : ℕ) (link : AreRung book 1 id (after book 1 id)) (marks : AreMarks (rings_of book (Some id))) where
+  pub passed-other : next_of book id ≢ Some id
+  passed-other = elim (eqb_tells (after book 1 id) id) [
+    | inl still ↦ λ same. none-some id (sym (ap (λ b. cond b None (Some (after book 1 id))) still.0) ∙ same)
+    | inr other ↦ λ same. other.1 (same_Some (after book 1 id) id (sym (ap (λ b. cond b None (Some (after book 1 id))) other.0) ∙ same))
+  ]
+
+  pub passed-marks : AreMarks (rings_of book (next_of book id))
+  passed-marks = elim (eqb_tells (after book 1 id) id) [
+    | inl still ↦ subst (λ o. AreMarks (rings_of book o)) (sym (ap (λ b. cond b None (Some (after book 1 id))) still.0)) (none-marks book id still.1 marks)
+    | inr other ↦
+        subst (λ o. AreMarks (rings_of book o)) (sym (ap (λ b. cond b None (Some (after book 1 id))) other.0)) (next-marks book id (after book 1 id) link marks)
+  ]
+
+  pub passed-marked : (x : ℕ) → x ≢ id → IsMarked (rings_of book (next_of book id)) x ↔ AreRung book 1 id x
+  passed-marked x apart = elim (eqb_tells (after book 1 id) id) [
+    | inl still ↦ subst (λ o. IsMarked (rings_of book o) x ↔ AreRung book 1 id x) (sym (ap (λ b. cond b None (Some (after book 1 id))) still.0))
+        (λ marked. absurd marked, λ rung. absurd (none-marked book id still.1 marks x apart rung))
+    | inr other ↦ subst (λ o. IsMarked (rings_of book o) x ↔ AreRung book 1 id x) (sym (ap (λ b. cond b None (Some (after book 1 id))) other.0))
+        (next-marked book id (after book 1 id) link marks x)
+  ]
+
 -- A name that isn't kept goes out of ring 1.
 module _ (old new : Book) (touched : Option ℕ) (id : ℕ) (other : touched ≢ Some id)
     (rungs : (x y : ℕ) → AreRung new 1 x y → (AreRung old 1 x y × x ≢ id × y ≢ id) ⊎ ((x ≡ id) × (y ≡ id)))
@@ -238,6 +307,32 @@ module _ (old new : Book) (touched : Option ℕ) (id : ℕ) (other : touched ≢
       | inr both ↦ absurd (apart (both.0 ∙ sym both.1))
     ];
   }
+
+-- where it is cut out of ring 1
+module _ (old new : Book) (touched : Option ℕ) (id : ℕ) (other : touched ≢ Some id) (cuts : CutsOut old new 1 id)
+    (marks : AreMarks (rings_of old touched)) where
+  forth : (x y : ℕ) → AreRung new 1 x y → (AreRung old 1 x y × x ≢ id × y ≢ id) ⊎ ((x ≡ id) × (y ≡ id))
+  forth x y = (cuts.rungs x y).0
+
+  back : (x y : ℕ) → AreRung old 1 x y → x ≢ id → y ≢ id → AreRung new 1 x y
+  back x y rung not_x not_y = (cuts.rungs x y).1 (inl (rung, not_x, not_y))
+
+  pub cut-marked : (x : ℕ) → IsMarked (rings_of new touched) x ↔ (IsMarked (rings_of old touched) x × (x ≢ id))
+  cut-marked = dropped-marked old new touched id other forth back marks
+
+  pub cut-marks : new.names ≡ old.names → AreMarks (rings_of new touched)
+  cut-marks names = dropped-marks old new touched id other forth back marks (λ x live _. named-same old new names x live)
+
+-- where the touched name that is kept is cut out
+module _ (old new : Book) (id : ℕ) (link : AreRung old 1 id (after old 1 id)) (cuts : CutsOut old new 1 id) (marks : AreMarks (rings_of old (Some id))) where
+  pub released-marked : (x : ℕ) → IsMarked (rings_of new (next_of old id)) x ↔ (AreRung old 1 id x × (x ≢ id))
+  released-marked x =
+      let cut = cut-marked old new (next_of old id) id (passed-other old id link marks) cuts (passed-marks old id link marks) x in
+      let passed = passed-marked old id link marks x in
+      (λ marked. let both = cut.0 marked in ((passed both.1).0 both.0, both.1), λ both. cut.1 ((passed both.1).1 both.0, both.1))
+
+  pub released-marks : new.names ≡ old.names → AreMarks (rings_of new (next_of old id))
+  released-marks = cut-marks old new (next_of old id) id (passed-other old id link marks) cuts (passed-marks old id link marks)
 
 -- ---- the touched names as a list
 

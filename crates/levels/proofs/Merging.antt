@@ -6,7 +6,7 @@ use Rattle.std.specs.Iterator.{AlwaysYields, YieldsFirstBy}
 use Rattle.std.specs.List.{filter}
 use Rattle.std.proofs.lemmas.Bool.Decides.{nat_tests}
 use Rattle.std.proofs.lemmas.Option.{slice_get-get_or, get_or_from_slice_get}
-use Rattle.lists.proofs.Entries.{map-Contains, not_empty, first_of, rest_of}
+use Rattle.lists.proofs.Entries.{Contains-map, filter-Contains, map-Contains, not_empty, first_of, rest_of}
 use Rattle.fee_rate.specs.declared.rates.FeeRate.{FeeRate}
 use Rattle.fee_rate.specs.declared.rates.Sum.{Sum}
 use Rattle.graphs.specs.declared.names.Level.{Level}
@@ -62,12 +62,10 @@ module _ (level : Level) (store : Store) where
   none_ends none = subst EndsNonNegative (ap (λ (shown : List Shown). sums_of (map (λ (s : Shown). s.part) shown)) (sym none)) empty_ends
 
   -- the fees and sizes of all its parts
-  pub yields_level : (walk : List Shown) (rates : List Sum) → rates ≡ map (λ (s : Shown). s.part.rate) walk → walk ≡ shown_in level store
-      → AreLevelParts (sums_of (parts_of_level level store))
+  pub yields_level : (rates : List Sum) → rates ≡ map (λ (s : Shown). s.part.rate) (shown_in level store) → AreLevelParts (sums_of (parts_of_level level store))
       → YieldsParts {S = List Sum} (YieldsFirstBy rate_of (λ rest. rest)) rates (sums_of (parts_of_level level store))
-  yields_level walk rates are shown level_parts = record {
-    yields = always_first {A = FeeRate} rate_of rates (sums_of (parts_of_level level store))
-        (are ∙ ap (map (λ (s : Shown). s.part.rate)) shown ∙ rates_shown (shown_in level store));
+  yields_level rates are level_parts = record {
+    yields = always_first {A = FeeRate} rate_of rates (sums_of (parts_of_level level store)) (are ∙ rates_shown (shown_in level store));
     level = level_parts;
   }
 
@@ -121,10 +119,23 @@ module _ (most : ℕ) (store : Store) (is : IsStore most store) where
       sorted_falls (comes_before store.clusters) (rate_at store.clusters) store.order (before_falls store.clusters)
       (sorted_places store.clusters store.order is.ordered.sorted (λ place here. size_real (rate_at store.clusters place).size (sized place here)))
 
-  falls_by : (test : Tag → Bool) → Falls (rates_by test store)
+  pub falls_by : (test : Tag → Bool) → Falls (rates_by test store)
   falls_by test =
       subst Falls (sym (tested test store))
       (tested_parts_merge.falling (rate_at store.clusters) (test_at test store.clusters) store.order all_sized all_fall)
+
+  -- what stands under tags has sizes
+  pub sizes_by : (test : Tag → Bool) → HaveSizes (rates_by test store)
+  sizes_by test =
+      subst HaveSizes (sym (tested test store))
+      (λ rate here. all_sized rate (within rate here))
+    where
+      within : (rate : Sum) → Contains (map (rate_at store.clusters) (filter (test_at test store.clusters) store.order)) rate
+          → Contains (map (rate_at store.clusters) store.order) rate
+      within rate here =
+          let found = map-Contains (rate_at store.clusters) (filter (test_at test store.clusters) store.order) rate here in
+          subst (Contains (map (rate_at store.clusters) store.order)) found.2
+          (Contains-map (rate_at store.clusters) store.order found.0 (filter-Contains (test_at test store.clusters) store.order found.0 found.1).1)
 
   either_at : (alone common level : Tag → Bool) → ((tag : Tag) → IsEither (alone tag) (common tag) (level tag)) → (place : ℕ × ℕ)
       → IsEither (test_at alone store.clusters place) (test_at common store.clusters place) (test_at level store.clusters place)
@@ -157,11 +168,11 @@ module _ (most : ℕ) (store : Store) (is : IsStore most store) where
           changes_are_level_parts.alone (rates_by (same_tag tag) store) (rates_by (same_tag Both) store) (sums_of (parts_of_level level store)) are ends
           level_merges (falls_by (same_tag tag))
 
-      pub yields_alone : (walk : List Shown) (rates : List Sum) → rates ≡ map (λ (s : Shown). s.part.rate) walk → walk ≡ shown_only tag store
+      pub yields_alone : (rates : List Sum) → rates ≡ map (λ (s : Shown). s.part.rate) (shown_only tag store)
           → YieldsChanges {S = List Sum} (YieldsFirstBy rate_of (λ rest. rest)) rates (rates_by (same_tag tag) store)
-      yields_alone walk rates told shown = record {
+      yields_alone rates told = record {
         yields = record {
-          yields = always_first {A = FeeRate} rate_of rates (rates_by (same_tag tag) store) (told ∙ ap (map (λ (s : Shown). s.part.rate)) shown);
+          yields = always_first {A = FeeRate} rate_of rates (rates_by (same_tag tag) store) told;
           level = alone_are_parts.0;
         };
         last = alone_are_parts.1;

@@ -1,5 +1,6 @@
 -- The parts of a level: an optimal order, by falling rate, with sums in range where the level has no more names than are added up.
-use Rattle.std.proofs.Common.{◌≡◌, ◌≢◌, ℕ, suc, ◌+◌, ◌-◌, ◌*◌, ◌<◌, ◌≤◌, Bool, true, false, cond, not, ◌&&◌, ◌||◌, ne_eqb, IsSome, List, [], ◌∷◌, ◌++◌, length, map, Contains, get_or, refl, sym, ap, ◌∙◌, subst, arith, length-append, true≢false, eqb-true}
+use Rattle.std.proofs.Common.{◌≡◌, ◌≢◌, ℕ, suc, ◌+◌, ◌-◌, ◌*◌, ◌<◌, ◌≤◌, Bool, true, false, cond, not, ◌&&◌, ◌||◌, ne_eqb, unsigned_abs, IsSome, List, [], ◌∷◌, ◌++◌, length, map, Contains, get_or, refl, sym, ap, ◌∙◌, subst, arith, length-append, true≢false, eqb-true}
+use Rattle.std.specs.Prelude.{sum_by}
 use Rattle.std.specs.List.{list_any}
 use Rattle.std.specs.Ordering.{nat_cmp, eq_by_cmp}
 use Rattle.std.specs.Cmp.{nat_cmp_total, unsigned_tied}
@@ -8,7 +9,7 @@ use Rattle.std.specs.FinSet as set
 use Rattle.std.proofs.lemmas.Int.{ints}
 use Rattle.std.proofs.lemmas.List.Concat.{flat_map-append}
 use Rattle.std.proofs.lemmas.List.Elements.{Contains-append_left, Contains-append_right, Contains-get_or}
-use Rattle.std.proofs.lemmas.List.Sums.{sum_by-le}
+use Rattle.std.proofs.lemmas.List.Sums.{sum_by-cons, sum_by-le}
 use Rattle.lists.specs.Distinct.{AreDistinct}
 use Rattle.lists.proofs.Entries.{Contains-head, Contains-later, Contains-splits, map-Contains, first_of, rest_of}
 use Rattle.arithmetic.proofs.Sums.{total_within}
@@ -24,12 +25,14 @@ use Rattle.graphs.specs.Graphs.{Graph, IsGraph, IsCover}
 use Rattle.graphs.specs.Rates.{sum_of, sums, HasSizes}
 use Rattle.graphs.proofs.BestLemmas.{sizes_some, sum_of-joined}
 use Rattle.graphs.proofs.ClosureGraphs.{closures_have_graphs}
+use Rattle.graphs.proofs.CornerLemmas.{size_of-cons}
 use Rattle.graphs.proofs.PickLemmas.{picks_are_kept}
 use Rattle.graphs.proofs.TangentLemmas.{joined}
 use Rattle.graph_model.proofs.TableLemmas.{len-names}
 use Rattle.graph_model.specs.Answers.{order_of}
 use Rattle.cluster.specs.Clusters.{sum_at}
 use Rattle.diagram.specs.Parts.{AreLevelParts}
+use Rattle.replacement.specs.Merging.{FitTogether}
 use Rattle.levels.specs.Levels.{HasPick, IsBest}
 use Rattle.levels.specs.Orders.{sums_of}
 use Rattle.levels.specs.Shelves.{Shelf, IsInOrder, numbers_at, one_of, view_of}
@@ -66,13 +69,36 @@ sum_told : (rate : ℕ → Sum) (parts : List Part) → ((part : Part) → Conta
 sum_told rate parts summed =
     ap sum_of (rates_told rate parts summed) ∙ sum_of-joined rate (map (λ part. part.ids) parts) ∙ ap (sums rate) (joined_ids parts)
 
--- names with fees and sizes in range, no more of them than are added up, have a sum in range
+-- names with fees and sizes in range: what they pay, and what they measure, is at most so much for each
+names_pay : (g : Closure) (ids : List ℕ) → ((id : ℕ) → Contains ids id → IsRate (rate_of g id))
+    → (unsigned_abs (sums (sum_at g) ids).fee ≤ MAX_FEE * length ids) × ((sums (sum_at g) ids).size ≤ length ids * MAX_SIZE)
+names_pay g ids rates = (
+  total_within (λ id. (sum_at g id).fee) MAX_FEE ids (λ k d inside. (rates (get_or ids k d) (Contains-get_or ids k d inside)).fee),
+  sum_by-le (λ id. (sum_at g id).size) MAX_SIZE ids (λ k d inside. (rates (get_or ids k d) (Contains-get_or ids k d inside)).size),
+)
+
+-- where they are no more than are added up, they have a sum in range
 sum_fits : (g : Closure) (ids : List ℕ) → ((id : ℕ) → Contains ids id → IsRate (rate_of g id)) → length ids ≤ MAX_TOTAL
     → IsSum (sums (sum_at g) ids)
-sum_fits g ids rates few =
-    let fees = total_within (λ id. (sum_at g id).fee) MAX_FEE ids (λ k d inside. (rates (get_or ids k d) (Contains-get_or ids k d inside)).fee) in
-    let sizes = sum_by-le (λ id. (sum_at g id).size) MAX_SIZE ids (λ k d inside. (rates (get_or ids k d) (Contains-get_or ids k d inside)).size) in
-    record { fee = omega (arith, ints); size = omega (arith, ints) }
+sum_fits g ids rates few = let most = names_pay g ids rates in record { fee = omega (arith, ints, most.0); size = omega (arith, ints, most.1) }
+
+-- parts of such names, too, where each fee is taken without its sign
+parts_pay : (g : Closure) (parts : List Part) → ((part : Part) → Contains parts part → part.rate ≡ sums (sum_at g) part.ids)
+    → ((id : ℕ) → Contains (order_of parts) id → IsRate (rate_of g id))
+    → (sum_by (λ (s : Sum). unsigned_abs s.fee) (sums_of parts) ≤ MAX_FEE * length (order_of parts))
+    × ((sum_of (sums_of parts)).size ≤ length (order_of parts) * MAX_SIZE)
+parts_pay g [] summed rates = (omega (arith, ints), omega (arith, ints))
+parts_pay g (p ∷ parts) summed rates =
+    let first = names_pay g p.ids (λ id here. rates id (Contains-append_left p.ids (order_of parts) id here)) in
+    let rest = parts_pay g parts (λ part here. summed part (Contains-later p part parts here))
+    (λ id here. rates id (Contains-append_right p.ids (order_of parts) id here)) in
+    let is = summed p (Contains-head p parts) in
+    let fee : unsigned_abs p.rate.fee ≤ MAX_FEE * length p.ids = subst (λ (s : Sum). unsigned_abs s.fee ≤ MAX_FEE * length p.ids) (sym is) first.0 in
+    let size : p.rate.size ≤ length p.ids * MAX_SIZE = subst (λ (s : Sum). s.size ≤ length p.ids * MAX_SIZE) (sym is) first.1 in
+    let names = length-append p.ids (order_of parts) in (
+      omega (arith, ints, fee, rest.0, names, sum_by-cons (λ (s : Sum). unsigned_abs s.fee) p.rate (sums_of parts)),
+      omega (arith, ints, size, rest.1, names, size_of-cons p.rate (sums_of parts)),
+    )
 
 -- as many different names as a list has are at most those of a set that has them
 few_names : (s : set.FinSet nat_cmp) (ids : List ℕ) → AreDistinct ids → ((x : ℕ) → Contains ids x → set.contains s x ≡ true) → length ids ≤ set.len s
@@ -198,6 +224,17 @@ module _ (w : ℕ) (shelf : Shelf) (order : IsInOrder w shelf) (level : Level) w
           subst (λ (s : Sum). IsSum s) (sym (sum_told (sum_at known) ys summed))
           (piece_fits [] (order_of ys) (order_of zs) (ap order_of is ∙ flat_map-append (λ (p : Part). p.ids) ys zs))
 
+      paid_by_graph : FitTogether (sums_of parts)
+      paid_by_graph =
+          let most = parts_pay known parts certificate.falling.summed (λ id here. rated id (live id here)) in
+          record {
+            some = λ rate here.
+                let found = map-Contains (λ (part : Part). part.rate) parts rate here in
+                subst (λ (s : Sum). 1 ≤ s.size) found.2 (part_some found.0 found.1);
+            fees = omega (arith, ints, most.0, as_many);
+            sizes = omega (arith, ints, most.1, as_many);
+          }
+
       parts_of_graph : AreLevelParts (sums_of parts)
       parts_of_graph = record {
         falling = certificate.falling.falling;
@@ -214,6 +251,9 @@ module _ (w : ℕ) (shelf : Shelf) (order : IsInOrder w shelf) (level : Level) w
 
   pub level_parts : finmap.len (numbers_at level shelf) ≤ MAX_TOTAL → AreLevelParts (sums_of parts)
   level_parts few = parts_of_graph some_graph.0 some_graph.2 few
+
+  pub level_pays : finmap.len (numbers_at level shelf) ≤ MAX_TOTAL → FitTogether (sums_of parts)
+  level_pays few = paid_by_graph some_graph.0 some_graph.2 few
 
   -- a level has no more names than a set that has them all
   pub no_more : (names : set.FinSet nat_cmp) → ((id : ℕ) → IsSome (finmap.get (numbers_at level shelf) id) → set.contains names id ≡ true)

@@ -1,6 +1,5 @@
 -- What is told of the parts of a level.
-use Rattle.std.specs.Prelude.{◌↔◌, ℕ, ℤ, List, map, Contains, refl}
-use Rattle.std.specs.Coded.{Coded, code_by, coded×, coded_ℕ, coded_ℤ}
+use Rattle.std.specs.Prelude.{◌↔◌, ℕ, List, map, Contains}
 use Rattle.fee_rate.specs.declared.rates.Sum.{Sum}
 use Rattle.graphs.specs.declared.names.Verdict.{Verdict}
 use Rattle.graphs.specs.Certificates.{Part}
@@ -13,10 +12,6 @@ use Rattle.graphs.specs.Merges.{Precedes}
 pub record ListsCovers (graph : Closure) (order : List ℕ) (id : ℕ) (covers : List ℕ) : Type 0 where
   pub exact : (a : ℕ) → Contains covers a ↔ IsCover graph a id
   pub in_order : (a b : ℕ) → Precedes covers a b → StandsBefore order a b
-
--- a fee and a size, as numbers
-abbrev pub rate_code : Coded Sum
-rate_code = code_by (ℤ × ℕ) (coded× coded_ℤ coded_ℕ) (λ r. (r.fee, r.size)) (λ p. record { fee = p.0; size = p.1 }) (λ _. refl)
 
 -- fee and size of each part
 abbrev pub sums_of : List Part → List Sum

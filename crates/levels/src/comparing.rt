@@ -1,15 +1,16 @@
-ghost use Rattle.std.specs.Prelude.{◌↔◌, ◌*◌, ◌≤◌, IsTrue};
+ghost use Rattle.std.specs.Prelude.{◌≡◌, ◌↔◌, ◌*◌, ◌^◌, ◌<◌, ◌≤◌, IsTrue};
+ghost use Rattle.graphs.specs.Rates.{sum_of};
 ghost use Rattle.graphs.specs.declared.names.Level.TheVariants.{Main, Top};
 ghost use Rattle.cluster_store.specs.Stores.{IsStore, parts_of_level};
 ghost use Rattle.diagram.specs.Parts.{AreLevelParts};
 ghost use Rattle.replacement.specs.Changes.{EndsNonNegative};
+ghost use Rattle.replacement.specs.Merging.{FitTogether};
 ghost use Rattle.levels.specs.Orders.{ComparesParts, sums_of};
 
-use crate::rates::Rates;
 use chunk_index::Tag;
-use cluster_store::ClusterStore;
+use cluster_store::{ClusterStore, RateWalk};
 use graph_model::{Level, Verdict};
-use replacement::{compare_changed, compare_full};
+use replacement::{compare_changed, compare_with_tail};
 
 /// Whether the last part of a level, where it has one, has a fee of at least 0.
 fn ends_well<const W: usize>(store: &ClusterStore<W>, level: Level) -> bool
@@ -23,20 +24,50 @@ fn ends_well<const W: usize>(store: &ClusterStore<W>, level: Level) -> bool
 }
 
 /// How staging stands to main, by the parts of the clusters. Where the last part of each level that has one has a fee of at least
-/// 0, only the parts that stand in one level alone are looked at, and the last ones. Takes no memory.
+/// 0, only the parts that stand in one level alone are looked at, and the last ones; else some of the worst ones in both too. Takes
+/// no memory.
 pub(crate) fn compare_store<const W: usize>(store: &ClusterStore<W>) -> Verdict
     requires narrow { W ≤ 2 }
     requires main { AreLevelParts (sums_of (parts_of_level Main store.now)) }
     requires top { AreLevelParts (sums_of (parts_of_level Top store.now)) }
+    requires main_fits { FitTogether (sums_of (parts_of_level Main store.now)) }
+    requires top_fits { FitTogether (sums_of (parts_of_level Top store.now)) }
     requires store { IsStore (64 * W) store.now }
     ensures { ComparesParts (parts_of_level Main store.now) (parts_of_level Top store.now) result }
 {
     if ends_well(store, Level::Main) && ends_well(store, Level::Top) {
-        let main_only = Rates::new(store.walk_only(Tag::MainOnly));
-        let top_only = Rates::new(store.walk_only(Tag::TopOnly));
+        let main_only = store.rates_only(Tag::MainOnly);
+        let top_only = store.rates_only(Tag::TopOnly);
         return compare_changed(main_only, top_only);
     }
-    let main = Rates::new(store.walk(Level::Main));
-    let top = Rates::new(store.walk(Level::Top));
-    compare_full(main, top)
+    compare_signed(store)
+}
+
+// The same whatever the signs of fees: of the parts in both levels so many of the worst ones with fees below 0 are looked at as
+// cover the difference of the sizes of what stands in one alone.
+fn compare_signed<const W: usize>(store: &ClusterStore<W>) -> Verdict
+    requires narrow { W ≤ 2 }
+    requires main_fits { FitTogether (sums_of (parts_of_level Main store.now)) }
+    requires top_fits { FitTogether (sums_of (parts_of_level Top store.now)) }
+    requires store { IsStore (64 * W) store.now }
+    ensures { ComparesParts (parts_of_level Main store.now) (parts_of_level Top store.now) result }
+{
+    let main_size = total_size(store.rates_only(Tag::MainOnly));
+    let top_size = total_size(store.rates_only(Tag::TopOnly));
+    let (main_tail, top_tail) = store.last_shared(main_size.abs_diff(top_size));
+    let main_only = store.rates_only(Tag::MainOnly);
+    let top_only = store.rates_only(Tag::TopOnly);
+    compare_with_tail(main_only, top_only, main_tail, top_tail)
+}
+
+// The size of some parts together, in virtual bytes.
+fn total_size(mut rates: RateWalk<'_>) -> u64
+    requires { (sum_of rates).size < 2 ^ 64 }
+    ensures { result ≡ (sum_of rates.entry).size }
+{
+    let mut size = 0;
+    while let Some(rate) = rates.next() {
+        size += rate.size;
+    }
+    size
 }

@@ -12,7 +12,7 @@ ghost use Rattle.cluster.specs.Clusters.{IsCluster};
 ghost use Rattle.cluster.specs.Clusters as records;
 ghost use Rattle.cluster.specs.Steps.{GrowsWithin, most_steps, most_steps_of};
 ghost use Rattle.cluster_store.specs.Lent.{lent};
-ghost use Rattle.diagram.specs.Parts.{AreLevelParts};
+ghost use Rattle.diagram.specs.Parts.{AreLevelParts, YieldsParts};
 ghost use Rattle.levels.specs.Orders.{ComparesParts, ListsCovers, sums_of};
 ghost use Rattle.levels.specs.Levels.{AddsName, ChangesTop, HavePicks, IsBest, IsLive, SetsFeeIn, level_at, no_names};
 ghost use Rattle.levels.specs.Joins.{DepRefusalIs};
@@ -27,7 +27,7 @@ use crate::rings::Rings;
 use crate::settling::settle_rings;
 use crate::shelves::Shelves;
 use cluster::{Cluster, Covers, PartRef, Work};
-use cluster_store::{PartWalk, Stored};
+use cluster_store::{PartWalk, RateWalk, Stored};
 use graph_model::{Level, Limits, Place, Refusal, TxId, Verdict};
 use outside::NoMemory;
 use std::alloc::Global;
@@ -306,6 +306,18 @@ impl<const W: usize> Levels<W> {
     {
         let _count = self.mains;
         self.shelves.parts(level)
+    }
+
+    /// The fees and sizes of the parts of a level in its order, in satoshis and virtual bytes. Takes no memory, and looks at no
+    /// cluster.
+    pub fn rates(&self, level: Level) -> RateWalk<'_>
+        ensures rates { result ≡ sums_of (level_at self.now level).parts }
+        ensures yields { YieldsParts ⟦<RateWalk<'static> as Iterator>⟧.next_gives result (sums_of (level_at self.now level).parts) }
+        ensures names { (id : ℕ) → is_member (level_at self.now level).graph id ≡ true
+            → IsRate (rate_of (level_at self.now level).graph id) }
+    {
+        let _count = self.mains;
+        self.shelves.rates(level)
     }
 
     /// The part of main that has a name, or `None` where main hasn't the name. Takes no memory.

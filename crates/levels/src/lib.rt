@@ -13,7 +13,6 @@ mod levels;
 mod links;
 mod moving;
 mod numbers;
-mod rates;
 mod readings;
 mod rings;
 mod settling;
@@ -21,4 +20,3 @@ mod shelves;
 mod stored;
 
 pub use levels::Levels;
-pub use rates::Rates;

@@ -20,7 +20,7 @@ ghost use Rattle.levels.specs.Shelves.{IsInOrder, numbers_at, one_of};
 use crate::comparing::compare_store;
 use crate::shelves::Shelves;
 use cluster::{Covers, PartRef};
-use cluster_store::{PartWalk, Stored};
+use cluster_store::{PartWalk, RateWalk, Stored};
 use graph_model::{Level, Place, TxId, Verdict};
 
 impl<const W: usize> Shelves<W> {
@@ -36,6 +36,14 @@ impl<const W: usize> Shelves<W> {
         ensures level { AreLevelParts (sums_of (one_of level self.now).parts) }
     {
         self.store().walk(level)
+    }
+
+    /// The fees and sizes of the parts of a level in its order.
+    pub(crate) fn rates(&self, level: Level) -> RateWalk<'_>
+        requires order { IsInOrder W self.now }
+        ensures { result ≡ sums_of (one_of level self.now).parts }
+    {
+        self.store().rates(level)
     }
 
     /// The part of main that has a name, or `None` where main hasn't the name.

@@ -96,8 +96,14 @@ impl Rings {
         ensures touched { (x : ℕ) → IsMarked self.new x ↔ (IsMarked self.old x ⊎ Contains names.now x) }
         ensures issued { self.new.book.issued ≡ self.old.book.issued }
     {
-        for id in names {
-            touch(&mut self.book, &mut self.touched, *id);
+        match self.touched {
+            Some(first) => self.book.join_all(TOUCHED, first, names),
+            None => {
+                if let Some((&first, rest)) = names.split_first() {
+                    self.touched = Some(first);
+                    self.book.join_all(TOUCHED, first, rest);
+                }
+            }
         }
     }
 
@@ -129,8 +135,7 @@ impl Rings {
         ensures issued { self.new.book.issued ≡ self.old.book.issued }
     {
         let _touched = self.touched;
-        cut_all(&mut self.book, names);
-        join_all(&mut self.book, names);
+        self.book.make_ring(MAIN, names);
     }
 
     /// Drops a name. Takes no memory.
@@ -156,8 +161,11 @@ impl Rings {
         ensures fewer { self.old.touched ≡ Some id → length (touched_of self.new) + 1 ≡ length (touched_of self.old) }
         ensures issued { self.new.book.issued ≡ self.old.book.issued }
     {
-        self.pass_over(id);
-        self.book.cut(TOUCHED, id);
+        self.book.rings_go_round();
+        let next = self.book.cut_next(TOUCHED, id);
+        if self.touched == Some(id) {
+            self.touched = next;
+        }
     }
 
     // Where this name is the touched one that is kept, another of its ring is kept in its place.
@@ -209,34 +217,5 @@ fn touch(book: &mut NameBook, touched: &mut Option<TxId>, id: TxId)
     match *touched {
         None => *touched = Some(id),
         Some(first) => book.join(TOUCHED, first, id),
-    }
-}
-
-// Cuts names out of their rings of main.
-fn cut_all(book: &mut NameBook, names: &[TxId])
-    requires live { (x : ℕ) → Contains names.now x → IsNamed book.old x }
-    ensures names { book.new.names ≡ book.old.names }
-    ensures main { (x y : ℕ) → AreRung book.new 0 x y ↔ ((AreRung book.old 0 x y × (Contains names.now x → ⊥) × (Contains names.now y → ⊥))
-        ⊎ (Contains names.now x × (x ≡ y))) }
-    ensures touched { book.new.ring_1 ≡ book.old.ring_1 }
-    ensures issued { book.new.issued ≡ book.old.issued }
-{
-    for id in names {
-        book.cut(MAIN, *id);
-    }
-}
-
-// Makes one ring of main of names that are alone.
-fn join_all(book: &mut NameBook, names: &[TxId])
-    requires live { (x : ℕ) → Contains names.now x → IsNamed book.old x }
-    requires once { AreDistinct names.now }
-    requires alone { (x y : ℕ) → Contains names.now x → AreRung book.old 0 x y → x ≡ y }
-    ensures names { book.new.names ≡ book.old.names }
-    ensures main { (x y : ℕ) → AreRung book.new 0 x y ↔ (AreRung book.old 0 x y ⊎ (Contains names.now x × Contains names.now y)) }
-    ensures touched { book.new.ring_1 ≡ book.old.ring_1 }
-    ensures issued { book.new.issued ≡ book.old.issued }
-{
-    for i in 1..names.len() {
-        book.join(MAIN, names[i - 1], names[i]);
     }
 }

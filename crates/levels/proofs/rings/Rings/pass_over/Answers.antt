@@ -1,19 +1,12 @@
-use Rattle.std.proofs.Common.{◌≡◌, ◌≢◌, ◌↔◌, ℕ, Option, Some, None, true, nat_eq, sym, ap, subst, ◌∙◌, arith, cond, eq-eqb, ne_eqb}
-use Rattle.std.specs.Option.{option_eq}
-use Rattle.std.proofs.lemmas.Bool.{eqb-true}
+use Rattle.std.proofs.Common.{◌≡◌, ◌≢◌, ◌↔◌, ℕ, Some, None, sym, ap, subst, ◌∙◌, arith, cond, eq-eqb, ne_eqb}
 use Rattle.name_book.specs.Books.{Book, IsNamed, after, AreRung}
 use Rattle.levels.specs.Rings.{Ringed, AreMarks, IsMarked, next_of}
-use Rattle.levels.proofs.Marks.{rings_of, none-marks, none-marked, next-marks, next-marked}
+use Rattle.levels.proofs.Marks.{rings_of, touched-is, none-marks, none-marked, next-marks, next-marked}
 use Rattle.levels.proofs.rings.Rings.pass_over.Goals as goal
 use Rattle.levels.proofs.rings.Rings.pass_over.Goals.{then-next-id, else-next-id}
 
--- the touched name that is kept is this one
-kept : (o : Option ℕ) (id : ℕ) → option_eq nat_eq o (Some id) ≡ true → o ≡ Some id
-kept None id e = cc
-kept (Some t) id e = ap Some (eqb-true t id e)
-
 is : (c : goal.After-self-1) → c.self.inside.touched ≡ Some c.args.id
-is c = kept c.self.inside.touched c.args.id (sym c.eq.ensures ∙ c.if-eq.true)
+is c = touched-is c.self.inside.touched c.args.id (sym c.eq.ensures ∙ c.if-eq.true)
 
 marks : (c : goal.After-self-1) → AreMarks (rings_of c.self.inside.book (Some c.args.id))
 marks c = subst (λ o. AreMarks (rings_of c.self.inside.book o)) (is c) c.self.invariant

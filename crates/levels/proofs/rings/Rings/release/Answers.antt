@@ -1,42 +1,59 @@
-use Rattle.std.proofs.Common.{◌≡◌, ◌≢◌, ◌↔◌, ℕ, ◌+◌, length, inl, sym, ap, subst, ◌∙◌, arith}
-use Rattle.name_book.specs.Books.{Book, IsNamed, AreRung, ring_of}
-use Rattle.levels.specs.Rings.{Ringed, IsMarked, next_of, ring_from}
-use Rattle.levels.proofs.Marks.{named-same, dropped-marked, dropped-marks, list-fewer}
+use Rattle.std.proofs.Common.{◌≡◌, ◌≢◌, ◌↔◌, ℕ, ◌+◌, Some, length, sym, ap, subst, ◌∙◌, arith}
+use Rattle.name_book.specs.Books.{IsNamed, after, AreRung}
+use Rattle.levels.specs.Rings.{Ringed, IsMarked, AreMarks, ring_from, touched_of}
+use Rattle.levels.proofs.Marks.{rings_of, touched-is, touched-other, cut-marked, cut-marks, released-marked, released-marks, list-fewer}
 use Rattle.levels.proofs.rings.Rings.release.Goals as goal
+
+-- the name is the touched one that is kept
+is : (c : goal.After-next-1) → c.self.inside.touched ≡ Some c.args.id
+is c = touched-is c.self.inside.touched c.args.id (sym c.eq.ensures ∙ c.if-eq.true)
+
+marks : (c : goal.After-next-1) → AreMarks (rings_of c.self.inside.book (Some c.args.id))
+marks c = subst (λ o. AreMarks (rings_of c.self.inside.book o)) (is c) c.self.invariant
+
+live : (c : goal.After-next-1) → IsNamed c.self.inside.book c.args.id
+live c = subst (λ (r : Ringed). IsNamed r.book c.args.id) (sym c.self.view_is) c.requires.live
+
+link : (c : goal.After-next-1) → AreRung c.self.inside.book 1 c.args.id (after c.self.inside.book 1 c.args.id)
+link c = c.rings_go_round.ensures.next 1 c.args.id (omega arith) (live c)
+
+was : (c : goal.After-next-1) → rings_of c.self.inside.book (Some c.args.id) ≡ c.args.self.now
+was c = ap (rings_of c.self.inside.book) (sym (is c)) ∙ c.self.view_is
 
 pub invariant_of-self : goal.invariant_of-self
 invariant_of-self c =
-    let old = c.self.inside.book in let new = c.cut.new.self in let id = c.args.id in
-    let rungs = c.cut.ensures.cut.rungs in
-    dropped-marks old new c.self.inside.touched id (λ is. c.pass_over.ensures.other (sym (ap (λ (r : Ringed). r.touched) c.self.view_is) ∙ is))
-    (λ x y rung. (rungs x y).0 rung) (λ x y rung not_x not_y. (rungs x y).1 (inl (rung, not_x, not_y))) c.self.invariant
-    (λ x live other. named-same old new c.cut.ensures.names x live)
+    let old = c.self.inside.book in let new = c.cut_next-next.new.self in let cut = c.cut_next-next.ensures in
+    subst (λ o. AreMarks (rings_of new o)) (sym cut.next) (released-marks old new c.args.id (link c) cut.cut (marks c) cut.names)
 
-pub returns-clause-main : goal.returns-clause-main
-returns-clause-main c =
-    let was : c.self.inside.book ≡ c.args.self.now.book = ap (λ (r : Ringed). r.book) c.self.view_is ∙ c.pass_over.ensures.book in
-    subst (λ (b : Book). (x y : ℕ) → AreRung c.cut.new.self 0 x y ↔ AreRung b 0 x y) was (c.cut.ensures.others 0 (omega arith) (omega arith)).rungs
+pub returns-then-eq-clause-main : goal.returns-then-eq-clause-main
+returns-then-eq-clause-main c = rw (← c.self.view_is) (c.cut_next-next.ensures.others 0 (omega arith) (omega arith)).rungs
 
-pub returns-clause-touched : goal.returns-clause-touched
-returns-clause-touched c =
-    let old = c.self.inside.book in let new = c.cut.new.self in let id = c.args.id in
-    let rungs = c.cut.ensures.cut.rungs in
-    let dropped = dropped-marked old new c.self.inside.touched id
-    (λ is. c.pass_over.ensures.other (sym (ap (λ (r : Ringed). r.touched) c.self.view_is) ∙ is))
-    (λ x y rung. (rungs x y).0 rung) (λ x y rung not_x not_y. (rungs x y).1 (inl (rung, not_x, not_y))) c.self.invariant in
-    let passed = subst (λ (r : Ringed). (x : ℕ) → x ≢ id → IsMarked r x ↔ IsMarked c.args.self.now x) (sym c.self.view_is)
-    c.pass_over.ensures.touched in
-    λ x. (
-      λ marked. let all = (dropped x).0 marked in ((passed x all.1).0 all.0, all.1),
-      λ h. (dropped x).1 ((passed x h.1).1 h.0, h.1),
-    )
+pub returns-then-eq-clause-touched : goal.returns-then-eq-clause-touched
+returns-then-eq-clause-touched c =
+    let old = c.self.inside.book in let new = c.cut_next-next.new.self in let cut = c.cut_next-next.ensures in let id = c.args.id in
+    subst (λ (r : Ringed). (x : ℕ) → IsMarked (rings_of new c.cut_next-next.result) x ↔ (IsMarked r x × (x ≢ id))) (was c)
+    (subst (λ o. (x : ℕ) → IsMarked (rings_of new o) x ↔ (AreRung old 1 id x × (x ≢ id))) (sym cut.next)
+    (released-marked old new id (link c) cut.cut (marks c)))
 
-pub returns-clause-fewer : goal.returns-clause-fewer
-returns-clause-fewer c is =
-    let old = c.self.inside.book in let new = c.cut.new.self in let id = c.args.id in let now = c.args.self.now in
-    let was : old ≡ now.book = ap (λ (r : Ringed). r.book) c.self.view_is ∙ c.pass_over.ensures.book in
-    let next : c.self.inside.touched ≡ next_of old id =
-    ap (λ (r : Ringed). r.touched) c.self.view_is ∙ c.pass_over.ensures.next is ∙ ap (λ (b : Book). next_of b id) (sym was) in
-    let live : IsNamed old id = subst (λ (b : Book). IsNamed b id) (sym was) c.requires.live in
-    ap (λ o. length (ring_from new o) + 1) next ∙ list-fewer old new id c.cut.ensures.cut.passes live
-    ∙ ap (λ (b : Book). length (ring_of b 1 id)) was ∙ ap (λ o. length (ring_from now.book o)) (sym is)
+pub returns-then-eq-clause-fewer : goal.returns-then-eq-clause-fewer
+returns-then-eq-clause-fewer c _ =
+    let old = c.self.inside.book in let new = c.cut_next-next.new.self in let cut = c.cut_next-next.ensures in
+    ap (λ o. length (ring_from new o) + 1) cut.next ∙ list-fewer old new c.args.id cut.cut.passes (live c)
+    ∙ ap (λ (r : Ringed). length (touched_of r)) (was c)
+
+-- it is another
+other : (c : goal.Else-eq) → c.self.inside.touched ≢ Some c.args.id
+other c = touched-other c.self.inside.touched c.args.id (sym c.eq.ensures ∙ c.if-eq.false)
+
+pub invariant_of-self-else-eq : goal.invariant_of-self-else-eq
+invariant_of-self-else-eq c =
+    cut-marks c.self.inside.book c.cut_next-next.new.self c.self.inside.touched c.args.id (other c) c.cut_next-next.ensures.cut c.self.invariant
+    c.cut_next-next.ensures.names
+
+pub returns-else-eq-clause-main : goal.returns-else-eq-clause-main
+returns-else-eq-clause-main c = rw (← c.self.view_is) (c.cut_next-next.ensures.others 0 (omega arith) (omega arith)).rungs
+
+pub returns-else-eq-clause-touched : goal.returns-else-eq-clause-touched
+returns-else-eq-clause-touched c =
+    rw (← c.self.view_is) (cut-marked c.self.inside.book c.cut_next-next.new.self c.self.inside.touched c.args.id (other c)
+    c.cut_next-next.ensures.cut c.self.invariant)
