@@ -14,6 +14,5 @@ mod Reading
 mod Telling
 mod Drawn
 mod Settled
-mod Walked
 mod Calls
 mod Starts

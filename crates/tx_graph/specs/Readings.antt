@@ -1,7 +1,5 @@
 -- What the readings of a level find.
-use Rattle.std.specs.Prelude.{◌≡◌, ◌↔◌, ℕ, ℤ, List, map, Contains, Result, Ok, Err, refl}
-use Rattle.std.specs.Coded.{Coded, code_by, coded×, coded_ℕ, coded_ℤ}
-use Rattle.fee_rate.specs.declared.rates.Sum.{Sum}
+use Rattle.std.specs.Prelude.{◌≡◌, ◌↔◌, ℕ, List, map, Contains, Result, Ok, Err}
 use Rattle.graphs.specs.declared.names.Level.{Level}
 use Rattle.graphs.specs.declared.names.Verdict.{Verdict}
 use Rattle.graphs.specs.Certificates.{Part}
@@ -31,10 +29,6 @@ pub record IsTextOf (level : OneLevel) (text : Text) : Type 0 where
   pub exact : (a d : ℕ) → Contains text.edges (a, d) ↔ IsCover level.graph a d
   pub in_order : FollowOrder (order_of level.parts) (map (λ edge. (edge.1, edge.0)) text.edges)
   pub parts : text.parts ≡ level.parts
-
--- a fee and a size, as numbers
-abbrev pub rate_code : Coded Sum
-rate_code = code_by (ℤ × ℕ) (coded× coded_ℤ coded_ℕ) (λ r. (r.fee, r.size)) (λ p. record { fee = p.0; size = p.1 }) (λ _. refl)
 
 -- the reply of a reading of one part, and of where a name stands
 abbrev pub part_reply : Result PartRef Refusal → Reply

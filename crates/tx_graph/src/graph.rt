@@ -27,7 +27,7 @@ ghost use Rattle.tx_graph.specs.Readings.{IsBestOrder, IsTextOf, part_reply, pla
 ghost use Rattle.levels.specs.Stays.{AllStay};
 ghost use Rattle.levels.specs.Views.{IsClusterOf};
 
-use crate::order::{Backward, Diagram, Forward, Order, OrderBack, Rates};
+use crate::order::{Backward, Diagram, Forward, Order, OrderBack};
 use cluster::{Covers, PartRef};
 use diagram::corners;
 use fee_rate::FeeRate;
@@ -442,7 +442,7 @@ impl<const W: usize> TxGraph<W> {
         ensures step { (points : List (ℕ × ℤ)) × YieldsCorners ⟦<Diagram<'static, W> as Iterator>⟧.next_gives result points
             × MakesStep self.now self.now (commands.Diagram level) (Points points) }
     {
-        corners(Rates::new(self.levels.parts(level)))
+        corners(self.levels.rates(level))
     }
 
     /// The part of main that has a name. Takes no memory.

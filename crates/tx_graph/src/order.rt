@@ -1,9 +1,8 @@
 ghost use Rattle.std.specs.Prelude.{◌≡◌, map, reverse};
 
 use cluster::PartRef;
-use cluster_store::{PartWalk, Parts, Stored};
+use cluster_store::{PartWalk, Parts, RateWalk, Stored};
 use diagram::Corners;
-use fee_rate::FeeRate;
 use std::marker::Model;
 
 /// The parts of a level in its order, lent.
@@ -13,7 +12,7 @@ pub type Order<'a, const W: usize> = Forward<'a, Stored<W>>;
 pub type OrderBack<'a, const W: usize> = Backward<'a, Stored<W>>;
 
 /// The corners of a level's diagram from (0, 0) on, each a size, in virtual bytes, and the fee there, in satoshis.
-pub type Diagram<'a, const W: usize> = Corners<Rates<'a, Stored<W>>>;
+pub type Diagram<'a, const W: usize> = Corners<RateWalk<'a>>;
 
 /// Parts in their order, lent. Contracts see those that are still to come.
 #[derive(Drop)]
@@ -100,49 +99,5 @@ impl<'a, T: Parts + 'a> Iterator for Backward<'a, T> {
     fn next(&mut self) -> Option<PartRef<'a>> {
         let shown = self.parts.next_back()?;
         Some(shown.part)
-    }
-}
-
-/// The fees and sizes of parts in their order. Contracts see those that are still to come.
-#[derive(Drop)]
-pub struct Rates<'a, T: Parts> {
-    parts: PartWalk<'a, T>,
-}
-
-impl<'a, T: Parts> Model for Rates<'a, T> {
-    ghost use Rattle.std.specs.Prelude.{List, map};
-    ghost use Rattle.std.specs.Coded.{coded_list};
-    ghost use Rattle.fee_rate.specs.declared.rates.Sum.{Sum};
-    ghost use Rattle.tx_graph.specs.Readings.{rate_code};
-
-    ghost Value = { List Sum };
-
-    ghost coded = { coded_list rate_code };
-
-    ghost view = { λ a. map (λ s. s.part.rate) a.parts };
-}
-
-impl<'a, T: Parts> Rates<'a, T> {
-    /// Those of the parts that a walk shows.
-    pub(crate) fn new(parts: PartWalk<'a, T>) -> Self
-        ensures { result ≡ map (λ s. s.part.rate) parts.entry }
-    {
-        Rates { parts }
-    }
-}
-
-impl<'a, T: Parts + 'a> Iterator for Rates<'a, T> {
-    type Item = FeeRate;
-
-    ghost use Rattle.std.specs.Iterator.{YieldsFirstBy, item_count};
-    ghost use Rattle.diagram.specs.Parts.{rate_of};
-
-    ghost next_gives = { YieldsFirstBy rate_of (λ rest. rest) };
-
-    ghost remaining = { item_count (λ rest. rest) };
-
-    fn next(&mut self) -> Option<FeeRate> {
-        let shown = self.parts.next()?;
-        Some(shown.part.rate)
     }
 }
