@@ -40,6 +40,23 @@ fn alone<L: Ledger>(
     Ok(Cluster::single(room.alloc, row.0, row.1, 1, &mut room.work, steps)?)
 }
 
+// One cluster of two that have a name each. It has no clause of what the cluster is, since callers would pay for it in
+// their proofs.
+fn joined<L: Ledger>(
+    rt: &impl Abort,
+    room: &mut Room,
+    steps: &mut Steps<L>,
+    old: &Cluster<1>,
+    one: &Cluster<1>,
+    pair: (TxId, TxId),
+) -> Result<Cluster<1>, Fail>
+    requires old { old.now.names ≡ pair.0 ∷ [] }
+    requires one { one.now.names ≡ pair.1 ∷ [] }
+{
+    assert!(rt; pair.0 != pair.1);
+    Ok(old.joined(room.alloc, one, pair.0, pair.1, &mut room.work, steps)?)
+}
+
 // The cluster of a name and another that depends on it.
 fn pair<L: Ledger>(
     rt: &impl Abort,
@@ -50,8 +67,7 @@ fn pair<L: Ledger>(
 ) -> Result<Cluster<1>, Fail> {
     let old = alone(rt, room, steps, parent)?;
     let one = alone(rt, room, steps, child)?;
-    assert!(rt; parent.0 != child.0);
-    Ok(old.joined(room.alloc, &one, parent.0, child.0, &mut room.work, steps)?)
+    joined(rt, room, steps, &old, &one, (parent.0, child.0))
 }
 
 // Clusters of one name, or of one and another that depends on it.
@@ -179,63 +195,88 @@ fn name(digit: u8) -> TxId {
     u64::from(digit.wrapping_sub(b'0'))
 }
 
+// The names of the next part of a walk. This and the next function have no clause, since callers would pay for it in
+// their proofs.
+fn next_part<'a>(walk: &mut PartWalk<'a, Stored<1>>) -> Option<&'a [TxId]> {
+    match walk.next() {
+        Some(shown) => Some(shown.part.ids),
+        None => None,
+    }
+}
+
+// The same from the back.
+fn next_back_part<'a>(walk: &mut PartWalk<'a, Stored<1>>) -> Option<&'a [TxId]> {
+    match walk.next_back() {
+        Some(shown) => Some(shown.part.ids),
+        None => None,
+    }
+}
+
+// Asserts that a part is of this name alone.
+fn is_of(rt: &impl Abort, part: Option<&[TxId]>, digit: u8) {
+    match part {
+        Some(ids) => assert_eq!(rt; ids, [name(digit)].as_slice()),
+        None => panic!(rt; "a part is missing"),
+    }
+}
+
 // Asserts that a walk gives these names, one a part, from the front.
 fn gives(rt: &impl Abort, mut walk: PartWalk<'_, Stored<1>>, names: &[u8]) {
     for digit in names {
-        match walk.next() {
-            Some(shown) => assert_eq!(rt; shown.part.ids, [name(*digit)].as_slice()),
-            None => panic!(rt; "a part is missing"),
-        }
+        is_of(rt, next_part(&mut walk), *digit);
     }
-    assert!(rt; walk.next().is_none());
+    assert!(rt; next_part(&mut walk).is_none());
 }
 
 // The same from the back.
 fn gives_back(rt: &impl Abort, mut walk: PartWalk<'_, Stored<1>>, names: &[u8]) {
     for digit in names.iter().rev() {
-        match walk.next_back() {
-            Some(shown) => assert_eq!(rt; shown.part.ids, [name(*digit)].as_slice()),
-            None => panic!(rt; "a part is missing"),
-        }
+        is_of(rt, next_back_part(&mut walk), *digit);
     }
-    assert!(rt; walk.next_back().is_none());
+    assert!(rt; next_back_part(&mut walk).is_none());
 }
 
 // Rows, and the names that the five walks give after each, a digit a name.
+const ROWS: [(Act, [&str; 5]); 16] = [
+    (Act::Add(Tag::Both), ["1", "1", "1", "", ""]),
+    (Act::Add(Tag::MainOnly), ["12", "1", "1", "2", ""]),
+    (Act::Add(Tag::TopOnly), ["12", "13", "1", "2", "3"]),
+    (Act::Add(Tag::Both), ["124", "134", "14", "2", "3"]),
+    (Act::Add(Tag::Both), ["17248", "17348", "1748", "2", "3"]),
+    (
+        Act::Move(1, Some(Tag::Both)),
+        ["17248", "173248", "17248", "", "3"],
+    ),
+    (
+        Act::Move(4, Some(Tag::MainOnly)),
+        ["17248", "1324", "124", "78", "3"],
+    ),
+    (Act::Exchange(2), ["17248", "3124", "124", "78", "3"]),
+    (Act::Move(0, None), ["7248", "324", "24", "78", "3"]),
+    (Act::Exchange(4), ["7824", "324", "24", "78", "3"]),
+    (
+        Act::Move(2, Some(Tag::Both)),
+        ["37824", "324", "324", "78", ""],
+    ),
+    (Act::Change(1, 4), ["342", "3542", "342", "", "5"]),
+    (Act::Move(1, None), ["34", "354", "34", "", "5"]),
+    (Act::Move(2, None), ["4", "54", "4", "", "5"]),
+    (Act::Move(3, None), ["", "5", "", "", "5"]),
+    (Act::Move(5, None), ["", "", "", "", ""]),
+];
+
+// Asserts that the five walks give these names.
+fn walks_give(rt: &impl Abort, store: &ClusterStore<1>, walks: &[&str; 5]) {
+    for at in 0..5 {
+        gives(rt, walk(store, at), walks[at].as_bytes());
+        gives_back(rt, walk(store, at), walks[at].as_bytes());
+    }
+}
+
 fn all_rows(rt: &impl Abort, table: &mut Table) -> Result<(), Fail> {
-    let rows = [
-        (Act::Add(Tag::Both), ["1", "1", "1", "", ""]),
-        (Act::Add(Tag::MainOnly), ["12", "1", "1", "2", ""]),
-        (Act::Add(Tag::TopOnly), ["12", "13", "1", "2", "3"]),
-        (Act::Add(Tag::Both), ["124", "134", "14", "2", "3"]),
-        (Act::Add(Tag::Both), ["17248", "17348", "1748", "2", "3"]),
-        (
-            Act::Move(1, Some(Tag::Both)),
-            ["17248", "173248", "17248", "", "3"],
-        ),
-        (
-            Act::Move(4, Some(Tag::MainOnly)),
-            ["17248", "1324", "124", "78", "3"],
-        ),
-        (Act::Exchange(2), ["17248", "3124", "124", "78", "3"]),
-        (Act::Move(0, None), ["7248", "324", "24", "78", "3"]),
-        (Act::Exchange(4), ["7824", "324", "24", "78", "3"]),
-        (
-            Act::Move(2, Some(Tag::Both)),
-            ["37824", "324", "324", "78", ""],
-        ),
-        (Act::Change(1, 4), ["342", "3542", "342", "", "5"]),
-        (Act::Move(1, None), ["34", "354", "34", "", "5"]),
-        (Act::Move(2, None), ["4", "54", "4", "", "5"]),
-        (Act::Move(3, None), ["", "5", "", "", "5"]),
-        (Act::Move(5, None), ["", "", "", "", ""]),
-    ];
-    for (act, walks) in rows {
+    for (act, walks) in ROWS {
         obey(rt, table, act)?;
-        for at in 0..5 {
-            gives(rt, walk(&table.store, at), walks[at].as_bytes());
-            gives_back(rt, walk(&table.store, at), walks[at].as_bytes());
-        }
+        walks_give(rt, &table.store, &walks);
     }
     Ok(())
 }

@@ -1,7 +1,7 @@
 -- Two clusters of one name each, which differ.
 use Rattle.std.proofs.Common.{rules, ◌≡◌, ◌+◌, ◌≤◌, ℕ, List, [], ◌∷◌, length, Contains, inl, inr, sym, ap, ◌∙◌, subst, arith}
 use Rattle.lists.proofs.Entries.{Contains-cases, Contains-head, none_in_empty}
-use Rattle.order_tests.proofs.cluster_store_tests.pair.Goals as goal
+use Rattle.order_tests.proofs.cluster_store_tests.joined.Goals as goal
 
 only : (x y : ℕ) → Contains (x ∷ []) y → x ≡ y
 only x y here = elim (Contains-cases x y [] here) [ inl same ↦ same | inr later ↦ absurd (none_in_empty y later) ]
@@ -11,12 +11,12 @@ alone_in x names is = subst (λ (xs : List ℕ). Contains xs x) (sym is) (Contai
 
 pub joined-requires : goal.joined-requires
 joined-requires g c =
-    let parent = c.args.parent.0 in
-    let child = c.args.child.0 in
-    let first : c.in_ok-old.old.names ≡ parent ∷ [] = c.in_ok-old.ensures in
-    let second : c.in_ok-one.one.names ≡ child ∷ [] = c.in_ok-one.ensures in
-    let long : length c.in_ok-old.old.names ≡ 1 = ap length first in
-    let wide : length c.in_ok-one.one.names ≡ 1 = ap length second in
+    let parent = c.args.pair.0 in
+    let child = c.args.pair.1 in
+    let first : c.args.old.now.names ≡ parent ∷ [] = c.requires.old in
+    let second : c.args.one.now.names ≡ child ∷ [] = c.requires.one in
+    let long : length c.args.old.now.names ≡ 1 = ap length first in
+    let wide : length c.args.one.now.names ≡ 1 = ap length second in
     let other : parent ≡ child → ⊥ = search rules in (
       search rules,
       (
@@ -26,7 +26,7 @@ joined-requires g c =
           (
             λ x here there.
                 other (only parent x (subst (λ (xs : List ℕ). Contains xs x) first here) ∙ sym (only child x (subst (λ (xs : List ℕ). Contains xs x) second there))),
-            inl (alone_in parent c.in_ok-old.old.names first, alone_in child c.in_ok-one.one.names second),
+            inl (alone_in parent c.args.old.now.names first, alone_in child c.args.one.now.names second),
           ),
         ),
       ),
