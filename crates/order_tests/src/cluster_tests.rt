@@ -1,8 +1,8 @@
-ghost use Rattle.std.specs.Prelude.{◌≡◌, ◌≢◌, ◌↔◌, ◌*◌, ◌^◌, ◌<◌, ◌≤◌, [], ◌∷◌, true, All, Contains, IfOk};
+ghost use Rattle.std.specs.Prelude.{◌≡◌, ◌≢◌, ◌↔◌, ◌*◌, ◌^◌, ◌<◌, ◌≤◌, [], ◌∷◌, ℕ, true, All, Contains, IfOk};
 ghost use Rattle.certificate.specs.Accounts.{amount_of};
 ghost use Rattle.certificate.specs.Answers.{AreClaims};
 
-use certificate::{EdgeList, FlowList, Part, TxList, Written, check};
+use certificate::{CheckFault, EdgeList, FlowList, Part, TxList, Written, check};
 use cluster::{Cluster, Work};
 use fee_rate::{FeeRate, Sum, is_fee, is_rate};
 use graphs::{Flow, IdList, TxId};
@@ -110,6 +110,31 @@ fn claims_of<const W: usize>(
     Ok(claims)
 }
 
+// What the checker says of claims. This and the next function have no clause, since callers would pay for it in their
+// proofs.
+fn verdict(alloc: Global, graph: &Written, claims: &[Part]) -> Result<(), CheckFault>
+    requires { AreClaims claims.now }
+{
+    check(alloc, graph, claims)
+}
+
+// The fee and the size of a part.
+fn rate_of<const W: usize>(rt: &impl Abort, cluster: &Cluster<W>, at: usize) -> (i64, u64) {
+    assert!(rt; at < cluster.part_count());
+    let rate = cluster.part(at).rate;
+    (rate.fee, rate.size)
+}
+
+// Compares the fees and sizes of the parts of a cluster.
+fn parts_are<const W: usize>(rt: &impl Abort, cluster: &Cluster<W>, parts: &[(i64, u64)]) {
+    assert_eq!(rt; cluster.part_count(), parts.len());
+    for at in 0..parts.len() {
+        let (fee, size) = rate_of(rt, cluster, at);
+        assert_eq!(rt; fee, parts[at].0);
+        assert_eq!(rt; size, parts[at].1);
+    }
+}
+
 // Has the order of a cluster checked, and compares the fees and sizes of its parts.
 fn checked<const W: usize>(
     rt: &impl Abort,
@@ -119,14 +144,8 @@ fn checked<const W: usize>(
 ) -> Result<(), Fail> {
     let claims = claims_of(rt, alloc, cluster)?;
     let graph = written(rt, alloc, cluster)?;
-    assert_eq!(rt; check(alloc, &graph, claims.as_slice()), Ok(()));
-    assert_eq!(rt; cluster.part_count(), parts.len());
-    for at in 0..parts.len() {
-        assert!(rt; at < cluster.part_count());
-        let rate = cluster.part(at).rate;
-        assert_eq!(rt; rate.fee, parts[at].0);
-        assert_eq!(rt; rate.size, parts[at].1);
-    }
+    assert_eq!(rt; verdict(alloc, &graph, claims.as_slice()), Ok(()));
+    parts_are(rt, cluster, parts);
     Ok(())
 }
 
@@ -152,6 +171,25 @@ fn alone<L: Ledger, const W: usize>(
     Ok(Cluster::single(room.alloc, id, fee, size, &mut room.work, steps)?)
 }
 
+// One cluster of a cluster and that of one name, which depends on one of it. This and the next functions have no clause,
+// since callers would pay for it in their proofs.
+fn joined<L: Ledger, const W: usize>(
+    rt: &impl Abort,
+    room: &mut Room<W>,
+    steps: &mut Steps<L>,
+    old: &Cluster<W>,
+    one: &Cluster<W>,
+    pair: (TxId, TxId),
+) -> Result<Cluster<W>, Fail>
+    requires wide { W ≤ 2 }
+    requires one { one.now.names ≡ pair.1 ∷ [] }
+{
+    assert!(rt; !has(old, pair.1));
+    assert!(rt; has(old, pair.0));
+    assert!(rt; old.names().len() < 64 * W);
+    Ok(old.joined(room.alloc, one, pair.0, pair.1, &mut room.work, steps)?)
+}
+
 // One cluster of a cluster and a name of its own, which depends on one of it.
 fn grown<L: Ledger, const W: usize>(
     rt: &impl Abort,
@@ -165,10 +203,7 @@ fn grown<L: Ledger, const W: usize>(
     requires { W ≤ 2 }
 {
     let one = alone(rt, room, steps, id, rate.0, rate.1)?;
-    assert!(rt; !has(old, id));
-    assert!(rt; has(old, parent));
-    assert!(rt; old.names().len() < 64 * W);
-    Ok(old.joined(room.alloc, &one, parent, id, &mut room.work, steps)?)
+    joined(rt, room, steps, old, &one, (parent, id))
 }
 
 // The cluster with one more dependency.
@@ -200,6 +235,19 @@ fn paying<L: Ledger, const W: usize>(
     Ok(old.with_fee(room.alloc, id, fee, &mut room.work, steps)?)
 }
 
+// The clusters without some names.
+fn rest_of<L: Ledger, const W: usize>(
+    room: &mut Room<W>,
+    steps: &mut Steps<L>,
+    old: &Cluster<W>,
+    names: &[TxId],
+) -> Result<Vec<Cluster<W>>, Fail>
+    requires { (id : ℕ) → Contains names.now id → Contains old.now.names id }
+{
+    let list = old.without(room.alloc, names, &mut room.work, steps)?;
+    Ok(list.into_vec())
+}
+
 // The clusters without a name.
 fn left<L: Ledger, const W: usize>(
     rt: &impl Abort,
@@ -209,8 +257,37 @@ fn left<L: Ledger, const W: usize>(
     id: TxId,
 ) -> Result<Vec<Cluster<W>>, Fail> {
     assert!(rt; has(old, id));
-    let list = old.without(room.alloc, [id].as_slice(), &mut room.work, steps)?;
-    Ok(list.into_vec())
+    rest_of(room, steps, old, [id].as_slice())
+}
+
+// Puts one more name into a cluster, which depends on one of it.
+fn grow<L: Ledger, const W: usize>(
+    rt: &impl Abort,
+    room: &mut Room<W>,
+    steps: &mut Steps<L>,
+    cluster: &mut Cluster<W>,
+    row: (TxId, TxId, i64, u64),
+) -> Result<(), Fail>
+    requires { W ≤ 2 }
+{
+    *cluster = grown(rt, room, steps, cluster, row.0, row.1, (row.2, row.3))?;
+    Ok(())
+}
+
+// Puts more names into a cluster, each of which depends on one before it.
+fn grow_by<L: Ledger, const W: usize>(
+    rt: &impl Abort,
+    room: &mut Room<W>,
+    steps: &mut Steps<L>,
+    cluster: &mut Cluster<W>,
+    rows: &[(TxId, TxId, i64, u64)],
+) -> Result<(), Fail>
+    requires { W ≤ 2 }
+{
+    for row in rows {
+        grow(rt, room, steps, cluster, *row)?;
+    }
+    Ok(())
 }
 
 // A cluster by its names: each but the first depends on one before it, and has a fee and a size.
@@ -225,10 +302,7 @@ fn built<L: Ledger, const W: usize>(
     assert!(rt; rows.len() > 0);
     let (_, first, fee, size) = rows[0];
     let mut cluster = alone(rt, room, steps, first, fee, size)?;
-    for at in 1..rows.len() {
-        let (parent, id, fee, size) = rows[at];
-        cluster = grown(rt, room, steps, &cluster, parent, id, (fee, size))?;
-    }
+    grow_by(rt, room, steps, &mut cluster, &rows[1..])?;
     Ok(cluster)
 }
 
@@ -277,14 +351,8 @@ fn left_case<L: Ledger, const W: usize>(
     checked(rt, alloc, &rest[wanted.1], parts)
 }
 
-// A child pays for its parent, by what it sends.
-fn pair_is_one_part<L: Ledger, const W: usize>(
-    rt: &impl Abort,
-    room: &mut Room<W>,
-    steps: &mut Steps<L>,
-    pair: &Cluster<W>,
-) -> Result<(), Fail> {
-    checked(rt, room.alloc, pair, &[(1000, 400)])?;
+// The order of the two, and what the one sends to the other.
+fn child_sends<const W: usize>(rt: &impl Abort, pair: &Cluster<W>) {
     assert_eq!(rt; pair.order(), [1, 2].as_slice());
     assert!(rt; pair.part_count() > 0);
     let flow = Flow {
@@ -293,6 +361,17 @@ fn pair_is_one_part<L: Ledger, const W: usize>(
         amount: 160_000,
     };
     assert_eq!(rt; pair.part(0).flows, [flow].as_slice());
+}
+
+// A child pays for its parent, by what it sends.
+fn pair_is_one_part<L: Ledger, const W: usize>(
+    rt: &impl Abort,
+    room: &mut Room<W>,
+    steps: &mut Steps<L>,
+    pair: &Cluster<W>,
+) -> Result<(), Fail> {
+    checked(rt, room.alloc, pair, &[(1000, 400)])?;
+    child_sends(rt, pair);
     fee_case(rt, room, steps, pair, (1, 901), &[(901, 200), (900, 200)])?;
     left_case(rt, room, steps, pair, 1, (1, 0), &[(900, 200)])
 }
@@ -304,9 +383,15 @@ fn all_go<L: Ledger, const W: usize>(
     steps: &mut Steps<L>,
     old: &Cluster<W>,
 ) -> Result<(), Fail> {
-    let none = old.without(room.alloc, old.names(), &mut room.work, steps)?;
+    let none = rest_of(room, steps, old, old.names())?;
     assert_eq!(rt; none.len(), 0);
     Ok(())
+}
+
+fn each_has_all<const W: usize>(rt: &impl Abort, left: &[Cluster<W>], old: &Cluster<W>) {
+    for cluster in left {
+        assert_eq!(rt; cluster.names(), old.names());
+    }
 }
 
 // Without none of the names one cluster of all is left.
@@ -316,11 +401,9 @@ fn none_goes<L: Ledger, const W: usize>(
     steps: &mut Steps<L>,
     old: &Cluster<W>,
 ) -> Result<(), Fail> {
-    let all = old.without(room.alloc, [].as_slice(), &mut room.work, steps)?;
+    let all = rest_of(room, steps, old, [].as_slice())?;
     assert_eq!(rt; all.len(), 1);
-    for cluster in all {
-        assert_eq!(rt; cluster.names(), old.names());
-    }
+    each_has_all(rt, &all, old);
     Ok(())
 }
 
@@ -331,11 +414,21 @@ fn four_fall_apart<L: Ledger, const W: usize>(
     steps: &mut Steps<L>,
     four: &Cluster<W>,
 ) -> Result<(), Fail> {
-    checked(rt, room.alloc, four, &[(12, 20), (5, 10)])?;
-    link_case(rt, room, steps, four, (3, 4), &[(12, 20), (5, 10)])?;
     left_case(rt, room, steps, four, 1, (2, 0), &[(6, 5), (5, 10)])?;
     left_case(rt, room, steps, four, 1, (2, 1), &[(6, 5)])?;
-    left_case(rt, room, steps, four, 2, (1, 0), &[(11, 25)])?;
+    left_case(rt, room, steps, four, 2, (1, 0), &[(11, 25)])
+}
+
+// The four, the four with one more dependency, and what is left without some of them, without all, and without none.
+fn four_cases<L: Ledger, const W: usize>(
+    rt: &impl Abort,
+    room: &mut Room<W>,
+    steps: &mut Steps<L>,
+    four: &Cluster<W>,
+) -> Result<(), Fail> {
+    checked(rt, room.alloc, four, &[(12, 20), (5, 10)])?;
+    link_case(rt, room, steps, four, (3, 4), &[(12, 20), (5, 10)])?;
+    four_fall_apart(rt, room, steps, four)?;
     all_go(rt, room, steps, four)?;
     none_goes(rt, room, steps, four)
 }
@@ -361,7 +454,24 @@ fn four<L: Ledger, const W: usize>(
 {
     let rows = [(1, 1, 0, 10), (1, 2, 6, 5), (1, 3, 6, 5), (2, 4, 5, 10)];
     let cluster = built(rt, room, steps, &rows)?;
-    four_fall_apart(rt, room, steps, &cluster)
+    four_cases(rt, room, steps, &cluster)
+}
+
+// Puts names up to a number under the one before.
+fn lengthen<L: Ledger, const W: usize>(
+    rt: &impl Abort,
+    room: &mut Room<W>,
+    steps: &mut Steps<L>,
+    cluster: &mut Cluster<W>,
+    count: u64,
+) -> Result<(), Fail>
+    requires { W ≤ 2 }
+{
+    for id in 1..count {
+        assert!(rt; id <= 1000);
+        grow(rt, room, steps, cluster, (id - 1, id, id as i64, 1))?;
+    }
+    Ok(())
 }
 
 // A chain of so many names, of which each pays more than the one before it.
@@ -374,10 +484,7 @@ fn chain<L: Ledger, const W: usize>(
     requires { W ≤ 2 }
 {
     let mut cluster = alone(rt, room, steps, 0, 0, 1)?;
-    for id in 1..count {
-        assert!(rt; id <= 1000);
-        cluster = grown(rt, room, steps, &cluster, id - 1, id, (id as i64, 1))?;
-    }
+    lengthen(rt, room, steps, &mut cluster, count)?;
     Ok(cluster)
 }
 
@@ -415,15 +522,23 @@ fn narrow<L: Ledger>(rt: &impl Abort, alloc: Global, steps: &mut Steps<L>) -> Re
     four(rt, &mut room, steps)
 }
 
+fn wide_cases<L: Ledger>(
+    rt: &impl Abort,
+    room: &mut Room<2>,
+    steps: &mut Steps<L>,
+) -> Result<(), Fail> {
+    pair(rt, room, steps)?;
+    four(rt, room, steps)?;
+    half(rt, room, steps)?;
+    whole(rt, room, steps)
+}
+
 fn wide<L: Ledger>(rt: &impl Abort, alloc: Global, steps: &mut Steps<L>) -> Result<(), Fail> {
     let mut room = Room::<2> {
         alloc,
         work: Work::new(alloc)?,
     };
-    pair(rt, &mut room, steps)?;
-    four(rt, &mut room, steps)?;
-    half(rt, &mut room, steps)?;
-    whole(rt, &mut room, steps)
+    wide_cases(rt, &mut room, steps)
 }
 
 fn rows<K: ledger::Ledger>(rt: &impl Abort, alloc: Global, blank: Blank) -> Result<(), Fail>

@@ -1,7 +1,7 @@
 use Rattle.std.proofs.Common.{◌≡◌, ◌+◌, ◌*◌, ◌≤◌, ◌<◌, ◌∷◌, [], List, ℕ, length, rules, true, false, sym, ap, ◌∙◌, subst, arith, inl, true≢false}
 use Rattle.std.specs.Prelude.{Contains}
 use Rattle.lists.proofs.Entries.{Contains-cases, Contains-head, none_in_empty}
-use Rattle.order_tests.proofs.cluster_tests.grown.Goals as goal
+use Rattle.order_tests.proofs.cluster_tests.joined.Goals as goal
 
 only : (x y : ℕ) → Contains (x ∷ []) y → x ≡ y
 only x y here = elim (Contains-cases x y [] here) as (λ _. x ≡ y) [ inl same ↦ same | Rattle.std.proofs.Common.inr later ↦ absurd (none_in_empty y later) ]
@@ -10,8 +10,8 @@ pub joined-requires : goal.joined-requires
 joined-requires g c =
     let absent : c.has.result ≡ false = search rules in
     let there : c.has-2.result ≡ true = search rules in
-    let names : c.in_ok-one.one.names ≡ c.args.id ∷ [] = c.in_ok-one.ensures in
-    let long : length c.in_ok-one.one.names ≡ 1 = ap length names in
+    let names : c.args.one.now.names ≡ c.args.pair.1 ∷ [] = c.requires.one in
+    let long : length c.args.one.now.names ≡ 1 = ap length names in
     let own : length c.names.result.now ≡ length c.args.old.now.names = ap length c.names.ensures.names in (
       search rules,
       (
@@ -19,8 +19,8 @@ joined-requires g c =
         (
           omega (arith, long, own),
           (
-            λ x here other. true≢false (sym (c.has.ensures.1 (subst (λ (y : ℕ). Contains c.args.old.now.names y) (sym (only c.args.id x (subst (λ (xs : List ℕ). Contains xs x) names other))) here)) ∙ absent),
-            inl (c.has-2.ensures.0 there, subst (λ (xs : List ℕ). Contains xs c.args.id) (sym names) (Contains-head c.args.id [])),
+            λ x here other. true≢false (sym (c.has.ensures.1 (subst (λ (y : ℕ). Contains c.args.old.now.names y) (sym (only c.args.pair.1 x (subst (λ (xs : List ℕ). Contains xs x) names other))) here)) ∙ absent),
+            inl (c.has-2.ensures.0 there, subst (λ (xs : List ℕ). Contains xs c.args.pair.1) (sym names) (Contains-head c.args.pair.1 [])),
           ),
         ),
       ),
