@@ -79,44 +79,127 @@ fn diamond(rt: &impl Abort, alloc: Global) -> Result<DepGraph<1>, Fail> {
     Ok(graph)
 }
 
+// What is asked of a graph and done to it. None of these has a clause, since callers would pay for it in their proofs.
+
+fn rate(rt: &impl Abort, graph: &DepGraph<1>, place: usize) -> FeeRate {
+    assert!(rt; place < 64);
+    assert!(rt; is_in(graph, place));
+    graph.rate(place)
+}
+
+fn descendants(rt: &impl Abort, graph: &DepGraph<1>, place: usize) -> usize {
+    assert!(rt; place < 64);
+    assert!(rt; is_in(graph, place));
+    graph.descendants(place).count()
+}
+
+fn remove(rt: &impl Abort, graph: &mut DepGraph<1>, place: usize) {
+    assert!(rt; place < 64);
+    assert!(rt; is_in(graph, place));
+    graph.remove_bridging(place);
+}
+
+fn set_fee(rt: &impl Abort, graph: &mut DepGraph<1>, place: usize, fee: i64) {
+    assert!(rt; place < 64);
+    assert!(rt; is_in(graph, place));
+    graph.set_fee(place, fee);
+}
+
+fn members(graph: &DepGraph<2>) -> Bits<2> {
+    graph.members()
+}
+
+fn count<const W: usize>(graph: &DepGraph<W>) -> usize {
+    graph.members().count()
+}
+
+fn part_without(alloc: Global, graph: &DepGraph<1>, place: usize) -> Result<DepGraph<1>, Fail>
+    requires { place < 64 }
+{
+    Ok(graph.part(alloc, all_but(graph, place))?)
+}
+
+fn part_of(alloc: Global, graph: &DepGraph<2>, set: &Bits<2>) -> Result<DepGraph<2>, Fail> {
+    Ok(graph.part(alloc, of_both(graph, set))?)
+}
+
+fn merged(
+    rt: &impl Abort,
+    alloc: Global,
+    first: &DepGraph<1>,
+    second: &DepGraph<1>,
+) -> Result<DepGraph<1>, Fail> {
+    assert!(rt; second.members().count() < 32);
+    assert!(rt; first.members().count() < 32);
+    Ok(first.merge(alloc, second)?)
+}
+
+fn merged_wide(
+    rt: &impl Abort,
+    alloc: Global,
+    left: &DepGraph<2>,
+    right: &DepGraph<2>,
+) -> Result<DepGraph<2>, Fail> {
+    assert!(rt; left.members().count() <= 60);
+    assert!(rt; right.members().count() <= 68);
+    Ok(left.merge(alloc, right)?)
+}
+
+// How many places the component of a member has, without another member.
+fn component_without(rt: &impl Abort, graph: &DepGraph<1>, place: usize, out: usize) -> usize {
+    assert!(rt; out < 64);
+    let rest = all_but(graph, out);
+    assert!(rt; place < 64);
+    assert!(rt; rest.has(place));
+    graph.component(place, rest).count()
+}
+
+// The covers of a graph, and what stands in it after members go and come.
+fn covers_change(rt: &impl Abort, graph: &mut DepGraph<1>) -> Result<(), Fail> {
+    assert_eq!(rt; covers(rt, graph, 3).count(), 2);
+    assert_eq!(rt; covers(rt, graph, 3).least(), Some(1));
+    assert_eq!(rt; descendants(rt, graph, 0), 4);
+    remove(rt, graph, 1);
+    assert_eq!(rt; covers(rt, graph, 3).least(), Some(2));
+    remove(rt, graph, 2);
+    assert_eq!(rt; covers(rt, graph, 3).least(), Some(0));
+    assert_eq!(rt; add(rt, graph, -3, 9)?, 1);
+    set_fee(rt, graph, 1, 8);
+    assert_eq!(rt; rate(rt, graph, 1), FeeRate { fee: 8, size: 9 });
+    Ok(())
+}
+
 #[test]
 fn covers_leave_out_what_others_imply(rt: HostRuntime) -> Result<(), Fail> {
     let mut graph = diamond(&rt, rt.alloc())?;
-    assert_eq!(rt; covers(&rt, &graph, 3).count(), 2);
-    assert_eq!(rt; covers(&rt, &graph, 3).least(), Some(1));
-    assert!(rt; is_in(&graph, 0));
-    assert_eq!(rt; graph.descendants(0).count(), 4);
-    assert!(rt; is_in(&graph, 1));
-    graph.remove_bridging(1);
-    assert_eq!(rt; covers(&rt, &graph, 3).least(), Some(2));
-    assert!(rt; is_in(&graph, 2));
-    graph.remove_bridging(2);
-    assert_eq!(rt; covers(&rt, &graph, 3).least(), Some(0));
-    assert_eq!(rt; add(&rt, &mut graph, -3, 9)?, 1);
-    assert!(rt; is_in(&graph, 1));
-    graph.set_fee(1, 8);
-    assert!(rt; is_in(&graph, 1));
-    assert_eq!(rt; graph.rate(1), FeeRate { fee: 8, size: 9 });
+    covers_change(&rt, &mut graph)
+}
+
+fn part_is_numbered(rt: &impl Abort, part: &DepGraph<1>) {
+    assert_eq!(rt; count(part), 3);
+    assert_eq!(rt; covers(rt, part, 2).least(), Some(1));
+}
+
+fn whole_is_numbered(rt: &impl Abort, whole: &DepGraph<1>) {
+    assert_eq!(rt; count(whole), 7);
+    assert_eq!(rt; rate(rt, whole, 6), FeeRate { fee: 7, size: 4 });
+    assert_eq!(rt; covers(rt, whole, 6).least(), Some(4));
+    assert_eq!(rt; component_without(rt, whole, 5, 3), 3);
+}
+
+// The part of a graph without a member, and both side by side.
+fn part_and_whole(rt: &impl Abort, alloc: Global, graph: &DepGraph<1>) -> Result<(), Fail> {
+    let part = part_without(alloc, graph, 1)?;
+    part_is_numbered(rt, &part);
+    let whole = merged(rt, alloc, &part, graph)?;
+    whole_is_numbered(rt, &whole);
     Ok(())
 }
 
 #[test]
 fn places_are_numbered_anew(rt: HostRuntime) -> Result<(), Fail> {
     let graph = diamond(&rt, rt.alloc())?;
-    let part = graph.part(rt.alloc(), all_but(&graph, 1))?;
-    assert_eq!(rt; part.members().count(), 3);
-    assert_eq!(rt; covers(&rt, &part, 2).least(), Some(1));
-    assert!(rt; graph.members().count() < 32);
-    assert!(rt; part.members().count() < 32);
-    let whole = part.merge(rt.alloc(), &graph)?;
-    assert_eq!(rt; whole.members().count(), 7);
-    assert!(rt; is_in(&whole, 6));
-    assert_eq!(rt; whole.rate(6), FeeRate { fee: 7, size: 4 });
-    assert_eq!(rt; covers(&rt, &whole, 6).least(), Some(4));
-    let rest = all_but(&whole, 3);
-    assert!(rt; rest.has(5));
-    assert_eq!(rt; whole.component(5, rest).count(), 3);
-    Ok(())
+    part_and_whole(&rt, rt.alloc(), &graph)
 }
 
 // The plain program of places numbered anew: one look at each place, for each set. Those of the set that `within`
@@ -185,10 +268,50 @@ fn thin(rt: &impl Abort, graph: &mut DepGraph<2>, divisor: usize, remainder: usi
     }
 }
 
-// Places that lie as far apart as they can, or side by side but for one, at either end and across words.
-#[test]
-fn places_are_numbered_as_the_plain_program_does(rt: HostRuntime) -> Result<(), Fail> {
-    let whole = halves(&rt, rt.alloc(), 128)?;
+fn thinned(
+    rt: &impl Abort,
+    alloc: Global,
+    count: usize,
+    row: (usize, usize),
+) -> Result<DepGraph<2>, Fail> {
+    let mut graph = halves(rt, alloc, count)?;
+    thin(rt, &mut graph, row.0, row.1);
+    Ok(graph)
+}
+
+// The part of a graph that a row leaves.
+fn part_case(
+    rt: &impl Abort,
+    alloc: Global,
+    whole: &DepGraph<2>,
+    row: (usize, usize),
+) -> Result<(), Fail> {
+    let rest = thinned(rt, alloc, 128, row)?;
+    let part = part_of(alloc, whole, &members(&rest))?;
+    compare(rt, whole, of_both(whole, &members(&rest)), &part, 0);
+    Ok(())
+}
+
+fn both_are_numbered(
+    rt: &impl Abort,
+    alloc: Global,
+    left: &DepGraph<2>,
+    right: &DepGraph<2>,
+) -> Result<(), Fail> {
+    let both = merged_wide(rt, alloc, left, right)?;
+    compare(rt, left, members(left), &both, 0);
+    compare(rt, right, members(right), &both, count(left));
+    Ok(())
+}
+
+// What a row leaves of two graphs, side by side.
+fn merge_case(rt: &impl Abort, alloc: Global, row: (usize, usize)) -> Result<(), Fail> {
+    let left = thinned(rt, alloc, 60, row)?;
+    let right = thinned(rt, alloc, 68, row)?;
+    both_are_numbered(rt, alloc, &left, &right)
+}
+
+fn rows_are_numbered(rt: &impl Abort, alloc: Global, whole: &DepGraph<2>) -> Result<(), Fail> {
     let rows = [
         (1, 0),
         (2, 0),
@@ -198,27 +321,16 @@ fn places_are_numbered_as_the_plain_program_does(rt: HostRuntime) -> Result<(), 
         (127, 1),
         (128, 127),
     ];
-    for (divisor, remainder) in &rows {
-        let mut rest = halves(&rt, rt.alloc(), 128)?;
-        thin(&rt, &mut rest, *divisor, *remainder);
-        let within = of_both(&whole, &rest.members());
-        let part = whole.part(rt.alloc(), within)?;
-        compare(&rt, &whole, within, &part, 0);
-        let mut left = halves(&rt, rt.alloc(), 60)?;
-        thin(&rt, &mut left, *divisor, *remainder);
-        let mut right = halves(&rt, rt.alloc(), 68)?;
-        thin(&rt, &mut right, *divisor, *remainder);
-        assert!(rt; left.members().count() <= 60);
-        assert!(rt; right.members().count() <= 68);
-        let merged = left.merge(rt.alloc(), &right)?;
-        compare(&rt, &left, left.members(), &merged, 0);
-        compare(
-            &rt,
-            &right,
-            right.members(),
-            &merged,
-            left.members().count(),
-        );
+    for row in rows {
+        part_case(rt, alloc, whole, row)?;
+        merge_case(rt, alloc, row)?;
     }
     Ok(())
+}
+
+// Places that lie as far apart as they can, or side by side but for one, at either end and across words.
+#[test]
+fn places_are_numbered_as_the_plain_program_does(rt: HostRuntime) -> Result<(), Fail> {
+    let whole = halves(&rt, rt.alloc(), 128)?;
+    rows_are_numbered(&rt, rt.alloc(), &whole)
 }
