@@ -66,6 +66,36 @@ impl Plain {
     }
 }
 
+/// The listed entries of these tags.
+fn listed(alloc: Global, plain: &Plain, tags: &[Tag]) -> Result<Vec<Entry>, AllocError> {
+    let mut there = Vec::new(alloc);
+    for item in &plain.items {
+        if tags.contains(&item.1) {
+            there.push(item.0)?;
+        }
+    }
+    Ok(there)
+}
+
+/// Whether a walk gives these entries.
+fn is_onward(alloc: Global, walk: IndexWalk<'_>, there: &[Entry]) -> Result<bool, AllocError> {
+    let mut onward = Vec::new(alloc);
+    for entry in walk {
+        onward.push(entry)?;
+    }
+    Ok(onward.as_slice() == there)
+}
+
+/// Whether a walk gives them in reverse from the back.
+fn is_back(alloc: Global, walk: IndexWalk<'_>, there: &[Entry]) -> Result<bool, AllocError> {
+    let mut back = Vec::new(alloc);
+    for entry in walk.rev() {
+        back.push(entry)?;
+    }
+    back.reverse();
+    Ok(back.as_slice() == there)
+}
+
 /// Whether a walk gives the listed entries of these tags, and from the back the same in reverse.
 fn gives(
     alloc: Global,
@@ -74,22 +104,10 @@ fn gives(
     plain: &Plain,
     tags: &[Tag],
 ) -> Result<bool, AllocError> {
-    let mut there = Vec::new(alloc);
-    for item in &plain.items {
-        if tags.contains(&item.1) {
-            there.push(item.0)?;
-        }
-    }
-    let mut onward = Vec::new(alloc);
-    for entry in forward {
-        onward.push(entry)?;
-    }
-    let mut back = Vec::new(alloc);
-    for entry in backward.rev() {
-        back.push(entry)?;
-    }
-    back.reverse();
-    Ok(onward.as_slice() == there.as_slice() && back.as_slice() == there.as_slice())
+    let there = listed(alloc, plain, tags)?;
+    let onward = is_onward(alloc, forward, &there)?;
+    let back = is_back(alloc, backward, &there)?;
+    Ok(onward && back)
 }
 
 fn agree(alloc: Global, index: &ChunkIndex, plain: &Plain) -> Result<bool, AllocError> {
