@@ -101,7 +101,60 @@ fn seen(levels: &Levels<1>) -> [[usize; 4]; 2] {
     ]
 }
 
-// Main keeps what staging changes, and has it once staging is committed, or doesn't once it is aborted.
+// Opens staging, and closes it in either way. None of these has a clause, since callers would pay for it in their proofs.
+
+fn stage(rt: &impl Abort, levels: &mut Levels<1>) {
+    assert!(rt; !levels.is_staged());
+    levels.stage();
+}
+
+fn abort(rt: &impl Abort, levels: &mut Levels<1>) {
+    assert!(rt; levels.is_staged());
+    levels.abort();
+}
+
+fn commit(rt: &impl Abort, levels: &mut Levels<1>) {
+    assert!(rt; levels.is_staged());
+    levels.commit();
+}
+
+// How many names main has, the top level, and both together.
+fn counts(levels: &Levels<1>) -> (usize, usize, usize) {
+    (
+        levels.count(Level::Main),
+        levels.count(Level::Top),
+        levels.live(),
+    )
+}
+
+// Main keeps what staging changes, and doesn't have it once staging is aborted.
+fn aborted<L: Ledger>(
+    rt: &impl Abort,
+    levels: &mut Levels<1>,
+    steps: &mut Steps<L>,
+) -> Result<(), Fail> {
+    stage(rt, levels);
+    change(rt, levels, steps)?;
+    assert_eq!(rt; seen(levels), [[2, 2, 1, 0], [0, 2, 2, 1]]);
+    abort(rt, levels);
+    assert_eq!(rt; seen(levels), [[2, 2, 1, 0], [2, 2, 1, 0]]);
+    Ok(())
+}
+
+// It has it once staging is committed.
+fn committed<L: Ledger>(
+    rt: &impl Abort,
+    levels: &mut Levels<1>,
+    steps: &mut Steps<L>,
+) -> Result<(), Fail> {
+    stage(rt, levels);
+    change(rt, levels, steps)?;
+    commit(rt, levels);
+    assert_eq!(rt; seen(levels), [[0, 2, 2, 1], [0, 2, 2, 1]]);
+    assert_eq!(rt; counts(levels), (3, 3, 3));
+    Ok(())
+}
+
 fn stagings<K: ledger::Ledger>(
     rt: &impl Abort,
     levels: &mut Levels<1>,
@@ -113,28 +166,8 @@ fn stagings<K: ledger::Ledger>(
 {
     let mut steps = Steps::new(Counted::<K>::new(blank));
     fill(rt, levels, &mut steps)?;
-    assert!(rt; !levels.is_staged());
-    levels.stage();
-    change(rt, levels, &mut steps)?;
-    assert_eq!(rt; seen(levels), [[2, 2, 1, 0], [0, 2, 2, 1]]);
-    assert!(rt; levels.is_staged());
-    levels.abort();
-    assert_eq!(rt; seen(levels), [[2, 2, 1, 0], [2, 2, 1, 0]]);
-    assert!(rt; !levels.is_staged());
-    levels.stage();
-    change(rt, levels, &mut steps)?;
-    assert!(rt; levels.is_staged());
-    levels.commit();
-    assert_eq!(rt; seen(levels), [[0, 2, 2, 1], [0, 2, 2, 1]]);
-    assert_eq!(rt;
-        (
-            levels.count(Level::Main),
-            levels.count(Level::Top),
-            levels.live()
-        ),
-        (3, 3, 3)
-    );
-    Ok(())
+    aborted(rt, levels, &mut steps)?;
+    committed(rt, levels, &mut steps)
 }
 
 #[test]
