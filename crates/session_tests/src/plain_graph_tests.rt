@@ -1,36 +1,120 @@
-use graph_model::{Level, Limits, Refusal};
+use graph_model::{Level, Limits, Refusal, TxId};
 use plain_graph::Plain;
 use std::process::Abort;
 use std::test::Fail;
 
 const MOST: i64 = 2_100_000_000_000_000;
 
+/// A call of the graph. The last three list names.
+#[derive(Clone, Copy, Debug)]
+enum Call {
+    Limits(u64, u64, u64),
+    Add(TxId, i64, u64),
+    Dep(TxId, TxId),
+    Fee(TxId, i64),
+    Remove(TxId),
+    Ancestors(TxId, Level),
+    Descendants(TxId, Level),
+    Cluster(TxId, Level),
+}
+
+// The graph's own calls stand in functions without clauses. No test needs more of their contracts, which would cost
+// each of them its proof.
+
+fn limit(graph: &mut Plain, limits: Limits) -> Result<(), Refusal> {
+    graph.set_limits(limits)
+}
+
 /// Adds to a graph that has counted few additions.
-fn add(rt: &impl Abort, graph: &mut Plain, id: u64, fee: i64, size: u64) -> Result<(), Refusal> {
+fn add(rt: &impl Abort, graph: &mut Plain, id: TxId, fee: i64, size: u64) -> Result<(), Refusal> {
     assert!(rt; graph.additions() < 1_000);
     graph.add(id, fee, size)
+}
+
+fn dep(graph: &mut Plain, parent: TxId, child: TxId) -> Result<(), Refusal> {
+    graph.dep(parent, child)
+}
+
+fn pay(graph: &mut Plain, id: TxId, fee: i64) -> Result<(), Refusal> {
+    graph.fee(id, fee)
+}
+
+fn remove(graph: &mut Plain, id: TxId) -> Result<(), Refusal> {
+    graph.remove(id)
+}
+
+fn ancestors(graph: &mut Plain, id: TxId, level: Level) -> Result<(), Refusal> {
+    graph.ancestors(id, level)
+}
+
+fn descendants(graph: &mut Plain, id: TxId, level: Level) -> Result<(), Refusal> {
+    graph.descendants(id, level)
+}
+
+fn cluster(graph: &mut Plain, id: TxId, level: Level) -> Result<(), Refusal> {
+    graph.cluster(id, level)
+}
+
+fn count(graph: &Plain, level: Level) -> usize {
+    graph.count(level)
+}
+
+/// Makes a call, and compares its answer.
+fn expect(rt: &impl Abort, graph: &mut Plain, call: Call, answer: Result<(), Refusal>) {
+    let found = match call {
+        Call::Limits(count, size, total) => limit(graph, Limits { count, size, total }),
+        Call::Add(id, fee, size) => add(rt, graph, id, fee, size),
+        Call::Dep(parent, child) => dep(graph, parent, child),
+        Call::Fee(id, fee) => pay(graph, id, fee),
+        Call::Remove(id) => remove(graph, id),
+        Call::Ancestors(id, level) => ancestors(graph, id, level),
+        Call::Descendants(id, level) => descendants(graph, id, level),
+        Call::Cluster(id, level) => cluster(graph, id, level),
+    };
+    assert_eq!(rt; found, answer, "{call:?}");
+}
+
+/// Makes calls one after another, and compares their answers.
+fn play(rt: &impl Abort, graph: &mut Plain, rows: &[(Call, Result<(), Refusal>)]) {
+    for (call, answer) in rows {
+        expect(rt, graph, *call, *answer);
+    }
+}
+
+/// Makes a call that lists names, and compares these.
+fn lists(rt: &impl Abort, graph: &mut Plain, call: Call, ids: &[TxId]) {
+    expect(rt, graph, call, Ok(()));
+    assert_eq!(rt; graph.found(), ids, "{call:?}");
+}
+
+/// Adds the names from 1 to below another, of one fee and size 1.
+fn add_all(rt: &impl Abort, graph: &mut Plain, end: TxId, fee: i64) {
+    for id in 1..end {
+        expect(rt, graph, Call::Add(id, fee, 1), Ok(()));
+    }
 }
 
 #[test]
 fn additions(rt: HostRuntime) -> Result<(), Fail> {
     let mut graph = Plain::new(rt.alloc())?;
     let table = [
-        (1, MOST, 1, Ok(())),
-        (2, -MOST, 404_000, Ok(())),
-        (1, MOST + 1, 0, Err(Refusal::Fee)),
-        (3, -MOST - 1, 1, Err(Refusal::Fee)),
-        (1, 0, 0, Err(Refusal::Size)),
-        (1, 0, 4_000_001, Err(Refusal::Size)),
-        (1, 0, 4_000_000, Err(Refusal::Taken)),
-        (3, 0, 404_001, Err(Refusal::ClusterSize(404_001))),
-        (3, 0, 4_000_000, Err(Refusal::ClusterSize(4_000_000))),
-        (u64::MAX, 0, 1, Ok(())),
+        (Call::Add(1, MOST, 1), Ok(())),
+        (Call::Add(2, -MOST, 404_000), Ok(())),
+        (Call::Add(1, MOST + 1, 0), Err(Refusal::Fee)),
+        (Call::Add(3, -MOST - 1, 1), Err(Refusal::Fee)),
+        (Call::Add(1, 0, 0), Err(Refusal::Size)),
+        (Call::Add(1, 0, 4_000_001), Err(Refusal::Size)),
+        (Call::Add(1, 0, 4_000_000), Err(Refusal::Taken)),
+        (Call::Add(3, 0, 404_001), Err(Refusal::ClusterSize(404_001))),
+        (
+            Call::Add(3, 0, 4_000_000),
+            Err(Refusal::ClusterSize(4_000_000)),
+        ),
+        (Call::Add(u64::MAX, 0, 1), Ok(())),
     ];
-    for (id, fee, size, answer) in table {
-        assert_eq!(rt; add(&rt, &mut graph, id, fee, size), answer);
-    }
-    assert_eq!(rt; graph.count(Level::Main), 3);
-    assert_eq!(rt; graph.count(Level::Top), 3);
+    play(&rt, &mut graph, &table);
+    assert_eq!(rt; count(&graph, Level::Main), 3);
+    assert_eq!(rt; count(&graph, Level::Top), 3);
     assert_eq!(rt; graph.additions(), 3);
     Ok(())
 }
@@ -38,55 +122,64 @@ fn additions(rt: HostRuntime) -> Result<(), Fail> {
 #[test]
 fn pairs(rt: HostRuntime) -> Result<(), Fail> {
     let mut graph = Plain::new(rt.alloc())?;
-    for id in 1..4u64 {
-        add(&rt, &mut graph, id, 1, 1)?;
-    }
+    add_all(&rt, &mut graph, 4, 1);
     let table = [
-        (1, 2, Ok(())),
-        (2, 1, Err(Refusal::Cycle)),
-        (1, 1, Err(Refusal::Cycle)),
-        (9, 8, Err(Refusal::Unknown(9))),
-        (1, 8, Err(Refusal::Unknown(8))),
-        (1, 3, Ok(())),
-        (2, 3, Ok(())),
-        (3, 1, Err(Refusal::Cycle)),
-        (1, 3, Ok(())),
+        (Call::Dep(1, 2), Ok(())),
+        (Call::Dep(2, 1), Err(Refusal::Cycle)),
+        (Call::Dep(1, 1), Err(Refusal::Cycle)),
+        (Call::Dep(9, 8), Err(Refusal::Unknown(9))),
+        (Call::Dep(1, 8), Err(Refusal::Unknown(8))),
+        (Call::Dep(1, 3), Ok(())),
+        (Call::Dep(2, 3), Ok(())),
+        (Call::Dep(3, 1), Err(Refusal::Cycle)),
+        (Call::Dep(1, 3), Ok(())),
     ];
-    for (parent, child, answer) in table {
-        assert_eq!(rt; graph.dep(parent, child), answer);
-    }
-    graph.descendants(1, Level::Main)?;
-    assert_eq!(rt; graph.found(), [1, 2, 3].as_slice());
-    graph.ancestors(2, Level::Top)?;
-    assert_eq!(rt; graph.found(), [1, 2].as_slice());
-    assert_eq!(rt; graph.ancestors(9, Level::Top), Err(Refusal::Unknown(9)));
-    assert_eq!(rt; graph.descendants(9, Level::Top), Err(Refusal::Unknown(9)));
+    play(&rt, &mut graph, &table);
+    lists(
+        &rt,
+        &mut graph,
+        Call::Descendants(1, Level::Main),
+        &[1, 2, 3],
+    );
+    lists(&rt, &mut graph, Call::Ancestors(2, Level::Top), &[1, 2]);
+    let unknown = Err(Refusal::Unknown(9));
+    expect(&rt, &mut graph, Call::Ancestors(9, Level::Top), unknown);
+    expect(&rt, &mut graph, Call::Descendants(9, Level::Top), unknown);
     Ok(())
 }
 
 #[test]
 fn sizes_of_a_pair(rt: HostRuntime) -> Result<(), Fail> {
     let mut graph = Plain::new(rt.alloc())?;
-    add(&rt, &mut graph, 2, 1, 403_999)?;
-    add(&rt, &mut graph, 3, 1, 1)?;
-    add(&rt, &mut graph, 4, 1, 1)?;
-    assert_eq!(rt; graph.dep(2, 3), Ok(()));
-    assert_eq!(rt; graph.dep(3, 4), Err(Refusal::ClusterSize(404_001)));
-    assert_eq!(rt; graph.dep(2, 3), Ok(()));
+    let table = [
+        (Call::Add(2, 1, 403_999), Ok(())),
+        (Call::Add(3, 1, 1), Ok(())),
+        (Call::Add(4, 1, 1), Ok(())),
+        (Call::Dep(2, 3), Ok(())),
+        (Call::Dep(3, 4), Err(Refusal::ClusterSize(404_001))),
+        (Call::Dep(2, 3), Ok(())),
+    ];
+    play(&rt, &mut graph, &table);
     Ok(())
+}
+
+/// Makes a chain of the names 1 to 64.
+fn chain(rt: &impl Abort, graph: &mut Plain) {
+    for id in 1..64u64 {
+        expect(rt, graph, Call::Dep(id, id + 1), Ok(()));
+    }
 }
 
 #[test]
 fn names_of_a_pair(rt: HostRuntime) -> Result<(), Fail> {
     let mut graph = Plain::new(rt.alloc())?;
-    for id in 1..66u64 {
-        add(&rt, &mut graph, id, 0, 1)?;
-    }
-    for id in 1..64u64 {
-        assert_eq!(rt; graph.dep(id, id + 1), Ok(()));
-    }
-    assert_eq!(rt; graph.dep(64, 65), Err(Refusal::Count(65)));
-    graph.ancestors(64, Level::Main)?;
+    add_all(&rt, &mut graph, 66, 0);
+    chain(&rt, &mut graph);
+    let table = [
+        (Call::Dep(64, 65), Err(Refusal::Count(65))),
+        (Call::Ancestors(64, Level::Main), Ok(())),
+    ];
+    play(&rt, &mut graph, &table);
     assert_eq!(rt; graph.found().len(), 64);
     Ok(())
 }
@@ -95,77 +188,77 @@ fn names_of_a_pair(rt: HostRuntime) -> Result<(), Fail> {
 fn limits_are_set_before_a_change(rt: HostRuntime) -> Result<(), Fail> {
     let mut graph = Plain::new(rt.alloc())?;
     let table = [
-        (0, 1, 1, Err(Refusal::Range)),
-        (65, 1, 1, Err(Refusal::Range)),
-        (1, 0, 1, Err(Refusal::Range)),
-        (1, 256_000_001, 1, Err(Refusal::Range)),
-        (1, 1, 0, Err(Refusal::Range)),
-        (1, 1, 1_048_577, Err(Refusal::Range)),
-        (64, 256_000_000, 1_048_576, Ok(())),
-        (1, 1, 1, Err(Refusal::Late)),
-        (65, 1, 1, Err(Refusal::Late)),
+        (Call::Limits(0, 1, 1), Err(Refusal::Range)),
+        (Call::Limits(65, 1, 1), Err(Refusal::Range)),
+        (Call::Limits(1, 0, 1), Err(Refusal::Range)),
+        (Call::Limits(1, 256_000_001, 1), Err(Refusal::Range)),
+        (Call::Limits(1, 1, 0), Err(Refusal::Range)),
+        (Call::Limits(1, 1, 1_048_577), Err(Refusal::Range)),
+        (Call::Limits(64, 256_000_000, 1_048_576), Ok(())),
+        (Call::Limits(1, 1, 1), Err(Refusal::Late)),
+        (Call::Limits(65, 1, 1), Err(Refusal::Late)),
     ];
-    for (count, size, total, answer) in table {
-        assert_eq!(rt; graph.set_limits(Limits { count, size, total }), answer);
-    }
+    play(&rt, &mut graph, &table);
     Ok(())
 }
 
 #[test]
 fn fees(rt: HostRuntime) -> Result<(), Fail> {
     let mut graph = Plain::new(rt.alloc())?;
-    add(&rt, &mut graph, 1, 1, 1)?;
     let table = [
-        (1, MOST, Ok(())),
-        (1, -MOST, Ok(())),
-        (1, MOST + 1, Err(Refusal::Fee)),
-        (9, -MOST - 1, Err(Refusal::Fee)),
-        (9, 0, Err(Refusal::Unknown(9))),
+        (Call::Add(1, 1, 1), Ok(())),
+        (Call::Fee(1, MOST), Ok(())),
+        (Call::Fee(1, -MOST), Ok(())),
+        (Call::Fee(1, MOST + 1), Err(Refusal::Fee)),
+        (Call::Fee(9, -MOST - 1), Err(Refusal::Fee)),
+        (Call::Fee(9, 0), Err(Refusal::Unknown(9))),
     ];
-    for (id, fee, answer) in table {
-        assert_eq!(rt; graph.fee(id, fee), answer);
-    }
+    play(&rt, &mut graph, &table);
     Ok(())
 }
 
 #[test]
 fn removals_keep_the_ancestors_of_the_others(rt: HostRuntime) -> Result<(), Fail> {
     let mut graph = Plain::new(rt.alloc())?;
-    for id in 1..6u64 {
-        add(&rt, &mut graph, id, 1, 1)?;
-    }
-    for (parent, child) in [(1, 3), (2, 3), (3, 4), (3, 5), (1, 5)] {
-        graph.dep(parent, child)?;
-    }
-    assert_eq!(rt; graph.remove(3), Ok(()));
-    assert_eq!(rt; graph.remove(3), Err(Refusal::Unknown(3)));
-    assert_eq!(rt; graph.count(Level::Main), 4);
-    graph.ancestors(5, Level::Main)?;
-    assert_eq!(rt; graph.found(), [1, 2, 5].as_slice());
-    graph.descendants(1, Level::Main)?;
-    assert_eq!(rt; graph.found(), [1, 4, 5].as_slice());
-    graph.cluster(4, Level::Top)?;
-    assert_eq!(rt; graph.found(), [1, 2, 4, 5].as_slice());
-    assert_eq!(rt; graph.cluster(3, Level::Top), Err(Refusal::Unknown(3)));
-    add(&rt, &mut graph, 3, 1, 1)?;
-    graph.cluster(3, Level::Top)?;
-    assert_eq!(rt; graph.found(), [3].as_slice());
-    assert_eq!(rt; graph.dep(4, 1), Err(Refusal::Cycle));
+    add_all(&rt, &mut graph, 6, 1);
+    let table = [
+        (Call::Dep(1, 3), Ok(())),
+        (Call::Dep(2, 3), Ok(())),
+        (Call::Dep(3, 4), Ok(())),
+        (Call::Dep(3, 5), Ok(())),
+        (Call::Dep(1, 5), Ok(())),
+        (Call::Remove(3), Ok(())),
+        (Call::Remove(3), Err(Refusal::Unknown(3))),
+    ];
+    play(&rt, &mut graph, &table);
+    assert_eq!(rt; count(&graph, Level::Main), 4);
+    lists(&rt, &mut graph, Call::Ancestors(5, Level::Main), &[1, 2, 5]);
+    lists(
+        &rt,
+        &mut graph,
+        Call::Descendants(1, Level::Main),
+        &[1, 4, 5],
+    );
+    lists(&rt, &mut graph, Call::Cluster(4, Level::Top), &[1, 2, 4, 5]);
+    let table = [
+        (Call::Cluster(3, Level::Top), Err(Refusal::Unknown(3))),
+        (Call::Add(3, 1, 1), Ok(())),
+    ];
+    play(&rt, &mut graph, &table);
+    lists(&rt, &mut graph, Call::Cluster(3, Level::Top), &[3]);
+    expect(&rt, &mut graph, Call::Dep(4, 1), Err(Refusal::Cycle));
     Ok(())
 }
 
 #[test]
 fn a_copy_changes_by_itself(rt: HostRuntime) -> Result<(), Fail> {
     let mut graph = Plain::new(rt.alloc())?;
-    add(&rt, &mut graph, 1, 1, 1)?;
-    add(&rt, &mut graph, 2, 1, 1)?;
-    graph.dep(1, 2)?;
+    add_all(&rt, &mut graph, 3, 1);
+    expect(&rt, &mut graph, Call::Dep(1, 2), Ok(()));
     let mut copy = graph.copied()?;
-    copy.remove(1)?;
-    copy.ancestors(2, Level::Main)?;
-    assert_eq!(rt; copy.found(), [2].as_slice());
-    graph.ancestors(2, Level::Main)?;
-    assert_eq!(rt; graph.found(), [1, 2].as_slice());
+    expect(&rt, &mut copy, Call::Remove(1), Ok(()));
+    lists(&rt, &mut copy, Call::Ancestors(2, Level::Main), &[2]);
+    lists(&rt, &mut graph, Call::Ancestors(2, Level::Main), &[1, 2]);
     assert_eq!(rt; graph.additions(), copy.additions());
     Ok(())
 }
