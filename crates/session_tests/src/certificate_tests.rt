@@ -62,44 +62,57 @@ fn parts_of<'a>(rt: &impl Abort, alloc: Global, claims: &'a [Claim<'a>]) -> Resu
     Ok(parts)
 }
 
-/// What `check` answers on a row.
-fn answer<'a>(
+/// A graph as it is written.
+fn written(alloc: Global, txs: &[(u64, i64, u64)], edges: &[(u64, u64)]) -> Result<Written, Fail> {
+    Ok(Written {
+        txs: TxList::from_vec(txs.to_vec(alloc)?),
+        edges: EdgeList::from_vec(edges.to_vec(alloc)?),
+    })
+}
+
+/// What `check` answers. No test needs more of its contract, which would cost each of them its proof.
+fn answer(alloc: Global, graph: &Written, parts: &[Part]) -> Result<(), CheckFault>
+    requires { AreClaims parts.now }
+{
+    check(alloc, graph, parts)
+}
+
+/// Compares what `check` answers on a row.
+fn case<'a>(
     rt: &impl Abort,
     alloc: Global,
     txs: &[(u64, i64, u64)],
     edges: &[(u64, u64)],
     claims: &'a [Claim<'a>],
-) -> Result<Result<(), CheckFault>, Fail> {
+    want: Result<(), CheckFault>,
+) -> Result<(), Fail> {
+    let graph = written(alloc, txs, edges)?;
     let parts = parts_of(rt, alloc, claims)?;
-    let graph = Written {
-        txs: TxList::from_vec(txs.to_vec(alloc)?),
-        edges: EdgeList::from_vec(edges.to_vec(alloc)?),
-    };
-    Ok(check(alloc, &graph, parts.as_slice()))
+    assert_eq!(rt; answer(alloc, &graph, parts.as_slice()), want);
+    Ok(())
 }
 
 #[test]
 fn a_certificate_is_accepted(rt: HostRuntime) -> Result<(), Fail> {
     let alloc = rt.alloc();
     let want = Ok(());
-    let found = answer(&rt, alloc, &[], &[], &[])?;
-    assert_eq!(rt; found, want);
-    let found = answer(
+    case(&rt, alloc, &[], &[], &[], want)?;
+    case(
         &rt,
         alloc,
         &[(1, 100, 200), (2, 900, 200)],
         &[(1, 2)],
         &[((1000, 400), &[1, 2], &[(2, 1, 160_000)])],
+        want,
     )?;
-    assert_eq!(rt; found, want);
-    let found = answer(
+    case(
         &rt,
         alloc,
         &[(1, 0, 1), (2, 0, 1), (3, 3, 1)],
         &[(1, 2), (2, 3), (1, 3)],
         &[((3, 3), &[1, 2, 3], &[(3, 1, 3), (3, 2, 3)])],
+        want,
     )?;
-    assert_eq!(rt; found, want);
     Ok(())
 }
 
@@ -107,32 +120,38 @@ fn a_certificate_is_accepted(rt: HostRuntime) -> Result<(), Fail> {
 fn what_is_no_graph_is_refused_first(rt: HostRuntime) -> Result<(), Fail> {
     let alloc = rt.alloc();
     let want = Err(CheckFault::Graph);
-    let found = answer(
+    case(
         &rt,
         alloc,
         &[(1, 100, 200), (2, 900, 200)],
         &[(1, 2), (2, 1)],
         &[((1000, 400), &[1, 2], &[(2, 1, 160_000)])],
+        want,
     )?;
-    assert_eq!(rt; found, want);
-    let found = answer(
+    case(
         &rt,
         alloc,
         &[(1, 1, 1), (2, 1, 1)],
         &[(1, 2), (2, 1)],
         &[((2, 2), &[1, 2], &[])],
+        want,
     )?;
-    assert_eq!(rt; found, want);
-    let found = answer(&rt, alloc, &[(1, 1, 1)], &[(1, 1)], &[((1, 1), &[1], &[])])?;
-    assert_eq!(rt; found, want);
-    let found = answer(
+    case(
+        &rt,
+        alloc,
+        &[(1, 1, 1)],
+        &[(1, 1)],
+        &[((1, 1), &[1], &[])],
+        want,
+    )?;
+    case(
         &rt,
         alloc,
         &[(1, 2_100_000_000_000_001, 1)],
         &[],
         &[((2_100_000_000_000_001, 1), &[1], &[])],
+        want,
     )?;
-    assert_eq!(rt; found, want);
     Ok(())
 }
 
@@ -140,26 +159,24 @@ fn what_is_no_graph_is_refused_first(rt: HostRuntime) -> Result<(), Fail> {
 fn what_is_no_order_is_refused(rt: HostRuntime) -> Result<(), Fail> {
     let alloc = rt.alloc();
     let want = Err(CheckFault::Order);
-    let found = answer(
+    case(
         &rt,
         alloc,
         &[(1, 100, 200), (2, 900, 200)],
         &[(1, 2)],
         &[((1000, 400), &[2, 1], &[(2, 1, 160_000)])],
+        want,
     )?;
-    assert_eq!(rt; found, want);
-    let found = answer(
+    case(
         &rt,
         alloc,
         &[(1, 1, 1), (2, 2, 2)],
         &[],
         &[((3, 3), &[1, 2], &[])],
+        want,
     )?;
-    assert_eq!(rt; found, want);
-    let found = answer(&rt, alloc, &[(1, 1, 1)], &[], &[((1, 1), &[2], &[])])?;
-    assert_eq!(rt; found, want);
-    let found = answer(&rt, alloc, &[(1, 1, 1)], &[], &[])?;
-    assert_eq!(rt; found, want);
+    case(&rt, alloc, &[(1, 1, 1)], &[], &[((1, 1), &[2], &[])], want)?;
+    case(&rt, alloc, &[(1, 1, 1)], &[], &[], want)?;
     Ok(())
 }
 
@@ -167,30 +184,30 @@ fn what_is_no_order_is_refused(rt: HostRuntime) -> Result<(), Fail> {
 fn rates_that_do_not_fall_are_refused(rt: HostRuntime) -> Result<(), Fail> {
     let alloc = rt.alloc();
     let want = Err(CheckFault::Falling);
-    let found = answer(
+    case(
         &rt,
         alloc,
         &[(1, 100, 200), (2, 900, 200)],
         &[(1, 2)],
         &[((1001, 400), &[1, 2], &[(2, 1, 160_000)])],
+        want,
     )?;
-    assert_eq!(rt; found, want);
-    let found = answer(
+    case(
         &rt,
         alloc,
         &[(1, 1, 1), (2, 2, 1)],
         &[],
         &[((1, 1), &[1], &[]), ((2, 1), &[2], &[])],
+        want,
     )?;
-    assert_eq!(rt; found, want);
-    let found = answer(
+    case(
         &rt,
         alloc,
         &[(1, 1, 1)],
         &[],
         &[((1_000_000_000_000_000_000_000_000_000_000, 1), &[1], &[])],
+        want,
     )?;
-    assert_eq!(rt; found, want);
     Ok(())
 }
 
@@ -198,45 +215,45 @@ fn rates_that_do_not_fall_are_refused(rt: HostRuntime) -> Result<(), Fail> {
 fn flows_that_do_not_certify_are_refused(rt: HostRuntime) -> Result<(), Fail> {
     let alloc = rt.alloc();
     let want = Err(CheckFault::Flow);
-    let found = answer(
+    case(
         &rt,
         alloc,
         &[(1, 100, 200), (2, 900, 200)],
         &[(1, 2)],
         &[((1000, 400), &[1, 2], &[(2, 1, 159_999)])],
+        want,
     )?;
-    assert_eq!(rt; found, want);
-    let found = answer(
+    case(
         &rt,
         alloc,
         &[(1, 0, 10), (2, 6, 5), (3, 6, 5)],
         &[(1, 2), (1, 3)],
         &[((12, 20), &[1, 2, 3], &[(2, 1, 120), (3, 2, 60)])],
+        want,
     )?;
-    assert_eq!(rt; found, want);
-    let found = answer(
+    case(
         &rt,
         alloc,
         &[(1, 100, 200), (2, 900, 200)],
         &[(1, 2)],
         &[((1000, 400), &[1, 2], &[(2, 1, 80_000), (2, 1, 80_000)])],
+        want,
     )?;
-    assert_eq!(rt; found, want);
-    let found = answer(
+    case(
         &rt,
         alloc,
         &[(1, 100, 200), (2, 900, 200)],
         &[(1, 2)],
         &[((1000, 400), &[1, 2], &[(2, 9, 160_000)])],
+        want,
     )?;
-    assert_eq!(rt; found, want);
-    let found = answer(
+    case(
         &rt,
         alloc,
         &[(1, 900, 200), (2, 100, 200)],
         &[(1, 2)],
         &[((900, 200), &[1], &[]), ((100, 200), &[2], &[(2, 1, 1)])],
+        want,
     )?;
-    assert_eq!(rt; found, want);
     Ok(())
 }
