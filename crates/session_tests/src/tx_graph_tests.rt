@@ -34,6 +34,196 @@ enum Call {
     Abort,
 }
 
+// A row of a test: a call, and the names that it lists or why it is refused.
+type Row<'a> = (Call, Result<&'a [TxId], Refusal>);
+
+// The graph's own calls stand in functions without clauses. No test needs more of their contracts, which would cost
+// each of them its proof.
+
+fn begun<const W: usize>(alloc: Global) -> Result<TxGraph<W>, Fail>
+    requires wide { 1 ≤ W }
+    requires narrow { W ≤ 2 }
+{
+    Ok(TxGraph::<W>::new(alloc, ROOMY)?)
+}
+
+fn limit<const W: usize>(graph: &mut TxGraph<W>, limits: Limits) -> Result<(), Refusal> {
+    graph.set_limits(limits)
+}
+
+fn add<const W: usize, L: Ledger>(
+    rt: &impl Abort,
+    graph: &mut TxGraph<W>,
+    id: TxId,
+    fee: i64,
+    size: u64,
+    steps: &mut Steps<L>,
+) -> Result<(), Refusal> {
+    assert!(rt; graph.additions() < 1_000);
+    graph.add(id, fee, size, steps)
+}
+
+fn dep<const W: usize, L: Ledger>(
+    graph: &mut TxGraph<W>,
+    parent: TxId,
+    child: TxId,
+    steps: &mut Steps<L>,
+) -> Result<(), Refusal> {
+    graph.dep(parent, child, steps)
+}
+
+fn fee<const W: usize, L: Ledger>(
+    graph: &mut TxGraph<W>,
+    id: TxId,
+    fee: i64,
+    steps: &mut Steps<L>,
+) -> Result<(), Refusal> {
+    graph.fee(id, fee, steps)
+}
+
+fn remove<const W: usize, L: Ledger>(
+    graph: &mut TxGraph<W>,
+    id: TxId,
+    steps: &mut Steps<L>,
+) -> Result<(), Refusal> {
+    graph.remove(id, steps)
+}
+
+fn cluster<const W: usize>(
+    rt: &impl Abort,
+    graph: &TxGraph<W>,
+    level: Level,
+    id: TxId,
+    out: &mut IdBuf,
+) -> Result<(), Refusal>
+    requires { W ≤ 2 }
+{
+    assert!(rt; out.capacity() >= 128);
+    graph.cluster(level, id, out)
+}
+
+fn ancestors<const W: usize>(
+    rt: &impl Abort,
+    graph: &TxGraph<W>,
+    id: TxId,
+    out: &mut IdBuf,
+) -> Result<(), Refusal>
+    requires { W ≤ 2 }
+{
+    assert!(rt; out.capacity() >= 128);
+    graph.ancestors(Level::Main, id, out)
+}
+
+fn descendants<const W: usize>(
+    rt: &impl Abort,
+    graph: &TxGraph<W>,
+    id: TxId,
+    out: &mut IdBuf,
+) -> Result<(), Refusal>
+    requires { W ≤ 2 }
+{
+    assert!(rt; out.capacity() >= 128);
+    graph.descendants(Level::Main, id, out)
+}
+
+fn stage<const W: usize>(graph: &mut TxGraph<W>) -> Result<(), Refusal> {
+    graph.stage()
+}
+
+fn commit<const W: usize>(graph: &mut TxGraph<W>) -> Result<(), Refusal> {
+    graph.commit()
+}
+
+fn abort<const W: usize>(graph: &mut TxGraph<W>) -> Result<(), Refusal> {
+    graph.abort()
+}
+
+fn verdict<const W: usize>(graph: &TxGraph<W>) -> Result<Verdict, Refusal> {
+    graph.compare()
+}
+
+fn settle<const W: usize>(graph: &mut TxGraph<W>) -> Result<Verdict, Refusal> {
+    graph.settle()
+}
+
+fn is_staged<const W: usize>(graph: &TxGraph<W>) -> bool {
+    graph.staged()
+}
+
+fn sums<const W: usize>(graph: &TxGraph<W>, id: TxId) -> Option<FeeRate> {
+    graph.sums(id)
+}
+
+fn is_in_main<const W: usize>(graph: &TxGraph<W>, id: TxId) -> bool {
+    graph.exists(Level::Main, id)
+}
+
+fn count<const W: usize>(graph: &TxGraph<W>) -> usize {
+    graph.count(Level::Main)
+}
+
+// Whether main's diagram has these corners.
+fn has_corners<const W: usize>(graph: &TxGraph<W>, points: &[(u64, i128)]) -> bool {
+    graph.diagram(Level::Main).eq(points.iter().copied())
+}
+
+// Whether main's order begins with a part of these names.
+fn begins_with<const W: usize>(graph: &TxGraph<W>, ids: &[TxId]) -> bool {
+    match graph.order(Level::Main).next() {
+        Some(part) => part.ids == ids,
+        None => false,
+    }
+}
+
+// Makes a call that lists names.
+fn list<const W: usize>(
+    rt: &impl Abort,
+    graph: &TxGraph<W>,
+    call: Call,
+    out: &mut IdBuf,
+) -> Result<(), Refusal>
+    requires { W ≤ 2 }
+{
+    match call {
+        Call::Cluster(id) => cluster(rt, graph, Level::Main, id, out),
+        Call::Ancestors(id) => ancestors(rt, graph, id, out),
+        Call::Descendants(id) => descendants(rt, graph, id, out),
+        Call::Top(id) => cluster(rt, graph, Level::Top, id, out),
+        _ => panic!(rt; "{call:?} lists nothing"),
+    }
+}
+
+// Makes a call that changes names or pairs.
+fn change<const W: usize, L: Ledger>(
+    rt: &impl Abort,
+    graph: &mut TxGraph<W>,
+    call: Call,
+    steps: &mut Steps<L>,
+) -> Result<(), Refusal> {
+    match call {
+        Call::Add(id, fee, size) => add(rt, graph, id, fee, size, steps),
+        Call::Dep(parent, child) => dep(graph, parent, child, steps),
+        Call::Fee(id, paid) => fee(graph, id, paid, steps),
+        Call::Remove(id) => remove(graph, id, steps),
+        _ => panic!(rt; "{call:?} changes no name"),
+    }
+}
+
+// Makes a call that sets the limits, or that makes or ends a staging.
+fn turn<const W: usize>(
+    rt: &impl Abort,
+    graph: &mut TxGraph<W>,
+    call: Call,
+) -> Result<(), Refusal> {
+    match call {
+        Call::Limits(count, size, total) => limit(graph, Limits { count, size, total }),
+        Call::Stage => stage(graph),
+        Call::Commit => commit(graph),
+        Call::Abort => abort(graph),
+        _ => panic!(rt; "{call:?} is of names"),
+    }
+}
+
 // Makes a call, which leaves the names that it lists in `out`, and none where it lists none.
 fn make<const W: usize, L: Ledger>(
     rt: &impl Abort,
@@ -45,23 +235,14 @@ fn make<const W: usize, L: Ledger>(
     requires { W ≤ 2 }
 {
     out.clear();
-    assert!(rt; out.capacity() >= 128);
     match call {
-        Call::Limits(count, size, total) => graph.set_limits(Limits { count, size, total }),
-        Call::Add(id, fee, size) => {
-            assert!(rt; graph.additions() < 1_000);
-            graph.add(id, fee, size, steps)
+        Call::Cluster(_) | Call::Ancestors(_) | Call::Descendants(_) | Call::Top(_) => {
+            list(rt, graph, call, out)
         }
-        Call::Dep(parent, child) => graph.dep(parent, child, steps),
-        Call::Fee(id, fee) => graph.fee(id, fee, steps),
-        Call::Remove(id) => graph.remove(id, steps),
-        Call::Cluster(id) => graph.cluster(Level::Main, id, out),
-        Call::Ancestors(id) => graph.ancestors(Level::Main, id, out),
-        Call::Descendants(id) => graph.descendants(Level::Main, id, out),
-        Call::Top(id) => graph.cluster(Level::Top, id, out),
-        Call::Stage => graph.stage(),
-        Call::Commit => graph.commit(),
-        Call::Abort => graph.abort(),
+        Call::Add(..) | Call::Dep(..) | Call::Fee(..) | Call::Remove(_) => {
+            change(rt, graph, call, steps)
+        }
+        _ => turn(rt, graph, call),
     }
 }
 
@@ -84,18 +265,29 @@ fn expect<const W: usize, L: Ledger>(
     }
 }
 
-// Makes calls one after another on a graph without names, and compares what each answers and lists.
+// Makes calls one after another, and compares what each answers and lists.
+fn play_on<L: Ledger>(
+    rt: &impl Abort,
+    graph: &mut TxGraph<1>,
+    rows: &[Row],
+    out: &mut IdBuf,
+    steps: &mut Steps<L>,
+) {
+    for (call, answer) in rows {
+        expect(rt, graph, *call, *answer, out, steps);
+    }
+}
+
+// The same on a graph without names.
 fn play<L: Ledger>(
     rt: &impl Abort,
     alloc: Global,
-    rows: &[(Call, Result<&[TxId], Refusal>)],
+    rows: &[Row],
     out: &mut IdBuf,
     steps: &mut Steps<L>,
 ) -> Result<(), Fail> {
-    let mut graph = TxGraph::<1>::new(alloc, ROOMY)?;
-    for (call, answer) in rows {
-        expect(rt, &mut graph, *call, *answer, out, steps);
-    }
+    let mut graph = begun::<1>(alloc)?;
+    play_on(rt, &mut graph, rows, out, steps);
     Ok(())
 }
 
@@ -175,22 +367,17 @@ fn drawn<L: Ledger>(
     steps: &mut Steps<L>,
 ) -> Result<(), Fail> {
     let done: Result<&[TxId], Refusal> = Ok([].as_slice());
-    let mut graph = TxGraph::<1>::new(alloc, ROOMY)?;
-    for call in [
-        Call::Add(1, 1, 1),
-        Call::Add(2, 2, 2),
-        Call::Add(3, 9, 1),
-        Call::Add(4, -5, 1),
-        Call::Dep(4, 3),
-    ] {
-        expect(rt, &mut graph, call, done, out, steps);
-    }
-    let points: [(u64, i128); 3] = [(0, 0), (2, 4), (5, 7)];
-    assert!(rt; graph.diagram(Level::Main).eq(points.iter().copied()));
-    match graph.order(Level::Main).next() {
-        Some(part) => assert_eq!(rt; part.ids, [4, 3].as_slice()),
-        None => panic!(rt; "no part"),
-    }
+    let rows = [
+        (Call::Add(1, 1, 1), done),
+        (Call::Add(2, 2, 2), done),
+        (Call::Add(3, 9, 1), done),
+        (Call::Add(4, -5, 1), done),
+        (Call::Dep(4, 3), done),
+    ];
+    let mut graph = begun::<1>(alloc)?;
+    play_on(rt, &mut graph, &rows, out, steps);
+    assert!(rt; has_corners(&graph, &[(0, 0), (2, 4), (5, 7)]));
+    assert!(rt; begins_with(&graph, &[4, 3]));
     Ok(())
 }
 
@@ -229,26 +416,46 @@ fn staged<L: Ledger>(
 // A name has one fee in both levels, and staging is settled by the two diagrams.
 fn settled<L: Ledger>(
     rt: &impl Abort,
+    graph: &mut TxGraph<1>,
+    out: &mut IdBuf,
+    steps: &mut Steps<L>,
+) {
+    let done: Result<&[TxId], Refusal> = Ok([].as_slice());
+    assert_eq!(rt; verdict(graph), Err(Refusal::NoStaging));
+    let rows = [
+        (Call::Add(1, 5, 1), done),
+        (Call::Stage, done),
+        (Call::Remove(1), done),
+    ];
+    play_on(rt, graph, &rows, out, steps);
+    assert_eq!(rt; verdict(graph), Ok(Verdict::Worse));
+    assert_eq!(rt; settle(graph), Ok(Verdict::Worse));
+    assert!(rt; !is_staged(graph));
+    let rows = [
+        (Call::Stage, done),
+        (Call::Fee(1, -5), done),
+        (Call::Remove(1), done),
+    ];
+    play_on(rt, graph, &rows, out, steps);
+    assert_eq!(rt; sums(graph, 1), Some(FeeRate { fee: -5, size: 1 }));
+    assert_eq!(rt; settle(graph), Ok(Verdict::Better));
+    assert_eq!(rt; count(graph), 0);
+    assert_eq!(rt; sums(graph, 1), None);
+}
+
+fn each_sequence<L: Ledger>(
+    rt: &impl Abort,
     alloc: Global,
     out: &mut IdBuf,
     steps: &mut Steps<L>,
 ) -> Result<(), Fail> {
-    let done: Result<&[TxId], Refusal> = Ok([].as_slice());
-    let mut graph = TxGraph::<1>::new(alloc, ROOMY)?;
-    assert_eq!(rt; graph.compare(), Err(Refusal::NoStaging));
-    for call in [Call::Add(1, 5, 1), Call::Stage, Call::Remove(1)] {
-        expect(rt, &mut graph, call, done, out, steps);
-    }
-    assert_eq!(rt; graph.compare(), Ok(Verdict::Worse));
-    assert_eq!(rt; graph.settle(), Ok(Verdict::Worse));
-    assert!(rt; !graph.staged());
-    for call in [Call::Stage, Call::Fee(1, -5), Call::Remove(1)] {
-        expect(rt, &mut graph, call, done, out, steps);
-    }
-    assert_eq!(rt; graph.sums(1), Some(FeeRate { fee: -5, size: 1 }));
-    assert_eq!(rt; graph.settle(), Ok(Verdict::Better));
-    assert_eq!(rt; graph.count(Level::Main), 0);
-    assert_eq!(rt; graph.sums(1), None);
+    bridged(rt, alloc, out, steps)?;
+    limited(rt, alloc, out, steps)?;
+    implied(rt, alloc, out, steps)?;
+    drawn(rt, alloc, out, steps)?;
+    staged(rt, alloc, out, steps)?;
+    let mut graph = begun::<1>(alloc)?;
+    settled(rt, &mut graph, out, steps);
     Ok(())
 }
 
@@ -259,12 +466,7 @@ fn sequences<K: ledger::Ledger>(rt: &impl Abort, alloc: Global, blank: Blank) ->
 {
     let mut steps = Steps::new(Counted::<K>::new(blank));
     let mut out = IdBuf::new(alloc, 128)?;
-    bridged(rt, alloc, &mut out, &mut steps)?;
-    limited(rt, alloc, &mut out, &mut steps)?;
-    implied(rt, alloc, &mut out, &mut steps)?;
-    drawn(rt, alloc, &mut out, &mut steps)?;
-    staged(rt, alloc, &mut out, &mut steps)?;
-    settled(rt, alloc, &mut out, &mut steps)
+    each_sequence(rt, alloc, &mut out, &mut steps)
 }
 
 #[test]
@@ -356,7 +558,23 @@ impl Forest {
     }
 }
 
-// Makes one cluster of 64 names, each with its name as its size.
+// Adds a name with its name as its size, and changes its fee.
+fn enter<const W: usize, L: Ledger>(
+    rt: &impl Abort,
+    graph: &mut TxGraph<W>,
+    id: TxId,
+    out: &mut IdBuf,
+    steps: &mut Steps<L>,
+)
+    requires { W ≤ 2 }
+{
+    let done: Result<&[TxId], Refusal> = Ok([].as_slice());
+    expect(rt, graph, Call::Add(id, 1, id), done, out, steps);
+    assert_eq!(rt; sums(graph, id), Some(FeeRate { fee: 1, size: id }));
+    expect(rt, graph, Call::Fee(id, -7), done, out, steps);
+}
+
+// Makes one cluster of the names of a forest.
 fn grow<const W: usize, L: Ledger>(
     rt: &impl Abort,
     graph: &mut TxGraph<W>,
@@ -366,11 +584,8 @@ fn grow<const W: usize, L: Ledger>(
 )
     requires { W ≤ 2 }
 {
-    let done: Result<&[TxId], Refusal> = Ok([].as_slice());
     for id in forest.left.iter() {
-        expect(rt, graph, Call::Add(*id, 1, *id), done, out, steps);
-        assert_eq!(rt; graph.sums(*id), Some(FeeRate { fee: 1, size: *id }));
-        expect(rt, graph, Call::Fee(*id, -7), done, out, steps);
+        enter(rt, graph, *id, out, steps);
     }
     for id in forest.left.iter() {
         let above = forest.above(*id);
@@ -380,8 +595,34 @@ fn grow<const W: usize, L: Ledger>(
             Call::Dep(above, *id)
         };
         if above > 0 {
-            expect(rt, graph, pair, done, out, steps);
+            expect(rt, graph, pair, Ok([].as_slice()), out, steps);
         }
+    }
+}
+
+// Compares what a call lists with what is left of a forest.
+fn listed<const W: usize, L: Ledger>(
+    rt: &impl Abort,
+    alloc: Global,
+    graph: &mut TxGraph<W>,
+    forest: &Forest,
+    call: Call,
+    out: &mut IdBuf,
+    steps: &mut Steps<L>,
+) -> Result<(), Fail>
+    requires { W ≤ 2 }
+{
+    let wanted = forest.listed(alloc, call)?;
+    expect(rt, graph, call, Ok(wanted.as_slice()), out, steps);
+    Ok(())
+}
+
+// Compares which names a graph has, with their fees and sizes.
+fn compare_names<const W: usize>(rt: &impl Abort, graph: &TxGraph<W>, forest: &Forest) {
+    assert_eq!(rt; count(graph), forest.left.len());
+    for id in forest.left.iter() {
+        assert!(rt; is_in_main(graph, *id));
+        assert_eq!(rt; sums(graph, *id), Some(FeeRate { fee: -7, size: *id }));
     }
 }
 
@@ -396,22 +637,59 @@ fn compare<const W: usize, L: Ledger>(
 ) -> Result<(), Fail>
     requires { W ≤ 2 }
 {
-    assert_eq!(rt; graph.count(Level::Main), forest.left.len());
-    for id in forest.left.iter() {
-        assert!(rt; graph.exists(Level::Main, *id));
-        assert_eq!(rt; graph.sums(*id), Some(FeeRate { fee: -7, size: *id }));
-    }
+    compare_names(rt, graph, forest);
     for id in forest.left.iter().step_by(9) {
-        for call in [
-            Call::Cluster(*id),
-            Call::Ancestors(*id),
-            Call::Descendants(*id),
-        ] {
-            let wanted = forest.listed(alloc, call)?;
-            expect(rt, graph, call, Ok(wanted.as_slice()), out, steps);
-        }
+        listed(rt, alloc, graph, forest, Call::Cluster(*id), out, steps)?;
+        listed(rt, alloc, graph, forest, Call::Ancestors(*id), out, steps)?;
+        listed(rt, alloc, graph, forest, Call::Descendants(*id), out, steps)?;
     }
     Ok(())
+}
+
+// Removes a name, and compares what is left.
+fn cut<const W: usize, L: Ledger>(
+    rt: &impl Abort,
+    alloc: Global,
+    graph: &mut TxGraph<W>,
+    forest: &mut Forest,
+    id: TxId,
+    out: &mut IdBuf,
+    steps: &mut Steps<L>,
+) -> Result<(), Fail>
+    requires { W ≤ 2 }
+{
+    expect(rt, graph, Call::Remove(id), Ok([].as_slice()), out, steps);
+    forest.left.retain(|other| *other != id);
+    assert_eq!(rt; sums(graph, id), None);
+    compare(rt, alloc, graph, forest, out, steps)
+}
+
+// Compares a graph of 64 names with a forest, and again after each name, which are removed from the middle outward.
+fn cut_all<const W: usize, L: Ledger>(
+    rt: &impl Abort,
+    alloc: Global,
+    graph: &mut TxGraph<W>,
+    forest: &mut Forest,
+    out: &mut IdBuf,
+    steps: &mut Steps<L>,
+) -> Result<(), Fail>
+    requires { W ≤ 2 }
+{
+    compare(rt, alloc, graph, forest, out, steps)?;
+    for pair in 0..32u64 {
+        cut(rt, alloc, graph, forest, 32 - pair, out, steps)?;
+        cut(rt, alloc, graph, forest, 33 + pair, out, steps)?;
+    }
+    Ok(())
+}
+
+// The names 1 to 64.
+fn names(alloc: Global) -> Result<Vec<TxId>, Fail> {
+    let mut ids = Vec::new(alloc);
+    for id in 1..65u64 {
+        ids.push(id)?;
+    }
+    Ok(ids)
 }
 
 // Makes one cluster of 64 names and removes them from the middle outward.
@@ -426,34 +704,28 @@ fn take_down<const W: usize, L: Ledger>(
     requires wide { 1 ≤ W }
     requires narrow { W ≤ 2 }
 {
-    let mut left = Vec::new(alloc);
-    for id in 1..65u64 {
-        left.push(id)?;
-    }
+    let left = names(alloc)?;
     let mut forest = Forest {
         shape,
         left,
         upward,
     };
-    let mut graph = TxGraph::<W>::new(alloc, ROOMY)?;
+    let mut graph = begun::<W>(alloc)?;
     grow(rt, &mut graph, &forest, out, steps);
-    compare(rt, alloc, &mut graph, &forest, out, steps)?;
-    for pair in 0..32u64 {
-        for id in [32 - pair, 33 + pair] {
-            expect(
-                rt,
-                &mut graph,
-                Call::Remove(id),
-                Ok([].as_slice()),
-                out,
-                steps,
-            );
-            forest.left.retain(|other| *other != id);
-            assert_eq!(rt; graph.sums(id), None);
-            compare(rt, alloc, &mut graph, &forest, out, steps)?;
-        }
+    cut_all(rt, alloc, &mut graph, &mut forest, out, steps)
+}
+
+fn each_shape<L: Ledger>(
+    rt: &impl Abort,
+    alloc: Global,
+    out: &mut IdBuf,
+    steps: &mut Steps<L>,
+) -> Result<(), Fail> {
+    for shape in [Shape::Chain, Shape::Star(1), Shape::Star(32), Shape::Tree] {
+        take_down::<1, _>(rt, alloc, shape, false, out, steps)?;
+        take_down::<1, _>(rt, alloc, shape, true, out, steps)?;
     }
-    Ok(())
+    take_down::<2, _>(rt, alloc, Shape::Chain, false, out, steps)
 }
 
 fn removals<K: ledger::Ledger>(rt: &impl Abort, alloc: Global, blank: Blank) -> Result<(), Fail>
@@ -463,12 +735,7 @@ fn removals<K: ledger::Ledger>(rt: &impl Abort, alloc: Global, blank: Blank) -> 
 {
     let mut steps = Steps::new(Counted::<K>::new(blank));
     let mut out = IdBuf::new(alloc, 128)?;
-    for shape in [Shape::Chain, Shape::Star(1), Shape::Star(32), Shape::Tree] {
-        for upward in [false, true] {
-            take_down::<1, _>(rt, alloc, shape, upward, &mut out, &mut steps)?;
-        }
-    }
-    take_down::<2, _>(rt, alloc, Shape::Chain, false, &mut out, &mut steps)
+    each_shape(rt, alloc, &mut out, &mut steps)
 }
 
 #[test]
