@@ -1,6 +1,7 @@
 use fee_rate::Sum;
 use graph_model::{Flow, IdBuf, Level, Limits, Place, Refusal, Verdict};
-use outside::MemSink;
+use outside::{Failed, MemSink};
+use std::alloc::Global;
 use std::process::Abort;
 use std::test::Fail;
 use wire::{
@@ -9,7 +10,7 @@ use wire::{
     write_tx, write_word,
 };
 
-/// What a line says, read with room for as many names as a line can list.
+/// What a line says, read with room for as many names as a line can list. No test needs more of the contract.
 fn read(rt: &impl Abort, ids: &mut IdBuf, line: &[u8]) -> Line {
     assert!(rt; line.len() <= 65_536);
     assert!(rt; ids.capacity() >= 32_766);
@@ -147,9 +148,42 @@ fn numbers_are_read_within_their_ranges(rt: HostRuntime) -> Result<(), Fail> {
     Ok(())
 }
 
+/// A line of a reply, or of a certificate's text.
+#[derive(Clone, Copy)]
+enum Reply<'a> {
+    Word(&'a str),
+    Ids(&'a str, Option<Sum>, &'a [u64]),
+    Chunk(Sum, &'a [u64]),
+    Point(u64, i128),
+    Tx(u64, i64, u64),
+    Edge(u64, u64),
+    Flow(Flow),
+    Refused(Refusal),
+}
+
+/// Writes a line. No test needs more of the writers' contracts, which would cost each of them its proof.
+fn write(sink: &mut MemSink, reply: Reply) -> Result<(), Failed> {
+    match reply {
+        Reply::Word(word) => write_word(sink, word),
+        Reply::Ids(head, sums, ids) => write_ids(sink, head, sums, ids),
+        Reply::Chunk(rate, ids) => write_chunk(sink, rate, ids),
+        Reply::Point(size, fee) => write_point(sink, size, fee),
+        Reply::Tx(id, fee, size) => write_tx(sink, id, fee, size),
+        Reply::Edge(parent, child) => write_edge(sink, parent, child),
+        Reply::Flow(flow) => write_flow(sink, flow),
+        Reply::Refused(why) => write_refusal(sink, &why),
+    }
+}
+
+/// Writes lines one after another.
+fn write_each(rt: &impl Abort, sink: &mut MemSink, replies: &[Reply]) {
+    for reply in replies {
+        assert_eq!(rt; write(sink, *reply), Ok(()));
+    }
+}
+
 #[test]
 fn replies_are_lines_of_text(rt: HostRuntime) -> Result<(), Fail> {
-    let mut sink = MemSink::new(rt.alloc(), 7, &[], 1_024)?;
     let sums = Sum {
         fee: -2_100_000_000_000_000_000_000,
         size: 220,
@@ -159,38 +193,25 @@ fn replies_are_lines_of_text(rt: HostRuntime) -> Result<(), Fail> {
         parent: 1,
         amount: 1_000_000_000_000_000_000_000_000_000_000,
     };
-    assert_eq!(rt; write_word(&mut sink, "ok"), Ok(()));
-    assert_eq!(rt;
-        write_word(&mut sink, verdict_word(Verdict::Incomparable)),
-        Ok(())
-    );
-    assert_eq!(rt;
-        write_word(&mut sink, settled_words(Verdict::Worse)),
-        Ok(())
-    );
-    assert_eq!(rt; write_word(&mut sink, place_word(Place::Same)), Ok(()));
-    assert_eq!(rt;
-        write_ids(
-            &mut sink,
-            "block",
-            Some(sums),
-            &[3, 18_446_744_073_709_551_615]
-        ),
-        Ok(())
-    );
-    assert_eq!(rt; write_ids(&mut sink, "ids", None, &[]), Ok(()));
-    assert_eq!(rt; write_chunk(&mut sink, sums, &[2, 1]), Ok(()));
-    assert_eq!(rt; write_point(&mut sink, 0, -1), Ok(()));
-    assert_eq!(rt;
-        write_tx(&mut sink, 1, -9_223_372_036_854_775_808, 2),
-        Ok(())
-    );
-    assert_eq!(rt; write_edge(&mut sink, 1, 2), Ok(()));
-    assert_eq!(rt; write_flow(&mut sink, flow), Ok(()));
-    assert_eq!(rt; write_refusal(&mut sink, &Refusal::Count(65)), Ok(()));
-    assert_eq!(rt; write_refusal(&mut sink, &Refusal::NoStaging), Ok(()));
+    let replies = [
+        Reply::Word("ok"),
+        Reply::Word(verdict_word(Verdict::Incomparable)),
+        Reply::Word(settled_words(Verdict::Worse)),
+        Reply::Word(place_word(Place::Same)),
+        Reply::Ids("block", Some(sums), &[3, 18_446_744_073_709_551_615]),
+        Reply::Ids("ids", None, &[]),
+        Reply::Chunk(sums, &[2, 1]),
+        Reply::Point(0, -1),
+        Reply::Tx(1, -9_223_372_036_854_775_808, 2),
+        Reply::Edge(1, 2),
+        Reply::Flow(flow),
+        Reply::Refused(Refusal::Count(65)),
+        Reply::Refused(Refusal::NoStaging),
+    ];
     let text =
         "ok\nincomparable\naborted worse\nsame\nblock -2100000000000000000000 220 3 18446744073709551615\nids\nchunk -2100000000000000000000 220 2 1\npoint 0 -1\ntx 1 -9223372036854775808 2\nedge 1 2\nflow 2 1 1000000000000000000000000000000\nrefused count 65\nrefused nostaging\n";
+    let mut sink = MemSink::new(rt.alloc(), 7, &[], 1_024)?;
+    write_each(&rt, &mut sink, &replies);
     assert_eq!(rt; sink.written(), text.as_bytes());
     Ok(())
 }
@@ -215,6 +236,12 @@ fn last_flows(text: &CertText) -> usize {
         [.., last] => last.flows.as_slice().len(),
         [] => 0,
     }
+}
+
+/// The same of bytes that are read.
+fn counted(rt: &impl Abort, alloc: Global, bytes: &[u8]) -> Result<Counts, TextFault> {
+    assert!(rt; bytes.len() < 100_000);
+    counts(&read_certificate(alloc, bytes))
 }
 
 #[test]
@@ -271,9 +298,7 @@ fn a_certificate_text_is_read_whole_or_not_at_all(rt: HostRuntime) -> Result<(),
         ("tx 18446744073709551616 1 1\nend", syntax),
     ];
     for (text, expected) in texts {
-        let bytes = text.as_bytes();
-        assert!(rt; bytes.len() < 100);
-        assert_eq!(rt; counts(&read_certificate(rt.alloc(), bytes)), expected);
+        assert_eq!(rt; counted(&rt, rt.alloc(), text.as_bytes()), expected);
     }
     Ok(())
 }
@@ -284,18 +309,10 @@ fn a_comment_may_be_too_long(rt: HostRuntime) -> Result<(), Fail> {
     let longer = vec![in rt.alloc(); b'#'; 65_537]?;
     let mut text = b"end\n".to_vec(rt.alloc())?;
     text.extend_from_slice(&longest)?;
-    assert_eq!(rt;
-        counts(&read_certificate(rt.alloc(), &text)),
-        Ok((0, 0, 0, 0))
-    );
+    assert_eq!(rt; counted(&rt, rt.alloc(), &text), Ok((0, 0, 0, 0)));
     text.push(b'\r')?;
-    assert_eq!(rt;
-        counts(&read_certificate(rt.alloc(), &text)),
-        Err(TextFault::Syntax)
-    );
-    assert_eq!(rt;
-        counts(&read_certificate(rt.alloc(), &longer)),
-        Err(TextFault::Syntax)
-    );
+    let syntax = Err(TextFault::Syntax);
+    assert_eq!(rt; counted(&rt, rt.alloc(), &text), syntax);
+    assert_eq!(rt; counted(&rt, rt.alloc(), &longer), syntax);
     Ok(())
 }
