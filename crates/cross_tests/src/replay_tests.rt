@@ -13,6 +13,11 @@ fn words(alloc: Global, words: &[&str]) -> Result<Vec<String>, AllocError> {
     Ok(all)
 }
 
+/// The status of a run. No test needs more of its contract, which would cost each of them its proof.
+fn played(alloc: Global, words: &[String], source: &mut MemSource, sink: &mut MemSink) -> Status {
+    run(alloc, words, source, sink)
+}
+
 /// Inputs of `replay` with their outputs.
 const RUNS: [(&str, &str); 15] = [
     ("", ""),
@@ -168,7 +173,7 @@ fn replies_are_the_same_whatever_the_pieces(rt: HostRuntime) -> Result<(), Fail>
         for piece in [1, 2, 4096] {
             let mut source = MemSource::new(alloc, input.as_bytes(), piece, &[], None)?;
             let mut sink = MemSink::new(alloc, piece, &[], 4096)?;
-            let status = run(alloc, &words, &mut source, &mut sink);
+            let status = played(alloc, &words, &mut source, &mut sink);
             assert_eq!(rt; status, Status::Done, "at {input:?}");
             assert_eq!(rt; sink.written(), output.as_bytes(), "at {input:?}");
         }
@@ -182,7 +187,7 @@ fn replay_all(rt: &impl Abort, alloc: Global, runs: &[(&str, &str)]) -> Result<(
     for (input, output) in runs {
         let mut source = MemSource::new(alloc, input.as_bytes(), 4096, &[], None)?;
         let mut sink = MemSink::new(alloc, 4096, &[], 4096)?;
-        let status = run(alloc, &words, &mut source, &mut sink);
+        let status = played(alloc, &words, &mut source, &mut sink);
         assert_eq!(rt; status, Status::Done, "at {input:?}");
         assert_eq!(rt; sink.written(), output.as_bytes(), "at {input:?}");
     }
@@ -207,13 +212,13 @@ fn faults_and_words_give_their_status(rt: HostRuntime) -> Result<(), Fail> {
         let input = b"count main\ncount main\ncou";
         let mut source = MemSource::new(alloc, input, piece, &[], Some(25))?;
         let mut sink = MemSink::new(alloc, piece, &[], 4096)?;
-        assert_eq!(rt; run(alloc, &replay, &mut source, &mut sink).code(), 3);
+        assert_eq!(rt; played(alloc, &replay, &mut source, &mut sink).code(), 3);
         assert_eq!(rt; sink.written(), b"count 0\ncount 0\n".as_slice());
 
         let input = b"add 1 1 1\nadd 2 1 1\n";
         let mut source = MemSource::new(alloc, input, piece, &[], None)?;
         let mut sink = MemSink::new(alloc, piece, &[], 3)?;
-        assert_eq!(rt; run(alloc, &replay, &mut source, &mut sink).code(), 4);
+        assert_eq!(rt; played(alloc, &replay, &mut source, &mut sink).code(), 4);
         assert_eq!(rt; sink.written(), b"ok\n".as_slice());
     }
 
@@ -225,7 +230,7 @@ fn faults_and_words_give_their_status(rt: HostRuntime) -> Result<(), Fail> {
         let mut source = MemSource::new(alloc, b"add 1 1 1\n", 64, &[], None)?;
         let mut sink = MemSink::new(alloc, 64, &[], 4096)?;
         let refused = words(alloc, refused)?;
-        assert_eq!(rt; run(alloc, &refused, &mut source, &mut sink).code(), 2);
+        assert_eq!(rt; played(alloc, &refused, &mut source, &mut sink).code(), 2);
         assert_eq!(rt;
             sink.written(),
             b"usage: txgraph replay | check | gen SEED COUNT\n".as_slice()
@@ -332,7 +337,7 @@ fn a_text_is_a_certificate_or_the_first_fault_is_told(rt: HostRuntime) -> Result
     for (text, said) in TEXTS {
         let mut source = MemSource::new(alloc, text.as_bytes(), 7, &[], None)?;
         let mut sink = MemSink::new(alloc, 3, &[], 64)?;
-        let status = run(alloc, &words, &mut source, &mut sink);
+        let status = played(alloc, &words, &mut source, &mut sink);
         let wanted = if said == "yes\n" {
             Status::Done
         } else {
@@ -344,11 +349,11 @@ fn a_text_is_a_certificate_or_the_first_fault_is_told(rt: HostRuntime) -> Result
     // Without its end nothing is said of a text, and past a full sink no more.
     let mut source = MemSource::new(alloc, b"end\n", 7, &[2], None)?;
     let mut sink = MemSink::new(alloc, 3, &[], 64)?;
-    assert_eq!(rt; run(alloc, &words, &mut source, &mut sink).code(), 3);
+    assert_eq!(rt; played(alloc, &words, &mut source, &mut sink).code(), 3);
     assert_eq!(rt; sink.written(), b"".as_slice());
     let mut source = MemSource::new(alloc, b"end\n", 7, &[], None)?;
     let mut sink = MemSink::new(alloc, 1, &[], 2)?;
-    assert_eq!(rt; run(alloc, &words, &mut source, &mut sink).code(), 4);
+    assert_eq!(rt; played(alloc, &words, &mut source, &mut sink).code(), 4);
     assert_eq!(rt; sink.written(), b"ye".as_slice());
     Ok(())
 }
@@ -375,7 +380,7 @@ fn a_line_has_at_most_65536_bytes(rt: HostRuntime) -> Result<(), Fail> {
     for piece in [1, 2, 4096] {
         let mut source = MemSource::new(alloc, &input, piece, &[], None)?;
         let mut sink = MemSink::new(alloc, piece, &[], 4096)?;
-        assert_eq!(rt; run(alloc, &words, &mut source, &mut sink).code(), 0);
+        assert_eq!(rt; played(alloc, &words, &mut source, &mut sink).code(), 0);
         assert_eq!(rt;
             sink.written(),
             b"refused line\nrefused syntax\ncount 0\n".as_slice()
@@ -398,7 +403,7 @@ fn a_sink_that_stops_has_a_front_of_the_replies(rt: HostRuntime) -> Result<(), F
     for stop in 0..=replies.len() {
         let mut source = MemSource::new(alloc, FOUR.as_bytes(), 1, &[], None)?;
         let mut sink = MemSink::new(alloc, 1, &[], stop)?;
-        let status = run(alloc, &words, &mut source, &mut sink);
+        let status = played(alloc, &words, &mut source, &mut sink);
         let (front, rest) = replies.split_at(stop);
         let wanted = if rest.is_empty() {
             Status::Done
@@ -429,7 +434,7 @@ fn a_source_that_stops_has_its_complete_lines_answered(rt: HostRuntime) -> Resul
         for at in stop..=last {
             let mut source = MemSource::new(alloc, FOUR.as_bytes(), 1, &[], Some(at))?;
             let mut sink = MemSink::new(alloc, 1, &[], 4096)?;
-            let status = run(alloc, &words, &mut source, &mut sink);
+            let status = played(alloc, &words, &mut source, &mut sink);
             assert_eq!(rt; status, Status::ReadFault, "at {at}");
             assert_eq!(rt; sink.written(), replies.as_bytes(), "at {at}");
         }
@@ -438,7 +443,7 @@ fn a_source_that_stops_has_its_complete_lines_answered(rt: HostRuntime) -> Resul
     let mut source = MemSource::new(alloc, FOUR.as_bytes(), 1, &[1], None)?;
     let mut sink = MemSink::new(alloc, 1, &[], 4096)?;
     assert_eq!(rt;
-        run(alloc, &words, &mut source, &mut sink),
+        played(alloc, &words, &mut source, &mut sink),
         Status::ReadFault
     );
     assert_eq!(rt; sink.written(), b"".as_slice());
