@@ -1,5 +1,6 @@
 pub mod Changes
 pub mod Copies
+pub mod Floors
 pub mod Kept
 pub mod Lists
 pub mod Maps

@@ -227,7 +227,9 @@ impl Tree {
         }
     }
 
-    /// Fills a slice with the entries from the one with that many before it on. A few steps to get there, then about one an entry.
+    /// Fills a slice with the entries from the one with that many before it on.
+    ///
+    /// That costs a search for the first one, and then a step or two for each.
     pub fn copy_from(&self, at: usize, out: &mut [Entry])
         requires { at + length out.old ≤ length self.now }
         ensures { out.new ≡ take (length out.old) (drop at self.now) }

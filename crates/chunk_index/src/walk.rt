@@ -157,6 +157,8 @@ impl<'a> TreeSpan<'a> {
     ghost use Rattle.chunk_index.specs.Sources.{tree_left};
 
     /// The first entry that is left. Where none was read ahead, some are read, for one search by rank.
+    // Kept out of the loops that walk slots, which have no use for it.
+    #[inline(never)]
     fn take_first(&mut self) -> Option<Entry>
         ensures { YieldsFirst tree_left self.old result self.new }
     {

@@ -1,6 +1,7 @@
 use Rattle.std.proofs.Common.{◌≡◌, ap, sym, ◌∙◌, arith}
 use Rattle.chunk_index.specs.declared.key.Key.{Key}
-use Rattle.chunk_index.specs.Floors.{floor_of, stands_first, stands_behind}
+use Rattle.chunk_index.specs.Floors.{floor_of}
+use Rattle.chunk_index.proofs.Floors.{stands_first, stands_behind}
 use Rattle.chunk_index.proofs.sort_key.SortKeyOrd.cmp.Goals as goal
 
 pub returns-then-self-other : goal.returns-then-self-other
