@@ -1,12 +1,12 @@
 -- Each operation on words is the operation on the sets that they stand for.
-use Rattle.std.proofs.Common.{◌≡◌, ℕ, ◌+◌, ◌-◌, ◌*◌, ◌/◌, ◌%◌, ◌^◌, ◌<◌, ◌≤◌, Bool, true, false, not, ◌&&◌, ◌||◌, ◌≢◌, nat_eq, nat_lt, List}
+use Rattle.std.proofs.Common.{◌≡◌, ℕ, suc, ◌+◌, ◌-◌, ◌*◌, ◌/◌, ◌%◌, ◌^◌, ◌<◌, ◌≤◌, Bool, true, false, not, ◌&&◌, ◌||◌, ◌≢◌, nat_eq, nat_lt, List}
 use Rattle.std.proofs.Common.{length, set, replicate, bit_and, bit_or, slice_index, inl, inr, refl, sym, ap, ap₂, ◌∙◌, arith, w64, lt-ltb}
 use Rattle.std.proofs.Common.{le-ltb, eq-eqb, ne_eqb, length-set, true≢false, below_more, lt_of_le_of_lt}
 use Rattle.std.proofs.lemmas.Bool.{cases_lt, cases_eq, false_from_ne_true, and_parts}
 use Rattle.std.proofs.lemmas.List.{get_or_past, get_or-set_same, get_or-set_other, get_or-replicate, length-replicate}
-use Rattle.std.proofs.lemmas.Nat.{one_shl, pow_below, or_lt, and_le_l}
-use Rattle.std.proofs.lemmas.Nat.Bits.{bit_at-pow_same, bit_at-pow_other, shr_and_one, bit_at_ones, bit_at_ones_above, bit_at-trailing_zeros}
-use Rattle.std.specs.Int.{bit_at, trailing_zeros}
+use Rattle.std.proofs.lemmas.Nat.{leading_top, one_shl, pow_below, or_lt, and_le_l}
+use Rattle.std.proofs.lemmas.Nat.Bits.{bit_at-pow_same, bit_at-pow_other, shr_and_one, bit_at_ones, bit_at_above, bit_at_cat_high, bit_at_ones_above, bit_at-trailing_zeros}
+use Rattle.std.specs.Int.{bit_at, leading_zeros, trailing_zeros}
 use Rattle.std.specs.Ordering.{nat_cmp}
 use Rattle.std.specs.Cmp.{nat_cmp_total}
 use Rattle.std.specs.FinSet as fin
@@ -249,6 +249,40 @@ none_is w words long none = members_from _ _ (λ q. elim (cases_lt (q / 64) w) a
   | inl h ↦ ap (λ n. is_set n (q % 64)) (none (q / 64) h) ∙ is_set-zero (q % 64) ∙ sym (contains-empty q)
   | inr h ↦ is_place-past words q (omega arith) ∙ sym (contains-empty q)
 ])
+
+-- ---- the greatest place
+
+-- a word that is not empty has its highest bit set, and none above it
+highest : (n : ℕ) → n ≢ 0 → n < 2 ^ 64 → (leading_zeros w64 n < 64) × (is_set n (63 - leading_zeros w64 n) ≡ true)
+    × ((k : ℕ) → 63 - leading_zeros w64 n < k → is_set n k ≡ false)
+highest n some fits =
+    let top : (j : ℕ) × (leading_zeros w64 n + suc j ≡ 64) × (2 ^ j ≤ n) × (n < 2 ^ suc j) = leading_top 64 n (omega arith) fits in
+    let is : 63 - leading_zeros w64 n ≡ top.0 = omega (arith, top.1) in
+    let none : top.0 - top.0 ≡ 0 = omega arith in
+    let rest : n ≡ 1 * 2 ^ top.0 + (n - 2 ^ top.0) = omega (arith, top.2) in
+    let one : bit_at n top.0 ≡ 1 = ap (λ m. bit_at m top.0) rest ∙ bit_at_cat_high 1 top.0 (n - 2 ^ top.0) top.0 (omega (arith, top.2, top.3)) (omega arith)
+    ∙ ap (bit_at 1) none ∙ bit_at-pow_same 0 in (
+      omega (arith, top.1),
+      ap (is_set n) is ∙ ap (λ m. nat_eq m 1) one,
+      λ k h. ap (λ m. nat_eq m 1) (bit_at_above n (suc top.0) k top.3 (omega (arith, is, h))),
+    )
+
+pub greatest_is : (w i : ℕ) (words : List ℕ) → AreWords w words → ((k : ℕ) → i < k → slice_index words k ≡ 0) → slice_index words i ≢ 0
+    → (fin.contains (members_of words) (64 * i + (63 - leading_zeros w64 (slice_index words i))) ≡ true)
+    × ((q : ℕ) → fin.contains (members_of words) q ≡ true → q ≤ 64 * i + (63 - leading_zeros w64 (slice_index words i)))
+greatest_is w i words h none some =
+    let high = highest (slice_index words i) some (h.fit i) in (
+      contains-members_of words _ ∙ is_place-at words i _ (omega arith) ∙ high.1,
+      λ q e. elim (cases_lt (64 * i + (63 - leading_zeros w64 (slice_index words i))) q) as (λ _. q ≤ 64 * i + (63 - leading_zeros w64 (slice_index words i))) [
+        | inr below ↦ below
+        | inl above ↦ absurd (true≢false (sym e ∙ contains-members_of words q ∙ elim (cases_lt i (q / 64)) as (λ _. is_place words q ≡ false) [
+          | inl later ↦ ap (λ n. is_set n (q % 64)) (none (q / 64) later) ∙ is_set-zero (q % 64)
+          | inr here ↦
+              let same : q / 64 ≡ i = omega (arith, high.0) in
+              ap (λ n. is_set (slice_index words n) (q % 64)) same ∙ high.2 (q % 64) (omega arith)
+        ]))
+      ],
+    )
 
 -- ---- words that are filled by a test
 

@@ -1,4 +1,4 @@
-ghost use Rattle.std.specs.Prelude.{◌≡◌, ℕ, ◌+◌, ◌-◌, ◌*◌, ◌^◌, ◌<◌, ◌≤◌, ◌&&◌, not, min, nat_lt, true, length, MatchOption};
+ghost use Rattle.std.specs.Prelude.{◌≡◌, ℕ, ◌+◌, ◌-◌, ◌*◌, ◌^◌, ◌<◌, ◌≤◌, ◌&&◌, not, min, nat_lt, true, length, IfSome, MatchOption};
 ghost use Rattle.std.specs.Ordering.{nat_cmp};
 ghost use Rattle.std.specs.FinSet as set;
 ghost use Rattle.bitset.specs.Words.{is_set, is_place};
@@ -182,6 +182,23 @@ impl<const W: usize> Bits<W> {
             let word = self.words[i];
             if word != 0 {
                 return Some(WORD * i + word.trailing_zeros() as usize);
+            }
+        }
+        None
+    }
+
+    /// The greatest place, or `None` where the set has none.
+    pub fn greatest(&self) -> Option<usize>
+        ensures there { MatchOption result (self.now ≡ set.empty) (λ p. set.contains self.now p ≡ true) }
+        ensures greatest { IfSome result (λ p. (q : ℕ) → set.contains self.now q ≡ true → q ≤ p) }
+        ensures within { IsWithin (64 * W) self.now }
+    {
+        let mut i = W;
+        while i > 0 {
+            i -= 1;
+            let word = self.words[i];
+            if word != 0 {
+                return Some(WORD * i + (63 - word.leading_zeros() as usize));
             }
         }
         None

@@ -141,12 +141,16 @@ pub putting_room : (n : ℕ) (before es : List Entry) (first seen next left : se
 putting_room n before es first seen next left from t p m h =
     omega (arith, p.lists.count, room_for n seen t p.within h (p.apart t m))
 
--- the work left gets less
-pub fewer : (left : set.FinSet nat_cmp) (t : ℕ) → set.contains left t ≡ true → set.len (set.remove left t) < set.len left
-fewer left t m =
+-- a member taken out is one member fewer
+pub taken_out : (left : set.FinSet nat_cmp) (t : ℕ) → set.contains left t ≡ true → set.len (set.remove left t) + 1 ≡ set.len left
+taken_out left t m =
     let back : set.insert (set.remove left t) t ≡ left = same_members _ left (λ q.
     elim (cases_eq q t) as (λ _. set.contains (set.insert (set.remove left t) t) q ≡ set.contains left q) [
       | inl e ↦ subst (λ (x : ℕ). set.contains (set.insert (set.remove left t) t) x ≡ set.contains left x) (sym e) (insert_here (set.remove left t) t ∙ sym m)
       | inr ne ↦ insert_other (set.remove left t) t q ne ∙ remove_other left t q ne
     ]) in
     omega (arith, len_insert (set.remove left t) t (remove_here left t), ap (λ (x : set.FinSet nat_cmp). set.len x) back)
+
+-- the work left gets less
+pub fewer : (left : set.FinSet nat_cmp) (t : ℕ) → set.contains left t ≡ true → set.len (set.remove left t) < set.len left
+fewer left t m = omega (arith, taken_out left t m)

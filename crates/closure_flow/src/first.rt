@@ -4,39 +4,27 @@ ghost use Rattle.bitset.specs.Places.{places};
 ghost use Rattle.closure_flow.specs.Closures.{HasEach, parents_at};
 ghost use Rattle.closure_flow.specs.Flows.{surplus};
 ghost use Rattle.closure_flow.specs.Networks.{IsOver};
-ghost use Rattle.closure_flow.specs.Queues.{Lists};
 ghost use Rattle.closure_flow.specs.Views.{ArrangesTo, GivesTo, HandsTo, ImprovesTo, IsFirstIn, flow_in, rest_in};
 ghost use borrow.Author.Differences.{up};
 
-use crate::Queue;
 use crate::network::Network;
 use bitset::Bits;
 
-/// A first flow, without a search: each place of a queue, the last one first, gives what it has left to parents that
-/// lack something, and hands on what is left then.
+/// A first flow, without a search: places that have something left, the last one first and each once, give it to parents
+/// that lack something, and hand on what is left then.
 ///
-/// Where parents come first in the queue, what one place hands on is given by another later.
-pub(crate) fn first_flow<const W: usize>(
-    network: &mut Network<W>,
-    queue: &Queue<W>,
-    parents: &[Bits<W>],
-)
+/// Where parents stand before their children, what one place hands on is given by another later.
+pub(crate) fn first_flow<const W: usize>(network: &mut Network<W>, parents: &[Bits<W>])
     requires parents { HasEach network.old.within parents.now }
-    requires lists { Lists queue.now.entries network.old.within }
     requires none { (c p : ℕ) → set.contains network.old.within p ≡ true → flow_in network.old c p ≡ 0 }
     requires small { surplus (rest_in network.old) (places (64 * W) network.old.within) < 2 ^ 126 }
     ensures improves { ImprovesTo parents.now network.old network.new }
     ensures within { network.new.within ≡ network.old.within }
 {
     let mut to_come = network.within;
-    let mut at = queue.taken();
-    while at > 0 {
-        at -= 1;
-        let place = queue.entry(at).place;
+    while let Some(place) = to_come.meet(&network.over).greatest() {
         to_come.remove(place);
-        if network.over.has(place) {
-            settle(network, parents, &to_come, place);
-        }
+        settle(network, parents, &to_come, place);
     }
 }
 

@@ -8,7 +8,7 @@ ghost use Rattle.closure_flow.specs.Flows.{surplus};
 ghost use Rattle.closure_flow.specs.Labels.{Climbs};
 ghost use Rattle.closure_flow.specs.Networks.{IsShort};
 ghost use Rattle.closure_flow.specs.Outcomes.{IfBetter, OnBalanced};
-ghost use Rattle.closure_flow.specs.Queues.{Lists, place_at};
+ghost use Rattle.closure_flow.specs.Queues.{place_at};
 ghost use Rattle.closure_flow.specs.Scratches.{flow_of};
 ghost use Rattle.closure_flow.specs.Views.{ImprovesTo, IsLabellingIn, IsSealedIn, IsSearchIn, IsSteadyIn, SpendsTo};
 ghost use Rattle.closure_flow.specs.Views.{flow_in, rest_in};
@@ -16,7 +16,7 @@ ghost use Rattle.closure_flow.specs.Views.{flow_in, rest_in};
 use crate::first::first_flow;
 use crate::network::Network;
 use crate::path::{narrowest, send};
-use crate::search::{put_all, search};
+use crate::search::search;
 use crate::{Queue, Scratch};
 use bitset::Bits;
 use step_count::{Ledger, Steps};
@@ -34,8 +34,8 @@ pub enum Outcome<const W: usize> {
 /// positive weight.
 ///
 /// Weights and parents are given by place. The weights of the set sum to 0, and their absolute values to less than
-/// 2^126. It takes no memory: it works in `scratch`, where a balanced flow is left. Each place that it takes from a
-/// queue is a step.
+/// 2^126. It takes no memory: it works in `scratch`, where a balanced flow is left. Each place that it begins with, and
+/// each that it takes from a queue, is a step.
 pub fn solve<L: Ledger, const W: usize>(
     scratch: &mut Scratch<W>,
     weights: &[i128],
@@ -56,21 +56,15 @@ pub fn solve<L: Ledger, const W: usize>(
     ensures none { OnBalanced result (IsNoneHeavier (64 * W) weights.now parents.now within.entry (pos 0)) }
     ensures flow { OnBalanced result (IsBalanced (64 * W) weights.now parents.now within.entry (flow_of scratch.new)) }
 
-    // Each place is taken at least once, so each of negative weight is. However large the weights are, of n places at
-    // most (n + 2)^4 + (n + 2) are taken in all.
+    // Each place is begun with, so each of negative weight is. However large the weights are, n places take at most
+    // (n + 2)^4 + (n + 2) steps in all.
     ensures steps_better { IfBetter result (λ _. steps.old < steps.new) }
     ensures steps_balanced { OnBalanced result (steps.old + negatives (64 * W) weights.now within.entry ≤ steps.new) }
     ensures steps_least { steps.old + set.len within.entry ≤ steps.new }
     ensures steps_most { steps.new ≤ steps.old + most_steps (set.len within.entry) }
 {
-    load(
-        &mut scratch.network,
-        &mut scratch.queue,
-        weights,
-        &within,
-        steps,
-    );
-    first_flow(&mut scratch.network, &scratch.queue, parents);
+    load(&mut scratch.network, weights, &within, steps);
+    first_flow(&mut scratch.network, parents);
     let reached = complete(&mut scratch.network, &mut scratch.queue, parents, steps);
     if reached.least().is_none() {
         return Outcome::Balanced;
@@ -78,10 +72,9 @@ pub fn solve<L: Ledger, const W: usize>(
     Outcome::Better(reached)
 }
 
-/// Begins each place of a set anew: it takes each from the queue once, and counts a step for it.
+/// Begins each place of a set anew, and counts a step for it.
 fn load<L: Ledger, const W: usize>(
     network: &mut Network<W>,
-    queue: &mut Queue<W>,
     weights: &[i128],
     within: &Bits<W>,
     steps: &mut Steps<L>,
@@ -90,13 +83,13 @@ fn load<L: Ledger, const W: usize>(
     ensures within { network.new.within ≡ within.now }
     ensures rest { (t : ℕ) → set.contains within.now t ≡ true → rest_in network.new t ≡ weight_at weights.now t }
     ensures none { (c p : ℕ) → set.contains within.now p ≡ true → flow_in network.new c p ≡ 0 }
-    ensures lists { Lists queue.new.entries within.now }
     ensures steps { steps.new ≡ steps.old + set.len within.now }
 {
     network.clear();
-    queue.clear();
-    let _all = put_all(queue, &Bits::empty(), within, None);
-    while let Some(place) = queue.take(steps) {
+    let mut left = *within;
+    while let Some(place) = left.least() {
+        left.remove(place);
+        steps.tick();
         network.begin(place, weights[place]);
     }
 }

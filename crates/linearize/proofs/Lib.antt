@@ -1,3 +1,4 @@
+mod Alone
 mod Certified
 mod Chains
 mod Cuts

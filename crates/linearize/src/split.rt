@@ -1,15 +1,16 @@
 ghost use Rattle.std.specs.Prelude.{◌≡◌, ℕ, ◌+◌, ◌*◌, ◌<◌, ◌≤◌, ◌^◌, length, true, pos, ◌*ℤ◌, unsigned_abs};
-ghost use Rattle.std.specs.Prelude.{IfSome, MatchOption};
+ghost use Rattle.std.specs.Prelude.{IfSome, List, MatchOption};
+ghost use Rattle.std.specs.Ordering.{nat_cmp};
 ghost use Rattle.std.specs.FinSet as set;
-ghost use Rattle.graphs.specs.Closures.{HoldsMembers};
+ghost use Rattle.graphs.specs.Closures.{HoldsMembers, IsClosed};
 ghost use Rattle.closure_flow.specs.Closures.{weight_at};
 ghost use Rattle.closure_flow.specs.Scratches.{flow_of};
 ghost use Rattle.fee_rate.specs.Limits.{IsRate};
 ghost use Rattle.fee_rate.specs.declared.limits.TheConstants.{MAX_SIZE};
 ghost use Rattle.graphs.specs.Certificates.{weight_in};
 ghost use Rattle.linearize.specs.Graphs.{HasRates, most_members, sum_at, sum_from};
-ghost use Rattle.linearize.specs.Orders.{sums_in};
-ghost use Rattle.linearize.specs.Splits.{Adds, IsCut, IsReady, IsSolved};
+ghost use Rattle.linearize.specs.Orders.{AreCovers, sums_in};
+ghost use Rattle.linearize.specs.Splits.{Adds, HasRoom, IsCut, IsReady, IsSolved};
 ghost use Rattle.linearize.specs.Steps.{AreOfOne, AreOfSolves};
 
 use crate::draft::Draft;
@@ -62,11 +63,39 @@ fn best<L: Ledger, const W: usize>(
         (λ _. draft.new ≡ draft.old) }
     ensures solve { AreOfOne (set.len within.now) steps.old steps.new }
 {
+    if within.count() == 1 {
+        alone(dep, within, draft, steps);
+        return None;
+    }
     let whole = sum(dep, within);
     weigh(dep, within, whole, weights);
     match solve(scratch, weights, parents, *within, steps) {
         Outcome::Better(first) => Some(first),
         Outcome::Balanced => finish(scratch, dep, parents, within, whole, draft, steps),
+    }
+}
+
+// Writes a set of one place as one part. Its solve is the one step that begins with the place, since nothing is left to
+// be sent.
+fn alone<L: Ledger, const W: usize>(
+    dep: &DepGraph<W>,
+    within: &Bits<W>,
+    draft: &mut Draft<W>,
+    steps: &mut Steps<L>,
+)
+    requires narrow { 64 * W < 2 ^ 32 }
+    requires closed { IsClosed (64 * W) dep.now }
+    requires members { HoldsMembers dep.now within.now }
+    requires covers { (parents : List (set.FinSet nat_cmp)) × AreCovers dep.now parents }
+    requires room { HasRoom (64 * W) within.now draft.old }
+    requires one { set.len within.now ≡ 1 }
+    ensures adds { Adds (64 * W) dep.now within.now draft.old draft.new }
+    ensures step { steps.new ≡ steps.old + 1 }
+{
+    steps.tick();
+    if let Some(place) = within.least() {
+        draft.put(place);
+        draft.close(dep.rate(place));
     }
 }
 

@@ -1,13 +1,13 @@
-use Rattle.std.proofs.Common.{◌≡◌, ◌+◌, ◌-◌, length}
-use Rattle.closure_flow.specs.Queues.{Lists}
+use Rattle.std.proofs.Common.{◌≡◌, ◌+◌}
+use Rattle.std.specs.FinSet as set
 use Rattle.closure_flow.proofs.Loads.{Loads}
 use Rattle.closure_flow.proofs.solver.load.Given as goal
 
 abbrev pub invariant-loop-place : goal.invariant-loop-place
-invariant-loop-place g l =
-    Loads l.weights l.network.within l.network.into.items l.network.rest.items l.queue.entries l.queue.taken
-    × Lists l.queue.entries l.within
-    × (l.steps ≡ l.fn.steps + l.queue.taken)
+invariant-loop-place g l = record {
+  loads : Loads l.weights l.within l.left l.network.within l.network.into.items l.network.rest.items;
+  steps : l.steps + set.len l.left ≡ l.fn.steps + set.len l.within;
+}
 
 abbrev pub decreases-loop-place : goal.decreases-loop-place
-decreases-loop-place g l = length l.queue.entries - l.queue.taken
+decreases-loop-place g l = set.len l.left

@@ -2,7 +2,6 @@ use Rattle.std.proofs.Common.{◌≡◌, ℕ, ◌*◌, ◌<◌, ◌∙◌, sym, 
 use Rattle.std.specs.FinSet as set
 use Rattle.closure_flow.specs.Bounds.{most_searched}
 use Rattle.closure_flow.specs.Closures.{IsBalanced, weight_at}
-use Rattle.closure_flow.specs.Queues.{Lists}
 use Rattle.closure_flow.proofs.Networks.{network_fits, shown_only, shown_within, words_fit}
 use Rattle.closure_flow.proofs.Optimum.{balanced_flow, count_within, counted_some, greatest_where_sealed}
 use Rattle.closure_flow.proofs.Optimum.{none_is_empty, none_where_sealed, nothing_over, positive_where_some, run_of}
@@ -18,19 +17,13 @@ first_flow-requires g c =
     let w = sym e.within in (
       network_fits g.row.W _ _ _ c.scratch.inside.network.sized,
       (
-        omega arith,
+        words_fit g.row.W _ _ _ c.scratch.inside.network.sized,
         (
-          words_fit g.row.W _ _ _ c.scratch.inside.network.sized,
+          subst (λ s. (t : ℕ) → set.contains s t ≡ true → t < length c.args.parents.now) w c.requires.parents,
           (
-            subst (λ s. (t : ℕ) → set.contains s t ≡ true → t < length c.args.parents.now) w c.requires.parents,
-            (
-              subst (λ s. Lists c.load.new.queue.entries s) w e.lists,
-              (
-                λ d p m. e.none d p (ap (λ s. set.contains s p) (sym e.within) ∙ m),
-                small_start n (weight_at c.args.weights.now) c.args.within c.load.new.network.within (weight_at c.load.new.network.rest.items)
-                    e.within e.rest c.requires.small,
-              ),
-            ),
+            λ d p m. e.none d p (ap (λ s. set.contains s p) (sym e.within) ∙ m),
+            small_start n (weight_at c.args.weights.now) c.args.within c.load.new.network.within (weight_at c.load.new.network.rest.items)
+                e.within e.rest c.requires.small,
           ),
         ),
       ),

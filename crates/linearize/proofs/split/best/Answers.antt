@@ -78,3 +78,10 @@ returns-in-Better-clause-solve g c =
 pub returns-in-Balanced-clause-solve : goal.returns-in-Balanced-clause-solve
 returns-in-Balanced-clause-solve g c =
     of_one _ _ c.solve.new.steps _ c.in-Balanced.ensures.steps_least c.in-Balanced.ensures.steps_most c.finish.ensures.steps c.finish.ensures.most
+
+pub returns-then-count-eq1-clause-solve : goal.returns-then-count-eq1-clause-solve
+returns-then-count-eq1-clause-solve g c =
+    let few = c.requires.ready.few in
+    let one : fin.len c.args.within.now ≡ 1 = omega (arith, few, c.count.ensures.exact, c.if-count-eq1.true) in
+    of_one (fin.len c.args.within.now) c.args.steps.now c.alone.new.steps c.alone.new.steps
+    (omega (arith, one, c.alone.ensures.step)) (omega (arith, c.alone.ensures.step)) (omega arith) (omega arith)
