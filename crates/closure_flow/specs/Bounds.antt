@@ -1,6 +1,7 @@
--- How many steps it takes at most, where a step is one place taken from a queue. With n places the distance from where
--- something is left to be sent to where something is lacking takes at most n values; while it keeps one, each
--- augmentation uses up one of n · n pairs of places, or settles one of n places (Edmonds and Karp, 1972).
+-- How many steps it takes at most, where a step is a place that a solve begins with, or one that a search takes from its
+-- queue. With n places the distance from where something is left to be sent to where something is lacking takes at most
+-- n values; while it keeps one, each augmentation uses up one of n · n pairs of places, or settles one of n places
+-- (Edmonds and Karp, 1972).
 use Rattle.std.specs.Prelude.{ℕ, ◌+◌, ◌*◌, ◌^◌}
 
 -- of all searches within n places: each takes n at most

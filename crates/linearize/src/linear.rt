@@ -90,8 +90,8 @@ impl<const W: usize> Linear<W> {
 /// further: no smaller set that is closed within it has its rate.
 ///
 /// The members are one component, and at least one. Fees and sizes are those of transactions, and the members at
-/// most 4,096, so that 64 bits hold the fee of each part. It takes no memory, and counts each place that a search
-/// takes as a step.
+/// most 4,096, so that 64 bits hold the fee of each part. It takes no memory, and counts as a step each place that a
+/// solve begins with or a search takes.
 pub fn optimal<L: Ledger, const W: usize>(
     scratch: &mut Scratch<W>,
     dep: &DepGraph<W>,
