@@ -1,10 +1,14 @@
-use Rattle.std.proofs.Common.{rules, ℤ, FitsSigned, subst}
+use Rattle.std.proofs.Common.{rules, ◌≤◌, Bool, true, false, is_ok, if◌then◌else◌, ℤ, FitsSigned, subst, arith}
 use Rattle.std.specs.Int.{w64}
 use Rattle.std.proofs.lemmas.Int.{to_z-of_z}
 use Rattle.graph_model.specs.Commands.{Add, SetFee}
 use Rattle.graph_model.specs.Replies.{change_reply}
 use Rattle.tx_graph.specs.Kept.{MakesStep}
 use Rattle.replay.proofs.request.Change.make.Goals as goal
+
+at_most_one : (b : Bool) → (if b then 1 else 0) ≤ 1
+at_most_one true = omega arith
+at_most_one false = omega arith
 
 pub returns-in-Limits-clause-step : goal.returns-in-Limits-clause-step
 returns-in-Limits-clause-step g c = rw c.in-Limits.is c.set_limits.ensures.step
@@ -37,3 +41,27 @@ returns-in-Commit-clause-step g c = rw c.in-Commit.is c.commit.ensures.step
 
 pub returns-in-Abort-clause-step : goal.returns-in-Abort-clause-step
 returns-in-Abort-clause-step g c = rw c.in-Abort.is c.abort.ensures.step
+
+pub returns-in-Limits-clause-additions : goal.returns-in-Limits-clause-additions
+returns-in-Limits-clause-additions g c = omega (arith, c.set_limits.ensures.additions)
+
+pub returns-in-Dep-clause-additions : goal.returns-in-Dep-clause-additions
+returns-in-Dep-clause-additions g c = omega (arith, c.dep.ensures.additions)
+
+pub returns-in-Fee-clause-additions : goal.returns-in-Fee-clause-additions
+returns-in-Fee-clause-additions g c = omega (arith, c.fee.ensures.additions)
+
+pub returns-in-Remove-clause-additions : goal.returns-in-Remove-clause-additions
+returns-in-Remove-clause-additions g c = omega (arith, c.remove.ensures.additions)
+
+pub returns-in-Stage-clause-additions : goal.returns-in-Stage-clause-additions
+returns-in-Stage-clause-additions g c = omega (arith, c.stage.ensures.additions)
+
+pub returns-in-Commit-clause-additions : goal.returns-in-Commit-clause-additions
+returns-in-Commit-clause-additions g c = omega (arith, c.commit.ensures.additions)
+
+pub returns-in-Abort-clause-additions : goal.returns-in-Abort-clause-additions
+returns-in-Abort-clause-additions g c = omega (arith, c.abort.ensures.additions)
+
+pub returns-in-Add-clause-additions : goal.returns-in-Add-clause-additions
+returns-in-Add-clause-additions g c = omega (arith, c.add.ensures.additions, at_most_one (is_ok c.add.result))

@@ -1,3 +1,4 @@
+use Rattle.std.proofs.Common.{arith}
 use Rattle.replay.proofs.request.Search.find.Goals as goal
 
 pub returns-in-Cluster-clause-step : goal.returns-in-Cluster-clause-step
@@ -8,3 +9,12 @@ returns-in-Ancestors-clause-step g c = rw c.in-Ancestors.is c.ancestors.ensures.
 
 pub returns-in-Descendants-clause-step : goal.returns-in-Descendants-clause-step
 returns-in-Descendants-clause-step g c = rw c.in-Descendants.is c.descendants.ensures.step
+
+pub returns-in-Cluster-clause-room : goal.returns-in-Cluster-clause-room
+returns-in-Cluster-clause-room g c = c.cluster.ensures.room
+
+pub returns-in-Ancestors-clause-room : goal.returns-in-Ancestors-clause-room
+returns-in-Ancestors-clause-room g c = c.ancestors.ensures.room
+
+pub returns-in-Descendants-clause-room : goal.returns-in-Descendants-clause-room
+returns-in-Descendants-clause-room g c = c.descendants.ensures.room
