@@ -251,10 +251,6 @@ const SMALL: [Case; 8] = [
     ),
 ];
 
-fn small() -> &'static [Case] {
-    &SMALL
-}
-
 /// The greatest fee.
 const MOST: i64 = 2_100_000_000_000_000;
 
@@ -284,20 +280,27 @@ const EXTREMES: [Case; 6] = [
     ),
 ];
 
-fn extremes() -> &'static [Case] {
-    &EXTREMES
-}
-
-/// Each case of a table.
-fn cases<L: Ledger, const W: usize>(
+fn small<L: Ledger, const W: usize>(
     rt: &impl Abort,
     room: &mut Room<W>,
     steps: &mut Steps<L>,
-    all: &[Case],
 ) -> Result<(), Fail>
     requires { W ≤ 2 }
 {
-    for (rates, pairs, parts) in all {
+    for (rates, pairs, parts) in &SMALL {
+        case(rt, room, steps, rates, pairs, parts)?;
+    }
+    Ok(())
+}
+
+fn extremes<L: Ledger, const W: usize>(
+    rt: &impl Abort,
+    room: &mut Room<W>,
+    steps: &mut Steps<L>,
+) -> Result<(), Fail>
+    requires { W ≤ 2 }
+{
+    for (rates, pairs, parts) in &EXTREMES {
         case(rt, room, steps, rates, pairs, parts)?;
     }
     Ok(())
@@ -444,8 +447,8 @@ fn each<L: Ledger, const W: usize>(
         scratch: Scratch::new(alloc)?,
         out: Linear::<W>::new(alloc)?,
     };
-    cases(rt, &mut room, steps, small())?;
-    cases(rt, &mut room, steps, extremes())?;
+    small(rt, &mut room, steps)?;
+    extremes(rt, &mut room, steps)?;
     rising(rt, &mut room, steps)?;
     level(rt, &mut room, steps)?;
     falling(rt, &mut room, steps)?;
