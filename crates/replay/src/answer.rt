@@ -22,7 +22,7 @@ pub enum Outcome {
 }
 
 /// The answer to a line, before it is written.
-#[derive(Clone, Copy, Debug, PartialEq, Eq)]
+#[derive(Clone, Copy)]
 pub(crate) enum Answer {
     Silence,
     TooLong,

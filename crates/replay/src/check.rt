@@ -19,7 +19,7 @@ use std::alloc::Global;
 use wire::{CertText, TextFault, bytes_have_one_cut, read_certificate, write_word};
 
 /// What is said of a text.
-#[derive(Clone, Copy, Debug, PartialEq, Eq)]
+#[derive(Clone, Copy)]
 pub(crate) enum Said {
     Yes,
     NoSyntax,

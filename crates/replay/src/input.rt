@@ -6,7 +6,7 @@ use outside::{NoMemory, Source};
 use std::alloc::Global;
 
 /// How reading ended.
-#[derive(Clone, Copy, Debug, PartialEq, Eq)]
+#[derive(Clone, Copy)]
 pub(crate) enum End {
     /// The source answered its end.
     Told,

@@ -13,7 +13,7 @@ use std::marker::Model;
 use wire::split_at_byte;
 
 /// How far the reading of a source has come.
-#[derive(Clone, Copy, Debug, PartialEq, Eq)]
+#[derive(Clone, Copy, PartialEq, Eq)]
 pub(crate) enum Stage {
     /// More may come.
     Open,

@@ -10,7 +10,7 @@ use tx_graph::TxGraph;
 use wire::Line;
 
 /// What a line asks for.
-#[derive(Clone, Copy, Debug)]
+#[derive(Clone, Copy)]
 pub(crate) enum Request {
     /// nothing, and no reply
     Silence,
@@ -30,7 +30,7 @@ pub(crate) enum Request {
 }
 
 /// A change of the graph.
-#[derive(Clone, Copy, Debug)]
+#[derive(Clone, Copy)]
 pub(crate) enum Change {
     Limits(Limits),
     Add(TxId, i64, u64),
@@ -43,7 +43,7 @@ pub(crate) enum Change {
 }
 
 /// Which names are looked for in a level.
-#[derive(Clone, Copy, Debug)]
+#[derive(Clone, Copy)]
 pub(crate) enum Search {
     Cluster(TxId, Level),
     Ancestors(TxId, Level),
