@@ -6,6 +6,3 @@
 mod bits;
 
 pub use bits::{Bits, BitsIter};
-
-#[cfg(test)]
-mod tests;

@@ -10,6 +10,3 @@ mod laws;
 
 pub use chunks::{Chunk, chunk_list};
 pub use laws::parts_are_unique;
-
-#[cfg(test)]
-mod tests;

@@ -35,6 +35,3 @@ pub fn corners<I: Iterator<Item = FeeRate>>(parts: I) -> Corners<I>
 {
     Corners::new(parts)
 }
-
-#[cfg(test)]
-mod tests;

@@ -5,8 +5,6 @@
 mod ids;
 mod laws;
 mod names;
-#[cfg(test)]
-mod tests;
 
 pub use ids::{IdBuf, IdList};
 pub use laws::{

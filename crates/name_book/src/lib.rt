@@ -6,8 +6,6 @@
 mod book;
 mod keys;
 mod ring;
-#[cfg(test)]
-mod tests;
 
 pub use book::NameBook;
 pub use ring::RingNames;

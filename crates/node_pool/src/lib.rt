@@ -9,8 +9,6 @@ mod pool;
 mod ring;
 mod rings;
 mod store;
-#[cfg(test)]
-mod tests;
 
 pub use laws::keys_are_used_once;
 pub use pool::{Key, Pool, PoolFault};

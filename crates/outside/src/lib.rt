@@ -11,8 +11,6 @@ mod sink;
 mod source;
 mod std_io;
 mod sure;
-#[cfg(test)]
-mod tests;
 
 pub use errors::{Failed, NoMemory};
 pub use mem_sink::MemSink;

@@ -112,6 +112,3 @@ pub fn ends_non_negative(parts: &[FeeRate]) -> bool
         None => true,
     }
 }
-
-#[cfg(test)]
-mod tests;

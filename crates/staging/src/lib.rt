@@ -5,7 +5,5 @@
 #![tactic(auto)]
 
 mod overlay;
-#[cfg(test)]
-mod tests;
 
 pub use overlay::Overlay;

@@ -9,6 +9,3 @@ mod steps;
 
 pub use ledgers::{Counted, Ledger, NoLedger};
 pub use steps::Steps;
-
-#[cfg(test)]
-mod tests;

@@ -1,0 +1,27 @@
+//! The tests of the small crates at the bottom, by their public calls alone.
+//!
+//! They stand apart, so that the functions of those crates are proved once, and not again with the tests.
+#![tactic(auto)]
+
+#[cfg(test)]
+mod bitset_tests;
+#[cfg(test)]
+mod chunking_tests;
+#[cfg(test)]
+mod diagram_tests;
+#[cfg(test)]
+mod fee_rate_tests;
+#[cfg(test)]
+mod graphs_tests;
+#[cfg(test)]
+mod name_book_tests;
+#[cfg(test)]
+mod node_pool_tests;
+#[cfg(test)]
+mod outside_tests;
+#[cfg(test)]
+mod replacement_tests;
+#[cfg(test)]
+mod staging_tests;
+#[cfg(test)]
+mod step_count_tests;
