@@ -10,7 +10,15 @@ use std::process::Abort;
 use std::test::Fail;
 
 /// A part as a row has it: fee and size, names, and flows as (child, parent, amount).
-type Claim<'a> = ((i128, u64), &'a [u64], &'a [(u64, u64, u128)]);
+type Claim = ((i128, u64), &'static [u64], &'static [(u64, u64, u128)]);
+
+/// A row: transactions as (name, fee, size), edges as (parent, child), and parts.
+#[derive(Clone, Copy)]
+struct Row {
+    txs: &'static [(u64, i64, u64)],
+    edges: &'static [(u64, u64)],
+    claims: &'static [Claim],
+}
 
 /// Flows whose amounts are asserted to be at least 1 and far below the limit.
 fn flows_of(rt: &impl Abort, alloc: Global, rows: &[(u64, u64, u128)]) -> Result<Vec<Flow>, Fail>
@@ -32,7 +40,7 @@ fn flows_of(rt: &impl Abort, alloc: Global, rows: &[(u64, u64, u128)]) -> Result
 }
 
 /// A part that has a name.
-fn part_of<'a>(rt: &impl Abort, alloc: Global, claim: &'a Claim<'a>) -> Result<Part, Fail>
+fn part_of(rt: &impl Abort, alloc: Global, claim: &Claim) -> Result<Part, Fail>
     ensures filled { IfOk result (λ part. part.ids ≢ []) }
     ensures some { IfOk result (λ part. All (λ flow. 1 ≤ flow.amount) part.flows) }
     ensures small { IfOk result (λ part. amount_of part.flows ≤ 100 * 2 ^ 64) }
@@ -51,7 +59,7 @@ fn part_of<'a>(rt: &impl Abort, alloc: Global, claim: &'a Claim<'a>) -> Result<P
 }
 
 /// The parts of a row.
-fn parts_of<'a>(rt: &impl Abort, alloc: Global, claims: &'a [Claim<'a>]) -> Result<Vec<Part>, Fail>
+fn parts_of(rt: &impl Abort, alloc: Global, claims: &[Claim]) -> Result<Vec<Part>, Fail>
     ensures { IfOk result (λ parts. AreClaims parts.items) }
 {
     assert!(rt; claims.len() <= 100);
@@ -77,183 +85,174 @@ fn answer(alloc: Global, graph: &Written, parts: &[Part]) -> Result<(), CheckFau
     check(alloc, graph, parts)
 }
 
-/// Compares what `check` answers on a row.
-fn case<'a>(
+/// Compares what `check` answers on a graph and the parts of a row.
+fn compare_parts(
     rt: &impl Abort,
     alloc: Global,
-    txs: &[(u64, i64, u64)],
-    edges: &[(u64, u64)],
-    claims: &'a [Claim<'a>],
-    want: Result<(), CheckFault>,
+    graph: &Written,
+    claims: &[Claim],
+    wanted: Result<(), CheckFault>,
 ) -> Result<(), Fail> {
-    let graph = written(alloc, txs, edges)?;
     let parts = parts_of(rt, alloc, claims)?;
-    assert_eq!(rt; answer(alloc, &graph, parts.as_slice()), want);
+    assert_eq!(rt; answer(alloc, graph, parts.as_slice()), wanted);
     Ok(())
 }
+
+/// Compares what `check` answers on a row.
+fn compare(
+    rt: &impl Abort,
+    alloc: Global,
+    row: &Row,
+    wanted: Result<(), CheckFault>,
+) -> Result<(), Fail> {
+    let graph = written(alloc, row.txs, row.edges)?;
+    compare_parts(rt, alloc, &graph, row.claims, wanted)
+}
+
+/// Compares what `check` answers on each row.
+fn play(
+    rt: &impl Abort,
+    alloc: Global,
+    rows: &[Row],
+    wanted: Result<(), CheckFault>,
+) -> Result<(), Fail> {
+    for row in rows {
+        compare(rt, alloc, row, wanted)?;
+    }
+    Ok(())
+}
+
+const ACCEPTED: [Row; 3] = [
+    Row {
+        txs: &[],
+        edges: &[],
+        claims: &[],
+    },
+    Row {
+        txs: &[(1, 100, 200), (2, 900, 200)],
+        edges: &[(1, 2)],
+        claims: &[((1000, 400), &[1, 2], &[(2, 1, 160_000)])],
+    },
+    Row {
+        txs: &[(1, 0, 1), (2, 0, 1), (3, 3, 1)],
+        edges: &[(1, 2), (2, 3), (1, 3)],
+        claims: &[((3, 3), &[1, 2, 3], &[(3, 1, 3), (3, 2, 3)])],
+    },
+];
 
 #[test]
 fn a_certificate_is_accepted(rt: HostRuntime) -> Result<(), Fail> {
-    let alloc = rt.alloc();
-    let want = Ok(());
-    case(&rt, alloc, &[], &[], &[], want)?;
-    case(
-        &rt,
-        alloc,
-        &[(1, 100, 200), (2, 900, 200)],
-        &[(1, 2)],
-        &[((1000, 400), &[1, 2], &[(2, 1, 160_000)])],
-        want,
-    )?;
-    case(
-        &rt,
-        alloc,
-        &[(1, 0, 1), (2, 0, 1), (3, 3, 1)],
-        &[(1, 2), (2, 3), (1, 3)],
-        &[((3, 3), &[1, 2, 3], &[(3, 1, 3), (3, 2, 3)])],
-        want,
-    )?;
-    Ok(())
+    play(&rt, rt.alloc(), &ACCEPTED, Ok(()))
 }
+
+const NO_GRAPH: [Row; 4] = [
+    Row {
+        txs: &[(1, 100, 200), (2, 900, 200)],
+        edges: &[(1, 2), (2, 1)],
+        claims: &[((1000, 400), &[1, 2], &[(2, 1, 160_000)])],
+    },
+    Row {
+        txs: &[(1, 1, 1), (2, 1, 1)],
+        edges: &[(1, 2), (2, 1)],
+        claims: &[((2, 2), &[1, 2], &[])],
+    },
+    Row {
+        txs: &[(1, 1, 1)],
+        edges: &[(1, 1)],
+        claims: &[((1, 1), &[1], &[])],
+    },
+    Row {
+        txs: &[(1, 2_100_000_000_000_001, 1)],
+        edges: &[],
+        claims: &[((2_100_000_000_000_001, 1), &[1], &[])],
+    },
+];
 
 #[test]
 fn what_is_no_graph_is_refused_first(rt: HostRuntime) -> Result<(), Fail> {
-    let alloc = rt.alloc();
-    let want = Err(CheckFault::Graph);
-    case(
-        &rt,
-        alloc,
-        &[(1, 100, 200), (2, 900, 200)],
-        &[(1, 2), (2, 1)],
-        &[((1000, 400), &[1, 2], &[(2, 1, 160_000)])],
-        want,
-    )?;
-    case(
-        &rt,
-        alloc,
-        &[(1, 1, 1), (2, 1, 1)],
-        &[(1, 2), (2, 1)],
-        &[((2, 2), &[1, 2], &[])],
-        want,
-    )?;
-    case(
-        &rt,
-        alloc,
-        &[(1, 1, 1)],
-        &[(1, 1)],
-        &[((1, 1), &[1], &[])],
-        want,
-    )?;
-    case(
-        &rt,
-        alloc,
-        &[(1, 2_100_000_000_000_001, 1)],
-        &[],
-        &[((2_100_000_000_000_001, 1), &[1], &[])],
-        want,
-    )?;
-    Ok(())
+    play(&rt, rt.alloc(), &NO_GRAPH, Err(CheckFault::Graph))
 }
+
+const NO_ORDER: [Row; 4] = [
+    Row {
+        txs: &[(1, 100, 200), (2, 900, 200)],
+        edges: &[(1, 2)],
+        claims: &[((1000, 400), &[2, 1], &[(2, 1, 160_000)])],
+    },
+    Row {
+        txs: &[(1, 1, 1), (2, 2, 2)],
+        edges: &[],
+        claims: &[((3, 3), &[1, 2], &[])],
+    },
+    Row {
+        txs: &[(1, 1, 1)],
+        edges: &[],
+        claims: &[((1, 1), &[2], &[])],
+    },
+    Row {
+        txs: &[(1, 1, 1)],
+        edges: &[],
+        claims: &[],
+    },
+];
 
 #[test]
 fn what_is_no_order_is_refused(rt: HostRuntime) -> Result<(), Fail> {
-    let alloc = rt.alloc();
-    let want = Err(CheckFault::Order);
-    case(
-        &rt,
-        alloc,
-        &[(1, 100, 200), (2, 900, 200)],
-        &[(1, 2)],
-        &[((1000, 400), &[2, 1], &[(2, 1, 160_000)])],
-        want,
-    )?;
-    case(
-        &rt,
-        alloc,
-        &[(1, 1, 1), (2, 2, 2)],
-        &[],
-        &[((3, 3), &[1, 2], &[])],
-        want,
-    )?;
-    case(&rt, alloc, &[(1, 1, 1)], &[], &[((1, 1), &[2], &[])], want)?;
-    case(&rt, alloc, &[(1, 1, 1)], &[], &[], want)?;
-    Ok(())
+    play(&rt, rt.alloc(), &NO_ORDER, Err(CheckFault::Order))
 }
+
+const RISING: [Row; 3] = [
+    Row {
+        txs: &[(1, 100, 200), (2, 900, 200)],
+        edges: &[(1, 2)],
+        claims: &[((1001, 400), &[1, 2], &[(2, 1, 160_000)])],
+    },
+    Row {
+        txs: &[(1, 1, 1), (2, 2, 1)],
+        edges: &[],
+        claims: &[((1, 1), &[1], &[]), ((2, 1), &[2], &[])],
+    },
+    Row {
+        txs: &[(1, 1, 1)],
+        edges: &[],
+        claims: &[((1_000_000_000_000_000_000_000_000_000_000, 1), &[1], &[])],
+    },
+];
 
 #[test]
 fn rates_that_do_not_fall_are_refused(rt: HostRuntime) -> Result<(), Fail> {
-    let alloc = rt.alloc();
-    let want = Err(CheckFault::Falling);
-    case(
-        &rt,
-        alloc,
-        &[(1, 100, 200), (2, 900, 200)],
-        &[(1, 2)],
-        &[((1001, 400), &[1, 2], &[(2, 1, 160_000)])],
-        want,
-    )?;
-    case(
-        &rt,
-        alloc,
-        &[(1, 1, 1), (2, 2, 1)],
-        &[],
-        &[((1, 1), &[1], &[]), ((2, 1), &[2], &[])],
-        want,
-    )?;
-    case(
-        &rt,
-        alloc,
-        &[(1, 1, 1)],
-        &[],
-        &[((1_000_000_000_000_000_000_000_000_000_000, 1), &[1], &[])],
-        want,
-    )?;
-    Ok(())
+    play(&rt, rt.alloc(), &RISING, Err(CheckFault::Falling))
 }
+
+const FLOWS: [Row; 5] = [
+    Row {
+        txs: &[(1, 100, 200), (2, 900, 200)],
+        edges: &[(1, 2)],
+        claims: &[((1000, 400), &[1, 2], &[(2, 1, 159_999)])],
+    },
+    Row {
+        txs: &[(1, 0, 10), (2, 6, 5), (3, 6, 5)],
+        edges: &[(1, 2), (1, 3)],
+        claims: &[((12, 20), &[1, 2, 3], &[(2, 1, 120), (3, 2, 60)])],
+    },
+    Row {
+        txs: &[(1, 100, 200), (2, 900, 200)],
+        edges: &[(1, 2)],
+        claims: &[((1000, 400), &[1, 2], &[(2, 1, 80_000), (2, 1, 80_000)])],
+    },
+    Row {
+        txs: &[(1, 100, 200), (2, 900, 200)],
+        edges: &[(1, 2)],
+        claims: &[((1000, 400), &[1, 2], &[(2, 9, 160_000)])],
+    },
+    Row {
+        txs: &[(1, 900, 200), (2, 100, 200)],
+        edges: &[(1, 2)],
+        claims: &[((900, 200), &[1], &[]), ((100, 200), &[2], &[(2, 1, 1)])],
+    },
+];
 
 #[test]
 fn flows_that_do_not_certify_are_refused(rt: HostRuntime) -> Result<(), Fail> {
-    let alloc = rt.alloc();
-    let want = Err(CheckFault::Flow);
-    case(
-        &rt,
-        alloc,
-        &[(1, 100, 200), (2, 900, 200)],
-        &[(1, 2)],
-        &[((1000, 400), &[1, 2], &[(2, 1, 159_999)])],
-        want,
-    )?;
-    case(
-        &rt,
-        alloc,
-        &[(1, 0, 10), (2, 6, 5), (3, 6, 5)],
-        &[(1, 2), (1, 3)],
-        &[((12, 20), &[1, 2, 3], &[(2, 1, 120), (3, 2, 60)])],
-        want,
-    )?;
-    case(
-        &rt,
-        alloc,
-        &[(1, 100, 200), (2, 900, 200)],
-        &[(1, 2)],
-        &[((1000, 400), &[1, 2], &[(2, 1, 80_000), (2, 1, 80_000)])],
-        want,
-    )?;
-    case(
-        &rt,
-        alloc,
-        &[(1, 100, 200), (2, 900, 200)],
-        &[(1, 2)],
-        &[((1000, 400), &[1, 2], &[(2, 9, 160_000)])],
-        want,
-    )?;
-    case(
-        &rt,
-        alloc,
-        &[(1, 900, 200), (2, 100, 200)],
-        &[(1, 2)],
-        &[((900, 200), &[1], &[]), ((100, 200), &[2], &[(2, 1, 1)])],
-        want,
-    )?;
-    Ok(())
+    play(&rt, rt.alloc(), &FLOWS, Err(CheckFault::Flow))
 }

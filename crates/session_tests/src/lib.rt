@@ -8,6 +8,8 @@ mod certificate_tests;
 #[cfg(test)]
 mod plain_graph_tests;
 #[cfg(test)]
+mod tx_calls;
+#[cfg(test)]
 mod tx_graph_tests;
 #[cfg(test)]
 mod wire_tests;

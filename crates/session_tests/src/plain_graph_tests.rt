@@ -1,5 +1,7 @@
 use graph_model::{Level, Limits, Refusal, TxId};
+use outside::NoMemory;
 use plain_graph::Plain;
+use std::alloc::Global;
 use std::process::Abort;
 use std::test::Fail;
 
@@ -18,6 +20,29 @@ enum Call {
     Cluster(TxId, Level),
 }
 
+/// A row of a test.
+#[derive(Clone, Copy)]
+enum Row {
+    /// A call is accepted.
+    Does(Call),
+    /// A call is refused.
+    Refuses(Call, Refusal),
+    /// A call lists these names.
+    Lists(Call, &'static [TxId]),
+    /// The last list has so many names.
+    Found(usize),
+    /// The names from 1 to below another are added, of one fee and size 1.
+    AddAll(TxId, i64),
+    /// The names 1 to 64 are made a chain.
+    Chain,
+    /// A level has so many names.
+    Count(Level, usize),
+    /// So many additions were accepted.
+    Additions(u64),
+}
+
+// One function owns the graph of most tests: each that does pays in its proof for letting it go.
+//
 // The graph's own calls stand in functions without clauses. No test needs more of their contracts, which would cost
 // each of them its proof.
 
@@ -59,9 +84,25 @@ fn count(graph: &Plain, level: Level) -> usize {
     graph.count(level)
 }
 
-/// Makes a call, and compares its answer.
-fn expect(rt: &impl Abort, graph: &mut Plain, call: Call, answer: Result<(), Refusal>) {
-    let found = match call {
+fn found(graph: &Plain) -> &[TxId] {
+    graph.found()
+}
+
+fn additions_of(graph: &Plain) -> u64 {
+    graph.additions()
+}
+
+fn begun(alloc: Global) -> Result<Plain, NoMemory> {
+    Plain::new(alloc)
+}
+
+fn copied(graph: &Plain) -> Result<Plain, NoMemory> {
+    graph.copied()
+}
+
+/// Makes a call.
+fn make(rt: &impl Abort, graph: &mut Plain, call: Call) -> Result<(), Refusal> {
+    match call {
         Call::Limits(count, size, total) => limit(graph, Limits { count, size, total }),
         Call::Add(id, fee, size) => add(rt, graph, id, fee, size),
         Call::Dep(parent, child) => dep(graph, parent, child),
@@ -70,195 +111,204 @@ fn expect(rt: &impl Abort, graph: &mut Plain, call: Call, answer: Result<(), Ref
         Call::Ancestors(id, level) => ancestors(graph, id, level),
         Call::Descendants(id, level) => descendants(graph, id, level),
         Call::Cluster(id, level) => cluster(graph, id, level),
-    };
-    assert_eq!(rt; found, answer, "{call:?}");
+    }
 }
 
-/// Makes calls one after another, and compares their answers.
-fn play(rt: &impl Abort, graph: &mut Plain, rows: &[(Call, Result<(), Refusal>)]) {
-    for (call, answer) in rows {
-        expect(rt, graph, *call, *answer);
-    }
+/// Makes a call, and compares its answer.
+fn expect(rt: &impl Abort, graph: &mut Plain, call: Call, answer: Result<(), Refusal>) {
+    assert_eq!(rt; make(rt, graph, call), answer, "{call:?}");
 }
 
 /// Makes a call that lists names, and compares these.
 fn lists(rt: &impl Abort, graph: &mut Plain, call: Call, ids: &[TxId]) {
     expect(rt, graph, call, Ok(()));
-    assert_eq!(rt; graph.found(), ids, "{call:?}");
+    assert_eq!(rt; found(graph), ids, "{call:?}");
 }
 
-/// Adds the names from 1 to below another, of one fee and size 1.
 fn add_all(rt: &impl Abort, graph: &mut Plain, end: TxId, fee: i64) {
     for id in 1..end {
         expect(rt, graph, Call::Add(id, fee, 1), Ok(()));
     }
 }
 
-#[test]
-fn additions(rt: HostRuntime) -> Result<(), Fail> {
-    let mut graph = Plain::new(rt.alloc())?;
-    let table = [
-        (Call::Add(1, MOST, 1), Ok(())),
-        (Call::Add(2, -MOST, 404_000), Ok(())),
-        (Call::Add(1, MOST + 1, 0), Err(Refusal::Fee)),
-        (Call::Add(3, -MOST - 1, 1), Err(Refusal::Fee)),
-        (Call::Add(1, 0, 0), Err(Refusal::Size)),
-        (Call::Add(1, 0, 4_000_001), Err(Refusal::Size)),
-        (Call::Add(1, 0, 4_000_000), Err(Refusal::Taken)),
-        (Call::Add(3, 0, 404_001), Err(Refusal::ClusterSize(404_001))),
-        (
-            Call::Add(3, 0, 4_000_000),
-            Err(Refusal::ClusterSize(4_000_000)),
-        ),
-        (Call::Add(u64::MAX, 0, 1), Ok(())),
-    ];
-    play(&rt, &mut graph, &table);
-    assert_eq!(rt; count(&graph, Level::Main), 3);
-    assert_eq!(rt; count(&graph, Level::Top), 3);
-    assert_eq!(rt; graph.additions(), 3);
-    Ok(())
-}
-
-#[test]
-fn pairs(rt: HostRuntime) -> Result<(), Fail> {
-    let mut graph = Plain::new(rt.alloc())?;
-    add_all(&rt, &mut graph, 4, 1);
-    let table = [
-        (Call::Dep(1, 2), Ok(())),
-        (Call::Dep(2, 1), Err(Refusal::Cycle)),
-        (Call::Dep(1, 1), Err(Refusal::Cycle)),
-        (Call::Dep(9, 8), Err(Refusal::Unknown(9))),
-        (Call::Dep(1, 8), Err(Refusal::Unknown(8))),
-        (Call::Dep(1, 3), Ok(())),
-        (Call::Dep(2, 3), Ok(())),
-        (Call::Dep(3, 1), Err(Refusal::Cycle)),
-        (Call::Dep(1, 3), Ok(())),
-    ];
-    play(&rt, &mut graph, &table);
-    lists(
-        &rt,
-        &mut graph,
-        Call::Descendants(1, Level::Main),
-        &[1, 2, 3],
-    );
-    lists(&rt, &mut graph, Call::Ancestors(2, Level::Top), &[1, 2]);
-    let unknown = Err(Refusal::Unknown(9));
-    expect(&rt, &mut graph, Call::Ancestors(9, Level::Top), unknown);
-    expect(&rt, &mut graph, Call::Descendants(9, Level::Top), unknown);
-    Ok(())
-}
-
-#[test]
-fn sizes_of_a_pair(rt: HostRuntime) -> Result<(), Fail> {
-    let mut graph = Plain::new(rt.alloc())?;
-    let table = [
-        (Call::Add(2, 1, 403_999), Ok(())),
-        (Call::Add(3, 1, 1), Ok(())),
-        (Call::Add(4, 1, 1), Ok(())),
-        (Call::Dep(2, 3), Ok(())),
-        (Call::Dep(3, 4), Err(Refusal::ClusterSize(404_001))),
-        (Call::Dep(2, 3), Ok(())),
-    ];
-    play(&rt, &mut graph, &table);
-    Ok(())
-}
-
-/// Makes a chain of the names 1 to 64.
 fn chain(rt: &impl Abort, graph: &mut Plain) {
     for id in 1..64u64 {
         expect(rt, graph, Call::Dep(id, id + 1), Ok(()));
     }
 }
 
-#[test]
-fn names_of_a_pair(rt: HostRuntime) -> Result<(), Fail> {
-    let mut graph = Plain::new(rt.alloc())?;
-    add_all(&rt, &mut graph, 66, 0);
-    chain(&rt, &mut graph);
-    let table = [
-        (Call::Dep(64, 65), Err(Refusal::Count(65))),
-        (Call::Ancestors(64, Level::Main), Ok(())),
-    ];
-    play(&rt, &mut graph, &table);
-    assert_eq!(rt; graph.found().len(), 64);
+/// Runs a row.
+fn run(rt: &impl Abort, graph: &mut Plain, row: Row) {
+    match row {
+        Row::Does(call) => expect(rt, graph, call, Ok(())),
+        Row::Refuses(call, why) => expect(rt, graph, call, Err(why)),
+        Row::Lists(call, ids) => lists(rt, graph, call, ids),
+        Row::Found(names) => assert!(rt; found(graph).len() == names),
+        Row::AddAll(end, fee) => add_all(rt, graph, end, fee),
+        Row::Chain => chain(rt, graph),
+        Row::Count(level, names) => assert!(rt; count(graph, level) == names),
+        Row::Additions(additions) => assert!(rt; additions_of(graph) == additions),
+    }
+}
+
+/// Runs rows on a graph, one after another.
+fn play_on(rt: &impl Abort, graph: &mut Plain, rows: &[Row]) {
+    for row in rows {
+        run(rt, graph, *row);
+    }
+}
+
+/// The same on a graph without names.
+fn play(rt: &impl Abort, alloc: Global, rows: &[Row]) -> Result<(), Fail> {
+    let mut graph = begun(alloc)?;
+    play_on(rt, &mut graph, rows);
     Ok(())
 }
+
+const ADDITIONS: [Row; 13] = [
+    Row::Does(Call::Add(1, MOST, 1)),
+    Row::Does(Call::Add(2, -MOST, 404_000)),
+    Row::Refuses(Call::Add(1, MOST + 1, 0), Refusal::Fee),
+    Row::Refuses(Call::Add(3, -MOST - 1, 1), Refusal::Fee),
+    Row::Refuses(Call::Add(1, 0, 0), Refusal::Size),
+    Row::Refuses(Call::Add(1, 0, 4_000_001), Refusal::Size),
+    Row::Refuses(Call::Add(1, 0, 4_000_000), Refusal::Taken),
+    Row::Refuses(Call::Add(3, 0, 404_001), Refusal::ClusterSize(404_001)),
+    Row::Refuses(Call::Add(3, 0, 4_000_000), Refusal::ClusterSize(4_000_000)),
+    Row::Does(Call::Add(u64::MAX, 0, 1)),
+    Row::Count(Level::Main, 3),
+    Row::Count(Level::Top, 3),
+    Row::Additions(3),
+];
+
+#[test]
+fn additions(rt: HostRuntime) -> Result<(), Fail> {
+    play(&rt, rt.alloc(), &ADDITIONS)
+}
+
+const PAIRS: [Row; 14] = [
+    Row::AddAll(4, 1),
+    Row::Does(Call::Dep(1, 2)),
+    Row::Refuses(Call::Dep(2, 1), Refusal::Cycle),
+    Row::Refuses(Call::Dep(1, 1), Refusal::Cycle),
+    Row::Refuses(Call::Dep(9, 8), Refusal::Unknown(9)),
+    Row::Refuses(Call::Dep(1, 8), Refusal::Unknown(8)),
+    Row::Does(Call::Dep(1, 3)),
+    Row::Does(Call::Dep(2, 3)),
+    Row::Refuses(Call::Dep(3, 1), Refusal::Cycle),
+    Row::Does(Call::Dep(1, 3)),
+    Row::Lists(Call::Descendants(1, Level::Main), &[1, 2, 3]),
+    Row::Lists(Call::Ancestors(2, Level::Top), &[1, 2]),
+    Row::Refuses(Call::Ancestors(9, Level::Top), Refusal::Unknown(9)),
+    Row::Refuses(Call::Descendants(9, Level::Top), Refusal::Unknown(9)),
+];
+
+#[test]
+fn pairs(rt: HostRuntime) -> Result<(), Fail> {
+    play(&rt, rt.alloc(), &PAIRS)
+}
+
+const SIZES: [Row; 6] = [
+    Row::Does(Call::Add(2, 1, 403_999)),
+    Row::Does(Call::Add(3, 1, 1)),
+    Row::Does(Call::Add(4, 1, 1)),
+    Row::Does(Call::Dep(2, 3)),
+    Row::Refuses(Call::Dep(3, 4), Refusal::ClusterSize(404_001)),
+    Row::Does(Call::Dep(2, 3)),
+];
+
+#[test]
+fn sizes_of_a_pair(rt: HostRuntime) -> Result<(), Fail> {
+    play(&rt, rt.alloc(), &SIZES)
+}
+
+const NAMES: [Row; 5] = [
+    Row::AddAll(66, 0),
+    Row::Chain,
+    Row::Refuses(Call::Dep(64, 65), Refusal::Count(65)),
+    Row::Does(Call::Ancestors(64, Level::Main)),
+    Row::Found(64),
+];
+
+#[test]
+fn names_of_a_pair(rt: HostRuntime) -> Result<(), Fail> {
+    play(&rt, rt.alloc(), &NAMES)
+}
+
+const LIMITS: [Row; 9] = [
+    Row::Refuses(Call::Limits(0, 1, 1), Refusal::Range),
+    Row::Refuses(Call::Limits(65, 1, 1), Refusal::Range),
+    Row::Refuses(Call::Limits(1, 0, 1), Refusal::Range),
+    Row::Refuses(Call::Limits(1, 256_000_001, 1), Refusal::Range),
+    Row::Refuses(Call::Limits(1, 1, 0), Refusal::Range),
+    Row::Refuses(Call::Limits(1, 1, 1_048_577), Refusal::Range),
+    Row::Does(Call::Limits(64, 256_000_000, 1_048_576)),
+    Row::Refuses(Call::Limits(1, 1, 1), Refusal::Late),
+    Row::Refuses(Call::Limits(65, 1, 1), Refusal::Late),
+];
 
 #[test]
 fn limits_are_set_before_a_change(rt: HostRuntime) -> Result<(), Fail> {
-    let mut graph = Plain::new(rt.alloc())?;
-    let table = [
-        (Call::Limits(0, 1, 1), Err(Refusal::Range)),
-        (Call::Limits(65, 1, 1), Err(Refusal::Range)),
-        (Call::Limits(1, 0, 1), Err(Refusal::Range)),
-        (Call::Limits(1, 256_000_001, 1), Err(Refusal::Range)),
-        (Call::Limits(1, 1, 0), Err(Refusal::Range)),
-        (Call::Limits(1, 1, 1_048_577), Err(Refusal::Range)),
-        (Call::Limits(64, 256_000_000, 1_048_576), Ok(())),
-        (Call::Limits(1, 1, 1), Err(Refusal::Late)),
-        (Call::Limits(65, 1, 1), Err(Refusal::Late)),
-    ];
-    play(&rt, &mut graph, &table);
-    Ok(())
+    play(&rt, rt.alloc(), &LIMITS)
 }
+
+const FEES: [Row; 6] = [
+    Row::Does(Call::Add(1, 1, 1)),
+    Row::Does(Call::Fee(1, MOST)),
+    Row::Does(Call::Fee(1, -MOST)),
+    Row::Refuses(Call::Fee(1, MOST + 1), Refusal::Fee),
+    Row::Refuses(Call::Fee(9, -MOST - 1), Refusal::Fee),
+    Row::Refuses(Call::Fee(9, 0), Refusal::Unknown(9)),
+];
 
 #[test]
 fn fees(rt: HostRuntime) -> Result<(), Fail> {
-    let mut graph = Plain::new(rt.alloc())?;
-    let table = [
-        (Call::Add(1, 1, 1), Ok(())),
-        (Call::Fee(1, MOST), Ok(())),
-        (Call::Fee(1, -MOST), Ok(())),
-        (Call::Fee(1, MOST + 1), Err(Refusal::Fee)),
-        (Call::Fee(9, -MOST - 1), Err(Refusal::Fee)),
-        (Call::Fee(9, 0), Err(Refusal::Unknown(9))),
-    ];
-    play(&rt, &mut graph, &table);
-    Ok(())
+    play(&rt, rt.alloc(), &FEES)
 }
+
+const REMOVALS: [Row; 16] = [
+    Row::AddAll(6, 1),
+    Row::Does(Call::Dep(1, 3)),
+    Row::Does(Call::Dep(2, 3)),
+    Row::Does(Call::Dep(3, 4)),
+    Row::Does(Call::Dep(3, 5)),
+    Row::Does(Call::Dep(1, 5)),
+    Row::Does(Call::Remove(3)),
+    Row::Refuses(Call::Remove(3), Refusal::Unknown(3)),
+    Row::Count(Level::Main, 4),
+    Row::Lists(Call::Ancestors(5, Level::Main), &[1, 2, 5]),
+    Row::Lists(Call::Descendants(1, Level::Main), &[1, 4, 5]),
+    Row::Lists(Call::Cluster(4, Level::Top), &[1, 2, 4, 5]),
+    Row::Refuses(Call::Cluster(3, Level::Top), Refusal::Unknown(3)),
+    Row::Does(Call::Add(3, 1, 1)),
+    Row::Lists(Call::Cluster(3, Level::Top), &[3]),
+    Row::Refuses(Call::Dep(4, 1), Refusal::Cycle),
+];
 
 #[test]
 fn removals_keep_the_ancestors_of_the_others(rt: HostRuntime) -> Result<(), Fail> {
-    let mut graph = Plain::new(rt.alloc())?;
-    add_all(&rt, &mut graph, 6, 1);
-    let table = [
-        (Call::Dep(1, 3), Ok(())),
-        (Call::Dep(2, 3), Ok(())),
-        (Call::Dep(3, 4), Ok(())),
-        (Call::Dep(3, 5), Ok(())),
-        (Call::Dep(1, 5), Ok(())),
-        (Call::Remove(3), Ok(())),
-        (Call::Remove(3), Err(Refusal::Unknown(3))),
-    ];
-    play(&rt, &mut graph, &table);
-    assert_eq!(rt; count(&graph, Level::Main), 4);
-    lists(&rt, &mut graph, Call::Ancestors(5, Level::Main), &[1, 2, 5]);
-    lists(
-        &rt,
-        &mut graph,
-        Call::Descendants(1, Level::Main),
-        &[1, 4, 5],
-    );
-    lists(&rt, &mut graph, Call::Cluster(4, Level::Top), &[1, 2, 4, 5]);
-    let table = [
-        (Call::Cluster(3, Level::Top), Err(Refusal::Unknown(3))),
-        (Call::Add(3, 1, 1), Ok(())),
-    ];
-    play(&rt, &mut graph, &table);
-    lists(&rt, &mut graph, Call::Cluster(3, Level::Top), &[3]);
-    expect(&rt, &mut graph, Call::Dep(4, 1), Err(Refusal::Cycle));
+    play(&rt, rt.alloc(), &REMOVALS)
+}
+
+/// Changes a copy, and compares what both list.
+fn part(rt: &impl Abort, graph: &mut Plain, copy: &mut Plain) {
+    expect(rt, copy, Call::Remove(1), Ok(()));
+    lists(rt, copy, Call::Ancestors(2, Level::Main), &[2]);
+    lists(rt, graph, Call::Ancestors(2, Level::Main), &[1, 2]);
+    assert_eq!(rt; additions_of(graph), additions_of(copy));
+}
+
+/// Copies a graph of a pair.
+fn copy_and_part(rt: &impl Abort, graph: &mut Plain) -> Result<(), Fail> {
+    add_all(rt, graph, 3, 1);
+    expect(rt, graph, Call::Dep(1, 2), Ok(()));
+    let mut copy = copied(graph)?;
+    part(rt, graph, &mut copy);
     Ok(())
 }
 
 #[test]
 fn a_copy_changes_by_itself(rt: HostRuntime) -> Result<(), Fail> {
-    let mut graph = Plain::new(rt.alloc())?;
-    add_all(&rt, &mut graph, 3, 1);
-    expect(&rt, &mut graph, Call::Dep(1, 2), Ok(()));
-    let mut copy = graph.copied()?;
-    expect(&rt, &mut copy, Call::Remove(1), Ok(()));
-    lists(&rt, &mut copy, Call::Ancestors(2, Level::Main), &[2]);
-    lists(&rt, &mut graph, Call::Ancestors(2, Level::Main), &[1, 2]);
-    assert_eq!(rt; graph.additions(), copy.additions());
-    Ok(())
+    let mut graph = begun(rt.alloc())?;
+    copy_and_part(&rt, &mut graph)
 }
