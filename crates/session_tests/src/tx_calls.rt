@@ -57,6 +57,18 @@ pub(crate) fn begun(alloc: Global, is_wide: bool) -> Result<Graph, Fail> {
     }
 }
 
+// Lets a graph go. Its owners hand it here: what lets one go pays for it in its proof.
+pub(crate) fn done(graph: Graph) {
+    match graph {
+        Graph::One(graph) => done_one(graph),
+        Graph::Two(graph) => done_two(graph),
+    }
+}
+
+fn done_one(_graph: TxGraph<1>) {}
+
+fn done_two(_graph: TxGraph<2>) {}
+
 fn limit(graph: &mut Graph, limits: Limits) -> Result<(), Refusal> {
     match graph {
         Graph::One(graph) => graph.set_limits(limits),

@@ -1,8 +1,8 @@
 ghost use Rattle.std.specs.Prelude.{◌≡◌, ◌<◌};
 
 use crate::tx_calls::{
-    Call, Graph, begins_with, begun, count, has_corners, is_in_main, is_staged, make, settle, sums,
-    verdict,
+    Call, Graph, begins_with, begun, count, done, has_corners, is_in_main, is_staged, make, settle,
+    sums, verdict,
 };
 use fee_rate::FeeRate;
 use graph_model::{IdBuf, Refusal, TxId, Verdict};
@@ -121,6 +121,7 @@ fn play<L: Ledger>(
 ) -> Result<(), Fail> {
     let mut graph = begun(alloc, false)?;
     play_on(rt, &mut graph, rows, out, steps);
+    done(graph);
     Ok(())
 }
 
@@ -556,6 +557,7 @@ fn take_down_in<L: Ledger>(
 ) -> Result<(), Fail> {
     let mut graph = begun(alloc, is_wide)?;
     grow_and_cut(rt, &mut graph, forest, out, steps);
+    done(graph);
     Ok(())
 }
 
