@@ -57,23 +57,33 @@ pub(crate) fn begun(alloc: Global, is_wide: bool) -> Result<Graph, Fail> {
     }
 }
 
-// Lets a graph go. Its owners hand it here: what lets one go pays for it in its proof.
+// Lets a graph go. Its owners hand it here: what lets one go pays for it in its proof. Over any width it is proved once.
+fn done_with<const W: usize>(_graph: TxGraph<W>) {}
+
 pub(crate) fn done(graph: Graph) {
     match graph {
-        Graph::One(graph) => done_one(graph),
-        Graph::Two(graph) => done_two(graph),
+        Graph::One(graph) => done_with(graph),
+        Graph::Two(graph) => done_with(graph),
     }
 }
 
-fn done_one(_graph: TxGraph<1>) {}
-
-fn done_two(_graph: TxGraph<2>) {}
-
-fn limit(graph: &mut Graph, limits: Limits) -> Result<(), Refusal> {
+// The graph of a test that has no wide one.
+pub(crate) fn narrow<'a>(rt: &impl Abort, graph: &'a Graph) -> &'a TxGraph<1> {
     match graph {
-        Graph::One(graph) => graph.set_limits(limits),
-        Graph::Two(graph) => graph.set_limits(limits),
+        Graph::One(graph) => graph,
+        Graph::Two(_) => panic!(rt; "a wide graph"),
     }
+}
+
+pub(crate) fn narrow_mut<'a>(rt: &impl Abort, graph: &'a mut Graph) -> &'a mut TxGraph<1> {
+    match graph {
+        Graph::One(graph) => graph,
+        Graph::Two(_) => panic!(rt; "a wide graph"),
+    }
+}
+
+fn limit(graph: &mut TxGraph<1>, limits: Limits) -> Result<(), Refusal> {
+    graph.set_limits(limits)
 }
 
 fn add_one<L: Ledger>(
@@ -175,46 +185,28 @@ fn descendants(rt: &impl Abort, graph: &Graph, id: TxId, out: &mut IdBuf) -> Res
     }
 }
 
-fn stage(graph: &mut Graph) -> Result<(), Refusal> {
-    match graph {
-        Graph::One(graph) => graph.stage(),
-        Graph::Two(graph) => graph.stage(),
-    }
+fn stage(graph: &mut TxGraph<1>) -> Result<(), Refusal> {
+    graph.stage()
 }
 
-fn commit(graph: &mut Graph) -> Result<(), Refusal> {
-    match graph {
-        Graph::One(graph) => graph.commit(),
-        Graph::Two(graph) => graph.commit(),
-    }
+fn commit(graph: &mut TxGraph<1>) -> Result<(), Refusal> {
+    graph.commit()
 }
 
-fn abort(graph: &mut Graph) -> Result<(), Refusal> {
-    match graph {
-        Graph::One(graph) => graph.abort(),
-        Graph::Two(graph) => graph.abort(),
-    }
+fn abort(graph: &mut TxGraph<1>) -> Result<(), Refusal> {
+    graph.abort()
 }
 
-pub(crate) fn verdict(graph: &Graph) -> Result<Verdict, Refusal> {
-    match graph {
-        Graph::One(graph) => graph.compare(),
-        Graph::Two(graph) => graph.compare(),
-    }
+pub(crate) fn verdict(graph: &TxGraph<1>) -> Result<Verdict, Refusal> {
+    graph.compare()
 }
 
-pub(crate) fn settle(graph: &mut Graph) -> Result<Verdict, Refusal> {
-    match graph {
-        Graph::One(graph) => graph.settle(),
-        Graph::Two(graph) => graph.settle(),
-    }
+pub(crate) fn settle(graph: &mut TxGraph<1>) -> Result<Verdict, Refusal> {
+    graph.settle()
 }
 
-pub(crate) fn is_staged(graph: &Graph) -> bool {
-    match graph {
-        Graph::One(graph) => graph.staged(),
-        Graph::Two(graph) => graph.staged(),
-    }
+pub(crate) fn is_staged(graph: &TxGraph<1>) -> bool {
+    graph.staged()
 }
 
 pub(crate) fn sums(graph: &Graph, id: TxId) -> Option<FeeRate> {
@@ -239,20 +231,13 @@ pub(crate) fn count(graph: &Graph) -> usize {
 }
 
 // Whether main's diagram has these corners.
-pub(crate) fn has_corners(graph: &Graph, points: &[(u64, i128)]) -> bool {
-    match graph {
-        Graph::One(graph) => graph.diagram(Level::Main).eq(points.iter().copied()),
-        Graph::Two(graph) => graph.diagram(Level::Main).eq(points.iter().copied()),
-    }
+pub(crate) fn has_corners(graph: &TxGraph<1>, points: &[(u64, i128)]) -> bool {
+    graph.diagram(Level::Main).eq(points.iter().copied())
 }
 
 // Whether main's order begins with a part of these names.
-pub(crate) fn begins_with(graph: &Graph, ids: &[TxId]) -> bool {
-    let first = match graph {
-        Graph::One(graph) => graph.order(Level::Main).next(),
-        Graph::Two(graph) => graph.order(Level::Main).next(),
-    };
-    match first {
+pub(crate) fn begins_with(graph: &TxGraph<1>, ids: &[TxId]) -> bool {
+    match graph.order(Level::Main).next() {
         Some(part) => part.ids == ids,
         None => false,
     }
@@ -268,7 +253,10 @@ pub(crate) fn make<L: Ledger>(
 ) -> Result<(), Refusal> {
     out.clear();
     match call {
-        Call::Limits(count, size, total) => limit(graph, Limits { count, size, total }),
+        Call::Limits(count, size, total) => limit(
+            narrow_mut(rt, graph),
+            Limits { count, size, total },
+        ),
         Call::Add(id, fee, size) => add(rt, graph, id, fee, size, steps),
         Call::Dep(parent, child) => dep(graph, parent, child, steps),
         Call::Fee(id, paid) => fee(graph, id, paid, steps),
@@ -277,8 +265,8 @@ pub(crate) fn make<L: Ledger>(
         Call::Ancestors(id) => ancestors(rt, graph, id, out),
         Call::Descendants(id) => descendants(rt, graph, id, out),
         Call::Top(id) => cluster(rt, graph, Level::Top, id, out),
-        Call::Stage => stage(graph),
-        Call::Commit => commit(graph),
-        Call::Abort => abort(graph),
+        Call::Stage => stage(narrow_mut(rt, graph)),
+        Call::Commit => commit(narrow_mut(rt, graph)),
+        Call::Abort => abort(narrow_mut(rt, graph)),
     }
 }

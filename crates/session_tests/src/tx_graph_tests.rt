@@ -1,8 +1,8 @@
 ghost use Rattle.std.specs.Prelude.{◌≡◌, ◌<◌};
 
 use crate::tx_calls::{
-    Call, Graph, begins_with, begun, count, done, has_corners, is_in_main, is_staged, make, settle,
-    sums, verdict,
+    Call, Graph, begins_with, begun, count, done, has_corners, is_in_main, is_staged, make, narrow,
+    narrow_mut, settle, sums, verdict,
 };
 use fee_rate::FeeRate;
 use graph_model::{IdBuf, Refusal, TxId, Verdict};
@@ -39,6 +39,34 @@ enum Row {
     Count(usize),
 }
 
+// Compares what a call answers. All tests say it here: what formats a message pays for it in its proof.
+fn compare_answers(
+    rt: &impl Abort,
+    call: Call,
+    answer: Result<(), Refusal>,
+    wanted: Result<(), Refusal>,
+) {
+    assert_eq!(rt; answer, wanted, "{call:?}");
+}
+
+// Compares what a call lists.
+fn compare_ids(rt: &impl Abort, call: Call, ids: &[TxId], wanted: &[TxId]) {
+    assert_eq!(rt; ids, wanted, "{call:?}");
+}
+
+// Makes a call that is accepted, and lists these names.
+fn lists<L: Ledger>(
+    rt: &impl Abort,
+    graph: &mut Graph,
+    call: Call,
+    ids: &[TxId],
+    out: &mut IdBuf,
+    steps: &mut Steps<L>,
+) {
+    compare_answers(rt, call, make(rt, graph, call, out, steps), Ok(()));
+    compare_ids(rt, call, out.ids(), ids);
+}
+
 // Makes a call that is accepted, and lists nothing.
 fn does<L: Ledger>(
     rt: &impl Abort,
@@ -47,8 +75,7 @@ fn does<L: Ledger>(
     out: &mut IdBuf,
     steps: &mut Steps<L>,
 ) {
-    assert_eq!(rt; make(rt, graph, call, out, steps), Ok(()), "{call:?}");
-    assert!(rt; out.ids().len() == 0);
+    lists(rt, graph, call, &[], out, steps);
 }
 
 // Makes a call that is refused.
@@ -60,20 +87,25 @@ fn refuses<L: Ledger>(
     out: &mut IdBuf,
     steps: &mut Steps<L>,
 ) {
-    assert_eq!(rt; make(rt, graph, call, out, steps), Err(why), "{call:?}");
+    compare_answers(rt, call, make(rt, graph, call, out, steps), Err(why));
 }
 
-// Makes a call that lists names.
-fn lists<L: Ledger>(
-    rt: &impl Abort,
-    graph: &mut Graph,
-    call: Call,
-    ids: &[TxId],
-    out: &mut IdBuf,
-    steps: &mut Steps<L>,
-) {
-    assert_eq!(rt; make(rt, graph, call, out, steps), Ok(()), "{call:?}");
-    assert_eq!(rt; out.ids(), ids, "{call:?}");
+// Settles staging, and compares how it is done.
+fn settles(rt: &impl Abort, graph: &mut Graph, wanted: Verdict) {
+    assert!(rt; settle(narrow_mut(rt, graph)) == Ok(wanted));
+}
+
+// Whether a row that changes nothing reads so.
+fn reads(rt: &impl Abort, graph: &Graph, row: Row) -> bool {
+    match row {
+        Row::Corners(points) => has_corners(narrow(rt, graph), points),
+        Row::Begins(ids) => begins_with(narrow(rt, graph), ids),
+        Row::Compares(answer) => verdict(narrow(rt, graph)) == answer,
+        Row::Staged(staged) => is_staged(narrow(rt, graph)) == staged,
+        Row::Sums(id, rate) => sums(graph, id) == rate,
+        Row::Count(names) => count(graph) == names,
+        _ => false,
+    }
 }
 
 // Runs a row.
@@ -88,13 +120,8 @@ fn run<L: Ledger>(
         Row::Does(call) => does(rt, graph, call, out, steps),
         Row::Refuses(call, why) => refuses(rt, graph, call, why, out, steps),
         Row::Lists(call, ids) => lists(rt, graph, call, ids, out, steps),
-        Row::Corners(points) => assert!(rt; has_corners(graph, points)),
-        Row::Begins(ids) => assert!(rt; begins_with(graph, ids)),
-        Row::Compares(answer) => assert!(rt; verdict(graph) == answer),
-        Row::Settles(answer) => assert!(rt; settle(graph) == Ok(answer)),
-        Row::Staged(staged) => assert!(rt; is_staged(graph) == staged),
-        Row::Sums(id, rate) => assert!(rt; sums(graph, id) == rate),
-        Row::Count(names) => assert!(rt; count(graph) == names),
+        Row::Settles(verdict) => settles(rt, graph, verdict),
+        _ => assert!(rt; reads(rt, graph, row)),
     }
 }
 
@@ -402,6 +429,11 @@ impl Forest {
     }
 }
 
+// Whether a name has this fee, and its name as its size.
+fn has_sums(graph: &Graph, id: TxId, fee: i64) -> bool {
+    sums(graph, id) == Some(FeeRate { fee, size: id })
+}
+
 // Adds a name with its name as its size, and changes its fee.
 fn enter<L: Ledger>(
     rt: &impl Abort,
@@ -411,7 +443,7 @@ fn enter<L: Ledger>(
     steps: &mut Steps<L>,
 ) {
     does(rt, graph, Call::Add(id, 1, id), out, steps);
-    assert!(rt; sums(graph, id) == Some(FeeRate { fee: 1, size: id }));
+    assert!(rt; has_sums(graph, id, 1));
     does(rt, graph, Call::Fee(id, -7), out, steps);
 }
 
@@ -455,7 +487,7 @@ fn listed<L: Ledger>(
     out: &mut IdBuf,
     steps: &mut Steps<L>,
 ) {
-    assert_eq!(rt; make(rt, graph, call, out, steps), Ok(()), "{call:?}");
+    compare_answers(rt, call, make(rt, graph, call, out, steps), Ok(()));
     assert!(rt; forest.is_list(call, out.ids()), "{call:?}");
 }
 
@@ -478,7 +510,7 @@ fn compare_names(rt: &impl Abort, graph: &Graph, forest: &Forest) {
     assert!(rt; count(graph) == forest.left.len());
     for id in forest.left.iter() {
         assert!(rt; is_in_main(graph, *id));
-        assert!(rt; sums(graph, *id) == Some(FeeRate { fee: -7, size: *id }));
+        assert!(rt; has_sums(graph, *id, -7));
     }
 }
 
