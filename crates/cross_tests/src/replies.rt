@@ -273,10 +273,6 @@ const RUNS: [(u64, &str); 5] = [
     (5, "count main"),
 ];
 
-fn runs() -> &'static [(u64, &'static str)] {
-    &RUNS
-}
-
 /// Hands a run of lines to both, between two lines that set limits.
 fn agree_on_run<const W: usize>(
     rt: &impl Abort,
@@ -312,8 +308,8 @@ fn agree_from_start(rt: &impl Abort, alloc: Global, seed: u64, limits: &str) -> 
 
 #[test]
 fn a_session_replies_as_the_plain_lists_do(rt: HostRuntime) -> Result<(), Fail> {
-    for (seed, limits) in runs() {
-        agree_from_start(&rt, rt.alloc(), *seed, limits)?;
+    for (seed, limits) in RUNS {
+        agree_from_start(&rt, rt.alloc(), seed, limits)?;
     }
     Ok(())
 }
