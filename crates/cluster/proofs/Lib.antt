@@ -27,3 +27,4 @@ mod Chosen
 mod Parting
 pub mod Placed
 mod Nearest
+mod Rooms

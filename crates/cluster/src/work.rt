@@ -36,11 +36,14 @@ impl<const W: usize> Work<W> {
         ensures { IfOk result (λ w. w ≡ 64 * W) }
     {
         let places = 64 * W;
+        let positions = vec![in alloc; 0; places]?;
+        let flows = Vec::with_capacity(alloc, places * places / 4)?;
+        let scratch = Scratch::new(alloc)?;
         Ok(Work {
-            scratch: Scratch::new(alloc)?,
+            scratch,
             linear: Linear::new(alloc)?,
-            positions: vec![in alloc; 0; places]?,
-            flows: Vec::with_capacity(alloc, places * places / 4)?,
+            positions,
+            flows,
         })
     }
 }

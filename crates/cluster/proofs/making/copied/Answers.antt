@@ -1,9 +1,10 @@
-use Rattle.std.proofs.Common.{◌*◌, rules, sym, ap, ◌∙◌, subst}
+use Rattle.std.proofs.Common.{◌*◌, rules, sym, ap, ◌∙◌, subst, ◌<◌}
 use Rattle.std.specs.FinSet as set
 use Rattle.bitset.specs.Places.{places}
 use Rattle.graphs.specs.Closures.{IsPart}
 use Rattle.cluster.proofs.Copied.{is_same, is_named}
 use Rattle.cluster.proofs.Listings.{contains-members_of}
+use Rattle.cluster.proofs.Rooms.{dep_room, words_in_dep}
 use Rattle.cluster.proofs.making.copied.Goals as goal
 
 pub part-requires : goal.part-requires
@@ -18,3 +19,9 @@ pub returns-clause-named : goal.returns-clause-named
 returns-clause-named g c =
     is_named (64 * g.row.W) c.args.names.now c.args.dep.now c.in_ok-copy.copy c.requires
     (subst (λ s. IsPart c.args.dep.now (places (64 * g.row.W) s) c.in_ok-copy.copy) c.members.ensures.members c.in_ok-copy.ensures) c.members-members.ensures.closed
+
+pub members-requires : goal.members-requires
+members-requires g c = let fits : dep_room g.row.W < 9223372036854775808 = search in (fits, words_in_dep g.row.W fits)
+
+pub members-members-requires : goal.members-members-requires
+members-members-requires g c = let fits : dep_room g.row.W < 9223372036854775808 = search in (fits, words_in_dep g.row.W fits)

@@ -1,33 +1,86 @@
-use Rattle.std.proofs.Common.{◌≡◌, ◌*◌, ◌++◌, List, ℕ, map, slice_index, ap, ◌∙◌, sym, subst, subst₂, rules}
+use Rattle.std.proofs.Common.{◌≡◌, ◌+◌, ◌≤◌, ◌*◌, List, ℕ, length, map, slice_index, ap, ◌∙◌, sym, subst, subst₂, IfOk, OnOk}
+use Rattle.std.proofs.lemmas.List.{length-map}
+use Rattle.std.proofs.lemmas.Result.{IfOk-from_err}
 use Rattle.bitset.specs.Places.{places}
 use Rattle.cluster.specs.Changes.{IsPartOf}
 use Rattle.cluster.specs.Named.{named, IsNamed}
+use Rattle.cluster.specs.Steps.{GrowsWithin, least_steps, most_steps}
 use Rattle.graphs.specs.Closures.{Closure}
-use Rattle.cluster.proofs.Oks.{both_ok}
+use Rattle.cluster.proofs.Oks.{both_ok, no_step, from_none}
 use Rattle.cluster.proofs.Parts.{IsNamed-part, IsPartOf-named}
+use Rattle.cluster.proofs.Kept.{place_member}
 use Rattle.cluster.proofs.making.part.Goals as goal
 
+pub copy_names-requires : goal.copy_names-requires
+copy_names-requires g c = search
+
+pub returns-in_err-copy_names-clause-names : goal.returns-in_err-copy_names-clause-names
+returns-in_err-copy_names-clause-names g c = IfOk-from_err c.from_residual.result _ c.from_residual.ensures.0
+
+pub returns-in_err-copy_names-clause-part : goal.returns-in_err-copy_names-clause-part
+returns-in_err-copy_names-clause-part g c = IfOk-from_err c.from_residual.result _ c.from_residual.ensures.0
+
+pub returns-in_err-copy_names-clause-whole : goal.returns-in_err-copy_names-clause-whole
+returns-in_err-copy_names-clause-whole g c = IfOk-from_err c.from_residual.result _ c.from_residual.ensures.0
+
+pub returns-in_err-copy_names-clause-steps : goal.returns-in_err-copy_names-clause-steps
+returns-in_err-copy_names-clause-steps g c = no_step _ _
+
+pub returns-in_err-copy_names-clause-least : goal.returns-in_err-copy_names-clause-least
+returns-in_err-copy_names-clause-least g c = IfOk-from_err c.from_residual.result _ c.from_residual.ensures.0
+
+pub returns-in_err-dep-clause-names : goal.returns-in_err-dep-clause-names
+returns-in_err-dep-clause-names g c = IfOk-from_err c.from_residual-in_err-dep.result _ c.from_residual-in_err-dep.ensures.0
+
+pub returns-in_err-dep-clause-part : goal.returns-in_err-dep-clause-part
+returns-in_err-dep-clause-part g c = IfOk-from_err c.from_residual-in_err-dep.result _ c.from_residual-in_err-dep.ensures.0
+
+pub returns-in_err-dep-clause-whole : goal.returns-in_err-dep-clause-whole
+returns-in_err-dep-clause-whole g c = IfOk-from_err c.from_residual-in_err-dep.result _ c.from_residual-in_err-dep.ensures.0
+
+pub returns-in_err-dep-clause-steps : goal.returns-in_err-dep-clause-steps
+returns-in_err-dep-clause-steps g c = no_step _ _
+
+pub returns-in_err-dep-clause-least : goal.returns-in_err-dep-clause-least
+returns-in_err-dep-clause-least g c = IfOk-from_err c.from_residual-in_err-dep.result _ c.from_residual-in_err-dep.ensures.0
+
 pub certified-requires : goal.certified-requires
-certified-requires g c =
-    let items : c.copy_names.new.names.items ≡ map (slice_index c.args.names.now) (places (64 * g.row.W) c.args.chosen) =
-    c.in_ok-copy_names.ensures ∙ ap (λ (xs : List ℕ). xs ++ map (slice_index c.args.names.now) (places (64 * g.row.W) c.args.chosen)) c.new-own.ensures.items in (
-      search rules,
-      (
-        search rules,
-        (
-          search rules,
-          subst (λ (xs : List ℕ). IsNamed (64 * g.row.W) xs c.in_ok-dep.dep) (sym items)
-              (IsNamed-part (64 * g.row.W) c.args.names.now c.args.dep.now c.in_ok-dep.dep c.args.chosen c.requires.named c.requires.within c.requires.some c.in_ok-dep.ensures c.members-members.ensures.closed c.requires.whole),
-        ),
-      ),
-    )
+certified-requires g c = (
+  search,
+  (
+    search,
+    (
+      search,
+      subst (λ (xs : List ℕ). IsNamed (64 * g.row.W) xs c.in_ok-dep.dep) (sym (from_none c.in_ok-copy_names.ensures c.new-own.ensures.items))
+          (IsNamed-part (64 * g.row.W) c.args.names.now c.args.dep.now c.in_ok-dep.dep c.args.chosen c.requires.named c.requires.within c.requires.some c.in_ok-dep.ensures c.members-members.ensures.closed c.requires.whole),
+    ),
+  ),
+)
+
+pub returns-clause-names : goal.returns-clause-names
+returns-clause-names g c = subst (λ (xs : List ℕ). IfOk c.certified.result (λ k. k.names ≡ xs)) (from_none c.in_ok-copy_names.ensures c.new-own.ensures.items) c.certified.ensures.names
 
 pub returns-clause-part : goal.returns-clause-part
 returns-clause-part g c =
-    let items : c.copy_names.new.names.items ≡ map (slice_index c.args.names.now) (places (64 * g.row.W) c.args.chosen) =
-    c.in_ok-copy_names.ensures ∙ ap (λ (xs : List ℕ). xs ++ map (slice_index c.args.names.now) (places (64 * g.row.W) c.args.chosen)) c.new-own.ensures.items in
+    let items : c.copy_names.new.names.items ≡ map (slice_index c.args.names.now) (places (64 * g.row.W) c.args.chosen) = from_none c.in_ok-copy_names.ensures c.new-own.ensures.items in
     let made : IsPartOf c.args.names.now (named c.args.names.now c.args.dep.now) c.args.chosen (map (slice_index c.args.names.now) (places (64 * g.row.W) c.args.chosen)) (named (map (slice_index c.args.names.now) (places (64 * g.row.W) c.args.chosen)) c.in_ok-dep.dep) =
     IsPartOf-named (64 * g.row.W) c.args.names.now c.args.dep.now c.in_ok-dep.dep c.args.chosen c.requires.named c.requires.within c.requires.some c.in_ok-dep.ensures c.members-members.ensures.closed c.requires.whole in
     both_ok c.certified.result (λ k. k.names ≡ c.copy_names.new.names.items) (λ k. k.graph ≡ named c.copy_names.new.names.items c.in_ok-dep.dep) (λ k. IsPartOf c.args.names.now (named c.args.names.now c.args.dep.now) c.args.chosen k.names k.graph)
     (λ k names graph. subst₂ (λ (xs : List ℕ) (h : Closure). IsPartOf c.args.names.now (named c.args.names.now c.args.dep.now) c.args.chosen xs h) (sym (names ∙ items)) (sym (graph ∙ ap (λ (xs : List ℕ). named xs c.in_ok-dep.dep) items)) made)
     c.certified.ensures.names c.certified.ensures.graph
+
+pub returns-clause-steps : goal.returns-clause-steps
+returns-clause-steps g c =
+    subst (λ (n : ℕ). GrowsWithin (most_steps n) c.args.steps.now c.certified.new.steps)
+    (ap length (from_none c.in_ok-copy_names.ensures c.new-own.ensures.items) ∙ length-map (places (64 * g.row.W) c.args.chosen) (slice_index c.args.names.now)) c.certified.ensures.steps
+
+pub returns-clause-least : goal.returns-clause-least
+returns-clause-least g c =
+    subst (λ (n : ℕ). OnOk c.certified.result (c.args.steps.now + least_steps n ≤ c.certified.new.steps))
+    (ap length (from_none c.in_ok-copy_names.ensures c.new-own.ensures.items) ∙ length-map (places (64 * g.row.W) c.args.chosen) (slice_index c.args.names.now)) c.certified.ensures.least
+
+pub part-requires : goal.part-requires
+part-requires g c = (search, (search, λ p here. place_member (64 * g.row.W) c.args.names.now c.args.dep.now c.requires.named p (c.requires.within p here)))
+
+pub members-members-requires : goal.members-members-requires
+members-members-requires g c = (search, search)

@@ -46,3 +46,6 @@ returns-clause-steps g c =
 pub returns-clause-least : goal.returns-clause-least
 returns-clause-least g c =
     let long : set.len (members_of c.args.dep.now) ≡ length c.args.names.now = members_long (64 * g.row.W) c.args.names.now c.args.dep.now c.requires in omega (arith, c.optimal.ensures.steps_least)
+
+pub invariant_of-work : goal.invariant_of-work
+invariant_of-work g c = c.work.invariant

@@ -1,4 +1,4 @@
-use Rattle.std.proofs.Common.{rules, ◌≡◌, ℕ, ◌*◌, List, flat_map, length, sym, ap₂, ◌∙◌, subst, subst₂}
+use Rattle.std.proofs.Common.{rules, ◌≡◌, ℕ, ◌*◌, List, flat_map, length, sym, ap₂, ◌∙◌, subst, subst₂, ◌<◌}
 use Rattle.std.specs.List.{filter}
 use Rattle.graphs.specs.Closures.{IsCover}
 use Rattle.graphs.specs.Certificates.{Part}
@@ -8,6 +8,8 @@ use Rattle.cluster.specs.Named.{named}
 use Rattle.cluster.specs.Covers.{has_chosen, IsNamedBy, ListsInOrder}
 use Rattle.cluster.proofs.At.{IsAt, at_in}
 use Rattle.cluster.proofs.Nearest.{order_named, order_covers}
+use Rattle.cluster.proofs.Rooms.{cluster_room, dep_in_cluster, words_in_cluster}
+use Rattle.cluster.proofs.Kept.{place_member}
 use Rattle.cluster.proofs.cluster.Cluster.covers.Goals as goal
 
 pub new-requires : goal.new-requires
@@ -27,3 +29,14 @@ returns g c =
     (subst (λ (ids : List ℕ). ListsInOrder (λ a. IsCover (named c.self.inside.names.items c.self.inside.dep) a c.args.id) (flat_map (λ (part : Part). part.ids) (cut c.self.inside.order.parts.items c.self.inside.order.names.items c.self.inside.order.flows.items)) ids) (sym same)
     (order_covers (64 * g.row.W) c.self.inside.names.items c.self.inside.dep c.self.inside.order.parts.items c.self.inside.order.names.items c.self.inside.order.flows.items c.self.invariant
     c.covers.result c.place_of.result c.args.id at.low at.here c.covers.ensures))
+
+pub covers-requires : goal.covers-requires
+covers-requires g c =
+    let fits : cluster_room g.row.W < 9223372036854775808 = search in (
+      dep_in_cluster g.row.W fits,
+      (
+        words_in_cluster g.row.W fits,
+        (place_member (64 * g.row.W) c.self.inside.names.items c.self.inside.dep c.self.invariant.place c.place_of.result
+            (subst (λ (xs : List ℕ). c.place_of.result < length xs) c.as_slice-names.ensures c.place_of.ensures.within)),
+      ),
+    )

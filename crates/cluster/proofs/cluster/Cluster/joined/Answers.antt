@@ -1,14 +1,21 @@
-use Rattle.std.proofs.Common.{◌≡◌, ℕ, ◌*◌, ◌+◌, ◌≤◌, ◌++◌, List, length, rules, arith, sym, ap, ap₂, ◌∙◌, subst, subst₂, Contains}
+use Rattle.std.proofs.Common.{◌≡◌, ℕ, ◌*◌, ◌+◌, ◌≤◌, ◌++◌, List, length, length-append, arith, OnOk, sym, ap, ap₂, ◌∙◌, subst, subst₂, Contains, ◌<◌}
+use Rattle.std.proofs.lemmas.Result.{IfOk-from_err}
 use Rattle.std.specs.FinSet as set
 use Rattle.graphs.specs.Closures.{members_of}
 use Rattle.cluster.specs.Clusters.{Cluster, AreApart}
 use Rattle.cluster.specs.Changes.{Joins, AreAcross}
 use Rattle.cluster.specs.Named.{named, IsNamed}
+use Rattle.cluster.specs.Steps.{GrowsWithin, least_steps, most_steps}
 use Rattle.cluster.proofs.At.{at_in}
 use Rattle.cluster.proofs.Joined.{members_long}
 use Rattle.cluster.proofs.Joining.{join_asks, join_kept, join_graph, in_both}
-use Rattle.cluster.proofs.Oks.{one_ok}
+use Rattle.cluster.proofs.Oks.{one_ok, no_step}
+use Rattle.cluster.proofs.Rooms.{cluster_room, dep_in_cluster, words_in_cluster}
 use Rattle.cluster.proofs.cluster.Cluster.joined.Goals as goal
+
+-- how many names two lists have together
+both_long : (xs ys : List ℕ) {all : List ℕ} {m n : ℕ} → all ≡ xs ++ ys → length xs ≡ m → length ys ≡ n → length all ≡ m + n
+both_long xs ys is first second = ap length is ∙ length-append xs ys ∙ ap₂ {A = ℕ} {B = ℕ} (λ i j. i + j) first second
 
 pub merge-requires : goal.merge-requires
 merge-requires g c =
@@ -16,8 +23,7 @@ merge-requires g c =
     let second : set.len (members_of c.other.inside.dep) ≡ length c.other.inside.names.items = members_long (64 * g.row.W) c.other.inside.names.items c.other.inside.dep c.other.invariant.place in
     let one : length c.self.inside.names.items ≡ length c.args.self.now.names = ap (λ (s : Cluster). length s.names) c.self.view_is in
     let two : length c.other.inside.names.items ≡ length c.args.other.now.names = ap (λ (s : Cluster). length s.names) c.other.view_is in
-    let few : length c.args.self.now.names + length c.args.other.now.names ≤ 64 * g.row.W = c.requires.few in
-    (search rules, omega arith)
+    ((let fits : cluster_room g.row.W < 9223372036854775808 = search in dep_in_cluster g.row.W fits), subst₂ (λ (m n : ℕ). m + n ≤ 64 * g.row.W) (sym (first ∙ one)) (sym (second ∙ two)) c.requires.few)
 
 pub place_of-above-requires : goal.place_of-above-requires
 place_of-above-requires g c =
@@ -45,17 +51,62 @@ add_dep-requires g c =
     (at_in c.as_slice-3.result.now (c.self.inside.names.items ++ c.other.inside.names.items) c.place_of-above.result c.args.parent (c.as_slice-3.ensures ∙ items) c.place_of-above.ensures.within c.place_of-above.ensures.here)
     (at_in c.as_slice-4.result.now (c.self.inside.names.items ++ c.other.inside.names.items) c.place_of-below.result c.args.child (c.as_slice-4.ensures ∙ items) c.place_of-below.ensures.within c.place_of-below.ensures.here)
     (subst₂ (λ (s t : Cluster). AreAcross s.names t.names c.args.parent c.args.child) (sym c.self.view_is) (sym c.other.view_is) c.requires.across) in
-    (search rules, (asks.0, (asks.1, asks.2)))
+    ((let fits : cluster_room g.row.W < 9223372036854775808 = search in dep_in_cluster g.row.W fits), (asks.0, (asks.1, asks.2)))
+
+pub returns-in_err-names-clause-names : goal.returns-in_err-names-clause-names
+returns-in_err-names-clause-names g c = IfOk-from_err c.from_residual.result _ c.from_residual.ensures.0
+
+pub returns-in_err-names-clause-graph : goal.returns-in_err-names-clause-graph
+returns-in_err-names-clause-graph g c = IfOk-from_err c.from_residual.result _ c.from_residual.ensures.0
+
+pub returns-in_err-names-clause-whole : goal.returns-in_err-names-clause-whole
+returns-in_err-names-clause-whole g c = IfOk-from_err c.from_residual.result _ c.from_residual.ensures.0
+
+pub returns-in_err-names-clause-steps : goal.returns-in_err-names-clause-steps
+returns-in_err-names-clause-steps g c = no_step _ _
+
+pub returns-in_err-names-clause-least : goal.returns-in_err-names-clause-least
+returns-in_err-names-clause-least g c = IfOk-from_err c.from_residual.result _ c.from_residual.ensures.0
+
+pub returns-in_err-extend_from_slice-clause-names : goal.returns-in_err-extend_from_slice-clause-names
+returns-in_err-extend_from_slice-clause-names g c = IfOk-from_err c.from_residual-in_err-extend_from_slice.result _ c.from_residual-in_err-extend_from_slice.ensures.0
+
+pub returns-in_err-extend_from_slice-clause-graph : goal.returns-in_err-extend_from_slice-clause-graph
+returns-in_err-extend_from_slice-clause-graph g c = IfOk-from_err c.from_residual-in_err-extend_from_slice.result _ c.from_residual-in_err-extend_from_slice.ensures.0
+
+pub returns-in_err-extend_from_slice-clause-whole : goal.returns-in_err-extend_from_slice-clause-whole
+returns-in_err-extend_from_slice-clause-whole g c = IfOk-from_err c.from_residual-in_err-extend_from_slice.result _ c.from_residual-in_err-extend_from_slice.ensures.0
+
+pub returns-in_err-extend_from_slice-clause-steps : goal.returns-in_err-extend_from_slice-clause-steps
+returns-in_err-extend_from_slice-clause-steps g c = no_step _ _
+
+pub returns-in_err-extend_from_slice-clause-least : goal.returns-in_err-extend_from_slice-clause-least
+returns-in_err-extend_from_slice-clause-least g c = IfOk-from_err c.from_residual-in_err-extend_from_slice.result _ c.from_residual-in_err-extend_from_slice.ensures.0
+
+pub returns-in_err-dep-clause-names : goal.returns-in_err-dep-clause-names
+returns-in_err-dep-clause-names g c = IfOk-from_err c.from_residual-in_err-dep.result _ c.from_residual-in_err-dep.ensures.0
+
+pub returns-in_err-dep-clause-graph : goal.returns-in_err-dep-clause-graph
+returns-in_err-dep-clause-graph g c = IfOk-from_err c.from_residual-in_err-dep.result _ c.from_residual-in_err-dep.ensures.0
+
+pub returns-in_err-dep-clause-whole : goal.returns-in_err-dep-clause-whole
+returns-in_err-dep-clause-whole g c = IfOk-from_err c.from_residual-in_err-dep.result _ c.from_residual-in_err-dep.ensures.0
+
+pub returns-in_err-dep-clause-steps : goal.returns-in_err-dep-clause-steps
+returns-in_err-dep-clause-steps g c = no_step _ _
+
+pub returns-in_err-dep-clause-least : goal.returns-in_err-dep-clause-least
+returns-in_err-dep-clause-least g c = IfOk-from_err c.from_residual-in_err-dep.result _ c.from_residual-in_err-dep.ensures.0
 
 pub certified-requires : goal.certified-requires
 certified-requires g c =
     let items : c.extend_from_slice.new.self.items ≡ c.self.inside.names.items ++ c.other.inside.names.items =
     c.in_ok-extend_from_slice.ensures.ok ∙ ap₂ {A = List ℕ} {B = List ℕ} (λ xs ys. xs ++ ys) (c.in_ok-names.ensures.ok ∙ c.as_slice.ensures) c.as_slice-2.ensures in (
-      search rules,
+      grind arith,
       (
-        search rules,
+        grind arith,
         (
-          search rules,
+          grind arith,
           subst (λ (xs : List ℕ). IsNamed (64 * g.row.W) xs c.add_dep.new.self) (sym items)
               (join_kept (64 * g.row.W) c.self.inside.names.items c.other.inside.names.items c.self.inside.dep c.other.inside.dep c.in_ok-dep.dep c.self.invariant.place c.other.invariant.place
               (subst₂ (λ (s t : Cluster). length s.names + length t.names ≤ 64 * g.row.W) (sym c.self.view_is) (sym c.other.view_is) c.requires.few)
@@ -87,3 +138,27 @@ returns-clause-graph g c =
     one_ok c.certified.result (λ k. k.graph ≡ named c.extend_from_slice.new.self.items c.add_dep.new.self) (λ k. Joins c.args.self.now.graph c.args.other.now.graph c.args.parent c.args.child k.graph)
     (λ k graph. subst (Joins c.args.self.now.graph c.args.other.now.graph c.args.parent c.args.child) (sym (graph ∙ ap (λ (xs : List ℕ). named xs c.add_dep.new.self) items))
     (subst₂ (λ (s t : Cluster). Joins s.graph t.graph c.args.parent c.args.child (named (c.self.inside.names.items ++ c.other.inside.names.items) c.add_dep.new.self)) c.self.view_is c.other.view_is made)) c.certified.ensures.graph
+
+pub returns-clause-steps : goal.returns-clause-steps
+returns-clause-steps g c =
+    let items : c.extend_from_slice.new.self.items ≡ c.self.inside.names.items ++ c.other.inside.names.items =
+    c.in_ok-extend_from_slice.ensures.ok ∙ ap₂ {A = List ℕ} {B = List ℕ} (λ xs ys. xs ++ ys) (c.in_ok-names.ensures.ok ∙ c.as_slice.ensures) c.as_slice-2.ensures in
+    subst (λ (n : ℕ). GrowsWithin (most_steps n) c.args.steps.now c.certified.new.steps)
+    (both_long c.self.inside.names.items c.other.inside.names.items items (ap (λ (s : Cluster). length s.names) c.self.view_is) (ap (λ (s : Cluster). length s.names) c.other.view_is)) c.certified.ensures.steps
+
+pub returns-clause-least : goal.returns-clause-least
+returns-clause-least g c =
+    let items : c.extend_from_slice.new.self.items ≡ c.self.inside.names.items ++ c.other.inside.names.items =
+    c.in_ok-extend_from_slice.ensures.ok ∙ ap₂ {A = List ℕ} {B = List ℕ} (λ xs ys. xs ++ ys) (c.in_ok-names.ensures.ok ∙ c.as_slice.ensures) c.as_slice-2.ensures in
+    subst (λ (n : ℕ). OnOk c.certified.result (c.args.steps.now + least_steps n ≤ c.certified.new.steps))
+    (both_long c.self.inside.names.items c.other.inside.names.items items (ap (λ (s : Cluster). length s.names) c.self.view_is) (ap (λ (s : Cluster). length s.names) c.other.view_is)) c.certified.ensures.least
+
+pub members-members-requires : goal.members-members-requires
+members-members-requires g c =
+    let fits : cluster_room g.row.W < 9223372036854775808 = search in
+    (dep_in_cluster g.row.W fits, words_in_cluster g.row.W fits)
+
+pub members-members-requires-2 : goal.members-members-requires-2
+members-members-requires-2 g c =
+    let fits : cluster_room g.row.W < 9223372036854775808 = search in
+    (dep_in_cluster g.row.W fits, words_in_cluster g.row.W fits)

@@ -1,10 +1,13 @@
-use Rattle.std.proofs.Common.{◌≡◌, ℕ, ◌*◌, List, false, rules, sym, ap, ◌∙◌, subst, subst₂}
+use Rattle.std.proofs.Common.{◌≡◌, ℕ, ◌*◌, List, false, length, ◌+◌, ◌≤◌, ◌<◌, OnOk, arith, sym, ap, ◌∙◌, subst, subst₂, Contains}
 use Rattle.graphs.specs.Closures.{Closure, is_ancestor, AddsPair}
 use Rattle.cluster.specs.Clusters.{Cluster}
 use Rattle.cluster.specs.Named.{named, IsNamed}
 use Rattle.cluster.proofs.At.{at_in}
 use Rattle.cluster.proofs.Linking.{link_asks, link_kept, link_graph}
-use Rattle.cluster.proofs.Oks.{one_ok}
+use Rattle.cluster.proofs.Oks.{one_ok, no_step}
+use Rattle.std.proofs.lemmas.Result.{IfOk-from_err}
+use Rattle.cluster.specs.Steps.{GrowsWithin, least_steps, most_steps}
+use Rattle.cluster.proofs.Rooms.{cluster_room, dep_in_cluster, words_in_cluster}
 use Rattle.cluster.proofs.cluster.Cluster.linked.Goals as goal
 
 pub add_dep-requires : goal.add_dep-requires
@@ -15,16 +18,46 @@ add_dep-requires g c =
     (at_in c.as_slice-3.result.now c.self.inside.names.items c.place_of-above.result c.args.parent (c.as_slice-3.ensures ∙ items) c.place_of-above.ensures.within c.place_of-above.ensures.here)
     (at_in c.as_slice-4.result.now c.self.inside.names.items c.place_of-below.result c.args.child (c.as_slice-4.ensures ∙ items) c.place_of-below.ensures.within c.place_of-below.ensures.here)
     (subst (λ (s : Cluster). is_ancestor s.graph c.args.child c.args.parent ≡ false) (sym c.self.view_is) c.requires.no_cycle) in
-    (search rules, (asks.0, (asks.1, asks.2)))
+    ((let fits : cluster_room g.row.W < 9223372036854775808 = search in dep_in_cluster g.row.W fits), (asks.0, (asks.1, asks.2)))
+
+pub returns-in_err-dep-clause-names : goal.returns-in_err-dep-clause-names
+returns-in_err-dep-clause-names g c = IfOk-from_err c.from_residual.result _ c.from_residual.ensures.0
+
+pub returns-in_err-dep-clause-graph : goal.returns-in_err-dep-clause-graph
+returns-in_err-dep-clause-graph g c = IfOk-from_err c.from_residual.result _ c.from_residual.ensures.0
+
+pub returns-in_err-dep-clause-whole : goal.returns-in_err-dep-clause-whole
+returns-in_err-dep-clause-whole g c = IfOk-from_err c.from_residual.result _ c.from_residual.ensures.0
+
+pub returns-in_err-dep-clause-steps : goal.returns-in_err-dep-clause-steps
+returns-in_err-dep-clause-steps g c = no_step _ _
+
+pub returns-in_err-dep-clause-least : goal.returns-in_err-dep-clause-least
+returns-in_err-dep-clause-least g c = IfOk-from_err c.from_residual.result _ c.from_residual.ensures.0
+
+pub returns-in_err-names-clause-names : goal.returns-in_err-names-clause-names
+returns-in_err-names-clause-names g c = IfOk-from_err c.from_residual-in_err-names.result _ c.from_residual-in_err-names.ensures.0
+
+pub returns-in_err-names-clause-graph : goal.returns-in_err-names-clause-graph
+returns-in_err-names-clause-graph g c = IfOk-from_err c.from_residual-in_err-names.result _ c.from_residual-in_err-names.ensures.0
+
+pub returns-in_err-names-clause-whole : goal.returns-in_err-names-clause-whole
+returns-in_err-names-clause-whole g c = IfOk-from_err c.from_residual-in_err-names.result _ c.from_residual-in_err-names.ensures.0
+
+pub returns-in_err-names-clause-steps : goal.returns-in_err-names-clause-steps
+returns-in_err-names-clause-steps g c = no_step _ _
+
+pub returns-in_err-names-clause-least : goal.returns-in_err-names-clause-least
+returns-in_err-names-clause-least g c = IfOk-from_err c.from_residual-in_err-names.result _ c.from_residual-in_err-names.ensures.0
 
 pub certified-requires : goal.certified-requires
 certified-requires g c =
     let items : c.in_ok-names.names.items ≡ c.self.inside.names.items = c.in_ok-names.ensures.ok ∙ c.as_slice-2.ensures in (
-      search rules,
+      (let fits : cluster_room g.row.W < 9223372036854775808 = search in dep_in_cluster g.row.W fits),
       (
-        search rules,
+        grind arith,
         (
-          search rules,
+          search,
           subst (λ (xs : List ℕ). IsNamed (64 * g.row.W) xs c.add_dep.new.self) (sym items)
               (link_kept (64 * g.row.W) c.self.inside.names.items c.self.inside.dep c.in_ok-dep.dep c.self.invariant.place c.in_ok-dep.ensures.same
               (subst (λ (xs : List ℕ). IsNamed (64 * g.row.W) xs c.in_ok-dep.dep) c.as_slice.ensures c.in_ok-dep.ensures.named) c.place_of-above.result c.place_of-below.result c.args.parent c.args.child
@@ -50,3 +83,33 @@ returns-clause-graph g c =
     c.add_dep.new.self c.add_dep.ensures in
     one_ok c.certified.result (λ k. k.graph ≡ named c.in_ok-names.names.items c.add_dep.new.self) (λ k. AddsPair c.args.self.now.graph k.graph c.args.parent c.args.child)
     (λ k graph. subst₂ (λ (s : Cluster) (h : Closure). AddsPair s.graph h c.args.parent c.args.child) c.self.view_is (sym (graph ∙ ap (λ (xs : List ℕ). named xs c.add_dep.new.self) items)) made) c.certified.ensures.graph
+
+pub returns-clause-steps : goal.returns-clause-steps
+returns-clause-steps g c =
+    subst (λ (xs : List ℕ). GrowsWithin (most_steps (length xs)) c.args.steps.now c.certified.new.steps)
+    (c.in_ok-names.ensures.ok ∙ c.as_slice-2.ensures ∙ ap (λ (s : Cluster). s.names) c.self.view_is) c.certified.ensures.steps
+
+pub returns-clause-least : goal.returns-clause-least
+returns-clause-least g c =
+    subst (λ (xs : List ℕ). OnOk c.certified.result (c.args.steps.now + least_steps (length xs) ≤ c.certified.new.steps))
+    (c.in_ok-names.ensures.ok ∙ c.as_slice-2.ensures ∙ ap (λ (s : Cluster). s.names) c.self.view_is) c.certified.ensures.least
+
+pub copied-requires : goal.copied-requires
+copied-requires g c =
+    let fits : cluster_room g.row.W < 9223372036854775808 = search in
+    (dep_in_cluster g.row.W fits, subst (λ (xs : List ℕ). IsNamed (64 * g.row.W) xs c.self.inside.dep) (sym c.as_slice.ensures) c.self.invariant.place)
+
+pub members-members-requires : goal.members-members-requires
+members-members-requires g c =
+    let fits : cluster_room g.row.W < 9223372036854775808 = search in
+    (dep_in_cluster g.row.W fits, words_in_cluster g.row.W fits)
+
+pub place_of-below-requires : goal.place_of-below-requires
+place_of-below-requires g c =
+    subst (λ (xs : List ℕ). Contains xs c.args.child) (sym (c.as_slice-4.ensures ∙ c.in_ok-names.ensures.ok ∙ c.as_slice-2.ensures))
+    (subst (λ (s : Cluster). Contains s.names c.args.child) (sym c.self.view_is) c.requires.child)
+
+pub place_of-above-requires : goal.place_of-above-requires
+place_of-above-requires g c =
+    subst (λ (xs : List ℕ). Contains xs c.args.parent) (sym (c.as_slice-3.ensures ∙ c.in_ok-names.ensures.ok ∙ c.as_slice-2.ensures))
+    (subst (λ (s : Cluster). Contains s.names c.args.parent) (sym c.self.view_is) c.requires.parent)

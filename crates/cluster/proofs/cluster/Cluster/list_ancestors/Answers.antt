@@ -1,4 +1,4 @@
-use Rattle.std.proofs.Common.{◌≡◌, ℕ, true, ◌*◌, ◌≤◌, ◌+◌, List, length, arith, rules, sym, ap, subst}
+use Rattle.std.proofs.Common.{◌≡◌, ℕ, true, ◌*◌, ◌≤◌, ◌+◌, List, length, arith, rules, sym, ap, subst, ◌<◌}
 use Rattle.lists.specs.Distinct.{AreDistinct}
 use Rattle.graphs.specs.Closures.{is_ancestor}
 use Rattle.bitset.specs.Places.{IsWithin}
@@ -8,6 +8,8 @@ use Rattle.cluster.specs.Named.{named}
 use Rattle.cluster.specs.Changes.{IsChosen}
 use Rattle.cluster.proofs.At.{at_in, IsAt}
 use Rattle.cluster.proofs.Listings.{above_within, above_listed}
+use Rattle.cluster.proofs.Rooms.{cluster_room, dep_in_cluster, words_in_cluster}
+use Rattle.cluster.proofs.Kept.{place_member}
 use Rattle.cluster.proofs.cluster.Cluster.list_ancestors.Goals as goal
 
 pub list_chosen-requires : goal.list_chosen-requires
@@ -31,3 +33,17 @@ returns-clause-lists g c =
     (subst (λ (x : ℕ). Lists (λ other. is_ancestor (named c.self.inside.names.items c.self.inside.dep) other x ≡ true) c.list_chosen.new.out.ids) at.here
     (above_listed (64 * g.row.W) c.self.inside.names.items c.self.inside.dep c.self.invariant.place c.place_of-place.result c.ancestors.result c.list_chosen.new.out.ids at.low c.ancestors.ensures
     (subst (λ (xs : List ℕ). Lists (IsChosen xs c.ancestors.result) c.list_chosen.new.out.ids) c.as_slice-2.ensures c.list_chosen.ensures.lists)))
+
+pub ancestors-requires : goal.ancestors-requires
+ancestors-requires g c =
+    let fits : cluster_room g.row.W < 9223372036854775808 = search in (
+      dep_in_cluster g.row.W fits,
+      (
+        words_in_cluster g.row.W fits,
+        (place_member (64 * g.row.W) c.self.inside.names.items c.self.inside.dep c.self.invariant.place c.place_of-place.result
+            (subst (λ (xs : List ℕ). c.place_of-place.result < length xs) c.as_slice.ensures c.place_of-place.ensures.within)),
+      ),
+    )
+
+pub returns-clause-room : goal.returns-clause-room
+returns-clause-room g c = c.list_chosen.ensures.room

@@ -61,3 +61,36 @@ returns g c =
     (sum_from c.rate_in.result) c.names_between.result.now c.flows_between.result.now c.rate_in.ensures
     (c.names_between.ensures ∙ ap (λ xs. take ((slice_index_or c.as_slice-parts.result.now c.args.at no_end).end - c.names_start-from.result) (drop c.names_start-from.result xs)) c.as_slice.ensures)
     (c.flows_between.ensures ∙ ap (λ (fs : List Flow). take ((slice_index_or c.as_slice-parts.result.now c.args.at no_end).flow_end - c.flows_start-flow_from.result) (drop c.flows_start-flow_from.result fs)) c.as_slice-2.ensures.value))
+
+pub bounds-parts-at : goal.bounds-parts-at
+bounds-parts-at g c =
+    let ends = c.self.inside.order.parts.items in
+    let names = c.self.inside.order.names.items in
+    let flows = c.self.inside.order.flows.items in
+    let below : c.args.at < length (cut ends names flows) = subst (λ (s : Cluster). c.args.at < length s.parts) (sym c.self.view_is) c.requires in
+    let long : length c.as_slice-parts.result.now ≡ length (cut ends names flows) =
+    ap length c.as_slice-parts.ensures ∙ ends_long ends names flows (cut ends names flows) c.self.invariant.ordered.ends in
+    subst (λ (n : ℕ). c.args.at < n) (sym long) below
+
+pub offset_bounds-parts-at : goal.offset_bounds-parts-at
+offset_bounds-parts-at g c = let low = bounds-parts-at g c in omega (arith, low, c.as_slice-parts.type_inv.1)
+
+pub names_start-from-requires : goal.names_start-from-requires
+names_start-from-requires g c =
+    let ends = c.self.inside.order.parts.items in
+    let names = c.self.inside.order.names.items in
+    let flows = c.self.inside.order.flows.items in
+    let below : c.args.at < length (cut ends names flows) = subst (λ (s : Cluster). c.args.at < length s.parts) (sym c.self.view_is) c.requires in
+    let long : length c.as_slice-parts.result.now ≡ length (cut ends names flows) =
+    ap length c.as_slice-parts.ensures ∙ ends_long ends names flows (cut ends names flows) c.self.invariant.ordered.ends in
+    subst (λ (n : ℕ). c.args.at < n) (sym long) below
+
+pub flows_start-flow_from-requires : goal.flows_start-flow_from-requires
+flows_start-flow_from-requires g c =
+    let ends = c.self.inside.order.parts.items in
+    let names = c.self.inside.order.names.items in
+    let flows = c.self.inside.order.flows.items in
+    let below : c.args.at < length (cut ends names flows) = subst (λ (s : Cluster). c.args.at < length s.parts) (sym c.self.view_is) c.requires in
+    let long : length c.as_slice-parts.result.now ≡ length (cut ends names flows) =
+    ap length c.as_slice-parts.ensures ∙ ends_long ends names flows (cut ends names flows) c.self.invariant.ordered.ends in
+    subst (λ (n : ℕ). c.args.at < n) (sym long) below

@@ -1,10 +1,11 @@
-use Rattle.std.proofs.Common.{◌*◌, ◌<◌, length, arith, subst}
+use Rattle.std.proofs.Common.{◌*◌, ◌<◌, arith, subst}
 use Rattle.std.proofs.lemmas.Option.{slice_get-get_or}
 use Rattle.std.proofs.Common.{sym, ap, ◌∙◌, Some}
 use Rattle.cluster.specs.Clusters.{Cluster, IsCluster}
 use Rattle.cluster.specs.Kept.{cut}
 use Rattle.cluster.proofs.Kept.{IsCluster-named}
 use Rattle.cluster.proofs.Placed.{in_order, in_a_part}
+use Rattle.cluster.proofs.Rooms.{cluster_room}
 use Rattle.cluster.proofs.cluster.Cluster.part_of.Goals as goal
 
 pub unreachable-requires : goal.unreachable-requires
@@ -18,3 +19,11 @@ unreachable-requires g c =
     let count = c.part_count-at-end.ensures in
     let end = c.loop-at-test.false in
     c.loop-at.invariant low.0 found.0 (omega (arith, low.1, count, end)) (slice_get-get_or c.args.self.now.parts low.0 found.0 low.1 ∙ ap (λ (p : Rattle.graphs.specs.Certificates.Part). Some p) low.2) found.2
+
+pub part_count-at-end-requires : goal.part_count-at-end-requires
+part_count-at-end-requires g c = let fits : cluster_room g.row.W < 9223372036854775808 = search in fits
+
+pub part-requires : goal.part-requires
+part-requires g c =
+    let fits : cluster_room g.row.W < 9223372036854775808 = search in
+    (fits, subst (λ n. c.loop-at.at < n) c.part_count-at-end.ensures c.loop-at-test.true)

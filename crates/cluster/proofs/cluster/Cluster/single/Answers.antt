@@ -1,4 +1,5 @@
-use Rattle.std.proofs.Common.{◌≡◌, ℕ, ℤ, ◌*◌, ◌≤◌, List, [], ◌∷◌, ◌++◌, length, sym, ap, ◌∙◌, subst, rules, arith, to_z-of_z}
+use Rattle.std.proofs.Common.{◌≡◌, ℕ, ℤ, ◌*◌, ◌≤◌, ◌<◌, List, [], ◌∷◌, ◌++◌, length, refl, sym, ap, ◌∙◌, subst, arith, to_z-of_z}
+use Rattle.std.proofs.lemmas.Result.{IfOk-from_err}
 use Rattle.std.specs.FinSet as set
 use Rattle.graphs.specs.Closures.{Closure, members_of, AddsPlace}
 use Rattle.cluster.specs.Clusters.{Cluster}
@@ -6,26 +7,46 @@ use Rattle.cluster.specs.Changes.{IsSingle}
 use Rattle.cluster.specs.Named.{named, IsNamed}
 use Rattle.cluster.proofs.Oks.{both_ok}
 use Rattle.cluster.proofs.Single.{IsNamed-single, IsSingle-named, len-none}
+use Rattle.cluster.proofs.Rooms.{dep_fits, words_in_dep}
 use Rattle.cluster.proofs.cluster.Cluster.single.Goals as goal
+
+room_for_one : {n w : ℕ} → n ≡ 0 → 1 ≤ w → n < 64 * w
+room_for_one none some = omega arith
 
 pub add-requires : goal.add-requires
 add-requires g c =
     let none : set.len (members_of c.new-dep.result) ≡ 0 = ap (λ g. set.len (members_of g)) c.new-dep.ensures ∙ len-none in
-    let some : 1 ≤ g.row.W = c.work.invariant.1 in
-    (search rules, omega arith)
+    (grind arith, room_for_one none c.work.invariant.1)
+
+pub returns-in_err-_place-clause-single : goal.returns-in_err-_place-clause-single
+returns-in_err-_place-clause-single g c = IfOk-from_err c.from_residual.result _ c.from_residual.ensures.0
+
+pub returns-in_err-_place-clause-whole : goal.returns-in_err-_place-clause-whole
+returns-in_err-_place-clause-whole g c = IfOk-from_err c.from_residual.result _ c.from_residual.ensures.0
+
+pub returns-in_err-_place-clause-steps : goal.returns-in_err-_place-clause-steps
+returns-in_err-_place-clause-steps g c = refl
+
+pub returns-in_err-push-clause-single : goal.returns-in_err-push-clause-single
+returns-in_err-push-clause-single g c = IfOk-from_err c.from_residual-in_err-push.result _ c.from_residual-in_err-push.ensures.0
+
+pub returns-in_err-push-clause-whole : goal.returns-in_err-push-clause-whole
+returns-in_err-push-clause-whole g c = IfOk-from_err c.from_residual-in_err-push.result _ c.from_residual-in_err-push.ensures.0
+
+pub returns-in_err-push-clause-steps : goal.returns-in_err-push-clause-steps
+returns-in_err-push-clause-steps g c = refl
 
 pub certified-requires : goal.certified-requires
 certified-requires g c =
-    let some : 1 ≤ g.row.W = c.work.invariant.1 in
     let items : c.push.new.self.items ≡ c.args.id ∷ [] = c.in_ok-push.ensures.ok ∙ ap (λ (xs : List ℕ). xs ++ c.args.id ∷ []) c.new-names.ensures.items in (
-      search rules,
+      grind arith,
       (
-        search rules,
+        grind arith,
         (
-          search rules,
+          search,
           subst (λ (xs : List ℕ). IsNamed (64 * g.row.W) xs c.add.new.self) (sym items)
               (IsNamed-single (64 * g.row.W) c.new-dep.result c.add.new.self c.args.id (record { fee = c.args.fee; size = c.args.size }) c.in_ok-_place._place c.new-dep.ensures
-              (subst (λ (z : ℤ). AddsPlace c.new-dep.result c.add.new.self (record { fee = z; size = c.args.size }) c.in_ok-_place._place) (to_z-of_z c.ranges.fee) c.in_ok-_place.ensures.ok) (omega arith) c.requires c.members-members.ensures.closed),
+              (subst (λ (z : ℤ). AddsPlace c.new-dep.result c.add.new.self (record { fee = z; size = c.args.size }) c.in_ok-_place._place) (to_z-of_z c.ranges.fee) c.in_ok-_place.ensures.ok) (room_for_one refl c.work.invariant.1) c.requires c.members-members.ensures.closed),
         ),
       ),
     )
@@ -44,3 +65,11 @@ returns-clause-single g c =
 
 pub returns-clause-steps : goal.returns-clause-steps
 returns-clause-steps g c = c.certified.ensures.alone (ap length (c.in_ok-push.ensures.ok ∙ ap (λ (xs : List ℕ). xs ++ c.args.id ∷ []) c.new-names.ensures.items))
+
+pub new-dep-requires : goal.new-dep-requires
+new-dep-requires g c = dep_fits g.row.W c.work.invariant.2
+
+pub members-members-requires : goal.members-members-requires
+members-members-requires g c =
+    let fits = dep_fits g.row.W c.work.invariant.2 in
+    (fits, words_in_dep g.row.W fits)

@@ -1,28 +1,61 @@
-use Rattle.std.proofs.Common.{◌≡◌, ℕ, ℤ, ◌*◌, List, rules, sym, ap, ◌∙◌, subst, subst₂, to_z-of_z}
+use Rattle.std.proofs.Common.{◌≡◌, ℕ, ℤ, ◌*◌, List, length, ◌+◌, ◌≤◌, OnOk, arith, sym, ap, ◌∙◌, subst, subst₂, to_z-of_z, ◌<◌, Contains}
 use Rattle.graphs.specs.Closures.{Closure, SetsFee}
 use Rattle.cluster.specs.Clusters.{Cluster}
 use Rattle.cluster.specs.Named.{named, IsNamed}
 use Rattle.cluster.proofs.At.{at_in}
 use Rattle.cluster.proofs.Linking.{fee_asks, fee_kept, fee_graph}
-use Rattle.cluster.proofs.Oks.{one_ok}
+use Rattle.cluster.proofs.Oks.{one_ok, no_step}
+use Rattle.std.proofs.lemmas.Result.{IfOk-from_err}
+use Rattle.cluster.specs.Steps.{GrowsWithin, least_steps, most_steps}
+use Rattle.cluster.proofs.Rooms.{cluster_room, dep_in_cluster, words_in_cluster}
 use Rattle.cluster.proofs.cluster.Cluster.with_fee.Goals as goal
 
 pub set_fee-requires : goal.set_fee-requires
 set_fee-requires g c = (
-  search rules,
+  (let fits : cluster_room g.row.W < 9223372036854775808 = search in dep_in_cluster g.row.W fits),
   fee_asks (64 * g.row.W) c.self.inside.names.items c.self.inside.dep c.in_ok-dep.dep c.self.invariant.place c.in_ok-dep.ensures.same
       (subst (λ (xs : List ℕ). IsNamed (64 * g.row.W) xs c.in_ok-dep.dep) c.as_slice.ensures c.in_ok-dep.ensures.named) c.place_of.result c.args.id c.args.fee
       (at_in c.as_slice-3.result.now c.self.inside.names.items c.place_of.result c.args.id (c.as_slice-3.ensures ∙ c.in_ok-names.ensures.ok ∙ c.as_slice-2.ensures) c.place_of.ensures.within c.place_of.ensures.here),
 )
 
+pub returns-in_err-dep-clause-names : goal.returns-in_err-dep-clause-names
+returns-in_err-dep-clause-names g c = IfOk-from_err c.from_residual.result _ c.from_residual.ensures.0
+
+pub returns-in_err-dep-clause-graph : goal.returns-in_err-dep-clause-graph
+returns-in_err-dep-clause-graph g c = IfOk-from_err c.from_residual.result _ c.from_residual.ensures.0
+
+pub returns-in_err-dep-clause-whole : goal.returns-in_err-dep-clause-whole
+returns-in_err-dep-clause-whole g c = IfOk-from_err c.from_residual.result _ c.from_residual.ensures.0
+
+pub returns-in_err-dep-clause-steps : goal.returns-in_err-dep-clause-steps
+returns-in_err-dep-clause-steps g c = no_step _ _
+
+pub returns-in_err-dep-clause-least : goal.returns-in_err-dep-clause-least
+returns-in_err-dep-clause-least g c = IfOk-from_err c.from_residual.result _ c.from_residual.ensures.0
+
+pub returns-in_err-names-clause-names : goal.returns-in_err-names-clause-names
+returns-in_err-names-clause-names g c = IfOk-from_err c.from_residual-in_err-names.result _ c.from_residual-in_err-names.ensures.0
+
+pub returns-in_err-names-clause-graph : goal.returns-in_err-names-clause-graph
+returns-in_err-names-clause-graph g c = IfOk-from_err c.from_residual-in_err-names.result _ c.from_residual-in_err-names.ensures.0
+
+pub returns-in_err-names-clause-whole : goal.returns-in_err-names-clause-whole
+returns-in_err-names-clause-whole g c = IfOk-from_err c.from_residual-in_err-names.result _ c.from_residual-in_err-names.ensures.0
+
+pub returns-in_err-names-clause-steps : goal.returns-in_err-names-clause-steps
+returns-in_err-names-clause-steps g c = no_step _ _
+
+pub returns-in_err-names-clause-least : goal.returns-in_err-names-clause-least
+returns-in_err-names-clause-least g c = IfOk-from_err c.from_residual-in_err-names.result _ c.from_residual-in_err-names.ensures.0
+
 pub certified-requires : goal.certified-requires
 certified-requires g c =
     let items : c.in_ok-names.names.items ≡ c.self.inside.names.items = c.in_ok-names.ensures.ok ∙ c.as_slice-2.ensures in (
-      search rules,
+      (let fits : cluster_room g.row.W < 9223372036854775808 = search in dep_in_cluster g.row.W fits),
       (
-        search rules,
+        grind arith,
         (
-          search rules,
+          search,
           subst (λ (xs : List ℕ). IsNamed (64 * g.row.W) xs c.set_fee.new.self) (sym items)
               (fee_kept (64 * g.row.W) c.self.inside.names.items c.self.inside.dep c.in_ok-dep.dep c.self.invariant.place c.in_ok-dep.ensures.same
               (subst (λ (xs : List ℕ). IsNamed (64 * g.row.W) xs c.in_ok-dep.dep) c.as_slice.ensures c.in_ok-dep.ensures.named) c.place_of.result c.args.id c.args.fee
@@ -46,3 +79,28 @@ returns-clause-graph g c =
     c.set_fee.new.self (subst (λ (z : ℤ). SetsFee c.in_ok-dep.dep c.set_fee.new.self c.place_of.result z) (to_z-of_z c.ranges.fee) c.set_fee.ensures) in
     one_ok c.certified.result (λ k. k.graph ≡ named c.in_ok-names.names.items c.set_fee.new.self) (λ k. SetsFee c.args.self.now.graph k.graph c.args.id c.args.fee)
     (λ k graph. subst₂ (λ (s : Cluster) (h : Closure). SetsFee s.graph h c.args.id c.args.fee) c.self.view_is (sym (graph ∙ ap (λ (xs : List ℕ). named xs c.set_fee.new.self) items)) made) c.certified.ensures.graph
+
+pub returns-clause-steps : goal.returns-clause-steps
+returns-clause-steps g c =
+    subst (λ (xs : List ℕ). GrowsWithin (most_steps (length xs)) c.args.steps.now c.certified.new.steps)
+    (c.in_ok-names.ensures.ok ∙ c.as_slice-2.ensures ∙ ap (λ (s : Cluster). s.names) c.self.view_is) c.certified.ensures.steps
+
+pub returns-clause-least : goal.returns-clause-least
+returns-clause-least g c =
+    subst (λ (xs : List ℕ). OnOk c.certified.result (c.args.steps.now + least_steps (length xs) ≤ c.certified.new.steps))
+    (c.in_ok-names.ensures.ok ∙ c.as_slice-2.ensures ∙ ap (λ (s : Cluster). s.names) c.self.view_is) c.certified.ensures.least
+
+pub copied-requires : goal.copied-requires
+copied-requires g c =
+    let fits : cluster_room g.row.W < 9223372036854775808 = search in
+    (dep_in_cluster g.row.W fits, subst (λ (xs : List ℕ). IsNamed (64 * g.row.W) xs c.self.inside.dep) (sym c.as_slice.ensures) c.self.invariant.place)
+
+pub members-members-requires : goal.members-members-requires
+members-members-requires g c =
+    let fits : cluster_room g.row.W < 9223372036854775808 = search in
+    (dep_in_cluster g.row.W fits, words_in_cluster g.row.W fits)
+
+pub place_of-requires : goal.place_of-requires
+place_of-requires g c =
+    subst (λ (xs : List ℕ). Contains xs c.args.id) (sym (c.as_slice-3.ensures ∙ c.in_ok-names.ensures.ok ∙ c.as_slice-2.ensures))
+    (subst (λ (s : Cluster). Contains s.names c.args.id) (sym c.self.view_is) c.requires.id)

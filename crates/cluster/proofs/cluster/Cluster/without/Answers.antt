@@ -1,5 +1,6 @@
-use Rattle.std.proofs.Common.{◌≡◌, ◌≤◌, ◌↔◌, ◌+◌, ℕ, true, ◌*◌, ◌<◌, List, length, map, slice_index, Contains, rules, sym, ap, ◌∙◌, subst}
+use Rattle.std.proofs.Common.{◌≡◌, ◌≤◌, ◌↔◌, ◌+◌, ℕ, true, ◌*◌, ◌<◌, List, length, map, slice_index, Contains, le_trans, sym, ap, ◌∙◌, subst}
 use Rattle.std.proofs.lemmas.List.{length-map}
+use Rattle.std.proofs.lemmas.Result.{IfOk-from_err}
 use Rattle.std.specs.FinSet as set
 use Rattle.lists.specs.Distinct.{AreDistinct}
 use Rattle.bitset.specs.Places.{first_places, places, IsWithin}
@@ -10,11 +11,13 @@ use Rattle.cluster.specs.Steps.{GrowsWithin, least_steps, most_steps, most_steps
 use Rattle.cluster.proofs.Bounds.{IsCounted, IsCounted-start, IsCounted-more, stopped, finished, are_components, apart_names}
 use Rattle.cluster.proofs.Chosen.{chosen_within, chosen_some, chosen_one, chosen_apart, part_whole, held_all}
 use Rattle.cluster.proofs.Splits.{Splitting, Splitting-start, Splitting-more, Splitting-all, component_whole, fewer, holds_members, none_left}
+use Rattle.cluster.proofs.Rooms.{cluster_room, dep_in_cluster, words_in_cluster}
+use mathlib.Core.List.{not-mem-nil}
 use Rattle.cluster.proofs.cluster.Cluster.without.Goals as goal
 
 pub take_out-requires : goal.take_out-requires
 take_out-requires g c = (
-  search rules,
+  (let fits : cluster_room g.row.W < 9223372036854775808 = search in words_in_cluster g.row.W fits),
   (
     subst (λ (xs : List ℕ). length xs ≤ 64 * g.row.W) (sym c.as_slice.ensures) c.self.invariant.place.few,
     (
@@ -33,17 +36,17 @@ loop-first-init g c = record {
 }
 
 pub component-chosen-requires : goal.component-chosen-requires
-component-chosen-requires g c = (search rules, (search rules, (holds_members (64 * g.row.W) c.self.inside.names.items c.self.inside.dep c.self.invariant.place c.args.names.now c.loop-first.rest c.loop-first.clusters.items c.loop-first.invariant.splitting, c.in-Some.ensures.least.member)))
+component-chosen-requires g c = ((let fits : cluster_room g.row.W < 9223372036854775808 = search in dep_in_cluster g.row.W fits), ((let fits : cluster_room g.row.W < 9223372036854775808 = search in words_in_cluster g.row.W fits), (holds_members (64 * g.row.W) c.self.inside.names.items c.self.inside.dep c.self.invariant.place c.args.names.now c.loop-first.rest c.loop-first.clusters.items c.loop-first.invariant.splitting, c.in-Some.ensures.least.member)))
 
 pub part-requires : goal.part-requires
 part-requires g c = (
-  search rules,
+  (let fits : cluster_room g.row.W < 9223372036854775808 = search in dep_in_cluster g.row.W fits),
   (
-    search rules,
+    (let fits : cluster_room g.row.W < 9223372036854775808 = search in words_in_cluster g.row.W fits),
     (
-      search rules,
+      search,
       (
-        search rules,
+        search,
         (
           subst (λ (xs : List ℕ). IsNamed (64 * g.row.W) xs c.self.inside.dep) (sym c.as_slice-in-Some.ensures) c.self.invariant.place,
           (
@@ -72,6 +75,45 @@ returns-in_err-push-clause-steps g c =
     (stopped (named c.self.inside.names.items c.self.inside.dep) c.args.names.now c.loop-first.clusters.items c.args.steps.now c.loop-first.steps c.part.new.steps (map (slice_index c.self.inside.names.items) (places (64 * g.row.W) c.component-chosen.result))
     c.loop-first.invariant.counted (chosen_one (64 * g.row.W) c.self.inside.names.items c.self.inside.dep c.self.invariant.place c.args.names.now c.loop-first.rest c.component-chosen.result c.loop-first.clusters.items c.in-Some.first c.loop-first.invariant.splitting c.in-Some.ensures.least c.component-chosen.ensures) (subst (λ (m : ℕ). GrowsWithin (most_steps m) c.loop-first.steps c.part.new.steps) (sym (length-map (places (64 * g.row.W) c.component-chosen.result) (slice_index c.self.inside.names.items))) c.part.ensures.steps) c.loop-first.invariant.splitting.apart
     (λ k here. chosen_apart (64 * g.row.W) c.self.inside.names.items c.self.inside.dep c.self.invariant.place c.args.names.now c.loop-first.rest c.component-chosen.result c.loop-first.clusters.items c.in-Some.first c.loop-first.invariant.splitting c.in-Some.ensures.least c.component-chosen.ensures k here (part_whole (64 * g.row.W) c.loop-first.clusters.items c.loop-first.invariant.splitting.whole k here)))
+
+pub returns-in_err-made-clause-split : goal.returns-in_err-made-clause-split
+returns-in_err-made-clause-split g c = IfOk-from_err c.from_residual.result _ c.from_residual.ensures.0
+
+pub returns-in_err-made-clause-whole : goal.returns-in_err-made-clause-whole
+returns-in_err-made-clause-whole g c = IfOk-from_err c.from_residual.result _ c.from_residual.ensures.0
+
+pub returns-in_err-made-clause-components : goal.returns-in_err-made-clause-components
+returns-in_err-made-clause-components g c = IfOk-from_err c.from_residual.result _ c.from_residual.ensures.0
+
+pub returns-in_err-made-clause-least : goal.returns-in_err-made-clause-least
+returns-in_err-made-clause-least g c = IfOk-from_err c.from_residual.result _ c.from_residual.ensures.0
+
+pub returns-in_err-made-clause-grew : goal.returns-in_err-made-clause-grew
+returns-in_err-made-clause-grew g c = le_trans c.loop-first.invariant.counted.grew c.part.ensures.steps.grew
+
+pub returns-in_err-push-clause-split : goal.returns-in_err-push-clause-split
+returns-in_err-push-clause-split g c = IfOk-from_err c.from_residual-in_err-push.result _ c.from_residual-in_err-push.ensures.0
+
+pub returns-in_err-push-clause-whole : goal.returns-in_err-push-clause-whole
+returns-in_err-push-clause-whole g c = IfOk-from_err c.from_residual-in_err-push.result _ c.from_residual-in_err-push.ensures.0
+
+pub returns-in_err-push-clause-components : goal.returns-in_err-push-clause-components
+returns-in_err-push-clause-components g c = IfOk-from_err c.from_residual-in_err-push.result _ c.from_residual-in_err-push.ensures.0
+
+pub returns-in_err-push-clause-least : goal.returns-in_err-push-clause-least
+returns-in_err-push-clause-least g c = IfOk-from_err c.from_residual-in_err-push.result _ c.from_residual-in_err-push.ensures.0
+
+pub returns-in_err-push-clause-grew : goal.returns-in_err-push-clause-grew
+returns-in_err-push-clause-grew g c = le_trans c.loop-first.invariant.counted.grew c.part.ensures.steps.grew
+
+pub returns-clause-whole : goal.returns-clause-whole
+returns-clause-whole g c = c.loop-first.invariant.splitting.whole
+
+pub returns-clause-grew : goal.returns-clause-grew
+returns-clause-grew g c = c.loop-first.invariant.counted.grew
+
+pub returns-clause-least : goal.returns-clause-least
+returns-clause-least g c = c.loop-first.invariant.counted.least
 
 pub loop-first-smaller : goal.loop-first-smaller
 loop-first-smaller g c =
@@ -113,3 +155,28 @@ pub returns-clause-steps : goal.returns-clause-steps
 returns-clause-steps g c =
     subst (λ (s : Cluster). (lists : List (List ℕ)) → AreComponents s.graph c.args.names.now lists → c.loop-first.steps ≤ c.args.steps.now + most_steps_of lists) c.self.view_is
     (finished (named c.self.inside.names.items c.self.inside.dep) c.args.names.now c.loop-first.clusters.items c.args.steps.now c.loop-first.steps c.loop-first.invariant.counted c.loop-first.invariant.splitting.apart)
+
+pub least-requires : goal.least-requires
+least-requires g c = let fits : cluster_room g.row.W < 9223372036854775808 = search in words_in_cluster g.row.W fits
+
+pub first_n-rest-requires : goal.first_n-rest-requires
+first_n-rest-requires g c =
+    let fits : cluster_room g.row.W < 9223372036854775808 = search in
+    let few : length c.self.inside.names.items ≤ 64 * g.row.W = c.self.invariant.place.few in
+    (words_in_cluster g.row.W fits, subst (λ n. n ≤ 64 * g.row.W) (sym c.len.ensures.value) few)
+
+pub minus-rest-requires : goal.minus-rest-requires
+minus-rest-requires g c = let fits : cluster_room g.row.W < 9223372036854775808 = search in words_in_cluster g.row.W fits
+
+pub drop-clusters-requires : goal.drop-clusters-requires
+drop-clusters-requires g c κs =
+    let fits : cluster_room g.row.W < 9223372036854775808 = search in ((fits, tt), (λ a here. absurd (not-mem-nil here), λ a here. absurd (not-mem-nil here)))
+
+pub drop-clusters-requires-in_err-push : goal.drop-clusters-requires-in_err-push
+drop-clusters-requires-in_err-push g c κs =
+    let fits : cluster_room g.row.W < 9223372036854775808 = search in ((fits, tt), (λ a here. absurd (not-mem-nil here), λ a here. absurd (not-mem-nil here)))
+
+pub from_residual-requires-in_err-push : goal.from_residual-requires-in_err-push
+from_residual-requires-in_err-push g c κs =
+    let fits : cluster_room g.row.W < 9223372036854775808 = search in
+    ((fits, tt), (λ a here. absurd (not-mem-nil here), (λ a here. absurd (not-mem-nil here), λ a here. absurd (not-mem-nil here))))

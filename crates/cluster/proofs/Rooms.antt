@@ -1,0 +1,70 @@
+-- How many bytes values take: what a cluster or its room holds fits where that fits, and all of them at the widths that there are.
+use Prim.Native.Nat.{max}
+use prog.Memory.{up}
+use Rattle.std.proofs.Common.{ℕ, ◌+◌, ◌*◌, ◌<◌, ◌≤◌, arith}
+
+abbrev pub words_room : ℕ → ℕ
+words_room w = up 8 (0 + w * 8)
+
+abbrev pub dep_room : ℕ → ℕ
+dep_room w =
+    up 8 (up 8 (0 + up 8 (0 + w * 8)) + up 8 (0 + up 8 (max (8 + up 8 (up 1 (up 8 (0 + up 8 (0 + 1 * up 8 (up 8 (16 + up 8 (0 + w * 8))
+    + up 8 (0 + w * 8)))) + 8) + 0)) 32)))
+
+abbrev pub cluster_room : ℕ → ℕ
+cluster_room w = up 8 (up 8 (32 + dep_room w) + 104)
+
+abbrev pub scratch_room : ℕ → ℕ
+scratch_room w =
+    up 8 (up 8 (0 + up 8 (up 8 (up 8 (up 8 (up 8 (up 8 (0 + up 8 (0 + w * 8)) + up 8 (0 + w * 8)) + up 8 (0 + w * 8)) + 24) + 24) + 24)) + 32)
+
+pub dep_in_cluster : (w : ℕ) → cluster_room w < 9223372036854775808 → dep_room w < 9223372036854775808
+dep_in_cluster w fits = field (dep_room w) fits
+  where
+    field : (d : ℕ) → up 8 (up 8 (32 + d) + 104) < 9223372036854775808 → d < 9223372036854775808
+    field d fits = omega arith
+
+pub words_in_dep : (w : ℕ) → dep_room w < 9223372036854775808 → words_room w < 9223372036854775808
+words_in_dep w fits = field (words_room w) _ fits
+  where
+    field : (d e : ℕ) → up 8 (up 8 (0 + d) + up 8 (0 + e)) < 9223372036854775808 → d < 9223372036854775808
+    field d e fits = omega arith
+
+pub words_in_cluster : (w : ℕ) → cluster_room w < 9223372036854775808 → words_room w < 9223372036854775808
+words_in_cluster w fits = words_in_dep w (dep_in_cluster w fits)
+
+padded : (x m : ℕ) → x ≤ m → up 8 x ≤ m + 8
+padded x m below = omega arith
+
+pub dep_fits : (w : ℕ) → w ≤ 64 → dep_room w < 9223372036854775808
+dep_fits w narrow =
+    let x : ℕ = up 8 (0 + w * 8) in
+    let ix : x ≤ 520 = padded (0 + w * 8) 512 (omega (arith, narrow)) in
+    rows x ix (up 8 (16 + x)) (padded (16 + x) 536 (omega (arith, ix)))
+  where
+    whole : (x : ℕ) → x ≤ 520 → (f : ℕ) → f ≤ 2000 → up 8 (up 8 (0 + x) + up 8 (0 + f)) < 9223372036854775808
+    whole x ix f below = omega arith
+
+    row : (b : ℕ) → b ≤ 1072 → up 8 (max (8 + up 8 (up 1 (up 8 (0 + up 8 (0 + 1 * b)) + 8) + 0)) 32) ≤ 2000
+    row b ib =
+        let c : ℕ = up 8 (0 + 1 * b) in
+        let ic : c ≤ 1080 = padded (0 + 1 * b) 1072 (omega (arith, ib)) in
+        let d : ℕ = up 8 (0 + c) in
+        let id : d ≤ 1088 = padded (0 + c) 1080 (omega (arith, ic)) in
+        let e : ℕ = up 8 (up 1 (d + 8) + 0) in
+        let ie : e ≤ 1112 = padded (up 1 (d + 8) + 0) 1104 (omega (arith, id)) in
+        let high : max (8 + e) 32 ≤ 1120 = omega (arith, ie) in
+        let if_ : up 8 (max (8 + e) 32) ≤ 1128 = padded (max (8 + e) 32) 1120 high in omega (arith, if_)
+
+    rows : (x : ℕ) → x ≤ 520 → (a : ℕ) → a ≤ 544
+        → up 8 (up 8 (0 + x) + up 8 (0 + up 8 (max (8 + up 8 (up 1 (up 8 (0 + up 8 (0 + 1 * up 8 (a + x))) + 8) + 0)) 32))) < 9223372036854775808
+    rows x ix a ia =
+        let f : ℕ = up 8 (max (8 + up 8 (up 1 (up 8 (0 + up 8 (0 + 1 * up 8 (a + x))) + 8) + 0)) 32) in
+        let below : f ≤ 2000 = row (up 8 (a + x)) (padded (a + x) 1064 (omega (arith, ix, ia))) in
+        whole x ix f below
+
+pub scratch_fits : (w : ℕ) → w ≤ 64 → scratch_room w < 9223372036854775808
+scratch_fits w narrow = small (up 8 (0 + w * 8)) (padded (0 + w * 8) 512 (omega (arith, narrow)))
+  where
+    small : (x : ℕ) → x ≤ 520 → up 8 (up 8 (0 + up 8 (up 8 (up 8 (up 8 (up 8 (up 8 (0 + x) + x) + x) + 24) + 24) + 24)) + 32) < 9223372036854775808
+    small x low = omega arith
