@@ -3,6 +3,10 @@ pub mod Fresh
 pub mod Sorted
 pub mod Steps
 pub mod Shown
+pub mod Sizes
+pub mod Bounds
+pub mod Missing
+pub mod Entered
 pub mod Slots
 pub mod Done
 pub mod Wide

@@ -344,6 +344,7 @@ fn replace<const W: usize>(
             let gone = stored.replace(cluster);
             let count = gone.part_count();
             leave(index, number, &gone, Some(stored.cluster()), count);
+            drop(gone);
         }
         None => unreachable!(),
     }

@@ -1,5 +1,5 @@
 -- One cluster more stands under a number; where there is no memory for it, the others go out again.
-use Rattle.std.proofs.Common.{rules, ◌≡◌, List, [], ◌∷◌, ◌++◌, sym, ap, ◌∙◌, subst, append_assoc}
+use Rattle.std.proofs.Common.{◌≡◌, List, [], ◌∷◌, ◌++◌, sym, ap, ◌∙◌, subst, append_assoc}
 use Rattle.std.proofs.lemmas.List.{append-nil}
 use Rattle.cluster_store.specs.Stores.{Stored}
 use Rattle.cluster_store.specs.Slots.{AddsTo}
@@ -16,7 +16,7 @@ loop-stored-init g c = record {
 
 pub take_all-requires : goal.take_all-requires
 take_all-requires g c = (
-  search rules,
+  search,
   (
     c.in-Err.ensures.shown,
     adds_stored c.loop-stored.yielded c.add_next.new.numbers.items c.args.slots.now.slots c.add_next.new.slots.slots
@@ -48,3 +48,18 @@ returns-clause-ok g c =
     let all : c.loop-stored.yielded ≡ c.args.added.items =
     sym (append-nil c.loop-stored.yielded) ∙ ap (λ (xs : List Stored). c.loop-stored.yielded ++ xs) (sym none) ∙ c.loop-stored.invariant.split in
     subst (λ (xs : List Stored). AddsTo xs c.loop-stored.numbers.items c.args.slots.now.slots c.loop-stored.slots.slots) all c.loop-stored.invariant.adds
+
+pub add_next-requires : goal.add_next-requires
+add_next-requires g c = (search, c.loop-stored.invariant.shown)
+
+pub next-requires-room-T-Destruct : goal.next-requires-room-T-Destruct
+next-requires-room-T-Destruct g c κs = search
+
+pub into_iter-stored-iterator-requires-room-T-Destruct : goal.into_iter-stored-iterator-requires-room-T-Destruct
+into_iter-stored-iterator-requires-room-T-Destruct g c κs = search
+
+pub drop-stored-iterator-requires-room-T-Destruct : goal.drop-stored-iterator-requires-room-T-Destruct
+drop-stored-iterator-requires-room-T-Destruct g c κs = search
+
+pub drop-stored-iterator-requires-2-room-T-Destruct : goal.drop-stored-iterator-requires-2-room-T-Destruct
+drop-stored-iterator-requires-2-room-T-Destruct g c κs = search

@@ -1,5 +1,5 @@
 -- One cluster more is exchanged.
-use Rattle.std.proofs.Common.{rules, ◌≡◌, List, [], ◌∷◌, ◌++◌, subst}
+use Rattle.std.proofs.Common.{◌≡◌, List, [], ◌∷◌, ◌++◌, subst}
 use Rattle.cluster_store.specs.Stores.{Exchange}
 use Rattle.cluster_store.specs.Kept.{IsWide}
 use Rattle.cluster_store.specs.Changes.{with_cluster}
@@ -23,9 +23,9 @@ replace-requires g c =
     let wide : IsWide c.loop-exchange.slots.slots (rest ++ x ∷ []) c.loop-exchange.index =
     subst (λ (xs : List Exchange). IsWide c.loop-exchange.slots.slots xs c.loop-exchange.index) c.in-Some.ensures.items c.loop-exchange.invariant.wide in
     let apart = half_alone (λ y. y.number) (λ y. with_cluster y.cluster) c.args.exchanged.items rest x c.args.slots.now.slots c.loop-exchange.slots.slots c.requires.there half in (
-      search rules,
+      search,
       (
-        search rules,
+        search,
         (
           half_there (λ y. y.number) (λ y. with_cluster y.cluster) c.args.exchanged.items rest x c.args.slots.now.slots c.loop-exchange.slots.slots c.requires.there half,
           beside_last c.loop-exchange.slots.slots rest x apart c.loop-exchange.index wide,
@@ -64,3 +64,6 @@ returns-clause-shown g c =
     nothing_left c.pop.result c.loop-exchange.exchanged.items c.loop-exchange.exchanged.len c.pop.ensures.variant c.loop-exchange.exchanged.ok.0 c.in_default.not-Some in
     wide_ends c.loop-exchange.slots.slots c.loop-exchange.index
     (subst (λ (xs : List Exchange). IsWide c.loop-exchange.slots.slots xs c.loop-exchange.index) none c.loop-exchange.invariant.wide)
+
+pub drop-exchanged-requires-room-T-Destruct : goal.drop-exchanged-requires-room-T-Destruct
+drop-exchanged-requires-room-T-Destruct g c κs = search

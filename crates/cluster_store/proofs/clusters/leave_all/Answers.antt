@@ -1,5 +1,5 @@
 -- One cluster fewer waits.
-use Rattle.std.proofs.Common.{rules, ◌≡◌, List, [], ◌∷◌, ◌++◌, map, refl, subst}
+use Rattle.std.proofs.Common.{◌≡◌, List, [], ◌∷◌, ◌++◌, map, refl, subst}
 use Rattle.cluster_store.specs.Stores.{Exchange}
 use Rattle.cluster_store.specs.Kept.{IsWide}
 use Rattle.cluster_store.specs.Slots.{AreStored}
@@ -16,9 +16,9 @@ leave_beside-requires g c =
     subst (λ (xs : List Exchange). AreStored (map (λ (y : Exchange). y.number) xs) slots) c.in-Some.ensures.items c.loop-exchange.invariant.there in
     let wide : IsWide slots (rest ++ x ∷ []) c.loop-exchange.index =
     subst (λ (xs : List Exchange). IsWide slots xs c.loop-exchange.index) c.in-Some.ensures.items c.loop-exchange.invariant.wide in (
-      search rules,
+      search,
       (
-        search rules,
+        search,
         (
           stored_last (λ y. y.number) rest x slots there,
           beside_last slots rest x (stored_apart (λ y. y.number) rest x slots there)
@@ -48,3 +48,6 @@ returns g c =
     nothing_left c.pop.result c.loop-exchange.exchanged.items c.loop-exchange.exchanged.len c.pop.ensures.variant c.loop-exchange.exchanged.ok.0 c.in_default.not-Some in
     wide_ends c.args.slots.now.slots c.loop-exchange.index
     (subst (λ (xs : List Exchange). IsWide c.args.slots.now.slots xs c.loop-exchange.index) none c.loop-exchange.invariant.wide)
+
+pub drop-exchanged-requires-room-T-Destruct : goal.drop-exchanged-requires-room-T-Destruct
+drop-exchanged-requires-room-T-Destruct g c κs = search

@@ -1,5 +1,5 @@
 -- One move more is made.
-use Rattle.std.proofs.Common.{rules, ◌≡◌, List, [], ◌∷◌, ◌++◌, length, refl, subst}
+use Rattle.std.proofs.Common.{◌≡◌, List, [], ◌∷◌, ◌++◌, length, refl, subst}
 use Rattle.cluster_store.specs.declared.stored.Move.{Move}
 use Rattle.cluster_store.specs.Changes.{moved_to}
 use Rattle.cluster_store.proofs.Done.{IsHalf, half_begins, half_ends, half_there, half_next, nothing_left}
@@ -13,7 +13,7 @@ make_move-requires g c =
     let half : IsHalf (λ (m : Move). m.number) (λ m. moved_to m.to) c.args.moves.now (c.in-Some.rest.now ++ c.in-Some.last.now ∷ []) c.args.slots.now.slots c.loop-last.slots.slots =
     subst (λ (xs : List Move). IsHalf (λ (m : Move). m.number) (λ m. moved_to m.to) c.args.moves.now xs c.args.slots.now.slots c.loop-last.slots.slots)
     c.in-Some.ensures.cases.0 c.loop-last.invariant.half in (
-      search rules,
+      search,
       (
         c.loop-last.invariant.shown,
         half_there (λ m. m.number) (λ m. moved_to m.to) c.args.moves.now c.in-Some.rest.now c.in-Some.last.now

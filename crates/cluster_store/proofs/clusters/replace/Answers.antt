@@ -1,5 +1,5 @@
 -- The new cluster stands there, and what only the old one had is out.
-use Rattle.std.proofs.Common.{rules, ◌≡◌, ◌≤◌, ℕ, length, take, set, Some, refl, sym, ap, ◌∙◌, subst, arith}
+use Rattle.std.proofs.Common.{◌≡◌, ◌≤◌, ℕ, length, take, set, Some, refl, sym, ap, ◌∙◌, subst}
 use Rattle.std.proofs.lemmas.List.{take_all}
 use Rattle.cluster.specs.Clusters.{Cluster}
 use Rattle.cluster_store.specs.Stores.{Stored}
@@ -9,6 +9,9 @@ use Rattle.cluster_store.specs.Slots.{Writes}
 use Rattle.cluster_store.proofs.Results.{fresh_same, leaves_same}
 use Rattle.cluster_store.proofs.Slots.{set_here, set_other}
 use Rattle.cluster_store.proofs.Wide.{gone_has, replaces, keeps_left}
+use Rattle.cluster_store.proofs.Sizes.{cluster_in_exchange, cluster_in_stored}
+use Rattle.cluster_store.proofs.Bounds.{not_fewer, not_more}
+use Rattle.cluster_store.proofs.Missing.{none_there}
 use Rattle.cluster_store.proofs.clusters.replace.Goals as goal
 
 pub leave-requires : goal.leave-requires
@@ -17,14 +20,14 @@ leave-requires g c =
     let x = c.args.exchange in
     let s = c.in-Some.stored.now in
     let is : at slots x.number ≡ Some s = ap (at slots) (sym c.into_parts-number.ensures.number) ∙ sym c.in-Some.ensures.value in
-    let low : length c.replace-gone.result.parts ≤ c.part_count-count.result = omega (arith, c.part_count-count.ensures) in
+    let low : length c.replace-gone.result.parts ≤ c.part_count-count.result = not_fewer c.part_count-count.ensures in
     let all : take c.part_count-count.result c.replace-gone.result.parts ≡ s.cluster.parts =
     take_all c.part_count-count.result c.replace-gone.result.parts low ∙ ap (λ (y : Cluster). y.parts) c.replace-gone.ensures.old in
     let new : c.cluster.result.now.parts ≡ x.cluster.parts =
     ap (λ (y : Cluster). y.parts) (c.cluster.ensures ∙ ap (λ (t : Stored). t.cluster) c.replace-gone.ensures.new ∙ c.into_parts-number.ensures.cluster) in (
-      search rules,
+      search cluster_in_stored,
       (
-        omega (arith, c.part_count-count.ensures),
+        not_more c.part_count-count.ensures,
         λ k f.
             gone_has slots x.number s is x.cluster.parts c.args.index.now c.requires.wide k
             (fresh_same c.into_parts-number.result.0 x.number (take c.part_count-count.result c.replace-gone.result.parts) s.cluster.parts c.cluster.result.now.parts
@@ -56,7 +59,7 @@ returns-clause-here g c =
     let n = c.into_parts-number.result.0 in
     let number : n ≡ x.number = c.into_parts-number.ensures.number in
     let is : at slots x.number ≡ Some s = ap (at slots) (sym number) ∙ sym c.in-Some.ensures.value in
-    let low : length c.replace-gone.result.parts ≤ c.part_count-count.result = omega (arith, c.part_count-count.ensures) in
+    let low : length c.replace-gone.result.parts ≤ c.part_count-count.result = not_fewer c.part_count-count.ensures in
     let all : take c.part_count-count.result c.replace-gone.result.parts ≡ s.cluster.parts =
     take_all c.part_count-count.result c.replace-gone.result.parts low ∙ ap (λ (y : Cluster). y.parts) c.replace-gone.ensures.old in
     let cluster : c.replace-gone.new.self.cluster ≡ x.cluster = ap (λ (t : Stored). t.cluster) c.replace-gone.ensures.new ∙ c.into_parts-number.ensures.cluster in
@@ -75,3 +78,22 @@ returns-clause-others g c =
     let there : Leaves c.args.exchange.number ps qs c.args.index.now c.leave.new.index =
     leaves_same n c.args.exchange.number ps ps qs qs c.args.index.now c.leave.new.index c.into_parts-number.ensures.number refl refl c.leave.ensures in
     keeps_left c.args.exchange.number ps qs c.args.index.now c.leave.new.index there
+
+-- the types fit in memory
+pub into_parts-number-requires : goal.into_parts-number-requires
+into_parts-number-requires g c = (search, search cluster_in_exchange)
+
+pub replace-gone-requires : goal.replace-gone-requires
+replace-gone-requires g c = (search, search cluster_in_stored)
+
+pub part_count-count-requires : goal.part_count-count-requires
+part_count-count-requires g c = search cluster_in_stored
+
+pub cluster-requires : goal.cluster-requires
+cluster-requires g c = (search, search cluster_in_stored)
+
+pub unreachable-requires : goal.unreachable-requires
+unreachable-requires g c = none_there (ap (at c.args.slots.now.slots) (sym c.into_parts-number.ensures.number) ∙ sym c.in-None.ensures.value) c.requires.there
+
+pub drop-requires-room-T-Destruct : goal.drop-requires-room-T-Destruct
+drop-requires-room-T-Destruct g c κs = search cluster_in_stored

@@ -1,5 +1,5 @@
 -- One number more is out.
-use Rattle.std.proofs.Common.{rules, ◌≡◌, ℕ, List, [], ◌∷◌, ◌++◌, None, subst}
+use Rattle.std.proofs.Common.{◌≡◌, ℕ, List, [], ◌∷◌, ◌++◌, None, subst}
 use Rattle.cluster_store.proofs.Done.{IsHalf, half_begins, half_ends, half_there, half_next, stored_same, nothing_left}
 use Rattle.cluster_store.proofs.clusters.take_all.Goals as goal
 
@@ -11,7 +11,7 @@ take_out-requires g c =
     let half : IsHalf (λ (n : ℕ). n) (λ n o. None) c.args.numbers.items (c.pop.new.self.items ++ c.in-Some.number ∷ []) c.args.slots.now.slots c.loop-number.slots.slots =
     subst (λ (xs : List ℕ). IsHalf (λ (n : ℕ). n) (λ n o. None) c.args.numbers.items xs c.args.slots.now.slots c.loop-number.slots.slots)
     c.in-Some.ensures.items c.loop-number.invariant.half in (
-      search rules,
+      search,
       (
         c.loop-number.invariant.shown,
         half_there (λ n. n) (λ n o. None) c.args.numbers.items c.pop.new.self.items c.in-Some.number

@@ -1,5 +1,5 @@
 -- Each position is one more of those that are in; where there is no memory for one, those before it go out again.
-use Rattle.std.proofs.Common.{List, ◌≡◌, ◌<◌, ◌+◌, take, get_or, length, option_copied, arith, sym, ◌∙◌, subst}
+use Rattle.std.proofs.Common.{ℕ, List, ◌≡◌, ◌<◌, ◌+◌, take, get_or, length, option_copied, arith, sym, ◌∙◌, subst}
 use Rattle.std.proofs.lemmas.List.{take_all}
 use Rattle.std.proofs.lemmas.Option.{slice_get-get_or}
 use Rattle.graphs.specs.Certificates.{Part}
@@ -54,3 +54,12 @@ returns-clause-ok g c =
     let parts = c.args.«new».now.parts in
     let all : take c.loop-at.at parts ≡ parts = take_all c.loop-at.at parts (omega (arith, c.part_count-at-end.ensures, c.loop-at-test.false)) in
     subst (λ (ps : List Part). Enters c.args.number c.args.tag ps (parts_of (option_copied c.args.other)) c.args.index.now c.loop-at.index) all c.loop-at.invariant
+
+pub part_count-at-end-requires : goal.part_count-at-end-requires
+part_count-at-end-requires g c = search
+
+pub entry_of-entry-requires : goal.entry_of-entry-requires
+entry_of-entry-requires g c = (search, subst (λ (n : ℕ). c.loop-at.at < n) c.part_count-at-end.ensures c.loop-at-test.true)
+
+pub stays-requires : goal.stays-requires
+stays-requires g c = search

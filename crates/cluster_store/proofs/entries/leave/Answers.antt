@@ -37,3 +37,6 @@ loop-at-preserved g c =
           (leave_passed c.args.number c.loop-at.at c.args.count parts others part c.entry_of-entry.result here key c.args.index.now c.loop-at.index c.loop-at.invariant
           (sym c.stays.ensures ∙ w.if-not-stays.false))
     ]
+
+pub stays-requires : goal.stays-requires
+stays-requires g c = search

@@ -1,5 +1,5 @@
 -- Each position is one more of those that have the tag.
-use Rattle.std.proofs.Common.{List, ◌≡◌, ◌<◌, take, [], get_or, length, arith, subst}
+use Rattle.std.proofs.Common.{ℕ, List, ◌≡◌, ◌<◌, take, [], get_or, length, arith, subst}
 use Rattle.std.proofs.lemmas.List.{take_all}
 use Rattle.std.proofs.lemmas.Option.{slice_get-get_or}
 use Rattle.graphs.specs.Certificates.{Part}
@@ -39,3 +39,9 @@ returns g c =
     let parts = c.args.cluster.now.parts in
     let all : take c.loop-at.at parts ≡ parts = take_all c.loop-at.at parts (omega (arith, c.part_count-at-end.ensures, c.loop-at-test.false)) in
     subst (λ (ps : List Part). Enters c.args.number c.args.tag ps [] c.args.index.now c.loop-at.index) all c.loop-at.invariant
+
+pub part_count-at-end-requires : goal.part_count-at-end-requires
+part_count-at-end-requires g c = search
+
+pub entry_of-requires : goal.entry_of-requires
+entry_of-requires g c = (search, subst (λ (n : ℕ). c.loop-at.at < n) c.part_count-at-end.ensures c.loop-at-test.true)

@@ -1,5 +1,6 @@
 -- One slot that was free has the cluster; where there is no memory for it, every slot has what it had.
 use Rattle.std.proofs.Common.{◌≡◌, ◌*◌, [], ◌∷◌, Some, is_some, refl, sym, ap, ◌∙◌, subst}
+use Rattle.std.proofs.lemmas.Result.{IfOk-from_err}
 use Rattle.cluster.specs.Clusters.{IsCluster}
 use Rattle.cluster_store.specs.Stores.{Store}
 use Rattle.cluster_store.specs.Changes.{lowest_in, EndsAt}
@@ -9,6 +10,7 @@ use Rattle.cluster_store.proofs.Kept.{kept_store, shelved_at, shelved_written}
 use Rattle.cluster_store.proofs.Results.{on_err}
 use Rattle.cluster_store.proofs.Changed.{kept_same, store_same}
 use Rattle.cluster_store.proofs.Single.{added_cluster, ends_there, kept_written, lowest_alike}
+use Rattle.cluster_store.proofs.Sizes.{cluster_fits, cluster_in_stored, stored_fits}
 use Rattle.cluster_store.proofs.store.ClusterStore.add.Goals as goal
 
 pub invariant_of-self : goal.invariant_of-self
@@ -59,3 +61,18 @@ returns-clause-least g c =
 
 pub returns-clause-store : goal.returns-clause-store
 returns-clause-store g c = kept_store g.row.W c.add.new.slots.slots c.add.new.index c.lowest_of-least.result (invariant_of-self-2 g c)
+
+pub cluster-requires : goal.cluster-requires
+cluster-requires g c = (search, search cluster_in_stored)
+
+pub lowest_of-least-requires : goal.lowest_of-least-requires
+lowest_of-least-requires g c = cluster_fits g.row.W c.self.invariant.narrow
+
+pub add-requires : goal.add-requires
+add-requires g c = (stored_fits g.row.W c.self.invariant.narrow, c.self.invariant.shown)
+
+pub returns-in_err-number-clause-added : goal.returns-in_err-number-clause-added
+returns-in_err-number-clause-added g c = IfOk-from_err c.from_residual.result _ c.from_residual.ensures.0
+
+pub returns-in_err-number-clause-least : goal.returns-in_err-number-clause-least
+returns-in_err-number-clause-least g c = IfOk-from_err c.from_residual.result _ c.from_residual.ensures.0

@@ -1,23 +1,22 @@
 -- The part of the lower key comes first.
-use Rattle.std.proofs.Common.{◌≡◌, ◌↔◌, ◌≤◌, true, true≢false, inl, inr, sym, ◌∙◌, rules, subst, Contains}
+use Rattle.std.proofs.Common.{◌≡◌, ◌↔◌, true, true≢false, inl, inr, sym, ◌∙◌, subst, Contains}
 use Rattle.graphs.specs.Merges.{Precedes}
 use Rattle.cluster_store.specs.Stores.{Store}
 use Rattle.cluster_store.proofs.Before.{place_low, told_before, either_way}
+use Rattle.cluster_store.proofs.Sizes.{stored_fits}
 use Rattle.cluster_store.proofs.store.ClusterStore.comes_before.Goals as goal
 
 pub entry_at-requires : goal.entry_at-requires
 entry_at-requires g c =
-    let narrow : g.row.W ≤ 64 = c.self.invariant.narrow in
     let low = place_low c.self.inside.slots.slots c.self.inside.index c.self.invariant.shown c.args.a c.args.b c.args.a
     (subst (λ (s : Store). Contains s.order c.args.a) (sym c.self.view_is) c.requires.a) in
-    (search rules, low)
+    (stored_fits g.row.W c.self.invariant.narrow, low)
 
 pub entry_at-requires-2 : goal.entry_at-requires-2
 entry_at-requires-2 g c =
-    let narrow : g.row.W ≤ 64 = c.self.invariant.narrow in
     let low = place_low c.self.inside.slots.slots c.self.inside.index c.self.invariant.shown c.args.a c.args.b c.args.b
     (subst (λ (s : Store). Contains s.order c.args.b) (sym c.self.view_is) c.requires.b) in
-    (search rules, low)
+    (stored_fits g.row.W c.self.invariant.narrow, low)
 
 pub returns-clause-before : goal.returns-clause-before
 returns-clause-before g c =

@@ -1,5 +1,6 @@
 -- One slot has the other cluster; where there is no memory for its entries, every slot has what it had.
-use Rattle.std.proofs.Common.{rules, ◌≡◌, ◌≤◌, [], ◌∷◌, is_some, IsSome, refl, sym, ap, ◌∙◌, subst}
+use Rattle.std.proofs.Common.{◌≡◌, [], ◌∷◌, is_some, IsSome, refl, sym, ap, ◌∙◌, subst}
+use Rattle.std.proofs.lemmas.Result.{IfOk-from_err}
 use Rattle.std.specs.FinMap as finmap
 use Rattle.cluster_store.specs.Stores.{Store, Exchange}
 use Rattle.cluster_store.specs.Changes.{lowest_in, with_cluster, EndsAt}
@@ -9,14 +10,14 @@ use Rattle.cluster_store.proofs.Kept.{kept_store, shelved_there}
 use Rattle.cluster_store.proofs.Results.{on_err}
 use Rattle.cluster_store.proofs.Changed.{kept_same, store_same}
 use Rattle.cluster_store.proofs.Single.{ends_there, kept_written, placed_cluster, placed_some, shelved_placed}
+use Rattle.cluster_store.proofs.Sizes.{cluster_fits, exchange_fits, stored_fits}
 use Rattle.cluster_store.proofs.store.ClusterStore.exchange.Goals as goal
 
 pub exchange-requires : goal.exchange-requires
 exchange-requires g c =
-    let narrow : g.row.W ≤ 64 = c.self.invariant.narrow in
     let there : IsSome (at c.self.inside.slots.slots c.args.number) =
     shelved_there c.self.inside.slots.slots c.args.number c.args.self.now.clusters (ap (λ (s : Store). s.clusters) c.self.view_is) c.requires in
-    (search rules, (search rules, (c.self.invariant.shown, subst (λ (x : Exchange). IsSome (at c.self.inside.slots.slots x.number)) (sym c.new-exchanged.ensures) there)))
+    (stored_fits g.row.W c.self.invariant.narrow, (exchange_fits g.row.W c.self.invariant.narrow, (c.self.invariant.shown, subst (λ (x : Exchange). IsSome (at c.self.inside.slots.slots x.number)) (sym c.new-exchanged.ensures) there)))
 
 pub invariant_of-self : goal.invariant_of-self
 invariant_of-self g c =
@@ -60,3 +61,15 @@ returns-clause-least g c =
 
 pub returns-clause-store : goal.returns-clause-store
 returns-clause-store g c = kept_store g.row.W c.exchange.new.slots.slots c.exchange.new.index c.lowest_of-least.result (invariant_of-self-2 g c)
+
+pub lowest_of-least-requires : goal.lowest_of-least-requires
+lowest_of-least-requires g c = cluster_fits g.row.W c.self.invariant.narrow
+
+pub new-exchanged-requires : goal.new-exchanged-requires
+new-exchanged-requires g c = (cluster_fits g.row.W c.self.invariant.narrow, exchange_fits g.row.W c.self.invariant.narrow)
+
+pub returns-in_err-exchange-clause-exchanged : goal.returns-in_err-exchange-clause-exchanged
+returns-in_err-exchange-clause-exchanged g c = IfOk-from_err c.from_residual.result _ c.from_residual.ensures.0
+
+pub returns-in_err-exchange-clause-least : goal.returns-in_err-exchange-clause-least
+returns-in_err-exchange-clause-least g c = IfOk-from_err c.from_residual.result _ c.from_residual.ensures.0

@@ -1,11 +1,12 @@
 -- What is shelved under the number is what its slot has.
-use Rattle.std.proofs.Common.{rules, ◌*◌, ◌≤◌, ap}
+use Rattle.std.proofs.Common.{◌*◌, ap}
 use Rattle.cluster_store.specs.Stores.{Store}
 use Rattle.cluster_store.proofs.Found.{read_by, whole_by}
+use Rattle.cluster_store.proofs.Sizes.{cluster_fits, stored_fits}
 use Rattle.cluster_store.proofs.store.ClusterStore.get.Goals as goal
 
 pub cluster_of-requires : goal.cluster_of-requires
-cluster_of-requires g c = let narrow : g.row.W ≤ 64 = c.self.invariant.narrow in search rules
+cluster_of-requires g c = (stored_fits g.row.W c.self.invariant.narrow, cluster_fits g.row.W c.self.invariant.narrow)
 
 pub returns-clause-cluster : goal.returns-clause-cluster
 returns-clause-cluster g c =

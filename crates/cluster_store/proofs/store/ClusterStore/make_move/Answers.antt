@@ -1,13 +1,13 @@
 -- One cluster moves, and the others are kept as they were.
-use Rattle.std.proofs.Common.{rules, ◌≤◌, sym, ap}
+use Rattle.std.proofs.Common.{sym, ap}
 use Rattle.cluster_store.specs.Stores.{Store}
 use Rattle.cluster_store.proofs.Kept.{kept_moved, shelved_moved, shelved_there}
+use Rattle.cluster_store.proofs.Sizes.{stored_fits}
 use Rattle.cluster_store.proofs.store.ClusterStore.make_move.Goals as goal
 
 pub make_move-requires : goal.make_move-requires
 make_move-requires g c =
-    let narrow : g.row.W ≤ 64 = c.self.invariant.narrow in
-    (search rules, (c.self.invariant.shown, shelved_there c.self.inside.slots.slots c.args.number c.args.self.now.clusters (ap (λ (s : Store). s.clusters) c.self.view_is) c.requires))
+    (stored_fits g.row.W c.self.invariant.narrow, (c.self.invariant.shown, shelved_there c.self.inside.slots.slots c.args.number c.args.self.now.clusters (ap (λ (s : Store). s.clusters) c.self.view_is) c.requires))
 
 pub invariant_of-self : goal.invariant_of-self
 invariant_of-self g c =

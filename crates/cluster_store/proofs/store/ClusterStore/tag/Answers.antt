@@ -1,11 +1,12 @@
 -- What is shelved under the number is what its slot has.
-use Rattle.std.proofs.Common.{rules, ◌≤◌, ap}
+use Rattle.std.proofs.Common.{ap}
 use Rattle.cluster_store.specs.Stores.{Store}
 use Rattle.cluster_store.proofs.Found.{read_by}
+use Rattle.cluster_store.proofs.Sizes.{stored_fits}
 use Rattle.cluster_store.proofs.store.ClusterStore.tag.Goals as goal
 
 pub tag_of-requires : goal.tag_of-requires
-tag_of-requires g c = let narrow : g.row.W ≤ 64 = c.self.invariant.narrow in search rules
+tag_of-requires g c = stored_fits g.row.W c.self.invariant.narrow
 
 pub returns : goal.returns
 returns g c =
