@@ -10,9 +10,11 @@ mod Paid
 mod Dropped
 mod Limited
 mod Staged
+mod Unchanged
 mod Reading
 mod Telling
 mod Drawn
 mod Settled
 mod Calls
+mod Rooms
 mod Starts

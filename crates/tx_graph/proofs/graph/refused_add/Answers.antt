@@ -1,4 +1,4 @@
-use Rattle.std.proofs.Common.{ℕ, arith, ◌≤◌, ◌<◌, false, true, sym, ◌∙◌, subst, inl, inr, refl, true≢false, None, Some}
+use Rattle.std.proofs.Common.{ℕ, arith, ◌≤◌, ◌<◌, sym, ◌∙◌, subst, inl, inr, refl, true≢false, None, Some}
 use Rattle.std.proofs.lemmas.Int.{to_z-of_z}
 use Rattle.std.specs.Int.{w64}
 use Rattle.fee_rate.specs.Limits.{IsFee}
@@ -57,3 +57,26 @@ returns g c =
   where
     no_room : (total live : ℕ) → live < total → total ≤ live → ⊥
     no_room total live left full = omega (arith, full, left)
+
+pub is_live-requires : goal.is_live-requires
+is_live-requires g c = assumption
+
+pub live-requires : goal.live-requires
+live-requires g c = assumption
+
+pub returns-then-not-is_fee : goal.returns-then-not-is_fee
+returns-then-not-is_fee g c =
+    record {
+      row = λ live counts.
+          inl (
+            λ fine. true≢false (sym (c.is_fee.ensures.1 (subst IsFee (sym (to_z-of_z w64 c.args.fee c.ranges.fee)) fine)) ∙ c.if-not-is_fee.true),
+            refl,
+          );
+    }
+
+pub returns-then-not-is_size : goal.returns-then-not-is_size
+returns-then-not-is_size g c =
+    let pays = subst IsFee (to_z-of_z w64 c.args.fee c.ranges.fee) (c.is_fee.ensures.0 c.if-not-is_fee.false) in
+    record {
+      row = λ live counts. inr (λ out. out pays, inl (λ fine. true≢false (sym (c.is_size.ensures.1 fine) ∙ c.if-not-is_size.true), refl));
+    }

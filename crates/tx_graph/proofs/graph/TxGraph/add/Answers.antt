@@ -1,4 +1,4 @@
-use Rattle.std.proofs.Common.{◌≤◌, ◌<◌, ◌+◌, true, None, Some, sym, ap, ◌∙◌, subst, length, arith, rules}
+use Rattle.std.proofs.Common.{◌≤◌, ◌<◌, ◌+◌, true, None, Some, sym, ap, ◌∙◌, subst, length, arith, refl, ◌^◌, ◌-◌}
 use Rattle.std.proofs.lemmas.Int.{to_z-of_z}
 use Rattle.std.specs.Int.{w64}
 use Rattle.fee_rate.specs.Limits.{IsRate}
@@ -8,6 +8,11 @@ use Rattle.graph_model.specs.Replies.{Done, Refused}
 use Rattle.tx_graph.proofs.Calls.{kept_of, same_levels, from_view, both_views, sound_after, sound_still, when_ok, when_err, AddRowIs, add_met, may_add, add_step, IsAddedTo}
 use Rattle.tx_graph.proofs.Counting.{live_listed, counted}
 use Rattle.tx_graph.proofs.Standing.{steps_refused, steps_without_memory}
+use Rattle.tx_graph.proofs.Rooms.{levels_fit}
+use Rattle.tx_graph.specs.Kept.{Kept}
+use Rattle.levels.specs.Levels.{Levels}
+use Rattle.levels.specs.Stays.{AllStay}
+use Rattle.tx_graph.proofs.Unchanged.{all_stay, plus_none}
 use Rattle.tx_graph.proofs.graph.TxGraph.add.Goals as goal
 
 pub returns-in-Some-clause-step : goal.returns-in-Some-clause-step
@@ -28,13 +33,13 @@ add-requires g c =
     (row (length names.0) (counted c.self.inside.levels names.0 names.1)) in
     let room : length names.0 < c.self.inside.limits.total = may.room in
     let total : c.self.inside.limits.total ≤ 1048576 = c.self.invariant.in_range.total_high in (
-      search rules,
+      levels_fit g.row.W assumption,
       (
         may.absent,
         (
           subst (λ fee. IsRate (record { fee = fee; size = c.args.size })) (sym fee)
               (record { fee = may.pays; some = may.measures.0; size = may.measures.1 }),
-          ((names.0, names.1, omega arith), search rules),
+          ((names.0, names.1, omega arith), subst (λ (k : Kept). k.levels.issued < 2 ^ 64 - 1) (sym c.self.view_is) c.requires),
         ),
       ),
     )
@@ -76,3 +81,37 @@ returns-clause-step g c =
     (subst (λ fee. AddRowIs kept c.args.id fee c.args.size None) (to_z-of_z w64 c.args.fee c.ranges.fee) c.in_default.ensures.row)
     (subst (λ fee. IsAddedTo c.args.id fee c.args.size c.self.inside.levels c.add.new.self) (to_z-of_z w64 c.args.fee c.ranges.fee)
     (when_ok c.add.result done c.add.ensures.added)))
+
+pub refused_add-requires : goal.refused_add-requires
+refused_add-requires g c = levels_fit g.row.W assumption
+
+pub returns-in-Some-clause-stays : goal.returns-in-Some-clause-stays
+returns-in-Some-clause-stays g c = all_stay c.args.self.now.levels
+
+pub returns-in-Some-clause-additions : goal.returns-in-Some-clause-additions
+returns-in-Some-clause-additions g c = plus_none c.args.self.now.levels.issued
+
+pub returns-in-Some-clause-steps : goal.returns-in-Some-clause-steps
+returns-in-Some-clause-steps g c = refl
+
+pub returns-then-is_err-clause-stays : goal.returns-then-is_err-clause-stays
+returns-then-is_err-clause-stays g c = subst (λ (k : Kept). AllStay k.levels c.add.new.self) c.self.view_is c.add.ensures.stays
+
+pub returns-then-is_err-clause-additions : goal.returns-then-is_err-clause-additions
+returns-then-is_err-clause-additions g c =
+    ap (λ (l : Levels). l.issued) (when_err c.add.result (sym c.is_err.ensures.value ∙ c.if-is_err.true) c.add.ensures.err)
+    ∙ ap (λ (k : Kept). k.levels.issued) c.self.view_is ∙ plus_none c.args.self.now.levels.issued
+
+pub returns-then-is_err-clause-steps : goal.returns-then-is_err-clause-steps
+returns-then-is_err-clause-steps g c = c.add.ensures.steps
+
+pub returns-clause-stays : goal.returns-clause-stays
+returns-clause-stays g c = subst (λ (k : Kept). AllStay k.levels c.add.new.self) c.self.view_is c.add.ensures.stays
+
+pub returns-clause-additions : goal.returns-clause-additions
+returns-clause-additions g c =
+    let done = sym c.is_err.ensures.value ∙ c.if-is_err.false in
+    ap (λ (l : Levels). l.issued) (when_ok c.add.result done c.add.ensures.added).2 ∙ ap (λ (k : Kept). k.levels.issued + 1) c.self.view_is
+
+pub returns-clause-steps : goal.returns-clause-steps
+returns-clause-steps g c = c.add.ensures.steps

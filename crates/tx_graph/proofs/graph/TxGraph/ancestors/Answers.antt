@@ -1,3 +1,4 @@
+use Rattle.std.proofs.Common.{refl}
 use Rattle.graph_model.specs.Commands.{Ancestors}
 use Rattle.graph_model.specs.declared.names.Refusal.TheVariants.{Unknown}
 use Rattle.graph_model.specs.Replies.{Refused, Ids}
@@ -6,6 +7,7 @@ use Rattle.tx_graph.proofs.Calls.{kept_of, both_views, ancestors_list}
 use Rattle.tx_graph.proofs.Reading.{steps_ascended}
 use Rattle.tx_graph.proofs.Rows.{unknown_here}
 use Rattle.tx_graph.proofs.Standing.{steps_refused}
+use Rattle.tx_graph.proofs.Rooms.{levels_fit, cluster_fits}
 use Rattle.tx_graph.proofs.graph.TxGraph.ancestors.Goals as goal
 
 pub returns-in_default-clause-step : goal.returns-in_default-clause-step
@@ -22,3 +24,21 @@ returns-clause-step g c =
     both_views kept c.args.self.now (Ancestors c.args.id c.args.level) (Ids ids) c.self.view_is
     (steps_ascended kept c.args.level c.args.id ids c.self.invariant.picked found.0
     (ancestors_list (level_at kept.levels c.args.level).graph c.args.id c.in-Some.cluster.now found.1 ids c.list_ancestors.ensures.lists))
+
+pub find-requires : goal.find-requires
+find-requires g c = (levels_fit g.row.W assumption, cluster_fits g.row.W assumption)
+
+pub list_ancestors-requires : goal.list_ancestors-requires
+list_ancestors-requires g c = (cluster_fits g.row.W assumption, (c.in-Some.ensures.1.here, c.requires))
+
+pub returns-in_default-clause-room : goal.returns-in_default-clause-room
+returns-in_default-clause-room g c = refl
+
+pub returns-in_default-clause-err : goal.returns-in_default-clause-err
+returns-in_default-clause-err g c = refl
+
+pub returns-clause-room : goal.returns-clause-room
+returns-clause-room g c = c.list_ancestors.ensures.room
+
+pub returns-clause-err : goal.returns-clause-err
+returns-clause-err g c = tt

@@ -6,6 +6,7 @@ use Rattle.tx_graph.proofs.Calls.{kept_of, both_views}
 use Rattle.tx_graph.proofs.Rows.{no_first_row, no_second_row}
 use Rattle.tx_graph.proofs.Standing.{steps_refused}
 use Rattle.tx_graph.proofs.Telling.{steps_placed}
+use Rattle.tx_graph.proofs.Rooms.{levels_fit}
 use Rattle.tx_graph.proofs.graph.TxGraph.before.Goals as goal
 
 pub returns-then-not-has : goal.returns-then-not-has
@@ -34,3 +35,12 @@ returns g c =
           (steps_placed kept c.args.a c.args.b c.place.result c.self.invariant.picked (sym c.has.ensures ∙ c.if-not-has.false)
           (sym c.has-2.ensures ∙ c.if-not-has-2.false) c.place.ensures);
     }
+
+pub has-requires : goal.has-requires
+has-requires g c = levels_fit g.row.W assumption
+
+pub has-requires-2 : goal.has-requires-2
+has-requires-2 g c = levels_fit g.row.W assumption
+
+pub place-requires : goal.place-requires
+place-requires g c = (levels_fit g.row.W assumption, (sym c.has.ensures ∙ c.if-not-has.false, sym c.has-2.ensures ∙ c.if-not-has-2.false))

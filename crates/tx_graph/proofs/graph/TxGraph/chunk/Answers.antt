@@ -8,6 +8,7 @@ use Rattle.tx_graph.proofs.Calls.{kept_of, both_views}
 use Rattle.tx_graph.proofs.Rows.{unknown_here}
 use Rattle.tx_graph.proofs.Standing.{steps_refused}
 use Rattle.tx_graph.proofs.Telling.{steps_parted}
+use Rattle.tx_graph.proofs.Rooms.{levels_fit}
 use Rattle.tx_graph.proofs.graph.TxGraph.chunk.Goals as goal
 
 pub returns-in-Some : goal.returns-in-Some
@@ -26,3 +27,6 @@ returns-in-None g c =
       step = both_views kept c.args.self.now (Chunk c.args.id) (Refused (Unknown c.args.id)) c.self.view_is
           (steps_refused kept (Chunk c.args.id) (Unknown c.args.id) (unknown_here kept Main c.args.id c.in-None.ensures));
     }
+
+pub chunk-requires : goal.chunk-requires
+chunk-requires g c = levels_fit g.row.W assumption

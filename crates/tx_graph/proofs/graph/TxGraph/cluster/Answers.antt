@@ -1,3 +1,4 @@
+use Rattle.std.proofs.Common.{refl}
 use Rattle.graph_model.specs.Commands.{Cluster}
 use Rattle.graph_model.specs.declared.names.Refusal.TheVariants.{Unknown}
 use Rattle.graph_model.specs.Replies.{Refused, Ids}
@@ -6,6 +7,7 @@ use Rattle.tx_graph.proofs.Calls.{kept_of, both_views, cluster_lists}
 use Rattle.tx_graph.proofs.Reading.{steps_clustered}
 use Rattle.tx_graph.proofs.Rows.{unknown_here}
 use Rattle.tx_graph.proofs.Standing.{steps_refused}
+use Rattle.tx_graph.proofs.Rooms.{levels_fit, cluster_fits}
 use Rattle.tx_graph.proofs.graph.TxGraph.cluster.Goals as goal
 
 pub returns-in_default-clause-step : goal.returns-in_default-clause-step
@@ -22,3 +24,21 @@ returns-clause-step g c =
     both_views kept c.args.self.now (Cluster c.args.id c.args.level) (Ids ids) c.self.view_is
     (steps_clustered kept c.args.level c.args.id ids c.self.invariant.picked found.0
     (cluster_lists (level_at kept.levels c.args.level).graph c.args.id c.in-Some.cluster.now found.1 ids c.list_names.ensures.lists))
+
+pub find-requires : goal.find-requires
+find-requires g c = (levels_fit g.row.W assumption, cluster_fits g.row.W assumption)
+
+pub list_names-requires : goal.list_names-requires
+list_names-requires g c = (cluster_fits g.row.W assumption, c.requires)
+
+pub returns-in_default-clause-room : goal.returns-in_default-clause-room
+returns-in_default-clause-room g c = refl
+
+pub returns-in_default-clause-err : goal.returns-in_default-clause-err
+returns-in_default-clause-err g c = refl
+
+pub returns-clause-room : goal.returns-clause-room
+returns-clause-room g c = c.list_names.ensures.room
+
+pub returns-clause-err : goal.returns-clause-err
+returns-clause-err g c = tt

@@ -1,10 +1,13 @@
-use Rattle.std.proofs.Common.{true, sym, ◌∙◌}
+use Rattle.std.proofs.Common.{true, sym, ◌∙◌, ap, refl}
 use Rattle.graph_model.specs.Commands.{Commit}
 use Rattle.graph_model.specs.declared.names.Refusal.TheVariants.{NoStaging}
 use Rattle.graph_model.specs.Replies.{Done, Refused}
 use Rattle.tx_graph.proofs.Calls.{kept_of, from_view, both_views, sound_after, commit_step, picks_committed}
 use Rattle.tx_graph.proofs.Rows.{unstaged_row}
 use Rattle.tx_graph.proofs.Standing.{steps_refused}
+use Rattle.tx_graph.proofs.Rooms.{levels_fit}
+use Rattle.tx_graph.specs.Kept.{Kept}
+use Rattle.levels.specs.Levels.{Levels}
 use Rattle.tx_graph.proofs.graph.TxGraph.commit.Goals as goal
 
 pub returns-then-not-is_staged-clause-step : goal.returns-then-not-is_staged-clause-step
@@ -27,3 +30,15 @@ returns-clause-step g c =
     c.args.self.now (kept_of c.self.inside.limits true c.commit.new.self) Commit Done c.self.view_is
     (commit_step c.self.inside.limits c.self.inside.begun c.self.inside.levels c.commit.new.self c.self.invariant.picked
     (sym c.is_staged.ensures ∙ c.if-not-is_staged.false) c.commit.ensures)
+
+pub is_staged-requires : goal.is_staged-requires
+is_staged-requires g c = levels_fit g.row.W assumption
+
+pub returns-then-not-is_staged-clause-additions : goal.returns-then-not-is_staged-clause-additions
+returns-then-not-is_staged-clause-additions g c = refl
+
+pub returns-clause-additions : goal.returns-clause-additions
+returns-clause-additions g c = ap (λ (l : Levels). l.issued) c.commit.ensures ∙ ap (λ (k : Kept). k.levels.issued) c.self.view_is
+
+pub commit-requires : goal.commit-requires
+commit-requires g c = (levels_fit g.row.W assumption, sym c.is_staged.ensures ∙ c.if-not-is_staged.false)

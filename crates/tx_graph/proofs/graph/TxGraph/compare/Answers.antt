@@ -6,6 +6,7 @@ use Rattle.tx_graph.proofs.Calls.{kept_of, both_views}
 use Rattle.tx_graph.proofs.Rows.{unstaged_row}
 use Rattle.tx_graph.proofs.Settled.{steps_compared}
 use Rattle.tx_graph.proofs.Standing.{steps_refused}
+use Rattle.tx_graph.proofs.Rooms.{levels_fit}
 use Rattle.tx_graph.proofs.graph.TxGraph.compare.Goals as goal
 
 pub returns-then-not-is_staged : goal.returns-then-not-is_staged
@@ -24,3 +25,9 @@ returns g c =
           (steps_compared kept c.compare-found.result c.self.invariant.picked c.compare-found.ensures.rates c.compare-found.ensures.verdict
           (sym c.is_staged.ensures ∙ c.if-not-is_staged.false));
     }
+
+pub is_staged-requires : goal.is_staged-requires
+is_staged-requires g c = levels_fit g.row.W assumption
+
+pub compare-found-requires : goal.compare-found-requires
+compare-found-requires g c = (levels_fit g.row.W assumption, sym c.is_staged.ensures ∙ c.if-not-is_staged.false)

@@ -1,8 +1,15 @@
-use Rattle.std.proofs.Common.{true, None, Some, sym, ◌∙◌, subst}
+use Rattle.std.proofs.Common.{true, sym, ◌∙◌, subst, ◌≡◌, ap}
 use Rattle.graph_model.specs.Commands.{Dep}
 use Rattle.graph_model.specs.Replies.{Done, Refused, change_reply}
 use Rattle.tx_graph.specs.Kept.{MakesStep}
 use Rattle.tx_graph.proofs.Calls.{kept_of, same_levels, from_view, sound_after, error_is, dep_refused, dep_step, GrowsForPair}
+use Rattle.tx_graph.proofs.Rooms.{levels_fit}
+use Rattle.tx_graph.specs.Kept.{Kept}
+use Rattle.levels.specs.Stays.{AllStay}
+use Rattle.tx_graph.proofs.Unchanged.{issued_topped}
+use Rattle.graphs.specs.Closures.{is_ancestor}
+use Rattle.graphs.specs.declared.names.Level.TheVariants.{Top}
+use Rattle.levels.specs.Levels.{Levels, level_at}
 use Rattle.tx_graph.proofs.graph.TxGraph.dep.Goals as goal
 
 pub returns-in_err-dep-clause-step : goal.returns-in_err-dep-clause-step
@@ -35,3 +42,33 @@ returns-clause-step g c =
 pub returns-clause-steps : goal.returns-clause-steps
 returns-clause-steps g c =
     subst (GrowsForPair c.args.parent c.args.child c.args.steps.now c.dep.new.steps) c.self.view_is c.dep.ensures.steps
+
+pub returns-in_err-dep-clause-additions : goal.returns-in_err-dep-clause-additions
+returns-in_err-dep-clause-additions g c = ap (λ (l : Levels). l.issued) c.in_err-dep.ensures.err ∙ ap (λ (k : Kept). k.levels.issued) c.self.view_is
+
+pub dep-requires : goal.dep-requires
+dep-requires g c = (levels_fit g.row.W assumption, c.self.invariant.in_range.count_high)
+
+pub returns-in_err-dep-clause-stays : goal.returns-in_err-dep-clause-stays
+returns-in_err-dep-clause-stays g c = subst (λ (k : Kept). AllStay k.levels c.dep.new.self) c.self.view_is c.dep.ensures.stays
+
+pub returns-in_err-dep-clause-nothing : goal.returns-in_err-dep-clause-nothing
+returns-in_err-dep-clause-nothing g c =
+    subst (λ (k : Kept). is_ancestor (level_at k.levels Top).graph c.args.parent c.args.child ≡ true → c.dep.new.steps ≡ c.args.steps.now) c.self.view_is
+    (λ there. (c.dep.ensures.still there).1)
+
+pub returns-clause-stays : goal.returns-clause-stays
+returns-clause-stays g c = subst (λ (k : Kept). AllStay k.levels c.dep.new.self) c.self.view_is c.dep.ensures.stays
+
+pub returns-clause-additions : goal.returns-clause-additions
+returns-clause-additions g c =
+    let change = c.in_ok-dep.ensures.linked in
+    issued_topped c.self.inside.levels c.dep.new.self change.0 change.2 ∙ ap (λ (k : Kept). k.levels.issued) c.self.view_is
+
+pub returns-clause-refused : goal.returns-clause-refused
+returns-clause-refused g c = tt
+
+pub returns-clause-nothing : goal.returns-clause-nothing
+returns-clause-nothing g c =
+    subst (λ (k : Kept). is_ancestor (level_at k.levels Top).graph c.args.parent c.args.child ≡ true → c.dep.new.steps ≡ c.args.steps.now) c.self.view_is
+    (λ there. (c.dep.ensures.still there).1)

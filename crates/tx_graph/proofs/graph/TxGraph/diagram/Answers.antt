@@ -7,6 +7,7 @@ use Rattle.levels.specs.Levels.{level_at}
 use Rattle.levels.specs.Orders.{sums_of}
 use Rattle.tx_graph.proofs.Calls.{kept_of, both_views}
 use Rattle.tx_graph.proofs.Drawn.{steps_drawn}
+use Rattle.tx_graph.proofs.Rooms.{levels_fit}
 use Rattle.tx_graph.proofs.graph.TxGraph.diagram.Goals as goal
 
 pub corners-requires-clause-level : goal.corners-requires-clause-level
@@ -23,3 +24,6 @@ returns-clause-step g c =
       both_views kept c.args.self.now (Diagram c.args.level) (Points (corners_of segments.0)) c.self.view_is
           (steps_drawn kept c.args.level segments.0 c.self.invariant.picked c.rates.ensures.names segments.1),
     )
+
+pub rates-requires : goal.rates-requires
+rates-requires g c = levels_fit g.row.W assumption

@@ -1,4 +1,4 @@
-use Rattle.std.proofs.Common.{◌≡◌, true, ℤ, sym, ap, ◌∙◌, subst, true≢false, rules}
+use Rattle.std.proofs.Common.{true, sym, ap, ◌∙◌, subst, true≢false, refl}
 use Rattle.std.proofs.lemmas.Int.{to_z-of_z}
 use Rattle.std.specs.Int.{w64}
 use Rattle.fee_rate.specs.Limits.{IsFee}
@@ -11,6 +11,8 @@ use Rattle.levels.specs.Stays.{AllStay}
 use Rattle.tx_graph.proofs.Calls.{kept_of, same_levels, from_view, both_views, sound_after, sound_still, when_ok, when_err, rates_agree, fee_step, GrowsForOne, FreeForFee}
 use Rattle.tx_graph.proofs.Rows.{fee_out_row, fee_unknown_row, fee_row}
 use Rattle.tx_graph.proofs.Standing.{steps_refused, steps_without_memory}
+use Rattle.tx_graph.proofs.Rooms.{levels_fit}
+use Rattle.tx_graph.proofs.Unchanged.{all_stay, grows_by_none, within_two, not_larger, GrowsForBoth}
 use Rattle.tx_graph.proofs.graph.TxGraph.fee.Goals as goal
 
 pub returns-then-not-is_fee-clause-step : goal.returns-then-not-is_fee-clause-step
@@ -30,7 +32,7 @@ returns-then-not-is_live-clause-step g c =
 pub set_fee-requires : goal.set_fee-requires
 set_fee-requires g c =
     let kept = kept_of c.self.inside.limits c.self.inside.begun c.self.inside.levels in (
-      search rules,
+      levels_fit g.row.W assumption,
       (
         c.is_live.ensures.0 c.if-not-is_live.false,
         (c.is_fee.ensures.0 c.if-not-is_fee.false, rates_agree kept c.self.invariant c.args.id),
@@ -109,3 +111,67 @@ returns-then-is_err-clause-stays g c = subst (λ (k : Kept). AllStay k.levels c.
 
 pub returns-clause-stays : goal.returns-clause-stays
 returns-clause-stays g c = subst (λ (k : Kept). AllStay k.levels c.set_fee.new.self) c.self.view_is c.set_fee.ensures.stays
+
+pub is_live-requires : goal.is_live-requires
+is_live-requires g c = levels_fit g.row.W assumption
+
+pub returns-then-not-is_fee-clause-stays : goal.returns-then-not-is_fee-clause-stays
+returns-then-not-is_fee-clause-stays g c = all_stay c.args.self.now.levels
+
+pub returns-then-not-is_fee-clause-additions : goal.returns-then-not-is_fee-clause-additions
+returns-then-not-is_fee-clause-additions g c = refl
+
+pub returns-then-not-is_fee-clause-nothing : goal.returns-then-not-is_fee-clause-nothing
+returns-then-not-is_fee-clause-nothing g c same = refl
+
+pub returns-then-not-is_fee-clause-refused : goal.returns-then-not-is_fee-clause-refused
+returns-then-not-is_fee-clause-refused g c lacks = refl
+
+pub returns-then-not-is_fee-clause-grew : goal.returns-then-not-is_fee-clause-grew
+returns-then-not-is_fee-clause-grew g c = not_larger c.args.steps.now
+
+pub returns-then-not-is_fee-clause-alone : goal.returns-then-not-is_fee-clause-alone
+returns-then-not-is_fee-clause-alone g c alone ids lists = grows_by_none _ c.args.steps.now
+
+pub returns-then-not-is_fee-clause-steps : goal.returns-then-not-is_fee-clause-steps
+returns-then-not-is_fee-clause-steps g c mains tops one two = within_two c.args.steps.now _ _
+
+pub returns-then-not-is_live-clause-stays : goal.returns-then-not-is_live-clause-stays
+returns-then-not-is_live-clause-stays g c = all_stay c.args.self.now.levels
+
+pub returns-then-not-is_live-clause-additions : goal.returns-then-not-is_live-clause-additions
+returns-then-not-is_live-clause-additions g c = refl
+
+pub returns-then-not-is_live-clause-nothing : goal.returns-then-not-is_live-clause-nothing
+returns-then-not-is_live-clause-nothing g c same = refl
+
+pub returns-then-not-is_live-clause-refused : goal.returns-then-not-is_live-clause-refused
+returns-then-not-is_live-clause-refused g c lacks = refl
+
+pub returns-then-not-is_live-clause-grew : goal.returns-then-not-is_live-clause-grew
+returns-then-not-is_live-clause-grew g c = not_larger c.args.steps.now
+
+pub returns-then-not-is_live-clause-alone : goal.returns-then-not-is_live-clause-alone
+returns-then-not-is_live-clause-alone g c alone ids lists = grows_by_none _ c.args.steps.now
+
+pub returns-then-not-is_live-clause-steps : goal.returns-then-not-is_live-clause-steps
+returns-then-not-is_live-clause-steps g c mains tops one two = within_two c.args.steps.now _ _
+
+pub returns-then-is_err-clause-refused : goal.returns-then-is_err-clause-refused
+returns-then-is_err-clause-refused g c lacks = absurd (lacks refl)
+
+pub returns-then-is_err-clause-grew : goal.returns-then-is_err-clause-grew
+returns-then-is_err-clause-grew g c = c.set_fee.ensures.grew
+
+pub returns-then-is_err-clause-steps : goal.returns-then-is_err-clause-steps
+returns-then-is_err-clause-steps g c =
+    subst (λ (k : Kept). GrowsForBoth c.args.id c.args.steps.now c.set_fee.new.steps k.levels) c.self.view_is c.set_fee.ensures.steps
+
+pub returns-clause-refused : goal.returns-clause-refused
+returns-clause-refused g c = tt
+
+pub returns-clause-grew : goal.returns-clause-grew
+returns-clause-grew g c = c.set_fee.ensures.grew
+
+pub returns-clause-steps : goal.returns-clause-steps
+returns-clause-steps g c = subst (λ (k : Kept). GrowsForBoth c.args.id c.args.steps.now c.set_fee.new.steps k.levels) c.self.view_is c.set_fee.ensures.steps

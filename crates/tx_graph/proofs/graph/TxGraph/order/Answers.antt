@@ -9,6 +9,7 @@ use Rattle.levels.specs.Levels.{level_at}
 use Rattle.tx_graph.specs.Readings.{IsBestOrder, IsTextOf}
 use Rattle.tx_graph.proofs.Calls.{kept_of}
 use Rattle.tx_graph.proofs.Telling.{steps_ordered, steps_proved, best_order}
+use Rattle.tx_graph.proofs.Rooms.{levels_fit}
 use Rattle.tx_graph.proofs.graph.TxGraph.order.Goals as goal
 
 pub returns-clause-parts : goal.returns-clause-parts
@@ -33,3 +34,6 @@ returns-clause-proof g c text is =
     let kept = kept_of c.self.inside.limits c.self.inside.begun c.self.inside.levels in
     subst (λ (k : Kept). IsTextOf (level_at k.levels c.args.level) text → MakesStep k k (Proof c.args.level) (Proves text)) c.self.view_is
     (steps_proved kept c.args.level text c.self.invariant.picked) is
+
+pub parts-requires : goal.parts-requires
+parts-requires g c = (levels_fit g.row.W assumption, assumption)

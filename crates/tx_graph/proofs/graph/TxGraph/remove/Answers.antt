@@ -1,4 +1,4 @@
-use Rattle.std.proofs.Common.{true, sym, ◌∙◌, subst}
+use Rattle.std.proofs.Common.{true, sym, ◌∙◌, subst, refl, ap}
 use Rattle.graphs.specs.declared.names.Level.TheVariants.{Top}
 use Rattle.graph_model.specs.declared.names.Refusal.TheVariants.{Memory, Unknown}
 use Rattle.graph_model.specs.Commands.{Remove}
@@ -6,6 +6,11 @@ use Rattle.graph_model.specs.Replies.{Done, Refused}
 use Rattle.tx_graph.proofs.Calls.{kept_of, same_levels, from_view, both_views, sound_after, sound_still, when_ok, when_err, remove_step, GrowsForParts}
 use Rattle.tx_graph.proofs.Rows.{unknown_here, known_here}
 use Rattle.tx_graph.proofs.Standing.{steps_refused, steps_without_memory}
+use Rattle.tx_graph.proofs.Rooms.{levels_fit}
+use Rattle.tx_graph.proofs.Unchanged.{all_stay, within_one, not_larger, issued_topped}
+use Rattle.tx_graph.specs.Kept.{Kept}
+use Rattle.levels.specs.Levels.{Levels}
+use Rattle.levels.specs.Stays.{AllStay}
 use Rattle.tx_graph.proofs.graph.TxGraph.remove.Goals as goal
 
 pub returns-then-not-has-clause-step : goal.returns-then-not-has-clause-step
@@ -50,3 +55,52 @@ returns-clause-step g c =
 pub returns-clause-steps : goal.returns-clause-steps
 returns-clause-steps g c =
     subst (GrowsForParts c.args.id c.args.steps.now c.remove.new.steps) c.self.view_is c.remove.ensures.steps
+
+pub has-requires : goal.has-requires
+has-requires g c = levels_fit g.row.W assumption
+
+pub remove-requires : goal.remove-requires
+remove-requires g c = (levels_fit g.row.W assumption, sym c.has.ensures ∙ c.if-not-has.false)
+
+pub returns-then-not-has-clause-stays : goal.returns-then-not-has-clause-stays
+returns-then-not-has-clause-stays g c = all_stay c.args.self.now.levels
+
+pub returns-then-not-has-clause-additions : goal.returns-then-not-has-clause-additions
+returns-then-not-has-clause-additions g c = refl
+
+pub returns-then-not-has-clause-refused : goal.returns-then-not-has-clause-refused
+returns-then-not-has-clause-refused g c lacks = refl
+
+pub returns-then-not-has-clause-grew : goal.returns-then-not-has-clause-grew
+returns-then-not-has-clause-grew g c = not_larger c.args.steps.now
+
+pub returns-then-not-has-clause-steps : goal.returns-then-not-has-clause-steps
+returns-then-not-has-clause-steps g c cluster lists one two = within_one c.args.steps.now _
+
+pub returns-then-is_err-clause-stays : goal.returns-then-is_err-clause-stays
+returns-then-is_err-clause-stays g c = subst (λ (k : Kept). AllStay k.levels c.remove.new.self) c.self.view_is c.remove.ensures.stays
+
+pub returns-then-is_err-clause-additions : goal.returns-then-is_err-clause-additions
+returns-then-is_err-clause-additions g c =
+    ap (λ (l : Levels). l.issued) (when_err c.remove.result (sym c.is_err.ensures.value ∙ c.if-is_err.true) c.remove.ensures.err)
+    ∙ ap (λ (k : Kept). k.levels.issued) c.self.view_is
+
+pub returns-then-is_err-clause-refused : goal.returns-then-is_err-clause-refused
+returns-then-is_err-clause-refused g c lacks = absurd (lacks refl)
+
+pub returns-then-is_err-clause-grew : goal.returns-then-is_err-clause-grew
+returns-then-is_err-clause-grew g c = c.remove.ensures.grew
+
+pub returns-clause-stays : goal.returns-clause-stays
+returns-clause-stays g c = subst (λ (k : Kept). AllStay k.levels c.remove.new.self) c.self.view_is c.remove.ensures.stays
+
+pub returns-clause-additions : goal.returns-clause-additions
+returns-clause-additions g c =
+    let change = when_ok c.remove.result (sym c.is_err.ensures.value ∙ c.if-is_err.false) c.remove.ensures.dropped in
+    issued_topped c.self.inside.levels c.remove.new.self change.0 change.2 ∙ ap (λ (k : Kept). k.levels.issued) c.self.view_is
+
+pub returns-clause-refused : goal.returns-clause-refused
+returns-clause-refused g c = tt
+
+pub returns-clause-grew : goal.returns-clause-grew
+returns-clause-grew g c = c.remove.ensures.grew

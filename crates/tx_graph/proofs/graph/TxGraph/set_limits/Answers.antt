@@ -1,10 +1,11 @@
-use Rattle.std.proofs.Common.{true, sym, refl, ◌∙◌, true≢false}
+use Rattle.std.proofs.Common.{true, sym, refl, ◌∙◌, true≢false, ap}
 use Rattle.graph_model.specs.Commands.{SetLimits}
 use Rattle.graph_model.specs.declared.names.Refusal.TheVariants.{Late, Range}
 use Rattle.graph_model.specs.Replies.{Done, Refused}
 use Rattle.tx_graph.proofs.Calls.{kept_of, from_view, both_views, sound_after, limits_step}
 use Rattle.tx_graph.proofs.Rows.{late_row, range_row}
 use Rattle.tx_graph.proofs.Standing.{steps_refused}
+use Rattle.tx_graph.specs.Kept.{Kept}
 use Rattle.tx_graph.proofs.graph.TxGraph.set_limits.Goals as goal
 
 pub returns-then-self-clause-step : goal.returns-then-self-clause-step
@@ -35,3 +36,12 @@ returns-clause-step g c =
     (SetLimits c.args.limits.count c.args.limits.size c.args.limits.total) Done c.self.view_is
     (limits_step c.self.inside.limits c.args.limits c.self.inside.begun c.self.inside.levels c.self.invariant.picked c.if-self.false
     (c.are_in_range.ensures.0 c.if-not-are_in_range.false))
+
+pub returns-then-self-clause-additions : goal.returns-then-self-clause-additions
+returns-then-self-clause-additions g c = refl
+
+pub returns-then-not-are_in_range-clause-additions : goal.returns-then-not-are_in_range-clause-additions
+returns-then-not-are_in_range-clause-additions g c = refl
+
+pub returns-clause-additions : goal.returns-clause-additions
+returns-clause-additions g c = ap (λ (k : Kept). k.levels.issued) c.self.view_is

@@ -1,10 +1,13 @@
-use Rattle.std.proofs.Common.{true, sym, ◌∙◌}
+use Rattle.std.proofs.Common.{true, sym, ◌∙◌, ap, refl}
 use Rattle.graph_model.specs.Commands.{Settle}
 use Rattle.graph_model.specs.declared.names.Refusal.TheVariants.{NoStaging}
 use Rattle.graph_model.specs.Replies.{Settled, Refused}
 use Rattle.tx_graph.proofs.Calls.{kept_of, from_view, both_views, sound_after, settle_step, picks_settled}
 use Rattle.tx_graph.proofs.Rows.{unstaged_row}
 use Rattle.tx_graph.proofs.Standing.{steps_refused}
+use Rattle.tx_graph.proofs.Rooms.{levels_fit}
+use Rattle.tx_graph.specs.Kept.{Kept}
+use Rattle.tx_graph.proofs.Unchanged.{issued_settled}
 use Rattle.tx_graph.proofs.graph.TxGraph.settle.Goals as goal
 
 pub returns-then-not-is_staged-clause-step : goal.returns-then-not-is_staged-clause-step
@@ -30,3 +33,20 @@ returns-clause-step g c =
     (settle_step c.self.inside.limits c.self.inside.begun c.self.inside.levels c.close.new.levels c.compare-verdict.result c.self.invariant.picked
     c.compare-verdict.ensures.rates c.compare-verdict.ensures.verdict (sym c.is_staged.ensures ∙ c.if-not-is_staged.false)
     c.close.ensures.better c.close.ensures.other)
+
+pub is_staged-requires : goal.is_staged-requires
+is_staged-requires g c = levels_fit g.row.W assumption
+
+pub compare-verdict-requires : goal.compare-verdict-requires
+compare-verdict-requires g c = (levels_fit g.row.W assumption, sym c.is_staged.ensures ∙ c.if-not-is_staged.false)
+
+pub close-requires : goal.close-requires
+close-requires g c = (levels_fit g.row.W assumption, sym c.is_staged.ensures ∙ c.if-not-is_staged.false)
+
+pub returns-then-not-is_staged-clause-additions : goal.returns-then-not-is_staged-clause-additions
+returns-then-not-is_staged-clause-additions g c = refl
+
+pub returns-clause-additions : goal.returns-clause-additions
+returns-clause-additions g c =
+    issued_settled c.self.inside.levels c.close.new.levels c.compare-verdict.result c.close.ensures.better c.close.ensures.other
+    ∙ ap (λ (k : Kept). k.levels.issued) c.self.view_is

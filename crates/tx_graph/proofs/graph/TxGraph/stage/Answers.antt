@@ -1,10 +1,14 @@
-use Rattle.std.proofs.Common.{true, sym, ◌∙◌}
+use Rattle.std.proofs.Common.{true, sym, ◌∙◌, ap, refl}
 use Rattle.graph_model.specs.Commands.{Stage}
 use Rattle.graph_model.specs.declared.names.Refusal.TheVariants.{Staging}
 use Rattle.graph_model.specs.Replies.{Done, Refused}
 use Rattle.tx_graph.proofs.Calls.{kept_of, from_view, both_views, sound_after, stage_step, picks_opened}
 use Rattle.tx_graph.proofs.Rows.{staged_row}
 use Rattle.tx_graph.proofs.Standing.{steps_refused}
+use Rattle.tx_graph.proofs.Rooms.{levels_fit}
+use Rattle.tx_graph.specs.Kept.{Kept}
+use Rattle.levels.specs.Levels.{Levels}
+use Rattle.tx_graph.proofs.Unchanged.{is_closed}
 use Rattle.tx_graph.proofs.graph.TxGraph.stage.Goals as goal
 
 pub returns-then-is_staged-clause-step : goal.returns-then-is_staged-clause-step
@@ -27,3 +31,15 @@ returns-clause-step g c =
     c.args.self.now (kept_of c.self.inside.limits true c.stage.new.self) Stage Done c.self.view_is
     (stage_step c.self.inside.limits c.self.inside.begun c.self.inside.levels c.stage.new.self
     (sym c.is_staged.ensures ∙ c.if-is_staged.false) c.stage.ensures)
+
+pub is_staged-requires : goal.is_staged-requires
+is_staged-requires g c = levels_fit g.row.W assumption
+
+pub returns-then-is_staged-clause-additions : goal.returns-then-is_staged-clause-additions
+returns-then-is_staged-clause-additions g c = refl
+
+pub returns-clause-additions : goal.returns-clause-additions
+returns-clause-additions g c = ap (λ (l : Levels). l.issued) c.stage.ensures ∙ ap (λ (k : Kept). k.levels.issued) c.self.view_is
+
+pub stage-requires : goal.stage-requires
+stage-requires g c = (levels_fit g.row.W assumption, is_closed c.self.inside.levels.staging (sym c.is_staged.ensures ∙ c.if-is_staged.false))
