@@ -46,6 +46,9 @@ there_exchanged number last old stands = let both = once_there number old (in_to
 pub there_moved : (number : ℕ) (old : Numbered) → StandsInTop old number → AreThere [] (one_move number) old
 there_moved number old stands = let both = once_there number old (in_top old number stands) in record { once = both.0; there = both.1 }
 
+pub tag_there : (old : Numbered) (number : ℕ) (there : InTop old number) → tag_at old number ≡ Some there.stored.tag
+tag_there old number there = ap (option_map (λ (s : Stored). s.tag)) there.is
+
 -- what stands under a number that was added
 module _ (tag : Tag) (added : List Cluster) (made : List ℕ) (new : Numbered) (n : ℕ) (count : length made ≡ length (map (tagged tag) added))
     (stand : (at : ℕ) (s : Stored) → slice_get (map (tagged tag) added) at ≡ Some s → finmap.get new (slice_index made at) ≡ Some s) (here : Contains made n) where

@@ -2,6 +2,7 @@
 use Rattle.std.proofs.Common.{◌≡◌, ℕ, ◌*◌, ◌≤◌, cond, List, [], ◌∷◌, length, Contains, Option, Some, None, inl, inr, ◌⊎◌, refl, sym, ap, ◌∙◌, subst, arith}
 use Rattle.std.specs.Prelude.{IfSome}
 use Rattle.std.specs.Iterator.{Yields, YieldsFirst}
+use Rattle.std.proofs.lemmas.Bool.{cases_eq}
 use Rattle.std.proofs.lemmas.Option.{none-some, same_Some}
 use Rattle.std.specs.FinMap as finmap
 use Rattle.lists.proofs.Entries.{Contains-head, none_in_empty}
@@ -12,7 +13,7 @@ use Rattle.chunk_index.specs.declared.entry.Tag.TheVariants.{Both, MainOnly, Top
 use Rattle.chunk_index.specs.Items.{is_in}
 use Rattle.cluster.specs.Clusters.{Cluster, IsCluster}
 use Rattle.cluster_store.specs.Stores.{Stored, Numbered, Store, IsStore}
-use Rattle.cluster_store.specs.Changes.{moved_to}
+use Rattle.cluster_store.specs.Changes.{Sets, moved_to}
 use Rattle.staging.specs.Maps.{Maps, top_of}
 use Rattle.levels.specs.Shelves.{AllHave, IsInOrder, Shelf, IsTouched, numbers_at, seen_at, seen_in, settled, settled_to, view_of}
 use Rattle.levels.specs.Tops.{AreSettledOrSame, IsSettledAt, Settles}
@@ -95,6 +96,14 @@ settled_then : (stays : Level) (n : ℕ) (old mid new : Numbered) → AreSettled
 settled_then stays n old mid new every two = elim (every n) [
   | inl one ↦ two ∙ ap (settled stays) one ∙ settled_twice stays (finmap.get old n)
   | inr same ↦ two ∙ ap (settled stays) same
+]
+
+-- one more is settled
+pub settles_one : (stays : Level) (number : ℕ) (old mid new : Numbered) → AreSettledOrSame stays old mid
+    → Sets number (settled stays (finmap.get mid number)) mid new → AreSettledOrSame stays old new
+settles_one stays number old mid new every sets n = elim (cases_eq n number) [
+  | inl same ↦ inl (settled_then stays n old mid new every (subst (λ k. IsSettledAt stays k mid new) (sym same) sets.changed))
+  | inr other ↦ elim (every n) [ inl one ↦ inl (sets.others n other ∙ one) | inr kept ↦ inr (sets.others n other ∙ kept) ]
 ]
 
 if_some : {X : Type 0} (o : Option X) (P : X → Type 0) (x : X) → IfSome o P → o ≡ Some x → P x

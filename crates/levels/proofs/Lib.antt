@@ -27,6 +27,7 @@ mod Linking
 mod Lookups
 mod Making
 mod Marks
+mod Most
 mod Merging
 mod Naming
 mod Only
@@ -44,6 +45,7 @@ mod Reparting
 mod Repriced
 mod Repricing
 mod Righting
+mod Rooms
 mod Seen
 mod Settlements
 mod Shelved
@@ -62,4 +64,5 @@ mod Turning
 mod Under
 mod Unmoved
 mod Ways
+mod Tagging
 mod Tailed

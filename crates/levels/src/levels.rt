@@ -67,13 +67,14 @@ impl<const W: usize> Levels<W> {
         requires narrow { W ≤ 2 }
         ensures { IfOk result (λ levels. levels ≡ no_names) }
     {
+        let work = Work::new(alloc)?;
         Ok(Levels {
             shelves: Shelves::new(alloc),
             rings: Rings::new(alloc),
             mains: 0,
             tops: 0,
             issued: 0,
-            work: Work::new(alloc)?,
+            work,
         })
     }
 

@@ -15,10 +15,12 @@ ghost use Rattle.levels.specs.Shelves.{IsInOrder, no_clusters, numbers_at, seen_
 ghost use Rattle.levels.specs.Views.{graph_of, IsClusterOf};
 
 use crate::numbers::{live_number, number_of, point, point_all};
-use crate::stored::{at, come_in, come_together, new_tag, put_apart, settle, tag_of};
+use crate::stored::{
+    at, come_in, come_together, new_tag, put_apart, settle, tag_of, two_exchanges,
+};
 use chunk_index::Tag;
 use cluster::Cluster;
-use cluster_store::{ClusterStore, Exchange, Stored};
+use cluster_store::{ClusterStore, Stored};
 use graph_model::{Level, TxId};
 use name_book::RingNames;
 use outside::NoMemory;
@@ -198,8 +200,7 @@ impl<const W: usize> Shelves<W> {
         ensures order { IsInOrder W self.new }
     {
         let staged = self.numbers.staged();
-        let few = name_count(left.as_slice())?;
-        self.numbers.reserve(few)?;
+        make_room(&mut self.numbers, left.as_slice())?;
         let made = put_apart(self.alloc, &mut self.store, staged, number, left)?;
         self.numbers.remove(id);
         point_all(&mut self.numbers, &self.store, made.as_slice());
@@ -249,9 +250,7 @@ impl<const W: usize> Shelves<W> {
         ensures order { IsInOrder W self.new }
     {
         let _numbers = &self.numbers;
-        let mut exchanged = Vec::with_capacity(self.alloc, 2)?;
-        exchanged.push_reserved(Exchange::new(main, new_main));
-        exchanged.push_reserved(Exchange::new(top, new_top));
+        let exchanged = two_exchanges(self.alloc, main, new_main, top, new_top)?;
         self.store.change(exchanged, Vec::new(self.alloc), &[])?;
         Ok(())
     }
@@ -335,6 +334,20 @@ fn settle_name<const W: usize>(
     if let Some(number) = number_of(numbers, Level::Top, id) {
         settle(store, stays, number);
     }
+}
+
+/// Makes room, so that the names of some clusters can get a number and one more name can go.
+fn make_room<const W: usize>(
+    numbers: &mut Overlay<usize>,
+    clusters: &[Cluster<W>],
+) -> Result<(), NoMemory>
+    requires { W ≤ 2 }
+    ensures room { OnOk result (sum_by (λ c. length c.names) clusters.now + 1 ≤ numbers.new.spare) }
+    ensures base { numbers.new.base ≡ numbers.old.base }
+    ensures top { numbers.new.top ≡ numbers.old.top }
+{
+    let few = name_count(clusters)?;
+    numbers.reserve(few)
 }
 
 /// How many names some clusters have, and one more.

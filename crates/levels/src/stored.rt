@@ -135,7 +135,7 @@ pub(crate) fn put_apart<const W: usize>(
     store: &mut ClusterStore<W>,
     staged: bool,
     number: usize,
-    mut left: Vec<Cluster<W>>,
+    left: Vec<Cluster<W>>,
 ) -> Result<Vec<usize>, NoMemory>
     requires narrow { W ≤ 2 }
     requires there { StandsInTop store.old.clusters number }
@@ -145,26 +145,94 @@ pub(crate) fn put_apart<const W: usize>(
     ensures err { OnErr result (store.new ≡ store.old) }
 {
     let tag = tag_of(store, number);
-    if !gives_number(staged, tag) {
-        let added = all_tagged(alloc, left, Tag::TopOnly)?;
-        let moves = [Move {
-            number,
-            to: Some(Tag::MainOnly),
-        }];
-        return store.change(Vec::new(alloc), added, &moves);
+    if gives_number(staged, tag) {
+        put_under(alloc, store, staged, number, left)
+    } else {
+        put_beside(alloc, store, number, left)
     }
+}
+
+/// Puts clusters beside the one of a number in both levels, which main keeps.
+fn put_beside<const W: usize>(
+    alloc: Global,
+    store: &mut ClusterStore<W>,
+    number: usize,
+    left: Vec<Cluster<W>>,
+) -> Result<Vec<usize>, NoMemory>
+    requires narrow { W ≤ 2 }
+    requires there { StandsInTop store.old.clusters number }
+    requires tag { tag_at store.old.clusters number ≡ Some Both }
+    ensures comes { IfOk result (λ made. ComesApart true number made.items left.entry.items store.old.clusters store.new.clusters) }
+    ensures store { OnOk result (IsStore (64 * W) store.new) }
+    ensures err { OnErr result (store.new ≡ store.old) }
+{
+    let added = all_tagged(alloc, left, Tag::TopOnly)?;
+    let moves = [Move {
+        number,
+        to: Some(Tag::MainOnly),
+    }];
+    store.change(Vec::new(alloc), added, &moves)
+}
+
+/// Puts clusters in the place of the one of a number that main doesn't keep, the last of them under it.
+fn put_under<const W: usize>(
+    alloc: Global,
+    store: &mut ClusterStore<W>,
+    staged: bool,
+    number: usize,
+    mut left: Vec<Cluster<W>>,
+) -> Result<Vec<usize>, NoMemory>
+    requires narrow { W ≤ 2 }
+    requires there { StandsInTop store.old.clusters number }
+    requires gives { staged ≡ true → tag_at store.old.clusters number ≡ Some Both → ⊥ }
+    requires both { staged ≡ false → AllHave Both store.old.clusters }
+    ensures comes { IfOk result (λ made. ComesApart staged number made.items left.entry.items store.old.clusters store.new.clusters) }
+    ensures store { OnOk result (IsStore (64 * W) store.new) }
+    ensures err { OnErr result (store.new ≡ store.old) }
+{
     match left.pop() {
         None => {
             store.make_move(number, None);
             Ok(Vec::new(alloc))
         }
         Some(last) => {
-            let mut exchanged = Vec::with_capacity(alloc, 1)?;
-            exchanged.push_reserved(Exchange::new(number, last));
+            let exchanged = one_exchange(alloc, number, last)?;
             let added = all_tagged(alloc, left, new_tag(staged))?;
             store.change(exchanged, added, &[])
         }
     }
+}
+
+/// A cluster that is to stand under a number, alone.
+fn one_exchange<const W: usize>(
+    alloc: Global,
+    number: usize,
+    cluster: Cluster<W>,
+) -> Result<Vec<Exchange<W>>, NoMemory>
+    requires { W ≤ 2 }
+    ensures { IfOk result (λ one. one.items ≡ record { number = number; cluster = cluster.entry } ∷ []) }
+{
+    let mut one = Vec::with_capacity(alloc, 1)?;
+    one.push_reserved(Exchange::new(number, cluster));
+    Ok(one)
+}
+
+/// Two clusters that are each to stand under a number.
+pub(crate) fn two_exchanges<const W: usize>(
+    alloc: Global,
+    first: usize,
+    one: Cluster<W>,
+    second: usize,
+    other: Cluster<W>,
+) -> Result<Vec<Exchange<W>>, NoMemory>
+    requires { W ≤ 2 }
+    ensures { IfOk result (λ both. both.items
+        ≡ record { number = first; cluster = one.entry } ∷ record { number = second; cluster = other.entry } ∷ []) }
+{
+    let mut both = Vec::with_capacity(alloc, 2)?;
+    both.push_reserved(Exchange::new(first, one));
+    both.push_reserved(Exchange::new(second, other));
+    Ok(both)
 }
 
 /// Clusters that are to stand in the levels of a tag.

@@ -3,6 +3,7 @@ use Rattle.std.proofs.Common.{rules, arith, FitsSigned, w64, sym, ◌∙◌}
 use Rattle.std.proofs.lemmas.Int.{ints}
 use Rattle.cluster_store.specs.Walks.{shown_part}
 use Rattle.levels.proofs.Merging.{ends_by_last, none_ends}
+use Rattle.levels.proofs.Rooms.{stored_fits}
 use Rattle.levels.proofs.comparing.ends_well.Goals as goal
 
 pub returns-in-Some : goal.returns-in-Some
@@ -16,3 +17,9 @@ pub returns-in-None : goal.returns-in-None
 returns-in-None g c =
     let ends = none_ends c.args.level c.args.store.now (sym c.walk.ensures.parts ∙ c.in-None.ensures.steps.0) in
     ((λ _. ends), (λ _. search rules))
+
+pub walk-requires : goal.walk-requires
+walk-requires g c = (omega arith, stored_fits g.row.W c.requires)
+
+pub next_back-requires-room-T-Parts : goal.next_back-requires-room-T-Parts
+next_back-requires-room-T-Parts g c κs = stored_fits g.row.W c.requires

@@ -1,5 +1,5 @@
 -- A cluster of one name comes in, and the rings gain the name.
-use Rattle.std.proofs.Common.{rules, ◌≤◌, ℤ, sym, subst}
+use Rattle.std.proofs.Common.{◌≤◌, ℤ, sym, subst, arith, ap}
 use Rattle.std.proofs.lemmas.Int.{to_z-of_z}
 use Rattle.std.specs.Int.{w64}
 use Rattle.graphs.specs.declared.names.Level.TheVariants.{Top}
@@ -9,6 +9,10 @@ use Rattle.levels.specs.Moves.{AddsOne}
 use Rattle.levels.specs.Shelves.{Shelf, numbers_at}
 use Rattle.levels.proofs.Gaining.{absent_main, absent_top, right_gained, right_reserved}
 use Rattle.levels.proofs.moving.add_name.Given as given
+use Rattle.levels.proofs.Rooms.{cluster_fits, work_fits}
+use Rattle.fee_rate.specs.Limits.{IsRate}
+use Rattle.levels.specs.Rings.{Ringed}
+use Rattle.name_book.specs.Books.{IsNamed}
 use Rattle.levels.proofs.moving.add_name.Goals as goal
 
 pub returns-in_err-reserve-clause-right : goal.returns-in_err-reserve-clause-right
@@ -22,9 +26,9 @@ returns-in_err-cluster-clause-right g c =
 pub add-requires : goal.add-requires
 add-requires g c =
     let narrow : g.row.W ≤ 2 = c.requires.order.narrow in (
-      search rules,
+      omega arith,
       (
-        search rules,
+        cluster_fits g.row.W narrow,
         (
           c.in_ok-cluster.ensures.single.names,
           (
@@ -63,3 +67,17 @@ returns-clause-right g c =
     (right_reserved c.args.rings.now c.reserve.new.self c.args.shelves.now.main (numbers_at Top c.args.shelves.now) c.reserve.ensures.same c.requires.right)
     (absent_main c.args.rings.now c.args.shelves.now c.args.id c.requires.right c.requires.absent) c.is_staged.result c.is_staged.ensures
     (record { names = c.add-2.ensures.names; main = c.add-2.ensures.main; touched = c.add-2.ensures.touched })
+
+pub single-requires : goal.single-requires
+single-requires g c = (
+  work_fits g.row.W c.requires.order.narrow,
+  (cluster_fits g.row.W c.requires.order.narrow, subst (λ (fee : ℤ). IsRate (record { fee = fee; size = c.args.size })) (sym (to_z-of_z w64 c.args.fee c.ranges.fee)) c.requires.rate),
+)
+
+pub add-requires-2-clause-issued : goal.add-requires-2-clause-issued
+add-requires-2-clause-issued g c =
+    let same = ap (λ (r : Ringed). r.book.issued) c.reserve.ensures.same in omega (arith, same, c.requires.issued)
+
+pub add-requires-2-clause-absent : goal.add-requires-2-clause-absent
+add-requires-2-clause-absent g c =
+    subst (λ (r : Ringed). IsNamed r.book c.args.id → ⊥) (sym c.reserve.ensures.same) c.requires.absent

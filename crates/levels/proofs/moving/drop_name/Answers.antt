@@ -1,6 +1,7 @@
 -- The rings follow a name that leaves the top level.
-use Rattle.std.proofs.Common.{rules, ◌≤◌, ℕ, List, sym, ◌∙◌, subst}
+use Rattle.std.proofs.Common.{rules, ◌≤◌, ℕ, List, sym, ◌∙◌, subst, arith, ◌≡◌, ap, is_some, inr}
 use Rattle.std.specs.FinMap as finmap
+use Rattle.std.specs.FinSet as set
 use Rattle.levels.specs.Kept.{SuitsShelf}
 use Rattle.levels.specs.Moves.{DropsName}
 use Rattle.levels.specs.Rings.{Ringed}
@@ -12,7 +13,7 @@ use Rattle.levels.proofs.moving.drop_name.Goals.{then-not-is_staged, else-not-is
 pub touch_left-requires : goal.touch_left-requires
 touch_left-requires g c =
     let narrow : g.row.W ≤ 2 = c.requires.order.narrow in (
-      search rules,
+      omega arith,
       (
         c.in_ok-made.ensures.order,
         departed_untouched g.row.W c.args.number c.args.id c.in_ok-made.made.items c.args.shelves.now c.remove.new.self c.requires.order
@@ -88,3 +89,32 @@ returns-clause-right g c =
           (record { names = touch.names; main = touch.main; touched = touch.touched })
           (has_number w.number.result (finmap.get new.main id) w.is_none.result w.is_none.ensures w.if-is_none.false w.number.ensures.number))
     ]
+
+pub returns-clause-steps : goal.returns-clause-steps
+returns-clause-steps g c k lists is components = c.remove.ensures.steps k lists is components
+
+pub returns-clause-names : goal.returns-clause-names
+returns-clause-names g c =
+    let old = c.args.rings.now.book in
+    let touch = c.touch_left.ensures in
+    let fit = λ (r : Ringed). (set.len r.book.names ≤ set.len old.names) × (r.book.issued ≡ old.issued) in
+    let same = ap set.len touch.names in
+    elim c.if-not-is_staged.branch [
+      | then-not-is_staged w ↦
+          subst fit (sym w.rings-is)
+          (omega (arith, ap set.len w.part_all.ensures.names, w.forget.ensures.len, same), w.part_all.ensures.issued ∙ w.forget.ensures.issued ∙ touch.issued)
+      | else-not-is_staged+then-is_none w ↦
+          let forget = w.forget-then-is_none.ensures in
+          subst fit (sym w.rings-is) (omega (arith, forget.len, same), forget.issued ∙ touch.issued)
+      | else-not-is_staged+else-is_none w ↦ subst fit (sym w.rings-is) (omega (arith, same), touch.issued)
+    ]
+
+pub forget-requires : goal.forget-requires
+forget-requires g c = record {
+  live = ap (λ names. set.contains names c.args.id) c.touch_left.ensures.names ∙ (c.requires.right.names c.args.id).1 (inr (ap is_some c.requires.number));
+}
+
+pub forget-requires-then-is_none : goal.forget-requires-then-is_none
+forget-requires-then-is_none g c = record {
+  live = ap (λ names. set.contains names c.args.id) c.touch_left.ensures.names ∙ (c.requires.right.names c.args.id).1 (inr (ap is_some c.requires.number));
+}

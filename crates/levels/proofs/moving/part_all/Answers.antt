@@ -1,10 +1,11 @@
 -- The cluster of one number more is cut out.
-use Rattle.std.proofs.Common.{rules, ◌≤◌, ◌<◌, ℕ, List, Contains, length, is_some, take_all, ap, ◌∙◌, subst, arith}
+use Rattle.std.proofs.Common.{◌≤◌, ◌<◌, ℕ, List, Contains, length, is_some, take_all, ap, ◌∙◌, subst, arith}
 use Rattle.cluster.specs.Clusters.{Cluster}
 use Rattle.levels.specs.Shelves.{stored_at}
 use Rattle.levels.proofs.Cutting.{AreCut, IsCutOut, cut_next, listed}
 use Rattle.levels.proofs.Marks.{named-same}
 use Rattle.levels.proofs.Pointing.{got_here, one_at}
+use Rattle.levels.proofs.Rooms.{cluster_fits}
 use Rattle.levels.proofs.moving.part_all.Goals as goal
 
 pub at-requires : goal.at-requires
@@ -12,7 +13,7 @@ at-requires g c =
     let narrow : g.row.W ≤ 2 = c.requires.order.narrow in
     let low : c.loop-number.number-index < length c.args.list.now = c.loop-number-test.true in
     let one = one_at (stored_at c.args.shelves.now.store.clusters) c.args.list.now c.requires.clusters.0 c.loop-number.number-index c.requires.clusters.1 low in
-    (search rules, (search rules, ap is_some one.2))
+    (omega arith, (cluster_fits g.row.W narrow, ap is_some one.2))
 
 pub part-requires-clause-live : goal.part-requires-clause-live
 part-requires-clause-live g c x here =
@@ -48,3 +49,6 @@ returns-clause-main g c clusters x y are =
     let all : length clusters ≤ c.loop-number.number-index = omega (arith, are.count, c.loop-number-test.false) in
     subst (λ (xs : List Cluster). AreCut c.args.rings.now xs c.loop-number.rings) (take_all c.loop-number.number-index clusters all)
     (c.loop-number.invariant.main clusters are) x y
+
+pub names-requires : goal.names-requires
+names-requires g c = cluster_fits g.row.W c.requires.order.narrow

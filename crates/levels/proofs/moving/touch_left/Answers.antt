@@ -1,6 +1,7 @@
 -- The names of the cluster that main alone has are touched.
 use Rattle.std.proofs.Common.{inl, inr}
 use Rattle.levels.proofs.Touching.{left_listed}
+use Rattle.levels.proofs.Rooms.{cluster_fits}
 use Rattle.levels.proofs.moving.touch_left.Goals as goal
 
 pub touch_all-requires-clause-live : goal.touch_all-requires-clause-live
@@ -22,3 +23,6 @@ returns-then-is_left-clause-touched g c x =
       λ marked. elim ((c.touch_all.ensures.touched x).0 marked) [ inl was ↦ inl was | inr here ↦ inr (names.1 here) ],
       λ either. (c.touch_all.ensures.touched x).1 (elim either [ inl was ↦ inl was | inr left ↦ inr (names.0 left) ]),
     )
+
+pub names-requires : goal.names-requires
+names-requires g c = cluster_fits g.row.W c.requires.order.narrow

@@ -1,11 +1,12 @@
 -- The names of one cluster more have its number.
-use Rattle.std.proofs.Common.{rules, ◌≡◌, ◌≤◌, ◌<◌, ℕ, List, length, slice_index_or, is_some, ap, ◌∙◌, subst, arith}
+use Rattle.std.proofs.Common.{◌≡◌, ◌≤◌, ◌<◌, ℕ, List, length, slice_index_or, is_some, ap, ◌∙◌, subst, arith}
 use Rattle.std.specs.List.{AllPairs}
 use Rattle.cluster.specs.Clusters.{AreApart}
 use Rattle.staging.specs.Maps.{top_of}
 use Rattle.levels.specs.Changes.{PointsOne}
 use Rattle.levels.specs.Shelves.{stored_at}
 use Rattle.levels.proofs.Pointing.{PointsAllTo, all_more, all_of, base_more, got_here, one_at, one_list, room_at}
+use Rattle.levels.proofs.Rooms.{cluster_fits}
 use Rattle.levels.proofs.numbers.point_all.Goals as goal
 
 pub at-requires : goal.at-requires
@@ -13,7 +14,7 @@ at-requires g c =
     let narrow : g.row.W ≤ 2 = c.requires.narrow in
     let low : c.loop-i.i < length c.args.list.now = omega arith in
     let one = one_at (stored_at c.args.store.now.clusters) c.args.list.now c.requires.clusters.0 c.loop-i.i c.requires.clusters.1 low in
-    (search rules, (search rules, ap is_some one.2))
+    (omega arith, (cluster_fits g.row.W narrow, ap is_some one.2))
 
 pub point-requires : goal.point-requires
 point-requires g c =
@@ -53,3 +54,6 @@ returns-clause-points g c found are =
     let apart : AllPairs AreApart found = subst (AllPairs AreApart) (one_list at c.args.list.now given.0 found given.1 are) given.2 in
     all_of c.args.list.now found (top_of c.args.numbers.now) (top_of c.loop-i.numbers) are.count
     (subst (λ n. PointsAllTo n c.args.list.now found (top_of c.args.numbers.now) (top_of c.loop-i.numbers)) all (c.loop-i.invariant.points found are apart))
+
+pub names-requires : goal.names-requires
+names-requires g c = cluster_fits g.row.W c.requires.narrow

@@ -5,6 +5,7 @@ use Rattle.cluster.specs.Clusters.{Cluster}
 use Rattle.levels.specs.Shelves.{view_of}
 use Rattle.levels.proofs.Seen.{seen_is_stored}
 use Rattle.levels.proofs.Settlements.{PartsOff, parts_later, dropped, released, remade}
+use Rattle.levels.proofs.Rooms.{cluster_fits}
 use Rattle.levels.proofs.settling.settle_ring.Goals as goal
 
 pub returns-in-None-clause-settling : goal.returns-in-None-clause-settling
@@ -33,3 +34,6 @@ returns-else-names-id-clause-settling g c =
     released _ (view_of Main c.args.shelves.now) c.requires.order.main c.args.id c.args.rings.now c.release.new.self c.requires.settling release.touched
     c.in-Some.number stands.0 stands.1 stands.2 release.names release.main
     (λ is. c.if-names-id.false (ap (λ zs. get_or zs 0 0) list ∙ get_or_from_slice_get stands.0.names 0 c.args.id 0 is))
+
+pub names-names-requires : goal.names-names-requires
+names-names-requires g c = cluster_fits g.row.W c.requires.order.narrow

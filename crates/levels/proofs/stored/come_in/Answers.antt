@@ -1,10 +1,11 @@
 -- The cluster stands under the number, or under one of its own where main keeps that one.
-use Rattle.std.proofs.Common.{rules, Some, sym, ap, ◌∙◌, subst, true≢false}
+use Rattle.std.proofs.Common.{Some, sym, ap, ◌∙◌, subst, true≢false, arith}
 use Rattle.std.specs.FinMap as finmap
 use Rattle.cluster_store.specs.Stores.{Stored}
 use Rattle.cluster_store.specs.Changes.{Sets}
 use Rattle.levels.proofs.Coming.{comes_apart, comes_same, still_there, stored_added, stored_same, tag_told}
 use Rattle.levels.proofs.Seen.{in_top}
+use Rattle.levels.proofs.Rooms.{stored_fits, cluster_fits}
 use Rattle.levels.proofs.stored.come_in.Goals as goal
 
 pub returns-then-gives_number-clause-comes : goal.returns-then-gives_number-clause-comes
@@ -21,7 +22,7 @@ pub make_move-requires : goal.make_move-requires
 make_move-requires g c =
     let added = c.in_ok-made.ensures.added in
     let there = still_there c.args.store.now.clusters c.add.new.self.clusters c.args.number c.in_ok-made.made (Some c.new.result) c.requires.there added.0 added.1 in
-    (search rules, there)
+    (omega arith, there)
 
 pub returns-clause-comes : goal.returns-clause-comes
 returns-clause-comes g c =
@@ -41,3 +42,9 @@ returns-clause-at g c =
     (finmap.get c.make_move.new.self.clusters c.args.number) c.requires.there added.0 added.1
     (record { changed = λ i. finmap.get c.make_move.new.self.clusters c.args.number; others = c.make_move.ensures.moved.others })
     ∙ ap (λ (s : Stored). Some s.cluster) c.new.ensures
+
+pub add-requires : goal.add-requires
+add-requires g c = (omega arith, stored_fits g.row.W c.requires.narrow)
+
+pub new-requires : goal.new-requires
+new-requires g c = (cluster_fits g.row.W c.requires.narrow, stored_fits g.row.W c.requires.narrow)

@@ -1,5 +1,5 @@
 -- One came in the place of the first, and then the second left.
-use Rattle.std.proofs.Common.{rules, [], ◌∷◌}
+use Rattle.std.proofs.Common.{[], ◌∷◌, arith}
 use Rattle.levels.proofs.Coming.{comes_together, made_stored, second_there}
 use Rattle.levels.proofs.stored.come_together.Goals as goal
 
@@ -8,7 +8,7 @@ leave-requires g c =
     let comes = c.in_ok-made.ensures.comes in
     let there = second_there c.args.staged c.args.store.now.clusters c.come_in.new.store.clusters c.come_in.new.store.clusters c.args.first c.args.second c.in_ok-made.made c.args.joined
     c.requires.apart c.requires.second comes in
-    (search rules, (there, comes.both))
+    (omega arith, (there, comes.both))
 
 pub returns-clause-comes : goal.returns-clause-comes
 returns-clause-comes g c =

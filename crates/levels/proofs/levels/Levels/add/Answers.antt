@@ -1,13 +1,14 @@
 -- A name comes into the top level.
-use Rattle.std.proofs.Common.{rules, ◌+◌, ◌≤◌, ℤ, sym, subst, of_z, to_z}
+use Rattle.std.proofs.Common.{rules, ◌+◌, ◌≤◌, ℤ, sym, subst, of_z, to_z, arith, ap}
 use Rattle.std.proofs.lemmas.Int.{to_z-of_z}
 use Rattle.std.specs.Int.{w64}
 use Rattle.fee_rate.specs.Limits.{IsRate}
 use Rattle.graphs.specs.declared.names.Level.TheVariants.{Top}
-use Rattle.levels.specs.Levels.{AddsName, level_at}
+use Rattle.levels.specs.Levels.{AddsName, level_at, Levels}
 use Rattle.levels.proofs.Adding.{absent_named, few_named, kept_added, kept_still, levels_added, name_stays}
 use Rattle.levels.proofs.Finds.{have_picks}
 use Rattle.levels.proofs.Keeping.{tops_few}
+use Rattle.levels.proofs.Rooms.{work_fits}
 use Rattle.levels.proofs.levels.Levels.add.Goals as goal
 
 pub add_name-requires : goal.add_name-requires
@@ -15,9 +16,9 @@ add_name-requires g c =
     let narrow : g.row.W ≤ 2 = c.self.invariant.order.narrow in
     let old = c.self.inside.shelves in
     let rings = c.self.inside.rings in (
-      search rules,
+      omega arith,
       (
-        search rules,
+        work_fits g.row.W narrow,
         (
           c.self.invariant.order,
           (
@@ -30,7 +31,7 @@ add_name-requires g c =
                 (
                   few_named g.row.W c.self.inside.mains c.self.inside.tops c.self.inside.issued old rings c.self.invariant c.args.self.now c.self.view_is
                       c.requires.few,
-                  search rules,
+                  omega (arith, c.requires.issued, c.self.invariant.issued, ap (λ (l : Levels). l.issued) c.self.view_is),
                 ),
               ),
             ),
@@ -86,3 +87,9 @@ returns-clause-stays g c =
     name_stays g.row.W c.self.inside.mains c.self.inside.tops c.self.inside.issued c.self.inside.shelves c.self.inside.rings c.self.invariant c.args.self.now
     c.self.view_is c.args.id (record { fee = to_z w64 (of_z w64 c.args.fee); size = c.args.size }) c.add_name.new.shelves c.in_ok-add_name.ensures.added
     c.add_name.ensures.order
+
+pub overflow_add-self : goal.overflow_add-self
+overflow_add-self g c = omega (arith, c.requires.issued, ap (λ (l : Levels). l.issued) c.self.view_is)
+
+pub returns-clause-steps : goal.returns-clause-steps
+returns-clause-steps g c = c.add_name.ensures.steps

@@ -1,5 +1,5 @@
 -- A name of the top level becomes a parent of another.
-use Rattle.std.proofs.Common.{◌≡◌, ◌⊎◌, true, None, inl, refl, sym, ap, ◌∙◌, subst, OnOk}
+use Rattle.std.proofs.Common.{◌≡◌, ◌⊎◌, true, None, inl, refl, sym, ap, ◌∙◌, subst, OnOk, arith}
 use Rattle.graphs.specs.Closures.{Closure, is_ancestor, AddsPair, AreLinked}
 use Rattle.graphs.specs.Graphs.{Lists}
 use Rattle.graphs.specs.declared.names.Level.TheVariants.{Top}
@@ -10,6 +10,7 @@ use Rattle.levels.specs.Shelves.{Shelf, levels_of}
 use Rattle.levels.proofs.Connecting.{RowIs, connected_top, kept_on, row_refused, stays_on}
 use Rattle.levels.proofs.Finds.{graph_is, have_picks}
 use Rattle.levels.proofs.Turned.{stays_from, turns_from}
+use Rattle.levels.proofs.Rooms.{work_fits}
 use Rattle.levels.proofs.levels.Levels.dep.Goals as goal
 use Rattle.levels.proofs.levels.Levels.dep.Goals.{in-Ok, in-Err}
 
@@ -76,3 +77,6 @@ pub returns-clause-steps : goal.returns-clause-steps
 returns-clause-steps g c ids lists =
     let same = graph_is g.row.W c.self.inside.issued c.self.inside.shelves c.args.self.now c.self.invariant.order c.self.view_is Top in
     c.connect.ensures.steps ids (subst (λ (h : Closure). Lists (λ q. AreLinked h q c.args.parent ⊎ AreLinked h q c.args.child) ids) same lists)
+
+pub connect-requires : goal.connect-requires
+connect-requires g c = (omega arith, (work_fits g.row.W c.self.invariant.order.narrow, (c.self.invariant.order, (c.self.invariant.right, c.in_ok-link.ensures.link))))

@@ -1,10 +1,18 @@
 use Rattle.levels.proofs.Keeping.{kept_none, levels_none}
+use Rattle.std.proofs.Common.{arith}
+use Rattle.levels.proofs.Rooms.{work_fits}
 use Rattle.levels.proofs.levels.Levels.new.Goals as goal
 
 pub invariant_of-result : goal.invariant_of-result
 invariant_of-result g c =
-    kept_none g.row.W c.new.result c.new-2.result c.new.ensures.empty c.new.ensures.order c.new-2.ensures.names c.new-2.ensures.touched
-    c.new-2.ensures.issued c.new-2.ensures.len
+    kept_none g.row.W c.new-2.result c.new-3.result c.new-2.ensures.empty c.new-2.ensures.order c.new-3.ensures.names c.new-3.ensures.touched
+    c.new-3.ensures.issued c.new-3.ensures.len
 
 pub returns : goal.returns
-returns g c = levels_none c.new.result c.new.ensures.empty
+returns g c = levels_none c.new-2.result c.new-2.ensures.empty
+
+pub new-requires : goal.new-requires
+new-requires g c = (work_fits g.row.W c.requires.narrow, (c.requires.wide, omega (arith, c.requires.narrow)))
+
+pub new-requires-2 : goal.new-requires-2
+new-requires-2 g c = (omega arith, (c.requires.wide, c.requires.narrow))

@@ -1,4 +1,4 @@
-use Rattle.std.proofs.Common.{rules, ◌≡◌, ◌≤◌, ℕ, true, sym, ap, ◌∙◌, subst}
+use Rattle.std.proofs.Common.{◌≡◌, ◌≤◌, ℕ, true, sym, ap, ◌∙◌, subst, arith}
 use Rattle.fee_rate.specs.Limits.{IsRate}
 use Rattle.graphs.specs.Closures.{is_member, rate_of}
 use Rattle.diagram.specs.Parts.{AreLevelParts}
@@ -6,14 +6,15 @@ use Rattle.levels.specs.Levels.{OneLevel, IsBest}
 use Rattle.levels.specs.Orders.{sums_of}
 use Rattle.levels.proofs.Finds.{level_is}
 use Rattle.levels.proofs.Keeping.{few_kept}
+use Rattle.levels.proofs.Rooms.{stored_fits}
 use Rattle.levels.proofs.levels.Levels.parts.Goals as goal
 
 pub parts-requires : goal.parts-requires
 parts-requires g c =
     let narrow : g.row.W ≤ 2 = c.self.invariant.order.narrow in (
-      search rules,
+      omega arith,
       (
-        search rules,
+        stored_fits g.row.W narrow,
         (
           c.self.invariant.order,
           few_kept g.row.W c.self.inside.mains c.self.inside.tops c.self.inside.issued c.self.inside.shelves c.self.inside.rings c.self.invariant c.args.level,

@@ -1,14 +1,17 @@
 -- A name that the top level has is dropped from it.
-use Rattle.std.proofs.Common.{rules, arith, ◌∙◌, is_some, sym, ap, subst}
+use Rattle.std.proofs.Common.{rules, arith, ◌∙◌, is_some, sym, ap, subst, subst₂}
 use Rattle.graphs.specs.Closures.{Closure, DropsPlace}
 use Rattle.graphs.specs.declared.names.Level.TheVariants.{Top}
-use Rattle.levels.specs.Shelves.{levels_of}
+use Rattle.levels.specs.Shelves.{levels_of, Shelf}
 use Rattle.levels.specs.Views.{IsClusterOf}
 use Rattle.levels.proofs.Finds.{graph_is, have_picks, member_is}
 use Rattle.levels.proofs.Tallies.{tops_less, top_turned}
 use Rattle.levels.proofs.Turned.{kept_dropped, stays_from, turns_from}
 use Rattle.levels.proofs.Turning.{dropped_top}
 use Rattle.levels.proofs.Unmoved.{dropped_stays}
+use Rattle.levels.proofs.Rooms.{work_fits}
+use Rattle.levels.specs.Kept.{IsKept}
+use Rattle.levels.specs.Rings.{Ringed}
 use Rattle.levels.proofs.levels.Levels.remove.Goals as goal
 
 pub top_number-number-requires : goal.top_number-number-requires
@@ -76,3 +79,18 @@ returns-clause-steps g c k lists is components =
     c.in_ok-drop_name.ensures.steps k lists
     (subst (λ (h : Closure). IsClusterOf h c.args.id k)
     (graph_is g.row.W c.self.inside.issued c.self.inside.shelves c.args.self.now c.self.invariant.order c.self.view_is Top) is) components
+
+pub drop_name-requires : goal.drop_name-requires
+drop_name-requires g c = (
+  omega arith,
+  (work_fits g.row.W c.self.invariant.order.narrow, (c.self.invariant.order, (c.self.invariant.right, c.top_number-number.ensures))),
+)
+
+pub invariant_of-self : goal.invariant_of-self
+invariant_of-self g c =
+    let err = c.in_err-drop_name.ensures.err in
+    subst₂ (λ (shelf : Shelf) (rings : Ringed). IsKept g.row.W shelf rings c.self.inside.mains c.self.inside.tops c.self.inside.issued)
+    (sym err.0) (sym err.1) c.self.invariant
+
+pub returns-clause-grew : goal.returns-clause-grew
+returns-clause-grew g c = c.drop_name.ensures.grew

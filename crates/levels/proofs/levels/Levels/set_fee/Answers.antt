@@ -1,18 +1,19 @@
 -- A name gets another fee: what the levels ask is asked of their shelf, and what it makes of it is told of the levels.
-use Rattle.std.proofs.Common.{rules, ◌≤◌, sym, subst, of_z, to_z}
+use Rattle.std.proofs.Common.{◌≤◌, sym, subst, of_z, to_z, arith}
 use Rattle.std.specs.Int.{w64}
 use Rattle.std.proofs.lemmas.Int.{to_z-of_z}
 use Rattle.fee_rate.specs.Limits.{IsFee}
 use Rattle.levels.proofs.Finds.{have_picks}
 use Rattle.levels.proofs.Repriced.{have_fee, kept_repriced, levels_failed, levels_priced, levels_same, levels_stay, live_numbered, one_rate, told_alone, told_counted}
+use Rattle.levels.proofs.Rooms.{work_fits}
 use Rattle.levels.proofs.levels.Levels.set_fee.Goals as goal
 
 pub set_fee-requires : goal.set_fee-requires
 set_fee-requires g c =
     let narrow : g.row.W ≤ 2 = c.self.invariant.order.narrow in (
-      search rules,
+      omega arith,
       (
-        search rules,
+        work_fits g.row.W narrow,
         (
           c.self.invariant.order,
           (
@@ -70,3 +71,6 @@ pub returns-clause-steps : goal.returns-clause-steps
 returns-clause-steps g c =
     told_counted g.row.W c.self.inside.issued c.args.id c.self.inside.shelves c.args.self.now c.self.invariant.order c.self.view_is
     c.args.steps.now c.set_fee.new.steps c.set_fee.ensures.steps
+
+pub returns-clause-grew : goal.returns-clause-grew
+returns-clause-grew g c = c.set_fee.ensures.grew

@@ -1,15 +1,17 @@
 -- The cluster stands under a number that was free, and its one name has it.
-use Rattle.std.proofs.Common.{◌≡◌, [], ◌∷◌, None, Some, is_some, ap, ◌∙◌, sym, subst}
+use Rattle.std.proofs.Common.{◌≡◌, [], ◌∷◌, None, Some, is_some, ap, ◌∙◌, sym, subst, arith, subst₂, Option}
 use Rattle.std.specs.FinMap as finmap
 use Rattle.graphs.specs.declared.names.Level.TheVariants.{Top}
-use Rattle.cluster_store.specs.Stores.{Stored}
+use Rattle.cluster_store.specs.Stores.{Stored, Store}
 use Rattle.cluster_store.specs.Changes.{Sets}
-use Rattle.levels.specs.Shelves.{Shelf, numbers_at, top_tag}
+use Rattle.levels.specs.Shelves.{Shelf, numbers_at, top_tag, IsInOrder}
 use Rattle.levels.specs.Tops.{TopRebuilds}
 use Rattle.levels.proofs.Calls.{none_staged, order_shifted, points_put, same_top, shelf_of, shifted, turns_by, turns_same, turns_then}
 use Rattle.levels.proofs.Coming.{comes_new}
 use Rattle.levels.proofs.Making.{Shifts, made_new}
 use Rattle.levels.proofs.shelves.Shelves.add.Given as given
+use Rattle.levels.proofs.Rooms.{cluster_fits, stored_fits}
+use Rattle.levels.specs.Views.{Numbers}
 use Rattle.levels.proofs.shelves.Shelves.add.Goals as goal
 
 module _ (g : given.Over) (c : goal.After-put g) where
@@ -54,3 +56,21 @@ pub returns-clause-order : goal.returns-clause-order
 returns-clause-order g c =
     order_shifted g.row.W c.staged.result [] (c.in_ok-number.number ∷ []) [] (c.args.cluster ∷ []) [] (old g c) (new g c) c.self.invariant
     (shifts g c) (rebuilds g c) c.in_ok-number.ensures.store
+
+pub new-requires : goal.new-requires
+new-requires g c = (cluster_fits g.row.W c.self.invariant.narrow, stored_fits g.row.W c.self.invariant.narrow)
+
+pub add-requires : goal.add-requires
+add-requires g c = (omega arith, stored_fits g.row.W c.self.invariant.narrow)
+
+pub invariant_of-self : goal.invariant_of-self
+invariant_of-self g c =
+    subst₂ (λ (base : Numbers) (top : Option Numbers). IsInOrder g.row.W (record { main = base; staging = top; store = c.self.inside.store }))
+    (sym c.reserve.ensures.base) (sym c.reserve.ensures.top) c.self.invariant
+
+pub invariant_of-self-in_err-number : goal.invariant_of-self-in_err-number
+invariant_of-self-in_err-number g c =
+    subst (λ (store : Store). IsInOrder g.row.W (record { main = c.reserve.new.self.base; staging = c.reserve.new.self.top; store = store }))
+    (sym c.in_err-number.ensures.err) (
+    subst₂ (λ (base : Numbers) (top : Option Numbers). IsInOrder g.row.W (record { main = base; staging = top; store = c.self.inside.store }))
+    (sym c.reserve.ensures.base) (sym c.reserve.ensures.top) c.self.invariant)

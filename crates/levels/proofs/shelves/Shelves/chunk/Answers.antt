@@ -1,5 +1,5 @@
 -- The part of a name is one of its cluster.
-use Rattle.std.proofs.Common.{rules, ◌≡◌, ◌≤◌, Contains, is_some, sym, ap, ◌∙◌, subst}
+use Rattle.std.proofs.Common.{◌≡◌, ◌≤◌, Contains, is_some, sym, ap, ◌∙◌, subst, arith}
 use Rattle.std.proofs.lemmas.Option.{same_Some, slice_get_within}
 use Rattle.graphs.specs.declared.names.Level.TheVariants.{Main}
 use Rattle.graphs.specs.Certificates.{Part}
@@ -8,25 +8,26 @@ use Rattle.levels.specs.Shelves.{view_of}
 use Rattle.levels.proofs.Graphs.{member-number}
 use Rattle.levels.proofs.Places.{part_shown, part_there}
 use Rattle.levels.proofs.Under.{held, is_stored, live, seen_there}
+use Rattle.levels.proofs.Rooms.{cluster_fits}
 use Rattle.levels.proofs.shelves.Shelves.chunk.Goals as goal
 
 pub at-cluster-requires : goal.at-cluster-requires
 at-cluster-requires g c =
     let narrow : g.row.W ≤ 2 = c.requires.order.narrow in
     let is = sym c.number.ensures.number ∙ c.in-Some.is in
-    (search rules, (search rules, is_stored g.row.W c.args.self.now c.requires.order Main c.args.id c.in-Some.number is))
+    (omega arith, (cluster_fits g.row.W narrow, is_stored g.row.W c.args.self.now c.requires.order Main c.args.id c.in-Some.number is))
 
 pub part_of-requires : goal.part_of-requires
 part_of-requires g c =
     let narrow : g.row.W ≤ 2 = c.requires.order.narrow in
     let is = sym c.number.ensures.number ∙ c.in-Some.is in
     let at = seen_there g.row.W c.args.self.now c.requires.order Main c.args.id c.in-Some.number is c.at-cluster.result.now c.at-cluster.ensures in
-    (search rules, held g.row.W c.args.self.now c.requires.order Main c.args.id c.in-Some.number is c.at-cluster.result.now at)
+    (cluster_fits g.row.W narrow, held g.row.W c.args.self.now c.requires.order Main c.args.id c.in-Some.number is c.at-cluster.result.now at)
 
 pub part-requires : goal.part-requires
 part-requires g c =
     let narrow : g.row.W ≤ 2 = c.requires.order.narrow in
-    (search rules, slice_get_within c.at-cluster.result.now.parts c.part_of.result c.part_of.ensures.0 c.part_of.ensures.1)
+    (cluster_fits g.row.W narrow, slice_get_within c.at-cluster.result.now.parts c.part_of.result c.part_of.ensures.0 c.part_of.ensures.1)
 
 pub returns-in-Some : goal.returns-in-Some
 returns-in-Some g c =

@@ -1,16 +1,18 @@
 -- The cluster stands under the number, or under another that its names have.
-use Rattle.std.proofs.Common.{◌≡◌, ℕ, List, [], ◌∷◌, inl, inr, ap, ◌∙◌, sym, subst, subst₂}
+use Rattle.std.proofs.Common.{◌≡◌, ℕ, List, [], ◌∷◌, inl, inr, ap, ◌∙◌, sym, subst, subst₂, arith, is_some, Option}
 use Rattle.std.proofs.lemmas.Option.{same_Some}
 use Rattle.graphs.specs.declared.names.Level.TheVariants.{Top}
 use Rattle.cluster.specs.Clusters.{Cluster}
 use Rattle.staging.specs.Maps.{top_of}
 use Rattle.levels.specs.Changes.{PointsOne}
-use Rattle.levels.specs.Shelves.{Shelf, seen_at}
+use Rattle.levels.specs.Shelves.{Shelf, seen_at, IsInOrder}
 use Rattle.levels.specs.Tops.{TopRebuilds}
 use Rattle.levels.specs.Views.{Numbers}
-use Rattle.levels.proofs.Calls.{order_shifted, same_top, shelf_of, shifted, turns_by, turns_same, turns_then}
+use Rattle.levels.proofs.Calls.{order_shifted, same_top, shelf_of, shifted, turns_by, turns_same, turns_then, none_staged}
 use Rattle.levels.proofs.Making.{Shifts, made_same}
 use Rattle.levels.proofs.shelves.Shelves.exchange.Given as given
+use Rattle.levels.proofs.Rooms.{cluster_fits}
+use Rattle.cluster_store.specs.Stores.{Store}
 use Rattle.levels.proofs.shelves.Shelves.exchange.Goals as goal
 
 -- under another number
@@ -101,3 +103,36 @@ pub returns-else-made-number-clause-order : goal.returns-else-made-number-clause
 returns-else-made-number-clause-order g c =
     order_shifted g.row.W c.staged-staged.result (c.args.number ∷ []) (c.in_ok-made.made ∷ []) (c.requires.there.0 ∷ []) (c.args.cluster ∷ []) []
     (same_old g c) (same_new g c) c.self.invariant (same_shifts g c) (same_rebuilds g c) c.in_ok-made.ensures.store
+
+pub names-requires-then-made-number : goal.names-requires-then-made-number
+names-requires-then-made-number g c = cluster_fits g.row.W c.self.invariant.narrow
+
+pub names-requires : goal.names-requires
+names-requires g c = cluster_fits g.row.W c.self.invariant.narrow
+
+pub come_in-requires : goal.come_in-requires
+come_in-requires g c = (
+  omega arith,
+  (
+    cluster_fits g.row.W c.self.invariant.narrow,
+    (
+      c.self.invariant.narrow,
+      (
+        ap is_some (ap (λ (s : Shelf). seen_at Top s.store.clusters c.args.number) c.self.view_is ∙ c.requires.there.1),
+        λ shut. c.self.invariant.both (none_staged c.self.inside.numbers.top c.staged-staged.result c.staged-staged.ensures shut),
+      ),
+    ),
+  ),
+)
+
+pub invariant_of-self : goal.invariant_of-self
+invariant_of-self g c =
+    subst₂ (λ (base : Numbers) (top : Option Numbers). IsInOrder g.row.W (record { main = base; staging = top; store = c.self.inside.store }))
+    (sym c.reserve.ensures.base) (sym c.reserve.ensures.top) c.self.invariant
+
+pub invariant_of-self-in_err-made : goal.invariant_of-self-in_err-made
+invariant_of-self-in_err-made g c =
+    subst (λ (store : Store). IsInOrder g.row.W (record { main = c.reserve.new.self.base; staging = c.reserve.new.self.top; store = store }))
+    (sym c.in_err-made.ensures.err) (
+    subst₂ (λ (base : Numbers) (top : Option Numbers). IsInOrder g.row.W (record { main = base; staging = top; store = c.self.inside.store }))
+    (sym c.reserve.ensures.base) (sym c.reserve.ensures.top) c.self.invariant)

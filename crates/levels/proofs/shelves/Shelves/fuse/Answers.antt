@@ -1,16 +1,18 @@
 -- The joined cluster stands under the first number, or under another; the names that hadn't that number get it.
-use Rattle.std.proofs.Common.{rules, ◌≡◌, ◌≤◌, ◌⊎◌, ◌++◌, ℕ, List, [], ◌∷◌, Some, length, drop, inl, inr, is_some, ap, ◌∙◌, sym, subst, subst₂, arith, length-append}
+use Rattle.std.proofs.Common.{◌≡◌, ◌≤◌, ◌⊎◌, ◌++◌, ℕ, List, [], ◌∷◌, Some, length, drop, inl, inr, is_some, ap, ◌∙◌, sym, subst, subst₂, arith, length-append, Option}
 use Rattle.std.proofs.lemmas.Option.{same_Some}
 use Rattle.graphs.specs.declared.names.Level.TheVariants.{Top}
 use Rattle.cluster.specs.Clusters.{Cluster}
 use Rattle.staging.specs.Maps.{top_of}
 use Rattle.levels.specs.Changes.{PointsOne}
-use Rattle.levels.specs.Shelves.{Shelf, seen_at}
+use Rattle.levels.specs.Shelves.{Shelf, seen_at, IsInOrder}
 use Rattle.levels.specs.Tops.{TopRebuilds}
 use Rattle.levels.specs.Views.{Numbers}
 use Rattle.levels.proofs.Calls.{names_behind, names_seen, none_staged, order_shifted, same_top, shelf_of, shifted, turns_by, turns_same, turns_then}
 use Rattle.levels.proofs.Making.{Shifts, made_joined}
+use Rattle.levels.proofs.Rooms.{cluster_fits}
 use Rattle.levels.proofs.shelves.Shelves.fuse.Given as given
+use Rattle.cluster_store.specs.Stores.{Store}
 use Rattle.levels.proofs.shelves.Shelves.fuse.Goals as goal
 use Rattle.levels.proofs.shelves.Shelves.fuse.Goals.{then-made-first, else-made-first}
 
@@ -19,9 +21,9 @@ come_together-requires g c =
     let narrow : g.row.W ≤ 2 = c.self.invariant.narrow in
     let see = λ (n : ℕ). ap (λ (s : Shelf). seen_at Top s.store.clusters n) c.self.view_is in
     let there = c.requires.there in (
-      search rules,
+      omega arith,
       (
-        search rules,
+        cluster_fits g.row.W narrow,
         (
           narrow,
           (
@@ -130,3 +132,24 @@ pub returns-clause-order : goal.returns-clause-order
 returns-clause-order g c =
     order_shifted g.row.W c.staged-staged.result (outs g c) (c.in_ok-made.made ∷ []) (a g c ∷ b g c ∷ []) (c.args.joined ∷ []) []
     (old g c) (new g c) c.self.invariant (shifts g c) (rebuilds g c) c.in_ok-made.ensures.store
+
+pub names-requires : goal.names-requires
+names-requires g c = cluster_fits g.row.W c.self.invariant.narrow
+
+pub names-requires-2 : goal.names-requires-2
+names-requires-2 g c = cluster_fits g.row.W c.self.invariant.narrow
+
+pub names-behind-requires : goal.names-behind-requires
+names-behind-requires g c = cluster_fits g.row.W c.self.invariant.narrow
+
+pub invariant_of-self : goal.invariant_of-self
+invariant_of-self g c =
+    subst₂ (λ (base : Numbers) (top : Option Numbers). IsInOrder g.row.W (record { main = base; staging = top; store = c.self.inside.store })) (sym c.reserve.ensures.base)
+    (sym c.reserve.ensures.top) c.self.invariant
+
+pub invariant_of-self-in_err-made : goal.invariant_of-self-in_err-made
+invariant_of-self-in_err-made g c =
+    subst (λ (store : Store). IsInOrder g.row.W (record { main = c.reserve.new.self.base; staging = c.reserve.new.self.top; store = store }))
+    (sym c.in_err-made.ensures.err) (
+    subst₂ (λ (base : Numbers) (top : Option Numbers). IsInOrder g.row.W (record { main = base; staging = top; store = c.self.inside.store })) (sym c.reserve.ensures.base)
+    (sym c.reserve.ensures.top) c.self.invariant)

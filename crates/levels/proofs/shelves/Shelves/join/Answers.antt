@@ -1,16 +1,17 @@
 -- One cluster comes of two.
-use Rattle.std.proofs.Common.{rules, ◌≤◌}
+use Rattle.std.proofs.Common.{rules, ◌≤◌, arith}
 use Rattle.std.proofs.lemmas.Result.{on_ok_weaker}
 use Rattle.graphs.specs.declared.names.Level.TheVariants.{Top}
 use Rattle.levels.proofs.Under.{is_stored}
 use Rattle.levels.proofs.Sides.{sides, turned_there, count_between}
 use Rattle.levels.proofs.Renumbering.{joins_two}
+use Rattle.levels.proofs.Rooms.{cluster_fits, work_fits}
 use Rattle.levels.proofs.shelves.Shelves.join.Goals as goal
 
 pub own_first-first-requires : goal.own_first-first-requires
 own_first-first-requires g c =
     let narrow : g.row.W ≤ 2 = c.requires.order.narrow in (
-      search rules,
+      omega arith,
       (
         search rules,
         (
@@ -25,21 +26,21 @@ at-one-requires g c =
     let narrow : g.row.W ≤ 2 = c.requires.order.narrow in
     let both = turned_there g.row.W c.args.self.now c.requires.order c.args.parent c.args.child c.args.above c.args.below c.own_first-first.result.0 c.own_first-first.result.1
     c.requires.link c.own_first-first.ensures in
-    (search rules, (search rules, both.0))
+    (omega arith, (cluster_fits g.row.W narrow, both.0))
 
 pub at-other-requires : goal.at-other-requires
 at-other-requires g c =
     let narrow : g.row.W ≤ 2 = c.requires.order.narrow in
     let both = turned_there g.row.W c.args.self.now c.requires.order c.args.parent c.args.child c.args.above c.args.below c.own_first-first.result.0 c.own_first-first.result.1
     c.requires.link c.own_first-first.ensures in
-    (search rules, (search rules, both.1))
+    (omega arith, (cluster_fits g.row.W narrow, both.1))
 
 pub joined-requires : goal.joined-requires
 joined-requires g c =
     let narrow : g.row.W ≤ 2 = c.requires.order.narrow in
     let is = sides g.row.W c.args.self.now c.requires.order c.args.parent c.args.child c.args.above c.args.below c.own_first-first.result.0 c.own_first-first.result.1
     c.at-one.result.now c.at-other.result.now c.requires.link c.own_first-first.ensures c.at-one.ensures c.at-other.ensures in
-    (search rules, (search rules, (is.few, (is.alone, is.across))))
+    (cluster_fits g.row.W narrow, (work_fits g.row.W narrow, (is.few, (is.alone, is.across))))
 
 pub returns-in_err-joined-clause-steps : goal.returns-in_err-joined-clause-steps
 returns-in_err-joined-clause-steps g c ids lists =
@@ -53,9 +54,9 @@ fuse-requires g c =
     let narrow : g.row.W ≤ 2 = c.requires.order.narrow in
     let is = sides g.row.W c.args.self.now c.requires.order c.args.parent c.args.child c.args.above c.args.below c.own_first-first.result.0 c.own_first-first.result.1
     c.at-one.result.now c.at-other.result.now c.requires.link c.own_first-first.ensures c.at-one.ensures c.at-other.ensures in (
-      search rules,
+      omega arith,
       (
-        search rules,
+        cluster_fits g.row.W narrow,
         (
           c.in_ok-joined.ensures.whole,
           (is.apart, (c.at-one.result.now, c.at-other.result.now, is.one_at, is.other_at, c.in_ok-joined.ensures.names)),

@@ -1,16 +1,17 @@
 -- A name becomes a parent of another of its cluster.
-use Rattle.std.proofs.Common.{rules, ◌≤◌, sym, ◌∙◌}
+use Rattle.std.proofs.Common.{◌≤◌, sym, ◌∙◌, arith}
 use Rattle.std.proofs.lemmas.Result.{on_ok_weaker}
 use Rattle.graphs.specs.declared.names.Level.TheVariants.{Top}
 use Rattle.levels.proofs.Under.{is_stored, seen_there}
 use Rattle.levels.proofs.Sides.{together, count_within}
 use Rattle.levels.proofs.Renumbering.{links_one}
+use Rattle.levels.proofs.Rooms.{cluster_fits, work_fits}
 use Rattle.levels.proofs.shelves.Shelves.link.Goals as goal
 
 pub at-cluster-requires : goal.at-cluster-requires
 at-cluster-requires g c =
     let narrow : g.row.W ≤ 2 = c.requires.order.narrow in
-    (search rules, (search rules, is_stored g.row.W c.args.self.now c.requires.order Top c.args.parent c.args.number c.requires.link.0))
+    (omega arith, (cluster_fits g.row.W narrow, is_stored g.row.W c.args.self.now c.requires.order Top c.args.parent c.args.number c.requires.link.0))
 
 pub linked-requires : goal.linked-requires
 linked-requires g c =
@@ -18,7 +19,7 @@ linked-requires g c =
     let at = seen_there g.row.W c.args.self.now c.requires.order Top c.args.parent c.args.number c.requires.link.0 c.at-cluster.result.now c.at-cluster.ensures in
     let both = together g.row.W c.args.self.now c.requires.order c.args.parent c.args.child c.args.number c.at-cluster.result.now
     c.requires.link.0 c.requires.link.1 at in
-    (search rules, (search rules, (both.cluster.here, (both.q_in, sym (both.cluster.above c.args.child c.args.parent both.cluster.here) ∙ c.requires.link.3))))
+    (cluster_fits g.row.W narrow, (work_fits g.row.W narrow, (both.cluster.here, (both.q_in, sym (both.cluster.above c.args.child c.args.parent both.cluster.here) ∙ c.requires.link.3))))
 
 pub returns-in_err-changed-clause-steps : goal.returns-in_err-changed-clause-steps
 returns-in_err-changed-clause-steps g c ids lists =
@@ -29,7 +30,7 @@ pub exchange-requires : goal.exchange-requires
 exchange-requires g c =
     let narrow : g.row.W ≤ 2 = c.requires.order.narrow in
     let at = seen_there g.row.W c.args.self.now c.requires.order Top c.args.parent c.args.number c.requires.link.0 c.at-cluster.result.now c.at-cluster.ensures in
-    (search rules, (search rules, (c.in_ok-changed.ensures.whole, (c.at-cluster.result.now, at, c.in_ok-changed.ensures.names))))
+    (omega arith, (cluster_fits g.row.W narrow, (c.in_ok-changed.ensures.whole, (c.at-cluster.result.now, at, c.in_ok-changed.ensures.names))))
 
 pub returns-clause-linked : goal.returns-clause-linked
 returns-clause-linked g c =

@@ -1,5 +1,7 @@
 -- The merged parts are an optimal order of the level, and those of a level.
 use Rattle.levels.proofs.Summing.{best, level_parts, rated}
+use Rattle.std.proofs.Common.{arith}
+use Rattle.levels.proofs.Rooms.{stored_fits}
 use Rattle.levels.proofs.shelves.Shelves.parts.Goals as goal
 
 pub returns-clause-best : goal.returns-clause-best
@@ -10,3 +12,6 @@ returns-clause-rates g c = rated g.row.W c.args.self.now c.requires.order c.args
 
 pub returns-clause-level : goal.returns-clause-level
 returns-clause-level g c = level_parts g.row.W c.args.self.now c.requires.order c.args.level c.requires.few
+
+pub walk-requires : goal.walk-requires
+walk-requires g c = (omega arith, stored_fits g.row.W c.requires.order.narrow)

@@ -1,22 +1,23 @@
 -- The part of a name is one of its cluster.
-use Rattle.std.proofs.Common.{rules, ◌≤◌}
+use Rattle.std.proofs.Common.{◌≤◌, arith}
 use Rattle.graphs.specs.declared.names.Level.TheVariants.{Main}
 use Rattle.levels.proofs.Places.{has_part}
 use Rattle.levels.proofs.Under.{held, is_stored, seen_there}
+use Rattle.levels.proofs.Rooms.{cluster_fits}
 use Rattle.levels.proofs.shelves.Shelves.place_of.Goals as goal
 
 pub at-requires : goal.at-requires
 at-requires g c =
     let narrow : g.row.W ≤ 2 = c.requires.order.narrow in
     let under = c.its_number-number in
-    (search rules, (search rules, is_stored g.row.W c.args.self.now c.requires.order Main c.args.id under.result under.ensures))
+    (omega arith, (cluster_fits g.row.W narrow, is_stored g.row.W c.args.self.now c.requires.order Main c.args.id under.result under.ensures))
 
 pub part_of-requires : goal.part_of-requires
 part_of-requires g c =
     let narrow : g.row.W ≤ 2 = c.requires.order.narrow in
     let under = c.its_number-number in
     let at = seen_there g.row.W c.args.self.now c.requires.order Main c.args.id under.result under.ensures c.at.result.now c.at.ensures in
-    (search rules, held g.row.W c.args.self.now c.requires.order Main c.args.id under.result under.ensures c.at.result.now at)
+    (cluster_fits g.row.W narrow, held g.row.W c.args.self.now c.requires.order Main c.args.id under.result under.ensures c.at.result.now at)
 
 pub returns : goal.returns
 returns g c =

@@ -1,6 +1,7 @@
 -- A pair of names is refused by the rows of its clusters.
-use Rattle.std.proofs.Common.{Some, None, sym, ap, ◌∙◌}
+use Rattle.std.proofs.Common.{Some, None, sym, ap, ◌∙◌, rules}
 use Rattle.levels.proofs.Ways.{no_parent, no_child, way_row, way_link, sum_row}
+use Rattle.levels.proofs.Rooms.{cluster_fits}
 use Rattle.levels.proofs.shelves.Shelves.refused_dep.Goals as goal
 
 pub returns-in_default-clause-row : goal.returns-in_default-clause-row
@@ -37,3 +38,9 @@ returns-in-None-clause-row g c =
     c.at-first.result.now c.at.result.now None
     (sym c.number.ensures.number ∙ c.in-Some.is) (sym c.number-2.ensures.number ∙ c.in-Some-number.is) c.if-above-below.false
     c.at-first.ensures c.at.ensures c.in-None.ensures.row
+
+pub refused_sum-requires : goal.refused_sum-requires
+refused_sum-requires g c = (cluster_fits g.row.W c.requires.order.narrow, c.requires.limit)
+
+pub way_within-requires : goal.way_within-requires
+way_within-requires g c = (cluster_fits g.row.W c.requires.order.narrow, search rules)

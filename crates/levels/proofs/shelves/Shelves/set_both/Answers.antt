@@ -1,5 +1,5 @@
 -- A name gets another fee in the clusters that it has in the levels, where it hasn't that fee already.
-use Rattle.std.proofs.Common.{rules, ◌≤◌, ℤ, sym, ◌∙◌, subst}
+use Rattle.std.proofs.Common.{rules, ◌≤◌, ℤ, sym, ◌∙◌, subst, arith}
 use Rattle.std.specs.Int.{w64}
 use Rattle.std.proofs.lemmas.Int.{to_z-of_z}
 use Rattle.std.proofs.lemmas.Option.{same_Some}
@@ -8,18 +8,19 @@ use Rattle.graphs.specs.declared.names.Level.TheVariants.{Main, Top}
 use Rattle.graphs.specs.Closures.{SetsFee}
 use Rattle.levels.proofs.Fees.{same_bits, same_fee, unseen, both_same, both_changed, both_counted}
 use Rattle.levels.proofs.Under.{held, is_stored, seen_there}
+use Rattle.levels.proofs.Rooms.{cluster_fits, work_fits}
 use Rattle.levels.proofs.shelves.Shelves.set_both.Goals as goal
 
 pub at-first-requires : goal.at-first-requires
 at-first-requires g c =
     let narrow : g.row.W ≤ 2 = c.requires.order.narrow in
-    (search rules, (search rules, is_stored g.row.W c.args.self.now c.requires.order Main c.args.id c.args.main c.requires.main))
+    (omega arith, (cluster_fits g.row.W narrow, is_stored g.row.W c.args.self.now c.requires.order Main c.args.id c.args.main c.requires.main))
 
 pub rate-requires : goal.rate-requires
 rate-requires g c =
     let narrow : g.row.W ≤ 2 = c.requires.order.narrow in
     let seen = seen_there g.row.W c.args.self.now c.requires.order Main c.args.id c.args.main c.requires.main c.at-first.result.now c.at-first.ensures in
-    (search rules, held g.row.W c.args.self.now c.requires.order Main c.args.id c.args.main c.requires.main c.at-first.result.now seen)
+    (cluster_fits g.row.W narrow, held g.row.W c.args.self.now c.requires.order Main c.args.id c.args.main c.requires.main c.at-first.result.now seen)
 
 pub returns-then-rate-fee-clause-fees : goal.returns-then-rate-fee-clause-fees
 returns-then-rate-fee-clause-fees g c =
@@ -31,9 +32,9 @@ pub with_fee-requires : goal.with_fee-requires
 with_fee-requires g c =
     let narrow : g.row.W ≤ 2 = c.requires.order.narrow in
     let seen = seen_there g.row.W c.args.self.now c.requires.order Main c.args.id c.args.main c.requires.main c.at-first.result.now c.at-first.ensures in (
-      search rules,
+      cluster_fits g.row.W narrow,
       (
-        search rules,
+        work_fits g.row.W narrow,
         (
           held g.row.W c.args.self.now c.requires.order Main c.args.id c.args.main c.requires.main c.at-first.result.now seen,
           subst IsFee (sym (to_z-of_z w64 c.args.fee c.ranges.fee)) c.requires.fee,
@@ -49,15 +50,15 @@ returns-in_err-new_main-clause-still g c same =
 pub at-requires : goal.at-requires
 at-requires g c =
     let narrow : g.row.W ≤ 2 = c.requires.order.narrow in
-    (search rules, (search rules, is_stored g.row.W c.args.self.now c.requires.order Top c.args.id c.args.top c.requires.top))
+    (omega arith, (cluster_fits g.row.W narrow, is_stored g.row.W c.args.self.now c.requires.order Top c.args.id c.args.top c.requires.top))
 
 pub with_fee-requires-2 : goal.with_fee-requires-2
 with_fee-requires-2 g c =
     let narrow : g.row.W ≤ 2 = c.requires.order.narrow in
     let seen = seen_there g.row.W c.args.self.now c.requires.order Top c.args.id c.args.top c.requires.top c.at.result.now c.at.ensures in (
-      search rules,
+      cluster_fits g.row.W narrow,
       (
-        search rules,
+        work_fits g.row.W narrow,
         (
           held g.row.W c.args.self.now c.requires.order Top c.args.id c.args.top c.requires.top c.at.result.now seen,
           subst IsFee (sym (to_z-of_z w64 c.args.fee c.ranges.fee)) c.requires.fee,
@@ -87,9 +88,9 @@ exchange_both-requires g c =
     (λ is. c.requires.apart (same_Some c.args.main c.args.top (sym is ∙ c.requires.top))) in
     let second_out = unseen g.row.W c.args.self.now c.requires.order c.args.top c.at.result.now c.at.ensures Main c.args.id second_in
     (λ is. c.requires.apart (same_Some c.args.main c.args.top (sym c.requires.main ∙ is))) in (
-      search rules,
+      omega arith,
       (
-        search rules,
+        cluster_fits g.row.W narrow,
         (
           narrow,
           (

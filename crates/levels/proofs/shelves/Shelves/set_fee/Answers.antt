@@ -1,9 +1,13 @@
 -- A name gets another fee: in one cluster where one number serves each level that has it, and else in two.
-use Rattle.std.proofs.Common.{rules, ◌≤◌, Some, inl, inr, sym, ap, ◌∙◌, subst, of_z, to_z}
+use Rattle.std.proofs.Common.{◌≤◌, Some, inl, inr, sym, ap, ◌∙◌, subst, of_z, to_z, arith, ◌≡◌, is_some, true≢false}
+use Rattle.std.specs.FinMap as finmap
 use Rattle.std.specs.Int.{w64}
 use Rattle.std.proofs.lemmas.Int.{to_z-of_z}
 use Rattle.fee_rate.specs.Limits.{IsFee}
 use Rattle.levels.proofs.Only.{only_main, only_top, only_there, only_fees, only_still, only_counted, only_shared, not_shared, not_shared_none, both_still, both_told}
+use Rattle.levels.proofs.Rooms.{work_fits}
+use Rattle.levels.specs.Shelves.{numbers_at}
+use Rattle.graphs.specs.declared.names.Level.TheVariants.{Main, Top}
 use Rattle.levels.proofs.shelves.Shelves.set_fee.Goals as goal
 
 pub set_one-requires : goal.set_one-requires
@@ -11,9 +15,9 @@ set_one-requires g c =
     let narrow : g.row.W ≤ 2 = c.requires.order.narrow in
     let only = only_main g.row.W c.in-Some-Some.main c.args.id c.args.self.now c.requires.order c.number.result c.number-2.result
     c.number.ensures.number c.number-2.ensures.number c.in-Some-Some.is-0 (inr (c.in-Some-Some.is-1 ∙ ap Some (sym c.if-main-top.true))) in (
-      search rules,
+      omega arith,
       (
-        search rules,
+        work_fits g.row.W narrow,
         (
           c.requires.order,
           (
@@ -83,9 +87,9 @@ set_one-requires-in-Some-None g c =
     let narrow : g.row.W ≤ 2 = c.requires.order.narrow in
     let only = only_main g.row.W c.in-Some-None.main c.args.id c.args.self.now c.requires.order c.number.result c.number-2.result
     c.number.ensures.number c.number-2.ensures.number c.in-Some-None.is-0 (inl c.in-Some-None.is-1) in (
-      search rules,
+      omega arith,
       (
-        search rules,
+        work_fits g.row.W narrow,
         (
           c.requires.order,
           (
@@ -121,9 +125,9 @@ set_one-requires-in-None-Some g c =
     let narrow : g.row.W ≤ 2 = c.requires.order.narrow in
     let only = only_top g.row.W c.in-None-Some.top c.args.id c.args.self.now c.requires.order c.number.result c.number-2.result
     c.number.ensures.number c.number-2.ensures.number c.in-None-Some.is-0 c.in-None-Some.is-1 in (
-      search rules,
+      omega arith,
       (
-        search rules,
+        work_fits g.row.W narrow,
         (
           c.requires.order,
           (
@@ -153,3 +157,31 @@ returns-in-None-Some-clause-steps g c =
     let only = only_top g.row.W c.in-None-Some.top c.args.id c.args.self.now c.requires.order c.number.result c.number-2.result
     c.number.ensures.number c.number-2.ensures.number c.in-None-Some.is-0 c.in-None-Some.is-1 in
     only_counted g.row.W c.in-None-Some.top c.args.id c.args.self.now only c.args.steps.now c.set_one-in-None-Some.new.steps c.set_one-in-None-Some.ensures.steps
+
+pub set_both-requires : goal.set_both-requires
+set_both-requires g c =
+    let narrow : g.row.W ≤ 2 = c.requires.order.narrow in
+    let at_main : finmap.get (numbers_at Main c.args.self.now) c.args.id ≡ Some c.in-Some-Some.main = sym c.number.ensures.number ∙ c.in-Some-Some.is-0 in
+    let at_top : finmap.get (numbers_at Top c.args.self.now) c.args.id ≡ Some c.in-Some-Some.top = sym c.number-2.ensures.number ∙ c.in-Some-Some.is-1 in (
+      omega arith,
+      (
+        work_fits g.row.W narrow,
+        (
+          c.requires.order,
+          (
+            subst IsFee (sym (to_z-of_z w64 c.args.fee c.ranges.fee)) c.requires.fee,
+            (
+              c.if-main-top.false,
+              (at_main, (at_top, λ a b in_main in_top. c.requires.one c.in-Some-Some.main c.in-Some-Some.top a b at_main at_top in_main in_top)),
+            ),
+          ),
+        ),
+      ),
+    )
+
+pub returns-in-None-None-clause-fees : goal.returns-in-None-None-clause-fees
+returns-in-None-None-clause-fees g c =
+    absurd (elim c.requires.live [
+      | inl some ↦ true≢false (sym some ∙ ap is_some (sym c.number.ensures.number ∙ c.in-None-None.is-0))
+      | inr some ↦ true≢false (sym some ∙ ap is_some (sym c.number-2.ensures.number ∙ c.in-None-None.is-1))
+    ])

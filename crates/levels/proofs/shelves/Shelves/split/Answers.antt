@@ -1,15 +1,17 @@
 -- What is left of the cluster stands in its place, its names have the new numbers, and the one name has none.
-use Rattle.std.proofs.Common.{rules, ◌≡◌, ◌≤◌, ◌+◌, ℕ, List, [], ◌∷◌, ap, ◌∙◌, sym, subst, arith}
+use Rattle.std.proofs.Common.{◌≤◌, ◌+◌, ℕ, List, [], ◌∷◌, ap, ◌∙◌, sym, subst, arith, is_some}
 use Rattle.std.specs.FinMap as finmap
 use Rattle.graphs.specs.declared.names.Level.TheVariants.{Top}
+use Rattle.cluster.specs.Clusters.{Cluster}
 use Rattle.staging.specs.Maps.{top_of}
 use Rattle.levels.specs.Shelves.{Shelf, seen_at}
 use Rattle.levels.specs.Tops.{AreTold, ComesApart, TopRebuilds}
 use Rattle.levels.specs.Views.{Numbers}
-use Rattle.levels.proofs.Calls.{Turns, order_shifted, same_top, shelf_of, turns_by, turns_same, turns_then}
+use Rattle.levels.proofs.Calls.{Turns, order_shifted, same_top, shelf_of, turns_by, turns_same, turns_then, none_staged}
 use Rattle.levels.proofs.Parting.{Parted, Parts, others_of, parted}
 use Rattle.levels.proofs.Pointing.{names_in}
 use Rattle.levels.proofs.shelves.Shelves.split.Given as given
+use Rattle.levels.proofs.Rooms.{cluster_fits}
 use Rattle.levels.proofs.shelves.Shelves.split.Goals as goal
 
 pub point_all-requires : goal.point_all-requires
@@ -21,9 +23,10 @@ point_all-requires g c =
     let list = c.as_slice-2.result.now in
     let comes = subst (λ (xs : List ℕ). ComesApart c.staged-staged.result c.args.number xs left old new) (sym c.as_slice-2.ensures.value) c.in_ok-made.ensures.comes in
     let others = others_of c.staged-staged.result c.args.number list left old new comes in
-    let count : c.in_ok-few.few ≡ names_in left + 1 = c.in_ok-few.ensures ∙ ap (λ n. n + 1) (ap names_in c.as_slice.ensures.value) in
-    let room : names_in others.clusters ≤ c.remove.new.self.spare = omega (arith, others.few, count, c.in_ok-reserve.ensures.room, c.remove.ensures.spare) in
-    (search rules, (narrow, (others.clusters, others.at, others.apart c.requires.apart, room)))
+    let made : names_in left + 1 ≤ c.make_room.new.numbers.spare =
+    subst (λ (cs : List Cluster). names_in cs + 1 ≤ c.make_room.new.numbers.spare) c.as_slice.ensures.value c.in_ok-make_room.ensures.room in
+    let room : names_in others.clusters ≤ c.remove.new.self.spare = omega (arith, others.few, made, c.remove.ensures.spare) in
+    (omega arith, (narrow, (others.clusters, others.at, others.apart c.requires.apart, room)))
 
 module _ (g : given.Over) (c : goal.After-point_all g) where
   abbrev old : Shelf
@@ -34,10 +37,10 @@ module _ (g : given.Over) (c : goal.After-point_all g) where
 
   turns : Turns c.self.inside.numbers c.point_all.new.numbers
   turns =
-      turns_then c.self.inside.numbers c.reserve.new.self c.point_all.new.numbers
-      (turns_same c.self.inside.numbers c.reserve.new.self c.in_ok-reserve.ensures.base c.in_ok-reserve.ensures.top)
-      (turns_then c.reserve.new.self c.remove.new.self c.point_all.new.numbers
-      (turns_by c.reserve.new.self c.remove.new.self c.remove.ensures.staged c.remove.ensures.base)
+      turns_then c.self.inside.numbers c.make_room.new.numbers c.point_all.new.numbers
+      (turns_same c.self.inside.numbers c.make_room.new.numbers c.in_ok-make_room.ensures.base c.in_ok-make_room.ensures.top)
+      (turns_then c.make_room.new.numbers c.remove.new.self c.point_all.new.numbers
+      (turns_by c.make_room.new.numbers c.remove.new.self c.remove.ensures.staged c.remove.ensures.base)
       (turns_by c.remove.new.self c.point_all.new.numbers c.point_all.ensures.staged c.point_all.ensures.base))
 
   parts : Parts g.row.W c.args.number c.args.id c.requires.there.0 c.args.left.items c.as_slice-2.result.now c.staged-staged.result
@@ -58,7 +61,7 @@ module _ (g : given.Over) (c : goal.After-point_all g) where
     base = turns.base;
     removed = c.remove.ensures.top
         ∙ ap (λ (m : Numbers). finmap.remove m c.args.id)
-        (same_top c.self.inside.numbers c.reserve.new.self c.in_ok-reserve.ensures.base c.in_ok-reserve.ensures.top);
+        (same_top c.self.inside.numbers c.make_room.new.numbers c.in_ok-make_room.ensures.base c.in_ok-make_room.ensures.top);
     points = c.point_all.ensures.points;
   }
 
@@ -89,3 +92,27 @@ returns-clause-top g c =
           c.self.view_is m.rebuilds,
       subst (AreTold c.args.number c.args.left.items m.all) c.as_slice-2.ensures.value m.told,
     )
+
+pub drop-left-requires-room-T-Destruct : goal.drop-left-requires-room-T-Destruct
+drop-left-requires-room-T-Destruct g c κs = cluster_fits g.row.W c.self.invariant.narrow
+
+pub make_room-requires : goal.make_room-requires
+make_room-requires g c = (cluster_fits g.row.W c.self.invariant.narrow, c.self.invariant.narrow)
+
+pub put_apart-requires : goal.put_apart-requires
+put_apart-requires g c = (
+  omega arith,
+  (
+    cluster_fits g.row.W c.self.invariant.narrow,
+    (
+      c.self.invariant.narrow,
+      (
+        ap is_some (ap (λ (s : Shelf). seen_at Top s.store.clusters c.args.number) c.self.view_is ∙ c.requires.there.1),
+        λ shut. c.self.invariant.both (none_staged c.self.inside.numbers.top c.staged-staged.result c.staged-staged.ensures shut),
+      ),
+    ),
+  ),
+)
+
+pub remove-requires : goal.remove-requires
+remove-requires g c = omega (arith, c.in_ok-make_room.ensures.room)
