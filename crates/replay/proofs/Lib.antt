@@ -10,3 +10,5 @@ pub mod WritingLemmas
 pub mod TextLemmas
 pub mod FeedLemmas
 pub mod AcceptLemmas
+pub mod AheadLemmas
+pub mod Rooms

@@ -63,8 +63,8 @@ impl<const W: usize> Session<W> {
         ensures additions { IfOk result (λ session. session.levels.issued ≡ 0) }
     {
         Ok(Session {
-            graph: TxGraph::new(alloc, DEFAULT_LIMITS)?,
             ids: IdBuf::new(alloc, MAX_NAMES)?,
+            graph: TxGraph::new(alloc, DEFAULT_LIMITS)?,
         })
     }
 

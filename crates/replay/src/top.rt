@@ -1,6 +1,9 @@
-ghost use Rattle.std.specs.Prelude.{◌≡◌, ◌≢◌, ℕ, ◌≤◌, IfSome, length, MatchOption, codes, map, string_bytes};
+ghost use Rattle.std.specs.Prelude.{◌≡◌, ◌≢◌, ℕ, ◌≤◌, [], false, IfSome, length, MatchOption, codes, map, string_bytes};
+ghost use Rattle.graph_model.specs.States.{start};
+ghost use Rattle.graph_model.specs.declared.limits.TheConstants.{MAX_COUNT};
 ghost use Rattle.graph_model.specs.Lines.{max_input};
 ghost use Rattle.outside.specs.Faults.{Rose};
+ghost use Rattle.tx_graph.specs.Kept.{StandsFor};
 ghost use Rattle.replay.specs.Statuses.{AreReplay, AreCheck, AreRefused, Replays, Refuses, SuitsWords, EndsWell, StatusFaults, end_status, status_code};
 ghost use Rattle.replay.specs.Words.{IsCommand, IsName};
 ghost use Rattle.replay.specs.Checks.{Checks};
@@ -8,7 +11,7 @@ ghost use Rattle.replay.specs.Checks.{Checks};
 use crate::answering::answer_lines;
 use crate::check::check_text;
 use crate::input::End;
-use crate::lines::Lines;
+use crate::lines::{Lines, Stage};
 use crate::replies::Replies;
 use crate::session::Session;
 use outside::{Failed, Sink, Source};
@@ -92,16 +95,42 @@ fn replay_lines<S: Source, K: Sink>(alloc: Global, source: &mut S, sink: &mut K)
         (K.faults sink.new) }
     ensures within_limit { IfSome (S.left source.old) (λ bytes. length bytes ≤ max_input → result ≢ Status.InputLimit) }
 {
-    let Ok(mut session) = Session::<1>::new(alloc) else {
-        return Status::NoMemory;
-    };
     let Ok(mut lines) = Lines::new(alloc) else {
         return Status::NoMemory;
     };
     let Ok(mut replies) = Replies::new(alloc) else {
         return Status::NoMemory;
     };
-    match answer_lines(&mut session, &mut lines, &mut replies, source, sink) {
+    let Ok(mut session) = Session::<1>::new(alloc) else {
+        return Status::NoMemory;
+    };
+    let status = replay_in(&mut session, &mut lines, &mut replies, source, sink);
+    drop(session);
+    status
+}
+
+/// The same in a session, lines and replies that are fresh.
+fn replay_in<S: Source, K: Sink>(
+    session: &mut Session<1>,
+    lines: &mut Lines,
+    replies: &mut Replies,
+    source: &mut S,
+    sink: &mut K,
+) -> Status
+    requires fresh { StandsFor session.old (start MAX_COUNT) }
+    requires none_added { session.old.levels.issued ≡ 0 }
+    requires none_held { lines.old.held ≡ [] }
+    requires none_dropped { lines.old.long ≡ false }
+    requires none_taken { lines.old.taken ≡ 0 }
+    requires going { lines.old.stage ≡ Stage.Open }
+    requires no_replies { replies.old ≡ [] }
+    ensures replays { Replays result (S.left source.old) (S.left source.new) K.written sink.old sink.new }
+    ensures no_memory { result ≡ Status.NoMemory → sink.new ≡ sink.old }
+    ensures faults { StatusFaults result (S.faults source.old) (S.faults source.new) (K.faults sink.old)
+        (K.faults sink.new) }
+    ensures within_limit { IfSome (S.left source.old) (λ bytes. length bytes ≤ max_input → result ≢ Status.InputLimit) }
+{
+    match answer_lines(session, lines, replies, source, sink) {
         Ok(end) => status_of(end),
         Err(Failed) => Status::WriteFault,
     }

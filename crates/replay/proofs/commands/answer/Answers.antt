@@ -8,3 +8,7 @@ returns-in-Whole-clause-line g c line is = let e : line ≡ c.in-Whole.bytes.now
 
 pub returns-in-TooLong-clause-line : goal.returns-in-TooLong-clause-line
 returns-in-TooLong-clause-line g c line is answer told state stands = (state, stands, rw told (subst (λ (p : Piece). IsLine p line) c.in-TooLong.is is, refl))
+
+-- that the graph fits in memory is asked of the caller too
+pub read-requires : goal.read-requires
+read-requires g c = assumption

@@ -1,4 +1,4 @@
-use Rattle.std.proofs.Common.{refl}
+use Rattle.std.proofs.Common.{ℕ, ◌*◌, ◌≤◌, refl, sym, subst, arith}
 use Rattle.replay.proofs.SessionLemmas.{meaning_answers, meaning_suits}
 use Rattle.replay.proofs.commands.read.Goals as goal
 
@@ -14,3 +14,12 @@ pub returns-clause-suits : goal.returns-clause-suits
 returns-clause-suits g c answer told =
     meaning_suits c.args.graph.now c.obey_unpaid.new.graph c.args.bytes.now _ answer c.if-bytes-gt-MAX_LINE.false c.read_line-line.ensures.meaning
     (c.obey_unpaid.ensures.answers answer told)
+
+pub obey_unpaid-requires : goal.obey_unpaid-requires
+obey_unpaid-requires g c = record {
+  name = refl;
+  parts = refl;
+  some = omega (arith, c.new.ensures);
+  few = c.requires.few;
+  room = subst (λ (n : ℕ). (32766 ≤ n) × (64 * g.row.W ≤ n)) (sym c.read_line-line.ensures.room) c.requires.room;
+}

@@ -1,4 +1,4 @@
-use Rattle.std.proofs.Common.{rules, ◌≡◌, List, ℕ, map, sym, ap, ◌∙◌}
+use Rattle.std.proofs.Common.{◌≡◌, List, ℕ, map, sym, ap, ◌∙◌}
 use Rattle.cluster_store.specs.Lent.{lent}
 use Rattle.std.proofs.lemmas.List.{map-append}
 use Rattle.graphs.specs.Certificates.{Part}
@@ -8,9 +8,13 @@ use Rattle.replay.specs.Writings.{tx_line_of}
 use Rattle.replay.proofs.WritingLemmas.{lines_on, rest_on, flat_map_push, held_by}
 use Rattle.replay.proofs.writing.more_all_txs.Goals as goal
 
+-- that a part's cluster fits in memory is asked of the caller too
+pub next-requires : goal.next-requires
+next-requires g c = assumption
+
 pub more_txs-so_far-requires : goal.more_txs-so_far-requires
 more_txs-so_far-requires g c = (
-  search rules,
+  assumption,
   λ id here. c.requires id (held_by (λ (part : Part). part.ids) c.args.parts (map lent c.loop-part.yielded) c.loop-part.part-iterator c.next.new.self
       (lent c.in-Some.part) c.loop-part.invariant.rest c.in-Some.ensures.steps id here),
 )

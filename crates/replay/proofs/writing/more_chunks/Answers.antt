@@ -4,6 +4,10 @@ use Rattle.graph_model.specs.Texts.{chunk_line}
 use Rattle.replay.proofs.WritingLemmas.{lines_on, rest_on, map_push}
 use Rattle.replay.proofs.writing.more_chunks.Goals as goal
 
+-- that a part's cluster fits in memory is asked of the caller too
+pub next-requires : goal.next-requires
+next-requires g c = assumption
+
 pub loop-part-preserved : goal.loop-part-preserved
 loop-part-preserved g c = record {
   rest = rest_on lent c.args.parts c.loop-part.yielded c.loop-part.part-iterator c.next.new.self c.in-Some.part c.loop-part.invariant.rest c.in-Some.ensures.steps;

@@ -4,6 +4,10 @@ use Rattle.graph_model.specs.Texts.{chunk_line, flow_line, part_lines}
 use Rattle.replay.proofs.WritingLemmas.{lines_on, rest_on, flat_map_push}
 use Rattle.replay.proofs.writing.more_parts.Goals as goal
 
+-- that a part's cluster fits in memory is asked of the caller too
+pub next-requires : goal.next-requires
+next-requires g c = assumption
+
 pub loop-part-preserved : goal.loop-part-preserved
 loop-part-preserved g c =
     let so_far = flat_map part_lines (map lent c.loop-part.yielded) in

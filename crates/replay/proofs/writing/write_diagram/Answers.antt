@@ -10,3 +10,9 @@ returns g c =
     let out = c.more_points-so_far.ensures points yields.yields in
     let written = lines_on _ _ _ _ _ _ (Ok tt) _ _ (map point_line points) (codes "end" ∷ []) _ out c.more.ensures refl in
     (runs.Replies (Points points), (Points points, step, refl), c.told.ensures.writes _ _ _ _ _ written, c.told.ensures.told)
+
+pub diagram-requires : goal.diagram-requires
+diagram-requires g c = assumption
+
+pub more_points-so_far-requires : goal.more_points-so_far-requires
+more_points-so_far-requires g c = assumption

@@ -1,7 +1,8 @@
-use Rattle.std.proofs.Common.{map, codes, Ok, ◌∷◌, [], refl}
+use Rattle.std.proofs.Common.{◌<◌, map, codes, Ok, ◌∷◌, [], refl}
 use Rattle.graph_model.specs.Replies.{Parts}
 use Rattle.graph_model.specs.Runs as runs
 use Rattle.graph_model.specs.Texts.{chunk_line}
+use Rattle.replay.proofs.Rooms.{graph_room, stored_fits}
 use Rattle.replay.proofs.WritingLemmas.{lines_on}
 use Rattle.replay.proofs.writing.write_order.Goals as goal
 
@@ -10,3 +11,9 @@ returns g c =
     let parts = c.order.result in
     let written = lines_on _ _ _ _ _ _ (Ok tt) _ _ (map chunk_line parts) (codes "end" ∷ []) _ c.more_chunks-so_far.ensures c.more.ensures (refl) in
     (runs.Replies (Parts parts), (Parts parts, c.order.ensures.step, refl), c.told.ensures.writes _ _ _ _ _ written, c.told.ensures.told)
+
+pub order-requires : goal.order-requires
+order-requires g c = let fits : graph_room g.row.W < 9223372036854775808 = assumption in (fits, stored_fits g.row.W fits)
+
+pub more_chunks-so_far-requires : goal.more_chunks-so_far-requires
+more_chunks-so_far-requires g c = stored_fits g.row.W assumption

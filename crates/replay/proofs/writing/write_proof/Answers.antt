@@ -1,4 +1,4 @@
-use Rattle.std.proofs.Common.{rules, ◌≡◌, ◌≤◌, ◌+◌, ◌-◌, ℕ, List, map, flat_map, codes, Contains, Ok, ◌∷◌, [], ◌++◌, refl, sym, subst}
+use Rattle.std.proofs.Common.{◌≡◌, ◌<◌, ◌≤◌, ◌+◌, ◌-◌, ℕ, List, map, flat_map, codes, Contains, Ok, ◌∷◌, [], ◌++◌, refl, sym, subst}
 use Rattle.graphs.specs.Certificates.{Part}
 use Rattle.graph_model.specs.Answers.{order_of}
 use Rattle.graph_model.specs.States.{level_of}
@@ -8,21 +8,40 @@ use Rattle.graph_model.specs.Texts.{part_lines}
 use Rattle.levels.specs.Levels.{level_at}
 use Rattle.tx_graph.specs.Readings.{IsBestOrder}
 use Rattle.replay.specs.Writings.{ListsEach, tx_line_of, edges_lines}
+use Rattle.replay.proofs.Rooms.{graph_room, stored_fits}
 use Rattle.replay.proofs.TextLemmas.{graph_at, names_live, text_with, text_is, text_lines_are}
 use Rattle.replay.proofs.WritingLemmas.{lines_on}
 use Rattle.replay.proofs.writing.write_proof.Goals as goal
+
+-- that the graph fits in memory is asked of the caller too
+pub additions-additions-requires : goal.additions-additions-requires
+additions-additions-requires g c = assumption
+
+pub order-requires : goal.order-requires
+order-requires g c = let fits : graph_room g.row.W < 9223372036854775808 = assumption in (fits, stored_fits g.row.W fits)
+
+pub order-requires-2 : goal.order-requires-2
+order-requires-2 g c = let fits : graph_room g.row.W < 9223372036854775808 = assumption in (fits, stored_fits g.row.W fits)
+
+pub order-requires-3 : goal.order-requires-3
+order-requires-3 g c = let fits : graph_room g.row.W < 9223372036854775808 = assumption in (fits, stored_fits g.row.W fits)
+
+pub more_parts-so_far-requires : goal.more_parts-so_far-requires
+more_parts-so_far-requires g c = stored_fits g.row.W assumption
 
 pub more_all_txs-so_far-requires : goal.more_all_txs-so_far-requires
 more_all_txs-so_far-requires g c =
     let state = c.additions-additions.ensures.stands in
     let best = c.order.ensures.best state.0 state.1 in
-    (search rules, (search rules, λ id here. (names_live c.args.graph.now state.0 c.args.level c.order.result state.1 best id).0 here))
+    let fits : graph_room g.row.W < 9223372036854775808 = assumption in
+    (fits, (stored_fits g.row.W fits, λ id here. (names_live c.args.graph.now state.0 c.args.level c.order.result state.1 best id).0 here))
 
 pub more_all_edges-so_far-requires : goal.more_all_edges-so_far-requires
 more_all_edges-so_far-requires g c =
     let state = c.additions-additions.ensures.stands in
     let best = c.order-2.ensures.best state.0 state.1 in
-    (search rules, (search rules, λ id here. (names_live c.args.graph.now state.0 c.args.level c.order-2.result state.1 best id).0 here))
+    let fits : graph_room g.row.W < 9223372036854775808 = assumption in
+    (fits, (stored_fits g.row.W fits, λ id here. (names_live c.args.graph.now state.0 c.args.level c.order-2.result state.1 best id).0 here))
 
 pub returns : goal.returns
 returns g c =

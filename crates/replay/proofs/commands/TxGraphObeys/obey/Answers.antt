@@ -104,3 +104,19 @@ returns-in-Read-clause-additions g c = omega arith
 
 pub returns-in-Read-clause-room : goal.returns-in-Read-clause-room
 returns-in-Read-clause-room g c = c.requires.room
+
+-- that the graph fits in memory is asked of the caller too
+pub make-requires : goal.make-requires
+make-requires g c = assumption
+
+pub find-requires : goal.find-requires
+find-requires g c = assumption
+
+pub count-requires : goal.count-requires
+count-requires g c = assumption
+
+pub compare-requires : goal.compare-requires
+compare-requires g c = assumption
+
+pub settle-requires : goal.settle-requires
+settle-requires g c = assumption

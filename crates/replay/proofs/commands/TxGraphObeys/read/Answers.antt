@@ -15,3 +15,15 @@ pub returns-in-Chunk : goal.returns-in-Chunk
 returns-in-Chunk g c =
     let told = c.write_part.ensures in
     rw c.in-Chunk.is (told.0, (part_reply c.chunk.result, c.chunk.ensures.step, told.1), told.2, told.3)
+
+pub write_order-requires : goal.write_order-requires
+write_order-requires g c = assumption
+
+pub write_diagram-requires : goal.write_diagram-requires
+write_diagram-requires g c = assumption
+
+pub write_proof-requires : goal.write_proof-requires
+write_proof-requires g c = assumption
+
+pub chunk-requires : goal.chunk-requires
+chunk-requires g c = assumption

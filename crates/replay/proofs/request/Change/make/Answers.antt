@@ -10,6 +10,31 @@ at_most_one : (b : Bool) → (if b then 1 else 0) ≤ 1
 at_most_one true = omega arith
 at_most_one false = omega arith
 
+-- that the graph fits in memory is asked of the caller too
+pub set_limits-requires : goal.set_limits-requires
+set_limits-requires g c = assumption
+
+pub add-requires : goal.add-requires
+add-requires g c = assumption
+
+pub dep-requires : goal.dep-requires
+dep-requires g c = assumption
+
+pub fee-requires : goal.fee-requires
+fee-requires g c = assumption
+
+pub remove-requires : goal.remove-requires
+remove-requires g c = assumption
+
+pub stage-requires : goal.stage-requires
+stage-requires g c = assumption
+
+pub commit-requires : goal.commit-requires
+commit-requires g c = assumption
+
+pub abort-requires : goal.abort-requires
+abort-requires g c = assumption
+
 pub returns-in-Limits-clause-step : goal.returns-in-Limits-clause-step
 returns-in-Limits-clause-step g c = rw c.in-Limits.is c.set_limits.ensures.step
 

@@ -1,5 +1,14 @@
-use Rattle.std.proofs.Common.{arith}
 use Rattle.replay.proofs.request.Search.find.Goals as goal
+
+-- that the names fit in memory is asked of the caller too
+pub cluster-requires : goal.cluster-requires
+cluster-requires g c = assumption
+
+pub ancestors-requires : goal.ancestors-requires
+ancestors-requires g c = assumption
+
+pub descendants-requires : goal.descendants-requires
+descendants-requires g c = assumption
 
 pub returns-in-Cluster-clause-step : goal.returns-in-Cluster-clause-step
 returns-in-Cluster-clause-step g c = rw c.in-Cluster.is c.cluster.ensures.step
