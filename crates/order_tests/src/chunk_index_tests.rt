@@ -4,10 +4,11 @@ use graphs::Level;
 use outside::NoMemory;
 use std::alloc::{AllocError, Global};
 use std::cmp::Ordering;
+use std::process::Abort;
 use std::test::Fail;
 
 /// What a row of the table does.
-#[derive(Clone, Copy, Debug)]
+#[derive(Clone, Copy)]
 enum Step {
     Insert(Tag),
     Retag(Tag),
@@ -25,8 +26,8 @@ fn entry(fee: i64, size: u64, serial: u64, position: usize) -> Entry {
 
 /// The order of the rows by itself, for small numbers.
 fn stands_before(a: &Entry, b: &Entry) -> bool {
-    let left = i128::from(b.rate.fee) * i128::from(a.rate.size);
-    let right = i128::from(a.rate.fee) * i128::from(b.rate.size);
+    let left = i128::from(b.rate.fee).wrapping_mul(i128::from(a.rate.size));
+    let right = i128::from(a.rate.fee).wrapping_mul(i128::from(b.rate.size));
     let by_rate = left.cmp(&right);
     let by_serial = by_rate.then(a.serial.cmp(&b.serial));
     let by_position = by_serial.then(a.position.cmp(&b.position));
@@ -110,28 +111,88 @@ fn gives(
     Ok(onward && back)
 }
 
+fn level_agrees(
+    alloc: Global,
+    index: &ChunkIndex,
+    plain: &Plain,
+    level: Level,
+    tags: &[Tag],
+) -> Result<bool, AllocError> {
+    gives(alloc, index.walk(level), index.walk(level), plain, tags)
+}
+
+fn tag_agrees(
+    alloc: Global,
+    index: &ChunkIndex,
+    plain: &Plain,
+    tag: Tag,
+) -> Result<bool, AllocError> {
+    gives(
+        alloc,
+        index.walk_only(tag),
+        index.walk_only(tag),
+        plain,
+        &[tag],
+    )
+}
+
+fn main_agrees(alloc: Global, index: &ChunkIndex, plain: &Plain) -> Result<bool, AllocError> {
+    let tags = [Tag::Both, Tag::MainOnly];
+    level_agrees(alloc, index, plain, Level::Main, &tags)
+}
+
+fn top_agrees(alloc: Global, index: &ChunkIndex, plain: &Plain) -> Result<bool, AllocError> {
+    let tags = [Tag::Both, Tag::TopOnly];
+    level_agrees(alloc, index, plain, Level::Top, &tags)
+}
+
+fn tags() -> &'static [Tag] {
+    &[Tag::Both, Tag::MainOnly, Tag::TopOnly]
+}
+
 fn agree(alloc: Global, index: &ChunkIndex, plain: &Plain) -> Result<bool, AllocError> {
-    let levels = [
-        (Level::Main, [Tag::Both, Tag::MainOnly]),
-        (Level::Top, [Tag::Both, Tag::TopOnly]),
-    ];
-    for (level, tags) in levels {
-        if !gives(alloc, index.walk(level), index.walk(level), plain, &tags)? {
-            return Ok(false);
-        }
+    if !(main_agrees(alloc, index, plain)? && top_agrees(alloc, index, plain)?) {
+        return Ok(false);
     }
-    for tag in [Tag::Both, Tag::MainOnly, Tag::TopOnly] {
-        if !gives(
-            alloc,
-            index.walk_only(tag),
-            index.walk_only(tag),
-            plain,
-            &[tag],
-        )? {
+    for tag in tags() {
+        if !tag_agrees(alloc, index, plain, *tag)? {
             return Ok(false);
         }
     }
     Ok(true)
+}
+
+fn insert(
+    alloc: Global,
+    index: &mut ChunkIndex,
+    plain: &mut Plain,
+    entry: Entry,
+    tag: Tag,
+) -> Result<bool, NoMemory> {
+    if index.contains(&entry) {
+        return Ok(false);
+    }
+    index.insert(entry, tag)?;
+    plain.insert(entry, tag)?;
+    Ok(agree(alloc, index, plain)?)
+}
+
+fn retag(index: &mut ChunkIndex, plain: &mut Plain, entry: &Entry, tag: Tag) -> bool {
+    let there = index.contains(entry);
+    if there {
+        index.retag(entry, tag);
+        plain.retag(entry, tag);
+    }
+    there
+}
+
+fn remove(index: &mut ChunkIndex, plain: &mut Plain, entry: &Entry) -> bool {
+    let there = index.contains(entry);
+    if there {
+        index.remove(entry);
+        plain.remove(entry);
+    }
+    there
 }
 
 /// One row on both, and whether they could take it and agree then.
@@ -142,31 +203,12 @@ fn take(
     step: Step,
     entry: Entry,
 ) -> Result<bool, NoMemory> {
-    let there = index.contains(&entry);
-    match step {
-        Step::Insert(tag) => {
-            if there {
-                return Ok(false);
-            }
-            index.insert(entry, tag)?;
-            plain.insert(entry, tag)?;
-        }
-        Step::Retag(tag) => {
-            if !there {
-                return Ok(false);
-            }
-            index.retag(&entry, tag);
-            plain.retag(&entry, tag);
-        }
-        Step::Remove => {
-            if !there {
-                return Ok(false);
-            }
-            index.remove(&entry);
-            plain.remove(&entry);
-        }
-    }
-    Ok(agree(alloc, index, plain)?)
+    let taken = match step {
+        Step::Insert(tag) => return insert(alloc, index, plain, entry, tag),
+        Step::Retag(tag) => retag(index, plain, &entry, tag),
+        Step::Remove => remove(index, plain, &entry),
+    };
+    Ok(taken && agree(alloc, index, plain)?)
 }
 
 /// All rows; how many were taken before the first where the two differ.
@@ -192,28 +234,47 @@ fn take_rows(
     Ok(rows.len())
 }
 
+fn all_are_taken(rt: &impl Abort, alloc: Global, rows: &[(Step, Entry)]) -> Result<(), Fail> {
+    assert_eq!(rt; take_all(alloc, rows)?, rows.len());
+    Ok(())
+}
+
+/// Steps with the fee, the size, the serial and the position of an entry.
+const ROWS: [(Step, i64, u64, u64, usize); 16] = [
+    (Step::Insert(Tag::Both), 10, 4, 3, 0),
+    (Step::Insert(Tag::Both), 5, 2, 2, 9),
+    (Step::Insert(Tag::MainOnly), 5, 2, 2, 1),
+    (Step::Insert(Tag::TopOnly), -3, 1, 1, 0),
+    (Step::Insert(Tag::TopOnly), 10, 4, 2, 1),
+    (Step::Insert(Tag::MainOnly), 7, 1, 9, 9),
+    (Step::Retag(Tag::MainOnly), 10, 4, 3, 0),
+    (Step::Retag(Tag::TopOnly), 5, 2, 2, 9),
+    (Step::Retag(Tag::TopOnly), 7, 1, 9, 9),
+    (Step::Retag(Tag::MainOnly), 5, 2, 2, 1),
+    (Step::Remove, 10, 4, 2, 1),
+    (Step::Retag(Tag::Both), 7, 1, 9, 9),
+    (Step::Remove, 5, 2, 2, 1),
+    (Step::Remove, 7, 1, 9, 9),
+    (Step::Retag(Tag::Both), -3, 1, 1, 0),
+    (Step::Insert(Tag::Both), 5, 2, 2, 1),
+];
+
+fn table() -> &'static [(Step, i64, u64, u64, usize)] {
+    &ROWS
+}
+
+fn listed_rows(alloc: Global) -> Result<Vec<(Step, Entry)>, NoMemory> {
+    let mut rows = Vec::new(alloc);
+    for row in table() {
+        rows.push((row.0, entry(row.1, row.2, row.3, row.4)))?;
+    }
+    Ok(rows)
+}
+
 #[test]
 fn walks_are_those_of_a_sorted_list(rt: HostRuntime) -> Result<(), Fail> {
-    let rows = [
-        (Step::Insert(Tag::Both), entry(10, 4, 3, 0)),
-        (Step::Insert(Tag::Both), entry(5, 2, 2, 9)),
-        (Step::Insert(Tag::MainOnly), entry(5, 2, 2, 1)),
-        (Step::Insert(Tag::TopOnly), entry(-3, 1, 1, 0)),
-        (Step::Insert(Tag::TopOnly), entry(10, 4, 2, 1)),
-        (Step::Insert(Tag::MainOnly), entry(7, 1, 9, 9)),
-        (Step::Retag(Tag::MainOnly), entry(10, 4, 3, 0)),
-        (Step::Retag(Tag::TopOnly), entry(5, 2, 2, 9)),
-        (Step::Retag(Tag::TopOnly), entry(7, 1, 9, 9)),
-        (Step::Retag(Tag::MainOnly), entry(5, 2, 2, 1)),
-        (Step::Remove, entry(10, 4, 2, 1)),
-        (Step::Retag(Tag::Both), entry(7, 1, 9, 9)),
-        (Step::Remove, entry(5, 2, 2, 1)),
-        (Step::Remove, entry(7, 1, 9, 9)),
-        (Step::Retag(Tag::Both), entry(-3, 1, 1, 0)),
-        (Step::Insert(Tag::Both), entry(5, 2, 2, 1)),
-    ];
-    assert_eq!(rt; take_all(rt.alloc(), &rows)?, rows.len());
-    Ok(())
+    let rows = listed_rows(rt.alloc())?;
+    all_are_taken(&rt, rt.alloc(), &rows)
 }
 
 /// A hundred rows that fill trees of one tag, and then change and empty them.
@@ -243,8 +304,7 @@ fn nth(i: u64) -> Entry {
 #[test]
 fn trees_of_one_tag_stay_in_order(rt: HostRuntime) -> Result<(), Fail> {
     let rows = many_rows(rt.alloc())?;
-    assert_eq!(rt; take_all(rt.alloc(), &rows)?, rows.len());
-    Ok(())
+    all_are_taken(&rt, rt.alloc(), &rows)
 }
 
 /// An insertion on both, and whether they agree then; where there is no memory for it, neither has changed.

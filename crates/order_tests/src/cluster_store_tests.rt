@@ -273,31 +273,50 @@ fn walks_give(rt: &impl Abort, store: &ClusterStore<1>, walks: &[&str; 5]) {
     }
 }
 
-fn all_rows(rt: &impl Abort, table: &mut Table) -> Result<(), Fail> {
-    for (act, walks) in ROWS {
-        obey(rt, table, act)?;
-        walks_give(rt, &table.store, &walks);
+fn each_row(rt: &impl Abort, table: &mut Table, rows: &[(Act, [&str; 5])]) -> Result<(), Fail> {
+    for row in rows {
+        obey(rt, table, row.0)?;
+        walks_give(rt, &table.store, &row.1);
     }
     Ok(())
 }
 
-fn begun<L: Ledger>(rt: &impl Abort, alloc: Global, steps: &mut Steps<L>) -> Result<Table, Fail> {
+// It hands the table on and does nothing else, so that it alone pays for the literals.
+fn all_rows(rt: &impl Abort, table: &mut Table) -> Result<(), Fail> {
+    each_row(rt, table, &ROWS)
+}
+
+// The clusters that come, the last one first.
+const CLUSTERS: [((TxId, i64), Option<(TxId, i64)>); 9] = [
+    ((5, 6), None),
+    ((2, 1), None),
+    ((7, 9), Some((8, 6))),
+    ((3, 50), None),
+    ((7, 9), Some((8, 4))),
+    ((4, 5), None),
+    ((3, 7), None),
+    ((2, 5), None),
+    ((1, 10), None),
+];
+
+fn to_come() -> &'static [((TxId, i64), Option<(TxId, i64)>)] {
+    &CLUSTERS
+}
+
+fn all_made<L: Ledger>(
+    rt: &impl Abort,
+    alloc: Global,
+    steps: &mut Steps<L>,
+) -> Result<Vec<Cluster<1>>, Fail> {
     let mut room = Room {
         alloc,
         work: Work::new(alloc)?,
     };
-    let rows = [
-        ((5, 6), None),
-        ((2, 1), None),
-        ((7, 9), Some((8, 6))),
-        ((3, 50), None),
-        ((7, 9), Some((8, 4))),
-        ((4, 5), None),
-        ((3, 7), None),
-        ((2, 5), None),
-        ((1, 10), None),
-    ];
-    let clusters = made(rt, &mut room, steps, &rows)?;
+    made(rt, &mut room, steps, to_come())
+}
+
+fn begun<L: Ledger>(rt: &impl Abort, alloc: Global, steps: &mut Steps<L>) -> Result<Table, Fail> {
+    let clusters = all_made(rt, alloc, steps)?;
     Ok(Table {
         alloc,
         store: ClusterStore::new(alloc),

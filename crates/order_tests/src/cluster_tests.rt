@@ -19,13 +19,16 @@ const MUCH: u128 = 1_000_000_000_000_000_000_000_000_000_000;
 
 // Whether a name is of a cluster.
 fn has<const W: usize>(cluster: &Cluster<W>, id: TxId) -> bool
+    requires { W ≤ 2 }
     ensures { (result ≡ true) ↔ Contains cluster.now.names id }
 {
     cluster.names().contains(&id)
 }
 
 // Whether the one name is an ancestor of the other, and not it.
-fn is_above<const W: usize>(rt: &impl Abort, cluster: &Cluster<W>, a: TxId, b: TxId) -> bool {
+fn is_above<const W: usize>(rt: &impl Abort, cluster: &Cluster<W>, a: TxId, b: TxId) -> bool
+    requires { W ≤ 2 }
+{
     assert!(rt; has(cluster, a));
     assert!(rt; has(cluster, b));
     a != b && cluster.reaches(a, b)
@@ -36,7 +39,9 @@ fn written<const W: usize>(
     rt: &impl Abort,
     alloc: Global,
     cluster: &Cluster<W>,
-) -> Result<Written, Fail> {
+) -> Result<Written, Fail>
+    requires { W ≤ 2 }
+{
     let mut txs = Vec::new(alloc);
     let mut edges = Vec::new(alloc);
     for child in cluster.names() {
@@ -77,17 +82,18 @@ fn part_of<const W: usize>(
     cluster: &Cluster<W>,
     at: usize,
 ) -> Result<Part, Fail>
+    requires { W ≤ 2 }
     ensures filled { IfOk result (λ part. part.ids ≢ []) }
     ensures some { IfOk result (λ part. All (λ flow. 1 ≤ flow.amount) part.flows) }
     ensures small { IfOk result (λ part. amount_of part.flows ≤ 4096 * 2 ^ 100) }
 {
     assert!(rt; at < cluster.part_count());
-    let part = cluster.part(at);
-    let ids = Vec::from_slice(alloc, part.ids)?;
+    let shown = cluster.part(at);
+    let ids = Vec::from_slice(alloc, shown.ids)?;
     assert!(rt; ids.len() > 0);
-    let flows = flows_of(rt, alloc, part.flows)?;
+    let flows = flows_of(rt, alloc, shown.flows)?;
     Ok(Part {
-        rate: Sum::from(part.rate),
+        rate: Sum::from(shown.rate),
         ids: IdList::from_vec(ids),
         flows: FlowList::from_vec(flows),
     })
@@ -99,11 +105,13 @@ fn claims_of<const W: usize>(
     alloc: Global,
     cluster: &Cluster<W>,
 ) -> Result<Vec<Part>, Fail>
+    requires { W ≤ 2 }
     ensures { IfOk result (λ claims. AreClaims claims.items) }
 {
-    assert!(rt; cluster.part_count() <= 128);
+    let count = cluster.part_count();
+    assert!(rt; count <= 128);
     let mut claims = Vec::new(alloc);
-    for at in 0..cluster.part_count() {
+    for at in 0..count {
         let claim = part_of(rt, alloc, cluster, at)?;
         claims.push(claim)?;
     }
@@ -118,21 +126,29 @@ fn verdict(alloc: Global, graph: &Written, claims: &[Part]) -> Result<(), CheckF
     check(alloc, graph, claims)
 }
 
-// The fee and the size of a part.
-fn rate_of<const W: usize>(rt: &impl Abort, cluster: &Cluster<W>, at: usize) -> (i64, u64) {
-    assert!(rt; at < cluster.part_count());
-    let rate = cluster.part(at).rate;
-    (rate.fee, rate.size)
+// Compares the fees and sizes of parts.
+fn parts_are(rt: &impl Abort, claims: &[Part], parts: &[(i64, u64)]) {
+    assert_eq!(rt; claims.len(), parts.len());
+    for at in 0..parts.len() {
+        assert!(rt; at < claims.len());
+        assert_eq!(rt; claims[at].rate.fee, i128::from(parts[at].0));
+        assert_eq!(rt; claims[at].rate.size, parts[at].1);
+    }
 }
 
-// Compares the fees and sizes of the parts of a cluster.
-fn parts_are<const W: usize>(rt: &impl Abort, cluster: &Cluster<W>, parts: &[(i64, u64)]) {
-    assert_eq!(rt; cluster.part_count(), parts.len());
-    for at in 0..parts.len() {
-        let (fee, size) = rate_of(rt, cluster, at);
-        assert_eq!(rt; fee, parts[at].0);
-        assert_eq!(rt; size, parts[at].1);
-    }
+// Has the order of a cluster checked, by what it claims.
+fn certified<const W: usize>(
+    rt: &impl Abort,
+    alloc: Global,
+    cluster: &Cluster<W>,
+    claims: &[Part],
+) -> Result<(), Fail>
+    requires narrow { W ≤ 2 }
+    requires claims { AreClaims claims.now }
+{
+    let graph = written(rt, alloc, cluster)?;
+    assert_eq!(rt; verdict(alloc, &graph, claims), Ok(()));
+    Ok(())
 }
 
 // Has the order of a cluster checked, and compares the fees and sizes of its parts.
@@ -141,12 +157,12 @@ fn checked<const W: usize>(
     alloc: Global,
     cluster: &Cluster<W>,
     parts: &[(i64, u64)],
-) -> Result<(), Fail> {
+) -> Result<(), Fail>
+    requires { W ≤ 2 }
+{
     let claims = claims_of(rt, alloc, cluster)?;
-    let graph = written(rt, alloc, cluster)?;
-    assert_eq!(rt; verdict(alloc, &graph, claims.as_slice()), Ok(()));
-    parts_are(rt, cluster, parts);
-    Ok(())
+    parts_are(rt, &claims, parts);
+    certified(rt, alloc, cluster, &claims)
 }
 
 // The room for the calls.
@@ -165,6 +181,7 @@ fn alone<L: Ledger, const W: usize>(
     fee: i64,
     size: u64,
 ) -> Result<Cluster<W>, Fail>
+    requires { W ≤ 2 }
     ensures { IfOk result (λ c. c.names ≡ id ∷ []) }
 {
     assert!(rt; is_rate(FeeRate { fee, size }));
@@ -207,14 +224,14 @@ fn grown<L: Ledger, const W: usize>(
 }
 
 // The cluster with one more dependency.
-fn linked<L: Ledger, const W: usize>(
+fn linked<L: Ledger>(
     rt: &impl Abort,
-    room: &mut Room<W>,
+    room: &mut Room<2>,
     steps: &mut Steps<L>,
-    old: &Cluster<W>,
+    old: &Cluster<2>,
     parent: TxId,
     child: TxId,
-) -> Result<Cluster<W>, Fail> {
+) -> Result<Cluster<2>, Fail> {
     assert!(rt; has(old, parent));
     assert!(rt; has(old, child));
     assert!(rt; !old.reaches(child, parent));
@@ -222,26 +239,26 @@ fn linked<L: Ledger, const W: usize>(
 }
 
 // The cluster with another fee of a name.
-fn paying<L: Ledger, const W: usize>(
+fn paying<L: Ledger>(
     rt: &impl Abort,
-    room: &mut Room<W>,
+    room: &mut Room<2>,
     steps: &mut Steps<L>,
-    old: &Cluster<W>,
+    old: &Cluster<2>,
     id: TxId,
     fee: i64,
-) -> Result<Cluster<W>, Fail> {
+) -> Result<Cluster<2>, Fail> {
     assert!(rt; has(old, id));
     assert!(rt; is_fee(fee));
     Ok(old.with_fee(room.alloc, id, fee, &mut room.work, steps)?)
 }
 
 // The clusters without some names.
-fn rest_of<L: Ledger, const W: usize>(
-    room: &mut Room<W>,
+fn rest_of<L: Ledger>(
+    room: &mut Room<2>,
     steps: &mut Steps<L>,
-    old: &Cluster<W>,
+    old: &Cluster<2>,
     names: &[TxId],
-) -> Result<Vec<Cluster<W>>, Fail>
+) -> Result<Vec<Cluster<2>>, Fail>
     requires { (id : ℕ) → Contains names.now id → Contains old.now.names id }
 {
     let list = old.without(room.alloc, names, &mut room.work, steps)?;
@@ -249,41 +266,37 @@ fn rest_of<L: Ledger, const W: usize>(
 }
 
 // The clusters without a name.
-fn left<L: Ledger, const W: usize>(
+fn left<L: Ledger>(
     rt: &impl Abort,
-    room: &mut Room<W>,
+    room: &mut Room<2>,
     steps: &mut Steps<L>,
-    old: &Cluster<W>,
+    old: &Cluster<2>,
     id: TxId,
-) -> Result<Vec<Cluster<W>>, Fail> {
+) -> Result<Vec<Cluster<2>>, Fail> {
     assert!(rt; has(old, id));
     rest_of(room, steps, old, [id].as_slice())
 }
 
 // Puts one more name into a cluster, which depends on one of it.
-fn grow<L: Ledger, const W: usize>(
+fn grow<L: Ledger>(
     rt: &impl Abort,
-    room: &mut Room<W>,
+    room: &mut Room<2>,
     steps: &mut Steps<L>,
-    cluster: &mut Cluster<W>,
+    cluster: &mut Cluster<2>,
     row: (TxId, TxId, i64, u64),
-) -> Result<(), Fail>
-    requires { W ≤ 2 }
-{
+) -> Result<(), Fail> {
     *cluster = grown(rt, room, steps, cluster, row.0, row.1, (row.2, row.3))?;
     Ok(())
 }
 
 // Puts more names into a cluster, each of which depends on one before it.
-fn grow_by<L: Ledger, const W: usize>(
+fn grow_by<L: Ledger>(
     rt: &impl Abort,
-    room: &mut Room<W>,
+    room: &mut Room<2>,
     steps: &mut Steps<L>,
-    cluster: &mut Cluster<W>,
+    cluster: &mut Cluster<2>,
     rows: &[(TxId, TxId, i64, u64)],
-) -> Result<(), Fail>
-    requires { W ≤ 2 }
-{
+) -> Result<(), Fail> {
     for row in rows {
         grow(rt, room, steps, cluster, *row)?;
     }
@@ -291,14 +304,12 @@ fn grow_by<L: Ledger, const W: usize>(
 }
 
 // A cluster by its names: each but the first depends on one before it, and has a fee and a size.
-fn built<L: Ledger, const W: usize>(
+fn built<L: Ledger>(
     rt: &impl Abort,
-    room: &mut Room<W>,
+    room: &mut Room<2>,
     steps: &mut Steps<L>,
     rows: &[(TxId, TxId, i64, u64)],
-) -> Result<Cluster<W>, Fail>
-    requires { W ≤ 2 }
-{
+) -> Result<Cluster<2>, Fail> {
     assert!(rt; rows.len() > 0);
     let (_, first, fee, size) = rows[0];
     let mut cluster = alone(rt, room, steps, first, fee, size)?;
@@ -307,11 +318,11 @@ fn built<L: Ledger, const W: usize>(
 }
 
 // Another fee of a name, and what the parts are then.
-fn fee_case<L: Ledger, const W: usize>(
+fn fee_case<L: Ledger>(
     rt: &impl Abort,
-    room: &mut Room<W>,
+    room: &mut Room<2>,
     steps: &mut Steps<L>,
-    old: &Cluster<W>,
+    old: &Cluster<2>,
     change: (TxId, i64),
     parts: &[(i64, u64)],
 ) -> Result<(), Fail> {
@@ -321,11 +332,11 @@ fn fee_case<L: Ledger, const W: usize>(
 }
 
 // One more dependency, and what the parts are then.
-fn link_case<L: Ledger, const W: usize>(
+fn link_case<L: Ledger>(
     rt: &impl Abort,
-    room: &mut Room<W>,
+    room: &mut Room<2>,
     steps: &mut Steps<L>,
-    old: &Cluster<W>,
+    old: &Cluster<2>,
     pair: (TxId, TxId),
     parts: &[(i64, u64)],
 ) -> Result<(), Fail> {
@@ -335,11 +346,11 @@ fn link_case<L: Ledger, const W: usize>(
 }
 
 // The clusters without a name: how many they are, and the parts of one of them.
-fn left_case<L: Ledger, const W: usize>(
+fn left_case<L: Ledger>(
     rt: &impl Abort,
-    room: &mut Room<W>,
+    room: &mut Room<2>,
     steps: &mut Steps<L>,
-    old: &Cluster<W>,
+    old: &Cluster<2>,
     id: TxId,
     wanted: (usize, usize),
     parts: &[(i64, u64)],
@@ -352,7 +363,9 @@ fn left_case<L: Ledger, const W: usize>(
 }
 
 // The order of the two, and what the one sends to the other.
-fn child_sends<const W: usize>(rt: &impl Abort, pair: &Cluster<W>) {
+fn child_sends<const W: usize>(rt: &impl Abort, pair: &Cluster<W>)
+    requires { W ≤ 2 }
+{
     assert_eq!(rt; pair.order(), [1, 2].as_slice());
     assert!(rt; pair.part_count() > 0);
     let flow = Flow {
@@ -363,43 +376,123 @@ fn child_sends<const W: usize>(rt: &impl Abort, pair: &Cluster<W>) {
     assert_eq!(rt; pair.part(0).flows, [flow].as_slice());
 }
 
-// A child pays for its parent, by what it sends.
-fn pair_is_one_part<L: Ledger, const W: usize>(
+// What is done with a cluster, before its order is checked.
+#[derive(Clone, Copy)]
+enum Change {
+    Nothing,
+    // a name has another fee
+    Fee(TxId, i64),
+    // the one name is a parent of the other
+    Link(TxId, TxId),
+    // a name goes: how many clusters are left, and which one is checked
+    Leave(TxId, usize, usize),
+}
+
+// The fees and sizes of the parts then.
+type Row = (Change, &'static [(i64, u64)]);
+
+fn case<L: Ledger>(
     rt: &impl Abort,
-    room: &mut Room<W>,
+    room: &mut Room<2>,
     steps: &mut Steps<L>,
-    pair: &Cluster<W>,
+    old: &Cluster<2>,
+    change: Change,
+    parts: &[(i64, u64)],
 ) -> Result<(), Fail> {
-    checked(rt, room.alloc, pair, &[(1000, 400)])?;
-    child_sends(rt, pair);
-    fee_case(rt, room, steps, pair, (1, 901), &[(901, 200), (900, 200)])?;
-    left_case(rt, room, steps, pair, 1, (1, 0), &[(900, 200)])
+    match change {
+        Change::Nothing => checked(rt, room.alloc, old, parts),
+        Change::Fee(id, fee) => fee_case(rt, room, steps, old, (id, fee), parts),
+        Change::Link(parent, child) => link_case(rt, room, steps, old, (parent, child), parts),
+        Change::Leave(id, count, at) => left_case(rt, room, steps, old, id, (count, at), parts),
+    }
+}
+
+fn cases<L: Ledger>(
+    rt: &impl Abort,
+    room: &mut Room<2>,
+    steps: &mut Steps<L>,
+    old: &Cluster<2>,
+    rows: &[Row],
+) -> Result<(), Fail> {
+    for row in rows {
+        case(rt, room, steps, old, row.0, row.1)?;
+    }
+    Ok(())
+}
+
+// Each table stands in a function that hands it on and does nothing else, which alone pays for its literals.
+
+// A child pays for its parent.
+fn pair_cases<L: Ledger>(
+    rt: &impl Abort,
+    room: &mut Room<2>,
+    steps: &mut Steps<L>,
+    pair: &Cluster<2>,
+) -> Result<(), Fail> {
+    const ROWS: [Row; 3] = [
+        (Change::Nothing, &[(1000, 400)]),
+        (Change::Fee(1, 901), &[(901, 200), (900, 200)]),
+        (Change::Leave(1, 1, 0), &[(900, 200)]),
+    ];
+    cases(rt, room, steps, pair, &ROWS)
+}
+
+// 1 is above 2 and 3, and 4 below 2: without 1 two clusters are left, and without 2 the others stay together.
+fn four_cases<L: Ledger>(
+    rt: &impl Abort,
+    room: &mut Room<2>,
+    steps: &mut Steps<L>,
+    four: &Cluster<2>,
+) -> Result<(), Fail> {
+    const ROWS: [Row; 5] = [
+        (Change::Nothing, &[(12, 20), (5, 10)]),
+        (Change::Link(3, 4), &[(12, 20), (5, 10)]),
+        (Change::Leave(1, 2, 0), &[(6, 5), (5, 10)]),
+        (Change::Leave(1, 2, 1), &[(6, 5)]),
+        (Change::Leave(2, 1, 0), &[(11, 25)]),
+    ];
+    cases(rt, room, steps, four, &ROWS)
+}
+
+fn whole_cases<L: Ledger>(
+    rt: &impl Abort,
+    room: &mut Room<2>,
+    steps: &mut Steps<L>,
+    whole: &Cluster<2>,
+) -> Result<(), Fail> {
+    const ROWS: [Row; 4] = [
+        (Change::Nothing, &[(8128, 128)]),
+        (Change::Link(0, 127), &[(8128, 128)]),
+        (Change::Fee(127, -1), &[(8001, 127), (-1, 1)]),
+        (Change::Leave(64, 1, 0), &[(8064, 127)]),
+    ];
+    cases(rt, room, steps, whole, &ROWS)
 }
 
 // Without all names no cluster is left.
-fn all_go<L: Ledger, const W: usize>(
+fn all_go<L: Ledger>(
     rt: &impl Abort,
-    room: &mut Room<W>,
+    room: &mut Room<2>,
     steps: &mut Steps<L>,
-    old: &Cluster<W>,
+    old: &Cluster<2>,
 ) -> Result<(), Fail> {
     let none = rest_of(room, steps, old, old.names())?;
     assert_eq!(rt; none.len(), 0);
     Ok(())
 }
 
-fn each_has_all<const W: usize>(rt: &impl Abort, left: &[Cluster<W>], old: &Cluster<W>) {
+fn each_has_all(rt: &impl Abort, left: &[Cluster<2>], old: &Cluster<2>) {
     for cluster in left {
         assert_eq!(rt; cluster.names(), old.names());
     }
 }
 
 // Without none of the names one cluster of all is left.
-fn none_goes<L: Ledger, const W: usize>(
+fn none_goes<L: Ledger>(
     rt: &impl Abort,
-    room: &mut Room<W>,
+    room: &mut Room<2>,
     steps: &mut Steps<L>,
-    old: &Cluster<W>,
+    old: &Cluster<2>,
 ) -> Result<(), Fail> {
     let all = rest_of(room, steps, old, [].as_slice())?;
     assert_eq!(rt; all.len(), 1);
@@ -407,66 +500,63 @@ fn none_goes<L: Ledger, const W: usize>(
     Ok(())
 }
 
-// 1 is above 2 and 3, and 4 below 2: without 1 two clusters are left, and without 2 the others stay together.
-fn four_fall_apart<L: Ledger, const W: usize>(
+// Without all of the names, and without none.
+fn all_or_none<L: Ledger>(
     rt: &impl Abort,
-    room: &mut Room<W>,
+    room: &mut Room<2>,
     steps: &mut Steps<L>,
-    four: &Cluster<W>,
+    four: &Cluster<2>,
 ) -> Result<(), Fail> {
-    left_case(rt, room, steps, four, 1, (2, 0), &[(6, 5), (5, 10)])?;
-    left_case(rt, room, steps, four, 1, (2, 1), &[(6, 5)])?;
-    left_case(rt, room, steps, four, 2, (1, 0), &[(11, 25)])
-}
-
-// The four, the four with one more dependency, and what is left without some of them, without all, and without none.
-fn four_cases<L: Ledger, const W: usize>(
-    rt: &impl Abort,
-    room: &mut Room<W>,
-    steps: &mut Steps<L>,
-    four: &Cluster<W>,
-) -> Result<(), Fail> {
-    checked(rt, room.alloc, four, &[(12, 20), (5, 10)])?;
-    link_case(rt, room, steps, four, (3, 4), &[(12, 20), (5, 10)])?;
-    four_fall_apart(rt, room, steps, four)?;
     all_go(rt, room, steps, four)?;
     none_goes(rt, room, steps, four)
 }
 
-fn pair<L: Ledger, const W: usize>(
+fn pair_rows() -> &'static [(TxId, TxId, i64, u64)] {
+    &[(1, 1, 100, 200), (1, 2, 900, 200)]
+}
+
+fn pair_is_one_part<L: Ledger>(
     rt: &impl Abort,
-    room: &mut Room<W>,
+    room: &mut Room<2>,
     steps: &mut Steps<L>,
-) -> Result<(), Fail>
-    requires { W ≤ 2 }
-{
-    let rows = [(1, 1, 100, 200), (1, 2, 900, 200)];
-    let cluster = built(rt, room, steps, &rows)?;
+    pair: &Cluster<2>,
+) -> Result<(), Fail> {
+    child_sends(rt, pair);
+    pair_cases(rt, room, steps, pair)
+}
+
+fn pair<L: Ledger>(rt: &impl Abort, room: &mut Room<2>, steps: &mut Steps<L>) -> Result<(), Fail> {
+    let cluster = built(rt, room, steps, pair_rows())?;
     pair_is_one_part(rt, room, steps, &cluster)
 }
 
-fn four<L: Ledger, const W: usize>(
+fn four_rows() -> &'static [(TxId, TxId, i64, u64)] {
+    &[(1, 1, 0, 10), (1, 2, 6, 5), (1, 3, 6, 5), (2, 4, 5, 10)]
+}
+
+fn four_fall_apart<L: Ledger>(
     rt: &impl Abort,
-    room: &mut Room<W>,
+    room: &mut Room<2>,
     steps: &mut Steps<L>,
-) -> Result<(), Fail>
-    requires { W ≤ 2 }
-{
-    let rows = [(1, 1, 0, 10), (1, 2, 6, 5), (1, 3, 6, 5), (2, 4, 5, 10)];
-    let cluster = built(rt, room, steps, &rows)?;
-    four_cases(rt, room, steps, &cluster)
+    four: &Cluster<2>,
+) -> Result<(), Fail> {
+    four_cases(rt, room, steps, four)?;
+    all_or_none(rt, room, steps, four)
+}
+
+fn four<L: Ledger>(rt: &impl Abort, room: &mut Room<2>, steps: &mut Steps<L>) -> Result<(), Fail> {
+    let cluster = built(rt, room, steps, four_rows())?;
+    four_fall_apart(rt, room, steps, &cluster)
 }
 
 // Puts names up to a number under the one before.
-fn lengthen<L: Ledger, const W: usize>(
+fn lengthen<L: Ledger>(
     rt: &impl Abort,
-    room: &mut Room<W>,
+    room: &mut Room<2>,
     steps: &mut Steps<L>,
-    cluster: &mut Cluster<W>,
+    cluster: &mut Cluster<2>,
     count: u64,
-) -> Result<(), Fail>
-    requires { W ≤ 2 }
-{
+) -> Result<(), Fail> {
     for id in 1..count {
         assert!(rt; id <= 1000);
         grow(rt, room, steps, cluster, (id - 1, id, id as i64, 1))?;
@@ -475,14 +565,12 @@ fn lengthen<L: Ledger, const W: usize>(
 }
 
 // A chain of so many names, of which each pays more than the one before it.
-fn chain<L: Ledger, const W: usize>(
+fn chain<L: Ledger>(
     rt: &impl Abort,
-    room: &mut Room<W>,
+    room: &mut Room<2>,
     steps: &mut Steps<L>,
     count: u64,
-) -> Result<Cluster<W>, Fail>
-    requires { W ≤ 2 }
-{
+) -> Result<Cluster<2>, Fail> {
     let mut cluster = alone(rt, room, steps, 0, 0, 1)?;
     lengthen(rt, room, steps, &mut cluster, count)?;
     Ok(cluster)
@@ -495,22 +583,31 @@ fn half<L: Ledger>(rt: &impl Abort, room: &mut Room<2>, steps: &mut Steps<L>) ->
     checked(rt, alloc, &cluster, &[(2016, 64)])
 }
 
-fn whole_is_one_part<L: Ledger>(
-    rt: &impl Abort,
-    room: &mut Room<2>,
-    steps: &mut Steps<L>,
-    whole: &Cluster<2>,
-) -> Result<(), Fail> {
-    checked(rt, room.alloc, whole, &[(8128, 128)])?;
-    link_case(rt, room, steps, whole, (0, 127), &[(8128, 128)])?;
-    fee_case(rt, room, steps, whole, (127, -1), &[(8001, 127), (-1, 1)])?;
-    left_case(rt, room, steps, whole, 64, (1, 0), &[(8064, 127)])
-}
-
 // As many names as there is room for.
 fn whole<L: Ledger>(rt: &impl Abort, room: &mut Room<2>, steps: &mut Steps<L>) -> Result<(), Fail> {
     let cluster = chain(rt, room, steps, 128)?;
-    whole_is_one_part(rt, room, steps, &cluster)
+    whole_cases(rt, room, steps, &cluster)
+}
+
+// The pair again, in one word.
+fn narrow_pair<L: Ledger>(
+    rt: &impl Abort,
+    room: &mut Room<1>,
+    steps: &mut Steps<L>,
+) -> Result<Cluster<1>, Fail> {
+    let parent = alone(rt, room, steps, 1, 100, 200)?;
+    grown(rt, room, steps, &parent, 1, 2, (900, 200))
+}
+
+fn narrow_cases<L: Ledger>(
+    rt: &impl Abort,
+    room: &mut Room<1>,
+    steps: &mut Steps<L>,
+) -> Result<(), Fail> {
+    let alloc = room.alloc;
+    let pair = narrow_pair(rt, room, steps)?;
+    child_sends(rt, &pair);
+    checked(rt, alloc, &pair, &[(1000, 400)])
 }
 
 fn narrow<L: Ledger>(rt: &impl Abort, alloc: Global, steps: &mut Steps<L>) -> Result<(), Fail> {
@@ -518,8 +615,7 @@ fn narrow<L: Ledger>(rt: &impl Abort, alloc: Global, steps: &mut Steps<L>) -> Re
         alloc,
         work: Work::new(alloc)?,
     };
-    pair(rt, &mut room, steps)?;
-    four(rt, &mut room, steps)
+    narrow_cases(rt, &mut room, steps)
 }
 
 fn wide_cases<L: Ledger>(

@@ -41,10 +41,7 @@ fn depend<L: Ledger>(
     parent: TxId,
     child: TxId,
 ) {
-    assert!(rt;
-        levels.dep(&ROOMY, parent, child, steps).is_ok(),
-        "{parent} is refused as a parent of {child}"
-    );
+    assert!(rt; levels.dep(&ROOMY, parent, child, steps).is_ok());
 }
 
 // Drops a name of the top level.
@@ -93,12 +90,18 @@ fn names_of(levels: &Levels<1>, level: Level, id: TxId) -> usize {
     }
 }
 
+fn seen_in(levels: &Levels<1>, level: Level) -> [usize; 4] {
+    [
+        names_of(levels, level, 1),
+        names_of(levels, level, 2),
+        names_of(levels, level, 3),
+        names_of(levels, level, 4),
+    ]
+}
+
 // How many names the clusters of the first names have, main's first.
 fn seen(levels: &Levels<1>) -> [[usize; 4]; 2] {
-    [
-        [1, 2, 3, 4].map(|id| names_of(levels, Level::Main, id)),
-        [1, 2, 3, 4].map(|id| names_of(levels, Level::Top, id)),
-    ]
+    [seen_in(levels, Level::Main), seen_in(levels, Level::Top)]
 }
 
 // Opens staging, and closes it in either way. None of these has a clause, since callers would pay for it in their proofs.

@@ -22,7 +22,8 @@ struct Room<const W: usize> {
 
 // Whether a place is a member.
 fn is_in<const W: usize>(graph: &DepGraph<W>, place: usize) -> bool
-    requires { place < 64 * W }
+    requires few { W ≤ 2 }
+    requires place { place < 64 * W }
     ensures { result ≡ is_member graph.now place }
 {
     graph.members().has(place)
@@ -40,6 +41,21 @@ fn link<const W: usize>(rt: &impl Abort, graph: &mut DepGraph<W>, parent: usize,
     graph.add_dep(parent, child);
 }
 
+// Adds members by fee and size.
+fn add_all<const W: usize>(
+    rt: &impl Abort,
+    graph: &mut DepGraph<W>,
+    rates: &[(i64, u64)],
+) -> Result<(), Fail>
+    requires { W ≤ 2 }
+{
+    for (fee, size) in rates {
+        assert!(rt; graph.members().count() < 64 * W);
+        graph.add(*fee, *size)?;
+    }
+    Ok(())
+}
+
 // Members by fee and size, and pairs of a parent and a child.
 fn graph_of<const W: usize>(
     rt: &impl Abort,
@@ -50,10 +66,7 @@ fn graph_of<const W: usize>(
     requires { W ≤ 2 }
 {
     let mut graph = DepGraph::new(alloc);
-    for (fee, size) in rates {
-        assert!(rt; graph.members().count() < 64 * W);
-        graph.add(*fee, *size)?;
-    }
+    add_all(rt, &mut graph, rates)?;
     for (parent, child) in pairs {
         link(rt, &mut graph, *parent, *child);
     }
@@ -111,14 +124,70 @@ fn flows_are<const W: usize>(rt: &impl Abort, out: &Linear<W>, wanted: &[PlaceFl
     assert_eq!(rt; out.flows(), wanted);
 }
 
-// A child that pays more than its parent goes with it, by what it sends.
-fn child_pays<L: Ledger, const W: usize>(
+// Members by fee and size, pairs of a parent and a child, and the fees and sizes of the parts of the order.
+struct Row {
+    rates: &'static [(i64, u64)],
+    pairs: &'static [(usize, usize)],
+    parts: &'static [(i64, u64)],
+}
+
+const MOST: i64 = 2_100_000_000_000_000;
+
+const ROWS: [Row; 6] = [
+    // A part without a smaller one of its rate stays whole.
+    Row {
+        rates: &[(900, 200), (100, 200)],
+        pairs: &[(0, 1)],
+        parts: &[(900, 200), (100, 200)],
+    },
+    Row {
+        rates: &[(0, 10), (6, 5), (6, 5)],
+        pairs: &[(0, 1), (0, 2)],
+        parts: &[(12, 20)],
+    },
+    Row {
+        rates: &[(-MOST, 1), (MOST, 1)],
+        pairs: &[(0, 1)],
+        parts: &[(0, 2)],
+    },
+    Row {
+        rates: &[(1, 1)],
+        pairs: &[],
+        parts: &[(1, 1)],
+    },
+    Row {
+        rates: &[(2, 2)],
+        pairs: &[],
+        parts: &[(2, 2)],
+    },
+    // One with smaller parts of its rate falls into them.
+    Row {
+        rates: &[(1, 1), (1, 1)],
+        pairs: &[(0, 1)],
+        parts: &[(1, 1), (1, 1)],
+    },
+];
+
+fn each_row<L: Ledger, const W: usize>(
     rt: &impl Abort,
     room: &mut Room<W>,
     steps: &mut Steps<L>,
+    rows: &[Row],
 ) -> Result<(), Fail>
     requires { W ≤ 2 }
 {
+    for row in rows {
+        case(rt, room, steps, row.rates, row.pairs, row.parts)?;
+    }
+    Ok(())
+}
+
+// A child that pays more than its parent goes with it, by what it sends.
+fn child_pays<L: Ledger>(
+    rt: &impl Abort,
+    room: &mut Room<2>,
+    steps: &mut Steps<L>,
+) -> Result<(), Fail> {
     let rates = [(100, 200), (900, 200)];
     case(rt, room, steps, &rates, &[(0, 1)], &[(1000, 400)])?;
     order_is(rt, &room.out, &[0, 1]);
@@ -131,62 +200,17 @@ fn child_pays<L: Ledger, const W: usize>(
     Ok(())
 }
 
-// A part without a smaller one of its rate stays whole.
-fn whole<L: Ledger, const W: usize>(
+// A zigzag falls into two parts of one rate.
+fn zigzag<L: Ledger>(
     rt: &impl Abort,
-    room: &mut Room<W>,
+    room: &mut Room<2>,
     steps: &mut Steps<L>,
-) -> Result<(), Fail>
-    requires { W ≤ 2 }
-{
-    let parent_pays = [(900, 200), (100, 200)];
-    case(rt, room, steps, &parent_pays, &[(0, 1)], &parent_pays)?;
-    let both_pay = [(0, 10), (6, 5), (6, 5)];
-    case(rt, room, steps, &both_pay, &[(0, 1), (0, 2)], &[(12, 20)])?;
-    let most = 2_100_000_000_000_000;
-    let far = [(-most, 1), (most, 1)];
-    case(rt, room, steps, &far, &[(0, 1)], &[(0, 2)])
-}
-
-fn single<L: Ledger, const W: usize>(
-    rt: &impl Abort,
-    room: &mut Room<W>,
-    steps: &mut Steps<L>,
-) -> Result<(), Fail>
-    requires { W ≤ 2 }
-{
-    case(rt, room, steps, &[(1, 1)], &[], &[(1, 1)])?;
-    case(rt, room, steps, &[(2, 2)], &[], &[(2, 2)])
-}
-
-// One with smaller parts of its rate falls into them.
-fn apart<L: Ledger, const W: usize>(
-    rt: &impl Abort,
-    room: &mut Room<W>,
-    steps: &mut Steps<L>,
-) -> Result<(), Fail>
-    requires { W ≤ 2 }
-{
-    let equal = [(1, 1), (1, 1)];
-    case(rt, room, steps, &equal, &[(0, 1)], &equal)?;
-    let zigzag = [(0, 1), (2, 1), (0, 1), (2, 1)];
+) -> Result<(), Fail> {
+    let rates = [(0, 1), (2, 1), (0, 1), (2, 1)];
     let pairs = [(0, 1), (0, 3), (2, 3)];
-    case(rt, room, steps, &zigzag, &pairs, &[(2, 2), (2, 2)])?;
+    case(rt, room, steps, &rates, &pairs, &[(2, 2), (2, 2)])?;
     order_is(rt, &room.out, &[0, 1, 2, 3]);
     Ok(())
-}
-
-fn small<L: Ledger, const W: usize>(
-    rt: &impl Abort,
-    room: &mut Room<W>,
-    steps: &mut Steps<L>,
-) -> Result<(), Fail>
-    requires { W ≤ 2 }
-{
-    child_pays(rt, room, steps)?;
-    whole(rt, room, steps)?;
-    single(rt, room, steps)?;
-    apart(rt, room, steps)
 }
 
 // A chain of 64 members of one rate falls into 64 parts.
@@ -197,40 +221,98 @@ fn chain<L: Ledger, const W: usize>(
 ) -> Result<(), Fail>
     requires { W ≤ 2 }
 {
-    let mut pairs = Vec::new(room.alloc);
-    for child in 1..64usize {
-        pairs.push((child - 1, child))?;
+    let mut pairs = [(0, 1); 63];
+    for child in 1..64 {
+        pairs[child - 1] = (child - 1, child);
     }
     let rates = [(7, 3); 64];
-    case(rt, room, steps, &rates, pairs.as_slice(), &rates)
+    case(rt, room, steps, &rates, &pairs, &rates)
 }
 
-// Two members that nothing joins, and one that pays too much.
-fn refused<const W: usize>(rt: &impl Abort, alloc: Global) -> Result<(), Fail>
+// The rows and the chain, in as many words.
+fn small<L: Ledger, const W: usize>(
+    rt: &impl Abort,
+    room: &mut Room<W>,
+    steps: &mut Steps<L>,
+    rows: &[Row],
+) -> Result<(), Fail>
     requires { W ≤ 2 }
 {
-    let apart = graph_of::<W>(rt, alloc, &[(1, 1), (2, 1)], &[])?;
+    each_row(rt, room, steps, rows)?;
+    chain(rt, room, steps)
+}
+
+fn in_two_words<L: Ledger>(
+    rt: &impl Abort,
+    room: &mut Room<2>,
+    steps: &mut Steps<L>,
+    rows: &[Row],
+) -> Result<(), Fail> {
+    child_pays(rt, room, steps)?;
+    zigzag(rt, room, steps)?;
+    small(rt, room, steps, rows)
+}
+
+// Two members that nothing joins.
+fn is_apart(rt: &impl Abort, alloc: Global) -> Result<(), Fail> {
+    let apart = graph_of::<1>(rt, alloc, &[(1, 1), (2, 1)], &[])?;
     assert!(rt; !is_component(&apart));
-    let high = graph_of::<W>(rt, alloc, &[(2_100_000_000_000_001, 200)], &[])?;
+    Ok(())
+}
+
+// One that pays too much.
+fn is_high(rt: &impl Abort, alloc: Global) -> Result<(), Fail> {
+    let high = graph_of::<2>(rt, alloc, &[(2_100_000_000_000_001, 200)], &[])?;
     assert!(rt; !has_rates(&high));
     Ok(())
 }
 
-// All of them in as many words.
-fn all<L: Ledger, const W: usize>(
+fn refused(rt: &impl Abort, alloc: Global) -> Result<(), Fail> {
+    is_apart(rt, alloc)?;
+    is_high(rt, alloc)
+}
+
+fn narrow<L: Ledger>(
     rt: &impl Abort,
     alloc: Global,
     steps: &mut Steps<L>,
-) -> Result<(), Fail>
-    requires { W ≤ 2 }
-{
-    let mut room = Room::<W> {
+    rows: &[Row],
+) -> Result<(), Fail> {
+    let mut room = Room::<1> {
         alloc,
         scratch: Scratch::new(alloc)?,
         out: Linear::new(alloc)?,
     };
-    small(rt, &mut room, steps)?;
-    chain(rt, &mut room, steps)
+    small(rt, &mut room, steps, rows)
+}
+
+fn wide<L: Ledger>(
+    rt: &impl Abort,
+    alloc: Global,
+    steps: &mut Steps<L>,
+    rows: &[Row],
+) -> Result<(), Fail> {
+    let mut room = Room::<2> {
+        alloc,
+        scratch: Scratch::new(alloc)?,
+        out: Linear::new(alloc)?,
+    };
+    in_two_words(rt, &mut room, steps, rows)
+}
+
+fn both<L: Ledger>(
+    rt: &impl Abort,
+    alloc: Global,
+    steps: &mut Steps<L>,
+    rows: &[Row],
+) -> Result<(), Fail> {
+    narrow(rt, alloc, steps, rows)?;
+    wide(rt, alloc, steps, rows)
+}
+
+// It hands the table on and does nothing else, so that it alone pays for the literals.
+fn table<L: Ledger>(rt: &impl Abort, alloc: Global, steps: &mut Steps<L>) -> Result<(), Fail> {
+    both(rt, alloc, steps, &ROWS)
 }
 
 fn rows<K: ledger::Ledger>(rt: &impl Abort, alloc: Global, blank: Blank) -> Result<(), Fail>
@@ -239,15 +321,13 @@ fn rows<K: ledger::Ledger>(rt: &impl Abort, alloc: Global, blank: Blank) -> Resu
     requires some { 0 < blank.parts }
 {
     let mut steps = Steps::new(Counted::<K>::new(blank));
-    all::<Counted<K>, 1>(rt, alloc, &mut steps)?;
-    all::<Counted<K>, 2>(rt, alloc, &mut steps)?;
-    refused::<1>(rt, alloc)?;
-    refused::<2>(rt, alloc)?;
+    table(rt, alloc, &mut steps)?;
     assert!(rt; steps.ledger().shown() > 0);
     Ok(())
 }
 
 #[test]
 fn worked_graphs_fall_into_their_parts(rt: HostRuntime) -> Result<(), Fail> {
+    refused(&rt, rt.alloc())?;
     rows::<Brand>(&rt, rt.alloc(), Blank::new(1))
 }

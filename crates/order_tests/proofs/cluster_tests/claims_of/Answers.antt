@@ -5,7 +5,14 @@ use Rattle.std.proofs.lemmas.List.Sums.{sum_by_push}
 use Rattle.graphs.specs.declared.names.Flow.{Flow}
 use Rattle.certificate.specs.declared.owned.Part.{Part}
 use Rattle.certificate.specs.Accounts.{amount_of}
+use Rattle.order_tests.proofs.Sizes.{cluster_fits}
 use Rattle.order_tests.proofs.cluster_tests.claims_of.Goals as goal
+
+pub part_count-count-requires : goal.part_count-count-requires
+part_count-count-requires g c = cluster_fits g.row.W c.requires
+
+pub part_of-requires : goal.part_of-requires
+part_of-requires g c = (cluster_fits g.row.W c.requires, c.requires)
 
 pub loop-at-preserved : goal.loop-at-preserved
 loop-at-preserved g c =

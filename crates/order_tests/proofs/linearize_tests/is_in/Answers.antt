@@ -1,7 +1,11 @@
-use Rattle.std.proofs.Common.{◌∙◌, ap}
+use Rattle.std.proofs.Common.{◌∙◌, ap, arith, ◌≤◌}
 use Rattle.std.specs.FinSet as fin
 use Rattle.graphs.proofs.Members.{contains-members_of}
+use Rattle.order_tests.proofs.Sizes.{graph_fits}
 use Rattle.order_tests.proofs.linearize_tests.is_in.Goals as goal
+
+pub members-requires : goal.members-requires
+members-requires g c = (let few : g.row.W ≤ 2 = c.requires.few in (graph_fits g.row.W few, omega arith))
 
 pub returns : goal.returns
 returns g c =
