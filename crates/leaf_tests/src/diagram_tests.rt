@@ -38,81 +38,87 @@ fn compared(a: &[FeeRate], b: &[FeeRate]) -> Option<Verdict> {
     Some(verdict(slice_corners(a), slice_corners(b)))
 }
 
-/// A part with a fee and a size.
-fn part(fee: i64, size: u64) -> FeeRate {
-    FeeRate { fee, size }
-}
+/// Parts, points, and whether these are the corners.
+static CORNERS: [(&[FeeRate], &[(u64, i128)], bool); 6] = [
+    (rates![], &[(0, 0)], true),
+    (
+        rates![(12, 20), (5, 10)],
+        &[(0, 0), (20, 12), (30, 17)],
+        true,
+    ),
+    (rates![(1, 1), (2, 2)], &[(0, 0), (3, 3)], true),
+    (rates![(2010, 319)], &[(0, 0), (319, 2010)], true),
+    (
+        rates![(0, 7), (0, 1), (-1, 2), (-3, 6)],
+        &[(0, 0), (8, 0), (16, -4)],
+        true,
+    ),
+    (rates![(1, 1), (2, 2)], &[(0, 0), (1, 1), (3, 3)], false),
+];
 
 #[test]
 fn equal_slopes_are_joined(rt: HostRuntime) -> Result<(), Fail> {
-    assert!(rt; has_corners(&[], &[(0, 0)]));
-    assert!(rt; has_corners(&[part(12, 20), part(5, 10)], &[(0, 0), (20, 12), (30, 17)]));
-    assert!(rt; has_corners(&[part(1, 1), part(2, 2)], &[(0, 0), (3, 3)]));
-    assert!(rt; has_corners(&[part(2010, 319)], &[(0, 0), (319, 2010)]));
-    let four = [part(0, 7), part(0, 1), part(-1, 2), part(-3, 6)];
-    assert!(rt; has_corners(&four, &[(0, 0), (8, 0), (16, -4)]));
-    assert!(rt; !has_corners(&[part(1, 1), part(2, 2)], &[(0, 0), (1, 1), (3, 3)]));
+    for (parts, points, are) in &CORNERS {
+        assert!(rt; has_corners(parts, points) == *are, "at {parts:?}");
+    }
     Ok(())
 }
+
+/// Parts, and whether they are those of a level.
+static LEVELS: [(&[FeeRate], bool); 4] = [
+    (rates![(1, 2), (1, 1)], false),
+    (rates![(1, 0)], false),
+    (rates![(0, 4_194_304_000_000), (0, 1)], false),
+    (rates![(i64::MAX, 4_194_304_000_000)], true),
+];
 
 #[test]
 fn parts_of_no_level_are_told(rt: HostRuntime) -> Result<(), Fail> {
-    assert!(rt; !are_level_parts(&[part(1, 2), part(1, 1)]));
-    assert!(rt; !are_level_parts(&[part(1, 0)]));
-    assert!(rt; !are_level_parts(&[part(0, 4_194_304_000_000), part(0, 1)]));
-    assert!(rt; are_level_parts(&[part(i64::MAX, 4_194_304_000_000)]));
+    for (parts, are) in &LEVELS {
+        assert!(rt; are_level_parts(parts) == *are, "at {parts:?}");
+    }
     Ok(())
 }
 
+/// Two levels' parts, and the verdict of the first beside the second.
+static VERDICTS: [(&[FeeRate], &[FeeRate], Verdict); 11] = [
+    (rates![], rates![], Verdict::Equal),
+    (rates![(500, 100)], rates![(100, 200)], Verdict::Better),
+    (rates![(100, 200)], rates![(500, 100)], Verdict::Worse),
+    (
+        rates![(150, 300)],
+        rates![(100, 100)],
+        Verdict::Incomparable,
+    ),
+    (rates![(0, 1), (-10, 1)], rates![(-10, 1)], Verdict::Better),
+    (rates![(-10, 1)], rates![], Verdict::Worse),
+    (
+        rates![(9, 3), (-1, 1), (-2, 1)],
+        rates![(9, 3)],
+        Verdict::Worse,
+    ),
+    (
+        rates![(50, 10), (150, 300)],
+        rates![(50, 10), (100, 100)],
+        Verdict::Incomparable,
+    ),
+    (rates![(2, 2), (1, 1)], rates![(3, 3)], Verdict::Equal),
+    (
+        rates![(i64::MAX, 1), (-i64::MAX, 1)],
+        rates![(i64::MAX, 2)],
+        Verdict::Incomparable,
+    ),
+    (
+        rates![(i64::MAX, 4_194_303_999_999), (-i64::MAX, 1)],
+        rates![(i64::MAX, 4_194_304_000_000)],
+        Verdict::Incomparable,
+    ),
+];
+
 #[test]
 fn diagrams_are_compared_at_every_size(rt: HostRuntime) -> Result<(), Fail> {
-    let greatest = i64::MAX;
-    assert_eq!(rt; compared(&[], &[]), Some(Verdict::Equal));
-    assert_eq!(rt;
-        compared(&[part(500, 100)], &[part(100, 200)]),
-        Some(Verdict::Better)
-    );
-    assert_eq!(rt;
-        compared(&[part(100, 200)], &[part(500, 100)]),
-        Some(Verdict::Worse)
-    );
-    assert_eq!(rt;
-        compared(&[part(150, 300)], &[part(100, 100)]),
-        Some(Verdict::Incomparable)
-    );
-    assert_eq!(rt;
-        compared(&[part(0, 1), part(-10, 1)], &[part(-10, 1)]),
-        Some(Verdict::Better)
-    );
-    assert_eq!(rt; compared(&[part(-10, 1)], &[]), Some(Verdict::Worse));
-    assert_eq!(rt;
-        compared(&[part(9, 3), part(-1, 1), part(-2, 1)], &[part(9, 3)]),
-        Some(Verdict::Worse)
-    );
-    assert_eq!(rt;
-        compared(
-            &[part(50, 10), part(150, 300)],
-            &[part(50, 10), part(100, 100)]
-        ),
-        Some(Verdict::Incomparable)
-    );
-    assert_eq!(rt;
-        compared(&[part(2, 2), part(1, 1)], &[part(3, 3)]),
-        Some(Verdict::Equal)
-    );
-    assert_eq!(rt;
-        compared(
-            &[part(greatest, 1), part(-greatest, 1)],
-            &[part(greatest, 2)]
-        ),
-        Some(Verdict::Incomparable)
-    );
-    assert_eq!(rt;
-        compared(
-            &[part(greatest, 4_194_303_999_999), part(-greatest, 1)],
-            &[part(greatest, 4_194_304_000_000)]
-        ),
-        Some(Verdict::Incomparable)
-    );
+    for (a, b, verdict) in &VERDICTS {
+        assert!(rt; compared(a, b) == Some(*verdict), "at {a:?} and {b:?}");
+    }
     Ok(())
 }

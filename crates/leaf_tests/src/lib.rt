@@ -3,6 +3,12 @@
 //! They stand apart, so that the functions of those crates are proved once, and not again with the tests.
 #![tactic(auto)]
 
+// A slice of fees with their sizes, for tables.
+#[cfg(test)]
+macro_rules! rates {
+    ($(($fee:expr, $size:expr)),*) => { &[$(FeeRate { fee: $fee, size: $size }),*] };
+}
+
 #[cfg(test)]
 mod bitset_tests;
 #[cfg(test)]

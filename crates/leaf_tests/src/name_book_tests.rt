@@ -13,7 +13,7 @@ use std::process::Abort;
 use std::test::Fail;
 
 /// What is done to a table.
-#[derive(Clone, Copy, Debug)]
+#[derive(Clone, Copy)]
 enum Step {
     Insert(TxId),
     Remove(TxId),
@@ -24,6 +24,27 @@ enum Step {
     MakeRing(usize, [TxId; 3]),
     JoinAll(usize, TxId, [TxId; 2]),
     CutNext(usize, TxId),
+}
+
+// Each call stands in a function that says no more than how many names were issued: no test needs more of the contracts.
+
+fn insert(book: &mut NameBook, id: TxId) -> Result<(), NoMemory>
+    requires { book.old.issued < 2 ^ 64 - 1 }
+    ensures { book.new.issued ≤ book.old.issued + 1 }
+{
+    if !book.has(id) && book.len() < 100 {
+        book.reserve(1)?;
+        book.insert(id);
+    }
+    Ok(())
+}
+
+fn remove(book: &mut NameBook, id: TxId)
+    ensures { book.new.issued ≡ book.old.issued }
+{
+    if book.has(id) {
+        book.remove(id);
+    }
 }
 
 // Whether `b` stands in the ring of `a`.
@@ -40,102 +61,141 @@ fn are_rung(book: &NameBook, r: usize, a: TxId, b: TxId) -> bool
     false
 }
 
+fn join(book: &mut NameBook, r: usize, a: TxId, b: TxId)
+    ensures { book.new.issued ≡ book.old.issued }
+{
+    if r < 2 && book.has(a) && book.has(b) && !are_rung(book, r, a, b) {
+        book.join(r, a, b);
+    }
+}
+
+fn cut(book: &mut NameBook, r: usize, a: TxId)
+    ensures { book.new.issued ≡ book.old.issued }
+{
+    if r < 2 && book.has(a) {
+        book.cut(r, a);
+    }
+}
+
+fn cut_next(book: &mut NameBook, r: usize, a: TxId) -> Option<TxId>
+    ensures { book.new.issued ≡ book.old.issued }
+{
+    if r < 2 && book.has(a) {
+        return book.cut_next(r, a);
+    }
+    None
+}
+
+fn cut_ring(book: &mut NameBook, id: TxId)
+    ensures { book.new.issued ≡ book.old.issued }
+{
+    if book.has(id) {
+        cut_each(book, id);
+    }
+}
+
+fn drop_ring(book: &mut NameBook, r: usize, id: TxId)
+    ensures { book.new.issued ≡ book.old.issued }
+{
+    if r < 2 && book.has(id) {
+        remove_ring(book, r, id);
+    }
+}
+
 // Takes a step where its condition holds, and else none. Answers the name that `cut_next` does.
 fn take(book: &mut NameBook, step: Step) -> Result<Option<TxId>, NoMemory>
-    requires issued { book.old.issued < 2 ^ 64 - 1 }
-    ensures issued { book.new.issued ≤ book.old.issued + 1 }
+    requires { book.old.issued < 2 ^ 64 - 1 }
+    ensures { book.new.issued ≤ book.old.issued + 1 }
 {
     match step {
-        Step::Insert(id) => {
-            if !book.has(id) && book.len() < 100 {
-                book.reserve(1)?;
-                book.insert(id);
-            }
-        }
-        Step::Remove(id) => {
-            if book.has(id) {
-                book.remove(id);
-            }
-        }
-        Step::Join(r, a, b) => {
-            if r < 2 && book.has(a) && book.has(b) && !are_rung(book, r, a, b) {
-                book.join(r, a, b);
-            }
-        }
-        Step::Cut(r, a) => {
-            if r < 2 && book.has(a) {
-                book.cut(r, a);
-            }
-        }
-        Step::CutEach(id) => {
-            if book.has(id) {
-                cut_each(book, id);
-            }
-        }
-        Step::RemoveRing(r, id) => {
-            if r < 2 && book.has(id) {
-                remove_ring(book, r, id);
-            }
-        }
+        Step::Insert(id) => insert(book, id)?,
+        Step::Remove(id) => remove(book, id),
+        Step::Join(r, a, b) => join(book, r, a, b),
+        Step::Cut(r, a) => cut(book, r, a),
+        Step::CutEach(id) => cut_ring(book, id),
+        Step::RemoveRing(r, id) => drop_ring(book, r, id),
         Step::MakeRing(r, names) => make_ring(book, r, names),
         Step::JoinAll(r, to, names) => join_all(book, r, to, names),
-        Step::CutNext(r, a) => {
-            if r < 2 && book.has(a) {
-                return Ok(book.cut_next(r, a));
-            }
-        }
+        Step::CutNext(r, a) => return Ok(cut_next(book, r, a)),
     }
     Ok(None)
 }
 
 // Whether these are the names of a ring in their order; none are where the name isn't live.
-fn shows(book: &NameBook, r: usize, id: TxId, want: &[TxId]) -> bool
-    requires { r < 2 }
-{
-    if !book.has(id) {
-        return want.is_empty();
+fn shows(book: &NameBook, r: usize, id: TxId, names: &[TxId]) -> bool {
+    if r >= 2 || !book.has(id) {
+        return names.is_empty();
     }
-    let mut at = 0;
-    for id in book.ring(r, id) {
-        if at >= want.len() || want[at] != id {
-            return false;
-        }
-        at += 1;
-    }
-    at == want.len()
+    book.ring(r, id).eq(names.iter().copied())
 }
 
-// Takes the steps of a table, and looks at both rings of a name after each.
-fn follow_the_table(rt: &impl Abort, book: &mut NameBook) -> Result<(), NoMemory>
+/// A step, what it answers, a name, and both rings of that name then.
+type Row = (Step, Option<TxId>, TxId, [&'static [TxId]; 2]);
+
+static RINGS: [Row; 20] = [
+    (Step::Insert(1), None, 1, [&[1], &[1]]),
+    (Step::Insert(2), None, 2, [&[2], &[2]]),
+    (Step::Join(0, 1, 2), None, 1, [&[1, 2], &[1]]),
+    (Step::Insert(3), None, 3, [&[3], &[3]]),
+    (Step::Join(0, 1, 3), None, 1, [&[1, 3, 2], &[1]]),
+    (Step::Insert(4), None, 1, [&[1, 3, 2], &[1]]),
+    (Step::Join(0, 4, 2), None, 1, [&[1, 3, 2, 4], &[1]]),
+    (Step::Join(1, 2, 4), None, 2, [&[2, 4, 1, 3], &[2, 4]]),
+    (Step::Cut(0, 2), None, 1, [&[1, 3, 4], &[1]]),
+    (Step::Cut(1, 1), None, 4, [&[4, 1, 3], &[4, 2]]),
+    (Step::Remove(3), None, 1, [&[1, 4], &[1]]),
+    (Step::Insert(3), None, 3, [&[3], &[3]]),
+    (Step::Join(0, 2, 1), None, 1, [&[1, 2, 4], &[1]]),
+    (Step::Join(1, 3, 4), None, 2, [&[2, 4, 1], &[2, 4, 3]]),
+    (
+        Step::MakeRing(0, [4, 3, 1]),
+        None,
+        4,
+        [&[4, 1, 3], &[4, 3, 2]],
+    ),
+    (Step::CutNext(0, 3), Some(4), 1, [&[1, 4], &[1]]),
+    (
+        Step::JoinAll(0, 4, [2, 3]),
+        None,
+        4,
+        [&[4, 3, 2, 1], &[4, 3, 2]],
+    ),
+    (Step::CutEach(1), None, 2, [&[2, 1, 4, 3], &[2]]),
+    (Step::Cut(0, 3), None, 3, [&[3], &[3]]),
+    (Step::RemoveRing(0, 4), None, 2, [&[], &[]]),
+];
+
+static CUTS: [Row; 5] = [
+    (Step::Insert(1), None, 1, [&[1], &[1]]),
+    (Step::Insert(2), None, 2, [&[2], &[2]]),
+    (Step::Join(0, 1, 2), None, 1, [&[1, 2], &[1]]),
+    (Step::CutNext(0, 1), Some(2), 1, [&[1], &[1]]),
+    (Step::CutNext(0, 1), None, 1, [&[1], &[1]]),
+];
+
+// Takes the steps of rows, and looks at both rings of a name after each.
+fn follow(rt: &impl Abort, book: &mut NameBook, rows: &[Row]) -> Result<(), Fail>
     requires { book.old.issued ≡ 0 }
 {
-    let rows: [(Step, TxId, &[TxId], &[TxId]); 20] = [
-        (Step::Insert(1), 1, &[1], &[1]),
-        (Step::Insert(2), 2, &[2], &[2]),
-        (Step::Join(0, 1, 2), 1, &[1, 2], &[1]),
-        (Step::Insert(3), 3, &[3], &[3]),
-        (Step::Join(0, 1, 3), 1, &[1, 3, 2], &[1]),
-        (Step::Insert(4), 1, &[1, 3, 2], &[1]),
-        (Step::Join(0, 4, 2), 1, &[1, 3, 2, 4], &[1]),
-        (Step::Join(1, 2, 4), 2, &[2, 4, 1, 3], &[2, 4]),
-        (Step::Cut(0, 2), 1, &[1, 3, 4], &[1]),
-        (Step::Cut(1, 1), 4, &[4, 1, 3], &[4, 2]),
-        (Step::Remove(3), 1, &[1, 4], &[1]),
-        (Step::Insert(3), 3, &[3], &[3]),
-        (Step::Join(0, 2, 1), 1, &[1, 2, 4], &[1]),
-        (Step::Join(1, 3, 4), 2, &[2, 4, 1], &[2, 4, 3]),
-        (Step::MakeRing(0, [4, 3, 1]), 4, &[4, 1, 3], &[4, 3, 2]),
-        (Step::CutNext(0, 3), 1, &[1, 4], &[1]),
-        (Step::JoinAll(0, 4, [2, 3]), 4, &[4, 3, 2, 1], &[4, 3, 2]),
-        (Step::CutEach(1), 2, &[2, 1, 4, 3], &[2]),
-        (Step::Cut(0, 3), 3, &[3], &[3]),
-        (Step::RemoveRing(0, 4), 2, &[], &[]),
-    ];
-    for (step, of, ring_0, ring_1) in rows {
-        take(book, step)?;
-        assert!(rt; shows(book, 0, of, ring_0), "ring 0 of {of} after {step:?}");
-        assert!(rt; shows(book, 1, of, ring_1), "ring 1 of {of} after {step:?}");
+    for (at, row) in rows.iter().enumerate() {
+        let (step, answer, of, [ring_0, ring_1]) = *row;
+        let answered = take(book, step)? == answer;
+        let rung = shows(book, 0, of, ring_0) && shows(book, 1, of, ring_1);
+        assert!(rt; answered && rung, "at row {at}");
     }
+    Ok(())
+}
+
+#[test]
+fn a_cut_tells_the_name_after(rt: HostRuntime) -> Result<(), Fail> {
+    let mut book = NameBook::new(rt.alloc());
+    follow(&rt, &mut book, &CUTS)
+}
+
+fn follow_the_table(rt: &impl Abort, book: &mut NameBook) -> Result<(), Fail>
+    requires { book.old.issued ≡ 0 }
+{
+    follow(rt, book, &RINGS)?;
     assert!(rt; book.len() == 1 && book.has(3));
     Ok(())
 }
@@ -143,17 +203,5 @@ fn follow_the_table(rt: &impl Abort, book: &mut NameBook) -> Result<(), NoMemory
 #[test]
 fn rings_follow_the_table(rt: HostRuntime) -> Result<(), Fail> {
     let mut book = NameBook::new(rt.alloc());
-    let result = follow_the_table(&rt, &mut book);
-    Ok(result?)
-}
-
-#[test]
-fn a_cut_tells_the_name_after(rt: HostRuntime) -> Result<(), Fail> {
-    let mut book = NameBook::new(rt.alloc());
-    take(&mut book, Step::Insert(1))?;
-    take(&mut book, Step::Insert(2))?;
-    take(&mut book, Step::Join(0, 1, 2))?;
-    assert_eq!(rt; take(&mut book, Step::CutNext(0, 1))?, Some(2));
-    assert_eq!(rt; take(&mut book, Step::CutNext(0, 1))?, None);
-    Ok(())
+    follow_the_table(&rt, &mut book)
 }

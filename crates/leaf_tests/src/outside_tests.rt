@@ -1,9 +1,47 @@
 use outside::{
-    Failed, MemSink, MemSource, ReadSource, Sink, Source, SureSink, SureSource, WriteSink,
+    Failed, MemSink, MemSource, NoMemory, ReadSource, Sink, Source, SureSink, SureSource, WriteSink,
 };
+use std::alloc::Global;
 use std::io;
 use std::io::{Read, Write};
 use std::test::Fail;
+
+// Each call goes through one of these functions, which have no clauses: no test needs more of the contracts.
+
+fn read(source: &mut impl Source, buf: &mut [u8; 4]) -> Result<usize, Failed> {
+    source.read(buf)
+}
+
+fn write(sink: &mut impl Sink) -> Result<usize, Failed> {
+    sink.write(b"abc")
+}
+
+/// Whether reads have these answers, one after the other.
+fn reads_are(source: &mut impl Source, answers: &[Result<usize, Failed>]) -> bool {
+    let mut buf = [0; 4];
+    for answer in answers {
+        if read(source, &mut buf) != *answer {
+            return false;
+        }
+    }
+    true
+}
+
+/// Whether writes of three bytes have these answers, one after the other.
+fn writes_are(sink: &mut impl Sink, answers: &[Result<usize, Failed>]) -> bool {
+    for answer in answers {
+        if write(sink) != *answer {
+            return false;
+        }
+    }
+    true
+}
+
+/// Whether a read gives these bytes.
+fn gives(source: &mut impl Source, bytes: &[u8]) -> bool {
+    let mut buf = [0; 4];
+    read(source, &mut buf) == Ok(bytes.len()) && buf.get(..bytes.len()) == Some(bytes)
+}
 
 /// A reader whose every other call fails.
 #[derive(Drop)]
@@ -29,29 +67,27 @@ impl Read for Shaky {
 
 #[test]
 fn read_source_passes_on_and_tells_failures(rt: HostRuntime) -> Result<(), Fail> {
-    let mut buf = [0; 4];
     let mut source = ReadSource::new(b"abc".as_slice());
-    assert_eq!(rt; source.read(&mut buf), Ok(3));
-    assert_eq!(rt; buf[..3], [b'a', b'b', b'c'][..]);
-    assert_eq!(rt; source.read(&mut buf), Ok(0));
+    assert!(rt; gives(&mut source, b"abc"));
+    assert!(rt; reads_are(&mut source, &[Ok(0)]));
     let mut shaky = ReadSource::new(Shaky { fails: false });
-    for want in [Err(Failed), Ok(1), Err(Failed)] {
-        assert_eq!(rt; shaky.read(&mut buf), want);
-    }
+    assert!(rt; reads_are(&mut shaky, &[Err(Failed), Ok(1), Err(Failed)]));
     Ok(())
+}
+
+/// Whether a text is written whole.
+fn write_all(bytes: &mut Vec<u8>, text: &[u8]) -> bool {
+    WriteSink::new(bytes).write_all(text) == Ok(())
 }
 
 #[test]
 fn write_sink_passes_on_and_tells_failures(rt: HostRuntime) -> Result<(), Fail> {
     let mut bytes = Vec::new(rt.alloc());
-    let mut sink = WriteSink::new(&mut bytes);
-    assert_eq!(rt; sink.write_all(b"abc"), Ok(()));
-    assert_eq!(rt; bytes.as_slice(), b"abc".as_slice());
+    assert!(rt; write_all(&mut bytes, b"abc"));
+    assert!(rt; bytes.as_slice() == b"abc".as_slice());
     let mut room = [0; 2];
     let mut full = WriteSink::new(room.as_mut_slice());
-    for want in [Ok(2), Err(Failed)] {
-        assert_eq!(rt; full.write(b"abc"), want);
-    }
+    assert!(rt; writes_are(&mut full, &[Ok(2), Err(Failed)]));
     Ok(())
 }
 
@@ -80,28 +116,28 @@ impl Write for Flushed {
 fn write_sink_flushes_after_each_write(rt: HostRuntime) -> Result<(), Fail> {
     let mut writer = Flushed { flushes: 0 };
     let mut sink = WriteSink::new(&mut writer);
-    for want in [Ok(2), Ok(2), Err(Failed)] {
-        assert_eq!(rt; sink.write(b"abc"), want);
-    }
-    assert_eq!(rt; writer.flushes, 3);
+    assert!(rt; writes_are(&mut sink, &[Ok(2), Ok(2), Err(Failed)]));
+    assert!(rt; writer.flushes == 3);
     Ok(())
+}
+
+fn source_fails(alloc: Global) -> Result<bool, NoMemory> {
+    let mut source = MemSource::new(alloc, b"abcdef", 2, &[2], Some(5))?;
+    let answers = [Ok(2), Err(Failed), Ok(2), Ok(1), Err(Failed), Err(Failed)];
+    Ok(reads_are(&mut source, &answers))
+}
+
+fn sink_fails(alloc: Global) -> Result<bool, NoMemory> {
+    let mut sink = MemSink::new(alloc, 2, &[3], 5)?;
+    let answers = [Ok(2), Ok(2), Err(Failed), Ok(1), Err(Failed)];
+    Ok(writes_are(&mut sink, &answers) && sink.written() == b"ababa".as_slice())
 }
 
 #[test]
 fn memory_fails_where_it_was_told_to(rt: HostRuntime) -> Result<(), Fail> {
-    let alloc = rt.alloc();
-    let mut buf = [0; 4];
-    let mut source = MemSource::new(alloc, b"abcdef", 2, &[2], Some(5))?;
-    for want in [Ok(2), Err(Failed), Ok(2), Ok(1), Err(Failed), Err(Failed)] {
-        assert_eq!(rt; source.read(&mut buf), want);
-    }
-    let mut sink = MemSink::new(alloc, 2, &[3], 5)?;
-    for want in [Ok(2), Ok(2), Err(Failed), Ok(1), Err(Failed)] {
-        assert_eq!(rt; sink.write(b"abc"), want);
-    }
-    assert_eq!(rt; sink.written(), b"ababa".as_slice());
-    let mut sure = SureSource::new(b"abc");
-    assert_eq!(rt; sure.read(&mut buf), Ok(3));
-    assert_eq!(rt; SureSink::new().write(b"abc"), Ok(3));
+    assert!(rt; source_fails(rt.alloc())?);
+    assert!(rt; sink_fails(rt.alloc())?);
+    assert!(rt; reads_are(&mut SureSource::new(b"abc"), &[Ok(3)]));
+    assert!(rt; writes_are(&mut SureSink::new(), &[Ok(3)]));
     Ok(())
 }

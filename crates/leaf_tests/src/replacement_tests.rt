@@ -6,6 +6,7 @@ ghost use Rattle.replacement.specs.Changes.{EndsNonNegative};
 use diagram::are_level_parts;
 use fee_rate::{FeeRate, is_rate};
 use graphs::Verdict;
+use graphs::Verdict::{Better, Equal, Incomparable, Worse};
 use replacement::{
     compare_changed, compare_full, compare_with_tail, ends_non_negative, tested_parts_merge,
 };
@@ -144,17 +145,14 @@ fn keep_verdict(
     verdict: Verdict,
     rows: &[(i64, u64, u32)],
 ) -> Result<bool, AllocError> {
-    for (fee, size, places) in rows {
-        let common = part(*fee, *size);
-        if places_in_both(alloc, main_only, top_only, common, verdict)? != *places {
+    for row in rows {
+        let (fee, size, places) = *row;
+        let common = FeeRate { fee, size };
+        if places_in_both(alloc, main_only, top_only, common, verdict)? != places {
             return Ok(false);
         }
     }
     Ok(verdict_of_changes(main_only, top_only) == Some(verdict))
-}
-
-fn part(fee: i64, size: u64) -> FeeRate {
-    FeeRate { fee, size }
 }
 
 /// Two levels, what stands in each alone, and a tail of what stands in both.
@@ -174,141 +172,179 @@ fn tail_is_enough(staged: &Staged, there: Verdict, back: Verdict) -> bool {
         && verdict_with_tail(staged.top_only, staged.main_only, staged.tail) == Some(back)
 }
 
+/// Main and staging, their verdict, and the reverse where they are exchanged.
+static LEVELS: [(&[FeeRate], &[FeeRate], Verdict, Verdict); 8] = [
+    (rates![], rates![], Equal, Equal),
+    (rates![(100, 200)], rates![(500, 100)], Better, Worse),
+    (
+        rates![(100, 100)],
+        rates![(150, 300)],
+        Incomparable,
+        Incomparable,
+    ),
+    (rates![(-10, 1)], rates![(0, 1), (-10, 1)], Better, Worse),
+    (rates![(5, 1)], rates![], Worse, Better),
+    (rates![(-5, 1)], rates![], Better, Worse),
+    (
+        rates![(50, 10), (100, 100)],
+        rates![(50, 10), (150, 300)],
+        Incomparable,
+        Incomparable,
+    ),
+    (rates![(1, 1), (2, 2)], rates![(3, 3)], Equal, Equal),
+];
+
 #[test]
 fn staging_is_better_where_it_is_nowhere_below(rt: HostRuntime) -> Result<(), Fail> {
-    let (better, worse) = (Verdict::Better, Verdict::Worse);
-    let (equal, neither) = (Verdict::Equal, Verdict::Incomparable);
-    assert!(rt; has_verdict(&[], &[], equal, equal));
-    assert!(rt; has_verdict(&[part(100, 200)], &[part(500, 100)], better, worse));
-    assert!(rt; has_verdict(&[part(100, 100)], &[part(150, 300)], neither, neither));
-    assert!(rt; has_verdict(&[part(-10, 1)], &[part(0, 1), part(-10, 1)], better, worse));
-    assert!(rt; has_verdict(&[part(5, 1)], &[], worse, better));
-    assert!(rt; has_verdict(&[part(-5, 1)], &[], better, worse));
-    let main = [part(50, 10), part(100, 100)];
-    assert!(rt; has_verdict(&main, &[part(50, 10), part(150, 300)], neither, neither));
-    assert!(rt; has_verdict(&[part(1, 1), part(2, 2)], &[part(3, 3)], equal, equal));
+    for (main, top, there, back) in &LEVELS {
+        assert!(rt;
+            has_verdict(main, top, *there, *back),
+            "at {main:?} and {top:?}"
+        );
+    }
     Ok(())
+}
+
+// A generic law, at a type.
+fn parts_of_rates_merge() {
+    tested_parts_merge::<FeeRate>();
 }
 
 #[test]
 fn changes_have_the_verdict_of_the_levels(rt: HostRuntime) -> Result<(), Fail> {
-    let neither = Verdict::Incomparable;
-    let (main_only, top_only, both) = ([part(100, 100)], [part(150, 300)], part(50, 10));
     assert!(rt;
         has_verdict(
-            &[both, main_only[0]],
-            &[both, top_only[0]],
-            neither,
-            neither
+            rates![(50, 10), (100, 100)],
+            rates![(50, 10), (150, 300)],
+            Incomparable,
+            Incomparable
         )
     );
-    assert_eq!(rt; verdict_of_changes(&main_only, &top_only), Some(neither));
-    // A generic law, at a type.
-    tested_parts_merge::<FeeRate>();
+    assert!(rt; verdict_of_changes(rates![(100, 100)], rates![(150, 300)]) == Some(Incomparable));
+    parts_of_rates_merge();
     Ok(())
 }
+
+/// Main and staging that differ in a part of fee zero, and have one of negative fee in common.
+static BELOW_ZERO: (&[FeeRate], &[FeeRate]) = (rates![(-10, 1)], rates![(0, 1), (-10, 1)]);
 
 #[test]
 fn a_common_part_below_zero_decides(rt: HostRuntime) -> Result<(), Fail> {
-    let (main, top) = ([part(-10, 1)], [part(0, 1), part(-10, 1)]);
-    assert!(rt; has_verdict(&main, &top, Verdict::Better, Verdict::Worse));
-    assert_eq!(rt;
-        verdict_of_changes(&[], &[part(0, 1)]),
-        Some(Verdict::Equal)
-    );
-    assert_eq!(rt; verdict_of_changes(&main, &top), None);
+    let (main, top) = BELOW_ZERO;
+    assert!(rt; has_verdict(main, top, Better, Worse));
+    assert!(rt; verdict_of_changes(rates![], rates![(0, 1)]) == Some(Equal));
+    assert!(rt; verdict_of_changes(main, top).is_none());
     Ok(())
 }
+
+/// Levels with changes and tails that are enough for their verdict, and the reverse where they are exchanged.
+static TAILS: [(Staged<'static>, Verdict, Verdict); 4] = [
+    // As large as the difference: the better part of a negative fee is left out.
+    (
+        Staged {
+            main: rates![(-5, 3), (-10, 1)],
+            top: rates![(0, 1), (-5, 3), (-10, 1)],
+            main_only: rates![],
+            top_only: rates![(0, 1)],
+            tail: rates![(-10, 1)],
+        },
+        Better,
+        Worse,
+    ),
+    // Better parts of positive fee are left out too.
+    (
+        Staged {
+            main: rates![(50, 10), (100, 100), (-1, 200)],
+            top: rates![(50, 10), (150, 300), (-1, 200)],
+            main_only: rates![(100, 100)],
+            top_only: rates![(150, 300)],
+            tail: rates![(-1, 200)],
+        },
+        Incomparable,
+        Incomparable,
+    ),
+    // The tail stands before a change.
+    (
+        Staged {
+            main: rates![(-10, 1), (-20, 1)],
+            top: rates![(-5, 2), (-10, 1)],
+            main_only: rates![(-20, 1)],
+            top_only: rates![(-5, 2)],
+            tail: rates![(-10, 1)],
+        },
+        Better,
+        Worse,
+    ),
+    // Of equal sizes changes need no tail.
+    (
+        Staged {
+            main: rates![(-3, 1), (-3, 1)],
+            top: rates![(-3, 1), (-4, 1)],
+            main_only: rates![(-3, 1)],
+            top_only: rates![(-4, 1)],
+            tail: rates![],
+        },
+        Worse,
+        Better,
+    ),
+];
 
 #[test]
 fn the_worst_common_parts_are_enough(rt: HostRuntime) -> Result<(), Fail> {
-    let rows = [
-        // As large as the difference: the better part of a negative fee is left out.
-        (
-            Staged {
-                main: &[part(-5, 3), part(-10, 1)],
-                top: &[part(0, 1), part(-5, 3), part(-10, 1)],
-                main_only: &[],
-                top_only: &[part(0, 1)],
-                tail: &[part(-10, 1)],
-            },
-            Verdict::Better,
-            Verdict::Worse,
-        ),
-        // Better parts of positive fee are left out too.
-        (
-            Staged {
-                main: &[part(50, 10), part(100, 100), part(-1, 200)],
-                top: &[part(50, 10), part(150, 300), part(-1, 200)],
-                main_only: &[part(100, 100)],
-                top_only: &[part(150, 300)],
-                tail: &[part(-1, 200)],
-            },
-            Verdict::Incomparable,
-            Verdict::Incomparable,
-        ),
-        // The tail stands before a change.
-        (
-            Staged {
-                main: &[part(-10, 1), part(-20, 1)],
-                top: &[part(-5, 2), part(-10, 1)],
-                main_only: &[part(-20, 1)],
-                top_only: &[part(-5, 2)],
-                tail: &[part(-10, 1)],
-            },
-            Verdict::Better,
-            Verdict::Worse,
-        ),
-        // Of equal sizes changes need no tail.
-        (
-            Staged {
-                main: &[part(-3, 1), part(-3, 1)],
-                top: &[part(-3, 1), part(-4, 1)],
-                main_only: &[part(-3, 1)],
-                top_only: &[part(-4, 1)],
-                tail: &[],
-            },
-            Verdict::Worse,
-            Verdict::Better,
-        ),
-    ];
-    for (staged, there, back) in &rows {
-        assert!(rt; tail_is_enough(staged, *there, *back));
+    for (staged, there, back) in &TAILS {
+        assert!(rt;
+            tail_is_enough(staged, *there, *back),
+            "at {:?}",
+            staged.main
+        );
     }
     // One that is too short may tell another verdict.
-    let (main, top) = ([part(-10, 1)], [part(0, 1), part(-10, 1)]);
-    assert!(rt; has_verdict(&main, &top, Verdict::Better, Verdict::Worse));
-    assert_eq!(rt;
-        verdict_with_tail(&[], &[part(0, 1)], &[]),
-        Some(Verdict::Equal)
-    );
+    let (main, top) = BELOW_ZERO;
+    assert!(rt; has_verdict(main, top, Better, Worse));
+    assert!(rt; verdict_with_tail(rates![], rates![(0, 1)], rates![]) == Some(Equal));
     Ok(())
 }
 
+/// Changes with their verdict, and parts in common, each with the number of pairs of places at which rates still fall.
+static KEPT: [(&[FeeRate], &[FeeRate], Verdict, &[(i64, u64, u32)]); 6] = [
+    (
+        rates![(30, 10), (10, 10)],
+        rates![(40, 10), (20, 20)],
+        Better,
+        &[(50, 10, 1), (40, 10, 2), (35, 10, 1), (30, 10, 2)],
+    ),
+    (
+        rates![(30, 10), (10, 10)],
+        rates![(40, 10), (20, 20)],
+        Better,
+        &[(20, 10, 1), (10, 10, 4), (5, 10, 1), (0, 10, 1)],
+    ),
+    (
+        rates![(40, 10), (20, 20)],
+        rates![(30, 10), (10, 10)],
+        Worse,
+        &[(20, 10, 1), (10, 10, 4), (5, 10, 1), (0, 10, 1)],
+    ),
+    (
+        rates![(3, 3)],
+        rates![(1, 1), (2, 2)],
+        Equal,
+        &[(9, 3, 1), (7, 7, 6), (0, 4, 1)],
+    ),
+    (
+        rates![(1, 1), (2, 2)],
+        rates![(5, 9)],
+        Incomparable,
+        &[(7, 7, 3), (5, 9, 2), (0, 4, 1)],
+    ),
+    (rates![], rates![(0, 1)], Equal, &[(3, 1, 1), (0, 5, 2)]),
+];
+
 #[test]
 fn common_parts_at_every_place_keep_the_verdict(rt: HostRuntime) -> Result<(), Fail> {
-    let alloc = rt.alloc();
-    let (main, top) = ([part(30, 10), part(10, 10)], [part(40, 10), part(20, 20)]);
-    let fast = [(50, 10, 1), (40, 10, 2), (35, 10, 1), (30, 10, 2)];
-    let slow = [(20, 10, 1), (10, 10, 4), (5, 10, 1), (0, 10, 1)];
-    assert!(rt; keep_verdict(alloc, &main, &top, Verdict::Better, &fast)?);
-    assert!(rt; keep_verdict(alloc, &main, &top, Verdict::Better, &slow)?);
-    assert!(rt; keep_verdict(alloc, &top, &main, Verdict::Worse, &slow)?);
-    let (whole, halves, less) = ([part(3, 3)], [part(1, 1), part(2, 2)], [part(5, 9)]);
-    let (in_whole, in_less) = (
-        [(9, 3, 1), (7, 7, 6), (0, 4, 1)],
-        [(7, 7, 3), (5, 9, 2), (0, 4, 1)],
-    );
-    assert!(rt; keep_verdict(alloc, &whole, &halves, Verdict::Equal, &in_whole)?);
-    assert!(rt; keep_verdict(alloc, &halves, &less, Verdict::Incomparable, &in_less)?);
-    assert!(rt;
-        keep_verdict(
-            alloc,
-            &[],
-            &[part(0, 1)],
-            Verdict::Equal,
-            &[(3, 1, 1), (0, 5, 2)]
-        )?
-    );
+    for (main_only, top_only, verdict, rows) in &KEPT {
+        let keeps = keep_verdict(rt.alloc(), main_only, top_only, *verdict, rows)?;
+        assert!(rt; keeps, "at {rows:?}");
+    }
     Ok(())
 }

@@ -111,55 +111,62 @@ fn values<B: Body>(body: &B) -> [Option<u64>; 6] {
 fn take<B: Body>(rt: &impl Abort, body: &mut B, step: Step) -> Result<(), NoMemory> {
     let before = values(body);
     if body.take(step).is_err() {
-        assert_eq!(rt; values(body), before, "without memory for {step:?}");
+        assert!(rt; values(body) == before, "without memory for {step:?}");
         body.take(step)?;
     }
     Ok(())
 }
 
-// Takes the steps of a table, and looks at both levels after each.
-fn follows_the_table<B: Body>(rt: &impl Abort, body: &mut B) -> Result<(), NoMemory> {
-    let (a, b, c, n) = (Some(10), Some(20), Some(30), None);
-    let rows = [
-        (Step::Put(1, 10), [a, n, n, a, n, n]),
-        (Step::Put(2, 20), [a, b, n, a, b, n]),
-        (Step::Begin, [a, b, n, a, b, n]),
-        (Step::Put(3, 30), [a, b, n, a, b, c]),
-        (Step::Put(1, 20), [a, b, n, b, b, c]),
-        (Step::Remove(2), [a, b, n, b, n, c]),
-        (Step::Remove(9), [a, b, n, b, n, c]),
-        (Step::Abort, [a, b, n, a, b, n]),
-        (Step::Begin, [a, b, n, a, b, n]),
-        (Step::Remove(1), [a, b, n, n, b, n]),
-        (Step::Put(1, 30), [a, b, n, c, b, n]),
-        (Step::Remove(2), [a, b, n, c, n, n]),
-        (Step::Put(3, 10), [a, b, n, c, n, a]),
-        (Step::Commit, [c, n, a, c, n, a]),
-        (Step::Begin, [c, n, a, c, n, a]),
-        (Step::Put(2, 20), [c, n, a, c, b, a]),
-        (Step::Remove(2), [c, n, a, c, n, a]),
-        (Step::Commit, [c, n, a, c, n, a]),
-        (Step::Remove(3), [c, n, n, c, n, n]),
-    ];
-    for (step, want) in rows {
-        take(rt, body, step)?;
-        assert_eq!(rt; values(body), want, "after {step:?}");
+const A: Option<u64> = Some(10);
+
+const B: Option<u64> = Some(20);
+
+const C: Option<u64> = Some(30);
+
+const N: Option<u64> = None;
+
+// Steps, and what the keys have after each.
+static ROWS: [(Step, &[Option<u64>]); 19] = [
+    (Step::Put(1, 10), &[A, N, N, A, N, N]),
+    (Step::Put(2, 20), &[A, B, N, A, B, N]),
+    (Step::Begin, &[A, B, N, A, B, N]),
+    (Step::Put(3, 30), &[A, B, N, A, B, C]),
+    (Step::Put(1, 20), &[A, B, N, B, B, C]),
+    (Step::Remove(2), &[A, B, N, B, N, C]),
+    (Step::Remove(9), &[A, B, N, B, N, C]),
+    (Step::Abort, &[A, B, N, A, B, N]),
+    (Step::Begin, &[A, B, N, A, B, N]),
+    (Step::Remove(1), &[A, B, N, N, B, N]),
+    (Step::Put(1, 30), &[A, B, N, C, B, N]),
+    (Step::Remove(2), &[A, B, N, C, N, N]),
+    (Step::Put(3, 10), &[A, B, N, C, N, A]),
+    (Step::Commit, &[C, N, A, C, N, A]),
+    (Step::Begin, &[C, N, A, C, N, A]),
+    (Step::Put(2, 20), &[C, N, A, C, B, A]),
+    (Step::Remove(2), &[C, N, A, C, N, A]),
+    (Step::Commit, &[C, N, A, C, N, A]),
+    (Step::Remove(3), &[C, N, N, C, N, N]),
+];
+
+// Takes the steps of the table, and looks at both levels after each.
+fn follows_the_table<B: Body>(rt: &impl Abort, body: &mut B) -> Result<(), Fail> {
+    for (step, want) in &ROWS {
+        take(rt, body, *step)?;
+        assert!(rt; values(body).as_slice() == *want, "after {step:?}");
     }
     Ok(())
 }
 
 #[test]
 fn the_overlay_follows_the_table(rt: HostRuntime) -> Result<(), Fail> {
-    let mut overlay = Overlay::<u64>::new(rt.alloc());
-    let result = follows_the_table(&rt, &mut overlay);
-    Ok(result?)
+    let mut overlay = Overlay::new(rt.alloc());
+    follows_the_table(&rt, &mut overlay)
 }
 
 #[test]
 fn two_whole_maps_follow_the_table(rt: HostRuntime) -> Result<(), Fail> {
     let mut whole = WholeMaps::new(rt.alloc());
-    let result = follows_the_table(&rt, &mut whole);
-    Ok(result?)
+    follows_the_table(&rt, &mut whole)
 }
 
 // A step drawn from a number: changes of four keys, and now and then a begin or an end.
@@ -174,26 +181,29 @@ fn drawn(number: u64) -> Step {
     }
 }
 
+fn next_number(number: u64) -> u64 {
+    number
+        .wrapping_mul(0x5851_f42d_4c95_7f2d)
+        .wrapping_add(0x1405_7b7e_f767_814f)
+}
+
 // Takes the same steps with both, and compares them after each.
-fn agree<A: Body, B: Body>(rt: &impl Abort, a: &mut A, b: &mut B) -> Result<(), NoMemory> {
+fn agree<A: Body, B: Body>(rt: &impl Abort, a: &mut A, b: &mut B) -> Result<(), Fail> {
     let mut number = 1u64;
     for _ in 0..2000 {
-        number = number
-            .wrapping_mul(0x5851_f42d_4c95_7f2d)
-            .wrapping_add(0x1405_7b7e_f767_814f);
+        number = next_number(number);
         let step = drawn(number);
         take(rt, a, step)?;
         take(rt, b, step)?;
-        assert_eq!(rt; a.is_staged(), b.is_staged(), "after {step:?}");
-        assert_eq!(rt; values(a), values(b), "after {step:?}");
+        let same = a.is_staged() == b.is_staged() && values(a) == values(b);
+        assert!(rt; same, "after {step:?}");
     }
     Ok(())
 }
 
 #[test]
 fn both_agree_on_drawn_steps(rt: HostRuntime) -> Result<(), Fail> {
-    let mut overlay = Overlay::<u64>::new(rt.alloc());
+    let mut overlay = Overlay::new(rt.alloc());
     let mut whole = WholeMaps::new(rt.alloc());
-    let result = agree(&rt, &mut overlay, &mut whole);
-    Ok(result?)
+    agree(&rt, &mut overlay, &mut whole)
 }

@@ -30,7 +30,7 @@ fn uncounted<K: Ledger>(blank: Blank)
 #[test]
 fn a_ledger_shows_three_ticks(rt: HostRuntime) -> Result<(), Fail> {
     uncounted::<Brand>(Blank::new(1));
-    assert_eq!(rt; three::<Brand>(Blank::new(1)), 3);
-    assert_eq!(rt; size_of::<Steps<NoLedger<Brand>>>(), 0);
+    assert!(rt; three::<Brand>(Blank::new(1)) == 3);
+    assert!(rt; size_of::<Steps<NoLedger<Brand>>>() == 0);
     Ok(())
 }

@@ -1,5 +1,5 @@
 //! The plain program with an overlay's contract: two whole maps, the second copied when a staging begins.
-ghost use Rattle.std.specs.Prelude.{◌≡◌, ◌+◌, ◌<◌, ◌≤◌, None, Some, IsSome, OnOk, OnErr, OnSome, is_some, nat_eq, option_copied};
+ghost use Rattle.std.specs.Prelude.{◌≡◌, ◌+◌, ◌<◌, ◌≤◌, None, Some, IsSome, IfOk, OnOk, OnErr, OnSome, is_some, nat_eq, option_copied};
 ghost use Rattle.std.specs.FinMap as finmap;
 ghost use Rattle.indexmap.specs.IndexMap.{spare as room_of, Updates};
 ghost use Rattle.staging.specs.Maps.{top_of, map_of};
@@ -45,6 +45,15 @@ fn insert(map: &mut IndexMap<u64, u64>, key: u64, value: u64)
         Ok(_) => {}
         Err(_) => unreachable!(),
     }
+}
+
+// A copy of a map, with room for more entries.
+fn copied(map: &IndexMap<u64, u64>, room: usize) -> Result<IndexMap<u64, u64>, NoMemory>
+    ensures { IfOk result (λ copy. (copy.entries ≡ map.now.entries) × (room ≤ room_of copy)) }
+{
+    let mut copy = map.clone()?;
+    copy.reserve(room)?;
+    Ok(copy)
 }
 
 impl WholeMaps {
@@ -132,9 +141,7 @@ impl WholeMaps {
         ensures spare { self.new.spare ≡ self.old.spare }
         ensures err { OnErr result (self.new ≡ self.old) }
     {
-        let mut top = self.base.clone()?;
-        top.reserve(self.spare)?;
-        self.top = top;
+        self.top = copied(&self.base, self.spare)?;
         self.staged = true;
         Ok(())
     }

@@ -1,9 +1,9 @@
 use Rattle.std.proofs.Common.{lit<}
 use Rattle.node_pool.proofs.Callers.{fresh-differs, live-updated, live-other, apart-parted}
-use Rattle.leaf_tests.proofs.node_pool_tests.a_taken_key_finds_nothing.Goals as goal
+use Rattle.leaf_tests.proofs.node_pool_tests.insert_ring.Goals as goal
 
 pub join_rings-requires : goal.join_rings-requires
-join_rings-requires g c =
+join_rings-requires c =
     let mid = c.insert-a.new.self in let new = c.insert-b.new.self in
     let a = c.insert-a.result in let b = c.insert-b.result in
     let live_mid = live-updated _ mid a _ c.insert-a.ensures.updates in
