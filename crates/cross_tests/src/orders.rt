@@ -165,6 +165,33 @@ fn claims_of(
     Ok(claims)
 }
 
+/// Leaves an optimal order of a graph.
+fn solved<L: Ledger, const W: usize>(
+    rt: &impl Abort,
+    room: &mut Room<W>,
+    steps: &mut Steps<L>,
+    graph: &DepGraph<W>,
+)
+    requires { W ≤ 2 }
+{
+    assert!(rt; graph.members().count() > 0);
+    assert!(rt; graph.members().count() <= 4096);
+    assert!(rt; is_component(graph));
+    assert!(rt; has_rates(graph));
+    optimal(&mut room.scratch, graph, &mut room.out, steps);
+}
+
+/// Whether the checker accepts the order that was left.
+fn is_accepted<const W: usize>(
+    rt: &impl Abort,
+    room: &Room<W>,
+    graph: &Written,
+) -> Result<bool, Fail> {
+    let parts = room.out.parts();
+    let claims = claims_of(rt, room.alloc, parts, room.out.order(), room.out.flows())?;
+    Ok(check(room.alloc, graph, claims.as_slice()).is_ok())
+}
+
 /// Leaves an optimal order of a graph, and has it checked.
 fn certified<L: Ledger, const W: usize>(
     rt: &impl Abort,
@@ -176,18 +203,10 @@ fn certified<L: Ledger, const W: usize>(
     requires { W ≤ 2 }
 {
     let graph = graph_of(rt, room.alloc, rates, pairs)?;
-    assert!(rt; graph.members().count() > 0);
-    assert!(rt; graph.members().count() <= 4096);
-    assert!(rt; is_component(&graph));
-    assert!(rt; has_rates(&graph));
-    optimal(&mut room.scratch, &graph, &mut room.out, steps);
-    let parts = room.out.parts();
-    let claims = claims_of(rt, room.alloc, parts, room.out.order(), room.out.flows())?;
+    solved(rt, room, steps, &graph);
     let graph_written = written(room.alloc, rates, pairs)?;
-    assert_eq!(rt;
-        check(room.alloc, &graph_written, claims.as_slice()),
-        Ok(())
-    );
+    let accepted = is_accepted(rt, room, &graph_written)?;
+    assert!(rt; accepted);
     Ok(())
 }
 
@@ -211,7 +230,75 @@ fn case<L: Ledger, const W: usize>(
     Ok(())
 }
 
+/// The fee and the size of each place, the pairs of a parent and a child, and the fee and the size of each part.
+type Case = (
+    &'static [(i64, u64)],
+    &'static [(usize, usize)],
+    &'static [(i64, u64)],
+);
+
 /// Few places: pairs, stars, a diamond, and a comb.
+const SMALL: [Case; 8] = [
+    (&[(100, 200), (900, 200)], &[(0, 1)], &[(1000, 400)]),
+    (
+        &[(900, 200), (100, 200)],
+        &[(0, 1)],
+        &[(900, 200), (100, 200)],
+    ),
+    (&[(5, 10)], &[], &[(5, 10)]),
+    (&[(0, 10), (6, 5), (6, 5)], &[(0, 1), (0, 2)], &[(12, 20)]),
+    (
+        &[(0, 1), (4, 1), (1, 1), (9, 1)],
+        &[(0, 1), (0, 2), (0, 3)],
+        &[(9, 2), (4, 1), (1, 1)],
+    ),
+    (
+        &[(1, 1), (3, 1), (2, 1), (0, 1)],
+        &[(0, 3), (1, 3), (2, 3)],
+        &[(3, 1), (2, 1), (1, 1), (0, 1)],
+    ),
+    (
+        &[(1, 1), (5, 1), (1, 1), (9, 1)],
+        &[(0, 1), (0, 2), (1, 3), (2, 3), (0, 3)],
+        &[(16, 4)],
+    ),
+    // of all places with their ancestors place 3 has the best rate, 5 for 10; the best closed set has 12 for 20
+    (
+        &[(0, 10), (6, 5), (6, 5), (5, 10), (0, 10)],
+        &[(0, 1), (0, 2), (2, 4), (3, 4)],
+        &[(12, 20), (5, 10), (0, 10)],
+    ),
+];
+
+/// The greatest fee.
+const MOST: i64 = 2_100_000_000_000_000;
+
+/// Equal rates, negative fees, and the greatest fees and sizes.
+const EXTREMES: [Case; 6] = [
+    (
+        &[(2, 1), (4, 2), (2, 1)],
+        &[(0, 1), (1, 2)],
+        &[(2, 1), (4, 2), (2, 1)],
+    ),
+    (&[(-1, 1), (-5, 1)], &[(0, 1)], &[(-1, 1), (-5, 1)]),
+    (&[(-5, 1), (3, 1)], &[(0, 1)], &[(-2, 2)]),
+    (
+        &[(MOST, 1), (-MOST, 4_000_000)],
+        &[(0, 1)],
+        &[(MOST, 1), (-MOST, 4_000_000)],
+    ),
+    (
+        &[(-MOST, 4_000_000), (MOST, 1)],
+        &[(0, 1)],
+        &[(0, 4_000_001)],
+    ),
+    (
+        &[(MOST, 4_000_000), (MOST, 4_000_000)],
+        &[(0, 1)],
+        &[(MOST, 4_000_000), (MOST, 4_000_000)],
+    ),
+];
+
 fn small<L: Ledger, const W: usize>(
     rt: &impl Abort,
     room: &mut Room<W>,
@@ -219,52 +306,12 @@ fn small<L: Ledger, const W: usize>(
 ) -> Result<(), Fail>
     requires { W ≤ 2 }
 {
-    let child_pays = [(100, 200), (900, 200)];
-    case(rt, room, steps, &child_pays, &[(0, 1)], &[(1000, 400)])?;
-    let parent_pays = [(900, 200), (100, 200)];
-    case(rt, room, steps, &parent_pays, &[(0, 1)], &parent_pays)?;
-    case(rt, room, steps, &[(5, 10)], &[], &[(5, 10)])?;
-    let both_pay = [(0, 10), (6, 5), (6, 5)];
-    case(rt, room, steps, &both_pay, &[(0, 1), (0, 2)], &[(12, 20)])?;
-
-    let from_one = [(0, 1), (4, 1), (1, 1), (9, 1)];
-    let pairs = [(0, 1), (0, 2), (0, 3)];
-    case(
-        rt,
-        room,
-        steps,
-        &from_one,
-        &pairs,
-        &[(9, 2), (4, 1), (1, 1)],
-    )?;
-    let to_one = [(1, 1), (3, 1), (2, 1), (0, 1)];
-    let pairs = [(0, 3), (1, 3), (2, 3)];
-    case(
-        rt,
-        room,
-        steps,
-        &to_one,
-        &pairs,
-        &[(3, 1), (2, 1), (1, 1), (0, 1)],
-    )?;
-    let diamond = [(1, 1), (5, 1), (1, 1), (9, 1)];
-    let pairs = [(0, 1), (0, 2), (1, 3), (2, 3), (0, 3)];
-    case(rt, room, steps, &diamond, &pairs, &[(16, 4)])?;
-
-    // of all places with their ancestors place 3 has the best rate, 5 for 10; the best closed set has 12 for 20
-    let comb = [(0, 10), (6, 5), (6, 5), (5, 10), (0, 10)];
-    let pairs = [(0, 1), (0, 2), (2, 4), (3, 4)];
-    case(
-        rt,
-        room,
-        steps,
-        &comb,
-        &pairs,
-        &[(12, 20), (5, 10), (0, 10)],
-    )
+    for (rates, pairs, parts) in &SMALL {
+        case(rt, room, steps, rates, pairs, parts)?;
+    }
+    Ok(())
 }
 
-/// Equal rates, negative fees, and the greatest fees and sizes.
 fn extremes<L: Ledger, const W: usize>(
     rt: &impl Abort,
     room: &mut Room<W>,
@@ -272,18 +319,10 @@ fn extremes<L: Ledger, const W: usize>(
 ) -> Result<(), Fail>
     requires { W ≤ 2 }
 {
-    let equal = [(2, 1), (4, 2), (2, 1)];
-    case(rt, room, steps, &equal, &[(0, 1), (1, 2)], &equal)?;
-    let falling = [(-1, 1), (-5, 1)];
-    case(rt, room, steps, &falling, &[(0, 1)], &falling)?;
-    case(rt, room, steps, &[(-5, 1), (3, 1)], &[(0, 1)], &[(-2, 2)])?;
-    let most = 2_100_000_000_000_000;
-    let steep = [(most, 1), (-most, 4_000_000)];
-    case(rt, room, steps, &steep, &[(0, 1)], &steep)?;
-    let owed = [(-most, 4_000_000), (most, 1)];
-    case(rt, room, steps, &owed, &[(0, 1)], &[(0, 4_000_001)])?;
-    let large = [(most, 4_000_000), (most, 4_000_000)];
-    case(rt, room, steps, &large, &[(0, 1)], &large)
+    for (rates, pairs, parts) in &EXTREMES {
+        case(rt, room, steps, rates, pairs, parts)?;
+    }
+    Ok(())
 }
 
 /// How places depend on one another.
@@ -295,6 +334,14 @@ enum Shape {
     Comb,
     Scattered,
 }
+
+const SHAPES: [Shape; 5] = [
+    Shape::Chain,
+    Shape::FromOne,
+    Shape::ToOne,
+    Shape::Comb,
+    Shape::Scattered,
+];
 
 /// A pair of a shape of `count` places, which are at least 2.
 fn pair_of(rt: &impl Abort, shape: Shape, count: usize, place: usize) -> (usize, usize) {
@@ -346,46 +393,44 @@ fn slope<const W: usize>(alloc: Global, first: i64, step: i64) -> Result<Rows, F
     Ok(Rows { rates, pairs })
 }
 
-/// Chains in which the fee rises, stays, and falls: one part, and in the other two each member is one.
-fn chains<L: Ledger, const W: usize>(
+/// A chain in which the fee rises is one part.
+fn rising<L: Ledger, const W: usize>(
     rt: &impl Abort,
     room: &mut Room<W>,
     steps: &mut Steps<L>,
 ) -> Result<(), Fail>
     requires { W ≤ 2 }
 {
-    let sums = [2016, 8128];
-    assert!(rt; W > 0);
-    let rising = sums[W - 1];
-    let size = 64 * W as u64;
+    let whole = if W == 1 { (2016, 64) } else { (8128, 128) };
     let rows = slope::<W>(room.alloc, 0, 1)?;
-    case(
-        rt,
-        room,
-        steps,
-        rows.rates.as_slice(),
-        rows.pairs.as_slice(),
-        &[(rising, size)],
-    )?;
-    let rows = slope::<W>(room.alloc, 2_100_000_000_000_000, 0)?;
-    case(
-        rt,
-        room,
-        steps,
-        rows.rates.as_slice(),
-        rows.pairs.as_slice(),
-        rows.rates.as_slice(),
-    )?;
+    let rates = rows.rates.as_slice();
+    case(rt, room, steps, rates, rows.pairs.as_slice(), &[whole])
+}
+
+/// Where it stays, each member is one part.
+fn level<L: Ledger, const W: usize>(
+    rt: &impl Abort,
+    room: &mut Room<W>,
+    steps: &mut Steps<L>,
+) -> Result<(), Fail>
+    requires { W ≤ 2 }
+{
+    let rows = slope::<W>(room.alloc, MOST, 0)?;
+    let rates = rows.rates.as_slice();
+    case(rt, room, steps, rates, rows.pairs.as_slice(), rates)
+}
+
+/// So it is where the fee falls.
+fn falling<L: Ledger, const W: usize>(
+    rt: &impl Abort,
+    room: &mut Room<W>,
+    steps: &mut Steps<L>,
+) -> Result<(), Fail>
+    requires { W ≤ 2 }
+{
     let rows = slope::<W>(room.alloc, 64, -1)?;
-    certified(
-        rt,
-        room,
-        steps,
-        rows.rates.as_slice(),
-        rows.pairs.as_slice(),
-    )?;
-    assert_eq!(rt; room.out.parts().len(), 64 * W);
-    Ok(())
+    let rates = rows.rates.as_slice();
+    case(rt, room, steps, rates, rows.pairs.as_slice(), rates)
 }
 
 /// As many places as there is room for, in each shape.
@@ -396,15 +441,8 @@ fn full<L: Ledger, const W: usize>(
 ) -> Result<(), Fail>
     requires { W ≤ 2 }
 {
-    let shapes = [
-        Shape::Chain,
-        Shape::FromOne,
-        Shape::ToOne,
-        Shape::Comb,
-        Shape::Scattered,
-    ];
-    for shape in shapes {
-        let rows = shaped::<W>(rt, room.alloc, shape)?;
+    for shape in &SHAPES {
+        let rows = shaped::<W>(rt, room.alloc, *shape)?;
         certified(
             rt,
             room,
@@ -416,6 +454,21 @@ fn full<L: Ledger, const W: usize>(
     Ok(())
 }
 
+fn shown<L: Ledger, const W: usize>(
+    rt: &impl Abort,
+    room: &mut Room<W>,
+    steps: &mut Steps<L>,
+) -> Result<(), Fail>
+    requires { W ≤ 2 }
+{
+    small(rt, room, steps)?;
+    extremes(rt, room, steps)?;
+    rising(rt, room, steps)?;
+    level(rt, room, steps)?;
+    falling(rt, room, steps)?;
+    full(rt, room, steps)
+}
+
 fn each<L: Ledger, const W: usize>(
     rt: &impl Abort,
     alloc: Global,
@@ -423,15 +476,14 @@ fn each<L: Ledger, const W: usize>(
 ) -> Result<(), Fail>
     requires { W ≤ 2 }
 {
+    let scratch = Scratch::new(alloc)?;
+    let out = Linear::<W>::new(alloc)?;
     let mut room = Room {
         alloc,
-        scratch: Scratch::new(alloc)?,
-        out: Linear::<W>::new(alloc)?,
+        scratch,
+        out,
     };
-    small(rt, &mut room, steps)?;
-    extremes(rt, &mut room, steps)?;
-    chains(rt, &mut room, steps)?;
-    full(rt, &mut room, steps)
+    shown(rt, &mut room, steps)
 }
 
 fn all<K: ledger::Ledger>(rt: &impl Abort, alloc: Global, blank: Blank) -> Result<(), Fail>

@@ -273,6 +273,10 @@ const RUNS: [(u64, &str); 5] = [
     (5, "count main"),
 ];
 
+fn runs() -> &'static [(u64, &'static str)] {
+    &RUNS
+}
+
 /// Hands a run of lines to both, between two lines that set limits.
 fn agree_on_run<const W: usize>(
     rt: &impl Abort,
@@ -301,15 +305,17 @@ fn agree_on_run<const W: usize>(
 
 /// A run of lines from the start.
 fn agree_from_start(rt: &impl Abort, alloc: Global, seed: u64, limits: &str) -> Result<(), Fail> {
-    let mut session = Session::<1>::new(alloc)?;
     let mut lists = Lists::new(alloc)?;
-    agree_on_run(rt, alloc, &mut session, &mut lists, seed, limits)
+    let mut session = Session::<1>::new(alloc)?;
+    let agreed = agree_on_run(rt, alloc, &mut session, &mut lists, seed, limits);
+    drop(session);
+    agreed
 }
 
 #[test]
 fn a_session_replies_as_the_plain_lists_do(rt: HostRuntime) -> Result<(), Fail> {
-    for (seed, limits) in RUNS {
-        agree_from_start(&rt, rt.alloc(), seed, limits)?;
+    for (seed, limits) in runs() {
+        agree_from_start(&rt, rt.alloc(), *seed, limits)?;
     }
     Ok(())
 }

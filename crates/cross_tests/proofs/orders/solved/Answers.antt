@@ -3,12 +3,12 @@ use Rattle.std.specs.FinSet as fin
 use Rattle.graphs.specs.Closures.{members_of}
 use Rattle.linearize.specs.Graphs.{most_members}
 use Rattle.cross_tests.proofs.Sizes.{scratch_fits}
-use Rattle.cross_tests.proofs.orders.certified.Goals as goal
+use Rattle.cross_tests.proofs.orders.solved.Goals as goal
 
 pub optimal-requires : goal.optimal-requires
 optimal-requires g c =
     let w = g.row.W in
-    let dep = c.in_ok-graph.graph in
+    let dep = c.args.graph.now in
     let same = ap (λ s. fin.len s) c.members.ensures.members in
     let again = ap (λ s. fin.len s) c.members-2.ensures.members in
     let some : 0 < fin.len (members_of dep) = omega (arith, c.count.ensures.exact, same) in
