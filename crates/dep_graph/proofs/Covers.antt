@@ -1,83 +1,118 @@
 -- The loop that leaves the covering parents.
-use Rattle.std.proofs.Common.{◌≡◌, ℕ, ◌<◌, Bool, true, false, not, ◌&&◌, ◌||◌, ◌⊎◌, ◌↔◌, nat_eq, List, [], ◌∷◌, ◌++◌, slice_index_or, Contains}
-use Rattle.std.proofs.Common.{inl, inr, refl, sym, ap, ap₂, ◌∙◌, subst, arith, ne_eqb, append_assoc, append-nil, true≢false}
-use Rattle.std.proofs.lemmas.Bool.{cases_eq, and_parts, and_from, or_cases, or_left, or_right, false_from_ne_true}
-use Rattle.std.proofs.lemmas.List.Elements.{Contains-append_right, Contains-append_cases}
+use Rattle.std.proofs.Common.{◌≡◌, ℕ, ◌-◌, ◌<◌, ◌≤◌, Bool, true, false, cond, not, ◌&&◌, ◌⊎◌, ◌↔◌, nat_eq, List, [], ◌∷◌, length, filter}
+use Rattle.std.proofs.Common.{Option, Some, None, MatchOption, inl, inr, refl, sym, ap, ap₂, ◌∙◌, arith, ne_eqb, true≢false, subst, ◌≢◌}
+use Rattle.std.proofs.lemmas.Bool.{cases_eq, cases_Bool, and_parts, and_from}
+use Rattle.std.specs.List.{range_with_len}
 use Rattle.std.specs.Ordering.{nat_cmp}
+use Rattle.std.specs.Cmp.{nat_cmp_total}
 use Rattle.std.specs.FinSet as fin
-use Rattle.lists.proofs.Cases.{or_swap, and_true, false_from_not, differs}
+use Rattle.lists.proofs.Cases.{differs, false_from_not}
 use Rattle.graphs.specs.Closures.{Closure, is_member, is_ancestor, ancestors_of, IsCover, IsClosed}
 use Rattle.bitset.specs.Places.{places, IsWithin}
-use Rattle.bitset.specs.Sets.{contains-remove, contains-difference, places-here, Contains-places, places-Contains}
+use Rattle.bitset.specs.Sets.{contains-remove, contains-difference, contains-empty, len-places}
 
 -- whether a is an ancestor of m, and not m
 abbrev pub proper : Closure → ℕ → ℕ → Bool
 proper g a m = not (nat_eq a m) && is_ancestor g a m
 
--- whether it is of one of the places
-abbrev pub over : Closure → List ℕ → ℕ → Bool
-over g [] a = false
-over g (m ∷ ms) a = proper g a m || over g ms a
+not_kept : (x y : Bool) → (x && not y) ≡ false → x ≡ true → y ≡ true
+not_kept true true e h = refl
+not_kept true false e h = absurd (true≢false e)
+not_kept false y e h = absurd (true≢false (sym h))
 
-over-push : (g : Closure) (ms : List ℕ) (m a : ℕ) → over g (ms ++ m ∷ []) a ≡ (proper g a m || over g ms a)
-over-push g [] m a = refl
-over-push g (x ∷ ms) m a = ap (λ b. proper g a x || b) (over-push g ms m a) ∙ or_swap (proper g a x) (proper g a m) (over g ms a)
+stays_out : (x y : Bool) → x ≡ false → (x && y) ≡ false
+stays_out true y e = absurd (true≢false e)
+stays_out false y e = refl
 
-over_one : (g : Closure) (ms : List ℕ) (a : ℕ) → over g ms a ≡ true → (m : ℕ) × Contains ms m × (proper g a m ≡ true)
-over_one g [] a e = absurd (true≢false (sym e))
-over_one g (x ∷ ms) a e = cases (or_cases (proper g a x) (over g ms a) e) (over_one g ms a)
+taken_out : (x y : Bool) → y ≡ true → (x && not y) ≡ false
+taken_out true true e = refl
+taken_out false true e = refl
+taken_out x false e = absurd (true≢false (sym e))
+
+fewer_pass : (f h : ℕ → Bool) → ((k : ℕ) → h k ≡ true → f k ≡ true) → (xs : List ℕ) → length (filter h xs) ≤ length (filter f xs)
+fewer_pass f h imp [] = omega arith
+fewer_pass f h imp (x ∷ xs) = step (f x) (h x) (imp x) (fewer_pass f h imp xs)
   where
-    cases : (proper g a x ≡ true) ⊎ (over g ms a ≡ true) → (over g ms a ≡ true → (m : ℕ) × Contains ms m × (proper g a m ≡ true))
-        → (m : ℕ) × Contains (x ∷ ms) m × (proper g a m ≡ true)
-    cases (inl f) later = (x, (0, omega arith, refl), f)
-    cases (inr f) later =
-        let found : (m : ℕ) × Contains ms m × (proper g a m ≡ true) = later f in
-        (found.0, Contains-append_right (x ∷ []) ms found.0 found.1, found.2)
+    step : (a b : Bool) → (b ≡ true → a ≡ true) → length (filter h xs) ≤ length (filter f xs)
+        → length (cond b (x ∷ filter h xs) (filter h xs)) ≤ length (cond a (x ∷ filter f xs) (filter f xs))
+    step true true i p = omega arith
+    step true false i p = omega arith
+    step false true i p = absurd (true≢false (sym (i refl)))
+    step false false i p = p
 
-one_over : (g : Closure) (ms : List ℕ) (a m : ℕ) → Contains ms m → proper g a m ≡ true → over g ms a ≡ true
-one_over g [] a m c e = absurd (omega (arith, c.1))
-one_over g (x ∷ ms) a m c e = cases (Contains-append_cases (x ∷ []) ms m c) (λ d. one_over g ms a m d e)
-  where
-    only : Contains (x ∷ []) m → x ≡ m
-    only (k, h, f) = elim (cases_eq k 0) as (λ _. x ≡ m) [
-      | inl z ↦ (let g : slice_index_or (x ∷ []) k m ≡ m = f in subst (λ i. slice_index_or (x ∷ []) i m ≡ m) z g)
-      | inr z ↦ absurd (omega arith)
+-- what has a place of a set takes it from the set
+pub fewer_come : (n : ℕ) (s t : fin.FinSet nat_cmp) (m : ℕ) → IsWithin n s → fin.contains s m ≡ true → fin.contains t m ≡ true
+    → fin.len (fin.difference s t) < fin.len s
+fewer_come n s t m within here taken =
+    let parts : (k : ℕ) → fin.contains (fin.difference s t) k ≡ true → (fin.contains s k ≡ true) × (not (fin.contains t k) ≡ true) =
+    λ k e. and_parts (fin.contains s k) (not (fin.contains t k)) (sym (contains-difference s t k) ∙ e) in
+    let imp : (k : ℕ) → fin.contains (fin.difference s t) k ≡ true → fin.contains (fin.remove s m) k ≡ true =
+    λ k e. contains-remove s m k ∙ and_from (not (nat_eq k m)) (fin.contains s k)
+    (ap not (ne_eqb k m (λ same. true≢false (sym taken ∙ ap (fin.contains t) (sym same) ∙ false_from_not (fin.contains t k) (parts k e).1)))) (parts k e).0 in
+    let short : length (places n (fin.difference s t)) ≤ length (places n (fin.remove s m)) =
+    fewer_pass (fin.contains (fin.remove s m)) (fin.contains (fin.difference s t)) imp (range_with_len 0 n) in
+    let first : fin.len (fin.difference s t) ≡ length (places n (fin.difference s t)) =
+    len-places n (fin.difference s t) (λ k e. within k (parts k e).0) in
+    let second : fin.len (fin.remove s m) ≡ length (places n (fin.remove s m)) =
+    len-places n (fin.remove s m)
+    (λ k e. within k (and_parts (not (nat_eq k m)) (fin.contains s k) (sym (contains-remove s m k) ∙ e)).1) in
+    let less : fin.len (fin.remove s m) ≡ fin.len s - 1 =
+    fin.len-remove nat_cmp_total s m ∙ ap (λ b. cond b (fin.len s - 1) (fin.len s)) here in
+    elim (cases_eq (fin.len s) 0) as (λ _. fin.len (fin.difference s t) < fin.len s) [
+      | inl none ↦ absurd (true≢false (sym here ∙ ap (λ s. fin.contains s m) (fin.empty_of_len s none) ∙ contains-empty m))
+      | inr some ↦ omega (arith, short, first, second, less, some)
     ]
 
-    cases : Contains (x ∷ []) m ⊎ Contains ms m → (Contains ms m → over g ms a ≡ true) → over g (x ∷ ms) a ≡ true
-    cases (inl d) later = or_left (proper g a x) (over g ms a) (ap (proper g a) (only d) ∙ e)
-    cases (inr d) later = or_right (proper g a x) (over g ms a) (later d)
+-- of the proper ancestors, which are left as covers, and which are to come: one that isn't left is above another, and what is above
+-- one that isn't to come isn't left
+pub record CoversSoFar (g : Closure) (ups covers come : fin.FinSet nat_cmp) : Type 0 where
+  pub comes : (a : ℕ) → fin.contains come a ≡ true → fin.contains ups a ≡ true
+  pub left : (a : ℕ) → fin.contains covers a ≡ true → fin.contains ups a ≡ true
+  pub gone : (a : ℕ) → fin.contains ups a ≡ true → fin.contains covers a ≡ false
+      → (m : ℕ) × (fin.contains ups m ≡ true) × (proper g a m ≡ true)
+  pub done : (m a : ℕ) → fin.contains ups m ≡ true → fin.contains come m ≡ false → proper g a m ≡ true → fin.contains covers a ≡ false
 
--- after the middles ys and before the middles zs
-pub record CoversSoFar (n : ℕ) (g : Closure) (ups covers : fin.FinSet nat_cmp) (ys zs : List ℕ) : Type 0 where
-  pub split : ys ++ zs ≡ places n ups
-  pub left : (a : ℕ) → fin.contains covers a ≡ (fin.contains ups a && not (over g ys a))
+pub CoversSoFar-start : (g : Closure) (ups : fin.FinSet nat_cmp) → CoversSoFar g ups ups ups
+CoversSoFar-start g ups = record {
+  comes = λ a e. e;
+  left = λ a e. e;
+  gone = λ a u f. absurd (true≢false (sym u ∙ f));
+  done = λ m a u f p. absurd (true≢false (sym u ∙ f));
+}
 
-pub CoversSoFar-start : (n : ℕ) (g : Closure) (ups : fin.FinSet nat_cmp) (zs : List ℕ) → zs ≡ places n ups → CoversSoFar n g ups ups [] zs
-CoversSoFar-start n g ups zs e = record { split = e; left = λ a. sym (and_true (fin.contains ups a)) }
+module _ {n : ℕ} {g : Closure} (closed : IsClosed n g) {ups covers come : fin.FinSet nat_cmp} (h : CoversSoFar g ups covers come) (m : ℕ)
+    (here : fin.contains come m ≡ true) where
+  pub CoversSoFar-more : (further covers' come' : fin.FinSet nat_cmp) → come' ≡ fin.difference come (ancestors_of g m)
+      → further ≡ fin.remove (ancestors_of g m) m → covers' ≡ fin.difference covers further → CoversSoFar g ups covers' come'
+  CoversSoFar-more further covers' come' come_is is now =
+      let come_at : (a : ℕ) → fin.contains come' a ≡ (fin.contains come a && not (is_ancestor g a m)) =
+      λ a. ap (λ s. fin.contains s a) come_is ∙ contains-difference come (ancestors_of g m) a in
+      let cover_at : (a : ℕ) → fin.contains covers' a ≡ (fin.contains covers a && not (proper g a m)) =
+      λ a. ap (λ s. fin.contains s a) now ∙ contains-difference covers further a
+      ∙ ap (λ b. fin.contains covers a && not b) (ap (λ s. fin.contains s a) is ∙ contains-remove (ancestors_of g m) m a) in
+      record {
+        comes = λ a e. h.comes a (and_parts (fin.contains come a) (not (is_ancestor g a m)) (sym (come_at a) ∙ e)).0;
+        left = λ a e. h.left a (and_parts (fin.contains covers a) (not (proper g a m)) (sym (cover_at a) ∙ e)).0;
+        gone = λ a u f. elim (cases_Bool (fin.contains covers a)) [
+          | inl was ↦ (m, h.comes m here, not_kept (fin.contains covers a) (proper g a m) (sym (cover_at a) ∙ f) was)
+          | inr out ↦ h.gone a u out
+        ];
+        done = λ k a u f p. cover_at a ∙ elim (cases_Bool (fin.contains come k)) as (λ _. (fin.contains covers a && not (proper g a m)) ≡ false) [
+          | inl was ↦
+              let above : is_ancestor g k m ≡ true = not_kept (fin.contains come k) (is_ancestor g k m) (sym (come_at k) ∙ f) was in
+              let apart : (not (nat_eq a k) ≡ true) × (is_ancestor g a k ≡ true) = and_parts (not (nat_eq a k)) (is_ancestor g a k) p in
+              let higher : is_ancestor g a m ≡ true = closed.order.transitive a k m apart.1 above in
+              taken_out (fin.contains covers a) (proper g a m) (and_from (not (nat_eq a m)) (is_ancestor g a m)
+              (ap not (ne_eqb a m (λ same. differs a k apart.0
+              (closed.order.antisymmetric a k apart.1 (subst (λ x. is_ancestor g k x ≡ true) (sym same) above))))) higher)
+          | inr out ↦ stays_out (fin.contains covers a) (not (proper g a m)) (h.done k a u out p)
+        ];
+      }
 
-module _ {n : ℕ} {g : Closure} {ups covers : fin.FinSet nat_cmp} {ys ws : List ℕ} (h : CoversSoFar n g ups covers ys ws) {zs : List ℕ} {m : ℕ}
-    (e : ws ≡ m ∷ zs) where
-  pub CoversSoFar-here : (m < n) × (fin.contains ups m ≡ true)
-  CoversSoFar-here = places-here n ups ys zs m (sym h.split ∙ ap (λ xs. ys ++ xs) e)
-
-  less : (u o f : Bool) → ((u && not o) && not f) ≡ (u && not (f || o))
-  less true true true = refl
-  less true true false = refl
-  less true false true = refl
-  less true false false = refl
-  less false o f = refl
-
-  pub CoversSoFar-more : (further covers' : fin.FinSet nat_cmp) → further ≡ fin.remove (ancestors_of g m) m → covers' ≡ fin.difference covers further
-      → CoversSoFar n g ups covers' (ys ++ m ∷ []) zs
-  CoversSoFar-more further covers' is now = record {
-    split = append_assoc ys (m ∷ []) zs ∙ ap (λ xs. ys ++ xs) (sym e) ∙ h.split;
-    left = λ a.
-        ap (λ s. fin.contains s a) now ∙ contains-difference covers further a
-        ∙ ap₂ (λ x y. x && not y) (h.left a) (ap (λ s. fin.contains s a) is ∙ contains-remove (ancestors_of g m) m a)
-        ∙ less (fin.contains ups a) (over g ys a) (proper g a m)
-        ∙ ap (λ b. fin.contains ups a && not b) (sym (over-push g ys m a));
-  }
+pub none_come : (o : Option ℕ) (come : fin.FinSet nat_cmp) → MatchOption o (come ≡ fin.empty) (λ p. fin.contains come p ≡ true)
+    → ((p : ℕ) → o ≢ Some p) → (k : ℕ) → fin.contains come k ≡ false
+none_come None come is none k = ap (λ s. fin.contains s k) is ∙ contains-empty k
+none_come (Some p) come is none k = absurd (none p refl)
 
 module _ {n : ℕ} {g : Closure} (closed : IsClosed n g) (place : ℕ) {ups : fin.FinSet nat_cmp} (ups_are : ups ≡ fin.remove (ancestors_of g place) place) where
   -- the proper ancestors
@@ -88,15 +123,11 @@ module _ {n : ℕ} {g : Closure} (closed : IsClosed n g) (place : ℕ) {ups : fi
   pub middle_member : (m : ℕ) → fin.contains ups m ≡ true → is_member g m ≡ true
   middle_member m e = (closed.order.among m place (and_parts (not (nat_eq m place)) (is_ancestor g m place) (sym (contains-ups m) ∙ e)).1).0
 
-  module _ {covers : fin.FinSet nat_cmp} (within : IsWithin n ups) {ys ws : List ℕ} (all : CoversSoFar n g ups covers ys ws) (end : ws ≡ []) where
-    seen : ys ≡ places n ups
-    seen = sym (append-nil ys) ∙ ap (λ xs. ys ++ xs) (sym end) ∙ all.split
-
+  module _ {covers come : fin.FinSet nat_cmp} (all : CoversSoFar g ups covers come) (none : (k : ℕ) → fin.contains come k ≡ false) where
     is_cover : (a : ℕ) → fin.contains covers a ≡ true → IsCover g a place
     is_cover a e =
-        let both : (fin.contains ups a ≡ true) × (not (over g ys a) ≡ true) = and_parts (fin.contains ups a) (not (over g ys a)) (sym (all.left a) ∙ e) in
         let parts : (not (nat_eq a place) ≡ true) × (is_ancestor g a place ≡ true) =
-        and_parts (not (nat_eq a place)) (is_ancestor g a place) (sym (contains-ups a) ∙ both.0) in
+        and_parts (not (nat_eq a place)) (is_ancestor g a place) (sym (contains-ups a) ∙ all.left a e) in
         record {
           ancestor = parts.1;
           other = differs a place parts.0;
@@ -106,10 +137,9 @@ module _ {n : ℕ} {g : Closure} (closed : IsClosed n g) (place : ℕ) {ups : fi
               | inl same ↦ inl same
               | inr apart ↦ absurd (
                   let there : fin.contains ups m ≡ true = contains-ups m ∙ ap₂ (λ x y. not x && y) (ne_eqb m place other) mp in
-                  let over_a : over g ys a ≡ true =
-                  one_over g ys a m (subst (λ xs. Contains xs m) (sym seen) (Contains-places n ups m (within m there) there))
-                  (and_from (not (nat_eq a m)) (is_ancestor g a m) (ap not (ne_eqb a m (λ f. apart (sym f)))) am) in
-                  true≢false (sym over_a ∙ false_from_not (over g ys a) both.1))
+                  let above : proper g a m ≡ true =
+                  and_from (not (nat_eq a m)) (is_ancestor g a m) (ap not (ne_eqb a m (λ f. apart (sym f)))) am in
+                  true≢false (sym e ∙ all.done m a there (none m) above))
             ]
           ];
         }
@@ -117,16 +147,18 @@ module _ {n : ℕ} {g : Closure} (closed : IsClosed n g) (place : ℕ) {ups : fi
     cover_is : (a : ℕ) → IsCover g a place → fin.contains covers a ≡ true
     cover_is a c =
         let here : fin.contains ups a ≡ true = contains-ups a ∙ ap₂ (λ x y. not x && y) (ne_eqb a place c.other) c.ancestor in
-        all.left a ∙ ap₂ (λ x y. x && not y) here (false_from_ne_true _ (λ e.
-        let found : (m : ℕ) × Contains ys m × (proper g a m ≡ true) = over_one g ys a e in
-        let one : (not (nat_eq a found.0) ≡ true) × (is_ancestor g a found.0 ≡ true) = and_parts (not (nat_eq a found.0)) (is_ancestor g a found.0) found.2 in
-        let there : fin.contains ups found.0 ≡ true = (places-Contains n ups found.0 (subst (λ xs. Contains xs found.0) seen found.1)).1 in
-        let two : (not (nat_eq found.0 place) ≡ true) × (is_ancestor g found.0 place ≡ true) =
-        and_parts (not (nat_eq found.0 place)) (is_ancestor g found.0 place) (sym (contains-ups found.0) ∙ there) in
-        elim (c.direct found.0 one.1 two.1) as (λ _. ⊥) [
-          | inl same ↦ differs a found.0 one.0 (sym same)
-          | inr same ↦ differs found.0 place two.0 same
-        ]))
+        elim (cases_Bool (fin.contains covers a)) as (λ _. fin.contains covers a ≡ true) [
+          | inl there ↦ there
+          | inr out ↦ absurd (
+              let found = all.gone a here out in
+              let one : (not (nat_eq a found.0) ≡ true) × (is_ancestor g a found.0 ≡ true) = and_parts (not (nat_eq a found.0)) (is_ancestor g a found.0) found.2 in
+              let two : (not (nat_eq found.0 place) ≡ true) × (is_ancestor g found.0 place ≡ true) =
+              and_parts (not (nat_eq found.0 place)) (is_ancestor g found.0 place) (sym (contains-ups found.0) ∙ found.1) in
+              elim (c.direct found.0 one.1 two.1) as (λ _. ⊥) [
+                | inl same ↦ differs a found.0 one.0 (sym same)
+                | inr same ↦ differs found.0 place two.0 same
+              ])
+        ]
 
     pub covers_are : (a : ℕ) → (fin.contains covers a ≡ true) ↔ IsCover g a place
     covers_are a = (is_cover a, cover_is a)

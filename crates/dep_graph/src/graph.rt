@@ -163,11 +163,13 @@ impl<const W: usize> DepGraph<W> {
         requires { is_member self.now place ≡ true }
         ensures { (p : ℕ) → (set.contains result p ≡ true) ↔ IsCover self.now p place }
     {
-        let mut above = self.row(place).ancestors;
-        above.remove(place);
-        let mut covers = above;
-        for middle in above.iter() {
+        let mut covers = self.row(place).ancestors;
+        covers.remove(place);
+        // what is above a place that was gone through is no cover, nor is what is above that
+        let mut to_come = covers;
+        while let Some(middle) = to_come.greatest() {
             let mut further = self.ancestors(middle);
+            to_come = to_come.minus(&further);
             further.remove(middle);
             covers = covers.minus(&further);
         }
