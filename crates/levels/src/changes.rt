@@ -230,8 +230,13 @@ impl<const W: usize> Shelves<W> {
             return Ok(());
         }
         let new_main = first.with_fee(self.alloc, id, fee, work, steps)?;
-        let new_top = self.at(top).with_fee(self.alloc, id, fee, work, steps)?;
-        self.exchange_both(main, new_main, top, new_top)
+        match self.at(top).with_fee(self.alloc, id, fee, work, steps) {
+            Ok(new_top) => self.exchange_both(main, new_main, top, new_top),
+            Err(error) => {
+                drop(new_main);
+                Err(error)
+            }
+        }
     }
 
     /// Drops a name of the top level. The others keep the ancestors that they had among them, and each component of those of its

@@ -1,4 +1,4 @@
-ghost use Rattle.std.specs.Prelude.{◌≡◌, ◌≢◌, ◌↔◌, ◌≤◌, ◌*◌, ℕ, true, false, None, Some, List, [], ◌∷◌, map, length, option_map, IsSome, IfOk, OnOk, OnErr};
+ghost use Rattle.std.specs.Prelude.{◌≡◌, ◌≢◌, ◌↔◌, ◌≤◌, ◌*◌, ℕ, true, false, None, Some, List, [], ◌∷◌, map, length, option_map, IsSome, IfOk, OnOk, OnErr, vec_capacity};
 ghost use Rattle.std.specs.FinMap as finmap;
 ghost use Rattle.graphs.specs.declared.names.Level.TheVariants.{Main, Top};
 ghost use Rattle.chunk_index.specs.declared.entry.Tag.TheVariants.{Both};
@@ -212,9 +212,16 @@ fn one_exchange<const W: usize>(
     requires { W ≤ 2 }
     ensures { IfOk result (λ one. one.items ≡ record { number = number; cluster = cluster.entry } ∷ []) }
 {
-    let mut one = Vec::with_capacity(alloc, 1)?;
-    one.push_reserved(Exchange::new(number, cluster));
-    Ok(one)
+    match Vec::with_capacity(alloc, 1) {
+        Ok(mut one) => {
+            one.push_reserved(Exchange::new(number, cluster));
+            Ok(one)
+        }
+        Err(_) => {
+            drop(cluster);
+            Err(NoMemory)
+        }
+    }
 }
 
 /// Two clusters that are each to stand under a number.
@@ -229,10 +236,33 @@ pub(crate) fn two_exchanges<const W: usize>(
     ensures { IfOk result (λ both. both.items
         ≡ record { number = first; cluster = one.entry } ∷ record { number = second; cluster = other.entry } ∷ []) }
 {
-    let mut both = Vec::with_capacity(alloc, 2)?;
-    both.push_reserved(Exchange::new(first, one));
-    both.push_reserved(Exchange::new(second, other));
-    Ok(both)
+    match Vec::with_capacity(alloc, 2) {
+        Ok(room) => Ok(both_in(room, first, one, second, other)),
+        Err(_) => {
+            drop(one);
+            drop(other);
+            Err(NoMemory)
+        }
+    }
+}
+
+/// Two clusters that are each to stand under a number, in an empty list that has room for them.
+fn both_in<const W: usize>(
+    mut room: Vec<Exchange<W>>,
+    first: usize,
+    one: Cluster<W>,
+    second: usize,
+    other: Cluster<W>,
+) -> Vec<Exchange<W>>
+    requires narrow { W ≤ 2 }
+    requires empty { room.items ≡ [] }
+    requires room { 2 ≤ vec_capacity room }
+    ensures { result.items
+        ≡ record { number = first; cluster = one.entry } ∷ record { number = second; cluster = other.entry } ∷ [] }
+{
+    room.push_reserved(Exchange::new(first, one));
+    room.push_reserved(Exchange::new(second, other));
+    room
 }
 
 /// Clusters that are to stand in the levels of a tag.

@@ -66,13 +66,13 @@ with_fee-requires-2 g c =
       ),
     )
 
-pub returns-in_err-new_top-clause-still : goal.returns-in_err-new_top-clause-still
-returns-in_err-new_top-clause-still g c same =
+pub returns-in-Err-clause-still : goal.returns-in-Err-clause-still
+returns-in-Err-clause-still g c same =
     let seen = seen_there g.row.W c.args.self.now c.requires.order Main c.args.id c.args.main c.requires.main c.at-first.result.now c.at-first.ensures in
     absurd (c.if-rate-fee.false (same_bits c.rate.result c.at-first.result.now c.args.id c.args.fee c.rate.ensures (same c.at-first.result.now seen)))
 
-pub returns-in_err-new_top-clause-steps : goal.returns-in_err-new_top-clause-steps
-returns-in_err-new_top-clause-steps g c =
+pub returns-in-Err-clause-steps : goal.returns-in-Err-clause-steps
+returns-in-Err-clause-steps g c =
     both_counted g.row.W c.args.main c.args.top c.args.id c.args.fee c.args.self.now c.requires.order c.requires.main c.requires.top
     c.at-first.result.now c.at.result.now c.args.steps.now c.with_fee.new.steps c.with_fee-2.new.steps c.at-first.ensures c.at.ensures
     c.with_fee.ensures.steps c.with_fee-2.ensures.steps
@@ -98,10 +98,10 @@ exchange_both-requires g c =
             (
               c.in_ok-new_main.ensures.whole,
               (
-                c.in_ok-new_top.ensures.whole,
+                c.in-Ok.ensures.whole,
                 (
                   (c.at-first.result.now, first, first_out, c.in_ok-new_main.ensures.names),
-                  (c.at.result.now, second, second_out, c.in_ok-new_top.ensures.names),
+                  (c.at.result.now, second, second_out, c.in-Ok.ensures.names),
                 ),
               ),
             ),
@@ -110,10 +110,10 @@ exchange_both-requires g c =
       ),
     )
 
-pub returns-clause-fees : goal.returns-clause-fees
-returns-clause-fees g c =
+pub returns-in-Ok-clause-fees : goal.returns-in-Ok-clause-fees
+returns-in-Ok-clause-fees g c =
     both_changed g.row.W c.args.main c.args.top c.args.id c.args.fee c.args.self.now c.requires.order c.requires.main c.requires.top
-    c.at-first.result.now c.in_ok-new_main.new_main c.at.result.now c.in_ok-new_top.new_top c.exchange_both.new.self c.exchange_both.result
+    c.at-first.result.now c.in_ok-new_main.new_main c.at.result.now c.in-Ok.new_top c.exchange_both.new.self c.exchange_both.result
     (record {
       at = c.at-first.ensures;
       names = c.in_ok-new_main.ensures.names;
@@ -122,19 +122,22 @@ returns-clause-fees g c =
     })
     (record {
       at = c.at.ensures;
-      names = c.in_ok-new_top.ensures.names;
-      sets = subst (λ (z : ℤ). SetsFee c.at.result.now.graph c.in_ok-new_top.new_top.graph c.args.id z) (to_z-of_z w64 c.args.fee c.ranges.fee)
-          c.in_ok-new_top.ensures.graph;
+      names = c.in-Ok.ensures.names;
+      sets = subst (λ (z : ℤ). SetsFee c.at.result.now.graph c.in-Ok.new_top.graph c.args.id z) (to_z-of_z w64 c.args.fee c.ranges.fee)
+          c.in-Ok.ensures.graph;
     })
     c.exchange_both.ensures.main c.exchange_both.ensures.top c.exchange_both.ensures.numbers
 
-pub returns-clause-still : goal.returns-clause-still
-returns-clause-still g c same =
+pub returns-in-Ok-clause-still : goal.returns-in-Ok-clause-still
+returns-in-Ok-clause-still g c same =
     let seen = seen_there g.row.W c.args.self.now c.requires.order Main c.args.id c.args.main c.requires.main c.at-first.result.now c.at-first.ensures in
     absurd (c.if-rate-fee.false (same_bits c.rate.result c.at-first.result.now c.args.id c.args.fee c.rate.ensures (same c.at-first.result.now seen)))
 
-pub returns-clause-steps : goal.returns-clause-steps
-returns-clause-steps g c =
+pub returns-in-Ok-clause-steps : goal.returns-in-Ok-clause-steps
+returns-in-Ok-clause-steps g c =
     both_counted g.row.W c.args.main c.args.top c.args.id c.args.fee c.args.self.now c.requires.order c.requires.main c.requires.top
     c.at-first.result.now c.at.result.now c.args.steps.now c.with_fee.new.steps c.with_fee-2.new.steps c.at-first.ensures c.at.ensures
     c.with_fee.ensures.steps c.with_fee-2.ensures.steps
+
+pub drop-requires : goal.drop-requires
+drop-requires g c κs = ((cluster_fits g.row.W c.requires.order.narrow, tt), search rules)
