@@ -125,7 +125,10 @@ impl<const W: usize> Shelves<W> {
         ensures err { OnErr result (self.new ≡ self.old) }
         ensures order { IsInOrder W self.new }
     {
-        self.numbers.reserve(1)?;
+        if let Err(error) = self.numbers.reserve(1) {
+            drop(cluster);
+            return Err(error);
+        }
         let tag = new_tag(self.numbers.staged());
         let number = self.store.add(Stored::new(cluster, tag))?;
         self.numbers.put(id, number);
@@ -142,7 +145,10 @@ impl<const W: usize> Shelves<W> {
         ensures order { IsInOrder W self.new }
     {
         let staged = self.numbers.staged();
-        self.numbers.reserve(cluster.names().len())?;
+        if let Err(error) = self.numbers.reserve(cluster.names().len()) {
+            drop(cluster);
+            return Err(error);
+        }
         let made = come_in(&mut self.store, staged, number, cluster)?;
         if made != number {
             point(&mut self.numbers, at(&self.store, made).names(), made);
@@ -170,7 +176,10 @@ impl<const W: usize> Shelves<W> {
     {
         let staged = self.numbers.staged();
         let behind = at(&self.store, first).names().len();
-        self.numbers.reserve(joined.names().len())?;
+        if let Err(error) = self.numbers.reserve(joined.names().len()) {
+            drop(joined);
+            return Err(error);
+        }
         let made = come_together(&mut self.store, staged, first, second, joined)?;
         let from = if made == first { behind } else { 0 };
         point(

@@ -1,5 +1,5 @@
 -- The cluster stands under a number that was free, and its one name has it.
-use Rattle.std.proofs.Common.{◌≡◌, [], ◌∷◌, None, Some, is_some, ap, ◌∙◌, sym, subst, arith, subst₂, Option}
+use Rattle.std.proofs.Common.{rules, ◌≡◌, [], ◌∷◌, None, Some, is_some, ap, ◌∙◌, sym, subst, arith, subst₂, Option}
 use Rattle.std.specs.FinMap as finmap
 use Rattle.graphs.specs.declared.names.Level.TheVariants.{Top}
 use Rattle.cluster_store.specs.Stores.{Stored, Store}
@@ -26,10 +26,10 @@ module _ (g : given.Over) (c : goal.After-put g) where
       let made = c.in_ok-number.number in
       let stored : c.new.result ≡ record { cluster = c.args.cluster; tag = top_tag c.staged.result } =
       c.new.ensures ∙ ap (λ t. record { cluster = c.args.cluster; tag = t }) c.new_tag-tag.ensures in
-      let is = c.staged.ensures ∙ ap is_some c.in_ok-reserve.ensures.top in
+      let is = c.staged.ensures ∙ ap is_some c.reserve.ensures.top in
       shifted c.staged.result [] (made ∷ []) (c.args.cluster ∷ []) c.self.inside.numbers c.put.new.self c.self.inside.store c.add.new.self
       (turns_then c.self.inside.numbers c.reserve.new.self c.put.new.self
-      (turns_same c.self.inside.numbers c.reserve.new.self c.in_ok-reserve.ensures.base c.in_ok-reserve.ensures.top)
+      (turns_same c.self.inside.numbers c.reserve.new.self c.reserve.ensures.base c.reserve.ensures.top)
       (turns_by c.reserve.new.self c.put.new.self c.put.ensures.staged c.put.ensures.base))
       is
       (comes_new c.staged.result c.self.inside.store.clusters c.add.new.self.clusters made c.args.cluster c.in_ok-number.ensures.added.0
@@ -41,7 +41,7 @@ module _ (g : given.Over) (c : goal.After-put g) where
       made_new g.row.W c.args.id c.in_ok-number.number c.args.cluster c.staged.result old new shifts c.requires.whole c.requires.name
       (subst (λ (s : Shelf). finmap.get (numbers_at Top s) c.args.id ≡ None) (sym c.self.view_is) c.requires.top)
       (points_put c.args.id c.in_ok-number.number (numbers_at Top old) (numbers_at Top (shelf_of c.reserve.new.self c.self.inside.store)) (numbers_at Top new)
-      (same_top c.self.inside.numbers c.reserve.new.self c.in_ok-reserve.ensures.base c.in_ok-reserve.ensures.top) c.put.ensures.top)
+      (same_top c.self.inside.numbers c.reserve.new.self c.reserve.ensures.base c.reserve.ensures.top) c.put.ensures.top)
 
 pub invariant_of-self-2 : goal.invariant_of-self-2
 invariant_of-self-2 g c =
@@ -74,3 +74,6 @@ invariant_of-self-in_err-number g c =
     (sym c.in_err-number.ensures.err) (
     subst₂ (λ (base : Numbers) (top : Option Numbers). IsInOrder g.row.W (record { main = base; staging = top; store = c.self.inside.store }))
     (sym c.reserve.ensures.base) (sym c.reserve.ensures.top) c.self.invariant)
+
+pub drop-requires : goal.drop-requires
+drop-requires g c κs = ((cluster_fits g.row.W c.self.invariant.narrow, tt), search rules)

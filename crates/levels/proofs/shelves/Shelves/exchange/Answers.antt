@@ -1,5 +1,5 @@
 -- The cluster stands under the number, or under another that its names have.
-use Rattle.std.proofs.Common.{◌≡◌, ℕ, List, [], ◌∷◌, inl, inr, ap, ◌∙◌, sym, subst, subst₂, arith, is_some, Option}
+use Rattle.std.proofs.Common.{rules, ◌≡◌, ℕ, List, [], ◌∷◌, inl, inr, ap, ◌∙◌, sym, subst, subst₂, arith, is_some, Option}
 use Rattle.std.proofs.lemmas.Option.{same_Some}
 use Rattle.graphs.specs.declared.names.Level.TheVariants.{Top}
 use Rattle.cluster.specs.Clusters.{Cluster}
@@ -28,7 +28,7 @@ module _ (g : given.Over) (c : goal.After-point g) where
       shifted c.staged-staged.result (c.args.number ∷ []) (c.in_ok-made.made ∷ []) (c.args.cluster ∷ []) c.self.inside.numbers c.point.new.numbers
       c.self.inside.store c.come_in.new.store
       (turns_then c.self.inside.numbers c.reserve.new.self c.point.new.numbers
-      (turns_same c.self.inside.numbers c.reserve.new.self c.in_ok-reserve.ensures.base c.in_ok-reserve.ensures.top)
+      (turns_same c.self.inside.numbers c.reserve.new.self c.reserve.ensures.base c.reserve.ensures.top)
       (turns_by c.reserve.new.self c.point.new.numbers c.point.ensures.staged c.point.ensures.base))
       c.staged-staged.ensures c.in_ok-made.ensures.comes
 
@@ -38,7 +38,7 @@ module _ (g : given.Over) (c : goal.After-point g) where
       c.names-then-made-number.ensures.names
       ∙ ap (λ (x : Cluster). x.names) (same_Some c.at.result.now c.args.cluster (sym c.at.ensures ∙ c.in_ok-made.ensures.at)) in
       subst₂ (λ (xs : List ℕ) (m : Numbers). PointsOne c.in_ok-made.made xs m (top_of c.point.new.numbers)) names
-      (same_top c.self.inside.numbers c.reserve.new.self c.in_ok-reserve.ensures.base c.in_ok-reserve.ensures.top) c.point.ensures.points
+      (same_top c.self.inside.numbers c.reserve.new.self c.reserve.ensures.base c.reserve.ensures.top) c.point.ensures.points
 
   rebuilds : TopRebuilds g.row.W (c.args.number ∷ []) (c.in_ok-made.made ∷ []) (c.requires.there.0 ∷ []) (c.args.cluster ∷ []) [] old new
   rebuilds =
@@ -71,14 +71,14 @@ module _ (g : given.Over) (c : goal.Else-made-number g) where
   same_shifts =
       shifted c.staged-staged.result (c.args.number ∷ []) (c.in_ok-made.made ∷ []) (c.args.cluster ∷ []) c.self.inside.numbers c.reserve.new.self
       c.self.inside.store c.come_in.new.store
-      (turns_same c.self.inside.numbers c.reserve.new.self c.in_ok-reserve.ensures.base c.in_ok-reserve.ensures.top)
+      (turns_same c.self.inside.numbers c.reserve.new.self c.reserve.ensures.base c.reserve.ensures.top)
       c.staged-staged.ensures c.in_ok-made.ensures.comes
 
   same_rebuilds : TopRebuilds g.row.W (c.args.number ∷ []) (c.in_ok-made.made ∷ []) (c.requires.there.0 ∷ []) (c.args.cluster ∷ []) [] same_old same_new
   same_rebuilds =
       made_same g.row.W c.args.number c.in_ok-made.made c.requires.there.0 c.args.cluster c.staged-staged.result same_old same_new c.self.invariant.top
       same_shifts (ap (λ (s : Shelf). seen_at Top s.store.clusters c.args.number) c.self.view_is ∙ c.requires.there.1) c.requires.whole c.requires.there.2
-      (inl (c.if-made-number.false, same_top c.self.inside.numbers c.reserve.new.self c.in_ok-reserve.ensures.base c.in_ok-reserve.ensures.top))
+      (inl (c.if-made-number.false, same_top c.self.inside.numbers c.reserve.new.self c.reserve.ensures.base c.reserve.ensures.top))
 
 pub invariant_of-self-else-made-number : goal.invariant_of-self-else-made-number
 invariant_of-self-else-made-number g c =
@@ -136,3 +136,6 @@ invariant_of-self-in_err-made g c =
     (sym c.in_err-made.ensures.err) (
     subst₂ (λ (base : Numbers) (top : Option Numbers). IsInOrder g.row.W (record { main = base; staging = top; store = c.self.inside.store }))
     (sym c.reserve.ensures.base) (sym c.reserve.ensures.top) c.self.invariant)
+
+pub drop-requires : goal.drop-requires
+drop-requires g c κs = ((cluster_fits g.row.W c.self.invariant.narrow, tt), search rules)

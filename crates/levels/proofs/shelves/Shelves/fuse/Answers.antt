@@ -1,5 +1,5 @@
 -- The joined cluster stands under the first number, or under another; the names that hadn't that number get it.
-use Rattle.std.proofs.Common.{◌≡◌, ◌≤◌, ◌⊎◌, ◌++◌, ℕ, List, [], ◌∷◌, Some, length, drop, inl, inr, is_some, ap, ◌∙◌, sym, subst, subst₂, arith, length-append, Option}
+use Rattle.std.proofs.Common.{rules, ◌≡◌, ◌≤◌, ◌⊎◌, ◌++◌, ℕ, List, [], ◌∷◌, Some, length, drop, inl, inr, is_some, ap, ◌∙◌, sym, subst, subst₂, arith, length-append, Option}
 use Rattle.std.proofs.lemmas.Option.{same_Some}
 use Rattle.graphs.specs.declared.names.Level.TheVariants.{Top}
 use Rattle.cluster.specs.Clusters.{Cluster}
@@ -74,14 +74,14 @@ module _ (g : given.Over) (c : goal.After-point g) where
       shifted c.staged-staged.result outs (c.in_ok-made.made ∷ []) (c.args.joined ∷ []) c.self.inside.numbers c.point.new.numbers
       c.self.inside.store c.come_together.new.store
       (turns_then c.self.inside.numbers c.reserve.new.self c.point.new.numbers
-      (turns_same c.self.inside.numbers c.reserve.new.self c.in_ok-reserve.ensures.base c.in_ok-reserve.ensures.top)
+      (turns_same c.self.inside.numbers c.reserve.new.self c.reserve.ensures.base c.reserve.ensures.top)
       (turns_by c.reserve.new.self c.point.new.numbers c.point.ensures.staged c.point.ensures.base))
       c.staged-staged.ensures c.in_ok-made.ensures.comes
 
   pointed : (xs : List ℕ) → c.split_at.result.1.now ≡ xs → PointsOne c.in_ok-made.made xs (top_of c.self.inside.numbers) (top_of c.point.new.numbers)
   pointed xs is =
       subst₂ (λ (ys : List ℕ) (m : Numbers). PointsOne c.in_ok-made.made ys m (top_of c.point.new.numbers)) is
-      (same_top c.self.inside.numbers c.reserve.new.self c.in_ok-reserve.ensures.base c.in_ok-reserve.ensures.top) c.point.ensures.points
+      (same_top c.self.inside.numbers c.reserve.new.self c.reserve.ensures.base c.reserve.ensures.top) c.point.ensures.points
 
   see_first : seen_at Top c.self.inside.store.clusters c.args.first ≡ Some a
   see_first = ap (λ (s : Shelf). seen_at Top s.store.clusters c.args.first) c.self.view_is ∙ c.requires.there.2
@@ -153,3 +153,6 @@ invariant_of-self-in_err-made g c =
     (sym c.in_err-made.ensures.err) (
     subst₂ (λ (base : Numbers) (top : Option Numbers). IsInOrder g.row.W (record { main = base; staging = top; store = c.self.inside.store })) (sym c.reserve.ensures.base)
     (sym c.reserve.ensures.top) c.self.invariant)
+
+pub drop-requires : goal.drop-requires
+drop-requires g c κs = ((cluster_fits g.row.W c.self.invariant.narrow, tt), search rules)
