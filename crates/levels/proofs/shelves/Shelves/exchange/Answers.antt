@@ -139,3 +139,8 @@ invariant_of-self-in_err-made g c =
 
 pub drop-requires : goal.drop-requires
 drop-requires g c κs = ((cluster_fits g.row.W c.self.invariant.narrow, tt), search rules)
+
+pub returns-in-Err-clause-order : goal.returns-in-Err-clause-order
+returns-in-Err-clause-order g c =
+    subst₂ (λ (base : Numbers) (top : Option Numbers). IsInOrder g.row.W (record { main = base; staging = top; store = c.self.inside.store }))
+    (sym c.reserve.ensures.base) (sym c.reserve.ensures.top) c.self.invariant
