@@ -1,5 +1,5 @@
 -- The names of the cluster that main alone has are touched.
-use Rattle.std.proofs.Common.{inl, inr}
+use Rattle.std.proofs.Common.{inl, inr, arith, rules}
 use Rattle.levels.proofs.Touching.{left_listed}
 use Rattle.levels.proofs.Rooms.{cluster_fits}
 use Rattle.levels.proofs.moving.touch_left.Goals as goal
@@ -26,3 +26,6 @@ returns-then-is_left-clause-touched g c x =
 
 pub names-requires : goal.names-requires
 names-requires g c = cluster_fits g.row.W c.requires.order.narrow
+
+pub at-requires : goal.at-requires
+at-requires g c = (omega arith, (cluster_fits g.row.W c.requires.order.narrow, search rules))

@@ -1,4 +1,4 @@
-use Rattle.std.proofs.Common.{◌≡◌, get_or, sym, ap, subst, ◌∙◌}
+use Rattle.std.proofs.Common.{◌≡◌, get_or, sym, ap, subst, ◌∙◌, arith, rules}
 use Rattle.std.proofs.lemmas.Option.{same_Some, get_or_from_slice_get}
 use Rattle.graphs.specs.declared.names.Level.TheVariants.{Main}
 use Rattle.cluster.specs.Clusters.{Cluster}
@@ -37,3 +37,6 @@ returns-else-names-id-clause-settling g c =
 
 pub names-names-requires : goal.names-names-requires
 names-names-requires g c = cluster_fits g.row.W c.requires.order.narrow
+
+pub at-requires : goal.at-requires
+at-requires g c = (omega arith, (cluster_fits g.row.W c.requires.order.narrow, search rules))

@@ -1,5 +1,5 @@
 -- A pair of names is refused by the rows of its clusters.
-use Rattle.std.proofs.Common.{Some, None, sym, ap, ◌∙◌, rules}
+use Rattle.std.proofs.Common.{Some, None, sym, ap, ◌∙◌, rules, arith}
 use Rattle.levels.proofs.Ways.{no_parent, no_child, way_row, way_link, sum_row}
 use Rattle.levels.proofs.Rooms.{cluster_fits}
 use Rattle.levels.proofs.shelves.Shelves.refused_dep.Goals as goal
@@ -44,3 +44,9 @@ refused_sum-requires g c = (cluster_fits g.row.W c.requires.order.narrow, c.requ
 
 pub way_within-requires : goal.way_within-requires
 way_within-requires g c = (cluster_fits g.row.W c.requires.order.narrow, search rules)
+
+pub at-requires : goal.at-requires
+at-requires g c = (omega arith, (cluster_fits g.row.W c.requires.order.narrow, search rules))
+
+pub at-first-requires : goal.at-first-requires
+at-first-requires g c = (omega arith, (cluster_fits g.row.W c.requires.order.narrow, search rules))
