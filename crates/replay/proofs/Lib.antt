@@ -1,4 +1,5 @@
 pub mod SessionLemmas
+pub mod SessionRoom
 pub mod WordLemmas
 pub mod CheckLemmas
 pub mod LimitLemmas

@@ -120,3 +120,6 @@ compare-requires g c = assumption
 
 pub settle-requires : goal.settle-requires
 settle-requires g c = assumption
+
+pub before-requires : goal.before-requires
+before-requires g c = assumption

@@ -1,6 +1,8 @@
-use Rattle.std.proofs.Common.{subst, sym, List, ℕ, ◌≡◌}
+use Rattle.std.proofs.Common.{subst, sym, List, ℕ, ◌≡◌, ◌<◌}
+use Rattle.tx_graph.specs.Kept.{Kept}
 use Rattle.replay.specs.Answers.{Tells}
 use Rattle.replay.specs.Sessions.{Answers, Suits}
+use Rattle.replay.proofs.SessionRoom.{graph_in_session}
 use Rattle.replay.proofs.session.Session.one.Goals as goal
 
 pub returns-clause-line : goal.returns-clause-line
@@ -10,3 +12,8 @@ returns-clause-line g c line is =
     let tells = subst (λ (names : List ℕ). Tells c.answer-found.new.graph c.answer-found.result names told.0) ids told.1 in
     let answers = subst (λ k. Answers k c.answer-found.new.graph line told.0) c.self.view_is (c.answer-found.ensures.line line is told.0 tells) in
     (told.0, answers, told.2, told.3, c.answer-found.ensures.suits line is told.0 tells)
+
+pub answer-found-requires : goal.answer-found-requires
+answer-found-requires g c =
+    let few = subst (λ (k : Kept). k.levels.issued < 18446744073709551615) (sym c.self.view_is) c.requires in
+    (graph_in_session g.row.W assumption, (few, c.self.invariant))
