@@ -23,3 +23,18 @@ obey_unpaid-requires g c = record {
   few = c.requires.few;
   room = subst (λ (n : ℕ). (32766 ≤ n) × (64 * g.row.W ≤ n)) (sym c.read_line-line.ensures.room) c.requires.room;
 }
+
+pub returns-then-bytes-gt-MAX_LINE-clause-suits : goal.returns-then-bytes-gt-MAX_LINE-clause-suits
+returns-then-bytes-gt-MAX_LINE-clause-suits g c answer told = rw told c.if-bytes-gt-MAX_LINE.true
+
+pub returns-then-bytes-gt-MAX_LINE-clause-additions : goal.returns-then-bytes-gt-MAX_LINE-clause-additions
+returns-then-bytes-gt-MAX_LINE-clause-additions g c = omega arith
+
+pub returns-then-bytes-gt-MAX_LINE-clause-room : goal.returns-then-bytes-gt-MAX_LINE-clause-room
+returns-then-bytes-gt-MAX_LINE-clause-room g c = c.requires.room
+
+pub returns-clause-additions : goal.returns-clause-additions
+returns-clause-additions g c = c.obey_unpaid.ensures.additions
+
+pub returns-clause-room : goal.returns-clause-room
+returns-clause-room g c = c.obey_unpaid.ensures.room

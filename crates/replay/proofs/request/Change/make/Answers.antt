@@ -1,4 +1,4 @@
-use Rattle.std.proofs.Common.{rules, ◌≤◌, Bool, true, false, is_ok, if◌then◌else◌, ℤ, FitsSigned, subst, arith}
+use Rattle.std.proofs.Common.{◌≤◌, Bool, true, false, is_ok, if◌then◌else◌, ℤ, FitsSigned, subst, arith}
 use Rattle.std.specs.Int.{w64}
 use Rattle.std.proofs.lemmas.Int.{to_z-of_z}
 use Rattle.graph_model.specs.Commands.{Add, SetFee}
@@ -40,7 +40,7 @@ returns-in-Limits-clause-step g c = rw c.in-Limits.is c.set_limits.ensures.step
 
 pub returns-in-Add-clause-step : goal.returns-in-Add-clause-step
 returns-in-Add-clause-step g c =
-    let fits : FitsSigned w64 c.in-Add.fee = search rules in
+    let fits : FitsSigned w64 c.in-Add.fee = assumption in
     let step = subst (λ (fee : ℤ). MakesStep c.args.graph.now c.add.new.self (Add c.in-Add.id fee c.in-Add.size) (change_reply c.add.result))
     (to_z-of_z w64 c.in-Add.fee fits) c.add.ensures.step in
     rw c.in-Add.is step
@@ -50,7 +50,7 @@ returns-in-Dep-clause-step g c = rw c.in-Dep.is c.dep.ensures.step
 
 pub returns-in-Fee-clause-step : goal.returns-in-Fee-clause-step
 returns-in-Fee-clause-step g c =
-    let fits : FitsSigned w64 c.in-Fee.fee = search rules in
+    let fits : FitsSigned w64 c.in-Fee.fee = assumption in
     let step = subst (λ (fee : ℤ). MakesStep c.args.graph.now c.fee.new.self (SetFee c.in-Fee.id fee) (change_reply c.fee.result))
     (to_z-of_z w64 c.in-Fee.fee fits) c.fee.ensures.step in
     rw c.in-Fee.is step

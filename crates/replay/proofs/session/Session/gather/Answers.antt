@@ -1,4 +1,4 @@
-use Rattle.std.proofs.Common.{subst, sym, List, ℕ, ◌≡◌, ◌<◌}
+use Rattle.std.proofs.Common.{subst, sym, List, ℕ, ◌≡◌, ◌<◌, ◌≤◌, ◌+◌}
 use Rattle.tx_graph.specs.Kept.{Kept}
 use Rattle.replay.specs.Answers.{Tells}
 use Rattle.replay.specs.Sessions.{Answers}
@@ -17,3 +17,10 @@ pub answer-found-requires : goal.answer-found-requires
 answer-found-requires g c =
     let few = subst (λ (k : Kept). k.levels.issued < 18446744073709551615) (sym c.self.view_is) c.requires in
     (graph_in_session g.row.W assumption, (few, c.self.invariant))
+
+pub returns-clause-cause : goal.returns-clause-cause
+returns-clause-cause g c = c.tell.ensures.cause
+
+pub returns-clause-additions : goal.returns-clause-additions
+returns-clause-additions g c =
+    subst (λ (k : Kept). c.answer-found.new.graph.levels.issued ≤ k.levels.issued + 1) c.self.view_is c.answer-found.ensures.additions
