@@ -1,5 +1,6 @@
 pub mod SessionLemmas
 pub mod SessionRoom
+pub mod YieldedLemmas
 pub mod WordLemmas
 pub mod CheckLemmas
 pub mod LimitLemmas

@@ -1,4 +1,4 @@
-use Rattle.std.proofs.Common.{◌≡◌, List, ℕ, map, take, get_or, ◌∷◌, [], ◌++◌, sym, ap, subst, ◌∙◌}
+use Rattle.std.proofs.Common.{rules, ◌≡◌, List, ℕ, map, take, get_or, ◌∷◌, [], ◌++◌, sym, ap, subst, ◌∙◌}
 use Rattle.std.proofs.lemmas.List.{map-append, take_more}
 use Rattle.graph_model.specs.Answers.{order_of}
 use Rattle.graph_model.specs.Texts.{edge_line}
@@ -26,3 +26,7 @@ loop-id-preserved g c =
       lines_on _ _ _ _ _ _ _ _ _ (edges_lines edges)
           (map (λ (parent : ℕ). edge_line parent id) parents) _ c.loop-id.invariant.2 c.more_covers-so_far.ensures lines,
     )
+
+-- that the graph fits in memory is asked of the caller too
+pub covers-requires : goal.covers-requires
+covers-requires g c = (assumption, search rules)
