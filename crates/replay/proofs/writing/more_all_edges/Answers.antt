@@ -8,6 +8,7 @@ use Rattle.levels.specs.Levels.{level_at}
 use Rattle.replay.specs.Writings.{ListsEach, edges_lines}
 use Rattle.replay.proofs.TextLemmas.{each_append}
 use Rattle.replay.proofs.WritingLemmas.{lines_on, rest_on, flat_map_push, held_by}
+use Rattle.replay.proofs.YieldedLemmas.{gave_all}
 use Rattle.replay.proofs.writing.more_all_edges.Goals as goal
 
 -- that a part's cluster fits in memory is asked of the caller too
@@ -39,3 +40,10 @@ loop-part-preserved g c =
         lines_on _ _ _ _ _ _ _ _ _ (edges_lines edges) (edges_lines own) _ out more (map-append (λ (edge : ℕ × ℕ). edge_line edge.0 edge.1) edges own),
       );
     }
+
+pub returns : goal.returns
+returns g c =
+    let level = level_at c.args.graph.now.levels c.args.level in
+    let (edges, was, out) = c.loop-part.invariant.out in
+    let all = gave_all c.args.parts (map lent c.loop-part.yielded) c.loop-part.part-iterator c.loop-part.invariant.rest c.in-None.ensures.steps.0 in
+    (edges, subst (λ (parts : List Part). ListsEach level.graph (order_of level.parts) (order_of parts) edges) all was, out)
