@@ -57,6 +57,23 @@ fn joined<L: Ledger>(
     Ok(old.joined(room.alloc, one, pair.0, pair.1, &mut room.work, steps)?)
 }
 
+// One cluster of that of a name and another name, which depends on it.
+fn below<L: Ledger>(
+    rt: &impl Abort,
+    room: &mut Room,
+    steps: &mut Steps<L>,
+    old: &Cluster<1>,
+    parent: TxId,
+    child: (TxId, i64),
+) -> Result<Cluster<1>, Fail>
+    requires { old.now.names ≡ parent ∷ [] }
+{
+    let one = alone(rt, room, steps, child)?;
+    let both = joined(rt, room, steps, old, &one, (parent, child.0));
+    drop(one);
+    both
+}
+
 // The cluster of a name and another that depends on it.
 fn pair<L: Ledger>(
     rt: &impl Abort,
@@ -66,26 +83,22 @@ fn pair<L: Ledger>(
     child: (TxId, i64),
 ) -> Result<Cluster<1>, Fail> {
     let old = alone(rt, room, steps, parent)?;
-    let one = alone(rt, room, steps, child)?;
-    joined(rt, room, steps, &old, &one, (parent.0, child.0))
+    let both = below(rt, room, steps, &old, parent.0, child);
+    drop(old);
+    both
 }
 
-// Clusters of one name, or of one and another that depends on it.
+// The cluster of one name, or of one and another that depends on it.
 fn made<L: Ledger>(
     rt: &impl Abort,
     room: &mut Room,
     steps: &mut Steps<L>,
-    rows: &[((TxId, i64), Option<(TxId, i64)>)],
-) -> Result<Vec<Cluster<1>>, Fail> {
-    let mut clusters = Vec::new(room.alloc);
-    for row in rows {
-        let cluster = match row.1 {
-            Some(child) => pair(rt, room, steps, row.0, child)?,
-            None => alone(rt, room, steps, row.0)?,
-        };
-        clusters.push(cluster)?;
+    row: &((TxId, i64), Option<(TxId, i64)>),
+) -> Result<Cluster<1>, Fail> {
+    match row.1 {
+        Some(child) => pair(rt, room, steps, row.0, child),
+        None => alone(rt, room, steps, row.0),
     }
-    Ok(clusters)
 }
 
 // ---- the table
@@ -237,7 +250,7 @@ fn gives_back(rt: &impl Abort, mut walk: PartWalk<'_, Stored<1>>, names: &[u8]) 
 }
 
 // Rows, and the names that the five walks give after each, a digit a name.
-const ROWS: [(Act, [&str; 5]); 16] = [
+static ROWS: [(Act, [&str; 5]); 16] = [
     (Act::Add(Tag::Both), ["1", "1", "1", "", ""]),
     (Act::Add(Tag::MainOnly), ["12", "1", "1", "2", ""]),
     (Act::Add(Tag::TopOnly), ["12", "13", "1", "2", "3"]),
@@ -273,21 +286,16 @@ fn walks_give(rt: &impl Abort, store: &ClusterStore<1>, walks: &[&str; 5]) {
     }
 }
 
-fn each_row(rt: &impl Abort, table: &mut Table, rows: &[(Act, [&str; 5])]) -> Result<(), Fail> {
-    for row in rows {
-        obey(rt, table, row.0)?;
-        walks_give(rt, &table.store, &row.1);
+fn each_row(rt: &impl Abort, table: &mut Table) -> Result<(), Fail> {
+    for (act, walks) in &ROWS {
+        obey(rt, table, *act)?;
+        walks_give(rt, &table.store, walks);
     }
     Ok(())
 }
 
-// It hands the table on and does nothing else, so that it alone pays for the literals.
-fn all_rows(rt: &impl Abort, table: &mut Table) -> Result<(), Fail> {
-    each_row(rt, table, &ROWS)
-}
-
 // The clusters that come, the last one first.
-const CLUSTERS: [((TxId, i64), Option<(TxId, i64)>); 9] = [
+static CLUSTERS: [((TxId, i64), Option<(TxId, i64)>); 9] = [
     ((5, 6), None),
     ((2, 1), None),
     ((7, 9), Some((8, 6))),
@@ -299,30 +307,41 @@ const CLUSTERS: [((TxId, i64), Option<(TxId, i64)>); 9] = [
     ((1, 10), None),
 ];
 
-fn to_come() -> &'static [((TxId, i64), Option<(TxId, i64)>)] {
-    &CLUSTERS
-}
-
-fn all_made<L: Ledger>(
+// Makes them.
+fn fill<L: Ledger>(
     rt: &impl Abort,
-    alloc: Global,
+    room: &mut Room,
     steps: &mut Steps<L>,
-) -> Result<Vec<Cluster<1>>, Fail> {
-    let mut room = Room {
-        alloc,
-        work: Work::new(alloc)?,
-    };
-    made(rt, &mut room, steps, to_come())
+    clusters: &mut Vec<Cluster<1>>,
+) -> Result<(), Fail> {
+    for row in &CLUSTERS {
+        clusters.push(made(rt, room, steps, row)?)?;
+    }
+    Ok(())
 }
 
-fn begun<L: Ledger>(rt: &impl Abort, alloc: Global, steps: &mut Steps<L>) -> Result<Table, Fail> {
-    let clusters = all_made(rt, alloc, steps)?;
-    Ok(Table {
+fn rows_of<L: Ledger>(
+    rt: &impl Abort,
+    room: &mut Room,
+    steps: &mut Steps<L>,
+    table: &mut Table,
+) -> Result<(), Fail> {
+    fill(rt, room, steps, &mut table.clusters)?;
+    each_row(rt, table)
+}
+
+// A table of its own, which is dropped once.
+fn begun<L: Ledger>(rt: &impl Abort, room: &mut Room, steps: &mut Steps<L>) -> Result<(), Fail> {
+    let alloc = room.alloc;
+    let mut table = Table {
         alloc,
         store: ClusterStore::new(alloc),
         numbers: Vec::new(alloc),
-        clusters,
-    })
+        clusters: Vec::new(alloc),
+    };
+    let done = rows_of(rt, room, steps, &mut table);
+    drop(table);
+    done
 }
 
 fn rows<K: ledger::Ledger>(rt: &impl Abort, alloc: Global, blank: Blank) -> Result<(), Fail>
@@ -331,8 +350,13 @@ fn rows<K: ledger::Ledger>(rt: &impl Abort, alloc: Global, blank: Blank) -> Resu
     requires some { 0 < blank.parts }
 {
     let mut steps = Steps::new(Counted::<K>::new(blank));
-    let mut table = begun(rt, alloc, &mut steps)?;
-    all_rows(rt, &mut table)
+    let mut room = Room {
+        alloc,
+        work: Work::new(alloc)?,
+    };
+    let done = begun(rt, &mut room, &mut steps);
+    drop(room);
+    done
 }
 
 // Clusters come, change their levels, are exchanged and go, and each walk shows its parts by rate, equal ones by number.
