@@ -176,5 +176,7 @@ fn stagings<K: ledger::Ledger>(
 #[test]
 fn main_stays_while_staging_changes(rt: HostRuntime) -> Result<(), Fail> {
     let mut levels = Levels::new(rt.alloc())?;
-    stagings::<Brand>(&rt, &mut levels, Blank::new(1))
+    let done = stagings::<Brand>(&rt, &mut levels, Blank::new(1));
+    drop(levels);
+    done
 }
