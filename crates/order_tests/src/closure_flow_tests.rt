@@ -79,7 +79,7 @@ fn flows_are<const W: usize>(rt: &impl Abort, scratch: &Scratch<W>, rows: &[(usi
     requires { W ≤ 2 }
 {
     for row in rows {
-        assert_eq!(rt; flow(scratch, row.0, row.1), row.2);
+        assert!(rt; flow(scratch, row.0, row.1) == row.2);
     }
 }
 
@@ -177,7 +177,7 @@ struct Row {
 
 const MOST: i128 = 42_535_295_865_117_307_932_921_825_928_971_026_431;
 
-const FIRST: [Row; 2] = [
+static FIRST: [Row; 2] = [
     Row {
         weights: &[160_000, -160_000],
         parents: &[&[], &[0]],
@@ -202,7 +202,7 @@ const FIRST: [Row; 2] = [
     },
 ];
 
-const EDGES: [Row; 6] = [
+static EDGES: [Row; 6] = [
     Row {
         weights: &[],
         parents: &[],
@@ -253,10 +253,7 @@ fn row_is_answered<L: Ledger>(
     row: &Row,
 ) -> Result<(), Fail> {
     let parents = sets_of(rt, alloc, row.parents)?;
-    assert_eq!(rt;
-        answer(rt, scratch, row.weights, &parents, steps),
-        row.better
-    );
+    assert!(rt; answer(rt, scratch, row.weights, &parents, steps) == row.better);
     flows_are(rt, scratch, row.flows);
     Ok(())
 }
@@ -324,7 +321,7 @@ struct Cut {
     sizes: Option<(usize, usize)>,
 }
 
-const CUTS: [Cut; 5] = [
+static CUTS: [Cut; 5] = [
     // A chain of weights 0.
     Cut {
         weights: &[0, 0, 0],
@@ -373,7 +370,7 @@ fn is_cut<L: Ledger>(
 ) -> Result<(), Fail> {
     let parents = sets_of(rt, alloc, row.parents)?;
     let sizes = tight_sizes(rt, scratch, row.weights, &parents, row.place, steps);
-    assert_eq!(rt; sizes, row.sizes);
+    assert!(rt; sizes == row.sizes);
     Ok(())
 }
 

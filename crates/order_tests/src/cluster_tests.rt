@@ -128,11 +128,11 @@ fn verdict(alloc: Global, graph: &Written, claims: &[Part]) -> Result<(), CheckF
 
 // Compares the fees and sizes of parts.
 fn parts_are(rt: &impl Abort, claims: &[Part], parts: &[(i64, u64)]) {
-    assert_eq!(rt; claims.len(), parts.len());
+    assert!(rt; claims.len() == parts.len());
     for at in 0..parts.len() {
         assert!(rt; at < claims.len());
-        assert_eq!(rt; claims[at].rate.fee, i128::from(parts[at].0));
-        assert_eq!(rt; claims[at].rate.size, parts[at].1);
+        assert!(rt; claims[at].rate.fee == i128::from(parts[at].0));
+        assert!(rt; claims[at].rate.size == parts[at].1);
     }
 }
 
@@ -162,7 +162,9 @@ fn checked<const W: usize>(
 {
     let claims = claims_of(rt, alloc, cluster)?;
     parts_are(rt, &claims, parts);
-    certified(rt, alloc, cluster, &claims)
+    let done = certified(rt, alloc, cluster, &claims);
+    drop(claims);
+    done
 }
 
 // The room for the calls.
@@ -328,7 +330,9 @@ fn fee_case<L: Ledger>(
 ) -> Result<(), Fail> {
     let alloc = room.alloc;
     let new = paying(rt, room, steps, old, change.0, change.1)?;
-    checked(rt, alloc, &new, parts)
+    let done = checked(rt, alloc, &new, parts);
+    drop(new);
+    done
 }
 
 // One more dependency, and what the parts are then.
@@ -342,7 +346,9 @@ fn link_case<L: Ledger>(
 ) -> Result<(), Fail> {
     let alloc = room.alloc;
     let new = linked(rt, room, steps, old, pair.0, pair.1)?;
-    checked(rt, alloc, &new, parts)
+    let done = checked(rt, alloc, &new, parts);
+    drop(new);
+    done
 }
 
 // The clusters without a name: how many they are, and the parts of one of them.
@@ -357,9 +363,11 @@ fn left_case<L: Ledger>(
 ) -> Result<(), Fail> {
     let alloc = room.alloc;
     let rest = left(rt, room, steps, old, id)?;
-    assert_eq!(rt; rest.len(), wanted.0);
+    assert!(rt; rest.len() == wanted.0);
     assert!(rt; wanted.1 < rest.len());
-    checked(rt, alloc, &rest[wanted.1], parts)
+    let done = checked(rt, alloc, &rest[wanted.1], parts);
+    drop(rest);
+    done
 }
 
 // The order of the two, and what the one sends to the other.
@@ -420,39 +428,47 @@ fn cases<L: Ledger>(
     Ok(())
 }
 
-// Each table stands in a function that hands it on and does nothing else, which alone pays for its literals.
-
 // A child pays for its parent.
+static PAIR_CASES: [Row; 3] = [
+    (Change::Nothing, &[(1000, 400)]),
+    (Change::Fee(1, 901), &[(901, 200), (900, 200)]),
+    (Change::Leave(1, 1, 0), &[(900, 200)]),
+];
+
 fn pair_cases<L: Ledger>(
     rt: &impl Abort,
     room: &mut Room<2>,
     steps: &mut Steps<L>,
     pair: &Cluster<2>,
 ) -> Result<(), Fail> {
-    const ROWS: [Row; 3] = [
-        (Change::Nothing, &[(1000, 400)]),
-        (Change::Fee(1, 901), &[(901, 200), (900, 200)]),
-        (Change::Leave(1, 1, 0), &[(900, 200)]),
-    ];
-    cases(rt, room, steps, pair, &ROWS)
+    cases(rt, room, steps, pair, &PAIR_CASES)
 }
 
 // 1 is above 2 and 3, and 4 below 2: without 1 two clusters are left, and without 2 the others stay together.
+static FOUR_CASES: [Row; 5] = [
+    (Change::Nothing, &[(12, 20), (5, 10)]),
+    (Change::Link(3, 4), &[(12, 20), (5, 10)]),
+    (Change::Leave(1, 2, 0), &[(6, 5), (5, 10)]),
+    (Change::Leave(1, 2, 1), &[(6, 5)]),
+    (Change::Leave(2, 1, 0), &[(11, 25)]),
+];
+
 fn four_cases<L: Ledger>(
     rt: &impl Abort,
     room: &mut Room<2>,
     steps: &mut Steps<L>,
     four: &Cluster<2>,
 ) -> Result<(), Fail> {
-    const ROWS: [Row; 5] = [
-        (Change::Nothing, &[(12, 20), (5, 10)]),
-        (Change::Link(3, 4), &[(12, 20), (5, 10)]),
-        (Change::Leave(1, 2, 0), &[(6, 5), (5, 10)]),
-        (Change::Leave(1, 2, 1), &[(6, 5)]),
-        (Change::Leave(2, 1, 0), &[(11, 25)]),
-    ];
-    cases(rt, room, steps, four, &ROWS)
+    cases(rt, room, steps, four, &FOUR_CASES)
 }
+
+// As many names as there is room for, in a chain.
+static WHOLE_CASES: [Row; 4] = [
+    (Change::Nothing, &[(8128, 128)]),
+    (Change::Link(0, 127), &[(8128, 128)]),
+    (Change::Fee(127, -1), &[(8001, 127), (-1, 1)]),
+    (Change::Leave(64, 1, 0), &[(8064, 127)]),
+];
 
 fn whole_cases<L: Ledger>(
     rt: &impl Abort,
@@ -460,13 +476,7 @@ fn whole_cases<L: Ledger>(
     steps: &mut Steps<L>,
     whole: &Cluster<2>,
 ) -> Result<(), Fail> {
-    const ROWS: [Row; 4] = [
-        (Change::Nothing, &[(8128, 128)]),
-        (Change::Link(0, 127), &[(8128, 128)]),
-        (Change::Fee(127, -1), &[(8001, 127), (-1, 1)]),
-        (Change::Leave(64, 1, 0), &[(8064, 127)]),
-    ];
-    cases(rt, room, steps, whole, &ROWS)
+    cases(rt, room, steps, whole, &WHOLE_CASES)
 }
 
 // Without all names no cluster is left.
@@ -511,9 +521,7 @@ fn all_or_none<L: Ledger>(
     none_goes(rt, room, steps, four)
 }
 
-fn pair_rows() -> &'static [(TxId, TxId, i64, u64)] {
-    &[(1, 1, 100, 200), (1, 2, 900, 200)]
-}
+static PAIR: [(TxId, TxId, i64, u64); 2] = [(1, 1, 100, 200), (1, 2, 900, 200)];
 
 fn pair_is_one_part<L: Ledger>(
     rt: &impl Abort,
@@ -526,13 +534,18 @@ fn pair_is_one_part<L: Ledger>(
 }
 
 fn pair<L: Ledger>(rt: &impl Abort, room: &mut Room<2>, steps: &mut Steps<L>) -> Result<(), Fail> {
-    let cluster = built(rt, room, steps, pair_rows())?;
-    pair_is_one_part(rt, room, steps, &cluster)
+    let cluster = built(rt, room, steps, &PAIR)?;
+    let done = pair_is_one_part(rt, room, steps, &cluster);
+    drop(cluster);
+    done
 }
 
-fn four_rows() -> &'static [(TxId, TxId, i64, u64)] {
-    &[(1, 1, 0, 10), (1, 2, 6, 5), (1, 3, 6, 5), (2, 4, 5, 10)]
-}
+static FOUR: [(TxId, TxId, i64, u64); 4] = [
+    (1, 1, 0, 10),
+    (1, 2, 6, 5),
+    (1, 3, 6, 5),
+    (2, 4, 5, 10),
+];
 
 fn four_fall_apart<L: Ledger>(
     rt: &impl Abort,
@@ -545,8 +558,10 @@ fn four_fall_apart<L: Ledger>(
 }
 
 fn four<L: Ledger>(rt: &impl Abort, room: &mut Room<2>, steps: &mut Steps<L>) -> Result<(), Fail> {
-    let cluster = built(rt, room, steps, four_rows())?;
-    four_fall_apart(rt, room, steps, &cluster)
+    let cluster = built(rt, room, steps, &FOUR)?;
+    let done = four_fall_apart(rt, room, steps, &cluster);
+    drop(cluster);
+    done
 }
 
 // Puts names up to a number under the one before.
@@ -580,13 +595,17 @@ fn chain<L: Ledger>(
 fn half<L: Ledger>(rt: &impl Abort, room: &mut Room<2>, steps: &mut Steps<L>) -> Result<(), Fail> {
     let alloc = room.alloc;
     let cluster = chain(rt, room, steps, 64)?;
-    checked(rt, alloc, &cluster, &[(2016, 64)])
+    let done = checked(rt, alloc, &cluster, &[(2016, 64)]);
+    drop(cluster);
+    done
 }
 
 // As many names as there is room for.
 fn whole<L: Ledger>(rt: &impl Abort, room: &mut Room<2>, steps: &mut Steps<L>) -> Result<(), Fail> {
     let cluster = chain(rt, room, steps, 128)?;
-    whole_cases(rt, room, steps, &cluster)
+    let done = whole_cases(rt, room, steps, &cluster);
+    drop(cluster);
+    done
 }
 
 // The pair again, in one word.
@@ -596,7 +615,14 @@ fn narrow_pair<L: Ledger>(
     steps: &mut Steps<L>,
 ) -> Result<Cluster<1>, Fail> {
     let parent = alone(rt, room, steps, 1, 100, 200)?;
-    grown(rt, room, steps, &parent, 1, 2, (900, 200))
+    let both = grown(rt, room, steps, &parent, 1, 2, (900, 200));
+    drop(parent);
+    both
+}
+
+fn pair_is_checked(rt: &impl Abort, alloc: Global, pair: &Cluster<1>) -> Result<(), Fail> {
+    child_sends(rt, pair);
+    checked(rt, alloc, pair, &[(1000, 400)])
 }
 
 fn narrow_cases<L: Ledger>(
@@ -606,8 +632,9 @@ fn narrow_cases<L: Ledger>(
 ) -> Result<(), Fail> {
     let alloc = room.alloc;
     let pair = narrow_pair(rt, room, steps)?;
-    child_sends(rt, &pair);
-    checked(rt, alloc, &pair, &[(1000, 400)])
+    let done = pair_is_checked(rt, alloc, &pair);
+    drop(pair);
+    done
 }
 
 fn narrow<L: Ledger>(rt: &impl Abort, alloc: Global, steps: &mut Steps<L>) -> Result<(), Fail> {
@@ -615,7 +642,9 @@ fn narrow<L: Ledger>(rt: &impl Abort, alloc: Global, steps: &mut Steps<L>) -> Re
         alloc,
         work: Work::new(alloc)?,
     };
-    narrow_cases(rt, &mut room, steps)
+    let done = narrow_cases(rt, &mut room, steps);
+    drop(room);
+    done
 }
 
 fn wide_cases<L: Ledger>(
@@ -634,7 +663,9 @@ fn wide<L: Ledger>(rt: &impl Abort, alloc: Global, steps: &mut Steps<L>) -> Resu
         alloc,
         work: Work::new(alloc)?,
     };
-    wide_cases(rt, &mut room, steps)
+    let done = wide_cases(rt, &mut room, steps);
+    drop(room);
+    done
 }
 
 fn rows<K: ledger::Ledger>(rt: &impl Abort, alloc: Global, blank: Blank) -> Result<(), Fail>
