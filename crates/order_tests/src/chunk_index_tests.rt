@@ -240,7 +240,7 @@ fn all_are_taken(rt: &impl Abort, alloc: Global, rows: &[(Step, Entry)]) -> Resu
 }
 
 /// Steps with the fee, the size, the serial and the position of an entry.
-const ROWS: [(Step, i64, u64, u64, usize); 16] = [
+static ROWS: [(Step, i64, u64, u64, usize); 16] = [
     (Step::Insert(Tag::Both), 10, 4, 3, 0),
     (Step::Insert(Tag::Both), 5, 2, 2, 9),
     (Step::Insert(Tag::MainOnly), 5, 2, 2, 1),
@@ -259,13 +259,9 @@ const ROWS: [(Step, i64, u64, u64, usize); 16] = [
     (Step::Insert(Tag::Both), 5, 2, 2, 1),
 ];
 
-fn table() -> &'static [(Step, i64, u64, u64, usize)] {
-    &ROWS
-}
-
 fn listed_rows(alloc: Global) -> Result<Vec<(Step, Entry)>, NoMemory> {
     let mut rows = Vec::new(alloc);
-    for row in table() {
+    for row in &ROWS {
         rows.push((row.0, entry(row.1, row.2, row.3, row.4)))?;
     }
     Ok(rows)

@@ -92,10 +92,10 @@ fn ordered<L: Ledger, const W: usize>(
 
 // Compares the fees and sizes of the parts.
 fn parts_are<const W: usize>(rt: &impl Abort, out: &Linear<W>, parts: &[(i64, u64)]) {
-    assert_eq!(rt; out.parts().len(), parts.len());
+    assert!(rt; out.parts().len() == parts.len());
     for (found, wanted) in out.parts().iter().zip(parts) {
-        assert_eq!(rt; found.rate.fee, wanted.0);
-        assert_eq!(rt; found.rate.size, wanted.1);
+        assert!(rt; found.rate.fee == wanted.0);
+        assert!(rt; found.rate.size == wanted.1);
     }
 }
 
@@ -117,11 +117,11 @@ fn case<L: Ledger, const W: usize>(
 }
 
 fn order_is<const W: usize>(rt: &impl Abort, out: &Linear<W>, wanted: &[usize]) {
-    assert_eq!(rt; out.order(), wanted);
+    assert!(rt; out.order() == wanted);
 }
 
 fn flows_are<const W: usize>(rt: &impl Abort, out: &Linear<W>, wanted: &[PlaceFlow]) {
-    assert_eq!(rt; out.flows(), wanted);
+    assert!(rt; out.flows() == wanted);
 }
 
 // Members by fee and size, pairs of a parent and a child, and the fees and sizes of the parts of the order.
@@ -133,7 +133,7 @@ struct Row {
 
 const MOST: i64 = 2_100_000_000_000_000;
 
-const ROWS: [Row; 6] = [
+static ROWS: [Row; 6] = [
     // A part without a smaller one of its rate stays whole.
     Row {
         rates: &[(900, 200), (100, 200)],
@@ -283,7 +283,9 @@ fn narrow<L: Ledger>(
         scratch: Scratch::new(alloc)?,
         out: Linear::new(alloc)?,
     };
-    small(rt, &mut room, steps, rows)
+    let done = small(rt, &mut room, steps, rows);
+    drop(room);
+    done
 }
 
 fn wide<L: Ledger>(
@@ -297,7 +299,9 @@ fn wide<L: Ledger>(
         scratch: Scratch::new(alloc)?,
         out: Linear::new(alloc)?,
     };
-    in_two_words(rt, &mut room, steps, rows)
+    let done = in_two_words(rt, &mut room, steps, rows);
+    drop(room);
+    done
 }
 
 fn both<L: Ledger>(
