@@ -85,6 +85,17 @@ last_found text ids new word id whole one wide is pushed =
     ((push_filled ids id, All-push IsWide ids id one wide), whole ∙ ap (λ (xs : List ℕ). fronts ids ++ xs) is ∙ fronts_last ids id) in
     subst (λ (xs : List ℕ). AreNames xs × (text ≡ names_text xs)) (sym pushed) found
 
+-- with one more name the text is the names so far, and the rest
+pub record AreFront (text names rest : List ℕ) : Type 0 where
+  pub wide : All IsWide names
+  pub whole : text ≡ fronts names ++ rest
+
+pub front_found : (text : List ℕ) (ids new : List ℕ) (tail word rest : List ℕ) (id : ℕ) → text ≡ fronts ids ++ tail → tail ≡ word ++ 32 ∷ rest → All IsWide ids → IsWide id → word ≡ decimal id → new ≡ ids ++ id ∷ []
+    → AreFront text new rest
+front_found text ids new tail word rest id whole cut one wide is pushed =
+    let all : text ≡ fronts (ids ++ id ∷ []) ++ rest = whole ∙ ap (λ (xs : List ℕ). fronts ids ++ xs) (cut ∙ ap (λ (xs : List ℕ). xs ++ 32 ∷ rest) is) ∙ fronts_push ids id rest in
+    subst (λ (xs : List ℕ). AreFront text xs rest) (sym pushed) (record { wide = All-push IsWide ids id one wide; whole = all })
+
 -- what follows `chunk`
 abbrev pub chunk_text : Sum → List ℕ → List ℕ
 chunk_text rate ids = signed_decimal rate.fee ++ 32 ∷ (decimal rate.size ++ 32 ∷ names_text ids)

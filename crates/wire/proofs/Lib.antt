@@ -1,4 +1,5 @@
 pub mod WriteLemmas
+pub mod SplitLemmas
 pub mod ReadLemmas
 pub mod BigLemmas
 pub mod FormLemmas

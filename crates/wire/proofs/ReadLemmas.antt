@@ -1,7 +1,8 @@
 -- Cutting a line into its fields.
-use Rattle.std.proofs.Common.{◌≡◌, ◌≢◌, ℕ, ◌+◌, ◌-◌, ◌*◌, ◌<◌, ◌≤◌, List, [], ◌∷◌, ◌++◌, refl, sym, subst, arith, ◌∙◌, ap, nat_eq, true, false, length, cond, ◌^◌, zero, suc, get_or, rules, decimal, Option, None, Some, ℤ, pos, negsuc, FitsSigned, lit<, slice_index, eqb-true}
+use Rattle.std.proofs.Common.{◌≡◌, ◌≢◌, ℕ, ◌+◌, ◌-◌, ◌*◌, ◌<◌, ◌≤◌, List, [], ◌∷◌, ◌++◌, refl, sym, subst, arith, ◌∙◌, ap, nat_eq, true, false, length, cond, ◌^◌, zero, suc, get_or, rules, SomeIff, ◌-ℤ◌, decimal, Option, None, Some, ℤ, pos, negsuc, FitsSigned, lit<, slice_index, eqb-true}
 use Rattle.std.specs.Int.{w64}
 use Rattle.std.proofs.lemmas.Int.{ints}
+use Rattle.std.proofs.Math.IntN.{+ℤ_idl}
 use Rattle.std.specs.Fmt.{signed_decimal}
 use Rattle.std.specs.Str.{all_ascii_digits}
 use Rattle.std.proofs.lemmas.Str.Parse.{IsNumeralModel, not_in_digits, numerals_by_fold}
@@ -64,12 +65,20 @@ zero_unread (negsuc n) fits is =
     let g : decimal 0 ≡ decimal (suc n) = cc in
     let e : 0 ≡ suc n = decimal_injective 0 (suc n) (lit< tt) (omega (arith, ints, fits)) g in absurd (omega arith)
 
-pub great_unread : (m : ℕ) → m < 2 ^ 64 → 2 ^ 63 < m → (value : ℤ) → FitsSigned w64 value → 45 ∷ decimal m ≡ signed_decimal value → ⊥
-great_unread m wide great (pos n) fits is = no_minus n (decimal m) (omega (arith, ints, fits)) (sym is)
-great_unread m wide great (negsuc n) fits is =
-    let f : 45 ∷ decimal m ≡ 45 ∷ decimal (suc n) = is in
-    let g : decimal m ≡ decimal (suc n) = cc in
-    let e : m ≡ suc n = decimal_injective m (suc n) wide (omega (arith, ints, fits)) g in omega (arith, ints, fits)
+-- what is found below zero is read of the digits behind a sign
+pub negative_reads : (m : ℕ) (found : Option ℤ) → (m ≡ 0 → ⊥) → m < 2 ^ 64 → SomeIff found (FitsSigned w64 (pos 0 -ℤ pos m)) (pos 0 -ℤ pos m) → ReadsAs signed_decimal (FitsSigned w64) (45 ∷ decimal m) found
+negative_reads zero found some wide is = absurd (some refl)
+negative_reads (suc m) None some wide none = unread
+  where
+    unread : (value : ℤ) → FitsSigned w64 value → 45 ∷ decimal (suc m) ≡ signed_decimal value → ⊥
+    unread (pos n) fits is = no_minus n (decimal (suc m)) (omega (arith, ints, fits)) (sym is)
+    unread (negsuc n) fits is =
+        let f : 45 ∷ decimal (suc m) ≡ 45 ∷ decimal (suc n) = is in
+        let g : decimal (suc m) ≡ decimal (suc n) = cc in
+        let e : suc m ≡ suc n = decimal_injective (suc m) (suc n) wide (omega (arith, ints, fits)) g in
+        let back : n ≡ m = omega arith in
+        none (subst (FitsSigned w64) (ap negsuc back ∙ sym (+ℤ_idl (negsuc m))) fits)
+negative_reads (suc m) (Some value) some wide found = subst (λ (z : ℤ). FitsSigned w64 z × (45 ∷ decimal (suc m) ≡ signed_decimal z)) (sym (found.1 ∙ +ℤ_idl (negsuc m))) (subst (FitsSigned w64) (+ℤ_idl (negsuc m)) found.0, refl)
 
 pub large_unread : (m : ℕ) → m < 2 ^ 64 → 2 ^ 63 ≤ m → (value : ℤ) → FitsSigned w64 value → decimal m ≡ signed_decimal value → ⊥
 large_unread m wide large (pos n) fits is = let e : m ≡ n = decimal_injective m n wide (omega (arith, ints, fits)) is in omega (arith, ints, fits)

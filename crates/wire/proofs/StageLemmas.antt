@@ -1,5 +1,7 @@
 -- The order of lines in certificate texts, as stages that each line leads on from or not.
-use Rattle.std.proofs.Common.{◌≡◌, ℕ, ℤ, List, [], ◌∷◌, ◌++◌, refl, sym, ap, ◌∙◌, map, Option, None, Some, append_assoc, append-nil}
+use Rattle.std.proofs.Common.{◌≡◌, ℕ, ℤ, List, [], ◌∷◌, ◌++◌, refl, sym, ap, ◌∙◌, map, Option, None, Some, append_assoc, append-nil, ◌⊎◌, inl, inr}
+use Rattle.std.proofs.lemmas.Grind.{flat_map-append}
+use Rattle.std.proofs.lemmas.List.{map-append}
 use Rattle.std.specs.Prelude.{flat_map}
 use Rattle.graphs.specs.declared.names.Flow.{Flow}
 use Rattle.graphs.specs.Certificates.{Part, Txs}
@@ -146,3 +148,32 @@ put_refuses stage row none text more is =
 pub tx_after_edges : (txs : Txs) (edges : Edges) (tx : ℕ × ℤ × ℕ) → (edges ≡ [] → ⊥) → put_tx txs edges tx ≡ None
 tx_after_edges txs [] tx some = absurd (some refl)
 tx_after_edges txs (edge ∷ edges) tx some = refl
+
+-- after a chunk a line of the graph leads nowhere
+pub part_refuses : (txs : Txs) (edges : Edges) (parts : List Part) (last : Part) (row : Row)
+    → ((id : ℕ) × (fee : ℤ) × (size : ℕ) × (row ≡ rows.Tx id fee size)) ⊎ ((parent : ℕ) × (child : ℕ) × (row ≡ rows.Edge parent child)) → put (AtParts txs edges parts last) row ≡ None
+part_refuses txs edges parts last row (inl tx) = ap (put (AtParts txs edges parts last)) tx.3
+part_refuses txs edges parts last row (inr edge) = ap (put (AtParts txs edges parts last)) edge.2
+
+spread : (a b c d : List Row) → a ++ (b ++ (c ++ d)) ≡ (a ++ (b ++ c)) ++ d
+spread a b c d = ap (λ (xs : List Row). a ++ xs) (sym (append_assoc b c d)) ∙ sym (append_assoc a (b ++ c) d)
+
+-- the lines with one more: behind the last part, and of it
+pub next_rows : (txs : Txs) (edges : Edges) (parts more : List Part) (last : Part) (old row : Row) → more ≡ parts ++ last ∷ [] → old ≡ row
+    → map tx_row txs ++ (map edge_row edges ++ (flat_map part_rows more ++ row ∷ [])) ≡ rows_at (AtParts txs edges parts last) ++ old ∷ []
+next_rows txs edges parts more last old row one same =
+    let rest : flat_map part_rows (parts ++ last ∷ []) ≡ flat_map part_rows parts ++ part_rows last =
+    flat_map-append part_rows parts (last ∷ []) ∙ ap (λ (xs : List Row). flat_map part_rows parts ++ xs) (append-nil (part_rows last)) in
+    ap (λ (xs : List Row). map tx_row txs ++ (map edge_row edges ++ (xs ++ row ∷ []))) (ap (flat_map part_rows) one ∙ rest)
+    ∙ spread (map tx_row txs) (map edge_row edges) (flat_map part_rows parts ++ part_rows last) (row ∷ [])
+    ∙ ap (λ (r : Row). rows_at (AtParts txs edges parts last) ++ r ∷ []) (sym same)
+
+pub flow_rows : (txs : Txs) (edges : Edges) (parts : List Part) (last more : Part) (flow : Flow) (old : Row) → more ≡ with_flow last flow → old ≡ rows.Flow flow
+    → rows_at (AtParts txs edges parts more) ≡ rows_at (AtParts txs edges parts last) ++ old ∷ []
+flow_rows txs edges parts last more flow old one same =
+    let ahead = flat_map part_rows parts in
+    ap (λ (part : Part). rows_at (AtParts txs edges parts part)) one
+    ∙ ap (λ (xs : List Row). map tx_row txs ++ (map edge_row edges ++ (ahead ++ rows.Chunk last.rate last.ids ∷ xs))) (map-append (λ (f : Flow). rows.Flow f) last.flows (flow ∷ []))
+    ∙ ap (λ (xs : List Row). map tx_row txs ++ (map edge_row edges ++ xs)) (sym (append_assoc ahead (part_rows last) (rows.Flow flow ∷ [])))
+    ∙ spread (map tx_row txs) (map edge_row edges) (ahead ++ part_rows last) (rows.Flow flow ∷ [])
+    ∙ ap (λ (r : Row). rows_at (AtParts txs edges parts last) ++ r ∷ []) (sym same)

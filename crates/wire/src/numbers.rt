@@ -88,12 +88,10 @@ fn negative(magnitude: u64) -> Option<i64>
     ensures { ReadsAs signed_decimal (FitsSigned w64) (45 ∷ decimal magnitude) result }
 {
     if magnitude == 0 {
-        return None;
+        None
+    } else {
+        0i64.checked_sub_unsigned(magnitude)
     }
-    if magnitude > 1 << 63 {
-        return None;
-    }
-    Some(-((magnitude - 1) as i64) - 1)
 }
 
 /// The greatest number of a certificate text, but for its names and sizes.

@@ -8,10 +8,8 @@ pub fn split_at_byte(bytes: &[u8], byte: u8) -> Option<(&[u8], &[u8])>
         (λ parts. (bytes.now ≡ parts.0.now ++ byte ∷ parts.1.now) × All (λ other. other ≢ byte) parts.0.now) }
     ensures none { IfNone result (All (λ other. other ≢ byte) bytes.now) }
 {
-    let at = memchr(byte, bytes)?;
-    let (front, back) = bytes.split_at(at);
-    match back {
-        [_, rest @ ..] => Some((front, rest)),
-        [] => None,
+    match memchr(byte, bytes) {
+        Some(at) => Some((&bytes[..at], &bytes[at + 1..])),
+        None => None,
     }
 }

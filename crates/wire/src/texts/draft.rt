@@ -1,5 +1,6 @@
-ghost use Rattle.std.specs.Prelude.{◌≡◌, [], map};
-ghost use Rattle.wire.specs.Rows.{tx_row, rows_of};
+ghost use Rattle.std.specs.Prelude.{◌≡◌, [], ◌∷◌, ◌++◌, map, MatchResult};
+ghost use Rattle.wire.specs.declared.texts.fault.TextFault.TheVariants.{Memory};
+ghost use Rattle.wire.specs.Rows.{tx_row, edge_row, rows_of};
 ghost use Rattle.certificate.specs.Parts.{part_of};
 ghost use Rattle.wire.specs.Drafts.{open_part, written, Continues, Finishes};
 
@@ -96,18 +97,15 @@ impl Draft {
 /// The draft with a line that follows transactions and edges.
 fn after_graph(
     alloc: Global,
-    mut txs: Vec<(TxId, i64, u64)>,
-    mut edges: Vec<(TxId, TxId)>,
+    txs: Vec<(TxId, i64, u64)>,
+    edges: Vec<(TxId, TxId)>,
     row: Row,
 ) -> Result<Draft, TextFault>
     ensures { Continues (written (Draft.Graph txs edges)) row result }
 {
     match row {
         Row::Tx(id, fee, size) => with_tx(txs, edges, (id, fee, size)),
-        Row::Edge(parent, child) => {
-            edges.push((parent, child))?;
-            Ok(Draft::Graph(txs, edges))
-        }
+        Row::Edge(parent, child) => with_edge(txs, edges, (parent, child)),
         Row::Chunk(rate, ids) => Ok(Draft::Parts(
             graph_of(txs, edges),
             Vec::new(alloc),
@@ -129,35 +127,73 @@ fn with_tx(
     if !edges.is_empty() {
         return Err(TextFault::Syntax);
     }
-    txs.push(tx)?;
-    Ok(Draft::Graph(txs, edges))
+    match txs.push(tx) {
+        Ok(()) => Ok(Draft::Graph(txs, edges)),
+        Err(_) => Err(TextFault::Memory),
+    }
+}
+
+/// The draft with an edge, which may follow transactions and edges.
+fn with_edge(
+    txs: Vec<(TxId, i64, u64)>,
+    mut edges: Vec<(TxId, TxId)>,
+    edge: (TxId, TxId),
+) -> Result<Draft, TextFault>
+    ensures { Continues (written (Draft.Graph txs edges)) (edge_row edge) result }
+{
+    match edges.push(edge) {
+        Ok(()) => Ok(Draft::Graph(txs, edges)),
+        Err(_) => Err(TextFault::Memory),
+    }
 }
 
 /// The draft with a line that follows a part's chunk and flows.
 fn after_part(
     alloc: Global,
     graph: Written,
-    mut parts: Vec<Part>,
-    mut last: OpenPart,
+    parts: Vec<Part>,
+    last: OpenPart,
     row: Row,
 ) -> Result<Draft, TextFault>
     ensures { Continues (written (Draft.Parts graph parts last)) row result }
 {
     match row {
-        Row::Chunk(rate, ids) => {
-            parts.push(last.closed())?;
-            Ok(Draft::Parts(graph, parts, OpenPart::new(alloc, rate, ids)))
-        }
-        Row::Flow(flow) => {
-            last.flows.push(flow)?;
-            Ok(Draft::Parts(graph, parts, last))
-        }
-        Row::End => {
-            parts.push(last.closed())?;
-            Ok(ended(graph, parts))
-        }
-        Row::Tx(_, _, _) => Err(TextFault::Syntax),
-        Row::Edge(_, _) => Err(TextFault::Syntax),
+        Row::Chunk(rate, ids) => match with_part(parts, last) {
+            Ok(parts) => Ok(Draft::Parts(graph, parts, OpenPart::new(alloc, rate, ids))),
+            Err(fault) => Err(fault),
+        },
+        Row::Flow(flow) => match with_flow(last, flow) {
+            Ok(last) => Ok(Draft::Parts(graph, parts, last)),
+            Err(fault) => Err(fault),
+        },
+        Row::End => match with_part(parts, last) {
+            Ok(parts) => Ok(ended(graph, parts)),
+            Err(fault) => Err(fault),
+        },
+        Row::Tx(_, _, _) | Row::Edge(_, _) => Err(TextFault::Syntax),
+    }
+}
+
+/// The parts with one more, whose flows all came.
+fn with_part(mut parts: Vec<Part>, last: OpenPart) -> Result<Vec<Part>, TextFault>
+    ensures { MatchResult result
+        (λ more. map part_of more.items ≡ map part_of parts.items ++ open_part last ∷ []) (λ fault. fault ≡ Memory) }
+{
+    match parts.push(last.closed()) {
+        Ok(()) => Ok(parts),
+        Err(_) => Err(TextFault::Memory),
+    }
+}
+
+/// The part with one more flow.
+fn with_flow(mut part: OpenPart, flow: Flow) -> Result<OpenPart, TextFault>
+    ensures { MatchResult result
+        (λ more. open_part more ≡ record { rate = part.rate; ids = part.ids; flows = part.flows.items ++ flow ∷ [] })
+        (λ fault. fault ≡ Memory) }
+{
+    match part.flows.push(flow) {
+        Ok(()) => Ok(part),
+        Err(_) => Err(TextFault::Memory),
     }
 }
 

@@ -52,7 +52,7 @@ fn take_line(alloc: Global, draft: Draft, line: &[u8]) -> Result<Draft, TextFaul
     ensures { TakesLine (written draft) line.now result }
 {
     if line.len() > MAX_LINE {
-        return Err(TextFault::Syntax);
+        return given_up(draft, TextFault::Syntax);
     }
     let text = trimmed(line);
     if says_nothing(text) {
@@ -76,6 +76,15 @@ fn take_text(alloc: Global, draft: Draft, text: &[u8]) -> Result<Draft, TextFaul
     requires { All HasRowTypes (written draft) }
     ensures { TakesText (written draft) text.now result }
 {
-    let row = read_row(alloc, text)?;
-    draft.with(alloc, row)
+    match read_row(alloc, text) {
+        Ok(row) => draft.with(alloc, row),
+        Err(fault) => given_up(draft, fault),
+    }
+}
+
+/// Lets a draft go for a fault. A function of its own, so that no other lets go what a draft holds.
+fn given_up(_draft: Draft, fault: TextFault) -> Result<Draft, TextFault>
+    ensures { IsErrOf result fault }
+{
+    Err(fault)
 }

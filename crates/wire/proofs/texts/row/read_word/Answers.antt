@@ -1,6 +1,7 @@
-use Rattle.std.proofs.Common.{◌≡◌, true}
+use Rattle.std.proofs.Common.{sym, ◌∙◌}
+use Rattle.std.proofs.lemmas.Bool.{false≢true}
 use Rattle.wire.proofs.RowLemmas.{word_no_row}
 use Rattle.wire.proofs.texts.row.read_word.Goals as goal
 
 pub returns-else-is_end : goal.returns-else-is_end
-returns-else-is_end c = word_no_row c.args.word.now c.requires (λ is. let e : c.is_end.result ≡ true = c.is_end.ensures.1 is in let no = c.if-is_end.false in cc)
+returns-else-is_end c = word_no_row c.args.word.now c.requires (λ is. false≢true (sym c.if-is_end.false ∙ c.is_end.ensures.1 is))
