@@ -15,7 +15,7 @@ use crate::covers::Covers;
 use crate::list::ClusterList;
 use crate::making::{certified, copied, part};
 use crate::order::{Order, flows_between, flows_start, names_between, names_start, rate_in};
-use crate::places::{list_chosen, place_of, take_out};
+use crate::places::{both_names, list_chosen, place_of, take_out};
 use crate::work::Work;
 use bitset::Bits;
 use dep_graph::DepGraph;
@@ -144,8 +144,7 @@ impl<const W: usize> Cluster<W> {
     {
         let _order = &self.order;
         let _order = &other.order;
-        let mut names = SmallVec::from_slice(alloc, self.names.as_slice())?;
-        names.extend_from_slice(other.names.as_slice())?;
+        let names = both_names(alloc, self.names.as_slice(), other.names.as_slice())?;
         let mut dep = self.dep.merge(alloc, &other.dep)?;
         let _members = dep.members();
         let above = place_of(names.as_slice(), parent);

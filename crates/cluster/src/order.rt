@@ -123,8 +123,8 @@ pub(crate) fn read<const W: usize>(
     let own_names = order.as_slice();
     let shown = linear.parts();
     let all = linear.flows();
-    let mut parts = SmallVec::new(alloc);
-    let mut flows = Vec::new(alloc);
+    let mut parts = SmallVec::with_capacity(alloc, shown.len())?;
+    let mut flows = Vec::with_capacity(alloc, all.len())?;
     let mut from = 0;
     for at in 0..shown.len() {
         let part = shown[at];
@@ -186,6 +186,7 @@ fn name_places(
     requires { (p : ℕ) → Contains places.now p → p < length names.now }
     ensures { OnOk result (order.new.items ≡ order.old.items ++ map (slice_index names.now) places.now) }
 {
+    order.reserve_exact(places.len())?;
     for at in 0..places.len() {
         order.push(names[places[at]])?;
     }

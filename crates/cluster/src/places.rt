@@ -1,4 +1,4 @@
-ghost use Rattle.std.specs.Prelude.{◌≡◌, ℕ, ◌*◌, ◌+◌, ◌<◌, ◌≤◌, ◌++◌, ◌↔◌, true, length, slice_index, map, Contains, OnOk};
+ghost use Rattle.std.specs.Prelude.{◌≡◌, ℕ, ◌*◌, ◌+◌, ◌<◌, ◌≤◌, ◌++◌, ◌↔◌, true, length, slice_index, map, Contains, IfOk, OnOk};
 ghost use Rattle.std.specs.FinSet as set;
 ghost use Rattle.lists.specs.Distinct.{AreDistinct};
 ghost use Rattle.bitset.specs.Places.{IsWithin, places};
@@ -9,6 +9,7 @@ use bitset::Bits;
 use graphs::{IdBuf, TxId};
 use outside::NoMemory;
 use smallvec::SmallVec;
+use std::alloc::Global;
 
 /// Where a name stands.
 pub(crate) fn place_of(names: &[TxId], id: TxId) -> usize
@@ -48,10 +49,26 @@ pub(crate) fn copy_names<const W: usize>(
     ensures { OnOk result (names.new.items ≡ names.old.items ++ map (slice_index from.now)
         (places (64 * W) chosen.now)) }
 {
+    names.reserve_exact(chosen.count())?;
     for place in chosen.iter() {
         names.push(from[place])?;
     }
     Ok(())
+}
+
+/// The names of two clusters, those of the first before those of the second.
+pub(crate) fn both_names(
+    alloc: Global,
+    first: &[TxId],
+    second: &[TxId],
+) -> Result<SmallVec<TxId, 2>, NoMemory>
+    ensures { IfOk result (λ names. names.items ≡ first.now ++ second.now) }
+{
+    let count = first.len().checked_add(second.len()).ok_or(NoMemory)?;
+    let mut names = SmallVec::with_capacity(alloc, count)?;
+    names.extend_from_slice(first)?;
+    names.extend_from_slice(second)?;
+    Ok(names)
 }
 
 /// Leaves the names of some places in `out`, in rising order.

@@ -18,6 +18,6 @@ loop-place-preserved g c = record {
       let named = slice_index c.args.from.now in
       c.in_ok-push.ensures.ok
       ∙ ap (λ (xs : List ℕ). xs ++ named c.in-Some.place ∷ []) c.loop-place.invariant.copied
-      ∙ append_assoc c.args.names.now.items (map named c.loop-place.yielded) (named c.in-Some.place ∷ [])
-      ∙ ap (λ (xs : List ℕ). c.args.names.now.items ++ xs) (sym (map_push named c.loop-place.yielded c.in-Some.place));
+      ∙ append_assoc c.reserve_exact.new.self.items (map named c.loop-place.yielded) (named c.in-Some.place ∷ [])
+      ∙ ap (λ (xs : List ℕ). c.reserve_exact.new.self.items ++ xs) (sym (map_push named c.loop-place.yielded c.in-Some.place));
 }

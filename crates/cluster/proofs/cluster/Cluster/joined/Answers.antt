@@ -27,24 +27,24 @@ merge-requires g c =
 
 pub place_of-above-requires : goal.place_of-above-requires
 place_of-above-requires g c =
-    let items : c.extend_from_slice.new.self.items ≡ c.self.inside.names.items ++ c.other.inside.names.items =
-    c.in_ok-extend_from_slice.ensures.ok ∙ ap₂ {A = List ℕ} {B = List ℕ} (λ xs ys. xs ++ ys) (c.in_ok-names.ensures.ok ∙ c.as_slice.ensures) c.as_slice-2.ensures in
+    let items : c.in_ok-names.names.items ≡ c.self.inside.names.items ++ c.other.inside.names.items =
+    c.in_ok-names.ensures ∙ ap₂ {A = List ℕ} {B = List ℕ} (λ xs ys. xs ++ ys) c.as_slice.ensures c.as_slice-2.ensures in
     subst (λ (xs : List ℕ). Contains xs c.args.parent) (sym (c.as_slice-3.ensures ∙ items))
     (in_both c.self.inside.names.items c.other.inside.names.items c.args.parent c.args.child
     (subst₂ (λ (s t : Cluster). AreAcross s.names t.names c.args.parent c.args.child) (sym c.self.view_is) (sym c.other.view_is) c.requires.across)).0
 
 pub place_of-below-requires : goal.place_of-below-requires
 place_of-below-requires g c =
-    let items : c.extend_from_slice.new.self.items ≡ c.self.inside.names.items ++ c.other.inside.names.items =
-    c.in_ok-extend_from_slice.ensures.ok ∙ ap₂ {A = List ℕ} {B = List ℕ} (λ xs ys. xs ++ ys) (c.in_ok-names.ensures.ok ∙ c.as_slice.ensures) c.as_slice-2.ensures in
+    let items : c.in_ok-names.names.items ≡ c.self.inside.names.items ++ c.other.inside.names.items =
+    c.in_ok-names.ensures ∙ ap₂ {A = List ℕ} {B = List ℕ} (λ xs ys. xs ++ ys) c.as_slice.ensures c.as_slice-2.ensures in
     subst (λ (xs : List ℕ). Contains xs c.args.child) (sym (c.as_slice-4.ensures ∙ items))
     (in_both c.self.inside.names.items c.other.inside.names.items c.args.parent c.args.child
     (subst₂ (λ (s t : Cluster). AreAcross s.names t.names c.args.parent c.args.child) (sym c.self.view_is) (sym c.other.view_is) c.requires.across)).1
 
 pub add_dep-requires : goal.add_dep-requires
 add_dep-requires g c =
-    let items : c.extend_from_slice.new.self.items ≡ c.self.inside.names.items ++ c.other.inside.names.items =
-    c.in_ok-extend_from_slice.ensures.ok ∙ ap₂ {A = List ℕ} {B = List ℕ} (λ xs ys. xs ++ ys) (c.in_ok-names.ensures.ok ∙ c.as_slice.ensures) c.as_slice-2.ensures in
+    let items : c.in_ok-names.names.items ≡ c.self.inside.names.items ++ c.other.inside.names.items =
+    c.in_ok-names.ensures ∙ ap₂ {A = List ℕ} {B = List ℕ} (λ xs ys. xs ++ ys) c.as_slice.ensures c.as_slice-2.ensures in
     let asks = join_asks (64 * g.row.W) c.self.inside.names.items c.other.inside.names.items c.self.inside.dep c.other.inside.dep c.in_ok-dep.dep c.self.invariant.place c.other.invariant.place
     (subst₂ (λ (s t : Cluster). length s.names + length t.names ≤ 64 * g.row.W) (sym c.self.view_is) (sym c.other.view_is) c.requires.few)
     (subst₂ AreApart (sym c.self.view_is) (sym c.other.view_is) c.requires.apart) c.in_ok-dep.ensures c.place_of-above.result c.place_of-below.result c.args.parent c.args.child
@@ -68,21 +68,6 @@ returns-in_err-names-clause-steps g c = no_step _ _
 pub returns-in_err-names-clause-least : goal.returns-in_err-names-clause-least
 returns-in_err-names-clause-least g c = IfOk-from_err c.from_residual.result _ c.from_residual.ensures.0
 
-pub returns-in_err-extend_from_slice-clause-names : goal.returns-in_err-extend_from_slice-clause-names
-returns-in_err-extend_from_slice-clause-names g c = IfOk-from_err c.from_residual-in_err-extend_from_slice.result _ c.from_residual-in_err-extend_from_slice.ensures.0
-
-pub returns-in_err-extend_from_slice-clause-graph : goal.returns-in_err-extend_from_slice-clause-graph
-returns-in_err-extend_from_slice-clause-graph g c = IfOk-from_err c.from_residual-in_err-extend_from_slice.result _ c.from_residual-in_err-extend_from_slice.ensures.0
-
-pub returns-in_err-extend_from_slice-clause-whole : goal.returns-in_err-extend_from_slice-clause-whole
-returns-in_err-extend_from_slice-clause-whole g c = IfOk-from_err c.from_residual-in_err-extend_from_slice.result _ c.from_residual-in_err-extend_from_slice.ensures.0
-
-pub returns-in_err-extend_from_slice-clause-steps : goal.returns-in_err-extend_from_slice-clause-steps
-returns-in_err-extend_from_slice-clause-steps g c = no_step _ _
-
-pub returns-in_err-extend_from_slice-clause-least : goal.returns-in_err-extend_from_slice-clause-least
-returns-in_err-extend_from_slice-clause-least g c = IfOk-from_err c.from_residual-in_err-extend_from_slice.result _ c.from_residual-in_err-extend_from_slice.ensures.0
-
 pub returns-in_err-dep-clause-names : goal.returns-in_err-dep-clause-names
 returns-in_err-dep-clause-names g c = IfOk-from_err c.from_residual-in_err-dep.result _ c.from_residual-in_err-dep.ensures.0
 
@@ -100,8 +85,8 @@ returns-in_err-dep-clause-least g c = IfOk-from_err c.from_residual-in_err-dep.r
 
 pub certified-requires : goal.certified-requires
 certified-requires g c =
-    let items : c.extend_from_slice.new.self.items ≡ c.self.inside.names.items ++ c.other.inside.names.items =
-    c.in_ok-extend_from_slice.ensures.ok ∙ ap₂ {A = List ℕ} {B = List ℕ} (λ xs ys. xs ++ ys) (c.in_ok-names.ensures.ok ∙ c.as_slice.ensures) c.as_slice-2.ensures in (
+    let items : c.in_ok-names.names.items ≡ c.self.inside.names.items ++ c.other.inside.names.items =
+    c.in_ok-names.ensures ∙ ap₂ {A = List ℕ} {B = List ℕ} (λ xs ys. xs ++ ys) c.as_slice.ensures c.as_slice-2.ensures in (
       grind arith,
       (
         grind arith,
@@ -120,36 +105,36 @@ certified-requires g c =
 
 pub returns-clause-names : goal.returns-clause-names
 returns-clause-names g c =
-    let items : c.extend_from_slice.new.self.items ≡ c.self.inside.names.items ++ c.other.inside.names.items =
-    c.in_ok-extend_from_slice.ensures.ok ∙ ap₂ {A = List ℕ} {B = List ℕ} (λ xs ys. xs ++ ys) (c.in_ok-names.ensures.ok ∙ c.as_slice.ensures) c.as_slice-2.ensures in
-    one_ok c.certified.result (λ k. k.names ≡ c.extend_from_slice.new.self.items) (λ k. k.names ≡ c.args.self.now.names ++ c.args.other.now.names)
+    let items : c.in_ok-names.names.items ≡ c.self.inside.names.items ++ c.other.inside.names.items =
+    c.in_ok-names.ensures ∙ ap₂ {A = List ℕ} {B = List ℕ} (λ xs ys. xs ++ ys) c.as_slice.ensures c.as_slice-2.ensures in
+    one_ok c.certified.result (λ k. k.names ≡ c.in_ok-names.names.items) (λ k. k.names ≡ c.args.self.now.names ++ c.args.other.now.names)
     (λ k names. names ∙ items ∙ ap₂ {A = List ℕ} {B = List ℕ} (λ xs ys. xs ++ ys) (ap (λ (s : Cluster). s.names) c.self.view_is) (ap (λ (s : Cluster). s.names) c.other.view_is)) c.certified.ensures.names
 
 pub returns-clause-graph : goal.returns-clause-graph
 returns-clause-graph g c =
-    let items : c.extend_from_slice.new.self.items ≡ c.self.inside.names.items ++ c.other.inside.names.items =
-    c.in_ok-extend_from_slice.ensures.ok ∙ ap₂ {A = List ℕ} {B = List ℕ} (λ xs ys. xs ++ ys) (c.in_ok-names.ensures.ok ∙ c.as_slice.ensures) c.as_slice-2.ensures in
+    let items : c.in_ok-names.names.items ≡ c.self.inside.names.items ++ c.other.inside.names.items =
+    c.in_ok-names.ensures ∙ ap₂ {A = List ℕ} {B = List ℕ} (λ xs ys. xs ++ ys) c.as_slice.ensures c.as_slice-2.ensures in
     let made = join_graph (64 * g.row.W) c.self.inside.names.items c.other.inside.names.items c.self.inside.dep c.other.inside.dep c.in_ok-dep.dep c.self.invariant.place c.other.invariant.place
     (subst₂ (λ (s t : Cluster). length s.names + length t.names ≤ 64 * g.row.W) (sym c.self.view_is) (sym c.other.view_is) c.requires.few)
     (subst₂ AreApart (sym c.self.view_is) (sym c.other.view_is) c.requires.apart) c.in_ok-dep.ensures c.place_of-above.result c.place_of-below.result c.args.parent c.args.child
     (at_in c.as_slice-3.result.now (c.self.inside.names.items ++ c.other.inside.names.items) c.place_of-above.result c.args.parent (c.as_slice-3.ensures ∙ items) c.place_of-above.ensures.within c.place_of-above.ensures.here)
     (at_in c.as_slice-4.result.now (c.self.inside.names.items ++ c.other.inside.names.items) c.place_of-below.result c.args.child (c.as_slice-4.ensures ∙ items) c.place_of-below.ensures.within c.place_of-below.ensures.here)
     (subst₂ (λ (s t : Cluster). AreAcross s.names t.names c.args.parent c.args.child) (sym c.self.view_is) (sym c.other.view_is) c.requires.across) c.add_dep.new.self c.add_dep.ensures in
-    one_ok c.certified.result (λ k. k.graph ≡ named c.extend_from_slice.new.self.items c.add_dep.new.self) (λ k. Joins c.args.self.now.graph c.args.other.now.graph c.args.parent c.args.child k.graph)
+    one_ok c.certified.result (λ k. k.graph ≡ named c.in_ok-names.names.items c.add_dep.new.self) (λ k. Joins c.args.self.now.graph c.args.other.now.graph c.args.parent c.args.child k.graph)
     (λ k graph. subst (Joins c.args.self.now.graph c.args.other.now.graph c.args.parent c.args.child) (sym (graph ∙ ap (λ (xs : List ℕ). named xs c.add_dep.new.self) items))
     (subst₂ (λ (s t : Cluster). Joins s.graph t.graph c.args.parent c.args.child (named (c.self.inside.names.items ++ c.other.inside.names.items) c.add_dep.new.self)) c.self.view_is c.other.view_is made)) c.certified.ensures.graph
 
 pub returns-clause-steps : goal.returns-clause-steps
 returns-clause-steps g c =
-    let items : c.extend_from_slice.new.self.items ≡ c.self.inside.names.items ++ c.other.inside.names.items =
-    c.in_ok-extend_from_slice.ensures.ok ∙ ap₂ {A = List ℕ} {B = List ℕ} (λ xs ys. xs ++ ys) (c.in_ok-names.ensures.ok ∙ c.as_slice.ensures) c.as_slice-2.ensures in
+    let items : c.in_ok-names.names.items ≡ c.self.inside.names.items ++ c.other.inside.names.items =
+    c.in_ok-names.ensures ∙ ap₂ {A = List ℕ} {B = List ℕ} (λ xs ys. xs ++ ys) c.as_slice.ensures c.as_slice-2.ensures in
     subst (λ (n : ℕ). GrowsWithin (most_steps n) c.args.steps.now c.certified.new.steps)
     (both_long c.self.inside.names.items c.other.inside.names.items items (ap (λ (s : Cluster). length s.names) c.self.view_is) (ap (λ (s : Cluster). length s.names) c.other.view_is)) c.certified.ensures.steps
 
 pub returns-clause-least : goal.returns-clause-least
 returns-clause-least g c =
-    let items : c.extend_from_slice.new.self.items ≡ c.self.inside.names.items ++ c.other.inside.names.items =
-    c.in_ok-extend_from_slice.ensures.ok ∙ ap₂ {A = List ℕ} {B = List ℕ} (λ xs ys. xs ++ ys) (c.in_ok-names.ensures.ok ∙ c.as_slice.ensures) c.as_slice-2.ensures in
+    let items : c.in_ok-names.names.items ≡ c.self.inside.names.items ++ c.other.inside.names.items =
+    c.in_ok-names.ensures ∙ ap₂ {A = List ℕ} {B = List ℕ} (λ xs ys. xs ++ ys) c.as_slice.ensures c.as_slice-2.ensures in
     subst (λ (n : ℕ). OnOk c.certified.result (c.args.steps.now + least_steps n ≤ c.certified.new.steps))
     (both_long c.self.inside.names.items c.other.inside.names.items items (ap (λ (s : Cluster). length s.names) c.self.view_is) (ap (λ (s : Cluster). length s.names) c.other.view_is)) c.certified.ensures.least
 
