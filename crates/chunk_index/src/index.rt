@@ -9,7 +9,8 @@ use crate::Level;
 use crate::entry::{Entry, Tag};
 use crate::slot::{Place, Slot, put_in};
 use crate::sort_key::SortKey;
-use crate::tree::{Node, Tree};
+use crate::spares::Spares;
+use crate::tree::Tree;
 use crate::walk::{IndexWalk, Wanted};
 use outside::NoMemory;
 use std::alloc::Global;
@@ -26,6 +27,8 @@ pub struct ChunkIndex {
     main: Tree,
     // Those of staging alone.
     top: Tree,
+    // Nodes of entries that went out.
+    spares: Spares,
 }
 
 impl Model for ChunkIndex {
@@ -49,6 +52,7 @@ impl ChunkIndex {
             slots: BTreeMap::new(alloc),
             main: Tree::new(),
             top: Tree::new(),
+            spares: Spares::new(alloc),
         }
     }
 
@@ -71,7 +75,7 @@ impl ChunkIndex {
     {
         // No tree has more entries than the map.
         prove!(self.slots.len() < usize::MAX);
-        let node = Box::new(self.alloc, Node::spare(entry))?;
+        let node = self.spares.node(self.alloc, entry)?;
         match tag {
             Tag::Both => insert_slot(&mut self.slots, entry, Place::Both(node))?,
             Tag::MainOnly => {
@@ -95,7 +99,8 @@ impl ChunkIndex {
         let Some(mut slot) = self.slots.remove(&key) else {
             unreachable!()
         };
-        slot.leave(&key, &mut self.main, &mut self.top);
+        self.spares
+            .keep(slot.leave(&key, &mut self.main, &mut self.top));
     }
 
     /// Changes the tag of the entry of that entry's key, which is there. Takes no memory.

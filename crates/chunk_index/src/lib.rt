@@ -3,7 +3,8 @@
 //! Contracts see an index as the list of its entries with their tags, in strict key order: falling rate by exact products,
 //! then rising serial, position and size. All entries stand in an ordered map; those of main alone, and those of staging
 //! alone, stand in a tree of their own as well. The node for it was made with the entry, and lies in the map while the
-//! entry is in both levels. So only an insertion takes memory, and a walk over one level alone sees nothing else.
+//! entry is in both levels. So only an insertion takes memory, and a walk over one level alone sees nothing else. Nodes of
+//! entries that go out are kept for some that come.
 #![tactic(auto)]
 
 mod ahead;
@@ -13,6 +14,7 @@ mod key;
 mod laws;
 mod slot;
 mod sort_key;
+mod spares;
 mod tree;
 mod walk;
 

@@ -8,8 +8,8 @@ use Rattle.chunk_index.specs.Slots.{items_of, IsKept}
 use Rattle.chunk_index.proofs.Kept.{main-order, top-order, main-fits, top-fits, main-lacks, top-lacks, put-items, put-kept}
 use Rattle.chunk_index.proofs.index.ChunkIndex.insert.Goals as goal
 
-pub invariant_of-self : goal.invariant_of-self
-invariant_of-self c =
+pub invariant_of-self-in-Continue-branch-2 : goal.invariant_of-self-in-Continue-branch-2
+invariant_of-self-in-Continue-branch-2 c =
     put-kept c.self.inside.slots.entries c.self.inside.main c.self.inside.top c.self.invariant c.insert_slot.new.slots.entries c.args.entry _
     (ap (λ (items : Items). has items c.args.entry) c.self.view_is ∙ c.requires) c.in_ok-insert_slot-in-Both.ensures.ok c.insert_slot.ensures.order
 
