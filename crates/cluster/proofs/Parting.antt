@@ -1,7 +1,8 @@
 -- A part by its position.
-use Rattle.std.proofs.Common.{◌≡◌, ℕ, zero, suc, ◌+◌, ◌-◌, ◌<◌, ◌≤◌, List, [], ◌∷◌, length, map, take, drop, get_or, slice_index, slice_index_or, refl, sym, ap, ap₂, ◌∙◌, arith, zero-add, Some}
+use Rattle.std.proofs.Common.{◌≡◌, ℕ, zero, suc, ◌+◌, ◌-◌, ◌<◌, ◌≤◌, List, [], ◌∷◌, length, map, take, drop, get_or, slice_index, slice_index_or, refl, sym, ap, ap₂, ◌∙◌, subst, arith, zero-add, Some}
 use Rattle.std.specs.Prelude.{slice_get}
 use Rattle.std.proofs.lemmas.List.{length-map, get_or-map}
+use Rattle.std.proofs.lemmas.Option.{get_or_from_slice_get}
 use Rattle.graphs.specs.declared.names.Flow.{Flow}
 use Rattle.graphs.specs.Certificates.{Part}
 use Rattle.fee_rate.specs.declared.rates.Sum.{Sum}
@@ -14,6 +15,12 @@ use Rattle.cluster.proofs.Reading.{no_part}
 module _ (ends : List PartEnd) (order : List ℕ) (flows : List Flow) (ps : List Part) (so : AreCut ends order flows ps) where
   pub ends_long : length ends ≡ length ps
   ends_long = sym (length-map ends sum_in) ∙ ap length so.rates_are ∙ length-map ps (λ (part : Part). part.rate)
+
+  pub rate_at : (at : ℕ) (d : PartEnd) (rate : Sum) (part : Part) → at < length ps → rate ≡ sum_in (slice_index_or ends at d) → slice_get ps at ≡ Some part → rate ≡ part.rate
+  rate_at at d rate part below rate_is there =
+      let low : at < length ends = subst (λ (n : ℕ). at < n) (sym ends_long) below in
+      rate_is ∙ sym (get_or-map sum_in ends at d no_part.rate low) ∙ ap (λ (rates : List Sum). get_or rates at no_part.rate) so.rates_are
+      ∙ get_or-map (λ (q : Part). q.rate) ps at no_part no_part.rate below ∙ ap (λ (q : Part). q.rate) (get_or_from_slice_get ps at part no_part there)
 
   module _ (at : ℕ) (d : PartEnd) (low : at < length ends) where
     inside : at < length ps

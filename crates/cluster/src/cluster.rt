@@ -282,6 +282,17 @@ impl<const W: usize> Cluster<W> {
         }
     }
 
+    /// The fee in satoshis and the size in virtual bytes of the part at a position.
+    pub fn part_rate(&self, at: usize) -> FeeRate
+        requires { at < length self.now.parts }
+        ensures { (part : Part) → slice_get self.now.parts at ≡ Some part → sum_from result ≡ part.rate }
+    {
+        let _names = &self.names;
+        let _dep = &self.dep;
+        let parts = self.order.parts.as_slice();
+        rate_in(parts[at])
+    }
+
     /// The position of the part that has a name of the cluster.
     pub fn part_of(&self, id: TxId) -> usize
         requires { Contains self.now.names id }
