@@ -16,7 +16,7 @@ pub fn entry_of<const W: usize>(number: usize, cluster: &Cluster<W>, at: usize) 
     ensures { (part : Part) → slice_get cluster.now.parts at ≡ Some part → key_of result ≡ key_part number at part }
 {
     Entry {
-        rate: cluster.part(at).rate,
+        rate: cluster.part_rate(at),
         serial: number as u64,
         position: at,
         number,
@@ -29,7 +29,7 @@ fn stays<const W: usize>(other: Option<&Cluster<W>>, at: usize, rate: FeeRate) -
 {
     match other {
         None => false,
-        Some(other) => at < other.part_count() && other.part(at).rate == rate,
+        Some(other) => at < other.part_count() && other.part_rate(at) == rate,
     }
 }
 
