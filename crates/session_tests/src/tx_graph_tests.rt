@@ -313,6 +313,59 @@ fn each_sequence<L: Ledger>(
     settled(rt, alloc, out, steps)
 }
 
+// Rows on a chain of the names 1 to 64, each with its name as its fee, and how many steps they add: at least and at most.
+const ON_A_CHAIN: [(Row, u64, u64); 11] = [
+    (Row::Does(Call::Add(65, 65, 1)), 0, 486),
+    (Row::Does(Call::Dep(1, 2)), 0, 0),
+    (Row::Does(Call::Dep(1, 64)), 0, 0),
+    (Row::Does(Call::Fee(64, 64)), 0, 0),
+    (Row::Refuses(Call::Limits(1, 1, 1), Refusal::Late), 0, 0),
+    (Row::Refuses(Call::Add(3, 3, 1), Refusal::Taken), 0, 0),
+    (Row::Refuses(Call::Dep(64, 1), Refusal::Cycle), 0, 0),
+    (Row::Refuses(Call::Dep(64, 65), Refusal::Count(65)), 0, 0),
+    (Row::Refuses(Call::Fee(64, i64::MIN), Refusal::Fee), 0, 0),
+    (Row::Refuses(Call::Remove(66), Refusal::Unknown(66)), 0, 0),
+    (Row::Does(Call::Fee(64, 1000)), 64, 2_504_665_152),
+];
+
+// Makes one chain of the names 1 to 64, each with its name as its fee.
+fn chain<L: Ledger>(rt: &impl Abort, graph: &mut Graph, out: &mut IdBuf, steps: &mut Steps<L>) {
+    does(rt, graph, Call::Add(1, 1, 1), out, steps);
+    for id in 2..65u64 {
+        does(rt, graph, Call::Add(id, id as i64, 1), out, steps);
+        does(rt, graph, Call::Dep(id - 1, id), out, steps);
+    }
+}
+
+// Runs rows, and compares how many steps each adds.
+fn count_steps<K: ledger::Ledger>(
+    rt: &impl Abort,
+    graph: &mut Graph,
+    rows: &[(Row, u64, u64)],
+    out: &mut IdBuf,
+    steps: &mut Steps<Counted<K>>,
+) {
+    for (row, least, most) in rows {
+        let before = steps.ledger().shown();
+        run(rt, graph, *row, out, steps);
+        let added = steps.ledger().shown().saturating_sub(before);
+        assert!(rt; *least <= added && added <= *most);
+    }
+}
+
+fn counted<K: ledger::Ledger>(
+    rt: &impl Abort,
+    alloc: Global,
+    out: &mut IdBuf,
+    steps: &mut Steps<Counted<K>>,
+) -> Result<(), Fail> {
+    let mut graph = begun(alloc, false)?;
+    chain(rt, &mut graph, out, steps);
+    count_steps(rt, &mut graph, &ON_A_CHAIN, out, steps);
+    done(graph);
+    Ok(())
+}
+
 fn sequences<K: ledger::Ledger>(rt: &impl Abort, alloc: Global, blank: Blank) -> Result<(), Fail>
     requires name { blank.name ≡ K.name }
     requires parts { blank.parts ≡ K.parts }
@@ -320,7 +373,8 @@ fn sequences<K: ledger::Ledger>(rt: &impl Abort, alloc: Global, blank: Blank) ->
 {
     let mut steps = Steps::new(Counted::<K>::new(blank));
     let mut out = IdBuf::new(alloc, 128)?;
-    each_sequence(rt, alloc, &mut out, &mut steps)
+    each_sequence(rt, alloc, &mut out, &mut steps)?;
+    counted(rt, alloc, &mut out, &mut steps)
 }
 
 #[test]
