@@ -1,5 +1,5 @@
 -- What each change of the map of slots is on the items that its entries stand for.
-use Rattle.std.proofs.Common.{◌≡◌, Bool, true, false, cond, ◌||◌, List, [], ◌∷◌, map, length, Option, Some, None, is_some, unwrap_or, refl, sym, ap, ◌∙◌, arith}
+use Rattle.std.proofs.Common.{◌≡◌, ℕ, Bool, true, false, cond, ◌||◌, List, [], ◌∷◌, map, length, Option, Some, None, is_some, unwrap_or, refl, sym, ap, ◌∙◌, arith}
 use Rattle.std.specs.List.{AllByRecursion}
 use Rattle.std.specs.List.Sorted.{IsStrictlySortedBy}
 use Rattle.std.specs.declared.cmp.Ordering.{Ordering}
@@ -14,6 +14,7 @@ use Rattle.chunk_index.specs.declared.slot.Slot.{Slot}
 use Rattle.chunk_index.specs.KeyOrder.{key_cmp}
 use Rattle.chunk_index.specs.KeyLaws.{level_keys}
 use Rattle.chunk_index.specs.Keys.{IsInOrder, has_key, before, behind, put, without}
+use Rattle.chunk_index.specs.Items as items
 use Rattle.chunk_index.specs.Items.{Items, item_key, AreInOrder, tag_set}
 use Rattle.chunk_index.specs.Slots.{tag_of, entry_from, item_of}
 use Rattle.chunk_index.proofs.Lists.{turned, IsCut, cut, put-low, put-high, without-level, has-level, put-level, has-low, has-high, lacks-level, neither, unequal}
@@ -199,3 +200,18 @@ items-set (e ∷ es) k v w order at number = by (key_cmp k e.0) refl (items-set 
         ∙ ap (λ (s : Items). (entry_from e.0 e.1.number, tag_of w.place) ∷ s) (sym (tag-none k (tag_of w.place) (items_of es)
         (lacks-level item_key [] (item_of e) (items_of es) c k is))))
     by Greater is rest = other Greater is refl rest
+
+-- ---- a key under which something is found is there
+pub has-found : (k : Key) (xs : Items) (x : ℕ × Tag) → items.found xs k ≡ Some x → has_key item_key xs k ≡ true
+unfolding has_key items.found
+has-found k [] x at = absurd (none_some at)
+  where
+    none_some : None ≡ Some x → ⊥
+    none_some e = cc
+has-found k (i ∷ xs) x at = by (is_eq (key_cmp (item_key i) k)) refl (has-found k xs x)
+  where
+    by : (here : Bool) → is_eq (key_cmp (item_key i) k) ≡ here → (items.found xs k ≡ Some x → has_key item_key xs k ≡ true)
+        → has_key item_key (i ∷ xs) k ≡ true
+    by true is rest = rw is refl
+    by false is rest =
+        rw is (rest (sym (ap (λ b. cond b (Some (i.0.number, i.1)) (items.found xs k)) is) ∙ at))

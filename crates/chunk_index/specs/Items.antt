@@ -1,6 +1,6 @@
 -- The model of an index: its entries, each with its tag, in strict key order; what each change leaves of them, and which of them stand in a
 -- level or have one tag.
-use Rattle.std.specs.Prelude.{Bool, true, false, cond, List, map}
+use Rattle.std.specs.Prelude.{◌≡◌, ℕ, Bool, true, false, cond, List, [], ◌∷◌, map, Option, None, Some}
 use Rattle.std.specs.List.{filter}
 use Rattle.std.specs.Ordering.{is_eq}
 use Rattle.graphs.specs.declared.names.Level.{Level}
@@ -25,6 +25,15 @@ AreInOrder = IsInOrder item_key
 -- whether an entry of e's key is there
 abbrev pub has : Items → Entry → Bool
 has items e = has_key item_key items (key_of e)
+
+-- the number of the record and the tag of the entry of a key
+unfoldable pub found : Items → Key → Option (ℕ × Tag)
+found [] k = None
+found (i ∷ items) k = cond (is_eq (key_cmp (item_key i) k)) (Some (i.0.number, i.1)) (found items k)
+
+-- the entry is there, its record's number included
+abbrev pub HasEntry : Items → Entry → Type 0
+HasEntry items e = (t : Tag) × (found items (key_of e) ≡ Some (e.number, t))
 
 -- with e in its place, under the tag t
 abbrev pub with_entry : Items → Entry → Tag → Items

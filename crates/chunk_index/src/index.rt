@@ -3,7 +3,7 @@ ghost use Rattle.std.specs.BTreeMap.{insert_entry, IsOrdered};
 ghost use Rattle.chunk_index.specs.declared.entry.Tag.TheVariants.{Both};
 ghost use Rattle.chunk_index.specs.KeyOrder.{key_cmp};
 ghost use Rattle.chunk_index.specs.Keys.{key_of, not_before};
-ghost use Rattle.chunk_index.specs.Items.{AreInOrder, has, with_entry, without_entry, with_tag, entries_in, entries_tagged};
+ghost use Rattle.chunk_index.specs.Items.{AreInOrder, HasEntry, has, with_entry, without_entry, with_tag, entries_in, entries_tagged};
 
 use crate::Level;
 use crate::entry::{Entry, Tag};
@@ -103,9 +103,9 @@ impl ChunkIndex {
             .keep(slot.leave(&key, &mut self.main, &mut self.top));
     }
 
-    /// Changes the tag of the entry of that entry's key, which is there. Takes no memory.
+    /// Changes the tag of an entry, which is there, its record's number included. Takes no memory.
     pub fn retag(&mut self, entry: &Entry, tag: Tag)
-        requires { has self.old entry.now ≡ true }
+        requires { HasEntry self.old entry.now }
         ensures { self.new ≡ with_tag self.old entry.now tag }
     {
         // No tree has more entries than the map.

@@ -7,7 +7,7 @@ use Rattle.chunk_index.specs.declared.key.Key.{Key}
 use Rattle.chunk_index.specs.Keys.{key_of}
 use Rattle.chunk_index.specs.Items.{Items, has, same_tag, tag_set, with_tag}
 use Rattle.chunk_index.specs.Slots.{tag_of, entry_from, items_of, moved, IsKept}
-use Rattle.chunk_index.proofs.Maps.{test}
+use Rattle.chunk_index.proofs.Maps.{test, has-found}
 use Rattle.chunk_index.proofs.Kept.{main-order, top-order, main-fits, top-fits, main-has, top-has, never_lost, tag-items, tag-kept}
 use Rattle.chunk_index.proofs.index.ChunkIndex.retag.Goals as goal
 
@@ -49,7 +49,7 @@ invariant_of-self c =
 pub unreachable-requires : goal.unreachable-requires
 unreachable-requires c =
     never_lost c.self.inside.slots.entries c.self.inside.main c.self.inside.top c.self.invariant (key_of c.args.entry.now)
-    (ap (λ (items : Items). has items c.args.entry.now) c.self.view_is ∙ c.requires)
+    (ap (λ (items : Items). has items c.args.entry.now) c.self.view_is ∙ has-found (key_of c.args.entry.now) c.args.self.now _ c.requires.1)
     (ap (λ (k : Key). lookup (test k) c.self.inside.slots.entries) (sym c.of-key.ensures) ∙ sym c.in-None.ensures.value)
 
 pub returns : goal.returns
