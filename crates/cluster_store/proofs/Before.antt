@@ -1,5 +1,5 @@
 -- Which of two parts walks show first, and where the parts and the names of a cluster stand among those of a level.
-use Rattle.std.proofs.Common.{◌≡◌, ◌↔◌, ◌⊎◌, ℕ, ◌+◌, ◌<◌, ◌≤◌, Bool, true, cond, List, ◌++◌, ◌∷◌, map, flat_map, length, get_or, Contains, Option, arith, inl, inr, sym, ap, ap₂, ◌∙◌, subst, subst₂}
+use Rattle.std.proofs.Common.{◌≡◌, ◌↔◌, ◌⊎◌, ℕ, ◌+◌, ◌<◌, Bool, true, cond, List, ◌++◌, ◌∷◌, map, flat_map, length, get_or, Contains, Option, arith, inl, inr, sym, ap, ap₂, ◌∙◌, subst}
 use Rattle.std.proofs.lemmas.List.{map-append, append_assoc}
 use Rattle.std.proofs.lemmas.List.Elements.{Contains-append_cases, Contains-append_left, Contains-append_right, filter-append}
 use Rattle.std.proofs.lemmas.List.Folds.{flat_map-map}

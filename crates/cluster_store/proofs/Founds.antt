@@ -1,5 +1,5 @@
 -- What a look-up of a key finds after each change of an index.
-use Rattle.std.proofs.Common.{◌≡◌, Bool, true, false, cond, [], ◌∷◌, ◌++◌, Option, Some, None, is_some, refl, sym, ap, ◌∙◌}
+use Rattle.std.proofs.Common.{◌≡◌, ℕ, Bool, true, false, cond, ◌||◌, [], ◌∷◌, ◌++◌, Option, Some, None, is_some, refl, sym, ap, ◌∙◌}
 use Rattle.std.specs.List.{filter}
 use Rattle.std.specs.declared.cmp.Ordering.{Ordering}
 use Rattle.std.specs.declared.cmp.Ordering.TheVariants.{Less, Equal, Greater}
@@ -11,8 +11,9 @@ use Rattle.chunk_index.specs.declared.key.Key.{Key}
 use Rattle.chunk_index.specs.KeyOrder.{key_cmp}
 use Rattle.chunk_index.specs.KeyLaws.{key_cmp_total, level_keys}
 use Rattle.chunk_index.specs.Keys.{key_of, has_key, before, behind, put, without}
-use Rattle.chunk_index.specs.Items.{Items, item_key, has, with_entry, without_entry, with_tag, tag_set}
-use Rattle.cluster_store.specs.Kept.{same_key, found}
+use Rattle.chunk_index.specs.Items as indexes
+use Rattle.chunk_index.specs.Items.{Items, HasEntry, item_key, has, with_entry, without_entry, with_tag, tag_set}
+use Rattle.cluster_store.specs.Kept.{same_key, found, AreNumbered}
 
 pub same_is : (k l : Key) → same_key k l ≡ true → k ≡ l
 same_is k l s = level_keys k l ((Equal-is (key_cmp k l)).0 s)
@@ -129,3 +130,20 @@ has-found (x ∷ xs) e = by (same_key (item_key x) (key_of e)) refl (has-found x
     by : (b : Bool) → same_key (item_key x) (key_of e) ≡ b → has xs e ≡ is_some (found xs (key_of e)) → has (x ∷ xs) e ≡ is_some (found (x ∷ xs) (key_of e))
     by true s rest = rw s refl
     by false s rest = rw s rest
+
+-- an entry whose key is there is there itself, where the serial of each entry is the number of its record
+pub found-entry : (items : Items) (e : Entry) → e.number ≡ e.serial → AreNumbered items → has items e ≡ true → HasEntry items e
+unfolding has_key indexes.found
+found-entry [] e own numbered there = absurd (apart there)
+  where
+    apart : false ≡ true → ⊥
+    apart e = cc
+found-entry (x ∷ xs) e own numbered there = by (same_key (item_key x) (key_of e)) refl (found-entry xs e own numbered.1)
+  where
+    by : (b : Bool) → same_key (item_key x) (key_of e) ≡ b → (has xs e ≡ true → HasEntry xs e) → HasEntry (x ∷ xs) e
+    by true s rest =
+        let number : x.0.number ≡ e.number = numbered.0 ∙ ap (λ (k : Key). k.serial) (same_is (item_key x) (key_of e) s) ∙ sym own in
+        (x.1, rw s (ap (λ (n : ℕ). Some (n, x.1)) number))
+    by false s rest =
+        let later : HasEntry xs e = rest (sym (ap (λ b. b || has xs e) s) ∙ there) in
+        (later.0, ap (λ b. cond b (Some (x.0.number, x.1)) (indexes.found xs (key_of e))) s ∙ later.1)

@@ -1,6 +1,5 @@
 -- The rates that entries have are those of the parts that they stand for.
 use Rattle.std.proofs.Common.{◌≡◌, ℕ, Bool, List, [], ◌∷◌, map, Contains, refl, sym, ap, ◌∙◌}
-use Rattle.fee_rate.specs.declared.rates.Sum.{Sum}
 use Rattle.lists.proofs.Entries.{Contains-head, Contains-later}
 use Rattle.chunk_index.specs.declared.entry.Entry.{Entry}
 use Rattle.chunk_index.specs.declared.entry.Tag.{Tag}

@@ -75,7 +75,7 @@ empty_kept : (w least : ℕ) → w ≤ 64 → IsKept w [] [] least
 unfolding found IsInOrder
 empty_kept w least narrow = record {
   narrow = narrow;
-  shown = record { sorted = tt; tags = λ k. refl };
+  shown = record { sorted = (tt, tt); tags = λ k. refl };
   whole = λ n s is. absurd (none-some s is);
   floor = λ n s is id here. absurd (none-some s is);
 }

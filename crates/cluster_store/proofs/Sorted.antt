@@ -1,5 +1,5 @@
--- An index stays in key order, whatever is put in, taken out or gets another tag.
-use Rattle.std.proofs.Common.{◌≡◌, Bool, true, false, cond, List, [], ◌∷◌, ◌++◌, map, refl, ap, ◌∙◌}
+-- An index stays in key order, by the numbers of clusters, whatever is put in, taken out or gets another tag.
+use Rattle.std.proofs.Common.{◌≡◌, Bool, true, false, cond, List, [], ◌∷◌, ◌++◌, map, refl, sym, ap, ◌∙◌, subst}
 use Rattle.std.specs.List.{AllByRecursion, filter}
 use Rattle.std.specs.declared.cmp.Ordering.{Ordering}
 use Rattle.std.specs.declared.cmp.Ordering.TheVariants.{Less, Equal, Greater}
@@ -10,7 +10,8 @@ use Rattle.chunk_index.specs.declared.key.Key.{Key}
 use Rattle.chunk_index.specs.KeyOrder.{key_cmp}
 use Rattle.chunk_index.specs.KeyLaws.{key_cmp_total}
 use Rattle.chunk_index.specs.Keys.{key_of, IsInOrder, before, behind, put, without}
-use Rattle.chunk_index.specs.Items.{Items, item_key, AreInOrder, with_entry, without_entry, with_tag, tag_set}
+use Rattle.chunk_index.specs.Items.{Items, item_key, with_entry, without_entry, with_tag, tag_set}
+use Rattle.cluster_store.specs.Kept.{AreListed, AreNumbered}
 
 false_true : false ≡ true → ⊥
 false_true e = cc
@@ -108,19 +109,38 @@ module _ {A : Type 0} (key : A → Key) where
 
 -- ---- indexes
 
-pub entry_in_order : (items : Items) (e : Entry) (t : Tag) → AreInOrder items → AreInOrder (with_entry items e t)
-entry_in_order items e t order = put_in_order item_key items (e, t) order
+pub entry_listed : (items : Items) (e : Entry) (t : Tag) → e.number ≡ e.serial → AreListed items → AreListed (with_entry items e t)
+unfolding put before behind
+entry_listed items e t own (order, numbered) = (
+  put_in_order item_key items (e, t) order,
+  all_append (λ (i : Entry × Tag). i.0.number ≡ i.0.serial) (before item_key items (key_of e)) ((e, t) ∷ behind item_key items (key_of e))
+      (all_kept (λ (i : Entry × Tag). i.0.number ≡ i.0.serial) (λ (x : Entry × Tag). is_lt (key_cmp (item_key x) (key_of e))) items numbered)
+      (own, all_kept (λ (i : Entry × Tag). i.0.number ≡ i.0.serial) (λ (x : Entry × Tag). is_gt (key_cmp (item_key x) (key_of e))) items numbered),
+)
 
-pub less_in_order : (items : Items) (e : Entry) → AreInOrder items → AreInOrder (without_entry items e)
+pub less_listed : (items : Items) (e : Entry) → AreListed items → AreListed (without_entry items e)
 unfolding without
-less_in_order items e order = filter_in_order item_key (λ (x : Entry × Tag). is_ne (key_cmp (item_key x) (key_of e))) items order
+less_listed items e (order, numbered) = (
+  filter_in_order item_key (λ (x : Entry × Tag). is_ne (key_cmp (item_key x) (key_of e))) items order,
+  all_kept (λ (i : Entry × Tag). i.0.number ≡ i.0.serial) (λ (x : Entry × Tag). is_ne (key_cmp (item_key x) (key_of e))) items numbered,
+)
 
-tag_keeps : (b : Bool) (t : Tag) (i : Entry × Tag) → item_key (cond b (i.0, t) i) ≡ item_key i
+tag_keeps : (b : Bool) (t : Tag) (i : Entry × Tag) → (cond b (i.0, t) i).0 ≡ i.0
 tag_keeps true t i = refl
 tag_keeps false t i = refl
 
-pub tag_in_order : (items : Items) (e : Entry) (t : Tag) → AreInOrder items → AreInOrder (with_tag items e t)
+tag_numbered : (items : Items) (e : Entry) (t : Tag) → AreNumbered items → AreNumbered (with_tag items e t)
 unfolding tag_set
-tag_in_order items e t order =
-    map_in_order item_key (λ (i : Entry × Tag). cond (is_eq (key_cmp (item_key i) (key_of e))) (i.0, t) i)
-    (λ i. tag_keeps (is_eq (key_cmp (item_key i) (key_of e))) t i) items order
+tag_numbered [] e t all = tt
+tag_numbered (i ∷ items) e t all = (
+  subst (λ (d : Entry). d.number ≡ d.serial) (sym (tag_keeps (is_eq (key_cmp (item_key i) (key_of e))) t i)) all.0,
+  tag_numbered items e t all.1,
+)
+
+pub tag_listed : (items : Items) (e : Entry) (t : Tag) → AreListed items → AreListed (with_tag items e t)
+unfolding tag_set
+tag_listed items e t (order, numbered) = (
+  map_in_order item_key (λ (i : Entry × Tag). cond (is_eq (key_cmp (item_key i) (key_of e))) (i.0, t) i)
+      (λ i. ap key_of (tag_keeps (is_eq (key_cmp (item_key i) (key_of e))) t i)) items order,
+  tag_numbered items e t numbered,
+)

@@ -9,11 +9,11 @@ use Rattle.chunk_index.specs.declared.entry.Entry.{Entry}
 use Rattle.chunk_index.specs.declared.entry.Tag.{Tag}
 use Rattle.chunk_index.specs.declared.key.Key.{Key}
 use Rattle.chunk_index.specs.Keys.{key_of}
-use Rattle.chunk_index.specs.Items.{Items, AreInOrder, has, with_entry, without_entry, with_tag}
+use Rattle.chunk_index.specs.Items.{Items, HasEntry, has, with_entry, without_entry, with_tag}
 use Rattle.cluster_store.specs.Keys.{key_part}
-use Rattle.cluster_store.specs.Kept.{same_key, found, is_rate, has_rate, fresh, Enters, Leaves, IsSameIndex}
-use Rattle.cluster_store.proofs.Founds.{same_is, found-put, found-without, found-tagged, has-found, again}
-use Rattle.cluster_store.proofs.Sorted.{entry_in_order, less_in_order, tag_in_order}
+use Rattle.cluster_store.specs.Kept.{same_key, found, is_rate, has_rate, fresh, AreListed, AreNumbered, Enters, Leaves, IsSameIndex}
+use Rattle.cluster_store.proofs.Founds.{same_is, found-put, found-without, found-tagged, has-found, found-entry, again}
+use Rattle.cluster_store.proofs.Sorted.{entry_listed, less_listed, tag_listed}
 use Rattle.cluster_store.proofs.Fresh.{take_below, take_past, rate_here, fresh-more}
 
 and_false : (b c : Bool) → (b && (false && c)) ≡ false
@@ -81,7 +81,7 @@ module _ (n i count : ℕ) (ps qs : List Part) (part : Part) (e : Entry) (here :
 
     pub leave_next : (next : Items) → next ≡ without_entry cur e → is_rate e.rate (slice_get qs i) ≡ false → Leaves n (take (i + 1) ps) qs old next
     leave_next next is differs = record {
-      sorted = λ order. subst AreInOrder (sym is) (less_in_order cur e (so_far.sorted order));
+      sorted = λ order. subst AreListed (sym is) (less_listed cur e (so_far.sorted order));
       tags = λ k.
           ap (λ (xs : Items). found xs k) is ∙ found-without cur e k ∙ ap (λ (l : Key). cond (same_key l k) None (found cur k)) key
           ∙ ap (λ o. cond (same_key (key_part n i part) k) None o) (so_far.tags k)
@@ -104,9 +104,10 @@ module _ (n i count : ℕ) (ps qs : List Part) (part : Part) (e : Entry) (here :
         ∙ ap is_some (so_far.tags (key_part n i part) ∙ ap (λ b. cond b (Some tag) (found old (key_part n i part))) (fresh_not_yet n i ps qs part)
         ∙ absent (key_part n i part) (fresh_there n i count ps qs part here below (rate_is false differs)))
 
-    pub enter_next : (next : Items) → next ≡ with_entry cur e tag → is_rate e.rate (slice_get qs i) ≡ false → Enters n tag (take (i + 1) ps) qs old next
-    enter_next next is differs = record {
-      sorted = λ order. subst AreInOrder (sym is) (entry_in_order cur e tag (so_far.sorted order));
+    pub enter_next : e.number ≡ n → (next : Items) → next ≡ with_entry cur e tag → is_rate e.rate (slice_get qs i) ≡ false
+        → Enters n tag (take (i + 1) ps) qs old next
+    enter_next own next is differs = record {
+      sorted = λ order. subst AreListed (sym is) (entry_listed cur e tag (own ∙ sym (ap (λ (k : Key). k.serial) key)) (so_far.sorted order));
       tags = λ k.
           ap (λ (xs : Items). found xs k) is ∙ found-put cur e tag k ∙ ap (λ (l : Key). cond (same_key l k) (Some tag) (found cur k)) key
           ∙ ap (λ o. cond (same_key (key_part n i part) k) (Some tag) o) (so_far.tags k)
@@ -128,6 +129,10 @@ module _ (n i count : ℕ) (ps qs : List Part) (part : Part) (e : Entry) (here :
         ∙ ap is_some (so_far.tags (key_part n i part) ∙ ap (λ b. cond b (Some tag) (found old (key_part n i part))) (fresh_not_yet n i ps qs part))
         ∙ there (key_part n i part) (fresh_there n i count ps qs part here below lacks)
 
+    -- it is the entry itself
+    pub retag_entry : e.number ≡ n → AreNumbered cur → has cur e ≡ true → HasEntry cur e
+    retag_entry own numbered there = found-entry cur e (own ∙ sym (ap (λ (k : Key). k.serial) key)) numbered there
+
     again_some : (o : Option Tag) → IsSome o → again tag o ≡ Some tag
     again_some None is = absurd (apart is)
       where
@@ -142,7 +147,7 @@ module _ (n i count : ℕ) (ps qs : List Part) (part : Part) (e : Entry) (here :
     pub retag_next : (next : Items) → next ≡ with_tag cur e tag → has cur e ≡ true → has_rate qs (key_part n i part) ≡ false
         → Enters n tag (take (i + 1) ps) qs old next
     retag_next next is there lacks = record {
-      sorted = λ order. subst AreInOrder (sym is) (tag_in_order cur e tag (so_far.sorted order));
+      sorted = λ order. subst AreListed (sym is) (tag_listed cur e tag (so_far.sorted order));
       tags = λ k.
           ap (λ (xs : Items). found xs k) is ∙ found-tagged cur e tag k
           ∙ ap (λ (l : Key). cond (same_key l k) (again tag (found cur k)) (found cur k)) key

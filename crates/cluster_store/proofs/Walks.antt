@@ -93,7 +93,7 @@ tag_part (Some s) k t is = by (is_rate k.rate (slice_get s.cluster.parts k.posit
 
 module _ (slots : Slots) (items : Items) (shown : IsShown slots items) where
   pub part_of_item : (i : Entry × Tag) → Contains items i → IsPartOf (at slots i.0.serial) (item_key i) i.1
-  part_of_item i here = tag_part (at slots i.0.serial) (item_key i) i.1 (sym (shown.tags (item_key i)) ∙ listed_found items i shown.sorted here)
+  part_of_item i here = tag_part (at slots i.0.serial) (item_key i) i.1 (sym (shown.tags (item_key i)) ∙ listed_found items i shown.sorted.0 here)
 
   pub listed_tag : (p : Tag → Bool) (xs : Items) (e : Entry) → Contains (entries_by p xs) e → (t : Tag) × Contains xs (e, t)
   unfolding entries_by
@@ -163,7 +163,7 @@ module _ (slots : Slots) (items : Items) (shown : IsShown slots items) where
       λ here. listed_low place here,
       λ low. low_found place.0 place.1 (at slots place.0) refl (subst (λ o. place.1 < length (parts_in o)) (get_shelved slots place.0) low),
     );
-    sorted = in_order items (λ i here. here) shown.sorted;
+    sorted = in_order items (λ i here. here) shown.sorted.0;
   }
 
   -- ---- what a walk shows

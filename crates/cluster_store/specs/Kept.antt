@@ -1,5 +1,6 @@
 -- How a store is kept: a slab of clusters, and an index of their parts, in which the serial of an entry is the number of its cluster.
 use Rattle.std.specs.Prelude.{◌≡◌, ℕ, ◌*◌, ◌≤◌, Bool, false, ◌&&◌, not, cond, List, [], ◌∷◌, Contains, Option, None, Some, slice_get, slice_index_or, nat_eq}
+use Rattle.std.specs.List.{AllByRecursion}
 use Rattle.std.specs.Ordering.{int_eq, is_eq}
 use Rattle.std.specs.FinMap as finmap
 use Rattle.slab.specs.Slab.{entries_from}
@@ -50,16 +51,24 @@ abbrev pub tag_for : Option Stored → Key → Option Tag
 tag_for None k = None
 tag_for (Some s) k = cond (has_rate s.cluster.parts k) (Some s.tag) None
 
+-- the serial of each entry is the number of its record
+abbrev pub AreNumbered : Items → Type 0
+AreNumbered items = AllByRecursion (λ i. i.0.number ≡ i.0.serial) items
+
+-- entries in key order whose serials are their numbers
+abbrev pub AreListed : Items → Type 0
+AreListed items = AreInOrder items × AreNumbered items
+
 -- the index has exactly the keys of the parts, with the tags of their clusters, in key order
 pub record IsShown (slots : Slots) (items : Items) : Type 0 where
-  pub sorted : AreInOrder items
+  pub sorted : AreListed items
   pub tags : (k : Key) → found items k ≡ tag_for (at slots k.serial) k
 
 -- ---- what changes of a cluster's entries
 
--- An index that was in key order is still.
+-- An index that was in key order, by the numbers of clusters, is still.
 abbrev pub StaysSorted : Items → Items → Type 0
-StaysSorted old new = AreInOrder old → AreInOrder new
+StaysSorted old new = AreListed old → AreListed new
 
 -- the parts of a cluster, none where there is no cluster
 abbrev pub parts_of : Option Cluster → List Part
@@ -99,7 +108,7 @@ tag_wide (Some s) others k = cond (has_rate s.cluster.parts k) (Some s.tag) (con
 
 -- the index has the keys of the parts, and those of the clusters that wait to be exchanged, in key order
 pub record IsWide (slots : Slots) (waiting : List Exchange) (items : Items) : Type 0 where
-  pub sorted : AreInOrder items
+  pub sorted : AreListed items
   pub tags : (k : Key) → found items k ≡ tag_wide (at slots k.serial) (waiting_at waiting k.serial) k
 
 -- ---- what holds of every store

@@ -2,7 +2,7 @@ ghost use Rattle.std.specs.Prelude.{◌≡◌, ℕ, ◌<◌, ◌≤◌, true, No
 ghost use Rattle.graphs.specs.Certificates.{Part};
 ghost use Rattle.chunk_index.specs.declared.key.Key.{Key};
 ghost use Rattle.chunk_index.specs.Keys.{key_of};
-ghost use Rattle.cluster_store.specs.Kept.{found, fresh, is_rate, parts_of, Enters, Leaves, IsSameIndex};
+ghost use Rattle.cluster_store.specs.Kept.{AreListed, found, fresh, is_rate, parts_of, Enters, Leaves, IsSameIndex};
 ghost use Rattle.cluster_store.specs.Keys.{key_part};
 
 use chunk_index::{ChunkIndex, Entry, Tag};
@@ -13,7 +13,8 @@ use outside::NoMemory;
 /// The entry of the part at a position of a cluster.
 pub fn entry_of<const W: usize>(number: usize, cluster: &Cluster<W>, at: usize) -> Entry
     requires { at < length cluster.now.parts }
-    ensures { (part : Part) → slice_get cluster.now.parts at ≡ Some part → key_of result ≡ key_part number at part }
+    ensures key { (part : Part) → slice_get cluster.now.parts at ≡ Some part → key_of result ≡ key_part number at part }
+    ensures number { result.number ≡ number }
 {
     Entry {
         rate: cluster.part_rate(at),
@@ -84,6 +85,7 @@ pub fn enter<const W: usize>(
 
 /// Gives the entries of a cluster another tag.
 pub fn retag<const W: usize>(index: &mut ChunkIndex, number: usize, cluster: &Cluster<W>, tag: Tag)
+    requires listed { AreListed index.old }
     requires there { (k : Key) → fresh number cluster.now.parts [] k ≡ true → IsSome (found index.old k) }
     ensures { Enters number tag cluster.now.parts [] index.old index.new }
 {

@@ -16,4 +16,4 @@ pub unreachable-requires : goal.unreachable-requires
 unreachable-requires g c = none_below c.in-None.ensures c.requires
 
 pub returns : goal.returns
-returns g c = stored_key c.in-Some.stored.now c.args.place c.cluster.result.now c.in-Some.ensures c.cluster.ensures c.requires c.entry_of.ensures
+returns g c = stored_key c.in-Some.stored.now c.args.place c.cluster.result.now c.in-Some.ensures c.cluster.ensures c.requires c.entry_of.ensures.key

@@ -13,9 +13,12 @@ pub retag-requires : goal.retag-requires
 retag-requires g c =
     let is : at c.args.slots.now.slots c.args.number ≡ Some c.in-Some.stored.now = sym c.in-Some.ensures.value in (
       search cluster_in_stored,
-      λ k f.
-          stored_there c.args.slots.now.slots c.args.index.now c.requires.shown c.args.number c.in-Some.stored.now is [] k
-          (subst (λ (x : Cluster). fresh c.args.number x.parts [] k ≡ true) c.cluster.ensures f),
+      (
+        c.requires.shown.sorted,
+        λ k f.
+            stored_there c.args.slots.now.slots c.args.index.now c.requires.shown c.args.number c.in-Some.stored.now is [] k
+            (subst (λ (x : Cluster). fresh c.args.number x.parts [] k ≡ true) c.cluster.ensures f),
+      ),
     )
 
 pub returns-clause-shown : goal.returns-clause-shown

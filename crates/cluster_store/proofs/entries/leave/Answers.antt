@@ -17,7 +17,7 @@ remove-requires g c =
     let within : c.loop-at.at < length parts = omega (arith, c.requires.within) in
     let here = slice_get-get_or parts c.loop-at.at no_part within in
     leave_there c.args.number c.loop-at.at c.args.count parts (parts_of (option_copied c.args.other)) (get_or parts c.loop-at.at no_part) c.entry_of-entry.result
-    here (c.entry_of-entry.ensures (get_or parts c.loop-at.at no_part) here) c.args.index.now c.loop-at.index c.loop-at.invariant c.requires.there
+    here (c.entry_of-entry.ensures.key (get_or parts c.loop-at.at no_part) here) c.args.index.now c.loop-at.index c.loop-at.invariant c.requires.there
     c.loop-at-test.true (sym c.stays.ensures ∙ c.if-not-stays.true)
 
 pub loop-at-preserved : goal.loop-at-preserved
@@ -27,7 +27,7 @@ loop-at-preserved g c =
     let part = get_or parts c.loop-at.at no_part in
     let within : c.loop-at.at < length parts = omega (arith, c.requires.within) in
     let here = slice_get-get_or parts c.loop-at.at no_part within in
-    let key = c.entry_of-entry.ensures part here in
+    let key = c.entry_of-entry.ensures.key part here in
     elim c.if-not-stays.branch [
       | then-not-stays w ↦
           leave_next c.args.number c.loop-at.at c.args.count parts others part c.entry_of-entry.result here key c.args.index.now c.loop-at.index c.loop-at.invariant

@@ -6,7 +6,7 @@ use Rattle.graphs.specs.Certificates.{Part}
 use Rattle.cluster_store.specs.Keys.{key_part}
 use Rattle.cluster_store.specs.Kept.{Enters}
 use Rattle.cluster_store.specs.Stores.{no_part}
-use Rattle.cluster_store.proofs.Steps.{enter_begins, retag_there, retag_next, all_fresh, none_has}
+use Rattle.cluster_store.proofs.Steps.{enter_begins, retag_there, retag_entry, retag_next, all_fresh, none_has}
 use Rattle.cluster_store.proofs.entries.retag.Goals as goal
 
 pub loop-at-init : goal.loop-at-init
@@ -18,8 +18,11 @@ retag-requires g c =
     let part = get_or parts c.loop-at.at no_part in
     let within : c.loop-at.at < length parts = omega (arith, c.part_count-at-end.ensures) in
     let here = slice_get-get_or parts c.loop-at.at no_part within in
-    retag_there c.args.number c.loop-at.at (length parts) parts [] part c.entry_of.result here (c.entry_of.ensures part here) c.args.tag c.args.index.now
-    c.loop-at.index c.loop-at.invariant (λ k f. c.requires.there k (all_fresh c.args.number parts [] k f)) within (none_has (key_part c.args.number c.loop-at.at part))
+    let key = c.entry_of.ensures.key part here in
+    retag_entry c.args.number c.loop-at.at (length parts) parts [] part c.entry_of.result here key c.args.tag c.args.index.now c.loop-at.index c.loop-at.invariant
+    c.entry_of.ensures.number (c.loop-at.invariant.sorted c.requires.listed).1
+    (retag_there c.args.number c.loop-at.at (length parts) parts [] part c.entry_of.result here key c.args.tag c.args.index.now c.loop-at.index
+    c.loop-at.invariant (λ k f. c.requires.there k (all_fresh c.args.number parts [] k f)) within (none_has (key_part c.args.number c.loop-at.at part)))
 
 pub loop-at-preserved : goal.loop-at-preserved
 loop-at-preserved g c =
@@ -27,7 +30,7 @@ loop-at-preserved g c =
     let part = get_or parts c.loop-at.at no_part in
     let within : c.loop-at.at < length parts = omega (arith, c.part_count-at-end.ensures) in
     let here = slice_get-get_or parts c.loop-at.at no_part within in
-    let key = c.entry_of.ensures part here in
+    let key = c.entry_of.ensures.key part here in
     let lacks = none_has (key_part c.args.number c.loop-at.at part) in
     retag_next c.args.number c.loop-at.at (length parts) parts [] part c.entry_of.result here key c.args.tag c.args.index.now c.loop-at.index c.loop-at.invariant
     c.retag.new.self c.retag.ensures

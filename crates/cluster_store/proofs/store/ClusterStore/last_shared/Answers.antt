@@ -1,10 +1,10 @@
 -- The rates of the entries from the first of the tail on are those of the last parts.
-use Rattle.std.proofs.Common.{Option, None, Some, List, map, ap, ◌∙◌, sym, subst}
+use Rattle.std.proofs.Common.{Option, Some, map, ap, ◌∙◌, sym, subst}
 use Rattle.chunk_index.specs.declared.entry.Entry.{Entry}
 use Rattle.chunk_index.specs.declared.entry.Tag.TheVariants.{Both}
 use Rattle.chunk_index.specs.Items.{entries_tagged, same_tag}
 use Rattle.chunk_index.proofs.Tags.{entries_in_order}
-use Rattle.cluster_store.specs.Rates.{IsFirstOfTail, IsTail, StartsWith, entry_rate}
+use Rattle.cluster_store.specs.Rates.{IsFirstOfTail, StartsWith, entry_rate}
 use Rattle.cluster_store.specs.Stores.{Shown, Store, shown_only}
 use Rattle.cluster_store.proofs.RateWalks.{rates_walk}
 use Rattle.cluster_store.proofs.Tails.{rates_are_tail, walk_is_tail}
