@@ -1,8 +1,8 @@
 ghost use Rattle.std.specs.Prelude.{◌≡◌, ◌<◌, [], ◌∷◌, ◌++◌, Some, MatchOption, length, map, slice_get};
 ghost use Rattle.cluster_store.specs.Lent.{lent};
-ghost use Rattle.cluster_store.specs.Walks.{HasParts, shown_of, shown_part};
+ghost use Rattle.cluster_store.specs.Walks.{HasParts, parts_at, shown_of, shown_part};
 
-use chunk_index::IndexWalk;
+use chunk_index::{Entry, IndexWalk};
 use cluster::PartRef;
 use slab::Slab;
 use std::marker::Model;
@@ -63,6 +63,21 @@ impl<'a, T: Parts> PartWalk<'a, T> {
     }
 }
 
+/// The part that an entry stands for, with the number of its cluster.
+fn shown<'a, T: Parts>(slots: &'a Slab<T>, entry: Entry) -> ShownPart<'a>
+    requires { entry.position < length (parts_at T.parts slots.now.slots entry) }
+    ensures { shown_part result ≡ shown_of T.parts slots.now.slots entry }
+{
+    let number = entry.serial as usize;
+    match slots.get(number) {
+        Some(kept) => ShownPart {
+            number,
+            part: kept.part(entry.position),
+        },
+        None => unreachable!(),
+    }
+}
+
 impl<'a, T: Parts> Iterator for PartWalk<'a, T> {
     type Item = ShownPart<'a>;
 
@@ -74,14 +89,7 @@ impl<'a, T: Parts> Iterator for PartWalk<'a, T> {
 
     fn next(&mut self) -> Option<ShownPart<'a>> {
         let entry = self.entries.next()?;
-        let number = entry.serial as usize;
-        match self.slots.get(number) {
-            Some(kept) => Some(ShownPart {
-                number,
-                part: kept.part(entry.position),
-            }),
-            None => unreachable!(),
-        }
+        Some(shown(self.slots, entry))
     }
 }
 
@@ -92,13 +100,6 @@ impl<'a, T: Parts> DoubleEndedIterator for PartWalk<'a, T> {
 
     fn next_back(&mut self) -> Option<ShownPart<'a>> {
         let entry = self.entries.next_back()?;
-        let number = entry.serial as usize;
-        match self.slots.get(number) {
-            Some(kept) => Some(ShownPart {
-                number,
-                part: kept.part(entry.position),
-            }),
-            None => unreachable!(),
-        }
+        Some(shown(self.slots, entry))
     }
 }

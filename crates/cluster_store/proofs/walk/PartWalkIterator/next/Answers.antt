@@ -3,9 +3,7 @@ use Rattle.std.proofs.Common.{List, ◌∷◌, map, sym, ap, ◌∙◌, subst, C
 use Rattle.lists.proofs.Entries.{Contains-later}
 use Rattle.chunk_index.specs.declared.entry.Entry.{Entry}
 use Rattle.cluster_store.specs.Stores.{Shown}
-use Rattle.cluster_store.specs.Lent.{lent}
 use Rattle.cluster_store.specs.Walks.{shown_of}
-use Rattle.cluster_store.proofs.Lent.{shown_lent}
 use Rattle.cluster_store.proofs.walk.PartWalkIterator.next.Goals as goal
 
 pub invariant_of-self-2 : goal.invariant_of-self-2
@@ -16,4 +14,4 @@ pub returns-clause-steps : goal.returns-clause-steps
 returns-clause-steps g c =
     sym c.self.view_is ∙ ap (map (shown_of g.T.Parts.parts c.self.inside.slots.now.slots)) c.in_ok-entry.ensures.steps
     ∙ ap (λ (s : Shown). s ∷ map (shown_of g.T.Parts.parts c.self.inside.slots.now.slots) c.next.new.self)
-    (shown_lent g.T.Parts.parts c.self.inside.slots.now.slots c.in_ok-entry.entry c.in-Some.kept.now (lent c.part.result) (sym c.in-Some.ensures) c.part.ensures)
+    (sym c.shown.ensures)
