@@ -3,9 +3,7 @@ use Rattle.std.proofs.Common.{◌≡◌, ◌≢◌, ◌⊎◌, ◌↔◌, ℕ, �
 use Rattle.std.specs.Prelude.{Contains}
 use Rattle.std.proofs.lemmas.Bool.{cases_eq}
 use Rattle.std.proofs.lemmas.List.{take_more}
-use Rattle.std.proofs.lemmas.List.Elements.{Contains-append_left, Contains-push, Contains-push_cases}
-use Rattle.lists.specs.Distinct.{AreDistinct}
-use Rattle.lists.proofs.Distinct.{repeated}
+use Rattle.std.proofs.lemmas.List.Elements.{Contains-append_left, Contains-append_right, Contains-append_cases}
 use Rattle.lists.proofs.Entries.{Contains-head, Contains-later, Contains-cases, none_in_empty}
 use Rattle.name_book.specs.Books.{Book, IsNamed, AreRung}
 use Rattle.name_book.specs.Changes.{ComesTo, Gathers, MakesRing, JoinsAll}
@@ -105,62 +103,45 @@ gathers-none book r to x y = (
     was z (inl rung) = rung
     was z (inr here) = absurd (none_in_empty z here)
 
--- the names before the next place
-front-more : (ids : List ℕ) (i x : ℕ) → i < length ids → Contains (take (i + 1) ids) x ↔ (Contains (take i ids) x ⊎ (x ≡ get_or ids i 0))
-front-more ids i x low = (
-  λ here. elim (Contains-push_cases (take i ids) (get_or ids i 0) x (subst (λ zs. Contains zs x) (take_more ids i 0 low) here)) [
-    | inl before ↦ inl before
-    | inr same ↦ inr (sym same)
-  ],
-  λ h. subst (λ zs. Contains zs x) (sym (take_more ids i 0 low)) (elim h [
-    | inl before ↦ Contains-append_left (take i ids) (get_or ids i 0 ∷ []) x before
-    | inr same ↦ subst (Contains (take i ids ++ get_or ids i 0 ∷ [])) (sym same) (Contains-push (take i ids) (get_or ids i 0))
-  ]),
-)
-
-module _ (old mid : Book) (r to : ℕ) (ids : List ℕ) (i : ℕ) (low : i < length ids) (so : Gathers old mid r to (take i ids)) where
-  abbrev next : ℕ
-  next = get_or ids i 0
-
+module _ (old mid : Book) (r to : ℕ) (front : List ℕ) (so : Gathers old mid r to front) where
   -- a name that was alone still is, until it comes to the ring
-  pub still-alone : AreDistinct ids → (to ≢ next) → ((x : ℕ) → AreRung old r next x → next ≡ x) → (x : ℕ) → AreRung mid r next x → next ≡ x
-  still-alone once apart alone x rung = elim ((so next x).0 rung) [
+  pub still-alone : (q : ℕ) → (Contains front q → ⊥) → to ≢ q → ((x : ℕ) → AreRung old r q x → q ≡ x) → (x : ℕ) → AreRung mid r q x → q ≡ x
+  still-alone q later apart alone x rung = elim ((so q x).0 rung) [
     | inl all ↦ alone x all.0
-    | inr (inl was, _) ↦ absurd (apart (sym (alone to (rung-turned old r to next was))))
-    | inr (inr before, _) ↦ absurd (repeated ids i next 0 low refl before once)
+    | inr (inl was, _) ↦ absurd (apart (sym (alone to (rung-turned old r to q was))))
+    | inr (inr before, _) ↦ absurd (later before)
   ]
 
-  module _ (new : Book) (live : IsNamed old to) (step : Gathers mid new r to (next ∷ [])) where
-    to_mid : (x : ℕ) → ComesTo old r to (take i ids) x → AreRung mid r to x
+  module _ (new : Book) (next : List ℕ) (live : IsNamed old to) (step : Gathers mid new r to next) where
+    to_mid : (x : ℕ) → ComesTo old r to front x → AreRung mid r to x
     to_mid x h = (so to x).1 (inr (inl (rung-itself old r to live), h))
 
-    of_mid : (x : ℕ) → AreRung mid r to x → ComesTo old r to (take i ids) x
+    of_mid : (x : ℕ) → AreRung mid r to x → ComesTo old r to front x
     of_mid x rung = elim ((so to x).0 rung) [ inl all ↦ inl all.0 | inr both ↦ both.1 ]
 
-    grown : (x : ℕ) → ComesTo old r to (take i ids) x → ComesTo old r to (take (i + 1) ids) x
+    grown : (x : ℕ) → ComesTo old r to front x → ComesTo old r to (front ++ next) x
     grown x (inl rung) = inl rung
-    grown x (inr before) = inr ((front-more ids i x low).1 (inl before))
+    grown x (inr before) = inr (Contains-append_left front next x before)
 
-    forth : (x : ℕ) → ComesTo mid r to (next ∷ []) x → ComesTo old r to (take (i + 1) ids) x
+    forth : (x : ℕ) → ComesTo mid r to next x → ComesTo old r to (front ++ next) x
     forth x (inl rung) = grown x (of_mid x rung)
-    forth x (inr here) = inr ((front-more ids i x low).1 (inr (one-is next x here)))
+    forth x (inr here) = inr (Contains-append_right front next x here)
 
-    back : (x : ℕ) → ComesTo old r to (take (i + 1) ids) x → ComesTo mid r to (next ∷ []) x
+    back : (x : ℕ) → ComesTo old r to (front ++ next) x → ComesTo mid r to next x
     back x (inl rung) = inl (to_mid x (inl rung))
-    back x (inr here) = elim ((front-more ids i x low).0 here) [
+    back x (inr here) = elim (Contains-append_cases front next x here) [
       | inl before ↦ inl (to_mid x (inr before))
-      | inr same ↦ inr (is-one next x same)
+      | inr now ↦ inr now
     ]
 
-    off : (x : ℕ) → (Contains (take i ids) x → ⊥) → (Contains (next ∷ []) x → ⊥) → Contains (take (i + 1) ids) x → ⊥
-    off x before other here = elim ((front-more ids i x low).0 here) [ inl h ↦ before h | inr same ↦ other (is-one next x same) ]
+    off : (x : ℕ) → (Contains front x → ⊥) → (Contains next x → ⊥) → Contains (front ++ next) x → ⊥
+    off x before other here = elim (Contains-append_cases front next x here) [ inl h ↦ before h | inr now ↦ other now ]
 
-    off_mid : (x : ℕ) → (Contains (take (i + 1) ids) x → ⊥) → (Contains (take i ids) x → ⊥) × (Contains (next ∷ []) x → ⊥)
-    off_mid x none =
-        (λ before. none ((front-more ids i x low).1 (inl before)), λ here. none ((front-more ids i x low).1 (inr (one-is next x here))))
+    off_mid : (x : ℕ) → (Contains (front ++ next) x → ⊥) → (Contains front x → ⊥) × (Contains next x → ⊥)
+    off_mid x none = (λ before. none (Contains-append_left front next x before), λ here. none (Contains-append_right front next x here))
 
-    pub gathers-more : Gathers old new r to (take (i + 1) ids)
-    gathers-more x y = (
+    pub gathers-on : Gathers old new r to (front ++ next)
+    gathers-on x y = (
       λ rung. elim ((step x y).0 rung) [
         | inl all ↦ elim ((so x y).0 all.0) [
           | inl was ↦ inl (was.0, off x was.1 all.1, off y was.2 all.2)
@@ -175,6 +156,12 @@ module _ (old mid : Book) (r to : ℕ) (ids : List ℕ) (i : ℕ) (low : i < len
         | inr both ↦ inr (back x both.0, back y both.1)
       ]),
     )
+
+-- one name more, by the place where it is listed
+pub gathers-more : (old mid : Book) (r to : ℕ) (ids : List ℕ) (i : ℕ) → i < length ids → Gathers old mid r to (take i ids) → (new : Book) → IsNamed old to
+    → Gathers mid new r to (get_or ids i 0 ∷ []) → Gathers old new r to (take (i + 1) ids)
+gathers-more old mid r to ids i low so new live step =
+    subst (Gathers old new r to) (sym (take_more ids i 0 low)) (gathers-on old mid r to (take i ids) so new (get_or ids i 0 ∷ []) live step)
 
 -- ---- all of them
 

@@ -4,6 +4,7 @@ pub mod Entries
 pub mod Gathering
 pub mod Kept
 pub mod PassedOver
+pub mod Pieces
 pub mod KeyRings
 pub mod Rings
 pub mod Rungs

@@ -1,5 +1,7 @@
 -- Steps and rings of names are those of their keys.
-use Rattle.std.proofs.Common.{◌≡◌, ℕ, zero, suc, ◌<◌, List, Option, Some, None, is_some, IsSome, refl, sym, ap, subst, ◌∙◌, arith, true≢false}
+use Rattle.std.proofs.Common.{◌≡◌, ℕ, zero, suc, ◌<◌, ◌≤◌, List, Option, Some, None, is_some, IsSome, length, get_or, take, refl, sym, ap, subst, ◌∙◌, arith, true≢false}
+use Rattle.std.proofs.lemmas.List.{get_or-take}
+use Rattle.std.proofs.lemmas.Option.{slice_get-get_or}
 use Rattle.std.specs.Option.{option_map, unwrap_or}
 use Rattle.std.specs.FinMap as finmap
 use Rattle.node_pool.specs.Cycles.{walked, Reaches}
@@ -9,7 +11,7 @@ use Rattle.node_pool.specs.Laws.{RingsGoRound}
 use Rattle.node_pool.proofs.RingLemmas.{key-unique}
 use Rattle.node_pool.proofs.Callers.{next-live}
 use Rattle.name_book.specs.Books.{Steps, IsNamed, steps_in, after, AreRung}
-use Rattle.name_book.specs.Tables.{key_of, name_at, next_name, steps_of, book_of, AreKeys}
+use Rattle.name_book.specs.Tables.{AreKeysOf, key_of, name_at, next_name, steps_of, book_of, AreKeys}
 use Rattle.name_book.proofs.Entries.{some_key, same_some, get-keys, names-keys}
 
 -- the ring that a table shows under a number
@@ -117,3 +119,9 @@ module _ (nodes : Nodes ℕ) (es : List (ℕ × Key)) (own : AreKeys nodes es) w
           steps = names-reach a b key_a key_b has_a has_b ring.steps;
           back = names-reach b a key_b key_a has_b has_a ring.back;
         }
+
+-- the key of a name stands at the name's place
+pub key-listed : (es : List (ℕ × Key)) (ids : List ℕ) (keys : List Key) (i : ℕ) (d : Key) → AreKeysOf es ids keys → length ids ≤ length keys
+    → i < length ids → key_of es (get_or ids i 0) ≡ Some (get_or (take (length ids) keys) i d)
+key-listed es ids keys i d listed long low =
+    listed i low ∙ slice_get-get_or keys i d (omega (arith, long, low)) ∙ ap Some (sym (get_or-take (length ids) keys i d low))

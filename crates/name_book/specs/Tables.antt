@@ -1,5 +1,5 @@
 -- How a table of names is kept: an index from each name to the key of its node, and the nodes, whose values are the names.
-use Rattle.std.specs.Prelude.{◌≡◌, ◌≢◌, ◌<◌, ◌≤◌, ◌↔◌, ℕ, List, map, length, Option, Some, nat_eq, unwrap_or}
+use Rattle.std.specs.Prelude.{◌≡◌, ◌≢◌, ◌<◌, ◌≤◌, ◌↔◌, ℕ, List, map, length, slice_get, slice_index, Option, Some, nat_eq, unwrap_or}
 use Rattle.std.specs.List.{IsDistinct}
 use Rattle.std.specs.Map.{keys_of, lookup}
 use Rattle.std.specs.FinMap as finmap
@@ -27,6 +27,10 @@ steps_of nodes r entries = finmap.from_entries (map (λ e. (e.0, next_name nodes
 -- a name has a key exactly where the key's node has the name
 abbrev pub AreKeys : Nodes ℕ → List (ℕ × Key) → Type 0
 AreKeys nodes entries = (id : ℕ) (key : Key) → (key_of entries id ≡ Some key) ↔ (value_at nodes key ≡ Some id)
+
+-- the keys of a list of names stand at the front of a list, in their order
+abbrev pub AreKeysOf : List (ℕ × Key) → List ℕ → List Key → Type 0
+AreKeysOf entries ids keys = (i : ℕ) → i < length ids → key_of entries (slice_index ids i) ≡ slice_get keys i
 
 -- the table that nodes and an index show
 abbrev pub book_of : Nodes ℕ → List (ℕ × Key) → ℕ → Book

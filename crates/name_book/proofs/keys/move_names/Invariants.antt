@@ -1,14 +1,17 @@
--- the names so far have come to the ring
-use Rattle.std.proofs.Common.{◌≡◌, ℕ, Some, take}
+-- the names of the pieces so far have come to the ring
+use Rattle.std.proofs.Common.{◌≡◌, ◌++◌, ℕ, List, Some, length}
 use Rattle.name_book.specs.Changes.{Gathers}
 use Rattle.name_book.specs.Tables.{key_of, book_of, ChangesRing}
 use Rattle.name_book.proofs.keys.move_names.Given as goal
 
-abbrev pub invariant-loop-id : goal.invariant-loop-id
-invariant-loop-id l =
+abbrev pub invariant-loop-rest : goal.invariant-loop-rest
+invariant-loop-rest l =
     let es = l.names.entries in
     record {
       ring : ChangesRing l.fn.nodes l.nodes l.r;
-      gathers : (spare t : ℕ) → key_of es t ≡ Some l.to
-          → Gathers (book_of l.fn.nodes es spare) (book_of l.nodes es spare) l.r t (take l.id-index l.ids);
+      gathers : (front : List ℕ) × (front ++ l.rest ≡ l.ids) × ((spare t : ℕ) → key_of es t ≡ Some l.to
+          → Gathers (book_of l.fn.nodes es spare) (book_of l.nodes es spare) l.r t front);
     }
+
+abbrev pub decreases-loop-rest : goal.decreases-loop-rest
+decreases-loop-rest l = length l.rest

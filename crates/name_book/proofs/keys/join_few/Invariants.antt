@@ -1,0 +1,14 @@
+-- the names so far have come to the ring
+use Rattle.std.proofs.Common.{◌≡◌, ℕ, Some, take}
+use Rattle.name_book.specs.Changes.{Gathers}
+use Rattle.name_book.specs.Tables.{key_of, book_of, ChangesRing}
+use Rattle.name_book.proofs.keys.join_few.Given as goal
+
+abbrev pub invariant-loop-key : goal.invariant-loop-key
+invariant-loop-key l =
+    let es = l.names.entries in
+    record {
+      ring : ChangesRing l.fn.nodes l.nodes l.r;
+      gathers : (spare t : ℕ) → key_of es t ≡ Some l.to
+          → Gathers (book_of l.fn.nodes es spare) (book_of l.nodes es spare) l.r t (take l.key-index l.ids);
+    }
