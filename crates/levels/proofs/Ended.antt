@@ -1,11 +1,12 @@
 -- A staging that is closed: each cluster is settled, for the names that are not the same in both levels, however these come.
-use Rattle.std.proofs.Common.{◌≡◌, ℕ, ◌*◌, ◌≤◌, cond, List, [], ◌∷◌, length, Contains, Option, Some, None, inl, inr, ◌⊎◌, refl, sym, ap, ◌∙◌, subst, arith}
+use Rattle.std.proofs.Common.{◌≡◌, ℕ, ◌*◌, ◌+◌, ◌≤◌, ◌<◌, cond, List, [], ◌∷◌, ◌++◌, length, get_or, take, Contains, Option, Some, None, inl, inr, ◌⊎◌, refl, sym, ap, ◌∙◌, subst, arith}
 use Rattle.std.specs.Prelude.{IfSome}
-use Rattle.std.specs.Iterator.{Yields, YieldsFirst}
+use Rattle.std.proofs.lemmas.List.{take_more}
+use Rattle.std.proofs.lemmas.List.Elements.{Contains-append_cases}
 use Rattle.std.proofs.lemmas.Bool.{cases_eq}
 use Rattle.std.proofs.lemmas.Option.{none-some, same_Some}
 use Rattle.std.specs.FinMap as finmap
-use Rattle.lists.proofs.Entries.{Contains-head, none_in_empty}
+use Rattle.lists.proofs.Entries.{Contains-head, Contains-cases, none_in_empty}
 use Rattle.graphs.specs.declared.names.Level.{Level}
 use Rattle.graphs.specs.declared.names.Level.TheVariants.{Main, Top}
 use Rattle.chunk_index.specs.declared.entry.Tag.{Tag}
@@ -110,28 +111,43 @@ if_some : {X : Type 0} (o : Option X) (P : X → Type 0) (x : X) → IfSome o P 
 if_some None P x holds is = absurd (none-some x is)
 if_some (Some y) P x holds is = subst P (same_Some y x is) holds
 
--- one name more
-pub settles_more : (stays : Level) (names more : List ℕ) (id : ℕ) (numbers : Maps ℕ) (old mid new : Numbered) → Settles stays names numbers old mid
-    → ((q : ℕ) → Contains more q → Contains names q ⊎ (q ≡ id)) → IfSome (finmap.get numbers.base id) (λ n. IsSettledAt stays n mid new)
-    → IfSome (finmap.get (top_of numbers) id) (λ n. IsSettledAt stays n mid new) → AreSettledOrSame stays mid new → Settles stays more numbers old new
-settles_more stays names more id numbers old mid new s cases main top every = record {
-  every = λ n. elim (every n) [
+-- some names, and then more
+pub settles_on : (stays : Level) (names next : List ℕ) (numbers : Maps ℕ) (old mid new : Numbered) → Settles stays names numbers old mid
+    → Settles stays next numbers mid new → Settles stays (names ++ next) numbers old new
+settles_on stays names next numbers old mid new s t = record {
+  every = λ n. elim (t.every n) [
     | inl two ↦ inl (settled_then stays n old mid new s.every two)
     | inr same ↦ elim (s.every n) [ inl one ↦ inl (same ∙ one) | inr kept ↦ inr (same ∙ kept) ]
   ];
-  main = λ q n here is. elim (cases q here) [
-    | inl before ↦ settled_still stays n old mid new (s.main q n before is) every
-    | inr last ↦
-        settled_then stays n old mid new s.every
-        (if_some (finmap.get numbers.base id) (λ k. IsSettledAt stays k mid new) n main (ap (finmap.get numbers.base) (sym last) ∙ is))
+  main = λ id n here is. elim (Contains-append_cases names next id here) [
+    | inl before ↦ settled_still stays n old mid new (s.main id n before is) t.every
+    | inr now ↦ settled_then stays n old mid new s.every (t.main id n now is)
   ];
-  top = λ q n here is. elim (cases q here) [
-    | inl before ↦ settled_still stays n old mid new (s.top q n before is) every
-    | inr last ↦
-        settled_then stays n old mid new s.every
-        (if_some (finmap.get (top_of numbers) id) (λ k. IsSettledAt stays k mid new) n top (ap (finmap.get (top_of numbers)) (sym last) ∙ is))
+  top = λ id n here is. elim (Contains-append_cases names next id here) [
+    | inl before ↦ settled_still stays n old mid new (s.top id n before is) t.every
+    | inr now ↦ settled_then stays n old mid new s.every (t.top id n now is)
   ];
 }
+
+-- one name more
+pub settles_more : (stays : Level) (names : List ℕ) (i : ℕ) (numbers : Maps ℕ) (old mid new : Numbered) → i < length names
+    → Settles stays (take i names) numbers old mid → IfSome (finmap.get numbers.base (get_or names i 0)) (λ n. IsSettledAt stays n mid new)
+    → IfSome (finmap.get (top_of numbers) (get_or names i 0)) (λ n. IsSettledAt stays n mid new) → AreSettledOrSame stays mid new
+    → Settles stays (take (i + 1) names) numbers old new
+settles_more stays names i numbers old mid new low s main top every =
+    subst (λ xs. Settles stays xs numbers old new) (sym (take_more names i 0 low)) (settles_on stays (take i names) (id ∷ []) numbers old mid new s (record {
+      every = every;
+      main = λ q n here is. if_some (finmap.get numbers.base id) (λ k. IsSettledAt stays k mid new) n main
+          (ap (finmap.get numbers.base) (one q here) ∙ is);
+      top = λ q n here is. if_some (finmap.get (top_of numbers) id) (λ k. IsSettledAt stays k mid new) n top
+          (ap (finmap.get (top_of numbers)) (one q here) ∙ is);
+    }))
+  where
+    id : ℕ
+    id = get_or names i 0
+
+    one : (q : ℕ) → Contains (id ∷ []) q → id ≡ q
+    one q here = elim (Contains-cases id q [] here) [ inl same ↦ same | inr none ↦ absurd (none_in_empty q none) ]
 
 -- ---- all of them
 
@@ -210,10 +226,3 @@ module _ (w : ℕ) (stays : Level) (names : List ℕ) (numbers : Maps ℕ) (stor
         store = sound;
         both = λ _. both;
       }
-
--- ---- names that a walk along a ring gives
-
--- what it gave until it gave no more is all of it
-pub ring_given : (s t u xs : List ℕ) → Yields (YieldsFirst (λ (ids : List ℕ). ids)) s xs t → YieldsFirst (λ (ids : List ℕ). ids) t None u → s ≡ xs
-ring_given s t u [] yields ends = yields ∙ ends.0
-ring_given s t u (x ∷ xs) yields ends = yields.1 ∙ ap (λ (ids : List ℕ). x ∷ ids) (ring_given yields.0 t u xs yields.2 ends)

@@ -1,4 +1,4 @@
-ghost use Rattle.std.specs.Prelude.{◌≡◌, ◌≢◌, ◌++◌, ℕ, ◌+◌, ◌*◌, ◌^◌, ◌<◌, ◌≤◌, true, false, None, Some, List, [], ◌∷◌, length, is_some, Contains, IsSome, IfOk, OnOk, OnErr, MatchOption, IfSome, unwrap_or, IsTrue, sum_by, ◌↔◌};
+ghost use Rattle.std.specs.Prelude.{◌≡◌, ◌≢◌, ◌++◌, ℕ, ◌+◌, ◌*◌, ◌^◌, ◌<◌, ◌≤◌, true, false, None, Some, List, [], ◌∷◌, length, take, slice_get, slice_index, is_some, Contains, IsSome, IfOk, OnOk, OnErr, MatchOption, IfSome, unwrap_or, IsTrue, sum_by, ◌↔◌};
 ghost use Rattle.std.specs.List.{AllPairs};
 ghost use Rattle.std.specs.FinMap as finmap;
 ghost use Rattle.graphs.specs.declared.names.Level as levels;
@@ -9,6 +9,7 @@ ghost use Rattle.graphs.specs.Closures.{is_member};
 ghost use Rattle.cluster.specs.Clusters.{IsCluster, AreApart};
 ghost use Rattle.cluster_store.specs.Stores.{IsStore};
 ghost use Rattle.cluster.specs.Clusters as records;
+ghost use Rattle.levels.specs.declared.shelves.TheConstants.{LOOKED_UP};
 ghost use Rattle.levels.specs.Changes.{IsNamed};
 ghost use Rattle.levels.specs.Tops.{AreSettledOrSame, AreTold, ExchangedAt, IsSettledAt, Settles, TopRebuilds};
 ghost use Rattle.levels.specs.Shelves.{IsInOrder, no_clusters, numbers_at, seen_at, stored_at, tag_at, view_of, IsTouched};
@@ -27,6 +28,10 @@ use outside::NoMemory;
 use staging::Overlay;
 use std::alloc::Global;
 use std::marker::Model;
+
+/// How many names are looked up before the clusters of the first of them are settled. A look-up waits for memory, and look-ups that follow
+/// one another wait at the same time.
+const LOOKED_UP: usize = 16;
 
 /// The clusters of both levels, each under a number, and for each level the number of each name's cluster.
 #[derive(Drop)]
@@ -315,29 +320,80 @@ fn settle_names<const W: usize>(
     numbers: &Overlay<usize>,
     store: &mut ClusterStore<W>,
     stays: Level,
-    names: RingNames<'_>,
+    mut names: RingNames<'_>,
 )
     ensures settles { Settles stays names.entry numbers.now store.old.clusters store.new.clusters }
     ensures store { IsStore (64 * W) store.old → IsStore (64 * W) store.new }
 {
-    for id in names {
-        settle_name(numbers, store, stays, id);
+    let mut ids = [0; LOOKED_UP];
+    loop {
+        let count = take_some(&mut names, &mut ids);
+        if count == 0 {
+            return;
+        }
+        settle_few(numbers, store, stays, &ids[..count]);
     }
 }
 
-/// Settles the clusters of a name, where a staging is closed.
+/// Takes the next names of a walk, as many as are looked up at once, and answers how many they are. It answers fewer only at the end of
+/// the walk.
+fn take_some(names: &mut RingNames<'_>, ids: &mut [TxId; LOOKED_UP]) -> usize
+    ensures few { result ≤ LOOKED_UP }
+    ensures taken { names.old ≡ take result ids.new ++ names.new }
+    ensures ended { result < LOOKED_UP → names.new ≡ [] }
+{
+    for count in 0..LOOKED_UP {
+        match names.next() {
+            Some(id) => ids[count] = id,
+            None => return count,
+        }
+    }
+    LOOKED_UP
+}
+
+/// As `settle_names`, for names that are few enough to be looked up at once.
+fn settle_few<const W: usize>(
+    numbers: &Overlay<usize>,
+    store: &mut ClusterStore<W>,
+    stays: Level,
+    ids: &[TxId],
+)
+    requires few { length ids.now ≤ LOOKED_UP }
+    ensures settles { Settles stays ids.now numbers.now store.old.clusters store.new.clusters }
+    ensures store { IsStore (64 * W) store.old → IsStore (64 * W) store.new }
+{
+    let mut mains = [None; LOOKED_UP];
+    look_up(numbers, ids, &mut mains);
+    for i in 0..ids.len() {
+        settle_name(numbers, store, stays, ids[i], mains[i]);
+    }
+}
+
+/// Puts main's numbers of the clusters of some names at the front of a list, in their order, or `None` where main hasn't the name.
+fn look_up(numbers: &Overlay<usize>, ids: &[TxId], mains: &mut [Option<usize>; LOOKED_UP])
+    requires few { length ids.now ≤ LOOKED_UP }
+    ensures { (i : ℕ) → i < length ids.now → slice_get mains.new i ≡ Some (finmap.get numbers.now.base (slice_index ids.now i)) }
+{
+    for i in 0..ids.len() {
+        mains[i] = number_of(numbers, Level::Main, ids[i]);
+    }
+}
+
+/// Settles the clusters of a name, where a staging is closed. Main's number of it is told.
 fn settle_name<const W: usize>(
     numbers: &Overlay<usize>,
     store: &mut ClusterStore<W>,
     stays: Level,
     id: TxId,
+    main: Option<usize>,
 )
+    requires main { main ≡ finmap.get numbers.now.base id }
     ensures main { IfSome (finmap.get numbers.now.base id) (λ n. IsSettledAt stays n store.old.clusters store.new.clusters) }
     ensures top { IfSome (finmap.get (top_of numbers.now) id) (λ n. IsSettledAt stays n store.old.clusters store.new.clusters) }
     ensures others { AreSettledOrSame stays store.old.clusters store.new.clusters }
     ensures store { IsStore (64 * W) store.old → IsStore (64 * W) store.new }
 {
-    if let Some(number) = number_of(numbers, Level::Main, id) {
+    if let Some(number) = main {
         settle(store, stays, number);
     }
     if let Some(number) = number_of(numbers, Level::Top, id) {

@@ -1,30 +1,26 @@
-use Rattle.std.proofs.Common.{◌∷◌, ◌++◌, ℕ, List, [], sym, subst, ◌∙◌}
-use Rattle.levels.specs.Tops.{Settles}
-use Rattle.levels.proofs.Ended.{ring_given, settles_more, settles_none}
-use Rattle.levels.proofs.Ends.{contains_cases}
+use Rattle.std.proofs.Common.{◌++◌, ℕ, List, [], take, refl, ap, sym, ◌∙◌, append_assoc}
+use Rattle.levels.proofs.Ended.{settles_none, settles_on}
 use Rattle.levels.proofs.shelves.settle_names.Goals as goal
 
-pub loop-id-init : goal.loop-id-init
-loop-id-init g c = record {
-  settles = settles_none c.args.stays c.args.numbers.now c.args.store.now.clusters;
+pub loop-names-init : goal.loop-names-init
+loop-names-init g c = record {
+  long = refl;
+  settles = ([], refl, settles_none c.args.stays c.args.numbers.now c.args.store.now.clusters);
   store = λ is. is;
 }
 
-pub loop-id-preserved : goal.loop-id-preserved
-loop-id-preserved g c =
-    let names = c.loop-id.yielded in
-    let id = c.in-Some.id in
-    let mid = c.loop-id.store.clusters in
-    let new = c.settle_name.new.store.clusters in
+pub loop-names-preserved : goal.loop-names-preserved
+loop-names-preserved g c =
+    let so = c.loop-names.invariant.settles in
+    let piece = take c.take_some-count.result c.take_some-count.new.ids in
+    let later = c.take_some-count.new.names in
     record {
-      settles = settles_more c.args.stays names (names ++ id ∷ []) id c.args.numbers.now c.args.store.now.clusters mid new
-          c.loop-id.invariant.settles (contains_cases names id) c.settle_name.ensures.main c.settle_name.ensures.top c.settle_name.ensures.others;
-      store = λ is. c.settle_name.ensures.store (c.loop-id.invariant.store is);
+      long = c.take_some-count.array_long;
+      settles = (
+        so.0 ++ piece,
+        append_assoc so.0 piece later ∙ ap (λ (ids : List ℕ). so.0 ++ ids) (sym c.take_some-count.ensures.taken) ∙ so.1,
+        settles_on c.args.stays so.0 piece c.args.numbers.now c.args.store.now.clusters c.loop-names.store.clusters c.settle_few.new.store.clusters so.2
+            c.settle_few.ensures.settles,
+      );
+      store = λ is. c.settle_few.ensures.store (c.loop-names.invariant.store is);
     }
-
-pub returns-clause-settles : goal.returns-clause-settles
-returns-clause-settles g c =
-    let same = ring_given c.into_iter-id-iterator.result c.loop-id.id-iterator c.next.new.self c.loop-id.yielded
-    c.loop-id.yielded_by c.in-None.ensures.steps in
-    subst (λ (ids : List ℕ). Settles c.args.stays ids c.args.numbers.now c.args.store.now.clusters c.loop-id.store.clusters)
-    (sym (sym c.into_iter-id-iterator.ensures.into_iter_gives ∙ same)) c.loop-id.invariant.settles
