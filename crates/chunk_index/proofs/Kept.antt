@@ -1,110 +1,216 @@
--- What each change of the slots, beside the changes of the trees, leaves of an index.
-use Rattle.std.proofs.Common.{◌≡◌, ◌+◌, ◌^◌, ◌<◌, Bool, true, false, cond, List, [], length, Some, None, is_some, refl, sym, ap, ◌∙◌, subst, arith}
+-- What each change of the map, of the trees and of the nodes leaves of an index.
+use Rattle.std.proofs.Common.{◌≡◌, ℕ, ◌+◌, ◌-◌, ◌≤◌, Bool, true, false, if◌then◌else◌, List, [], ◌∷◌, length, refl, sym, ap, ◌∙◌, subst, arith}
+use Rattle.std.specs.List.{AllByRecursion}
 use Rattle.std.specs.List.Sorted.{IsStrictlySortedBy}
-use Rattle.std.specs.Map.{keys_of, lookup, remove_entry, set_value}
+use Rattle.std.specs.declared.cmp.Ordering.TheVariants.{Less}
+use Rattle.std.specs.Map.{keys_of, remove_entry}
 use Rattle.std.specs.BTreeMap.{insert_entry}
 use Rattle.chunk_index.specs.declared.entry.Entry.{Entry}
 use Rattle.chunk_index.specs.declared.entry.Tag.{Tag}
-use Rattle.chunk_index.specs.declared.entry.Tag.TheVariants.{MainOnly, TopOnly}
+use Rattle.chunk_index.specs.declared.entry.Tag.TheVariants.{Both, MainOnly, TopOnly}
 use Rattle.chunk_index.specs.declared.key.Key.{Key}
-use Rattle.chunk_index.specs.declared.slot.Slot.{Slot}
-use Rattle.chunk_index.specs.declared.slot.Place.{Place}
 use Rattle.chunk_index.specs.KeyOrder.{key_cmp}
 use Rattle.chunk_index.specs.Keys.{key_of, IsInOrder, has_key, put, without}
-use Rattle.chunk_index.specs.Items.{item_key, has, same_tag, entries_by, tag_set}
-use Rattle.chunk_index.specs.Slots.{tag_of, entry_from, items_of, moved, IsKept}
-use Rattle.chunk_index.proofs.Lists.{without_absent, put-without}
-use Rattle.chunk_index.proofs.Maps.{Slots, test, items_in_order, length-items, has-lookup, items-insert, items-remove, items-set, found}
-use Rattle.chunk_index.proofs.Tags.{entries_in_order, length-entries, lacks-entries, has-tagged, entries-without, entries-moved}
+use Rattle.chunk_index.specs.Items.{item_key, AreInOrder, HasEntry, has, same_tag, entries_by, tag_set, with_tag, with_entry}
+use Rattle.chunk_index.specs.Kept.{tag_in, items_of, IsKept}
+use Rattle.chunk_index.proofs.Lists.{without_absent, lacks_without, length_without, put-without}
+use Rattle.chunk_index.proofs.Maps.{Numbers, test, items_in_order, length-items, items-insert, items-remove}
+use Rattle.chunk_index.proofs.Tags.{entries_in_order, lacks-entries, entries-without, entries-moved, entries-set, entries-other}
+use Rattle.chunk_index.proofs.Items.{has-found, tag-moves, two-tags, two-tags-less}
+use Rattle.chunk_index.proofs.Trees.{has-tagged, items-set, tells-without, tells-main, tells-top}
 
-module _ (es : Slots) (m t : List Entry) (kept : IsKept (items_of es) m t) where
+-- the keys' order is theirs whatever the trees are
+module _ (m t n u : List Entry) where
+  all-again : (k : Key) (es : Numbers) → AllByRecursion (λ i. key_cmp k (item_key i) ≡ Less) (items_of es m t)
+      → AllByRecursion (λ i. key_cmp k (item_key i) ≡ Less) (items_of es n u)
+  all-again k [] all = tt
+  all-again k (e ∷ es) all = (all.0, all-again k es all.1)
+
+  order-again : (es : Numbers) → AreInOrder (items_of es m t) → AreInOrder (items_of es n u)
+  unfolding IsInOrder
+  order-again [] order = tt
+  order-again (e ∷ es) order = (all-again e.0 es order.0, order-again es order.1)
+
+module _ (es : Numbers) (m t : List Entry) (kept room : ℕ) (is : IsKept es m t kept room) where
   -- ---- what the trees are
   pub main-order : IsInOrder key_of m
-  main-order = subst (IsInOrder key_of) (sym kept.main) (entries_in_order (same_tag MainOnly) (items_of es) kept.order)
+  main-order = subst (IsInOrder key_of) (sym is.main) (entries_in_order (same_tag MainOnly) (items_of es m t) is.order)
 
   pub top-order : IsInOrder key_of t
-  top-order = subst (IsInOrder key_of) (sym kept.top) (entries_in_order (same_tag TopOnly) (items_of es) kept.order)
+  top-order = subst (IsInOrder key_of) (sym is.top) (entries_in_order (same_tag TopOnly) (items_of es m t) is.order)
 
-  pub main-fits : length es < 2 ^ 63 → length m + 1 < 2 ^ 64
-  main-fits few = omega (arith, ap length kept.main, length-entries (same_tag MainOnly) (items_of es), length-items es)
+  pub few : length m + length t ≤ length es
+  few = omega (arith, ap length is.main, ap length is.top, two-tags (items_of es m t), length-items m t es)
 
-  pub top-fits : length es < 2 ^ 63 → length t + 1 < 2 ^ 64
-  top-fits few = omega (arith, ap length kept.top, length-entries (same_tag TopOnly) (items_of es), length-items es)
+  -- a key that main's tree has, staging's hasn't
+  pub apart : (k : Key) → tag_in m t k ≡ MainOnly → has_key key_of t k ≡ false
+  apart k tag = ap (λ (xs : List Entry). has_key key_of xs k) is.top ∙ has-tagged m t (same_tag TopOnly) es k ∙ rw tag refl
 
-  pub main-lacks : (k : Key) → has_key item_key (items_of es) k ≡ false → has_key key_of m k ≡ false
-  main-lacks k lacks = ap (λ (xs : List Entry). has_key key_of xs k) kept.main ∙ lacks-entries (same_tag MainOnly) (items_of es) k lacks
+  -- ---- a key that comes out of both trees
+  module _ (k : Key) (n u : List Entry) (main : n ≡ without key_of m k) (top : u ≡ without key_of t k) where
+    pub shared-items : items_of es n u ≡ tag_set (items_of es m t) k Both
+    shared-items =
+        ap (λ (xs : List Entry). items_of es xs u) main
+        ∙ ap (λ (xs : List Entry). items_of es (without key_of m k) xs) top
+        ∙ items-set m t (without key_of m k) (without key_of t k) k Both (tells-without m t k) es
 
-  pub top-lacks : (k : Key) → has_key item_key (items_of es) k ≡ false → has_key key_of t k ≡ false
-  top-lacks k lacks = ap (λ (xs : List Entry). has_key key_of xs k) kept.top ∙ lacks-entries (same_tag TopOnly) (items_of es) k lacks
+    comes_out : (p : Tag → Bool) (old new : List Entry) → p Both ≡ false → old ≡ entries_by p (items_of es m t) → new ≡ without key_of old k
+        → new ≡ entries_by p (items_of es n u)
+    comes_out p old new drops was out =
+        out ∙ ap (λ (xs : List Entry). without key_of xs k) was ∙ sym (entries-set p (items_of es m t) k Both drops) ∙ ap (entries_by p) (sym shared-items)
 
-  pub main-has : (k : Key) (v : Slot) → lookup (test k) es ≡ Some v → has_key key_of m k ≡ same_tag MainOnly (tag_of v.place)
-  main-has k v at = ap (λ (xs : List Entry). has_key key_of xs k) kept.main ∙ has-tagged (same_tag MainOnly) es k v kept.order at
+    pub shared-kept : (kept2 room2 : ℕ) → kept2 + length n + length u ≡ kept + length m + length t → room2 ≡ room → IsKept es n u kept2 room2
+    shared-kept kept2 room2 same same_room = record {
+      order = order-again m t n u es is.order;
+      main = comes_out (same_tag MainOnly) m n refl is.main main;
+      top = comes_out (same_tag TopOnly) t u refl is.top top;
+      nodes = omega (arith, is.nodes, same);
+      fits = omega (arith, is.fits, same, same_room);
+    }
 
-  pub top-has : (k : Key) (v : Slot) → lookup (test k) es ≡ Some v → has_key key_of t k ≡ same_tag TopOnly (tag_of v.place)
-  top-has k v at = ap (λ (xs : List Entry). has_key key_of xs k) kept.top ∙ has-tagged (same_tag TopOnly) es k v kept.order at
+  -- ---- a key of an entry that stands in both levels
+  module _ (k : Key) (shared : tag_set (items_of es m t) k Both ≡ items_of es m t) where
+    lacks : (p : Tag → Bool) (list : List Entry) → p Both ≡ false → list ≡ entries_by p (items_of es m t) → has_key key_of list k ≡ false
+    lacks p list drops was =
+        ap (λ (xs : List Entry). has_key key_of xs k) (was ∙ ap (entries_by p) (sym shared) ∙ entries-set p (items_of es m t) k Both drops)
+        ∙ lacks_without key_of (entries_by p (items_of es m t)) k
 
-  -- ---- a key that the items have is found
-  pub never_lost : (k : Key) → has_key item_key (items_of es) k ≡ true → lookup (test k) es ≡ None → ⊥
-  never_lost k there lost = apart (sym there ∙ has-lookup k es ∙ ap is_some lost)
-    where
-      apart : true ≡ false → ⊥
-      apart e = cc
+    pub main-lacks : has_key key_of m k ≡ false
+    main-lacks = lacks (same_tag MainOnly) m refl is.main
 
-  -- ---- with a slot put in
-  module _ (new : Slots) (e : Entry) (place : Place) (lacks : has (items_of es) e ≡ false) (is : new ≡ insert_entry key_cmp es (key_of e)
-      (record { number = e.number; place = place })) where
-    pub put-items : items_of new ≡ put item_key (items_of es) (e, tag_of place)
-    put-items = ap items_of is ∙ items-insert es (key_of e) (record { number = e.number; place = place }) kept.order lacks
+    pub top-lacks : has_key key_of t k ≡ false
+    top-lacks = lacks (same_tag TopOnly) t refl is.top
 
-    comes : (p : Tag → Bool) (list : List Entry) → list ≡ entries_by p (items_of es) → cond (p (tag_of place)) (put key_of list e) list
-        ≡ entries_by p (items_of new)
-    comes p list was = by (p (tag_of place)) refl
-      where
-        stays : without key_of list (key_of e) ≡ list
-        stays = without_absent key_of list (key_of e) (ap (λ (xs : List Entry). has_key key_of xs (key_of e)) was ∙ lacks-entries p (items_of es)
-            (key_of e) lacks)
+    -- ---- its number goes
+    module _ (new : Numbers) (gone : new ≡ remove_entry (test k) es) where
+      pub leave-items : items_of new m t ≡ without item_key (items_of es m t) k
+      leave-items = ap (λ (ns : Numbers). items_of ns m t) gone ∙ items-remove m t es k is.order
 
-        whole : entries_by p (items_of new) ≡ moved (p (tag_of place)) list e
-        whole = ap (entries_by p) put-items ∙ entries-moved p (items_of es) e (tag_of place) kept.order ∙ ap (λ (xs : List Entry). moved (p
-            (tag_of place)) xs e) (sym was)
+      stays_out : (p : Tag → Bool) (list : List Entry) → has_key key_of list k ≡ false → list ≡ entries_by p (items_of es m t)
+          → list ≡ entries_by p (items_of new m t)
+      stays_out p list lacking was =
+          sym (without_absent key_of list k lacking) ∙ ap (λ (xs : List Entry). without key_of xs k) was ∙ sym (entries-without p (items_of es m t) k)
+          ∙ ap (entries_by p) (sym leave-items)
 
-        by : (passes : Bool) → p (tag_of place) ≡ passes → cond (p (tag_of place)) (put key_of list e) list ≡ entries_by p (items_of new)
-        by true yields = rw yields (sym (whole ∙ rw yields (put-without key_of list e)))
-        by false yields = rw yields (sym (whole ∙ rw yields stays))
+      pub leave-few : length m + length t ≤ length new
+      leave-few = omega (
+        arith,
+        ap length (stays_out (same_tag MainOnly) m main-lacks is.main),
+        ap length (stays_out (same_tag TopOnly) t top-lacks
+            is.top),
+        two-tags (items_of new m t),
+        length-items m t new,
+      )
 
-    pub put-kept : IsStrictlySortedBy key_cmp (keys_of new) → IsKept (items_of new) (cond (same_tag MainOnly (tag_of place)) (put key_of m e) m)
-        (cond (same_tag TopOnly (tag_of place)) (put key_of t e) t)
-    put-kept sorted = record { order = items_in_order new sorted; main = comes (same_tag MainOnly) m kept.main; top = comes (same_tag TopOnly) t kept.top }
+      pub fewer : length new ≤ length es
+      fewer = omega (arith, ap length leave-items, length-items m t new, length-items m t es, length_without item_key (items_of es m t) k)
 
-  -- ---- with a slot taken out
-  module _ (new : Slots) (k : Key) (is : new ≡ remove_entry (test k) es) where
-    pub without-items : items_of new ≡ without item_key (items_of es) k
-    without-items = ap items_of is ∙ items-remove es k kept.order
+      pub leave-kept : (kept2 room2 : ℕ) → IsStrictlySortedBy key_cmp (keys_of new) → length new - (length m + length t) ≤ kept2 → kept2 ≤ kept → room2 ≡ room
+          → IsKept new m t kept2 room2
+      leave-kept kept2 room2 sorted enough less same_room = record {
+        order = items_in_order m t new sorted;
+        main = stays_out (same_tag MainOnly) m main-lacks is.main;
+        top = stays_out (same_tag TopOnly) t top-lacks is.top;
+        nodes = omega (arith, enough, leave-few);
+        fits = omega (arith, is.fits, less, same_room);
+      }
 
-    goes : (p : Tag → Bool) (list : List Entry) → list ≡ entries_by p (items_of es) → without key_of list k ≡ entries_by p (items_of new)
-    goes p list was = ap (λ (xs : List Entry). without key_of xs k) was ∙ sym (entries-without p (items_of es) k) ∙ ap (entries_by p) (sym without-items)
+  -- ---- an entry that stands in both levels gets a tag
+  module _ (e : Entry) (there : HasEntry (items_of es m t) e) (shared : with_tag (items_of es m t) e Both ≡ items_of es m t) where
+    pub has_node : length m + length t + 1 ≤ length es
+    has_node = omega (
+      arith,
+      ap length is.main,
+      ap length is.top,
+      length-items m t es,
+      two-tags-less (items_of es m t) (key_of e) (has-found (items_of es m t) (key_of e) _ there.1) shared,
+    )
 
-    pub without-kept : IsStrictlySortedBy key_cmp (keys_of new) → IsKept (items_of new) (without key_of m k) (without key_of t k)
-    without-kept sorted = record { order = items_in_order new sorted; main = goes (same_tag MainOnly) m kept.main; top = goes (same_tag TopOnly) t kept.top }
+    goes_in : (p : Tag → Bool) (list : List Entry) (a : Tag) → p a ≡ true → has_key key_of list (key_of e) ≡ false → list ≡ entries_by p (items_of es m t)
+        → put key_of list e ≡ entries_by p (with_tag (items_of es m t) e a)
+    goes_in p list a passes lacking was =
+        ap (λ (xs : List Entry). put key_of xs e) was
+        ∙ sym (put-without key_of (entries_by p (items_of es m t)) e)
+        ∙ sym (entries-moved p (items_of es m t) e a is.order ∙ rw passes refl)
+        ∙ ap (entries_by p) (sym (tag-moves (items_of es m t) e there.0 a is.order there.1))
 
-  -- ---- with another slot under a key
-  module _ (new : Slots) (k : Key) (v w : Slot) (at : lookup (test k) es ≡ Some v) (number : w.number ≡ v.number) (is : new ≡ set_value (test k) es w) where
-    pub tag-items : items_of new ≡ tag_set (items_of es) k (tag_of w.place)
-    tag-items = ap items_of is ∙ items-set es k v w kept.order at number
+    stays : (p : Tag → Bool) (list : List Entry) (a : Tag) → p a ≡ false → has_key key_of list (key_of e) ≡ false → list ≡ entries_by p (items_of es m t)
+        → list ≡ entries_by p (with_tag (items_of es m t) e a)
+    stays p list a drops lacking was =
+        sym (without_absent key_of list (key_of e) lacking) ∙ ap (λ (xs : List Entry). without key_of xs (key_of e)) was
+        ∙ sym (entries-set p (items_of es m t) (key_of e) a drops)
 
-    changes : (p : Tag → Bool) (list : List Entry) → list ≡ entries_by p (items_of es) → moved (p (tag_of w.place)) list (entry_from k v.number)
-        ≡ entries_by p (items_of new)
-    changes p list was =
-        ap (λ (xs : List Entry). moved (p (tag_of w.place)) xs (entry_from k v.number)) was
-        ∙ sym (entries-moved p (items_of es) (entry_from k v.number) (tag_of w.place) kept.order)
-        ∙ ap (entries_by p) (sym (tag-items ∙ found es k v kept.order at (tag_of w.place)))
+    pub main-items : (n : List Entry) → n ≡ put key_of m e → items_of es n t ≡ with_tag (items_of es m t) e MainOnly
+    main-items n put_in = ap (λ (xs : List Entry). items_of es xs t) put_in ∙ items-set m t (put key_of m e) t (key_of e) MainOnly (tells-main m t e) es
 
-    pub tag-kept : IsStrictlySortedBy key_cmp (keys_of new)
-        → IsKept (items_of new) (moved (same_tag MainOnly (tag_of w.place)) m (entry_from k v.number)) (moved (same_tag TopOnly (tag_of w.place)) t
-        (entry_from k v.number))
-    tag-kept sorted = record { order = items_in_order new sorted; main = changes (same_tag MainOnly) m kept.main; top = changes (same_tag TopOnly) t kept.top }
+    pub main-kept : (n : List Entry) (kept2 room2 : ℕ) → n ≡ put key_of m e → length n ≡ length m + 1 → kept2 + 1 ≡ kept → room2 ≡ room
+        → IsKept es n t kept2 room2
+    main-kept n kept2 room2 put_in longer less same_room = record {
+      order = order-again m t n t es is.order;
+      main = put_in ∙ goes_in (same_tag MainOnly) m MainOnly refl (main-lacks (key_of e) shared) is.main
+          ∙ ap (entries_by (same_tag MainOnly)) (sym (main-items n put_in));
+      top = stays (same_tag TopOnly) t MainOnly refl (top-lacks (key_of e) shared) is.top ∙ ap (entries_by (same_tag TopOnly)) (sym (main-items n put_in));
+      nodes = omega (arith, is.nodes, longer, less);
+      fits = omega (arith, is.fits, longer, less, same_room);
+    }
+
+    pub top-items : (u : List Entry) → u ≡ put key_of t e → items_of es m u ≡ with_tag (items_of es m t) e TopOnly
+    top-items u put_in = ap (λ (xs : List Entry). items_of es m xs) put_in
+        ∙ items-set m t m (put key_of t e) (key_of e) TopOnly (tells-top m t e (main-lacks (key_of e) shared)) es
+
+    pub top-kept : (u : List Entry) (kept2 room2 : ℕ) → u ≡ put key_of t e → length u ≡ length t + 1 → kept2 + 1 ≡ kept → room2 ≡ room
+        → IsKept es m u kept2 room2
+    top-kept u kept2 room2 put_in longer less same_room = record {
+      order = order-again m t m u es is.order;
+      main = stays (same_tag MainOnly) m TopOnly refl (main-lacks (key_of e) shared) is.main ∙ ap (entries_by (same_tag MainOnly)) (sym (top-items u put_in));
+      top = put_in ∙ goes_in (same_tag TopOnly) t TopOnly refl (top-lacks (key_of e) shared) is.top
+          ∙ ap (entries_by (same_tag TopOnly)) (sym (top-items u put_in));
+      nodes = omega (arith, is.nodes, longer, less);
+      fits = omega (arith, is.fits, longer, less, same_room);
+    }
+
+  -- ---- an entry that comes in
+  module _ (e : Entry) (absent : has (items_of es m t) e ≡ false) (new : Numbers) (come : new ≡ insert_entry key_cmp es (key_of e) e.number) where
+    out : (p : Tag → Bool) (list : List Entry) → list ≡ entries_by p (items_of es m t) → has_key key_of list (key_of e) ≡ false
+    out p list was = ap (λ (xs : List Entry). has_key key_of xs (key_of e)) was ∙ lacks-entries p (items_of es m t) (key_of e) absent
+
+    tagged : tag_in m t (key_of e) ≡ Both
+    unfolding tag_in
+    tagged =
+        let in_main = out (same_tag MainOnly) m is.main in
+        let in_top = out (same_tag TopOnly) t is.top in
+        rw (in_main, in_top) refl
+
+    pub enter-items : items_of new m t ≡ with_entry (items_of es m t) e Both
+    enter-items =
+        ap (λ (ns : Numbers). items_of ns m t) come ∙ items-insert m t es (key_of e) e.number is.order absent
+        ∙ ap (λ (a : Tag). with_entry (items_of es m t) e a) tagged
+
+    pub enter-kept : (kept2 room2 : ℕ) → IsStrictlySortedBy key_cmp (keys_of new) → length new ≤ kept2 + length m + length t
+        → kept2 + length m + length t ≤ room2 → IsKept new m t kept2 room2
+    enter-kept kept2 room2 sorted enough fits = record {
+      order = items_in_order m t new sorted;
+      main = is.main ∙ sym (ap (entries_by (same_tag MainOnly)) enter-items ∙ entries-other (same_tag MainOnly) (items_of es m t) e Both is.order absent refl);
+      top = is.top ∙ sym (ap (entries_by (same_tag TopOnly)) enter-items ∙ entries-other (same_tag TopOnly) (items_of es m t) e Both is.order absent refl);
+      nodes = enough;
+      fits = fits;
+    }
+
+    pub one_more : (there : Bool) → length new ≡ length es + (if there then 0 else 1) → length new ≤ length es + 1
+    one_more true more = omega (arith, more)
+    one_more false more = omega (arith, more)
+
+  -- ---- more nodes, and more room
+  pub more-kept : (kept2 room2 : ℕ) → kept ≤ kept2 → kept2 + length m + length t ≤ room2 → IsKept es m t kept2 room2
+  more-kept kept2 room2 more fits = record { order = is.order; main = is.main; top = is.top; nodes = omega (arith, is.nodes, more); fits = fits }
 
 -- an index of no entries
-pub none-kept : (es : Slots) (m t : List Entry) → es ≡ [] → m ≡ [] → t ≡ [] → IsKept (items_of es) m t
+pub none-kept : (es : Numbers) (m t : List Entry) (kept room : ℕ) → es ≡ [] → m ≡ [] → t ≡ [] → kept ≡ 0 → IsKept es m t kept room
 unfolding IsInOrder entries_by
-none-kept es m t none none_main none_top = rw (none, none_main, none_top) (record { order = tt; main = refl; top = refl })
+none-kept es m t kept room none none_main none_top nothing = rw (none, none_main, none_top, nothing) (record {
+  order = tt;
+  main = refl;
+  top = refl;
+  nodes = omega arith;
+  fits = omega arith;
+})

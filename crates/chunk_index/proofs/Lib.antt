@@ -1,10 +1,12 @@
 pub mod Changes
 pub mod Copies
 pub mod Floors
+pub mod Items
 pub mod Kept
 pub mod Lists
 pub mod Maps
 pub mod Meaning
 pub mod Steps
 pub mod Tags
+pub mod Trees
 pub mod Walks

@@ -1,5 +1,5 @@
 -- Where a search goes on at the root of a tree: to the left, to the right, or not at all.
-use Rattle.std.proofs.Common.{◌≡◌, ◌+◌, ◌≤◌, arith, true, false, List, [], ◌∷◌, ◌++◌, length, sym, ap, ◌∙◌, subst}
+use Rattle.std.proofs.Common.{◌≡◌, ◌+◌, ◌≤◌, arith, true, false, List, [], ◌∷◌, ◌++◌, length, refl, sym, ap, ◌∙◌, subst}
 use Rattle.std.proofs.lemmas.List.{length-append}
 use Rattle.std.specs.declared.cmp.Ordering.{Ordering}
 use Rattle.std.specs.declared.cmp.Ordering.TheVariants.{Less, Equal, Greater}
@@ -68,6 +68,11 @@ none-has xs k none has = let e : false ≡ true = sym (ap (λ (t : List Entry). 
   where
     apart : false ≡ true → ⊥
     apart e = cc
+
+pub empty-has : (xs : List Entry) (k : Key) → length xs ≡ 0 → false ≡ has_key key_of xs k
+unfolding has_key
+empty-has [] k none = refl
+empty-has (x ∷ xs) k none = absurd (omega (arith, none))
 
 pub none-put : (xs : List Entry) (x : Entry) → xs ≡ [] → [] ++ x ∷ [] ≡ put key_of xs x
 unfolding put before behind

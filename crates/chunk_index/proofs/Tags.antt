@@ -1,20 +1,17 @@
 -- The entries of one tag: what each change of the items is on them.
-use Rattle.std.proofs.Common.{◌≡◌, ◌≤◌, Bool, true, false, cond, List, [], ◌∷◌, ◌++◌, length, Some, None, unwrap_or, refl, sym, ap, ◌∙◌, arith}
+use Rattle.std.proofs.Common.{◌≡◌, ◌≤◌, Bool, true, false, List, [], ◌∷◌, ◌++◌, length, refl, sym, ap, ◌∙◌, arith}
 use Rattle.std.specs.List.{AllByRecursion}
 use Rattle.std.specs.declared.cmp.Ordering.{Ordering}
 use Rattle.std.specs.declared.cmp.Ordering.TheVariants.{Less, Equal, Greater}
 use Rattle.std.specs.Ordering.{is_eq, is_ne, is_lt, is_gt}
-use Rattle.std.specs.Map.{lookup}
 use Rattle.chunk_index.specs.declared.entry.Entry.{Entry}
 use Rattle.chunk_index.specs.declared.entry.Tag.{Tag}
 use Rattle.chunk_index.specs.declared.key.Key.{Key}
-use Rattle.chunk_index.specs.declared.slot.Slot.{Slot}
 use Rattle.chunk_index.specs.KeyOrder.{key_cmp}
 use Rattle.chunk_index.specs.Keys.{key_of, IsInOrder, has_key, before, behind, put, without}
-use Rattle.chunk_index.specs.Items.{Items, item_key, AreInOrder, entries_by}
-use Rattle.chunk_index.specs.Slots.{tag_of, item_of, moved}
-use Rattle.chunk_index.proofs.Lists.{kept_by, IsCut, neither, without_absent, around, put-without, lacks-level}
-use Rattle.chunk_index.proofs.Maps.{Slots, items_of, test, first, tail, same_test}
+use Rattle.chunk_index.specs.Items.{Items, item_key, AreInOrder, entries_by, tag_set}
+use Rattle.chunk_index.specs.Kept.{moved}
+use Rattle.chunk_index.proofs.Lists.{kept_by, neither, without_absent, around, put-without}
 
 module _ (p : Tag → Bool) where
   -- a test of keys may come before or after the test of tags
@@ -122,38 +119,28 @@ module _ (p : Tag → Bool) where
       by true is = rw is (entries-put xs e t is ∙ sym (put-without key_of (entries_by p xs) e))
       by false is = rw is (entries-past xs e t is ∙ around key_of (entries_by p xs) (key_of e) (entries_in_order xs order))
 
-  -- ---- where a look-up of a key finds a slot, the key is among the entries exactly where its tag passes
-  pub has-tagged : (es : Slots) (k : Key) (v : Slot) → AreInOrder (items_of es) → lookup (test k) es ≡ Some v → has_key key_of (entries_by p
-      (items_of es)) k ≡ p (tag_of v.place)
-  unfolding entries_by has_key
-  has-tagged [] k v order at = absurd (none_some v at)
+  -- ---- where a tag that doesn't pass is set, the entry is out
+  pub entries-set : (xs : Items) (k : Key) (t : Tag) → p t ≡ false → entries_by p (tag_set xs k t) ≡ without key_of (entries_by p xs) k
+  unfolding entries_by tag_set without
+  entries-set [] k t other = refl
+  entries-set (x ∷ xs) k t other = by (key_cmp (item_key x) k) refl (p x.1) refl (entries-set xs k t other)
     where
-      none_some : (s : Slot) → None ≡ Some s → ⊥
-      none_some s e = cc
-  has-tagged (e ∷ es) k v order at = by (p (tag_of e.1.place)) refl (key_cmp k e.0) refl (has-tagged es k v (tail k e es order))
-    where
-      c : IsCut item_key [] (item_of e) (items_of es)
-      c = first k e es order
+      differs : (o : Ordering) → key_cmp (item_key x) k ≡ o → is_eq o ≡ false → is_ne o ≡ true → (tagged : Bool) → p x.1 ≡ tagged
+          → entries_by p (tag_set xs k t) ≡ without key_of (entries_by p xs) k
+          → entries_by p (tag_set (x ∷ xs) k t) ≡ without key_of (entries_by p (x ∷ xs)) k
+      differs o is not_eq ne true tagged rest =
+          let first = ap is_eq is ∙ not_eq in
+          let second = ap is_ne is ∙ ne in
+          rw first (rw tagged (rw second (ap (λ (s : List Entry). x.0 ∷ s) rest)))
+      differs o is not_eq ne false tagged rest = let first = ap is_eq is ∙ not_eq in rw first (rw tagged rest)
 
-      found_first : test k e.0 ≡ true → e.1 ≡ v
-      found_first here = ap (λ o. unwrap_or o e.1) (sym (ap (λ b. cond b (Some e.1) (lookup (test k) es)) here) ∙ at)
-
-      found_later : test k e.0 ≡ false → lookup (test k) es ≡ Some v
-      found_later here = sym (ap (λ b. cond b (Some e.1) (lookup (test k) es)) here) ∙ at
-
-      later : (tagged : Bool) → p (tag_of e.1.place) ≡ tagged → test k e.0 ≡ false → has_key key_of (entries_by p (items_of es)) k
-          ≡ p (tag_of v.place) → has_key key_of (entries_by p (items_of (e ∷ es))) k ≡ p (tag_of v.place)
-      later true t here rest = let differs = same_test k e.0 ∙ here in rw (t, differs) rest
-      later false t here rest = rw t rest
-
-      by : (tagged : Bool) → p (tag_of e.1.place) ≡ tagged → (o : Ordering) → key_cmp k e.0 ≡ o → (lookup (test k) es ≡ Some v
-          → has_key key_of (entries_by p (items_of es)) k ≡ p (tag_of v.place))
-          → has_key key_of (entries_by p (items_of (e ∷ es))) k ≡ p (tag_of v.place)
-      by tagged t Less is rest = later tagged t (ap is_eq is) (rest (found_later (ap is_eq is)))
-      by true t Equal is rest =
-          let same = same_test k e.0 ∙ ap is_eq is in
-          rw (t, same) (sym t ∙ ap (λ (s : Slot). p (tag_of s.place)) (found_first (ap is_eq is)))
-      by false t Equal is rest =
-          rw t (lacks-entries (items_of es) k (lacks-level item_key [] (item_of e) (items_of es) c k is) ∙ sym t
-          ∙ ap (λ (s : Slot). p (tag_of s.place)) (found_first (ap is_eq is)))
-      by tagged t Greater is rest = later tagged t (ap is_eq is) (rest (found_later (ap is_eq is)))
+      by : (o : Ordering) → key_cmp (item_key x) k ≡ o → (tagged : Bool) → p x.1 ≡ tagged → entries_by p (tag_set xs k t) ≡ without key_of
+          (entries_by p xs) k
+          → entries_by p (tag_set (x ∷ xs) k t) ≡ without key_of (entries_by p (x ∷ xs)) k
+      by Less is tagged h rest = differs Less is refl refl tagged h rest
+      by Equal is true h rest =
+          let first = ap is_eq is in
+          let second = ap is_ne is in
+          rw first (rw (other, h) (rw second rest))
+      by Equal is false h rest = let first = ap is_eq is in rw first (rw (other, h) rest)
+      by Greater is tagged h rest = differs Greater is refl refl tagged h rest

@@ -1,5 +1,5 @@
 -- A step of a walk: over the slots that are left, and over a tree.
-use Rattle.std.proofs.Common.{◌≡◌, Bool, ◌&&◌, ℕ, suc, ◌+◌, ◌-◌, ◌<◌, ◌≤◌, true, false, List, [], ◌∷◌, ◌++◌, map, length, take, drop, get_or, min, Option, None, Some, MatchOption, refl, sym, ap, ◌∙◌, append_assoc, arith, length-drop}
+use Rattle.std.proofs.Common.{◌≡◌, Bool, ◌&&◌, ℕ, suc, ◌+◌, ◌-◌, ◌<◌, ◌≤◌, true, false, List, [], ◌∷◌, ◌++◌, length, take, drop, get_or, min, Option, None, Some, MatchOption, refl, sym, ap, ◌∙◌, append_assoc, arith, length-drop}
 use Rattle.std.proofs.lemmas.List.{append-nil, map-append, get_or-drop, drop-drop, length-take-le}
 use Rattle.std.proofs.lemmas.Option.{get_or_from_slice_get}
 use Rattle.std.proofs.Math.Seq.{take-suc, take-add, drop-cons}
@@ -11,68 +11,68 @@ use Rattle.std.specs.declared.cmp.Ordering.TheVariants.{Less, Equal, Greater}
 use Rattle.std.specs.declared.ops.Bound.TheVariants.{Included, Unbounded}
 use Rattle.chunk_index.specs.declared.entry.Entry.{Entry}
 use Rattle.chunk_index.specs.declared.key.Key.{Key}
-use Rattle.chunk_index.specs.declared.slot.Slot.{Slot}
 use Rattle.chunk_index.specs.declared.walk.Wanted.{Wanted}
 use Rattle.chunk_index.specs.KeyOrder.{key_cmp}
 use Rattle.chunk_index.specs.Keys.{key_of, not_before}
 use Rattle.chunk_index.specs.Items.{Items, item_key, entries_by}
-use Rattle.chunk_index.specs.Slots.{tag_of, entry_from, item_of}
+use Rattle.chunk_index.specs.Kept.{tag_in, entry_from, item_of, items_of}
 use Rattle.chunk_index.specs.Walks.{passes, left_in}
 use Rattle.chunk_index.proofs.Lists.{turned, kept_by}
-use Rattle.chunk_index.proofs.Maps.{Slots}
+use Rattle.chunk_index.proofs.Maps.{Numbers}
 use Rattle.chunk_index.proofs.Tags.{entries-append, kept-by}
 
-module _ (all rest : Slots) (k : Key) (s : Slot) (wanted : Wanted) where
-  pub first_counts : all ≡ (k, s) ∷ rest → passes wanted (tag_of s.place) ≡ true → left_in all wanted ≡ entry_from k s.number ∷ left_in rest wanted
+module _ (m t : List Entry) (all rest : Numbers) (k : Key) (n : ℕ) (wanted : Wanted) where
+  pub first_counts : all ≡ (k, n) ∷ rest → passes wanted (tag_in m t k) ≡ true → left_in all m t wanted ≡ entry_from k n ∷ left_in rest m t wanted
   unfolding entries_by
-  first_counts is counts = ap (λ (es : Slots). left_in es wanted) is ∙ rw counts refl
+  first_counts is counts = ap (λ (es : Numbers). left_in es m t wanted) is ∙ rw counts refl
 
-  pub first_passed : all ≡ (k, s) ∷ rest → passes wanted (tag_of s.place) ≡ false → left_in all wanted ≡ left_in rest wanted
+  pub first_passed : all ≡ (k, n) ∷ rest → passes wanted (tag_in m t k) ≡ false → left_in all m t wanted ≡ left_in rest m t wanted
   unfolding entries_by
-  first_passed is counts = ap (λ (es : Slots). left_in es wanted) is ∙ rw counts refl
+  first_passed is counts = ap (λ (es : Numbers). left_in es m t wanted) is ∙ rw counts refl
 
-  last_split : all ≡ rest ++ (k, s) ∷ [] → left_in all wanted ≡ left_in rest wanted ++ left_in ((k, s) ∷ []) wanted
+  last_split : all ≡ rest ++ (k, n) ∷ [] → left_in all m t wanted ≡ left_in rest m t wanted ++ left_in ((k, n) ∷ []) m t wanted
   last_split is =
-      ap (λ (es : Slots). left_in es wanted) is
-      ∙ ap (λ (xs : Items). entries_by (passes wanted) xs) (map-append item_of rest ((k, s) ∷ []))
-      ∙ entries-append (passes wanted) (map item_of rest) (item_of (k, s) ∷ [])
+      ap (λ (es : Numbers). left_in es m t wanted) is
+      ∙ ap (λ (xs : Items). entries_by (passes wanted) xs) (map-append (item_of m t) rest ((k, n) ∷ []))
+      ∙ entries-append (passes wanted) (items_of rest m t) (item_of m t (k, n) ∷ [])
 
-  pub last_counts : all ≡ rest ++ (k, s) ∷ [] → passes wanted (tag_of s.place) ≡ true → left_in all wanted ≡ left_in rest wanted ++ entry_from k s.number ∷ []
+  pub last_counts : all ≡ rest ++ (k, n) ∷ [] → passes wanted (tag_in m t k) ≡ true → left_in all m t wanted ≡ left_in rest m t wanted ++ entry_from k n ∷ []
   unfolding entries_by
   last_counts is counts = last_split is ∙ rw counts refl
 
-  pub last_passed : all ≡ rest ++ (k, s) ∷ [] → passes wanted (tag_of s.place) ≡ false → left_in all wanted ≡ left_in rest wanted
+  pub last_passed : all ≡ rest ++ (k, n) ∷ [] → passes wanted (tag_in m t k) ≡ false → left_in all m t wanted ≡ left_in rest m t wanted
   unfolding entries_by
-  last_passed is counts = last_split is ∙ rw counts (append-nil (left_in rest wanted))
+  last_passed is counts = last_split is ∙ rw counts (append-nil (left_in rest m t wanted))
 
 -- ---- what stands in a range of the map
-pub all_between : (es : Slots) → entries_between key_cmp Unbounded Unbounded es ≡ es
+pub all_between : (es : Numbers) → entries_between key_cmp Unbounded Unbounded es ≡ es
 all_between [] = refl
-all_between (e ∷ es) = ap (λ (t : Slots). e ∷ t) (all_between es)
+all_between (e ∷ es) = ap (λ (t : Numbers). e ∷ t) (all_between es)
 
 turn_le : (o : Ordering) → (is_le o && true) ≡ is_ge (ordering_reverse o)
 turn_le Less = refl
 turn_le Equal = refl
 turn_le Greater = refl
 
-items_from : (k : Key) (es : Slots) → map item_of (entries_between key_cmp (Included k) Unbounded es) ≡ kept_by item_key is_ge k (map item_of es)
-items_from k [] = refl
-items_from k (e ∷ es) = by (is_ge (key_cmp e.0 k)) refl (items_from k es)
-  where
-    tested : (is_le (key_cmp k e.0) && true) ≡ is_ge (key_cmp e.0 k)
-    tested = turn_le (key_cmp k e.0) ∙ sym (ap is_ge (turned k e.0 (key_cmp k e.0) refl))
+module _ (m t : List Entry) where
+  items_from : (k : Key) (es : Numbers) → items_of (entries_between key_cmp (Included k) Unbounded es) m t ≡ kept_by item_key is_ge k (items_of es m t)
+  items_from k [] = refl
+  items_from k (e ∷ es) = by (is_ge (key_cmp e.0 k)) refl (items_from k es)
+    where
+      tested : (is_le (key_cmp k e.0) && true) ≡ is_ge (key_cmp e.0 k)
+      tested = turn_le (key_cmp k e.0) ∙ sym (ap is_ge (turned k e.0 (key_cmp k e.0) refl))
 
-    by : (stays : Bool) → is_ge (key_cmp e.0 k) ≡ stays
-        → map item_of (entries_between key_cmp (Included k) Unbounded es) ≡ kept_by item_key is_ge k (map item_of es)
-        → map item_of (entries_between key_cmp (Included k) Unbounded (e ∷ es)) ≡ kept_by item_key is_ge k (map item_of (e ∷ es))
-    by true is rest = let here = tested ∙ is in rw (here, is) (ap (λ (t : Items). item_of e ∷ t) rest)
-    by false is rest = let here = tested ∙ is in rw (here, is) rest
+      by : (stays : Bool) → is_ge (key_cmp e.0 k) ≡ stays
+          → items_of (entries_between key_cmp (Included k) Unbounded es) m t ≡ kept_by item_key is_ge k (items_of es m t)
+          → items_of (entries_between key_cmp (Included k) Unbounded (e ∷ es)) m t ≡ kept_by item_key is_ge k (items_of (e ∷ es) m t)
+      by true is rest = let here = tested ∙ is in rw (here, is) (ap (λ (s : Items). item_of m t e ∷ s) rest)
+      by false is rest = let here = tested ∙ is in rw (here, is) rest
 
--- what is wanted of the slots from a key on is what is wanted of all, but for what stands before the key
-pub left_from : (k : Key) (es : Slots) (wanted : Wanted)
-    → left_in (entries_between key_cmp (Included k) Unbounded es) wanted ≡ not_before key_of (left_in es wanted) k
-unfolding not_before
-left_from k es wanted = ap (λ (t : Items). entries_by (passes wanted) t) (items_from k es) ∙ kept-by (passes wanted) is_ge k (map item_of es)
+  -- what is wanted of the slots from a key on is what is wanted of all, but for what stands before the key
+  pub left_from : (k : Key) (es : Numbers) (wanted : Wanted)
+      → left_in (entries_between key_cmp (Included k) Unbounded es) m t wanted ≡ not_before key_of (left_in es m t wanted) k
+  unfolding not_before
+  left_from k es wanted = ap (λ (xs : Items). entries_by (passes wanted) xs) (items_from k es) ∙ kept-by (passes wanted) is_ge k (items_of es m t)
 
 -- ---- the first and the last of a part of a list
 module _ (xs : List Entry) (d : Entry) (a b : ℕ) where

@@ -1,12 +1,14 @@
 pub mod Changes
 pub mod Floors
+pub mod InOrder
 pub mod Items
+pub mod Kept
 pub mod KeyLaws
 pub mod KeyMeaning
 pub mod KeyOrder
 pub mod Keys
-pub mod Slots
 pub mod Sources
+pub mod Spares
 pub mod TreeShape
 pub mod Trees
 pub mod Walks

@@ -1,13 +1,12 @@
-ghost use Rattle.std.specs.Prelude.{◌≡◌, [], true, false, OnOk, OnErr};
-ghost use Rattle.std.specs.BTreeMap.{insert_entry, IsOrdered};
+ghost use Rattle.std.specs.Prelude.{◌≡◌, [], true, false, Some, OnOk, OnErr, MatchOption};
 ghost use Rattle.chunk_index.specs.declared.entry.Tag.TheVariants.{Both};
-ghost use Rattle.chunk_index.specs.KeyOrder.{key_cmp};
-ghost use Rattle.chunk_index.specs.Keys.{key_of, not_before};
-ghost use Rattle.chunk_index.specs.Items.{AreInOrder, HasEntry, has, with_entry, without_entry, with_tag, entries_in, entries_tagged};
+ghost use Rattle.chunk_index.specs.Keys.{key_of, not_before, without};
+ghost use Rattle.chunk_index.specs.Items.{item_key, AreInOrder, HasEntry, found, has, with_entry, without_entry, with_tag, tag_set, entries_in, entries_tagged};
 
 use crate::Level;
+use crate::apart::{put_in, tag_of, take_out};
 use crate::entry::{Entry, Tag};
-use crate::slot::{Place, Slot, put_in};
+use crate::key::Key;
 use crate::sort_key::SortKey;
 use crate::spares::Spares;
 use crate::tree::Tree;
@@ -21,25 +20,26 @@ use std::marker::Model;
 #[derive(Drop)]
 pub struct ChunkIndex {
     alloc: Global,
-    // All entries.
-    slots: BTreeMap<SortKey, Slot>,
+    // Of all entries, the numbers of their records.
+    numbers: BTreeMap<SortKey, usize>,
     // Those of main alone.
     main: Tree,
     // Those of staging alone.
     top: Tree,
-    // Nodes of entries that went out.
+    // A node for each of the others, and some more.
     spares: Spares,
 }
 
 impl Model for ChunkIndex {
     ghost use Rattle.chunk_index.specs.Items.{Items};
-    ghost use Rattle.chunk_index.specs.Slots.{items_of, IsKept};
+    ghost use Rattle.chunk_index.specs.Kept.{items_of, IsKept};
+    ghost use Rattle.chunk_index.specs.Spares.{kept, room};
 
     ghost Value = { Items };
 
-    ghost view = { λ a. items_of a.slots.entries };
+    ghost view = { λ a. items_of a.numbers.entries a.main a.top };
 
-    ghost invariant = { λ a. IsKept (items_of a.slots.entries) a.main a.top };
+    ghost invariant = { λ a. IsKept a.numbers.entries a.main a.top (kept a.spares) (room a.spares) };
 }
 
 impl ChunkIndex {
@@ -49,7 +49,7 @@ impl ChunkIndex {
     {
         ChunkIndex {
             alloc,
-            slots: BTreeMap::new(alloc),
+            numbers: BTreeMap::new(alloc),
             main: Tree::new(),
             top: Tree::new(),
             spares: Spares::new(alloc),
@@ -61,7 +61,14 @@ impl ChunkIndex {
         ensures found { result ≡ has self.now entry.now }
         ensures order { AreInOrder self.now }
     {
-        self.slots.contains_key(&SortKey::of(entry))
+        self.numbers.contains_key(&SortKey::of(entry))
+    }
+
+    /// The number of the record of the entry of that entry's key, or `None` where none is there. Takes no memory.
+    pub fn number(&self, entry: &Entry) -> Option<usize>
+        ensures { MatchOption result (has self.now entry.now ≡ false) (λ number. (t : Tag) × (found self.now (key_of entry.now) ≡ Some (number, t))) }
+    {
+        self.numbers.get(&SortKey::of(entry)).copied()
     }
 
     /// Puts an entry in its place, under a tag. No entry of its key is there.
@@ -73,20 +80,8 @@ impl ChunkIndex {
         ensures ok { OnOk result (self.new ≡ with_entry self.old entry tag) }
         ensures err { OnErr result (self.new ≡ self.old) }
     {
-        // No tree has more entries than the map.
-        prove!(self.slots.len() < usize::MAX);
-        let node = self.spares.node(self.alloc, entry)?;
-        match tag {
-            Tag::Both => insert_slot(&mut self.slots, entry, Place::Both(node))?,
-            Tag::MainOnly => {
-                insert_slot(&mut self.slots, entry, Place::MainOnly)?;
-                put_in(&mut self.main, entry, node);
-            }
-            Tag::TopOnly => {
-                insert_slot(&mut self.slots, entry, Place::TopOnly)?;
-                put_in(&mut self.top, entry, node);
-            }
-        }
+        self.enter(entry)?;
+        self.set_apart(entry, tag);
         Ok(())
     }
 
@@ -96,11 +91,8 @@ impl ChunkIndex {
         ensures { self.new ≡ without_entry self.old entry.now }
     {
         let key = SortKey::of(entry);
-        let Some(mut slot) = self.slots.remove(&key) else {
-            unreachable!()
-        };
-        self.spares
-            .keep(slot.leave(&key, &mut self.main, &mut self.top));
+        self.share(key.exact());
+        self.leave(&key);
     }
 
     /// Changes the tag of an entry, which is there, its record's number included. Takes no memory.
@@ -108,12 +100,60 @@ impl ChunkIndex {
         requires { HasEntry self.old entry.now }
         ensures { self.new ≡ with_tag self.old entry.now tag }
     {
+        self.share(&Key::of(entry));
+        self.set_apart(*entry, tag);
+    }
+
+    /// Puts an entry in its place, in both levels. No entry of its key is there.
+    ///
+    /// # Errors
+    /// Where there is no memory for it. All is as it was.
+    fn enter(&mut self, entry: Entry) -> Result<(), NoMemory>
+        requires { has self.old entry ≡ false }
+        ensures ok { OnOk result (self.new ≡ with_entry self.old entry Both) }
+        ensures err { OnErr result (self.new ≡ self.old) }
+    {
+        let count = self.numbers.len();
+        let apart = self.main.len() + self.top.len();
+        self.spares
+            .need(self.alloc, entry, count - apart + 1, apart)?;
+        self.numbers.insert(SortKey::of(&entry), entry.number)?;
+        Ok(())
+    }
+
+    /// Takes the entry of a key out, where one is there. It stands in both levels.
+    fn leave(&mut self, key: &SortKey)
+        requires { tag_set self.old key.now Both ≡ self.old }
+        ensures { self.new ≡ without item_key self.old key.now }
+    {
+        self.numbers.remove(key);
+        let apart = self.main.len() + self.top.len();
+        self.spares.trim(self.numbers.len() - apart);
+    }
+
+    /// Brings the entry of a key into both levels, where one is there. Its node waits from then on.
+    fn share(&mut self, key: &Key)
+        ensures { self.new ≡ tag_set self.old key.now Both }
+    {
+        match tag_of(&self.main, &self.top, key) {
+            Tag::Both => {}
+            Tag::MainOnly => self.spares.give(take_out(&mut self.main, key)),
+            Tag::TopOnly => self.spares.give(take_out(&mut self.top, key)),
+        }
+    }
+
+    /// Gives a tag to an entry that stands in both levels.
+    fn set_apart(&mut self, entry: Entry, tag: Tag)
+        requires there { HasEntry self.old entry }
+        requires shared { with_tag self.old entry Both ≡ self.old }
+        ensures { self.new ≡ with_tag self.old entry tag }
+    {
         // No tree has more entries than the map.
-        prove!(self.slots.len() < usize::MAX);
-        let key = SortKey::of(entry);
-        match self.slots.get_mut(&key) {
-            Some(slot) => slot.move_to(tag, &key, &mut self.main, &mut self.top),
-            None => unreachable!(),
+        prove!(self.numbers.len() < usize::MAX);
+        match tag {
+            Tag::Both => {}
+            Tag::MainOnly => put_in(&mut self.main, entry, self.spares.take()),
+            Tag::TopOnly => put_in(&mut self.top, entry, self.spares.take()),
         }
     }
 
@@ -124,7 +164,12 @@ impl ChunkIndex {
         ensures entries { result ≡ entries_in level self.now }
         ensures order { AreInOrder self.now }
     {
-        IndexWalk::over_slots(self.slots.range(..), Wanted::InLevel(level))
+        IndexWalk::over_map(
+            self.numbers.range(..),
+            &self.main,
+            &self.top,
+            Wanted::InLevel(level),
+        )
     }
 
     /// The entries of one tag, in key order. Takes no memory.
@@ -135,7 +180,12 @@ impl ChunkIndex {
         ensures order { AreInOrder self.now }
     {
         match tag {
-            Tag::Both => IndexWalk::over_slots(self.slots.range(..), Wanted::OfBoth),
+            Tag::Both => IndexWalk::over_map(
+                self.numbers.range(..),
+                &self.main,
+                &self.top,
+                Wanted::OfBoth,
+            ),
             Tag::MainOnly => IndexWalk::over_tree(&self.main),
             Tag::TopOnly => IndexWalk::over_tree(&self.top),
         }
@@ -148,27 +198,11 @@ impl ChunkIndex {
         ensures entries { result ≡ not_before key_of (entries_tagged Both self.now) (key_of first.now) }
         ensures order { AreInOrder self.now }
     {
-        IndexWalk::over_slots(self.slots.range(SortKey::of(first)..), Wanted::OfBoth)
+        IndexWalk::over_map(
+            self.numbers.range(SortKey::of(first)..),
+            &self.main,
+            &self.top,
+            Wanted::OfBoth,
+        )
     }
-}
-
-/// Puts a slot for an entry under its key.
-///
-/// # Errors
-/// Where there is no memory for it. The slots are as they were.
-fn insert_slot(
-    slots: &mut BTreeMap<SortKey, Slot>,
-    entry: Entry,
-    place: Place,
-) -> Result<(), NoMemory>
-    ensures ok { OnOk result (slots.new.entries ≡ insert_entry key_cmp slots.old.entries (key_of entry) (record { number = entry.number; place = place })) }
-    ensures err { OnErr result (slots.new.entries ≡ slots.old.entries) }
-    ensures order { IsOrdered key_cmp slots.new }
-{
-    let slot = Slot {
-        number: entry.number,
-        place,
-    };
-    slots.insert(SortKey::of(&entry), slot)?;
-    Ok(())
 }

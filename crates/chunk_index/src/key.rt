@@ -4,7 +4,7 @@ ghost use Rattle.std.specs.Cmp.{partial_order_from_agreeing_total};
 ghost use Rattle.std.proofs.Common.{refl};
 ghost use Rattle.chunk_index.specs.KeyOrder.{key_cmp};
 ghost use Rattle.chunk_index.specs.Keys.{key_of};
-ghost use Rattle.chunk_index.specs.Slots.{entry_from};
+ghost use Rattle.chunk_index.specs.Kept.{entry_from};
 ghost use Rattle.chunk_index.specs.KeyLaws.{key_cmp_total, key_ties};
 
 use crate::entry::Entry;

@@ -8,11 +8,11 @@
 #![tactic(auto)]
 
 mod ahead;
+mod apart;
 mod entry;
 mod index;
 mod key;
 mod laws;
-mod slot;
 mod sort_key;
 mod spares;
 mod tree;

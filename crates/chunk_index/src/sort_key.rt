@@ -6,7 +6,7 @@ ghost use Rattle.chunk_index.specs.Floors.{floor_of};
 ghost use Rattle.chunk_index.specs.KeyOrder.{key_cmp};
 ghost use Rattle.chunk_index.specs.KeyLaws.{key_cmp_total};
 ghost use Rattle.chunk_index.specs.Keys.{key_of};
-ghost use Rattle.chunk_index.specs.Slots.{entry_from};
+ghost use Rattle.chunk_index.specs.Kept.{entry_from};
 
 use crate::entry::Entry;
 use crate::key::Key;

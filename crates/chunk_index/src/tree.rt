@@ -227,6 +227,37 @@ impl Tree {
         }
     }
 
+    /// Whether an entry has a key.
+    // A test while there is none.
+    #[inline(always)]
+    pub fn has(&self, key: &Key) -> bool
+        requires { IsInOrder key_of self.now }
+        ensures { result ≡ has_key key_of self.now key.now }
+    {
+        if self.len == 0 {
+            return false;
+        }
+        self.finds(key)
+    }
+
+    /// The same by a search.
+    fn finds(&self, key: &Key) -> bool
+        requires { IsInOrder key_of self.now }
+        ensures { result ≡ has_key key_of self.now key.now }
+    {
+        match &self.root {
+            None => false,
+            Some(root) => {
+                let node: &Node = root;
+                match key.cmp(&Key::of(&node.entry)) {
+                    Ordering::Less => node.left.finds(key),
+                    Ordering::Equal => true,
+                    Ordering::Greater => node.right.finds(key),
+                }
+            }
+        }
+    }
+
     /// Fills a slice with the entries from the one with that many before it on.
     ///
     /// That costs a search for the first one, and then a step or two for each.

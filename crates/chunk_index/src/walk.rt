@@ -1,11 +1,13 @@
 ghost use Rattle.std.specs.Prelude.{◌≡◌, ◌≤◌, length};
+ghost use Rattle.chunk_index.specs.InOrder.{IsInOrder-prop};
+ghost use Rattle.chunk_index.specs.Keys.{IsInOrder, key_of};
 ghost use Rattle.std.specs.Iterator.{YieldsFirst, YieldsLast, item_count};
 ghost use Rattle.chunk_index.specs.Walks.{left_in, passes};
 
 use crate::Level;
 use crate::ahead::Ahead;
+use crate::apart::tag_of;
 use crate::entry::{Entry, Tag};
-use crate::slot::Slot;
 use crate::sort_key::SortKey;
 use crate::tree::Tree;
 use std::collections::btree_map;
@@ -31,15 +33,19 @@ impl<'a> Model for IndexWalk<'a> {
 /// What a walk goes over.
 #[derive(Drop)]
 enum Source<'a> {
-    Slots(SlotSpan<'a>),
+    Map(MapSpan<'a>),
     Tree(TreeSpan<'a>),
 }
 
-/// The slots that are left, and which of them count.
+/// The numbers that are left, under their keys, with the trees that tell the tags, and which tags count.
 #[derive(Drop)]
-struct SlotSpan<'a> {
-    entries: btree_map::Range<'a, SortKey, Slot>,
+struct MapSpan<'a> {
+    numbers: btree_map::Range<'a, SortKey, usize>,
+    main: &'a Tree,
+    top: &'a Tree,
     wanted: Wanted,
+    ghost main_order: { IsInOrder key_of main.now } by { IsInOrder-prop key_of main.now },
+    ghost top_order: { IsInOrder key_of top.now } by { IsInOrder-prop key_of top.now },
 }
 
 /// Entries that were read ahead, and behind them those of a tree from the one with `from` before it up to the one with `to`
@@ -54,7 +60,7 @@ struct TreeSpan<'a> {
     ghost within: { to ≤ length tree.now },
 }
 
-/// Which entries of the slots a walk gives.
+/// Which entries of the map a walk gives.
 #[derive(Clone, Copy)]
 pub enum Wanted {
     InLevel(Level),
@@ -75,12 +81,24 @@ impl Wanted {
 }
 
 impl<'a> IndexWalk<'a> {
-    /// Over the wanted ones of some slots.
-    pub fn over_slots(entries: btree_map::Range<'a, SortKey, Slot>, wanted: Wanted) -> IndexWalk<'a>
-        ensures { result ≡ left_in entries.entry wanted }
+    /// Over the wanted ones of some keys, whose tags the trees of main alone and of staging alone tell.
+    pub fn over_map(
+        numbers: btree_map::Range<'a, SortKey, usize>,
+        main: &'a Tree,
+        top: &'a Tree,
+        wanted: Wanted,
+    ) -> IndexWalk<'a>
+        requires main { IsInOrder key_of main.now }
+        requires top { IsInOrder key_of top.now }
+        ensures { result ≡ left_in numbers.entry main.now top.now wanted }
     {
         IndexWalk {
-            source: Source::Slots(SlotSpan { entries, wanted }),
+            source: Source::Map(MapSpan {
+                numbers,
+                main,
+                top,
+                wanted,
+            }),
         }
     }
 
@@ -108,7 +126,7 @@ impl<'a> Iterator for IndexWalk<'a> {
 
     fn next(&mut self) -> Option<Entry> {
         match &mut self.source {
-            Source::Slots(span) => span.take_first(),
+            Source::Map(span) => span.take_first(),
             Source::Tree(span) => span.take_first(),
         }
     }
@@ -119,34 +137,34 @@ impl<'a> DoubleEndedIterator for IndexWalk<'a> {
 
     fn next_back(&mut self) -> Option<Entry> {
         match &mut self.source {
-            Source::Slots(span) => span.take_last(),
+            Source::Map(span) => span.take_last(),
             Source::Tree(span) => span.take_last(),
         }
     }
 }
 
-impl<'a> SlotSpan<'a> {
-    ghost use Rattle.chunk_index.specs.Sources.{slots_left};
+impl<'a> MapSpan<'a> {
+    ghost use Rattle.chunk_index.specs.Sources.{map_left};
 
-    /// The entry of the first slot that counts.
+    /// The first entry that counts.
     fn take_first(&mut self) -> Option<Entry>
-        ensures { YieldsFirst slots_left self.old result self.new }
+        ensures { YieldsFirst map_left self.old result self.new }
     {
-        while let Some((key, slot)) = self.entries.next() {
-            if self.wanted.passes(slot.tag()) {
-                return Some(key.entry(slot.number));
+        while let Some((key, number)) = self.numbers.next() {
+            if self.wanted.passes(tag_of(self.main, self.top, key.exact())) {
+                return Some(key.entry(*number));
             }
         }
         None
     }
 
-    /// The entry of the last slot that counts.
+    /// The last entry that counts.
     fn take_last(&mut self) -> Option<Entry>
-        ensures { YieldsLast slots_left self.old result self.new }
+        ensures { YieldsLast map_left self.old result self.new }
     {
-        while let Some((key, slot)) = self.entries.next_back() {
-            if self.wanted.passes(slot.tag()) {
-                return Some(key.entry(slot.number));
+        while let Some((key, number)) = self.numbers.next_back() {
+            if self.wanted.passes(tag_of(self.main, self.top, key.exact())) {
+                return Some(key.entry(*number));
             }
         }
         None
@@ -157,7 +175,7 @@ impl<'a> TreeSpan<'a> {
     ghost use Rattle.chunk_index.specs.Sources.{tree_left};
 
     /// The first entry that is left. Where none was read ahead, some are read, for one search by rank.
-    // Kept out of the loops that walk slots, which have no use for it.
+    // Kept out of the loops that walk the map, which have no use for it.
     #[inline(never)]
     fn take_first(&mut self) -> Option<Entry>
         ensures { YieldsFirst tree_left self.old result self.new }

@@ -12,6 +12,6 @@ returns-clause-order c = subst AreInOrder c.self.view_is c.self.invariant.order
 pub returns-clause-found : goal.returns-clause-found
 returns-clause-found c =
     c.contains_key.ensures
-    ∙ ap (λ (k : Key). is_some (lookup (test k) c.self.inside.slots.entries)) c.of.ensures
-    ∙ sym (has-lookup (key_of c.args.entry.now) c.self.inside.slots.entries)
+    ∙ ap (λ (k : Key). is_some (lookup (test k) c.self.inside.numbers.entries)) c.of.ensures
+    ∙ sym (has-lookup c.self.inside.main c.self.inside.top (key_of c.args.entry.now) c.self.inside.numbers.entries)
     ∙ ap (λ (items : Items). has items c.args.entry.now) c.self.view_is
