@@ -90,7 +90,8 @@ tag-put xs e a b =
     tag-past (kept_by item_key is_lt (key_of e) xs) ((e, a) ∷ kept_by item_key is_gt (key_of e) xs) (key_of e) b
     ∙ ap (λ (s : Items). s ++ tag_set ((e, a) ∷ kept_by item_key is_gt (key_of e) xs) (key_of e) b)
     (tag-none (kept_by item_key is_lt (key_of e) xs) (key_of e) b (kept-lacks is_lt refl (key_of e) xs))
-    ∙ ap (λ (s : Items). kept_by item_key is_lt (key_of e) xs ++ s) (tag-first (kept_by item_key is_gt (key_of e) xs) e a b (kept-lacks is_gt refl (key_of e) xs))
+    ∙ ap (λ (s : Items). kept_by item_key is_lt (key_of e) xs ++ s)
+    (tag-first (kept_by item_key is_gt (key_of e) xs) e a b (kept-lacks is_gt refl (key_of e) xs))
 
 found-first : (ys : Items) (e : Entry) (a : Tag) → found ((e, a) ∷ ys) (key_of e) ≡ Some (e.number, a)
 unfolding found

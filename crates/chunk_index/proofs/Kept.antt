@@ -11,7 +11,7 @@ use Rattle.chunk_index.specs.declared.entry.Tag.TheVariants.{Both, MainOnly, Top
 use Rattle.chunk_index.specs.declared.key.Key.{Key}
 use Rattle.chunk_index.specs.KeyOrder.{key_cmp}
 use Rattle.chunk_index.specs.Keys.{key_of, IsInOrder, has_key, put, without}
-use Rattle.chunk_index.specs.Items.{item_key, AreInOrder, HasEntry, has, same_tag, entries_by, tag_set, with_tag, with_entry}
+use Rattle.chunk_index.specs.Items.{Items, item_key, AreInOrder, HasEntry, has, same_tag, entries_by, tag_set, with_tag, with_entry}
 use Rattle.chunk_index.specs.Kept.{tag_in, items_of, IsKept}
 use Rattle.chunk_index.proofs.Lists.{without_absent, lacks_without, length_without, put-without}
 use Rattle.chunk_index.proofs.Maps.{Numbers, test, items_in_order, length-items, items-insert, items-remove}
@@ -31,7 +31,7 @@ module _ (m t n u : List Entry) where
   order-again [] order = tt
   order-again (e ∷ es) order = (all-again e.0 es order.0, order-again es order.1)
 
-module _ (es : Numbers) (m t : List Entry) (kept room : ℕ) (is : IsKept es m t kept room) where
+module _ {es : Numbers} {m t : List Entry} {kept room : ℕ} (is : IsKept es m t kept room) where
   -- ---- what the trees are
   pub main-order : IsInOrder key_of m
   main-order = subst (IsInOrder key_of) (sym is.main) (entries_in_order (same_tag MainOnly) (items_of es m t) is.order)
@@ -48,16 +48,20 @@ module _ (es : Numbers) (m t : List Entry) (kept room : ℕ) (is : IsKept es m t
 
   -- ---- a key that comes out of both trees
   module _ (k : Key) (n u : List Entry) (main : n ≡ without key_of m k) (top : u ≡ without key_of t k) where
-    pub shared-items : items_of es n u ≡ tag_set (items_of es m t) k Both
-    shared-items =
+    out_of_both : items_of es n u ≡ tag_set (items_of es m t) k Both
+    out_of_both =
         ap (λ (xs : List Entry). items_of es xs u) main
         ∙ ap (λ (xs : List Entry). items_of es (without key_of m k) xs) top
         ∙ items-set m t (without key_of m k) (without key_of t k) k Both (tells-without m t k) es
 
+    pub shared-items : {items : Items} → items_of es m t ≡ items → items_of es n u ≡ tag_set items k Both
+    shared-items seen = out_of_both ∙ ap (λ (xs : Items). tag_set xs k Both) seen
+
     comes_out : (p : Tag → Bool) (old new : List Entry) → p Both ≡ false → old ≡ entries_by p (items_of es m t) → new ≡ without key_of old k
         → new ≡ entries_by p (items_of es n u)
     comes_out p old new drops was out =
-        out ∙ ap (λ (xs : List Entry). without key_of xs k) was ∙ sym (entries-set p (items_of es m t) k Both drops) ∙ ap (entries_by p) (sym shared-items)
+        out ∙ ap (λ (xs : List Entry). without key_of xs k) was ∙ sym (entries-set p (items_of es m t) k Both drops)
+        ∙ ap (entries_by p) (sym out_of_both)
 
     pub shared-kept : (kept2 room2 : ℕ) → kept2 + length n + length u ≡ kept + length m + length t → room2 ≡ room → IsKept es n u kept2 room2
     shared-kept kept2 room2 same same_room = record {
@@ -69,7 +73,10 @@ module _ (es : Numbers) (m t : List Entry) (kept room : ℕ) (is : IsKept es m t
     }
 
   -- ---- a key of an entry that stands in both levels
-  module _ (k : Key) (shared : tag_set (items_of es m t) k Both ≡ items_of es m t) where
+  module _ (k : Key) {items : Items} (seen : items_of es m t ≡ items) (in_both : tag_set items k Both ≡ items) where
+    shared : tag_set (items_of es m t) k Both ≡ items_of es m t
+    shared = ap (λ (xs : Items). tag_set xs k Both) seen ∙ in_both ∙ sym seen
+
     lacks : (p : Tag → Bool) (list : List Entry) → p Both ≡ false → list ≡ entries_by p (items_of es m t) → has_key key_of list k ≡ false
     lacks p list drops was =
         ap (λ (xs : List Entry). has_key key_of xs k) (was ∙ ap (entries_by p) (sym shared) ∙ entries-set p (items_of es m t) k Both drops)
@@ -83,14 +90,17 @@ module _ (es : Numbers) (m t : List Entry) (kept room : ℕ) (is : IsKept es m t
 
     -- ---- its number goes
     module _ (new : Numbers) (gone : new ≡ remove_entry (test k) es) where
-      pub leave-items : items_of new m t ≡ without item_key (items_of es m t) k
-      leave-items = ap (λ (ns : Numbers). items_of ns m t) gone ∙ items-remove m t es k is.order
+      left : items_of new m t ≡ without item_key (items_of es m t) k
+      left = ap (λ (ns : Numbers). items_of ns m t) gone ∙ items-remove m t es k is.order
+
+      pub leave-items : items_of new m t ≡ without item_key items k
+      leave-items = left ∙ ap (λ (xs : Items). without item_key xs k) seen
 
       stays_out : (p : Tag → Bool) (list : List Entry) → has_key key_of list k ≡ false → list ≡ entries_by p (items_of es m t)
           → list ≡ entries_by p (items_of new m t)
       stays_out p list lacking was =
           sym (without_absent key_of list k lacking) ∙ ap (λ (xs : List Entry). without key_of xs k) was ∙ sym (entries-without p (items_of es m t) k)
-          ∙ ap (entries_by p) (sym leave-items)
+          ∙ ap (entries_by p) (sym left)
 
       pub leave-few : length m + length t ≤ length new
       leave-few = omega (
@@ -103,10 +113,10 @@ module _ (es : Numbers) (m t : List Entry) (kept room : ℕ) (is : IsKept es m t
       )
 
       pub fewer : length new ≤ length es
-      fewer = omega (arith, ap length leave-items, length-items m t new, length-items m t es, length_without item_key (items_of es m t) k)
+      fewer = omega (arith, ap length left, length-items m t new, length-items m t es, length_without item_key (items_of es m t) k)
 
-      pub leave-kept : (kept2 room2 : ℕ) → IsStrictlySortedBy key_cmp (keys_of new) → length new - (length m + length t) ≤ kept2 → kept2 ≤ kept → room2 ≡ room
-          → IsKept new m t kept2 room2
+      pub leave-kept : (kept2 room2 : ℕ) → IsStrictlySortedBy key_cmp (keys_of new) → length new - (length m + length t) ≤ kept2 → kept2 ≤ kept
+          → room2 ≡ room → IsKept new m t kept2 room2
       leave-kept kept2 room2 sorted enough less same_room = record {
         order = items_in_order m t new sorted;
         main = stays_out (same_tag MainOnly) m main-lacks is.main;
@@ -116,61 +126,74 @@ module _ (es : Numbers) (m t : List Entry) (kept room : ℕ) (is : IsKept es m t
       }
 
   -- ---- an entry that stands in both levels gets a tag
-  module _ (e : Entry) (there : HasEntry (items_of es m t) e) (shared : with_tag (items_of es m t) e Both ≡ items_of es m t) where
+  module _ (e : Entry) {items : Items} (seen : items_of es m t ≡ items) (has_it : HasEntry items e) (in_both : with_tag items e Both ≡ items) where
+    there : HasEntry (items_of es m t) e
+    there = subst (λ (xs : Items). HasEntry xs e) (sym seen) has_it
+
     pub has_node : length m + length t + 1 ≤ length es
     has_node = omega (
       arith,
       ap length is.main,
       ap length is.top,
       length-items m t es,
-      two-tags-less (items_of es m t) (key_of e) (has-found (items_of es m t) (key_of e) _ there.1) shared,
+      two-tags-less (items_of es m t) (key_of e) (has-found (items_of es m t) (key_of e) _ there.1) (shared (key_of e) seen in_both),
     )
 
-    goes_in : (p : Tag → Bool) (list : List Entry) (a : Tag) → p a ≡ true → has_key key_of list (key_of e) ≡ false → list ≡ entries_by p (items_of es m t)
+    goes_in : (p : Tag → Bool) (list : List Entry) (a : Tag) → p a ≡ true → list ≡ entries_by p (items_of es m t)
         → put key_of list e ≡ entries_by p (with_tag (items_of es m t) e a)
-    goes_in p list a passes lacking was =
+    goes_in p list a passes was =
         ap (λ (xs : List Entry). put key_of xs e) was
         ∙ sym (put-without key_of (entries_by p (items_of es m t)) e)
         ∙ sym (entries-moved p (items_of es m t) e a is.order ∙ rw passes refl)
         ∙ ap (entries_by p) (sym (tag-moves (items_of es m t) e there.0 a is.order there.1))
 
-    stays : (p : Tag → Bool) (list : List Entry) (a : Tag) → p a ≡ false → has_key key_of list (key_of e) ≡ false → list ≡ entries_by p (items_of es m t)
-        → list ≡ entries_by p (with_tag (items_of es m t) e a)
+    stays : (p : Tag → Bool) (list : List Entry) (a : Tag) → p a ≡ false → has_key key_of list (key_of e) ≡ false
+        → list ≡ entries_by p (items_of es m t) → list ≡ entries_by p (with_tag (items_of es m t) e a)
     stays p list a drops lacking was =
         sym (without_absent key_of list (key_of e) lacking) ∙ ap (λ (xs : List Entry). without key_of xs (key_of e)) was
         ∙ sym (entries-set p (items_of es m t) (key_of e) a drops)
 
-    pub main-items : (n : List Entry) → n ≡ put key_of m e → items_of es n t ≡ with_tag (items_of es m t) e MainOnly
-    main-items n put_in = ap (λ (xs : List Entry). items_of es xs t) put_in ∙ items-set m t (put key_of m e) t (key_of e) MainOnly (tells-main m t e) es
+    in_main : (n : List Entry) → n ≡ put key_of m e → items_of es n t ≡ with_tag (items_of es m t) e MainOnly
+    in_main n put_in = ap (λ (xs : List Entry). items_of es xs t) put_in ∙ items-set m t (put key_of m e) t (key_of e) MainOnly (tells-main m t e) es
+
+    pub main-items : (n : List Entry) → n ≡ put key_of m e → items_of es n t ≡ with_tag items e MainOnly
+    main-items n put_in = in_main n put_in ∙ ap (λ (xs : Items). with_tag xs e MainOnly) seen
 
     pub main-kept : (n : List Entry) (kept2 room2 : ℕ) → n ≡ put key_of m e → length n ≡ length m + 1 → kept2 + 1 ≡ kept → room2 ≡ room
         → IsKept es n t kept2 room2
     main-kept n kept2 room2 put_in longer less same_room = record {
       order = order-again m t n t es is.order;
-      main = put_in ∙ goes_in (same_tag MainOnly) m MainOnly refl (main-lacks (key_of e) shared) is.main
-          ∙ ap (entries_by (same_tag MainOnly)) (sym (main-items n put_in));
-      top = stays (same_tag TopOnly) t MainOnly refl (top-lacks (key_of e) shared) is.top ∙ ap (entries_by (same_tag TopOnly)) (sym (main-items n put_in));
+      main = put_in ∙ goes_in (same_tag MainOnly) m MainOnly refl is.main
+          ∙ ap (entries_by (same_tag MainOnly)) (sym (in_main n put_in));
+      top = stays (same_tag TopOnly) t MainOnly refl (top-lacks (key_of e) seen in_both) is.top ∙ ap (entries_by (same_tag TopOnly)) (sym (in_main n put_in));
       nodes = omega (arith, is.nodes, longer, less);
       fits = omega (arith, is.fits, longer, less, same_room);
     }
 
-    pub top-items : (u : List Entry) → u ≡ put key_of t e → items_of es m u ≡ with_tag (items_of es m t) e TopOnly
-    top-items u put_in = ap (λ (xs : List Entry). items_of es m xs) put_in
-        ∙ items-set m t m (put key_of t e) (key_of e) TopOnly (tells-top m t e (main-lacks (key_of e) shared)) es
+    in_top : (u : List Entry) → u ≡ put key_of t e → items_of es m u ≡ with_tag (items_of es m t) e TopOnly
+    in_top u put_in = ap (λ (xs : List Entry). items_of es m xs) put_in
+        ∙ items-set m t m (put key_of t e) (key_of e) TopOnly (tells-top m t e (main-lacks (key_of e) seen in_both)) es
+
+    pub top-items : (u : List Entry) → u ≡ put key_of t e → items_of es m u ≡ with_tag items e TopOnly
+    top-items u put_in = in_top u put_in ∙ ap (λ (xs : Items). with_tag xs e TopOnly) seen
 
     pub top-kept : (u : List Entry) (kept2 room2 : ℕ) → u ≡ put key_of t e → length u ≡ length t + 1 → kept2 + 1 ≡ kept → room2 ≡ room
         → IsKept es m u kept2 room2
     top-kept u kept2 room2 put_in longer less same_room = record {
       order = order-again m t m u es is.order;
-      main = stays (same_tag MainOnly) m TopOnly refl (main-lacks (key_of e) shared) is.main ∙ ap (entries_by (same_tag MainOnly)) (sym (top-items u put_in));
-      top = put_in ∙ goes_in (same_tag TopOnly) t TopOnly refl (top-lacks (key_of e) shared) is.top
-          ∙ ap (entries_by (same_tag TopOnly)) (sym (top-items u put_in));
+      main = stays (same_tag MainOnly) m TopOnly refl (main-lacks (key_of e) seen in_both) is.main ∙ ap (entries_by (same_tag MainOnly)) (sym (in_top u put_in));
+      top = put_in ∙ goes_in (same_tag TopOnly) t TopOnly refl is.top
+          ∙ ap (entries_by (same_tag TopOnly)) (sym (in_top u put_in));
       nodes = omega (arith, is.nodes, longer, less);
       fits = omega (arith, is.fits, longer, less, same_room);
     }
 
   -- ---- an entry that comes in
-  module _ (e : Entry) (absent : has (items_of es m t) e ≡ false) (new : Numbers) (come : new ≡ insert_entry key_cmp es (key_of e) e.number) where
+  module _ (e : Entry) {items : Items} (seen : items_of es m t ≡ items) (missing : has items e ≡ false) (new : Numbers)
+      (come : new ≡ insert_entry key_cmp es (key_of e) e.number) where
+    absent : has (items_of es m t) e ≡ false
+    absent = ap (λ (xs : Items). has xs e) seen ∙ missing
+
     out : (p : Tag → Bool) (list : List Entry) → list ≡ entries_by p (items_of es m t) → has_key key_of list (key_of e) ≡ false
     out p list was = ap (λ (xs : List Entry). has_key key_of xs (key_of e)) was ∙ lacks-entries p (items_of es m t) (key_of e) absent
 
@@ -181,17 +204,24 @@ module _ (es : Numbers) (m t : List Entry) (kept room : ℕ) (is : IsKept es m t
         let in_top = out (same_tag TopOnly) t is.top in
         rw (in_main, in_top) refl
 
-    pub enter-items : items_of new m t ≡ with_entry (items_of es m t) e Both
-    enter-items =
+    with_it : items_of new m t ≡ with_entry (items_of es m t) e Both
+    with_it =
         ap (λ (ns : Numbers). items_of ns m t) come ∙ items-insert m t es (key_of e) e.number is.order absent
         ∙ ap (λ (a : Tag). with_entry (items_of es m t) e a) tagged
+
+    pub enter-items : items_of new m t ≡ with_entry items e Both
+    enter-items = with_it ∙ ap (λ (xs : Items). with_entry xs e Both) seen
+
+    stays_as : (p : Tag → Bool) (list : List Entry) → p Both ≡ false → list ≡ entries_by p (items_of es m t) → list ≡ entries_by p (items_of new m t)
+    stays_as p list drops was =
+        was ∙ sym (entries-other p (items_of es m t) e Both is.order absent drops) ∙ ap (entries_by p) (sym with_it)
 
     pub enter-kept : (kept2 room2 : ℕ) → IsStrictlySortedBy key_cmp (keys_of new) → length new ≤ kept2 + length m + length t
         → kept2 + length m + length t ≤ room2 → IsKept new m t kept2 room2
     enter-kept kept2 room2 sorted enough fits = record {
       order = items_in_order m t new sorted;
-      main = is.main ∙ sym (ap (entries_by (same_tag MainOnly)) enter-items ∙ entries-other (same_tag MainOnly) (items_of es m t) e Both is.order absent refl);
-      top = is.top ∙ sym (ap (entries_by (same_tag TopOnly)) enter-items ∙ entries-other (same_tag TopOnly) (items_of es m t) e Both is.order absent refl);
+      main = stays_as (same_tag MainOnly) m refl is.main;
+      top = stays_as (same_tag TopOnly) t refl is.top;
       nodes = enough;
       fits = fits;
     }

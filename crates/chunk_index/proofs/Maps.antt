@@ -41,7 +41,8 @@ some_cond false n o = refl
 
 module _ (m t : List Entry) where
   -- ---- the keys of a map ascend, and so do its items
-  all-items : (k : Key) (es : Numbers) → AllByRecursion (λ y. key_cmp k y ≡ Less) (keys_of es) → AllByRecursion (λ i. key_cmp k (item_key i) ≡ Less) (items_of es m t)
+  all-items : (k : Key) (es : Numbers) → AllByRecursion (λ y. key_cmp k y ≡ Less) (keys_of es)
+      → AllByRecursion (λ i. key_cmp k (item_key i) ≡ Less) (items_of es m t)
   all-items k [] all = tt
   all-items k (e ∷ es) all = (all.0, all-items k es all.1)
 
@@ -95,7 +96,8 @@ module _ (m t : List Entry) where
           ∙ sym (put-high item_key [] (item_of m t e) (items_of es m t) c k (item_of m t (k, v)) refl is))
 
   -- ---- a removal
-  pub items-remove : (es : Numbers) (k : Key) → AreInOrder (items_of es m t) → items_of (remove_entry (test k) es) m t ≡ without item_key (items_of es m t) k
+  pub items-remove : (es : Numbers) (k : Key) → AreInOrder (items_of es m t)
+      → items_of (remove_entry (test k) es) m t ≡ without item_key (items_of es m t) k
   unfolding without
   items-remove [] k order = refl
   items-remove (e ∷ es) k order = by (key_cmp k e.0) refl (items-remove es k (tail k e es order))
@@ -122,7 +124,8 @@ module _ (m t : List Entry) where
   found-lookup [] k = refl
   found-lookup (e ∷ es) k = by (key_cmp k e.0) refl (found-lookup es k)
     where
-      other : (o : Ordering) → key_cmp k e.0 ≡ o → is_eq o ≡ false → found (items_of es m t) k ≡ option_map (λ n. (n, tag_in m t k)) (lookup (test k) es)
+      other : (o : Ordering) → key_cmp k e.0 ≡ o → is_eq o ≡ false
+          → found (items_of es m t) k ≡ option_map (λ n. (n, tag_in m t k)) (lookup (test k) es)
           → found (items_of (e ∷ es) m t) k ≡ option_map (λ n. (n, tag_in m t k)) (lookup (test k) (e ∷ es))
       other o is differs rest =
           let here = ap is_eq is ∙ differs in

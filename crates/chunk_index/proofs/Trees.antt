@@ -131,8 +131,8 @@ module _ (m t : List Entry) where
       by true s = rw s refl
       by false s = rw s refl
 
-  pub tells-top : (e : Entry) → has_key key_of m (key_of e) ≡ false → (q : Key) → tag_in m (put key_of t e) q ≡ cond (is_eq (key_cmp q (key_of e))) TopOnly
-      (tag_in m t q)
+  pub tells-top : (e : Entry) → has_key key_of m (key_of e) ≡ false → (q : Key)
+      → tag_in m (put key_of t e) q ≡ cond (is_eq (key_cmp q (key_of e))) TopOnly (tag_in m t q)
   unfolding tag_in
   tells-top e lacks q =
       ap (λ b. cond (has_key key_of m q) MainOnly (cond b TopOnly Both)) (has-put key_of t e q) ∙ by (is_eq (key_cmp q (key_of e))) refl

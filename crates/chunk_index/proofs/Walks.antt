@@ -1,4 +1,4 @@
--- A step of a walk: over the slots that are left, and over a tree.
+-- A step of a walk: over the part of the map that is left, and over a tree.
 use Rattle.std.proofs.Common.{◌≡◌, Bool, ◌&&◌, ℕ, suc, ◌+◌, ◌-◌, ◌<◌, ◌≤◌, true, false, List, [], ◌∷◌, ◌++◌, length, take, drop, get_or, min, Option, None, Some, MatchOption, refl, sym, ap, ◌∙◌, append_assoc, arith, length-drop}
 use Rattle.std.proofs.lemmas.List.{append-nil, map-append, get_or-drop, drop-drop, length-take-le}
 use Rattle.std.proofs.lemmas.Option.{get_or_from_slice_get}
@@ -36,7 +36,8 @@ module _ (m t : List Entry) (all rest : Numbers) (k : Key) (n : ℕ) (wanted : W
       ∙ ap (λ (xs : Items). entries_by (passes wanted) xs) (map-append (item_of m t) rest ((k, n) ∷ []))
       ∙ entries-append (passes wanted) (items_of rest m t) (item_of m t (k, n) ∷ [])
 
-  pub last_counts : all ≡ rest ++ (k, n) ∷ [] → passes wanted (tag_in m t k) ≡ true → left_in all m t wanted ≡ left_in rest m t wanted ++ entry_from k n ∷ []
+  pub last_counts : all ≡ rest ++ (k, n) ∷ [] → passes wanted (tag_in m t k) ≡ true
+      → left_in all m t wanted ≡ left_in rest m t wanted ++ entry_from k n ∷ []
   unfolding entries_by
   last_counts is counts = last_split is ∙ rw counts refl
 
@@ -68,7 +69,7 @@ module _ (m t : List Entry) where
       by true is rest = let here = tested ∙ is in rw (here, is) (ap (λ (s : Items). item_of m t e ∷ s) rest)
       by false is rest = let here = tested ∙ is in rw (here, is) rest
 
-  -- what is wanted of the slots from a key on is what is wanted of all, but for what stands before the key
+  -- what is wanted of the map from a key on is what is wanted of all, but for what stands before the key
   pub left_from : (k : Key) (es : Numbers) (wanted : Wanted)
       → left_in (entries_between key_cmp (Included k) Unbounded es) m t wanted ≡ not_before key_of (left_in es m t wanted) k
   unfolding not_before

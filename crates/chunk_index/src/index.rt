@@ -159,7 +159,8 @@ impl ChunkIndex {
 
     /// The entries of a level, in key order. Takes no memory.
     ///
-    /// A step costs a few nanoseconds while nothing is staged; else it goes past what the level doesn't have.
+    /// A step costs a few nanoseconds while nothing is staged; else it looks for its entry among those of one level alone, and
+    /// goes past what this level doesn't have.
     pub fn walk(&self, level: Level) -> IndexWalk<'_>
         ensures entries { result ≡ entries_in level self.now }
         ensures order { AreInOrder self.now }

@@ -1,10 +1,11 @@
 //! Parts of clusters in the order of their fee rates, each with the levels that it stands in.
 //!
 //! Contracts see an index as the list of its entries with their tags, in strict key order: falling rate by exact products,
-//! then rising serial, position and size. All entries stand in an ordered map; those of main alone, and those of staging
-//! alone, stand in a tree of their own as well. The node for it was made with the entry, and lies in the map while the
-//! entry is in both levels. So only an insertion takes memory, and a walk over one level alone sees nothing else. Nodes of
-//! entries that go out are kept for some that come.
+//! then rising serial, position and size. An ordered map has the number of each entry's record under its key. The entries of
+//! main alone, and those of staging alone, stand in a tree of their own as well: which tree has its key tells the tag of an
+//! entry. So a change of tags looks into these two and not into the map, and a walk over one level alone sees nothing else.
+//! The node for a tree is made with the entry, and waits in a stack while the entry is in both levels, so only an insertion
+//! takes memory. Some nodes of entries that go out are kept for others that come.
 #![tactic(auto)]
 
 mod ahead;

@@ -178,12 +178,15 @@ fn insert(
 }
 
 fn retag(index: &mut ChunkIndex, plain: &mut Plain, entry: &Entry, tag: Tag) -> bool {
-    let there = index.contains(entry);
-    if there {
-        index.retag(entry, tag);
-        plain.retag(entry, tag);
+    let Some(number) = index.number(entry) else {
+        return false;
+    };
+    if number != entry.number {
+        return false;
     }
-    there
+    index.retag(entry, tag);
+    plain.retag(entry, tag);
+    true
 }
 
 fn remove(index: &mut ChunkIndex, plain: &mut Plain, entry: &Entry) -> bool {

@@ -1,35 +1,31 @@
 use Rattle.std.proofs.Common.{is_some, ap, ◌∙◌, arith}
-use Rattle.chunk_index.specs.declared.entry.Tag.TheVariants.{Both}
 use Rattle.chunk_index.specs.declared.key.Key.{Key}
 use Rattle.std.specs.BTreeMap.{insert_entry}
 use Rattle.chunk_index.specs.KeyOrder.{key_cmp}
-use Rattle.chunk_index.specs.Items.{Items, has, with_entry}
 use Rattle.chunk_index.specs.Spares.{kept, room}
 use Rattle.chunk_index.proofs.Kept.{few, enter-items, enter-kept, one_more}
 use Rattle.chunk_index.proofs.index.ChunkIndex.enter.Goals as goal
 
 pub overflow_sub-count : goal.overflow_sub-count
 overflow_sub-count c =
-    let most = few c.self.inside.numbers.entries c.self.inside.main c.self.inside.top (kept c.self.inside.spares) (room c.self.inside.spares) c.self.invariant in
+    let most = few c.self.invariant in
     omega (arith, most, c.len.ensures, c.len-2.ensures, c.len-count.ensures.len)
 
 pub invariant_of-self-2 : goal.invariant_of-self-2
 invariant_of-self-2 c =
-    let come = c.in_ok-insert.ensures.entries ∙ ap (λ (k : Key). insert_entry key_cmp c.self.inside.numbers.entries k c.args.entry.number) c.of.ensures in
-    let more = one_more c.self.inside.numbers.entries c.self.inside.main c.self.inside.top (kept c.self.inside.spares) (room c.self.inside.spares) c.self.invariant
-    c.args.entry (ap (λ (items : Items). has items c.args.entry) c.self.view_is ∙ c.requires) c.insert.new.self.entries come
+    let come = c.in_ok-insert.ensures.entries
+    ∙ ap (λ (k : Key). insert_entry key_cmp c.self.inside.numbers.entries k c.args.entry.number) c.of.ensures in
+    let more = one_more c.self.invariant c.args.entry c.self.view_is c.requires c.insert.new.self.entries come
     (is_some c.in_ok-insert.field-0) c.in_ok-insert.ensures.len in
     let enough = c.in_ok-need.ensures.ok in
     let fits = c.need.ensures.room in
-    enter-kept c.self.inside.numbers.entries c.self.inside.main c.self.inside.top (kept c.self.inside.spares) (room c.self.inside.spares) c.self.invariant
-    c.args.entry (ap (λ (items : Items). has items c.args.entry) c.self.view_is ∙ c.requires) c.insert.new.self.entries come
+    enter-kept c.self.invariant c.args.entry c.self.view_is c.requires c.insert.new.self.entries come
     (kept c.need.new.self) (room c.need.new.self) c.insert.ensures.ordered
     (omega (arith, more, enough, c.len-count.ensures.len, c.len.ensures, c.len-2.ensures))
     (omega (arith, fits, c.len.ensures, c.len-2.ensures))
 
 pub returns-clause-ok : goal.returns-clause-ok
 returns-clause-ok c =
-    let come = c.in_ok-insert.ensures.entries ∙ ap (λ (k : Key). insert_entry key_cmp c.self.inside.numbers.entries k c.args.entry.number) c.of.ensures in
-    enter-items c.self.inside.numbers.entries c.self.inside.main c.self.inside.top (kept c.self.inside.spares) (room c.self.inside.spares) c.self.invariant
-    c.args.entry (ap (λ (items : Items). has items c.args.entry) c.self.view_is ∙ c.requires) c.insert.new.self.entries come
-    ∙ ap (λ (items : Items). with_entry items c.args.entry Both) c.self.view_is
+    let come = c.in_ok-insert.ensures.entries
+    ∙ ap (λ (k : Key). insert_entry key_cmp c.self.inside.numbers.entries k c.args.entry.number) c.of.ensures in
+    enter-items c.self.invariant c.args.entry c.self.view_is c.requires c.insert.new.self.entries come

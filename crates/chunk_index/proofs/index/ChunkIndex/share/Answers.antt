@@ -1,6 +1,4 @@
-use Rattle.std.proofs.Common.{sym, ap, ◌∙◌, arith}
-use Rattle.chunk_index.specs.declared.entry.Tag.TheVariants.{Both}
-use Rattle.chunk_index.specs.Items.{Items, tag_set}
+use Rattle.std.proofs.Common.{sym, ◌∙◌, arith}
 use Rattle.chunk_index.specs.Keys.{key_of}
 use Rattle.chunk_index.specs.Spares.{kept, room}
 use Rattle.chunk_index.proofs.Lists.{without_absent}
@@ -9,26 +7,26 @@ use Rattle.chunk_index.proofs.Kept.{main-order, top-order, apart, shared-items, 
 use Rattle.chunk_index.proofs.index.ChunkIndex.share.Goals as goal
 
 pub tag_of-requires-clause-main : goal.tag_of-requires-clause-main
-tag_of-requires-clause-main c = main-order c.self.inside.numbers.entries c.self.inside.main c.self.inside.top (kept c.self.inside.spares) (room c.self.inside.spares) c.self.invariant
+tag_of-requires-clause-main c = main-order c.self.invariant
 
 pub tag_of-requires-clause-top : goal.tag_of-requires-clause-top
-tag_of-requires-clause-top c = top-order c.self.inside.numbers.entries c.self.inside.main c.self.inside.top (kept c.self.inside.spares) (room c.self.inside.spares) c.self.invariant
+tag_of-requires-clause-top c = top-order c.self.invariant
 
 pub take_out-requires-clause-order : goal.take_out-requires-clause-order
-take_out-requires-clause-order c = main-order c.self.inside.numbers.entries c.self.inside.main c.self.inside.top (kept c.self.inside.spares) (room c.self.inside.spares) c.self.invariant
+take_out-requires-clause-order c = main-order c.self.invariant
 
 pub take_out-requires-clause-there : goal.take_out-requires-clause-there
 take_out-requires-clause-there c = is_main c.self.inside.main c.self.inside.top c.args.key.now (sym c.tag_of.ensures ∙ c.in-MainOnly.is)
 
 pub invariant_of-self : goal.invariant_of-self
 invariant_of-self c =
-    let lacking = apart c.self.inside.numbers.entries c.self.inside.main c.self.inside.top (kept c.self.inside.spares) (room c.self.inside.spares) c.self.invariant c.args.key.now (sym c.tag_of.ensures ∙ c.in-MainOnly.is) in
-    shared-kept c.self.inside.numbers.entries c.self.inside.main c.self.inside.top (kept c.self.inside.spares) (room c.self.inside.spares) c.self.invariant c.args.key.now c.take_out.new.tree c.self.inside.top c.take_out.ensures.without
+    let lacking = apart c.self.invariant c.args.key.now (sym c.tag_of.ensures ∙ c.in-MainOnly.is) in
+    shared-kept c.self.invariant c.args.key.now c.take_out.new.tree c.self.inside.top c.take_out.ensures.without
     (sym (without_absent key_of c.self.inside.top c.args.key.now lacking)) (kept c.give.new.self) (room c.give.new.self)
     (omega (arith, c.give.ensures.kept, c.take_out.ensures.shorter)) c.give.ensures.room
 
 pub take_out-requires-in-TopOnly-clause-order : goal.take_out-requires-in-TopOnly-clause-order
-take_out-requires-in-TopOnly-clause-order c = top-order c.self.inside.numbers.entries c.self.inside.main c.self.inside.top (kept c.self.inside.spares) (room c.self.inside.spares) c.self.invariant
+take_out-requires-in-TopOnly-clause-order c = top-order c.self.invariant
 
 pub take_out-requires-in-TopOnly-clause-there : goal.take_out-requires-in-TopOnly-clause-there
 take_out-requires-in-TopOnly-clause-there c = (is_top c.self.inside.main c.self.inside.top c.args.key.now (sym c.tag_of.ensures ∙ c.in-TopOnly.is)).1
@@ -36,7 +34,7 @@ take_out-requires-in-TopOnly-clause-there c = (is_top c.self.inside.main c.self.
 pub invariant_of-self-in-TopOnly : goal.invariant_of-self-in-TopOnly
 invariant_of-self-in-TopOnly c =
     let where_it_is = is_top c.self.inside.main c.self.inside.top c.args.key.now (sym c.tag_of.ensures ∙ c.in-TopOnly.is) in
-    shared-kept c.self.inside.numbers.entries c.self.inside.main c.self.inside.top (kept c.self.inside.spares) (room c.self.inside.spares) c.self.invariant c.args.key.now c.self.inside.main c.take_out-in-TopOnly.new.tree
+    shared-kept c.self.invariant c.args.key.now c.self.inside.main c.take_out-in-TopOnly.new.tree
     (sym (without_absent key_of c.self.inside.main c.args.key.now where_it_is.0)) c.take_out-in-TopOnly.ensures.without
     (kept c.give-in-TopOnly.new.self) (room c.give-in-TopOnly.new.self)
     (omega (arith, c.give-in-TopOnly.ensures.kept, c.take_out-in-TopOnly.ensures.shorter)) c.give-in-TopOnly.ensures.room
@@ -45,20 +43,17 @@ pub returns-in-Both : goal.returns-in-Both
 returns-in-Both c =
     let nowhere = is_both c.self.inside.main c.self.inside.top c.args.key.now (sym c.tag_of.ensures ∙ c.in-Both.is) in
     sym c.self.view_is
-    ∙ shared-items c.self.inside.numbers.entries c.self.inside.main c.self.inside.top (kept c.self.inside.spares) (room c.self.inside.spares) c.self.invariant c.args.key.now c.self.inside.main c.self.inside.top
-    (sym (without_absent key_of c.self.inside.main c.args.key.now nowhere.0)) (sym (without_absent key_of c.self.inside.top c.args.key.now nowhere.1))
-    ∙ ap (λ (items : Items). tag_set items c.args.key.now Both) c.self.view_is
+    ∙ shared-items c.self.invariant c.args.key.now c.self.inside.main c.self.inside.top
+    (sym (without_absent key_of c.self.inside.main c.args.key.now nowhere.0)) (sym (without_absent key_of c.self.inside.top c.args.key.now nowhere.1)) c.self.view_is
 
 pub returns-in-MainOnly : goal.returns-in-MainOnly
 returns-in-MainOnly c =
-    let lacking = apart c.self.inside.numbers.entries c.self.inside.main c.self.inside.top (kept c.self.inside.spares) (room c.self.inside.spares) c.self.invariant c.args.key.now (sym c.tag_of.ensures ∙ c.in-MainOnly.is) in
-    shared-items c.self.inside.numbers.entries c.self.inside.main c.self.inside.top (kept c.self.inside.spares) (room c.self.inside.spares) c.self.invariant c.args.key.now c.take_out.new.tree c.self.inside.top c.take_out.ensures.without
-    (sym (without_absent key_of c.self.inside.top c.args.key.now lacking))
-    ∙ ap (λ (items : Items). tag_set items c.args.key.now Both) c.self.view_is
+    let lacking = apart c.self.invariant c.args.key.now (sym c.tag_of.ensures ∙ c.in-MainOnly.is) in
+    shared-items c.self.invariant c.args.key.now c.take_out.new.tree c.self.inside.top c.take_out.ensures.without
+    (sym (without_absent key_of c.self.inside.top c.args.key.now lacking)) c.self.view_is
 
 pub returns-in-TopOnly : goal.returns-in-TopOnly
 returns-in-TopOnly c =
     let where_it_is = is_top c.self.inside.main c.self.inside.top c.args.key.now (sym c.tag_of.ensures ∙ c.in-TopOnly.is) in
-    shared-items c.self.inside.numbers.entries c.self.inside.main c.self.inside.top (kept c.self.inside.spares) (room c.self.inside.spares) c.self.invariant c.args.key.now c.self.inside.main c.take_out-in-TopOnly.new.tree
-    (sym (without_absent key_of c.self.inside.main c.args.key.now where_it_is.0)) c.take_out-in-TopOnly.ensures.without
-    ∙ ap (λ (items : Items). tag_set items c.args.key.now Both) c.self.view_is
+    shared-items c.self.invariant c.args.key.now c.self.inside.main c.take_out-in-TopOnly.new.tree
+    (sym (without_absent key_of c.self.inside.main c.args.key.now where_it_is.0)) c.take_out-in-TopOnly.ensures.without c.self.view_is

@@ -1,7 +1,6 @@
 use Rattle.std.proofs.Common.{ap, ◌∙◌}
 use Rattle.chunk_index.specs.declared.walk.Wanted.TheVariants.{InLevel}
 use Rattle.chunk_index.specs.Items.{Items, entries_in}
-use Rattle.chunk_index.specs.Spares.{kept, room}
 use Rattle.chunk_index.specs.Walks.{left_in}
 use Rattle.chunk_index.proofs.Maps.{Numbers}
 use Rattle.chunk_index.proofs.Kept.{main-order, top-order}
@@ -9,10 +8,10 @@ use Rattle.chunk_index.proofs.Walks.{all_between}
 use Rattle.chunk_index.proofs.index.ChunkIndex.walk.Goals as goal
 
 pub over_map-requires-clause-main : goal.over_map-requires-clause-main
-over_map-requires-clause-main c = main-order c.self.inside.numbers.entries c.self.inside.main c.self.inside.top (kept c.self.inside.spares) (room c.self.inside.spares) c.self.invariant
+over_map-requires-clause-main c = main-order c.self.invariant
 
 pub over_map-requires-clause-top : goal.over_map-requires-clause-top
-over_map-requires-clause-top c = top-order c.self.inside.numbers.entries c.self.inside.main c.self.inside.top (kept c.self.inside.spares) (room c.self.inside.spares) c.self.invariant
+over_map-requires-clause-top c = top-order c.self.invariant
 
 pub returns-clause-entries : goal.returns-clause-entries
 returns-clause-entries c =

@@ -3,7 +3,6 @@ use Rattle.chunk_index.specs.declared.entry.Tag.{Tag}
 use Rattle.chunk_index.specs.declared.entry.Tag.TheVariants.{Both}
 use Rattle.chunk_index.specs.declared.walk.Wanted.TheVariants.{OfBoth}
 use Rattle.chunk_index.specs.Items.{Items, entries_tagged}
-use Rattle.chunk_index.specs.Spares.{kept, room}
 use Rattle.chunk_index.specs.Walks.{left_in}
 use Rattle.chunk_index.proofs.Maps.{Numbers}
 use Rattle.chunk_index.proofs.Kept.{main-order, top-order}
@@ -11,10 +10,10 @@ use Rattle.chunk_index.proofs.Walks.{all_between}
 use Rattle.chunk_index.proofs.index.ChunkIndex.walk_only.Goals as goal
 
 pub over_map-requires-clause-main : goal.over_map-requires-clause-main
-over_map-requires-clause-main c = main-order c.self.inside.numbers.entries c.self.inside.main c.self.inside.top (kept c.self.inside.spares) (room c.self.inside.spares) c.self.invariant
+over_map-requires-clause-main c = main-order c.self.invariant
 
 pub over_map-requires-clause-top : goal.over_map-requires-clause-top
-over_map-requires-clause-top c = top-order c.self.inside.numbers.entries c.self.inside.main c.self.inside.top (kept c.self.inside.spares) (room c.self.inside.spares) c.self.invariant
+over_map-requires-clause-top c = top-order c.self.invariant
 
 pub returns-in-Both-clause-entries : goal.returns-in-Both-clause-entries
 returns-in-Both-clause-entries c =
