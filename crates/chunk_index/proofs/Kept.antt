@@ -13,7 +13,7 @@ use Rattle.chunk_index.specs.KeyOrder.{key_cmp}
 use Rattle.chunk_index.specs.Keys.{key_of, IsInOrder, has_key, put, without}
 use Rattle.chunk_index.specs.Items.{Items, item_key, AreInOrder, HasEntry, has, same_tag, entries_by, tag_set, with_tag, with_entry}
 use Rattle.chunk_index.specs.Kept.{tag_in, items_of, IsKept}
-use Rattle.chunk_index.proofs.Lists.{without_absent, lacks_without, length_without, put-without}
+use Rattle.chunk_index.proofs.Lists.{without_absent, lacks_without, put-without}
 use Rattle.chunk_index.proofs.Maps.{Numbers, test, items_in_order, length-items, items-insert, items-remove}
 use Rattle.chunk_index.proofs.Tags.{entries_in_order, lacks-entries, entries-without, entries-moved, entries-set, entries-other}
 use Rattle.chunk_index.proofs.Items.{has-found, tag-moves, two-tags, two-tags-less}
@@ -106,14 +106,10 @@ module _ {es : Numbers} {m t : List Entry} {kept room : ℕ} (is : IsKept es m t
       leave-few = omega (
         arith,
         ap length (stays_out (same_tag MainOnly) m main-lacks is.main),
-        ap length (stays_out (same_tag TopOnly) t top-lacks
-            is.top),
+        ap length (stays_out (same_tag TopOnly) t top-lacks is.top),
         two-tags (items_of new m t),
         length-items m t new,
       )
-
-      pub fewer : length new ≤ length es
-      fewer = omega (arith, ap length left, length-items m t new, length-items m t es, length_without item_key (items_of es m t) k)
 
       pub leave-kept : (kept2 room2 : ℕ) → IsStrictlySortedBy key_cmp (keys_of new) → length new - (length m + length t) ≤ kept2 → kept2 ≤ kept
           → room2 ≡ room → IsKept new m t kept2 room2
@@ -181,7 +177,8 @@ module _ {es : Numbers} {m t : List Entry} {kept room : ℕ} (is : IsKept es m t
         → IsKept es m u kept2 room2
     top-kept u kept2 room2 put_in longer less same_room = record {
       order = order-again m t m u es is.order;
-      main = stays (same_tag MainOnly) m TopOnly refl (main-lacks (key_of e) seen in_both) is.main ∙ ap (entries_by (same_tag MainOnly)) (sym (in_top u put_in));
+      main = stays (same_tag MainOnly) m TopOnly refl (main-lacks (key_of e) seen in_both) is.main
+          ∙ ap (entries_by (same_tag MainOnly)) (sym (in_top u put_in));
       top = put_in ∙ goes_in (same_tag TopOnly) t TopOnly refl is.top
           ∙ ap (entries_by (same_tag TopOnly)) (sym (in_top u put_in));
       nodes = omega (arith, is.nodes, longer, less);
@@ -212,7 +209,8 @@ module _ {es : Numbers} {m t : List Entry} {kept room : ℕ} (is : IsKept es m t
     pub enter-items : items_of new m t ≡ with_entry items e Both
     enter-items = with_it ∙ ap (λ (xs : Items). with_entry xs e Both) seen
 
-    stays_as : (p : Tag → Bool) (list : List Entry) → p Both ≡ false → list ≡ entries_by p (items_of es m t) → list ≡ entries_by p (items_of new m t)
+    stays_as : (p : Tag → Bool) (list : List Entry) → p Both ≡ false → list ≡ entries_by p (items_of es m t)
+        → list ≡ entries_by p (items_of new m t)
     stays_as p list drops was =
         was ∙ sym (entries-other p (items_of es m t) e Both is.order absent drops) ∙ ap (entries_by p) (sym with_it)
 

@@ -44,7 +44,8 @@ returns-in-Both c =
     let nowhere = is_both c.self.inside.main c.self.inside.top c.args.key.now (sym c.tag_of.ensures ∙ c.in-Both.is) in
     sym c.self.view_is
     ∙ shared-items c.self.invariant c.args.key.now c.self.inside.main c.self.inside.top
-    (sym (without_absent key_of c.self.inside.main c.args.key.now nowhere.0)) (sym (without_absent key_of c.self.inside.top c.args.key.now nowhere.1)) c.self.view_is
+    (sym (without_absent key_of c.self.inside.main c.args.key.now nowhere.0))
+    (sym (without_absent key_of c.self.inside.top c.args.key.now nowhere.1)) c.self.view_is
 
 pub returns-in-MainOnly : goal.returns-in-MainOnly
 returns-in-MainOnly c =

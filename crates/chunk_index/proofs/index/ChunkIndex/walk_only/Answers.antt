@@ -18,6 +18,7 @@ over_map-requires-clause-top c = top-order c.self.invariant
 pub returns-in-Both-clause-entries : goal.returns-in-Both-clause-entries
 returns-in-Both-clause-entries c =
     c.over_map.ensures
-    ∙ ap (λ (es : Numbers). left_in es c.self.inside.main c.self.inside.top OfBoth) (c.range.ensures.between tt ∙ all_between c.self.inside.numbers.entries)
+    ∙ ap (λ (es : Numbers). left_in es c.self.inside.main c.self.inside.top OfBoth)
+    (c.range.ensures.between tt ∙ all_between c.self.inside.numbers.entries)
     ∙ ap (λ (items : Items). entries_tagged Both items) c.self.view_is
     ∙ ap (λ (t : Tag). entries_tagged t c.args.self.now) (sym c.in-Both.is)

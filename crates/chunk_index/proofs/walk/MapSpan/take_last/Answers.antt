@@ -14,7 +14,8 @@ returns-then-passes c =
     c.loop-key.self.wanted c.in-Some.ensures.steps
     (ap (passes c.loop-key.self.wanted) (sym (c.tag_of.ensures ∙ ap (tag_in c.loop-key.self.main.now c.loop-key.self.top.now) c.exact.ensures))
     ∙ sym c.if-passes.ensures)
-    ∙ ap (λ (x : Entry). left_in c.next_back.new.self c.loop-key.self.main.now c.loop-key.self.top.now c.loop-key.self.wanted ++ x ∷ []) (sym c.entry.ensures)
+    ∙ ap (λ (x : Entry). left_in c.next_back.new.self c.loop-key.self.main.now c.loop-key.self.top.now c.loop-key.self.wanted ++ x ∷ [])
+    (sym c.entry.ensures)
 
 pub loop-key-preserved : goal.loop-key-preserved
 loop-key-preserved c =
