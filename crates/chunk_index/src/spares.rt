@@ -29,7 +29,7 @@ impl Spares {
     /// Makes a node where fewer than so many are kept, with room for it and for the others, which are in trees.
     ///
     /// # Errors
-    /// Where there is no memory for it. As many are kept as there were.
+    /// Where there is no memory for it.
     pub fn need(
         &mut self,
         alloc: Global,
