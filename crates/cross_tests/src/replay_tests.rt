@@ -146,7 +146,7 @@ const RUNS: [Row; 15] = [
 ];
 
 /// Inputs of `replay` that ask for the order, with their outputs.
-const ORDERS: [Row; 9] = [
+const ORDERS: [Row; 10] = [
     (
         "add 1 1000 200\norder main\n",
         "ok\nchunk 1000 200 1\nend\n",
@@ -178,6 +178,10 @@ const ORDERS: [Row; 9] = [
     (
         "add 1 1 1\nadd 2 2 2\nadd 3 -5 1\ndiagram top\n",
         "ok\nok\nok\npoint 0 0\npoint 3 3\npoint 4 -2\nend\n",
+    ),
+    (
+        "add 1 2100000000000000 1\nadd 2 -2100000000000000 1\nadd 3 2100000000000001 1\nadd 4 0 0\nadd 5 0 4000001\ndep 2 1\nproof main\n",
+        "ok\nok\nrefused fee\nrefused size\nrefused size\nok\ntx 2 -2100000000000000 1\ntx 1 2100000000000000 1\nedge 2 1\nchunk 0 2 2 1\nflow 1 2 4200000000000000\nend\n",
     ),
     (
         "order bottom\norder main\nproof top\ndiagram bottom\ndiagram main\n",
@@ -333,7 +337,7 @@ fn statuses_have_their_numbers(rt: HostRuntime) -> Result<(), Fail> {
 }
 
 /// Texts of `check` with what is said of them.
-const TEXTS: [Row; 29] = [
+const TEXTS: [Row; 30] = [
     (
         "tx 1 100 200\ntx 2 900 200\nedge 1 2\nchunk 1000 400 1 2\nflow 2 1 160000\nend\n",
         "yes\n",
@@ -360,6 +364,10 @@ const TEXTS: [Row; 29] = [
     ),
     ("", "no syntax\n"),
     ("end\n", "yes\n"),
+    (
+        "tx 2 -2100000000000000 1\ntx 1 2100000000000000 1\nedge 2 1\nchunk 0 2 2 1\nflow 1 2 4200000000000000\nend\n",
+        "yes\n",
+    ),
     (
         "tx 1 0 10\ntx 2 6 5\ntx 3 6 5\nedge 1 2\nedge 1 3\nchunk 12 20 1 2 3\nflow 2 1 120\nflow 3 2 60\nend\n",
         "no flow\n",
