@@ -1,4 +1,4 @@
-use Rattle.std.proofs.Common.{◌≡◌, List, ℕ, map, ◌++◌, sym, subst, ◌∙◌}
+use Rattle.std.proofs.Common.{◌≡◌, List, [], refl, ℕ, map, ◌++◌, sym, subst, ◌∙◌}
 use Rattle.cluster_store.specs.Lent.{lent}
 use Rattle.std.proofs.lemmas.List.{map-append}
 use Rattle.graphs.specs.Certificates.{Part}
@@ -7,7 +7,7 @@ use Rattle.graph_model.specs.Texts.{edge_line}
 use Rattle.levels.specs.Levels.{level_at}
 use Rattle.replay.specs.Writings.{ListsEach, edges_lines}
 use Rattle.replay.proofs.TextLemmas.{each_append}
-use Rattle.replay.proofs.WritingLemmas.{lines_on, rest_on, flat_map_push, held_by}
+use Rattle.replay.proofs.WritingLemmas.{no_lines, lines_on, rest_on, flat_map_push, held_by}
 use Rattle.replay.proofs.YieldedLemmas.{gave_all}
 use Rattle.replay.proofs.writing.more_all_edges.Goals as goal
 
@@ -21,6 +21,12 @@ more_edges-so_far-requires g c = (
   λ id here. c.requires id (held_by (λ (part : Part). part.ids) c.args.parts (map lent c.loop-part.yielded) c.loop-part.part-iterator c.next.new.self
       (lent c.in-Some.part) c.loop-part.invariant.rest c.in-Some.ensures.steps id here),
 )
+
+pub loop-part-init : goal.loop-part-init
+loop-part-init g c = record {
+  rest = search;
+  out = ([], refl, no_lines c.args.so_far (g.K.Sink.written c.args.sink.now) (g.K.Sink.faults c.args.sink.now));
+}
 
 pub loop-part-preserved : goal.loop-part-preserved
 loop-part-preserved g c =

@@ -5,7 +5,7 @@ use Rattle.graphs.specs.Certificates.{Part}
 use Rattle.graph_model.specs.Answers.{order_of}
 use Rattle.levels.specs.Levels.{level_at}
 use Rattle.replay.specs.Writings.{GoesOnLines, tx_line_of}
-use Rattle.replay.proofs.WritingLemmas.{lines_on, rest_on, flat_map_push, held_by}
+use Rattle.replay.proofs.WritingLemmas.{no_lines, lines_on, rest_on, flat_map_push, held_by}
 use Rattle.replay.proofs.YieldedLemmas.{gave_all}
 use Rattle.replay.proofs.writing.more_all_txs.Goals as goal
 
@@ -19,6 +19,9 @@ more_txs-so_far-requires g c = (
   λ id here. c.requires id (held_by (λ (part : Part). part.ids) c.args.parts (map lent c.loop-part.yielded) c.loop-part.part-iterator c.next.new.self
       (lent c.in-Some.part) c.loop-part.invariant.rest c.in-Some.ensures.steps id here),
 )
+
+pub loop-part-init : goal.loop-part-init
+loop-part-init g c = record { rest = search; out = no_lines _ _ _ }
 
 pub loop-part-preserved : goal.loop-part-preserved
 loop-part-preserved g c =

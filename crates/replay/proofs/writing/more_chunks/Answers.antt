@@ -3,13 +3,16 @@ use Rattle.cluster_store.specs.Lent.{lent}
 use Rattle.graphs.specs.Certificates.{Part}
 use Rattle.graph_model.specs.Texts.{chunk_line}
 use Rattle.replay.specs.Writings.{GoesOnLines}
-use Rattle.replay.proofs.WritingLemmas.{lines_on, rest_on, map_push}
+use Rattle.replay.proofs.WritingLemmas.{no_lines, lines_on, rest_on, map_push}
 use Rattle.replay.proofs.YieldedLemmas.{gave_all}
 use Rattle.replay.proofs.writing.more_chunks.Goals as goal
 
 -- that a part's cluster fits in memory is asked of the caller too
 pub next-requires : goal.next-requires
 next-requires g c = assumption
+
+pub loop-part-init : goal.loop-part-init
+loop-part-init g c = record { rest = search; out = no_lines _ _ _ }
 
 pub loop-part-preserved : goal.loop-part-preserved
 loop-part-preserved g c = record {
