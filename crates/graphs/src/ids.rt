@@ -1,47 +1,13 @@
 ghost use Rattle.std.specs.Prelude.{◌≡◌, ◌+◌, ◌-◌, ◌<◌, [], ◌∷◌, ◌++◌, length, IfOk};
 
 use crate::TxId;
+use crate::owned::Owned;
 use outside::NoMemory;
 use std::alloc::Global;
 use std::marker::Model;
 
 /// A list of names.
-#[derive(Debug, Drop)]
-pub struct IdList {
-    ids: Vec<TxId>,
-}
-
-impl Model for IdList {
-    ghost use Rattle.std.specs.Prelude.{List, ℕ};
-
-    ghost Value = { List ℕ };
-
-    ghost view = { λ a. a.ids.items };
-}
-
-impl IdList {
-    /// The names of a vector, in its order. Takes no memory.
-    pub fn from_vec(ids: Vec<TxId>) -> IdList
-        ensures { result ≡ ids.items }
-    {
-        IdList { ids }
-    }
-
-    /// Gives the vector back. Takes no memory.
-    pub fn into_vec(self) -> Vec<TxId>
-        ensures { result.items ≡ self }
-    {
-        let IdList { ids } = self;
-        ids
-    }
-
-    /// The names in order.
-    pub fn as_slice(&self) -> &[TxId]
-        ensures { result.now ≡ self.now }
-    {
-        self.ids.as_slice()
-    }
-}
+pub type IdList = Owned<TxId>;
 
 /// A list of names with room that was taken when it was made.
 #[derive(Debug, Drop)]

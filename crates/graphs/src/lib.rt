@@ -5,6 +5,7 @@
 mod ids;
 mod laws;
 mod names;
+mod owned;
 
 pub use ids::{IdBuf, IdList};
 pub use laws::{
@@ -19,3 +20,4 @@ pub use laws::{
     verdicts_are_unique,
 };
 pub use names::{Flow, Level, TxId, Verdict};
+pub use owned::Owned;

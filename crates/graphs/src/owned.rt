@@ -1,0 +1,41 @@
+ghost use Rattle.std.specs.Prelude.{◌≡◌};
+
+use std::marker::Model;
+
+/// A list in a value that owns it. Contracts see its items.
+#[derive(Debug, Drop)]
+pub struct Owned<T> {
+    items: Vec<T>,
+}
+
+impl<T> Model for Owned<T> {
+    ghost use Rattle.std.specs.Prelude.{List};
+
+    ghost Value = { List T };
+
+    ghost view = { λ a. a.items.items };
+}
+
+impl<T> Owned<T> {
+    /// The items of a vector, in its order. Takes no memory.
+    pub fn from_vec(items: Vec<T>) -> Owned<T>
+        ensures { result ≡ items.items }
+    {
+        Owned { items }
+    }
+
+    /// Gives the vector back. Takes no memory.
+    pub fn into_vec(self) -> Vec<T>
+        ensures { result.items ≡ self }
+    {
+        let Owned { items } = self;
+        items
+    }
+
+    /// The items in order.
+    pub fn as_slice(&self) -> &[T]
+        ensures { result.now ≡ self.now }
+    {
+        self.items.as_slice()
+    }
+}
