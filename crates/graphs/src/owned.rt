@@ -2,7 +2,7 @@ ghost use Rattle.std.specs.Prelude.{◌≡◌};
 
 use std::marker::Model;
 
-/// A list in a value that owns it. Contracts see its items.
+/// A list for the public field of a value that owns it: contracts see its items and nothing of its room.
 #[derive(Debug, Drop)]
 pub struct Owned<T> {
     items: Vec<T>,
