@@ -25,14 +25,15 @@ pub fn tag_of(main: &Tree, top: &Tree, key: &Key) -> Tag
 }
 
 /// Puts an entry into a tree, with a node for it. No entry of its key is there.
-pub fn put_in(tree: &mut Tree, entry: Entry, node: Box<Node>)
+pub fn put_in(tree: &mut Tree, entry: Entry, mut node: Box<Node>)
     requires order { IsInOrder key_of tree.old }
     requires absent { has_key key_of tree.old (key_of entry) ≡ false }
     requires fits { length tree.old + 1 < 2 ^ 64 }
     ensures put { tree.new ≡ put key_of tree.old entry }
     ensures longer { length tree.new ≡ length tree.old + 1 }
 {
-    *tree = mem::replace(tree, Tree::new()).insert(entry, node);
+    node.entry = entry;
+    *tree = mem::replace(tree, Tree::new()).insert(node);
 }
 
 /// Takes the entry of a key out of a tree, and gives its node. The entry is there.

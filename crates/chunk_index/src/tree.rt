@@ -21,7 +21,7 @@ pub struct Tree {
 #[derive(Drop)]
 pub struct Node {
     left: Tree,
-    entry: Entry,
+    pub entry: Entry,
     right: Tree,
 }
 
@@ -70,122 +70,118 @@ impl Tree {
         self.len
     }
 
-    /// What stands left of the root, the root's entry, its node, and what stands right of it.
+    /// What stands left of the root, the root's node with its entry, and what stands right of it.
     #[inline(always)]
-    fn into_parts(self) -> Option<(Tree, Entry, Box<Node>, Tree)>
-        ensures parts { MatchOption result (self ≡ []) (λ p. self ≡ p.0 ++ p.1 ∷ p.3) }
-        ensures balanced { MatchOption result (self ≡ []) (λ p. AreBalanced (length p.0) (length p.3)) }
-        ensures fits { MatchOption result (self ≡ []) (λ p. length p.0 + length p.3 + 1 < 2 ^ 64) }
+    fn into_parts(self) -> Option<(Tree, Box<Node>, Tree)>
+        ensures parts { MatchOption result (self ≡ []) (λ p. self ≡ p.0 ++ p.1.value.entry ∷ p.2) }
+        ensures balanced { MatchOption result (self ≡ []) (λ p. AreBalanced (length p.0) (length p.2)) }
+        ensures fits { MatchOption result (self ≡ []) (λ p. length p.0 + length p.2 + 1 < 2 ^ 64) }
     {
         match self.root {
             None => None,
             Some(mut node) => {
                 let left = mem::replace(&mut node.left, Tree::new());
                 let right = mem::replace(&mut node.right, Tree::new());
-                let entry = node.entry;
-                Some((left, entry, node, right))
+                Some((left, node, right))
             }
         }
     }
 
-    /// A tree of two whose sizes are balanced, and an entry between.
+    /// A tree of two whose sizes are balanced, and a node's entry between.
     #[inline(always)]
-    fn of_parts(left: Tree, entry: Entry, mut node: Box<Node>, right: Tree) -> Tree
+    fn of_parts(left: Tree, mut node: Box<Node>, right: Tree) -> Tree
         requires balanced { AreBalanced (length left) (length right) }
         requires fits { length left + length right + 1 < 2 ^ 64 }
-        ensures { result ≡ left ++ entry ∷ right }
+        ensures { result ≡ left ++ node.value.entry ∷ right }
     {
         let len = left.len + right.len + 1;
-        *node = Node { left, entry, right };
+        node.left = left;
+        node.right = right;
         Tree {
             root: Some(node),
             len,
         }
     }
 
-    /// A tree of two whose sizes are nearly balanced, and an entry between.
+    /// A tree of two whose sizes are nearly balanced, and a node's entry between.
     #[inline(always)]
-    fn join(left: Tree, entry: Entry, node: Box<Node>, right: Tree) -> Tree
+    fn join(left: Tree, node: Box<Node>, right: Tree) -> Tree
         requires nearly { AreNearlyBalanced (length left) (length right) }
         requires fits { length left + length right + 1 < 2 ^ 64 }
-        ensures { result ≡ left ++ entry ∷ right }
+        ensures { result ≡ left ++ node.value.entry ∷ right }
     {
         if left.len / 3 > right.len {
-            Tree::from_heavy_left(left, entry, node, right)
+            Tree::from_heavy_left(left, node, right)
         } else if right.len / 3 > left.len {
-            Tree::from_heavy_right(left, entry, node, right)
+            Tree::from_heavy_right(left, node, right)
         } else {
-            Tree::of_parts(left, entry, node, right)
+            Tree::of_parts(left, node, right)
         }
     }
 
     /// The same where the left one is too large.
-    fn from_heavy_left(left: Tree, entry: Entry, node: Box<Node>, right: Tree) -> Tree
+    fn from_heavy_left(left: Tree, node: Box<Node>, right: Tree) -> Tree
         requires heavy { 3 * length right + 2 < length left }
         requires nearly { length left ≤ 3 * length right + 5 }
         requires fits { length left + length right + 1 < 2 ^ 64 }
-        ensures { result ≡ left ++ entry ∷ right }
+        ensures { result ≡ left ++ node.value.entry ∷ right }
     {
-        let Some((outer, root, spare, inner)) = left.into_parts() else {
+        let Some((outer, root, inner)) = left.into_parts() else {
             unreachable!()
         };
         if (inner.len + 1) / 2 <= outer.len {
-            let right = Tree::of_parts(inner, entry, node, right);
-            return Tree::of_parts(outer, root, spare, right);
+            let right = Tree::of_parts(inner, node, right);
+            return Tree::of_parts(outer, root, right);
         }
-        let Some((before, middle, top, behind)) = inner.into_parts() else {
+        let Some((before, middle, behind)) = inner.into_parts() else {
             unreachable!()
         };
-        let left = Tree::of_parts(outer, root, spare, before);
-        let right = Tree::of_parts(behind, entry, node, right);
-        Tree::of_parts(left, middle, top, right)
+        let left = Tree::of_parts(outer, root, before);
+        let right = Tree::of_parts(behind, node, right);
+        Tree::of_parts(left, middle, right)
     }
 
     /// The same where the right one is too large.
-    fn from_heavy_right(left: Tree, entry: Entry, node: Box<Node>, right: Tree) -> Tree
+    fn from_heavy_right(left: Tree, node: Box<Node>, right: Tree) -> Tree
         requires heavy { 3 * length left + 2 < length right }
         requires nearly { length right ≤ 3 * length left + 5 }
         requires fits { length left + length right + 1 < 2 ^ 64 }
-        ensures { result ≡ left ++ entry ∷ right }
+        ensures { result ≡ left ++ node.value.entry ∷ right }
     {
-        let Some((inner, root, spare, outer)) = right.into_parts() else {
+        let Some((inner, root, outer)) = right.into_parts() else {
             unreachable!()
         };
         if (inner.len + 1) / 2 <= outer.len {
-            let left = Tree::of_parts(left, entry, node, inner);
-            return Tree::of_parts(left, root, spare, outer);
+            let left = Tree::of_parts(left, node, inner);
+            return Tree::of_parts(left, root, outer);
         }
-        let Some((before, middle, top, behind)) = inner.into_parts() else {
+        let Some((before, middle, behind)) = inner.into_parts() else {
             unreachable!()
         };
-        let left = Tree::of_parts(left, entry, node, before);
-        let right = Tree::of_parts(behind, root, spare, outer);
-        Tree::of_parts(left, middle, top, right)
+        let left = Tree::of_parts(left, node, before);
+        let right = Tree::of_parts(behind, root, outer);
+        Tree::of_parts(left, middle, right)
     }
 
-    /// The first entry, its node, and the others.
-    fn split_first(self) -> Option<(Entry, Box<Node>, Tree)>
-        ensures { MatchOption result (self ≡ []) (λ p. self ≡ p.0 ∷ p.2) }
+    /// The node of the first entry, with that entry, and the others.
+    fn split_first(self) -> Option<(Box<Node>, Tree)>
+        ensures { MatchOption result (self ≡ []) (λ p. self ≡ p.0.value.entry ∷ p.1) }
     {
-        let (left, entry, node, right) = self.into_parts()?;
+        let (left, node, right) = self.into_parts()?;
         match left.split_first() {
-            None => Some((entry, node, right)),
-            Some((first, spare, left)) => Some((
-                first,
-                spare,
-                Tree::join(left, entry, node, right),
-            )),
+            None => Some((node, right)),
+            Some((first, left)) => Some((first, Tree::join(left, node, right))),
         }
     }
 
-    /// All but the last entry, that entry and its node.
-    fn split_last(self) -> Option<(Tree, Entry, Box<Node>)>
-        ensures { MatchOption result (self ≡ []) (λ p. self ≡ p.0 ++ p.1 ∷ []) }
+    /// All but the last entry, and that entry's node.
+    fn split_last(self) -> Option<(Tree, Box<Node>)>
+        ensures { MatchOption result (self ≡ []) (λ p. self ≡ p.0 ++ p.1.value.entry ∷ []) }
     {
-        let (left, entry, node, right) = self.into_parts()?;
+        let (left, node, right) = self.into_parts()?;
         match right.split_last() {
-            None => Some((left, entry, node)),
-            Some((right, last, spare)) => Some((Tree::join(left, entry, node, right), last, spare)),
+            None => Some((left, node)),
+            Some((right, last)) => Some((Tree::join(left, node, right), last)),
         }
     }
 
@@ -198,12 +194,12 @@ impl Tree {
         if left.len > right.len {
             match left.split_last() {
                 None => right,
-                Some((left, last, node)) => Tree::join(left, last, node, right),
+                Some((left, last)) => Tree::join(left, last, right),
             }
         } else {
             match right.split_first() {
                 None => left,
-                Some((first, node, right)) => Tree::join(left, first, node, right),
+                Some((first, right)) => Tree::join(left, first, right),
             }
         }
     }
@@ -286,20 +282,20 @@ impl Tree {
         }
     }
 
-    /// Puts an entry in its place, with a node for it. No entry of its key is there.
-    pub fn insert(self, entry: Entry, node: Box<Node>) -> Tree
+    /// Puts a node's entry in its place. No entry of its key is there.
+    pub fn insert(self, node: Box<Node>) -> Tree
         requires order { IsInOrder key_of self }
-        requires absent { has_key key_of self (key_of entry) ≡ false }
+        requires absent { has_key key_of self (key_of node.value.entry) ≡ false }
         requires fits { length self + 1 < 2 ^ 64 }
-        ensures put { result ≡ put key_of self entry }
+        ensures put { result ≡ put key_of self node.value.entry }
         ensures longer { length result ≡ length self + 1 }
     {
         match self.into_parts() {
-            None => Tree::of_parts(Tree::new(), entry, node, Tree::new()),
-            Some((left, here, spare, right)) => match Key::of(&entry).cmp(&Key::of(&here)) {
-                Ordering::Less => Tree::join(left.insert(entry, node), here, spare, right),
+            None => Tree::of_parts(Tree::new(), node, Tree::new()),
+            Some((left, here, right)) => match Key::of(&node.entry).cmp(&Key::of(&here.entry)) {
+                Ordering::Less => Tree::join(left.insert(node), here, right),
                 Ordering::Equal => unreachable!(),
-                Ordering::Greater => Tree::join(left, here, spare, right.insert(entry, node)),
+                Ordering::Greater => Tree::join(left, here, right.insert(node)),
             },
         }
     }
@@ -313,15 +309,15 @@ impl Tree {
     {
         match self.into_parts() {
             None => unreachable!(),
-            Some((left, here, spare, right)) => match key.cmp(&Key::of(&here)) {
+            Some((left, here, right)) => match key.cmp(&Key::of(&here.entry)) {
                 Ordering::Less => {
                     let (left, node) = left.remove(key);
-                    (Tree::join(left, here, spare, right), node)
+                    (Tree::join(left, here, right), node)
                 }
-                Ordering::Equal => (Tree::append(left, right), spare),
+                Ordering::Equal => (Tree::append(left, right), here),
                 Ordering::Greater => {
                     let (right, node) = right.remove(key);
-                    (Tree::join(left, here, spare, right), node)
+                    (Tree::join(left, here, right), node)
                 }
             },
         }
