@@ -1,7 +1,6 @@
 -- Where a search goes on at the root of a tree: to the left, to the right, or not at all.
 use Rattle.std.proofs.Common.{◌≡◌, ◌+◌, ◌≤◌, arith, true, false, List, [], ◌∷◌, ◌++◌, length, refl, sym, ap, ◌∙◌, subst}
 use Rattle.std.proofs.lemmas.List.{length-append}
-use Rattle.std.specs.declared.cmp.Ordering.{Ordering}
 use Rattle.std.specs.declared.cmp.Ordering.TheVariants.{Less, Equal, Greater}
 use Rattle.chunk_index.specs.declared.entry.Entry.{Entry}
 use Rattle.chunk_index.specs.declared.key.Key.{Key}
@@ -25,15 +24,11 @@ pub record Stops (xs l r : List Entry) (k : Key) : Type 0 where
   pub has : has_key key_of xs k ≡ true
   pub without : l ++ r ≡ without key_of xs k
 
-module _ (xs l : List Entry) (h : Entry) (r : List Entry) (whole : xs ≡ l ++ h ∷ r) (order : IsInOrder key_of xs) (k asks at : Key) (is_k : asks
-    ≡ k) (is_h : at ≡ key_of h) where
-  asked : (o : Ordering) → o ≡ key_cmp asks at → key_cmp k (key_of h) ≡ o
-  asked o e = ap (key_cmp k) (sym is_h) ∙ ap (λ (q : Key). key_cmp q at) (sym is_k) ∙ sym e
-
-  pub goes_left : Less ≡ key_cmp asks at → GoesLeft xs l h r k
+module _ (xs l : List Entry) (h : Entry) (r : List Entry) (whole : xs ≡ l ++ h ∷ r) (order : IsInOrder key_of xs) (k : Key) where
+  pub goes_left : Less ≡ key_cmp k (key_of h) → GoesLeft xs l h r k
   goes_left e =
       let c = cut key_of l h r (subst (λ (t : List Entry). IsInOrder key_of t) whole order) in
-      let low = asked Less e in
+      let low = sym e in
       record {
         order = c.left;
         has = sym (ap (λ (t : List Entry). has_key key_of t k) whole ∙ has-low key_of l h r c k low);
@@ -41,10 +36,10 @@ module _ (xs l : List Entry) (h : Entry) (r : List Entry) (whole : xs ≡ l ++ h
         without = sym (ap (λ (t : List Entry). without key_of t k) whole ∙ without-low key_of l h r c k low);
       }
 
-  pub goes_right : Greater ≡ key_cmp asks at → GoesRight xs l h r k
+  pub goes_right : Greater ≡ key_cmp k (key_of h) → GoesRight xs l h r k
   goes_right e =
       let c = cut key_of l h r (subst (λ (t : List Entry). IsInOrder key_of t) whole order) in
-      let high = asked Greater e in
+      let high = sym e in
       record {
         order = c.right;
         has = sym (ap (λ (t : List Entry). has_key key_of t k) whole ∙ has-high key_of l h r c k high);
@@ -52,10 +47,10 @@ module _ (xs l : List Entry) (h : Entry) (r : List Entry) (whole : xs ≡ l ++ h
         without = sym (ap (λ (t : List Entry). without key_of t k) whole ∙ without-high key_of l h r c k high);
       }
 
-  pub stops : Equal ≡ key_cmp asks at → Stops xs l r k
+  pub stops : Equal ≡ key_cmp k (key_of h) → Stops xs l r k
   stops e =
       let c = cut key_of l h r (subst (λ (t : List Entry). IsInOrder key_of t) whole order) in
-      let level = asked Equal e in
+      let level = sym e in
       record {
         has = ap (λ (t : List Entry). has_key key_of t k) whole ∙ has-level key_of l h r c k level;
         without = sym (ap (λ (t : List Entry). without key_of t k) whole ∙ without-level key_of l h r c k level);

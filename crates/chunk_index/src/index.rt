@@ -1,12 +1,12 @@
 ghost use Rattle.std.specs.Prelude.{◌≡◌, [], true, false, Some, OnOk, OnErr, MatchOption};
 ghost use Rattle.chunk_index.specs.declared.entry.Tag.TheVariants.{Both};
-ghost use Rattle.chunk_index.specs.Keys.{key_of, not_before, without};
+ghost use Rattle.chunk_index.specs.Keys.{key_of, has_key, not_before, without};
 ghost use Rattle.chunk_index.specs.Items.{item_key, AreInOrder, HasEntry, found, has, with_entry, without_entry, with_tag, tag_set, entries_in, entries_tagged};
+ghost use Rattle.chunk_index.specs.Kept.{entry_from};
 
 use crate::Level;
 use crate::apart::{put_in, tag_of, take_out};
 use crate::entry::{Entry, Tag};
-use crate::key::Key;
 use crate::sort_key::SortKey;
 use crate::spares::Spares;
 use crate::tree::Tree;
@@ -80,8 +80,9 @@ impl ChunkIndex {
         ensures ok { OnOk result (self.new ≡ with_entry self.old entry tag) }
         ensures err { OnErr result (self.new ≡ self.old) }
     {
-        self.enter(entry)?;
-        self.set_apart(entry, tag);
+        let key = SortKey::of(&entry);
+        self.enter(key, entry.number)?;
+        self.set_apart(key, entry.number, tag);
         Ok(())
     }
 
@@ -91,7 +92,7 @@ impl ChunkIndex {
         ensures { self.new ≡ without_entry self.old entry.now }
     {
         let key = SortKey::of(entry);
-        self.share(key.exact());
+        self.share(&key);
         self.leave(&key);
     }
 
@@ -100,24 +101,24 @@ impl ChunkIndex {
         requires { HasEntry self.old entry.now }
         ensures { self.new ≡ with_tag self.old entry.now tag }
     {
-        self.share(&Key::of(entry));
-        self.set_apart(*entry, tag);
+        let key = SortKey::of(entry);
+        self.share(&key);
+        self.set_apart(key, entry.number, tag);
     }
 
-    /// Puts an entry in its place, in both levels. No entry of its key is there.
+    /// Puts the entry of a key and a record's number in its place, in both levels. No entry of that key is there.
     ///
     /// # Errors
     /// Where there is no memory for it. All is as it was.
-    fn enter(&mut self, entry: Entry) -> Result<(), NoMemory>
-        requires { has self.old entry ≡ false }
-        ensures ok { OnOk result (self.new ≡ with_entry self.old entry Both) }
+    fn enter(&mut self, key: SortKey, number: usize) -> Result<(), NoMemory>
+        requires { has_key item_key self.old key ≡ false }
+        ensures ok { OnOk result (self.new ≡ with_entry self.old (entry_from key number) Both) }
         ensures err { OnErr result (self.new ≡ self.old) }
     {
         let count = self.numbers.len();
         let apart = self.main.len() + self.top.len();
-        self.spares
-            .need(self.alloc, entry, count - apart + 1, apart)?;
-        self.numbers.insert(SortKey::of(&entry), entry.number)?;
+        self.spares.need(self.alloc, key, count - apart + 1, apart)?;
+        self.numbers.insert(key, number)?;
         Ok(())
     }
 
@@ -132,7 +133,7 @@ impl ChunkIndex {
     }
 
     /// Brings the entry of a key into both levels, where one is there. Its node waits from then on.
-    fn share(&mut self, key: &Key)
+    fn share(&mut self, key: &SortKey)
         ensures { self.new ≡ tag_set self.old key.now Both }
     {
         match tag_of(&self.main, &self.top, key) {
@@ -142,18 +143,18 @@ impl ChunkIndex {
         }
     }
 
-    /// Gives a tag to an entry that stands in both levels.
-    fn set_apart(&mut self, entry: Entry, tag: Tag)
-        requires there { HasEntry self.old entry }
-        requires shared { with_tag self.old entry Both ≡ self.old }
-        ensures { self.new ≡ with_tag self.old entry tag }
+    /// Gives a tag to the entry of a key and a record's number, which stands in both levels.
+    fn set_apart(&mut self, key: SortKey, number: usize, tag: Tag)
+        requires there { HasEntry self.old (entry_from key number) }
+        requires shared { tag_set self.old key Both ≡ self.old }
+        ensures { self.new ≡ tag_set self.old key tag }
     {
         // No tree has more entries than the map.
         prove!(self.numbers.len() < usize::MAX);
         match tag {
             Tag::Both => {}
-            Tag::MainOnly => put_in(&mut self.main, entry, self.spares.take()),
-            Tag::TopOnly => put_in(&mut self.top, entry, self.spares.take()),
+            Tag::MainOnly => put_in(&mut self.main, key, number, self.spares.take()),
+            Tag::TopOnly => put_in(&mut self.top, key, number, self.spares.take()),
         }
     }
 

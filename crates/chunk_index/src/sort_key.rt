@@ -15,7 +15,7 @@ use std::cmp::Ordering;
 use std::marker::Model;
 
 /// A key with a whole number beside it that tells most rates apart. Contracts see the key.
-#[derive(Drop)]
+#[derive(Clone, Copy)]
 pub struct SortKey {
     // Made of the key's rate, once.
     floor: u64,
@@ -32,6 +32,12 @@ impl Model for SortKey {
     ghost view = { λ a. a.key };
 
     ghost invariant = { λ a. a.floor ≡ floor_of a.key.rate };
+
+    ghost use Rattle.std.proofs.Common.{sym};
+
+    ghost inverse = { λ k. record { floor = floor_of k.rate; key = k } };
+
+    ghost inverse_ok = { λ a h i. record { floor = sym h i; key = a.key } };
 }
 
 impl PartialEq for SortKey {
@@ -88,13 +94,6 @@ impl SortKey {
             floor: rounded(entry.rate),
             key: Key::of(entry),
         }
-    }
-
-    /// The key alone.
-    pub fn exact(&self) -> &Key
-        ensures { result.now ≡ self.now }
-    {
-        &self.key
     }
 
     /// The entry of the key, with its record's number.

@@ -1,7 +1,7 @@
 ghost use Rattle.std.specs.Prelude.{◌≡◌, ◌+◌, ◌^◌, ◌<◌, ◌≤◌, OnOk};
 ghost use Rattle.chunk_index.specs.Spares.{kept, room};
 
-use crate::entry::Entry;
+use crate::sort_key::SortKey;
 use crate::tree::Node;
 use outside::NoMemory;
 use std::alloc::Global;
@@ -33,7 +33,7 @@ impl Spares {
     pub fn need(
         &mut self,
         alloc: Global,
-        entry: Entry,
+        key: SortKey,
         needed: usize,
         others: usize,
     ) -> Result<(), NoMemory>
@@ -48,7 +48,7 @@ impl Spares {
             return Ok(());
         }
         self.nodes.reserve(others + 1)?;
-        let node = Box::new(alloc, Node::spare(entry))?;
+        let node = Box::new(alloc, Node::spare(key))?;
         self.nodes.push_reserved(node);
         Ok(())
     }

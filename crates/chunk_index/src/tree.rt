@@ -1,9 +1,10 @@
 ghost use Rattle.std.specs.Prelude.{◌≡◌, ◌+◌, ◌*◌, ◌^◌, ◌<◌, ◌≤◌, [], ◌∷◌, ◌++◌, length, MatchOption, Some, true, false, slice_get, take, drop};
 ghost use Rattle.chunk_index.specs.Keys.{IsInOrder, has_key, key_of, put, without};
+ghost use Rattle.chunk_index.specs.TreeShape.{entry_of};
 ghost use Rattle.chunk_index.specs.Trees.{AreBalanced, AreNearlyBalanced};
 
 use crate::entry::Entry;
-use crate::key::Key;
+use crate::sort_key::SortKey;
 use std::cmp::Ordering;
 use std::marker::Model;
 use std::mem;
@@ -21,7 +22,8 @@ pub struct Tree {
 #[derive(Drop)]
 pub struct Node {
     left: Tree,
-    pub entry: Entry,
+    pub key: SortKey,
+    pub number: usize,
     right: Tree,
 }
 
@@ -46,12 +48,21 @@ impl Model for Tree {
 
 impl Node {
     /// A node that is in no tree.
-    pub fn spare(entry: Entry) -> Node {
+    pub fn spare(key: SortKey) -> Node {
         Node {
             left: Tree::new(),
-            entry,
+            key,
+            number: 0,
             right: Tree::new(),
         }
+    }
+
+    /// The entry in it.
+    #[inline(always)]
+    fn entry(&self) -> Entry
+        ensures { result ≡ entry_of self.now }
+    {
+        self.key.entry(self.number)
     }
 }
 
@@ -73,7 +84,7 @@ impl Tree {
     /// What stands left of the root, the root's node with its entry, and what stands right of it.
     #[inline(always)]
     fn into_parts(self) -> Option<(Tree, Box<Node>, Tree)>
-        ensures parts { MatchOption result (self ≡ []) (λ p. self ≡ p.0 ++ p.1.value.entry ∷ p.2) }
+        ensures parts { MatchOption result (self ≡ []) (λ p. self ≡ p.0 ++ entry_of p.1.value ∷ p.2) }
         ensures balanced { MatchOption result (self ≡ []) (λ p. AreBalanced (length p.0) (length p.2)) }
         ensures fits { MatchOption result (self ≡ []) (λ p. length p.0 + length p.2 + 1 < 2 ^ 64) }
     {
@@ -92,7 +103,7 @@ impl Tree {
     fn of_parts(left: Tree, mut node: Box<Node>, right: Tree) -> Tree
         requires balanced { AreBalanced (length left) (length right) }
         requires fits { length left + length right + 1 < 2 ^ 64 }
-        ensures { result ≡ left ++ node.value.entry ∷ right }
+        ensures { result ≡ left ++ entry_of node.value ∷ right }
     {
         let len = left.len + right.len + 1;
         node.left = left;
@@ -108,7 +119,7 @@ impl Tree {
     fn join(left: Tree, node: Box<Node>, right: Tree) -> Tree
         requires nearly { AreNearlyBalanced (length left) (length right) }
         requires fits { length left + length right + 1 < 2 ^ 64 }
-        ensures { result ≡ left ++ node.value.entry ∷ right }
+        ensures { result ≡ left ++ entry_of node.value ∷ right }
     {
         if left.len / 3 > right.len {
             Tree::from_heavy_left(left, node, right)
@@ -124,7 +135,7 @@ impl Tree {
         requires heavy { 3 * length right + 2 < length left }
         requires nearly { length left ≤ 3 * length right + 5 }
         requires fits { length left + length right + 1 < 2 ^ 64 }
-        ensures { result ≡ left ++ node.value.entry ∷ right }
+        ensures { result ≡ left ++ entry_of node.value ∷ right }
     {
         let Some((outer, root, inner)) = left.into_parts() else {
             unreachable!()
@@ -146,7 +157,7 @@ impl Tree {
         requires heavy { 3 * length left + 2 < length right }
         requires nearly { length right ≤ 3 * length left + 5 }
         requires fits { length left + length right + 1 < 2 ^ 64 }
-        ensures { result ≡ left ++ node.value.entry ∷ right }
+        ensures { result ≡ left ++ entry_of node.value ∷ right }
     {
         let Some((inner, root, outer)) = right.into_parts() else {
             unreachable!()
@@ -165,7 +176,7 @@ impl Tree {
 
     /// The node of the first entry, with that entry, and the others.
     fn split_first(self) -> Option<(Box<Node>, Tree)>
-        ensures { MatchOption result (self ≡ []) (λ p. self ≡ p.0.value.entry ∷ p.1) }
+        ensures { MatchOption result (self ≡ []) (λ p. self ≡ entry_of p.0.value ∷ p.1) }
     {
         let (left, node, right) = self.into_parts()?;
         match left.split_first() {
@@ -176,7 +187,7 @@ impl Tree {
 
     /// All but the last entry, and that entry's node.
     fn split_last(self) -> Option<(Tree, Box<Node>)>
-        ensures { MatchOption result (self ≡ []) (λ p. self ≡ p.0 ++ p.1.value.entry ∷ []) }
+        ensures { MatchOption result (self ≡ []) (λ p. self ≡ p.0 ++ entry_of p.1.value ∷ []) }
     {
         let (left, node, right) = self.into_parts()?;
         match right.split_last() {
@@ -215,7 +226,7 @@ impl Tree {
                 if at < node.left.len {
                     node.left.get(at)
                 } else if at == node.left.len {
-                    node.entry
+                    node.entry()
                 } else {
                     node.right.get(at - node.left.len - 1)
                 }
@@ -226,7 +237,7 @@ impl Tree {
     /// Whether an entry has a key.
     // A test while there is none.
     #[inline(always)]
-    pub fn has(&self, key: &Key) -> bool
+    pub fn has(&self, key: &SortKey) -> bool
         requires { IsInOrder key_of self.now }
         ensures { result ≡ has_key key_of self.now key.now }
     {
@@ -237,7 +248,7 @@ impl Tree {
     }
 
     /// The same by a search.
-    fn finds(&self, key: &Key) -> bool
+    fn finds(&self, key: &SortKey) -> bool
         requires { IsInOrder key_of self.now }
         ensures { result ≡ has_key key_of self.now key.now }
     {
@@ -245,7 +256,7 @@ impl Tree {
             None => false,
             Some(root) => {
                 let node: &Node = root;
-                match key.cmp(&Key::of(&node.entry)) {
+                match key.cmp(&node.key) {
                     Ordering::Less => node.left.finds(key),
                     Ordering::Equal => true,
                     Ordering::Greater => node.right.finds(key),
@@ -275,7 +286,7 @@ impl Tree {
                     node.left.copy_from(at, out);
                 } else {
                     node.left.copy_from(at, &mut out[..left - at]);
-                    out[left - at] = node.entry;
+                    out[left - at] = node.entry();
                     node.right.copy_from(0, &mut out[left - at + 1..]);
                 }
             }
@@ -285,14 +296,14 @@ impl Tree {
     /// Puts a node's entry in its place. No entry of its key is there.
     pub fn insert(self, node: Box<Node>) -> Tree
         requires order { IsInOrder key_of self }
-        requires absent { has_key key_of self (key_of node.value.entry) ≡ false }
+        requires absent { has_key key_of self (key_of (entry_of node.value)) ≡ false }
         requires fits { length self + 1 < 2 ^ 64 }
-        ensures put { result ≡ put key_of self node.value.entry }
+        ensures put { result ≡ put key_of self (entry_of node.value) }
         ensures longer { length result ≡ length self + 1 }
     {
         match self.into_parts() {
             None => Tree::of_parts(Tree::new(), node, Tree::new()),
-            Some((left, here, right)) => match Key::of(&node.entry).cmp(&Key::of(&here.entry)) {
+            Some((left, here, right)) => match node.key.cmp(&here.key) {
                 Ordering::Less => Tree::join(left.insert(node), here, right),
                 Ordering::Equal => unreachable!(),
                 Ordering::Greater => Tree::join(left, here, right.insert(node)),
@@ -301,7 +312,7 @@ impl Tree {
     }
 
     /// Takes the entry of a key out, and gives its node. The entry is there.
-    pub fn remove(self, key: &Key) -> (Tree, Box<Node>)
+    pub fn remove(self, key: &SortKey) -> (Tree, Box<Node>)
         requires order { IsInOrder key_of self }
         requires there { has_key key_of self key.now ≡ true }
         ensures without { result.0 ≡ without key_of self key.now }
@@ -309,7 +320,7 @@ impl Tree {
     {
         match self.into_parts() {
             None => unreachable!(),
-            Some((left, here, right)) => match key.cmp(&Key::of(&here.entry)) {
+            Some((left, here, right)) => match key.cmp(&here.key) {
                 Ordering::Less => {
                     let (left, node) = left.remove(key);
                     (Tree::join(left, here, right), node)

@@ -151,7 +151,7 @@ impl<'a> MapSpan<'a> {
         ensures { YieldsFirst map_left self.old result self.new }
     {
         while let Some((key, number)) = self.numbers.next() {
-            if self.wanted.passes(tag_of(self.main, self.top, key.exact())) {
+            if self.wanted.passes(tag_of(self.main, self.top, key)) {
                 return Some(key.entry(*number));
             }
         }
@@ -163,7 +163,7 @@ impl<'a> MapSpan<'a> {
         ensures { YieldsLast map_left self.old result self.new }
     {
         while let Some((key, number)) = self.numbers.next_back() {
-            if self.wanted.passes(tag_of(self.main, self.top, key.exact())) {
+            if self.wanted.passes(tag_of(self.main, self.top, key)) {
                 return Some(key.entry(*number));
             }
         }

@@ -8,13 +8,13 @@ use Rattle.chunk_index.proofs.index.ChunkIndex.remove.Goals as goal
 
 pub leave-requires : goal.leave-requires
 leave-requires c =
-    let set = c.share.ensures ∙ ap (λ (k : Key). tag_set c.args.self.now k Both) c.exact.ensures in
-    ap (λ (items : Items). tag_set items c.of-key.result Both) set ∙ tag-twice c.args.self.now c.of-key.result Both Both ∙ sym set
+    ap (λ (items : Items). tag_set items c.of-key.result Both) c.share.ensures
+    ∙ tag-twice c.args.self.now c.of-key.result Both Both
+    ∙ sym c.share.ensures
 
 pub returns : goal.returns
 returns c =
-    let set = c.share.ensures ∙ ap (λ (k : Key). tag_set c.args.self.now k Both) c.exact.ensures in
     c.leave.ensures
-    ∙ ap (λ (items : Items). without item_key items c.of-key.result) set
+    ∙ ap (λ (items : Items). without item_key items c.of-key.result) c.share.ensures
     ∙ without-tag c.args.self.now c.of-key.result Both
     ∙ ap (λ (k : Key). without item_key c.args.self.now k) c.of-key.ensures

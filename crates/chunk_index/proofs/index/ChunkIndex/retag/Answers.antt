@@ -1,25 +1,27 @@
-use Rattle.std.proofs.Common.{sym, ap, ◌∙◌, subst}
+use Rattle.std.proofs.Common.{◌≡◌, Some, sym, ap, ◌∙◌, subst}
 use Rattle.chunk_index.specs.declared.entry.Tag.TheVariants.{Both}
 use Rattle.chunk_index.specs.declared.key.Key.{Key}
-use Rattle.chunk_index.specs.Keys.{key_of}
-use Rattle.chunk_index.specs.Items.{Items, HasEntry, tag_set, with_tag}
+use Rattle.chunk_index.specs.Items.{Items, HasEntry, found, tag_set}
+use Rattle.chunk_index.specs.Kept.{entry_from}
 use Rattle.chunk_index.proofs.Items.{tag-twice, found-tag}
 use Rattle.chunk_index.proofs.index.ChunkIndex.retag.Goals as goal
 
 pub set_apart-requires-clause-there : goal.set_apart-requires-clause-there
 set_apart-requires-clause-there c =
-    let set = c.share.ensures ∙ ap (λ (k : Key). tag_set c.args.self.now k Both) c.of.ensures in
-    subst (λ (items : Items). HasEntry items c.args.entry.now) (sym set)
-    (Both, found-tag c.args.self.now (key_of c.args.entry.now) c.args.entry.now.number c.requires.0 Both c.requires.1)
+    let k = c.of-key.result in
+    let n = c.args.entry.now.number in
+    let was : found c.args.self.now k ≡ Some (n, c.requires.0) = ap (λ (q : Key). found c.args.self.now q) c.of-key.ensures ∙ c.requires.1 in
+    subst (λ (items : Items). HasEntry items (entry_from k n)) (sym c.share.ensures) (Both, found-tag c.args.self.now k n c.requires.0 Both was)
 
 pub set_apart-requires-clause-shared : goal.set_apart-requires-clause-shared
 set_apart-requires-clause-shared c =
-    let set = c.share.ensures ∙ ap (λ (k : Key). tag_set c.args.self.now k Both) c.of.ensures in
-    ap (λ (items : Items). with_tag items c.args.entry.now Both) set ∙ tag-twice c.args.self.now (key_of c.args.entry.now) Both Both ∙ sym set
+    ap (λ (items : Items). tag_set items c.of-key.result Both) c.share.ensures
+    ∙ tag-twice c.args.self.now c.of-key.result Both Both
+    ∙ sym c.share.ensures
 
 pub returns : goal.returns
 returns c =
-    let set = c.share.ensures ∙ ap (λ (k : Key). tag_set c.args.self.now k Both) c.of.ensures in
     c.set_apart.ensures
-    ∙ ap (λ (items : Items). with_tag items c.args.entry.now c.args.tag) set
-    ∙ tag-twice c.args.self.now (key_of c.args.entry.now) Both c.args.tag
+    ∙ ap (λ (items : Items). tag_set items c.of-key.result c.args.tag) c.share.ensures
+    ∙ tag-twice c.args.self.now c.of-key.result Both c.args.tag
+    ∙ ap (λ (k : Key). tag_set c.args.self.now k c.args.tag) c.of-key.ensures

@@ -1,5 +1,6 @@
-use Rattle.std.proofs.Common.{◌≡◌, ◌∷◌, ◌++◌, sym, ◌∙◌, refl, rules}
+use Rattle.std.proofs.Common.{◌≡◌, ◌∷◌, ◌++◌, sym, ◌∙◌, rules}
 use Rattle.chunk_index.specs.Keys.{has_key}
+use Rattle.chunk_index.specs.TreeShape.{entry_of}
 use Rattle.chunk_index.proofs.Steps.{goes_left, goes_right, stops, shorter_left, shorter_right}
 use Rattle.chunk_index.proofs.tree.Tree.+finds.Goals as goal
 
@@ -7,9 +8,9 @@ pub finds-requires : goal.finds-requires
 finds-requires t c =
     let l = c.deref-node.result.now.left in
     let r = c.deref-node.result.now.right in
-    let e = c.deref-node.result.now.entry in
+    let e = entry_of c.deref-node.result.now in
     let whole : c.args.self.now ≡ l ++ e ∷ r = search rules in
-    let way = goes_left c.args.self.now l e r whole c.requires c.args.key.now c.args.key.now c.of.result refl c.of.ensures c.in-Less.ensures in
+    let way = goes_left c.args.self.now l e r whole c.requires c.args.key.now c.in-Less.ensures in
     let shorter = shorter_left c.args.self.now l e r whole in
     (search rules, way.order)
 
@@ -17,9 +18,9 @@ pub finds-requires-in-Greater : goal.finds-requires-in-Greater
 finds-requires-in-Greater t c =
     let l = c.deref-node.result.now.left in
     let r = c.deref-node.result.now.right in
-    let e = c.deref-node.result.now.entry in
+    let e = entry_of c.deref-node.result.now in
     let whole : c.args.self.now ≡ l ++ e ∷ r = search rules in
-    let way = goes_right c.args.self.now l e r whole c.requires c.args.key.now c.args.key.now c.of.result refl c.of.ensures c.in-Greater.ensures in
+    let way = goes_right c.args.self.now l e r whole c.requires c.args.key.now c.in-Greater.ensures in
     let shorter = shorter_right c.args.self.now l e r whole in
     (search rules, way.order)
 
@@ -31,25 +32,25 @@ pub returns-in-Less : goal.returns-in-Less
 returns-in-Less t c =
     let l = c.deref-node.result.now.left in
     let r = c.deref-node.result.now.right in
-    let e = c.deref-node.result.now.entry in
+    let e = entry_of c.deref-node.result.now in
     let whole : c.args.self.now ≡ l ++ e ∷ r = search rules in
-    let way = goes_left c.args.self.now l e r whole c.requires c.args.key.now c.args.key.now c.of.result refl c.of.ensures c.in-Less.ensures in
+    let way = goes_left c.args.self.now l e r whole c.requires c.args.key.now c.in-Less.ensures in
     c.finds.ensures ∙ way.has
 
 pub returns-in-Equal : goal.returns-in-Equal
 returns-in-Equal t c =
     let l = c.deref-node.result.now.left in
     let r = c.deref-node.result.now.right in
-    let e = c.deref-node.result.now.entry in
+    let e = entry_of c.deref-node.result.now in
     let whole : c.args.self.now ≡ l ++ e ∷ r = search rules in
-    let way = stops c.args.self.now l e r whole c.requires c.args.key.now c.args.key.now c.of.result refl c.of.ensures c.in-Equal.ensures in
+    let way = stops c.args.self.now l e r whole c.requires c.args.key.now c.in-Equal.ensures in
     sym way.has
 
 pub returns-in-Greater : goal.returns-in-Greater
 returns-in-Greater t c =
     let l = c.deref-node.result.now.left in
     let r = c.deref-node.result.now.right in
-    let e = c.deref-node.result.now.entry in
+    let e = entry_of c.deref-node.result.now in
     let whole : c.args.self.now ≡ l ++ e ∷ r = search rules in
-    let way = goes_right c.args.self.now l e r whole c.requires c.args.key.now c.args.key.now c.of.result refl c.of.ensures c.in-Greater.ensures in
+    let way = goes_right c.args.self.now l e r whole c.requires c.args.key.now c.in-Greater.ensures in
     c.finds-in-Greater.ensures ∙ way.has

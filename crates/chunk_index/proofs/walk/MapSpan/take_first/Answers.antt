@@ -1,7 +1,6 @@
 use Rattle.std.proofs.Common.{◌∷◌, sym, ap, ◌∙◌}
 use Rattle.chunk_index.specs.declared.entry.Entry.{Entry}
 use Rattle.chunk_index.specs.Items.{entries_by}
-use Rattle.chunk_index.specs.Kept.{tag_in}
 use Rattle.chunk_index.specs.Walks.{left_in, passes}
 use Rattle.chunk_index.proofs.Maps.{Numbers}
 use Rattle.chunk_index.proofs.Walks.{first_counts, first_passed}
@@ -12,16 +11,14 @@ returns-then-passes c =
     sym c.loop-key.invariant
     ∙ first_counts c.loop-key.self.main.now c.loop-key.self.top.now c.loop-key.self.numbers c.next.new.self c.in-Some.key.now c.in-Some.number.now
     c.loop-key.self.wanted c.in-Some.ensures.steps
-    (ap (passes c.loop-key.self.wanted) (sym (c.tag_of.ensures ∙ ap (tag_in c.loop-key.self.main.now c.loop-key.self.top.now) c.exact.ensures))
-    ∙ sym c.if-passes.ensures)
+    (ap (passes c.loop-key.self.wanted) (sym c.tag_of.ensures) ∙ sym c.if-passes.ensures)
     ∙ ap (λ (x : Entry). x ∷ left_in c.next.new.self c.loop-key.self.main.now c.loop-key.self.top.now c.loop-key.self.wanted) (sym c.entry.ensures)
 
 pub loop-key-preserved : goal.loop-key-preserved
 loop-key-preserved c =
     sym (first_passed c.loop-key.self.main.now c.loop-key.self.top.now c.loop-key.self.numbers c.next.new.self c.in-Some.key.now c.in-Some.number.now
     c.loop-key.self.wanted c.in-Some.ensures.steps
-    (ap (passes c.loop-key.self.wanted) (sym (c.tag_of.ensures ∙ ap (tag_in c.loop-key.self.main.now c.loop-key.self.top.now) c.exact.ensures))
-    ∙ sym c.if-passes.ensures))
+    (ap (passes c.loop-key.self.wanted) (sym c.tag_of.ensures) ∙ sym c.if-passes.ensures))
     ∙ c.loop-key.invariant
 
 pub returns : goal.returns
