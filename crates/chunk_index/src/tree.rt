@@ -21,10 +21,11 @@ pub struct Tree {
 #[cycle(tree)]
 #[derive(Drop)]
 pub struct Node {
+    // What a search reads stands together.
     left: Tree,
+    right: Tree,
     pub key: SortKey,
     pub number: usize,
-    right: Tree,
 }
 
 impl Model for Tree {
@@ -51,9 +52,9 @@ impl Node {
     pub fn spare(key: SortKey) -> Node {
         Node {
             left: Tree::new(),
+            right: Tree::new(),
             key,
             number: 0,
-            right: Tree::new(),
         }
     }
 
