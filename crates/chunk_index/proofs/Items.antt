@@ -115,6 +115,22 @@ has-found (i ∷ xs) k x at = by (is_eq (key_cmp (item_key i) k)) refl (has-foun
     by false is rest =
         rw is (rest (sym (ap (λ b. cond b (Some (i.0.number, i.1)) (found xs k)) is) ∙ at))
 
+-- and what is there is found
+pub finds : (xs : Items) (k : Key) → has_key item_key xs k ≡ true → (n : ℕ) × ((a : Tag) × (found xs k ≡ Some (n, a)))
+unfolding has_key found
+finds [] k there = absurd (apart there)
+  where
+    apart : false ≡ true → ⊥
+    apart e = cc
+finds (i ∷ xs) k there = by (is_eq (key_cmp (item_key i) k)) refl (finds xs k)
+  where
+    by : (here : Bool) → is_eq (key_cmp (item_key i) k) ≡ here
+        → (has_key item_key xs k ≡ true → (n : ℕ) × ((a : Tag) × (found xs k ≡ Some (n, a)))) → (n : ℕ) × ((a : Tag) × (found (i ∷ xs) k ≡ Some (n, a)))
+    by true is rest = (i.0.number, (i.1, rw is refl))
+    by false is rest =
+        let later = rest (sym (ap (λ b. b || has_key item_key xs k) is) ∙ there) in
+        (later.0, (later.1.0, ap (λ b. cond b (Some (i.0.number, i.1)) (found xs k)) is ∙ later.1.1))
+
 number_of : {n m : ℕ} {a b : Tag} → ◌≡◌ {A = Option (ℕ × Tag)} (Some (n, a)) (Some (m, b)) → n ≡ m
 number_of {n} {m} {a} {b} e = ap (λ (o : Option (ℕ × Tag)). (unwrap_or o (n, a)).0) e
 

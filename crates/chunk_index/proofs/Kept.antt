@@ -1,5 +1,5 @@
 -- What each change of the map, of the trees and of the nodes leaves of an index.
-use Rattle.std.proofs.Common.{◌≡◌, ℕ, ◌+◌, ◌-◌, ◌≤◌, Bool, true, false, if◌then◌else◌, List, [], ◌∷◌, length, refl, sym, ap, ◌∙◌, subst, arith}
+use Rattle.std.proofs.Common.{◌≡◌, ℕ, ◌+◌, ◌-◌, ◌≤◌, Bool, true, false, if◌then◌else◌, List, [], ◌∷◌, length, Some, refl, sym, ap, ◌∙◌, subst, arith}
 use Rattle.std.specs.List.{AllByRecursion}
 use Rattle.std.specs.List.Sorted.{IsStrictlySortedBy}
 use Rattle.std.specs.declared.cmp.Ordering.TheVariants.{Less}
@@ -11,13 +11,13 @@ use Rattle.chunk_index.specs.declared.entry.Tag.TheVariants.{Both, MainOnly, Top
 use Rattle.chunk_index.specs.declared.key.Key.{Key}
 use Rattle.chunk_index.specs.KeyOrder.{key_cmp}
 use Rattle.chunk_index.specs.Keys.{key_of, IsInOrder, has_key, put, without}
-use Rattle.chunk_index.specs.Items.{Items, item_key, AreInOrder, HasEntry, has, same_tag, entries_by, tag_set, with_tag, with_entry}
+use Rattle.chunk_index.specs.Items.{Items, item_key, AreInOrder, HasEntry, found, has, same_tag, entries_by, tag_set, with_tag, with_entry}
 use Rattle.chunk_index.specs.Kept.{tag_in, items_of, IsKept}
 use Rattle.chunk_index.proofs.Lists.{without_absent, lacks_without, put-without}
 use Rattle.chunk_index.proofs.Maps.{Numbers, test, items_in_order, length-items, items-insert, items-remove}
 use Rattle.chunk_index.proofs.Tags.{entries_in_order, lacks-entries, entries-without, entries-moved, entries-set, entries-other}
 use Rattle.chunk_index.proofs.Items.{has-found, tag-moves, two-tags, two-tags-less}
-use Rattle.chunk_index.proofs.Trees.{has-tagged, items-set, tells-without, tells-main, tells-top}
+use Rattle.chunk_index.proofs.Trees.{found-told, has-tagged, items-set, tells-without, tells-main, tells-top}
 
 -- the keys' order is theirs whatever the trees are
 module _ (m t n u : List Entry) where
@@ -45,6 +45,10 @@ module _ {es : Numbers} {m t : List Entry} {kept room : ℕ} (is : IsKept es m t
   -- a key that main's tree has, staging's hasn't
   pub apart : (k : Key) → tag_in m t k ≡ MainOnly → has_key key_of t k ≡ false
   apart k tag = ap (λ (xs : List Entry). has_key key_of xs k) is.top ∙ has-tagged m t (same_tag TopOnly) es k ∙ rw tag refl
+
+  -- what is found under a key has the tag that the trees tell
+  pub told : (k : Key) {items : Items} {a : Tag} → items_of es m t ≡ items → (n : ℕ) × (found items k ≡ Some (n, a)) → tag_in m t k ≡ a
+  told k {items} {a} seen at = found-told m t k es at.0 a (ap (λ (xs : Items). found xs k) seen ∙ at.1)
 
   -- ---- a key that comes out of both trees
   module _ (k : Key) (n u : List Entry) (main : n ≡ without key_of m k) (top : u ≡ without key_of t k) where

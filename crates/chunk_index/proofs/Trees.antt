@@ -1,5 +1,5 @@
 -- The tags that two trees tell: what changes of the trees are on them, and on the items.
-use Rattle.std.proofs.Common.{◌≡◌, Bool, true, false, cond, not, ◌&&◌, ◌||◌, List, [], ◌∷◌, refl, sym, ap, ◌∙◌}
+use Rattle.std.proofs.Common.{◌≡◌, ℕ, Bool, true, false, cond, not, ◌&&◌, ◌||◌, List, [], ◌∷◌, Option, None, Some, unwrap_or, refl, sym, ap, ◌∙◌}
 use Rattle.std.specs.Ordering.{is_eq}
 use Rattle.std.specs.Cmp.{Equal-is}
 use Rattle.chunk_index.specs.declared.entry.Entry.{Entry}
@@ -9,13 +9,19 @@ use Rattle.chunk_index.specs.declared.key.Key.{Key}
 use Rattle.chunk_index.specs.KeyOrder.{key_cmp}
 use Rattle.chunk_index.specs.KeyLaws.{level_keys}
 use Rattle.chunk_index.specs.Keys.{key_of, has_key, put, without}
-use Rattle.chunk_index.specs.Items.{Items, item_key, entries_by, tag_set}
+use Rattle.chunk_index.specs.Items.{Items, item_key, found, entries_by, tag_set}
 use Rattle.chunk_index.specs.Kept.{entry_from, tag_in, item_of, items_of}
 use Rattle.chunk_index.proofs.Changes.{has-put, has-without}
 use Rattle.chunk_index.proofs.Maps.{Numbers}
 
 same_key : (q k : Key) → is_eq (key_cmp q k) ≡ true → q ≡ k
 same_key q k same = level_keys q k ((Equal-is (key_cmp q k)).0 same)
+
+none_some : {x : ℕ × Tag} → None ≡ Some x → ⊥
+none_some e = cc
+
+second_is : {n m : ℕ} {a b : Tag} → ◌≡◌ {A = Option (ℕ × Tag)} (Some (n, a)) (Some (m, b)) → a ≡ b
+second_is {n} {m} {a} {b} e = ap (λ (o : Option (ℕ × Tag)). (unwrap_or o (n, a)).1) e
 
 -- ---- what a tag says of the trees
 told : Bool → Bool → Tag
@@ -69,6 +75,17 @@ module _ (m t : List Entry) where
   pub is_top : (k : Key) → tag_in m t k ≡ TopOnly → (has_key key_of m k ≡ false) × (has_key key_of t k ≡ true)
   unfolding tag_in told
   is_top k is = told_top (has_key key_of m k) (has_key key_of t k) is
+
+  -- ---- what is found under a key has the tag that the trees tell
+  pub found-told : (k : Key) (es : Numbers) (n : ℕ) (a : Tag) → found (items_of es m t) k ≡ Some (n, a) → tag_in m t k ≡ a
+  unfolding found
+  found-told k [] n a at = absurd (none_some at)
+  found-told k (e ∷ es) n a at = by (is_eq (key_cmp e.0 k)) refl (found-told k es n a)
+    where
+      by : (here : Bool) → is_eq (key_cmp e.0 k) ≡ here → (found (items_of es m t) k ≡ Some (n, a) → tag_in m t k ≡ a) → tag_in m t k ≡ a
+      by true s rest =
+          ap (tag_in m t) (sym (same_key e.0 k s)) ∙ second_is (sym (ap (λ b. cond b (Some (e.1, tag_in m t e.0)) (found (items_of es m t) k)) s) ∙ at)
+      by false s rest = rest (sym (ap (λ b. cond b (Some (e.1, tag_in m t e.0)) (found (items_of es m t) k)) s) ∙ at)
 
   -- ---- a tree's entries of a tag have a key where that is its tag
   pub has-tagged : (p : Tag → Bool) (es : Numbers) (k : Key) → has_key key_of (entries_by p (items_of es m t)) k

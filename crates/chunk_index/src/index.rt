@@ -1,4 +1,4 @@
-ghost use Rattle.std.specs.Prelude.{◌≡◌, [], true, false, Some, OnOk, OnErr, MatchOption};
+ghost use Rattle.std.specs.Prelude.{◌≡◌, ℕ, [], true, false, Some, OnOk, OnErr, MatchOption};
 ghost use Rattle.chunk_index.specs.declared.entry.Tag.TheVariants.{Both};
 ghost use Rattle.chunk_index.specs.Keys.{key_of, has_key, not_before, without};
 ghost use Rattle.chunk_index.specs.Items.{item_key, AreInOrder, HasEntry, found, has, with_entry, without_entry, with_tag, tag_set, entries_in, entries_tagged};
@@ -91,8 +91,17 @@ impl ChunkIndex {
         requires { has self.old entry.now ≡ true }
         ensures { self.new ≡ without_entry self.old entry.now }
     {
+        let tag = self.tag_of(&SortKey::of(entry));
+        self.take(entry, tag);
+    }
+
+    /// The same where it is known that the entry has that tag: no tree is searched for it but the one of the tag.
+    pub fn take(&mut self, entry: &Entry, tag: Tag)
+        requires { (number : ℕ) × (found self.old (key_of entry.now) ≡ Some (number, tag)) }
+        ensures { self.new ≡ without_entry self.old entry.now }
+    {
         let key = SortKey::of(entry);
-        self.share(&key);
+        self.share(&key, tag);
         self.leave(&key);
     }
 
@@ -101,9 +110,18 @@ impl ChunkIndex {
         requires { HasEntry self.old entry.now }
         ensures { self.new ≡ with_tag self.old entry.now tag }
     {
+        let from = self.tag_of(&SortKey::of(entry));
+        self.move_tag(entry, from, tag);
+    }
+
+    /// The same where it is known which tag the entry has: no tree is searched for it but the one of that tag.
+    pub fn move_tag(&mut self, entry: &Entry, from: Tag, to: Tag)
+        requires { found self.old (key_of entry.now) ≡ Some (entry.now.number, from) }
+        ensures { self.new ≡ with_tag self.old entry.now to }
+    {
         let key = SortKey::of(entry);
-        self.share(&key);
-        self.set_apart(key, entry.number, tag);
+        self.share(&key, from);
+        self.set_apart(key, entry.number, to);
     }
 
     /// Puts the entry of a key and a record's number in its place, in both levels. No entry of that key is there.
@@ -132,11 +150,19 @@ impl ChunkIndex {
         self.spares.trim(self.numbers.len() - apart);
     }
 
-    /// Brings the entry of a key into both levels, where one is there. Its node waits from then on.
-    fn share(&mut self, key: &SortKey)
+    /// The tag of the entry of a key, where one is there.
+    fn tag_of(&self, key: &SortKey) -> Tag
+        ensures { (number : ℕ) (tag : Tag) → found self.now key.now ≡ Some (number, tag) → tag ≡ result }
+    {
+        tag_of(&self.main, &self.top, key)
+    }
+
+    /// Brings the entry of a key and a tag into both levels. Its node waits from then on.
+    fn share(&mut self, key: &SortKey, tag: Tag)
+        requires { (number : ℕ) × (found self.old key.now ≡ Some (number, tag)) }
         ensures { self.new ≡ tag_set self.old key.now Both }
     {
-        match tag_of(&self.main, &self.top, key) {
+        match tag {
             Tag::Both => {}
             Tag::MainOnly => self.spares.give(take_out(&mut self.main, key)),
             Tag::TopOnly => self.spares.give(take_out(&mut self.top, key)),

@@ -111,6 +111,12 @@ fn rounded(rate: FeeRate) -> u64
     if rate.fee < 0 {
         return 0;
     }
-    let scaled = u128::from(rate.fee.unsigned_abs()) * (1 << 32) / u128::from(rate.size.max(1));
+    let fee = rate.fee.unsigned_abs();
+    let size = rate.size.max(1);
+    // So is nearly every fee, and a division of 128 bits is a slow call.
+    if fee < 1 << 32 {
+        return fee * (1 << 32) / size;
+    }
+    let scaled = u128::from(fee) * (1 << 32) / u128::from(size);
     scaled.min(u128::from(u64::MAX)) as u64
 }

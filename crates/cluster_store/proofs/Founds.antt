@@ -1,5 +1,5 @@
 -- What a look-up of a key finds after each change of an index.
-use Rattle.std.proofs.Common.{◌≡◌, ℕ, Bool, true, false, cond, ◌||◌, [], ◌∷◌, ◌++◌, Option, Some, None, is_some, refl, sym, ap, ◌∙◌}
+use Rattle.std.proofs.Common.{◌≡◌, ℕ, Bool, true, false, cond, [], ◌∷◌, ◌++◌, Option, Some, None, is_some, unwrap_or, refl, sym, ap, ◌∙◌}
 use Rattle.std.specs.List.{filter}
 use Rattle.std.specs.declared.cmp.Ordering.{Ordering}
 use Rattle.std.specs.declared.cmp.Ordering.TheVariants.{Less, Equal, Greater}
@@ -12,7 +12,7 @@ use Rattle.chunk_index.specs.KeyOrder.{key_cmp}
 use Rattle.chunk_index.specs.KeyLaws.{key_cmp_total, level_keys}
 use Rattle.chunk_index.specs.Keys.{key_of, has_key, before, behind, put, without}
 use Rattle.chunk_index.specs.Items as indexes
-use Rattle.chunk_index.specs.Items.{Items, HasEntry, item_key, has, with_entry, without_entry, with_tag, tag_set}
+use Rattle.chunk_index.specs.Items.{Items, item_key, has, with_entry, without_entry, with_tag, tag_set}
 use Rattle.cluster_store.specs.Kept.{same_key, found, AreNumbered}
 
 pub same_is : (k l : Key) → same_key k l ≡ true → k ≡ l
@@ -131,19 +131,35 @@ has-found (x ∷ xs) e = by (same_key (item_key x) (key_of e)) refl (has-found x
     by true s rest = rw s refl
     by false s rest = rw s rest
 
--- an entry whose key is there is there itself, where the serial of each entry is the number of its record
-pub found-entry : (items : Items) (e : Entry) → e.number ≡ e.serial → AreNumbered items → has items e ≡ true → HasEntry items e
-unfolding has_key indexes.found
-found-entry [] e own numbered there = absurd (apart there)
+none_some : {t : Tag} → None ≡ Some t → ⊥
+none_some e = cc
+
+-- where a tag is found, it is found with a number
+pub found-item : (items : Items) (k : Key) (t : Tag) → found items k ≡ Some t → (number : ℕ) × (indexes.found items k ≡ Some (number, t))
+unfolding found indexes.found
+found-item [] k t at = absurd (none_some at)
+found-item (x ∷ xs) k t at = by (same_key (item_key x) k) refl (found-item xs k t)
   where
-    apart : false ≡ true → ⊥
-    apart e = cc
-found-entry (x ∷ xs) e own numbered there = by (same_key (item_key x) (key_of e)) refl (found-entry xs e own numbered.1)
+    by : (b : Bool) → same_key (item_key x) k ≡ b → (found xs k ≡ Some t → (number : ℕ) × (indexes.found xs k ≡ Some (number, t)))
+        → (number : ℕ) × (indexes.found (x ∷ xs) k ≡ Some (number, t))
+    by true s rest =
+        let tag : Some x.1 ≡ Some t = sym (ap (λ b. cond b (Some x.1) (found xs k)) s) ∙ at in
+        (x.0.number, rw s (ap (λ (o : Option Tag). Some (x.0.number, unwrap_or o t)) tag))
+    by false s rest =
+        let later = rest (sym (ap (λ b. cond b (Some x.1) (found xs k)) s) ∙ at) in
+        (later.0, ap (λ b. cond b (Some (x.0.number, x.1)) (indexes.found xs k)) s ∙ later.1)
+
+-- that is the number of an entry with the key, where the serial of each entry is the number of its record
+pub found-entry : (items : Items) (e : Entry) (t : Tag) → e.number ≡ e.serial → AreNumbered items → found items (key_of e) ≡ Some t
+    → indexes.found items (key_of e) ≡ Some (e.number, t)
+unfolding found indexes.found
+found-entry [] e t own numbered at = absurd (none_some at)
+found-entry (x ∷ xs) e t own numbered at = by (same_key (item_key x) (key_of e)) refl (found-entry xs e t own numbered.1)
   where
-    by : (b : Bool) → same_key (item_key x) (key_of e) ≡ b → (has xs e ≡ true → HasEntry xs e) → HasEntry (x ∷ xs) e
+    by : (b : Bool) → same_key (item_key x) (key_of e) ≡ b → (found xs (key_of e) ≡ Some t → indexes.found xs (key_of e) ≡ Some (e.number, t))
+        → indexes.found (x ∷ xs) (key_of e) ≡ Some (e.number, t)
     by true s rest =
         let number : x.0.number ≡ e.number = numbered.0 ∙ ap (λ (k : Key). k.serial) (same_is (item_key x) (key_of e) s) ∙ sym own in
-        (x.1, rw s (ap (λ (n : ℕ). Some (n, x.1)) number))
-    by false s rest =
-        let later : HasEntry xs e = rest (sym (ap (λ b. b || has xs e) s) ∙ there) in
-        (later.0, ap (λ b. cond b (Some (x.0.number, x.1)) (indexes.found xs (key_of e))) s ∙ later.1)
+        let tag : Some x.1 ≡ Some t = sym (ap (λ b. cond b (Some x.1) (found xs (key_of e))) s) ∙ at in
+        rw s (ap (λ (n : ℕ). Some (n, x.1)) number ∙ ap (λ (o : Option Tag). Some (e.number, unwrap_or o t)) tag)
+    by false s rest = rw s (rest (sym (ap (λ b. cond b (Some x.1) (found xs (key_of e))) s) ∙ at))

@@ -1,5 +1,5 @@
 -- Which tags the index has under the keys of a number, where what is stored there changes.
-use Rattle.std.proofs.Common.{◌≡◌, ◌≢◌, ℕ, Bool, true, false, cond, not, ◌&&◌, List, [], Option, Some, None, is_some, IsSome, nat_eq, inl, inr, refl, sym, ap, ◌∙◌}
+use Rattle.std.proofs.Common.{◌≡◌, ◌≢◌, ℕ, Bool, true, false, cond, not, ◌&&◌, List, [], Option, Some, None, nat_eq, inl, inr, refl, sym, ap, ◌∙◌}
 use Rattle.std.proofs.lemmas.Bool.{cases_eq, false_from_ne_true}
 use Rattle.std.specs.Cmp.{unsigned_Decides}
 use Rattle.graphs.specs.Certificates.{Part}
@@ -45,10 +45,10 @@ module _ (slots : Slots) (items : Items) (shown : IsShown slots items) (n : ℕ)
   pub free_absent : at slots n ≡ None → (ps qs : List Part) (k : Key) → fresh n ps qs k ≡ true → found items k ≡ None
   free_absent free ps qs k f = tag_there None free k (fresh_serial n ps qs k f)
 
-  pub stored_there : (s : Stored) → at slots n ≡ Some s → (qs : List Part) (k : Key) → fresh n s.cluster.parts qs k ≡ true → IsSome (found items k)
+  pub stored_there : (s : Stored) → at slots n ≡ Some s → (qs : List Part) (k : Key) → fresh n s.cluster.parts qs k ≡ true → found items k ≡ Some s.tag
   stored_there s is qs k f =
-      ap is_some (tag_there (Some s) is k (fresh_serial n s.cluster.parts qs k f)
-      ∙ ap (λ b. cond b (Some s.tag) None) (fresh_has n s.cluster.parts qs k f))
+      tag_there (Some s) is k (fresh_serial n s.cluster.parts qs k f)
+      ∙ ap (λ b. cond b (Some s.tag) None) (fresh_has n s.cluster.parts qs k f)
 
   module _ (slots' : Slots) (items' : Items) (others : (m : ℕ) → m ≢ n → at slots' m ≡ at slots m) where
     elsewhere : (k : Key) → k.serial ≢ n → found items k ≡ tag_for (at slots' k.serial) k

@@ -1,5 +1,5 @@
 -- One position more of a cluster whose entries go out, come in, or get another tag.
-use Rattle.std.proofs.Common.{◌≡◌, ℕ, length, ◌+◌, ◌<◌, Bool, true, false, cond, not, ◌&&◌, ◌||◌, List, [], take, Option, Some, None, is_some, IsSome, nat_eq, inl, inr, refl, sym, ap, ◌∙◌, subst, arith}
+use Rattle.std.proofs.Common.{◌≡◌, ℕ, length, ◌+◌, ◌<◌, Bool, true, false, cond, not, ◌&&◌, ◌||◌, List, [], take, Some, None, is_some, nat_eq, inl, inr, refl, sym, ap, ◌∙◌, subst, arith}
 use Rattle.std.proofs.lemmas.Bool.{cases_lt}
 use Rattle.std.proofs.Math.Seq.{take-length}
 use Rattle.std.specs.List.{slice_get}
@@ -9,10 +9,11 @@ use Rattle.chunk_index.specs.declared.entry.Entry.{Entry}
 use Rattle.chunk_index.specs.declared.entry.Tag.{Tag}
 use Rattle.chunk_index.specs.declared.key.Key.{Key}
 use Rattle.chunk_index.specs.Keys.{key_of}
-use Rattle.chunk_index.specs.Items.{Items, HasEntry, has, with_entry, without_entry, with_tag}
+use Rattle.chunk_index.specs.Items as indexes
+use Rattle.chunk_index.specs.Items.{Items, has, with_entry, without_entry, with_tag}
 use Rattle.cluster_store.specs.Keys.{key_part}
 use Rattle.cluster_store.specs.Kept.{same_key, found, is_rate, has_rate, fresh, AreListed, AreNumbered, Enters, Leaves, IsSameIndex}
-use Rattle.cluster_store.proofs.Founds.{same_is, found-put, found-without, found-tagged, has-found, found-entry, again}
+use Rattle.cluster_store.proofs.Founds.{same_is, found-put, found-without, found-tagged, has-found, found-item, found-entry, again}
 use Rattle.cluster_store.proofs.Sorted.{entry_listed, less_listed, tag_listed}
 use Rattle.cluster_store.proofs.Fresh.{take_below, take_past, rate_here, fresh-more}
 
@@ -72,12 +73,12 @@ module _ (n i count : ℕ) (ps qs : List Part) (part : Part) (e : Entry) (here :
 
   -- ---- out
   module _ (old cur : Items) (so_far : Leaves n (take i ps) qs old cur) where
-    pub leave_there : ((k : Key) → fresh n (take count ps) qs k ≡ true → IsSome (found old k)) → i < count → is_rate e.rate (slice_get qs i) ≡ false
-        → has cur e ≡ true
-    leave_there there below differs =
-        has-found cur e ∙ ap (λ (k : Key). is_some (found cur k)) key
-        ∙ ap is_some (so_far.tags (key_part n i part) ∙ ap (λ b. cond b None (found old (key_part n i part))) (fresh_not_yet n i ps qs part))
-        ∙ there (key_part n i part) (fresh_there n i count ps qs part here below (rate_is false differs))
+    pub leave_there : (tag : Tag) → ((k : Key) → fresh n (take count ps) qs k ≡ true → found old k ≡ Some tag) → i < count
+        → is_rate e.rate (slice_get qs i) ≡ false → (number : ℕ) × (indexes.found cur (key_of e) ≡ Some (number, tag))
+    leave_there tag there below differs =
+        found-item cur (key_of e) tag (ap (found cur) key ∙ so_far.tags (key_part n i part)
+        ∙ ap (λ b. cond b None (found old (key_part n i part))) (fresh_not_yet n i ps qs part)
+        ∙ there (key_part n i part) (fresh_there n i count ps qs part here below (rate_is false differs)))
 
     pub leave_next : (next : Items) → next ≡ without_entry cur e → is_rate e.rate (slice_get qs i) ≡ false → Leaves n (take (i + 1) ps) qs old next
     leave_next next is differs = record {
@@ -122,40 +123,35 @@ module _ (n i count : ℕ) (ps qs : List Part) (part : Part) (e : Entry) (here :
     }
 
     -- ---- another tag
-    pub retag_there : ((k : Key) → fresh n (take count ps) qs k ≡ true → IsSome (found old k)) → i < count → has_rate qs (key_part n i part) ≡ false
-        → has cur e ≡ true
-    retag_there there below lacks =
-        has-found cur e ∙ ap (λ (k : Key). is_some (found cur k)) key
-        ∙ ap is_some (so_far.tags (key_part n i part) ∙ ap (λ b. cond b (Some tag) (found old (key_part n i part))) (fresh_not_yet n i ps qs part))
-        ∙ there (key_part n i part) (fresh_there n i count ps qs part here below lacks)
+    module _ (from : Tag) where
+      pub retag_there : ((k : Key) → fresh n (take count ps) qs k ≡ true → found old k ≡ Some from) → i < count
+          → has_rate qs (key_part n i part) ≡ false → found cur (key_of e) ≡ Some from
+      retag_there there below lacks =
+          ap (found cur) key ∙ so_far.tags (key_part n i part)
+          ∙ ap (λ b. cond b (Some tag) (found old (key_part n i part))) (fresh_not_yet n i ps qs part)
+          ∙ there (key_part n i part) (fresh_there n i count ps qs part here below lacks)
 
-    -- it is the entry itself
-    pub retag_entry : e.number ≡ n → AreNumbered cur → has cur e ≡ true → HasEntry cur e
-    retag_entry own numbered there = found-entry cur e (own ∙ sym (ap (λ (k : Key). k.serial) key)) numbered there
+      -- it is the entry itself
+      pub retag_entry : e.number ≡ n → AreNumbered cur → found cur (key_of e) ≡ Some from → indexes.found cur (key_of e) ≡ Some (e.number, from)
+      retag_entry own numbered there = found-entry cur e from (own ∙ sym (ap (λ (k : Key). k.serial) key)) numbered there
 
-    again_some : (o : Option Tag) → IsSome o → again tag o ≡ Some tag
-    again_some None is = absurd (apart is)
-      where
-        apart : false ≡ true → ⊥
-        apart e = cc
-    again_some (Some t) is = refl
+      same_there : (k : Key) → found cur (key_of e) ≡ Some from → (b : Bool) → same_key (key_part n i part) k ≡ b
+          → cond b (again tag (found cur k)) (found cur k) ≡ cond b (Some tag) (found cur k)
+      same_there k is true s = ap (again tag) (ap (found cur) (sym (key ∙ same_is (key_part n i part) k s)) ∙ is)
+      same_there k is false s = refl
 
-    same_there : (k : Key) → has cur e ≡ true → (b : Bool) → same_key (key_part n i part) k ≡ b → cond b (again tag (found cur k)) (found cur k) ≡ cond b (Some tag) (found cur k)
-    same_there k is true s = again_some (found cur k) (ap (λ (l : Key). is_some (found cur l)) (sym (same_is (key_part n i part) k s)) ∙ ap (λ (l : Key). is_some (found cur l)) (sym key) ∙ sym (has-found cur e) ∙ is)
-    same_there k is false s = refl
-
-    pub retag_next : (next : Items) → next ≡ with_tag cur e tag → has cur e ≡ true → has_rate qs (key_part n i part) ≡ false
-        → Enters n tag (take (i + 1) ps) qs old next
-    retag_next next is there lacks = record {
-      sorted = λ order. subst AreListed (sym is) (tag_listed cur e tag (so_far.sorted order));
-      tags = λ k.
-          ap (λ (xs : Items). found xs k) is ∙ found-tagged cur e tag k
-          ∙ ap (λ (l : Key). cond (same_key l k) (again tag (found cur k)) (found cur k)) key
-          ∙ same_there k there (same_key (key_part n i part) k) refl
-          ∙ ap (λ o. cond (same_key (key_part n i part) k) (Some tag) o) (so_far.tags k)
-          ∙ or_cond (fresh n (take i ps) qs k) (same_key (key_part n i part) k) (Some tag) (found old k)
-          ∙ ap (λ b. cond b (Some tag) (found old k)) (sym (fresh_next n i ps qs part here k lacks));
-    }
+      pub retag_next : (next : Items) → next ≡ with_tag cur e tag → found cur (key_of e) ≡ Some from → has_rate qs (key_part n i part) ≡ false
+          → Enters n tag (take (i + 1) ps) qs old next
+      retag_next next is there lacks = record {
+        sorted = λ order. subst AreListed (sym is) (tag_listed cur e tag (so_far.sorted order));
+        tags = λ k.
+            ap (λ (xs : Items). found xs k) is ∙ found-tagged cur e tag k
+            ∙ ap (λ (l : Key). cond (same_key l k) (again tag (found cur k)) (found cur k)) key
+            ∙ same_there k there (same_key (key_part n i part) k) refl
+            ∙ ap (λ o. cond (same_key (key_part n i part) k) (Some tag) o) (so_far.tags k)
+            ∙ or_cond (fresh n (take i ps) qs k) (same_key (key_part n i part) k) (Some tag) (found old k)
+            ∙ ap (λ b. cond b (Some tag) (found old k)) (sym (fresh_next n i ps qs part here k lacks));
+      }
 
 -- ---- none and all
 

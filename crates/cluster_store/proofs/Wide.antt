@@ -1,5 +1,5 @@
 -- The index while clusters wait to be exchanged.
-use Rattle.std.proofs.Common.{◌≡◌, ◌≢◌, ℕ, Bool, true, false, cond, not, ◌&&◌, List, [], ◌∷◌, ◌++◌, map, Option, None, Some, IsSome, is_some, Contains, nat_eq, inl, inr, refl, sym, ap, ◌∙◌, subst}
+use Rattle.std.proofs.Common.{◌≡◌, ◌≢◌, ℕ, Bool, true, false, cond, not, ◌&&◌, List, [], ◌∷◌, ◌++◌, map, Option, None, Some, Contains, nat_eq, inl, inr, refl, sym, ap, ◌∙◌, subst}
 use Rattle.std.proofs.lemmas.Bool.{cases_eq, false_from_ne_true}
 use Rattle.std.specs.Cmp.{unsigned_Decides}
 use Rattle.graphs.specs.Certificates.{Part}
@@ -130,7 +130,7 @@ replaced true false t = refl
 replaced false true t = refl
 replaced false false t = refl
 
-second : (a b : Bool) (t : Tag) → b ≡ true → IsSome (cond a (Some t) (cond b (Some t) None))
+second : (a b : Bool) (t : Tag) → b ≡ true → cond a (Some t) (cond b (Some t) None) ≡ Some t
 second true b t is = refl
 second false true t is = refl
 second false false t is = absurd (apart is)
@@ -138,7 +138,7 @@ second false false t is = absurd (apart is)
     apart : false ≡ true → ⊥
     apart e = cc
 
-first : (a : Bool) (o : Option Tag) (t : Tag) → a ≡ true → IsSome (cond a (Some t) o)
+first : (a : Bool) (o : Option Tag) (t : Tag) → a ≡ true → cond a (Some t) o ≡ Some t
 first true o t is = refl
 first false o t is = absurd (apart is)
   where
@@ -179,9 +179,9 @@ module _ (slots : Slots) (n : ℕ) (s : Stored) (is : at slots n ≡ Some s) (ps
   }
 
   -- out again
-  pub leave_has : IsBeside slots n ps items → (k : Key) → fresh n ps s.cluster.parts k ≡ true → IsSome (found items k)
+  pub leave_has : IsBeside slots n ps items → (k : Key) → fresh n ps s.cluster.parts k ≡ true → found items k ≡ Some s.tag
   leave_has beside k f =
-      ap is_some (tag_both beside k (fresh_serial n ps s.cluster.parts k f))
+      tag_both beside k (fresh_serial n ps s.cluster.parts k f)
       ∙ second (has_rate s.cluster.parts k) (has_rate ps k) s.tag (fresh_has n ps s.cluster.parts k f)
 
   pub leaves_beside : (items' : Items) → IsBeside slots n ps items → Leaves n ps s.cluster.parts items items' → IsBeside slots n [] items'
@@ -193,9 +193,9 @@ module _ (slots : Slots) (n : ℕ) (s : Stored) (is : at slots n ≡ Some s) (ps
   }
 
   -- the other ones out
-  pub gone_has : IsBeside slots n ps items → (k : Key) → fresh n s.cluster.parts ps k ≡ true → IsSome (found items k)
+  pub gone_has : IsBeside slots n ps items → (k : Key) → fresh n s.cluster.parts ps k ≡ true → found items k ≡ Some s.tag
   gone_has beside k f =
-      ap is_some (tag_both beside k (fresh_serial n s.cluster.parts ps k f))
+      tag_both beside k (fresh_serial n s.cluster.parts ps k f)
       ∙ first (has_rate s.cluster.parts k) (cond (has_rate ps k) (Some s.tag) None) s.tag (fresh_has n s.cluster.parts ps k f)
 
   pub replaces : (slots' : Slots) (t : Stored) (items' : Items) → at slots' n ≡ Some t → t.cluster.parts ≡ ps → t.tag ≡ s.tag → IsBeside slots n ps items

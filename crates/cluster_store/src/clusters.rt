@@ -90,7 +90,14 @@ pub fn take_out<const W: usize>(slots: &mut Slab<Stored<W>>, index: &mut ChunkIn
     match slots.try_remove(number) {
         Some(stored) => {
             let cluster = stored.cluster();
-            leave(index, number, cluster, None, cluster.part_count());
+            leave(
+                index,
+                number,
+                stored.tag(),
+                cluster,
+                None,
+                cluster.part_count(),
+            );
         }
         None => unreachable!(),
     }
@@ -110,7 +117,7 @@ pub fn set_tag<const W: usize>(
 {
     match slots.get_mut(number) {
         Some(stored) => {
-            retag(index, number, stored.cluster(), tag);
+            retag(index, number, stored.cluster(), stored.tag(), tag);
             stored.set_tag(tag);
         }
         None => unreachable!(),
@@ -289,10 +296,18 @@ fn leave_beside<const W: usize>(
     ensures here { IsBeside slots.now.slots exchange.now.number [] index.new }
     ensures others { KeepsElsewhere exchange.now.number index.old index.new }
 {
-    let other = at(slots, exchange.number()).cluster();
+    let stored = at(slots, exchange.number());
+    let other = stored.cluster();
     let cluster = exchange.cluster();
     let count = cluster.part_count();
-    leave(index, exchange.number(), cluster, Some(other), count);
+    leave(
+        index,
+        exchange.number(),
+        stored.tag(),
+        cluster,
+        Some(other),
+        count,
+    );
 }
 
 // Takes the entries out that went in for clusters that were to be exchanged.
@@ -343,7 +358,8 @@ fn replace<const W: usize>(
         Some(stored) => {
             let gone = stored.replace(cluster);
             let count = gone.part_count();
-            leave(index, number, &gone, Some(stored.cluster()), count);
+            let other = stored.cluster();
+            leave(index, number, stored.tag(), &gone, Some(other), count);
             drop(gone);
         }
         None => unreachable!(),

@@ -1,4 +1,4 @@
-ghost use Rattle.std.specs.Prelude.{◌≡◌, ℕ, ◌<◌, ◌≤◌, true, None, Some, [], length, take, slice_get, IsSome, OnOk, OnErr, option_copied};
+ghost use Rattle.std.specs.Prelude.{◌≡◌, ℕ, ◌<◌, ◌≤◌, true, None, Some, [], length, take, slice_get, OnOk, OnErr, option_copied};
 ghost use Rattle.graphs.specs.Certificates.{Part};
 ghost use Rattle.chunk_index.specs.declared.key.Key.{Key};
 ghost use Rattle.chunk_index.specs.Keys.{key_of};
@@ -34,23 +34,24 @@ fn stays<const W: usize>(other: Option<&Cluster<W>>, at: usize, rate: FeeRate) -
     }
 }
 
-/// Takes the entries of the first parts of a cluster out, but for those that the other one has too.
+/// Takes the entries of the first parts of a cluster out, which have that tag, but for those that the other one has too.
 pub fn leave<const W: usize>(
     index: &mut ChunkIndex,
     number: usize,
+    tag: Tag,
     gone: &Cluster<W>,
     other: Option<&Cluster<W>>,
     count: usize,
 )
     requires within { count ≤ length gone.now.parts }
     requires there { (k : Key) → fresh number (take count gone.now.parts) (parts_of (option_copied other)) k ≡ true
-        → IsSome (found index.old k) }
+        → found index.old k ≡ Some tag }
     ensures { Leaves number (take count gone.now.parts) (parts_of (option_copied other.entry)) index.old index.new }
 {
     for at in 0..count {
         let entry = entry_of(number, gone, at);
         if !stays(other, at, entry.rate) {
-            index.remove(&entry);
+            index.take(&entry, tag);
         }
     }
 }
@@ -75,7 +76,7 @@ pub fn enter<const W: usize>(
         let entry = entry_of(number, new, at);
         if !stays(other, at, entry.rate) {
             if let Err(error) = index.insert(entry, tag) {
-                leave(index, number, new, other, at);
+                leave(index, number, tag, new, other, at);
                 return Err(error);
             }
         }
@@ -83,13 +84,19 @@ pub fn enter<const W: usize>(
     Ok(())
 }
 
-/// Gives the entries of a cluster another tag.
-pub fn retag<const W: usize>(index: &mut ChunkIndex, number: usize, cluster: &Cluster<W>, tag: Tag)
+/// Gives the entries of a cluster, which have a tag, another tag.
+pub fn retag<const W: usize>(
+    index: &mut ChunkIndex,
+    number: usize,
+    cluster: &Cluster<W>,
+    from: Tag,
+    to: Tag,
+)
     requires listed { AreListed index.old }
-    requires there { (k : Key) → fresh number cluster.now.parts [] k ≡ true → IsSome (found index.old k) }
-    ensures { Enters number tag cluster.now.parts [] index.old index.new }
+    requires there { (k : Key) → fresh number cluster.now.parts [] k ≡ true → found index.old k ≡ Some from }
+    ensures { Enters number to cluster.now.parts [] index.old index.new }
 {
     for at in 0..cluster.part_count() {
-        index.retag(&entry_of(number, cluster, at), tag);
+        index.move_tag(&entry_of(number, cluster, at), from, to);
     }
 }

@@ -23,15 +23,16 @@ leave-requires g c =
     let low : length c.replace-gone.result.parts ≤ c.part_count-count.result = not_fewer c.part_count-count.ensures in
     let all : take c.part_count-count.result c.replace-gone.result.parts ≡ s.cluster.parts =
     take_all c.part_count-count.result c.replace-gone.result.parts low ∙ ap (λ (y : Cluster). y.parts) c.replace-gone.ensures.old in
-    let new : c.cluster.result.now.parts ≡ x.cluster.parts =
-    ap (λ (y : Cluster). y.parts) (c.cluster.ensures ∙ ap (λ (t : Stored). t.cluster) c.replace-gone.ensures.new ∙ c.into_parts-number.ensures.cluster) in (
+    let new : c.cluster-other.result.now.parts ≡ x.cluster.parts =
+    ap (λ (y : Cluster). y.parts) (c.cluster-other.ensures ∙ ap (λ (t : Stored). t.cluster) c.replace-gone.ensures.new ∙ c.into_parts-number.ensures.cluster) in (
       search cluster_in_stored,
       (
         not_more c.part_count-count.ensures,
         λ k f.
             gone_has slots x.number s is x.cluster.parts c.args.index.now c.requires.wide k
-            (fresh_same c.into_parts-number.result.0 x.number (take c.part_count-count.result c.replace-gone.result.parts) s.cluster.parts c.cluster.result.now.parts
-            x.cluster.parts k c.into_parts-number.ensures.number all new f),
+            (fresh_same c.into_parts-number.result.0 x.number (take c.part_count-count.result c.replace-gone.result.parts) s.cluster.parts c.cluster-other.result.now.parts
+            x.cluster.parts k c.into_parts-number.ensures.number all new f)
+            ∙ ap Some (sym (c.tag.ensures ∙ ap (λ (t : Stored). t.tag) c.replace-gone.ensures.new)),
       ),
     )
 
@@ -67,14 +68,14 @@ returns-clause-here g c =
     ap (at (set slots n (Some c.replace-gone.new.self))) (sym number) ∙ set_here slots n s c.replace-gone.new.self (sym c.in-Some.ensures.value) in
     replaces slots x.number s is x.cluster.parts c.args.index.now (set slots n (Some c.replace-gone.new.self)) c.replace-gone.new.self c.leave.new.index now
     (ap (λ (y : Cluster). y.parts) cluster) (ap (λ (t : Stored). t.tag) c.replace-gone.ensures.new) c.requires.wide
-    (leaves_same n x.number (take c.part_count-count.result c.replace-gone.result.parts) s.cluster.parts c.cluster.result.now.parts x.cluster.parts
-    c.args.index.now c.leave.new.index number all (ap (λ (y : Cluster). y.parts) (c.cluster.ensures ∙ cluster)) c.leave.ensures)
+    (leaves_same n x.number (take c.part_count-count.result c.replace-gone.result.parts) s.cluster.parts c.cluster-other.result.now.parts x.cluster.parts
+    c.args.index.now c.leave.new.index number all (ap (λ (y : Cluster). y.parts) (c.cluster-other.ensures ∙ cluster)) c.leave.ensures)
 
 pub returns-clause-others : goal.returns-clause-others
 returns-clause-others g c =
     let n = c.into_parts-number.result.0 in
     let ps = take c.part_count-count.result c.replace-gone.result.parts in
-    let qs = c.cluster.result.now.parts in
+    let qs = c.cluster-other.result.now.parts in
     let there : Leaves c.args.exchange.number ps qs c.args.index.now c.leave.new.index =
     leaves_same n c.args.exchange.number ps ps qs qs c.args.index.now c.leave.new.index c.into_parts-number.ensures.number refl refl c.leave.ensures in
     keeps_left c.args.exchange.number ps qs c.args.index.now c.leave.new.index there
@@ -89,8 +90,11 @@ replace-gone-requires g c = (search, search cluster_in_stored)
 pub part_count-count-requires : goal.part_count-count-requires
 part_count-count-requires g c = search cluster_in_stored
 
-pub cluster-requires : goal.cluster-requires
-cluster-requires g c = (search, search cluster_in_stored)
+pub tag-requires : goal.tag-requires
+tag-requires g c = search
+
+pub cluster-other-requires : goal.cluster-other-requires
+cluster-other-requires g c = (search, search cluster_in_stored)
 
 pub unreachable-requires : goal.unreachable-requires
 unreachable-requires g c = none_there (ap (at c.args.slots.now.slots) (sym c.into_parts-number.ensures.number) ∙ sym c.in-None.ensures.value) c.requires.there

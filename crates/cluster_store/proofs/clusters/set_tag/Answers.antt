@@ -17,7 +17,7 @@ retag-requires g c =
         c.requires.shown.sorted,
         λ k f.
             stored_there c.args.slots.now.slots c.args.index.now c.requires.shown c.args.number c.in-Some.stored.now is [] k
-            (subst (λ (x : Cluster). fresh c.args.number x.parts [] k ≡ true) c.cluster.ensures f),
+            (subst (λ (x : Cluster). fresh c.args.number x.parts [] k ≡ true) c.cluster.ensures f) ∙ ap Some (sym c.tag.ensures),
       ),
     )
 
@@ -33,6 +33,9 @@ returns-clause-shown g c =
 
 pub cluster-requires : goal.cluster-requires
 cluster-requires g c = (search, search cluster_in_stored)
+
+pub tag-requires : goal.tag-requires
+tag-requires g c = search
 
 pub set_tag-requires : goal.set_tag-requires
 set_tag-requires g c = search

@@ -20,7 +20,7 @@ leave-requires g c =
         not_more c.part_count.ensures,
         λ k f.
             stored_there c.args.slots.now.slots c.args.index.now c.requires.shown c.args.number c.in-Some.stored is [] k
-            (subst (λ (ps : List Part). fresh c.args.number ps [] k ≡ true) all f),
+            (subst (λ (ps : List Part). fresh c.args.number ps [] k ≡ true) all f) ∙ ap Some (sym c.tag.ensures),
       ),
     )
 
@@ -36,6 +36,9 @@ returns-clause-shown g c =
 
 pub cluster-cluster-requires : goal.cluster-cluster-requires
 cluster-cluster-requires g c = (search, search cluster_in_stored)
+
+pub tag-requires : goal.tag-requires
+tag-requires g c = search
 
 pub part_count-requires : goal.part_count-requires
 part_count-requires g c = search cluster_in_stored

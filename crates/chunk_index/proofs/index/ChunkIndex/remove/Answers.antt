@@ -1,20 +1,13 @@
-use Rattle.std.proofs.Common.{sym, ap, ◌∙◌}
-use Rattle.chunk_index.specs.declared.entry.Tag.TheVariants.{Both}
+use Rattle.std.proofs.Common.{◌≡◌, Some, ap, ◌∙◌, subst}
+use Rattle.chunk_index.specs.declared.entry.Tag.{Tag}
 use Rattle.chunk_index.specs.declared.key.Key.{Key}
-use Rattle.chunk_index.specs.Keys.{without}
-use Rattle.chunk_index.specs.Items.{Items, item_key, tag_set}
-use Rattle.chunk_index.proofs.Items.{tag-twice, without-tag}
+use Rattle.chunk_index.specs.Keys.{key_of}
+use Rattle.chunk_index.specs.Items.{found}
+use Rattle.chunk_index.proofs.Items.{finds}
 use Rattle.chunk_index.proofs.index.ChunkIndex.remove.Goals as goal
 
-pub leave-requires : goal.leave-requires
-leave-requires c =
-    ap (λ (items : Items). tag_set items c.of-key.result Both) c.share.ensures
-    ∙ tag-twice c.args.self.now c.of-key.result Both Both
-    ∙ sym c.share.ensures
-
-pub returns : goal.returns
-returns c =
-    c.leave.ensures
-    ∙ ap (λ (items : Items). without item_key items c.of-key.result) c.share.ensures
-    ∙ without-tag c.args.self.now c.of-key.result Both
-    ∙ ap (λ (k : Key). without item_key c.args.self.now k) c.of-key.ensures
+pub take-requires : goal.take-requires
+take-requires c =
+    let at = finds c.args.self.now (key_of c.args.entry.now) c.requires in
+    let tag : at.1.0 ≡ c.tag_of-tag.result = c.tag_of-tag.ensures at.0 at.1.0 (ap (λ (k : Key). found c.args.self.now k) c.of.ensures ∙ at.1.1) in
+    (at.0, subst (λ (t : Tag). found c.args.self.now (key_of c.args.entry.now) ≡ Some (at.0, t)) tag at.1.1)

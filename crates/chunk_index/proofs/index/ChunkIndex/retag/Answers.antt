@@ -1,27 +1,13 @@
-use Rattle.std.proofs.Common.{◌≡◌, Some, sym, ap, ◌∙◌, subst}
-use Rattle.chunk_index.specs.declared.entry.Tag.TheVariants.{Both}
+use Rattle.std.proofs.Common.{◌≡◌, Some, ap, ◌∙◌, subst}
+use Rattle.chunk_index.specs.declared.entry.Tag.{Tag}
 use Rattle.chunk_index.specs.declared.key.Key.{Key}
-use Rattle.chunk_index.specs.Items.{Items, HasEntry, found, tag_set}
-use Rattle.chunk_index.specs.Kept.{entry_from}
-use Rattle.chunk_index.proofs.Items.{tag-twice, found-tag}
+use Rattle.chunk_index.specs.Keys.{key_of}
+use Rattle.chunk_index.specs.Items.{found}
 use Rattle.chunk_index.proofs.index.ChunkIndex.retag.Goals as goal
 
-pub set_apart-requires-clause-there : goal.set_apart-requires-clause-there
-set_apart-requires-clause-there c =
-    let k = c.of-key.result in
+pub move_tag-requires : goal.move_tag-requires
+move_tag-requires c =
     let n = c.args.entry.now.number in
-    let was : found c.args.self.now k ≡ Some (n, c.requires.0) = ap (λ (q : Key). found c.args.self.now q) c.of-key.ensures ∙ c.requires.1 in
-    subst (λ (items : Items). HasEntry items (entry_from k n)) (sym c.share.ensures) (Both, found-tag c.args.self.now k n c.requires.0 Both was)
-
-pub set_apart-requires-clause-shared : goal.set_apart-requires-clause-shared
-set_apart-requires-clause-shared c =
-    ap (λ (items : Items). tag_set items c.of-key.result Both) c.share.ensures
-    ∙ tag-twice c.args.self.now c.of-key.result Both Both
-    ∙ sym c.share.ensures
-
-pub returns : goal.returns
-returns c =
-    c.set_apart.ensures
-    ∙ ap (λ (items : Items). tag_set items c.of-key.result c.args.tag) c.share.ensures
-    ∙ tag-twice c.args.self.now c.of-key.result Both c.args.tag
-    ∙ ap (λ (k : Key). tag_set c.args.self.now k c.args.tag) c.of-key.ensures
+    let tag : c.requires.0 ≡ c.tag_of-from.result =
+    c.tag_of-from.ensures n c.requires.0 (ap (λ (k : Key). found c.args.self.now k) c.of.ensures ∙ c.requires.1) in
+    subst (λ (t : Tag). found c.args.self.now (key_of c.args.entry.now) ≡ Some (n, t)) tag c.requires.1
