@@ -1,4 +1,4 @@
-ghost use Rattle.std.specs.Prelude.{◌≡◌, ℕ, ◌+◌, ◌*◌, ◌<◌, ◌≤◌, ◌++◌, true, false, List, length, map, flat_map, slice_get, sum_by, Some, All, Contains, IfOk, OnOk};
+ghost use Rattle.std.specs.Prelude.{◌≡◌, ℕ, ◌+◌, ◌*◌, ◌<◌, ◌≤◌, ◌++◌, true, false, List, length, map, flat_map, slice_get, slice_index, sum_by, Some, All, Contains, IfOk, OnOk};
 ghost use Rattle.fee_rate.specs.Limits.{IsFee, IsRate};
 ghost use Rattle.fee_rate.specs.declared.limits.TheConstants.{MAX_SIZE, MAX_TOTAL};
 ghost use Rattle.graphs.specs.Closures.{is_ancestor, rate_of, AddsPair, SetsFee, IsCover};
@@ -327,6 +327,16 @@ impl<const W: usize> Cluster<W> {
     {
         let _order = &self.order;
         self.dep.rate(place_of(self.names.as_slice(), id))
+    }
+
+    /// Fee and size of the name at a position of `names`. It costs no search for the name.
+    pub fn rate_at(&self, at: usize) -> FeeRate
+        requires { at < length self.now.names }
+        ensures { result ≡ rate_of self.now.graph (slice_index self.now.names at) }
+    {
+        let _names = &self.names;
+        let _order = &self.order;
+        self.dep.rate(at)
     }
 
     /// The total size of its names, in virtual bytes.

@@ -16,7 +16,7 @@ pub fn lowest_of<const W: usize>(cluster: &Cluster<W>, least: u64) -> u64
     let names = cluster.names();
     let mut lowest = least;
     for at in 0..names.len() {
-        lowest = lowest.min(cluster.rate(names[at]).size);
+        lowest = lowest.min(cluster.rate_at(at).size);
     }
     lowest
 }
