@@ -83,7 +83,8 @@ and_swap false false = refl
 elsewhere : (p q : ℕ) → q / 64 ≢ p / 64 → nat_eq q p ≡ false
 elsewhere p q other = ne_eqb q p (λ e. other (ap (λ n. n / 64) e))
 
-pub insert_is : (words : List ℕ) (p : ℕ) → p < 64 * length words → members_of (set words (p / 64) (bit_or (slice_index words (p / 64)) (1 * 2 ^ (p % 64) % 2 ^ 64))) ≡ fin.insert (members_of words) p
+pub insert_is : (words : List ℕ) (p : ℕ) → p < 64 * length words
+    → members_of (set words (p / 64) (bit_or (slice_index words (p / 64)) (1 * 2 ^ (p % 64) % 2 ^ 64))) ≡ fin.insert (members_of words) p
 insert_is words p h = members_from _ _ (written words p _ (λ q. fin.contains (fin.insert (members_of words) p) q) h
     (λ k below.
     let bit : p % 64 < 64 = omega arith in
@@ -101,7 +102,8 @@ remove_is words p h = members_from _ _ (written words p _ (λ q. fin.contains (f
     (λ k below.
     let bit : p % 64 < 64 = omega arith in
     is_set-and (slice_index words (p / 64)) (2 ^ 64 - 1 - 1 * 2 ^ (p % 64) % 2 ^ 64) k
-    ∙ ap₂ (λ a b. a && b) (sym (is_place-at words (p / 64) k below)) (is_set-not _ k (one_below (p % 64) bit) below ∙ ap not (is_set-one (p % 64) k bit ∙ same_place p k below))
+    ∙ ap₂ (λ a b. a && b) (sym (is_place-at words (p / 64) k below))
+    (is_set-not _ k (one_below (p % 64) bit) below ∙ ap not (is_set-one (p % 64) k bit ∙ same_place p k below))
     ∙ and_swap (is_place words (64 * (p / 64) + k)) (not (nat_eq (64 * (p / 64) + k) p))
     ∙ ap (λ b. not (nat_eq (64 * (p / 64) + k) p) && b) (sym (contains-members_of words (64 * (p / 64) + k)))
     ∙ sym (contains-remove (members_of words) p (64 * (p / 64) + k)))
@@ -133,7 +135,8 @@ pub record MadeUpTo (f : ℕ → ℕ → ℕ) (w : ℕ) (xs ys words : List ℕ)
   pub rest : (k : ℕ) → i ≤ k → slice_index words k ≡ slice_index xs k
 
 module _ (f : ℕ → ℕ → ℕ) where
-  pub MadeUpTo-more : (w : ℕ) (xs ys words : List ℕ) (i : ℕ) → i < w → MadeUpTo f w xs ys words i → MadeUpTo f w xs ys (set words i (f (slice_index words i) (slice_index ys i))) (i + 1)
+  pub MadeUpTo-more : (w : ℕ) (xs ys words : List ℕ) (i : ℕ) → i < w → MadeUpTo f w xs ys words i
+      → MadeUpTo f w xs ys (set words i (f (slice_index words i) (slice_index ys i))) (i + 1)
   MadeUpTo-more w xs ys words i h so_far = record {
     long = length-set words i _ ∙ so_far.long;
     made = below_more (λ k. slice_index (set words i (f (slice_index words i) (slice_index ys i))) k ≡ f (slice_index xs k) (slice_index ys k)) i
@@ -161,12 +164,14 @@ module _ (f : ℕ → ℕ → ℕ) where
     empty_behind = λ i far. MadeUpTo-all none w n xs ys words h k end all i ∙ ap₂ f (h.empty_behind i far) (k.empty_behind i far) ∙ none;
   }
 
-pub union_is : (xs ys words : List ℕ) → ((i : ℕ) → slice_index words i ≡ bit_or (slice_index xs i) (slice_index ys i)) → members_of words ≡ fin.union (members_of xs) (members_of ys)
+pub union_is : (xs ys words : List ℕ) → ((i : ℕ) → slice_index words i ≡ bit_or (slice_index xs i) (slice_index ys i))
+    → members_of words ≡ fin.union (members_of xs) (members_of ys)
 union_is xs ys words made = members_from _ _ (λ q.
     ap (λ n. is_set n (q % 64)) (made (q / 64)) ∙ is_set-or (slice_index xs (q / 64)) (slice_index ys (q / 64)) (q % 64)
     ∙ sym (contains-union (members_of xs) (members_of ys) q ∙ ap₂ (λ a b. a || b) (contains-members_of xs q) (contains-members_of ys q)))
 
-pub meet_is : (xs ys words : List ℕ) → ((i : ℕ) → slice_index words i ≡ bit_and (slice_index xs i) (slice_index ys i)) → members_of words ≡ fin.intersection (members_of xs) (members_of ys)
+pub meet_is : (xs ys words : List ℕ) → ((i : ℕ) → slice_index words i ≡ bit_and (slice_index xs i) (slice_index ys i))
+    → members_of words ≡ fin.intersection (members_of xs) (members_of ys)
 meet_is xs ys words made = members_from _ _ (λ q.
     ap (λ n. is_set n (q % 64)) (made (q / 64)) ∙ is_set-and (slice_index xs (q / 64)) (slice_index ys (q / 64)) (q % 64)
     ∙ sym (contains-intersection (members_of xs) (members_of ys) q ∙ ap₂ (λ a b. a && b) (contains-members_of xs q) (contains-members_of ys q)))
@@ -175,7 +180,8 @@ meet_is xs ys words made = members_from _ _ (λ q.
 abbrev pub without : ℕ → ℕ → ℕ
 without x y = bit_and x (2 ^ 64 - 1 - y)
 
-is_set-without : (w : ℕ) (ys : List ℕ) (x q : ℕ) → AreWords w ys → is_set (without x (slice_index ys (q / 64))) (q % 64) ≡ (is_set x (q % 64) && not (is_place ys q))
+is_set-without : (w : ℕ) (ys : List ℕ) (x q : ℕ) → AreWords w ys
+    → is_set (without x (slice_index ys (q / 64))) (q % 64) ≡ (is_set x (q % 64) && not (is_place ys q))
 is_set-without w ys x q h =
     is_set-and x (2 ^ 64 - 1 - slice_index ys (q / 64)) (q % 64)
     ∙ ap (λ b. is_set x (q % 64) && b) (is_set-not (slice_index ys (q / 64)) (q % 64) (h.fit (q / 64)) (omega arith))
@@ -192,17 +198,21 @@ both_so : (a b : Bool) → a ≡ true → (a && not b) ≡ false → b ≡ true
 both_so a true p e = refl
 both_so a false p e = absurd (true≢false (sym (ap (λ x. x && true) p) ∙ e))
 
-pub subset_is : (w : ℕ) (xs ys : List ℕ) → AreWords w xs → AreWords w ys → ((i : ℕ) → i < w → without (slice_index xs i) (slice_index ys i) ≡ 0) → fin.is_subset (members_of xs) (members_of ys) ≡ true
+pub subset_is : (w : ℕ) (xs ys : List ℕ) → AreWords w xs → AreWords w ys
+    → ((i : ℕ) → i < w → without (slice_index xs i) (slice_index ys i) ≡ 0) → fin.is_subset (members_of xs) (members_of ys) ≡ true
 subset_is w xs ys h k none = fin.contains-is_subset nat_cmp_total (members_of xs) (members_of ys) (λ q e.
     let inside : q < 64 * w = members_of-within w xs h.long q e in
     let here : is_place xs q ≡ true = sym (contains-members_of xs q) ∙ e in
     contains-members_of ys q
-    ∙ both_so (is_place xs q) (is_place ys q) here (sym (is_set-without w ys (slice_index xs (q / 64)) q k) ∙ ap (λ n. is_set n (q % 64)) (none (q / 64) (omega arith)) ∙ is_set-zero (q % 64)))
+    ∙ both_so (is_place xs q) (is_place ys q) here
+    (sym (is_set-without w ys (slice_index xs (q / 64)) q k) ∙ ap (λ n. is_set n (q % 64)) (none (q / 64) (omega arith)) ∙ is_set-zero (q % 64)))
 
 -- a word that is not empty has its lowest bit set, and none below it
-lowest : (n : ℕ) → n ≢ 0 → n < 2 ^ 64 → (trailing_zeros w64 n < 64) × (is_set n (trailing_zeros w64 n) ≡ true) × ((k : ℕ) → k < trailing_zeros w64 n → is_set n k ≡ false)
+lowest : (n : ℕ) → n ≢ 0 → n < 2 ^ 64
+    → (trailing_zeros w64 n < 64) × (is_set n (trailing_zeros w64 n) ≡ true) × ((k : ℕ) → k < trailing_zeros w64 n → is_set n k ≡ false)
 lowest n some fits =
-    let at : (trailing_zeros w64 n < 64) × (bit_at n (trailing_zeros w64 n) ≡ 1) × ((i : ℕ) → i < trailing_zeros w64 n → bit_at n i ≡ 0) = bit_at-trailing_zeros w64 n (omega arith) fits in
+    let at : (trailing_zeros w64 n < 64) × (bit_at n (trailing_zeros w64 n) ≡ 1) × ((i : ℕ) → i < trailing_zeros w64 n → bit_at n i ≡ 0) =
+    bit_at-trailing_zeros w64 n (omega arith) fits in
     (at.0, ap (λ m. nat_eq m 1) at.1, λ k h. ap (λ m. nat_eq m 1) (at.2 k h))
 
 pub not_subset_is : (w i : ℕ) (xs ys : List ℕ) → AreWords w ys → without (slice_index xs i) (slice_index ys i) ≢ 0
@@ -221,7 +231,8 @@ not_subset_is w i xs ys h some fits =
         (sym (is_set-and (slice_index xs i) (2 ^ 64 - 1 - slice_index ys i) k) ∙ here) in
         let absent : is_set (slice_index ys i) k ≡ false = false_from_not _ (sym (is_set-not (slice_index ys i) k (h.fit i) below) ∙ parts.1) in
         false_from_ne_true _ (λ e. true≢false (
-        sym (fin.is_subset-contains nat_cmp_total (members_of xs) (members_of ys) e (64 * i + k) (contains-members_of xs (64 * i + k) ∙ is_place-at xs i k below ∙ parts.0))
+        sym (fin.is_subset-contains nat_cmp_total (members_of xs) (members_of ys) e (64 * i + k)
+        (contains-members_of xs (64 * i + k) ∙ is_place-at xs i k below ∙ parts.0))
         ∙ contains-members_of ys (64 * i + k) ∙ is_place-at ys i k below ∙ absent))
 
 -- ---- the least place
@@ -303,7 +314,8 @@ module _ (f : ℕ → Bool) (w : ℕ) where
     rest = λ j h. zeros w j;
   }
 
-  pub FilledUpTo-more : (words : List ℕ) (i v : ℕ) → i < w → v < 2 ^ 64 → FilledUpTo f w words i → ((k : ℕ) → k < 64 → is_set v k ≡ f (64 * i + k)) → FilledUpTo f w (set words i v) (i + 1)
+  pub FilledUpTo-more : (words : List ℕ) (i v : ℕ) → i < w → v < 2 ^ 64 → FilledUpTo f w words i
+      → ((k : ℕ) → k < 64 → is_set v k ≡ f (64 * i + k)) → FilledUpTo f w (set words i v) (i + 1)
   FilledUpTo-more words i v h small so_far here = record {
     long = length-set words i v ∙ so_far.long;
     fit = λ j. elim (cases_eq j i) as (λ _. slice_index (set words i v) j < 2 ^ 64) [
@@ -328,7 +340,8 @@ module _ (f : ℕ → Bool) (w : ℕ) where
     long = all.long;
     fit = all.fit;
     empty_behind = λ j far. elim (cases_lt j i) as (λ _. slice_index words j ≡ 0) [
-      | inl h ↦ same_from_set 64 (slice_index words j) 0 (all.fit j) (omega arith) (λ k bit. all.low j h k bit ∙ none (64 * j + k) (omega arith) ∙ sym (is_set-zero k))
+      | inl h ↦ same_from_set 64 (slice_index words j) 0 (all.fit j) (omega arith)
+          (λ k bit. all.low j h k bit ∙ none (64 * j + k) (omega arith) ∙ sym (is_set-zero k))
       | inr h ↦ all.rest j h
     ];
   }

@@ -44,17 +44,22 @@ module _ (words : List ℕ) (fit : (i : ℕ) → slice_index words i < 2 ^ 64) (
   pub down_alone : (by ≡ 0) ⊎ (length words ≤ i + 1) → is_set (slice_index words i / 2 ^ by) k ≡ is_place words (64 * i + k + by)
   down_alone last = elim (cases_lt (k + by) 64) as (λ _. is_set (slice_index words i / 2 ^ by) k ≡ is_place words (64 * i + k + by)) [
     | inl near ↦ down_here near
-    | inr far ↦ down_none far ∙ sym (is_place-past words (64 * i + k + by) (elim last as (λ _. 64 * length words ≤ 64 * i + k + by) [ inl e ↦ absurd (omega arith) | inr e ↦ omega arith ]))
+    | inr far ↦ down_none far ∙ sym
+        (is_place-past words (64 * i + k + by) (elim last as (λ _. 64 * length words ≤ 64 * i + k + by) [ inl e ↦ absurd (omega arith) | inr e ↦ omega arith ]))
   ]
 
   -- and with those of the next word
-  pub down_both : 0 < by → by < 64 → is_set (bit_or (slice_index words i / 2 ^ by) (slice_index words (i + 1) * 2 ^ (64 - by) % 2 ^ 64)) k ≡ is_place words (64 * i + k + by)
+  pub down_both : 0 < by → by < 64
+      → is_set (bit_or (slice_index words i / 2 ^ by) (slice_index words (i + 1) * 2 ^ (64 - by) % 2 ^ 64)) k ≡ is_place words (64 * i + k + by)
   down_both some most =
       is_set-or (slice_index words i / 2 ^ by) (slice_index words (i + 1) * 2 ^ (64 - by) % 2 ^ 64) k
-      ∙ elim (cases_lt (k + by) 64) as (λ _. (is_set (slice_index words i / 2 ^ by) k || is_set (slice_index words (i + 1) * 2 ^ (64 - by) % 2 ^ 64) k) ≡ is_place words (64 * i + k + by)) [
-        | inl near ↦ ap₂ (λ a b. a || b) (down_here near) (is_set-shl_low (slice_index words (i + 1)) (64 - by) k inside (omega arith)) ∙ or-false (is_place words (64 * i + k + by))
+      ∙ elim (cases_lt (k + by) 64) as (λ _. (is_set (slice_index words i / 2 ^ by) k || is_set (slice_index words (i + 1) * 2 ^ (64 - by) % 2 ^ 64) k)
+      ≡ is_place words (64 * i + k + by)) [
+        | inl near ↦ ap₂ (λ a b. a || b) (down_here near) (is_set-shl_low (slice_index words (i + 1)) (64 - by) k inside (omega arith))
+            ∙ or-false (is_place words (64 * i + k + by))
         | inr far ↦
-            ap₂ (λ a b. a || b) (down_none far) (is_set-shl_high (slice_index words (i + 1)) (64 - by) k inside (omega arith) ∙ sym (is_place-at words (i + 1) (k - (64 - by)) (omega arith)))
+            ap₂ (λ a b. a || b) (down_none far)
+            (is_set-shl_high (slice_index words (i + 1)) (64 - by) k inside (omega arith) ∙ sym (is_place-at words (i + 1) (k - (64 - by)) (omega arith)))
             ∙ ap (is_place words) (omega arith)
       ]
 
@@ -66,25 +71,30 @@ module _ (words : List ℕ) (fit : (i : ℕ) → slice_index words i < 2 ^ 64) (
       ∙ ap (λ b. not b && is_place words (64 * i + k - by)) (sym (le-ltb (64 * i + k) by (omega arith)))
 
   pub up_alone : (by ≡ 0) ⊎ (i ≡ 0) → is_set (slice_index words i * 2 ^ by % 2 ^ 64) k ≡ (not (nat_lt (64 * i + k) by) && is_place words (64 * i + k - by))
-  up_alone first = elim (cases_lt k by) as (λ _. is_set (slice_index words i * 2 ^ by % 2 ^ 64) k ≡ (not (nat_lt (64 * i + k) by) && is_place words (64 * i + k - by))) [
-    | inl far ↦
-        is_set-shl_low (slice_index words i) by k inside far
-        ∙ ap (λ b. not b && is_place words (64 * i + k - by)) (sym (lt-ltb (64 * i + k) by (elim first as (λ _. 64 * i + k < by) [ inl e ↦ absurd (omega arith) | inr e ↦ omega arith ])))
-    | inr near ↦ up_here near
-  ]
+  up_alone first =
+      elim (cases_lt k by) as (λ _. is_set (slice_index words i * 2 ^ by % 2 ^ 64) k ≡ (not (nat_lt (64 * i + k) by) && is_place words (64 * i + k - by))) [
+        | inl far ↦
+            is_set-shl_low (slice_index words i) by k inside far
+            ∙ ap (λ b. not b && is_place words (64 * i + k - by))
+            (sym (lt-ltb (64 * i + k) by (elim first as (λ _. 64 * i + k < by) [ inl e ↦ absurd (omega arith) | inr e ↦ omega arith ])))
+        | inr near ↦ up_here near
+      ]
 
   -- and with those of the word before
-  pub up_both : 0 < by → by < 64 → 0 < i → is_set (bit_or (slice_index words i * 2 ^ by % 2 ^ 64) (slice_index words (i - 1) / 2 ^ (64 - by))) k ≡ (not (nat_lt (64 * i + k) by) && is_place words (64 * i + k - by))
+  pub up_both : 0 < by → by < 64 → 0 < i → is_set (bit_or (slice_index words i * 2 ^ by % 2 ^ 64) (slice_index words (i - 1) / 2 ^ (64 - by))) k
+      ≡ (not (nat_lt (64 * i + k) by) && is_place words (64 * i + k - by))
   up_both some most later =
       is_set-or (slice_index words i * 2 ^ by % 2 ^ 64) (slice_index words (i - 1) / 2 ^ (64 - by)) k
-      ∙ elim (cases_lt k by) as (λ _. (is_set (slice_index words i * 2 ^ by % 2 ^ 64) k || is_set (slice_index words (i - 1) / 2 ^ (64 - by)) k) ≡ (not (nat_lt (64 * i + k) by) && is_place words (64 * i + k - by))) [
+      ∙ elim (cases_lt k by) as (λ _. (is_set (slice_index words i * 2 ^ by % 2 ^ 64) k || is_set (slice_index words (i - 1) / 2 ^ (64 - by)) k)
+      ≡ (not (nat_lt (64 * i + k) by) && is_place words (64 * i + k - by))) [
         | inl far ↦
             ap₂ (λ a b. a || b) (is_set-shl_low (slice_index words i) by k inside far)
             (is_set-shr (slice_index words (i - 1)) (64 - by) k ∙ sym (is_place-at words (i - 1) (k + (64 - by)) (omega arith)))
             ∙ ap (is_place words) (omega arith)
             ∙ ap (λ b. not b && is_place words (64 * i + k - by)) (sym (le-ltb (64 * i + k) by (omega arith)))
         | inr near ↦
-            ap₂ (λ a b. a || b) (up_here near) (is_set-shr (slice_index words (i - 1)) (64 - by) k ∙ is_set-above (slice_index words (i - 1)) (k + (64 - by)) (fit (i - 1)) (omega arith))
+            ap₂ (λ a b. a || b) (up_here near)
+            (is_set-shr (slice_index words (i - 1)) (64 - by) k ∙ is_set-above (slice_index words (i - 1)) (k + (64 - by)) (fit (i - 1)) (omega arith))
             ∙ or-false _
       ]
 
@@ -122,7 +132,8 @@ raised_below w words by q low = ap (λ b. nat_lt q (64 * w) && (not b && is_plac
 pub raised_past : (w : ℕ) (words : List ℕ) (by i : ℕ) → w ≤ i → (q : ℕ) → 64 * i ≤ q → raised_by w by words q ≡ false
 raised_past w words by i end q far = ap (λ b. b && (not (nat_lt q by) && is_place words (q - by))) (le-ltb q (64 * w) (omega arith))
 
-pub raised_far : (w : ℕ) (words : List ℕ) (by : ℕ) → ((p : ℕ) → is_place words p ≡ true → p + by < 64 * w → p + by < 2 ^ 64) → (q : ℕ) → 2 ^ 64 ≤ q → raised_by w by words q ≡ false
+pub raised_far : (w : ℕ) (words : List ℕ) (by : ℕ) → ((p : ℕ) → is_place words p ≡ true → p + by < 64 * w → p + by < 2 ^ 64)
+    → (q : ℕ) → 2 ^ 64 ≤ q → raised_by w by words q ≡ false
 raised_far w words by fits q far =
     elim (cases_lt q (64 * w)) as (λ _. raised_by w by words q ≡ false) [
       | inr out ↦ ap (λ b. b && (not (nat_lt q by) && is_place words (q - by))) (le-ltb q (64 * w) out)

@@ -77,7 +77,8 @@ in_minus s t q a out = to_minus s t q a (false_from_ne_true (set.contains t q) o
 pub empty_has_none : (s : set.FinSet nat_cmp) (k : ℕ) → set.contains s k ≡ true → s ≡ set.empty → ⊥
 empty_has_none s k m e = clash (set.contains s k) m (ap (λ t. set.contains t k) e ∙ contains-empty k)
 
-pub same_by_members : (s t : set.FinSet nat_cmp) → ((q : ℕ) → set.contains s q ≡ true → set.contains t q ≡ true) → ((q : ℕ) → set.contains t q ≡ true → set.contains s q ≡ true) → s ≡ t
+pub same_by_members : (s t : set.FinSet nat_cmp) → ((q : ℕ) → set.contains s q ≡ true → set.contains t q ≡ true)
+    → ((q : ℕ) → set.contains t q ≡ true → set.contains s q ≡ true) → s ≡ t
 same_by_members s t there back = same_members s t (λ q. same_test (set.contains s q) (set.contains t q) (there q) (back q))
 
 -- ---- how many
@@ -100,5 +101,6 @@ len_insert s k out = set.len-insert nat_cmp_total s k ∙ ap (λ (b : Bool). con
 -- a number that isn't in a set leaves room for it
 pub room_for : (n : ℕ) (s : set.FinSet nat_cmp) (k : ℕ) → IsWithin n s → k < n → set.contains s k ≡ false → set.len s < n
 room_for n s k w h out =
-    let within : IsWithin n (set.insert s k) = λ q m. elim (from_insert s k q m) as (λ _. q < n) [ inl e ↦ subst (λ (x : ℕ). x < n) (sym e) h | inr m2 ↦ w q m2 ] in
+    let within : IsWithin n (set.insert s k) =
+    λ q m. elim (from_insert s k q m) as (λ _. q < n) [ inl e ↦ subst (λ (x : ℕ). x < n) (sym e) h | inr m2 ↦ w q m2 ] in
     omega (arith, len_bound n (set.insert s k) within, len_insert s k out)

@@ -69,4 +69,5 @@ is_set-number_of f (suc n) i h =
     ]
   where
     top : i ≡ n → is_set (cond (f n) 1 0) (i - n) ≡ f i
-    top same = let none : i - n ≡ 0 = omega arith in rw none (ap (λ m. nat_eq m 1) (bit_at_lowest (cond (f n) 1 0) ∙ mod-eq_of_lt (one_or_zero (f n)).0) ∙ (one_or_zero (f n)).1 ∙ ap f (sym same))
+    top same = let none : i - n ≡ 0 = omega arith in
+        rw none (ap (λ m. nat_eq m 1) (bit_at_lowest (cond (f n) 1 0) ∙ mod-eq_of_lt (one_or_zero (f n)).0) ∙ (one_or_zero (f n)).1 ∙ ap f (sym same))

@@ -31,7 +31,8 @@ contains-intersection s t q = set.contains-intersection nat_cmp_total s t q
 pub contains-difference : (s t : set.FinSet nat_cmp) (q : ℕ) → set.contains (set.difference s t) q ≡ (set.contains s q && not (set.contains t q))
 contains-difference s t q = set.contains-difference nat_cmp_total s t q
 
-more_below : (n q : ℕ) (here there : Bool) → (q ≡ n → there ≡ here) → cond here (nat_eq q n || (nat_lt q n && there)) (nat_lt q n && there) ≡ (nat_lt q (n + 1) && there)
+more_below : (n q : ℕ) (here there : Bool) → (q ≡ n → there ≡ here)
+    → cond here (nat_eq q n || (nat_lt q n && there)) (nat_lt q n && there) ≡ (nat_lt q (n + 1) && there)
 more_below n q true true h = grind (arith, nat_tests)
 more_below n q true false h = grind (arith, nat_tests)
 more_below n q false true h = grind (arith, nat_tests)
@@ -45,7 +46,8 @@ contains-where_below f (suc n) q =
     ∙ ap (λ b. cond (f n) (nat_eq q n || b) b) (contains-where_below f n q)
     ∙ more_below n q (f n) (f q) (λ e. ap f e) ∙ ap (λ m. nat_lt q m && f q) (add-one n)
   where
-    put : (b : Bool) → set.contains (cond b (set.insert (where_below f n) n) (where_below f n)) q ≡ cond b (nat_eq q n || set.contains (where_below f n) q) (set.contains (where_below f n) q)
+    put : (b : Bool) → set.contains (cond b (set.insert (where_below f n) n) (where_below f n)) q
+        ≡ cond b (nat_eq q n || set.contains (where_below f n) q) (set.contains (where_below f n) q)
     put true = contains-insert (where_below f n) n q
     put false = refl
 
@@ -55,7 +57,8 @@ where_below-contains n s within = same_members _ s (λ q.
     contains-where_below (set.contains s) n q
     ∙ elim (cases_lt q n) as (λ _. (nat_lt q n && set.contains s q) ≡ set.contains s q) [
       | inl h ↦ ap (λ b. b && set.contains s q) (lt-ltb q n h)
-      | inr h ↦ ap (λ b. b && set.contains s q) (le-ltb q n h) ∙ sym (false_from_ne_true (set.contains s q) (λ e. let low : q < n = within q e in absurd (omega arith)))
+      | inr h ↦ ap (λ b. b && set.contains s q) (le-ltb q n h)
+          ∙ sym (false_from_ne_true (set.contains s q) (λ e. let low : q < n = within q e in absurd (omega arith)))
     ])
 
 pub contains-first_places : (n q : ℕ) → set.contains (first_places n) q ≡ nat_lt q n
@@ -78,7 +81,8 @@ filter_agree_from f g a (suc n) same =
     ∙ ap (λ xs. cond (g a) (a ∷ xs) xs) (filter_agree_from f g (a + 1) n (λ k h. same k (omega arith)))
 
 -- without its least member a set has the other members
-least_first : (s : set.FinSet nat_cmp) (p a n : ℕ) → IsLeast s p → a ≤ p → p < a + n → filter (set.contains s) (range_with_len a n) ≡ p ∷ filter (set.contains (set.remove s p)) (range_with_len a n)
+least_first : (s : set.FinSet nat_cmp) (p a n : ℕ) → IsLeast s p → a ≤ p → p < a + n
+    → filter (set.contains s) (range_with_len a n) ≡ p ∷ filter (set.contains (set.remove s p)) (range_with_len a n)
 least_first s p a zero least low high = absurd (omega arith)
 least_first s p a (suc n) least low high =
     elim (cases_eq a p) as (λ _. filter (set.contains s) (range_with_len a (suc n)) ≡ p ∷ filter (set.contains (set.remove s p)) (range_with_len a (suc n))) [
@@ -90,14 +94,16 @@ least_first s p a (suc n) least low high =
           ap (λ b. cond b (a ∷ filter (set.contains s) (range_with_len (a + 1) n)) (filter (set.contains s) (range_with_len (a + 1) n))) here
           ∙ ap (λ x. x ∷ filter (set.contains s) (range_with_len (a + 1) n)) same
           ∙ ap (λ xs. p ∷ xs) later
-          ∙ sym (ap (λ b. p ∷ cond b (a ∷ filter (set.contains (set.remove s p)) (range_with_len (a + 1) n)) (filter (set.contains (set.remove s p)) (range_with_len (a + 1) n))) gone)
+          ∙ sym (ap (λ b. p ∷ cond b (a ∷ filter (set.contains (set.remove s p)) (range_with_len (a + 1) n))
+          (filter (set.contains (set.remove s p)) (range_with_len (a + 1) n))) gone)
       | inr other ↦
           let below : a < p = omega arith in
           let absent : set.contains s a ≡ false = false_from_ne_true _ (λ e. let up : p ≤ a = least.below a e in absurd (omega arith)) in
           let gone : set.contains (set.remove s p) a ≡ false = contains-remove s p a ∙ ap (λ b. not (nat_eq a p) && b) absent ∙ and_false (not (nat_eq a p)) in
           ap (λ b. cond b (a ∷ filter (set.contains s) (range_with_len (a + 1) n)) (filter (set.contains s) (range_with_len (a + 1) n))) absent
           ∙ least_first s p (a + 1) n least (omega arith) (omega arith)
-          ∙ sym (ap (λ b. p ∷ cond b (a ∷ filter (set.contains (set.remove s p)) (range_with_len (a + 1) n)) (filter (set.contains (set.remove s p)) (range_with_len (a + 1) n))) gone)
+          ∙ sym (ap (λ b. p ∷ cond b (a ∷ filter (set.contains (set.remove s p)) (range_with_len (a + 1) n))
+          (filter (set.contains (set.remove s p)) (range_with_len (a + 1) n))) gone)
     ]
   where
     and_false : (b : Bool) → (b && false) ≡ false
@@ -110,7 +116,8 @@ places-least n s p least h = least_first s p 0 n least (omega arith) (omega arit
 
 none_pass : (f : ℕ → Bool) (a n : ℕ) → ((k : ℕ) → f k ≡ false) → filter f (range_with_len a n) ≡ []
 none_pass f a zero none = refl
-none_pass f a (suc n) none = ap (λ b. cond b (a ∷ filter f (range_with_len (a + 1) n)) (filter f (range_with_len (a + 1) n))) (none a) ∙ none_pass f (a + 1) n none
+none_pass f a (suc n) none = ap (λ b. cond b (a ∷ filter f (range_with_len (a + 1) n)) (filter f (range_with_len (a + 1) n))) (none a)
+    ∙ none_pass f (a + 1) n none
 
 pub places-empty : (n : ℕ) → places n set.empty ≡ []
 places-empty n = none_pass _ 0 n contains-empty
@@ -157,7 +164,8 @@ range_below a n = All-from_get_or (λ p. p < a + n) (range_with_len a n) 0 (λ i
 
 pub places-Contains : (n : ℕ) (s : set.FinSet nat_cmp) (p : ℕ) → Contains (places n s) p → (p < n) × (set.contains s p ≡ true)
 places-Contains n s p h = (
-  (let below : p < 0 + n = All-contains (λ p. p < 0 + n) (places n s) p (All-filter (set.contains s) (λ p. p < 0 + n) (range_with_len 0 n) (range_below 0 n)) h in omega arith),
+  (let below : p < 0 + n =
+      All-contains (λ p. p < 0 + n) (places n s) p (All-filter (set.contains s) (λ p. p < 0 + n) (range_with_len 0 n) (range_below 0 n)) h in omega arith),
   All-contains (λ p. set.contains s p ≡ true) (places n s) p (filter_passes (set.contains s) (range_with_len 0 n)) h,
 )
 
@@ -188,7 +196,8 @@ pub len-where_below : (f : ℕ → Bool) (n : ℕ) → set.len (where_below f n)
 len-where_below f zero = len-where_below-zero f
 len-where_below f (suc n) =
     len-where_below-suc f n ∙ ap (λ m. cond (f n) 1 0 + m) (len-where_below f n)
-    ∙ sym (ap (λ xs. length (filter f xs)) (range-more 0 n ∙ ap (λ m. range_with_len 0 n ++ m ∷ []) (zero-add n)) ∙ ap length (filter-append f (range_with_len 0 n) (n ∷ [])) ∙ length-append _ _ ∙ last (f n))
+    ∙ sym (ap (λ xs. length (filter f xs)) (range-more 0 n ∙ ap (λ m. range_with_len 0 n ++ m ∷ []) (zero-add n))
+    ∙ ap length (filter-append f (range_with_len 0 n) (n ∷ [])) ∙ length-append _ _ ∙ last (f n))
   where
     last : (b : Bool) → length (filter f (range_with_len 0 n)) + length (cond b (n ∷ []) []) ≡ cond b 1 0 + length (filter f (range_with_len 0 n))
     last true = omega arith

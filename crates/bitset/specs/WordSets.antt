@@ -37,8 +37,10 @@ is_place-at words i k h =
 
 word_is : (w : ℕ) (words : List ℕ) (h : AreWords w words) (i : ℕ) → slice_index words i ≡ number_of (λ k. fin.contains (members_of words) (64 * i + k)) 64
 word_is w words h i = same_from_set 64 _ _ (h.fit i) (number_of_lt _ 64) (λ k below.
-    sym (is_set-number_of (λ k. fin.contains (members_of words) (64 * i + k)) 64 k below ∙ contains-members_of words (64 * i + k) ∙ is_place-at words i k below))
+    sym (is_set-number_of (λ k. fin.contains (members_of words) (64 * i + k)) 64 k below
+    ∙ contains-members_of words (64 * i + k) ∙ is_place-at words i k below))
 
 pub words_of-members_of : (w : ℕ) (words : List ℕ) → AreWords w words → words_of w (members_of words) ≡ words
 unfolding words_of
-words_of-members_of w words h = sym (fill_by_all (λ i. number_of (λ k. fin.contains (members_of words) (64 * i + k)) 64) words w 0 h.long (λ i _. word_is w words h i))
+words_of-members_of w words h =
+    sym (fill_by_all (λ i. number_of (λ k. fin.contains (members_of words) (64 * i + k)) 64) words w 0 h.long (λ i _. word_is w words h i))

@@ -10,5 +10,6 @@ returns-then-self-i-ne0 g c =
 
 pub returns : goal.returns
 returns g c =
-    sym (subset_is g.row.W c.self.inside.words c.other.inside.words c.self.invariant c.other.invariant (λ i h. c.loop-i.invariant i (omega (arith, c.loop-i-test.false))))
+    sym (subset_is g.row.W c.self.inside.words c.other.inside.words c.self.invariant c.other.invariant
+    (λ i h. c.loop-i.invariant i (omega (arith, c.loop-i-test.false))))
     ∙ ap₂ fin.is_subset c.self.view_is c.other.view_is

@@ -6,7 +6,8 @@ use Rattle.bitset.proofs.bits.Bits.least.Goals as goal
 
 pub returns-then-word-ne0-clause-least : goal.returns-then-word-ne0-clause-least
 returns-then-word-ne0-clause-least g c =
-    subst (λ s. IsLeast s (64 * c.loop-i.i + trailing_zeros w64 (slice_index c.self.inside.words c.loop-i.i))) c.self.view_is (least_is g.row.W c.loop-i.i c.self.inside.words c.self.invariant c.loop-i.invariant c.if-word-ne0.true)
+    subst (λ s. IsLeast s (64 * c.loop-i.i + trailing_zeros w64 (slice_index c.self.inside.words c.loop-i.i))) c.self.view_is
+    (least_is g.row.W c.loop-i.i c.self.inside.words c.self.invariant c.loop-i.invariant c.if-word-ne0.true)
 
 pub returns-then-word-ne0-clause-within : goal.returns-then-word-ne0-clause-within
 returns-then-word-ne0-clause-within g c = subst (IsWithin (64 * g.row.W)) c.self.view_is (members_of-within g.row.W c.self.inside.words c.self.told)

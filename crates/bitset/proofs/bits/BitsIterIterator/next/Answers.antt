@@ -11,7 +11,8 @@ returns-in_err-place-clause-steps g c =
 left : (g : _) (c : goal.After-remove g) → c.args.self.now ≡ c.in_ok-place.place ∷ places (64 * g.row.W) c.remove.new.self
 left g c =
     sym c.self.view_is
-    ∙ places-least (64 * g.row.W) c.self.inside.left c.in_ok-place.place c.in_ok-place.ensures.least (c.in_ok-place.ensures.within c.in_ok-place.place c.in_ok-place.ensures.least.member)
+    ∙ places-least (64 * g.row.W) c.self.inside.left c.in_ok-place.place c.in_ok-place.ensures.least
+    (c.in_ok-place.ensures.within c.in_ok-place.place c.in_ok-place.ensures.least.member)
     ∙ ap (λ s. c.in_ok-place.place ∷ places (64 * g.row.W) s) (sym c.remove.ensures)
 
 pub returns-clause-steps : goal.returns-clause-steps
