@@ -4,7 +4,8 @@ use Rattle.std.specs.Prelude.{All}
 use Rattle.std.proofs.lemmas.List.Elements.{All-cons, All-head, All-tail, All-nil}
 
 -- of two cuts of one list, the shorter front begins the longer one
-pub compare_fronts : {A : Type 0} (xs ys zs ws : List A) → xs ++ ys ≡ zs ++ ws → ((t : List A) × (zs ≡ xs ++ t) × (ys ≡ t ++ ws)) ⊎ ((t : List A) × (xs ≡ zs ++ t) × (ws ≡ t ++ ys))
+pub compare_fronts : {A : Type 0} (xs ys zs ws : List A) → xs ++ ys ≡ zs ++ ws
+    → ((t : List A) × (zs ≡ xs ++ t) × (ys ≡ t ++ ws)) ⊎ ((t : List A) × (xs ≡ zs ++ t) × (ws ≡ t ++ ys))
 compare_fronts [] ys zs ws e = inl (zs, refl, e)
 compare_fronts (x ∷ xs) ys [] ws e = inr (x ∷ xs, refl, sym e)
 compare_fronts (x ∷ xs) ys (z ∷ zs) ws e =

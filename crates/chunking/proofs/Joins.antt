@@ -11,7 +11,8 @@ use Rattle.chunking.proofs.Fronts.{compare_fronts}
 use Rattle.chunking.proofs.Sums.{below_joined, joined_below, below_rest, below_from_joined, sum_of-append, Sized, some_size}
 
 -- a front that is one of the two parts, or short of the first
-front_within : (a b front t : List FeeRate) → IsPart a → Sized a → Sized b → (b ≡ [] → ⊥) → Below (sum_of a) (sum_of b) → (front ≡ [] → ⊥) → a ≡ front ++ t → Below (sum_of front) (sum_of (a ++ b))
+front_within : (a b front t : List FeeRate) → IsPart a → Sized a → Sized b → (b ≡ [] → ⊥)
+    → Below (sum_of a) (sum_of b) → (front ≡ [] → ⊥) → a ≡ front ++ t → Below (sum_of front) (sum_of (a ++ b))
 front_within a b front [] p sa sb nb rise some e =
     let same : a ≡ front = e ∙ append-nil front in
     let whole : Below (sum_of a) (sum_of (a ++ b)) = subst (λ s. Below (sum_of a) s) (sym (sum_of-append a b)) (below_joined (sum_of a) (sum_of b) rise) in
@@ -20,11 +21,13 @@ front_within a b front (x ∷ t) p sa sb nb rise some e =
     let short : Below (sum_of front) (sum_of a) = p.fronts front (x ∷ t) some (λ n. cc) (sym e) in
     let whole : Below (sum_of a) (sum_of (a ++ b)) = subst (λ s. Below (sum_of a) s) (sym (sum_of-append a b)) (below_joined (sum_of a) (sum_of b) rise) in
     let size : 1 ≤ (sum_of a).size = some_size a sa p.some in
-    let more : 1 ≤ (sum_of (a ++ b)).size = subst (λ s. 1 ≤ s.size) (sym (sum_of-append a b)) (let n : 1 ≤ (sum_of a).size + (sum_of b).size = omega arith in n) in
+    let more : 1 ≤ (sum_of (a ++ b)).size =
+    subst (λ s. 1 ≤ s.size) (sym (sum_of-append a b)) (let n : 1 ≤ (sum_of a).size + (sum_of b).size = omega arith in n) in
     below_at_most_chains (sum_of front) (sum_of a) (sum_of (a ++ b)) size more short (below_at_most _ _ whole)
 
 -- a front that goes into the second part
-front_beyond : (a b t rest : List FeeRate) → IsPart b → Sized b → (rest ≡ [] → ⊥) → Below (sum_of a) (sum_of b) → (t ≡ [] → ⊥) → b ≡ t ++ rest → Below (sum_of (a ++ t)) (sum_of ((a ++ t) ++ rest))
+front_beyond : (a b t rest : List FeeRate) → IsPart b → Sized b → (rest ≡ [] → ⊥) → Below (sum_of a) (sum_of b)
+    → (t ≡ [] → ⊥) → b ≡ t ++ rest → Below (sum_of (a ++ t)) (sum_of ((a ++ t) ++ rest))
 front_beyond a b t rest p sb nr rise some e =
     let sizes : Sized (t ++ rest) = subst Sized e sb in
     let size_rest : 1 ≤ (sum_of rest).size = some_size rest (All-back (λ r. 1 ≤ r.size) t rest sizes) nr in
@@ -33,7 +36,8 @@ front_beyond a b t rest p sb nr rise some e =
     let parted : sum_of b ≡ joined (sum_of t) (sum_of rest) = ap sum_of e ∙ sum_of-append t rest in
     let short' : Below (sum_of t) (sum_of rest) = below_rest _ _ (subst (λ s. Below (sum_of t) s) parted short) in
     let top : Below (sum_of b) (sum_of rest) = subst (λ s. Below s (sum_of rest)) (sym parted) (joined_below _ _ short') in
-    let all : Below (joined (sum_of a) (sum_of b)) (sum_of rest) = below_at_most_chains _ (sum_of b) _ size_b size_rest (joined_below _ _ rise) (below_at_most _ _ top) in
+    let all : Below (joined (sum_of a) (sum_of b)) (sum_of rest) =
+    below_at_most_chains _ (sum_of b) _ size_b size_rest (joined_below _ _ rise) (below_at_most _ _ top) in
     let shape : joined (sum_of a) (sum_of b) ≡ joined (sum_of (a ++ t)) (sum_of rest) =
     sym (sum_of-append a b) ∙ ap (λ x. sum_of (a ++ x)) e ∙ ap sum_of (sym (append_assoc a t rest)) ∙ sum_of-append (a ++ t) rest
     in
@@ -44,7 +48,8 @@ some_front : (xs ys : List FeeRate) → (xs ≡ [] → ⊥) → xs ++ ys ≡ [] 
 some_front [] ys n e = n refl
 some_front (x ∷ xs) ys n e = cc
 
-joined_case : (a b front rest t : List FeeRate) → IsPart a → IsPart b → Sized a → Sized b → Below (sum_of a) (sum_of b) → (front ≡ [] → ⊥) → (rest ≡ [] → ⊥) → front ≡ a ++ t → b ≡ t ++ rest → front ++ rest ≡ a ++ b → Below (sum_of front) (sum_of (a ++ b))
+joined_case : (a b front rest t : List FeeRate) → IsPart a → IsPart b → Sized a → Sized b → Below (sum_of a) (sum_of b) → (front ≡ [] → ⊥)
+    → (rest ≡ [] → ⊥) → front ≡ a ++ t → b ≡ t ++ rest → front ++ rest ≡ a ++ b → Below (sum_of front) (sum_of (a ++ b))
 joined_case a b front rest [] p q sa sb rise sf sr x y e =
     front_within a b front [] p sa sb q.some rise sf (sym (x ∙ append-nil a) ∙ sym (append-nil front))
 joined_case a b front rest (z ∷ t) p q sa sb rise sf sr x y e =

@@ -36,7 +36,8 @@ length_chunks : (n : ℕ) (parts : List (List FeeRate)) → length (chunks_from 
 length_chunks n [] = refl
 length_chunks n (p ∷ parts) = ap suc (length_chunks (n + length p) parts)
 
-chunks_from-push : (n : ℕ) (parts : List (List FeeRate)) (p : List FeeRate) → chunks_from n (parts ++ (p ∷ [])) ≡ chunks_from n parts ++ (record { end = n + (length (whole parts) + length p); sum = sum_of p } ∷ [])
+chunks_from-push : (n : ℕ) (parts : List (List FeeRate)) (p : List FeeRate)
+    → chunks_from n (parts ++ (p ∷ [])) ≡ chunks_from n parts ++ (record { end = n + (length (whole parts) + length p); sum = sum_of p } ∷ [])
 chunks_from-push n [] p =
     let e : length p ≡ 0 + length p = omega arith in
     ap (λ m. record { end = n + m; sum = sum_of p } ∷ []) e
@@ -69,7 +70,9 @@ fall_front parts rest h = record {
   neighbours = λ before a b after e. h.neighbours before a b (after ++ rest) (sym (append_assoc before (a ∷ b ∷ after) rest) ∙ ap (λ l. l ++ rest) e);
 }
 
-push_step : (xs : List (List FeeRate)) (p q : List FeeRate) → Fall (xs ++ (p ∷ [])) → AtMost (sum_of q) (sum_of p) → (before : List (List FeeRate)) (a b : List FeeRate) (after : List (List FeeRate)) → before ++ (a ∷ b ∷ after) ≡ (xs ++ (p ∷ [])) ++ (q ∷ []) → AtMost (sum_of b) (sum_of a)
+push_step : (xs : List (List FeeRate)) (p q : List FeeRate) → Fall (xs ++ (p ∷ [])) → AtMost (sum_of q) (sum_of p)
+    → (before : List (List FeeRate)) (a b : List FeeRate) (after : List (List FeeRate))
+    → before ++ (a ∷ b ∷ after) ≡ (xs ++ (p ∷ [])) ++ (q ∷ []) → AtMost (sum_of b) (sum_of a)
 push_step xs p q h low before a b [] e =
     let shape : (before ++ (a ∷ [])) ++ (b ∷ []) ≡ (xs ++ (p ∷ [])) ++ (q ∷ []) = append_assoc before (a ∷ []) (b ∷ []) ∙ e in
     let (fronts, lasts) = same_from_push (before ++ (a ∷ [])) (xs ++ (p ∷ [])) b q shape in
@@ -88,7 +91,8 @@ fall_push xs p q h low = record { neighbours = push_step xs p q h low }
 
 -- ---- the rule's steps
 -- the next entry is a part of its own
-pub stack_start : (rates : List FeeRate) (at : ℕ) (r : FeeRate) (chunks : List Chunk) (sum : Sum) → at < length rates → r ≡ get_or rates at r → sum ≡ sum_of (r ∷ []) → AreChunks (take at rates) chunks → Stack (take (at + 1) rates) chunks sum
+pub stack_start : (rates : List FeeRate) (at : ℕ) (r : FeeRate) (chunks : List Chunk) (sum : Sum) → at < length rates
+    → r ≡ get_or rates at r → sum ≡ sum_of (r ∷ []) → AreChunks (take at rates) chunks → Stack (take (at + 1) rates) chunks sum
 stack_start rates at r chunks sum in' read is c = record {
   done = c.parts;
   last = r ∷ [];
@@ -100,7 +104,8 @@ stack_start rates at r chunks sum in' read is c = record {
   sum_is = is;
 }
 
-pub last_range : (rates : List FeeRate) (chunks : List Chunk) (sum : Sum) → All IsRate rates → length rates ≤ 2 ^ 20 → Stack rates chunks sum → IsSum sum × (1 ≤ sum.size)
+pub last_range : (rates : List FeeRate) (chunks : List Chunk) (sum : Sum) → All IsRate rates
+    → length rates ≤ 2 ^ 20 → Stack rates chunks sum → IsSum sum × (1 ≤ sum.size)
 last_range rates chunks sum fine few s =
     let f : All IsRate (whole s.done ++ s.last) = subst (All IsRate) (sym s.whole) fine in
     let e = ap length s.whole in
@@ -138,7 +143,8 @@ split chunks top (q ∷ done) e =
     let (fronts, tops) = same_from_push chunks (chunks_from 0 rest) top _ (e ∙ ap (chunks_from 0) shape ∙ chunks_from-push 0 rest part) in
     record { rest = rest; part = part; shape = shape; shown = fronts; top_is = ap (λ (c : Chunk). c.sum) tops }
 
-popped_from : (rates : List FeeRate) (chunks all : List Chunk) (top : Chunk) (sum : Sum) → all ≡ chunks ++ (top ∷ []) → Stack rates all sum → Popped rates chunks top.sum sum
+popped_from : (rates : List FeeRate) (chunks all : List Chunk) (top : Chunk) (sum : Sum)
+    → all ≡ chunks ++ (top ∷ []) → Stack rates all sum → Popped rates chunks top.sum sum
 popped_from rates chunks all top sum e s =
     let p = split chunks top s.done (sym e ∙ s.shown) in
     let each : All IsPart (p.rest ++ (p.part ∷ [])) = subst (All IsPart) p.shape s.each in
@@ -146,7 +152,8 @@ popped_from rates chunks all top sum e s =
       rest = p.rest;
       part = p.part;
       last = s.last;
-      whole = sym (append_assoc (whole p.rest) p.part s.last) ∙ ap (λ l. l ++ s.last) (sym (whole-push p.rest p.part)) ∙ ap (λ d. whole d ++ s.last) (sym p.shape) ∙ s.whole;
+      whole = sym (append_assoc (whole p.rest) p.part s.last) ∙ ap (λ l. l ++ s.last) (sym (whole-push p.rest p.part))
+          ∙ ap (λ d. whole d ++ s.last) (sym p.shape) ∙ s.whole;
       each = All-front IsPart p.rest (p.part ∷ []) each;
       fall = subst Fall p.shape s.fall;
       top_part = All-head IsPart p.part [] (All-back IsPart p.rest (p.part ∷ []) each);
@@ -156,7 +163,8 @@ popped_from rates chunks all top sum e s =
       sum_is = s.sum_is;
     }
 
-pub popped : (rates : List FeeRate) (out : List Chunk) (n : ℕ) (d : Chunk) (sum : Sum) → 0 < n → n ≤ length out → Stack rates (take n out) sum → Popped rates (take (n - 1) out) (get_or out (n - 1) d).sum sum
+pub popped : (rates : List FeeRate) (out : List Chunk) (n : ℕ) (d : Chunk) (sum : Sum) → 0 < n → n ≤ length out
+    → Stack rates (take n out) sum → Popped rates (take (n - 1) out) (get_or out (n - 1) d).sum sum
 popped rates out n d sum some room s =
     let e : n ≡ (n - 1) + 1 = omega arith in
     let in' : n - 1 < length out = omega arith in
@@ -168,7 +176,8 @@ pub record Fits (top sum : Sum) : Type 0 where
   pub some : 1 ≤ top.size
   pub both : IsSum (joined top sum)
 
-pub top_range : (rates : List FeeRate) (chunks : List Chunk) (top sum : Sum) → All IsRate rates → length rates ≤ 2 ^ 20 → Popped rates chunks top sum → Fits top sum
+pub top_range : (rates : List FeeRate) (chunks : List Chunk) (top sum : Sum)
+    → All IsRate rates → length rates ≤ 2 ^ 20 → Popped rates chunks top sum → Fits top sum
 top_range rates chunks top sum fine few p =
     let f : All IsRate (whole p.rest ++ (p.part ++ p.last)) = subst (All IsRate) (sym p.whole) fine in
     let both : All IsRate (p.part ++ p.last) = All-back IsRate (whole p.rest) (p.part ++ p.last) f in
@@ -185,7 +194,8 @@ top_range rates chunks top sum fine few p =
     subst (λ s. Fits top s) (sym p.sum_is) (subst (λ t. Fits t (sum_of p.last)) (sym p.top_is) fit)
 
 -- the top joined to the last part
-pub stack_join : (rates : List FeeRate) (chunks : List Chunk) (top sum new : Sum) → All IsRate rates → Popped rates chunks top sum → Below top sum → new ≡ joined top sum → Stack rates chunks new
+pub stack_join : (rates : List FeeRate) (chunks : List Chunk) (top sum new : Sum) → All IsRate rates
+    → Popped rates chunks top sum → Below top sum → new ≡ joined top sum → Stack rates chunks new
 stack_join rates chunks top sum new fine p rise e =
     let f : All IsRate (whole p.rest ++ (p.part ++ p.last)) = subst (All IsRate) (sym p.whole) fine in
     let both : Sized (p.part ++ p.last) = sized (p.part ++ p.last) (All-back IsRate (whole p.rest) (p.part ++ p.last) f) in
@@ -196,16 +206,21 @@ stack_join rates chunks top sum new fine p rise e =
       whole = p.whole;
       each = p.each;
       fall = fall_front p.rest (p.part ∷ []) p.fall;
-      part = joined_part p.part p.last p.top_part p.last_part (All-front (λ r. 1 ≤ r.size) p.part p.last both) (All-back (λ r. 1 ≤ r.size) p.part p.last both) rise';
+      part = joined_part p.part p.last p.top_part p.last_part (All-front (λ r. 1 ≤ r.size) p.part p.last both)
+          (All-back (λ r. 1 ≤ r.size) p.part p.last both) rise';
       shown = p.shown;
       sum_is = e ∙ ap (λ t. joined t sum) p.top_is ∙ ap (λ s. joined (sum_of p.part) s) p.sum_is ∙ sym (sum_of-append p.part p.last);
     }
 
 -- the last part put on the stack
-finish : (rates : List FeeRate) (done : List (List FeeRate)) (last : List FeeRate) (chunks after : List Chunk) (c : Chunk) → whole done ++ last ≡ rates → All IsPart done → IsPart last → Fall (done ++ (last ∷ [])) → chunks ≡ chunks_from 0 done → c.end ≡ length rates → c.sum ≡ sum_of last → after ≡ chunks ++ (c ∷ []) → AreChunks rates after
+finish : (rates : List FeeRate) (done : List (List FeeRate)) (last : List FeeRate) (chunks after : List Chunk) (c : Chunk)
+    → whole done ++ last ≡ rates → All IsPart done → IsPart last → Fall (done ++ (last ∷ [])) → chunks ≡ chunks_from 0 done
+    → c.end ≡ length rates → c.sum ≡ sum_of last → after ≡ chunks ++ (c ∷ []) → AreChunks rates after
 finish rates done last chunks after c w each part fall shown end sum e =
     let l : 0 + (length (whole done) + length last) ≡ length rates = omega (arith, length-append (whole done) last, ap length w) in
-    let c_is : c ≡ record { end = 0 + (length (whole done) + length last); sum = sum_of last } = ap (λ n. let k : Chunk = record { end = n; sum = c.sum } in k) (end ∙ sym l) ∙ ap (λ s. let k : Chunk = record { end = 0 + (length (whole done) + length last); sum = s } in k) sum in
+    let c_is : c ≡ record { end = 0 + (length (whole done) + length last); sum = sum_of last } =
+    ap (λ n. let k : Chunk = record { end = n; sum = c.sum } in k) (end ∙ sym l)
+    ∙ ap (λ s. let k : Chunk = record { end = 0 + (length (whole done) + length last); sum = s } in k) sum in
     record {
       parts = done ++ (last ∷ []);
       chunking = record { whole = whole-push done last ∙ w; each = All-push IsPart done last each part; fall = fall };
@@ -217,20 +232,23 @@ bare [] e = refl
 bare (p ∷ parts) e = cc
 
 -- at the bottom
-pub end_alone : (rates : List FeeRate) (out : List Chunk) (n : ℕ) (c : Chunk) → 0 < length out → n ≡ 0 → c.end ≡ length rates → Stack rates (take n out) c.sum → AreChunks rates (take (n + 1) (set out n c))
+pub end_alone : (rates : List FeeRate) (out : List Chunk) (n : ℕ) (c : Chunk) → 0 < length out → n ≡ 0
+    → c.end ≡ length rates → Stack rates (take n out) c.sum → AreChunks rates (take (n + 1) (set out n c))
 end_alone rates out n c room zero' end s =
     let chunks : take n out ≡ [] = ap (λ m. take m out) zero' in
     let none : s.done ≡ [] = bare s.done (sym s.shown ∙ chunks) in
     let fall : Fall (s.done ++ (s.last ∷ [])) = subst (λ d. Fall (d ++ (s.last ∷ []))) (sym none) (fall_one s.last) in
     finish rates s.done s.last (take n out) _ c s.whole s.each s.part fall s.shown end s.sum_is (take_more_set out n c (omega arith))
 
-fall_behind : (chunks : List Chunk) (top : Chunk) (done : List (List FeeRate)) (last : List FeeRate) (sum : Sum) → Split chunks top done → Fall done → sum ≡ sum_of last → AtMost sum top.sum → Fall (done ++ (last ∷ []))
+fall_behind : (chunks : List Chunk) (top : Chunk) (done : List (List FeeRate)) (last : List FeeRate) (sum : Sum)
+    → Split chunks top done → Fall done → sum ≡ sum_of last → AtMost sum top.sum → Fall (done ++ (last ∷ []))
 fall_behind chunks top done last sum p fall is low =
     let low' : AtMost (sum_of last) (sum_of p.part) = subst (λ x. AtMost x (sum_of p.part)) is (subst (λ x. AtMost sum x) p.top_is low) in
     subst (λ x. Fall (x ++ (last ∷ []))) (sym p.shape) (fall_push p.rest p.part last (subst Fall p.shape fall) low')
 
 -- on a top that is not lower
-pub end_behind : (rates : List FeeRate) (out : List Chunk) (n : ℕ) (c : Chunk) (d : Chunk) → 0 < n → n < length out → c.end ≡ length rates → AtMost c.sum (get_or out (n - 1) d).sum → Stack rates (take n out) c.sum → AreChunks rates (take (n + 1) (set out n c))
+pub end_behind : (rates : List FeeRate) (out : List Chunk) (n : ℕ) (c : Chunk) (d : Chunk) → 0 < n → n < length out → c.end ≡ length rates
+    → AtMost c.sum (get_or out (n - 1) d).sum → Stack rates (take n out) c.sum → AreChunks rates (take (n + 1) (set out n c))
 end_behind rates out n c d some room end low s =
     let e : n ≡ (n - 1) + 1 = omega arith in
     let in' : n - 1 < length out = omega arith in

@@ -30,7 +30,8 @@ beyond r p t (z ∷ x) low rest f =
     subst (λ y. AtMost (sum_of y) r) (sym f) both
 
 -- what a list of parts begins with is at most what bounds each of them
-bounded : (r : Sum) (parts : List (List FeeRate)) (t u : List FeeRate) → All IsPart parts → Sized (whole parts) → All (λ p. AtMost (sum_of p) r) parts → whole parts ≡ t ++ u → (t ≡ [] → ⊥) → AtMost (sum_of t) r
+bounded : (r : Sum) (parts : List (List FeeRate)) (t u : List FeeRate) → All IsPart parts → Sized (whole parts)
+    → All (λ p. AtMost (sum_of p) r) parts → whole parts ≡ t ++ u → (t ≡ [] → ⊥) → AtMost (sum_of t) r
 bounded r [] [] u each sizes below e some = absurd (some refl)
 bounded r [] (x ∷ t) u each sizes below e some = cc
 bounded r (p ∷ parts) t u each sizes below e some =
@@ -40,7 +41,8 @@ bounded r (p ∷ parts) t u each sizes below e some =
     elim (compare_fronts p (whole parts) t u e) [
       | inl (x, f, g) ↦
           beyond r p t x low
-          (λ n. bounded r parts x u (All-tail IsPart p parts each) (All-back (λ r. 1 ≤ r.size) p (whole parts) sizes) (All-tail (λ p. AtMost (sum_of p) r) p parts below) g n)
+          (λ n. bounded r parts x u (All-tail IsPart p parts each) (All-back (λ r. 1 ≤ r.size) p (whole parts) sizes)
+          (All-tail (λ p. AtMost (sum_of p) r) p parts below) g n)
           f
       | inr (x, f, g) ↦ within r p t x part sized_p low some f
     ]
@@ -49,7 +51,8 @@ fall_tail : (p : List FeeRate) (parts : List (List FeeRate)) → Fall (p ∷ par
 fall_tail p parts h = record { neighbours = λ before a b after e. h.neighbours (p ∷ before) a b after (ap (λ l. p ∷ l) e) }
 
 -- each later part is at most the first
-below_first : (p : List FeeRate) (parts : List (List FeeRate)) → Fall (p ∷ parts) → All IsPart parts → Sized (whole parts) → All (λ q. AtMost (sum_of q) (sum_of p)) parts
+below_first : (p : List FeeRate) (parts : List (List FeeRate)) → Fall (p ∷ parts)
+    → All IsPart parts → Sized (whole parts) → All (λ q. AtMost (sum_of q) (sum_of p)) parts
 below_first p [] fall each sizes = All-nil (λ q. AtMost (sum_of q) (sum_of p))
 below_first p (q ∷ parts) fall each sizes =
     let part = All-head IsPart q parts each in
@@ -60,7 +63,8 @@ below_first p (q ∷ parts) fall each sizes =
     (All-weaker (λ x. AtMost (sum_of x) (sum_of q)) (λ x. AtMost (sum_of x) (sum_of p)) (λ x h. at_most_chains _ (sum_of q) _ size h step) parts more)
 
 -- the first part of one chunking isn't a proper front of the first part of another
-no_shorter : (p q z : List FeeRate) (w : FeeRate) (ps qs : List (List FeeRate)) → IsPart p → IsPart q → Sized p → All IsPart ps → Sized (whole ps) → Fall (p ∷ ps) → q ≡ p ++ (w ∷ z) → whole ps ≡ (w ∷ z) ++ whole qs → ⊥
+no_shorter : (p q z : List FeeRate) (w : FeeRate) (ps qs : List (List FeeRate)) → IsPart p → IsPart q → Sized p
+    → All IsPart ps → Sized (whole ps) → Fall (p ∷ ps) → q ≡ p ++ (w ∷ z) → whole ps ≡ (w ∷ z) ++ whole qs → ⊥
 no_shorter p q z w ps qs pp pq sp each sizes fall e g =
     let short : Below (sum_of p) (sum_of q) = pq.fronts p (w ∷ z) pp.some (λ n. cc) (sym e) in
     let rest : Below (sum_of p) (sum_of (w ∷ z)) = below_rest _ _ (subst (λ s. Below (sum_of p) s) (ap sum_of e ∙ sum_of-append p (w ∷ z)) short) in
@@ -83,12 +87,14 @@ empty_first : (p : List FeeRate) (parts : List (List FeeRate)) → Cut (p ∷ pa
 empty_first [] parts c e = (All-head IsPart [] parts c.each).some refl
 empty_first (x ∷ p) parts c e = cc
 
-first_shorter : (p q t : List FeeRate) (ps qs : List (List FeeRate)) → Cut (p ∷ ps) → Cut (q ∷ qs) → q ≡ p ++ t → whole ps ≡ t ++ whole qs → (p ≡ q) × (whole ps ≡ whole qs)
+first_shorter : (p q t : List FeeRate) (ps qs : List (List FeeRate)) → Cut (p ∷ ps)
+    → Cut (q ∷ qs) → q ≡ p ++ t → whole ps ≡ t ++ whole qs → (p ≡ q) × (whole ps ≡ whole qs)
 first_shorter p q [] ps qs c d e g = (sym (e ∙ append-nil p), g)
 first_shorter p q (w ∷ z) ps qs c d e g =
     let tail = cut_tail p ps c in
     absurd
-    (no_shorter p q z w ps qs (All-head IsPart p ps c.each) (All-head IsPart q qs d.each) (All-front (λ r. 1 ≤ r.size) p (whole ps) c.sizes) tail.each tail.sizes c.fall e g)
+    (no_shorter p q z w ps qs (All-head IsPart p ps c.each) (All-head IsPart q qs d.each)
+    (All-front (λ r. 1 ≤ r.size) p (whole ps) c.sizes) tail.each tail.sizes c.fall e g)
 
 same_cuts : (xs ys : List (List FeeRate)) → Cut xs → Cut ys → whole xs ≡ whole ys → xs ≡ ys
 same_cuts [] [] c d e = refl
@@ -107,4 +113,5 @@ same_cuts (p ∷ ps) (q ∷ qs) c d e =
 
 pub unique : PartsAreUnique
 unique rates xs ys sizes a b =
-    same_cuts xs ys (record { each = a.each; fall = a.fall; sizes = subst Sized (sym a.whole) sizes }) (record { each = b.each; fall = b.fall; sizes = subst Sized (sym b.whole) sizes }) (a.whole ∙ sym b.whole)
+    same_cuts xs ys (record { each = a.each; fall = a.fall; sizes = subst Sized (sym a.whole) sizes })
+    (record { each = b.each; fall = b.fall; sizes = subst Sized (sym b.whole) sizes }) (a.whole ∙ sym b.whole)

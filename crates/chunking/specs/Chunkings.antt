@@ -18,7 +18,8 @@ pub record IsPart (part : List FeeRate) : Type 0 where
 
 -- no part has a greater rate than the part before it
 pub record Fall (parts : List (List FeeRate)) : Type 0 where
-  pub neighbours : (before : List (List FeeRate)) (a b : List FeeRate) (after : List (List FeeRate)) → before ++ (a ∷ b ∷ after) ≡ parts → AtMost (sum_of b) (sum_of a)
+  pub neighbours : (before : List (List FeeRate)) (a b : List FeeRate) (after : List (List FeeRate))
+      → before ++ (a ∷ b ∷ after) ≡ parts → AtMost (sum_of b) (sum_of a)
 
 -- the parts are cut from the order without gap, each is a part, and rates fall
 pub record IsChunking (rates : List FeeRate) (parts : List (List FeeRate)) : Type 0 where

@@ -43,12 +43,14 @@ pub add-sum-requires-clause-in_range : goal.add-sum-requires-clause-in_range
 add-sum-requires-clause-in_range c =
     let fine = All-take IsRate (c.args.at + 1) c.args.rates.now c.requires.in_range in
     let few : length (take (c.args.at + 1) c.args.rates.now) ≤ 2 ^ 20 = omega (arith, length-take-le (c.args.at + 1) c.args.rates.now (omega arith)) in
-    (top_range _ _ _ c.loop-left.sum fine few (popped _ c.args.out.now c.loop-left.left _ c.loop-left.sum (omega arith) (omega arith) c.loop-left.invariant.1)).both
+    (top_range _ _ _ c.loop-left.sum fine few
+    (popped _ c.args.out.now c.loop-left.left _ c.loop-left.sum (omega arith) (omega arith) c.loop-left.invariant.1)).both
 
 pub loop-left-preserved : goal.loop-left-preserved
 loop-left-preserved c =
     let fine = All-take IsRate (c.args.at + 1) c.args.rates.now c.requires.in_range in
-    let top = popped (take (c.args.at + 1) c.args.rates.now) c.args.out.now c.loop-left.left record { end = 0; sum = record { fee = pos 0; size = 0 } } c.loop-left.sum (omega arith) (omega arith) c.loop-left.invariant.1 in
+    let top = popped (take (c.args.at + 1) c.args.rates.now) c.args.out.now c.loop-left.left
+    record { end = 0; sum = record { fee = pos 0; size = 0 } } c.loop-left.sum (omega arith) (omega arith) c.loop-left.invariant.1 in
     let new = same_sum c.add-sum.result _ c.add-sum.ensures.fee c.add-sum.ensures.size in
     (omega arith, stack_join _ _ _ _ c.add-sum.result fine top c.if-is_below.ensures new)
 
@@ -57,7 +59,8 @@ returns-clause-parts c =
     let end = sym (length-take-le (c.args.at + 1) c.args.rates.now (omega arith)) in
     elim c.loop-left-test.branch [
       | then-loop-left-test+else-is_below w ↦
-          end_behind _ c.args.out.now c.loop-left.left _ record { end = 0; sum = record { fee = pos 0; size = 0 } } (omega arith) (omega arith) end w.if-is_below.ensures c.loop-left.invariant.1
+          end_behind _ c.args.out.now c.loop-left.left _ record { end = 0; sum = record { fee = pos 0; size = 0 } }
+          (omega arith) (omega arith) end w.if-is_below.ensures c.loop-left.invariant.1
       | else-loop-left-test w ↦ end_alone _ c.args.out.now c.loop-left.left _ (omega arith) (omega arith) end c.loop-left.invariant.1
     ]
 
