@@ -21,7 +21,8 @@ use Rattle.diagram.specs.Walks.{AreAhead, CanGoOn, FitBehind, HasCorners, Unless
 use Rattle.diagram.proofs.WalkLemmas.{level_rest, corners_first}
 
 -- what is left to a walk is what every run of its calls gives
-pub always : {S : Type 0} (steps : S → Option FeeRate → S → Type 0) (s : Corners S) (corners : List (ℕ × ℤ)) → HasCorners steps s corners → AlwaysYields (corner_steps steps) (λ corner. corner) s corners
+pub always : {S : Type 0} (steps : S → Option FeeRate → S → Type 0) (s : Corners S) (corners : List (ℕ × ℤ))
+    → HasCorners steps s corners → AlwaysYields (corner_steps steps) (λ corner. corner) s corners
 always steps s [] has = λ x t step. not_empty (sym (step [] has).1)
 always steps s (y ∷ ys) has = (
   λ t step. not_empty (step (y ∷ ys) has),
@@ -43,7 +44,8 @@ record AreGood (corners : List (ℕ × ℤ)) : Type 0 where
   rising : Rises corners
   ranged : (point : ℕ × ℤ) → Contains corners point → InRange point.1 point.0
 
-good_corners : (groups : List (List Sum)) (before : Sum) → FitBehind before (flat_map (λ group. group) groups) → ((group : List Sum) → Contains groups group → group ≢ [])
+good_corners : (groups : List (List Sum)) (before : Sum) → FitBehind before (flat_map (λ group. group) groups)
+    → ((group : List Sum) → Contains groups group → group ≢ [])
     → AreGood ((before.size, before.fee) ∷ ends_from before (map sum_of groups))
 good_corners [] before level filled = record {
   rising = tt;
@@ -54,8 +56,10 @@ good_corners [] before level filled = record {
 }
 good_corners (g ∷ gs) before level filled =
     let end : Sum = joined before (sum_of g) in
-    let rest = good_corners gs end (level_rest before end g (flat_map (λ group. group) gs) level refl) (λ group h. filled group (suc h.0, omega (arith, h.1), h.2)) in
-    let some : 1 ≤ (sum_of g).size = size_some g (filled g (0, omega arith, refl)) (λ part h. level.some part (Contains-append_left g (flat_map (λ group. group) gs) part h)) in
+    let rest =
+    good_corners gs end (level_rest before end g (flat_map (λ group. group) gs) level refl) (λ group h. filled group (suc h.0, omega (arith, h.1), h.2)) in
+    let some : 1 ≤ (sum_of g).size =
+    size_some g (filled g (0, omega arith, refl)) (λ part h. level.some part (Contains-append_left g (flat_map (λ group. group) gs) part h)) in
     record {
       rising = (omega (arith, some), rest.rising);
       ranged = λ point h. elim (Contains-cases (before.size, before.fee) point (ends_from before (map sum_of (g ∷ gs))) h) [
@@ -76,7 +80,8 @@ level_fits parts level = record {
 }
 
 -- the corners of a level's parts are those of a level
-level_corners : (parts segments : List Sum) → FitBehind (record { fee = pos 0; size = 0 }) parts → JoinsEqualRates parts segments → AreLevelCorners (corners_of segments)
+level_corners : (parts segments : List Sum) → FitBehind (record { fee = pos 0; size = 0 }) parts
+    → JoinsEqualRates parts segments → AreLevelCorners (corners_of segments)
 level_corners parts segments level joins =
     let origin : Sum = record { fee = pos 0; size = 0 } in
     let good = good_corners joins.groups origin (subst (FitBehind origin) joins.all level) joins.filled in
@@ -88,7 +93,8 @@ level_corners parts segments level joins =
     }
 
 -- a walk that took nothing yet gives the corners of its parts
-pub fresh_corners : {S : Type 0} (steps : S → Option FeeRate → S → Type 0) (parts : S) (s : Corners S) (list segments : List Sum) → s.parts ≡ parts → s.end ≡ record { fee = pos 0; size = 0 } → s.ahead ≡ Unknown
+pub fresh_corners : {S : Type 0} (steps : S → Option FeeRate → S → Type 0) (parts : S) (s : Corners S) (list segments : List Sum)
+    → s.parts ≡ parts → s.end ≡ record { fee = pos 0; size = 0 } → s.ahead ≡ Unknown
     → YieldsParts steps parts list → JoinsEqualRates list segments → YieldsCorners (corner_steps steps) s (corners_of segments)
 fresh_corners steps parts s list segments same end ahead yields joins =
     let left : AlwaysYields steps rate_of s.parts list = subst (λ p. AlwaysYields steps rate_of p list) (sym same) yields.yields in
@@ -106,10 +112,12 @@ fresh_corners steps parts s list segments same end ahead yields joins =
     }
 
 -- and may go on
-pub fresh_goes : {S : Type 0} (can : S → Type 0) (steps : S → Option FeeRate → S → Type 0) (left : S → Count) (parts : S) (s : Corners S) (list : List Sum) → s.parts ≡ parts → s.end ≡ record { fee = pos 0; size = 0 } → s.ahead ≡ Unknown
+pub fresh_goes : {S : Type 0} (can : S → Type 0) (steps : S → Option FeeRate → S → Type 0) (left : S → Count) (parts : S) (s : Corners S) (list : List Sum)
+    → s.parts ≡ parts → s.end ≡ record { fee = pos 0; size = 0 } → s.ahead ≡ Unknown
     → can parts → IsFinite (left parts) → YieldsParts steps parts list → CanGoOn can steps left s
 fresh_goes can steps left parts s list same end ahead callable finite yields = record {
-  callable = subst (λ a. UnlessEnded a (can s.parts × IsFinite (left s.parts))) (sym ahead) (subst can (sym same) callable, subst (λ p. IsFinite (left p)) (sym same) finite);
+  callable = subst (λ a. UnlessEnded a (can s.parts × IsFinite (left s.parts))) (sym ahead)
+      (subst can (sym same) callable, subst (λ p. IsFinite (left p)) (sym same) finite);
   rest = list;
   are = subst (λ a. AreAhead a (AlwaysYields steps rate_of s.parts) list) (sym ahead) (subst (λ p. AlwaysYields steps rate_of p list) (sym same) yields.yields);
   level = subst (λ e. FitBehind e list) (sym end) (level_fits list yields.level);

@@ -18,7 +18,8 @@ use Rattle.diagram.specs.Points.{Rises}
 
 -- ---- lines
 -- a line that isn't above another at two sizes isn't above it between them
-line_between : (a s b t : ℤ) (x y z : ℕ) → x ≤ y → y ≤ z → (a +ℤ (s *ℤ pos x)) ≤ℤ (b +ℤ (t *ℤ pos x)) → (a +ℤ (s *ℤ pos z)) ≤ℤ (b +ℤ (t *ℤ pos z)) → (a +ℤ (s *ℤ pos y)) ≤ℤ (b +ℤ (t *ℤ pos y))
+line_between : (a s b t : ℤ) (x y z : ℕ) → x ≤ y → y ≤ z → (a +ℤ (s *ℤ pos x)) ≤ℤ (b +ℤ (t *ℤ pos x))
+    → (a +ℤ (s *ℤ pos z)) ≤ℤ (b +ℤ (t *ℤ pos z)) → (a +ℤ (s *ℤ pos y)) ≤ℤ (b +ℤ (t *ℤ pos y))
 line_between a s b t x y z from to low high = by_lt_z s t
     (λ less.
     let n : ℕ = y - x in
@@ -42,7 +43,8 @@ on_line base slope width x = record { fee = base +ℤ (slope *ℤ pos x); size =
 crossed_line : (base slope : ℤ) (x w : ℕ) → (base +ℤ (slope *ℤ pos x)) *ℤ pos w ≡ (base *ℤ pos w) +ℤ ((slope *ℤ pos w) *ℤ pos x)
 crossed_line base slope x w = mul-add_left base (slope *ℤ pos x) (pos w) ∙ ap (λ (k : ℤ). (base *ℤ pos w) +ℤ k) (mul_swap_ℤ slope (pos x) (pos w))
 
-rate_between : (a s b t : ℤ) (v w x y z : ℕ) → x ≤ y → y ≤ z → AtMost (on_line a s v x) (on_line b t w x) → AtMost (on_line a s v z) (on_line b t w z) → AtMost (on_line a s v y) (on_line b t w y)
+rate_between : (a s b t : ℤ) (v w x y z : ℕ) → x ≤ y → y ≤ z → AtMost (on_line a s v x) (on_line b t w x)
+    → AtMost (on_line a s v z) (on_line b t w z) → AtMost (on_line a s v y) (on_line b t w y)
 rate_between a s b t v w x y z from to low high =
     let mid = line_between (a *ℤ pos w) (s *ℤ pos w) (b *ℤ pos v) (t *ℤ pos v) x y z from to
     (omega (arith, ints, low.crossed, crossed_line a s x w, crossed_line b t x v))
@@ -59,10 +61,14 @@ pub record IsStraight (points : List (ℕ × ℤ)) (to : ℕ) : Type 0 where
 pub straight_between : (us ls : List (ℕ × ℤ)) (x y z : ℕ) → IsStraight us z → IsStraight ls z → x ≤ y → y ≤ z
     → AtMost (height_at ls x) (height_at us x) → AtMost (height_at ls z) (height_at us z) → AtMost (height_at ls y) (height_at us y)
 straight_between us ls x y z upper lower from to low high =
-    let at : (k : ℕ) → k ≤ z → AtMost (height_at ls k) (height_at us k) → AtMost (on_line lower.base lower.slope lower.width k) (on_line upper.base upper.slope upper.width k) =
-    λ k h most. subst (λ s. AtMost s (on_line upper.base upper.slope upper.width k)) (lower.line k h) (subst (λ s. AtMost (height_at ls k) s) (upper.line k h) most) in
-    let mid = rate_between lower.base lower.slope upper.base upper.slope lower.width upper.width x y z from to (at x (omega arith) low) (at z (omega arith) high) in
-    subst (λ s. AtMost s (height_at us y)) (sym (lower.line y to)) (subst (λ s. AtMost (on_line lower.base lower.slope lower.width y) s) (sym (upper.line y to)) mid)
+    let at : (k : ℕ) → k ≤ z → AtMost (height_at ls k) (height_at us k)
+    → AtMost (on_line lower.base lower.slope lower.width k) (on_line upper.base upper.slope upper.width k) =
+    λ k h most.
+    subst (λ s. AtMost s (on_line upper.base upper.slope upper.width k)) (lower.line k h) (subst (λ s. AtMost (height_at ls k) s) (upper.line k h) most) in
+    let mid =
+    rate_between lower.base lower.slope upper.base upper.slope lower.width upper.width x y z from to (at x (omega arith) low) (at z (omega arith) high) in
+    subst (λ s. AtMost s (height_at us y)) (sym (lower.line y to))
+    (subst (λ s. AtMost (on_line lower.base lower.slope lower.width y) s) (sym (upper.line y to)) mid)
 
 same_fee : (f g : ℤ) (n : ℕ) → f ≡ g → ◌≡◌ {A = Sum} (record { fee = f; size = n }) (record { fee = g; size = n })
 same_fee f g n e = same_sum _ _ e refl
@@ -76,7 +82,8 @@ straight_first p q rest to h =
       slope = slope;
       width = q.0 - p.0;
       line = λ x k. height_early p q rest x (omega arith)
-          ∙ same_fee ((p.1 *ℤ pos (q.0 - p.0)) +ℤ (slope *ℤ (pos x -ℤ pos p.0))) (base +ℤ (slope *ℤ pos x)) (q.0 - p.0) (omega (arith, ints, mul-sub_right slope (pos x) (pos p.0)));
+          ∙ same_fee ((p.1 *ℤ pos (q.0 - p.0)) +ℤ (slope *ℤ (pos x -ℤ pos p.0))) (base +ℤ (slope *ℤ pos x))
+          (q.0 - p.0) (omega (arith, ints, mul-sub_right slope (pos x) (pos p.0)));
     }
 
 pub straight_last : (p : ℕ × ℤ) (to : ℕ) → IsStraight (p ∷ []) to
@@ -122,13 +129,16 @@ height_next p q rest rising x h = elim (cases_lt q.0 x) [
       let same : x ≡ q.0 = omega arith in
       subst (λ (k : ℕ). Same (height_at (p ∷ q ∷ rest) k) (height_at (q ∷ rest) k)) (sym same)
       (subst (λ s. Same s (height_at (q ∷ rest) q.0)) (sym (height_early p q rest q.0 (omega arith)))
-      (same_chains (height_between p q q.0) (fee_of q) (height_at (q ∷ rest) q.0) (omega arith) (line_end p q rising.0) (same_back (height_at (q ∷ rest) q.0) (fee_of q) (corner_height q rest rising.1))))
+      (same_chains (height_between p q q.0) (fee_of q) (height_at (q ∷ rest) q.0) (omega arith)
+      (line_end p q rising.0) (same_back (height_at (q ∷ rest) q.0) (fee_of q) (corner_height q rest rising.1))))
 ]
 
 -- ---- a point against a line
 -- the crossed products, of a point's rise from a line's start with the line's width, and of the line's rise with the size gone
 ranked_line : (p q point : ℕ × ℤ) (o : Ordering) → p.0 ≤ q.0 → p.0 ≤ point.0
-    → MatchOrdering o (((point.1 -ℤ p.1) *ℤ pos (q.0 - p.0)) <ℤ ((q.1 -ℤ p.1) *ℤ pos (point.0 - p.0))) ((point.1 -ℤ p.1) *ℤ pos (q.0 - p.0) ≡ (q.1 -ℤ p.1) *ℤ pos (point.0 - p.0)) (((q.1 -ℤ p.1) *ℤ pos (point.0 - p.0)) <ℤ ((point.1 -ℤ p.1) *ℤ pos (q.0 - p.0)))
+    → MatchOrdering o (((point.1 -ℤ p.1) *ℤ pos (q.0 - p.0)) <ℤ ((q.1 -ℤ p.1) *ℤ pos (point.0 - p.0)))
+    ((point.1 -ℤ p.1) *ℤ pos (q.0 - p.0) ≡ (q.1 -ℤ p.1) *ℤ pos (point.0 - p.0))
+    (((q.1 -ℤ p.1) *ℤ pos (point.0 - p.0)) <ℤ ((point.1 -ℤ p.1) *ℤ pos (q.0 - p.0)))
     → ComparesRates (fee_of point) (height_between p q point.0) o
 ranked_line p q point Less wide gone h =
     let e : pos point.0 -ℤ pos p.0 ≡ pos (point.0 - p.0) = omega (arith, ints) in
@@ -143,7 +153,8 @@ ranked_line p q point Greater wide gone h =
     let right : (q.1 -ℤ p.1) *ℤ (pos point.0 -ℤ pos p.0) ≡ (q.1 -ℤ p.1) *ℤ pos (point.0 - p.0) = ap (λ (k : ℤ). (q.1 -ℤ p.1) *ℤ k) e in
     record { crossed = omega (arith, ints, h, right, mul-sub_left point.1 p.1 (pos (q.0 - p.0))) }
 
-pub compares_line : (p q point : ℕ × ℤ) (risen rise : ℤ) (o : Ordering) → p.0 ≤ q.0 → p.0 ≤ point.0 → risen ≡ (point.1 -ℤ p.1) *ℤ pos (q.0 - p.0) → rise ≡ (q.1 -ℤ p.1) *ℤ pos (point.0 - p.0)
+pub compares_line : (p q point : ℕ × ℤ) (risen rise : ℤ) (o : Ordering) → p.0 ≤ q.0 → p.0 ≤ point.0
+    → risen ≡ (point.1 -ℤ p.1) *ℤ pos (q.0 - p.0) → rise ≡ (q.1 -ℤ p.1) *ℤ pos (point.0 - p.0)
     → o ≡ int_cmp risen rise → ComparesRates (fee_of point) (height_between p q point.0) o
 compares_line p q point risen rise o wide gone one other e =
     ranked_line p q point o wide gone

@@ -26,7 +26,8 @@ pub record FollowOn (last : Option Sum) (end : Sum) (parts : List Sum) : Type 0 
 
 one_more : (end rate : Sum) (front : List Sum) → joined end (sum_of (rate ∷ front)) ≡ joined (joined end rate) (sum_of front)
 one_more end rate front =
-    same_sum (joined end (sum_of (rate ∷ front))) (joined (joined end rate) (sum_of front)) (omega (arith, ints)) (omega (arith, sum_by-cons (λ (p : Sum). p.size) rate front))
+    same_sum (joined end (sum_of (rate ∷ front))) (joined (joined end rate) (sum_of front))
+    (omega (arith, ints)) (omega (arith, sum_by-cons (λ (p : Sum). p.size) rate front))
 
 none_more : (end : Sum) → joined end (sum_of []) ≡ end
 none_more end = same_sum (joined end (sum_of [])) end (omega (arith, ints)) (omega arith)
@@ -39,7 +40,8 @@ falls_joined : (last : Option Sum) (rate : Sum) (rest : List Sum) → FallsTo la
 falls_joined None rate rest to falls = falls
 falls_joined (Some other) rate rest to falls = (to, falls)
 
-pub follow_apart : (last : Option Sum) (end rate : Sum) (rest : List Sum) → FollowOn last end (rate ∷ rest) → MayFollow last end rate × FollowOn (Some rate) (joined end rate) rest
+pub follow_apart : (last : Option Sum) (end rate : Sum) (rest : List Sum) → FollowOn last end (rate ∷ rest)
+    → MayFollow last end rate × FollowOn (Some rate) (joined end rate) rest
 follow_apart last end rate rest follow =
     let falls = falls_apart last rate rest follow.falling in (
       record {
@@ -56,7 +58,8 @@ follow_apart last end rate rest follow =
       },
     )
 
-pub follow_joined : (last : Option Sum) (end rate : Sum) (rest : List Sum) → IsSum end → MayFollow last end rate → FollowOn (Some rate) (joined end rate) rest → FollowOn last end (rate ∷ rest)
+pub follow_joined : (last : Option Sum) (end rate : Sum) (rest : List Sum) → IsSum end
+    → MayFollow last end rate → FollowOn (Some rate) (joined end rate) rest → FollowOn last end (rate ∷ rest)
 follow_joined last end rate rest fits may follow = record {
   falling = falls_joined last rate rest may.falling follow.falling;
   some = λ part h. elim (Contains-cases rate part rest h) [ inl same ↦ subst (λ (p : Sum). 1 ≤ p.size) same may.some | inr later ↦ follow.some part later ];
@@ -66,7 +69,8 @@ follow_joined last end rate rest fits may follow = record {
   where
     fronts : (front more : List Sum) → rate ∷ rest ≡ front ++ more → IsSum (joined end (sum_of front))
     fronts [] more e = subst IsSum (sym (none_more end)) fits
-    fronts (f ∷ front) more e = subst (λ z. IsSum (joined end (sum_of (z ∷ front)))) (first_of e) (subst IsSum (sym (one_more end rate front)) (follow.fits front more (rest_of e)))
+    fronts (f ∷ front) more e =
+        subst (λ z. IsSum (joined end (sum_of (z ∷ front)))) (first_of e) (subst IsSum (sym (one_more end rate front)) (follow.fits front more (rest_of e)))
 
 pub follow_none : (last : Option Sum) (end : Sum) → IsSum end → FollowOn last end []
 follow_none last end fits = record {
@@ -89,26 +93,33 @@ from_nothing front = same_sum (joined (record { fee = pos 0; size = 0 }) (sum_of
 
 pub follow_start : (parts : List Sum) → AreLevelParts parts ↔ FollowOn None (record { fee = pos 0; size = 0 }) parts
 follow_start parts = (
-  λ level. record { falling = level.falling; some = level.some; ranged = level.ranged; fits = λ front rest e. subst IsSum (sym (from_nothing front)) (level.fits front rest e) },
-  λ follow. record { falling = follow.falling; some = follow.some; ranged = follow.ranged; fits = λ front rest e. subst IsSum (from_nothing front) (follow.fits front rest e) },
+  λ level.
+      record { falling = level.falling; some = level.some; ranged = level.ranged; fits = λ front rest e. subst IsSum (sym (from_nothing front)) (level.fits front rest e) },
+  λ follow.
+      record { falling = follow.falling; some = follow.some; ranged = follow.ranged; fits = λ front rest e. subst IsSum (from_nothing front) (follow.fits front rest e) },
 )
 
 -- ---- one part of a list
-pub may_first : (last : Option Sum) (end rate : Sum) (first : FeeRate) (rest others : List FeeRate) → FollowOn last end (map rate_of rest) → rest ≡ first ∷ others → rate.fee ≡ first.fee → rate.size ≡ first.size → MayFollow last end rate
+pub may_first : (last : Option Sum) (end rate : Sum) (first : FeeRate) (rest others : List FeeRate) → FollowOn last end (map rate_of rest)
+    → rest ≡ first ∷ others → rate.fee ≡ first.fee → rate.size ≡ first.size → MayFollow last end rate
 may_first last end rate first rest others follow e fee size =
     subst (MayFollow last end) (sym (same_sum rate (rate_of first) fee size))
     (follow_apart last end (rate_of first) (map rate_of others) (subst (λ zs. FollowOn last end (map rate_of zs)) e follow)).0
 
-pub follow_further : {All : Type 0} (last : Option Sum) (end rate new : Sum) (first : FeeRate) (rest others : List FeeRate) → All ↔ FollowOn last end (map rate_of rest) → rest ≡ first ∷ others → rate.fee ≡ first.fee → rate.size ≡ first.size
-    → new.fee ≡ end.fee +ℤ rate.fee → new.size ≡ end.size + rate.size → IsSum end → MayFollow last end rate → All ↔ FollowOn (Some rate) new (map rate_of others)
+pub follow_further : {All : Type 0} (last : Option Sum) (end rate new : Sum) (first : FeeRate) (rest others : List FeeRate)
+    → All ↔ FollowOn last end (map rate_of rest) → rest ≡ first ∷ others → rate.fee ≡ first.fee → rate.size ≡ first.size
+    → new.fee ≡ end.fee +ℤ rate.fee → new.size ≡ end.size + rate.size → IsSum end
+    → MayFollow last end rate → All ↔ FollowOn (Some rate) new (map rate_of others)
 follow_further last end rate new first rest others both e fee size new_fee new_size fits may =
     let is_rate : rate ≡ rate_of first = same_sum rate (rate_of first) fee size in
     let is_new : new ≡ joined end rate = same_sum new (joined end rate) new_fee new_size in
     let list : map rate_of rest ≡ rate ∷ map rate_of others = ap (map rate_of) e ∙ ap (λ (r : Sum). r ∷ map rate_of others) (sym is_rate) in (
-      λ all. subst (λ s. FollowOn (Some rate) s (map rate_of others)) (sym is_new) (follow_apart last end rate (map rate_of others) (subst (FollowOn last end) list (both.0 all))).1,
+      λ all. subst (λ s. FollowOn (Some rate) s (map rate_of others)) (sym is_new)
+          (follow_apart last end rate (map rate_of others) (subst (FollowOn last end) list (both.0 all))).1,
       λ follow.
           both.1
-          (subst (FollowOn last end) (sym list) (follow_joined last end rate (map rate_of others) fits may (subst (λ s. FollowOn (Some rate) s (map rate_of others)) is_new follow))),
+          (subst (FollowOn last end) (sym list)
+          (follow_joined last end rate (map rate_of others) fits may (subst (λ s. FollowOn (Some rate) s (map rate_of others)) is_new follow))),
     )
 
 pub follow_all : (last : Option Sum) (end : Sum) (rest : List FeeRate) → length rest ≡ 0 → IsSum end → FollowOn last end (map rate_of rest)

@@ -20,19 +20,23 @@ use Rattle.diagram.proofs.StepLemmas.{step_some, step_none}
 use Rattle.diagram.proofs.HeightLemmas.{height_some, corner_height, fee_of}
 
 -- ---- one walk
-pub points_next : {S : Type 0} (steps : S → Option (ℕ × ℤ) → S → Type 0) (s t : S) (r : Option (ℕ × ℤ)) (from : ℕ × ℤ) (more : List (ℕ × ℤ)) → AlwaysYields steps (λ corner. corner) s more → steps s r t
+pub points_next : {S : Type 0} (steps : S → Option (ℕ × ℤ) → S → Type 0) (s t : S) (r : Option (ℕ × ℤ)) (from : ℕ × ℤ) (more : List (ℕ × ℤ))
+    → AlwaysYields steps (λ corner. corner) s more → steps s r t
     → ArePoints from r (AlwaysYields steps (λ corner. corner) t) (from ∷ more)
 points_next steps s t None from more yields step = ap (λ points. from ∷ points) (step_none steps (λ corner. corner) s t more yields step)
-points_next steps s t (Some next) from more yields step = let found = step_some steps (λ corner. corner) s t next more yields step in (found.0, ap (λ points. from ∷ points) found.1, found.2)
+points_next steps s t (Some next) from more yields step = let found = step_some steps (λ corner. corner) s t next more yields step in
+    (found.0, ap (λ points. from ∷ points) found.1, found.2)
 
-pub points_advance : {S : Type 0} (steps : S → Option (ℕ × ℤ) → S → Type 0) (side : Side S) (next : ℕ × ℤ) (t : S) (r : Option (ℕ × ℤ)) (points : List (ℕ × ℤ)) → side.line.to ≡ Some next → steps side.rest r t → HasPoints steps side points
+pub points_advance : {S : Type 0} (steps : S → Option (ℕ × ℤ) → S → Type 0) (side : Side S) (next : ℕ × ℤ) (t : S) (r : Option (ℕ × ℤ)) (points : List (ℕ × ℤ))
+    → side.line.to ≡ Some next → steps side.rest r t → HasPoints steps side points
     → (p : ℕ × ℤ) × (rest : List (ℕ × ℤ)) × (points ≡ p ∷ next ∷ rest) × ArePoints next r (AlwaysYields steps (λ corner. corner) t) (next ∷ rest)
 points_advance steps side next t r points to step has =
     let known = subst (λ o. ArePoints side.line.from o (AlwaysYields steps (λ corner. corner) side.rest) points) to has in
     (side.line.from, known.0, known.1, points_next steps side.rest t r next known.0 known.2 step)
 
 -- the first corner, where there is one
-pub points_start : {S : Type 0} (steps : S → Option (ℕ × ℤ) → S → Type 0) (s t u : S) (from : ℕ × ℤ) (r : Option (ℕ × ℤ)) (points : List (ℕ × ℤ)) → steps s (Some from) t → steps t r u → AlwaysYields steps (λ corner. corner) s points
+pub points_start : {S : Type 0} (steps : S → Option (ℕ × ℤ) → S → Type 0) (s t u : S) (from : ℕ × ℤ) (r : Option (ℕ × ℤ)) (points : List (ℕ × ℤ))
+    → steps s (Some from) t → steps t r u → AlwaysYields steps (λ corner. corner) s points
     → ArePoints from r (AlwaysYields steps (λ corner. corner) u) points
 points_start steps s t u from r points one two yields =
     let found = step_some steps (λ corner. corner) s t from points yields one in
@@ -48,11 +52,13 @@ Contains-head p points = (0, omega arith, refl)
 Contains-next : (p q : ℕ × ℤ) (points : List (ℕ × ℤ)) → Contains (p ∷ q ∷ points) q
 Contains-next p q points = (1, omega arith, refl)
 
-first_in_range : (from : ℕ × ℤ) (to : Option (ℕ × ℤ)) (Behind : List (ℕ × ℤ) → Type 0) (points : List (ℕ × ℤ)) (x : ℕ) → ArePoints from to Behind points → StandAt points x → InRange from.1 from.0
+first_in_range : (from : ℕ × ℤ) (to : Option (ℕ × ℤ)) (Behind : List (ℕ × ℤ) → Type 0) (points : List (ℕ × ℤ)) (x : ℕ)
+    → ArePoints from to Behind points → StandAt points x → InRange from.1 from.0
 first_in_range from None Behind points x are stands = stands.ranged from (subst (λ zs. Contains zs from) (sym are) (Contains-head from []))
 first_in_range from (Some next) Behind points x are stands = stands.ranged from (subst (λ zs. Contains zs from) (sym are.1) (Contains-head from (next ∷ are.0)))
 
-next_in_range : (from next : ℕ × ℤ) (to : Option (ℕ × ℤ)) (Behind : List (ℕ × ℤ) → Type 0) (points : List (ℕ × ℤ)) (x : ℕ) → to ≡ Some next → ArePoints from to Behind points → StandAt points x → InRange next.1 next.0
+next_in_range : (from next : ℕ × ℤ) (to : Option (ℕ × ℤ)) (Behind : List (ℕ × ℤ) → Type 0) (points : List (ℕ × ℤ)) (x : ℕ)
+    → to ≡ Some next → ArePoints from to Behind points → StandAt points x → InRange next.1 next.0
 next_in_range from next None Behind points x e are stands = cc
 next_in_range from next (Some other) Behind points x e are stands =
     let same : other ≡ next = some_same e in
@@ -61,14 +67,16 @@ next_in_range from next (Some other) Behind points x e are stands =
     some_same : {A : Type 0} {a b : A} → Some a ≡ Some b → a ≡ b
     some_same e = cc
 
-pub side_in_range : {S : Type 0} (steps : S → Option (ℕ × ℤ) → S → Type 0) (side : Side S) (points : List (ℕ × ℤ)) (x : ℕ) → HasPoints steps side points → StandAt points x → IsInRange side.line
+pub side_in_range : {S : Type 0} (steps : S → Option (ℕ × ℤ) → S → Type 0) (side : Side S) (points : List (ℕ × ℤ)) (x : ℕ)
+    → HasPoints steps side points → StandAt points x → IsInRange side.line
 side_in_range steps side points x has stands = record {
   from = first_in_range side.line.from side.line.to (AlwaysYields steps (λ corner. corner) side.rest) points x has stands;
   to = λ next e. next_in_range side.line.from next side.line.to (AlwaysYields steps (λ corner. corner) side.rest) points x e has stands;
 }
 
 -- ---- heights
-height_is : (from : ℕ × ℤ) (to : Option (ℕ × ℤ)) (Behind : List (ℕ × ℤ) → Type 0) (points : List (ℕ × ℤ)) (y : ℕ) → ArePoints from to Behind points → ((next : ℕ × ℤ) → to ≡ Some next → y ≤ next.0) → height_at points y ≡ height_from from to y
+height_is : (from : ℕ × ℤ) (to : Option (ℕ × ℤ)) (Behind : List (ℕ × ℤ) → Type 0) (points : List (ℕ × ℤ)) (y : ℕ)
+    → ArePoints from to Behind points → ((next : ℕ × ℤ) → to ≡ Some next → y ≤ next.0) → height_at points y ≡ height_from from to y
 height_is from None Behind points y are near = ap (λ zs. height_at zs y) are
 height_is from (Some next) Behind points y are near = ap (λ zs. height_at zs y) are.1 ∙ height_early from next are.0 y (near next refl)
 
@@ -100,7 +108,8 @@ rest_stands p next rest points x whole stands =
         none e = cc
     to_next (z ∷ zs) rises q r others e = subst (λ (k : ℕ × ℤ). next.0 ≤ k.0) (first_of (rest_of e)) (omega (arith, rises.0))
 
-still_stands : (points : List (ℕ × ℤ)) (x y : ℕ) → x ≤ y → StandAt points x → ((p q : ℕ × ℤ) (rest : List (ℕ × ℤ)) → points ≡ p ∷ q ∷ rest → y ≤ q.0) → StandAt points y
+still_stands : (points : List (ℕ × ℤ)) (x y : ℕ) → x ≤ y → StandAt points x
+    → ((p q : ℕ × ℤ) (rest : List (ℕ × ℤ)) → points ≡ p ∷ q ∷ rest → y ≤ q.0) → StandAt points y
 still_stands points x y later stands near = record {
   rising = stands.rising;
   ranged = stands.ranged;
@@ -109,7 +118,8 @@ still_stands points x y later stands near = record {
 }
 
 -- the next corner of an iterator's walk bounds its list's
-near_next : (from : ℕ × ℤ) (to : Option (ℕ × ℤ)) (Behind : List (ℕ × ℤ) → Type 0) (points : List (ℕ × ℤ)) (y : ℕ) → ArePoints from to Behind points → ((next : ℕ × ℤ) → to ≡ Some next → y ≤ next.0)
+near_next : (from : ℕ × ℤ) (to : Option (ℕ × ℤ)) (Behind : List (ℕ × ℤ) → Type 0) (points : List (ℕ × ℤ)) (y : ℕ)
+    → ArePoints from to Behind points → ((next : ℕ × ℤ) → to ≡ Some next → y ≤ next.0)
     → (p q : ℕ × ℤ) (rest : List (ℕ × ℤ)) → points ≡ p ∷ q ∷ rest → y ≤ q.0
 near_next from None Behind points y are near p q rest e = absurd (one (sym are ∙ e))
   where
@@ -121,18 +131,22 @@ near_next from (Some next) Behind points y are near p q rest e = subst (λ (k : 
     seconds e = cc
 
 -- the first walk goes on to its next corner
-pub first_moves : {S : Type 0} (steps : S → Option (ℕ × ℤ) → S → Type 0) (other : Side S) (cs ds rest : List (ℕ × ℤ)) (x : ℕ) (p next : ℕ × ℤ) (o : Ordering) → cs ≡ p ∷ next ∷ rest → HasPoints steps other ds → StandAt cs x → StandAt ds x
-    → ((q : ℕ × ℤ) → other.line.to ≡ Some q → next.0 ≤ q.0) → ComparesRates (fee_of next) (height_from other.line.from other.line.to next.0) o → Moves cs ds x (next ∷ rest) ds next.0 o
+pub first_moves : {S : Type 0} (steps : S → Option (ℕ × ℤ) → S → Type 0) (other : Side S) (cs ds rest : List (ℕ × ℤ)) (x : ℕ) (p next : ℕ × ℤ) (o : Ordering)
+    → cs ≡ p ∷ next ∷ rest → HasPoints steps other ds → StandAt cs x → StandAt ds x
+    → ((q : ℕ × ℤ) → other.line.to ≡ Some q → next.0 ≤ q.0)
+    → ComparesRates (fee_of next) (height_from other.line.from other.line.to next.0) o → Moves cs ds x (next ∷ rest) ds next.0 o
 first_moves steps other cs ds rest x p next o whole has first second near compared =
     let later : x ≤ next.0 = first.to p next rest whole in
     let stands = rest_stands p next rest cs x whole first in
-    let height : height_at ds next.0 ≡ height_from other.line.from other.line.to next.0 = height_is other.line.from other.line.to (AlwaysYields steps (λ corner. corner) other.rest) ds next.0 has near in
+    let height : height_at ds next.0 ≡ height_from other.line.from other.line.to next.0 =
+    height_is other.line.from other.line.to (AlwaysYields steps (λ corner. corner) other.rest) ds next.0 has near in
     record {
       later = later;
       first = inr (p, next, rest, whole, refl, refl);
       second = inl refl;
       first_stands = stands;
-      second_stands = still_stands ds x next.0 later second (near_next other.line.from other.line.to (AlwaysYields steps (λ corner. corner) other.rest) ds next.0 has near);
+      second_stands =
+          still_stands ds x next.0 later second (near_next other.line.from other.line.to (AlwaysYields steps (λ corner. corner) other.rest) ds next.0 has near);
       compared = compares_left (height_at (next ∷ rest) next.0) (fee_of next) (height_at ds next.0) o
           (height_some (next ∷ rest) stands.rising next.0) (omega arith) (height_some ds second.rising next.0)
           (corner_height next rest stands.rising) (subst (λ s. ComparesRates (fee_of next) s o) (sym height) compared);
@@ -148,11 +162,14 @@ swapped cs ds more others x y o moves = record {
   compared = compares_back (height_at others y) (height_at more y) o moves.compared;
 }
 
-pub second_moves : {S : Type 0} (steps : S → Option (ℕ × ℤ) → S → Type 0) (other : Side S) (cs ds rest : List (ℕ × ℤ)) (x : ℕ) (p next : ℕ × ℤ) (o : Ordering) → ds ≡ p ∷ next ∷ rest → HasPoints steps other cs → StandAt cs x → StandAt ds x
-    → ((q : ℕ × ℤ) → other.line.to ≡ Some q → next.0 ≤ q.0) → ComparesRates (fee_of next) (height_from other.line.from other.line.to next.0) o → Moves cs ds x cs (next ∷ rest) next.0 (ordering_reverse o)
+pub second_moves : {S : Type 0} (steps : S → Option (ℕ × ℤ) → S → Type 0) (other : Side S) (cs ds rest : List (ℕ × ℤ)) (x : ℕ) (p next : ℕ × ℤ) (o : Ordering)
+    → ds ≡ p ∷ next ∷ rest → HasPoints steps other cs → StandAt cs x → StandAt ds x
+    → ((q : ℕ × ℤ) → other.line.to ≡ Some q → next.0 ≤ q.0) → ComparesRates (fee_of next) (height_from other.line.from other.line.to next.0) o
+    → Moves cs ds x cs (next ∷ rest) next.0 (ordering_reverse o)
 second_moves steps other cs ds rest x p next o whole has first second near compared =
     swapped cs ds cs (next ∷ rest) x next.0 o (first_moves steps other ds cs rest x p next o whole has second first near compared)
 
-pub last_points : (from : ℕ × ℤ) (to : Option (ℕ × ℤ)) (Behind : List (ℕ × ℤ) → Type 0) (points : List (ℕ × ℤ)) → to ≡ None → ArePoints from to Behind points → points ≡ from ∷ []
+pub last_points : (from : ℕ × ℤ) (to : Option (ℕ × ℤ)) (Behind : List (ℕ × ℤ) → Type 0) (points : List (ℕ × ℤ))
+    → to ≡ None → ArePoints from to Behind points → points ≡ from ∷ []
 last_points from None Behind points e are = are
 last_points from (Some next) Behind points e are = cc

@@ -76,7 +76,8 @@ open_back us vs ls ms y upper lower above z h =
     (same_at_most (height_at vs z) (height_at us z) (same_back (height_at us z) (height_at vs z) (upper.agree z h)))
 
 -- it stays open where the one is still at or above the other at the size reached
-open_goes : (xs ys us vs ls ms : List (ℕ × ℤ)) (x y : ℕ) → x ≤ y → GoesOn us vs y → GoesOn ls ms y → IsOpen xs ys us ls x → AtMost (height_at ms y) (height_at vs y) → IsOpen xs ys vs ms y
+open_goes : (xs ys us vs ls ms : List (ℕ × ℤ)) (x y : ℕ) → x ≤ y → GoesOn us vs y → GoesOn ls ms y
+    → IsOpen xs ys us ls x → AtMost (height_at ms y) (height_at vs y) → IsOpen xs ys vs ms y
 open_goes xs ys us vs ls ms x y later upper lower old here = record {
   all = λ above. old.all (λ z h. (
       let back = open_back us vs ls ms y upper lower above in
@@ -89,7 +90,8 @@ open_goes xs ys us vs ls ms x y later upper lower old here = record {
 }
 
 -- and is refuted where it is below there
-open_shuts : (xs ys us vs ls ms : List (ℕ × ℤ)) (x y : ℕ) → x ≤ y → GoesOn us vs y → GoesOn ls ms y → IsOpen xs ys us ls x → Below (height_at vs y) (height_at ms y) → IsAtOrAbove xs ys → ⊥
+open_shuts : (xs ys us vs ls ms : List (ℕ × ℤ)) (x y : ℕ) → x ≤ y → GoesOn us vs y → GoesOn ls ms y
+    → IsOpen xs ys us ls x → Below (height_at vs y) (height_at ms y) → IsAtOrAbove xs ys → ⊥
 open_shuts xs ys us vs ls ms x y later upper lower old less above =
     let most = open_rest us vs ls ms x y later upper lower (old.rest above) y (omega arith) in
     omega (arith, ints, most.crossed, less.crossed)
@@ -109,7 +111,8 @@ record Goes (cs ds cs' ds' : List (ℕ × ℤ)) (x y : ℕ) : Type 0 where
 level_keeps : (a b : Sum) → Same a b → AtMost b a
 level_keeps a b e = record { crossed = omega (arith, ints, e.crossed) }
 
-tally_less : (v : Verdict) (xs ys cs ds cs' ds' : List (ℕ × ℤ)) (x y : ℕ) → Goes cs ds cs' ds' x y → Below (height_at cs' y) (height_at ds' y) → Tally v xs ys cs ds x → Tally (and_below v) xs ys cs' ds' y
+tally_less : (v : Verdict) (xs ys cs ds cs' ds' : List (ℕ × ℤ)) (x y : ℕ) → Goes cs ds cs' ds' x y
+    → Below (height_at cs' y) (height_at ds' y) → Tally v xs ys cs ds x → Tally (and_below v) xs ys cs' ds' y
 tally_less Even xs ys cs ds cs' ds' x y goes less old = (
   open_shuts xs ys cs cs' ds ds' x y goes.later goes.first goes.second old.0 less,
   open_goes ys xs ds ds' cs cs' x y goes.later goes.second goes.first old.1 (below_at_most (height_at cs' y) (height_at ds' y) less),
@@ -119,7 +122,8 @@ tally_less Worse xs ys cs ds cs' ds' x y goes less old =
     (old.0, open_goes ys xs ds ds' cs cs' x y goes.later goes.second goes.first old.1 (below_at_most (height_at cs' y) (height_at ds' y) less))
 tally_less Incomparable xs ys cs ds cs' ds' x y goes less old = old
 
-tally_greater : (v : Verdict) (xs ys cs ds cs' ds' : List (ℕ × ℤ)) (x y : ℕ) → Goes cs ds cs' ds' x y → Below (height_at ds' y) (height_at cs' y) → Tally v xs ys cs ds x → Tally (and_above v) xs ys cs' ds' y
+tally_greater : (v : Verdict) (xs ys cs ds cs' ds' : List (ℕ × ℤ)) (x y : ℕ) → Goes cs ds cs' ds' x y
+    → Below (height_at ds' y) (height_at cs' y) → Tally v xs ys cs ds x → Tally (and_above v) xs ys cs' ds' y
 tally_greater Even xs ys cs ds cs' ds' x y goes more old = (
   open_goes xs ys cs cs' ds ds' x y goes.later goes.first goes.second old.0 (below_at_most (height_at ds' y) (height_at cs' y) more),
   open_shuts ys xs ds ds' cs cs' x y goes.later goes.second goes.first old.1 more,
@@ -129,22 +133,27 @@ tally_greater Better xs ys cs ds cs' ds' x y goes more old =
 tally_greater Worse xs ys cs ds cs' ds' x y goes more old = (old.0, open_shuts ys xs ds ds' cs cs' x y goes.later goes.second goes.first old.1 more)
 tally_greater Incomparable xs ys cs ds cs' ds' x y goes more old = old
 
-tally_equal : (v : Verdict) (xs ys cs ds cs' ds' : List (ℕ × ℤ)) (x y : ℕ) → Goes cs ds cs' ds' x y → Same (height_at cs' y) (height_at ds' y) → Tally v xs ys cs ds x → Tally v xs ys cs' ds' y
+tally_equal : (v : Verdict) (xs ys cs ds cs' ds' : List (ℕ × ℤ)) (x y : ℕ) → Goes cs ds cs' ds' x y
+    → Same (height_at cs' y) (height_at ds' y) → Tally v xs ys cs ds x → Tally v xs ys cs' ds' y
 tally_equal Even xs ys cs ds cs' ds' x y goes same old = (
   open_goes xs ys cs cs' ds ds' x y goes.later goes.first goes.second old.0 (level_keeps (height_at cs' y) (height_at ds' y) same),
   open_goes ys xs ds ds' cs cs' x y goes.later goes.second goes.first old.1 (same_at_most (height_at cs' y) (height_at ds' y) same),
 )
-tally_equal Better xs ys cs ds cs' ds' x y goes same old = (open_goes xs ys cs cs' ds ds' x y goes.later goes.first goes.second old.0 (level_keeps (height_at cs' y) (height_at ds' y) same), old.1)
-tally_equal Worse xs ys cs ds cs' ds' x y goes same old = (old.0, open_goes ys xs ds ds' cs cs' x y goes.later goes.second goes.first old.1 (same_at_most (height_at cs' y) (height_at ds' y) same))
+tally_equal Better xs ys cs ds cs' ds' x y goes same old =
+    (open_goes xs ys cs cs' ds ds' x y goes.later goes.first goes.second old.0 (level_keeps (height_at cs' y) (height_at ds' y) same), old.1)
+tally_equal Worse xs ys cs ds cs' ds' x y goes same old =
+    (old.0, open_goes ys xs ds ds' cs cs' x y goes.later goes.second goes.first old.1 (same_at_most (height_at cs' y) (height_at ds' y) same))
 tally_equal Incomparable xs ys cs ds cs' ds' x y goes same old = old
 
-tally_by : (o : Ordering) (v : Verdict) (xs ys cs ds cs' ds' : List (ℕ × ℤ)) (x y : ℕ) → Goes cs ds cs' ds' x y → ComparesRates (height_at cs' y) (height_at ds' y) o → Tally v xs ys cs ds x → Tally (and_here v o) xs ys cs' ds' y
+tally_by : (o : Ordering) (v : Verdict) (xs ys cs ds cs' ds' : List (ℕ × ℤ)) (x y : ℕ) → Goes cs ds cs' ds' x y
+    → ComparesRates (height_at cs' y) (height_at ds' y) o → Tally v xs ys cs ds x → Tally (and_here v o) xs ys cs' ds' y
 tally_by Less v xs ys cs ds cs' ds' x y goes compared old = tally_less v xs ys cs ds cs' ds' x y goes compared old
 tally_by Equal v xs ys cs ds cs' ds' x y goes compared old = tally_equal v xs ys cs ds cs' ds' x y goes compared old
 tally_by Greater v xs ys cs ds cs' ds' x y goes compared old = tally_greater v xs ys cs ds cs' ds' x y goes compared old
 
 -- what was found up to a size, and how the two stand at the next
-pub tally_goes : (o : Ordering) (v : Verdict) (xs ys cs ds cs' ds' : List (ℕ × ℤ)) (x y : ℕ) → StandAt cs x → StandAt ds x → Moves cs ds x cs' ds' y o → Tally v xs ys cs ds x → Tally (and_here v o) xs ys cs' ds' y
+pub tally_goes : (o : Ordering) (v : Verdict) (xs ys cs ds cs' ds' : List (ℕ × ℤ)) (x y : ℕ) → StandAt cs x
+    → StandAt ds x → Moves cs ds x cs' ds' y o → Tally v xs ys cs ds x → Tally (and_here v o) xs ys cs' ds' y
 tally_goes o v xs ys cs ds cs' ds' x y first second moves old =
     tally_by o v xs ys cs ds cs' ds' x y
     (record { later = moves.later; first = goes_on cs cs' x y first moves.first_stands moves.first; second = goes_on ds ds' x y second moves.second_stands moves.second })
@@ -179,7 +188,8 @@ tally_ends Incomparable xs ys p q x found = found
 
 -- ---- two walks
 -- where two walks stand, and what was found by then of the diagrams with these corners
-pub record Walks {S T : Type 0} (firsts : S → Option (ℕ × ℤ) → S → Type 0) (seconds : T → Option (ℕ × ℤ) → T → Type 0) (a : Side S) (b : Side T) (found : Verdict) (xs ys : List (ℕ × ℤ)) : Type 0 where
+pub record Walks {S T : Type 0} (firsts : S → Option (ℕ × ℤ) → S → Type 0) (seconds : T → Option (ℕ × ℤ) → T → Type 0)
+    (a : Side S) (b : Side T) (found : Verdict) (xs ys : List (ℕ × ℤ)) : Type 0 where
   pub cs : List (ℕ × ℤ)
   pub ds : List (ℕ × ℤ)
   pub at : ℕ
@@ -197,7 +207,9 @@ starts_at xs level = record {
   to = λ p q rest e. omega arith;
 }
 
-pub walks_start : {S T : Type 0} (firsts : S → Option (ℕ × ℤ) → S → Type 0) (seconds : T → Option (ℕ × ℤ) → T → Type 0) (a : Side S) (b : Side T) (xs ys : List (ℕ × ℤ)) → AreLevelCorners xs → AreLevelCorners ys → HasPoints firsts a xs → HasPoints seconds b ys
+pub walks_start : {S T : Type 0} (firsts : S → Option (ℕ × ℤ) → S → Type 0)
+    (seconds : T → Option (ℕ × ℤ) → T → Type 0) (a : Side S) (b : Side T) (xs ys : List (ℕ × ℤ))
+    → AreLevelCorners xs → AreLevelCorners ys → HasPoints firsts a xs → HasPoints seconds b ys
     → Walks firsts seconds a b Even xs ys
 walks_start firsts seconds a b xs ys one other first second = record {
   cs = xs;
@@ -211,10 +223,13 @@ walks_start firsts seconds a b xs ys one other first second = record {
 }
 
 -- what one step of the two says
-abbrev pub StepMoves : {S T : Type 0} → (S → Option (ℕ × ℤ) → S → Type 0) → (T → Option (ℕ × ℤ) → T → Type 0) → Side S → Side T → List (ℕ × ℤ) → List (ℕ × ℤ) → ℕ → Ordering → Type 0
-StepMoves firsts seconds a b cs ds x here = (more others : List (ℕ × ℤ)) × (y : ℕ) × HasPoints firsts a more × HasPoints seconds b others × Moves cs ds x more others y here
+abbrev pub StepMoves : {S T : Type 0} → (S → Option (ℕ × ℤ) → S → Type 0) → (T → Option (ℕ × ℤ) → T → Type 0)
+    → Side S → Side T → List (ℕ × ℤ) → List (ℕ × ℤ) → ℕ → Ordering → Type 0
+StepMoves firsts seconds a b cs ds x here =
+    (more others : List (ℕ × ℤ)) × (y : ℕ) × HasPoints firsts a more × HasPoints seconds b others × Moves cs ds x more others y here
 
-pub walks_go : {S T : Type 0} (firsts : S → Option (ℕ × ℤ) → S → Type 0) (seconds : T → Option (ℕ × ℤ) → T → Type 0) (a u : Side S) (b v : Side T) (found new : Verdict) (xs ys : List (ℕ × ℤ)) (here : Ordering) → (walks : Walks firsts seconds a b found xs ys)
+pub walks_go : {S T : Type 0} (firsts : S → Option (ℕ × ℤ) → S → Type 0) (seconds : T → Option (ℕ × ℤ) → T → Type 0) (a u : Side S)
+    (b v : Side T) (found new : Verdict) (xs ys : List (ℕ × ℤ)) (here : Ordering) → (walks : Walks firsts seconds a b found xs ys)
     → StepMoves firsts seconds u v walks.cs walks.ds walks.at here → new ≡ and_here found here → Walks firsts seconds u v new xs ys
 walks_go firsts seconds a u b v found new xs ys here walks step e =
     let moves = step.5 in
@@ -226,15 +241,19 @@ walks_go firsts seconds a u b v found new xs ys here walks step e =
       second = step.4;
       first_stands = moves.first_stands;
       second_stands = moves.second_stands;
-      tally = subst (λ w. Tally w xs ys step.0 step.1 step.2) (sym e) (tally_goes here found xs ys walks.cs walks.ds step.0 step.1 walks.at step.2 walks.first_stands walks.second_stands moves walks.tally);
+      tally = subst (λ w. Tally w xs ys step.0 step.1 step.2) (sym e)
+          (tally_goes here found xs ys walks.cs walks.ds step.0 step.1 walks.at step.2 walks.first_stands walks.second_stands moves walks.tally);
     }
 
-pub walks_end : {S T : Type 0} (firsts : S → Option (ℕ × ℤ) → S → Type 0) (seconds : T → Option (ℕ × ℤ) → T → Type 0) (a : Side S) (b : Side T) (found : Verdict) (xs ys : List (ℕ × ℤ)) → (walks : Walks firsts seconds a b found xs ys)
+pub walks_end : {S T : Type 0} (firsts : S → Option (ℕ × ℤ) → S → Type 0) (seconds : T → Option (ℕ × ℤ) → T → Type 0)
+    (a : Side S) (b : Side T) (found : Verdict) (xs ys : List (ℕ × ℤ)) → (walks : Walks firsts seconds a b found xs ys)
     → (p q : ℕ × ℤ) × (walks.cs ≡ p ∷ []) × (walks.ds ≡ q ∷ []) → Compares xs ys found
 walks_end firsts seconds a b found xs ys walks last =
     tally_ends found xs ys last.0 last.1 walks.at
     (subst (λ ds. Tally found xs ys (last.0 ∷ []) ds walks.at) last.3 (subst (λ cs. Tally found xs ys cs walks.ds walks.at) last.2 walks.tally))
 
-pub walks_stop : {S T : Type 0} (firsts : S → Option (ℕ × ℤ) → S → Type 0) (seconds : T → Option (ℕ × ℤ) → T → Type 0) (a : Side S) (b : Side T) (found : Verdict) (xs ys : List (ℕ × ℤ)) → Walks firsts seconds a b found xs ys → found ≡ Incomparable → Compares xs ys found
+pub walks_stop : {S T : Type 0} (firsts : S → Option (ℕ × ℤ) → S → Type 0)
+    (seconds : T → Option (ℕ × ℤ) → T → Type 0) (a : Side S) (b : Side T) (found : Verdict) (xs ys : List (ℕ × ℤ))
+    → Walks firsts seconds a b found xs ys → found ≡ Incomparable → Compares xs ys found
 walks_stop firsts seconds a b found xs ys walks e =
     subst (Compares xs ys) (sym e) (subst (λ w. Tally w xs ys walks.cs walks.ds walks.at) e walks.tally)

@@ -55,16 +55,19 @@ pub record NextFits (end part : Sum) : Type 0 where
   pub some : 1 ≤ part.size
   pub both : IsSum (joined end part)
 
-pub next_fits : {S : Type 0} (steps : S → Option FeeRate → S → Type 0) (before first : Sum) (more : List Sum) (now : S) (end : Sum) (part : Sum) (rest : List Sum)
+pub next_fits : {S : Type 0} (steps : S → Option FeeRate → S → Type 0) (before first : Sum)
+    (more : List Sum) (now : S) (end : Sum) (part : Sum) (rest : List Sum)
     → FitBehind before (first ∷ more) → (so : SoFar steps before first more now end) → so.rest ≡ part ∷ rest → NextFits end part
 next_fits steps before first more now end part rest level so e =
     let all : first ∷ more ≡ (first ∷ so.group) ++ part ∷ rest = ap (λ zs. first ∷ zs) (so.all ∙ ap (λ zs. so.group ++ zs) e) in
-    let here : Contains (first ∷ more) part = subst (λ zs. Contains zs part) (sym all) (Contains-append_right (first ∷ so.group) (part ∷ rest) part (Contains-head part rest)) in
+    let here : Contains (first ∷ more) part =
+    subst (λ zs. Contains zs part) (sym all) (Contains-append_right (first ∷ so.group) (part ∷ rest) part (Contains-head part rest)) in
     record {
       now = subst IsSum (sym so.end_is) (level.fits (first ∷ so.group) (part ∷ rest) all);
       next = level.ranged part here;
       some = level.some part here;
-      both = subst IsSum (ap (λ s. joined before s) (sum_of-snoc (first ∷ so.group) part) ∙ sym (plus_assoc before (sum_of (first ∷ so.group)) part) ∙ ap (λ s. joined s part) (sym so.end_is))
+      both = subst IsSum (ap (λ s. joined before s) (sum_of-snoc (first ∷ so.group) part)
+          ∙ sym (plus_assoc before (sum_of (first ∷ so.group)) part) ∙ ap (λ s. joined s part) (sym so.end_is))
           (level.fits ((first ∷ so.group) ++ part ∷ []) rest (all ∙ sym (append_assoc (first ∷ so.group) (part ∷ []) rest)));
     }
 
@@ -74,7 +77,9 @@ first_fits before first more level = record {
   now = subst IsSum (same_sum (joined before (sum_of [])) before (omega (arith, ints)) (omega arith)) (level.fits [] (first ∷ more) refl);
   next = level.ranged first (Contains-head first more);
   some = level.some first (Contains-head first more);
-  both = subst IsSum (ap (λ s. joined before s) (same_sum (sum_of (first ∷ [])) first (omega (arith, ints)) (omega (arith, sum_by-cons (λ (p : Sum). p.size) first [])))) (level.fits (first ∷ []) more refl);
+  both = subst IsSum
+      (ap (λ s. joined before s) (same_sum (sum_of (first ∷ [])) first (omega (arith, ints)) (omega (arith, sum_by-cons (λ (p : Sum). p.size) first []))))
+      (level.fits (first ∷ []) more refl);
 }
 
 snoc_cases : (part x : Sum) (parts : List Sum) → Contains (parts ++ x ∷ []) part → Contains parts part ⊎ (x ≡ part)
@@ -85,8 +90,10 @@ snoc_cases part x parts h = elim (Contains-append_cases parts (x ∷ []) part h)
 ]
 
 -- the next part is of the segment too
-pub goes_on : {S : Type 0} (steps : S → Option FeeRate → S → Type 0) (before first part end new : Sum) (more rest : List Sum) (now then : S) → (so : SoFar steps before first more now end) → so.rest ≡ part ∷ rest → AlwaysYields steps rate_of then rest
-    → (o : Ordering) → ComparesRates part first o → (o ≡ Less → ⊥) → new.fee ≡ end.fee +ℤ part.fee → new.size ≡ end.size + part.size → SoFar steps before first more then new
+pub goes_on : {S : Type 0} (steps : S → Option FeeRate → S → Type 0) (before first part end new : Sum) (more rest : List Sum) (now then : S)
+    → (so : SoFar steps before first more now end) → so.rest ≡ part ∷ rest → AlwaysYields steps rate_of then rest
+    → (o : Ordering) → ComparesRates part first o → (o ≡ Less → ⊥) → new.fee ≡ end.fee +ℤ part.fee
+    → new.size ≡ end.size + part.size → SoFar steps before first more then new
 goes_on steps before first part end new more rest now then so e yields o compares not fee size = record {
   group = so.group ++ part ∷ [];
   rest = rest;
@@ -103,7 +110,8 @@ goes_on steps before first part end new more rest now then so e yields o compare
 -- ---- one call of a walk
 
 sum_of-append : (xs ys : List Sum) → sum_of (xs ++ ys) ≡ joined (sum_of xs) (sum_of ys)
-sum_of-append xs ys = same_sum (sum_of (xs ++ ys)) (joined (sum_of xs) (sum_of ys)) (total-append (λ (p : Sum). p.fee) xs ys) (sum_by-append (λ (p : Sum). p.size) xs ys)
+sum_of-append xs ys =
+    same_sum (sum_of (xs ++ ys)) (joined (sum_of xs) (sum_of ys)) (total-append (λ (p : Sum). p.fee) xs ys) (sum_by-append (λ (p : Sum). p.size) xs ys)
 
 -- behind a front, parts of a level are still those of a level
 pub level_rest : (before end : Sum) (front after : List Sum) → FitBehind before (front ++ after) → end ≡ joined before (sum_of front) → FitBehind end after
@@ -112,7 +120,8 @@ level_rest before end front after level e = record {
   some = λ part h. level.some part (Contains-append_right front after part h);
   ranged = λ part h. level.ranged part (Contains-append_right front after part h);
   fits = λ early late there.
-      let sums : joined before (sum_of (front ++ early)) ≡ joined end (sum_of early) = ap (λ s. joined before s) (sum_of-append front early) ∙ sym (plus_assoc before (sum_of front) (sum_of early)) ∙ ap (λ s. joined s (sum_of early)) (sym e) in
+      let sums : joined before (sum_of (front ++ early)) ≡ joined end (sum_of early) = ap (λ s. joined before s) (sum_of-append front early)
+      ∙ sym (plus_assoc before (sum_of front) (sum_of early)) ∙ ap (λ s. joined s (sum_of early)) (sym e) in
       subst IsSum sums (level.fits (front ++ early) late (ap (λ zs. front ++ zs) there ∙ sym (append_assoc front early late)));
 }
 
@@ -140,13 +149,15 @@ corners_none End end segments e none = ap (ends_from end) none
 no_segments : (segments : List Sum) → JoinsEqualRates [] segments → segments ≡ []
 no_segments segments joins = joins.sums ∙ no_groups joins.groups joins.all joins.filled
   where
-    no_groups : (groups : List (List Sum)) → [] ≡ flat_map (λ group. group) groups → ((group : List Sum) → Contains groups group → group ≢ []) → map sum_of groups ≡ []
+    no_groups : (groups : List (List Sum)) → [] ≡ flat_map (λ group. group) groups
+        → ((group : List Sum) → Contains groups group → group ≢ []) → map sum_of groups ≡ []
     no_groups [] all filled = refl
     no_groups ([] ∷ gs) all filled = absurd (filled [] (0, omega arith, refl) refl)
     no_groups ((x ∷ g) ∷ gs) all filled = absurd (not_empty (sym all))
 
 -- the first call gives the end at hand
-pub first_step : {S : Type 0} (steps : S → Option FeeRate → S → Type 0) (Fact : Type 0) (s t : Corners S) (corners : List (ℕ × ℤ)) → HasCorners steps s corners → s.ahead ≡ Unknown → t.end ≡ s.end
+pub first_step : {S : Type 0} (steps : S → Option FeeRate → S → Type 0) (Fact : Type 0) (s t : Corners S) (corners : List (ℕ × ℤ))
+    → HasCorners steps s corners → s.ahead ≡ Unknown → t.end ≡ s.end
     → ((rest : List Sum) → AlwaysYields steps rate_of s.parts rest → AreLeft steps t rest) → WhereTaken t.ahead Fact
     → (others : List (ℕ × ℤ)) × (corners ≡ (t.end.size, t.end.fee) ∷ others) × HasCorners steps t others
 first_step steps Fact s t corners has ahead end left goes =
@@ -164,15 +175,19 @@ first_step steps Fact s t corners has ahead end left goes =
       },
     )
 
-later_are : (corners : List (ℕ × ℤ)) (a : Ahead) (first end new : Sum) (group segments others : List Sum) → corners ≡ corners_from a end segments → a ≡ Part first → segments ≡ sum_of (first ∷ group) ∷ others
+later_are : (corners : List (ℕ × ℤ)) (a : Ahead) (first end new : Sum) (group segments others : List Sum)
+    → corners ≡ corners_from a end segments → a ≡ Part first → segments ≡ sum_of (first ∷ group) ∷ others
     → new ≡ joined end (sum_of (first ∷ group)) → corners ≡ (new.size, new.fee) ∷ ends_from new others
 later_are corners a first end new group segments others are ahead cut sum =
-    let all : corners_from a end segments ≡ ends_from end (sum_of (first ∷ group) ∷ others) = corners_later a first end segments ahead ∙ ap (ends_from end) cut in
-    let moved : ends_from end (sum_of (first ∷ group) ∷ others) ≡ (new.size, new.fee) ∷ ends_from new others = λ i. ((sym sum i).size, (sym sum i).fee) ∷ ends_from (sym sum i) others in
+    let all : corners_from a end segments ≡ ends_from end (sum_of (first ∷ group) ∷ others) =
+    corners_later a first end segments ahead ∙ ap (ends_from end) cut in
+    let moved : ends_from end (sum_of (first ∷ group) ∷ others) ≡ (new.size, new.fee) ∷ ends_from new others =
+    λ i. ((sym sum i).size, (sym sum i).fee) ∷ ends_from (sym sum i) others in
     are ∙ all ∙ moved
 
 -- a later call gives the end of the segment of the parts that it takes
-pub later_step : {S : Type 0} (steps : S → Option FeeRate → S → Type 0) (Fact : Type 0) (first : Sum) (s t : Corners S) (corners : List (ℕ × ℤ)) → EqualRatesJoinOnce → HasCorners steps s corners → s.ahead ≡ Part first
+pub later_step : {S : Type 0} (steps : S → Option FeeRate → S → Type 0) (Fact : Type 0) (first : Sum) (s t : Corners S) (corners : List (ℕ × ℤ))
+    → EqualRatesJoinOnce → HasCorners steps s corners → s.ahead ≡ Part first
     → ((more : List Sum) → AlwaysYields steps rate_of s.parts more → TakesSegment steps s.end first more t) → WhereTaken t.ahead Fact
     → (others : List (ℕ × ℤ)) × (corners ≡ (t.end.size, t.end.fee) ∷ others) × HasCorners steps t others
 later_step steps Fact first s t corners law has ahead takes goes =
@@ -180,7 +195,8 @@ later_step steps Fact first s t corners law has ahead takes goes =
     let took = takes yields.0 yields.2 in
     let all : has.rest ≡ first ∷ took.group ++ took.after = yields.1 ∙ ap (λ zs. first ∷ zs) took.all in
     let level : FitBehind s.end (first ∷ took.group ++ took.after) = subst (FitBehind s.end) all has.level in
-    let cut = law.first first took.group took.after has.segments level.some level.falling took.same took.lower (subst (λ zs. JoinsEqualRates zs has.segments) all has.joins) in (
+    let cut = law.first first took.group took.after has.segments level.some level.falling took.same took.lower
+    (subst (λ zs. JoinsEqualRates zs has.segments) all has.joins) in (
       ends_from t.end cut.0,
       later_are corners s.ahead first s.end t.end took.group has.segments cut.0 has.are ahead cut.1 took.end,
       record {
@@ -194,24 +210,29 @@ later_step steps Fact first s t corners law has ahead takes goes =
     )
 
 -- at the end no corner is left
-pub end_step : {S : Type 0} (steps : S → Option FeeRate → S → Type 0) (s : Corners S) (corners : List (ℕ × ℤ)) → HasCorners steps s corners → s.ahead ≡ End → corners ≡ []
+pub end_step : {S : Type 0} (steps : S → Option FeeRate → S → Type 0) (s : Corners S) (corners : List (ℕ × ℤ))
+    → HasCorners steps s corners → s.ahead ≡ End → corners ≡ []
 end_step steps s corners has ahead =
     let none : has.rest ≡ [] = subst (λ a. AreAhead a (AlwaysYields steps rate_of s.parts) has.rest) ahead has.left in
     has.are ∙ corners_none s.ahead s.end has.segments ahead (no_segments has.segments (subst (λ zs. JoinsEqualRates zs has.segments) none has.joins))
 
 -- ---- a walk may go on, and ends
-callable_after : {S : Type 0} (can : S → Type 0) (left : S → Count) (s t : S) (a : Ahead) → WhereTaken a (IsNearerEnd can left s t) → UnlessEnded a (can t × IsFinite (left t))
+callable_after : {S : Type 0} (can : S → Type 0) (left : S → Count) (s t : S) (a : Ahead)
+    → WhereTaken a (IsNearerEnd can left s t) → UnlessEnded a (can t × IsFinite (left t))
 callable_after can left s t Unknown goes = absurd goes
 callable_after can left s t (Part first) goes = (goes.0, goes.1)
 callable_after can left s t End goes = tt
 
-pub count_after : {S : Type 0} (can : S → Type 0) (left : S → Count) (s t : S) (a : Ahead) → WhereTaken a (IsNearerEnd can left s t) → IsFinite (corners_count a (left t)) × (size (corners_count a (left t)) < size (left s) + 1)
+pub count_after : {S : Type 0} (can : S → Type 0) (left : S → Count) (s t : S) (a : Ahead) → WhereTaken a (IsNearerEnd can left s t)
+    → IsFinite (corners_count a (left t)) × (size (corners_count a (left t)) < size (left s) + 1)
 count_after can left s t Unknown goes = absurd goes
 count_after can left s t (Part first) goes = (goes.1, omega (arith, goes.2))
 count_after can left s t End goes = (tt, omega arith)
 
-pub first_goes : {S : Type 0} (can : S → Type 0) (steps : S → Option FeeRate → S → Type 0) (left : S → Count) (s t : Corners S) → CanGoOn can steps left s → s.ahead ≡ Unknown → t.end ≡ s.end
-    → ((rest : List Sum) → AlwaysYields steps rate_of s.parts rest → AreLeft steps t rest) → WhereTaken t.ahead (IsNearerEnd can left s.parts t.parts) → CanGoOn can steps left t
+pub first_goes : {S : Type 0} (can : S → Type 0) (steps : S → Option FeeRate → S → Type 0) (left : S → Count) (s t : Corners S)
+    → CanGoOn can steps left s → s.ahead ≡ Unknown → t.end ≡ s.end
+    → ((rest : List Sum) → AlwaysYields steps rate_of s.parts rest → AreLeft steps t rest)
+    → WhereTaken t.ahead (IsNearerEnd can left s.parts t.parts) → CanGoOn can steps left t
 first_goes can steps left s t go ahead end rests goes = record {
   callable = callable_after can left s.parts t.parts t.ahead goes;
   rest = go.rest;
@@ -219,8 +240,10 @@ first_goes can steps left s t go ahead end rests goes = record {
   level = subst (λ e. FitBehind e go.rest) (sym end) go.level;
 }
 
-pub later_goes : {S : Type 0} (can : S → Type 0) (steps : S → Option FeeRate → S → Type 0) (left : S → Count) (first : Sum) (s t : Corners S) → CanGoOn can steps left s → s.ahead ≡ Part first
-    → ((more : List Sum) → AlwaysYields steps rate_of s.parts more → TakesSegment steps s.end first more t) → WhereTaken t.ahead (IsNearerEnd can left s.parts t.parts) → CanGoOn can steps left t
+pub later_goes : {S : Type 0} (can : S → Type 0) (steps : S → Option FeeRate → S → Type 0) (left : S → Count) (first : Sum) (s t : Corners S)
+    → CanGoOn can steps left s → s.ahead ≡ Part first
+    → ((more : List Sum) → AlwaysYields steps rate_of s.parts more → TakesSegment steps s.end first more t)
+    → WhereTaken t.ahead (IsNearerEnd can left s.parts t.parts) → CanGoOn can steps left t
 later_goes can steps left first s t go ahead takes goes =
     let yields = subst (λ a. AreAhead a (AlwaysYields steps rate_of s.parts) go.rest) ahead go.are in
     let took = takes yields.0 yields.2 in

@@ -3,7 +3,8 @@ use Rattle.diagram.proofs.comparison.verdict.Goals as goal
 
 pub loop-here-init : goal.loop-here-init
 loop-here-init g c = record {
-  walks = λ xs ys one other. walks_start g.A.Iterator.next_gives g.B.Iterator.next_gives c.new-a.result c.new-b.result xs ys one.level other.level (c.new-a.ensures.points xs one) (c.new-b.ensures.points ys other);
+  walks = λ xs ys one other. walks_start g.A.Iterator.next_gives g.B.Iterator.next_gives c.new-a.result c.new-b.result xs ys one.level other.level
+      (c.new-a.ensures.points xs one) (c.new-b.ensures.points ys other);
   a_ready = c.new-a.ensures.ready;
   b_ready = c.new-b.ensures.ready;
 }
@@ -18,14 +19,16 @@ returns-in-Incomparable g c xs ys one other =
     let walks = c.loop-here.invariant.walks xs ys one other in
     let step = c.in-Some.ensures.moves walks.cs walks.ds walks.at walks.first walks.second walks.first_stands walks.second_stands in
     walks_stop g.A.Iterator.next_gives g.B.Iterator.next_gives c.step.new.a c.step.new.b c.and_there-found.result xs ys
-    (walks_go g.A.Iterator.next_gives g.B.Iterator.next_gives c.loop-here.a c.step.new.a c.loop-here.b c.step.new.b c.loop-here.found c.and_there-found.result xs ys c.in-Some.here walks step c.and_there-found.ensures)
+    (walks_go g.A.Iterator.next_gives g.B.Iterator.next_gives c.loop-here.a c.step.new.a c.loop-here.b c.step.new.b
+    c.loop-here.found c.and_there-found.result xs ys c.in-Some.here walks step c.and_there-found.ensures)
     c.in-Incomparable.is
 
 pub loop-here-preserved : goal.loop-here-preserved
 loop-here-preserved g c = record {
   walks = λ xs ys one other.
       let walks = c.loop-here.invariant.walks xs ys one other in
-      walks_go g.A.Iterator.next_gives g.B.Iterator.next_gives c.loop-here.a c.step.new.a c.loop-here.b c.step.new.b c.loop-here.found c.and_there-found.result xs ys c.in-Some.here walks
+      walks_go g.A.Iterator.next_gives g.B.Iterator.next_gives c.loop-here.a c.step.new.a c.loop-here.b
+      c.step.new.b c.loop-here.found c.and_there-found.result xs ys c.in-Some.here walks
       (c.in-Some.ensures.moves walks.cs walks.ds walks.at walks.first walks.second walks.first_stands walks.second_stands) c.and_there-found.ensures;
   a_ready = c.in-Some.ensures.a_ready;
   b_ready = c.in-Some.ensures.b_ready;

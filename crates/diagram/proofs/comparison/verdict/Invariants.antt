@@ -6,7 +6,8 @@ use Rattle.diagram.proofs.comparison.verdict.Given as goal
 
 abbrev pub invariant-loop-here : goal.invariant-loop-here
 invariant-loop-here g l = record {
-  walks : (xs ys : List (ℕ × ℤ)) → YieldsCorners g.A.Iterator.next_gives l.fn.a xs → YieldsCorners g.B.Iterator.next_gives l.fn.b ys → Walks g.A.Iterator.next_gives g.B.Iterator.next_gives l.a l.b l.found xs ys;
+  walks : (xs ys : List (ℕ × ℤ)) → YieldsCorners g.A.Iterator.next_gives l.fn.a xs → YieldsCorners g.B.Iterator.next_gives l.fn.b ys
+      → Walks g.A.Iterator.next_gives g.B.Iterator.next_gives l.a l.b l.found xs ys;
   a_ready : IsReady g.A.Iterator.can_next g.A.Iterator.remaining l.a;
   b_ready : IsReady g.B.Iterator.can_next g.B.Iterator.remaining l.b;
 }

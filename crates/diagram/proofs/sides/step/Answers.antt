@@ -31,7 +31,8 @@ returns-in-First-clause-moves g c cs ds x first second at_first at_second =
       c.in-First.corner.0,
       found.3,
       second,
-      first_moves g.B.Iterator.next_gives c.args.b.now cs ds found.1 x found.0 c.in-First.corner c.compare_point-here.result found.2 second at_first at_second c.in-First.ensures.1 c.compare_point-here.ensures,
+      first_moves g.B.Iterator.next_gives c.args.b.now cs ds found.1 x found.0 c.in-First.corner
+          c.compare_point-here.result found.2 second at_first at_second c.in-First.ensures.1 c.compare_point-here.ensures,
     )
 
 pub returns-in-Second-clause-moves : goal.returns-in-Second-clause-moves
@@ -44,5 +45,6 @@ returns-in-Second-clause-moves g c cs ds x first second at_first at_second =
       first,
       found.3,
       subst (λ r. Moves cs ds x cs (c.in-Second.corner ∷ found.1) c.in-Second.corner.0 r) (sym c.reverse.ensures)
-          (second_moves g.A.Iterator.next_gives c.args.a.now cs ds found.1 x found.0 c.in-Second.corner o found.2 first at_first at_second c.in-Second.ensures.1 c.compare_point-here-in-Second.ensures),
+          (second_moves g.A.Iterator.next_gives c.args.a.now cs ds found.1 x found.0 c.in-Second.corner o
+          found.2 first at_first at_second c.in-Second.ensures.1 c.compare_point-here-in-Second.ensures),
     )

@@ -7,7 +7,8 @@ use Rattle.diagram.proofs.segments.Corners.take_segment.Given as goal
 
 abbrev pub invariant-loop-rate : goal.invariant-loop-rate
 invariant-loop-rate g l = record {
-  so_far : (more : List Sum) → AlwaysYields g.I.Iterator.next_gives rate_of l.fn.self.parts more → SoFar g.I.Iterator.next_gives l.fn.self.end l.first more l.self.parts l.self.end;
+  so_far : (more : List Sum) → AlwaysYields g.I.Iterator.next_gives rate_of l.fn.self.parts more
+      → SoFar g.I.Iterator.next_gives l.fn.self.end l.first more l.self.parts l.self.end;
   callable : g.I.Iterator.can_next l.self.parts;
   finite : IsFinite (g.I.Iterator.remaining l.self.parts);
   fewer : size (g.I.Iterator.remaining l.self.parts) ≤ size (g.I.Iterator.remaining l.fn.self.parts);
