@@ -26,7 +26,8 @@ record IsAside (first now : State) : Type 0 where
 
 -- with a staging, the top level is the staging
 staged_top : (p : PlainState) (graph top : Graph) → p.staging ≡ Some graph → with_top p top ≡ record p { staging = Some top }
-staged_top p graph top is = ap (λ (o : Option Graph). elim o as (λ _. PlainState) [ None ↦ record p { main = top } | Some _ ↦ record p { staging = Some top } ]) is
+staged_top p graph top is =
+    ap (λ (o : Option Graph). elim o as (λ _. PlainState) [ None ↦ record p { main = top } | Some _ ↦ record p { staging = Some top } ]) is
 
 is_staged : (p : PlainState) (graph : Graph) → p.staging ≡ Some graph → IsStaged p
 is_staged p graph is = ap is_some is
@@ -107,11 +108,13 @@ refused_by why holds row = elim row [ inl here ↦ some_none _ (sym here.1) | in
 accepted : (first old new : State) (command : Command) (reply : Reply) → IsAside first old → LeavesMain command reply → RefusalIs old.plain command None
     → Accepts old command reply new → IsAside first new
 accepted first old new (SetLimits count size total) reply aside leaves row accepts = absurd (refused_by _ aside.begins row)
-accepted first old new (Add id fee size) reply aside leaves row accepts = adds first old new aside id fee size (not_taken old.plain id fee size row) accepts.plain.change accepts.picks
+accepted first old new (Add id fee size) reply aside leaves row accepts =
+    adds first old new aside id fee size (not_taken old.plain id fee size row) accepts.plain.change accepts.picks
 accepted first old new (Dep parent child) reply aside leaves row accepts =
     pairs first old new aside parent child (subst (λ r. Accepts old (Dep parent child) r new) accepts.plain.answer accepts)
 accepted first old new (SetFee id fee) reply aside leaves row accepts = absurd (leaves accepts.plain.answer)
-accepted first old new (Remove id) reply aside leaves row accepts = let change = accepts.plain.change in removes first old new aside change.0 change.2 accepts.picks
+accepted first old new (Remove id) reply aside leaves row accepts = let change = accepts.plain.change in
+    removes first old new aside change.0 change.2 accepts.picks
 accepted first old new (Mine ids) reply aside leaves row accepts = absurd (refused_by _ (is_staged old.plain aside.graph aside.open_is) row)
 accepted first old new Evict reply aside leaves row accepts = absurd (refused_by _ (is_staged old.plain aside.graph aside.open_is) row)
 accepted first old new Stage reply aside leaves row accepts = absurd (refused_by _ (is_staged old.plain aside.graph aside.open_is) row)
@@ -130,7 +133,8 @@ accepted first old new (Before a b) reply aside leaves row accepts = reads first
 accepted first old new (Block size) reply aside leaves row accepts = reads first old new aside accepts.plain.change accepts.picks
 accepted first old new (Count level) reply aside leaves row accepts = reads first old new aside accepts.plain.change accepts.picks
 
-one_step : (first old new : State) (command : Command) (reply : Reply) → IsAside first old → LeavesMain command reply → Step old command reply new → IsAside first new
+one_step : (first old new : State) (command : Command) (reply : Reply) → IsAside first old
+    → LeavesMain command reply → Step old command reply new → IsAside first new
 one_step first old new command reply aside leaves step = elim step [
   | inl refused ↦ subst (IsAside first) (sym refused.same) aside
   | inr rest ↦ elim rest [
@@ -175,7 +179,8 @@ closes first old new aside step =
     let fine = was_accepted old new Abort step in
     let forgets : Forgets (record (begun old.plain) { staging = None }) new.plain = fine.1.plain.change in
     let main : new.plain.main ≡ old.plain.main = ap (λ (p : PlainState). p.main) forgets.same in
-    let within : (id : ℕ) → Contains first.plain.main.names id → Contains old.plain.main.names id = λ id. subst (λ (g : Graph). Contains g.names id) (sym aside.same.graph) in
+    let within : (id : ℕ) → Contains first.plain.main.names id → Contains old.plain.main.names id =
+    λ id. subst (λ (g : Graph). Contains g.names id) (sym aside.same.graph) in
     let rates : HaveSameRates old.plain.table new.plain.table first.plain.main = λ id here. ap sum_in (forgets.kept id (inl (within id here))) in
     record {
       graph = main ∙ aside.same.graph;

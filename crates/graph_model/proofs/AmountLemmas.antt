@@ -32,7 +32,8 @@ hit id amount x = cond (nat_eq id x) amount 0
 misses : (id amount : ℕ) (xs : List ℕ) → (Contains xs id → ⊥) → sum_by (hit id amount) xs ≡ 0
 misses id amount [] none = refl
 misses id amount (x ∷ xs) none =
-    let first : cond (nat_eq id x) amount 0 ≡ 0 = ap (λ b. cond b amount 0) (ne_eqb id x (λ e. none (subst (Contains (x ∷ xs)) (sym e) (Contains-head x xs)))) in
+    let first : cond (nat_eq id x) amount 0 ≡ 0 =
+    ap (λ b. cond b amount 0) (ne_eqb id x (λ e. none (subst (Contains (x ∷ xs)) (sym e) (Contains-head x xs)))) in
     let rest : sum_by (hit id amount) xs ≡ 0 = misses id amount xs (λ h. none (Contains-later x id xs h)) in
     omega (arith, sum_by-cons (hit id amount) x xs)
 
@@ -52,15 +53,18 @@ hits_once id amount (x ∷ xs) once here = elim (cases_eq id x) [
 
 module _ (set : List ℕ) (once : AreDistinct set) where
   given_more : (flow : Flow) (flows : List Flow) → sum_by (given (flow ∷ flows)) set ≡ sum_by (hit flow.child flow.amount) set + sum_by (given flows) set
-  given_more flow flows = (λ i. sum_by (λ id. sum_by-cons (λ f. hit f.child f.amount id) flow flows i) set) ∙ sum_by-add (hit flow.child flow.amount) (given flows) set
+  given_more flow flows = (λ i. sum_by (λ id. sum_by-cons (λ f. hit f.child f.amount id) flow flows i) set)
+      ∙ sum_by-add (hit flow.child flow.amount) (given flows) set
 
   gotten_more : (flow : Flow) (flows : List Flow) → sum_by (gotten (flow ∷ flows)) set ≡ sum_by (hit flow.parent flow.amount) set + sum_by (gotten flows) set
-  gotten_more flow flows = (λ i. sum_by (λ id. sum_by-cons (λ f. hit f.parent f.amount id) flow flows i) set) ∙ sum_by-add (hit flow.parent flow.amount) (gotten flows) set
+  gotten_more flow flows = (λ i. sum_by (λ id. sum_by-cons (λ f. hit f.parent f.amount id) flow flows i) set)
+      ∙ sum_by-add (hit flow.parent flow.amount) (gotten flows) set
 
   abbrev Stays : List Flow → Type 0
   Stays flows = (flow : Flow) → Contains flows flow → Contains set flow.child → Contains set flow.parent
 
-  one_flow : (flow : Flow) → (Contains set flow.child → Contains set flow.parent) → sum_by (hit flow.child flow.amount) set ≤ sum_by (hit flow.parent flow.amount) set
+  one_flow : (flow : Flow) → (Contains set flow.child → Contains set flow.parent)
+      → sum_by (hit flow.child flow.amount) set ≤ sum_by (hit flow.parent flow.amount) set
   one_flow flow stays = elim (told_member set flow.child) [
     | inl here ↦ omega (arith, hits_once flow.child flow.amount set once here, hits_once flow.parent flow.amount set once (stays here))
     | inr none ↦ omega (arith, misses flow.child flow.amount set none)
@@ -77,7 +81,8 @@ module _ (set : List ℕ) (once : AreDistinct set) where
   )
 
   -- a flow that comes in from outside is lacking inside
-  lacks : (flows : List Flow) (into : Flow) → Contains flows into → Stays flows → Contains set into.parent → (Contains set into.child → ⊥) → sum_by (given flows) set + into.amount ≤ sum_by (gotten flows) set
+  lacks : (flows : List Flow) (into : Flow) → Contains flows into → Stays flows → Contains set into.parent
+      → (Contains set into.child → ⊥) → sum_by (given flows) set + into.amount ≤ sum_by (gotten flows) set
   lacks [] into here stays parent child = absurd (omega (arith, here.1))
   lacks (flow ∷ flows) into here stays parent child =
       let later : Stays flows = λ other there. stays other (Contains-later flow other flows there) in
@@ -91,7 +96,8 @@ module _ (set : List ℕ) (once : AreDistinct set) where
           hits_once flow.parent flow.amount set once (subst (λ (f : Flow). Contains set f.parent) (sym same) parent),
           ap (λ (f : Flow). f.amount) same,
         )
-        | inr there ↦ omega (arith, given_more flow flows, gotten_more flow flows, one_flow flow (stays flow (Contains-head flow flows)), lacks flows into there later parent child)
+        | inr there ↦ omega
+            (arith, given_more flow flows, gotten_more flow flows, one_flow flow (stays flow (Contains-head flow flows)), lacks flows into there later parent child)
       ]
 
 -- ---- bounds
@@ -110,7 +116,8 @@ pub record IsSmallSum (sum : Sum) : Type 0 where
   pub fee : unsigned_abs sum.fee ≤ MAX_FEE * 128
   pub size : sum.size ≤ MAX_SIZE * 128
 
-pub small_sum : (rate : ℕ → Sum) (ids : List ℕ) → length ids ≤ 128 → ((id : ℕ) → Contains ids id → IsFee (rate id).fee × IsSize (rate id).size) → IsSmallSum (sums rate ids)
+pub small_sum : (rate : ℕ → Sum) (ids : List ℕ) → length ids ≤ 128
+    → ((id : ℕ) → Contains ids id → IsFee (rate id).fee × IsSize (rate id).size) → IsSmallSum (sums rate ids)
 small_sum rate ids few fine =
     let fees = total_within (λ id. (rate id).fee) MAX_FEE ids (all_of (λ id. unsigned_abs ((rate id).fee) ≤ MAX_FEE) ids (λ id here. (fine id here).0)) in
     let sizes = sizes_within (λ id. (rate id).size) MAX_SIZE ids (λ id here. (fine id here).1.1) in
@@ -130,18 +137,23 @@ lacking : (w : ℤ) (out come amount : ℕ) → w ≡ pos out -ℤ pos come → 
 lacking w out come amount is less = omega (arith, ints)
 
 -- a flow into the first names of a part, from outside them
-pub amount_small : (rate : ℕ → Sum) (IsLink : ℕ → ℕ → Type 0) (ids front : List ℕ) (flows : List Flow) (into : Flow) → Certifies rate IsLink ids flows → AreDistinct front
+pub amount_small : (rate : ℕ → Sum) (IsLink : ℕ → ℕ → Type 0) (ids front : List ℕ) (flows : List Flow) (into : Flow)
+    → Certifies rate IsLink ids flows → AreDistinct front
     → ((id : ℕ) → Contains front id → Contains ids id) → Contains flows into
-    → ((flow : Flow) → Contains flows flow → Contains front flow.child → Contains front flow.parent) → Contains front into.parent → (Contains front into.child → ⊥)
+    → ((flow : Flow) → Contains flows flow → Contains front flow.child → Contains front flow.parent)
+    → Contains front into.parent → (Contains front into.child → ⊥)
     → IsSmallSum (sums rate ids) → IsSmallSum (sums rate front) → into.amount ≤ 10 ^ 30
 amount_small rate IsLink ids front flows into certified once inside here stays parent child whole own =
     let balance : total (λ id. weight_in (sums rate ids) (rate id)) front ≡ total (λ id. pos (given flows id) -ℤ pos (gotten flows id)) front =
-    total_along (λ id. weight_in (sums rate ids) (rate id)) (λ id. pos (given flows id) -ℤ pos (gotten flows id)) front (λ id there. certified.balanced id (inside id there)) in
+    total_along (λ id. weight_in (sums rate ids) (rate id)) (λ id. pos (given flows id) -ℤ pos (gotten flows id)) front
+    (λ id there. certified.balanced id (inside id there)) in
     let apart = total-sub (λ id. pos (given flows id)) (λ id. pos (gotten flows id)) front in
     let out = total-pos (given flows) front in
     let come = total-pos (gotten flows) front in
     let weight = weight_of_sums (sums rate ids) rate front in
-    let is : weight_in (sums rate ids) (sums rate front) ≡ pos (sum_by (given flows) front) -ℤ pos (sum_by (gotten flows) front) = omega (arith, ints, balance, apart, out, come, weight) in
+    let is : weight_in (sums rate ids) (sums rate front) ≡ pos (sum_by (given flows) front) -ℤ pos (sum_by (gotten flows) front) =
+    omega (arith, ints, balance, apart, out, come, weight) in
     let small = weight_small (sums rate ids) (sums rate front) whole own in
-    let less = lacking (weight_in (sums rate ids) (sums rate front)) (sum_by (given flows) front) (sum_by (gotten flows) front) into.amount is (lacks front once flows into here stays parent child) in
+    let less = lacking (weight_in (sums rate ids) (sums rate front)) (sum_by (given flows) front)
+    (sum_by (gotten flows) front) into.amount is (lacks front once flows into here stays parent child) in
     omega (arith, small, less)

@@ -23,13 +23,18 @@ use Rattle.graph_model.proofs.ValidLemmas.{told_member, row_on, row_at_on, le_st
 -- ---- the state with another top
 
 -- A valid state with another graph at the top: what is said of both cases, with a staging and without.
-pub of_top : (state : PlainState) (top : Graph) (P : PlainState → Type 0) → (state.staging ≡ None → P (record state { main = top })) → ((graph : Graph) → state.staging ≡ Some graph → P (record state { staging = Some top }))
+pub of_top : (state : PlainState) (top : Graph) (P : PlainState → Type 0) → (state.staging ≡ None → P (record state { main = top }))
+    → ((graph : Graph) → state.staging ≡ Some graph → P (record state { staging = Some top }))
     → P (with_top state top)
 of_top state top P alone both = by state.staging refl
   where
     by : (staging : Option Graph) → state.staging ≡ staging → P (with_top state top)
-    by None is = subst P (sym (ap (λ (o : Option Graph). elim o as (λ _. PlainState) [ None ↦ record state { main = top } | Some _ ↦ record state { staging = Some top } ]) is)) (alone is)
-    by (Some graph) is = subst P (sym (ap (λ (o : Option Graph). elim o as (λ _. PlainState) [ None ↦ record state { main = top } | Some _ ↦ record state { staging = Some top } ]) is)) (both graph is)
+    by None is = subst P
+        (sym (ap (λ (o : Option Graph). elim o as (λ _. PlainState) [ None ↦ record state { main = top } | Some _ ↦ record state { staging = Some top } ]) is))
+        (alone is)
+    by (Some graph) is = subst P
+        (sym (ap (λ (o : Option Graph). elim o as (λ _. PlainState) [ None ↦ record state { main = top } | Some _ ↦ record state { staging = Some top } ]) is))
+        (both graph is)
 
 pub top_is : (state : PlainState) (graph : Graph) → state.staging ≡ Some graph → level_of state Top ≡ graph
 top_is state graph is = ap (top_of state.main) is
@@ -86,10 +91,12 @@ module _ (old : PlainState) (id : ℕ) (fee : ℤ) (size : ℕ) (valid : IsValid
 
   few : finmap.len base.table ≤ old.limits.total
   few =
-      let long : finmap.len base.table ≡ cond (finmap.contains_key old.table id) (finmap.len old.table) (finmap.len old.table + 1) = finmap.len-insert nat_cmp_total old.table id entry in
+      let long : finmap.len base.table ≡ cond (finmap.contains_key old.table id) (finmap.len old.table) (finmap.len old.table + 1) =
+      finmap.len-insert nat_cmp_total old.table id entry in
       let none : cond (finmap.contains_key old.table id) (finmap.len old.table) (finmap.len old.table + 1) ≡ finmap.len old.table + 1 =
       ap (λ b. cond b (finmap.len old.table) (finmap.len old.table + 1)) (false_from_ne_true (finmap.contains_key old.table id) absent) in
-      let left : finmap.len old.table < old.limits.total = elim (cases_lt (finmap.len old.table) old.limits.total) [ inl less ↦ less | inr past ↦ absurd (room past) ] in
+      let left : finmap.len old.table < old.limits.total =
+      elim (cases_lt (finmap.len old.table) old.limits.total) [ inl less ↦ less | inr past ↦ absurd (room past) ] in
       omega arith
 
   rates : (q : ℕ) (e : Entry) → finmap.get base.table q ≡ Some e → IsFee e.fee × IsSize e.size
@@ -109,14 +116,16 @@ module _ (old : PlainState) (id : ℕ) (fee : ℤ) (size : ℕ) (valid : IsValid
     ]),
     λ is. ap is_some (ap (λ (t : Table). finmap.get t q) table) ∙ elim (cases_eq q id) [
       | inl same ↦ ap is_some (get-put_same old.table id q entry same)
-      | inr other ↦ ap is_some (get-put_other old.table id q entry other) ∙ (valid.live q).1 (elim ((kept q).0 is) [ inl was ↦ was | inr same ↦ absurd (other same) ])
+      | inr other ↦ ap is_some (get-put_other old.table id q entry other)
+          ∙ (valid.live q).1 (elim ((kept q).0 is) [ inl was ↦ was | inr same ↦ absurd (other same) ])
     ],
   )
 
   in_more : (graph : Graph) (q : ℕ) → Contains (with_more graph id).names q ↔ (Contains graph.names q ⊎ (q ≡ id))
   in_more graph q = (
     λ here. elim (Contains-push_cases graph.names id q here) [ inl was ↦ inl was | inr same ↦ inr (sym same) ],
-    λ here. elim here [ inl was ↦ Contains-append_left graph.names (id ∷ []) q was | inr same ↦ subst (Contains (with_more graph id).names) (sym same) (Contains-push graph.names id) ],
+    λ here.
+        elim here [ inl was ↦ Contains-append_left graph.names (id ∷ []) q was | inr same ↦ subst (Contains (with_more graph id).names) (sym same) (Contains-push graph.names id) ],
   )
 
   pub valid_added : IsValid (added old id fee size)
@@ -130,7 +139,8 @@ module _ (old : PlainState) (id : ℕ) (fee : ℤ) (size : ℕ) (valid : IsValid
             let as_top : level_of (record base { main = top }) Top ≡ top = ap (top_of top) alone in (
               λ kept. elim kept [
                 | inl here ↦ elim ((in_more (level_of old Top) q).0 here) [ inl was ↦ inl (inr was) | inr same ↦ inr same ]
-                | inr here ↦ elim ((in_more (level_of old Top) q).0 (subst (λ (g : Graph). Contains g.names q) as_top here)) [ inl was ↦ inl (inr was) | inr same ↦ inr same ]
+                | inr here ↦ elim ((in_more (level_of old Top) q).0
+                    (subst (λ (g : Graph). Contains g.names q) as_top here)) [ inl was ↦ inl (inr was) | inr same ↦ inr same ]
               ],
               λ is. inl ((in_more (level_of old Top) q).1 (elim is [
                 | inl kept ↦ elim kept [ inl main ↦ inl (subst (λ (g : Graph). Contains g.names q) (sym (top_main old alone)) main) | inr there ↦ inl there ]
@@ -164,7 +174,8 @@ module _ (old : PlainState) (id : ℕ) (fee : ℤ) (size : ℕ) (valid : IsValid
 -- ---- another graph at the top, of the names that it had
 
 -- A graph at the top with the names that the top had, within the limits: the table stays.
-retopped : (old : PlainState) (top : Graph) → IsValid old → IsLevel old top → ((q : ℕ) → Contains top.names q ↔ Contains (level_of old Top).names q) → IsValid (with_top (begun old) top)
+retopped : (old : PlainState) (top : Graph) → IsValid old → IsLevel old top
+    → ((q : ℕ) → Contains top.names q ↔ Contains (level_of old Top).names q) → IsValid (with_top (begun old) top)
 retopped old top valid level same = of_top (begun old) top IsValid
     (λ alone. record {
       limits = valid.limits;
@@ -173,7 +184,8 @@ retopped old top valid level same = of_top (begun old) top IsValid
       staging = subst (IsStaging (record (begun old) { main = top })) (sym alone) tt;
       live = λ q.
           let as_top : level_of (record (begun old) { main = top }) Top ≡ top = ap (top_of top) alone in (
-            λ live. inl ((same q).1 (elim ((valid.live q).0 live) [ inl main ↦ subst (λ (g : Graph). Contains g.names q) (sym (top_main old alone)) main | inr there ↦ there ])),
+            λ live. inl ((same q).1
+                (elim ((valid.live q).0 live) [ inl main ↦ subst (λ (g : Graph). Contains g.names q) (sym (top_main old alone)) main | inr there ↦ there ])),
             λ kept. (valid.live q).1 (inr ((same q).0 (elim kept [ inl here ↦ here | inr here ↦ subst (λ (g : Graph). Contains g.names q) as_top here ]))),
           );
       few = valid.few;
@@ -228,7 +240,8 @@ valid_paired old new parent child valid row adds = elim adds [
       } in
       let joint : IsLevel old (with_pair graph parent child) = level_joined old graph parent child level parent_in child_in
       (λ members joins. not_less old.limits.count (length members) (λ over. four.0 (length members) (members, joins, refl, over)))
-      (λ members joins. not_less old.limits.size (sum_by (size_of old.table) members) (λ over. five.0 (sum_by (size_of old.table) members) (members, joins, refl, over))) whole in
+      (λ members joins. not_less old.limits.size (sum_by (size_of old.table) members)
+      (λ over. five.0 (sum_by (size_of old.table) members) (members, joins, refl, over))) whole in
       subst IsValid (sym fresh.1) (retopped old (with_pair graph parent child) valid joint (λ q. (λ here. here, λ here. here)))
 ]
   where

@@ -26,9 +26,11 @@ place_front : (front rest : List ℕ) (a : ℕ) → Contains front a → place (
 unfolding place
 place_front [] rest a here = absurd (none_in_empty a here)
 place_front (y ∷ front) rest a here = elim (cases_eq y a) [
-  | inl same ↦ let e : cond (nat_eq y a) 0 (suc (place (front ++ rest) a)) ≡ 0 = ap (λ b. cond b 0 (suc (place (front ++ rest) a))) (eq-eqb y a same) in omega arith
+  | inl same ↦ let e : cond (nat_eq y a) 0 (suc (place (front ++ rest) a)) ≡ 0 = ap (λ b. cond b 0 (suc (place (front ++ rest) a))) (eq-eqb y a same) in
+      omega arith
   | inr other ↦
-      let e : cond (nat_eq y a) 0 (suc (place (front ++ rest) a)) ≡ suc (place (front ++ rest) a) = ap (λ b. cond b 0 (suc (place (front ++ rest) a))) (ne_eqb y a other) in
+      let e : cond (nat_eq y a) 0 (suc (place (front ++ rest) a)) ≡ suc (place (front ++ rest) a) =
+      ap (λ b. cond b 0 (suc (place (front ++ rest) a))) (ne_eqb y a other) in
       let later : Contains front a = elim (Contains-cases y a front here) [ inl same ↦ absurd (other same) | inr rest ↦ rest ] in
       let below : place (front ++ rest) a < length front = place_front front rest a later in
       omega arith
@@ -45,7 +47,8 @@ place_stands : (order : List ℕ) (a b : ℕ) → AreDistinct order → StandsBe
 place_stands order a b once (front, rest, cut, here) =
     let once_cut : AreDistinct (front ++ b ∷ rest) = subst (λ xs. AreDistinct xs) cut once in
     let first : place order a < length front = subst (λ xs. place xs a < length front) (sym cut) (place_front front (b ∷ rest) a here) in
-    let second : place order b ≡ length front = ap (λ xs. place xs b) cut ∙ place_at front rest b (λ there. distinct_apart front (b ∷ rest) b once_cut there (Contains-head b rest)) in
+    let second : place order b ≡ length front =
+    ap (λ xs. place xs b) cut ∙ place_at front rest b (λ there. distinct_apart front (b ∷ rest) b once_cut there (Contains-head b rest)) in
     omega arith
 
 pub not_before_itself : (order : List ℕ) (a : ℕ) → AreDistinct order → StandsBefore order a a → ⊥
@@ -103,7 +106,8 @@ search_told P told (y ∷ ys) = elim (told y) [
 
 -- ---- the graph of the covering pairs
 
-module _ (graph : Graph) (order : List ℕ) (edges : List (ℕ × ℕ)) (whole : IsGraph graph) (sorted : IsTopological graph order) (covers : ListsCovers graph order edges) where
+module _ (graph : Graph) (order : List ℕ) (edges : List (ℕ × ℕ)) (whole : IsGraph graph)
+    (sorted : IsTopological graph order) (covers : ListsCovers graph order edges) where
   pub edge_pairs : (a b : ℕ) → Contains edges (a, b) → Contains graph.pairs (a, b)
   edge_pairs a b here = covers_are_pairs graph.pairs a b ((covers.exact a b).0 here)
 

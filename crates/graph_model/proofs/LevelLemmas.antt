@@ -39,7 +39,8 @@ pub within : (f : ℕ → ℕ) (xs ys : List ℕ) → AreDistinct xs → ((q : �
 within f [] ys once inside = (omega arith, omega arith)
 within f (x ∷ xs) ys once inside =
     let cut = Contains-splits ys x (inside x (Contains-head x xs)) in
-    let rest = within f xs (cut.0 ++ cut.1) once.1 (λ q here. elim (other_than cut.0 cut.1 x q (subst (λ zs. Contains zs q) cut.2 (inside q (Contains-later x q xs here)))) [
+    let rest = within f xs (cut.0 ++ cut.1) once.1
+    (λ q here. elim (other_than cut.0 cut.1 x q (subst (λ zs. Contains zs q) cut.2 (inside q (Contains-later x q xs here)))) [
       | inl same ↦ absurd (once.0 (subst (Contains xs) same here))
       | inr there ↦ there
     ]) in
@@ -50,7 +51,8 @@ within f (x ∷ xs) ys once inside =
 -- sums over names of equal sizes
 pub same_sum : (f g : ℕ → ℕ) (xs : List ℕ) → ((q : ℕ) → Contains xs q → f q ≡ g q) → sum_by f xs ≡ sum_by g xs
 same_sum f g [] same = refl
-same_sum f g (x ∷ xs) same = omega (arith, sum_by-cons f x xs, sum_by-cons g x xs, same x (Contains-head x xs), same_sum f g xs (λ q here. same q (Contains-later x q xs here)))
+same_sum f g (x ∷ xs) same =
+    omega (arith, sum_by-cons f x xs, sum_by-cons g x xs, same x (Contains-head x xs), same_sum f g xs (λ q here. same q (Contains-later x q xs here)))
 
 -- ---- trails
 
@@ -132,8 +134,10 @@ connected_told [] a b = elim (cases_eq a b) [ inl same ↦ inl (0, same) | inr o
 connected_told (pair ∷ pairs) a b =
     let at : (x y : ℕ) → IsTold (AreConnected pairs x y) = λ x y. connected_told pairs x y in
     told_along _ _
-    (λ across. connects (pairs ++ pair ∷ []) (pair ∷ pairs) (λ x y here. one_pair (pair ∷ pairs) x y (turn_last pair pairs (x, y) here)) a b ((connected_across pairs pair.0 pair.1 a b).1 across))
-    (λ trail. (connected_across pairs pair.0 pair.1 a b).0 (connects (pair ∷ pairs) (pairs ++ pair ∷ []) (λ x y here. one_pair (pairs ++ pair ∷ []) x y (turn_first pair pairs (x, y) here)) a b trail))
+    (λ across. connects (pairs ++ pair ∷ []) (pair ∷ pairs) (λ x y here. one_pair (pair ∷ pairs) x y (turn_last pair pairs (x, y) here)) a b
+    ((connected_across pairs pair.0 pair.1 a b).1 across))
+    (λ trail. (connected_across pairs pair.0 pair.1 a b).0
+    (connects (pair ∷ pairs) (pairs ++ pair ∷ []) (λ x y here. one_pair (pairs ++ pair ∷ []) x y (turn_first pair pairs (x, y) here)) a b trail))
     (either_told _ _ (at a b) (either_told _ _ (both_told _ _ (at a pair.0) (at pair.1 b)) (both_told _ _ (at a pair.1) (at pair.0 b))))
 
 -- ---- a property that can be told has a list of its numbers
@@ -190,14 +194,17 @@ level_within was is old new limits whole inside connected sizes level =
       names = λ id here. level.names id (inside id here);
       count = λ ids of. subst (λ l. length ids ≤ l.count) (sym limits) (level.count ids (same ids of));
       size = λ ids of. subst (λ l. sum_by (size_of is.table) ids ≤ l.size) (sym limits)
-          (subst (λ n. n ≤ was.limits.size) (sym (same_sum (size_of is.table) (size_of was.table) ids (λ q here. sizes q (of.inside q here)))) (level.size ids (same ids of)));
+          (subst (λ n. n ≤ was.limits.size) (sym (same_sum (size_of is.table) (size_of was.table) ids (λ q here. sizes q (of.inside q here))))
+          (level.size ids (same ids of)));
     }
 
-pub same_level : (was is : PlainState) (graph : Graph) → is.limits ≡ was.limits → ((id : ℕ) → Contains graph.names id → size_of is.table id ≡ size_of was.table id) → IsLevel was graph → IsLevel is graph
+pub same_level : (was is : PlainState) (graph : Graph) → is.limits ≡ was.limits
+    → ((id : ℕ) → Contains graph.names id → size_of is.table id ≡ size_of was.table id) → IsLevel was graph → IsLevel is graph
 same_level was is graph limits sizes level = level_within was is graph graph limits level.whole (λ id here. here) (λ a b trail. trail) sizes level
 
 -- One more pair: what was apart makes one component within the limits, or nothing new is connected.
-module _ (state : PlainState) (graph : Graph) (parent child : ℕ) (level : IsLevel state graph) (parent_in : Contains graph.names parent) (child_in : Contains graph.names child)
+module _ (state : PlainState) (graph : Graph) (parent child : ℕ) (level : IsLevel state graph)
+    (parent_in : Contains graph.names parent) (child_in : Contains graph.names child)
     (few : (members : List ℕ) → JoinsTo graph.pairs parent child members → length members ≤ state.limits.count)
     (small : (members : List ℕ) → JoinsTo graph.pairs parent child members → sum_by (size_of state.table) members ≤ state.limits.size) where
   abbrev Joint : ℕ → Type 0
@@ -230,7 +237,8 @@ module _ (state : PlainState) (graph : Graph) (parent child : ℕ) (level : IsLe
       added (suc n) c trail = let rest = added n trail.0 trail.1 in (suc rest.0, (trail.0, rest.1, trail.2))
 
   -- of a component with the pair: connected without it, or all connected with one of its ends
-  apart : (ids : List ℕ) → AreOfOneComponent (with_pair graph parent child) ids → (AreConnected graph.pairs parent child → ⊥) → AreOfOneComponent graph ids ⊎ ((id : ℕ) → Contains ids id → Joint id)
+  apart : (ids : List ℕ) → AreOfOneComponent (with_pair graph parent child) ids
+      → (AreConnected graph.pairs parent child → ⊥) → AreOfOneComponent graph ids ⊎ ((id : ℕ) → Contains ids id → Joint id)
   apart [] of none = inl (record { once = tt; inside = λ id here. absurd (none_in_empty id here); together = λ a b here there. absurd (none_in_empty a here) })
   apart (x ∷ xs) of none =
       let across : (a b : ℕ) → Contains (x ∷ xs) a → Contains (x ∷ xs) b → AreConnected graph.pairs a b ⊎ (Joint a × Joint b) = λ a b here there.
@@ -253,7 +261,8 @@ module _ (state : PlainState) (graph : Graph) (parent child : ℕ) (level : IsLe
           once = of.once;
           inside = of.inside;
           together = λ a b here there.
-              let from : (q : ℕ) → Contains (x ∷ xs) q → AreConnected graph.pairs x q = λ q is. elim (across x q (Contains-head x xs) is) [ inl was ↦ was | inr both ↦ absurd (lone both.0) ] in
+              let from : (q : ℕ) → Contains (x ∷ xs) q → AreConnected graph.pairs x q =
+              λ q is. elim (across x q (Contains-head x xs) is) [ inl was ↦ was | inr both ↦ absurd (lone both.0) ] in
               joined a x b (back x a (from a here)) (from b there);
         })
       ]
@@ -268,10 +277,12 @@ module _ (state : PlainState) (graph : Graph) (parent child : ℕ) (level : IsLe
     ]
   ]
 
-  bounded : (ids : List ℕ) → AreOfOneComponent (with_pair graph parent child) ids → (length ids ≤ state.limits.count) × (sum_by (size_of state.table) ids ≤ state.limits.size)
+  bounded : (ids : List ℕ) → AreOfOneComponent (with_pair graph parent child) ids
+      → (length ids ≤ state.limits.count) × (sum_by (size_of state.table) ids ≤ state.limits.size)
   bounded ids of = elim (connected_told graph.pairs parent child) [
     | inl there ↦
-        let old : AreOfOneComponent graph ids = record { once = of.once; inside = of.inside; together = λ a b one two. no_more there a b (of.together a b one two) } in
+        let old : AreOfOneComponent graph ids =
+        record { once = of.once; inside = of.inside; together = λ a b one two. no_more there a b (of.together a b one two) } in
         (level.count ids old, level.size ids old)
     | inr none ↦ elim (apart ids of none) [
       | inl old ↦ (level.count ids old, level.size ids old)

@@ -76,7 +76,8 @@ joined_ids [] = refl
 joined_ids (p ∷ parts) = ap (λ ids. p.ids ++ ids) (joined_ids parts)
 
 module _ (plain : PlainState) (graph : Graph) (pick : List Part) (edges : List (ℕ × ℕ)) (valid : IsValid plain) (level : IsLevel plain graph)
-    (inside : (id : ℕ) → Contains graph.names id → IsKept plain id) (picked : IsPick (rate_of plain.table) graph pick) (covers : ListsCovers graph (order_of pick) edges) where
+    (inside : (id : ℕ) → Contains graph.names id → IsKept plain id)
+    (picked : IsPick (rate_of plain.table) graph pick) (covers : ListsCovers graph (order_of pick) edges) where
   abbrev rate : ℕ → Sum
   rate = rate_of plain.table
 
@@ -136,19 +137,25 @@ module _ (plain : PlainState) (graph : Graph) (pick : List Part) (edges : List (
       let cut = Contains-splits part.ids flow.child (certified.inside flow there).0 in
       let front : List ℕ = cut.0 in
       let once : AreDistinct (front ++ flow.child ∷ cut.1) = subst (λ xs. AreDistinct xs) cut.2 (part_once part here) in
-      let closed : IsClosedWithin graph.pairs part.ids front = part_front_closed graph (map (λ (p : Part). p.ids) pick) part.ids front (flow.child ∷ cut.1) part_sorted (part_listed part here) cut.2 in
+      let closed : IsClosedWithin graph.pairs part.ids front =
+      part_front_closed graph (map (λ (p : Part). p.ids) pick) part.ids front (flow.child ∷ cut.1) part_sorted (part_listed part here) cut.2 in
       let next : IsClosedWithin graph.pairs part.ids (front ++ flow.child ∷ []) =
-      part_front_closed graph (map (λ (p : Part). p.ids) pick) part.ids (front ++ flow.child ∷ []) cut.1 part_sorted (part_listed part here) (cut.2 ∙ sym (append_assoc front (flow.child ∷ []) cut.1)) in
-      let pair : (f : Flow) → Contains part.flows f → Contains graph.pairs (f.parent, f.child) = λ f is. covers_are_pairs graph.pairs f.parent f.child (certified.links f is) in
-      let parent : Contains front flow.parent = elim (Contains-push_cases front flow.child flow.parent (next.parents flow.parent flow.child (pair flow there) (certified.inside flow there).1 (Contains-push front flow.child))) [
+      part_front_closed graph (map (λ (p : Part). p.ids) pick) part.ids (front ++ flow.child ∷ []) cut.1 part_sorted
+      (part_listed part here) (cut.2 ∙ sym (append_assoc front (flow.child ∷ []) cut.1)) in
+      let pair : (f : Flow) → Contains part.flows f → Contains graph.pairs (f.parent, f.child) =
+      λ f is. covers_are_pairs graph.pairs f.parent f.child (certified.links f is) in
+      let parent : Contains front flow.parent = elim (Contains-push_cases front flow.child flow.parent
+      (next.parents flow.parent flow.child (pair flow there) (certified.inside flow there).1 (Contains-push front flow.child))) [
         | inl first ↦ first
         | inr same ↦ absurd ((certified.links flow there).other (sym same))
       ] in
-      amount_small rate (IsCover graph.pairs) part.ids front part.flows flow certified (distinct-append_left front (flow.child ∷ cut.1) once) closed.inside there
+      amount_small rate (IsCover graph.pairs) part.ids front part.flows flow certified
+      (distinct-append_left front (flow.child ∷ cut.1) once) closed.inside there
       (λ f is child. closed.parents f.parent f.child (pair f is) (certified.inside f is).1 child) parent
       (λ child. distinct_apart front (flow.child ∷ cut.1) flow.child once child (Contains-head flow.child cut.1))
       (part_sum part here)
-      (small_sum rate front (le_trans front part.ids (flow.child ∷ cut.1) cut.2 (few_names part here)) (λ id is. in_range id (in_order part id here (closed.inside id is))))
+      (small_sum rate front (le_trans front part.ids (flow.child ∷ cut.1) cut.2 (few_names part here))
+      (λ id is. in_range id (in_order part id here (closed.inside id is))))
     where
       le_trans : (xs zs ys : List ℕ) → zs ≡ xs ++ ys → length zs ≤ 128 → length xs ≤ 128
       le_trans xs zs ys cut few = omega (arith, length-append xs ys, ap length cut)
@@ -168,7 +175,8 @@ module _ (plain : PlainState) (graph : Graph) (pick : List Part) (edges : List (
         filled = picked.certificate.filled part here;
         ids = all_of (λ id. id < 2 ^ 64) part.ids (λ id there. small_name id (in_order part id here there));
         ends = all_of (λ (flow : Flow). (flow.child < 2 ^ 64) × (flow.parent < 2 ^ 64)) part.flows (λ flow there.
-            let both = (picked.certificate.flows part here).inside flow there in (small_name flow.child (in_order part flow.child here both.0), small_name flow.parent (in_order part flow.parent here both.1)));
+            let both = (picked.certificate.flows part here).inside flow there in
+            (small_name flow.child (in_order part flow.child here both.0), small_name flow.parent (in_order part flow.parent here both.1)));
         amounts = all_of (λ (flow : Flow). (1 ≤ flow.amount) × (flow.amount ≤ 10 ^ 30)) part.flows (λ flow there.
             ((picked.certificate.flows part here).some flow there, flow_small part flow here there));
       }
@@ -204,10 +212,12 @@ module _ (plain : PlainState) (graph : Graph) (pick : List Part) (edges : List (
 
   parts_plain : AllPlain (flat_map part_lines pick)
   parts_plain = all_joined part_lines pick (λ part here line is. elim (Contains-cases (chunk_line part) line (map flow_line part.flows) is) [
-    | inl same ↦ subst IsPlain same (chunk_plain part (part_types part here).fee (part_types part here).size (λ id there. small_name id (in_order part id here there)) (few_names part here))
+    | inl same ↦ subst IsPlain same (chunk_plain part (part_types part here).fee (part_types part here).size
+        (λ id there. small_name id (in_order part id here there)) (few_names part here))
     | inr later ↦ all_mapped flow_line part.flows (λ flow there.
         let both = (picked.certificate.flows part here).inside flow there in
-        flow_plain flow (small_name flow.child (in_order part flow.child here both.0)) (small_name flow.parent (in_order part flow.parent here both.1)) (flow_small part flow here there)) line later
+        flow_plain flow (small_name flow.child (in_order part flow.child here both.0))
+        (small_name flow.parent (in_order part flow.parent here both.1)) (flow_small part flow here there)) line later
   ])
 
   lines_plain : AllPlain (text_lines whole_text)
@@ -244,7 +254,8 @@ module _ (plain : PlainState) (graph : Graph) (pick : List Part) (edges : List (
   has_order : HasOrder (graph_of txs edges) pick
   has_order = record {
     topological = subst (λ (g : Graph). IsTopological g order) graph_is (edge_order graph order edges level.whole sorted covers);
-    together = λ part here a b one two. edge_connected graph order edges level.whole sorted covers a b (picked.certificate.order.together part here a b one two);
+    together =
+        λ part here a b one two. edge_connected graph order edges level.whole sorted covers a b (picked.certificate.order.together part here a b one two);
   }
 
   same_sums : (part : Part) → Contains pick part → sums rate part.ids ≡ sums (rate_in txs) part.ids
@@ -283,7 +294,8 @@ top_pick state valid = both state.plain.staging state.picks.staging valid.picks.
     both None (Some pick) none = absurd none
     both (Some graph) None none = absurd none
 
-of_level : (plain : PlainState) (graph : Graph) (pick : List Part) (text : Text) → IsValid plain → IsLevel plain graph → ((id : ℕ) → Contains graph.names id → IsKept plain id)
+of_level : (plain : PlainState) (graph : Graph) (pick : List Part) (text : Text) → IsValid plain
+    → IsLevel plain graph → ((id : ℕ) → Contains graph.names id → IsKept plain id)
     → IsPick (rate_of plain.table) graph pick → ProvesOrder plain.table graph pick text → Verifies (text_lines text) (Found Certified)
 of_level plain graph pick text valid level inside picked proves =
     let same : record { txs = map (tx_of (rate_of plain.table)) (order_of pick); edges = text.edges; parts = pick } ≡ text =
@@ -294,4 +306,5 @@ pub proofs_are_certificates : ProofsAreCertificates
 proofs_are_certificates state Main text valid proves =
     of_level state.plain state.plain.main state.picks.main text valid.plain valid.plain.main (λ id here. inl here) valid.picks.main proves
 proofs_are_certificates state Top text valid proves =
-    of_level state.plain (level_of state.plain Top) (pick_of state.picks Top) text valid.plain (top_level state.plain valid.plain) (λ id here. inr here) (top_pick state valid) proves
+    of_level state.plain (level_of state.plain Top) (pick_of state.picks Top) text valid.plain
+    (top_level state.plain valid.plain) (λ id here. inr here) (top_pick state valid) proves

@@ -33,7 +33,8 @@ add_row_along f s t l u f' s' t' l' u' size found fs ss ts ls us =
     first_along Fee fs (first_along Size ss (first_along Taken ts (first_along (ClusterSize size) ls (first_along Full us (λ none. none)))))
 
 -- the causes of a cycle need only agree where both names are there
-pub dep_row_along : (p q c p' q' c' : Type 0) (m l m' l' : ℕ → Type 0) (parent child : ℕ) (found : Option Refusal) → p ↔ p' → q ↔ q' → ((p → ⊥) → (q → ⊥) → c ↔ c')
+pub dep_row_along : (p q c p' q' c' : Type 0) (m l m' l' : ℕ → Type 0) (parent child : ℕ) (found : Option Refusal)
+    → p ↔ p' → q ↔ q' → ((p → ⊥) → (q → ⊥) → c ↔ c')
     → ((n : ℕ) → m n ↔ m' n) → ((n : ℕ) → l n ↔ l' n) → DepRow p q c m l parent child found → DepRow p' q' c' m' l' parent child found
 dep_row_along p q c p' q' c' m l m' l' parent child found ps qs cs ms ls row = elim row [
   | inl here ↦ inl (ps.0 here.0, here.1)
@@ -41,7 +42,8 @@ dep_row_along p q c p' q' c' m l m' l' parent child found ps qs cs ms ls row = e
     λ holds. on.0 (ps.1 holds),
     elim on.1 [
       | inl here ↦ inl (qs.0 here.0, here.1)
-      | inr more ↦ inr (λ holds. more.0 (qs.1 holds), first_along Cycle (cs on.0 more.0) (first_at_along Count ms (first_at_along ClusterSize ls (λ none. none))) more.1)
+      | inr more ↦
+          inr (λ holds. more.0 (qs.1 holds), first_along Cycle (cs on.0 more.0) (first_at_along Count ms (first_at_along ClusterSize ls (λ none. none))) more.1)
     ],
   )
 ]
@@ -61,7 +63,8 @@ end_lacks none = cc
 pub no_memory_in_row : (state : PlainState) (command : Command) → RefusalIs state command (Some Memory) → ⊥
 no_memory_in_row state (SetLimits count size total) = first_lacks Late (λ e. cc) (first_lacks Range (λ e. cc) end_lacks)
 no_memory_in_row state (Add id fee size) =
-    first_lacks Fee (λ e. cc) (first_lacks Size (λ e. cc) (first_lacks Taken (λ e. cc) (first_lacks (ClusterSize size) (λ e. cc) (first_lacks Full (λ e. cc) end_lacks))))
+    first_lacks Fee (λ e. cc)
+    (first_lacks Size (λ e. cc) (first_lacks Taken (λ e. cc) (first_lacks (ClusterSize size) (λ e. cc) (first_lacks Full (λ e. cc) end_lacks))))
 no_memory_in_row state (Dep parent child) =
     first_lacks (Unknown parent) (λ e. cc) (first_lacks (Unknown child) (λ e. cc) (first_lacks Cycle (λ e. cc)
     (first_at_lacks Count (λ n e. cc) (first_at_lacks ClusterSize (λ n e. cc) end_lacks))))
@@ -100,7 +103,8 @@ first_one cause why later more one other here there = elim here [
   | inr a ↦ elim there [ inl b ↦ absurd (a.0 b.0) | inr b ↦ more one other a.1 b.1 ]
 ]
 
-first_at_one : (cause : ℕ → Type 0) (why : ℕ → Refusal) (later : Option Refusal → Type 0) → ((m n : ℕ) → cause m → cause n → m ≡ n) → IsOne later → IsOne (FirstAt cause why later)
+first_at_one : (cause : ℕ → Type 0) (why : ℕ → Refusal) (later : Option Refusal → Type 0)
+    → ((m n : ℕ) → cause m → cause n → m ≡ n) → IsOne later → IsOne (FirstAt cause why later)
 first_at_one cause why later same more one other here there = elim here [
   | inl a ↦ elim there [ inl b ↦ a.2 ∙ ap (λ n. Some (why n)) (same a.0 b.0 a.1 b.1) ∙ sym b.2 | inr b ↦ absurd (b.0 a.0 a.1) ]
   | inr a ↦ elim there [ inl b ↦ absurd (a.0 b.0 b.1) | inr b ↦ more one other a.1 b.1 ]
@@ -138,12 +142,15 @@ one_refusal state (Add id fee size) =
     first_one _ Fee _ (first_one _ Size _ (first_one _ Taken _ (first_one _ (ClusterSize size) _ (first_one _ Full _ end_one))))
 one_refusal state (Dep parent child) =
     first_one _ (Unknown parent) _ (first_one _ (Unknown child) _ (first_one _ Cycle _
-    (first_at_one (OverCount state parent child) Count _ (λ m n one other. one.2 ∙ ap length (joins_once _ parent child one.0 other.0 one.1 other.1) ∙ sym other.2)
-    (first_at_one (OverSize state parent child) ClusterSize _ (λ m n one other. one.2 ∙ ap (sum_by _) (joins_once _ parent child one.0 other.0 one.1 other.1) ∙ sym other.2) end_one))))
+    (first_at_one (OverCount state parent child) Count _
+    (λ m n one other. one.2 ∙ ap length (joins_once _ parent child one.0 other.0 one.1 other.1) ∙ sym other.2)
+    (first_at_one (OverSize state parent child) ClusterSize _
+    (λ m n one other. one.2 ∙ ap (sum_by _) (joins_once _ parent child one.0 other.0 one.1 other.1) ∙ sym other.2) end_one))))
 one_refusal state (SetFee id fee) = first_one _ Fee _ (first_one _ (Unknown id) _ end_one)
 one_refusal state (Remove id) = first_one _ (Unknown id) _ end_one
 one_refusal state (Mine ids) =
-    first_one _ Staging _ (first_at_one (IsFirst _ ids) Twice _ (first_entry _ ids) (first_at_one (IsFirst _ ids) Unknown _ (first_entry _ ids) (first_at_one (IsFirst _ ids) Parent _ (first_entry _ ids) end_one)))
+    first_one _ Staging _ (first_at_one (IsFirst _ ids) Twice _ (first_entry _ ids)
+    (first_at_one (IsFirst _ ids) Unknown _ (first_entry _ ids) (first_at_one (IsFirst _ ids) Parent _ (first_entry _ ids) end_one)))
 one_refusal state Evict = first_one _ Staging _ (first_one _ Empty _ end_one)
 one_refusal state Stage = first_one _ Staging _ end_one
 one_refusal state Commit = first_one _ NoStaging _ end_one

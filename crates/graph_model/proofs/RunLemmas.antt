@@ -10,7 +10,8 @@ use Rattle.graph_model.specs.Steps.{StepBy, PlainStep, Step, MayLackMemory}
 use Rattle.graph_model.specs.Runs.{RunBy}
 use Rattle.graph_model.proofs.RowLemmas.{no_memory_in_row}
 
-pub run-append : {S I O : Type 0} (step : S → I → O → S → Type 0) (old mid new : S) (is more : List I) (os others : List O) → RunBy step old is os mid → RunBy step mid more others new
+pub run-append : {S I O : Type 0} (step : S → I → O → S → Type 0) (old mid new : S) (is more : List I) (os others : List O)
+    → RunBy step old is os mid → RunBy step mid more others new
     → RunBy step old (is ++ more) (os ++ others) new
 run-append step old mid new [] more [] others same run = subst (λ state. RunBy step state more others new) same run
 run-append step old mid new [] more (o ∷ os) others run _ = absurd run
@@ -42,7 +43,8 @@ no_accepted_refusal picks old (Block size) why h = let e = h.2 in cc
 no_accepted_refusal picks old (Count level) why h = cc
 
 -- a refused step of a machine whose accepted commands aren't answered by refusals leaves the state
-keeps : {S : Type 0} (refuses : S → Command → Option Refusal → Type 0) (accepts : S → Command → Reply → S → Type 0) (old new : S) (command : Command) (why : Refusal)
+keeps : {S : Type 0} (refuses : S → Command → Option Refusal → Type 0)
+    (accepts : S → Command → Reply → S → Type 0) (old new : S) (command : Command) (why : Refusal)
     → (accepts old command (Refused why) new → ⊥) → StepBy refuses accepts old command (Refused why) new → new ≡ old
 keeps refuses accepts old new command why none step = elim step [
   | inl refused ↦ refused.same
@@ -62,7 +64,8 @@ reason : (why : Refusal) → Refused why ≡ Refused Memory → why ≡ Memory
 reason why is = cc
 
 lacks_none : {S : Type 0} (refuses : S → Command → Option Refusal → Type 0) (accepts : S → Command → Reply → S → Type 0) (old new : S) (command : Command)
-    → (refuses old command (Some Memory) → ⊥) → (accepts old command (Refused Memory) new → ⊥) → (MayLackMemory command → ⊥) → StepBy refuses accepts old command (Refused Memory) new → ⊥
+    → (refuses old command (Some Memory) → ⊥) → (accepts old command (Refused Memory) new → ⊥)
+    → (MayLackMemory command → ⊥) → StepBy refuses accepts old command (Refused Memory) new → ⊥
 lacks_none refuses accepts old new command row none reads step = elim step [
   | inl refused ↦ row (subst (λ (why : Refusal). refuses old command (Some why)) (reason refused.why (sym refused.told)) refused.first)
   | inr rest ↦ elim rest [

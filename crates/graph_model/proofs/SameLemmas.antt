@@ -93,7 +93,8 @@ same_left a b a' b' same one two =
     record { limits = same.limits; most = same.most; begun = same.begun; table = entry; main = same.main; staging = same.staging } in
     subst (λ (p : PlainState). IsSameState p b') (sym one.same) (subst (IsSameState (record a { table = a'.table })) (sym two.same) all)
 
-same_put : (ta tb : Table) (id : ℕ) (ea eb : Entry) → ea ≡ eb → ((q : ℕ) → finmap.get ta q ≡ finmap.get tb q) → (q : ℕ) → finmap.get (finmap.insert ta id ea) q ≡ finmap.get (finmap.insert tb id eb) q
+same_put : (ta tb : Table) (id : ℕ) (ea eb : Entry) → ea ≡ eb → ((q : ℕ) → finmap.get ta q ≡ finmap.get tb q)
+    → (q : ℕ) → finmap.get (finmap.insert ta id ea) q ≡ finmap.get (finmap.insert tb id eb) q
 same_put ta tb id ea eb entries same q = get-put ta id q ea ∙ ap₂ (λ (e : Entry) o. cond (nat_eq q id) (Some e) o) entries (same q) ∙ sym (get-put tb id q eb)
 
 of_equal : (a b a' b' : PlainState) → a' ≡ a → b' ≡ b → IsSameState a b → IsSameState a' b'
@@ -101,16 +102,20 @@ of_equal a b a' b' one two same = subst (λ (p : PlainState). IsSameState p b') 
 
 without_same : (a b x y : Graph) (id : ℕ) → IsSameGraph a b → IsWithout a id x → IsWithout b id y → IsSameGraph x y
 without_same a b x y id same one two = record {
-  names = λ q. (λ here. (two.names q).1 ((same.names q).0 ((one.names q).0 here).0, ((one.names q).0 here).1), λ here. (one.names q).1 ((same.names q).1 ((two.names q).0 here).0, ((two.names q).0 here).1));
+  names = λ q.
+      (λ here. (two.names q).1 ((same.names q).0 ((one.names q).0 here).0, ((one.names q).0 here).1), λ here. (one.names q).1 ((same.names q).1 ((two.names q).0 here).0, ((two.names q).0 here).1));
   pairs = λ p q. (
-    λ here. let is = (one.pairs p q).0 here in (two.pairs p q).1 (is.0, is.1, elim is.2 [ inl was ↦ inl ((same.pairs p q).0 was) | inr across ↦ inr ((same.pairs p id).0 across.0, (same.pairs id q).0 across.1) ]),
-    λ here. let is = (two.pairs p q).0 here in (one.pairs p q).1 (is.0, is.1, elim is.2 [ inl was ↦ inl ((same.pairs p q).1 was) | inr across ↦ inr ((same.pairs p id).1 across.0, (same.pairs id q).1 across.1) ]),
+    λ here. let is = (one.pairs p q).0 here in (two.pairs p q).1
+        (is.0, is.1, elim is.2 [ inl was ↦ inl ((same.pairs p q).0 was) | inr across ↦ inr ((same.pairs p id).0 across.0, (same.pairs id q).0 across.1) ]),
+    λ here. let is = (two.pairs p q).0 here in (one.pairs p q).1
+        (is.0, is.1, elim is.2 [ inl was ↦ inl ((same.pairs p q).1 was) | inr across ↦ inr ((same.pairs p id).1 across.0, (same.pairs id q).1 across.1) ]),
   );
 }
 
 drops_same : (a b x y : Graph) (ids : List ℕ) → IsSameGraph a b → DropsNames a ids x → DropsNames b ids y → IsSameGraph x y
 drops_same a b x y ids same one two = record {
-  names = λ q. (λ here. (two.names q).1 ((same.names q).0 ((one.names q).0 here).0, ((one.names q).0 here).1), λ here. (one.names q).1 ((same.names q).1 ((two.names q).0 here).0, ((two.names q).0 here).1));
+  names = λ q.
+      (λ here. (two.names q).1 ((same.names q).0 ((one.names q).0 here).0, ((one.names q).0 here).1), λ here. (one.names q).1 ((same.names q).1 ((two.names q).0 here).0, ((two.names q).0 here).1));
   pairs = λ p q. (
     λ here. let is = (one.pairs p q).0 here in (two.pairs p q).1 (is.0, is.1, (same.pairs p q).0 is.2),
     λ here. let is = (two.pairs p q).0 here in (one.pairs p q).1 (is.0, is.1, (same.pairs p q).1 is.2),
@@ -126,7 +131,8 @@ more_names a b id same = record { names = λ q. (one a b same q, one b a (back a
       | inr is ↦ subst (Contains (b.names ++ id ∷ [])) is (Contains-push b.names id)
     ]
 
-more_pairs : (a b : Graph) (pair : ℕ × ℕ) → IsSameGraph a b → IsSameGraph (record a { pairs = a.pairs ++ pair ∷ [] }) (record b { pairs = b.pairs ++ pair ∷ [] })
+more_pairs : (a b : Graph) (pair : ℕ × ℕ) → IsSameGraph a b
+    → IsSameGraph (record a { pairs = a.pairs ++ pair ∷ [] }) (record b { pairs = b.pairs ++ pair ∷ [] })
 more_pairs a b pair same = record { names = same.names; pairs = λ x y. (one a b same x y, one b a (back a b same) x y) }
   where
     one : (a b : Graph) → IsSameGraph a b → (x y : ℕ) → Contains (a.pairs ++ pair ∷ []) (x, y) → Contains (b.pairs ++ pair ∷ []) (x, y)
@@ -148,17 +154,21 @@ module _ (a b : PlainState) (valid_a : IsValid a) (valid_b : IsValid b) (same : 
       record {
         names = graphs.names;
         sums = λ id here. ap sum_in (same.table id);
-        ancestors = λ x y. (up_to (level_of a level) (level_of b level) graphs x y, up_to (level_of b level) (level_of a level) (back (level_of a level) (level_of b level) graphs) x y);
+        ancestors = λ x y.
+            (up_to (level_of a level) (level_of b level) graphs x y, up_to (level_of b level) (level_of a level) (back (level_of a level) (level_of b level) graphs) x y);
       }
 
-  one_diagram : (level : Level) (p q : List (ℕ × ℤ)) → AreCorners (rate_of a.table) (level_of a level) p → AreCorners (rate_of b.table) (level_of b level) q → p ≡ q
+  one_diagram : (level : Level) (p q : List (ℕ × ℤ)) → AreCorners (rate_of a.table) (level_of a level) p
+      → AreCorners (rate_of b.table) (level_of b level) q → p ≡ q
   one_diagram level p q one two =
       corners_unique (rate_of b.table) (level_of b level) p q
-      (corners_to (rate_of a.table) (rate_of b.table) (level_of a level) (level_of b level) (alike level) (whole a level valid_a) (whole b level valid_b) p one) two
+      (corners_to (rate_of a.table) (rate_of b.table) (level_of a level) (level_of b level) (alike level) (whole a level valid_a) (whole b level valid_b) p one)
+      two
 
   same_verdict : (v w : Verdict) → VerdictIs a v → VerdictIs b w → v ≡ w
   same_verdict v w (ta, ma, top_a, main_a, one) (tb, mb, top_b, main_b, two) =
-      one_verdict ta ma v w one (subst (λ m. Compares ta m w) (sym (one_diagram Main ma mb main_a main_b)) (subst (λ t. Compares t mb w) (sym (one_diagram Top ta tb top_a top_b)) two))
+      one_verdict ta ma v w one (subst (λ m. Compares ta m w) (sym (one_diagram Main ma mb main_a main_b))
+      (subst (λ t. Compares t mb w) (sym (one_diagram Top ta tb top_a top_b)) two))
 
   lists_same : (P Q : ℕ → Type 0) (xs ys : List ℕ) → ((q : ℕ) → P q → Q q) → ((q : ℕ) → Q q → P q) → Lists P xs → Lists Q ys → xs ≡ ys
   lists_same P Q xs ys to from one two = Lists-same Q xs ys (Lists-for P Q xs to from one) two
@@ -196,13 +206,16 @@ module _ (a b : PlainState) (valid_a : IsValid a) (valid_b : IsValid b) (same : 
 
     dropped : (ids : List ℕ) → DropsFromMain a ids a' → DropsFromMain b ids b' → IsSameState a' b'
     dropped ids one two = same_left (record (begun a) { main = one.0 }) (record (begun b) { main = two.0 }) a' b'
-        (record { limits = same.limits; most = same.most; begun = refl; table = same.table; main = drops_same a.main b.main one.0 two.0 ids same.main one.1 two.1; staging = same.staging }) one.2 two.2
+        (record { limits = same.limits; most = same.most; begun = refl; table = same.table; main = drops_same a.main b.main one.0 two.0 ids same.main one.1 two.1; staging = same.staging })
+        one.2 two.2
 
     removed : (id : ℕ) → Removes a id a' → Removes b id b' → IsSameState a' b'
     removed id one two = same_left (with_top (begun a) one.0) (with_top (begun b) two.0) a' b'
-        (same_top (begun a) (begun b) one.0 two.0 (same_begun a b same) (without_same (level_of a Top) (level_of b Top) one.0 two.0 id (level_same a b Top same) one.1 two.1)) one.2 two.2
+        (same_top (begun a) (begun b) one.0 two.0 (same_begun a b same)
+        (without_same (level_of a Top) (level_of b Top) one.0 two.0 id (level_same a b Top same) one.1 two.1)) one.2 two.2
 
-    settled : (VerdictIs a Better × Commits a a') ⊎ ((VerdictIs a Better → ⊥) × Aborts a a') → (VerdictIs b Better × Commits b b') ⊎ ((VerdictIs b Better → ⊥) × Aborts b b') → IsSameState a' b'
+    settled : (VerdictIs a Better × Commits a a') ⊎ ((VerdictIs a Better → ⊥) × Aborts a a')
+        → (VerdictIs b Better × Commits b b') ⊎ ((VerdictIs b Better → ⊥) × Aborts b b') → IsSameState a' b'
     settled one two = elim one [
       | inl better ↦ elim two [ inl also ↦ committed better.1 also.1 | inr worse ↦ absurd (worse.0 (verdict_to better.0)) ]
       | inr worse ↦ elim two [ inl better ↦ absurd (worse.0 (verdict_back better.0)) | inr also ↦ aborted worse.1 also.1 ]
@@ -240,7 +253,8 @@ module _ (a b : PlainState) (valid_a : IsValid a) (valid_b : IsValid b) (same : 
     states (SetLimits count size total) other one two = of_equal _ _ a' b' one.change two.change
         (record { limits = refl; most = same.most; begun = refl; table = same.table; main = same.main; staging = same.staging })
     states (Add id fee size) other one two = of_equal _ _ a' b' one.change two.change
-        (same_top (record (begun a) { table = finmap.insert a.table id (record { fee = fee; size = size }) }) (record (begun b) { table = finmap.insert b.table id (record { fee = fee; size = size }) }) _ _
+        (same_top (record (begun a) { table = finmap.insert a.table id (record { fee = fee; size = size }) })
+        (record (begun b) { table = finmap.insert b.table id (record { fee = fee; size = size }) }) _ _
         (record { limits = same.limits; most = same.most; begun = refl; table = same_put a.table b.table id (record { fee = fee; size = size }) (record { fee = fee; size = size }) refl same.table; main = same.main; staging = same.staging })
         (more_names (level_of a Top) (level_of b Top) id (level_same a b Top same)))
     states (Dep parent child) other one two = paired parent child one.change two.change
@@ -298,15 +312,18 @@ module _ (a b : PlainState) (valid_a : IsValid a) (valid_b : IsValid b) (same : 
     replies (Cluster id level) plain one two =
         let x = one.answer in let y = two.answer in let graphs = level_same a b level same in
         x.2 ∙ ap Ids (lists_same (AreConnected (level_of a level).pairs id) (AreConnected (level_of b level).pairs id) x.0 y.0
-        (λ q. linked_to (level_of a level) (level_of b level) graphs id q) (λ q. linked_to (level_of b level) (level_of a level) (back (level_of a level) (level_of b level) graphs) id q) x.1 y.1) ∙ sym y.2
+        (λ q. linked_to (level_of a level) (level_of b level) graphs id q)
+        (λ q. linked_to (level_of b level) (level_of a level) (back (level_of a level) (level_of b level) graphs) id q) x.1 y.1) ∙ sym y.2
     replies (Ancestors id level) plain one two =
         let x = one.answer in let y = two.answer in let graphs = level_same a b level same in
         x.2 ∙ ap Ids (lists_same (λ q. IsAncestor (level_of a level).pairs q id) (λ q. IsAncestor (level_of b level).pairs q id) x.0 y.0
-        (λ q. up_to (level_of a level) (level_of b level) graphs q id) (λ q. up_to (level_of b level) (level_of a level) (back (level_of a level) (level_of b level) graphs) q id) x.1 y.1) ∙ sym y.2
+        (λ q. up_to (level_of a level) (level_of b level) graphs q id)
+        (λ q. up_to (level_of b level) (level_of a level) (back (level_of a level) (level_of b level) graphs) q id) x.1 y.1) ∙ sym y.2
     replies (Descendants id level) plain one two =
         let x = one.answer in let y = two.answer in let graphs = level_same a b level same in
         x.2 ∙ ap Ids (lists_same (λ q. IsAncestor (level_of a level).pairs id q) (λ q. IsAncestor (level_of b level).pairs id q) x.0 y.0
-        (λ q. up_to (level_of a level) (level_of b level) graphs id q) (λ q. up_to (level_of b level) (level_of a level) (back (level_of a level) (level_of b level) graphs) id q) x.1 y.1) ∙ sym y.2
+        (λ q. up_to (level_of a level) (level_of b level) graphs id q)
+        (λ q. up_to (level_of b level) (level_of a level) (back (level_of a level) (level_of b level) graphs) id q) x.1 y.1) ∙ sym y.2
     replies (Chunk id) plain one two = absurd plain
     replies (Before x y) plain one two = absurd plain
     replies (Block size) plain one two = absurd plain

@@ -66,7 +66,8 @@ signed_short (negsuc n) small = (
 
 numbers_short : (ns : List ℕ) → ((n : ℕ) → Contains ns n → n < 2 ^ 64) → AreShort (map decimal ns)
 numbers_short [] small = tt
-numbers_short (n ∷ ns) small = (number_short n (let below : n < 2 ^ 64 = small n (Contains-head n ns) in omega arith), numbers_short ns (λ m here. small m (Contains-later n m ns here)))
+numbers_short (n ∷ ns) small =
+    (number_short n (let below : n < 2 ^ 64 = small n (Contains-head n ns) in omega arith), numbers_short ns (λ m here. small m (Contains-later n m ns here)))
 
 -- ---- lines
 
@@ -96,7 +97,8 @@ flow_plain flow one two three =
     let short : AreShort words = ((((λ e. omega (arith, e)), ((λ e. omega (arith, e)), ((λ e. omega (arith, e)), ((λ e. omega (arith, e)), tt)))), omega arith), (number_short flow.child (omega arith), (number_short flow.parent (omega arith), (number_short flow.amount three, tt)))) in
     record { none = spaced_none words short; loud = refl; short = let long = spaced_length words short in omega (arith, long) }
 
-pub chunk_plain : (part : Part) → unsigned_abs part.rate.fee ≤ 10 ^ 30 → part.rate.size < 2 ^ 64 → ((id : ℕ) → Contains part.ids id → id < 2 ^ 64) → length part.ids ≤ 128 → IsPlain (chunk_line part)
+pub chunk_plain : (part : Part) → unsigned_abs part.rate.fee ≤ 10 ^ 30 → part.rate.size < 2 ^ 64
+    → ((id : ℕ) → Contains part.ids id → id < 2 ^ 64) → length part.ids ≤ 128 → IsPlain (chunk_line part)
 chunk_plain part one two three few =
     let words : List (List ℕ) = codes "chunk" ∷ signed_decimal part.rate.fee ∷ decimal part.rate.size ∷ map decimal part.ids in
     let short : AreShort words = ((((λ e. omega (arith, e)), ((λ e. omega (arith, e)), ((λ e. omega (arith, e)), ((λ e. omega (arith, e)), ((λ e. omega (arith, e)), tt))))), omega arith), (signed_short part.rate.fee one, (number_short part.rate.size (omega arith), numbers_short part.ids three))) in

@@ -89,8 +89,10 @@ module _ (old : PlainState) (id : ℕ) (fee : ℤ) (valid : IsValid old) (row : 
 valid_removed : (old new : PlainState) (id : ℕ) → IsValid old → Removes old id new → IsValid new
 valid_removed old new id valid (graph, without, forgets) =
     let top : Graph = level_of old Top in
-    let level : IsLevel old graph = level_within old old top graph refl (graph_left top graph id without (top_level old valid).whole) (λ q here. ((without.names q).0 here).0)
-    (connects graph.pairs top.pairs (λ a b pair. elim ((without.pairs a b).0 pair).2 [ inl was ↦ one_pair top.pairs a b was | inr across ↦ two_pairs top.pairs a id b across.0 across.1 ]))
+    let level : IsLevel old graph =
+    level_within old old top graph refl (graph_left top graph id without (top_level old valid).whole) (λ q here. ((without.names q).0 here).0)
+    (connects graph.pairs top.pairs
+    (λ a b pair. elim ((without.pairs a b).0 pair).2 [ inl was ↦ one_pair top.pairs a b was | inr across ↦ two_pairs top.pairs a id b across.0 across.1 ]))
     (λ q here. refl) (top_level old valid) in
     of_top (begun old) graph (λ mid. Forgets mid new → IsValid new)
     (λ alone. forgets_valid old (record (begun old) { main = graph }) new valid refl refl refl refl
@@ -110,7 +112,8 @@ valid_removed old new id valid (graph, without, forgets) =
 
 valid_dropped : (old new : PlainState) (ids : List ℕ) → IsValid old → old.staging ≡ None → DropsFromMain old ids new → IsValid new
 valid_dropped old new ids valid alone (graph, without, forgets) =
-    let level : IsLevel old graph = level_within old old old.main graph refl (drops.graph_left old.main graph ids without valid.main.whole) (λ q here. ((without.names q).0 here).0)
+    let level : IsLevel old graph =
+    level_within old old old.main graph refl (drops.graph_left old.main graph ids without valid.main.whole) (λ q here. ((without.names q).0 here).0)
     (connects graph.pairs old.main.pairs (λ a b pair. one_pair old.main.pairs a b ((without.pairs a b).0 pair).2)) (λ q here. refl) valid.main in
     forgets_valid old (record (begun old) { main = graph }) new valid refl refl refl refl
     (same_level old (record (begun old) { main = graph }) graph refl (λ q here. refl) level)
@@ -158,8 +161,10 @@ not_staged (Some graph) none = absurd (none refl)
 
 -- ---- the plain state
 
-valid_plain : (picks : Picks) (old new : PlainState) (command : Command) → HasTypes command → IsValid old → RefusalIs old command None → Changes picks old command new → IsValid new
-valid_plain picks old new (SetLimits count size total) types valid row change = subst IsValid (sym change) (valid_limited old (record { count = count; size = size; total = total }) valid row)
+valid_plain : (picks : Picks) (old new : PlainState) (command : Command) → HasTypes command
+    → IsValid old → RefusalIs old command None → Changes picks old command new → IsValid new
+valid_plain picks old new (SetLimits count size total) types valid row change =
+    subst IsValid (sym change) (valid_limited old (record { count = count; size = size; total = total }) valid row)
 valid_plain picks old new (Add id fee size) types valid row change = subst IsValid (sym change) (valid_added old id fee size valid types.0 row)
 valid_plain picks old new (Dep parent child) types valid row change = valid_paired old new parent child valid row change
 valid_plain picks old new (SetFee id fee) types valid row change = subst IsValid (sym change) (valid_paid old id fee valid row)
@@ -169,7 +174,8 @@ valid_plain picks old new Evict types valid row change = valid_dropped old new c
 valid_plain picks old new Stage types valid row change = subst IsValid (sym change) (valid_staged old valid (not_staged old.staging (row_on row).0))
 valid_plain picks old new Commit types valid row change = valid_committed old new valid change
 valid_plain picks old new Abort types valid row change = valid_aborted old new valid change
-valid_plain picks old new Settle types valid row change = elim change [ inl commits ↦ valid_committed old new valid commits.1 | inr aborts ↦ valid_aborted old new valid aborts.1 ]
+valid_plain picks old new Settle types valid row change =
+    elim change [ inl commits ↦ valid_committed old new valid commits.1 | inr aborts ↦ valid_aborted old new valid aborts.1 ]
 valid_plain picks old new Compare types valid row change = subst IsValid (sym change) valid
 valid_plain picks old new (Order level) types valid row change = subst IsValid (sym change) valid
 valid_plain picks old new (Diagram level) types valid row change = subst IsValid (sym change) valid
@@ -185,21 +191,25 @@ valid_plain picks old new (Count level) types valid row change = subst IsValid (
 -- ---- the picks
 
 -- a pick stays one where the names keep their fees and sizes
-pick_along : (ra rb : ℕ → Sum) (graph : Graph) (parts : List Part) → IsGraph graph → ((id : ℕ) → Contains graph.names id → ra id ≡ rb id) → IsPick ra graph parts → IsPick rb graph parts
+pick_along : (ra rb : ℕ → Sum) (graph : Graph) (parts : List Part) → IsGraph graph
+    → ((id : ℕ) → Contains graph.names id → ra id ≡ rb id) → IsPick ra graph parts → IsPick rb graph parts
 pick_along ra rb graph parts whole same = (picks_are_kept.alike ra rb graph graph (record {
   names = λ id. (λ here. here, λ here. here);
   sums = same;
   ancestors = λ x y. (λ walk. walk, λ walk. walk);
 }) whole whole parts).0
 
-picks_staged : (old new : State) → IsValidState old → new.plain ≡ staged old.plain → new.picks ≡ record { main = old.picks.main; staging = Some old.picks.main } → ArePicks new.plain new.picks
+picks_staged : (old new : State) → IsValidState old → new.plain ≡ staged old.plain
+    → new.picks ≡ record { main = old.picks.main; staging = Some old.picks.main } → ArePicks new.plain new.picks
 picks_staged old new valid plain picks =
-    let all : ArePicks (staged old.plain) (record { main = old.picks.main; staging = Some old.picks.main }) = record { main = valid.picks.main; staging = valid.picks.main } in
+    let all : ArePicks (staged old.plain) (record { main = old.picks.main; staging = Some old.picks.main }) =
+    record { main = valid.picks.main; staging = valid.picks.main } in
     subst (λ (s : State). ArePicks s.plain s.picks) (λ i. record { plain = sym plain i; picks = sym picks i }) all
 
 module _ (old new : State) (valid : IsValidState old) (commits : Commits old.plain new.plain) (pick : CommitsPick old.picks new.picks) where
   -- with a pick of staging there is a staging
-  staging_pick : (staging : Option Graph) → IsPickOf old.plain.table staging (Some new.picks.main) → old.plain.staging ≡ staging → IsPick (rate_of old.plain.table) (level_of old.plain Top) new.picks.main
+  staging_pick : (staging : Option Graph) → IsPickOf old.plain.table staging (Some new.picks.main)
+      → old.plain.staging ≡ staging → IsPick (rate_of old.plain.table) (level_of old.plain Top) new.picks.main
   staging_pick None none is = absurd none
   staging_pick (Some graph) has is = subst (λ (g : Graph). IsPick (rate_of old.plain.table) g new.picks.main) (sym (top_is old.plain graph is)) has
 
@@ -214,10 +224,12 @@ module _ (old new : State) (valid : IsValidState old) (commits : Commits old.pla
     main = subst (λ (g : Graph). IsPick (rate_of new.plain.table) g new.picks.main) (sym main_is)
         (pick_along (rate_of old.plain.table) (rate_of new.plain.table) (level_of old.plain Top) new.picks.main (top_level old.plain valid.plain).whole
         (λ id here. sym (ap sum_in (commits.kept id (inl here)))) had);
-    staging = subst (λ (s : PlainState). IsPickOf new.plain.table s.staging new.picks.staging) (sym commits.same) (subst (IsPickOf new.plain.table None) (sym pick.1) tt);
+    staging = subst (λ (s : PlainState). IsPickOf new.plain.table s.staging new.picks.staging)
+        (sym commits.same) (subst (IsPickOf new.plain.table None) (sym pick.1) tt);
   }
 
-valid_picks : (old new : State) (command : Command) → IsValidState old → Changes old.picks old.plain command new.plain → PicksFollow old command new → ArePicks new.plain new.picks
+valid_picks : (old new : State) (command : Command) → IsValidState old
+    → Changes old.picks old.plain command new.plain → PicksFollow old command new → ArePicks new.plain new.picks
 valid_picks old new Stage valid change follow = picks_staged old new valid change follow
 valid_picks old new Commit valid change follow = picks_committed old new valid change follow
 valid_picks old new Settle valid change follow = elim follow [

@@ -21,23 +21,27 @@ module _ {X : Type 0} where
   no_key m k none has = true≢false (sym has ∙ ap (λ m. finmap.contains_key m k) (finmap.empty_of_len m none) ∙ ap is_some (finmap.get-empty nat_cmp k))
 
   contains-drop : (m : finmap.FinMap nat_cmp X) (k q : ℕ) → finmap.contains_key (finmap.remove m k) q ≡ cond (nat_eq q k) false (finmap.contains_key m q)
-  contains-drop m k q = ap is_some (finmap.get-remove nat_cmp_total m k q ∙ ap (λ b. cond b None (finmap.get m q)) (unsigned_tied q k)) ∙ some_if (nat_eq q k) (finmap.get m q)
+  contains-drop m k q = ap is_some (finmap.get-remove nat_cmp_total m k q ∙ ap (λ b. cond b None (finmap.get m q)) (unsigned_tied q k))
+      ∙ some_if (nat_eq q k) (finmap.get m q)
     where
       some_if : (b : Bool) (o : Option X) → is_some (cond b None o) ≡ cond b false (is_some o)
       some_if true o = refl
       some_if false o = refl
 
-  pub len-names : (xs : List ℕ) (m : finmap.FinMap nat_cmp X) → AreDistinct xs → ((q : ℕ) → Contains xs q ↔ (finmap.contains_key m q ≡ true)) → length xs ≡ finmap.len m
+  pub len-names : (xs : List ℕ) (m : finmap.FinMap nat_cmp X) → AreDistinct xs
+      → ((q : ℕ) → Contains xs q ↔ (finmap.contains_key m q ≡ true)) → length xs ≡ finmap.len m
   len-names [] m once same = elim (cases_eq (finmap.len m) 0) [
     | inl none ↦ sym none
     | inr some ↦ absurd (let k = some_key m (finmap.len m - 1) (omega arith) in let here = (same k.0).1 k.1 in omega (arith, here.1))
   ]
   len-names (x ∷ xs) m once same =
       let has : finmap.contains_key m x ≡ true = (same x).0 (Contains-head x xs) in
-      let less : finmap.len (finmap.remove m x) ≡ finmap.len m - 1 = finmap.len-remove nat_cmp_total m x ∙ ap (λ b. cond b (finmap.len m - 1) (finmap.len m)) has in
+      let less : finmap.len (finmap.remove m x) ≡ finmap.len m - 1 =
+      finmap.len-remove nat_cmp_total m x ∙ ap (λ b. cond b (finmap.len m - 1) (finmap.len m)) has in
       let some : finmap.len m ≢ 0 = λ none. no_key m x none has in
       let rest : length xs ≡ finmap.len (finmap.remove m x) = len-names xs (finmap.remove m x) once.1 (λ q. (
-        λ here. contains-drop m x q ∙ ap (λ b. cond b false (finmap.contains_key m q)) (ne_eqb q x (λ e. once.0 (subst (Contains xs) e here))) ∙ (same q).0 (Contains-later x q xs here),
+        λ here. contains-drop m x q ∙ ap (λ b. cond b false (finmap.contains_key m q)) (ne_eqb q x (λ e. once.0 (subst (Contains xs) e here)))
+            ∙ (same q).0 (Contains-later x q xs here),
         λ left. kept q (nat_eq q x) refl (sym (contains-drop m x q) ∙ left),
       )) in
       omega arith
@@ -50,16 +54,20 @@ module _ {X : Type 0} where
       ]
 
   -- a map whose keys are among another's has no more of them
-  within : (n : ℕ) (some all : finmap.FinMap nat_cmp X) → finmap.len some ≡ n → ((q : ℕ) → finmap.contains_key some q ≡ true → finmap.contains_key all q ≡ true) → n ≤ finmap.len all
+  within : (n : ℕ) (some all : finmap.FinMap nat_cmp X) → finmap.len some ≡ n
+      → ((q : ℕ) → finmap.contains_key some q ≡ true → finmap.contains_key all q ≡ true) → n ≤ finmap.len all
   within zero some all long inside = omega arith
   within (suc n) some all long inside =
       let k = some_key some n long in
       let has : finmap.contains_key all k.0 ≡ true = inside k.0 k.1 in
-      let less : finmap.len (finmap.remove all k.0) ≡ finmap.len all - 1 = finmap.len-remove nat_cmp_total all k.0 ∙ ap (λ b. cond b (finmap.len all - 1) (finmap.len all)) has in
-      let left : finmap.len (finmap.remove some k.0) ≡ n = finmap.len-remove nat_cmp_total some k.0 ∙ ap (λ b. cond b (finmap.len some - 1) (finmap.len some)) k.1 ∙ one_less (finmap.len some) n long in
+      let less : finmap.len (finmap.remove all k.0) ≡ finmap.len all - 1 =
+      finmap.len-remove nat_cmp_total all k.0 ∙ ap (λ b. cond b (finmap.len all - 1) (finmap.len all)) has in
+      let left : finmap.len (finmap.remove some k.0) ≡ n =
+      finmap.len-remove nat_cmp_total some k.0 ∙ ap (λ b. cond b (finmap.len some - 1) (finmap.len some)) k.1 ∙ one_less (finmap.len some) n long in
       let any : finmap.len all ≢ 0 = λ none. no_key all k.0 none has in
       let rest : n ≤ finmap.len (finmap.remove all k.0) = within n (finmap.remove some k.0) (finmap.remove all k.0) left
-      (λ q here. contains-drop all k.0 q ∙ stays (nat_eq q k.0) (finmap.contains_key some q) (finmap.contains_key all q) (inside q) (sym (contains-drop some k.0 q) ∙ here)) in
+      (λ q here. contains-drop all k.0 q
+      ∙ stays (nat_eq q k.0) (finmap.contains_key some q) (finmap.contains_key all q) (inside q) (sym (contains-drop some k.0 q) ∙ here)) in
       omega arith
     where
       one_less : (a n : ℕ) → a ≡ suc n → a - 1 ≡ n
@@ -69,16 +77,20 @@ module _ {X : Type 0} where
       stays true x y more e = absurd (true≢false (sym e))
       stays false x y more e = more e
 
-  pub len-within : (some all : finmap.FinMap nat_cmp X) → ((q : ℕ) → finmap.contains_key some q ≡ true → finmap.contains_key all q ≡ true) → finmap.len some ≤ finmap.len all
+  pub len-within : (some all : finmap.FinMap nat_cmp X)
+      → ((q : ℕ) → finmap.contains_key some q ≡ true → finmap.contains_key all q ≡ true) → finmap.len some ≤ finmap.len all
   len-within some all inside = within (finmap.len some) some all refl inside
 
   -- names that are keys, each once, are no more than the keys
-  pub names-within : (xs : List ℕ) (m : finmap.FinMap nat_cmp X) → AreDistinct xs → ((q : ℕ) → Contains xs q → finmap.contains_key m q ≡ true) → length xs ≤ finmap.len m
+  pub names-within : (xs : List ℕ) (m : finmap.FinMap nat_cmp X) → AreDistinct xs
+      → ((q : ℕ) → Contains xs q → finmap.contains_key m q ≡ true) → length xs ≤ finmap.len m
   names-within [] m once inside = omega arith
   names-within (x ∷ xs) m once inside =
       let has : finmap.contains_key m x ≡ true = inside x (Contains-head x xs) in
-      let less : finmap.len (finmap.remove m x) ≡ finmap.len m - 1 = finmap.len-remove nat_cmp_total m x ∙ ap (λ b. cond b (finmap.len m - 1) (finmap.len m)) has in
+      let less : finmap.len (finmap.remove m x) ≡ finmap.len m - 1 =
+      finmap.len-remove nat_cmp_total m x ∙ ap (λ b. cond b (finmap.len m - 1) (finmap.len m)) has in
       let some : finmap.len m ≢ 0 = λ none. no_key m x none has in
       let rest : length xs ≤ finmap.len (finmap.remove m x) = names-within xs (finmap.remove m x) once.1 (λ q here.
-      contains-drop m x q ∙ ap (λ b. cond b false (finmap.contains_key m q)) (ne_eqb q x (λ e. once.0 (subst (Contains xs) e here))) ∙ inside q (Contains-later x q xs here)) in
+      contains-drop m x q ∙ ap (λ b. cond b false (finmap.contains_key m q)) (ne_eqb q x (λ e. once.0 (subst (Contains xs) e here)))
+      ∙ inside q (Contains-later x q xs here)) in
       omega arith

@@ -68,7 +68,8 @@ in_top state graph id is here = subst (λ (g : Graph). Contains g.names id) (sym
 
 -- staging stays within the limits where its names keep their sizes
 pub staging_along : (was is : PlainState) (staging : Option Graph) → is.limits ≡ was.limits
-    → ((graph : Graph) → staging ≡ Some graph → (id : ℕ) → Contains graph.names id → size_of is.table id ≡ size_of was.table id) → IsStaging was staging → IsStaging is staging
+    → ((graph : Graph) → staging ≡ Some graph → (id : ℕ) → Contains graph.names id → size_of is.table id ≡ size_of was.table id)
+    → IsStaging was staging → IsStaging is staging
 staging_along was is None limits sizes level = tt
 staging_along was is (Some graph) limits sizes level = same_level was is graph limits (sizes graph refl) level
 
@@ -81,7 +82,8 @@ top_level state valid = of_staging state.staging valid.staging
 
 -- ---- a table that forgets the names that are in no level
 
-module _ (old mid new : PlainState) (valid : IsValid old) (table : mid.table ≡ old.table) (limits : mid.limits ≡ old.limits) (most : mid.most ≡ old.most) (begins : mid.begun ≡ true)
+module _ (old mid new : PlainState) (valid : IsValid old) (table : mid.table ≡ old.table)
+    (limits : mid.limits ≡ old.limits) (most : mid.most ≡ old.most) (begins : mid.begun ≡ true)
     (main : IsLevel mid mid.main) (staging : IsStaging mid mid.staging) (inside : (id : ℕ) → IsKept mid id → IsKept old id) (forgets : Forgets mid new) where
   abbrev left : PlainState
   left = record mid { table = new.table }
@@ -105,7 +107,8 @@ module _ (old mid new : PlainState) (valid : IsValid old) (table : mid.table ≡
     main = same_level mid left mid.main refl (λ id here. sizes id (inl here)) main;
     staging = staging_along mid left mid.staging refl (λ graph is id here. sizes id (inr (in_top mid graph id is here))) staging;
     live = λ id. (live_kept id, λ kept. ap is_some (same_entry id kept) ∙ (valid.live id).1 (inside id kept));
-    few = let le : finmap.len new.table ≤ finmap.len old.table = len-within new.table old.table (λ q live. sym (ap is_some (same_entry q (live_kept q live))) ∙ live) in
+    few = let le : finmap.len new.table ≤ finmap.len old.table =
+        len-within new.table old.table (λ q live. sym (ap is_some (same_entry q (live_kept q live))) ∙ live) in
         let all : finmap.len old.table ≤ mid.limits.total = subst (λ (l : Limits). finmap.len old.table ≤ l.total) (sym limits) valid.few in omega arith;
     rates = λ id entry is. valid.rates id entry (sym (same_entry id (was_kept id entry is)) ∙ is);
     fresh = λ not_yet. absurd (true≢false (sym begins ∙ not_yet));
@@ -119,7 +122,8 @@ module _ (old mid new : PlainState) (valid : IsValid old) (table : mid.table ≡
 pub row_on : {C L : Type 0} {why : Refusal} → (C × (None ≡ Some why)) ⊎ ((C → ⊥) × L) → (C → ⊥) × L
 row_on row = elim row [ inl here ↦ absurd (some_none _ (sym here.1)) | inr on ↦ on ]
 
-pub row_at_on : {C : ℕ → Type 0} {L : Type 0} {why : ℕ → Refusal} → ((n : ℕ) × C n × (None ≡ Some (why n))) ⊎ (((n : ℕ) → C n → ⊥) × L) → ((n : ℕ) → C n → ⊥) × L
+pub row_at_on : {C : ℕ → Type 0} {L : Type 0} {why : ℕ → Refusal}
+    → ((n : ℕ) × C n × (None ≡ Some (why n))) ⊎ (((n : ℕ) → C n → ⊥) × L) → ((n : ℕ) → C n → ⊥) × L
 row_at_on row = elim row [ inl here ↦ absurd (some_none _ (sym here.2)) | inr on ↦ on ]
 
 pub le_stable : (a b : ℕ) → ((a ≤ b → ⊥) → ⊥) → a ≤ b
@@ -149,13 +153,15 @@ no_names : (graph : Graph) (ids : List ℕ) → graph.names ≡ [] → AreOfOneC
 no_names graph [] none of = refl
 no_names graph (x ∷ xs) none of = absurd (none_in_empty x (subst (λ ns. Contains ns x) none (of.inside x (Contains-head x xs))))
 
-pub valid_limited : (old : PlainState) (limits : Limits) → IsValid old → RefusalIs old (SetLimits limits.count limits.size limits.total) None → IsValid (limited old limits)
+pub valid_limited : (old : PlainState) (limits : Limits) → IsValid old
+    → RefusalIs old (SetLimits limits.count limits.size limits.total) None → IsValid (limited old limits)
 valid_limited old limits valid row =
     let early = row_on row in
     let in_range : AreInRange old.most limits = range_stable old.most limits (row_on early.1).0 in
     let fresh = valid.fresh (false_unless old.begun early.0) in
     let new : PlainState = limited old limits in
-    let none_live : finmap.len old.table ≤ finmap.len {X = Entry} {R = nat_cmp} finmap.empty = len-within old.table finmap.empty (λ q live. absurd (nothing_live old valid fresh.0 fresh.1 q live)) in
+    let none_live : finmap.len old.table ≤ finmap.len {X = Entry} {R = nat_cmp} finmap.empty =
+    len-within old.table finmap.empty (λ q live. absurd (nothing_live old valid fresh.0 fresh.1 q live)) in
     let zero_live : finmap.len {X = Entry} {R = nat_cmp} finmap.empty ≡ 0 = finmap.len-empty nat_cmp Entry in
     record {
       limits = in_range;
@@ -190,15 +196,19 @@ lone graph id whole absent a (suc n) trail = absurd (absent (elim trail.2 [
 abbrev pub with_more : Graph → ℕ → Graph
 with_more graph id = record { names = graph.names ++ id ∷ []; pairs = graph.pairs }
 
-pub level_added : (was is : PlainState) (graph : Graph) (id : ℕ) → is.limits ≡ was.limits → 1 ≤ was.limits.count → size_of is.table id ≤ was.limits.size → id < 2 ^ 64
-    → (Contains graph.names id → ⊥) → ((q : ℕ) → Contains graph.names q → size_of is.table q ≡ size_of was.table q) → IsLevel was graph → IsLevel is (with_more graph id)
+pub level_added : (was is : PlainState) (graph : Graph) (id : ℕ) → is.limits ≡ was.limits
+    → 1 ≤ was.limits.count → size_of is.table id ≤ was.limits.size → id < 2 ^ 64
+    → (Contains graph.names id → ⊥) → ((q : ℕ) → Contains graph.names q → size_of is.table q ≡ size_of was.table q)
+    → IsLevel was graph → IsLevel is (with_more graph id)
 level_added was is graph id limits some fits small absent sizes level =
-    let bounded : (ids : List ℕ) → AreOfOneComponent (with_more graph id) ids → (length ids ≤ is.limits.count) × (sum_by (size_of is.table) ids ≤ is.limits.size) = bounds in
+    let bounded : (ids : List ℕ) → AreOfOneComponent (with_more graph id) ids
+    → (length ids ≤ is.limits.count) × (sum_by (size_of is.table) ids ≤ is.limits.size) = bounds in
     record {
       whole = record {
         names = distinct_push graph.names id level.whole.names absent;
         pairs = level.whole.pairs;
-        ends = λ parent child pair. let both = level.whole.ends parent child pair in (Contains-append_left graph.names (id ∷ []) parent both.0, Contains-append_left graph.names (id ∷ []) child both.1);
+        ends = λ parent child pair. let both = level.whole.ends parent child pair in
+            (Contains-append_left graph.names (id ∷ []) parent both.0, Contains-append_left graph.names (id ∷ []) child both.1);
         acyclic = level.whole.acyclic;
       };
       names = λ q here. elim (Contains-push_cases graph.names id q here) [ inl was ↦ level.names q was | inr same ↦ subst (λ n. n < 2 ^ 64) same small ];
@@ -218,13 +228,16 @@ level_added was is graph id limits some fits small absent sizes level =
     bounds : (ids : List ℕ) → AreOfOneComponent (with_more graph id) ids → (length ids ≤ is.limits.count) × (sum_by (size_of is.table) ids ≤ is.limits.size)
     bounds ids of = elim (told_member ids id) [
       | inl here ↦
-          let all : (length ids ≤ length (id ∷ [])) × (sum_by (size_of is.table) ids ≤ sum_by (size_of is.table) (id ∷ [])) = within (size_of is.table) ids (id ∷ []) of.once
-          (λ q there. let trail = of.together q id there here in subst (Contains (id ∷ [])) (sym (lone graph id level.whole absent q trail.0 trail.1)) (Contains-head id [])) in
+          let all : (length ids ≤ length (id ∷ [])) × (sum_by (size_of is.table) ids ≤ sum_by (size_of is.table) (id ∷ [])) =
+          within (size_of is.table) ids (id ∷ []) of.once
+          (λ q there. let trail = of.together q id there here in
+          subst (Contains (id ∷ [])) (sym (lone graph id level.whole absent q trail.0 trail.1)) (Contains-head id [])) in
           (omega (arith, all.0, some_is), omega (arith, all.1, fits_is))
       | inr none ↦
           let old : AreOfOneComponent graph ids = record {
             once = of.once;
-            inside = λ q there. elim (Contains-push_cases graph.names id q (of.inside q there)) [ inl was ↦ was | inr same ↦ absurd (none (subst (Contains ids) (sym same) there)) ];
+            inside = λ q there. elim (Contains-push_cases graph.names id q
+                (of.inside q there)) [ inl was ↦ was | inr same ↦ absurd (none (subst (Contains ids) (sym same) there)) ];
             together = of.together;
           } in
           (kept.count ids old, kept.size ids old)

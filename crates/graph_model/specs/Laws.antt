@@ -28,7 +28,8 @@ ReadingsLackNoMemory = (old new : State) (command : Command) → (MayLackMemory 
 
 -- a command meets at most one refusal in a state, or none, and not both
 abbrev pub RowsAreFunctions : Type 0
-RowsAreFunctions = (state : PlainState) (command : Command) (one other : Option Refusal) → RefusalIs state command one → RefusalIs state command other → one ≡ other
+RowsAreFunctions = (state : PlainState) (command : Command) (one other : Option Refusal)
+    → RefusalIs state command one → RefusalIs state command other → one ≡ other
 
 -- A start is valid, and a step from a valid state leads to a valid one, where the command's numbers are of their types.
 pub record StepsKeepValid : Type 0 where
