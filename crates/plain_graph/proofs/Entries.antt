@@ -42,20 +42,26 @@ Contains-entry (tx ∷ txs) id h =
       ]
     ]) refl
 
-swapped : (first tx : Tx) (id : ℕ) (old : Option Entry) → eqb first.id tx.id ≡ false → cond (eqb first.id id) (Some (entry_of first)) (cond (eqb id tx.id) (Some (entry_of tx)) old) ≡ cond (eqb id tx.id) (Some (entry_of tx)) (cond (eqb first.id id) (Some (entry_of first)) old)
+swapped : (first tx : Tx) (id : ℕ) (old : Option Entry) → eqb first.id tx.id ≡ false
+    → cond (eqb first.id id) (Some (entry_of first)) (cond (eqb id tx.id) (Some (entry_of tx)) old)
+    ≡ cond (eqb id tx.id) (Some (entry_of tx)) (cond (eqb first.id id) (Some (entry_of first)) old)
 swapped first tx id old other = grind (arith, nat_tests)
 
 -- the entries with one more transaction, of a name that had none
-pub entry-push : (txs : List Tx) (tx : Tx) (id : ℕ) → entry_in txs tx.id ≡ None → entry_in (txs ++ tx ∷ []) id ≡ cond (eqb id tx.id) (Some (entry_of tx)) (entry_in txs id)
+pub entry-push : (txs : List Tx) (tx : Tx) (id : ℕ) → entry_in txs tx.id ≡ None
+    → entry_in (txs ++ tx ∷ []) id ≡ cond (eqb id tx.id) (Some (entry_of tx)) (entry_in txs id)
 entry-push [] tx id none = ap (λ b. cond b (Some (entry_of tx)) None) (nat_eq_equiv.symm tx.id id)
 entry-push (first ∷ txs) tx id none =
-    (elim (eqb first.id tx.id) as (λ b. eqb first.id tx.id ≡ b → cond b (Some (entry_of first)) (entry_in txs tx.id) ≡ None → cond (eqb first.id id) (Some (entry_of first)) (entry_in (txs ++ tx ∷ []) id) ≡ cond (eqb id tx.id) (Some (entry_of tx)) (cond (eqb first.id id) (Some (entry_of first)) (entry_in txs id))) [
+    (elim (eqb first.id tx.id) as (λ b. eqb first.id tx.id ≡ b → cond b (Some (entry_of first)) (entry_in txs tx.id) ≡ None
+    → cond (eqb first.id id) (Some (entry_of first)) (entry_in (txs ++ tx ∷ []) id)
+    ≡ cond (eqb id tx.id) (Some (entry_of tx)) (cond (eqb first.id id) (Some (entry_of first)) (entry_in txs id))) [
       | true ↦ λ same none. absurd (some_none (entry_of first) none)
       | false ↦ λ other none. ap (cond (eqb first.id id) (Some (entry_of first))) (entry-push txs tx id none) ∙ swapped first tx id (entry_in txs id) other
     ]) refl none
 
 -- what a loop over transactions has seen and has still to see
-pub entry-drop : (txs : List Tx) (i : ℕ) (d : Tx) (id : ℕ) → i < length txs → entry_in (drop i txs) id ≡ cond (eqb (get_or txs i d).id id) (Some (entry_of (get_or txs i d))) (entry_in (drop (i + 1) txs) id)
+pub entry-drop : (txs : List Tx) (i : ℕ) (d : Tx) (id : ℕ) → i < length txs
+    → entry_in (drop i txs) id ≡ cond (eqb (get_or txs i d).id id) (Some (entry_of (get_or txs i d))) (entry_in (drop (i + 1) txs) id)
 entry-drop txs i d id below = at_drop_more (λ txs. entry_in txs id) txs i d below
 
 small_one : (tx : Tx) (b : Bool) (old : Option Entry) → tx.size ≤ MAX_SIZE → size_in old ≤ MAX_SIZE → size_in (cond b (Some (entry_of tx)) old) ≤ MAX_SIZE
@@ -65,7 +71,8 @@ small_one tx false old here later = later
 pub size-small : (txs : List Tx) (id : ℕ) → AreSmall txs → size_in (entry_in txs id) ≤ MAX_SIZE
 size-small [] id small = omega arith
 size-small (tx ∷ txs) id small =
-    small_one tx (eqb tx.id id) (entry_in txs id) (All-head (λ (tx : Tx). tx.size ≤ MAX_SIZE) tx txs small) (size-small txs id (All-tail (λ (tx : Tx). tx.size ≤ MAX_SIZE) tx txs small))
+    small_one tx (eqb tx.id id) (entry_in txs id) (All-head (λ (tx : Tx). tx.size ≤ MAX_SIZE) tx txs small)
+    (size-small txs id (All-tail (λ (tx : Tx). tx.size ≤ MAX_SIZE) tx txs small))
 
 pub live_named : (txs : List Tx) (id : ℕ) (live : Bool) → live ≡ is_some (entry_in txs id) → IsTrue live ↔ Contains (names_of txs) id
 live_named txs id live is = (λ holds. entry-Contains txs id (sym is ∙ holds), λ here. is ∙ Contains-entry txs id here)

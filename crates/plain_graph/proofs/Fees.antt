@@ -46,18 +46,23 @@ repaid fee None = None
 repaid fee (Some entry) = Some (record { fee = fee; size = entry.size })
 
 paid_one : (tx id q : ℕ) (fee : ℤ) (own : Entry) (rest : Option Entry) → eqb tx id ≡ true
-    → cond (eqb tx q) (Some (record { fee = fee; size = own.size })) (cond (eqb q id) (repaid fee rest) rest) ≡ cond (eqb q id) (repaid fee (cond (eqb tx q) (Some own) rest)) (cond (eqb tx q) (Some own) rest)
+    → cond (eqb tx q) (Some (record { fee = fee; size = own.size })) (cond (eqb q id) (repaid fee rest) rest)
+    ≡ cond (eqb q id) (repaid fee (cond (eqb tx q) (Some own) rest)) (cond (eqb tx q) (Some own) rest)
 paid_one tx id q fee own rest is = grind (arith, nat_tests)
 
 paid_other : (tx id q : ℕ) (fee : ℤ) (own : Entry) (rest : Option Entry) → eqb tx id ≡ false
-    → cond (eqb tx q) (Some own) (cond (eqb q id) (repaid fee rest) rest) ≡ cond (eqb q id) (repaid fee (cond (eqb tx q) (Some own) rest)) (cond (eqb tx q) (Some own) rest)
+    → cond (eqb tx q) (Some own) (cond (eqb q id) (repaid fee rest) rest)
+    ≡ cond (eqb q id) (repaid fee (cond (eqb tx q) (Some own) rest)) (cond (eqb tx q) (Some own) rest)
 paid_other tx id q fee own rest is = grind (arith, nat_tests)
 
-entry-paying : (id : ℕ) (fee : ℤ) (txs : List Tx) (q : ℕ) → entry_in (map (paying id fee) txs) q ≡ cond (eqb q id) (repaid fee (entry_in txs q)) (entry_in txs q)
+entry-paying : (id : ℕ) (fee : ℤ) (txs : List Tx) (q : ℕ)
+    → entry_in (map (paying id fee) txs) q ≡ cond (eqb q id) (repaid fee (entry_in txs q)) (entry_in txs q)
 entry-paying id fee [] q = (elim (eqb q id) as (λ b. ◌≡◌ {A = Option Entry} None (cond b None None)) [ true ↦ refl | false ↦ refl ])
 entry-paying id fee (tx ∷ txs) q =
-    (elim (eqb tx.id id) as (λ b. eqb tx.id id ≡ b → entry_in (cond b (record tx { fee = fee }) tx ∷ map (paying id fee) txs) q ≡ cond (eqb q id) (repaid fee (entry_in (tx ∷ txs) q)) (entry_in (tx ∷ txs) q)) [
-      | true ↦ λ is. ap (cond (eqb tx.id q) (Some (record { fee = fee; size = tx.size }))) (entry-paying id fee txs q) ∙ paid_one tx.id id q fee (entry_of tx) (entry_in txs q) is
+    (elim (eqb tx.id id) as (λ b. eqb tx.id id ≡ b → entry_in (cond b (record tx { fee = fee }) tx ∷ map (paying id fee) txs) q
+    ≡ cond (eqb q id) (repaid fee (entry_in (tx ∷ txs) q)) (entry_in (tx ∷ txs) q)) [
+      | true ↦ λ is. ap (cond (eqb tx.id q) (Some (record { fee = fee; size = tx.size }))) (entry-paying id fee txs q)
+          ∙ paid_one tx.id id q fee (entry_of tx) (entry_in txs q) is
       | false ↦ λ is. ap (cond (eqb tx.id q) (Some (entry_of tx))) (entry-paying id fee txs q) ∙ paid_other tx.id id q fee (entry_of tx) (entry_in txs q) is
     ]) refl
 
@@ -66,14 +71,16 @@ repaid_some fee None some = absurd (none_of_true some)
 repaid_some fee (Some entry) some = refl
 
 -- the entries that the table has are those of the transactions
-same_entry : (id q : ℕ) (fee : ℤ) (at : ℕ → Option Entry) → IsSome (at id) → cond (eqb q id) (Some (record { fee = fee; size = size_in (at id) })) (at q) ≡ cond (eqb q id) (repaid fee (at q)) (at q)
+same_entry : (id q : ℕ) (fee : ℤ) (at : ℕ → Option Entry) → IsSome (at id)
+    → cond (eqb q id) (Some (record { fee = fee; size = size_in (at id) })) (at q) ≡ cond (eqb q id) (repaid fee (at q)) (at q)
 same_entry id q fee at some =
     (elim (eqb q id) as (λ b. eqb q id ≡ b → cond b (Some (record { fee = fee; size = size_in (at id) })) (at q) ≡ cond b (repaid fee (at q)) (at q)) [
       | true ↦ λ is. repaid_some fee (at id) some ∙ ap (λ (n : ℕ). repaid fee (at n)) (sym ((Decides-eqb q id).0 is))
       | false ↦ λ is. refl
     ]) refl
 
-has_paid : (txs : List Tx) (table : Table) (id : ℕ) (fee : ℤ) → IsSome (entry_in txs id) → HasTable txs table → HasTable (map (paying id fee) txs) (finmap.insert table id (record { fee = fee; size = size_of table id }))
+has_paid : (txs : List Tx) (table : Table) (id : ℕ) (fee : ℤ) → IsSome (entry_in txs id) → HasTable txs table
+    → HasTable (map (paying id fee) txs) (finmap.insert table id (record { fee = fee; size = size_of table id }))
 has_paid txs table id fee some has = record {
   gets = λ q. finmap.get-insert nat_cmp_total table id (record { fee = fee; size = size_of table id }) q
       ∙ ap (λ b. cond b (Some (record { fee = fee; size = size_of table id })) (finmap.get table q)) (unsigned_tied q id)
@@ -86,7 +93,8 @@ has_paid txs table id fee some has = record {
       ∙ sym (length-map txs (paying id fee));
 }
 
-pub steps_paid : (old new : Kept) (id : ℕ) (fee : ℤ) → new.limits ≡ old.limits → new.begun ≡ true → new.txs ≡ map (paying id fee) old.txs → new.pairs ≡ old.pairs → IsSome (entry_in old.txs id) → ((state : PlainState) → StandsFor old state → RefusalIs state (SetFee id fee) None)
+pub steps_paid : (old new : Kept) (id : ℕ) (fee : ℤ) → new.limits ≡ old.limits → new.begun ≡ true → new.txs ≡ map (paying id fee) old.txs
+    → new.pairs ≡ old.pairs → IsSome (entry_in old.txs id) → ((state : PlainState) → StandsFor old state → RefusalIs state (SetFee id fee) None)
     → Steps old new (SetFee id fee) Done
 steps_paid old new id fee limits begun txs pairs some none =
     steps_accepted old new (SetFee id fee) Done none
@@ -107,7 +115,8 @@ steps_paid old new id fee limits begun txs pairs some none =
     ))
 
 -- what the fields keep after a change of fee
-pub sound_paid : (set : Limits) (txs : List Tx) (pairs : List (ℕ × ℕ)) (places id : ℕ) (fee : ℤ) → IsSound set txs pairs places → IsSound set (map (paying id fee) txs) pairs places
+pub sound_paid : (set : Limits) (txs : List Tx) (pairs : List (ℕ × ℕ)) (places id : ℕ) (fee : ℤ)
+    → IsSound set txs pairs places → IsSound set (map (paying id fee) txs) pairs places
 sound_paid set txs pairs places id fee sound = record {
   in_range = sound.in_range;
   small = small-paying id fee txs sound.small;
@@ -118,5 +127,8 @@ sound_paid set txs pairs places id fee sound = record {
 }
 
 -- the refusal of `fee` at an equal fee
-pub at_new_fee : (kept : Kept) (id : ℕ) (given fee : ℤ) (found : Option Refusal) → given ≡ fee → ((state : PlainState) → StandsFor kept state → RefusalIs state (SetFee id given) found) → (state : PlainState) → StandsFor kept state → RefusalIs state (SetFee id fee) found
-at_new_fee kept id given fee found same refused = subst (λ (fee : ℤ). (state : PlainState) → StandsFor kept state → RefusalIs state (SetFee id fee) found) same refused
+pub at_new_fee : (kept : Kept) (id : ℕ) (given fee : ℤ) (found : Option Refusal) → given ≡ fee
+    → ((state : PlainState) → StandsFor kept state → RefusalIs state (SetFee id given) found)
+    → (state : PlainState) → StandsFor kept state → RefusalIs state (SetFee id fee) found
+at_new_fee kept id given fee found same refused =
+    subst (λ (fee : ℤ). (state : PlainState) → StandsFor kept state → RefusalIs state (SetFee id fee) found) same refused

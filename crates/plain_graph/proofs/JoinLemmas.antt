@@ -19,27 +19,34 @@ use Rattle.plain_graph.proofs.Standing.{HasTable, of_states}
 same_members : (pairs : List (ℕ × ℕ)) (a b : ℕ) (one other : List ℕ) → JoinsTo pairs a b one → JoinsTo pairs a b other → one ≡ other
 same_members pairs a b one other first second = Lists-same (λ id. AreConnected pairs id a ⊎ AreConnected pairs id b) one other first.1 second.1
 
-pub join_too_many : (set : Limits) (txs : List Tx) (pairs : List (ℕ × ℕ)) (a b : ℕ) (members : List ℕ) (n : ℕ) → JoinsTo pairs a b members → n ≡ length members → set.count < n → JoinRefusalIs set txs pairs a b (Some (Count n))
+pub join_too_many : (set : Limits) (txs : List Tx) (pairs : List (ℕ × ℕ)) (a b : ℕ) (members : List ℕ) (n : ℕ)
+    → JoinsTo pairs a b members → n ≡ length members → set.count < n → JoinRefusalIs set txs pairs a b (Some (Count n))
 join_too_many set txs pairs a b members n joins same over = inl (n, (members, joins, same, over), refl)
 
-not_too_many : (set : Limits) (pairs : List (ℕ × ℕ)) (a b : ℕ) (members : List ℕ) → JoinsTo pairs a b members → length members ≤ set.count → (n : ℕ) → JoinsTooMany set pairs a b n → ⊥
+not_too_many : (set : Limits) (pairs : List (ℕ × ℕ)) (a b : ℕ) (members : List ℕ)
+    → JoinsTo pairs a b members → length members ≤ set.count → (n : ℕ) → JoinsTooMany set pairs a b n → ⊥
 not_too_many set pairs a b members joins fits n many =
     let same : length many.0 ≡ length members = ap length (same_members pairs a b many.0 members many.1 joins) in
     let is : n ≡ length many.0 = many.2 in
     let over : set.count < n = many.3 in
     omega arith
 
-pub join_too_large : (set : Limits) (txs : List Tx) (pairs : List (ℕ × ℕ)) (a b : ℕ) (members : List ℕ) (n : ℕ) → JoinsTo pairs a b members → length members ≤ set.count → n ≡ sum_by (λ id. size_in (entry_in txs id)) members → set.size < n → JoinRefusalIs set txs pairs a b (Some (ClusterSize n))
-join_too_large set txs pairs a b members n joins fits same over = inr (not_too_many set pairs a b members joins fits, inl (n, (members, joins, same, over), refl))
+pub join_too_large : (set : Limits) (txs : List Tx) (pairs : List (ℕ × ℕ)) (a b : ℕ) (members : List ℕ) (n : ℕ) → JoinsTo pairs a b members
+    → length members ≤ set.count → n ≡ sum_by (λ id. size_in (entry_in txs id)) members → set.size < n → JoinRefusalIs set txs pairs a b (Some (ClusterSize n))
+join_too_large set txs pairs a b members n joins fits same over =
+    inr (not_too_many set pairs a b members joins fits, inl (n, (members, joins, same, over), refl))
 
-not_too_large : (set : Limits) (txs : List Tx) (pairs : List (ℕ × ℕ)) (a b : ℕ) (members : List ℕ) → JoinsTo pairs a b members → sum_by (λ id. size_in (entry_in txs id)) members ≤ set.size → (n : ℕ) → JoinsTooLarge set txs pairs a b n → ⊥
+not_too_large : (set : Limits) (txs : List Tx) (pairs : List (ℕ × ℕ)) (a b : ℕ) (members : List ℕ) → JoinsTo pairs a b members
+    → sum_by (λ id. size_in (entry_in txs id)) members ≤ set.size → (n : ℕ) → JoinsTooLarge set txs pairs a b n → ⊥
 not_too_large set txs pairs a b members joins fits n large =
-    let same : sum_by (λ id. size_in (entry_in txs id)) large.0 ≡ sum_by (λ id. size_in (entry_in txs id)) members = ap (sum_by (λ id. size_in (entry_in txs id))) (same_members pairs a b large.0 members large.1 joins) in
+    let same : sum_by (λ id. size_in (entry_in txs id)) large.0 ≡ sum_by (λ id. size_in (entry_in txs id)) members =
+    ap (sum_by (λ id. size_in (entry_in txs id))) (same_members pairs a b large.0 members large.1 joins) in
     let is : n ≡ sum_by (λ id. size_in (entry_in txs id)) large.0 = large.2 in
     let over : set.size < n = large.3 in
     omega arith
 
-pub join_fits : (set : Limits) (txs : List Tx) (pairs : List (ℕ × ℕ)) (a b : ℕ) (members : List ℕ) → JoinsTo pairs a b members → length members ≤ set.count → sum_by (λ id. size_in (entry_in txs id)) members ≤ set.size → JoinRefusalIs set txs pairs a b None
+pub join_fits : (set : Limits) (txs : List Tx) (pairs : List (ℕ × ℕ)) (a b : ℕ) (members : List ℕ) → JoinsTo pairs a b members
+    → length members ≤ set.count → sum_by (λ id. size_in (entry_in txs id)) members ≤ set.size → JoinRefusalIs set txs pairs a b None
 join_fits set txs pairs a b members joins fits small =
     inr (not_too_many set pairs a b members joins fits, inr (not_too_large set txs pairs a b members joins small, refl))
 
@@ -58,7 +65,9 @@ same_total_of : (txs : List Tx) (table : Table) → HasTable txs table → ◌�
 same_total_of txs table has = λ i ids. same_totals txs table has ids i
 
 -- the row of `dep`, of names that are live and no cycle, ends with the joined component's
-pub dep_join : (kept : Kept) (a b : ℕ) (found : Option Refusal) → Contains (names_of kept.txs) a → Contains (names_of kept.txs) b → (IsAncestor kept.pairs b a → ⊥) → JoinRefusalIs kept.limits kept.txs kept.pairs a b found → (state : PlainState) → StandsFor kept state → RefusalIs state (Dep a b) found
+pub dep_join : (kept : Kept) (a b : ℕ) (found : Option Refusal) → Contains (names_of kept.txs) a
+    → Contains (names_of kept.txs) b → (IsAncestor kept.pairs b a → ⊥) → JoinRefusalIs kept.limits kept.txs kept.pairs a b found
+    → (state : PlainState) → StandsFor kept state → RefusalIs state (Dep a b) found
 dep_join kept a b found here there no_cycle join =
     of_states kept (λ (state : PlainState). RefusalIs state (Dep a b) found)
     (λ table has. inr (
@@ -67,19 +76,24 @@ dep_join kept a b found here there no_cycle join =
         λ absent. absent there,
         inr (
           no_cycle,
-          subst (λ (total : List ℕ → ℕ). FirstAt (JoinsTooMany kept.limits kept.pairs a b) Count (FirstAt (λ n. (members : List ℕ) × JoinsTo kept.pairs a b members × (n ≡ total members) × (kept.limits.size < n)) ClusterSize NoRefusal) found)
+          subst (λ (total : List ℕ → ℕ). FirstAt (JoinsTooMany kept.limits kept.pairs a b) Count
+              (FirstAt (λ n. (members : List ℕ) × JoinsTo kept.pairs a b members × (n ≡ total members) × (kept.limits.size < n)) ClusterSize NoRefusal) found)
               (sym (same_total_of kept.txs table has)) join,
         ),
       ),
     ))
 
-pub dep_cycle : (kept : Kept) (a b : ℕ) → Contains (names_of kept.txs) a → Contains (names_of kept.txs) b → IsAncestor kept.pairs b a → (state : PlainState) → StandsFor kept state → RefusalIs state (Dep a b) (Some Cycle)
+pub dep_cycle : (kept : Kept) (a b : ℕ) → Contains (names_of kept.txs) a → Contains (names_of kept.txs) b
+    → IsAncestor kept.pairs b a → (state : PlainState) → StandsFor kept state → RefusalIs state (Dep a b) (Some Cycle)
 dep_cycle kept a b here there cycle =
-    of_states kept (λ (state : PlainState). RefusalIs state (Dep a b) (Some Cycle)) (λ table has. inr (λ absent. absent here, inr (λ absent. absent there, inl (cycle, refl))))
+    of_states kept (λ (state : PlainState). RefusalIs state (Dep a b) (Some Cycle))
+    (λ table has. inr (λ absent. absent here, inr (λ absent. absent there, inl (cycle, refl))))
 
-pub dep_no_parent : (kept : Kept) (a b : ℕ) → (Contains (names_of kept.txs) a → ⊥) → (state : PlainState) → StandsFor kept state → RefusalIs state (Dep a b) (Some (Unknown a))
+pub dep_no_parent : (kept : Kept) (a b : ℕ) → (Contains (names_of kept.txs) a → ⊥)
+    → (state : PlainState) → StandsFor kept state → RefusalIs state (Dep a b) (Some (Unknown a))
 dep_no_parent kept a b absent = of_states kept (λ (state : PlainState). RefusalIs state (Dep a b) (Some (Unknown a))) (λ table has. inl (absent, refl))
 
-pub dep_no_child : (kept : Kept) (a b : ℕ) → Contains (names_of kept.txs) a → (Contains (names_of kept.txs) b → ⊥) → (state : PlainState) → StandsFor kept state → RefusalIs state (Dep a b) (Some (Unknown b))
+pub dep_no_child : (kept : Kept) (a b : ℕ) → Contains (names_of kept.txs) a → (Contains (names_of kept.txs) b → ⊥)
+    → (state : PlainState) → StandsFor kept state → RefusalIs state (Dep a b) (Some (Unknown b))
 dep_no_child kept a b here absent =
     of_states kept (λ (state : PlainState). RefusalIs state (Dep a b) (Some (Unknown b))) (λ table has. inr (λ missing. missing here, inl (absent, refl)))

@@ -31,7 +31,8 @@ same_but_found old new ids same = record {
 }
 
 -- the new graph stands for the state with these pairs, after a change
-stands_changed : (old new : Kept) (table : Table) (pairs : List (ℕ × ℕ)) → HasTable old.txs table → new.limits ≡ old.limits → new.begun ≡ true → new.txs ≡ old.txs → new.pairs ≡ pairs → StandsFor new (record (state_of old table) { begun = true; main = record { names = names_of old.txs; pairs = pairs } })
+stands_changed : (old new : Kept) (table : Table) (pairs : List (ℕ × ℕ)) → HasTable old.txs table → new.limits ≡ old.limits → new.begun ≡ true → new.txs
+    ≡ old.txs → new.pairs ≡ pairs → StandsFor new (record (state_of old table) { begun = true; main = record { names = names_of old.txs; pairs = pairs } })
 stands_changed old new table pairs has limits begun txs same = record {
   limits = sym limits;
   most = refl;
@@ -43,21 +44,27 @@ stands_changed old new table pairs has limits begun txs same = record {
   staging = refl;
 }
 
-pub steps_paired_again : (old new : Kept) (a b : ℕ) → new.limits ≡ old.limits → new.begun ≡ true → new.txs ≡ old.txs → new.pairs ≡ old.pairs → Contains old.pairs (a, b) → ((state : PlainState) → StandsFor old state → RefusalIs state (Dep a b) None) → Steps old new (Dep a b) Done
+pub steps_paired_again : (old new : Kept) (a b : ℕ) → new.limits ≡ old.limits → new.begun ≡ true → new.txs ≡ old.txs → new.pairs ≡ old.pairs
+    → Contains old.pairs (a, b) → ((state : PlainState) → StandsFor old state → RefusalIs state (Dep a b) None) → Steps old new (Dep a b) Done
 steps_paired_again old new a b limits begins txs pairs here none =
     steps_accepted old new (Dep a b) Done none
-    (λ table has. (begun (state_of old table), stands_changed old new table old.pairs has limits begins txs pairs, λ picks. record { answer = refl; change = inl (here, refl) }))
+    (λ table has.
+    (begun (state_of old table), stands_changed old new table old.pairs has limits begins txs pairs, λ picks. record { answer = refl; change = inl (here, refl) }))
 
-pub steps_paired : (old new : Kept) (a b : ℕ) → new.limits ≡ old.limits → new.begun ≡ true → new.txs ≡ old.txs → new.pairs ≡ old.pairs ++ (a, b) ∷ [] → (Contains old.pairs (a, b) → ⊥) → ((state : PlainState) → StandsFor old state → RefusalIs state (Dep a b) None) → Steps old new (Dep a b) Done
+pub steps_paired : (old new : Kept) (a b : ℕ) → new.limits ≡ old.limits → new.begun ≡ true → new.txs ≡ old.txs → new.pairs ≡ old.pairs ++ (a, b) ∷ []
+    → (Contains old.pairs (a, b) → ⊥) → ((state : PlainState) → StandsFor old state → RefusalIs state (Dep a b) None) → Steps old new (Dep a b) Done
 steps_paired old new a b limits begins txs pairs absent none =
     steps_accepted old new (Dep a b) Done none
-    (λ table has. (with_top (begun (state_of old table)) (record { names = names_of old.txs; pairs = old.pairs ++ (a, b) ∷ [] }), stands_changed old new table (old.pairs ++ (a, b) ∷ []) has limits begins txs pairs, λ picks. record { answer = refl; change = inr (absent, refl) }))
+    (λ table has.
+    (with_top (begun (state_of old table)) (record { names = names_of old.txs; pairs = old.pairs ++ (a, b) ∷ [] }), stands_changed old new table (old.pairs ++ (a, b) ∷ []) has limits begins txs pairs, λ picks. record { answer = refl; change = inr (absent, refl) }))
 
-same_ends : (names : List ℕ) (a b : ℕ) (pair : ℕ × ℕ) → ◌≡◌ {A = ℕ × ℕ} (a, b) pair → Contains names a → Contains names b → Contains names pair.0 × Contains names pair.1
+same_ends : (names : List ℕ) (a b : ℕ) (pair : ℕ × ℕ) → ◌≡◌ {A = ℕ × ℕ} (a, b) pair
+    → Contains names a → Contains names b → Contains names pair.0 × Contains names pair.1
 same_ends names a b pair same one other = subst (λ (pair : ℕ × ℕ). Contains names pair.0 × Contains names pair.1) same (one, other)
 
 -- what the fields keep after one more pair
-pub sound_paired : (set : Limits) (txs : List Tx) (pairs : List (ℕ × ℕ)) (places a b : ℕ) → IsSound set txs pairs places → (Contains pairs (a, b) → ⊥) → Contains (names_of txs) a → Contains (names_of txs) b → IsSound set txs (pairs ++ (a, b) ∷ []) places
+pub sound_paired : (set : Limits) (txs : List Tx) (pairs : List (ℕ × ℕ)) (places a b : ℕ) → IsSound set txs pairs places
+    → (Contains pairs (a, b) → ⊥) → Contains (names_of txs) a → Contains (names_of txs) b → IsSound set txs (pairs ++ (a, b) ∷ []) places
 sound_paired set txs pairs places a b sound absent one other = record {
   in_range = sound.in_range;
   small = sound.small;
@@ -71,61 +78,76 @@ sound_paired set txs pairs places a b sound absent one other = record {
 }
 
 -- a reading of a name that isn't there
-unread : (kept : Kept) (level : Level) (id : ℕ) (table : Table) → (Contains (names_of kept.txs) id → ⊥) → Contains (level_of (state_of kept table) level).names id → ⊥
+unread : (kept : Kept) (level : Level) (id : ℕ) (table : Table) → (Contains (names_of kept.txs) id → ⊥)
+    → Contains (level_of (state_of kept table) level).names id → ⊥
 unread kept level id table absent = subst (λ (at : Graph). Contains at.names id → ⊥) (sym (level-main kept table level)) absent
 
-is_read : (kept : Kept) (level : Level) (id : ℕ) (table : Table) → Contains (names_of kept.txs) id → (Contains (level_of (state_of kept table) level).names id → ⊥) → ⊥
+is_read : (kept : Kept) (level : Level) (id : ℕ) (table : Table) → Contains (names_of kept.txs) id
+    → (Contains (level_of (state_of kept table) level).names id → ⊥) → ⊥
 is_read kept level id table here absent = subst (λ (at : Graph). Contains at.names id → ⊥) (level-main kept table level) absent here
 
-steps_up : (old new : Kept) (level : Level) (id : ℕ) → IsSameGraph old new → Contains (names_of old.txs) id → Lists (λ a. IsAncestor old.pairs a id) new.found → Steps old new (Ancestors id level) (Ids new.found)
+steps_up : (old new : Kept) (level : Level) (id : ℕ) → IsSameGraph old new → Contains (names_of old.txs) id
+    → Lists (λ a. IsAncestor old.pairs a id) new.found → Steps old new (Ancestors id level) (Ids new.found)
 steps_up old new level id same here lists =
     steps_accepted old new (Ancestors id level) (Ids new.found)
     (of_states old (λ (state : PlainState). RefusalIs state (Ancestors id level) None) (λ table has. inr (is_read old level id table here, refl)))
     (λ table has. (
       state_of old table,
       stands_still old new same (state_of old table) (stands_for old table has),
-      λ picks. record { answer = (new.found, subst (λ (at : Graph). Lists (λ a. IsAncestor at.pairs a id) new.found) (sym (level-main old table level)) lists, refl); change = refl },
+      λ picks.
+          record { answer = (new.found, subst (λ (at : Graph). Lists (λ a. IsAncestor at.pairs a id) new.found) (sym (level-main old table level)) lists, refl); change = refl },
     ))
 
-steps_down : (old new : Kept) (level : Level) (id : ℕ) → IsSameGraph old new → Contains (names_of old.txs) id → Lists (λ d. IsAncestor old.pairs id d) new.found → Steps old new (Descendants id level) (Ids new.found)
+steps_down : (old new : Kept) (level : Level) (id : ℕ) → IsSameGraph old new → Contains (names_of old.txs) id
+    → Lists (λ d. IsAncestor old.pairs id d) new.found → Steps old new (Descendants id level) (Ids new.found)
 steps_down old new level id same here lists =
     steps_accepted old new (Descendants id level) (Ids new.found)
     (of_states old (λ (state : PlainState). RefusalIs state (Descendants id level) None) (λ table has. inr (is_read old level id table here, refl)))
     (λ table has. (
       state_of old table,
       stands_still old new same (state_of old table) (stands_for old table has),
-      λ picks. record { answer = (new.found, subst (λ (at : Graph). Lists (λ d. IsAncestor at.pairs id d) new.found) (sym (level-main old table level)) lists, refl); change = refl },
+      λ picks.
+          record { answer = (new.found, subst (λ (at : Graph). Lists (λ d. IsAncestor at.pairs id d) new.found) (sym (level-main old table level)) lists, refl); change = refl },
     ))
 
-steps_around : (old new : Kept) (level : Level) (id : ℕ) → IsSameGraph old new → Contains (names_of old.txs) id → Lists (AreConnected old.pairs id) new.found → Steps old new (Cluster id level) (Ids new.found)
+steps_around : (old new : Kept) (level : Level) (id : ℕ) → IsSameGraph old new → Contains (names_of old.txs) id
+    → Lists (AreConnected old.pairs id) new.found → Steps old new (Cluster id level) (Ids new.found)
 steps_around old new level id same here lists =
     steps_accepted old new (Cluster id level) (Ids new.found)
     (of_states old (λ (state : PlainState). RefusalIs state (Cluster id level) None) (λ table has. inr (is_read old level id table here, refl)))
     (λ table has. (
       state_of old table,
       stands_still old new same (state_of old table) (stands_for old table has),
-      λ picks. record { answer = (new.found, subst (λ (at : Graph). Lists (AreConnected at.pairs id) new.found) (sym (level-main old table level)) lists, refl); change = refl },
+      λ picks.
+          record { answer = (new.found, subst (λ (at : Graph). Lists (AreConnected at.pairs id) new.found) (sym (level-main old table level)) lists, refl); change = refl },
     ))
 
 -- what a reading says of its result
 abbrev pub Reads : {T : Type 0} → Way → Kept → Kept → ℕ → Result T Refusal → Type 0
 Reads way old new id result =
-    MatchResult result (λ _. Contains (names_of old.txs) id × Lists (Reaches way old.pairs id) new.found) (λ why. (Contains (names_of old.txs) id → ⊥) × (why ≡ Unknown id))
+    MatchResult result (λ _. Contains (names_of old.txs) id × Lists (Reaches way old.pairs id) new.found)
+    (λ why. (Contains (names_of old.txs) id → ⊥) × (why ≡ Unknown id))
 
-pub steps_ancestors : {T : Type 0} (old new : Kept) (level : Level) (id : ℕ) (result : Result T Refusal) → IsSameGraph old new → Reads Up old new id result → Steps old new (Ancestors id level) (names_reply result new.found)
+pub steps_ancestors : {T : Type 0} (old new : Kept) (level : Level) (id : ℕ) (result : Result T Refusal)
+    → IsSameGraph old new → Reads Up old new id result → Steps old new (Ancestors id level) (names_reply result new.found)
 steps_ancestors old new level id (Ok done) same reads = steps_up old new level id same reads.0 reads.1
 steps_ancestors old new level id (Err why) same reads =
     steps_refused old new (Ancestors id level) why same
-    (of_states old (λ (state : PlainState). RefusalIs state (Ancestors id level) (Some why)) (λ table has. inl (unread old level id table reads.0, ap Some reads.1)))
+    (of_states old (λ (state : PlainState). RefusalIs state (Ancestors id level) (Some why))
+    (λ table has. inl (unread old level id table reads.0, ap Some reads.1)))
 
-pub steps_descendants : {T : Type 0} (old new : Kept) (level : Level) (id : ℕ) (result : Result T Refusal) → IsSameGraph old new → Reads Down old new id result → Steps old new (Descendants id level) (names_reply result new.found)
+pub steps_descendants : {T : Type 0} (old new : Kept) (level : Level) (id : ℕ) (result : Result T Refusal)
+    → IsSameGraph old new → Reads Down old new id result → Steps old new (Descendants id level) (names_reply result new.found)
 steps_descendants old new level id (Ok done) same reads = steps_down old new level id same reads.0 reads.1
 steps_descendants old new level id (Err why) same reads =
     steps_refused old new (Descendants id level) why same
-    (of_states old (λ (state : PlainState). RefusalIs state (Descendants id level) (Some why)) (λ table has. inl (unread old level id table reads.0, ap Some reads.1)))
+    (of_states old (λ (state : PlainState). RefusalIs state (Descendants id level) (Some why))
+    (λ table has. inl (unread old level id table reads.0, ap Some reads.1)))
 
-pub steps_cluster : {T : Type 0} (old new : Kept) (level : Level) (id : ℕ) (result : Result T Refusal) → IsSameGraph old new → Reads Either old new id result → Steps old new (Cluster id level) (names_reply result new.found)
+pub steps_cluster : {T : Type 0} (old new : Kept) (level : Level) (id : ℕ) (result : Result T Refusal) → IsSameGraph old new
+    → Reads Either old new id result → Steps old new (Cluster id level) (names_reply result new.found)
 steps_cluster old new level id (Ok done) same reads = steps_around old new level id same reads.0 reads.1
 steps_cluster old new level id (Err why) same reads =
     steps_refused old new (Cluster id level) why same
-    (of_states old (λ (state : PlainState). RefusalIs state (Cluster id level) (Some why)) (λ table has. inl (unread old level id table reads.0, ap Some reads.1)))
+    (of_states old (λ (state : PlainState). RefusalIs state (Cluster id level) (Some why))
+    (λ table has. inl (unread old level id table reads.0, ap Some reads.1)))

@@ -32,7 +32,8 @@ other_names id names = filter (λ name. not (eqb name id)) names
 names-without : (id : ℕ) (txs : List Tx) → names_of (without_name id txs) ≡ other_names id (names_of txs)
 names-without id [] = refl
 names-without id (tx ∷ txs) =
-    (elim (eqb tx.id id) as (λ b. names_of (cond (not b) (tx ∷ without_name id txs) (without_name id txs)) ≡ cond (not b) (tx.id ∷ other_names id (names_of txs)) (other_names id (names_of txs))) [
+    (elim (eqb tx.id id) as (λ b. names_of (cond (not b) (tx ∷ without_name id txs) (without_name id txs))
+    ≡ cond (not b) (tx.id ∷ other_names id (names_of txs)) (other_names id (names_of txs))) [
       | true ↦ names-without id txs
       | false ↦ λ i. tx.id ∷ names-without id txs i
     ])
@@ -40,10 +41,12 @@ names-without id (tx ∷ txs) =
 other-Contains : (id : ℕ) (names : List ℕ) (n : ℕ) → Contains (other_names id names) n → Contains names n × (n ≢ id)
 other-Contains id [] n here = absurd (none_in_empty n here)
 other-Contains id (name ∷ names) n here =
-    (elim (eqb name id) as (λ b. eqb name id ≡ b → Contains (cond (not b) (name ∷ other_names id names) (other_names id names)) n → Contains (name ∷ names) n × (n ≢ id)) [
+    (elim (eqb name id)
+    as (λ b. eqb name id ≡ b → Contains (cond (not b) (name ∷ other_names id names) (other_names id names)) n → Contains (name ∷ names) n × (n ≢ id)) [
       | true ↦ λ is here. let later = other-Contains id names n here in (Contains-later name n names later.0, later.1)
       | false ↦ λ is here. elim (Contains-cases name n (other_names id names) here) [
-        | inl same ↦ (subst (Contains (name ∷ names)) same (Contains-head name names), λ e. let t : eqb name id ≡ true = (Decides-eqb name id).1 (same ∙ e) in let f : true ≡ false = sym t ∙ is in cc)
+        | inl same ↦
+            (subst (Contains (name ∷ names)) same (Contains-head name names), λ e. let t : eqb name id ≡ true = (Decides-eqb name id).1 (same ∙ e) in let f : true ≡ false = sym t ∙ is in cc)
         | inr after ↦ let later = other-Contains id names n after in (Contains-later name n names later.0, later.1)
       ]
     ]) refl here
@@ -92,7 +95,8 @@ length-without : (id : ℕ) (txs : List Tx) → AreDistinct (names_of txs) → C
 length-without id [] once here = absurd (none_in_empty id here)
 length-without id (tx ∷ txs) once here =
     (elim (eqb tx.id id) as (λ b. eqb tx.id id ≡ b → length (tx ∷ txs) ≡ length (cond (not b) (tx ∷ without_name id txs) (without_name id txs)) + 1) [
-      | true ↦ λ is. let same : without_name id txs ≡ txs = without-absent id txs (subst (λ (n : ℕ). Contains (names_of txs) n → ⊥) ((Decides-eqb tx.id id).0 is) once.0) in
+      | true ↦ λ is. let same : without_name id txs ≡ txs =
+          without-absent id txs (subst (λ (n : ℕ). Contains (names_of txs) n → ⊥) ((Decides-eqb tx.id id).0 is) once.0) in
           let e : length (without_name id txs) ≡ length txs = ap length same in omega arith
       | false ↦ λ is. elim (Contains-cases tx.id id (names_of txs) here) [
         | inl same ↦ absurd (let t : eqb tx.id id ≡ true = (Decides-eqb tx.id id).1 same in let f : true ≡ false = sym t ∙ is in cc)
@@ -103,21 +107,25 @@ length-without id (tx ∷ txs) once here =
 gone_one : {X : Type 0} (tx id q : ℕ) (own none rest : X) → eqb tx id ≡ true → cond (eqb q id) none rest ≡ cond (eqb q id) none (cond (eqb tx q) own rest)
 gone_one tx id q own none rest is = grind (arith, nat_tests)
 
-gone_other : {X : Type 0} (tx id q : ℕ) (own none rest : X) → eqb tx id ≡ false → cond (eqb tx q) own (cond (eqb q id) none rest) ≡ cond (eqb q id) none (cond (eqb tx q) own rest)
+gone_other : {X : Type 0} (tx id q : ℕ) (own none rest : X) → eqb tx id ≡ false
+    → cond (eqb tx q) own (cond (eqb q id) none rest) ≡ cond (eqb q id) none (cond (eqb tx q) own rest)
 gone_other tx id q own none rest is = grind (arith, nat_tests)
 
 entry-without : (id : ℕ) (txs : List Tx) (q : ℕ) → entry_in (without_name id txs) q ≡ cond (eqb q id) None (entry_in txs q)
 entry-without id [] q = (elim (eqb q id) as (λ b. ◌≡◌ {A = Option Entry} None (cond b None None)) [ true ↦ refl | false ↦ refl ])
 entry-without id (tx ∷ txs) q =
-    (elim (eqb tx.id id) as (λ b. eqb tx.id id ≡ b → entry_in (cond (not b) (tx ∷ without_name id txs) (without_name id txs)) q ≡ cond (eqb q id) None (entry_in (tx ∷ txs) q)) [
+    (elim (eqb tx.id id)
+    as (λ b. eqb tx.id id ≡ b → entry_in (cond (not b) (tx ∷ without_name id txs) (without_name id txs)) q ≡ cond (eqb q id) None (entry_in (tx ∷ txs) q)) [
       | true ↦ λ is. entry-without id txs q ∙ gone_one tx.id id q (Some (entry_of tx)) None (entry_in txs q) is
-      | false ↦ λ is. ap (cond (eqb tx.id q) (Some (entry_of tx))) (entry-without id txs q) ∙ gone_other tx.id id q (Some (entry_of tx)) None (entry_in txs q) is
+      | false ↦ λ is. ap (cond (eqb tx.id q) (Some (entry_of tx))) (entry-without id txs q)
+          ∙ gone_other tx.id id q (Some (entry_of tx)) None (entry_in txs q) is
     ]) refl
 
 one_less : (m n : ℕ) → m ≡ n + 1 → m - 1 ≡ n
 one_less m n is = omega arith
 
-has_dropped : (txs : List Tx) (table : Table) (id : ℕ) → AreDistinct (names_of txs) → Contains (names_of txs) id → HasTable txs table → HasTable (without_name id txs) (finmap.remove table id)
+has_dropped : (txs : List Tx) (table : Table) (id : ℕ) → AreDistinct (names_of txs)
+    → Contains (names_of txs) id → HasTable txs table → HasTable (without_name id txs) (finmap.remove table id)
 has_dropped txs table id once here has = record {
   gets = λ q. finmap.get-remove nat_cmp_total table id q
       ∙ ap (λ b. cond b None (finmap.get table q)) (unsigned_tied q id)
@@ -132,7 +140,8 @@ has_dropped txs table id once here has = record {
 abbrev graph_without : ℕ → List Tx → List (ℕ × ℕ) → Graph
 graph_without id txs pairs = record { names = names_of (without_name id txs); pairs = pairs }
 
-is_without : (id : ℕ) (txs : List Tx) (old new : List (ℕ × ℕ)) → AreDistinct (names_of txs) → ArePairsWithout old id new → IsWithout (record { names = names_of txs; pairs = old }) id (graph_without id txs new)
+is_without : (id : ℕ) (txs : List Tx) (old new : List (ℕ × ℕ)) → AreDistinct (names_of txs) → ArePairsWithout old id new
+    → IsWithout (record { names = names_of txs; pairs = old }) id (graph_without id txs new)
 is_without id txs old new once pairs = record {
   names = without-named id txs;
   names_once = without-once id txs once;
@@ -140,7 +149,8 @@ is_without id txs old new once pairs = record {
   pairs_once = pairs.1;
 }
 
-pub remove_unknown : (kept : Kept) (id : ℕ) → (Contains (names_of kept.txs) id → ⊥) → (state : PlainState) → StandsFor kept state → RefusalIs state (Remove id) (Some (Unknown id))
+pub remove_unknown : (kept : Kept) (id : ℕ) → (Contains (names_of kept.txs) id → ⊥)
+    → (state : PlainState) → StandsFor kept state → RefusalIs state (Remove id) (Some (Unknown id))
 remove_unknown kept id absent = of_states kept (λ (state : PlainState). RefusalIs state (Remove id) (Some (Unknown id))) (λ table has. inl (absent, refl))
 
 pub remove_unrefused : (kept : Kept) (id : ℕ) → Contains (names_of kept.txs) id → (state : PlainState) → StandsFor kept state → RefusalIs state (Remove id) None
@@ -155,17 +165,20 @@ no_entry_of txs q absent = none_from (entry_in txs q) (λ some. absent (entry-Co
 
 -- the table that is left has the names that are left, and no other
 forgets : (old : Kept) (table : Table) (id : ℕ) (pairs : List (ℕ × ℕ)) → HasTable (without_name id old.txs) (finmap.remove table id) → HasTable old.txs table
-    → Forgets (with_top (begun (state_of old table)) (graph_without id old.txs pairs)) (record (with_top (begun (state_of old table)) (graph_without id old.txs pairs)) { table = finmap.remove table id })
+    → Forgets (with_top (begun (state_of old table)) (graph_without id old.txs pairs))
+    (record (with_top (begun (state_of old table)) (graph_without id old.txs pairs)) { table = finmap.remove table id })
 forgets old table id pairs dropped has =
     let stays : (q : ℕ) → Contains (names_of (without_name id old.txs)) q → finmap.get (finmap.remove table id) q ≡ finmap.get table q = λ q here.
-    finmap.get-remove nat_cmp_total table id q ∙ ap (λ b. cond b None (finmap.get table q)) (unsigned_tied q id ∙ ne_eqb q id ((without-named id old.txs q).0 here).1) in
+    finmap.get-remove nat_cmp_total table id q
+    ∙ ap (λ b. cond b None (finmap.get table q)) (unsigned_tied q id ∙ ne_eqb q id ((without-named id old.txs q).0 here).1) in
     record {
       same = refl;
       kept = λ q kept. elim kept [ inl one ↦ stays q one | inr two ↦ stays q two ];
       dropped = λ q gone. dropped.gets q ∙ no_entry_of (without_name id old.txs) q (λ here. gone (inl here));
     }
 
-pub steps_removed : (old new : Kept) (id : ℕ) → new.limits ≡ old.limits → new.begun ≡ true → new.txs ≡ without_name id old.txs → ArePairsWithout old.pairs id new.pairs → AreDistinct (names_of old.txs) → Contains (names_of old.txs) id → Steps old new (Remove id) Done
+pub steps_removed : (old new : Kept) (id : ℕ) → new.limits ≡ old.limits → new.begun ≡ true → new.txs ≡ without_name id old.txs
+    → ArePairsWithout old.pairs id new.pairs → AreDistinct (names_of old.txs) → Contains (names_of old.txs) id → Steps old new (Remove id) Done
 steps_removed old new id limits begins txs pairs once here =
     steps_accepted old new (Remove id) Done
     (remove_unrefused old id here)
@@ -188,10 +201,12 @@ steps_removed old new id limits begins txs pairs once here =
     ))
 
 -- the pairs that are left are of names that are left
-ends_left : (id : ℕ) (txs : List Tx) (old new : List (ℕ × ℕ)) → EndsAreAmong (names_of txs) old → ArePairsWithout old id new → EndsAreAmong (names_of (without_name id txs)) new
+ends_left : (id : ℕ) (txs : List Tx) (old new : List (ℕ × ℕ)) → EndsAreAmong (names_of txs) old
+    → ArePairsWithout old id new → EndsAreAmong (names_of (without_name id txs)) new
 ends_left id txs old new ends pairs a b here =
     let left = (pairs.0 a b).0 here in
-    let both : Contains (names_of txs) a × Contains (names_of txs) b = elim left.2 [ inl same ↦ ends a b same | inr across ↦ ((ends a id across.0).0, (ends id b across.1).1) ] in
+    let both : Contains (names_of txs) a × Contains (names_of txs) b =
+    elim left.2 [ inl same ↦ ends a b same | inr across ↦ ((ends a id across.0).0, (ends id b across.1).1) ] in
     ((without-named id txs a).1 (both.0, left.0), (without-named id txs b).1 (both.1, left.1))
 
 shorter : (id : ℕ) (txs : List Tx) → length (without_name id txs) ≤ length txs
@@ -203,7 +218,8 @@ shorter id (tx ∷ txs) =
     ])
 
 -- what the fields keep after a removal
-pub sound_removed : (set : Limits) (txs : List Tx) (old new : List (ℕ × ℕ)) (places id : ℕ) → IsSound set txs old places → ArePairsWithout old id new → IsSound set (without_name id txs) new places
+pub sound_removed : (set : Limits) (txs : List Tx) (old new : List (ℕ × ℕ)) (places id : ℕ)
+    → IsSound set txs old places → ArePairsWithout old id new → IsSound set (without_name id txs) new places
 sound_removed set txs old new places id sound pairs = record {
   in_range = sound.in_range;
   small = All-filter (λ (tx : Tx). not (eqb tx.id id)) (λ (tx : Tx). tx.size ≤ MAX_SIZE) txs sound.small;

@@ -26,7 +26,8 @@ pub record Spreading (way : Way) (pairs : List (ℕ × ℕ)) (first now : Room) 
   pub reached : (id : ℕ) → Contains now.ids id → ReachesFrom way pairs first.ids id
   pub same_room : length now.ids + now.room ≡ length first.ids + first.room
 
-pub spreading_starts : (way : Way) (pairs : List (ℕ × ℕ)) (first : Room) → HoldsAll pairs first.ids (length first.ids + first.room) → IsDistinct nat_eq first.ids → Spreading way pairs first first
+pub spreading_starts : (way : Way) (pairs : List (ℕ × ℕ)) (first : Room)
+    → HoldsAll pairs first.ids (length first.ids + first.room) → IsDistinct nat_eq first.ids → Spreading way pairs first first
 spreading_starts way pairs first held distinct = record {
   held = held;
   distinct = distinct;
@@ -43,7 +44,8 @@ lead_inside : (way : Way) (pairs : List (ℕ × ℕ)) (names : List ℕ) (a b : 
 lead_inside way pairs names a b ends lead = elim lead [ inl up ↦ (ends b a up.1).0 | inr down ↦ (ends a b down.1).1 ]
 
 -- the names found and the next one are among the names that the places hold
-inside_push : (way : Way) (pairs : List (ℕ × ℕ)) (ids names : List ℕ) (id : ℕ) → EndsAreAmong names pairs → ((q : ℕ) → Contains ids q → Contains names q) → LeadsOut way pairs ids id → (q : ℕ) → Contains (ids ++ id ∷ []) q → Contains names q
+inside_push : (way : Way) (pairs : List (ℕ × ℕ)) (ids names : List ℕ) (id : ℕ) → EndsAreAmong names pairs
+    → ((q : ℕ) → Contains ids q → Contains names q) → LeadsOut way pairs ids id → (q : ℕ) → Contains (ids ++ id ∷ []) q → Contains names q
 inside_push way pairs ids names id ends inside out q here = elim (Contains-push_cases ids id q here) [
   | inl before ↦ inside q before
   | inr same ↦ subst (Contains names) same (lead_inside way pairs names out.from id ends out.lead)
@@ -52,12 +54,14 @@ inside_push way pairs ids names id ends inside out q here = elim (Contains-push_
 pub room_left : (way : Way) (pairs : List (ℕ × ℕ)) (first now : Room) (id : ℕ) → Spreading way pairs first now → LeadsOut way pairs now.ids id → 0 < now.room
 room_left way pairs first now id so out =
     let within : length (now.ids ++ id ∷ []) ≤ length so.held.names =
-    length-within (now.ids ++ id ∷ []) so.held.names (distinct_push now.ids id so.distinct out.outside) (inside_push way pairs now.ids so.held.names id so.held.ends so.held.inside out) in
+    length-within (now.ids ++ id ∷ []) so.held.names (distinct_push now.ids id so.distinct out.outside)
+    (inside_push way pairs now.ids so.held.names id so.held.ends so.held.inside out) in
     let longer : length (now.ids ++ id ∷ []) ≡ length now.ids + 1 = length_push now.ids id in
     let enough : length so.held.names ≤ length now.ids + now.room = so.held.enough in
     omega arith
 
-pub spreading_on : (way : Way) (pairs : List (ℕ × ℕ)) (first now : Room) (id : ℕ) → Spreading way pairs first now → LeadsOut way pairs now.ids id → Spreading way pairs first (record { ids = now.ids ++ id ∷ []; room = now.room - 1 })
+pub spreading_on : (way : Way) (pairs : List (ℕ × ℕ)) (first now : Room) (id : ℕ) → Spreading way pairs first now
+    → LeadsOut way pairs now.ids id → Spreading way pairs first (record { ids = now.ids ++ id ∷ []; room = now.room - 1 })
 spreading_on way pairs first now id so out =
     let left : 0 < now.room = room_left way pairs first now id so out in
     let longer : length (now.ids ++ id ∷ []) ≡ length now.ids + 1 = length_push now.ids id in
@@ -75,7 +79,8 @@ spreading_on way pairs first now id so out =
     }
 
 -- where no pair leads out, the sorted list is the list of the names that walks lead to
-pub spread_lists : (way : Way) (pairs : List (ℕ × ℕ)) (first now : Room) (sorted : List ℕ) → Spreading way pairs first now → IsClosed way pairs now.ids → IsPermutation now.ids sorted → IsNonDecreasing sorted → Lists (ReachesFrom way pairs first.ids) sorted
+pub spread_lists : (way : Way) (pairs : List (ℕ × ℕ)) (first now : Room) (sorted : List ℕ) → Spreading way pairs first now
+    → IsClosed way pairs now.ids → IsPermutation now.ids sorted → IsNonDecreasing sorted → Lists (ReachesFrom way pairs first.ids) sorted
 spread_lists way pairs first now sorted so closed moved rising = record {
   rising = IsStrictlyIncreasing-from_distinct sorted rising (IsDistinct-IsPermutation nat_eq nat_eq_equiv.symm now.ids sorted moved so.distinct);
   exact = λ id. (

@@ -42,7 +42,8 @@ pub stands_for : (kept : Kept) (table : Table) → HasTable kept.txs table → S
 stands_for kept table has = record { limits = refl; most = refl; begun = refl; table = has.gets; live = has.live; names = refl; pairs = refl; staging = refl }
 
 -- What holds of each state that has the graph's parts holds of each that it stands for.
-pub of_states : (kept : Kept) (P : PlainState → Type 0) → ((table : Table) → HasTable kept.txs table → P (state_of kept table)) → (state : PlainState) → StandsFor kept state → P state
+pub of_states : (kept : Kept) (P : PlainState → Type 0) → ((table : Table) → HasTable kept.txs table → P (state_of kept table))
+    → (state : PlainState) → StandsFor kept state → P state
 of_states kept P holds state stands =
     let same : state_of kept state.table ≡ state =
     λ i. record { limits = sym stands.limits i; most = sym stands.most i; begun = sym stands.begun i; table = state.table; main = record { names = sym stands.names i; pairs = sym stands.pairs i }; staging = sym stands.staging i } in
@@ -73,22 +74,28 @@ stands_still old new same state stands = record {
   staging = stands.staging;
 }
 
-pub steps_refused : (old new : Kept) (command : Command) (why : Refusal) → IsSameGraph old new → ((state : PlainState) → StandsFor old state → RefusalIs state command (Some why)) → Steps old new command (Refused why)
+pub steps_refused : (old new : Kept) (command : Command) (why : Refusal) → IsSameGraph old new
+    → ((state : PlainState) → StandsFor old state → RefusalIs state command (Some why)) → Steps old new command (Refused why)
 steps_refused old new command why same refused state stands =
     (state, stands_still old new same state stands, λ picks. inl (record { why = why; first = refused state stands; told = refl; same = refl }))
 
-pub steps_without_memory : (old new : Kept) (command : Command) → IsSameGraph old new → MayLackMemory command → ((state : PlainState) → StandsFor old state → RefusalIs state command None) → Steps old new command (Refused Memory)
+pub steps_without_memory : (old new : Kept) (command : Command) → IsSameGraph old new → MayLackMemory command
+    → ((state : PlainState) → StandsFor old state → RefusalIs state command None) → Steps old new command (Refused Memory)
 steps_without_memory old new command same may none state stands =
     (state, stands_still old new same state stands, λ picks. inr (inl (record { none = none state stands; may = may; told = refl; same = refl })))
 
-pub steps_accepted : (old new : Kept) (command : Command) (reply : Reply) → ((state : PlainState) → StandsFor old state → RefusalIs state command None) → ((table : Table) → HasTable old.txs table → (next : PlainState) × StandsFor new next × ((picks : Picks) → AcceptsPlainly picks (state_of old table) command reply next)) → Steps old new command reply
+pub steps_accepted : (old new : Kept) (command : Command) (reply : Reply) → ((state : PlainState) → StandsFor old state → RefusalIs state command None)
+    → ((table : Table) → HasTable old.txs table
+    → (next : PlainState) × StandsFor new next × ((picks : Picks) → AcceptsPlainly picks (state_of old table) command reply next)) → Steps old new command reply
 steps_accepted old new command reply none accepts state stands =
-    let P : PlainState → Type 0 = λ (state : PlainState). (next : PlainState) × StandsFor new next × ((picks : Picks) → AcceptsPlainly picks state command reply next) in
+    let P : PlainState → Type 0 =
+    λ (state : PlainState). (next : PlainState) × StandsFor new next × ((picks : Picks) → AcceptsPlainly picks state command reply next) in
     let next : P state = of_states old P accepts state stands in
     (next.0, next.1, λ picks. inr (inr (record { none = none state stands; accepts = next.2 picks })))
 
 -- the table with one more name
-has_one_more : (txs : List Tx) (tx : Tx) (table : Table) → entry_in txs tx.id ≡ None → HasTable txs table → HasTable (txs ++ tx ∷ []) (finmap.insert table tx.id (entry_of tx))
+has_one_more : (txs : List Tx) (tx : Tx) (table : Table) → entry_in txs tx.id ≡ None
+    → HasTable txs table → HasTable (txs ++ tx ∷ []) (finmap.insert table tx.id (entry_of tx))
 has_one_more txs tx table none has = record {
   gets = λ id. finmap.get-insert nat_cmp_total table tx.id (entry_of tx) id
       ∙ ap (λ b. cond b (Some (entry_of tx)) (finmap.get table id)) (unsigned_tied id tx.id)
@@ -100,7 +107,8 @@ has_one_more txs tx table none has = record {
       ∙ sym (length_push txs tx);
 }
 
-pub steps_added : (old new : Kept) (tx : Tx) → new.limits ≡ old.limits → new.begun ≡ true → new.txs ≡ old.txs ++ tx ∷ [] → new.pairs ≡ old.pairs → entry_in old.txs tx.id ≡ None
+pub steps_added : (old new : Kept) (tx : Tx) → new.limits ≡ old.limits → new.begun ≡ true
+    → new.txs ≡ old.txs ++ tx ∷ [] → new.pairs ≡ old.pairs → entry_in old.txs tx.id ≡ None
     → ((state : PlainState) → StandsFor old state → RefusalIs state (Add tx.id tx.fee tx.size) None) → Steps old new (Add tx.id tx.fee tx.size) Done
 steps_added old new tx limits begun txs pairs none unrefused =
     steps_accepted old new (Add tx.id tx.fee tx.size) Done unrefused
@@ -120,7 +128,8 @@ steps_added old new tx limits begun txs pairs none unrefused =
       λ picks. record { answer = refl; change = refl },
     ))
 
-pub steps_limited : (old new : Kept) (limits : Limits) → new.limits ≡ limits → new.begun ≡ true → new.txs ≡ old.txs → new.pairs ≡ old.pairs → ((state : PlainState) → StandsFor old state → RefusalIs state (SetLimits limits.count limits.size limits.total) None)
+pub steps_limited : (old new : Kept) (limits : Limits) → new.limits ≡ limits → new.begun ≡ true → new.txs ≡ old.txs → new.pairs ≡ old.pairs
+    → ((state : PlainState) → StandsFor old state → RefusalIs state (SetLimits limits.count limits.size limits.total) None)
     → Steps old new (SetLimits limits.count limits.size limits.total) Done
 steps_limited old new limits is begun txs pairs none =
     steps_accepted old new (SetLimits limits.count limits.size limits.total) Done none
@@ -139,7 +148,8 @@ steps_limited old new limits is begun txs pairs none =
       λ picks. record { answer = refl; change = refl },
     ))
 
-pub stands_at_start : (kept : Kept) → kept.limits ≡ default_limits → kept.begun ≡ false → kept.txs ≡ [] → kept.pairs ≡ [] → StandsFor kept (plain_start MAX_COUNT)
+pub stands_at_start : (kept : Kept) → kept.limits ≡ default_limits → kept.begun ≡ false
+    → kept.txs ≡ [] → kept.pairs ≡ [] → StandsFor kept (plain_start MAX_COUNT)
 stands_at_start kept limits begun txs pairs = record {
   most = refl;
   limits = sym limits;
@@ -169,23 +179,29 @@ steps_counted kept level n same =
     ))
 
 among_more : (txs : List Tx) (tx : Tx) (id : ℕ) → Contains (names_of txs) id → Contains (names_of (txs ++ tx ∷ [])) id
-among_more txs tx id here = subst (λ (ids : List ℕ). Contains ids id) (sym (map_push (λ (tx : Tx). tx.id) txs tx)) (Contains-append_left (names_of txs) (tx.id ∷ []) id here)
+among_more txs tx id here =
+    subst (λ (ids : List ℕ). Contains ids id) (sym (map_push (λ (tx : Tx). tx.id) txs tx)) (Contains-append_left (names_of txs) (tx.id ∷ []) id here)
 
 no_entry : (found : Option Entry) → found ≡ None → IsSome found → ⊥
 no_entry None none some = none_of_true some
 no_entry (Some entry) none some = cc
 
 -- what the fields keep after one more transaction
-pub sound_added : (set : Limits) (txs : List Tx) (tx : Tx) (pairs : List (ℕ × ℕ)) (places more : ℕ) → IsSound set txs pairs places → entry_in txs tx.id ≡ None → tx.size ≤ MAX_SIZE → length txs + 1 ≤ more → IsSound set (txs ++ tx ∷ []) pairs more
+pub sound_added : (set : Limits) (txs : List Tx) (tx : Tx) (pairs : List (ℕ × ℕ)) (places more : ℕ) → IsSound set txs pairs places
+    → entry_in txs tx.id ≡ None → tx.size ≤ MAX_SIZE → length txs + 1 ≤ more → IsSound set (txs ++ tx ∷ []) pairs more
 sound_added set txs tx pairs places more sound none small room = record {
   in_range = sound.in_range;
   small = All-push (λ (tx : Tx). tx.size ≤ MAX_SIZE) txs tx sound.small small;
-  names_once = subst (AreDistinct {A = ℕ}) (sym (map_push (λ (tx : Tx). tx.id) txs tx)) (AreDistinct-push (names_of txs) tx.id sound.names_once (λ here. no_entry (entry_in txs tx.id) none (Contains-entry txs tx.id here)));
+  names_once = subst (AreDistinct {A = ℕ}) (sym (map_push (λ (tx : Tx). tx.id) txs tx))
+      (AreDistinct-push (names_of txs) tx.id sound.names_once (λ here. no_entry (entry_in txs tx.id) none (Contains-entry txs tx.id here)));
   pairs_once = sound.pairs_once;
   ends = λ parent child pair. let ends = sound.ends parent child pair in (among_more txs tx parent ends.0, among_more txs tx child ends.1);
   enough = subst (λ (n : ℕ). n ≤ more) (sym (length_push txs tx)) room;
 }
 
 -- the refusal of `add` at an equal fee
-pub at_fee : (kept : Kept) (id : ℕ) (given fee : ℤ) (size : ℕ) (found : Option Refusal) → given ≡ fee → ((state : PlainState) → StandsFor kept state → RefusalIs state (Add id given size) found) → (state : PlainState) → StandsFor kept state → RefusalIs state (Add id fee size) found
-at_fee kept id given fee size found same refused = subst (λ (fee : ℤ). (state : PlainState) → StandsFor kept state → RefusalIs state (Add id fee size) found) same refused
+pub at_fee : (kept : Kept) (id : ℕ) (given fee : ℤ) (size : ℕ) (found : Option Refusal) → given ≡ fee
+    → ((state : PlainState) → StandsFor kept state → RefusalIs state (Add id given size) found)
+    → (state : PlainState) → StandsFor kept state → RefusalIs state (Add id fee size) found
+at_fee kept id given fee size found same refused =
+    subst (λ (fee : ℤ). (state : PlainState) → StandsFor kept state → RefusalIs state (Add id fee size) found) same refused

@@ -36,7 +36,8 @@ only_two a b q P one other among = elim (Contains-cases a q (b ∷ []) among) [ 
 names_fit : (set : Limits) (txs : List Tx) (pairs : List (ℕ × ℕ)) (places : ℕ) → IsSound set txs pairs places → length (names_of txs) ≤ places
 names_fit set txs pairs places sound = subst (λ (n : ℕ). n ≤ places) (sym (length-map txs (λ (tx : Tx). tx.id))) sound.enough
 
-pub holds_one : (set : Limits) (txs : List Tx) (pairs : List (ℕ × ℕ)) (places id : ℕ) → IsSound set txs pairs places → Contains (names_of txs) id → HoldsAll pairs (id ∷ []) places
+pub holds_one : (set : Limits) (txs : List Tx) (pairs : List (ℕ × ℕ)) (places id : ℕ)
+    → IsSound set txs pairs places → Contains (names_of txs) id → HoldsAll pairs (id ∷ []) places
 holds_one set txs pairs places id sound here = record {
   names = names_of txs;
   ends = sound.ends;
@@ -44,7 +45,8 @@ holds_one set txs pairs places id sound here = record {
   enough = names_fit set txs pairs places sound;
 }
 
-pub holds_two : (set : Limits) (txs : List Tx) (pairs : List (ℕ × ℕ)) (places a b : ℕ) → IsSound set txs pairs places → Contains (names_of txs) a → Contains (names_of txs) b → HoldsAll pairs (a ∷ b ∷ []) places
+pub holds_two : (set : Limits) (txs : List Tx) (pairs : List (ℕ × ℕ)) (places a b : ℕ) → IsSound set txs pairs places
+    → Contains (names_of txs) a → Contains (names_of txs) b → HoldsAll pairs (a ∷ b ∷ []) places
 holds_two set txs pairs places a b sound here there = record {
   names = names_of txs;
   ends = sound.ends;
@@ -69,6 +71,8 @@ to_either pairs a b q walk = elim walk [
   | inr second ↦ (b, Contains-later a b (b ∷ []) (Contains-head b []), AreConnected-sym pairs q b second)
 ]
 
-pub lists_from_two : (pairs : List (ℕ × ℕ)) (a b : ℕ) (ids : List ℕ) → Lists (ReachesFrom Either pairs (a ∷ b ∷ [])) ids → Lists (λ id. AreConnected pairs id a ⊎ AreConnected pairs id b) ids
+pub lists_from_two : (pairs : List (ℕ × ℕ)) (a b : ℕ) (ids : List ℕ) → Lists (ReachesFrom Either pairs (a ∷ b ∷ [])) ids
+    → Lists (λ id. AreConnected pairs id a ⊎ AreConnected pairs id b) ids
 lists_from_two pairs a b ids lists =
-    Lists-for (ReachesFrom Either pairs (a ∷ b ∷ [])) (λ id. AreConnected pairs id a ⊎ AreConnected pairs id b) ids (from_either pairs a b) (to_either pairs a b) lists
+    Lists-for (ReachesFrom Either pairs (a ∷ b ∷ [])) (λ id. AreConnected pairs id a ⊎ AreConnected pairs id b) ids
+    (from_either pairs a b) (to_either pairs a b) lists

@@ -28,11 +28,13 @@ reaches_on Either pairs a b c walk lead = elim lead [
   | inr down ↦ (suc walk.0, (b, walk.1, inl down.1))
 ]
 
-stays_up : (way : Way) (pairs : List (ℕ × ℕ)) (ids : List ℕ) (a b n : ℕ) → ((p c : ℕ) → Contains pairs (p, c) → Contains ids c → Contains ids p) → Contains ids a → Walk pairs b a n → Contains ids b
+stays_up : (way : Way) (pairs : List (ℕ × ℕ)) (ids : List ℕ) (a b n : ℕ)
+    → ((p c : ℕ) → Contains pairs (p, c) → Contains ids c → Contains ids p) → Contains ids a → Walk pairs b a n → Contains ids b
 stays_up way pairs ids a b zero closed inside same = subst (Contains ids) (sym same) inside
 stays_up way pairs ids a b (suc n) closed inside walk = stays_up way pairs ids walk.0 b n closed (closed walk.0 a walk.2 inside) walk.1
 
-stays_down : (pairs : List (ℕ × ℕ)) (ids : List ℕ) (a b n : ℕ) → ((p c : ℕ) → Contains pairs (p, c) → Contains ids p → Contains ids c) → Contains ids a → Walk pairs a b n → Contains ids b
+stays_down : (pairs : List (ℕ × ℕ)) (ids : List ℕ) (a b n : ℕ)
+    → ((p c : ℕ) → Contains pairs (p, c) → Contains ids p → Contains ids c) → Contains ids a → Walk pairs a b n → Contains ids b
 stays_down pairs ids a b zero closed inside same = subst (Contains ids) same inside
 stays_down pairs ids a b (suc n) closed inside walk = closed walk.0 b walk.2 (stays_down pairs ids a walk.0 n closed inside walk.1)
 
@@ -50,33 +52,41 @@ stays Up pairs ids a b closed inside walk = stays_up Up pairs ids a b walk.0 (λ
 stays Down pairs ids a b closed inside walk = stays_down pairs ids a b walk.0 (λ p c pair. (closed p c pair).down refl) inside walk.1
 stays Either pairs ids a b closed inside trail = stays_either pairs ids a b trail.0 closed inside trail.1
 
-pub leads_among : (way : Way) (pairs others : List (ℕ × ℕ)) (a b : ℕ) → ((p c : ℕ) → Contains pairs (p, c) → Contains others (p, c)) → Leads way pairs a b → Leads way others a b
+pub leads_among : (way : Way) (pairs others : List (ℕ × ℕ)) (a b : ℕ)
+    → ((p c : ℕ) → Contains pairs (p, c) → Contains others (p, c)) → Leads way pairs a b → Leads way others a b
 leads_among way pairs others a b within lead = elim lead [ inl up ↦ inl (up.0, within b a up.1) | inr down ↦ inr (down.0, within a b down.1) ]
 
 -- what a pair leads out to is reached
-pub reached_next : (way : Way) (pairs : List (ℕ × ℕ)) (starts ids : List ℕ) (id : ℕ) → ((q : ℕ) → Contains ids q → ReachesFrom way pairs starts q) → LeadsOut way pairs ids id → ReachesFrom way pairs starts id
+pub reached_next : (way : Way) (pairs : List (ℕ × ℕ)) (starts ids : List ℕ) (id : ℕ)
+    → ((q : ℕ) → Contains ids q → ReachesFrom way pairs starts q) → LeadsOut way pairs ids id → ReachesFrom way pairs starts id
 reached_next way pairs starts ids id reached out =
     let walk : ReachesFrom way pairs starts out.from = reached out.from out.inside in
     (walk.0, walk.1, reaches_on way pairs walk.0 out.from id walk.2 out.lead)
 
-pub leads_out_among : (way : Way) (pairs others : List (ℕ × ℕ)) (ids : List ℕ) (id : ℕ) → ((p c : ℕ) → Contains pairs (p, c) → Contains others (p, c)) → LeadsOut way pairs ids id → LeadsOut way others ids id
-leads_out_among way pairs others ids id within out = record { from = out.from; inside = out.inside; lead = leads_among way pairs others out.from id within out.lead; outside = out.outside }
+pub leads_out_among : (way : Way) (pairs others : List (ℕ × ℕ)) (ids : List ℕ) (id : ℕ)
+    → ((p c : ℕ) → Contains pairs (p, c) → Contains others (p, c)) → LeadsOut way pairs ids id → LeadsOut way others ids id
+leads_out_among way pairs others ids id within out =
+    record { from = out.from; inside = out.inside; lead = leads_among way pairs others out.from id within out.lead; outside = out.outside }
 
-same_pair : (way : Way) (ids : List ℕ) (pair : ℕ × ℕ) (parent child : ℕ) → ◌≡◌ {A = ℕ × ℕ} pair (parent, child) → PairStays way ids pair.0 pair.1 → PairStays way ids parent child
+same_pair : (way : Way) (ids : List ℕ) (pair : ℕ × ℕ) (parent child : ℕ)
+    → ◌≡◌ {A = ℕ × ℕ} pair (parent, child) → PairStays way ids pair.0 pair.1 → PairStays way ids parent child
 same_pair way ids pair parent child same stay = subst (λ (pair : ℕ × ℕ). PairStays way ids pair.0 pair.1) same stay
 
 pub closed_none : (way : Way) (ids : List ℕ) → IsClosed way [] ids
 closed_none way ids parent child pair = absurd (omega (arith, pair.1))
 
-pub closed_push : (way : Way) (pairs : List (ℕ × ℕ)) (ids : List ℕ) (pair : ℕ × ℕ) → IsClosed way pairs ids → PairStays way ids pair.0 pair.1 → IsClosed way (pairs ++ pair ∷ []) ids
+pub closed_push : (way : Way) (pairs : List (ℕ × ℕ)) (ids : List ℕ) (pair : ℕ × ℕ)
+    → IsClosed way pairs ids → PairStays way ids pair.0 pair.1 → IsClosed way (pairs ++ pair ∷ []) ids
 closed_push way pairs ids pair closed stay parent child here = elim (Contains-push_cases pairs pair (parent, child) here) [
   | inl before ↦ closed parent child before
   | inr same ↦ same_pair way ids pair parent child same stay
 ]
 
-pub closed_more : (way : Way) (pairs : List (ℕ × ℕ)) (ids : List ℕ) (i : ℕ) (d : ℕ × ℕ) → i < length pairs → IsClosed way (take i pairs) ids → PairStays way ids (get_or pairs i d).0 (get_or pairs i d).1 → IsClosed way (take (i + 1) pairs) ids
+pub closed_more : (way : Way) (pairs : List (ℕ × ℕ)) (ids : List ℕ) (i : ℕ) (d : ℕ × ℕ) → i < length pairs
+    → IsClosed way (take i pairs) ids → PairStays way ids (get_or pairs i d).0 (get_or pairs i d).1 → IsClosed way (take (i + 1) pairs) ids
 closed_more way pairs ids i d below closed stay =
-    subst (λ (front : List (ℕ × ℕ)). IsClosed way front ids) (sym (take_more pairs i d below)) (closed_push way (take i pairs) ids (get_or pairs i d) closed stay)
+    subst (λ (front : List (ℕ × ℕ)). IsClosed way front ids) (sym (take_more pairs i d below))
+    (closed_push way (take i pairs) ids (get_or pairs i d) closed stay)
 
 pub closed_all : (way : Way) (pairs : List (ℕ × ℕ)) (ids : List ℕ) (i : ℕ) → length pairs ≤ i → IsClosed way (take i pairs) ids → IsClosed way pairs ids
 closed_all way pairs ids i past closed = subst (λ (front : List (ℕ × ℕ)). IsClosed way front ids) (take_all i pairs past) closed

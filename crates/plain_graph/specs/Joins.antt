@@ -19,4 +19,5 @@ JoinsTooLarge set txs pairs parent child n =
 
 -- the refusal that it meets
 abbrev pub JoinRefusalIs : Limits → List Tx → List (ℕ × ℕ) → ℕ → ℕ → Option Refusal → Type 0
-JoinRefusalIs set txs pairs parent child = FirstAt (JoinsTooMany set pairs parent child) Count (FirstAt (JoinsTooLarge set txs pairs parent child) ClusterSize NoRefusal)
+JoinRefusalIs set txs pairs parent child =
+    FirstAt (JoinsTooMany set pairs parent child) Count (FirstAt (JoinsTooLarge set txs pairs parent child) ClusterSize NoRefusal)

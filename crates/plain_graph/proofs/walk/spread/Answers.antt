@@ -22,7 +22,8 @@ loop-id-preserved c =
 
 pub returns-clause-lists : goal.returns-clause-lists
 returns-clause-lists c =
-    spread_lists c.args.way c.args.pairs.now c.args.found.now c.loop-id.found c.sort.new.self.ids c.loop-id.invariant (rw (← c.ids.ensures) c.in_default.ensures) c.sort.ensures.permutation c.sort.ensures.sorted
+    spread_lists c.args.way c.args.pairs.now c.args.found.now c.loop-id.found c.sort.new.self.ids c.loop-id.invariant
+    (rw (← c.ids.ensures) c.in_default.ensures) c.sort.ensures.permutation c.sort.ensures.sorted
 
 pub returns-clause-room : goal.returns-clause-room
 returns-clause-room c =

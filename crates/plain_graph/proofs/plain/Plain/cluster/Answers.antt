@@ -2,4 +2,5 @@ use Rattle.plain_graph.proofs.Readings.{same_but_found, steps_cluster}
 use Rattle.plain_graph.proofs.plain.Plain.cluster.Goals as goal
 
 pub returns-clause-step : goal.returns-clause-step
-returns-clause-step c = steps_cluster c.args.self.now c.walk.new.self c.args.level c.args.id c.walk.result (same_but_found c.args.self.now c.walk.new.self _ c.walk.ensures.same) c.walk.ensures.found
+returns-clause-step c = steps_cluster c.args.self.now c.walk.new.self c.args.level c.args.id c.walk.result
+    (same_but_found c.args.self.now c.walk.new.self _ c.walk.ensures.same) c.walk.ensures.found

@@ -7,7 +7,8 @@ use Rattle.plain_graph.proofs.Fees.{at_new_fee, steps_paid, sound_paid}
 use Rattle.plain_graph.proofs.plain.Plain.fee.Goals as goal
 
 pub returns-in-Some-clause-step : goal.returns-in-Some-clause-step
-returns-in-Some-clause-step c = steps_refused c.args.self.now c.args.self.now (SetFee c.args.id c.args.fee) c.in-Some.why (itself c.args.self.now) (at_new_fee c.args.self.now c.args.id _ c.args.fee _ (to_z-of_z c.ranges.fee) c.in-Some.ensures.first)
+returns-in-Some-clause-step c = steps_refused c.args.self.now c.args.self.now (SetFee c.args.id c.args.fee) c.in-Some.why
+    (itself c.args.self.now) (at_new_fee c.args.self.now c.args.id _ c.args.fee _ (to_z-of_z c.ranges.fee) c.in-Some.ensures.first)
 
 pub invariant_of-self : goal.invariant_of-self
 invariant_of-self c = rw c.set_fee.ensures (sound_paid c.self.inside.limits c.self.inside.txs.items c.self.inside.pairs.items _ _ _ c.self.invariant)
@@ -15,5 +16,7 @@ invariant_of-self c = rw c.set_fee.ensures (sound_paid c.self.inside.limits c.se
 pub returns-clause-step : goal.returns-clause-step
 returns-clause-step c =
     let paid : c.set_fee.new.txs.items ≡ map (paying c.args.id c.args.fee) c.self.inside.txs.items = rw (to_z-of_z c.ranges.fee) at c.set_fee.ensures in
-    steps_paid c.args.self.now _ c.args.id c.args.fee (ap (λ (kept : Kept). kept.limits) c.self.view_is) refl (paid ∙ ap (λ (kept : Kept). map (paying c.args.id c.args.fee) kept.txs) c.self.view_is) (ap (λ (kept : Kept). kept.pairs) c.self.view_is) (c.in_default.ensures.live refl)
+    steps_paid c.args.self.now _ c.args.id c.args.fee (ap (λ (kept : Kept). kept.limits) c.self.view_is) refl
+    (paid ∙ ap (λ (kept : Kept). map (paying c.args.id c.args.fee) kept.txs) c.self.view_is)
+    (ap (λ (kept : Kept). kept.pairs) c.self.view_is) (c.in_default.ensures.live refl)
     (at_new_fee c.args.self.now c.args.id _ c.args.fee _ (to_z-of_z c.ranges.fee) c.in_default.ensures.first)

@@ -9,20 +9,23 @@ use Rattle.plain_graph.proofs.plain.Plain.walk.Goals as goal
 
 pub returns-then-not-is_live-clause-found : goal.returns-then-not-is_live-clause-found
 returns-then-not-is_live-clause-found c =
-    let named : IsTrue c.is_live.result ↔ Contains (names_of c.args.self.now.txs) c.args.id = rw (← c.self.view_is) (rw c.deref.ensures.value at c.is_live.ensures.named) in
+    let named : IsTrue c.is_live.result ↔ Contains (names_of c.args.self.now.txs) c.args.id =
+    rw (← c.self.view_is) (rw c.deref.ensures.value at c.is_live.ensures.named) in
     (not_so c.is_live.result named c.if-not-is_live.true, refl)
 
 pub reach-requires-clause-room : goal.reach-requires-clause-room
 reach-requires-clause-room c =
     let named : IsTrue c.is_live.result ↔ Contains (names_of c.self.inside.txs.items) c.args.id = rw c.deref.ensures.value at c.is_live.ensures.named in
-    rw c.deref-2.ensures.value (holds_one _ c.self.inside.txs.items c.self.inside.pairs.items _ c.args.id c.self.invariant (so c.is_live.result named c.if-not-is_live.false))
+    rw c.deref-2.ensures.value
+    (holds_one _ c.self.inside.txs.items c.self.inside.pairs.items _ c.args.id c.self.invariant (so c.is_live.result named c.if-not-is_live.false))
 
 pub reach-requires-clause-distinct : goal.reach-requires-clause-distinct
 reach-requires-clause-distinct c = distinct_one c.args.id
 
 pub returns-clause-found : goal.returns-clause-found
 returns-clause-found c =
-    let named : IsTrue c.is_live.result ↔ Contains (names_of c.args.self.now.txs) c.args.id = rw (← c.self.view_is) (rw c.deref.ensures.value at c.is_live.ensures.named) in
+    let named : IsTrue c.is_live.result ↔ Contains (names_of c.args.self.now.txs) c.args.id =
+    rw (← c.self.view_is) (rw c.deref.ensures.value at c.is_live.ensures.named) in
     let lists : Lists (Reaches c.args.way c.self.inside.pairs.items c.args.id) c.reach.new.found.ids =
     lists_from_one c.args.way c.self.inside.pairs.items c.args.id c.reach.new.found.ids (rw c.deref-2.ensures.value at c.reach.ensures.lists) in
     (so c.is_live.result named c.if-not-is_live.false, rw (← c.self.view_is) lists)
