@@ -138,12 +138,14 @@ corners_to ra rb a b alike one other points corners = record {
 chunks_to : (ra rb : ℕ → Sum) (a b : Graph) → AreAlike ra a rb b → (parts : List (List ℕ)) → IsTopological a (joined parts)
     → AreChunks ra a.pairs parts → AreChunks rb b.pairs parts
 chunks_to ra rb a b alike parts order chunks =
-    let member : (ids : List ℕ) → Contains parts ids → (id : ℕ) → Contains ids id → Contains a.names id = λ ids h id there. (order.names id).0 (joined-Contains parts ids id h there) in
+    let member : (ids : List ℕ) → Contains parts ids → (id : ℕ) → Contains ids id → Contains a.names id =
+    λ ids h id there. (order.names id).0 (joined-Contains parts ids id h there) in
     record {
       filled = chunks.filled;
       falling = subst Falls (maps_along ra rb parts (λ ids h. sums_to ra rb a b alike ids (member ids h))) chunks.falling;
       fronts = λ part front rest h e filled.
-          let inside : (id : ℕ) → Contains front id → Contains a.names id = λ id there. member part h id (subst (λ zs. Contains zs id) (sym e) (Contains-append_left front rest id there)) in
+          let inside : (id : ℕ) → Contains front id → Contains a.names id =
+          λ id there. member part h id (subst (λ zs. Contains zs id) (sym e) (Contains-append_left front rest id there)) in
           subst (λ (s : Sum). AtMost s (sums rb part)) (sums_to ra rb a b alike front inside)
           (subst (λ (s : Sum). AtMost (sums ra front) s) (sums_to ra rb a b alike part (member part h)) (chunks.fronts part front rest h e filled));
       together = λ part h. together_to ra rb a b alike part (chunks.together part h);
@@ -156,7 +158,8 @@ optimal_to ra rb a b alike one other parts optimal = record {
   chunks = chunks_to ra rb a b alike parts optimal.order optimal.chunks;
   best = λ front rest order.
       let here = topological_to rb ra b a (alike_back ra rb a b alike) one (front ++ rest) order in
-      let lists = maps_along ra rb parts (λ ids h. sums_to ra rb a b alike ids (λ id there. (optimal.order.names id).0 (joined-Contains parts ids id h there))) in
+      let lists =
+      maps_along ra rb parts (λ ids h. sums_to ra rb a b alike ids (λ id there. (optimal.order.names id).0 (joined-Contains parts ids id h there))) in
       let fronts = sums_to ra rb a b alike front (λ id h. (here.names id).0 (Contains-append_left front rest id h)) in
       subst (λ zs. IsUnderDiagram zs (sums rb front)) lists (subst (λ (s : Sum). IsUnderDiagram (map (sums ra) parts) s) fronts (optimal.best front rest here));
 }
@@ -177,7 +180,8 @@ certifies_to ra rb a b alike ids flows inside certified = record {
   some = certified.some;
   balanced = λ id h.
       subst (λ (own : Sum). weight_in (sums rb ids) own ≡ pos (given flows id) -ℤ pos (gotten flows id)) (alike.sums id (inside id h))
-      (subst (λ (whole : Sum). weight_in whole (ra id) ≡ pos (given flows id) -ℤ pos (gotten flows id)) (sums_to ra rb a b alike ids inside) (certified.balanced id h));
+      (subst (λ (whole : Sum). weight_in whole (ra id) ≡ pos (given flows id) -ℤ pos (gotten flows id))
+      (sums_to ra rb a b alike ids inside) (certified.balanced id h));
 }
 
 pub certificate_to : (ra rb : ℕ → Sum) (a b : Graph) → AreAlike ra a rb b → IsGraph b → (parts : List Part)

@@ -55,11 +55,13 @@ total_same_members f (x ∷ xs) ys d e same =
 sum_parts : ℤ → ℕ → Sum
 sum_parts fee size = record { fee = fee; size = size }
 
-pub sums_same_members : (rate : ℕ → Sum) (xs ys : List ℕ) → AreDistinct xs → AreDistinct ys → ((x : ℕ) → Contains xs x ↔ Contains ys x) → sums rate xs ≡ sums rate ys
+pub sums_same_members : (rate : ℕ → Sum) (xs ys : List ℕ) → AreDistinct xs → AreDistinct ys
+    → ((x : ℕ) → Contains xs x ↔ Contains ys x) → sums rate xs ≡ sums rate ys
 unfolding sum_parts
 sums_same_members rate xs ys d e same =
     let fees : (sums rate xs).fee ≡ (sums rate ys).fee = total_same_members (λ id. (rate id).fee) xs ys d e same in
-    let sizes : (sums rate xs).size ≡ (sums rate ys).size = omega (arith, ints, total_same_members (λ id. pos (rate id).size) xs ys d e same, total-pos (λ id. (rate id).size) xs, total-pos (λ id. (rate id).size) ys) in
+    let sizes : (sums rate xs).size ≡ (sums rate ys).size = omega
+    (arith, ints, total_same_members (λ id. pos (rate id).size) xs ys d e same, total-pos (λ id. (rate id).size) xs, total-pos (λ id. (rate id).size) ys) in
     ap (λ (f : ℤ). sum_parts f (sums rate xs).size) fees ∙ ap (λ (n : ℕ). sum_parts (sums rate ys).fee n) sizes
 
 -- ---- parts and their names
@@ -86,7 +88,8 @@ joined_distinct parts part h d =
 
 pub sum_of-joined : (rate : ℕ → Sum) (parts : List (List ℕ)) → sum_of (map (sums rate) parts) ≡ sums rate (joined parts)
 unfolding sum_parts
-sum_of-joined rate parts = ap (λ (f : ℤ). sum_parts f (sum_of (map (sums rate) parts)).size) (fees parts) ∙ ap (λ (n : ℕ). sum_parts (sums rate (joined parts)).fee n) (sizes parts)
+sum_of-joined rate parts = ap (λ (f : ℤ). sum_parts f (sum_of (map (sums rate) parts)).size) (fees parts)
+    ∙ ap (λ (n : ℕ). sum_parts (sums rate (joined parts)).fee n) (sizes parts)
   where
     fees : (ps : List (List ℕ)) → (sum_of (map (sums rate) ps)).fee ≡ (sums rate (joined ps)).fee
     fees [] = refl
@@ -107,18 +110,21 @@ pub among_is : (set : List ℕ) (id : ℕ) → Contains set id → among set id 
 among_is set id h = (is_member-Decides Decides-eqb set id).1 h
 
 -- a closed set's share of a part is closed within the part
-pub share_closed : (graph : Graph) (parts : List (List ℕ)) (part set : List ℕ) → IsTopological graph (joined parts) → Contains parts part → IsClosedWithin graph.pairs graph.names set → IsClosedWithin graph.pairs part (filter (among set) part)
+pub share_closed : (graph : Graph) (parts : List (List ℕ)) (part set : List ℕ) → IsTopological graph (joined parts)
+    → Contains parts part → IsClosedWithin graph.pairs graph.names set → IsClosedWithin graph.pairs part (filter (among set) part)
 share_closed graph parts part set order h closed = record {
   once = distinct-filter (among set) part (joined_distinct parts part h order.once);
   inside = λ id there. (filter-Contains (among set) part id there).1;
   parents = λ parent child pair there here.
       Contains-filter (among set) part parent
-      (among_is set parent (closed.parents parent child pair ((order.names parent).0 (joined-Contains parts part parent h there)) (among_yes set child (filter-Contains (among set) part child here).0)))
+      (among_is set parent (closed.parents parent child pair ((order.names parent).0 (joined-Contains parts part parent h there))
+      (among_yes set child (filter-Contains (among set) part child here).0)))
       there;
 }
 
 -- a closed set is, but for its order, what it holds of an order of all names
-pub share_is : (rate : ℕ → Sum) (graph : Graph) (order set : List ℕ) → IsTopological graph order → IsClosedWithin graph.pairs graph.names set → sums rate (filter (among set) order) ≡ sums rate set
+pub share_is : (rate : ℕ → Sum) (graph : Graph) (order set : List ℕ) → IsTopological graph order
+    → IsClosedWithin graph.pairs graph.names set → sums rate (filter (among set) order) ≡ sums rate set
 share_is rate graph order set topological closed =
     sums_same_members rate (filter (among set) order) set (distinct-filter (among set) order topological.once) closed.once (λ id. (
       (λ h. among_yes set id (filter-Contains (among set) order id h).0),
@@ -164,10 +170,12 @@ flat_bounds rate graph parts set some order chunks flat closed = record {
       let xs = found.0 in
       let ys = found.1 in
       let x = found.2 in
-      let line = flat_tangent rate graph xs ys x set some (subst (λ zs. IsTopological graph (joined zs)) found.3 order) (subst (λ zs. AreChunks rate graph.pairs zs) found.3 chunks)
+      let line = flat_tangent rate graph xs ys x set some (subst (λ zs. IsTopological graph (joined zs)) found.3 order)
+      (subst (λ zs. AreChunks rate graph.pairs zs) found.3 chunks)
       (λ ids h. flat ids (subst (λ zs. Contains zs ids) (sym found.3) h)) closed in
       let origin : sums rate (joined xs) ≡ sum_of before = sym (sum_of-joined rate xs) ∙ ap sum_of (sym found.4) in
-      subst (λ (p : Sum). IsUnderLine (sum_of before) p (sums rate set)) (sym found.5) (subst (λ (o : Sum). IsUnderLine o (sums rate x) (sums rate set)) origin line);
+      subst (λ (p : Sum). IsUnderLine (sum_of before) p (sums rate set)) (sym found.5)
+      (subst (λ (o : Sum). IsUnderLine o (sums rate x) (sums rate set)) origin line);
   none = λ e. nothing set (λ id h. none_in_empty id (subst (λ zs. Contains (joined zs) id) (no_parts rate parts e) ((order.names id).1 (closed.inside id h))));
 }
   where
@@ -185,7 +193,8 @@ front_closed graph front rest order = record {
       stays_before stands.0 stands.1 front rest parent child (sym stands.2) order.once here stands.3;
 }
 
-pub flat_optimal : (rate : ℕ → Sum) (graph : Graph) (parts : List (List ℕ)) → HasSizes rate graph.names → IsTopological graph (joined parts) → AreChunks rate graph.pairs parts
+pub flat_optimal : (rate : ℕ → Sum) (graph : Graph) (parts : List (List ℕ)) → HasSizes rate graph.names
+    → IsTopological graph (joined parts) → AreChunks rate graph.pairs parts
     → ((ids : List ℕ) → Contains parts ids → IsFlat rate graph.pairs ids) → IsOptimal rate graph parts
 flat_optimal rate graph parts some order chunks flat = record {
   order = order;
@@ -201,17 +210,21 @@ regrouped : (a b c d : List ℕ) → a ++ ((b ++ c) ++ d) ≡ (a ++ b) ++ (c ++ 
 regrouped a b c d = ap (λ zs. a ++ zs) (assoc b c d) ∙ sym (assoc a b (c ++ d))
 
 -- a front of a part is closed within the part
-pub part_front_closed : (graph : Graph) (parts : List (List ℕ)) (part front rest : List ℕ) → IsTopological graph (joined parts) → Contains parts part → part ≡ front ++ rest → IsClosedWithin graph.pairs part front
+pub part_front_closed : (graph : Graph) (parts : List (List ℕ)) (part front rest : List ℕ)
+    → IsTopological graph (joined parts) → Contains parts part → part ≡ front ++ rest → IsClosedWithin graph.pairs part front
 part_front_closed graph parts part front rest order h e = record {
   once = distinct-append_left front rest (subst AreDistinct e (joined_distinct parts part h order.once));
   inside = λ id here. subst (λ zs. Contains zs id) (sym e) (Contains-append_left front rest id here);
   parents = λ parent child pair there here.
       let found = joined-part parts part h in
-      let whole : joined parts ≡ (found.0 ++ front) ++ (rest ++ found.1) = found.2 ∙ ap (λ zs. found.0 ++ (zs ++ found.1)) e ∙ regrouped found.0 front rest found.1 in
+      let whole : joined parts ≡ (found.0 ++ front) ++ (rest ++ found.1) =
+      found.2 ∙ ap (λ zs. found.0 ++ (zs ++ found.1)) e ∙ regrouped found.0 front rest found.1 in
       let stands = order.parents_first parent child pair in
-      let early = stays_before stands.0 stands.1 (found.0 ++ front) (rest ++ found.1) parent child (sym stands.2 ∙ whole) (subst AreDistinct whole order.once) (Contains-append_right found.0 front child here) stands.3 in
+      let early = stays_before stands.0 stands.1 (found.0 ++ front) (rest ++ found.1) parent child (sym stands.2 ∙ whole)
+      (subst AreDistinct whole order.once) (Contains-append_right found.0 front child here) stands.3 in
       elim (Contains-append_cases found.0 front parent early) [
-        | inl before ↦ absurd (distinct_apart found.0 (part ++ found.1) parent (subst AreDistinct found.2 order.once) before (Contains-append_left part found.1 parent there))
+        | inl before ↦ absurd
+            (distinct_apart found.0 (part ++ found.1) parent (subst AreDistinct found.2 order.once) before (Contains-append_left part found.1 parent there))
         | inr now ↦ now
       ];
 }
@@ -228,24 +241,28 @@ joined_ids : (parts : List Part) → flat_map (λ part. part.ids) parts ≡ join
 joined_ids [] = refl
 joined_ids (p ∷ parts) = ap (λ ids. p.ids ++ ids) (joined_ids parts)
 
-rates_are_sums : (rate : ℕ → Sum) (parts : List Part) → ((part : Part) → Contains parts part → part.rate ≡ sums rate part.ids) → map (λ part. part.rate) parts ≡ map (sums rate) (map (λ part. part.ids) parts)
+rates_are_sums : (rate : ℕ → Sum) (parts : List Part) → ((part : Part) → Contains parts part → part.rate ≡ sums rate part.ids)
+    → map (λ part. part.rate) parts ≡ map (sums rate) (map (λ part. part.ids) parts)
 rates_are_sums rate [] e = refl
 rates_are_sums rate (p ∷ parts) e = λ i. e p (Contains-head p parts) i ∷ rates_are_sums rate parts (λ q h. e q (Contains-later p q parts h)) i
 
 pub certified_optimal : (rate : ℕ → Sum) (graph : Graph) (IsLink : ℕ → ℕ → Type 0) (parts : List Part) → HasSizes rate graph.names
-    → ((parent child : ℕ) → IsLink parent child → Contains graph.pairs (parent, child)) → IsCertificate rate graph IsLink parts → IsOptimal rate graph (map (λ part. part.ids) parts)
+    → ((parent child : ℕ) → IsLink parent child → Contains graph.pairs (parent, child))
+    → IsCertificate rate graph IsLink parts → IsOptimal rate graph (map (λ part. part.ids) parts)
 certified_optimal rate graph IsLink parts some linked certificate =
     let lists = map (λ part. part.ids) parts in
     let order : IsTopological graph (joined lists) = subst (IsTopological graph) (joined_ids parts) certificate.order.topological in
     let flat : (ids : List ℕ) → Contains lists ids → IsFlat rate graph.pairs ids = λ ids h set closed. (
     let found = part_of_ids parts ids h in
     subst (λ (zs : List ℕ). AtMost (sums rate set) (sums rate zs)) found.2
-    (flow_bounds rate IsLink graph.pairs found.0.ids set found.0.flows linked (certificate.flows found.0 found.1) (subst (λ (zs : List ℕ). IsClosedWithin graph.pairs zs set) (sym found.2) closed))) in
+    (flow_bounds rate IsLink graph.pairs found.0.ids set found.0.flows linked (certificate.flows found.0 found.1)
+    (subst (λ (zs : List ℕ). IsClosedWithin graph.pairs zs set) (sym found.2) closed))) in
     flat_optimal rate graph lists some order (record {
       filled = λ ids h. (let found = part_of_ids parts ids h in subst (λ (zs : List ℕ). zs ≢ []) found.2 (certificate.filled found.0 found.1));
       falling = subst Falls (rates_are_sums rate parts certificate.falling.summed) certificate.falling.falling;
       fronts = λ ids front rest h e filled. flat ids h front (part_front_closed graph lists ids front rest order h e);
-      together = λ ids h. (let found = part_of_ids parts ids h in subst (λ (zs : List ℕ). IsTogether graph.pairs zs) found.2 (certificate.order.together found.0 found.1));
+      together = λ ids h.
+          (let found = part_of_ids parts ids h in subst (λ (zs : List ℕ). IsTogether graph.pairs zs) found.2 (certificate.order.together found.0 found.1));
     }) flat
 
 -- a covering pair is one of the pairs: the walk along it has nothing to go through
@@ -281,7 +298,8 @@ pub stands-append_right : (xs ys : List ℕ) (a b : ℕ) → StandsBefore xs a b
 stands-append_right xs ys a b stands = (stands.0, stands.1 ++ ys, ap (λ zs. zs ++ ys) stands.2 ∙ assoc stands.0 (b ∷ stands.1) ys, stands.3)
 
 pub stands-append_left : (xs ys : List ℕ) (a b : ℕ) → StandsBefore ys a b → StandsBefore (xs ++ ys) a b
-stands-append_left xs ys a b stands = (xs ++ stands.0, stands.1, ap (λ zs. xs ++ zs) stands.2 ∙ sym (assoc xs stands.0 (b ∷ stands.1)), Contains-append_right xs stands.0 a stands.3)
+stands-append_left xs ys a b stands =
+    (xs ++ stands.0, stands.1, ap (λ zs. xs ++ zs) stands.2 ∙ sym (assoc xs stands.0 (b ∷ stands.1)), Contains-append_right xs stands.0 a stands.3)
 
 pub stands_across : (xs ys : List ℕ) (a b : ℕ) → Contains xs a → Contains ys b → StandsBefore (xs ++ ys) a b
 stands_across xs ys a b here there =
@@ -308,7 +326,8 @@ set_first graph order set topological closed =
         ])),
         (λ h. let there = (topological.names id).1 h in elim (cases_Bool (among set id)) [
           | inl inside ↦ Contains-append_left (filter m order) (filter out order) id (Contains-filter m order id inside there)
-          | inr beyond ↦ Contains-append_right (filter m order) (filter out order) id (Contains-filter out order id (not_from_false (among set id) beyond) there)
+          | inr beyond ↦
+              Contains-append_right (filter m order) (filter out order) id (Contains-filter out order id (not_from_false (among set id) beyond) there)
         ]),
       );
       parents_first = λ parent child pair.
@@ -322,13 +341,16 @@ set_first graph order set topological closed =
                 let last = not_from_false (among set child) beyond in
                 elim (cases_Bool (among set parent)) [
                   | inl above ↦ stands_across (filter m order) (filter out order) parent child (Contains-filter m order parent above there)
-                      (Contains-filter out order child last (subst (λ (zs : List ℕ). Contains zs child) (sym stands.2) (Contains-append_right stands.0 (child ∷ stands.1) child (Contains-head child stands.1))))
-                  | inr outside ↦ stands-append_left (filter m order) (filter out order) parent child (moved_before out order parent child stands (not_from_false (among set parent) outside) last)
+                      (Contains-filter out order child last (subst (λ (zs : List ℕ). Contains zs child) (sym stands.2)
+                      (Contains-append_right stands.0 (child ∷ stands.1) child (Contains-head child stands.1))))
+                  | inr outside ↦ stands-append_left (filter m order) (filter out order) parent child
+                      (moved_before out order parent child stands (not_from_false (among set parent) outside) last)
                 ]
           ];
     }
 
-pub optimal_bounds : (rate : ℕ → Sum) (graph : Graph) (parts : List (List ℕ)) (set : List ℕ) → IsOptimal rate graph parts → IsClosedWithin graph.pairs graph.names set → IsUnderDiagram (map (sums rate) parts) (sums rate set)
+pub optimal_bounds : (rate : ℕ → Sum) (graph : Graph) (parts : List (List ℕ)) (set : List ℕ) → IsOptimal rate graph parts
+    → IsClosedWithin graph.pairs graph.names set → IsUnderDiagram (map (sums rate) parts) (sums rate set)
 optimal_bounds rate graph parts set optimal closed =
     let order = joined parts in
     subst (λ (point : Sum). IsUnderDiagram (map (sums rate) parts) point) (share_is rate graph order set optimal.order closed)

@@ -65,19 +65,22 @@ module _ (m : ℕ → Bool) (r : ℕ → ℕ → Bool) (graph : Graph) (c : Clos
     where
       together : (x y : ℕ) → IsAncestor graph.pairs x y → IsAncestor graph.pairs y x → x ≡ y
       together x y up (zero, same) = sym same
-      together x y up (suc n, (v, walk, pair)) = let before = IsAncestor-trans graph.pairs x y v up (n, walk) in absurd (c.acyclic x before.0 (v, before.1, pair))
+      together x y up (suc n, (v, walk, pair)) = let before = IsAncestor-trans graph.pairs x y v up (n, walk) in
+          absurd (c.acyclic x before.0 (v, before.1, pair))
 
   -- where the relation is an order on the members, it says who is an ancestor of whom among all numbers
   module _ (order : IsOrder m r) where
     pub ancestors_told : (a b : ℕ) → IsAncestor graph.pairs a b ↔ ((a ≡ b) ⊎ (r a b ≡ true))
     ancestors_told a b = (
       λ walk. elim (ancestor_cases a b walk.0 walk.1) [ inl same ↦ inl same | inr both ↦ inr both.2 ],
-      λ above. elim above [ inl same ↦ IsAncestor-itself graph.pairs a b same | inr up ↦ let both = order.among a b up in (c.ancestors a b both.0 both.1).1 up ],
+      λ above.
+          elim above [ inl same ↦ IsAncestor-itself graph.pairs a b same | inr up ↦ let both = order.among a b up in (c.ancestors a b both.0 both.1).1 up ],
     )
 
 -- ---- one more pair
 
-pub closes_pair : (m : ℕ → Bool) (r : ℕ → ℕ → Bool) (graph : Graph) (parent child : ℕ) → Closes m r graph → m parent ≡ true → m child ≡ true → r child parent ≡ false
+pub closes_pair : (m : ℕ → Bool) (r : ℕ → ℕ → Bool) (graph : Graph) (parent child : ℕ)
+    → Closes m r graph → m parent ≡ true → m child ≡ true → r child parent ≡ false
     → Closes m (λ a d. r a d || (r a parent && r child d)) (with_pair graph parent child)
 closes_pair m r graph parent child c in_parent in_child apart = record {
   names = c.names;
@@ -103,14 +106,16 @@ closes_pair m r graph parent child c in_parent in_child apart = record {
 -- ---- two put together
 
 -- pairs of which some are of members of m, and all others are between others
-module _ (m : ℕ → Bool) (own all : List (ℕ × ℕ)) (ends : (a b : ℕ) → Contains own (a, b) → m b ≡ true) (cases : (a b : ℕ) → Contains all (a, b) → Contains own (a, b) ⊎ (m a ≡ true → ⊥)) where
+module _ (m : ℕ → Bool) (own all : List (ℕ × ℕ)) (ends : (a b : ℕ) → Contains own (a, b) → m b ≡ true)
+    (cases : (a b : ℕ) → Contains all (a, b) → Contains own (a, b) ⊎ (m a ≡ true → ⊥)) where
   pub stays_in : (a b n : ℕ) → m a ≡ true → Walk all a b n → Walk own a b n × (m b ≡ true)
   stays_in a b zero here same = (same, subst (λ (x : ℕ). m x ≡ true) same here)
   stays_in a b (suc n) here walk =
       let before = stays_in a walk.0 n here walk.1 in
       elim (cases walk.0 b walk.2) [ inl mine ↦ ((walk.0, before.0, mine), ends walk.0 b mine) | inr other ↦ absurd (other before.1) ]
 
-module _ (m k : ℕ → Bool) (r : ℕ → ℕ → Bool) (first second : Graph) (one : Closes m r first) (two : Closes k r second) (disjoint : (p : ℕ) → m p ≡ true → k p ≡ true → ⊥)
+module _ (m k : ℕ → Bool) (r : ℕ → ℕ → Bool) (first second : Graph) (one : Closes m r first)
+    (two : Closes k r second) (disjoint : (p : ℕ) → m p ≡ true → k p ≡ true → ⊥)
     (apart : (a b : ℕ) → m a ≡ true → k b ≡ true → (r a b ≡ false) × (r b a ≡ false)) where
   abbrev all : List (ℕ × ℕ)
   all = first.pairs ++ second.pairs
@@ -122,10 +127,11 @@ module _ (m k : ℕ → Bool) (r : ℕ → ℕ → Bool) (first second : Graph) 
   ])
 
   stays_second : (a b n : ℕ) → k a ≡ true → Walk all a b n → Walk second.pairs a b n × (k b ≡ true)
-  stays_second = stays_in k second.pairs all (λ a b pair. (two.ends a b pair).1) (λ a b pair. elim (Contains-append_cases first.pairs second.pairs (a, b) pair) [
-    | inl other ↦ inr (λ there. disjoint a (one.ends a b other).0 there)
-    | inr mine ↦ inl mine
-  ])
+  stays_second =
+      stays_in k second.pairs all (λ a b pair. (two.ends a b pair).1) (λ a b pair. elim (Contains-append_cases first.pairs second.pairs (a, b) pair) [
+        | inl other ↦ inr (λ there. disjoint a (one.ends a b other).0 there)
+        | inr mine ↦ inl mine
+      ])
 
   in_first : (a b : ℕ) → IsAncestor first.pairs a b → IsAncestor all a b
   in_first a b walk = (walk.0, walk_within first.pairs all (λ p c pair. Contains-append_left first.pairs second.pairs (p, c) pair) a b walk.0 walk.1)
@@ -136,7 +142,8 @@ module _ (m k : ℕ → Bool) (r : ℕ → ℕ → Bool) (first second : Graph) 
   pub closes_both : Closes (λ q. m q || k q) r (joined first second)
   closes_both = record {
     names = λ id. (
-      λ here. elim (Contains-append_cases first.names second.names id here) [ inl mine ↦ or_left (m id) (k id) ((one.names id).0 mine) | inr other ↦ or_right (m id) (k id) ((two.names id).0 other) ],
+      λ here. elim (Contains-append_cases first.names second.names id
+          here) [ inl mine ↦ or_left (m id) (k id) ((one.names id).0 mine) | inr other ↦ or_right (m id) (k id) ((two.names id).0 other) ],
       λ member. elim (or_cases (m id) (k id) member) [
         | inl mine ↦ Contains-append_left first.names second.names id ((one.names id).1 mine)
         | inr other ↦ Contains-append_right first.names second.names id ((two.names id).1 other)
@@ -168,7 +175,8 @@ module _ (m k : ℕ → Bool) (r : ℕ → ℕ → Bool) (first second : Graph) 
     ];
   }
 
-  pub closes_across : (parent child : ℕ) → m parent ≡ true → k child ≡ true → Closes (λ q. m q || k q) (λ a d. r a d || (r a parent && r child d)) (with_pair (joined first second) parent child)
+  pub closes_across : (parent child : ℕ) → m parent ≡ true → k child ≡ true
+      → Closes (λ q. m q || k q) (λ a d. r a d || (r a parent && r child d)) (with_pair (joined first second) parent child)
   closes_across parent child above below =
       closes_pair (λ q. m q || k q) r (joined first second) parent child closes_both
       (or_left (m parent) (k parent) above) (or_right (m child) (k child) below) (apart parent child above below).1
@@ -189,7 +197,8 @@ closes_one r id itself = record {
   );
 }
 
-closes_name : (m : ℕ → Bool) (r : ℕ → ℕ → Bool) (graph : Graph) (id : ℕ) → Closes m r graph → m id ≡ false → r id id ≡ true → ((a : ℕ) → m a ≡ true → (r a id ≡ false) × (r id a ≡ false))
+closes_name : (m : ℕ → Bool) (r : ℕ → ℕ → Bool) (graph : Graph) (id : ℕ) → Closes m r graph
+    → m id ≡ false → r id id ≡ true → ((a : ℕ) → m a ≡ true → (r a id ≡ false) × (r id a ≡ false))
     → Closes (λ q. m q || nat_eq q id) r (with_name graph id)
 closes_name m r graph id c new itself apart =
     subst (λ (pairs : List (ℕ × ℕ)). Closes (λ q. m q || nat_eq q id) r (record { names = graph.names ++ id ∷ []; pairs = pairs })) (append-nil graph.pairs)
@@ -197,7 +206,8 @@ closes_name m r graph id c new itself apart =
     (λ p here same. true≢false (sym here ∙ ap m (eqb-true p id same) ∙ new))
     (λ a b here same. let is : b ≡ id = eqb-true b id same in let none = apart a here in (ap (r a) is ∙ none.0, ap (λ x. r x a) is ∙ none.1)))
 
-module _ (m : ℕ → Bool) (r : ℕ → ℕ → Bool) (graph : Graph) (id : ℕ) (c : Closes m r graph) (new : m id ≡ false) (among : (a d : ℕ) → r a d ≡ true → (m a ≡ true) × (m d ≡ true)) where
+module _ (m : ℕ → Bool) (r : ℕ → ℕ → Bool) (graph : Graph) (id : ℕ) (c : Closes m r graph)
+    (new : m id ≡ false) (among : (a d : ℕ) → r a d ≡ true → (m a ≡ true) × (m d ≡ true)) where
   abbrev more : ℕ → ℕ → Bool
   more a d = (nat_eq a id && nat_eq d id) || r a d
 
@@ -214,13 +224,15 @@ module _ (m : ℕ → Bool) (r : ℕ → ℕ → Bool) (graph : Graph) (id : ℕ
       (or_left (nat_eq id id && nat_eq id id) (r id id) (and_from (nat_eq id id) (nat_eq id id) (eq-eqb id id refl) (eq-eqb id id refl)))
       (λ a here. (
         was a id here ∙ false_from_ne_true (r a id) (λ up. true≢false (sym (among a id up).1 ∙ new)),
-        ap (λ b. (nat_eq id id && b) || r id a) (other a here) ∙ ap (λ b. (b && false) || r id a) (eq-eqb id id refl) ∙ false_from_ne_true (r id a) (λ up. true≢false (sym (among id a up).0 ∙ new)),
+        ap (λ b. (nat_eq id id && b) || r id a) (other a here) ∙ ap (λ b. (b && false) || r id a) (eq-eqb id id refl)
+            ∙ false_from_ne_true (r id a) (λ up. true≢false (sym (among id a up).0 ∙ new)),
       )))
       (λ q. nat_eq q id || m q) more (λ q. or_comm (nat_eq q id) (m q)) (λ a d here there. refl)
 
 -- ---- names dropped
 
-pub closes_without : (m : ℕ → Bool) (r : ℕ → ℕ → Bool) (old new : Graph) (id : ℕ) → Closes m r old → IsWithout old id new → Closes (λ q. not (nat_eq q id) && m q) r new
+pub closes_without : (m : ℕ → Bool) (r : ℕ → ℕ → Bool) (old new : Graph) (id : ℕ)
+    → Closes m r old → IsWithout old id new → Closes (λ q. not (nat_eq q id) && m q) r new
 closes_without m r old new id c without = record {
   names = λ q. (
     λ here. let was = (without.names q).0 here in stays q was.1 ((c.names q).0 was.0),
@@ -304,11 +316,13 @@ renamed_is f graph = record {
         (found.0.0, found.0.1, found.1, ap (λ (pair : ℕ × ℕ). pair.0) found.2, ap (λ (pair : ℕ × ℕ). pair.1) found.2),
     λ there.
         let one : f there.0 ≡ parent = there.3 in let two : f there.1 ≡ child = there.4 in
-        subst (Contains (map (λ (pair : ℕ × ℕ). (f pair.0, f pair.1)) graph.pairs)) (λ i. (one i, two i)) (Contains-map (λ (pair : ℕ × ℕ). (f pair.0, f pair.1)) graph.pairs (there.0, there.1) there.2),
+        subst (Contains (map (λ (pair : ℕ × ℕ). (f pair.0, f pair.1)) graph.pairs)) (λ i. (one i, two i))
+        (Contains-map (λ (pair : ℕ × ℕ). (f pair.0, f pair.1)) graph.pairs (there.0, there.1) there.2),
   );
 }
 
-module _ (f : ℕ → ℕ) (old new : Graph) (ends : (a b : ℕ) → Contains old.pairs (a, b) → Contains old.names a × Contains old.names b) (apart : KeepsApart f old.names) (is : IsRenamed f old new) where
+module _ (f : ℕ → ℕ) (old new : Graph) (ends : (a b : ℕ) → Contains old.pairs (a, b) → Contains old.names a × Contains old.names b)
+    (apart : KeepsApart f old.names) (is : IsRenamed f old new) where
   pub new_pair : (a b : ℕ) → Contains old.pairs (a, b) → Contains new.pairs (f a, f b)
   new_pair a b pair = (is.pairs (f a) (f b)).1 (a, b, pair, refl, refl)
 
@@ -358,7 +372,8 @@ module _ (f : ℕ → ℕ) (m k : ℕ → Bool) (r t : ℕ → ℕ → Bool) (ol
         let law = c.ancestors a.0 d.0 a.1 d.1 in
         let same : t x y ≡ r a.0 d.0 = ap₂ t (sym a.2) (sym d.2) ∙ alike a.0 d.0 a.1 d.1 in (
           λ walk.
-              let by_old : IsAncestor new.pairs (f a.0) (f d.0) = (walk.0, subst (λ (z : ℕ). Walk new.pairs (f a.0) z walk.0) (sym d.2) (subst (λ (z : ℕ). Walk new.pairs z y walk.0) (sym a.2) walk.1)) in
+              let by_old : IsAncestor new.pairs (f a.0) (f d.0) =
+              (walk.0, subst (λ (z : ℕ). Walk new.pairs (f a.0) z walk.0) (sym d.2) (subst (λ (z : ℕ). Walk new.pairs z y walk.0) (sym a.2) walk.1)) in
               same ∙ law.0 (old_ancestor f old new named_ends apart is a.0 d.0 ((c.names a.0).1 a.1) ((c.names d.0).1 d.1) by_old),
           λ up.
               let walk = law.1 (sym same ∙ up) in

@@ -50,10 +50,12 @@ module _ (n : ℕ) (g : Closure) (closed : IsClosed n g) where
   pair_of : (a b : ℕ) → a ≢ b → is_ancestor g a b ≡ true → Contains all_pairs (a, b)
   pair_of a b other up =
       let both = closed.order.among a b up in
-      Contains-filter proper (crossed members members) (a, b) (and_from (not (nat_eq a b)) (is_ancestor g a b) (ap not (ne_eqb a b other)) up) (crossed_has members members a b (listed a both.0) (listed b both.1))
+      Contains-filter proper (crossed members members) (a, b) (and_from (not (nat_eq a b)) (is_ancestor g a b) (ap not (ne_eqb a b other)) up)
+      (crossed_has members members a b (listed a both.0) (listed b both.1))
 
   of_pair : (a b : ℕ) → Contains all_pairs (a, b) → (a ≢ b) × (is_ancestor g a b ≡ true)
-  of_pair a b pair = let both = and_parts (not (nat_eq a b)) (is_ancestor g a b) (filter-Contains proper (crossed members members) (a, b) pair).0 in (differs a b both.0, both.1)
+  of_pair a b pair = let both = and_parts (not (nat_eq a b)) (is_ancestor g a b) (filter-Contains proper (crossed members members) (a, b) pair).0 in
+      (differs a b both.0, both.1)
 
   of_walk : (a b k : ℕ) → Walk all_pairs a b k → (a ≡ b) ⊎ (is_ancestor g a b ≡ true)
   of_walk a b zero same = inl same
@@ -75,8 +77,10 @@ module _ (n : ℕ) (g : Closure) (closed : IsClosed n g) where
   whole_graph : IsGraph whole
   whole_graph = record {
     names = distinct-filter (is_member g) (below n) (distinct_below n);
-    pairs = distinct-filter proper (crossed members members) (distinct_crossed members members (distinct-filter (is_member g) (below n) (distinct_below n)) (distinct-filter (is_member g) (below n) (distinct_below n)));
-    ends = λ a b pair. let found = filter-Contains proper (crossed members members) (a, b) pair in (crossed_first members members a b found.1, crossed_second members members a b found.1);
+    pairs = distinct-filter proper (crossed members members) (distinct_crossed members members
+        (distinct-filter (is_member g) (below n) (distinct_below n)) (distinct-filter (is_member g) (below n) (distinct_below n)));
+    ends = λ a b pair. let found = filter-Contains proper (crossed members members) (a, b) pair in
+        (crossed_first members members a b found.1, crossed_second members members a b found.1);
     acyclic = no_cycle;
   }
 

@@ -29,7 +29,8 @@ hits id amount xs = sum_by (hit id amount) xs
 hits_none : (id amount : ℕ) (xs : List ℕ) → (Contains xs id → ⊥) → hits id amount xs ≡ 0
 hits_none id amount [] out = refl
 hits_none id amount (x ∷ xs) out =
-    let first : cond (nat_eq id x) amount 0 ≡ 0 = ap (λ b. cond b amount 0) (ne_eqb id x (λ e. out (subst (λ z. Contains (x ∷ xs) z) (sym e) (Contains-head x xs)))) in
+    let first : cond (nat_eq id x) amount 0 ≡ 0 =
+    ap (λ b. cond b amount 0) (ne_eqb id x (λ e. out (subst (λ z. Contains (x ∷ xs) z) (sym e) (Contains-head x xs)))) in
     let rest : hits id amount xs ≡ 0 = hits_none id amount xs (λ h. out (Contains-later x id xs h)) in
     omega (arith, sum_by-cons (hit id amount) x xs)
 
@@ -61,12 +62,15 @@ hits_most id amount (x ∷ xs) d = elim (cases_eq id x) [
 ]
 
 -- A set that holds the parent of each flow whose child it holds gives no more than it gets.
-given_at_most : (set : List ℕ) (flows : List Flow) → AreDistinct set → ((flow : Flow) → Contains flows flow → Contains set flow.child → Contains set flow.parent) → sum_by (given flows) set ≤ sum_by (gotten flows) set
+given_at_most : (set : List ℕ) (flows : List Flow) → AreDistinct set
+    → ((flow : Flow) → Contains flows flow → Contains set flow.child → Contains set flow.parent) → sum_by (given flows) set ≤ sum_by (gotten flows) set
 given_at_most set [] d stays = omega arith
 given_at_most set (flow ∷ flows) d stays =
     let rest = given_at_most set flows d (λ other h. stays other (Contains-later flow other flows h)) in
-    let out : sum_by (given (flow ∷ flows)) set ≡ hits flow.child flow.amount set + sum_by (given flows) set = (λ i. sum_by (λ id. sum_by-cons (λ f. hit f.child f.amount id) flow flows i) set) ∙ sum_by-add (hit flow.child flow.amount) (given flows) set in
-    let in' : sum_by (gotten (flow ∷ flows)) set ≡ hits flow.parent flow.amount set + sum_by (gotten flows) set = (λ i. sum_by (λ id. sum_by-cons (λ f. hit f.parent f.amount id) flow flows i) set) ∙ sum_by-add (hit flow.parent flow.amount) (gotten flows) set in
+    let out : sum_by (given (flow ∷ flows)) set ≡ hits flow.child flow.amount set + sum_by (given flows) set =
+    (λ i. sum_by (λ id. sum_by-cons (λ f. hit f.child f.amount id) flow flows i) set) ∙ sum_by-add (hit flow.child flow.amount) (given flows) set in
+    let in' : sum_by (gotten (flow ∷ flows)) set ≡ hits flow.parent flow.amount set + sum_by (gotten flows) set =
+    (λ i. sum_by (λ id. sum_by-cons (λ f. hit f.parent f.amount id) flow flows i) set) ∙ sum_by-add (hit flow.parent flow.amount) (gotten flows) set in
     elim (hits_most flow.child flow.amount set d) [
       | inl none ↦ omega arith
       | inr some ↦ let there = hits_some flow.parent flow.amount set (stays flow (Contains-head flow flows) some.1) in omega (arith, some.0)
@@ -81,11 +85,15 @@ weight_of_sums whole rate ids =
     omega (arith, ints, a, b))
 
 -- no closed set within a certified part has a greater rate than the part
-pub flow_bounds : (rate : ℕ → Sum) (IsLink : ℕ → ℕ → Type 0) (pairs : List (ℕ × ℕ)) (ids set : List ℕ) (flows : List Flow) → ((parent child : ℕ) → IsLink parent child → Contains pairs (parent, child)) → Certifies rate IsLink ids flows → IsClosedWithin pairs ids set → AtMost (sums rate set) (sums rate ids)
+pub flow_bounds : (rate : ℕ → Sum) (IsLink : ℕ → ℕ → Type 0) (pairs : List (ℕ × ℕ)) (ids set : List ℕ) (flows : List Flow)
+    → ((parent child : ℕ) → IsLink parent child → Contains pairs (parent, child))
+    → Certifies rate IsLink ids flows → IsClosedWithin pairs ids set → AtMost (sums rate set) (sums rate ids)
 flow_bounds rate IsLink pairs ids set flows linked certified closed =
-    let fewer = given_at_most set flows closed.once (λ flow h child. closed.parents flow.parent flow.child (linked flow.parent flow.child (certified.links flow h)) (certified.inside flow h).1 child) in
+    let fewer = given_at_most set flows closed.once
+    (λ flow h child. closed.parents flow.parent flow.child (linked flow.parent flow.child (certified.links flow h)) (certified.inside flow h).1 child) in
     let balance : total (λ id. weight_in (sums rate ids) (rate id)) set ≡ total (λ id. pos (given flows id) -ℤ pos (gotten flows id)) set =
-    total_along (λ id. weight_in (sums rate ids) (rate id)) (λ id. pos (given flows id) -ℤ pos (gotten flows id)) set (λ id h. certified.balanced id (closed.inside id h)) in
+    total_along (λ id. weight_in (sums rate ids) (rate id)) (λ id. pos (given flows id) -ℤ pos (gotten flows id)) set
+    (λ id h. certified.balanced id (closed.inside id h)) in
     let apart = total-sub (λ id. pos (given flows id)) (λ id. pos (gotten flows id)) set in
     let out = total-pos (given flows) set in
     let in' = total-pos (gotten flows) set in

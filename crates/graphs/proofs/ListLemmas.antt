@@ -22,7 +22,8 @@ tail_rises : (x : ℕ) (xs : List ℕ) → AllPairs (λ a b. a < b) (x ∷ xs) �
 tail_rises x xs rising i j d before below = rising (suc i) (suc j) d (omega arith) (omega arith)
 
 -- the tail of one rising list lies in the tail of another that begins with the same number
-tail_within : (x : ℕ) (xs ys : List ℕ) → AllPairs (λ a b. a < b) (x ∷ xs) → ((q : ℕ) → Contains (x ∷ xs) q → Contains (x ∷ ys) q) → (q : ℕ) → Contains xs q → Contains ys q
+tail_within : (x : ℕ) (xs ys : List ℕ) → AllPairs (λ a b. a < b) (x ∷ xs)
+    → ((q : ℕ) → Contains (x ∷ xs) q → Contains (x ∷ ys) q) → (q : ℕ) → Contains xs q → Contains ys q
 tail_within x xs ys rising inside q h = elim (Contains-cases x q ys (inside q (Contains-later x q xs h))) [
   | inl same ↦ absurd (let below : x < q = head_below x xs rising q h in omega arith)
   | inr later ↦ later
@@ -37,14 +38,16 @@ same_head x y xs ys one other there here = elim (Contains-cases y x ys there) [
   ]
 ]
 
-rising_same : (xs ys : List ℕ) → AllPairs (λ a b. a < b) xs → AllPairs (λ a b. a < b) ys → ((q : ℕ) → Contains xs q → Contains ys q) → ((q : ℕ) → Contains ys q → Contains xs q) → xs ≡ ys
+rising_same : (xs ys : List ℕ) → AllPairs (λ a b. a < b) xs → AllPairs (λ a b. a < b) ys
+    → ((q : ℕ) → Contains xs q → Contains ys q) → ((q : ℕ) → Contains ys q → Contains xs q) → xs ≡ ys
 rising_same [] [] one other there here = refl
 rising_same [] (y ∷ ys) one other there here = absurd (none_in_empty y (here y (Contains-head y ys)))
 rising_same (x ∷ xs) [] one other there here = absurd (none_in_empty x (there x (Contains-head x xs)))
 rising_same (x ∷ xs) (y ∷ ys) one other there here =
     let first : x ≡ y = same_head x y xs ys one other (there x (Contains-head x xs)) (here y (Contains-head y ys)) in
     let other' : AllPairs (λ a b. a < b) (x ∷ ys) = subst (λ (n : ℕ). AllPairs (λ a b. a < b) (n ∷ ys)) (sym first) other in
-    let there' : (q : ℕ) → Contains (x ∷ xs) q → Contains (x ∷ ys) q = subst (λ (n : ℕ). (q : ℕ) → Contains (x ∷ xs) q → Contains (n ∷ ys) q) (sym first) there in
+    let there' : (q : ℕ) → Contains (x ∷ xs) q → Contains (x ∷ ys) q =
+    subst (λ (n : ℕ). (q : ℕ) → Contains (x ∷ xs) q → Contains (n ∷ ys) q) (sym first) there in
     let here' : (q : ℕ) → Contains (x ∷ ys) q → Contains (x ∷ xs) q = subst (λ (n : ℕ). (q : ℕ) → Contains (n ∷ ys) q → Contains (x ∷ xs) q) (sym first) here in
     let rest : xs ≡ ys = rising_same xs ys (tail_rises x xs one) (tail_rises y ys other) (tail_within x xs ys one there') (tail_within x ys xs other' here') in
     λ i. first i ∷ rest i

@@ -58,10 +58,12 @@ module _ {A : Type 0} (f : A → List ℕ) where
   one_holder (z ∷ zs) x y id once h k here there = elim (Contains-cases z x zs h) [
     | inl first ↦ elim (Contains-cases z y zs k) [
       | inl second ↦ sym first ∙ second
-      | inr later ↦ absurd (distinct_apart (f z) (flat_map f zs) id once (subst (λ (w : A). Contains (f w) id) (sym first) here) (flat_has f zs y id later there))
+      | inr later ↦
+          absurd (distinct_apart (f z) (flat_map f zs) id once (subst (λ (w : A). Contains (f w) id) (sym first) here) (flat_has f zs y id later there))
     ]
     | inr early ↦ elim (Contains-cases z y zs k) [
-      | inl second ↦ absurd (distinct_apart (f z) (flat_map f zs) id once (subst (λ (w : A). Contains (f w) id) (sym second) there) (flat_has f zs x id early here))
+      | inl second ↦
+          absurd (distinct_apart (f z) (flat_map f zs) id once (subst (λ (w : A). Contains (f w) id) (sym second) there) (flat_has f zs x id early here))
       | inr later ↦ one_holder zs x y id (distinct-append_right (f z) (flat_map f zs) once) early later here there
     ]
   ]
@@ -79,7 +81,8 @@ module _ {A : Type 0} (f : A → List ℕ) where
   -- a name before another: in one entry's list, or in an earlier one's
   pub flat_stands : (xs : List A) (a b : ℕ) → StandsBefore (flat_map f xs) a b
       → ((x : A) × Contains xs x × StandsBefore (f x) a b) ⊎ ((x : A) × (y : A) × Precedes xs x y × Contains (f x) a × Contains (f y) b)
-  flat_stands [] a b stands = absurd (none_in_empty b (subst (λ zs. Contains zs b) (sym stands.2) (Contains-append_right stands.0 (b ∷ stands.1) b (Contains-head b stands.1))))
+  flat_stands [] a b stands =
+      absurd (none_in_empty b (subst (λ zs. Contains zs b) (sym stands.2) (Contains-append_right stands.0 (b ∷ stands.1) b (Contains-head b stands.1))))
   flat_stands (x ∷ xs) a b stands = elim (cut_cases (f x) (flat_map f xs) stands.0 stands.1 b stands.2) [
     | inl here ↦ inl (x, Contains-head x xs, (stands.0, here.0, here.1, stands.3))
     | inr later ↦ elim (Contains-append_cases (f x) later.0 a (subst (λ zs. Contains zs a) later.1 stands.3)) [
@@ -98,7 +101,8 @@ module _ {A : Type 0} (f : A → List ℕ) where
       → flat_map f (before ++ x ∷ after) ≡ (flat_map f before ++ front) ++ b ∷ (rest ++ flat_map f after)
   place before after x front rest b e =
       flat_map-append f before (x ∷ after) ∙ ap (λ zs. flat_map f before ++ (zs ++ flat_map f after)) e
-      ∙ ap (λ zs. flat_map f before ++ zs) (append_assoc front (b ∷ rest) (flat_map f after)) ∙ sym (append_assoc (flat_map f before) front (b ∷ (rest ++ flat_map f after)))
+      ∙ ap (λ zs. flat_map f before ++ zs) (append_assoc front (b ∷ rest) (flat_map f after))
+      ∙ sym (append_assoc (flat_map f before) front (b ∷ (rest ++ flat_map f after)))
 
   pub stands_within : (xs : List A) (x : A) (a b : ℕ) → Contains xs x → StandsBefore (f x) a b → StandsBefore (flat_map f xs) a b
   stands_within xs x a b h stands =
@@ -121,10 +125,12 @@ module _ {A : Type 0} (f : A → List ℕ) where
 -- ---- sorted lists
 sorted_precedes : {A : Type 0} (before : A → A → Bool) (xs front rest : List A) (x y : A) → IsSorted before xs → xs ≡ front ++ y ∷ rest
     → Contains front x → before x y ≡ true
-sorted_precedes before [] front rest x y sorted e h = absurd (none_in_empty y (subst (λ zs. Contains zs y) (sym e) (Contains-append_right front (y ∷ rest) y (Contains-head y rest))))
+sorted_precedes before [] front rest x y sorted e h =
+    absurd (none_in_empty y (subst (λ zs. Contains zs y) (sym e) (Contains-append_right front (y ∷ rest) y (Contains-head y rest))))
 sorted_precedes before (z ∷ zs) [] rest x y sorted e h = absurd (none_in_empty x h)
 sorted_precedes {A = A} before (z ∷ zs) (f ∷ front) rest x y sorted e h = elim (Contains-cases f x front h) [
-  | inl same ↦ subst (λ (w : A). before w y ≡ true) (first_of e ∙ same) (sorted.0 y (subst (λ ws. Contains ws y) (sym (rest_of e)) (Contains-append_right front (y ∷ rest) y (Contains-head y rest))))
+  | inl same ↦ subst (λ (w : A). before w y ≡ true) (first_of e ∙ same)
+      (sorted.0 y (subst (λ ws. Contains ws y) (sym (rest_of e)) (Contains-append_right front (y ∷ rest) y (Contains-head y rest))))
   | inr later ↦ sorted_precedes before zs front rest x y sorted.1 (rest_of e) later
 ]
 
@@ -158,7 +164,8 @@ sorted_merge before lists all one_way each sorted exact = record {
   ordered = λ list x y h p.
       let here : Contains list x = subst (λ zs. Contains zs x) (sym p.2) (Contains-append_left p.0 (y ∷ p.1) x p.3) in
       let there : Contains list y = subst (λ zs. Contains zs y) (sym p.2) (Contains-append_right p.0 (y ∷ p.1) y (Contains-head y p.1)) in
-      sorted_place before all x y one_way sorted ((exact x).1 (list, h, here)) ((exact y).1 (list, h, there)) (sorted_precedes before list p.0 p.1 x y (each list h) p.2 p.3);
+      sorted_place before all x y one_way sorted ((exact x).1 (list, h, here))
+      ((exact y).1 (list, h, there)) (sorted_precedes before list p.0 p.1 x y (each list h) p.2 p.3);
 }
 
 pub sorted_falls : {A : Type 0} (before : A → A → Bool) (rates : A → Sum) (all : List A)

@@ -69,7 +69,8 @@ next_closed graph before after part set order closed =
     (Contains-append_right (joined before) (part ++ []) id (Contains-append_left part [] id (closed.inside id h))) in
     record {
       once = distinct_joined (joined before) set early.once closed.once
-          (λ id left right. distinct_apart (joined before) (part ++ joined after) id once left (Contains-append_left part (joined after) id (closed.inside id right)));
+          (λ id left right.
+          distinct_apart (joined before) (part ++ joined after) id once left (Contains-append_left part (joined after) id (closed.inside id right)));
       inside = λ id h. elim (Contains-append_cases (joined before) set id h) [
         | inl left ↦ early.inside id left
         | inr right ↦ late.inside id (within id right)
@@ -106,7 +107,8 @@ optimal_flat rate graph before after part set optimal closed =
     let under = optimal_bounds rate graph parts (joined before ++ set) optimal whole in
     let origin : sum_of (map (sums rate) before) ≡ sums rate (joined before) = sum_of-joined rate before in
     let start : (sum_of (map (sums rate) before)).size ≡ (sums rate (joined before)).size = ap (λ (s : Sum). s.size) origin in
-    let part_once : AreDistinct part = joined_distinct parts part (Contains-append_right before (part ∷ after) part (Contains-head part after)) optimal.order.once in
+    let part_once : AreDistinct part =
+    joined_distinct parts part (Contains-append_right before (part ∷ after) part (Contains-head part after)) optimal.order.once in
     let small : (sums rate set).size ≤ (sums rate part).size = within_size rate set part closed.once part_once closed.inside in
     let line = under.lines (map (sums rate) before) (map (sums rate) after) (sums rate part) (map-append (sums rate) before (part ∷ after))
     (omega (arith, start, sizes-append rate (joined before) set)) (omega (arith, start, small, sizes-append rate (joined before) set)) in
@@ -167,7 +169,8 @@ first_best rate graph first after part set some optimal rises closed small =
     let line = optimal_tangent rate graph first after part set some optimal' closed in
     let there : Contains (first ++ part ∷ after) part = Contains-append_right first (part ∷ after) part (Contains-head part after) in
     let size : 1 ≤ (sums rate part).size = parts_some rate graph (first ++ part ∷ after) some optimal' part there in
-    let most = at_end (sums rate part).fee (sums rate (joined first)).fee (sums rate set).fee (sums rate part).size (sums rate (joined first)).size (sums rate set).size
+    let most = at_end (sums rate part).fee (sums rate (joined first)).fee (sums rate set).fee
+    (sums rate part).size (sums rate (joined first)).size (sums rate set).size
     rises size (omega (arith, small, one_more_size rate first part)) line in
     omega (arith, ints, most, one_more_fee rate first part)
 
@@ -229,9 +232,11 @@ last_is_one rate graph before last optimal =
         children = λ parent child pair h.
             let above : Contains graph.names parent = (optimal.order.names parent).0 (joined-Contains parts last parent there h) in
             let stands = optimal.order.parents_first parent child pair in
-            let child_in : Contains (joined parts) child = subst (λ zs. Contains zs child) (sym stands.2) (Contains-append_right stands.0 (child ∷ stands.1) child (Contains-head child stands.1)) in
+            let child_in : Contains (joined parts) child =
+            subst (λ zs. Contains zs child) (sym stands.2) (Contains-append_right stands.0 (child ∷ stands.1) child (Contains-head child stands.1)) in
             elim (Contains-append_cases (joined before) (last ++ []) child (subst (λ zs. Contains zs child) cut child_in)) [
-              | inl earlier ↦ absurd (distinct_apart (joined before) (last ++ []) parent once (early.parents parent child pair above earlier) (Contains-append_left last [] parent h))
+              | inl earlier ↦ absurd (distinct_apart (joined before) (last ++ []) parent once
+                  (early.parents parent child pair above earlier) (Contains-append_left last [] parent h))
               | inr here ↦ subst (λ zs. Contains zs child) (append_nil last) here
             ];
       },
@@ -248,7 +253,8 @@ both_closed graph xs ys one other = record {
   inside = λ id h. other.inside id (filter-Contains (among xs) ys id h).1;
   parents = λ parent child pair there h.
       let parts = filter-Contains (among xs) ys child h in
-      Contains-filter (among xs) ys parent (among_is xs parent (one.parents parent child pair there (among_yes xs child parts.0))) (other.parents parent child pair there parts.1);
+      Contains-filter (among xs) ys parent (among_is xs parent (one.parents parent child pair there (among_yes xs child parts.0)))
+      (other.parents parent child pair there parts.1);
 }
 
 -- no part behind another has a greater rate
@@ -280,8 +286,10 @@ rate_at_most rate graph a1 a2 b1 b2 p q id some one other here there =
     let closed = first_closed graph (a1 ++ p ∷ []) a2 (subst (λ zs. IsTopological graph (joined zs)) longer one.order) in
     let common = both_closed graph first (joined b1) closed (first_closed graph b1 (q ∷ b2) other.order) in
     let line = optimal_tangent rate graph a1 a2 p (filter m (joined b1)) some one common in
-    let cut : filter m order ≡ filter m (joined b1) ++ filter m rest = ap (filter m) (flat_map-append (λ ids. ids) b1 (q ∷ b2)) ∙ filter-append m (joined b1) rest in
-    let whole : sums rate (filter m (joined b1) ++ filter m rest) ≡ sums rate first = ap (sums rate) (sym cut) ∙ share_is rate graph order first other.order closed in
+    let cut : filter m order ≡ filter m (joined b1) ++ filter m rest =
+    ap (filter m) (flat_map-append (λ ids. ids) b1 (q ∷ b2)) ∙ filter-append m (joined b1) rest in
+    let whole : sums rate (filter m (joined b1) ++ filter m rest) ≡ sums rate first =
+    ap (sums rate) (sym cut) ∙ share_is rate graph order first other.order closed in
     let whole_fee : (sums rate (filter m (joined b1) ++ filter m rest)).fee ≡ (sums rate first).fee = ap (λ (s : Sum). s.fee) whole in
     let whole_size : (sums rate (filter m (joined b1) ++ filter m rest)).size ≡ (sums rate first).size = ap (λ (s : Sum). s.size) whole in
     let up : AtMost (sums rate p) (sums rate (filter m rest)) = record {
@@ -292,11 +300,13 @@ rate_at_most rate graph a1 a2 b1 b2 p q id some one other here there =
     } in
     let member : (ids : List ℕ) → Contains (q ∷ b2) ids → Contains (b1 ++ q ∷ b2) ids = λ ids h. Contains-append_right b1 (q ∷ b2) ids h in
     let down : AtMost (sums rate (filter m rest)) (sums rate q) = share_at_most rate m (sums rate q) (q ∷ b2)
-    (λ ids h. optimal_parts_flat rate graph (b1 ++ q ∷ b2) other ids (member ids h) (filter m ids) (share_closed graph (b1 ++ q ∷ b2) ids first other.order (member ids h) closed))
+    (λ ids h. optimal_parts_flat rate graph (b1 ++ q ∷ b2) other ids (member ids h) (filter m ids)
+    (share_closed graph (b1 ++ q ∷ b2) ids first other.order (member ids h) closed))
     (λ ids h. parts_some rate graph (b1 ++ q ∷ b2) some other ids (member ids h))
     (rate_behind rate graph b1 b2 q some other) in
     let id_first : Contains first id = joined-Contains (a1 ++ p ∷ []) p id (Contains-append_right a1 (p ∷ []) p (Contains-head p [])) here in
-    let id_rest : Contains (filter m rest) id = Contains-filter m rest id (among_is first id id_first) (joined-Contains (q ∷ b2) q id (Contains-head q b2) there) in
+    let id_rest : Contains (filter m rest) id =
+    Contains-filter m rest id (among_is first id id_first) (joined-Contains (q ∷ b2) q id (Contains-head q b2) there) in
     let size : 1 ≤ (sums rate (filter m rest)).size = sizes_some rate (filter m rest) (λ e. none_in_empty id (subst (λ zs. Contains zs id) e id_rest))
     (λ x h. some x (closed.inside x (among_yes first x (filter-Contains m rest x h).0))) in
     at_most_chains (sums rate p) (sums rate (filter m rest)) (sums rate q) size up down

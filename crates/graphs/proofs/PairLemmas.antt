@@ -11,7 +11,8 @@ abbrev with_pair : List (ℕ × ℕ) → ℕ → ℕ → List (ℕ × ℕ)
 with_pair pairs p c = pairs ++ (p, c) ∷ []
 
 ancestor_kept : (pairs : List (ℕ × ℕ)) (p c a b : ℕ) → IsAncestor pairs a b → IsAncestor (with_pair pairs p c) a b
-ancestor_kept pairs p c a b walk = (walk.0, walk_within pairs (with_pair pairs p c) (λ x y pair. Contains-append_left pairs ((p, c) ∷ []) (x, y) pair) a b walk.0 walk.1)
+ancestor_kept pairs p c a b walk =
+    (walk.0, walk_within pairs (with_pair pairs p c) (λ x y pair. Contains-append_left pairs ((p, c) ∷ []) (x, y) pair) a b walk.0 walk.1)
 
 new_pair : (pairs : List (ℕ × ℕ)) (p c : ℕ) → IsAncestor (with_pair pairs p c) p c
 new_pair pairs p c = (1, (p, refl, Contains-push pairs (p, c)))
@@ -53,7 +54,8 @@ through pairs p c a b (suc n) walk =
 through_back : (pairs : List (ℕ × ℕ)) (p c a b : ℕ) → ThroughPair pairs p c a b → IsAncestor (with_pair pairs p c) a b
 through_back pairs p c a b through = elim through [
   | inl old ↦ ancestor_kept pairs p c a b old
-  | inr parts ↦ IsAncestor-trans (with_pair pairs p c) a p b (ancestor_kept pairs p c a p parts.0) (IsAncestor-trans (with_pair pairs p c) p c b (new_pair pairs p c) (ancestor_kept pairs p c c b parts.1))
+  | inr parts ↦ IsAncestor-trans (with_pair pairs p c) a p b (ancestor_kept pairs p c a p parts.0)
+      (IsAncestor-trans (with_pair pairs p c) p c b (new_pair pairs p c) (ancestor_kept pairs p c c b parts.1))
 ]
 
 pub ancestors_through : (pairs : List (ℕ × ℕ)) (p c a b : ℕ) → IsAncestor (pairs ++ (p, c) ∷ []) a b ↔ ThroughPair pairs p c a b
@@ -110,10 +112,13 @@ across_up pairs p c a d b across first second = elim across [
   ]
 ]
 
-across_step : (pairs : List (ℕ × ℕ)) (p c a d b : ℕ) → Across pairs p c a d → Contains (with_pair pairs p c) (d, b) ⊎ Contains (with_pair pairs p c) (b, d) → Across pairs p c a b
+across_step : (pairs : List (ℕ × ℕ)) (p c a d b : ℕ) → Across pairs p c a d
+    → Contains (with_pair pairs p c) (d, b) ⊎ Contains (with_pair pairs p c) (b, d) → Across pairs p c a b
 across_step pairs p c a d b across step = elim step [
-  | inl there ↦ elim (either_pair pairs p c d b there) [ inl old ↦ across_old pairs p c a d b across (inl old) | inr new ↦ across_down pairs p c a d b across new.0 new.1 ]
-  | inr back ↦ elim (either_pair pairs p c b d back) [ inl old ↦ across_old pairs p c a d b across (inr old) | inr new ↦ across_up pairs p c a d b across new.0 new.1 ]
+  | inl there ↦ elim (either_pair pairs p c d b
+      there) [ inl old ↦ across_old pairs p c a d b across (inl old) | inr new ↦ across_down pairs p c a d b across new.0 new.1 ]
+  | inr back ↦
+      elim (either_pair pairs p c b d back) [ inl old ↦ across_old pairs p c a d b across (inr old) | inr new ↦ across_up pairs p c a d b across new.0 new.1 ]
 ]
 
 across : (pairs : List (ℕ × ℕ)) (p c a b n : ℕ) → Trail (with_pair pairs p c) a b n → Across pairs p c a b
@@ -124,8 +129,10 @@ across_back : (pairs : List (ℕ × ℕ)) (p c a b : ℕ) → Across pairs p c a
 across_back pairs p c a b across = elim across [
   | inl old ↦ connected_kept pairs p c a b old
   | inr new ↦ elim new [
-    | inl down ↦ AreConnected-trans (with_pair pairs p c) a p b (connected_kept pairs p c a p down.0) (AreConnected-trans (with_pair pairs p c) p c b (down_pair pairs p c) (connected_kept pairs p c c b down.1))
-    | inr up ↦ AreConnected-trans (with_pair pairs p c) a c b (connected_kept pairs p c a c up.0) (AreConnected-trans (with_pair pairs p c) c p b (up_pair pairs p c) (connected_kept pairs p c p b up.1))
+    | inl down ↦ AreConnected-trans (with_pair pairs p c) a p b (connected_kept pairs p c a p down.0)
+        (AreConnected-trans (with_pair pairs p c) p c b (down_pair pairs p c) (connected_kept pairs p c c b down.1))
+    | inr up ↦ AreConnected-trans (with_pair pairs p c) a c b (connected_kept pairs p c a c up.0)
+        (AreConnected-trans (with_pair pairs p c) c p b (up_pair pairs p c) (connected_kept pairs p c p b up.1))
   ]
 ]
 

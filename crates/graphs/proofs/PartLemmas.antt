@@ -38,7 +38,8 @@ unfolding ids_of
 parts_one_rate rate graph a b id p q some one other p_in here q_in there =
     let same = one_rate rate graph (map ids_of a) (map ids_of b) id p.ids q.ids some (optimal_ids rate graph a some one) (optimal_ids rate graph b some other)
     (Contains-map ids_of a p p_in) here (Contains-map ids_of b q q_in) there in
-    subst (λ (s : Sum). Same s q.rate) (sym (one.falling.summed p p_in)) (subst (λ (s : Sum). Same (sums rate p.ids) s) (sym (other.falling.summed q q_in)) same)
+    subst (λ (s : Sum). Same s q.rate) (sym (one.falling.summed p p_in))
+    (subst (λ (s : Sum). Same (sums rate p.ids) s) (sym (other.falling.summed q q_in)) same)
 
 pub parts_lowest : (rate : ℕ → Sum) (graph : Graph) (before : List Part) (part : Part) (set : List ℕ) → HasSizes rate graph.names
     → IsCertificate rate graph (IsCover graph.pairs) (before ++ part ∷ []) → IsDescendantSet graph set → AtMost part.rate (sums rate set)
@@ -46,7 +47,8 @@ unfolding ids_of
 parts_lowest rate graph before part set some certificate below =
     let optimal = subst (IsOptimal rate graph) (map-append ids_of before (part ∷ [])) (optimal_ids rate graph (before ++ part ∷ []) some certificate) in
     let there : Contains (before ++ part ∷ []) part = Contains-append_right before (part ∷ []) part (Contains-head part []) in
-    subst (λ (s : Sum). AtMost s (sums rate set)) (sym (certificate.falling.summed part there)) (lowest_last rate graph (map ids_of before) part.ids set some optimal below)
+    subst (λ (s : Sum). AtMost s (sums rate set)) (sym (certificate.falling.summed part there))
+    (lowest_last rate graph (map ids_of before) part.ids set some optimal below)
 
 pub parts_best : (rate : ℕ → Sum) (graph : Graph) (first after : List Part) (part : Part) (set : List ℕ) → HasSizes rate graph.names
     → IsCertificate rate graph (IsCover graph.pairs) ((first ++ part ∷ []) ++ after) → pos 0 ≤ℤ part.rate.fee → IsClosedWithin graph.pairs graph.names set
@@ -56,10 +58,12 @@ unfolding ids_of
 parts_best rate graph first after part set some certificate rises closed small =
     let front = first ++ part ∷ [] in
     let list : map ids_of front ≡ map ids_of first ++ part.ids ∷ [] = map-append ids_of first (part ∷ []) in
-    let optimal = subst (IsOptimal rate graph) (map-append ids_of front after ∙ ap (λ zs. zs ++ map ids_of after) list) (optimal_ids rate graph (front ++ after) some certificate) in
+    let optimal = subst (IsOptimal rate graph) (map-append ids_of front after ∙ ap (λ zs. zs ++ map ids_of after) list)
+    (optimal_ids rate graph (front ++ after) some certificate) in
     let there : Contains (front ++ after) part = Contains-append_left front after part (Contains-append_right first (part ∷ []) part (Contains-head part [])) in
     let rises' : pos 0 ≤ℤ (sums rate part.ids).fee = subst (λ (s : Sum). pos 0 ≤ℤ s.fee) (certificate.falling.summed part there) rises in
     let all : sum_of (map (λ p. p.rate) front) ≡ sums rate (joined (map ids_of first ++ part.ids ∷ [])) =
     told rate front (λ p h. certificate.falling.summed p (Contains-append_left front after p h)) ∙ ap (λ zs. sums rate (joined zs)) list in
     subst (λ (s : Sum). (sums rate set).fee ≤ℤ s.fee) (sym all)
-    (first_best rate graph (map ids_of first) (map ids_of after) part.ids set some optimal rises' closed (subst (λ (s : Sum). (sums rate set).size ≤ s.size) all small))
+    (first_best rate graph (map ids_of first) (map ids_of after) part.ids set some optimal rises' closed
+    (subst (λ (s : Sum). (sums rate set).size ≤ s.size) all small))

@@ -136,7 +136,8 @@ pub crossed_has : (xs ys : List ℕ) (a b : ℕ) → Contains xs a → Contains 
 unfolding crossed
 crossed_has [] ys a b here there = absurd (none_in_empty a here)
 crossed_has (x ∷ xs) ys a b here there = elim (Contains-cases x a xs here) [
-  | inl same ↦ Contains-append_left (with_first x ys) (crossed xs ys) (a, b) (subst (λ (w : ℕ). Contains (with_first x ys) (w, b)) same (with_first_has x ys b there))
+  | inl same ↦
+      Contains-append_left (with_first x ys) (crossed xs ys) (a, b) (subst (λ (w : ℕ). Contains (with_first x ys) (w, b)) same (with_first_has x ys b there))
   | inr later ↦ Contains-append_right (with_first x ys) (crossed xs ys) (a, b) (crossed_has xs ys a b later there)
 ]
 
@@ -181,7 +182,8 @@ contains_has : (ps : List (ℕ × ℕ)) (a b : ℕ) → Contains ps (a, b) → h
 unfolding has
 contains_has [] a b here = absurd (none_in_empty (a, b) here)
 contains_has (p ∷ ps) a b here = elim (Contains-cases p (a, b) ps here) [
-  | inl same ↦ or_left (eqb p.0 a && eqb p.1 b) (has ps a b) (and_from (eqb p.0 a) (eqb p.1 b) (eq-eqb p.0 a (ap (λ (q : ℕ × ℕ). q.0) same)) (eq-eqb p.1 b (ap (λ (q : ℕ × ℕ). q.1) same)))
+  | inl same ↦ or_left (eqb p.0 a && eqb p.1 b) (has ps a b)
+      (and_from (eqb p.0 a) (eqb p.1 b) (eq-eqb p.0 a (ap (λ (q : ℕ × ℕ). q.0) same)) (eq-eqb p.1 b (ap (λ (q : ℕ × ℕ). q.1) same)))
   | inr later ↦ or_right (eqb p.0 a && eqb p.1 b) (has ps a b) (contains_has ps a b later)
 ]
 
@@ -233,7 +235,8 @@ module _ (old : Graph) (id : ℕ) (graph : IsGraph old) where
   unfolding stays
   is_stays a b pair = elim pair [
     | inl kept ↦ or_left (has old.pairs a b) (has old.pairs a id && has old.pairs id b) (contains_has old.pairs a b kept)
-    | inr bridged ↦ or_right (has old.pairs a b) (has old.pairs a id && has old.pairs id b) (and_from (has old.pairs a id) (has old.pairs id b) (contains_has old.pairs a id bridged.0) (contains_has old.pairs id b bridged.1))
+    | inr bridged ↦ or_right (has old.pairs a b) (has old.pairs a id && has old.pairs id b)
+        (and_from (has old.pairs a id) (has old.pairs id b) (contains_has old.pairs a id bridged.0) (contains_has old.pairs id b bridged.1))
   ]
 
   pub is_without : IsWithout old id without_name
@@ -249,9 +252,11 @@ module _ (old : Graph) (id : ℕ) (graph : IsGraph old) where
           (first.1, second.1, stays_is a b there.0),
       λ there.
           let ends = ends_of a b there.2 in
-          Contains-filter stays (crossed left left) (a, b) (is_stays a b there.2) (crossed_has left left a b ((left_is a).1 (ends.0, there.0)) ((left_is b).1 (ends.1, there.1))),
+          Contains-filter stays (crossed left left) (a, b) (is_stays a b there.2)
+          (crossed_has left left a b ((left_is a).1 (ends.0, there.0)) ((left_is b).1 (ends.1, there.1))),
     );
-    pairs_once = distinct-filter stays (crossed left left) (distinct_crossed left left (distinct-filter differs old.names graph.names) (distinct-filter differs old.names graph.names));
+    pairs_once = distinct-filter stays (crossed left left)
+        (distinct_crossed left left (distinct-filter differs old.names graph.names) (distinct-filter differs old.names graph.names));
   }
 
 -- every graph has one without a name

@@ -21,9 +21,11 @@ use Rattle.graphs.proofs.ClosingLemmas.{new_pair, new_walk, old_walk, old_ancest
 
 -- ---- lists of what is made of each entry
 
-pub sum_by-map : {A B : Type 0} (f : A → B) (g : B → ℕ) (h : A → ℕ) (xs : List A) → ((x : A) → Contains xs x → g (f x) ≡ h x) → sum_by g (map f xs) ≡ sum_by h xs
+pub sum_by-map : {A B : Type 0} (f : A → B) (g : B → ℕ) (h : A → ℕ) (xs : List A)
+    → ((x : A) → Contains xs x → g (f x) ≡ h x) → sum_by g (map f xs) ≡ sum_by h xs
 sum_by-map f g h [] same = refl
-sum_by-map f g h (x ∷ xs) same = omega (arith, sum_by-cons g (f x) (map f xs), sum_by-cons h x xs, same x (Contains-head x xs), sum_by-map f g h xs (λ y here. same y (Contains-later x y xs here)))
+sum_by-map f g h (x ∷ xs) same = omega
+    (arith, sum_by-cons g (f x) (map f xs), sum_by-cons h x xs, same x (Contains-head x xs), sum_by-map f g h xs (λ y here. same y (Contains-later x y xs here)))
 
 pub total-map : {A B : Type 0} (f : A → B) (g : B → ℤ) (h : A → ℤ) (xs : List A) → ((x : A) → Contains xs x → g (f x) ≡ h x) → total g (map f xs) ≡ total h xs
 total-map f g h [] same = refl
@@ -63,7 +65,8 @@ still_some f (id ∷ ids) some none = cc
 
 -- ---- the certificate
 
-module _ (f : ℕ → ℕ) (rate rate' : ℕ → Sum) (old new : Graph) (parts : List Part) (ends : (a b : ℕ) → Contains old.pairs (a, b) → Contains old.names a × Contains old.names b) (apart : KeepsApart f old.names)
+module _ (f : ℕ → ℕ) (rate rate' : ℕ → Sum) (old new : Graph) (parts : List Part)
+    (ends : (a b : ℕ) → Contains old.pairs (a, b) → Contains old.names a × Contains old.names b) (apart : KeepsApart f old.names)
     (is : IsRenamed f old new) (rates : (id : ℕ) → Contains old.names id → rate' (f id) ≡ rate id) (c : IsCertificate rate old (IsCover old.pairs) parts) where
   abbrev order : List ℕ
   order = flat_map (λ part. part.ids) parts
@@ -84,7 +87,8 @@ module _ (f : ℕ → ℕ) (rate rate' : ℕ → Sum) (old new : Graph) (parts :
 
   new_topological : IsTopological new (map f order)
   new_topological = record {
-    once = distinct_map f order c.order.topological.once (λ a b here there same. apart a b ((c.order.topological.names a).0 here) ((c.order.topological.names b).0 there) same);
+    once = distinct_map f order c.order.topological.once
+        (λ a b here there same. apart a b ((c.order.topological.names a).0 here) ((c.order.topological.names b).0 there) same);
     names = λ id. (
       λ here. let found = map-Contains f order id here in (is.names id).1 (found.0, (c.order.topological.names found.0).0 found.1, found.2),
       λ there. let was = (is.names id).0 there in subst (Contains (map f order)) was.2 (Contains-map f order was.0 ((c.order.topological.names was.0).1 was.1)),
@@ -131,42 +135,55 @@ module _ (f : ℕ → ℕ) (rate rate' : ℕ → Sum) (old new : Graph) (parts :
   new_flows : (part : Part) → Contains parts part → Certifies rate' (IsCover new.pairs) (map f part.ids) (map (renamed_flow f) part.flows)
   new_flows part here =
       let old_flows : Certifies rate (IsCover old.pairs) part.ids part.flows = c.flows part here in
-      let child_in : (flow : Flow) → Contains part.flows flow → Contains old.names flow.child = λ flow held. name_in part flow.child here (old_flows.inside flow held).0 in
-      let parent_in : (flow : Flow) → Contains part.flows flow → Contains old.names flow.parent = λ flow held. name_in part flow.parent here (old_flows.inside flow held).1 in
-      let same_pair : (p q : ℕ × ℕ) → Contains (map ends_of part.flows) p → Contains (map ends_of part.flows) q → renamed_pair f p ≡ renamed_pair f q → p ≡ q = λ p q one two same. (
+      let child_in : (flow : Flow) → Contains part.flows flow → Contains old.names flow.child =
+      λ flow held. name_in part flow.child here (old_flows.inside flow held).0 in
+      let parent_in : (flow : Flow) → Contains part.flows flow → Contains old.names flow.parent =
+      λ flow held. name_in part flow.parent here (old_flows.inside flow held).1 in
+      let same_pair : (p q : ℕ × ℕ) → Contains (map ends_of part.flows) p → Contains (map ends_of part.flows) q → renamed_pair f p ≡ renamed_pair f q → p ≡ q =
+      λ p q one two same. (
       let x = map-Contains ends_of part.flows p one in
       let y = map-Contains ends_of part.flows q two in
       let first : x.0.child ≡ y.0.child =
-      apart x.0.child y.0.child (child_in x.0 x.1) (child_in y.0 y.1) (ap (λ (z : ℕ × ℕ). f z.0) x.2 ∙ ap (λ (z : ℕ × ℕ). z.0) same ∙ sym (ap (λ (z : ℕ × ℕ). f z.0) y.2)) in
+      apart x.0.child y.0.child (child_in x.0 x.1) (child_in y.0 y.1)
+      (ap (λ (z : ℕ × ℕ). f z.0) x.2 ∙ ap (λ (z : ℕ × ℕ). z.0) same ∙ sym (ap (λ (z : ℕ × ℕ). f z.0) y.2)) in
       let second : x.0.parent ≡ y.0.parent =
-      apart x.0.parent y.0.parent (parent_in x.0 x.1) (parent_in y.0 y.1) (ap (λ (z : ℕ × ℕ). f z.1) x.2 ∙ ap (λ (z : ℕ × ℕ). z.1) same ∙ sym (ap (λ (z : ℕ × ℕ). f z.1) y.2)) in
+      apart x.0.parent y.0.parent (parent_in x.0 x.1) (parent_in y.0 y.1)
+      (ap (λ (z : ℕ × ℕ). f z.1) x.2 ∙ ap (λ (z : ℕ × ℕ). z.1) same ∙ sym (ap (λ (z : ℕ × ℕ). f z.1) y.2)) in
       let both : ◌≡◌ {A = ℕ × ℕ} (x.0.child, x.0.parent) (y.0.child, y.0.parent) = λ i. (first i, second i) in
       sym x.2 ∙ both ∙ y.2) in
       record {
-        once = subst (AreDistinct {A = ℕ × ℕ}) (sym (renamed_ends f part.flows)) (distinct_map (renamed_pair f) (map ends_of part.flows) old_flows.once same_pair);
+        once =
+            subst (AreDistinct {A = ℕ × ℕ}) (sym (renamed_ends f part.flows)) (distinct_map (renamed_pair f) (map ends_of part.flows) old_flows.once same_pair);
         links = λ flow held.
             let found = map-Contains (renamed_flow f) part.flows flow held in
-            subst (λ (x : Flow). IsCover new.pairs x.parent x.child) found.2 (new_cover found.0.parent found.0.child (parent_in found.0 found.1) (child_in found.0 found.1) (old_flows.links found.0 found.1));
+            subst (λ (x : Flow). IsCover new.pairs x.parent x.child) found.2
+            (new_cover found.0.parent found.0.child (parent_in found.0 found.1) (child_in found.0 found.1) (old_flows.links found.0 found.1));
         inside = λ flow held.
             let found = map-Contains (renamed_flow f) part.flows flow held in
             let both = old_flows.inside found.0 found.1 in
-            subst (λ (x : Flow). Contains (map f part.ids) x.child × Contains (map f part.ids) x.parent) found.2 (Contains-map f part.ids found.0.child both.0, Contains-map f part.ids found.0.parent both.1);
-        some = λ flow held. let found = map-Contains (renamed_flow f) part.flows flow held in subst (λ (x : Flow). 1 ≤ x.amount) found.2 (old_flows.some found.0 found.1);
+            subst (λ (x : Flow). Contains (map f part.ids) x.child × Contains (map f part.ids) x.parent) found.2
+            (Contains-map f part.ids found.0.child both.0, Contains-map f part.ids found.0.parent both.1);
+        some = λ flow held. let found = map-Contains (renamed_flow f) part.flows flow held in
+            subst (λ (x : Flow). 1 ≤ x.amount) found.2 (old_flows.some found.0 found.1);
         balanced = λ id held.
             let found = map-Contains f part.ids id held in
             let there = name_in part found.0 here found.1 in
             let gives : given (map (renamed_flow f) part.flows) (f found.0) ≡ given part.flows found.0 =
-            sum_by-map (renamed_flow f) (λ flow. cond (nat_eq flow.child (f found.0)) flow.amount 0) (λ flow. cond (nat_eq flow.child found.0) flow.amount 0) part.flows
+            sum_by-map (renamed_flow f) (λ flow. cond (nat_eq flow.child (f found.0)) flow.amount 0)
+            (λ flow. cond (nat_eq flow.child found.0) flow.amount 0) part.flows
             (λ flow k. hit_same flow.child found.0 flow.amount (child_in flow k) there) in
             let gets : gotten (map (renamed_flow f) part.flows) (f found.0) ≡ gotten part.flows found.0 =
-            sum_by-map (renamed_flow f) (λ flow. cond (nat_eq flow.parent (f found.0)) flow.amount 0) (λ flow. cond (nat_eq flow.parent found.0) flow.amount 0) part.flows
+            sum_by-map (renamed_flow f) (λ flow. cond (nat_eq flow.parent (f found.0)) flow.amount 0)
+            (λ flow. cond (nat_eq flow.parent found.0) flow.amount 0) part.flows
             (λ flow k. hit_same flow.parent found.0 flow.amount (parent_in flow k) there) in
-            subst (λ (x : ℕ). weight_in (sums rate' (map f part.ids)) (rate' x) ≡ pos (given (map (renamed_flow f) part.flows) x) -ℤ pos (gotten (map (renamed_flow f) part.flows) x)) found.2
+            subst (λ (x : ℕ). weight_in (sums rate' (map f part.ids)) (rate' x)
+            ≡ pos (given (map (renamed_flow f) part.flows) x) -ℤ pos (gotten (map (renamed_flow f) part.flows) x)) found.2
             (ap₂ weight_in (new_sums part here) (rates found.0 there) ∙ old_flows.balanced found.0 found.1 ∙ sym (ap₂ (λ m n. pos m -ℤ pos n) gives gets));
       }
 
   -- each new part is an old one by new names
-  each_part : (P : Part → Type 0) → ((part : Part) → Contains parts part → P (renamed_part f part)) → (part : Part) → Contains (map (renamed_part f) parts) part → P part
+  each_part : (P : Part → Type 0) → ((part : Part) → Contains parts part → P (renamed_part f part))
+      → (part : Part) → Contains (map (renamed_part f) parts) part → P part
   each_part P holds part here = let found = map-Contains (renamed_part f) parts part here in subst P found.2 (holds found.0 found.1)
 
   new_certificate : IsCertificate rate' new (IsCover new.pairs) (map (renamed_part f) parts)
@@ -177,7 +194,8 @@ module _ (f : ℕ → ℕ) (rate rate' : ℕ → Sum) (old new : Graph) (parts :
       together = each_part (λ part. (a b : ℕ) → Contains part.ids a → Contains part.ids b → AreConnected new.pairs a b) (λ part here a b one two.
           let x = map-Contains f part.ids a one in let y = map-Contains f part.ids b two in
           let trail = c.order.together part here x.0 y.0 x.1 y.1 in
-          subst (λ (z : ℕ). AreConnected new.pairs a z) y.2 (subst (λ (z : ℕ). AreConnected new.pairs z (f y.0)) x.2 (trail.0, new_trail x.0 y.0 trail.0 trail.1)));
+          subst (λ (z : ℕ). AreConnected new.pairs a z) y.2
+          (subst (λ (z : ℕ). AreConnected new.pairs z (f y.0)) x.2 (trail.0, new_trail x.0 y.0 trail.0 trail.1)));
     };
     falling = record {
       summed = each_part (λ part. part.rate ≡ sums rate' part.ids) (λ part here. c.falling.summed part here ∙ sym (new_sums part here));

@@ -125,9 +125,12 @@ some_union {A = A} components graphs apart =
 pub keeps_components : {A : Type 0} → KeepsComponents A
 keeps_components = record {
   some = some_union;
-  ancestors = λ components whole d a b union member here. (ancestor_within components whole union d member a b here, ancestor_into components whole union d member a b);
-  connected = λ components whole d a b union member here. (connected_within components whole union d member a b here, connected_into components whole union d member a b);
-  covers = λ components whole d a b union member here. (cover_within components whole union d member a b here, cover_into components whole union d member a b here);
+  ancestors =
+      λ components whole d a b union member here. (ancestor_within components whole union d member a b here, ancestor_into components whole union d member a b);
+  connected = λ components whole d a b union member here.
+      (connected_within components whole union d member a b here, connected_into components whole union d member a b);
+  covers =
+      λ components whole d a b union member here. (cover_within components whole union d member a b here, cover_into components whole union d member a b here);
   graph = whole_graph;
 }
 
@@ -138,7 +141,8 @@ map-map g f [] = refl
 map-map g f (x ∷ xs) = ap (λ zs. g (f x) ∷ zs) (map-map g f xs)
 
 module _ {K : Type 0} (rate : ℕ → Sum) (part : K → Part) (components : List (Graph × List K)) (whole : Graph) (keys : List K) (union : IsUnion components whole)
-    (each : (c : Graph × List K) → Contains components c → IsCertificate rate c.0 (IsCover c.0.pairs) (map part c.1)) (merge : IsMerge (map (λ c. c.1) components) keys) where
+    (each : (c : Graph × List K) → Contains components c → IsCertificate rate c.0 (IsCover c.0.pairs) (map part c.1))
+    (merge : IsMerge (map (λ c. c.1) components) keys) where
   ids_of : K → List ℕ
   ids_of k = (part k).ids
 
@@ -208,7 +212,8 @@ module _ {K : Type 0} (rate : ℕ → Sum) (part : K → Part) (components : Lis
       record {
         once = certified.once;
         links = λ flow there.
-            cover_into components whole union c.0 c.1 flow.parent flow.child (part_names c.0 p flow.child c.1 c.2 (certified.inside flow there).0) (certified.links flow there);
+            cover_into components whole union c.0 c.1 flow.parent flow.child
+            (part_names c.0 p flow.child c.1 c.2 (certified.inside flow there).0) (certified.links flow there);
         inside = certified.inside;
         some = certified.some;
         balanced = certified.balanced;
@@ -238,4 +243,5 @@ pub merged_parts : (rate : ℕ → Sum) (components : List (Graph × List Part))
     → IsMerge (map (λ c. c.1) components) parts → Falls (map (λ part. part.rate) parts) → IsCertificate rate whole (IsCover whole.pairs) parts
 merged_parts rate components whole parts union each merge falls =
     subst (IsCertificate rate whole (IsCover whole.pairs)) (map_itself parts)
-    (merged_certificate rate (λ p. p) components whole parts union (λ c h. subst (IsCertificate rate c.0 (IsCover c.0.pairs)) (sym (map_itself c.1)) (each c h)) merge falls)
+    (merged_certificate rate (λ p. p) components whole parts union
+    (λ c h. subst (IsCertificate rate c.0 (IsCover c.0.pairs)) (sym (map_itself c.1)) (each c h)) merge falls)

@@ -12,7 +12,8 @@ walk_cons pairs a b c zero pair same = (a, refl, subst (λ (x : ℕ). Contains p
 walk_cons pairs a b c (suc n) pair walk = (walk.0, walk_cons pairs a b walk.0 n pair walk.1, walk.2)
 
 -- a walk along pairs that are among others
-pub walk_within : (pairs others : List (ℕ × ℕ)) → ((a b : ℕ) → Contains pairs (a, b) → Contains others (a, b)) → (a b n : ℕ) → Walk pairs a b n → Walk others a b n
+pub walk_within : (pairs others : List (ℕ × ℕ)) → ((a b : ℕ) → Contains pairs (a, b) → Contains others (a, b))
+    → (a b n : ℕ) → Walk pairs a b n → Walk others a b n
 walk_within pairs others more a b zero same = same
 walk_within pairs others more a b (suc n) walk = (walk.0, walk_within pairs others more a walk.0 n walk.1, more walk.0 b walk.2)
 

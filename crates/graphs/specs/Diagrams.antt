@@ -43,7 +43,8 @@ pub record AreCorners (rate : ℕ → Sum) (graph : Graph) (corners : List (ℕ 
   pub some : (segment : Sum) → Contains segments segment → 1 ≤ segment.size
   pub falling : FallsStrictly segments
   pub whole : sum_of segments ≡ sums rate graph.names
-  pub reached : (before after : List Sum) → segments ≡ before ++ after → (set : List ℕ) × IsClosedWithin graph.pairs graph.names set × (sums rate set ≡ sum_of before)
+  pub reached : (before after : List Sum) → segments ≡ before ++ after
+      → (set : List ℕ) × IsClosedWithin graph.pairs graph.names set × (sums rate set ≡ sum_of before)
   pub highest : (set : List ℕ) → IsClosedWithin graph.pairs graph.names set → IsUnderDiagram segments (sums rate set)
 
 -- the height at a size on the line from one point to another, as a fee over a size

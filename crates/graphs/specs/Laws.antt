@@ -67,7 +67,8 @@ OptimalEndsAreCorners =
 pub record EqualRatesJoinOnce : Type 0 where
   pub some : (parts : List Sum) → ((part : Sum) → Contains parts part → 1 ≤ part.size) → Falls parts → (segments : List Sum) × JoinsEqualRates parts segments
   pub one : (parts a b : List Sum) → ((part : Sum) → Contains parts part → 1 ≤ part.size) → JoinsEqualRates parts a → JoinsEqualRates parts b → a ≡ b
-  pub first : (first : Sum) (group after segments : List Sum) → ((part : Sum) → Contains (first ∷ group ++ after) part → 1 ≤ part.size) → Falls (first ∷ group ++ after)
+  pub first : (first : Sum) (group after segments : List Sum)
+      → ((part : Sum) → Contains (first ∷ group ++ after) part → 1 ≤ part.size) → Falls (first ∷ group ++ after)
       → ((part : Sum) → Contains group part → AtMost first part) → ((part : Sum) (rest : List Sum) → after ≡ part ∷ rest → Below part first)
       → JoinsEqualRates (first ∷ group ++ after) segments → (others : List Sum) × (segments ≡ sum_of (first ∷ group) ∷ others) × JoinsEqualRates after others
 

@@ -12,7 +12,8 @@ use Rattle.graphs.specs.Drops.{IsDescendantSet}
 -- a set may be smaller than what stands before the part or larger than what ends with it.
 abbrev pub OptimalPartsBoundClosedSets : Type 0
 OptimalPartsBoundClosedSets =
-    (rate : ℕ → Sum) (graph : Graph) (before after : List (List ℕ)) (part set : List ℕ) → HasSizes rate graph.names → IsOptimal rate graph (before ++ part ∷ after)
+    (rate : ℕ → Sum) (graph : Graph) (before after : List (List ℕ)) (part set : List ℕ)
+    → HasSizes rate graph.names → IsOptimal rate graph (before ++ part ∷ after)
     → IsClosedWithin graph.pairs graph.names set → IsUnderLine (sums rate (flat_map (λ ids. ids) before)) (sums rate part) (sums rate set)
 
 -- A name's part has the same rate in any two optimal orders of one graph.

@@ -8,5 +8,6 @@ use Rattle.graphs.specs.Graphs.{Graph}
 pub record IsWithout (old : Graph) (id : ℕ) (new : Graph) : Type 0 where
   pub names : (a : ℕ) → Contains new.names a ↔ (Contains old.names a × (a ≢ id))
   pub names_once : AreDistinct new.names
-  pub pairs : (a b : ℕ) → Contains new.pairs (a, b) ↔ ((a ≢ id) × (b ≢ id) × (Contains old.pairs (a, b) ⊎ (Contains old.pairs (a, id) × Contains old.pairs (id, b))))
+  pub pairs : (a b : ℕ)
+      → Contains new.pairs (a, b) ↔ ((a ≢ id) × (b ≢ id) × (Contains old.pairs (a, b) ⊎ (Contains old.pairs (a, id) × Contains old.pairs (id, b))))
   pub pairs_once : AreDistinct new.pairs
