@@ -31,7 +31,8 @@ pub rates_clash : (parts : List Part) (at : ℕ) → 1 ≤ at → at < length pa
 rates_clash parts at some in' less f =
     let e : (at - 1) + 1 ≡ at = omega arith in
     let long : (at - 1) + 1 < length (rates_of parts) = subst (λ n. (at - 1) + 1 < n) (sym (length-map parts (λ (p : Part). p.rate))) (omega arith) in
-    below_clash (rate_at parts (at - 1)) (rate_at parts at) less (subst (λ n. AtMost (rate_at parts n) (rate_at parts (at - 1))) e (position_by_falls (rates_of parts) (at - 1) long f))
+    below_clash (rate_at parts (at - 1)) (rate_at parts at) less
+    (subst (λ n. AtMost (rate_at parts n) (rate_at parts (at - 1))) e (position_by_falls (rates_of parts) (at - 1) long f))
 
 pub rates_fall : (parts : List Part) → ((k : ℕ) → k + 1 < length parts → AtMost (rate_at parts (k + 1)) (rate_at parts k)) → Falls (rates_of parts)
 rates_fall parts h = falls_by_position (rates_of parts) (λ k less. h k (subst (λ n. k + 1 < n) (length-map parts (λ (p : Part). p.rate)) less))
@@ -56,13 +57,16 @@ has_falling txs parts s f = record {
       λ part here.
       let at = part_at parts part here in
       let ids = ids_here parts at.k at.it at.within at.here in
-      ap (λ (p : model.Part). p.rate) at.is ∙ ap (λ (p : Part). p.rate) at.here ∙ sym (rate_read parts at.k at.it at.within) ∙ s at.k at.within ∙ ap (sums (rate_in txs)) (sym ids ∙ sym (ap (λ (p : model.Part). p.ids) at.is));
+      ap (λ (p : model.Part). p.rate) at.is ∙ ap (λ (p : Part). p.rate) at.here ∙ sym (rate_read parts at.k at.it at.within)
+      ∙ s at.k at.within ∙ ap (sums (rate_in txs)) (sym ids ∙ sym (ap (λ (p : model.Part). p.ids) at.is));
   falling = subst Falls (sym (rates_same parts)) f;
 }
 
-pub are_rates : (txs : Txs) (find : ℕ → Option ℕ) (parts : List Part) → ArePlaces (names_of txs) find → AreInLimits txs → ((id : ℕ) → Contains (order_of parts) id → Contains (names_of txs) id) → length (order_of parts) ≤ MAX_TOTAL
+pub are_rates : (txs : Txs) (find : ℕ → Option ℕ) (parts : List Part) → ArePlaces (names_of txs) find → AreInLimits txs
+    → ((id : ℕ) → Contains (order_of parts) id → Contains (names_of txs) id) → length (order_of parts) ≤ MAX_TOTAL
     → ((k : ℕ) → k < length parts → ids_at parts k ≢ []) → AreSummed txs parts → AreRates parts
 are_rates txs find parts h l m few filled s k in' =
     let w = all_within txs find (ids_at parts k) h l (λ id here. m id (order_has parts k id in' here)) in
     let size = part_length parts k in' in
-    subst (λ (r : Sum). IsSum r × (1 ≤ r.size)) (sym (s k in')) (sums_in_range (rate_in txs) (ids_at parts k) w (omega arith), sums_some (rate_in txs) (ids_at parts k) w (filled k in'))
+    subst (λ (r : Sum). IsSum r × (1 ≤ r.size)) (sym (s k in'))
+    (sums_in_range (rate_in txs) (ids_at parts k) w (omega arith), sums_some (rate_in txs) (ids_at parts k) w (filled k in'))

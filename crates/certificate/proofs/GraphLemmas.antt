@@ -41,7 +41,8 @@ says_whole mine Part Whole Graph f h = (h.0, (λ w. h.1 (f w)))
 pub labels_of : (names : List ℕ) (find : ℕ → Option ℕ) (edges pairs : List (ℕ × ℕ)) → ArePlaces names find → ArePairs names edges pairs → Labels names pairs
 labels_of names find edges pairs h p = record { distinct = places_distinct names find h; within = p.within }
 
-pub edges_acyclic : (names : List ℕ) (find : ℕ → Option ℕ) (edges pairs : List (ℕ × ℕ)) → ArePlaces names find → ArePairs names edges pairs → HasNoCycle pairs → HasNoCycle edges
+pub edges_acyclic : (names : List ℕ) (find : ℕ → Option ℕ) (edges pairs : List (ℕ × ℕ))
+    → ArePlaces names find → ArePairs names edges pairs → HasNoCycle pairs → HasNoCycle edges
 edges_acyclic names find edges pairs h p n = subst HasNoCycle (sym p.same) (no_cycle_named names pairs (labels_of names find edges pairs h p) n)
 
 pub pairs_acyclic : (names : List ℕ) (edges pairs : List (ℕ × ℕ)) → ArePairs names edges pairs → HasNoCycle edges → HasNoCycle pairs
@@ -50,7 +51,8 @@ pairs_acyclic names edges pairs p n = no_cycle_placed names pairs (subst HasNoCy
 pub ends_are_names : (names : List ℕ) (edges pairs : List (ℕ × ℕ)) → ArePairs names edges pairs → AreOf names edges
 ends_are_names names edges pairs p a b here = ends_named names pairs a b p.within (subst (λ l. Contains {X = ℕ × ℕ} l (a, b)) p.same here)
 
-pub is_graph : (txs : Txs) (find : ℕ → Option ℕ) (edges pairs : List (ℕ × ℕ)) → AreInLimits txs → ArePlaces (names_of txs) find → ArePairs (names_of txs) edges pairs → AreDistinct edges → HasNoCycle pairs → HasGraph txs edges
+pub is_graph : (txs : Txs) (find : ℕ → Option ℕ) (edges pairs : List (ℕ × ℕ)) → AreInLimits txs → ArePlaces (names_of txs) find
+    → ArePairs (names_of txs) edges pairs → AreDistinct edges → HasNoCycle pairs → HasGraph txs edges
 is_graph txs find edges pairs l h p d n = record {
   few = l.few;
   limits = l.limits;
@@ -63,7 +65,8 @@ is_graph txs find edges pairs l h p d n = record {
 }
 
 -- ---- limits
-pub limits_all : (txs : Txs) → length txs ≤ MAX_TOTAL → ((k : ℕ) → k < length txs → IsFee (get_or txs k (0, pos 0, 0)).1 × IsSize (get_or txs k (0, pos 0, 0)).2) → AreInLimits txs
+pub limits_all : (txs : Txs) → length txs ≤ MAX_TOTAL
+    → ((k : ℕ) → k < length txs → IsFee (get_or txs k (0, pos 0, 0)).1 × IsSize (get_or txs k (0, pos 0, 0)).2) → AreInLimits txs
 limits_all txs few h = record {
   few = few;
   limits =

@@ -24,7 +24,8 @@ pub record From (names : List ℕ) (pairs : List (ℕ × ℕ)) (a b : ℕ) : Typ
   pub p_is : get_or names p 0 ≡ a
   pub q_is : get_or names q 0 ≡ b
 
-pub from : (names : List ℕ) (pairs : List (ℕ × ℕ)) (a b : ℕ) → AreWithin (length names) pairs → Contains {X = ℕ × ℕ} (map (named names) pairs) (a, b) → From names pairs a b
+pub from : (names : List ℕ) (pairs : List (ℕ × ℕ)) (a b : ℕ) → AreWithin (length names) pairs
+    → Contains {X = ℕ × ℕ} (map (named names) pairs) (a, b) → From names pairs a b
 from names pairs a b within (k, in', e) =
     let k_in : k < length pairs = subst (λ n. k < n) (length-map pairs (named names)) in' in
     let is : ◌≡◌ {A = ℕ × ℕ} (named names (get_or pairs k (0, 0))) (a, b) = sym (get_or-map (named names) pairs k (0, 0) (a, b) k_in) ∙ e in
@@ -39,7 +40,8 @@ from names pairs a b within (k, in', e) =
       q_is = ap (λ (x : ℕ × ℕ). x.1) is;
     }
 
-pub to : (names : List ℕ) (pairs : List (ℕ × ℕ)) (p q : ℕ) → Contains {X = ℕ × ℕ} pairs (p, q) → Contains {X = ℕ × ℕ} (map (named names) pairs) (get_or names p 0, get_or names q 0)
+pub to : (names : List ℕ) (pairs : List (ℕ × ℕ)) (p q : ℕ) → Contains {X = ℕ × ℕ} pairs (p, q)
+    → Contains {X = ℕ × ℕ} (map (named names) pairs) (get_or names p 0, get_or names q 0)
 to names pairs p q (k, in', e) = (
   k,
   subst (λ n. k < n) (sym (length-map pairs (named names))) in',
@@ -57,7 +59,8 @@ record WalkBack (names : List ℕ) (pairs : List (ℕ × ℕ)) (a j n : ℕ) : T
   pub i_is : get_or names i 0 ≡ a
   pub walk : Walk pairs i j n
 
-walk_back : (names : List ℕ) (pairs : List (ℕ × ℕ)) (a b j n : ℕ) → Labels names pairs → j < length names → get_or names j 0 ≡ b → Walk (map (named names) pairs) a b n → WalkBack names pairs a j n
+walk_back : (names : List ℕ) (pairs : List (ℕ × ℕ)) (a b j n : ℕ) → Labels names pairs → j < length names
+    → get_or names j 0 ≡ b → Walk (map (named names) pairs) a b n → WalkBack names pairs a j n
 walk_back names pairs a b j zero l j_in is e = record { i = j; i_in = j_in; i_is = is ∙ sym e; walk = refl }
 walk_back names pairs a b j (suc n) l j_in is (c, w, last) =
     let f = from names pairs c b l.within last in
@@ -81,7 +84,8 @@ pub no_cycle_placed : (names : List ℕ) (pairs : List (ℕ × ℕ)) → HasNoCy
 no_cycle_placed names pairs h a n w = h (get_or names a 0) n (walk_named names pairs a a (suc n) w)
 
 -- ---- trails
-pub trail_named : (names : List ℕ) (pairs : List (ℕ × ℕ)) (i j n : ℕ) → Trail pairs i j n → Trail (map (named names) pairs) (get_or names i 0) (get_or names j 0) n
+pub trail_named : (names : List ℕ) (pairs : List (ℕ × ℕ)) (i j n : ℕ) → Trail pairs i j n
+    → Trail (map (named names) pairs) (get_or names i 0) (get_or names j 0) n
 trail_named names pairs i j zero e = ap (λ x. get_or names x 0) e
 trail_named names pairs i j (suc n) (c, w, inl last) = (get_or names c 0, trail_named names pairs i c n w, inl (to names pairs c j last))
 trail_named names pairs i j (suc n) (c, w, inr last) = (get_or names c 0, trail_named names pairs i c n w, inr (to names pairs j c last))
@@ -92,7 +96,8 @@ record TrailBack (names : List ℕ) (pairs : List (ℕ × ℕ)) (a j n : ℕ) : 
   pub i_is : get_or names i 0 ≡ a
   pub trail : Trail pairs i j n
 
-trail_back : (names : List ℕ) (pairs : List (ℕ × ℕ)) (a b j n : ℕ) → Labels names pairs → j < length names → get_or names j 0 ≡ b → Trail (map (named names) pairs) a b n → TrailBack names pairs a j n
+trail_back : (names : List ℕ) (pairs : List (ℕ × ℕ)) (a b j n : ℕ) → Labels names pairs → j < length names
+    → get_or names j 0 ≡ b → Trail (map (named names) pairs) a b n → TrailBack names pairs a j n
 trail_back names pairs a b j zero l j_in is e = record { i = j; i_in = j_in; i_is = is ∙ sym e; trail = refl }
 trail_back names pairs a b j (suc n) l j_in is (c, w, inl last) =
     let f = from names pairs c b l.within last in
@@ -115,16 +120,19 @@ trail_back names pairs a b j (suc n) l j_in is (c, w, inr last) =
       trail = (f.q, back.trail, inr (subst (λ x. Contains {X = ℕ × ℕ} pairs (x, f.q)) same f.here));
     }
 
-pub connected_named : (names : List ℕ) (pairs : List (ℕ × ℕ)) (i j : ℕ) → AreConnected pairs i j → AreConnected (map (named names) pairs) (get_or names i 0) (get_or names j 0)
+pub connected_named : (names : List ℕ) (pairs : List (ℕ × ℕ)) (i j : ℕ) → AreConnected pairs i j
+    → AreConnected (map (named names) pairs) (get_or names i 0) (get_or names j 0)
 connected_named names pairs i j (n, t) = (n, trail_named names pairs i j n t)
 
-pub connected_placed : (names : List ℕ) (pairs : List (ℕ × ℕ)) (i j : ℕ) → Labels names pairs → i < length names → j < length names → AreConnected (map (named names) pairs) (get_or names i 0) (get_or names j 0) → AreConnected pairs i j
+pub connected_placed : (names : List ℕ) (pairs : List (ℕ × ℕ)) (i j : ℕ) → Labels names pairs → i < length names
+    → j < length names → AreConnected (map (named names) pairs) (get_or names i 0) (get_or names j 0) → AreConnected pairs i j
 connected_placed names pairs i j l i_in j_in (n, t) =
     let back = trail_back names pairs (get_or names i 0) (get_or names j 0) j n l j_in refl t in
     let same : back.i ≡ i = one_place names back.i i 0 l.distinct back.i_in i_in back.i_is in
     (n, subst (λ x. Trail pairs x j n) same back.trail)
 
-pub ends_named : (names : List ℕ) (pairs : List (ℕ × ℕ)) (a b : ℕ) → AreWithin (length names) pairs → Contains {X = ℕ × ℕ} (map (named names) pairs) (a, b) → Contains names a × Contains names b
+pub ends_named : (names : List ℕ) (pairs : List (ℕ × ℕ)) (a b : ℕ) → AreWithin (length names) pairs
+    → Contains {X = ℕ × ℕ} (map (named names) pairs) (a, b) → Contains names a × Contains names b
 ends_named names pairs a b within here =
     let f = from names pairs a b within here in
     ((f.p, f.p_in, get_or_default names f.p a 0 f.p_in ∙ f.p_is), (f.q, f.q_in, get_or_default names f.q b 0 f.q_in ∙ f.q_is))

@@ -27,7 +27,8 @@ here pairs n child e = record {
   later = λ k a b. absurd (omega arith);
 }
 
-kept : (pairs : List (ℕ × ℕ)) (n child place last : ℕ) → (pair_at pairs n).1 ≡ child → place ≢ child → IsLast pairs place n last → IsLast pairs place (n + 1) last
+kept : (pairs : List (ℕ × ℕ)) (n child place last : ℕ) → (pair_at pairs n).1 ≡ child
+    → place ≢ child → IsLast pairs place n last → IsLast pairs place (n + 1) last
 kept pairs n child place last e other h = record {
   below = (let b = h.below in omega arith);
   into = h.into;
@@ -39,7 +40,8 @@ kept pairs n child place last e other h = record {
       ];
 }
 
-pub one_linked : (pairs : List (ℕ × ℕ)) (n : ℕ) (last before : List ℕ) (child : ℕ) → AreLinked pairs n last before → (pair_at pairs n).1 ≡ child → child < length last
+pub one_linked : (pairs : List (ℕ × ℕ)) (n : ℕ) (last before : List ℕ) (child : ℕ)
+    → AreLinked pairs n last before → (pair_at pairs n).1 ≡ child → child < length last
     → AreLinked pairs (n + 1) (set last child (n + 1)) (before ++ (get_or last child 0 ∷ []))
 one_linked pairs n last before child h e in' = record {
   sized = (let s = h.sized in let l = length_push before (get_or last child 0) in omega arith);
@@ -59,9 +61,11 @@ one_linked pairs n last before child h e in' = record {
       elim (cases_eq k n) [
         | inl same ↦
             subst (λ x. IsLast pairs (pair_at pairs x).1 x (get_or (before ++ (get_or last child 0 ∷ [])) x 0)) (sym same)
-            (subst (λ v. IsLast pairs (pair_at pairs n).1 n v) (sym (get_or_push before (get_or last child 0) 0 n s)) (subst (λ x. IsLast pairs x n (get_or last child 0)) (sym e) (h.ends child in')))
+            (subst (λ v. IsLast pairs (pair_at pairs n).1 n v) (sym (get_or_push before (get_or last child 0) 0 n s))
+            (subst (λ x. IsLast pairs x n (get_or last child 0)) (sym e) (h.ends child in')))
         | inr other ↦
-            subst (λ v. IsLast pairs (pair_at pairs k).1 k v) (sym (get_or_append_left before (get_or last child 0 ∷ []) 0 k (omega arith))) (h.links k (omega arith))
+            subst (λ v. IsLast pairs (pair_at pairs k).1 k v)
+            (sym (get_or_append_left before (get_or last child 0 ∷ []) 0 k (omega arith))) (h.links k (omega arith))
       ];
 }
 

@@ -19,12 +19,14 @@ use Rattle.certificate.proofs.Labels.{from, to, connected_named, connected_place
 use Rattle.certificate.proofs.Seats.{stands, stood, AreKnown}
 use Rattle.certificate.proofs.PartLemmas.{ids_here, order_has, order_same, part_at, contains_part, some_part}
 
-pub order_part : (txs : Txs) (edges : List (ℕ × ℕ)) (parts : List Part) → HasOrder (graph_of txs edges) (parts_of parts) → IsOrderOf (names_of txs) (order_of parts)
+pub order_part : (txs : Txs) (edges : List (ℕ × ℕ)) (parts : List Part)
+    → HasOrder (graph_of txs edges) (parts_of parts) → IsOrderOf (names_of txs) (order_of parts)
 order_part txs edges parts h =
     let t = subst (λ l. IsTopological (graph_of txs edges) l) (order_same parts) h.topological in
     record { once = t.once; members = t.names }
 
-pub rise_part : (txs : Txs) (pairs : List (ℕ × ℕ)) (parts : List Part) (ranks : List ℕ) → AreWithin (length (names_of txs)) pairs → AreRanks (names_of txs) (order_of parts) ranks
+pub rise_part : (txs : Txs) (pairs : List (ℕ × ℕ)) (parts : List Part) (ranks : List ℕ)
+    → AreWithin (length (names_of txs)) pairs → AreRanks (names_of txs) (order_of parts) ranks
     → HasOrder (graph_of txs (map (named (names_of txs)) pairs)) (parts_of parts) → Rise ranks pairs
 rise_part txs pairs parts ranks within r h k in' =
     let names = names_of txs in
@@ -32,17 +34,20 @@ rise_part txs pairs parts ranks within r h k in' =
     let w = within k (0, 0) in' in
     let p = r.stands (pair_at pairs k).0 w.0 in
     let q = r.stands (pair_at pairs k).1 w.1 in
-    stood (order_of parts) (get_or ranks (pair_at pairs k).0 0) (get_or ranks (pair_at pairs k).1 0) (get_or names (pair_at pairs k).0 0) (get_or names (pair_at pairs k).1 0) t.once p.0 q.0 p.1 q.1
+    stood (order_of parts) (get_or ranks (pair_at pairs k).0 0) (get_or ranks (pair_at pairs k).1 0)
+    (get_or names (pair_at pairs k).0 0) (get_or names (pair_at pairs k).1 0) t.once p.0 q.0 p.1 q.1
     (t.parents_first _ _ (to names pairs (pair_at pairs k).0 (pair_at pairs k).1 (Contains-get_or pairs k (0, 0) in')))
 
 -- two names of a part are in one component
-part_together : (txs : Txs) (edges : List (ℕ × ℕ)) (parts : List Part) → HasOrder (graph_of txs edges) (parts_of parts) → (k : ℕ) → k < length parts → (a b : ℕ) → Contains (ids_at parts k) a → Contains (ids_at parts k) b → AreConnected edges a b
+part_together : (txs : Txs) (edges : List (ℕ × ℕ)) (parts : List Part) → HasOrder (graph_of txs edges) (parts_of parts) → (k : ℕ)
+    → k < length parts → (a b : ℕ) → Contains (ids_at parts k) a → Contains (ids_at parts k) b → AreConnected edges a b
 part_together txs edges parts o k in' a b a_in b_in =
     let (it, it_is) = some_part parts k in' in
     let ids = ids_here parts k it in' it_is in
     o.together (part_of it) (contains_part parts k it in' it_is) a b (subst (λ l. Contains l a) (sym ids) a_in) (subst (λ l. Contains l b) (sym ids) b_in)
 
-pub groups_part : (txs : Txs) (find : ℕ → Option ℕ) (pairs : List (ℕ × ℕ)) (parts : List Part) (groups : List ℕ) → ArePlaces (names_of txs) find → AreWithin (length (names_of txs)) pairs → AreGroups pairs groups → length groups ≡ length (names_of txs)
+pub groups_part : (txs : Txs) (find : ℕ → Option ℕ) (pairs : List (ℕ × ℕ)) (parts : List Part) (groups : List ℕ)
+    → ArePlaces (names_of txs) find → AreWithin (length (names_of txs)) pairs → AreGroups pairs groups → length groups ≡ length (names_of txs)
     → HasOrder (graph_of txs (map (named (names_of txs)) pairs)) (parts_of parts) → (k : ℕ) → k < length parts → AreOfOneGroup find groups (ids_at parts k)
 groups_part txs find pairs parts groups h within g size o k in' a b p q a_in b_in p_is q_is =
     let names = names_of txs in
@@ -51,17 +56,22 @@ groups_part txs find pairs parts groups h within g size o k in' a b p q a_in b_i
     let p_in : p < length groups = subst (λ n. p < n) (sym size) ps.0 in
     let q_in : q < length groups = subst (λ n. q < n) (sym size) qs.0 in
     let joined = part_together txs (map (named names) pairs) parts o k in' a b a_in b_in in
-    let placed = connected_placed names pairs p q (record { distinct = places_distinct names find h; within = within }) ps.0 qs.0 (subst (λ x. AreConnected (map (named names) pairs) x (get_or names q 0)) (sym ps.1) (subst (λ y. AreConnected (map (named names) pairs) a y) (sym qs.1) joined)) in
+    let placed = connected_placed names pairs p q (record { distinct = places_distinct names find h; within = within }) ps.0 qs.0
+    (subst (λ x. AreConnected (map (named names) pairs) x (get_or names q 0)) (sym ps.1)
+    (subst (λ y. AreConnected (map (named names) pairs) a y) (sym qs.1) joined)) in
     (g.exact p q p_in q_in).1 placed
 
-pub known_names : (txs : Txs) (find : ℕ → Option ℕ) (parts : List Part) (n : ℕ) → ArePlaces (names_of txs) find → IsOrderOf (names_of txs) (order_of parts) → n ≡ length (names_of txs) → AreKnown find (order_of parts) n
+pub known_names : (txs : Txs) (find : ℕ → Option ℕ) (parts : List Part) (n : ℕ) → ArePlaces (names_of txs) find
+    → IsOrderOf (names_of txs) (order_of parts) → n ≡ length (names_of txs) → AreKnown find (order_of parts) n
 known_names txs find parts n h o size id here =
     let (p, p_in, is) = (o.members id).0 here in
     let name : get_or (names_of txs) p 0 ≡ id = get_or_default (names_of txs) p 0 id p_in ∙ is in
     (p, subst (λ m. p < m) (sym size) p_in, ap find (sym name) ∙ h.complete p p_in)
 
-pub has_order : (txs : Txs) (find : ℕ → Option ℕ) (pairs : List (ℕ × ℕ)) (parts : List Part) (ranks groups : List ℕ) → ArePlaces (names_of txs) find → AreWithin (length (names_of txs)) pairs → IsOrderOf (names_of txs) (order_of parts)
-    → AreRanks (names_of txs) (order_of parts) ranks → Rise ranks pairs → AreGroups pairs groups → length groups ≡ length (names_of txs) → ((k : ℕ) → k < length parts → AreOfOneGroup find groups (ids_at parts k))
+pub has_order : (txs : Txs) (find : ℕ → Option ℕ) (pairs : List (ℕ × ℕ)) (parts : List Part) (ranks groups : List ℕ)
+    → ArePlaces (names_of txs) find → AreWithin (length (names_of txs)) pairs → IsOrderOf (names_of txs) (order_of parts)
+    → AreRanks (names_of txs) (order_of parts) ranks → Rise ranks pairs → AreGroups pairs groups
+    → length groups ≡ length (names_of txs) → ((k : ℕ) → k < length parts → AreOfOneGroup find groups (ids_at parts k))
     → HasOrder (graph_of txs (map (named (names_of txs)) pairs)) (parts_of parts)
 has_order txs find pairs parts ranks groups h within o r rise g size all =
     let names = names_of txs in
@@ -92,5 +102,6 @@ has_order txs find pairs parts ranks groups h within o r rise g size all =
           let same = all at.k at.within a b p q a_here b_here p_is q_is in
           let joined = (g.exact p q (subst (λ n. p < n) (sym size) p_in) (subst (λ n. q < n) (sym size) q_in)).0 same in
           let named_too = connected_named names pairs p q joined in
-          subst (λ x. AreConnected (map (named names) pairs) x b) (h.sound a p p_is).1 (subst (λ y. AreConnected (map (named names) pairs) (get_or names p 0) y) (h.sound b q q_is).1 named_too);
+          subst (λ x. AreConnected (map (named names) pairs) x b) (h.sound a p p_is).1
+          (subst (λ y. AreConnected (map (named names) pairs) (get_or names p 0) y) (h.sound b q q_is).1 named_too);
     }

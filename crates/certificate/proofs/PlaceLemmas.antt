@@ -13,7 +13,8 @@ use Rattle.certificate.specs.Places.{ArePlaces, AreOf, named, ArePairs}
 pub no_places : (find : ℕ → Option ℕ) → ((q : ℕ) → find q ≡ None) → ArePlaces [] find
 no_places find h = record { sound = λ id p e. absurd (some_none p (sym e ∙ h id)); complete = λ p in'. absurd (omega arith) }
 
-pub more_places : (names : List ℕ) (find find' : ℕ → Option ℕ) (id n : ℕ) → ArePlaces names find → n ≡ length names → find id ≡ None → find' id ≡ Some n → ((q : ℕ) → eqb id q ≡ false → find' q ≡ find q) → ArePlaces (names ++ (id ∷ [])) find'
+pub more_places : (names : List ℕ) (find find' : ℕ → Option ℕ) (id n : ℕ) → ArePlaces names find → n ≡ length names
+    → find id ≡ None → find' id ≡ Some n → ((q : ℕ) → eqb id q ≡ false → find' q ≡ find q) → ArePlaces (names ++ (id ∷ [])) find'
 more_places names find find' id n h size none here others = record {
   sound =
       λ q p e.
@@ -60,13 +61,15 @@ found names find id p h some =
     (p, s.0, get_or_default names p id 0 s.0 ∙ s.1)
 
 -- ---- a list of names, one more
-pub places_next : (names : List ℕ) (k id : ℕ) (find find' : ℕ → Option ℕ) → k < length names → get_or names k 0 ≡ id → ArePlaces (take k names) find → find id ≡ None → find' id ≡ Some k
+pub places_next : (names : List ℕ) (k id : ℕ) (find find' : ℕ → Option ℕ) → k < length names
+    → get_or names k 0 ≡ id → ArePlaces (take k names) find → find id ≡ None → find' id ≡ Some k
     → ((q : ℕ) → eqb id q ≡ false → find' q ≡ find q) → ArePlaces (take (k + 1) names) find'
 places_next names k id find find' in' e h none here others =
     subst (λ l. ArePlaces l find') (sym (take_more names k 0 in' ∙ ap (λ x. take k names ++ (x ∷ [])) e))
     (more_places (take k names) find find' id k h (sym (length-take-le k names (omega arith))) none here others)
 
-pub places_again : (names : List ℕ) (k id p : ℕ) (find : ℕ → Option ℕ) → k < length names → get_or names k 0 ≡ id → ArePlaces (take k names) find → find id ≡ Some p → AreDistinct names → ⊥
+pub places_again : (names : List ℕ) (k id p : ℕ) (find : ℕ → Option ℕ) → k < length names
+    → get_or names k 0 ≡ id → ArePlaces (take k names) find → find id ≡ Some p → AreDistinct names → ⊥
 places_again names k id p find in' e h some = repeated names k id 0 in' e (found (take k names) find id p h some)
 
 pub name_at : (txs : List (ℕ × ℤ × ℕ)) (k : ℕ) → k < length txs → get_or (map (λ tx. tx.0) txs) k 0 ≡ (get_or txs k (0, pos 0, 0)).0
@@ -76,19 +79,24 @@ name_at txs k in' = get_or-map (λ (tx : ℕ × ℤ × ℕ). tx.0) txs k (0, pos
 edge_here : (edges : List (ℕ × ℕ)) (k : ℕ) → k < length edges → Contains {X = ℕ × ℕ} edges ((get_or edges k (0, 0)).0, (get_or edges k (0, 0)).1)
 edge_here edges k in' = Contains-get_or edges k (0, 0) in'
 
-pub no_parent : (list : List ℕ) (find : ℕ → Option ℕ) (edges : List (ℕ × ℕ)) (k : ℕ) → k < length edges → ArePlaces list find → find (get_or edges k (0, 0)).0 ≡ None → AreOf list edges → ⊥
+pub no_parent : (list : List ℕ) (find : ℕ → Option ℕ) (edges : List (ℕ × ℕ)) (k : ℕ) → k < length edges
+    → ArePlaces list find → find (get_or edges k (0, 0)).0 ≡ None → AreOf list edges → ⊥
 no_parent list find edges k in' h none all = not_found list find _ h none (all _ _ (edge_here edges k in')).0
 
-pub no_child : (list : List ℕ) (find : ℕ → Option ℕ) (edges : List (ℕ × ℕ)) (k : ℕ) → k < length edges → ArePlaces list find → find (get_or edges k (0, 0)).1 ≡ None → AreOf list edges → ⊥
+pub no_child : (list : List ℕ) (find : ℕ → Option ℕ) (edges : List (ℕ × ℕ)) (k : ℕ) → k < length edges
+    → ArePlaces list find → find (get_or edges k (0, 0)).1 ≡ None → AreOf list edges → ⊥
 no_child list find edges k in' h none all = not_found list find _ h none (all _ _ (edge_here edges k in')).1
 
-pub more_pairs : (list : List ℕ) (find : ℕ → Option ℕ) (edges pairs : List (ℕ × ℕ)) (k p c : ℕ) → k < length edges → ArePlaces list find → find (get_or edges k (0, 0)).0 ≡ Some p → find (get_or edges k (0, 0)).1 ≡ Some c
+pub more_pairs : (list : List ℕ) (find : ℕ → Option ℕ) (edges pairs : List (ℕ × ℕ)) (k p c : ℕ) → k < length edges
+    → ArePlaces list find → find (get_or edges k (0, 0)).0 ≡ Some p → find (get_or edges k (0, 0)).1 ≡ Some c
     → ArePairs list (take k edges) pairs → ArePairs list (take (k + 1) edges) (pairs ++ ((p, c) ∷ []))
 more_pairs list find edges pairs k p c in' h some other pre =
     let a = h.sound _ p some in
     let b = h.sound _ c other in
-    let e : ◌≡◌ {A = ℕ × ℕ} (get_or edges k (0, 0)) (named list (p, c)) = ap (λ x. let y : ℕ × ℕ = (x, (get_or edges k (0, 0)).1) in y) (sym a.1) ∙ ap (λ x. let y : ℕ × ℕ = (get_or list p 0, x) in y) (sym b.1) in
+    let e : ◌≡◌ {A = ℕ × ℕ} (get_or edges k (0, 0)) (named list (p, c)) =
+    ap (λ x. let y : ℕ × ℕ = (x, (get_or edges k (0, 0)).1) in y) (sym a.1) ∙ ap (λ x. let y : ℕ × ℕ = (get_or list p 0, x) in y) (sym b.1) in
     record {
       within = All-push (λ (pair : ℕ × ℕ). (pair.0 < length list) × (pair.1 < length list)) pairs (p, c) pre.within (a.0, b.0);
-      same = take_more edges k (0, 0) in' ∙ ap (λ l. l ++ (get_or edges k (0, 0) ∷ [])) pre.same ∙ ap (λ x. map (named list) pairs ++ (x ∷ [])) e ∙ sym (map-append (named list) pairs ((p, c) ∷ []));
+      same = take_more edges k (0, 0) in' ∙ ap (λ l. l ++ (get_or edges k (0, 0) ∷ [])) pre.same
+          ∙ ap (λ x. map (named list) pairs ++ (x ∷ [])) e ∙ sym (map-append (named list) pairs ((p, c) ∷ []));
     }

@@ -45,7 +45,8 @@ rate_first (tx ∷ txs) id (suc p) d in' e =
     let other : tx.0 ≢ id = λ same. d.0 (subst (λ x. Contains (names_of txs) x) (sym same) there) in
     same_false (eqb tx.0 id) record { fee = tx.1; size = tx.2 } (rate_in txs id) (ne_eqb tx.0 id other) ∙ rate_first txs id p d.1 p_in e
 
-pub rate_found : (txs : Txs) (find : ℕ → Option ℕ) (id p : ℕ) → ArePlaces (names_of txs) find → find id ≡ Some p → (p < length txs) × (rate_in txs id ≡ rate_here txs p)
+pub rate_found : (txs : Txs) (find : ℕ → Option ℕ) (id p : ℕ) → ArePlaces (names_of txs) find
+    → find id ≡ Some p → (p < length txs) × (rate_in txs id ≡ rate_here txs p)
 rate_found txs find id p h e =
     let s = h.sound id p e in
     let p_in : p < length txs = subst (λ n. p < n) (length-map txs (λ (t : ℕ × ℤ × ℕ). t.0)) s.0 in
@@ -62,7 +63,8 @@ within_here txs p l in' =
     let (fee, size) = limits_at txs p l in' in
     record { fee = fee; some = size.0; size = size.1 }
 
-pub within_name : (txs : Txs) (find : ℕ → Option ℕ) (id : ℕ) → ArePlaces (names_of txs) find → AreInLimits txs → Contains (names_of txs) id → IsWithin (rate_in txs id)
+pub within_name : (txs : Txs) (find : ℕ → Option ℕ) (id : ℕ) → ArePlaces (names_of txs) find
+    → AreInLimits txs → Contains (names_of txs) id → IsWithin (rate_in txs id)
 within_name txs find id h l (p, p_in, is) =
     let name : get_or (names_of txs) p 0 ≡ id = get_or_default (names_of txs) p 0 id p_in ∙ is in
     let f = rate_found txs find id p h (ap find (sym name) ∙ h.complete p p_in) in
@@ -97,22 +99,27 @@ sums_some rate (id ∷ ids) h n =
     let first = (h 0 id (omega arith)).some in
     omega (arith, sum_by-cons (λ x. (rate x).size) id ids)
 
-pub all_within : (txs : Txs) (find : ℕ → Option ℕ) (ids : List ℕ) → ArePlaces (names_of txs) find → AreInLimits txs → ((id : ℕ) → Contains ids id → Contains (names_of txs) id) → AllWithin (rate_in txs) ids
+pub all_within : (txs : Txs) (find : ℕ → Option ℕ) (ids : List ℕ) → ArePlaces (names_of txs) find
+    → AreInLimits txs → ((id : ℕ) → Contains ids id → Contains (names_of txs) id) → AllWithin (rate_in txs) ids
 all_within txs find ids h l m k d in' = within_name txs find (get_or ids k d) h l (m (get_or ids k d) (Contains-get_or ids k d in'))
 
 -- the sum so far, and with one more name
-pub sum_range : (rate : ℕ → Sum) (ids : List ℕ) (k : ℕ) (sum : Sum) → AllWithin rate ids → length ids ≤ MAX_TOTAL → k ≤ length ids → sum ≡ sums rate (take k ids) → IsSum sum
+pub sum_range : (rate : ℕ → Sum) (ids : List ℕ) (k : ℕ) (sum : Sum) → AllWithin rate ids
+    → length ids ≤ MAX_TOTAL → k ≤ length ids → sum ≡ sums rate (take k ids) → IsSum sum
 sum_range rate ids k sum h few in' is =
     subst (λ s. IsSum s) (sym is) (sums_in_range rate (take k ids) (All-take (λ id. IsWithin (rate id)) k ids h) (omega (arith, length-take-le k ids in')))
 
-pub sum_next : (rate : ℕ → Sum) (ids : List ℕ) (k : ℕ) (sum new : Sum) (fee : ℤ) (size : ℕ) → k < length ids → sum ≡ sums rate (take k ids) → fee ≡ (rate (get_or ids k 0)).fee → size ≡ (rate (get_or ids k 0)).size
+pub sum_next : (rate : ℕ → Sum) (ids : List ℕ) (k : ℕ) (sum new : Sum) (fee : ℤ) (size : ℕ) → k < length ids
+    → sum ≡ sums rate (take k ids) → fee ≡ (rate (get_or ids k 0)).fee → size ≡ (rate (get_or ids k 0)).size
     → new.fee ≡ sum.fee +ℤ fee → new.size ≡ sum.size + size → new ≡ sums rate (take (k + 1) ids)
 sum_next rate ids k sum new fee size in' is f s nf ns =
     let id = get_or ids k 0 in
     let old_fee : sum.fee ≡ (sums rate (take k ids)).fee = ap (λ (x : Sum). x.fee) is in
     let old_size : sum.size ≡ (sums rate (take k ids)).size = ap (λ (x : Sum). x.size) is in
-    let fees : new.fee ≡ (sums rate (take k ids ++ (id ∷ []))).fee = nf ∙ ap (λ (x : ℤ). x +ℤ fee) old_fee ∙ ap (λ (x : ℤ). (sums rate (take k ids)).fee +ℤ x) f ∙ sym (sums-push rate (take k ids) id) in
-    let sizes : new.size ≡ (sums rate (take k ids ++ (id ∷ []))).size = ns ∙ ap (λ (x : ℕ). x + size) old_size ∙ ap (λ (x : ℕ). (sums rate (take k ids)).size + x) s ∙ sym (sizes-push rate (take k ids) id) in
+    let fees : new.fee ≡ (sums rate (take k ids ++ (id ∷ []))).fee =
+    nf ∙ ap (λ (x : ℤ). x +ℤ fee) old_fee ∙ ap (λ (x : ℤ). (sums rate (take k ids)).fee +ℤ x) f ∙ sym (sums-push rate (take k ids) id) in
+    let sizes : new.size ≡ (sums rate (take k ids ++ (id ∷ []))).size =
+    ns ∙ ap (λ (x : ℕ). x + size) old_size ∙ ap (λ (x : ℕ). (sums rate (take k ids)).size + x) s ∙ sym (sizes-push rate (take k ids) id) in
     same_sum new (sums rate (take k ids ++ (id ∷ []))) fees sizes ∙ ap (λ l. sums rate l) (sym (take_more ids k 0 in'))
 
 -- ---- falling rates, by position
@@ -122,10 +129,12 @@ nothing = record { fee = pos 0; size = 0 }
 step : (a : Sum) (rates : List Sum) (k : ℕ) → get_or (a ∷ rates) (suc k + 1) nothing ≡ get_or rates (k + 1) nothing
 step a rates k = let e : suc k + 1 ≡ suc (k + 1) = omega arith in ap (λ n. get_or (a ∷ rates) n nothing) e
 
-later : (a : Sum) (rates : List Sum) (k : ℕ) → AtMost (get_or (a ∷ rates) (suc k + 1) nothing) (get_or (a ∷ rates) (suc k) nothing) → AtMost (get_or rates (k + 1) nothing) (get_or rates k nothing)
+later : (a : Sum) (rates : List Sum) (k : ℕ) → AtMost (get_or (a ∷ rates) (suc k + 1) nothing) (get_or (a ∷ rates) (suc k) nothing)
+    → AtMost (get_or rates (k + 1) nothing) (get_or rates k nothing)
 later a rates k h = subst (λ s. AtMost s (get_or rates k nothing)) (step a rates k) h
 
-back : (a : Sum) (rates : List Sum) (k : ℕ) → AtMost (get_or rates (k + 1) nothing) (get_or rates k nothing) → AtMost (get_or (a ∷ rates) (suc k + 1) nothing) (get_or (a ∷ rates) (suc k) nothing)
+back : (a : Sum) (rates : List Sum) (k : ℕ) → AtMost (get_or rates (k + 1) nothing) (get_or rates k nothing)
+    → AtMost (get_or (a ∷ rates) (suc k + 1) nothing) (get_or (a ∷ rates) (suc k) nothing)
 back a rates k h = subst (λ s. AtMost s (get_or rates k nothing)) (sym (step a rates k)) h
 
 pub falls_by_position : (rates : List Sum) → ((k : ℕ) → k + 1 < length rates → AtMost (get_or rates (k + 1) nothing) (get_or rates k nothing)) → Falls rates

@@ -19,7 +19,8 @@ visit_there : (visits : List Visit) (p x : ℕ) (v : Visit) → x ≢ p → visi
 visit_there visits p x v ne = get_or-set_other visits p x v New ne
 
 -- a place whose visit changes wasn't done, so what is done stays done
-done_stays : (visits : List Visit) (p x : ℕ) (v : Visit) → p < length visits → (visit_at visits p ≡ Done → v ≡ Done) → visit_at visits x ≡ Done → visit_at (set visits p v) x ≡ Done
+done_stays : (visits : List Visit) (p x : ℕ) (v : Visit) → p < length visits
+    → (visit_at visits p ≡ Done → v ≡ Done) → visit_at visits x ≡ Done → visit_at (set visits p v) x ≡ Done
 done_stays visits p x v in' keep d =
     elim (cases_eq x p) [
       | inl e ↦ subst (λ y. visit_at (set visits p v) y ≡ Done) (sym e) (visit_here visits p v in' ∙ keep (subst (λ y. visit_at visits y ≡ Done) e d))
@@ -34,7 +35,8 @@ reached_stays visits p x v in' other r n =
     ]
 
 -- ---- work
-weight_falls : (visits : List Visit) (p : ℕ) (v : Visit) → p < length visits → weight_of v < weight_of (visit_at visits p) → sum_by weight_of (set visits p v) < sum_by weight_of visits
+weight_falls : (visits : List Visit) (p : ℕ) (v : Visit) → p < length visits
+    → weight_of v < weight_of (visit_at visits p) → sum_by weight_of (set visits p v) < sum_by weight_of visits
 weight_falls visits p v in' less = omega (arith, sum_by-set weight_of visits p v New in')
 
 left_falls : (left : List ℕ) (p n : ℕ) → p < length left → n < get_or left p 0 → sum (set left p n) < sum left
@@ -53,7 +55,8 @@ pub position_of : (pairs : List (ℕ × ℕ)) (a b : ℕ) → Contains {X = ℕ 
 position_of pairs a b (k, in', e) = (k, in', get_or_default pairs k (0, 0) (a, b) in' ∙ e)
 
 -- from done places walks lead back to done places alone
-pub done_before : (pairs : List (ℕ × ℕ)) (visits : List Visit) → ((k : ℕ) → k < length pairs → visit_at visits (pair_at pairs k).1 ≡ Done → visit_at visits (pair_at pairs k).0 ≡ Done)
+pub done_before : (pairs : List (ℕ × ℕ)) (visits : List Visit)
+    → ((k : ℕ) → k < length pairs → visit_at visits (pair_at pairs k).1 ≡ Done → visit_at visits (pair_at pairs k).0 ≡ Done)
     → (a b n : ℕ) → Walk pairs a b n → visit_at visits b ≡ Done → visit_at visits a ≡ Done
 done_before pairs visits h a b zero e d = subst (λ x. visit_at visits x ≡ Done) (sym e) d
 done_before pairs visits h a b (suc n) (c, w, last) d =
@@ -63,7 +66,8 @@ done_before pairs visits h a b (suc n) (c, w, last) d =
     done_before pairs visits h a c n w back
 
 -- ---- the last place of the way is done
-looked_stays : (pairs : List (ℕ × ℕ)) (visits : List Visit) (p x l : ℕ) (v : Visit) → p < length visits → (visit_at visits p ≡ Done → v ≡ Done) → IsLooked pairs visits x l → IsLooked pairs (set visits p v) x l
+looked_stays : (pairs : List (ℕ × ℕ)) (visits : List Visit) (p x l : ℕ) (v : Visit) → p < length visits
+    → (visit_at visits p ≡ Done → v ≡ Done) → IsLooked pairs visits x l → IsLooked pairs (set visits p v) x l
 looked_stays pairs visits p x l v in' keep h = record {
   below = h.below;
   into = h.into;
@@ -77,7 +81,8 @@ pub record IsTop (visits : List Visit) (way : List ℕ) (n top : ℕ) : Type 0 w
   pub within : top < length visits
   pub is_open : visit_at visits top ≡ Open
 
-pub top_of : (pairs : List (ℕ × ℕ)) (left : List ℕ) (visits : List Visit) (way : List ℕ) (n top : ℕ) → IsSearch pairs left visits way → n + 1 ≡ length way → get_or way n 0 ≡ top → IsTop visits way n top
+pub top_of : (pairs : List (ℕ × ℕ)) (left : List ℕ) (visits : List Visit) (way : List ℕ) (n top : ℕ)
+    → IsSearch pairs left visits way → n + 1 ≡ length way → get_or way n 0 ≡ top → IsTop visits way n top
 top_of pairs left visits way n top s last here = record {
   last = last;
   here = here;
@@ -88,17 +93,20 @@ top_of pairs left visits way n top s last here = record {
 not_open : Done ≡ Open → ⊥
 not_open e = cc
 
-shorter_way : (pairs : List (ℕ × ℕ)) (left : List ℕ) (visits : List Visit) (way : List ℕ) (n top : ℕ) → IsSearch pairs left visits way → IsTop visits way n top → IsWay pairs (set visits top Done) (take n way)
+shorter_way : (pairs : List (ℕ × ℕ)) (left : List ℕ) (visits : List Visit) (way : List ℕ) (n top : ℕ)
+    → IsSearch pairs left visits way → IsTop visits way n top → IsWay pairs (set visits top Done) (take n way)
 shorter_way pairs left visits way n top s t =
     let last = t.last in
     let size : length (take n way) ≡ n = length-take-le n way (omega arith) in
     let read : (i : ℕ) → i < n → get_or (take n way) i 0 ≡ get_or way i 0 = λ i less. get_or-take n way i 0 less in
     record {
-      within = λ i k. subst (λ x. x < length (set visits top Done)) (sym (read i (omega arith))) (subst (λ m. get_or way i 0 < m) (sym (length-set visits top Done)) (s.open_way.within i (omega arith)));
+      within = λ i k. subst (λ x. x < length (set visits top Done)) (sym (read i (omega arith)))
+          (subst (λ m. get_or way i 0 < m) (sym (length-set visits top Done)) (s.open_way.within i (omega arith)));
       is_open =
           λ i k.
           let apart : get_or way i 0 ≢ top = λ e. s.open_way.once i n (omega arith) (omega arith) (e ∙ sym t.here) in
-          subst (λ x. visit_at (set visits top Done) x ≡ Open) (sym (read i (omega arith))) (visit_there visits top _ Done apart ∙ s.open_way.is_open i (omega arith));
+          subst (λ x. visit_at (set visits top Done) x ≡ Open) (sym (read i (omega arith)))
+          (visit_there visits top _ Done apart ∙ s.open_way.is_open i (omega arith));
       once = λ i j less k e. s.open_way.once i j less (omega arith) (sym (read i (omega arith)) ∙ e ∙ read j (omega arith));
       upward =
           λ i j le k.
@@ -106,7 +114,8 @@ shorter_way pairs left visits way n top s t =
           (subst (λ x. IsAncestor pairs x (get_or way i 0)) (sym (read j (omega arith))) (s.open_way.upward i j le (omega arith)));
     }
 
-finished_acyclic : (pairs : List (ℕ × ℕ)) (left : List ℕ) (visits : List Visit) (way : List ℕ) (n top : ℕ) → IsSearch pairs left visits way → IsTop visits way n top
+finished_acyclic : (pairs : List (ℕ × ℕ)) (left : List ℕ) (visits : List Visit) (way : List ℕ) (n top : ℕ)
+    → IsSearch pairs left visits way → IsTop visits way n top
     → ((k : ℕ) → k < length pairs → (pair_at pairs k).1 ≡ top → visit_at visits (pair_at pairs k).0 ≡ Done) → (m : ℕ) → Walk pairs top top m → m ≡ 0
 finished_acyclic pairs left visits way n top s t parent_done zero w = refl
 finished_acyclic pairs left visits way n top s t parent_done (suc m) (c, w, last) =
@@ -116,7 +125,8 @@ finished_acyclic pairs left visits way n top s t parent_done (suc m) (c, w, last
     let d = done_before pairs visits s.parents top c m w back in
     absurd (not_open (sym d ∙ t.is_open))
 
-pub finished : (pairs : List (ℕ × ℕ)) (left : List ℕ) (visits : List Visit) (way : List ℕ) (n top : ℕ) → IsSearch pairs left visits way → IsTop visits way n top → get_or left top 0 ≡ 0
+pub finished : (pairs : List (ℕ × ℕ)) (left : List ℕ) (visits : List Visit) (way : List ℕ) (n top : ℕ)
+    → IsSearch pairs left visits way → IsTop visits way n top → get_or left top 0 ≡ 0
     → GoesOn pairs visits left (set visits top Done) (take n way)
 finished pairs left visits way n top s t none =
     let last = t.last in
@@ -157,14 +167,16 @@ finished pairs left visits way n top s t none =
       reached = λ x r. reached_stays visits top x Done t.within (λ e. cc) r;
     }
 
-pub finished_less : (left : List ℕ) (visits : List Visit) (way : List ℕ) (n top : ℕ) → IsTop visits way n top → work_of left (set visits top Done) < work_of left visits
+pub finished_less : (left : List ℕ) (visits : List Visit) (way : List ℕ) (n top : ℕ)
+    → IsTop visits way n top → work_of left (set visits top Done) < work_of left visits
 finished_less left visits way n top t =
     let o : weight_of (visit_at visits top) ≡ 1 = ap weight_of t.is_open in
     let f = weight_falls visits top Done t.within (omega arith) in
     omega arith
 
 -- ---- the next pair is passed by
-pub passed : (pairs : List (ℕ × ℕ)) (left : List ℕ) (visits : List Visit) (way : List ℕ) (n top l b : ℕ) → IsSearch pairs left visits way → IsTop visits way n top → get_or left top 0 ≡ l → 0 < l
+pub passed : (pairs : List (ℕ × ℕ)) (left : List ℕ) (visits : List Visit) (way : List ℕ) (n top l b : ℕ)
+    → IsSearch pairs left visits way → IsTop visits way n top → get_or left top 0 ≡ l → 0 < l
     → visit_at visits (pair_at pairs (l - 1)).0 ≡ Done → IsLast pairs (pair_at pairs (l - 1)).1 (l - 1) b → GoesOn pairs visits (set left top b) visits way
 passed pairs left visits way n top l b s t is some d link =
     let old = s.looking top t.within in
@@ -191,7 +203,8 @@ passed pairs left visits way n top l b s t is some d link =
         looking =
             λ x k.
             elim (cases_eq x top) [
-              | inl e ↦ subst (λ y. IsLooked pairs visits y (get_or (set left top b) y 0)) (sym e) (subst (λ v. IsLooked pairs visits top v) (sym (get_or-set_same left top b 0 top_in)) new)
+              | inl e ↦ subst (λ y. IsLooked pairs visits y (get_or (set left top b) y 0)) (sym e)
+                  (subst (λ v. IsLooked pairs visits top v) (sym (get_or-set_same left top b 0 top_in)) new)
               | inr ne ↦ subst (λ v. IsLooked pairs visits x v) (sym (get_or-set_other left top x b 0 ne)) (s.looking x k)
             ];
         open_way = s.open_way;
@@ -204,7 +217,8 @@ passed pairs left visits way n top l b s t is some d link =
       reached = λ x h. h;
     }
 
-pub passed_less : (pairs : List (ℕ × ℕ)) (left : List ℕ) (visits : List Visit) (way : List ℕ) (top l b : ℕ) → IsSearch pairs left visits way → top < length visits → get_or left top 0 ≡ l → 0 < l
+pub passed_less : (pairs : List (ℕ × ℕ)) (left : List ℕ) (visits : List Visit) (way : List ℕ) (top l b : ℕ)
+    → IsSearch pairs left visits way → top < length visits → get_or left top 0 ≡ l → 0 < l
     → IsLast pairs (pair_at pairs (l - 1)).1 (l - 1) b → work_of (set left top b) visits < work_of left visits
 passed_less pairs left visits way top l b s in' is some link =
     let size = s.sized in
@@ -261,7 +275,8 @@ longer_way pairs visits way p w in' new above =
           ];
     }
 
-pub opened : (pairs : List (ℕ × ℕ)) (left : List ℕ) (visits : List Visit) (way : List ℕ) (p : ℕ) → IsSearch pairs left visits way → p < length visits → visit_at visits p ≡ New
+pub opened : (pairs : List (ℕ × ℕ)) (left : List ℕ) (visits : List Visit) (way : List ℕ) (p : ℕ)
+    → IsSearch pairs left visits way → p < length visits → visit_at visits p ≡ New
     → ((i : ℕ) → i < length way → IsAncestor pairs p (get_or way i 0)) → GoesOn pairs visits left (set visits p Open) (way ++ (p ∷ []))
 opened pairs left visits way p s in' new above =
     let size = length-set visits p Open in
@@ -294,14 +309,16 @@ opened pairs left visits way p s in' new above =
       reached = λ x r. reached_stays visits p x Open in' (λ e. cc) r;
     }
 
-pub opened_less : (left : List ℕ) (visits : List Visit) (p : ℕ) → p < length visits → visit_at visits p ≡ New → work_of left (set visits p Open) < work_of left visits
+pub opened_less : (left : List ℕ) (visits : List Visit) (p : ℕ) → p < length visits
+    → visit_at visits p ≡ New → work_of left (set visits p Open) < work_of left visits
 opened_less left visits p in' new =
     let o : weight_of (visit_at visits p) ≡ 2 = ap weight_of new in
     let f = weight_falls visits p Open in' (omega arith) in
     omega arith
 
 -- ---- a cycle
-pub cycle_found : (pairs : List (ℕ × ℕ)) (left : List ℕ) (visits : List Visit) (way : List ℕ) (n top k : ℕ) → IsSearch pairs left visits way → IsTop visits way n top → k < length pairs
+pub cycle_found : (pairs : List (ℕ × ℕ)) (left : List ℕ) (visits : List Visit) (way : List ℕ) (n top k : ℕ)
+    → IsSearch pairs left visits way → IsTop visits way n top → k < length pairs
     → (pair_at pairs k).1 ≡ top → (pair_at pairs k).0 < length visits → visit_at visits (pair_at pairs k).0 ≡ Open → HasNoCycle pairs → ⊥
 cycle_found pairs left visits way n top k s t in' into p_in o none =
     let last = t.last in
@@ -313,14 +330,17 @@ cycle_found pairs left visits way n top k s t in' into p_in o none =
     none top m (p, w', edge)
 
 -- ---- what the code reads
-pub read_top : (pairs : List (ℕ × ℕ)) (left : List ℕ) (visits : List Visit) (way : List ℕ) (len top : ℕ) → IsSearch pairs left visits way → 0 < length way → len ≡ length way → top ≡ get_or way (len - 1) top
+pub read_top : (pairs : List (ℕ × ℕ)) (left : List ℕ) (visits : List Visit) (way : List ℕ) (len top : ℕ)
+    → IsSearch pairs left visits way → 0 < length way → len ≡ length way → top ≡ get_or way (len - 1) top
     → IsTop visits way (length way - 1) top
 read_top pairs left visits way len top s some e read =
     let n : ℕ = length way - 1 in
     let same : len - 1 ≡ length way - 1 = ap (λ (m : ℕ). m - 1) e in
-    top_of pairs left visits way (length way - 1) top s (omega arith) (sym (get_or_read way (length way - 1) top (omega arith) (read ∙ ap (λ m. get_or way m top) same) 0))
+    top_of pairs left visits way (length way - 1) top s (omega arith)
+    (sym (get_or_read way (length way - 1) top (omega arith) (read ∙ ap (λ m. get_or way m top) same) 0))
 
-pub read_left : (pairs : List (ℕ × ℕ)) (left : List ℕ) (visits : List Visit) (way : List ℕ) (n top l : ℕ) → IsSearch pairs left visits way → IsTop visits way n top → l ≡ get_or left top l → get_or left top 0 ≡ l
+pub read_left : (pairs : List (ℕ × ℕ)) (left : List ℕ) (visits : List Visit) (way : List ℕ) (n top l : ℕ)
+    → IsSearch pairs left visits way → IsTop visits way n top → l ≡ get_or left top l → get_or left top 0 ≡ l
 read_left pairs left visits way n top l s t read =
     let size = s.sized in
     let within = t.within in
@@ -335,7 +355,8 @@ pub record IsNext (pairs : List (ℕ × ℕ)) (visits : List Visit) (top l : ℕ
   pub into : (pair_at pairs (l - 1)).1 ≡ top
   pub from : (pair_at pairs (l - 1)).0 < length visits
 
-pub next_of : (pairs : List (ℕ × ℕ)) (left : List ℕ) (visits : List Visit) (way : List ℕ) (n top l : ℕ) → AreWithin (length visits) pairs → IsSearch pairs left visits way → IsTop visits way n top
+pub next_of : (pairs : List (ℕ × ℕ)) (left : List ℕ) (visits : List Visit) (way : List ℕ) (n top l : ℕ)
+    → AreWithin (length visits) pairs → IsSearch pairs left visits way → IsTop visits way n top
     → get_or left top 0 ≡ l → 0 < l → IsNext pairs visits top l
 next_of pairs left visits way n top l within s t is some =
     let look = s.looking top t.within in
@@ -348,26 +369,32 @@ next_of pairs left visits way n top l within s t is some =
     }
 
 -- the parent of the way's last place is an ancestor of all on the way
-pub above_way : (pairs : List (ℕ × ℕ)) (left : List ℕ) (visits : List Visit) (way : List ℕ) (n top l : ℕ) → IsSearch pairs left visits way → IsTop visits way n top → IsNext pairs visits top l
+pub above_way : (pairs : List (ℕ × ℕ)) (left : List ℕ) (visits : List Visit) (way : List ℕ) (n top l : ℕ)
+    → IsSearch pairs left visits way → IsTop visits way n top → IsNext pairs visits top l
     → (i : ℕ) → i < length way → IsAncestor pairs (pair_at pairs (l - 1)).0 (get_or way i 0)
 above_way pairs left visits way n top l s t next i in' =
     let last = t.last in
     let (m, w) = s.open_way.upward i n (omega arith) (omega arith) in
     let w' : Walk pairs top (get_or way i 0) m = subst (λ x. Walk pairs x (get_or way i 0) m) t.here w in
-    let edge : Contains {X = ℕ × ℕ} pairs ((pair_at pairs (l - 1)).0, top) = subst (λ x. Contains {X = ℕ × ℕ} pairs ((pair_at pairs (l - 1)).0, x)) next.into (contains_at pairs (l - 1) next.within) in
+    let edge : Contains {X = ℕ × ℕ} pairs ((pair_at pairs (l - 1)).0, top) =
+    subst (λ x. Contains {X = ℕ × ℕ} pairs ((pair_at pairs (l - 1)).0, x)) next.into (contains_at pairs (l - 1) next.within) in
     (suc m, walk_front pairs (pair_at pairs (l - 1)).0 top (get_or way i 0) m edge w')
 
 -- the state that `open` leaves
-pub goes_on_same : (pairs : List (ℕ × ℕ)) (visits : List Visit) (left left' : List ℕ) (visits' visits'' : List Visit) (way' way'' : List ℕ) → left' ≡ left → visits'' ≡ visits' → way'' ≡ way'
+pub goes_on_same : (pairs : List (ℕ × ℕ)) (visits : List Visit) (left left' : List ℕ) (visits' visits'' : List Visit) (way' way'' : List ℕ)
+    → left' ≡ left → visits'' ≡ visits' → way'' ≡ way'
     → GoesOn pairs visits left visits' way' → GoesOn pairs visits left' visits'' way''
 goes_on_same pairs visits left left' visits' visits'' way' way'' a b c g =
-    subst (λ l. GoesOn pairs visits l visits'' way'') (sym a) (subst (λ v. GoesOn pairs visits left v way'') (sym b) (subst (λ w. GoesOn pairs visits left visits' w) (sym c) g))
+    subst (λ l. GoesOn pairs visits l visits'' way'') (sym a)
+    (subst (λ v. GoesOn pairs visits left v way'') (sym b) (subst (λ w. GoesOn pairs visits left visits' w) (sym c) g))
 
-pub work_same : (n : ℕ) (left left' : List ℕ) (visits' visits'' : List Visit) → left' ≡ left → visits'' ≡ visits' → work_of left visits' < n → work_of left' visits'' < n
+pub work_same : (n : ℕ) (left left' : List ℕ) (visits' visits'' : List Visit) → left' ≡ left
+    → visits'' ≡ visits' → work_of left visits' < n → work_of left' visits'' < n
 work_same n left left' visits' visits'' a b h = subst (λ l. work_of l visits'' < n) (sym a) (subst (λ v. work_of left v < n) (sym b) h)
 
 -- one step after others
-pub goes_further : (pairs : List (ℕ × ℕ)) (visits : List Visit) (left' : List ℕ) (visits' : List Visit) (way' left'' : List ℕ) (visits'' : List Visit) (way'' : List ℕ)
+pub goes_further : (pairs : List (ℕ × ℕ)) (visits : List Visit) (left' : List ℕ)
+    (visits' : List Visit) (way' left'' : List ℕ) (visits'' : List Visit) (way'' : List ℕ)
     → GoesOn pairs visits left' visits' way' → GoesOn pairs visits' left'' visits'' way'' → GoesOn pairs visits left'' visits'' way''
 goes_further pairs visits left' visits' way' left'' visits'' way'' g h = record {
   search = h.search;
@@ -390,7 +417,8 @@ all_new count x =
       | inr more ↦ get_or_past (replicate count New) x New (subst (λ n. n ≤ x) (sym (length-replicate count New)) more)
     ]
 
-pub search_none : (pairs : List (ℕ × ℕ)) (last before : List ℕ) (count : ℕ) → AreChains pairs last before → length last ≡ count → IsSearch pairs last (replicate count New) []
+pub search_none : (pairs : List (ℕ × ℕ)) (last before : List ℕ) (count : ℕ)
+    → AreChains pairs last before → length last ≡ count → IsSearch pairs last (replicate count New) []
 search_none pairs last before count c size =
     let long = length-replicate count New in
     record {

@@ -36,7 +36,8 @@ seats_none names n size = record {
 one_more : (k a b c n : ℕ) → a ≡ k → a ≡ b → c + n ≡ b + 1 → n ≡ 0 → k + 1 ≡ c
 one_more k a b c n e f g h = omega arith
 
-pub seats_more : (names order : List ℕ) (find : ℕ → Option ℕ) (seats : List (Option ℕ)) (k p : ℕ) → k < length order → ArePlaces names find → find (get_or order k 0) ≡ Some p → AreSeats names (take k order) seats → seat_at seats p ≡ None
+pub seats_more : (names order : List ℕ) (find : ℕ → Option ℕ) (seats : List (Option ℕ)) (k p : ℕ) → k < length order
+    → ArePlaces names find → find (get_or order k 0) ≡ Some p → AreSeats names (take k order) seats → seat_at seats p ≡ None
     → AreSeats names (take (k + 1) order) (set seats p (Some k))
 seats_more names order find seats k p in' h some s free =
     let place = h.sound _ p some in
@@ -47,7 +48,8 @@ seats_more names order find seats k p in' h some s free =
     let new : length (take (k + 1) order) ≡ k + 1 = length-take-le (k + 1) order (omega arith) in
     let here : seat_at (set seats p (Some k)) p ≡ Some k = get_or-set_same seats p (Some k) None room in
     let there : (x : ℕ) → x ≢ p → seat_at (set seats p (Some k)) x ≡ seat_at seats x = λ x ne. get_or-set_other seats p x (Some k) None ne in
-    let read : (r : ℕ) → r < k → get_or (take (k + 1) order) r 0 ≡ get_or (take k order) r 0 = λ r less. get_or-take (k + 1) order r 0 (omega arith) ∙ sym (get_or-take k order r 0 less) in
+    let read : (r : ℕ) → r < k → get_or (take (k + 1) order) r 0 ≡ get_or (take k order) r 0 =
+    λ r less. get_or-take (k + 1) order r 0 (omega arith) ∙ sym (get_or-take k order r 0 less) in
     let last : get_or (take (k + 1) order) k 0 ≡ get_or order k 0 = get_or-take (k + 1) order k 0 (omega arith) in
     record {
       sized = length-set seats p (Some k) ∙ s.sized;
@@ -75,15 +77,18 @@ seats_more names order find seats k p in' h some s free =
       count =
           let c = s.count in
           let n : ℕ = cond (is_some (seat_at seats p)) 1 0 in
-          let f : count_by is_some (set seats p (Some k)) + n ≡ count_by is_some seats + 1 = sum_by-set (λ (x : Option ℕ). cond (is_some x) 1 0) seats p (Some k) None room in
+          let f : count_by is_some (set seats p (Some k)) + n ≡ count_by is_some seats + 1 =
+          sum_by-set (λ (x : Option ℕ). cond (is_some x) 1 0) seats p (Some k) None room in
           let none : n ≡ 0 = ap (λ (x : Option ℕ). let m : ℕ = cond (is_some x) 1 0 in m) free in
           new ∙ one_more k (length (take k order)) (count_by is_some seats) (count_by is_some (set seats p (Some k))) n old c f none;
     }
 
-pub unknown : (names order : List ℕ) (find : ℕ → Option ℕ) (k : ℕ) → k < length order → ArePlaces names find → find (get_or order k 0) ≡ None → IsOrderOf names order → ⊥
+pub unknown : (names order : List ℕ) (find : ℕ → Option ℕ) (k : ℕ) → k < length order
+    → ArePlaces names find → find (get_or order k 0) ≡ None → IsOrderOf names order → ⊥
 unknown names order find k in' h none o = not_found names find _ h none ((o.members (get_or order k 0)).0 (Contains-get_or order k 0 in'))
 
-pub seated_again : (names order : List ℕ) (find : ℕ → Option ℕ) (seats : List (Option ℕ)) (k p r : ℕ) → k < length order → ArePlaces names find → find (get_or order k 0) ≡ Some p → AreSeats names (take k order) seats
+pub seated_again : (names order : List ℕ) (find : ℕ → Option ℕ) (seats : List (Option ℕ)) (k p r : ℕ)
+    → k < length order → ArePlaces names find → find (get_or order k 0) ≡ Some p → AreSeats names (take k order) seats
     → seat_at seats p ≡ Some r → IsOrderOf names order → ⊥
 seated_again names order find seats k p r in' h some s seat o =
     let place = h.sound _ p some in
@@ -106,7 +111,8 @@ ranks_all names order ranks seats s e =
           s.sound p (get_or ranks p 0) p_in seat;
     }
 
-pub order_all : (names order ranks : List ℕ) (find : ℕ → Option ℕ) (seats : List (Option ℕ)) → ArePlaces names find → AreSeats names order seats → seats ≡ map Some ranks → IsOrderOf names order
+pub order_all : (names order ranks : List ℕ) (find : ℕ → Option ℕ) (seats : List (Option ℕ))
+    → ArePlaces names find → AreSeats names order seats → seats ≡ map Some ranks → IsOrderOf names order
 order_all names order ranks find seats h s e =
     let d = places_distinct names find h in
     let r = ranks_all names order ranks seats s e in
@@ -134,7 +140,8 @@ order_all names order ranks find seats h s e =
 some_is : (o : Option ℕ) (r : ℕ) → o ≡ Some r → IsSome o
 some_is o r e = subst (λ x. IsSome x) (sym e) refl
 
-pub all_have_seats : (names order : List ℕ) (find : ℕ → Option ℕ) (seats : List (Option ℕ)) → ArePlaces names find → AreSeats names order seats → IsOrderOf names order → (p : ℕ) → p < length seats → IsSome (seat_at seats p)
+pub all_have_seats : (names order : List ℕ) (find : ℕ → Option ℕ) (seats : List (Option ℕ)) → ArePlaces names find
+    → AreSeats names order seats → IsOrderOf names order → (p : ℕ) → p < length seats → IsSome (seat_at seats p)
 all_have_seats names order find seats h s o p in' =
     let size = s.sized in
     let p_in : p < length names = omega arith in
@@ -153,7 +160,8 @@ stands order i j a b less in' at bt =
     let k : i < length (take j order) = omega arith in
     (take j order, drop (j + 1) order, split, (i, k, get_or_default (take j order) i a 0 k ∙ get_or-take j order i 0 less ∙ at))
 
-pub stood : (order : List ℕ) (i j a b : ℕ) → AreDistinct order → i < length order → j < length order → get_or order i 0 ≡ a → get_or order j 0 ≡ b → StandsBefore order a b → i < j
+pub stood : (order : List ℕ) (i j a b : ℕ) → AreDistinct order → i < length order → j < length order
+    → get_or order i 0 ≡ a → get_or order j 0 ≡ b → StandsBefore order a b → i < j
 stood order i j a b d i_in j_in at bt (front, rest, split, (k, k_in, is)) =
     let size = length-append front (b ∷ rest) in
     let long = ap length split in
@@ -163,7 +171,8 @@ stood order i j a b d i_in j_in at bt (front, rest, split, (k, k_in, is)) =
     let j_is : j ≡ length front = one_place order j (length front) 0 d j_in (omega arith) (bt ∙ sym j_read) in
     omega arith
 
-pub place_in : (names : List ℕ) (find : ℕ → Option ℕ) (seats : List (Option ℕ)) (order : List ℕ) (id p : ℕ) → ArePlaces names find → AreSeats names order seats → find id ≡ Some p → p < length seats
+pub place_in : (names : List ℕ) (find : ℕ → Option ℕ) (seats : List (Option ℕ)) (order : List ℕ) (id p : ℕ)
+    → ArePlaces names find → AreSeats names order seats → find id ≡ Some p → p < length seats
 place_in names find seats order id p h s e = subst (λ n. p < n) (sym s.sized) (h.sound id p e).0
 
 -- what a slice of a vector leaves
@@ -175,7 +184,8 @@ written_back len new items now e size = e ∙ take_at new (drop (length new) ite
 abbrev pub AreKnown : (ℕ → Option ℕ) → List ℕ → ℕ → Type 0
 AreKnown find ids n = (id : ℕ) → Contains ids id → (p : ℕ) × (p < n) × (find id ≡ Some p)
 
-pub apart : (find : ℕ → Option ℕ) (groups ids : List ℕ) (k first g h : ℕ) → k < length ids → first ≡ get_or ids 0 0 → AreKnown find ids (length groups) → ((p : ℕ) → find first ≡ Some p → g ≡ get_or groups p 0)
+pub apart : (find : ℕ → Option ℕ) (groups ids : List ℕ) (k first g h : ℕ) → k < length ids → first ≡ get_or ids 0 0
+    → AreKnown find ids (length groups) → ((p : ℕ) → find first ≡ Some p → g ≡ get_or groups p 0)
     → ((p : ℕ) → find (get_or ids k 0) ≡ Some p → h ≡ get_or groups p 0) → (h ≡ g → ⊥) → AreOfOneGroup find groups ids → ⊥
 apart find groups ids k first g h in' is known of_first of_other other all =
     let a : Contains ids first = subst (λ x. Contains ids x) (sym is) (Contains-get_or ids 0 0 (omega arith)) in

@@ -50,7 +50,8 @@ add_old : (e h : Bool) → h ≡ true → cond e true h ≡ true
 add_old true h k = refl
 add_old false h k = k
 
-pub holds_more : (has has' : ℕ × ℕ → Bool) (xs : List (ℕ × ℕ)) (x : ℕ × ℕ) → Holds has xs → ((q : ℕ × ℕ) → has' q ≡ cond (same_pair x q) true (has q)) → Holds has' (xs ++ (x ∷ []))
+pub holds_more : (has has' : ℕ × ℕ → Bool) (xs : List (ℕ × ℕ)) (x : ℕ × ℕ) → Holds has xs
+    → ((q : ℕ × ℕ) → has' q ≡ cond (same_pair x q) true (has q)) → Holds has' (xs ++ (x ∷ []))
 holds_more has has' xs x h up = record {
   exact =
       λ q.
@@ -80,7 +81,8 @@ pub record IsUpto (has : ℕ × ℕ → Bool) (xs : List (ℕ × ℕ)) (k : ℕ)
 pub upto_none : (has : ℕ × ℕ → Bool) (xs : List (ℕ × ℕ)) → ((q : ℕ × ℕ) → has q ≡ false) → IsUpto has xs 0
 upto_none has xs h = record { distinct = tt; holds = holds_none has h }
 
-pub upto_more : (has has' : ℕ × ℕ → Bool) (xs : List (ℕ × ℕ)) (k : ℕ) (new : Bool) → k < length xs → IsUpto has xs k → new ≡ not (has (get_or xs k (0, 0))) → new ≡ true
+pub upto_more : (has has' : ℕ × ℕ → Bool) (xs : List (ℕ × ℕ)) (k : ℕ) (new : Bool)
+    → k < length xs → IsUpto has xs k → new ≡ not (has (get_or xs k (0, 0))) → new ≡ true
     → ((q : ℕ × ℕ) → has' q ≡ cond (same_pair (get_or xs k (0, 0)) q) true (has q)) → IsUpto has' xs (k + 1)
 upto_more has has' xs k new in' u added is up =
     let none = false_from_not (has (get_or xs k (0, 0))) (sym added ∙ is) in
@@ -90,16 +92,20 @@ upto_more has has' xs k new in' u added is up =
       holds = subst (λ l. Holds has' l) (sym e) (holds_more has has' (take k xs) (get_or xs k (0, 0)) u.holds up);
     }
 
-pub upto_again : (has : ℕ × ℕ → Bool) (xs : List (ℕ × ℕ)) (k : ℕ) (new : Bool) → k < length xs → IsUpto has xs k → new ≡ not (has (get_or xs k (0, 0))) → new ≡ false → AreDistinct xs → ⊥
+pub upto_again : (has : ℕ × ℕ → Bool) (xs : List (ℕ × ℕ)) (k : ℕ) (new : Bool) → k < length xs
+    → IsUpto has xs k → new ≡ not (has (get_or xs k (0, 0))) → new ≡ false → AreDistinct xs → ⊥
 upto_again has xs k new in' u added is d =
     let old = true_from_not (has (get_or xs k (0, 0))) (sym added ∙ is) in
     repeated xs k (get_or xs k (0, 0)) (0, 0) in' refl (held has (take k xs) _ u.holds old) d
 
 -- the same, where the pair is known by another name
-pub put_next : (has has' : ℕ × ℕ → Bool) (xs : List (ℕ × ℕ)) (k : ℕ) (x : ℕ × ℕ) (new : Bool) → ◌≡◌ {A = ℕ × ℕ} (get_or xs k (0, 0)) x → k < length xs → IsUpto has xs k → new ≡ not (has x) → new ≡ true
+pub put_next : (has has' : ℕ × ℕ → Bool) (xs : List (ℕ × ℕ)) (k : ℕ) (x : ℕ × ℕ) (new : Bool)
+    → ◌≡◌ {A = ℕ × ℕ} (get_or xs k (0, 0)) x → k < length xs → IsUpto has xs k → new ≡ not (has x) → new ≡ true
     → ((q : ℕ × ℕ) → has' q ≡ cond (same_pair x q) true (has q)) → IsUpto has' xs (k + 1)
 put_next has has' xs k x new e in' u added is up =
-    upto_more has has' xs k new in' u (added ∙ ap (λ (y : ℕ × ℕ). not (has y)) (sym e)) is (λ q. up q ∙ ap (λ (y : ℕ × ℕ). cond (same_pair y q) true (has q)) (sym e))
+    upto_more has has' xs k new in' u (added ∙ ap (λ (y : ℕ × ℕ). not (has y)) (sym e)) is
+    (λ q. up q ∙ ap (λ (y : ℕ × ℕ). cond (same_pair y q) true (has q)) (sym e))
 
-pub put_again : (has : ℕ × ℕ → Bool) (xs : List (ℕ × ℕ)) (k : ℕ) (x : ℕ × ℕ) (new : Bool) → ◌≡◌ {A = ℕ × ℕ} (get_or xs k (0, 0)) x → k < length xs → IsUpto has xs k → new ≡ not (has x) → new ≡ false → AreDistinct xs → ⊥
+pub put_again : (has : ℕ × ℕ → Bool) (xs : List (ℕ × ℕ)) (k : ℕ) (x : ℕ × ℕ) (new : Bool) → ◌≡◌ {A = ℕ × ℕ} (get_or xs k (0, 0)) x
+    → k < length xs → IsUpto has xs k → new ≡ not (has x) → new ≡ false → AreDistinct xs → ⊥
 put_again has xs k x new e in' u added is d = upto_again has xs k new in' u (added ∙ ap (λ (y : ℕ × ℕ). not (has y)) (sym e)) is d

@@ -43,7 +43,8 @@ payable parts c = record {
 }
 
 -- flows over links are flows over whatever these are
-pub flows_linked : (rate : ℕ → Sum) (L L' : ℕ → ℕ → Type 0) (parts : List model.Part) → ((a b : ℕ) → L a b → L' a b) → HasFlows rate L parts → HasFlows rate L' parts
+pub flows_linked : (rate : ℕ → Sum) (L L' : ℕ → ℕ → Type 0) (parts : List model.Part)
+    → ((a b : ℕ) → L a b → L' a b) → HasFlows rate L parts → HasFlows rate L' parts
 flows_linked rate L L' parts f h part here =
     let c = h part here in
     record {
@@ -58,8 +59,10 @@ pub ids_same : (parts : List Part) → map (λ (p : model.Part). p.ids) (parts_o
 ids_same [] = refl
 ids_same (p ∷ parts) = ap (λ l. p.ids ∷ l) (ids_same parts)
 
-pub is_certificate : (txs : Txs) (edges : List (ℕ × ℕ)) (parts : List Part) → AreClaims parts → HasOrder (graph_of txs edges) (parts_of parts) → HasFalling (rate_in txs) (parts_of parts)
-    → HasFlows (rate_in txs) (λ parent child. Contains edges (parent, child)) (parts_of parts) → IsCertificate (rate_in txs) (graph_of txs edges) (λ parent child. Contains edges (parent, child)) (parts_of parts)
+pub is_certificate : (txs : Txs) (edges : List (ℕ × ℕ)) (parts : List Part) → AreClaims parts
+    → HasOrder (graph_of txs edges) (parts_of parts) → HasFalling (rate_in txs) (parts_of parts)
+    → HasFlows (rate_in txs) (λ parent child. Contains edges (parent, child)) (parts_of parts)
+    → IsCertificate (rate_in txs) (graph_of txs edges) (λ parent child. Contains edges (parent, child)) (parts_of parts)
 is_certificate txs edges parts c o f g = record {
   filled =
       λ part here none.

@@ -25,7 +25,8 @@ pub record AreOpen (find : ℕ → Option ℕ) (ids : List ℕ) (part : ℕ) (ac
 -- the accounts of this part have what flows give less what they take
 abbrev pub AreNet : (ℕ → Option ℕ) → ℕ → List Flow → List Account → Type 0
 AreNet find part flows accounts =
-    (id place : ℕ) → find id ≡ Some place → (account_at accounts place).part ≡ part → (account_at accounts place).net ≡ pos (given flows id) -ℤ pos (gotten flows id)
+    (id place : ℕ) → find id ≡ Some place → (account_at accounts place).part ≡ part
+    → (account_at accounts place).net ≡ pos (given flows id) -ℤ pos (gotten flows id)
 
 -- accounts stay of the parts that they are of
 abbrev pub KeepParts : List Account → List Account → Type 0

@@ -14,15 +14,18 @@ seat_at seats place = slice_index_or seats place None
 
 pub record AreSeats (names order : List ℕ) (seats : List (Option ℕ)) : Type 0 where
   pub sized : length seats ≡ length names
-  pub sound : (place rank : ℕ) → place < length names → seat_at seats place ≡ Some rank → (rank < length order) × (slice_index order rank ≡ slice_index names place)
-  pub complete : (rank : ℕ) → rank < length order → (place : ℕ) × (place < length names) × (slice_index names place ≡ slice_index order rank) × (seat_at seats place ≡ Some rank)
+  pub sound : (place rank : ℕ) → place < length names → seat_at seats place ≡ Some rank
+      → (rank < length order) × (slice_index order rank ≡ slice_index names place)
+  pub complete : (rank : ℕ) → rank < length order
+      → (place : ℕ) × (place < length names) × (slice_index names place ≡ slice_index order rank) × (seat_at seats place ≡ Some rank)
   pub count : length order ≡ count_by is_some seats
 
 -- each place has its rank
 pub record AreRanks (names order ranks : List ℕ) : Type 0 where
   pub sized : length ranks ≡ length names
   pub few : length order ≤ length names
-  pub stands : (place : ℕ) → place < length names → (slice_index ranks place < length order) × (slice_index order (slice_index ranks place) ≡ slice_index names place)
+  pub stands : (place : ℕ) → place < length names
+      → (slice_index ranks place < length order) × (slice_index order (slice_index ranks place) ≡ slice_index names place)
 
 -- each pair leads from a lower rank to a higher one
 abbrev pub Rise : List ℕ → List (ℕ × ℕ) → Type 0

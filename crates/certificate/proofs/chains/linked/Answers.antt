@@ -11,7 +11,9 @@ loop-at-preserved c =
     let before = c.loop-at.before.items in
     let child : ℕ = (get_or pairs at (0, 0)).1 in
     let inside : child < length last = omega (arith, (c.requires at (0, 0) c.loop-at-test.true).1, c.loop-at.invariant.0) in
-    let grown : c.push.new.self.items ≡ before ++ get_or last child 0 ∷ [] = c.in_ok-push.ensures.items ∙ ap (λ (v : ℕ). before ++ v ∷ []) (c.index.ensures ∙ get_or_default last child _ 0 inside) in (
+    let grown : c.push.new.self.items ≡ before ++ get_or last child 0 ∷ [] =
+    c.in_ok-push.ensures.items ∙ ap (λ (v : ℕ). before ++ v ∷ []) (c.index.ensures ∙ get_or_default last child _ 0 inside) in (
       length-set last child (at + 1) ∙ c.loop-at.invariant.0,
-      subst (λ (xs : List ℕ). AreLinked pairs (at + 1) (set last child (at + 1)) xs) (sym grown) (one_linked pairs at last before child c.loop-at.invariant.1 refl inside),
+      subst (λ (xs : List ℕ). AreLinked pairs (at + 1) (set last child (at + 1)) xs) (sym grown)
+          (one_linked pairs at last before child c.loop-at.invariant.1 refl inside),
     )

@@ -7,7 +7,8 @@ use Rattle.certificate.proofs.checker.check.Goals as goal
 pub returns-clause-yes : goal.returns-clause-yes
 returns-clause-yes c =
     subst (λ (t : Txs). OnOk c.check_lists.result (Finds t c.args.graph.now.edges (parts_of c.args.parts.now) Certified)) c.as_slice-txs.ensures
-    (subst (λ (e : List (ℕ × ℕ)). OnOk c.check_lists.result (Finds c.as_slice-txs.result.now e (parts_of c.args.parts.now) Certified)) c.as_slice-edges.ensures c.check_lists.ensures.yes)
+    (subst (λ (e : List (ℕ × ℕ)). OnOk c.check_lists.result (Finds c.as_slice-txs.result.now e (parts_of c.args.parts.now) Certified))
+    c.as_slice-edges.ensures c.check_lists.ensures.yes)
 
 pub returns-clause-flow : goal.returns-clause-flow
 returns-clause-flow c r =

@@ -25,7 +25,9 @@ check_flows-requires-clause-rates c =
     let limits = limits_part c.args.txs.now c.args.edges.now c.in_ok-tables.ensures.yes in
     let few = limits.few in
     let size = c.in_ok-check_order.ensures.few in
-    are_rates c.args.txs.now _ c.args.parts.now c.in_ok-tables.ensures.tables.places limits (λ id here. ((order_part c.args.txs.now _ c.args.parts.now c.in_ok-check_order.ensures.yes).members id).0 here) (omega arith) (filled_at c.args.parts.now c.requires)
+    are_rates c.args.txs.now _ c.args.parts.now c.in_ok-tables.ensures.tables.places limits
+    (λ id here. ((order_part c.args.txs.now _ c.args.parts.now c.in_ok-check_order.ensures.yes).members id).0 here)
+    (omega arith) (filled_at c.args.parts.now c.requires)
     (sums_part c.args.txs.now c.args.parts.now c.in_ok-check_falling.ensures)
 
 pub check_flows-requires-clause-summed : goal.check_flows-requires-clause-summed
@@ -43,7 +45,8 @@ returns-in_err-check_flows-clause-flow c e =
       c.in_ok-tables.ensures.yes,
       order,
       c.in_ok-check_falling.ensures,
-      λ h. says_not faults.Flow c.in_err-check_flows.field-0.0 (HasFlows (rate_in c.args.txs.now) (IsEdge c.in_ok-tables.tables) (parts_of c.args.parts.now)) fault (λ m. cc) c.in_err-check_flows.ensures
+      λ h. says_not faults.Flow c.in_err-check_flows.field-0.0
+          (HasFlows (rate_in c.args.txs.now) (IsEdge c.in_ok-tables.tables) (parts_of c.args.parts.now)) fault (λ m. cc) c.in_err-check_flows.ensures
           (flows_linked _ _ _ (parts_of c.args.parts.now) (λ a b there. (t.set (a, b)).1 there) h),
     )
 
@@ -60,4 +63,5 @@ returns-clause-optimal c =
     let flows = flows_linked _ _ _ (parts_of c.args.parts.now) (λ a b there. (t.set (a, b)).0 there) c.in_ok-check_flows.ensures in
     let certificate = is_certificate c.args.txs.now c.args.edges.now c.args.parts.now c.requires order c.in_ok-check_falling.ensures flows in
     let sizes = has_sizes c.args.txs.now _ t.places (limits_part c.args.txs.now c.args.edges.now c.in_ok-tables.ensures.yes) in
-    subst (λ l. IsOptimal (rate_in c.args.txs.now) (graph_of c.args.txs.now c.args.edges.now) l) (ids_same c.args.parts.now) (c.certified_parts_are_optimal.ensures.by_pairs _ _ _ sizes certificate)
+    subst (λ l. IsOptimal (rate_in c.args.txs.now) (graph_of c.args.txs.now c.args.edges.now) l)
+    (ids_same c.args.parts.now) (c.certified_parts_are_optimal.ensures.by_pairs _ _ _ sizes certificate)

@@ -10,7 +10,8 @@ returns-then-left-eq0-clause-goes_on c =
     let left = read_left _ _ _ _ _ _ _ c.requires.search t c.index-left.ensures in
     let len : length c.args.search.now.way.items ≡ c.args.search.now.way.len = omega arith in
     let rest = ap (λ (m : ℕ). take (m - 1) c.args.search.now.way.items) len ∙ sym c.pop.ensures.rest in
-    subst (λ way. GoesOn c.args.pairs.now c.args.search.now.visits.items c.args.search.now.left.items (slice_set c.args.search.now.visits.items c.index-top.result.now Done) way)
+    subst (λ way. GoesOn c.args.pairs.now c.args.search.now.visits.items c.args.search.now.left.items
+    (slice_set c.args.search.now.visits.items c.index-top.result.now Done) way)
     rest (finished _ _ _ _ _ _ c.requires.search t (left ∙ c.if-left-eq0.true))
 
 pub returns-then-left-eq0-clause-less : goal.returns-then-left-eq0-clause-less
@@ -48,7 +49,8 @@ returns-in_ok-open-in-New-clause-goes_on c =
     let next = next_of _ _ _ _ _ _ _ c.requires.pairs_in c.requires.search t left (omega arith) in
     let new = read_visit _ _ _ next.from c.index.ensures ∙ c.in-New.is in
     let e = c.in_ok-open-in-New.ensures in
-    let g = opened c.args.pairs.now c.args.search.now.left.items c.args.search.now.visits.items c.args.search.now.way.items _ c.requires.search next.from new (above_way _ _ _ _ _ _ _ c.requires.search t next) in
+    let g = opened c.args.pairs.now c.args.search.now.left.items c.args.search.now.visits.items c.args.search.now.way.items _ c.requires.search next.from new
+    (above_way _ _ _ _ _ _ _ c.requires.search t next) in
     goes_on_same _ _ _ _ _ _ _ _ e.left e.visits e.way g
 
 pub returns-in_ok-open-in-New-clause-less : goal.returns-in_ok-open-in-New-clause-less
@@ -74,4 +76,5 @@ returns-in-Done-clause-less c =
     let t = read_top _ _ _ c.args.search.now.way.items c.len.result _ c.requires.search c.requires.some (omega arith) c.index-top.ensures in
     let left = read_left _ _ _ _ _ _ _ c.requires.search t c.index-left.ensures in
     let next = next_of _ _ _ _ _ _ _ c.requires.pairs_in c.requires.search t left (omega arith) in
-    passed_less c.args.pairs.now _ _ c.args.search.now.way.items _ c.index-left.result.now _ c.requires.search t.within left (omega arith) (c.requires.chains (c.index-left.result.now - 1) next.within)
+    passed_less c.args.pairs.now _ _ c.args.search.now.way.items _ c.index-left.result.now _ c.requires.search t.within left
+    (omega arith) (c.requires.chains (c.index-left.result.now - 1) next.within)

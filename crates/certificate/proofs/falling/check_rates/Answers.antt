@@ -16,7 +16,8 @@ is_below-requires-clause-b_in c =
 
 pub is_below-requires-clause-a_some : goal.is_below-requires-clause-a_some
 is_below-requires-clause-a_some c =
-    subst (λ r. 1 ≤ r.size) (rate_read c.args.parts.now (c.loop-at.at - 1) c.index-parts-at.result (omega arith)) (c.requires (c.loop-at.at - 1) (omega arith)).1
+    subst (λ r. 1 ≤ r.size) (rate_read c.args.parts.now (c.loop-at.at - 1) c.index-parts-at.result (omega arith))
+    (c.requires (c.loop-at.at - 1) (omega arith)).1
 
 pub is_below-requires-clause-b_some : goal.is_below-requires-clause-b_some
 is_below-requires-clause-b_some c =
@@ -28,7 +29,8 @@ returns-then-is_below c =
     let b = rate_read c.args.parts.now c.loop-at.at c.index-parts-at-in-loop-at.result (omega arith) in (
       refl,
       rates_clash c.args.parts.now c.loop-at.at (omega arith) (omega arith)
-          (subst (λ r. Below r (rate_at c.args.parts.now c.loop-at.at)) (sym a) (subst (λ r. Below (get_or c.args.parts.now (c.loop-at.at - 1) c.index-parts-at.result).rate r) (sym b) c.if-is_below.ensures)),
+          (subst (λ r. Below r (rate_at c.args.parts.now c.loop-at.at)) (sym a)
+          (subst (λ r. Below (get_or c.args.parts.now (c.loop-at.at - 1) c.index-parts-at.result).rate r) (sym b) c.if-is_below.ensures)),
     )
 
 pub loop-at-preserved : goal.loop-at-preserved
@@ -36,12 +38,14 @@ loop-at-preserved c k less =
     let a = rate_read c.args.parts.now (c.loop-at.at - 1) c.index-parts-at.result (omega arith) in
     let b = rate_read c.args.parts.now c.loop-at.at c.index-parts-at-in-loop-at.result (omega arith) in
     let here : AtMost (rate_at c.args.parts.now c.loop-at.at) (rate_at c.args.parts.now (c.loop-at.at - 1)) =
-    subst (λ r. AtMost (rate_at c.args.parts.now c.loop-at.at) r) (sym a) (subst (λ r. AtMost r (get_or c.args.parts.now (c.loop-at.at - 1) c.index-parts-at.result).rate) (sym b) c.if-is_below.ensures)
+    subst (λ r. AtMost (rate_at c.args.parts.now c.loop-at.at) r) (sym a)
+    (subst (λ r. AtMost r (get_or c.args.parts.now (c.loop-at.at - 1) c.index-parts-at.result).rate) (sym b) c.if-is_below.ensures)
     in
     elim (cases_eq (k + 1) c.loop-at.at) [
       | inl same ↦
           (let low : c.loop-at.at - 1 ≡ k = omega arith in
-          subst (λ n. AtMost (rate_at c.args.parts.now n) (rate_at c.args.parts.now k)) (sym same) (subst (λ n. AtMost (rate_at c.args.parts.now c.loop-at.at) (rate_at c.args.parts.now n)) low here))
+          subst (λ n. AtMost (rate_at c.args.parts.now n) (rate_at c.args.parts.now k)) (sym same)
+          (subst (λ n. AtMost (rate_at c.args.parts.now c.loop-at.at) (rate_at c.args.parts.now n)) low here))
       | inr other ↦ c.loop-at.invariant k (omega arith)
     ]
 

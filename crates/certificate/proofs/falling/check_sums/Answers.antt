@@ -28,7 +28,8 @@ returns-then-not-is_same c =
     let ids = c.as_slice.ensures ∙ ids_here c.args.parts.now c.loop-part.part-index c.part-item.result c.loop-part-test.true c.part-item.is in
     let rate = rate_read c.args.parts.now c.loop-part.part-index c.part-item.result c.loop-part-test.true ∙ sym (ap (λ (p : Part). p.rate) c.part-item.is) in (
       refl,
-      λ all. c.if-not-is_same.ensures (c.total-sum.ensures ∙ ap (sums (rate_in c.args.txs.now)) ids ∙ sym (all c.loop-part.part-index c.loop-part-test.true) ∙ rate),
+      λ all. c.if-not-is_same.ensures
+          (c.total-sum.ensures ∙ ap (sums (rate_in c.args.txs.now)) ids ∙ sym (all c.loop-part.part-index c.loop-part-test.true) ∙ rate),
     )
 
 pub loop-part-preserved : goal.loop-part-preserved

@@ -18,7 +18,8 @@ place_of-place-requires c =
 
 pub offset_bounds-accounts-place : goal.offset_bounds-accounts-place
 offset_bounds-accounts-place c =
-    let in' : c.place_of-place.result < length c.args.accounts.now = subst (λ n. c.place_of-place.result < n) c.requires.room (c.requires.places.sound _ _ c.place_of-place.ensures).0 in
+    let in' : c.place_of-place.result < length c.args.accounts.now =
+    subst (λ n. c.place_of-place.result < n) c.requires.room (c.requires.places.sound _ _ c.place_of-place.ensures).0 in
     search rules
 
 pub bounds-accounts-place : goal.bounds-accounts-place
@@ -26,7 +27,8 @@ bounds-accounts-place c = subst (λ n. c.place_of-place.result < n) c.requires.r
 
 pub returns-then-weight-accounts : goal.returns-then-weight-accounts
 returns-then-weight-accounts c =
-    let w = weight_of_name c.args.rate _ (rate_in c.args.txs.now (slice_index c.args.ids.now c.loop-id.id-index)) c.weight.result c.weight.ensures c.rate_of-own.ensures.fee c.rate_of-own.ensures.size in
+    let w = weight_of_name c.args.rate _ (rate_in c.args.txs.now (slice_index c.args.ids.now c.loop-id.id-index))
+    c.weight.result c.weight.ensures c.rate_of-own.ensures.fee c.rate_of-own.ensures.size in
     let here = Contains-get_or c.args.ids.now c.loop-id.id-index 0 c.loop-id-test.true in
     let t = c.if-weight-accounts.true in
     let fine : SFits w128 c.weight.result = search rules in
@@ -35,18 +37,22 @@ returns-then-weight-accounts c =
 
 pub loop-id-preserved : goal.loop-id-preserved
 loop-id-preserved c k place less is =
-    let w = weight_of_name c.args.rate _ (rate_in c.args.txs.now (slice_index c.args.ids.now c.loop-id.id-index)) c.weight.result c.weight.ensures c.rate_of-own.ensures.fee c.rate_of-own.ensures.size in
+    let w = weight_of_name c.args.rate _ (rate_in c.args.txs.now (slice_index c.args.ids.now c.loop-id.id-index))
+    c.weight.result c.weight.ensures c.rate_of-own.ensures.fee c.rate_of-own.ensures.size in
     let fine : SFits w128 c.weight.result = search rules in
     let good : SFits w128 (account_at c.args.accounts.now c.place_of-place.result).net = search rules in
     let t = sym (to_z-of_z w128 c.weight.result fine) ∙ ap (to_z w128) c.if-weight-accounts.false ∙ to_z-of_z w128 _ good in
     elim (cases_eq k c.loop-id.id-index) [
       | inl same ↦
-          (let at : c.place_of-place.result ≡ place = same_Some _ _ (sym c.place_of-place.ensures ∙ ap (λ i. hash.get nat_eq c.args.names.now (slice_index c.args.ids.now i)) (sym same) ∙ is) in
-          ap (λ i. weight_in c.args.rate (rate_in c.args.txs.now (slice_index c.args.ids.now i))) same ∙ sym w ∙ t ∙ ap (λ p. (account_at c.args.accounts.now p).net) at)
+          (let at : c.place_of-place.result ≡ place =
+          same_Some _ _ (sym c.place_of-place.ensures ∙ ap (λ i. hash.get nat_eq c.args.names.now (slice_index c.args.ids.now i)) (sym same) ∙ is) in
+          ap (λ i. weight_in c.args.rate (rate_in c.args.txs.now (slice_index c.args.ids.now i))) same
+          ∙ sym w ∙ t ∙ ap (λ p. (account_at c.args.accounts.now p).net) at)
       | inr other ↦ c.loop-id.invariant k place (omega arith) is
     ]
 
 pub returns : goal.returns
 returns c id place (k, in', at) is =
     let name = get_or_default c.args.ids.now k 0 id in' ∙ at in
-    subst (λ x. weight_in c.args.rate (rate_in c.args.txs.now x) ≡ (account_at c.args.accounts.now place).net) name (c.loop-id.invariant k place (omega arith) (ap (hash.get nat_eq c.args.names.now) name ∙ is))
+    subst (λ x. weight_in c.args.rate (rate_in c.args.txs.now x) ≡ (account_at c.args.accounts.now place).net) name
+    (c.loop-id.invariant k place (omega arith) (ap (hash.get nat_eq c.args.names.now) name ∙ is))

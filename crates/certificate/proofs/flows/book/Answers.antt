@@ -33,13 +33,15 @@ pub pay-requires-clause-fits : goal.pay-requires-clause-fits
 pay-requires-clause-fits c =
     let i = c.requires.inside _ (flow_here c.args.flows.now c.loop-flow.flow-index c.loop-flow-test.true) in
     let o = open_place _ _ _ _ c.args.accounts.now c.loop-flow.accounts _ c.place_of-child.result c.loop-flow.invariant i.0 c.place_of-child.ensures in
-    pay_fits _ _ c.args.accounts.now c.loop-flow.accounts c.args.flows.now c.loop-flow.flow-index c.place_of-child.result c.loop-flow.invariant c.loop-flow-test.true c.requires.total c.place_of-child.ensures o.1
+    pay_fits _ _ c.args.accounts.now c.loop-flow.accounts c.args.flows.now c.loop-flow.flow-index c.place_of-child.result
+    c.loop-flow.invariant c.loop-flow-test.true c.requires.total c.place_of-child.ensures o.1
 
 pub draw-requires-clause-place_in : goal.draw-requires-clause-place_in
 draw-requires-clause-place_in c =
     let i = c.requires.inside _ (flow_here c.args.flows.now c.loop-flow.flow-index c.loop-flow-test.true) in
     let o = open_place _ _ _ _ c.args.accounts.now c.loop-flow.accounts _ c.place_of-child.result c.loop-flow.invariant i.0 c.place_of-child.ensures in
-    let p = paid _ _ c.args.accounts.now c.loop-flow.accounts c.pay.new.accounts c.args.flows.now c.loop-flow.flow-index c.place_of-child.result c.requires.apart c.loop-flow.invariant c.loop-flow-test.true c.place_of-child.ensures o.0 c.pay.ensures in
+    let p = paid _ _ c.args.accounts.now c.loop-flow.accounts c.pay.new.accounts c.args.flows.now c.loop-flow.flow-index
+    c.place_of-child.result c.requires.apart c.loop-flow.invariant c.loop-flow-test.true c.place_of-child.ensures o.0 c.pay.ensures in
     (open_place _ _ _ _ c.args.accounts.now c.pay.new.accounts _ c.place_of-parent.result p i.1 c.place_of-parent.ensures).0
 
 pub draw-requires-clause-small : goal.draw-requires-clause-small
@@ -52,20 +54,25 @@ pub draw-requires-clause-fits : goal.draw-requires-clause-fits
 draw-requires-clause-fits c =
     let i = c.requires.inside _ (flow_here c.args.flows.now c.loop-flow.flow-index c.loop-flow-test.true) in
     let o = open_place _ _ _ _ c.args.accounts.now c.loop-flow.accounts _ c.place_of-child.result c.loop-flow.invariant i.0 c.place_of-child.ensures in
-    let p = paid _ _ c.args.accounts.now c.loop-flow.accounts c.pay.new.accounts c.args.flows.now c.loop-flow.flow-index c.place_of-child.result c.requires.apart c.loop-flow.invariant c.loop-flow-test.true c.place_of-child.ensures o.0 c.pay.ensures in
+    let p = paid _ _ c.args.accounts.now c.loop-flow.accounts c.pay.new.accounts c.args.flows.now c.loop-flow.flow-index
+    c.place_of-child.result c.requires.apart c.loop-flow.invariant c.loop-flow-test.true c.place_of-child.ensures o.0 c.pay.ensures in
     let q = open_place _ _ _ _ c.args.accounts.now c.pay.new.accounts _ c.place_of-parent.result p i.1 c.place_of-parent.ensures in
-    draw_fits _ _ c.args.accounts.now c.pay.new.accounts c.args.flows.now c.loop-flow.flow-index c.place_of-parent.result p c.loop-flow-test.true c.requires.total c.place_of-parent.ensures q.1
+    draw_fits _ _ c.args.accounts.now c.pay.new.accounts c.args.flows.now c.loop-flow.flow-index
+    c.place_of-parent.result p c.loop-flow-test.true c.requires.total c.place_of-parent.ensures q.1
 
 pub loop-flow-preserved : goal.loop-flow-preserved
 loop-flow-preserved c =
     let i = c.requires.inside _ (flow_here c.args.flows.now c.loop-flow.flow-index c.loop-flow-test.true) in
     let o = open_place _ _ _ _ c.args.accounts.now c.loop-flow.accounts _ c.place_of-child.result c.loop-flow.invariant i.0 c.place_of-child.ensures in
-    let p = paid _ _ c.args.accounts.now c.loop-flow.accounts c.pay.new.accounts c.args.flows.now c.loop-flow.flow-index c.place_of-child.result c.requires.apart c.loop-flow.invariant c.loop-flow-test.true c.place_of-child.ensures o.0 c.pay.ensures in
+    let p = paid _ _ c.args.accounts.now c.loop-flow.accounts c.pay.new.accounts c.args.flows.now c.loop-flow.flow-index
+    c.place_of-child.result c.requires.apart c.loop-flow.invariant c.loop-flow-test.true c.place_of-child.ensures o.0 c.pay.ensures in
     let q = open_place _ _ _ _ c.args.accounts.now c.pay.new.accounts _ c.place_of-parent.result p i.1 c.place_of-parent.ensures in
-    drawn _ _ c.args.accounts.now c.pay.new.accounts c.draw.new.accounts c.args.flows.now c.loop-flow.flow-index c.place_of-parent.result c.requires.apart p c.loop-flow-test.true c.place_of-parent.ensures q.0 c.draw.ensures
+    drawn _ _ c.args.accounts.now c.pay.new.accounts c.draw.new.accounts c.args.flows.now c.loop-flow.flow-index
+    c.place_of-parent.result c.requires.apart p c.loop-flow-test.true c.place_of-parent.ensures q.0 c.draw.ensures
 
 pub returns-clause-net : goal.returns-clause-net
 returns-clause-net c =
     let all = take_all c.loop-flow.flow-index c.args.flows.now (omega arith) in
-    let n = subst (λ l. Nets (hash.get nat_eq c.args.names.now) c.args.part (given l) (gotten l) c.args.accounts.now c.loop-flow.accounts) all c.loop-flow.invariant in
+    let n = subst (λ l. Nets (hash.get nat_eq c.args.names.now) c.args.part (given l) (gotten l) c.args.accounts.now c.loop-flow.accounts)
+    all c.loop-flow.invariant in
     n.net

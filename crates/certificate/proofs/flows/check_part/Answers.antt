@@ -40,9 +40,11 @@ returns-in_err-balanced-clause-certified c =
     rw (p.1, p.2)
     (fails_says faults.Flow (AreBalanced (hash.get nat_eq c.args.tables.now.names) (rate_in c.args.txs.now) c.args.rate c.args.ids.now c.book.new.accounts)
     (Certifies (rate_in c.args.txs.now) (IsEdge c.args.tables.now) c.args.ids.now c.args.flows.now) c.in_err-balanced.field-0.0
-    (balanced_part _ _ _ c.args.rate c.args.ids.now c.args.flows.now c.args.part c.open.new.accounts c.book.new.accounts c.open.ensures.opened c.book.ensures.parts c.book.ensures.net c.requires.summed) c.in_err-balanced.ensures)
+    (balanced_part _ _ _ c.args.rate c.args.ids.now c.args.flows.now c.args.part c.open.new.accounts c.book.new.accounts
+    c.open.ensures.opened c.book.ensures.parts c.book.ensures.net c.requires.summed) c.in_err-balanced.ensures)
 
 pub returns-clause-certified : goal.returns-clause-certified
 returns-clause-certified c =
-    certifies _ _ _ _ c.args.rate c.args.ids.now c.args.flows.now c.args.part c.open.new.accounts c.book.new.accounts c.requires.places c.open.ensures.opened c.in_ok-flows_once.ensures c.in_ok-flows_inside.ensures c.requires.some c.book.ensures.parts
+    certifies _ _ _ _ c.args.rate c.args.ids.now c.args.flows.now c.args.part c.open.new.accounts c.book.new.accounts c.requires.places
+    c.open.ensures.opened c.in_ok-flows_once.ensures c.in_ok-flows_inside.ensures c.requires.some c.book.ensures.parts
     c.book.ensures.net c.in_ok-balanced.ensures c.requires.summed

@@ -51,7 +51,8 @@ returns-in_err-check_part c =
     (HasFlows (rate_in c.args.txs.now) (IsEdge c.args.tables.now) (parts_of c.args.parts.now)) c.in_err-check_part.field-0.0
     (λ h.
     subst (λ l. Certifies (rate_in c.args.txs.now) (IsEdge c.args.tables.now) l c.as_slice-flows.result.now) (sym ids)
-    (subst (λ f. Certifies (rate_in c.args.txs.now) (IsEdge c.args.tables.now) (ids_at c.args.parts.now c.loop-at.at) f) (sym flows) (certified_part _ _ c.args.parts.now c.loop-at.at c.loop-at-test.true h)))
+    (subst (λ f. Certifies (rate_in c.args.txs.now) (IsEdge c.args.tables.now) (ids_at c.args.parts.now c.loop-at.at) f)
+    (sym flows) (certified_part _ _ c.args.parts.now c.loop-at.at c.loop-at-test.true h)))
     c.in_err-check_part.ensures.certified)
 
 pub loop-at-preserved : goal.loop-at-preserved

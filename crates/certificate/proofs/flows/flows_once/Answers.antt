@@ -14,7 +14,8 @@ returns-then-not-new c =
 pub loop-flow-preserved : goal.loop-flow-preserved
 loop-flow-preserved c =
     let e = c.in_ok-new.ensures in
-    put_next _ _ (ends_of c.args.flows.now) c.loop-flow.flow-index _ c.in_ok-new.new (ends_at c.args.flows.now c.loop-flow.flow-index c.loop-flow-test.true) (ends_long c.args.flows.now c.loop-flow.flow-index c.loop-flow-test.true) c.loop-flow.invariant e.added c.if-not-new.false e.updates.0
+    put_next _ _ (ends_of c.args.flows.now) c.loop-flow.flow-index _ c.in_ok-new.new (ends_at c.args.flows.now c.loop-flow.flow-index c.loop-flow-test.true)
+    (ends_long c.args.flows.now c.loop-flow.flow-index c.loop-flow-test.true) c.loop-flow.invariant e.added c.if-not-new.false e.updates.0
 
 pub returns : goal.returns
 returns c =

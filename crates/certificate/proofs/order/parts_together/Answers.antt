@@ -20,8 +20,10 @@ returns-in_err-together c =
     let ids = c.as_slice.ensures ∙ ids_here c.args.parts.now c.loop-part.part-index c.part-item.result c.loop-part-test.true c.part-item.is in
     let p = err_from_is_err_and c.from_residual.result c.from_residual.ensures.1 in
     rw (p.1, p.2)
-    (fails_whole Order (AreOfOneGroup (hash.get nat_eq c.args.names.now) c.args.groups.now c.as_slice.result.now) ((k : ℕ) → k < length c.args.parts.now → AreOfOneGroup (hash.get nat_eq c.args.names.now) c.args.groups.now (ids_at c.args.parts.now k))
-    c.in_err-together.field-0.0 (λ all. subst (λ l. AreOfOneGroup (hash.get nat_eq c.args.names.now) c.args.groups.now l) (sym ids) (all c.loop-part.part-index c.loop-part-test.true)) c.in_err-together.ensures)
+    (fails_whole Order (AreOfOneGroup (hash.get nat_eq c.args.names.now) c.args.groups.now c.as_slice.result.now)
+    ((k : ℕ) → k < length c.args.parts.now → AreOfOneGroup (hash.get nat_eq c.args.names.now) c.args.groups.now (ids_at c.args.parts.now k))
+    c.in_err-together.field-0.0 (λ all. subst (λ l. AreOfOneGroup (hash.get nat_eq c.args.names.now) c.args.groups.now l)
+    (sym ids) (all c.loop-part.part-index c.loop-part-test.true)) c.in_err-together.ensures)
 
 pub loop-part-preserved : goal.loop-part-preserved
 loop-part-preserved c k less =

@@ -12,9 +12,11 @@ pub returns-in_err-ranks-clause-fault : goal.returns-in_err-ranks-clause-fault
 returns-in_err-ranks-clause-fault c =
     let p = err_from_is_err_and c.from_residual-in_err-ranks.result c.from_residual-in_err-ranks.ensures.1 in
     let same = written_back _ c.take_seats.new.seats _ _ c.as_slice.ensures.value (omega arith) in
-    let seats : AreSeats (names_of c.args.txs.now) c.args.order.now c.as_slice.result.now = subst (λ s. AreSeats (names_of c.args.txs.now) c.args.order.now s) (sym same) c.in_ok-take_seats.ensures.seats in
+    let seats : AreSeats (names_of c.args.txs.now) c.args.order.now c.as_slice.result.now =
+    subst (λ s. AreSeats (names_of c.args.txs.now) c.args.order.now s) (sym same) c.in_ok-take_seats.ensures.seats in
     rw (p.1, p.2)
-    (says_whole Order ((place : ℕ) → place < length c.as_slice.result.now → IsSome (seat_at c.as_slice.result.now place)) (IsOrderOf (names_of c.args.txs.now) c.args.order.now) c.in_err-ranks.field-0.0
+    (says_whole Order ((place : ℕ) → place < length c.as_slice.result.now → IsSome (seat_at c.as_slice.result.now place))
+    (IsOrderOf (names_of c.args.txs.now) c.args.order.now) c.in_err-ranks.field-0.0
     (all_have_seats _ _ _ _ c.requires seats) c.in_err-ranks.ensures.fault)
 
 pub returns-clause-order : goal.returns-clause-order

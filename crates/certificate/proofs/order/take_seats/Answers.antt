@@ -3,11 +3,13 @@ use Rattle.certificate.proofs.Seats.{place_in, seats_more, unknown, seated_again
 use Rattle.certificate.proofs.order.take_seats.Goals as goal
 
 pub returns-in_default-clause-fault : goal.returns-in_default-clause-fault
-returns-in_default-clause-fault c = (refl, unknown _ c.args.order.now _ c.loop-rank.rank c.loop-rank-test.true c.requires.places (sym c.find.ensures ∙ c.in_default.is))
+returns-in_default-clause-fault c =
+    (refl, unknown _ c.args.order.now _ c.loop-rank.rank c.loop-rank-test.true c.requires.places (sym c.find.ensures ∙ c.in_default.is))
 
 pub offset_bounds-seats-place : goal.offset_bounds-seats-place
 offset_bounds-seats-place c =
-    let in' : c.in-Some.place < length c.loop-rank.seats = place_in _ _ c.loop-rank.seats _ _ _ c.requires.places c.loop-rank.invariant (sym c.find.ensures ∙ c.in-Some.is) in
+    let in' : c.in-Some.place < length c.loop-rank.seats =
+    place_in _ _ c.loop-rank.seats _ _ _ c.requires.places c.loop-rank.invariant (sym c.find.ensures ∙ c.in-Some.is) in
     search rules
 
 pub bounds : goal.bounds
@@ -18,11 +20,13 @@ returns-in-Some-seats-clause-fault c = (refl, seated_again _ c.args.order.now _ 
 
 pub offset_bounds-seats-place-in-loop-rank : goal.offset_bounds-seats-place-in-loop-rank
 offset_bounds-seats-place-in-loop-rank c =
-    let in' : c.in-Some.place < length c.loop-rank.seats = place_in _ _ c.loop-rank.seats _ _ _ c.requires.places c.loop-rank.invariant (sym c.find.ensures ∙ c.in-Some.is) in
+    let in' : c.in-Some.place < length c.loop-rank.seats =
+    place_in _ _ c.loop-rank.seats _ _ _ c.requires.places c.loop-rank.invariant (sym c.find.ensures ∙ c.in-Some.is) in
     search rules
 
 pub bounds-seats-place : goal.bounds-seats-place
 bounds-seats-place c = place_in _ _ c.loop-rank.seats _ _ _ c.requires.places c.loop-rank.invariant (sym c.find.ensures ∙ c.in-Some.is)
 
 pub loop-rank-preserved : goal.loop-rank-preserved
-loop-rank-preserved c = seats_more _ c.args.order.now _ c.loop-rank.seats c.loop-rank.rank c.in-Some.place c.loop-rank-test.true c.requires.places (sym c.find.ensures ∙ c.in-Some.is) c.loop-rank.invariant c.in_default-seats.is
+loop-rank-preserved c = seats_more _ c.args.order.now _ c.loop-rank.seats c.loop-rank.rank c.in-Some.place c.loop-rank-test.true c.requires.places
+    (sym c.find.ensures ∙ c.in-Some.is) c.loop-rank.invariant c.in_default-seats.is
