@@ -54,7 +54,8 @@ five_more : (amount bytes : ℕ) → amount ≤ 10 ^ 30 → 5 * amount ≤ 10 ^ 
 five_more amount bytes small = omega (arith, small)
 
 row_bound : (row : Row) → HasRowTypes row → 5 * row_amount row ≤ 10 ^ 30 * length (row_line row)
-row_bound (rows.Flow flow) fits = omega (arith, five_more flow.amount (length (spaced (decimal flow.child ∷ decimal flow.parent ∷ decimal flow.amount ∷ []))) fits.2.1)
+row_bound (rows.Flow flow) fits =
+    omega (arith, five_more flow.amount (length (spaced (decimal flow.child ∷ decimal flow.parent ∷ decimal flow.amount ∷ []))) fits.2.1)
 row_bound (rows.Tx id fee size) fits = omega arith
 row_bound (rows.Edge parent child) fits = omega arith
 row_bound (rows.Chunk rate ids) fits = omega arith

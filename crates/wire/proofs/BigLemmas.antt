@@ -22,7 +22,8 @@ big_injective m n p q e = sym (decimal_is_IsNumeral_wide m p).1 ∙ ap (digits_v
 
 first_big : (n : ℕ) → 0 < n → n < 10 ^ 64 → 48 < get_or (decimal n) 0 0
 first_big n some small = (decimal_by_steps_wide (λ m ds. (0 < length ds) × (0 < m → 48 < get_or ds 0 0)) (λ m l. (omega arith, λ a. omega arith))
-    (λ m ds l h. (omega (arith, length-append ds ((48 + m % 10) ∷ [])), λ a. omega (arith, get_or-append ds ((48 + m % 10) ∷ []) 0 0 h.0, h.1 (omega arith)))) n small).1 some
+    (λ m ds l h. (omega (arith, length-append ds ((48 + m % 10) ∷ [])), λ a. omega (arith, get_or-append ds ((48 + m % 10) ∷ []) 0 0 h.0, h.1 (omega arith))))
+    n small).1 some
 
 -- the spelling of a number is plain
 pub plain_big : (bytes : List ℕ) (n : ℕ) → n < 10 ^ 64 → bytes ≡ decimal n → IsPlain bytes
@@ -69,11 +70,13 @@ big_reads bytes (Some n) plain found =
 pub no_minus_big : (n : ℕ) (rest : List ℕ) → n < 10 ^ 64 → decimal n ≡ 45 ∷ rest → ⊥
 no_minus_big n rest fits is = let digits : all_ascii_digits (45 ∷ rest) ≡ true = rw is at (big_digits n fits) in cc
 
-pub big_minus_unread : (bytes rest : List ℕ) → bytes ≡ 45 ∷ rest → ((n : ℕ) → IsBig n → rest ≡ decimal n → ⊥) → (value : ℤ) → IsBigFee value → bytes ≡ signed_decimal value → ⊥
+pub big_minus_unread : (bytes rest : List ℕ) → bytes ≡ 45 ∷ rest → ((n : ℕ) → IsBig n → rest ≡ decimal n → ⊥)
+    → (value : ℤ) → IsBigFee value → bytes ≡ signed_decimal value → ⊥
 big_minus_unread bytes rest front none (pos n) fits is = no_minus_big n rest (omega (arith, fits)) (sym is ∙ front)
 big_minus_unread bytes rest front none (negsuc n) fits is = none (suc n) fits (let e : 45 ∷ rest ≡ 45 ∷ decimal (suc n) = sym front ∙ is in cc)
 
-pub big_plain_unread : (bytes : List ℕ) → (slice_index bytes 0 ≡ 45 → ⊥) → ((n : ℕ) → IsBig n → bytes ≡ decimal n → ⊥) → (value : ℤ) → IsBigFee value → bytes ≡ signed_decimal value → ⊥
+pub big_plain_unread : (bytes : List ℕ) → (slice_index bytes 0 ≡ 45 → ⊥)
+    → ((n : ℕ) → IsBig n → bytes ≡ decimal n → ⊥) → (value : ℤ) → IsBigFee value → bytes ≡ signed_decimal value → ⊥
 big_plain_unread bytes front none (pos n) fits is = none n fits is
 big_plain_unread bytes front none (negsuc n) fits is = front (rw is refl)
 

@@ -33,29 +33,36 @@ fronts_last (x ∷ y ∷ ids) id =
     ∙ ap (λ (xs : List ℕ). decimal x ++ 32 ∷ xs) (fronts_last (y ∷ ids) id)
 
 -- names that begin with these go on with others
-names_go_on : (ids : List ℕ) (tail : List ℕ) (others : List ℕ) → All IsWide ids → AreNames others → fronts ids ++ tail ≡ names_text others → (more : List ℕ) × AreNames more × (tail ≡ names_text more)
+names_go_on : (ids : List ℕ) (tail : List ℕ) (others : List ℕ) → All IsWide ids → AreNames others
+    → fronts ids ++ tail ≡ names_text others → (more : List ℕ) × AreNames more × (tail ≡ names_text more)
 names_go_on [] tail others one fits is = (others, fits, is)
 names_go_on (x ∷ ids) tail [] one fits is = absurd (fits.0 refl)
 names_go_on (x ∷ ids) tail (y ∷ []) one fits is =
-    let e : decimal x ++ 32 ∷ (fronts ids ++ tail) ≡ decimal y = sym (append_assoc (decimal x ++ 32 ∷ []) (fronts ids) tail ∙ append_assoc (decimal x) (32 ∷ []) (fronts ids ++ tail)) ∙ is in
+    let e : decimal x ++ 32 ∷ (fronts ids ++ tail) ≡ decimal y =
+    sym (append_assoc (decimal x ++ 32 ∷ []) (fronts ids) tail ∙ append_assoc (decimal x) (32 ∷ []) (fronts ids ++ tail)) ∙ is in
     absurd (split_unread (decimal y) (decimal x) (fronts ids ++ tail) (decimal_word y (All-head IsWide y [] fits.1)) (sym e))
 names_go_on (x ∷ ids) tail (y ∷ z ∷ others) one fits is =
-    let e : decimal x ++ 32 ∷ (fronts ids ++ tail) ≡ decimal y ++ 32 ∷ names_text (z ∷ others) = sym (append_assoc (decimal x ++ 32 ∷ []) (fronts ids) tail ∙ append_assoc (decimal x) (32 ∷ []) (fronts ids ++ tail)) ∙ is in
-    let cut = same_split (decimal x) (fronts ids ++ tail) (decimal y) (names_text (z ∷ others)) (decimal_word x (All-head IsWide x ids one)) (decimal_word y (All-head IsWide y (z ∷ others) fits.1)) e in
+    let e : decimal x ++ 32 ∷ (fronts ids ++ tail) ≡ decimal y ++ 32 ∷ names_text (z ∷ others) =
+    sym (append_assoc (decimal x ++ 32 ∷ []) (fronts ids) tail ∙ append_assoc (decimal x) (32 ∷ []) (fronts ids ++ tail)) ∙ is in
+    let cut = same_split (decimal x) (fronts ids ++ tail) (decimal y) (names_text (z ∷ others))
+    (decimal_word x (All-head IsWide x ids one)) (decimal_word y (All-head IsWide y (z ∷ others) fits.1)) e in
     let no : z ∷ others ≢ [] = λ h. cc in
     names_go_on ids tail (z ∷ others) (All-tail IsWide x ids one) (no, All-tail IsWide y (z ∷ others) fits.1) cut.1
 
 -- where a word among names is none, the text is no names
-pub front_no_names : (ids : List ℕ) (word rest : List ℕ) → All IsWide ids → IsOneWord word → ((id : ℕ) → IsWide id → word ≡ decimal id → ⊥) → (others : List ℕ) → AreNames others → fronts ids ++ (word ++ 32 ∷ rest) ≡ names_text others → ⊥
+pub front_no_names : (ids : List ℕ) (word rest : List ℕ) → All IsWide ids → IsOneWord word → ((id : ℕ) → IsWide id → word ≡ decimal id → ⊥)
+    → (others : List ℕ) → AreNames others → fronts ids ++ (word ++ 32 ∷ rest) ≡ names_text others → ⊥
 front_no_names ids word rest one alone none others fits is = let go = names_go_on ids (word ++ 32 ∷ rest) others one fits is in last go.0 go.1 go.2
   where
     last : (more : List ℕ) → AreNames more → word ++ 32 ∷ rest ≡ names_text more → ⊥
     last [] fits is = fits.0 refl
     last (y ∷ []) fits is = split_unread (decimal y) word rest (decimal_word y (All-head IsWide y [] fits.1)) (sym is)
     last (y ∷ z ∷ more) fits is =
-        none y (All-head IsWide y (z ∷ more) fits.1) (same_split word rest (decimal y) (names_text (z ∷ more)) alone (decimal_word y (All-head IsWide y (z ∷ more) fits.1)) is).0
+        none y (All-head IsWide y (z ∷ more) fits.1)
+        (same_split word rest (decimal y) (names_text (z ∷ more)) alone (decimal_word y (All-head IsWide y (z ∷ more) fits.1)) is).0
 
-pub last_no_names : (ids : List ℕ) (word : List ℕ) → All IsWide ids → IsOneWord word → ((id : ℕ) → IsWide id → word ≡ decimal id → ⊥) → (others : List ℕ) → AreNames others → fronts ids ++ word ≡ names_text others → ⊥
+pub last_no_names : (ids : List ℕ) (word : List ℕ) → All IsWide ids → IsOneWord word → ((id : ℕ) → IsWide id → word ≡ decimal id → ⊥)
+    → (others : List ℕ) → AreNames others → fronts ids ++ word ≡ names_text others → ⊥
 last_no_names ids word one alone none others fits is = let go = names_go_on ids word others one fits is in last go.0 go.1 go.2
   where
     last : (more : List ℕ) → AreNames more → word ≡ names_text more → ⊥
@@ -64,13 +71,15 @@ last_no_names ids word one alone none others fits is = let go = names_go_on ids 
     last (y ∷ z ∷ more) fits is = split_unread word (decimal y) (names_text (z ∷ more)) alone is
 
 -- a fault at a word with others behind it, and at the last
-pub front_fault : (text : List ℕ) (ids new : List ℕ) (tail word rest : List ℕ) (fault : TextFault) → text ≡ fronts ids ++ tail → tail ≡ word ++ 32 ∷ rest → All IsWide ids → IsOneWord word → AddsName ids word new (Err fault)
+pub front_fault : (text : List ℕ) (ids new : List ℕ) (tail word rest : List ℕ) (fault : TextFault) → text ≡ fronts ids ++ tail
+    → tail ≡ word ++ 32 ∷ rest → All IsWide ids → IsOneWord word → AddsName ids word new (Err fault)
     → Gives names_text AreNames text (Err fault)
 front_fault text ids new tail word rest faults.Syntax whole cut one alone none = λ others fits is.
     front_no_names ids word rest one alone none others fits (ap (λ (xs : List ℕ). fronts ids ++ xs) (sym cut) ∙ sym whole ∙ is)
 front_fault text ids new tail word rest faults.Memory whole cut one alone none = tt
 
-pub last_fault : (text : List ℕ) (ids new : List ℕ) (word : List ℕ) (fault : TextFault) → text ≡ fronts ids ++ word → All IsWide ids → IsOneWord word → AddsName ids word new (Err fault)
+pub last_fault : (text : List ℕ) (ids new : List ℕ) (word : List ℕ) (fault : TextFault)
+    → text ≡ fronts ids ++ word → All IsWide ids → IsOneWord word → AddsName ids word new (Err fault)
     → Gives names_text AreNames text (Err fault)
 last_fault text ids new word faults.Syntax whole one alone none = λ others fits is. last_no_names ids word one alone none others fits (sym whole ∙ is)
 last_fault text ids new word faults.Memory whole one alone none = tt
@@ -79,7 +88,8 @@ push_filled : (ids : List ℕ) (id : ℕ) → ids ++ id ∷ [] ≢ []
 push_filled [] id is = let e : id ∷ [] ≡ [] = is in cc
 push_filled (x ∷ ids) id is = let e : x ∷ (ids ++ id ∷ []) ≡ [] = is in cc
 
-pub last_found : (text : List ℕ) (ids new : List ℕ) (word : List ℕ) (id : ℕ) → text ≡ fronts ids ++ word → All IsWide ids → IsWide id → word ≡ decimal id → new ≡ ids ++ id ∷ [] → AreNames new × (text ≡ names_text new)
+pub last_found : (text : List ℕ) (ids new : List ℕ) (word : List ℕ) (id : ℕ) → text ≡ fronts ids ++ word
+    → All IsWide ids → IsWide id → word ≡ decimal id → new ≡ ids ++ id ∷ [] → AreNames new × (text ≡ names_text new)
 last_found text ids new word id whole one wide is pushed =
     let found : AreNames (ids ++ id ∷ []) × (text ≡ names_text (ids ++ id ∷ [])) =
     ((push_filled ids id, All-push IsWide ids id one wide), whole ∙ ap (λ (xs : List ℕ). fronts ids ++ xs) is ∙ fronts_last ids id) in
@@ -90,10 +100,12 @@ pub record AreFront (text names rest : List ℕ) : Type 0 where
   pub wide : All IsWide names
   pub whole : text ≡ fronts names ++ rest
 
-pub front_found : (text : List ℕ) (ids new : List ℕ) (tail word rest : List ℕ) (id : ℕ) → text ≡ fronts ids ++ tail → tail ≡ word ++ 32 ∷ rest → All IsWide ids → IsWide id → word ≡ decimal id → new ≡ ids ++ id ∷ []
+pub front_found : (text : List ℕ) (ids new : List ℕ) (tail word rest : List ℕ) (id : ℕ) → text ≡ fronts ids ++ tail
+    → tail ≡ word ++ 32 ∷ rest → All IsWide ids → IsWide id → word ≡ decimal id → new ≡ ids ++ id ∷ []
     → AreFront text new rest
 front_found text ids new tail word rest id whole cut one wide is pushed =
-    let all : text ≡ fronts (ids ++ id ∷ []) ++ rest = whole ∙ ap (λ (xs : List ℕ). fronts ids ++ xs) (cut ∙ ap (λ (xs : List ℕ). xs ++ 32 ∷ rest) is) ∙ fronts_push ids id rest in
+    let all : text ≡ fronts (ids ++ id ∷ []) ++ rest =
+    whole ∙ ap (λ (xs : List ℕ). fronts ids ++ xs) (cut ∙ ap (λ (xs : List ℕ). xs ++ 32 ∷ rest) is) ∙ fronts_push ids id rest in
     subst (λ (xs : List ℕ). AreFront text xs rest) (sym pushed) (record { wide = All-push IsWide ids id one wide; whole = all })
 
 -- what follows `chunk`
@@ -109,27 +121,35 @@ pub chunk_line_is : (rate : Sum) (ids : List ℕ) → ids ≢ [] → row_line (r
 chunk_line_is rate ids some = ap (λ (xs : List ℕ). kind_word kinds.Chunk ++ 32 ∷ (signed_decimal rate.fee ++ 32 ∷ xs)) (size_names rate.size ids some)
 
 -- a text after `chunk` that has none of the forms makes no line
-chunk_no_row : (text : List ℕ) → ((rate : Sum) (ids : List ℕ) → HasRowTypes (rows.Chunk rate ids) → text ≡ chunk_text rate ids → ⊥) → (row : Row) → HasRowTypes row → kind_word kinds.Chunk ++ 32 ∷ text ≡ row_line row → ⊥
+chunk_no_row : (text : List ℕ) → ((rate : Sum) (ids : List ℕ) → HasRowTypes (rows.Chunk rate ids) → text ≡ chunk_text rate ids → ⊥)
+    → (row : Row) → HasRowTypes row → kind_word kinds.Chunk ++ 32 ∷ text ≡ row_line row → ⊥
 chunk_no_row text none (rows.Chunk rate ids) fits is = none rate ids fits (ap (drop 6) (is ∙ chunk_line_is rate ids fits.2.0))
 chunk_no_row text none _ fits is = differ_apart _ _ refl is
 
 pub chunk_word_no_row : (text : List ℕ) → IsOneWord text → (row : Row) → HasRowTypes row → kind_word kinds.Chunk ++ 32 ∷ text ≡ row_line row → ⊥
-chunk_word_no_row text one = chunk_no_row text (λ rate ids fits is. split_unread text (signed_decimal rate.fee) (decimal rate.size ++ 32 ∷ names_text ids) one is)
+chunk_word_no_row text one =
+    chunk_no_row text (λ rate ids fits is. split_unread text (signed_decimal rate.fee) (decimal rate.size ++ 32 ∷ names_text ids) one is)
 
-pub chunk_fee_no_row : (text fee rest : List ℕ) → text ≡ fee ++ 32 ∷ rest → IsOneWord fee → ((value : ℤ) → IsBigFee value → fee ≡ signed_decimal value → ⊥) → (row : Row) → HasRowTypes row → kind_word kinds.Chunk ++ 32 ∷ text ≡ row_line row → ⊥
+pub chunk_fee_no_row : (text fee rest : List ℕ) → text ≡ fee ++ 32 ∷ rest → IsOneWord fee → ((value : ℤ) → IsBigFee value → fee ≡ signed_decimal value → ⊥)
+    → (row : Row) → HasRowTypes row → kind_word kinds.Chunk ++ 32 ∷ text ≡ row_line row → ⊥
 chunk_fee_no_row text fee rest whole one none = chunk_no_row text (λ rate ids fits is.
-    none rate.fee fits.0 (same_split fee rest (signed_decimal rate.fee) (decimal rate.size ++ 32 ∷ names_text ids) one (big_fee_word rate.fee fits.0) (sym whole ∙ is)).0)
+    none rate.fee fits.0
+    (same_split fee rest (signed_decimal rate.fee) (decimal rate.size ++ 32 ∷ names_text ids) one (big_fee_word rate.fee fits.0) (sym whole ∙ is)).0)
 
 -- the same behind the fee
-chunk_rest_no_row : (fee : ℤ) (text : List ℕ) → IsBigFee fee → ((rate : Sum) (ids : List ℕ) → HasRowTypes (rows.Chunk rate ids) → text ≡ decimal rate.size ++ 32 ∷ names_text ids → ⊥)
+chunk_rest_no_row : (fee : ℤ) (text : List ℕ) → IsBigFee fee
+    → ((rate : Sum) (ids : List ℕ) → HasRowTypes (rows.Chunk rate ids) → text ≡ decimal rate.size ++ 32 ∷ names_text ids → ⊥)
     → (row : Row) → HasRowTypes row → kind_word kinds.Chunk ++ 32 ∷ (signed_decimal fee ++ 32 ∷ text) ≡ row_line row → ⊥
 chunk_rest_no_row fee text fine none = chunk_no_row (signed_decimal fee ++ 32 ∷ text) (λ rate ids fits is.
-    none rate ids fits (same_split (signed_decimal fee) text (signed_decimal rate.fee) (decimal rate.size ++ 32 ∷ names_text ids) (big_fee_word fee fine) (big_fee_word rate.fee fits.0) is).1)
+    none rate ids fits (same_split (signed_decimal fee) text (signed_decimal rate.fee)
+    (decimal rate.size ++ 32 ∷ names_text ids) (big_fee_word fee fine) (big_fee_word rate.fee fits.0) is).1)
 
-pub size_word_no_row : (fee : ℤ) (text : List ℕ) → IsBigFee fee → IsOneWord text → (row : Row) → HasRowTypes row → kind_word kinds.Chunk ++ 32 ∷ (signed_decimal fee ++ 32 ∷ text) ≡ row_line row → ⊥
+pub size_word_no_row : (fee : ℤ) (text : List ℕ) → IsBigFee fee → IsOneWord text → (row : Row)
+    → HasRowTypes row → kind_word kinds.Chunk ++ 32 ∷ (signed_decimal fee ++ 32 ∷ text) ≡ row_line row → ⊥
 size_word_no_row fee text fine one = chunk_rest_no_row fee text fine (λ rate ids fits is. split_unread text (decimal rate.size) (names_text ids) one is)
 
-pub size_no_row : (fee : ℤ) (text size rest : List ℕ) → IsBigFee fee → text ≡ size ++ 32 ∷ rest → IsOneWord size → ((value : ℕ) → IsWide value → size ≡ decimal value → ⊥)
+pub size_no_row : (fee : ℤ) (text size rest : List ℕ) → IsBigFee fee → text ≡ size ++ 32 ∷ rest
+    → IsOneWord size → ((value : ℕ) → IsWide value → size ≡ decimal value → ⊥)
     → (row : Row) → HasRowTypes row → kind_word kinds.Chunk ++ 32 ∷ (signed_decimal fee ++ 32 ∷ text) ≡ row_line row → ⊥
 size_no_row fee text size rest fine whole one none = chunk_rest_no_row fee text fine (λ rate ids fits is.
     none rate.size fits.1 (same_split size rest (decimal rate.size) (names_text ids) one (decimal_word rate.size fits.1) (sym whole ∙ is)).0)
@@ -138,7 +158,8 @@ size_no_row fee text size rest fine whole one none = chunk_rest_no_row fee text 
 names_no_row : (rate : Sum) (text : List ℕ) → IsBigFee rate.fee → IsWide rate.size → ((ids : List ℕ) → AreNames ids → text ≡ names_text ids → ⊥)
     → (row : Row) → HasRowTypes row → kind_word kinds.Chunk ++ 32 ∷ (signed_decimal rate.fee ++ 32 ∷ (decimal rate.size ++ 32 ∷ text)) ≡ row_line row → ⊥
 names_no_row rate text fine wide none = chunk_rest_no_row rate.fee (decimal rate.size ++ 32 ∷ text) fine (λ other ids fits is.
-    none ids fits.2 (same_split (decimal rate.size) text (decimal other.size) (names_text ids) (decimal_word rate.size wide) (decimal_word other.size fits.1) is).1)
+    none ids fits.2
+    (same_split (decimal rate.size) text (decimal other.size) (names_text ids) (decimal_word rate.size wide) (decimal_word other.size fits.1) is).1)
 
 pub names_fault : (rate : Sum) (text : List ℕ) (fault : TextFault) → IsBigFee rate.fee → IsWide rate.size → Gives names_text AreNames text (Err fault)
     → Gives row_line HasRowTypes (kind_word kinds.Chunk ++ 32 ∷ (signed_decimal rate.fee ++ 32 ∷ (decimal rate.size ++ 32 ∷ text))) (Err fault)
@@ -146,6 +167,7 @@ names_fault rate text faults.Syntax fine wide none = names_no_row rate text fine
 names_fault rate text faults.Memory fine wide none = tt
 
 pub names_found : (rate : Sum) (text : List ℕ) (ids : List ℕ) → IsBigFee rate.fee → IsWide rate.size → AreNames ids × (text ≡ names_text ids)
-    → HasRowTypes (rows.Chunk rate ids) × (kind_word kinds.Chunk ++ 32 ∷ (signed_decimal rate.fee ++ 32 ∷ (decimal rate.size ++ 32 ∷ text)) ≡ row_line (rows.Chunk rate ids))
+    → HasRowTypes (rows.Chunk rate ids)
+    × (kind_word kinds.Chunk ++ 32 ∷ (signed_decimal rate.fee ++ 32 ∷ (decimal rate.size ++ 32 ∷ text)) ≡ row_line (rows.Chunk rate ids))
 names_found rate text ids fine wide found =
     ((fine, wide, found.0), ap (λ (xs : List ℕ). kind_word kinds.Chunk ++ 32 ∷ (signed_decimal rate.fee ++ 32 ∷ (decimal rate.size ++ 32 ∷ xs))) found.1 ∙ sym (chunk_line_is rate ids found.0.0))

@@ -33,7 +33,8 @@ names_text_same : (x y : List ℕ) → AreNames x → AreNames y → names_text 
 names_text_same [] y one other is = absurd (one.0 refl)
 names_text_same (a ∷ x) [] one other is = absurd (other.0 refl)
 names_text_same (a ∷ x) (b ∷ y) one other is =
-    names_same (a ∷ x) (b ∷ y) one.1 other.1 (spaced_same (decimal a) (map decimal x) (decimal b) (map decimal y) (words (a ∷ x) one.1) (words (b ∷ y) other.1) is)
+    names_same (a ∷ x) (b ∷ y) one.1 other.1
+    (spaced_same (decimal a) (map decimal x) (decimal b) (map decimal y) (words (a ∷ x) one.1) (words (b ∷ y) other.1) is)
   where
     words : (ids : List ℕ) → All IsWide ids → All IsOneWord (map decimal ids)
     words ids wide = All-map IsOneWord decimal ids (All-weaker IsWide (λ id. IsOneWord (decimal id)) decimal_word ids wide)
@@ -42,7 +43,8 @@ fields_same : (shape : Shape) (x y : Fields shape) → FieldsFit shape x → Fie
 fields_same Bare x y one other is = refl
 fields_same (Last kind) x y one other is = field_same kind x y one other is
 fields_same (Then kind shape) x y one other is =
-    let cut = same_split (field_text kind x.0) (fields_text shape x.1) (field_text kind y.0) (fields_text shape y.1) (field_word kind x.0 one.0) (field_word kind y.0 other.0) is in
+    let cut = same_split (field_text kind x.0) (fields_text shape x.1) (field_text kind y.0)
+    (fields_text shape y.1) (field_word kind x.0 one.0) (field_word kind y.0 other.0) is in
     let first : x.0 ≡ y.0 = field_same kind x.0 y.0 one.0 other.0 cut.0 in
     let rest : x.1 ≡ y.1 = fields_same shape x.1 y.1 one.1 other.1 cut.1 in
     λ i. (first i, rest i)
@@ -54,13 +56,15 @@ some_same a b is = cc
 rest_same : (shape : Shape) (x y : Fields shape) → FieldsFit shape x → FieldsFit shape y → rest_text shape x ≡ rest_text shape y → x ≡ y
 rest_same Bare x y one other is = refl
 rest_same (Last kind) x y one other is = fields_same (Last kind) x y one other (some_same (fields_text (Last kind) x) (fields_text (Last kind) y) is)
-rest_same (Then kind shape) x y one other is = fields_same (Then kind shape) x y one other (some_same (fields_text (Then kind shape) x) (fields_text (Then kind shape) y) is)
+rest_same (Then kind shape) x y one other is =
+    fields_same (Then kind shape) x y one other (some_same (fields_text (Then kind shape) x) (fields_text (Then kind shape) y) is)
 rest_same Names x y one other is = fields_same Names x y one other (some_same (names_text x) (names_text y) is)
 
 command_same : (f g : Form) → f ≡ g → (x : Fields (row_of f).shape) (y : Fields (row_of g).shape) → FieldsFit (row_of f).shape x → FieldsFit (row_of g).shape y
     → rest_text (row_of f).shape x ≡ rest_text (row_of g).shape y → (row_of f).command x ≡ (row_of g).command y
 command_same f g is x = subst
-    (λ (h : Form). (y : Fields (row_of h).shape) → FieldsFit (row_of f).shape x → FieldsFit (row_of h).shape y → rest_text (row_of f).shape x ≡ rest_text (row_of h).shape y → (row_of f).command x ≡ (row_of h).command y)
+    (λ (h : Form). (y : Fields (row_of h).shape) → FieldsFit (row_of f).shape x → FieldsFit (row_of h).shape y
+    → rest_text (row_of f).shape x ≡ rest_text (row_of h).shape y → (row_of f).command x ≡ (row_of h).command y)
     is (λ y one other same. ap (row_of f).command (rest_same (row_of f).shape x y one other same))
 
 pub one_command : (text : List ℕ) (a b : Command) → Spells text a → Spells text b → a ≡ b

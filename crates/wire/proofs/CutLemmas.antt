@@ -34,7 +34,8 @@ other_cut byte bytes other (line ∷ lines, rest, cut) = (
   rest,
   record {
     whole = ap (λ (xs : List ℕ). byte ∷ xs) cut.whole;
-    each = All-cons IsOneLine (byte ∷ line) lines (All-cons (λ b. b ≢ 10) byte line other (All-head IsOneLine line lines cut.each)) (All-tail IsOneLine line lines cut.each);
+    each = All-cons IsOneLine (byte ∷ line) lines (All-cons (λ b. b ≢ 10) byte line other (All-head IsOneLine line lines cut.each))
+        (All-tail IsOneLine line lines cut.each);
     last = cut.last;
   },
 )

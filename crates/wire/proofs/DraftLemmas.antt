@@ -19,8 +19,10 @@ written_is (drafts.Graph txs edges) = refl
 written_is (drafts.Parts graph parts last) = refl
 written_is (drafts.Ended text) = refl
 
-pub draft_refuses : (draft : Draft) (row : Row) → put (stage_of draft) row ≡ None → (text : Text) (more : List Row) → rows_of text ≡ written draft ++ row ∷ more → ⊥
-draft_refuses draft row none text more is = put_refuses (stage_of draft) row none text more (is ∙ ap (λ (xs : List Row). xs ++ row ∷ more) (sym (written_is draft)))
+pub draft_refuses : (draft : Draft) (row : Row) → put (stage_of draft) row ≡ None
+    → (text : Text) (more : List Row) → rows_of text ≡ written draft ++ row ∷ more → ⊥
+draft_refuses draft row none text more is =
+    put_refuses (stage_of draft) row none text more (is ∙ ap (λ (xs : List Row). xs ++ row ∷ more) (sym (written_is draft)))
 
 -- a text whose lines were all read was ended
 pub unfinished : (draft : Draft) → ((text : Text) → stage_of draft ≡ AtEnd text → ⊥) → (text : Text) → rows_of text ≡ written draft → ⊥

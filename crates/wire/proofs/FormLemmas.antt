@@ -53,7 +53,9 @@ find (form ∷ more) word = cond (same word (form_word form)) (Some form) (find 
 
 abbrev all_forms : List Form
 all_forms =
-    forms.Limits ∷ forms.Add ∷ forms.Dep ∷ forms.Fee ∷ forms.Remove ∷ forms.Mine ∷ forms.Evict ∷ forms.Stage ∷ forms.Commit ∷ forms.Abort ∷ forms.Settle ∷ forms.Compare ∷ forms.Order ∷ forms.Diagram ∷ forms.Proof ∷ forms.Cluster ∷ forms.Ancestors ∷ forms.Descendants ∷ forms.Chunk ∷ forms.Before ∷ forms.Block ∷ forms.Count ∷ []
+    forms.Limits ∷ forms.Add ∷ forms.Dep ∷ forms.Fee ∷ forms.Remove ∷ forms.Mine ∷ forms.Evict ∷ forms.Stage
+    ∷ forms.Commit ∷ forms.Abort ∷ forms.Settle ∷ forms.Compare ∷ forms.Order ∷ forms.Diagram ∷ forms.Proof
+    ∷ forms.Cluster ∷ forms.Ancestors ∷ forms.Descendants ∷ forms.Chunk ∷ forms.Before ∷ forms.Block ∷ forms.Count ∷ []
 
 -- a form's first word is one word, and no other form's
 known : (form : Form) → (has_space (form_word form) ≡ false) × (find all_forms (form_word form) ≡ Some form)
@@ -95,7 +97,8 @@ pub record Row (command : Command) : Type 0 where
   pub text : spaced (words_of command) ≡ form_word form ++ behind (rest_text (row_of form).shape fields)
 
 pub row : (command : Command) → HasTypes command → Row command
-row (commands.SetLimits count size total) types = record { form = forms.Limits; fields = (count, (size, total)); is = refl; fits = (types.0, (types.1, types.2)); text = refl }
+row (commands.SetLimits count size total) types =
+    record { form = forms.Limits; fields = (count, (size, total)); is = refl; fits = (types.0, (types.1, types.2)); text = refl }
 row (commands.Add id fee size) types = record { form = forms.Add; fields = (id, (fee, size)); is = refl; fits = (types.0, (types.1, types.2)); text = refl }
 row (commands.Dep parent child) types = record { form = forms.Dep; fields = (parent, child); is = refl; fits = types; text = refl }
 row (commands.SetFee id fee) types = record { form = forms.Fee; fields = (id, fee); is = refl; fits = types; text = refl }
@@ -128,29 +131,37 @@ same_line a c (Some b) (Some d) one other is = let cut = same_split a b c d one 
 
 -- a text is no command where it has no form's first word with fields of its kinds
 no_command : (word : List ℕ) (rest : Option (List ℕ)) → IsOneWord word
-    → ((form : Form) → word ≡ form_word form → (fields : Fields (row_of form).shape) → FieldsFit (row_of form).shape fields → rest ≡ rest_text (row_of form).shape fields → ⊥)
+    → ((form : Form) → word ≡ form_word form → (fields : Fields (row_of form).shape)
+    → FieldsFit (row_of form).shape fields → rest ≡ rest_text (row_of form).shape fields → ⊥)
     → (command : Command) → Spells (word ++ behind rest) command → ⊥
 no_command word rest one none command spells =
     let found = row command spells.1 in
-    let cut = same_line word (form_word found.form) rest (rest_text (row_of found.form).shape found.fields) one (form_one_word found.form) (spells.0 ∙ found.text) in
+    let cut =
+    same_line word (form_word found.form) rest (rest_text (row_of found.form).shape found.fields) one (form_one_word found.form) (spells.0 ∙ found.text) in
     none found.form cut.0 found.fields found.fits cut.1
 
 pub word_unread : (word : List ℕ) → IsOneWord word → ((form : Form) → Unit {0} → word ≡ form_word form → ⊥) → (command : Command) → Spells word command → ⊥
 word_unread word one none command spells = no_command word None one (λ form is fields fits rest. none form tt is) command (append-nil word ∙ spells.0, spells.1)
 
-pub form_unread : (word rest : List ℕ) → IsOneWord word → ((form : Form) → Unit {0} → word ≡ form_word form → ⊥) → (command : Command) → Spells (word ++ 32 ∷ rest) command → ⊥
+pub form_unread : (word rest : List ℕ) → IsOneWord word → ((form : Form) → Unit {0} → word ≡ form_word form → ⊥)
+    → (command : Command) → Spells (word ++ 32 ∷ rest) command → ⊥
 form_unread word rest one none command spells = no_command word (Some rest) one (λ form is fields fits rest. none form tt is) command spells
 
 -- Where what follows a form's first word isn't fields of its kinds, the line is no command.
-rest_unread : (form : Form) (rest : Option (List ℕ)) → ((fields : Fields (row_of form).shape) → FieldsFit (row_of form).shape fields → rest ≡ rest_text (row_of form).shape fields → ⊥)
+rest_unread : (form : Form) (rest : Option (List ℕ))
+    → ((fields : Fields (row_of form).shape) → FieldsFit (row_of form).shape fields → rest ≡ rest_text (row_of form).shape fields → ⊥)
     → (command : Command) → Spells (form_word form ++ behind rest) command → ⊥
 rest_unread form rest none = no_command (form_word form) rest (form_one_word form) (λ other is.
-    subst (λ (f : Form). (fields : Fields (row_of f).shape) → FieldsFit (row_of f).shape fields → rest ≡ rest_text (row_of f).shape fields → ⊥) (form_same form other is) none)
+    subst (λ (f : Form). (fields : Fields (row_of f).shape) → FieldsFit (row_of f).shape fields → rest ≡ rest_text (row_of f).shape fields → ⊥)
+    (form_same form other is) none)
 
-pub row_unread : (form found : Form) (rest : List ℕ) (line : Option Line) → found ≡ form → ((fields : Fields (row_of form).shape) → rest_text (row_of form).shape fields ≡ Some (fields_text (row_of form).shape fields))
-    → ReadsAs (fields_text (row_of form).shape) (FieldsFit (row_of form).shape) rest None → line ≡ None → (ids : List ℕ) → FormSays (form_word found ++ 32 ∷ rest) line ids
+pub row_unread : (form found : Form) (rest : List ℕ) (line : Option Line) → found ≡ form
+    → ((fields : Fields (row_of form).shape) → rest_text (row_of form).shape fields ≡ Some (fields_text (row_of form).shape fields))
+    → ReadsAs (fields_text (row_of form).shape) (FieldsFit (row_of form).shape) rest None
+    → line ≡ None → (ids : List ℕ) → FormSays (form_word found ++ 32 ∷ rest) line ids
 row_unread form found rest line is filled none nothing ids =
-    rw (is, nothing) (rest_unread form (Some rest) (λ fields fits text. let e : Some rest ≡ Some (fields_text (row_of form).shape fields) = text ∙ filled fields in none fields fits (some_same rest _ e)))
+    rw (is, nothing) (rest_unread form (Some rest)
+    (λ fields fits text. let e : Some rest ≡ Some (fields_text (row_of form).shape fields) = text ∙ filled fields in none fields fits (some_same rest _ e)))
   where
     some_same : (a b : List ℕ) → Some a ≡ Some b → a ≡ b
     some_same a b e = cc

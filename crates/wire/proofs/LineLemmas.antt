@@ -40,9 +40,11 @@ pub record IsRead (all left : List (List ℕ)) (rows : List Row) : Type 0 where
   pub types : All HasRowTypes rows
 
 pub none_read : (all : List (List ℕ)) (rows : List Row) → rows ≡ [] → IsRead all all rows
-none_read all rows none = subst (IsRead all all) (sym none) (record { before = []; whole = refl; short = All-nil IsShort; spelled = refl; types = All-nil HasRowTypes })
+none_read all rows none =
+    subst (IsRead all all) (sym none) (record { before = []; whole = refl; short = All-nil IsShort; spelled = refl; types = All-nil HasRowTypes })
 
-pub one_more : (all left : List (List ℕ)) (line : List ℕ) (old : List Row) (draft : Draft) → IsRead all (line ∷ left) old → TakesLine old line (Ok draft) → IsRead all left (written draft)
+pub one_more : (all left : List (List ℕ)) (line : List ℕ) (old : List Row) (draft : Draft)
+    → IsRead all (line ∷ left) old → TakesLine old line (Ok draft) → IsRead all left (written draft)
 one_more all left line old draft read took =
     let rows = took.1 in
     subst (IsRead all left) (sym took.4) (record {
@@ -53,7 +55,8 @@ one_more all left line old draft read took =
       types = All-append HasRowTypes old rows read.types took.2;
     })
 
-pub line_fault : (all left : List (List ℕ)) (line : List ℕ) (old : List Row) (fault : TextFault) → IsRead all (line ∷ left) old → TakesLine old line (Err fault) → ReadsLines all (Err fault)
+pub line_fault : (all left : List (List ℕ)) (line : List ℕ) (old : List Row) (fault : TextFault)
+    → IsRead all (line ∷ left) old → TakesLine old line (Err fault) → ReadsLines all (Err fault)
 line_fault all left line old faults.Syntax read none = λ text is.
     let behind = All-back IsShort read.before (line ∷ left) (subst (All IsShort) read.whole is.short) in
     let spelled : text_lines text ≡ map row_line old ++ (told (line ∷ []) ++ told left) =

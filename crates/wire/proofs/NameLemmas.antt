@@ -29,7 +29,8 @@ pub has_room : (text : List ℕ) (all : ℕ) (names : Room) (rest : List ℕ) �
 has_room text all names rest read small =
     omega (arith, fronts_length names.ids read.wide, length-append (fronts names.ids) rest, ap length read.whole, read.room, small)
 
-pub one_read : (text : List ℕ) (all : ℕ) (old new : Room) (rest word more : List ℕ) (id : ℕ) → AreRead text all old rest → rest ≡ word ++ 32 ∷ more → IsWide id × (word ≡ decimal id) → 0 < old.room
+pub one_read : (text : List ℕ) (all : ℕ) (old new : Room) (rest word more : List ℕ) (id : ℕ)
+    → AreRead text all old rest → rest ≡ word ++ 32 ∷ more → IsWide id × (word ≡ decimal id) → 0 < old.room
     → new ≡ record { ids = old.ids ++ id ∷ []; room = old.room - 1 } → AreRead text all new more
 one_read text all old new rest word more id read cut found some pushed = rw pushed (record {
   wide = All-push IsWide old.ids id read.wide found.0;
@@ -39,7 +40,8 @@ one_read text all old new rest word more id read cut found some pushed = rw push
 
 pub last_read : (text : List ℕ) (all : ℕ) (old new : Room) (word : List ℕ) (id : ℕ) → AreRead text all old word → IsWide id × (word ≡ decimal id) → 0 < old.room
     → new ≡ record { ids = old.ids ++ id ∷ []; room = old.room - 1 } → AreNames new.ids × (text ≡ names_text new.ids)
-last_read text all old new word id read found some pushed = last_found text old.ids new.ids word id read.whole read.wide found.0 found.1 (ap (λ (names : Room). names.ids) pushed)
+last_read text all old new word id read found some pushed =
+    last_found text old.ids new.ids word id read.whole read.wide found.0 found.1 (ap (λ (names : Room). names.ids) pushed)
 
 pub last_room : (text : List ℕ) (all : ℕ) (old new : Room) (word : List ℕ) (id : ℕ) → AreRead text all old word → 0 < old.room
     → new ≡ record { ids = old.ids ++ id ∷ []; room = old.room - 1 } → length new.ids + new.room ≡ all

@@ -50,11 +50,14 @@ number_reads bytes (Some n) plain found =
 pub no_minus : (n : ℕ) (rest : List ℕ) → n < 2 ^ 64 → decimal n ≡ 45 ∷ rest → ⊥
 no_minus n rest fits is = let digits : all_ascii_digits (45 ∷ rest) ≡ true = rw is at (digits_decimal own n fits) in cc
 
-pub minus_unread : (bytes rest : List ℕ) → bytes ≡ 45 ∷ rest → ((n : ℕ) → n < 2 ^ 64 → rest ≡ decimal n → ⊥) → (value : ℤ) → FitsSigned w64 value → bytes ≡ signed_decimal value → ⊥
+pub minus_unread : (bytes rest : List ℕ) → bytes ≡ 45 ∷ rest → ((n : ℕ) → n < 2 ^ 64 → rest ≡ decimal n → ⊥)
+    → (value : ℤ) → FitsSigned w64 value → bytes ≡ signed_decimal value → ⊥
 minus_unread bytes rest front none (pos n) fits is = no_minus n rest (omega (arith, ints, fits)) (sym is ∙ front)
-minus_unread bytes rest front none (negsuc n) fits is = none (suc n) (omega (arith, ints, fits)) (let e : 45 ∷ rest ≡ 45 ∷ decimal (suc n) = sym front ∙ is in cc)
+minus_unread bytes rest front none (negsuc n) fits is =
+    none (suc n) (omega (arith, ints, fits)) (let e : 45 ∷ rest ≡ 45 ∷ decimal (suc n) = sym front ∙ is in cc)
 
-pub plain_unread : (bytes : List ℕ) → (slice_index bytes 0 ≡ 45 → ⊥) → ((n : ℕ) → n < 2 ^ 64 → bytes ≡ decimal n → ⊥) → (value : ℤ) → FitsSigned w64 value → bytes ≡ signed_decimal value → ⊥
+pub plain_unread : (bytes : List ℕ) → (slice_index bytes 0 ≡ 45 → ⊥) → ((n : ℕ) → n < 2 ^ 64 → bytes ≡ decimal n → ⊥)
+    → (value : ℤ) → FitsSigned w64 value → bytes ≡ signed_decimal value → ⊥
 plain_unread bytes front none (pos n) fits is = none n (omega (arith, ints, fits)) is
 plain_unread bytes front none (negsuc n) fits is = front (rw is refl)
 
@@ -66,7 +69,8 @@ zero_unread (negsuc n) fits is =
     let e : 0 ≡ suc n = decimal_injective 0 (suc n) (lit< tt) (omega (arith, ints, fits)) g in absurd (omega arith)
 
 -- what is found below zero is read of the digits behind a sign
-pub negative_reads : (m : ℕ) (found : Option ℤ) → (m ≡ 0 → ⊥) → m < 2 ^ 64 → SomeIff found (FitsSigned w64 (pos 0 -ℤ pos m)) (pos 0 -ℤ pos m) → ReadsAs signed_decimal (FitsSigned w64) (45 ∷ decimal m) found
+pub negative_reads : (m : ℕ) (found : Option ℤ) → (m ≡ 0 → ⊥) → m < 2 ^ 64
+    → SomeIff found (FitsSigned w64 (pos 0 -ℤ pos m)) (pos 0 -ℤ pos m) → ReadsAs signed_decimal (FitsSigned w64) (45 ∷ decimal m) found
 negative_reads zero found some wide is = absurd (some refl)
 negative_reads (suc m) None some wide none = unread
   where
@@ -78,7 +82,8 @@ negative_reads (suc m) None some wide none = unread
         let e : suc m ≡ suc n = decimal_injective (suc m) (suc n) wide (omega (arith, ints, fits)) g in
         let back : n ≡ m = omega arith in
         none (subst (FitsSigned w64) (ap negsuc back ∙ sym (+ℤ_idl (negsuc m))) fits)
-negative_reads (suc m) (Some value) some wide found = subst (λ (z : ℤ). FitsSigned w64 z × (45 ∷ decimal (suc m) ≡ signed_decimal z)) (sym (found.1 ∙ +ℤ_idl (negsuc m))) (subst (FitsSigned w64) (+ℤ_idl (negsuc m)) found.0, refl)
+negative_reads (suc m) (Some value) some wide found = subst (λ (z : ℤ). FitsSigned w64 z × (45 ∷ decimal (suc m) ≡ signed_decimal z))
+    (sym (found.1 ∙ +ℤ_idl (negsuc m))) (subst (FitsSigned w64) (+ℤ_idl (negsuc m)) found.0, refl)
 
 pub large_unread : (m : ℕ) → m < 2 ^ 64 → 2 ^ 63 ≤ m → (value : ℤ) → FitsSigned w64 value → decimal m ≡ signed_decimal value → ⊥
 large_unread m wide large (pos n) fits is = let e : m ≡ n = decimal_injective m n wide (omega (arith, ints, fits)) is in omega (arith, ints, fits)
@@ -90,12 +95,14 @@ without_return_other (byte ∷ []) other = elim (nat_eq byte 13) as (λ b. nat_e
   | true ↦ λ e. absurd (other (eqb-true byte 13 e))
   | false ↦ λ e. refl
 ] refl
-without_return_other (byte ∷ next ∷ bytes) other = ap (λ (xs : List ℕ). byte ∷ xs) (without_return_other (next ∷ bytes) (λ e. let at : length (byte ∷ next ∷ bytes) - 1 ≡ suc (length (next ∷ bytes) - 1) = omega arith in other (ap (slice_index (byte ∷ next ∷ bytes)) at ∙ e)))
+without_return_other (byte ∷ next ∷ bytes) other = ap (λ (xs : List ℕ). byte ∷ xs) (without_return_other (next ∷ bytes)
+    (λ e. let at : length (byte ∷ next ∷ bytes) - 1 ≡ suc (length (next ∷ bytes) - 1) = omega arith in other (ap (slice_index (byte ∷ next ∷ bytes)) at ∙ e)))
 
 -- digits are one word
 pub decimal_word : (n : ℕ) → n < 2 ^ 64 → IsOneWord (decimal n)
 decimal_word n fits =
-    All-from_get_or (λ byte. byte ≢ 32) (decimal n) 0 (λ i below. not_in_digits own (decimal n) 32 (digits_decimal own n fits) (λ r. absurd (omega (arith, r))) i below)
+    All-from_get_or (λ byte. byte ≢ 32) (decimal n) 0
+    (λ i below. not_in_digits own (decimal n) 32 (digits_decimal own n fits) (λ r. absurd (omega (arith, r))) i below)
 
 pub signed_word : (z : ℤ) → FitsSigned w64 z → IsOneWord (signed_decimal z)
 signed_word (pos n) fits = decimal_word n (omega (arith, ints, fits))
@@ -103,7 +110,8 @@ signed_word (negsuc n) fits = All-cons (λ byte. byte ≢ 32) 45 (decimal (suc n
 
 pub split_unread : (text a b : List ℕ) → IsOneWord text → text ≡ a ++ 32 ∷ b → ⊥
 split_unread text [] b one is = All-head (λ byte. byte ≢ 32) 32 b (subst IsOneWord is one) refl
-split_unread text (x ∷ a) b one is = let h : IsOneWord (a ++ 32 ∷ b) = All-tail (λ byte. byte ≢ 32) x (a ++ 32 ∷ b) (subst IsOneWord is one) in split_unread (a ++ 32 ∷ b) a b h refl
+split_unread text (x ∷ a) b one is = let h : IsOneWord (a ++ 32 ∷ b) = All-tail (λ byte. byte ≢ 32) x (a ++ 32 ∷ b) (subst IsOneWord is one) in
+    split_unread (a ++ 32 ∷ b) a b h refl
 
 -- there is one way to cut at the first space
 pub same_split : (a b c d : List ℕ) → IsOneWord a → IsOneWord c → a ++ 32 ∷ b ≡ c ++ 32 ∷ d → (a ≡ c) × (b ≡ d)
@@ -119,7 +127,8 @@ same_split (x ∷ a) b (y ∷ c) d one other is =
     (cc, rest.1)
 
 zip_reads : {A B : Type 0} (first : A → List ℕ) (second : B → List ℕ) (FitA : A → Type 0) (FitB : B → Type 0) → ((a : A) → FitA a → IsOneWord (first a))
-    → (text front rest : List ℕ) → text ≡ front ++ 32 ∷ rest → IsOneWord front → (x : Option A) (y : Option B) → ReadsAs first FitA front x → ReadsAs second FitB rest y
+    → (text front rest : List ℕ) → text ≡ front ++ 32 ∷ rest → IsOneWord front
+    → (x : Option A) (y : Option B) → ReadsAs first FitA front x → ReadsAs second FitB rest y
     → ReadsAs (pair_spelling first second) (BothFit FitA FitB) text (option_zip x y)
 zip_reads first second FitA FitB word text front rest whole one None y none other = λ value fits is.
     none value.0 fits.0 (same_split front rest (first value.0) (second value.1) one (word value.0 fits.0) (sym whole ∙ is)).0
@@ -130,10 +139,12 @@ zip_reads first second FitA FitB word text front rest whole one (Some a) (Some b
 
 -- a reading of two fields from the readings of each
 pub pair_reads : {A B : Type 0} (first : A → List ℕ) (second : B → List ℕ) (FitA : A → Type 0) (FitB : B → Type 0) → ((a : A) → FitA a → IsOneWord (first a))
-    → (text front rest : List ℕ) → text ≡ front ++ 32 ∷ rest → IsOneWord front → (x : Option A) (y : Option B) (both : Option (A × B)) → ReadsAs first FitA front x → ReadsAs second FitB rest y → both ≡ option_zip x y
+    → (text front rest : List ℕ) → text ≡ front ++ 32 ∷ rest → IsOneWord front → (x : Option A) (y : Option B) (both : Option (A × B))
+    → ReadsAs first FitA front x → ReadsAs second FitB rest y → both ≡ option_zip x y
     → ReadsAs (pair_spelling first second) (BothFit FitA FitB) text both
 pair_reads {A = A} {B = B} first second FitA FitB word text front rest whole one x y both found other is =
-    subst (λ (z : Option (A × B)). ReadsAs (pair_spelling first second) (BothFit FitA FitB) text z) (sym is) (zip_reads first second FitA FitB word text front rest whole one x y found other)
+    subst (λ (z : Option (A × B)). ReadsAs (pair_spelling first second) (BothFit FitA FitB) text z)
+    (sym is) (zip_reads first second FitA FitB word text front rest whole one x y found other)
 
 pub pair_unread : {A B : Type 0} (first : A → List ℕ) (second : B → List ℕ) (FitA : A → Type 0) (FitB : B → Type 0) (text : List ℕ) → IsOneWord text
     → ReadsAs (pair_spelling first second) (BothFit FitA FitB) text None

@@ -83,10 +83,12 @@ run_flows txs edges parts last [] rest =
     ap (λ (zs : List Flow). run rest (AtParts txs edges parts (record { rate = last.rate; ids = last.ids; flows = zs }))) (sym (append-nil last.flows))
 run_flows txs edges parts last (flow ∷ flows) rest =
     run_flows txs edges parts (with_flow last flow) flows rest
-    ∙ ap (λ (zs : List Flow). run rest (AtParts txs edges parts (record { rate = last.rate; ids = last.ids; flows = zs }))) (append_assoc last.flows (flow ∷ []) flows)
+    ∙ ap (λ (zs : List Flow). run rest (AtParts txs edges parts (record { rate = last.rate; ids = last.ids; flows = zs })))
+    (append_assoc last.flows (flow ∷ []) flows)
 
 -- a part after transactions and edges, and after another part
-run_first : (txs : Txs) (edges : Edges) (part : Part) (rest : List Row) → run (part_rows part ++ rest) (AtGraph txs edges) ≡ run rest (AtParts txs edges [] part)
+run_first : (txs : Txs) (edges : Edges) (part : Part) (rest : List Row)
+    → run (part_rows part ++ rest) (AtGraph txs edges) ≡ run rest (AtParts txs edges [] part)
 run_first txs edges part rest = run_flows txs edges [] (record { rate = part.rate; ids = part.ids; flows = [] }) part.flows rest
 
 run_next : (txs : Txs) (edges : Edges) (parts : List Part) (last part : Part) (rest : List Row)
@@ -94,7 +96,8 @@ run_next : (txs : Txs) (edges : Edges) (parts : List Part) (last part : Part) (r
 run_next txs edges parts last part rest = run_flows txs edges (parts ++ last ∷ []) (record { rate = part.rate; ids = part.ids; flows = [] }) part.flows rest
 
 run_to_end : (txs : Txs) (edges : Edges) (parts : List Part) (last : Part) (more : List Part)
-    → run (flat_map part_rows more ++ rows.End ∷ []) (AtParts txs edges parts last) ≡ Some (AtEnd (record { txs = txs; edges = edges; parts = parts ++ last ∷ more }))
+    → run (flat_map part_rows more ++ rows.End ∷ []) (AtParts txs edges parts last)
+    ≡ Some (AtEnd (record { txs = txs; edges = edges; parts = parts ++ last ∷ more }))
 run_to_end txs edges parts last [] = refl
 run_to_end txs edges parts last (part ∷ more) =
     ap (λ (xs : List Row). run xs (AtParts txs edges parts last)) (append_assoc (part_rows part) (flat_map part_rows more) (rows.End ∷ []))
@@ -141,7 +144,8 @@ pub put_refuses : (stage : Stage) (row : Row) → put stage row ≡ None → (te
 put_refuses stage row none text more is =
     let gone : run (row ∷ more) stage ≡ None = ap (λ (o : Option Stage). then_put o (λ next. run more next)) none in
     let e : Some (AtEnd text) ≡ None =
-    sym (run_rows (AtEnd text)) ∙ ap (λ (xs : List Row). run xs (AtGraph [] [])) is ∙ run_append (rows_at stage) (row ∷ more) (AtGraph [] []) stage (run_rows stage) ∙ gone in
+    sym (run_rows (AtEnd text)) ∙ ap (λ (xs : List Row). run xs (AtGraph [] [])) is
+    ∙ run_append (rows_at stage) (row ∷ more) (AtGraph [] []) stage (run_rows stage) ∙ gone in
     cc
 
 -- a transaction after edges leads nowhere
@@ -151,7 +155,8 @@ tx_after_edges txs (edge ∷ edges) tx some = refl
 
 -- after a chunk a line of the graph leads nowhere
 pub part_refuses : (txs : Txs) (edges : Edges) (parts : List Part) (last : Part) (row : Row)
-    → ((id : ℕ) × (fee : ℤ) × (size : ℕ) × (row ≡ rows.Tx id fee size)) ⊎ ((parent : ℕ) × (child : ℕ) × (row ≡ rows.Edge parent child)) → put (AtParts txs edges parts last) row ≡ None
+    → ((id : ℕ) × (fee : ℤ) × (size : ℕ) × (row ≡ rows.Tx id fee size)) ⊎ ((parent : ℕ) × (child : ℕ) × (row ≡ rows.Edge parent child))
+    → put (AtParts txs edges parts last) row ≡ None
 part_refuses txs edges parts last row (inl tx) = ap (put (AtParts txs edges parts last)) tx.3
 part_refuses txs edges parts last row (inr edge) = ap (put (AtParts txs edges parts last)) edge.2
 
@@ -173,7 +178,8 @@ pub flow_rows : (txs : Txs) (edges : Edges) (parts : List Part) (last more : Par
 flow_rows txs edges parts last more flow old one same =
     let ahead = flat_map part_rows parts in
     ap (λ (part : Part). rows_at (AtParts txs edges parts part)) one
-    ∙ ap (λ (xs : List Row). map tx_row txs ++ (map edge_row edges ++ (ahead ++ rows.Chunk last.rate last.ids ∷ xs))) (map-append (λ (f : Flow). rows.Flow f) last.flows (flow ∷ []))
+    ∙ ap (λ (xs : List Row). map tx_row txs ++ (map edge_row edges ++ (ahead ++ rows.Chunk last.rate last.ids ∷ xs)))
+    (map-append (λ (f : Flow). rows.Flow f) last.flows (flow ∷ []))
     ∙ ap (λ (xs : List Row). map tx_row txs ++ (map edge_row edges ++ xs)) (sym (append_assoc ahead (part_rows last) (rows.Flow flow ∷ [])))
     ∙ spread (map tx_row txs) (map edge_row edges) (ahead ++ part_rows last) (rows.Flow flow ∷ [])
     ∙ ap (λ (r : Row). rows_at (AtParts txs edges parts last) ++ r ∷ []) (sym same)

@@ -44,18 +44,22 @@ part_typed part types =
 parts_typed : (parts : List Part) → All HasPartTypes parts → All HasRowTypes (flat_map part_rows parts)
 parts_typed [] types = All-nil HasRowTypes
 parts_typed (part ∷ parts) types =
-    All-append HasRowTypes (part_rows part) (flat_map part_rows parts) (part_typed part (All-head HasPartTypes part parts types)) (parts_typed parts (All-tail HasPartTypes part parts types))
+    All-append HasRowTypes (part_rows part) (flat_map part_rows parts)
+    (part_typed part (All-head HasPartTypes part parts types)) (parts_typed parts (All-tail HasPartTypes part parts types))
 
 pub rows_typed : (text : Text) → HasTextTypes text → All HasRowTypes (rows_of text)
 rows_typed text types =
-    All-append HasRowTypes (map tx_row text.txs) (map edge_row text.edges ++ (flat_map part_rows text.parts ++ rows.End ∷ [])) (All-map HasRowTypes tx_row text.txs types.txs)
+    All-append HasRowTypes (map tx_row text.txs) (map edge_row text.edges ++ (flat_map part_rows text.parts ++ rows.End ∷ []))
+    (All-map HasRowTypes tx_row text.txs types.txs)
     (All-append HasRowTypes (map edge_row text.edges) (flat_map part_rows text.parts ++ rows.End ∷ []) (All-map HasRowTypes edge_row text.edges types.edges)
-    (All-append HasRowTypes (flat_map part_rows text.parts) (rows.End ∷ []) (parts_typed text.parts types.parts) (All-cons HasRowTypes rows.End [] tt (All-nil HasRowTypes))))
+    (All-append HasRowTypes (flat_map part_rows text.parts) (rows.End ∷ [])
+    (parts_typed text.parts types.parts) (All-cons HasRowTypes rows.End [] tt (All-nil HasRowTypes))))
 
 typed_part : (part : Part) → All HasRowTypes (part_rows part) → HasPartTypes part
 typed_part part typed =
     let chunk = All-head HasRowTypes (rows.Chunk part.rate part.ids) (map (λ flow. rows.Flow flow) part.flows) typed in
-    let flows = All_of_map HasRowTypes (λ flow. rows.Flow flow) part.flows (All-tail HasRowTypes (rows.Chunk part.rate part.ids) (map (λ flow. rows.Flow flow) part.flows) typed) in
+    let flows = All_of_map HasRowTypes (λ flow. rows.Flow flow) part.flows
+    (All-tail HasRowTypes (rows.Chunk part.rate part.ids) (map (λ flow. rows.Flow flow) part.flows) typed) in
     record {
       fee = chunk.0;
       size = chunk.1;
@@ -68,20 +72,24 @@ typed_part part typed =
 typed_parts : (parts : List Part) → All HasRowTypes (flat_map part_rows parts) → All HasPartTypes parts
 typed_parts [] typed = All-nil HasPartTypes
 typed_parts (part ∷ parts) typed =
-    All-cons HasPartTypes part parts (typed_part part (All-front HasRowTypes (part_rows part) (flat_map part_rows parts) typed)) (typed_parts parts (All-back HasRowTypes (part_rows part) (flat_map part_rows parts) typed))
+    All-cons HasPartTypes part parts (typed_part part (All-front HasRowTypes (part_rows part) (flat_map part_rows parts) typed))
+    (typed_parts parts (All-back HasRowTypes (part_rows part) (flat_map part_rows parts) typed))
 
 pub typed_text : (text : Text) → All HasRowTypes (rows_of text) → HasTextTypes text
 typed_text text typed =
     let behind = All-back HasRowTypes (map tx_row text.txs) (map edge_row text.edges ++ (flat_map part_rows text.parts ++ rows.End ∷ [])) typed in
     let parts = All-back HasRowTypes (map edge_row text.edges) (flat_map part_rows text.parts ++ rows.End ∷ []) behind in
     record {
-      txs = All_of_map HasRowTypes tx_row text.txs (All-front HasRowTypes (map tx_row text.txs) (map edge_row text.edges ++ (flat_map part_rows text.parts ++ rows.End ∷ [])) typed);
-      edges = All_of_map HasRowTypes edge_row text.edges (All-front HasRowTypes (map edge_row text.edges) (flat_map part_rows text.parts ++ rows.End ∷ []) behind);
+      txs = All_of_map HasRowTypes tx_row text.txs
+          (All-front HasRowTypes (map tx_row text.txs) (map edge_row text.edges ++ (flat_map part_rows text.parts ++ rows.End ∷ [])) typed);
+      edges =
+          All_of_map HasRowTypes edge_row text.edges (All-front HasRowTypes (map edge_row text.edges) (flat_map part_rows text.parts ++ rows.End ∷ []) behind);
       parts = typed_parts text.parts (All-front HasRowTypes (flat_map part_rows text.parts) (rows.End ∷ []) parts);
     }
 
 -- lines that begin as others do go on from them
-rows_begin : (xs ys : List Row) (rest : List (List ℕ)) → All HasRowTypes xs → All HasRowTypes ys → map row_line xs ≡ map row_line ys ++ rest → (more : List Row) × (xs ≡ ys ++ more) × (rest ≡ map row_line more)
+rows_begin : (xs ys : List Row) (rest : List (List ℕ)) → All HasRowTypes xs → All HasRowTypes ys
+    → map row_line xs ≡ map row_line ys ++ rest → (more : List Row) × (xs ≡ ys ++ more) × (rest ≡ map row_line more)
 rows_begin xs [] rest one other is = (xs, refl, sym is)
 rows_begin [] (y ∷ ys) rest one other is = absurd (let e : [] ≡ row_line y ∷ (map row_line ys ++ rest) = is in cc)
 rows_begin (x ∷ xs) (y ∷ ys) rest one other is =
@@ -111,17 +119,20 @@ text_same lines a b one other =
 
 -- a line as text that was read, and one that is none
 
-pub text_takes : (old : List Row) (line : List ℕ) (row : Row) (result : Result Draft TextFault) → All HasRowTypes old → HasRowTypes row × (line ≡ row_line row) → Continues old row result → TakesText old line result
+pub text_takes : (old : List Row) (line : List ℕ) (row : Row) (result : Result Draft TextFault) → All HasRowTypes old
+    → HasRowTypes row × (line ≡ row_line row) → Continues old row result → TakesText old line result
 text_takes old line row (Ok draft) typed read more = (row, read.0, read.1, more)
 text_takes old line row (Err faults.Syntax) typed read none = λ text more types spelled.
     let lines_are : map row_line (rows_of text) ≡ map row_line (old ++ row ∷ []) ++ more =
     sym (rows_text text) ∙ spelled ∙ ap (λ (x : List ℕ). map row_line old ++ x ∷ more) read.1 ∙ sym (append_assoc (map row_line old) (row_line row ∷ []) more)
     ∙ ap (λ (xs : List (List ℕ)). xs ++ more) (sym (map-append row_line old (row ∷ []))) in
-    let go = rows_begin (rows_of text) (old ++ row ∷ []) more (rows_typed text types) (All-append HasRowTypes old (row ∷ []) typed (All-cons HasRowTypes row [] read.0 (All-nil HasRowTypes))) lines_are in
+    let go = rows_begin (rows_of text) (old ++ row ∷ []) more (rows_typed text types)
+    (All-append HasRowTypes old (row ∷ []) typed (All-cons HasRowTypes row [] read.0 (All-nil HasRowTypes))) lines_are in
     none text go.0 (go.1 ∙ append_assoc old (row ∷ []) go.0)
 text_takes old line row (Err faults.Memory) typed read none = tt
 
-pub text_unread : (old : List Row) (line : List ℕ) (fault : TextFault) → All HasRowTypes old → Gives row_line HasRowTypes line (Err fault) → TakesText old line (Err fault)
+pub text_unread : (old : List Row) (line : List ℕ) (fault : TextFault) → All HasRowTypes old
+    → Gives row_line HasRowTypes line (Err fault) → TakesText old line (Err fault)
 text_unread old line faults.Syntax typed none = λ text more types spelled.
     let go = rows_begin (rows_of text) old (line ∷ more) (rows_typed text types) typed (sym (rows_text text) ∙ spelled) in
     first go.0 (All-back HasRowTypes old go.0 (subst (All HasRowTypes) go.1 (rows_typed text types))) more go.2
@@ -137,4 +148,5 @@ text_unread old line faults.Memory typed none = tt
 -- what a line tells
 
 pub told_append : (xs ys : List (List ℕ)) → told (xs ++ ys) ≡ told xs ++ told ys
-told_append xs ys = ap (filter (λ line. not (is_quiet line))) (map-append without_return xs ys) ∙ filter-append (λ line. not (is_quiet line)) (map without_return xs) (map without_return ys)
+told_append xs ys = ap (filter (λ line. not (is_quiet line))) (map-append without_return xs ys)
+    ∙ filter-append (λ line. not (is_quiet line)) (map without_return xs) (map without_return ys)

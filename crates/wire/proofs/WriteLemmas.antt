@@ -11,30 +11,37 @@ use Rattle.graph_model.specs.Replies.{refusal_words}
 use Rattle.graph_model.specs.declared.names.Refusal.{Refusal}
 use Rattle.graph_model.specs.declared.names.Refusal.TheVariants.{Late, Range, Fee, Size, Taken, ClusterSize, Full, Unknown, Cycle, Count, Staging, Twice, Parent, Empty, NoStaging, Memory}
 
-after_ok : {T E : Type 0} (a b c : Option (List ℕ)) (p q s : ℕ) (done : T) (result : Result T E) (first second : List ℕ) → Appends a b first → q ≡ p → Writes b c q s result second → Writes a c p s result (first ++ second)
-after_ok a b c p q s done (Ok value) first second was same more = record { ok = Appends-trans a b c first second was more.ok; err = tt; cause = record { ok = more.cause.ok ∙ same; failed = tt } }
+after_ok : {T E : Type 0} (a b c : Option (List ℕ)) (p q s : ℕ) (done : T) (result : Result T E) (first second : List ℕ)
+    → Appends a b first → q ≡ p → Writes b c q s result second → Writes a c p s result (first ++ second)
+after_ok a b c p q s done (Ok value) first second was same more =
+    record { ok = Appends-trans a b c first second was more.ok; err = tt; cause = record { ok = more.cause.ok ∙ same; failed = tt } }
 after_ok a b c p q s done (Err error) first second was same more =
     record { ok = tt; err = AppendsFront-after a b c first second was more.err; cause = record { ok = tt; failed = more.cause.failed ∙ ap one_more same } }
 
-stopped : {T E : Type 0} (a b c : Option (List ℕ)) (p q s : ℕ) (error : E) (result : Result T E) (first second : List ℕ) → Writes {T = T} a b p q (Err error) first → GoesOn {T = T} (Err error) b c q s result second → Writes a c p s result (first ++ second)
+stopped : {T E : Type 0} (a b c : Option (List ℕ)) (p q s : ℕ) (error : E) (result : Result T E) (first second : List ℕ)
+    → Writes {T = T} a b p q (Err error) first → GoesOn {T = T} (Err error) b c q s result second → Writes a c p s result (first ++ second)
 stopped a b c p q s error result first second was more =
     rw (more.0, more.1, more.2) (record { ok = tt; err = AppendsFront-longer a b first second was.err; cause = record { ok = tt; failed = was.cause.failed } })
 
-on : {T E : Type 0} (a b c : Option (List ℕ)) (p q s : ℕ) (so_far result : Result T E) (first second : List ℕ) → Writes a b p q so_far first → GoesOn so_far b c q s result second → Writes a c p s result (first ++ second)
+on : {T E : Type 0} (a b c : Option (List ℕ)) (p q s : ℕ) (so_far result : Result T E) (first second : List ℕ)
+    → Writes a b p q so_far first → GoesOn so_far b c q s result second → Writes a c p s result (first ++ second)
 on a b c p q s (Ok done) result first second was more = after_ok a b c p q s done result first second was.ok was.cause.ok more
 on a b c p q s (Err error) result first second was more = stopped a b c p q s error result first second was more
 
-further : {T E : Type 0} (a b c : Option (List ℕ)) (p q s : ℕ) (start so_far result : Result T E) (first second : List ℕ) → GoesOn start a b p q so_far first → GoesOn so_far b c q s result second → GoesOn start a c p s result (first ++ second)
+further : {T E : Type 0} (a b c : Option (List ℕ)) (p q s : ℕ) (start so_far result : Result T E) (first second : List ℕ)
+    → GoesOn start a b p q so_far first → GoesOn so_far b c q s result second → GoesOn start a c p s result (first ++ second)
 further a b c p q s (Ok done) so_far result first second was more = on a b c p q s so_far result first second was more
 further a b c p q s (Err error) (Ok done) result first second was more = let e = was.0 in cc
 further a b c p q s (Err error) (Err other) result first second was more = (more.0 ∙ was.0, more.1 ∙ was.1, more.2 ∙ was.2)
 
 -- a piece was written, and the next where all so far was
-pub writes_on : {T E : Type 0} (a b c : Option (List ℕ)) (p q s : ℕ) (so_far result : Result T E) (first second text : List ℕ) → Writes a b p q so_far first → GoesOn so_far b c q s result second → text ≡ first ++ second → Writes a c p s result text
+pub writes_on : {T E : Type 0} (a b c : Option (List ℕ)) (p q s : ℕ) (so_far result : Result T E) (first second text : List ℕ)
+    → Writes a b p q so_far first → GoesOn so_far b c q s result second → text ≡ first ++ second → Writes a c p s result text
 writes_on a b c p q s so_far result first second text was more is = rw is (on a b c p q s so_far result first second was more)
 
 -- the same for a later piece
-pub goes_further : {T E : Type 0} (a b c : Option (List ℕ)) (p q s : ℕ) (start so_far result : Result T E) (first second text : List ℕ) → GoesOn start a b p q so_far first → GoesOn so_far b c q s result second → text ≡ first ++ second → GoesOn start a c p s result text
+pub goes_further : {T E : Type 0} (a b c : Option (List ℕ)) (p q s : ℕ) (start so_far result : Result T E) (first second text : List ℕ)
+    → GoesOn start a b p q so_far first → GoesOn so_far b c q s result second → text ≡ first ++ second → GoesOn start a c p s result text
 goes_further a b c p q s start so_far result first second text was more is = rw is (further a b c p q s start so_far result first second was more)
 
 -- a refusal's words come after the word `refused` and a space
@@ -63,4 +70,5 @@ spaced_words head (word ∷ words) = ap (λ (xs : List ℕ). head ++ 32 ∷ xs) 
 
 pub words_text-append : (words more : List (List ℕ)) → words_text (words ++ more) ≡ words_text words ++ words_text more
 words_text-append [] more = refl
-words_text-append (word ∷ words) more = ap (λ (xs : List ℕ). (32 ∷ word) ++ xs) (words_text-append words more) ∙ sym (append_assoc (32 ∷ word) (words_text words) (words_text more))
+words_text-append (word ∷ words) more = ap (λ (xs : List ℕ). (32 ∷ word) ++ xs) (words_text-append words more)
+    ∙ sym (append_assoc (32 ∷ word) (words_text words) (words_text more))

@@ -6,7 +6,9 @@ use Rattle.wire.specs.Fields.{IsWide, pair_spelling, BothFit}
 use Rattle.wire.proofs.line.id_fee_size.Goals as goal
 
 pub returns-in-Some : goal.returns-in-Some
-returns-in-Some c = pair_reads decimal (pair_spelling signed_decimal decimal) IsWide (BothFit (FitsSigned w64) IsWide) decimal_word c.args.text.now c.in-Some.id.now c.in-Some.rest.now c.in-Some.ensures.found.0 c.in-Some.ensures.found.1 c.number.result c.fee_size.result c.zip.result c.number.ensures c.fee_size.ensures c.zip.ensures
+returns-in-Some c = pair_reads decimal (pair_spelling signed_decimal decimal) IsWide
+    (BothFit (FitsSigned w64) IsWide) decimal_word c.args.text.now c.in-Some.id.now c.in-Some.rest.now c.in-Some.ensures.found.0
+    c.in-Some.ensures.found.1 c.number.result c.fee_size.result c.zip.result c.number.ensures c.fee_size.ensures c.zip.ensures
 
 pub returns-in-None : goal.returns-in-None
 returns-in-None c = pair_unread decimal (pair_spelling signed_decimal decimal) IsWide (BothFit (FitsSigned w64) IsWide) c.args.text.now c.in-None.ensures.none

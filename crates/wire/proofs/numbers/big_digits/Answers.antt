@@ -7,5 +7,6 @@ pub returns-in-None : goal.returns-in-None
 returns-in-None c digits small =
     let at = c.loop-byte.byte-index in
     let next = 10 * c.loop-byte.value + (get_or c.args.bytes.now at 0 - 48) in
-    let is : read_on 0 c.args.bytes.now ≡ read_on next (drop (suc at) c.args.bytes.now) = c.loop-byte.invariant.value ∙ ap (read_on c.loop-byte.value) (drop-cons c.args.bytes.now at 0 c.loop-byte-test.true) in
+    let is : read_on 0 c.args.bytes.now ≡ read_on next (drop (suc at) c.args.bytes.now) =
+    c.loop-byte.invariant.value ∙ ap (read_on c.loop-byte.value) (drop-cons c.args.bytes.now at 0 c.loop-byte-test.true) in
     c.in-None.ensures (omega (arith, is, read_on-le next (drop (suc at) c.args.bytes.now)))

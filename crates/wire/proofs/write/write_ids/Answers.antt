@@ -9,5 +9,7 @@ returns g c =
     let sums = sum_words c.args.sums in
     let ids = map decimal c.args.ids.now in
     let both = goes_further _ _ _ _ _ _ _ _ _ _ _ _ c.more_sums-so_far.ensures c.more_numbers-so_far.ensures refl in
-    let text : spaced (c.args.head.now ∷ (sums ++ ids)) ≡ c.as_bytes.result.now ++ (words_text sums ++ words_text ids) = rw c.as_bytes.ensures.value (spaced_words c.args.head.now (sums ++ ids) ∙ ap (λ (xs : List ℕ). c.args.head.now ++ xs) (words_text-append sums ids)) in
-    writes_on _ _ _ _ _ _ _ _ _ _ _ (writes_on _ _ _ _ _ _ _ _ _ _ _ c.write_all-so_far.ensures both refl) c.more.ensures (ap (λ (xs : List ℕ). xs ++ 10 ∷ []) text)
+    let text : spaced (c.args.head.now ∷ (sums ++ ids)) ≡ c.as_bytes.result.now ++ (words_text sums ++ words_text ids) =
+    rw c.as_bytes.ensures.value (spaced_words c.args.head.now (sums ++ ids) ∙ ap (λ (xs : List ℕ). c.args.head.now ++ xs) (words_text-append sums ids)) in
+    writes_on _ _ _ _ _ _ _ _ _ _ _ (writes_on _ _ _ _ _ _ _ _ _ _ _ c.write_all-so_far.ensures both refl) c.more.ensures
+    (ap (λ (xs : List ℕ). xs ++ 10 ∷ []) text)

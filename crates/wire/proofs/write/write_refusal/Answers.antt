@@ -8,6 +8,8 @@ use Rattle.wire.proofs.write.write_refusal.Goals as goal
 pub returns : goal.returns
 returns g c =
     let why = c.args.refusal.now in
-    let word : c.as_bytes.result.now ++ number_after c.kept_number.result ≡ spaced (refusal_words why) = rw c.as_bytes.ensures.value (sym (c.refusal_word.ensures c.kept_number.result c.kept_number.ensures)) in
+    let word : c.as_bytes.result.now ++ number_after c.kept_number.result ≡ spaced (refusal_words why) =
+    rw c.as_bytes.ensures.value (sym (c.refusal_word.ensures c.kept_number.result c.kept_number.ensures)) in
     let both = goes_further _ _ _ _ _ _ _ _ _ _ _ (spaced (refusal_words why)) c.more-so_far.ensures c.more_kept-so_far.ensures (sym word) in
-    writes_on _ _ _ _ _ _ _ _ _ _ _ (writes_on _ _ _ _ _ _ _ _ _ _ _ c.write_all-so_far.ensures both refl) c.more.ensures (ap (λ (xs : List ℕ). xs ++ 10 ∷ []) (refusal_line why))
+    writes_on _ _ _ _ _ _ _ _ _ _ _ (writes_on _ _ _ _ _ _ _ _ _ _ _ c.write_all-so_far.ensures both refl) c.more.ensures
+    (ap (λ (xs : List ℕ). xs ++ 10 ∷ []) (refusal_line why))

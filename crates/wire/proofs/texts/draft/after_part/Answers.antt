@@ -18,13 +18,15 @@ pub returns-in-Ok-with_flow : goal.returns-in-Ok-with_flow
 returns-in-Ok-with_flow c =
     let graph = c.args.graph in
     let last = c.in-Ok-with_flow.last in
-    flow_rows graph.txs graph.edges (map part_of c.args.parts.items) (open_part c.args.last) (open_part last) c.in-Flow.flow c.args.row c.in-Ok-with_flow.ensures c.in-Flow.is
+    flow_rows graph.txs graph.edges (map part_of c.args.parts.items) (open_part c.args.last)
+    (open_part last) c.in-Flow.flow c.args.row c.in-Ok-with_flow.ensures c.in-Flow.is
 
 pub returns-in-Ok-with_part : goal.returns-in-Ok-with_part
 returns-in-Ok-with_part c =
     let graph = c.args.graph in
     let parts = map part_of c.in-Ok-with_part.parts.items in
-    c.ended.ensures ∙ next_rows graph.txs graph.edges (map part_of c.args.parts.items) parts (open_part c.args.last) c.args.row rows.End c.in-Ok-with_part.ensures c.in-End.is
+    c.ended.ensures ∙ next_rows graph.txs graph.edges (map part_of c.args.parts.items) parts
+    (open_part c.args.last) c.args.row rows.End c.in-Ok-with_part.ensures c.in-End.is
 
 pub returns-in-Tx : goal.returns-in-Tx
 returns-in-Tx c =

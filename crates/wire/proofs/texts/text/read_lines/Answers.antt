@@ -10,7 +10,8 @@ returns-in_err-draft c =
     let old = written c.loop-line.draft in
     let line = c.in-Some.line.now in
     let more = c.in-Some.more.now in
-    let read = subst (λ (left : List (List ℕ)). IsRead all left old) (lines_first c.loop-line.rest.now line more c.in-Some.ensures.found.0 c.in-Some.ensures.found.1) c.loop-line.invariant in
+    let read = subst (λ (left : List (List ℕ)). IsRead all left old)
+    (lines_first c.loop-line.rest.now line more c.in-Some.ensures.found.0 c.in-Some.ensures.found.1) c.loop-line.invariant in
     let p = err_from_is_err_and c.from_residual.result c.from_residual.ensures.1 in
     rw (p.1, p.2) (line_fault all (lines_of more) line old c.in_err-draft.field-0.0 read c.in_err-draft.ensures)
 
@@ -20,7 +21,8 @@ loop-line-preserved c =
     let old = written c.loop-line.draft in
     let line = c.in-Some.line.now in
     let more = c.in-Some.more.now in
-    let read = subst (λ (left : List (List ℕ)). IsRead all left old) (lines_first c.loop-line.rest.now line more c.in-Some.ensures.found.0 c.in-Some.ensures.found.1) c.loop-line.invariant in
+    let read = subst (λ (left : List (List ℕ)). IsRead all left old)
+    (lines_first c.loop-line.rest.now line more c.in-Some.ensures.found.0 c.in-Some.ensures.found.1) c.loop-line.invariant in
     one_more all (lines_of more) line old c.in_ok-draft.draft read c.in_ok-draft.ensures
 
 pub returns-in_err-take_line : goal.returns-in_err-take_line

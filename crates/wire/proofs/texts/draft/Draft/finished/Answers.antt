@@ -12,4 +12,5 @@ returns-in-Graph c = unfinished c.args.self (λ text is.
 pub returns-in-Parts : goal.returns-in-Parts
 returns-in-Parts c = unfinished c.args.self (λ text is.
     let graph = c.in-Parts.field-0 in
-    let e : AtParts graph.txs graph.edges (map part_of c.in-Parts.field-1.items) (open_part c.in-Parts.field-2) ≡ AtEnd text = sym (ap stage_of c.in-Parts.is) ∙ is in cc)
+    let e : AtParts graph.txs graph.edges (map part_of c.in-Parts.field-1.items) (open_part c.in-Parts.field-2) ≡ AtEnd text =
+    sym (ap stage_of c.in-Parts.is) ∙ is in cc)
