@@ -78,18 +78,22 @@ module _ {X : Type 0} where
   pub Filled-none : (slots : List (Option X)) (n : ℕ) → slots ≡ replicate n None → Filled slots [] n
   Filled-none slots n e = let all : n - 0 ≡ n = omega arith in Filled-of slots [] n (e ∙ ap (λ k. replicate k None) (sym all))
 
-  pub Filled-push : (slots : List (Option X)) (n : ℕ) (x : X) → slots ≡ filled (somes slots) n → length (somes slots) < n → Filled (set slots (length (somes slots)) (Some x)) (somes slots ++ x ∷ []) n
+  pub Filled-push : (slots : List (Option X)) (n : ℕ) (x : X) → slots ≡ filled (somes slots) n
+      → length (somes slots) < n → Filled (set slots (length (somes slots)) (Some x)) (somes slots ++ x ∷ []) n
   Filled-push slots n x laid room =
       let xs = somes slots in
       let k = n - length xs - 1 in
       let one : n - length xs ≡ suc k = omega arith in
       let rest : n - length (xs ++ x ∷ []) ≡ k = omega (arith, length_push xs x) in
-      Filled-of _ (xs ++ x ∷ []) n (ap (λ ps. set ps (length xs) (Some x)) (laid ∙ ap (places xs) one) ∙ set-places_end xs k x ∙ ap (places (xs ++ x ∷ [])) (sym rest))
+      Filled-of _ (xs ++ x ∷ []) n
+      (ap (λ ps. set ps (length xs) (Some x)) (laid ∙ ap (places xs) one) ∙ set-places_end xs k x ∙ ap (places (xs ++ x ∷ [])) (sym rest))
 
-  pub Filled-set : (slots : List (Option X)) (n i : ℕ) (x : X) → slots ≡ filled (somes slots) n → i < length (somes slots) → Filled (set slots i (Some x)) (set (somes slots) i x) n
+  pub Filled-set : (slots : List (Option X)) (n i : ℕ) (x : X) → slots ≡ filled (somes slots) n
+      → i < length (somes slots) → Filled (set slots i (Some x)) (set (somes slots) i x) n
   Filled-set slots n i x laid within =
       let xs = somes slots in
-      Filled-of _ (set xs i x) n (ap (λ ps. set ps i (Some x)) laid ∙ set-places xs (n - length xs) i x within ∙ ap (λ m. places (set xs i x) (n - m)) (sym (length-set_same xs i x)))
+      Filled-of _ (set xs i x) n
+      (ap (λ ps. set ps i (Some x)) laid ∙ set-places xs (n - length xs) i x within ∙ ap (λ m. places (set xs i x) (n - m)) (sym (length-set_same xs i x)))
 
   -- what a read out of the last filled place leaves
   pub record Emptied (slots new : List (Option X)) (n : ℕ) (x : X) : Type 0 where
@@ -97,7 +101,8 @@ module _ {X : Type 0} where
     pub items : somes slots ≡ rest ++ x ∷ []
     pub filled-rest : Filled new rest n
 
-  pub Emptied-pop : (slots : List (Option X)) (n i : ℕ) (x : X) → slots ≡ filled (somes slots) n → i + 1 ≡ length (somes slots) → length (somes slots) ≤ n → get_or slots i None ≡ Some x → Emptied slots (set slots i None) n x
+  pub Emptied-pop : (slots : List (Option X)) (n i : ℕ) (x : X) → slots ≡ filled (somes slots) n → i + 1 ≡ length (somes slots)
+      → length (somes slots) ≤ n → get_or slots i None ≡ Some x → Emptied slots (set slots i None) n x
   Emptied-pop slots n i x laid last within read =
       let xs = somes slots in
       let cut = cut_end xs (omega arith) in
@@ -112,5 +117,6 @@ module _ {X : Type 0} where
       record {
         rest = us;
         items = cut.2 ∙ ap (λ z. us ++ z ∷ []) same;
-        filled-rest = Filled-of _ us n (ap (λ ps. set ps i None) (laid ∙ ap (λ l. places l k) cut.2) ∙ ap (λ j. set (places (us ++ y ∷ []) k) j None) at ∙ set-places_none us k y ∙ ap (places us) left);
+        filled-rest = Filled-of _ us n (ap (λ ps. set ps i None) (laid ∙ ap (λ l. places l k) cut.2)
+            ∙ ap (λ j. set (places (us ++ y ∷ []) k) j None) at ∙ set-places_none us k y ∙ ap (places us) left);
       }

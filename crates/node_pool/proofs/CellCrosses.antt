@@ -39,7 +39,8 @@ module _ (R : RattleType) where
       owning_send O all (λ d. cells-Keyless s d.at d.slots) (λ k. quiet (to O) (exits_of k (fields O)) ((struct_send (shape O) all).leaving k))
 
   pub Cells-sync : IsSync R → IsSync (Cells.the_row R)
-  Cells-sync y = let O = Cells.the_type R in record { shared = λ d b o κ. ((struct_sync (shape O) (search sendable, tt)).shared (to O d) b o κ, cells_lent-Common y d.at d.slots κ) }
+  Cells-sync y = let O = Cells.the_type R in
+      record { shared = λ d b o κ. ((struct_sync (shape O) (search sendable, tt)).shared (to O d) b o κ, cells_lent-Common y d.at d.slots κ) }
 
   module _ (A : RattleType) (g : Ghosts A.Denot) where
     pub Deed-send : FreesAnywhere A.Denot g → IsSend (Deed.the_row R A g)

@@ -69,13 +69,15 @@ two_equal (suc n) f below =
         omega arith
     low none i within (inr other) = let bound = below i (omega arith) in omega arith
 
-    equal : ((i : ℕ) → i < suc n → f i ≡ f (suc n) → ⊥) → (i j : ℕ) → i < suc n → j < suc n → (d : (f i ≡ n) ⊎ (f i ≢ n)) (e : (f j ≡ n) ⊎ (f j ≢ n)) → pick i d ≡ pick j e → f i ≡ f j
+    equal : ((i : ℕ) → i < suc n → f i ≡ f (suc n) → ⊥) → (i j : ℕ) → i < suc n → j < suc n
+        → (d : (f i ≡ n) ⊎ (f i ≢ n)) (e : (f j ≡ n) ⊎ (f j ≢ n)) → pick i d ≡ pick j e → f i ≡ f j
     equal none i j wi wj (inl ti) (inl tj) same = ti ∙ sym tj
     equal none i j wi wj (inl ti) (inr oj) same = absurd (none j wj (sym same))
     equal none i j wi wj (inr oi) (inl tj) same = absurd (none i wi same)
     equal none i j wi wj (inr oi) (inr oj) same = same
 
-    lift : ((i : ℕ) → i < suc n → f i ≡ f (suc n) → ⊥) → (i : ℕ) × (j : ℕ) × (i < j) × (j ≤ n) × (pick i (cases_eq (f i) n) ≡ pick j (cases_eq (f j) n)) → (i : ℕ) × (j : ℕ) × (i < j) × (j ≤ suc n) × (f i ≡ f j)
+    lift : ((i : ℕ) → i < suc n → f i ≡ f (suc n) → ⊥) → (i : ℕ) × (j : ℕ) × (i < j) × (j ≤ n) × (pick i (cases_eq (f i) n) ≡ pick j (cases_eq (f j) n))
+        → (i : ℕ) × (j : ℕ) × (i < j) × (j ≤ suc n) × (f i ≡ f j)
     lift none hit =
         (hit.0, hit.1, hit.2, omega (arith, hit.3), equal none hit.0 hit.1 (omega (arith, hit.2, hit.3)) (omega (arith, hit.3)) (cases_eq (f hit.0) n) (cases_eq (f hit.1) n) hit.4)
 

@@ -20,7 +20,8 @@ module _ {N : Type 0} where
       ap suc (IsVacantList-count_unique es m n p.0 p.2 (subst (IsVacantList es n) same q.2))
 
   -- a write at a key that is not on the list keeps the list
-  pub IsVacantList-set : (es : List (Entry N)) (key : ℕ) (e : Entry N) (n from : ℕ) → ((m : ℕ) → m < n → IsVacantList es (suc m) key → ⊥) → IsVacantList es n from → IsVacantList (set es key e) n from
+  pub IsVacantList-set : (es : List (Entry N)) (key : ℕ) (e : Entry N) (n from : ℕ)
+      → ((m : ℕ) → m < n → IsVacantList es (suc m) key → ⊥) → IsVacantList es n from → IsVacantList (set es key e) n from
   IsVacantList-set es key e zero from off p = p ∙ sym (length-set es key e)
   IsVacantList-set es key e (suc n) from off p =
       let other : from ≢ key = λ same. off n (omega arith) (subst (IsVacantList es (suc n)) same p) in
@@ -35,7 +36,8 @@ module _ {N : Type 0} where
   held_is_off_list es key node found m p = let listed = p.1 in cc
 
   -- the count of values after a write
-  pub count-set : (es : List (Entry N)) (key : ℕ) (old new : Entry N) → slice_get es key ≡ Some old → count_by is_some (map node_of (set es key new)) + cond (is_some (node_of old)) 1 0 ≡ count_by is_some (map node_of es) + cond (is_some (node_of new)) 1 0
+  pub count-set : (es : List (Entry N)) (key : ℕ) (old new : Entry N) → slice_get es key ≡ Some old → count_by is_some (map node_of (set es key new))
+      + cond (is_some (node_of old)) 1 0 ≡ count_by is_some (map node_of es) + cond (is_some (node_of new)) 1 0
   count-set es key old new found =
       let within = slice_get_within es key old found in
       let read : get_or (map node_of es) key None ≡ node_of old =
@@ -55,10 +57,12 @@ module _ {N : Type 0} where
       by_entry (Held node) found some = (node, found)
 
   -- the next key is the end of full entries, or a vacant entry
-  pub next_cases : (es : List (Entry N)) (len next : ℕ) → IsSound es len next → ((next ≡ length es) × (len ≡ length es)) ⊎ ((after : ℕ) × (slice_get es next ≡ Some (Vacant after)))
+  pub next_cases : (es : List (Entry N)) (len next : ℕ) → IsSound es len next
+      → ((next ≡ length es) × (len ≡ length es)) ⊎ ((after : ℕ) × (slice_get es next ≡ Some (Vacant after)))
   next_cases es len next sound = by_count sound.vacant sound.total sound.linked
     where
-      by_count : (n : ℕ) → len + n ≡ length es → IsVacantList es n next → ((next ≡ length es) × (len ≡ length es)) ⊎ ((after : ℕ) × (slice_get es next ≡ Some (Vacant after)))
+      by_count : (n : ℕ) → len + n ≡ length es → IsVacantList es n next
+          → ((next ≡ length es) × (len ≡ length es)) ⊎ ((after : ℕ) × (slice_get es next ≡ Some (Vacant after)))
       by_count zero total linked = inl (linked, omega arith)
       by_count (suc n) total linked = inr (linked.0, linked.1)
 
@@ -72,7 +76,8 @@ module _ {N : Type 0} where
   next_is_vacant es len next sound =
       elim (next_cases es len next sound) [
         | inl full ↦ get_or_past (map node_of es) next None (omega (arith, length-map es node_of))
-        | inr found ↦ get_or-map node_of es next (Vacant 0) None (slice_get_within es next _ found.1) ∙ ap node_of (get_or_from_slice_get es next _ (Vacant 0) found.1)
+        | inr found ↦ get_or-map node_of es next (Vacant 0) None (slice_get_within es next _ found.1)
+            ∙ ap node_of (get_or_from_slice_get es next _ (Vacant 0) found.1)
       ]
 
   -- at the end of the entries the list is empty
@@ -84,7 +89,8 @@ module _ {N : Type 0} where
       ]
 
   -- before the end of the entries the next key is a vacant entry
-  pub vacant_before_end : (es : List (Entry N)) (len next : ℕ) → IsSound es len next → next ≢ length es → (after : ℕ) × (slice_get es next ≡ Some (Vacant after))
+  pub vacant_before_end : (es : List (Entry N)) (len next : ℕ) → IsSound es len next
+      → next ≢ length es → (after : ℕ) × (slice_get es next ≡ Some (Vacant after))
   vacant_before_end es len next sound before =
       elim (next_cases es len next sound) [ inl full ↦ absurd (before full.0) | inr found ↦ found ]
 
@@ -92,7 +98,8 @@ module _ {N : Type 0} where
   next_within es len next sound before = slice_get_within es next _ (vacant_before_end es len next sound before).1
 
   -- what a read at the next key gives is the entry there
-  pub read_at_next : (es : List (Entry N)) (len next : ℕ) (e : Entry N) → IsSound es len next → next ≢ length es → e ≡ get_or es next e → slice_get es next ≡ Some e
+  pub read_at_next : (es : List (Entry N)) (len next : ℕ) (e : Entry N) → IsSound es len next
+      → next ≢ length es → e ≡ get_or es next e → slice_get es next ≡ Some e
   read_at_next es len next e sound before read = slice_get_read es (length es) next e refl (next_within es len next sound before) read
 
   pub next_is_not_held : (es : List (Entry N)) (len next : ℕ) (node : N) → IsSound es len next → slice_get es next ≡ Some (Held node) → ⊥
@@ -100,7 +107,8 @@ module _ {N : Type 0} where
       let vacant = (vacant_before_end es len next sound (λ e. omega (arith, slice_get_within es next _ found))).1 in
       cc
 
-  pub IsSound-push : (es : List (Entry N)) (len next : ℕ) (node : N) → IsSound es len next → next ≡ length es → IsSound (es ++ Held node ∷ []) (len + 1) (next + 1)
+  pub IsSound-push : (es : List (Entry N)) (len next : ℕ) (node : N) → IsSound es len next
+      → next ≡ length es → IsSound (es ++ Held node ∷ []) (len + 1) (next + 1)
   IsSound-push es len next node sound at_end =
       let full = full_at_end es len next sound at_end in
       let longer = length_push es (Held node) in
@@ -112,7 +120,8 @@ module _ {N : Type 0} where
       }
 
   -- the first vacant entry leaves the list: the rest of the list is shorter, so it does not come back to that key
-  pub IsSound-fill : (es : List (Entry N)) (len next after : ℕ) (node : N) → IsSound es len next → slice_get es next ≡ Some (Vacant after) → IsSound (set es next (Held node)) (len + 1) after
+  pub IsSound-fill : (es : List (Entry N)) (len next after : ℕ) (node : N) → IsSound es len next
+      → slice_get es next ≡ Some (Vacant after) → IsSound (set es next (Held node)) (len + 1) after
   IsSound-fill es len next after node sound found = by_count sound.vacant sound.total sound.linked
     where
       by_count : (n : ℕ) → len + n ≡ length es → IsVacantList es n next → IsSound (set es next (Held node)) (len + 1) after
@@ -129,7 +138,8 @@ module _ {N : Type 0} where
             linked = IsVacantList-set es next (Held node) n after off (subst (IsVacantList es n) same linked.2);
           }
 
-  pub IsSound-vacate : (es : List (Entry N)) (len next key : ℕ) (node : N) → IsSound es len next → slice_get es key ≡ Some (Held node) → IsSound (set es key (Vacant next)) (len - 1) key
+  pub IsSound-vacate : (es : List (Entry N)) (len next key : ℕ) (node : N) → IsSound es len next
+      → slice_get es key ≡ Some (Held node) → IsSound (set es key (Vacant next)) (len - 1) key
   IsSound-vacate es len next key node sound found =
       let within = slice_get_within es key _ found in
       let count = count-set es key (Held node) (Vacant next) found in
@@ -143,7 +153,8 @@ module _ {N : Type 0} where
         linked = (next, written, IsVacantList-set es key (Vacant next) sound.vacant next (λ m _. held_is_off_list es key node found m) sound.linked);
       }
 
-  pub IsSound-rewrite : (es : List (Entry N)) (len next key : ℕ) (old new : N) → IsSound es len next → slice_get es key ≡ Some (Held old) → IsSound (set es key (Held new)) len next
+  pub IsSound-rewrite : (es : List (Entry N)) (len next key : ℕ) (old new : N) → IsSound es len next
+      → slice_get es key ≡ Some (Held old) → IsSound (set es key (Held new)) len next
   IsSound-rewrite es len next key old new sound found =
       record {
         counted = omega (arith, count-set es key (Held old) (Held new) found);

@@ -9,7 +9,8 @@ use Rattle.node_pool.proofs.BlockLemmas.{length-set_same}
 
 -- the next block has twice the room
 pub doubled : (k w : ℕ) → 2 ^ (k + 1) * w ≡ 2 ^ k * w + 2 ^ k * w
-doubled k w = let e : 2 ^ (k + 1) ≡ 2 ^ k + 2 ^ k = let more : k + 1 ≡ suc k = omega arith in ap (λ n. 2 ^ n) more ∙ pow-suc 2 k ∙ (omega arith) in ap (λ n. n * w) e ∙ add-mul (2 ^ k) (2 ^ k) w
+doubled k w = let e : 2 ^ (k + 1) ≡ 2 ^ k + 2 ^ k = let more : k + 1 ≡ suc k = omega arith in
+    ap (λ n. 2 ^ n) more ∙ pow-suc 2 k ∙ (omega arith) in ap (λ n. n * w) e ∙ add-mul (2 ^ k) (2 ^ k) w
 
 module _ {X : Type 0} where
   slice_get-left : (xs ys : List X) (i : ℕ) → i < length xs → slice_get (xs ++ ys) i ≡ slice_get xs i
@@ -63,7 +64,8 @@ module _ {S : Type 0} where
     pub bounded : length block.items ≤ block.capacity
     pub read : slice_get (flat bs) i ≡ slice_get block.items x
 
-  pub find : (k w full : ℕ) (bs : List (Chunk S)) → AreLaid k w full bs → (j x i : ℕ) → i + 2 ^ k * w ≡ 2 ^ (k + j) * w + x → x < 2 ^ (k + j) * w → i < length (flat bs) → Found bs j x i
+  pub find : (k w full : ℕ) (bs : List (Chunk S)) → AreLaid k w full bs → (j x i : ℕ)
+      → i + 2 ^ k * w ≡ 2 ^ (k + j) * w + x → x < 2 ^ (k + j) * w → i < length (flat bs) → Found bs j x i
   find k w full [] laid j x i place small within = absurd (omega arith)
   find k w zero (b ∷ bs) laid zero x i place small within =
       let e : k + 0 ≡ k = omega arith in
@@ -116,7 +118,8 @@ module _ {S : Type 0} where
       items-of a b e = ap count_or e
   empty-rewritten k w (c ∷ bs) empty (suc j) b x found inside = empty-rewritten (k + 1) w bs empty.2 j b x found inside
 
-  pub rewrite : (k w full : ℕ) (bs : List (Chunk S)) → AreLaid k w full bs → (j x i : ℕ) → i + 2 ^ k * w ≡ 2 ^ (k + j) * w + x → (b : Chunk S) → slice_get bs j ≡ Some b → x < length b.items → (y : S)
+  pub rewrite : (k w full : ℕ) (bs : List (Chunk S)) → AreLaid k w full bs → (j x i : ℕ)
+      → i + 2 ^ k * w ≡ 2 ^ (k + j) * w + x → (b : Chunk S) → slice_get bs j ≡ Some b → x < length b.items → (y : S)
       → Rewritten k w full bs (set bs j (chunk (set b.items x y) b.capacity)) i y
   rewrite k w full [] laid j x i place b found inside y = absurd (cc)
   rewrite k w zero (c ∷ bs) laid zero x i place b found inside y =
@@ -183,7 +186,8 @@ module _ {S : Type 0} where
     pub empty : block.items ≡ []
     pub capacity : block.capacity ≡ 2 ^ (k + suc full) * w
 
-  pub advance : (k w full : ℕ) (bs : List (Chunk S)) → AreLaid k w full bs → length (flat bs) + 2 ^ k * w < 2 ^ (k + length bs) * w → (b : Chunk S) → slice_get bs full ≡ Some b → length b.items ≡ b.capacity → Advanced k w full bs
+  pub advance : (k w full : ℕ) (bs : List (Chunk S)) → AreLaid k w full bs → length (flat bs) + 2 ^ k * w < 2 ^ (k + length bs) * w
+      → (b : Chunk S) → slice_get bs full ≡ Some b → length b.items ≡ b.capacity → Advanced k w full bs
   advance k w full [] laid room b found whole = absurd (cc)
   advance k w zero (c ∷ []) laid room b found whole =
       let one : c ≡ b = cc in
@@ -207,7 +211,8 @@ module _ {S : Type 0} where
     pub laid : AreLaid k w full new
     pub items : flat new ≡ flat bs ++ y ∷ []
 
-  pub push : (k w full : ℕ) (bs : List (Chunk S)) → AreLaid k w full bs → (b : Chunk S) → slice_get bs full ≡ Some b → length b.items < b.capacity → (y : S) → Pushed k w full bs (set bs full (chunk (b.items ++ y ∷ []) b.capacity)) y
+  pub push : (k w full : ℕ) (bs : List (Chunk S)) → AreLaid k w full bs → (b : Chunk S) → slice_get bs full ≡ Some b
+      → length b.items < b.capacity → (y : S) → Pushed k w full bs (set bs full (chunk (b.items ++ y ∷ []) b.capacity)) y
   push k w full [] laid b found room y = absurd (cc)
   push k w zero (c ∷ bs) laid b found room y =
       let one : c ≡ b = cc in
@@ -215,7 +220,8 @@ module _ {S : Type 0} where
       let none = flat-empty (k + 1) w bs laid.2 in
       subst (λ (d : Chunk S). Pushed k w zero (c ∷ bs) (chunk (d.items ++ y ∷ []) d.capacity ∷ bs) y) one (record {
         laid = (laid.0, omega (arith, length_push c.items y), laid.2);
-        items = ap (λ l. (c.items ++ y ∷ []) ++ l) none ∙ append-nil (c.items ++ y ∷ []) ∙ ap (λ l. l ++ y ∷ []) (sym (ap (λ l. c.items ++ l) none ∙ append-nil c.items));
+        items = ap (λ l. (c.items ++ y ∷ []) ++ l) none ∙ append-nil (c.items ++ y ∷ [])
+            ∙ ap (λ l. l ++ y ∷ []) (sym (ap (λ l. c.items ++ l) none ∙ append-nil c.items));
       })
   push k w (suc full) (c ∷ bs) laid b found room y =
       let later = push (k + 1) w full bs laid.2 b found room y in
@@ -231,7 +237,8 @@ module _ {S : Type 0} where
       (empty.0, empty.1, empty-more (k + 1) w bs empty.2 e (subst (λ n. IsSized n w e) same sized) none)
 
   -- an empty block more
-  pub more-laid : (k w full : ℕ) (bs : List (Chunk S)) → AreLaid k w full bs → (e : Chunk S) → IsSized (k + length bs) w e → e.items ≡ [] → AreLaid k w full (bs ++ e ∷ [])
+  pub more-laid : (k w full : ℕ) (bs : List (Chunk S)) → AreLaid k w full bs → (e : Chunk S)
+      → IsSized (k + length bs) w e → e.items ≡ [] → AreLaid k w full (bs ++ e ∷ [])
   more-laid k w zero [] laid e sized none =
       let same : k + 0 ≡ k = omega arith in let few = ap length none in (subst (λ n. IsSized n w e) same sized, omega arith, tt)
   more-laid k w (suc full) [] laid e sized none = absurd laid

@@ -29,10 +29,14 @@ pub Connects-of : (old : Links) (r from to : ℕ) → r < old.width
 Connects-of old r from to rw' first second =
     let mid : Links = with_link old r from (record { next = to; prev = prev_in old r from }) in
     let new : Links = with_link mid r to (record { next = next_in mid r to; prev = from }) in
-    let mid_from : link_of mid r from ≡ record { next = to; prev = prev_in old r from } = link_of-set_same old r from (record { next = to; prev = prev_in old r from }) first in
-    let new_to : link_of new r to ≡ record { next = next_in mid r to; prev = from } = link_of-set_same mid r to (record { next = next_in mid r to; prev = from }) second in
-    let mid_other : (q s : ℕ) → q < old.width → s ≢ from → link_of mid q s ≡ link_of old q s = λ q s qw d. link_of-set_slot old r from (record { next = to; prev = prev_in old r from }) first q s qw rw' d in
-    let new_other : (q s : ℕ) → q < old.width → s ≢ to → link_of new q s ≡ link_of mid q s = λ q s qw d. link_of-set_slot mid r to (record { next = next_in mid r to; prev = from }) second q s qw rw' d in
+    let mid_from : link_of mid r from ≡ record { next = to; prev = prev_in old r from } =
+    link_of-set_same old r from (record { next = to; prev = prev_in old r from }) first in
+    let new_to : link_of new r to ≡ record { next = next_in mid r to; prev = from } =
+    link_of-set_same mid r to (record { next = next_in mid r to; prev = from }) second in
+    let mid_other : (q s : ℕ) → q < old.width → s ≢ from → link_of mid q s ≡ link_of old q s =
+    λ q s qw d. link_of-set_slot old r from (record { next = to; prev = prev_in old r from }) first q s qw rw' d in
+    let new_other : (q s : ℕ) → q < old.width → s ≢ to → link_of new q s ≡ link_of mid q s =
+    λ q s qw d. link_of-set_slot mid r to (record { next = next_in mid r to; prev = from }) second q s qw rw' d in
     let to_next : next_in new r to ≡ next_in mid r to = ap (λ (k : Link). k.next) new_to in
     let mid_next : next_in mid r from ≡ to = ap (λ (k : Link). k.next) mid_from in
     let mid_prev : prev_in mid r from ≡ prev_in old r from = ap (λ (k : Link). k.prev) mid_from in
@@ -66,10 +70,12 @@ pub record IsGrown (width : ℕ) (old new : List Link) (slots : ℕ) : Type 0 wh
 pub IsGrown-start : (width : ℕ) (old : List Link) (slots : ℕ) → length old ≡ slots * width → IsGrown width old old slots
 IsGrown-start width old slots len = record { len = len; same = λ r s _. refl }
 
-pub IsGrown-push : (width : ℕ) (old new : List Link) (slots : ℕ) → length old ≤ slots * width → IsGrown width old new slots → IsGrown width old (new ++ replicate width (self_link slots)) (slots + 1)
+pub IsGrown-push : (width : ℕ) (old new : List Link) (slots : ℕ) → length old ≤ slots * width
+    → IsGrown width old new slots → IsGrown width old (new ++ replicate width (self_link slots)) (slots + 1)
 IsGrown-push width old new slots shorter grown =
     let fresh = replicate width (self_link slots) in
-    let len : length (new ++ fresh) ≡ slots * width + width = length-append new fresh ∙ ap (λ n. n + length fresh) grown.len ∙ ap (λ n. slots * width + n) (length-replicate width (self_link slots)) in
+    let len : length (new ++ fresh) ≡ slots * width + width =
+    length-append new fresh ∙ ap (λ n. n + length fresh) grown.len ∙ ap (λ n. slots * width + n) (length-replicate width (self_link slots)) in
     let more : (slots + 1) * width ≡ slots * width + width = search arith in
     record {
       len = len ∙ sym more;
@@ -85,7 +91,8 @@ IsGrown-push width old new slots shorter grown =
     past : (i : ℕ) (d : Link) → slots * width ≤ i → get_or old i d ≡ d
     past i d above = get_or_past old i d (omega arith)
 
-    by_place : (r s : ℕ) → r < width → ((leb (s + 1) slots ≡ true) × (s + 1 ≤ slots)) ⊎ ((leb (s + 1) slots ≡ false) × (slots < s + 1)) → get_or (new ++ fresh) (s * width + r) (self_link s) ≡ get_or old (s * width + r) (self_link s)
+    by_place : (r s : ℕ) → r < width → ((leb (s + 1) slots ≡ true) × (s + 1 ≤ slots)) ⊎ ((leb (s + 1) slots ≡ false) × (slots < s + 1))
+        → get_or (new ++ fresh) (s * width + r) (self_link s) ≡ get_or old (s * width + r) (self_link s)
     by_place r s in_row (inl below) =
         let row : (s + 1) * width ≡ s * width + width = search arith in
         let rows : (s + 1) * width ≤ slots * width = mul-le-mul_right width below.1 in
@@ -116,7 +123,8 @@ elsewhere-of_two old mid new r a b c d first second =
       other_rings = λ q s in_row apart. second.other_rings q s (subst (λ w. q < w) (sym first.width) in_row) apart ∙ first.other_rings q s in_row apart;
     }
 
-pub IsCut-of : (old mid new : Links) (r slot : ℕ) → Connects old mid r (prev_in old r slot) (next_in old r slot) → Connects mid new r slot slot → IsCut old new r slot
+pub IsCut-of : (old mid new : Links) (r slot : ℕ) → Connects old mid r (prev_in old r slot) (next_in old r slot)
+    → Connects mid new r slot slot → IsCut old new r slot
 IsCut-of old mid new r slot first second =
     record {
       elsewhere = elsewhere-of_two old mid new r (prev_in old r slot) (next_in old r slot) slot slot first second;
@@ -132,7 +140,8 @@ IsCut-of old mid new r slot first second =
       };
     }
 
-pub IsJoined-of : (old mid new : Links) (r a b : ℕ) → a ≢ b → next_in old r a ≢ next_in old r b → Connects old mid r a (next_in old r b) → Connects mid new r b (next_in old r a) → IsJoined old new r a b
+pub IsJoined-of : (old mid new : Links) (r a b : ℕ) → a ≢ b → next_in old r a ≢ next_in old r b
+    → Connects old mid r a (next_in old r b) → Connects mid new r b (next_in old r a) → IsJoined old new r a b
 IsJoined-of old mid new r a b apart after_apart first second =
     record {
       elsewhere = elsewhere-of_two old mid new r a (next_in old r b) b (next_in old r a) first second;
@@ -170,8 +179,10 @@ IsCutBelow-step old mid new slot k in_range so_far cut =
     let mid_next : next_in mid k ≡ next_in old k = λ j s. (so_far.rest k s in_range (omega arith) j).next in
     let mid_prev : prev_in mid k ≡ prev_in old k = λ j s. (so_far.rest k s in_range (omega arith) j).prev in
     let in_mid : (r : ℕ) → r < old.width → r < mid.width = λ r below. subst (λ w. r < w) (sym so_far.width) below in
-    let new_next : (r : ℕ) → r < k → next_in new r ≡ next_in mid r = λ r below j s. (cut.elsewhere.other_rings r s (in_mid r (omega arith)) (λ e. omega arith) j).next in
-    let new_prev : (r : ℕ) → r < k → prev_in new r ≡ prev_in mid r = λ r below j s. (cut.elsewhere.other_rings r s (in_mid r (omega arith)) (λ e. omega arith) j).prev in
+    let new_next : (r : ℕ) → r < k → next_in new r ≡ next_in mid r =
+    λ r below j s. (cut.elsewhere.other_rings r s (in_mid r (omega arith)) (λ e. omega arith) j).next in
+    let new_prev : (r : ℕ) → r < k → prev_in new r ≡ prev_in mid r =
+    λ r below j s. (cut.elsewhere.other_rings r s (in_mid r (omega arith)) (λ e. omega arith) j).prev in
     let here_next : Cuts (next_in old k) (next_in new k) (prev_in old k) slot =
     subst (λ (f : (ℕ → ℕ) × (ℕ → ℕ)). Cuts f.0 (next_in new k) f.1 slot) (λ j. (mid_next j, mid_prev j)) cut.next in
     let here_prev : Cuts (prev_in old k) (prev_in new k) (next_in old k) slot =

@@ -37,7 +37,8 @@ module _ {S : Type 0} (p : Inside S) (are : ArePlaces p) where
         | inr below ↦ below.1
       ]
 
-  pub found : (slot column j o : ℕ) → column < w → slot * w + column < length (flat bs) → slot + 1 ≡ 2 ^ j + o → o < 2 ^ j → Found bs j (o * w + column) (slot * w + column)
+  pub found : (slot column j o : ℕ) → column < w → slot * w + column < length (flat bs)
+      → slot + 1 ≡ 2 ^ j + o → o < 2 ^ j → Found bs j (o * w + column) (slot * w + column)
   found slot column j o in_row within place small =
       let zero_plus : 0 + j ≡ j = omega arith in
       let same : 2 ^ (0 + j) * w ≡ 2 ^ j * w = ap (λ n. 2 ^ n * w) zero_plus in
@@ -56,7 +57,8 @@ module _ {S : Type 0} (p : Inside S) (are : ArePlaces p) where
       subst (λ (c : ℕ × ℕ). Found bs j c.0 c.1) (λ i. (cell i, at i)) (found slot 0 j o (omega arith) (omega arith) place small)
 
   -- a block written in place keeps the row
-  pub ArePlaces-write : (j x i : ℕ) → i + w ≡ 2 ^ j * w + x → (b : Chunk S) → slice_get bs j ≡ Some b → x < length b.items → (y : S) → Rewritten 0 w p.full bs (set bs j (chunk (set b.items x y) b.capacity)) i y
+  pub ArePlaces-write : (j x i : ℕ) → i + w ≡ 2 ^ j * w + x → (b : Chunk S) → slice_get bs j ≡ Some b
+      → x < length b.items → (y : S) → Rewritten 0 w p.full bs (set bs j (chunk (set b.items x y) b.capacity)) i y
   ArePlaces-write j x i place b at inside y =
       let zero_plus : 0 + j ≡ j = omega arith in
       let same : 2 ^ (0 + j) * w ≡ 2 ^ j * w = ap (λ n. 2 ^ n * w) zero_plus in
@@ -88,14 +90,16 @@ module _ {S : Type 0} (p : Inside S) (are : ArePlaces p) where
   pub next_takes : length (flat bs) < p.room * w → TakesNext (next_open bs p.full)
   next_takes room =
       let here = first-open room in
-      subst (λ (o : Option (Chunk S)). TakesNext (cond (is_full_block o) (p.full + 1) p.full)) (sym here.at) (elim (eqb_tells (length here.block.items) here.block.capacity) [
+      subst (λ (o : Option (Chunk S)). TakesNext (cond (is_full_block o) (p.full + 1) p.full))
+      (sym here.at) (elim (eqb_tells (length here.block.items) here.block.capacity) [
         | inl whole ↦
             let later = advance 0 w p.full bs are.laid (total room) here.block here.at whole.1 in
             let next : suc p.full ≡ p.full + 1 = omega arith in
             let wide : 0 < w = positive room in
             let cells = mul-lt-mul_of_pos_right (pow_pos (0 + suc p.full)) wide in
             let none = ap length later.empty in
-            subst (λ b. TakesNext (cond b (p.full + 1) p.full)) (sym whole.0) (subst TakesNext next (record { laid = later.laid; block = later.block; at = later.at; room = omega (arith, later.capacity, cells) }))
+            subst (λ b. TakesNext (cond b (p.full + 1) p.full)) (sym whole.0)
+            (subst TakesNext next (record { laid = later.laid; block = later.block; at = later.at; room = omega (arith, later.capacity, cells) }))
         | inr spare ↦
             let differs = spare.1 in let most = here.bounded in
             subst (λ b. TakesNext (cond b (p.full + 1) p.full)) (sym spare.0) (record { laid = are.laid; block = here.block; at = here.at; room = omega arith })

@@ -39,7 +39,8 @@ module _ {T : Type 0} where
       by_cases (Some _) none = absurd (none refl)
 
   -- a node that came, or went, changes what its key has and no other
-  pub others_fresh : (s t : Slots (Node T)) (key : Key) (node : Node T) → node.number ≡ key.number → node_in s key.slot ≡ None → Updates s t key.slot (Some node)
+  pub others_fresh : (s t : Slots (Node T)) (key : Key) (node : Node T)
+      → node.number ≡ key.number → node_in s key.slot ≡ None → Updates s t key.slot (Some node)
       → (other : Key) → other ≢ key → numbered other.number (node_in t other.slot) ≡ numbered other.number (node_in s other.slot)
   others_fresh s t key node number vacant updates other differs =
       elim (cases_eq other.slot key.slot) [
@@ -75,7 +76,8 @@ module _ {T : Type 0} where
 
     pub prev-in_range : (r slot : ℕ) → r < R → IsHeld s slot → prev_in l r slot < l.slots
     prev-in_range r slot in_range held =
-        next-below (prev_in l r) (next_in l r) (λ t. let m = pool.mutual-rings r in_range t in (m.1, m.0)) l.slots slot (λ t past. still_back r t in_range past) (pool.covered slot held)
+        next-below (prev_in l r) (next_in l r) (λ t. let m = pool.mutual-rings r in_range t in (m.1, m.0)) l.slots slot
+        (λ t past. still_back r t in_range past) (pool.covered slot held)
 
     pub comes_round : (r slot : ℕ) → r < R → Reaches (next_in l r) (next_in l r slot) slot
     comes_round r slot in_range =
@@ -153,7 +155,8 @@ module _ {T : Type 0} where
           covered = λ t h. subst (λ n. t < n) (sym slots) (pool.covered t h);
           mutual-rings = λ q below. elim (cases_eq q r) [
             | inl same ↦ subst (λ w. IsMutual (next_in new w) (prev_in new w)) (sym same)
-                (mutual_spliced (next_in l r) (prev_in l r) (next_in new r) (prev_in new r) a b (pool.mutual-rings r in_range) distinct joined.next (spliced_back new r a b in_range joined))
+                (mutual_spliced (next_in l r) (prev_in l r) (next_in new r) (prev_in new r) a b
+                (pool.mutual-rings r in_range) distinct joined.next (spliced_back new r a b in_range joined))
             | inr apart ↦ elsewhere-mutual new r q joined.elsewhere below apart
           ];
           alone = λ q t below vacant. elim (cases_eq q r) [
@@ -168,7 +171,8 @@ module _ {T : Type 0} where
         }
 
     -- the rings that a contract sees after one was cut
-    pub parts_cut : (t : Slots (Node T)) (new : Links) (later r : ℕ) (key : Key) → r < R → Cuts (next_in l r) (next_in new r) (prev_in l r) key.slot → IsLive (nodes_of s l issued) key
+    pub parts_cut : (t : Slots (Node T)) (new : Links) (later r : ℕ) (key : Key) → r < R
+        → Cuts (next_in l r) (next_in new r) (prev_in l r) key.slot → IsLive (nodes_of s l issued) key
         → ((other : Key) → other ≢ key → value_at (nodes_of t new later) other ≡ value_at (nodes_of s l issued) other)
         → ((x : Key) → IsLive (nodes_of t new later) key → IsLive (nodes_of t new later) x → IsLive (nodes_of s l issued) x)
         → PartsFrom (nodes_of s l issued) (nodes_of t new later) r key
@@ -179,19 +183,22 @@ module _ {T : Type 0} where
         (subst (λ (f : (ℕ → ℕ) × (ℕ → ℕ)). Cuts f.0 f.1 (prev_in l r) key.slot) (λ j. (sym old_steps j, sym new_steps j)) cuts) live others before
 
     -- keys that share no ring have no steps between their slots
-    pub apart-steps : (r : ℕ) (a b : Key) → r < R → IsLive (nodes_of s l issued) a → IsLive (nodes_of s l issued) b → (SameRing (nodes_of s l issued) r a b → ⊥) → Reaches (next_in l r) a.slot b.slot → ⊥
+    pub apart-steps : (r : ℕ) (a b : Key) → r < R → IsLive (nodes_of s l issued) a → IsLive (nodes_of s l issued) b
+        → (SameRing (nodes_of s l issued) r a b → ⊥) → Reaches (next_in l r) a.slot b.slot → ⊥
     apart-steps r a b in_range live_a live_b apart steps =
         let same = sym (next_slot-of s l issued r) in
         let back : Reaches (next_in l r) b.slot a.slot = Reaches-sym (next_in l r) a.slot b.slot (comes_round r a.slot in_range) steps in
         apart (record { from = live_a; to = live_b; steps = subst (λ (f : ℕ → ℕ). Reaches f a.slot b.slot) same steps; back = subst (λ (f : ℕ → ℕ). Reaches f b.slot a.slot) same back })
 
     -- the rings that a contract sees after two were joined
-    pub unites_join : (new : Links) (r : ℕ) (a b : Key) → r < R → Splices (next_in l r) (next_in new r) a.slot b.slot → IsLive (nodes_of s l issued) a → IsLive (nodes_of s l issued) b
+    pub unites_join : (new : Links) (r : ℕ) (a b : Key) → r < R → Splices (next_in l r) (next_in new r) a.slot b.slot
+        → IsLive (nodes_of s l issued) a → IsLive (nodes_of s l issued) b
         → (SameRing (nodes_of s l issued) r a b → ⊥) → UnitesRings (nodes_of s l issued) (nodes_of s new issued) r a b
     unites_join new r a b in_range spliced live_a live_b apart =
         let old_steps = next_slot-of s l issued r in let new_steps = next_slot-of s new issued r in
         let a_to_b : Reaches (next_in l r) a.slot b.slot → ⊥ = apart-steps r a b in_range live_a live_b apart in
-        let b_to_a : Reaches (next_in l r) b.slot a.slot → ⊥ = λ steps. a_to_b (Reaches-sym (next_in l r) b.slot a.slot (comes_round r b.slot in_range) steps) in
+        let b_to_a : Reaches (next_in l r) b.slot a.slot → ⊥ =
+        λ steps. a_to_b (Reaches-sym (next_in l r) b.slot a.slot (comes_round r b.slot in_range) steps) in
         UnitesRings-of (nodes_of s l issued) (nodes_of s new issued) r a b live_a live_b (λ _. refl)
         (subst (λ (f : (ℕ → ℕ) × (ℕ → ℕ)). Splices f.0 f.1 a.slot b.slot) (λ j. (sym old_steps j, sym new_steps j)) spliced)
         (subst (λ (f : ℕ → ℕ). (slot : ℕ) → Reaches f (f slot) slot) (sym old_steps) (λ slot. comes_round r slot in_range))
@@ -207,13 +214,15 @@ module _ {T : Type 0} where
         (ap (λ (f : ℕ → ℕ). f key.slot) (next_slot-of s l issued r) ∙ pool.alone r key.slot in_range vacant) live others
 
     -- the rings that a contract sees where the steps of a partition are the same
-    pub same_rings : (t : Slots (Node T)) (new : Links) (r : ℕ) → t.slots ≡ s.slots → next_in new r ≡ next_in l r → SameRings (nodes_of s l issued) (nodes_of t new issued) r
+    pub same_rings : (t : Slots (Node T)) (new : Links) (r : ℕ) → t.slots ≡ s.slots
+        → next_in new r ≡ next_in l r → SameRings (nodes_of s l issued) (nodes_of t new issued) r
     same_rings t new r slots steps =
         SameRings-of (nodes_of s l issued) (nodes_of t new issued) r (λ key. ap (λ xs. numbered key.number (get_or xs key.slot None)) slots)
         (next_slot-of t new issued r ∙ steps ∙ sym (next_slot-of s l issued r))
 
     -- room for more nodes and links keeps a pool
-    pub IsPool-grow : (t : Slots (Node T)) (m : Links) → t.slots ≡ s.slots → SameLinks l m → l.slots ≤ m.slots → (held_count t ≤ t.room) × (t.room ≤ m.slots) × (m.slots < 2 ^ 32) → (m.slots ≡ t.room) ⊎ (m.slots ≡ grown t.room) → IsPool R t m issued
+    pub IsPool-grow : (t : Slots (Node T)) (m : Links) → t.slots ≡ s.slots → SameLinks l m → l.slots ≤ m.slots
+        → (held_count t ≤ t.room) × (t.room ≤ m.slots) × (m.slots < 2 ^ 32) → (m.slots ≡ t.room) ⊎ (m.slots ≡ grown t.room) → IsPool R t m issued
     IsPool-grow t m slots same more room grows =
         let in_row : (r : ℕ) → r < R → r < l.width = λ r below. subst (λ w. r < w) (sym pool.width) below in
         let next : (r : ℕ) → r < R → next_in m r ≡ next_in l r = λ r below j slot. (same.links r slot (in_row r below) j).next in
@@ -223,13 +232,15 @@ module _ {T : Type 0} where
           numbers = λ slot node found. pool.numbers slot node (sym (read slot) ∙ found);
           width = same.width ∙ pool.width;
           covered = λ slot held. let below = pool.covered slot (subst IsSome (read slot) held) in omega arith;
-          mutual-rings = λ r below. subst (λ (f : (ℕ → ℕ) × (ℕ → ℕ)). IsMutual f.0 f.1) (λ j. (sym (next r below) j, sym (prev r below) j)) (pool.mutual-rings r below);
+          mutual-rings =
+              λ r below. subst (λ (f : (ℕ → ℕ) × (ℕ → ℕ)). IsMutual f.0 f.1) (λ j. (sym (next r below) j, sym (prev r below) j)) (pool.mutual-rings r below);
           alone = λ r slot below vacant. ap (λ (f : ℕ → ℕ). f slot) (next r below) ∙ pool.alone r slot below (sym (read slot) ∙ vacant);
           room = room;
           grows = grows;
         }
 
-    pub IsPool-insert : (t : Slots (Node T)) (slot : ℕ) (node : Node T) → node.number ≡ issued → node_in s slot ≡ None → Updates s t slot (Some node) → slot < t.room → held_count t ≤ t.room → IsPool R t l (issued + 1)
+    pub IsPool-insert : (t : Slots (Node T)) (slot : ℕ) (node : Node T) → node.number ≡ issued → node_in s slot ≡ None
+        → Updates s t slot (Some node) → slot < t.room → held_count t ≤ t.room → IsPool R t l (issued + 1)
     IsPool-insert t slot node number was_vacant updates in_range counted =
         let room : (s.room ≤ l.slots) × (l.slots < 2 ^ 32) = (pool.room.1, pool.room.2) in
         let same_room = updates.room in
@@ -258,7 +269,8 @@ module _ {T : Type 0} where
         number_or None = 0
         number_or (Some node) = node.number
 
-    pub IsPool-take : (t : Slots (Node T)) (new : Links) (slot : ℕ) → IsCutAll l new slot R → Updates s t slot None → held_count t + 1 ≡ held_count s → IsPool R t new issued
+    pub IsPool-take : (t : Slots (Node T)) (new : Links) (slot : ℕ) → IsCutAll l new slot R
+        → Updates s t slot None → held_count t + 1 ≡ held_count s → IsPool R t new issued
     IsPool-take t new slot cut updates counted =
         let room = pool.room in
         record {
@@ -271,7 +283,8 @@ module _ {T : Type 0} where
             | inl here ↦ absurd (true≢false (sym (subst IsSome (ap (node_in t) here ∙ updates.changed) held)))
             | inr apart ↦ subst (λ n. at < n) (sym cut.slots) (pool.covered at (subst IsSome (updates.others at apart) held))
           ];
-          mutual-rings = λ r below. mutual_cut (next_in l r) (prev_in l r) (next_in new r) (prev_in new r) slot (pool.mutual-rings r below) (cut.next r below) (cut.prev r below);
+          mutual-rings = λ r below.
+              mutual_cut (next_in l r) (prev_in l r) (next_in new r) (prev_in new r) slot (pool.mutual-rings r below) (cut.next r below) (cut.prev r below);
           alone = λ r at below vacant. elim (cases_eq at slot) [
             | inl here ↦ ap (next_in new r) here ∙ (cut.next r below).at_a ∙ sym here
             | inr apart ↦
@@ -280,5 +293,6 @@ module _ {T : Type 0} where
                 (cut.next r below).others at apart not_before ∙ alone
           ];
           room = (omega (arith, room.0, updates.room), omega (arith, room.1, updates.room, cut.slots), omega (arith, room.2, cut.slots));
-          grows = subst (λ n. (n ≡ t.room) ⊎ (n ≡ grown t.room)) (sym cut.slots) (subst (λ n. (l.slots ≡ n) ⊎ (l.slots ≡ grown n)) (sym updates.room) pool.grows);
+          grows =
+              subst (λ n. (n ≡ t.room) ⊎ (n ≡ grown t.room)) (sym cut.slots) (subst (λ n. (l.slots ≡ n) ⊎ (l.slots ≡ grown n)) (sym updates.room) pool.grows);
         }

@@ -59,14 +59,17 @@ module _ {T : Type 0} where
   -- the same values and steps make the same rings
   pub SameRings-of : (old new : Nodes T) (r : ℕ) → SameValues old new → next_slot new r ≡ next_slot old r → SameRings old new r
   SameRings-of old new r same steps x y = (
-    λ ring. record { from = subst IsSome (same x) ring.from; to = subst IsSome (same y) ring.to; steps = subst (λ f. Reaches f x.slot y.slot) steps ring.steps; back = subst (λ f. Reaches f y.slot x.slot) steps ring.back },
-    λ ring. record { from = subst IsSome (sym (same x)) ring.from; to = subst IsSome (sym (same y)) ring.to; steps = subst (λ f. Reaches f x.slot y.slot) (sym steps) ring.steps; back = subst (λ f. Reaches f y.slot x.slot) (sym steps) ring.back },
+    λ ring.
+        record { from = subst IsSome (same x) ring.from; to = subst IsSome (same y) ring.to; steps = subst (λ f. Reaches f x.slot y.slot) steps ring.steps; back = subst (λ f. Reaches f y.slot x.slot) steps ring.back },
+    λ ring.
+        record { from = subst IsSome (sym (same x)) ring.from; to = subst IsSome (sym (same y)) ring.to; steps = subst (λ f. Reaches f x.slot y.slot) (sym steps) ring.steps; back = subst (λ f. Reaches f y.slot x.slot) (sym steps) ring.back },
   )
 
   pub SameRings-trans : (first mid last : Nodes T) (r : ℕ) → SameRings first mid r → SameRings mid last r → SameRings first last r
   SameRings-trans first mid last r one two x y = (λ ring. (one x y).0 ((two x y).0 ring), λ ring. (two x y).1 ((one x y).1 ring))
 
-  module _ (old new : Nodes T) (r : ℕ) (a b : Key) (live_a : IsLive old a) (live_b : IsLive old b) (same : SameValues old new) (spliced : Splices (next_slot old r) (next_slot new r) a.slot b.slot)
+  module _ (old new : Nodes T) (r : ℕ) (a b : Key) (live_a : IsLive old a) (live_b : IsLive old b)
+      (same : SameValues old new) (spliced : Splices (next_slot old r) (next_slot new r) a.slot b.slot)
       (round : (s : ℕ) → Reaches (next_slot old r) (next_slot old r s) s)
       (a_to_b : Reaches (next_slot old r) a.slot b.slot → ⊥) (b_to_a : Reaches (next_slot old r) b.slot a.slot → ⊥) where
     abbrev p : ℕ → ℕ
@@ -93,7 +96,8 @@ module _ {T : Type 0} where
 
     pub UnitesRings-of : UnitesRings old new r a b
     UnitesRings-of x y = (
-      λ ring. forth x y (subst IsSome (same x) ring.from) (subst IsSome (same y) ring.to) (Unites-from_joined p (next_slot new r) a.slot b.slot spliced x.slot y.slot ring.steps),
+      λ ring. forth x y (subst IsSome (same x) ring.from) (subst IsSome (same y) ring.to)
+          (Unites-from_joined p (next_slot new r) a.slot b.slot spliced x.slot y.slot ring.steps),
       λ united. let parts = back x y united in
           record {
             from = subst IsSome (sym (same x)) parts.0;
@@ -104,11 +108,14 @@ module _ {T : Type 0} where
     )
 
   -- a slot cut out of its ring parts its key from the others
-  pub PartsFrom-cut : (old new : Nodes T) (r : ℕ) (key : Key) (q : ℕ → ℕ) → IsMutual (next_slot old r) q → Cuts (next_slot old r) (next_slot new r) q key.slot → IsLive old key
-      → ((other : Key) → other ≢ key → value_at new other ≡ value_at old other) → ((x : Key) → IsLive new key → IsLive new x → IsLive old x) → PartsFrom old new r key
+  pub PartsFrom-cut : (old new : Nodes T) (r : ℕ) (key : Key) (q : ℕ → ℕ) → IsMutual (next_slot old r) q
+      → Cuts (next_slot old r) (next_slot new r) q key.slot → IsLive old key
+      → ((other : Key) → other ≢ key → value_at new other ≡ value_at old other)
+      → ((x : Key) → IsLive new key → IsLive new x → IsLive old x) → PartsFrom old new r key
   PartsFrom-cut old new r key q mutual-pq cuts live others before =
       record {
-        alone = λ x ring. key-unique old x key (before x ring.from ring.to) live (cut_alone (next_slot old r) q (next_slot new r) mutual-pq key.slot cuts x.slot ring.steps);
+        alone = λ x ring.
+            key-unique old x key (before x ring.from ring.to) live (cut_alone (next_slot old r) q (next_slot new r) mutual-pq key.slot cuts x.slot ring.steps);
         others = λ x y not_x not_y. (
           λ ring.
               let live_x = subst IsSome (others x not_x) ring.from in
@@ -116,15 +123,19 @@ module _ {T : Type 0} where
               record {
                 from = live_x;
                 to = live_y;
-                steps = (uncut (next_slot old r) q (next_slot new r) mutual-pq key.slot cuts x.slot y.slot (λ e. not_x (key-unique old x key live_x live e)) ring.steps).1;
-                back = (uncut (next_slot old r) q (next_slot new r) mutual-pq key.slot cuts y.slot x.slot (λ e. not_y (key-unique old y key live_y live e)) ring.back).1;
+                steps = (uncut (next_slot old r) q (next_slot new r) mutual-pq key.slot cuts x.slot y.slot
+                    (λ e. not_x (key-unique old x key live_x live e)) ring.steps).1;
+                back = (uncut (next_slot old r) q (next_slot new r) mutual-pq key.slot cuts y.slot x.slot
+                    (λ e. not_y (key-unique old y key live_y live e)) ring.back).1;
               },
           λ ring.
               record {
                 from = subst IsSome (sym (others x not_x)) ring.from;
                 to = subst IsSome (sym (others y not_y)) ring.to;
-                steps = recut (next_slot old r) q (next_slot new r) mutual-pq key.slot cuts x.slot y.slot (λ e. not_x (key-unique old x key ring.from live e)) (λ e. not_y (key-unique old y key ring.to live e)) ring.steps;
-                back = recut (next_slot old r) q (next_slot new r) mutual-pq key.slot cuts y.slot x.slot (λ e. not_y (key-unique old y key ring.to live e)) (λ e. not_x (key-unique old x key ring.from live e)) ring.back;
+                steps = recut (next_slot old r) q (next_slot new r) mutual-pq key.slot cuts x.slot y.slot
+                    (λ e. not_x (key-unique old x key ring.from live e)) (λ e. not_y (key-unique old y key ring.to live e)) ring.steps;
+                back = recut (next_slot old r) q (next_slot new r) mutual-pq key.slot cuts y.slot x.slot
+                    (λ e. not_y (key-unique old y key ring.to live e)) (λ e. not_x (key-unique old x key ring.from live e)) ring.back;
               },
         );
       }
@@ -134,10 +145,13 @@ module _ {T : Type 0} where
       → ((other : Key) → other ≢ key → value_at new other ≡ value_at old other) → PartsFrom old new r key
   PartsFrom-fresh old new r key steps still live others =
       record {
-        alone = λ x ring. key-unique new x key ring.to live (walk_stays (next_slot old r) key.slot x.slot still (subst (λ f. Reaches f key.slot x.slot) steps ring.steps));
+        alone = λ x ring.
+            key-unique new x key ring.to live (walk_stays (next_slot old r) key.slot x.slot still (subst (λ f. Reaches f key.slot x.slot) steps ring.steps));
         others = λ x y not_x not_y. (
-          λ ring. record { from = subst IsSome (others x not_x) ring.from; to = subst IsSome (others y not_y) ring.to; steps = subst (λ f. Reaches f x.slot y.slot) steps ring.steps; back = subst (λ f. Reaches f y.slot x.slot) steps ring.back },
-          λ ring. record { from = subst IsSome (sym (others x not_x)) ring.from; to = subst IsSome (sym (others y not_y)) ring.to; steps = subst (λ f. Reaches f x.slot y.slot) (sym steps) ring.steps; back = subst (λ f. Reaches f y.slot x.slot) (sym steps) ring.back },
+          λ ring.
+              record { from = subst IsSome (others x not_x) ring.from; to = subst IsSome (others y not_y) ring.to; steps = subst (λ f. Reaches f x.slot y.slot) steps ring.steps; back = subst (λ f. Reaches f y.slot x.slot) steps ring.back },
+          λ ring.
+              record { from = subst IsSome (sym (others x not_x)) ring.from; to = subst IsSome (sym (others y not_y)) ring.to; steps = subst (λ f. Reaches f x.slot y.slot) (sym steps) ring.steps; back = subst (λ f. Reaches f y.slot x.slot) (sym steps) ring.back },
         );
       }
 

@@ -5,7 +5,8 @@ use Rattle.node_pool.specs.Slots.{Slots, IsHeld, Updates}
 
 module _ {N : Type 0} where
   -- a write of one slot changes what that slot has, and no other
-  pub Updates-set : (old new : Slots N) (slot : ℕ) (node : Option N) → slot < length old.slots → new.slots ≡ set old.slots slot node → new.room ≡ old.room → Updates old new slot node
+  pub Updates-set : (old new : Slots N) (slot : ℕ) (node : Option N) → slot < length old.slots
+      → new.slots ≡ set old.slots slot node → new.room ≡ old.room → Updates old new slot node
   Updates-set old new slot node within written room =
       record {
         changed = rw written (get_or-set_same old.slots slot node None within);

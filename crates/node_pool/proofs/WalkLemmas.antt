@@ -25,7 +25,8 @@ module _ {T : Type 0} (n : Nodes T) (r : ℕ) where
   Walks-keys first (suc left) slot =
       elim (eqb_tells (f slot) first) [
         | inl back ↦ subst (λ b. Walks first slot (key_in n slot ∷ cond b [] (keys_from n r first left (f slot)))) (sym back.0) (one)
-        | inr on ↦ subst (λ b. Walks first slot (key_in n slot ∷ cond b [] (keys_from n r first left (f slot)))) (sym on.0) (more on.1 (Walks-keys first left (f slot)))
+        | inr on ↦ subst (λ b. Walks first slot (key_in n slot ∷ cond b [] (keys_from n r first left (f slot))))
+            (sym on.0) (more on.1 (Walks-keys first left (f slot)))
       ]
     where
       one : Walks first slot (key_in n slot ∷ [])
@@ -38,7 +39,8 @@ module _ {T : Type 0} (n : Nodes T) (r : ℕ) where
       more : f slot ≢ first → Walks first (f slot) (keys_from n r first left (f slot)) → Walks first slot (key_in n slot ∷ keys_from n r first left (f slot))
       more on rest = record { reads = more_reads; before = more_before }
         where
-          more_reads : (i : ℕ) → i < suc (length (keys_from n r first left (f slot))) → slice_get (key_in n slot ∷ keys_from n r first left (f slot)) i ≡ Some (key_in n (walked f i slot))
+          more_reads : (i : ℕ) → i < suc (length (keys_from n r first left (f slot)))
+              → slice_get (key_in n slot ∷ keys_from n r first left (f slot)) i ≡ Some (key_in n (walked f i slot))
           more_reads zero below = refl
           more_reads (suc i) below = rest.reads i (omega arith)
 
@@ -47,19 +49,22 @@ module _ {T : Type 0} (n : Nodes T) (r : ℕ) where
           more_before (suc i) below = rest.before i (omega arith)
 
   -- a walk with steps enough to come back has as many keys as it has steps
-  returns-keys : (first left k slot : ℕ) → k < left → walked f (suc k) slot ≡ first → (walked f (length (keys_from n r first left slot)) slot ≡ first) × (0 < length (keys_from n r first left slot))
+  returns-keys : (first left k slot : ℕ) → k < left → walked f (suc k) slot ≡ first
+      → (walked f (length (keys_from n r first left slot)) slot ≡ first) × (0 < length (keys_from n r first left slot))
   returns-keys first zero k slot below back = absurd (omega arith)
   returns-keys first (suc left) k slot below back =
       elim (eqb_tells (f slot) first) [
         | inl here ↦ subst (λ b. Back (key_in n slot ∷ cond b [] (keys_from n r first left (f slot)))) (sym here.0) (here.1, omega arith)
-        | inr on ↦ subst (λ b. Back (key_in n slot ∷ cond b [] (keys_from n r first left (f slot)))) (sym on.0) (later on.1 k below back (λ j j_below j_back. returns-keys first left j (f slot) j_below j_back))
+        | inr on ↦ subst (λ b. Back (key_in n slot ∷ cond b [] (keys_from n r first left (f slot)))) (sym on.0)
+            (later on.1 k below back (λ j j_below j_back. returns-keys first left j (f slot) j_below j_back))
       ]
     where
       Back : List Key → Type 0
       Back keys = (walked f (length keys) slot ≡ first) × (0 < length keys)
 
       later : f slot ≢ first → (k : ℕ) → k < suc left → walked f (suc k) slot ≡ first
-          → ((j : ℕ) → j < left → walked f (suc j) (f slot) ≡ first → (walked f (length (keys_from n r first left (f slot))) (f slot) ≡ first) × (0 < length (keys_from n r first left (f slot))))
+          → ((j : ℕ) → j < left → walked f (suc j) (f slot) ≡ first
+          → (walked f (length (keys_from n r first left (f slot))) (f slot) ≡ first) × (0 < length (keys_from n r first left (f slot))))
           → Back (key_in n slot ∷ keys_from n r first left (f slot))
       later on zero k_below k_back rest = absurd (on k_back)
       later on (suc k) k_below k_back rest = let found = rest k (omega arith) k_back in (found.0, omega arith)
@@ -70,7 +75,8 @@ module _ {T : Type 0} (n : Nodes T) (r : ℕ) where
   length-keys_from first (suc left) slot =
       elim (eqb_tells (f slot) first) [
         | inl here ↦ subst (λ b. suc (length (cond b [] (keys_from n r first left (f slot)))) ≤ suc left) (sym here.0) (omega arith)
-        | inr on ↦ subst (λ b. suc (length (cond b [] (keys_from n r first left (f slot)))) ≤ suc left) (sym on.0) (omega (arith, length-keys_from first left (f slot)))
+        | inr on ↦ subst (λ b. suc (length (cond b [] (keys_from n r first left (f slot)))) ≤ suc left)
+            (sym on.0) (omega (arith, length-keys_from first left (f slot)))
       ]
 
   -- a live key is the key of its slot
@@ -94,7 +100,8 @@ module _ {T : Type 0} (n : Nodes T) (r : ℕ) where
       let first : Some y ≡ Some (key_in n x.slot) = reads 0 (omega arith) in
       (sym own ∙ cc, along-reads keys (next_key n r x) refl (λ i below. reads (suc i) (omega arith)))
 
-  module _ (a : Key) (live : IsLive n a) (left : ℕ) (back : (k : ℕ) × (k < left) × (walked f (suc k) a.slot ≡ a.slot)) (one_to_one : (s t : ℕ) → f s ≡ f t → s ≡ t) (stays : (s : ℕ) → HasNode n s → HasNode n (f s)) where
+  module _ (a : Key) (live : IsLive n a) (left : ℕ) (back : (k : ℕ) × (k < left) × (walked f (suc k) a.slot ≡ a.slot))
+      (one_to_one : (s t : ℕ) → f s ≡ f t → s ≡ t) (stays : (s : ℕ) → HasNode n s → HasNode n (f s)) where
     abbrev keys : List Key
     keys = keys_from n r a.slot left a.slot
 
@@ -159,7 +166,8 @@ module _ {T : Type 0} (n : Nodes T) (r : ℕ) where
           members = λ x. (
             λ listed.
                 let k = listed.0 in
-                let read : get_or keys k x ≡ key_in n (walked f k a.slot) = get_or_from_slice_get keys k _ x ((Walks-keys a.slot left a.slot).reads k listed.1) in
+                let read : get_or keys k x ≡ key_in n (walked f k a.slot) =
+                get_or_from_slice_get keys k _ x ((Walks-keys a.slot left a.slot).reads k listed.1) in
                 let is : key_in n (walked f k a.slot) ≡ x = sym read ∙ listed.2 in
                 record {
                   from = live;
@@ -169,7 +177,8 @@ module _ {T : Type 0} (n : Nodes T) (r : ℕ) where
                 },
             λ ring.
                 let less = reduced ring.steps.0 ring.steps.0 (omega arith) in
-                let read : get_or keys less.0 x ≡ key_in n (walked f less.0 a.slot) = get_or_from_slice_get keys less.0 _ x ((Walks-keys a.slot left a.slot).reads less.0 less.1) in
+                let read : get_or keys less.0 x ≡ key_in n (walked f less.0 a.slot) =
+                get_or_from_slice_get keys less.0 _ x ((Walks-keys a.slot left a.slot).reads less.0 less.1) in
                 (less.0, less.1, read ∙ ap (key_in n) (less.2 ∙ ring.steps.1) ∙ key_in-live x ring.to),
           );
           along = subst (GoesAlong (next_key n r) a keys) (ap (key_in n) round.0 ∙ key_in-live a live)

@@ -11,7 +11,8 @@ module _ {N : Type 0} where
   -- a store is stored as the pair of its fields
   abbrev pub slots_code : Coded N → Coded (Slots N)
   slots_code c =
-      code_by (List (Option N) × ℕ) (coded× (coded_list (coded_option c)) coded_ℕ) (λ s. (s.slots, s.room)) (λ p. record { slots = p.0; room = p.1 }) (λ _. refl)
+      code_by (List (Option N) × ℕ) (coded× (coded_list (coded_option c)) coded_ℕ)
+      (λ s. (s.slots, s.room)) (λ p. record { slots = p.0; room = p.1 }) (λ _. refl)
 
   -- the node in a slot
   abbrev pub node_in : Slots N → ℕ → Option N

@@ -14,4 +14,5 @@ pub returns : goal.returns
 returns g c =
     let slots = c.self.inside.cells.slots in let xs = somes slots in let n = c.self.inside.capacity in
     let within : c.args.index < length xs = rw (← c.self.view_is) at c.requires in
-    rw (← c.self.view_is) (slice_get-places xs (n - length xs) c.args.index c.get.result.now within (sym (ap (λ ps. get_or ps c.args.index None) c.self.invariant.laid) ∙ c.get.ensures))
+    rw (← c.self.view_is) (slice_get-places xs (n - length xs) c.args.index c.get.result.now within
+    (sym (ap (λ ps. get_or ps c.args.index None) c.self.invariant.laid) ∙ c.get.ensures))

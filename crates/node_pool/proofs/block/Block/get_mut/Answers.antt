@@ -30,6 +30,7 @@ returns g c =
       (refl, λ w. rw (← c.self.view_is) (ap (λ ys. chunk ys n) (Filled-set slots n c.args.index w c.self.invariant.laid within).items)),
       record {
         writes_back = tt;
-        value = rw (← c.self.view_is) (slice_get-places xs (n - length xs) c.args.index c.get_mut.result.now within (sym (ap (λ ps. get_or ps c.args.index None) c.self.invariant.laid) ∙ c.get_mut.ensures.value));
+        value = rw (← c.self.view_is) (slice_get-places xs (n - length xs) c.args.index c.get_mut.result.now within
+            (sym (ap (λ ps. get_or ps c.args.index None) c.self.invariant.laid) ∙ c.get_mut.ensures.value));
       },
     )

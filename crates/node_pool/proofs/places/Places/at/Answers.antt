@@ -6,7 +6,8 @@ use Rattle.node_pool.proofs.places.Places.at.Goals as goal
 
 pub prove-unreachable-requires : goal.prove-unreachable-requires
 prove-unreachable-requires g c =
-    let below = slot-room_one c.self.inside c.self.invariant (rw (← c.self.view_is) at c.requires.width) c.args.slot (rw (← c.self.view_is) at c.requires.within) in
+    let below =
+    slot-room_one c.self.inside c.self.invariant (rw (← c.self.view_is) at c.requires.width) c.args.slot (rw (← c.self.view_is) at c.requires.within) in
     let past = c.if-prove.true in
     omega arith
 
@@ -14,7 +15,8 @@ pub index-requires : goal.index-requires
 index-requires g c =
     let p = c.self.inside in let j = c.locate-block.result.0 in let o = c.locate-block.result.1 in
     let width = rw (← c.self.view_is) at c.requires.width in
-    let found = found_one p c.self.invariant width c.args.slot j o (rw (← c.self.view_is) at c.requires.within) c.locate-block.ensures.place c.locate-block.ensures.within in
+    let found = found_one p c.self.invariant width c.args.slot j o
+    (rw (← c.self.view_is) at c.requires.within) c.locate-block.ensures.place c.locate-block.ensures.within in
     let within = slice_get_within p.blocks.items j found.block found.at in
     omega (arith, p.blocks.ok)
 
@@ -22,7 +24,8 @@ pub get-requires : goal.get-requires
 get-requires g c =
     let p = c.self.inside in let j = c.locate-block.result.0 in let o = c.locate-block.result.1 in
     let width = rw (← c.self.view_is) at c.requires.width in
-    let found = found_one p c.self.invariant width c.args.slot j o (rw (← c.self.view_is) at c.requires.within) c.locate-block.ensures.place c.locate-block.ensures.within in
+    let found = found_one p c.self.invariant width c.args.slot j o
+    (rw (← c.self.view_is) at c.requires.within) c.locate-block.ensures.place c.locate-block.ensures.within in
     let same : c.index.result.now ≡ found.block = c.index.ensures ∙ get_or_from_slice_get p.blocks.items j found.block c.index.result.now found.at in
     subst (λ (b : Chunk g.row.S.Denot). o < length b.items) (sym same) found.within
 
@@ -30,6 +33,7 @@ pub returns : goal.returns
 returns g c =
     let p = c.self.inside in let j = c.locate-block.result.0 in let o = c.locate-block.result.1 in
     let width = rw (← c.self.view_is) at c.requires.width in
-    let found = found_one p c.self.invariant width c.args.slot j o (rw (← c.self.view_is) at c.requires.within) c.locate-block.ensures.place c.locate-block.ensures.within in
+    let found = found_one p c.self.invariant width c.args.slot j o
+    (rw (← c.self.view_is) at c.requires.within) c.locate-block.ensures.place c.locate-block.ensures.within in
     let same : c.index.result.now ≡ found.block = c.index.ensures ∙ get_or_from_slice_get p.blocks.items j found.block c.index.result.now found.at in
     rw (← c.self.view_is) (found.read ∙ ap (λ (b : Chunk g.row.S.Denot). slice_get b.items o) (sym same) ∙ c.get.ensures)

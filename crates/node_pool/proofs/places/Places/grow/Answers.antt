@@ -28,4 +28,5 @@ returns-clause-kept g c =
     let made = c.in_ok-block.ensures.made in
     let items = c.push_reserved.ensures.items ∙ ap (λ l. l ++ c.in_ok-block.block ∷ []) c.reserve.ensures.items in
     let none = ap (λ (b : Chunk g.row.S.Denot). b.items) made in
-    rw (← c.self.view_is) (ap (λ bs. row (flat bs) (p.room + (p.room + 1)) p.width) items ∙ ap (λ xs. row xs (p.room + (p.room + 1)) p.width) (flat-more p.blocks.items c.in_ok-block.block none))
+    rw (← c.self.view_is) (ap (λ bs. row (flat bs) (p.room + (p.room + 1)) p.width) items
+    ∙ ap (λ xs. row xs (p.room + (p.room + 1)) p.width) (flat-more p.blocks.items c.in_ok-block.block none))

@@ -12,9 +12,11 @@ returns-clause-rings g c r below =
       | then-slots-room+in_ok-grow w ↦
           let in_row : r < l.width = subst (λ n. r < n) (sym c.self.invariant.width) below in
           let steps : next_in w.grow.new.self r ≡ next_in l r = λ j slot. (w.grow.ensures.links.links r slot in_row j).next in
-          rw (← c.self.view_is, w.self-inside-is) (same_rings g.row.R s l i c.self.invariant c.grow-2.new.self w.grow.new.self r (rw w.self-inside-is at c.grow-2.ensures.slots) steps)
+          rw (← c.self.view_is, w.self-inside-is)
+          (same_rings g.row.R s l i c.self.invariant c.grow-2.new.self w.grow.new.self r (rw w.self-inside-is at c.grow-2.ensures.slots) steps)
       | else-slots-room w ↦
-          rw (← c.self.view_is, w.self-inside-is) (same_rings g.row.R s l i c.self.invariant c.grow-2.new.self l r (rw w.self-inside-is at c.grow-2.ensures.slots) refl)
+          rw (← c.self.view_is, w.self-inside-is)
+          (same_rings g.row.R s l i c.self.invariant c.grow-2.new.self l r (rw w.self-inside-is at c.grow-2.ensures.slots) refl)
     ]
 
 pub returns-clause-order : goal.returns-clause-order

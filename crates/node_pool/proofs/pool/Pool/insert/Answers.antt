@@ -15,7 +15,8 @@ invariant_of-self g c =
     let spare = rw (← c.self.view_is) at c.requires.spare in
     let room = updates.room in
     let len = c.insert-slot.ensures.len in
-    IsPool-insert g.row.R s l i c.self.invariant c.insert-slot.new.self c.insert-slot.result _ refl c.insert-slot.ensures.was_vacant updates c.insert-slot.ensures.in_range (search (arith, spare))
+    IsPool-insert g.row.R s l i c.self.invariant c.insert-slot.new.self c.insert-slot.result _ refl
+    c.insert-slot.ensures.was_vacant updates c.insert-slot.ensures.in_range (search (arith, spare))
 
 pub returns-clause-rings : goal.returns-clause-rings
 returns-clause-rings g c r below =
@@ -23,7 +24,8 @@ returns-clause-rings g c r below =
     let node : Node g.row.T.Denot = record { number = i; value = c.args.value } in
     let key : Key = record { slot = c.insert-slot.result; number = i } in
     let updates = c.insert-slot.ensures.updates in
-    let found : IsSome (numbered i (node_in c.insert-slot.new.self key.slot)) = subst IsSome (sym (ap (numbered i) updates.changed ∙ numbered-same i node refl)) refl in
+    let found : IsSome (numbered i (node_in c.insert-slot.new.self key.slot)) =
+    subst IsSome (sym (ap (numbered i) updates.changed ∙ numbered-same i node refl)) refl in
     rw (← c.self.view_is) (parts_fresh g.row.R s l i c.self.invariant c.insert-slot.new.self r key below c.insert-slot.ensures.was_vacant found
     (others_fresh s c.insert-slot.new.self key node refl c.insert-slot.ensures.was_vacant updates))
 

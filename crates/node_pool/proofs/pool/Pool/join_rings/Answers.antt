@@ -7,8 +7,11 @@ pub invariant_of-self : goal.invariant_of-self
 invariant_of-self g c =
     let s = c.self.inside.nodes in let l = c.self.inside.rings in let i = c.self.inside.issued in
     let live_a = rw (← c.self.view_is) at c.requires.a in let live_b = rw (← c.self.view_is) at c.requires.b in
-    let distinct : c.args.a.slot ≢ c.args.b.slot = λ e. apart-steps g.row.R s l i c.self.invariant c.args.r c.args.a c.args.b c.requires.r_in_range live_a live_b (rw (← c.self.view_is) at c.requires.apart) (0, e) in
-    IsPool-join g.row.R s l i c.self.invariant c.join.new.self c.args.r c.args.a.slot c.args.b.slot c.requires.r_in_range (IsHeld-of_live s l i c.args.a live_a) (IsHeld-of_live s l i c.args.b live_b) distinct c.join.ensures
+    let distinct : c.args.a.slot ≢ c.args.b.slot =
+    λ e. apart-steps g.row.R s l i c.self.invariant c.args.r c.args.a c.args.b c.requires.r_in_range live_a live_b
+    (rw (← c.self.view_is) at c.requires.apart) (0, e) in
+    IsPool-join g.row.R s l i c.self.invariant c.join.new.self c.args.r c.args.a.slot c.args.b.slot c.requires.r_in_range
+    (IsHeld-of_live s l i c.args.a live_a) (IsHeld-of_live s l i c.args.b live_b) distinct c.join.ensures
 
 pub returns-clause-united : goal.returns-clause-united
 returns-clause-united g c =

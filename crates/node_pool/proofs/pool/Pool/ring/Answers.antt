@@ -13,7 +13,8 @@ returns g c =
     let steps = next_slot-of s l i r in let pool = c.self.invariant in let below = c.requires.r_in_range in
     let live = rw (← c.self.view_is) at c.requires.live in
     rw (← c.self.view_is, c.slots.ensures.slots) (IsRing-of n r a live l.slots
-    (subst (λ (f : ℕ → ℕ). (k : ℕ) × (k < l.slots) × (walked f (suc k) a.slot ≡ a.slot)) (sym steps) (comes_round_within g.row.R s l i pool r a.slot below (IsHeld-of_live s l i a live)))
+    (subst (λ (f : ℕ → ℕ). (k : ℕ) × (k < l.slots) × (walked f (suc k) a.slot ≡ a.slot)) (sym steps)
+    (comes_round_within g.row.R s l i pool r a.slot below (IsHeld-of_live s l i a live)))
     (subst (λ (f : ℕ → ℕ). (s t : ℕ) → f s ≡ f t → s ≡ t) (sym steps) (next-one g.row.R s l i pool r below))
     (subst (λ (f : ℕ → ℕ). (slot : ℕ) → HasNode n slot → HasNode n (f slot)) (sym steps) (next-held g.row.R s l i pool r below))
     (rw (← c.slots.ensures.slots) c.slots.ensures.within))

@@ -32,7 +32,8 @@ returns-clause-rings g c r below =
     let live : IsLive (nodes_of s l i) key = rw (← c.self.view_is) at (c.is_live.ensures.0 c.if-not-is_live.false) in
     let here = numbered-some key.number (node_in s key.slot) live in
     let gone : value_at (nodes_of c.remove-value.new.self c.loop-r.self-inside.rings i) key ≡ None = ap (numbered key.number) updates.changed in
-    rw (← c.self.view_is, kept.1) (parts_cut g.row.R s l i c.self.invariant c.remove-value.new.self c.loop-r.self-inside.rings i r key below (cut.next r below) live
+    rw (← c.self.view_is, kept.1)
+    (parts_cut g.row.R s l i c.self.invariant c.remove-value.new.self c.loop-r.self-inside.rings i r key below (cut.next r below) live
     (others_taken s c.remove-value.new.self key here.0 here.2 here.1 updates) (λ x stays _. absurd (true≢false (sym (subst IsSome gone stays)))))
 
 pub returns-clause-order : goal.returns-clause-order

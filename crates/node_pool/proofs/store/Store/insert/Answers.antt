@@ -44,7 +44,8 @@ pub invariant_of-self-in-Vacant : goal.invariant_of-self-in-Vacant
 invariant_of-self-in-Vacant g c =
     let read = c.at_mut.ensures.value ∙ ap Some (sym c.replace.ensures.value ∙ c.in-Vacant.is) in
     let same = length-set c.self.inside.entries.items c.self.inside.next (Held c.args.node) in
-    rw c.replace.ensures.after (IsSound-fill _ _ _ _ c.args.node c.self.invariant.0 read, c.self.invariant.1, omega (arith, c.self.invariant.2), c.self.invariant.3, c.self.invariant.4)
+    rw c.replace.ensures.after
+    (IsSound-fill _ _ _ _ c.args.node c.self.invariant.0 read, c.self.invariant.1, omega (arith, c.self.invariant.2), c.self.invariant.3, c.self.invariant.4)
 
 pub returns-clause-was_vacant : goal.returns-clause-was_vacant
 returns-clause-was_vacant g c = rw (← c.self.view_is) (next_is_vacant _ _ _ c.self.invariant.0)
@@ -53,7 +54,8 @@ pub returns-clause-updates : goal.returns-clause-updates
 returns-clause-updates g c =
     let end = c.self.invariant.2 in
     let within = next_within _ _ _ c.self.invariant.0 (λ e. omega arith) in
-    rw (← c.self.view_is) (Updates-set _ _ _ _ (omega (arith, length-map c.self.inside.entries.items node_of)) (rw (c.replace.ensures.after, map-set) refl) refl)
+    rw (← c.self.view_is)
+    (Updates-set _ _ _ _ (omega (arith, length-map c.self.inside.entries.items node_of)) (rw (c.replace.ensures.after, map-set) refl) refl)
 
 pub returns-clause-len : goal.returns-clause-len
 returns-clause-len g c =

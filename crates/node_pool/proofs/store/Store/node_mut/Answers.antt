@@ -17,7 +17,8 @@ returns g c =
     let es = c.self.inside.entries.items in
     let found = c.at_mut.ensures.value in
     let within = slice_get_within es c.args.slot _ found in
-    let value = get_or-map node_of es c.args.slot c.at_mut.result.now None within ∙ ap node_of (get_or_from_slice_get es c.args.slot _ c.at_mut.result.now found) in (
+    let value =
+    get_or-map node_of es c.args.slot c.at_mut.result.now None within ∙ ap node_of (get_or_from_slice_get es c.args.slot _ c.at_mut.result.now found) in (
       (refl, λ w. rw (← c.self.view_is, map-set) refl),
       record { writes_back = tt; value = rw (← c.self.view_is) (value ∙ c.node_mut.ensures.value) },
     )
