@@ -21,7 +21,8 @@ no_longer : (xs ys : List ℕ) → AreDistinct xs → ((x : ℕ) → Contains xs
 no_longer [] ys once within = omega arith
 no_longer (x ∷ xs) ys once within =
     let cut = Contains-splits ys x (within x (Contains-head x xs)) in
-    let rest : length xs ≤ length (cut.0 ++ cut.1) = no_longer xs (cut.0 ++ cut.1) once.1 (λ y here. elim (Contains-append_cases cut.0 (x ∷ cut.1) y (subst (λ (zs : List ℕ). Contains zs y) cut.2 (within y (Contains-later x y xs here)))) [
+    let rest : length xs ≤ length (cut.0 ++ cut.1) = no_longer xs (cut.0 ++ cut.1) once.1
+    (λ y here. elim (Contains-append_cases cut.0 (x ∷ cut.1) y (subst (λ (zs : List ℕ). Contains zs y) cut.2 (within y (Contains-later x y xs here)))) [
       | inl before ↦ Contains-append_left cut.0 cut.1 y before
       | inr after ↦ elim (Contains-cases x y cut.1 after) [
         | inl same ↦ absurd (once.0 (subst (Contains xs) (sym same) here))
@@ -44,11 +45,13 @@ apart_names (c ∷ cs) pairs = (
   λ k here x one two.
       (let at = map-Contains (λ (d : Cluster). d.names) cs k here in
       let is : get_or cs at.1.0 at.0 ≡ at.0 = at.1.2 in
-      pairs 0 (suc at.1.0) at.0 (omega arith) (omega (arith, at.1.1)) x one (subst (λ (d : Cluster). Contains d.names x) (sym is) (subst (λ (ys : List ℕ). Contains ys x) (sym at.2) two))),
+      pairs 0 (suc at.1.0) at.0 (omega arith) (omega (arith, at.1.1)) x one
+      (subst (λ (d : Cluster). Contains d.names x) (sym is) (subst (λ (ys : List ℕ). Contains ys x) (sym at.2) two))),
   apart_names cs (λ i j d before below. pairs (suc i) (suc j) d (omega arith) (omega arith)),
 )
 
-pub apart_push : (ms : List (List ℕ)) (k : List ℕ) → AreApartLists ms → ((m : List ℕ) → Contains ms m → (x : ℕ) → Contains m x → Contains k x → ⊥) → AreApartLists (ms ++ k ∷ [])
+pub apart_push : (ms : List (List ℕ)) (k : List ℕ) → AreApartLists ms
+    → ((m : List ℕ) → Contains ms m → (x : ℕ) → Contains m x → Contains k x → ⊥) → AreApartLists (ms ++ k ∷ [])
 unfolding AreApartLists
 apart_push [] k apart other = ((λ j here. absurd (none_in_empty j here)), tt)
 apart_push (m ∷ ms) k apart other = (
@@ -124,7 +127,8 @@ module _ (w : ℕ → ℕ) where
   cost_first : (m : List ℕ) (ms : List (List ℕ)) → cost (m ∷ ms) ≡ w (length m) + cost ms
   cost_first m ms = sum_by-append (λ (ids : List ℕ). w (length ids)) (m ∷ []) ms ∙ ap (λ k. k + cost ms) (Rattle.std.proofs.Common.zero-add (w (length m)))
 
-  at_most : (done lists : List (List ℕ)) → AreApartLists done → ((m : List ℕ) → Contains done m → (x : ℕ) × Contains m x) → ((m : List ℕ) → Contains done m → IsMatched lists m) → cost done ≤ cost lists
+  at_most : (done lists : List (List ℕ)) → AreApartLists done → ((m : List ℕ) → Contains done m → (x : ℕ) × Contains m x)
+      → ((m : List ℕ) → Contains done m → IsMatched lists m) → cost done ≤ cost lists
   unfolding AreApartLists
   at_most [] lists apart some match = omega arith
   at_most (m ∷ ms) lists apart some match =
@@ -147,7 +151,8 @@ module _ (w : ℕ → ℕ) where
         long = other.long;
       })) in
       let whole : cost lists ≡ cost (cut.0 ++ one.list ∷ cut.1) = ap cost cut.2 in
-      let split : cost (cut.0 ++ one.list ∷ cut.1) ≡ cost cut.0 + cost (one.list ∷ cut.1) = sum_by-append (λ (ids : List ℕ). w (length ids)) cut.0 (one.list ∷ cut.1) in
+      let split : cost (cut.0 ++ one.list ∷ cut.1) ≡ cost cut.0 + cost (one.list ∷ cut.1) =
+      sum_by-append (λ (ids : List ℕ). w (length ids)) cut.0 (one.list ∷ cut.1) in
       let joined : cost (cut.0 ++ cut.1) ≡ cost cut.0 + cost cut.1 = sum_by-append (λ (ids : List ℕ). w (length ids)) cut.0 cut.1 in
       let same : w (length m) ≡ w (length one.list) = ap w one.long in
       let first : cost (m ∷ ms) ≡ w (length m) + cost ms = cost_first m ms in
@@ -155,11 +160,14 @@ module _ (w : ℕ → ℕ) where
       omega arith
 
 -- some of the components cost no more than all
-pub bounded : (g : Closure) (gone : List ℕ) (done lists : List (List ℕ)) → AreApartLists done → ((m : List ℕ) → Contains done m → IsOneOf g gone m) → AreComponents g gone lists → most_steps_of done ≤ most_steps_of lists
-bounded g gone done lists apart each all = at_most most_steps done lists apart (λ m here. (each m here).some) (λ m here. matched g gone lists m all (each m here))
+pub bounded : (g : Closure) (gone : List ℕ) (done lists : List (List ℕ)) → AreApartLists done
+    → ((m : List ℕ) → Contains done m → IsOneOf g gone m) → AreComponents g gone lists → most_steps_of done ≤ most_steps_of lists
+bounded g gone done lists apart each all =
+    at_most most_steps done lists apart (λ m here. (each m here).some) (λ m here. matched g gone lists m all (each m here))
 
 -- components that hold every name that is left are all
-pub are_components : (g : Closure) (gone : List ℕ) (done : List (List ℕ)) → AreApartLists done → ((m : List ℕ) → Contains done m → IsOneOf g gone m) → ((id : ℕ) → IsLeft g gone id → (m : List ℕ) × Contains done m × Contains m id) → AreComponents g gone done
+pub are_components : (g : Closure) (gone : List ℕ) (done : List (List ℕ)) → AreApartLists done → ((m : List ℕ) → Contains done m → IsOneOf g gone m)
+    → ((id : ℕ) → IsLeft g gone id → (m : List ℕ) × Contains done m × Contains m id) → AreComponents g gone done
 are_components g gone done apart each holds = record {
   once = flat_once done (λ m here. (each m here).once) apart;
   exact = λ id. (
@@ -180,9 +188,11 @@ pub record IsCounted (g : Closure) (gone : List ℕ) (parts : List Cluster) (bef
   pub least : before + least_steps_of (map (λ c. c.names) parts) ≤ now
 
 pub IsCounted-start : (g : Closure) (gone : List ℕ) (parts : List Cluster) (before : ℕ) → parts ≡ [] → IsCounted g gone parts before before
-IsCounted-start g gone parts before none = subst (λ (cs : List Cluster). IsCounted g gone cs before before) (sym none) (record { each = λ m here. absurd (none_in_empty m here); grew = omega arith; most = omega arith; least = omega arith })
+IsCounted-start g gone parts before none = subst (λ (cs : List Cluster). IsCounted g gone cs before before) (sym none)
+    (record { each = λ m here. absurd (none_in_empty m here); grew = omega arith; most = omega arith; least = omega arith })
 
-module _ (g : Closure) (gone : List ℕ) (parts : List Cluster) (before now next : ℕ) (ids : List ℕ) (so : IsCounted g gone parts before now) (one : IsOneOf g gone ids) (grows : GrowsWithin (most_steps (length ids)) now next) where
+module _ (g : Closure) (gone : List ℕ) (parts : List Cluster) (before now next : ℕ) (ids : List ℕ)
+    (so : IsCounted g gone parts before now) (one : IsOneOf g gone ids) (grows : GrowsWithin (most_steps (length ids)) now next) where
   names_more : (part : Cluster) → part.names ≡ ids → map (λ (c : Cluster). c.names) (parts ++ part ∷ []) ≡ map (λ (c : Cluster). c.names) parts ++ ids ∷ []
   names_more part is = map_push (λ (c : Cluster). c.names) parts part ∙ ap (λ ys. map (λ (c : Cluster). c.names) parts ++ ys ∷ []) is
 
@@ -194,7 +204,9 @@ module _ (g : Closure) (gone : List ℕ) (parts : List Cluster) (before now next
 
   most_more : next ≤ before + most_steps_of (map (λ (c : Cluster). c.names) parts ++ ids ∷ [])
   most_more =
-      let split : most_steps_of (map (λ (c : Cluster). c.names) parts ++ ids ∷ []) ≡ most_steps_of (map (λ (c : Cluster). c.names) parts) + most_steps_of (ids ∷ []) = sum_by-append (λ (ys : List ℕ). most_steps (length ys)) (map (λ (c : Cluster). c.names) parts) (ids ∷ []) in
+      let split : most_steps_of (map (λ (c : Cluster). c.names) parts ++ ids ∷ [])
+      ≡ most_steps_of (map (λ (c : Cluster). c.names) parts) + most_steps_of (ids ∷ []) =
+      sum_by-append (λ (ys : List ℕ). most_steps (length ys)) (map (λ (c : Cluster). c.names) parts) (ids ∷ []) in
       let last : most_steps_of (ids ∷ []) ≡ most_steps (length ids) = omega arith in
       let few : next ≤ now + most_steps (length ids) = grows.few in
       let most : now ≤ before + most_steps_of (map (λ (c : Cluster). c.names) parts) = so.most in
@@ -206,22 +218,27 @@ module _ (g : Closure) (gone : List ℕ) (parts : List Cluster) (before now next
     grew = (let first : before ≤ now = so.grew in let then : now ≤ next = grows.grew in omega arith);
     most = subst (λ (ms : List (List ℕ)). next ≤ before + most_steps_of ms) (sym (names_more part is)) most_more;
     least = subst (λ (ms : List (List ℕ)). before + least_steps_of ms ≤ next) (sym (names_more part is))
-        (let split : least_steps_of (map (λ (c : Cluster). c.names) parts ++ ids ∷ []) ≡ least_steps_of (map (λ (c : Cluster). c.names) parts) + least_steps_of (ids ∷ []) = sum_by-append (λ (ys : List ℕ). least_steps (length ys)) (map (λ (c : Cluster). c.names) parts) (ids ∷ []) in
+        (let split : least_steps_of (map (λ (c : Cluster). c.names) parts ++ ids ∷ []) ≡ least_steps_of (map (λ (c : Cluster). c.names) parts)
+        + least_steps_of (ids ∷ []) = sum_by-append (λ (ys : List ℕ). least_steps (length ys)) (map (λ (c : Cluster). c.names) parts) (ids ∷ []) in
         let last : least_steps_of (ids ∷ []) ≡ least_steps (length ids) = omega arith in
         let some : before + least_steps_of (map (λ (c : Cluster). c.names) parts) ≤ now = so.least in
         omega arith);
   }
 
   -- what is bound where one more part is not finished
-  pub stopped : AllPairs AreApart parts → ((c : Cluster) → Contains parts c → (x : ℕ) → Contains c.names x → Contains ids x → ⊥) → (lists : List (List ℕ)) → AreComponents g gone lists → next ≤ before + most_steps_of lists
+  pub stopped : AllPairs AreApart parts → ((c : Cluster) → Contains parts c → (x : ℕ) → Contains c.names x → Contains ids x → ⊥)
+      → (lists : List (List ℕ)) → AreComponents g gone lists → next ≤ before + most_steps_of lists
   stopped apart other lists all =
       let bound : most_steps_of (map (λ (c : Cluster). c.names) parts ++ ids ∷ []) ≤ most_steps_of lists =
       bounded g gone (map (λ (c : Cluster). c.names) parts ++ ids ∷ []) lists
-      (apart_push (map (λ (c : Cluster). c.names) parts) ids (apart_names parts apart) (λ m here x first second. (let at = map-Contains (λ (c : Cluster). c.names) parts m here in other at.0 at.1 x (subst (λ (ys : List ℕ). Contains ys x) (sym at.2) first) second)))
+      (apart_push (map (λ (c : Cluster). c.names) parts) ids (apart_names parts apart) (λ m here x first second. (let at =
+      map-Contains (λ (c : Cluster). c.names) parts m here in other at.0 at.1 x (subst (λ (ys : List ℕ). Contains ys x) (sym at.2) first) second)))
       each_more all in
       let most : next ≤ before + most_steps_of (map (λ (c : Cluster). c.names) parts ++ ids ∷ []) = most_more in omega arith
 
-pub finished : (g : Closure) (gone : List ℕ) (parts : List Cluster) (before now : ℕ) → IsCounted g gone parts before now → AllPairs AreApart parts → (lists : List (List ℕ)) → AreComponents g gone lists → now ≤ before + most_steps_of lists
+pub finished : (g : Closure) (gone : List ℕ) (parts : List Cluster) (before now : ℕ) → IsCounted g gone parts before now
+    → AllPairs AreApart parts → (lists : List (List ℕ)) → AreComponents g gone lists → now ≤ before + most_steps_of lists
 finished g gone parts before now so apart lists all =
-    let bound : most_steps_of (map (λ (c : Cluster). c.names) parts) ≤ most_steps_of lists = bounded g gone (map (λ (c : Cluster). c.names) parts) lists (apart_names parts apart) so.each all in
+    let bound : most_steps_of (map (λ (c : Cluster). c.names) parts) ≤ most_steps_of lists =
+    bounded g gone (map (λ (c : Cluster). c.names) parts) lists (apart_names parts apart) so.each all in
     let most : now ≤ before + most_steps_of (map (λ (c : Cluster). c.names) parts) = so.most in omega arith

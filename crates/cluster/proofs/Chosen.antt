@@ -19,7 +19,8 @@ use Rattle.bitset.specs.Sets.{contains-empty}
 use Rattle.cluster.proofs.Splits.{Splitting, IsDoneAt, component_inside, component_whole}
 use Rattle.std.proofs.Common.{All}
 
-module _ (n : ℕ) (names : List ℕ) (g : Closure) (kept : IsNamed n names g) (gone : List ℕ) (rest chosen : set.FinSet nat_cmp) (parts : List Cluster) (first : ℕ) (so : Splitting n names g gone rest parts) (least : IsLeast rest first)
+module _ (n : ℕ) (names : List ℕ) (g : Closure) (kept : IsNamed n names g) (gone : List ℕ) (rest chosen : set.FinSet nat_cmp)
+    (parts : List Cluster) (first : ℕ) (so : Splitting n names g gone rest parts) (least : IsLeast rest first)
     (is : (p : ℕ) → (set.contains chosen p ≡ true) ↔ Walk (IsNear g rest) first p) where
   abbrev ids : List ℕ
   ids = map (slice_index names) (places n chosen)
@@ -53,7 +54,8 @@ module _ (n : ℕ) (names : List ℕ) (g : Closure) (kept : IsNamed n names g) (
       let one = at_chosen a here in
       let two = at_chosen b there in
       subst₂ (Walk (AreNearLeft (named names g) gone)) one.3 two.3
-      (Walk-map (slice_index names) (IsNear g chosen) (AreNearLeft (named names g) gone) near_left one.0 two.0 (component_whole g rest chosen first is one.0 two.0 one.2 two.2))
+      (Walk-map (slice_index names) (IsNear g chosen) (AreNearLeft (named names g) gone) near_left one.0 two.0
+      (component_whole g rest chosen first is one.0 two.0 one.2 two.2))
 
   spreads : (a b : ℕ) → Contains ids a → AreNearLeft (named names g) gone a b → Contains ids b
   spreads a b here near =
@@ -61,12 +63,15 @@ module _ (n : ℕ) (names : List ℕ) (g : Closure) (kept : IsNamed n names g) (
       let two = member-stands names g kept.once b near.1.0 in
       let other : Contains gone (slice_index names two.0) → ⊥ = λ held. near.1.1 (subst (Contains gone) two.2 held) in
       let related : IsRelated g one.0 two.0 = elim near.2 [
-        | inl up ↦ inl (sym (named-ancestor names g kept.once one.0 two.0 one.1 two.1) ∙ subst₂ (λ (x y : ℕ). is_ancestor (named names g) x y ≡ true) (sym one.3) (sym two.2) up)
-        | inr down ↦ inr (sym (named-ancestor names g kept.once two.0 one.0 two.1 one.1) ∙ subst₂ (λ (x y : ℕ). is_ancestor (named names g) x y ≡ true) (sym two.2) (sym one.3) down)
+        | inl up ↦ inl (sym (named-ancestor names g kept.once one.0 two.0 one.1 two.1)
+            ∙ subst₂ (λ (x y : ℕ). is_ancestor (named names g) x y ≡ true) (sym one.3) (sym two.2) up)
+        | inr down ↦ inr (sym (named-ancestor names g kept.once two.0 one.0 two.1 one.1)
+            ∙ subst₂ (λ (x y : ℕ). is_ancestor (named names g) x y ≡ true) (sym two.2) (sym one.3) down)
       ] in
       let back : IsRelated g two.0 one.0 = elim related [ inl up ↦ inr up | inr down ↦ inl down ] in
       let there : set.contains rest two.0 ≡ true = so.alone two.0 one.0 two.1 other (in_rest one.0 one.2) back in
-      subst (Contains ids) two.2 (held two.0 ((is two.0).1 (Walk-push (IsNear g rest) first one.0 two.0 ((is one.0).0 one.2) (record { from_within = in_rest one.0 one.2; to_within = there; related = related }))))
+      subst (Contains ids) two.2 (held two.0 ((is two.0).1 (Walk-push (IsNear g rest) first one.0 two.0
+      ((is one.0).0 one.2) (record { from_within = in_rest one.0 one.2; to_within = there; related = related }))))
 
   -- its names are a component of what is left
   pub chosen_one : IsOneOf (named names g) gone ids
@@ -92,11 +97,13 @@ pub part_whole : (n : ℕ) (parts : List Cluster) → All (IsCluster n) parts �
 part_whole n parts all c here = subst (IsCluster n) here.2 (all here.0 c here.1)
 
 -- where nothing is left to do, every name that is left is in a part
-pub held_all : (n : ℕ) (names : List ℕ) (g : Closure) (kept : IsNamed n names g) (gone : List ℕ) (rest : set.FinSet nat_cmp) (parts : List Cluster) → Splitting n names g gone rest parts → rest ≡ set.empty
+pub held_all : (n : ℕ) (names : List ℕ) (g : Closure) (kept : IsNamed n names g) (gone : List ℕ) (rest : set.FinSet nat_cmp) (parts : List Cluster)
+    → Splitting n names g gone rest parts → rest ≡ set.empty
     → (id : ℕ) → IsLeft (named names g) gone id → (m : List ℕ) × Contains (map (λ (c : Cluster). c.names) parts) m × Contains m id
 held_all n names g kept gone rest parts so none id left =
     let at = member-stands names g kept.once id left.0 in
-    let done : IsDoneAt names gone rest at.0 = record { low = at.1; other = λ held. left.1 (subst (Contains gone) at.2 held); taken = ap (λ s. set.contains s at.0) none ∙ contains-empty at.0 } in
+    let done : IsDoneAt names gone rest at.0 =
+    record { low = at.1; other = λ held. left.1 (subst (Contains gone) at.2 held); taken = ap (λ s. set.contains s at.0) none ∙ contains-empty at.0 } in
     let up = so.back id id (record {
       first = at.0;
       second = at.0;

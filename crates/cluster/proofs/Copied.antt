@@ -24,7 +24,8 @@ module _ (n : ℕ) (names : List ℕ) (g h : Closure) (kept : IsNamed n names g)
 
   rate_at : (p : ℕ) → p < length names → rate_of h p ≡ rate_of g p
   rate_at p low =
-      subst (λ (q : ℕ). rate_of h q ≡ rate_of g (slice_index (places n (members_of g)) p)) (zero-add p) (part.copy.rates p (subst (λ m. p < m) (sym long) low)) ∙ ap (rate_of g) (at p low)
+      subst (λ (q : ℕ). rate_of h q ≡ rate_of g (slice_index (places n (members_of g)) p)) (zero-add p) (part.copy.rates p (subst (λ m. p < m) (sym long) low))
+      ∙ ap (rate_of g) (at p low)
 
   rates : (p : ℕ) → rate_of h p ≡ rate_of g p
   rates p = elim (cases_lt p (length names)) [
@@ -34,7 +35,8 @@ module _ (n : ℕ) (names : List ℕ) (g h : Closure) (kept : IsNamed n names g)
 
   above_at : (a d : ℕ) → a < length names → d < length names → is_ancestor h a d ≡ is_ancestor g a d
   above_at a d low below =
-      subst₂ (λ (x y : ℕ). is_ancestor h x y ≡ is_ancestor g (slice_index (places n (members_of g)) a) (slice_index (places n (members_of g)) d)) (zero-add a) (zero-add d)
+      subst₂ (λ (x y : ℕ). is_ancestor h x y ≡ is_ancestor g (slice_index (places n (members_of g)) a) (slice_index (places n (members_of g)) d))
+      (zero-add a) (zero-add d)
       (part.copy.ancestors a d (subst (λ m. a < m) (sym long) low) (subst (λ m. d < m) (sym long) below))
       ∙ ap₂ (is_ancestor g) (at a low) (at d below)
 

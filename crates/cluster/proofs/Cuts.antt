@@ -25,7 +25,8 @@ module _ {X A : Type 0} (f : X → List A) where
   reach_more [] k d low = absurd (omega arith)
   reach_more (x ∷ xs) zero d low = let e : length (f x ++ []) ≡ length (f x) = ap length (append-nil (f x)) in omega arith
   reach_more (x ∷ xs) (suc k) d low =
-      ap (reach f (x ∷ xs)) (let e : suc k + 1 ≡ suc (k + 1) = omega arith in e) ∙ reach_next x xs (k + 1) ∙ ap (λ m. length (f x) + m) (reach_more xs k d (omega arith))
+      ap (reach f (x ∷ xs)) (let e : suc k + 1 ≡ suc (k + 1) = omega arith in e)
+      ∙ reach_next x xs (k + 1) ∙ ap (λ m. length (f x) + m) (reach_more xs k d (omega arith))
       ∙ (let e : length (f x) + (reach f xs k + length (f (get_or xs k d))) ≡ length (f x) + reach f xs k + length (f (get_or xs k d)) = omega arith in e)
       ∙ ap (λ m. m + length (f (get_or xs k d))) (sym (reach_next x xs k))
 
@@ -37,15 +38,18 @@ module _ {X A : Type 0} (f : X → List A) where
   segment [] k d low = absurd (omega arith)
   segment (x ∷ xs) zero d low = take_front (f x) (flat_map f xs)
   segment (x ∷ xs) (suc k) d low =
-      ap (λ zs. take (length (f (get_or xs k d))) zs) (ap (λ m. drop m (f x ++ flat_map f xs)) (reach_next x xs k) ∙ drop_more (f x) (flat_map f xs) (reach f xs k)) ∙ segment xs k d (omega arith)
+      ap (λ zs. take (length (f (get_or xs k d))) zs)
+      (ap (λ m. drop m (f x ++ flat_map f xs)) (reach_next x xs k) ∙ drop_more (f x) (flat_map f xs) (reach f xs k)) ∙ segment xs k d (omega arith)
 
   pub reach_within : (xs : List X) (k : ℕ) → reach f xs k ≤ length (flat_map f xs)
   reach_within [] k = omega (arith, ap (λ (ys : List X). length (flat_map f ys)) (Rattle.std.proofs.Math.Seq.take-nil {A = X} k))
   reach_within (x ∷ xs) zero = omega arith
-  reach_within (x ∷ xs) (suc k) = let rest : reach f xs k ≤ length (flat_map f xs) = reach_within xs k in omega (arith, reach_next x xs k, length-append (f x) (flat_map f xs))
+  reach_within (x ∷ xs) (suc k) = let rest : reach f xs k ≤ length (flat_map f xs) = reach_within xs k in
+      omega (arith, reach_next x xs k, length-append (f x) (flat_map f xs))
 
   -- an entry of one of the lists, by its position in all
-  pub at_reach : (xs : List X) (k i : ℕ) (d : X) (e : A) → k < length xs → i < length (f (get_or xs k d)) → get_or (flat_map f xs) (reach f xs k + i) e ≡ get_or (f (get_or xs k d)) i e
+  pub at_reach : (xs : List X) (k i : ℕ) (d : X) (e : A) → k < length xs → i < length (f (get_or xs k d))
+      → get_or (flat_map f xs) (reach f xs k + i) e ≡ get_or (f (get_or xs k d)) i e
   at_reach xs k i d e low inside =
       sym (Rattle.std.proofs.lemmas.List.get_or-drop (reach f xs k) (flat_map f xs) i e)
       ∙ sym (Rattle.std.proofs.lemmas.List.get_or-take (length (f (get_or xs k d))) (drop (reach f xs k) (flat_map f xs)) i e inside)
@@ -62,11 +66,14 @@ module _ {X A : Type 0} (f : X → List A) where
 
 -- ---- parts
 
-cut_one : (i j : ℕ) (e : PartEnd) (p : Part) (order : List ℕ) (flows : List Flow) (rest_order : List ℕ) (rest_flows : List Flow) → sum_in e ≡ p.rate → e.end ≡ i + length p.ids → e.flow_end ≡ j + length p.flows
-    → p.ids ++ rest_order ≡ order → p.flows ++ rest_flows ≡ flows → record { rate = sum_in e; ids = take (e.end - i) order; flows = take (e.flow_end - j) flows } ≡ p
+cut_one : (i j : ℕ) (e : PartEnd) (p : Part) (order : List ℕ) (flows : List Flow) (rest_order : List ℕ) (rest_flows : List Flow)
+    → sum_in e ≡ p.rate → e.end ≡ i + length p.ids → e.flow_end ≡ j + length p.flows
+    → p.ids ++ rest_order ≡ order → p.flows ++ rest_flows ≡ flows
+    → record { rate = sum_in e; ids = take (e.end - i) order; flows = take (e.flow_end - j) flows } ≡ p
 cut_one i j e p order flows rest_order rest_flows rate end flow_end order_is flows_are =
     let ids : take (e.end - i) order ≡ p.ids = ap₂ take (let n : e.end - i ≡ length p.ids = omega arith in n) (sym order_is) ∙ take_front p.ids rest_order in
-    let own : take (e.flow_end - j) flows ≡ p.flows = ap₂ take (let n : e.flow_end - j ≡ length p.flows = omega arith in n) (sym flows_are) ∙ take_front p.flows rest_flows in
+    let own : take (e.flow_end - j) flows ≡ p.flows =
+    ap₂ take (let n : e.flow_end - j ≡ length p.flows = omega arith in n) (sym flows_are) ∙ take_front p.flows rest_flows in
     λ t. record { rate = rate t; ids = ids t; flows = own t }
 
 pub cut_is : (ends : List PartEnd) (parts : List Part) (i j : ℕ) (order : List ℕ) (flows : List Flow) → map sum_in ends ≡ map (λ part. part.rate) parts
@@ -79,11 +86,14 @@ cut_is (e ∷ es) [] i j order flows rates ends flow_ends order_is flows_are = a
 cut_is (e ∷ es) (p ∷ ps) i j order flows rates ends flow_ends order_is flows_are =
     let end : e.end ≡ i + length p.ids = first_of ends in
     let flow_end : e.flow_end ≡ j + length p.flows = first_of flow_ends in
-    let order_left : drop (e.end - i) order ≡ placed ps = ap₂ drop (let n : e.end - i ≡ length p.ids = omega arith in n) (sym order_is) ∙ drop-append_seam p.ids (placed ps) in
-    let flows_left : drop (e.flow_end - j) flows ≡ flows_in ps = ap₂ drop (let n : e.flow_end - j ≡ length p.flows = omega arith in n) (sym flows_are) ∙ drop-append_seam p.flows (flows_in ps) in
+    let order_left : drop (e.end - i) order ≡ placed ps =
+    ap₂ drop (let n : e.end - i ≡ length p.ids = omega arith in n) (sym order_is) ∙ drop-append_seam p.ids (placed ps) in
+    let flows_left : drop (e.flow_end - j) flows ≡ flows_in ps =
+    ap₂ drop (let n : e.flow_end - j ≡ length p.flows = omega arith in n) (sym flows_are) ∙ drop-append_seam p.flows (flows_in ps) in
     ap₂ {A = Part} {B = List Part} (λ x xs. x ∷ xs) (cut_one i j e p order flows (placed ps) (flows_in ps) (first_of rates) end flow_end order_is flows_are)
     (cut_is es ps e.end e.flow_end (drop (e.end - i) order) (drop (e.flow_end - j) flows) (rest_of rates)
-    (rest_of ends ∙ ap (λ m. totals m (map (λ part. length part.ids) ps)) (sym end)) (rest_of flow_ends ∙ ap (λ m. totals m (map (λ part. length part.flows) ps)) (sym flow_end)) (sym order_left) (sym flows_left))
+    (rest_of ends ∙ ap (λ m. totals m (map (λ part. length part.ids) ps)) (sym end))
+    (rest_of flow_ends ∙ ap (λ m. totals m (map (λ part. length part.flows) ps)) (sym flow_end)) (sym order_left) (sym flows_left))
 
 -- parts with their ends are what is cut off
 pub cut_whole : (ends : List PartEnd) (order : List ℕ) (flows : List Flow) (parts : List Part) → AreCut ends order flows parts → cut ends order flows ≡ parts

@@ -22,7 +22,8 @@ use Rattle.cluster.specs.Orders.{named_at, renamed_flow, AreRead, IsReadPart}
 use Rattle.cluster.proofs.Moves.{Certifies-moved}
 use Rattle.cluster.proofs.Reading.{map_map, rates_read, placed_read}
 
-pub matched : (f : ℕ → ℕ) (order : List ℕ) (ps qs : List Part) → AreRead f order ps qs → (q : Part) → Contains qs q → (p : Part) × Contains ps p × IsReadPart f order p q
+pub matched : (f : ℕ → ℕ) (order : List ℕ) (ps qs : List Part) → AreRead f order ps qs
+    → (q : Part) → Contains qs q → (p : Part) × Contains ps p × IsReadPart f order p q
 matched f order [] [] read q here = absurd (none_in_empty q here)
 matched f order [] (y ∷ qs) read q here = absurd read
 matched f order (x ∷ ps) [] read q here = absurd read
@@ -50,17 +51,21 @@ module _ (rate : ℕ → Sum) (graph : Graph) (IsLink : ℕ → ℕ → Type 0) 
   certifies q here =
       let at = matched f order ps qs read q here in
       let old : Certifies rate IsLink (map f at.0.ids) (map (renamed_flow f) at.0.flows) = certificate.flows (renamed_part f at.0) (renamed_there at.0 at.1) in
-      subst (λ (xs : List ℕ). Certifies rate IsLink xs q.flows) (sym at.2.ids_are) (Certifies-moved rate IsLink (map f at.0.ids) (map (renamed_flow f) at.0.flows) q.flows at.2.same old)
+      subst (λ (xs : List ℕ). Certifies rate IsLink xs q.flows) (sym at.2.ids_are)
+      (Certifies-moved rate IsLink (map f at.0.ids) (map (renamed_flow f) at.0.flows) q.flows at.2.same old)
 
   pub certificate_read : IsCertificate rate graph IsLink qs
   certificate_read = record {
-    filled = λ q here empty. (let at = matched f order ps qs read q here in certificate.filled (renamed_part f at.0) (renamed_there at.0 at.1) (sym at.2.ids_are ∙ empty));
+    filled = λ q here empty.
+        (let at = matched f order ps qs read q here in certificate.filled (renamed_part f at.0) (renamed_there at.0 at.1) (sym at.2.ids_are ∙ empty));
     order = record {
       topological = subst (IsTopological graph) (placed_renamed f ps ∙ sym (placed_read names order ps qs read)) certificate.order.topological;
-      together = λ q here. (let at = matched f order ps qs read q here in subst (IsTogether graph.pairs) (sym at.2.ids_are) (certificate.order.together (renamed_part f at.0) (renamed_there at.0 at.1)));
+      together = λ q here. (let at = matched f order ps qs read q here in
+          subst (IsTogether graph.pairs) (sym at.2.ids_are) (certificate.order.together (renamed_part f at.0) (renamed_there at.0 at.1)));
     };
     falling = record {
-      summed = λ q here. (let at = matched f order ps qs read q here in at.2.rate_is ∙ certificate.falling.summed (renamed_part f at.0) (renamed_there at.0 at.1) ∙ ap (sums rate) (sym at.2.ids_are));
+      summed = λ q here. (let at = matched f order ps qs read q here in
+          at.2.rate_is ∙ certificate.falling.summed (renamed_part f at.0) (renamed_there at.0 at.1) ∙ ap (sums rate) (sym at.2.ids_are));
       falling = subst Falls (sym rates) certificate.falling.falling;
     };
     flows = certifies;
@@ -70,10 +75,12 @@ module _ (rate : ℕ → Sum) (graph : Graph) (IsLink : ℕ → ℕ → Type 0) 
 
 in_front : (xs : List ℕ) (i j : ℕ) → i < j → j < length xs → Contains (take j xs) (slice_index xs i)
 in_front xs i j before low =
-    subst (Contains (take j xs)) (get_or-take j xs i 0 before) (Contains-get_or (take j xs) i 0 (let e : length (take j xs) ≡ j = length-take-le j xs (omega arith) in omega arith))
+    subst (Contains (take j xs)) (get_or-take j xs i 0 before)
+    (Contains-get_or (take j xs) i 0 (let e : length (take j xs) ≡ j = length-take-le j xs (omega arith) in omega arith))
 
 before_at : (xs : List ℕ) (i j : ℕ) → i < j → j < length xs → StandsBefore xs (slice_index xs i) (slice_index xs j)
-before_at xs i j before low = (take j xs, drop (suc j) xs, sym (take-append-drop j xs) ∙ ap (λ ys. take j xs ++ ys) (drop-cons xs j 0 low), in_front xs i j before low)
+before_at xs i j before low =
+    (take j xs, drop (suc j) xs, sym (take-append-drop j xs) ∙ ap (λ ys. take j xs ++ ys) (drop-cons xs j 0 low), in_front xs i j before low)
 
 -- positions of two entries, of which one precedes the other
 precedes_at : {A : Type 0} (xs : List A) (a b d : A) → Precedes xs a b → (i j : ℕ) × (i < j) × (j < length xs) × (get_or xs i d ≡ a) × (get_or xs j d ≡ b)
@@ -86,21 +93,26 @@ precedes_at {A} xs a b d p =
       here.0,
       length front,
       here.1,
-      (let l : length xs ≡ length front + length (b ∷ rest) = ap length split ∙ length-append front (b ∷ rest) in let some : 0 < length (b ∷ rest) = omega arith in omega arith),
+      (let l : length xs ≡ length front + length (b ∷ rest) =
+          ap length split ∙ length-append front (b ∷ rest) in let some : 0 < length (b ∷ rest) = omega arith in omega arith),
       ap (λ ys. get_or ys here.0 d) split ∙ get_or_append_left front (b ∷ rest) d here.0 here.1 ∙ at,
-      ap (λ ys. get_or ys (length front) d) split ∙ get_or-append_right front (b ∷ rest) (length front) (length front) d refl (omega arith) ∙ ap (λ m. get_or (b ∷ rest) m d) (let e : length front - length front ≡ 0 = omega arith in e),
+      ap (λ ys. get_or ys (length front) d) split ∙ get_or-append_right front (b ∷ rest) (length front) (length front) d refl (omega arith)
+          ∙ ap (λ m. get_or (b ∷ rest) m d) (let e : length front - length front ≡ 0 = omega arith in e),
     )
 
-module _ (f : ℕ → ℕ) (order : List ℕ) (old new : Part) (once : AreDistinct order) (read : IsReadPart f order old new) (once_links : AreDistinct {A = ℕ × ℕ} (links_of new.flows))
+module _ (f : ℕ → ℕ) (order : List ℕ) (old new : Part) (once : AreDistinct order)
+    (read : IsReadPart f order old new) (once_links : AreDistinct {A = ℕ × ℕ} (links_of new.flows))
     (inside : (flow : Flow) → Contains new.flows flow → Contains new.ids flow.child × Contains new.ids flow.parent) where
   -- a name of the part by its position in the order
-  position : (a : ℕ) → a < length order → Contains new.ids (slice_index order a) → (i : ℕ) × (i < length new.ids) × (slice_index new.ids i ≡ slice_index order a) × (a ≡ read.start + i)
+  position : (a : ℕ) → a < length order → Contains new.ids (slice_index order a)
+      → (i : ℕ) × (i < length new.ids) × (slice_index new.ids i ≡ slice_index order a) × (a ≡ read.start + i)
   position a low here =
       let at : slice_index new.ids here.0 ≡ slice_index order a = get_or_default new.ids here.0 0 (slice_index order a) here.1 ∙ here.2 in
       let there = read.there here.0 here.1 in
       (here.0, here.1, at, one_place order a (read.start + here.0) 0 once low there.0 (sym at ∙ sym there.1))
 
-  before : (a b : ℕ) → a < b → b < length order → Contains new.ids (slice_index order a) → Contains new.ids (slice_index order b) → StandsBefore new.ids (slice_index order a) (slice_index order b)
+  before : (a b : ℕ) → a < b → b < length order → Contains new.ids (slice_index order a)
+      → Contains new.ids (slice_index order b) → StandsBefore new.ids (slice_index order a) (slice_index order b)
   before a b earlier low first second =
       let one = position a (omega arith) first in
       let two = position b low second in
@@ -123,11 +135,14 @@ module _ (f : ℕ → ℕ) (order : List ℕ) (old new : Part) (once : AreDistin
 
   flow_there : (k : ℕ) → k < length read.moved → Contains new.flows (named_at order (get_or read.moved k no_flow))
   flow_there k low =
-      subst (Contains new.flows) (flow_at k low) (Contains-get_or new.flows k none (let l : length new.flows ≡ length read.moved = ap length read.flows_are ∙ length-map read.moved (named_at order) in omega arith))
+      subst (Contains new.flows) (flow_at k low) (Contains-get_or new.flows k none
+      (let l : length new.flows ≡ length read.moved = ap length read.flows_are ∙ length-map read.moved (named_at order) in omega arith))
 
   link_at : (k : ℕ) → k < length read.moved → get_or (links_of new.flows) k (0, 0) ≡ link_of (named_at order (get_or read.moved k no_flow))
   link_at k low =
-      get_or-map link_of new.flows k none (0, 0) (let l : length new.flows ≡ length read.moved = ap length read.flows_are ∙ length-map read.moved (named_at order) in omega arith) ∙ ap link_of (flow_at k low)
+      get_or-map link_of new.flows k none (0, 0)
+      (let l : length new.flows ≡ length read.moved = ap length read.flows_are ∙ length-map read.moved (named_at order) in omega arith)
+      ∙ ap link_of (flow_at k low)
 
   pub flows_follow : FollowOrder new.ids (links_of new.flows)
   flows_follow a b precedes =

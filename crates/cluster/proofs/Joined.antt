@@ -25,13 +25,15 @@ use Rattle.cluster.proofs.Listings.{contains-members_of}
 
 none_from : (f : ℕ → Bool) (a n : ℕ) → ((p : ℕ) → a ≤ p → f p ≡ false) → filter f (range_with_len a n) ≡ []
 none_from f a zero none = refl
-none_from f a (suc n) none = ap (λ b. cond b (a ∷ filter f (range_with_len (a + 1) n)) (filter f (range_with_len (a + 1) n))) (none a (omega arith)) ∙ none_from f (a + 1) n (λ p low. none p (omega arith))
+none_from f a (suc n) none = ap (λ b. cond b (a ∷ filter f (range_with_len (a + 1) n)) (filter f (range_with_len (a + 1) n))) (none a (omega arith))
+    ∙ none_from f (a + 1) n (λ p low. none p (omega arith))
 
 dense : (f : ℕ → Bool) (a k n : ℕ) → k ≤ n → ((p : ℕ) → a ≤ p → f p ≡ nat_lt p (a + k)) → filter f (range_with_len a n) ≡ range_with_len a k
 dense f a zero n few tells = none_from f a n (λ p low. tells p low ∙ le-ltb p (a + 0) (omega arith))
 dense f a (suc k) zero few tells = absurd (omega arith)
 dense f a (suc k) (suc n) few tells =
-    ap (λ b. cond b (a ∷ filter f (range_with_len (a + 1) n)) (filter f (range_with_len (a + 1) n))) (tells a (omega arith) ∙ lt-ltb a (a + suc k) (omega arith))
+    ap (λ b. cond b (a ∷ filter f (range_with_len (a + 1) n)) (filter f (range_with_len (a + 1) n)))
+    (tells a (omega arith) ∙ lt-ltb a (a + suc k) (omega arith))
     ∙ ap (λ xs. a ∷ xs) (dense f (a + 1) k n (omega arith) (λ p low. tells p (omega arith) ∙ ap (nat_lt p) (let e : a + suc k ≡ a + 1 + k = omega arith in e)))
 
 member_bound : (n : ℕ) (names : List ℕ) (g : Closure) → IsNamed n names g → IsWithin n (members_of g)
@@ -76,31 +78,36 @@ module _ (n : ℕ) (xs ys : List ℕ) (f g h : Closure) (one : IsNamed n xs f) (
     first_at i in_first = get_or_append_left xs ys 0 i in_first
 
     second_at : (j : ℕ) → slice_index all (length xs + j) ≡ slice_index ys j
-    second_at j = get_or-append_right xs ys (length xs) (length xs + j) 0 refl (omega arith) ∙ ap (slice_index ys) (let e : length xs + j - length xs ≡ j = omega arith in e)
+    second_at j = get_or-append_right xs ys (length xs) (length xs + j) 0 refl (omega arith)
+        ∙ ap (slice_index ys) (let e : length xs + j - length xs ≡ j = omega arith in e)
 
     -- the relation of the merged graph, by its two parts
     first_above : (i j : ℕ) → i < length xs → j < length xs → is_ancestor h i j ≡ is_ancestor f i j
     first_above i j p q =
-        subst₂ (λ a b. is_ancestor h a b ≡ is_ancestor f (slice_index (places n (members_of f)) i) (slice_index (places n (members_of f)) j)) (zero-add i) (zero-add j)
+        subst₂ (λ a b. is_ancestor h a b ≡ is_ancestor f (slice_index (places n (members_of f)) i) (slice_index (places n (members_of f)) j))
+        (zero-add i) (zero-add j)
         (merged.first.ancestors i j (subst (λ m. i < m) (sym (dense_long n xs f one)) p) (subst (λ m. j < m) (sym (dense_long n xs f one)) q))
         ∙ ap₂ (is_ancestor f) (dense_at n xs f one i p) (dense_at n xs f one j q)
 
     second_above : (i j : ℕ) → i < length ys → j < length ys → is_ancestor h (length xs + i) (length xs + j) ≡ is_ancestor g i j
     second_above i j p q =
-        subst (λ m. is_ancestor h (m + i) (m + j) ≡ is_ancestor g (slice_index (places n (members_of g)) i) (slice_index (places n (members_of g)) j)) (dense_long n xs f one)
+        subst (λ m. is_ancestor h (m + i) (m + j) ≡ is_ancestor g (slice_index (places n (members_of g)) i) (slice_index (places n (members_of g)) j))
+        (dense_long n xs f one)
         (merged.second.ancestors i j (subst (λ m. i < m) (sym (dense_long n ys g two)) p) (subst (λ m. j < m) (sym (dense_long n ys g two)) q))
         ∙ ap₂ (is_ancestor g) (dense_at n ys g two i p) (dense_at n ys g two j q)
 
     first_rate : (i : ℕ) → i < length xs → rate_of h' i ≡ rate_of f i
     first_rate i p =
         pair.rates i
-        ∙ subst (λ a. rate_of h a ≡ rate_of f (slice_index (places n (members_of f)) i)) (zero-add i) (merged.first.rates i (subst (λ m. i < m) (sym (dense_long n xs f one)) p))
+        ∙ subst (λ a. rate_of h a ≡ rate_of f (slice_index (places n (members_of f)) i))
+        (zero-add i) (merged.first.rates i (subst (λ m. i < m) (sym (dense_long n xs f one)) p))
         ∙ ap (rate_of f) (dense_at n xs f one i p)
 
     second_rate : (j : ℕ) → j < length ys → rate_of h' (length xs + j) ≡ rate_of g j
     second_rate j p =
         pair.rates (length xs + j)
-        ∙ subst (λ m. rate_of h (m + j) ≡ rate_of g (slice_index (places n (members_of g)) j)) (dense_long n xs f one) (merged.second.rates j (subst (λ m. j < m) (sym (dense_long n ys g two)) p))
+        ∙ subst (λ m. rate_of h (m + j) ≡ rate_of g (slice_index (places n (members_of g)) j))
+        (dense_long n xs f one) (merged.second.rates j (subst (λ m. j < m) (sym (dense_long n ys g two)) p))
         ∙ ap (rate_of g) (dense_at n ys g two j p)
 
     -- a place of the joined cluster is one of either part
@@ -111,7 +118,8 @@ module _ (n : ℕ) (xs ys : List ℕ) (f g h : Closure) (one : IsNamed n xs f) (
     side : (p : ℕ) → p < length all → Side p
     side p inside = elim (cases_lt p (length xs)) [
       | inl first ↦ Left p first
-      | inr later ↦ subst Side (let e : length xs + (p - length xs) ≡ p = omega arith in e) (Right (p - length xs) (let l : length all ≡ length xs + length ys = long in omega arith))
+      | inr later ↦ subst Side (let e : length xs + (p - length xs) ≡ p = omega arith in e)
+          (Right (p - length xs) (let l : length all ≡ length xs + length ys = long in omega arith))
     ]
 
     once_all : AreDistinct all
@@ -147,7 +155,8 @@ module _ (n : ℕ) (xs ys : List ℕ) (f g h : Closure) (one : IsNamed n xs f) (
     second_related : (i j : ℕ) → IsRelated g i j → IsRelated h' (length xs + i) (length xs + j)
     second_related i j related = elim related [
       | inl up ↦ let ends = two.order.among i j up in inl (more (length xs + i) (length xs + j) (second_above i j (inside i ends.0) (inside j ends.1) ∙ up))
-      | inr down ↦ let ends = two.order.among j i down in inr (more (length xs + j) (length xs + i) (second_above j i (inside j ends.0) (inside i ends.1) ∙ down))
+      | inr down ↦ let ends = two.order.among j i down in
+          inr (more (length xs + j) (length xs + i) (second_above j i (inside j ends.0) (inside i ends.1) ∙ down))
     ]
       where
         inside : (p : ℕ) → is_member g p ≡ true → p < length ys
@@ -188,14 +197,16 @@ module _ (n : ℕ) (xs ys : List ℕ) (f g h : Closure) (one : IsNamed n xs f) (
           once = once_all;
           members = λ p. pair.members p ∙ merged_member p ∙ ap (nat_lt p) (sym long);
           order = closed.order;
-          whole = λ p q inside within. Walk-trans (IsRelated h') p join.0 q (to_first join.0 join.1 join.2 join.3 join.4 p (side p inside)) (Walk-back (IsRelated h') turn q join.0 (to_first join.0 join.1 join.2 join.3 join.4 q (side q within)));
+          whole = λ p q inside within. Walk-trans (IsRelated h') p join.0 q (to_first join.0 join.1 join.2 join.3 join.4 p (side p inside))
+              (Walk-back (IsRelated h') turn q join.0 (to_first join.0 join.1 join.2 join.3 join.4 q (side q within)));
           rates = λ p inside. rate_at p (side p inside);
         }
 
     -- ---- by names
 
     no_ancestor : (zs : List ℕ) (k : Closure) → AreDistinct zs → (a d : ℕ) → (Stands zs a → ⊥) ⊎ (Stands zs d → ⊥) → is_ancestor (named zs k) a d ≡ false
-    no_ancestor zs k once a d absent = false_from_ne_true (is_ancestor (named zs k) a d) (λ up. let ends = ancestor_ends zs k once a d up in elim absent [ inl none ↦ none ends.0 | inr none ↦ none ends.1 ])
+    no_ancestor zs k once a d absent = false_from_ne_true (is_ancestor (named zs k) a d)
+        (λ up. let ends = ancestor_ends zs k once a d up in elim absent [ inl none ↦ none ends.0 | inr none ↦ none ends.1 ])
 
     not_second : (i : ℕ) → i < length xs → Stands ys (slice_index xs i) → ⊥
     not_second i inside there = apart (slice_index xs i) (Stands-contains xs (slice_index xs i) (i, inside, refl)) (Stands-contains ys (slice_index xs i) there)
@@ -216,25 +227,31 @@ module _ (n : ℕ) (xs ys : List ℕ) (f g h : Closure) (one : IsNamed n xs f) (
     either : (p q : ℕ) → Side p → Side q → is_ancestor h p q ≡ H (slice_index all p) (slice_index all q)
     either p q (Left i first) (Left j second) =
         first_above i j first second ∙ sym (named-ancestor xs f one.once i j first second) ∙ sym (or_false (F (slice_index xs i) (slice_index xs j)))
-        ∙ ap (λ b. F (slice_index xs i) (slice_index xs j) || b) (sym (no_ancestor ys g two.once (slice_index xs i) (slice_index xs j) (inl (not_second i first))))
+        ∙ ap (λ b. F (slice_index xs i) (slice_index xs j) || b)
+        (sym (no_ancestor ys g two.once (slice_index xs i) (slice_index xs j) (inl (not_second i first))))
         ∙ sym (ap₂ (λ a d. F a d || G a d) (first_at i first) (first_at j second))
     either p q (Left i first) (Right j second) =
         (across i (length xs + j) first (omega arith)).0
-        ∙ sym (ap₂ (λ x y. x || y) (no_ancestor xs f one.once (slice_index xs i) (slice_index ys j) (inr (not_first j second))) (no_ancestor ys g two.once (slice_index xs i) (slice_index ys j) (inl (not_second i first))))
+        ∙ sym (ap₂ (λ x y. x || y) (no_ancestor xs f one.once (slice_index xs i) (slice_index ys j) (inr (not_first j second)))
+        (no_ancestor ys g two.once (slice_index xs i) (slice_index ys j) (inl (not_second i first))))
         ∙ sym (ap₂ (λ a d. F a d || G a d) (first_at i first) (second_at j))
     either p q (Right i first) (Left j second) =
         (across j (length xs + i) second (omega arith)).1
-        ∙ sym (ap₂ (λ x y. x || y) (no_ancestor xs f one.once (slice_index ys i) (slice_index xs j) (inl (not_first i first))) (no_ancestor ys g two.once (slice_index ys i) (slice_index xs j) (inr (not_second j second))))
+        ∙ sym (ap₂ (λ x y. x || y) (no_ancestor xs f one.once (slice_index ys i) (slice_index xs j) (inl (not_first i first)))
+        (no_ancestor ys g two.once (slice_index ys i) (slice_index xs j) (inr (not_second j second))))
         ∙ sym (ap₂ (λ a d. F a d || G a d) (second_at i) (first_at j second))
     either p q (Right i first) (Right j second) =
         second_above i j first second ∙ sym (named-ancestor ys g two.once i j first second)
-        ∙ ap (λ b. b || G (slice_index ys i) (slice_index ys j)) (sym (no_ancestor xs f one.once (slice_index ys i) (slice_index ys j) (inl (not_first i first))))
+        ∙ ap (λ b. b || G (slice_index ys i) (slice_index ys j))
+        (sym (no_ancestor xs f one.once (slice_index ys i) (slice_index ys j) (inl (not_first i first))))
         ∙ sym (ap₂ (λ a d. F a d || G a d) (second_at i) (second_at j))
 
     in_all : (id : ℕ) → Stands xs id ⊎ Stands ys id → Stands all id
     in_all id at = elim at [
-      | inl first ↦ (first.0, (let l : length all ≡ length xs + length ys = long in let p : first.0 < length xs = first.1 in omega arith), first_at first.0 first.1 ∙ first.2)
-      | inr second ↦ (length xs + second.0, (let l : length all ≡ length xs + length ys = long in let p : second.0 < length ys = second.1 in omega arith), second_at second.0 ∙ second.2)
+      | inl first ↦
+          (first.0, (let l : length all ≡ length xs + length ys = long in let p : first.0 < length xs = first.1 in omega arith), first_at first.0 first.1 ∙ first.2)
+      | inr second ↦
+          (length xs + second.0, (let l : length all ≡ length xs + length ys = long in let p : second.0 < length ys = second.1 in omega arith), second_at second.0 ∙ second.2)
     ]
 
     above_ends : (a d : ℕ) → H a d ≡ true → Stands all a × Stands all d
@@ -267,12 +284,14 @@ module _ (n : ℕ) (xs ys : List ℕ) (f g h : Closure) (one : IsNamed n xs f) (
       named_ends : (c d : ℕ) → (H c d || (H c (slice_index all a) && H (slice_index all b) d)) ≡ true → Stands all c × Stands all d
       named_ends c d holds = elim (or_cases (H c d) (H c (slice_index all a) && H (slice_index all b) d) holds) [
         | inl old ↦ above_ends c d old
-        | inr new ↦ let both = and_parts (H c (slice_index all a)) (H (slice_index all b) d) new in ((above_ends c (slice_index all a) both.0).0, (above_ends (slice_index all b) d both.1).1)
+        | inr new ↦ let both = and_parts (H c (slice_index all a)) (H (slice_index all b) d) new in
+            ((above_ends c (slice_index all a) both.0).0, (above_ends (slice_index all b) d both.1).1)
       ]
 
       pub Joins-named : Joins (named xs f) (named ys g) (slice_index (xs ++ ys) a) (slice_index (xs ++ ys) b) (named (xs ++ ys) h')
       Joins-named = record {
         first_rates = named_first_rate;
         second_rates = named_second_rate;
-        ancestors = by_places all (is_ancestor (named all h')) (λ c d. H c d || (H c (slice_index all a) && H (slice_index all b) d)) at_places (ancestor_ends all h' once_all) named_ends;
+        ancestors = by_places all (is_ancestor (named all h'))
+            (λ c d. H c d || (H c (slice_index all a) && H (slice_index all b) d)) at_places (ancestor_ends all h' once_all) named_ends;
       }

@@ -12,8 +12,10 @@ use Rattle.cluster.proofs.At.{IsAt}
 use Rattle.cluster.proofs.Joined.{IsAcross, merged_member, across, IsNamed-joined, Joins-named}
 use Rattle.cluster.proofs.Names.{Contains-stands}
 
-module _ (n : ℕ) (xs ys : List ℕ) (f g h : Closure) (one : IsNamed n xs f) (two : IsNamed n ys g) (few : length xs + length ys ≤ n) (apart : (id : ℕ) → Contains xs id → Contains ys id → ⊥)
-    (merged : IsMerged f g (places n (members_of f)) (places n (members_of g)) h) (a b parent child : ℕ) (above : IsAt (xs ++ ys) a parent) (below : IsAt (xs ++ ys) b child) (sides : AreAcross xs ys parent child) where
+module _ (n : ℕ) (xs ys : List ℕ) (f g h : Closure) (one : IsNamed n xs f) (two : IsNamed n ys g)
+    (few : length xs + length ys ≤ n) (apart : (id : ℕ) → Contains xs id → Contains ys id → ⊥)
+    (merged : IsMerged f g (places n (members_of f)) (places n (members_of g)) h) (a b parent child : ℕ)
+    (above : IsAt (xs ++ ys) a parent) (below : IsAt (xs ++ ys) b child) (sides : AreAcross xs ys parent child) where
   once : AreDistinct (xs ++ ys)
   once = distinct_joined xs ys one.once two.once apart
 
@@ -24,7 +26,8 @@ module _ (n : ℕ) (xs ys : List ℕ) (f g h : Closure) (one : IsNamed n xs f) (
   in_first p id at here =
       let stands = Contains-stands xs id here in
       let inside : stands.0 < length xs = stands.1 in
-      let same : stands.0 ≡ p = one_place (xs ++ ys) stands.0 p 0 once (let l : length (xs ++ ys) ≡ length xs + length ys = long in omega arith) at.low (get_or_append_left xs ys 0 stands.0 stands.1 ∙ stands.2 ∙ sym at.here) in
+      let same : stands.0 ≡ p = one_place (xs ++ ys) stands.0 p 0 once (let l : length (xs ++ ys) ≡ length xs + length ys = long in omega arith) at.low
+      (get_or_append_left xs ys 0 stands.0 stands.1 ∙ stands.2 ∙ sym at.here) in
       subst (λ (m : ℕ). m < length xs) same stands.1
 
   in_second : (p id : ℕ) → IsAt (xs ++ ys) p id → Contains ys id → length xs ≤ p
@@ -32,8 +35,10 @@ module _ (n : ℕ) (xs ys : List ℕ) (f g h : Closure) (one : IsNamed n xs f) (
       let stands = Contains-stands ys id here in
       let inside : stands.0 < length ys = stands.1 in
       let there : slice_index (xs ++ ys) (length xs + stands.0) ≡ id =
-      get_or-append_right xs ys (length xs) (length xs + stands.0) 0 refl (omega arith) ∙ ap (slice_index ys) (let e : length xs + stands.0 - length xs ≡ stands.0 = omega arith in e) ∙ stands.2 in
-      let same : length xs + stands.0 ≡ p = one_place (xs ++ ys) (length xs + stands.0) p 0 once (let l : length (xs ++ ys) ≡ length xs + length ys = long in omega arith) at.low (there ∙ sym at.here) in
+      get_or-append_right xs ys (length xs) (length xs + stands.0) 0 refl (omega arith)
+      ∙ ap (slice_index ys) (let e : length xs + stands.0 - length xs ≡ stands.0 = omega arith in e) ∙ stands.2 in
+      let same : length xs + stands.0 ≡ p = one_place (xs ++ ys) (length xs + stands.0) p 0 once
+      (let l : length (xs ++ ys) ≡ length xs + length ys = long in omega arith) at.low (there ∙ sym at.here) in
       omega arith
 
   placed_across : IsAcross (length xs) a b
@@ -58,7 +63,8 @@ module _ (n : ℕ) (xs ys : List ℕ) (f g h : Closure) (one : IsNamed n xs f) (
 
     pub join_graph : Joins (named xs f) (named ys g) parent child (named (xs ++ ys) new)
     join_graph =
-        subst₂ (λ (x y : ℕ). Joins (named xs f) (named ys g) x y (named (xs ++ ys) new)) above.here below.here (Joins-named n xs ys f g h one two few apart merged new a b pair above.low below.low)
+        subst₂ (λ (x y : ℕ). Joins (named xs f) (named ys g) x y (named (xs ++ ys) new)) above.here below.here
+        (Joins-named n xs ys f g h one two few apart merged new a b pair above.low below.low)
 
 pub in_both : (xs ys : List ℕ) (parent child : ℕ) → AreAcross xs ys parent child → Contains (xs ++ ys) parent × Contains (xs ++ ys) child
 in_both xs ys parent child sides = elim sides [

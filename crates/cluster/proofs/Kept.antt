@@ -40,7 +40,8 @@ module _ (n : ℕ) (names : List ℕ) (g : Closure) (kept : IsNamed n names g) w
       let first = ancestor-stands names g kept.once a b up in
       let second = ancestor-stands names g kept.once b c down in
       let same : first.1 ≡ second.0 = one_place names first.1 second.0 0 kept.once first.3 second.2 (first.5 ∙ sym second.4) in
-      let joined : is_ancestor g first.0 second.1 ≡ true = kept.order.transitive first.0 second.0 second.1 (subst (λ (q : ℕ). is_ancestor g first.0 q ≡ true) same first.6) second.6 in
+      let joined : is_ancestor g first.0 second.1 ≡ true =
+      kept.order.transitive first.0 second.0 second.1 (subst (λ (q : ℕ). is_ancestor g first.0 q ≡ true) same first.6) second.6 in
       subst₂ (λ x y. is_ancestor (named names g) x y ≡ true) first.4 second.5 (named-ancestor names g kept.once first.0 second.1 first.2 second.3 ∙ joined)
 
   antisymmetric_named : (a b : ℕ) → is_ancestor (named names g) a b ≡ true → is_ancestor (named names g) b a ≡ true → a ≡ b
@@ -55,7 +56,8 @@ module _ (n : ℕ) (names : List ℕ) (g : Closure) (kept : IsNamed n names g) w
   reflexive_named : (a : ℕ) → is_member (named names g) a ≡ true → is_ancestor (named names g) a a ≡ true
   reflexive_named a member =
       let at = member-stands names g kept.once a member in
-      subst (λ x. is_ancestor (named names g) x x ≡ true) at.2 (named-ancestor names g kept.once at.0 at.0 at.1 at.1 ∙ kept.order.reflexive at.0 (place_member at.0 at.1))
+      subst (λ x. is_ancestor (named names g) x x ≡ true) at.2
+      (named-ancestor names g kept.once at.0 at.0 at.1 at.1 ∙ kept.order.reflexive at.0 (place_member at.0 at.1))
 
   among_named : (a d : ℕ) → is_ancestor (named names g) a d ≡ true → (is_member (named names g) a ≡ true) × (is_member (named names g) d ≡ true)
   among_named a d up =
@@ -68,7 +70,8 @@ module _ (n : ℕ) (names : List ℕ) (g : Closure) (kept : IsNamed n names g) w
   pub stands_member : (id : ℕ) → Stands names id → is_member (named names g) id ≡ true
   stands_member id at = subst (λ x. is_member (named names g) x ≡ true) at.2 (named-member names g kept.once at.0 at.1)
 
-  pub IsCluster-named : (parts : List Part) → ArePicked (named names g) parts → AreUncut (named names g) parts → IsCluster n (record { names = names; graph = named names g; parts = parts })
+  pub IsCluster-named : (parts : List Part) → ArePicked (named names g) parts → AreUncut (named names g) parts
+      → IsCluster n (record { names = names; graph = named names g; parts = parts })
   IsCluster-named parts picked uncut = record {
     some = kept.some;
     few = kept.few;
@@ -77,7 +80,8 @@ module _ (n : ℕ) (names : List ℕ) (g : Closure) (kept : IsNamed n names g) w
     order = order_named;
     whole = λ a b first second. linked_named a b (member-stands names g kept.once a first) (member-stands names g kept.once b second);
     rates = λ id member. let at = member-stands names g kept.once id member in
-        subst (λ x. IsRate (rate_of (named names g) x)) at.2 (subst (λ (rate : FeeRate). IsRate rate) (sym (named-rate names g kept.once at.0 at.1)) (kept.rates at.0 at.1));
+        subst (λ x. IsRate (rate_of (named names g) x)) at.2
+        (subst (λ (rate : FeeRate). IsRate rate) (sym (named-rate names g kept.once at.0 at.1)) (kept.rates at.0 at.1));
     picked = picked;
     uncut = uncut;
   }
@@ -85,7 +89,8 @@ module _ (n : ℕ) (names : List ℕ) (g : Closure) (kept : IsNamed n names g) w
 -- ---- changes
 
 -- tests that agree on the names at places, and fail elsewhere, agree
-pub by_places : (names : List ℕ) (F G : ℕ → ℕ → Bool) → ((p q : ℕ) → p < length names → q < length names → F (slice_index names p) (slice_index names q) ≡ G (slice_index names p) (slice_index names q))
+pub by_places : (names : List ℕ) (F G : ℕ → ℕ → Bool)
+    → ((p q : ℕ) → p < length names → q < length names → F (slice_index names p) (slice_index names q) ≡ G (slice_index names p) (slice_index names q))
     → ((a d : ℕ) → F a d ≡ true → Stands names a × Stands names d) → ((a d : ℕ) → G a d ≡ true → Stands names a × Stands names d) → (a d : ℕ) → F a d ≡ G a d
 by_places names F G agree first second a d = same_test (F a d) (G a d)
     (λ holds. let at = first a d holds in sym (at_names at.0 at.1) ∙ holds)
@@ -112,23 +117,28 @@ module _ (names : List ℕ) (g g' : Closure) (once : AreDistinct names) where
       (λ e. let at = member-stands names g' once id e in subst (λ x. is_member (named names g) x ≡ true) at.2 (named-member names g once at.0 at.1))
       (λ e. let at = member-stands names g once id e in subst (λ x. is_member (named names g') x ≡ true) at.2 (named-member names g' once at.0 at.1))
 
-  pub same_rate : (id : ℕ) → ((p : ℕ) → p < length names → slice_index names p ≡ id → rate_of g' p ≡ rate_of g p) → rate_of (named names g') id ≡ rate_of (named names g) id
+  pub same_rate : (id : ℕ) → ((p : ℕ) → p < length names → slice_index names p ≡ id → rate_of g' p ≡ rate_of g p)
+      → rate_of (named names g') id ≡ rate_of (named names g) id
   same_rate id same = elim (cases_Bool (is_member (named names g) id)) [
     | inl member ↦
         let at = member-stands names g once id member in
-        subst (λ x. rate_of (named names g') x ≡ rate_of (named names g) x) at.2 (named-rate names g' once at.0 at.1 ∙ same at.0 at.1 at.2 ∙ sym (named-rate names g once at.0 at.1))
+        subst (λ x. rate_of (named names g') x ≡ rate_of (named names g) x) at.2
+        (named-rate names g' once at.0 at.1 ∙ same at.0 at.1 at.2 ∙ sym (named-rate names g once at.0 at.1))
     | inr absent ↦ rate-none (named names g') id (same_members id ∙ absent) ∙ sym (rate-none (named names g) id absent)
   ]
 
-  pub AddsPair-named : (p q : ℕ) → p < length names → q < length names → AddsPair g g' p q → AddsPair (named names g) (named names g') (slice_index names p) (slice_index names q)
+  pub AddsPair-named : (p q : ℕ) → p < length names → q < length names → AddsPair g g' p q
+      → AddsPair (named names g) (named names g') (slice_index names p) (slice_index names q)
   AddsPair-named p q low below pair = record {
     members = same_members;
     rates = λ id. same_rate id (λ i _ _. pair.rates i);
-    ancestors = by_places names (is_ancestor (named names g')) (λ a d. is_ancestor (named names g) a d || (is_ancestor (named names g) a (slice_index names p) && is_ancestor (named names g) (slice_index names q) d))
+    ancestors = by_places names (is_ancestor (named names g'))
+        (λ a d. is_ancestor (named names g) a d || (is_ancestor (named names g) a (slice_index names p) && is_ancestor (named names g) (slice_index names q) d))
         (λ i j one two. named-ancestor names g' once i j one two ∙ pair.ancestors i j
         ∙ sym (λ k. named-ancestor names g once i j one two k || (named-ancestor names g once i p one low k && named-ancestor names g once q j below two k)))
         (ancestor_ends names g' once)
-        (λ a d holds. elim (or_cases (is_ancestor (named names g) a d) (is_ancestor (named names g) a (slice_index names p) && is_ancestor (named names g) (slice_index names q) d) holds) [
+        (λ a d holds. elim (or_cases (is_ancestor (named names g) a d)
+        (is_ancestor (named names g) a (slice_index names p) && is_ancestor (named names g) (slice_index names q) d) holds) [
           | inl old ↦ ancestor_ends names g once a d old
           | inr new ↦
               let both = and_parts (is_ancestor (named names g) a (slice_index names p)) (is_ancestor (named names g) (slice_index names q) d) new in
@@ -139,7 +149,8 @@ module _ (names : List ℕ) (g g' : Closure) (once : AreDistinct names) where
   pub SetsFee-named : (p : ℕ) (fee : ℤ) → p < length names → SetsFee g g' p fee → SetsFee (named names g) (named names g') (slice_index names p) fee
   SetsFee-named p fee low sets = record {
     members = same_members;
-    rate_is = named-rate names g' once p low ∙ sets.rate_is ∙ ap (λ (rate : FeeRate). record { fee = fee; size = rate.size }) (sym (named-rate names g once p low));
+    rate_is = named-rate names g' once p low ∙ sets.rate_is
+        ∙ ap (λ (rate : FeeRate). record { fee = fee; size = rate.size }) (sym (named-rate names g once p low));
     rates = λ id other. same_rate id (λ i _ is. sets.rates i (λ same. other (sym is ∙ ap (slice_index names) same)));
     ancestors = by_places names (is_ancestor (named names g')) (is_ancestor (named names g))
         (λ i j one two. named-ancestor names g' once i j one two ∙ sets.ancestors i j ∙ sym (named-ancestor names g once i j one two))
@@ -151,7 +162,8 @@ module _ (n : ℕ) (names : List ℕ) (g g' : Closure) (kept : IsNamed n names g
   more_related more p q related = elim related [ inl up ↦ inl (more p q up) | inr down ↦ inr (more q p down) ]
 
   -- with the same members, rates in range, and at least the same ancestors
-  IsNamed-more : ((p : ℕ) → is_member g' p ≡ is_member g p) → ((p : ℕ) → p < length names → IsRate (rate_of g' p)) → ((a d : ℕ) → is_ancestor g a d ≡ true → is_ancestor g' a d ≡ true) → IsNamed n names g'
+  IsNamed-more : ((p : ℕ) → is_member g' p ≡ is_member g p) → ((p : ℕ) → p < length names → IsRate (rate_of g' p))
+      → ((a d : ℕ) → is_ancestor g a d ≡ true → is_ancestor g' a d ≡ true) → IsNamed n names g'
   IsNamed-more members rates more = record {
     some = kept.some;
     few = kept.few;
@@ -163,7 +175,8 @@ module _ (n : ℕ) (names : List ℕ) (g g' : Closure) (kept : IsNamed n names g
   }
 
   pub IsNamed-pair : (p q : ℕ) → AddsPair g g' p q → IsNamed n names g'
-  IsNamed-pair p q pair = IsNamed-more pair.members (λ i low. subst (λ (rate : FeeRate). IsRate rate) (sym (pair.rates i)) (kept.rates i low)) (λ a d e. pair.ancestors a d ∙ ap (λ b. b || (is_ancestor g a p && is_ancestor g q d)) e)
+  IsNamed-pair p q pair = IsNamed-more pair.members (λ i low. subst (λ (rate : FeeRate). IsRate rate) (sym (pair.rates i)) (kept.rates i low))
+      (λ a d e. pair.ancestors a d ∙ ap (λ b. b || (is_ancestor g a p && is_ancestor g q d)) e)
 
   pub IsNamed-fee : (p : ℕ) (fee : ℤ) → IsFee fee → SetsFee g g' p fee → IsNamed n names g'
   IsNamed-fee p fee in_range sets = IsNamed-more sets.members rates (λ a d e. sets.ancestors a d ∙ e)
@@ -172,7 +185,8 @@ module _ (n : ℕ) (names : List ℕ) (g g' : Closure) (kept : IsNamed n names g
       rates i low = elim (cases_eq i p) [
         | inl same ↦
             let old : IsRate (rate_of g p) = subst (λ q. IsRate (rate_of g q)) same (kept.rates i low) in
-            subst (λ (q : ℕ). IsRate (rate_of g' q)) (sym same) (subst (λ (rate : FeeRate). IsRate rate) (sym sets.rate_is) (record { fee = in_range; some = old.some; size = old.size }))
+            subst (λ (q : ℕ). IsRate (rate_of g' q)) (sym same)
+            (subst (λ (rate : FeeRate). IsRate rate) (sym sets.rate_is) (record { fee = in_range; some = old.some; size = old.size }))
         | inr other ↦ subst (λ (rate : FeeRate). IsRate rate) (sym (sets.rates i other)) (kept.rates i low)
       ]
 

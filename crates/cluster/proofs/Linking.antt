@@ -21,7 +21,8 @@ module _ (n : ℕ) (names : List ℕ) (g h : Closure) (kept : IsNamed n names g)
       link_kept closed = IsNamed-pair n names h new copy closed p q pair
 
       pub link_graph : AddsPair (named names g) (named names new) a d
-      link_graph = subst₂ (λ (x y : ℕ). AddsPair (named names g) (named names new) x y) one.here two.here (AddsPair-named names g new kept.once p q one.low two.low (AddsPair-same g h new same p q pair))
+      link_graph = subst₂ (λ (x y : ℕ). AddsPair (named names g) (named names new) x y) one.here two.here
+          (AddsPair-named names g new kept.once p q one.low two.low (AddsPair-same g h new same p q pair))
 
   module _ (p a : ℕ) (fee : ℤ) (at : IsAt names p a) where
     pub fee_asks : is_member h p ≡ true
@@ -32,4 +33,5 @@ module _ (n : ℕ) (names : List ℕ) (g h : Closure) (kept : IsNamed n names g)
       fee_kept in_range closed = IsNamed-fee n names h new copy closed p fee in_range sets
 
       pub fee_graph : SetsFee (named names g) (named names new) a fee
-      fee_graph = subst (λ (x : ℕ). SetsFee (named names g) (named names new) x fee) at.here (SetsFee-named names g new kept.once p fee at.low (SetsFee-same g h new same p fee sets))
+      fee_graph = subst (λ (x : ℕ). SetsFee (named names g) (named names new) x fee) at.here
+          (SetsFee-named names g new kept.once p fee at.low (SetsFee-same g h new same p fee sets))

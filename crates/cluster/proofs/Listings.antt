@@ -37,27 +37,34 @@ module _ (n : ℕ) (names : List ℕ) (g : Closure) (kept : IsNamed n names g) w
   above_within p chosen is a here = member_place n names g kept a (kept.order.among a p (sym (ap (λ s. set.contains s a) is) ∙ here)).0
 
   pub below_within : (p : ℕ) (chosen : set.FinSet nat_cmp) → chosen ≡ descendants_of g p → IsWithin (length names) chosen
-  below_within p chosen is d here = member_place n names g kept d (and_parts (is_member g d) (is_ancestor g p d) (sym (ap (λ s. set.contains s d) is ∙ contains-descendants_of g p d) ∙ here)).0
+  below_within p chosen is d here = member_place n names g kept d
+      (and_parts (is_member g d) (is_ancestor g p d) (sym (ap (λ s. set.contains s d) is ∙ contains-descendants_of g p d) ∙ here)).0
 
-  pub all_listed : (chosen : set.FinSet nat_cmp) (ids : List ℕ) → chosen ≡ first_places (length names) → Lists (IsChosen names chosen) ids → Lists (λ id. Contains names id) ids
+  pub all_listed : (chosen : set.FinSet nat_cmp) (ids : List ℕ) → chosen ≡ first_places (length names)
+      → Lists (IsChosen names chosen) ids → Lists (λ id. Contains names id) ids
   all_listed chosen ids is lists = Lists-for (IsChosen names chosen) (λ id. Contains names id) ids
       (λ id at. Stands-contains names id (at.0, at.1, at.3))
-      (λ id here. let at = Contains-stands names id here in (at.0, at.1, ap (λ s. set.contains s at.0) is ∙ contains-first_places (length names) at.0 ∙ lt-ltb at.0 (length names) at.1, at.2))
+      (λ id here. let at = Contains-stands names id here in
+      (at.0, at.1, ap (λ s. set.contains s at.0) is ∙ contains-first_places (length names) at.0 ∙ lt-ltb at.0 (length names) at.1, at.2))
       lists
 
-  pub above_listed : (p : ℕ) (chosen : set.FinSet nat_cmp) (ids : List ℕ) → p < length names → chosen ≡ ancestors_of g p → Lists (IsChosen names chosen) ids → Lists (λ id. is_ancestor (named names g) id (slice_index names p) ≡ true) ids
+  pub above_listed : (p : ℕ) (chosen : set.FinSet nat_cmp) (ids : List ℕ) → p < length names → chosen ≡ ancestors_of g p
+      → Lists (IsChosen names chosen) ids → Lists (λ id. is_ancestor (named names g) id (slice_index names p) ≡ true) ids
   above_listed p chosen ids low is lists = Lists-for (IsChosen names chosen) (λ id. is_ancestor (named names g) id (slice_index names p) ≡ true) ids
-      (λ id at. subst (λ x. is_ancestor (named names g) x (slice_index names p) ≡ true) at.3 (named-ancestor names g kept.once at.0 p at.1 low ∙ sym (ap (λ s. set.contains s at.0) is) ∙ at.2))
+      (λ id at. subst (λ x. is_ancestor (named names g) x (slice_index names p) ≡ true) at.3
+      (named-ancestor names g kept.once at.0 p at.1 low ∙ sym (ap (λ s. set.contains s at.0) is) ∙ at.2))
       (λ id up.
       let at = ancestor-stands names g kept.once id (slice_index names p) up in
       let same : at.1 ≡ p = one_place names at.1 p 0 kept.once at.3 low at.5 in
       (at.0, at.2, ap (λ s. set.contains s at.0) is ∙ subst (λ q. is_ancestor g at.0 q ≡ true) same at.6, at.4))
       lists
 
-  pub below_listed : (p : ℕ) (chosen : set.FinSet nat_cmp) (ids : List ℕ) → p < length names → chosen ≡ descendants_of g p → Lists (IsChosen names chosen) ids → Lists (λ id. is_ancestor (named names g) (slice_index names p) id ≡ true) ids
+  pub below_listed : (p : ℕ) (chosen : set.FinSet nat_cmp) (ids : List ℕ) → p < length names → chosen ≡ descendants_of g p
+      → Lists (IsChosen names chosen) ids → Lists (λ id. is_ancestor (named names g) (slice_index names p) id ≡ true) ids
   below_listed p chosen ids low is lists = Lists-for (IsChosen names chosen) (λ id. is_ancestor (named names g) (slice_index names p) id ≡ true) ids
       (λ id at. subst (λ x. is_ancestor (named names g) (slice_index names p) x ≡ true) at.3
-      (named-ancestor names g kept.once p at.0 low at.1 ∙ (and_parts (is_member g at.0) (is_ancestor g p at.0) (sym (ap (λ s. set.contains s at.0) is ∙ contains-descendants_of g p at.0) ∙ at.2)).1))
+      (named-ancestor names g kept.once p at.0 low at.1
+      ∙ (and_parts (is_member g at.0) (is_ancestor g p at.0) (sym (ap (λ s. set.contains s at.0) is ∙ contains-descendants_of g p at.0) ∙ at.2)).1))
       (λ id down.
       let at = ancestor-stands names g kept.once (slice_index names p) id down in
       let same : at.0 ≡ p = one_place names at.0 p 0 kept.once at.2 low at.4 in
@@ -66,10 +73,13 @@ module _ (n : ℕ) (names : List ℕ) (g : Closure) (kept : IsNamed n names g) w
       lists
 
   -- the sizes so far with that of the next place
-  pub sizes_more : (p total size : ℕ) → p < length names → size ≡ (rate_of g p).size → total ≡ sum_by (λ id. (rate_of (named names g) id).size) (take p names) → total + size ≡ sum_by (λ id. (rate_of (named names g) id).size) (take (p + 1) names)
+  pub sizes_more : (p total size : ℕ) → p < length names → size ≡ (rate_of g p).size → total ≡ sum_by (λ id. (rate_of (named names g) id).size) (take p names)
+      → total + size ≡ sum_by (λ id. (rate_of (named names g) id).size) (take (p + 1) names)
   sizes_more p total size low is so =
-      let here : (rate_of (named names g) (slice_index names p)).size ≡ (rate_of g p).size = ap (λ (rate : FeeRate). rate.size) (named-rate names g kept.once p low) in
-      let more : sum_by (λ id. (rate_of (named names g) id).size) (take (p + 1) names) ≡ sum_by (λ id. (rate_of (named names g) id).size) (take p names) + (rate_of (named names g) (slice_index names p)).size = sum_by_more (λ id. (rate_of (named names g) id).size) names p 0 low in
+      let here : (rate_of (named names g) (slice_index names p)).size ≡ (rate_of g p).size =
+      ap (λ (rate : FeeRate). rate.size) (named-rate names g kept.once p low) in
+      let more : sum_by (λ id. (rate_of (named names g) id).size) (take (p + 1) names) ≡ sum_by (λ id. (rate_of (named names g) id).size)
+      (take p names) + (rate_of (named names g) (slice_index names p)).size = sum_by_more (λ id. (rate_of (named names g) id).size) names p 0 low in
       omega arith
 
   pub size_small : (p size : ℕ) → p < length names → size ≡ (rate_of g p).size → size ≤ MAX_SIZE

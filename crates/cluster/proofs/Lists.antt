@@ -22,7 +22,8 @@ use Rattle.cluster.specs.Changes.{IsChosen}
 
 once_distinct : (xs : List ℕ) → AreDistinct xs → IsDistinct nat_eq xs
 once_distinct xs once = IsDistinct-from_apart nat_eq xs (λ i j d before below. ne_eqb (get_or xs i d) (get_or xs j d)
-    (λ same. let is : i ≡ j = one_place xs i j 0 once (omega arith) below (get_or_default xs i 0 d (omega arith) ∙ same ∙ get_or_default xs j d 0 below) in omega arith))
+    (λ same. let is : i ≡ j =
+    one_place xs i j 0 once (omega arith) below (get_or_default xs i 0 d (omega arith) ∙ same ∙ get_or_default xs j d 0 below) in omega arith))
 
 module _ (n : ℕ) (names : List ℕ) (chosen : set.FinSet nat_cmp) (within : IsWithin (length names) chosen) where
   place_within : (p : ℕ) → Contains (places n chosen) p → p < length names
@@ -36,12 +37,15 @@ module _ (n : ℕ) (names : List ℕ) (chosen : set.FinSet nat_cmp) (within : Is
   pub names_chosen : IsWithin n chosen → (id : ℕ) → Contains (map (slice_index names) (places n chosen)) id ↔ IsChosen names chosen id
   names_chosen bound id = (
     λ here. let at = map-Contains (slice_index names) (places n chosen) id here in (at.0, place_within at.0 at.1, (places-Contains n chosen at.0 at.1).1, at.2),
-    λ at. subst (Contains (map (slice_index names) (places n chosen))) at.3 (Contains-map (slice_index names) (places n chosen) at.0 (Contains-places n chosen at.0 (bound at.0 at.2) at.2)),
+    λ at. subst (Contains (map (slice_index names) (places n chosen))) at.3
+        (Contains-map (slice_index names) (places n chosen) at.0 (Contains-places n chosen at.0 (bound at.0 at.2) at.2)),
   )
 
-  pub chosen_listed : IsWithin n chosen → AreDistinct names → (ids sorted : List ℕ) → ids ≡ map (slice_index names) (places n chosen) → IsPermutation ids sorted → IsNonDecreasing sorted → Lists (IsChosen names chosen) sorted
+  pub chosen_listed : IsWithin n chosen → AreDistinct names → (ids sorted : List ℕ) → ids ≡ map (slice_index names) (places n chosen)
+      → IsPermutation ids sorted → IsNonDecreasing sorted → Lists (IsChosen names chosen) sorted
   chosen_listed bound once ids sorted is moved rising = record {
-    rising = IsStrictlyIncreasing-from_distinct sorted rising (IsDistinct-IsPermutation nat_eq nat_eq_equiv.symm ids sorted moved (subst (IsDistinct nat_eq) (sym is) (once_distinct _ (chosen_once once))));
+    rising = IsStrictlyIncreasing-from_distinct sorted rising
+        (IsDistinct-IsPermutation nat_eq nat_eq_equiv.symm ids sorted moved (subst (IsDistinct nat_eq) (sym is) (once_distinct _ (chosen_once once))));
     exact = λ id. (
       λ here. (names_chosen bound id).0 (subst (λ xs. Contains xs id) is (Contains-permutation sorted ids id (IsPermutation-sym ids sorted moved) here)),
       λ at. Contains-permutation ids sorted id moved (subst (λ xs. Contains xs id) (sym is) ((names_chosen bound id).1 at)),
@@ -70,7 +74,8 @@ pub chosen_few : (n : ℕ) (names : List ℕ) (chosen : set.FinSet nat_cmp) → 
 chosen_few n names chosen within = once_few (places n chosen) (length names) (IsRising-places n chosen) (place_within n names chosen within)
 
 -- one more name was pushed, and there was room for it
-pub room_left : (n : ℕ) (names : List ℕ) (chosen : set.FinSet nat_cmp) (ys ws zs : List ℕ) (p : ℕ) (ids : List ℕ) (room total : ℕ) → IsWithin (length names) chosen → ys ++ ws ≡ places n chosen → ws ≡ p ∷ zs
+pub room_left : (n : ℕ) (names : List ℕ) (chosen : set.FinSet nat_cmp) (ys ws zs : List ℕ) (p : ℕ) (ids : List ℕ) (room total : ℕ)
+    → IsWithin (length names) chosen → ys ++ ws ≡ places n chosen → ws ≡ p ∷ zs
     → ids ≡ map (slice_index names) ys → length ids + room ≡ total → length names ≤ total → 0 < room
 room_left n names chosen ys ws zs p ids room total within split is copied same enough =
     let few : length (places n chosen) ≤ length names = chosen_few n names chosen within in
@@ -78,8 +83,10 @@ room_left n names chosen ys ws zs p ids room total within split is copied same e
     let held : length ids ≡ length ys = ap length copied ∙ length-map ys (slice_index names) in
     omega arith
 
-pub copied_more : (names ys ids : List ℕ) (p x : ℕ) → ids ≡ map (slice_index names) ys → x ≡ slice_index names p → ids ++ x ∷ [] ≡ map (slice_index names) (ys ++ p ∷ [])
-copied_more names ys ids p x copied is = ap (λ xs. xs ++ x ∷ []) copied ∙ ap (λ y. map (slice_index names) ys ++ y ∷ []) is ∙ sym (map_push (slice_index names) ys p)
+pub copied_more : (names ys ids : List ℕ) (p x : ℕ) → ids ≡ map (slice_index names) ys
+    → x ≡ slice_index names p → ids ++ x ∷ [] ≡ map (slice_index names) (ys ++ p ∷ [])
+copied_more names ys ids p x copied is = ap (λ xs. xs ++ x ∷ []) copied
+    ∙ ap (λ y. map (slice_index names) ys ++ y ∷ []) is ∙ sym (map_push (slice_index names) ys p)
 
 pub split_more : (ys ws zs all : List ℕ) (p : ℕ) → ys ++ ws ≡ all → ws ≡ p ∷ zs → (ys ++ p ∷ []) ++ zs ≡ all
 split_more ys ws zs all p split is = Rattle.std.proofs.Common.append_assoc ys (p ∷ []) zs ∙ ap (λ xs. ys ++ xs) (sym is) ∙ split

@@ -24,10 +24,12 @@ use Rattle.cluster.proofs.Cuts.{cut_whole}
 use Rattle.cluster.proofs.Names.{named-member, member-stands, named-rate}
 
 only : (x y : ℕ) → Contains (x ∷ []) y → x ≡ y
-only x y here = elim (Contains-cases x y [] here) as (λ _. x ≡ y) [ Rattle.std.proofs.Common.inl same ↦ same | Rattle.std.proofs.Common.inr later ↦ absurd (none_in_empty y later) ]
+only x y here = elim (Contains-cases x y [] here)
+    as (λ _. x ≡ y) [ Rattle.std.proofs.Common.inl same ↦ same | Rattle.std.proofs.Common.inr later ↦ absurd (none_in_empty y later) ]
 
 only_part : (p q : Part) → Contains (p ∷ []) q → p ≡ q
-only_part p q here = elim (Contains-cases p q [] here) as (λ _. p ≡ q) [ Rattle.std.proofs.Common.inl same ↦ same | Rattle.std.proofs.Common.inr later ↦ absurd (none_in_empty q later) ]
+only_part p q here = elim (Contains-cases p q [] here)
+    as (λ _. p ≡ q) [ Rattle.std.proofs.Common.inl same ↦ same | Rattle.std.proofs.Common.inr later ↦ absurd (none_in_empty q later) ]
 
 module _ (n : ℕ) (id : ℕ) (g : Closure) (kept : IsNamed n (id ∷ []) g) where
   abbrev whole : Closure
@@ -49,7 +51,8 @@ module _ (n : ℕ) (id : ℕ) (g : Closure) (kept : IsNamed n (id ∷ []) g) whe
       λ t. record { fee = fee t; size = size t }
 
   even : weight_in (sums (sum_at whole) (id ∷ [])) own ≡ pos 0 -ℤ pos 0
-  even = ap (λ (s : Sum). weight_in s own) (sym summed) ∙ (let e : (own.fee *ℤ pos own.size) -ℤ (own.fee *ℤ pos own.size) ≡ pos 0 -ℤ pos 0 = omega (arith, ints) in e)
+  even = ap (λ (s : Sum). weight_in s own) (sym summed)
+      ∙ (let e : (own.fee *ℤ pos own.size) -ℤ (own.fee *ℤ pos own.size) ≡ pos 0 -ℤ pos 0 = omega (arith, ints) in e)
 
   module _ (graph : Graph) (closes : IsClosureOf whole graph) where
     topological : IsTopological graph (id ∷ [])
@@ -61,7 +64,8 @@ module _ (n : ℕ) (id : ℕ) (g : Closure) (kept : IsNamed n (id ∷ []) g) whe
       );
       parents_first = λ parent child pair.
           (let both = closes.ends parent child pair in
-          absurd (closes.acyclic parent 0 (parent, refl, subst (λ (y : ℕ). Contains {X = ℕ × ℕ} graph.pairs (parent, y)) (sym (member_is child both.1) ∙ member_is parent both.0) pair)));
+          absurd (closes.acyclic parent 0
+          (parent, refl, subst (λ (y : ℕ). Contains {X = ℕ × ℕ} graph.pairs (parent, y)) (sym (member_is child both.1) ∙ member_is parent both.0) pair)));
     }
 
     certifies : Certifies (sum_at whole) (IsCover graph.pairs) (id ∷ []) []
@@ -79,12 +83,14 @@ module _ (n : ℕ) (id : ℕ) (g : Closure) (kept : IsNamed n (id ∷ []) g) whe
         filled = λ p here empty. Rattle.lists.proofs.Entries.not_empty (ap (λ (q : Part). q.ids) (only_part part p here) ∙ empty);
         order = record {
           topological = topological;
-          together = λ p here. subst (λ (q : Part). IsTogether graph.pairs q.ids) (only_part part p here) (λ a b first second. (0, sym (only id a first) ∙ only id b second));
+          together = λ p here.
+              subst (λ (q : Part). IsTogether graph.pairs q.ids) (only_part part p here) (λ a b first second. (0, sym (only id a first) ∙ only id b second));
         };
         falling = record { summed = λ p here. subst (λ (q : Part). q.rate ≡ sums (sum_at whole) q.ids) (only_part part p here) summed; falling = tt };
         flows = λ p here. subst (λ (q : Part). Certifies (sum_at whole) (IsCover graph.pairs) q.ids q.flows) (only_part part p here) certifies;
       };
-      flows_in_order = λ p here. subst (λ (q : Part). FollowOrder q.ids (links_of q.flows)) (only_part part p here) (λ a b precedes. absurd (no_flow precedes.0 precedes.1 b precedes.2));
+      flows_in_order = λ p here. subst (λ (q : Part). FollowOrder q.ids (links_of q.flows))
+          (only_part part p here) (λ a b precedes. absurd (no_flow precedes.0 precedes.1 b precedes.2));
     }
       where
         no_flow : (front rest : List (ℕ × ℕ)) (b : ℕ × ℕ) → [] ≡ front ++ b ∷ rest → ⊥
@@ -92,13 +98,15 @@ module _ (n : ℕ) (id : ℕ) (g : Closure) (kept : IsNamed n (id ∷ []) g) whe
         no_flow (x ∷ front) rest b e = Rattle.lists.proofs.Entries.not_empty (sym e)
 
   lone_uncut : (pairs : List (ℕ × ℕ)) → AreMinimal (sum_at whole) pairs (part ∷ [])
-  lone_uncut pairs p here = subst (λ (q : Part). IsMinimal (sum_at whole) pairs q.ids) (only_part part p here) (λ set closed some same x in_part. holds set closed some x (only id x in_part))
+  lone_uncut pairs p here = subst (λ (q : Part). IsMinimal (sum_at whole) pairs q.ids)
+      (only_part part p here) (λ set closed some same x in_part. holds set closed some x (only id x in_part))
     where
       holds : (set : List ℕ) → IsClosedWithin pairs (id ∷ []) set → set ≢ [] → (x : ℕ) → id ≡ x → Contains set x
       holds [] closed some x is = absurd (some refl)
       holds (y ∷ set) closed some x is = subst (Contains (y ∷ set)) (sym (only id y (closed.inside y (Contains-head y set))) ∙ is) (Contains-head y set)
 
-  pub lone_ordered : (ends : List PartEnd) (order : List ℕ) (flows : List Flow) (rate : FeeRate) → rate ≡ rate_of g 0 → ends ≡ record { fee = rate.fee; size = rate.size; end = 1; flow_end = 0 } ∷ [] → order ≡ id ∷ [] → flows ≡ []
+  pub lone_ordered : (ends : List PartEnd) (order : List ℕ) (flows : List Flow) (rate : FeeRate) → rate ≡ rate_of g 0
+      → ends ≡ record { fee = rate.fee; size = rate.size; end = 1; flow_end = 0 } ∷ [] → order ≡ id ∷ [] → flows ≡ []
       → IsOrdered (id ∷ []) g ends order flows
   lone_ordered ends order flows rate rate_is ends_is order_is flows_is =
       let sum_is : record { fee = rate.fee; size = rate.size } ≡ own =
@@ -122,10 +130,13 @@ one_name [] e = absurd (omega arith)
 one_name (x ∷ []) e = refl
 one_name (x ∷ y ∷ names) e = absurd (omega arith)
 
-pub lone_made : (n : ℕ) (names : List ℕ) (g : Closure) (rate : FeeRate) (r : Result Order NoMemory) → IsNamed n names g → length names ≡ 1 → rate ≡ rate_of g 0 → IfOk r (λ o. o.names.items ≡ slice_index names 0 ∷ [])
-    → IfOk r (λ o. o.parts.items ≡ record { fee = rate.fee; size = rate.size; end = 1; flow_end = 0 } ∷ []) → IfOk r (λ o. o.flows.items ≡ []) → IfOk r (λ o. IsOrdered names g o.parts.items o.names.items o.flows.items)
+pub lone_made : (n : ℕ) (names : List ℕ) (g : Closure) (rate : FeeRate) (r : Result Order NoMemory) → IsNamed n names g
+    → length names ≡ 1 → rate ≡ rate_of g 0 → IfOk r (λ o. o.names.items ≡ slice_index names 0 ∷ [])
+    → IfOk r (λ o. o.parts.items ≡ record { fee = rate.fee; size = rate.size; end = 1; flow_end = 0 } ∷ [])
+    → IfOk r (λ o. o.flows.items ≡ []) → IfOk r (λ o. IsOrdered names g o.parts.items o.names.items o.flows.items)
 lone_made n names g rate (Ok o) kept one rate_is order_is ends_is flows_is =
     let is : names ≡ slice_index names 0 ∷ [] = one_name names one in
     subst (λ (xs : List ℕ). IsOrdered xs g o.parts.items o.names.items o.flows.items) (sym is)
-    (lone_ordered n (slice_index names 0) g (subst (λ (xs : List ℕ). IsNamed n xs g) is kept) o.parts.items o.names.items o.flows.items rate rate_is ends_is order_is flows_is)
+    (lone_ordered n (slice_index names 0) g
+    (subst (λ (xs : List ℕ). IsNamed n xs g) is kept) o.parts.items o.names.items o.flows.items rate rate_is ends_is order_is flows_is)
 lone_made n names g rate (Err e) kept one rate_is order_is ends_is flows_is = tt

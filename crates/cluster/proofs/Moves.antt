@@ -28,7 +28,8 @@ is_link : (x y : ℕ × ℕ) → x ≡ y → same_link x y ≡ true
 is_link x y e = ap₂ (λ a b. a && b) (eq-eqb x.0 y.0 (λ t. (e t).0)) (eq-eqb x.1 y.1 (λ t. (e t).1))
 
 flips : (x y : ℕ × ℕ) → same_link x y ≡ same_link y x
-flips x y = Rattle.lists.proofs.Cases.same_test (same_link x y) (same_link y x) (λ e. is_link y x (sym (link_is x y e))) (λ e. is_link x y (sym (link_is y x e)))
+flips x y =
+    Rattle.lists.proofs.Cases.same_test (same_link x y) (same_link y x) (λ e. is_link y x (sym (link_is x y e))) (λ e. is_link x y (sym (link_is y x e)))
 
 none_same : (x : ℕ × ℕ) (ys : List (ℕ × ℕ)) → AllByRecursion (λ y. same_link x y ≡ false) ys → (y : ℕ × ℕ) → Contains ys y → same_link x y ≡ false
 none_same x [] all y here = absurd (none_in_empty y here)
@@ -43,7 +44,8 @@ distinct_from (x ∷ xs) once = (λ here. true≢false (sym (is_link x x refl) �
 
 distinct_to : (xs : List (ℕ × ℕ)) → AreDistinct xs → IsDistinct same_link xs
 distinct_to xs once = IsDistinct-from_apart same_link xs
-    (λ i j d before below. false_from_ne_true (same_link (get_or xs i d) (get_or xs j d)) (λ e. places_apart xs i j d once before below (link_is (get_or xs i d) (get_or xs j d) e)))
+    (λ i j d before below. false_from_ne_true (same_link (get_or xs i d) (get_or xs j d))
+    (λ e. places_apart xs i j d once before below (link_is (get_or xs i d) (get_or xs j d) e)))
 
 -- links that stand once do so in another order
 pub distinct_moved : (xs ys : List (ℕ × ℕ)) → IsPermutation xs ys → AreDistinct xs → AreDistinct ys
@@ -53,7 +55,8 @@ abbrev link_of : Flow → ℕ × ℕ
 link_of flow = (flow.child, flow.parent)
 
 -- flows certify a part in any order
-pub Certifies-moved : (rate : ℕ → Sum) (IsLink : ℕ → ℕ → Type 0) (ids : List ℕ) (flows moved : List Flow) → IsPermutation flows moved → Certifies rate IsLink ids flows → Certifies rate IsLink ids moved
+pub Certifies-moved : (rate : ℕ → Sum) (IsLink : ℕ → ℕ → Type 0) (ids : List ℕ) (flows moved : List Flow)
+    → IsPermutation flows moved → Certifies rate IsLink ids flows → Certifies rate IsLink ids moved
 Certifies-moved rate IsLink ids flows moved move certifies = record {
   once = distinct_moved (map link_of flows) (map link_of moved) (IsPermutation-map link_of flows moved move) certifies.once;
   links = λ flow here. certifies.links flow (there flow here);

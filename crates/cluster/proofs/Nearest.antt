@@ -37,7 +37,8 @@ module _ (names : List ℕ) (chosen : set.FinSet nat_cmp) (once : AreDistinct na
 
 -- an entry that fails a test is passed over
 pub passed_over : (f : ℕ → Bool) (xs : List ℕ) (i : ℕ) → i < length xs → f (slice_index xs i) ≡ false → filter f (drop (i + 1) xs) ≡ filter f (drop i xs)
-passed_over f xs i low fails = sym (ap (filter f) (drop_more xs i 0 low) ∙ ap (λ b. cond b (slice_index xs i ∷ filter f (drop (i + 1) xs)) (filter f (drop (i + 1) xs))) fails)
+passed_over f xs i low fails =
+    sym (ap (filter f) (drop_more xs i 0 low) ∙ ap (λ b. cond b (slice_index xs i ∷ filter f (drop (i + 1) xs)) (filter f (drop (i + 1) xs))) fails)
 
 module _ (n : ℕ) (names : List ℕ) (g : Closure) (kept : IsNamed n names g) where
   module _ (p q : ℕ) (low : p < length names) (below : q < length names) where
@@ -86,7 +87,8 @@ module _ (n : ℕ) (names : List ℕ) (g : Closure) (kept : IsNamed n names g) w
       λ cover.
           let at = ancestor-stands names g kept.once a id cover.ancestor in
           let same : at.1 ≡ q = one_place names at.1 q 0 kept.once at.3 below (at.5 ∙ sym is) in
-          let placed = named_cover at.0 q at.2 below (subst (λ d. IsCover (named names g) (slice_index names at.0) d) (sym is) (subst (λ x. IsCover (named names g) x id) (sym at.4) cover)) in
+          let placed = named_cover at.0 q at.2 below
+          (subst (λ d. IsCover (named names g) (slice_index names at.0) d) (sym is) (subst (λ x. IsCover (named names g) x id) (sym at.4) cover)) in
           Contains-filter (has_chosen names chosen) order a (chosen_at names chosen kept.once at.0 a at.2 at.4 ∙ (covers at.0).1 placed)
           (more a (at.0, at.2, Rattle.std.proofs.lemmas.List.get_or_default names at.0 a 0 at.2 ∙ at.4)),
     );
@@ -99,15 +101,18 @@ module _ (n : ℕ) (names : List ℕ) (g : Closure) (shown : List PartEnd) (orde
 
   -- the order has exactly the names
   fewer : (id : ℕ) → Contains order id → Contains names id
-  fewer id here = in_names n (record { names = names; graph = named names g; parts = cut shown order flows }) whole id (subst (λ (xs : List ℕ). Contains xs id) (sym kept.ordered.ends.order_is) here)
+  fewer id here = in_names n (record { names = names; graph = named names g; parts = cut shown order flows }) whole id
+      (subst (λ (xs : List ℕ). Contains xs id) (sym kept.ordered.ends.order_is) here)
 
   more : (id : ℕ) → Contains names id → Contains order id
-  more id here = subst (λ (xs : List ℕ). Contains xs id) kept.ordered.ends.order_is (in_order n (record { names = names; graph = named names g; parts = cut shown order flows }) whole id here)
+  more id here = subst (λ (xs : List ℕ). Contains xs id) kept.ordered.ends.order_is
+      (in_order n (record { names = names; graph = named names g; parts = cut shown order flows }) whole id here)
 
   pub order_named : IsNamedBy n names order
   order_named = record { few = kept.place.few; once = kept.place.once; there = fewer }
 
-  pub order_covers : (chosen : set.FinSet nat_cmp) (q id : ℕ) → q < length names → slice_index names q ≡ id → ((p : ℕ) → (set.contains chosen p ≡ true) ↔ IsCover g p q)
+  pub order_covers : (chosen : set.FinSet nat_cmp) (q id : ℕ) → q < length names
+      → slice_index names q ≡ id → ((p : ℕ) → (set.contains chosen p ≡ true) ↔ IsCover g p q)
       → ListsInOrder (λ a. IsCover (named names g) a id) (flat_map (λ part. part.ids) (cut shown order flows)) (filter (has_chosen names chosen) order)
   order_covers chosen q id low here covers =
       subst (λ (xs : List ℕ). ListsInOrder (λ a. IsCover (named names g) a id) xs (filter (has_chosen names chosen) order)) (sym kept.ordered.ends.order_is)

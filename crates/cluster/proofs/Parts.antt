@@ -15,7 +15,8 @@ use Rattle.cluster.specs.Named.{named, IsNamed}
 use Rattle.cluster.proofs.Names.{Contains-stands, named-ancestor, ancestor-stands, named-rate}
 use Rattle.cluster.proofs.Lists.{chosen_once, chosen_few, names_chosen}
 
-module _ (n : ℕ) (names : List ℕ) (g h : Closure) (chosen : set.FinSet nat_cmp) (kept : IsNamed n names g) (within : IsWithin (length names) chosen) (filled : (p : ℕ) × (set.contains chosen p ≡ true)) (part : IsPart g (places n chosen) h) (closed : IsClosed n h)
+module _ (n : ℕ) (names : List ℕ) (g h : Closure) (chosen : set.FinSet nat_cmp) (kept : IsNamed n names g) (within : IsWithin (length names) chosen)
+    (filled : (p : ℕ) × (set.contains chosen p ≡ true)) (part : IsPart g (places n chosen) h) (closed : IsClosed n h)
     (joined : (p q : ℕ) → set.contains chosen p ≡ true → set.contains chosen q ≡ true → Walk (IsNear g chosen) p q) where
   abbrev ps : List ℕ
   ps = places n chosen
@@ -28,14 +29,16 @@ module _ (n : ℕ) (names : List ℕ) (g h : Closure) (chosen : set.FinSet nat_c
 
   place_at : (i : ℕ) → i < length ps → (slice_index ps i < length names) × (set.contains chosen (slice_index ps i) ≡ true)
   place_at i low =
-      let here = (places-Contains n chosen (slice_index ps i) (Rattle.std.proofs.lemmas.List.Elements.Contains-get_or ps i 0 low)).1 in (within (slice_index ps i) here, here)
+      let here = (places-Contains n chosen (slice_index ps i) (Rattle.std.proofs.lemmas.List.Elements.Contains-get_or ps i 0 low)).1 in
+      (within (slice_index ps i) here, here)
 
   -- the number of a chosen place
   number_of : (p : ℕ) → set.contains chosen p ≡ true → (i : ℕ) × (i < length ps) × (slice_index ps i ≡ p)
   number_of p here = Contains-stands ps p (Contains-places n chosen p (bound p here) here)
 
   above : (i j : ℕ) → i < length ps → j < length ps → is_ancestor h i j ≡ is_ancestor g (slice_index ps i) (slice_index ps j)
-  above i j low below = subst₂ (λ x y. is_ancestor h x y ≡ is_ancestor g (slice_index ps i) (slice_index ps j)) (zero-add i) (zero-add j) (part.copy.ancestors i j low below)
+  above i j low below =
+      subst₂ (λ x y. is_ancestor h x y ≡ is_ancestor g (slice_index ps i) (slice_index ps j)) (zero-add i) (zero-add j) (part.copy.ancestors i j low below)
 
   rate : (i : ℕ) → i < length ps → rate_of h i ≡ rate_of g (slice_index ps i)
   rate i low = subst (λ x. rate_of h x ≡ rate_of g (slice_index ps i)) (zero-add i) (part.copy.rates i low)
@@ -49,7 +52,8 @@ module _ (n : ℕ) (names : List ℕ) (g h : Closure) (chosen : set.FinSet nat_c
   related : (i j : ℕ) → i < length ps → j < length ps → IsRelated g (slice_index ps i) (slice_index ps j) → IsRelated h i j
   related i j low below step = elim step [ inl up ↦ inl (above i j low below ∙ up) | inr down ↦ inr (above j i below low ∙ down) ]
 
-  numbered : (i j : ℕ) (vs : List ℕ) → i < length ps → j < length ps → IsWalk (IsNear g chosen) (slice_index ps i) vs (slice_index ps j) → Walk (IsRelated h) i j
+  numbered : (i j : ℕ) (vs : List ℕ) → i < length ps → j < length ps
+      → IsWalk (IsNear g chosen) (slice_index ps i) vs (slice_index ps j) → Walk (IsRelated h) i j
   numbered i j [] low below same = ([], rising_once ps (IsRising-places n chosen) i j low below same)
   numbered i j (v ∷ vs) low below walk =
       let at = number_of v walk.0.to_within in
@@ -62,7 +66,8 @@ module _ (n : ℕ) (names : List ℕ) (g h : Closure) (chosen : set.FinSet nat_c
   pub IsNamed-part : IsNamed n own h
   IsNamed-part = record {
     some = let some : 1 ≤ length ps = some_place in let long : length own ≡ length ps = own_long in omega arith;
-    few = let few : length ps ≤ length names = chosen_few n names chosen within in let most : length names ≤ n = kept.few in let long : length own ≡ length ps = own_long in omega arith;
+    few = let few : length ps ≤ length names = chosen_few n names chosen within in let most : length names ≤ n =
+        kept.few in let long : length own ≡ length ps = own_long in omega arith;
     once = chosen_once n names chosen within kept.once;
     members = λ k. part.members k ∙ ap (nat_lt k) (sym own_long);
     order = closed.order;
@@ -92,7 +97,8 @@ module _ (n : ℕ) (names : List ℕ) (g h : Closure) (chosen : set.FinSet nat_c
       let first : slice_index names (slice_index ps at.0) ≡ a = sym (own_at at.0 low) ∙ at.4 in
       let second : slice_index names (slice_index ps at.1) ≡ d = sym (own_at at.1 below) ∙ at.5 in
       let holds : is_ancestor (named names g) (slice_index names (slice_index ps at.0)) (slice_index names (slice_index ps at.1)) ≡ true =
-      named-ancestor names g kept.once (slice_index ps at.0) (slice_index ps at.1) (place_at at.0 low).0 (place_at at.1 below).0 ∙ sym (above at.0 at.1 low below) ∙ at.6 in (
+      named-ancestor names g kept.once (slice_index ps at.0) (slice_index ps at.1) (place_at at.0 low).0 (place_at at.1 below).0
+      ∙ sym (above at.0 at.1 low below) ∙ at.6 in (
         (slice_index ps at.0, (place_at at.0 low).0, (place_at at.0 low).1, first),
         (slice_index ps at.1, (place_at at.1 below).0, (place_at at.1 below).1, second),
         subst₂ (λ x y. is_ancestor (named names g) x y ≡ true) first second holds,
@@ -105,10 +111,12 @@ module _ (n : ℕ) (names : List ℕ) (g h : Closure) (chosen : set.FinSet nat_c
       let one : slice_index own i.0 ≡ a = own_at i.0 i.1 ∙ ap (slice_index names) i.2 ∙ first.3 in
       let two : slice_index own j.0 ≡ d = own_at j.0 j.1 ∙ ap (slice_index names) j.2 ∙ second.3 in
       let there : is_ancestor g first.0 second.0 ≡ true =
-      sym (named-ancestor names g kept.once first.0 second.0 first.1 second.1) ∙ subst₂ (λ x y. is_ancestor (named names g) x y ≡ true) (sym first.3) (sym second.3) up in
+      sym (named-ancestor names g kept.once first.0 second.0 first.1 second.1)
+      ∙ subst₂ (λ x y. is_ancestor (named names g) x y ≡ true) (sym first.3) (sym second.3) up in
       let here : is_ancestor h i.0 j.0 ≡ true = above i.0 j.0 i.1 j.1 ∙ subst₂ (λ x y. is_ancestor g x y ≡ true) (sym i.2) (sym j.2) there in
       subst₂ (λ x y. is_ancestor (named own h) x y ≡ true) one two
-      (named-ancestor own h (chosen_once n names chosen within kept.once) i.0 j.0 (subst (λ m. i.0 < m) (sym own_long) i.1) (subst (λ m. j.0 < m) (sym own_long) j.1) ∙ here)
+      (named-ancestor own h (chosen_once n names chosen within kept.once) i.0 j.0
+      (subst (λ m. i.0 < m) (sym own_long) i.1) (subst (λ m. j.0 < m) (sym own_long) j.1) ∙ here)
 
   pub IsPartOf-named : IsPartOf names (named names g) chosen own (named own h)
   IsPartOf-named = record {

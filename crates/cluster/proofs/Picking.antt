@@ -35,7 +35,8 @@ place_there (x ∷ xs) id here = one (nat_eq id x) refl (place_there xs id)
     ]
 
 -- the fee and the size of a place are those of its name
-pub named_sum : (n : ℕ) (names : List ℕ) (g : Closure) → IsNamed n names g → (p : ℕ) → p < length names → sum_at (named names g) (slice_index names p) ≡ linear.sum_at g p
+pub named_sum : (n : ℕ) (names : List ℕ) (g : Closure) → IsNamed n names g → (p : ℕ)
+    → p < length names → sum_at (named names g) (slice_index names p) ≡ linear.sum_at g p
 named_sum n names g kept p low = ap (λ (r : FeeRate). record { fee = r.fee; size = r.size }) (named-rate names g kept.once p low)
 
 -- ---- from places to names
@@ -57,7 +58,8 @@ module _ (n : ℕ) (names : List ℕ) (g : Closure) (kept : IsNamed n names g) (
   member_at id member = place_there names id (Stands-contains names id (member-stands names g kept.once id member))
 
   pub place_of_name : (p : ℕ) → p < length names → place (slice_index names p) ≡ p
-  place_of_name p low = let at = place_there names (slice_index names p) (Contains-get_or names p 0 low) in one_place names (place (slice_index names p)) p 0 kept.once at.0 low at.1
+  place_of_name p low = let at = place_there names (slice_index names p) (Contains-get_or names p 0 low) in
+      one_place names (place (slice_index names p)) p 0 kept.once at.0 low at.1
 
   keeps_apart : KeepsApart place graph.names
   keeps_apart a b first second same = sym (at_place a first).1 ∙ ap (slice_index names) same ∙ (at_place b second).1
@@ -70,7 +72,8 @@ module _ (n : ℕ) (names : List ℕ) (g : Closure) (kept : IsNamed n names g) (
           let h = map-Contains (λ (pair : ℕ × ℕ). (place pair.0, place pair.1)) graph.pairs (parent, child) here in
           (h.0.0, h.0.1, h.1, (λ t. (h.2 t).0), (λ t. (h.2 t).1)),
       λ h.
-          subst (Contains {X = ℕ × ℕ} by_places.pairs) (λ t. (h.3 t, h.4 t)) (Contains-map (λ (pair : ℕ × ℕ). (place pair.0, place pair.1)) graph.pairs (h.0, h.1) h.2),
+          subst (Contains {X = ℕ × ℕ} by_places.pairs) (λ t. (h.3 t, h.4 t))
+          (Contains-map (λ (pair : ℕ × ℕ). (place pair.0, place pair.1)) graph.pairs (h.0, h.1) h.2),
     );
   }
 
@@ -80,14 +83,16 @@ module _ (n : ℕ) (names : List ℕ) (g : Closure) (kept : IsNamed n names g) (
     λ h. subst (λ (x : ℕ). is_member g x ≡ true) h.2 (place_member n names g kept (place h.0) (member_at h.0 h.1).0),
   )
 
-  above_are : (a d : ℕ) → is_member (named names g) a ≡ true → is_member (named names g) d ≡ true → is_ancestor g (place a) (place d) ≡ is_ancestor (named names g) a d
+  above_are : (a d : ℕ) → is_member (named names g) a ≡ true → is_member (named names g) d ≡ true
+      → is_ancestor g (place a) (place d) ≡ is_ancestor (named names g) a d
   above_are a d first second =
       let one = member_at a first in
       let two = member_at d second in
       sym (named-ancestor names g kept.once (place a) (place d) one.0 two.0) ∙ ap₂ (is_ancestor (named names g)) one.1 two.1
 
   pub closes_places : RenamedIsClosed → IsClosureOf g by_places
-  closes_places law = law place (is_member (named names g)) (is_member g) (is_ancestor (named names g)) (is_ancestor g) graph by_places closes keeps_apart is_renamed members_are above_are
+  closes_places law = law place (is_member (named names g)) (is_member g) (is_ancestor (named names g))
+      (is_ancestor g) graph by_places closes keeps_apart is_renamed members_are above_are
 
   -- ---- and back
 
@@ -113,11 +118,13 @@ module _ (n : ℕ) (names : List ℕ) (g : Closure) (kept : IsNamed n names g) (
       λ h. let old = (is_renamed.names h.0).0 h.1 in subst (Contains graph.names) (sym (at_place old.0 old.1).1 ∙ ap (slice_index names) old.2 ∙ h.2) old.1,
     );
     pairs = λ parent child. (
-      λ here. let both = ends_here parent child here in (place parent, place child, (is_renamed.pairs (place parent) (place child)).1 (parent, child, here, refl, refl), (at_place parent both.0).1, (at_place child both.1).1),
+      λ here. let both = ends_here parent child here in
+          (place parent, place child, (is_renamed.pairs (place parent) (place child)).1 (parent, child, here, refl, refl), (at_place parent both.0).1, (at_place child both.1).1),
       λ h.
           let old = (is_renamed.pairs h.0 h.1).0 h.2 in
           let both = ends_here old.0 old.1 old.2 in
-          subst₂ (λ (x y : ℕ). Contains graph.pairs (x, y)) (sym (at_place old.0 both.0).1 ∙ ap (slice_index names) old.3 ∙ h.3) (sym (at_place old.1 both.1).1 ∙ ap (slice_index names) old.4 ∙ h.4) old.2,
+          subst₂ (λ (x y : ℕ). Contains graph.pairs (x, y)) (sym (at_place old.0 both.0).1 ∙ ap (slice_index names) old.3 ∙ h.3)
+          (sym (at_place old.1 both.1).1 ∙ ap (slice_index names) old.4 ∙ h.4) old.2,
     );
   }
 
@@ -126,4 +133,5 @@ module _ (n : ℕ) (names : List ℕ) (g : Closure) (kept : IsNamed n names g) (
 
   pub certificate_by_names : CertificatesAreRenamed → (parts : List Part) → IsCertificate (linear.sum_at g) by_places (IsCover by_places.pairs) parts
       → IsCertificate (sum_at (named names g)) graph (IsCover graph.pairs) (map (renamed_part (slice_index names)) parts)
-  certificate_by_names law parts certificate = law (slice_index names) (linear.sum_at g) (sum_at (named names g)) by_places graph parts place_ends back_apart back_renamed rates_are certificate
+  certificate_by_names law parts certificate =
+      law (slice_index names) (linear.sum_at g) (sum_at (named names g)) by_places graph parts place_ends back_apart back_renamed rates_are certificate

@@ -41,7 +41,8 @@ in_names most k is id here =
 pub in_a_part : (parts : List Part) (id : ℕ) → Contains (flat_map (λ part. part.ids) parts) id → (part : Part) × Contains parts part × Contains part.ids id
 in_a_part [] id here = absurd (none_in_empty id here)
 in_a_part (p ∷ ps) id here =
-    elim (Contains-append_cases p.ids (flat_map (λ part. part.ids) ps) id (subst (λ (xs : List ℕ). Contains xs id) (flat_map-cons (λ (part : Part). part.ids) p ps) here)) [
+    elim (Contains-append_cases p.ids (flat_map (λ part. part.ids) ps) id
+    (subst (λ (xs : List ℕ). Contains xs id) (flat_map-cons (λ (part : Part). part.ids) p ps) here)) [
       | inl first ↦ (p, Contains-head p ps, first)
       | inr later ↦ let rest = in_a_part ps id later in (rest.0, Contains-later p rest.0 ps rest.1, rest.2)
     ]

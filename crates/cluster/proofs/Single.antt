@@ -76,11 +76,13 @@ module _ (n : ℕ) (old g : Closure) (id : ℕ) (rate : FeeRate) (place : ℕ) (
     ancestors = by_places (id ∷ []) (is_ancestor (named (id ∷ []) g)) (λ a d. nat_eq a id && nat_eq d id)
         (λ p q low below. named-ancestor (id ∷ []) g (once_one id) p q low below ∙ above p q ∙ both p q (omega arith) (omega arith))
         (ancestor_ends (id ∷ []) g (once_one id))
-        (λ a d holds. let both = and_parts (nat_eq a id) (nat_eq d id) holds in ((0, omega arith, sym (eqb-true a id both.0)), (0, omega arith, sym (eqb-true d id both.1))));
+        (λ a d holds. let both = and_parts (nat_eq a id) (nat_eq d id) holds in
+        ((0, omega arith, sym (eqb-true a id both.0)), (0, omega arith, sym (eqb-true d id both.1))));
   }
     where
       name_at : (p : ℕ) → p ≡ 0 → slice_index (id ∷ []) p ≡ id
       name_at p e = ap (slice_index (id ∷ [])) e
 
       both : (p q : ℕ) → p ≡ 0 → q ≡ 0 → (nat_eq p 0 && nat_eq q 0) ≡ (nat_eq (slice_index (id ∷ []) p) id && nat_eq (slice_index (id ∷ []) q) id)
-      both p q e f = ap₂ (λ x y. x && y) (eq-eqb p 0 e) (eq-eqb q 0 f) ∙ sym (ap₂ (λ x y. x && y) (eq-eqb (slice_index (id ∷ []) p) id (name_at p e)) (eq-eqb (slice_index (id ∷ []) q) id (name_at q f)))
+      both p q e f = ap₂ (λ x y. x && y) (eq-eqb p 0 e) (eq-eqb q 0 f)
+          ∙ sym (ap₂ (λ x y. x && y) (eq-eqb (slice_index (id ∷ []) p) id (name_at p e)) (eq-eqb (slice_index (id ∷ []) q) id (name_at q f)))

@@ -29,8 +29,10 @@ use Rattle.cluster.proofs.Picking.{place_in, closes_places, certificate_by_names
 use Rattle.cluster.proofs.Reading.{in_placed, placed_read}
 use Rattle.cluster.proofs.Uncut.{uncut_read}
 
-pub within_most : (n m before after : ℕ) → n ≡ m → after + 4 * (n + 2) ^ 4 ≤ before + 2 * (n + 2) ^ 5 → before + n ≤ after → GrowsWithin (most_steps m) before after
-within_most n m before after same most least = subst (λ (k : ℕ). GrowsWithin (most_steps k) before after) same (record { grew = omega arith; few = omega arith })
+pub within_most : (n m before after : ℕ) → n ≡ m → after + 4 * (n + 2) ^ 4 ≤ before + 2 * (n + 2) ^ 5
+    → before + n ≤ after → GrowsWithin (most_steps m) before after
+within_most n m before after same most least =
+    subst (λ (k : ℕ). GrowsWithin (most_steps k) before after) same (record { grew = omega arith; few = omega arith })
 
 module _ (n : ℕ) (names : List ℕ) (g : Closure) (kept : IsNamed n names g) where
   pub has_rates : HasRates g
@@ -46,10 +48,12 @@ module _ (n : ℕ) (names : List ℕ) (g : Closure) (kept : IsNamed n names g) w
       ]
 
   pub is_component : IsComponent g
-  is_component a b first second = Walk-map (λ p. p) (IsRelated g) (IsNear g (members_of g)) near a b (kept.whole a b (member_place n names g kept a first) (member_place n names g kept b second))
+  is_component a b first second = Walk-map (λ p. p) (IsRelated g) (IsNear g (members_of g)) near a b
+      (kept.whole a b (member_place n names g kept a first) (member_place n names g kept b second))
 
   -- a certificate of a graph of places tells where the places are
-  pub is_placed : (graph : Graph) (parts : List Part) → IsClosureOf g graph → IsCertificate (linear.sum_at g) graph (IsCover graph.pairs) parts → IsPlaced (length names) parts
+  pub is_placed : (graph : Graph) (parts : List Part) → IsClosureOf g graph
+      → IsCertificate (linear.sum_at g) graph (IsCover graph.pairs) parts → IsPlaced (length names) parts
   is_placed graph parts closes certificate = record {
     once = certificate.order.topological.once;
     below = λ p here. member_place n names g kept p ((closes.names p).0 ((certificate.order.topological.names p).0 here));
@@ -57,7 +61,8 @@ module _ (n : ℕ) (names : List ℕ) (g : Closure) (kept : IsNamed n names g) w
   }
 
   -- the order that was read is a pick, which can't be cut further
-  pub is_ordered : RenamedIsClosed → CertificatesAreRenamed → (parts : List Part) → ((graph : Graph) → IsClosureOf g graph → IsCertificate (linear.sum_at g) graph (IsCover graph.pairs) parts)
+  pub is_ordered : RenamedIsClosed → CertificatesAreRenamed → (parts : List Part)
+      → ((graph : Graph) → IsClosureOf g graph → IsCertificate (linear.sum_at g) graph (IsCover graph.pairs) parts)
       → ((graph : Graph) → IsClosureOf g graph → AreMinimal (linear.sum_at g) graph.pairs parts) → IsPlaced (length names) parts
       → (ends : List PartEnd) (order : List ℕ) (flows : List Flow) → IsRead names parts ends order flows → IsOrdered names g ends order flows
   is_ordered closing renaming parts certified minimal placed_are ends order flows read =
@@ -68,11 +73,13 @@ module _ (n : ℕ) (names : List ℕ) (g : Closure) (kept : IsNamed n names g) w
       (λ x y here there same. one_place names x y 0 kept.once (placed_are.below x here) (placed_are.below y there) same)) in
       let pick : (graph : Graph) → IsClosureOf (named names g) graph → IsPick (sum_at (named names g)) graph read.parts =
       λ graph closes. pick_read (sum_at (named names g)) graph names order parts read.parts once read.read
-      (certificate_by_names n names g kept graph closes renaming parts (certified (renamed (place_in names) graph) (closes_places n names g kept graph closes closing))) in
+      (certificate_by_names n names g kept graph closes renaming parts
+      (certified (renamed (place_in names) graph) (closes_places n names g kept graph closes closing))) in
       record {
         ends = subst (λ (ps : List Part). AreCut ends order flows ps) (sym whole) read.ends;
         picked = subst (ArePicked (named names g)) (sym whole) pick;
         uncut = subst (AreUncut (named names g)) (sym whole) (λ graph closes.
-            uncut_read n names g kept graph closes parts read.parts order placed_are read.read (minimal (renamed (place_in names) graph) (closes_places n names g kept graph closes closing))
+            uncut_read n names g kept graph closes parts read.parts order placed_are read.read
+            (minimal (renamed (place_in names) graph) (closes_places n names g kept graph closes closing))
             (λ q here id there. ((pick graph closes).certificate.order.topological.names id).0 (in_placed read.parts q id here there)));
       }

@@ -25,10 +25,12 @@ use Rattle.cluster.proofs.Kept.{place_member}
 -- ---- walks between near places
 
 near_back : (g : Closure) (s : set.FinSet nat_cmp) (a b : ℕ) → IsNear g s a b → IsNear g s b a
-near_back g s a b near = record { from_within = near.to_within; to_within = near.from_within; related = elim near.related [ inl up ↦ inr up | inr down ↦ inl down ] }
+near_back g s a b near =
+    record { from_within = near.to_within; to_within = near.from_within; related = elim near.related [ inl up ↦ inr up | inr down ↦ inl down ] }
 
 -- a walk from a place of a component stays in it
-kept_inside : (g : Closure) (s t : set.FinSet nat_cmp) (first : ℕ) → ((p : ℕ) → (set.contains t p ≡ true) ↔ Walk (IsNear g s) first p) → (a b : ℕ) (vs : List ℕ) → set.contains t a ≡ true → IsWalk (IsNear g s) a vs b → Walk (IsNear g t) a b
+kept_inside : (g : Closure) (s t : set.FinSet nat_cmp) (first : ℕ) → ((p : ℕ) → (set.contains t p ≡ true) ↔ Walk (IsNear g s) first p)
+    → (a b : ℕ) (vs : List ℕ) → set.contains t a ≡ true → IsWalk (IsNear g s) a vs b → Walk (IsNear g t) a b
 kept_inside g s t first is a b [] here same = ([], same)
 kept_inside g s t first is a b (v ∷ vs) here walk =
     let there : set.contains t v ≡ true = (is v).1 (Walk-push (IsNear g s) first a v ((is a).0 here) walk.0) in
@@ -36,12 +38,15 @@ kept_inside g s t first is a b (v ∷ vs) here walk =
     (v ∷ rest.0, (record { from_within = here; to_within = there; related = walk.0.related }, rest.1))
 
 -- a component is one within itself
-pub component_whole : (g : Closure) (s t : set.FinSet nat_cmp) (first : ℕ) → ((p : ℕ) → (set.contains t p ≡ true) ↔ Walk (IsNear g s) first p) → (p q : ℕ) → set.contains t p ≡ true → set.contains t q ≡ true → Walk (IsNear g t) p q
+pub component_whole : (g : Closure) (s t : set.FinSet nat_cmp) (first : ℕ) → ((p : ℕ) → (set.contains t p ≡ true) ↔ Walk (IsNear g s) first p)
+    → (p q : ℕ) → set.contains t p ≡ true → set.contains t q ≡ true → Walk (IsNear g t) p q
 component_whole g s t first is p q here there =
-    let walk = Walk-trans (IsNear g s) p first q (Walk-back (IsNear g s) (near_back g s) first p ((is p).0 here)) ((is q).0 there) in kept_inside g s t first is p q walk.0 here walk.1
+    let walk = Walk-trans (IsNear g s) p first q (Walk-back (IsNear g s) (near_back g s) first p ((is p).0 here)) ((is q).0 there) in
+    kept_inside g s t first is p q walk.0 here walk.1
 
 -- a component lies within what it is one of
-pub component_inside : (g : Closure) (s t : set.FinSet nat_cmp) (first : ℕ) → set.contains s first ≡ true → ((p : ℕ) → (set.contains t p ≡ true) ↔ Walk (IsNear g s) first p) → (p : ℕ) → set.contains t p ≡ true → set.contains s p ≡ true
+pub component_inside : (g : Closure) (s t : set.FinSet nat_cmp) (first : ℕ) → set.contains s first ≡ true
+    → ((p : ℕ) → (set.contains t p ≡ true) ↔ Walk (IsNear g s) first p) → (p : ℕ) → set.contains t p ≡ true → set.contains s p ≡ true
 component_inside g s t first there is p here = let walk = (is p).0 here in last first p walk.0 there walk.1
   where
     last : (a b : ℕ) (vs : List ℕ) → set.contains s a ≡ true → IsWalk (IsNear g s) a vs b → set.contains s b ≡ true
@@ -55,25 +60,29 @@ keeps_no_more : (f g : ℕ → Bool) → ((p : ℕ) → f p ≡ true → g p ≡
 keeps_no_more f g less [] = omega arith
 keeps_no_more f g less (x ∷ xs) = one (f x) (g x) (less x) (keeps_no_more f g less xs)
   where
-    one : (a b : Bool) → (a ≡ true → b ≡ true) → length (filter f xs) ≤ length (filter g xs) → length (cond a (x ∷ filter f xs) (filter f xs)) ≤ length (cond b (x ∷ filter g xs) (filter g xs))
+    one : (a b : Bool) → (a ≡ true → b ≡ true) → length (filter f xs) ≤ length (filter g xs)
+        → length (cond a (x ∷ filter f xs) (filter f xs)) ≤ length (cond b (x ∷ filter g xs) (filter g xs))
     one true true e rest = omega arith
     one true false e rest = absurd (true≢false (sym (e refl)))
     one false true e rest = omega arith
     one false false e rest = rest
 
-keeps_fewer : (f g : ℕ → Bool) → ((p : ℕ) → f p ≡ true → g p ≡ true) → (p : ℕ) (xs : List ℕ) → Contains xs p → g p ≡ true → f p ≡ false → length (filter f xs) < length (filter g xs)
+keeps_fewer : (f g : ℕ → Bool) → ((p : ℕ) → f p ≡ true → g p ≡ true) → (p : ℕ) (xs : List ℕ)
+    → Contains xs p → g p ≡ true → f p ≡ false → length (filter f xs) < length (filter g xs)
 keeps_fewer f g less p [] here passes fails = omega (arith, here.1)
 keeps_fewer f g less p (x ∷ xs) here passes fails = elim (Contains-cases x p xs here) [
   | inl same ↦ at_head (f x) (g x) (ap f same ∙ fails) (ap g same ∙ passes) (keeps_no_more f g less xs)
   | inr later ↦ one (f x) (g x) (less x) (keeps_fewer f g less p xs later passes fails)
 ]
   where
-    at_head : (a b : Bool) → a ≡ false → b ≡ true → length (filter f xs) ≤ length (filter g xs) → length (cond a (x ∷ filter f xs) (filter f xs)) < length (cond b (x ∷ filter g xs) (filter g xs))
+    at_head : (a b : Bool) → a ≡ false → b ≡ true → length (filter f xs) ≤ length (filter g xs)
+        → length (cond a (x ∷ filter f xs) (filter f xs)) < length (cond b (x ∷ filter g xs) (filter g xs))
     at_head true b e i rest = absurd (true≢false e)
     at_head false true e i rest = omega arith
     at_head false false e i rest = absurd (true≢false (sym i))
 
-    one : (a b : Bool) → (a ≡ true → b ≡ true) → length (filter f xs) < length (filter g xs) → length (cond a (x ∷ filter f xs) (filter f xs)) < length (cond b (x ∷ filter g xs) (filter g xs))
+    one : (a b : Bool) → (a ≡ true → b ≡ true) → length (filter f xs) < length (filter g xs)
+        → length (cond a (x ∷ filter f xs) (filter f xs)) < length (cond b (x ∷ filter g xs) (filter g xs))
     one true true e rest = omega arith
     one true false e rest = absurd (true≢false (sym (e refl)))
     one false true e rest = omega arith
@@ -103,7 +112,8 @@ pub record AreDoneAt (names : List ℕ) (g : Closure) (gone : List ℕ) (rest : 
 -- what is left to do, and the parts so far
 pub record Splitting (n : ℕ) (names : List ℕ) (g : Closure) (gone : List ℕ) (rest : set.FinSet nat_cmp) (parts : List Cluster) : Type 0 where
   pub among : (p : ℕ) → set.contains rest p ≡ true → (p < length names) × (Contains gone (slice_index names p) → ⊥)
-  pub alone : (p q : ℕ) → p < length names → (Contains gone (slice_index names p) → ⊥) → set.contains rest q ≡ true → IsRelated g p q → set.contains rest p ≡ true
+  pub alone : (p q : ℕ) → p < length names → (Contains gone (slice_index names p) → ⊥)
+      → set.contains rest q ≡ true → IsRelated g p q → set.contains rest p ≡ true
   pub there : (a d : ℕ) → IsAncestorIn parts a d → AreDoneAt names g gone rest a d
   pub back : (a d : ℕ) → AreDoneAt names g gone rest a d → IsAncestorIn parts a d
   pub rates : (c : Cluster) → Contains parts c → (id : ℕ) → Contains c.names id → rate_of c.graph id ≡ rate_of (named names g) id
@@ -118,7 +128,8 @@ module _ (n : ℕ) (names : List ℕ) (g : Closure) (kept : IsNamed n names g) (
   abbrev AreDone : set.FinSet nat_cmp → ℕ → ℕ → Type 0
   AreDone rest a d = AreDoneAt names g gone rest a d
 
-  module _ (whole rest : set.FinSet nat_cmp) (all : whole ≡ first_places (length names)) (less : (p : ℕ) → set.contains rest p ≡ true → set.contains whole p ≡ true)
+  module _ (whole rest : set.FinSet nat_cmp) (all : whole ≡ first_places (length names))
+      (less : (p : ℕ) → set.contains rest p ≡ true → set.contains whole p ≡ true)
       (left : (p : ℕ) → p < length names → set.contains whole p ≡ true → (set.contains rest p ≡ true) ↔ (Contains gone (slice_index names p) → ⊥)) where
     in_whole : (p : ℕ) → p < length names → set.contains whole p ≡ true
     in_whole p low = ap (λ s. set.contains s p) all ∙ contains-first_places (length names) p ∙ lt-ltb p (length names) low
@@ -144,7 +155,8 @@ module _ (n : ℕ) (names : List ℕ) (g : Closure) (kept : IsNamed n names g) (
         no_part : (c : Cluster) → Contains parts c → ⊥
         no_part c here = let h : Contains [] c = subst (λ xs. Contains xs c) none here in omega (arith, h.1)
 
-  module _ (rest next chosen : set.FinSet nat_cmp) (parts : List Cluster) (part : Cluster) (first : ℕ) (so : Splitting n names g gone rest parts) (least : IsLeast rest first)
+  module _ (rest next chosen : set.FinSet nat_cmp) (parts : List Cluster) (part : Cluster)
+      (first : ℕ) (so : Splitting n names g gone rest parts) (least : IsLeast rest first)
       (is : (p : ℕ) → (set.contains chosen p ≡ true) ↔ Walk (IsNear g rest) first p) (less : next ≡ set.difference rest chosen)
       (made : IsPartOf names (named names g) chosen part.names part.graph) (fine : IsCluster n part) where
     chosen_rest : (p : ℕ) → set.contains chosen p ≡ true → set.contains rest p ≡ true
@@ -155,7 +167,8 @@ module _ (n : ℕ) (names : List ℕ) (g : Closure) (kept : IsNamed n names g) (
 
     next_rest : (p : ℕ) → set.contains next p ≡ true → (set.contains rest p ≡ true) × (set.contains chosen p ≡ false)
     next_rest p here =
-        let both = and_parts (set.contains rest p) (not (set.contains chosen p)) (sym (next_tells p) ∙ here) in (both.0, Rattle.std.proofs.lemmas.Bool.not-true (set.contains chosen p) both.1)
+        let both = and_parts (set.contains rest p) (not (set.contains chosen p)) (sym (next_tells p) ∙ here) in
+        (both.0, Rattle.std.proofs.lemmas.Bool.not-true (set.contains chosen p) both.1)
 
     rest_next : (p : ℕ) → set.contains rest p ≡ true → set.contains chosen p ≡ false → set.contains next p ≡ true
     rest_next p here other = next_tells p ∙ and_from (set.contains rest p) (not (set.contains chosen p)) here (ap not other)
@@ -168,7 +181,8 @@ module _ (n : ℕ) (names : List ℕ) (g : Closure) (kept : IsNamed n names g) (
     turned : (p q : ℕ) → IsRelated g p q → IsRelated g q p
     turned p q related = elim related [ inl up ↦ inr up | inr down ↦ inl down ]
 
-    alone_next : (p q : ℕ) → p < length names → (Contains gone (slice_index names p) → ⊥) → set.contains next q ≡ true → IsRelated g p q → set.contains next p ≡ true
+    alone_next : (p q : ℕ) → p < length names → (Contains gone (slice_index names p) → ⊥)
+        → set.contains next q ≡ true → IsRelated g p q → set.contains next p ≡ true
     alone_next p q inside other here related =
         let old = next_rest q here in
         let there : set.contains rest p ≡ true = so.alone p q inside other old.0 related in
@@ -186,7 +200,8 @@ module _ (n : ℕ) (names : List ℕ) (g : Closure) (kept : IsNamed n names g) (
     done_cases : (p : ℕ) → IsDone next p → IsDone rest p ⊎ (set.contains chosen p ≡ true)
     done_cases p done = elim (cases_Bool (set.contains chosen p)) [
       | inl held ↦ inr held
-      | inr other ↦ inl (record { low = done.low; other = done.other; taken = false_from_ne_true (set.contains rest p) (λ here. true≢false (sym (rest_next p here other) ∙ done.taken)) })
+      | inr other ↦ inl
+          (record { low = done.low; other = done.other; taken = false_from_ne_true (set.contains rest p) (λ here. true≢false (sym (rest_next p here other) ∙ done.taken)) })
     ]
 
     chosen_at : (id : ℕ) → Contains part.names id → IsChosen names chosen id
@@ -223,15 +238,18 @@ module _ (n : ℕ) (names : List ℕ) (g : Closure) (kept : IsNamed n names g) (
       | inr same ↦ part_done a d (subst (λ (c : Cluster). is_ancestor c.graph a d ≡ true) (sym same) up.2)
     ]
 
-    in_part : (a d : ℕ) (done : AreDone next a d) → set.contains chosen done.first ≡ true → set.contains chosen done.second ≡ true → IsAncestorIn (parts ++ part ∷ []) a d
+    in_part : (a d : ℕ) (done : AreDone next a d) → set.contains chosen done.first ≡ true
+        → set.contains chosen done.second ≡ true → IsAncestorIn (parts ++ part ∷ []) a d
     in_part a d done one two =
         let low = done.first_done.low in let below = done.second_done.low in
-        let up : is_ancestor (named names g) a d ≡ true = subst₂ (λ x y. is_ancestor (named names g) x y ≡ true) done.first_is done.second_is (named-ancestor names g kept.once done.first done.second low below ∙ done.above) in
+        let up : is_ancestor (named names g) a d ≡ true = subst₂ (λ x y. is_ancestor (named names g) x y ≡ true) done.first_is done.second_is
+        (named-ancestor names g kept.once done.first done.second low below ∙ done.above) in
         (part, Contains-push parts part, (made.ancestors a d).1 ((done.first, low, one, done.first_is), (done.second, below, two, done.second_is), up))
 
     before_both : (a d : ℕ) (done : AreDone next a d) → IsDone rest done.first → IsDone rest done.second → IsAncestorIn (parts ++ part ∷ []) a d
     before_both a d done one two =
-        let old = so.back a d (record { first = done.first; second = done.second; first_done = one; second_done = two; first_is = done.first_is; second_is = done.second_is; above = done.above }) in
+        let old = so.back a d
+        (record { first = done.first; second = done.second; first_done = one; second_done = two; first_is = done.first_is; second_is = done.second_is; above = done.above }) in
         (old.0, Contains-append_left parts (part ∷ []) old.0 old.1, old.2)
 
     -- a place done before is not related to one of the rest
@@ -289,11 +307,13 @@ module _ (n : ℕ) (names : List ℕ) (g : Closure) (kept : IsNamed n names g) (
     -- fewer places are left
     pub fewer : set.len next < set.len rest
     fewer =
-        let rest_bound : IsWithin n rest = λ p here. (let low : p < length names = (so.among p here).0 in let few : length names ≤ n = kept.few in omega arith) in
+        let rest_bound : IsWithin n rest =
+        λ p here. (let low : p < length names = (so.among p here).0 in let few : length names ≤ n = kept.few in omega arith) in
         let next_bound : IsWithin n next = λ p here. rest_bound p (next_rest p here).0 in
         let held : set.contains chosen first ≡ true = (is first).1 ([], refl) in
         let out : set.contains next first ≡ false = next_tells first ∙ ap₂ (λ x y. x && not y) least.member held in
-        let less : length (places n next) < length (places n rest) = keeps_fewer (set.contains next) (set.contains rest) (λ p here. (next_rest p here).0) first (range_with_len 0 n) (in_range n first (rest_bound first least.member)) least.member out in
+        let less : length (places n next) < length (places n rest) = keeps_fewer (set.contains next) (set.contains rest)
+        (λ p here. (next_rest p here).0) first (range_with_len 0 n) (in_range n first (rest_bound first least.member)) least.member out in
         let one : set.len next ≡ length (places n next) = len-places n next next_bound in
         let two : set.len rest ≡ length (places n rest) = len-places n rest rest_bound in
         omega arith
@@ -309,7 +329,8 @@ module _ (n : ℕ) (names : List ℕ) (g : Closure) (kept : IsNamed n names g) (
             let done = so.there a d up in (
               λ held. done.first_done.other (subst (Contains gone) (sym done.first_is) held),
               λ held. done.second_done.other (subst (Contains gone) (sym done.second_is) held),
-              subst₂ (λ x y. is_ancestor (named names g) x y ≡ true) done.first_is done.second_is (named-ancestor names g kept.once done.first done.second done.first_done.low done.second_done.low ∙ done.above),
+              subst₂ (λ x y. is_ancestor (named names g) x y ≡ true) done.first_is done.second_is
+                  (named-ancestor names g kept.once done.first done.second done.first_done.low done.second_done.low ∙ done.above),
             ),
         λ all.
             let at = ancestor-stands names g kept.once a d all.2 in

@@ -29,7 +29,8 @@ module _ (own names : List ℕ) (at place : ℕ) (old mid new : set.FinSet nat_c
   left_more : (p : ℕ) → p < length own → set.contains old p ≡ true → set.contains new p ≡ true → Contains (take (at + 1) names) (slice_index own p) → ⊥
   left_more p inside there here named =
       let both = and_parts (not (nat_eq p place)) (set.contains mid p) (sym (tells p) ∙ here) in
-      elim (Contains-push_cases (take at names) (slice_index names at) (slice_index own p) (subst (λ (xs : List ℕ). Contains xs (slice_index own p)) more named)) [
+      elim (Contains-push_cases (take at names) (slice_index names at) (slice_index own p)
+      (subst (λ (xs : List ℕ). Contains xs (slice_index own p)) more named)) [
         | inl earlier ↦ (taken.left p inside there).0 both.1 earlier
         | inr now ↦ true≢false (sym both.0 ∙ ap not (eq-eqb p place (one_place own p place 0 once inside within (sym now ∙ sym is))))
       ]
@@ -38,8 +39,10 @@ module _ (own names : List ℕ) (at place : ℕ) (old mid new : set.FinSet nat_c
   here_more p inside there absent =
       tells p ∙ and_from (not (nat_eq p place)) (set.contains mid p)
       (ap not (ne_eqb p place (λ same. absent (subst (λ (xs : List ℕ). Contains xs (slice_index own p)) (sym more)
-      (subst (Contains (take at names ++ slice_index names at ∷ [])) (sym is ∙ ap (slice_index own) (sym same)) (Contains-push (take at names) (slice_index names at)))))))
-      ((taken.left p inside there).1 (λ earlier. absent (subst (λ (xs : List ℕ). Contains xs (slice_index own p)) (sym more) (Contains-append_left (take at names) (slice_index names at ∷ []) (slice_index own p) earlier))))
+      (subst (Contains (take at names ++ slice_index names at ∷ [])) (sym is ∙ ap (slice_index own) (sym same))
+      (Contains-push (take at names) (slice_index names at)))))))
+      ((taken.left p inside there).1 (λ earlier. absent (subst (λ (xs : List ℕ). Contains xs (slice_index own p))
+      (sym more) (Contains-append_left (take at names) (slice_index names at ∷ []) (slice_index own p) earlier))))
 
   pub more_taken : AreTaken own names (at + 1) old new
   more_taken = record {

@@ -33,7 +33,8 @@ module _ (n : ℕ) (names : List ℕ) (g : Closure) (kept : IsNamed n names g) (
   abbrev by_places : Graph
   by_places = renamed place graph
 
-  module _ (p q : Part) (order : List ℕ) (read : IsReadPart (slice_index names) order p q) (low : (x : ℕ) → Contains p.ids x → x < length names) (known : (id : ℕ) → Contains q.ids id → Contains graph.names id) where
+  module _ (p q : Part) (order : List ℕ) (read : IsReadPart (slice_index names) order p q)
+      (low : (x : ℕ) → Contains p.ids x → x < length names) (known : (id : ℕ) → Contains q.ids id → Contains graph.names id) where
     -- a name of the part has a place of it
     place_there : (id : ℕ) → Contains q.ids id → Contains p.ids (place id)
     place_there id here =
@@ -52,7 +53,8 @@ module _ (n : ℕ) (names : List ℕ) (g : Closure) (kept : IsNamed n names g) (
         sym (named_sum n names g kept (place id) at.0) ∙ ap (sum_at (named names g)) at.1
 
     same_sums : sums (sum_at (named names g)) q.ids ≡ sums (linear.sum_at g) p.ids
-    same_sums = ap (sums (sum_at (named names g))) read.ids_are ∙ sums_mapped (slice_index names) (linear.sum_at g) (sum_at (named names g)) p.ids (λ x here. named_sum n names g kept x (low x here))
+    same_sums = ap (sums (sum_at (named names g))) read.ids_are
+        ∙ sums_mapped (slice_index names) (linear.sum_at g) (sum_at (named names g)) p.ids (λ x here. named_sum n names g kept x (low x here))
 
     module _ (set : List ℕ) (closed : IsClosedWithin graph.pairs q.ids set) where
       injective : (a b : ℕ) → Contains set a → Contains set b → place a ≡ place b → a ≡ b
@@ -67,8 +69,10 @@ module _ (n : ℕ) (names : List ℕ) (g : Closure) (kept : IsNamed n names g) (
             let at = map-Contains place set b here in
             let ends = closes.ends old.0 old.1 old.2 in
             let child : old.1 ≡ at.0 =
-            sym (at_place n names g kept graph closes old.1 ((closes.names old.1).1 ends.1)).1 ∙ ap (slice_index names) (old.4 ∙ sym at.2) ∙ back at.0 (closed.inside at.0 at.1) in
-            let parent : slice_index names a ≡ old.0 = ap (slice_index names) (sym old.3) ∙ (at_place n names g kept graph closes old.0 ((closes.names old.0).1 ends.0)).1 in
+            sym (at_place n names g kept graph closes old.1 ((closes.names old.1).1 ends.1)).1
+            ∙ ap (slice_index names) (old.4 ∙ sym at.2) ∙ back at.0 (closed.inside at.0 at.1) in
+            let parent : slice_index names a ≡ old.0 =
+            ap (slice_index names) (sym old.3) ∙ (at_place n names g kept graph closes old.0 ((closes.names old.0).1 ends.0)).1 in
             let within : Contains q.ids old.0 = subst (Contains q.ids) parent (name_there a in_part) in
             let held : Contains set old.0 = closed.parents old.0 old.1 old.2 within (subst (Contains set) (sym child) at.1) in
             subst (Contains (map place set)) old.3 (Contains-map place set old.0 held));
@@ -79,7 +83,8 @@ module _ (n : ℕ) (names : List ℕ) (g : Closure) (kept : IsNamed n names g) (
 
     pub uncut_part : IsMinimal (linear.sum_at g) by_places.pairs p.ids → IsMinimal (sum_at (named names g)) graph.pairs q.ids
     uncut_part minimal = λ set closed some same id here.
-        (let all = minimal (map place set) (closed_places set closed) (some_places set some) (subst₂ Same (sym (set_sums set closed)) same_sums same) (place id) (place_there id here) in
+        (let all = minimal (map place set) (closed_places set closed) (some_places set some)
+        (subst₂ Same (sym (set_sums set closed)) same_sums same) (place id) (place_there id here) in
         let at = map-Contains place set (place id) all in
         subst (Contains set) (sym (back at.0 (closed.inside at.0 at.1)) ∙ ap (slice_index names) at.2 ∙ back id here) at.1)
       where
@@ -87,7 +92,8 @@ module _ (n : ℕ) (names : List ℕ) (g : Closure) (kept : IsNamed n names g) (
         some_places [] some empty = some refl
         some_places (x ∷ set) some empty = not_empty empty
 
-  pub uncut_read : (ps qs : List Part) (order : List ℕ) → IsPlaced (length names) ps → AreRead (slice_index names) order ps qs → AreMinimal (linear.sum_at g) by_places.pairs ps
+  pub uncut_read : (ps qs : List Part) (order : List ℕ) → IsPlaced (length names) ps
+      → AreRead (slice_index names) order ps qs → AreMinimal (linear.sum_at g) by_places.pairs ps
       → ((q : Part) → Contains qs q → (id : ℕ) → Contains q.ids id → Contains graph.names id) → AreMinimal (sum_at (named names g)) graph.pairs qs
   uncut_read ps qs order placed read minimal known q here =
       let at = matched (slice_index names) order ps qs read q here in

@@ -19,25 +19,31 @@ pub returns-in_err-order-clause-whole : goal.returns-in_err-order-clause-whole
 returns-in_err-order-clause-whole g c = IfOk-from_err c.from_residual.result _ c.from_residual.ensures.0
 
 pub returns-in_err-order-clause-steps : goal.returns-in_err-order-clause-steps
-returns-in_err-order-clause-steps g c = subst (λ (xs : List ℕ). GrowsWithin (most_steps (length xs)) c.args.steps.now c.ordered.new.steps) c.as_slice.ensures c.ordered.ensures.steps
+returns-in_err-order-clause-steps g c =
+    subst (λ (xs : List ℕ). GrowsWithin (most_steps (length xs)) c.args.steps.now c.ordered.new.steps) c.as_slice.ensures c.ordered.ensures.steps
 
 pub returns-in_err-order-clause-least : goal.returns-in_err-order-clause-least
 returns-in_err-order-clause-least g c = IfOk-from_err c.from_residual.result _ c.from_residual.ensures.0
 
 pub returns-in_err-order-clause-alone : goal.returns-in_err-order-clause-alone
-returns-in_err-order-clause-alone g c = subst (λ (xs : List ℕ). length xs ≡ 1 → c.ordered.new.steps ≡ c.args.steps.now) c.as_slice.ensures c.ordered.ensures.alone
+returns-in_err-order-clause-alone g c =
+    subst (λ (xs : List ℕ). length xs ≡ 1 → c.ordered.new.steps ≡ c.args.steps.now) c.as_slice.ensures c.ordered.ensures.alone
 
 pub returns-clause-whole : goal.returns-clause-whole
 returns-clause-whole g c =
     let order : IsOrdered c.args.names.items c.args.dep c.in_ok-order.order.parts.items c.in_ok-order.order.names.items c.in_ok-order.order.flows.items =
-    subst (λ (xs : List ℕ). IsOrdered xs c.args.dep c.in_ok-order.order.parts.items c.in_ok-order.order.names.items c.in_ok-order.order.flows.items) c.as_slice.ensures c.in_ok-order.ensures.order in
-    IsCluster-named (64 * g.row.W) c.args.names.items c.args.dep c.requires (cut c.in_ok-order.order.parts.items c.in_ok-order.order.names.items c.in_ok-order.order.flows.items) order.picked order.uncut
+    subst (λ (xs : List ℕ). IsOrdered xs c.args.dep c.in_ok-order.order.parts.items c.in_ok-order.order.names.items c.in_ok-order.order.flows.items)
+    c.as_slice.ensures c.in_ok-order.ensures.order in
+    IsCluster-named (64 * g.row.W) c.args.names.items c.args.dep c.requires
+    (cut c.in_ok-order.order.parts.items c.in_ok-order.order.names.items c.in_ok-order.order.flows.items) order.picked order.uncut
 
 pub returns-clause-steps : goal.returns-clause-steps
-returns-clause-steps g c = subst (λ (xs : List ℕ). GrowsWithin (most_steps (length xs)) c.args.steps.now c.ordered.new.steps) c.as_slice.ensures c.ordered.ensures.steps
+returns-clause-steps g c =
+    subst (λ (xs : List ℕ). GrowsWithin (most_steps (length xs)) c.args.steps.now c.ordered.new.steps) c.as_slice.ensures c.ordered.ensures.steps
 
 pub returns-clause-least : goal.returns-clause-least
-returns-clause-least g c = subst (λ (xs : List ℕ). c.args.steps.now + least_steps (length xs) ≤ c.ordered.new.steps) c.as_slice.ensures c.in_ok-order.ensures.least
+returns-clause-least g c =
+    subst (λ (xs : List ℕ). c.args.steps.now + least_steps (length xs) ≤ c.ordered.new.steps) c.as_slice.ensures c.in_ok-order.ensures.least
 
 pub returns-clause-alone : goal.returns-clause-alone
 returns-clause-alone g c = subst (λ (xs : List ℕ). length xs ≡ 1 → c.ordered.new.steps ≡ c.args.steps.now) c.as_slice.ensures c.ordered.ensures.alone

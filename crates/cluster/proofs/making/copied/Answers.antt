@@ -8,17 +8,20 @@ use Rattle.cluster.proofs.Rooms.{dep_room, words_in_dep}
 use Rattle.cluster.proofs.making.copied.Goals as goal
 
 pub part-requires : goal.part-requires
-part-requires g c = (search rules, (search rules, λ p here. sym (contains-members_of c.args.dep.now p) ∙ sym (ap (λ s. set.contains s p) c.members.ensures.members) ∙ here))
+part-requires g c =
+    (search rules, (search rules, λ p here. sym (contains-members_of c.args.dep.now p) ∙ sym (ap (λ s. set.contains s p) c.members.ensures.members) ∙ here))
 
 pub returns-clause-same : goal.returns-clause-same
 returns-clause-same g c =
     is_same (64 * g.row.W) c.args.names.now c.args.dep.now c.in_ok-copy.copy c.requires
-    (subst (λ s. IsPart c.args.dep.now (places (64 * g.row.W) s) c.in_ok-copy.copy) c.members.ensures.members c.in_ok-copy.ensures) c.members-members.ensures.closed
+    (subst (λ s. IsPart c.args.dep.now (places (64 * g.row.W) s) c.in_ok-copy.copy) c.members.ensures.members c.in_ok-copy.ensures)
+    c.members-members.ensures.closed
 
 pub returns-clause-named : goal.returns-clause-named
 returns-clause-named g c =
     is_named (64 * g.row.W) c.args.names.now c.args.dep.now c.in_ok-copy.copy c.requires
-    (subst (λ s. IsPart c.args.dep.now (places (64 * g.row.W) s) c.in_ok-copy.copy) c.members.ensures.members c.in_ok-copy.ensures) c.members-members.ensures.closed
+    (subst (λ s. IsPart c.args.dep.now (places (64 * g.row.W) s) c.in_ok-copy.copy) c.members.ensures.members c.in_ok-copy.ensures)
+    c.members-members.ensures.closed
 
 pub members-requires : goal.members-requires
 members-requires g c = let fits : dep_room g.row.W < 9223372036854775808 = search in (fits, words_in_dep g.row.W fits)

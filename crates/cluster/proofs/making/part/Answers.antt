@@ -52,32 +52,41 @@ certified-requires g c = (
     (
       search,
       subst (λ (xs : List ℕ). IsNamed (64 * g.row.W) xs c.in_ok-dep.dep) (sym (from_none c.in_ok-copy_names.ensures c.new-own.ensures.items))
-          (IsNamed-part (64 * g.row.W) c.args.names.now c.args.dep.now c.in_ok-dep.dep c.args.chosen c.requires.named c.requires.within c.requires.some c.in_ok-dep.ensures c.members-members.ensures.closed c.requires.whole),
+          (IsNamed-part (64 * g.row.W) c.args.names.now c.args.dep.now c.in_ok-dep.dep c.args.chosen c.requires.named
+          c.requires.within c.requires.some c.in_ok-dep.ensures c.members-members.ensures.closed c.requires.whole),
     ),
   ),
 )
 
 pub returns-clause-names : goal.returns-clause-names
-returns-clause-names g c = subst (λ (xs : List ℕ). IfOk c.certified.result (λ k. k.names ≡ xs)) (from_none c.in_ok-copy_names.ensures c.new-own.ensures.items) c.certified.ensures.names
+returns-clause-names g c = subst (λ (xs : List ℕ). IfOk c.certified.result (λ k. k.names ≡ xs))
+    (from_none c.in_ok-copy_names.ensures c.new-own.ensures.items) c.certified.ensures.names
 
 pub returns-clause-part : goal.returns-clause-part
 returns-clause-part g c =
-    let items : c.copy_names.new.names.items ≡ map (slice_index c.args.names.now) (places (64 * g.row.W) c.args.chosen) = from_none c.in_ok-copy_names.ensures c.new-own.ensures.items in
-    let made : IsPartOf c.args.names.now (named c.args.names.now c.args.dep.now) c.args.chosen (map (slice_index c.args.names.now) (places (64 * g.row.W) c.args.chosen)) (named (map (slice_index c.args.names.now) (places (64 * g.row.W) c.args.chosen)) c.in_ok-dep.dep) =
-    IsPartOf-named (64 * g.row.W) c.args.names.now c.args.dep.now c.in_ok-dep.dep c.args.chosen c.requires.named c.requires.within c.requires.some c.in_ok-dep.ensures c.members-members.ensures.closed c.requires.whole in
-    both_ok c.certified.result (λ k. k.names ≡ c.copy_names.new.names.items) (λ k. k.graph ≡ named c.copy_names.new.names.items c.in_ok-dep.dep) (λ k. IsPartOf c.args.names.now (named c.args.names.now c.args.dep.now) c.args.chosen k.names k.graph)
-    (λ k names graph. subst₂ (λ (xs : List ℕ) (h : Closure). IsPartOf c.args.names.now (named c.args.names.now c.args.dep.now) c.args.chosen xs h) (sym (names ∙ items)) (sym (graph ∙ ap (λ (xs : List ℕ). named xs c.in_ok-dep.dep) items)) made)
+    let items : c.copy_names.new.names.items ≡ map (slice_index c.args.names.now) (places (64 * g.row.W) c.args.chosen) =
+    from_none c.in_ok-copy_names.ensures c.new-own.ensures.items in
+    let made : IsPartOf c.args.names.now (named c.args.names.now c.args.dep.now) c.args.chosen (map (slice_index c.args.names.now)
+    (places (64 * g.row.W) c.args.chosen)) (named (map (slice_index c.args.names.now) (places (64 * g.row.W) c.args.chosen)) c.in_ok-dep.dep) =
+    IsPartOf-named (64 * g.row.W) c.args.names.now c.args.dep.now c.in_ok-dep.dep c.args.chosen c.requires.named
+    c.requires.within c.requires.some c.in_ok-dep.ensures c.members-members.ensures.closed c.requires.whole in
+    both_ok c.certified.result (λ k. k.names ≡ c.copy_names.new.names.items) (λ k. k.graph ≡ named c.copy_names.new.names.items c.in_ok-dep.dep)
+    (λ k. IsPartOf c.args.names.now (named c.args.names.now c.args.dep.now) c.args.chosen k.names k.graph)
+    (λ k names graph. subst₂ (λ (xs : List ℕ) (h : Closure). IsPartOf c.args.names.now (named c.args.names.now c.args.dep.now) c.args.chosen xs h)
+    (sym (names ∙ items)) (sym (graph ∙ ap (λ (xs : List ℕ). named xs c.in_ok-dep.dep) items)) made)
     c.certified.ensures.names c.certified.ensures.graph
 
 pub returns-clause-steps : goal.returns-clause-steps
 returns-clause-steps g c =
     subst (λ (n : ℕ). GrowsWithin (most_steps n) c.args.steps.now c.certified.new.steps)
-    (ap length (from_none c.in_ok-copy_names.ensures c.new-own.ensures.items) ∙ length-map (places (64 * g.row.W) c.args.chosen) (slice_index c.args.names.now)) c.certified.ensures.steps
+    (ap length (from_none c.in_ok-copy_names.ensures c.new-own.ensures.items)
+    ∙ length-map (places (64 * g.row.W) c.args.chosen) (slice_index c.args.names.now)) c.certified.ensures.steps
 
 pub returns-clause-least : goal.returns-clause-least
 returns-clause-least g c =
     subst (λ (n : ℕ). OnOk c.certified.result (c.args.steps.now + least_steps n ≤ c.certified.new.steps))
-    (ap length (from_none c.in_ok-copy_names.ensures c.new-own.ensures.items) ∙ length-map (places (64 * g.row.W) c.args.chosen) (slice_index c.args.names.now)) c.certified.ensures.least
+    (ap length (from_none c.in_ok-copy_names.ensures c.new-own.ensures.items)
+    ∙ length-map (places (64 * g.row.W) c.args.chosen) (slice_index c.args.names.now)) c.certified.ensures.least
 
 pub part-requires : goal.part-requires
 part-requires g c = (search, (search, λ p here. place_member (64 * g.row.W) c.args.names.now c.args.dep.now c.requires.named p (c.requires.within p here)))

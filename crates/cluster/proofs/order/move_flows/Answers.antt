@@ -10,7 +10,8 @@ no_flow = record { child = 0; parent = 0; amount = 0 }
 
 pub offset_bounds-positions-flow : goal.offset_bounds-positions-flow
 offset_bounds-positions-flow c =
-    let low : (slice_index_or c.args.own.now c.loop-at.at no_flow).child < length c.args.positions.now = (c.requires _ (Contains-get_or c.args.own.now c.loop-at.at no_flow c.loop-at-test.true)).0 in
+    let low : (slice_index_or c.args.own.now c.loop-at.at no_flow).child < length c.args.positions.now =
+    (c.requires _ (Contains-get_or c.args.own.now c.loop-at.at no_flow c.loop-at-test.true)).0 in
     search rules
 
 pub bounds-positions-flow : goal.bounds-positions-flow
@@ -18,7 +19,8 @@ bounds-positions-flow c = (c.requires _ (Contains-get_or c.args.own.now c.loop-a
 
 pub offset_bounds-positions-flow-in-loop-at : goal.offset_bounds-positions-flow-in-loop-at
 offset_bounds-positions-flow-in-loop-at c =
-    let low : (slice_index_or c.args.own.now c.loop-at.at no_flow).parent < length c.args.positions.now = (c.requires _ (Contains-get_or c.args.own.now c.loop-at.at no_flow c.loop-at-test.true)).1 in
+    let low : (slice_index_or c.args.own.now c.loop-at.at no_flow).parent < length c.args.positions.now =
+    (c.requires _ (Contains-get_or c.args.own.now c.loop-at.at no_flow c.loop-at-test.true)).1 in
     search rules
 
 pub bounds-positions-flow-in-loop-at : goal.bounds-positions-flow-in-loop-at

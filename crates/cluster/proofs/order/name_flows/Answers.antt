@@ -11,7 +11,8 @@ no_flow = record { child = 0; parent = 0; amount = 0 }
 
 pub offset_bounds-order-flow : goal.offset_bounds-order-flow
 offset_bounds-order-flow c =
-    let low : (slice_index_or c.args.moved.now c.loop-at.at no_flow).child < length c.args.order.now = (c.requires _ (Contains-get_or c.args.moved.now c.loop-at.at no_flow c.loop-at-test.true)).0 in
+    let low : (slice_index_or c.args.moved.now c.loop-at.at no_flow).child < length c.args.order.now =
+    (c.requires _ (Contains-get_or c.args.moved.now c.loop-at.at no_flow c.loop-at-test.true)).0 in
     search rules
 
 pub bounds-order-flow : goal.bounds-order-flow
@@ -19,7 +20,8 @@ bounds-order-flow c = (c.requires _ (Contains-get_or c.args.moved.now c.loop-at.
 
 pub offset_bounds-order-flow-in-loop-at : goal.offset_bounds-order-flow-in-loop-at
 offset_bounds-order-flow-in-loop-at c =
-    let low : (slice_index_or c.args.moved.now c.loop-at.at no_flow).parent < length c.args.order.now = (c.requires _ (Contains-get_or c.args.moved.now c.loop-at.at no_flow c.loop-at-test.true)).1 in
+    let low : (slice_index_or c.args.moved.now c.loop-at.at no_flow).parent < length c.args.order.now =
+    (c.requires _ (Contains-get_or c.args.moved.now c.loop-at.at no_flow c.loop-at-test.true)).1 in
     search rules
 
 pub bounds-order-flow-in-loop-at : goal.bounds-order-flow-in-loop-at

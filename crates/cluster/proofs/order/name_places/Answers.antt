@@ -4,7 +4,8 @@ use Rattle.cluster.proofs.order.name_places.Goals as goal
 
 pub offset_bounds-names-places : goal.offset_bounds-names-places
 offset_bounds-names-places c =
-    let low : slice_index c.args.places.now c.loop-at.at < length c.args.names.now = c.requires (slice_index c.args.places.now c.loop-at.at) (Contains-get_or c.args.places.now c.loop-at.at 0 c.loop-at-test.true) in
+    let low : slice_index c.args.places.now c.loop-at.at < length c.args.names.now =
+    c.requires (slice_index c.args.places.now c.loop-at.at) (Contains-get_or c.args.places.now c.loop-at.at 0 c.loop-at-test.true) in
     search rules
 
 pub bounds-names-places : goal.bounds-names-places

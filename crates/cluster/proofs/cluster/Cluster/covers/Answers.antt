@@ -14,7 +14,8 @@ use Rattle.cluster.proofs.cluster.Cluster.covers.Goals as goal
 
 pub new-requires : goal.new-requires
 new-requires g c =
-    let named = order_named (64 * g.row.W) c.self.inside.names.items c.self.inside.dep c.self.inside.order.parts.items c.self.inside.order.names.items c.self.inside.order.flows.items c.self.invariant in
+    let named = order_named (64 * g.row.W) c.self.inside.names.items c.self.inside.dep c.self.inside.order.parts.items
+    c.self.inside.order.names.items c.self.inside.order.flows.items c.self.invariant in
     let here : IsNamedBy (64 * g.row.W) c.as_slice-names.result.now c.as_slice.result.now =
     subst₂ (λ (names ids : List ℕ). IsNamedBy (64 * g.row.W) names ids) (sym c.as_slice-names.ensures) (sym c.as_slice.ensures) named in
     (search rules, (search rules, here))
@@ -22,12 +23,15 @@ new-requires g c =
 pub returns : goal.returns
 returns g c =
     let at : IsAt c.self.inside.names.items c.place_of.result c.args.id =
-    at_in c.as_slice-names.result.now c.self.inside.names.items c.place_of.result c.args.id c.as_slice-names.ensures c.place_of.ensures.within c.place_of.ensures.here in
+    at_in c.as_slice-names.result.now c.self.inside.names.items c.place_of.result c.args.id
+    c.as_slice-names.ensures c.place_of.ensures.within c.place_of.ensures.here in
     let same : c.new.result ≡ filter (has_chosen c.self.inside.names.items c.covers.result) c.self.inside.order.names.items =
     c.new.ensures ∙ ap₂ (λ (names order : List ℕ). filter (has_chosen names c.covers.result) order) c.as_slice-names.ensures c.as_slice.ensures in
     subst (λ (s : Cluster). ListsInOrder (λ a. IsCover s.graph a c.args.id) (flat_map (λ part. part.ids) s.parts) c.new.result) c.self.view_is
-    (subst (λ (ids : List ℕ). ListsInOrder (λ a. IsCover (named c.self.inside.names.items c.self.inside.dep) a c.args.id) (flat_map (λ (part : Part). part.ids) (cut c.self.inside.order.parts.items c.self.inside.order.names.items c.self.inside.order.flows.items)) ids) (sym same)
-    (order_covers (64 * g.row.W) c.self.inside.names.items c.self.inside.dep c.self.inside.order.parts.items c.self.inside.order.names.items c.self.inside.order.flows.items c.self.invariant
+    (subst (λ (ids : List ℕ). ListsInOrder (λ a. IsCover (named c.self.inside.names.items c.self.inside.dep) a c.args.id) (flat_map (λ (part : Part). part.ids)
+    (cut c.self.inside.order.parts.items c.self.inside.order.names.items c.self.inside.order.flows.items)) ids) (sym same)
+    (order_covers (64 * g.row.W) c.self.inside.names.items c.self.inside.dep c.self.inside.order.parts.items
+    c.self.inside.order.names.items c.self.inside.order.flows.items c.self.invariant
     c.covers.result c.place_of.result c.args.id at.low at.here c.covers.ensures))
 
 pub covers-requires : goal.covers-requires

@@ -19,8 +19,10 @@ both_long xs ys is first second = ap length is ∙ length-append xs ys ∙ ap₂
 
 pub merge-requires : goal.merge-requires
 merge-requires g c =
-    let first : set.len (members_of c.self.inside.dep) ≡ length c.self.inside.names.items = members_long (64 * g.row.W) c.self.inside.names.items c.self.inside.dep c.self.invariant.place in
-    let second : set.len (members_of c.other.inside.dep) ≡ length c.other.inside.names.items = members_long (64 * g.row.W) c.other.inside.names.items c.other.inside.dep c.other.invariant.place in
+    let first : set.len (members_of c.self.inside.dep) ≡ length c.self.inside.names.items =
+    members_long (64 * g.row.W) c.self.inside.names.items c.self.inside.dep c.self.invariant.place in
+    let second : set.len (members_of c.other.inside.dep) ≡ length c.other.inside.names.items =
+    members_long (64 * g.row.W) c.other.inside.names.items c.other.inside.dep c.other.invariant.place in
     let one : length c.self.inside.names.items ≡ length c.args.self.now.names = ap (λ (s : Cluster). length s.names) c.self.view_is in
     let two : length c.other.inside.names.items ≡ length c.args.other.now.names = ap (λ (s : Cluster). length s.names) c.other.view_is in
     ((let fits : cluster_room g.row.W < 9223372036854775808 = search in dep_in_cluster g.row.W fits), subst₂ (λ (m n : ℕ). m + n ≤ 64 * g.row.W) (sym (first ∙ one)) (sym (second ∙ two)) c.requires.few)
@@ -45,11 +47,15 @@ pub add_dep-requires : goal.add_dep-requires
 add_dep-requires g c =
     let items : c.in_ok-names.names.items ≡ c.self.inside.names.items ++ c.other.inside.names.items =
     c.in_ok-names.ensures ∙ ap₂ {A = List ℕ} {B = List ℕ} (λ xs ys. xs ++ ys) c.as_slice.ensures c.as_slice-2.ensures in
-    let asks = join_asks (64 * g.row.W) c.self.inside.names.items c.other.inside.names.items c.self.inside.dep c.other.inside.dep c.in_ok-dep.dep c.self.invariant.place c.other.invariant.place
+    let asks = join_asks (64 * g.row.W) c.self.inside.names.items c.other.inside.names.items
+    c.self.inside.dep c.other.inside.dep c.in_ok-dep.dep c.self.invariant.place c.other.invariant.place
     (subst₂ (λ (s t : Cluster). length s.names + length t.names ≤ 64 * g.row.W) (sym c.self.view_is) (sym c.other.view_is) c.requires.few)
-    (subst₂ AreApart (sym c.self.view_is) (sym c.other.view_is) c.requires.apart) c.in_ok-dep.ensures c.place_of-above.result c.place_of-below.result c.args.parent c.args.child
-    (at_in c.as_slice-3.result.now (c.self.inside.names.items ++ c.other.inside.names.items) c.place_of-above.result c.args.parent (c.as_slice-3.ensures ∙ items) c.place_of-above.ensures.within c.place_of-above.ensures.here)
-    (at_in c.as_slice-4.result.now (c.self.inside.names.items ++ c.other.inside.names.items) c.place_of-below.result c.args.child (c.as_slice-4.ensures ∙ items) c.place_of-below.ensures.within c.place_of-below.ensures.here)
+    (subst₂ AreApart (sym c.self.view_is) (sym c.other.view_is) c.requires.apart) c.in_ok-dep.ensures
+    c.place_of-above.result c.place_of-below.result c.args.parent c.args.child
+    (at_in c.as_slice-3.result.now (c.self.inside.names.items ++ c.other.inside.names.items) c.place_of-above.result c.args.parent
+    (c.as_slice-3.ensures ∙ items) c.place_of-above.ensures.within c.place_of-above.ensures.here)
+    (at_in c.as_slice-4.result.now (c.self.inside.names.items ++ c.other.inside.names.items) c.place_of-below.result c.args.child
+    (c.as_slice-4.ensures ∙ items) c.place_of-below.ensures.within c.place_of-below.ensures.here)
     (subst₂ (λ (s t : Cluster). AreAcross s.names t.names c.args.parent c.args.child) (sym c.self.view_is) (sym c.other.view_is) c.requires.across) in
     ((let fits : cluster_room g.row.W < 9223372036854775808 = search in dep_in_cluster g.row.W fits), (asks.0, (asks.1, asks.2)))
 
@@ -93,12 +99,17 @@ certified-requires g c =
         (
           grind arith,
           subst (λ (xs : List ℕ). IsNamed (64 * g.row.W) xs c.add_dep.new.self) (sym items)
-              (join_kept (64 * g.row.W) c.self.inside.names.items c.other.inside.names.items c.self.inside.dep c.other.inside.dep c.in_ok-dep.dep c.self.invariant.place c.other.invariant.place
+              (join_kept (64 * g.row.W) c.self.inside.names.items c.other.inside.names.items c.self.inside.dep
+              c.other.inside.dep c.in_ok-dep.dep c.self.invariant.place c.other.invariant.place
               (subst₂ (λ (s t : Cluster). length s.names + length t.names ≤ 64 * g.row.W) (sym c.self.view_is) (sym c.other.view_is) c.requires.few)
-              (subst₂ AreApart (sym c.self.view_is) (sym c.other.view_is) c.requires.apart) c.in_ok-dep.ensures c.place_of-above.result c.place_of-below.result c.args.parent c.args.child
-              (at_in c.as_slice-3.result.now (c.self.inside.names.items ++ c.other.inside.names.items) c.place_of-above.result c.args.parent (c.as_slice-3.ensures ∙ items) c.place_of-above.ensures.within c.place_of-above.ensures.here)
-              (at_in c.as_slice-4.result.now (c.self.inside.names.items ++ c.other.inside.names.items) c.place_of-below.result c.args.child (c.as_slice-4.ensures ∙ items) c.place_of-below.ensures.within c.place_of-below.ensures.here)
-              (subst₂ (λ (s t : Cluster). AreAcross s.names t.names c.args.parent c.args.child) (sym c.self.view_is) (sym c.other.view_is) c.requires.across) c.add_dep.new.self c.add_dep.ensures c.members-members-2.ensures.closed),
+              (subst₂ AreApart (sym c.self.view_is) (sym c.other.view_is) c.requires.apart) c.in_ok-dep.ensures
+              c.place_of-above.result c.place_of-below.result c.args.parent c.args.child
+              (at_in c.as_slice-3.result.now (c.self.inside.names.items ++ c.other.inside.names.items) c.place_of-above.result c.args.parent
+              (c.as_slice-3.ensures ∙ items) c.place_of-above.ensures.within c.place_of-above.ensures.here)
+              (at_in c.as_slice-4.result.now (c.self.inside.names.items ++ c.other.inside.names.items) c.place_of-below.result c.args.child
+              (c.as_slice-4.ensures ∙ items) c.place_of-below.ensures.within c.place_of-below.ensures.here)
+              (subst₂ (λ (s t : Cluster). AreAcross s.names t.names c.args.parent c.args.child) (sym c.self.view_is) (sym c.other.view_is) c.requires.across)
+              c.add_dep.new.self c.add_dep.ensures c.members-members-2.ensures.closed),
         ),
       ),
     )
@@ -108,35 +119,46 @@ returns-clause-names g c =
     let items : c.in_ok-names.names.items ≡ c.self.inside.names.items ++ c.other.inside.names.items =
     c.in_ok-names.ensures ∙ ap₂ {A = List ℕ} {B = List ℕ} (λ xs ys. xs ++ ys) c.as_slice.ensures c.as_slice-2.ensures in
     one_ok c.certified.result (λ k. k.names ≡ c.in_ok-names.names.items) (λ k. k.names ≡ c.args.self.now.names ++ c.args.other.now.names)
-    (λ k names. names ∙ items ∙ ap₂ {A = List ℕ} {B = List ℕ} (λ xs ys. xs ++ ys) (ap (λ (s : Cluster). s.names) c.self.view_is) (ap (λ (s : Cluster). s.names) c.other.view_is)) c.certified.ensures.names
+    (λ k names. names ∙ items ∙ ap₂ {A = List ℕ} {B = List ℕ} (λ xs ys. xs ++ ys) (ap (λ (s : Cluster). s.names) c.self.view_is)
+    (ap (λ (s : Cluster). s.names) c.other.view_is)) c.certified.ensures.names
 
 pub returns-clause-graph : goal.returns-clause-graph
 returns-clause-graph g c =
     let items : c.in_ok-names.names.items ≡ c.self.inside.names.items ++ c.other.inside.names.items =
     c.in_ok-names.ensures ∙ ap₂ {A = List ℕ} {B = List ℕ} (λ xs ys. xs ++ ys) c.as_slice.ensures c.as_slice-2.ensures in
-    let made = join_graph (64 * g.row.W) c.self.inside.names.items c.other.inside.names.items c.self.inside.dep c.other.inside.dep c.in_ok-dep.dep c.self.invariant.place c.other.invariant.place
+    let made = join_graph (64 * g.row.W) c.self.inside.names.items c.other.inside.names.items
+    c.self.inside.dep c.other.inside.dep c.in_ok-dep.dep c.self.invariant.place c.other.invariant.place
     (subst₂ (λ (s t : Cluster). length s.names + length t.names ≤ 64 * g.row.W) (sym c.self.view_is) (sym c.other.view_is) c.requires.few)
-    (subst₂ AreApart (sym c.self.view_is) (sym c.other.view_is) c.requires.apart) c.in_ok-dep.ensures c.place_of-above.result c.place_of-below.result c.args.parent c.args.child
-    (at_in c.as_slice-3.result.now (c.self.inside.names.items ++ c.other.inside.names.items) c.place_of-above.result c.args.parent (c.as_slice-3.ensures ∙ items) c.place_of-above.ensures.within c.place_of-above.ensures.here)
-    (at_in c.as_slice-4.result.now (c.self.inside.names.items ++ c.other.inside.names.items) c.place_of-below.result c.args.child (c.as_slice-4.ensures ∙ items) c.place_of-below.ensures.within c.place_of-below.ensures.here)
-    (subst₂ (λ (s t : Cluster). AreAcross s.names t.names c.args.parent c.args.child) (sym c.self.view_is) (sym c.other.view_is) c.requires.across) c.add_dep.new.self c.add_dep.ensures in
-    one_ok c.certified.result (λ k. k.graph ≡ named c.in_ok-names.names.items c.add_dep.new.self) (λ k. Joins c.args.self.now.graph c.args.other.now.graph c.args.parent c.args.child k.graph)
-    (λ k graph. subst (Joins c.args.self.now.graph c.args.other.now.graph c.args.parent c.args.child) (sym (graph ∙ ap (λ (xs : List ℕ). named xs c.add_dep.new.self) items))
-    (subst₂ (λ (s t : Cluster). Joins s.graph t.graph c.args.parent c.args.child (named (c.self.inside.names.items ++ c.other.inside.names.items) c.add_dep.new.self)) c.self.view_is c.other.view_is made)) c.certified.ensures.graph
+    (subst₂ AreApart (sym c.self.view_is) (sym c.other.view_is) c.requires.apart) c.in_ok-dep.ensures
+    c.place_of-above.result c.place_of-below.result c.args.parent c.args.child
+    (at_in c.as_slice-3.result.now (c.self.inside.names.items ++ c.other.inside.names.items) c.place_of-above.result c.args.parent
+    (c.as_slice-3.ensures ∙ items) c.place_of-above.ensures.within c.place_of-above.ensures.here)
+    (at_in c.as_slice-4.result.now (c.self.inside.names.items ++ c.other.inside.names.items) c.place_of-below.result c.args.child
+    (c.as_slice-4.ensures ∙ items) c.place_of-below.ensures.within c.place_of-below.ensures.here)
+    (subst₂ (λ (s t : Cluster). AreAcross s.names t.names c.args.parent c.args.child) (sym c.self.view_is) (sym c.other.view_is) c.requires.across)
+    c.add_dep.new.self c.add_dep.ensures in
+    one_ok c.certified.result (λ k. k.graph ≡ named c.in_ok-names.names.items c.add_dep.new.self)
+    (λ k. Joins c.args.self.now.graph c.args.other.now.graph c.args.parent c.args.child k.graph)
+    (λ k graph. subst (Joins c.args.self.now.graph c.args.other.now.graph c.args.parent c.args.child)
+    (sym (graph ∙ ap (λ (xs : List ℕ). named xs c.add_dep.new.self) items))
+    (subst₂ (λ (s t : Cluster). Joins s.graph t.graph c.args.parent c.args.child
+    (named (c.self.inside.names.items ++ c.other.inside.names.items) c.add_dep.new.self)) c.self.view_is c.other.view_is made)) c.certified.ensures.graph
 
 pub returns-clause-steps : goal.returns-clause-steps
 returns-clause-steps g c =
     let items : c.in_ok-names.names.items ≡ c.self.inside.names.items ++ c.other.inside.names.items =
     c.in_ok-names.ensures ∙ ap₂ {A = List ℕ} {B = List ℕ} (λ xs ys. xs ++ ys) c.as_slice.ensures c.as_slice-2.ensures in
     subst (λ (n : ℕ). GrowsWithin (most_steps n) c.args.steps.now c.certified.new.steps)
-    (both_long c.self.inside.names.items c.other.inside.names.items items (ap (λ (s : Cluster). length s.names) c.self.view_is) (ap (λ (s : Cluster). length s.names) c.other.view_is)) c.certified.ensures.steps
+    (both_long c.self.inside.names.items c.other.inside.names.items items (ap (λ (s : Cluster). length s.names) c.self.view_is)
+    (ap (λ (s : Cluster). length s.names) c.other.view_is)) c.certified.ensures.steps
 
 pub returns-clause-least : goal.returns-clause-least
 returns-clause-least g c =
     let items : c.in_ok-names.names.items ≡ c.self.inside.names.items ++ c.other.inside.names.items =
     c.in_ok-names.ensures ∙ ap₂ {A = List ℕ} {B = List ℕ} (λ xs ys. xs ++ ys) c.as_slice.ensures c.as_slice-2.ensures in
     subst (λ (n : ℕ). OnOk c.certified.result (c.args.steps.now + least_steps n ≤ c.certified.new.steps))
-    (both_long c.self.inside.names.items c.other.inside.names.items items (ap (λ (s : Cluster). length s.names) c.self.view_is) (ap (λ (s : Cluster). length s.names) c.other.view_is)) c.certified.ensures.least
+    (both_long c.self.inside.names.items c.other.inside.names.items items (ap (λ (s : Cluster). length s.names) c.self.view_is)
+    (ap (λ (s : Cluster). length s.names) c.other.view_is)) c.certified.ensures.least
 
 pub members-members-requires : goal.members-members-requires
 members-members-requires g c =

@@ -14,9 +14,12 @@ pub add_dep-requires : goal.add_dep-requires
 add_dep-requires g c =
     let items : c.in_ok-names.names.items ≡ c.self.inside.names.items = c.in_ok-names.ensures.ok ∙ c.as_slice-2.ensures in
     let asks = link_asks (64 * g.row.W) c.self.inside.names.items c.self.inside.dep c.in_ok-dep.dep c.self.invariant.place c.in_ok-dep.ensures.same
-    (subst (λ (xs : List ℕ). IsNamed (64 * g.row.W) xs c.in_ok-dep.dep) c.as_slice.ensures c.in_ok-dep.ensures.named) c.place_of-above.result c.place_of-below.result c.args.parent c.args.child
-    (at_in c.as_slice-3.result.now c.self.inside.names.items c.place_of-above.result c.args.parent (c.as_slice-3.ensures ∙ items) c.place_of-above.ensures.within c.place_of-above.ensures.here)
-    (at_in c.as_slice-4.result.now c.self.inside.names.items c.place_of-below.result c.args.child (c.as_slice-4.ensures ∙ items) c.place_of-below.ensures.within c.place_of-below.ensures.here)
+    (subst (λ (xs : List ℕ). IsNamed (64 * g.row.W) xs c.in_ok-dep.dep) c.as_slice.ensures c.in_ok-dep.ensures.named)
+    c.place_of-above.result c.place_of-below.result c.args.parent c.args.child
+    (at_in c.as_slice-3.result.now c.self.inside.names.items c.place_of-above.result c.args.parent
+    (c.as_slice-3.ensures ∙ items) c.place_of-above.ensures.within c.place_of-above.ensures.here)
+    (at_in c.as_slice-4.result.now c.self.inside.names.items c.place_of-below.result c.args.child
+    (c.as_slice-4.ensures ∙ items) c.place_of-below.ensures.within c.place_of-below.ensures.here)
     (subst (λ (s : Cluster). is_ancestor s.graph c.args.child c.args.parent ≡ false) (sym c.self.view_is) c.requires.no_cycle) in
     ((let fits : cluster_room g.row.W < 9223372036854775808 = search in dep_in_cluster g.row.W fits), (asks.0, (asks.1, asks.2)))
 
@@ -60,9 +63,12 @@ certified-requires g c =
           search,
           subst (λ (xs : List ℕ). IsNamed (64 * g.row.W) xs c.add_dep.new.self) (sym items)
               (link_kept (64 * g.row.W) c.self.inside.names.items c.self.inside.dep c.in_ok-dep.dep c.self.invariant.place c.in_ok-dep.ensures.same
-              (subst (λ (xs : List ℕ). IsNamed (64 * g.row.W) xs c.in_ok-dep.dep) c.as_slice.ensures c.in_ok-dep.ensures.named) c.place_of-above.result c.place_of-below.result c.args.parent c.args.child
-              (at_in c.as_slice-3.result.now c.self.inside.names.items c.place_of-above.result c.args.parent (c.as_slice-3.ensures ∙ items) c.place_of-above.ensures.within c.place_of-above.ensures.here)
-              (at_in c.as_slice-4.result.now c.self.inside.names.items c.place_of-below.result c.args.child (c.as_slice-4.ensures ∙ items) c.place_of-below.ensures.within c.place_of-below.ensures.here)
+              (subst (λ (xs : List ℕ). IsNamed (64 * g.row.W) xs c.in_ok-dep.dep) c.as_slice.ensures c.in_ok-dep.ensures.named)
+              c.place_of-above.result c.place_of-below.result c.args.parent c.args.child
+              (at_in c.as_slice-3.result.now c.self.inside.names.items c.place_of-above.result c.args.parent
+              (c.as_slice-3.ensures ∙ items) c.place_of-above.ensures.within c.place_of-above.ensures.here)
+              (at_in c.as_slice-4.result.now c.self.inside.names.items c.place_of-below.result c.args.child
+              (c.as_slice-4.ensures ∙ items) c.place_of-below.ensures.within c.place_of-below.ensures.here)
               c.add_dep.new.self c.add_dep.ensures c.members-members.ensures.closed),
         ),
       ),
@@ -77,12 +83,17 @@ pub returns-clause-graph : goal.returns-clause-graph
 returns-clause-graph g c =
     let items : c.in_ok-names.names.items ≡ c.self.inside.names.items = c.in_ok-names.ensures.ok ∙ c.as_slice-2.ensures in
     let made = link_graph (64 * g.row.W) c.self.inside.names.items c.self.inside.dep c.in_ok-dep.dep c.self.invariant.place c.in_ok-dep.ensures.same
-    (subst (λ (xs : List ℕ). IsNamed (64 * g.row.W) xs c.in_ok-dep.dep) c.as_slice.ensures c.in_ok-dep.ensures.named) c.place_of-above.result c.place_of-below.result c.args.parent c.args.child
-    (at_in c.as_slice-3.result.now c.self.inside.names.items c.place_of-above.result c.args.parent (c.as_slice-3.ensures ∙ items) c.place_of-above.ensures.within c.place_of-above.ensures.here)
-    (at_in c.as_slice-4.result.now c.self.inside.names.items c.place_of-below.result c.args.child (c.as_slice-4.ensures ∙ items) c.place_of-below.ensures.within c.place_of-below.ensures.here)
+    (subst (λ (xs : List ℕ). IsNamed (64 * g.row.W) xs c.in_ok-dep.dep) c.as_slice.ensures c.in_ok-dep.ensures.named)
+    c.place_of-above.result c.place_of-below.result c.args.parent c.args.child
+    (at_in c.as_slice-3.result.now c.self.inside.names.items c.place_of-above.result c.args.parent
+    (c.as_slice-3.ensures ∙ items) c.place_of-above.ensures.within c.place_of-above.ensures.here)
+    (at_in c.as_slice-4.result.now c.self.inside.names.items c.place_of-below.result c.args.child
+    (c.as_slice-4.ensures ∙ items) c.place_of-below.ensures.within c.place_of-below.ensures.here)
     c.add_dep.new.self c.add_dep.ensures in
-    one_ok c.certified.result (λ k. k.graph ≡ named c.in_ok-names.names.items c.add_dep.new.self) (λ k. AddsPair c.args.self.now.graph k.graph c.args.parent c.args.child)
-    (λ k graph. subst₂ (λ (s : Cluster) (h : Closure). AddsPair s.graph h c.args.parent c.args.child) c.self.view_is (sym (graph ∙ ap (λ (xs : List ℕ). named xs c.add_dep.new.self) items)) made) c.certified.ensures.graph
+    one_ok c.certified.result (λ k. k.graph ≡ named c.in_ok-names.names.items c.add_dep.new.self)
+    (λ k. AddsPair c.args.self.now.graph k.graph c.args.parent c.args.child)
+    (λ k graph. subst₂ (λ (s : Cluster) (h : Closure). AddsPair s.graph h c.args.parent c.args.child) c.self.view_is
+    (sym (graph ∙ ap (λ (xs : List ℕ). named xs c.add_dep.new.self) items)) made) c.certified.ensures.graph
 
 pub returns-clause-steps : goal.returns-clause-steps
 returns-clause-steps g c =

@@ -10,7 +10,9 @@ use Rattle.cluster.proofs.cluster.Cluster.list_names.Goals as goal
 
 pub list_chosen-requires : goal.list_chosen-requires
 list_chosen-requires g c =
-    let within : IsWithin (length c.self.inside.names.items) c.first_n-all.result = all_within (64 * g.row.W) c.self.inside.names.items c.self.inside.dep c.self.invariant.place c.first_n-all.result (c.first_n-all.ensures ∙ ap first_places c.len.ensures.value) in
+    let within : IsWithin (length c.self.inside.names.items) c.first_n-all.result =
+    all_within (64 * g.row.W) c.self.inside.names.items c.self.inside.dep c.self.invariant.place c.first_n-all.result
+    (c.first_n-all.ensures ∙ ap first_places c.len.ensures.value) in
     let few : length c.self.inside.names.items ≤ 64 * g.row.W = c.self.invariant.place.few in
     let same : length c.as_slice.result.now ≡ length c.self.inside.names.items = ap length c.as_slice.ensures in
     let room : 64 * g.row.W ≤ length c.args.out.now.ids + c.args.out.now.room = c.requires in (
@@ -24,7 +26,8 @@ list_chosen-requires g c =
 pub returns-clause-lists : goal.returns-clause-lists
 returns-clause-lists g c =
     subst (λ (s : Cluster). Lists (λ id. Contains s.names id) c.list_chosen.new.out.ids) c.self.view_is
-    (all_listed (64 * g.row.W) c.self.inside.names.items c.self.inside.dep c.self.invariant.place c.first_n-all.result c.list_chosen.new.out.ids (c.first_n-all.ensures ∙ ap first_places c.len.ensures.value)
+    (all_listed (64 * g.row.W) c.self.inside.names.items c.self.inside.dep c.self.invariant.place c.first_n-all.result c.list_chosen.new.out.ids
+    (c.first_n-all.ensures ∙ ap first_places c.len.ensures.value)
     (subst (λ (xs : List ℕ). Lists (IsChosen xs c.first_n-all.result) c.list_chosen.new.out.ids) c.as_slice.ensures c.list_chosen.ensures.lists))
 
 pub first_n-all-requires : goal.first_n-all-requires

@@ -9,10 +9,13 @@ use Rattle.cluster.proofs.cluster.Cluster.reaches.Goals as goal
 pub returns : goal.returns
 returns g c =
     c.would_cycle.ensures
-    ∙ sym (subst (λ (s : Cluster). is_ancestor s.graph c.args.a c.args.b ≡ is_ancestor c.self.inside.dep c.place_of-above.result c.place_of-below.result) c.self.view_is
+    ∙ sym (subst
+    (λ (s : Cluster). is_ancestor s.graph c.args.a c.args.b ≡ is_ancestor c.self.inside.dep c.place_of-above.result c.place_of-below.result) c.self.view_is
     (above_at c.self.inside.names.items c.self.inside.dep c.self.invariant.place.once c.place_of-above.result c.place_of-below.result c.args.a c.args.b
-    (at_in c.as_slice.result.now c.self.inside.names.items c.place_of-above.result c.args.a c.as_slice.ensures c.place_of-above.ensures.within c.place_of-above.ensures.here)
-    (at_in c.as_slice-2.result.now c.self.inside.names.items c.place_of-below.result c.args.b c.as_slice-2.ensures c.place_of-below.ensures.within c.place_of-below.ensures.here)))
+    (at_in c.as_slice.result.now c.self.inside.names.items c.place_of-above.result c.args.a
+    c.as_slice.ensures c.place_of-above.ensures.within c.place_of-above.ensures.here)
+    (at_in c.as_slice-2.result.now c.self.inside.names.items c.place_of-below.result c.args.b
+    c.as_slice-2.ensures c.place_of-below.ensures.within c.place_of-below.ensures.here)))
 
 pub would_cycle-requires : goal.would_cycle-requires
 would_cycle-requires g c =

@@ -45,8 +45,10 @@ certified-requires g c =
         (
           search,
           subst (λ (xs : List ℕ). IsNamed (64 * g.row.W) xs c.add.new.self) (sym items)
-              (IsNamed-single (64 * g.row.W) c.new-dep.result c.add.new.self c.args.id (record { fee = c.args.fee; size = c.args.size }) c.in_ok-_place._place c.new-dep.ensures
-              (subst (λ (z : ℤ). AddsPlace c.new-dep.result c.add.new.self (record { fee = z; size = c.args.size }) c.in_ok-_place._place) (to_z-of_z c.ranges.fee) c.in_ok-_place.ensures.ok) (room_for_one refl c.work.invariant.1) c.requires c.members-members.ensures.closed),
+              (IsNamed-single (64 * g.row.W) c.new-dep.result c.add.new.self c.args.id
+              (record { fee = c.args.fee; size = c.args.size }) c.in_ok-_place._place c.new-dep.ensures
+              (subst (λ (z : ℤ). AddsPlace c.new-dep.result c.add.new.self (record { fee = z; size = c.args.size }) c.in_ok-_place._place)
+              (to_z-of_z c.ranges.fee) c.in_ok-_place.ensures.ok) (room_for_one refl c.work.invariant.1) c.requires c.members-members.ensures.closed),
         ),
       ),
     )
@@ -55,16 +57,21 @@ pub returns-clause-single : goal.returns-clause-single
 returns-clause-single g c =
     let items : c.push.new.self.items ≡ c.args.id ∷ [] = c.in_ok-push.ensures.ok ∙ ap (λ (xs : List ℕ). xs ++ c.args.id ∷ []) c.new-names.ensures.items in
     let adds : AddsPlace c.new-dep.result c.add.new.self (record { fee = c.args.fee; size = c.args.size }) c.in_ok-_place._place =
-    subst (λ (z : ℤ). AddsPlace c.new-dep.result c.add.new.self (record { fee = z; size = c.args.size }) c.in_ok-_place._place) (to_z-of_z c.ranges.fee) c.in_ok-_place.ensures.ok in
-    both_ok c.certified.result (λ k. k.names ≡ c.push.new.self.items) (λ k. k.graph ≡ named c.push.new.self.items c.add.new.self) (IsSingle c.args.id (record { fee = c.args.fee; size = c.args.size }))
+    subst (λ (z : ℤ). AddsPlace c.new-dep.result c.add.new.self (record { fee = z; size = c.args.size }) c.in_ok-_place._place)
+    (to_z-of_z c.ranges.fee) c.in_ok-_place.ensures.ok in
+    both_ok c.certified.result (λ k. k.names ≡ c.push.new.self.items) (λ k. k.graph ≡ named c.push.new.self.items c.add.new.self)
+    (IsSingle c.args.id (record { fee = c.args.fee; size = c.args.size }))
     (λ k names graph. single_is k c.args.id c.add.new.self (names ∙ items) (graph ∙ ap (λ (xs : List ℕ). named xs c.add.new.self) items)
-    (IsSingle-named (64 * g.row.W) c.new-dep.result c.add.new.self c.args.id (record { fee = c.args.fee; size = c.args.size }) c.in_ok-_place._place c.new-dep.ensures adds k.parts)) c.certified.ensures.names c.certified.ensures.graph
+    (IsSingle-named (64 * g.row.W) c.new-dep.result c.add.new.self c.args.id (record { fee = c.args.fee; size = c.args.size })
+    c.in_ok-_place._place c.new-dep.ensures adds k.parts)) c.certified.ensures.names c.certified.ensures.graph
   where
-    single_is : (k : Cluster) (id : ℕ) (dep : Closure) → k.names ≡ id ∷ [] → k.graph ≡ named (id ∷ []) dep → {rate : _} → IsSingle id rate (record { names = id ∷ []; graph = named (id ∷ []) dep; parts = k.parts }) → IsSingle id rate k
+    single_is : (k : Cluster) (id : ℕ) (dep : Closure) → k.names ≡ id ∷ [] → k.graph ≡ named (id ∷ []) dep → {rate : _}
+        → IsSingle id rate (record { names = id ∷ []; graph = named (id ∷ []) dep; parts = k.parts }) → IsSingle id rate k
     single_is k id dep names graph {rate} single = subst (IsSingle id rate) (λ t. record { names = sym names t; graph = sym graph t; parts = k.parts }) single
 
 pub returns-clause-steps : goal.returns-clause-steps
-returns-clause-steps g c = c.certified.ensures.alone (ap length (c.in_ok-push.ensures.ok ∙ ap (λ (xs : List ℕ). xs ++ c.args.id ∷ []) c.new-names.ensures.items))
+returns-clause-steps g c =
+    c.certified.ensures.alone (ap length (c.in_ok-push.ensures.ok ∙ ap (λ (xs : List ℕ). xs ++ c.args.id ∷ []) c.new-names.ensures.items))
 
 pub new-dep-requires : goal.new-dep-requires
 new-dep-requires g c = dep_fits g.row.W c.work.invariant.2

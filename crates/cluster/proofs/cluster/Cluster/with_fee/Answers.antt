@@ -15,7 +15,8 @@ set_fee-requires g c = (
   (let fits : cluster_room g.row.W < 9223372036854775808 = search in dep_in_cluster g.row.W fits),
   fee_asks (64 * g.row.W) c.self.inside.names.items c.self.inside.dep c.in_ok-dep.dep c.self.invariant.place c.in_ok-dep.ensures.same
       (subst (λ (xs : List ℕ). IsNamed (64 * g.row.W) xs c.in_ok-dep.dep) c.as_slice.ensures c.in_ok-dep.ensures.named) c.place_of.result c.args.id c.args.fee
-      (at_in c.as_slice-3.result.now c.self.inside.names.items c.place_of.result c.args.id (c.as_slice-3.ensures ∙ c.in_ok-names.ensures.ok ∙ c.as_slice-2.ensures) c.place_of.ensures.within c.place_of.ensures.here),
+      (at_in c.as_slice-3.result.now c.self.inside.names.items c.place_of.result c.args.id
+      (c.as_slice-3.ensures ∙ c.in_ok-names.ensures.ok ∙ c.as_slice-2.ensures) c.place_of.ensures.within c.place_of.ensures.here),
 )
 
 pub returns-in_err-dep-clause-names : goal.returns-in_err-dep-clause-names
@@ -58,9 +59,12 @@ certified-requires g c =
           search,
           subst (λ (xs : List ℕ). IsNamed (64 * g.row.W) xs c.set_fee.new.self) (sym items)
               (fee_kept (64 * g.row.W) c.self.inside.names.items c.self.inside.dep c.in_ok-dep.dep c.self.invariant.place c.in_ok-dep.ensures.same
-              (subst (λ (xs : List ℕ). IsNamed (64 * g.row.W) xs c.in_ok-dep.dep) c.as_slice.ensures c.in_ok-dep.ensures.named) c.place_of.result c.args.id c.args.fee
-              (at_in c.as_slice-3.result.now c.self.inside.names.items c.place_of.result c.args.id (c.as_slice-3.ensures ∙ items) c.place_of.ensures.within c.place_of.ensures.here)
-              c.set_fee.new.self (subst (λ (z : ℤ). SetsFee c.in_ok-dep.dep c.set_fee.new.self c.place_of.result z) (to_z-of_z c.ranges.fee) c.set_fee.ensures) c.requires.fee c.members-members.ensures.closed),
+              (subst (λ (xs : List ℕ). IsNamed (64 * g.row.W) xs c.in_ok-dep.dep) c.as_slice.ensures c.in_ok-dep.ensures.named)
+              c.place_of.result c.args.id c.args.fee
+              (at_in c.as_slice-3.result.now c.self.inside.names.items c.place_of.result c.args.id
+              (c.as_slice-3.ensures ∙ items) c.place_of.ensures.within c.place_of.ensures.here)
+              c.set_fee.new.self (subst (λ (z : ℤ). SetsFee c.in_ok-dep.dep c.set_fee.new.self c.place_of.result z) (to_z-of_z c.ranges.fee) c.set_fee.ensures)
+              c.requires.fee c.members-members.ensures.closed),
         ),
       ),
     )
@@ -75,10 +79,13 @@ returns-clause-graph g c =
     let items : c.in_ok-names.names.items ≡ c.self.inside.names.items = c.in_ok-names.ensures.ok ∙ c.as_slice-2.ensures in
     let made = fee_graph (64 * g.row.W) c.self.inside.names.items c.self.inside.dep c.in_ok-dep.dep c.self.invariant.place c.in_ok-dep.ensures.same
     (subst (λ (xs : List ℕ). IsNamed (64 * g.row.W) xs c.in_ok-dep.dep) c.as_slice.ensures c.in_ok-dep.ensures.named) c.place_of.result c.args.id c.args.fee
-    (at_in c.as_slice-3.result.now c.self.inside.names.items c.place_of.result c.args.id (c.as_slice-3.ensures ∙ items) c.place_of.ensures.within c.place_of.ensures.here)
+    (at_in c.as_slice-3.result.now c.self.inside.names.items c.place_of.result c.args.id
+    (c.as_slice-3.ensures ∙ items) c.place_of.ensures.within c.place_of.ensures.here)
     c.set_fee.new.self (subst (λ (z : ℤ). SetsFee c.in_ok-dep.dep c.set_fee.new.self c.place_of.result z) (to_z-of_z c.ranges.fee) c.set_fee.ensures) in
-    one_ok c.certified.result (λ k. k.graph ≡ named c.in_ok-names.names.items c.set_fee.new.self) (λ k. SetsFee c.args.self.now.graph k.graph c.args.id c.args.fee)
-    (λ k graph. subst₂ (λ (s : Cluster) (h : Closure). SetsFee s.graph h c.args.id c.args.fee) c.self.view_is (sym (graph ∙ ap (λ (xs : List ℕ). named xs c.set_fee.new.self) items)) made) c.certified.ensures.graph
+    one_ok c.certified.result (λ k. k.graph ≡ named c.in_ok-names.names.items c.set_fee.new.self)
+    (λ k. SetsFee c.args.self.now.graph k.graph c.args.id c.args.fee)
+    (λ k graph. subst₂ (λ (s : Cluster) (h : Closure). SetsFee s.graph h c.args.id c.args.fee) c.self.view_is
+    (sym (graph ∙ ap (λ (xs : List ℕ). named xs c.set_fee.new.self) items)) made) c.certified.ensures.graph
 
 pub returns-clause-steps : goal.returns-clause-steps
 returns-clause-steps g c =

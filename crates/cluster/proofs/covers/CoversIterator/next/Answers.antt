@@ -7,5 +7,6 @@ invariant_of-self g c = record {
   few = c.from_chosen.ensures.named.few;
   once = c.from_chosen.ensures.named.once;
   there = λ id here.
-      c.from_chosen.ensures.named.there id (subst (λ (xs : List ℕ). Contains xs id) (sym c.in_ok-id.ensures.cases.0) (Contains-later c.in_ok-id.id.now id c.in_ok-id.rest.now here));
+      c.from_chosen.ensures.named.there id
+      (subst (λ (xs : List ℕ). Contains xs id) (sym c.in_ok-id.ensures.cases.0) (Contains-later c.in_ok-id.id.now id c.in_ok-id.rest.now here));
 }
