@@ -40,7 +40,8 @@ distinct-filter p [] d = tt
 distinct-filter p (x ∷ xs) d = distinct_kept (p x) x (filter p xs) (λ h. d.0 (filter-Contains p xs x h).1) (distinct-filter p xs d.1)
 
 -- without one entry the others are still distinct, and that one isn't among them
-pub distinct_without : {A : Type 0} (before after : List A) (x : A) → AreDistinct (before ++ x ∷ after) → AreDistinct (before ++ after) × (Contains (before ++ after) x → ⊥)
+pub distinct_without : {A : Type 0} (before after : List A) (x : A) → AreDistinct (before ++ x ∷ after)
+    → AreDistinct (before ++ after) × (Contains (before ++ after) x → ⊥)
 distinct_without [] after x d = (d.1, d.0)
 distinct_without (a ∷ before) after x d =
     let rest = distinct_without before after x d.1 in
@@ -55,7 +56,8 @@ distinct_without (a ∷ before) after x d =
     ((new, rest.0), other)
 
 -- What stands before an entry of a front stands in that front.
-pub stays_before : {A : Type 0} (before after front rest : List A) (a b : A) → before ++ b ∷ after ≡ front ++ rest → AreDistinct (front ++ rest) → Contains front b → Contains before a → Contains front a
+pub stays_before : {A : Type 0} (before after front rest : List A) (a b : A) → before ++ b ∷ after ≡ front ++ rest
+    → AreDistinct (front ++ rest) → Contains front b → Contains before a → Contains front a
 stays_before before after [] rest a b e d here h = absurd (none_in_empty b here)
 stays_before [] after (c ∷ front) rest a b e d here h = absurd (none_in_empty a h)
 stays_before (x ∷ before) after (c ∷ front) rest a b e d here h =
@@ -64,13 +66,15 @@ stays_before (x ∷ before) after (c ∷ front) rest a b e d here h =
     elim (Contains-cases x a before h) [
       | inl same ↦ subst (λ z. Contains (c ∷ front) z) (sym heads ∙ same) (Contains-head c front)
       | inr later ↦ elim (Contains-cases c b front here) [
-        | inl first ↦ absurd (d.0 (subst (λ zs. Contains zs c) tails (Contains-append_right before (b ∷ after) c (subst (λ z. Contains (b ∷ after) z) (sym first) (Contains-head b after)))))
+        | inl first ↦ absurd (d.0 (subst (λ zs. Contains zs c) tails
+            (Contains-append_right before (b ∷ after) c (subst (λ z. Contains (b ∷ after) z) (sym first) (Contains-head b after)))))
         | inr there ↦ Contains-later c a front (stays_before before after front rest a b tails d.1 there later)
       ]
     ]
 
 -- what is made of different entries, where no two become one
-pub distinct_map : {A B : Type 0} (f : A → B) (xs : List A) → AreDistinct xs → ((x y : A) → Contains xs x → Contains xs y → f x ≡ f y → x ≡ y) → AreDistinct (map f xs)
+pub distinct_map : {A B : Type 0} (f : A → B) (xs : List A) → AreDistinct xs
+    → ((x y : A) → Contains xs x → Contains xs y → f x ≡ f y → x ≡ y) → AreDistinct (map f xs)
 distinct_map f [] once apart = tt
 distinct_map {A = A} f (x ∷ xs) once apart = (
   λ here.
@@ -98,7 +102,8 @@ one_place xs i j d h a b e =
       | inr more ↦ elim (cases_eq i j) [ inl same ↦ same | inr other ↦ absurd (places_apart xs j i d h (omega arith) a (sym e)) ]
     ]
 
-first : {A : Type 0} (x : A) (xs : List A) → ((i j : ℕ) (d : A) → i < j → j < length (x ∷ xs) → get_or (x ∷ xs) i d ≡ get_or (x ∷ xs) j d → ⊥) → Contains xs x → ⊥
+first : {A : Type 0} (x : A) (xs : List A)
+    → ((i j : ℕ) (d : A) → i < j → j < length (x ∷ xs) → get_or (x ∷ xs) i d ≡ get_or (x ∷ xs) j d → ⊥) → Contains xs x → ⊥
 first x xs h (k, in', e) = h 0 (suc k) x (omega arith) (omega arith) (sym e)
 
 pub distinct_from_places : {A : Type 0} (xs : List A) → ((i j : ℕ) (d : A) → i < j → j < length xs → get_or xs i d ≡ get_or xs j d → ⊥) → AreDistinct xs

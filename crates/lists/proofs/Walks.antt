@@ -20,9 +20,11 @@ Walk-keeps step P each a b ([], e) p = subst P e p
 Walk-keeps step P each a b (v ∷ vs, (first, rest)) p = Walk-keeps step P each v b (vs, rest) (each a v first p)
 
 -- a map of vertices that keeps steps keeps walks
-pub Walk-map : {V U : Type 0} (f : V → U) (step : V → V → Type 0) (step' : U → U → Type 0) → ((a b : V) → step a b → step' (f a) (f b)) → (a b : V) → Walk step a b → Walk step' (f a) (f b)
+pub Walk-map : {V U : Type 0} (f : V → U) (step : V → V → Type 0) (step' : U → U → Type 0)
+    → ((a b : V) → step a b → step' (f a) (f b)) → (a b : V) → Walk step a b → Walk step' (f a) (f b)
 Walk-map f step step' each a b ([], e) = ([], ap f e)
-Walk-map f step step' each a b (v ∷ vs, (first, rest)) = let further : Walk step' (f v) (f b) = Walk-map f step step' each v b (vs, rest) in (f v ∷ further.0, (each a v first, further.1))
+Walk-map f step step' each a b (v ∷ vs, (first, rest)) = let further : Walk step' (f v) (f b) = Walk-map f step step' each v b (vs, rest) in
+    (f v ∷ further.0, (each a v first, further.1))
 
 pub Walk-first : {V : Type 0} (step : V → V → Type 0) (a b c : V) → step a b → Walk step b c → Walk step a c
 Walk-first step a b c s (vs, w) = (b ∷ vs, (s, w))
