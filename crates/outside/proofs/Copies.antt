@@ -9,7 +9,8 @@ pub passed : (bytes new : List ℕ) (at n : ℕ) → take n new ≡ take n (drop
 passed bytes new at n is = rw is (sym (ap (λ (xs : List ℕ). take n (drop at bytes) ++ xs) (sym (drop-drop n at bytes)) ∙ take-append-drop n (drop at bytes)))
 
 -- with room in the buffer and a piece of at least one byte, nothing is given only at the end
-pub at_end : (bytes : List ℕ) (at n room piece left : ℕ) (stop : Option ℕ) → (IsSomeAnd stop (λ s. s ≤ at) → ⊥) → left ≡ end_at stop bytes - at → n ≡ min room (min (min piece left) (length bytes - at)) → 0 < piece → 0 < room → n ≡ 0 → length bytes ≤ at + n
+pub at_end : (bytes : List ℕ) (at n room piece left : ℕ) (stop : Option ℕ) → (IsSomeAnd stop (λ s. s ≤ at) → ⊥) → left ≡ end_at stop bytes - at
+    → n ≡ min room (min (min piece left) (length bytes - at)) → 0 < piece → 0 < room → n ≡ 0 → length bytes ≤ at + n
 at_end bytes at n room piece left None before end is some has zero = omega arith
 at_end bytes at n room piece left (Some s) before end is some has zero =
     let lt : at < s = elim (cases_lt at s) [ inl lt ↦ lt | inr le ↦ absurd (before le) ] in omega arith

@@ -6,7 +6,8 @@ pub loop-rest-preserved : goal.loop-rest-preserved
 loop-rest-preserved g c =
     let old = c.loop-rest.invariant.taken in
     let count = c.in_ok-count.count in
-    let whole : take count c.loop-rest.rest.now ++ c.split_at.result.1.now ≡ c.loop-rest.rest.now = rw c.split_at.ensures.back (take-append-drop count c.loop-rest.rest.now) in
+    let whole : take count c.loop-rest.rest.now ++ c.split_at.result.1.now ≡ c.loop-rest.rest.now =
+    rw c.split_at.ensures.back (take-append-drop count c.loop-rest.rest.now) in
     record {
       taken = (
         old.0 ++ take count c.loop-rest.rest.now,
