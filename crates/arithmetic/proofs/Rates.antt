@@ -23,7 +23,8 @@ cross_trans f g h s t u positive below above =
       mul_swap_ℤ h (pos t) (pos s),
     ))
 
-pub cross_trans_strict_left : (f g h : ℤ) (s t u : ℕ) → 0 < t → 0 < u → (f *ℤ pos t) <ℤ (g *ℤ pos s) → (g *ℤ pos u) ≤ℤ (h *ℤ pos t) → (f *ℤ pos u) <ℤ (h *ℤ pos s)
+pub cross_trans_strict_left : (f g h : ℤ) (s t u : ℕ) → 0 < t → 0 < u
+    → (f *ℤ pos t) <ℤ (g *ℤ pos s) → (g *ℤ pos u) ≤ℤ (h *ℤ pos t) → (f *ℤ pos u) <ℤ (h *ℤ pos s)
 cross_trans_strict_left f g h s t u positive other below above =
     scale_reflects_strict t _ _
     (omega (
@@ -36,7 +37,8 @@ cross_trans_strict_left f g h s t u positive other below above =
       mul_swap_ℤ h (pos t) (pos s),
     ))
 
-pub cross_trans_strict_right : (f g h : ℤ) (s t u : ℕ) → 0 < t → 0 < s → (f *ℤ pos t) ≤ℤ (g *ℤ pos s) → (g *ℤ pos u) <ℤ (h *ℤ pos t) → (f *ℤ pos u) <ℤ (h *ℤ pos s)
+pub cross_trans_strict_right : (f g h : ℤ) (s t u : ℕ) → 0 < t → 0 < s
+    → (f *ℤ pos t) ≤ℤ (g *ℤ pos s) → (g *ℤ pos u) <ℤ (h *ℤ pos t) → (f *ℤ pos u) <ℤ (h *ℤ pos s)
 cross_trans_strict_right f g h s t u positive other below above =
     scale_reflects_strict t _ _
     (omega (

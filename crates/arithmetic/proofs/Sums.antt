@@ -14,7 +14,8 @@ pub total-append : {A : Type 0} (f : A → ℤ) (xs ys : List A) → total f (xs
 total-append f [] ys = omega (arith, ints)
 total-append f (x ∷ xs) ys = omega (arith, ints, total-append f xs ys)
 
-split_step : {A : Type 0} (f : A → ℤ) (x : A) (all : ℤ) (ys zs : List A) (b : Bool) → all ≡ total f ys +ℤ total f zs → f x +ℤ all ≡ total f (cond b (x ∷ ys) ys) +ℤ total f (cond (not b) (x ∷ zs) zs)
+split_step : {A : Type 0} (f : A → ℤ) (x : A) (all : ℤ) (ys zs : List A) (b : Bool) → all ≡ total f ys +ℤ total f zs
+    → f x +ℤ all ≡ total f (cond b (x ∷ ys) ys) +ℤ total f (cond (not b) (x ∷ zs) zs)
 split_step f x all ys zs true e = omega (arith, ints)
 split_step f x all ys zs false e = omega (arith, ints)
 
