@@ -34,10 +34,12 @@ pub at_most_chains : (a b c : Sum) → 1 ≤ b.size → AtMost a b → AtMost b 
 at_most_chains a b c p h k = record { crossed = cross_trans a.fee b.fee c.fee a.size b.size c.size (omega arith) h.crossed k.crossed }
 
 pub at_most_below : (a b c : Sum) → 1 ≤ a.size → 1 ≤ b.size → AtMost a b → Below b c → Below a c
-at_most_below a b c q p h k = record { crossed = cross_trans_strict_right a.fee b.fee c.fee a.size b.size c.size (omega arith) (omega arith) h.crossed k.crossed }
+at_most_below a b c q p h k =
+    record { crossed = cross_trans_strict_right a.fee b.fee c.fee a.size b.size c.size (omega arith) (omega arith) h.crossed k.crossed }
 
 pub below_at_most_chains : (a b c : Sum) → 1 ≤ b.size → 1 ≤ c.size → Below a b → AtMost b c → Below a c
-below_at_most_chains a b c p q h k = record { crossed = cross_trans_strict_left a.fee b.fee c.fee a.size b.size c.size (omega arith) (omega arith) h.crossed k.crossed }
+below_at_most_chains a b c p q h k =
+    record { crossed = cross_trans_strict_left a.fee b.fee c.fee a.size b.size c.size (omega arith) (omega arith) h.crossed k.crossed }
 
 pub same_chains : (a b c : Sum) → 1 ≤ b.size → Same a b → Same b c → Same a c
 same_chains a b c p h k =
