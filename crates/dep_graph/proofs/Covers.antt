@@ -151,7 +151,8 @@ module _ {n : ℕ} {g : Closure} (closed : IsClosed n g) (place : ℕ) {ups : fi
           | inl there ↦ there
           | inr out ↦ absurd (
               let found = all.gone a here out in
-              let one : (not (nat_eq a found.0) ≡ true) × (is_ancestor g a found.0 ≡ true) = and_parts (not (nat_eq a found.0)) (is_ancestor g a found.0) found.2 in
+              let one : (not (nat_eq a found.0) ≡ true) × (is_ancestor g a found.0 ≡ true) =
+              and_parts (not (nat_eq a found.0)) (is_ancestor g a found.0) found.2 in
               let two : (not (nat_eq found.0 place) ≡ true) × (is_ancestor g found.0 place ≡ true) =
               and_parts (not (nat_eq found.0 place)) (is_ancestor g found.0 place) (sym (contains-ups found.0) ∙ found.1) in
               elim (c.direct found.0 one.1 two.1) as (λ _. ⊥) [

@@ -33,7 +33,8 @@ module _ (ps : List ℕ) (rise : IsRising ps) where
 
   standing_rises : (power i j : ℕ) → i < j → j < length ps → standing ps power i < standing ps power j
   standing_rises power i j before low =
-      let more : gap ps i / 2 ^ power * 2 ^ power ≤ gap ps j / 2 ^ power * 2 ^ power = mul-le-mul_right (2 ^ power) (shr_mono power (gap_rises i j (omega arith) low)) in
+      let more : gap ps i / 2 ^ power * 2 ^ power ≤ gap ps j / 2 ^ power * 2 ^ power =
+      mul-le-mul_right (2 ^ power) (shr_mono power (gap_rises i j (omega arith) low)) in
       omega arith
 
   -- no two stand at one place
@@ -81,28 +82,34 @@ module _ (ps : List ℕ) (rise : IsRising ps) where
 
   -- ---- one step
 
-  module _ (power : ℕ) (moving s t t' : fin.FinSet nat_cmp) (move : AreMoving ps power moving) (so_far : IsStanding ps power s t) (down : IsMovedDown moving (2 ^ power) t t') where
+  module _ (power : ℕ) (moving s t t' : fin.FinSet nat_cmp) (move : AreMoving ps power moving)
+      (so_far : IsStanding ps power s t) (down : IsMovedDown moving (2 ^ power) t t') where
     same_odd : (i j : ℕ) → i < length ps → j < length ps → standing ps (power + 1) i ≡ standing ps (power + 1) j → has_power ps power i ≡ has_power ps power j
     same_odd i j low high same = ap (has_power ps power) (standing_once (power + 1) i j low high same)
 
     -- nothing stays where a place comes down to, and nothing comes down to where a place stays
-    none_stays : (i : ℕ) → i < length ps → has_power ps power i ≡ true → (fin.contains t (standing ps (power + 1) i) && not (fin.contains moving (standing ps (power + 1) i))) ≡ false
+    none_stays : (i : ℕ) → i < length ps → has_power ps power i ≡ true
+        → (fin.contains t (standing ps (power + 1) i) && not (fin.contains moving (standing ps (power + 1) i))) ≡ false
     none_stays i low moves = false_from_ne_true _ (λ e.
         let parts : (fin.contains t (standing ps (power + 1) i) ≡ true) × (not (fin.contains moving (standing ps (power + 1) i)) ≡ true) = and_parts _ _ e in
         let from : (j : ℕ) × (j < length ps) × (standing ps (power + 1) i ≡ standing ps power j) = so_far.only _ parts.0 in
         clash from.0 from.1 from.2 (has_power ps power from.0) refl parts.1)
       where
-        clash : (j : ℕ) → j < length ps → standing ps (power + 1) i ≡ standing ps power j → (b : Bool) → has_power ps power j ≡ b → not (fin.contains moving (standing ps (power + 1) i)) ≡ true → ⊥
+        clash : (j : ℕ) → j < length ps → standing ps (power + 1) i ≡ standing ps power j → (b : Bool)
+            → has_power ps power j ≡ b → not (fin.contains moving (standing ps (power + 1) i)) ≡ true → ⊥
         clash j high same true e absent = true≢false (sym absent ∙ ap not (ap (fin.contains moving) same ∙ move j high ∙ e))
         clash j high same false e absent = true≢false (sym moves ∙ same_odd i j low high (same ∙ stays power j e) ∙ e)
 
-    none_comes : (i : ℕ) → i < length ps → has_power ps power i ≡ false → (fin.contains t (standing ps (power + 1) i + 2 ^ power) && fin.contains moving (standing ps (power + 1) i + 2 ^ power)) ≡ false
+    none_comes : (i : ℕ) → i < length ps → has_power ps power i ≡ false
+        → (fin.contains t (standing ps (power + 1) i + 2 ^ power) && fin.contains moving (standing ps (power + 1) i + 2 ^ power)) ≡ false
     none_comes i low keeps = false_from_ne_true _ (λ e.
-        let parts : (fin.contains t (standing ps (power + 1) i + 2 ^ power) ≡ true) × (fin.contains moving (standing ps (power + 1) i + 2 ^ power) ≡ true) = and_parts _ _ e in
+        let parts : (fin.contains t (standing ps (power + 1) i + 2 ^ power) ≡ true) × (fin.contains moving (standing ps (power + 1) i + 2 ^ power) ≡ true) =
+        and_parts _ _ e in
         let from : (j : ℕ) × (j < length ps) × (standing ps (power + 1) i + 2 ^ power ≡ standing ps power j) = so_far.only _ parts.0 in
         clash from.0 from.1 from.2 (has_power ps power from.0) refl parts.1)
       where
-        clash : (j : ℕ) → j < length ps → standing ps (power + 1) i + 2 ^ power ≡ standing ps power j → (b : Bool) → has_power ps power j ≡ b → fin.contains moving (standing ps (power + 1) i + 2 ^ power) ≡ true → ⊥
+        clash : (j : ℕ) → j < length ps → standing ps (power + 1) i + 2 ^ power ≡ standing ps power j → (b : Bool)
+            → has_power ps power j ≡ b → fin.contains moving (standing ps (power + 1) i + 2 ^ power) ≡ true → ⊥
         clash j high same true e present =
             let meet : standing ps (power + 1) i ≡ standing ps (power + 1) j = omega (arith, goes_down power j e) in
             true≢false (sym e ∙ sym (same_odd i j low high meet) ∙ keeps)
@@ -111,36 +118,41 @@ module _ (ps : List ℕ) (rise : IsRising ps) where
     pub IsStanding-more : IsStanding ps (power + 1) s t'
     IsStanding-more = record {
       here = λ i low. at i low (has_power ps power i) refl;
-      only = λ k f. elim (or_cases (fin.contains t k && not (fin.contains moving k)) (fin.contains t (k + 2 ^ power) && fin.contains moving (k + 2 ^ power)) (sym (down k) ∙ f)) as (λ _. (i : ℕ) × (i < length ps) × (k ≡ standing ps (power + 1) i)) [
-        | inl kept ↦
-            let parts : (fin.contains t k ≡ true) × (not (fin.contains moving k) ≡ true) = and_parts _ _ kept in
-            let from : (j : ℕ) × (j < length ps) × (k ≡ standing ps power j) = so_far.only k parts.0 in
-            left k from.0 from.1 from.2 (has_power ps power from.0) refl parts.1
-        | inr came ↦
-            let parts : (fin.contains t (k + 2 ^ power) ≡ true) × (fin.contains moving (k + 2 ^ power) ≡ true) = and_parts _ _ came in
-            let from : (j : ℕ) × (j < length ps) × (k + 2 ^ power ≡ standing ps power j) = so_far.only (k + 2 ^ power) parts.0 in
-            right k from.0 from.1 from.2 (has_power ps power from.0) refl parts.1
-      ];
+      only = λ k f. elim (or_cases (fin.contains t k && not (fin.contains moving k)) (fin.contains t (k + 2 ^ power) && fin.contains moving (k + 2 ^ power))
+          (sym (down k) ∙ f)) as (λ _. (i : ℕ) × (i < length ps) × (k ≡ standing ps (power + 1) i)) [
+            | inl kept ↦
+                let parts : (fin.contains t k ≡ true) × (not (fin.contains moving k) ≡ true) = and_parts _ _ kept in
+                let from : (j : ℕ) × (j < length ps) × (k ≡ standing ps power j) = so_far.only k parts.0 in
+                left k from.0 from.1 from.2 (has_power ps power from.0) refl parts.1
+            | inr came ↦
+                let parts : (fin.contains t (k + 2 ^ power) ≡ true) × (fin.contains moving (k + 2 ^ power) ≡ true) = and_parts _ _ came in
+                let from : (j : ℕ) × (j < length ps) × (k + 2 ^ power ≡ standing ps power j) = so_far.only (k + 2 ^ power) parts.0 in
+                right k from.0 from.1 from.2 (has_power ps power from.0) refl parts.1
+          ];
     }
       where
         at : (i : ℕ) → i < length ps → (b : Bool) → has_power ps power i ≡ b → fin.contains t' (standing ps (power + 1) i) ≡ fin.contains s (slice_index ps i)
         at i low true e =
             down (standing ps (power + 1) i)
             ∙ ap₂ (λ a b. a || b) (none_stays i low e)
-            (ap₂ (λ a b. a && b) (ap (fin.contains t) (sym (goes_down power i e)) ∙ so_far.here i low) (ap (fin.contains moving) (sym (goes_down power i e)) ∙ move i low ∙ e))
+            (ap₂ (λ a b. a && b) (ap (fin.contains t) (sym (goes_down power i e)) ∙ so_far.here i low)
+            (ap (fin.contains moving) (sym (goes_down power i e)) ∙ move i low ∙ e))
             ∙ and-true (fin.contains s (slice_index ps i))
         at i low false e =
             down (standing ps (power + 1) i)
             ∙ ap₂ (λ a b. a || b)
-            (ap₂ (λ a b. a && b) (ap (fin.contains t) (sym (stays power i e)) ∙ so_far.here i low) (ap not (ap (fin.contains moving) (sym (stays power i e)) ∙ move i low ∙ e)))
+            (ap₂ (λ a b. a && b) (ap (fin.contains t) (sym (stays power i e)) ∙ so_far.here i low)
+            (ap not (ap (fin.contains moving) (sym (stays power i e)) ∙ move i low ∙ e)))
             (none_comes i low e)
             ∙ or-false (fin.contains s (slice_index ps i) && true) ∙ and-true (fin.contains s (slice_index ps i))
 
-        left : (k j : ℕ) → j < length ps → k ≡ standing ps power j → (b : Bool) → has_power ps power j ≡ b → not (fin.contains moving k) ≡ true → (i : ℕ) × (i < length ps) × (k ≡ standing ps (power + 1) i)
+        left : (k j : ℕ) → j < length ps → k ≡ standing ps power j → (b : Bool) → has_power ps power j ≡ b
+            → not (fin.contains moving k) ≡ true → (i : ℕ) × (i < length ps) × (k ≡ standing ps (power + 1) i)
         left k j high same true e absent = absurd (true≢false (sym absent ∙ ap not (ap (fin.contains moving) same ∙ move j high ∙ e)))
         left k j high same false e absent = (j, high, same ∙ stays power j e)
 
-        right : (k j : ℕ) → j < length ps → k + 2 ^ power ≡ standing ps power j → (b : Bool) → has_power ps power j ≡ b → fin.contains moving (k + 2 ^ power) ≡ true → (i : ℕ) × (i < length ps) × (k ≡ standing ps (power + 1) i)
+        right : (k j : ℕ) → j < length ps → k + 2 ^ power ≡ standing ps power j → (b : Bool) → has_power ps power j ≡ b
+            → fin.contains moving (k + 2 ^ power) ≡ true → (i : ℕ) × (i < length ps) × (k ≡ standing ps (power + 1) i)
         right k j high same true e present = (j, high, omega (arith, goes_down power j e))
         right k j high same false e present = absurd (true≢false (sym present ∙ ap (fin.contains moving) same ∙ move j high ∙ e))
 
@@ -161,7 +173,8 @@ module _ (ps : List ℕ) (rise : IsRising ps) where
     only = λ k f. let at : Contains ps k = all k f in (at.0, at.1, sym at.2 ∙ get_or_default_zero ps at.0 k at.1 ∙ sym (standing_first at.0 at.1));
   }
 
-  module _ (power most : ℕ) (done : most / 2 ^ power ≡ 0) (within : (i : ℕ) → i < length ps → gap ps i ≤ most) (s t : fin.FinSet nat_cmp) (stand : IsStanding ps power s t) where
+  module _ (power most : ℕ) (done : most / 2 ^ power ≡ 0) (within : (i : ℕ) → i < length ps → gap ps i ≤ most)
+      (s t : fin.FinSet nat_cmp) (stand : IsStanding ps power s t) where
     -- all places are numbers
     pub standing_low : (k : ℕ) → fin.contains t k ≡ true → k < length ps
     standing_low k f =

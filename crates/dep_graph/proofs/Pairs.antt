@@ -25,19 +25,23 @@ use Rattle.dep_graph.specs.Laws.{PlaceKeepsPairs, PairIsAdded, PairsAreBridged, 
 pub place_keeps_pairs : PlaceKeepsPairs
 place_keeps_pairs n place rate g h graph closed c adds =
     closes_like (λ q. nat_eq q place || is_member g q) (λ a d. (nat_eq a place && nat_eq d place) || is_ancestor g a d) (with_name graph place)
-    (closes_added (is_member g) (is_ancestor g) graph place c adds.free closed.order.among) (is_member h) (is_ancestor h) adds.members (λ a d here there. adds.ancestors a d)
+    (closes_added (is_member g) (is_ancestor g) graph place c adds.free closed.order.among)
+    (is_member h) (is_ancestor h) adds.members (λ a d here there. adds.ancestors a d)
 
 pub pair_is_added : PairIsAdded
 pair_is_added parent child g h graph c in_parent in_child apart adds =
     closes_like (is_member g) (λ a d. is_ancestor g a d || (is_ancestor g a parent && is_ancestor g child d)) (with_pair graph parent child)
-    (closes_pair (is_member g) (is_ancestor g) graph parent child c in_parent in_child apart) (is_member h) (is_ancestor h) adds.members (λ a d here there. adds.ancestors a d)
+    (closes_pair (is_member g) (is_ancestor g) graph parent child c in_parent in_child apart)
+    (is_member h) (is_ancestor h) adds.members (λ a d here there. adds.ancestors a d)
 
 pub pairs_are_bridged : PairsAreBridged
 pairs_are_bridged place g h old new c without drops =
-    closes_like (λ q. not (nat_eq q place) && is_member g q) (is_ancestor g) new (closes_without (is_member g) (is_ancestor g) old new place c without) (is_member h) (is_ancestor h) drops.members
+    closes_like (λ q. not (nat_eq q place) && is_member g q) (is_ancestor g) new
+    (closes_without (is_member g) (is_ancestor g) old new place c without) (is_member h) (is_ancestor h) drops.members
     (λ a d here there.
     drops.ancestors a d
-    ∙ ap₂ (λ x y. x && (y && is_ancestor g a d)) (and_parts (not (nat_eq a place)) (is_member g a) here).0 (and_parts (not (nat_eq d place)) (is_member g d) there).0)
+    ∙ ap₂ (λ x y. x && (y && is_ancestor g a d)) (and_parts (not (nat_eq a place)) (is_member g a) here).0
+    (and_parts (not (nat_eq d place)) (is_member g d) there).0)
 
 -- ---- places numbered anew
 
@@ -54,7 +58,8 @@ place_at (x ∷ xs) p h = cases (nat_eq p x) refl (λ k. place_at xs p k)
     ]
 
 -- a graph of the places of a set, numbered from `first` on, where h has a copy of them
-module _ (n first : ℕ) (g h : Closure) (s : fin.FinSet nat_cmp) (inside : IsWithin n s) (graph : Graph) (c : Closes (fin.contains s) (is_ancestor g) graph) (copy : IsCopy g (places n s) first h)
+module _ (n first : ℕ) (g h : Closure) (s : fin.FinSet nat_cmp) (inside : IsWithin n s) (graph : Graph)
+    (c : Closes (fin.contains s) (is_ancestor g) graph) (copy : IsCopy g (places n s) first h)
     (k : ℕ → Bool) (k_is : (q : ℕ) → (k q ≡ true) ↔ ((first ≤ q) × (q < first + length (places n s)))) where
   abbrev ps : List ℕ
   ps = places n s
@@ -67,7 +72,8 @@ module _ (n first : ℕ) (g h : Closure) (s : fin.FinSet nat_cmp) (inside : IsWi
 
   -- the number of the place that stands at i
   number_at : (i : ℕ) → i < length ps → number_in ps (slice_index ps i) ≡ i
-  number_at i low = let found = at (slice_index ps i) (there_at i low) in one_place ps (number_in ps (slice_index ps i)) i 0 (distinct_rising ps (IsRising-places n s)) found.0 low found.1
+  number_at i low = let found = at (slice_index ps i) (there_at i low) in
+      one_place ps (number_in ps (slice_index ps i)) i 0 (distinct_rising ps (IsRising-places n s)) found.0 low found.1
 
   closes_renumbered : Closes k (is_ancestor h) (renumbered ps first graph)
   closes_renumbered = closes_renamed (λ p. first + number_in ps p) (fin.contains s) k (is_ancestor g) (is_ancestor h) graph (renumbered ps first graph) c
@@ -80,7 +86,8 @@ module _ (n first : ℕ) (g h : Closure) (s : fin.FinSet nat_cmp) (inside : IsWi
             (slice_index ps (q - first), there_at (q - first) before, omega (arith, number_at (q - first) before, low.0)),
         λ found. let place = at found.0 found.1 in (k_is q).1 (omega (arith, found.2), omega (arith, found.2, place.0)),
       ))
-      (λ a d here there. let one = at a here in let two = at d there in copy.ancestors (number_in ps a) (number_in ps d) one.0 two.0 ∙ ap₂ (is_ancestor g) one.1 two.1)
+      (λ a d here there. let one = at a here in let two = at d there in
+      copy.ancestors (number_in ps a) (number_in ps d) one.0 two.0 ∙ ap₂ (is_ancestor g) one.1 two.1)
 
 -- numbered from 0 on, for a part
 module _ (n : ℕ) (g : Closure) (closed : IsClosed n g) (s : fin.FinSet nat_cmp) (members : HoldsMembers g s) where
@@ -93,8 +100,10 @@ module _ (n : ℕ) (g : Closure) (closed : IsClosed n g) (s : fin.FinSet nat_cmp
 pub pairs_are_parted : PairsAreParted
 pairs_are_parted n g h s graph closed c members between part =
     closes_renumbered n 0 g h s (low n g closed s members) (within (fin.contains s) graph)
-    (closes_like (λ q. fin.contains s q && is_member g q) (is_ancestor g) (within (fin.contains s) graph) (closes_within (is_member g) (fin.contains s) (is_ancestor g) graph c between) (fin.contains s) (is_ancestor g)
-    (λ q. same_test (fin.contains s q) (fin.contains s q && is_member g q) (λ e. and_from (fin.contains s q) (is_member g q) e (members q e)) (λ e. (and_parts (fin.contains s q) (is_member g q) e).0))
+    (closes_like (λ q. fin.contains s q && is_member g q) (is_ancestor g) (within (fin.contains s) graph)
+    (closes_within (is_member g) (fin.contains s) (is_ancestor g) graph c between) (fin.contains s) (is_ancestor g)
+    (λ q. same_test (fin.contains s q) (fin.contains s q && is_member g q)
+    (λ e. and_from (fin.contains s q) (is_member g q) e (members q e)) (λ e. (and_parts (fin.contains s q) (is_member g q) e).0))
     (λ a d here there. refl))
     part.copy (is_member h) (from_zero n g closed s members (length (places n s)) h part.members)
 
@@ -104,7 +113,8 @@ part_is_bridged n g h s old left closed c members without part =
     (closes_without_all (places n (fin.difference (members_of g) s)) (is_member g) (is_ancestor g) old left c without (fin.contains s) (λ q. (
       λ e. (members q e, λ gone. true≢false (sym (and_parts (is_member g q) (not (fin.contains s q)) (sym (others q) ∙ (places-Contains n (fin.difference (members_of g) s) q gone).1)).1 ∙ ap not e)),
       λ both. true_from_not (fin.contains s q) (false_from_ne_true (not (fin.contains s q)) (λ out.
-          both.1 (Contains-places n (fin.difference (members_of g) s) q (closed.within q both.0) (others q ∙ and_from (is_member g q) (not (fin.contains s q)) both.0 out)))),
+          both.1 (Contains-places n (fin.difference (members_of g) s) q (closed.within q both.0)
+          (others q ∙ and_from (is_member g q) (not (fin.contains s q)) both.0 out)))),
     )))
     part.copy (is_member h) (from_zero n g closed s members (length (places n s)) h part.members)
   where
@@ -113,7 +123,8 @@ part_is_bridged n g h s old left closed c members without part =
 
 -- the members of a whole graph as a set
 by_set : (g : Closure) (graph : Graph) → IsClosureOf g graph → Closes (fin.contains (members_of g)) (is_ancestor g) graph
-by_set g graph c = closes_like (is_member g) (is_ancestor g) graph c (fin.contains (members_of g)) (is_ancestor g) (contains-members_of g) (λ a d here there. refl)
+by_set g graph c =
+    closes_like (is_member g) (is_ancestor g) graph c (fin.contains (members_of g)) (is_ancestor g) (contains-members_of g) (λ a d here there. refl)
 
 within_all : (n : ℕ) (g : Closure) → IsClosed n g → IsWithin n (members_of g)
 within_all n g closed p here = closed.within p (sym (contains-members_of g p) ∙ here)
@@ -158,8 +169,10 @@ module _ (n : ℕ) (f g h : Closure) (first second : Graph) (closed : IsClosed n
 
   pub pairs_are_merged : IsClosureOf h (joined (renumbered (places n (members_of f)) 0 first) (renumbered (places n (members_of g)) mid second))
   pairs_are_merged =
-      closes_like (λ q. one q || two q) (is_ancestor h) (joined (renumbered (places n (members_of f)) 0 first) (renumbered (places n (members_of g)) mid second))
-      (closes_both one two (is_ancestor h) (renumbered (places n (members_of f)) 0 first) (renumbered (places n (members_of g)) mid second) first_closed second_closed
+      closes_like (λ q. one q || two q) (is_ancestor h)
+      (joined (renumbered (places n (members_of f)) 0 first) (renumbered (places n (members_of g)) mid second))
+      (closes_both one two (is_ancestor h) (renumbered (places n (members_of f)) 0 first)
+      (renumbered (places n (members_of g)) mid second) first_closed second_closed
       (λ q here there. let below = ((one_is q).0 here).1 in let above = ((two_is q).0 there).0 in omega (arith, below, above))
       (λ a b here there. let below = ((one_is a).0 here).1 in let above = ((two_is b).0 there).0 in merged.apart a b (omega (arith, below)) above))
       (is_member h) (is_ancestor h) either (λ a d here there. refl)

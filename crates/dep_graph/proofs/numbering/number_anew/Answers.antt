@@ -77,5 +77,6 @@ returns g c =
     let room : c.args.first + length ps ≤ n = omega (arith, c.requires.room, len-places n c.args.within.now c.greatest_gap-left.ensures.within) in
     ChangesFrom-then (IsStanding ps c.loop-left.power) (IsMovedUp n c.args.first)
     (IsRenumbered ps c.args.first) c.args.first c.args.rows.now c.loop-left.rows c.move_up.new.rows
-    (λ s t u stand up. standing_up ps rise c.loop-left.power c.greatest_gap-left.result done c.greatest_gap-left.ensures.most s t stand n c.args.first u room up)
+    (λ s t u stand up.
+    standing_up ps rise c.loop-left.power c.greatest_gap-left.result done c.greatest_gap-left.ensures.most s t stand n c.args.first u room up)
     c.loop-left.invariant.0 c.move_up.ensures
