@@ -101,7 +101,8 @@ module _ {V : Type 0} where
 
     -- and one while nothing is
     module _ (old new : List (ℕ × V)) (changes : List (ℕ × Option V)) (looks : LooksUp old new key value) where
-      pub change_base : (staged : Bool) → staged ≡ false → top_of (maps_of new changes staged left) ≡ changed (top_of (maps_of old changes staged was)) key value
+      pub change_base : (staged : Bool) → staged ≡ false
+          → top_of (maps_of new changes staged left) ≡ changed (top_of (maps_of old changes staged was)) key value
       change_base true is = absurd (false≢true (sym is))
       change_base false is = entries-changed old new key value looks
 
