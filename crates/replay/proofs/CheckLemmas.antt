@@ -18,13 +18,15 @@ use Rattle.replay.specs.Checks.{IsVerified}
 use Rattle.replay.specs.Verdicts.{verification_of, IsSaidOf}
 
 -- ---- what is found of a text is found of its bytes
-found_of : (bytes : List ℕ) (text : Text) (finding : Finding) → BytesHaveOneCut → ((lines : List (List ℕ)) (rest : List ℕ) → Cut bytes lines rest → IsText (with_last lines rest) text)
+found_of : (bytes : List ℕ) (text : Text) (finding : Finding) → BytesHaveOneCut
+    → ((lines : List (List ℕ)) (rest : List ℕ) → Cut bytes lines rest → IsText (with_last lines rest) text)
     → Finds text.txs text.edges text.parts finding → IsVerified bytes (Found finding)
 found_of bytes text finding cuts is found =
     let cut = cuts bytes in
     record { lines = cut.0; rest = cut.1; cut = cut.2; verifies = (text, is cut.0 cut.1 cut.2, found) }
 
-pub verified : (bytes : List ℕ) (text : Text) (s : Said) → BytesHaveOneCut → ((lines : List (List ℕ)) (rest : List ℕ) → Cut bytes lines rest → IsText (with_last lines rest) text)
+pub verified : (bytes : List ℕ) (text : Text) (s : Said) → BytesHaveOneCut
+    → ((lines : List (List ℕ)) (rest : List ℕ) → Cut bytes lines rest → IsText (with_last lines rest) text)
     → IsSaidOf text s → IsVerified bytes (verification_of s)
 verified bytes text said.Yes cuts is found = found_of bytes text Certified cuts is found
 verified bytes text said.NoSyntax cuts is found = absurd found
@@ -33,7 +35,8 @@ verified bytes text said.NoOrder cuts is found = found_of bytes text NoOrder cut
 verified bytes text said.NoFalling cuts is found = found_of bytes text NoFalling cuts is found
 verified bytes text said.NoFlow cuts is found = found_of bytes text NoFlow cuts is found
 
-pub no_text : (bytes : List ℕ) → BytesHaveOneCut → ((lines : List (List ℕ)) (rest : List ℕ) → Cut bytes lines rest → (text : Text) → IsText (with_last lines rest) text → ⊥) → IsVerified bytes NoSyntax
+pub no_text : (bytes : List ℕ) → BytesHaveOneCut
+    → ((lines : List (List ℕ)) (rest : List ℕ) → Cut bytes lines rest → (text : Text) → IsText (with_last lines rest) text → ⊥) → IsVerified bytes NoSyntax
 no_text bytes cuts none =
     let cut = cuts bytes in
     record { lines = cut.0; rest = cut.1; cut = cut.2; verifies = none cut.0 cut.1 cut.2 }
@@ -41,10 +44,13 @@ no_text bytes cuts none =
 -- ---- what the checker asks for
 part_types : (parts : List Part) (part : Part) → All HasPartTypes (map part_of parts) → Contains parts part → HasPartTypes (part_of part)
 part_types [] part types h = omega (arith, h.1)
-part_types (p ∷ parts) part types (zero, below, same) = subst (λ (q : Part). HasPartTypes (part_of q)) same (All-head HasPartTypes (part_of p) (map part_of parts) types)
-part_types (p ∷ parts) part types (suc k, below, same) = part_types parts part (All-tail HasPartTypes (part_of p) (map part_of parts) types) (k, omega arith, same)
+part_types (p ∷ parts) part types (zero, below, same) =
+    subst (λ (q : Part). HasPartTypes (part_of q)) same (All-head HasPartTypes (part_of p) (map part_of parts) types)
+part_types (p ∷ parts) part types (suc k, below, same) =
+    part_types parts part (All-tail HasPartTypes (part_of p) (map part_of parts) types) (k, omega arith, same)
 
-same_total : (parts : List Part) → sum_by (λ part. sum_by (λ flow. flow.amount) part.flows) parts ≡ sum_by {X = model.Part} (λ part. sum_by (λ flow. flow.amount) part.flows) (map part_of parts)
+same_total : (parts : List Part) → sum_by (λ part. sum_by (λ flow. flow.amount) part.flows) parts
+    ≡ sum_by {X = model.Part} (λ part. sum_by (λ flow. flow.amount) part.flows) (map part_of parts)
 same_total [] = refl
 same_total (p ∷ parts) = omega (
   arith,
@@ -53,9 +59,11 @@ same_total (p ∷ parts) = omega (
   sum_by-cons {X = model.Part} (λ part. sum_by (λ flow. flow.amount) part.flows) (part_of p) (map part_of parts),
 )
 
-pub claims_of : (parts : List Part) → All HasPartTypes (map part_of parts) → sum_by {X = model.Part} (λ part. sum_by (λ flow. flow.amount) part.flows) (map part_of parts) < 2 ^ 127 → AreClaims parts
+pub claims_of : (parts : List Part) → All HasPartTypes (map part_of parts)
+    → sum_by {X = model.Part} (λ part. sum_by (λ flow. flow.amount) part.flows) (map part_of parts) < 2 ^ 127 → AreClaims parts
 claims_of parts types total = record {
   filled = λ part h. (part_types parts part types h).filled;
-  some = λ part flow h there. (All-contains (λ (f : Flow). (1 ≤ f.amount) × (f.amount ≤ 10 ^ 30)) part.flows flow (part_types parts part types h).amounts there).0;
+  some =
+      λ part flow h there. (All-contains (λ (f : Flow). (1 ≤ f.amount) × (f.amount ≤ 10 ^ 30)) part.flows flow (part_types parts part types h).amounts there).0;
   total = omega (arith, total, same_total parts);
 }

@@ -30,7 +30,8 @@ use Rattle.replay.proofs.GatherLemmas.{sent_nothing, sent_on, sent_more_of, sent
 
 -- The lines given so far are those of the input before the rest, or all lines at the end of the source.
 abbrev pub AreGiven : Stage → List ℕ → List (List ℕ) → List ℕ → Type 0
-AreGiven stage input lines rest = ((input ≡ flat_map line_text lines ++ rest) × All IsOneLine lines) ⊎ ((stage ≡ Ended) × (rest ≡ []) × (all : List (List ℕ)) × (last : List ℕ) × Cut input all last × (lines ≡ with_last all last))
+AreGiven stage input lines rest = ((input ≡ flat_map line_text lines ++ rest) × All IsOneLine lines)
+    ⊎ ((stage ≡ Ended) × (rest ≡ []) × (all : List (List ℕ)) × (last : List ℕ) × Cut input all last × (lines ≡ with_last all last))
 
 -- So far lines of the input were answered from the start. Of the replies some went out, and the rest is held.
 pub record Played (kept : Kept) (cutter : Cutter) (held : List ℕ) (left now first written : Option (List ℕ)) : Type 0 where
@@ -49,7 +50,8 @@ pub record Played (kept : Kept) (cutter : Cutter) (held : List ℕ) (left now fi
   pub few : kept.levels.issued + length rest ≤ length input
 
 -- before the first line
-pub played_nothing : (kept : Kept) (cutter : Cutter) (held : List ℕ) (left first : Option (List ℕ)) → StandsFor kept (start MAX_COUNT) → kept.levels.issued ≡ 0 → cutter.held ≡ [] → cutter.long ≡ false → cutter.taken ≡ 0 → cutter.stage ≡ Open → held ≡ [] → Played kept cutter held left left first first
+pub played_nothing : (kept : Kept) (cutter : Cutter) (held : List ℕ) (left first : Option (List ℕ)) → StandsFor kept (start MAX_COUNT) → kept.levels.issued ≡ 0
+    → cutter.held ≡ [] → cutter.long ≡ false → cutter.taken ≡ 0 → cutter.stage ≡ Open → held ≡ [] → Played kept cutter held left left first first
 played_nothing kept cutter held left first stands added none short taken going empty = record {
   input = [];
   rest = [];
@@ -67,7 +69,8 @@ played_nothing kept cutter held left first stands added none short taken going e
 }
 
 -- ---- what went out
-pub played_sent : (kept : Kept) (cutter : Cutter) (held less : List ℕ) (left now first before written : Option (List ℕ)) → Played kept cutter held left now first before → Sends before written held less → Played kept cutter less left now first written
+pub played_sent : (kept : Kept) (cutter : Cutter) (held less : List ℕ) (left now first before written : Option (List ℕ))
+    → Played kept cutter held left now first before → Sends before written held less → Played kept cutter less left now first written
 played_sent kept cutter held less left now first before written played sends =
     record {
       input = played.input;
@@ -86,8 +89,10 @@ played_sent kept cutter held less left now first before written played sends =
     }
 
 -- ---- what was read
-pub given_more : (old new : Stage) (a b : Option (List ℕ)) (input more rest : List ℕ) (lines : List (List ℕ)) (taken : ℕ) → AreGiven old input lines rest → TakesTo old new a b more taken → AreGiven new (input ++ more) lines (rest ++ more)
-given_more old new a b input more rest lines taken (inl given) takes = inl (ap (λ (xs : List ℕ). xs ++ more) given.0 ∙ append_assoc (flat_map line_text lines) rest more, given.1)
+pub given_more : (old new : Stage) (a b : Option (List ℕ)) (input more rest : List ℕ) (lines : List (List ℕ)) (taken : ℕ)
+    → AreGiven old input lines rest → TakesTo old new a b more taken → AreGiven new (input ++ more) lines (rest ++ more)
+given_more old new a b input more rest lines taken (inl given) takes =
+    inl (ap (λ (xs : List ℕ). xs ++ more) given.0 ∙ append_assoc (flat_map line_text lines) rest more, given.1)
 given_more Open new a b input more rest lines taken (inr given) takes = absurd (let e = given.0 in cc)
 given_more Past new a b input more rest lines taken (inr given) takes = absurd (let e = given.0 in cc)
 given_more Ended new a b input more rest lines taken (inr given) takes = inr (
@@ -115,12 +120,14 @@ record Behind (new : Cutter) (input rest : List ℕ) (lines : List (List ℕ)) (
   given : AreGiven new.stage input (lines ++ line ∷ []) after
   fewer : length after + 1 ≤ length rest
 
-behind : (new : Cutter) (input rest : List ℕ) (lines : List (List ℕ)) (line : List ℕ) → AreGiven new.stage input lines rest → GivesLine new rest line → Behind new input rest lines line
+behind : (new : Cutter) (input rest : List ℕ) (lines : List (List ℕ)) (line : List ℕ)
+    → AreGiven new.stage input lines rest → GivesLine new rest line → Behind new input rest lines line
 behind new input rest lines line (inl given) (one, inl cut) = record {
   after = cut.0;
   leaves = cut.2;
   given = inl (
-    given.0 ∙ ap (λ (xs : List ℕ). flat_map line_text lines ++ xs) (cut.1 ∙ sym (append_assoc line (10 ∷ []) cut.0)) ∙ sym (append_assoc (flat_map line_text lines) (line ++ 10 ∷ []) cut.0) ∙ ap (λ (xs : List ℕ). xs ++ cut.0) (sym (flat_map-push line_text lines line)),
+    given.0 ∙ ap (λ (xs : List ℕ). flat_map line_text lines ++ xs) (cut.1 ∙ sym (append_assoc line (10 ∷ []) cut.0))
+        ∙ sym (append_assoc (flat_map line_text lines) (line ++ 10 ∷ []) cut.0) ∙ ap (λ (xs : List ℕ). xs ++ cut.0) (sym (flat_map-push line_text lines line)),
     All-push IsOneLine lines line given.1 one,
   );
   fewer = omega (arith, ap length cut.1, length-append line (10 ∷ cut.0));
@@ -146,8 +153,10 @@ behind new input rest lines line (inr given) (one, inl cut) = absurd (omega (ari
 behind new input rest lines line (inr given) (one, inr last) = absurd (last.2 (sym last.1 ∙ given.1))
 
 -- the run goes on by one line
-one_more : (lines : List (List ℕ)) (answers : List Answer) (state next : State) (line : List ℕ) (answer : Answer) → Run (start MAX_COUNT) lines answers state → LineStep state line answer next → Run (start MAX_COUNT) (lines ++ line ∷ []) (answers ++ answer ∷ []) next
-one_more lines answers state next line answer run step = run-append LineStep (start MAX_COUNT) state next lines (line ∷ []) answers (answer ∷ []) run (next, step, refl)
+one_more : (lines : List (List ℕ)) (answers : List Answer) (state next : State) (line : List ℕ) (answer : Answer)
+    → Run (start MAX_COUNT) lines answers state → LineStep state line answer next → Run (start MAX_COUNT) (lines ++ line ∷ []) (answers ++ answer ∷ []) next
+one_more lines answers state next line answer run step =
+    run-append LineStep (start MAX_COUNT) state next lines (line ∷ []) answers (answer ∷ []) run (next, step, refl)
 
 -- a line was given behind those that were answered
 pub record Turn (kept : Kept) (cutter new : Cutter) (held : List ℕ) (left before now first written : Option (List ℕ)) (line : List ℕ) : Type 0 where
@@ -156,8 +165,11 @@ pub record Turn (kept : Kept) (cutter new : Cutter) (held : List ℕ) (left befo
   pub reads : Reads cutter new before now more
   pub gives : GivesLine new (played.rest ++ more) line
 
-pub played_line : (kept next : Kept) (cutter new : Cutter) (held left_held line : List ℕ) (left before now first sent written : Option (List ℕ)) (answer : Answer) → Turn kept cutter new held left before now first sent line → Answers kept next line answer
-    → HasSent sent written (held ++ answer_text answer) left_held → next.levels.issued ≤ kept.levels.issued + 1 → Played next new left_held left now first written
+pub played_line : (kept next : Kept) (cutter new : Cutter) (held left_held line : List ℕ)
+    (left before now first sent written : Option (List ℕ)) (answer : Answer)
+    → Turn kept cutter new held left before now first sent line → Answers kept next line answer
+    → HasSent sent written (held ++ answer_text answer) left_held
+    → next.levels.issued ≤ kept.levels.issued + 1 → Played next new left_held left now first written
 played_line kept next cutter new held left_held line left before now first sent written answer turn answers tells added =
     let played = turn.played in
     let more = turn.more in
@@ -177,7 +189,8 @@ played_line kept next cutter new held left_held line left before now first sent 
       taken = omega (arith, reads.taken, played.taken, length-append played.input more);
       leaves = rest.leaves;
       given = rest.given;
-      sent = subst (λ (all : List ℕ). HasSent first written all left_held) (sym (flat_map-push answer_text played.answers answer)) (sent_on first sent written (flat_map answer_text played.answers) held (answer_text answer) left_held played.sent tells);
+      sent = subst (λ (all : List ℕ). HasSent first written all left_held) (sym (flat_map-push answer_text played.answers answer))
+          (sent_on first sent written (flat_map answer_text played.answers) held (answer_text answer) left_held played.sent tells);
       few = omega (arith, played.few, added, rest.fewer, length-append played.input more, length-append played.rest more);
     }
 
@@ -195,7 +208,8 @@ pub record Got (stage : Stage) (left now : Option (List ℕ)) : Type 0 where
   pub within : count ≤ max_input
   pub given : AreGiven stage input lines rest
 
-abbrev pub got_of : (kept : Kept) (cutter : Cutter) (held : List ℕ) (left now first written : Option (List ℕ)) → Played kept cutter held left now first written → cutter.taken ≤ max_input → Got cutter.stage left now
+abbrev pub got_of : (kept : Kept) (cutter : Cutter) (held : List ℕ) (left now first written : Option (List ℕ))
+    → Played kept cutter held left now first written → cutter.taken ≤ max_input → Got cutter.stage left now
 got_of kept cutter held left now first written played within = record {
   input = played.input;
   rest = played.rest;
@@ -210,7 +224,8 @@ got_of kept cutter held left now first written played within = record {
   given = played.given;
 }
 
-begins : {X : Type 0} (input rest : List ℕ) (lines : List (List ℕ)) → ((input ≡ flat_map line_text lines ++ rest) × All IsOneLine lines) ⊎ X → (X → ⊥) → BeginsWith input lines
+begins : {X : Type 0} (input rest : List ℕ) (lines : List (List ℕ))
+    → ((input ≡ flat_map line_text lines ++ rest) × All IsOneLine lines) ⊎ X → (X → ⊥) → BeginsWith input lines
 begins input rest lines (inl given) none = record { after = rest; whole = given.0; each = given.1 }
 begins input rest lines (inr given) none = absurd (none given)
 
@@ -219,7 +234,8 @@ first_of input rest lines (inl given) = inl (record { after = rest; whole = give
 first_of input rest lines (inr given) = inr (given.2, given.3, given.4, given.5)
 
 -- a front of the replies went out
-pub cut_off : (stage : Stage) (left now first written : Option (List ℕ)) → (got : Got stage left now) → AppendsFront first written (flat_map answer_text got.answers) → IsCutOff left now first written
+pub cut_off : (stage : Stage) (left now first written : Option (List ℕ)) → (got : Got stage left now)
+    → AppendsFront first written (flat_map answer_text got.answers) → IsCutOff left now first written
 cut_off Open left now first written got front = record {
   end = Fault;
   input = got.input;
@@ -257,21 +273,25 @@ cut_off Past left now first written got front = record {
   };
 }
 
-cut_of : {X : Type 0} (input rest : List ℕ) (lines : List (List ℕ)) → ((input ≡ flat_map line_text lines ++ rest) × All IsOneLine lines) ⊎ X → (X → ⊥) → IsOneLine rest → Cut input lines rest
+cut_of : {X : Type 0} (input rest : List ℕ) (lines : List (List ℕ))
+    → ((input ≡ flat_map line_text lines ++ rest) × All IsOneLine lines) ⊎ X → (X → ⊥) → IsOneLine rest → Cut input lines rest
 cut_of input rest lines (inl given) none one = record { whole = given.0; each = given.1; last = one }
 cut_of input rest lines (inr given) none one = absurd (none given)
 
-output_at_end : (input rest text : List ℕ) (lines : List (List ℕ)) → AreGiven Ended input lines rest → rest ≡ [] → MayWrite lines text → IsOutput true input text
+output_at_end : (input rest text : List ℕ) (lines : List (List ℕ))
+    → AreGiven Ended input lines rest → rest ≡ [] → MayWrite lines text → IsOutput true input text
 output_at_end input rest text lines (inl given) none run = record {
   lines = lines;
   rest = [];
   cut = record { whole = given.0 ∙ ap (λ (xs : List ℕ). flat_map line_text lines ++ xs) none; each = given.1; last = All-nil (λ byte. byte ≢ 10) };
   run = run;
 }
-output_at_end input rest text lines (inr given) none run = record { lines = given.2; rest = given.3; cut = given.4; run = subst (λ (all : List (List ℕ)). MayWrite all text) given.5 run }
+output_at_end input rest text lines (inr given) none run =
+    record { lines = given.2; rest = given.3; cut = given.4; run = subst (λ (all : List (List ℕ)). MayWrite all text) given.5 run }
 
 -- all went out
-pub ended : (stage : Stage) (left now first written : Option (List ℕ)) → (got : Got stage left now) → stage ≡ Ended → got.rest ≡ [] → Appends first written (flat_map answer_text got.answers) → IsAnswered Told left now first written
+pub ended : (stage : Stage) (left now first written : Option (List ℕ)) → (got : Got stage left now) → stage ≡ Ended
+    → got.rest ≡ [] → Appends first written (flat_map answer_text got.answers) → IsAnswered Told left now first written
 ended Open left now first written got is none out = absurd (cc)
 ended Past left now first written got is none out = absurd (cc)
 ended Ended left now first written got is none out = record {
@@ -284,7 +304,8 @@ ended Ended left now first written got is none out = record {
   };
 }
 
-pub limited : (stage : Stage) (left now first written : Option (List ℕ)) → (got : Got stage left now) → stage ≡ Past → IsOneLine got.rest → Appends first written (flat_map answer_text got.answers) → IsAnswered Limit left now first written
+pub limited : (stage : Stage) (left now first written : Option (List ℕ)) → (got : Got stage left now) → stage ≡ Past
+    → IsOneLine got.rest → Appends first written (flat_map answer_text got.answers) → IsAnswered Limit left now first written
 limited Open left now first written got is one out = absurd (cc)
 limited Ended left now first written got is one out = absurd (cc)
 limited Past left now first written got is one out = record {
@@ -297,7 +318,8 @@ limited Past left now first written got is one out = record {
   };
 }
 
-pub faulted : (stage : Stage) (left now first written : Option (List ℕ)) → (got : Got stage left now) → stage ≡ Open → IsOneLine got.rest → Appends first written (flat_map answer_text got.answers) → IsAnswered Fault left now first written
+pub faulted : (stage : Stage) (left now first written : Option (List ℕ)) → (got : Got stage left now) → stage ≡ Open
+    → IsOneLine got.rest → Appends first written (flat_map answer_text got.answers) → IsAnswered Fault left now first written
 faulted Past left now first written got is one out = absurd (cc)
 faulted Ended left now first written got is one out = absurd (cc)
 faulted Open left now first written got is one out = record {
@@ -311,7 +333,8 @@ faulted Open left now first written got is one out = record {
 }
 
 -- ---- a turn in which the text of a line's answer goes out in part
-pub line_cut_off : (kept next : Kept) (cutter new : Cutter) (held line : List ℕ) (left before now first sent written : Option (List ℕ)) (answer : Answer) → Turn kept cutter new held left before now first sent line → Answers kept next line answer
+pub line_cut_off : (kept next : Kept) (cutter new : Cutter) (held line : List ℕ) (left before now first sent written : Option (List ℕ)) (answer : Answer)
+    → Turn kept cutter new held left before now first sent line → Answers kept next line answer
     → AppendsFront sent written (held ++ answer_text answer) → new.taken ≤ max_input → IsCutOff left now first written
 line_cut_off kept next cutter new held line left before now first sent written answer turn answers front within =
     let played = turn.played in
@@ -334,21 +357,25 @@ line_cut_off kept next cutter new held line left before now first sent written a
       given = rest.given;
     } in
     cut_off new.stage left now first written got
-    (subst (λ (all : List ℕ). AppendsFront first written all) (sym (flat_map-push answer_text played.answers answer)) (sent_front first sent written (flat_map answer_text played.answers) held (answer_text answer) played.sent front))
+    (subst (λ (all : List ℕ). AppendsFront first written all) (sym (flat_map-push answer_text played.answers answer))
+    (sent_front first sent written (flat_map answer_text played.answers) held (answer_text answer) played.sent front))
 
 pub is_line : (piece : Piece) (line : List ℕ) → IsPiece piece line → IsLine piece line
 is_line (Whole bytes) line is = is.0
 is_line TooLong line is = is
 
 -- a front of what was held went out
-pub held_cut_off : (kept : Kept) (cutter : Cutter) (held : List ℕ) (left now first sent written : Option (List ℕ)) → Played kept cutter held left now first sent → cutter.taken ≤ max_input → AppendsFront sent written held → IsCutOff left now first written
+pub held_cut_off : (kept : Kept) (cutter : Cutter) (held : List ℕ) (left now first sent written : Option (List ℕ))
+    → Played kept cutter held left now first sent → cutter.taken ≤ max_input → AppendsFront sent written held → IsCutOff left now first written
 held_cut_off kept cutter held left now first sent written played within front =
     let all = flat_map answer_text played.answers in
     cut_off cutter.stage left now first written (got_of kept cutter held left now first sent played within)
-    (subst (λ (text : List ℕ). AppendsFront first written text) (append-nil all) (sent_front first sent written all held [] played.sent (subst (λ (text : List ℕ). AppendsFront sent written text) (sym (append-nil held)) front)))
+    (subst (λ (text : List ℕ). AppendsFront first written text) (append-nil all)
+    (sent_front first sent written all held [] played.sent (subst (λ (text : List ℕ). AppendsFront sent written text) (sym (append-nil held)) front)))
 
 -- ---- a call that gives no line
-abbrev pub got_more : (kept : Kept) (cutter new : Cutter) (held : List ℕ) (left before now first sent : Option (List ℕ)) (more : List ℕ) → Played kept cutter held left before first sent → Reads cutter new before now more → new.taken ≤ max_input → Got new.stage left now
+abbrev pub got_more : (kept : Kept) (cutter new : Cutter) (held : List ℕ) (left before now first sent : Option (List ℕ)) (more : List ℕ)
+    → Played kept cutter held left before first sent → Reads cutter new before now more → new.taken ≤ max_input → Got new.stage left now
 got_more kept cutter new held left before now first sent more played reads within = record {
   input = played.input ++ more;
   rest = played.rest ++ more;
@@ -363,21 +390,33 @@ got_more kept cutter new held left before now first sent more played reads withi
   given = given_more cutter.stage new.stage before now played.input more played.rest played.lines new.taken played.given reads.takes;
 }
 
-pub at_end : (kept : Kept) (cutter new : Cutter) (held : List ℕ) (left before now first sent written : Option (List ℕ)) → (played : Played kept cutter held left before first sent) → GivesNext cutter new before now played.rest next.End → new.taken ≤ max_input → Appends sent written held → IsAnswered Told left now first written
+pub at_end : (kept : Kept) (cutter new : Cutter) (held : List ℕ) (left before now first sent written : Option (List ℕ))
+    → (played : Played kept cutter held left before first sent) → GivesNext cutter new before now played.rest next.End
+    → new.taken ≤ max_input → Appends sent written held → IsAnswered Told left now first written
 at_end kept cutter new held left before now first sent written played gives within out =
-    ended new.stage left now first written (got_more kept cutter new held left before now first sent gives.more played gives.reads within) gives.gives.0 gives.gives.1 (sent_all first sent written (flat_map answer_text played.answers) held played.sent out)
+    ended new.stage left now first written (got_more kept cutter new held left before now first sent gives.more played gives.reads within)
+    gives.gives.0 gives.gives.1 (sent_all first sent written (flat_map answer_text played.answers) held played.sent out)
 
-pub at_limit : (kept : Kept) (cutter new : Cutter) (held : List ℕ) (left before now first sent written : Option (List ℕ)) → (played : Played kept cutter held left before first sent) → GivesNext cutter new before now played.rest next.Limit → new.taken ≤ max_input → Appends sent written held → IsAnswered Limit left now first written
+pub at_limit : (kept : Kept) (cutter new : Cutter) (held : List ℕ) (left before now first sent written : Option (List ℕ))
+    → (played : Played kept cutter held left before first sent) → GivesNext cutter new before now played.rest next.Limit
+    → new.taken ≤ max_input → Appends sent written held → IsAnswered Limit left now first written
 at_limit kept cutter new held left before now first sent written played gives within out =
-    limited new.stage left now first written (got_more kept cutter new held left before now first sent gives.more played gives.reads within) gives.gives.0 gives.gives.1 (sent_all first sent written (flat_map answer_text played.answers) held played.sent out)
+    limited new.stage left now first written (got_more kept cutter new held left before now first sent gives.more played gives.reads within)
+    gives.gives.0 gives.gives.1 (sent_all first sent written (flat_map answer_text played.answers) held played.sent out)
 
-pub at_fault : (kept : Kept) (cutter new : Cutter) (held : List ℕ) (left before now first sent : Option (List ℕ)) → (played : Played kept cutter held left before first sent) → GivesNext cutter new before now played.rest next.Fault → new.taken ≤ max_input → held ≡ [] → IsAnswered Fault left now first sent
+pub at_fault : (kept : Kept) (cutter new : Cutter) (held : List ℕ) (left before now first sent : Option (List ℕ))
+    → (played : Played kept cutter held left before first sent) → GivesNext cutter new before now played.rest next.Fault
+    → new.taken ≤ max_input → held ≡ [] → IsAnswered Fault left now first sent
 at_fault kept cutter new held left before now first sent played gives within none =
-    faulted new.stage left now first sent (got_more kept cutter new held left before now first sent gives.more played gives.reads within) gives.gives.0 gives.gives.1
+    faulted new.stage left now first sent
+    (got_more kept cutter new held left before now first sent gives.more played gives.reads within) gives.gives.0 gives.gives.1
     (sent_all first sent sent (flat_map answer_text played.answers) held played.sent (subst (Appends sent sent) (sym none) (Appends-nil sent)))
 
-pub end_cut_off : (kept : Kept) (cutter new : Cutter) (held : List ℕ) (left before now first sent written : Option (List ℕ)) (answer : Next) → (played : Played kept cutter held left before first sent) → GivesNext cutter new before now played.rest answer → new.taken ≤ max_input → AppendsFront sent written held → IsCutOff left now first written
+pub end_cut_off : (kept : Kept) (cutter new : Cutter) (held : List ℕ) (left before now first sent written : Option (List ℕ)) (answer : Next)
+    → (played : Played kept cutter held left before first sent) → GivesNext cutter new before now played.rest answer
+    → new.taken ≤ max_input → AppendsFront sent written held → IsCutOff left now first written
 end_cut_off kept cutter new held left before now first sent written answer played gives within front =
     let all = flat_map answer_text played.answers in
     cut_off new.stage left now first written (got_more kept cutter new held left before now first sent gives.more played gives.reads within)
-    (subst (λ (text : List ℕ). AppendsFront first written text) (append-nil all) (sent_front first sent written all held [] played.sent (subst (λ (text : List ℕ). AppendsFront sent written text) (sym (append-nil held)) front)))
+    (subst (λ (text : List ℕ). AppendsFront first written text) (append-nil all)
+    (sent_front first sent written all held [] played.sent (subst (λ (text : List ℕ). AppendsFront sent written text) (sym (append-nil held)) front)))

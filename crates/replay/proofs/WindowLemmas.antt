@@ -5,11 +5,14 @@ use borrow.Rule.Slice.PartMut.{put_mid, post_of}
 use lib.Seq.{take-add}
 
 -- a buffer behind whose first bytes others were written, as the Vec that owns it shows it
-written : (xs ys : List ℕ) (end k n : ℕ) → n ≡ length xs → length ys ≡ k → end + k ≡ length xs → take n (put_mid end k xs ys ++ drop (length (put_mid end k xs ys)) xs) ≡ put_mid end k xs ys
+written : (xs ys : List ℕ) (end k n : ℕ) → n ≡ length xs → length ys ≡ k → end + k ≡ length xs
+    → take n (put_mid end k xs ys ++ drop (length (put_mid end k xs ys)) xs) ≡ put_mid end k xs ys
 written xs ys end k n whole part all =
     let front = length-take-le end xs (omega arith) in
-    let long : length (put_mid end k xs ys) ≡ length xs = omega (arith, front, length-append (take end xs) (ys ++ post_of end k xs), length-append ys (post_of end k xs), length-drop k (drop end xs), length-drop end xs) in
-    ap (λ (zs : List ℕ). take n (put_mid end k xs ys ++ zs)) (drop_all (length (put_mid end k xs ys)) xs (omega arith)) ∙ ap (take n) (append-nil _) ∙ take_all n (put_mid end k xs ys) (omega arith)
+    let long : length (put_mid end k xs ys) ≡ length xs = omega
+    (arith, front, length-append (take end xs) (ys ++ post_of end k xs), length-append ys (post_of end k xs), length-drop k (drop end xs), length-drop end xs) in
+    ap (λ (zs : List ℕ). take n (put_mid end k xs ys ++ zs)) (drop_all (length (put_mid end k xs ys)) xs (omega arith))
+    ∙ ap (take n) (append-nil _) ∙ take_all n (put_mid end k xs ys) (omega arith)
 
 grown : (xs ys : List ℕ) (start end k n : ℕ) → start ≤ end → end ≤ length xs → n ≤ length ys
     → slice_range (put_mid end k xs ys) start (end + n) ≡ slice_range xs start end ++ take n ys
@@ -36,7 +39,8 @@ pub same_held : (xs ys : List ℕ) (start end k m : ℕ) → m ≡ length xs →
     → slice_range (take m (put_mid end k xs ys ++ drop (length (put_mid end k xs ys)) xs)) start end ≡ slice_range xs start end
 same_held xs ys start end k m whole part all ordered =
     let none : end ≡ end + 0 = omega arith in
-    ap (slice_range (take m (put_mid end k xs ys ++ drop (length (put_mid end k xs ys)) xs)) start) none ∙ more_held xs ys start end k 0 m whole part all ordered (omega arith) ∙ append-nil _
+    ap (slice_range (take m (put_mid end k xs ys ++ drop (length (put_mid end k xs ys)) xs)) start) none
+    ∙ more_held xs ys start end k 0 m whole part all ordered (omega arith) ∙ append-nil _
 
 -- the first bytes were given on
 pub consumed : (xs : List ℕ) (start end count : ℕ) → start + count ≤ end → slice_range xs (start + count) end ≡ drop count (slice_range xs start end)

@@ -2,7 +2,8 @@
 use Rattle.std.proofs.Common.{◌≡◌, ℕ, ◌≤◌, ◌<◌, List, [], ◌∷◌, length, map, get_or, sym, ap, ◌∙◌, arith}
 
 -- a list of two is its first and its second
-two : {X : Type 0} (f : X → List ℕ) (xs : List X) (second : X) → 2 ≤ length xs → length xs < 3 → second ≡ get_or xs 1 second → (name : List ℕ) × (map f xs ≡ name ∷ f second ∷ [])
+two : {X : Type 0} (f : X → List ℕ) (xs : List X) (second : X) → 2 ≤ length xs → length xs < 3
+    → second ≡ get_or xs 1 second → (name : List ℕ) × (map f xs ≡ name ∷ f second ∷ [])
 two f [] second low high is = absurd (omega arith)
 two f (x ∷ []) second low high is = absurd (omega arith)
 two f (x ∷ y ∷ []) second low high is = (f x, ap (λ (word : List ℕ). f x ∷ word ∷ []) (ap f (sym is)))

@@ -43,7 +43,8 @@ pub record IsRead (end : End) (left_old left_new : Option (List ℕ)) : Type 0 w
 -- was no memory.
 abbrev pub Checks : {K : Type 0} → Status → Option (List ℕ) → Option (List ℕ) → (K → Option (List ℕ)) → K → K → Type 0
 Checks statuses.Done left_old left_new written old new = IsChecked (Found Certified) left_old left_new (written old) (written new)
-Checks statuses.No left_old left_new written old new = (said : Verification) × (said ≢ Found Certified) × IsChecked said left_old left_new (written old) (written new)
+Checks statuses.No left_old left_new written old new =
+    (said : Verification) × (said ≢ Found Certified) × IsChecked said left_old left_new (written old) (written new)
 Checks statuses.Usage left_old left_new written old new = ⊥
 Checks statuses.ReadFault left_old left_new written old new = IsRead Fault left_old left_new × (new ≡ old)
 Checks statuses.WriteFault left_old left_new written old new = IsCheckedInPart left_old left_new (written old) (written new)

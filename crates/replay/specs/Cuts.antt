@@ -49,7 +49,8 @@ pub record Reads (old new : Cutter) (left_old left_new : Option (List ℕ)) (mor
 
 -- The bytes begin with the line and its line feed, and what follows is left; or they are all of the last line, at the end of the source.
 abbrev pub GivesLine : Cutter → List ℕ → List ℕ → Type 0
-GivesLine new bytes line = IsOneLine line × (((after : List ℕ) × (bytes ≡ line ++ 10 ∷ after) × Leaves new after) ⊎ ((new.stage ≡ Ended) × (bytes ≡ line) × (line ≢ []) × Leaves new []))
+GivesLine new bytes line = IsOneLine line
+    × (((after : List ℕ) × (bytes ≡ line ++ 10 ∷ after) × Leaves new after) ⊎ ((new.stage ≡ Ended) × (bytes ≡ line) × (line ≢ []) × Leaves new []))
 
 -- no line is left where the source ended, or none is complete
 abbrev pub GivesEnd : Cutter → List ℕ → Type 0

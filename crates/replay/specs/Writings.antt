@@ -36,4 +36,5 @@ edges_lines edges = map (λ edge. edge_line edge.0 edge.1) edges
 abbrev pub ListsEach : Closure → List ℕ → List ℕ → List (ℕ × ℕ) → Type 0
 ListsEach graph order [] edges = edges ≡ []
 ListsEach graph order (child ∷ children) edges =
-    (parents : List ℕ) × (rest : List (ℕ × ℕ)) × ListsCovers graph order child parents × ListsEach graph order children rest × (edges ≡ map (λ parent. (parent, child)) parents ++ rest)
+    (parents : List ℕ) × (rest : List (ℕ × ℕ)) × ListsCovers graph order child parents
+    × ListsEach graph order children rest × (edges ≡ map (λ parent. (parent, child)) parents ++ rest)

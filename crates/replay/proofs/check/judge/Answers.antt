@@ -11,7 +11,8 @@ pub check-requires : goal.check-requires
 check-requires c = subst AreClaims (sym c.as_slice.ensures) (claims_of c.args.text.now.parts c.requires.types.parts c.requires.amounts)
 
 pub returns-in-Ok : goal.returns-in-Ok
-returns-in-Ok c = subst (λ (parts : List Part). Finds c.args.text.now.graph.txs c.args.text.now.graph.edges (parts_of parts) Certified) c.as_slice.ensures c.in-Ok.ensures.yes
+returns-in-Ok c =
+    subst (λ (parts : List Part). Finds c.args.text.now.graph.txs c.args.text.now.graph.edges (parts_of parts) Certified) c.as_slice.ensures c.in-Ok.ensures.yes
 
 pub returns-in-Err-Falling : goal.returns-in-Err-Falling
 returns-in-Err-Falling c =

@@ -38,7 +38,8 @@ loop-part-preserved g c =
     let (own, is, more) = c.more_edges-so_far.ensures in
     let each = each_append graph order before c.in-Some.part.ids.now edges own was is in
     record {
-      rest = rest_on lent c.args.parts c.loop-part.yielded c.loop-part.part-iterator c.next.new.self c.in-Some.part c.loop-part.invariant.rest c.in-Some.ensures.steps;
+      rest = rest_on lent c.args.parts c.loop-part.yielded c.loop-part.part-iterator
+          c.next.new.self c.in-Some.part c.loop-part.invariant.rest c.in-Some.ensures.steps;
       out = (
         edges ++ own,
         subst (λ (ids : List ℕ). ListsEach graph order ids (edges ++ own))

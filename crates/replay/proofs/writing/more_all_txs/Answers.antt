@@ -29,7 +29,8 @@ loop-part-preserved g c =
     let before = order_of (map lent c.loop-part.yielded) in
     let own = c.in-Some.part.ids.now in
     record {
-      rest = rest_on lent c.args.parts c.loop-part.yielded c.loop-part.part-iterator c.next.new.self c.in-Some.part c.loop-part.invariant.rest c.in-Some.ensures.steps;
+      rest = rest_on lent c.args.parts c.loop-part.yielded c.loop-part.part-iterator
+          c.next.new.self c.in-Some.part c.loop-part.invariant.rest c.in-Some.ensures.steps;
       out = lines_on _ _ _ _ _ _ _ _ _ (map line before) (map line own) _ c.loop-part.invariant.out c.more_txs-so_far.ensures
           (ap (map line) (flat_map_push (λ (part : Part). part.ids) lent c.loop-part.yielded c.in-Some.part) ∙ map-append line before own);
     }

@@ -16,7 +16,8 @@ loop-part-init g c = record { rest = search; out = no_lines _ _ _ }
 
 pub loop-part-preserved : goal.loop-part-preserved
 loop-part-preserved g c = record {
-  rest = rest_on lent c.args.parts c.loop-part.yielded c.loop-part.part-iterator c.next.new.self c.in-Some.part c.loop-part.invariant.rest c.in-Some.ensures.steps;
+  rest =
+      rest_on lent c.args.parts c.loop-part.yielded c.loop-part.part-iterator c.next.new.self c.in-Some.part c.loop-part.invariant.rest c.in-Some.ensures.steps;
   out = lines_on _ _ _ _ _ _ _ _ _ (map chunk_line (map lent c.loop-part.yielded))
       (chunk_line (lent c.in-Some.part) ∷ []) _ c.loop-part.invariant.out c.more-so_far.ensures (map_push chunk_line lent c.loop-part.yielded c.in-Some.part);
 }

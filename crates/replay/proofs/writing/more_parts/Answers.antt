@@ -21,7 +21,8 @@ loop-part-preserved g c =
     let flows = map flow_line c.in-Some.part.flows.now in
     let headed = lines_on _ _ _ _ _ _ _ _ _ so_far (chunk) _ c.loop-part.invariant.out c.more-so_far.ensures (refl) in
     record {
-      rest = rest_on lent c.args.parts c.loop-part.yielded c.loop-part.part-iterator c.next.new.self c.in-Some.part c.loop-part.invariant.rest c.in-Some.ensures.steps;
+      rest = rest_on lent c.args.parts c.loop-part.yielded c.loop-part.part-iterator
+          c.next.new.self c.in-Some.part c.loop-part.invariant.rest c.in-Some.ensures.steps;
       out = lines_on _ _ _ _ _ _ _ _ _ (so_far ++ chunk) flows _ headed c.more_flows-so_far.ensures
           (flat_map_push part_lines lent c.loop-part.yielded c.in-Some.part ∙ sym (append_assoc so_far chunk flows));
     }

@@ -18,7 +18,8 @@ loop-size-preserved g c =
 
 pub returns : goal.returns
 returns g c list always =
-    let gives = subst (λ s. AlwaysYields g.I.Iterator.next_gives (λ (point : ℕ × ℤ). point) s list) (sym c.into_iter-size-iterator.ensures.into_iter_gives) always in
+    let gives =
+    subst (λ s. AlwaysYields g.I.Iterator.next_gives (λ (point : ℕ × ℤ). point) s list) (sym c.into_iter-size-iterator.ensures.into_iter_gives) always in
     let same = all_given g.I.Iterator.next_gives c.into_iter-size-iterator.result c.loop-size.size-iterator c.next.new.self c.loop-size.yielded list gives
     c.loop-size.yielded_by c.in-None.ensures.steps in
     subst (λ (points : List (ℕ × ℤ)). GoesOnLines c.args.so_far (g.K.Sink.written c.args.sink.now) (g.K.Sink.written c.loop-size.sink)

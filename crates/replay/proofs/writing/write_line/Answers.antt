@@ -17,4 +17,5 @@ pub returns-in-Flow : goal.returns-in-Flow
 returns-in-Flow g c = rw c.in-Flow.is c.write_flow.ensures
 
 pub returns-in-Point : goal.returns-in-Point
-returns-in-Point g c = let fits : FitsSigned w128 c.in-Point.fee = search rules in rw c.in-Point.is (rw (to_z-of_z w128 c.in-Point.fee fits) at c.write_point.ensures)
+returns-in-Point g c = let fits : FitsSigned w128 c.in-Point.fee = search rules in
+    rw c.in-Point.is (rw (to_z-of_z w128 c.in-Point.fee fits) at c.write_point.ensures)

@@ -8,7 +8,8 @@ pub returns-in-TooLong : goal.returns-in-TooLong
 returns-in-TooLong g c = (runs.TooLong, rw c.in-TooLong.is refl, c.told.ensures.writes _ _ _ _ _ c.write_word.ensures, c.told.ensures.told)
 
 pub returns-in-Unread : goal.returns-in-Unread
-returns-in-Unread g c = (runs.Unread, rw c.in-Unread.is refl, c.told-in-Unread.ensures.writes _ _ _ _ _ c.write_word-in-Unread.ensures, c.told-in-Unread.ensures.told)
+returns-in-Unread g c =
+    (runs.Unread, rw c.in-Unread.is refl, c.told-in-Unread.ensures.writes _ _ _ _ _ c.write_word-in-Unread.ensures, c.told-in-Unread.ensures.told)
 
 pub returns-in-Refused : goal.returns-in-Refused
 returns-in-Refused g c = (
@@ -19,7 +20,8 @@ returns-in-Refused g c = (
 )
 
 pub returns-in-Done : goal.returns-in-Done
-returns-in-Done g c = (runs.Replies Done, rw c.in-Done.is refl, c.told-in-Done.ensures.writes _ _ _ _ _ c.write_word-in-Done.ensures, c.told-in-Done.ensures.told)
+returns-in-Done g c =
+    (runs.Replies Done, rw c.in-Done.is refl, c.told-in-Done.ensures.writes _ _ _ _ _ c.write_word-in-Done.ensures, c.told-in-Done.ensures.told)
 
 pub returns-in-Names : goal.returns-in-Names
 returns-in-Names g c = (

@@ -37,7 +37,8 @@ returns-in-Unread-clause-room g c = c.requires.room
 
 pub returns-in-Change-clause-answers : goal.returns-in-Change-clause-answers
 returns-in-Change-clause-answers g c answer told =
-    through c.args.self.now c.make.new.graph answer (c.from.ensures c.args.ids.now.ids) c.in-Change.is (change_reply c.make.result, c.make.ensures.step, c.changed.ensures c.make.new.graph c.args.ids.now.ids answer told)
+    through c.args.self.now c.make.new.graph answer (c.from.ensures c.args.ids.now.ids) c.in-Change.is
+    (change_reply c.make.result, c.make.ensures.step, c.changed.ensures c.make.new.graph c.args.ids.now.ids answer told)
 
 pub returns-in-Change-clause-additions : goal.returns-in-Change-clause-additions
 returns-in-Change-clause-additions g c = c.make.ensures.additions
@@ -47,7 +48,8 @@ returns-in-Change-clause-room g c = c.requires.room
 
 pub returns-in-Search-clause-answers : goal.returns-in-Search-clause-answers
 returns-in-Search-clause-answers g c answer told =
-    through c.args.self.now c.args.self.now answer (c.from.ensures c.args.ids.now.ids) c.in-Search.is (names_reply c.find.result c.find.new.ids.ids, c.find.ensures.step, c.named.ensures c.args.self.now c.find.new.ids.ids answer told)
+    through c.args.self.now c.args.self.now answer (c.from.ensures c.args.ids.now.ids) c.in-Search.is
+    (names_reply c.find.result c.find.new.ids.ids, c.find.ensures.step, c.named.ensures c.args.self.now c.find.new.ids.ids answer told)
 
 pub returns-in-Search-clause-additions : goal.returns-in-Search-clause-additions
 returns-in-Search-clause-additions g c = omega arith
@@ -67,7 +69,8 @@ returns-in-Count-clause-room g c = c.requires.room
 
 pub returns-in-Before-clause-answers : goal.returns-in-Before-clause-answers
 returns-in-Before-clause-answers g c answer told =
-    through c.args.self.now c.args.self.now answer (c.from.ensures c.args.ids.now.ids) c.in-Before.is (place_reply c.before-in-Before.result, c.before-in-Before.ensures.step, c.placed.ensures c.args.self.now c.args.ids.now.ids answer told)
+    through c.args.self.now c.args.self.now answer (c.from.ensures c.args.ids.now.ids) c.in-Before.is
+    (place_reply c.before-in-Before.result, c.before-in-Before.ensures.step, c.placed.ensures c.args.self.now c.args.ids.now.ids answer told)
 
 pub returns-in-Before-clause-additions : goal.returns-in-Before-clause-additions
 returns-in-Before-clause-additions g c = omega arith
@@ -77,7 +80,8 @@ returns-in-Before-clause-room g c = c.requires.room
 
 pub returns-in-Compare-clause-answers : goal.returns-in-Compare-clause-answers
 returns-in-Compare-clause-answers g c answer told =
-    through c.args.self.now c.args.self.now answer (c.from.ensures c.args.ids.now.ids) c.in-Compare.is (compare_reply c.compare.result, c.compare.ensures.step, c.compared.ensures c.args.self.now c.args.ids.now.ids answer told)
+    through c.args.self.now c.args.self.now answer (c.from.ensures c.args.ids.now.ids) c.in-Compare.is
+    (compare_reply c.compare.result, c.compare.ensures.step, c.compared.ensures c.args.self.now c.args.ids.now.ids answer told)
 
 pub returns-in-Compare-clause-additions : goal.returns-in-Compare-clause-additions
 returns-in-Compare-clause-additions g c = omega arith
@@ -87,7 +91,8 @@ returns-in-Compare-clause-room g c = c.requires.room
 
 pub returns-in-Settle-clause-answers : goal.returns-in-Settle-clause-answers
 returns-in-Settle-clause-answers g c answer told =
-    through c.args.self.now c.settle.new.self answer (c.from.ensures c.args.ids.now.ids) c.in-Settle.is (settle_reply c.settle.result, c.settle.ensures.step, c.settled.ensures c.settle.new.self c.args.ids.now.ids answer told)
+    through c.args.self.now c.settle.new.self answer (c.from.ensures c.args.ids.now.ids) c.in-Settle.is
+    (settle_reply c.settle.result, c.settle.ensures.step, c.settled.ensures c.settle.new.self c.args.ids.now.ids answer told)
 
 pub returns-in-Settle-clause-additions : goal.returns-in-Settle-clause-additions
 returns-in-Settle-clause-additions g c = omega (arith, c.settle.ensures.additions)

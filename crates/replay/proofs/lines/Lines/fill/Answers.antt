@@ -26,7 +26,8 @@ returns-in-Ok-clause-reads g c rest leaves =
         takes = subst (λ (s : Stage). TakesTo s c.count_within.result.1 left next counted.0 c.count_within.result.0) (sym c.requires.open) takes;
         taken = counted.4 ∙ ap (λ n. n + length counted.0) (sym taken);
       },
-      subst (λ (held : List ℕ). EndsIn c.make_room-self-inside.result held (rest ++ counted.0)) (sym counted.3) (ends_more c.make_room-self-inside.result c.make_room-self-inside.new.window.held counted.0 rest kept),
+      subst (λ (held : List ℕ). EndsIn c.make_room-self-inside.result held (rest ++ counted.0)) (sym counted.3)
+          (ends_more c.make_room-self-inside.result c.make_room-self-inside.new.window.held counted.0 rest kept),
     )
 
 pub returns-in-Ok-clause-ahead : goal.returns-in-Ok-clause-ahead
@@ -37,7 +38,8 @@ returns-in-Ok-clause-ahead g c =
     let within = counts_within c.count_within.result.1 c.count_within.result.0 counted.0 counted.1 counted.5 in
     let read = ahead_read w.long c.make_room-self-inside.result w.window.held c.make_room-self-inside.new.window.held c.count_within.new.window.held counted.0
     w.taken c.count_within.result.0 c.make_room-self-inside.ensures.lighter counted.3 counted.4 within in
-    subst (λ (k : Cutter). (max_input - c.count_within.result.0) + weight c.make_room-self-inside.result c.count_within.new.window.held ≤ ahead k) c.self.view_is read
+    subst (λ (k : Cutter). (max_input - c.count_within.result.0) + weight c.make_room-self-inside.result c.count_within.new.window.held ≤ ahead k)
+    c.self.view_is read
 
 pub returns-in-Ok-clause-fewer : goal.returns-in-Ok-clause-fewer
 returns-in-Ok-clause-fewer g c =

@@ -8,7 +8,8 @@ use Rattle.replay.proofs.lines.Lines.find.Goals as goal
 
 pub reads-init : goal.reads-init
 reads-init g c = record {
-  reads = λ rest leaves. ([], reads_none c.args.self.now (g.S.Source.left c.args.source.now), subst (λ (bytes : List ℕ). Leaves c.args.self.now bytes) (sym (append-nil rest)) leaves);
+  reads = λ rest leaves.
+      ([], reads_none c.args.self.now (g.S.Source.left c.args.source.now), subst (λ (bytes : List ℕ). Leaves c.args.self.now bytes) (sym (append-nil rest)) leaves);
   same = refl;
   lighter = omega arith;
   still = λ ready. (refl, refl);
@@ -33,7 +34,8 @@ reads-preserved g c =
           );
       same = c.in-Ok.ensures.cause.ok ∙ before.same;
       lighter = omega (arith, before.lighter, c.fill.ensures.ahead);
-      still = λ ready. still_open c.reads.self.held (subst (λ (k : Cutter). HasLine k.held ⊎ (k.stage ≢ Open)) (sym (before.still ready).1) ready) c.reads-test.ensures.0 (λ stopped. stopped going);
+      still = λ ready. still_open c.reads.self.held
+          (subst (λ (k : Cutter). HasLine k.held ⊎ (k.stage ≢ Open)) (sym (before.still ready).1) ready) c.reads-test.ensures.0 (λ stopped. stopped going);
     }
 
 pub returns-in-Err-clause-next : goal.returns-in-Err-clause-next
@@ -48,4 +50,5 @@ returns-in-Err-clause-next g c rest leaves =
 
 pub returns-in-Err-clause-ready : goal.returns-in-Err-clause-ready
 returns-in-Err-clause-ready g c ready =
-    still_open c.reads.self.held (subst (λ (k : Cutter). HasLine k.held ⊎ (k.stage ≢ Open)) (sym (c.reads.invariant.still ready).1) ready) c.reads-test.ensures.0 (λ stopped. stopped c.reads-test.ensures.1)
+    still_open c.reads.self.held (subst (λ (k : Cutter). HasLine k.held ⊎ (k.stage ≢ Open)) (sym (c.reads.invariant.still ready).1) ready)
+    c.reads-test.ensures.0 (λ stopped. stopped c.reads-test.ensures.1)

@@ -19,5 +19,6 @@ returns-clause-next c rest leaves =
     let ends = subst (λ (k : Cutter). EndsIn k.long k.held rest) (sym c.self.view_is) leaves in
     let feed = subst (λ (k : Cutter). HasFeed (Some c.args.count) k.held) (sym c.self.view_is) c.requires in
     let parts = cut_at w.window.held feed.0 feed.1 c.cut.new.self.line c.cut.new.self.held c.args.count feed.2 feed.4 c.cut.ensures.line c.cut.ensures.held in
-    let fits : length c.cut.new.self.line ≤ max_line = omega (arith, ap length parts.0, feed.4, ap length feed.2, length-append feed.0 (10 ∷ feed.1), c.cut.ensures.fits) in
+    let fits : length c.cut.new.self.line ≤ max_line =
+    omega (arith, ap length parts.0, feed.4, ap length feed.2, length-append feed.0 (10 ∷ feed.1), c.cut.ensures.fits) in
     (fits, whole_given w.long w.window.held rest feed.0 feed.1 c.cut.new.self.line c.cut.new.self.held c.if-long.false ends feed.2 feed.3 parts.0 parts.1)

@@ -18,7 +18,8 @@ returns-in-Whole g c =
         λ _. tt,
         (
           λ rest leaves. subst (λ (k : Cutter). GivesNext c.args.self.now k left after rest (Line (Whole c.line.result))) view
-              (whole_next c.args.self.now c.find.new.self left after rest c.line.result (c.line.ensures ∙ ap (λ (k : Cutter). k.line) c.self.view_is) (found.next rest leaves)),
+              (whole_next c.args.self.now c.find.new.self left after rest c.line.result
+              (c.line.ensures ∙ ap (λ (k : Cutter). k.line) c.self.view_is) (found.next rest leaves)),
           subst (λ (k : Cutter). k.taken ≤ max_input) view found.within,
           λ given. subst (λ (k : Cutter). ahead k < ahead c.args.self.now) view (found.ahead tt),
         ),
@@ -36,7 +37,8 @@ returns-in-Long g c =
         refl,
         λ _. tt,
         (
-          λ rest leaves. subst (λ (k : Cutter). GivesNext c.args.self.now k left after rest (Line TooLong)) view (long_next c.args.self.now c.find.new.self left after rest (found.next rest leaves)),
+          λ rest leaves. subst (λ (k : Cutter). GivesNext c.args.self.now k left after rest (Line TooLong)) view
+              (long_next c.args.self.now c.find.new.self left after rest (found.next rest leaves)),
           subst (λ (k : Cutter). k.taken ≤ max_input) view found.within,
           λ given. subst (λ (k : Cutter). ahead k < ahead c.args.self.now) view (found.ahead tt),
         ),
