@@ -23,7 +23,8 @@ use Rattle.replacement.specs.declared.merged.Merged.{Merged}
 use Rattle.replacement.specs.declared.merged.Peeked.{Peeked}
 
 -- ---- one walk
-pub ahead_after : {S : Type 0} (steps : S → Option FeeRate → S → Type 0) (s t : S) (next : Option FeeRate) (parts : List Sum) → AlwaysYields steps rate_of s parts
+pub ahead_after : {S : Type 0} (steps : S → Option FeeRate → S → Type 0) (s t : S) (next : Option FeeRate) (parts : List Sum)
+    → AlwaysYields steps rate_of s parts
     → steps s next t → AreAhead next (AlwaysYields steps rate_of t) parts
 ahead_after steps s t None parts yields step = step_none steps rate_of s t parts yields step
 ahead_after steps s t (Some part) parts yields step = step_some steps rate_of s t part parts yields step

@@ -15,4 +15,5 @@ verdict-requires-clause-b_corners g c =
 
 pub returns : goal.returns
 returns g c mains tops before after main top one other =
-    c.verdict.ensures (corners_of after) (corners_of before) (c.corners.ensures.corners tops after top other) (c.corners-2.ensures.corners mains before main one)
+    c.verdict.ensures (corners_of after) (corners_of before)
+    (c.corners.ensures.corners tops after top other) (c.corners-2.ensures.corners mains before main one)
