@@ -94,7 +94,8 @@ module _ (n : ℕ) (dep : Closure) (s : fin.FinSet nat_cmp) (p : ℕ) (closed : 
         | inl there ↦ there
         | inr out ↦
             let none : x ≡ fin.empty = same_by_members x fin.empty
-            (λ k h. clash _ h (ap (λ (i : ℕ). fin.contains x i) (no_other n s p within here one k (upper.inside k h) ∙ sym (no_other n s p within here one q m)) ∙ out))
+            (λ k h. clash _ h
+            (ap (λ (i : ℕ). fin.contains x i) (no_other n s p within here one k (upper.inside k h) ∙ sym (no_other n s p within here one q m)) ∙ out))
             (λ k h. clash _ h (contains-empty k)) in
             absurd (omega (arith, some, ap (λ (y : fin.FinSet nat_cmp). fin.len y) none, fin.len-empty nat_cmp))
       ]
