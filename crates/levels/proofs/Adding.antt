@@ -19,7 +19,8 @@ use Rattle.levels.proofs.Tallies.{mains_counted, mains_kept, top_turned, tops_mo
 use Rattle.levels.proofs.Turning.{added_top}
 use Rattle.levels.proofs.Unmoved.{added_stays}
 
-module _ (w mains tops issued : ℕ) (old : Shelf) (rings : Ringed) (kept : IsKept w old rings mains tops issued) (now : Levels) (view : levels_of old issued ≡ now) where
+module _ (w mains tops issued : ℕ) (old : Shelf) (rings : Ringed)
+    (kept : IsKept w old rings mains tops issued) (now : Levels) (view : levels_of old issued ≡ now) where
   -- a name that isn't live isn't in the rings, and these have as many names as are live
   pub absent_named : (id : ℕ) → (IsLive now id → ⊥) → IsNamed rings.book id → ⊥
   absent_named id absent named = absent ((live_named w issued old now kept.order view rings kept.right id).1 named)
@@ -51,7 +52,8 @@ module _ (w mains tops issued : ℕ) (old : Shelf) (rings : Ringed) (kept : IsKe
         → count ≡ cond staged mains (tops + 1) → IsKept w new later count (tops + 1) (issued + 1)
     kept_added later right names additions few staged is count counted =
         let top : tops + 1 ≡ finmap.len (numbers_at Top new) =
-        ap (λ n. n + 1) kept.tops ∙ sym (tops_more old new id rate (top_turned w issued old new kept.order after (λ g h. AddsName g h id rate) turns) adds.absent) in
+        ap (λ n. n + 1) kept.tops
+        ∙ sym (tops_more old new id rate (top_turned w issued old new kept.order after (λ g h. AddsName g h id rate) turns) adds.absent) in
         record {
           order = after;
           right = right;

@@ -51,17 +51,20 @@ tag_there old number there = ap (option_map (λ (s : Stored). s.tag)) there.is
 
 -- what stands under a number that was added
 module _ (tag : Tag) (added : List Cluster) (made : List ℕ) (new : Numbered) (n : ℕ) (count : length made ≡ length (map (tagged tag) added))
-    (stand : (at : ℕ) (s : Stored) → slice_get (map (tagged tag) added) at ≡ Some s → finmap.get new (slice_index made at) ≡ Some s) (here : Contains made n) where
+    (stand : (at : ℕ) (s : Stored) → slice_get (map (tagged tag) added) at ≡ Some s → finmap.get new (slice_index made at) ≡ Some s)
+    (here : Contains made n) where
   pub added_at : (c : Cluster) × (finmap.get new n ≡ Some (tagged tag c))
   added_at =
       let place = place_of made n here in
       elim (slice_get_cases added place.0).1 [
-        | inl at ↦ (at.0, ap (finmap.get new) (sym place.2) ∙ stand place.0 (tagged tag at.0) (slice_get-map (tagged tag) added place.0 ∙ ap (option_map (tagged tag)) at.2))
+        | inl at ↦
+            (at.0, ap (finmap.get new) (sym place.2) ∙ stand place.0 (tagged tag at.0) (slice_get-map (tagged tag) added place.0 ∙ ap (option_map (tagged tag)) at.2))
         | inr past ↦ absurd (omega (arith, count, length-map added (tagged tag), place.1, past.0))
       ]
 
 pub stands_added : (tag : Tag) (added : List Cluster) (made : List ℕ) (new : Numbered) → is_in Top tag ≡ true → length made ≡ length (map (tagged tag) added)
-    → ((at : ℕ) (s : Stored) → slice_get (map (tagged tag) added) at ≡ Some s → finmap.get new (slice_index made at) ≡ Some s) → AreAt (seen_at Top new) made added
+    → ((at : ℕ) (s : Stored) → slice_get (map (tagged tag) added) at ≡ Some s → finmap.get new (slice_index made at) ≡ Some s)
+    → AreAt (seen_at Top new) made added
 stands_added tag added made new top count stand = record {
   count = count ∙ length-map added (tagged tag);
   stand = λ i c at. seen_stored Top new (slice_index made i) (tagged tag c)
@@ -161,7 +164,8 @@ module _ (staged : Bool) (number : ℕ) (last : Cluster) (rest : List Cluster) (
       top = record {
         once = distinct_push made number change.adds.once not_made;
         stand = subst (AreAt (seen_at Top new) (made ++ number ∷ [])) (sym is)
-            (at_push (seen_at Top new) made rest number last (stands_added (top_tag staged) rest made new (in_new_tag staged) change.adds.count change.adds.stand)
+            (at_push (seen_at Top new) made rest number last
+            (stands_added (top_tag staged) rest made new (in_new_tag staged) change.adds.count change.adds.stand)
             (seen_stored Top new number (record { cluster = last; tag = there.stored.tag }) now there.top));
         room = λ n here. elim (contains_cases made number n here) [
           | inl front ↦ inr (free_unseen Top old n (free_made n front))

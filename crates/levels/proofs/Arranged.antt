@@ -44,7 +44,8 @@ kept_put x (y ∷ ys) q held = cases (nat_lt x y) (kept_put x ys q)
     cases true rest = elim held [ inl same ↦ subst (Contains (x ∷ y ∷ ys)) same (Contains-head x (y ∷ ys)) | inr here ↦ Contains-later x q (y ∷ ys) here ]
     cases false rest = elim held [
       | inl same ↦ Contains-later y q (put x ys) (rest (inl same))
-      | inr here ↦ elim (Contains-cases y q ys here) [ inl is ↦ subst (Contains (y ∷ put x ys)) is (Contains-head y (put x ys)) | inr later ↦ Contains-later y q (put x ys) (rest (inr later)) ]
+      | inr here ↦ elim (Contains-cases y q ys
+          here) [ inl is ↦ subst (Contains (y ∷ put x ys)) is (Contains-head y (put x ys)) | inr later ↦ Contains-later y q (put x ys) (rest (inr later)) ]
     ]
 
 below_put : (z x : ℕ) (ys : List ℕ) → z < x → IsBelow z ys → IsBelow z (put x ys)
@@ -68,7 +69,8 @@ pub arranged_is : (xs : List ℕ) (q : ℕ) → Contains (arranged xs) q ↔ Con
 unfolding arranged
 arranged_is [] q = (λ here. here, λ here. here)
 arranged_is (x ∷ xs) q = (
-  λ here. elim (put_kept x (arranged xs) q here) [ inl same ↦ subst (Contains (x ∷ xs)) same (Contains-head x xs) | inr later ↦ Contains-later x q xs ((arranged_is xs q).0 later) ],
+  λ here. elim (put_kept x
+      (arranged xs) q here) [ inl same ↦ subst (Contains (x ∷ xs)) same (Contains-head x xs) | inr later ↦ Contains-later x q xs ((arranged_is xs q).0 later) ],
   λ here. kept_put x (arranged xs) q (elim (Contains-cases x q xs here) [ inl same ↦ inl same | inr later ↦ inr ((arranged_is xs q).1 later) ]),
 )
 
@@ -85,7 +87,8 @@ rises_increasing (x ∷ y ∷ xs) rises zero low = rises.0
 rises_increasing (x ∷ y ∷ xs) rises (suc k) low =
     let next : suc (suc k) ≡ suc k + 1 = omega arith in
     let here : suc k ≡ k + 1 = omega arith in
-    let is : slice_index (x ∷ y ∷ xs) (suc k) < slice_index (x ∷ y ∷ xs) (suc (suc k)) = subst (λ n. slice_index (y ∷ xs) k < slice_index (y ∷ xs) n) (sym here) (rises_increasing (y ∷ xs) rises.1 k (omega arith)) in
+    let is : slice_index (x ∷ y ∷ xs) (suc k) < slice_index (x ∷ y ∷ xs) (suc (suc k)) =
+    subst (λ n. slice_index (y ∷ xs) k < slice_index (y ∷ xs) n) (sym here) (rises_increasing (y ∷ xs) rises.1 k (omega arith)) in
     subst (λ n. slice_index (x ∷ y ∷ xs) (suc k) < slice_index (x ∷ y ∷ xs) n) next is
 
 pub arranged_increasing : (xs : List ℕ) → AreDistinct xs → IsStrictlyIncreasing (arranged xs)
@@ -111,7 +114,8 @@ arranged_sum f (x ∷ xs) = put_sum f x (arranged xs) ∙ ap (λ n. f x + n) (ar
 put_length : (x : ℕ) (ys : List ℕ) → length (put x ys) ≡ suc (length ys)
 unfolding put
 put_length x [] = refl
-put_length x (y ∷ ys) = elim (nat_lt x y) as (λ b. length (cond b (x ∷ y ∷ ys) (y ∷ put x ys)) ≡ suc (suc (length ys))) [ true ↦ refl | false ↦ ap suc (put_length x ys) ]
+put_length x (y ∷ ys) =
+    elim (nat_lt x y) as (λ b. length (cond b (x ∷ y ∷ ys) (y ∷ put x ys)) ≡ suc (suc (length ys))) [ true ↦ refl | false ↦ ap suc (put_length x ys) ]
 
 pub arranged_length : (xs : List ℕ) → length (arranged xs) ≡ length xs
 unfolding arranged

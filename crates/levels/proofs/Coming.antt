@@ -124,7 +124,8 @@ module _ (staged : Bool) (old new : Numbered) (number : ℕ) (tag : Tag) (c : Cl
     fresh = λ opened n here. ap (seen_at Main new) (only_one number n here) ∙ main_none opened;
     both = λ shut n s at. elim (cases_eq n number) [
       | inl same ↦
-          let one : record { cluster = c; tag = there.stored.tag } ≡ s = same_Some (record { cluster = c; tag = there.stored.tag }) s (sym now ∙ ap (finmap.get new) (sym same) ∙ at) in
+          let one : record { cluster = c; tag = there.stored.tag } ≡ s =
+          same_Some (record { cluster = c; tag = there.stored.tag }) s (sym now ∙ ap (finmap.get new) (sym same) ∙ at) in
           ap (λ (x : Stored). x.tag) (sym one) ∙ both shut number there.stored there.is
       | inr other ↦ both shut n s (sym (sets.others n other) ∙ at)
     ];
@@ -132,7 +133,8 @@ module _ (staged : Bool) (old new : Numbered) (number : ℕ) (tag : Tag) (c : Cl
 
 -- ---- a cluster comes in under a number of its own, and main keeps the other
 
-module _ (old mid new : Numbered) (number made : ℕ) (c : Cluster) (there : InTop old number) (kept : there.stored.tag ≡ Both) (free : finmap.get old made ≡ None)
+module _ (old mid new : Numbered) (number made : ℕ) (c : Cluster) (there : InTop old number)
+    (kept : there.stored.tag ≡ Both) (free : finmap.get old made ≡ None)
     (adds : Sets made (Some (record { cluster = c; tag = TopOnly })) old mid)
     (moves : Sets number (moved_to (Some MainOnly) (finmap.get mid number)) mid new) where
   apart : made ≢ number
@@ -209,7 +211,8 @@ module _ (staged : Bool) (old mid new : Numbered) (first second made : ℕ) (c :
           ];
           elsewhere = λ n out free.
               kept n (λ same. out (subst (Contains (first ∷ second ∷ [])) (sym same) (Contains-later first second (second ∷ []) (Contains-head second []))))
-              ∙ comes.top.elsewhere n (λ here. out (subst (Contains (first ∷ second ∷ [])) (sym (only_one first n here)) (Contains-head first (second ∷ [])))) free;
+              ∙ comes.top.elsewhere n
+              (λ here. out (subst (Contains (first ∷ second ∷ [])) (sym (only_one first n here)) (Contains-head first (second ∷ [])))) free;
         };
         main = λ opened n. leaves.main opened n ∙ comes.main opened n;
         fresh = λ opened n here. leaves.main opened n ∙ comes.fresh opened n here;
@@ -227,7 +230,8 @@ pub stored_same : (old new : Numbered) (number : ℕ) (c : Cluster) → StandsIn
 stored_same old new number c stands sets =
     ap (option_map (λ (s : Stored). s.cluster)) (sets.changed ∙ ap (with_cluster c) (in_top old number stands).is)
 
-module _ (old mid : Numbered) (number made : ℕ) (o : Option Stored) (stands : StandsInTop old number) (free : finmap.get old made ≡ None) (adds : Sets made o old mid) where
+module _ (old mid : Numbered) (number made : ℕ) (o : Option Stored) (stands : StandsInTop old number)
+    (free : finmap.get old made ≡ None) (adds : Sets made o old mid) where
   pub kept_apart : number ≢ made
   kept_apart same = let there = in_top old number stands in none-some there.stored (sym free ∙ ap (finmap.get old) (sym same) ∙ there.is)
 

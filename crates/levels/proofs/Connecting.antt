@@ -65,7 +65,8 @@ there_top w issued shelf order p q there =
 
 -- ---- the change
 
-module _ (w issued : ℕ) (old new : Shelf) (before : IsInOrder w old) (after : IsInOrder w new) (parent child : ℕ) (connects : Connects w parent child old new) where
+module _ (w issued : ℕ) (old new : Shelf) (before : IsInOrder w old) (after : IsInOrder w new)
+    (parent child : ℕ) (connects : Connects w parent child old new) where
   pub connected_top : ChangesTop (λ g h. AddsPair g h parent child) (levels_of old issued) (levels_of new issued)
   connected_top = elim connects [
     | inl there ↦
@@ -87,7 +88,8 @@ module _ (w issued : ℕ) (old new : Shelf) (before : IsInOrder w old) (after : 
   ]
 
 pub stays_on : {T E : Type 0} (result : Result T E) (w issued : ℕ) (old new : Shelf) → IsInOrder w old → IsInOrder w new → (parent child : ℕ)
-    → OnOk result (Connects w parent child old new) → (Same : Type 0) → OnErr result ((new ≡ old) × Same) → AllStay (levels_of old issued) (levels_of new issued)
+    → OnOk result (Connects w parent child old new) → (Same : Type 0)
+    → OnErr result ((new ≡ old) × Same) → AllStay (levels_of old issued) (levels_of new issued)
 stays_on (Ok x) w issued old new before after parent child connects Same err = connected_stays w issued old new before after parent child connects
 stays_on (Err e) w issued old new before after parent child connects Same err = same_shelf_stays w old new before after issued issued err.0
 
@@ -104,7 +106,8 @@ module _ (w mains tops issued : ℕ) (old new : Shelf) (before after : Ringed) (
   kept_connected order right same parent child connects names issues =
       let turns = connected_top w issued old new kept.order order parent child connects in
       let paired = top_turned w issued old new kept.order order (λ g h. AddsPair g h parent child) turns in
-      kept_turned w mains tops issued old new before after kept order right same (λ g h. AddsPair g h parent child) turns (is_some new.staging) mains tops issued refl
+      kept_turned w mains tops issued old new before after kept order right same
+      (λ g h. AddsPair g h parent child) turns (is_some new.staging) mains tops issued refl
       (kept.tops ∙ sym (tops_paired old new parent child paired))
       (either_count mains tops (is_some new.staging) (λ shut.
       kept.mains ∙ mains_are_tops old (none_staged old.staging (is_some new.staging) same shut) ∙ sym kept.tops)) (kept.issued ∙ sym issues)
@@ -143,7 +146,8 @@ RowIs limits graph parent child result =
     MatchResult result (λ _. DepRefusalIs limits graph parent child None)
     (λ why. ((why ≡ Memory) × DepRefusalIs limits graph parent child None) ⊎ ((why ≢ Memory) × DepRefusalIs limits graph parent child (Some why)))
 
-pub row_refused : {T : Type 0} (limits : Limits) (graph : Closure) (parent child : ℕ) (result : Result T Refusal) (why : Refusal) → IsErrAnd result (λ e. e ≡ why)
+pub row_refused : {T : Type 0} (limits : Limits) (graph : Closure) (parent child : ℕ) (result : Result T Refusal) (why : Refusal)
+    → IsErrAnd result (λ e. e ≡ why)
     → DepRefusalIs limits graph parent child (Some why) → RowIs limits graph parent child result
 row_refused limits graph parent child (Ok x) why is row = absurd is
 row_refused limits graph parent child (Err e) why is row = inr (

@@ -157,8 +157,10 @@ module _ (w main top id : ℕ) (fee : ℤ) (old : Shelf) (order : IsInOrder w ol
       → OnOk result (ExchangedAt w main c' Main old new) → OnOk result (ExchangedAt w top d' Top old new)
       → (new.main ≡ old.main) × (new.staging ≡ old.staging) → OnOk result (SetsFees w id fee old new)
   both_changed c c' d d' new (Ok x) first second one two numbers = record {
-    main = fee_at w main id fee c c' Main old new order first (held w old order Main id main main_is c (seen_there w old order Main id main main_is c first.at)) one (inr main_is);
-    top = fee_at w top id fee d d' Top old new order second (held w old order Top id top top_is d (seen_there w old order Top id top top_is d second.at)) two (inr top_is);
+    main = fee_at w main id fee c c' Main old new order first
+        (held w old order Main id main main_is c (seen_there w old order Main id main main_is c first.at)) one (inr main_is);
+    top = fee_at w top id fee d d' Top old new order second
+        (held w old order Top id top top_is d (seen_there w old order Top id top top_is d second.at)) two (inr top_is);
     numbers = numbers.0;
     staging = numbers.1;
   }

@@ -71,7 +71,8 @@ module _ (w issued : ℕ) (shelf : Shelf) (now : Levels) (order : IsInOrder w sh
   pub cluster_is : (level : Level) (number id : ℕ) (c : Cluster) → seen_at level shelf.store.clusters number ≡ Some c → Contains c.names id
       → IsClusterOf (level_at now level).graph id c
   cluster_is level number id c is here =
-      subst (λ (g : Closure). IsClusterOf g id c) (sym (graph_is level)) (cluster_of (64 * w) (view_of level shelf) (indexed_at w shelf order level) number c is id here)
+      subst (λ (g : Closure). IsClusterOf g id c) (sym (graph_is level))
+      (cluster_of (64 * w) (view_of level shelf) (indexed_at w shelf order level) number c is id here)
 
   pub whole_at : (level : Level) (number : ℕ) (c : Cluster) → seen_at level shelf.store.clusters number ≡ Some c → IsCluster (64 * w) c
   whole_at level number c is = (indexed_at w shelf order level).whole number c is

@@ -34,7 +34,8 @@ module _ (w id : ℕ) (outs made : List ℕ) (olds news : List Cluster) (old new
   stays_or : (x : ℕ) → x ≢ id → (HasName news x ⊎ (finmap.get later x ≡ finmap.get top x))
   stays_or x other = elim (decide_named news x) [
     | inl named ↦ inl named
-    | inr none ↦ inr (r.top.points.others x none (λ here. elim (Contains-cases id x [] here) [ inl same ↦ other (sym same) | inr nothing ↦ none_in_empty x nothing ]))
+    | inr none ↦
+        inr (r.top.points.others x none (λ here. elim (Contains-cases id x [] here) [ inl same ↦ other (sym same) | inr nothing ↦ none_in_empty x nothing ]))
   ]
 
   touched_other : (x : ℕ) → x ≢ id → (finmap.get main x ≢ finmap.get later x) ↔ (finmap.get main x ≢ finmap.get top x)

@@ -54,7 +54,8 @@ pub no_number : (o : Option ℕ) → (IsSome o → ⊥) → o ≡ None
 no_number None lacks = refl
 no_number (Some n) lacks = absurd (lacks refl)
 
-pub absent_main : (rings : Ringed) (shelf : Shelf) (id : ℕ) → SuitsShelf rings shelf → (IsNamed rings.book id → ⊥) → finmap.get (numbers_at Main shelf) id ≡ None
+pub absent_main : (rings : Ringed) (shelf : Shelf) (id : ℕ) → SuitsShelf rings shelf
+    → (IsNamed rings.book id → ⊥) → finmap.get (numbers_at Main shelf) id ≡ None
 absent_main rings shelf id right absent = no_number (finmap.get shelf.main id) (λ some. absent ((right.names id).1 (inl some)))
 
 pub absent_top : (rings : Ringed) (shelf : Shelf) (id : ℕ) → SuitsShelf rings shelf → (IsNamed rings.book id → ⊥) → finmap.get (numbers_at Top shelf) id ≡ None

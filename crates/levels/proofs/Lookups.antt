@@ -54,7 +54,8 @@ pub record IsPlaced (at : ℕ → Option Cluster) (list : List ℕ) (found : Lis
   pub stands : at (slice_index list place) ≡ Some c
 
 -- each of the clusters stands under one of the numbers
-pub placed_of : (at : ℕ → Option Cluster) (list : List ℕ) (found : List Cluster) (c : Cluster) → AreAt at list found → Contains found c → IsPlaced at list found c
+pub placed_of : (at : ℕ → Option Cluster) (list : List ℕ) (found : List Cluster) (c : Cluster)
+    → AreAt at list found → Contains found c → IsPlaced at list found c
 placed_of at list found c are here =
     let is : slice_get found here.0 ≡ Some c = slice_get-get_or found here.0 c here.1 ∙ ap Some here.2 in
     record { place = here.0; listed = is; number = at_place list here.0 (omega (arith, are.count, here.1)); stands = are.stand here.0 c is }

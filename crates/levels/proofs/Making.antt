@@ -216,7 +216,8 @@ pub made_but_last : (w number id : ℕ) (c : Cluster) (rest : List Cluster) (las
 made_but_last w number id c rest last made staged mid old new indexed l s count p =
     let left : List Cluster = rest ++ last ∷ [] in
     let in_rest : (q : ℕ) → IsNamed rest q → IsNamed left q = λ q named. (named.0, Contains-append_left rest (last ∷ []) named.0 named.1, named.2) in
-    let in_last : (q : ℕ) → Contains last.names q → IsNamed left q = λ q here. (last, Contains-append_right rest (last ∷ []) last (Contains-head last []), here) in
+    let in_last : (q : ℕ) → Contains last.names q → IsNamed left q =
+    λ q here. (last, Contains-append_right rest (last ∷ []) last (Contains-head last []), here) in
     let kept : (q : ℕ) → (IsNamed rest q → ⊥) → q ≢ id → finmap.get (numbers_at Top new) q ≡ finmap.get (numbers_at Top old) q = λ q none other.
     p.points.others q none (none_in_empty q) ∙ p.others q other in
     shifts w staged (number ∷ []) (made ++ number ∷ []) (c ∷ []) left (id ∷ []) old new s (at_one (seen_at Top old.store.clusters) number c l.at) (record {

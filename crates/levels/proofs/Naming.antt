@@ -53,7 +53,8 @@ module _ (id number : ℕ) (main top later : Numbers) (absent_main : finmap.get 
     );
     touched = λ x. (
       λ marked is. elim ((gains.touched x).0 marked) [
-        | inl was ↦ (right.touched x).0 was (is ∙ away x (λ same. (right.touched x).0 was (ap (finmap.get main) same ∙ absent_main ∙ sym absent ∙ ap (finmap.get top) (sym same))))
+        | inl was ↦ (right.touched x).0 was
+            (is ∙ away x (λ same. (right.touched x).0 was (ap (finmap.get main) same ∙ absent_main ∙ sym absent ∙ ap (finmap.get top) (sym same))))
         | inr both ↦ none-some number (sym absent_main ∙ ap (finmap.get main) (sym both.1) ∙ is ∙ ap (finmap.get later) both.1 ∙ here)
       ],
       λ apart. elim (cases_eq x id) [
@@ -69,7 +70,8 @@ module _ (id number : ℕ) (main top later : Numbers) (absent_main : finmap.get 
     names = λ x. (
       λ named. elim ((gains.names x).0 named) [
         | inl was ↦
-            let some : IsSome (finmap.get top x) = elim ((right.names x).0 was) [ inl one ↦ ap (λ (m : Numbers). is_some (finmap.get m x)) (sym same_levels) ∙ one | inr two ↦ two ] in
+            let some : IsSome (finmap.get top x) =
+            elim ((right.names x).0 was) [ inl one ↦ ap (λ (m : Numbers). is_some (finmap.get m x)) (sym same_levels) ∙ one | inr two ↦ two ] in
             inr (ap is_some (away x (λ same. true≢false (sym some ∙ ap is_some (ap (finmap.get top) same ∙ absent)))) ∙ some)
         | inr same ↦ inr (ap is_some (ap (finmap.get later) same ∙ here))
       ],

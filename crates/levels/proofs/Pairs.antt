@@ -135,7 +135,8 @@ module _ (g : Closure) (p q : ℕ) (a b : Cluster) (t : AreBetween g p q a b) wh
     λ too. (too.2 ∙ ap (sum_by size_in_graph) (same_members too.0 too.1) ∙ size_is, too.3),
   )
 
-  pub between_row : (limits : Limits) (found : Option Refusal) → SumRefusalIs limits (length a.names + length b.names) (sizes_of a + sizes_of b) found → DepRefusalIs limits g p q found
+  pub between_row : (limits : Limits) (found : Option Refusal)
+      → SumRefusalIs limits (length a.names + length b.names) (sizes_of a + sizes_of b) found → DepRefusalIs limits g p q found
   between_row limits found row = inr (
     λ none. none t.p_live,
     inr (

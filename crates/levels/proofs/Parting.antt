@@ -97,7 +97,8 @@ module _ (w number id : ℕ) (c : Cluster) (left : List Cluster) (made : List �
       let there = subst (λ (ys : List Cluster). Exchanged staged (number ∷ []) all ys old.store.clusters new.store.clusters) is exchanged in
       let at = at_front (seen_at Top new.store.clusters) made rest number last there.top.stand in
       let some_left = subst (λ (ys : List Cluster). IsLeft w number id c ys old) is p.stays in
-      let rebuilds = made_but_last w number id c rest last made staged mid old new p.indexed some_left (shifts_by all xs there) at.count (points_left rest at) in
+      let rebuilds =
+      made_but_last w number id c rest last made staged mid old new p.indexed some_left (shifts_by all xs there) at.count (points_left rest at) in
       record {
         all = all;
         shifts = shifts_by all left exchanged;

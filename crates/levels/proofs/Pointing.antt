@@ -77,7 +77,8 @@ pub all_none : (list : List ℕ) (clusters : List Cluster) (old : Numbers) → P
 all_none list clusters old = record { pointed = λ i id c none at here. absurd (omega arith); others = λ id none. refl }
 
 -- clusters of two places have no name in common
-places_apart : (clusters : List Cluster) (i j id : ℕ) (c d : Cluster) → AllPairs AreApart clusters → i < j → slice_get clusters i ≡ Some c → slice_get clusters j ≡ Some d
+places_apart : (clusters : List Cluster) (i j id : ℕ) (c d : Cluster) → AllPairs AreApart clusters
+    → i < j → slice_get clusters i ≡ Some c → slice_get clusters j ≡ Some d
     → Contains c.names id → Contains d.names id → ⊥
 places_apart clusters i j id c d apart before one two here there =
     let first = got clusters i c one in

@@ -51,8 +51,10 @@ module _ (w id : ℕ) (fee : ℤ) (level : Level) (old new : Shelf) (before : Is
         λ absent. absurd (true≢false (sym (member-number (view_of level old) id ∙ ap is_some is) ∙ absent)),
       )
     where
-      in_a : (c a : Cluster) → seen_at level old.store.clusters number ≡ Some c → seen_at level old.store.clusters number ≡ Some a → Contains c.names id → Contains a.names id
-      in_a c a one two here = subst (λ (o : Option Cluster). (d : Cluster) → o ≡ Some d → Contains d.names id) (sym one) (λ d same. subst (λ (x : Cluster). Contains x.names id) (same_cluster c d same) here) a two
+      in_a : (c a : Cluster) → seen_at level old.store.clusters number ≡ Some c
+          → seen_at level old.store.clusters number ≡ Some a → Contains c.names id → Contains a.names id
+      in_a c a one two here = subst (λ (o : Option Cluster). (d : Cluster) → o ≡ Some d → Contains d.names id)
+          (sym one) (λ d same. subst (λ (x : Cluster). Contains x.names id) (same_cluster c d same) here) a two
         where
           same_cluster : (c d : Cluster) → Some c ≡ Some d → c ≡ d
           same_cluster c d same = same_Some c d same

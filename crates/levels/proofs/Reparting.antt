@@ -19,10 +19,12 @@ pub record Parts (id : ℕ) (rest : List Cluster) (old new : Ringed) : Type 0 wh
       ↔ ((ShareMain old x y × (x ≢ id) × (y ≢ id) × (HasName rest x → ⊥) × (HasName rest y → ⊥)) ⊎ AreNamedOnce rest x y)
   pub touched : (x : ℕ) → IsMarked new x ↔ (IsMarked old x × (x ≢ id))
 
-module _ (most number id : ℕ) (made : List ℕ) (c : Cluster) (left rest : List Cluster) (old new : View) (indexed : IsIndexed most old) (now : IsIndexed most new)
+module _ (most number id : ℕ) (made : List ℕ) (c : Cluster) (left rest : List Cluster)
+    (old new : View) (indexed : IsIndexed most old) (now : IsIndexed most new)
     (r : Rebuilds most (number ∷ []) made (c ∷ []) left (id ∷ []) old new) (exact : (x : ℕ) → HasName left x ↔ (Contains c.names x × (x ≢ id)))
     (among : (d : Cluster) → Contains rest d → Contains left d)
-    (one : (x y : ℕ) → HasName left x → (HasName rest x → ⊥) → HasName left y → (HasName rest y → ⊥) → finmap.get new.numbers x ≡ finmap.get new.numbers y) where
+    (one : (x y : ℕ) → HasName left x → (HasName rest x → ⊥) → HasName left y
+    → (HasName rest y → ⊥) → finmap.get new.numbers x ≡ finmap.get new.numbers y) where
   c_at : old.at number ≡ Some c
   c_at = r.taken.stand 0 c refl
 
@@ -45,7 +47,8 @@ module _ (most number id : ℕ) (made : List ℕ) (c : Cluster) (left rest : Lis
       (_, at.stands, r.points.pointed at.place x d at.listed held)
 
   away : (x : ℕ) → (HasName left x → ⊥) → x ≢ id → finmap.get new.numbers x ≡ finmap.get old.numbers x
-  away x none other = r.points.others x none (λ here. elim (Contains-cases id x [] here) [ inl same ↦ other (sym same) | inr nothing ↦ none_in_empty x nothing ])
+  away x none other =
+      r.points.others x none (λ here. elim (Contains-cases id x [] here) [ inl same ↦ other (sym same) | inr nothing ↦ none_in_empty x nothing ])
 
   -- clusters that are left and have a name in common are one
   one_left : (d e : Cluster) (x : ℕ) → Contains left d → Contains left e → Contains d.names x → Contains e.names x → d ≡ e
@@ -81,7 +84,8 @@ module _ (most number id : ℕ) (made : List ℕ) (c : Cluster) (left rest : Lis
     share_of x y n x_is y_is = (right.zero x y).1 (inr (n, x_is, y_is))
 
     -- names of one cluster before that stay are of one cluster, where none was cut out
-    kept_one : (x y n : ℕ) → finmap.get old.numbers x ≡ Some n → finmap.get old.numbers y ≡ Some n → x ≢ id → y ≢ id → (HasName rest x → ⊥) → (HasName rest y → ⊥)
+    kept_one : (x y n : ℕ) → finmap.get old.numbers x ≡ Some n → finmap.get old.numbers y ≡ Some n
+        → x ≢ id → y ≢ id → (HasName rest x → ⊥) → (HasName rest y → ⊥)
         → AreOfOne new.numbers x y
     kept_one x y n x_is y_is x_other y_other x_none y_none = elim (decide_named left x) [
       | inl named ↦

@@ -44,7 +44,8 @@ pub free_unseen : (level : Level) (clusters : Numbered) (number : ℕ) → finma
 free_unseen level clusters number free = ap (seen_in level) free
 
 -- what is seen in a level is stored
-pub seen_is_stored : (level : Level) (clusters : Numbered) (number : ℕ) (c : Cluster) → seen_at level clusters number ≡ Some c → stored_at clusters number ≡ Some c
+pub seen_is_stored : (level : Level) (clusters : Numbered) (number : ℕ) (c : Cluster)
+    → seen_at level clusters number ≡ Some c → stored_at clusters number ≡ Some c
 seen_is_stored level clusters number c is = from (finmap.get clusters number) is
   where
     from_tag : (b : Bool) (s : Stored) → cond b (Some s.cluster) None ≡ Some c → Some s.cluster ≡ Some c
@@ -67,7 +68,8 @@ both_seen level clusters both number = from (finmap.get clusters number) (λ s i
     from None all = refl
     from (Some s) all = ap (λ t. cond (is_in level t) (Some s.cluster) None) (all s refl) ∙ ap (λ b. cond b (Some s.cluster) None) (in_each level)
 
-pub same_seen : (level : Level) (old new : Numbered) (number : ℕ) → finmap.get new number ≡ finmap.get old number → seen_at level new number ≡ seen_at level old number
+pub same_seen : (level : Level) (old new : Numbered) (number : ℕ)
+    → finmap.get new number ≡ finmap.get old number → seen_at level new number ≡ seen_at level old number
 same_seen level old new number same = ap (seen_in level) same
 
 -- ---- the tag of what is new in the top level
@@ -86,7 +88,8 @@ both_of_new false shut = refl
 
 -- ---- a cluster leaves the top level
 
-left_top : (staged : Bool) (c : Cluster) (t : Tag) → is_in Top t ≡ true → seen_in Top (moved_to (left_of staged t) (Some (record { cluster = c; tag = t }))) ≡ None
+left_top : (staged : Bool) (c : Cluster) (t : Tag) → is_in Top t ≡ true
+    → seen_in Top (moved_to (left_of staged t) (Some (record { cluster = c; tag = t }))) ≡ None
 left_top true c Both top = refl
 left_top false c Both top = refl
 left_top staged c MainOnly top = absurd (true≢false (sym top))
@@ -130,6 +133,7 @@ module _ (staged : Bool) (old new : Numbered) (number : ℕ) (tag : Tag) (there 
   ]
 
 -- what is seen under a number in both levels is one cluster
-pub one_seen : (a b : Level) (clusters : Numbered) (number : ℕ) (c d : Cluster) → seen_at a clusters number ≡ Some c → seen_at b clusters number ≡ Some d → c ≡ d
+pub one_seen : (a b : Level) (clusters : Numbered) (number : ℕ) (c d : Cluster)
+    → seen_at a clusters number ≡ Some c → seen_at b clusters number ≡ Some d → c ≡ d
 one_seen a b clusters number c d one two =
     same_Some c d (sym (seen_is_stored a clusters number c one) ∙ seen_is_stored b clusters number d two)

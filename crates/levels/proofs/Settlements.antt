@@ -24,7 +24,8 @@ abbrev pub PartsOff : List ℕ → Ringed → Ringed → Type 0
 PartsOff names old new =
     (x y : ℕ) → ShareMain new x y ↔ ((ShareMain old x y × (Contains names x → ⊥) × (Contains names y → ⊥)) ⊎ (Contains names x × Contains names y))
 
-pub parts_later : (names : List ℕ) (old mid new : Ringed) → ((x y : ℕ) → ShareMain mid x y ↔ ShareMain old x y) → PartsOff names mid new → PartsOff names old new
+pub parts_later : (names : List ℕ) (old mid new : Ringed)
+    → ((x y : ℕ) → ShareMain mid x y ↔ ShareMain old x y) → PartsOff names mid new → PartsOff names old new
 parts_later names old mid new same parts x y = (
   λ share. elim ((parts x y).0 share) [ inl all ↦ inl ((same x y).0 all.0, all.1, all.2) | inr both ↦ inr both ],
   λ h. (parts x y).1 (elim h [ inl all ↦ inl ((same x y).1 all.0, all.1, all.2) | inr both ↦ inr both ]),

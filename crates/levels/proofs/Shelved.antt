@@ -46,7 +46,8 @@ module _ (shelf : Shelf) (none : shelf.staging ≡ None) (both : AllHave Both sh
 -- ---- a change of the top level
 
 module _ (w : ℕ) (outs made : List ℕ) (olds news : List Cluster) (gone : List ℕ) (old new : Shelf) (order : IsInOrder w old)
-    (r : TopRebuilds w outs made olds news gone old new) (both : new.staging ≡ None → AllHave Both new.store.clusters) (store : IsStore (64 * w) new.store) where
+    (r : TopRebuilds w outs made olds news gone old new)
+    (both : new.staging ≡ None → AllHave Both new.store.clusters) (store : IsStore (64 * w) new.store) where
   top_indexed : IsIndexed (64 * w) (view_of Top new)
   top_indexed = indexed_rebuilt (64 * w) outs made olds news gone (view_of Top old) (view_of Top new) order.top r.top
 
@@ -71,11 +72,13 @@ module _ (w : ℕ) (outs made : List ℕ) (olds news : List Cluster) (gone : Lis
 -- ---- the parts of a level are told by its clusters
 
 -- a cluster stands in a level where it is seen there
-pub seen_of : (level : Level) (o : Option Stored) (c : Cluster) → seen_in level o ≡ Some c → (s : Stored) × (o ≡ Some s) × (s.cluster ≡ c) × (is_in level s.tag ≡ true)
+pub seen_of : (level : Level) (o : Option Stored) (c : Cluster) → seen_in level o ≡ Some c
+    → (s : Stored) × (o ≡ Some s) × (s.cluster ≡ c) × (is_in level s.tag ≡ true)
 seen_of level None c is = absurd (none-some c is)
 seen_of level (Some s) c is = from (is_in level s.tag) refl is
   where
-    from : (b : Bool) → is_in level s.tag ≡ b → cond b (Some s.cluster) None ≡ Some c → (t : Stored) × (Some s ≡ Some t) × (t.cluster ≡ c) × (is_in level t.tag ≡ true)
+    from : (b : Bool) → is_in level s.tag ≡ b → cond b (Some s.cluster) None ≡ Some c
+        → (t : Stored) × (Some s ≡ Some t) × (t.cluster ≡ c) × (is_in level t.tag ≡ true)
     from true there e = (s, refl, same_Some s.cluster c e, there)
     from false there e = absurd (none-some c e)
 
@@ -85,7 +88,8 @@ stands_seen level clusters n c = (
   seen_of level (finmap.get clusters n) c,
 )
 
-pub same_parts : (most : ℕ) (a b : Level) (one two : Store) → IsStore most one → IsStore most two → ((n : ℕ) → seen_at a one.clusters n ≡ seen_at b two.clusters n)
+pub same_parts : (most : ℕ) (a b : Level) (one two : Store) → IsStore most one
+    → IsStore most two → ((n : ℕ) → seen_at a one.clusters n ≡ seen_at b two.clusters n)
     → parts_of_level a one ≡ parts_of_level b two
 same_parts most a b one two first second same = parts_are_told_by_clusters.parts a b one two first.ordered second.ordered (λ n c. (
   λ stands. (stands_seen b two.clusters n c).1 (sym (same n) ∙ (stands_seen a one.clusters n c).0 stands),

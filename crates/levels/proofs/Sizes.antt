@@ -10,7 +10,8 @@ use Rattle.levels.proofs.Pairs.{IsLinkedToEither, AreTogether, AreBetween, eithe
 use Rattle.levels.proofs.Arranged.{arranged, arranged_is, arranged_increasing, arranged_length}
 
 -- the names that are linked to a name are as many as its cluster has
-pub linked_count : (g : Closure) (id : ℕ) (c : Cluster) (ids : List ℕ) → IsClusterOf g id c → AreDistinct c.names → Lists (AreLinked g id) ids → length ids ≡ length c.names
+pub linked_count : (g : Closure) (id : ℕ) (c : Cluster) (ids : List ℕ) → IsClusterOf g id c
+    → AreDistinct c.names → Lists (AreLinked g id) ids → length ids ≡ length c.names
 linked_count g id c ids cluster once lists =
     ap length (Lists-same (AreLinked g id) ids (arranged c.names) lists (record {
       rising = arranged_increasing c.names once;

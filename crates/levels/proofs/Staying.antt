@@ -107,7 +107,8 @@ module _ (most : ℕ) (outs made : List ℕ) (olds news : List Cluster) (gone : 
       stays most outs made olds news gone old new indexed r n c
       (λ out. away ids id same in_ids (named_out most outs made olds news gone old new indexed r n id c out is here)) is
 
-pub rebuilt_stays : (w : ℕ) (level : Level) (outs made : List ℕ) (olds news : List Cluster) (gone : List ℕ) (old new : Shelf) → IsInOrder w old → IsInOrder w new
+pub rebuilt_stays : (w : ℕ) (level : Level) (outs made : List ℕ) (olds news : List Cluster) (gone : List ℕ) (old new : Shelf)
+    → IsInOrder w old → IsInOrder w new
     → Rebuilds (64 * w) outs made olds news gone (view_of level old) (view_of level new)
     → AreAway olds (graph_of (view_of level old)) (graph_of (view_of level new)) → LevelKeeps (one_of level old) (one_of level new)
 rebuilt_stays w level outs made olds news gone old new before after r away =

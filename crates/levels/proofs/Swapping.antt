@@ -28,7 +28,8 @@ use Rattle.levels.proofs.Standing.{indexed_at}
 
 -- ---- a level in which a cluster takes the place of another of the same names
 
-pub rebuilds_swapped : (most number : ℕ) (a c : Cluster) (old new : View) → IsIndexed most old → new.numbers ≡ old.numbers → IsCluster most c → c.names ≡ a.names
+pub rebuilds_swapped : (most number : ℕ) (a c : Cluster) (old new : View)
+    → IsIndexed most old → new.numbers ≡ old.numbers → IsCluster most c → c.names ≡ a.names
     → old.at number ≡ Some a → new.at number ≡ Some c → ((n : ℕ) → n ≢ number → new.at n ≡ old.at n)
     → Rebuilds most (number ∷ []) (number ∷ []) (a ∷ []) (c ∷ []) [] old new
 rebuilds_swapped most number a c old new indexed numbers whole names was now others =
@@ -137,7 +138,8 @@ same_numbers Top numbers s t = refl
 
 -- the cluster of one number in each level that has it
 module _ (w number : ℕ) (cluster a : Cluster) (numbers : Maps ℕ) (s t : Store) (order : IsInOrder w (shelf_of numbers s)) (whole : IsCluster (64 * w) cluster)
-    (was : stored_at s.clusters number ≡ Some a) (names : cluster.names ≡ a.names) (sets : Sets number (with_cluster cluster (finmap.get s.clusters number)) s.clusters t.clusters) where
+    (was : stored_at s.clusters number ≡ Some a) (names : cluster.names ≡ a.names)
+    (sets : Sets number (with_cluster cluster (finmap.get s.clusters number)) s.clusters t.clusters) where
   swaps : (level : Level) → Swaps w number cluster level (shelf_of numbers s) (shelf_of numbers t)
   swaps level = record {
     numbers = same_numbers level numbers s t;
@@ -208,7 +210,8 @@ two_exchanged one two c d made old new first second change =
     }
 
 -- the first of them, in a level that hasn't the second
-module _ (w one two : ℕ) (c d a : Cluster) (level : Level) (numbers : Maps ℕ) (s t : Store) (order : IsInOrder w (shelf_of numbers s)) (whole : IsCluster (64 * w) c)
+module _ (w one two : ℕ) (c d a : Cluster) (level : Level) (numbers : Maps ℕ) (s t : Store)
+    (order : IsInOrder w (shelf_of numbers s)) (whole : IsCluster (64 * w) c)
     (was : seen_at level s.clusters one ≡ Some a) (names : c.names ≡ a.names) (none : seen_at level s.clusters two ≡ None)
     (x : ExchangesTwo one two c d s.clusters t.clusters) where
   swaps_one : Swaps w one c level (shelf_of numbers s) (shelf_of numbers t)

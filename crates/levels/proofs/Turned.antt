@@ -39,7 +39,8 @@ module _ (w mains tops issued : ℕ) (old new : Shelf) (before after : Ringed) (
     few = few;
   }
 
-  pub kept_dropped : (id : ℕ) → IsSome (finmap.get (numbers_at Top old) id) → ChangesTop (λ g h. DropsPlace g h id) (levels_of old issued) (levels_of new issued)
+  pub kept_dropped : (id : ℕ) → IsSome (finmap.get (numbers_at Top old) id)
+      → ChangesTop (λ g h. DropsPlace g h id) (levels_of old issued) (levels_of new issued)
       → (staged : Bool) (main_count : ℕ) → staged ≡ is_some new.staging → main_count ≡ cond staged mains (tops - 1)
       → set.len after.book.names ≤ set.len before.book.names → after.book.issued ≡ before.book.issued
       → IsKept w new after main_count (tops - 1) issued

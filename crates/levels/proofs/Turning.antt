@@ -26,7 +26,8 @@ use Rattle.levels.proofs.Splitting.{drops}
 
 module _ (w issued : ℕ) (old new : Shelf) (before : IsInOrder w old) (after : IsInOrder w new) where
   -- the cluster of a name of a level
-  held_in : (level : Level) (id number : ℕ) (c : Cluster) → finmap.get (numbers_at level old) id ≡ Some number → seen_at level old.store.clusters number ≡ Some c
+  held_in : (level : Level) (id number : ℕ) (c : Cluster)
+      → finmap.get (numbers_at level old) id ≡ Some number → seen_at level old.store.clusters number ≡ Some c
       → Contains c.names id
   held_in level id number c is at =
       let stands = (indexed_at w old before level).stands id number is in
@@ -36,7 +37,8 @@ module _ (w issued : ℕ) (old new : Shelf) (before : IsInOrder w old) (after : 
       → TopRebuilds w [] (made ∷ []) [] (c ∷ []) [] old new → ChangesTop (λ g h. AddsName g h id rate) (levels_of old issued) (levels_of new issued)
   added_top id made rate c single absent r =
       changed w issued [] (made ∷ []) [] (c ∷ []) [] old new before after r (λ g h. AddsName g h id rate)
-      (adds_name c (graph_of (view_of Top old)) (graph_of (view_of Top new)) (rebuilt w issued [] (made ∷ []) [] (c ∷ []) [] old new before after r) id rate single
+      (adds_name c (graph_of (view_of Top old)) (graph_of (view_of Top new))
+      (rebuilt w issued [] (made ∷ []) [] (c ∷ []) [] old new before after r) id rate single
       (member-number (view_of Top old) id ∙ ap is_some absent))
 
   pub linked_top : (number parent child : ℕ) → IsLink w old parent child (Within number) → LinksOne w number parent child old new
@@ -70,7 +72,8 @@ module _ (w issued : ℕ) (old new : Shelf) (before : IsInOrder w old) (after : 
   pub joined_top : (above below parent child : ℕ) → IsLink w old parent child (Between above below) → JoinsTwo w above below parent child old new
       → ChangesTop (λ g h. AddsPair g h parent child) (levels_of old issued) (levels_of new issued)
   joined_top above below parent child link l =
-      changed w issued (l.first ∷ l.second ∷ []) (l.made ∷ []) (l.one ∷ l.other ∷ []) (l.now ∷ []) [] old new before after l.rebuilds (λ g h. AddsPair g h parent child)
+      changed w issued (l.first ∷ l.second ∷ []) (l.made ∷ []) (l.one ∷ l.other ∷ [])
+      (l.now ∷ []) [] old new before after l.rebuilds (λ g h. AddsPair g h parent child)
       (adds_joined (64 * w) parent child l.one l.other l.now (graph_of (view_of Top old)) (graph_of (view_of Top new))
       (rebuilt w issued (l.first ∷ l.second ∷ []) (l.made ∷ []) (l.one ∷ l.other ∷ []) (l.now ∷ []) [] old new before after l.rebuilds) (record {
         first = before.top.whole l.first l.one l.one_at;
@@ -106,7 +109,8 @@ module _ (w issued : ℕ) (old new : Shelf) (before : IsInOrder w old) (after : 
 
   pub fees_set : (id : ℕ) (fee : ℤ) → SetsFees w id fee old new → SetsFeeIn id fee (levels_of old issued) (levels_of new issued)
   fees_set id fee sets =
-      let numbers : numbers_at Top new ≡ numbers_at Top old = λ i. numbers_at Top (record { main = sets.numbers i; staging = sets.staging i; store = new.store }) in
+      let numbers : numbers_at Top new ≡ numbers_at Top old =
+      λ i. numbers_at Top (record { main = sets.numbers i; staging = sets.staging i; store = new.store }) in
       record {
         main = fee_of Main id fee sets.numbers sets.main;
         staged = some_levels new.staging old.staging sets.staging;

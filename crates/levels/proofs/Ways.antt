@@ -69,5 +69,6 @@ pub sum_row : (w : ℕ) (limits : Limits) (shelf : Shelf) (order : IsInOrder w s
     → SumRefusalIs limits (length a.names + length b.names) (sizes_in a + sizes_in b) found → DepRefusalIs limits (graph_of (view_of Top shelf)) p q found
 sum_row w limits shelf order p q above below a b found p_is q_is apart one two row =
     between_row (graph_of (view_of Top shelf)) p q a b
-    (between w shelf order p q above below a b p_is q_is apart (seen_there w shelf order Top p above p_is a one) (seen_there w shelf order Top q below q_is b two))
+    (between w shelf order p q above below a b p_is q_is apart
+    (seen_there w shelf order Top p above p_is a one) (seen_there w shelf order Top q below q_is b two))
     limits found row

@@ -17,7 +17,8 @@ JoinsTooMany limits graph parent child n = (members : List ℕ) × JoinsTo graph
 
 -- its total size is larger than may be
 abbrev pub JoinsTooLarge : Limits → Closure → ℕ → ℕ → ℕ → Type 0
-JoinsTooLarge limits graph parent child n = (members : List ℕ) × JoinsTo graph parent child members × (n ≡ sum_by (λ id. (rate_of graph id).size) members) × (limits.size < n)
+JoinsTooLarge limits graph parent child n =
+    (members : List ℕ) × JoinsTo graph parent child members × (n ≡ sum_by (λ id. (rate_of graph id).size) members) × (limits.size < n)
 
 -- the refusal that a pair meets
 abbrev pub DepRefusalIs : Limits → Closure → ℕ → ℕ → Option Refusal → Type 0

@@ -20,7 +20,8 @@ IsLink w shelf parent child (Within number) =
     × (is_ancestor (graph_of (view_of Top shelf)) parent child ≡ false) × (is_ancestor (graph_of (view_of Top shelf)) child parent ≡ false)
 IsLink w shelf parent child (Between above below) =
     (finmap.get (numbers_at Top shelf) parent ≡ Some above) × (finmap.get (numbers_at Top shelf) child ≡ Some below) × (above ≢ below)
-    × ((a b : Cluster) → seen_at Top shelf.store.clusters above ≡ Some a → seen_at Top shelf.store.clusters below ≡ Some b → length a.names + length b.names ≤ 64 * w)
+    × ((a b : Cluster) → seen_at Top shelf.store.clusters above ≡ Some a
+    → seen_at Top shelf.store.clusters below ≡ Some b → length a.names + length b.names ≤ 64 * w)
 
 -- how two names of one cluster stand
 abbrev pub IsWithin : Cluster → ℕ → ℕ → ℕ → Result Link Refusal → Type 0

@@ -33,7 +33,8 @@ loop-i-preserved g c =
     subst (λ (xs : List ℕ). PointsOne number xs (top_of c.loop-i.numbers) (top_of c.point.new.numbers)) c.names.ensures.names c.point.ensures.points in
     record {
       points = λ found are apart. all_more c.loop-i.i c.args.list.now found (top_of c.args.numbers.now) (top_of c.loop-i.numbers) (top_of c.point.new.numbers)
-          c.at.result.now (c.loop-i.invariant.points found are apart) apart (got_here at c.args.list.now found c.loop-i.i c.at.result.now are low c.at.ensures) points;
+          c.at.result.now (c.loop-i.invariant.points found are apart) apart
+          (got_here at c.args.list.now found c.loop-i.i c.at.result.now are low c.at.ensures) points;
       staged = c.point.ensures.staged ∙ c.loop-i.invariant.staged;
       base = base_more c.args.numbers.now c.loop-i.numbers c.point.new.numbers c.loop-i.invariant.staged c.loop-i.invariant.base c.point.ensures.base;
       room = λ found are few.

@@ -11,7 +11,8 @@ use Rattle.levels.proofs.stored.come_in.Goals as goal
 pub returns-then-gives_number-clause-comes : goal.returns-then-gives_number-clause-comes
 returns-then-gives_number-clause-comes g c =
     let old = c.args.store.now.clusters in
-    comes_same c.args.staged old c.exchange.new.self.clusters c.args.number c.tag_of.result c.args.cluster (in_top old c.args.number c.requires.there) c.tag_of.ensures
+    comes_same c.args.staged old c.exchange.new.self.clusters c.args.number c.tag_of.result c.args.cluster
+    (in_top old c.args.number c.requires.there) c.tag_of.ensures
     (λ opened both. true≢false (sym c.if-gives_number.true ∙ c.gives_number.ensures.1 (opened, both))) c.requires.both c.in_ok-exchange.ensures.exchanged
 
 pub returns-then-gives_number-clause-at : goal.returns-then-gives_number-clause-at
@@ -21,7 +22,8 @@ returns-then-gives_number-clause-at g c =
 pub make_move-requires : goal.make_move-requires
 make_move-requires g c =
     let added = c.in_ok-made.ensures.added in
-    let there = still_there c.args.store.now.clusters c.add.new.self.clusters c.args.number c.in_ok-made.made (Some c.new.result) c.requires.there added.0 added.1 in
+    let there =
+    still_there c.args.store.now.clusters c.add.new.self.clusters c.args.number c.in_ok-made.made (Some c.new.result) c.requires.there added.0 added.1 in
     (omega arith, there)
 
 pub returns-clause-comes : goal.returns-clause-comes

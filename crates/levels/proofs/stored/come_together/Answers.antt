@@ -6,7 +6,8 @@ use Rattle.levels.proofs.stored.come_together.Goals as goal
 pub leave-requires : goal.leave-requires
 leave-requires g c =
     let comes = c.in_ok-made.ensures.comes in
-    let there = second_there c.args.staged c.args.store.now.clusters c.come_in.new.store.clusters c.come_in.new.store.clusters c.args.first c.args.second c.in_ok-made.made c.args.joined
+    let there = second_there c.args.staged c.args.store.now.clusters c.come_in.new.store.clusters
+    c.come_in.new.store.clusters c.args.first c.args.second c.in_ok-made.made c.args.joined
     c.requires.apart c.requires.second comes in
     (omega arith, (there, comes.both))
 

@@ -24,7 +24,8 @@ add_name-requires g c =
           (
             c.self.invariant.right,
             (
-              absent_named g.row.W c.self.inside.mains c.self.inside.tops c.self.inside.issued old rings c.self.invariant c.args.self.now c.self.view_is c.args.id
+              absent_named g.row.W c.self.inside.mains c.self.inside.tops c.self.inside.issued
+                  old rings c.self.invariant c.args.self.now c.self.view_is c.args.id
                   c.requires.absent,
               (
                 subst (λ (fee : ℤ). IsRate (record { fee = fee; size = c.args.size })) (sym (to_z-of_z w64 c.args.fee c.ranges.fee)) c.requires.rate,

@@ -21,7 +21,8 @@ compare-requires g c = (
 pub returns-clause-rates : goal.returns-clause-rates
 returns-clause-rates g c level =
     subst (λ (l : OneLevel). (id : ℕ) → is_member l.graph id ≡ true → IsRate (rate_of l.graph id))
-    (sym (level_is g.row.W c.self.inside.issued c.self.inside.shelves c.args.self.now c.self.invariant.order c.self.view_is level)) (rated g.row.W c.self.inside.shelves c.self.invariant.order level)
+    (sym (level_is g.row.W c.self.inside.issued c.self.inside.shelves c.args.self.now c.self.invariant.order c.self.view_is level))
+    (rated g.row.W c.self.inside.shelves c.self.invariant.order level)
 
 pub returns-clause-verdict : goal.returns-clause-verdict
 returns-clause-verdict g c =

@@ -18,7 +18,8 @@ pub returns-in_err-link-clause-row : goal.returns-in_err-link-clause-row
 returns-in_err-link-clause-row g c =
     let same = graph_is g.row.W c.self.inside.issued c.self.inside.shelves c.args.self.now c.self.invariant.order c.self.view_is Top in
     subst (λ (h : Closure). RowIs c.args.limits.now h c.args.parent c.args.child c.from_residual.result) (sym same)
-    (row_refused c.args.limits.now _ c.args.parent c.args.child c.from_residual.result c.in_err-link.field-0.0 c.from_residual.ensures.1 c.in_err-link.ensures.row)
+    (row_refused c.args.limits.now _ c.args.parent c.args.child c.from_residual.result
+    c.in_err-link.field-0.0 c.from_residual.ensures.1 c.in_err-link.ensures.row)
 
 pub returns-in_err-link-clause-picks : goal.returns-in_err-link-clause-picks
 returns-in_err-link-clause-picks g c =
@@ -27,7 +28,8 @@ returns-in_err-link-clause-picks g c =
 pub invariant_of-self : goal.invariant_of-self
 invariant_of-self g c =
     let done = c.connect.ensures in
-    kept_on g.row.W c.self.inside.mains c.self.inside.tops c.self.inside.issued c.self.inside.shelves c.connect.new.shelves c.self.inside.rings c.connect.new.rings
+    kept_on g.row.W c.self.inside.mains c.self.inside.tops c.self.inside.issued
+    c.self.inside.shelves c.connect.new.shelves c.self.inside.rings c.connect.new.rings
     c.self.invariant c.connect.result done.order done.right done.staged c.args.parent c.args.child done.linked done.names done.err
 
 pub returns-clause-row : goal.returns-clause-row
@@ -79,4 +81,5 @@ returns-clause-steps g c ids lists =
     c.connect.ensures.steps ids (subst (λ (h : Closure). Lists (λ q. AreLinked h q c.args.parent ⊎ AreLinked h q c.args.child) ids) same lists)
 
 pub connect-requires : goal.connect-requires
-connect-requires g c = (omega arith, (work_fits g.row.W c.self.invariant.order.narrow, (c.self.invariant.order, (c.self.invariant.right, c.in_ok-link.ensures.link))))
+connect-requires g c =
+    (omega arith, (work_fits g.row.W c.self.invariant.order.narrow, (c.self.invariant.order, (c.self.invariant.right, c.in_ok-link.ensures.link))))

@@ -14,11 +14,15 @@ returns-in-Some g c =
     let clusters = c.self.inside.shelves.store.clusters in
     let same : at.0 ≡ c.at.result.now =
     same_Some at.0 c.at.result.now (sym (seen_is_stored c.args.level clusters number at.0 at.1) ∙ c.at.ensures) in (
-      member_is g.row.W c.self.inside.issued c.self.inside.shelves c.args.self.now c.self.invariant.order c.self.view_is c.args.level c.args.id ∙ ap is_some (sym c.in-Some.ensures.number),
+      member_is g.row.W c.self.inside.issued c.self.inside.shelves c.args.self.now c.self.invariant.order c.self.view_is c.args.level c.args.id
+          ∙ ap is_some (sym c.in-Some.ensures.number),
       subst (λ (k : Cluster). IsClusterOf (level_at c.args.self.now c.args.level).graph c.args.id k) same
-          (cluster_is g.row.W c.self.inside.issued c.self.inside.shelves c.args.self.now c.self.invariant.order c.self.view_is c.args.level number c.args.id at.0 at.1 at.2),
-      subst (λ (k : Cluster). IsCluster (64 * g.row.W) k) same (whole_at g.row.W c.self.inside.issued c.self.inside.shelves c.args.self.now c.self.invariant.order c.self.view_is c.args.level number at.0 at.1),
+          (cluster_is g.row.W c.self.inside.issued c.self.inside.shelves c.args.self.now
+          c.self.invariant.order c.self.view_is c.args.level number c.args.id at.0 at.1 at.2),
+      subst (λ (k : Cluster). IsCluster (64 * g.row.W) k) same
+          (whole_at g.row.W c.self.inside.issued c.self.inside.shelves c.args.self.now c.self.invariant.order c.self.view_is c.args.level number at.0 at.1),
     )
 
 pub returns-in-None : goal.returns-in-None
-returns-in-None g c = member_is g.row.W c.self.inside.issued c.self.inside.shelves c.args.self.now c.self.invariant.order c.self.view_is c.args.level c.args.id ∙ ap is_some (sym c.in-None.ensures.number)
+returns-in-None g c = member_is g.row.W c.self.inside.issued c.self.inside.shelves c.args.self.now c.self.invariant.order c.self.view_is c.args.level c.args.id
+    ∙ ap is_some (sym c.in-None.ensures.number)

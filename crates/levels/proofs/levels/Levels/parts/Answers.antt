@@ -25,7 +25,8 @@ parts-requires g c =
 pub returns-clause-parts : goal.returns-clause-parts
 returns-clause-parts g c =
     c.parts.ensures.parts
-    ∙ ap (λ (l : OneLevel). l.parts) (sym (level_is g.row.W c.self.inside.issued c.self.inside.shelves c.args.self.now c.self.invariant.order c.self.view_is c.args.level))
+    ∙ ap (λ (l : OneLevel). l.parts)
+    (sym (level_is g.row.W c.self.inside.issued c.self.inside.shelves c.args.self.now c.self.invariant.order c.self.view_is c.args.level))
 
 pub returns-clause-best : goal.returns-clause-best
 returns-clause-best g c =

@@ -52,18 +52,21 @@ module _ (g : given.Over) (c : goal.After-drop-branch g) where
 
   main_at : ExchangedAt g.row.W c.args.main c.args.new_main Main old new
   main_at =
-      exchanged_one g.row.W c.args.main c.args.top c.args.new_main c.args.new_top c.requires.main.0 Main c.self.inside.numbers c.self.inside.store c.change.new.self
+      exchanged_one g.row.W c.args.main c.args.top c.args.new_main c.args.new_top
+      c.requires.main.0 Main c.self.inside.numbers c.self.inside.store c.change.new.self
       c.self.invariant c.requires.whole_main (see Main c.args.main ∙ c.requires.main.1) c.requires.main.3 (see Main c.args.top ∙ c.requires.top.2) two
 
   top_at : ExchangedAt g.row.W c.args.top c.args.new_top Top old new
   top_at =
-      exchanged_one g.row.W c.args.top c.args.main c.args.new_top c.args.new_main c.requires.top.0 Top c.self.inside.numbers c.self.inside.store c.change.new.self
+      exchanged_one g.row.W c.args.top c.args.main c.args.new_top c.args.new_main
+      c.requires.top.0 Top c.self.inside.numbers c.self.inside.store c.change.new.self
       c.self.invariant c.requires.whole_top (see Top c.args.top ∙ c.requires.top.1) c.requires.top.3 (see Top c.args.main ∙ c.requires.main.2)
       (two_turned c.args.main c.args.top c.args.new_main c.args.new_top old.store.clusters new.store.clusters two)
 
   main_indexed : IsIndexed (64 * g.row.W) (view_of Main new)
   main_indexed =
-      indexed_one g.row.W c.args.main c.args.top c.args.new_main c.args.new_top c.requires.main.0 Main c.self.inside.numbers c.self.inside.store c.change.new.self
+      indexed_one g.row.W c.args.main c.args.top c.args.new_main c.args.new_top
+      c.requires.main.0 Main c.self.inside.numbers c.self.inside.store c.change.new.self
       c.self.invariant c.requires.whole_main (see Main c.args.main ∙ c.requires.main.1) c.requires.main.3 (see Main c.args.top ∙ c.requires.top.2) two
 
   top_indexed : IsIndexed (64 * g.row.W) (view_of Top new)

@@ -47,7 +47,8 @@ split_at-requires g c =
     let front = names_seen c.self.inside.store.clusters c.args.first there.0 c.at.result.now c.names-behind.result.now (see ∙ there.2) c.at.ensures
     c.names-behind.ensures.names in
     let all : c.names-2.result.now ≡ there.0.names ++ there.1.names =
-    c.names-2.ensures.names ∙ ap (λ (x : Cluster). x.names) (same_Some c.at-2.result.now c.args.joined (sym c.at-2.ensures ∙ c.in_ok-made.ensures.at)) ∙ there.4 in
+    c.names-2.ensures.names
+    ∙ ap (λ (x : Cluster). x.names) (same_Some c.at-2.result.now c.args.joined (sym c.at-2.ensures ∙ c.in_ok-made.ensures.at)) ∙ there.4 in
     elim c.if-made-first.branch [
       | then-made-first w ↦ omega (arith, w.from-is, ap length front, ap length all, length-append there.0.names there.1.names)
       | else-made-first w ↦ omega (arith, w.from-is)
@@ -144,14 +145,16 @@ names-behind-requires g c = cluster_fits g.row.W c.self.invariant.narrow
 
 pub invariant_of-self : goal.invariant_of-self
 invariant_of-self g c =
-    subst₂ (λ (base : Numbers) (top : Option Numbers). IsInOrder g.row.W (record { main = base; staging = top; store = c.self.inside.store })) (sym c.reserve.ensures.base)
+    subst₂ (λ (base : Numbers) (top : Option Numbers). IsInOrder g.row.W (record { main = base; staging = top; store = c.self.inside.store }))
+    (sym c.reserve.ensures.base)
     (sym c.reserve.ensures.top) c.self.invariant
 
 pub invariant_of-self-in_err-made : goal.invariant_of-self-in_err-made
 invariant_of-self-in_err-made g c =
     subst (λ (store : Store). IsInOrder g.row.W (record { main = c.reserve.new.self.base; staging = c.reserve.new.self.top; store = store }))
     (sym c.in_err-made.ensures.err) (
-    subst₂ (λ (base : Numbers) (top : Option Numbers). IsInOrder g.row.W (record { main = base; staging = top; store = c.self.inside.store })) (sym c.reserve.ensures.base)
+    subst₂ (λ (base : Numbers) (top : Option Numbers). IsInOrder g.row.W (record { main = base; staging = top; store = c.self.inside.store }))
+    (sym c.reserve.ensures.base)
     (sym c.reserve.ensures.top) c.self.invariant)
 
 pub drop-requires : goal.drop-requires
@@ -159,5 +162,6 @@ drop-requires g c κs = ((cluster_fits g.row.W c.self.invariant.narrow, tt), sea
 
 pub returns-in-Err-clause-order : goal.returns-in-Err-clause-order
 returns-in-Err-clause-order g c =
-    subst₂ (λ (base : Numbers) (top : Option Numbers). IsInOrder g.row.W (record { main = base; staging = top; store = c.self.inside.store })) (sym c.reserve.ensures.base)
+    subst₂ (λ (base : Numbers) (top : Option Numbers). IsInOrder g.row.W (record { main = base; staging = top; store = c.self.inside.store }))
+    (sym c.reserve.ensures.base)
     (sym c.reserve.ensures.top) c.self.invariant

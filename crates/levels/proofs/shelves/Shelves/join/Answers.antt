@@ -24,27 +24,31 @@ own_first-first-requires g c =
 pub at-one-requires : goal.at-one-requires
 at-one-requires g c =
     let narrow : g.row.W ≤ 2 = c.requires.order.narrow in
-    let both = turned_there g.row.W c.args.self.now c.requires.order c.args.parent c.args.child c.args.above c.args.below c.own_first-first.result.0 c.own_first-first.result.1
+    let both = turned_there g.row.W c.args.self.now c.requires.order c.args.parent c.args.child
+    c.args.above c.args.below c.own_first-first.result.0 c.own_first-first.result.1
     c.requires.link c.own_first-first.ensures in
     (omega arith, (cluster_fits g.row.W narrow, both.0))
 
 pub at-other-requires : goal.at-other-requires
 at-other-requires g c =
     let narrow : g.row.W ≤ 2 = c.requires.order.narrow in
-    let both = turned_there g.row.W c.args.self.now c.requires.order c.args.parent c.args.child c.args.above c.args.below c.own_first-first.result.0 c.own_first-first.result.1
+    let both = turned_there g.row.W c.args.self.now c.requires.order c.args.parent c.args.child
+    c.args.above c.args.below c.own_first-first.result.0 c.own_first-first.result.1
     c.requires.link c.own_first-first.ensures in
     (omega arith, (cluster_fits g.row.W narrow, both.1))
 
 pub joined-requires : goal.joined-requires
 joined-requires g c =
     let narrow : g.row.W ≤ 2 = c.requires.order.narrow in
-    let is = sides g.row.W c.args.self.now c.requires.order c.args.parent c.args.child c.args.above c.args.below c.own_first-first.result.0 c.own_first-first.result.1
+    let is = sides g.row.W c.args.self.now c.requires.order c.args.parent c.args.child
+    c.args.above c.args.below c.own_first-first.result.0 c.own_first-first.result.1
     c.at-one.result.now c.at-other.result.now c.requires.link c.own_first-first.ensures c.at-one.ensures c.at-other.ensures in
     (cluster_fits g.row.W narrow, (work_fits g.row.W narrow, (is.few, (is.alone, is.across))))
 
 pub returns-in_err-joined-clause-steps : goal.returns-in_err-joined-clause-steps
 returns-in_err-joined-clause-steps g c ids lists =
-    let is = sides g.row.W c.args.self.now c.requires.order c.args.parent c.args.child c.args.above c.args.below c.own_first-first.result.0 c.own_first-first.result.1
+    let is = sides g.row.W c.args.self.now c.requires.order c.args.parent c.args.child
+    c.args.above c.args.below c.own_first-first.result.0 c.own_first-first.result.1
     c.at-one.result.now c.at-other.result.now c.requires.link c.own_first-first.ensures c.at-one.ensures c.at-other.ensures in
     count_between g.row.W c.args.self.now c.requires.order c.args.parent c.args.child c.own_first-first.result.0 c.own_first-first.result.1
     c.at-one.result.now c.at-other.result.now ids is lists c.joined.ensures.steps
@@ -52,7 +56,8 @@ returns-in_err-joined-clause-steps g c ids lists =
 pub fuse-requires : goal.fuse-requires
 fuse-requires g c =
     let narrow : g.row.W ≤ 2 = c.requires.order.narrow in
-    let is = sides g.row.W c.args.self.now c.requires.order c.args.parent c.args.child c.args.above c.args.below c.own_first-first.result.0 c.own_first-first.result.1
+    let is = sides g.row.W c.args.self.now c.requires.order c.args.parent c.args.child
+    c.args.above c.args.below c.own_first-first.result.0 c.own_first-first.result.1
     c.at-one.result.now c.at-other.result.now c.requires.link c.own_first-first.ensures c.at-one.ensures c.at-other.ensures in (
       omega arith,
       (
@@ -66,7 +71,8 @@ fuse-requires g c =
 
 pub returns-clause-joined : goal.returns-clause-joined
 returns-clause-joined g c =
-    let is = sides g.row.W c.args.self.now c.requires.order c.args.parent c.args.child c.args.above c.args.below c.own_first-first.result.0 c.own_first-first.result.1
+    let is = sides g.row.W c.args.self.now c.requires.order c.args.parent c.args.child
+    c.args.above c.args.below c.own_first-first.result.0 c.own_first-first.result.1
     c.at-one.result.now c.at-other.result.now c.requires.link c.own_first-first.ensures c.at-one.ensures c.at-other.ensures in
     on_ok_weaker c.fuse.result
     (joins_two g.row.W c.args.above c.args.below c.args.parent c.args.child c.own_first-first.result.0 c.own_first-first.result.1
@@ -76,7 +82,8 @@ returns-clause-joined g c =
 
 pub returns-clause-steps : goal.returns-clause-steps
 returns-clause-steps g c ids lists =
-    let is = sides g.row.W c.args.self.now c.requires.order c.args.parent c.args.child c.args.above c.args.below c.own_first-first.result.0 c.own_first-first.result.1
+    let is = sides g.row.W c.args.self.now c.requires.order c.args.parent c.args.child
+    c.args.above c.args.below c.own_first-first.result.0 c.own_first-first.result.1
     c.at-one.result.now c.at-other.result.now c.requires.link c.own_first-first.ensures c.at-one.ensures c.at-other.ensures in
     count_between g.row.W c.args.self.now c.requires.order c.args.parent c.args.child c.own_first-first.result.0 c.own_first-first.result.1
     c.at-one.result.now c.at-other.result.now ids is lists c.joined.ensures.steps

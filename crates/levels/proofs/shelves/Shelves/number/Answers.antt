@@ -13,7 +13,8 @@ pub returns-clause-stands : goal.returns-clause-stands
 returns-clause-stands g c =
     let old = shelf_of c.self.inside.numbers c.self.inside.store in
     let told = numbers_told c.args.level c.self.inside.numbers c.self.inside.store in
-    subst (λ (s : Shelf). IfSome c.number_of.result (λ number. (e : Cluster) × (seen_at c.args.level s.store.clusters number ≡ Some e) × Contains e.names c.args.id))
+    subst (λ (s : Shelf).
+    IfSome c.number_of.result (λ number. (e : Cluster) × (seen_at c.args.level s.store.clusters number ≡ Some e) × Contains e.names c.args.id))
     c.self.view_is
     (stands_under g.row.W c.args.level old c.args.id c.number_of.result c.self.invariant
     (c.number_of.ensures ∙ ap (λ (m : Numbers). finmap.get m c.args.id) told))

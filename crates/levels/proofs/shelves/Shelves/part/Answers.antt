@@ -22,5 +22,6 @@ part-requires g c =
     let stands = c.requires.there.1 in
     let is : seen_at Main old c.args.place.0 ≡ Some stands.0 = (stands_seen Main old c.args.place.0 stands.0).0 stands.1 in
     let at = seen_there Main old c.args.place c.requires.there.0 c.at.result.now c.requires.there.1 c.at.ensures in
-    let part = subst (λ (d : Cluster). slice_get d.parts c.args.place.1 ≡ Some c.requires.there.0) (same_Some stands.0 c.at.result.now (sym is ∙ at)) stands.2 in
+    let part =
+    subst (λ (d : Cluster). slice_get d.parts c.args.place.1 ≡ Some c.requires.there.0) (same_Some stands.0 c.at.result.now (sym is ∙ at)) stands.2 in
     (cluster_fits g.row.W c.requires.order.narrow, slice_get_within c.at.result.now.parts c.args.place.1 c.requires.there.0 part)

@@ -118,7 +118,8 @@ pub returns-in-Some-None-clause-steps : goal.returns-in-Some-None-clause-steps
 returns-in-Some-None-clause-steps g c =
     let only = only_main g.row.W c.in-Some-None.main c.args.id c.args.self.now c.requires.order c.number.result c.number-2.result
     c.number.ensures.number c.number-2.ensures.number c.in-Some-None.is-0 (inl c.in-Some-None.is-1) in
-    only_counted g.row.W c.in-Some-None.main c.args.id c.args.self.now only c.args.steps.now c.set_one-in-Some-None.new.steps c.set_one-in-Some-None.ensures.steps
+    only_counted g.row.W c.in-Some-None.main c.args.id c.args.self.now only c.args.steps.now
+    c.set_one-in-Some-None.new.steps c.set_one-in-Some-None.ensures.steps
 
 pub set_one-requires-in-None-Some : goal.set_one-requires-in-None-Some
 set_one-requires-in-None-Some g c =
@@ -156,7 +157,8 @@ pub returns-in-None-Some-clause-steps : goal.returns-in-None-Some-clause-steps
 returns-in-None-Some-clause-steps g c =
     let only = only_top g.row.W c.in-None-Some.top c.args.id c.args.self.now c.requires.order c.number.result c.number-2.result
     c.number.ensures.number c.number-2.ensures.number c.in-None-Some.is-0 c.in-None-Some.is-1 in
-    only_counted g.row.W c.in-None-Some.top c.args.id c.args.self.now only c.args.steps.now c.set_one-in-None-Some.new.steps c.set_one-in-None-Some.ensures.steps
+    only_counted g.row.W c.in-None-Some.top c.args.id c.args.self.now only c.args.steps.now
+    c.set_one-in-None-Some.new.steps c.set_one-in-None-Some.ensures.steps
 
 pub set_both-requires : goal.set_both-requires
 set_both-requires g c =

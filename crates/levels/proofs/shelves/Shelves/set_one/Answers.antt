@@ -26,12 +26,14 @@ returns-clause-fees g c =
     c.exchange_shared.result (record {
       at = c.at-cluster.ensures;
       names = c.in_ok-changed.ensures.names;
-      sets = subst (λ (z : ℤ). SetsFee c.at-cluster.result.now.graph c.in_ok-changed.changed.graph c.args.id z) (to_z-of_z w64 c.args.fee c.ranges.fee) c.in_ok-changed.ensures.graph;
+      sets = subst (λ (z : ℤ). SetsFee c.at-cluster.result.now.graph c.in_ok-changed.changed.graph c.args.id z)
+          (to_z-of_z w64 c.args.fee c.ranges.fee) c.in_ok-changed.ensures.graph;
     }) c.exchange_shared.ensures.levels c.exchange_shared.ensures.numbers
 
 pub returns-clause-still : goal.returns-clause-still
 returns-clause-still g c same =
-    absurd (c.if-rate-fee.false (same_bits c.rate.result c.at-cluster.result.now c.args.id c.args.fee c.rate.ensures (same c.at-cluster.result.now c.at-cluster.ensures)))
+    absurd (c.if-rate-fee.false
+    (same_bits c.rate.result c.at-cluster.result.now c.args.id c.args.fee c.rate.ensures (same c.at-cluster.result.now c.at-cluster.ensures)))
 
 pub rate-requires : goal.rate-requires
 rate-requires g c =

@@ -21,7 +21,8 @@ point_all-requires g c =
     let old = c.self.inside.store.clusters in
     let new = c.put_apart.new.store.clusters in
     let list = c.as_slice-2.result.now in
-    let comes = subst (λ (xs : List ℕ). ComesApart c.staged-staged.result c.args.number xs left old new) (sym c.as_slice-2.ensures.value) c.in_ok-made.ensures.comes in
+    let comes =
+    subst (λ (xs : List ℕ). ComesApart c.staged-staged.result c.args.number xs left old new) (sym c.as_slice-2.ensures.value) c.in_ok-made.ensures.comes in
     let others = others_of c.staged-staged.result c.args.number list left old new comes in
     let made : names_in left + 1 ≤ c.make_room.new.numbers.spare =
     subst (λ (cs : List Cluster). names_in cs + 1 ≤ c.make_room.new.numbers.spare) c.as_slice.ensures.value c.in_ok-make_room.ensures.room in
