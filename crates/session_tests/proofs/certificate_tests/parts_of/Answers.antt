@@ -19,7 +19,8 @@ loop-claim-preserved g c =
       λ part flow here there.
           elim (Contains-push_cases c.loop-claim.parts.items new part (subst (λ l. Contains l part) items here)) [
             | inl old ↦ c.loop-claim.invariant.1 part flow old there
-            | inr same ↦ All-contains (λ (f : Flow). 1 ≤ f.amount) new.flows flow c.in_ok-part_of.ensures.some (subst (λ (p : Part). Contains p.flows flow) (sym same) there)
+            | inr same ↦ All-contains (λ (f : Flow). 1 ≤ f.amount) new.flows flow c.in_ok-part_of.ensures.some
+                (subst (λ (p : Part). Contains p.flows flow) (sym same) there)
           ],
       omega (arith, ap (sum_by (λ (p : Part). amount_of p.flows)) items ∙ sum_by_push (λ (p : Part). amount_of p.flows) c.loop-claim.parts.items new, c.in_ok-part_of.ensures.small, c.loop-claim.invariant.2),
     )
