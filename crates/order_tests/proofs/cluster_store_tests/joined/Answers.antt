@@ -25,7 +25,8 @@ joined-requires g c =
           omega (arith, long, wide),
           (
             λ x here there.
-                other (only parent x (subst (λ (xs : List ℕ). Contains xs x) first here) ∙ sym (only child x (subst (λ (xs : List ℕ). Contains xs x) second there))),
+                other (only parent x (subst (λ (xs : List ℕ). Contains xs x) first here)
+                ∙ sym (only child x (subst (λ (xs : List ℕ). Contains xs x) second there))),
             inl (alone_in parent c.args.old.now.names first, alone_in child c.args.one.now.names second),
           ),
         ),

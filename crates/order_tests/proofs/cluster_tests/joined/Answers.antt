@@ -29,7 +29,8 @@ joined-requires g c =
         (
           omega (arith, long, own),
           (
-            λ x here other. true≢false (sym (c.has.ensures.1 (subst (λ (y : ℕ). Contains c.args.old.now.names y) (sym (only c.args.pair.1 x (subst (λ (xs : List ℕ). Contains xs x) names other))) here)) ∙ absent),
+            λ x here other. true≢false (sym (c.has.ensures.1 (subst (λ (y : ℕ). Contains c.args.old.now.names y)
+                (sym (only c.args.pair.1 x (subst (λ (xs : List ℕ). Contains xs x) names other))) here)) ∙ absent),
             inl (c.has-2.ensures.0 there, subst (λ (xs : List ℕ). Contains xs c.args.pair.1) (sym names) (Contains-head c.args.pair.1 [])),
           ),
         ),

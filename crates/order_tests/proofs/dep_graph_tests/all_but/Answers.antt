@@ -10,4 +10,5 @@ pub returns : goal.returns
 returns c p e =
     sym (contains-members_of c.args.graph.now p)
     ∙ (and_parts (not (nat_eq p c.args.place)) (fin.contains (members_of c.args.graph.now) p)
-    (sym (ap (λ s. fin.contains s p) (c.remove.ensures ∙ ap (λ s. fin.remove s c.args.place) c.members-rest.ensures.members) ∙ contains-remove (members_of c.args.graph.now) c.args.place p) ∙ e)).1
+    (sym (ap (λ s. fin.contains s p) (c.remove.ensures ∙ ap (λ s. fin.remove s c.args.place) c.members-rest.ensures.members)
+    ∙ contains-remove (members_of c.args.graph.now) c.args.place p) ∙ e)).1

@@ -10,4 +10,5 @@ pub returns : goal.returns
 returns c p e =
     sym (contains-members_of c.args.graph.now p)
     ∙ (and_parts (fin.contains (members_of c.args.graph.now) p) (fin.contains c.args.set.now p)
-    (sym (ap (λ s. fin.contains s p) (c.meet.ensures ∙ ap (λ s. fin.intersection s c.args.set.now) c.members.ensures.members) ∙ contains-intersection (members_of c.args.graph.now) c.args.set.now p) ∙ e)).0
+    (sym (ap (λ s. fin.contains s p) (c.meet.ensures ∙ ap (λ s. fin.intersection s c.args.set.now) c.members.ensures.members)
+    ∙ contains-intersection (members_of c.args.graph.now) c.args.set.now p) ∙ e)).0
