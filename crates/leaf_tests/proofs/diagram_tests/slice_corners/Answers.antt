@@ -14,4 +14,5 @@ corners-requires-clause-level c =
 pub returns-clause-corners : goal.returns-clause-corners
 returns-clause-corners c segments joins =
     let road = YieldsList-from_copied (YieldsList-at c.copied.ensures.source (YieldsList-from_slice c.args.parts.now c.iter.ensures.rest)) in
-    c.corners.ensures.corners (map rate_of c.args.parts.now) segments (record { yields = always_viewed (copies fronts) rate_of c.copied.result c.args.parts.now road.runs; level = c.requires }) joins
+    c.corners.ensures.corners (map rate_of c.args.parts.now) segments
+    (record { yields = always_viewed (copies fronts) rate_of c.copied.result c.args.parts.now road.runs; level = c.requires }) joins

@@ -83,7 +83,8 @@ loop-at-smaller c =
 pub loop-at-preserved : goal.loop-at-preserved
 loop-at-preserved c =
     let kept = c.loop-at.invariant in
-    let first = c.args.book.now in let book = c.loop-at.book in let new = c.remove.new.self in let r = c.args.r in let id = c.args.id in let at = c.loop-at.at in
+    let first = c.args.book.now in let book = c.loop-at.book in let new =
+    c.remove.new.self in let r = c.args.r in let id = c.args.id in let at = c.loop-at.at in
     let names = c.remove.ensures.names in let loses = c.remove.ensures.rings r c.requires.r_in_range in
     let on : after book r at ≢ at = λ e. c.if-after-at.false (c.next-after.ensures ∙ e) in
     rw c.next-after.ensures (record {
