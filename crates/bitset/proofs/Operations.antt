@@ -1,10 +1,10 @@
 -- Each operation on words is the operation on the sets that they stand for.
-use Rattle.std.proofs.Common.{◌≡◌, ℕ, suc, ◌+◌, ◌-◌, ◌*◌, ◌/◌, ◌%◌, ◌^◌, ◌<◌, ◌≤◌, Bool, true, false, not, ◌&&◌, ◌||◌, ◌≢◌, nat_eq, nat_lt, List}
+use Rattle.std.proofs.Common.{◌≡◌, ℕ, suc, ◌+◌, ◌-◌, ◌*◌, ◌/◌, ◌%◌, ◌^◌, ◌<◌, ◌≤◌, Bool, true, false, not, ◌&&◌, ◌||◌, ◌≢◌, nat_eq, nat_lt, List, cond}
 use Rattle.std.proofs.Common.{length, set, replicate, bit_and, bit_or, slice_index, inl, inr, refl, sym, ap, ap₂, ◌∙◌, arith, w64, lt-ltb}
 use Rattle.std.proofs.Common.{le-ltb, eq-eqb, ne_eqb, length-set, true≢false, below_more, lt_of_le_of_lt}
 use Rattle.std.proofs.lemmas.Bool.{cases_lt, cases_eq, false_from_ne_true, and_parts}
-use Rattle.std.proofs.lemmas.List.{get_or_past, get_or-set_same, get_or-set_other, get_or-replicate, length-replicate}
-use Rattle.std.proofs.lemmas.Nat.{leading_top, one_shl, pow_below, or_lt, and_le_l}
+use Rattle.std.proofs.lemmas.List.{set-get_or, get_or_past, get_or-set_same, get_or-set_other, get_or-replicate, length-replicate}
+use Rattle.std.proofs.lemmas.Nat.{leading_top, one_shl, pow_below, or_comm, or_lt, and_le_l}
 use Rattle.std.proofs.lemmas.Nat.Bits.{bit_at-pow_same, bit_at-pow_other, shr_and_one, bit_at_ones, bit_at_above, bit_at_cat_high, bit_at_ones_above, bit_at-trailing_zeros}
 use Rattle.std.specs.Int.{bit_at, leading_zeros, trailing_zeros}
 use Rattle.std.specs.Ordering.{nat_cmp}
@@ -15,6 +15,7 @@ use Rattle.bitset.specs.Places.{first_places, IsWithin, IsLeast}
 use Rattle.bitset.specs.Words.{is_set, is_place, members_of, AreWords}
 use Rattle.bitset.specs.OneBit.{is_set-zero, is_set-and, is_set-or, is_set-not, same_from_set}
 use Rattle.bitset.specs.Sets.{contains-empty, contains-insert, contains-remove, contains-union, contains-intersection, contains-difference, contains-first_places}
+use Rattle.bitset.specs.Members.{insert_here, insert_other, remove_here, remove_other}
 use Rattle.bitset.specs.WordSets.{is_place-past, is_place-at, contains-members_of, members_from}
 
 -- the place q by its word and its bit
@@ -108,6 +109,28 @@ remove_is words p h = members_from _ _ (written words p _ (λ q. fin.contains (f
     ∙ ap (λ b. not (nat_eq (64 * (p / 64) + k) p) && b) (sym (contains-members_of words (64 * (p / 64) + k)))
     ∙ sym (contains-remove (members_of words) p (64 * (p / 64) + k)))
     (λ q other. sym (contains-remove (members_of words) p q ∙ ap₂ (λ a b. not a && b) (elsewhere p q other) (contains-members_of words q))))
+
+-- the bit of a place that isn't there is written as told
+pub bit_is : (b : Bool) (n : ℕ) (words : List ℕ) (p : ℕ) → p < 64 * length words → (b ≡ true → n ≡ 1) → (b ≡ false → n ≡ 0)
+    → members_of (set words (p / 64) (bit_or (slice_index words (p / 64)) (n * 2 ^ (p % 64) % 2 ^ 64)))
+    ≡ cond b (fin.insert (members_of words) p) (members_of words)
+bit_is true n words p h one none = rw (one refl) (insert_is words p h)
+bit_is false n words p h one none = ap members_of (ap (set words (p / 64)) same ∙ set-get_or words (p / 64) 0)
+  where
+    zero_bit : n * 2 ^ (p % 64) % 2 ^ 64 ≡ 0
+    zero_bit = rw (none refl) (omega arith)
+    same : bit_or (slice_index words (p / 64)) (n * 2 ^ (p % 64) % 2 ^ 64) ≡ slice_index words (p / 64)
+    same = ap (bit_or (slice_index words (p / 64))) zero_bit ∙ or_comm (slice_index words (p / 64)) 0
+
+pub written_here : (b : Bool) (s : fin.FinSet nat_cmp) (p : ℕ)
+    → fin.contains (cond b (fin.insert (fin.remove s p) p) (fin.remove s p)) p ≡ b
+written_here true s p = insert_here (fin.remove s p) p
+written_here false s p = remove_here s p
+
+pub written_other : (b : Bool) (s : fin.FinSet nat_cmp) (p q : ℕ) → (q ≡ p → ⊥)
+    → fin.contains (cond b (fin.insert (fin.remove s p) p) (fin.remove s p)) q ≡ fin.contains s q
+written_other true s p q ne = insert_other (fin.remove s p) p q ne ∙ remove_other s p q ne
+written_other false s p q ne = remove_other s p q ne
 
 pub has_is : (words : List ℕ) (p : ℕ) → nat_eq (bit_and (slice_index words (p / 64) / 2 ^ (p % 64)) 1) 1 ≡ fin.contains (members_of words) p
 has_is words p = ap (λ n. nat_eq n 1) (shr_and_one (slice_index words (p / 64)) (p % 64)) ∙ sym (contains-members_of words p)

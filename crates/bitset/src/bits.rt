@@ -74,6 +74,16 @@ impl<const W: usize> Bits<W> {
         self.words[place / WORD] &= !(1 << (place % WORD));
     }
 
+    /// Puts a place below 64·W into the set, or takes it out: whichever it is, at the same cost.
+    pub fn set(&mut self, place: usize, there: bool)
+        requires { place < 64 * W }
+        ensures here { set.contains self.new place ≡ there }
+        ensures others { (p : ℕ) → (p ≡ place → ⊥) → set.contains self.new p ≡ set.contains self.old p }
+    {
+        self.remove(place);
+        self.words[place / WORD] |= u64::from(there) << (place % WORD);
+    }
+
     /// Whether a place below 64·W is in the set.
     pub fn has(&self, place: usize) -> bool
         requires { place < 64 * W }

@@ -170,11 +170,7 @@ fn marked<const W: usize>(mut senders: Bits<W>, child: usize, amount: u128) -> B
     ensures none { amount ≡ 0 → set.contains result child ≡ false }
     ensures some { 0 < amount → set.contains result child ≡ true }
 {
-    if amount == 0 {
-        senders.remove(child);
-    } else {
-        senders.insert(child);
-    }
+    senders.set(child, amount != 0);
     senders
 }
 
@@ -185,11 +181,7 @@ fn marked_over<const W: usize>(mut over: Bits<W>, place: usize, left: i128) -> B
     ensures sound { set.contains result place ≡ true → IsOver left }
     ensures complete { IsOver left → set.contains result place ≡ true }
 {
-    if left > 0 {
-        over.insert(place);
-    } else {
-        over.remove(place);
-    }
+    over.set(place, left > 0);
     over
 }
 
@@ -200,10 +192,6 @@ fn marked_short<const W: usize>(mut short: Bits<W>, place: usize, left: i128) ->
     ensures sound { set.contains result place ≡ true → IsShort left }
     ensures complete { IsShort left → set.contains result place ≡ true }
 {
-    if left < 0 {
-        short.insert(place);
-    } else {
-        short.remove(place);
-    }
+    short.set(place, left < 0);
     short
 }
