@@ -119,6 +119,7 @@ bit_is false n words p h one none = ap members_of (ap (set words (p / 64)) same 
   where
     zero_bit : n * 2 ^ (p % 64) % 2 ^ 64 ≡ 0
     zero_bit = rw (none refl) (omega arith)
+
     same : bit_or (slice_index words (p / 64)) (n * 2 ^ (p % 64) % 2 ^ 64) ≡ slice_index words (p / 64)
     same = ap (bit_or (slice_index words (p / 64))) zero_bit ∙ or_comm (slice_index words (p / 64)) 0
 

@@ -13,7 +13,7 @@ pub returns-clause-here : goal.returns-clause-here
 returns-clause-here g c =
     let inside : c.args.place < 64 * length c.self.inside.words = omega (arith, c.self.told, c.requires) in
     let is = bit_is c.args.there c.from.result c.self.inside.words c.args.place inside
-        (λ e. rw (c.from.ensures, e) refl) (λ e. rw (c.from.ensures, e) refl) in
+    (λ e. rw (c.from.ensures, e) refl) (λ e. rw (c.from.ensures, e) refl) in
     ap (λ s. fin.contains s c.args.place) is
     ∙ ap (λ s. fin.contains (cond c.args.there (fin.insert s c.args.place) s) c.args.place) (c.self.view_is ∙ c.remove.ensures)
     ∙ written_here c.args.there c.args.self.now c.args.place
@@ -22,7 +22,7 @@ pub returns-clause-others : goal.returns-clause-others
 returns-clause-others g c q ne =
     let inside : c.args.place < 64 * length c.self.inside.words = omega (arith, c.self.told, c.requires) in
     let is = bit_is c.args.there c.from.result c.self.inside.words c.args.place inside
-        (λ e. rw (c.from.ensures, e) refl) (λ e. rw (c.from.ensures, e) refl) in
+    (λ e. rw (c.from.ensures, e) refl) (λ e. rw (c.from.ensures, e) refl) in
     ap (λ s. fin.contains s q) is
     ∙ ap (λ s. fin.contains (cond c.args.there (fin.insert s c.args.place) s) q) (c.self.view_is ∙ c.remove.ensures)
     ∙ written_other c.args.there c.args.self.now c.args.place q ne
