@@ -8,9 +8,11 @@
 mod draft;
 mod fit;
 mod linear;
+mod near;
 mod part;
 mod split;
 
 pub use draft::{LinearPart, PlaceFlow};
 pub use fit::{has_rates, is_component};
 pub use linear::{Linear, optimal};
+pub use near::optimal_near;
