@@ -25,6 +25,7 @@ use Rattle.linearize.specs.Graphs.{HasRates, IsComponent, sum_at}
 use Rattle.linearize.specs.Drafts.{placed}
 use Rattle.linearize.specs.Minimal.{AreMinimal}
 use Rattle.linearize.specs.Orders.{sums_in}
+use Rattle.linearize.specs.Near.{AreParts}
 use Rattle.linearize.specs.Splits.{IsUpperIn, Linearizes}
 use Rattle.linearize.proofs.Lists.{sum_any_order, total_any_order}
 use Rattle.linearize.proofs.Sets.{len_remove}
@@ -62,6 +63,9 @@ sums_of_list n dep xs below once =
     sum_any_order (λ p. (sum_at dep p).size) n xs (fin.from_list xs) below once exact in
     λ i. record { fee = fee i; size = size i }
 
+pub as_parts : (n : ℕ) (dep : Closure) (s : fin.FinSet nat_cmp) (parts : List Part) → Linearizes n dep s parts → AreParts n dep s parts
+as_parts n dep s parts l = record { order = l.order; filled = l.filled; falling = l.falling; flows = l.flows; uncut = l.uncut }
+
 module _ (n : ℕ) (dep : Closure) (graph : model.Graph) (closed : IsClosed n dep) (stands : IsClosureOf dep graph) where
   walk_linked : (vs : List ℕ) (a b : ℕ) → IsWalk (IsNear dep (members_of dep)) a vs b → IsWalk (IsRelated dep) a vs b
   walk_linked [] a b w = w
@@ -70,7 +74,7 @@ module _ (n : ℕ) (dep : Closure) (graph : model.Graph) (closed : IsClosed n de
   pub has_sizes : HasRates dep → HasSizes (sum_at dep) graph.names
   has_sizes rates p h = (rates p ((stands.names p).0 h)).some
 
-  module _ (parts : List Part) (component : IsComponent dep) (linear : Linearizes n dep (members_of dep) parts) where
+  module _ (parts : List Part) (component : IsComponent dep) (linear : AreParts n dep (members_of dep) parts) where
     in_part : (ps : List Part) (part : Part) (p : ℕ) → Contains ps part → Contains part.ids p → Contains (placed ps) p
     in_part [] part p h k = absurd (none_in_empty part h)
     in_part (x ∷ ps) part p h k = elim (Contains-cases x part ps h) [

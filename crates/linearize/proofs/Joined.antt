@@ -52,7 +52,7 @@ splits_at (a ∷ xs) x h = elim (Contains-cases a x xs h) [
   | inr later ↦ let found = splits_at xs x later in (a ∷ found.0, found.1, ap (λ zs. a ∷ zs) found.2)
 ]
 
-either_part : (P : Part → Type 0) (xs ys : List Part) → ((q : Part) → Contains xs q → P q) → ((q : Part) → Contains ys q → P q) → (q : Part)
+pub either_part : (P : Part → Type 0) (xs ys : List Part) → ((q : Part) → Contains xs q → P q) → ((q : Part) → Contains ys q → P q) → (q : Part)
     → Contains (xs ++ ys) q → P q
 either_part P xs ys f g q h = elim (Contains-append_cases xs ys q h) [ inl left ↦ f q left | inr right ↦ g q right ]
 

@@ -3,10 +3,12 @@ mod Certified
 mod Chains
 mod Cuts
 mod DraftLemmas
+mod Falling
 mod Final
 mod FlowLists
 mod Joined
 mod Lists
+mod Nexts
 mod Orders
 mod Parts
 mod Places
@@ -14,4 +16,5 @@ mod Sets
 mod Sizes
 mod Solves
 mod Totals
+mod Trials
 mod Triangles

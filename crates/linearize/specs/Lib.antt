@@ -1,6 +1,7 @@
 pub mod Drafts
 pub mod Graphs
 pub mod Minimal
+pub mod Near
 pub mod Orders
 pub mod Splits
 pub mod Steps

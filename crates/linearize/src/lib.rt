@@ -7,6 +7,7 @@
 
 mod draft;
 mod fit;
+mod guess;
 mod linear;
 mod near;
 mod part;

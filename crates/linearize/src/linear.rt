@@ -12,6 +12,7 @@ ghost use Rattle.linearize.specs.Orders.{AreCovers};
 ghost use Rattle.linearize.specs.Steps.{AreOfSolves};
 
 use crate::draft::{Draft, LinearPart, PlaceFlow};
+use crate::guess::Group;
 use crate::split::split;
 use bitset::Bits;
 use closure_flow::Scratch;
@@ -27,15 +28,17 @@ use step_count::{Ledger, Steps};
 /// It has room for 64·W places, as many parts and 1,024·W² flows, all taken when it is made.
 #[derive(Drop)]
 pub struct Linear<const W: usize> {
-    draft: Draft<W>,
+    pub(crate) draft: Draft<W>,
     // the covering parents of each place, and its weight in the set that was solved last
-    parents: Vec<Bits<W>>,
-    weights: Vec<i128>,
+    pub(crate) parents: Vec<Bits<W>>,
+    pub(crate) weights: Vec<i128>,
+    // what may be the parts
+    pub(crate) groups: Vec<Group<W>>,
 }
 
 // Clauses see the parts, each with its fee and size, its places and its flows.
 impl<const W: usize> Model for Linear<W> {
-    ghost use Rattle.std.specs.Prelude.{◌≡◌, ◌*◌, ◌^◌, ◌<◌, ◌≤◌, List, [], vec_len};
+    ghost use Rattle.std.specs.Prelude.{◌≡◌, ◌*◌, ◌^◌, ◌<◌, ◌≤◌, List, [], vec_capacity, vec_len};
     ghost use Rattle.graphs.specs.Certificates.{Part};
 
     ghost Value = { List Part };
@@ -47,7 +50,8 @@ impl<const W: usize> Model for Linear<W> {
         × (l.draft.flows ≡ [])
         × (64 * W ≤ vec_len l.parents)
         × (64 * W ≤ vec_len l.weights)
-        × (64 * W < 2 ^ 32) };
+        × (64 * W < 2 ^ 32)
+        × (64 * W ≤ vec_capacity l.groups) };
 }
 
 impl<const W: usize> Linear<W> {
@@ -61,6 +65,7 @@ impl<const W: usize> Linear<W> {
             draft,
             parents: vec![in alloc; Bits::empty(); places]?,
             weights: vec![in alloc; 0; places]?,
+            groups: Vec::with_capacity(alloc, places)?,
         })
     }
 
@@ -138,8 +143,8 @@ pub fn optimal<L: Ledger, const W: usize>(
     certified_parts_are_optimal();
 }
 
-// Keeps the covering parents of each member.
-fn link<const W: usize>(dep: &DepGraph<W>, parents: &mut [Bits<W>])
+/// Keeps the covering parents of each member.
+pub(crate) fn link<const W: usize>(dep: &DepGraph<W>, parents: &mut [Bits<W>])
     requires narrow { 64 * W < 2 ^ 32 }
     requires room { 64 * W ≤ length parents.old }
     ensures { AreCovers dep.now parents.new }

@@ -1,4 +1,4 @@
-ghost use Rattle.std.specs.Prelude.{◌≡◌, ℕ, ◌+◌, ◌*◌, ◌^◌, ◌<◌, ◌≤◌, map};
+ghost use Rattle.std.specs.Prelude.{◌≡◌, ℕ, ◌+◌, ◌*◌, ◌^◌, ◌<◌, ◌≤◌, true, [], length, map};
 ghost use Rattle.std.specs.FinSet as set;
 ghost use Rattle.graphs.specs.Closing.{IsClosureOf};
 ghost use Rattle.graphs.specs.Closures.{members_of};
@@ -6,11 +6,22 @@ ghost use Rattle.graphs.specs.Graphs as model;
 ghost use Rattle.graphs.specs.Certificates.{IsCertificate};
 ghost use Rattle.graphs.specs.Linearizations.{IsOptimal};
 ghost use Rattle.linearize.specs.Graphs.{HasRates, IsComponent, most_members, sum_at};
+ghost use Rattle.fee_rate.specs.Rates.{AtMost};
+ghost use Rattle.graphs.specs.Rates.{Falls};
+ghost use Rattle.linearize.specs.Graphs.{sum_from};
 ghost use Rattle.linearize.specs.Minimal.{AreMinimal};
+ghost use Rattle.linearize.specs.Near.{AreParts, ComesNext, most_tried};
+ghost use Rattle.linearize.specs.Splits.{IsReady};
 
-use crate::linear::{Linear, optimal};
+use crate::draft::{Draft, LinearPart};
+use crate::guess::{Group, arrange};
+use crate::linear::{Linear, link, optimal};
+use crate::split::best;
+use bitset::Bits;
 use closure_flow::Scratch;
 use dep_graph::DepGraph;
+use fee_rate::FeeRate;
+use graphs::certified_parts_are_optimal;
 use step_count::{Ledger, Steps};
 
 /// As [`optimal`], where an order is at hand that may be near to an optimal one, as that before a change is. What is handed
@@ -43,6 +54,111 @@ pub fn optimal_near<L: Ledger, const W: usize>(
     ensures steps_least { steps.old + set.len (members_of dep.now) ≤ steps.new }
     ensures steps_most { steps.new ≤ steps.old + 2 * (set.len (members_of dep.now) + 2) ^ 5 }
 {
-    let _guess = guess;
-    optimal(scratch, dep, out, steps);
+    let members = dep.members();
+    let parents = out.parents.as_mut_slice();
+    let weights = out.weights.as_mut_slice();
+    out.draft.clear();
+    link(dep, parents);
+    arrange(dep, &members, guess, &mut out.groups);
+    let groups = out.groups.as_slice();
+    if are_parts(
+        scratch,
+        dep,
+        parents,
+        weights,
+        &members,
+        groups,
+        &mut out.draft,
+        steps,
+    ) {
+        certified_parts_are_optimal();
+    } else {
+        optimal(scratch, dep, out, steps);
+    }
+}
+
+// Writes groups as the parts of the members, one after the other, and tells whether they are: a part each, and all together
+// an order.
+fn are_parts<L: Ledger, const W: usize>(
+    scratch: &mut Scratch<W>,
+    dep: &DepGraph<W>,
+    parents: &[Bits<W>],
+    weights: &mut [i128],
+    members: &Bits<W>,
+    groups: &[Group<W>],
+    draft: &mut Draft<W>,
+    steps: &mut Steps<L>,
+) -> bool
+    requires narrow { 64 * W < 2 ^ 32 }
+    requires ready { IsReady (64 * W) dep.now parents.now members.now draft.old }
+    requires empty { draft.old ≡ record { parts = []; ids = []; flows = [] } }
+    requires weights { 64 * W ≤ length weights.old }
+    ensures open { (draft.new.ids ≡ []) × (draft.new.flows ≡ []) }
+    ensures parts { result ≡ true → AreParts (64 * W) dep.now members.now draft.new.parts }
+    ensures least { result ≡ true → steps.old + set.len members.now ≤ steps.new }
+    ensures grew { steps.old ≤ steps.new }
+    ensures most { steps.new ≤ steps.old + most_tried (set.len members.now) * set.len members.now }
+{
+    let mut done = Bits::empty();
+    for group in groups {
+        if !comes_next(parents, &group.places, &done, members) {
+            return false;
+        }
+        if best(scratch, dep, parents, weights, &group.places, draft, steps).is_some() {
+            return false;
+        }
+        done = done.union(&group.places);
+    }
+    members.is_subset(&done) && fall(draft.parts())
+}
+
+// Whether some members may come behind others in an order: they are at least one, none of the others, and their parents are
+// among them and the others.
+fn comes_next<const W: usize>(
+    parents: &[Bits<W>],
+    group: &Bits<W>,
+    done: &Bits<W>,
+    members: &Bits<W>,
+) -> bool
+    requires there { (t : ℕ) → set.contains members.now t ≡ true → t < length parents.now }
+    ensures { result ≡ true → ComesNext parents.now members.now done.now group.now }
+{
+    if group.least().is_none() || !group.is_subset(&members.minus(done)) {
+        return false;
+    }
+    let known = done.union(group);
+    let mut left = *group;
+    while let Some(place) = left.least() {
+        left.remove(place);
+        if !parents[place].is_subset(&known) {
+            return false;
+        }
+    }
+    true
+}
+
+// Whether no part has a higher rate than the one before it.
+fn fall(parts: &[LinearPart]) -> bool
+    ensures { result ≡ true → Falls (map (λ part. sum_from part.rate) parts.now) }
+{
+    let mut at = 1;
+    while at < parts.len() {
+        if !is_at_most(parts[at].rate, parts[at - 1].rate) {
+            return false;
+        }
+        at += 1;
+    }
+    true
+}
+
+// Whether a rate is no higher than another, by exact products.
+fn is_at_most(a: FeeRate, b: FeeRate) -> bool
+    ensures { result ≡ true → AtMost (sum_from a) (sum_from b) }
+{
+    let own = i128::from(a.fee).checked_mul(i128::from(b.size));
+    let other = i128::from(b.fee).checked_mul(i128::from(a.size));
+    match (own, other) {
+        (Some(own), Some(other)) => own <= other,
+        _ => false,
+    }
 }

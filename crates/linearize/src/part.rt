@@ -59,8 +59,8 @@ fn put_places<const W: usize>(dep: &DepGraph<W>, within: &Bits<W>, draft: &mut D
     }
 }
 
-// A place of a set that has no other ancestor in it, from one of its places upward.
-fn top<const W: usize>(dep: &DepGraph<W>, left: &Bits<W>, from: usize) -> usize
+/// A place of a set that has no other ancestor in it, from one of its places upward.
+pub(crate) fn top<const W: usize>(dep: &DepGraph<W>, left: &Bits<W>, from: usize) -> usize
     requires narrow { 64 * W < 2 ^ 32 }
     requires closed { IsClosed (64 * W) dep.now }
     requires members { HoldsMembers dep.now left.now }

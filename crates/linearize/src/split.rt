@@ -44,8 +44,8 @@ pub(crate) fn split<L: Ledger, const W: usize>(
     }
 }
 
-// Writes a set as one part where it can't be cut. Else it answers what to cut it on.
-fn best<L: Ledger, const W: usize>(
+/// Writes a set as one part where it can't be cut. Else it answers what to cut it on.
+pub(crate) fn best<L: Ledger, const W: usize>(
     scratch: &mut Scratch<W>,
     dep: &DepGraph<W>,
     parents: &[Bits<W>],

@@ -11,7 +11,7 @@ use Rattle.linearize.specs.Graphs.{sum_at}
 use Rattle.linearize.specs.Minimal.{AreMinimal}
 use Rattle.linearize.specs.Splits.{Adds}
 use Rattle.linearize.specs.Steps.{AreOfSolves}
-use Rattle.linearize.proofs.Final.{certificate, has_sizes, minimal}
+use Rattle.linearize.proofs.Final.{as_parts, certificate, has_sizes, minimal}
 use Rattle.linearize.proofs.Joined.{start_room}
 use Rattle.graphs.proofs.ClosureGraphs.{closures_have_graphs}
 use Rattle.linearize.proofs.Sizes.{words_fit, scratch_fits}
@@ -67,7 +67,7 @@ returns-clause-certificate g c = λ graph stands.
     subst (λ s. Adds n dep s c.clear.new.self c.split.new.draft) c.members-members.ensures.members c.split.ensures.adds in
     let parts : c.split.new.draft.parts ≡ adds.parts = ap (λ (w : Written). w.parts) adds.is ∙ ap (λ (w : Written). w.parts ++ adds.parts) c.clear.ensures in
     subst (λ (ps : List Part). IsCertificate (sum_at dep) graph (model.IsCover graph.pairs) ps) (sym parts)
-    (certificate n dep graph c.members-members.ensures.closed stands adds.parts c.requires.component adds.linear))
+    (certificate n dep graph c.members-members.ensures.closed stands adds.parts c.requires.component (as_parts n dep (members_of dep) adds.parts adds.linear)))
 
 pub returns-clause-optimal : goal.returns-clause-optimal
 returns-clause-optimal g c = λ graph stands.
@@ -79,7 +79,7 @@ returns-clause-optimal g c = λ graph stands.
     subst (λ (ps : List Part). IsOptimal (sum_at dep) graph (map (λ part. part.ids) ps)) (sym parts)
     (c.certified_parts_are_optimal.ensures.by_covers (sum_at dep) graph adds.parts
     (has_sizes n dep graph c.members-members.ensures.closed stands c.requires.rates)
-    (certificate n dep graph c.members-members.ensures.closed stands adds.parts c.requires.component adds.linear)))
+    (certificate n dep graph c.members-members.ensures.closed stands adds.parts c.requires.component (as_parts n dep (members_of dep) adds.parts adds.linear))))
 
 pub returns-clause-minimal : goal.returns-clause-minimal
 returns-clause-minimal g c = λ graph stands.
@@ -89,7 +89,7 @@ returns-clause-minimal g c = λ graph stands.
     subst (λ s. Adds n dep s c.clear.new.self c.split.new.draft) c.members-members.ensures.members c.split.ensures.adds in
     let parts : c.split.new.draft.parts ≡ adds.parts = ap (λ (w : Written). w.parts) adds.is ∙ ap (λ (w : Written). w.parts ++ adds.parts) c.clear.ensures in
     subst (λ (ps : List Part). AreMinimal (sum_at dep) graph.pairs ps) (sym parts)
-    (minimal n dep graph c.members-members.ensures.closed stands adds.parts c.requires.component adds.linear))
+    (minimal n dep graph c.members-members.ensures.closed stands adds.parts c.requires.component (as_parts n dep (members_of dep) adds.parts adds.linear)))
 
 pub returns-clause-solves : goal.returns-clause-solves
 returns-clause-solves g c = subst (λ s. AreOfSolves (fin.len s) c.args.steps.now c.split.new.steps) c.members-members.ensures.members c.split.ensures.solves

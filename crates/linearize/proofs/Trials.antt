@@ -1,0 +1,279 @@
+-- Sets that come one after the other, each written as certified parts: what was written so far.
+use Rattle.std.proofs.Common.{◌≡◌, ◌≢◌, ℕ, ◌+◌, ◌*◌, ◌^◌, ◌≤◌, inl, inr, true, List, [], ◌++◌, length, map, refl, sym, ap, ◌∙◌, subst, arith}
+use Rattle.std.proofs.Common.{length-append}
+use Rattle.std.proofs.lemmas.Bool.{cases_Bool, false_from_ne_true}
+use Rattle.std.proofs.lemmas.List.Concat.{flat_map-append}
+use Rattle.std.proofs.lemmas.List.Elements.{Contains-append_left, Contains-append_right, Contains-append_cases}
+use Rattle.std.proofs.Math.Nat.{mul-le-mul, mul-le-mul_left, mul-le-mul_right, pow-le-pow_left, pow-suc}
+use Rattle.std.specs.Prelude.{Contains}
+use Rattle.std.specs.Ordering.{nat_cmp}
+use Rattle.std.specs.FinSet as fin
+use Rattle.bitset.specs.Members.{from_union, to_union_left, to_union_right, len_bound}
+use Rattle.bitset.specs.Places.{IsWithin}
+use Rattle.graphs.proofs.BestLemmas.{stands-append_right, stands-append_left, stands_across}
+use Rattle.graphs.specs.Closures.{Closure, IsCover, IsClosed, HoldsMembers}
+use Rattle.graphs.specs.Certificates.{Part, Certifies}
+use Rattle.graphs.specs.Rates.{sums, Falls}
+use Rattle.closure_flow.specs.Bounds.{most_steps}
+use Rattle.bitset.specs.Sets.{contains-empty, same_members}
+use Rattle.lists.proofs.Cases.{clash}
+use Rattle.lists.proofs.Entries.{none_in_empty}
+use Rattle.lists.proofs.Distinct.{distinct_joined}
+use Rattle.linearize.specs.declared.draft.LinearPart.{LinearPart}
+use Rattle.linearize.specs.Drafts.{AreShown, Written, placed, flows_in}
+use Rattle.linearize.specs.Graphs.{sum_at, sum_from, most_members}
+use Rattle.linearize.specs.Near.{AreParts, ComesNext, most_tried}
+use Rattle.linearize.specs.Orders.{AreCovers, IsOrderOf}
+use Rattle.linearize.specs.Splits.{Adds, HasRoom, IsUncutPart}
+use Rattle.linearize.specs.Steps.{AreOfOne}
+use Rattle.linearize.proofs.Joined.{either_part}
+use Rattle.linearize.proofs.Nexts.{inside}
+use Rattle.linearize.proofs.Sets.{split_union, len_split, len_within}
+
+-- a solve of b places of m, and the search behind it, takes at most so many steps for each of the b
+trial_steps : (b m : ℕ) → 1 ≤ b → b ≤ m → most_steps b + b * b ≤ most_tried m * b
+trial_steps b m some low =
+    let fourth = pow-suc (b + 2) 3 in
+    let third = pow-suc (b + 2) 2 in
+    let two : 2 ≤ b + 2 = omega arith in
+    let base : b + 2 ≤ m + 2 = omega (arith, low) in
+    let square : 2 ^ 2 ≤ (b + 2) ^ 2 = pow-le-pow_left two 2 in
+    let cube : (2 ^ 2) * (b + 2) ≤ (b + 2) ^ 2 * (b + 2) = mul-le-mul_right (b + 2) square in
+    let more : (b + 2) ^ 3 ≤ (m + 2) ^ 3 = pow-le-pow_left base 3 in
+    sums_up b ((b + 2) ^ 3) ((b + 2) ^ 4) ((m + 2) ^ 3) fourth (omega (arith, third, cube))
+    (mul-le-mul_right b more) some
+  where
+    sums_up : (b x z y : ℕ) → z ≡ x * (b + 2) → b + 3 ≤ x → x * b ≤ y * b → 1 ≤ b → z + (b + 2) + b * b ≤ 4 * y * b
+    sums_up b x z y fourth cube more some =
+        let one : x * (b + 2) ≤ x * (3 * b) = mul-le-mul_left x (omega (arith, some)) in
+        let two : (b + 3) * b ≤ x * b = mul-le-mul_right b cube in
+        omega (arith, fourth, one, two, more, some)
+
+-- the parts of some members, with each covering parent of them, and the steps that they took
+pub record Stands (n : ℕ) (dep : Closure) (members done : fin.FinSet nat_cmp) (draft : Written) (before now : ℕ) : Type 0 where
+  pub ids : draft.ids ≡ []
+  pub flows : draft.flows ≡ []
+  pub inside : (p : ℕ) → fin.contains done p ≡ true → fin.contains members p ≡ true
+  pub upper : (p c : ℕ) → IsCover dep p c → fin.contains done c ≡ true → fin.contains done p ≡ true
+  pub order : IsOrderOf dep done (placed draft.parts)
+  pub filled : (part : Part) → Contains draft.parts part → part.ids ≢ []
+  pub summed : (part : Part) → Contains draft.parts part → part.rate ≡ sums (sum_at dep) part.ids
+  pub certified : (part : Part) → Contains draft.parts part → Certifies (sum_at dep) (IsCover dep) part.ids part.flows
+  pub uncut : (part : Part) → Contains draft.parts part → IsUncutPart n dep part
+  pub places : length (placed draft.parts) ≡ fin.len done
+  pub few : length draft.parts ≤ fin.len done
+  pub few_flows : 4 * length (flows_in draft.parts) ≤ fin.len done * fin.len done
+  pub least : before + fin.len done ≤ now
+  pub most : now ≤ before + most_tried (fin.len members) * fin.len done
+
+spent : (before now later most a b c : ℕ) → c ≡ a + b → now ≤ before + most * a → later ≤ now + most * b → later ≤ before + most * c
+spent before now later most a b c lens old new = omega (arith, ap (λ (k : ℕ). most * k) lens, old, new)
+
+-- nothing was written so far
+pub stands_none : (n : ℕ) (dep : Closure) (members done : fin.FinSet nat_cmp) (draft : Written) (k : ℕ) → done ≡ fin.empty
+    → draft ≡ record { parts = []; ids = []; flows = [] } → Stands n dep members done draft k k
+stands_none n dep members done draft k none empty =
+    subst (λ d. Stands n dep members d draft k k) (sym none) (subst (λ w. Stands n dep members fin.empty w k k) (sym empty) start)
+  where
+    no : (p : ℕ) → fin.contains {R = nat_cmp} fin.empty p ≡ true → ⊥
+    no p m = clash _ m (contains-empty p)
+
+    zero_ : fin.len {R = nat_cmp} fin.empty ≡ 0
+    zero_ = fin.len-empty nat_cmp
+
+    start : Stands n dep members fin.empty (record { parts = []; ids = []; flows = [] }) k k
+    start = record {
+      ids = refl;
+      flows = refl;
+      inside = λ p m. absurd (no p m);
+      upper = λ p c cover m. absurd (no c m);
+      order = record {
+        once = tt;
+        exact = λ p. (λ h. absurd (none_in_empty p h), λ m. absurd (no p m));
+        parents_first = λ p c cover m k_in. absurd (no p m);
+      };
+      filled = λ part h. absurd (none_in_empty part h);
+      summed = λ part h. absurd (none_in_empty part h);
+      certified = λ part h. absurd (none_in_empty part h);
+      uncut = λ part h. absurd (none_in_empty part h);
+      places = sym zero_;
+      few = omega arith;
+      few_flows = omega arith;
+      least = omega (arith, zero_);
+      most = omega arith;
+    }
+
+module _ (n : ℕ) (dep : Closure) (parents : List (fin.FinSet nat_cmp)) (members done group : fin.FinSet nat_cmp) (closed : IsClosed n dep)
+    (held : HoldsMembers dep members) (covers : AreCovers dep parents) (next : ComesNext parents members done group) where
+  all : fin.FinSet nat_cmp
+  all = fin.union done group
+
+  apart : (k : ℕ) → fin.contains done k ≡ true → fin.contains group k ≡ true → ⊥
+  apart k a b = next.apart k b a
+
+  module _ (old : Written) (before now : ℕ) (stands : Stands n dep members done old before now) where
+    within : IsWithin n (fin.union done group)
+    within k m = closed.within k (held k (elim (from_union done group k m) [ inl a ↦ stands.inside k a | inr b ↦ next.inside k b ]))
+
+    lens : fin.len (fin.union done group) ≡ fin.len done + fin.len group
+    lens = len_split n (fin.union done group) done group within (split_union done group apart)
+
+    most : fin.len (fin.union done group) ≤ n
+    most = len_bound n (fin.union done group) within
+
+    pub room : HasRoom n group old
+    room =
+        let square = mul-le-mul most most in
+        let double = ap (λ (k : ℕ). k * k) lens in
+        record {
+          ids = stands.ids;
+          flows = stands.flows;
+          for_places = (let p = stands.places in omega (arith, lens, most, p));
+          for_parts = (let p = stands.few in omega (arith, lens, most, p));
+          for_flows = (let p = stands.few_flows in omega (arith, square, double, p));
+        }
+
+    pub few_members : fin.len members ≤ most_members → fin.len group ≤ most_members
+    few_members few =
+        let less = len_within n members group (λ k m. closed.within k (held k m)) next.inside in
+        omega (arith, less, few)
+
+    most_next : (later : ℕ) → AreOfOne (fin.len group) now later
+        → later ≤ before + most_tried (fin.len members) * fin.len (fin.union done group)
+    most_next later one =
+        let low = len_within n members group (λ k m. closed.within k (held k m)) next.inside in
+        let trial = trial_steps (fin.len group) (fin.len members) next.some low in
+        spent before now later (most_tried (fin.len members)) (fin.len done) (fin.len group) (fin.len (fin.union done group)) lens
+        stands.most
+        (omega (
+          arith,
+          one.sum,
+          subst (λ (k : ℕ). one.solve.steps ≤ most_steps k) one.all one.is.most,
+          subst (λ (k : ℕ). one.solve.searched ≤ k * k) one.all one.is.most_searched,
+          trial,
+        ))
+
+    -- also where the group is no part
+    pub tried : (later : ℕ) → AreOfOne (fin.len group) now later → later ≤ before + most_tried (fin.len members) * fin.len members
+    tried later one =
+        let less = len_within n members (fin.union done group) (λ k m. closed.within k (held k m))
+        (λ k m. elim (from_union done group k m) [ inl a ↦ stands.inside k a | inr b ↦ next.inside k b ]) in
+        omega (arith, most_next later one, mul-le-mul_left (most_tried (fin.len members)) less)
+
+    module _ (new : Written) (adds : Adds n dep group old new) where
+      parts : new.parts ≡ old.parts ++ adds.parts
+      parts = ap (λ (w : Written). w.parts) adds.is
+
+      each : (P : Part → Type 0) → ((q : Part) → Contains old.parts q → P q) → ((q : Part) → Contains adds.parts q → P q) → (q : Part)
+          → Contains new.parts q → P q
+      each P f g q h = either_part P old.parts adds.parts f g q (subst (λ ps. Contains ps q) parts h)
+
+      all_placed : placed new.parts ≡ placed old.parts ++ placed adds.parts
+      all_placed = ap placed parts ∙ flat_map-append (λ part. part.ids) old.parts adds.parts
+
+      all_flows : flows_in new.parts ≡ flows_in old.parts ++ flows_in adds.parts
+      all_flows = ap flows_in parts ∙ flat_map-append (λ part. part.flows) old.parts adds.parts
+
+      -- a covering parent of a place of both is in both
+      upper : (p c : ℕ) → IsCover dep p c → fin.contains (fin.union done group) c ≡ true → fin.contains (fin.union done group) p ≡ true
+      upper p c cover m = elim (from_union done group c m) [
+        | inl a ↦ to_union_left done group p (stands.upper p c cover a)
+        | inr b ↦ elim (next.parents_known p c b ((covers.exact p c (held c (next.inside c b))).1 cover)) [
+          | inl left ↦ to_union_left done group p left
+          | inr right ↦ to_union_right done group p right
+        ]
+      ]
+
+      order : IsOrderOf dep (fin.union done group) (placed old.parts ++ placed adds.parts)
+      order = record {
+        once = distinct_joined (placed old.parts) (placed adds.parts) stands.order.once adds.linear.order.once
+            (λ p a b. apart p ((stands.order.exact p).0 a) ((adds.linear.order.exact p).0 b));
+        exact = λ p. (
+          λ h. elim (Contains-append_cases (placed old.parts) (placed adds.parts) p h) [
+            | inl a ↦ to_union_left done group p ((stands.order.exact p).0 a)
+            | inr b ↦ to_union_right done group p ((adds.linear.order.exact p).0 b)
+          ],
+          λ m. elim (from_union done group p m) [
+            | inl a ↦ Contains-append_left (placed old.parts) (placed adds.parts) p ((stands.order.exact p).1 a)
+            | inr b ↦ Contains-append_right (placed old.parts) (placed adds.parts) p ((adds.linear.order.exact p).1 b)
+          ],
+        );
+        parents_first = λ p c cover p_in c_in. elim (from_union done group c c_in) [
+          | inl c_done ↦ stands-append_right (placed old.parts) (placed adds.parts) p c
+              (stands.order.parents_first p c cover (stands.upper p c cover c_done) c_done)
+          | inr c_new ↦ elim (from_union done group p p_in) [
+            | inl p_done ↦ stands_across (placed old.parts) (placed adds.parts) p c ((stands.order.exact p).1 p_done) ((adds.linear.order.exact c).1 c_new)
+            | inr p_new ↦ stands-append_left (placed old.parts) (placed adds.parts) p c (adds.linear.order.parents_first p c cover p_new c_new)
+          ]
+        ];
+      }
+
+      pub stands_next : (later : ℕ) → AreOfOne (fin.len group) now later → Stands n dep members (fin.union done group) new before later
+      stands_next later one =
+          let double = ap (λ (k : ℕ). k * k) lens in
+          let a = ap length all_placed ∙ length-append (placed old.parts) (placed adds.parts) in
+          let b = ap length parts ∙ length-append old.parts adds.parts in
+          let d = ap length all_flows ∙ length-append (flows_in old.parts) (flows_in adds.parts) in
+          record {
+            ids = ap (λ (w : Written). w.ids) adds.is;
+            flows = ap (λ (w : Written). w.flows) adds.is;
+            inside = λ p m. elim (from_union done group p m) [ inl x ↦ stands.inside p x | inr y ↦ next.inside p y ];
+            upper = upper;
+            order = subst (λ xs. IsOrderOf dep (fin.union done group) xs) (sym all_placed) order;
+            filled = each (λ q. q.ids ≢ []) stands.filled adds.linear.filled;
+            summed = each (λ q. q.rate ≡ sums (sum_at dep) q.ids) stands.summed adds.linear.falling.summed;
+            certified = each (λ q. Certifies (sum_at dep) (IsCover dep) q.ids q.flows) stands.certified adds.linear.flows;
+            uncut = each (IsUncutPart n dep) stands.uncut adds.linear.uncut;
+            places = (let p = stands.places in let q = adds.places in omega (arith, lens, a, p, q));
+            few = (let p = stands.few in let q = adds.few in omega (arith, lens, b, p, q));
+            few_flows = (let p = stands.few_flows in let q = adds.few_flows in omega (arith, double, d, p, q));
+            least = (let s = one.sum in let l = one.is.least in let p = one.all in let q = stands.least in omega (arith, lens, s, l, p, q));
+            most = most_next later one;
+          }
+
+module _ (n : ℕ) (dep : Closure) (members done : fin.FinSet nat_cmp) (closed : IsClosed n dep) (held : HoldsMembers dep members) (draft : Written)
+    (before now : ℕ) (stands : Stands n dep members done draft before now) where
+  pub so_far : now ≤ before + most_tried (fin.len members) * fin.len members
+  so_far =
+      let less = len_within n members done (λ k m. closed.within k (held k m)) stands.inside in
+      omega (arith, stands.most, mul-le-mul_left (most_tried (fin.len members)) less)
+
+  module _ (whole : fin.is_subset members done ≡ true) where
+    same : done ≡ members
+    same = same_members done members (λ k. elim (cases_Bool (fin.contains done k)) as (λ _. fin.contains done k ≡ fin.contains members k) [
+      | inl here ↦ here ∙ sym (stands.inside k here)
+      | inr out ↦ out ∙ sym (false_from_ne_true _ (λ m. clash _ (inside members done whole k m) out))
+    ])
+
+    pub all_least : before + fin.len members ≤ now
+    all_least = let e = ap (λ s. fin.len s) same in omega (arith, stands.least, e)
+
+    pub all_parts : (shown : List LinearPart) → AreShown shown draft.parts → Falls (map (λ part. sum_from part.rate) shown)
+        → AreParts n dep members draft.parts
+    all_parts shown are falls = record {
+      order = subst (λ s. IsOrderOf dep s (placed draft.parts)) same stands.order;
+      filled = stands.filled;
+      falling = record { summed = stands.summed; falling = subst Falls are.rates falls };
+      flows = stands.certified;
+      uncut = stands.uncut;
+    }
+
+-- ---- the steps of a trial, alone and before the solves of an order from nothing
+trial_most : (n : ℕ) → most_tried n * n ≤ 4 * (n + 2) ^ 4
+trial_most n = let fourth = pow-suc (n + 2) 3 in more n ((n + 2) ^ 3) ((n + 2) ^ 4) fourth
+  where
+    more : (n x y : ℕ) → y ≡ x * (n + 2) → 4 * x * n ≤ 4 * y
+    more n x y is = omega (arith, is)
+
+pub both_trials : (n before middle after : ℕ) → middle ≤ before + most_tried n * n → after + 4 * (n + 2) ^ 4 ≤ middle + 2 * (n + 2) ^ 5
+    → after ≤ before + 2 * (n + 2) ^ 5
+both_trials n before middle after tried solved = let most = trial_most n in omega (arith, tried, solved, most)
+
+pub one_trial : (n before after : ℕ) → after ≤ before + most_tried n * n → after ≤ before + 2 * (n + 2) ^ 5
+one_trial n before after tried =
+    let fifth = pow-suc (n + 2) 4 in
+    let more : 2 * (n + 2) ^ 4 ≤ (n + 2) ^ 4 * (n + 2) = room ((n + 2) ^ 4) in
+    omega (arith, tried, trial_most n, fifth, more)
+  where
+    room : (x : ℕ) → 2 * x ≤ x * (n + 2)
+    room x = omega arith

@@ -1,0 +1,83 @@
+use Rattle.std.proofs.Common.{rules, ℕ, ◌*◌, subst, ◌∙◌, sym, lit<, arith}
+use Rattle.linearize.proofs.Nexts.{when_none}
+use Rattle.linearize.proofs.Trials.{Stands, room, few_members, stands_next, stands_none, so_far, tried, all_least, all_parts}
+use Rattle.linearize.proofs.Sizes.{words_fit, scratch_fits}
+use Rattle.linearize.proofs.near.are_parts.Goals as goal
+
+pub loop-group-init : goal.loop-group-init
+loop-group-init g c = stands_none (64 * g.row.W) c.args.dep.now c.args.members.now c.empty-done.result c.args.draft.now c.args.steps.now c.empty-done.ensures c.requires.empty
+
+pub best-requires : goal.best-requires
+best-requires g c =
+    let next = c.comes_next.ensures c.if-not-comes_next.false in
+    let ready = c.requires.ready in (
+      scratch_fits g.row.W c.requires.narrow,
+      (
+        search rules,
+        (
+          words_fit g.row.W c.requires.narrow,
+          (
+            lit< tt,
+            (
+              c.requires.narrow,
+              (
+                record {
+                  closed = ready.closed;
+                  members = λ k m. ready.members k (next.inside k m);
+                  some = next.some;
+                  few = few_members (64 * g.row.W) c.args.dep.now c.args.parents.now c.args.members.now c.loop-group.done _ ready.closed
+                      ready.members ready.covers next _ _ _ c.loop-group.invariant ready.few;
+                  rates = ready.rates;
+                  covers = ready.covers;
+                  room = room (64 * g.row.W) c.args.dep.now c.args.parents.now c.args.members.now c.loop-group.done _ ready.closed
+                      ready.members ready.covers next _ _ _ c.loop-group.invariant;
+                },
+                (let long = c.requires.weights in omega (arith, long)),
+              ),
+            ),
+          ),
+        ),
+      ),
+    )
+
+pub loop-group-preserved : goal.loop-group-preserved
+loop-group-preserved g c =
+    let n : ℕ = 64 * g.row.W in
+    let ready = c.requires.ready in
+    let next = c.comes_next.ensures c.if-not-comes_next.false in
+    subst (λ d. Stands n c.args.dep.now c.args.members.now d c.best.new.draft c.args.steps.now c.best.new.steps) (sym c.union-done.ensures)
+    (stands_next n c.args.dep.now c.args.parents.now c.args.members.now c.loop-group.done c.group-item.result.places ready.closed
+    ready.members ready.covers next c.loop-group.draft c.args.steps.now c.loop-group.steps c.loop-group.invariant c.best.new.draft
+    (when_none c.best.result c.is_some.result _ _ c.best.ensures.draft c.is_some.ensures c.if-is_some.false) c.best.new.steps c.best.ensures.solve)
+
+pub returns-then-not-comes_next-clause-most : goal.returns-then-not-comes_next-clause-most
+returns-then-not-comes_next-clause-most g c =
+    so_far (64 * g.row.W) c.args.dep.now c.args.members.now c.loop-group.done c.requires.ready.closed c.requires.ready.members c.loop-group.draft
+    c.args.steps.now c.loop-group.steps c.loop-group.invariant
+
+pub returns-then-is_some-clause-most : goal.returns-then-is_some-clause-most
+returns-then-is_some-clause-most g c =
+    let ready = c.requires.ready in
+    tried (64 * g.row.W) c.args.dep.now c.args.parents.now c.args.members.now c.loop-group.done c.group-item.result.places ready.closed
+    ready.members ready.covers (c.comes_next.ensures c.if-not-comes_next.false) c.loop-group.draft c.args.steps.now c.loop-group.steps
+    c.loop-group.invariant c.best.new.steps c.best.ensures.solve
+
+pub returns-then-is_subset-clause-parts : goal.returns-then-is_subset-clause-parts
+returns-then-is_subset-clause-parts g c = λ falls.
+    all_parts (64 * g.row.W) c.args.dep.now c.args.members.now c.loop-group.done c.requires.ready.closed c.requires.ready.members c.loop-group.draft
+    c.args.steps.now c.loop-group.steps c.loop-group.invariant (sym c.is_subset.ensures ∙ c.if-is_subset.true) _ c.parts.ensures (c.fall.ensures falls)
+
+pub returns-then-is_subset-clause-least : goal.returns-then-is_subset-clause-least
+returns-then-is_subset-clause-least g c = λ falls.
+    all_least (64 * g.row.W) c.args.dep.now c.args.members.now c.loop-group.done c.requires.ready.closed c.requires.ready.members c.loop-group.draft
+    c.args.steps.now c.loop-group.steps c.loop-group.invariant (sym c.is_subset.ensures ∙ c.if-is_subset.true)
+
+pub returns-then-is_subset-clause-most : goal.returns-then-is_subset-clause-most
+returns-then-is_subset-clause-most g c =
+    so_far (64 * g.row.W) c.args.dep.now c.args.members.now c.loop-group.done c.requires.ready.closed c.requires.ready.members c.loop-group.draft
+    c.args.steps.now c.loop-group.steps c.loop-group.invariant
+
+pub returns-else-is_subset-clause-most : goal.returns-else-is_subset-clause-most
+returns-else-is_subset-clause-most g c =
+    so_far (64 * g.row.W) c.args.dep.now c.args.members.now c.loop-group.done c.requires.ready.closed c.requires.ready.members c.loop-group.draft
+    c.args.steps.now c.loop-group.steps c.loop-group.invariant

@@ -1,0 +1,7 @@
+use Rattle.std.proofs.Common.{arith}
+use Rattle.linearize.proofs.Falling.{all_fall}
+use Rattle.linearize.proofs.near.fall.Goals as goal
+
+pub returns : goal.returns
+returns c = λ _. all_fall c.args.parts.now (λ i x y low.
+    c.loop-at.invariant.1 i x y (let past = c.loop-at-test.false in omega (arith, low, past)))

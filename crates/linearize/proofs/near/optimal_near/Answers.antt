@@ -1,0 +1,112 @@
+use Rattle.std.proofs.Common.{rules, ◌≡◌, ◌+◌, ◌*◌, ◌≤◌, ◌∙◌, ℕ, ap, sym, subst, arith, lit<, true}
+use Rattle.std.specs.FinSet as fin
+use Rattle.graphs.proofs.Members.{contains-members_of}
+use Rattle.graphs.specs.Closures.{is_member, members_of, IsClosed}
+use Rattle.bitset.specs.Places.{IsWithin}
+use Rattle.linearize.specs.Graphs.{sum_at}
+use Rattle.linearize.specs.Near.{AreParts, most_tried}
+use Rattle.linearize.proofs.Final.{certificate, has_sizes, minimal}
+use Rattle.linearize.proofs.Joined.{start_room}
+use Rattle.graphs.proofs.ClosureGraphs.{closures_have_graphs}
+use Rattle.linearize.proofs.Sizes.{words_fit, scratch_fits, group_fits}
+use Rattle.linearize.proofs.Trials.{one_trial, both_trials}
+use Rattle.linearize.proofs.near.optimal_near.Goals as goal
+
+pub arrange-requires : goal.arrange-requires
+arrange-requires g c =
+    let dep = c.args.dep.now in
+    let is : c.members-members.result ≡ members_of dep = c.members-members.ensures.members in (
+      search rules,
+      (
+        words_fit g.row.W c.out.invariant.4,
+        (
+          group_fits g.row.W c.out.invariant.4,
+          (
+            c.out.invariant.4,
+            (
+              c.members-members.ensures.closed,
+              (
+                λ p m. sym (contains-members_of dep p) ∙ subst (λ s. fin.contains s p ≡ true) is m,
+                c.out.invariant.5,
+              ),
+            ),
+          ),
+        ),
+      ),
+    )
+
+pub are_parts-requires : goal.are_parts-requires
+are_parts-requires g c =
+    let n : ℕ = 64 * g.row.W in
+    let narrow = c.out.invariant.4 in
+    let dep = c.args.dep.now in
+    let closed : IsClosed n dep = c.members-members.ensures.closed in
+    let is : c.members-members.result ≡ members_of dep = c.members-members.ensures.members in
+    let member : (p : ℕ) → fin.contains c.members-members.result p ≡ true → is_member dep p ≡ true = λ p m. sym (contains-members_of dep p)
+    ∙ subst (λ s. fin.contains s p ≡ true) is m in
+    let len : fin.len c.members-members.result ≡ fin.len (members_of dep) = ap (λ s. fin.len s) is in
+    let within : IsWithin n c.members-members.result = λ p m. closed.within p (member p m) in (
+      scratch_fits g.row.W narrow,
+      (
+        search rules,
+        (
+          words_fit g.row.W narrow,
+          (
+            group_fits g.row.W narrow,
+            (
+              lit< tt,
+              (
+                narrow,
+                (
+                  record {
+                    closed = closed;
+                    members = member;
+                    some = (let some = c.requires.some in omega (arith, len, some));
+                    few = (let few = c.requires.few in omega (arith, len, few));
+                    rates = c.requires.rates;
+                    covers = c.link.ensures;
+                    room = start_room n c.members-members.result c.clear.new.self within c.clear.ensures;
+                  },
+                  (c.clear.ensures, (let room = c.out.invariant.3 in omega (arith, room, c.as_mut_slice-weights.ensures.len))),
+                ),
+              ),
+            ),
+          ),
+        ),
+      ),
+    )
+
+pub returns-then-are_parts-clause-stands : goal.returns-then-are_parts-clause-stands
+returns-then-are_parts-clause-stands g c =
+    let made = closures_have_graphs (64 * g.row.W) c.args.dep.now c.members-members.ensures.closed in (made.0, made.2)
+
+pub returns-then-are_parts-clause-certificate : goal.returns-then-are_parts-clause-certificate
+returns-then-are_parts-clause-certificate g c = λ graph stands.
+    certificate (64 * g.row.W) c.args.dep.now graph c.members-members.ensures.closed stands c.are_parts.new.draft.parts c.requires.component
+    (subst (λ s. AreParts (64 * g.row.W) c.args.dep.now s c.are_parts.new.draft.parts) c.members-members.ensures.members (c.are_parts.ensures.parts c.if-are_parts.true))
+
+pub returns-then-are_parts-clause-optimal : goal.returns-then-are_parts-clause-optimal
+returns-then-are_parts-clause-optimal g c = λ graph stands.
+    c.certified_parts_are_optimal.ensures.by_covers (sum_at c.args.dep.now) graph c.are_parts.new.draft.parts
+    (has_sizes (64 * g.row.W) c.args.dep.now graph c.members-members.ensures.closed stands c.requires.rates)
+    (returns-then-are_parts-clause-certificate g c graph stands)
+
+pub returns-then-are_parts-clause-minimal : goal.returns-then-are_parts-clause-minimal
+returns-then-are_parts-clause-minimal g c = λ graph stands.
+    minimal (64 * g.row.W) c.args.dep.now graph c.members-members.ensures.closed stands c.are_parts.new.draft.parts c.requires.component
+    (subst (λ s. AreParts (64 * g.row.W) c.args.dep.now s c.are_parts.new.draft.parts) c.members-members.ensures.members (c.are_parts.ensures.parts c.if-are_parts.true))
+
+pub returns-then-are_parts-clause-steps_least : goal.returns-then-are_parts-clause-steps_least
+returns-then-are_parts-clause-steps_least g c =
+    subst (λ s. c.args.steps.now + fin.len s ≤ c.are_parts.new.steps) c.members-members.ensures.members (c.are_parts.ensures.least c.if-are_parts.true)
+
+pub returns-then-are_parts-clause-steps_most : goal.returns-then-are_parts-clause-steps_most
+returns-then-are_parts-clause-steps_most g c =
+    one_trial (fin.len (members_of c.args.dep.now)) c.args.steps.now c.are_parts.new.steps
+    (subst (λ s. c.are_parts.new.steps ≤ c.args.steps.now + most_tried (fin.len s) * fin.len s) c.members-members.ensures.members c.are_parts.ensures.most)
+
+pub returns-else-are_parts-clause-steps_most : goal.returns-else-are_parts-clause-steps_most
+returns-else-are_parts-clause-steps_most g c =
+    both_trials (fin.len (members_of c.args.dep.now)) c.args.steps.now c.are_parts.new.steps c.optimal.new.steps
+    (subst (λ s. c.are_parts.new.steps ≤ c.args.steps.now + most_tried (fin.len s) * fin.len s) c.members-members.ensures.members c.are_parts.ensures.most)
+    c.optimal.ensures.steps_most

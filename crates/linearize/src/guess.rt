@@ -1,0 +1,123 @@
+//! Groups of members that may be the parts of an optimal order, made of an order that may be near to one.
+//!
+//! Nothing is promised of them but where they are kept: whether they are the parts is tested behind this.
+
+ghost use Rattle.std.specs.Prelude.{◌≡◌, ℕ, ◌*◌, ◌^◌, ◌<◌, ◌≤◌, true, length, vec_capacity, vec_len};
+ghost use Rattle.std.specs.FinSet as set;
+ghost use Rattle.graphs.specs.Closures.{HoldsMembers, IsClosed, is_member};
+
+use crate::part::top;
+use bitset::Bits;
+use dep_graph::DepGraph;
+
+/// Some members, what stands above any of them, and their fee and size together, as far as 64 bits hold these.
+#[derive(Clone, Copy)]
+pub(crate) struct Group<const W: usize> {
+    pub(crate) places: Bits<W>,
+    above: Bits<W>,
+    fee: i64,
+    size: u64,
+}
+
+/// Puts all members into groups, by the order of a list, which may be any.
+pub(crate) fn arrange<const W: usize>(
+    dep: &DepGraph<W>,
+    members: &Bits<W>,
+    guess: &[usize],
+    groups: &mut Vec<Group<W>>,
+)
+    requires narrow { 64 * W < 2 ^ 32 }
+    requires closed { IsClosed (64 * W) dep.now }
+    requires members { HoldsMembers dep.now members.now }
+    requires room { 64 * W ≤ vec_capacity groups.old }
+    ensures room { 64 * W ≤ vec_capacity groups.new }
+{
+    groups.clear();
+    let mut left = *members;
+    for place in guess {
+        if *place < 64 * W && left.has(*place) {
+            come(dep, *place, &mut left, groups);
+        }
+    }
+    while let Some(place) = left.least() {
+        come(dep, place, &mut left, groups);
+    }
+}
+
+// Takes a place out of those that are left, behind what is left of its ancestors, and puts each into the groups.
+fn come<const W: usize>(
+    dep: &DepGraph<W>,
+    place: usize,
+    left: &mut Bits<W>,
+    groups: &mut Vec<Group<W>>,
+)
+    requires narrow { 64 * W < 2 ^ 32 }
+    requires closed { IsClosed (64 * W) dep.now }
+    requires members { HoldsMembers dep.now left.old }
+    requires place { set.contains left.old place ≡ true }
+    requires room { 64 * W ≤ vec_capacity groups.old }
+    ensures members { HoldsMembers dep.now left.new }
+    ensures fewer { set.len left.new < set.len left.old }
+    ensures room { 64 * W ≤ vec_capacity groups.new }
+{
+    let mut above = dep.ancestors(place).meet(left);
+    while let Some(first) = above.least() {
+        let next = top(dep, &above, first);
+        above.remove(next);
+        left.remove(next);
+        settle(alone(dep, next), groups);
+    }
+    left.remove(place);
+}
+
+// The group of one member.
+fn alone<const W: usize>(dep: &DepGraph<W>, place: usize) -> Group<W>
+    requires narrow { 64 * W < 2 ^ 32 }
+    requires place { place < 64 * W }
+    requires member { is_member dep.now place ≡ true }
+{
+    let rate = dep.rate(place);
+    let mut places = Bits::empty();
+    places.insert(place);
+    Group {
+        places,
+        above: dep.ancestors(place),
+        fee: rate.fee,
+        size: rate.size,
+    }
+}
+
+// Puts a group behind those of no lower rate. Of the lower ones those that it depends on are taken into it on the way.
+fn settle<const W: usize>(mut group: Group<W>, groups: &mut Vec<Group<W>>)
+    requires room { 64 * W ≤ vec_capacity groups.old }
+    ensures room { 64 * W ≤ vec_capacity groups.new }
+{
+    let mut at = groups.len();
+    while at > 0 && is_below(&groups[at - 1], &group) {
+        at -= 1;
+        if groups[at].places.meet(&group.above).least().is_some() {
+            group = together(&groups.remove(at), &group);
+        }
+    }
+    if groups.len() < 64 * W {
+        let inserted = groups.insert(at, group);
+        prove!(inserted.is_ok());
+    }
+}
+
+// Whether a group has a lower rate than another.
+fn is_below<const W: usize>(a: &Group<W>, b: &Group<W>) -> bool {
+    let own = i128::from(a.fee).wrapping_mul(i128::from(b.size));
+    let other = i128::from(b.fee).wrapping_mul(i128::from(a.size));
+    own < other
+}
+
+// Two groups as one.
+fn together<const W: usize>(a: &Group<W>, b: &Group<W>) -> Group<W> {
+    Group {
+        places: a.places.union(&b.places),
+        above: a.above.union(&b.above),
+        fee: a.fee.saturating_add(b.fee),
+        size: a.size.saturating_add(b.size),
+    }
+}
