@@ -29,8 +29,7 @@ use Rattle.cluster.proofs.Picking.{place_in, closes_places, certificate_by_names
 use Rattle.cluster.proofs.Reading.{in_placed, placed_read}
 use Rattle.cluster.proofs.Uncut.{uncut_read}
 
-pub within_most : (n m before after : ℕ) → n ≡ m → after + 4 * (n + 2) ^ 4 ≤ before + 2 * (n + 2) ^ 5
-    → before + n ≤ after → GrowsWithin (most_steps m) before after
+pub within_most : (n m before after : ℕ) → n ≡ m → after ≤ before + 2 * (n + 2) ^ 5 → before + n ≤ after → GrowsWithin (most_steps m) before after
 within_most n m before after same most least =
     subst (λ (k : ℕ). GrowsWithin (most_steps k) before after) same (record { grew = omega arith; few = omega arith })
 

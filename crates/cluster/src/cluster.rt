@@ -12,6 +12,7 @@ ghost use Rattle.cluster.specs.Changes.{IsSingle, Joins, AreAcross, IsSplit, Are
 ghost use Rattle.cluster.specs.Steps.{GrowsWithin, least_steps, most_steps, least_steps_of, most_steps_of};
 
 use crate::covers::Covers;
+use crate::guess::{guess_joined, guess_same};
 use crate::list::ClusterList;
 use crate::making::{certified, copied, part};
 use crate::order::{Order, flows_between, flows_start, names_between, names_start, rate_in};
@@ -115,6 +116,7 @@ impl<const W: usize> Cluster<W> {
         let names = SmallVec::from_slice(alloc, self.names.as_slice())?;
         let above = place_of(names.as_slice(), parent);
         let below = place_of(names.as_slice(), child);
+        guess_same(self, work);
         dep.add_dep(above, below);
         let _members = dep.members();
         certified(alloc, names, dep, work, steps)
@@ -149,6 +151,7 @@ impl<const W: usize> Cluster<W> {
         let _members = dep.members();
         let above = place_of(names.as_slice(), parent);
         let below = place_of(names.as_slice(), child);
+        guess_joined(self, other, parent, child, names.as_slice(), work);
         dep.add_dep(above, below);
         let _members = dep.members();
         certified(alloc, names, dep, work, steps)
@@ -178,7 +181,16 @@ impl<const W: usize> Cluster<W> {
         let mut clusters = Vec::new(alloc);
         while let Some(first) = rest.least() {
             let chosen = self.dep.component(first, rest);
-            let made = part(alloc, self.names.as_slice(), &self.dep, chosen, work, steps)?;
+            let order = self.order.names.as_slice();
+            let made = part(
+                alloc,
+                self.names.as_slice(),
+                &self.dep,
+                order,
+                chosen,
+                work,
+                steps,
+            )?;
             clusters.push(made)?;
             rest = rest.minus(&chosen);
         }
@@ -205,6 +217,7 @@ impl<const W: usize> Cluster<W> {
         let mut dep = copied(alloc, self.names.as_slice(), &self.dep)?;
         let _order = &self.order;
         let names = SmallVec::from_slice(alloc, self.names.as_slice())?;
+        guess_same(self, work);
         dep.set_fee(place_of(names.as_slice(), id), fee);
         let _members = dep.members();
         certified(alloc, names, dep, work, steps)

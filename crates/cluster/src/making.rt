@@ -10,19 +10,20 @@ ghost use Rattle.cluster.specs.Kept.{IsOrdered};
 ghost use Rattle.cluster.specs.Steps.{GrowsWithin, least_steps, most_steps};
 
 use crate::cluster::Cluster;
+use crate::guess::guess_part;
 use crate::order::{Order, lone, read};
 use crate::places::copy_names;
 use crate::work::Work;
 use bitset::Bits;
 use dep_graph::DepGraph;
 use graphs::{TxId, certificates_are_renamed, renamed_is_closed};
-use linearize::optimal;
+use linearize::optimal_near;
 use outside::NoMemory;
 use smallvec::SmallVec;
 use std::alloc::Global;
 use step_count::{Ledger, Steps};
 
-/// The cluster of a dependency graph whose places have these names, with an optimal order.
+/// The cluster of a dependency graph whose places have these names, with an optimal order. The solver's guess is in `work`.
 pub(crate) fn certified<L: Ledger, const W: usize>(
     alloc: Global,
     names: SmallVec<TxId, 2>,
@@ -62,7 +63,7 @@ fn ordered<L: Ledger, const W: usize>(
     solved(alloc, names, dep, work, steps)
 }
 
-// The order that the solver finds.
+// The order that the solver finds. It first tries the guess at the head of the positions, where `read` then notes its order.
 fn solved<L: Ledger, const W: usize>(
     alloc: Global,
     names: &[TxId],
@@ -75,7 +76,8 @@ fn solved<L: Ledger, const W: usize>(
     ensures steps { GrowsWithin (most_steps (length names.now)) steps.old steps.new }
     ensures least { steps.old + length names.now ≤ steps.new }
 {
-    optimal(&mut work.scratch, dep, &mut work.linear, steps);
+    let guess = &work.positions.as_slice()[..names.len()];
+    optimal_near(&mut work.scratch, dep, guess, &mut work.linear, steps);
     renamed_is_closed();
     certificates_are_renamed();
     read(
@@ -102,11 +104,12 @@ pub(crate) fn copied<const W: usize>(
     Ok(copy)
 }
 
-/// The cluster of the places of a component, with their names.
+/// The cluster of the places of a component, with their names. The order of all the names is the solver's guess.
 pub(crate) fn part<L: Ledger, const W: usize>(
     alloc: Global,
     names: &[TxId],
     dep: &DepGraph<W>,
+    order: &[TxId],
     chosen: Bits<W>,
     work: &mut Work<W>,
     steps: &mut Steps<L>,
@@ -124,6 +127,7 @@ pub(crate) fn part<L: Ledger, const W: usize>(
 {
     let mut own = SmallVec::new(alloc);
     copy_names(&mut own, names, &chosen)?;
+    guess_part(order, own.as_slice(), work);
     let dep = dep.part(alloc, chosen)?;
     let _members = dep.members();
     certified(alloc, own, dep, work, steps)

@@ -11,7 +11,7 @@ use std::marker::Model;
 pub struct Work<const W: usize> {
     pub(crate) scratch: Scratch<W>,
     pub(crate) linear: Linear<W>,
-    // where each place stands in the order
+    // the solver's guess, and after the solver has run, where each place stands in its order
     pub(crate) positions: Vec<usize>,
     // the flows of a part, by these positions
     pub(crate) flows: Vec<PlaceFlow>,

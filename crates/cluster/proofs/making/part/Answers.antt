@@ -48,9 +48,9 @@ pub certified-requires : goal.certified-requires
 certified-requires g c = (
   search,
   (
-    search,
+    assumption,
     (
-      search,
+      assumption,
       subst (λ (xs : List ℕ). IsNamed (64 * g.row.W) xs c.in_ok-dep.dep) (sym (from_none c.in_ok-copy_names.ensures c.new-own.ensures.items))
           (IsNamed-part (64 * g.row.W) c.args.names.now c.args.dep.now c.in_ok-dep.dep c.args.chosen c.requires.named
           c.requires.within c.requires.some c.in_ok-dep.ensures c.members-members.ensures.closed c.requires.whole),

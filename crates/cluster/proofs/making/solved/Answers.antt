@@ -7,8 +7,8 @@ use Rattle.cluster.proofs.Joined.{members_long}
 use Rattle.cluster.proofs.Solving.{has_rates, is_component, is_placed, is_ordered, within_most}
 use Rattle.cluster.proofs.making.solved.Goals as goal
 
-pub optimal-requires : goal.optimal-requires
-optimal-requires g c =
+pub optimal_near-requires : goal.optimal_near-requires
+optimal_near-requires g c =
     let long : set.len (members_of c.args.dep.now) ≡ length c.args.names.now = members_long (64 * g.row.W) c.args.names.now c.args.dep.now c.requires in
     let some : 1 ≤ length c.args.names.now = c.requires.some in
     let few : length c.args.names.now ≤ 64 * g.row.W = c.requires.few in
@@ -29,28 +29,28 @@ read-requires g c =
       search rules,
       (
         omega (arith, c.work.invariant.0, c.as_mut_slice.ensures.len),
-        is_placed (64 * g.row.W) c.args.names.now c.args.dep.now c.requires c.optimal.ensures.stands.0 c.optimal.new.out c.optimal.ensures.stands.1
-            (c.optimal.ensures.certificate c.optimal.ensures.stands.0 c.optimal.ensures.stands.1),
+        is_placed (64 * g.row.W) c.args.names.now c.args.dep.now c.requires c.optimal_near.ensures.stands.0 c.optimal_near.new.out c.optimal_near.ensures.stands.1
+            (c.optimal_near.ensures.certificate c.optimal_near.ensures.stands.0 c.optimal_near.ensures.stands.1),
       ),
     )
 
 pub returns-clause-order : goal.returns-clause-order
 returns-clause-order g c =
     IfOk-weaker c.read.result _ _ (λ (o : Order) read. is_ordered (64 * g.row.W) c.args.names.now c.args.dep.now c.requires
-    c.renamed_is_closed.ensures c.certificates_are_renamed.ensures c.optimal.new.out c.optimal.ensures.certificate c.optimal.ensures.minimal
-    (is_placed (64 * g.row.W) c.args.names.now c.args.dep.now c.requires c.optimal.ensures.stands.0 c.optimal.new.out c.optimal.ensures.stands.1
-    (c.optimal.ensures.certificate c.optimal.ensures.stands.0 c.optimal.ensures.stands.1))
+    c.renamed_is_closed.ensures c.certificates_are_renamed.ensures c.optimal_near.new.out c.optimal_near.ensures.certificate c.optimal_near.ensures.minimal
+    (is_placed (64 * g.row.W) c.args.names.now c.args.dep.now c.requires c.optimal_near.ensures.stands.0 c.optimal_near.new.out c.optimal_near.ensures.stands.1
+    (c.optimal_near.ensures.certificate c.optimal_near.ensures.stands.0 c.optimal_near.ensures.stands.1))
     o.parts.items o.names.items o.flows.items read) c.read.ensures
 
 pub returns-clause-steps : goal.returns-clause-steps
 returns-clause-steps g c =
-    within_most (set.len (members_of c.args.dep.now)) (length c.args.names.now) c.args.steps.now c.optimal.new.steps
-    (members_long (64 * g.row.W) c.args.names.now c.args.dep.now c.requires) c.optimal.ensures.steps_most c.optimal.ensures.steps_least
+    within_most (set.len (members_of c.args.dep.now)) (length c.args.names.now) c.args.steps.now c.optimal_near.new.steps
+    (members_long (64 * g.row.W) c.args.names.now c.args.dep.now c.requires) c.optimal_near.ensures.steps_most c.optimal_near.ensures.steps_least
 
 pub returns-clause-least : goal.returns-clause-least
 returns-clause-least g c =
     let long : set.len (members_of c.args.dep.now) ≡ length c.args.names.now = members_long (64 * g.row.W) c.args.names.now c.args.dep.now c.requires in
-    omega (arith, c.optimal.ensures.steps_least)
+    omega (arith, c.optimal_near.ensures.steps_least)
 
 pub invariant_of-work : goal.invariant_of-work
 invariant_of-work g c = c.work.invariant
