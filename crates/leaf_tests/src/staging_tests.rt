@@ -30,26 +30,33 @@ trait Body {
     fn value(&self, level: Level, key: u64) -> Option<u64>;
 }
 
+// What a step does to either kind of maps: their calls have the same names.
+macro_rules! take_step {
+    ($maps:expr, $step:expr) => {
+        match $step {
+            Step::Begin if !$maps.staged() => $maps.begin()?,
+            Step::Commit if $maps.staged() => $maps.commit(),
+            Step::Abort if $maps.staged() => $maps.abort(),
+            Step::Put(key, value) => {
+                $maps.reserve(1)?;
+                $maps.put(key, value);
+            }
+            Step::Remove(key) => {
+                $maps.reserve(1)?;
+                $maps.remove(key);
+            }
+            _ => {}
+        }
+    };
+}
+
 impl Body for Overlay<u64> {
     fn empty(alloc: Global) -> Self {
         Overlay::new(alloc)
     }
 
     fn take(&mut self, step: Step) -> Result<(), NoMemory> {
-        match step {
-            Step::Begin if !self.staged() => self.begin()?,
-            Step::Commit if self.staged() => self.commit(),
-            Step::Abort if self.staged() => self.abort(),
-            Step::Put(key, value) => {
-                self.reserve(1)?;
-                self.put(key, value);
-            }
-            Step::Remove(key) => {
-                self.reserve(1)?;
-                self.remove(key);
-            }
-            _ => {}
-        }
+        take_step!(self, step);
         Ok(())
     }
 
@@ -68,20 +75,7 @@ impl Body for WholeMaps {
     }
 
     fn take(&mut self, step: Step) -> Result<(), NoMemory> {
-        match step {
-            Step::Begin if !self.staged() => self.begin()?,
-            Step::Commit if self.staged() => self.commit(),
-            Step::Abort if self.staged() => self.abort(),
-            Step::Put(key, value) => {
-                self.reserve(1)?;
-                self.put(key, value);
-            }
-            Step::Remove(key) => {
-                self.reserve(1)?;
-                self.remove(key);
-            }
-            _ => {}
-        }
+        take_step!(self, step);
         Ok(())
     }
 

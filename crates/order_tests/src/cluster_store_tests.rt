@@ -1,9 +1,9 @@
-ghost use Rattle.std.specs.Prelude.{◌≡◌, ◌<◌, [], ◌∷◌, IfOk};
+ghost use Rattle.std.specs.Prelude.{◌≡◌, ◌<◌, [], ◌∷◌};
 
+use crate::samples::{Room, alone};
 use chunk_index::Tag;
 use cluster::{Cluster, Work};
 use cluster_store::{ClusterStore, Exchange, Move, PartWalk, Stored};
-use fee_rate::{FeeRate, is_rate};
 use graphs::{Level, TxId};
 use std::alloc::Global;
 use std::marker::Brand;
@@ -15,36 +15,11 @@ use step_count::{Counted, Ledger, Steps};
 
 // ---- clusters, all made before the store is
 
-// The room for making clusters.
-#[derive(Drop)]
-struct Room {
-    alloc: Global,
-    work: Work<1>,
-}
-
-// The cluster of one name of size 1, with its fee.
-fn alone<L: Ledger>(
-    rt: &impl Abort,
-    room: &mut Room,
-    steps: &mut Steps<L>,
-    row: (TxId, i64),
-) -> Result<Cluster<1>, Fail>
-    ensures { IfOk result (λ c. c.names ≡ row.0 ∷ []) }
-{
-    assert!(rt;
-        is_rate(FeeRate {
-            fee: row.1,
-            size: 1
-        })
-    );
-    Ok(Cluster::single(room.alloc, row.0, row.1, 1, &mut room.work, steps)?)
-}
-
 // One cluster of two that have a name each. It has no clause of what the cluster is, since callers would pay for it in
 // their proofs.
 fn joined<L: Ledger>(
     rt: &impl Abort,
-    room: &mut Room,
+    room: &mut Room<1>,
     steps: &mut Steps<L>,
     old: &Cluster<1>,
     one: &Cluster<1>,
@@ -60,7 +35,7 @@ fn joined<L: Ledger>(
 // One cluster of that of a name and another name, which depends on it.
 fn below<L: Ledger>(
     rt: &impl Abort,
-    room: &mut Room,
+    room: &mut Room<1>,
     steps: &mut Steps<L>,
     old: &Cluster<1>,
     parent: TxId,
@@ -68,7 +43,7 @@ fn below<L: Ledger>(
 ) -> Result<Cluster<1>, Fail>
     requires { old.now.names ≡ parent ∷ [] }
 {
-    let one = alone(rt, room, steps, child)?;
+    let one = alone(rt, room, steps, child.0, child.1, 1)?;
     let both = joined(rt, room, steps, old, &one, (parent, child.0));
     drop(one);
     both
@@ -77,12 +52,12 @@ fn below<L: Ledger>(
 // The cluster of a name and another that depends on it.
 fn pair<L: Ledger>(
     rt: &impl Abort,
-    room: &mut Room,
+    room: &mut Room<1>,
     steps: &mut Steps<L>,
     parent: (TxId, i64),
     child: (TxId, i64),
 ) -> Result<Cluster<1>, Fail> {
-    let old = alone(rt, room, steps, parent)?;
+    let old = alone(rt, room, steps, parent.0, parent.1, 1)?;
     let both = below(rt, room, steps, &old, parent.0, child);
     drop(old);
     both
@@ -91,13 +66,13 @@ fn pair<L: Ledger>(
 // The cluster of one name, or of one and another that depends on it.
 fn made<L: Ledger>(
     rt: &impl Abort,
-    room: &mut Room,
+    room: &mut Room<1>,
     steps: &mut Steps<L>,
     row: &((TxId, i64), Option<(TxId, i64)>),
 ) -> Result<Cluster<1>, Fail> {
     match row.1 {
         Some(child) => pair(rt, room, steps, row.0, child),
-        None => alone(rt, room, steps, row.0),
+        None => alone(rt, room, steps, row.0.0, row.0.1, 1),
     }
 }
 
@@ -310,7 +285,7 @@ static CLUSTERS: [((TxId, i64), Option<(TxId, i64)>); 9] = [
 // Makes them.
 fn fill<L: Ledger>(
     rt: &impl Abort,
-    room: &mut Room,
+    room: &mut Room<1>,
     steps: &mut Steps<L>,
     clusters: &mut Vec<Cluster<1>>,
 ) -> Result<(), Fail> {
@@ -322,7 +297,7 @@ fn fill<L: Ledger>(
 
 fn rows_of<L: Ledger>(
     rt: &impl Abort,
-    room: &mut Room,
+    room: &mut Room<1>,
     steps: &mut Steps<L>,
     table: &mut Table,
 ) -> Result<(), Fail> {
@@ -331,7 +306,7 @@ fn rows_of<L: Ledger>(
 }
 
 // A table of its own, which is dropped once.
-fn begun<L: Ledger>(rt: &impl Abort, room: &mut Room, steps: &mut Steps<L>) -> Result<(), Fail> {
+fn begun<L: Ledger>(rt: &impl Abort, room: &mut Room<1>, steps: &mut Steps<L>) -> Result<(), Fail> {
     let alloc = room.alloc;
     let mut table = Table {
         alloc,
@@ -350,7 +325,7 @@ fn rows<K: ledger::Ledger>(rt: &impl Abort, alloc: Global, blank: Blank) -> Resu
     requires some { 0 < blank.parts }
 {
     let mut steps = Steps::new(Counted::<K>::new(blank));
-    let mut room = Room {
+    let mut room = Room::<1> {
         alloc,
         work: Work::new(alloc)?,
     };

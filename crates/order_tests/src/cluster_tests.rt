@@ -2,9 +2,10 @@ ghost use Rattle.std.specs.Prelude.{◌≡◌, ◌≢◌, ◌↔◌, ◌*◌, �
 ghost use Rattle.certificate.specs.Accounts.{amount_of};
 ghost use Rattle.certificate.specs.Answers.{AreClaims};
 
+use crate::samples::{Room, alone};
 use certificate::{CheckFault, EdgeList, FlowList, Part, TxList, Written, check};
 use cluster::{Cluster, Work};
-use fee_rate::{FeeRate, Sum, is_fee, is_rate};
+use fee_rate::{Sum, is_fee};
 use graphs::{Flow, IdList, TxId};
 use std::alloc::Global;
 use std::marker::Brand;
@@ -165,29 +166,6 @@ fn checked<const W: usize>(
     let done = certified(rt, alloc, cluster, &claims);
     drop(claims);
     done
-}
-
-// The room for the calls.
-#[derive(Drop)]
-struct Room<const W: usize> {
-    alloc: Global,
-    work: Work<W>,
-}
-
-// The cluster of one name, with its fee and its size.
-fn alone<L: Ledger, const W: usize>(
-    rt: &impl Abort,
-    room: &mut Room<W>,
-    steps: &mut Steps<L>,
-    id: TxId,
-    fee: i64,
-    size: u64,
-) -> Result<Cluster<W>, Fail>
-    requires { W ≤ 2 }
-    ensures { IfOk result (λ c. c.names ≡ id ∷ []) }
-{
-    assert!(rt; is_rate(FeeRate { fee, size }));
-    Ok(Cluster::single(room.alloc, id, fee, size, &mut room.work, steps)?)
 }
 
 // One cluster of a cluster and that of one name, which depends on one of it. This and the next functions have no clause,

@@ -1,24 +1,16 @@
 ghost use Rattle.std.specs.Prelude.{◌≡◌, ◌+◌, ◌*◌, ◌^◌, ◌<◌, ◌≤◌};
 ghost use Rattle.std.specs.FinSet as set;
-ghost use Rattle.graphs.specs.Closures.{HoldsMembers, is_member};
+ghost use Rattle.graphs.specs.Closures.{HoldsMembers};
 ghost use Rattle.bitset.specs.Places.{places};
 ghost use Rattle.dep_graph.specs.Changes.{IsRenumbered};
 
+use crate::samples::{add, graph_of, is_in, link};
 use bitset::Bits;
 use dep_graph::DepGraph;
 use fee_rate::FeeRate;
 use std::alloc::Global;
 use std::process::Abort;
 use std::test::Fail;
-
-// Whether a place is a member.
-fn is_in<const W: usize>(graph: &DepGraph<W>, place: usize) -> bool
-    requires few { W ≤ 2 }
-    requires place { place < 64 * W }
-    ensures { result ≡ is_member graph.now place }
-{
-    graph.members().has(place)
-}
 
 // The members but one.
 fn all_but(graph: &DepGraph<1>, place: usize) -> Bits<1>
@@ -35,29 +27,6 @@ fn of_both(graph: &DepGraph<2>, set: &Bits<2>) -> Bits<2>
     ensures { HoldsMembers graph.now result }
 {
     graph.members().meet(set)
-}
-
-fn add<const W: usize>(
-    rt: &impl Abort,
-    graph: &mut DepGraph<W>,
-    fee: i64,
-    size: u64,
-) -> Result<usize, Fail>
-    requires { W ≤ 2 }
-{
-    assert!(rt; graph.members().count() < 64 * W);
-    Ok(graph.add(fee, size)?)
-}
-
-fn link<const W: usize>(rt: &impl Abort, graph: &mut DepGraph<W>, parent: usize, child: usize)
-    requires { W ≤ 2 }
-{
-    assert!(rt; parent < 64 * W);
-    assert!(rt; child < 64 * W);
-    assert!(rt; is_in(graph, parent));
-    assert!(rt; is_in(graph, child));
-    assert!(rt; !graph.would_cycle(parent, child));
-    graph.add_dep(parent, child);
 }
 
 fn covers(rt: &impl Abort, graph: &DepGraph<1>, place: usize) -> Bits<1> {
@@ -78,16 +47,9 @@ fn least_cover(rt: &impl Abort, graph: &DepGraph<1>, place: usize) -> Option<usi
 
 // One above two above one, and the pair that they imply.
 fn diamond(rt: &impl Abort, alloc: Global) -> Result<DepGraph<1>, Fail> {
-    let mut graph = DepGraph::new(alloc);
-    for size in 1..5 {
-        add(rt, &mut graph, 7, size)?;
-    }
-    link(rt, &mut graph, 0, 1);
-    link(rt, &mut graph, 0, 2);
-    link(rt, &mut graph, 1, 3);
-    link(rt, &mut graph, 2, 3);
-    link(rt, &mut graph, 0, 3);
-    Ok(graph)
+    let rates = [(7, 1), (7, 2), (7, 3), (7, 4)];
+    let pairs = [(0, 1), (0, 2), (1, 3), (2, 3), (0, 3)];
+    graph_of(rt, alloc, &rates, &pairs)
 }
 
 // What is asked of a graph and done to it. None of these has a clause, since callers would pay for it in their proofs.

@@ -17,3 +17,5 @@ mod dep_graph_tests;
 mod levels_tests;
 #[cfg(test)]
 mod linearize_tests;
+#[cfg(test)]
+mod samples;

@@ -1,6 +1,6 @@
-ghost use Rattle.std.specs.Prelude.{◌≡◌, ◌*◌, ◌<◌, ◌≤◌};
-ghost use Rattle.graphs.specs.Closures.{is_member};
+ghost use Rattle.std.specs.Prelude.{◌≡◌, ◌<◌, ◌≤◌};
 
+use crate::samples::graph_of;
 use closure_flow::Scratch;
 use dep_graph::DepGraph;
 use linearize::{Linear, PlaceFlow, has_rates, is_component, optimal};
@@ -18,59 +18,6 @@ struct Room<const W: usize> {
     alloc: Global,
     scratch: Scratch<W>,
     out: Linear<W>,
-}
-
-// Whether a place is a member.
-fn is_in<const W: usize>(graph: &DepGraph<W>, place: usize) -> bool
-    requires few { W ≤ 2 }
-    requires place { place < 64 * W }
-    ensures { result ≡ is_member graph.now place }
-{
-    graph.members().has(place)
-}
-
-// Makes a member depend on another.
-fn link<const W: usize>(rt: &impl Abort, graph: &mut DepGraph<W>, parent: usize, child: usize)
-    requires { W ≤ 2 }
-{
-    assert!(rt; parent < 64 * W);
-    assert!(rt; child < 64 * W);
-    assert!(rt; is_in(graph, parent));
-    assert!(rt; is_in(graph, child));
-    assert!(rt; !graph.would_cycle(parent, child));
-    graph.add_dep(parent, child);
-}
-
-// Adds members by fee and size.
-fn add_all<const W: usize>(
-    rt: &impl Abort,
-    graph: &mut DepGraph<W>,
-    rates: &[(i64, u64)],
-) -> Result<(), Fail>
-    requires { W ≤ 2 }
-{
-    for (fee, size) in rates {
-        assert!(rt; graph.members().count() < 64 * W);
-        graph.add(*fee, *size)?;
-    }
-    Ok(())
-}
-
-// Members by fee and size, and pairs of a parent and a child.
-fn graph_of<const W: usize>(
-    rt: &impl Abort,
-    alloc: Global,
-    rates: &[(i64, u64)],
-    pairs: &[(usize, usize)],
-) -> Result<DepGraph<W>, Fail>
-    requires { W ≤ 2 }
-{
-    let mut graph = DepGraph::new(alloc);
-    add_all(rt, &mut graph, rates)?;
-    for (parent, child) in pairs {
-        link(rt, &mut graph, *parent, *child);
-    }
-    Ok(graph)
 }
 
 // Leaves an optimal order of a graph. This and the next function have no clause, since callers would pay for it in their

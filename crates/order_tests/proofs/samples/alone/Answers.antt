@@ -1,6 +1,6 @@
 use Rattle.std.proofs.Common.{◌≡◌, rules, true}
 use Rattle.order_tests.proofs.Sizes.{cluster_fits, work_fits}
-use Rattle.order_tests.proofs.cluster_tests.alone.Goals as goal
+use Rattle.order_tests.proofs.samples.alone.Goals as goal
 
 pub single-requires : goal.single-requires
 single-requires g c =

@@ -1,6 +1,6 @@
 use Rattle.std.proofs.Common.{rules}
 use Rattle.order_tests.proofs.Sizes.{graph_fits}
-use Rattle.order_tests.proofs.linearize_tests.link.Goals as goal
+use Rattle.order_tests.proofs.samples.link.Goals as goal
 
 pub is_in-requires : goal.is_in-requires
 is_in-requires g c = (graph_fits g.row.W c.requires, (c.requires, search rules))
