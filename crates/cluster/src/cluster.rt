@@ -86,7 +86,6 @@ impl<const W: usize> Cluster<W> {
         let _room = &work.positions;
         let mut dep = DepGraph::new(alloc);
         let _place = dep.add(fee, size)?;
-        let _members = dep.members();
         let mut names = SmallVec::new(alloc);
         names.push(id)?;
         certified(alloc, names, dep, work, steps)
@@ -116,7 +115,6 @@ impl<const W: usize> Cluster<W> {
         let above = place_of(names.as_slice(), parent);
         let below = place_of(names.as_slice(), child);
         dep.add_dep(above, below);
-        let _members = dep.members();
         certified(alloc, names, dep, work, steps)
     }
 
@@ -146,11 +144,9 @@ impl<const W: usize> Cluster<W> {
         let _order = &other.order;
         let names = both_names(alloc, self.names.as_slice(), other.names.as_slice())?;
         let mut dep = self.dep.merge(alloc, &other.dep)?;
-        let _members = dep.members();
         let above = place_of(names.as_slice(), parent);
         let below = place_of(names.as_slice(), child);
         dep.add_dep(above, below);
-        let _members = dep.members();
         certified(alloc, names, dep, work, steps)
     }
 
@@ -206,7 +202,6 @@ impl<const W: usize> Cluster<W> {
         let _order = &self.order;
         let names = SmallVec::from_slice(alloc, self.names.as_slice())?;
         dep.set_fee(place_of(names.as_slice(), id), fee);
-        let _members = dep.members();
         certified(alloc, names, dep, work, steps)
     }
 
