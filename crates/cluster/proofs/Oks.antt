@@ -4,8 +4,8 @@ use Rattle.outside.specs.declared.errors.NoMemory.{NoMemory}
 use Rattle.cluster.specs.Clusters.{Cluster}
 use Rattle.cluster.specs.Steps.{GrowsWithin}
 
-pub both_ok : (r : Result Cluster NoMemory) (P Q R : Cluster → Type 0) → ((c : Cluster) → P c → Q c → R c) → IfOk r P → IfOk r Q → IfOk r R
-both_ok (Ok c) P Q R f p q = f c p q
+pub both_ok : {A : Type 0} (r : Result A NoMemory) (P Q R : A → Type 0) → ((a : A) → P a → Q a → R a) → IfOk r P → IfOk r Q → IfOk r R
+both_ok (Ok a) P Q R f p q = f a p q
 both_ok (Err e) P Q R f p q = tt
 
 pub one_ok : (r : Result Cluster NoMemory) (P R : Cluster → Type 0) → ((c : Cluster) → P c → R c) → IfOk r P → IfOk r R

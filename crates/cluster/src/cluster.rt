@@ -87,7 +87,6 @@ impl<const W: usize> Cluster<W> {
         let _room = &work.positions;
         let mut dep = DepGraph::new(alloc);
         let _place = dep.add(fee, size)?;
-        let _members = dep.members();
         let mut names = SmallVec::new(alloc);
         names.push(id)?;
         certified(alloc, names, dep, work, steps)
@@ -118,7 +117,6 @@ impl<const W: usize> Cluster<W> {
         let below = place_of(names.as_slice(), child);
         guess_same(self, work);
         dep.add_dep(above, below);
-        let _members = dep.members();
         certified(alloc, names, dep, work, steps)
     }
 
@@ -148,12 +146,10 @@ impl<const W: usize> Cluster<W> {
         let _order = &other.order;
         let names = both_names(alloc, self.names.as_slice(), other.names.as_slice())?;
         let mut dep = self.dep.merge(alloc, &other.dep)?;
-        let _members = dep.members();
         let above = place_of(names.as_slice(), parent);
         let below = place_of(names.as_slice(), child);
         guess_joined(self, other, parent, child, names.as_slice(), work);
         dep.add_dep(above, below);
-        let _members = dep.members();
         certified(alloc, names, dep, work, steps)
     }
 
@@ -219,7 +215,6 @@ impl<const W: usize> Cluster<W> {
         let names = SmallVec::from_slice(alloc, self.names.as_slice())?;
         guess_same(self, work);
         dep.set_fee(place_of(names.as_slice(), id), fee);
-        let _members = dep.members();
         certified(alloc, names, dep, work, steps)
     }
 

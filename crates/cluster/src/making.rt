@@ -99,9 +99,7 @@ pub(crate) fn copied<const W: usize>(
     ensures same { IfOk result (IsSame dep.now) }
     ensures named { IfOk result (IsNamed (64 * W) names.now) }
 {
-    let copy = dep.part(alloc, dep.members())?;
-    let _members = copy.members();
-    Ok(copy)
+    dep.part(alloc, dep.members())
 }
 
 /// The cluster of the places of a component, with their names. The order of all the names is the solver's guess.
@@ -129,6 +127,5 @@ pub(crate) fn part<L: Ledger, const W: usize>(
     copy_names(&mut own, names, &chosen)?;
     guess_part(order, own.as_slice(), work);
     let dep = dep.part(alloc, chosen)?;
-    let _members = dep.members();
     certified(alloc, own, dep, work, steps)
 }

@@ -106,7 +106,8 @@ impl<const W: usize> DepGraph<W> {
     /// Changes the fee of a member, in satoshis.
     pub fn set_fee(&mut self, place: usize, fee: i64)
         requires { is_member self.old place ≡ true }
-        ensures { SetsFee self.old self.new place fee }
+        ensures fee { SetsFee self.old self.new place fee }
+        ensures closed { IsClosed (64 * W) self.new }
     {
         self.rows[place].rate.fee = fee;
     }
@@ -117,6 +118,7 @@ impl<const W: usize> DepGraph<W> {
         requires { set.len (members_of self.old) < 64 * W }
         ensures ok { IfOk result (AddsPlace self.old self.new (record { fee = fee; size = size })) }
         ensures err { OnErr result (self.new ≡ self.old) }
+        ensures closed { IsClosed (64 * W) self.new }
     {
         let place = free_place(&self.members, self.rows.len());
         let mut itself = Bits::empty();
@@ -136,7 +138,8 @@ impl<const W: usize> DepGraph<W> {
         requires parent { is_member self.old parent ≡ true }
         requires child { is_member self.old child ≡ true }
         requires no_cycle { is_ancestor self.old child parent ≡ false }
-        ensures { AddsPair self.old self.new parent child }
+        ensures pair { AddsPair self.old self.new parent child }
+        ensures closed { IsClosed (64 * W) self.new }
     {
         let above = self.ancestors(parent);
         let below = self.descendants(child);
@@ -148,7 +151,8 @@ impl<const W: usize> DepGraph<W> {
     /// Drops a member. The others keep the relation among themselves, so an ancestor over the member stays one.
     pub fn remove_bridging(&mut self, place: usize)
         requires { is_member self.old place ≡ true }
-        ensures { DropsPlace self.old self.new place }
+        ensures dropped { DropsPlace self.old self.new place }
+        ensures closed { IsClosed (64 * W) self.new }
     {
         let above = self.ancestors(place);
         let below = self.descendants(place);
@@ -198,8 +202,9 @@ impl<const W: usize> DepGraph<W> {
     /// of this graph first. Both graphs stay as they are.
     pub fn merge(&self, alloc: Global, other: &Self) -> Result<Self, NoMemory>
         requires { set.len (members_of self.now) + set.len (members_of other.now) ≤ 64 * W }
-        ensures { IfOk result (IsMerged self.now other.now (places (64 * W) (members_of self.now))
+        ensures merged { IfOk result (IsMerged self.now other.now (places (64 * W) (members_of self.now))
             (places (64 * W) (members_of other.now))) }
+        ensures closed { IfOk result (IsClosed (64 * W)) }
     {
         let first = self.rows.as_slice();
         let second = other.rows.as_slice();
@@ -217,7 +222,8 @@ impl<const W: usize> DepGraph<W> {
     /// stays as it is.
     pub fn part(&self, alloc: Global, within: Bits<W>) -> Result<Self, NoMemory>
         requires { HoldsMembers self.now within }
-        ensures { IfOk result (IsPart self.now (places (64 * W) within.entry)) }
+        ensures part { IfOk result (IsPart self.now (places (64 * W) within.entry)) }
+        ensures closed { IfOk result (IsClosed (64 * W)) }
     {
         let whole = self.rows.as_slice();
         let count = within.count();

@@ -13,12 +13,12 @@ use Rattle.graphs.specs.Linearizations.{StandsBefore}
 use Rattle.graphs.specs.Merges.{Precedes}
 use Rattle.graphs.specs.Picks.{FollowOrder}
 use Rattle.graph_model.specs.Answers.{order_of}
-use Rattle.graph_model.specs.States.{PlainState, State, level_of, top_of}
+use Rattle.graph_model.specs.States.{PlainState, level_of, top_of}
 use Rattle.graph_model.specs.Texts.{Text, text_lines, part_lines, tx_line}
 use Rattle.levels.specs.Levels.{OneLevel, level_at}
 use Rattle.levels.specs.Orders.{ListsCovers}
-use Rattle.tx_graph.specs.Kept.{Kept, IsGraphOf, IsStagingOf, StandsPlainly, StandsFor}
-use Rattle.tx_graph.specs.Readings.{IsBestOrder, IsTextOf}
+use Rattle.tx_graph.specs.Kept.{Kept, IsGraphOf, IsStagingOf, StandsPlainly}
+use Rattle.tx_graph.specs.Readings.{IsTextOf}
 use Rattle.replay.specs.Writings.{ListsEach, tx_line_of, edges_lines}
 use Rattle.replay.proofs.WritingLemmas.{map_twice}
 
@@ -145,7 +145,7 @@ pub edges_follow : (graph : Closure) (order : List ℕ) (edges : List (ℕ × �
 edges_follow graph order edges each a b before = later_of (Before order) (map swapped edges) before.0 before.1 a b
     (each_follows graph order [] order edges refl each) before.2 before.3
 
--- ---- the names of the parts
+-- ---- the graph of a level
 top_graph : (main : OneLevel) (graph : Graph) (staging : Option OneLevel) (staged : Option Graph) → IsGraphOf main graph → IsStagingOf staging staged
     → IsGraphOf (top_of main staging) (top_of graph staged)
 top_graph main graph None None one of = one
@@ -156,13 +156,6 @@ top_graph main graph (Some level) (Some other) one of = of
 pub graph_at : (kept : Kept) (state : PlainState) (level : Level) → StandsPlainly kept state → IsGraphOf (level_at kept.levels level) (level_of state level)
 graph_at kept state Main stands = stands.main
 graph_at kept state Top stands = top_graph kept.levels.main state.main kept.levels.staging state.staging stands.main stands.staging
-
-pub names_live : (kept : Kept) (state : State) (level : Level) (parts : List Part) → StandsFor kept state → IsBestOrder state level parts → (id : ℕ)
-    → Contains (order_of parts) id ↔ (is_member (level_at kept.levels level).graph id ≡ true)
-names_live kept state level parts stands best id =
-    let names = best.certified.certificate.order.topological.names id in
-    let live = (graph_at kept state.plain level stands.plain).closure.names id in
-    (λ here. live.0 (names.0 here), λ here. names.1 (live.1 here))
 
 -- ---- the text
 abbrev pub text_with : OneLevel → List (ℕ × ℕ) → Text

@@ -274,8 +274,6 @@ pub(crate) fn write_proof<const W: usize, K: Sink>(
     ensures { WritesAnswer (IsReadOf graph.now (commands.Proof level)) (K.written sink.old) (K.written sink.new)
         (K.faults sink.old) (K.faults sink.new) result }
 {
-    // by the states that the graph stands for, the names of the parts are live
-    let _additions = graph.additions();
     let so_far = more_all_txs(Ok(()), graph, level, graph.order(level), sink);
     let so_far = more_all_edges(so_far, graph, level, graph.order(level), sink);
     let so_far = more_parts(so_far, graph.order(level), sink);

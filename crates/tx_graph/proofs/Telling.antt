@@ -1,5 +1,5 @@
 -- The steps of the readings of an order, which tell of the picks.
-use Rattle.std.proofs.Common.{◌≡◌, ℕ, ℤ, true, List, [], ◌∷◌, map, Contains, sym, refl, ap, subst, ◌∙◌}
+use Rattle.std.proofs.Common.{◌≡◌, ℕ, ℤ, true, List, [], ◌∷◌, map, Contains, ◌↔◌, sym, refl, ap, subst, ◌∙◌}
 use Rattle.fee_rate.specs.declared.rates.Sum.{Sum}
 use Rattle.lists.proofs.Entries.{Contains-head, Contains-later}
 use Rattle.graphs.specs.declared.names.Level.{Level}
@@ -53,6 +53,16 @@ best_order kept level picked best state stands =
         ancestors = λ x y. (λ walk. walk, λ walk. walk);
       }) of.valid of.valid (map (λ part. part.ids) at.parts) (best graph of.closure);
     }
+
+-- the names of the parts are those of the level
+pub names_ordered : (kept : Kept) (level : Level) → HavePicks kept.levels → IsBest (level_at kept.levels level)
+    → (state : State) × StandsFor kept state
+    → (id : ℕ) → Contains (order_of (level_at kept.levels level).parts) id ↔ (is_member (level_at kept.levels level).graph id ≡ true)
+names_ordered kept level picked best some id =
+    let order = best_order kept level picked best some.0 some.1 in
+    let listed = order.certified.certificate.order.topological.names id in
+    let live = (graph_at kept some.0.plain some.1.plain level).closure.names id in
+    (λ here. live.0 (listed.0 here), λ here. listed.1 (live.1 here))
 
 -- ---- one part, and two names
 

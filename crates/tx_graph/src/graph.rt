@@ -419,6 +419,8 @@ impl<const W: usize> TxGraph<W> {
         ensures parts { result ≡ (level_at self.now.levels level).parts }
         ensures step { MakesStep self.now self.now (commands.Order level) (Parts result) }
         ensures best { (state : State) → StandsFor self.now state → IsBestOrder state level result }
+        ensures names { (id : ℕ) → Contains (order_of result) id
+            ↔ (is_member (level_at self.now.levels level).graph id ≡ true) }
         ensures proof { (text : Text) → IsTextOf (level_at self.now.levels level) text
             → MakesStep self.now self.now (Proof level) (Proves text) }
     {

@@ -53,7 +53,7 @@ certified-requires g c = (
       assumption,
       subst (λ (xs : List ℕ). IsNamed (64 * g.row.W) xs c.in_ok-dep.dep) (sym (from_none c.in_ok-copy_names.ensures c.new-own.ensures.items))
           (IsNamed-part (64 * g.row.W) c.args.names.now c.args.dep.now c.in_ok-dep.dep c.args.chosen c.requires.named
-          c.requires.within c.requires.some c.in_ok-dep.ensures c.members-members.ensures.closed c.requires.whole),
+          c.requires.within c.requires.some c.in_ok-dep.ensures.part c.in_ok-dep.ensures.closed c.requires.whole),
     ),
   ),
 )
@@ -69,7 +69,7 @@ returns-clause-part g c =
     let made : IsPartOf c.args.names.now (named c.args.names.now c.args.dep.now) c.args.chosen (map (slice_index c.args.names.now)
     (places (64 * g.row.W) c.args.chosen)) (named (map (slice_index c.args.names.now) (places (64 * g.row.W) c.args.chosen)) c.in_ok-dep.dep) =
     IsPartOf-named (64 * g.row.W) c.args.names.now c.args.dep.now c.in_ok-dep.dep c.args.chosen c.requires.named
-    c.requires.within c.requires.some c.in_ok-dep.ensures c.members-members.ensures.closed c.requires.whole in
+    c.requires.within c.requires.some c.in_ok-dep.ensures.part c.in_ok-dep.ensures.closed c.requires.whole in
     both_ok c.certified.result (λ k. k.names ≡ c.copy_names.new.names.items) (λ k. k.graph ≡ named c.copy_names.new.names.items c.in_ok-dep.dep)
     (λ k. IsPartOf c.args.names.now (named c.args.names.now c.args.dep.now) c.args.chosen k.names k.graph)
     (λ k names graph. subst₂ (λ (xs : List ℕ) (h : Closure). IsPartOf c.args.names.now (named c.args.names.now c.args.dep.now) c.args.chosen xs h)
@@ -90,6 +90,3 @@ returns-clause-least g c =
 
 pub part-requires : goal.part-requires
 part-requires g c = (search, (search, λ p here. place_member (64 * g.row.W) c.args.names.now c.args.dep.now c.requires.named p (c.requires.within p here)))
-
-pub members-members-requires : goal.members-members-requires
-members-members-requires g c = (search, search)

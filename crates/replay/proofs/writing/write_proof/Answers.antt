@@ -1,22 +1,19 @@
-use Rattle.std.proofs.Common.{◌≡◌, ◌<◌, ◌≤◌, ◌+◌, ◌-◌, ℕ, List, map, flat_map, codes, Contains, Ok, ◌∷◌, [], ◌++◌, refl, sym, subst}
+use Rattle.std.proofs.Common.{◌≡◌, ◌<◌, ℕ, List, map, flat_map, codes, true, Contains, ◌↔◌, Ok, ◌∷◌, [], ◌++◌, refl, subst}
 use Rattle.graphs.specs.Certificates.{Part}
+use Rattle.graphs.specs.Closures.{is_member}
 use Rattle.graph_model.specs.Answers.{order_of}
 use Rattle.graph_model.specs.States.{level_of}
 use Rattle.graph_model.specs.Replies.{Proves}
 use Rattle.graph_model.specs.Runs as runs
 use Rattle.graph_model.specs.Texts.{part_lines}
 use Rattle.levels.specs.Levels.{level_at}
-use Rattle.tx_graph.specs.Readings.{IsBestOrder}
 use Rattle.replay.specs.Writings.{ListsEach, tx_line_of, edges_lines}
 use Rattle.replay.proofs.Rooms.{graph_room, stored_fits}
-use Rattle.replay.proofs.TextLemmas.{graph_at, names_live, text_with, text_is, text_lines_are}
+use Rattle.replay.proofs.TextLemmas.{graph_at, text_with, text_is, text_lines_are}
 use Rattle.replay.proofs.WritingLemmas.{lines_on}
 use Rattle.replay.proofs.writing.write_proof.Goals as goal
 
 -- that the graph fits in memory is asked of the caller too
-pub additions-additions-requires : goal.additions-additions-requires
-additions-additions-requires g c = assumption
-
 pub order-requires : goal.order-requires
 order-requires g c = let fits : graph_room g.row.W < 9223372036854775808 = assumption in (fits, stored_fits g.row.W fits)
 
@@ -31,17 +28,13 @@ more_parts-so_far-requires g c = stored_fits g.row.W assumption
 
 pub more_all_txs-so_far-requires : goal.more_all_txs-so_far-requires
 more_all_txs-so_far-requires g c =
-    let state = c.additions-additions.ensures.stands in
-    let best = c.order.ensures.best state.0 state.1 in
     let fits : graph_room g.row.W < 9223372036854775808 = assumption in
-    (fits, (stored_fits g.row.W fits, λ id here. (names_live c.args.graph.now state.0 c.args.level c.order.result state.1 best id).0 here))
+    (fits, (stored_fits g.row.W fits, λ id here. (c.order.ensures.names id).0 here))
 
 pub more_all_edges-so_far-requires : goal.more_all_edges-so_far-requires
 more_all_edges-so_far-requires g c =
-    let state = c.additions-additions.ensures.stands in
-    let best = c.order-2.ensures.best state.0 state.1 in
     let fits : graph_room g.row.W < 9223372036854775808 = assumption in
-    (fits, (stored_fits g.row.W fits, λ id here. (names_live c.args.graph.now state.0 c.args.level c.order-2.result state.1 best id).0 here))
+    (fits, (stored_fits g.row.W fits, λ id here. (c.order-2.ensures.names id).0 here))
 
 pub returns : goal.returns
 returns g c =
@@ -60,14 +53,14 @@ returns g c =
     let two = lines_on _ _ _ _ _ _ (Ok tt) _ _ (txs ++ pairs) parts (txs ++ pairs ++ parts) one c.more_parts-so_far.ensures refl in
     let written = lines_on _ _ _ _ _ _ (Ok tt) _ _ (txs ++ pairs ++ parts) (codes "end" ∷ []) _ two c.more.ensures
     (text_lines_are level edges first last c.order.ensures.parts c.order-3.ensures.parts) in
+    let names : (id : ℕ) → Contains (order_of level.parts) id ↔ (is_member level.graph id ≡ true) =
+    subst (λ (ps : List Part). (id : ℕ) → Contains (order_of ps) id ↔ (is_member level.graph id ≡ true)) c.order.ensures.parts c.order.ensures.names in
     let text = text_with level edges in (
       runs.Replies (Proves text),
       (
         Proves text,
         λ state stands.
-            let best = subst (IsBestOrder state c.args.level) c.order.ensures.parts (c.order.ensures.best state stands) in
             let graph = graph_at kept state.plain c.args.level stands.plain in
-            let names = names_live kept state c.args.level level.parts stands best in
             c.order.ensures.proof text (text_is level (level_of state.plain c.args.level) edges graph names each) state stands,
         refl,
       ),

@@ -10,7 +10,7 @@ use Rattle.cluster.proofs.At.{at_in}
 use Rattle.cluster.proofs.Joined.{members_long}
 use Rattle.cluster.proofs.Joining.{join_asks, join_kept, join_graph, in_both}
 use Rattle.cluster.proofs.Oks.{one_ok, no_step}
-use Rattle.cluster.proofs.Rooms.{cluster_room, dep_in_cluster, words_in_cluster}
+use Rattle.cluster.proofs.Rooms.{cluster_room, dep_in_cluster}
 use Rattle.cluster.proofs.cluster.Cluster.joined.Goals as goal
 
 -- how many names two lists have together
@@ -50,7 +50,7 @@ add_dep-requires g c =
     let asks = join_asks (64 * g.row.W) c.self.inside.names.items c.other.inside.names.items
     c.self.inside.dep c.other.inside.dep c.in_ok-dep.dep c.self.invariant.place c.other.invariant.place
     (subst₂ (λ (s t : Cluster). length s.names + length t.names ≤ 64 * g.row.W) (sym c.self.view_is) (sym c.other.view_is) c.requires.few)
-    (subst₂ AreApart (sym c.self.view_is) (sym c.other.view_is) c.requires.apart) c.in_ok-dep.ensures
+    (subst₂ AreApart (sym c.self.view_is) (sym c.other.view_is) c.requires.apart) c.in_ok-dep.ensures.merged
     c.place_of-above.result c.place_of-below.result c.args.parent c.args.child
     (at_in c.as_slice-3.result.now (c.self.inside.names.items ++ c.other.inside.names.items) c.place_of-above.result c.args.parent
     (c.as_slice-3.ensures ∙ items) c.place_of-above.ensures.within c.place_of-above.ensures.here)
@@ -102,14 +102,14 @@ certified-requires g c =
               (join_kept (64 * g.row.W) c.self.inside.names.items c.other.inside.names.items c.self.inside.dep
               c.other.inside.dep c.in_ok-dep.dep c.self.invariant.place c.other.invariant.place
               (subst₂ (λ (s t : Cluster). length s.names + length t.names ≤ 64 * g.row.W) (sym c.self.view_is) (sym c.other.view_is) c.requires.few)
-              (subst₂ AreApart (sym c.self.view_is) (sym c.other.view_is) c.requires.apart) c.in_ok-dep.ensures
+              (subst₂ AreApart (sym c.self.view_is) (sym c.other.view_is) c.requires.apart) c.in_ok-dep.ensures.merged
               c.place_of-above.result c.place_of-below.result c.args.parent c.args.child
               (at_in c.as_slice-3.result.now (c.self.inside.names.items ++ c.other.inside.names.items) c.place_of-above.result c.args.parent
               (c.as_slice-3.ensures ∙ items) c.place_of-above.ensures.within c.place_of-above.ensures.here)
               (at_in c.as_slice-4.result.now (c.self.inside.names.items ++ c.other.inside.names.items) c.place_of-below.result c.args.child
               (c.as_slice-4.ensures ∙ items) c.place_of-below.ensures.within c.place_of-below.ensures.here)
               (subst₂ (λ (s t : Cluster). AreAcross s.names t.names c.args.parent c.args.child) (sym c.self.view_is) (sym c.other.view_is) c.requires.across)
-              c.add_dep.new.self c.add_dep.ensures c.members-members-2.ensures.closed),
+              c.add_dep.new.self c.add_dep.ensures.pair c.add_dep.ensures.closed),
         ),
       ),
     )
@@ -129,14 +129,14 @@ returns-clause-graph g c =
     let made = join_graph (64 * g.row.W) c.self.inside.names.items c.other.inside.names.items
     c.self.inside.dep c.other.inside.dep c.in_ok-dep.dep c.self.invariant.place c.other.invariant.place
     (subst₂ (λ (s t : Cluster). length s.names + length t.names ≤ 64 * g.row.W) (sym c.self.view_is) (sym c.other.view_is) c.requires.few)
-    (subst₂ AreApart (sym c.self.view_is) (sym c.other.view_is) c.requires.apart) c.in_ok-dep.ensures
+    (subst₂ AreApart (sym c.self.view_is) (sym c.other.view_is) c.requires.apart) c.in_ok-dep.ensures.merged
     c.place_of-above.result c.place_of-below.result c.args.parent c.args.child
     (at_in c.as_slice-3.result.now (c.self.inside.names.items ++ c.other.inside.names.items) c.place_of-above.result c.args.parent
     (c.as_slice-3.ensures ∙ items) c.place_of-above.ensures.within c.place_of-above.ensures.here)
     (at_in c.as_slice-4.result.now (c.self.inside.names.items ++ c.other.inside.names.items) c.place_of-below.result c.args.child
     (c.as_slice-4.ensures ∙ items) c.place_of-below.ensures.within c.place_of-below.ensures.here)
     (subst₂ (λ (s t : Cluster). AreAcross s.names t.names c.args.parent c.args.child) (sym c.self.view_is) (sym c.other.view_is) c.requires.across)
-    c.add_dep.new.self c.add_dep.ensures in
+    c.add_dep.new.self c.add_dep.ensures.pair in
     one_ok c.certified.result (λ k. k.graph ≡ named c.in_ok-names.names.items c.add_dep.new.self)
     (λ k. Joins c.args.self.now.graph c.args.other.now.graph c.args.parent c.args.child k.graph)
     (λ k graph. subst (Joins c.args.self.now.graph c.args.other.now.graph c.args.parent c.args.child)
@@ -159,13 +159,3 @@ returns-clause-least g c =
     subst (λ (n : ℕ). OnOk c.certified.result (c.args.steps.now + least_steps n ≤ c.certified.new.steps))
     (both_long c.self.inside.names.items c.other.inside.names.items items (ap (λ (s : Cluster). length s.names) c.self.view_is)
     (ap (λ (s : Cluster). length s.names) c.other.view_is)) c.certified.ensures.least
-
-pub members-members-requires : goal.members-members-requires
-members-members-requires g c =
-    let fits : cluster_room g.row.W < 9223372036854775808 = search in
-    (dep_in_cluster g.row.W fits, words_in_cluster g.row.W fits)
-
-pub members-members-requires-2 : goal.members-members-requires-2
-members-members-requires-2 g c =
-    let fits : cluster_room g.row.W < 9223372036854775808 = search in
-    (dep_in_cluster g.row.W fits, words_in_cluster g.row.W fits)

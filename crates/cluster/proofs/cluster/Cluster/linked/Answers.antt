@@ -7,7 +7,7 @@ use Rattle.cluster.proofs.Linking.{link_asks, link_kept, link_graph}
 use Rattle.cluster.proofs.Oks.{one_ok, no_step}
 use Rattle.std.proofs.lemmas.Result.{IfOk-from_err}
 use Rattle.cluster.specs.Steps.{GrowsWithin, least_steps, most_steps}
-use Rattle.cluster.proofs.Rooms.{cluster_room, dep_in_cluster, words_in_cluster}
+use Rattle.cluster.proofs.Rooms.{cluster_room, dep_in_cluster}
 use Rattle.cluster.proofs.cluster.Cluster.linked.Goals as goal
 
 pub add_dep-requires : goal.add_dep-requires
@@ -69,7 +69,7 @@ certified-requires g c =
               (c.as_slice-3.ensures ∙ items) c.place_of-above.ensures.within c.place_of-above.ensures.here)
               (at_in c.as_slice-4.result.now c.self.inside.names.items c.place_of-below.result c.args.child
               (c.as_slice-4.ensures ∙ items) c.place_of-below.ensures.within c.place_of-below.ensures.here)
-              c.add_dep.new.self c.add_dep.ensures c.members-members.ensures.closed),
+              c.add_dep.new.self c.add_dep.ensures.pair c.add_dep.ensures.closed),
         ),
       ),
     )
@@ -89,7 +89,7 @@ returns-clause-graph g c =
     (c.as_slice-3.ensures ∙ items) c.place_of-above.ensures.within c.place_of-above.ensures.here)
     (at_in c.as_slice-4.result.now c.self.inside.names.items c.place_of-below.result c.args.child
     (c.as_slice-4.ensures ∙ items) c.place_of-below.ensures.within c.place_of-below.ensures.here)
-    c.add_dep.new.self c.add_dep.ensures in
+    c.add_dep.new.self c.add_dep.ensures.pair in
     one_ok c.certified.result (λ k. k.graph ≡ named c.in_ok-names.names.items c.add_dep.new.self)
     (λ k. AddsPair c.args.self.now.graph k.graph c.args.parent c.args.child)
     (λ k graph. subst₂ (λ (s : Cluster) (h : Closure). AddsPair s.graph h c.args.parent c.args.child) c.self.view_is
@@ -109,11 +109,6 @@ pub copied-requires : goal.copied-requires
 copied-requires g c =
     let fits : cluster_room g.row.W < 9223372036854775808 = search in
     (dep_in_cluster g.row.W fits, subst (λ (xs : List ℕ). IsNamed (64 * g.row.W) xs c.self.inside.dep) (sym c.as_slice.ensures) c.self.invariant.place)
-
-pub members-members-requires : goal.members-members-requires
-members-members-requires g c =
-    let fits : cluster_room g.row.W < 9223372036854775808 = search in
-    (dep_in_cluster g.row.W fits, words_in_cluster g.row.W fits)
 
 pub place_of-below-requires : goal.place_of-below-requires
 place_of-below-requires g c =

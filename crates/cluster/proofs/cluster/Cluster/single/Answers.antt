@@ -7,7 +7,7 @@ use Rattle.cluster.specs.Changes.{IsSingle}
 use Rattle.cluster.specs.Named.{named, IsNamed}
 use Rattle.cluster.proofs.Oks.{both_ok}
 use Rattle.cluster.proofs.Single.{IsNamed-single, IsSingle-named, len-none}
-use Rattle.cluster.proofs.Rooms.{dep_fits, words_in_dep}
+use Rattle.cluster.proofs.Rooms.{dep_fits}
 use Rattle.cluster.proofs.cluster.Cluster.single.Goals as goal
 
 room_for_one : {n w : ℕ} → n ≡ 0 → 1 ≤ w → n < 64 * w
@@ -48,7 +48,7 @@ certified-requires g c =
               (IsNamed-single (64 * g.row.W) c.new-dep.result c.add.new.self c.args.id
               (record { fee = c.args.fee; size = c.args.size }) c.in_ok-_place._place c.new-dep.ensures
               (subst (λ (z : ℤ). AddsPlace c.new-dep.result c.add.new.self (record { fee = z; size = c.args.size }) c.in_ok-_place._place)
-              (to_z-of_z c.ranges.fee) c.in_ok-_place.ensures.ok) (room_for_one refl c.work.invariant.1) c.requires c.members-members.ensures.closed),
+              (to_z-of_z c.ranges.fee) c.in_ok-_place.ensures.ok) (room_for_one refl c.work.invariant.1) c.requires c.add.ensures.closed),
         ),
       ),
     )
@@ -75,8 +75,3 @@ returns-clause-steps g c =
 
 pub new-dep-requires : goal.new-dep-requires
 new-dep-requires g c = dep_fits g.row.W c.work.invariant.2
-
-pub members-members-requires : goal.members-members-requires
-members-members-requires g c =
-    let fits = dep_fits g.row.W c.work.invariant.2 in
-    (fits, words_in_dep g.row.W fits)

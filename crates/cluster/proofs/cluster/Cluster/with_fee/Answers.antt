@@ -7,7 +7,7 @@ use Rattle.cluster.proofs.Linking.{fee_asks, fee_kept, fee_graph}
 use Rattle.cluster.proofs.Oks.{one_ok, no_step}
 use Rattle.std.proofs.lemmas.Result.{IfOk-from_err}
 use Rattle.cluster.specs.Steps.{GrowsWithin, least_steps, most_steps}
-use Rattle.cluster.proofs.Rooms.{cluster_room, dep_in_cluster, words_in_cluster}
+use Rattle.cluster.proofs.Rooms.{cluster_room, dep_in_cluster}
 use Rattle.cluster.proofs.cluster.Cluster.with_fee.Goals as goal
 
 pub set_fee-requires : goal.set_fee-requires
@@ -63,8 +63,8 @@ certified-requires g c =
               c.place_of.result c.args.id c.args.fee
               (at_in c.as_slice-3.result.now c.self.inside.names.items c.place_of.result c.args.id
               (c.as_slice-3.ensures ∙ items) c.place_of.ensures.within c.place_of.ensures.here)
-              c.set_fee.new.self (subst (λ (z : ℤ). SetsFee c.in_ok-dep.dep c.set_fee.new.self c.place_of.result z) (to_z-of_z c.ranges.fee) c.set_fee.ensures)
-              c.requires.fee c.members-members.ensures.closed),
+              c.set_fee.new.self (subst (λ (z : ℤ). SetsFee c.in_ok-dep.dep c.set_fee.new.self c.place_of.result z) (to_z-of_z c.ranges.fee) c.set_fee.ensures.fee)
+              c.requires.fee c.set_fee.ensures.closed),
         ),
       ),
     )
@@ -81,7 +81,7 @@ returns-clause-graph g c =
     (subst (λ (xs : List ℕ). IsNamed (64 * g.row.W) xs c.in_ok-dep.dep) c.as_slice.ensures c.in_ok-dep.ensures.named) c.place_of.result c.args.id c.args.fee
     (at_in c.as_slice-3.result.now c.self.inside.names.items c.place_of.result c.args.id
     (c.as_slice-3.ensures ∙ items) c.place_of.ensures.within c.place_of.ensures.here)
-    c.set_fee.new.self (subst (λ (z : ℤ). SetsFee c.in_ok-dep.dep c.set_fee.new.self c.place_of.result z) (to_z-of_z c.ranges.fee) c.set_fee.ensures) in
+    c.set_fee.new.self (subst (λ (z : ℤ). SetsFee c.in_ok-dep.dep c.set_fee.new.self c.place_of.result z) (to_z-of_z c.ranges.fee) c.set_fee.ensures.fee) in
     one_ok c.certified.result (λ k. k.graph ≡ named c.in_ok-names.names.items c.set_fee.new.self)
     (λ k. SetsFee c.args.self.now.graph k.graph c.args.id c.args.fee)
     (λ k graph. subst₂ (λ (s : Cluster) (h : Closure). SetsFee s.graph h c.args.id c.args.fee) c.self.view_is
@@ -101,11 +101,6 @@ pub copied-requires : goal.copied-requires
 copied-requires g c =
     let fits : cluster_room g.row.W < 9223372036854775808 = search in
     (dep_in_cluster g.row.W fits, subst (λ (xs : List ℕ). IsNamed (64 * g.row.W) xs c.self.inside.dep) (sym c.as_slice.ensures) c.self.invariant.place)
-
-pub members-members-requires : goal.members-members-requires
-members-members-requires g c =
-    let fits : cluster_room g.row.W < 9223372036854775808 = search in
-    (dep_in_cluster g.row.W fits, words_in_cluster g.row.W fits)
 
 pub place_of-requires : goal.place_of-requires
 place_of-requires g c =

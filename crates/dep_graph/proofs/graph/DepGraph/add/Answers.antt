@@ -1,8 +1,8 @@
-use Rattle.std.proofs.Common.{rules, ℕ, ◌*◌, subst, to_z-of_z, ap, ◌∙◌, arith}
+use Rattle.std.proofs.Common.{rules, ℕ, ◌*◌, subst, to_z-of_z, refl, sym, ap, ◌∙◌, arith}
 use Rattle.std.specs.FinSet as fin
 use Rattle.graphs.specs.Closures.{AddsPlace}
-use Rattle.dep_graph.specs.Rows.{graph_from}
-use Rattle.dep_graph.proofs.Kept.{keeps, inside, members_of-kept}
+use Rattle.dep_graph.specs.Rows.{IsKept, graph_from}
+use Rattle.dep_graph.proofs.Kept.{keeps, inside, members_of-kept, IsClosed-kept}
 use Rattle.dep_graph.proofs.Added.{free_low, contains-only}
 use Rattle.dep_graph.proofs.Changed.{place_keeps, place_is}
 use Rattle.dep_graph.proofs.graph.DepGraph.add.Goals as goal
@@ -43,3 +43,11 @@ returns-clause-ok g c =
     (record { fee = fee; size = c.args.size }) place)
     (to_z-of_z c.ranges.fee)
     (place_is k place _ c.free_place-place.ensures.free c.free_place-place.ensures.least low itself_is c.in_ok-put.ensures.ok c.insert-2.ensures)
+
+pub returns-clause-closed : goal.returns-clause-closed
+returns-clause-closed g c = IsClosed-kept (keeps (invariant_of-self-2 g c) refl)
+
+pub returns-in_err-put-clause-closed : goal.returns-in_err-put-clause-closed
+returns-in_err-put-clause-closed g c =
+    let kept = subst (IsKept (64 * g.row.W) c.self.inside.members) (sym c.in_err-put.ensures.err) c.self.invariant in
+    IsClosed-kept (keeps kept refl)

@@ -2,7 +2,7 @@ use Rattle.std.proofs.Common.{rules, ◌*◌, length, ap, ◌∙◌, subst, sym,
 use Rattle.graphs.specs.Closures.{AddsPair}
 use Rattle.dep_graph.specs.Rows.{IsKept, graph_from}
 use Rattle.dep_graph.specs.Changes.{ChangesAt, gives_ancestors}
-use Rattle.dep_graph.proofs.Kept.{keeps, ups_within, downs_within}
+use Rattle.dep_graph.proofs.Kept.{keeps, ups_within, downs_within, IsClosed-kept}
 use Rattle.dep_graph.proofs.Changed.{pair_keeps, pair_is}
 use Rattle.dep_graph.proofs.Reading.{refilled}
 use Rattle.dep_graph.proofs.graph.DepGraph.add_dep.Goals as goal
@@ -28,8 +28,8 @@ invariant_of-self g c =
     (pair_keeps (keeps c.self.invariant c.self.view_is) c.args.parent c.args.child c.requires.parent c.requires.child c.requires.no_cycle
     c.ancestors-above.ensures c.descendants-below.ensures first c.give_descendants.ensures)
 
-pub returns : goal.returns
-returns g c =
+pub returns-clause-pair : goal.returns-clause-pair
+returns-clause-pair g c =
     let rows = c.self.inside.rows.items in
     let first : ChangesAt (gives_ancestors c.ancestors-above.result) c.descendants-below.result rows c.give_ancestors.new.rows =
     subst (λ xs. ChangesAt (gives_ancestors c.ancestors-above.result) c.descendants-below.result xs c.give_ancestors.new.rows)
@@ -38,3 +38,6 @@ returns g c =
     (sym (refilled (length rows) rows c.give_descendants.new.rows refl (c.give_descendants.ensures.long ∙ first.long)))
     (pair_is (keeps c.self.invariant c.self.view_is) c.args.parent c.args.child c.requires.parent c.requires.child c.requires.no_cycle
     c.ancestors-above.ensures c.descendants-below.ensures first c.give_descendants.ensures)
+
+pub returns-clause-closed : goal.returns-clause-closed
+returns-clause-closed g c = IsClosed-kept (keeps (invariant_of-self g c) refl)

@@ -4,7 +4,7 @@ use Rattle.graphs.specs.Closures.{IsMerged}
 use Rattle.bitset.specs.Places.{places, first_places}
 use Rattle.bitset.specs.Sets.{len-places}
 use Rattle.dep_graph.specs.Rows.{graph_from}
-use Rattle.dep_graph.proofs.Kept.{keeps, members_of-kept, inside}
+use Rattle.dep_graph.proofs.Kept.{keeps, members_of-kept, inside, IsClosed-kept}
 use Rattle.dep_graph.proofs.Joined.{Chosen-places, joined_keeps, joined_is, count_is, copies_lent}
 use Rattle.dep_graph.proofs.graph.DepGraph.merge.Goals as goal
 
@@ -126,8 +126,8 @@ invariant_of-result g c =
     (copies_lent qs c.as_slice-second.ensures refl c.copy_rows-2.ensures.rows)
     (c.first_n.ensures ∙ ap first_places (ap₂ (λ a b. a + b) (first.0 ∙ long) (second.0 ∙ long')))
 
-pub returns : goal.returns
-returns g c =
+pub returns-clause-merged : goal.returns-clause-merged
+returns-clause-merged g c =
     let first = count_is (keeps c.self.invariant c.self.view_is) c.self.inside.members (λ p e. e) c.as_slice-first.result.now c.as_slice-first.ensures
     _ c.as_slice-first.type_inv.1 (omega arith) c.count.result c.count.ensures.exact in
     let second = count_is (keeps c.other.invariant c.other.view_is) c.other.inside.members (λ p e. e) c.as_slice-second.result.now c.as_slice-second.ensures
@@ -152,3 +152,6 @@ returns g c =
     (copies_lent ps c.as_slice-first.ensures c.in_ok-rows.ensures.items c.copy_rows.ensures.rows)
     (copies_lent qs c.as_slice-second.ensures refl c.copy_rows-2.ensures.rows)
     (c.first_n.ensures ∙ ap first_places (ap₂ (λ a b. a + b) (first.0 ∙ long) (second.0 ∙ long'))))
+
+pub returns-clause-closed : goal.returns-clause-closed
+returns-clause-closed g c = IsClosed-kept (keeps (invariant_of-result g c) refl)

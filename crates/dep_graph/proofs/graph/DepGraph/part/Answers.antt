@@ -1,10 +1,10 @@
-use Rattle.std.proofs.Common.{rules, ◌≡◌, ◌*◌, ◌≤◌, ℕ, true, length, ap, ◌∙◌, arith}
+use Rattle.std.proofs.Common.{rules, ◌≡◌, ◌*◌, ◌≤◌, ℕ, true, length, ap, ◌∙◌, refl, arith}
 use Rattle.std.specs.FinSet as fin
 use Rattle.bitset.specs.Members.{len_bound}
 use Rattle.bitset.specs.Places.{places, first_places}
 use Rattle.bitset.specs.Sets.{len-places}
 use Rattle.dep_graph.specs.Rows.{graph_from}
-use Rattle.dep_graph.proofs.Kept.{keeps, member_there}
+use Rattle.dep_graph.proofs.Kept.{keeps, member_there, IsClosed-kept}
 use Rattle.dep_graph.proofs.Joined.{Chosen-places, Chosen-none, Copies-none, joined_keeps, joined_is, part_of_merged, count_is, copies_lent}
 use Rattle.dep_graph.proofs.graph.DepGraph.part.Goals as goal
 
@@ -52,8 +52,8 @@ invariant_of-result g c =
     (copies_lent ps c.as_slice-whole.ensures c.in_ok-rows.ensures.items c.copy_rows.ensures.rows) (Copies-none _ _)
     (c.first_n.ensures ∙ ap first_places (omega (arith, counted.0, long)))
 
-pub returns : goal.returns
-returns g c =
+pub returns-clause-part : goal.returns-clause-part
+returns-clause-part g c =
     let k = keeps c.self.invariant c.self.view_is in
     let all = λ (p : ℕ) (e : fin.contains c.args.within p ≡ true). member_there k p (c.requires p e) in
     let counted = count_is k c.args.within all c.as_slice-whole.result.now c.as_slice-whole.ensures
@@ -66,3 +66,6 @@ returns g c =
     (joined_is (Chosen-places k c.args.within all) (Chosen-none k) (omega (arith, few, long))
     (copies_lent ps c.as_slice-whole.ensures c.in_ok-rows.ensures.items c.copy_rows.ensures.rows) (Copies-none _ _)
     (c.first_n.ensures ∙ ap first_places (omega (arith, counted.0, long))))
+
+pub returns-clause-closed : goal.returns-clause-closed
+returns-clause-closed g c = IsClosed-kept (keeps (invariant_of-result g c) refl)

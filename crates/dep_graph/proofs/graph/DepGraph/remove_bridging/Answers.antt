@@ -2,7 +2,7 @@ use Rattle.std.proofs.Common.{rules, ◌*◌, length, ap, ◌∙◌, subst, sym,
 use Rattle.graphs.specs.Closures.{DropsPlace}
 use Rattle.dep_graph.specs.Rows.{IsKept, graph_from}
 use Rattle.dep_graph.specs.Changes.{ChangesAt, takes_ancestor}
-use Rattle.dep_graph.proofs.Kept.{keeps, place_there, ups_within, downs_within}
+use Rattle.dep_graph.proofs.Kept.{keeps, place_there, ups_within, downs_within, IsClosed-kept}
 use Rattle.dep_graph.proofs.Changed.{drop_keeps, drop_is}
 use Rattle.dep_graph.proofs.Reading.{refilled}
 use Rattle.dep_graph.proofs.graph.DepGraph.remove_bridging.Goals as goal
@@ -38,8 +38,8 @@ invariant_of-self g c =
     (drop_keeps (keeps c.self.invariant c.self.view_is) c.args.place c.requires c.ancestors-above.ensures c.descendants-below.ensures
     first c.take_descendant.ensures c.remove.ensures)
 
-pub returns : goal.returns
-returns g c =
+pub returns-clause-dropped : goal.returns-clause-dropped
+returns-clause-dropped g c =
     let rows = c.self.inside.rows.items in
     let first : ChangesAt (takes_ancestor c.args.place) c.descendants-below.result rows c.take_ancestor.new.rows =
     subst (λ xs. ChangesAt (takes_ancestor c.args.place) c.descendants-below.result xs c.take_ancestor.new.rows)
@@ -48,3 +48,6 @@ returns g c =
     (sym (refilled (length rows) rows c.take_descendant.new.rows refl (c.take_descendant.ensures.long ∙ first.long)))
     (drop_is (keeps c.self.invariant c.self.view_is) c.args.place c.requires c.ancestors-above.ensures c.descendants-below.ensures
     first c.take_descendant.ensures c.remove.ensures)
+
+pub returns-clause-closed : goal.returns-clause-closed
+returns-clause-closed g c = IsClosed-kept (keeps (invariant_of-self g c) refl)

@@ -1,6 +1,6 @@
-use Rattle.std.proofs.Common.{rules, ◌<◌, length, subst, to_z-of_z}
+use Rattle.std.proofs.Common.{rules, ◌<◌, length, subst, to_z-of_z, refl}
 use Rattle.graphs.specs.Closures.{SetsFee}
-use Rattle.dep_graph.proofs.Kept.{keeps, row_there}
+use Rattle.dep_graph.proofs.Kept.{keeps, row_there, IsClosed-kept}
 use Rattle.dep_graph.proofs.Changed.{fee_written_keeps, fee_written_is}
 use Rattle.dep_graph.proofs.Reading.{row_there_lent}
 use Rattle.dep_graph.proofs.graph.DepGraph.set_fee.Goals as goal
@@ -24,8 +24,11 @@ invariant_of-self g c =
     fee_written_keeps (keeps c.self.invariant c.self.view_is) c.args.place c.requires _ c.deref_mut.result.now c.deref_mut.ensures.value
     c.index-deref_mut-place.result c.index-deref_mut-place.is
 
-pub returns : goal.returns
-returns g c =
+pub returns-clause-fee : goal.returns-clause-fee
+returns-clause-fee g c =
     subst (SetsFee c.args.self.now _ c.args.place) (to_z-of_z c.ranges.fee)
     (fee_written_is (keeps c.self.invariant c.self.view_is) c.args.place c.requires _ c.deref_mut.result.now c.deref_mut.ensures.value
     c.index-deref_mut-place.result c.index-deref_mut-place.is)
+
+pub returns-clause-closed : goal.returns-clause-closed
+returns-clause-closed g c = IsClosed-kept (keeps (invariant_of-self g c) refl)

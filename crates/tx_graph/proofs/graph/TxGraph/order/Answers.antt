@@ -1,6 +1,8 @@
 -- The parts are the pick of every state.
-use Rattle.std.proofs.Common.{List, sym, ap, ◌∙◌, subst}
+use Rattle.std.proofs.Common.{◌≡◌, ℕ, true, List, Contains, ◌↔◌, sym, ap, ◌∙◌, subst}
 use Rattle.graphs.specs.Certificates.{Part}
+use Rattle.graphs.specs.Closures.{is_member}
+use Rattle.graph_model.specs.Answers.{order_of}
 use Rattle.graph_model.specs.Commands.{Order, Proof}
 use Rattle.graph_model.specs.Replies.{Parts, Proves}
 use Rattle.graph_model.specs.States.{State}
@@ -8,7 +10,7 @@ use Rattle.tx_graph.specs.Kept.{Kept, StandsFor, MakesStep}
 use Rattle.levels.specs.Levels.{level_at}
 use Rattle.tx_graph.specs.Readings.{IsBestOrder, IsTextOf}
 use Rattle.tx_graph.proofs.Calls.{kept_of}
-use Rattle.tx_graph.proofs.Telling.{steps_ordered, steps_proved, best_order}
+use Rattle.tx_graph.proofs.Telling.{steps_ordered, steps_proved, best_order, names_ordered}
 use Rattle.tx_graph.proofs.Rooms.{levels_fit}
 use Rattle.tx_graph.proofs.graph.TxGraph.order.Goals as goal
 
@@ -28,6 +30,15 @@ returns-clause-best g c =
     subst (λ (parts : List Part). (state : State) → StandsFor c.args.self.now state → IsBestOrder state c.args.level parts) (sym (returns-clause-parts g c))
     (subst (λ (k : Kept). (state : State) → StandsFor k state → IsBestOrder state c.args.level (level_at k.levels c.args.level).parts) c.self.view_is
     (best_order kept c.args.level c.self.invariant.picked c.parts.ensures.best))
+
+pub returns-clause-names : goal.returns-clause-names
+returns-clause-names g c =
+    let kept = kept_of c.self.inside.limits c.self.inside.begun c.self.inside.levels in
+    let named = names_ordered kept c.args.level c.self.invariant.picked c.parts.ensures.best c.self.invariant.stands in
+    subst (λ (parts : List Part). (id : ℕ) → Contains (order_of parts) id ↔ (is_member (level_at c.args.self.now.levels c.args.level).graph id ≡ true))
+    (sym (returns-clause-parts g c))
+    (subst (λ (k : Kept). (id : ℕ) → Contains (order_of (level_at k.levels c.args.level).parts) id
+    ↔ (is_member (level_at k.levels c.args.level).graph id ≡ true)) c.self.view_is named)
 
 pub returns-clause-proof : goal.returns-clause-proof
 returns-clause-proof g c text is =
