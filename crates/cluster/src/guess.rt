@@ -130,8 +130,10 @@ fn is_lower(a: FeeRate, b: FeeRate) -> bool {
 // where they end.
 fn write_places(order: &[TxId], names: &[TxId], from: usize, guess: &mut [usize]) -> usize {
     let mut end = from;
+    let mut place = 0;
     for at in 0..order.len() {
-        if let Some(place) = find(names, order[at]) {
+        if let Some(found) = find(names, order[at], place) {
+            place = found;
             if end < guess.len() {
                 guess[end] = place;
                 end += 1;
@@ -141,12 +143,18 @@ fn write_places(order: &[TxId], names: &[TxId], from: usize, guess: &mut [usize]
     end
 }
 
-// Where a name stands, if it is there.
-fn find(names: &[TxId], id: TxId) -> Option<usize> {
-    for place in 0..names.len() {
+// Where a name stands, if it is there. It is looked for from a place on, since names that follow one another in an order mostly
+// came one after the other.
+fn find(names: &[TxId], id: TxId, from: usize) -> Option<usize> {
+    let mut place = from;
+    for _ in 0..names.len() {
+        if place >= names.len() {
+            place = 0;
+        }
         if names[place] == id {
             return Some(place);
         }
+        place += 1;
     }
     None
 }
