@@ -53,7 +53,7 @@ graph_fits (suc zero) few = lit< tt
 graph_fits (suc (suc zero)) few = lit< tt
 graph_fits (suc (suc (suc w))) few = absurd (omega (arith, few))
 
--- a scratch, and an order of five lists
+-- a scratch, and an order of six lists
 pub order_room_fits : (w : ℕ) → w ≤ 2 → up 8 (up 8 (0 + scratch_room w) + 144) < 2 ^ 63
 order_room_fits zero few = lit< tt
 order_room_fits (suc zero) few = lit< tt
