@@ -115,7 +115,7 @@ impl<const W: usize> Cluster<W> {
         let names = SmallVec::from_slice(alloc, self.names.as_slice())?;
         let above = place_of(names.as_slice(), parent);
         let below = place_of(names.as_slice(), child);
-        guess_same(self, work);
+        guess_same(self, child, work);
         dep.add_dep(above, below);
         certified(alloc, names, dep, work, steps)
     }
@@ -177,12 +177,11 @@ impl<const W: usize> Cluster<W> {
         let mut clusters = Vec::new(alloc);
         while let Some(first) = rest.least() {
             let chosen = self.dep.component(first, rest);
-            let order = self.order.names.as_slice();
             let made = part(
                 alloc,
                 self.names.as_slice(),
                 &self.dep,
-                order,
+                &self.order,
                 chosen,
                 work,
                 steps,
@@ -213,7 +212,7 @@ impl<const W: usize> Cluster<W> {
         let mut dep = copied(alloc, self.names.as_slice(), &self.dep)?;
         let _order = &self.order;
         let names = SmallVec::from_slice(alloc, self.names.as_slice())?;
-        guess_same(self, work);
+        guess_same(self, id, work);
         dep.set_fee(place_of(names.as_slice(), id), fee);
         certified(alloc, names, dep, work, steps)
     }

@@ -2,22 +2,54 @@
 //! was. A guess has no say in the answer, which the solver proves optimal whatever it tried, only in how soon it comes. So
 //! no clause speaks of what is written here, and a name that isn't found is left out.
 //!
-//! A guess stands at the head of [`Work`]'s positions: as many places as the new cluster has names.
+//! A guess stands at the head of [`Work`]'s positions: as many places as the new cluster has names. The parts of the old order
+//! are tried as they were, each place but the first of one told by its complement. Only of a part that has changed each place
+//! stands for itself.
+
+ghost use Rattle.std.specs.Prelude.{◌≤◌};
 
 use crate::cluster::Cluster;
+use crate::order::{Order, names_between};
 use crate::work::Work;
 use fee_rate::FeeRate;
 use graphs::TxId;
 
-/// Guesses the order of a cluster whose names keep their places: as it was.
-pub(crate) fn guess_same<const W: usize>(old: &Cluster<W>, work: &mut Work<W>) {
-    guess_part(old.order(), old.names(), work);
+/// How many slots there are for places. Where names are numbers that follow one another, so many of them have slots of their own.
+const SLOTS: u64 = 512;
+
+/// Guesses the order of a cluster whose names keep their places, where a name has another fee or another parent.
+pub(crate) fn guess_same<const W: usize>(old: &Cluster<W>, changed: TxId, work: &mut Work<W>) {
+    let names = old.names();
+    let slots = Slots::new(names);
+    let guess = work.positions.as_mut_slice();
+    let mut end = 0;
+    for at in 0..old.part_count() {
+        let ids = old.part(at).ids;
+        let whole = !ids.contains(&changed);
+        end = write_places(ids, names, &slots, whole, end, guess);
+    }
 }
 
 /// Guesses the order of a cluster that has some of the names of an order: what is left of it. The names stand each at its
-/// place.
-pub(crate) fn guess_part<const W: usize>(order: &[TxId], names: &[TxId], work: &mut Work<W>) {
-    let _end = write_places(order, names, 0, work.positions.as_mut_slice());
+/// place. A part that lost a name has changed as a whole.
+pub(crate) fn guess_part<const W: usize>(order: &Order, names: &[TxId], work: &mut Work<W>) {
+    let slots = Slots::new(names);
+    let guess = work.positions.as_mut_slice();
+    let old_names = order.names.as_slice();
+    let mut from = 0;
+    let mut end = 0;
+    for at in 0..order.parts.len() {
+        // the ends rise up to the number of names, of which nothing is known here
+        let to = order.parts[at].end.min(old_names.len());
+        let ids = names_between(old_names, from.min(to), to);
+        let whole_end = write_places(ids, names, &slots, true, end, guess);
+        end = if whole_end - end == ids.len() {
+            whole_end
+        } else {
+            write_places(ids, names, &slots, false, end, guess)
+        };
+        from = to;
+    }
 }
 
 /// Guesses the order of two clusters together, where `child` of the one comes to depend on `parent` of the other: the parts of
@@ -30,6 +62,7 @@ pub(crate) fn guess_joined<const W: usize>(
     names: &[TxId],
     work: &mut Work<W>,
 ) {
+    let slots = Slots::new(names);
     let guess = work.positions.as_mut_slice();
     let mut one = Side::new(first, parent, child);
     let mut other = Side::new(second, parent, child);
@@ -37,9 +70,9 @@ pub(crate) fn guess_joined<const W: usize>(
     // each part has a name, so that there are no more parts than names
     for _ in 0..names.len() {
         end = if one.is_before(&other) {
-            one.write_next(first, names, end, guess)
+            one.write_next(first, names, &slots, end, guess)
         } else {
-            other.write_next(second, names, end, guess)
+            other.write_next(second, names, &slots, end, guess)
         };
     }
 }
@@ -87,6 +120,7 @@ impl Side {
         &mut self,
         cluster: &Cluster<W>,
         names: &[TxId],
+        slots: &Slots,
         from: usize,
         guess: &mut [usize],
     ) -> usize {
@@ -94,9 +128,10 @@ impl Side {
             return from;
         }
         let part = cluster.part(self.next);
+        let whole = self.next != self.child;
         self.next += 1;
         self.rate = rate_at(cluster, self.next);
-        write_places(part.ids, names, from, guess)
+        write_places(part.ids, names, slots, whole, from, guess)
     }
 }
 
@@ -111,13 +146,24 @@ fn rate_at<const W: usize>(cluster: &Cluster<W>, at: usize) -> Option<FeeRate> {
 
 // The part that has a name, or the number of parts where none has.
 fn find_part<const W: usize>(cluster: &Cluster<W>, id: TxId) -> usize {
-    let count = cluster.part_count();
-    for at in 0..count {
-        if cluster.part(at).ids.contains(&id) {
+    let position = position_of(cluster.order(), id);
+    let parts = cluster.order.parts.as_slice();
+    for at in 0..parts.len() {
+        if position < parts[at].end {
             return at;
         }
     }
-    count
+    parts.len()
+}
+
+// Where a name stands among others, or how many these are where it isn't there.
+fn position_of(names: &[TxId], id: TxId) -> usize {
+    for at in 0..names.len() {
+        if names[at] == id {
+            return at;
+        }
+    }
+    names.len()
 }
 
 // Whether the first rate is the lower one, fee over size. The products are exact for any numbers, so that no limit of a
@@ -126,35 +172,55 @@ fn is_lower(a: FeeRate, b: FeeRate) -> bool {
     i128::from(a.fee) * i128::from(b.size) < i128::from(b.fee) * i128::from(a.size)
 }
 
-// Writes the places of those names of an order that are among `names`, from a position on, as far as there is room. Gives
-// where they end.
-fn write_places(order: &[TxId], names: &[TxId], from: usize, guess: &mut [usize]) -> usize {
+// Writes the places of those names of a part that are among `names`, from a position on, as far as there is room: of a part that
+// is tried as a whole all but the first by their complements. Gives where they end.
+fn write_places(
+    part: &[TxId],
+    names: &[TxId],
+    slots: &Slots,
+    whole: bool,
+    from: usize,
+    guess: &mut [usize],
+) -> usize
+    ensures { from ≤ result }
+{
     let mut end = from;
-    let mut place = 0;
-    for at in 0..order.len() {
-        if let Some(found) = find(names, order[at], place) {
-            place = found;
-            if end < guess.len() {
-                guess[end] = place;
-                end += 1;
-            }
+    for at in 0..part.len() {
+        let place = slots.find(names, part[at]);
+        if place < names.len() && end < guess.len() {
+            guess[end] = if whole && end > from { !place } else { place };
+            end += 1;
         }
     }
     end
 }
 
-// Where a name stands, if it is there. It is looked for from a place on, since names that follow one another in an order mostly
-// came one after the other.
-fn find(names: &[TxId], id: TxId, from: usize) -> Option<usize> {
-    let mut place = from;
-    for _ in 0..names.len() {
-        if place >= names.len() {
-            place = 0;
+/// Where names may stand, so that few of them are looked for. Each name has a slot, by its last digits. A slot has the place of
+/// the last name that came to it and one more, as far as these fit, and 0 if none came.
+#[derive(Drop)]
+struct Slots {
+    places: [u8; SLOTS as usize],
+}
+
+impl Slots {
+    // The places of these names.
+    fn new(names: &[TxId]) -> Self {
+        let mut places = [0; SLOTS as usize];
+        for place in 0..names.len() {
+            places[(names[place] % SLOTS) as usize] = (place % 255) as u8 + 1;
         }
-        if names[place] == id {
-            return Some(place);
-        }
-        place += 1;
+        Slots { places }
     }
-    None
+
+    // Where one of the names stands, or how many they are where it isn't there.
+    fn find(&self, names: &[TxId], id: TxId) -> usize {
+        let place = usize::from(self.places[(id % SLOTS) as usize]);
+        if place == 0 {
+            return names.len();
+        }
+        if place <= names.len() && names[place - 1] == id {
+            return place - 1;
+        }
+        position_of(names, id)
+    }
 }

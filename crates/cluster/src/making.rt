@@ -107,7 +107,7 @@ pub(crate) fn part<L: Ledger, const W: usize>(
     alloc: Global,
     names: &[TxId],
     dep: &DepGraph<W>,
-    order: &[TxId],
+    order: &Order,
     chosen: Bits<W>,
     work: &mut Work<W>,
     steps: &mut Steps<L>,

@@ -18,6 +18,6 @@ some_of n s None none within h is false_ = absurd (let e : false ≡ true = is �
 some_of n s (Some p) none within h is false_ = let one = len_remove n s p within h.member in omega (arith, one)
 
 -- what holds where nothing was answered
-pub when_none : {X : Type 0} (r : Option X) (b : Bool) (P : Type 0) (Q : X → Type 0) → MatchOption r P Q → b ≡ is_some r → b ≡ false → P
-when_none None b P Q h is false_ = h
-when_none (Some x) b P Q h is false_ = absurd (let e : true ≡ false = sym is ∙ false_ in cc)
+pub when_none : {X : Type 0} (r : Option X) (none : Bool) (P : Type 0) (Q : X → Type 0) → MatchOption r P Q → is_some r ≡ not none → none ≡ true → P
+when_none None none P Q h is true_ = h
+when_none (Some x) none P Q h is true_ = absurd (let e : true ≡ false = is ∙ ap not true_ in cc)

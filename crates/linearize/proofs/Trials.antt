@@ -1,10 +1,10 @@
 -- Sets that come one after the other, each written as certified parts: what was written so far.
-use Rattle.std.proofs.Common.{◌≡◌, ◌≢◌, ℕ, ◌+◌, ◌*◌, ◌^◌, ◌≤◌, inl, inr, true, List, [], ◌++◌, length, map, refl, sym, ap, ◌∙◌, subst, arith}
+use Rattle.std.proofs.Common.{◌≡◌, ◌≢◌, ℕ, ◌+◌, ◌-◌, ◌*◌, ◌^◌, ◌<◌, ◌≤◌, inl, inr, true, List, [], ◌++◌, length, map, refl, sym, ap, ◌∙◌, subst, arith}
 use Rattle.std.proofs.Common.{length-append}
 use Rattle.std.proofs.lemmas.Bool.{cases_Bool, false_from_ne_true}
 use Rattle.std.proofs.lemmas.List.Concat.{flat_map-append}
 use Rattle.std.proofs.lemmas.List.Elements.{Contains-append_left, Contains-append_right, Contains-append_cases}
-use Rattle.std.proofs.Math.Nat.{mul-le-mul, mul-le-mul_left, mul-le-mul_right, pow-le-pow_left, pow-suc}
+use Rattle.std.proofs.Math.Nat.{mul-le-mul, mul-le-mul_left, mul-le-mul_right, pow-le-pow_left, pow-suc, pow-zero}
 use Rattle.std.specs.Prelude.{Contains}
 use Rattle.std.specs.Ordering.{nat_cmp}
 use Rattle.std.specs.FinSet as fin
@@ -15,6 +15,7 @@ use Rattle.graphs.specs.Closures.{Closure, IsCover, IsClosed, HoldsMembers}
 use Rattle.graphs.specs.Certificates.{Part, Certifies}
 use Rattle.graphs.specs.Rates.{sums, Falls}
 use Rattle.closure_flow.specs.Bounds.{most_steps}
+use Rattle.closure_flow.proofs.Powers.{fourth}
 use Rattle.bitset.specs.Sets.{contains-empty, same_members}
 use Rattle.lists.proofs.Cases.{clash}
 use Rattle.lists.proofs.Entries.{none_in_empty}
@@ -30,24 +31,77 @@ use Rattle.linearize.proofs.Joined.{either_part}
 use Rattle.linearize.proofs.Nexts.{inside}
 use Rattle.linearize.proofs.Sets.{split_union, len_split, len_within}
 
--- a solve of b places of m, and the search behind it, takes at most so many steps for each of the b
-trial_steps : (b m : ℕ) → 1 ≤ b → b ≤ m → most_steps b + b * b ≤ most_tried m * b
-trial_steps b m some low =
-    let fourth = pow-suc (b + 2) 3 in
-    let third = pow-suc (b + 2) 2 in
+third : (x : ℕ) → x ^ 3 ≡ x * x * x
+third x = pow-suc x 2 ∙ ap (λ (y : ℕ). y * x) (pow-suc x 1 ∙ ap (λ (y : ℕ). y * x) (pow-suc x 0 ∙ ap (λ (y : ℕ). y * x) (pow-zero x) ∙ omega arith))
+
+-- a solve of b places, and the search behind it, takes at most so many steps
+solve_steps : (b : ℕ) → 1 ≤ b → most_steps b + b * b ≤ most_tried b * b
+solve_steps b some =
+    let four = pow-suc (b + 2) 3 in
+    let three = pow-suc (b + 2) 2 in
     let two : 2 ≤ b + 2 = omega arith in
-    let base : b + 2 ≤ m + 2 = omega (arith, low) in
     let square : 2 ^ 2 ≤ (b + 2) ^ 2 = pow-le-pow_left two 2 in
     let cube : (2 ^ 2) * (b + 2) ≤ (b + 2) ^ 2 * (b + 2) = mul-le-mul_right (b + 2) square in
-    let more : (b + 2) ^ 3 ≤ (m + 2) ^ 3 = pow-le-pow_left base 3 in
-    sums_up b ((b + 2) ^ 3) ((b + 2) ^ 4) ((m + 2) ^ 3) fourth (omega (arith, third, cube))
-    (mul-le-mul_right b more) some
+    sums_up b ((b + 2) ^ 3) ((b + 2) ^ 4) four (omega (arith, three, cube)) some
   where
-    sums_up : (b x z y : ℕ) → z ≡ x * (b + 2) → b + 3 ≤ x → x * b ≤ y * b → 1 ≤ b → z + (b + 2) + b * b ≤ 4 * y * b
-    sums_up b x z y fourth cube more some =
+    sums_up : (b x z : ℕ) → z ≡ x * (b + 2) → b + 3 ≤ x → 1 ≤ b → z + (b + 2) + b * b ≤ 4 * x * b
+    sums_up b x z four cube some =
         let one : x * (b + 2) ≤ x * (3 * b) = mul-le-mul_left x (omega (arith, some)) in
         let two : (b + 3) * b ≤ x * b = mul-le-mul_right b cube in
-        omega (arith, fourth, one, two, more, some)
+        omega (arith, four, one, two, some)
+
+-- and so do one of d + 2 places and those of the two sets that it is cut into, f and r of them
+cut_steps : (d f r : ℕ) → d + 2 ≡ f + r → 1 ≤ f → 1 ≤ r
+    → (most_steps (d + 2) + (d + 2) * (d + 2)) + (most_steps f + f * f) + (most_steps r + r * r) ≤ most_tried (d + 2) * (d + 2)
+cut_steps d f r all some others =
+    subst (λ (x : ℕ). (x ^ 4 + x + (d + 2) * (d + 2)) + (most_steps f + f * f) + (most_steps r + r * r) ≤ 4 * x ^ 3 * (d + 2)) (omega arith)
+    (sums_up ((f + 2) ^ 4) ((r + 2) ^ 4) ((d + 4) ^ 4) ((d + 4) ^ 3) (less f (omega (arith, all, others))) (less r (omega (arith, all, some)))
+    (fourth (d + 4)) (third (d + 4)))
+  where
+    less : (k : ℕ) → k + 1 ≤ d + 2 → (k + 2) ^ 4 ≤ (d + 3) * (d + 3) * (d + 3) * (k + 2)
+    less k low =
+        let base : k + 2 ≤ d + 3 = omega (arith, low) in
+        let cube : (k + 2) ^ 3 * (k + 2) ≤ (d + 3) ^ 3 * (k + 2) = mul-le-mul_right (k + 2) (pow-le-pow_left base 3) in
+        subst (λ (x : ℕ). (k + 2) ^ 4 ≤ x * (k + 2)) (third (d + 3)) (subst (λ (x : ℕ). x ≤ (d + 3) ^ 3 * (k + 2)) (sym (pow-suc (k + 2) 3)) cube)
+
+    polynomial : 2 * ((d + 4) * (d + 4) * (d + 4) * (d + 4)) + 2 * ((d + 3) * (d + 3) * (d + 3) * (d + 6)) + (4 * d + 20) + 4 * ((d + 2) * (d + 2))
+        ≤ 8 * ((d + 4) * (d + 4) * (d + 4) * (d + 2))
+    polynomial = omega arith
+
+    small : (f4 r4 d4 x p q y z u w ff rr : ℕ) → f4 ≤ p → r4 ≤ q → d4 ≡ z → p + q ≡ y → ff + rr ≤ u → x ≡ w
+        → 2 * z + 2 * y + (4 * d + 20) + 4 * u ≤ 8 * w → d + 2 ≡ f + r
+        → (d4 + (d + 4) + u) + (f4 + (f + 2) + ff) + (r4 + (r + 2) + rr) ≤ 4 * x
+    small f4 r4 d4 x p q y z u w ff rr a b e g h i j k = omega (arith, a, b, e, g, h, i, j, k)
+
+    sums_up : (f4 r4 d4 d3 : ℕ) → f4 ≤ (d + 3) * (d + 3) * (d + 3) * (f + 2) → r4 ≤ (d + 3) * (d + 3) * (d + 3) * (r + 2)
+        → d4 ≡ (d + 4) * (d + 4) * (d + 4) * (d + 4) → d3 ≡ (d + 4) * (d + 4) * (d + 4)
+        → (d4 + (d + 4) + (d + 2) * (d + 2)) + (f4 + (f + 2) + f * f) + (r4 + (r + 2) + r * r) ≤ 4 * d3 * (d + 2)
+    sums_up f4 r4 d4 d3 first second fourths cube =
+        let both : (d + 3) * (d + 3) * (d + 3) * (f + 2) + (d + 3) * (d + 3) * (d + 3) * (r + 2) ≡ (d + 3) * (d + 3) * (d + 3) * (d + 6) =
+        (let times = ap (λ (k : ℕ). (d + 3) * (d + 3) * (d + 3) * k) all in omega (arith, times)) in
+        let squares : f * f + r * r ≤ (d + 2) * (d + 2) = (let square = ap (λ (k : ℕ). k * k) all in omega (arith, square)) in
+        let most : d3 * (d + 2) ≡ (d + 4) * (d + 4) * (d + 4) * (d + 2) = ap (λ (k : ℕ). k * (d + 2)) cube in
+        omega (arith, small f4 r4 d4 (d3 * (d + 2)) _ _ _ _ _ _ (f * f) (r * r) first second fourths both squares most polynomial all)
+
+-- one solve takes so many steps
+pub solve_most : (n before after : ℕ) → AreOfOne n before after → after ≤ before + (most_steps n + n * n)
+solve_most n before after one =
+    let solve = subst (λ (k : ℕ). one.solve.steps ≤ most_steps k) one.all one.is.most in
+    let searched = subst (λ (k : ℕ). one.solve.searched ≤ k * k) one.all one.is.most_searched in
+    omega (arith, one.sum, solve, searched)
+
+pub once_most : (n before after : ℕ) → 0 < n → AreOfOne n before after → after ≤ before + most_tried n * n
+once_most n before after some one = omega (arith, solve_most n before after one, solve_steps n some)
+
+-- and so do one and those of the two sets that it is cut into
+pub cut_most : (n f r before middle later after : ℕ) → n ≡ f + r → 0 < f → 0 < r → AreOfOne n before middle → AreOfOne f middle later
+    → after ≤ later + (most_steps r + r * r) → after ≤ before + most_tried n * n
+cut_most n f r before middle later after all some others first second last =
+    let d : ℕ = n - 2 in
+    let is : d + 2 ≡ n = omega (arith, all, some, others) in
+    let sum = subst (λ (k : ℕ). (most_steps k + k * k) + (most_steps f + f * f) + (most_steps r + r * r) ≤ most_tried k * k) is
+    (cut_steps d f r (is ∙ all) some others) in
+    omega (arith, solve_most n before middle first, solve_most f middle later second, last, sum)
 
 -- the parts of some members, with each covering parent of them, and the steps that they took
 pub record Stands (n : ℕ) (dep : Closure) (members done : fin.FinSet nat_cmp) (draft : Written) (before now : ℕ) : Type 0 where
@@ -138,27 +192,24 @@ module _ (n : ℕ) (dep : Closure) (parents : List (fin.FinSet nat_cmp)) (member
         let less = len_within n members group (λ k m. closed.within k (held k m)) next.inside in
         omega (arith, less, few)
 
-    most_next : (later : ℕ) → AreOfOne (fin.len group) now later
+    most_next : (later : ℕ) → later ≤ now + most_tried (fin.len group) * fin.len group
         → later ≤ before + most_tried (fin.len members) * fin.len (fin.union done group)
-    most_next later one =
+    most_next later grew =
         let low = len_within n members group (λ k m. closed.within k (held k m)) next.inside in
-        let trial = trial_steps (fin.len group) (fin.len members) next.some low in
+        let base : fin.len group + 2 ≤ fin.len members + 2 = omega (arith, low) in
+        let more : (fin.len group + 2) ^ 3 ≤ (fin.len members + 2) ^ 3 = pow-le-pow_left base 3 in
+        let wide : most_tried (fin.len group) * fin.len group ≤ most_tried (fin.len members) * fin.len group =
+        mul-le-mul_right (fin.len group) (omega (arith, more)) in
         spent before now later (most_tried (fin.len members)) (fin.len done) (fin.len group) (fin.len (fin.union done group)) lens
-        stands.most
-        (omega (
-          arith,
-          one.sum,
-          subst (λ (k : ℕ). one.solve.steps ≤ most_steps k) one.all one.is.most,
-          subst (λ (k : ℕ). one.solve.searched ≤ k * k) one.all one.is.most_searched,
-          trial,
-        ))
+        stands.most (omega (arith, grew, wide))
 
     -- also where the group is no part
-    pub tried : (later : ℕ) → AreOfOne (fin.len group) now later → later ≤ before + most_tried (fin.len members) * fin.len members
-    tried later one =
+    pub tried : (later : ℕ) → later ≤ now + most_tried (fin.len group) * fin.len group
+        → later ≤ before + most_tried (fin.len members) * fin.len members
+    tried later grew =
         let less = len_within n members (fin.union done group) (λ k m. closed.within k (held k m))
         (λ k m. elim (from_union done group k m) [ inl a ↦ stands.inside k a | inr b ↦ next.inside k b ]) in
-        omega (arith, most_next later one, mul-le-mul_left (most_tried (fin.len members)) less)
+        omega (arith, most_next later grew, mul-le-mul_left (most_tried (fin.len members)) less)
 
     module _ (new : Written) (adds : Adds n dep group old new) where
       parts : new.parts ≡ old.parts ++ adds.parts
@@ -208,8 +259,9 @@ module _ (n : ℕ) (dep : Closure) (parents : List (fin.FinSet nat_cmp)) (member
         ];
       }
 
-      pub stands_next : (later : ℕ) → AreOfOne (fin.len group) now later → Stands n dep members (fin.union done group) new before later
-      stands_next later one =
+      pub stands_next : (later : ℕ) → now + fin.len group ≤ later → later ≤ now + most_tried (fin.len group) * fin.len group
+          → Stands n dep members (fin.union done group) new before later
+      stands_next later all grew =
           let double = ap (λ (k : ℕ). k * k) lens in
           let a = ap length all_placed ∙ length-append (placed old.parts) (placed adds.parts) in
           let b = ap length parts ∙ length-append old.parts adds.parts in
@@ -227,8 +279,8 @@ module _ (n : ℕ) (dep : Closure) (parents : List (fin.FinSet nat_cmp)) (member
             places = (let p = stands.places in let q = adds.places in omega (arith, lens, a, p, q));
             few = (let p = stands.few in let q = adds.few in omega (arith, lens, b, p, q));
             few_flows = (let p = stands.few_flows in let q = adds.few_flows in omega (arith, double, d, p, q));
-            least = (let s = one.sum in let l = one.is.least in let p = one.all in let q = stands.least in omega (arith, lens, s, l, p, q));
-            most = most_next later one;
+            least = (let q = stands.least in omega (arith, lens, all, q));
+            most = most_next later grew;
           }
 
 module _ (n : ℕ) (dep : Closure) (members done : fin.FinSet nat_cmp) (closed : IsClosed n dep) (held : HoldsMembers dep members) (draft : Written)

@@ -19,7 +19,8 @@ pub(crate) struct Group<const W: usize> {
     size: u64,
 }
 
-/// Puts all members into groups, by the order of a list, which may be any.
+/// Puts all members into groups, by a list that may be any: places that begin a set, and by their complements those that belong
+/// to the set begun last. What isn't listed comes last, as one set.
 pub(crate) fn arrange<const W: usize>(
     dep: &DepGraph<W>,
     members: &Bits<W>,
@@ -34,40 +35,74 @@ pub(crate) fn arrange<const W: usize>(
 {
     groups.clear();
     let mut left = *members;
-    for place in guess {
-        if *place < 64 * W && left.has(*place) {
-            come(dep, *place, &mut left, groups);
+    let mut set = Bits::empty();
+    for entry in guess {
+        if *entry < 64 * W {
+            come(dep, &set, &mut left, groups);
+            set = Bits::empty();
+            set.insert(*entry);
+        } else if !*entry < 64 * W {
+            set.insert(!*entry);
         }
     }
-    while let Some(place) = left.least() {
-        come(dep, place, &mut left, groups);
-    }
+    come(dep, &set, &mut left, groups);
+    set = left;
+    come(dep, &set, &mut left, groups);
 }
 
-// Takes a place out of those that are left, behind what is left of its ancestors, and puts each into the groups.
+// Takes a set out of what is left, and puts what was there of it into the groups as one, behind what is left of its ancestors.
 fn come<const W: usize>(
     dep: &DepGraph<W>,
-    place: usize,
+    set: &Bits<W>,
     left: &mut Bits<W>,
     groups: &mut Vec<Group<W>>,
 )
     requires narrow { 64 * W < 2 ^ 32 }
     requires closed { IsClosed (64 * W) dep.now }
     requires members { HoldsMembers dep.now left.old }
-    requires place { set.contains left.old place ≡ true }
     requires room { 64 * W ≤ vec_capacity groups.old }
     ensures members { HoldsMembers dep.now left.new }
-    ensures fewer { set.len left.new < set.len left.old }
     ensures room { 64 * W ≤ vec_capacity groups.new }
 {
-    let mut above = dep.ancestors(place).meet(left);
+    let places = set.meet(left);
+    if places.least().is_none() {
+        return;
+    }
+    let group = group_of(dep, &places);
+    *left = left.minus(&places);
+    let mut above = group.above.meet(left);
     while let Some(first) = above.least() {
         let next = top(dep, &above, first);
         above.remove(next);
         left.remove(next);
         settle(alone(dep, next), groups);
     }
-    left.remove(place);
+    settle(group, groups);
+}
+
+// The group of some members.
+fn group_of<const W: usize>(dep: &DepGraph<W>, places: &Bits<W>) -> Group<W>
+    requires narrow { 64 * W < 2 ^ 32 }
+    requires closed { IsClosed (64 * W) dep.now }
+    requires members { HoldsMembers dep.now places.now }
+{
+    let mut above = Bits::empty();
+    let mut fee: i64 = 0;
+    let mut size: u64 = 0;
+    let mut left = *places;
+    while let Some(place) = left.least() {
+        left.remove(place);
+        let rate = dep.rate(place);
+        above = above.union(&dep.ancestors(place));
+        fee = fee.saturating_add(rate.fee);
+        size = size.saturating_add(rate.size);
+    }
+    Group {
+        places: *places,
+        above,
+        fee,
+        size,
+    }
 }
 
 // The group of one member.

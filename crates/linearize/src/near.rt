@@ -16,7 +16,7 @@ ghost use Rattle.linearize.specs.Splits.{IsReady};
 use crate::draft::{Draft, LinearPart};
 use crate::guess::{Group, arrange};
 use crate::linear::{Linear, link, optimal};
-use crate::split::best;
+use crate::split::split_once;
 use bitset::Bits;
 use closure_flow::Scratch;
 use dep_graph::DepGraph;
@@ -24,8 +24,9 @@ use fee_rate::FeeRate;
 use graphs::certified_parts_are_optimal;
 use step_count::{Ledger, Steps};
 
-/// As [`optimal`], where an order is at hand that may be near to an optimal one, as that before a change is. What is handed
-/// in may be any list of places: it has no say in what is answered, only in how soon.
+/// As [`optimal`], where an order is at hand that may be near to an optimal one, as that before a change is. A place in the
+/// list begins a set, which may be a part, and the complement of a place (`!place`) puts one to the set begun last. What is
+/// handed in may be any list: it has no say in what is answered, only in how soon.
 pub fn optimal_near<L: Ledger, const W: usize>(
     scratch: &mut Scratch<W>,
     dep: &DepGraph<W>,
@@ -77,8 +78,8 @@ pub fn optimal_near<L: Ledger, const W: usize>(
     }
 }
 
-// Writes groups as the parts of the members, one after the other, and tells whether they are: a part each, and all together
-// an order.
+// Writes groups as the parts of the members, one after the other, and tells whether they are: a part each, or two that it can be
+// cut into, and all together an order.
 fn are_parts<L: Ledger, const W: usize>(
     scratch: &mut Scratch<W>,
     dep: &DepGraph<W>,
@@ -104,7 +105,7 @@ fn are_parts<L: Ledger, const W: usize>(
         if !comes_next(parents, &group.places, &done, members) {
             return false;
         }
-        if best(scratch, dep, parents, weights, &group.places, draft, steps).is_some() {
+        if !split_once(scratch, dep, parents, weights, &group.places, draft, steps) {
             return false;
         }
         done = done.union(&group.places);

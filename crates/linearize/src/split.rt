@@ -1,4 +1,4 @@
-ghost use Rattle.std.specs.Prelude.{◌≡◌, ℕ, ◌+◌, ◌*◌, ◌<◌, ◌≤◌, ◌^◌, length, true, pos, ◌*ℤ◌, unsigned_abs};
+ghost use Rattle.std.specs.Prelude.{◌≡◌, ℕ, ◌+◌, ◌*◌, ◌<◌, ◌≤◌, ◌^◌, [], length, true, pos, ◌*ℤ◌, unsigned_abs};
 ghost use Rattle.std.specs.Prelude.{IfSome, List, MatchOption};
 ghost use Rattle.std.specs.Ordering.{nat_cmp};
 ghost use Rattle.std.specs.FinSet as set;
@@ -9,6 +9,7 @@ ghost use Rattle.fee_rate.specs.Limits.{IsRate};
 ghost use Rattle.fee_rate.specs.declared.limits.TheConstants.{MAX_SIZE};
 ghost use Rattle.graphs.specs.Certificates.{weight_in};
 ghost use Rattle.linearize.specs.Graphs.{HasRates, most_members, sum_at, sum_from};
+ghost use Rattle.linearize.specs.Near.{most_tried};
 ghost use Rattle.linearize.specs.Orders.{AreCovers, sums_in};
 ghost use Rattle.linearize.specs.Splits.{Adds, HasRoom, IsCut, IsReady, IsSolved};
 ghost use Rattle.linearize.specs.Steps.{AreOfOne, AreOfSolves};
@@ -73,6 +74,33 @@ pub(crate) fn best<L: Ledger, const W: usize>(
         Outcome::Better(first) => Some(first),
         Outcome::Balanced => finish(scratch, dep, parents, within, whole, draft, steps),
     }
+}
+
+/// Writes a set as one part where it can't be cut, or as two where neither what it is cut on nor what that leaves can be cut, and
+/// tells whether it did. Where it did not, some of this may be written.
+pub(crate) fn split_once<L: Ledger, const W: usize>(
+    scratch: &mut Scratch<W>,
+    dep: &DepGraph<W>,
+    parents: &[Bits<W>],
+    weights: &mut [i128],
+    within: &Bits<W>,
+    draft: &mut Draft<W>,
+    steps: &mut Steps<L>,
+) -> bool
+    requires narrow { 64 * W < 2 ^ 32 }
+    requires ready { IsReady (64 * W) dep.now parents.now within.now draft.old }
+    requires weights { 64 * W ≤ length weights.old }
+    ensures adds { result ≡ true → Adds (64 * W) dep.now within.now draft.old draft.new }
+    ensures open { (draft.new.ids ≡ []) × (draft.new.flows ≡ []) }
+    ensures least { steps.old + set.len within.now ≤ steps.new }
+    ensures most { steps.new ≤ steps.old + most_tried (set.len within.now) * set.len within.now }
+{
+    let Some(first) = best(scratch, dep, parents, weights, within, draft, steps) else {
+        return true;
+    };
+    let rest = within.minus(&first);
+    let one = best(scratch, dep, parents, weights, &first, draft, steps).is_none();
+    one && best(scratch, dep, parents, weights, &rest, draft, steps).is_none()
 }
 
 // Writes a set of one place as one part. Its solve is the one step that begins with the place, since nothing is left to

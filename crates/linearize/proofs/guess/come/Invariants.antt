@@ -1,11 +1,11 @@
-use Rattle.std.proofs.Common.{◌≡◌, ℕ, ◌*◌, ◌≤◌, true, vec_capacity}
+use Rattle.std.proofs.Common.{◌*◌, ◌≤◌, vec_capacity}
 use Rattle.std.specs.FinSet as set
 use Rattle.graphs.specs.Closures.{HoldsMembers}
 use Rattle.linearize.proofs.guess.come.Given as goal
 
 abbrev pub invariant-loop-first : goal.invariant-loop-first
 invariant-loop-first g l =
-    ((t : ℕ) → set.contains l.left t ≡ true → set.contains l.fn.left t ≡ true)
+    HoldsMembers l.dep l.left
     × HoldsMembers l.dep l.above
     × (64 * g.row.W ≤ vec_capacity l.groups)
 

@@ -1,5 +1,4 @@
 use Rattle.std.proofs.Common.{rules, ℕ, ◌*◌, subst, ◌∙◌, sym, lit<, arith}
-use Rattle.linearize.proofs.Nexts.{when_none}
 use Rattle.linearize.proofs.Trials.{Stands, room, few_members, stands_next, stands_none, so_far, tried, all_least, all_parts}
 use Rattle.linearize.proofs.Sizes.{words_fit, scratch_fits}
 use Rattle.linearize.proofs.near.are_parts.Goals as goal
@@ -7,8 +6,20 @@ use Rattle.linearize.proofs.near.are_parts.Goals as goal
 pub loop-group-init : goal.loop-group-init
 loop-group-init g c = stands_none (64 * g.row.W) c.args.dep.now c.args.members.now c.empty-done.result c.args.draft.now c.args.steps.now c.empty-done.ensures c.requires.empty
 
-pub best-requires : goal.best-requires
-best-requires g c =
+pub empty-done-requires : goal.empty-done-requires
+empty-done-requires g c = words_fit g.row.W c.requires.narrow
+
+pub union-done-requires : goal.union-done-requires
+union-done-requires g c = words_fit g.row.W c.requires.narrow
+
+pub is_subset-requires : goal.is_subset-requires
+is_subset-requires g c = words_fit g.row.W c.requires.narrow
+
+pub comes_next-requires : goal.comes_next-requires
+comes_next-requires g c = (words_fit g.row.W c.requires.narrow, λ t m. c.requires.ready.covers.there t (c.requires.ready.members t m))
+
+pub split_once-requires : goal.split_once-requires
+split_once-requires g c =
     let next = c.comes_next.ensures c.if-not-comes_next.false in
     let ready = c.requires.ready in (
       scratch_fits g.row.W c.requires.narrow,
@@ -45,22 +56,22 @@ loop-group-preserved g c =
     let n : ℕ = 64 * g.row.W in
     let ready = c.requires.ready in
     let next = c.comes_next.ensures c.if-not-comes_next.false in
-    subst (λ d. Stands n c.args.dep.now c.args.members.now d c.best.new.draft c.args.steps.now c.best.new.steps) (sym c.union-done.ensures)
+    subst (λ d. Stands n c.args.dep.now c.args.members.now d c.split_once.new.draft c.args.steps.now c.split_once.new.steps) (sym c.union-done.ensures)
     (stands_next n c.args.dep.now c.args.parents.now c.args.members.now c.loop-group.done c.group-item.result.places ready.closed
-    ready.members ready.covers next c.loop-group.draft c.args.steps.now c.loop-group.steps c.loop-group.invariant c.best.new.draft
-    (when_none c.best.result c.is_some.result _ _ c.best.ensures.draft c.is_some.ensures c.if-is_some.false) c.best.new.steps c.best.ensures.solve)
+    ready.members ready.covers next c.loop-group.draft c.args.steps.now c.loop-group.steps c.loop-group.invariant c.split_once.new.draft
+    (c.split_once.ensures.adds c.if-not-split_once.false) c.split_once.new.steps c.split_once.ensures.least c.split_once.ensures.most)
 
 pub returns-then-not-comes_next-clause-most : goal.returns-then-not-comes_next-clause-most
 returns-then-not-comes_next-clause-most g c =
     so_far (64 * g.row.W) c.args.dep.now c.args.members.now c.loop-group.done c.requires.ready.closed c.requires.ready.members c.loop-group.draft
     c.args.steps.now c.loop-group.steps c.loop-group.invariant
 
-pub returns-then-is_some-clause-most : goal.returns-then-is_some-clause-most
-returns-then-is_some-clause-most g c =
+pub returns-then-not-split_once-clause-most : goal.returns-then-not-split_once-clause-most
+returns-then-not-split_once-clause-most g c =
     let ready = c.requires.ready in
     tried (64 * g.row.W) c.args.dep.now c.args.parents.now c.args.members.now c.loop-group.done c.group-item.result.places ready.closed
     ready.members ready.covers (c.comes_next.ensures c.if-not-comes_next.false) c.loop-group.draft c.args.steps.now c.loop-group.steps
-    c.loop-group.invariant c.best.new.steps c.best.ensures.solve
+    c.loop-group.invariant c.split_once.new.steps c.split_once.ensures.most
 
 pub returns-then-is_subset-clause-parts : goal.returns-then-is_subset-clause-parts
 returns-then-is_subset-clause-parts g c = λ falls.
