@@ -1,10 +1,7 @@
 -- What each change of the map, of the trees and of the nodes leaves of an index.
-use Rattle.std.proofs.Common.{◌≡◌, ℕ, ◌+◌, ◌-◌, ◌≤◌, Bool, true, false, if◌then◌else◌, List, [], ◌∷◌, length, Some, refl, sym, ap, ◌∙◌, subst, arith}
+use Rattle.std.proofs.Common.{◌≡◌, ℕ, ◌+◌, ◌-◌, ◌≤◌, Bool, true, false, List, [], ◌∷◌, length, Some, refl, sym, ap, ◌∙◌, subst, arith}
 use Rattle.std.specs.List.{AllByRecursion}
-use Rattle.std.specs.List.Sorted.{IsStrictlySortedBy}
 use Rattle.std.specs.declared.cmp.Ordering.TheVariants.{Less}
-use Rattle.std.specs.Map.{keys_of, remove_entry}
-use Rattle.std.specs.BTreeMap.{insert_entry}
 use Rattle.chunk_index.specs.declared.entry.Entry.{Entry}
 use Rattle.chunk_index.specs.declared.entry.Tag.{Tag}
 use Rattle.chunk_index.specs.declared.entry.Tag.TheVariants.{Both, MainOnly, TopOnly}
@@ -12,9 +9,11 @@ use Rattle.chunk_index.specs.declared.key.Key.{Key}
 use Rattle.chunk_index.specs.KeyOrder.{key_cmp}
 use Rattle.chunk_index.specs.Keys.{key_of, IsInOrder, has_key, put, without}
 use Rattle.chunk_index.specs.Items.{Items, item_key, AreInOrder, HasEntry, found, has, same_tag, entries_by, tag_set, with_tag, with_entry}
-use Rattle.chunk_index.specs.Kept.{tag_in, items_of, IsKept}
-use Rattle.chunk_index.proofs.Lists.{without_absent, lacks_without, put-without}
-use Rattle.chunk_index.proofs.Maps.{Numbers, test, items_in_order, length-items, items-insert, items-remove}
+use Rattle.chunk_index.specs.Kept.{tag_in, item_of, items_of, IsKept}
+use Rattle.chunk_index.specs.Pairs.{pair_key}
+use Rattle.chunk_index.proofs.Lists.{without_absent, without_in_order, lacks_without, put-without}
+use Rattle.chunk_index.proofs.Maps.{Numbers, length-items}
+use Rattle.chunk_index.proofs.Merges.{map-put, map-without, put_order}
 use Rattle.chunk_index.proofs.Tags.{entries_in_order, lacks-entries, entries-without, entries-moved, entries-set, entries-other}
 use Rattle.chunk_index.proofs.Items.{has-found, tag-moves, two-tags, two-tags-less}
 use Rattle.chunk_index.proofs.Trees.{found-told, has-tagged, items-set, tells-without, tells-main, tells-top}
@@ -31,7 +30,7 @@ module _ (m t n u : List Entry) where
   order-again [] order = tt
   order-again (e ∷ es) order = (all-again e.0 es order.0, order-again es order.1)
 
-module _ {es : Numbers} {m t : List Entry} {kept room : ℕ} (is : IsKept es m t kept room) where
+module _ {es : Numbers} {m t : List Entry} {count more kept room : ℕ} (is : IsKept es m t count more kept room) where
   -- ---- what the trees are
   pub main-order : IsInOrder key_of m
   main-order = subst (IsInOrder key_of) (sym is.main) (entries_in_order (same_tag MainOnly) (items_of es m t) is.order)
@@ -67,11 +66,12 @@ module _ {es : Numbers} {m t : List Entry} {kept room : ℕ} (is : IsKept es m t
         out ∙ ap (λ (xs : List Entry). without key_of xs k) was ∙ sym (entries-set p (items_of es m t) k Both drops)
         ∙ ap (entries_by p) (sym out_of_both)
 
-    pub shared-kept : (kept2 room2 : ℕ) → kept2 + length n + length u ≡ kept + length m + length t → room2 ≡ room → IsKept es n u kept2 room2
+    pub shared-kept : (kept2 room2 : ℕ) → kept2 + length n + length u ≡ kept + length m + length t → room2 ≡ room → IsKept es n u count more kept2 room2
     shared-kept kept2 room2 same same_room = record {
       order = order-again m t n u es is.order;
       main = comes_out (same_tag MainOnly) m n refl is.main main;
       top = comes_out (same_tag TopOnly) t u refl is.top top;
+      counted = is.counted;
       nodes = omega (arith, is.nodes, same);
       fits = omega (arith, is.fits, same, same_room);
     }
@@ -93,9 +93,9 @@ module _ {es : Numbers} {m t : List Entry} {kept room : ℕ} (is : IsKept es m t
     top-lacks = lacks (same_tag TopOnly) t refl is.top
 
     -- ---- its number goes
-    module _ (new : Numbers) (gone : new ≡ remove_entry (test k) es) where
+    module _ (new : Numbers) (gone : new ≡ without pair_key es k) where
       left : items_of new m t ≡ without item_key (items_of es m t) k
-      left = ap (λ (ns : Numbers). items_of ns m t) gone ∙ items-remove m t es k is.order
+      left = ap (λ (ns : Numbers). items_of ns m t) gone ∙ map-without pair_key item_key (item_of m t) (λ e. refl) es k
 
       pub leave-items : items_of new m t ≡ without item_key items k
       leave-items = left ∙ ap (λ (xs : Items). without item_key xs k) seen
@@ -115,13 +115,14 @@ module _ {es : Numbers} {m t : List Entry} {kept room : ℕ} (is : IsKept es m t
         length-items m t new,
       )
 
-      pub leave-kept : (kept2 room2 : ℕ) → IsStrictlySortedBy key_cmp (keys_of new) → length new - (length m + length t) ≤ kept2 → kept2 ≤ kept
-          → room2 ≡ room → IsKept new m t kept2 room2
-      leave-kept kept2 room2 sorted enough less same_room = record {
-        order = items_in_order m t new sorted;
+      pub leave-kept : (count2 kept2 room2 : ℕ) → length new ≤ count2 → count2 + more - (length m + length t) ≤ kept2 → kept2 ≤ kept → room2 ≡ room
+          → IsKept new m t count2 more kept2 room2
+      leave-kept count2 kept2 room2 counted enough less same_room = record {
+        order = subst AreInOrder (sym left) (without_in_order item_key (items_of es m t) k is.order);
         main = stays_out (same_tag MainOnly) m main-lacks is.main;
         top = stays_out (same_tag TopOnly) t top-lacks is.top;
-        nodes = omega (arith, enough, leave-few);
+        counted = counted;
+        nodes = omega (arith, enough);
         fits = omega (arith, is.fits, less, same_room);
       }
 
@@ -160,11 +161,12 @@ module _ {es : Numbers} {m t : List Entry} {kept room : ℕ} (is : IsKept es m t
     main-items n put_in = in_main n put_in ∙ ap (λ (xs : Items). with_tag xs e MainOnly) seen
 
     pub main-kept : (n : List Entry) (kept2 room2 : ℕ) → n ≡ put key_of m e → length n ≡ length m + 1 → kept2 + 1 ≡ kept → room2 ≡ room
-        → IsKept es n t kept2 room2
+        → IsKept es n t count more kept2 room2
     main-kept n kept2 room2 put_in longer less same_room = record {
       order = order-again m t n t es is.order;
       main = put_in ∙ goes_in (same_tag MainOnly) m MainOnly refl is.main
           ∙ ap (entries_by (same_tag MainOnly)) (sym (in_main n put_in));
+      counted = is.counted;
       top = stays (same_tag TopOnly) t MainOnly refl (top-lacks (key_of e) seen in_both) is.top ∙ ap (entries_by (same_tag TopOnly)) (sym (in_main n put_in));
       nodes = omega (arith, is.nodes, longer, less);
       fits = omega (arith, is.fits, longer, less, same_room);
@@ -178,20 +180,21 @@ module _ {es : Numbers} {m t : List Entry} {kept room : ℕ} (is : IsKept es m t
     top-items u put_in = in_top u put_in ∙ ap (λ (xs : Items). with_tag xs e TopOnly) seen
 
     pub top-kept : (u : List Entry) (kept2 room2 : ℕ) → u ≡ put key_of t e → length u ≡ length t + 1 → kept2 + 1 ≡ kept → room2 ≡ room
-        → IsKept es m u kept2 room2
+        → IsKept es m u count more kept2 room2
     top-kept u kept2 room2 put_in longer less same_room = record {
       order = order-again m t m u es is.order;
       main = stays (same_tag MainOnly) m TopOnly refl (main-lacks (key_of e) seen in_both) is.main
           ∙ ap (entries_by (same_tag MainOnly)) (sym (in_top u put_in));
       top = put_in ∙ goes_in (same_tag TopOnly) t TopOnly refl is.top
           ∙ ap (entries_by (same_tag TopOnly)) (sym (in_top u put_in));
+      counted = is.counted;
       nodes = omega (arith, is.nodes, longer, less);
       fits = omega (arith, is.fits, longer, less, same_room);
     }
 
   -- ---- an entry that comes in
   module _ (e : Entry) {items : Items} (seen : items_of es m t ≡ items) (missing : has items e ≡ false) (new : Numbers)
-      (come : new ≡ insert_entry key_cmp es (key_of e) e.number) where
+      (come : new ≡ put pair_key es (key_of e, e.number)) where
     absent : has (items_of es m t) e ≡ false
     absent = ap (λ (xs : Items). has xs e) seen ∙ missing
 
@@ -207,7 +210,7 @@ module _ {es : Numbers} {m t : List Entry} {kept room : ℕ} (is : IsKept es m t
 
     with_it : items_of new m t ≡ with_entry (items_of es m t) e Both
     with_it =
-        ap (λ (ns : Numbers). items_of ns m t) come ∙ items-insert m t es (key_of e) e.number is.order absent
+        ap (λ (ns : Numbers). items_of ns m t) come ∙ map-put pair_key item_key (item_of m t) (λ e. refl) es (key_of e, e.number)
         ∙ ap (λ (a : Tag). with_entry (items_of es m t) e a) tagged
 
     pub enter-items : items_of new m t ≡ with_entry items e Both
@@ -218,31 +221,38 @@ module _ {es : Numbers} {m t : List Entry} {kept room : ℕ} (is : IsKept es m t
     stays_as p list drops was =
         was ∙ sym (entries-other p (items_of es m t) e Both is.order absent drops) ∙ ap (entries_by p) (sym with_it)
 
-    pub enter-kept : (kept2 room2 : ℕ) → IsStrictlySortedBy key_cmp (keys_of new) → length new ≤ kept2 + length m + length t
-        → kept2 + length m + length t ≤ room2 → IsKept new m t kept2 room2
-    enter-kept kept2 room2 sorted enough fits = record {
-      order = items_in_order m t new sorted;
+    pub enter-kept : (count2 more2 kept2 room2 : ℕ) → length new ≤ count2 → count2 + more2 ≤ kept2 + length m + length t
+        → kept2 + length m + length t + more2 ≤ room2 → IsKept new m t count2 more2 kept2 room2
+    enter-kept count2 more2 kept2 room2 counted enough fits = record {
+      order = subst AreInOrder (sym with_it) (put_order item_key (items_of es m t) (e, Both) is.order);
       main = stays_as (same_tag MainOnly) m refl is.main;
       top = stays_as (same_tag TopOnly) t refl is.top;
+      counted = counted;
       nodes = enough;
       fits = fits;
     }
 
-    pub one_more : (there : Bool) → length new ≡ length es + (if there then 0 else 1) → length new ≤ length es + 1
-    one_more true more = omega (arith, more)
-    one_more false more = omega (arith, more)
-
-  -- ---- more nodes, and more room
-  pub more-kept : (kept2 room2 : ℕ) → kept ≤ kept2 → kept2 + length m + length t ≤ room2 → IsKept es m t kept2 room2
-  more-kept kept2 room2 more fits = record { order = is.order; main = is.main; top = is.top; nodes = omega (arith, is.nodes, more); fits = fits }
+  -- ---- other nodes, and other room
+  pub again-kept : (count2 more2 kept2 room2 : ℕ) → length es ≤ count2 → count2 + more2 ≤ kept2 + length m + length t
+      → kept2 + length m + length t + more2 ≤ room2 → IsKept es m t count2 more2 kept2 room2
+  again-kept count2 more2 kept2 room2 counted enough fits = record {
+    order = is.order;
+    main = is.main;
+    top = is.top;
+    counted = counted;
+    nodes = enough;
+    fits = fits;
+  }
 
 -- an index of no entries
-pub none-kept : (es : Numbers) (m t : List Entry) (kept room : ℕ) → es ≡ [] → m ≡ [] → t ≡ [] → kept ≡ 0 → IsKept es m t kept room
+pub none-kept : (es : Numbers) (m t : List Entry) (count more kept room : ℕ) → es ≡ [] → m ≡ [] → t ≡ [] → count ≡ 0 → more ≡ 0 → kept ≡ 0
+    → IsKept es m t count more kept room
 unfolding IsInOrder entries_by
-none-kept es m t kept room none none_main none_top nothing = rw (none, none_main, none_top, nothing) (record {
+none-kept es m t count more kept room none none_main none_top counts mores nothing = rw (none, none_main, none_top, counts, mores, nothing) (record {
   order = tt;
   main = refl;
   top = refl;
+  counted = omega arith;
   nodes = omega arith;
   fits = omega arith;
 })

@@ -40,7 +40,7 @@ unequal Less e = refl
 unequal Equal e = sym e
 unequal Greater e = refl
 
-unlevel : (o : Ordering) → is_ne o ≡ true → is_eq o ≡ false
+pub unlevel : (o : Ordering) → is_ne o ≡ true → is_eq o ≡ false
 unlevel Less e = refl
 unlevel Equal e = sym e
 unlevel Greater e = refl
@@ -50,11 +50,11 @@ module _ {A : Type 0} (key : A → Key) where
   abbrev pub AllStand : List A → Key → Ordering → Type 0
   AllStand xs k o = AllByRecursion (λ x. key_cmp (key x) k ≡ o) xs
 
-  all-less : (xs : List A) (h k : Key) → AllStand xs h Less → key_cmp h k ≡ Less → AllStand xs k Less
+  pub all-less : (xs : List A) (h k : Key) → AllStand xs h Less → key_cmp h k ≡ Less → AllStand xs k Less
   all-less [] h k all e = tt
   all-less (x ∷ xs) h k all e = (key_cmp_total.trans (key x) h k all.0 e, all-less xs h k all.1 e)
 
-  all-greater : (xs : List A) (h k : Key) → AllStand xs h Greater → key_cmp h k ≡ Greater → AllStand xs k Greater
+  pub all-greater : (xs : List A) (h k : Key) → AllStand xs h Greater → key_cmp h k ≡ Greater → AllStand xs k Greater
   all-greater [] h k all e = tt
   all-greater (x ∷ xs) h k all e = (chain_greater (key x) h k all.0 e, all-greater xs h k all.1 e)
 
@@ -62,15 +62,15 @@ module _ {A : Type 0} (key : A → Key) where
   abbrev pub kept_by : (Ordering → Bool) → Key → List A → List A
   kept_by f k xs = filter (λ x. f (key_cmp (key x) k)) xs
 
-  kept-all : (f : Ordering → Bool) (k : Key) (o : Ordering) (xs : List A) → f o ≡ true → AllStand xs k o → kept_by f k xs ≡ xs
+  pub kept-all : (f : Ordering → Bool) (k : Key) (o : Ordering) (xs : List A) → f o ≡ true → AllStand xs k o → kept_by f k xs ≡ xs
   kept-all f k o [] keeps all = refl
   kept-all f k o (x ∷ xs) keeps all = let here = ap f all.0 ∙ keeps in rw here (ap (λ (t : List A). x ∷ t) (kept-all f k o xs keeps all.1))
 
-  kept-none : (f : Ordering → Bool) (k : Key) (o : Ordering) (xs : List A) → f o ≡ false → AllStand xs k o → kept_by f k xs ≡ []
+  pub kept-none : (f : Ordering → Bool) (k : Key) (o : Ordering) (xs : List A) → f o ≡ false → AllStand xs k o → kept_by f k xs ≡ []
   kept-none f k o [] drops all = refl
   kept-none f k o (x ∷ xs) drops all = let here = ap f all.0 ∙ drops in rw here (kept-none f k o xs drops all.1)
 
-  any-none : (k : Key) (o : Ordering) (xs : List A) → is_eq o ≡ false → AllStand xs k o → has_key key xs k ≡ false
+  pub any-none : (k : Key) (o : Ordering) (xs : List A) → is_eq o ≡ false → AllStand xs k o → has_key key xs k ≡ false
   unfolding has_key
   any-none k o [] drops all = refl
   any-none k o (x ∷ xs) drops all = let here = ap is_eq all.0 ∙ drops in rw here (any-none k o xs drops all.1)
@@ -103,7 +103,7 @@ module _ {A : Type 0} (key : A → Key) where
       by true e rest = rw e (omega (arith, rest))
       by false e rest = rw e (omega (arith, rest))
 
-  all-filter : (P : A → Type 0) (test : A → Bool) (xs : List A) → AllByRecursion P xs → AllByRecursion P (filter test xs)
+  pub all-filter : (P : A → Type 0) (test : A → Bool) (xs : List A) → AllByRecursion P xs → AllByRecursion P (filter test xs)
   all-filter P test [] all = tt
   all-filter P test (x ∷ xs) all = by (test x) refl (all-filter P test xs all.1)
     where
@@ -131,11 +131,11 @@ module _ {A : Type 0} (key : A → Key) where
     pub less : AllStand l (key h) Less
     pub greater : AllStand r (key h) Greater
 
-  all-turned : (h : Key) (xs : List A) → AllByRecursion (λ y. key_cmp h (key y) ≡ Less) xs → AllStand xs h Greater
+  pub all-turned : (h : Key) (xs : List A) → AllByRecursion (λ y. key_cmp h (key y) ≡ Less) xs → AllStand xs h Greater
   all-turned h [] all = tt
   all-turned h (x ∷ xs) all = (turned h (key x) Less all.0, all-turned h xs all.1)
 
-  all-front : (P : A → Type 0) (xs ys : List A) → AllByRecursion P (xs ++ ys) → AllByRecursion P xs × AllByRecursion P ys
+  pub all-front : (P : A → Type 0) (xs ys : List A) → AllByRecursion P (xs ++ ys) → AllByRecursion P xs × AllByRecursion P ys
   all-front P [] ys all = (tt, all)
   all-front P (x ∷ xs) ys all = let rest = all-front P xs ys all.1 in ((all.0, rest.0), rest.1)
 

@@ -82,6 +82,10 @@ entries_in level = entries_by (is_in level)
 abbrev pub entries_tagged : Tag → Items → List Entry
 entries_tagged tag = entries_by (same_tag tag)
 
+-- entries that stand in both levels
+abbrev pub shared : List Entry → Items
+shared entries = map (λ e. (e, Both)) entries
+
 -- where the items are in order, the entries of each level and of each tag are, and so are those of a tag that don't stand before a key
 pub record WalksAreInOrder : Type 0 where
   pub level : (items : Items) (l : Level) → AreInOrder items → IsInOrder key_of (entries_in l items)

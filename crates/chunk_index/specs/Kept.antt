@@ -23,14 +23,15 @@ item_of of_main of_top e = (entry_from e.0 e.1, tag_in of_main of_top e.0)
 abbrev pub items_of : List (Key × ℕ) → List Entry → List Entry → Items
 items_of es of_main of_top = map (item_of of_main of_top) es
 
--- the keys are in order, the trees have the entries of their tags and no others, a node is kept for each entry that is in neither, and there is
--- room for the nodes of both trees beside those that are kept
-pub record IsKept (es : List (Key × ℕ)) (of_main of_top : List Entry) (kept room : ℕ) : Type 0 where
+-- the keys are in order, the trees have the entries of their tags and no others, a node is kept for each entry that is in neither and for some
+-- more, and there is room for the nodes of all trees beside those that are kept; count is at least how many entries there are
+pub record IsKept (es : List (Key × ℕ)) (of_main of_top : List Entry) (count more kept room : ℕ) : Type 0 where
   pub order : AreInOrder (items_of es of_main of_top)
   pub main : of_main ≡ entries_tagged MainOnly (items_of es of_main of_top)
   pub top : of_top ≡ entries_tagged TopOnly (items_of es of_main of_top)
-  pub nodes : length es ≤ kept + length of_main + length of_top
-  pub fits : kept + length of_main + length of_top ≤ room
+  pub counted : length es ≤ count
+  pub nodes : count + more ≤ kept + length of_main + length of_top
+  pub fits : kept + length of_main + length of_top + more ≤ room
 
 -- entries without e's key, and e put among them where it comes in
 abbrev pub moved : Bool → List Entry → Entry → List Entry

@@ -1,5 +1,5 @@
 -- The key of an entry, and lists in the order of their keys. `key` says which key an item has.
-use Rattle.std.specs.Prelude.{◌≡◌, Bool, List, [], ◌∷◌, ◌++◌}
+use Rattle.std.specs.Prelude.{◌≡◌, ℕ, Bool, cond, List, [], ◌∷◌, ◌++◌, Option, None, Some}
 use Rattle.std.specs.List.{filter, list_any, AllByRecursion}
 use Rattle.std.specs.declared.cmp.Ordering.TheVariants.{Less}
 use Rattle.std.specs.Ordering.{is_lt, is_eq, is_ne, is_gt, is_ge}
@@ -10,6 +10,11 @@ use Rattle.chunk_index.specs.KeyOrder.{key_cmp}
 -- all of an entry but the number of its record
 abbrev pub key_of : Entry → Key
 key_of e = record { rate = e.rate; serial = e.serial; position = e.position }
+
+-- the number of the record of the entry of a key
+unfoldable pub number_at : List Entry → Key → Option ℕ
+number_at [] k = None
+number_at (e ∷ es) k = cond (is_eq (key_cmp (key_of e) k)) (Some e.number) (number_at es k)
 
 module _ {A : Type 0} (key : A → Key) where
   -- each item's key stands before the keys of all items behind it

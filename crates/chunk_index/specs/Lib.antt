@@ -1,5 +1,6 @@
 pub mod Changes
 pub mod Floors
+pub mod Fresh
 pub mod InOrder
 pub mod Items
 pub mod Kept
@@ -7,6 +8,11 @@ pub mod KeyLaws
 pub mod KeyMeaning
 pub mod KeyOrder
 pub mod Keys
+pub mod Merges
+pub mod Numbers
+pub mod Pairs
+pub mod Parts
+pub mod Settling
 pub mod Sources
 pub mod Spares
 pub mod TreeShape

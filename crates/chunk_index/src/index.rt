@@ -1,45 +1,51 @@
-ghost use Rattle.std.specs.Prelude.{◌≡◌, ℕ, [], true, false, Some, OnOk, OnErr, MatchOption};
-ghost use Rattle.chunk_index.specs.declared.entry.Tag.TheVariants.{Both};
+ghost use Rattle.std.specs.Prelude.{◌≡◌, ◌≢◌, ℕ, [], true, false, Some, OnOk, OnErr, MatchOption};
+ghost use Rattle.chunk_index.specs.declared.entry.Tag.TheVariants.{Both, TopOnly};
 ghost use Rattle.chunk_index.specs.Keys.{key_of, has_key, not_before, without};
-ghost use Rattle.chunk_index.specs.Items.{item_key, AreInOrder, HasEntry, found, has, with_entry, without_entry, with_tag, tag_set, entries_in, entries_tagged};
+ghost use Rattle.chunk_index.specs.Items.{item_key, AreInOrder, HasEntry, found, has, shared, with_entry, without_entry, with_tag, tag_set, entries_in, entries_tagged};
 ghost use Rattle.chunk_index.specs.Kept.{entry_from};
+ghost use Rattle.chunk_index.specs.Settling.{alone};
 
 use crate::Level;
 use crate::apart::{put_in, tag_of, take_out};
 use crate::entry::{Entry, Tag};
+use crate::numbers::Numbers;
+use crate::part::Part;
 use crate::sort_key::SortKey;
 use crate::spares::Spares;
 use crate::tree::Tree;
 use crate::walk::{IndexWalk, Wanted};
 use outside::NoMemory;
 use std::alloc::Global;
-use std::collections::BTreeMap;
 use std::marker::Model;
 
 /// Entries in the order of their keys, each with its tag.
 #[derive(Drop)]
 pub struct ChunkIndex {
     alloc: Global,
-    // Of all entries, the numbers of their records.
-    numbers: BTreeMap<SortKey, usize>,
-    // Those of main alone.
+    // Of all entries but the fresh ones, the numbers of their records.
+    numbers: Numbers,
+    // Those of them that are in main alone.
     main: Tree,
-    // Those of staging alone.
+    // Those of them that are in staging alone.
     top: Tree,
-    // A node for each of the others, and some more.
+    // Those that came in staging alone and are still. Most go out again before they come into main.
+    fresh: Tree,
+    // A node for each entry in both levels, one for each fresh entry, and some more.
     spares: Spares,
 }
 
 impl Model for ChunkIndex {
+    ghost use Rattle.chunk_index.specs.Fresh.{with_fresh, IsIndex};
     ghost use Rattle.chunk_index.specs.Items.{Items};
-    ghost use Rattle.chunk_index.specs.Kept.{items_of, IsKept};
+    ghost use Rattle.chunk_index.specs.Kept.{items_of};
+    ghost use Rattle.chunk_index.specs.Numbers.{listed, count};
     ghost use Rattle.chunk_index.specs.Spares.{kept, room};
 
     ghost Value = { Items };
 
-    ghost view = { λ a. items_of a.numbers.entries a.main a.top };
+    ghost view = { λ a. with_fresh (items_of (listed a.numbers) a.main a.top) a.fresh };
 
-    ghost invariant = { λ a. IsKept a.numbers.entries a.main a.top (kept a.spares) (room a.spares) };
+    ghost invariant = { λ a. IsIndex (listed a.numbers) a.main a.top a.fresh (count a.numbers) (kept a.spares) (room a.spares) };
 }
 
 impl ChunkIndex {
@@ -49,9 +55,10 @@ impl ChunkIndex {
     {
         ChunkIndex {
             alloc,
-            numbers: BTreeMap::new(alloc),
+            numbers: Numbers::new(alloc),
             main: Tree::new(),
             top: Tree::new(),
+            fresh: Tree::new(),
             spares: Spares::new(alloc),
         }
     }
@@ -61,14 +68,19 @@ impl ChunkIndex {
         ensures found { result ≡ has self.now entry.now }
         ensures order { AreInOrder self.now }
     {
-        self.numbers.contains_key(&SortKey::of(entry))
+        let key = SortKey::of(entry);
+        self.fresh.has(&key) || self.numbers.get(&key).is_some()
     }
 
     /// The number of the record of the entry of that entry's key, or `None` where none is there. Takes no memory.
     pub fn number(&self, entry: &Entry) -> Option<usize>
         ensures { MatchOption result (has self.now entry.now ≡ false) (λ number. (t : Tag) × (found self.now (key_of entry.now) ≡ Some (number, t))) }
     {
-        self.numbers.get(&SortKey::of(entry)).copied()
+        let key = SortKey::of(entry);
+        match self.fresh.find(&key) {
+            Some(number) => Some(number),
+            None => self.numbers.get(&key),
+        }
     }
 
     /// Puts an entry in its place, under a tag. No entry of its key is there.
@@ -81,9 +93,15 @@ impl ChunkIndex {
         ensures err { OnErr result (self.new ≡ self.old) }
     {
         let key = SortKey::of(&entry);
-        self.enter(key, entry.number)?;
-        self.set_apart(key, entry.number, tag);
-        Ok(())
+        self.catch_up();
+        match tag {
+            Tag::TopOnly => self.begin(key, entry.number),
+            tag => {
+                self.enter(key, entry.number)?;
+                self.set_apart(key, entry.number, tag);
+                Ok(())
+            }
+        }
     }
 
     /// Takes the entry of that entry's key out, which is there. Takes no memory.
@@ -100,9 +118,19 @@ impl ChunkIndex {
         requires { (number : ℕ) × (found self.old (key_of entry.now) ≡ Some (number, tag)) }
         ensures { self.new ≡ without_entry self.old entry.now }
     {
-        let key = SortKey::of(entry);
-        self.share(&key, tag);
-        self.leave(&key);
+        self.take_key(&SortKey::of(entry), tag);
+    }
+
+    /// The same by the entry's key.
+    fn take_key(&mut self, key: &SortKey, tag: Tag)
+        requires { (number : ℕ) × (found self.old key.now ≡ Some (number, tag)) }
+        ensures { self.new ≡ without item_key self.old key.now }
+    {
+        if self.end(key, tag) {
+            return;
+        }
+        self.share(key, tag);
+        self.leave(key);
     }
 
     /// Changes the tag of an entry, which is there, its record's number included. Takes no memory.
@@ -124,6 +152,58 @@ impl ChunkIndex {
         self.set_apart(key, entry.number, to);
     }
 
+    /// The entries of a level stand in both levels from now on, and the others go out. Takes no memory.
+    ///
+    /// It costs the entries that stand in one level alone.
+    pub fn settle(&mut self, stays: Level)
+        ensures { self.new ≡ shared (entries_in stays self.old) }
+    {
+        match stays {
+            Level::Main => {
+                self.drop_all(Level::Top);
+                self.share_all(Level::Main);
+            }
+            Level::Top => {
+                self.drop_all(Level::Main);
+                self.share_all(Level::Top);
+            }
+        }
+    }
+
+    /// Brings all entries of one level alone into both.
+    fn share_all(&mut self, of: Level)
+        ensures none { entries_tagged (alone of) self.new ≡ [] }
+        ensures others { (level : Level) → level ≢ of → entries_tagged (alone level) self.old ≡ [] → entries_tagged (alone level) self.new ≡ [] }
+        ensures level { entries_in of self.new ≡ entries_in of self.old }
+    {
+        while let Some(key) = self.last_of(of) {
+            self.share(&key, alone(of));
+        }
+    }
+
+    /// Takes all entries of one level alone out.
+    fn drop_all(&mut self, of: Level)
+        ensures none { entries_tagged (alone of) self.new ≡ [] }
+        ensures level { (level : Level) → level ≢ of → entries_in level self.new ≡ entries_in level self.old }
+    {
+        while let Some(key) = self.last_of(of) {
+            self.take_key(&key, alone(of));
+        }
+    }
+
+    /// The key of an entry of one level alone, if there is one: of the last one in its tree.
+    fn last_of(&self, of: Level) -> Option<SortKey>
+        ensures order { AreInOrder self.now }
+        ensures last { MatchOption result (entries_tagged (alone of) self.now ≡ [])
+            (λ key. (number : ℕ) × (found self.now key ≡ Some (number, alone of))) }
+    {
+        match of {
+            Level::Main => self.main.last_key(),
+            Level::Top if self.fresh.len() > 0 => self.fresh.last_key(),
+            Level::Top => self.top.last_key(),
+        }
+    }
+
     /// Puts the entry of a key and a record's number in its place, in both levels. No entry of that key is there.
     ///
     /// # Errors
@@ -133,28 +213,84 @@ impl ChunkIndex {
         ensures ok { OnOk result (self.new ≡ with_entry self.old (entry_from key number) Both) }
         ensures err { OnErr result (self.new ≡ self.old) }
     {
-        let count = self.numbers.len();
+        let count = self.numbers.len() + self.fresh.len();
         let apart = self.main.len() + self.top.len();
-        self.spares.need(self.alloc, key, count - apart + 1, apart)?;
+        let others = apart + self.fresh.len();
+        self.spares
+            .need(self.alloc, key, count - apart + 1, others)?;
         self.numbers.insert(key, number)?;
         Ok(())
     }
 
+    /// Brings numbers that stand in nodes into the map, if there are some and it finds memory for them.
+    fn catch_up(&mut self)
+        ensures { self.new ≡ self.old }
+    {
+        // Two, so that they are brought faster than they can come.
+        self.numbers.catch_up();
+        self.numbers.catch_up();
+    }
+
     /// Takes the entry of a key out, where one is there. It stands in both levels.
     fn leave(&mut self, key: &SortKey)
-        requires { tag_set self.old key.now Both ≡ self.old }
+        requires { (number : ℕ) × (found self.old key.now ≡ Some (number, Both)) }
         ensures { self.new ≡ without item_key self.old key.now }
     {
         self.numbers.remove(key);
+        let count = self.numbers.len() + self.fresh.len();
         let apart = self.main.len() + self.top.len();
-        self.spares.trim(self.numbers.len() - apart);
+        self.spares.trim(count - apart);
+    }
+
+    /// Puts the entry of a key and a record's number in its place, in staging alone. No entry of that key is there.
+    ///
+    /// It gets two nodes: one to stand in now, and one for when it is in main, wherever its number stands then.
+    ///
+    /// # Errors
+    /// Where there is no memory for it. All is as it was.
+    fn begin(&mut self, key: SortKey, number: usize) -> Result<(), NoMemory>
+        requires { has_key item_key self.old key ≡ false }
+        ensures ok { OnOk result (self.new ≡ with_entry self.old (entry_from key number) TopOnly) }
+        ensures err { OnErr result (self.new ≡ self.old) }
+    {
+        let count = self.numbers.len() + self.fresh.len();
+        let apart = self.main.len() + self.top.len();
+        let others = apart + self.fresh.len();
+        let needed = count - apart;
+        self.spares.need(self.alloc, key, needed + 1, others)?;
+        self.spares.need(self.alloc, key, needed + 2, others)?;
+        put_in(&mut self.fresh, key, number, self.spares.take());
+        Ok(())
+    }
+
+    /// Takes the entry of a key and a tag out where it is a fresh one, and tells whether it is.
+    fn end(&mut self, key: &SortKey, tag: Tag) -> bool
+        ensures out { result ≡ true → self.new ≡ without item_key self.old key.now }
+        ensures none { result ≡ false → self.new ≡ self.old }
+    {
+        if !matches!(tag, Tag::TopOnly) {
+            return false;
+        }
+        if !self.fresh.has(key) {
+            return false;
+        }
+        self.spares.give(take_out(&mut self.fresh, key));
+        let count = self.numbers.len() + self.fresh.len();
+        let apart = self.main.len() + self.top.len();
+        self.spares.trim(count - apart);
+        self.spares.trim(count - apart);
+        true
     }
 
     /// The tag of the entry of a key, where one is there.
     fn tag_of(&self, key: &SortKey) -> Tag
         ensures { (number : ℕ) (tag : Tag) → found self.now key.now ≡ Some (number, tag) → tag ≡ result }
     {
-        tag_of(&self.main, &self.top, key)
+        if self.fresh.has(key) {
+            Tag::TopOnly
+        } else {
+            tag_of(&self.main, &self.top, key)
+        }
     }
 
     /// Brings the entry of a key and a tag into both levels. Its node waits from then on.
@@ -165,18 +301,21 @@ impl ChunkIndex {
         match tag {
             Tag::Both => {}
             Tag::MainOnly => self.spares.give(take_out(&mut self.main, key)),
-            Tag::TopOnly => self.spares.give(take_out(&mut self.top, key)),
+            Tag::TopOnly => match self.fresh.find(key) {
+                None => self.spares.give(take_out(&mut self.top, key)),
+                Some(number) => {
+                    let node = take_out(&mut self.fresh, key);
+                    self.numbers.list(*key, number, node);
+                }
+            },
         }
     }
 
     /// Gives a tag to the entry of a key and a record's number, which stands in both levels.
     fn set_apart(&mut self, key: SortKey, number: usize, tag: Tag)
-        requires there { HasEntry self.old (entry_from key number) }
-        requires shared { tag_set self.old key Both ≡ self.old }
+        requires { found self.old key ≡ Some (number, Both) }
         ensures { self.new ≡ tag_set self.old key tag }
     {
-        // No tree has more entries than the map.
-        prove!(self.numbers.len() < usize::MAX);
         match tag {
             Tag::Both => {}
             Tag::MainOnly => put_in(&mut self.main, key, number, self.spares.take()),
@@ -192,30 +331,48 @@ impl ChunkIndex {
         ensures entries { result ≡ entries_in level self.now }
         ensures order { AreInOrder self.now }
     {
-        IndexWalk::over_map(
-            self.numbers.range(..),
-            &self.main,
-            &self.top,
-            Wanted::InLevel(level),
-        )
+        match level {
+            Level::Main => IndexWalk::over_map(
+                self.numbers.all(),
+                &self.main,
+                &self.top,
+                Wanted::InLevel(level),
+                Part::none(&self.fresh),
+            ),
+            Level::Top => IndexWalk::over_map(
+                self.numbers.all(),
+                &self.main,
+                &self.top,
+                Wanted::InLevel(level),
+                Part::whole(&self.fresh),
+            ),
+        }
     }
 
     /// The entries of one tag, in key order. Takes no memory.
     ///
-    /// Of main alone or of staging alone, no other entry is looked at.
+    /// Of main alone, no other entry is looked at, nor of staging alone while all of these came so.
     pub fn walk_only(&self, tag: Tag) -> IndexWalk<'_>
         ensures entries { result ≡ entries_tagged tag self.now }
         ensures order { AreInOrder self.now }
     {
         match tag {
             Tag::Both => IndexWalk::over_map(
-                self.numbers.range(..),
+                self.numbers.all(),
                 &self.main,
                 &self.top,
-                Wanted::OfBoth,
+                Wanted::Of(tag),
+                Part::none(&self.fresh),
             ),
             Tag::MainOnly => IndexWalk::over_tree(&self.main),
-            Tag::TopOnly => IndexWalk::over_tree(&self.top),
+            Tag::TopOnly if self.top.len() == 0 => IndexWalk::over_tree(&self.fresh),
+            Tag::TopOnly => IndexWalk::over_map(
+                self.numbers.all(),
+                &self.main,
+                &self.top,
+                Wanted::Of(tag),
+                Part::whole(&self.fresh),
+            ),
         }
     }
 
@@ -227,10 +384,21 @@ impl ChunkIndex {
         ensures order { AreInOrder self.now }
     {
         IndexWalk::over_map(
-            self.numbers.range(SortKey::of(first)..),
+            self.numbers.from(SortKey::of(first)),
             &self.main,
             &self.top,
-            Wanted::OfBoth,
+            Wanted::Of(Tag::Both),
+            Part::none(&self.fresh),
         )
+    }
+}
+
+/// The tag of what stands in a level alone.
+fn alone(level: Level) -> Tag
+    ensures { result ≡ alone level }
+{
+    match level {
+        Level::Main => Tag::MainOnly,
+        Level::Top => Tag::TopOnly,
     }
 }

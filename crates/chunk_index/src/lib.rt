@@ -4,8 +4,14 @@
 //! then rising serial, position and size. An ordered map has the number of each entry's record under its key. The entries of
 //! main alone, and those of staging alone, stand in a tree of their own as well: which tree has its key tells the tag of an
 //! entry. So a change of tags looks into these two and not into the map, and a walk over one level alone sees nothing else.
-//! The node for a tree is made with the entry, and waits in a stack while the entry is in both levels, so only an insertion
-//! takes memory. Some nodes of entries that go out are kept for others that come.
+//!
+//! Entries that come in staging alone stand in a third tree, and not in the map: most of them go out again before the staging
+//! ends, and a map of hundreds of thousands is slow to search. One that comes into main takes no memory then: its node holds its
+//! number in a fourth tree, until insertions, which take memory anyway, bring it into the map; walks merge what stands in the map
+//! with what stands there.
+//!
+//! The nodes for the trees are made with the entry, and wait in a stack while they are in none. Some nodes of entries that go
+//! out are kept for others that come.
 #![tactic(auto)]
 
 mod ahead;
@@ -14,6 +20,8 @@ mod entry;
 mod index;
 mod key;
 mod laws;
+mod numbers;
+mod part;
 mod sort_key;
 mod spares;
 mod tree;

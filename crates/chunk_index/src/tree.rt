@@ -1,5 +1,5 @@
 ghost use Rattle.std.specs.Prelude.{◌≡◌, ◌+◌, ◌*◌, ◌^◌, ◌<◌, ◌≤◌, [], ◌∷◌, ◌++◌, length, MatchOption, Some, true, false, slice_get, take, drop};
-ghost use Rattle.chunk_index.specs.Keys.{IsInOrder, has_key, key_of, put, without};
+ghost use Rattle.chunk_index.specs.Keys.{IsInOrder, has_key, key_of, number_at, put, without};
 ghost use Rattle.chunk_index.specs.TreeShape.{entry_of};
 ghost use Rattle.chunk_index.specs.Trees.{AreBalanced, AreNearlyBalanced};
 
@@ -235,6 +235,22 @@ impl Tree {
         }
     }
 
+    /// The key of the last entry, if there is one.
+    pub fn last_key(&self) -> Option<SortKey>
+        ensures { MatchOption result (self.now ≡ []) (λ key. has_key key_of self.now key ≡ true) }
+    {
+        match &self.root {
+            None => None,
+            Some(root) => {
+                let node: &Node = root;
+                match node.right.last_key() {
+                    Some(key) => Some(key),
+                    None => Some(node.key),
+                }
+            }
+        }
+    }
+
     /// Whether an entry has a key.
     // A test while there is none.
     #[inline(always)]
@@ -245,22 +261,22 @@ impl Tree {
         if self.len == 0 {
             return false;
         }
-        self.finds(key)
+        self.find(key).is_some()
     }
 
-    /// The same by a search.
-    fn finds(&self, key: &SortKey) -> bool
+    /// The number of the record of the entry of a key.
+    pub fn find(&self, key: &SortKey) -> Option<usize>
         requires { IsInOrder key_of self.now }
-        ensures { result ≡ has_key key_of self.now key.now }
+        ensures { result ≡ number_at self.now key.now }
     {
         match &self.root {
-            None => false,
+            None => None,
             Some(root) => {
                 let node: &Node = root;
                 match key.cmp(&node.key) {
-                    Ordering::Less => node.left.finds(key),
-                    Ordering::Equal => true,
-                    Ordering::Greater => node.right.finds(key),
+                    Ordering::Less => node.left.find(key),
+                    Ordering::Equal => Some(node.number),
+                    Ordering::Greater => node.right.find(key),
                 }
             }
         }

@@ -1,16 +1,21 @@
-ghost use Rattle.std.specs.Prelude.{◌≡◌, ◌≤◌, length};
+ghost use Rattle.std.specs.Prelude.{◌≡◌, ◌≤◌, [], ◌∷◌, ◌++◌, length, MatchOption};
 ghost use Rattle.chunk_index.specs.InOrder.{IsInOrder-prop};
 ghost use Rattle.chunk_index.specs.Keys.{IsInOrder, key_of};
 ghost use Rattle.std.specs.Iterator.{YieldsFirst, YieldsLast, item_count};
 ghost use Rattle.chunk_index.specs.Walks.{left_in, passes};
+ghost use Rattle.chunk_index.specs.Merges.{put_all, ComesFirst, ComesLast};
+ghost use Rattle.chunk_index.specs.KeyOrder.{key_cmp};
+ghost use Rattle.std.specs.declared.cmp.Ordering.TheVariants.{Less, Greater};
 
 use crate::Level;
 use crate::ahead::Ahead;
 use crate::apart::tag_of;
 use crate::entry::{Entry, Tag};
+use crate::numbers::NumberSpan;
+use crate::part::Part;
 use crate::sort_key::SortKey;
 use crate::tree::Tree;
-use std::collections::btree_map;
+use std::cmp::Ordering;
 use std::marker::Model;
 
 /// A walk over entries of an index in key order, from either end. Contracts see the entries that are still to come.
@@ -40,10 +45,12 @@ enum Source<'a> {
 /// The numbers that are left, under their keys, with the trees that tell the tags, and which tags count.
 #[derive(Drop)]
 struct MapSpan<'a> {
-    numbers: btree_map::Range<'a, SortKey, usize>,
+    numbers: NumberSpan<'a>,
     main: &'a Tree,
     top: &'a Tree,
     wanted: Wanted,
+    // Others, which all count.
+    fresh: Part<'a>,
     ghost main_order: { IsInOrder key_of main.now } by { IsInOrder-prop key_of main.now },
     ghost top_order: { IsInOrder key_of top.now } by { IsInOrder-prop key_of top.now },
 }
@@ -64,7 +71,7 @@ struct TreeSpan<'a> {
 #[derive(Clone, Copy)]
 pub enum Wanted {
     InLevel(Level),
-    OfBoth,
+    Of(Tag),
 }
 
 impl Wanted {
@@ -75,22 +82,26 @@ impl Wanted {
             (Wanted::InLevel(_), Tag::Both) => true,
             (Wanted::InLevel(level), Tag::MainOnly) => level == Level::Main,
             (Wanted::InLevel(level), Tag::TopOnly) => level == Level::Top,
-            (Wanted::OfBoth, tag) => tag == Tag::Both,
+            (Wanted::Of(wanted), tag) => wanted == tag,
         }
     }
 }
 
 impl<'a> IndexWalk<'a> {
+    ghost use Rattle.chunk_index.specs.Numbers.{span_left};
+    ghost use Rattle.chunk_index.specs.Parts.{part_left};
+
     /// Over the wanted ones of some keys, whose tags the trees of main alone and of staging alone tell.
     pub fn over_map(
-        numbers: btree_map::Range<'a, SortKey, usize>,
+        numbers: NumberSpan<'a>,
         main: &'a Tree,
         top: &'a Tree,
         wanted: Wanted,
+        fresh: Part<'a>,
     ) -> IndexWalk<'a>
         requires main { IsInOrder key_of main.now }
         requires top { IsInOrder key_of top.now }
-        ensures { result ≡ left_in numbers.entry main.now top.now wanted }
+        ensures { result ≡ put_all key_of (left_in (span_left numbers.entry) main.now top.now wanted) (part_left fresh.entry) }
     {
         IndexWalk {
             source: Source::Map(MapSpan {
@@ -98,6 +109,7 @@ impl<'a> IndexWalk<'a> {
                 main,
                 top,
                 wanted,
+                fresh,
             }),
         }
     }
@@ -144,30 +156,135 @@ impl<'a> DoubleEndedIterator for IndexWalk<'a> {
 }
 
 impl<'a> MapSpan<'a> {
-    ghost use Rattle.chunk_index.specs.Sources.{map_left};
+    ghost use Rattle.chunk_index.specs.Sources.{map_left, map_listed};
+    ghost use Rattle.chunk_index.specs.Parts.{part_left};
 
     /// The first entry that counts.
+    #[inline(always)]
     fn take_first(&mut self) -> Option<Entry>
         ensures { YieldsFirst map_left self.old result self.new }
     {
-        while let Some((key, number)) = self.numbers.next() {
-            if self.wanted.passes(tag_of(self.main, self.top, key)) {
-                return Some(key.entry(*number));
+        if self.fresh.is_empty() {
+            return self.take_first_listed();
+        }
+        self.merged_first()
+    }
+
+    /// The same where a fresh one is left.
+    fn merged_first(&mut self) -> Option<Entry>
+        ensures { YieldsFirst map_left self.old result self.new }
+    {
+        let mut fresh = self.fresh.copy();
+        let Some(entry) = fresh.take_first() else {
+            return self.take_first_listed();
+        };
+        if let Some(listed) = self.take_before(&SortKey::of(&entry)) {
+            return Some(listed);
+        }
+        self.fresh = fresh;
+        Some(entry)
+    }
+
+    /// The first one of those that have numbers.
+    fn take_first_listed(&mut self) -> Option<Entry>
+        ensures first { YieldsFirst map_listed self.old result self.new }
+        ensures fresh { part_left self.new.fresh ≡ part_left self.old.fresh }
+    {
+        while let Some((key, number)) = self.numbers.take_first() {
+            if self.wanted.passes(tag_of(self.main, self.top, &key)) {
+                return Some(key.entry(number));
             }
         }
         None
     }
 
+    /// The same, where it stands before a key. One of that very key goes.
+    fn take_before(&mut self, end: &SortKey) -> Option<Entry>
+        ensures first { MatchOption result (ComesFirst key_of end.now (map_listed self.old) (map_listed self.new))
+            (λ e. (map_listed self.old ≡ e ∷ map_listed self.new) × (key_cmp (key_of e) end.now ≡ Less)) }
+        ensures fresh { part_left self.new.fresh ≡ part_left self.old.fresh }
+    {
+        loop {
+            let mut numbers = self.numbers.copy();
+            let Some((key, number)) = numbers.take_first() else {
+                return None;
+            };
+            match key.cmp(end) {
+                Ordering::Less => self.numbers = numbers,
+                Ordering::Equal => {
+                    self.numbers = numbers;
+                    return None;
+                }
+                Ordering::Greater => return None,
+            }
+            if self.wanted.passes(tag_of(self.main, self.top, &key)) {
+                return Some(key.entry(number));
+            }
+        }
+    }
+
     /// The last entry that counts.
+    #[inline(always)]
     fn take_last(&mut self) -> Option<Entry>
         ensures { YieldsLast map_left self.old result self.new }
     {
-        while let Some((key, number)) = self.numbers.next_back() {
-            if self.wanted.passes(tag_of(self.main, self.top, key)) {
-                return Some(key.entry(*number));
+        if self.fresh.is_empty() {
+            return self.take_last_listed();
+        }
+        self.merged_last()
+    }
+
+    /// The same where a fresh one is left.
+    fn merged_last(&mut self) -> Option<Entry>
+        ensures { YieldsLast map_left self.old result self.new }
+    {
+        let mut fresh = self.fresh.copy();
+        let Some(entry) = fresh.take_last() else {
+            return self.take_last_listed();
+        };
+        if let Some(listed) = self.take_behind(&SortKey::of(&entry)) {
+            return Some(listed);
+        }
+        self.fresh = fresh;
+        Some(entry)
+    }
+
+    /// The last one of those that have numbers.
+    fn take_last_listed(&mut self) -> Option<Entry>
+        ensures last { YieldsLast map_listed self.old result self.new }
+        ensures fresh { part_left self.new.fresh ≡ part_left self.old.fresh }
+    {
+        while let Some((key, number)) = self.numbers.take_last() {
+            if self.wanted.passes(tag_of(self.main, self.top, &key)) {
+                return Some(key.entry(number));
             }
         }
         None
+    }
+
+    /// The same, where it stands behind a key. One of that very key goes.
+    fn take_behind(&mut self, start: &SortKey) -> Option<Entry>
+        ensures last { MatchOption result (ComesLast key_of start.now (map_listed self.old) (map_listed self.new))
+            (λ e. (map_listed self.old ≡ map_listed self.new ++ e ∷ []) × (key_cmp (key_of e) start.now ≡ Greater)) }
+        ensures fresh { part_left self.new.fresh ≡ part_left self.old.fresh }
+    {
+        loop {
+            let mut numbers = self.numbers.copy();
+            let Some((key, number)) = numbers.take_last() else {
+                return None;
+            };
+            match key.cmp(start) {
+                Ordering::Greater => self.numbers = numbers,
+                Ordering::Equal => {
+                    self.numbers = numbers;
+                    return None;
+                }
+                Ordering::Less => return None,
+            }
+            if self.wanted.passes(tag_of(self.main, self.top, &key)) {
+                return Some(key.entry(number));
+            }
+        }
     }
 }
 

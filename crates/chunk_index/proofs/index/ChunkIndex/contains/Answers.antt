@@ -1,17 +1,24 @@
-use Rattle.std.proofs.Common.{is_some, subst, sym, ap, ◌∙◌}
-use Rattle.std.specs.Map.{lookup}
+use Rattle.std.proofs.Common.{is_some, sym, ap, ◌∙◌}
 use Rattle.chunk_index.specs.declared.key.Key.{Key}
-use Rattle.chunk_index.specs.Keys.{key_of}
-use Rattle.chunk_index.specs.Items.{Items, AreInOrder, has}
-use Rattle.chunk_index.proofs.Maps.{test, has-lookup}
+use Rattle.chunk_index.specs.Keys.{has_key}
+use Rattle.chunk_index.specs.Items.{item_key}
+use Rattle.chunk_index.proofs.Whole.{index-order, has_fresh, has_listed}
 use Rattle.chunk_index.proofs.index.ChunkIndex.contains.Goals as goal
 
-pub returns-clause-order : goal.returns-clause-order
-returns-clause-order c = subst AreInOrder c.self.view_is c.self.invariant.order
+pub returns-then-has-clause-found : goal.returns-then-has-clause-found
+returns-then-has-clause-found c =
+    let there = sym c.if-has.ensures in
+    c.has.ensures ∙ there ∙ sym (has_fresh c.self.invariant c.self.view_is c.of-key.result there)
+    ∙ ap (λ (k : Key). has_key item_key c.args.self.now k) c.of-key.ensures
 
-pub returns-clause-found : goal.returns-clause-found
-returns-clause-found c =
-    c.contains_key.ensures
-    ∙ ap (λ (k : Key). is_some (lookup (test k) c.self.inside.numbers.entries)) c.of.ensures
-    ∙ sym (has-lookup c.self.inside.main c.self.inside.top (key_of c.args.entry.now) c.self.inside.numbers.entries)
-    ∙ ap (λ (items : Items). has items c.args.entry.now) c.self.view_is
+pub returns-then-has-clause-order : goal.returns-then-has-clause-order
+returns-then-has-clause-order c = index-order c.self.invariant c.self.view_is
+
+pub returns-else-has-clause-found : goal.returns-else-has-clause-found
+returns-else-has-clause-found c =
+    c.is_some.ensures ∙ ap is_some c.get.ensures
+    ∙ sym (has_listed c.self.invariant c.self.view_is c.of-key.result (sym c.if-has.ensures))
+    ∙ ap (λ (k : Key). has_key item_key c.args.self.now k) c.of-key.ensures
+
+pub returns-else-has-clause-order : goal.returns-else-has-clause-order
+returns-else-has-clause-order c = index-order c.self.invariant c.self.view_is

@@ -1,15 +1,21 @@
-use Rattle.std.proofs.Common.{MatchOption, ◌≡◌, false, Some, ap, ◌∙◌, subst}
-use Rattle.std.specs.Map.{lookup}
+use Rattle.std.proofs.Common.{MatchOption, ◌≡◌, false, Some, ap, sym, ◌∙◌, subst}
 use Rattle.chunk_index.specs.declared.entry.Tag.{Tag}
+use Rattle.chunk_index.specs.declared.entry.Tag.TheVariants.{TopOnly}
 use Rattle.chunk_index.specs.declared.key.Key.{Key}
-use Rattle.chunk_index.specs.Keys.{key_of}
-use Rattle.chunk_index.specs.Items.{Items, has, found}
-use Rattle.chunk_index.proofs.Maps.{test, number_told}
+use Rattle.chunk_index.specs.Keys.{has_key}
+use Rattle.chunk_index.specs.Items.{item_key, found}
+use Rattle.chunk_index.proofs.Whole.{number_fresh, number_listed}
 use Rattle.chunk_index.proofs.index.ChunkIndex.number.Goals as goal
 
-pub returns : goal.returns
-returns c =
-    let at = c.copied.ensures ∙ c.get.ensures.value ∙ ap (λ (k : Key). lookup (test k) c.self.inside.numbers.entries) c.of.ensures in
-    subst (λ (items : Items). MatchOption c.copied.result (has items c.args.entry.now ≡ false) (λ n. (t : Tag) × (found items (key_of c.args.entry.now)
-    ≡ Some (n, t)))) c.self.view_is
-    (number_told c.self.inside.main c.self.inside.top c.self.inside.numbers.entries (key_of c.args.entry.now) c.copied.result at)
+pub returns-in-Some : goal.returns-in-Some
+returns-in-Some c = (
+  TopOnly,
+  ap (λ (k : Key). found c.args.self.now k) (sym c.of-key.ensures)
+      ∙ number_fresh c.self.invariant c.self.view_is c.of-key.result c.in-Some.number (sym c.in-Some.ensures),
+)
+
+pub returns-in-None : goal.returns-in-None
+returns-in-None c =
+    subst (λ (k : Key). MatchOption c.get.result (has_key item_key c.args.self.now k ≡ false) (λ n. (t : Tag) × (found c.args.self.now k ≡ Some (n, t))))
+    c.of-key.ensures
+    (number_listed c.self.invariant c.self.view_is c.of-key.result c.get.result (sym c.in-None.ensures) c.get.ensures)

@@ -1,11 +1,11 @@
 use Rattle.std.proofs.Common.{◌≡◌, ◌∷◌, ◌++◌, sym, ◌∙◌, rules}
-use Rattle.chunk_index.specs.Keys.{has_key}
+use Rattle.chunk_index.specs.Keys.{number_at}
 use Rattle.chunk_index.specs.TreeShape.{entry_of}
 use Rattle.chunk_index.proofs.Steps.{goes_left, goes_right, stops, shorter_left, shorter_right}
-use Rattle.chunk_index.proofs.tree.Tree.+finds.Goals as goal
+use Rattle.chunk_index.proofs.tree.Tree.+find.Goals as goal
 
-pub finds-requires : goal.finds-requires
-finds-requires t c =
+pub find-requires : goal.find-requires
+find-requires t c =
     let l = c.deref-node.result.now.left in
     let r = c.deref-node.result.now.right in
     let e = entry_of c.deref-node.result.now in
@@ -14,8 +14,8 @@ finds-requires t c =
     let shorter = shorter_left c.args.self.now l e r whole in
     (search rules, way.order)
 
-pub finds-requires-in-Greater : goal.finds-requires-in-Greater
-finds-requires-in-Greater t c =
+pub find-requires-in-Greater : goal.find-requires-in-Greater
+find-requires-in-Greater t c =
     let l = c.deref-node.result.now.left in
     let r = c.deref-node.result.now.right in
     let e = entry_of c.deref-node.result.now in
@@ -25,7 +25,7 @@ finds-requires-in-Greater t c =
     (search rules, way.order)
 
 pub returns-in-None : goal.returns-in-None
-unfolding has_key
+unfolding number_at
 returns-in-None t c = search rules
 
 pub returns-in-Less : goal.returns-in-Less
@@ -35,7 +35,7 @@ returns-in-Less t c =
     let e = entry_of c.deref-node.result.now in
     let whole : c.args.self.now ≡ l ++ e ∷ r = search rules in
     let way = goes_left c.args.self.now l e r whole c.requires c.args.key.now c.in-Less.ensures in
-    c.finds.ensures ∙ way.has
+    c.find.ensures ∙ way.number
 
 pub returns-in-Equal : goal.returns-in-Equal
 returns-in-Equal t c =
@@ -44,7 +44,7 @@ returns-in-Equal t c =
     let e = entry_of c.deref-node.result.now in
     let whole : c.args.self.now ≡ l ++ e ∷ r = search rules in
     let way = stops c.args.self.now l e r whole c.requires c.args.key.now c.in-Equal.ensures in
-    sym way.has
+    sym way.number
 
 pub returns-in-Greater : goal.returns-in-Greater
 returns-in-Greater t c =
@@ -53,4 +53,4 @@ returns-in-Greater t c =
     let e = entry_of c.deref-node.result.now in
     let whole : c.args.self.now ≡ l ++ e ∷ r = search rules in
     let way = goes_right c.args.self.now l e r whole c.requires c.args.key.now c.in-Greater.ensures in
-    c.finds-in-Greater.ensures ∙ way.has
+    c.find-in-Greater.ensures ∙ way.number
