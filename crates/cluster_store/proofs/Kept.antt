@@ -51,7 +51,19 @@ moved_cluster None o s is = absurd (none-some s is)
 moved_cluster (Some tag) None s is = absurd (none-some s is)
 moved_cluster (Some tag) (Some t) s is = (t, refl, ap (λ (x : Stored). x.cluster) (same_Some (record { cluster = t.cluster; tag = tag }) s is))
 
--- a cluster that stands somewhere stood under the same number before
+-- what is kept where each cluster that stands somewhere stood under the same number before
+module _ (slots slots' : Slots) (stood : (m : ℕ) (s : Stored) → at slots' m ≡ Some s → (t : Stored) × (at slots m ≡ Some t) × (t.cluster ≡ s.cluster)) where
+  pub kept_stood : (w : ℕ) (items items' : Items) (least : ℕ) → IsKept w slots items least → IsShown slots' items' → IsKept w slots' items' least
+  kept_stood w items items' least kept shown = record {
+    narrow = kept.narrow;
+    shown = shown;
+    whole = λ m s is. let old = stood m s is in subst (IsCluster (64 * w)) old.2 (kept.whole m old.0 old.1);
+    floor = λ m s is id here.
+        let old = stood m s is in
+        subst (λ c. least ≤ (rate_of c.graph id).size) old.2 (kept.floor m old.0 old.1 id (subst (λ c. Contains c.names id) (sym old.2) here));
+  }
+
+-- a cluster that stands where one moved stood under the same number before
 module _ (slots slots' : Slots) (n : ℕ) (to : Option Tag) (moves : MovesIn slots slots' n to) where
   pub stood : (m : ℕ) (s : Stored) → at slots' m ≡ Some s → (t : Stored) × (at slots m ≡ Some t) × (t.cluster ≡ s.cluster)
   stood m s is = elim (cases_eq m n) [
@@ -62,14 +74,7 @@ module _ (slots slots' : Slots) (n : ℕ) (to : Option Tag) (moves : MovesIn slo
   ]
 
   pub kept_moved : (w : ℕ) (items items' : Items) (least : ℕ) → IsKept w slots items least → IsShown slots' items' → IsKept w slots' items' least
-  kept_moved w items items' least kept shown = record {
-    narrow = kept.narrow;
-    shown = shown;
-    whole = λ m s is. let old = stood m s is in subst (IsCluster (64 * w)) old.2 (kept.whole m old.0 old.1);
-    floor = λ m s is id here.
-        let old = stood m s is in
-        subst (λ c. least ≤ (rate_of c.graph id).size) old.2 (kept.floor m old.0 old.1 id (subst (λ c. Contains c.names id) (sym old.2) here));
-  }
+  kept_moved = kept_stood slots slots' stood
 
   pub shelved_moved : (old new : Numbered) → shelved slots ≡ old → shelved slots' ≡ new → Sets n (moved_to to (finmap.get old n)) old new
   shelved_moved old new is is' =

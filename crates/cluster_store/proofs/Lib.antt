@@ -29,3 +29,4 @@ pub mod Before
 pub mod Told
 pub mod RateWalks
 pub mod Tails
+pub mod Settled

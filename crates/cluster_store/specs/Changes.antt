@@ -3,7 +3,10 @@ use Rattle.std.specs.Prelude.{◌≡◌, ◌≢◌, ℕ, ◌-◌, ◌^◌, List,
 use Rattle.std.specs.FinMap as finmap
 use Rattle.lists.specs.Distinct.{AreDistinct}
 use Rattle.graphs.specs.Closures.{rate_of}
+use Rattle.graphs.specs.declared.names.Level.{Level}
+use Rattle.graphs.specs.declared.names.Level.TheVariants.{Main, Top}
 use Rattle.chunk_index.specs.declared.entry.Tag.{Tag}
+use Rattle.chunk_index.specs.declared.entry.Tag.TheVariants.{Both, MainOnly, TopOnly}
 use Rattle.cluster.specs.Clusters.{Cluster}
 use Rattle.cluster_store.specs.declared.stored.Move.{Move}
 use Rattle.cluster_store.specs.Stores.{Stored, Exchange, Numbered}
@@ -25,6 +28,19 @@ abbrev pub moved_to : Option Tag → Option Stored → Option Stored
 moved_to None o = None
 moved_to (Some tag) None = None
 moved_to (Some tag) (Some s) = Some (record { cluster = s.cluster; tag = tag })
+
+-- where a staging is closed and a level stays, the levels of what had a tag: both for what stood in that level, and none for the rest
+abbrev pub settled_to : Level → Tag → Option Tag
+settled_to stays Both = Some Both
+settled_to Main MainOnly = Some Both
+settled_to Main TopOnly = None
+settled_to Top MainOnly = None
+settled_to Top TopOnly = Some Both
+
+-- and what stands under a number then
+abbrev pub settled : Level → Option Stored → Option Stored
+settled stays None = None
+settled stays (Some s) = moved_to (settled_to stays s.tag) (Some s)
 
 -- another cluster, in the same levels
 abbrev pub with_cluster : Cluster → Option Stored → Option Stored

@@ -1,8 +1,13 @@
 -- What changes leave of the slots.
-use Rattle.std.specs.Prelude.{◌≡◌, ◌≢◌, ℕ, List, [], ◌∷◌, ◌++◌, map, length, Contains, Option, None, Some, IsSome, slice_get, slice_index}
+use Rattle.std.specs.Prelude.{◌≡◌, ◌≢◌, ℕ, ◌<◌, List, [], ◌∷◌, ◌++◌, map, length, nat_eq, Contains, Option, None, Some, IsSome, slice_get, slice_index}
+use Rattle.std.specs.List.{filter}
 use Rattle.lists.specs.Distinct.{AreDistinct}
 use Rattle.graphs.specs.Certificates.{Part}
+use Rattle.graphs.specs.declared.names.Level.{Level}
+use Rattle.graphs.specs.declared.names.Level.TheVariants.{Main, Top}
+use Rattle.chunk_index.specs.declared.entry.Entry.{Entry}
 use Rattle.chunk_index.specs.declared.entry.Tag.{Tag}
+use Rattle.chunk_index.specs.declared.entry.Tag.TheVariants.{MainOnly, TopOnly}
 use Rattle.chunk_index.specs.declared.key.Key.{Key}
 use Rattle.chunk_index.specs.Items.{Items}
 use Rattle.cluster.specs.Clusters.{Cluster}
@@ -69,3 +74,22 @@ pub record AddsOne (s : Stored) (before after : List ℕ) (old new : Slots) : Ty
   pub listed : after ≡ before ++ number ∷ []
   pub free : at old number ≡ None
   pub writes : Writes old new number (Some s)
+
+-- ---- where a staging is closed and a level stays
+
+-- the tag of what stands in the other level alone
+abbrev pub other_tag : Level → Tag
+other_tag Main = TopOnly
+other_tag Top = MainOnly
+
+-- those of some entries that stand for the first parts of their clusters
+unfoldable pub firsts : List Entry → List Entry
+firsts entries = filter (λ e. nat_eq e.position 0) entries
+
+-- each cluster whose first part is among those of some entries goes out, or stands in other levels
+abbrev pub MovesFirsts : Option Tag → List Entry → Slots → Slots → Type 0
+MovesFirsts to entries = Done (λ e. e.number) (λ e. moved_to to) (firsts entries)
+
+-- each cluster has a first part
+abbrev pub HaveParts : Slots → Type 0
+HaveParts slots = (number : ℕ) (s : Stored) → at slots number ≡ Some s → 0 < length s.cluster.parts

@@ -11,6 +11,7 @@ mod entries;
 mod laws;
 mod least;
 mod rate_walk;
+mod settling;
 mod store;
 mod stored;
 mod tail;

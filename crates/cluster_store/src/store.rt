@@ -5,7 +5,7 @@ ghost use Rattle.cluster.specs.Clusters.{IsCluster};
 ghost use Rattle.cluster_store.specs.Stores.{Stored as Kept, IsStore, AreWhole, IsLeast, IsOrdered, shown_in, shown_only};
 ghost use Rattle.chunk_index.specs.declared.entry.Tag.TheVariants.{Both};
 ghost use Rattle.cluster_store.specs.Rates.{IsTail};
-ghost use Rattle.cluster_store.specs.Changes.{AreThere, EndsAt, MakesChange, Sets, lowest_in, moved_to, most_least, with_cluster};
+ghost use Rattle.cluster_store.specs.Changes.{AreThere, EndsAt, MakesChange, Sets, lowest_in, moved_to, most_least, settled, with_cluster};
 
 use crate::clusters::{
     add, add_all, cluster_of, entry_at, exchange, exchange_all, make_move, move_all, tag_of,
@@ -13,6 +13,7 @@ use crate::clusters::{
 };
 use crate::least::{lowest_added, lowest_exchanged, lowest_of};
 use crate::rate_walk::RateWalk;
+use crate::settling::settle;
 use crate::stored::{Exchange, Move, Stored};
 use crate::tail::first_of_tail;
 use crate::walk::PartWalk;
@@ -245,6 +246,19 @@ impl<const W: usize> ClusterStore<W> {
         ensures store { IsStore (64 * W) self.new }
     {
         make_move(&mut self.slots, &mut self.index, number, to);
+        self.begin_anew();
+    }
+
+    /// Where a staging is closed and a level stays: the clusters of that level stand in both from now on, and the others go out. Takes
+    /// no memory.
+    ///
+    /// It costs the clusters that stand in one level alone, and their parts.
+    pub fn settle(&mut self, stays: Level)
+        ensures settled { (number : ℕ) → finmap.get self.new.clusters number ≡ settled stays (finmap.get self.old.clusters number) }
+        ensures least { EndsAt self.new.clusters self.old.least self.new.least }
+        ensures store { IsStore (64 * W) self.new }
+    {
+        settle(&mut self.slots, &mut self.index, stays);
         self.begin_anew();
     }
 }
