@@ -1,6 +1,6 @@
 -- What is kept of the levels, seen from the levels.
-use Rattle.std.proofs.Common.{◌≡◌, ◌↔◌, ℕ, ◌≤◌, true, false, List, [], length, Contains, Option, Some, None, is_some, IsSome, inl, inr, refl, sym, ap, ◌∙◌, subst, arith, true≢false}
-use Rattle.std.specs.Prelude.{option_map, unwrap_or, MatchOption}
+use Rattle.std.proofs.Common.{◌≡◌, ◌↔◌, ℕ, ◌≤◌, false, List, length, Option, Some, None, is_some, IsSome, inl, inr, refl, sym, ap, ◌∙◌, subst, arith, true≢false}
+use Rattle.std.specs.Prelude.{option_map, MatchOption}
 use Rattle.std.proofs.lemmas.Option.{none-some}
 use Rattle.std.specs.Ordering.{nat_cmp}
 use Rattle.std.proofs.lemmas.List.Kept.{AllPairs-from_increasing}
@@ -17,8 +17,8 @@ use Rattle.name_book.specs.Books.{AreRung, IsNamed}
 use Rattle.cluster_store.specs.Stores.{parts_of_level, places_by}
 use Rattle.levels.specs.Kept.{IsKept, SuitsShelf}
 use Rattle.levels.specs.Levels.{Levels, IsLive, level_at, no_names}
-use Rattle.levels.specs.Rings.{Ringed, AreRight, IsMarked}
-use Rattle.levels.specs.Shelves.{Shelf, IsInOrder, IsTouched, levels_of, seen_at, no_clusters, numbers_at, one_of, view_of}
+use Rattle.levels.specs.Rings.{Ringed, AreRight}
+use Rattle.levels.specs.Shelves.{Shelf, IsInOrder, levels_of, seen_at, no_clusters, numbers_at, one_of, view_of}
 use Rattle.levels.specs.Views.{Numbers, graph_of}
 use Rattle.levels.proofs.Counts.{graph_len, set_len, set_listed}
 use Rattle.levels.proofs.Fewer.{few_at}
@@ -132,12 +132,6 @@ levels_begun w issued shelf new now order view none is =
     ∙ ap (λ (l : Levels). record l { staging = Some l.main }) view
 
 -- ---- a staging that is closed
-
-pub touched_named : (rings : Ringed) (shelf : Shelf) → SuitsShelf rings shelf → (o : Option (List ℕ))
-    → MatchOption o ((x : ℕ) → IsMarked rings x → ⊥) (λ names. AreDistinct names × ((x : ℕ) → Contains names x ↔ IsMarked rings x))
-    → (id : ℕ) → IsTouched shelf id → Contains (unwrap_or o []) id
-touched_named rings shelf right None none id touched = absurd (none id ((right.touched id).1 touched))
-touched_named rings shelf right (Some names) all id touched = (all.1 id).1 ((right.touched id).1 touched)
 
 pub levels_closed : (w issued : ℕ) (shelf new : Shelf) (now : Levels) → IsInOrder w shelf → IsInOrder w new → levels_of shelf issued ≡ now → (stays : Level)
     → new.main ≡ numbers_at stays shelf → new.staging ≡ None → ((n : ℕ) → seen_at Main new.store.clusters n ≡ seen_at stays shelf.store.clusters n)

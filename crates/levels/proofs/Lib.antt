@@ -1,5 +1,6 @@
 mod Adding
 mod Alike
+mod Alone
 mod Apart
 mod Arranged
 mod Calls

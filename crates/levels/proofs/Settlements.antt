@@ -1,19 +1,22 @@
 -- The rings of names that were touched are made anew, one name after the other.
-use Rattle.std.proofs.Common.{◌≡◌, ◌≢◌, ◌⊎◌, ◌↔◌, ℕ, ◌*◌, ◌≤◌, List, [], ◌∷◌, length, Contains, Some, None, is_some, IsSome, refl, sym, ap, ◌∙◌, subst, inl, inr, arith}
+use Rattle.std.proofs.Common.{◌≡◌, ◌≢◌, ◌⊎◌, ◌↔◌, ℕ, ◌*◌, ◌+◌, ◌≤◌, ◌<◌, List, [], ◌∷◌, ◌++◌, length, get_or, take, Contains, Some, None, is_some, IsSome, refl, sym, ap, ◌∙◌, subst, inl, inr, arith}
 use Rattle.std.specs.Prelude.{slice_get}
+use Rattle.std.proofs.lemmas.List.{take_more}
+use Rattle.std.proofs.lemmas.List.Elements.{Contains-append_cases, Contains-append_left, Contains-append_right}
 use Rattle.std.proofs.lemmas.Bool.{cases_eq}
 use Rattle.std.proofs.lemmas.Option.{none-some, same_Some}
 use Rattle.std.specs.FinMap as finmap
-use Rattle.lists.proofs.Entries.{Contains-head}
+use Rattle.lists.proofs.Entries.{Contains-cases, Contains-head, none_in_empty}
 use Rattle.graphs.specs.declared.names.Level.{Level}
 use Rattle.graphs.specs.declared.names.Level.TheVariants.{Main, Top}
 use Rattle.cluster.specs.Clusters.{Cluster}
 use Rattle.name_book.specs.Books.{IsNamed}
 use Rattle.name_book.proofs.Rings.{rung-itself}
 use Rattle.levels.specs.Rings.{Ringed, AreRight, IsHeld, IsMarked, ShareMain}
-use Rattle.levels.specs.Settling.{AreSettling, WasClosed}
+use Rattle.levels.specs.Kept.{SuitsShelf}
+use Rattle.levels.specs.Settling.{AreSettling, IsDone}
 use Rattle.levels.specs.Shelves.{Shelf, IsInOrder, numbers_at, view_of}
-use Rattle.levels.specs.Views.{IsIndexed, Numbers, View}
+use Rattle.levels.specs.Views.{IsIndexed, View}
 use Rattle.levels.proofs.Marks.{marked-named, named-same}
 use Rattle.levels.proofs.Righting.{same_or, some_is}
 use Rattle.levels.proofs.Seen.{one_seen}
@@ -41,7 +44,27 @@ first_of : (names : List ℕ) → 1 ≤ length names → (first : ℕ) × (slice
 first_of [] some = absurd (omega arith)
 first_of (n ∷ names) some = (n, refl)
 
-module _ (most : ℕ) (view : View) (indexed : IsIndexed most view) where
+-- ---- what is done
+
+-- a ring that was done is, where another name isn't touched any more
+still_done : (stays : Level) (old new : Ringed) (id first : ℕ) → ((x : ℕ) → IsMarked new x ↔ (IsMarked old x × (x ≢ id))) → first ≢ id
+    → IsDone stays new first → IsDone stays old first
+still_done Main old new id first touched other done = tt
+still_done Top old new id first touched other done = λ marked. done ((touched first).1 (marked, other))
+
+main_done : (stays : Level) (rings : Ringed) (first : ℕ) → stays ≡ Main → IsDone stays rings first
+main_done Main rings first is = tt
+main_done Top rings first is = absurd (top_main is)
+  where
+    top_main : Top ≡ Main → ⊥
+    top_main same = cc
+
+-- where nothing is touched all are
+all_done : (stays : Level) (rings : Ringed) → ((x : ℕ) → IsMarked rings x → ⊥) → (first : ℕ) → IsDone stays rings first
+all_done Main rings out first = tt
+all_done Top rings out first = out first
+
+module _ (stays : Level) (most : ℕ) (view : View) (indexed : IsIndexed most view) where
   -- two clusters with a name in common are one
   one_number : (n m x : ℕ) (c d : Cluster) → view.at n ≡ Some c → view.at m ≡ Some d → Contains c.names x → Contains d.names x → n ≡ m
   one_number n m x c d at_n at_m here there =
@@ -57,9 +80,9 @@ module _ (most : ℕ) (view : View) (indexed : IsIndexed most view) where
       subst (λ (d : Cluster). Contains d.names x) (one_cluster n n stands.cluster c stands.there at_n refl) stands.here
 
   -- the touched name goes out of the touched ones
-  module _ (id : ℕ) (old new : Ringed) (so : AreSettling old view) (touched : (x : ℕ) → IsMarked new x ↔ (IsMarked old x × (x ≢ id))) where
-    unmarked : (first : ℕ) → first ≢ id → (IsMarked new first → ⊥) → IsMarked old first → ⊥
-    unmarked first other out marked = out ((touched first).1 (marked, other))
+  module _ (id : ℕ) (old new : Ringed) (so : AreSettling stays old view) (touched : (x : ℕ) → IsMarked new x ↔ (IsMarked old x × (x ≢ id))) where
+    was_done : (first : ℕ) → first ≢ id → IsDone stays new first → IsDone stays old first
+    was_done first = still_done stays old new id first touched
 
     -- it is in no level, and is dropped
     module _ (gone : finmap.get view.numbers id ≡ None) (names : (x : ℕ) → IsNamed new.book x ↔ (IsNamed old.book x × (x ≢ id)))
@@ -72,7 +95,7 @@ module _ (most : ℕ) (view : View) (indexed : IsIndexed most view) where
       listed : (n x : ℕ) (c : Cluster) → view.at n ≡ Some c → Contains c.names x → x ≢ id
       listed n x c at_n here = numbered x (ap is_some (indexed.listed n x c at_n here))
 
-      pub dropped : AreSettling new view
+      pub dropped : AreSettling stays new view
       dropped = record {
         names = λ x. (
           λ named.
@@ -84,7 +107,7 @@ module _ (most : ℕ) (view : View) (indexed : IsIndexed most view) where
           ],
         );
         zero = λ n first c at_n is out x y here.
-            let was = so.zero n first c at_n is (unmarked first (listed n first c at_n (first_in c.names first is)) out) x y here in (
+            let was = so.zero n first c at_n is (was_done first (listed n first c at_n (first_in c.names first is)) out) x y here in (
               λ share. was.0 ((main x y).0 share).0,
               λ there. (main x y).1 (was.1 there, listed n x c at_n here, listed n y c at_n there),
             );
@@ -104,21 +127,25 @@ module _ (most : ℕ) (view : View) (indexed : IsIndexed most view) where
         λ h. named-same old.book new.book names x ((so.names x).1 (elim h [ inl some ↦ inl some | inr marked ↦ inr ((touched x).0 marked).0 ])),
       )
 
-      -- it isn't the first name of its cluster
-      pub released : ((x y : ℕ) → ShareMain new x y ↔ ShareMain old x y) → slice_get c.names 0 ≢ Some id → AreSettling new view
-      released main later = record {
+      -- the rings stay, since main's are right, or it isn't the first name of its cluster
+      pub released : ((x y : ℕ) → ShareMain new x y ↔ ShareMain old x y) → ((stays ≡ Main) ⊎ (slice_get c.names 0 ≢ Some id))
+          → AreSettling stays new view
+      released main either = record {
         names = live;
         zero = λ n first d at_n is out x y there.
-            let other : first ≢ id = λ same.
-            let in_d : Contains d.names id = subst (Contains d.names) same (first_in d.names first is) in
-            let one = one_cluster n number d c at_n at_number (one_number n number id d c at_n at_number in_d here) in
-            later (ap (λ (e : Cluster). slice_get e.names 0) (sym one) ∙ is ∙ ap Some same) in
-            let was = so.zero n first d at_n is (unmarked first other out) x y there in
+            let done : IsDone stays old first = elim either [
+              | inl is_main ↦ main_done stays old first is_main
+              | inr later ↦ was_done first (λ same.
+                  let in_d : Contains d.names id = subst (Contains d.names) same (first_in d.names first is) in
+                  let one = one_cluster n number d c at_n at_number (one_number n number id d c at_n at_number in_d here) in
+                  later (ap (λ (e : Cluster). slice_get e.names 0) (sym one) ∙ is ∙ ap Some same)) out
+            ] in
+            let was = so.zero n first d at_n is done x y there in
             (λ share. was.0 ((main x y).0 share), λ in_d. (main x y).1 (was.1 in_d));
       }
 
       -- it is the first
-      pub remade : PartsOff c.names old new → AreSettling new view
+      pub remade : PartsOff c.names old new → AreSettling stays new view
       remade main = record {
         names = live;
         zero = λ n first d at_n is out x y there. elim (cases_eq n number) [
@@ -135,7 +162,7 @@ module _ (most : ℕ) (view : View) (indexed : IsIndexed most view) where
               let outside : (z : ℕ) → Contains d.names z → Contains c.names z → ⊥ = λ z in_d in_c.
               apart (one_number n number z d c at_n at_number in_d in_c) in
               let other : first ≢ id = λ same. outside first (first_in d.names first is) (subst (Contains c.names) (sym same) here) in
-              let was = so.zero n first d at_n is (unmarked first other out) x y there in (
+              let was = so.zero n first d at_n is (was_done first other out) x y there in (
                 λ share. elim ((main x y).0 share) [
                   | inl all ↦ was.0 all.0
                   | inr both ↦ absurd (outside x there both.0)
@@ -146,7 +173,7 @@ module _ (most : ℕ) (view : View) (indexed : IsIndexed most view) where
       }
 
   -- no name is touched any more
-  pub settled_right : (rings : Ringed) → AreSettling rings view → ((x : ℕ) → IsMarked rings x → ⊥) → AreRight rings view.numbers view.numbers
+  pub settled_right : (rings : Ringed) → AreSettling stays rings view → ((x : ℕ) → IsMarked rings x → ⊥) → AreRight rings view.numbers view.numbers
   settled_right rings so out = record {
     names = λ x. (
       λ named. elim ((so.names x).0 named) [ inl some ↦ inl some | inr marked ↦ absurd (out x marked) ],
@@ -158,7 +185,7 @@ module _ (most : ℕ) (view : View) (indexed : IsIndexed most view) where
             let at = some_is (finmap.get view.numbers a) some in
             let stands = indexed.stands a at.0 at.1 in
             let first = first_of stands.cluster.names (indexed.whole at.0 stands.cluster stands.there).some in
-            let there = (so.zero at.0 first.0 stands.cluster stands.there first.1 (out first.0) a b stands.here).0 share in
+            let there = (so.zero at.0 first.0 stands.cluster stands.there first.1 (all_done stays rings out first.0) a b stands.here).0 share in
             inr (at.0, at.1, indexed.listed at.0 b stands.cluster stands.there there)
         | inr marked ↦ absurd (out a marked)
       ],
@@ -167,7 +194,7 @@ module _ (most : ℕ) (view : View) (indexed : IsIndexed most view) where
         | inr two ↦
             let stands = indexed.stands a two.0 two.1 in
             let first = first_of stands.cluster.names (indexed.whole two.0 stands.cluster stands.there).some in
-            (so.zero two.0 first.0 stands.cluster stands.there first.1 (out first.0) a b stands.here).1 (in_cluster two.0 b stands.cluster stands.there two.2)
+            (so.zero two.0 first.0 stands.cluster stands.there first.1 (all_done stays rings out first.0) a b stands.here).1 (in_cluster two.0 b stands.cluster stands.there two.2)
       ],
     );
     touched = λ x. (λ marked. absurd (out x marked), λ apart. absurd (apart refl));
@@ -195,49 +222,82 @@ module _ (w : ℕ) (shelf : Shelf) (order : IsInOrder w shelf) where
   held_either Main x some = inl some
   held_either Top x some = inr some
 
-module _ (w : ℕ) (rings : Ringed) (now : Shelf) (order : IsInOrder w now) (was : WasClosed w rings now) where
-  abbrev before : Shelf
-  before = was.before
+module _ (w : ℕ) (stays : Level) (rings : Ringed) (shelf : Shelf) (order : IsInOrder w shelf) (suits : SuitsShelf rings shelf) where
+  abbrev level : View
+  level = view_of stays shelf
 
-  number_was : (x : ℕ) → finmap.get now.main x ≡ finmap.get (numbers_at was.stays before) x
-  number_was x = ap (λ (m : Numbers). finmap.get m x) was.main
-
-  -- a name that is live was in a level, and is in main if it isn't touched
-  live_was : (x : ℕ) → IsHeld before.main (numbers_at Top before) x → IsSome (finmap.get now.main x) ⊎ IsMarked rings x
-  live_was x held = elim (same_or (finmap.get before.main x) (finmap.get (numbers_at Top before) x)) [
+  -- a name that is live is in the level if it isn't touched
+  live_in : (x : ℕ) → IsHeld shelf.main (numbers_at Top shelf) x → IsSome (finmap.get level.numbers x) ⊎ IsMarked rings x
+  live_in x held = elim (same_or (finmap.get shelf.main x) (finmap.get (numbers_at Top shelf) x)) [
     | inl same ↦
-        let in_main : IsSome (finmap.get before.main x) = elim held [ inl one ↦ one | inr two ↦ ap is_some same ∙ two ] in
-        inl (ap is_some (number_was x ∙ sym (either_number w before was.order was.stays x same)) ∙ in_main)
-    | inr apart ↦ inr ((was.suits.touched x).1 apart)
+        let in_main : IsSome (finmap.get shelf.main x) = elim held [ inl one ↦ one | inr two ↦ ap is_some same ∙ two ] in
+        inl (ap is_some (sym (either_number w shelf order stays x same)) ∙ in_main)
+    | inr apart ↦ inr ((suits.touched x).1 apart)
   ]
 
-  pub settling : AreSettling rings (view_of Main now)
+  -- the first name of a cluster that is done has its number in main
+  first_main : (l : Level) → l ≡ stays → (n first : ℕ) → finmap.get level.numbers first ≡ Some n → IsDone l rings first
+      → finmap.get shelf.main first ≡ Some n
+  first_main Main is n first at done = ap (λ (k : Level). finmap.get (numbers_at k shelf) first) is ∙ at
+  first_main Top is n first at done = elim (same_or (finmap.get shelf.main first) (finmap.get (numbers_at Top shelf) first)) [
+    | inl one ↦ either_number w shelf order stays first one ∙ at
+    | inr apart ↦ absurd (done ((suits.touched first).1 apart))
+  ]
+
+  pub settling : AreSettling stays rings level
   settling = record {
     names = λ x. (
-      λ named. live_was x ((was.suits.names x).0 named),
+      λ named. live_in x ((suits.names x).0 named),
       λ h. elim h [
-        | inl some ↦ (was.suits.names x).1 (held_either w before was.order was.stays x (sym (ap is_some (number_was x)) ∙ some))
+        | inl some ↦ (suits.names x).1 (held_either w shelf order stays x some)
         | inr marked ↦ marked-named rings.book rings.touched x marked
       ],
     );
-    zero = λ n first c at_n is out x y here.
-        let same : finmap.get before.main first ≡ finmap.get (numbers_at Top before) first =
-        elim (same_or (finmap.get before.main first) (finmap.get (numbers_at Top before) first)) [
-          | inl one ↦ one
-          | inr apart ↦ absurd (out ((was.suits.touched first).1 apart))
-        ] in
-        let stayed : finmap.get (numbers_at was.stays before) first ≡ Some n =
-        sym (number_was first) ∙ order.main.listed n first c at_n (first_in c.names first is) in
-        let in_main : finmap.get before.main first ≡ Some n = either_number w before was.order was.stays first same ∙ stayed in
-        let to_main : (z : ℕ) → Contains c.names z → finmap.get before.main z ≡ Some n = λ z in_c.
-        same_cluster w before was.order was.stays Main n first z stayed in_main (sym (number_was z) ∙ order.main.listed n z c at_n in_c) in
-        let from_main : (z : ℕ) → finmap.get before.main z ≡ Some n → Contains c.names z = λ z has.
-        in_cluster (64 * w) (view_of Main now) order.main n z c at_n
-        (number_was z ∙ same_cluster w before was.order Main was.stays n first z in_main stayed has) in (
-          λ share. elim ((was.suits.zero x y).0 share) [
+    zero = λ n first c at_n is done x y here.
+        let indexed = indexed_at w stays shelf order in
+        let there = indexed.listed n first c at_n (first_in c.names first is) in
+        let in_main = first_main stays refl n first there done in
+        let to_main : (z : ℕ) → Contains c.names z → finmap.get shelf.main z ≡ Some n = λ z in_c.
+        same_cluster w shelf order stays Main n first z there in_main (indexed.listed n z c at_n in_c) in
+        let from_main : (z : ℕ) → finmap.get shelf.main z ≡ Some n → Contains c.names z = λ z has.
+        in_cluster stays (64 * w) level indexed n z c at_n (same_cluster w shelf order Main stays n first z in_main there has) in (
+          λ share. elim ((suits.zero x y).0 share) [
             | inl one ↦ subst (Contains c.names) one.1 here
             | inr two ↦ from_main y (two.2 ∙ sym two.1 ∙ to_main x here)
           ],
-          λ there. (was.suits.zero x y).1 (inr (n, to_main x here, to_main y there)),
+          λ in_c. (suits.zero x y).1 (inr (n, to_main x here, to_main y in_c)),
         );
   }
+
+-- ---- name after name
+
+-- the names of a list so far, and one more
+pub touched_more : (ids : List ℕ) (i : ℕ) (old mid new : Ringed) → i < length ids
+    → ((x : ℕ) → IsMarked mid x ↔ (IsMarked old x × (Contains (take i ids) x → ⊥)))
+    → ((x : ℕ) → IsMarked new x ↔ (IsMarked mid x × (x ≢ get_or ids i 0)))
+    → (x : ℕ) → IsMarked new x ↔ (IsMarked old x × (Contains (take (i + 1) ids) x → ⊥))
+touched_more ids i old mid new low before now x = (
+  λ marked.
+      let was = (now x).0 marked in
+      let first = (before x).0 was.0 in (
+        first.0,
+        λ here. elim (Contains-append_cases (take i ids) (id ∷ []) x (subst (λ (xs : List ℕ). Contains xs x) more here)) [
+          | inl early ↦ first.1 early
+          | inr late ↦ was.1 (one x late)
+        ],
+      ),
+  λ h. (now x).1 (
+    (before x).1 (h.0, λ early. h.1 (subst (λ (xs : List ℕ). Contains xs x) (sym more) (Contains-append_left (take i ids) (id ∷ []) x early))),
+    λ same. h.1 (subst (λ (xs : List ℕ). Contains xs x) (sym more)
+        (Contains-append_right (take i ids) (id ∷ []) x (subst (Contains (id ∷ [])) (sym same) (Contains-head id [])))),
+  ),
+)
+  where
+    id : ℕ
+    id = get_or ids i 0
+
+    more : take (i + 1) ids ≡ take i ids ++ id ∷ []
+    more = take_more ids i 0 low
+
+    one : (q : ℕ) → Contains (id ∷ []) q → q ≡ id
+    one q here = elim (Contains-cases id q [] here) [ inl same ↦ sym same | inr none ↦ absurd (none_in_empty q none) ]

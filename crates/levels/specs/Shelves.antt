@@ -8,7 +8,7 @@ use Rattle.chunk_index.specs.declared.entry.Tag.{Tag}
 use Rattle.chunk_index.specs.declared.entry.Tag.TheVariants.{Both, MainOnly, TopOnly}
 use Rattle.chunk_index.specs.Items.{is_in}
 use Rattle.cluster.specs.Clusters.{Cluster}
-use Rattle.cluster_store.specs.Changes.{most_least, moved_to}
+use Rattle.cluster_store.specs.Changes.{most_least}
 use Rattle.cluster_store.specs.Stores.{Stored, Numbered, Store, store_code, IsStore, parts_of_level}
 use Rattle.levels.specs.Views.{Numbers, numbers_code, View, IsIndexed, graph_of}
 use Rattle.levels.specs.Levels.{OneLevel, Levels}
@@ -86,18 +86,6 @@ abbrev pub left_of : Bool → Tag → Option Tag
 left_of staged Both = cond staged (Some MainOnly) None
 left_of staged MainOnly = Some MainOnly
 left_of staged TopOnly = None
-
--- where a staging is closed and a level stays, what stays of a cluster with a tag
-abbrev pub settled_to : Level → Tag → Option Tag
-settled_to stays Both = Some Both
-settled_to Main MainOnly = Some Both
-settled_to Main TopOnly = None
-settled_to Top MainOnly = None
-settled_to Top TopOnly = Some Both
-
-abbrev pub settled : Level → Option Stored → Option Stored
-settled stays None = None
-settled stays (Some s) = moved_to (settled_to stays s.tag) (Some s)
 
 -- the cluster of a name differs between the levels, or only one of them has the name
 abbrev pub IsTouched : Shelf → ℕ → Type 0

@@ -1,14 +1,12 @@
 -- What a change of the top level leaves of the store, and of the shelf.
 use Rattle.std.specs.Prelude.{◌≡◌, ◌⊎◌, ℕ, ◌*◌, Bool, true, false, List, [], ◌∷◌, ◌++◌, Contains, is_some, IsSome, Some, None}
-use Rattle.std.specs.FinMap as finmap
 use Rattle.graphs.specs.declared.names.Level.{Level}
 use Rattle.graphs.specs.declared.names.Level.TheVariants.{Main, Top}
 use Rattle.chunk_index.specs.declared.entry.Tag.TheVariants.{Both}
 use Rattle.cluster.specs.Clusters.{Cluster}
 use Rattle.cluster_store.specs.Stores.{Numbered}
-use Rattle.staging.specs.Maps.{Maps, top_of}
 use Rattle.levels.specs.Changes.{Exchanges, Rebuilds}
-use Rattle.levels.specs.Shelves.{AllHave, seen_at, settled, Shelf, view_of}
+use Rattle.levels.specs.Shelves.{AllHave, seen_at, Shelf, view_of}
 
 -- Clusters of the top level of a store are exchanged. Where there is a staging, what is seen of main stays, and those that come in aren't of it; where there is none, all clusters stand in both.
 pub record Exchanged (staged : Bool) (outs made : List ℕ) (news : List Cluster) (old new : Numbered) : Type 0 where
@@ -43,17 +41,3 @@ ExchangedAt w number cluster level old new =
     ((c : Cluster) → seen_at level old.store.clusters number ≡ Some c
     → Rebuilds (64 * w) (number ∷ []) (number ∷ []) (c ∷ []) (cluster ∷ []) [] (view_of level old) (view_of level new))
     × (seen_at level old.store.clusters number ≡ None → (n : ℕ) → seen_at level new.store.clusters n ≡ seen_at level old.store.clusters n)
-
--- the number's cluster is settled, where a staging is closed and a level stays
-abbrev pub IsSettledAt : Level → ℕ → Numbered → Numbered → Type 0
-IsSettledAt stays n old new = finmap.get new n ≡ settled stays (finmap.get old n)
-
--- every cluster is settled or as it was
-abbrev pub AreSettledOrSame : Level → Numbered → Numbered → Type 0
-AreSettledOrSame stays old new = (n : ℕ) → IsSettledAt stays n old new ⊎ (finmap.get new n ≡ finmap.get old n)
-
--- Every cluster is settled or as it was, and those of some names are settled.
-pub record Settles (stays : Level) (names : List ℕ) (numbers : Maps ℕ) (old new : Numbered) : Type 0 where
-  pub every : AreSettledOrSame stays old new
-  pub main : (id n : ℕ) → Contains names id → finmap.get numbers.base id ≡ Some n → IsSettledAt stays n old new
-  pub top : (id n : ℕ) → Contains names id → finmap.get (top_of numbers) id ≡ Some n → IsSettledAt stays n old new

@@ -280,8 +280,8 @@ impl<const W: usize> Levels<W> {
         requires { IsSome self.old.staging }
         ensures { self.new ≡ record self.old { main = level_at self.old Top; staging = None } }
     {
-        self.shelves.close(Level::Top, self.rings.touched());
-        settle_rings(&mut self.rings, &self.shelves);
+        settle_rings(&mut self.rings, &self.shelves, Level::Top);
+        self.shelves.close(Level::Top);
         self.mains = self.tops;
     }
 
@@ -290,8 +290,8 @@ impl<const W: usize> Levels<W> {
         requires { IsSome self.old.staging }
         ensures { self.new ≡ record self.old { staging = None } }
     {
-        self.shelves.close(Level::Main, self.rings.touched());
-        settle_rings(&mut self.rings, &self.shelves);
+        settle_rings(&mut self.rings, &self.shelves, Level::Main);
+        self.shelves.close(Level::Main);
         self.tops = self.mains;
     }
 }

@@ -5,7 +5,7 @@ ghost use Rattle.name_book.specs.Books.{AreRung, IsNamed};
 ghost use Rattle.levels.specs.Rings.{AreMarks, IsMarked, ShareMain, next_of, touched_of};
 
 use graph_model::TxId;
-use name_book::{NameBook, RingNames};
+use name_book::NameBook;
 use outside::NoMemory;
 use std::alloc::Global;
 use std::marker::Model;
@@ -162,9 +162,10 @@ impl Rings {
         ensures issued { self.new.book.issued ≡ self.old.book.issued }
     {
         self.book.rings_go_round();
-        let next = self.book.cut_next(TOUCHED, id);
         if self.touched == Some(id) {
-            self.touched = next;
+            self.touched = self.book.cut_next(TOUCHED, id);
+        } else {
+            self.book.cut(TOUCHED, id);
         }
     }
 
@@ -190,15 +191,6 @@ impl Rings {
     {
         let _book = &self.book;
         self.touched
-    }
-
-    /// The touched names, each once, or `None` where there is none.
-    pub fn touched(&self) -> Option<RingNames<'_>>
-        ensures { MatchOption result ((x : ℕ) → IsMarked self.now x → ⊥)
-            (λ names. AreDistinct names × ((x : ℕ) → Contains names x ↔ IsMarked self.now x)) }
-    {
-        let first = self.touched?;
-        Some(self.book.ring(TOUCHED, first))
     }
 }
 

@@ -1,37 +1,28 @@
-ghost use Rattle.std.specs.Prelude.{◌≡◌, ◌≢◌, ◌++◌, ℕ, ◌+◌, ◌*◌, ◌^◌, ◌<◌, ◌≤◌, true, false, None, Some, List, [], ◌∷◌, length, take, slice_get, slice_index, is_some, Contains, IsSome, IfOk, OnOk, OnErr, MatchOption, IfSome, unwrap_or, IsTrue, sum_by, ◌↔◌};
+ghost use Rattle.std.specs.Prelude.{◌≡◌, ◌≢◌, ◌++◌, ℕ, ◌+◌, ◌*◌, ◌^◌, ◌<◌, ◌≤◌, true, false, None, Some, List, [], ◌∷◌, length, is_some, Contains, IsSome, IfOk, OnOk, OnErr, MatchOption, IfSome, IsTrue, sum_by, ◌↔◌};
 ghost use Rattle.std.specs.List.{AllPairs};
 ghost use Rattle.std.specs.FinMap as finmap;
 ghost use Rattle.graphs.specs.declared.names.Level as levels;
 ghost use Rattle.graphs.specs.declared.names.Level.TheVariants.{Main, Top};
 ghost use Rattle.chunk_index.specs.declared.entry.Tag.TheVariants.{MainOnly};
-ghost use Rattle.staging.specs.Maps.{top_of};
 ghost use Rattle.graphs.specs.Closures.{is_member};
 ghost use Rattle.cluster.specs.Clusters.{IsCluster, AreApart};
 ghost use Rattle.cluster_store.specs.Stores.{IsStore};
 ghost use Rattle.cluster.specs.Clusters as records;
-ghost use Rattle.levels.specs.declared.shelves.TheConstants.{LOOKED_UP};
 ghost use Rattle.levels.specs.Changes.{IsNamed};
-ghost use Rattle.levels.specs.Tops.{AreSettledOrSame, AreTold, ExchangedAt, IsSettledAt, Settles, TopRebuilds};
-ghost use Rattle.levels.specs.Shelves.{IsInOrder, no_clusters, numbers_at, seen_at, stored_at, tag_at, view_of, IsTouched};
+ghost use Rattle.levels.specs.Tops.{AreTold, ExchangedAt, TopRebuilds};
+ghost use Rattle.levels.specs.Shelves.{IsInOrder, no_clusters, numbers_at, seen_at, stored_at, tag_at, view_of};
 ghost use Rattle.levels.specs.Views.{graph_of, IsClusterOf};
 
 use crate::numbers::{live_number, number_of, point, point_all};
-use crate::stored::{
-    at, come_in, come_together, new_tag, put_apart, settle, tag_of, two_exchanges,
-};
+use crate::stored::{at, come_in, come_together, new_tag, put_apart, tag_of, two_exchanges};
 use chunk_index::Tag;
 use cluster::Cluster;
 use cluster_store::{ClusterStore, Stored};
 use graph_model::{Level, TxId};
-use name_book::RingNames;
 use outside::NoMemory;
 use staging::Overlay;
 use std::alloc::Global;
 use std::marker::Model;
-
-/// How many names are looked up before the clusters of the first of them are settled. A look-up waits for memory, and look-ups that follow
-/// one another wait at the same time.
-const LOOKED_UP: usize = 16;
 
 /// The clusters of both levels, each under a number, and for each level the number of each name's cluster.
 #[derive(Drop)]
@@ -282,122 +273,19 @@ impl<const W: usize> Shelves<W> {
         }
     }
 
-    /// Closes the staging: the level of the word is main then, and its clusters are all that are left. Takes no memory. `touched`
-    /// has at least the names whose clusters the levels don't share.
-    pub fn close(&mut self, stays: Level, touched: Option<RingNames<'_>>)
-        requires staged { IsSome self.old.staging }
-        requires touched { (id : ℕ) → IsTouched self.old id → Contains (unwrap_or touched []) id }
+    /// Closes the staging: the level of the word is main then, and its clusters are all that are left. Takes no memory.
+    pub fn close(&mut self, stays: Level)
+        requires { IsSome self.old.staging }
         ensures main { self.new.main ≡ numbers_at stays self.old }
         ensures staging { self.new.staging ≡ None }
         ensures seen { (n : ℕ) → seen_at Main self.new.store.clusters n ≡ seen_at stays self.old.store.clusters n }
         ensures order { IsInOrder W self.new }
     {
-        settle_touched(&self.numbers, &mut self.store, stays, touched);
+        self.store.settle(stays);
         match stays {
             Level::Main => self.numbers.abort(),
             Level::Top => self.numbers.commit(),
         }
-    }
-}
-
-/// Settles the clusters of some names, if there are any, where a staging is closed.
-fn settle_touched<const W: usize>(
-    numbers: &Overlay<usize>,
-    store: &mut ClusterStore<W>,
-    stays: Level,
-    touched: Option<RingNames<'_>>,
-)
-    ensures settles { Settles stays (unwrap_or touched.entry []) numbers.now store.old.clusters store.new.clusters }
-    ensures store { IsStore (64 * W) store.old → IsStore (64 * W) store.new }
-{
-    if let Some(names) = touched {
-        settle_names(numbers, store, stays, names);
-    }
-}
-
-/// Settles the clusters of some names, where a staging is closed.
-fn settle_names<const W: usize>(
-    numbers: &Overlay<usize>,
-    store: &mut ClusterStore<W>,
-    stays: Level,
-    mut names: RingNames<'_>,
-)
-    ensures settles { Settles stays names.entry numbers.now store.old.clusters store.new.clusters }
-    ensures store { IsStore (64 * W) store.old → IsStore (64 * W) store.new }
-{
-    let mut ids = [0; LOOKED_UP];
-    loop {
-        let count = take_some(&mut names, &mut ids);
-        if count == 0 {
-            return;
-        }
-        settle_few(numbers, store, stays, &ids[..count]);
-    }
-}
-
-/// Takes the next names of a walk, as many as are looked up at once, and answers how many they are. It answers fewer only at the end of
-/// the walk.
-fn take_some(names: &mut RingNames<'_>, ids: &mut [TxId; LOOKED_UP]) -> usize
-    ensures few { result ≤ LOOKED_UP }
-    ensures taken { names.old ≡ take result ids.new ++ names.new }
-    ensures ended { result < LOOKED_UP → names.new ≡ [] }
-{
-    for count in 0..LOOKED_UP {
-        match names.next() {
-            Some(id) => ids[count] = id,
-            None => return count,
-        }
-    }
-    LOOKED_UP
-}
-
-/// As `settle_names`, for names that are few enough to be looked up at once.
-fn settle_few<const W: usize>(
-    numbers: &Overlay<usize>,
-    store: &mut ClusterStore<W>,
-    stays: Level,
-    ids: &[TxId],
-)
-    requires few { length ids.now ≤ LOOKED_UP }
-    ensures settles { Settles stays ids.now numbers.now store.old.clusters store.new.clusters }
-    ensures store { IsStore (64 * W) store.old → IsStore (64 * W) store.new }
-{
-    let mut mains = [None; LOOKED_UP];
-    look_up(numbers, ids, &mut mains);
-    for i in 0..ids.len() {
-        settle_name(numbers, store, stays, ids[i], mains[i]);
-    }
-}
-
-/// Puts main's numbers of the clusters of some names at the front of a list, in their order, or `None` where main hasn't the name.
-fn look_up(numbers: &Overlay<usize>, ids: &[TxId], mains: &mut [Option<usize>; LOOKED_UP])
-    requires few { length ids.now ≤ LOOKED_UP }
-    ensures { (i : ℕ) → i < length ids.now → slice_get mains.new i ≡ Some (finmap.get numbers.now.base (slice_index ids.now i)) }
-{
-    for i in 0..ids.len() {
-        mains[i] = number_of(numbers, Level::Main, ids[i]);
-    }
-}
-
-/// Settles the clusters of a name, where a staging is closed. Main's number of it is told.
-fn settle_name<const W: usize>(
-    numbers: &Overlay<usize>,
-    store: &mut ClusterStore<W>,
-    stays: Level,
-    id: TxId,
-    main: Option<usize>,
-)
-    requires main { main ≡ finmap.get numbers.now.base id }
-    ensures main { IfSome (finmap.get numbers.now.base id) (λ n. IsSettledAt stays n store.old.clusters store.new.clusters) }
-    ensures top { IfSome (finmap.get (top_of numbers.now) id) (λ n. IsSettledAt stays n store.old.clusters store.new.clusters) }
-    ensures others { AreSettledOrSame stays store.old.clusters store.new.clusters }
-    ensures store { IsStore (64 * W) store.old → IsStore (64 * W) store.new }
-{
-    if let Some(number) = main {
-        settle(store, stays, number);
-    }
-    if let Some(number) = number_of(numbers, Level::Top, id) {
-        settle(store, stays, number);
     }
 }
 

@@ -1,18 +1,15 @@
 ghost use Rattle.std.specs.Prelude.{◌≡◌, ◌≢◌, ◌↔◌, ◌≤◌, ◌*◌, ℕ, true, false, None, Some, List, [], ◌∷◌, map, length, option_map, IsSome, IfOk, OnOk, OnErr, vec_capacity};
-ghost use Rattle.std.specs.FinMap as finmap;
 ghost use Rattle.graphs.specs.declared.names.Level.TheVariants.{Main, Top};
 ghost use Rattle.chunk_index.specs.declared.entry.Tag.TheVariants.{Both};
 ghost use Rattle.cluster.specs.Clusters as records;
 ghost use Rattle.cluster_store.specs.Stores.{IsStore};
-ghost use Rattle.cluster_store.specs.Changes.{Sets};
 ghost use Rattle.cluster_store.specs.Stores as stores;
 ghost use Rattle.levels.specs.Tops.{ComesApart, Exchanged};
-ghost use Rattle.levels.specs.Shelves.{AllHave, StandsInTop, left_of, settled, settled_to, stored_at, tag_at, top_tag};
+ghost use Rattle.levels.specs.Shelves.{AllHave, StandsInTop, left_of, stored_at, tag_at, top_tag};
 
 use chunk_index::Tag;
 use cluster::Cluster;
 use cluster_store::{ClusterStore, Exchange, Move, Stored};
-use graph_model::Level;
 use outside::NoMemory;
 use std::alloc::Global;
 
@@ -280,28 +277,4 @@ fn all_tagged<const W: usize>(
         all.push_reserved(Stored::new(cluster, tag));
     }
     Ok(all)
-}
-
-/// Where a staging is closed and a level stays, what stays of a cluster with a tag.
-fn settled_tag(stays: Level, tag: Tag) -> Option<Tag>
-    ensures { result ≡ settled_to stays tag }
-{
-    match (stays, tag) {
-        (_, Tag::Both) | (Level::Main, Tag::MainOnly) | (Level::Top, Tag::TopOnly) => {
-            Some(Tag::Both)
-        }
-        (Level::Main, Tag::TopOnly) | (Level::Top, Tag::MainOnly) => None,
-    }
-}
-
-/// Settles the cluster of a number, where a staging is closed and a level stays: it stands in both levels then, or goes out. Takes no
-/// memory.
-pub(crate) fn settle<const W: usize>(store: &mut ClusterStore<W>, stays: Level, number: usize)
-    ensures settled { Sets number (settled stays (finmap.get store.old.clusters number)) store.old.clusters store.new.clusters }
-    ensures store { IsStore (64 * W) store.old → IsStore (64 * W) store.new }
-{
-    match store.tag(number) {
-        None | Some(Tag::Both) => {}
-        Some(tag) => store.make_move(number, settled_tag(stays, tag)),
-    }
 }

@@ -5,7 +5,7 @@ use Rattle.chunk_index.specs.declared.entry.Tag.TheVariants.{Both, MainOnly, Top
 use Rattle.chunk_index.specs.Items.{same_tag}
 use Rattle.cluster_store.specs.Stores.{parts_of_level}
 use Rattle.levels.specs.Orders.{sums_of}
-use Rattle.levels.proofs.Merging.{common_pays, level_merges, main_alone, rates_by, top_alone, yields_alone, yields_level}
+use Rattle.levels.proofs.Merging.{common_pays, level_merges, main_alone, rates_by, top_alone, yields_alone}
 use Rattle.levels.proofs.comparing.compare_store.Goals as goal
 
 pub compare_changed-requires-clause-main_changes : goal.compare_changed-requires-clause-main_changes

@@ -1,16 +1,11 @@
-use Rattle.std.proofs.Common.{rules, ◌∙◌}
+use Rattle.std.proofs.Common.{◌∙◌, arith}
 use Rattle.graphs.specs.declared.names.Level.TheVariants.{Main}
-use Rattle.levels.proofs.Keeping.{levels_closed, shelf_staged, touched_named}
+use Rattle.levels.proofs.Keeping.{levels_closed, shelf_staged}
 use Rattle.levels.proofs.levels.Levels.abort.Goals as goal
 
 pub close-requires : goal.close-requires
-close-requires g c = (
-  search rules,
-  (
-    shelf_staged c.self.inside.shelves c.self.inside.issued c.args.self.now c.self.view_is ∙ c.requires,
-    touched_named c.self.inside.rings c.self.inside.shelves c.self.invariant.right c.touched.result c.touched.ensures,
-  ),
-)
+close-requires g c =
+    (omega arith, shelf_staged c.self.inside.shelves c.self.inside.issued c.args.self.now c.self.view_is ∙ c.requires)
 
 pub returns : goal.returns
 returns g c =
