@@ -100,6 +100,8 @@ enum Act {
     // The next cluster takes the place of the first of these, the one after it is added to staging, and the second of these
     // goes out, in one change.
     Change(usize, usize),
+    // A staging is closed, and that level stays.
+    Settle(Level),
 }
 
 fn next(rt: &impl Abort, table: &mut Table) -> Cluster<1> {
@@ -164,6 +166,10 @@ fn obey(rt: &impl Abort, table: &mut Table, act: Act) -> Result<(), Fail> {
             Ok(())
         }
         Act::Change(at, out) => change(rt, table, at, out),
+        Act::Settle(stays) => {
+            table.store.settle(stays);
+            Ok(())
+        }
     }
 }
 
@@ -225,7 +231,7 @@ fn gives_back(rt: &impl Abort, mut walk: PartWalk<'_, Stored<1>>, names: &[u8]) 
 }
 
 // Rows, and the names that the five walks give after each, a digit a name.
-static ROWS: [(Act, [&str; 5]); 16] = [
+static ROWS: [(Act, [&str; 5]); 19] = [
     (Act::Add(Tag::Both), ["1", "1", "1", "", ""]),
     (Act::Add(Tag::MainOnly), ["12", "1", "1", "2", ""]),
     (Act::Add(Tag::TopOnly), ["12", "13", "1", "2", "3"]),
@@ -247,10 +253,22 @@ static ROWS: [(Act, [&str; 5]); 16] = [
         ["37824", "324", "324", "78", ""],
     ),
     (Act::Change(1, 4), ["342", "3542", "342", "", "5"]),
-    (Act::Move(1, None), ["34", "354", "34", "", "5"]),
-    (Act::Move(2, None), ["4", "54", "4", "", "5"]),
-    (Act::Move(3, None), ["", "5", "", "", "5"]),
-    (Act::Move(5, None), ["", "", "", "", ""]),
+    (
+        Act::Move(1, Some(Tag::MainOnly)),
+        ["342", "354", "34", "2", "5"],
+    ),
+    (Act::Settle(Level::Main), ["342", "342", "342", "", ""]),
+    (
+        Act::Move(1, Some(Tag::TopOnly)),
+        ["34", "342", "34", "", "2"],
+    ),
+    (
+        Act::Move(2, Some(Tag::MainOnly)),
+        ["34", "42", "4", "3", "2"],
+    ),
+    (Act::Settle(Level::Top), ["42", "42", "42", "", ""]),
+    (Act::Move(1, None), ["4", "4", "4", "", ""]),
+    (Act::Move(3, None), ["", "", "", "", ""]),
 ];
 
 // Asserts that the five walks give these names.
