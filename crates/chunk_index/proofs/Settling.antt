@@ -1,8 +1,10 @@
--- One level's entries come into both levels: what that leaves of the entries of each level and of each tag.
-use Rattle.std.proofs.Common.{◌≡◌, ◌≢◌, ℕ, ◌+◌, ◌≤◌, Bool, true, false, ◌||◌, List, [], ◌∷◌, ◌++◌, length, Option, None, Some, MatchOption, is_some, ◌<◌, refl, sym, ap, ◌∙◌, arith}
-use Rattle.std.specs.Ordering.{is_eq, is_ne}
+-- A staging is closed: what trees that are emptied whole leave of the numbers, and of the entries of the level that stays.
+use Rattle.std.proofs.Common.{◌≡◌, ℕ, ◌≤◌, Bool, true, false, not, ◌||◌, List, [], ◌∷◌, ◌++◌, length, map, refl, sym, ap, ◌∙◌, subst, arith}
+use Rattle.std.proofs.lemmas.List.Folds.{list_any-append}
+use Rattle.std.specs.declared.cmp.Ordering.{Ordering}
+use Rattle.std.specs.declared.cmp.Ordering.TheVariants.{Less, Equal, Greater}
+use Rattle.std.specs.Ordering.{is_eq}
 use Rattle.std.specs.Cmp.{tied_itself}
-use Rattle.graphs.specs.declared.names.Level.{Level}
 use Rattle.graphs.specs.declared.names.Level.TheVariants.{Main, Top}
 use Rattle.chunk_index.specs.declared.entry.Entry.{Entry}
 use Rattle.chunk_index.specs.declared.entry.Tag.{Tag}
@@ -10,233 +12,258 @@ use Rattle.chunk_index.specs.declared.entry.Tag.TheVariants.{Both, MainOnly, Top
 use Rattle.chunk_index.specs.declared.key.Key.{Key}
 use Rattle.chunk_index.specs.KeyOrder.{key_cmp}
 use Rattle.chunk_index.specs.KeyLaws.{key_cmp_total}
-use Rattle.chunk_index.specs.Keys.{key_of, has_key, number_at, put, without}
-use Rattle.chunk_index.specs.Items.{Items, item_key, AreInOrder, found, is_in, same_tag, shared, tag_set, entries_by, entries_in, entries_tagged}
+use Rattle.chunk_index.specs.Keys.{IsInOrder, key_of, has_key, put, without}
+use Rattle.chunk_index.specs.Items.{Items, item_key, is_in, same_tag, shared, entries_by, entries_in}
 use Rattle.chunk_index.specs.Fresh.{with_fresh, IsIndex}
-use Rattle.chunk_index.specs.Kept.{entry_from, items_of, moved}
+use Rattle.chunk_index.specs.Kept.{tag_in, item_of, items_of}
 use Rattle.chunk_index.specs.Merges.{put_all}
-use Rattle.chunk_index.specs.Settling.{SharesOne, alone}
+use Rattle.chunk_index.specs.Pairs.{pair_key, pair_of, clear_of}
 use Rattle.chunk_index.proofs.Changes.{has-put}
-use Rattle.chunk_index.proofs.Fresh.{tag-same}
-use Rattle.chunk_index.proofs.Items.{finds, tag-moves}
-use Rattle.chunk_index.proofs.Lists.{lacks_without, length_without, unlevel}
-use Rattle.chunk_index.proofs.Finds.{number-has}
+use Rattle.chunk_index.proofs.Kept.{apart}
+use Rattle.chunk_index.proofs.Lists.{turned, or-true, IsCut, cut, all-less, all-greater, any-none, lacks-level}
 use Rattle.chunk_index.proofs.Maps.{Numbers, false_true}
-use Rattle.chunk_index.proofs.Tags.{entries-moved, entries-set, entries-without, lacks-entries}
-use Rattle.chunk_index.proofs.Whole.{number_fresh}
+use Rattle.chunk_index.proofs.Merges.{has-all, map-put, map-has, map-order, none_order}
+use Rattle.chunk_index.proofs.Whole.{entries_with, entries_without}
 
--- ---- the entry of a key and a tag comes into both levels, or goes out
-module _ (p : Tag → Bool) (xs : Items) (k : Key) (n : ℕ) (a : Tag) (order : AreInOrder xs) (at : found xs k ≡ Some (n, a)) where
-  pub passing : p a ≡ true → p Both ≡ true → entries_by p (tag_set xs k Both) ≡ entries_by p xs
-  passing was now =
-      let e = entry_from k n in
-      ap (entries_by p) (tag-moves xs e a Both order at) ∙ entries-moved p xs e Both order
-      ∙ ap (λ b. moved b (entries_by p xs) e) (now ∙ sym was) ∙ sym (entries-moved p xs e a order)
-      ∙ ap (entries_by p) (sym (tag-moves xs e a a order at) ∙ tag-same xs k n a order at)
-
-  pub failing : p a ≡ false → p Both ≡ false → entries_by p (tag_set xs k Both) ≡ entries_by p xs
-  failing was now = entries-set p xs k Both now ∙ sym (entries-set p xs k a was) ∙ ap (entries_by p) (tag-same xs k n a order at)
-
-  pub dropping : p a ≡ false → entries_by p (without item_key xs k) ≡ entries_by p xs
-  dropping was = entries-without p xs k ∙ sym (entries-set p xs k a was) ∙ ap (entries_by p) (tag-same xs k n a order at)
-
--- ---- where nothing is alone in a level, all entries stand in both
-pub all_shared : (l : Level) (xs : Items) → entries_tagged MainOnly xs ≡ [] → entries_tagged TopOnly xs ≡ [] → xs ≡ shared (entries_in l xs)
-unfolding entries_by
-all_shared l [] main top = refl
-all_shared l (x ∷ xs) main top = by x.1 refl (all_shared l xs)
-  where
-    some : (e : Entry) (es : List Entry) → e ∷ es ≡ [] → ⊥
-    some e es is = cc
-
-    in_both : (l : Level) → is_in l Both ≡ true
-    in_both Main = refl
-    in_both Top = refl
-
-    by : (t : Tag) → x.1 ≡ t → (entries_tagged MainOnly xs ≡ [] → entries_tagged TopOnly xs ≡ [] → xs ≡ shared (entries_in l xs))
-        → x ∷ xs ≡ shared (entries_in l (x ∷ xs))
-    by Both is rest =
-        let no_main : entries_tagged MainOnly xs ≡ [] = sym (rw is refl) ∙ main in
-        let no_top : entries_tagged TopOnly xs ≡ [] = sym (rw is refl) ∙ top in
-        let passes = in_both l in
-        rw (is, passes) (ap (λ (s : Items). (x.0, Both) ∷ s) (rest no_main no_top))
-    by MainOnly is rest = absurd (some x.0 (entries_tagged MainOnly xs) (sym (rw is refl) ∙ main))
-    by TopOnly is rest = absurd (some x.0 (entries_tagged TopOnly xs) (sym (rw is refl) ∙ top))
-
--- ---- an entry of a tag
-tag_told : (T u : Tag) → same_tag T u ≡ true → u ≡ T
-tag_told Both Both is = refl
-tag_told MainOnly MainOnly is = refl
-tag_told TopOnly TopOnly is = refl
-tag_told Both MainOnly is = cc
-tag_told Both TopOnly is = cc
-tag_told MainOnly Both is = cc
-tag_told MainOnly TopOnly is = cc
-tag_told TopOnly Both is = cc
-tag_told TopOnly MainOnly is = cc
-
--- a key that an entry of the tag has is found with the tag
-pub tagged_found : (T : Tag) (xs : Items) (k : Key) → AreInOrder xs → has_key key_of (entries_tagged T xs) k ≡ true
-    → (n : ℕ) × (found xs k ≡ Some (n, T))
-tagged_found T xs k order there = by (has_key item_key xs k) refl
-  where
-    its_tag : (n : ℕ) (a : Tag) → found xs k ≡ Some (n, a) → (b : Bool) → same_tag T a ≡ b → same_tag T a ≡ true
-    its_tag n a at true is = is
-    its_tag n a at false is =
-        let out : entries_tagged T xs ≡ without key_of (entries_tagged T xs) k =
-        ap (entries_tagged T) (sym (tag-same xs k n a order at)) ∙ entries-set (same_tag T) xs k a is in
-        absurd (false_true (sym (lacks_without key_of (entries_tagged T xs) k)
-        ∙ ap (λ (es : List Entry). has_key key_of es k) (sym out) ∙ there))
-
-    by : (b : Bool) → has_key item_key xs k ≡ b → (n : ℕ) × (found xs k ≡ Some (n, T))
-    by false lacks = absurd (false_true (sym (lacks-entries (same_tag T) xs k lacks) ∙ there))
-    by true has =
-        let at = finds xs k has in
-        (at.0, at.1.1 ∙ ap (λ (t : Tag). Some (at.0, t)) (tag_told T at.1.0 (its_tag at.0 at.1.0 at.1.1 (same_tag T at.1.0) refl)))
-
--- what is found with a tag that passes is one of the entries that do
-found_there : (p : Tag → Bool) (xs : Items) (k : Key) (n : ℕ) (a : Tag) → AreInOrder xs → found xs k ≡ Some (n, a) → p a ≡ true
-    → has_key key_of (entries_by p xs) k ≡ true
-found_there p xs k n a order at passes =
-    let e = entry_from k n in
-    let is : entries_by p xs ≡ put key_of (without key_of (entries_by p xs) k) e =
-    ap (entries_by p) (sym (tag-same xs k n a order at) ∙ tag-moves xs e a a order at) ∙ entries-moved p xs e a order
-    ∙ ap (λ b. moved b (entries_by p xs) e) passes in
-    ap (λ (es : List Entry). has_key key_of es k) is ∙ has-put key_of (without key_of (entries_by p xs) k) e k
-    ∙ ap (λ b. b || has_key key_of (without key_of (entries_by p xs) k) k) (ap is_eq (tied_itself key_cmp_total k))
-
--- and is out of that list where it gets another tag
-less : (es : List Entry) (k : Key) → has_key key_of es k ≡ true → length (without key_of es k) + 1 ≤ length es
-unfolding has_key without
-less [] k there = absurd (false_true there)
-less (e ∷ es) k there = by (is_ne (key_cmp (key_of e) k)) refl (less es k)
-  where
-    by : (stays : Bool) → is_ne (key_cmp (key_of e) k) ≡ stays → (has_key key_of es k ≡ true → length (without key_of es k) + 1 ≤ length es)
-        → length (without key_of (e ∷ es) k) + 1 ≤ length (e ∷ es)
-    by true is rest =
-        let other = unlevel (key_cmp (key_of e) k) is in
-        let fewer = rest (sym (rw other refl) ∙ there) in
-        rw is (omega (arith, fewer))
-    by false is rest = let few = length_without key_of es k in rw is (omega (arith, few))
-
--- ---- an entry that is found comes into both levels
-not_both_tag : (of : Level) → same_tag (alone of) Both ≡ false
-not_both_tag Main = refl
-not_both_tag Top = refl
-
-own_tag : (of : Level) → same_tag (alone of) (alone of) ≡ true
-own_tag Main = refl
-own_tag Top = refl
-
-pub shares_one : (of : Level) (k : Key) (old new : Items) → AreInOrder old → (number : ℕ) → found old k ≡ Some (number, alone of)
-    → new ≡ tag_set old k Both → SharesOne of k old new
-shares_one of k old new order number at set = record {
-  order = order;
-  number = number;
-  there = at;
-  set = set;
-  fewer = omega (
-    arith,
-    less (entries_tagged (alone of) old) k (found_there (same_tag (alone of)) old k number (alone of) order at (own_tag of)),
-    ap length (ap (entries_tagged (alone of)) set ∙ entries-set (same_tag (alone of)) old k Both (not_both_tag of)),
-  );
-}
-
--- ---- a step, and all of them
-in_both : (l : Level) → is_in l Both ≡ true
-in_both Main = refl
-in_both Top = refl
-
-in_own : (l : Level) → is_in l (alone l) ≡ true
-in_own Main = refl
-in_own Top = refl
-
-not_in : (l of : Level) → l ≢ of → is_in l (alone of) ≡ false
-not_in Main Main other = absurd (other refl)
-not_in Main Top other = refl
-not_in Top Main other = refl
-not_in Top Top other = absurd (other refl)
-
-not_both : (l : Level) → same_tag (alone l) Both ≡ false
-not_both Main = refl
-not_both Top = refl
-
-not_same : (l of : Level) → l ≢ of → same_tag (alone l) (alone of) ≡ false
-not_same Main Main other = absurd (other refl)
-not_same Main Top other = refl
-not_same Top Main other = refl
-not_same Top Top other = absurd (other refl)
-
-module _ (of : Level) (k : Key) (old mid : Items) (step : SharesOne of k old mid) where
-  pub step_level : entries_in of mid ≡ entries_in of old
-  step_level =
-      ap (entries_in of) step.set ∙ passing (is_in of) old k step.number (alone of) step.order step.there (in_own of) (in_both of)
-
-  pub step_others : (level : Level) → level ≢ of → entries_tagged (alone level) mid ≡ entries_tagged (alone level) old
-  step_others level other =
-      ap (entries_tagged (alone level)) step.set
-      ∙ failing (same_tag (alone level)) old k step.number (alone of) step.order step.there (not_same level of other) (not_both level)
-
--- or the entry goes out
-module _ (of : Level) (k : Key) (old new : Items) (order : AreInOrder old) (number : ℕ) (at : found old k ≡ Some (number, alone of))
-    (out : new ≡ without item_key old k) where
-  pub drop_level : (level : Level) → level ≢ of → entries_in level new ≡ entries_in level old
-  drop_level level other =
-      ap (entries_in level) out ∙ dropping (is_in level) old k number (alone of) order at (not_in level of other)
-
-  pub drop_fewer : length (entries_tagged (alone of) new) + 1 ≤ length (entries_tagged (alone of) old)
-  drop_fewer =
-      let fewer = less (entries_tagged (alone of) old) k (found_there (same_tag (alone of)) old k number (alone of) order at (own_tag of)) in
-      omega (arith, fewer, ap length (ap (entries_tagged (alone of)) out ∙ entries-without (same_tag (alone of)) old k))
-
-pub top_is_other : Top ≢ Main
-top_is_other same = cc
-
-pub main_is_other : Main ≢ Top
-main_is_other same = cc
-
--- ---- a tree's last key
-has_more : (l r : List Entry) (k : Key) → has_key key_of r k ≡ true → has_key key_of (l ++ r) k ≡ true
+-- ---- whether a part of a list has a key
+pub has_parts : (l : List Entry) (e : Entry) (r : List Entry) (k : Key)
+    → has_key key_of (l ++ e ∷ r) k ≡ (has_key key_of l k || (is_eq (key_cmp (key_of e) k) || has_key key_of r k))
 unfolding has_key
-has_more [] r k there = there
-has_more (e ∷ l) r k there = ap (λ b. is_eq (key_cmp (key_of e) k) || b) (has_more l r k there) ∙ or_true (is_eq (key_cmp (key_of e) k))
-  where
-    or_true : (b : Bool) → (b || true) ≡ true
-    or_true true = refl
-    or_true false = refl
+has_parts l e r k = list_any-append (λ (x : Entry). is_eq (key_cmp (key_of x) k)) l (e ∷ r)
+
+pub has_left : (l : List Entry) (e : Entry) (r : List Entry) (k : Key) → has_key key_of l k ≡ true → has_key key_of (l ++ e ∷ r) k ≡ true
+has_left l e r k there = has_parts l e r k ∙ rw there refl
 
 pub has_right : (l : List Entry) (e : Entry) (r : List Entry) (k : Key) → has_key key_of r k ≡ true → has_key key_of (l ++ e ∷ r) k ≡ true
-has_right l e r k there = has_more l (e ∷ r) k (has_more (e ∷ []) r k there)
+has_right l e r k there =
+    has_parts l e r k
+    ∙ ap (λ b. has_key key_of l k || (is_eq (key_cmp (key_of e) k) || b)) there
+    ∙ ap (λ b. has_key key_of l k || b) (or-true (is_eq (key_cmp (key_of e) k))) ∙ or-true (has_key key_of l k)
 
 pub has_node : (l : List Entry) (e : Entry) (r : List Entry) → has_key key_of (l ++ e ∷ r) (key_of e) ≡ true
-unfolding has_key
 has_node l e r =
-    has_more l (e ∷ r) (key_of e) (ap (λ b. b || has_key key_of r (key_of e)) (ap is_eq (tied_itself key_cmp_total (key_of e))))
+    has_parts l e r (key_of e)
+    ∙ ap (λ b. has_key key_of l (key_of e) || (b || has_key key_of r (key_of e))) (ap is_eq (tied_itself key_cmp_total (key_of e)))
+    ∙ or-true (has_key key_of l (key_of e))
 
--- ---- the last key of a tree, and what is found under it
-pub last_told : (T : Tag) (items : Items) (list : List Entry) → AreInOrder items → list ≡ entries_tagged T items → (o : Option Key)
-    → MatchOption o (list ≡ []) (λ k. has_key key_of list k ≡ true)
-    → MatchOption o (entries_tagged T items ≡ []) (λ k. (n : ℕ) × (found items k ≡ Some (n, T)))
-last_told T items list order is None none = sym is ∙ none
-last_told T items list order is (Some k) there = tagged_found T items k order (ap (λ (es : List Entry). has_key key_of es k) (sym is) ∙ there)
+-- ---- a tree's keys go out
+pub clear_none : (es : Numbers) → clear_of [] es ≡ es
+unfolding clear_of has_key
+clear_none [] = refl
+clear_none (x ∷ es) = ap (λ (t : Numbers). x ∷ t) (clear_none es)
+
+pub clear_parts : (l : List Entry) (e : Entry) (r : List Entry) (es : Numbers)
+    → clear_of (l ++ e ∷ r) es ≡ clear_of r (without pair_key (clear_of l es) (key_of e))
+unfolding clear_of without
+clear_parts l e r [] = refl
+clear_parts l e r (x ∷ es) =
+    by (has_key key_of l x.0) refl (key_cmp (key_of e) x.0) refl (has_key key_of r x.0) refl (clear_parts l e r es)
+  where
+    by : (a : Bool) → has_key key_of l x.0 ≡ a → (o : Ordering) → key_cmp (key_of e) x.0 ≡ o → (b : Bool) → has_key key_of r x.0 ≡ b
+        → clear_of (l ++ e ∷ r) es ≡ clear_of r (without pair_key (clear_of l es) (key_of e))
+        → clear_of (l ++ e ∷ r) (x ∷ es) ≡ clear_of r (without pair_key (clear_of l (x ∷ es)) (key_of e))
+    by true in_l o is b in_r rest =
+        let whole = has_left l e r x.0 in_l in
+        rw (whole, in_l) rest
+    by false in_l Equal is b in_r rest =
+        let back = turned (key_of e) x.0 Equal is in
+        let whole : has_key key_of (l ++ e ∷ r) x.0 ≡ true = has_parts l e r x.0 ∙ rw (in_l, is) refl in
+        rw (whole, in_l, back) rest
+    by false in_l Less is true in_r rest =
+        let back = turned (key_of e) x.0 Less is in
+        let whole = has_right l e r x.0 in_r in
+        rw (whole, in_l, back, in_r) rest
+    by false in_l Less is false in_r rest =
+        let back = turned (key_of e) x.0 Less is in
+        let whole : has_key key_of (l ++ e ∷ r) x.0 ≡ false = has_parts l e r x.0 ∙ rw (in_l, is, in_r) refl in
+        rw (whole, in_l, back, in_r) (ap (λ (t : Numbers). x ∷ t) rest)
+    by false in_l Greater is true in_r rest =
+        let back = turned (key_of e) x.0 Greater is in
+        let whole = has_right l e r x.0 in_r in
+        rw (whole, in_l, back, in_r) rest
+    by false in_l Greater is false in_r rest =
+        let back = turned (key_of e) x.0 Greater is in
+        let whole : has_key key_of (l ++ e ∷ r) x.0 ≡ false = has_parts l e r x.0 ∙ rw (in_l, is, in_r) refl in
+        rw (whole, in_l, back, in_r) (ap (λ (t : Numbers). x ∷ t) rest)
+
+-- no key comes in
+pub clear_lacks : (gone : List Entry) (es : Numbers) (k : Key) → has_key pair_key es k ≡ false → has_key pair_key (clear_of gone es) k ≡ false
+unfolding clear_of has_key
+clear_lacks gone [] k lacks = refl
+clear_lacks gone (x ∷ es) k lacks = by (is_eq (key_cmp x.0 k)) refl (has_key key_of gone x.0) refl (clear_lacks gone es k)
+  where
+    by : (here : Bool) → is_eq (key_cmp x.0 k) ≡ here → (out : Bool) → has_key key_of gone x.0 ≡ out
+        → (has_key pair_key es k ≡ false → has_key pair_key (clear_of gone es) k ≡ false) → has_key pair_key (clear_of gone (x ∷ es)) k ≡ false
+    by true is out o rest = absurd (false_true (sym lacks ∙ rw is refl))
+    by false is true o rest = rw o (rest (sym (rw is refl) ∙ lacks))
+    by false is false o rest = rw (o, is) (rest (sym (rw is refl) ∙ lacks))
+
+-- ---- a tree's entries are listed
+nothing : (xs : List Entry) → length xs ≡ 0 → xs ≡ []
+nothing [] none = refl
+nothing (x ∷ xs) none = absurd (omega (arith, none))
+
+pub put_whole : (es : Numbers) (late tree : List Entry) → length late ≡ 0
+    → put_all pair_key es (map pair_of tree) ≡ put_all pair_key (put_all pair_key es (map pair_of late)) (map pair_of tree)
+unfolding put_all
+put_whole es late tree none =
+    ap (λ (xs : List Entry). put_all pair_key (put_all pair_key es (map pair_of xs)) (map pair_of tree)) (sym (nothing late none))
+
+pub put_parts : (es : Numbers) (l : List Entry) (e : Entry) (r : List Entry)
+    → put_all pair_key es (map pair_of (l ++ e ∷ r))
+    ≡ put_all pair_key (put pair_key (put_all pair_key es (map pair_of l)) (pair_of e)) (map pair_of r)
+unfolding put_all
+put_parts es [] e r = refl
+put_parts es (x ∷ l) e r = put_parts (put pair_key es (pair_of x)) l e r
+
+-- the left ones first, then the node's, and then the right ones
+module _ (es : Numbers) (tree l : List Entry) (e : Entry) (r : List Entry) (parts : tree ≡ l ++ e ∷ r) (in_order : IsInOrder key_of tree)
+    (lacks : (k : Key) → has_key key_of tree k ≡ true → has_key pair_key es k ≡ false) where
+  order : IsInOrder key_of (l ++ e ∷ r)
+  order = subst (IsInOrder key_of) parts in_order
+
+  absent : (k : Key) → has_key key_of (l ++ e ∷ r) k ≡ true → has_key pair_key es k ≡ false
+  absent k there = lacks k (ap (λ (xs : List Entry). has_key key_of xs k) parts ∙ there)
+
+  pub left_order : IsInOrder key_of l
+  left_order = (cut key_of l e r order).left
+
+  pub right_order : IsInOrder key_of r
+  right_order = (cut key_of l e r order).right
+
+  pub left_absent : (k : Key) → has_key key_of l k ≡ true → has_key pair_key es k ≡ false
+  left_absent k there = absent k (has_left l e r k there)
+
+  module _ (first : Numbers) (is_first : first ≡ put_all pair_key es (map pair_of l)) where
+    has_first : (k : Key) → has_key pair_key first k ≡ (has_key key_of l k || has_key pair_key es k)
+    has_first k =
+        ap (λ (ns : Numbers). has_key pair_key ns k) is_first
+        ∙ has-all pair_key es (map pair_of l) k (map-order key_of pair_key pair_of (λ x. refl) l left_order)
+        ∙ ap (λ b. b || has_key pair_key es k) (map-has key_of pair_key pair_of (λ x. refl) l k)
+
+    pub node_absent : has_key pair_key first (key_of e) ≡ false
+    node_absent =
+        let none = any-none key_of (key_of e) Less l refl (cut key_of l e r order).less in
+        let out = absent (key_of e) (has_node l e r) in
+        has_first (key_of e) ∙ rw (none, out) refl
+
+    module _ (mid : Numbers) (is_mid : mid ≡ put pair_key first (pair_of e)) where
+      pub right_absent : (k : Key) → has_key key_of r k ≡ true → has_key pair_key mid k ≡ false
+      right_absent k there =
+          ap (λ (ns : Numbers). has_key pair_key ns k) is_mid ∙ has-put pair_key first (pair_of e) k
+          ∙ ap (λ b. is_eq (key_cmp k (key_of e)) || b) (has_first k) ∙ by (key_cmp k (key_of e)) refl
+        where
+          c : IsCut key_of l e r
+          c = cut key_of l e r order
+
+          by : (o : Ordering) → key_cmp k (key_of e) ≡ o → (is_eq (key_cmp k (key_of e)) || (has_key key_of l k || has_key pair_key es k)) ≡ false
+          by Less is =
+              absurd (false_true (sym (any-none key_of k Greater r refl (all-greater key_of r (key_of e) k c.greater (turned k (key_of e) Less is)))
+              ∙ there))
+          by Equal is = absurd (false_true (sym (lacks-level key_of l e r c k is) ∙ there))
+          by Greater is =
+              let none = any-none key_of k Less l refl (all-less key_of l (key_of e) k c.less (turned k (key_of e) Greater is)) in
+              let out = absent k (has_right l e r k there) in
+              rw (is, none, out) refl
+
+      pub all_put : (last : Numbers) → last ≡ put_all pair_key mid (map pair_of r) → last ≡ put_all pair_key es (map pair_of tree)
+      all_put last is_last =
+          is_last ∙ ap (λ (ns : Numbers). put_all pair_key ns (map pair_of r)) is_mid
+          ∙ ap (λ (ns : Numbers). put_all pair_key (put pair_key ns (pair_of e)) (map pair_of r)) is_first
+          ∙ sym (put_parts es l e r) ∙ ap (λ (xs : List Entry). put_all pair_key es (map pair_of xs)) (sym parts)
+
+-- ---- what stands in a level
+map_all : {A B : Type 0} (key : A → Key) (other : B → Key) (f : A → B) (same : (x : A) → other (f x) ≡ key x) (xs ys : List A)
+    → map f (put_all key xs ys) ≡ put_all other (map f xs) (map f ys)
+unfolding put_all
+map_all key other f same xs [] = refl
+map_all key other f same xs (y ∷ ys) =
+    map_all key other f same (put key xs y) ys
+    ∙ ap (λ zs. put_all other zs (map f ys)) (map-put key other f same xs y)
+
+-- those of a tag that passes a test, where it passes what none of some entries has
+shared_clear : (p : Tag → Bool) (m t gone : List Entry) → ((k : Key) → p (tag_in m t k) ≡ not (has_key key_of gone k))
+    → (es : Numbers) → items_of (clear_of gone es) [] [] ≡ shared (entries_by p (items_of es m t))
+unfolding clear_of entries_by tag_in has_key
+shared_clear p m t gone passes [] = refl
+shared_clear p m t gone passes (x ∷ es) = by (has_key key_of gone x.0) refl (shared_clear p m t gone passes es)
+  where
+    by : (out : Bool) → has_key key_of gone x.0 ≡ out → items_of (clear_of gone es) [] [] ≡ shared (entries_by p (items_of es m t))
+        → items_of (clear_of gone (x ∷ es)) [] [] ≡ shared (entries_by p (items_of (x ∷ es) m t))
+    by true o rest = let drops = passes x.0 ∙ ap not o in rw (o, drops) rest
+    by false o rest = let keeps = passes x.0 ∙ ap not o in rw (o, keeps) (ap (λ (items : Items). item_of [] [] x ∷ items) rest)
+
+-- all stand in both levels
+none_tagged : (p : Tag → Bool) → p Both ≡ false → (es : Numbers) → entries_by p (items_of es [] []) ≡ []
+unfolding entries_by tag_in has_key
+none_tagged p drops [] = refl
+none_tagged p drops (x ∷ es) = rw drops (none_tagged p drops es)
+
+shared_pairs : (f : List Entry) → map (item_of [] []) (map pair_of f) ≡ shared f
+unfolding tag_in has_key
+shared_pairs [] = refl
+shared_pairs (e ∷ f) = ap (λ (items : Items). (e, Both) ∷ items) (shared_pairs f)
+
+pub settled-index : (es : Numbers) (m t f : List Entry) (count kept room : ℕ) → m ≡ [] → t ≡ [] → f ≡ [] → IsInOrder pair_key es
+    → length es ≤ count → count ≤ kept → kept ≤ room → IsIndex es m t f count kept room
+unfolding has_key
+settled-index es m t f count kept room no_main no_top no_fresh order counted enough fits = rw (no_main, no_top, no_fresh) (record {
+  listed = record {
+    order = map-order pair_key item_key (item_of [] []) (λ e. refl) es order;
+    main = sym (none_tagged (same_tag MainOnly) refl es);
+    top = sym (none_tagged (same_tag TopOnly) refl es);
+    counted = counted;
+    nodes = omega (arith, enough);
+    fits = omega (arith, fits);
+  };
+  order = none_order key_of;
+  apart = λ k there. absurd (false_true there);
+})
 
 module _ {es : Numbers} {m t f : List Entry} {count kept room : ℕ} (is : IsIndex es m t f count kept room) {items : Items}
     (seen : with_fresh (items_of es m t) f ≡ items) where
-  pub fresh_told : (o : Option Key) → 0 < length f → MatchOption o (f ≡ []) (λ k. has_key key_of f k ≡ true)
-      → MatchOption o (entries_tagged TopOnly items ≡ []) (λ k. (n : ℕ) × (found items k ≡ Some (n, TopOnly)))
-  fresh_told None some none = absurd (omega (arith, some, ap length none))
-  fresh_told (Some k) some there = by (number_at f k) refl
+  in_main : (k : Key) → is_in Main (tag_in m t k) ≡ not (has_key key_of t k)
+  unfolding tag_in
+  in_main k = by (has_key key_of m k) refl (has_key key_of t k) refl
     where
-      by : (o : Option ℕ) → number_at f k ≡ o → (n : ℕ) × (found items k ≡ Some (n, TopOnly))
-      by None none = absurd (false_true (sym (number-has f k ∙ ap is_some none) ∙ there))
-      by (Some n) at = (n, number_fresh is seen k n at)
+      by : (a : Bool) → has_key key_of m k ≡ a → (b : Bool) → has_key key_of t k ≡ b → is_in Main (tag_in m t k) ≡ not (has_key key_of t k)
+      by true in_m b in_t = let lacks = apart is.listed k (rw in_m refl) in rw (in_m, lacks) refl
+      by false in_m true in_t = rw (in_m, in_t) refl
+      by false in_m false in_t = rw (in_m, in_t) refl
 
-  pub shown_top : length f ≡ 0 → t ≡ entries_tagged TopOnly items
-  unfolding put_all
-  shown_top none =
-      is.listed.top ∙ ap (λ (xs : List Entry). entries_tagged TopOnly (with_fresh (items_of es m t) xs)) (sym (nothing f none))
-      ∙ ap (entries_tagged TopOnly) seen
+  in_top : (k : Key) → is_in Top (tag_in m t k) ≡ not (has_key key_of m k)
+  unfolding tag_in
+  in_top k = by (has_key key_of m k) refl (has_key key_of t k) refl
     where
-      nothing : (xs : List Entry) → length xs ≡ 0 → xs ≡ []
-      nothing [] e = refl
-      nothing (x ∷ xs) e = absurd (omega (arith, e))
+      by : (a : Bool) → has_key key_of m k ≡ a → (b : Bool) → has_key key_of t k ≡ b → is_in Top (tag_in m t k) ≡ not (has_key key_of m k)
+      by true in_m b in_t = rw in_m refl
+      by false in_m true in_t = rw (in_m, in_t) refl
+      by false in_m false in_t = rw (in_m, in_t) refl
+
+  module _ (new : Numbers) (n u g : List Entry) (no_main : n ≡ []) (no_top : u ≡ []) (no_fresh : g ≡ []) where
+    pub main_settled : (tree : List Entry) → tree ≡ t → new ≡ clear_of tree es → with_fresh (items_of new n u) g ≡ shared (entries_in Main items)
+    unfolding put_all
+    main_settled tree whole clear =
+        rw (no_main, no_top, no_fresh) (ap (λ (ns : Numbers). items_of ns [] []) (clear ∙ ap (λ (xs : List Entry). clear_of xs es) whole)
+        ∙ shared_clear (is_in Main) m t t in_main es
+        ∙ ap (λ (xs : List Entry). shared xs) (entries_without is seen (is_in Main) refl))
+
+    pub top_settled : (mid : Numbers) (tree fresh : List Entry) → tree ≡ m → fresh ≡ f → mid ≡ clear_of tree es
+        → new ≡ put_all pair_key mid (map pair_of fresh) → with_fresh (items_of new n u) g ≡ shared (entries_in Top items)
+    unfolding put_all
+    top_settled mid tree fresh whole all clear listing =
+        rw (no_main, no_top, no_fresh) (ap (λ (ns : Numbers). items_of ns [] [])
+        (listing ∙ ap (λ (xs : List Entry). put_all pair_key mid (map pair_of xs)) all)
+        ∙ map_all pair_key item_key (item_of [] []) (λ e. refl) mid (map pair_of f)
+        ∙ ap (λ (xs : Items). put_all item_key xs (map (item_of [] []) (map pair_of f)))
+        (ap (λ (ns : Numbers). items_of ns [] []) (clear ∙ ap (λ (xs : List Entry). clear_of xs es) whole) ∙ shared_clear (is_in Top) m t m in_top es)
+        ∙ ap (put_all item_key (shared (entries_by (is_in Top) (items_of es m t)))) (shared_pairs f)
+        ∙ sym (map_all key_of item_key (λ e. (e, Both)) (λ e. refl) (entries_by (is_in Top) (items_of es m t)) f)
+        ∙ ap (λ (xs : List Entry). shared xs) (entries_with is seen (is_in Top) refl))
+
+  -- what is listed comes from outside
+  pub fresh_absent : (mid : Numbers) (tree fresh : List Entry) → fresh ≡ f → mid ≡ clear_of tree es → (k : Key)
+      → has_key key_of fresh k ≡ true → has_key pair_key mid k ≡ false
+  fresh_absent mid tree fresh all clear k there =
+      ap (λ (ns : Numbers). has_key pair_key ns k) clear
+      ∙ clear_lacks tree es k (is.apart k (ap (λ (xs : List Entry). has_key key_of xs k) (sym all) ∙ there))

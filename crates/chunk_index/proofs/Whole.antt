@@ -166,7 +166,7 @@ module _ {es : Numbers} {m t f : List Entry} {count kept room : ℕ} (is : IsInd
         ∙ ap (λ b. b || has_key item_key others k) absent ∙ has-lookup m t k es
 
     -- ---- the entries of some tags
-    entries_with : (p : Tag → Bool) → p TopOnly ≡ true → put_all key_of (entries_by p others) f ≡ entries_by p items
+    pub entries_with : (p : Tag → Bool) → p TopOnly ≡ true → put_all key_of (entries_by p others) f ≡ entries_by p items
     entries_with p passes = sym (entries-fresh p passes others f) ∙ ap (entries_by p) seen
 
     pub entries_without : (p : Tag → Bool) → p TopOnly ≡ false → entries_by p others ≡ entries_by p items

@@ -3,10 +3,10 @@ ghost use Rattle.chunk_index.specs.declared.entry.Tag.TheVariants.{Both, TopOnly
 ghost use Rattle.chunk_index.specs.Keys.{key_of, has_key, not_before, without};
 ghost use Rattle.chunk_index.specs.Items.{item_key, AreInOrder, HasEntry, found, has, shared, with_entry, without_entry, with_tag, tag_set, entries_in, entries_tagged};
 ghost use Rattle.chunk_index.specs.Kept.{entry_from};
-ghost use Rattle.chunk_index.specs.Settling.{alone};
 
 use crate::Level;
 use crate::apart::{put_in, tag_of, take_out};
+use crate::emptying::take_all;
 use crate::entry::{Entry, Tag};
 use crate::numbers::Numbers;
 use crate::part::Part;
@@ -17,6 +17,7 @@ use crate::walk::{IndexWalk, Wanted};
 use outside::NoMemory;
 use std::alloc::Global;
 use std::marker::Model;
+use std::mem;
 
 /// Entries in the order of their keys, each with its tag.
 #[derive(Drop)]
@@ -158,50 +159,22 @@ impl ChunkIndex {
     pub fn settle(&mut self, stays: Level)
         ensures { self.new ≡ shared (entries_in stays self.old) }
     {
+        let main = mem::replace(&mut self.main, Tree::new());
+        let top = mem::replace(&mut self.top, Tree::new());
+        let fresh = mem::replace(&mut self.fresh, Tree::new());
         match stays {
             Level::Main => {
-                self.drop_all(Level::Top);
-                self.share_all(Level::Main);
+                self.spares.give_all(main);
+                take_all(&mut self.numbers, &mut self.spares, top);
+                self.spares.give_all(fresh);
             }
             Level::Top => {
-                self.drop_all(Level::Main);
-                self.share_all(Level::Top);
+                take_all(&mut self.numbers, &mut self.spares, main);
+                self.spares.give_all(top);
+                self.numbers.list_all(fresh);
             }
         }
-    }
-
-    /// Brings all entries of one level alone into both.
-    fn share_all(&mut self, of: Level)
-        ensures none { entries_tagged (alone of) self.new ≡ [] }
-        ensures others { (level : Level) → level ≢ of → entries_tagged (alone level) self.old ≡ [] → entries_tagged (alone level) self.new ≡ [] }
-        ensures level { entries_in of self.new ≡ entries_in of self.old }
-    {
-        while let Some(key) = self.last_of(of) {
-            self.share(&key, alone(of));
-        }
-    }
-
-    /// Takes all entries of one level alone out.
-    fn drop_all(&mut self, of: Level)
-        ensures none { entries_tagged (alone of) self.new ≡ [] }
-        ensures level { (level : Level) → level ≢ of → entries_in level self.new ≡ entries_in level self.old }
-    {
-        while let Some(key) = self.last_of(of) {
-            self.take_key(&key, alone(of));
-        }
-    }
-
-    /// The key of an entry of one level alone, if there is one: of the last one in its tree.
-    fn last_of(&self, of: Level) -> Option<SortKey>
-        ensures order { AreInOrder self.now }
-        ensures last { MatchOption result (entries_tagged (alone of) self.now ≡ [])
-            (λ key. (number : ℕ) × (found self.now key ≡ Some (number, alone of))) }
-    {
-        match of {
-            Level::Main => self.main.last_key(),
-            Level::Top if self.fresh.len() > 0 => self.fresh.last_key(),
-            Level::Top => self.top.last_key(),
-        }
+        self.spares.trim_all(self.numbers.len());
     }
 
     /// Puts the entry of a key and a record's number in its place, in both levels. No entry of that key is there.
@@ -390,15 +363,5 @@ impl ChunkIndex {
             Wanted::Of(Tag::Both),
             Part::none(&self.fresh),
         )
-    }
-}
-
-/// The tag of what stands in a level alone.
-fn alone(level: Level) -> Tag
-    ensures { result ≡ alone level }
-{
-    match level {
-        Level::Main => Tag::MainOnly,
-        Level::Top => Tag::TopOnly,
     }
 }

@@ -16,6 +16,7 @@
 
 mod ahead;
 mod apart;
+mod emptying;
 mod entry;
 mod index;
 mod key;

@@ -1,12 +1,13 @@
-ghost use Rattle.std.specs.Prelude.{◌≡◌, ◌+◌, ◌≤◌, ◌<◌, ◌^◌, false, [], ◌∷◌, ◌++◌, Some, None, length, OnOk, OnErr, MatchOption};
+ghost use Rattle.std.specs.Prelude.{◌≡◌, ◌+◌, ◌≤◌, ◌<◌, ◌^◌, false, true, [], ◌∷◌, ◌++◌, Some, None, length, map, OnOk, OnErr, MatchOption};
 ghost use Rattle.std.specs.Iterator.{YieldsFirst, YieldsLast};
 ghost use Rattle.std.specs.BTreeMap.{is_at};
 ghost use Rattle.std.specs.Map.{lookup};
 ghost use Rattle.chunk_index.specs.InOrder.{IsInOrder-prop};
 ghost use Rattle.chunk_index.specs.KeyOrder.{key_cmp};
 ghost use Rattle.chunk_index.specs.Keys.{IsInOrder, has_key, key_of, not_before, put, without};
-ghost use Rattle.chunk_index.specs.Pairs.{pair_key};
-ghost use Rattle.chunk_index.specs.Merges.{ComesFirst, ComesLast};
+ghost use Rattle.chunk_index.specs.Pairs.{pair_key, pair_of};
+ghost use Rattle.chunk_index.specs.declared.key.Key.{Key as KeyRecord};
+ghost use Rattle.chunk_index.specs.Merges.{ComesFirst, ComesLast, put_all};
 ghost use Rattle.std.specs.declared.cmp.Ordering.TheVariants.{Less, Greater};
 
 use crate::apart::{put_in, take_out};
@@ -86,12 +87,31 @@ impl Numbers {
         put_in(&mut self.late, key, number, node);
     }
 
-    /// Brings the last number that stands in a node into the map, if there is one and the map finds memory for it.
+    /// The same for all entries of a tree.
+    pub fn list_all(&mut self, tree: Tree)
+        requires order { IsInOrder key_of tree }
+        requires absent { (k : KeyRecord) → has_key key_of tree k ≡ true → has_key pair_key (listed self.old) k ≡ false }
+        requires fits { count self.old + length tree < 2 ^ 64 }
+        ensures put { listed self.new ≡ put_all pair_key (listed self.old) (map pair_of tree) }
+        ensures more { count self.new ≤ count self.old + length tree }
+    {
+        if self.late.len() == 0 {
+            self.late = tree;
+            return;
+        }
+        if let Some((left, node, right)) = tree.into_parts() {
+            self.list_all(left);
+            self.list(node.key, node.number, node);
+            self.list_all(right);
+        }
+    }
+
+    /// Brings a number that stands in a node into the map, if there is one and the map finds memory for it.
     pub fn catch_up(&mut self)
         ensures same { listed self.new ≡ listed self.old }
         ensures count { count self.new ≤ count self.old }
     {
-        let Some(key) = self.late.last_key() else {
+        let Some(key) = self.late.any_key() else {
             return;
         };
         let Some(number) = self.late.find(&key) else {

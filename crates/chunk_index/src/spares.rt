@@ -1,8 +1,8 @@
-ghost use Rattle.std.specs.Prelude.{◌≡◌, ◌+◌, ◌^◌, ◌<◌, ◌≤◌, OnOk};
+ghost use Rattle.std.specs.Prelude.{◌≡◌, ◌+◌, ◌^◌, ◌<◌, ◌≤◌, OnOk, length};
 ghost use Rattle.chunk_index.specs.Spares.{kept, room};
 
 use crate::sort_key::SortKey;
-use crate::tree::Node;
+use crate::tree::{Node, Tree};
 use outside::NoMemory;
 use std::alloc::Global;
 
@@ -74,6 +74,19 @@ impl Spares {
         self.nodes.push_reserved(node);
     }
 
+    /// Keeps all nodes of a tree, for which there is room.
+    pub fn give_all(&mut self, tree: Tree)
+        requires { kept self.old + length tree ≤ room self.old }
+        ensures kept { kept self.new ≡ kept self.old + length tree }
+        ensures room { room self.new ≡ room self.old }
+    {
+        if let Some((left, node, right)) = tree.into_parts() {
+            self.give_all(left);
+            self.give(node);
+            self.give_all(right);
+        }
+    }
+
     /// Lets a node go where more than enough are kept beside so many.
     pub fn trim(&mut self, needed: usize)
         requires { needed ≤ kept self.old }
@@ -82,6 +95,18 @@ impl Spares {
         ensures room { room self.new ≡ room self.old }
     {
         if needed < self.nodes.len().saturating_sub(MOST) {
+            drop(self.nodes.pop());
+        }
+    }
+
+    /// Lets all nodes go that are more than enough beside so many.
+    pub fn trim_all(&mut self, needed: usize)
+        requires { needed ≤ kept self.old }
+        ensures enough { needed ≤ kept self.new }
+        ensures fewer { kept self.new ≤ kept self.old }
+        ensures room { room self.new ≡ room self.old }
+    {
+        while needed < self.nodes.len().saturating_sub(MOST) {
             drop(self.nodes.pop());
         }
     }

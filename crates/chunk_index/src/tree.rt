@@ -84,7 +84,7 @@ impl Tree {
 
     /// What stands left of the root, the root's node with its entry, and what stands right of it.
     #[inline(always)]
-    fn into_parts(self) -> Option<(Tree, Box<Node>, Tree)>
+    pub fn into_parts(self) -> Option<(Tree, Box<Node>, Tree)>
         ensures parts { MatchOption result (self ≡ []) (λ p. self ≡ p.0 ++ entry_of p.1.value ∷ p.2) }
         ensures balanced { MatchOption result (self ≡ []) (λ p. AreBalanced (length p.0) (length p.2)) }
         ensures fits { MatchOption result (self ≡ []) (λ p. length p.0 + length p.2 + 1 < 2 ^ 64) }
@@ -235,18 +235,15 @@ impl Tree {
         }
     }
 
-    /// The key of the last entry, if there is one.
-    pub fn last_key(&self) -> Option<SortKey>
+    /// The key of an entry, if there is one: of the root's, which is found first.
+    pub fn any_key(&self) -> Option<SortKey>
         ensures { MatchOption result (self.now ≡ []) (λ key. has_key key_of self.now key ≡ true) }
     {
         match &self.root {
             None => None,
             Some(root) => {
                 let node: &Node = root;
-                match node.right.last_key() {
-                    Some(key) => Some(key),
-                    None => Some(node.key),
-                }
+                Some(node.key)
             }
         }
     }
