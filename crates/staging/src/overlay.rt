@@ -1,14 +1,19 @@
-ghost use Rattle.std.specs.Prelude.{◌≡◌, ◌+◌, ◌<◌, ◌≤◌, None, Some, IsOk, IsSome, OnOk, OnSome, is_some, nat_eq, option_copied};
+ghost use Rattle.std.specs.Prelude.{◌≡◌, ◌+◌, ◌-◌, ◌<◌, ◌≤◌, None, Some, IsOk, IsSome, IsTrue, OnOk, OnSome, is_some, nat_eq, option_copied, slice_get};
 ghost use Rattle.std.specs.FinMap as finmap;
 ghost use Rattle.indexmap.specs.IndexMap.{get as map_get, index_map_len, spare as room_of, Updates};
 ghost use Rattle.staging.specs.Maps.{top_of, map_of};
-ghost use Rattle.staging.specs.Changes.{changed};
+ghost use Rattle.staging.specs.Changes.{changed, applied, map_of_entries};
+ghost use Rattle.staging.specs.declared.overlay.TheConstants.{LOOKED_UP};
 
 use graphs::Level;
 use indexmap::IndexMap;
 use outside::NoMemory;
 use std::alloc::Global;
 use std::marker::Model;
+
+// How many changed keys are looked up before the first of them is written. A look-up waits for memory, and look-ups that follow one
+// another wait at the same time.
+const LOOKED_UP: usize = 16;
 
 /// A base map and, while something is staged, a second map that started as a copy of it.
 ///
@@ -72,6 +77,86 @@ fn change_reserved<W: Drop>(map: &mut IndexMap<u64, W>, key: u64, value: Option<
         None => {
             map.swap_remove(&key);
         }
+    }
+}
+
+// Whether a key stands at an index.
+fn stands_at<W>(map: &IndexMap<u64, W>, index: usize, key: u64) -> bool
+    ensures { IsTrue result → (value : W) × (slice_get map.now.entries index ≡ Some (key, value)) }
+{
+    match map.get_index(index) {
+        Some((found, _)) => *found == key,
+        None => false,
+    }
+}
+
+// Gives the key that stands at an index a value. It isn't looked up.
+fn write_at<W: Drop>(map: &mut IndexMap<u64, W>, index: usize, key: u64, value: W)
+    requires { (value : W) × (slice_get map.old.entries index ≡ Some (key, value)) }
+    ensures updates { Updates nat_eq map.old map.new key (Some value) }
+    ensures room { room_of map.old ≤ room_of map.new }
+{
+    if let Some(old) = map.get_index_mut(index) {
+        *old = value;
+    }
+}
+
+// Gives a key of a map a value. Where it stands at the place that was remembered it isn't looked up again. Takes no memory.
+fn put_at<W: Drop>(map: &mut IndexMap<u64, W>, place: Option<usize>, key: u64, value: W)
+    requires { 0 < room_of map.old }
+    ensures updates { Updates nat_eq map.old map.new key (Some value) }
+    ensures room { room_of map.old ≤ room_of map.new + 1 }
+{
+    match place {
+        Some(index) if stands_at(map, index, key) => write_at(map, index, key, value),
+        _ => put_reserved(map, key, value),
+    }
+}
+
+// Gives a key of a map a value, or none, as `change_reserved` does.
+fn change_at<W: Drop>(map: &mut IndexMap<u64, W>, place: Option<usize>, key: u64, value: Option<W>)
+    requires { 0 < room_of map.old }
+    ensures updates { Updates nat_eq map.old map.new key value }
+    ensures room { room_of map.old ≤ room_of map.new + 1 }
+{
+    match value {
+        Some(value) => put_at(map, place, key, value),
+        None => change_reserved(map, key, None),
+    }
+}
+
+// Where the last changed keys stand in the base, from the last one on.
+fn look_up<V>(
+    base: &IndexMap<u64, V>,
+    changes: &IndexMap<u64, Option<V>>,
+) -> [Option<usize>; LOOKED_UP] {
+    let mut places = [None; LOOKED_UP];
+    let n = changes.len();
+    for i in 0..n.min(LOOKED_UP) {
+        if let Some((key, _)) = changes.get_index(n - 1 - i) {
+            places[i] = base.get_index_of(key);
+        }
+    }
+    places
+}
+
+// Brings the last changed keys into the base, as many as are looked up at once.
+fn commit_few<V: Drop>(base: &mut IndexMap<u64, V>, changes: &mut IndexMap<u64, Option<V>>)
+    requires { index_map_len changes.old ≤ room_of base.old }
+    ensures applied { applied (map_of_entries base.new.entries) changes.new.entries
+        ≡ applied (map_of_entries base.old.entries) changes.old.entries }
+    ensures len { index_map_len changes.new ≡ index_map_len changes.old - LOOKED_UP }
+    ensures base_room { room_of base.old + index_map_len changes.new ≤ room_of base.new + index_map_len changes.old }
+    ensures change_room { room_of changes.old ≤ room_of changes.new }
+{
+    // A key may have left its place by the time that it is written: to remove another moves the last key of the base.
+    let places = look_up(base, changes);
+    let few = changes.len().min(LOOKED_UP);
+    for place in &places[..few] {
+        let Some((key, value)) = changes.pop() else {
+            unreachable!()
+        };
+        change_at(base, *place, key, value);
     }
 }
 
@@ -195,8 +280,8 @@ impl<V: Drop> Overlay<V> {
         ensures top { self.new.top ≡ None }
         ensures spare { self.new.spare ≡ self.old.spare }
     {
-        while let Some((key, value)) = self.changes.pop() {
-            change_reserved(&mut self.base, key, value);
+        while !self.changes.is_empty() {
+            commit_few(&mut self.base, &mut self.changes);
         }
         self.staged = false;
     }
