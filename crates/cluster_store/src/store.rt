@@ -102,7 +102,7 @@ impl<const W: usize> ClusterStore<W> {
 
     /// The parts of the clusters of one tag, in the same order. Takes no memory.
     ///
-    /// Of main alone or of staging alone, no other part is looked at.
+    /// Of main alone, no other part is looked at, nor of staging alone while all of its parts came so.
     pub fn walk_only(&self, tag: Tag) -> PartWalk<'_, Stored<W>>
         ensures parts { result ≡ shown_only tag self.now }
         ensures order { IsOrdered self.now.clusters self.now.order }
@@ -119,7 +119,7 @@ impl<const W: usize> ClusterStore<W> {
     }
 
     /// The fees and sizes of the parts of the clusters of one tag, in the same order. Takes no memory, and looks at no
-    /// cluster; of main alone or of staging alone, no other part is looked at.
+    /// cluster; of main alone, no other part is looked at, nor of staging alone while all of its parts came so.
     pub fn rates_only(&self, tag: Tag) -> RateWalk<'_>
         ensures { result ≡ map (λ s. s.part.rate) (shown_only tag self.now) }
     {
