@@ -42,7 +42,8 @@ module _ (added : List Stored) (numbers : List ℕ) (old cur : Slots) (adds : Ad
   pub adds_there : (n : ℕ) → Contains numbers n → IsSome (at cur n)
   adds_there n here = by (slice_get_cases added here.0).1
     where
-      by : ((s : Stored) × (here.0 < length added) × (slice_get added here.0 ≡ Some s) × (get_or added here.0 s ≡ s)) ⊎ ((length added ≤ here.0) × (slice_get added here.0 ≡ None))
+      by : ((s : Stored) × (here.0 < length added) × (slice_get added here.0 ≡ Some s) × (get_or added here.0 s ≡ s))
+          ⊎ ((length added ≤ here.0) × (slice_get added here.0 ≡ None))
           → IsSome (at cur n)
       by (inl some) = ap is_some (ap (at cur) (sym (any_default numbers here.0 0 n here.1 ∙ here.2)) ∙ adds.stand here.0 some.0 some.2)
       by (inr none) = absurd (omega (arith, adds.count, here.1, none.0))

@@ -46,7 +46,8 @@ module _ (slots : Slots) (items : Items) (shown : IsShown slots items) (x y : �
       let same : key_cmp k l ≡ key_cmp (key_at (shelved slots) x) (key_at (shelved slots) y) = ap₂ key_cmp (first ∙ sym (keyed x)) (second ∙ sym (keyed y)) in
       let sorted = (is_ordered slots items shown).sorted in (
         λ e. less_precedes (key_at (shelved slots)) (map place_of items) x y sorted x_in y_in (sym same ∙ is.0 e),
-        λ before. is.1 (same ∙ precedes_less (key_at (shelved slots)) before.0 before.1 x y (subst (IsInOrder (key_at (shelved slots))) before.2 sorted) before.3),
+        λ before. is.1 (same ∙ precedes_less (key_at (shelved slots)) before.0 before.1 x y
+            (subst (IsInOrder (key_at (shelved slots))) before.2 sorted) before.3),
       )
 
 -- ---- the names of a level
@@ -94,7 +95,8 @@ module _ (most : ℕ) (level : Level) (store : Store) (is : IsStore most store) 
   by_places = sym (map-map (λ (s : Shown). s.part) (shown_at store.clusters) (places_in level store))
 
   names_by_places : flat_map names_at (places_in level store) ≡ names_in_order level store
-  names_by_places = sym (flat_map-map (λ (part : Part). part.ids) (part_at store.clusters) (places_in level store)) ∙ ap (flat_map (λ (part : Part). part.ids)) by_places
+  names_by_places = sym (flat_map-map (λ (part : Part). part.ids) (part_at store.clusters) (places_in level store))
+      ∙ ap (flat_map (λ (part : Part). part.ids)) by_places
 
   -- a place that has a part, in the level
   kept_there : (place : ℕ × ℕ) → kept place ≡ true → place.1 < length (parts_in (finmap.get store.clusters place.0)) → Contains (places_in level store) place
@@ -119,7 +121,8 @@ module _ (most : ℕ) (level : Level) (store : Store) (is : IsStore most store) 
     own : List (ℕ × ℕ)
     own = places_from n 0 (parts_in (finmap.get store.clusters n))
 
-    follows : (j : ℕ) → j < length (parts_in (finmap.get store.clusters n)) → part_at store.clusters (n, 0 + j) ≡ get_or (parts_in (finmap.get store.clusters n)) j no_part
+    follows : (j : ℕ) → j < length (parts_in (finmap.get store.clusters n))
+        → part_at store.clusters (n, 0 + j) ≡ get_or (parts_in (finmap.get store.clusters n)) j no_part
     follows j low = let same : 0 + j ≡ j = omega arith in ap (λ k. get_or (parts_in (finmap.get store.clusters n)) k no_part) same
 
     own_sorted : IsInOrder (key_at store.clusters) own
@@ -133,8 +136,11 @@ module _ (most : ℕ) (level : Level) (store : Store) (is : IsStore most store) 
     own_low : (x : ℕ × ℕ) → Contains own x → (x.0 ≡ n) × (x.1 < length (parts_in (finmap.get store.clusters x.0)))
     unfolding own
     own_low x here =
-        let at = places_listed n 0 (parts_in (finmap.get store.clusters n)) x here in
-        (at.0, subst (λ m. x.1 < length (parts_in (finmap.get store.clusters m))) (sym at.0) (let low : x.1 < length (parts_in (finmap.get store.clusters n)) = omega (arith, at.2) in low))
+        let at = places_listed n 0 (parts_in (finmap.get store.clusters n)) x here in (
+          at.0,
+          subst (λ m. x.1 < length (parts_in (finmap.get store.clusters m))) (sym at.0)
+              (let low : x.1 < length (parts_in (finmap.get store.clusters n)) = omega (arith, at.2) in low),
+        )
 
     own_kept : (x : ℕ × ℕ) → Contains own x → kept x ≡ true
     unfolding kept
@@ -151,7 +157,8 @@ module _ (most : ℕ) (level : Level) (store : Store) (is : IsStore most store) 
     own_before x y before =
         let x_in : Contains own x = subst (λ zs. Contains zs x) (sym before.2) (Contains-append_left before.0 (y ∷ before.1) x before.3) in
         let y_in : Contains own y = subst (λ zs. Contains zs y) (sym before.2) (Contains-append_right before.0 (y ∷ before.1) y (Contains-head y before.1)) in
-        less_precedes (key_at store.clusters) store.order x y is.ordered.sorted ((is.ordered.exact x).1 (own_low x x_in).1) ((is.ordered.exact y).1 (own_low y y_in).1)
+        less_precedes (key_at store.clusters) store.order x y is.ordered.sorted
+        ((is.ordered.exact x).1 (own_low x x_in).1) ((is.ordered.exact y).1 (own_low y y_in).1)
         (precedes_less (key_at store.clusters) before.0 before.1 x y (subst (IsInOrder (key_at store.clusters)) before.2 own_sorted) before.3)
 
     names_inside : (a b : ℕ) → StandsBefore (flat_map (λ part. part.ids) c.parts) a b → StandsBefore (names_in_order level store) a b
@@ -161,14 +168,17 @@ module _ (most : ℕ) (level : Level) (store : Store) (is : IsStore most store) 
           | inl one ↦ stands_within names_at (places_in level store) one.0 a b (kept_there one.0 (own_kept one.0 one.1) (own_low one.0 one.1).1) one.2
           | inr two ↦
               let x_in : Contains own two.0 = subst (λ zs. Contains zs two.0) (sym two.2.2) (Contains-append_left two.2.0 (two.1 ∷ two.2.1) two.0 two.2.3) in
-              let y_in : Contains own two.1 = subst (λ zs. Contains zs two.1) (sym two.2.2) (Contains-append_right two.2.0 (two.1 ∷ two.2.1) two.1 (Contains-head two.1 two.2.1)) in
-              stands_apart names_at (places_in level store) two.0 two.1 a b (kept_before two.0 two.1 (own_kept two.0 x_in) (own_kept two.1 y_in) (own_before two.0 two.1 two.2)) two.3 two.4
+              let y_in : Contains own two.1 =
+              subst (λ zs. Contains zs two.1) (sym two.2.2) (Contains-append_right two.2.0 (two.1 ∷ two.2.1) two.1 (Contains-head two.1 two.2.1)) in
+              stands_apart names_at (places_in level store) two.0 two.1 a b
+              (kept_before two.0 two.1 (own_kept two.0 x_in) (own_kept two.1 y_in) (own_before two.0 two.1 two.2)) two.3 two.4
         ])
 
   module _ (place : ℕ × ℕ) (p : Part) (stands : StandsAt level store.clusters place p) where
     part_is : part_at store.clusters place ≡ p
     part_is =
-        ap (λ (ps : List Part). slice_index_or ps place.1 no_part) (of_cluster place.0 stands.0 stands.1) ∙ get_or_from_slice_get stands.0.parts place.1 p no_part stands.2
+        ap (λ (ps : List Part). slice_index_or ps place.1 no_part) (of_cluster place.0 stands.0 stands.1)
+        ∙ get_or_from_slice_get stands.0.parts place.1 p no_part stands.2
 
     part_low : place.1 < length (parts_in (finmap.get store.clusters place.0))
     part_low = subst (λ (ps : List Part). place.1 < length ps) (sym (of_cluster place.0 stands.0 stands.1)) (slice_get_within stands.0.parts place.1 p stands.2)

@@ -22,7 +22,8 @@ use Rattle.cluster_store.proofs.Walks.{is_ordered}
 
 -- ---- nothing changed
 
-pub kept_same : (w : ℕ) (slots slots' : Slots) (items items' : Items) (least : ℕ) → IsKept w slots items least → ((n : ℕ) → at slots' n ≡ at slots n) → IsShown slots' items'
+pub kept_same : (w : ℕ) (slots slots' : Slots) (items items' : Items) (least : ℕ)
+    → IsKept w slots items least → ((n : ℕ) → at slots' n ≡ at slots n) → IsShown slots' items'
     → IsKept w slots' items' least
 kept_same w slots slots' items items' least kept same shown = record {
   narrow = kept.narrow;
@@ -60,7 +61,8 @@ module _ (added : List Stored) (numbers : List ℕ) (old cur : Slots) (adds : Ad
 
 -- ---- the numbers of a change
 
-module _ (exchanged : List Exchange) (moves : List Move) (old : Slots) (clusters : Numbered) (is : shelved old ≡ clusters) (there : AreThere exchanged moves clusters) where
+module _ (exchanged : List Exchange) (moves : List Move) (old : Slots) (clusters : Numbered)
+    (is : shelved old ≡ clusters) (there : AreThere exchanged moves clusters) where
   number_there : (n : ℕ) → Contains (changing exchanged moves) n → IsSome (at old n)
   number_there n here = ap is_some (sym (get_shelved old n)) ∙ ap (λ (m : Numbered). is_some (finmap.get m n)) is ∙ there.there n here
 
@@ -199,7 +201,8 @@ lowest_in_each (x ∷ cs) m c id here named = elim (Contains-cases x c cs here) 
 -- what is kept after a whole change
 pub kept_changed : (w : ℕ) (exchanged : List Exchange) (moves : List Move) (old : Slots) (clusters : Numbered) (is : shelved old ≡ clusters)
     (there : AreThere exchanged moves clusters) (added : List Stored) (numbers : List ℕ) (cur : Slots) (adds : AddsTo added numbers old cur) (mid : Slots)
-    (done : ExchangesAll exchanged cur mid) (new : Slots) (moved : MovesAll moves mid new) (items items' : Items) (least : ℕ) → IsKept w old items least → IsShown new items'
+    (done : ExchangesAll exchanged cur mid) (new : Slots) (moved : MovesAll moves mid new) (items items' : Items) (least : ℕ)
+    → IsKept w old items least → IsShown new items'
     → ((x : Exchange) → Contains exchanged x → IsCluster (64 * w) x.cluster) → ((a : Stored) → Contains added a → IsCluster (64 * w) a.cluster)
     → IsKept w new items' (lowest_in (map (λ s. s.cluster) added) (lowest_in (map (λ x. x.cluster) exchanged) least))
 kept_changed w exchanged moves old clusters is there added numbers cur adds mid done new moved items items' least kept shown of_exchanged of_added = record {
@@ -210,9 +213,11 @@ kept_changed w exchanged moves old clusters is there added numbers cur adds mid 
       let first = lowest_in (map (λ (x : Exchange). x.cluster) exchanged) least in
       let all = lowest_in (map (λ (s : Stored). s.cluster) added) first in
       let low : all ≤ first = lowest_in_le (map (λ (s : Stored). s.cluster) added) first in
-      origin exchanged moves old clusters is there added numbers cur adds mid done new moved (λ c. (id : ℕ) → Contains c.names id → all ≤ (rate_of c.graph id).size)
+      origin exchanged moves old clusters is there added numbers cur adds mid done new moved
+      (λ c. (id : ℕ) → Contains c.names id → all ≤ (rate_of c.graph id).size)
       (λ x here id named.
-      let one = lowest_in_each (map (λ (y : Exchange). y.cluster) exchanged) least x.cluster id (Contains-map (λ (y : Exchange). y.cluster) exchanged x here) named in
+      let one = lowest_in_each (map (λ (y : Exchange). y.cluster) exchanged) least x.cluster id
+      (Contains-map (λ (y : Exchange). y.cluster) exchanged x here) named in
       omega (arith, one, low))
       (λ a here id named.
       lowest_in_each (map (λ (s : Stored). s.cluster) added) first a.cluster id (Contains-map (λ (s : Stored). s.cluster) added a here) named)

@@ -59,7 +59,8 @@ module _ {X : Type 0} (number : X → ℕ) (f : X → Option Stored → Option S
     pub half_there : IsSome (at cur (number x))
     half_there =
         ap is_some half_same
-        ∙ there.there (number x) (subst (λ (ns : List ℕ). Contains ns (number x)) (sym whole) (Contains-append_left (map number (left ++ x ∷ [])) (map number half.past) (number x) last_in))
+        ∙ there.there (number x) (subst (λ (ns : List ℕ). Contains ns (number x)) (sym whole)
+        (Contains-append_left (map number (left ++ x ∷ [])) (map number half.past) (number x) last_in))
 
     pub half_next : (new : Slots) → Writes cur new (number x) (f x (at cur (number x))) → IsHalf all left old new
     half_next new writes = record {
@@ -72,7 +73,8 @@ module _ {X : Type 0} (number : X → ℕ) (f : X → Option Stored → Option S
     pub half_alone : Contains (map number left) (number x) → ⊥
     half_alone here =
         distinct_apart (map number left) (number x ∷ []) (number x)
-        (subst AreDistinct (map-append number left (x ∷ [])) (distinct-append_left (map number (left ++ x ∷ [])) (map number half.past) (subst AreDistinct whole there.once)))
+        (subst AreDistinct (map-append number left (x ∷ []))
+        (distinct-append_left (map number (left ++ x ∷ [])) (map number half.past) (subst AreDistinct whole there.once)))
         here (Contains-head (number x) [])
 
 -- ---- clusters under numbers, the last one and those before it
@@ -82,17 +84,20 @@ module _ {X : Type 0} (number : X → ℕ) (xs : List X) (y : X) (slots : Slots)
   stored_front = record {
     once = distinct-append_left (map number xs) (number y ∷ []) (subst AreDistinct (map-append number xs (y ∷ [])) stored.once);
     there = λ m here.
-        stored.there m (subst (λ (ns : List ℕ). Contains ns m) (sym (map-append number xs (y ∷ []))) (Contains-append_left (map number xs) (number y ∷ []) m here));
+        stored.there m (subst (λ (ns : List ℕ). Contains ns m) (sym (map-append number xs (y ∷ [])))
+        (Contains-append_left (map number xs) (number y ∷ []) m here));
   }
 
   pub stored_apart : Contains (map number xs) (number y) → ⊥
   stored_apart here =
-      distinct_apart (map number xs) (number y ∷ []) (number y) (subst AreDistinct (map-append number xs (y ∷ [])) stored.once) here (Contains-head (number y) [])
+      distinct_apart (map number xs) (number y ∷ []) (number y)
+      (subst AreDistinct (map-append number xs (y ∷ [])) stored.once) here (Contains-head (number y) [])
 
   pub stored_last : IsSome (at slots (number y))
   stored_last = stored.there (number y) (Contains-map number (xs ++ y ∷ []) y (Contains-push xs y))
 
-pub stored_part : {X : Type 0} (number : X → ℕ) (xs ys all : List X) (slots : Slots) → all ≡ xs ++ ys → AreStored (map number all) slots → AreStored (map number xs) slots
+pub stored_part : {X : Type 0} (number : X → ℕ) (xs ys all : List X) (slots : Slots)
+    → all ≡ xs ++ ys → AreStored (map number all) slots → AreStored (map number xs) slots
 stored_part number xs ys all slots split stored =
     let whole : map number all ≡ map number xs ++ map number ys = ap (map number) split ∙ map-append number xs ys in
     record {
@@ -120,7 +125,8 @@ nothing_left (Some x) xs n has long none = absurd (none x refl)
 pub next_taken : {X : Type 0} (xs : List X) (i : ℕ) (x : X) → i < length xs → x ≡ get_or xs i x → take (suc i) xs ≡ take i xs ++ x ∷ []
 next_taken {X = X} xs i x below here = take-suc xs i x below ∙ ap (λ (y : X). take i xs ++ y ∷ []) (sym here)
 
-pub stored_at : {X : Type 0} (number : X → ℕ) (xs : List X) (i : ℕ) (x : X) (slots : Slots) → AreStored (map number xs) slots → i < length xs → x ≡ get_or xs i x
+pub stored_at : {X : Type 0} (number : X → ℕ) (xs : List X) (i : ℕ) (x : X) (slots : Slots)
+    → AreStored (map number xs) slots → i < length xs → x ≡ get_or xs i x
     → AreStored (map number (take i xs ++ x ∷ [])) slots
 stored_at {X = X} number xs i x slots stored below here =
     stored_part number (take i xs ++ x ∷ []) (drop (suc i) xs) xs slots

@@ -40,7 +40,8 @@ rate_here part =
 of_fields : ℤ → ℕ → ℕ → ℕ → Key
 of_fields fee size serial position = record { rate = record { fee = fee; size = size }; serial = serial; position = position }
 
-pub key_here : (number position : ℕ) (part : Part) (k : Key) → k.serial ≡ number → k.position ≡ position → is_rate k.rate (Some part) ≡ true → key_part number position part ≡ k
+pub key_here : (number position : ℕ) (part : Part) (k : Key) → k.serial ≡ number
+    → k.position ≡ position → is_rate k.rate (Some part) ≡ true → key_part number position part ≡ k
 unfolding of_fields
 key_here number position part k serial at is =
     let both = both_true (int_eq part.rate.fee k.rate.fee) (nat_eq part.rate.size k.rate.size) is in

@@ -26,7 +26,8 @@ module _ (w : ℕ) (slots : Slots) (items : Items) (least : ℕ) (kept : IsKept 
   kept_store = record { whole = shelved_whole; ordered = is_ordered slots items kept.shown; least = shelved_least }
 
 -- where there is no cluster, any number is a bound of sizes
-pub kept_anew : (w : ℕ) (slots : Slots) (items : Items) (least least' : ℕ) → (count_by is_some slots == 0) ≡ true → IsKept w slots items least → IsKept w slots items least'
+pub kept_anew : (w : ℕ) (slots : Slots) (items : Items) (least least' : ℕ)
+    → (count_by is_some slots == 0) ≡ true → IsKept w slots items least → IsKept w slots items least'
 kept_anew w slots items least least' none kept = record {
   narrow = kept.narrow;
   shown = kept.shown;
@@ -35,7 +36,8 @@ kept_anew w slots items least least' none kept = record {
 }
 
 -- one slot is written, and so one number has another content
-pub shelved_written : (slots slots' : Slots) (n : ℕ) (o : Option Stored) → Writes slots slots' n o → (old new : Numbered) → shelved slots ≡ old → shelved slots' ≡ new → Sets n o old new
+pub shelved_written : (slots slots' : Slots) (n : ℕ) (o : Option Stored) → Writes slots slots' n o
+    → (old new : Numbered) → shelved slots ≡ old → shelved slots' ≡ new → Sets n o old new
 shelved_written slots slots' n o writes old new is is' =
     subst (λ (m : Numbered). Sets n o m new) is (subst (λ (m : Numbered). Sets n o (shelved slots) m) is' (record {
       changed = get_shelved slots' n ∙ writes.changed;
@@ -78,7 +80,8 @@ module _ (slots slots' : Slots) (n : ℕ) (to : Option Tag) (moves : MovesIn slo
 
   pub shelved_moved : (old new : Numbered) → shelved slots ≡ old → shelved slots' ≡ new → Sets n (moved_to to (finmap.get old n)) old new
   shelved_moved old new is is' =
-      subst (λ (o : Option Stored). Sets n (moved_to to o) old new) (shelved_at slots n old is) (shelved_written slots slots' n (moved_to to (at slots n)) moves old new is is')
+      subst (λ (o : Option Stored). Sets n (moved_to to o) old new) (shelved_at slots n old is)
+      (shelved_written slots slots' n (moved_to to (at slots n)) moves old new is is')
 
 pub shelved_there : (slots : Slots) (n : ℕ) (clusters : Numbered) → shelved slots ≡ clusters → IsSome (finmap.get clusters n) → IsSome (at slots n)
 shelved_there slots n clusters is there = ap is_some (shelved_at slots n clusters is) ∙ there

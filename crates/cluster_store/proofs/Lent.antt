@@ -7,7 +7,8 @@ use Rattle.chunk_index.specs.declared.entry.Entry.{Entry}
 use Rattle.cluster_store.specs.Stores.{no_part, parts_by}
 use Rattle.cluster_store.specs.Walks.{shown_of}
 
-pub shown_lent : {T : Type 0} (parts : T → List Part) (slots : List (Option T)) (e : Entry) (kept : T) (part : Part) → slice_index_or slots e.serial None ≡ Some kept
+pub shown_lent : {T : Type 0} (parts : T → List Part) (slots : List (Option T)) (e : Entry) (kept : T) (part : Part)
+    → slice_index_or slots e.serial None ≡ Some kept
     → slice_get (parts kept) e.position ≡ Some part → shown_of parts slots e ≡ record { number = e.serial; part = part }
 shown_lent parts slots e kept part there here =
     ap (λ o. record { number = e.serial; part = slice_index_or (parts_by parts o) e.position no_part }) there

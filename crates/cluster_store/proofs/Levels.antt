@@ -52,7 +52,8 @@ module _ (clusters : Numbered) where
   pub before_less : (x y : ℕ × ℕ) → comes_before clusters x y ≡ true → key_cmp (key_at clusters x) (key_at clusters y) ≡ Less
   before_less x y e =
       let rest = (both_true (is_real clusters x) (is_real clusters y && is_lt (key_cmp (key_at clusters x) (key_at clusters y))) e).1 in
-      less_of (key_cmp (key_at clusters x) (key_at clusters y)) (both_true (is_real clusters y) (is_lt (key_cmp (key_at clusters x) (key_at clusters y))) rest).1
+      less_of (key_cmp (key_at clusters x) (key_at clusters y))
+      (both_true (is_real clusters y) (is_lt (key_cmp (key_at clusters x) (key_at clusters y))) rest).1
 
   pub never_both : (x y : ℕ × ℕ) → comes_before clusters x y ≡ true → comes_before clusters y x ≡ true → ⊥
   never_both x y a b = both_before (key_at clusters) x y (before_less x y a) (before_less y x b)
@@ -66,10 +67,12 @@ module _ (clusters : Numbered) where
             (real_size (part_at clusters y).rate.size second.0);
       }
 
-  less_before : (x y : ℕ × ℕ) → is_real clusters x ≡ true → is_real clusters y ≡ true → key_cmp (key_at clusters x) (key_at clusters y) ≡ Less → comes_before clusters x y ≡ true
+  less_before : (x y : ℕ × ℕ) → is_real clusters x ≡ true → is_real clusters y ≡ true
+      → key_cmp (key_at clusters x) (key_at clusters y) ≡ Less → comes_before clusters x y ≡ true
   less_before x y x_real y_real less = rw (x_real, y_real, less) refl
 
-  pub sorted_places : (xs : List (ℕ × ℕ)) → IsInOrder (key_at clusters) xs → ((x : ℕ × ℕ) → Contains xs x → is_real clusters x ≡ true) → IsSorted (comes_before clusters) xs
+  pub sorted_places : (xs : List (ℕ × ℕ)) → IsInOrder (key_at clusters) xs
+      → ((x : ℕ × ℕ) → Contains xs x → is_real clusters x ≡ true) → IsSorted (comes_before clusters) xs
   sorted_places [] order real = tt
   sorted_places (x ∷ xs) order real = (
     λ y here. less_before x y (real x (Contains-head x xs)) (real y (Contains-later x y xs here)) (behind_first (key_at clusters) x y xs order here),
@@ -194,16 +197,20 @@ module _ (most : ℕ) (store : Store) (level : Level) (rate : ℕ → Sum) (grap
   components_make : IsUnion (map component graphs) whole
   components_make = record {
     names = λ id. (
-      λ here. let g = (union.names id).0 here in (component g.0, Contains-map component graphs g.0 g.1, subst (λ (h : Graph). Contains h.names id) (sym (component_graph g.0)) g.2),
+      λ here. let g = (union.names id).0 here in
+          (component g.0, Contains-map component graphs g.0 g.1, subst (λ (h : Graph). Contains h.names id) (sym (component_graph g.0)) g.2),
       λ there.
           let g = from_component there.0 there.1 in
-          (union.names id).1 (g.0, g.1, subst (λ (h : Graph). Contains h.names id) (sym (ap (λ (c : Graph × List (ℕ × ℕ)). c.0) g.2) ∙ component_graph g.0) there.2),
+          (union.names id).1
+          (g.0, g.1, subst (λ (h : Graph). Contains h.names id) (sym (ap (λ (c : Graph × List (ℕ × ℕ)). c.0) g.2) ∙ component_graph g.0) there.2),
     );
     pairs = λ a b. (
-      λ here. let g = (union.pairs a b).0 here in (component g.0, Contains-map component graphs g.0 g.1, subst (λ (h : Graph). Contains h.pairs (a, b)) (sym (component_graph g.0)) g.2),
+      λ here. let g = (union.pairs a b).0 here in
+          (component g.0, Contains-map component graphs g.0 g.1, subst (λ (h : Graph). Contains h.pairs (a, b)) (sym (component_graph g.0)) g.2),
       λ there.
           let g = from_component there.0 there.1 in
-          (union.pairs a b).1 (g.0, g.1, subst (λ (h : Graph). Contains h.pairs (a, b)) (sym (ap (λ (c : Graph × List (ℕ × ℕ)). c.0) g.2) ∙ component_graph g.0) there.2),
+          (union.pairs a b).1
+          (g.0, g.1, subst (λ (h : Graph). Contains h.pairs (a, b)) (sym (ap (λ (c : Graph × List (ℕ × ℕ)). c.0) g.2) ∙ component_graph g.0) there.2),
     );
     apart = λ c d id c_in d_in c_has d_has.
         let g = from_component c c_in in
@@ -224,7 +231,8 @@ module _ (most : ℕ) (store : Store) (level : Level) (rate : ℕ → Sum) (grap
 
   -- ---- and the level's places merge those of these
 
-  key_graph : (x : ℕ × ℕ) → Contains (places_in level store) x → (g : Graph) × Contains graphs (g, x.0) × (x.1 < length (parts_in (finmap.get store.clusters x.0)))
+  key_graph : (x : ℕ × ℕ) → Contains (places_in level store) x
+      → (g : Graph) × Contains graphs (g, x.0) × (x.1 < length (parts_in (finmap.get store.clusters x.0)))
   unfolding places_by
   key_graph x here =
       let kept = filter-Contains (λ (place : ℕ × ℕ). passes (is_in level) (finmap.get store.clusters place.0)) store.order x here in
@@ -242,7 +250,8 @@ module _ (most : ℕ) (store : Store) (level : Level) (rate : ℕ → Sum) (grap
       (filter_in_order (key_at store.clusters) (λ (place : ℕ × ℕ). passes (is_in level) (finmap.get store.clusters place.0)) store.order ordered.sorted)
       (λ x here. let g = key_graph x here in own_real (g.0, x.0) g.1 x refl g.2)
 
-  key_listed : (x : ℕ × ℕ) → Contains (places_in level store) x → (list : List (ℕ × ℕ)) × Contains (map (λ c. c.1) (map component graphs)) list × Contains list x
+  key_listed : (x : ℕ × ℕ) → Contains (places_in level store) x
+      → (list : List (ℕ × ℕ)) × Contains (map (λ c. c.1) (map component graphs)) list × Contains list x
   unfolding component
   key_listed x here =
       let g = key_graph x here in
@@ -263,7 +272,8 @@ module _ (most : ℕ) (store : Store) (level : Level) (rate : ℕ → Sum) (grap
       let same : places_from g.0.1 0 (parts_in (finmap.get store.clusters g.0.1)) ≡ list = ap (λ (e : Graph × List (ℕ × ℕ)). e.1) g.2 ∙ c.2 in
       let one = places_listed g.0.1 0 (parts_in (finmap.get store.clusters g.0.1)) x (subst (λ (l : List (ℕ × ℕ)). Contains l x) (sym same) in_list) in
       let low : x.1 < length (parts_in (finmap.get store.clusters g.0.1)) = omega (arith, one.2) in
-      let there : x.1 < length (parts_in (finmap.get store.clusters x.0)) = subst (λ n. x.1 < length (parts_in (finmap.get store.clusters n))) (sym one.0) low in
+      let there : x.1 < length (parts_in (finmap.get store.clusters x.0)) =
+      subst (λ n. x.1 < length (parts_in (finmap.get store.clusters n))) (sym one.0) low in
       Contains-filter (λ (place : ℕ × ℕ). passes (is_in level) (finmap.get store.clusters place.0)) store.order x
       (ap (λ n. passes (is_in level) (finmap.get store.clusters n)) one.0 ∙ stands_there g.0 g.1) ((ordered.exact x).1 there)
 
@@ -275,7 +285,8 @@ module _ (most : ℕ) (store : Store) (level : Level) (rate : ℕ → Sum) (grap
 
   keys_merge : IsMerge (map (λ c. c.1) (map component graphs)) (places_in level store)
   keys_merge =
-      sorted_merge (comes_before store.clusters) (map (λ c. c.1) (map component graphs)) (places_in level store) (never_both store.clusters) list_sorted keys_sorted
+      sorted_merge (comes_before store.clusters) (map (λ c. c.1) (map component graphs))
+      (places_in level store) (never_both store.clusters) list_sorted keys_sorted
       (λ x. (key_listed x, λ there. listed_key x there.0 there.1 there.2))
 
   keys_fall : Falls (map (λ key. (part_at store.clusters key).rate) (places_in level store))
@@ -285,4 +296,5 @@ module _ (most : ℕ) (store : Store) (level : Level) (rate : ℕ → Sum) (grap
   pub level_picked : IsPick rate whole (parts_of_level level store)
   level_picked =
       subst (IsPick rate whole) (sym (fused store.clusters (places_in level store)))
-      (picks_are_kept.merged rate (part_at store.clusters) (map component graphs) whole (places_in level store) components_make components_picked keys_merge keys_fall)
+      (picks_are_kept.merged rate (part_at store.clusters) (map component graphs) whole
+      (places_in level store) components_make components_picked keys_merge keys_fall)

@@ -58,7 +58,8 @@ key_by parts place = record {
   position = place.1;
 }
 
-module _ (old new : Store) (first : IsOrdered old.clusters old.order) (second : IsOrdered new.clusters new.order) (x : ℕ × ℕ) (stays : Stays old.clusters new.clusters x.0)
+module _ (old new : Store) (first : IsOrdered old.clusters old.order)
+    (second : IsOrdered new.clusters new.order) (x : ℕ × ℕ) (stays : Stays old.clusters new.clusters x.0)
     (here : Contains old.order x) where
   same_parts : parts_in (finmap.get new.clusters x.0) ≡ parts_in (finmap.get old.clusters x.0)
   same_parts = (same_stored old.clusters new.clusters x.0 stays (finmap.get old.clusters x.0) refl x.1 ((first.exact x).0 here)).2
@@ -78,7 +79,8 @@ orders_kept old new first second x y x_stays y_stays before =
     let y_in : Contains old.order y =
     subst (λ (ps : List (ℕ × ℕ)). Contains ps y) (sym whole) (Contains-append_right before.0 (y ∷ before.1) y (Contains-head y before.1)) in
     let less = precedes_less (key_at old.clusters) before.0 before.1 x y (subst (IsInOrder (key_at old.clusters)) whole first.sorted) before.3 in
-    less_precedes (key_at new.clusters) new.order x y second.sorted (still_there old new first second x x_stays x_in) (still_there old new first second y y_stays y_in)
+    less_precedes (key_at new.clusters) new.order x y second.sorted
+    (still_there old new first second x x_stays x_in) (still_there old new first second y y_stays y_in)
     (ap (λ (k : Key). key_cmp k (key_at new.clusters y)) (still_keyed old new first second x x_stays x_in)
     ∙ ap (key_cmp (key_at old.clusters x)) (still_keyed old new first second y y_stays y_in) ∙ less)
 

@@ -23,7 +23,8 @@ find_below : (k q : ℕ) (slots : Slots) → q < k → finmap.find nat_cmp q (en
 find_below k q [] low = refl
 find_below k q (None ∷ slots) low = find_below (k + 1) q slots (omega arith)
 find_below k q (Some s ∷ slots) low =
-    ap (λ b. cond b (Some s) (finmap.find nat_cmp q (entries_from (k + 1) slots))) (eq_not q k (λ e. omega (arith, e))) ∙ find_below (k + 1) q slots (omega arith)
+    ap (λ b. cond b (Some s) (finmap.find nat_cmp q (entries_from (k + 1) slots))) (eq_not q k (λ e. omega (arith, e)))
+    ∙ find_below (k + 1) q slots (omega arith)
 
 find_there : (k n q : ℕ) (slots : Slots) → q ≡ k + n → finmap.find nat_cmp q (entries_from k slots) ≡ at slots n
 find_there k n q [] is = refl
@@ -85,7 +86,8 @@ none_kept w slots items least narrow no_slots no_items =
     subst (λ (s : Slots). IsKept w s items least) (sym no_slots) (subst (λ (xs : Items). IsKept w [] xs least) (sym no_items) (empty_kept w least narrow))
 
 pub none_shelved : (slots : Slots) (items : Items) (least : ℕ) → slots ≡ [] → items ≡ []
-    → ◌≡◌ {A = Store} (record { clusters = shelved slots; order = map place_of items; least = least }) (record { clusters = finmap.empty; order = []; least = least })
+    → ◌≡◌ {A = Store} (record { clusters = shelved slots; order = map place_of items; least = least })
+    (record { clusters = finmap.empty; order = []; least = least })
 unfolding shelved
 none_shelved slots items least no_slots no_items =
     ap (λ (s : Slots). record { clusters = shelved s; order = map place_of items; least = least }) no_slots

@@ -53,7 +53,8 @@ module _ (slots slots' : Slots) (n : ℕ) (o : Option Stored) (writes : Writes s
   ]
 
   -- what is kept where the one that comes is this cluster
-  pub kept_written : (w : ℕ) (c : Cluster) (items items' : Items) (least : ℕ) → ((s : Stored) → o ≡ Some s → s.cluster ≡ c) → IsCluster (64 * w) c → IsKept w slots items least
+  pub kept_written : (w : ℕ) (c : Cluster) (items items' : Items) (least : ℕ)
+      → ((s : Stored) → o ≡ Some s → s.cluster ≡ c) → IsCluster (64 * w) c → IsKept w slots items least
       → IsShown slots' items' → IsKept w slots' items' (lowest_in (c ∷ []) least)
   kept_written w c items items' least is whole kept shown = record {
     narrow = kept.narrow;
@@ -79,8 +80,10 @@ nothing_waits n here = none_in_empty n here
 pub nothing_beside : (slots : Slots) (x : Exchange) (items : Items) → IsShown slots items → IsBeside slots x.number [] items
 nothing_beside slots x items shown = beside_before slots [] x (nothing_waits x.number) items (wide_begins slots items shown)
 
-pub shown_placed : (slots : Slots) (x : Exchange) (items mid items' : Items) (slots' : Slots) → IsShown slots items → IsBeside slots x.number x.cluster.parts mid
-    → KeepsElsewhere x.number items mid → Places slots slots' x.number x.cluster → IsBeside slots' x.number [] items' → KeepsElsewhere x.number mid items' → IsShown slots' items'
+pub shown_placed : (slots : Slots) (x : Exchange) (items mid items' : Items) (slots' : Slots)
+    → IsShown slots items → IsBeside slots x.number x.cluster.parts mid
+    → KeepsElsewhere x.number items mid → Places slots slots' x.number x.cluster
+    → IsBeside slots' x.number [] items' → KeepsElsewhere x.number mid items' → IsShown slots' items'
 shown_placed slots x items mid items' slots' shown beside first places here second =
     wide_ends slots' items' (wide_fewer slots [] x (nothing_waits x.number) slots' mid items'
     (wide_more slots [] x (nothing_waits x.number) items mid (wide_begins slots items shown) beside first) places.others here second)

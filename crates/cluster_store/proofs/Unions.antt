@@ -59,7 +59,8 @@ module _ (level : Level) (clusters : Numbered) where
   stands_listed : (n : ℕ) (c : Cluster) → Stands level clusters n c → Contains (numbers_in level clusters) n
   unfolding numbers_in
   stands_listed n c stands =
-      Contains-filter (λ m. passes (is_in level) (finmap.get clusters m)) (finmap.keys clusters) n (ap (passes (is_in level)) stands.1 ∙ stands.3) (keyed clusters n stands.0 stands.1)
+      Contains-filter (λ m. passes (is_in level) (finmap.get clusters m)) (finmap.keys clusters) n
+      (ap (passes (is_in level)) stands.1 ∙ stands.3) (keyed clusters n stands.0 stands.1)
 
   listed_stands : (n : ℕ) → Contains (numbers_in level clusters) n → (c : Cluster) × Stands level clusters n c
   unfolding numbers_in
@@ -144,7 +145,8 @@ module _ (most : ℕ) (store : Store) (level : Level) (g : Closure) (ordered : I
     part_listed : (n : ℕ) (c : Cluster) → Stands level store.clusters n c → Contains graphs (within (is_member c.graph) graph, n)
     unfolding graphs
     part_listed n c stands =
-        subst (Contains graphs) (part_is n c stands) (Contains-map part_graph (numbers_in level store.clusters) n (stands_listed level store.clusters n c stands))
+        subst (Contains graphs) (part_is n c stands)
+        (Contains-map part_graph (numbers_in level store.clusters) n (stands_listed level store.clusters n c stands))
 
     -- each of them is what a cluster of the level has
     pub record IsOf (h : Graph × ℕ) : Type 0 where
@@ -218,7 +220,8 @@ module _ (most : ℕ) (store : Store) (level : Level) (g : Closure) (ordered : I
     one_part h k of ok same =
         let one : of.cluster ≡ ok.cluster =
         one_cluster level store.clusters k.1 of.cluster ok.cluster (subst (λ n. Stands level store.clusters n of.cluster) same of.stands) ok.stands in
-        sym of.part ∙ ap (λ (c : Cluster). (within (is_member c.graph) graph, h.1)) one ∙ ap (λ n. (within (is_member ok.cluster.graph) graph, n)) same ∙ ok.part
+        sym of.part ∙ ap (λ (c : Cluster). (within (is_member c.graph) graph, h.1)) one
+        ∙ ap (λ n. (within (is_member ok.cluster.graph) graph, n)) same ∙ ok.part
 
     make_graph : IsUnion graphs graph
     make_graph = record {

@@ -41,20 +41,23 @@ module _ {A : Type 0} (key : A → Key) where
     ]
   ]
 
-  rest_inside : (x y : A) (xs ys : List A) → IsInOrder key (x ∷ xs) → x ≡ y → ((z : A) → Contains (x ∷ xs) z → Contains (y ∷ ys) z) → (z : A) → Contains xs z → Contains ys z
+  rest_inside : (x y : A) (xs ys : List A) → IsInOrder key (x ∷ xs) → x ≡ y
+      → ((z : A) → Contains (x ∷ xs) z → Contains (y ∷ ys) z) → (z : A) → Contains xs z → Contains ys z
   rest_inside x y xs ys order same inside z here = elim (Contains-cases y z ys (inside z (Contains-later x z xs here))) [
     | inl first ↦ absurd (before_itself x (behind_first x x xs order (subst (Contains xs) (sym (same ∙ first)) here)))
     | inr later ↦ later
   ]
 
-  pub ordered_once : (xs ys : List A) → IsInOrder key xs → IsInOrder key ys → ((z : A) → Contains xs z → Contains ys z) → ((z : A) → Contains ys z → Contains xs z) → xs ≡ ys
+  pub ordered_once : (xs ys : List A) → IsInOrder key xs → IsInOrder key ys
+      → ((z : A) → Contains xs z → Contains ys z) → ((z : A) → Contains ys z → Contains xs z) → xs ≡ ys
   ordered_once [] [] first second there back = refl
   ordered_once [] (y ∷ ys) first second there back = absurd (none_in_empty y (back y (Contains-head y ys)))
   ordered_once (x ∷ xs) [] first second there back = absurd (none_in_empty x (there x (Contains-head x xs)))
   ordered_once (x ∷ xs) (y ∷ ys) first second there back =
       let same : x ≡ y = first_same x y xs ys first second (there x (Contains-head x xs)) (back y (Contains-head y ys)) in
       let rest : xs ≡ ys =
-      ordered_once xs ys (rest_order x xs first) (rest_order y ys second) (rest_inside x y xs ys first same there) (rest_inside y x ys xs second (sym same) back) in
+      ordered_once xs ys (rest_order x xs first) (rest_order y ys second)
+      (rest_inside x y xs ys first same there) (rest_inside y x ys xs second (sym same) back) in
       ap (λ (z : A). z ∷ xs) same ∙ ap (λ (zs : List A). y ∷ zs) rest
 
 pub one_order : (clusters : Numbered) (a b : List (ℕ × ℕ)) → IsOrdered clusters a → IsOrdered clusters b → a ≡ b

@@ -52,7 +52,8 @@ listed_found (x ∷ items) i order here = by (Contains-cases x i items here) (λ
         let hit : same_key (item_key x) (item_key i) ≡ true = ap (λ (y : Entry × Tag). same_key (item_key y) (item_key i)) same ∙ same_self (item_key i) in
         rw hit (ap (λ (y : Entry × Tag). Some y.1) same)
     by (inr later) rest =
-        let miss : same_key (item_key x) (item_key i) ≡ false = ap is_eq (all_at (λ (y : Entry × Tag). key_cmp (item_key x) (item_key y) ≡ Less) items i order.0 later) in
+        let miss : same_key (item_key x) (item_key i) ≡ false =
+        ap is_eq (all_at (λ (y : Entry × Tag). key_cmp (item_key x) (item_key y) ≡ Less) items i order.0 later) in
         rw miss (rest later)
 
 pub found_listed : (items : Items) (k : Key) → IsSome (found items k) → (i : Entry × Tag) × Contains items i × (item_key i ≡ k)
@@ -88,7 +89,14 @@ tag_part (Some s) k t is = by (is_rate k.rate (slice_get s.cluster.parts k.posit
     by : (b : Bool) → is_rate k.rate (slice_get s.cluster.parts k.position) ≡ b → cond b (Some s.tag) None ≡ Some t → IsPartOf (Some s) k t
     by true r e =
         let some = rate_some k.rate (slice_get s.cluster.parts k.position) r in
-        record { stored = s; there = refl; tag = same_Some s.tag t e; part = some.0; here = some.1; key = key_here k.serial k.position some.0 k refl refl some.2 }
+        record {
+          stored = s;
+          there = refl;
+          tag = same_Some s.tag t e;
+          part = some.0;
+          here = some.1;
+          key = key_here k.serial k.position some.0 k refl refl some.2;
+        }
     by false r e = absurd (none-some t e)
 
 module _ (slots : Slots) (items : Items) (shown : IsShown slots items) where
@@ -106,7 +114,8 @@ module _ (slots : Slots) (items : Items) (shown : IsShown slots items) where
   has_parts p e here =
       let tagged = listed_tag p items e here in
       let is = part_of_item (e, tagged.0) tagged.1 in
-      subst (λ o. e.position < length (parts_by (λ (s : Stored). s.cluster.parts) o)) (sym is.there) (slice_get_within is.stored.cluster.parts e.position is.part is.here)
+      subst (λ o. e.position < length (parts_by (λ (s : Stored). s.cluster.parts) o))
+      (sym is.there) (slice_get_within is.stored.cluster.parts e.position is.part is.here)
 
   -- ---- the parts in order
 
@@ -114,7 +123,8 @@ module _ (slots : Slots) (items : Items) (shown : IsShown slots items) where
   same_key_at i here =
       let is = part_of_item i here in
       ap (λ o. key_in o (place_of i)) (get_shelved slots i.0.serial ∙ is.there)
-      ∙ ap (λ (part : Part). key_part i.0.serial i.0.position part) (get_or_from_slice_get is.stored.cluster.parts i.0.position is.part no_part is.here) ∙ is.key
+      ∙ ap (λ (part : Part). key_part i.0.serial i.0.position part)
+      (get_or_from_slice_get is.stored.cluster.parts i.0.position is.part no_part is.here) ∙ is.key
 
   in_order : (xs : Items) → ((i : Entry × Tag) → Contains xs i → Contains items i) → AreInOrder xs → IsInOrder (key_at (shelved slots)) (map place_of xs)
   unfolding IsInOrder
@@ -127,7 +137,8 @@ module _ (slots : Slots) (items : Items) (shown : IsShown slots items) where
       first_key : key_at (shelved slots) (place_of x) ≡ item_key x
       first_key = same_key_at x (inside x (Contains-head x xs))
 
-      all_less : (ys : Items) → ((i : Entry × Tag) → Contains ys i → Contains items i) → AllByRecursion (λ (y : Entry × Tag). key_cmp (item_key x) (item_key y) ≡ Less) ys
+      all_less : (ys : Items) → ((i : Entry × Tag) → Contains ys i → Contains items i)
+          → AllByRecursion (λ (y : Entry × Tag). key_cmp (item_key x) (item_key y) ≡ Less) ys
           → AllByRecursion (λ (y : ℕ × ℕ). key_cmp (key_at (shelved slots) (place_of x)) (key_at (shelved slots) y) ≡ Less) (map place_of ys)
       all_less [] within less = tt
       all_less (y ∷ ys) within less = (
@@ -189,7 +200,9 @@ module _ (slots : Slots) (items : Items) (shown : IsShown slots items) where
           ≡ map (shown_at (shelved slots)) (filter (λ (place : ℕ × ℕ). passes p (finmap.get (shelved slots) place.0)) (map place_of xs))
           → map (shown_of (λ (s : Stored). s.cluster.parts) slots) (map (λ i. i.0) (filter (λ i. p i.1) (x ∷ xs)))
           ≡ map (shown_at (shelved slots)) (filter (λ (place : ℕ × ℕ). passes p (finmap.get (shelved slots) place.0)) (map place_of (x ∷ xs)))
-      by true is rest = let there = same ∙ is in rw (is, there) (ap (λ (s : Shown). s ∷ map (shown_of (λ (t : Stored). t.cluster.parts) slots) (map (λ i. i.0) (filter (λ i. p i.1) xs))) (shows x) ∙ ap (λ (ys : List Shown). shown_at (shelved slots) (place_of x) ∷ ys) rest)
+      by true is rest = let there = same ∙ is in
+          rw (is, there) (ap (λ (s : Shown). s ∷ map (shown_of (λ (t : Stored). t.cluster.parts) slots) (map (λ i. i.0) (filter (λ i. p i.1) xs))) (shows x)
+          ∙ ap (λ (ys : List Shown). shown_at (shelved slots) (place_of x) ∷ ys) rest)
       by false is rest = let there = same ∙ is in rw (is, there) rest
 
   pub walk_shows : (p : Tag → Bool) (least : ℕ)

@@ -36,7 +36,8 @@ loop-stored-preserved g c = record {
   split =
       append_assoc c.loop-stored.yielded (c.in-Some.stored ∷ []) c.next.new.self.rest.items
       ∙ ap (λ (xs : List Stored). c.loop-stored.yielded ++ xs) (sym c.in-Some.ensures.steps.0) ∙ c.loop-stored.invariant.split;
-  adds = adds_more c.loop-stored.yielded c.loop-stored.numbers.items c.args.slots.now.slots c.loop-stored.slots.slots c.loop-stored.invariant.adds c.in-Some.stored
+  adds =
+      adds_more c.loop-stored.yielded c.loop-stored.numbers.items c.args.slots.now.slots c.loop-stored.slots.slots c.loop-stored.invariant.adds c.in-Some.stored
       c.add_next.new.numbers.items c.add_next.new.slots.slots c.in_default.ensures.ok;
   shown = c.in_default.ensures.shown;
 }

@@ -20,7 +20,8 @@ enter_beside-requires g c =
     let xs = c.args.exchanged.items in
     let x = c.index.result.now in
     let stored : AreStored (map (λ (y : Exchange). y.number) (take c.loop-at.at xs ++ x ∷ [])) slots =
-    stored_at (λ (y : Exchange). y.number) xs c.loop-at.at x slots c.requires.there (below_all c.loop-at-test.true c.len-at-end.ensures c.args.exchanged.ok.0) c.index.ensures in (
+    stored_at (λ (y : Exchange). y.number) xs c.loop-at.at x slots c.requires.there
+    (below_all c.loop-at-test.true c.len-at-end.ensures c.args.exchanged.ok.0) c.index.ensures in (
       search,
       (
         search,
@@ -41,7 +42,8 @@ leave_all-requires g c =
         search,
         (
           subst (λ (ys : List Exchange). AreStored (map (λ (y : Exchange). y.number) ys) slots) front
-              (stored_part (λ (y : Exchange). y.number) (take c.loop-at.at xs) (drop c.loop-at.at xs) xs slots (sym (take-append-drop c.loop-at.at xs)) c.requires.there),
+              (stored_part (λ (y : Exchange). y.number) (take c.loop-at.at xs)
+              (drop c.loop-at.at xs) xs slots (sym (take-append-drop c.loop-at.at xs)) c.requires.there),
           subst (λ (ys : List Exchange). IsWide slots ys c.enter_beside.new.index) front
               (wide_same slots (take c.loop-at.at xs) c.loop-at.index c.enter_beside.new.index c.loop-at.invariant c.in-Err.ensures.err),
         ),
@@ -61,9 +63,11 @@ loop-at-preserved g c =
     let xs = c.args.exchanged.items in
     let x = c.index.result.now in
     let stored : AreStored (map (λ (y : Exchange). y.number) (take c.loop-at.at xs ++ x ∷ [])) slots =
-    stored_at (λ (y : Exchange). y.number) xs c.loop-at.at x slots c.requires.there (below_all c.loop-at-test.true c.len-at-end.ensures c.args.exchanged.ok.0) c.index.ensures in
+    stored_at (λ (y : Exchange). y.number) xs c.loop-at.at x slots c.requires.there
+    (below_all c.loop-at-test.true c.len-at-end.ensures c.args.exchanged.ok.0) c.index.ensures in
     let more : take (c.loop-at.at + 1) xs ≡ take c.loop-at.at xs ++ x ∷ [] =
-    ap (λ n. take n xs) (add-one c.loop-at.at) ∙ next_taken xs c.loop-at.at x (below_all c.loop-at-test.true c.len-at-end.ensures c.args.exchanged.ok.0) c.index.ensures in
+    ap (λ n. take n xs) (add-one c.loop-at.at)
+    ∙ next_taken xs c.loop-at.at x (below_all c.loop-at-test.true c.len-at-end.ensures c.args.exchanged.ok.0) c.index.ensures in
     subst (λ (ys : List Exchange). IsWide slots ys c.enter_beside.new.index) (sym more)
     (wide_more slots (take c.loop-at.at xs) x (stored_apart (λ y. y.number) (take c.loop-at.at xs) x slots stored) c.loop-at.index c.enter_beside.new.index
     c.loop-at.invariant c.in_default.ensures.here c.in_default.ensures.others)

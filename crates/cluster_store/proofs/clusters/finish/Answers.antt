@@ -17,17 +17,20 @@ pub replace-requires : goal.replace-requires
 replace-requires g c =
     let rest = c.pop.new.self.items in
     let x = c.in-Some.exchange in
-    let half : IsHalf (λ (y : Exchange). y.number) (λ y. with_cluster y.cluster) c.args.exchanged.items (rest ++ x ∷ []) c.args.slots.now.slots c.loop-exchange.slots.slots =
+    let half : IsHalf (λ (y : Exchange). y.number) (λ y. with_cluster y.cluster) c.args.exchanged.items
+    (rest ++ x ∷ []) c.args.slots.now.slots c.loop-exchange.slots.slots =
     subst (λ (xs : List Exchange). IsHalf (λ (y : Exchange). y.number) (λ y. with_cluster y.cluster) c.args.exchanged.items xs c.args.slots.now.slots
     c.loop-exchange.slots.slots) c.in-Some.ensures.items c.loop-exchange.invariant.half in
     let wide : IsWide c.loop-exchange.slots.slots (rest ++ x ∷ []) c.loop-exchange.index =
     subst (λ (xs : List Exchange). IsWide c.loop-exchange.slots.slots xs c.loop-exchange.index) c.in-Some.ensures.items c.loop-exchange.invariant.wide in
-    let apart = half_alone (λ y. y.number) (λ y. with_cluster y.cluster) c.args.exchanged.items rest x c.args.slots.now.slots c.loop-exchange.slots.slots c.requires.there half in (
+    let apart = half_alone (λ y. y.number) (λ y. with_cluster y.cluster) c.args.exchanged.items
+    rest x c.args.slots.now.slots c.loop-exchange.slots.slots c.requires.there half in (
       search,
       (
         search,
         (
-          half_there (λ y. y.number) (λ y. with_cluster y.cluster) c.args.exchanged.items rest x c.args.slots.now.slots c.loop-exchange.slots.slots c.requires.there half,
+          half_there (λ y. y.number) (λ y. with_cluster y.cluster) c.args.exchanged.items
+              rest x c.args.slots.now.slots c.loop-exchange.slots.slots c.requires.there half,
           beside_last c.loop-exchange.slots.slots rest x apart c.loop-exchange.index wide,
         ),
       ),
@@ -37,23 +40,28 @@ pub loop-exchange-preserved : goal.loop-exchange-preserved
 loop-exchange-preserved g c =
     let rest = c.pop.new.self.items in
     let x = c.in-Some.exchange in
-    let half : IsHalf (λ (y : Exchange). y.number) (λ y. with_cluster y.cluster) c.args.exchanged.items (rest ++ x ∷ []) c.args.slots.now.slots c.loop-exchange.slots.slots =
+    let half : IsHalf (λ (y : Exchange). y.number) (λ y. with_cluster y.cluster) c.args.exchanged.items
+    (rest ++ x ∷ []) c.args.slots.now.slots c.loop-exchange.slots.slots =
     subst (λ (xs : List Exchange). IsHalf (λ (y : Exchange). y.number) (λ y. with_cluster y.cluster) c.args.exchanged.items xs c.args.slots.now.slots
     c.loop-exchange.slots.slots) c.in-Some.ensures.items c.loop-exchange.invariant.half in
     let wide : IsWide c.loop-exchange.slots.slots (rest ++ x ∷ []) c.loop-exchange.index =
     subst (λ (xs : List Exchange). IsWide c.loop-exchange.slots.slots xs c.loop-exchange.index) c.in-Some.ensures.items c.loop-exchange.invariant.wide in
-    let apart = half_alone (λ y. y.number) (λ y. with_cluster y.cluster) c.args.exchanged.items rest x c.args.slots.now.slots c.loop-exchange.slots.slots c.requires.there half in
+    let apart = half_alone (λ y. y.number) (λ y. with_cluster y.cluster) c.args.exchanged.items
+    rest x c.args.slots.now.slots c.loop-exchange.slots.slots c.requires.there half in
     record {
-      half = half_next (λ y. y.number) (λ y. with_cluster y.cluster) c.args.exchanged.items rest x c.args.slots.now.slots c.loop-exchange.slots.slots c.requires.there half
+      half = half_next (λ y. y.number) (λ y. with_cluster y.cluster) c.args.exchanged.items
+          rest x c.args.slots.now.slots c.loop-exchange.slots.slots c.requires.there half
           c.replace.new.slots.slots c.replace.ensures.placed;
-      wide = wide_fewer c.loop-exchange.slots.slots rest x apart c.replace.new.slots.slots c.loop-exchange.index c.replace.new.index wide c.replace.ensures.placed.others
+      wide = wide_fewer c.loop-exchange.slots.slots rest x apart c.replace.new.slots.slots
+          c.loop-exchange.index c.replace.new.index wide c.replace.ensures.placed.others
           c.replace.ensures.here c.replace.ensures.others;
     }
 
 pub returns-clause-exchanged : goal.returns-clause-exchanged
 returns-clause-exchanged g c =
     let none : c.loop-exchange.exchanged.items ≡ [] =
-    nothing_left c.pop.result c.loop-exchange.exchanged.items c.loop-exchange.exchanged.len c.pop.ensures.variant c.loop-exchange.exchanged.ok.0 c.in_default.not-Some in
+    nothing_left c.pop.result c.loop-exchange.exchanged.items c.loop-exchange.exchanged.len
+    c.pop.ensures.variant c.loop-exchange.exchanged.ok.0 c.in_default.not-Some in
     half_ends (λ y. y.number) (λ y. with_cluster y.cluster) c.args.exchanged.items c.args.slots.now.slots c.loop-exchange.slots.slots
     (subst (λ (xs : List Exchange). IsHalf (λ (y : Exchange). y.number) (λ y. with_cluster y.cluster) c.args.exchanged.items xs c.args.slots.now.slots
     c.loop-exchange.slots.slots) none c.loop-exchange.invariant.half)
@@ -61,7 +69,8 @@ returns-clause-exchanged g c =
 pub returns-clause-shown : goal.returns-clause-shown
 returns-clause-shown g c =
     let none : c.loop-exchange.exchanged.items ≡ [] =
-    nothing_left c.pop.result c.loop-exchange.exchanged.items c.loop-exchange.exchanged.len c.pop.ensures.variant c.loop-exchange.exchanged.ok.0 c.in_default.not-Some in
+    nothing_left c.pop.result c.loop-exchange.exchanged.items c.loop-exchange.exchanged.len
+    c.pop.ensures.variant c.loop-exchange.exchanged.ok.0 c.in_default.not-Some in
     wide_ends c.loop-exchange.slots.slots c.loop-exchange.index
     (subst (λ (xs : List Exchange). IsWide c.loop-exchange.slots.slots xs c.loop-exchange.index) none c.loop-exchange.invariant.wide)
 

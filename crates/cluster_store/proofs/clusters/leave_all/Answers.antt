@@ -45,7 +45,8 @@ loop-exchange-preserved g c =
 pub returns : goal.returns
 returns g c =
     let none : c.loop-exchange.exchanged.items ≡ [] =
-    nothing_left c.pop.result c.loop-exchange.exchanged.items c.loop-exchange.exchanged.len c.pop.ensures.variant c.loop-exchange.exchanged.ok.0 c.in_default.not-Some in
+    nothing_left c.pop.result c.loop-exchange.exchanged.items c.loop-exchange.exchanged.len
+    c.pop.ensures.variant c.loop-exchange.exchanged.ok.0 c.in_default.not-Some in
     wide_ends c.args.slots.now.slots c.loop-exchange.index
     (subst (λ (xs : List Exchange). IsWide c.args.slots.now.slots xs c.loop-exchange.index) none c.loop-exchange.invariant.wide)
 

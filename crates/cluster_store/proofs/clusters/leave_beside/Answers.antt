@@ -22,7 +22,8 @@ leave-requires g c =
         not_more c.part_count-count.ensures,
         λ k f.
             leave_has c.args.slots.now.slots x.number s is x.cluster.parts c.args.index.now c.requires.wide k
-            (fresh_same c.number-2.result x.number (take c.part_count-count.result c.cluster-cluster.result.now.parts) x.cluster.parts c.cluster-other.result.now.parts
+            (fresh_same c.number-2.result x.number
+            (take c.part_count-count.result c.cluster-cluster.result.now.parts) x.cluster.parts c.cluster-other.result.now.parts
             s.cluster.parts k c.number-2.ensures all (ap (λ (y : Cluster). y.parts) c.cluster-other.ensures) f)
             ∙ ap Some (sym c.tag.ensures),
       ),

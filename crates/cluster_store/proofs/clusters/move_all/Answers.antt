@@ -10,7 +10,8 @@ loop-last-init g c = record { half = half_begins (λ m. m.number) (λ m. moved_t
 
 pub make_move-requires : goal.make_move-requires
 make_move-requires g c =
-    let half : IsHalf (λ (m : Move). m.number) (λ m. moved_to m.to) c.args.moves.now (c.in-Some.rest.now ++ c.in-Some.last.now ∷ []) c.args.slots.now.slots c.loop-last.slots.slots =
+    let half : IsHalf (λ (m : Move). m.number) (λ m. moved_to m.to) c.args.moves.now
+    (c.in-Some.rest.now ++ c.in-Some.last.now ∷ []) c.args.slots.now.slots c.loop-last.slots.slots =
     subst (λ (xs : List Move). IsHalf (λ (m : Move). m.number) (λ m. moved_to m.to) c.args.moves.now xs c.args.slots.now.slots c.loop-last.slots.slots)
     c.in-Some.ensures.cases.0 c.loop-last.invariant.half in (
       search,
@@ -23,11 +24,13 @@ make_move-requires g c =
 
 pub loop-last-preserved : goal.loop-last-preserved
 loop-last-preserved g c =
-    let half : IsHalf (λ (m : Move). m.number) (λ m. moved_to m.to) c.args.moves.now (c.in-Some.rest.now ++ c.in-Some.last.now ∷ []) c.args.slots.now.slots c.loop-last.slots.slots =
+    let half : IsHalf (λ (m : Move). m.number) (λ m. moved_to m.to) c.args.moves.now
+    (c.in-Some.rest.now ++ c.in-Some.last.now ∷ []) c.args.slots.now.slots c.loop-last.slots.slots =
     subst (λ (xs : List Move). IsHalf (λ (m : Move). m.number) (λ m. moved_to m.to) c.args.moves.now xs c.args.slots.now.slots c.loop-last.slots.slots)
     c.in-Some.ensures.cases.0 c.loop-last.invariant.half in
     record {
-      half = half_next (λ m. m.number) (λ m. moved_to m.to) c.args.moves.now c.in-Some.rest.now c.in-Some.last.now c.args.slots.now.slots c.loop-last.slots.slots
+      half =
+          half_next (λ m. m.number) (λ m. moved_to m.to) c.args.moves.now c.in-Some.rest.now c.in-Some.last.now c.args.slots.now.slots c.loop-last.slots.slots
           c.requires.there half c.make_move.new.slots.slots c.make_move.ensures.updates;
       shown = c.make_move.ensures.shown;
     }

@@ -24,13 +24,15 @@ leave-requires g c =
     let all : take c.part_count-count.result c.replace-gone.result.parts ≡ s.cluster.parts =
     take_all c.part_count-count.result c.replace-gone.result.parts low ∙ ap (λ (y : Cluster). y.parts) c.replace-gone.ensures.old in
     let new : c.cluster-other.result.now.parts ≡ x.cluster.parts =
-    ap (λ (y : Cluster). y.parts) (c.cluster-other.ensures ∙ ap (λ (t : Stored). t.cluster) c.replace-gone.ensures.new ∙ c.into_parts-number.ensures.cluster) in (
+    ap (λ (y : Cluster). y.parts)
+    (c.cluster-other.ensures ∙ ap (λ (t : Stored). t.cluster) c.replace-gone.ensures.new ∙ c.into_parts-number.ensures.cluster) in (
       search cluster_in_stored,
       (
         not_more c.part_count-count.ensures,
         λ k f.
             gone_has slots x.number s is x.cluster.parts c.args.index.now c.requires.wide k
-            (fresh_same c.into_parts-number.result.0 x.number (take c.part_count-count.result c.replace-gone.result.parts) s.cluster.parts c.cluster-other.result.now.parts
+            (fresh_same c.into_parts-number.result.0 x.number
+            (take c.part_count-count.result c.replace-gone.result.parts) s.cluster.parts c.cluster-other.result.now.parts
             x.cluster.parts k c.into_parts-number.ensures.number all new f)
             ∙ ap Some (sym (c.tag.ensures ∙ ap (λ (t : Stored). t.tag) c.replace-gone.ensures.new)),
       ),
@@ -63,7 +65,8 @@ returns-clause-here g c =
     let low : length c.replace-gone.result.parts ≤ c.part_count-count.result = not_fewer c.part_count-count.ensures in
     let all : take c.part_count-count.result c.replace-gone.result.parts ≡ s.cluster.parts =
     take_all c.part_count-count.result c.replace-gone.result.parts low ∙ ap (λ (y : Cluster). y.parts) c.replace-gone.ensures.old in
-    let cluster : c.replace-gone.new.self.cluster ≡ x.cluster = ap (λ (t : Stored). t.cluster) c.replace-gone.ensures.new ∙ c.into_parts-number.ensures.cluster in
+    let cluster : c.replace-gone.new.self.cluster ≡ x.cluster =
+    ap (λ (t : Stored). t.cluster) c.replace-gone.ensures.new ∙ c.into_parts-number.ensures.cluster in
     let now : at (set slots n (Some c.replace-gone.new.self)) x.number ≡ Some c.replace-gone.new.self =
     ap (at (set slots n (Some c.replace-gone.new.self))) (sym number) ∙ set_here slots n s c.replace-gone.new.self (sym c.in-Some.ensures.value) in
     replaces slots x.number s is x.cluster.parts c.args.index.now (set slots n (Some c.replace-gone.new.self)) c.replace-gone.new.self c.leave.new.index now

@@ -8,7 +8,8 @@ loop-number-init g c = record { half = half_begins (λ n. n) (λ n o. None) c.ar
 
 pub take_out-requires : goal.take_out-requires
 take_out-requires g c =
-    let half : IsHalf (λ (n : ℕ). n) (λ n o. None) c.args.numbers.items (c.pop.new.self.items ++ c.in-Some.number ∷ []) c.args.slots.now.slots c.loop-number.slots.slots =
+    let half : IsHalf (λ (n : ℕ). n) (λ n o. None) c.args.numbers.items
+    (c.pop.new.self.items ++ c.in-Some.number ∷ []) c.args.slots.now.slots c.loop-number.slots.slots =
     subst (λ (xs : List ℕ). IsHalf (λ (n : ℕ). n) (λ n o. None) c.args.numbers.items xs c.args.slots.now.slots c.loop-number.slots.slots)
     c.in-Some.ensures.items c.loop-number.invariant.half in (
       search,
@@ -21,7 +22,8 @@ take_out-requires g c =
 
 pub loop-number-preserved : goal.loop-number-preserved
 loop-number-preserved g c =
-    let half : IsHalf (λ (n : ℕ). n) (λ n o. None) c.args.numbers.items (c.pop.new.self.items ++ c.in-Some.number ∷ []) c.args.slots.now.slots c.loop-number.slots.slots =
+    let half : IsHalf (λ (n : ℕ). n) (λ n o. None) c.args.numbers.items
+    (c.pop.new.self.items ++ c.in-Some.number ∷ []) c.args.slots.now.slots c.loop-number.slots.slots =
     subst (λ (xs : List ℕ). IsHalf (λ (n : ℕ). n) (λ n o. None) c.args.numbers.items xs c.args.slots.now.slots c.loop-number.slots.slots)
     c.in-Some.ensures.items c.loop-number.invariant.half in
     record {

@@ -14,7 +14,8 @@ pub leave-requires : goal.leave-requires
 leave-requires g c =
     let is : at c.args.slots.now.slots c.args.number ≡ Some c.in-Some.stored = sym c.in-Some.ensures.value in
     let all : take c.part_count.result c.cluster-cluster.result.now.parts ≡ c.in-Some.stored.cluster.parts =
-    take_all c.part_count.result c.cluster-cluster.result.now.parts (not_fewer c.part_count.ensures) ∙ ap (λ (x : Cluster). x.parts) c.cluster-cluster.ensures in (
+    take_all c.part_count.result c.cluster-cluster.result.now.parts (not_fewer c.part_count.ensures)
+    ∙ ap (λ (x : Cluster). x.parts) c.cluster-cluster.ensures in (
       search cluster_in_stored,
       (
         not_more c.part_count.ensures,
@@ -28,7 +29,8 @@ pub returns-clause-shown : goal.returns-clause-shown
 returns-clause-shown g c =
     let is : at c.args.slots.now.slots c.args.number ≡ Some c.in-Some.stored = sym c.in-Some.ensures.value in
     let all : take c.part_count.result c.cluster-cluster.result.now.parts ≡ c.in-Some.stored.cluster.parts =
-    take_all c.part_count.result c.cluster-cluster.result.now.parts (not_fewer c.part_count.ensures) ∙ ap (λ (x : Cluster). x.parts) c.cluster-cluster.ensures in
+    take_all c.part_count.result c.cluster-cluster.result.now.parts (not_fewer c.part_count.ensures)
+    ∙ ap (λ (x : Cluster). x.parts) c.cluster-cluster.ensures in
     let leaves : Leaves c.args.number c.in-Some.stored.cluster.parts [] c.args.index.now c.leave.new.index =
     subst (λ (ps : List Part). Leaves c.args.number ps [] c.args.index.now c.leave.new.index) all c.leave.ensures in
     shown_removed c.args.slots.now.slots c.args.index.now c.requires.shown c.args.number c.try_remove.new.self.slots c.leave.new.index

@@ -20,7 +20,8 @@ insert-requires g c =
     let here = slice_get-get_or parts c.loop-at.at no_part within in
     enter_absent c.args.number c.loop-at.at (length parts) parts (parts_of (option_copied c.args.other)) (get_or parts c.loop-at.at no_part)
     c.entry_of-entry.result here (c.entry_of-entry.ensures.key (get_or parts c.loop-at.at no_part) here) c.args.tag c.args.index.now c.loop-at.index
-    c.loop-at.invariant (λ k f. c.requires.absent k (all_fresh c.args.number parts (parts_of (option_copied c.args.other)) k f)) within (sym c.stays.ensures ∙ c.if-not-stays.true)
+    c.loop-at.invariant (λ k f. c.requires.absent k (all_fresh c.args.number parts (parts_of (option_copied c.args.other)) k f)) within
+    (sym c.stays.ensures ∙ c.if-not-stays.true)
 
 pub returns-in-Err-clause-err : goal.returns-in-Err-clause-err
 returns-in-Err-clause-err g c =
@@ -42,7 +43,8 @@ loop-at-preserved g c =
     elim c.if-not-stays.branch [
       | then-not-stays+in_default w ↦
           enter_next c.args.number c.loop-at.at (length parts) parts others part c.entry_of-entry.result here key c.args.tag c.args.index.now c.loop-at.index
-          c.loop-at.invariant c.entry_of-entry.ensures.number c.if-not-stays.index (w.index-is ∙ w.in_default.ensures.ok) (sym c.stays.ensures ∙ w.if-not-stays.true)
+          c.loop-at.invariant c.entry_of-entry.ensures.number c.if-not-stays.index
+          (w.index-is ∙ w.in_default.ensures.ok) (sym c.stays.ensures ∙ w.if-not-stays.true)
       | else-not-stays w ↦
           subst (λ (xs : Items). Enters c.args.number c.args.tag (take (c.loop-at.at + 1) parts) others c.args.index.now xs) (sym w.index-is)
           (enter_passed c.args.number c.loop-at.at (length parts) parts others part c.entry_of-entry.result here key c.args.tag c.args.index.now c.loop-at.index
@@ -53,7 +55,8 @@ pub returns-clause-ok : goal.returns-clause-ok
 returns-clause-ok g c =
     let parts = c.args.«new».now.parts in
     let all : take c.loop-at.at parts ≡ parts = take_all c.loop-at.at parts (omega (arith, c.part_count-at-end.ensures, c.loop-at-test.false)) in
-    subst (λ (ps : List Part). Enters c.args.number c.args.tag ps (parts_of (option_copied c.args.other)) c.args.index.now c.loop-at.index) all c.loop-at.invariant
+    subst (λ (ps : List Part). Enters c.args.number c.args.tag ps
+    (parts_of (option_copied c.args.other)) c.args.index.now c.loop-at.index) all c.loop-at.invariant
 
 pub part_count-at-end-requires : goal.part_count-at-end-requires
 part_count-at-end-requires g c = search

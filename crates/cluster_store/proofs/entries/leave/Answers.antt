@@ -16,8 +16,10 @@ take-requires g c =
     let parts = c.args.gone.now.parts in
     let within : c.loop-at.at < length parts = omega (arith, c.requires.within) in
     let here = slice_get-get_or parts c.loop-at.at no_part within in
-    leave_there c.args.number c.loop-at.at c.args.count parts (parts_of (option_copied c.args.other)) (get_or parts c.loop-at.at no_part) c.entry_of-entry.result
-    here (c.entry_of-entry.ensures.key (get_or parts c.loop-at.at no_part) here) c.args.index.now c.loop-at.index c.loop-at.invariant c.args.tag c.requires.there
+    leave_there c.args.number c.loop-at.at c.args.count parts (parts_of (option_copied c.args.other))
+    (get_or parts c.loop-at.at no_part) c.entry_of-entry.result
+    here (c.entry_of-entry.ensures.key (get_or parts c.loop-at.at no_part) here)
+    c.args.index.now c.loop-at.index c.loop-at.invariant c.args.tag c.requires.there
     c.loop-at-test.true (sym c.stays.ensures ∙ c.if-not-stays.true)
 
 pub loop-at-preserved : goal.loop-at-preserved
@@ -30,11 +32,13 @@ loop-at-preserved g c =
     let key = c.entry_of-entry.ensures.key part here in
     elim c.if-not-stays.branch [
       | then-not-stays w ↦
-          leave_next c.args.number c.loop-at.at c.args.count parts others part c.entry_of-entry.result here key c.args.index.now c.loop-at.index c.loop-at.invariant
+          leave_next c.args.number c.loop-at.at c.args.count parts others part
+          c.entry_of-entry.result here key c.args.index.now c.loop-at.index c.loop-at.invariant
           c.if-not-stays.index (w.index-is ∙ w.take.ensures) (sym c.stays.ensures ∙ w.if-not-stays.true)
       | else-not-stays w ↦
           subst (λ (xs : Items). Leaves c.args.number (take (c.loop-at.at + 1) parts) others c.args.index.now xs) (sym w.index-is)
-          (leave_passed c.args.number c.loop-at.at c.args.count parts others part c.entry_of-entry.result here key c.args.index.now c.loop-at.index c.loop-at.invariant
+          (leave_passed c.args.number c.loop-at.at c.args.count parts others part
+          c.entry_of-entry.result here key c.args.index.now c.loop-at.index c.loop-at.invariant
           (sym c.stays.ensures ∙ w.if-not-stays.false))
     ]
 

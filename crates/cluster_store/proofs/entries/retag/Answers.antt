@@ -19,10 +19,12 @@ move_tag-requires g c =
     let within : c.loop-at.at < length parts = omega (arith, c.part_count-at-end.ensures) in
     let here = slice_get-get_or parts c.loop-at.at no_part within in
     let key = c.entry_of.ensures.key part here in
-    retag_entry c.args.number c.loop-at.at (length parts) parts [] part c.entry_of.result here key c.args.to c.args.index.now c.loop-at.index c.loop-at.invariant
+    retag_entry c.args.number c.loop-at.at (length parts) parts [] part c.entry_of.result here key
+    c.args.to c.args.index.now c.loop-at.index c.loop-at.invariant
     c.args.from c.entry_of.ensures.number (c.loop-at.invariant.sorted c.requires.listed).1
     (retag_there c.args.number c.loop-at.at (length parts) parts [] part c.entry_of.result here key c.args.to c.args.index.now c.loop-at.index
-    c.loop-at.invariant c.args.from (λ k f. c.requires.there k (all_fresh c.args.number parts [] k f)) within (none_has (key_part c.args.number c.loop-at.at part)))
+    c.loop-at.invariant c.args.from (λ k f. c.requires.there k (all_fresh c.args.number parts [] k f)) within
+    (none_has (key_part c.args.number c.loop-at.at part)))
 
 pub loop-at-preserved : goal.loop-at-preserved
 loop-at-preserved g c =
@@ -34,7 +36,8 @@ loop-at-preserved g c =
     let lacks = none_has (key_part c.args.number c.loop-at.at part) in
     retag_next c.args.number c.loop-at.at (length parts) parts [] part c.entry_of.result here key c.args.to c.args.index.now c.loop-at.index c.loop-at.invariant
     c.args.from c.move_tag.new.self c.move_tag.ensures
-    (retag_there c.args.number c.loop-at.at (length parts) parts [] part c.entry_of.result here key c.args.to c.args.index.now c.loop-at.index c.loop-at.invariant
+    (retag_there c.args.number c.loop-at.at (length parts) parts [] part c.entry_of.result here key
+    c.args.to c.args.index.now c.loop-at.index c.loop-at.invariant
     c.args.from (λ k f. c.requires.there k (all_fresh c.args.number parts [] k f)) within lacks) lacks
 
 pub returns : goal.returns

@@ -21,7 +21,8 @@ loop-at-preserved g c =
     let most = λ (d : Cluster). lowest (λ id. (rate_of d.graph id).size) d.names c.loop-at.lowest in
     let result : c.lowest_of-lowest.result ≡ most x.cluster = c.lowest_of-lowest.ensures.least ∙ ap most c.cluster.ensures in
     let whole : IsCluster (64 * g.row.W) x.cluster = subst (IsCluster (64 * g.row.W)) c.cluster.ensures c.lowest_of-lowest.ensures.whole in
-    let more : take (c.loop-at.at + 1) xs ≡ take c.loop-at.at xs ++ x ∷ [] = ap (λ n. take n xs) (add-one c.loop-at.at) ∙ next_taken xs c.loop-at.at x below here in
+    let more : take (c.loop-at.at + 1) xs ≡ take c.loop-at.at xs ++ x ∷ [] =
+    ap (λ n. take n xs) (add-one c.loop-at.at) ∙ next_taken xs c.loop-at.at x below here in
     record {
       least =
           ap (λ n. lowest_in (map (λ (s : Stored). s.cluster) (drop n xs)) c.lowest_of-lowest.result) (add-one c.loop-at.at)
@@ -36,7 +37,8 @@ loop-at-preserved g c =
 pub returns-clause-whole : goal.returns-clause-whole
 returns-clause-whole g c =
     let low : length c.args.added.now ≤ c.loop-at.at = c.loop-at-test.false in
-    subst (λ (ys : List Stored). (s : Stored) → Contains ys s → IsCluster (64 * g.row.W) s.cluster) (take_all c.loop-at.at c.args.added.now low) c.loop-at.invariant.whole
+    subst (λ (ys : List Stored). (s : Stored) → Contains ys s → IsCluster (64 * g.row.W) s.cluster)
+    (take_all c.loop-at.at c.args.added.now low) c.loop-at.invariant.whole
 
 pub cluster-requires : goal.cluster-requires
 cluster-requires g c = (search, search cluster_in_stored)

@@ -33,7 +33,8 @@ invariant_of-self-2 g c =
     lowest_alike c.lowest_of-least.result c.self.inside.least c.cluster.result.now s.cluster c.cluster.ensures c.lowest_of-least.ensures.least in
     subst (IsKept g.row.W c.add.new.slots.slots c.add.new.index) (sym least)
     (kept_written c.self.inside.slots.slots c.add.new.slots.slots c.in_ok-number.number (Some s)
-    (record { changed = c.in_ok-number.ensures.updates.changed; others = c.in_ok-number.ensures.updates.others }) g.row.W s.cluster c.self.inside.index c.add.new.index
+    (record { changed = c.in_ok-number.ensures.updates.changed; others = c.in_ok-number.ensures.updates.others })
+    g.row.W s.cluster c.self.inside.index c.add.new.index
     c.self.inside.least (λ t is. added_cluster s t is) (subst (IsCluster (64 * g.row.W)) c.cluster.ensures c.lowest_of-least.ensures.whole) c.self.invariant
     c.in_ok-number.ensures.shown)
 

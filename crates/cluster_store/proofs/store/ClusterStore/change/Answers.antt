@@ -31,7 +31,8 @@ exchange_all-requires g c = (
     exchange_fits g.row.W c.self.invariant.narrow,
     (
       c.in_ok-numbers.ensures.shown,
-      exchanged_stored c.args.exchanged.items c.args.moves.now c.self.inside.slots.slots c.args.self.now.clusters (ap (λ (s : Store). s.clusters) c.self.view_is) c.requires
+      exchanged_stored c.args.exchanged.items c.args.moves.now c.self.inside.slots.slots c.args.self.now.clusters
+          (ap (λ (s : Store). s.clusters) c.self.view_is) c.requires
           c.args.added.items c.in_ok-numbers.numbers.items c.add_all.new.slots.slots c.in_ok-numbers.ensures.ok,
     ),
   ),
@@ -43,7 +44,8 @@ take_all-requires g c = (
   (
     c.in-Err.ensures.shown,
     adds_stored c.args.added.items c.in_ok-numbers.numbers.items c.self.inside.slots.slots c.exchange_all.new.slots.slots
-        (adds_same c.args.added.items c.in_ok-numbers.numbers.items c.self.inside.slots.slots c.add_all.new.slots.slots c.in_ok-numbers.ensures.ok c.in_ok-numbers.numbers.items
+        (adds_same c.args.added.items c.in_ok-numbers.numbers.items c.self.inside.slots.slots
+        c.add_all.new.slots.slots c.in_ok-numbers.ensures.ok c.in_ok-numbers.numbers.items
         c.exchange_all.new.slots.slots refl c.in-Err.ensures.err),
   ),
 )
@@ -52,7 +54,8 @@ pub invariant_of-self-in-Err : goal.invariant_of-self-in-Err
 invariant_of-self-in-Err g c =
     kept_same g.row.W c.self.inside.slots.slots c.take_all.new.slots.slots c.self.inside.index c.take_all.new.index c.self.inside.least c.self.invariant
     (adds_undone c.args.added.items c.in_ok-numbers.numbers.items c.self.inside.slots.slots c.exchange_all.new.slots.slots
-    (adds_same c.args.added.items c.in_ok-numbers.numbers.items c.self.inside.slots.slots c.add_all.new.slots.slots c.in_ok-numbers.ensures.ok c.in_ok-numbers.numbers.items
+    (adds_same c.args.added.items c.in_ok-numbers.numbers.items c.self.inside.slots.slots
+    c.add_all.new.slots.slots c.in_ok-numbers.ensures.ok c.in_ok-numbers.numbers.items
     c.exchange_all.new.slots.slots refl c.in-Err.ensures.err) c.take_all.new.slots.slots c.take_all.ensures.out) c.take_all.ensures.shown
 
 pub returns-in-Err-clause-err : goal.returns-in-Err-clause-err
@@ -60,7 +63,8 @@ returns-in-Err-clause-err g c =
     store_same c.self.inside.slots.slots c.take_all.new.slots.slots c.self.inside.index c.take_all.new.index c.self.inside.least c.self.invariant.shown
     c.take_all.ensures.shown
     (adds_undone c.args.added.items c.in_ok-numbers.numbers.items c.self.inside.slots.slots c.exchange_all.new.slots.slots
-    (adds_same c.args.added.items c.in_ok-numbers.numbers.items c.self.inside.slots.slots c.add_all.new.slots.slots c.in_ok-numbers.ensures.ok c.in_ok-numbers.numbers.items
+    (adds_same c.args.added.items c.in_ok-numbers.numbers.items c.self.inside.slots.slots
+    c.add_all.new.slots.slots c.in_ok-numbers.ensures.ok c.in_ok-numbers.numbers.items
     c.exchange_all.new.slots.slots refl c.in-Err.ensures.err) c.take_all.new.slots.slots c.take_all.ensures.out) ∙ c.self.view_is
 
 pub move_all-requires : goal.move_all-requires
@@ -68,21 +72,27 @@ move_all-requires g c = (
   stored_fits g.row.W c.self.invariant.narrow,
   (
     c.in_default.ensures.shown,
-    moves_stored c.args.exchanged.items c.args.moves.now c.self.inside.slots.slots c.args.self.now.clusters (ap (λ (s : Store). s.clusters) c.self.view_is) c.requires
-        c.args.added.items c.in_ok-numbers.numbers.items c.add_all.new.slots.slots c.in_ok-numbers.ensures.ok c.exchange_all.new.slots.slots c.in_default.ensures.ok,
+    moves_stored c.args.exchanged.items c.args.moves.now c.self.inside.slots.slots c.args.self.now.clusters
+        (ap (λ (s : Store). s.clusters) c.self.view_is) c.requires
+        c.args.added.items c.in_ok-numbers.numbers.items c.add_all.new.slots.slots
+        c.in_ok-numbers.ensures.ok c.exchange_all.new.slots.slots c.in_default.ensures.ok,
   ),
 )
 
 pub invariant_of-self-2 : goal.invariant_of-self-2
 invariant_of-self-2 g c =
     let first : c.lowest_exchanged-least.result ≡ lowest_in (map (λ (x : Exchange). x.cluster) c.args.exchanged.items) c.self.inside.least =
-    c.lowest_exchanged-least.ensures.least ∙ ap (λ (xs : List Exchange). lowest_in (map (λ (x : Exchange). x.cluster) xs) c.self.inside.least) c.as_slice.ensures.value in
+    c.lowest_exchanged-least.ensures.least
+    ∙ ap (λ (xs : List Exchange). lowest_in (map (λ (x : Exchange). x.cluster) xs) c.self.inside.least) c.as_slice.ensures.value in
     let all : c.lowest_added-least.result
-    ≡ lowest_in (map (λ (s : Stored). s.cluster) c.args.added.items) (lowest_in (map (λ (x : Exchange). x.cluster) c.args.exchanged.items) c.self.inside.least) =
-    c.lowest_added-least.ensures.least ∙ ap (λ (xs : List Stored). lowest_in (map (λ (s : Stored). s.cluster) xs) c.lowest_exchanged-least.result) c.as_slice-2.ensures.value
+    ≡ lowest_in (map (λ (s : Stored). s.cluster) c.args.added.items)
+    (lowest_in (map (λ (x : Exchange). x.cluster) c.args.exchanged.items) c.self.inside.least) =
+    c.lowest_added-least.ensures.least
+    ∙ ap (λ (xs : List Stored). lowest_in (map (λ (s : Stored). s.cluster) xs) c.lowest_exchanged-least.result) c.as_slice-2.ensures.value
     ∙ ap (lowest_in (map (λ (s : Stored). s.cluster) c.args.added.items)) first in
     subst (IsKept g.row.W c.move_all.new.slots.slots c.move_all.new.index) (sym all)
-    (kept_changed g.row.W c.args.exchanged.items c.args.moves.now c.self.inside.slots.slots c.args.self.now.clusters (ap (λ (s : Store). s.clusters) c.self.view_is) c.requires
+    (kept_changed g.row.W c.args.exchanged.items c.args.moves.now c.self.inside.slots.slots c.args.self.now.clusters
+    (ap (λ (s : Store). s.clusters) c.self.view_is) c.requires
     c.args.added.items c.in_ok-numbers.numbers.items c.add_all.new.slots.slots c.in_ok-numbers.ensures.ok c.exchange_all.new.slots.slots c.in_default.ensures.ok
     c.move_all.new.slots.slots c.move_all.ensures.moved c.self.inside.index c.move_all.new.index c.self.inside.least c.self.invariant c.move_all.ensures.shown
     (λ x here. c.lowest_exchanged-least.ensures.whole x (subst (λ (xs : List Exchange). Contains xs x) (sym c.as_slice.ensures.value) here))
@@ -90,7 +100,8 @@ invariant_of-self-2 g c =
 
 pub returns-clause-change : goal.returns-clause-change
 returns-clause-change g c =
-    makes_change c.args.exchanged.items c.args.moves.now c.self.inside.slots.slots c.args.self.now.clusters (ap (λ (s : Store). s.clusters) c.self.view_is) c.requires
+    makes_change c.args.exchanged.items c.args.moves.now c.self.inside.slots.slots c.args.self.now.clusters
+    (ap (λ (s : Store). s.clusters) c.self.view_is) c.requires
     c.args.added.items c.in_ok-numbers.numbers.items c.add_all.new.slots.slots c.in_ok-numbers.ensures.ok c.exchange_all.new.slots.slots c.in_default.ensures.ok
     c.move_all.new.slots.slots c.move_all.ensures.moved c.begin_anew.new.self.clusters (sym c.begin_anew.ensures.clusters)
 

@@ -16,8 +16,13 @@ use Rattle.cluster_store.proofs.store.ClusterStore.exchange.Goals as goal
 pub exchange-requires : goal.exchange-requires
 exchange-requires g c =
     let there : IsSome (at c.self.inside.slots.slots c.args.number) =
-    shelved_there c.self.inside.slots.slots c.args.number c.args.self.now.clusters (ap (λ (s : Store). s.clusters) c.self.view_is) c.requires in
-    (stored_fits g.row.W c.self.invariant.narrow, (exchange_fits g.row.W c.self.invariant.narrow, (c.self.invariant.shown, subst (λ (x : Exchange). IsSome (at c.self.inside.slots.slots x.number)) (sym c.new-exchanged.ensures) there)))
+    shelved_there c.self.inside.slots.slots c.args.number c.args.self.now.clusters (ap (λ (s : Store). s.clusters) c.self.view_is) c.requires in (
+      stored_fits g.row.W c.self.invariant.narrow,
+      (
+        exchange_fits g.row.W c.self.invariant.narrow,
+        (c.self.invariant.shown, subst (λ (x : Exchange). IsSome (at c.self.inside.slots.slots x.number)) (sym c.new-exchanged.ensures) there),
+      ),
+    )
 
 pub invariant_of-self : goal.invariant_of-self
 invariant_of-self g c =
@@ -39,13 +44,15 @@ invariant_of-self-2 g c =
     let places : Places slots c.exchange.new.slots.slots c.args.number x =
     subst (λ (e : Exchange). Places slots c.exchange.new.slots.slots e.number e.cluster) c.new-exchanged.ensures c.in_ok-exchange.ensures.ok in
     subst (IsKept g.row.W c.exchange.new.slots.slots c.exchange.new.index) (sym c.lowest_of-least.ensures.least)
-    (kept_written slots c.exchange.new.slots.slots c.args.number (with_cluster x (at slots c.args.number)) places g.row.W x c.self.inside.index c.exchange.new.index
+    (kept_written slots c.exchange.new.slots.slots c.args.number
+    (with_cluster x (at slots c.args.number)) places g.row.W x c.self.inside.index c.exchange.new.index
     c.self.inside.least (placed_cluster x (at slots c.args.number)) c.lowest_of-least.ensures.whole c.self.invariant c.in_ok-exchange.ensures.shown)
 
 pub returns-clause-exchanged : goal.returns-clause-exchanged
 returns-clause-exchanged g c =
     let places : Places c.self.inside.slots.slots c.exchange.new.slots.slots c.args.number c.args.cluster =
-    subst (λ (e : Exchange). Places c.self.inside.slots.slots c.exchange.new.slots.slots e.number e.cluster) c.new-exchanged.ensures c.in_ok-exchange.ensures.ok in
+    subst (λ (e : Exchange). Places c.self.inside.slots.slots c.exchange.new.slots.slots e.number e.cluster)
+    c.new-exchanged.ensures c.in_ok-exchange.ensures.ok in
     shelved_placed c.self.inside.slots.slots c.exchange.new.slots.slots c.args.number c.args.cluster places c.args.self.now.clusters
     (shelved c.exchange.new.slots.slots) (ap (λ (s : Store). s.clusters) c.self.view_is) refl
 

@@ -6,8 +6,13 @@ use Rattle.cluster_store.proofs.Sizes.{stored_fits}
 use Rattle.cluster_store.proofs.store.ClusterStore.make_move.Goals as goal
 
 pub make_move-requires : goal.make_move-requires
-make_move-requires g c =
-    (stored_fits g.row.W c.self.invariant.narrow, (c.self.invariant.shown, shelved_there c.self.inside.slots.slots c.args.number c.args.self.now.clusters (ap (λ (s : Store). s.clusters) c.self.view_is) c.requires))
+make_move-requires g c = (
+  stored_fits g.row.W c.self.invariant.narrow,
+  (
+    c.self.invariant.shown,
+    shelved_there c.self.inside.slots.slots c.args.number c.args.self.now.clusters (ap (λ (s : Store). s.clusters) c.self.view_is) c.requires,
+  ),
+)
 
 pub invariant_of-self : goal.invariant_of-self
 invariant_of-self g c =

@@ -8,7 +8,8 @@ use Rattle.cluster_store.proofs.walk.PartWalkIterator.next.Goals as goal
 
 pub invariant_of-self-2 : goal.invariant_of-self-2
 invariant_of-self-2 g c e here =
-    c.self.invariant e (subst (λ (xs : List Entry). Contains xs e) (sym c.in_ok-entry.ensures.steps) (Contains-later c.in_ok-entry.entry e c.next.new.self here))
+    c.self.invariant e (subst (λ (xs : List Entry). Contains xs e)
+    (sym c.in_ok-entry.ensures.steps) (Contains-later c.in_ok-entry.entry e c.next.new.self here))
 
 pub returns-clause-steps : goal.returns-clause-steps
 returns-clause-steps g c =
