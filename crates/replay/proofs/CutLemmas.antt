@@ -38,10 +38,18 @@ feed_later bytes shown line after from front within one is clean = (
 -- the bytes of a line that became too long are dropped
 pub dropped : (long : Bool) (held empty rest : List ℕ) → empty ≡ [] → IsOneLine held
     → (long ≡ true) ⊎ (max_line < length held) → EndsIn long held rest → EndsIn true empty rest
-dropped false held empty rest none one over ends =
-    (rest, sym (ap (λ (xs : List ℕ). rest ++ xs) none ∙ append-nil rest), subst IsOneLine (sym ends) one, elim over [ inl e ↦ absurd (cc) | inr more ↦ omega (arith, ap length ends) ])
-dropped true held empty rest none one over ends =
-    (rest, sym (ap (λ (xs : List ℕ). rest ++ xs) none ∙ append-nil rest), subst IsOneLine (sym ends.1) (All-append (λ byte. byte ≢ 10) ends.0 held ends.2 one), omega (arith, ap length ends.1, length-append ends.0 held, ends.3))
+dropped false held empty rest none one over ends = (
+  rest,
+  sym (ap (λ (xs : List ℕ). rest ++ xs) none ∙ append-nil rest),
+  subst IsOneLine (sym ends) one,
+  elim over [ inl e ↦ absurd (cc) | inr more ↦ omega (arith, ap length ends) ],
+)
+dropped true held empty rest none one over ends = (
+  rest,
+  sym (ap (λ (xs : List ℕ). rest ++ xs) none ∙ append-nil rest),
+  subst IsOneLine (sym ends.1) (All-append (λ byte. byte ≢ 10) ends.0 held ends.2 one),
+  omega (arith, ap length ends.1, length-append ends.0 held, ends.3),
+)
 
 -- more bytes came
 pub ends_more : (long : Bool) (held more rest : List ℕ) → EndsIn long held rest → EndsIn long (held ++ more) (rest ++ more)
@@ -53,8 +61,10 @@ pub takes_of : (stage : Stage) (old new : Option (List ℕ)) (came more past : L
     → Consumes old new came → (length came ≡ 0 → IsAtEnd new) → CountsWithin stage taken more past → TakesTo Open stage old new more taken
 takes_of Open old new came more past taken parts read end counts =
     subst (Consumes old new) (parts ∙ ap (λ (xs : List ℕ). more ++ xs) counts.2 ∙ append-nil more) read
-takes_of Ended old new came more past taken parts read end counts =
-    (subst (Consumes old new) (parts ∙ ap (λ (xs : List ℕ). more ++ xs) counts.2 ∙ append-nil more) read, end (omega (arith, ap length parts, length-append more past, ap length counts.1, ap length counts.2)))
+takes_of Ended old new came more past taken parts read end counts = (
+  subst (Consumes old new) (parts ∙ ap (λ (xs : List ℕ). more ++ xs) counts.2 ∙ append-nil more) read,
+  end (omega (arith, ap length parts, length-append more past, ap length counts.1, ap length counts.2)),
+)
 takes_of Past old new came more past taken parts read end counts = (past, counts.1, subst (Consumes old new) parts read, counts.0)
 
 pub counts_within : (stage : Stage) (taken : ℕ) (more past : List ℕ) → CountsWithin stage taken more past → taken ≤ max_input
@@ -121,7 +131,10 @@ takes_on Past mid last a b c m n t u one is two = absurd (let e = one.0 in cc)
 pub reads_on : (old mid new : Cutter) (a b c : Option (List ℕ)) (m n : List ℕ)
     → Reads old mid a b m → mid.stage ≡ Open → Reads mid new b c n → Reads old new a c (m ++ n)
 reads_on old mid new a b c m n one is two =
-    record { takes = takes_on old.stage mid.stage new.stage a b c m n mid.taken new.taken one.takes is two.takes; taken = omega (arith, one.taken, two.taken, length-append m n) }
+    record {
+      takes = takes_on old.stage mid.stage new.stage a b c m n mid.taken new.taken one.takes is two.takes;
+      taken = omega (arith, one.taken, two.taken, length-append m n);
+    }
 
 -- nothing is read
 takes_none : (stage : Stage) (a : Option (List ℕ)) (t : ℕ) → TakesTo stage stage a a [] t
@@ -156,5 +169,10 @@ read_more Ended new a b c input more t u one two sum =
     (subst (λ (xs : List ℕ). Consumes a c xs × IsAtEnd c) (sym (ap (λ (xs : List ℕ). input ++ xs) two.2 ∙ append-nil input))
     (subst (λ (o : Option (List ℕ)). Consumes a o input × IsAtEnd o) (sym two.1) one))
 read_more Past new a b c input more t u one two sum =
-    subst (λ (s : Stage). TakesTo Open s a c (input ++ more) u) (sym two.0)
-    (one.0, one.1, subst (λ (xs : List ℕ). Consumes a c (xs ++ one.0)) (sym (ap (λ (xs : List ℕ). input ++ xs) two.2 ∙ append-nil input)) (subst (λ (o : Option (List ℕ)). Consumes a o (input ++ one.0)) (sym two.1) one.2), omega (arith, sum, ap length two.2, one.3))
+    subst (λ (s : Stage). TakesTo Open s a c (input ++ more) u) (sym two.0) (
+      one.0,
+      one.1,
+      subst (λ (xs : List ℕ). Consumes a c (xs ++ one.0)) (sym (ap (λ (xs : List ℕ). input ++ xs) two.2 ∙ append-nil input))
+          (subst (λ (o : Option (List ℕ)). Consumes a o (input ++ one.0)) (sym two.1) one.2),
+      omega (arith, sum, ap length two.2, one.3),
+    )

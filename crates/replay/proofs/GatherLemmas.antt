@@ -57,8 +57,15 @@ front_of_both : (a b : Option (List ℕ)) (held now text : List ℕ) → Grows a
 front_of_both None b held now text grows part = ([], (held ++ text, refl), tt)
 front_of_both (Some x) None held now text grows part = absurd grows.1
 front_of_both (Some x) (Some y) held now text grows part =
-    let out = out_of_both x y held now part.0 grows.0 grows.1 part.2 in
-    (grows.0, (now ++ part.1.0, sym (append_assoc grows.0 now part.1.0) ∙ ap (λ (bytes : List ℕ). bytes ++ part.1.0) out ∙ append_assoc held part.0 part.1.0 ∙ ap (λ (bytes : List ℕ). held ++ bytes) part.1.1), grows.1)
+    let out = out_of_both x y held now part.0 grows.0 grows.1 part.2 in (
+      grows.0,
+      (
+        now ++ part.1.0,
+        sym (append_assoc grows.0 now part.1.0) ∙ ap (λ (bytes : List ℕ). bytes ++ part.1.0) out
+            ∙ append_assoc held part.0 part.1.0 ∙ ap (λ (bytes : List ℕ). held ++ bytes) part.1.1,
+      ),
+      grows.1,
+    )
 
 all_of_both : (a b : Option (List ℕ)) (held now text : List ℕ) → Grows a b
     → Appends (append_known a held) (append_known b now) text → HasSent a b (held ++ text) now
@@ -70,9 +77,19 @@ all_of_both (Some x) (Some y) held now text grows whole = (grows.0, sym (out_of_
 pub gathers_of : {T E : Type 0} (a b old new : Option (List ℕ)) (held left text : List ℕ) (p q : ℕ) (result : Result T E)
     → old ≡ append_known a held → new ≡ append_known b left → Writes old new p q result text → Grows a b → Gathers a b held left result text
 gathers_of a b old new held left text p q (Ok value) first second writes grows =
-    record { ok = all_of_both a b held left text grows (subst (λ (o : Option (List ℕ)). Appends o (append_known b left) text) first (subst (λ (n : Option (List ℕ)). Appends old n text) second writes.ok)); err = tt }
+    record {
+      ok = all_of_both a b held left text grows
+          (subst (λ (o : Option (List ℕ)). Appends o (append_known b left) text) first
+          (subst (λ (n : Option (List ℕ)). Appends old n text) second writes.ok));
+      err = tt;
+    }
 gathers_of a b old new held left text p q (Err error) first second writes grows =
-    record { ok = tt; err = front_of_both a b held left text grows (subst (λ (o : Option (List ℕ)). AppendsFront o (append_known b left) text) first (subst (λ (n : Option (List ℕ)). AppendsFront old n text) second writes.err)) }
+    record {
+      ok = tt;
+      err = front_of_both a b held left text grows
+          (subst (λ (o : Option (List ℕ)). AppendsFront o (append_known b left) text) first
+          (subst (λ (n : Option (List ℕ)). AppendsFront old n text) second writes.err));
+    }
 
 -- ---- what went out since the first
 pub sent_nothing : (a : Option (List ℕ)) → HasSent a a [] []
@@ -94,7 +111,11 @@ pub sent_more_of : (a b c : Option (List ℕ)) (all held left : List ℕ) → Ha
 sent_more_of None b c all held left one two = tt
 sent_more_of (Some x) None c all held left one two = absurd one
 sent_more_of (Some x) (Some y) None all held left one two = absurd two.2
-sent_more_of (Some x) (Some y) (Some z) all held left one two = (one.0 ++ two.0, one.1 ∙ ap (λ (bytes : List ℕ). one.0 ++ bytes) two.1 ∙ sym (append_assoc one.0 two.0 left), two.2 ∙ ap (λ (bytes : List ℕ). bytes ++ two.0) one.2 ∙ append_assoc x one.0 two.0)
+sent_more_of (Some x) (Some y) (Some z) all held left one two = (
+  one.0 ++ two.0,
+  one.1 ∙ ap (λ (bytes : List ℕ). one.0 ++ bytes) two.1 ∙ sym (append_assoc one.0 two.0 left),
+  two.2 ∙ ap (λ (bytes : List ℕ). bytes ++ two.0) one.2 ∙ append_assoc x one.0 two.0,
+)
 
 -- all went out
 pub sent_all : (a b c : Option (List ℕ)) (all held : List ℕ) → HasSent a b all held → Appends b c held → Appends a c all
@@ -111,6 +132,10 @@ sent_front (Some x) None c all held text one two = absurd one
 sent_front (Some x) (Some y) None all held text one two = absurd two.2
 sent_front (Some x) (Some y) (Some z) all held text one two = (
   one.0 ++ two.0,
-  (two.1.0, append_assoc one.0 two.0 two.1.0 ∙ ap (λ (bytes : List ℕ). one.0 ++ bytes) two.1.1 ∙ sym (append_assoc one.0 held text) ∙ ap (λ (bytes : List ℕ). bytes ++ text) (sym one.1)),
+  (
+    two.1.0,
+    append_assoc one.0 two.0 two.1.0 ∙ ap (λ (bytes : List ℕ). one.0 ++ bytes) two.1.1
+        ∙ sym (append_assoc one.0 held text) ∙ ap (λ (bytes : List ℕ). bytes ++ text) (sym one.1),
+  ),
   two.2 ∙ ap (λ (bytes : List ℕ). bytes ++ two.0) one.2 ∙ append_assoc x one.0 two.0,
 )

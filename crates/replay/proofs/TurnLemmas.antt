@@ -313,7 +313,12 @@ limited Past left now first written got is one out = record {
   read = (got.read.0, got.read.1, got.read.2, omega (arith, got.taken, got.read.3));
   output = record {
     text = flat_map answer_text got.answers;
-    output = record { lines = got.lines; rest = got.rest; cut = cut_of got.input got.rest got.lines got.given (λ last. let e = last.0 in cc) one; run = (got.answers, got.state, got.run, refl) };
+    output = record {
+      lines = got.lines;
+      rest = got.rest;
+      cut = cut_of got.input got.rest got.lines got.given (λ last. let e = last.0 in cc) one;
+      run = (got.answers, got.state, got.run, refl);
+    };
     written = out;
   };
 }
@@ -327,7 +332,12 @@ faulted Open left now first written got is one out = record {
   read = (got.read, omega (arith, got.taken, got.within));
   output = record {
     text = flat_map answer_text got.answers;
-    output = record { lines = got.lines; rest = got.rest; cut = cut_of got.input got.rest got.lines got.given (λ last. let e = last.0 in cc) one; run = (got.answers, got.state, got.run, refl) };
+    output = record {
+      lines = got.lines;
+      rest = got.rest;
+      cut = cut_of got.input got.rest got.lines got.given (λ last. let e = last.0 in cc) one;
+      run = (got.answers, got.state, got.run, refl);
+    };
     written = out;
   };
 }

@@ -10,7 +10,8 @@ written : (xs ys : List ℕ) (end k n : ℕ) → n ≡ length xs → length ys �
 written xs ys end k n whole part all =
     let front = length-take-le end xs (omega arith) in
     let long : length (put_mid end k xs ys) ≡ length xs = omega
-    (arith, front, length-append (take end xs) (ys ++ post_of end k xs), length-append ys (post_of end k xs), length-drop k (drop end xs), length-drop end xs) in
+    (arith, front, length-append (take end xs) (ys ++ post_of end k xs), length-append ys (post_of end k xs), length-drop k (drop end xs), length-drop end xs)
+    in
     ap (λ (zs : List ℕ). take n (put_mid end k xs ys ++ zs)) (drop_all (length (put_mid end k xs ys)) xs (omega arith))
     ∙ ap (take n) (append-nil _) ∙ take_all n (put_mid end k xs ys) (omega arith)
 

@@ -10,8 +10,16 @@ pieces-preserved g c =
     let items = c.pieces.held.items in
     let piece = take_rest c.deref.result.now c.pieces.at ∙ ap (drop c.pieces.at) c.deref.ensures.value in
     record {
-      within = omega
-          (arith, c.in-Ok.ensures.bound.0, ap length piece, length-drop c.pieces.at items, ap length c.deref.ensures.value, c.deref.ensures.len, c.len.ensures, c.pieces-test.true);
+      within = omega (
+        arith,
+        c.in-Ok.ensures.bound.0,
+        ap length piece,
+        length-drop c.pieces.at items,
+        ap length c.deref.ensures.value,
+        c.deref.ensures.len,
+        c.len.ensures,
+        c.pieces-test.true,
+      );
       kept = c.pieces.invariant.kept;
       out = sent_more items c.pieces.at c.in-Ok.count _ _ _ _ piece c.pieces.invariant.out c.in-Ok.ensures.bytes;
       same = c.in-Ok.ensures.cause.ok ∙ c.pieces.invariant.same;
@@ -31,5 +39,8 @@ returns-in-Err-clause-sends g c =
 pub returns-clause-sends : goal.returns-clause-sends
 returns-clause-sends g c =
     let items = c.pieces.held.items in
-    let all : take c.pieces.at items ≡ items = take_all c.pieces.at items (omega (arith, c.pieces-test.false, c.len.ensures, c.pieces.held.ok.0)) in
-    (items, ap (λ v. v.items) (sym c.pieces.invariant.kept) ∙ sym (ap (λ (bytes : List ℕ). items ++ bytes) c.clear.ensures.items ∙ append-nil items), subst (λ (bytes : List ℕ). Appends (g.K.Sink.written c.args.sink.now) (g.K.Sink.written c.pieces.sink) bytes) all c.pieces.invariant.out)
+    let all : take c.pieces.at items ≡ items = take_all c.pieces.at items (omega (arith, c.pieces-test.false, c.len.ensures, c.pieces.held.ok.0)) in (
+      items,
+      ap (λ v. v.items) (sym c.pieces.invariant.kept) ∙ sym (ap (λ (bytes : List ℕ). items ++ bytes) c.clear.ensures.items ∙ append-nil items),
+      subst (λ (bytes : List ℕ). Appends (g.K.Sink.written c.args.sink.now) (g.K.Sink.written c.pieces.sink) bytes) all c.pieces.invariant.out,
+    )

@@ -8,8 +8,11 @@ use Rattle.replay.proofs.lines.Lines.find.Goals as goal
 
 pub reads-init : goal.reads-init
 reads-init g c = record {
-  reads = λ rest leaves.
-      ([], reads_none c.args.self.now (g.S.Source.left c.args.source.now), subst (λ (bytes : List ℕ). Leaves c.args.self.now bytes) (sym (append-nil rest)) leaves);
+  reads = λ rest leaves. (
+    [],
+    reads_none c.args.self.now (g.S.Source.left c.args.source.now),
+    subst (λ (bytes : List ℕ). Leaves c.args.self.now bytes) (sym (append-nil rest)) leaves,
+  );
   same = refl;
   lighter = omega arith;
   still = λ ready. (refl, refl);

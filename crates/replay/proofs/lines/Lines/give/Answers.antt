@@ -7,4 +7,5 @@ use Rattle.replay.proofs.lines.Lines.give.Goals as goal
 pub give_last-requires-clause-stopped : goal.give_last-requires-clause-stopped
 give_last-requires-clause-stopped c =
     let one = rw c.in-None.is at c.self.invariant.0 in
-    elim c.requires [ inl line ↦ absurd (not_line c.args.self.now.held (subst (λ (k : Cutter). IsOneLine k.held) c.self.view_is one) line) | inr stopped ↦ stopped ]
+    elim c.requires
+    [ inl line ↦ absurd (not_line c.args.self.now.held (subst (λ (k : Cutter). IsOneLine k.held) c.self.view_is one) line) | inr stopped ↦ stopped ]
