@@ -1,10 +1,5 @@
 -- One line of a session.
-use Rattle.std.proofs.Common.{◌≡◌, ℕ, ◌≤◌, List, length, subst, sym, refl, ap, inl, inr, ◌⊎◌}
-use Rattle.wire.specs.declared.line.Line.{Line}
-use Rattle.wire.specs.declared.line.Line.TheVariants as lines
-use Rattle.wire.specs.Readings.{meaning_of}
-use Rattle.graph_model.specs.States.{State}
-use Rattle.graph_model.specs.Commands.{Command}
+use Rattle.std.proofs.Common.{ℕ, ◌≤◌, List, length, subst, sym, refl}
 use Rattle.graph_model.specs.Lines.{Meaning, Quiet, Says, NoForm, Means, max_line}
 use Rattle.graph_model.specs.Runs.{Answer}
 use Rattle.tx_graph.specs.Kept.{Kept, StandsFor}

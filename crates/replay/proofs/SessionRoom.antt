@@ -1,6 +1,6 @@
 -- A graph fits in memory where the session that holds it does.
 use prog.Memory.{up}
-use Rattle.std.proofs.Common.{ℕ, ◌+◌, ◌<◌, ◌≤◌, arith}
+use Rattle.std.proofs.Common.{ℕ, ◌+◌, ◌<◌, arith}
 use Rattle.replay.proofs.Rooms.{graph_room}
 
 abbrev pub session_room : ℕ → ℕ

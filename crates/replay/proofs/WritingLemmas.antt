@@ -12,7 +12,6 @@ use Rattle.cluster.specs.declared.cluster.PartRef.{PartRef}
 use Rattle.cluster_store.specs.Lent.{lent}
 use Rattle.graph_model.specs.Texts.{chunk_line}
 use Rattle.graph_model.specs.Words.{line_text}
-use Rattle.wire.specs.Pieces.{GoesOn}
 use Rattle.wire.proofs.WriteLemmas.{goes_further}
 use Rattle.replay.specs.Writings.{GoesOnLines}
 

@@ -1,10 +1,7 @@
 -- What lines ask for, as commands.
-use Rattle.std.specs.Prelude.{◌≡◌}
 use Rattle.graph_model.specs.Commands.{Command}
 use Rattle.graph_model.specs.Commands as commands
 use Rattle.graph_model.specs.Lines.{Meaning, Quiet, NoForm, Says}
-use Rattle.graph_model.specs.Runs as runs
-use Rattle.tx_graph.specs.Kept.{Kept}
 use Rattle.replay.specs.declared.reading.Reading.{Reading}
 use Rattle.replay.specs.declared.reading.Reading.TheVariants as readings
 use Rattle.replay.specs.declared.request.Change.{Change}

@@ -1,4 +1,4 @@
-use Rattle.std.proofs.Common.{◌≡◌, List, ℕ, map, sym, ap, subst, ◌∙◌}
+use Rattle.std.proofs.Common.{List, map, ap, subst, ◌∙◌}
 use Rattle.cluster_store.specs.Lent.{lent}
 use Rattle.std.proofs.lemmas.List.{map-append}
 use Rattle.graphs.specs.Certificates.{Part}

@@ -1,4 +1,4 @@
-use Rattle.std.proofs.Common.{◌≡◌, ℕ, List, ◌++◌, map, take}
+use Rattle.std.proofs.Common.{◌≡◌, ◌++◌, map}
 use Rattle.cluster_store.specs.Lent.{lent}
 use Rattle.graph_model.specs.Answers.{order_of}
 use Rattle.levels.specs.Levels.{level_at}

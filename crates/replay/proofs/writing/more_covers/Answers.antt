@@ -1,4 +1,4 @@
-use Rattle.std.proofs.Common.{◌≡◌, List, ℕ, map, ◌∷◌, []}
+use Rattle.std.proofs.Common.{ℕ, map, ◌∷◌, []}
 use Rattle.std.proofs.lemmas.List.{map-append}
 use Rattle.graph_model.specs.Texts.{edge_line}
 use Rattle.replay.proofs.WritingLemmas.{lines_on, rest_same}

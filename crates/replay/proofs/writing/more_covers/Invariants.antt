@@ -1,4 +1,4 @@
-use Rattle.std.proofs.Common.{◌≡◌, ℕ, List, ◌++◌, map, take}
+use Rattle.std.proofs.Common.{◌≡◌, ◌++◌, map}
 use Rattle.graph_model.specs.Texts.{edge_line}
 use Rattle.replay.specs.Writings.{GoesOnLines}
 use Rattle.replay.proofs.writing.more_covers.Given as goal

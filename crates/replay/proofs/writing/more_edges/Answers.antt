@@ -1,4 +1,4 @@
-use Rattle.std.proofs.Common.{rules, ◌≡◌, List, ℕ, map, take, get_or, ◌∷◌, [], ◌++◌, sym, ap, subst, ◌∙◌}
+use Rattle.std.proofs.Common.{rules, List, ℕ, map, take, get_or, ◌∷◌, [], ◌++◌, sym, ap, subst, ◌∙◌}
 use Rattle.std.proofs.lemmas.List.{map-append, take_more}
 use Rattle.graph_model.specs.Answers.{order_of}
 use Rattle.graph_model.specs.Texts.{edge_line}

@@ -1,4 +1,4 @@
-use Rattle.std.proofs.Common.{◌≡◌, ℕ, List, ◌++◌, map, take}
+use Rattle.std.proofs.Common.{map, take}
 use Rattle.graph_model.specs.Texts.{flow_line}
 use Rattle.replay.specs.Writings.{GoesOnLines}
 use Rattle.replay.proofs.writing.more_flows.Given as goal

@@ -1,4 +1,4 @@
-use Rattle.std.proofs.Common.{◌≡◌, List, ℕ, map, flat_map, ◌∷◌, [], ◌++◌, refl, sym, subst, ◌∙◌, append_assoc}
+use Rattle.std.proofs.Common.{List, map, flat_map, ◌∷◌, [], ◌++◌, refl, sym, subst, ◌∙◌, append_assoc}
 use Rattle.cluster_store.specs.Lent.{lent}
 use Rattle.graphs.specs.Certificates.{Part}
 use Rattle.graph_model.specs.Texts.{chunk_line, flow_line, part_lines}

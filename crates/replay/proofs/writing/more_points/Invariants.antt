@@ -1,4 +1,4 @@
-use Rattle.std.proofs.Common.{◌≡◌, ℕ, ℤ, List, map}
+use Rattle.std.proofs.Common.{map}
 use Rattle.graph_model.specs.Replies.{point_line}
 use Rattle.replay.specs.Writings.{GoesOnLines}
 use Rattle.replay.proofs.writing.more_points.Given as goal

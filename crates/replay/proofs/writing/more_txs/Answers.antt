@@ -1,4 +1,4 @@
-use Rattle.std.proofs.Common.{◌≡◌, List, ℕ, map, take, get_or, ◌∷◌, [], ◌++◌, sym, ap, ◌∙◌}
+use Rattle.std.proofs.Common.{map, take, get_or, ◌∷◌, [], ◌++◌, sym, ap, ◌∙◌}
 use Rattle.fee_rate.specs.declared.rates.FeeRate.{FeeRate}
 use Rattle.graph_model.specs.Texts.{tx_line}
 use Rattle.levels.specs.Levels.{level_at}

@@ -1,4 +1,4 @@
-use Rattle.std.proofs.Common.{◌≡◌, ℕ, List, ◌++◌, map, take}
+use Rattle.std.proofs.Common.{map, take}
 use Rattle.levels.specs.Levels.{level_at}
 use Rattle.replay.specs.Writings.{GoesOnLines, tx_line_of}
 use Rattle.replay.proofs.writing.more_txs.Given as goal

@@ -1,4 +1,4 @@
-use Rattle.std.proofs.Common.{◌≡◌, ℤ, FitsSigned, rules, List, ℕ, subst, sym, ap, ◌∙◌}
+use Rattle.std.proofs.Common.{FitsSigned, rules}
 use Rattle.std.specs.Int.{w64, w128}
 use Rattle.std.proofs.lemmas.Int.{to_z-of_z}
 use Rattle.replay.proofs.WritingLemmas.{chunk_writes}

@@ -1,4 +1,4 @@
-use Rattle.std.proofs.Common.{◌≡◌, ℕ, List, refl, sym, map, decimal, ◌∷◌, []}
+use Rattle.std.proofs.Common.{refl}
 use Rattle.graph_model.specs.Replies.{Refused, Done, Ids, Number, Stands, Compared, Settled}
 use Rattle.graph_model.specs.Runs as runs
 use Rattle.replay.proofs.WritingLemmas.{one_line}

@@ -1,4 +1,3 @@
-use Rattle.std.proofs.Common.{◌≡◌, refl}
 use Rattle.tx_graph.specs.Readings.{part_reply}
 use Rattle.replay.proofs.commands.TxGraphObeys.read.Goals as goal
 

@@ -1,7 +1,7 @@
 use Rattle.std.proofs.Common.{subst, sym, List, ℕ, ◌≡◌, ◌<◌, ◌≤◌, ◌+◌}
 use Rattle.tx_graph.specs.Kept.{Kept}
 use Rattle.replay.specs.Answers.{Tells}
-use Rattle.replay.specs.Sessions.{Answers, Suits}
+use Rattle.replay.specs.Sessions.{Answers}
 use Rattle.replay.proofs.SessionRoom.{graph_in_session}
 use Rattle.replay.proofs.session.Session.one.Goals as goal
 
