@@ -11,10 +11,19 @@ loop-place-init g c = Numbering-start (places (64 * g.row.W) c.args.within.now) 
     (c.into_iter-place-iterator.ensures.into_iter_gives ∙ c.iter-place-items.ensures.places)
 
 pub has-requires : goal.has-requires
-has-requires g c = (search rules, (places-here (64 * g.row.W) c.args.within.now c.loop-place.yielded c.next.new.self c.in-Some.place (sym c.loop-place.invariant.split ∙ ap (λ xs. c.loop-place.yielded ++ xs) c.in-Some.ensures.steps)).0)
+has-requires g c = (
+  search rules,
+  (places-here (64 * g.row.W) c.args.within.now c.loop-place.yielded c.next.new.self c.in-Some.place
+      (sym c.loop-place.invariant.split ∙ ap (λ xs. c.loop-place.yielded ++ xs) c.in-Some.ensures.steps)).0,
+)
 
 pub insert-requires : goal.insert-requires
-insert-requires g c = (search rules, room_left (places (64 * g.row.W) c.args.within.now) c.args.first c.args.old.now c.loop-place.numbers c.loop-place.number (fin.len c.args.within.now) (64 * g.row.W) _ _ _ c.in-Some.place c.loop-place.invariant c.in-Some.ensures.steps (sym (len-places (64 * g.row.W) c.args.within.now c.iter-place-items.ensures.within)) c.requires.room)
+insert-requires g c = (
+  search rules,
+  room_left (places (64 * g.row.W) c.args.within.now) c.args.first c.args.old.now c.loop-place.numbers c.loop-place.number (fin.len c.args.within.now)
+      (64 * g.row.W) _ _ _ c.in-Some.place c.loop-place.invariant c.in-Some.ensures.steps
+      (sym (len-places (64 * g.row.W) c.args.within.now c.iter-place-items.ensures.within)) c.requires.room,
+)
 
 pub overflow_add-number : goal.overflow_add-number
 overflow_add-number g c =
