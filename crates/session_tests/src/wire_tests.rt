@@ -301,7 +301,9 @@ fn replies() -> &'static [Reply<'static>] {
 }
 
 fn text() -> &'static str {
-    "ok\nincomparable\naborted worse\nsame\nblock -2100000000000000000000 220 3 18446744073709551615\nids\nchunk -2100000000000000000000 220 2 1\npoint 0 -1\ntx 1 -9223372036854775808 2\nedge 1 2\nflow 2 1 1000000000000000000000000000000\nrefused count 65\nrefused nostaging\n"
+    "ok\nincomparable\naborted worse\nsame\nblock -2100000000000000000000 220 3 18446744073709551615\n\
+     ids\nchunk -2100000000000000000000 220 2 1\npoint 0 -1\ntx 1 -9223372036854775808 2\nedge 1 2\n\
+     flow 2 1 1000000000000000000000000000000\nrefused count 65\nrefused nostaging\n"
 }
 
 /// Writes a line.

@@ -22,5 +22,10 @@ loop-claim-preserved g c =
             | inr same ↦ All-contains (λ (f : Flow). 1 ≤ f.amount) new.flows flow c.in_ok-part_of.ensures.some
                 (subst (λ (p : Part). Contains p.flows flow) (sym same) there)
           ],
-      omega (arith, ap (sum_by (λ (p : Part). amount_of p.flows)) items ∙ sum_by_push (λ (p : Part). amount_of p.flows) c.loop-claim.parts.items new, c.in_ok-part_of.ensures.small, c.loop-claim.invariant.2),
+      omega (
+        arith,
+        ap (sum_by (λ (p : Part). amount_of p.flows)) items ∙ sum_by_push (λ (p : Part). amount_of p.flows) c.loop-claim.parts.items new,
+        c.in_ok-part_of.ensures.small,
+        c.loop-claim.invariant.2,
+      ),
     )
