@@ -1,12 +1,9 @@
 -- The names of a cluster are those of its order.
-use Rattle.std.proofs.Common.{◌≡◌, ℕ, suc, ◌+◌, ◌<◌, List, [], ◌∷◌, flat_map, Some, Contains, inl, inr, sym, subst, arith}
+use Rattle.std.proofs.Common.{ℕ, suc, ◌+◌, ◌<◌, List, [], ◌∷◌, flat_map, Contains, inl, inr, subst, arith}
 use Rattle.std.proofs.lemmas.List.Elements.{Contains-append_cases}
 use Rattle.std.proofs.lemmas.List.Concat.{flat_map-cons}
-use Rattle.std.specs.Prelude.{slice_get}
 use Rattle.lists.proofs.Entries.{Contains-cases, Contains-later, Contains-head, none_in_empty}
 use Rattle.graphs.specs.Closures.{IsClosed}
-use Rattle.graphs.specs.Closing.{IsClosureOf}
-use Rattle.graphs.specs.Graphs.{Graph}
 use Rattle.graphs.specs.Certificates.{Part}
 use Rattle.graphs.proofs.ClosureGraphs.{closures_have_graphs}
 use Rattle.cluster.specs.Clusters.{Cluster, IsCluster}

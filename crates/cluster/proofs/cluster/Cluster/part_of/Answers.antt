@@ -1,7 +1,7 @@
 use Rattle.std.proofs.Common.{◌*◌, ◌<◌, arith, subst}
 use Rattle.std.proofs.lemmas.Option.{slice_get-get_or}
-use Rattle.std.proofs.Common.{sym, ap, ◌∙◌, Some}
-use Rattle.cluster.specs.Clusters.{Cluster, IsCluster}
+use Rattle.std.proofs.Common.{ap, ◌∙◌, Some}
+use Rattle.cluster.specs.Clusters.{IsCluster}
 use Rattle.cluster.specs.Kept.{cut}
 use Rattle.cluster.proofs.Kept.{IsCluster-named}
 use Rattle.cluster.proofs.Placed.{in_order, in_a_part}

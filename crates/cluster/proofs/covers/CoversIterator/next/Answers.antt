@@ -1,4 +1,4 @@
-use Rattle.std.proofs.Common.{ℕ, List, ◌∷◌, Contains, sym, subst}
+use Rattle.std.proofs.Common.{ℕ, List, Contains, sym, subst}
 use Rattle.lists.proofs.Entries.{Contains-later}
 use Rattle.cluster.proofs.covers.CoversIterator.next.Goals as goal
 
