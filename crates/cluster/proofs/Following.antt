@@ -170,7 +170,11 @@ module _ (f : ℕ → ℕ) (order : List ℕ) (old new : Part) (once : AreDistin
                   absurd (places_apart (links_of new.flows) i j (0, 0) once_links earlier (subst (λ m. j < m) (sym long) low)
                   (link_at i (omega arith) ∙ (λ t. (slice_index order (parents.0 t), slice_index order (same t))) ∙ sym (link_at j low)))
               | inr other ↦
-                  inr (ap (slice_index order) parents.0, before (get_or read.moved i no_flow).parent (get_or read.moved j no_flow).parent (let e : (get_or read.moved i no_flow).parent ≤ (get_or read.moved j no_flow).parent = parents.1 in omega arith) bounds.1 one.1 two.1)
+                  inr (
+                    ap (slice_index order) parents.0,
+                    before (get_or read.moved i no_flow).parent (get_or read.moved j no_flow).parent
+                        (let e : (get_or read.moved i no_flow).parent ≤ (get_or read.moved j no_flow).parent = parents.1 in omega arith) bounds.1 one.1 two.1,
+                  )
             ]
           ]
 

@@ -180,11 +180,22 @@ module _ (n : ℕ) (xs ys : List ℕ) (f g h : Closure) (one : IsNamed n xs f) (
     unfolding Linked
     linked low below across = elim across [
       | inl up ↦
-          let l : length all ≡ length xs + length ys = long in
-          (a, b - length xs, up.0, omega (arith, up.1), subst (IsRelated h' a) (let later : length xs ≤ b = up.1 in let e : b ≡ length xs + (b - length xs) = omega arith in e) (joined_up low below))
+          let l : length all ≡ length xs + length ys = long in (
+            a,
+            b - length xs,
+            up.0,
+            omega (arith, up.1),
+            subst (IsRelated h' a) (let later : length xs ≤ b = up.1 in let e : b ≡ length xs + (b - length xs) = omega arith in e) (joined_up low below),
+          )
       | inr down ↦
-          let l : length all ≡ length xs + length ys = long in
-          (b, a - length xs, down.1, omega (arith, down.0), subst (IsRelated h' b) (let later : length xs ≤ a = down.0 in let e : a ≡ length xs + (a - length xs) = omega arith in e) (turn a b (joined_up low below)))
+          let l : length all ≡ length xs + length ys = long in (
+            b,
+            a - length xs,
+            down.1,
+            omega (arith, down.0),
+            subst (IsRelated h' b) (let later : length xs ≤ a = down.0 in let e : a ≡ length xs + (a - length xs) = omega arith in e)
+                (turn a b (joined_up low below)),
+          )
     ]
 
     pub IsNamed-joined : a < length (xs ++ ys) → b < length (xs ++ ys) → IsAcross (length xs) a b → IsClosed n h' → IsNamed n (xs ++ ys) h'
@@ -248,10 +259,16 @@ module _ (n : ℕ) (xs ys : List ℕ) (f g h : Closure) (one : IsNamed n xs f) (
 
     in_all : (id : ℕ) → Stands xs id ⊎ Stands ys id → Stands all id
     in_all id at = elim at [
-      | inl first ↦
-          (first.0, (let l : length all ≡ length xs + length ys = long in let p : first.0 < length xs = first.1 in omega arith), first_at first.0 first.1 ∙ first.2)
-      | inr second ↦
-          (length xs + second.0, (let l : length all ≡ length xs + length ys = long in let p : second.0 < length ys = second.1 in omega arith), second_at second.0 ∙ second.2)
+      | inl first ↦ (
+        first.0,
+        (let l : length all ≡ length xs + length ys = long in let p : first.0 < length xs = first.1 in omega arith),
+        first_at first.0 first.1 ∙ first.2,
+      )
+      | inr second ↦ (
+        length xs + second.0,
+        (let l : length all ≡ length xs + length ys = long in let p : second.0 < length ys = second.1 in omega arith),
+        second_at second.0 ∙ second.2,
+      )
     ]
 
     above_ends : (a d : ℕ) → H a d ≡ true → Stands all a × Stands all d

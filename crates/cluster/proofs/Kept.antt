@@ -61,8 +61,10 @@ module _ (n : ℕ) (names : List ℕ) (g : Closure) (kept : IsNamed n names g) w
 
   among_named : (a d : ℕ) → is_ancestor (named names g) a d ≡ true → (is_member (named names g) a ≡ true) × (is_member (named names g) d ≡ true)
   among_named a d up =
-      let at = ancestor-stands names g kept.once a d up in
-      (subst (λ x. is_member (named names g) x ≡ true) at.4 (named-member names g kept.once at.0 at.2), subst (λ x. is_member (named names g) x ≡ true) at.5 (named-member names g kept.once at.1 at.3))
+      let at = ancestor-stands names g kept.once a d up in (
+        subst (λ x. is_member (named names g) x ≡ true) at.4 (named-member names g kept.once at.0 at.2),
+        subst (λ x. is_member (named names g) x ≡ true) at.5 (named-member names g kept.once at.1 at.3),
+      )
 
   pub order_named : IsOrder (is_member (named names g)) (is_ancestor (named names g))
   order_named = record { among = among_named; reflexive = reflexive_named; transitive = transitive_named; antisymmetric = antisymmetric_named }

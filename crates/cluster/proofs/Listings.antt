@@ -68,8 +68,13 @@ module _ (n : ℕ) (names : List ℕ) (g : Closure) (kept : IsNamed n names g) w
       (λ id down.
       let at = ancestor-stands names g kept.once (slice_index names p) id down in
       let same : at.0 ≡ p = one_place names at.0 p 0 kept.once at.2 low at.4 in
-      let above : is_ancestor g p at.1 ≡ true = subst (λ q. is_ancestor g q at.1 ≡ true) same at.6 in
-      (at.1, at.3, ap (λ s. set.contains s at.1) is ∙ contains-descendants_of g p at.1 ∙ and_from (is_member g at.1) (is_ancestor g p at.1) (place_member n names g kept at.1 at.3) above, at.5))
+      let above : is_ancestor g p at.1 ≡ true = subst (λ q. is_ancestor g q at.1 ≡ true) same at.6 in (
+        at.1,
+        at.3,
+        ap (λ s. set.contains s at.1) is ∙ contains-descendants_of g p at.1
+            ∙ and_from (is_member g at.1) (is_ancestor g p at.1) (place_member n names g kept at.1 at.3) above,
+        at.5,
+      ))
       lists
 
   -- the sizes so far with that of the next place

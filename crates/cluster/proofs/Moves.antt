@@ -40,7 +40,10 @@ none_same x (z ∷ ys) all y here = elim (Contains-cases z y ys here) [
 
 distinct_from : (xs : List (ℕ × ℕ)) → IsDistinct same_link xs → AreDistinct xs
 distinct_from [] once = tt
-distinct_from (x ∷ xs) once = (λ here. true≢false (sym (is_link x x refl) ∙ none_same x xs (IsDistinct-head same_link x xs once) x here), distinct_from xs (IsDistinct-tail same_link x xs once))
+distinct_from (x ∷ xs) once = (
+  λ here. true≢false (sym (is_link x x refl) ∙ none_same x xs (IsDistinct-head same_link x xs once) x here),
+  distinct_from xs (IsDistinct-tail same_link x xs once),
+)
 
 distinct_to : (xs : List (ℕ × ℕ)) → AreDistinct xs → IsDistinct same_link xs
 distinct_to xs once = IsDistinct-from_apart same_link xs

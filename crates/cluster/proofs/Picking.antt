@@ -118,8 +118,13 @@ module _ (n : ℕ) (names : List ℕ) (g : Closure) (kept : IsNamed n names g) (
       λ h. let old = (is_renamed.names h.0).0 h.1 in subst (Contains graph.names) (sym (at_place old.0 old.1).1 ∙ ap (slice_index names) old.2 ∙ h.2) old.1,
     );
     pairs = λ parent child. (
-      λ here. let both = ends_here parent child here in
-          (place parent, place child, (is_renamed.pairs (place parent) (place child)).1 (parent, child, here, refl, refl), (at_place parent both.0).1, (at_place child both.1).1),
+      λ here. let both = ends_here parent child here in (
+        place parent,
+        place child,
+        (is_renamed.pairs (place parent) (place child)).1 (parent, child, here, refl, refl),
+        (at_place parent both.0).1,
+        (at_place child both.1).1,
+      ),
       λ h.
           let old = (is_renamed.pairs h.0 h.1).0 h.2 in
           let both = ends_here old.0 old.1 old.2 in

@@ -190,7 +190,11 @@ module _ (n : ℕ) (names : List ℕ) (g : Closure) (kept : IsNamed n names g) (
 
     -- done before, or chosen now
     done_before : (p : ℕ) → IsDone rest p → IsDone next p
-    done_before p done = record { low = done.low; other = done.other; taken = false_from_ne_true (set.contains next p) (λ here. true≢false (sym (next_rest p here).0 ∙ done.taken)) }
+    done_before p done = record {
+      low = done.low;
+      other = done.other;
+      taken = false_from_ne_true (set.contains next p) (λ here. true≢false (sym (next_rest p here).0 ∙ done.taken));
+    }
 
     done_chosen : (p : ℕ) → set.contains chosen p ≡ true → IsDone next p
     done_chosen p held =
@@ -201,7 +205,11 @@ module _ (n : ℕ) (names : List ℕ) (g : Closure) (kept : IsNamed n names g) (
     done_cases p done = elim (cases_Bool (set.contains chosen p)) [
       | inl held ↦ inr held
       | inr other ↦ inl
-          (record { low = done.low; other = done.other; taken = false_from_ne_true (set.contains rest p) (λ here. true≢false (sym (rest_next p here other) ∙ done.taken)) })
+          (record {
+            low = done.low;
+            other = done.other;
+            taken = false_from_ne_true (set.contains rest p) (λ here. true≢false (sym (rest_next p here other) ∙ done.taken));
+          })
     ]
 
     chosen_at : (id : ℕ) → Contains part.names id → IsChosen names chosen id
@@ -249,7 +257,15 @@ module _ (n : ℕ) (names : List ℕ) (g : Closure) (kept : IsNamed n names g) (
     before_both : (a d : ℕ) (done : AreDone next a d) → IsDone rest done.first → IsDone rest done.second → IsAncestorIn (parts ++ part ∷ []) a d
     before_both a d done one two =
         let old = so.back a d
-        (record { first = done.first; second = done.second; first_done = one; second_done = two; first_is = done.first_is; second_is = done.second_is; above = done.above }) in
+        (record {
+          first = done.first;
+          second = done.second;
+          first_done = one;
+          second_done = two;
+          first_is = done.first_is;
+          second_is = done.second_is;
+          above = done.above;
+        }) in
         (old.0, Contains-append_left parts (part ∷ []) old.0 old.1, old.2)
 
     -- a place done before is not related to one of the rest
@@ -337,8 +353,16 @@ module _ (n : ℕ) (names : List ℕ) (g : Closure) (kept : IsNamed n names g) (
             so.back a d (record {
               first = at.0;
               second = at.1;
-              first_done = record { low = at.2; other = λ held. all.0 (subst (Contains gone) at.4 held); taken = ap (λ s. set.contains s at.0) none ∙ contains-empty at.0 };
-              second_done = record { low = at.3; other = λ held. all.1 (subst (Contains gone) at.5 held); taken = ap (λ s. set.contains s at.1) none ∙ contains-empty at.1 };
+              first_done = record {
+                low = at.2;
+                other = λ held. all.0 (subst (Contains gone) at.4 held);
+                taken = ap (λ s. set.contains s at.0) none ∙ contains-empty at.0;
+              };
+              second_done = record {
+                low = at.3;
+                other = λ held. all.1 (subst (Contains gone) at.5 held);
+                taken = ap (λ s. set.contains s at.1) none ∙ contains-empty at.1;
+              };
               first_is = at.4;
               second_is = at.5;
               above = at.6;

@@ -18,7 +18,13 @@ optimal_near-requires g c =
         search rules,
         (
           search rules,
-          (omega arith, (omega arith, (has_rates (64 * g.row.W) c.args.names.now c.args.dep.now c.requires, is_component (64 * g.row.W) c.args.names.now c.args.dep.now c.requires))),
+          (
+            omega arith,
+            (
+              omega arith,
+              (has_rates (64 * g.row.W) c.args.names.now c.args.dep.now c.requires, is_component (64 * g.row.W) c.args.names.now c.args.dep.now c.requires),
+            ),
+          ),
         ),
       ),
     )
@@ -29,7 +35,8 @@ read-requires g c =
       search rules,
       (
         omega (arith, c.work.invariant.0, c.as_mut_slice.ensures.len),
-        is_placed (64 * g.row.W) c.args.names.now c.args.dep.now c.requires c.optimal_near.ensures.stands.0 c.optimal_near.new.out c.optimal_near.ensures.stands.1
+        is_placed (64 * g.row.W) c.args.names.now c.args.dep.now c.requires
+            c.optimal_near.ensures.stands.0 c.optimal_near.new.out c.optimal_near.ensures.stands.1
             (c.optimal_near.ensures.certificate c.optimal_near.ensures.stands.0 c.optimal_near.ensures.stands.1),
       ),
     )

@@ -24,8 +24,10 @@ merge-requires g c =
     let second : set.len (members_of c.other.inside.dep) ≡ length c.other.inside.names.items =
     members_long (64 * g.row.W) c.other.inside.names.items c.other.inside.dep c.other.invariant.place in
     let one : length c.self.inside.names.items ≡ length c.args.self.now.names = ap (λ (s : Cluster). length s.names) c.self.view_is in
-    let two : length c.other.inside.names.items ≡ length c.args.other.now.names = ap (λ (s : Cluster). length s.names) c.other.view_is in
-    ((let fits : cluster_room g.row.W < 9223372036854775808 = search in dep_in_cluster g.row.W fits), subst₂ (λ (m n : ℕ). m + n ≤ 64 * g.row.W) (sym (first ∙ one)) (sym (second ∙ two)) c.requires.few)
+    let two : length c.other.inside.names.items ≡ length c.args.other.now.names = ap (λ (s : Cluster). length s.names) c.other.view_is in (
+      (let fits : cluster_room g.row.W < 9223372036854775808 = search in dep_in_cluster g.row.W fits),
+      subst₂ (λ (m n : ℕ). m + n ≤ 64 * g.row.W) (sym (first ∙ one)) (sym (second ∙ two)) c.requires.few,
+    )
 
 pub place_of-above-requires : goal.place_of-above-requires
 place_of-above-requires g c =

@@ -63,7 +63,8 @@ certified-requires g c =
               c.place_of.result c.args.id c.args.fee
               (at_in c.as_slice-3.result.now c.self.inside.names.items c.place_of.result c.args.id
               (c.as_slice-3.ensures ∙ items) c.place_of.ensures.within c.place_of.ensures.here)
-              c.set_fee.new.self (subst (λ (z : ℤ). SetsFee c.in_ok-dep.dep c.set_fee.new.self c.place_of.result z) (to_z-of_z c.ranges.fee) c.set_fee.ensures.fee)
+              c.set_fee.new.self (subst (λ (z : ℤ). SetsFee c.in_ok-dep.dep c.set_fee.new.self c.place_of.result z)
+              (to_z-of_z c.ranges.fee) c.set_fee.ensures.fee)
               c.requires.fee c.set_fee.ensures.closed),
         ),
       ),

@@ -40,7 +40,17 @@ loop-first-init g c = record {
 }
 
 pub component-chosen-requires : goal.component-chosen-requires
-component-chosen-requires g c = ((let fits : cluster_room g.row.W < 9223372036854775808 = search in dep_in_cluster g.row.W fits), ((let fits : cluster_room g.row.W < 9223372036854775808 = search in words_in_cluster g.row.W fits), (holds_members (64 * g.row.W) c.self.inside.names.items c.self.inside.dep c.self.invariant.place c.args.names.now c.loop-first.rest c.loop-first.clusters.items c.loop-first.invariant.splitting, c.in-Some.ensures.least.member)))
+component-chosen-requires g c = (
+  (let fits : cluster_room g.row.W < 9223372036854775808 = search in dep_in_cluster g.row.W fits),
+  (
+    (let fits : cluster_room g.row.W < 9223372036854775808 = search in words_in_cluster g.row.W fits),
+    (
+      holds_members (64 * g.row.W) c.self.inside.names.items c.self.inside.dep c.self.invariant.place c.args.names.now
+          c.loop-first.rest c.loop-first.clusters.items c.loop-first.invariant.splitting,
+      c.in-Some.ensures.least.member,
+    ),
+  ),
+)
 
 pub part-requires : goal.part-requires
 part-requires g c = (
