@@ -78,8 +78,13 @@ two_equal (suc n) f below =
 
     lift : ((i : ℕ) → i < suc n → f i ≡ f (suc n) → ⊥) → (i : ℕ) × (j : ℕ) × (i < j) × (j ≤ n) × (pick i (cases_eq (f i) n) ≡ pick j (cases_eq (f j) n))
         → (i : ℕ) × (j : ℕ) × (i < j) × (j ≤ suc n) × (f i ≡ f j)
-    lift none hit =
-        (hit.0, hit.1, hit.2, omega (arith, hit.3), equal none hit.0 hit.1 (omega (arith, hit.2, hit.3)) (omega (arith, hit.3)) (cases_eq (f hit.0) n) (cases_eq (f hit.1) n) hit.4)
+    lift none hit = (
+      hit.0,
+      hit.1,
+      hit.2,
+      omega (arith, hit.3),
+      equal none hit.0 hit.1 (omega (arith, hit.2, hit.3)) (omega (arith, hit.3)) (cases_eq (f hit.0) n) (cases_eq (f hit.1) n) hit.4,
+    )
 
 module _ (p q : ℕ → ℕ) (mutual-pq : IsMutual p q) where
   pub next-one_to_one : (s t : ℕ) → p s ≡ p t → s ≡ t

@@ -74,13 +74,27 @@ module _ {S : Type 0} where
       let whole = length-append b.items (flat bs) in
       let here : i ≡ x = omega arith in
       let inside : x < length b.items = omega arith in
-      record { block = b; at = refl; within = inside; small = laid.0.1; bounded = laid.1; read = ap (slice_get (b.items ++ flat bs)) here ∙ slice_get-left b.items (flat bs) x inside }
+      record {
+        block = b;
+        at = refl;
+        within = inside;
+        small = laid.0.1;
+        bounded = laid.1;
+        read = ap (slice_get (b.items ++ flat bs)) here ∙ slice_get-left b.items (flat bs) x inside;
+      }
   find k w (suc full) (b ∷ bs) laid zero x i place small within =
       let e : k + 0 ≡ k = omega arith in
       let same : 2 ^ (k + 0) * w ≡ 2 ^ k * w = ap (λ n. 2 ^ n * w) e in
       let here : i ≡ x = omega arith in
       let inside : x < length b.items = omega (arith, laid.0.0, laid.1) in
-      record { block = b; at = refl; within = inside; small = laid.0.1; bounded = omega (arith, laid.1); read = ap (slice_get (b.items ++ flat bs)) here ∙ slice_get-left b.items (flat bs) x inside }
+      record {
+        block = b;
+        at = refl;
+        within = inside;
+        small = laid.0.1;
+        bounded = omega (arith, laid.1);
+        read = ap (slice_get (b.items ++ flat bs)) here ∙ slice_get-left b.items (flat bs) x inside;
+      }
   find k w zero (b ∷ bs) laid (suc j) x i place small within =
       let none = ap length (flat-empty (k + 1) w bs laid.2) in
       let whole = length-append b.items (flat bs) in
@@ -96,7 +110,14 @@ module _ {S : Type 0} where
       let rest = i - 2 ^ k * w in
       let beyond : i ≡ length b.items + rest = omega (arith, doubled k w, laid.0.0, laid.1) in
       let found = find (k + 1) w full bs laid.2 j x rest (omega (arith, doubled k w)) (omega arith) (omega (arith, doubled k w)) in
-      record { block = found.block; at = found.at; within = found.within; small = found.small; bounded = found.bounded; read = slice_get-right b.items (flat bs) i rest beyond ∙ found.read }
+      record {
+        block = found.block;
+        at = found.at;
+        within = found.within;
+        small = found.small;
+        bounded = found.bounded;
+        read = slice_get-right b.items (flat bs) i rest beyond ∙ found.read;
+      }
 
   -- a block's item was written
   pub record Rewritten (k w full : ℕ) (bs new : List (Chunk S)) (i : ℕ) (y : S) : Type 0 where

@@ -188,7 +188,12 @@ module _ {T : Type 0} where
     apart-steps r a b in_range live_a live_b apart steps =
         let same = sym (next_slot-of s l issued r) in
         let back : Reaches (next_in l r) b.slot a.slot = Reaches-sym (next_in l r) a.slot b.slot (comes_round r a.slot in_range) steps in
-        apart (record { from = live_a; to = live_b; steps = subst (λ (f : ℕ → ℕ). Reaches f a.slot b.slot) same steps; back = subst (λ (f : ℕ → ℕ). Reaches f b.slot a.slot) same back })
+        apart (record {
+          from = live_a;
+          to = live_b;
+          steps = subst (λ (f : ℕ → ℕ). Reaches f a.slot b.slot) same steps;
+          back = subst (λ (f : ℕ → ℕ). Reaches f b.slot a.slot) same back;
+        })
 
     -- the rings that a contract sees after two were joined
     pub unites_join : (new : Links) (r : ℕ) (a b : Key) → r < R → Splices (next_in l r) (next_in new r) a.slot b.slot

@@ -60,9 +60,19 @@ module _ {T : Type 0} where
   pub SameRings-of : (old new : Nodes T) (r : ℕ) → SameValues old new → next_slot new r ≡ next_slot old r → SameRings old new r
   SameRings-of old new r same steps x y = (
     λ ring.
-        record { from = subst IsSome (same x) ring.from; to = subst IsSome (same y) ring.to; steps = subst (λ f. Reaches f x.slot y.slot) steps ring.steps; back = subst (λ f. Reaches f y.slot x.slot) steps ring.back },
+        record {
+          from = subst IsSome (same x) ring.from;
+          to = subst IsSome (same y) ring.to;
+          steps = subst (λ f. Reaches f x.slot y.slot) steps ring.steps;
+          back = subst (λ f. Reaches f y.slot x.slot) steps ring.back;
+        },
     λ ring.
-        record { from = subst IsSome (sym (same x)) ring.from; to = subst IsSome (sym (same y)) ring.to; steps = subst (λ f. Reaches f x.slot y.slot) (sym steps) ring.steps; back = subst (λ f. Reaches f y.slot x.slot) (sym steps) ring.back },
+        record {
+          from = subst IsSome (sym (same x)) ring.from;
+          to = subst IsSome (sym (same y)) ring.to;
+          steps = subst (λ f. Reaches f x.slot y.slot) (sym steps) ring.steps;
+          back = subst (λ f. Reaches f y.slot x.slot) (sym steps) ring.back;
+        },
   )
 
   pub SameRings-trans : (first mid last : Nodes T) (r : ℕ) → SameRings first mid r → SameRings mid last r → SameRings first last r
@@ -149,9 +159,19 @@ module _ {T : Type 0} where
             key-unique new x key ring.to live (walk_stays (next_slot old r) key.slot x.slot still (subst (λ f. Reaches f key.slot x.slot) steps ring.steps));
         others = λ x y not_x not_y. (
           λ ring.
-              record { from = subst IsSome (others x not_x) ring.from; to = subst IsSome (others y not_y) ring.to; steps = subst (λ f. Reaches f x.slot y.slot) steps ring.steps; back = subst (λ f. Reaches f y.slot x.slot) steps ring.back },
+              record {
+                from = subst IsSome (others x not_x) ring.from;
+                to = subst IsSome (others y not_y) ring.to;
+                steps = subst (λ f. Reaches f x.slot y.slot) steps ring.steps;
+                back = subst (λ f. Reaches f y.slot x.slot) steps ring.back;
+              },
           λ ring.
-              record { from = subst IsSome (sym (others x not_x)) ring.from; to = subst IsSome (sym (others y not_y)) ring.to; steps = subst (λ f. Reaches f x.slot y.slot) (sym steps) ring.steps; back = subst (λ f. Reaches f y.slot x.slot) (sym steps) ring.back },
+              record {
+                from = subst IsSome (sym (others x not_x)) ring.from;
+                to = subst IsSome (sym (others y not_y)) ring.to;
+                steps = subst (λ f. Reaches f x.slot y.slot) (sym steps) ring.steps;
+                back = subst (λ f. Reaches f y.slot x.slot) (sym steps) ring.back;
+              },
         );
       }
 

@@ -8,8 +8,10 @@ pub get_mut-requires : goal.get_mut-requires
 get_mut-requires g c =
     let slots = c.self.inside.cells.slots in let xs = somes slots in let n = c.self.inside.capacity in
     let within : c.args.index < length xs = rw (← c.self.view_is) at c.requires in
-    let found = slice_get-some xs c.args.index within in
-    (sym c.self.invariant.memory.0, (found.0, ap (λ ps. get_or ps c.args.index None) c.self.invariant.laid ∙ get_or-places xs (n - length xs) c.args.index found.0 found.1))
+    let found = slice_get-some xs c.args.index within in (
+      sym c.self.invariant.memory.0,
+      (found.0, ap (λ ps. get_or ps c.args.index None) c.self.invariant.laid ∙ get_or-places xs (n - length xs) c.args.index found.0 found.1),
+    )
 
 pub invariant_of-self-lent : goal.invariant_of-self-lent
 invariant_of-self-lent g c w =

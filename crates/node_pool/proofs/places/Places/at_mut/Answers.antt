@@ -58,6 +58,13 @@ returns g c =
     let at : slice_get p.blocks.items j ≡ Some c.index_mut.result.now = found.at ∙ ap Some (sym same) in
     let inside : o < length c.index_mut.result.now.items = subst (λ (b : Chunk g.row.S.Denot). o < length b.items) (sym same) found.within in
     let spot : c.args.slot + p.width ≡ 2 ^ j * p.width + o = rw width (let place = c.locate-block.ensures.place in omega arith) in (
-      (refl, λ x. rw (← c.self.view_is) (ap (λ xs. row xs p.room p.width) (ArePlaces-write p c.self.invariant j o c.args.slot spot c.index_mut.result.now at inside x).items)),
-      record { writes_back = tt; value = rw (← c.self.view_is) (found.read ∙ ap (λ (b : Chunk g.row.S.Denot). slice_get b.items o) (sym same) ∙ c.get_mut.ensures.value) },
+      (
+        refl,
+        λ x. rw (← c.self.view_is)
+            (ap (λ xs. row xs p.room p.width) (ArePlaces-write p c.self.invariant j o c.args.slot spot c.index_mut.result.now at inside x).items),
+      ),
+      record {
+        writes_back = tt;
+        value = rw (← c.self.view_is) (found.read ∙ ap (λ (b : Chunk g.row.S.Denot). slice_get b.items o) (sym same) ∙ c.get_mut.ensures.value);
+      },
     )

@@ -9,8 +9,13 @@ use Rattle.node_pool.proofs.store.Store.node_mut.Goals as goal
 pub invariant_of-self-lent : goal.invariant_of-self-lent
 invariant_of-self-lent g c w =
     let found = held_at c.self.inside.entries.items c.args.slot (rw (← c.self.view_is) at c.requires) in
-    let same = length-set c.self.inside.entries.items c.args.slot (Held w) in
-    (IsSound-rewrite _ _ _ c.args.slot found.0 w c.self.invariant.0 found.1, c.self.invariant.1, omega (arith, c.self.invariant.2), c.self.invariant.3, c.self.invariant.4)
+    let same = length-set c.self.inside.entries.items c.args.slot (Held w) in (
+      IsSound-rewrite _ _ _ c.args.slot found.0 w c.self.invariant.0 found.1,
+      c.self.invariant.1,
+      omega (arith, c.self.invariant.2),
+      c.self.invariant.3,
+      c.self.invariant.4,
+    )
 
 pub returns : goal.returns
 returns g c =

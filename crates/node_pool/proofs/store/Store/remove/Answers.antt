@@ -9,8 +9,13 @@ pub invariant_of-self : goal.invariant_of-self
 invariant_of-self g c =
     let found = held_at c.self.inside.entries.items c.args.slot (rw (← c.self.view_is) at c.requires) in
     let same = length-set c.self.inside.entries.items c.args.slot (Vacant c.self.inside.next) in
-    rw c.replace.ensures.after
-    (IsSound-vacate _ _ _ c.args.slot found.0 c.self.invariant.0 found.1, c.self.invariant.1, omega (arith, c.self.invariant.2), c.self.invariant.3, c.self.invariant.4)
+    rw c.replace.ensures.after (
+      IsSound-vacate _ _ _ c.args.slot found.0 c.self.invariant.0 found.1,
+      c.self.invariant.1,
+      omega (arith, c.self.invariant.2),
+      c.self.invariant.3,
+      c.self.invariant.4,
+    )
 
 pub unreachable-requires : goal.unreachable-requires
 unreachable-requires g c =
