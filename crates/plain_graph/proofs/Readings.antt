@@ -48,15 +48,21 @@ pub steps_paired_again : (old new : Kept) (a b : ℕ) → new.limits ≡ old.lim
     → Contains old.pairs (a, b) → ((state : PlainState) → StandsFor old state → RefusalIs state (Dep a b) None) → Steps old new (Dep a b) Done
 steps_paired_again old new a b limits begins txs pairs here none =
     steps_accepted old new (Dep a b) Done none
-    (λ table has.
-    (begun (state_of old table), stands_changed old new table old.pairs has limits begins txs pairs, λ picks. record { answer = refl; change = inl (here, refl) }))
+    (λ table has. (
+      begun (state_of old table),
+      stands_changed old new table old.pairs has limits begins txs pairs,
+      λ picks. record { answer = refl; change = inl (here, refl) },
+    ))
 
 pub steps_paired : (old new : Kept) (a b : ℕ) → new.limits ≡ old.limits → new.begun ≡ true → new.txs ≡ old.txs → new.pairs ≡ old.pairs ++ (a, b) ∷ []
     → (Contains old.pairs (a, b) → ⊥) → ((state : PlainState) → StandsFor old state → RefusalIs state (Dep a b) None) → Steps old new (Dep a b) Done
 steps_paired old new a b limits begins txs pairs absent none =
     steps_accepted old new (Dep a b) Done none
-    (λ table has.
-    (with_top (begun (state_of old table)) (record { names = names_of old.txs; pairs = old.pairs ++ (a, b) ∷ [] }), stands_changed old new table (old.pairs ++ (a, b) ∷ []) has limits begins txs pairs, λ picks. record { answer = refl; change = inr (absent, refl) }))
+    (λ table has. (
+      with_top (begun (state_of old table)) (record { names = names_of old.txs; pairs = old.pairs ++ (a, b) ∷ [] }),
+      stands_changed old new table (old.pairs ++ (a, b) ∷ []) has limits begins txs pairs,
+      λ picks. record { answer = refl; change = inr (absent, refl) },
+    ))
 
 same_ends : (names : List ℕ) (a b : ℕ) (pair : ℕ × ℕ) → ◌≡◌ {A = ℕ × ℕ} (a, b) pair
     → Contains names a → Contains names b → Contains names pair.0 × Contains names pair.1
@@ -95,7 +101,10 @@ steps_up old new level id same here lists =
       state_of old table,
       stands_still old new same (state_of old table) (stands_for old table has),
       λ picks.
-          record { answer = (new.found, subst (λ (at : Graph). Lists (λ a. IsAncestor at.pairs a id) new.found) (sym (level-main old table level)) lists, refl); change = refl },
+          record {
+            answer = (new.found, subst (λ (at : Graph). Lists (λ a. IsAncestor at.pairs a id) new.found) (sym (level-main old table level)) lists, refl);
+            change = refl;
+          },
     ))
 
 steps_down : (old new : Kept) (level : Level) (id : ℕ) → IsSameGraph old new → Contains (names_of old.txs) id
@@ -107,7 +116,10 @@ steps_down old new level id same here lists =
       state_of old table,
       stands_still old new same (state_of old table) (stands_for old table has),
       λ picks.
-          record { answer = (new.found, subst (λ (at : Graph). Lists (λ d. IsAncestor at.pairs id d) new.found) (sym (level-main old table level)) lists, refl); change = refl },
+          record {
+            answer = (new.found, subst (λ (at : Graph). Lists (λ d. IsAncestor at.pairs id d) new.found) (sym (level-main old table level)) lists, refl);
+            change = refl;
+          },
     ))
 
 steps_around : (old new : Kept) (level : Level) (id : ℕ) → IsSameGraph old new → Contains (names_of old.txs) id
@@ -119,7 +131,10 @@ steps_around old new level id same here lists =
       state_of old table,
       stands_still old new same (state_of old table) (stands_for old table has),
       λ picks.
-          record { answer = (new.found, subst (λ (at : Graph). Lists (AreConnected at.pairs id) new.found) (sym (level-main old table level)) lists, refl); change = refl },
+          record {
+            answer = (new.found, subst (λ (at : Graph). Lists (AreConnected at.pairs id) new.found) (sym (level-main old table level)) lists, refl);
+            change = refl;
+          },
     ))
 
 -- what a reading says of its result

@@ -45,8 +45,10 @@ other-Contains id (name ∷ names) n here =
     as (λ b. eqb name id ≡ b → Contains (cond (not b) (name ∷ other_names id names) (other_names id names)) n → Contains (name ∷ names) n × (n ≢ id)) [
       | true ↦ λ is here. let later = other-Contains id names n here in (Contains-later name n names later.0, later.1)
       | false ↦ λ is here. elim (Contains-cases name n (other_names id names) here) [
-        | inl same ↦
-            (subst (Contains (name ∷ names)) same (Contains-head name names), λ e. let t : eqb name id ≡ true = (Decides-eqb name id).1 (same ∙ e) in let f : true ≡ false = sym t ∙ is in cc)
+        | inl same ↦ (
+          subst (Contains (name ∷ names)) same (Contains-head name names),
+          λ e. let t : eqb name id ≡ true = (Decides-eqb name id).1 (same ∙ e) in let f : true ≡ false = sym t ∙ is in cc,
+        )
         | inr after ↦ let later = other-Contains id names n after in (Contains-later name n names later.0, later.1)
       ]
     ]) refl here

@@ -68,7 +68,12 @@ spreading_on way pairs first now id so out =
     let enough : length so.held.names ≤ length now.ids + now.room = so.held.enough in
     let same : length now.ids + now.room ≡ length first.ids + first.room = so.same_room in
     record {
-      held = record { names = so.held.names; ends = so.held.ends; inside = inside_push way pairs now.ids so.held.names id so.held.ends so.held.inside out; enough = omega arith };
+      held = record {
+        names = so.held.names;
+        ends = so.held.ends;
+        inside = inside_push way pairs now.ids so.held.names id so.held.ends so.held.inside out;
+        enough = omega arith;
+      };
       distinct = distinct_push now.ids id so.distinct out.outside;
       starts = λ q here. Contains-append_left now.ids (id ∷ []) q (so.starts q here);
       reached = λ q here. elim (Contains-push_cases now.ids id q here) [

@@ -36,7 +36,14 @@ pub record HasTable (txs : List Tx) (table : Table) : Type 0 where
 -- the one state with this table that a plain graph stands for
 abbrev pub state_of : Kept → Table → PlainState
 state_of kept table =
-    record { limits = kept.limits; most = MAX_COUNT; begun = kept.begun; table = table; main = record { names = names_of kept.txs; pairs = kept.pairs }; staging = None }
+    record {
+      limits = kept.limits;
+      most = MAX_COUNT;
+      begun = kept.begun;
+      table = table;
+      main = record { names = names_of kept.txs; pairs = kept.pairs };
+      staging = None;
+    }
 
 pub stands_for : (kept : Kept) (table : Table) → HasTable kept.txs table → StandsFor kept (state_of kept table)
 stands_for kept table has = record { limits = refl; most = refl; begun = refl; table = has.gets; live = has.live; names = refl; pairs = refl; staging = refl }
@@ -46,7 +53,14 @@ pub of_states : (kept : Kept) (P : PlainState → Type 0) → ((table : Table) �
     → (state : PlainState) → StandsFor kept state → P state
 of_states kept P holds state stands =
     let same : state_of kept state.table ≡ state =
-    λ i. record { limits = sym stands.limits i; most = sym stands.most i; begun = sym stands.begun i; table = state.table; main = record { names = sym stands.names i; pairs = sym stands.pairs i }; staging = sym stands.staging i } in
+    λ i. record {
+      limits = sym stands.limits i;
+      most = sym stands.most i;
+      begun = sym stands.begun i;
+      table = state.table;
+      main = record { names = sym stands.names i; pairs = sym stands.pairs i };
+      staging = sym stands.staging i;
+    } in
     subst P same (holds state.table (record { gets = stands.table; live = stands.live }))
 
 -- two graphs that differ at most in what the last reading found and in the count of additions

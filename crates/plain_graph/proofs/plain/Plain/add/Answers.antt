@@ -19,7 +19,14 @@ pub invariant_of-self-then-is_err-2 : goal.invariant_of-self-then-is_err-2
 invariant_of-self-then-is_err-2 c =
     let same : c.push.new.self.items ≡ c.self.inside.txs.items = search rules in
     rw same
-    (record { in_range = c.self.invariant.in_range; small = c.self.invariant.small; names_once = c.self.invariant.names_once; pairs_once = c.self.invariant.pairs_once; ends = c.self.invariant.ends; enough = omega (arith, c.self.invariant.enough, c.make_room.ensures.kept) })
+    (record {
+      in_range = c.self.invariant.in_range;
+      small = c.self.invariant.small;
+      names_once = c.self.invariant.names_once;
+      pairs_once = c.self.invariant.pairs_once;
+      ends = c.self.invariant.ends;
+      enough = omega (arith, c.self.invariant.enough, c.make_room.ensures.kept);
+    })
 
 pub returns-then-is_err-2-clause-step : goal.returns-then-is_err-2-clause-step
 returns-then-is_err-2-clause-step c =
