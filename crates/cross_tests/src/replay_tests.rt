@@ -104,16 +104,19 @@ const RUNS: [Row; 15] = [
     ),
     ("# c\n\nadd 1 5 5\r\ncount main", "ok\ncount 1\n"),
     (
-        "add 1 2100000000000000 1\nadd 2 -2100000000000000 404000\nadd 3 2100000000000001 1\nadd 3 -2100000000000001 1\nadd 4 0 0\nadd 5 0 4000001\nadd 1 0 1\n",
+        "add 1 2100000000000000 1\nadd 2 -2100000000000000 404000\nadd 3 2100000000000001 1\n\
+         add 3 -2100000000000001 1\nadd 4 0 0\nadd 5 0 4000001\nadd 1 0 1\n",
         "ok\nok\nrefused fee\nrefused fee\nrefused size\nrefused size\nrefused taken\n",
     ),
     (
-        "add 18446744073709551615 9223372036854775807 18446744073709551615\nadd 18446744073709551616 0 1\nadd 1 9223372036854775808 1\nadd 1 -9223372036854775808 1\nadd 1 -9223372036854775809 1\n",
+        "add 18446744073709551615 9223372036854775807 18446744073709551615\nadd 18446744073709551616 0 1\n\
+         add 1 9223372036854775808 1\nadd 1 -9223372036854775808 1\nadd 1 -9223372036854775809 1\n",
         "refused fee\nrefused syntax\nrefused syntax\nrefused fee\nrefused syntax\n",
     ),
     (
         "add 1 01 1\nadd 1 -0 1\nadd  1 1 1\nadd 1 1 1 \nadd 1 +1 1\nadd 1 1\nadd\n add 1 1 1\ncount bottom\ncount main\r\r\n",
-        "refused syntax\nrefused syntax\nrefused syntax\nrefused syntax\nrefused syntax\nrefused syntax\nrefused syntax\nrefused syntax\nrefused syntax\nrefused syntax\n",
+        "refused syntax\nrefused syntax\nrefused syntax\nrefused syntax\nrefused syntax\n\
+         refused syntax\nrefused syntax\nrefused syntax\nrefused syntax\nrefused syntax\n",
     ),
     (
         "add 7 1 1\nadd 5 1 1\nadd 6 1 1\ndep 7 6\ndep 6 5\nancestors 5 main\ndescendants 7 top\nancestors 7 main\ndep 7 5\ndep 8 5\ndep 5 8\n",
@@ -136,8 +139,10 @@ const RUNS: [Row; 15] = [
         "ok\nok\nok\nok\nok\nok\nids 1 2 3\nok\nids 1 3\nids 1 3\nrefused unknown 2\n",
     ),
     (
-        "add 1 1 1\nfee 1 2100000000000000\nfee 1 2100000000000001\nfee 9 -2100000000000001\nfee 9 5\nfee 1 -0\nfee 1 5 5\nlimits 64 404000 0\nremove 01\nremove main\ncluster 1\ncluster 9 main\nlimits 64 1 1 1\n",
-        "ok\nok\nrefused fee\nrefused fee\nrefused unknown 9\nrefused syntax\nrefused syntax\nrefused late\nrefused syntax\nrefused syntax\nrefused syntax\nrefused unknown 9\nrefused syntax\n",
+        "add 1 1 1\nfee 1 2100000000000000\nfee 1 2100000000000001\nfee 9 -2100000000000001\nfee 9 5\nfee 1 -0\n\
+         fee 1 5 5\nlimits 64 404000 0\nremove 01\nremove main\ncluster 1\ncluster 9 main\nlimits 64 1 1 1\n",
+        "ok\nok\nrefused fee\nrefused fee\nrefused unknown 9\nrefused syntax\nrefused syntax\n\
+         refused late\nrefused syntax\nrefused syntax\nrefused syntax\nrefused unknown 9\nrefused syntax\n",
     ),
     (
         "mine 1\nevict\nblock 1\n",
@@ -181,7 +186,8 @@ const ORDERS: [Row; 10] = [
     ),
     (
         "add 1 2100000000000000 1\nadd 2 -2100000000000000 1\nadd 3 2100000000000001 1\nadd 4 0 0\nadd 5 0 4000001\ndep 2 1\nproof main\n",
-        "ok\nok\nrefused fee\nrefused size\nrefused size\nok\ntx 2 -2100000000000000 1\ntx 1 2100000000000000 1\nedge 2 1\nchunk 0 2 2 1\nflow 1 2 4200000000000000\nend\n",
+        "ok\nok\nrefused fee\nrefused size\nrefused size\nok\ntx 2 -2100000000000000 1\n\
+         tx 1 2100000000000000 1\nedge 2 1\nchunk 0 2 2 1\nflow 1 2 4200000000000000\nend\n",
     ),
     (
         "order bottom\norder main\nproof top\ndiagram bottom\ndiagram main\n",
@@ -237,7 +243,8 @@ const STAGINGS: [Row; 12] = [
     ),
     (
         "add 1 100 200\nstage\nadd 2 900 200\ndep 1 2\nproof main\nproof top\ndiagram top\ncluster 2 main\ncount top\n",
-        "ok\nok\nok\nok\ntx 1 100 200\nchunk 100 200 1\nend\ntx 1 100 200\ntx 2 900 200\nedge 1 2\nchunk 1000 400 1 2\nflow 2 1 160000\nend\npoint 0 0\npoint 400 1000\nend\nrefused unknown 2\ncount 2\n",
+        "ok\nok\nok\nok\ntx 1 100 200\nchunk 100 200 1\nend\ntx 1 100 200\ntx 2 900 200\nedge 1 2\n\
+         chunk 1000 400 1 2\nflow 2 1 160000\nend\npoint 0 0\npoint 400 1000\nend\nrefused unknown 2\ncount 2\n",
     ),
 ];
 
