@@ -1,9 +1,6 @@
-use Rattle.std.proofs.Common.{◌≡◌, ◌∙◌, ℕ, sym, ap}
-use Rattle.std.specs.Cmp.{nat_cmp_total}
-use Rattle.std.specs.FinMap as map
+use Rattle.std.proofs.Common.{◌∙◌, ap}
 use Rattle.std.specs.FinSet as fin
 use Rattle.graphs.proofs.Members.{contains-members_of}
-use Rattle.graphs.specs.Closures.{Closure, is_member, members_of}
 use Rattle.cross_tests.proofs.orders.is_in.Goals as goal
 
 pub returns : goal.returns
