@@ -1,5 +1,5 @@
 -- Two clusters of one name each, which differ.
-use Rattle.std.proofs.Common.{rules, ◌≡◌, ◌+◌, ◌≤◌, ℕ, List, [], ◌∷◌, length, Contains, inl, inr, sym, ap, ◌∙◌, subst, arith}
+use Rattle.std.proofs.Common.{rules, ◌≡◌, ℕ, List, [], ◌∷◌, length, Contains, inl, inr, sym, ap, ◌∙◌, subst, arith}
 use Rattle.lists.proofs.Entries.{Contains-cases, Contains-head, none_in_empty}
 use Rattle.order_tests.proofs.cluster_store_tests.joined.Goals as goal
 

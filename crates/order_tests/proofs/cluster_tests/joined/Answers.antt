@@ -1,4 +1,4 @@
-use Rattle.std.proofs.Common.{◌≡◌, ◌+◌, ◌*◌, ◌≤◌, ◌<◌, ◌∷◌, [], List, ℕ, length, rules, true, false, sym, ap, ◌∙◌, subst, arith, inl, inr, true≢false}
+use Rattle.std.proofs.Common.{◌≡◌, ◌∷◌, [], List, ℕ, length, rules, true, false, sym, ap, ◌∙◌, subst, arith, inl, inr, true≢false}
 use Rattle.std.specs.Prelude.{Contains}
 use Rattle.lists.proofs.Entries.{Contains-cases, Contains-head, none_in_empty}
 use Rattle.order_tests.proofs.Sizes.{cluster_fits, work_fits}
