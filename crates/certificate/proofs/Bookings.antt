@@ -338,8 +338,12 @@ open_more find ids part accounts k place in' h is room =
                     | inr ne ↦ ap (λ (a : Account). a.part) (changed_there accounts place x new ne) ∙ of
                   ],
                 ))
-            | inr same ↦
-                (place, ap find (sym same) ∙ is, subst (λ n. place < n) (sym (length-set accounts place new)) room, ap (λ (a : Account). a.part) (changed_here accounts place new room))
+            | inr same ↦ (
+              place,
+              ap find (sym same) ∙ is,
+              subst (λ n. place < n) (sym (length-set accounts place new)) room,
+              ap (λ (a : Account). a.part) (changed_here accounts place new room),
+            )
           ];
       only =
           λ x of.

@@ -111,7 +111,11 @@ pub part_is_bridged : PartIsBridged
 part_is_bridged n g h s old left closed c members without part =
     closes_renumbered n 0 g h s (low n g closed s members) left
     (closes_without_all (places n (fin.difference (members_of g) s)) (is_member g) (is_ancestor g) old left c without (fin.contains s) (λ q. (
-      λ e. (members q e, λ gone. true≢false (sym (and_parts (is_member g q) (not (fin.contains s q)) (sym (others q) ∙ (places-Contains n (fin.difference (members_of g) s) q gone).1)).1 ∙ ap not e)),
+      λ e. (
+        members q e,
+        λ gone. true≢false (sym (and_parts (is_member g q) (not (fin.contains s q)) (sym (others q)
+            ∙ (places-Contains n (fin.difference (members_of g) s) q gone).1)).1 ∙ ap not e),
+      ),
       λ both. true_from_not (fin.contains s q) (false_from_ne_true (not (fin.contains s q)) (λ out.
           both.1 (Contains-places n (fin.difference (members_of g) s) q (closed.within q both.0)
           (others q ∙ and_from (is_member g q) (not (fin.contains s q)) both.0 out)))),

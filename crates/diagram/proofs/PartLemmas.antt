@@ -94,9 +94,21 @@ from_nothing front = same_sum (joined (record { fee = pos 0; size = 0 }) (sum_of
 pub follow_start : (parts : List Sum) → AreLevelParts parts ↔ FollowOn None (record { fee = pos 0; size = 0 }) parts
 follow_start parts = (
   λ level.
-      record { falling = level.falling; some = level.some; ranged = level.ranged; fits = λ front rest e. subst IsSum (sym (from_nothing front)) (level.fits front rest e) },
+      record {
+        falling = level.falling;
+        some = level.some;
+        ranged = level.ranged;
+        fits = λ front rest e. subst IsSum (sym (from_nothing front))
+            (level.fits front rest e);
+      },
   λ follow.
-      record { falling = follow.falling; some = follow.some; ranged = follow.ranged; fits = λ front rest e. subst IsSum (from_nothing front) (follow.fits front rest e) },
+      record {
+        falling = follow.falling;
+        some = follow.some;
+        ranged = follow.ranged;
+        fits = λ front rest e. subst IsSum (from_nothing front)
+            (follow.fits front rest e);
+      },
 )
 
 -- ---- one part of a list

@@ -81,9 +81,15 @@ height_is from None Behind points y are near = ap (λ zs. height_at zs y) are
 height_is from (Some next) Behind points y are near = ap (λ zs. height_at zs y) are.1 ∙ height_early from next are.0 y (near next refl)
 
 compares_left : (a b c : Sum) (o : Ordering) → 1 ≤ a.size → 1 ≤ b.size → 1 ≤ c.size → Same a b → ComparesRates b c o → ComparesRates a c o
-compares_left a b c Less p q r same less = record { crossed = cross_trans_strict_right a.fee b.fee c.fee a.size b.size c.size (omega arith) (omega arith) (same_at_most a b same).crossed less.crossed }
+compares_left a b c Less p q r same less = record {
+  crossed = cross_trans_strict_right a.fee b.fee c.fee a.size b.size c.size (omega arith)
+      (omega arith) (same_at_most a b same).crossed less.crossed;
+}
 compares_left a b c Equal p q r same equal = same_chains a b c q same equal
-compares_left a b c Greater p q r same more = record { crossed = cross_trans_strict_left c.fee b.fee a.fee c.size b.size a.size (omega arith) (omega arith) more.crossed (same_at_most b a (same_back a b same)).crossed }
+compares_left a b c Greater p q r same more = record {
+  crossed = cross_trans_strict_left c.fee b.fee a.fee c.size b.size a.size (omega arith)
+      (omega arith) more.crossed (same_at_most b a (same_back a b same)).crossed;
+}
 
 pub compares_back : (a b : Sum) (o : Ordering) → ComparesRates a b o → ComparesRates b a (ordering_reverse o)
 compares_back a b Less less = less

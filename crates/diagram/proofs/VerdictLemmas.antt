@@ -156,7 +156,12 @@ pub tally_goes : (o : Ordering) (v : Verdict) (xs ys cs ds cs' ds' : List (ℕ �
     → StandAt ds x → Moves cs ds x cs' ds' y o → Tally v xs ys cs ds x → Tally (and_here v o) xs ys cs' ds' y
 tally_goes o v xs ys cs ds cs' ds' x y first second moves old =
     tally_by o v xs ys cs ds cs' ds' x y
-    (record { later = moves.later; first = goes_on cs cs' x y first moves.first_stands moves.first; second = goes_on ds ds' x y second moves.second_stands moves.second })
+    (record {
+      later = moves.later;
+      first = goes_on cs cs' x y first moves.first_stands moves.first;
+      second = goes_on ds ds' x y second
+          moves.second_stands moves.second;
+    })
     moves.compared old
 
 open_start : (xs ys ps qs : List (ℕ × ℤ)) → xs ≡ (0, pos 0) ∷ ps → ys ≡ (0, pos 0) ∷ qs → Rises xs → Rises ys → IsOpen xs ys xs ys 0

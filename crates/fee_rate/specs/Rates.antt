@@ -1,4 +1,5 @@
--- The order of rates. (f, s) is the fee f, an integer, over the size s, a natural of at least 1. This is `FeeFrac` of Bitcoin Core (feefrac.h): rising rate, and among equal rates falling size.
+-- The order of rates. (f, s) is the fee f, an integer, over the size s, a natural of at least 1. This is `FeeFrac` of Bitcoin Core
+-- (feefrac.h): rising rate, and among equal rates falling size.
 use Rattle.std.specs.Prelude.{◌<◌, ◌≡◌, ◌⊎◌, pos, ◌*ℤ◌, ◌≤ℤ◌, ◌<ℤ◌}
 use Rattle.std.specs.declared.cmp.Ordering.{Ordering}
 use Rattle.std.specs.declared.cmp.Ordering.TheVariants.{Less, Equal, Greater}

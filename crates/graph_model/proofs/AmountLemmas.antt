@@ -96,8 +96,13 @@ module _ (set : List ℕ) (once : AreDistinct set) where
           hits_once flow.parent flow.amount set once (subst (λ (f : Flow). Contains set f.parent) (sym same) parent),
           ap (λ (f : Flow). f.amount) same,
         )
-        | inr there ↦ omega
-            (arith, given_more flow flows, gotten_more flow flows, one_flow flow (stays flow (Contains-head flow flows)), lacks flows into there later parent child)
+        | inr there ↦ omega (
+          arith,
+          given_more flow flows,
+          gotten_more flow flows,
+          one_flow flow (stays flow (Contains-head flow flows)),
+          lacks flows into there later parent child,
+        )
       ]
 
 -- ---- bounds

@@ -125,7 +125,11 @@ module _ (old : PlainState) (id : ℕ) (fee : ℤ) (size : ℕ) (valid : IsValid
   in_more graph q = (
     λ here. elim (Contains-push_cases graph.names id q here) [ inl was ↦ inl was | inr same ↦ inr (sym same) ],
     λ here.
-        elim here [ inl was ↦ Contains-append_left graph.names (id ∷ []) q was | inr same ↦ subst (Contains (with_more graph id).names) (sym same) (Contains-push graph.names id) ],
+        elim here [
+          | inl was ↦ Contains-append_left graph.names (id ∷ []) q was
+          | inr same ↦ subst (Contains (with_more graph id).names) (sym same)
+              (Contains-push graph.names id)
+        ],
   )
 
   pub valid_added : IsValid (added old id fee size)

@@ -162,7 +162,11 @@ rising_range n k below =
     omega arith
 
 in_range : (n q : ℕ) → q < n → Contains (range_with_len 0 n) q
-in_range n q below = (q, (let long : length (range_with_len 0 n) ≡ n = length-range_with_len 0 n in omega arith), (let at : get_or (range_with_len 0 n) q q ≡ 0 + q = get_or-range_with_len 0 n q q below in omega arith))
+in_range n q below = (
+  q,
+  (let long : length (range_with_len 0 n) ≡ n = length-range_with_len 0 n in omega arith),
+  (let at : get_or (range_with_len 0 n) q q ≡ 0 + q = get_or-range_with_len 0 n q q below in omega arith),
+)
 
 pub some_list : (P : ℕ → Type 0) → ((q : ℕ) → IsTold (P q)) → (bound : ℕ) → ((q : ℕ) → P q → q < bound) → (ids : List ℕ) × Lists P ids
 some_list P told bound small =

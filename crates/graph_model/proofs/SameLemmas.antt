@@ -102,8 +102,10 @@ of_equal a b a' b' one two same = subst (λ (p : PlainState). IsSameState p b') 
 
 without_same : (a b x y : Graph) (id : ℕ) → IsSameGraph a b → IsWithout a id x → IsWithout b id y → IsSameGraph x y
 without_same a b x y id same one two = record {
-  names = λ q.
-      (λ here. (two.names q).1 ((same.names q).0 ((one.names q).0 here).0, ((one.names q).0 here).1), λ here. (one.names q).1 ((same.names q).1 ((two.names q).0 here).0, ((two.names q).0 here).1));
+  names = λ q. (
+    λ here. (two.names q).1 ((same.names q).0 ((one.names q).0 here).0, ((one.names q).0 here).1),
+    λ here. (one.names q).1 ((same.names q).1 ((two.names q).0 here).0, ((two.names q).0 here).1),
+  );
   pairs = λ p q. (
     λ here. let is = (one.pairs p q).0 here in (two.pairs p q).1
         (is.0, is.1, elim is.2 [ inl was ↦ inl ((same.pairs p q).0 was) | inr across ↦ inr ((same.pairs p id).0 across.0, (same.pairs id q).0 across.1) ]),
@@ -114,8 +116,10 @@ without_same a b x y id same one two = record {
 
 drops_same : (a b x y : Graph) (ids : List ℕ) → IsSameGraph a b → DropsNames a ids x → DropsNames b ids y → IsSameGraph x y
 drops_same a b x y ids same one two = record {
-  names = λ q.
-      (λ here. (two.names q).1 ((same.names q).0 ((one.names q).0 here).0, ((one.names q).0 here).1), λ here. (one.names q).1 ((same.names q).1 ((two.names q).0 here).0, ((two.names q).0 here).1));
+  names = λ q. (
+    λ here. (two.names q).1 ((same.names q).0 ((one.names q).0 here).0, ((one.names q).0 here).1),
+    λ here. (one.names q).1 ((same.names q).1 ((two.names q).0 here).0, ((two.names q).0 here).1),
+  );
   pairs = λ p q. (
     λ here. let is = (one.pairs p q).0 here in (two.pairs p q).1 (is.0, is.1, (same.pairs p q).0 is.2),
     λ here. let is = (two.pairs p q).0 here in (one.pairs p q).1 (is.0, is.1, (same.pairs p q).1 is.2),
@@ -154,8 +158,11 @@ module _ (a b : PlainState) (valid_a : IsValid a) (valid_b : IsValid b) (same : 
       record {
         names = graphs.names;
         sums = λ id here. ap sum_in (same.table id);
-        ancestors = λ x y.
-            (up_to (level_of a level) (level_of b level) graphs x y, up_to (level_of b level) (level_of a level) (back (level_of a level) (level_of b level) graphs) x y);
+        ancestors = λ x y. (
+          up_to (level_of a level) (level_of b level) graphs x y,
+          up_to (level_of b level) (level_of a level)
+              (back (level_of a level) (level_of b level) graphs) x y,
+        );
       }
 
   one_diagram : (level : Level) (p q : List (ℕ × ℤ)) → AreCorners (rate_of a.table) (level_of a level) p
@@ -206,7 +213,15 @@ module _ (a b : PlainState) (valid_a : IsValid a) (valid_b : IsValid b) (same : 
 
     dropped : (ids : List ℕ) → DropsFromMain a ids a' → DropsFromMain b ids b' → IsSameState a' b'
     dropped ids one two = same_left (record (begun a) { main = one.0 }) (record (begun b) { main = two.0 }) a' b'
-        (record { limits = same.limits; most = same.most; begun = refl; table = same.table; main = drops_same a.main b.main one.0 two.0 ids same.main one.1 two.1; staging = same.staging })
+        (record {
+          limits = same.limits;
+          most = same.most;
+          begun = refl;
+          table = same.table;
+          main = drops_same a.main b.main one.0 two.0 ids same.main
+              one.1 two.1;
+          staging = same.staging;
+        })
         one.2 two.2
 
     removed : (id : ℕ) → Removes a id a' → Removes b id b' → IsSameState a' b'
@@ -255,7 +270,15 @@ module _ (a b : PlainState) (valid_a : IsValid a) (valid_b : IsValid b) (same : 
     states (Add id fee size) other one two = of_equal _ _ a' b' one.change two.change
         (same_top (record (begun a) { table = finmap.insert a.table id (record { fee = fee; size = size }) })
         (record (begun b) { table = finmap.insert b.table id (record { fee = fee; size = size }) }) _ _
-        (record { limits = same.limits; most = same.most; begun = refl; table = same_put a.table b.table id (record { fee = fee; size = size }) (record { fee = fee; size = size }) refl same.table; main = same.main; staging = same.staging })
+        (record {
+          limits = same.limits;
+          most = same.most;
+          begun = refl;
+          table = same_put a.table b.table id (record { fee = fee; size = size })
+              (record { fee = fee; size = size }) refl same.table;
+          main = same.main;
+          staging = same.staging;
+        })
         (more_names (level_of a Top) (level_of b Top) id (level_same a b Top same)))
     states (Dep parent child) other one two = paired parent child one.change two.change
     states (SetFee id fee) other one two = of_equal _ _ a' b' one.change two.change

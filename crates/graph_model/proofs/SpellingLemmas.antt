@@ -82,26 +82,53 @@ AllPlain lines = (line : List ℕ) → Contains lines line → IsPlain line
 pub tx_plain : (id : ℕ) (fee : ℤ) (size : ℕ) → id < 2 ^ 64 → unsigned_abs fee ≤ 10 ^ 30 → size < 2 ^ 64 → IsPlain (tx_line id fee size)
 tx_plain id fee size one two three =
     let words : List (List ℕ) = codes "tx" ∷ decimal id ∷ signed_decimal fee ∷ decimal size ∷ [] in
-    let short : AreShort words = ((((λ e. omega (arith, e)), ((λ e. omega (arith, e)), tt)), omega arith), (number_short id (omega arith), (signed_short fee two, (number_short size (omega arith), tt)))) in
+    let short : AreShort words = (
+      (((λ e. omega (arith, e)), ((λ e. omega (arith, e)), tt)), omega arith),
+      (number_short id (omega arith), (signed_short fee two, (number_short size (omega arith), tt))),
+    ) in
     record { none = spaced_none words short; loud = refl; short = let long = spaced_length words short in omega (arith, long) }
 
 pub edge_plain : (parent child : ℕ) → parent < 2 ^ 64 → child < 2 ^ 64 → IsPlain (edge_line parent child)
 edge_plain parent child one two =
     let words : List (List ℕ) = codes "edge" ∷ decimal parent ∷ decimal child ∷ [] in
-    let short : AreShort words = ((((λ e. omega (arith, e)), ((λ e. omega (arith, e)), ((λ e. omega (arith, e)), ((λ e. omega (arith, e)), tt)))), omega arith), (number_short parent (omega arith), (number_short child (omega arith), tt))) in
+    let short : AreShort words = (
+      (
+        ((λ e. omega (arith, e)), ((λ e. omega (arith, e)), ((λ e. omega (arith, e)), ((λ e. omega (arith, e)), tt)))),
+        omega arith,
+      ),
+      (number_short parent (omega arith), (number_short child (omega arith), tt)),
+    ) in
     record { none = spaced_none words short; loud = refl; short = let long = spaced_length words short in omega (arith, long) }
 
 pub flow_plain : (flow : Flow) → flow.child < 2 ^ 64 → flow.parent < 2 ^ 64 → flow.amount ≤ 10 ^ 30 → IsPlain (flow_line flow)
 flow_plain flow one two three =
     let words : List (List ℕ) = codes "flow" ∷ decimal flow.child ∷ decimal flow.parent ∷ decimal flow.amount ∷ [] in
-    let short : AreShort words = ((((λ e. omega (arith, e)), ((λ e. omega (arith, e)), ((λ e. omega (arith, e)), ((λ e. omega (arith, e)), tt)))), omega arith), (number_short flow.child (omega arith), (number_short flow.parent (omega arith), (number_short flow.amount three, tt)))) in
+    let short : AreShort words = (
+      (
+        ((λ e. omega (arith, e)), ((λ e. omega (arith, e)), ((λ e. omega (arith, e)), ((λ e. omega (arith, e)), tt)))),
+        omega arith,
+      ),
+      (number_short flow.child (omega arith), (number_short flow.parent (omega arith), (number_short flow.amount three, tt))),
+    ) in
     record { none = spaced_none words short; loud = refl; short = let long = spaced_length words short in omega (arith, long) }
 
 pub chunk_plain : (part : Part) → unsigned_abs part.rate.fee ≤ 10 ^ 30 → part.rate.size < 2 ^ 64
     → ((id : ℕ) → Contains part.ids id → id < 2 ^ 64) → length part.ids ≤ 128 → IsPlain (chunk_line part)
 chunk_plain part one two three few =
     let words : List (List ℕ) = codes "chunk" ∷ signed_decimal part.rate.fee ∷ decimal part.rate.size ∷ map decimal part.ids in
-    let short : AreShort words = ((((λ e. omega (arith, e)), ((λ e. omega (arith, e)), ((λ e. omega (arith, e)), ((λ e. omega (arith, e)), ((λ e. omega (arith, e)), tt))))), omega arith), (signed_short part.rate.fee one, (number_short part.rate.size (omega arith), numbers_short part.ids three))) in
+    let short : AreShort words = (
+      (
+        (
+          (λ e. omega (arith, e)),
+          (
+            (λ e. omega (arith, e)),
+            ((λ e. omega (arith, e)), ((λ e. omega (arith, e)), ((λ e. omega (arith, e)), tt))),
+          ),
+        ),
+        omega arith,
+      ),
+      (signed_short part.rate.fee one, (number_short part.rate.size (omega arith), numbers_short part.ids three)),
+    ) in
     let count : length (map decimal part.ids) ≡ length part.ids = length-map part.ids decimal in
     record { none = spaced_none words short; loud = refl; short = let long = spaced_length words short in omega (arith, long, count) }
 

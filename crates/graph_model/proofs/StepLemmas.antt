@@ -273,14 +273,27 @@ step_valid old new command reply types valid step = elim step [
 start_valid : (most : ℕ) → default_limits.count ≤ most → most ≤ 128 → IsValidState (start most)
 start_valid most low high =
     let empty : IsLevel (start most).plain (start most).plain.main = record {
-      whole = record { names = tt; pairs = tt; ends = λ parent child here. absurd (none_in_empty (parent, child) here); acyclic = λ a n walk. none_in_empty (walk.0, a) walk.2 };
+      whole = record {
+        names = tt;
+        pairs = tt;
+        ends = λ parent child here. absurd
+            (none_in_empty (parent, child) here);
+        acyclic = λ a n walk. none_in_empty (walk.0, a) walk.2;
+      };
       names = λ id here. absurd (none_in_empty id here);
       count = λ ids of. no_more ids of;
       size = λ ids of. no_size ids of;
     } in
     record {
       plain = record {
-        limits = record { count_low = omega arith; count_high = low; size_low = omega arith; size_high = omega arith; total_low = omega arith; total_high = omega arith };
+        limits = record {
+          count_low = omega arith;
+          count_high = low;
+          size_low = omega arith;
+          size_high = omega arith;
+          total_low = omega arith;
+          total_high = omega arith;
+        };
         most = high;
         main = empty;
         staging = tt;

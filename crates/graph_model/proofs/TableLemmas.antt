@@ -11,8 +11,11 @@ use Rattle.lists.specs.Distinct.{AreDistinct}
 module _ {X : Type 0} where
   first_key : (m : finmap.FinMap nat_cmp X) (es : List (ℕ × X)) (n : ℕ) → finmap.entries m ≡ es → length es ≡ suc n → (k : ℕ) × (finmap.contains_key m k ≡ true)
   first_key m [] n is long = absurd (omega arith)
-  first_key m (e ∷ es) n is long =
-      (e.0, ap is_some (finmap.get-entries m e.0 ∙ ap (finmap.find nat_cmp e.0) is ∙ ap (λ b. cond b (Some e.1) (finmap.find nat_cmp e.0 es)) (unsigned_tied e.0 e.0 ∙ eq-eqb e.0 e.0 refl)))
+  first_key m (e ∷ es) n is long = (
+    e.0,
+    ap is_some (finmap.get-entries m e.0 ∙ ap (finmap.find nat_cmp e.0) is
+        ∙ ap (λ b. cond b (Some e.1) (finmap.find nat_cmp e.0 es)) (unsigned_tied e.0 e.0 ∙ eq-eqb e.0 e.0 refl)),
+  )
 
   some_key : (m : finmap.FinMap nat_cmp X) (n : ℕ) → finmap.len m ≡ suc n → (k : ℕ) × (finmap.contains_key m k ≡ true)
   some_key m n long = first_key m (finmap.entries m) n refl (sym (finmap.len-entries m) ∙ long)

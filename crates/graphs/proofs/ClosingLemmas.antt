@@ -284,8 +284,12 @@ module _ (m keep : ℕ → Bool) (r : ℕ → ℕ → Bool) (graph : Graph) (c :
   inside a b zero here from to same = same
   inside a b (suc n) here from to walk =
       let before : r a walk.0 ≡ true = (c.ancestors a walk.0 here (c.ends walk.0 b walk.2).0).0 (n, walk.1) in
-      let kept : keep walk.0 ≡ true = between a walk.0 b from to before (pair_above m r graph c walk.0 b walk.2) in
-      (walk.0, inside a walk.0 n here from kept walk.1, Contains-filter (λ pair. keep pair.0 && keep pair.1) graph.pairs (walk.0, b) (and_from (keep walk.0) (keep b) kept to) walk.2)
+      let kept : keep walk.0 ≡ true = between a walk.0 b from to before (pair_above m r graph c walk.0 b walk.2) in (
+        walk.0,
+        inside a walk.0 n here from kept walk.1,
+        Contains-filter (λ pair. keep pair.0 && keep pair.1) graph.pairs (walk.0, b)
+            (and_from (keep walk.0) (keep b) kept to) walk.2,
+      )
 
   pub closes_within : Closes (λ q. keep q && m q) r (within keep graph)
   closes_within = record {
@@ -376,8 +380,11 @@ module _ (f : ℕ → ℕ) (m k : ℕ → Bool) (r t : ℕ → ℕ → Bool) (ol
               (walk.0, subst (λ (z : ℕ). Walk new.pairs (f a.0) z walk.0) (sym d.2) (subst (λ (z : ℕ). Walk new.pairs z y walk.0) (sym a.2) walk.1)) in
               same ∙ law.0 (old_ancestor f old new named_ends apart is a.0 d.0 ((c.names a.0).1 a.1) ((c.names d.0).1 d.1) by_old),
           λ up.
-              let walk = law.1 (sym same ∙ up) in
-              (walk.0, subst (λ (z : ℕ). Walk new.pairs x z walk.0) d.2 (subst (λ (z : ℕ). Walk new.pairs z (f d.0) walk.0) a.2 (new_walk f old new named_ends apart is a.0 d.0 walk.0 walk.1))),
+              let walk = law.1 (sym same ∙ up) in (
+                walk.0,
+                subst (λ (z : ℕ). Walk new.pairs x z walk.0) d.2
+                    (subst (λ (z : ℕ). Walk new.pairs z (f d.0) walk.0) a.2 (new_walk f old new named_ends apart is a.0 d.0 walk.0 walk.1)),
+              ),
         );
   }
 

@@ -293,7 +293,10 @@ line_across rate origin x point from low rest =
     let all : plus x (beyond point (plus origin x)) ≡ beyond point origin =
     same_sum (plus x (beyond point (plus origin x))) (beyond point origin) (omega (arith, ints)) (omega arith) in
     subst (λ (s : Sum). AtMost s rate) all
-    (record { crossed = sum_at_most x.fee (beyond point (plus origin x)).fee rate.fee x.size (beyond point (plus origin x)).size rate.size low.crossed rest.crossed })
+    (record {
+      crossed = sum_at_most x.fee (beyond point (plus origin x)).fee rate.fee x.size
+          (beyond point (plus origin x)).size rate.size low.crossed rest.crossed;
+    })
 
 -- a point under the lines of parts of at most a rate has at most that rate
 group_line : (rate : Sum) (group : List Sum) (origin point : Sum) → HaveSizes group → ((part : Sum) → Contains group part → AtMost part rate)
@@ -544,8 +547,11 @@ joins_first p q g rest gs some first same groups =
         | inl it ↦ pairs to equal a b (subst (λ zs. Contains zs a) (sym it) here) (subst (λ zs. Contains zs b) (sym it) there)
         | inr later ↦ groups.equal group a b (Contains-later g group gs later) here there
       ];
-      falling = lower gs member to groups.falling (λ group h.
-          (groups.filled group (Contains-later g group gs h), λ a there. some a (Contains-later p a rest (subst (λ zs. Contains zs a) (sym groups.all) (flat-Contains (g ∷ gs) group a (Contains-later g group gs h) there)))));
+      falling = lower gs member to groups.falling (λ group h. (
+        groups.filled group (Contains-later g group gs h),
+        λ a there. some a
+            (Contains-later p a rest (subst (λ zs. Contains zs a) (sym groups.all) (flat-Contains (g ∷ gs) group a (Contains-later g group gs h) there))),
+      ));
     }
   where
     pairs : ((b : Sum) → Contains g b → Same p b) → ((a b : Sum) → Contains g a → Contains g b → Same a b)
@@ -570,8 +576,11 @@ joins_first p q g rest gs some first same groups =
         let whole : plus (sum_of g) p ≡ sum_of (p ∷ g) =
         same_sum (plus (sum_of g) p) (sum_of (p ∷ g)) (omega (arith, ints)) (omega (arith, size_of-cons p g)) in
         let above : AtMost (sum_of g) (sum_of (p ∷ g)) =
-        subst (λ z. AtMost (sum_of g) z) whole (record { crossed = sum_above (sum_of g).fee p.fee (sum_of g).size p.size up.crossed }) in
-        (below_at_most_chains (sum_of h) (sum_of g) (sum_of (p ∷ g)) (group_some g (λ e. none_in_empty q (subst (λ zs. Contains zs q) e first)) member) (omega (arith, size_of-cons p g)) falls.0 above, falls.1)
+        subst (λ z. AtMost (sum_of g) z) whole (record { crossed = sum_above (sum_of g).fee p.fee (sum_of g).size p.size up.crossed }) in (
+          below_at_most_chains (sum_of h) (sum_of g) (sum_of (p ∷ g)) (group_some g
+              (λ e. none_in_empty q (subst (λ zs. Contains zs q) e first)) member) (omega (arith, size_of-cons p g)) falls.0 above,
+          falls.1,
+        )
 
 -- a part of a higher rate than the first group's is a group of its own
 stands_first : (p q : Sum) (g rest : List Sum) (gs : List (List Sum)) → HaveSizes (p ∷ rest)

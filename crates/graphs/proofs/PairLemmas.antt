@@ -66,7 +66,8 @@ trail_kept pairs p c a b zero same = same
 trail_kept pairs p c a b (suc n) trail = (
   trail.0,
   trail_kept pairs p c a trail.0 n trail.1,
-  elim trail.2 [ inl down ↦ inl (Contains-append_left pairs ((p, c) ∷ []) (trail.0, b) down) | inr up ↦ inr (Contains-append_left pairs ((p, c) ∷ []) (b, trail.0) up) ],
+  elim trail.2
+      [ inl down ↦ inl (Contains-append_left pairs ((p, c) ∷ []) (trail.0, b) down) | inr up ↦ inr (Contains-append_left pairs ((p, c) ∷ []) (b, trail.0) up) ],
 )
 
 connected_kept : (pairs : List (ℕ × ℕ)) (p c a b : ℕ) → AreConnected pairs a b → AreConnected (with_pair pairs p c) a b

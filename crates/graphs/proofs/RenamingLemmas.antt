@@ -24,8 +24,13 @@ use Rattle.graphs.proofs.ClosingLemmas.{new_pair, new_walk, old_walk, old_ancest
 pub sum_by-map : {A B : Type 0} (f : A → B) (g : B → ℕ) (h : A → ℕ) (xs : List A)
     → ((x : A) → Contains xs x → g (f x) ≡ h x) → sum_by g (map f xs) ≡ sum_by h xs
 sum_by-map f g h [] same = refl
-sum_by-map f g h (x ∷ xs) same = omega
-    (arith, sum_by-cons g (f x) (map f xs), sum_by-cons h x xs, same x (Contains-head x xs), sum_by-map f g h xs (λ y here. same y (Contains-later x y xs here)))
+sum_by-map f g h (x ∷ xs) same = omega (
+  arith,
+  sum_by-cons g (f x) (map f xs),
+  sum_by-cons h x xs,
+  same x (Contains-head x xs),
+  sum_by-map f g h xs (λ y here. same y (Contains-later x y xs here)),
+)
 
 pub total-map : {A B : Type 0} (f : A → B) (g : B → ℤ) (h : A → ℤ) (xs : List A) → ((x : A) → Contains xs x → g (f x) ≡ h x) → total g (map f xs) ≡ total h xs
 total-map f g h [] same = refl

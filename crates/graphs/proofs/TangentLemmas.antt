@@ -104,7 +104,10 @@ left_at_least rate m part flat =
     (subst (λ (f : ℤ). (z.fee *ℤ pos (sums rate part).size) ≤ℤ (f *ℤ pos z.size)) fees flat.crossed) in
     let high : ((z.fee +ℤ y.fee) *ℤ pos y.size) ≤ℤ (y.fee *ℤ pos (z.size + y.size)) =
     sum_below z.fee y.fee z.size y.size (sum_above_back z.fee y.fee z.size y.size low) in
-    record { crossed = subst (λ (n : ℕ). ((sums rate part).fee *ℤ pos y.size) ≤ℤ (y.fee *ℤ pos n)) (sym sizes) (subst (λ (f : ℤ). (f *ℤ pos y.size) ≤ℤ (y.fee *ℤ pos (z.size + y.size))) (sym fees) high) }
+    record {
+      crossed = subst (λ (n : ℕ). ((sums rate part).fee *ℤ pos y.size) ≤ℤ (y.fee *ℤ pos n)) (sym sizes)
+          (subst (λ (f : ℤ). (f *ℤ pos y.size) ≤ℤ (y.fee *ℤ pos (z.size + y.size))) (sym fees) high);
+    }
 
 -- where parts have at least a slope, so has what the set leaves of them all
 pub left_above : (rate : ℕ → Sum) (m : ℕ → Bool) (slope : Sum) (parts : List (List ℕ)) → AreFlatIn rate m parts → AreSome rate parts

@@ -57,8 +57,11 @@ module _ (tag : Tag) (added : List Cluster) (made : List ℕ) (new : Numbered) (
   added_at =
       let place = place_of made n here in
       elim (slice_get_cases added place.0).1 [
-        | inl at ↦
-            (at.0, ap (finmap.get new) (sym place.2) ∙ stand place.0 (tagged tag at.0) (slice_get-map (tagged tag) added place.0 ∙ ap (option_map (tagged tag)) at.2))
+        | inl at ↦ (
+          at.0,
+          ap (finmap.get new) (sym place.2) ∙ stand place.0 (tagged tag at.0) (slice_get-map (tagged tag) added place.0
+              ∙ ap (option_map (tagged tag)) at.2),
+        )
         | inr past ↦ absurd (omega (arith, count, length-map added (tagged tag), place.1, past.0))
       ]
 

@@ -194,7 +194,8 @@ module _ (stays : Level) (most : ℕ) (view : View) (indexed : IsIndexed most vi
         | inr two ↦
             let stands = indexed.stands a two.0 two.1 in
             let first = first_of stands.cluster.names (indexed.whole two.0 stands.cluster stands.there).some in
-            (so.zero two.0 first.0 stands.cluster stands.there first.1 (all_done stays rings out first.0) a b stands.here).1 (in_cluster two.0 b stands.cluster stands.there two.2)
+            (so.zero two.0 first.0 stands.cluster stands.there first.1 (all_done stays rings out first.0) a b stands.here).1
+            (in_cluster two.0 b stands.cluster stands.there two.2)
       ],
     );
     touched = λ x. (λ marked. absurd (out x marked), λ apart. absurd (apart refl));

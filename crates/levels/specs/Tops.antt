@@ -8,7 +8,8 @@ use Rattle.cluster_store.specs.Stores.{Numbered}
 use Rattle.levels.specs.Changes.{Exchanges, Rebuilds}
 use Rattle.levels.specs.Shelves.{AllHave, seen_at, Shelf, view_of}
 
--- Clusters of the top level of a store are exchanged. Where there is a staging, what is seen of main stays, and those that come in aren't of it; where there is none, all clusters stand in both.
+-- Clusters of the top level of a store are exchanged. Where there is a staging, what is seen of main stays, and those that come in aren't
+-- of it; where there is none, all clusters stand in both.
 pub record Exchanged (staged : Bool) (outs made : List ℕ) (news : List Cluster) (old new : Numbered) : Type 0 where
   pub top : Exchanges outs made news (seen_at Top old) (seen_at Top new)
   pub main : staged ≡ true → (n : ℕ) → seen_at Main new n ≡ seen_at Main old n

@@ -169,5 +169,8 @@ names_fault rate text faults.Memory fine wide none = tt
 pub names_found : (rate : Sum) (text : List ℕ) (ids : List ℕ) → IsBigFee rate.fee → IsWide rate.size → AreNames ids × (text ≡ names_text ids)
     → HasRowTypes (rows.Chunk rate ids)
     × (kind_word kinds.Chunk ++ 32 ∷ (signed_decimal rate.fee ++ 32 ∷ (decimal rate.size ++ 32 ∷ text)) ≡ row_line (rows.Chunk rate ids))
-names_found rate text ids fine wide found =
-    ((fine, wide, found.0), ap (λ (xs : List ℕ). kind_word kinds.Chunk ++ 32 ∷ (signed_decimal rate.fee ++ 32 ∷ (decimal rate.size ++ 32 ∷ xs))) found.1 ∙ sym (chunk_line_is rate ids found.0.0))
+names_found rate text ids fine wide found = (
+  (fine, wide, found.0),
+  ap (λ (xs : List ℕ). kind_word kinds.Chunk ++ 32 ∷ (signed_decimal rate.fee ++ 32 ∷ (decimal rate.size ++ 32 ∷ xs)))
+      found.1 ∙ sym (chunk_line_is rate ids found.0.0),
+)

@@ -53,8 +53,12 @@ returns-in_err-check_flows-clause-flow c e =
 pub returns-clause-yes : goal.returns-clause-yes
 returns-clause-yes c =
     let t = c.in_ok-tables.ensures.tables in
-    let order = subst (λ l. HasOrder (graph_of c.args.txs.now l) (parts_of c.args.parts.now)) (sym t.pairs.same) c.in_ok-check_order.ensures.yes in
-    (c.in_ok-tables.ensures.yes, order, c.in_ok-check_falling.ensures, flows_linked _ _ _ (parts_of c.args.parts.now) (λ a b there. (t.set (a, b)).0 there) c.in_ok-check_flows.ensures)
+    let order = subst (λ l. HasOrder (graph_of c.args.txs.now l) (parts_of c.args.parts.now)) (sym t.pairs.same) c.in_ok-check_order.ensures.yes in (
+      c.in_ok-tables.ensures.yes,
+      order,
+      c.in_ok-check_falling.ensures,
+      flows_linked _ _ _ (parts_of c.args.parts.now) (λ a b there. (t.set (a, b)).0 there) c.in_ok-check_flows.ensures,
+    )
 
 pub returns-clause-optimal : goal.returns-clause-optimal
 returns-clause-optimal c =

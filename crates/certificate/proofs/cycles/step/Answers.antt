@@ -31,8 +31,11 @@ pub returns-in-Open-clause-fault : goal.returns-in-Open-clause-fault
 returns-in-Open-clause-fault c =
     let t = read_top _ _ _ c.args.search.now.way.items c.len.result _ c.requires.search c.requires.some (omega arith) c.index-top.ensures in
     let left = read_left _ _ _ _ _ _ _ c.requires.search t c.index-left.ensures in
-    let next = next_of _ _ _ _ _ _ _ c.requires.pairs_in c.requires.search t left (omega arith) in
-    (refl, cycle_found _ _ _ _ _ _ (c.index-left.result.now - 1) c.requires.search t next.within next.into next.from (read_visit _ _ _ next.from c.index.ensures ∙ c.in-Open.is))
+    let next = next_of _ _ _ _ _ _ _ c.requires.pairs_in c.requires.search t left (omega arith) in (
+      refl,
+      cycle_found _ _ _ _ _ _ (c.index-left.result.now - 1) c.requires.search t next.within next.into next.from
+          (read_visit _ _ _ next.from c.index.ensures ∙ c.in-Open.is),
+    )
 
 pub offset_bounds-before-left : goal.offset_bounds-before-left
 offset_bounds-before-left c =

@@ -7,7 +7,11 @@ use Rattle.certificate.proofs.Bookings.{flow_at, flow_here, flow_of}
 use Rattle.certificate.proofs.flows.flows_inside.Goals as goal
 
 pub returns-then-not-contains : goal.returns-then-not-contains
-returns-then-not-contains c = (refl, λ all. let i = all _ (flow_here c.args.flows.now c.loop-flow.flow-index c.loop-flow-test.true) in true≢false (sym i.0 ∙ sym c.if-not-contains.ensures))
+returns-then-not-contains c = (
+  refl,
+  λ all. let i = all _ (flow_here c.args.flows.now c.loop-flow.flow-index c.loop-flow-test.true) in true≢false
+      (sym i.0 ∙ sym c.if-not-contains.ensures),
+)
 
 pub returns-then-not-is_open : goal.returns-then-not-is_open
 returns-then-not-is_open c = (refl, λ all. c.if-not-is_open.ensures (all _ (flow_here c.args.flows.now c.loop-flow.flow-index c.loop-flow-test.true)).1)

@@ -8,8 +8,12 @@ use Rattle.certificate.proofs.flows.flows_once.Goals as goal
 
 pub returns-then-not-new : goal.returns-then-not-new
 returns-then-not-new c =
-    let e = c.in_ok-new.ensures in
-    (refl, put_again _ (ends_of c.args.flows.now) c.loop-flow.flow-index _ c.in_ok-new.new (ends_at c.args.flows.now c.loop-flow.flow-index c.loop-flow-test.true) (ends_long c.args.flows.now c.loop-flow.flow-index c.loop-flow-test.true) c.loop-flow.invariant e.added c.if-not-new.true)
+    let e = c.in_ok-new.ensures in (
+      refl,
+      put_again _ (ends_of c.args.flows.now) c.loop-flow.flow-index _ c.in_ok-new.new
+          (ends_at c.args.flows.now c.loop-flow.flow-index c.loop-flow-test.true)
+          (ends_long c.args.flows.now c.loop-flow.flow-index c.loop-flow-test.true) c.loop-flow.invariant e.added c.if-not-new.true,
+    )
 
 pub loop-flow-preserved : goal.loop-flow-preserved
 loop-flow-preserved c =

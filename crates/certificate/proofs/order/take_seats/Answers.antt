@@ -16,7 +16,11 @@ pub bounds : goal.bounds
 bounds c = place_in _ _ c.loop-rank.seats _ _ _ c.requires.places c.loop-rank.invariant (sym c.find.ensures ∙ c.in-Some.is)
 
 pub returns-in-Some-seats-clause-fault : goal.returns-in-Some-seats-clause-fault
-returns-in-Some-seats-clause-fault c = (refl, seated_again _ c.args.order.now _ c.loop-rank.seats c.loop-rank.rank c.in-Some.place _ c.loop-rank-test.true c.requires.places (sym c.find.ensures ∙ c.in-Some.is) c.loop-rank.invariant c.in-Some-seats.is)
+returns-in-Some-seats-clause-fault c = (
+  refl,
+  seated_again _ c.args.order.now _ c.loop-rank.seats c.loop-rank.rank c.in-Some.place _
+      c.loop-rank-test.true c.requires.places (sym c.find.ensures ∙ c.in-Some.is) c.loop-rank.invariant c.in-Some-seats.is,
+)
 
 pub offset_bounds-seats-place-in-loop-rank : goal.offset_bounds-seats-place-in-loop-rank
 offset_bounds-seats-place-in-loop-rank c =

@@ -67,5 +67,8 @@ returns-clause-parts c =
 pub loop-left-init : goal.loop-left-init
 loop-left-init c =
     let r = slice_index_or c.args.rates.now c.args.at record { fee = pos 0; size = 0 } in
-    let new = same_sum c.from-sum.result (sum_of (r ∷ [])) (omega (arith, ints, c.from-sum.ensures.0)) (omega (arith, c.from-sum.ensures.1)) in
-    (omega arith, stack_start c.args.rates.now c.args.at r _ c.from-sum.result c.requires.at_in (get_or_default c.args.rates.now c.args.at _ r c.requires.at_in) new c.requires.parts)
+    let new = same_sum c.from-sum.result (sum_of (r ∷ [])) (omega (arith, ints, c.from-sum.ensures.0)) (omega (arith, c.from-sum.ensures.1)) in (
+      omega arith,
+      stack_start c.args.rates.now c.args.at r _ c.from-sum.result c.requires.at_in
+          (get_or_default c.args.rates.now c.args.at _ r c.requires.at_in) new c.requires.parts,
+    )

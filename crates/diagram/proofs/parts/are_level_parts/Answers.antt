@@ -25,4 +25,8 @@ loop-first-preserved c =
     }
 
 pub returns : goal.returns
-returns c = (λ h. c.loop-first.invariant.follow.1 (follow_all c.loop-first.last c.loop-first.end c.loop-first.rest.now c.in_default.ensures.cases c.loop-first.invariant.in_range), λ level. refl)
+returns c = (
+  λ h. c.loop-first.invariant.follow.1 (follow_all c.loop-first.last c.loop-first.end c.loop-first.rest.now c.in_default.ensures.cases
+      c.loop-first.invariant.in_range),
+  λ level. refl,
+)

@@ -71,7 +71,11 @@ returns-clause-right g c =
 pub single-requires : goal.single-requires
 single-requires g c = (
   work_fits g.row.W c.requires.order.narrow,
-  (cluster_fits g.row.W c.requires.order.narrow, subst (λ (fee : ℤ). IsRate (record { fee = fee; size = c.args.size })) (sym (to_z-of_z w64 c.args.fee c.ranges.fee)) c.requires.rate),
+  (
+    cluster_fits g.row.W c.requires.order.narrow,
+    subst (λ (fee : ℤ). IsRate (record { fee = fee; size = c.args.size }))
+        (sym (to_z-of_z w64 c.args.fee c.ranges.fee)) c.requires.rate,
+  ),
 )
 
 pub add-requires-2-clause-issued : goal.add-requires-2-clause-issued

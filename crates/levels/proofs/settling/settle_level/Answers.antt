@@ -31,7 +31,8 @@ settle_part-requires g c =
 pub loop-shown-preserved : goal.loop-shown-preserved
 loop-shown-preserved g c =
     let was = c.loop-shown.invariant in let settle = c.settle_part.ensures in record {
-      rest = one_more shown_part (shown_only (alone c.args.stays) c.args.shelves.now.store) c.loop-shown.yielded c.loop-shown.shown-iterator c.next.new.self c.in-Some.shown was.rest c.in-Some.ensures.steps;
+      rest = one_more shown_part (shown_only (alone c.args.stays) c.args.shelves.now.store) c.loop-shown.yielded c.loop-shown.shown-iterator
+          c.next.new.self c.in-Some.shown was.rest c.in-Some.ensures.steps;
       settling = settle.settling;
       fewer = λ id marked. was.fewer id ((settle.touched id).0 marked).0;
       done = still_done shown_part c.loop-shown.yielded c.in-Some.shown c.loop-shown.rings c.settle_part.new.rings settle.touched was.done;
@@ -42,6 +43,7 @@ loop-shown-preserved g c =
 pub returns-clause-absent : goal.returns-clause-absent
 returns-clause-absent g c =
     let was = c.loop-shown.invariant in
-    let all = all_shown (shown_only (alone c.args.stays) c.args.shelves.now.store) (map shown_part c.loop-shown.yielded) c.loop-shown.shown-iterator was.rest c.in-None.ensures.steps.0 in
+    let all = all_shown (shown_only (alone c.args.stays) c.args.shelves.now.store)
+    (map shown_part c.loop-shown.yielded) c.loop-shown.shown-iterator was.rest c.in-None.ensures.steps.0 in
     absent_left g.row.W c.args.stays c.args.shelves.now c.requires.order c.args.rings.now c.loop-shown.rings c.requires.suits was.fewer
     (λ s here. was.done s (subst (λ (xs : List Shown). Contains xs s) all here))

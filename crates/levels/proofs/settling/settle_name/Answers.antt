@@ -38,4 +38,5 @@ returns-else-names-id-clause-settling g c =
     let named = names_of c.args.stays c.args.shelves.now c.args.number cluster at c.at.result.now c.at.ensures in
     released c.args.stays _ (view_of c.args.stays c.args.shelves.now) (indexed_at g.row.W c.args.stays c.args.shelves.now c.requires.order)
     c.args.id c.args.rings.now c.release.new.self c.requires.settling release.touched c.args.number cluster at here release.names release.main
-    (inr (λ is. c.if-names-id.false (ap (λ zs. get_or zs 0 0) (named c.names-names.result.now c.names-names.ensures.names) ∙ get_or_from_slice_get cluster.names 0 c.args.id 0 is)))
+    (inr (λ is. c.if-names-id.false (ap (λ zs. get_or zs 0 0) (named c.names-names.result.now c.names-names.ensures.names)
+    ∙ get_or_from_slice_get cluster.names 0 c.args.id 0 is)))

@@ -4,7 +4,8 @@ use Rattle.linearize.proofs.Sizes.{words_fit, scratch_fits}
 use Rattle.linearize.proofs.near.are_parts.Goals as goal
 
 pub loop-group-init : goal.loop-group-init
-loop-group-init g c = stands_none (64 * g.row.W) c.args.dep.now c.args.members.now c.empty-done.result c.args.draft.now c.args.steps.now c.empty-done.ensures c.requires.empty
+loop-group-init g c =
+    stands_none (64 * g.row.W) c.args.dep.now c.args.members.now c.empty-done.result c.args.draft.now c.args.steps.now c.empty-done.ensures c.requires.empty
 
 pub empty-done-requires : goal.empty-done-requires
 empty-done-requires g c = words_fit g.row.W c.requires.narrow

@@ -49,7 +49,8 @@ loop-place-preserved g c = (
 
 pub returns : goal.returns
 returns g c = λ _. record {
-  some = some_of (64 * g.row.W) c.args.group.now c.least.result c.is_none.result c.least.ensures.within c.least.ensures.least c.is_none.ensures c.if-is_none.false;
+  some =
+      some_of (64 * g.row.W) c.args.group.now c.least.result c.is_none.result c.least.ensures.within c.least.ensures.least c.is_none.ensures c.if-is_none.false;
   inside = λ t m. (minus_parts c.args.members.now c.args.done.now t (subst (λ s. set.contains s t ≡ true) c.minus.ensures
       (inside c.args.group.now c.minus.result (sym c.is_subset.ensures ∙ c.if-not-is_subset.false) t m))).0;
   apart = λ t m. (minus_parts c.args.members.now c.args.done.now t (subst (λ s. set.contains s t ≡ true) c.minus.ensures

@@ -83,7 +83,8 @@ returns-then-are_parts-clause-stands g c =
 pub returns-then-are_parts-clause-certificate : goal.returns-then-are_parts-clause-certificate
 returns-then-are_parts-clause-certificate g c = λ graph stands.
     certificate (64 * g.row.W) c.args.dep.now graph c.members-members.ensures.closed stands c.are_parts.new.draft.parts c.requires.component
-    (subst (λ s. AreParts (64 * g.row.W) c.args.dep.now s c.are_parts.new.draft.parts) c.members-members.ensures.members (c.are_parts.ensures.parts c.if-are_parts.true))
+    (subst (λ s. AreParts (64 * g.row.W) c.args.dep.now s c.are_parts.new.draft.parts) c.members-members.ensures.members
+    (c.are_parts.ensures.parts c.if-are_parts.true))
 
 pub returns-then-are_parts-clause-optimal : goal.returns-then-are_parts-clause-optimal
 returns-then-are_parts-clause-optimal g c = λ graph stands.
@@ -94,7 +95,8 @@ returns-then-are_parts-clause-optimal g c = λ graph stands.
 pub returns-then-are_parts-clause-minimal : goal.returns-then-are_parts-clause-minimal
 returns-then-are_parts-clause-minimal g c = λ graph stands.
     minimal (64 * g.row.W) c.args.dep.now graph c.members-members.ensures.closed stands c.are_parts.new.draft.parts c.requires.component
-    (subst (λ s. AreParts (64 * g.row.W) c.args.dep.now s c.are_parts.new.draft.parts) c.members-members.ensures.members (c.are_parts.ensures.parts c.if-are_parts.true))
+    (subst (λ s. AreParts (64 * g.row.W) c.args.dep.now s c.are_parts.new.draft.parts) c.members-members.ensures.members
+    (c.are_parts.ensures.parts c.if-are_parts.true))
 
 pub returns-then-are_parts-clause-steps_least : goal.returns-then-are_parts-clause-steps_least
 returns-then-are_parts-clause-steps_least g c =

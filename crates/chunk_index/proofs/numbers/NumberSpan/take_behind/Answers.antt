@@ -13,22 +13,26 @@ returns-in_default-next_back-clause-last c =
 
 pub invariant_of-self : goal.invariant_of-self
 invariant_of-self c =
-    let whole : c.args.self.now.map ≡ c.next_back.new.self ++ (c.in-Some.key.now, c.in-Some.number.now) ∷ [] = sym c.in-Ok.ensures.cases ∙ c.in-Some.ensures.steps in
+    let whole : c.args.self.now.map ≡ c.next_back.new.self ++ (c.in-Some.key.now, c.in-Some.number.now) ∷ [] = sym c.in-Ok.ensures.cases
+    ∙ c.in-Some.ensures.steps in
     record { map_order = front_order pair_key c.next_back.new.self _ (subst (IsInOrder pair_key) whole c.args.self.now.map_order) }
 
 pub invariant_of-self-in-Greater : goal.invariant_of-self-in-Greater
 invariant_of-self-in-Greater c =
-    let whole : c.args.self.now.map ≡ c.next_back.new.self ++ (c.in-Some.key.now, c.in-Some.number.now) ∷ [] = sym c.in-Ok.ensures.cases ∙ c.in-Some.ensures.steps in
+    let whole : c.args.self.now.map ≡ c.next_back.new.self ++ (c.in-Some.key.now, c.in-Some.number.now) ∷ [] = sym c.in-Ok.ensures.cases
+    ∙ c.in-Some.ensures.steps in
     record { map_order = front_order pair_key c.next_back.new.self _ (subst (IsInOrder pair_key) whole c.args.self.now.map_order) }
 
 pub returns-in-Equal-clause-last : goal.returns-in-Equal-clause-last
 returns-in-Equal-clause-last c =
-    let whole : c.args.self.now.map ≡ c.next_back.new.self ++ (c.in-Some.key.now, c.in-Some.number.now) ∷ [] = sym c.in-Ok.ensures.cases ∙ c.in-Some.ensures.steps in
+    let whole : c.args.self.now.map ≡ c.next_back.new.self ++ (c.in-Some.key.now, c.in-Some.number.now) ∷ [] = sym c.in-Ok.ensures.cases
+    ∙ c.in-Some.ensures.steps in
     subst (λ (t : Numbers). ComesLast pair_key c.args.start.now t c.next_back.new.self) (sym whole)
     (last_level pair_key c.args.start.now c.next_back.new.self _ (subst (IsInOrder pair_key) whole c.args.self.now.map_order) (sym c.in-Equal.ensures))
 
 pub returns-in-Less-clause-last : goal.returns-in-Less-clause-last
 returns-in-Less-clause-last c =
-    let whole : c.args.self.now.map ≡ c.next_back.new.self ++ (c.in-Some.key.now, c.in-Some.number.now) ∷ [] = sym c.in-Ok.ensures.cases ∙ c.in-Some.ensures.steps in
+    let whole : c.args.self.now.map ≡ c.next_back.new.self ++ (c.in-Some.key.now, c.in-Some.number.now) ∷ [] = sym c.in-Ok.ensures.cases
+    ∙ c.in-Some.ensures.steps in
     subst (λ (t : Numbers). ComesLast pair_key c.args.start.now t t) (sym whole)
     (last_before pair_key c.args.start.now c.next_back.new.self _ (subst (IsInOrder pair_key) whole c.args.self.now.map_order) (sym c.in-Less.ensures))

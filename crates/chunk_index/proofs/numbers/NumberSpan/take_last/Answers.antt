@@ -8,7 +8,10 @@ use Rattle.chunk_index.proofs.numbers.NumberSpan.take_last.Goals as goal
 
 pub invariant_of-self : goal.invariant_of-self
 invariant_of-self c =
-    record { map_order = last_taken pair_key deref_pair c.next_back.result c.args.self.now.map c.next_back.new.self c.next_back.ensures.steps c.args.self.now.map_order }
+    record {
+      map_order = last_taken pair_key deref_pair c.next_back.result c.args.self.now.map c.next_back.new.self c.next_back.ensures.steps
+          c.args.self.now.map_order;
+    }
 
 pub returns-in_default : goal.returns-in_default
 unfolding put_all

@@ -11,8 +11,14 @@ loop-middle-init g c = CoversSoFar-start c.args.self.now c.remove.new.self
 
 pub ancestors-further-requires : goal.ancestors-further-requires
 ancestors-further-requires g c =
-    let ups = c.remove.ensures ∙ ap (λ s. fin.remove s c.args.place) c.row.ensures.ancestors in
-    (assumption, (search rules, middle_member c.row.ensures.closed c.args.place ups c.in-Some.middle (c.loop-middle.invariant.comes c.in-Some.middle c.in-Some.ensures.there)))
+    let ups = c.remove.ensures ∙ ap (λ s. fin.remove s c.args.place) c.row.ensures.ancestors in (
+      assumption,
+      (
+        search rules,
+        middle_member c.row.ensures.closed c.args.place ups c.in-Some.middle
+            (c.loop-middle.invariant.comes c.in-Some.middle c.in-Some.ensures.there),
+      ),
+    )
 
 pub remove-requires-in-Some : goal.remove-requires-in-Some
 remove-requires-in-Some g c = (search rules, c.in-Some.ensures.within c.in-Some.middle c.in-Some.ensures.there)

@@ -49,8 +49,11 @@ invariant_of-self-2 g c =
     (shifts g c) (rebuilds g c) c.in_ok-number.ensures.store
 
 pub returns-clause-top : goal.returns-clause-top
-returns-clause-top g c =
-    (c.in_ok-number.number, subst (λ (s : Shelf). TopRebuilds g.row.W [] (c.in_ok-number.number ∷ []) [] (c.args.cluster ∷ []) [] s (new g c)) c.self.view_is (rebuilds g c))
+returns-clause-top g c = (
+  c.in_ok-number.number,
+  subst (λ (s : Shelf). TopRebuilds g.row.W [] (c.in_ok-number.number ∷ []) [] (c.args.cluster ∷ []) [] s (new g c))
+      c.self.view_is (rebuilds g c),
+)
 
 pub returns-clause-order : goal.returns-clause-order
 returns-clause-order g c =

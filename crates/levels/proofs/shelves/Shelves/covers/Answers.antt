@@ -15,8 +15,14 @@ pub covers-requires : goal.covers-requires
 covers-requires g c =
     let narrow : g.row.W ≤ 2 = c.requires.order.narrow in
     let under = c.its_number in
-    let at = seen_there g.row.W c.args.self.now c.requires.order c.args.level c.args.id under.result under.ensures c.at.result.now c.at.ensures in
-    (cluster_fits g.row.W narrow, (covers_fits g.row.W narrow, held g.row.W c.args.self.now c.requires.order c.args.level c.args.id under.result under.ensures c.at.result.now at))
+    let at = seen_there g.row.W c.args.self.now c.requires.order c.args.level c.args.id under.result under.ensures c.at.result.now c.at.ensures in (
+      cluster_fits g.row.W narrow,
+      (
+        covers_fits g.row.W narrow,
+        held g.row.W c.args.self.now c.requires.order c.args.level c.args.id under.result
+            under.ensures c.at.result.now at,
+      ),
+    )
 
 pub returns : goal.returns
 returns g c =

@@ -19,8 +19,16 @@ linked-requires g c =
     let at =
     seen_there g.row.W c.args.self.now c.requires.order Top c.args.parent c.args.number c.requires.link.0 c.at-cluster.result.now c.at-cluster.ensures in
     let both = together g.row.W c.args.self.now c.requires.order c.args.parent c.args.child c.args.number c.at-cluster.result.now
-    c.requires.link.0 c.requires.link.1 at in
-    (cluster_fits g.row.W narrow, (work_fits g.row.W narrow, (both.cluster.here, (both.q_in, sym (both.cluster.above c.args.child c.args.parent both.cluster.here) ∙ c.requires.link.3))))
+    c.requires.link.0 c.requires.link.1 at in (
+      cluster_fits g.row.W narrow,
+      (
+        work_fits g.row.W narrow,
+        (
+          both.cluster.here,
+          (both.q_in, sym (both.cluster.above c.args.child c.args.parent both.cluster.here) ∙ c.requires.link.3),
+        ),
+      ),
+    )
 
 pub returns-in_err-changed-clause-steps : goal.returns-in_err-changed-clause-steps
 returns-in_err-changed-clause-steps g c ids lists =

@@ -17,8 +17,16 @@ returns-then-rate-fee-clause-fees g c =
 
 pub exchange_shared-requires : goal.exchange_shared-requires
 exchange_shared-requires g c =
-    let narrow : g.row.W ≤ 2 = c.requires.order.narrow in
-    (omega arith, (cluster_fits g.row.W narrow, (c.in_ok-changed.ensures.whole, (c.at-cluster.result.now, c.at-cluster.ensures, c.in_ok-changed.ensures.names))))
+    let narrow : g.row.W ≤ 2 = c.requires.order.narrow in (
+      omega arith,
+      (
+        cluster_fits g.row.W narrow,
+        (
+          c.in_ok-changed.ensures.whole,
+          (c.at-cluster.result.now, c.at-cluster.ensures, c.in_ok-changed.ensures.names),
+        ),
+      ),
+    )
 
 pub returns-clause-fees : goal.returns-clause-fees
 returns-clause-fees g c =
@@ -44,8 +52,13 @@ rate-requires g c =
 pub with_fee-requires : goal.with_fee-requires
 with_fee-requires g c =
     let same = same_Some c.requires.there.0 c.at-cluster.result.now (sym c.requires.there.1 ∙ c.at-cluster.ensures) in
-    let held = subst (λ (d : Cluster). Contains d.names c.args.id) same c.requires.there.2 in
-    (cluster_fits g.row.W c.requires.order.narrow, (work_fits g.row.W c.requires.order.narrow, (held, subst IsFee (sym (to_z-of_z w64 c.args.fee c.ranges.fee)) c.requires.fee)))
+    let held = subst (λ (d : Cluster). Contains d.names c.args.id) same c.requires.there.2 in (
+      cluster_fits g.row.W c.requires.order.narrow,
+      (
+        work_fits g.row.W c.requires.order.narrow,
+        (held, subst IsFee (sym (to_z-of_z w64 c.args.fee c.ranges.fee)) c.requires.fee),
+      ),
+    )
 
 pub at-cluster-requires : goal.at-cluster-requires
 at-cluster-requires g c = (omega arith, (cluster_fits g.row.W c.requires.order.narrow, ap is_some c.requires.there.1))
