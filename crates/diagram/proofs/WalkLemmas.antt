@@ -2,7 +2,7 @@
 use Rattle.std.proofs.Common.{◌≡◌, ◌≢◌, ◌⊎◌, ℕ, zero, suc, ◌+◌, ◌<◌, ◌≤◌, map, List, [], ◌∷◌, ◌++◌, Option, ℤ, ◌+ℤ◌, refl, sym, ap, ◌∙◌, subst, arith, inl, inr, append_assoc}
 use Rattle.std.specs.Prelude.{Contains, flat_map}
 use Rattle.std.specs.Iterator.{AlwaysYields, Count, IsFinite, IsNearerEnd, size}
-use Rattle.graphs.proofs.CornerLemmas.{falls-after}
+use Rattle.graphs.proofs.CornerLemmas.{falls-after, joins_first_segment}
 use Rattle.graphs.proofs.TangentLemmas.{falls-tail}
 use Rattle.fee_rate.proofs.Orders.{same_sum}
 use Rattle.lists.proofs.Entries.{not_empty, Contains-head}
@@ -17,7 +17,6 @@ use Rattle.std.proofs.lemmas.List.Elements.{Contains-append_right, Contains-appe
 use Rattle.arithmetic.proofs.Sums.{total-append}
 use Rattle.fee_rate.specs.Rates.{AtMost, ComparesRates}
 use Rattle.fee_rate.specs.Limits.{IsSum}
-use Rattle.graphs.specs.Laws.{EqualRatesJoinOnce}
 use Rattle.graphs.specs.Diagrams.{ends_from, JoinsEqualRates}
 use Rattle.graphs.specs.Rates.{sum_of, Falls}
 use Rattle.diagram.specs.Parts.{rate_of}
@@ -187,15 +186,15 @@ later_are corners a first end new group segments others are ahead cut sum =
 
 -- a later call gives the end of the segment of the parts that it takes
 pub later_step : {S : Type 0} (steps : S → Option FeeRate → S → Type 0) (Fact : Type 0) (first : Sum) (s t : Corners S) (corners : List (ℕ × ℤ))
-    → EqualRatesJoinOnce → HasCorners steps s corners → s.ahead ≡ Part first
+    → HasCorners steps s corners → s.ahead ≡ Part first
     → ((more : List Sum) → AlwaysYields steps rate_of s.parts more → TakesSegment steps s.end first more t) → WhereTaken t.ahead Fact
     → (others : List (ℕ × ℤ)) × (corners ≡ (t.end.size, t.end.fee) ∷ others) × HasCorners steps t others
-later_step steps Fact first s t corners law has ahead takes goes =
+later_step steps Fact first s t corners has ahead takes goes =
     let yields = subst (λ a. AreAhead a (AlwaysYields steps rate_of s.parts) has.rest) ahead has.left in
     let took = takes yields.0 yields.2 in
     let all : has.rest ≡ first ∷ took.group ++ took.after = yields.1 ∙ ap (λ zs. first ∷ zs) took.all in
     let level : FitBehind s.end (first ∷ took.group ++ took.after) = subst (FitBehind s.end) all has.level in
-    let cut = law.first first took.group took.after has.segments level.some level.falling took.same took.lower
+    let cut = joins_first_segment first took.group took.after has.segments level.some level.falling took.same took.lower
     (subst (λ zs. JoinsEqualRates zs has.segments) all has.joins) in (
       ends_from t.end cut.0,
       later_are corners s.ahead first s.end t.end took.group has.segments cut.0 has.are ahead cut.1 took.end,

@@ -5,7 +5,6 @@ ghost use Rattle.diagram.specs.Parts.{rate_of};
 ghost use Rattle.diagram.specs.Walks.{corner_steps, corners_left, AreLeft, CanGoOn, FitBehind, TakesSegment, WhereTaken};
 
 use fee_rate::{FeeRate, Sum, add, cmp_rate};
-use graphs::equal_rates_join_once;
 use std::cmp::Ordering;
 
 /// What is known of the part behind those taken.
@@ -44,8 +43,6 @@ impl<I: Iterator<Item = FeeRate>> Iterator for Corners<I> {
                 Some((self.end.size, self.end.fee))
             }
             Ahead::Part(first) => {
-                // A law for the proof: how the segment at hand stands to those behind it.
-                equal_rates_join_once();
                 self.take_segment(first);
                 Some((self.end.size, self.end.fee))
             }

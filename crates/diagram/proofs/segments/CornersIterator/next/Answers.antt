@@ -23,7 +23,7 @@ returns-in-Part-clause-steps g c corners has =
     let fits : SFits w128 t.end.fee = search rules in
     subst (λ (fee : ℤ). (others : List (ℕ × ℤ)) × (corners ≡ (t.end.size, fee) ∷ others) × HasCorners steps t others) (sym (to_z-of_z w128 t.end.fee fits))
     (later_step steps (IsNearerEnd g.I.Iterator.can_next g.I.Iterator.remaining c.args.self.now.parts t.parts) c.in-Part.first
-    c.args.self.now t corners c.equal_rates_join_once.ensures has c.in-Part.is c.take_segment.ensures.takes c.take_segment.ensures.goes)
+    c.args.self.now t corners has c.in-Part.is c.take_segment.ensures.takes c.take_segment.ensures.goes)
 
 pub returns-in-Part-clause-goes : goal.returns-in-Part-clause-goes
 returns-in-Part-clause-goes g c =
