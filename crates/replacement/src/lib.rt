@@ -14,7 +14,7 @@ mod merged;
 
 use diagram::{corners, verdict};
 use fee_rate::FeeRate;
-use graphs::{Verdict, equal_rates_join_once};
+use graphs::Verdict;
 pub use laws::{
     best_common_parts_keep_verdicts, changes_are_level_parts, common_parts_keep_verdicts,
     fewer_parts_fit_together, tested_parts_merge,
@@ -37,8 +37,6 @@ pub fn compare_full<I: Iterator<Item = FeeRate>, J: Iterator<Item = FeeRate>>(
         → YieldsParts J.next_gives top tops → JoinsEqualRates mains before → JoinsEqualRates tops after
         → Compares (corners_of after) (corners_of before) result }
 {
-    // A law for the proof: each list of parts has its segments.
-    equal_rates_join_once();
     verdict(corners(top), corners(main))
 }
 
@@ -62,9 +60,6 @@ pub fn compare_changed<I: Iterator<Item = FeeRate>, J: Iterator<Item = FeeRate>>
         → IsMerged tops common top → JoinsEqualRates main before → JoinsEqualRates top after
         → Compares (corners_of after) (corners_of before) result }
 {
-    // Laws for the proof: the changes have their segments, and what is in both levels keeps their verdict.
-    equal_rates_join_once();
-    common_parts_keep_verdicts();
     compare_full(main_only, top_only)
 }
 
@@ -95,9 +90,6 @@ pub fn compare_with_tail<
         → IsMerged mains (upper ++ tail) main → IsMerged tops (upper ++ tail) top → JoinsEqualRates main before
         → JoinsEqualRates top after → Compares (corners_of after) (corners_of before) result }
 {
-    // Laws for the proof: the merged parts have their segments, and the better parts keep their verdict.
-    equal_rates_join_once();
-    best_common_parts_keep_verdicts();
     let main = Merged::new(main_only, main_tail);
     let top = Merged::new(top_only, top_tail);
     compare_full(main, top)
