@@ -9,7 +9,7 @@ use crate::flows::check_flows;
 use crate::graph::check_graph;
 use crate::order::check_order;
 use crate::{CheckFault, Part, Written};
-use graphs::{TxId, certified_parts_are_optimal};
+use graphs::TxId;
 use std::alloc::Global;
 
 /// Whether parts with flows are a certificate of the graph that is written.
@@ -52,7 +52,6 @@ fn check_lists(
     ensures falling { result ≡ Err CheckFault.Falling → Finds txs.now edges.now (parts_of parts.now) NoFalling }
     ensures flow { result ≡ Err CheckFault.Flow → Finds txs.now edges.now (parts_of parts.now) NoFlow }
 {
-    certified_parts_are_optimal();
     let tables = check_graph(alloc, txs, edges)?;
     check_order(alloc, txs, &tables, parts)?;
     check_falling(txs, &tables.names, parts)?;

@@ -1,5 +1,6 @@
 use Rattle.std.proofs.Common.{arith, sym, subst, ◌∙◌}
 use Rattle.std.proofs.lemmas.Result.{err_from_is_err_and}
+use Rattle.graphs.proofs.BestLemmas.{certified_optimal}
 use Rattle.graphs.specs.Certificates.{HasOrder, HasFlows, graph_of, rate_in}
 use Rattle.graphs.specs.Linearizations.{IsOptimal}
 use Rattle.certificate.specs.declared.fault.CheckFault.TheVariants as faults
@@ -68,4 +69,4 @@ returns-clause-optimal c =
     let certificate = is_certificate c.args.txs.now c.args.edges.now c.args.parts.now c.requires order c.in_ok-check_falling.ensures flows in
     let sizes = has_sizes c.args.txs.now _ t.places (limits_part c.args.txs.now c.args.edges.now c.in_ok-tables.ensures.yes) in
     subst (λ l. IsOptimal (rate_in c.args.txs.now) (graph_of c.args.txs.now c.args.edges.now) l)
-    (ids_same c.args.parts.now) (c.certified_parts_are_optimal.ensures.by_pairs _ _ _ sizes certificate)
+    (ids_same c.args.parts.now) (certified_optimal _ _ _ _ sizes (λ parent child pair. pair) certificate)
