@@ -17,7 +17,6 @@ use crate::split::split;
 use bitset::Bits;
 use closure_flow::Scratch;
 use dep_graph::DepGraph;
-use graphs::certified_parts_are_optimal;
 use outside::NoMemory;
 use std::alloc::Global;
 use std::marker::Model;
@@ -140,7 +139,6 @@ pub fn optimal<L: Ledger, const W: usize>(
         &mut out.draft,
         steps,
     );
-    certified_parts_are_optimal();
 }
 
 /// Keeps the covering parents of each member.

@@ -21,7 +21,6 @@ use bitset::Bits;
 use closure_flow::Scratch;
 use dep_graph::DepGraph;
 use fee_rate::FeeRate;
-use graphs::certified_parts_are_optimal;
 use step_count::{Ledger, Steps};
 
 /// As [`optimal`], where an order is at hand that may be near to an optimal one, as that before a change is. A place in the
@@ -62,7 +61,7 @@ pub fn optimal_near<L: Ledger, const W: usize>(
     link(dep, parents);
     arrange(dep, &members, guess, &mut out.groups);
     let groups = out.groups.as_slice();
-    if are_parts(
+    if !are_parts(
         scratch,
         dep,
         parents,
@@ -72,8 +71,6 @@ pub fn optimal_near<L: Ledger, const W: usize>(
         &mut out.draft,
         steps,
     ) {
-        certified_parts_are_optimal();
-    } else {
         optimal(scratch, dep, out, steps);
     }
 }

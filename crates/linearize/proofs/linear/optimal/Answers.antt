@@ -1,5 +1,6 @@
 use Rattle.std.proofs.Common.{rules, ◌≡◌, ◌*◌, ◌∙◌, ℕ, ap, sym, subst, arith, lit<, true, List, map, ◌++◌}
 use Rattle.std.specs.FinSet as fin
+use Rattle.graphs.proofs.BestLemmas.{certified_optimal, covers_are_pairs}
 use Rattle.graphs.proofs.Members.{contains-members_of}
 use Rattle.graphs.specs.Closures.{is_member, members_of, IsClosed}
 use Rattle.bitset.specs.Places.{IsWithin}
@@ -77,8 +78,8 @@ returns-clause-optimal g c = λ graph stands.
     subst (λ s. Adds n dep s c.clear.new.self c.split.new.draft) c.members-members.ensures.members c.split.ensures.adds in
     let parts : c.split.new.draft.parts ≡ adds.parts = ap (λ (w : Written). w.parts) adds.is ∙ ap (λ (w : Written). w.parts ++ adds.parts) c.clear.ensures in
     subst (λ (ps : List Part). IsOptimal (sum_at dep) graph (map (λ part. part.ids) ps)) (sym parts)
-    (c.certified_parts_are_optimal.ensures.by_covers (sum_at dep) graph adds.parts
-    (has_sizes n dep graph c.members-members.ensures.closed stands c.requires.rates)
+    (certified_optimal (sum_at dep) graph (model.IsCover graph.pairs) adds.parts
+    (has_sizes n dep graph c.members-members.ensures.closed stands c.requires.rates) (covers_are_pairs graph.pairs)
     (certificate n dep graph c.members-members.ensures.closed stands adds.parts c.requires.component (as_parts n dep (members_of dep) adds.parts adds.linear))))
 
 pub returns-clause-minimal : goal.returns-clause-minimal

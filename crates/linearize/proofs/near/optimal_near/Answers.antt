@@ -1,5 +1,7 @@
 use Rattle.std.proofs.Common.{rules, ◌≡◌, ◌+◌, ◌*◌, ◌≤◌, ◌∙◌, ℕ, ap, sym, subst, arith, lit<, true}
 use Rattle.std.specs.FinSet as fin
+use Rattle.graphs.proofs.BestLemmas.{certified_optimal, covers_are_pairs}
+use Rattle.graphs.specs.Graphs.{IsCover}
 use Rattle.graphs.proofs.Members.{contains-members_of}
 use Rattle.graphs.specs.Closures.{is_member, members_of, IsClosed}
 use Rattle.bitset.specs.Places.{IsWithin}
@@ -76,39 +78,39 @@ are_parts-requires g c =
       ),
     )
 
-pub returns-then-are_parts-clause-stands : goal.returns-then-are_parts-clause-stands
-returns-then-are_parts-clause-stands g c =
+pub returns-else-not-are_parts-clause-stands : goal.returns-else-not-are_parts-clause-stands
+returns-else-not-are_parts-clause-stands g c =
     let made = closures_have_graphs (64 * g.row.W) c.args.dep.now c.members-members.ensures.closed in (made.0, made.2)
 
-pub returns-then-are_parts-clause-certificate : goal.returns-then-are_parts-clause-certificate
-returns-then-are_parts-clause-certificate g c = λ graph stands.
+pub returns-else-not-are_parts-clause-certificate : goal.returns-else-not-are_parts-clause-certificate
+returns-else-not-are_parts-clause-certificate g c = λ graph stands.
     certificate (64 * g.row.W) c.args.dep.now graph c.members-members.ensures.closed stands c.are_parts.new.draft.parts c.requires.component
     (subst (λ s. AreParts (64 * g.row.W) c.args.dep.now s c.are_parts.new.draft.parts) c.members-members.ensures.members
-    (c.are_parts.ensures.parts c.if-are_parts.true))
+    (c.are_parts.ensures.parts c.if-not-are_parts.false))
 
-pub returns-then-are_parts-clause-optimal : goal.returns-then-are_parts-clause-optimal
-returns-then-are_parts-clause-optimal g c = λ graph stands.
-    c.certified_parts_are_optimal.ensures.by_covers (sum_at c.args.dep.now) graph c.are_parts.new.draft.parts
-    (has_sizes (64 * g.row.W) c.args.dep.now graph c.members-members.ensures.closed stands c.requires.rates)
-    (returns-then-are_parts-clause-certificate g c graph stands)
+pub returns-else-not-are_parts-clause-optimal : goal.returns-else-not-are_parts-clause-optimal
+returns-else-not-are_parts-clause-optimal g c = λ graph stands.
+    certified_optimal (sum_at c.args.dep.now) graph (IsCover graph.pairs) c.are_parts.new.draft.parts
+    (has_sizes (64 * g.row.W) c.args.dep.now graph c.members-members.ensures.closed stands c.requires.rates) (covers_are_pairs graph.pairs)
+    (returns-else-not-are_parts-clause-certificate g c graph stands)
 
-pub returns-then-are_parts-clause-minimal : goal.returns-then-are_parts-clause-minimal
-returns-then-are_parts-clause-minimal g c = λ graph stands.
+pub returns-else-not-are_parts-clause-minimal : goal.returns-else-not-are_parts-clause-minimal
+returns-else-not-are_parts-clause-minimal g c = λ graph stands.
     minimal (64 * g.row.W) c.args.dep.now graph c.members-members.ensures.closed stands c.are_parts.new.draft.parts c.requires.component
     (subst (λ s. AreParts (64 * g.row.W) c.args.dep.now s c.are_parts.new.draft.parts) c.members-members.ensures.members
-    (c.are_parts.ensures.parts c.if-are_parts.true))
+    (c.are_parts.ensures.parts c.if-not-are_parts.false))
 
-pub returns-then-are_parts-clause-steps_least : goal.returns-then-are_parts-clause-steps_least
-returns-then-are_parts-clause-steps_least g c =
-    subst (λ s. c.args.steps.now + fin.len s ≤ c.are_parts.new.steps) c.members-members.ensures.members (c.are_parts.ensures.least c.if-are_parts.true)
+pub returns-else-not-are_parts-clause-steps_least : goal.returns-else-not-are_parts-clause-steps_least
+returns-else-not-are_parts-clause-steps_least g c =
+    subst (λ s. c.args.steps.now + fin.len s ≤ c.are_parts.new.steps) c.members-members.ensures.members (c.are_parts.ensures.least c.if-not-are_parts.false)
 
-pub returns-then-are_parts-clause-steps_most : goal.returns-then-are_parts-clause-steps_most
-returns-then-are_parts-clause-steps_most g c =
+pub returns-else-not-are_parts-clause-steps_most : goal.returns-else-not-are_parts-clause-steps_most
+returns-else-not-are_parts-clause-steps_most g c =
     one_trial (fin.len (members_of c.args.dep.now)) c.args.steps.now c.are_parts.new.steps
     (subst (λ s. c.are_parts.new.steps ≤ c.args.steps.now + most_tried (fin.len s) * fin.len s) c.members-members.ensures.members c.are_parts.ensures.most)
 
-pub returns-else-are_parts-clause-steps_most : goal.returns-else-are_parts-clause-steps_most
-returns-else-are_parts-clause-steps_most g c =
+pub returns-then-not-are_parts-clause-steps_most : goal.returns-then-not-are_parts-clause-steps_most
+returns-then-not-are_parts-clause-steps_most g c =
     both_trials (fin.len (members_of c.args.dep.now)) c.args.steps.now c.are_parts.new.steps c.optimal.new.steps
     (subst (λ s. c.are_parts.new.steps ≤ c.args.steps.now + most_tried (fin.len s) * fin.len s) c.members-members.ensures.members c.are_parts.ensures.most)
     c.optimal.ensures.steps_most
