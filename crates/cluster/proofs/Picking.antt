@@ -8,7 +8,8 @@ use Rattle.graphs.specs.Graphs.{Graph, IsCover}
 use Rattle.graphs.specs.Certificates.{Part, IsCertificate}
 use Rattle.graphs.specs.Closures.{Closure, is_member, is_ancestor}
 use Rattle.graphs.specs.Closing.{IsClosureOf, renamed, renamed_part, KeepsApart, IsRenamed}
-use Rattle.graphs.specs.Laws.{RenamedIsClosed, CertificatesAreRenamed}
+use Rattle.graphs.proofs.ClosingLemmas.{closes_renamed}
+use Rattle.graphs.proofs.RenamingLemmas.{certificates_are_renamed}
 use Rattle.linearize.specs.Graphs as linear
 use Rattle.cluster.specs.Clusters.{sum_at}
 use Rattle.cluster.specs.Named.{named, IsNamed}
@@ -90,8 +91,8 @@ module _ (n : ℕ) (names : List ℕ) (g : Closure) (kept : IsNamed n names g) (
       let two = member_at d second in
       sym (named-ancestor names g kept.once (place a) (place d) one.0 two.0) ∙ ap₂ (is_ancestor (named names g)) one.1 two.1
 
-  pub closes_places : RenamedIsClosed → IsClosureOf g by_places
-  closes_places law = law place (is_member (named names g)) (is_member g) (is_ancestor (named names g))
+  pub closes_places : IsClosureOf g by_places
+  closes_places = closes_renamed place (is_member (named names g)) (is_member g) (is_ancestor (named names g))
       (is_ancestor g) graph by_places closes keeps_apart is_renamed members_are above_are
 
   -- ---- and back
@@ -136,7 +137,8 @@ module _ (n : ℕ) (names : List ℕ) (g : Closure) (kept : IsNamed n names g) (
   rates_are : (p : ℕ) → Contains by_places.names p → sum_at (named names g) (slice_index names p) ≡ linear.sum_at g p
   rates_are p here = named_sum n names g kept p (place_low p here)
 
-  pub certificate_by_names : CertificatesAreRenamed → (parts : List Part) → IsCertificate (linear.sum_at g) by_places (IsCover by_places.pairs) parts
+  pub certificate_by_names : (parts : List Part) → IsCertificate (linear.sum_at g) by_places (IsCover by_places.pairs) parts
       → IsCertificate (sum_at (named names g)) graph (IsCover graph.pairs) (map (renamed_part (slice_index names)) parts)
-  certificate_by_names law parts certificate =
-      law (slice_index names) (linear.sum_at g) (sum_at (named names g)) by_places graph parts place_ends back_apart back_renamed rates_are certificate
+  certificate_by_names parts certificate =
+      certificates_are_renamed (slice_index names) (linear.sum_at g) (sum_at (named names g)) by_places graph parts
+      place_ends back_apart back_renamed rates_are certificate

@@ -10,7 +10,6 @@ use Rattle.graphs.specs.Closures.{Closure, members_of, IsNear, IsRelated}
 use Rattle.graphs.specs.Closing.{IsClosureOf, renamed}
 use Rattle.graphs.specs.Picks.{IsPick}
 use Rattle.linearize.specs.Minimal.{AreMinimal}
-use Rattle.graphs.specs.Laws.{RenamedIsClosed, CertificatesAreRenamed}
 use Rattle.graphs.specs.declared.names.Flow.{Flow}
 use Rattle.linearize.specs.Drafts.{placed}
 use Rattle.linearize.specs.Graphs as linear
@@ -60,11 +59,11 @@ module _ (n : ℕ) (names : List ℕ) (g : Closure) (kept : IsNamed n names g) w
   }
 
   -- the order that was read is a pick, which can't be cut further
-  pub is_ordered : RenamedIsClosed → CertificatesAreRenamed → (parts : List Part)
+  pub is_ordered : (parts : List Part)
       → ((graph : Graph) → IsClosureOf g graph → IsCertificate (linear.sum_at g) graph (IsCover graph.pairs) parts)
       → ((graph : Graph) → IsClosureOf g graph → AreMinimal (linear.sum_at g) graph.pairs parts) → IsPlaced (length names) parts
       → (ends : List PartEnd) (order : List ℕ) (flows : List Flow) → IsRead names parts ends order flows → IsOrdered names g ends order flows
-  is_ordered closing renaming parts certified minimal placed_are ends order flows read =
+  is_ordered parts certified minimal placed_are ends order flows read =
       let whole : cut ends order flows ≡ read.parts = cut_whole ends order flows read.parts read.ends in
       let order_is : order ≡ map (slice_index names) (placed parts) = sym read.ends.order_is ∙ placed_read names order parts read.parts read.read in
       let once : AreDistinct order =
@@ -72,13 +71,13 @@ module _ (n : ℕ) (names : List ℕ) (g : Closure) (kept : IsNamed n names g) w
       (λ x y here there same. one_place names x y 0 kept.once (placed_are.below x here) (placed_are.below y there) same)) in
       let pick : (graph : Graph) → IsClosureOf (named names g) graph → IsPick (sum_at (named names g)) graph read.parts =
       λ graph closes. pick_read (sum_at (named names g)) graph names order parts read.parts once read.read
-      (certificate_by_names n names g kept graph closes renaming parts
-      (certified (renamed (place_in names) graph) (closes_places n names g kept graph closes closing))) in
+      (certificate_by_names n names g kept graph closes parts
+      (certified (renamed (place_in names) graph) (closes_places n names g kept graph closes))) in
       record {
         ends = subst (λ (ps : List Part). AreCut ends order flows ps) (sym whole) read.ends;
         picked = subst (ArePicked (named names g)) (sym whole) pick;
         uncut = subst (AreUncut (named names g)) (sym whole) (λ graph closes.
             uncut_read n names g kept graph closes parts read.parts order placed_are read.read
-            (minimal (renamed (place_in names) graph) (closes_places n names g kept graph closes closing))
+            (minimal (renamed (place_in names) graph) (closes_places n names g kept graph closes))
             (λ q here id there. ((pick graph closes).certificate.order.topological.names id).0 (in_placed read.parts q id here there)));
       }

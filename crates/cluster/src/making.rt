@@ -16,7 +16,7 @@ use crate::places::copy_names;
 use crate::work::Work;
 use bitset::Bits;
 use dep_graph::DepGraph;
-use graphs::{TxId, certificates_are_renamed, renamed_is_closed};
+use graphs::TxId;
 use linearize::optimal_near;
 use outside::NoMemory;
 use smallvec::SmallVec;
@@ -78,8 +78,6 @@ fn solved<L: Ledger, const W: usize>(
 {
     let guess = &work.positions.as_slice()[..names.len()];
     optimal_near(&mut work.scratch, dep, guess, &mut work.linear, steps);
-    renamed_is_closed();
-    certificates_are_renamed();
     read(
         alloc,
         names,

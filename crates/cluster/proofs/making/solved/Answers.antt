@@ -44,7 +44,7 @@ read-requires g c =
 pub returns-clause-order : goal.returns-clause-order
 returns-clause-order g c =
     IfOk-weaker c.read.result _ _ (λ (o : Order) read. is_ordered (64 * g.row.W) c.args.names.now c.args.dep.now c.requires
-    c.renamed_is_closed.ensures c.certificates_are_renamed.ensures c.optimal_near.new.out c.optimal_near.ensures.certificate c.optimal_near.ensures.minimal
+    c.optimal_near.new.out c.optimal_near.ensures.certificate c.optimal_near.ensures.minimal
     (is_placed (64 * g.row.W) c.args.names.now c.args.dep.now c.requires c.optimal_near.ensures.stands.0 c.optimal_near.new.out c.optimal_near.ensures.stands.1
     (c.optimal_near.ensures.certificate c.optimal_near.ensures.stands.0 c.optimal_near.ensures.stands.1))
     o.parts.items o.names.items o.flows.items read) c.read.ensures
