@@ -11,34 +11,34 @@ use Rattle.graph_model.specs.Texts.{Text, IsText, HasPartTypes, NoSyntax, Found}
 use Rattle.certificate.specs.declared.owned.Part.{Part}
 use Rattle.certificate.specs.Answers.{AreClaims}
 use Rattle.certificate.specs.Parts.{part_of}
-use Rattle.wire.specs.Laws.{BytesHaveOneCut}
+use Rattle.wire.proofs.CutLemmas.{one_cut}
 use Rattle.replay.specs.declared.check.Said.{Said}
 use Rattle.replay.specs.declared.check.Said.TheVariants as said
 use Rattle.replay.specs.Checks.{IsVerified}
 use Rattle.replay.specs.Verdicts.{verification_of, IsSaidOf}
 
 -- ---- what is found of a text is found of its bytes
-found_of : (bytes : List ℕ) (text : Text) (finding : Finding) → BytesHaveOneCut
+found_of : (bytes : List ℕ) (text : Text) (finding : Finding)
     → ((lines : List (List ℕ)) (rest : List ℕ) → Cut bytes lines rest → IsText (with_last lines rest) text)
     → Finds text.txs text.edges text.parts finding → IsVerified bytes (Found finding)
-found_of bytes text finding cuts is found =
-    let cut = cuts bytes in
+found_of bytes text finding is found =
+    let cut = one_cut bytes in
     record { lines = cut.0; rest = cut.1; cut = cut.2; verifies = (text, is cut.0 cut.1 cut.2, found) }
 
-pub verified : (bytes : List ℕ) (text : Text) (s : Said) → BytesHaveOneCut
+pub verified : (bytes : List ℕ) (text : Text) (s : Said)
     → ((lines : List (List ℕ)) (rest : List ℕ) → Cut bytes lines rest → IsText (with_last lines rest) text)
     → IsSaidOf text s → IsVerified bytes (verification_of s)
-verified bytes text said.Yes cuts is found = found_of bytes text Certified cuts is found
-verified bytes text said.NoSyntax cuts is found = absurd found
-verified bytes text said.NoGraph cuts is found = found_of bytes text NoGraph cuts is found
-verified bytes text said.NoOrder cuts is found = found_of bytes text NoOrder cuts is found
-verified bytes text said.NoFalling cuts is found = found_of bytes text NoFalling cuts is found
-verified bytes text said.NoFlow cuts is found = found_of bytes text NoFlow cuts is found
+verified bytes text said.Yes is found = found_of bytes text Certified is found
+verified bytes text said.NoSyntax is found = absurd found
+verified bytes text said.NoGraph is found = found_of bytes text NoGraph is found
+verified bytes text said.NoOrder is found = found_of bytes text NoOrder is found
+verified bytes text said.NoFalling is found = found_of bytes text NoFalling is found
+verified bytes text said.NoFlow is found = found_of bytes text NoFlow is found
 
-pub no_text : (bytes : List ℕ) → BytesHaveOneCut
+pub no_text : (bytes : List ℕ)
     → ((lines : List (List ℕ)) (rest : List ℕ) → Cut bytes lines rest → (text : Text) → IsText (with_last lines rest) text → ⊥) → IsVerified bytes NoSyntax
-no_text bytes cuts none =
-    let cut = cuts bytes in
+no_text bytes none =
+    let cut = one_cut bytes in
     record { lines = cut.0; rest = cut.1; cut = cut.2; verifies = none cut.0 cut.1 cut.2 }
 
 -- ---- what the checker asks for

@@ -16,7 +16,7 @@ use crate::top::Status;
 use certificate::{CheckFault, check};
 use outside::{Failed, NoMemory, Sink, Source};
 use std::alloc::Global;
-use wire::{CertText, TextFault, bytes_have_one_cut, read_certificate, write_word};
+use wire::{CertText, TextFault, read_certificate, write_word};
 
 /// What is said of a text.
 #[derive(Clone, Copy)]
@@ -56,7 +56,6 @@ fn verify(alloc: Global, bytes: &[u8]) -> Result<Said, NoMemory>
     requires { length bytes.now ≤ max_input }
     ensures { IfOk result (λ said. IsVerified bytes.now (verification_of said)) }
 {
-    bytes_have_one_cut();
     match read_certificate(alloc, bytes) {
         Ok(text) => judge(alloc, &text),
         Err(TextFault::Syntax) => Ok(Said::NoSyntax),

@@ -13,8 +13,8 @@ pub returns-in-Ok : goal.returns-in-Ok
 returns-in-Ok c = carried c.judge.result c.judge.ensures
   where
     carried : (r : Result Said NoMemory) → IfOk r (IsSaidOf (text_of c.in-Ok.text)) → IfOk r (λ said. IsVerified c.args.bytes.now (verification_of said))
-    carried (Ok said) h = verified c.args.bytes.now (text_of c.in-Ok.text) said c.bytes_have_one_cut.ensures c.in-Ok.ensures.text h
+    carried (Ok said) h = verified c.args.bytes.now (text_of c.in-Ok.text) said c.in-Ok.ensures.text h
     carried (Err e) h = tt
 
 pub returns-in-Err-Syntax : goal.returns-in-Err-Syntax
-returns-in-Err-Syntax c = no_text c.args.bytes.now c.bytes_have_one_cut.ensures (c.in-Err-Syntax.ensures.syntax (λ i. Err (c.in-Err-Syntax.field-0-is i)))
+returns-in-Err-Syntax c = no_text c.args.bytes.now (c.in-Err-Syntax.ensures.syntax (λ i. Err (c.in-Err-Syntax.field-0-is i)))
