@@ -161,7 +161,6 @@ impl Rings {
         ensures fewer { self.old.touched ≡ Some id → length (touched_of self.new) + 1 ≡ length (touched_of self.old) }
         ensures issued { self.new.book.issued ≡ self.old.book.issued }
     {
-        self.book.rings_go_round();
         if self.touched == Some(id) {
             self.touched = self.book.cut_next(TOUCHED, id);
         } else {
@@ -178,7 +177,6 @@ impl Rings {
         ensures next { self.old.touched ≡ Some id → self.new.touched ≡ next_of self.old.book id }
     {
         if self.touched == Some(id) {
-            self.book.rings_go_round();
             let next = self.book.next(TOUCHED, id);
             self.touched = if next == id { None } else { Some(next) };
         }

@@ -20,7 +20,7 @@ use std::marker::Model;
 pub struct NameBook {
     // The key of each live name's node.
     names: IndexMap<TxId, Key>,
-    // The names, with their rings. A change of them is followed by a call of their law, which the invariant cites.
+    // The names, with their rings.
     nodes: Pool<TxId, 2>,
     // How many names can be inserted with the room that was taken.
     spare: usize,
@@ -45,11 +45,9 @@ impl NameBook {
     pub fn new(alloc: Global) -> NameBook
         ensures { result ≡ record { names = set.empty; ring_0 = finmap.empty; ring_1 = finmap.empty; spare = 0; issued = 0 } }
     {
-        let nodes = Pool::new(alloc);
-        nodes.rings_go_round();
         NameBook {
             names: IndexMap::new(alloc),
-            nodes,
+            nodes: Pool::new(alloc),
             spare: 0,
         }
     }
@@ -70,9 +68,7 @@ impl NameBook {
             return Ok(());
         }
         self.names.reserve(n)?;
-        let reserved = self.nodes.reserve(n);
-        self.nodes.rings_go_round();
-        match reserved {
+        match self.nodes.reserve(n) {
             Ok(()) => {}
             Err(PoolFault::Memory) => return Err(NoMemory),
             Err(PoolFault::Full) => unreachable!(),
@@ -106,7 +102,6 @@ impl NameBook {
         ensures issued { self.new.issued ≡ self.old.issued + 1 }
     {
         let key = self.nodes.insert(id);
-        self.nodes.rings_go_round();
         match self.names.insert(id, key) {
             Ok(_) => self.spare -= 1,
             Err(_) => unreachable!(),
@@ -123,7 +118,6 @@ impl NameBook {
     {
         if let Some(key) = self.names.swap_remove(&id) {
             self.nodes.take(key);
-            self.nodes.rings_go_round();
         }
     }
 
@@ -143,7 +137,6 @@ impl NameBook {
         let key_a = find_key(&self.names, a);
         let key_b = find_key(&self.names, b);
         self.nodes.join_rings(r, key_a, key_b);
-        self.nodes.rings_go_round();
     }
 
     /// Cuts a live name out of its ring `r`: it is alone then, and the others stay together, in their order. The rings of the other
@@ -159,7 +152,6 @@ impl NameBook {
     {
         let key = find_key(&self.names, a);
         self.nodes.cut(r, key);
-        self.nodes.rings_go_round();
     }
 
     /// Names leave their rings `r` and make one of their own. The others of each ring stay together. The rings of the other number stay,
@@ -178,7 +170,6 @@ impl NameBook {
             let to = find_key(&self.names, first);
             cut_key(&mut self.nodes, r, to);
             move_names(&mut self.nodes, &self.names, r, to, rest);
-            self.nodes.rings_go_round();
         }
     }
 
@@ -199,7 +190,6 @@ impl NameBook {
     {
         let key = find_key(&self.names, to);
         join_names(&mut self.nodes, &self.names, r, key, names);
-        self.nodes.rings_go_round();
     }
 
     /// Cuts a live name out of its ring `r` as `cut` does, and answers the name that came after it, or `None` where it was alone. Takes
@@ -208,6 +198,7 @@ impl NameBook {
         requires r_in_range { r < 2 }
         requires live { IsNamed self.old a }
         ensures next { result ≡ other_after self.old r a }
+        ensures rung { AreRung self.old r a (after self.old r a) }
         ensures names { self.new.names ≡ self.old.names }
         ensures cut { CutsOut self.old self.new r a }
         ensures others { (q : ℕ) → q < 2 → q ≢ r → KeepsRing self.old self.new q }
@@ -217,7 +208,6 @@ impl NameBook {
         let key = find_key(&self.names, a);
         let next = name_after(&self.nodes, r, key);
         cut_key(&mut self.nodes, r, key);
-        self.nodes.rings_go_round();
         next
     }
 
@@ -237,7 +227,8 @@ impl NameBook {
     pub fn next(&self, r: usize, a: TxId) -> TxId
         requires r_in_range { r < 2 }
         requires live { IsNamed self.now a }
-        ensures { result ≡ after self.now r a }
+        ensures next { result ≡ after self.now r a }
+        ensures rung { AreRung self.now r a result }
     {
         let mut names = self.ring(r, a);
         let _first = names.next();

@@ -4,6 +4,7 @@ ghost use Rattle.lists.specs.Distinct.{AreDistinct};
 ghost use Rattle.node_pool.specs.declared.pool.Key.{Key as PoolKey};
 ghost use Rattle.node_pool.specs.Nodes.{IsLive};
 ghost use Rattle.node_pool.specs.RingKeys.{IsRing as IsKeyRing};
+ghost use Rattle.node_pool.specs.Laws.{RingsGoRound};
 ghost use Rattle.name_book.specs.Books.{AreRung};
 ghost use Rattle.name_book.specs.Changes.{CutsOut, Gathers};
 ghost use Rattle.name_book.specs.declared.keys.TheConstants.{LOOKED_UP};
@@ -58,10 +59,9 @@ pub(crate) fn cut_key(nodes: &mut Pool<TxId, 2>, r: usize, key: Key)
     ensures ring { ChangesRing nodes.old nodes.new r }
     ensures cut { (es : List (ℕ × PoolKey)) (spare id : ℕ) → AreKeys nodes.old es → key_of es id ≡ Some key
         → CutsOut (book_of nodes.old es spare) (book_of nodes.new es spare) r id }
+    ensures round { RingsGoRound 2 nodes.new }
 {
-    nodes.rings_go_round();
     nodes.cut(r, key);
-    nodes.rings_go_round();
 }
 
 /// Names leave their rings `r` and join that of another name, which is told by its key.
@@ -80,6 +80,7 @@ pub(crate) fn move_names(
     ensures ring { ChangesRing nodes.old nodes.new r }
     ensures gathers { (spare t : ℕ) → key_of names.now.entries t ≡ Some to
         → Gathers (book_of nodes.old names.now.entries spare) (book_of nodes.new names.now.entries spare) r t ids.now }
+    ensures round { RingsGoRound 2 nodes.old → RingsGoRound 2 nodes.new }
 {
     let mut rest = ids;
     while !rest.is_empty() {
@@ -100,14 +101,13 @@ fn move_few(nodes: &mut Pool<TxId, 2>, names: &IndexMap<TxId, Key>, r: usize, to
     ensures ring { ChangesRing nodes.old nodes.new r }
     ensures gathers { (spare t : ℕ) → key_of names.now.entries t ≡ Some to
         → Gathers (book_of nodes.old names.now.entries spare) (book_of nodes.new names.now.entries spare) r t ids.now }
+    ensures round { RingsGoRound 2 nodes.old → RingsGoRound 2 nodes.new }
 {
     let mut keys = [to; LOOKED_UP];
     look_up(names, ids, &mut keys);
     for key in &keys[..ids.len()] {
         cut_key(nodes, r, *key);
-        nodes.rings_go_round();
         nodes.join_rings(r, to, *key);
-        nodes.rings_go_round();
     }
 }
 
@@ -129,6 +129,7 @@ pub(crate) fn join_names(
     ensures ring { ChangesRing nodes.old nodes.new r }
     ensures gathers { (spare t : ℕ) → key_of names.now.entries t ≡ Some to
         → Gathers (book_of nodes.old names.now.entries spare) (book_of nodes.new names.now.entries spare) r t ids.now }
+    ensures round { RingsGoRound 2 nodes.old → RingsGoRound 2 nodes.new }
 {
     let mut rest = ids;
     while !rest.is_empty() {
@@ -151,12 +152,13 @@ fn join_few(nodes: &mut Pool<TxId, 2>, names: &IndexMap<TxId, Key>, r: usize, to
     ensures ring { ChangesRing nodes.old nodes.new r }
     ensures gathers { (spare t : ℕ) → key_of names.now.entries t ≡ Some to
         → Gathers (book_of nodes.old names.now.entries spare) (book_of nodes.new names.now.entries spare) r t ids.now }
+    ensures round { RingsGoRound 2 nodes.old → RingsGoRound 2 nodes.new }
 {
     let mut keys = [to; LOOKED_UP];
     look_up(names, ids, &mut keys);
+    // A law: the rings of the pool that was handed in go round, which no other call here tells.
+    nodes.rings_go_round();
     for key in &keys[..ids.len()] {
-        nodes.rings_go_round();
         nodes.join_rings(r, to, *key);
-        nodes.rings_go_round();
     }
 }

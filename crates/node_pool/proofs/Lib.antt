@@ -15,3 +15,4 @@ pub mod SlotsLemmas
 pub mod LinkLemmas
 pub mod WalkLemmas
 pub mod OrderLemmas
+pub mod RoundLemmas

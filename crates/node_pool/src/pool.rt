@@ -70,6 +70,7 @@ impl<T, const R: usize> Model for Pool<T, R> {
 
 impl<T, const R: usize> Pool<T, R> {
     ghost use Rattle.node_pool.specs.PoolLends.{lends_value, lends_get};
+    ghost use Rattle.node_pool.specs.Laws.{RingsGoRound};
 
     /// A pool with no nodes, which takes no memory.
     pub fn new(alloc: Global) -> Self
@@ -97,6 +98,7 @@ impl<T, const R: usize> Pool<T, R> {
         ensures spent { KeepsSpent self.old self.new }
         ensures rings { (r : ℕ) → r < R → SameRings self.old self.new r }
         ensures order { (r : ℕ) → r < R → SameOrder self.old self.new r }
+        ensures round { RingsGoRound R self.new }
     {
         if n <= self.spare() {
             return Ok(());
@@ -126,6 +128,7 @@ impl<T, const R: usize> Pool<T, R> {
         ensures kept { self.old.spare ≤ self.new.spare }
         ensures rings { (r : ℕ) → r < R → SameRings self.old self.new r }
         ensures order { (r : ℕ) → r < R → SameOrder self.old self.new r }
+        ensures round { RingsGoRound R self.new }
     {
         if self.rings.slots() == self.nodes.room() {
             self.rings.grow()?;
@@ -145,6 +148,7 @@ impl<T, const R: usize> Pool<T, R> {
         ensures spent { KeepsSpent self.old self.new }
         ensures rings { (r : ℕ) → r < R → PartsFrom self.old self.new r result }
         ensures order { (r : ℕ) → r < R → SameOrder self.old self.new r × (next_key self.new r result ≡ result) }
+        ensures round { RingsGoRound R self.new }
     {
         let number = self.issued;
         self.issued += 1;
@@ -203,6 +207,7 @@ impl<T, const R: usize> Pool<T, R> {
         ensures rings { (r : ℕ) → r < R → PartsFrom self.old self.new r key }
         ensures order { OnSome result ((r : ℕ) → r < R → PassesOver self.old self.new r key) }
         ensures absent { IfNone result (self.new ≡ self.old) }
+        ensures round { RingsGoRound R self.new }
     {
         if !self.is_live(key) {
             return None;
@@ -228,6 +233,7 @@ impl<T, const R: usize> Pool<T, R> {
         ensures exchanged { ExchangesNext self.old self.new r a b }
         ensures others { (q : ℕ) → q < R → q ≢ r → SameRings self.old self.new q }
         ensures order { (q : ℕ) → q < R → q ≢ r → SameOrder self.old self.new q }
+        ensures round { RingsGoRound R self.new }
     {
         self.rings.join(r, a.slot, b.slot);
     }
@@ -244,6 +250,7 @@ impl<T, const R: usize> Pool<T, R> {
         ensures passed { PassesOver self.old self.new r a × (next_key self.new r a ≡ a) }
         ensures others { (q : ℕ) → q < R → q ≢ r → SameRings self.old self.new q }
         ensures order { (q : ℕ) → q < R → q ≢ r → SameOrder self.old self.new q }
+        ensures round { RingsGoRound R self.old × RingsGoRound R self.new }
     {
         self.rings.cut(r, a.slot);
     }

@@ -16,6 +16,7 @@ pub loop-key-init : goal.loop-key-init
 loop-key-init c = record {
   ring = changes-none c.args.nodes.now c.args.r;
   gathers = λ spare t has_t. gathers-none (book_of c.args.nodes.now c.args.names.now.entries spare) c.args.r t;
+  round = c.rings_go_round.ensures;
 }
 
 pub join_rings-requires : goal.join_rings-requires
@@ -39,7 +40,7 @@ join_rings-requires c =
           subst IsSome (sym (c.loop-key.invariant.ring.values to)) c.requires.to,
           (
             live-own mid es owned id _ has,
-            λ ring. apart (sym (alone t (keys-rung mid es owned c.rings_go_round.ensures 0 r c.requires.r_in_range id t _ to has has_t
+            λ ring. apart (sym (alone t (keys-rung mid es owned c.loop-key.invariant.round 0 r c.requires.r_in_range id t _ to has has_t
                 (SameRing-sym mid r to _ ring)))),
           ),
         ),
@@ -72,8 +73,9 @@ loop-key-preserved c =
           (λ y. c.requires.alone spare _ y here) in
           gathers-more was is r t ids i low so will (key-named old es spare t c.args.to has_t)
           (gathers-one is is will r t id apart (cuts-alone is r id (key-named mid es spare id _ has) alone)
-          (united-rungs mid new es owned (same-own mid new es owned joined.values) c.rings_go_round.ensures c.rings_go_round-in-loop-key.ensures
+          (united-rungs mid new es owned (same-own mid new es owned joined.values) c.loop-key.invariant.round joined.round
           spare spare r c.requires.r_in_range t id c.args.to _ has_t has joined.united));
+      round = joined.round;
     }
 
 pub returns-clause-gathers : goal.returns-clause-gathers

@@ -1,5 +1,6 @@
 -- the names so far have come to the ring
 use Rattle.std.proofs.Common.{◌≡◌, ℕ, Some, take}
+use Rattle.node_pool.specs.Laws.{RingsGoRound}
 use Rattle.name_book.specs.Changes.{Gathers}
 use Rattle.name_book.specs.Tables.{key_of, book_of, ChangesRing}
 use Rattle.name_book.proofs.keys.join_few.Given as goal
@@ -11,4 +12,5 @@ invariant-loop-key l =
       ring : ChangesRing l.fn.nodes l.nodes l.r;
       gathers : (spare t : ℕ) → key_of es t ≡ Some l.to
           → Gathers (book_of l.fn.nodes es spare) (book_of l.nodes es spare) l.r t (take l.key-index l.ids);
+      round : RingsGoRound 2 l.nodes;
     }

@@ -1,5 +1,6 @@
 -- the names of the pieces so far have come to the ring
 use Rattle.std.proofs.Common.{◌≡◌, ◌++◌, ℕ, List, Some, length}
+use Rattle.node_pool.specs.Laws.{RingsGoRound}
 use Rattle.name_book.specs.Changes.{Gathers}
 use Rattle.name_book.specs.Tables.{key_of, book_of, ChangesRing}
 use Rattle.name_book.proofs.keys.join_names.Given as goal
@@ -11,6 +12,7 @@ invariant-loop-rest l =
       ring : ChangesRing l.fn.nodes l.nodes l.r;
       gathers : (front : List ℕ) × (front ++ l.rest ≡ l.ids) × ((spare t : ℕ) → key_of es t ≡ Some l.to
           → Gathers (book_of l.fn.nodes es spare) (book_of l.nodes es spare) l.r t front);
+      round : RingsGoRound 2 l.fn.nodes → RingsGoRound 2 l.nodes;
     }
 
 abbrev pub decreases-loop-rest : goal.decreases-loop-rest

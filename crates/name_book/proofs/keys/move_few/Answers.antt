@@ -15,6 +15,7 @@ pub loop-key-init : goal.loop-key-init
 loop-key-init c = record {
   ring = changes-none c.args.nodes.now c.args.r;
   gathers = λ spare t has_t. gathers-none (book_of c.args.nodes.now c.args.names.now.entries spare) c.args.r t;
+  round = λ round. round;
 }
 
 pub cut_key-requires-clause-live : goal.cut_key-requires-clause-live
@@ -45,7 +46,7 @@ join_rings-requires c =
           (
             live-own cut es left id _ has,
             λ ring.
-                let rung = keys-rung cut es left c.rings_go_round.ensures 0 r c.requires.r_in_range id t _ to has has_t (SameRing-sym cut r to _ ring) in
+                let rung = keys-rung cut es left c.cut_key.ensures.round 0 r c.requires.r_in_range id t _ to has has_t (SameRing-sym cut r to _ ring) in
                 elim (((c.cut_key.ensures.cut es 0 id owned has).rungs id t).0 rung) [
                   | inl all ↦ all.1 refl
                   | inr both ↦ c.requires.apart _ (Contains-get_or ids i 0 low) (ap (key_of es) (sym both.1) ∙ has_t)
@@ -78,8 +79,9 @@ loop-key-preserved c =
           let was = book_of old es spare in let is = book_of mid es spare in let will = book_of new es spare in
           gathers-more was is r t ids i low (c.loop-key.invariant.gathers spare t has_t) will (key-named old es spare t c.args.to has_t)
           (gathers-one is (book_of cut es spare) will r t id apart (c.cut_key.ensures.cut es spare id owned has).rungs
-          (united-rungs cut new es left (same-own cut new es left joined.values) c.rings_go_round.ensures c.rings_go_round-in-loop-key.ensures
+          (united-rungs cut new es left (same-own cut new es left joined.values) c.cut_key.ensures.round joined.round
           spare spare r c.requires.r_in_range t id c.args.to _ has_t has joined.united));
+      round = λ _. joined.round;
     }
 
 pub returns-clause-gathers : goal.returns-clause-gathers

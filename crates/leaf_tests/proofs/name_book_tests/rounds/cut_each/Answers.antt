@@ -87,14 +87,14 @@ returns-then-at-id-clause-alone c x y rung =
     let kept = c.loop-at.invariant in
     let keeps = c.cut.ensures.others 0 (lit< tt) (λ e. absurd (omega arith)) in
     all-alone c.args.book.now c.loop-at.book c.cut.new.self c.args.id c.loop-at.at keeps c.cut.ensures.cut kept.here kept.done
-    c.rings_go_round-in-loop-at.ensures (sym c.next-at.ensures ∙ c.if-at-id.true) x rung y
+    c.rings_go_round-in-loop-at.ensures (sym c.next-at.ensures.next ∙ c.if-at-id.true) x rung y
 
 pub loop-at-smaller : goal.loop-at-smaller
 loop-at-smaller c =
     let kept = c.loop-at.invariant in
     let keeps = c.cut.ensures.others 0 (lit< tt) (λ e. absurd (omega arith)) in
-    rw c.next-at.ensures (fewer c.args.book.now c.loop-at.book c.cut.new.self c.args.id c.loop-at.at keeps c.cut.ensures.cut kept.here kept.done
-    c.rings_go_round-in-loop-at.ensures (λ e. c.if-at-id.false (c.next-at.ensures ∙ e)))
+    rw c.next-at.ensures.next (fewer c.args.book.now c.loop-at.book c.cut.new.self c.args.id c.loop-at.at keeps c.cut.ensures.cut kept.here kept.done
+    c.rings_go_round-in-loop-at.ensures (λ e. c.if-at-id.false (c.next-at.ensures.next ∙ e)))
 
 pub loop-at-preserved : goal.loop-at-preserved
 loop-at-preserved c =
@@ -102,10 +102,10 @@ loop-at-preserved c =
     let first = c.args.book.now in let book = c.loop-at.book in let new = c.cut.new.self in let id = c.args.id in let at = c.loop-at.at in
     let keeps = c.cut.ensures.others 0 (lit< tt) (λ e. absurd (omega arith)) in
     let laws = c.rings_go_round-in-loop-at.ensures in
-    rw c.next-at.ensures (record {
+    rw c.next-at.ensures.next (record {
       here = next-here first book new id at keeps c.cut.ensures.cut kept.here kept.done laws;
       kept = λ x y. (λ rung. (kept.kept x y).0 ((keeps.rungs x y).0 rung), λ rung. (keeps.rungs x y).1 ((kept.kept x y).1 rung));
-      done = done-on first book new id at keeps c.cut.ensures.cut kept.here kept.done laws (λ e. c.if-at-id.false (c.next-at.ensures ∙ e));
+      done = done-on first book new id at keeps c.cut.ensures.cut kept.here kept.done laws (λ e. c.if-at-id.false (c.next-at.ensures.next ∙ e));
       rings = laws;
       issued = c.cut.ensures.issued ∙ kept.issued;
     })

@@ -70,15 +70,15 @@ returns-then-after-at-clause-names c =
     let kept = c.loop-at.invariant in
     done c.args.book.now c.loop-at.book c.remove.new.self c.args.r c.args.id c.loop-at.at c.requires.r_in_range kept.live c.remove.ensures.names
     (c.remove.ensures.rings c.args.r c.requires.r_in_range) kept.left kept.kept kept.ahead kept.behind kept.rings
-    (sym c.next-after.ensures ∙ c.if-after-at.true)
+    (sym c.next-after.ensures.next ∙ c.if-after-at.true)
 
 pub loop-at-smaller : goal.loop-at-smaller
 loop-at-smaller c =
     let kept = c.loop-at.invariant in
     let less = fewer c.args.book.now c.loop-at.book c.remove.new.self c.args.r c.args.id c.loop-at.at c.requires.r_in_range kept.live c.remove.ensures.names
     (c.remove.ensures.rings c.args.r c.requires.r_in_range) kept.left kept.kept kept.ahead kept.behind kept.rings
-    (λ e. c.if-after-at.false (c.next-after.ensures ∙ e)) in
-    rw c.next-after.ensures less
+    (λ e. c.if-after-at.false (c.next-after.ensures.next ∙ e)) in
+    rw c.next-after.ensures.next less
 
 pub loop-at-preserved : goal.loop-at-preserved
 loop-at-preserved c =
@@ -86,8 +86,8 @@ loop-at-preserved c =
     let first = c.args.book.now in let book = c.loop-at.book in let new =
     c.remove.new.self in let r = c.args.r in let id = c.args.id in let at = c.loop-at.at in
     let names = c.remove.ensures.names in let loses = c.remove.ensures.rings r c.requires.r_in_range in
-    let on : after book r at ≢ at = λ e. c.if-after-at.false (c.next-after.ensures ∙ e) in
-    rw c.next-after.ensures (record {
+    let on : after book r at ≢ at = λ e. c.if-after-at.false (c.next-after.ensures.next ∙ e) in
+    rw c.next-after.ensures.next (record {
       live = next_live first book new r id at c.requires.r_in_range kept.live names loses kept.left kept.kept kept.ahead kept.behind kept.rings on;
       left = λ x named. kept.left x (left first book new r id at c.requires.r_in_range kept.live names loses kept.left kept.kept kept.ahead
           kept.behind kept.rings x named).0;

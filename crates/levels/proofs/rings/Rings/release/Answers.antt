@@ -15,7 +15,7 @@ live : (c : goal.After-self-1) → IsNamed c.self.inside.book c.args.id
 live c = subst (λ (r : Ringed). IsNamed r.book c.args.id) (sym c.self.view_is) c.requires.live
 
 link : (c : goal.After-self-1) → AreRung c.self.inside.book 1 c.args.id (after c.self.inside.book 1 c.args.id)
-link c = c.rings_go_round.ensures.next 1 c.args.id (omega arith) (live c)
+link c = c.cut_next-self-inside.ensures.rung
 
 was : (c : goal.After-self-1) → rings_of c.self.inside.book (Some c.args.id) ≡ c.args.self.now
 was c = ap (rings_of c.self.inside.book) (sym (is c)) ∙ c.self.view_is

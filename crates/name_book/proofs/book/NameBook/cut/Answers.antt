@@ -12,13 +12,13 @@ pub find_key-key-requires : goal.find_key-key-requires
 find_key-key-requires c =
     sym (names-keys c.self.inside.names.entries c.args.a) ∙ ap (λ (b : Book). has b c.args.a) c.self.view_is ∙ c.requires.live
 
-owned : (c : goal.After-rings_go_round) → AreKeys c.cut.new.self c.self.inside.names.entries
+owned : (c : goal.After-cut) → AreKeys c.cut.new.self c.self.inside.names.entries
 owned c = same-own c.self.inside.nodes c.cut.new.self c.self.inside.names.entries c.self.invariant.own c.cut.ensures.values
 
 pub returns-clause-cut : goal.returns-clause-cut
 returns-clause-cut c =
     rw (← c.self.view_is) (cuts-out c.self.inside.nodes c.cut.new.self c.self.inside.names.entries c.self.invariant.own (owned c)
-    c.self.invariant.rings c.rings_go_round.ensures c.cut.ensures.values c.self.inside.spare c.self.inside.spare c.args.r c.requires.r_in_range
+    c.self.invariant.rings c.cut.ensures.round.1 c.cut.ensures.values c.self.inside.spare c.self.inside.spare c.args.r c.requires.r_in_range
     c.args.a c.find_key-key.result c.find_key-key.ensures c.cut.ensures.parted c.cut.ensures.passed.0 c.cut.ensures.passed.1)
 
 pub returns-clause-others : goal.returns-clause-others

@@ -33,7 +33,7 @@ invariant_of-self c =
     record {
       once = c.insert.ensures.unique;
       own = owned c;
-      rings = c.rings_go_round.ensures;
+      rings = c.insert-key.ensures.round;
       count = count;
       index-room = index-room;
       node-room = node-room;
@@ -49,5 +49,5 @@ returns-clause-rings c r below =
     let made = c.insert-key.ensures in
     rw (← c.self.view_is) (gains-alone c.self.inside.nodes c.insert-key.new.self c.self.inside.names.entries c.insert.new.self.entries
     c.self.invariant.own (owned c)
-    c.self.invariant.rings c.rings_go_round.ensures c.self.inside.spare (c.self.inside.spare - 1) r below c.args.id c.insert-key.result
+    c.self.invariant.rings c.insert-key.ensures.round c.self.inside.spare (c.self.inside.spare - 1) r below c.args.id c.insert-key.result
     made.updates made.fresh (none c) c.in-Ok.ensures.updates.0 (made.rings r below) (made.order r below).0 (made.order r below).1)

@@ -37,7 +37,7 @@ join_rings-requires c =
       ),
     )
 
-owned : (c : goal.After-rings_go_round) → AreKeys c.join_rings.new.self c.self.inside.names.entries
+owned : (c : goal.After-join_rings) → AreKeys c.join_rings.new.self c.self.inside.names.entries
 owned c = same-own c.self.inside.nodes c.join_rings.new.self c.self.inside.names.entries c.self.invariant.own c.join_rings.ensures.values
 
 pub invariant_of-self : goal.invariant_of-self
@@ -46,7 +46,7 @@ invariant_of-self c =
     record {
       once = table.once;
       own = owned c;
-      rings = c.rings_go_round.ensures;
+      rings = c.join_rings.ensures.round;
       count = counts.0 ∙ table.count;
       index-room = table.index-room;
       node-room = omega (arith, counts.1, table.node-room);
@@ -55,7 +55,7 @@ invariant_of-self c =
 pub returns-clause-united : goal.returns-clause-united
 returns-clause-united c =
     rw (← c.self.view_is) (unites c.self.inside.nodes c.join_rings.new.self c.self.inside.names.entries c.self.invariant.own (owned c)
-    c.self.invariant.rings c.rings_go_round.ensures c.join_rings.ensures.values c.self.inside.spare c.self.inside.spare c.args.r c.requires.r_in_range
+    c.self.invariant.rings c.join_rings.ensures.round c.join_rings.ensures.values c.self.inside.spare c.self.inside.spare c.args.r c.requires.r_in_range
     c.args.a c.args.b c.find_key-key_a.result c.find_key-key_b.result c.find_key-key_a.ensures c.find_key-key_b.ensures
     (rw (← c.self.view_is) at c.requires.apart) c.join_rings.ensures.united c.join_rings.ensures.exchanged)
 

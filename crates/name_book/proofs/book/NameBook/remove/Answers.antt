@@ -10,12 +10,12 @@ use Rattle.name_book.proofs.Kept.{drop-own, names-drop, len-drop, took}
 use Rattle.name_book.proofs.Changes.{loses}
 use Rattle.name_book.proofs.book.NameBook.remove.Goals as goal
 
-owned : (c : goal.After-rings_go_round) → AreKeys c.take.new.self c.swap_remove.new.self.entries
+owned : (c : goal.After-take) → AreKeys c.take.new.self c.swap_remove.new.self.entries
 owned c =
     drop-own c.self.inside.nodes c.take.new.self c.self.inside.names.entries c.swap_remove.new.self.entries c.args.id c.in-Some.key
     c.self.invariant.own c.take.ensures.updates (sym c.in-Some.ensures.value) c.swap_remove.ensures.updates.0
 
-live : (c : goal.After-rings_go_round) → IsLive c.self.inside.nodes c.in-Some.key
+live : (c : goal.After-take) → IsLive c.self.inside.nodes c.in-Some.key
 live c = live-own c.self.inside.nodes c.self.inside.names.entries c.self.invariant.own c.args.id c.in-Some.key (sym c.in-Some.ensures.value)
 
 pub invariant_of-self : goal.invariant_of-self
@@ -31,7 +31,7 @@ invariant_of-self c =
     record {
       once = c.swap_remove.ensures.unique;
       own = owned c;
-      rings = c.rings_go_round.ensures;
+      rings = c.take.ensures.round;
       count = count;
       index-room = index-room;
       node-room = node-room;
@@ -47,7 +47,7 @@ returns-in-Some-clause-rings c r below =
     let nodes = c.self.inside.nodes in let new = c.take.new.self in let key = c.in-Some.key in
     let passes = took nodes key c.take.result ((q : ℕ) → q < 2 → PassesOver nodes new q key) (live c) c.take.ensures.value c.take.ensures.order in
     rw (← c.self.view_is) (loses nodes new c.self.inside.names.entries c.swap_remove.new.self.entries c.self.invariant.own (owned c)
-    c.self.invariant.rings c.rings_go_round.ensures c.self.inside.spare c.self.inside.spare r below c.args.id key
+    c.self.invariant.rings c.take.ensures.round c.self.inside.spare c.self.inside.spare r below c.args.id key
     c.take.ensures.updates (sym c.in-Some.ensures.value) c.swap_remove.ensures.updates.0 (c.take.ensures.rings r below) (passes r below))
 
 -- a live name has a key

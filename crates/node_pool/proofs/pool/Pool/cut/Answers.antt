@@ -1,6 +1,8 @@
-use Rattle.std.proofs.Common.{refl}
+use Rattle.std.proofs.Common.{refl, subst}
+use Rattle.node_pool.specs.Laws.{RingsGoRound}
 use Rattle.node_pool.proofs.PoolLemmas.{IsHeld-of_live, elsewhere-next, IsPool-cut, parts_cut, same_rings}
 use Rattle.node_pool.proofs.OrderLemmas.{SameOrder-of, PassesOver-of, next_key-alone}
+use Rattle.node_pool.proofs.RoundLemmas.{rings-round}
 use Rattle.node_pool.proofs.pool.Pool.cut.Goals as goal
 
 pub invariant_of-self : goal.invariant_of-self
@@ -35,3 +37,10 @@ returns-clause-order g c q below apart =
     let s = c.self.inside.nodes in let l = c.self.inside.rings in let i = c.self.inside.issued in
     let same = elsewhere-next g.row.R s l i c.self.invariant c.cut.new.self c.args.r q c.cut.ensures.elsewhere below apart in
     rw (← c.self.view_is) (SameOrder-of s s l c.cut.new.self i i q refl same)
+
+pub returns-clause-round : goal.returns-clause-round
+returns-clause-round g c =
+    let s = c.self.inside.nodes in let l = c.self.inside.rings in let i = c.self.inside.issued in (
+      subst (RingsGoRound g.row.R) c.self.view_is (rings-round g.row.R s l i c.self.invariant),
+      rings-round g.row.R s c.cut.new.self i (invariant_of-self g c),
+    )

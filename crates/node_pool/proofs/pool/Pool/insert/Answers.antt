@@ -6,6 +6,7 @@ use Rattle.node_pool.specs.declared.pool.Node.{Node}
 use Rattle.node_pool.proofs.RingLemmas.{numbered-same}
 use Rattle.node_pool.proofs.PoolLemmas.{IsPool-insert, parts_fresh, others_fresh}
 use Rattle.node_pool.proofs.OrderLemmas.{SameOrder-insert, next_key-insert}
+use Rattle.node_pool.proofs.RoundLemmas.{rings-round}
 use Rattle.node_pool.proofs.pool.Pool.insert.Goals as goal
 
 pub invariant_of-self : goal.invariant_of-self
@@ -39,3 +40,6 @@ returns-clause-order g c r below =
       SameOrder-insert g.row.R s l i c.self.invariant t (i + 1) r slot node below vacant updates,
       next_key-insert g.row.R s l i c.self.invariant t (i + 1) r slot node below vacant updates,
     )
+
+pub returns-clause-round : goal.returns-clause-round
+returns-clause-round g c = rings-round g.row.R c.insert-slot.new.self c.self.inside.rings (c.self.inside.issued + 1) (invariant_of-self g c)

@@ -1,6 +1,7 @@
 use Rattle.std.proofs.Common.{◌≢◌, refl}
 use Rattle.node_pool.proofs.PoolLemmas.{IsHeld-of_live, apart-steps, elsewhere-next, IsPool-join, unites_join, same_rings}
 use Rattle.node_pool.proofs.OrderLemmas.{SameOrder-of, ExchangesNext-of}
+use Rattle.node_pool.proofs.RoundLemmas.{rings-round}
 use Rattle.node_pool.proofs.pool.Pool.join_rings.Goals as goal
 
 pub invariant_of-self : goal.invariant_of-self
@@ -36,3 +37,6 @@ returns-clause-order g c q below apart =
     let s = c.self.inside.nodes in let l = c.self.inside.rings in let i = c.self.inside.issued in
     let same = elsewhere-next g.row.R s l i c.self.invariant c.join.new.self c.args.r q c.join.ensures.elsewhere below apart in
     rw (← c.self.view_is) (SameOrder-of s s l c.join.new.self i i q refl same)
+
+pub returns-clause-round : goal.returns-clause-round
+returns-clause-round g c = rings-round g.row.R c.self.inside.nodes c.join.new.self c.self.inside.issued (invariant_of-self g c)

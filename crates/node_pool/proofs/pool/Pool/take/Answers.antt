@@ -2,10 +2,12 @@ use Rattle.std.proofs.Common.{◌≡◌, ◌<◌, None, IsSome, sym, ap, subst, 
 use Rattle.node_pool.specs.Slots.{node_in}
 use Rattle.node_pool.specs.Nodes.{numbered, value_at, IsLive}
 use Rattle.node_pool.specs.Pool.{nodes_of}
+use Rattle.node_pool.specs.Laws.{RingsGoRound}
 use Rattle.node_pool.proofs.LinkLemmas.{IsCutBelow-step, IsCutBelow-most}
 use Rattle.node_pool.proofs.PoolLemmas.{IsPool-take, parts_cut, others_taken}
 use Rattle.node_pool.proofs.RingLemmas.{numbered-some}
 use Rattle.node_pool.proofs.OrderLemmas.{PassesOver-of}
+use Rattle.node_pool.proofs.RoundLemmas.{rings-round}
 use Rattle.node_pool.proofs.pool.Pool.take.Goals as goal
 
 pub loop-r-preserved : goal.loop-r-preserved
@@ -45,3 +47,10 @@ returns-clause-order g c r below =
     let live : IsLive (nodes_of s l i) key = rw (← c.self.view_is) at (c.is_live.ensures.0 c.if-not-is_live.false) in
     rw (← c.self.view_is, kept.1) (PassesOver-of g.row.R s l i c.self.invariant c.remove-value.new.self c.loop-r.self-inside.rings i r key below
     (cut.next r below) live updates.others)
+
+pub returns-then-not-is_live-clause-round : goal.returns-then-not-is_live-clause-round
+returns-then-not-is_live-clause-round g c =
+    subst (RingsGoRound g.row.R) c.self.view_is (rings-round g.row.R c.self.inside.nodes c.self.inside.rings c.self.inside.issued c.self.invariant)
+
+pub returns-clause-round : goal.returns-clause-round
+returns-clause-round g c = rings-round g.row.R c.remove-value.new.self c.loop-r.self-inside.rings c.loop-r.self-inside.issued (invariant_of-self g c)
