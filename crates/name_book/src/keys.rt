@@ -120,6 +120,7 @@ pub(crate) fn join_names(
     ids: &[TxId],
 )
     requires r_in_range { r < 2 }
+    requires round { RingsGoRound 2 nodes.old }
     requires own { AreKeys nodes.old names.now.entries }
     requires to { IsLive nodes.old to }
     requires live { (x : ℕ) → Contains ids.now x → IsSome (key_of names.now.entries x) }
@@ -129,7 +130,7 @@ pub(crate) fn join_names(
     ensures ring { ChangesRing nodes.old nodes.new r }
     ensures gathers { (spare t : ℕ) → key_of names.now.entries t ≡ Some to
         → Gathers (book_of nodes.old names.now.entries spare) (book_of nodes.new names.now.entries spare) r t ids.now }
-    ensures round { RingsGoRound 2 nodes.old → RingsGoRound 2 nodes.new }
+    ensures round { RingsGoRound 2 nodes.new }
 {
     let mut rest = ids;
     while !rest.is_empty() {
@@ -143,6 +144,7 @@ pub(crate) fn join_names(
 fn join_few(nodes: &mut Pool<TxId, 2>, names: &IndexMap<TxId, Key>, r: usize, to: Key, ids: &[TxId])
     requires few { length ids.now ≤ LOOKED_UP }
     requires r_in_range { r < 2 }
+    requires round { RingsGoRound 2 nodes.old }
     requires own { AreKeys nodes.old names.now.entries }
     requires to { IsLive nodes.old to }
     requires live { (x : ℕ) → Contains ids.now x → IsSome (key_of names.now.entries x) }
@@ -152,12 +154,10 @@ fn join_few(nodes: &mut Pool<TxId, 2>, names: &IndexMap<TxId, Key>, r: usize, to
     ensures ring { ChangesRing nodes.old nodes.new r }
     ensures gathers { (spare t : ℕ) → key_of names.now.entries t ≡ Some to
         → Gathers (book_of nodes.old names.now.entries spare) (book_of nodes.new names.now.entries spare) r t ids.now }
-    ensures round { RingsGoRound 2 nodes.old → RingsGoRound 2 nodes.new }
+    ensures round { RingsGoRound 2 nodes.new }
 {
     let mut keys = [to; LOOKED_UP];
     look_up(names, ids, &mut keys);
-    // A law: the rings of the pool that was handed in go round, which no other call here tells.
-    nodes.rings_go_round();
     for key in &keys[..ids.len()] {
         nodes.join_rings(r, to, *key);
     }

@@ -16,7 +16,7 @@ pub loop-key-init : goal.loop-key-init
 loop-key-init c = record {
   ring = changes-none c.args.nodes.now c.args.r;
   gathers = λ spare t has_t. gathers-none (book_of c.args.nodes.now c.args.names.now.entries spare) c.args.r t;
-  round = c.rings_go_round.ensures;
+  round = c.requires.round;
 }
 
 pub join_rings-requires : goal.join_rings-requires

@@ -12,7 +12,7 @@ pub loop-rest-init : goal.loop-rest-init
 loop-rest-init c = record {
   ring = changes-none c.args.nodes.now c.args.r;
   gathers = ([], refl, λ spare t has_t. gathers-none (book_of c.args.nodes.now c.args.names.now.entries spare) c.args.r t);
-  round = λ round. round;
+  round = c.requires.round;
 }
 
 pub join_few-requires-clause-live : goal.join_few-requires-clause-live
@@ -55,7 +55,7 @@ loop-rest-preserved c =
         λ spare t has_t. gathers-on (book_of old es spare) (book_of mid es spare) r t so.0 (so.2 spare t has_t) (book_of new es spare) piece
             (key-named old es spare t c.args.to has_t) (c.join_few.ensures.gathers spare t has_t),
       );
-      round = λ round. c.join_few.ensures.round (c.loop-rest.invariant.round round);
+      round = c.join_few.ensures.round;
     }
 
 pub returns-clause-gathers : goal.returns-clause-gathers

@@ -12,7 +12,7 @@ invariant-loop-rest l =
       ring : ChangesRing l.fn.nodes l.nodes l.r;
       gathers : (front : List ℕ) × (front ++ l.rest ≡ l.ids) × ((spare t : ℕ) → key_of es t ≡ Some l.to
           → Gathers (book_of l.fn.nodes es spare) (book_of l.nodes es spare) l.r t front);
-      round : RingsGoRound 2 l.fn.nodes → RingsGoRound 2 l.nodes;
+      round : RingsGoRound 2 l.nodes;
     }
 
 abbrev pub decreases-loop-rest : goal.decreases-loop-rest
