@@ -6,6 +6,7 @@ use Rattle.chunk_index.specs.declared.entry.Entry.{Entry}
 use Rattle.chunk_index.specs.declared.key.Key.{Key}
 use Rattle.chunk_index.specs.KeyOrder.{key_cmp}
 use Rattle.chunk_index.specs.Keys.{key_of, IsInOrder, has_key, number_at, before, behind, put, without}
+use Rattle.chunk_index.specs.Trees.{AreBalanced, AreNearlyBalanced}
 use Rattle.chunk_index.proofs.Finds.{number-low, number-high, number-level}
 use Rattle.chunk_index.proofs.Lists.{cut, put-low, put-high, without-low, without-high, without-level, has-low, has-high, has-level}
 
@@ -86,3 +87,25 @@ shorter_left xs l h r whole = omega (arith, ap length whole, length-append l (h 
 
 pub shorter_right : (xs l : List Entry) (h : Entry) (r : List Entry) → xs ≡ l ++ h ∷ r → length r + 1 ≤ length xs
 shorter_right xs l h r whole = omega (arith, ap length whole, length-append l (h ∷ r))
+
+-- ---- a side has grown by an entry
+pub record HasGrown (xs : List Entry) (x : Entry) (l : List Entry) (h : Entry) (r : List Entry) : Type 0 where
+  pub put : l ++ h ∷ r ≡ put key_of xs x
+  pub nearly : AreNearlyBalanced (length l) (length r)
+  pub longer : length l + length r ≡ length xs
+
+module _ (xs l : List Entry) (h : Entry) (r : List Entry) (whole : xs ≡ l ++ h ∷ r) (order : IsInOrder key_of xs)
+    (balanced : AreBalanced (length l) (length r)) (x : Entry) where
+  pub grows_left : Less ≡ key_cmp (key_of x) (key_of h) → (l2 : List Entry) → l2 ≡ put key_of l x → length l2 ≡ length l + 1 → HasGrown xs x l2 h r
+  grows_left e l2 is longer = record {
+    put = ap (λ (t : List Entry). t ++ h ∷ r) is ∙ (goes_left xs l h r whole order (key_of x) e).put x refl;
+    nearly = record { left = omega (arith, balanced.left, longer); right = omega (arith, balanced.right, longer) };
+    longer = omega (arith, longer, ap length whole, length-append l (h ∷ r));
+  }
+
+  pub grows_right : Greater ≡ key_cmp (key_of x) (key_of h) → (r2 : List Entry) → r2 ≡ put key_of r x → length r2 ≡ length r + 1 → HasGrown xs x l h r2
+  grows_right e r2 is longer = record {
+    put = ap (λ (t : List Entry). l ++ h ∷ t) is ∙ (goes_right xs l h r whole order (key_of x) e).put x refl;
+    nearly = record { left = omega (arith, balanced.left, longer); right = omega (arith, balanced.right, longer) };
+    longer = omega (arith, longer, ap length whole, length-append l (h ∷ r));
+  }

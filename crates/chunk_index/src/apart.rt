@@ -34,7 +34,7 @@ pub fn put_in(tree: &mut Tree, key: SortKey, number: usize, mut node: Box<Node>)
 {
     node.key = key;
     node.number = number;
-    *tree = mem::replace(tree, Tree::new()).insert(node);
+    tree.insert(node);
 }
 
 /// Takes the entry of a key out of a tree, and gives its node. The entry is there.

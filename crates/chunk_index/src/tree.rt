@@ -91,11 +91,7 @@ impl Tree {
     {
         match self.root {
             None => None,
-            Some(mut node) => {
-                let left = mem::replace(&mut node.left, Tree::new());
-                let right = mem::replace(&mut node.right, Tree::new());
-                Some((left, node, right))
-            }
+            Some(node) => Some(open(node)),
         }
     }
 
@@ -308,20 +304,30 @@ impl Tree {
     }
 
     /// Puts a node's entry in its place. No entry of its key is there.
-    pub fn insert(self, node: Box<Node>) -> Tree
-        requires order { IsInOrder key_of self }
-        requires absent { has_key key_of self (key_of (entry_of node.value)) ≡ false }
-        requires fits { length self + 1 < 2 ^ 64 }
-        ensures put { result ≡ put key_of self (entry_of node.value) }
-        ensures longer { length result ≡ length self + 1 }
+    pub fn insert(&mut self, node: Box<Node>)
+        requires order { IsInOrder key_of self.old }
+        requires absent { has_key key_of self.old (key_of (entry_of node.value)) ≡ false }
+        requires fits { length self.old + 1 < 2 ^ 64 }
+        ensures put { self.new ≡ put key_of self.old (entry_of node.value) }
+        ensures longer { length self.new ≡ length self.old + 1 }
     {
-        match self.into_parts() {
-            None => Tree::of_parts(Tree::new(), node, Tree::new()),
-            Some((left, here, right)) => match node.key.cmp(&here.key) {
-                Ordering::Less => Tree::join(left.insert(node), here, right),
-                Ordering::Equal => unreachable!(),
-                Ordering::Greater => Tree::join(left, here, right.insert(node)),
-            },
+        let Some(here) = &mut self.root else {
+            *self = Tree::of_parts(Tree::new(), node, Tree::new());
+            return;
+        };
+        match node.key.cmp(&here.key) {
+            Ordering::Less => here.left.insert(node),
+            Ordering::Equal => unreachable!(),
+            Ordering::Greater => here.right.insert(node),
+        }
+        if is_lopsided(here) {
+            let Some(here) = mem::replace(&mut self.root, None) else {
+                unreachable!()
+            };
+            let (left, here, right) = open(here);
+            *self = Tree::join(left, here, right);
+        } else {
+            self.len += 1;
         }
     }
 
@@ -347,4 +353,24 @@ impl Tree {
             },
         }
     }
+}
+
+/// What stands left of a node, the node alone, and what stands right of it.
+#[inline(always)]
+fn open(mut node: Box<Node>) -> (Tree, Box<Node>, Tree)
+    ensures left { result.0 ≡ node.value.left }
+    ensures node { entry_of result.1.value ≡ entry_of node.value }
+    ensures right { result.2 ≡ node.value.right }
+{
+    let left = mem::replace(&mut node.left, Tree::new());
+    let right = mem::replace(&mut node.right, Tree::new());
+    (left, node, right)
+}
+
+/// Whether the one side of a node is too large for the other.
+#[inline(always)]
+fn is_lopsided(node: &Node) -> bool
+    ensures { result ≡ false → AreBalanced (length node.now.left) (length node.now.right) }
+{
+    node.left.len / 3 > node.right.len || node.right.len / 3 > node.left.len
 }
