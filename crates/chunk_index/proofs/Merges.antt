@@ -1,16 +1,19 @@
 -- Two lists in key order as one: what it has under each key, and where it begins and ends.
-use Rattle.std.proofs.Common.{◌≡◌, ◌+◌, ◌≤◌, Bool, true, false, cond, List, [], ◌∷◌, ◌++◌, length, map, Option, Some, None, MatchOption, is_some, ◌||◌, refl, sym, ap, ◌∙◌, subst, arith}
+use Rattle.std.proofs.Common.{◌≡◌, ◌+◌, ◌≤◌, Bool, true, false, cond, List, [], ◌∷◌, ◌++◌, length, map, Option, Some, None, is_some, ◌||◌, refl, sym, ap, ◌∙◌, subst, arith}
 use Rattle.std.proofs.lemmas.List.{length-append, map-append}
 use Rattle.std.specs.List.{AllByRecursion}
 use Rattle.std.specs.declared.cmp.Ordering.{Ordering}
 use Rattle.std.specs.declared.cmp.Ordering.TheVariants.{Less, Equal, Greater}
-use Rattle.std.specs.Ordering.{is_lt, is_eq, is_ne, is_gt}
+use Rattle.std.specs.Ordering.{is_lt, is_eq, is_ne, is_gt, ordering_reverse}
 use Rattle.std.specs.Cmp.{Equal-is, tied_itself}
 use Rattle.chunk_index.specs.declared.key.Key.{Key}
 use Rattle.chunk_index.specs.KeyOrder.{key_cmp}
 use Rattle.chunk_index.specs.KeyLaws.{key_cmp_total, level_keys}
 use Rattle.chunk_index.specs.Keys.{IsInOrder, has_key, before, behind, put, without}
-use Rattle.chunk_index.specs.Merges.{put_all, ComesFirst, ComesLast}
+use Rattle.chunk_index.specs.declared.ends.End.{End}
+use Rattle.chunk_index.specs.declared.ends.End.TheVariants.{First, Last}
+use Rattle.chunk_index.specs.Ends.{at_end, seen_from, Takes}
+use Rattle.chunk_index.specs.Merges.{put_all, ComesAt}
 use Rattle.chunk_index.proofs.Lists.{turned, kept_by, kept-all, kept-none, all-filter, all-turned, all-less, filter_in_order, AllStand, neither, IsCut, cut, put-low, put-high, put-level, around, length_without}
 
 -- the first of two that is there
@@ -27,6 +30,18 @@ some_none e = cc
 
 some_is : {A : Type 0} {x y : A} → Some x ≡ Some y → x ≡ y
 some_is e = cc
+
+reversed_twice : (o : Ordering) → ordering_reverse (ordering_reverse o) ≡ o
+reversed_twice Less = refl
+reversed_twice Equal = refl
+reversed_twice Greater = refl
+
+pub unreversed : (o p : Ordering) → ordering_reverse o ≡ p → o ≡ ordering_reverse p
+unreversed o p is = sym (reversed_twice o) ∙ ap ordering_reverse is
+
+pub seen_level : (end : End) (o : Ordering) → seen_from end o ≡ Equal → o ≡ Equal
+seen_level First o is = is
+seen_level Last o is = unreversed o Equal is
 
 module _ {A : Type 0} (key : A → Key) where
   -- the item of a key
@@ -402,62 +417,79 @@ module _ {A : Type 0} (key : A → Key) where
       let rest = all_length (put key xs y) ys (put_order xs y order) in
       omega (arith, rest, put_length xs y order)
 
-  pub rest_order : (x : A) (xs : List A) → IsInOrder key (x ∷ xs) → IsInOrder key xs
+  -- what is left is in order where all was
+  pub rest_order : (end : End) (x : A) (xs : List A) → IsInOrder key (at_end end x xs) → IsInOrder key xs
   unfolding IsInOrder
-  rest_order x xs order = order.1
-
-  pub front_order : (xs : List A) (x : A) → IsInOrder key (xs ++ x ∷ []) → IsInOrder key xs
-  front_order xs x order = (cut key xs x [] order).left
+  rest_order First x xs order = order.1
+  rest_order Last x xs order = (cut key xs x [] order).left
 
   pub none_order : IsInOrder key []
   unfolding IsInOrder
   none_order = tt
 
-  -- ---- what comes first, and what comes last
+  pub taken_order : (end : End) (o : Option A) (xs ys : List A) → Takes end xs o ys → IsInOrder key xs → IsInOrder key ys
+  taken_order end None xs ys step order = subst (IsInOrder key) (sym step.1) none_order
+  taken_order end (Some x) xs ys step order = rest_order end x ys (subst (IsInOrder key) step order)
+
+  -- ---- a key that stands nearer to an end than all others
   module _ (k : Key) where
-    pub first_none : ComesFirst key k [] []
+    pub none_comes : (end : End) → ComesAt key end k [] []
     unfolding IsInOrder
-    first_none y ys is order = first_right [] y ys tt order tt
+    none_comes First y ys is order = first_right [] y ys tt order tt
+    none_comes Last y ys is order = last_right [] ys y order tt
 
-    pub first_behind : (x : A) (xs : List A) → IsInOrder key (x ∷ xs) → key_cmp (key x) k ≡ Greater → ComesFirst key k (x ∷ xs) (x ∷ xs)
+    pub farther_comes : (end : End) (x : A) (xs : List A) → IsInOrder key (at_end end x xs) → seen_from end (key_cmp (key x) k) ≡ Greater
+        → ComesAt key end k (at_end end x xs) (at_end end x xs)
     unfolding IsInOrder
-    first_behind x xs ox less y ys is order =
-        let low : key_cmp (key y) (key x) ≡ Less = ap (λ (q : Key). key_cmp q (key x)) is ∙ turned (key x) k Greater less in
+    farther_comes First x xs ox far y ys is order =
+        let low : key_cmp (key y) (key x) ≡ Less = ap (λ (q : Key). key_cmp q (key x)) is ∙ turned (key x) k Greater far in
         first_right (x ∷ xs) y ys ox order (low, lower y x xs low ox.0)
-
-    pub first_level : (x : A) (xs : List A) → IsInOrder key (x ∷ xs) → key_cmp (key x) k ≡ Equal → ComesFirst key k (x ∷ xs) xs
-    first_level x xs ox level y ys is order =
-        first_both x xs y ys ox order (ap (λ (q : Key). key_cmp q (key x)) is ∙ turned (key x) k Equal level)
-
-    pub last_none : ComesLast key k [] []
-    last_none y ys is order = last_right [] ys y order tt
-
-    pub last_before : (xs : List A) (x : A) → IsInOrder key (xs ++ x ∷ []) → key_cmp (key x) k ≡ Less → ComesLast key k (xs ++ x ∷ []) (xs ++ x ∷ [])
-    last_before xs x ox less y ys is order =
-        let low : key_cmp (key x) (key y) ≡ Less = ap (key_cmp (key x)) is ∙ less in
+    farther_comes Last x xs ox far y ys is order =
+        let low : key_cmp (key x) (key y) ≡ Less = ap (key_cmp (key x)) is ∙ unreversed (key_cmp (key x) k) Greater far in
         last_right (xs ++ x ∷ []) ys y order (all-join (λ z. key_cmp (key z) (key y) ≡ Less) xs (x ∷ [])
         (all-less key xs (key x) (key y) (cut key xs x [] ox).less low) (low, tt))
 
-    pub last_level : (xs : List A) (x : A) → IsInOrder key (xs ++ x ∷ []) → key_cmp (key x) k ≡ Equal → ComesLast key k (xs ++ x ∷ []) xs
-    last_level xs x ox level y ys is order =
-        last_both xs x ys y ox order (ap (λ (q : Key). key_cmp q (key x)) is ∙ turned (key x) k Equal level)
+    pub level_comes : (end : End) (x : A) (xs : List A) → IsInOrder key (at_end end x xs) → seen_from end (key_cmp (key x) k) ≡ Equal
+        → ComesAt key end k (at_end end x xs) xs
+    level_comes First x xs ox level y ys is order =
+        first_both x xs y ys ox order (ap (λ (q : Key). key_cmp q (key x)) is ∙ turned (key x) k Equal level)
+    level_comes Last x xs ox level y ys is order =
+        last_both xs x ys y ox order
+        (ap (λ (q : Key). key_cmp q (key x)) is ∙ turned (key x) k Equal (unreversed (key_cmp (key x) k) Equal level))
 
   pub all_alone : (ys : List A) → IsInOrder key ys → put_all key [] ys ≡ ys
   unfolding put_all IsInOrder
   all_alone [] order = refl
   all_alone (y ∷ ys) order = first_right [] y ys tt order tt ∙ ap (λ (t : List A). y ∷ t) (all_alone ys order.1)
 
-  pub first_before : (x : A) (xs : List A) (y : A) (ys : List A) → IsInOrder key (x ∷ xs) → IsInOrder key (y ∷ ys) → key_cmp (key x) (key y) ≡ Less
-      → put_all key (x ∷ xs) (y ∷ ys) ≡ x ∷ put_all key xs (y ∷ ys)
+  -- ---- a step from an end, where the first list has the item there
+  nearest : (end : End) (x : A) (xs : List A) (y : A) (ys : List A) → IsInOrder key (at_end end x xs) → IsInOrder key (at_end end y ys)
+      → seen_from end (key_cmp (key x) (key y)) ≡ Less
+      → put_all key (at_end end x xs) (at_end end y ys) ≡ at_end end x (put_all key xs (at_end end y ys))
   unfolding IsInOrder
-  first_before x xs y ys ox oy less = first_left x xs (y ∷ ys) ox (less, lower x y ys less oy.0)
-
-  pub last_behind : (xs : List A) (x : A) (ys : List A) (y : A) → IsInOrder key (xs ++ x ∷ []) → IsInOrder key (ys ++ y ∷ [])
-      → key_cmp (key x) (key y) ≡ Greater → put_all key (xs ++ x ∷ []) (ys ++ y ∷ []) ≡ put_all key xs (ys ++ y ∷ []) ++ x ∷ []
-  last_behind xs x ys y ox oy greater =
-      let low = turned (key x) (key y) Greater greater in
+  nearest First x xs y ys ox oy near = first_left x xs (y ∷ ys) ox (near, lower x y ys near oy.0)
+  nearest Last x xs y ys ox oy near =
+      let low = turned (key x) (key y) Greater (unreversed (key_cmp (key x) (key y)) Less near) in
       last_left xs x (ys ++ y ∷ []) ox (all-join (λ z. key_cmp (key z) (key x) ≡ Less) ys (y ∷ [])
       (all-less key ys (key y) (key x) (cut key ys y [] oy).less low) (low, tt))
+
+  module _ (end : End) (l l2 f : List A) where
+    pub step_nearer : (x y : A) (ys f2 : List A) → l ≡ at_end end x l2 → f ≡ at_end end y ys → IsInOrder key l → IsInOrder key f
+        → seen_from end (key_cmp (key x) (key y)) ≡ Less → f2 ≡ f → put_all key l f ≡ at_end end x (put_all key l2 f2)
+    step_nearer x y ys f2 is second order second_order near same =
+        ap (λ (t : List A). put_all key t f) is ∙ ap (put_all key (at_end end x l2)) second
+        ∙ nearest end x l2 y ys (subst (IsInOrder key) is order) (subst (IsInOrder key) second second_order) near
+        ∙ ap (λ (t : List A). at_end end x (put_all key l2 t)) (sym (same ∙ second))
+
+    -- and where the second has it
+    pub step_second : (k : Key) (y : A) (ys : List A) → ComesAt key end k l l2 → k ≡ key y → f ≡ at_end end y ys → IsInOrder key f
+        → put_all key l f ≡ at_end end y (put_all key l2 ys)
+    step_second k y ys comes is second order = ap (put_all key l) second ∙ comes y ys (sym is) (subst (IsInOrder key) second order)
+
+    -- and where the second has none left
+    pub step_alone : (o : Option A) (f2 : List A) → f ≡ [] → f2 ≡ [] → Takes end l o l2 → Takes end (put_all key l f) o (put_all key l2 f2)
+    unfolding put_all
+    step_alone o f2 none none2 step = rw (none, none2) step
 
 -- ---- lists whose items have the same keys
 module _ {A B : Type 0} (key : A → Key) (other : B → Key) (f : A → B) (same : (x : A) → other (f x) ≡ key x) where
@@ -498,14 +530,3 @@ module _ {A B : Type 0} (key : A → Key) (other : B → Key) (f : A → B) (sam
   map-order [] order = tt
   map-order (x ∷ xs) order =
       (subst (λ (k : Key). AllByRecursion (λ y. key_cmp k (other y) ≡ Less) (map f xs)) (sym (same x)) (map-all (key x) xs order.0), map-order xs order.1)
-
--- ---- what is left after a step is in order where all was
-pub first_taken : {A X : Type 0} (key : A → Key) (f : X → A) (o : Option X) (xs ys : List A)
-    → MatchOption o ((xs ≡ []) × (ys ≡ [])) (λ x. xs ≡ f x ∷ ys) → IsInOrder key xs → IsInOrder key ys
-first_taken key f None xs ys step order = subst (IsInOrder key) (sym step.1) (none_order key)
-first_taken key f (Some x) xs ys step order = rest_order key (f x) ys (subst (IsInOrder key) step order)
-
-pub last_taken : {A X : Type 0} (key : A → Key) (f : X → A) (o : Option X) (xs ys : List A)
-    → MatchOption o ((xs ≡ []) × (ys ≡ [])) (λ x. xs ≡ ys ++ f x ∷ []) → IsInOrder key xs → IsInOrder key ys
-last_taken key f None xs ys step order = subst (IsInOrder key) (sym step.1) (none_order key)
-last_taken key f (Some x) xs ys step order = front_order key ys (f x) (subst (IsInOrder key) step order)

@@ -1,5 +1,5 @@
 -- What a map of numbers has, as a list in key order, and what each change of it leaves.
-use Rattle.std.proofs.Common.{◌≡◌, ◌+◌, ◌≤◌, length, arith, ℕ, Bool, true, false, List, [], ◌∷◌, ◌&&◌, map, Option, Some, None, is_some, cond, option_map, ◌++◌, refl, sym, ap, ◌∙◌, subst}
+use Rattle.std.proofs.Common.{◌≡◌, ◌+◌, ◌≤◌, length, arith, ℕ, Bool, true, false, List, [], ◌∷◌, ◌&&◌, map, Option, Some, None, is_some, cond, option_map, refl, sym, ap, ◌∙◌}
 use Rattle.std.proofs.lemmas.List.{map-append, length-map}
 use Rattle.std.specs.List.{AllByRecursion}
 use Rattle.std.specs.List.Sorted.{IsStrictlySortedBy}
@@ -16,12 +16,15 @@ use Rattle.chunk_index.specs.KeyOrder.{key_cmp}
 use Rattle.chunk_index.specs.KeyLaws.{level_keys}
 use Rattle.chunk_index.specs.Kept.{entry_from}
 use Rattle.chunk_index.specs.Keys.{IsInOrder, has_key, key_of, number_at, before, behind, not_before, put, without}
-use Rattle.chunk_index.specs.Merges.{put_all, ComesFirst, ComesLast}
+use Rattle.chunk_index.specs.declared.ends.End.{End}
+use Rattle.chunk_index.specs.declared.ends.End.TheVariants.{First, Last}
+use Rattle.chunk_index.specs.Ends.{at_end, seen_from, Takes}
+use Rattle.chunk_index.specs.Merges.{put_all, ComesAt}
 use Rattle.chunk_index.specs.Pairs.{pair_key, pair_of, all_numbers}
 use Rattle.chunk_index.proofs.Lists.{turned, IsCut, cut, put-low, put-high, without-level, has-level, has-high, put-level, put-without, lacks_without, without_in_order, has-low, unequal, neither}
 use Rattle.chunk_index.proofs.Finds.{number-has}
 use Rattle.chunk_index.proofs.Maps.{Numbers, test, same_test, false_true}
-use Rattle.chunk_index.proofs.Merges.{map-put, map-without, map-order, map-has, all-put, put-all, all-without, all-kept, all_order, has-all, map-kept, first_before, last_behind, either, item_at, at-all, all_length}
+use Rattle.chunk_index.proofs.Merges.{map-put, map-without, map-order, map-has, all-put, put-all, all-without, all-kept, all_order, has-all, map-kept, step_nearer, step_second, step_alone, either, item_at, at-all, all_length}
 
 all_pairs : (k : Key) (es : Numbers) → AllByRecursion (λ y. key_cmp k y ≡ Less) (keys_of es) → AllByRecursion (λ e. key_cmp k (pair_key e) ≡ Less) es
 all_pairs k [] all = tt
@@ -213,40 +216,27 @@ listed_caught es late map_order late_order k n at =
 part_pairs : (l : List Entry) → IsInOrder key_of l → IsInOrder pair_key (map pair_of l)
 part_pairs l order = map-order key_of pair_key pair_of (λ e. refl) l order
 
-module _ (m rest : Numbers) (l : List Entry) where
-  pub span_before : (x : Key × ℕ) (e : Entry) (es l2 : List Entry) → m ≡ x ∷ rest → l ≡ e ∷ es → IsInOrder pair_key m → IsInOrder key_of l
-      → key_cmp x.0 (key_of e) ≡ Less → l2 ≡ l → all_numbers m l ≡ x ∷ all_numbers rest l2
-  span_before x e es l2 is late order late_order less same =
-      ap (λ (t : List Entry). all_numbers m t) late
-      ∙ ap (λ (s : Numbers). all_numbers s (e ∷ es)) is
-      ∙ first_before pair_key x rest (pair_of e) (map pair_of es) (subst (IsInOrder pair_key) is order)
-      (part_pairs (e ∷ es) (subst (IsInOrder key_of) late late_order)) less
-      ∙ ap (λ (t : List Entry). x ∷ all_numbers rest t) (sym (same ∙ late))
+pairs_at : (end : End) (e : Entry) (es : List Entry) → map pair_of (at_end end e es) ≡ at_end end (pair_of e) (map pair_of es)
+pairs_at First e es = refl
+pairs_at Last e es = map-append pair_of es (e ∷ [])
 
-  pub span_late : (k : Key) (e : Entry) (es : List Entry) → ComesFirst pair_key k m rest → k ≡ key_of e → l ≡ e ∷ es → IsInOrder key_of l
-      → all_numbers m l ≡ (k, e.number) ∷ all_numbers rest es
+module _ (end : End) (m rest : Numbers) (l : List Entry) where
+  pub span_nearer : (x : Key × ℕ) (e : Entry) (es l2 : List Entry) → m ≡ at_end end x rest → l ≡ at_end end e es → IsInOrder pair_key m
+      → IsInOrder key_of l → seen_from end (key_cmp x.0 (key_of e)) ≡ Less → l2 ≡ l → all_numbers m l ≡ at_end end x (all_numbers rest l2)
+  span_nearer x e es l2 is late order late_order near same =
+      step_nearer pair_key end m rest (map pair_of l) x (pair_of e) (map pair_of es) (map pair_of l2) is (ap (map pair_of) late ∙ pairs_at end e es)
+      order (part_pairs l late_order) near (ap (map pair_of) same)
+
+  pub span_late : (k : Key) (e : Entry) (es : List Entry) → ComesAt pair_key end k m rest → k ≡ key_of e → l ≡ at_end end e es → IsInOrder key_of l
+      → all_numbers m l ≡ at_end end (k, e.number) (all_numbers rest es)
   span_late k e es comes is late late_order =
-      ap (λ (t : List Entry). all_numbers m t) late
-      ∙ comes (pair_of e) (map pair_of es) (sym is) (part_pairs (e ∷ es) (subst (IsInOrder key_of) late late_order))
-      ∙ ap (λ (q : Key). (q, e.number) ∷ all_numbers rest es) (sym is)
+      step_second pair_key end m rest (map pair_of l) k (pair_of e) (map pair_of es) comes is (ap (map pair_of) late ∙ pairs_at end e es)
+      (part_pairs l late_order)
+      ∙ ap (λ (q : Key). at_end end (q, e.number) (all_numbers rest es)) (sym is)
 
-  pub span_behind : (x : Key × ℕ) (e : Entry) (es l2 : List Entry) → m ≡ rest ++ x ∷ [] → l ≡ es ++ e ∷ [] → IsInOrder pair_key m → IsInOrder key_of l
-      → key_cmp x.0 (key_of e) ≡ Greater → l2 ≡ l → all_numbers m l ≡ all_numbers rest l2 ++ x ∷ []
-  span_behind x e es l2 is late order late_order greater same =
-      let pairs : map pair_of l ≡ map pair_of es ++ pair_of e ∷ [] = ap (map pair_of) late ∙ map-append pair_of es (e ∷ []) in
-      ap (λ (t : Numbers). put_all pair_key m t) pairs
-      ∙ ap (λ (s : Numbers). put_all pair_key s (map pair_of es ++ pair_of e ∷ [])) is
-      ∙ last_behind pair_key rest x (map pair_of es) (pair_of e) (subst (IsInOrder pair_key) is order)
-      (subst (IsInOrder pair_key) pairs (part_pairs l late_order)) greater
-      ∙ ap (λ (t : Numbers). put_all pair_key rest t ++ x ∷ []) (sym (ap (map pair_of) same ∙ pairs))
-
-  pub span_late_last : (k : Key) (e : Entry) (es : List Entry) → ComesLast pair_key k m rest → k ≡ key_of e → l ≡ es ++ e ∷ [] → IsInOrder key_of l
-      → all_numbers m l ≡ all_numbers rest es ++ (k, e.number) ∷ []
-  span_late_last k e es comes is late late_order =
-      let pairs : map pair_of l ≡ map pair_of es ++ pair_of e ∷ [] = ap (map pair_of) late ∙ map-append pair_of es (e ∷ []) in
-      ap (λ (t : Numbers). put_all pair_key m t) pairs
-      ∙ comes (pair_of e) (map pair_of es) (sym is) (subst (IsInOrder pair_key) pairs (part_pairs l late_order))
-      ∙ ap (λ (q : Key). all_numbers rest es ++ (q, e.number) ∷ []) (sym is)
+  pub span_alone : (o : Option (Key × ℕ)) (l2 : List Entry) → l ≡ [] → l2 ≡ [] → Takes end m o rest
+      → Takes end (all_numbers m l) o (all_numbers rest l2)
+  span_alone o l2 none none2 = step_alone pair_key end m rest (map pair_of l) o (map pair_of l2) (ap (map pair_of) none) (ap (map pair_of) none2)
 
 pub listed_length : (es : Numbers) (l : List Entry) → IsInOrder pair_key es → length (all_numbers es l) ≤ length es + length l
 listed_length es l order = omega (arith, all_length pair_key es (map pair_of l) order, length-map l pair_of)

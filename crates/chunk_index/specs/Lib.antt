@@ -1,4 +1,5 @@
 pub mod Changes
+pub mod Ends
 pub mod Floors
 pub mod Fresh
 pub mod InOrder

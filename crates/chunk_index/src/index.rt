@@ -1,8 +1,9 @@
 ghost use Rattle.std.specs.Prelude.{◌≡◌, ◌≢◌, ℕ, [], true, false, Some, OnOk, OnErr, MatchOption};
 ghost use Rattle.chunk_index.specs.declared.entry.Tag.TheVariants.{Both, TopOnly};
 ghost use Rattle.chunk_index.specs.Keys.{key_of, has_key, not_before, without};
-ghost use Rattle.chunk_index.specs.Items.{item_key, AreInOrder, HasEntry, found, has, shared, with_entry, without_entry, with_tag, tag_set, entries_in, entries_tagged};
+ghost use Rattle.chunk_index.specs.Items.{item_key, AreInOrder, HasEntry, found, has, shared, with_entry, without_entry, with_tag, tag_set, entries_by, entries_in, entries_tagged};
 ghost use Rattle.chunk_index.specs.Kept.{entry_from};
+ghost use Rattle.chunk_index.specs.Walks.{passes};
 
 use crate::Level;
 use crate::apart::{put_in, tag_of, take_out};
@@ -174,7 +175,7 @@ impl ChunkIndex {
                 self.numbers.list_all(fresh);
             }
         }
-        self.spares.trim_all(self.numbers.len());
+        self.spares.trim(self.numbers.len());
     }
 
     /// Puts the entry of a key and a record's number in its place, in both levels. No entry of that key is there.
@@ -251,7 +252,6 @@ impl ChunkIndex {
         let count = self.numbers.len() + self.fresh.len();
         let apart = self.main.len() + self.top.len();
         self.spares.trim(count - apart);
-        self.spares.trim(count - apart);
         true
     }
 
@@ -304,22 +304,7 @@ impl ChunkIndex {
         ensures entries { result ≡ entries_in level self.now }
         ensures order { AreInOrder self.now }
     {
-        match level {
-            Level::Main => IndexWalk::over_map(
-                self.numbers.all(),
-                &self.main,
-                &self.top,
-                Wanted::InLevel(level),
-                Part::none(&self.fresh),
-            ),
-            Level::Top => IndexWalk::over_map(
-                self.numbers.all(),
-                &self.main,
-                &self.top,
-                Wanted::InLevel(level),
-                Part::whole(&self.fresh),
-            ),
-        }
+        self.walk_wanted(Wanted::InLevel(level))
     }
 
     /// The entries of one tag, in key order. Takes no memory.
@@ -330,23 +315,23 @@ impl ChunkIndex {
         ensures order { AreInOrder self.now }
     {
         match tag {
-            Tag::Both => IndexWalk::over_map(
-                self.numbers.all(),
-                &self.main,
-                &self.top,
-                Wanted::Of(tag),
-                Part::none(&self.fresh),
-            ),
             Tag::MainOnly => IndexWalk::over_tree(&self.main),
             Tag::TopOnly if self.top.len() == 0 => IndexWalk::over_tree(&self.fresh),
-            Tag::TopOnly => IndexWalk::over_map(
-                self.numbers.all(),
-                &self.main,
-                &self.top,
-                Wanted::Of(tag),
-                Part::whole(&self.fresh),
-            ),
+            tag => self.walk_wanted(Wanted::Of(tag)),
         }
+    }
+
+    /// The entries of some tags, in key order.
+    fn walk_wanted(&self, wanted: Wanted) -> IndexWalk<'_>
+        ensures entries { result ≡ entries_by (passes wanted) self.now }
+        ensures order { AreInOrder self.now }
+    {
+        let fresh = if wanted.passes(Tag::TopOnly) {
+            Part::whole(&self.fresh)
+        } else {
+            Part::none(&self.fresh)
+        };
+        IndexWalk::over_map(self.numbers.all(), &self.main, &self.top, wanted, fresh)
     }
 
     /// The entries of both levels that don't stand before an entry, in key order. Takes no memory.

@@ -17,6 +17,7 @@
 mod ahead;
 mod apart;
 mod emptying;
+mod ends;
 mod entry;
 mod index;
 mod key;

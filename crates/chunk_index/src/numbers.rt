@@ -1,5 +1,4 @@
 ghost use Rattle.std.specs.Prelude.{◌≡◌, ◌+◌, ◌≤◌, ◌<◌, ◌^◌, false, true, [], ◌∷◌, ◌++◌, Some, None, length, map, OnOk, OnErr, MatchOption};
-ghost use Rattle.std.specs.Iterator.{YieldsFirst, YieldsLast};
 ghost use Rattle.std.specs.BTreeMap.{is_at};
 ghost use Rattle.std.specs.Map.{lookup};
 ghost use Rattle.chunk_index.specs.InOrder.{IsInOrder-prop};
@@ -7,10 +6,12 @@ ghost use Rattle.chunk_index.specs.KeyOrder.{key_cmp};
 ghost use Rattle.chunk_index.specs.Keys.{IsInOrder, has_key, key_of, not_before, put, without};
 ghost use Rattle.chunk_index.specs.Pairs.{pair_key, pair_of};
 ghost use Rattle.chunk_index.specs.declared.key.Key.{Key as KeyRecord};
-ghost use Rattle.chunk_index.specs.Merges.{ComesFirst, ComesLast, put_all};
-ghost use Rattle.std.specs.declared.cmp.Ordering.TheVariants.{Less, Greater};
+ghost use Rattle.chunk_index.specs.Ends.{Takes, at_end, seen_from};
+ghost use Rattle.chunk_index.specs.Merges.{ComesAt, put_all};
+ghost use Rattle.std.specs.declared.cmp.Ordering.TheVariants.{Less};
 
 use crate::apart::{put_in, take_out};
+use crate::ends::End;
 use crate::part::Part;
 use crate::sort_key::SortKey;
 use crate::tree::{Node, Tree};
@@ -182,59 +183,49 @@ impl<'a> NumberSpan<'a> {
         }
     }
 
-    /// The first one that is left.
+    /// The one at an end of those that are left.
     #[inline(always)]
-    pub fn take_first(&mut self) -> Option<(SortKey, usize)>
-        ensures { YieldsFirst span_left self.old result self.new }
+    pub fn take(&mut self, end: End) -> Option<(SortKey, usize)>
+        ensures { Takes end (span_left self.old) result (span_left self.new) }
     {
         if self.late.is_empty() {
-            let Some((key, number)) = self.map.next() else {
-                return None;
-            };
-            return Some((*key, *number));
+            return take_mapped(&mut self.map, end);
         }
-        self.merged_first()
+        self.take_merged(end)
     }
 
     /// The same where a late one is left.
-    fn merged_first(&mut self) -> Option<(SortKey, usize)>
-        ensures { YieldsFirst span_left self.old result self.new }
+    fn take_merged(&mut self, end: End) -> Option<(SortKey, usize)>
+        ensures { Takes end (span_left self.old) result (span_left self.new) }
     {
         let mut late = self.late.copy();
-        match late.take_first() {
-            None => {
-                let Some((key, number)) = self.map.next() else {
-                    return None;
-                };
-                Some((*key, *number))
-            }
-            Some(entry) => {
-                let key = SortKey::of(&entry);
-                if let Some(before) = self.take_before(&key) {
-                    return Some(before);
-                }
-                self.late = late;
-                Some((key, entry.number))
-            }
+        let Some(entry) = late.take(end) else {
+            return take_mapped(&mut self.map, end);
+        };
+        let key = SortKey::of(&entry);
+        if let Some(nearer) = self.take_nearer(end, &key) {
+            return Some(nearer);
         }
+        self.late = late;
+        Some((key, entry.number))
     }
 
-    // The first one of the map, where it stands before a key. One of that very key goes.
-    fn take_before(&mut self, end: &SortKey) -> Option<(SortKey, usize)>
-        ensures first { MatchOption result (ComesFirst pair_key end.now self.old.map self.new.map)
-            (λ e. (self.old.map ≡ e ∷ self.new.map) × (key_cmp e.0 end.now ≡ Less)) }
+    // The one at an end of the map, where it stands nearer to the end than a key. One of that very key goes.
+    fn take_nearer(&mut self, end: End, than: &SortKey) -> Option<(SortKey, usize)>
+        ensures nearer { MatchOption result (ComesAt pair_key end than.now self.old.map self.new.map)
+            (λ e. (self.old.map ≡ at_end end e self.new.map) × (seen_from end (key_cmp e.0 than.now) ≡ Less)) }
         ensures late { part_left self.new.late ≡ part_left self.old.late }
     {
         let Ok(mut map) = self.map.clone() else {
             unreachable!()
         };
-        let Some((key, number)) = map.next() else {
+        let Some((key, number)) = take_mapped(&mut map, end) else {
             return None;
         };
-        match key.cmp(end) {
+        match end.seen(key.cmp(than)) {
             Ordering::Less => {
                 self.map = map;
-                Some((*key, *number))
+                Some((key, number))
             }
             Ordering::Equal => {
                 self.map = map;
@@ -243,66 +234,17 @@ impl<'a> NumberSpan<'a> {
             Ordering::Greater => None,
         }
     }
+}
 
-    /// The last one that is left.
-    #[inline(always)]
-    pub fn take_last(&mut self) -> Option<(SortKey, usize)>
-        ensures { YieldsLast span_left self.old result self.new }
-    {
-        if self.late.is_empty() {
-            let Some((key, number)) = self.map.next_back() else {
-                return None;
-            };
-            return Some((*key, *number));
-        }
-        self.merged_last()
-    }
-
-    /// The same where a late one is left.
-    fn merged_last(&mut self) -> Option<(SortKey, usize)>
-        ensures { YieldsLast span_left self.old result self.new }
-    {
-        let mut late = self.late.copy();
-        match late.take_last() {
-            None => {
-                let Some((key, number)) = self.map.next_back() else {
-                    return None;
-                };
-                Some((*key, *number))
-            }
-            Some(entry) => {
-                let key = SortKey::of(&entry);
-                if let Some(behind) = self.take_behind(&key) {
-                    return Some(behind);
-                }
-                self.late = late;
-                Some((key, entry.number))
-            }
-        }
-    }
-
-    // The last one of the map, where it stands behind a key. One of that very key goes.
-    fn take_behind(&mut self, start: &SortKey) -> Option<(SortKey, usize)>
-        ensures last { MatchOption result (ComesLast pair_key start.now self.old.map self.new.map)
-            (λ e. (self.old.map ≡ self.new.map ++ e ∷ []) × (key_cmp e.0 start.now ≡ Greater)) }
-        ensures late { part_left self.new.late ≡ part_left self.old.late }
-    {
-        let Ok(mut map) = self.map.clone() else {
-            unreachable!()
-        };
-        let Some((key, number)) = map.next_back() else {
-            return None;
-        };
-        match key.cmp(start) {
-            Ordering::Less => None,
-            Ordering::Equal => {
-                self.map = map;
-                None
-            }
-            Ordering::Greater => {
-                self.map = map;
-                Some((*key, *number))
-            }
-        }
-    }
+/// The one at an end of a range of a map.
+#[inline(always)]
+fn take_mapped(map: &mut btree_map::Range<'_, SortKey, usize>, end: End) -> Option<(SortKey, usize)>
+    ensures { Takes end map.old result map.new }
+{
+    let taken = match end {
+        End::First => map.next(),
+        End::Last => map.next_back(),
+    };
+    let (key, number) = taken?;
+    Some((*key, *number))
 }

@@ -1,8 +1,9 @@
 ghost use Rattle.std.specs.Prelude.{◌≡◌, ◌≤◌, [], length, true};
-ghost use Rattle.std.specs.Iterator.{YieldsFirst, YieldsLast};
+ghost use Rattle.chunk_index.specs.Ends.{Takes};
 ghost use Rattle.chunk_index.specs.InOrder.{IsInOrder-prop};
 ghost use Rattle.chunk_index.specs.Keys.{IsInOrder, key_of, not_before};
 
+use crate::ends::End;
 use crate::entry::Entry;
 use crate::sort_key::SortKey;
 use crate::tree::Tree;
@@ -65,27 +66,24 @@ impl<'a> Part<'a> {
         }
     }
 
-    /// The first entry that is left.
-    pub fn take_first(&mut self) -> Option<Entry>
-        ensures { YieldsFirst part_left self.old result self.new }
+    /// The entry at an end of those that are left.
+    pub fn take(&mut self, end: End) -> Option<Entry>
+        ensures { Takes end (part_left self.old) result (part_left self.new) }
     {
         if self.from == self.to {
             return None;
         }
-        let entry = self.tree.get(self.from);
-        self.from += 1;
-        Some(entry)
-    }
-
-    /// The last entry that is left.
-    pub fn take_last(&mut self) -> Option<Entry>
-        ensures { YieldsLast part_left self.old result self.new }
-    {
-        if self.from == self.to {
-            return None;
+        match end {
+            End::First => {
+                let entry = self.tree.get(self.from);
+                self.from += 1;
+                Some(entry)
+            }
+            End::Last => {
+                self.to -= 1;
+                Some(self.tree.get(self.to))
+            }
         }
-        self.to -= 1;
-        Some(self.tree.get(self.to))
     }
 
     /// Leaves out what stands before a key.

@@ -87,20 +87,8 @@ impl Spares {
         }
     }
 
-    /// Lets a node go where more than enough are kept beside so many.
+    /// Lets nodes go while more than enough are kept beside so many.
     pub fn trim(&mut self, needed: usize)
-        requires { needed ≤ kept self.old }
-        ensures enough { needed ≤ kept self.new }
-        ensures fewer { kept self.new ≤ kept self.old }
-        ensures room { room self.new ≡ room self.old }
-    {
-        if needed < self.nodes.len().saturating_sub(MOST) {
-            drop(self.nodes.pop());
-        }
-    }
-
-    /// Lets all nodes go that are more than enough beside so many.
-    pub fn trim_all(&mut self, needed: usize)
         requires { needed ≤ kept self.old }
         ensures enough { needed ≤ kept self.new }
         ensures fewer { kept self.new ≤ kept self.old }

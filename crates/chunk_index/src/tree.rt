@@ -1,4 +1,4 @@
-ghost use Rattle.std.specs.Prelude.{◌≡◌, ◌+◌, ◌*◌, ◌^◌, ◌<◌, ◌≤◌, [], ◌∷◌, ◌++◌, length, MatchOption, Some, true, false, slice_get, take, drop};
+ghost use Rattle.std.specs.Prelude.{◌≡◌, ℕ, ◌+◌, ◌*◌, ◌^◌, ◌<◌, ◌≤◌, [], ◌∷◌, ◌++◌, length, MatchOption, Some, true, false, slice_get, take, drop};
 ghost use Rattle.chunk_index.specs.Keys.{IsInOrder, has_key, key_of, number_at, put, without};
 ghost use Rattle.chunk_index.specs.TreeShape.{entry_of};
 ghost use Rattle.chunk_index.specs.Trees.{AreBalanced, AreNearlyBalanced};
@@ -141,12 +141,7 @@ impl Tree {
             let right = Tree::of_parts(inner, node, right);
             return Tree::of_parts(outer, root, right);
         }
-        let Some((before, middle, behind)) = inner.into_parts() else {
-            unreachable!()
-        };
-        let left = Tree::of_parts(outer, root, before);
-        let right = Tree::of_parts(behind, node, right);
-        Tree::of_parts(left, middle, right)
+        Tree::from_heavy_middle(outer, root, inner, node, right)
     }
 
     /// The same where the right one is too large.
@@ -163,11 +158,29 @@ impl Tree {
             let left = Tree::of_parts(left, node, inner);
             return Tree::of_parts(left, root, outer);
         }
+        Tree::from_heavy_middle(left, node, inner, root, outer)
+    }
+
+    /// A tree of three with two nodes' entries between, where the middle one is parted and its root comes to the top.
+    #[inline(always)]
+    fn from_heavy_middle(
+        first: Tree,
+        low: Box<Node>,
+        inner: Tree,
+        high: Box<Node>,
+        last: Tree,
+    ) -> Tree
+        requires some { 0 < length inner }
+        requires balanced { (a b : ℕ) → a + b + 1 ≡ length inner → AreBalanced a b → AreBalanced (length first) a
+            × AreBalanced b (length last) × AreBalanced (length first + a + 1) (b + length last + 1) }
+        requires fits { length first + length inner + length last + 2 < 2 ^ 64 }
+        ensures { result ≡ first ++ entry_of low.value ∷ inner ++ entry_of high.value ∷ last }
+    {
         let Some((before, middle, behind)) = inner.into_parts() else {
             unreachable!()
         };
-        let left = Tree::of_parts(left, node, before);
-        let right = Tree::of_parts(behind, root, outer);
+        let left = Tree::of_parts(first, low, before);
+        let right = Tree::of_parts(behind, high, last);
         Tree::of_parts(left, middle, right)
     }
 

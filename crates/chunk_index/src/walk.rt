@@ -3,13 +3,15 @@ ghost use Rattle.chunk_index.specs.InOrder.{IsInOrder-prop};
 ghost use Rattle.chunk_index.specs.Keys.{IsInOrder, key_of};
 ghost use Rattle.std.specs.Iterator.{YieldsFirst, YieldsLast, item_count};
 ghost use Rattle.chunk_index.specs.Walks.{left_in, passes};
-ghost use Rattle.chunk_index.specs.Merges.{put_all, ComesFirst, ComesLast};
+ghost use Rattle.chunk_index.specs.Ends.{Takes, at_end, seen_from};
+ghost use Rattle.chunk_index.specs.Merges.{put_all, ComesAt};
 ghost use Rattle.chunk_index.specs.KeyOrder.{key_cmp};
-ghost use Rattle.std.specs.declared.cmp.Ordering.TheVariants.{Less, Greater};
+ghost use Rattle.std.specs.declared.cmp.Ordering.TheVariants.{Less};
 
 use crate::Level;
 use crate::ahead::Ahead;
 use crate::apart::tag_of;
+use crate::ends::End;
 use crate::entry::{Entry, Tag};
 use crate::numbers::NumberSpan;
 use crate::part::Part;
@@ -75,7 +77,7 @@ pub enum Wanted {
 }
 
 impl Wanted {
-    fn passes(self, tag: Tag) -> bool
+    pub fn passes(self, tag: Tag) -> bool
         ensures { result ≡ passes self tag }
     {
         match (self, tag) {
@@ -138,7 +140,7 @@ impl<'a> Iterator for IndexWalk<'a> {
 
     fn next(&mut self) -> Option<Entry> {
         match &mut self.source {
-            Source::Map(span) => span.take_first(),
+            Source::Map(span) => span.take(End::First),
             Source::Tree(span) => span.take_first(),
         }
     }
@@ -149,7 +151,7 @@ impl<'a> DoubleEndedIterator for IndexWalk<'a> {
 
     fn next_back(&mut self) -> Option<Entry> {
         match &mut self.source {
-            Source::Map(span) => span.take_last(),
+            Source::Map(span) => span.take(End::Last),
             Source::Tree(span) => span.take_last(),
         }
     }
@@ -159,38 +161,39 @@ impl<'a> MapSpan<'a> {
     ghost use Rattle.chunk_index.specs.Sources.{map_left, map_listed};
     ghost use Rattle.chunk_index.specs.Parts.{part_left};
 
-    /// The first entry that counts.
+    /// The entry at an end of those that count.
     #[inline(always)]
-    fn take_first(&mut self) -> Option<Entry>
-        ensures { YieldsFirst map_left self.old result self.new }
+    fn take(&mut self, end: End) -> Option<Entry>
+        ensures { Takes end (map_left self.old) result (map_left self.new) }
     {
         if self.fresh.is_empty() {
-            return self.take_first_listed();
+            return self.take_listed(end);
         }
-        self.merged_first()
+        self.take_merged(end)
     }
 
     /// The same where a fresh one is left.
-    fn merged_first(&mut self) -> Option<Entry>
-        ensures { YieldsFirst map_left self.old result self.new }
+    fn take_merged(&mut self, end: End) -> Option<Entry>
+        ensures { Takes end (map_left self.old) result (map_left self.new) }
     {
         let mut fresh = self.fresh.copy();
-        let Some(entry) = fresh.take_first() else {
-            return self.take_first_listed();
+        let Some(entry) = fresh.take(end) else {
+            return self.take_listed(end);
         };
-        if let Some(listed) = self.take_before(&SortKey::of(&entry)) {
-            return Some(listed);
+        if let Some(nearer) = self.take_nearer(end, &SortKey::of(&entry)) {
+            return Some(nearer);
         }
         self.fresh = fresh;
         Some(entry)
     }
 
-    /// The first one of those that have numbers.
-    fn take_first_listed(&mut self) -> Option<Entry>
-        ensures first { YieldsFirst map_listed self.old result self.new }
+    /// The one at an end of those that have numbers.
+    #[inline(always)]
+    fn take_listed(&mut self, end: End) -> Option<Entry>
+        ensures taken { Takes end (map_listed self.old) result (map_listed self.new) }
         ensures fresh { part_left self.new.fresh ≡ part_left self.old.fresh }
     {
-        while let Some((key, number)) = self.numbers.take_first() {
+        while let Some((key, number)) = self.numbers.take(end) {
             if self.wanted.passes(tag_of(self.main, self.top, &key)) {
                 return Some(key.entry(number));
             }
@@ -198,88 +201,24 @@ impl<'a> MapSpan<'a> {
         None
     }
 
-    /// The same, where it stands before a key. One of that very key goes.
-    fn take_before(&mut self, end: &SortKey) -> Option<Entry>
-        ensures first { MatchOption result (ComesFirst key_of end.now (map_listed self.old) (map_listed self.new))
-            (λ e. (map_listed self.old ≡ e ∷ map_listed self.new) × (key_cmp (key_of e) end.now ≡ Less)) }
+    /// The same, where it stands nearer to the end than a key. One of that very key goes.
+    fn take_nearer(&mut self, end: End, than: &SortKey) -> Option<Entry>
+        ensures nearer { MatchOption result (ComesAt key_of end than.now (map_listed self.old) (map_listed self.new))
+            (λ e. (map_listed self.old ≡ at_end end e (map_listed self.new)) × (seen_from end (key_cmp (key_of e) than.now) ≡ Less)) }
         ensures fresh { part_left self.new.fresh ≡ part_left self.old.fresh }
     {
         loop {
             let mut numbers = self.numbers.copy();
-            let Some((key, number)) = numbers.take_first() else {
+            let Some((key, number)) = numbers.take(end) else {
                 return None;
             };
-            match key.cmp(end) {
+            match end.seen(key.cmp(than)) {
                 Ordering::Less => self.numbers = numbers,
                 Ordering::Equal => {
                     self.numbers = numbers;
                     return None;
                 }
                 Ordering::Greater => return None,
-            }
-            if self.wanted.passes(tag_of(self.main, self.top, &key)) {
-                return Some(key.entry(number));
-            }
-        }
-    }
-
-    /// The last entry that counts.
-    #[inline(always)]
-    fn take_last(&mut self) -> Option<Entry>
-        ensures { YieldsLast map_left self.old result self.new }
-    {
-        if self.fresh.is_empty() {
-            return self.take_last_listed();
-        }
-        self.merged_last()
-    }
-
-    /// The same where a fresh one is left.
-    fn merged_last(&mut self) -> Option<Entry>
-        ensures { YieldsLast map_left self.old result self.new }
-    {
-        let mut fresh = self.fresh.copy();
-        let Some(entry) = fresh.take_last() else {
-            return self.take_last_listed();
-        };
-        if let Some(listed) = self.take_behind(&SortKey::of(&entry)) {
-            return Some(listed);
-        }
-        self.fresh = fresh;
-        Some(entry)
-    }
-
-    /// The last one of those that have numbers.
-    fn take_last_listed(&mut self) -> Option<Entry>
-        ensures last { YieldsLast map_listed self.old result self.new }
-        ensures fresh { part_left self.new.fresh ≡ part_left self.old.fresh }
-    {
-        while let Some((key, number)) = self.numbers.take_last() {
-            if self.wanted.passes(tag_of(self.main, self.top, &key)) {
-                return Some(key.entry(number));
-            }
-        }
-        None
-    }
-
-    /// The same, where it stands behind a key. One of that very key goes.
-    fn take_behind(&mut self, start: &SortKey) -> Option<Entry>
-        ensures last { MatchOption result (ComesLast key_of start.now (map_listed self.old) (map_listed self.new))
-            (λ e. (map_listed self.old ≡ map_listed self.new ++ e ∷ []) × (key_cmp (key_of e) start.now ≡ Greater)) }
-        ensures fresh { part_left self.new.fresh ≡ part_left self.old.fresh }
-    {
-        loop {
-            let mut numbers = self.numbers.copy();
-            let Some((key, number)) = numbers.take_last() else {
-                return None;
-            };
-            match key.cmp(start) {
-                Ordering::Greater => self.numbers = numbers,
-                Ordering::Equal => {
-                    self.numbers = numbers;
-                    return None;
-                }
-                Ordering::Less => return None,
             }
             if self.wanted.passes(tag_of(self.main, self.top, &key)) {
                 return Some(key.entry(number));

@@ -6,15 +6,12 @@ use Rattle.chunk_index.proofs.index.ChunkIndex.end.Goals as goal
 pub overflow_sub-count : goal.overflow_sub-count
 overflow_sub-count c = omega (arith, fewer c.self.invariant, c.len.ensures.count, c.len-2.ensures, c.len-3.ensures, c.len-4.ensures)
 
-pub overflow_sub-count-2 : goal.overflow_sub-count-2
-overflow_sub-count-2 c = omega (arith, fewer c.self.invariant, c.len.ensures.count, c.len-2.ensures, c.len-3.ensures, c.len-4.ensures)
-
 pub invariant_of-self : goal.invariant_of-self
 invariant_of-self c =
     let is = c.self.invariant.listed in
     end-index c.self.invariant c.self.view_is c.args.key.now (sym c.if-not-has.ensures) c.take_out.new.tree c.take_out.ensures.without
-    (kept c.trim-2.new.self) (room c.trim-2.new.self)
-    (omega (arith, c.trim-2.ensures.enough, c.len.ensures.count, c.len-2.ensures, c.len-3.ensures, c.len-4.ensures))
+    (kept c.trim.new.self) (room c.trim.new.self)
+    (omega (arith, c.trim.ensures.enough, c.len.ensures.count, c.len-2.ensures, c.len-3.ensures, c.len-4.ensures))
     (omega (
       arith,
       is.fits,
@@ -23,8 +20,6 @@ invariant_of-self c =
       c.give.ensures.room,
       c.trim.ensures.fewer,
       c.trim.ensures.room,
-      c.trim-2.ensures.fewer,
-      c.trim-2.ensures.room,
     ))
 
 pub returns-clause-out : goal.returns-clause-out

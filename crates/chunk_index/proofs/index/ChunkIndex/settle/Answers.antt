@@ -27,10 +27,10 @@ invariant_of-self c =
       | in-Main w ↦ ap (λ s. s.fresh) w.self-inside-is ∙ c.replace-fresh.ensures.after ∙ c.new-3.ensures
       | in-Top w ↦ ap (λ s. s.fresh) w.self-inside-is ∙ c.replace-fresh.ensures.after ∙ c.new-3.ensures
     ] in
-    let fits : kept c.trim_all.new.self ≤ room c.trim_all.new.self = omega (arith, c.trim_all.ensures.fewer, c.trim_all.ensures.room) in
-    settled-index (listed n) now.main now.top now.fresh (count n) (kept c.trim_all.new.self) (room c.trim_all.new.self) no_main no_top no_fresh
+    let fits : kept c.trim.new.self ≤ room c.trim.new.self = omega (arith, c.trim.ensures.fewer, c.trim.ensures.room) in
+    settled-index (listed n) now.main now.top now.fresh (count n) (kept c.trim.new.self) (room c.trim.new.self) no_main no_top no_fresh
     (listed_order n.map.entries n.late n.map_order n.late_order) (listed_length n.map.entries n.late n.map_order)
-    (omega (arith, c.trim_all.ensures.enough, c.len.ensures.count)) fits
+    (omega (arith, c.trim.ensures.enough, c.len.ensures.count)) fits
 
 pub returns : goal.returns
 returns c = elim c.match-stays.branch [
