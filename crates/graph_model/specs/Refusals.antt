@@ -1,5 +1,5 @@
 -- Which refusal a command meets: the first of its row whose cause holds, and none where no cause does.
-use Rattle.std.specs.Prelude.{◌≡◌, ℕ, true, ◌<◌, ◌≤◌, List, [], ◌∷◌, ◌++◌, length, sum_by, Contains, ◌⊎◌, Option, None, Some}
+use Rattle.std.specs.Prelude.{◌≡◌, ℕ, true, ◌<◌, ◌≤◌, List, [], ◌∷◌, ◌++◌, length, sum_by, Contains, ◌⊎◌, Option, None, Some, codes}
 use Rattle.std.specs.FinMap as finmap
 use Rattle.graph_model.specs.declared.names.Refusal.{Refusal}
 use Rattle.graph_model.specs.declared.names.Refusal.TheVariants.{Late, Range, Fee, Size, Taken, ClusterSize, Full, Unknown, Cycle, Count, Staging, Twice, Parent, Empty, NoStaging, Memory}
@@ -12,23 +12,32 @@ use Rattle.graph_model.specs.States.{PlainState, level_of, IsStaged, IsLive, siz
 use Rattle.graph_model.specs.Commands.{Command}
 use Rattle.graph_model.specs.Commands as commands
 
-abbrev pub number_of : Refusal → ℕ
-number_of Late = 3
-number_of Range = 4
-number_of Fee = 5
-number_of Size = 6
-number_of Taken = 7
-number_of (ClusterSize n) = 8
-number_of Full = 9
-number_of (Unknown id) = 10
-number_of Cycle = 11
-number_of (Count n) = 12
-number_of Staging = 13
-number_of (Twice id) = 14
-number_of (Parent id) = 15
-number_of Empty = 16
-number_of NoStaging = 17
-number_of Memory = 18
+-- how a refusal is told: its number, the word that names it, and the number that it keeps
+pub record Told : Type 0 where
+  pub number : ℕ
+  pub word : List ℕ
+  pub kept : Option ℕ
+
+abbrev pub told : ℕ → List ℕ → Option ℕ → Told
+told number word kept = record { number = number; word = word; kept = kept }
+
+abbrev pub told_as : Refusal → Told
+told_as Late = told 3 (codes "late") None
+told_as Range = told 4 (codes "range") None
+told_as Fee = told 5 (codes "fee") None
+told_as Size = told 6 (codes "size") None
+told_as Taken = told 7 (codes "taken") None
+told_as (ClusterSize n) = told 8 (codes "clustersize") (Some n)
+told_as Full = told 9 (codes "full") None
+told_as (Unknown id) = told 10 (codes "unknown") (Some id)
+told_as Cycle = told 11 (codes "cycle") None
+told_as (Count n) = told 12 (codes "count") (Some n)
+told_as Staging = told 13 (codes "staging") None
+told_as (Twice id) = told 14 (codes "twice") (Some id)
+told_as (Parent id) = told 15 (codes "parent") (Some id)
+told_as Empty = told 16 (codes "empty") None
+told_as NoStaging = told 17 (codes "nostaging") None
+told_as Memory = told 18 (codes "memory") None
 
 -- A row of refusals: this one where its cause holds, else what comes later in the row.
 abbrev pub First : Type 0 → Refusal → (Option Refusal → Type 0) → Option Refusal → Type 0

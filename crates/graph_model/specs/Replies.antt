@@ -1,5 +1,5 @@
 -- Replies, and the text of each: lines, each ended by a line feed.
-use Rattle.std.specs.Prelude.{ℕ, ℤ, List, [], ◌∷◌, ◌++◌, map, flat_map, codes, decimal, Result, Ok, Err}
+use Rattle.std.specs.Prelude.{ℕ, ℤ, List, [], ◌∷◌, ◌++◌, map, flat_map, codes, decimal, Option, None, Some, Result, Ok, Err}
 use Rattle.std.specs.Fmt.{signed_decimal}
 use Rattle.fee_rate.specs.declared.rates.Sum.{Sum}
 use Rattle.graphs.specs.declared.names.Verdict.{Verdict}
@@ -7,8 +7,8 @@ use Rattle.graphs.specs.declared.names.Verdict.TheVariants.{Better, Worse, Equal
 use Rattle.graph_model.specs.declared.names.Place.{Place}
 use Rattle.graph_model.specs.declared.names.Place.TheVariants.{Before, Same, After}
 use Rattle.graph_model.specs.declared.names.Refusal.{Refusal}
-use Rattle.graph_model.specs.declared.names.Refusal.TheVariants.{Late, Range, Fee, Size, Taken, ClusterSize, Full, Unknown, Cycle, Count, Staging, Twice, Parent, Empty, NoStaging, Memory}
 use Rattle.graphs.specs.Certificates.{Part}
+use Rattle.graph_model.specs.Refusals.{told_as}
 use Rattle.graph_model.specs.Words.{spaced, line_text}
 use Rattle.graph_model.specs.Texts.{Text, text_lines, chunk_line}
 
@@ -30,24 +30,14 @@ pub data Reply : Type 0 where
   Evicted : (part : Part) → Reply
   Built : (sum : Sum) (ids : List ℕ) → Reply
 
+-- a number that is kept, as words
+abbrev pub kept_words : Option ℕ → List (List ℕ)
+kept_words None = []
+kept_words (Some n) = decimal n ∷ []
+
 -- the words of a refusal, after `refused`
 abbrev pub refusal_words : Refusal → List (List ℕ)
-refusal_words Late = codes "late" ∷ []
-refusal_words Range = codes "range" ∷ []
-refusal_words Fee = codes "fee" ∷ []
-refusal_words Size = codes "size" ∷ []
-refusal_words Taken = codes "taken" ∷ []
-refusal_words (ClusterSize n) = codes "clustersize" ∷ decimal n ∷ []
-refusal_words Full = codes "full" ∷ []
-refusal_words (Unknown id) = codes "unknown" ∷ decimal id ∷ []
-refusal_words Cycle = codes "cycle" ∷ []
-refusal_words (Count n) = codes "count" ∷ decimal n ∷ []
-refusal_words Staging = codes "staging" ∷ []
-refusal_words (Twice id) = codes "twice" ∷ decimal id ∷ []
-refusal_words (Parent id) = codes "parent" ∷ decimal id ∷ []
-refusal_words Empty = codes "empty" ∷ []
-refusal_words NoStaging = codes "nostaging" ∷ []
-refusal_words Memory = codes "memory" ∷ []
+refusal_words why = (told_as why).word ∷ kept_words (told_as why).kept
 
 abbrev pub refusal_text : Refusal → List ℕ
 refusal_text why = line_text (spaced (codes "refused" ∷ refusal_words why))

@@ -62,29 +62,52 @@ pub enum Refusal {
 }
 
 impl Refusal {
-    ghost use Rattle.graph_model.specs.Refusals.{number_of};
+    ghost use Rattle.graph_model.specs.Refusals.{told_as};
 
     /// The number of the refusal, from 3 to 18; 1 and 2 are of lines that are no command.
     pub fn number(&self) -> u8
-        ensures { result ≡ number_of self.now }
+        ensures { result ≡ (told_as self.now).number }
+    {
+        self.told().0
+    }
+
+    /// The word that names the refusal in a reply.
+    pub fn word(&self) -> &'static str
+        ensures { result.now ≡ (told_as self.now).word }
+    {
+        self.told().1
+    }
+
+    /// The number that the refusal keeps: a name, a count or a size.
+    pub fn kept(&self) -> Option<u64>
+        ensures { result ≡ (told_as self.now).kept }
+    {
+        self.told().2
+    }
+
+    /// The number, the word and the number that is kept.
+    fn told(&self) -> (u8, &'static str, Option<u64>)
+        ensures number { result.0 ≡ (told_as self.now).number }
+        ensures word { result.1.now ≡ (told_as self.now).word }
+        ensures kept { result.2 ≡ (told_as self.now).kept }
     {
         match self {
-            Refusal::Late => 3,
-            Refusal::Range => 4,
-            Refusal::Fee => 5,
-            Refusal::Size => 6,
-            Refusal::Taken => 7,
-            Refusal::ClusterSize(_) => 8,
-            Refusal::Full => 9,
-            Refusal::Unknown(_) => 10,
-            Refusal::Cycle => 11,
-            Refusal::Count(_) => 12,
-            Refusal::Staging => 13,
-            Refusal::Twice(_) => 14,
-            Refusal::Parent(_) => 15,
-            Refusal::Empty => 16,
-            Refusal::NoStaging => 17,
-            Refusal::Memory => 18,
+            Refusal::Late => (3, "late", None),
+            Refusal::Range => (4, "range", None),
+            Refusal::Fee => (5, "fee", None),
+            Refusal::Size => (6, "size", None),
+            Refusal::Taken => (7, "taken", None),
+            Refusal::ClusterSize(n) => (8, "clustersize", Some(*n)),
+            Refusal::Full => (9, "full", None),
+            Refusal::Unknown(id) => (10, "unknown", Some(*id)),
+            Refusal::Cycle => (11, "cycle", None),
+            Refusal::Count(n) => (12, "count", Some(*n)),
+            Refusal::Staging => (13, "staging", None),
+            Refusal::Twice(id) => (14, "twice", Some(*id)),
+            Refusal::Parent(id) => (15, "parent", Some(*id)),
+            Refusal::Empty => (16, "empty", None),
+            Refusal::NoStaging => (17, "nostaging", None),
+            Refusal::Memory => (18, "memory", None),
         }
     }
 }
