@@ -1,14 +1,13 @@
 -- Numbers of at most 10^30 as text.
-use Rattle.std.proofs.Common.{◌≡◌, ◌≢◌, ℕ, ◌+◌, ◌-◌, ◌*◌, ◌/◌, ◌%◌, ◌<◌, ◌^◌, List, [], ◌∷◌, ◌++◌, refl, sym, arith, ◌∙◌, ap, length, zero, suc, get_or, decimal, Option, None, Some, ℤ, pos, negsuc, lit<, slice_index, true, append-nil, append_assoc, length-append}
+use Rattle.std.proofs.Common.{◌≡◌, ℕ, ◌+◌, ◌-◌, ◌*◌, ◌/◌, ◌%◌, ◌<◌, ◌^◌, List, [], ◌∷◌, ◌++◌, refl, sym, arith, ◌∙◌, ap, length, zero, suc, get_or, decimal, Option, None, Some, ℤ, pos, negsuc, lit<, slice_index, true, append-nil, append_assoc, length-append}
 use Rattle.std.proofs.Math.ListN.{get_or-append}
 use Rattle.std.specs.Fmt.{signed_decimal}
 use Rattle.std.specs.Str.{all_ascii_digits}
 use Rattle.std.specs.Str.Parse.{AllDigits, digits_value}
-use Rattle.std.proofs.lemmas.Str.Parse.{digit_from_value, not_in_digits}
+use Rattle.std.proofs.lemmas.Str.Parse.{digit_from_value}
 use Rattle.std.proofs.lemmas.Fmt.{decimal_is_IsNumeral_wide, decimal_by_steps_wide, decimal_step_wide, decimal_digit}
-use Rattle.std.proofs.lemmas.List.Elements.{All-cons, All-from_get_or}
 use Rattle.wire.specs.Digits.{read_on, IsPlain, ReadsDigits}
-use Rattle.wire.specs.Fields.{ReadsAs, IsBig, IsAmount, IsBigFee, IsOneWord}
+use Rattle.wire.specs.Fields.{ReadsAs, IsBig, IsAmount, IsBigFee}
 use Rattle.wire.proofs.ReadLemmas.{own, read_on-le}
 
 big_digits : (n : ℕ) → n < 10 ^ 64 → all_ascii_digits (decimal n) ≡ true
@@ -86,15 +85,6 @@ big_zero_unread (negsuc n) fits is =
     let f : 45 ∷ decimal 0 ≡ 45 ∷ decimal (suc n) = is in
     let g : decimal 0 ≡ decimal (suc n) = cc in
     let e : 0 ≡ suc n = big_injective 0 (suc n) (lit< tt) (omega (arith, fits)) g in absurd (omega arith)
-
--- digits are one word
-pub big_word : (n : ℕ) → n < 10 ^ 64 → IsOneWord (decimal n)
-big_word n fits =
-    All-from_get_or (λ byte. byte ≢ 32) (decimal n) 0 (λ i below. not_in_digits own (decimal n) 32 (big_digits n fits) (λ r. absurd (omega (arith, r))) i below)
-
-pub big_fee_word : (z : ℤ) → IsBigFee z → IsOneWord (signed_decimal z)
-big_fee_word (pos n) fits = big_word n (omega (arith, fits))
-big_fee_word (negsuc n) fits = All-cons (λ byte. byte ≢ 32) 45 (decimal (suc n)) (λ e. absurd (omega arith)) (big_word (suc n) (omega (arith, fits)))
 
 pub big_fee_injective : (y z : ℤ) → IsBigFee y → IsBigFee z → signed_decimal y ≡ signed_decimal z → y ≡ z
 big_fee_injective (pos m) (pos n) p q e = ap pos (big_injective m n (omega (arith, p)) (omega (arith, q)) e)

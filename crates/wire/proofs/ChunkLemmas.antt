@@ -14,8 +14,8 @@ use Rattle.wire.specs.declared.texts.row.Kind.TheVariants as kinds
 use Rattle.wire.specs.Fields.{IsWide, IsBigFee, IsOneWord}
 use Rattle.wire.specs.Rows.{kind_word, row_line, HasRowTypes, Gives, AddsName}
 use Rattle.wire.specs.Forms.{names_text, AreNames}
-use Rattle.wire.proofs.ReadLemmas.{decimal_word, same_split, split_unread}
-use Rattle.wire.proofs.BigLemmas.{big_fee_word}
+use Rattle.wire.specs.OneWord.{decimal_word, big_fee_word}
+use Rattle.wire.proofs.ReadLemmas.{same_split, split_unread}
 use Rattle.wire.proofs.FormLemmas.{differ_apart}
 
 -- names, each with a space after it
@@ -121,38 +121,18 @@ pub chunk_line_is : (rate : Sum) (ids : List ℕ) → ids ≢ [] → row_line (r
 chunk_line_is rate ids some = ap (λ (xs : List ℕ). kind_word kinds.Chunk ++ 32 ∷ (signed_decimal rate.fee ++ 32 ∷ xs)) (size_names rate.size ids some)
 
 -- a text after `chunk` that has none of the forms makes no line
-chunk_no_row : (text : List ℕ) → ((rate : Sum) (ids : List ℕ) → HasRowTypes (rows.Chunk rate ids) → text ≡ chunk_text rate ids → ⊥)
+pub chunk_no_row : (text : List ℕ) → ((rate : Sum) (ids : List ℕ) → HasRowTypes (rows.Chunk rate ids) → text ≡ chunk_text rate ids → ⊥)
     → (row : Row) → HasRowTypes row → kind_word kinds.Chunk ++ 32 ∷ text ≡ row_line row → ⊥
 chunk_no_row text none (rows.Chunk rate ids) fits is = none rate ids fits (ap (drop 6) (is ∙ chunk_line_is rate ids fits.2.0))
 chunk_no_row text none _ fits is = differ_apart _ _ refl is
 
-pub chunk_word_no_row : (text : List ℕ) → IsOneWord text → (row : Row) → HasRowTypes row → kind_word kinds.Chunk ++ 32 ∷ text ≡ row_line row → ⊥
-chunk_word_no_row text one =
-    chunk_no_row text (λ rate ids fits is. split_unread text (signed_decimal rate.fee) (decimal rate.size ++ 32 ∷ names_text ids) one is)
-
-pub chunk_fee_no_row : (text fee rest : List ℕ) → text ≡ fee ++ 32 ∷ rest → IsOneWord fee → ((value : ℤ) → IsBigFee value → fee ≡ signed_decimal value → ⊥)
-    → (row : Row) → HasRowTypes row → kind_word kinds.Chunk ++ 32 ∷ text ≡ row_line row → ⊥
-chunk_fee_no_row text fee rest whole one none = chunk_no_row text (λ rate ids fits is.
-    none rate.fee fits.0
-    (same_split fee rest (signed_decimal rate.fee) (decimal rate.size ++ 32 ∷ names_text ids) one (big_fee_word rate.fee fits.0) (sym whole ∙ is)).0)
-
 -- the same behind the fee
-chunk_rest_no_row : (fee : ℤ) (text : List ℕ) → IsBigFee fee
+pub chunk_rest_no_row : (fee : ℤ) (text : List ℕ) → IsBigFee fee
     → ((rate : Sum) (ids : List ℕ) → HasRowTypes (rows.Chunk rate ids) → text ≡ decimal rate.size ++ 32 ∷ names_text ids → ⊥)
     → (row : Row) → HasRowTypes row → kind_word kinds.Chunk ++ 32 ∷ (signed_decimal fee ++ 32 ∷ text) ≡ row_line row → ⊥
 chunk_rest_no_row fee text fine none = chunk_no_row (signed_decimal fee ++ 32 ∷ text) (λ rate ids fits is.
     none rate ids fits (same_split (signed_decimal fee) text (signed_decimal rate.fee)
     (decimal rate.size ++ 32 ∷ names_text ids) (big_fee_word fee fine) (big_fee_word rate.fee fits.0) is).1)
-
-pub size_word_no_row : (fee : ℤ) (text : List ℕ) → IsBigFee fee → IsOneWord text → (row : Row)
-    → HasRowTypes row → kind_word kinds.Chunk ++ 32 ∷ (signed_decimal fee ++ 32 ∷ text) ≡ row_line row → ⊥
-size_word_no_row fee text fine one = chunk_rest_no_row fee text fine (λ rate ids fits is. split_unread text (decimal rate.size) (names_text ids) one is)
-
-pub size_no_row : (fee : ℤ) (text size rest : List ℕ) → IsBigFee fee → text ≡ size ++ 32 ∷ rest
-    → IsOneWord size → ((value : ℕ) → IsWide value → size ≡ decimal value → ⊥)
-    → (row : Row) → HasRowTypes row → kind_word kinds.Chunk ++ 32 ∷ (signed_decimal fee ++ 32 ∷ text) ≡ row_line row → ⊥
-size_no_row fee text size rest fine whole one none = chunk_rest_no_row fee text fine (λ rate ids fits is.
-    none rate.size fits.1 (same_split size rest (decimal rate.size) (names_text ids) one (decimal_word rate.size fits.1) (sym whole ∙ is)).0)
 
 -- the same behind the fee and the size
 names_no_row : (rate : Sum) (text : List ℕ) → IsBigFee rate.fee → IsWide rate.size → ((ids : List ℕ) → AreNames ids → text ≡ names_text ids → ⊥)

@@ -11,7 +11,8 @@ use Rattle.graph_model.specs.Lines.{Spells}
 use Rattle.wire.specs.declared.form.Form.{Form}
 use Rattle.wire.specs.Fields.{IsWide, IsOneWord}
 use Rattle.wire.specs.Forms.{Kind, Wide, Signed, LevelName, Shape, Bare, Last, Then, Names, Field, field_text, FieldFits, Fields, fields_text, FieldsFit, names_text, AreNames, row_of, form_word, rest_text}
-use Rattle.wire.proofs.ReadLemmas.{decimal_word, signed_word, same_split}
+use Rattle.wire.specs.OneWord.{decimal_word, signed_word}
+use Rattle.wire.proofs.ReadLemmas.{same_split}
 use Rattle.wire.proofs.FormLemmas.{differ_apart, one_word, form_one_word, form_same, row, same_line}
 use Rattle.wire.proofs.RowLemmas.{spaced_same, names_same}
 

@@ -5,13 +5,12 @@ use Rattle.std.proofs.lemmas.Int.{ints}
 use Rattle.std.proofs.Math.IntN.{+ℤ_idl}
 use Rattle.std.specs.Fmt.{signed_decimal}
 use Rattle.std.specs.Str.{all_ascii_digits}
-use Rattle.std.proofs.lemmas.Str.Parse.{IsNumeralModel, not_in_digits, numerals_by_fold}
+use Rattle.std.proofs.lemmas.Str.Parse.{IsNumeralModel, numerals_by_fold}
 use Rattle.std.proofs.lemmas.Fmt.{decimal_nonempty, first_decimal, digits_decimal, digits_value-decimal, decimal-digits_value, decimal_injective, decimal_digit}
 use Rattle.graph_model.specs.Lines.{without_return}
 use Rattle.wire.specs.Digits.{read_on, IsPlain, ReadsDigits}
-use Rattle.wire.specs.Fields.{ReadsAs, IsWide, IsOneWord, pair_spelling, BothFit}
-use Rattle.std.specs.Option.{option_zip}
-use Rattle.std.proofs.lemmas.List.Elements.{All-cons, All-head, All-tail, All-from_get_or}
+use Rattle.wire.specs.Fields.{ReadsAs, IsWide, IsOneWord}
+use Rattle.std.proofs.lemmas.List.Elements.{All-head, All-tail}
 
 pub without_return_last : (front : List ℕ) → without_return (front ++ 13 ∷ []) ≡ front
 without_return_last [] = refl
@@ -98,16 +97,6 @@ without_return_other (byte ∷ []) other = elim (nat_eq byte 13) as (λ b. nat_e
 without_return_other (byte ∷ next ∷ bytes) other = ap (λ (xs : List ℕ). byte ∷ xs) (without_return_other (next ∷ bytes)
     (λ e. let at : length (byte ∷ next ∷ bytes) - 1 ≡ suc (length (next ∷ bytes) - 1) = omega arith in other (ap (slice_index (byte ∷ next ∷ bytes)) at ∙ e)))
 
--- digits are one word
-pub decimal_word : (n : ℕ) → n < 2 ^ 64 → IsOneWord (decimal n)
-decimal_word n fits =
-    All-from_get_or (λ byte. byte ≢ 32) (decimal n) 0
-    (λ i below. not_in_digits own (decimal n) 32 (digits_decimal own n fits) (λ r. absurd (omega (arith, r))) i below)
-
-pub signed_word : (z : ℤ) → FitsSigned w64 z → IsOneWord (signed_decimal z)
-signed_word (pos n) fits = decimal_word n (omega (arith, ints, fits))
-signed_word (negsuc n) fits = All-cons (λ byte. byte ≢ 32) 45 (decimal (suc n)) (λ e. absurd (omega arith)) (decimal_word (suc n) (omega (arith, ints, fits)))
-
 pub split_unread : (text a b : List ℕ) → IsOneWord text → text ≡ a ++ 32 ∷ b → ⊥
 split_unread text [] b one is = All-head (λ byte. byte ≢ 32) 32 b (subst IsOneWord is one) refl
 split_unread text (x ∷ a) b one is = let h : IsOneWord (a ++ 32 ∷ b) = All-tail (λ byte. byte ≢ 32) x (a ++ 32 ∷ b) (subst IsOneWord is one) in
@@ -125,27 +114,3 @@ same_split (x ∷ a) b (y ∷ c) d one other is =
     let rest = same_split a b c d (All-tail (λ byte. byte ≢ 32) x a one) (All-tail (λ byte. byte ≢ 32) y c other) tail in
     let front = rest.0 in
     (cc, rest.1)
-
-zip_reads : {A B : Type 0} (first : A → List ℕ) (second : B → List ℕ) (FitA : A → Type 0) (FitB : B → Type 0) → ((a : A) → FitA a → IsOneWord (first a))
-    → (text front rest : List ℕ) → text ≡ front ++ 32 ∷ rest → IsOneWord front
-    → (x : Option A) (y : Option B) → ReadsAs first FitA front x → ReadsAs second FitB rest y
-    → ReadsAs (pair_spelling first second) (BothFit FitA FitB) text (option_zip x y)
-zip_reads first second FitA FitB word text front rest whole one None y none other = λ value fits is.
-    none value.0 fits.0 (same_split front rest (first value.0) (second value.1) one (word value.0 fits.0) (sym whole ∙ is)).0
-zip_reads first second FitA FitB word text front rest whole one (Some a) None found none = λ value fits is.
-    none value.1 fits.1 (same_split front rest (first value.0) (second value.1) one (word value.0 fits.0) (sym whole ∙ is)).1
-zip_reads first second FitA FitB word text front rest whole one (Some a) (Some b) found other =
-    ((found.0, other.0), whole ∙ ap (λ (xs : List ℕ). xs ++ 32 ∷ rest) found.1 ∙ ap (λ (xs : List ℕ). first a ++ 32 ∷ xs) other.1)
-
--- a reading of two fields from the readings of each
-pub pair_reads : {A B : Type 0} (first : A → List ℕ) (second : B → List ℕ) (FitA : A → Type 0) (FitB : B → Type 0) → ((a : A) → FitA a → IsOneWord (first a))
-    → (text front rest : List ℕ) → text ≡ front ++ 32 ∷ rest → IsOneWord front → (x : Option A) (y : Option B) (both : Option (A × B))
-    → ReadsAs first FitA front x → ReadsAs second FitB rest y → both ≡ option_zip x y
-    → ReadsAs (pair_spelling first second) (BothFit FitA FitB) text both
-pair_reads {A = A} {B = B} first second FitA FitB word text front rest whole one x y both found other is =
-    subst (λ (z : Option (A × B)). ReadsAs (pair_spelling first second) (BothFit FitA FitB) text z)
-    (sym is) (zip_reads first second FitA FitB word text front rest whole one x y found other)
-
-pub pair_unread : {A B : Type 0} (first : A → List ℕ) (second : B → List ℕ) (FitA : A → Type 0) (FitB : B → Type 0) (text : List ℕ) → IsOneWord text
-    → ReadsAs (pair_spelling first second) (BothFit FitA FitB) text None
-pair_unread first second FitA FitB text one = λ value fits is. split_unread text (first value.0) (second value.1) one is

@@ -1,4 +1,5 @@
 pub mod Fields
+pub mod OneWord
 pub mod Readings
 pub mod Digits
 pub mod Forms

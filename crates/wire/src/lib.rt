@@ -2,6 +2,7 @@
 //! certificates.
 #![tactic(auto)]
 
+mod field;
 mod form;
 mod laws;
 mod line;

@@ -1,15 +1,12 @@
 ghost use Rattle.std.specs.Prelude.{◌≡◌, ◌≢◌, ℕ, List, [], ◌-◌, slice_index, MatchOption, IfSome, IfNone, ◌+◌, ◌*◌, ◌<◌, ◌≤◌, ◌∷◌, ◌++◌, length};
 ghost use Rattle.graph_model.specs.Lines.{Means, max_line, without_return};
-ghost use Rattle.graph_model.specs.Words.{level_word};
-ghost use Rattle.std.specs.Prelude.{decimal, FitsSigned};
-ghost use Rattle.std.specs.Int.{w64};
-ghost use Rattle.std.specs.Fmt.{signed_decimal};
-ghost use Rattle.wire.specs.Fields.{IsOneWord, ReadsAs, IsWide, Always, pair_spelling, BothFit};
+ghost use Rattle.wire.specs.Fields.{IsOneWord};
 ghost use Rattle.wire.specs.Forms.{form_word, names_text, AreNames};
 ghost use Rattle.wire.specs.Readings.{said_by, meaning_of, LineSays, TextSays, FormSays};
 
+use crate::field::Field;
 use crate::form::{Form, form_of};
-use crate::numbers::{number, signed_number};
+use crate::numbers::number;
 use crate::words::split_at_byte;
 use graph_model::{IdBuf, Level, Limits, TxId};
 
@@ -183,44 +180,44 @@ fn fields(form: Form, rest: &[u8]) -> Option<Line>
 {
     match form {
         Form::Limits => {
-            let (count, (size, total)) = three_numbers(rest)?;
+            let (count, (size, total)) = Field::read(rest)?;
             Some(Line::Limits(Limits { count, size, total }))
         }
         Form::Add => {
-            let (id, (fee, size)) = id_fee_size(rest)?;
+            let (id, (fee, size)) = Field::read(rest)?;
             Some(Line::Add(id, fee, size))
         }
         Form::Dep => {
-            let (parent, child) = two_numbers(rest)?;
+            let (parent, child) = Field::read(rest)?;
             Some(Line::Dep(parent, child))
         }
         Form::Fee => {
-            let (id, fee) = id_fee(rest)?;
+            let (id, fee) = Field::read(rest)?;
             Some(Line::Fee(id, fee))
         }
-        Form::Remove => Some(Line::Remove(number(rest)?)),
-        Form::Order => Some(Line::Order(level(rest)?)),
-        Form::Diagram => Some(Line::Diagram(level(rest)?)),
-        Form::Proof => Some(Line::Proof(level(rest)?)),
+        Form::Remove => Some(Line::Remove(Field::read(rest)?)),
+        Form::Order => Some(Line::Order(Field::read(rest)?)),
+        Form::Diagram => Some(Line::Diagram(Field::read(rest)?)),
+        Form::Proof => Some(Line::Proof(Field::read(rest)?)),
         Form::Cluster => {
-            let (id, level) = id_level(rest)?;
+            let (id, level) = Field::read(rest)?;
             Some(Line::Cluster(id, level))
         }
         Form::Ancestors => {
-            let (id, level) = id_level(rest)?;
+            let (id, level) = Field::read(rest)?;
             Some(Line::Ancestors(id, level))
         }
         Form::Descendants => {
-            let (id, level) = id_level(rest)?;
+            let (id, level) = Field::read(rest)?;
             Some(Line::Descendants(id, level))
         }
-        Form::Chunk => Some(Line::Chunk(number(rest)?)),
+        Form::Chunk => Some(Line::Chunk(Field::read(rest)?)),
         Form::Before => {
-            let (a, b) = two_numbers(rest)?;
+            let (a, b) = Field::read(rest)?;
             Some(Line::Before(a, b))
         }
-        Form::Block => Some(Line::Block(number(rest)?)),
-        Form::Count => Some(Line::Count(level(rest)?)),
+        Form::Block => Some(Line::Block(Field::read(rest)?)),
+        Form::Count => Some(Line::Count(Field::read(rest)?)),
         _ => None,
     }
 }
@@ -257,77 +254,4 @@ fn names(text: &[u8], ids: &mut IdBuf) -> Option<()>
     }
     ids.push(number(rest)?);
     Some(())
-}
-
-/// `N N N`
-fn three_numbers(text: &[u8]) -> Option<(u64, (u64, u64))>
-    ensures { ReadsAs (pair_spelling decimal (pair_spelling decimal decimal))
-        (BothFit IsWide (BothFit IsWide IsWide)) text.now result }
-{
-    match split_at_byte(text, b' ') {
-        Some((first, rest)) => number(first).zip(two_numbers(rest)),
-        None => None,
-    }
-}
-
-/// `ID FEE SIZE`
-pub(crate) fn id_fee_size(text: &[u8]) -> Option<(TxId, (i64, u64))>
-    ensures { ReadsAs (pair_spelling decimal (pair_spelling signed_decimal decimal))
-        (BothFit IsWide (BothFit (FitsSigned w64) IsWide)) text.now result }
-{
-    match split_at_byte(text, b' ') {
-        Some((id, rest)) => number(id).zip(fee_size(rest)),
-        None => None,
-    }
-}
-
-/// `FEE SIZE`
-fn fee_size(text: &[u8]) -> Option<(i64, u64)>
-    ensures { ReadsAs (pair_spelling signed_decimal decimal) (BothFit (FitsSigned w64) IsWide) text.now result }
-{
-    match split_at_byte(text, b' ') {
-        Some((fee, size)) => signed_number(fee).zip(number(size)),
-        None => None,
-    }
-}
-
-/// `ID FEE`
-fn id_fee(text: &[u8]) -> Option<(TxId, i64)>
-    ensures { ReadsAs (pair_spelling decimal signed_decimal) (BothFit IsWide (FitsSigned w64)) text.now result }
-{
-    match split_at_byte(text, b' ') {
-        Some((id, fee)) => number(id).zip(signed_number(fee)),
-        None => None,
-    }
-}
-
-/// `ID ID`, or `N N`
-pub(crate) fn two_numbers(text: &[u8]) -> Option<(u64, u64)>
-    ensures { ReadsAs (pair_spelling decimal decimal) (BothFit IsWide IsWide) text.now result }
-{
-    match split_at_byte(text, b' ') {
-        Some((first, second)) => number(first).zip(number(second)),
-        None => None,
-    }
-}
-
-/// `ID L`
-fn id_level(text: &[u8]) -> Option<(TxId, Level)>
-    ensures { ReadsAs (pair_spelling decimal level_word) (BothFit IsWide Always) text.now result }
-{
-    match split_at_byte(text, b' ') {
-        Some((id, word)) => number(id).zip(level(word)),
-        None => None,
-    }
-}
-
-/// `main` or `top`
-fn level(word: &[u8]) -> Option<Level>
-    ensures { ReadsAs level_word Always word.now result }
-{
-    match word {
-        b"main" => Some(Level::Main),
-        b"top" => Some(Level::Top),
-        _ => None,
-    }
 }

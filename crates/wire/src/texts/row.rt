@@ -1,12 +1,12 @@
 ghost use Rattle.std.specs.Prelude.{◌≡◌, ◌∷◌, ◌++◌, codes, decimal, IsTrue, ◌↔◌};
 ghost use Rattle.std.specs.Fmt.{signed_decimal};
-ghost use Rattle.wire.specs.Fields.{IsOneWord, ReadsAs, IsWide, IsAmount, IsBigFee, Always, pair_spelling, BothFit};
+ghost use Rattle.wire.specs.Fields.{IsOneWord, ReadsAs, IsWide, IsBigFee, Always};
 ghost use Rattle.wire.specs.Forms.{names_text, AreNames};
 ghost use Rattle.wire.specs.Rows.{row_line, HasRowTypes, Gives, AddsName, kind_word};
 
 use super::fault::TextFault;
-use crate::line::{id_fee_size, two_numbers};
-use crate::numbers::{amount, big_fee, number};
+use crate::field::{Field, first_word};
+use crate::numbers::number;
 use crate::words::split_at_byte;
 use fee_rate::Sum;
 use graph_model::{Flow, IdList, TxId};
@@ -108,7 +108,7 @@ fn read_fields(alloc: Global, kind: Kind, rest: &[u8]) -> Result<Row, TextFault>
 fn tx(rest: &[u8]) -> Result<Row, TextFault>
     ensures { Gives row_line HasRowTypes (kind_word Kind.Tx ++ 32 ∷ rest.now) result }
 {
-    match id_fee_size(rest) {
+    match Field::read(rest) {
         Some((id, (fee, size))) => Ok(Row::Tx(id, fee, size)),
         None => Err(TextFault::Syntax),
     }
@@ -118,7 +118,7 @@ fn tx(rest: &[u8]) -> Result<Row, TextFault>
 fn edge(rest: &[u8]) -> Result<Row, TextFault>
     ensures { Gives row_line HasRowTypes (kind_word Kind.Edge ++ 32 ∷ rest.now) result }
 {
-    match two_numbers(rest) {
+    match Field::read(rest) {
         Some((parent, child)) => Ok(Row::Edge(parent, child)),
         None => Err(TextFault::Syntax),
     }
@@ -128,7 +128,7 @@ fn edge(rest: &[u8]) -> Result<Row, TextFault>
 fn flow(rest: &[u8]) -> Result<Row, TextFault>
     ensures { Gives row_line HasRowTypes (kind_word Kind.Flow ++ 32 ∷ rest.now) result }
 {
-    match ids_amount(rest) {
+    match Field::read(rest) {
         Some((child, (parent, amount))) => Ok(Row::Flow(Flow {
             child,
             parent,
@@ -138,36 +138,12 @@ fn flow(rest: &[u8]) -> Result<Row, TextFault>
     }
 }
 
-/// `ID ID AMOUNT`
-fn ids_amount(text: &[u8]) -> Option<(TxId, (TxId, u128))>
-    ensures { ReadsAs (pair_spelling decimal (pair_spelling decimal decimal))
-        (BothFit IsWide (BothFit IsWide IsAmount)) text.now result }
-{
-    match split_at_byte(text, b' ') {
-        Some((id, rest)) => number(id).zip(id_amount(rest)),
-        None => None,
-    }
-}
-
-/// `ID AMOUNT`
-fn id_amount(text: &[u8]) -> Option<(TxId, u128)>
-    ensures { ReadsAs (pair_spelling decimal decimal) (BothFit IsWide IsAmount) text.now result }
-{
-    match split_at_byte(text, b' ') {
-        Some((id, rest)) => number(id).zip(amount(rest)),
-        None => None,
-    }
-}
-
 /// `chunk FEE SIZE ID ..`
 fn chunk(alloc: Global, rest: &[u8]) -> Result<Row, TextFault>
     ensures { Gives row_line HasRowTypes (kind_word Kind.Chunk ++ 32 ∷ rest.now) result }
 {
-    match split_at_byte(rest, b' ') {
-        Some((fee, rest)) => match big_fee(fee) {
-            Some(fee) => chunk_of_fee(alloc, fee, rest),
-            None => Err(TextFault::Syntax),
-        },
+    match first_word(rest) {
+        Some((fee, rest)) => chunk_of_fee(alloc, fee, rest),
         None => Err(TextFault::Syntax),
     }
 }
@@ -177,11 +153,8 @@ fn chunk_of_fee(alloc: Global, fee: i128, rest: &[u8]) -> Result<Row, TextFault>
     requires { IsBigFee fee }
     ensures { Gives row_line HasRowTypes (kind_word Kind.Chunk ++ 32 ∷ (signed_decimal fee ++ 32 ∷ rest.now)) result }
 {
-    match split_at_byte(rest, b' ') {
-        Some((size, rest)) => match number(size) {
-            Some(size) => chunk_of_rate(alloc, Sum { fee, size }, rest),
-            None => Err(TextFault::Syntax),
-        },
+    match first_word(rest) {
+        Some((size, rest)) => chunk_of_rate(alloc, Sum { fee, size }, rest),
         None => Err(TextFault::Syntax),
     }
 }
