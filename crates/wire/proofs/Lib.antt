@@ -1,7 +1,7 @@
 pub mod WriteLemmas
 pub mod SplitLemmas
 pub mod ReadLemmas
-pub mod BigLemmas
+pub mod NumberLemmas
 pub mod FormLemmas
 pub mod RowLemmas
 pub mod CommandLemmas

@@ -15,7 +15,7 @@ use Rattle.wire.specs.Fields.{ReadsAs, IsWide, IsAmount, IsOneWord, pair_spellin
 use Rattle.wire.specs.Rows.{kind_word, row_line, HasRowTypes}
 use Rattle.wire.specs.OneWord.{decimal_word, signed_word, big_word, big_fee_word}
 use Rattle.wire.proofs.ReadLemmas.{same_split, split_unread}
-use Rattle.wire.proofs.BigLemmas.{big_injective, big_fee_injective}
+use Rattle.wire.proofs.NumberLemmas.{big_injective, big_fee_injective}
 use Rattle.wire.proofs.FormLemmas.{differ_apart, one_word}
 
 -- words of no space are told from their text

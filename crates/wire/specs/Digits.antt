@@ -12,7 +12,13 @@ read_on n (digit ∷ digits) = read_on (10 * n + (digit - 48)) digits
 abbrev pub IsPlain : List ℕ → Type 0
 IsPlain bytes = (0 < length bytes) × (slice_index bytes 0 ≡ 48 → length bytes ≡ 1)
 
+-- this number in a type, where it is below the limit
+abbrev pub GivesBelow : {N : Type 0} → (N → ℕ) → ℕ → ℕ → Option N → Type 0
+GivesBelow value limit n None = n < limit → ⊥
+GivesBelow value limit n (Some number) = (n < limit) × (value number ≡ n)
+
 -- the value of a text of digits, and nothing where it is no such text or its value isn't below the limit
-abbrev pub ReadsDigits : ℕ → List ℕ → Option ℕ → Type 0
-ReadsDigits limit bytes None = all_ascii_digits bytes ≡ true → read_on 0 bytes < limit → ⊥
-ReadsDigits limit bytes (Some n) = (all_ascii_digits bytes ≡ true) × (n ≡ read_on 0 bytes) × (n < limit)
+abbrev pub ReadsDigits : {N : Type 0} → (N → ℕ) → ℕ → List ℕ → Option N → Type 0
+ReadsDigits value limit bytes None = all_ascii_digits bytes ≡ true → read_on 0 bytes < limit → ⊥
+ReadsDigits value limit bytes (Some number) =
+    (all_ascii_digits bytes ≡ true) × (value number ≡ read_on 0 bytes) × (value number < limit)

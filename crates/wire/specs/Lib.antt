@@ -2,6 +2,7 @@ pub mod Fields
 pub mod OneWord
 pub mod Readings
 pub mod Digits
+pub mod Magnitudes
 pub mod Forms
 pub mod Pieces
 pub mod Rows

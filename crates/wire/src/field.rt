@@ -5,7 +5,7 @@ ghost use Rattle.graph_model.specs.Words.{level_word};
 ghost use Rattle.wire.specs.Fields.{ReadsAs, IsOneWord, IsWide, IsAmount, IsBigFee, Always, pair_spelling, BothFit};
 ghost use Rattle.wire.specs.OneWord.{decimal_word, signed_word, big_fee_word};
 
-use crate::numbers::{amount, big_fee, number, signed_number};
+use crate::numbers::{number, signed_number};
 use crate::words::split_at_byte;
 use graph_model::Level;
 
@@ -49,7 +49,7 @@ impl Field for i64 {
     ghost fits = { FitsSigned w64 };
 
     fn read(text: &[u8]) -> Option<i64> {
-        signed_number(text)
+        signed_number::<u64>(text)
     }
 }
 
@@ -64,7 +64,7 @@ impl Field for i128 {
     ghost fits = { IsBigFee };
 
     fn read(text: &[u8]) -> Option<i128> {
-        big_fee(text)
+        signed_number::<u128>(text)
     }
 }
 
@@ -79,7 +79,10 @@ impl Field for u128 {
     ghost fits = { IsAmount };
 
     fn read(text: &[u8]) -> Option<u128> {
-        amount(text)
+        match number(text) {
+            Some(0) => None,
+            found => found,
+        }
     }
 }
 
