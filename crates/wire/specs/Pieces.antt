@@ -2,8 +2,6 @@
 use Rattle.std.specs.Prelude.{◌≡◌, ℕ, List, [], ◌∷◌, decimal, Option, None, Some, Ok, Err, Result, flat_map}
 use Rattle.std.specs.Fmt.{signed_decimal}
 use Rattle.fee_rate.specs.declared.rates.Sum.{Sum}
-use Rattle.wire.specs.declared.write.Number.{Number}
-use Rattle.wire.specs.declared.write.Number.TheVariants as numbers
 use Rattle.outside.specs.Transfers.{Writes}
 use Rattle.graph_model.specs.declared.names.Refusal.{Refusal}
 use Rattle.graph_model.specs.declared.names.Refusal.TheVariants.{Late, Range, Fee, Size, Taken, ClusterSize, Full, Unknown, Cycle, Count, Staging, Twice, Parent, Empty, NoStaging, Memory}
@@ -45,8 +43,3 @@ words_text words = flat_map (λ word. 32 ∷ word) words
 abbrev pub sum_words : Option Sum → List (List ℕ)
 sum_words None = []
 sum_words (Some sums) = signed_decimal sums.fee ∷ decimal sums.size ∷ []
-
-abbrev pub number_word : Number → List ℕ
-number_word (numbers.Plain n) = decimal n
-number_word (numbers.Signed n) = signed_decimal n
-number_word (numbers.Large n) = decimal n

@@ -1,15 +1,14 @@
 ghost use Rattle.std.specs.Prelude.{◌≡◌, ℕ, [], ◌∷◌, ◌++◌, Option, decimal, map};
-ghost use Rattle.std.specs.Fmt.{signed_decimal};
 ghost use Rattle.outside.specs.Transfers.{Writes};
 ghost use Rattle.graph_model.specs.Replies.{refusal_text, refusal_words, point_line};
 ghost use Rattle.graph_model.specs.Texts.{tx_line, edge_line, chunk_line, flow_line};
 ghost use Rattle.graph_model.specs.Words.{line_text};
 ghost use Rattle.graph_model.specs.Words.{spaced};
-ghost use Rattle.wire.specs.Pieces.{GoesOn, number_after, words_text, sum_words, kept_of, number_word};
+ghost use Rattle.wire.specs.Pieces.{GoesOn, number_after, words_text, sum_words, kept_of};
 
 use fee_rate::Sum;
 use graph_model::{Flow, Refusal, TxId};
-use itoa::Buffer;
+use itoa::{Buffer, Integer};
 use outside::{Failed, Sink};
 
 /// Writes a word as a line.
@@ -33,9 +32,13 @@ fn more<K: Sink>(so_far: Result<(), Failed>, sink: &mut K, piece: &[u8]) -> Resu
 }
 
 /// Goes on with a space and a number.
-fn more_number<K: Sink>(so_far: Result<(), Failed>, sink: &mut K, n: u64) -> Result<(), Failed>
+fn more_number<K: Sink, N: Integer>(
+    so_far: Result<(), Failed>,
+    sink: &mut K,
+    n: N,
+) -> Result<(), Failed>
     ensures { GoesOn so_far (K.written sink.old) (K.written sink.new) (K.faults sink.old)
-        (K.faults sink.new) result (32 ∷ decimal n) }
+        (K.faults sink.new) result (32 ∷ N.text n) }
 {
     let mut buffer = Buffer::new();
     let so_far = more(so_far, sink, b" ");
@@ -131,21 +134,11 @@ fn more_sums<K: Sink>(
 {
     match sums {
         Some(sums) => {
-            let so_far = more_signed(so_far, sink, sums.fee);
+            let so_far = more_number(so_far, sink, sums.fee);
             more_number(so_far, sink, sums.size)
         }
         None => more(so_far, sink, b""),
     }
-}
-
-/// Goes on with a space and a number that may have a sign.
-fn more_signed<K: Sink>(so_far: Result<(), Failed>, sink: &mut K, n: i128) -> Result<(), Failed>
-    ensures { GoesOn so_far (K.written sink.old) (K.written sink.new) (K.faults sink.old)
-        (K.faults sink.new) result (32 ∷ signed_decimal n) }
-{
-    let mut buffer = Buffer::new();
-    let so_far = more(so_far, sink, b" ");
-    more(so_far, sink, buffer.format(n).as_bytes())
 }
 
 /// Writes a line of a word, sums where there are some (the fee in satoshis, then the size in
@@ -174,68 +167,33 @@ pub fn write_chunk<K: Sink>(sink: &mut K, rate: Sum, ids: &[TxId]) -> Result<(),
     write_ids(sink, "chunk", Some(rate), ids)
 }
 
-/// A number of a line.
-#[derive(Clone, Copy, Debug)]
-enum Number {
-    Plain(u64),
-    Signed(i128),
-    Large(u128),
-}
-
-/// Goes on with a space and a number of any kind.
-fn more_any<K: Sink>(so_far: Result<(), Failed>, sink: &mut K, number: Number) -> Result<(), Failed>
-    ensures { GoesOn so_far (K.written sink.old) (K.written sink.new) (K.faults sink.old)
-        (K.faults sink.new) result (32 ∷ number_word number) }
-{
-    match number {
-        Number::Plain(n) => more_number(so_far, sink, n),
-        Number::Signed(n) => more_signed(so_far, sink, n),
-        Number::Large(n) => more_large(so_far, sink, n),
-    }
-}
-
-/// Goes on with a space and a number of up to 128 bits.
-fn more_large<K: Sink>(so_far: Result<(), Failed>, sink: &mut K, n: u128) -> Result<(), Failed>
-    ensures { GoesOn so_far (K.written sink.old) (K.written sink.new) (K.faults sink.old)
-        (K.faults sink.new) result (32 ∷ decimal n) }
-{
-    let mut buffer = Buffer::new();
-    let so_far = more(so_far, sink, b" ");
-    more(so_far, sink, buffer.format(n).as_bytes())
-}
-
-/// Goes on with a space and a number for each of these.
-fn more_each<K: Sink>(
-    so_far: Result<(), Failed>,
-    sink: &mut K,
-    numbers: &[Number],
-) -> Result<(), Failed>
-    ensures { GoesOn so_far (K.written sink.old) (K.written sink.new) (K.faults sink.old)
-        (K.faults sink.new) result (words_text (map number_word numbers.now)) }
-{
-    let mut so_far = so_far;
-    for number in numbers {
-        so_far = more_any(so_far, sink, *number);
-    }
-    so_far
-}
-
-/// Writes a line of a word and numbers.
-fn write_numbers<K: Sink>(sink: &mut K, head: &str, numbers: &[Number]) -> Result<(), Failed>
-    ensures { Writes (K.written sink.old) (K.written sink.new) (K.faults sink.old) (K.faults sink.new) result
-        (line_text (spaced (head.now ∷ map number_word numbers.now))) }
-{
-    let so_far = sink.write_all(head.as_bytes());
-    let so_far = more_each(so_far, sink, numbers);
-    more(so_far, sink, b"\n")
-}
-
 /// Writes the line of a corner of a diagram: `point SIZE FEE`, the size in virtual bytes, the fee in satoshis.
 pub fn write_point<K: Sink>(sink: &mut K, size: u64, fee: i128) -> Result<(), Failed>
     ensures { Writes (K.written sink.old) (K.written sink.new) (K.faults sink.old) (K.faults sink.new) result
         (line_text (point_line (size, fee))) }
 {
-    write_numbers(sink, "point", &[Number::Plain(size), Number::Signed(fee)])
+    let so_far = sink.write_all(b"point");
+    let so_far = more_number(so_far, sink, size);
+    let so_far = more_number(so_far, sink, fee);
+    more(so_far, sink, b"\n")
+}
+
+/// Writes a line of a word and three numbers.
+fn write_three<K: Sink, A: Integer, B: Integer, C: Integer>(
+    sink: &mut K,
+    head: &str,
+    first: A,
+    second: B,
+    third: C,
+) -> Result<(), Failed>
+    ensures { Writes (K.written sink.old) (K.written sink.new) (K.faults sink.old) (K.faults sink.new) result
+        (line_text (spaced (head.now ∷ A.text first ∷ B.text second ∷ C.text third ∷ []))) }
+{
+    let so_far = sink.write_all(head.as_bytes());
+    let so_far = more_number(so_far, sink, first);
+    let so_far = more_number(so_far, sink, second);
+    let so_far = more_number(so_far, sink, third);
+    more(so_far, sink, b"\n")
 }
 
 /// Writes the line of a transaction: `tx ID FEE SIZE`, the fee in satoshis, the size in virtual bytes.
@@ -243,15 +201,7 @@ pub fn write_tx<K: Sink>(sink: &mut K, id: TxId, fee: i64, size: u64) -> Result<
     ensures { Writes (K.written sink.old) (K.written sink.new) (K.faults sink.old) (K.faults sink.new) result
         (line_text (tx_line id fee size)) }
 {
-    write_numbers(
-        sink,
-        "tx",
-        &[
-            Number::Plain(id),
-            Number::Signed(i128::from(fee)),
-            Number::Plain(size),
-        ],
-    )
+    write_three(sink, "tx", id, fee, size)
 }
 
 /// Writes the line of an edge: `edge ID ID`, the parent first.
@@ -267,13 +217,5 @@ pub fn write_flow<K: Sink>(sink: &mut K, flow: Flow) -> Result<(), Failed>
     ensures { Writes (K.written sink.old) (K.written sink.new) (K.faults sink.old) (K.faults sink.new) result
         (line_text (flow_line flow)) }
 {
-    write_numbers(
-        sink,
-        "flow",
-        &[
-            Number::Plain(flow.child),
-            Number::Plain(flow.parent),
-            Number::Large(flow.amount),
-        ],
-    )
+    write_three(sink, "flow", flow.child, flow.parent, flow.amount)
 }

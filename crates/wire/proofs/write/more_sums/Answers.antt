@@ -11,6 +11,6 @@ returns-in-Some g c =
     let fee = c.in-Some.sums.fee in
     let fits : FitsSigned w128 fee = search rules in
     let size = 32 ∷ decimal c.in-Some.sums.size in
-    goes_further _ _ _ _ _ _ _ _ _ _ _ _ c.more_signed-so_far.ensures c.more_number.ensures
+    goes_further _ _ _ _ _ _ _ _ _ _ _ _ c.more_number-so_far.ensures c.more_number.ensures
     (ap (λ s. words_text (sum_words s)) c.in-Some.is ∙ ap (λ (xs : List ℕ). (32 ∷ signed_decimal fee) ++ xs) (append-nil size)
     ∙ ap (λ z. (32 ∷ signed_decimal z) ++ size) (sym (to_z-of_z w128 fee fits)))
