@@ -1,15 +1,13 @@
 -- Pieces that are written one after the other.
-use Rattle.std.proofs.Common.{◌≡◌, ℕ, List, ◌++◌, Option, Ok, Err, Result, refl, sym, append_assoc, ◌∙◌, ap, ◌∷◌, [], codes, append-nil}
+use Rattle.std.proofs.Common.{◌≡◌, ℕ, List, ◌++◌, decimal, Option, None, Some, Ok, Err, Result, refl, sym, append_assoc, ◌∙◌, ap, ◌∷◌, [], codes, append-nil}
 use Rattle.std.specs.Io.KnownBytes.{Appends}
 use Rattle.std.proofs.KnownBytes.{Appends-trans}
 use Rattle.outside.specs.Faults.{one_more}
 use Rattle.outside.specs.Transfers.{Writes}
 use Rattle.outside.proofs.Fronts.{AppendsFront-after, AppendsFront-longer}
-use Rattle.wire.specs.Pieces.{GoesOn, words_text}
+use Rattle.wire.specs.Pieces.{GoesOn, number_after, words_text}
 use Rattle.graph_model.specs.Words.{spaced}
-use Rattle.graph_model.specs.Replies.{refusal_words}
-use Rattle.graph_model.specs.declared.names.Refusal.{Refusal}
-use Rattle.graph_model.specs.declared.names.Refusal.TheVariants.{Late, Range, Fee, Size, Taken, ClusterSize, Full, Unknown, Cycle, Count, Staging, Twice, Parent, Empty, NoStaging, Memory}
+use Rattle.graph_model.specs.Replies.{kept_words}
 
 after_ok : {T E : Type 0} (a b c : Option (List ℕ)) (p q s : ℕ) (done : T) (result : Result T E) (first second : List ℕ)
     → Appends a b first → q ≡ p → Writes b c q s result second → Writes a c p s result (first ++ second)
@@ -44,24 +42,11 @@ pub goes_further : {T E : Type 0} (a b c : Option (List ℕ)) (p q s : ℕ) (sta
     → GoesOn start a b p q so_far first → GoesOn so_far b c q s result second → text ≡ first ++ second → GoesOn start a c p s result text
 goes_further a b c p q s start so_far result first second text was more is = rw is (further a b c p q s start so_far result first second was more)
 
--- a refusal's words come after the word `refused` and a space
-pub refusal_line : (why : Refusal) → spaced (codes "refused" ∷ refusal_words why) ≡ codes "refused " ++ spaced (refusal_words why)
-refusal_line Late = refl
-refusal_line Range = refl
-refusal_line Fee = refl
-refusal_line Size = refl
-refusal_line Taken = refl
-refusal_line (ClusterSize n) = refl
-refusal_line Full = refl
-refusal_line (Unknown n) = refl
-refusal_line Cycle = refl
-refusal_line (Count n) = refl
-refusal_line Staging = refl
-refusal_line (Twice n) = refl
-refusal_line (Parent n) = refl
-refusal_line Empty = refl
-refusal_line NoStaging = refl
-refusal_line Memory = refl
+-- the words of a refusal come after the word `refused` and a space
+pub refusal_line : (word : List ℕ) (kept : Option ℕ)
+    → spaced (codes "refused" ∷ word ∷ kept_words kept) ≡ codes "refused " ++ (word ++ number_after kept)
+refusal_line word None = ap (λ (xs : List ℕ). codes "refused " ++ xs) (sym (append-nil word))
+refusal_line word (Some n) = refl
 
 -- words with one space between them are the first, and each of the others after a space
 pub spaced_words : (head : List ℕ) (words : List (List ℕ)) → spaced (head ∷ words) ≡ head ++ words_text words

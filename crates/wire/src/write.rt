@@ -1,10 +1,10 @@
 ghost use Rattle.std.specs.Prelude.{◌≡◌, ℕ, [], ◌∷◌, ◌++◌, Option, decimal, map};
 ghost use Rattle.outside.specs.Transfers.{Writes};
-ghost use Rattle.graph_model.specs.Replies.{refusal_text, refusal_words, point_line};
+ghost use Rattle.graph_model.specs.Replies.{refusal_text, point_line};
 ghost use Rattle.graph_model.specs.Texts.{tx_line, edge_line, chunk_line, flow_line};
 ghost use Rattle.graph_model.specs.Words.{line_text};
 ghost use Rattle.graph_model.specs.Words.{spaced};
-ghost use Rattle.wire.specs.Pieces.{GoesOn, number_after, words_text, sum_words, kept_of};
+ghost use Rattle.wire.specs.Pieces.{GoesOn, number_after, words_text, sum_words};
 
 use fee_rate::Sum;
 use graph_model::{Flow, Refusal, TxId};
@@ -66,45 +66,9 @@ pub fn write_refusal<K: Sink>(sink: &mut K, refusal: &Refusal) -> Result<(), Fai
         (refusal_text refusal.now) }
 {
     let so_far = sink.write_all(b"refused ");
-    let so_far = more(so_far, sink, refusal_word(refusal).as_bytes());
-    let so_far = more_kept(so_far, sink, kept_number(refusal));
+    let so_far = more(so_far, sink, refusal.word().as_bytes());
+    let so_far = more_kept(so_far, sink, refusal.kept());
     more(so_far, sink, b"\n")
-}
-
-/// The word that names a refusal.
-fn refusal_word(refusal: &Refusal) -> &'static str
-    ensures { (kept : Option ℕ) → kept ≡ kept_of refusal.now
-        → spaced (refusal_words refusal.now) ≡ result.now ++ number_after kept }
-{
-    match refusal {
-        Refusal::Late => "late",
-        Refusal::Range => "range",
-        Refusal::Fee => "fee",
-        Refusal::Size => "size",
-        Refusal::Taken => "taken",
-        Refusal::ClusterSize(_) => "clustersize",
-        Refusal::Full => "full",
-        Refusal::Unknown(_) => "unknown",
-        Refusal::Cycle => "cycle",
-        Refusal::Count(_) => "count",
-        Refusal::Staging => "staging",
-        Refusal::Twice(_) => "twice",
-        Refusal::Parent(_) => "parent",
-        Refusal::Empty => "empty",
-        Refusal::NoStaging => "nostaging",
-        Refusal::Memory => "memory",
-    }
-}
-
-/// The number that a refusal keeps.
-fn kept_number(refusal: &Refusal) -> Option<u64>
-    ensures { result ≡ kept_of refusal.now }
-{
-    match refusal {
-        Refusal::ClusterSize(n) | Refusal::Unknown(n) | Refusal::Count(n) => Some(*n),
-        Refusal::Twice(n) | Refusal::Parent(n) => Some(*n),
-        _ => None,
-    }
 }
 
 /// Goes on with a space and a number for each of these.
