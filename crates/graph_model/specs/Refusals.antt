@@ -39,6 +39,9 @@ told_as Empty = told 16 (codes "empty") None
 told_as NoStaging = told 17 (codes "nostaging") None
 told_as Memory = told 18 (codes "memory") None
 
+abbrev pub number_of : Refusal → ℕ
+number_of why = (told_as why).number
+
 -- A row of refusals: this one where its cause holds, else what comes later in the row.
 abbrev pub First : Type 0 → Refusal → (Option Refusal → Type 0) → Option Refusal → Type 0
 First cause why later found = (cause × (found ≡ Some why)) ⊎ ((cause → ⊥) × later found)

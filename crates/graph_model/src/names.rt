@@ -62,11 +62,11 @@ pub enum Refusal {
 }
 
 impl Refusal {
-    ghost use Rattle.graph_model.specs.Refusals.{told_as};
+    ghost use Rattle.graph_model.specs.Refusals.{number_of, told_as};
 
     /// The number of the refusal, from 3 to 18; 1 and 2 are of lines that are no command.
     pub fn number(&self) -> u8
-        ensures { result ≡ (told_as self.now).number }
+        ensures { result ≡ number_of self.now }
     {
         self.told().0
     }
