@@ -1,6 +1,7 @@
-ghost use Rattle.std.specs.Prelude.{◌≡◌, ◌≢◌, ℕ, ℤ, ◌+◌, ◌-◌, ◌*◌, ◌^◌, ◌<◌, ◌≤◌, ◌⊎◌, ◌↔◌, true, None, Some, List, [], ◌∷◌, length, reverse, option_map, is_ok, if◌then◌else◌, IsSome, IsTrue, IfOk, IfErr, OnErr, Contains};
+ghost use Rattle.std.specs.Prelude.{◌≡◌, ◌≢◌, ℕ, ℤ, ◌+◌, ◌-◌, ◌*◌, ◌^◌, ◌<◌, ◌≤◌, ◌⊎◌, ◌↔◌, true, None, Some, List, [], ◌∷◌, length, option_map, is_ok, if◌then◌else◌, IsSome, IsTrue, IfOk, IfErr, OnErr, Contains};
 ghost use Rattle.std.specs.FinMap as finmap;
 ghost use Rattle.std.specs.Iterator.{IsFinite};
+ghost use Rattle.std.specs.Iterator.Adapters.{rev_source};
 ghost use Rattle.graphs.specs.Closures.{is_member, is_ancestor, rate_of, AreLinked};
 ghost use Rattle.graphs.specs.declared.names.Level as words;
 ghost use Rattle.graphs.specs.declared.names.Level.TheVariants.{Top};
@@ -27,7 +28,7 @@ ghost use Rattle.tx_graph.specs.Readings.{IsBestOrder, IsTextOf, part_reply, pla
 ghost use Rattle.levels.specs.Stays.{AllStay};
 ghost use Rattle.levels.specs.Views.{IsClusterOf};
 
-use crate::order::{Backward, Diagram, Forward, Order, OrderBack};
+use crate::order::{Diagram, Forward, Order, OrderBack};
 use cluster::{Covers, PartRef};
 use diagram::corners;
 use fee_rate::FeeRate;
@@ -429,9 +430,9 @@ impl<const W: usize> TxGraph<W> {
 
     /// The same parts from the last to the first. Takes no memory.
     pub fn order_back(&self, level: Level) -> OrderBack<'_, W>
-        ensures { result ≡ reverse (level_at self.now.levels level).parts }
+        ensures { rev_source result ≡ (level_at self.now.levels level).parts }
     {
-        Backward::new(self.levels.parts(level))
+        self.order(level).rev()
     }
 
     /// The corners of a level's diagram, from (0, 0) on: the ends of its parts where equal rates are joined. Takes no

@@ -1,20 +1,21 @@
-ghost use Rattle.std.specs.Prelude.{◌≡◌, map, reverse};
+ghost use Rattle.std.specs.Prelude.{◌≡◌, map};
 
 use cluster::PartRef;
 use cluster_store::{PartWalk, Parts, RateWalk, Stored};
 use diagram::Corners;
+use std::iter::Rev;
 use std::marker::Model;
 
 /// The parts of a level in its order, lent.
 pub type Order<'a, const W: usize> = Forward<'a, Stored<W>>;
 
 /// The parts of a level from the last to the first, lent.
-pub type OrderBack<'a, const W: usize> = Backward<'a, Stored<W>>;
+pub type OrderBack<'a, const W: usize> = Rev<Order<'a, W>>;
 
 /// The corners of a level's diagram from (0, 0) on, each a size, in virtual bytes, and the fee there, in satoshis.
 pub type Diagram<'a, const W: usize> = Corners<RateWalk<'a>>;
 
-/// Parts in their order, lent. Contracts see those that are still to come.
+/// Parts in their order, lent, from either end. Contracts see those that are still to come.
 #[derive(Drop)]
 pub struct Forward<'a, T: Parts> {
     parts: PartWalk<'a, T>,
@@ -58,45 +59,13 @@ impl<'a, T: Parts + 'a> Iterator for Forward<'a, T> {
     }
 }
 
-/// Parts from the last to the first, lent. Contracts see those that are still to come.
-#[derive(Drop)]
-pub struct Backward<'a, T: Parts> {
-    parts: PartWalk<'a, T>,
-}
-
-impl<'a, T: Parts> Model for Backward<'a, T> {
-    ghost use Rattle.std.specs.Prelude.{List, map, reverse};
-    ghost use Rattle.std.specs.Coded.{coded_list};
-    ghost use Rattle.graphs.specs.Certificates.{Part};
-    ghost use Rattle.cluster.specs.Clusters.{part_code};
-
-    ghost Value = { List Part };
-
-    ghost coded = { coded_list part_code };
-
-    ghost view = { λ a. reverse (map (λ s. s.part) a.parts) };
-}
-
-impl<'a, T: Parts> Backward<'a, T> {
-    /// The parts that a walk shows, from its end.
-    pub(crate) fn new(parts: PartWalk<'a, T>) -> Self
-        ensures { result ≡ reverse (map (λ s. s.part) parts.entry) }
-    {
-        Backward { parts }
-    }
-}
-
-impl<'a, T: Parts + 'a> Iterator for Backward<'a, T> {
-    type Item = PartRef<'a>;
-
-    ghost use Rattle.std.specs.Iterator.{YieldsFirstBy, item_count};
+impl<'a, T: Parts + 'a> DoubleEndedIterator for Forward<'a, T> {
+    ghost use Rattle.std.specs.Iterator.{YieldsLastBy};
     ghost use Rattle.cluster_store.specs.Lent.{lent};
 
-    ghost next_gives = { YieldsFirstBy lent (λ rest. rest) };
+    ghost next_back_gives = { YieldsLastBy lent (λ rest. rest) };
 
-    ghost remaining = { item_count (λ rest. rest) };
-
-    fn next(&mut self) -> Option<PartRef<'a>> {
+    fn next_back(&mut self) -> Option<PartRef<'a>> {
         let shown = self.parts.next_back()?;
         Some(shown.part)
     }
