@@ -28,23 +28,6 @@ decide_in (x ∷ xs) id = elim (cases_eq x id) [
   ]
 ]
 
--- where a name is alone, to cut it out of its ring would change nothing
-pub cuts-alone : (book : Book) (r q : ℕ) → IsNamed book q → ((x : ℕ) → AreRung book r q x → q ≡ x) → (x y : ℕ)
-    → AreRung book r x y ↔ ((AreRung book r x y × x ≢ q × y ≢ q) ⊎ ((x ≡ q) × (y ≡ q)))
-cuts-alone book r q live alone x y = (
-  λ rung. elim (cases_eq x q) [
-    | inl same ↦ inr (same, sym (alone y (subst (λ z. AreRung book r z y) same rung)))
-    | inr not_x ↦ elim (cases_eq y q) [
-      | inl same ↦ absurd (not_x (sym (alone x (rung-turned book r x q (subst (AreRung book r x) same rung)))))
-      | inr not_y ↦ inl (rung, not_x, not_y)
-    ]
-  ],
-  λ h. elim h [
-    | inl all ↦ all.0
-    | inr both ↦ subst (λ z. AreRung book r z y) (sym both.0) (subst (AreRung book r q) (sym both.1) (rung-itself book r q live))
-  ],
-)
-
 -- A name is cut out of its ring, and joins that of another.
 module _ (old cut new : Book) (r to q : ℕ) (apart : to ≢ q)
     (cuts : (x y : ℕ) → AreRung cut r x y ↔ ((AreRung old r x y × x ≢ q × y ≢ q) ⊎ ((x ≡ q) × (y ≡ q))))
@@ -103,59 +86,51 @@ gathers-none book r to x y = (
     was z (inl rung) = rung
     was z (inr here) = absurd (none_in_empty z here)
 
-module _ (old mid : Book) (r to : ℕ) (front : List ℕ) (so : Gathers old mid r to front) where
-  -- a name that was alone still is, until it comes to the ring
-  pub still-alone : (q : ℕ) → (Contains front q → ⊥) → to ≢ q → ((x : ℕ) → AreRung old r q x → q ≡ x) → (x : ℕ) → AreRung mid r q x → q ≡ x
-  still-alone q later apart alone x rung = elim ((so q x).0 rung) [
-    | inl all ↦ alone x all.0
-    | inr (inl was, _) ↦ absurd (apart (sym (alone to (rung-turned old r to q was))))
-    | inr (inr before, _) ↦ absurd (later before)
+module _ (old mid : Book) (r to : ℕ) (front : List ℕ) (so : Gathers old mid r to front)
+    (new : Book) (next : List ℕ) (live : IsNamed old to) (step : Gathers mid new r to next) where
+  to_mid : (x : ℕ) → ComesTo old r to front x → AreRung mid r to x
+  to_mid x h = (so to x).1 (inr (inl (rung-itself old r to live), h))
+
+  of_mid : (x : ℕ) → AreRung mid r to x → ComesTo old r to front x
+  of_mid x rung = elim ((so to x).0 rung) [ inl all ↦ inl all.0 | inr both ↦ both.1 ]
+
+  grown : (x : ℕ) → ComesTo old r to front x → ComesTo old r to (front ++ next) x
+  grown x (inl rung) = inl rung
+  grown x (inr before) = inr (Contains-append_left front next x before)
+
+  forth : (x : ℕ) → ComesTo mid r to next x → ComesTo old r to (front ++ next) x
+  forth x (inl rung) = grown x (of_mid x rung)
+  forth x (inr here) = inr (Contains-append_right front next x here)
+
+  back : (x : ℕ) → ComesTo old r to (front ++ next) x → ComesTo mid r to next x
+  back x (inl rung) = inl (to_mid x (inl rung))
+  back x (inr here) = elim (Contains-append_cases front next x here) [
+    | inl before ↦ inl (to_mid x (inr before))
+    | inr now ↦ inr now
   ]
 
-  module _ (new : Book) (next : List ℕ) (live : IsNamed old to) (step : Gathers mid new r to next) where
-    to_mid : (x : ℕ) → ComesTo old r to front x → AreRung mid r to x
-    to_mid x h = (so to x).1 (inr (inl (rung-itself old r to live), h))
+  off : (x : ℕ) → (Contains front x → ⊥) → (Contains next x → ⊥) → Contains (front ++ next) x → ⊥
+  off x before other here = elim (Contains-append_cases front next x here) [ inl h ↦ before h | inr now ↦ other now ]
 
-    of_mid : (x : ℕ) → AreRung mid r to x → ComesTo old r to front x
-    of_mid x rung = elim ((so to x).0 rung) [ inl all ↦ inl all.0 | inr both ↦ both.1 ]
+  off_mid : (x : ℕ) → (Contains (front ++ next) x → ⊥) → (Contains front x → ⊥) × (Contains next x → ⊥)
+  off_mid x none = (λ before. none (Contains-append_left front next x before), λ here. none (Contains-append_right front next x here))
 
-    grown : (x : ℕ) → ComesTo old r to front x → ComesTo old r to (front ++ next) x
-    grown x (inl rung) = inl rung
-    grown x (inr before) = inr (Contains-append_left front next x before)
-
-    forth : (x : ℕ) → ComesTo mid r to next x → ComesTo old r to (front ++ next) x
-    forth x (inl rung) = grown x (of_mid x rung)
-    forth x (inr here) = inr (Contains-append_right front next x here)
-
-    back : (x : ℕ) → ComesTo old r to (front ++ next) x → ComesTo mid r to next x
-    back x (inl rung) = inl (to_mid x (inl rung))
-    back x (inr here) = elim (Contains-append_cases front next x here) [
-      | inl before ↦ inl (to_mid x (inr before))
-      | inr now ↦ inr now
-    ]
-
-    off : (x : ℕ) → (Contains front x → ⊥) → (Contains next x → ⊥) → Contains (front ++ next) x → ⊥
-    off x before other here = elim (Contains-append_cases front next x here) [ inl h ↦ before h | inr now ↦ other now ]
-
-    off_mid : (x : ℕ) → (Contains (front ++ next) x → ⊥) → (Contains front x → ⊥) × (Contains next x → ⊥)
-    off_mid x none = (λ before. none (Contains-append_left front next x before), λ here. none (Contains-append_right front next x here))
-
-    pub gathers-on : Gathers old new r to (front ++ next)
-    gathers-on x y = (
-      λ rung. elim ((step x y).0 rung) [
-        | inl all ↦ elim ((so x y).0 all.0) [
-          | inl was ↦ inl (was.0, off x was.1 all.1, off y was.2 all.2)
-          | inr both ↦ inr (grown x both.0, grown y both.1)
-        ]
-        | inr both ↦ inr (forth x both.0, forth y both.1)
-      ],
-      λ h. (step x y).1 (elim h [
-        | inl all ↦
-            let off_x = off_mid x all.1 in let off_y = off_mid y all.2 in
-            inl ((so x y).1 (inl (all.0, off_x.0, off_y.0)), off_x.1, off_y.1)
-        | inr both ↦ inr (back x both.0, back y both.1)
-      ]),
-    )
+  pub gathers-on : Gathers old new r to (front ++ next)
+  gathers-on x y = (
+    λ rung. elim ((step x y).0 rung) [
+      | inl all ↦ elim ((so x y).0 all.0) [
+        | inl was ↦ inl (was.0, off x was.1 all.1, off y was.2 all.2)
+        | inr both ↦ inr (grown x both.0, grown y both.1)
+      ]
+      | inr both ↦ inr (forth x both.0, forth y both.1)
+    ],
+    λ h. (step x y).1 (elim h [
+      | inl all ↦
+          let off_x = off_mid x all.1 in let off_y = off_mid y all.2 in
+          inl ((so x y).1 (inl (all.0, off_x.0, off_y.0)), off_x.1, off_y.1)
+      | inr both ↦ inr (back x both.0, back y both.1)
+    ]),
+  )
 
 -- one name more, by the place where it is listed
 pub gathers-more : (old mid : Book) (r to : ℕ) (ids : List ℕ) (i : ℕ) → i < length ids → Gathers old mid r to (take i ids) → (new : Book) → IsNamed old to

@@ -1,9 +1,7 @@
 -- A list of which a front was done, and of the rest a piece comes next.
-use Rattle.std.proofs.Common.{◌≡◌, ◌++◌, ℕ, List, take, drop, ap, sym, subst, ◌∙◌, append_assoc, take-append-drop}
+use Rattle.std.proofs.Common.{◌≡◌, ◌++◌, ℕ, List, take, drop, ap, subst, ◌∙◌, append_assoc, take-append-drop}
 use Rattle.std.specs.Prelude.{Contains}
 use Rattle.std.proofs.lemmas.List.Elements.{Contains-append_left, Contains-append_right}
-use Rattle.lists.specs.Distinct.{AreDistinct}
-use Rattle.lists.proofs.Distinct.{distinct-append_left, distinct-append_right, distinct_apart}
 
 module _ (front rest piece later ids : List ℕ) (n : ℕ) (whole : front ++ rest ≡ ids) (now : piece ≡ take n rest) (then : later ≡ drop n rest) where
   parts : piece ++ later ≡ rest
@@ -15,12 +13,3 @@ module _ (front rest piece later ids : List ℕ) (n : ℕ) (whole : front ++ res
   pub piece-in : (x : ℕ) → Contains piece x → Contains ids x
   piece-in x here = subst (λ ys. Contains ys x) piece-done
       (Contains-append_left (front ++ piece) later x (Contains-append_right front piece x here))
-
-  before-once : AreDistinct ids → AreDistinct (front ++ piece)
-  before-once once = distinct-append_left (front ++ piece) later (subst AreDistinct (sym piece-done) once)
-
-  pub piece-once : AreDistinct ids → AreDistinct piece
-  piece-once once = distinct-append_right front piece (before-once once)
-
-  pub piece-apart : AreDistinct ids → (x : ℕ) → Contains piece x → Contains front x → ⊥
-  piece-apart once x here before = distinct_apart front piece x (before-once once) before here

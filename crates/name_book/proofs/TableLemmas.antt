@@ -43,12 +43,6 @@ named-key nodes es spare id named = some_key (key_of es id) (sym (names-keys es 
 pub key-named : (nodes : Nodes ℕ) (es : List (ℕ × Key)) (spare id : ℕ) (key : Key) → key_of es id ≡ Some key → IsNamed (book_of nodes es spare) id
 key-named nodes es spare id key is = names-keys es id ∙ ap is_some is
 
--- what is spare doesn't matter to rings
-pub rung-any : (nodes : Nodes ℕ) (es : List (ℕ × Key)) (spare later r x y : ℕ) → r < 2 → AreRung (book_of nodes es spare) r x y
-    → AreRung (book_of nodes es later) r x y
-rung-any nodes es spare later zero x y below rung = record { from = rung.from; to = rung.to; steps = rung.steps; back = rung.back }
-rung-any nodes es spare later (suc r) x y below rung = record { from = rung.from; to = rung.to; steps = rung.steps; back = rung.back }
-
 module _ (nodes : Nodes ℕ) (es : List (ℕ × Key)) (own : AreKeys nodes es) where
   pub live-own : (id : ℕ) (key : Key) → key_of es id ≡ Some key → IsLive nodes key
   live-own id key is = subst IsSome (sym ((own id key).0 is)) refl

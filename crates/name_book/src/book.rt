@@ -5,7 +5,7 @@ ghost use Rattle.lists.specs.Distinct.{AreDistinct};
 ghost use Rattle.name_book.specs.Books.{has, IsNamed, after, other_after, AreRung, IsRing, ring_of, AreRings};
 ghost use Rattle.name_book.specs.Changes.{KeepsRing, GainsAlone, Loses, CutsOut, Unites, MakesRing, JoinsAll};
 
-use crate::keys::{cut_key, find_key, join_names, move_names, name_after};
+use crate::keys::{cut_key, find_key, move_names, name_after};
 use crate::ring::RingNames;
 use graphs::TxId;
 use indexmap::IndexMap;
@@ -189,7 +189,8 @@ impl NameBook {
         ensures issued { self.new.issued ≡ self.old.issued }
     {
         let key = find_key(&self.names, to);
-        join_names(&mut self.nodes, &self.names, r, key, names);
+        // They are alone: to cut them out of their rings first, as this does, changes nothing.
+        move_names(&mut self.nodes, &self.names, r, key, names);
     }
 
     /// Cuts a live name out of its ring `r` as `cut` does, and answers the name that came after it, or `None` where it was alone. Takes

@@ -1,11 +1,9 @@
 //! Changes of the rings of names by the keys of their nodes. Each name is looked up once.
 ghost use Rattle.std.specs.Prelude.{◌≡◌, ◌≢◌, ◌<◌, ◌≤◌, ℕ, List, [], ◌∷◌, Some, IsSome, Contains, map, length, slice_get};
-ghost use Rattle.lists.specs.Distinct.{AreDistinct};
 ghost use Rattle.node_pool.specs.declared.pool.Key.{Key as PoolKey};
 ghost use Rattle.node_pool.specs.Nodes.{IsLive};
 ghost use Rattle.node_pool.specs.RingKeys.{IsRing as IsKeyRing};
 ghost use Rattle.node_pool.specs.Laws.{RingsGoRound};
-ghost use Rattle.name_book.specs.Books.{AreRung};
 ghost use Rattle.name_book.specs.Changes.{CutsOut, Gathers};
 ghost use Rattle.name_book.specs.declared.keys.TheConstants.{LOOKED_UP};
 ghost use Rattle.name_book.specs.Tables.{key_of, name_at, book_of, AreKeys, AreKeysOf, ChangesRing};
@@ -107,58 +105,6 @@ fn move_few(nodes: &mut Pool<TxId, 2>, names: &IndexMap<TxId, Key>, r: usize, to
     look_up(names, ids, &mut keys);
     for key in &keys[..ids.len()] {
         cut_key(nodes, r, *key);
-        nodes.join_rings(r, to, *key);
-    }
-}
-
-/// Names that are alone in their rings `r` join that of another name, which is told by its key.
-pub(crate) fn join_names(
-    nodes: &mut Pool<TxId, 2>,
-    names: &IndexMap<TxId, Key>,
-    r: usize,
-    to: Key,
-    ids: &[TxId],
-)
-    requires r_in_range { r < 2 }
-    requires round { RingsGoRound 2 nodes.old }
-    requires own { AreKeys nodes.old names.now.entries }
-    requires to { IsLive nodes.old to }
-    requires live { (x : ℕ) → Contains ids.now x → IsSome (key_of names.now.entries x) }
-    requires apart { (x : ℕ) → Contains ids.now x → key_of names.now.entries x ≢ Some to }
-    requires once { AreDistinct ids.now }
-    requires alone { (spare x y : ℕ) → Contains ids.now x → AreRung (book_of nodes.old names.now.entries spare) r x y → x ≡ y }
-    ensures ring { ChangesRing nodes.old nodes.new r }
-    ensures gathers { (spare t : ℕ) → key_of names.now.entries t ≡ Some to
-        → Gathers (book_of nodes.old names.now.entries spare) (book_of nodes.new names.now.entries spare) r t ids.now }
-    ensures round { RingsGoRound 2 nodes.new }
-{
-    let mut rest = ids;
-    while !rest.is_empty() {
-        let (few, later) = rest.split_at(rest.len().min(LOOKED_UP));
-        join_few(nodes, names, r, to, few);
-        rest = later;
-    }
-}
-
-/// As `join_names`, for names that are few enough to be looked up at once.
-fn join_few(nodes: &mut Pool<TxId, 2>, names: &IndexMap<TxId, Key>, r: usize, to: Key, ids: &[TxId])
-    requires few { length ids.now ≤ LOOKED_UP }
-    requires r_in_range { r < 2 }
-    requires round { RingsGoRound 2 nodes.old }
-    requires own { AreKeys nodes.old names.now.entries }
-    requires to { IsLive nodes.old to }
-    requires live { (x : ℕ) → Contains ids.now x → IsSome (key_of names.now.entries x) }
-    requires apart { (x : ℕ) → Contains ids.now x → key_of names.now.entries x ≢ Some to }
-    requires once { AreDistinct ids.now }
-    requires alone { (spare x y : ℕ) → Contains ids.now x → AreRung (book_of nodes.old names.now.entries spare) r x y → x ≡ y }
-    ensures ring { ChangesRing nodes.old nodes.new r }
-    ensures gathers { (spare t : ℕ) → key_of names.now.entries t ≡ Some to
-        → Gathers (book_of nodes.old names.now.entries spare) (book_of nodes.new names.now.entries spare) r t ids.now }
-    ensures round { RingsGoRound 2 nodes.new }
-{
-    let mut keys = [to; LOOKED_UP];
-    look_up(names, ids, &mut keys);
-    for key in &keys[..ids.len()] {
         nodes.join_rings(r, to, *key);
     }
 }
