@@ -1,13 +1,12 @@
 -- Nodes of which one ring changes, and nothing else.
-use Rattle.std.proofs.Common.{◌≢◌, ℕ, ◌<◌, List, IsSome, refl, sym, subst, ◌∙◌, arith}
+use Rattle.std.proofs.Common.{◌≢◌, ℕ, ◌<◌, List, IsSome, refl, sym, subst, ◌∙◌}
 use Rattle.node_pool.specs.declared.pool.Key.{Key}
 use Rattle.node_pool.specs.Nodes.{Nodes}
 use Rattle.node_pool.specs.Laws.{RingsGoRound}
 use Rattle.name_book.specs.Changes.{KeepsRing}
-use Rattle.name_book.specs.Tables.{book_of, AreKeys, IsTable, ChangesRing}
+use Rattle.name_book.specs.Tables.{book_of, AreKeys, ChangesRing}
 use Rattle.name_book.proofs.Rings.{keeps-ring}
 use Rattle.name_book.proofs.Steps.{steps-kept}
-use Rattle.name_book.proofs.Kept.{same-own}
 
 pub changes-none : (nodes : Nodes ℕ) (r : ℕ) → ChangesRing nodes nodes r
 changes-none nodes r = record { values = λ k. refl; counts = (refl, refl, refl); order = λ q below apart key live. refl }
@@ -20,17 +19,6 @@ changes-more old mid new r one two = record {
 }
 
 module _ (nodes new : Nodes ℕ) (es : List (ℕ × Key)) (r : ℕ) (changes : ChangesRing nodes new r) where
-  -- the table is one still
-  pub table-changed : (room spare : ℕ) → RingsGoRound 2 new → IsTable nodes es room spare → IsTable new es room spare
-  table-changed room spare rings table = record {
-    once = table.once;
-    own = same-own nodes new es table.own changes.values;
-    rings = rings;
-    count = changes.counts.0 ∙ table.count;
-    index-room = table.index-room;
-    node-room = omega (arith, changes.counts.1, table.node-room);
-  }
-
   -- the rings of the other number stay
   pub others-kept : AreKeys nodes es → RingsGoRound 2 nodes → (spare q : ℕ) → q < 2 → q ≢ r → KeepsRing (book_of nodes es spare) (book_of new es spare) q
   others-kept own rings spare q below apart =
