@@ -14,35 +14,27 @@ use Rattle.cluster.proofs.making.part.Goals as goal
 pub copy_names-requires : goal.copy_names-requires
 copy_names-requires g c = search
 
-pub returns-in_err-copy_names-clause-names : goal.returns-in_err-copy_names-clause-names
-returns-in_err-copy_names-clause-names g c = IfOk-from_err c.from_residual.result _ c.from_residual.ensures.0
+pub returns-in_err-copy_names : goal.returns-in_err-copy_names
+returns-in_err-copy_names g c =
+    let failed = c.from_residual.ensures.0 in
+    record {
+      names = IfOk-from_err c.from_residual.result _ failed;
+      part = IfOk-from_err c.from_residual.result _ failed;
+      whole = IfOk-from_err c.from_residual.result _ failed;
+      steps = no_step _ _;
+      least = IfOk-from_err c.from_residual.result _ failed;
+    }
 
-pub returns-in_err-copy_names-clause-part : goal.returns-in_err-copy_names-clause-part
-returns-in_err-copy_names-clause-part g c = IfOk-from_err c.from_residual.result _ c.from_residual.ensures.0
-
-pub returns-in_err-copy_names-clause-whole : goal.returns-in_err-copy_names-clause-whole
-returns-in_err-copy_names-clause-whole g c = IfOk-from_err c.from_residual.result _ c.from_residual.ensures.0
-
-pub returns-in_err-copy_names-clause-steps : goal.returns-in_err-copy_names-clause-steps
-returns-in_err-copy_names-clause-steps g c = no_step _ _
-
-pub returns-in_err-copy_names-clause-least : goal.returns-in_err-copy_names-clause-least
-returns-in_err-copy_names-clause-least g c = IfOk-from_err c.from_residual.result _ c.from_residual.ensures.0
-
-pub returns-in_err-dep-clause-names : goal.returns-in_err-dep-clause-names
-returns-in_err-dep-clause-names g c = IfOk-from_err c.from_residual-in_err-dep.result _ c.from_residual-in_err-dep.ensures.0
-
-pub returns-in_err-dep-clause-part : goal.returns-in_err-dep-clause-part
-returns-in_err-dep-clause-part g c = IfOk-from_err c.from_residual-in_err-dep.result _ c.from_residual-in_err-dep.ensures.0
-
-pub returns-in_err-dep-clause-whole : goal.returns-in_err-dep-clause-whole
-returns-in_err-dep-clause-whole g c = IfOk-from_err c.from_residual-in_err-dep.result _ c.from_residual-in_err-dep.ensures.0
-
-pub returns-in_err-dep-clause-steps : goal.returns-in_err-dep-clause-steps
-returns-in_err-dep-clause-steps g c = no_step _ _
-
-pub returns-in_err-dep-clause-least : goal.returns-in_err-dep-clause-least
-returns-in_err-dep-clause-least g c = IfOk-from_err c.from_residual-in_err-dep.result _ c.from_residual-in_err-dep.ensures.0
+pub returns-in_err-dep : goal.returns-in_err-dep
+returns-in_err-dep g c =
+    let failed = c.from_residual-in_err-dep.ensures.0 in
+    record {
+      names = IfOk-from_err c.from_residual-in_err-dep.result _ failed;
+      part = IfOk-from_err c.from_residual-in_err-dep.result _ failed;
+      whole = IfOk-from_err c.from_residual-in_err-dep.result _ failed;
+      steps = no_step _ _;
+      least = IfOk-from_err c.from_residual-in_err-dep.result _ failed;
+    }
 
 pub certified-requires : goal.certified-requires
 certified-requires g c = (

@@ -61,35 +61,27 @@ add_dep-requires g c =
     (subst₂ (λ (s t : Cluster). AreAcross s.names t.names c.args.parent c.args.child) (sym c.self.view_is) (sym c.other.view_is) c.requires.across) in
     ((let fits : cluster_room g.row.W < 9223372036854775808 = search in dep_in_cluster g.row.W fits), (asks.0, (asks.1, asks.2)))
 
-pub returns-in_err-names-clause-names : goal.returns-in_err-names-clause-names
-returns-in_err-names-clause-names g c = IfOk-from_err c.from_residual.result _ c.from_residual.ensures.0
+pub returns-in_err-names : goal.returns-in_err-names
+returns-in_err-names g c =
+    let failed = c.from_residual.ensures.0 in
+    record {
+      names = IfOk-from_err c.from_residual.result _ failed;
+      graph = IfOk-from_err c.from_residual.result _ failed;
+      whole = IfOk-from_err c.from_residual.result _ failed;
+      steps = no_step _ _;
+      least = IfOk-from_err c.from_residual.result _ failed;
+    }
 
-pub returns-in_err-names-clause-graph : goal.returns-in_err-names-clause-graph
-returns-in_err-names-clause-graph g c = IfOk-from_err c.from_residual.result _ c.from_residual.ensures.0
-
-pub returns-in_err-names-clause-whole : goal.returns-in_err-names-clause-whole
-returns-in_err-names-clause-whole g c = IfOk-from_err c.from_residual.result _ c.from_residual.ensures.0
-
-pub returns-in_err-names-clause-steps : goal.returns-in_err-names-clause-steps
-returns-in_err-names-clause-steps g c = no_step _ _
-
-pub returns-in_err-names-clause-least : goal.returns-in_err-names-clause-least
-returns-in_err-names-clause-least g c = IfOk-from_err c.from_residual.result _ c.from_residual.ensures.0
-
-pub returns-in_err-dep-clause-names : goal.returns-in_err-dep-clause-names
-returns-in_err-dep-clause-names g c = IfOk-from_err c.from_residual-in_err-dep.result _ c.from_residual-in_err-dep.ensures.0
-
-pub returns-in_err-dep-clause-graph : goal.returns-in_err-dep-clause-graph
-returns-in_err-dep-clause-graph g c = IfOk-from_err c.from_residual-in_err-dep.result _ c.from_residual-in_err-dep.ensures.0
-
-pub returns-in_err-dep-clause-whole : goal.returns-in_err-dep-clause-whole
-returns-in_err-dep-clause-whole g c = IfOk-from_err c.from_residual-in_err-dep.result _ c.from_residual-in_err-dep.ensures.0
-
-pub returns-in_err-dep-clause-steps : goal.returns-in_err-dep-clause-steps
-returns-in_err-dep-clause-steps g c = no_step _ _
-
-pub returns-in_err-dep-clause-least : goal.returns-in_err-dep-clause-least
-returns-in_err-dep-clause-least g c = IfOk-from_err c.from_residual-in_err-dep.result _ c.from_residual-in_err-dep.ensures.0
+pub returns-in_err-dep : goal.returns-in_err-dep
+returns-in_err-dep g c =
+    let failed = c.from_residual-in_err-dep.ensures.0 in
+    record {
+      names = IfOk-from_err c.from_residual-in_err-dep.result _ failed;
+      graph = IfOk-from_err c.from_residual-in_err-dep.result _ failed;
+      whole = IfOk-from_err c.from_residual-in_err-dep.result _ failed;
+      steps = no_step _ _;
+      least = IfOk-from_err c.from_residual-in_err-dep.result _ failed;
+    }
 
 pub certified-requires : goal.certified-requires
 certified-requires g c =

@@ -19,35 +19,27 @@ set_fee-requires g c = (
       (c.as_slice-3.ensures ∙ c.in_ok-names.ensures.ok ∙ c.as_slice-2.ensures) c.place_of.ensures.within c.place_of.ensures.here),
 )
 
-pub returns-in_err-dep-clause-names : goal.returns-in_err-dep-clause-names
-returns-in_err-dep-clause-names g c = IfOk-from_err c.from_residual.result _ c.from_residual.ensures.0
+pub returns-in_err-dep : goal.returns-in_err-dep
+returns-in_err-dep g c =
+    let failed = c.from_residual.ensures.0 in
+    record {
+      names = IfOk-from_err c.from_residual.result _ failed;
+      graph = IfOk-from_err c.from_residual.result _ failed;
+      whole = IfOk-from_err c.from_residual.result _ failed;
+      steps = no_step _ _;
+      least = IfOk-from_err c.from_residual.result _ failed;
+    }
 
-pub returns-in_err-dep-clause-graph : goal.returns-in_err-dep-clause-graph
-returns-in_err-dep-clause-graph g c = IfOk-from_err c.from_residual.result _ c.from_residual.ensures.0
-
-pub returns-in_err-dep-clause-whole : goal.returns-in_err-dep-clause-whole
-returns-in_err-dep-clause-whole g c = IfOk-from_err c.from_residual.result _ c.from_residual.ensures.0
-
-pub returns-in_err-dep-clause-steps : goal.returns-in_err-dep-clause-steps
-returns-in_err-dep-clause-steps g c = no_step _ _
-
-pub returns-in_err-dep-clause-least : goal.returns-in_err-dep-clause-least
-returns-in_err-dep-clause-least g c = IfOk-from_err c.from_residual.result _ c.from_residual.ensures.0
-
-pub returns-in_err-names-clause-names : goal.returns-in_err-names-clause-names
-returns-in_err-names-clause-names g c = IfOk-from_err c.from_residual-in_err-names.result _ c.from_residual-in_err-names.ensures.0
-
-pub returns-in_err-names-clause-graph : goal.returns-in_err-names-clause-graph
-returns-in_err-names-clause-graph g c = IfOk-from_err c.from_residual-in_err-names.result _ c.from_residual-in_err-names.ensures.0
-
-pub returns-in_err-names-clause-whole : goal.returns-in_err-names-clause-whole
-returns-in_err-names-clause-whole g c = IfOk-from_err c.from_residual-in_err-names.result _ c.from_residual-in_err-names.ensures.0
-
-pub returns-in_err-names-clause-steps : goal.returns-in_err-names-clause-steps
-returns-in_err-names-clause-steps g c = no_step _ _
-
-pub returns-in_err-names-clause-least : goal.returns-in_err-names-clause-least
-returns-in_err-names-clause-least g c = IfOk-from_err c.from_residual-in_err-names.result _ c.from_residual-in_err-names.ensures.0
+pub returns-in_err-names : goal.returns-in_err-names
+returns-in_err-names g c =
+    let failed = c.from_residual-in_err-names.ensures.0 in
+    record {
+      names = IfOk-from_err c.from_residual-in_err-names.result _ failed;
+      graph = IfOk-from_err c.from_residual-in_err-names.result _ failed;
+      whole = IfOk-from_err c.from_residual-in_err-names.result _ failed;
+      steps = no_step _ _;
+      least = IfOk-from_err c.from_residual-in_err-names.result _ failed;
+    }
 
 pub certified-requires : goal.certified-requires
 certified-requires g c =
