@@ -1,5 +1,5 @@
 -- How the parts of an order are kept: one list of names, one of flows, and where those of each part end.
-use Rattle.std.specs.Prelude.{◌≡◌, ℕ, ◌-◌, List, [], ◌∷◌, length, map, take, drop}
+use Rattle.std.specs.Prelude.{◌≡◌, ℕ, ◌-◌, List, [], ◌∷◌, length, map, take, drop, pos}
 use Rattle.graphs.specs.Closures.{Closure}
 use Rattle.graphs.specs.declared.names.Flow.{Flow}
 use Rattle.graphs.specs.Certificates.{Part}
@@ -13,6 +13,10 @@ use Rattle.cluster.specs.Named.{named, IsNamed}
 -- the fee and the size of a part, as a sum
 abbrev pub sum_in : PartEnd → Sum
 sum_in part = record { fee = part.fee; size = part.size }
+
+-- where the first part begins
+abbrev pub no_end : PartEnd
+no_end = record { fee = pos 0; size = 0; end = 0; flow_end = 0 }
 
 -- what is kept of a part that is shown
 abbrev pub end_of : LinearPart → PartEnd

@@ -15,7 +15,7 @@ use crate::covers::Covers;
 use crate::guess::{guess_joined, guess_same};
 use crate::list::ClusterList;
 use crate::making::{certified, copied, part};
-use crate::order::{Order, flows_between, flows_start, names_between, names_start, rate_in};
+use crate::order::{Order, between, end_before, rate_in};
 use crate::places::{both_names, list_chosen, place_of, take_out};
 use crate::work::Work;
 use bitset::Bits;
@@ -280,12 +280,11 @@ impl<const W: usize> Cluster<W> {
         let _dep = &self.dep;
         let parts = self.order.parts.as_slice();
         let part = parts[at];
-        let from = names_start(parts, at);
-        let flow_from = flows_start(parts, at);
+        let before = end_before(parts, at);
         PartRef {
             rate: rate_in(part),
-            ids: names_between(self.order.names.as_slice(), from, part.end),
-            flows: flows_between(self.order.flows.as_slice(), flow_from, part.flow_end),
+            ids: between(self.order.names.as_slice(), before.end, part.end),
+            flows: between(self.order.flows.as_slice(), before.flow_end, part.flow_end),
         }
     }
 

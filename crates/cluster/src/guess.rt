@@ -9,7 +9,7 @@
 ghost use Rattle.std.specs.Prelude.{◌≤◌};
 
 use crate::cluster::Cluster;
-use crate::order::{Order, names_between};
+use crate::order::{Order, between};
 use crate::work::Work;
 use fee_rate::FeeRate;
 use graphs::TxId;
@@ -41,7 +41,7 @@ pub(crate) fn guess_part<const W: usize>(order: &Order, names: &[TxId], work: &m
     for at in 0..order.parts.len() {
         // the ends rise up to the number of names, of which nothing is known here
         let to = order.parts[at].end.min(old_names.len());
-        let ids = names_between(old_names, from.min(to), to);
+        let ids = between(old_names, from.min(to), to);
         let whole_end = write_places(ids, names, &slots, true, end, guess);
         end = if whole_end - end == ids.len() {
             whole_end

@@ -1,8 +1,8 @@
-ghost use Rattle.std.specs.Prelude.{◌≡◌, ℕ, ◌*◌, ◌+◌, ◌<◌, ◌≤◌, ◌++◌, [], ◌∷◌, length, slice_index, map, take, drop, ◌-◌, Contains, IfOk, OnOk};
+ghost use Rattle.std.specs.Prelude.{◌≡◌, ℕ, ◌*◌, ◌+◌, ◌<◌, ◌≤◌, ◌++◌, [], ◌∷◌, length, get_or, slice_index, map, take, drop, ◌-◌, Contains, IfOk, OnOk};
 ghost use Rattle.std.specs.List.Sorted.{IsPermutation};
 ghost use Rattle.lists.specs.Distinct.{AreDistinct};
 ghost use Rattle.cluster.specs.Orders.{at_positions, named_at, AreRising, AreBelow, AddsFlows, IsPlaced, IsRead, StandAt};
-ghost use Rattle.cluster.specs.Kept.{end_of, sum_in};
+ghost use Rattle.cluster.specs.Kept.{end_of, no_end, sum_in};
 ghost use Rattle.linearize.specs.Graphs.{sum_from};
 
 use fee_rate::FeeRate;
@@ -30,46 +30,24 @@ pub(crate) struct Order {
     pub(crate) flows: Vec<Flow>,
 }
 
-/// The names from one position on, before another.
-pub(crate) fn names_between(names: &[TxId], from: usize, to: usize) -> &[TxId]
+/// The items from one position on, before another.
+pub(crate) fn between<T>(items: &[T], from: usize, to: usize) -> &[T]
     requires start { from ≤ to }
-    requires end { to ≤ length names.now }
-    ensures { result.now ≡ take (to - from) (drop from names.now) }
+    requires end { to ≤ length items.now }
+    ensures { result.now ≡ take (to - from) (drop from items.now) }
 {
-    &names[from..to]
+    &items[from..to]
 }
 
-/// The flows from one position on, before another.
-pub(crate) fn flows_between(flows: &[Flow], from: usize, to: usize) -> &[Flow]
-    requires start { from ≤ to }
-    requires end { to ≤ length flows.now }
-    ensures { result.now ≡ take (to - from) (drop from flows.now) }
-{
-    &flows[from..to]
-}
-
-/// Where the names of the part at a position begin: where those of the part before it end.
-pub(crate) fn names_start(parts: &[PartEnd], at: usize) -> usize
+/// The end of the part before the one at a position, where that one begins. Before the first part all is zero.
+pub(crate) fn end_before(parts: &[PartEnd], at: usize) -> PartEnd
     requires { at < length parts.now }
-    ensures first { at ≡ 0 → result ≡ 0 }
-    ensures later { (k : ℕ) → at ≡ k + 1 → result ≡ slice_index (map (λ part. part.end) parts.now) k }
+    ensures { result ≡ get_or (no_end ∷ parts.now) at no_end }
 {
     if at == 0 {
-        return 0;
+        return PartEnd::default();
     }
-    parts[at - 1].end
-}
-
-/// Where the flows of the part at a position begin: where those of the part before it end.
-pub(crate) fn flows_start(parts: &[PartEnd], at: usize) -> usize
-    requires { at < length parts.now }
-    ensures first { at ≡ 0 → result ≡ 0 }
-    ensures later { (k : ℕ) → at ≡ k + 1 → result ≡ slice_index (map (λ part. part.flow_end) parts.now) k }
-{
-    if at == 0 {
-        return 0;
-    }
-    parts[at - 1].flow_end
+    parts[at - 1]
 }
 
 /// The fee and the size of a part.
@@ -143,15 +121,6 @@ pub(crate) fn read<const W: usize>(
         parts,
         flows,
     })
-}
-
-// The flows from one position on, before another.
-fn between(flows: &[PlaceFlow], from: usize, to: usize) -> &[PlaceFlow]
-    requires start { from ≤ to }
-    requires end { to ≤ length flows.now }
-    ensures { result.now ≡ take (to - from) (drop from flows.now) }
-{
-    &flows[from..to]
 }
 
 // A part's fee and size, and where it ends.
