@@ -17,7 +17,7 @@ ghost use Rattle.levels.specs.Changes.{AreAt};
 ghost use Rattle.levels.specs.Changes as changes;
 ghost use Rattle.levels.specs.Kept.{SuitsShelf};
 ghost use Rattle.levels.specs.Links.{IsLink};
-ghost use Rattle.levels.specs.Moves.{AddsOne, Connects, DropsName, JoinsTwo, LinksOne};
+ghost use Rattle.levels.specs.Moves.{AddsOne, Connects, DropsName};
 ghost use Rattle.levels.specs.Rings.{AreNamedOnce, IsMarked, LeftMain, ShareMain};
 ghost use Rattle.levels.specs.Shelves.{IsInOrder, numbers_at, stored_at, view_of};
 ghost use Rattle.levels.specs.Views.{graph_of, IsClusterOf};
@@ -63,68 +63,6 @@ pub(crate) fn add_name<const W: usize, L: Ledger>(
     Ok(())
 }
 
-/// Makes a name of the top level a parent of another of its cluster. Without memory all stays as it was.
-pub(crate) fn link<const W: usize, L: Ledger>(
-    shelves: &mut Shelves<W>,
-    rings: &mut Rings,
-    number: usize,
-    parent: TxId,
-    child: TxId,
-    work: &mut Work<W>,
-    steps: &mut Steps<L>,
-) -> Result<(), NoMemory>
-    requires order { IsInOrder W shelves.old }
-    requires right { SuitsShelf rings.old shelves.old }
-    requires link { IsLink W shelves.old parent child (Link.Within number) }
-    ensures linked { OnOk result (LinksOne W number parent child shelves.old shelves.new) }
-    ensures order { IsInOrder W shelves.new }
-    ensures right { SuitsShelf rings.new shelves.new }
-    ensures staged { is_some shelves.new.staging ≡ is_some shelves.old.staging }
-    ensures names { (set.len rings.new.book.names ≡ set.len rings.old.book.names) × (rings.new.book.issued ≡ rings.old.book.issued) }
-    ensures err { OnErr result ((shelves.new ≡ shelves.old) × (rings.new ≡ rings.old)) }
-    ensures steps { (ids : List ℕ)
-        → Lists (λ q. AreLinked (graph_of (view_of Top shelves.old)) q parent ⊎ AreLinked (graph_of (view_of Top shelves.old)) q child) ids
-        → GrowsWithin (most_steps (length ids)) steps.old steps.new }
-{
-    shelves.link(number, parent, child, work, steps)?;
-    touch_left(shelves, rings, number);
-    Ok(())
-}
-
-/// Makes a name of the top level a parent of another of another cluster, and so one cluster of both. Without memory all stays as it was.
-pub(crate) fn join<const W: usize, L: Ledger>(
-    shelves: &mut Shelves<W>,
-    rings: &mut Rings,
-    above: usize,
-    below: usize,
-    parent: TxId,
-    child: TxId,
-    work: &mut Work<W>,
-    steps: &mut Steps<L>,
-) -> Result<(), NoMemory>
-    requires order { IsInOrder W shelves.old }
-    requires right { SuitsShelf rings.old shelves.old }
-    requires link { IsLink W shelves.old parent child (Link.Between above below) }
-    ensures joined { OnOk result (JoinsTwo W above below parent child shelves.old shelves.new) }
-    ensures order { IsInOrder W shelves.new }
-    ensures right { SuitsShelf rings.new shelves.new }
-    ensures staged { is_some shelves.new.staging ≡ is_some shelves.old.staging }
-    ensures names { (set.len rings.new.book.names ≡ set.len rings.old.book.names) × (rings.new.book.issued ≡ rings.old.book.issued) }
-    ensures err { OnErr result ((shelves.new ≡ shelves.old) × (rings.new ≡ rings.old)) }
-    ensures steps { (ids : List ℕ)
-        → Lists (λ q. AreLinked (graph_of (view_of Top shelves.old)) q parent ⊎ AreLinked (graph_of (view_of Top shelves.old)) q child) ids
-        → GrowsWithin (most_steps (length ids)) steps.old steps.new }
-{
-    shelves.join(above, below, parent, child, work, steps)?;
-    if shelves.is_staged() {
-        touch_left(shelves, rings, above);
-        touch_left(shelves, rings, below);
-    } else {
-        rings.join(parent, child);
-    }
-    Ok(())
-}
-
 /// Makes a name of the top level a parent of another, where `link` says how they stand. A parent that is an ancestor already changes
 /// nothing. Without memory all stays as it was.
 pub(crate) fn connect<const W: usize, L: Ledger>(
@@ -153,10 +91,21 @@ pub(crate) fn connect<const W: usize, L: Ledger>(
 {
     match link {
         Link::There => Ok(()),
-        Link::Within(number) => self::link(shelves, rings, number, parent, child, work, steps),
-        Link::Between(above, below) => join(
-            shelves, rings, above, below, parent, child, work, steps,
-        ),
+        Link::Within(number) => {
+            shelves.link(number, parent, child, work, steps)?;
+            touch_left(shelves, rings, number);
+            Ok(())
+        }
+        Link::Between(above, below) => {
+            shelves.join(above, below, parent, child, work, steps)?;
+            if shelves.is_staged() {
+                touch_left(shelves, rings, above);
+                touch_left(shelves, rings, below);
+            } else {
+                rings.join(parent, child);
+            }
+            Ok(())
+        }
     }
 }
 

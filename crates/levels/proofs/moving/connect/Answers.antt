@@ -1,73 +1,92 @@
--- A name that is no ancestor yet becomes a parent within its cluster, or of another.
-use Rattle.std.proofs.Common.{inl, inr, subst, sym, ◌∙◌, true≢false, arith}
-use Rattle.std.proofs.lemmas.Result.{on_ok_weaker}
+-- A name that is no ancestor yet becomes a parent within its cluster, or of another. The rings follow: what main has of the old clusters
+-- is left where there is a staging, and else two rings become one.
+use Rattle.std.proofs.Common.{◌≤◌, sym, ◌∙◌, subst, arith}
 use Rattle.levels.specs.Links.{IsLink}
-use Rattle.levels.proofs.Linking.{not_between}
-use Rattle.levels.proofs.Rooms.{work_fits}
+use Rattle.levels.proofs.Calls.{none_staged}
+use Rattle.levels.proofs.Linking.{first_untouched, joins_of, linked_untouched, not_between, not_shared, other_untouched, right_joined_main, right_joined_staged, right_linked}
 use Rattle.levels.proofs.moving.connect.Goals as goal
 
-pub returns-in-Within-clause-linked : goal.returns-in-Within-clause-linked
-returns-in-Within-clause-linked g c =
-    let way = subst (IsLink g.row.W c.args.shelves.now c.args.parent c.args.child) c.in-Within.is c.requires.link in
-    on_ok_weaker c.link.result (λ linked. inr (inl (c.in-Within.number, way, linked))) c.link.ensures.linked
+pub touch_left-requires : goal.touch_left-requires
+touch_left-requires g c =
+    let narrow : g.row.W ≤ 2 = c.requires.order.narrow in let found = c.in_ok-link-in-Within.ensures in (
+      omega arith,
+      (
+        found.order,
+        linked_untouched g.row.W c.in-Within.number c.args.parent c.args.child c.args.shelves.now c.link.new.self c.requires.order found.order
+            found.linked c.args.rings.now c.requires.right,
+      ),
+    )
 
-pub returns-in-Between-clause-linked : goal.returns-in-Between-clause-linked
-returns-in-Between-clause-linked g c =
+pub returns-in_ok-link-in-Within-clause-right : goal.returns-in_ok-link-in-Within-clause-right
+returns-in_ok-link-in-Within-clause-right g c =
+    let found = c.in_ok-link-in-Within.ensures in
+    right_linked g.row.W c.in-Within.number c.args.parent c.args.child c.args.shelves.now c.link.new.self c.requires.order found.order
+    found.linked c.args.rings.now c.requires.right c.touch_left.new.rings
+    (record { names = c.touch_left.ensures.names; main = c.touch_left.ensures.main; touched = c.touch_left.ensures.touched })
+
+pub touch_left-requires-then-is_staged : goal.touch_left-requires-then-is_staged
+touch_left-requires-then-is_staged g c =
+    let narrow : g.row.W ≤ 2 = c.requires.order.narrow in let found = c.in_ok-join-in-Between.ensures in
+    let way = subst (IsLink g.row.W c.args.shelves.now c.args.parent c.args.child) c.in-Between.is c.requires.link in (
+      omega arith,
+      (
+        found.order,
+        first_untouched g.row.W c.in-Between.above c.in-Between.below c.args.parent c.args.child c.args.shelves.now c.join.new.self
+            c.requires.order found.order way found.joined c.args.rings.now c.requires.right,
+      ),
+    )
+
+pub touch_left-requires-then-is_staged-2 : goal.touch_left-requires-then-is_staged-2
+touch_left-requires-then-is_staged-2 g c =
+    let narrow : g.row.W ≤ 2 = c.requires.order.narrow in let found = c.in_ok-join-in-Between.ensures in let one = c.touch_left-then-is_staged in
+    let way = subst (IsLink g.row.W c.args.shelves.now c.args.parent c.args.child) c.in-Between.is c.requires.link in (
+      omega arith,
+      (
+        found.order,
+        other_untouched g.row.W c.in-Between.above c.in-Between.below c.args.parent c.args.child c.args.shelves.now c.join.new.self
+            c.requires.order found.order way found.joined c.args.rings.now c.requires.right one.new.rings
+            (record { names = one.ensures.names; main = one.ensures.main; touched = one.ensures.touched }),
+      ),
+    )
+
+pub join-requires-else-is_staged-clause-apart : goal.join-requires-else-is_staged-clause-apart
+join-requires-else-is_staged-clause-apart g c =
+    let found = c.in_ok-join-in-Between.ensures in
     let way = subst (IsLink g.row.W c.args.shelves.now c.args.parent c.args.child) c.in-Between.is c.requires.link in
-    on_ok_weaker c.join.result (λ joined. inr (inr (c.in-Between.above, c.in-Between.below, way, joined))) c.join.ensures.joined
+    not_shared g.row.W c.in-Between.above c.in-Between.below c.args.parent c.args.child c.args.shelves.now c.join.new.self c.requires.order
+    found.order way found.joined c.args.rings.now c.requires.right
+    (none_staged c.join.new.self.staging c.is_staged.result c.is_staged.ensures c.if-is_staged.false)
 
-pub returns-in-Between-clause-still : goal.returns-in-Between-clause-still
-returns-in-Between-clause-still g c up =
+pub returns-then-is_staged-clause-right : goal.returns-then-is_staged-clause-right
+returns-then-is_staged-clause-right g c =
+    let found = c.in_ok-join-in-Between.ensures in let one = c.touch_left-then-is_staged in let two = c.touch_left-then-is_staged-2 in
+    let way = subst (IsLink g.row.W c.args.shelves.now c.args.parent c.args.child) c.in-Between.is c.requires.link in
+    right_joined_staged g.row.W c.in-Between.above c.in-Between.below c.args.parent c.args.child c.args.shelves.now c.join.new.self c.requires.order
+    found.order way found.joined c.args.rings.now c.requires.right one.new.rings two.new.rings (sym c.is_staged.ensures ∙ c.if-is_staged.true)
+    (record { names = one.ensures.names; main = one.ensures.main; touched = one.ensures.touched })
+    (record { names = two.ensures.names; main = two.ensures.main; touched = two.ensures.touched })
+
+pub returns-else-is_staged-clause-right : goal.returns-else-is_staged-clause-right
+returns-else-is_staged-clause-right g c =
+    let found = c.in_ok-join-in-Between.ensures in let rings = c.join-else-is_staged in
+    let way = subst (IsLink g.row.W c.args.shelves.now c.args.parent c.args.child) c.in-Between.is c.requires.link in
+    right_joined_main g.row.W c.in-Between.above c.in-Between.below c.args.parent c.args.child c.args.shelves.now c.join.new.self c.requires.order
+    found.order way found.joined c.args.rings.now c.requires.right rings.new.self
+    (none_staged c.join.new.self.staging c.is_staged.result c.is_staged.ensures c.if-is_staged.false)
+    (joins_of c.args.parent c.args.child c.args.rings.now rings.new.self rings.ensures.names rings.ensures.main rings.ensures.touched)
+
+-- a pair between two clusters makes no ancestor that was one
+pub returns-in_err-join-in-Between-clause-still : goal.returns-in_err-join-in-Between-clause-still
+returns-in_err-join-in-Between-clause-still g c up =
     absurd (not_between g.row.W c.args.shelves.now c.requires.order c.args.parent c.args.child c.in-Between.above c.in-Between.below
     (subst (IsLink g.row.W c.args.shelves.now c.args.parent c.args.child) c.in-Between.is c.requires.link) up)
 
-pub returns-in-Within-clause-still : goal.returns-in-Within-clause-still
-returns-in-Within-clause-still g c up =
-    let way = subst (IsLink g.row.W c.args.shelves.now c.args.parent c.args.child) c.in-Within.is c.requires.link in
-    absurd (true≢false (sym up ∙ way.2))
+pub returns-then-is_staged-clause-still : goal.returns-then-is_staged-clause-still
+returns-then-is_staged-clause-still g c up =
+    absurd (not_between g.row.W c.args.shelves.now c.requires.order c.args.parent c.args.child c.in-Between.above c.in-Between.below
+    (subst (IsLink g.row.W c.args.shelves.now c.args.parent c.args.child) c.in-Between.is c.requires.link) up)
 
-pub returns-in-Within-clause-order : goal.returns-in-Within-clause-order
-returns-in-Within-clause-order g c = c.link.ensures.order
-
-pub returns-in-Within-clause-right : goal.returns-in-Within-clause-right
-returns-in-Within-clause-right g c = c.link.ensures.right
-
-pub returns-in-Within-clause-staged : goal.returns-in-Within-clause-staged
-returns-in-Within-clause-staged g c = c.link.ensures.staged
-
-pub returns-in-Within-clause-names : goal.returns-in-Within-clause-names
-returns-in-Within-clause-names g c = c.link.ensures.names
-
-pub returns-in-Within-clause-err : goal.returns-in-Within-clause-err
-returns-in-Within-clause-err g c = c.link.ensures.err
-
-pub returns-in-Within-clause-steps : goal.returns-in-Within-clause-steps
-returns-in-Within-clause-steps g c = c.link.ensures.steps
-
-pub returns-in-Between-clause-order : goal.returns-in-Between-clause-order
-returns-in-Between-clause-order g c = c.join.ensures.order
-
-pub returns-in-Between-clause-right : goal.returns-in-Between-clause-right
-returns-in-Between-clause-right g c = c.join.ensures.right
-
-pub returns-in-Between-clause-staged : goal.returns-in-Between-clause-staged
-returns-in-Between-clause-staged g c = c.join.ensures.staged
-
-pub returns-in-Between-clause-names : goal.returns-in-Between-clause-names
-returns-in-Between-clause-names g c = c.join.ensures.names
-
-pub returns-in-Between-clause-err : goal.returns-in-Between-clause-err
-returns-in-Between-clause-err g c = c.join.ensures.err
-
-pub returns-in-Between-clause-steps : goal.returns-in-Between-clause-steps
-returns-in-Between-clause-steps g c = c.join.ensures.steps
-
-pub link-requires : goal.link-requires
-link-requires g c =
-    let within = subst (IsLink g.row.W c.args.shelves.now c.args.parent c.args.child) c.in-Within.is c.requires.link in
-    (omega arith, (work_fits g.row.W c.requires.order.narrow, (c.requires.order, (c.requires.right, within))))
-
-pub join-requires : goal.join-requires
-join-requires g c =
-    let between = subst (IsLink g.row.W c.args.shelves.now c.args.parent c.args.child) c.in-Between.is c.requires.link in
-    (omega arith, (work_fits g.row.W c.requires.order.narrow, (c.requires.order, (c.requires.right, between))))
+pub returns-else-is_staged-clause-still : goal.returns-else-is_staged-clause-still
+returns-else-is_staged-clause-still g c up =
+    absurd (not_between g.row.W c.args.shelves.now c.requires.order c.args.parent c.args.child c.in-Between.above c.in-Between.below
+    (subst (IsLink g.row.W c.args.shelves.now c.args.parent c.args.child) c.in-Between.is c.requires.link) up)
