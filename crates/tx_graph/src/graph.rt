@@ -1,4 +1,4 @@
-ghost use Rattle.std.specs.Prelude.{◌≡◌, ◌≢◌, ℕ, ℤ, ◌+◌, ◌-◌, ◌*◌, ◌^◌, ◌<◌, ◌≤◌, ◌⊎◌, ◌↔◌, true, None, Some, List, [], ◌∷◌, length, option_map, is_ok, if◌then◌else◌, IsSome, IsTrue, IfOk, IfErr, OnErr, Contains};
+ghost use Rattle.std.specs.Prelude.{◌≡◌, ◌≢◌, ℕ, ℤ, ◌+◌, ◌-◌, ◌*◌, ◌^◌, ◌<◌, ◌≤◌, ◌⊎◌, ◌↔◌, true, None, Some, List, [], ◌∷◌, length, option_map, is_ok, if◌then◌else◌, IsSome, IsTrue, IfOk, IfErr, OnErr, MatchResult, Contains};
 ghost use Rattle.std.specs.FinMap as finmap;
 ghost use Rattle.std.specs.Iterator.{IsFinite};
 ghost use Rattle.std.specs.Iterator.Adapters.{rev_source};
@@ -9,7 +9,7 @@ ghost use Rattle.graphs.specs.declared.names.Verdict.TheVariants.{Better};
 ghost use Rattle.graphs.specs.Graphs.{Lists};
 ghost use Rattle.graph_model.specs.Limits.{AreInRange};
 ghost use Rattle.graph_model.specs.declared.limits.TheConstants.{MAX_COUNT};
-ghost use Rattle.graph_model.specs.declared.names.Refusal.TheVariants.{Memory};
+ghost use Rattle.graph_model.specs.declared.names.Refusal.TheVariants.{Memory, NoStaging};
 ghost use Rattle.graph_model.specs.States.{State, level_of, IsStaged};
 ghost use Rattle.graph_model.specs.Answers.{order_of};
 ghost use Rattle.graph_model.specs.Commands as commands;
@@ -103,6 +103,17 @@ fn refused_add<const W: usize>(
         return Some(Refusal::Full);
     }
     None
+}
+
+/// Refuses where no staging is open.
+fn needs_staging<const W: usize>(levels: &Levels<W>) -> Result<(), Refusal>
+    ensures { MatchResult result (λ _. IsSome levels.now.staging)
+        (λ why. (why ≡ NoStaging) × (levels.now.staging ≡ None)) }
+{
+    if !levels.is_staged() {
+        return Err(Refusal::NoStaging);
+    }
+    Ok(())
 }
 
 /// Commits a staging that is better, and drops any other.
@@ -311,9 +322,7 @@ impl<const W: usize> TxGraph<W> {
         ensures step { MakesStep self.old self.new Commit (change_reply result) }
         ensures additions { self.new.levels.issued ≡ self.old.levels.issued }
     {
-        if !self.levels.is_staged() {
-            return Err(Refusal::NoStaging);
-        }
+        needs_staging(&self.levels)?;
         self.levels.commit();
         self.begun = true;
         Ok(())
@@ -326,9 +335,7 @@ impl<const W: usize> TxGraph<W> {
         ensures step { MakesStep self.old self.new Abort (change_reply result) }
         ensures additions { self.new.levels.issued ≡ self.old.levels.issued }
     {
-        if !self.levels.is_staged() {
-            return Err(Refusal::NoStaging);
-        }
+        needs_staging(&self.levels)?;
         self.levels.abort();
         self.begun = true;
         Ok(())
@@ -341,9 +348,7 @@ impl<const W: usize> TxGraph<W> {
     pub fn compare(&self) -> Result<Verdict, Refusal>
         ensures step { MakesStep self.now self.now Compare (compare_reply result) }
     {
-        if !self.levels.is_staged() {
-            return Err(Refusal::NoStaging);
-        }
+        needs_staging(&self.levels)?;
         let found = self.levels.compare();
         Ok(found)
     }
@@ -355,9 +360,7 @@ impl<const W: usize> TxGraph<W> {
         ensures step { MakesStep self.old self.new Settle (settle_reply result) }
         ensures additions { self.new.levels.issued ≡ self.old.levels.issued }
     {
-        if !self.levels.is_staged() {
-            return Err(Refusal::NoStaging);
-        }
+        needs_staging(&self.levels)?;
         let verdict = self.levels.compare();
         close(&mut self.levels, verdict);
         self.begun = true;

@@ -1,20 +1,23 @@
-use Rattle.std.proofs.Common.{true, sym, ◌∙◌, ap, refl}
+use Rattle.std.proofs.Common.{true, sym, ◌∙◌, ap, refl, subst, is_some, Err}
 use Rattle.graph_model.specs.Commands.{Settle}
 use Rattle.graph_model.specs.declared.names.Refusal.TheVariants.{NoStaging}
 use Rattle.graph_model.specs.Replies.{Settled, Refused}
-use Rattle.tx_graph.proofs.Calls.{kept_of, from_view, both_views, sound_after, settle_step, picks_settled}
+use Rattle.tx_graph.proofs.Calls.{error_is, kept_of, from_view, both_views, sound_after, settle_step, picks_settled}
 use Rattle.tx_graph.proofs.Rows.{unstaged_row}
 use Rattle.tx_graph.proofs.Standing.{steps_refused}
+use Rattle.tx_graph.specs.Readings.{settle_reply}
 use Rattle.tx_graph.proofs.Rooms.{levels_fit}
-use Rattle.tx_graph.specs.Kept.{Kept}
+use Rattle.tx_graph.specs.Kept.{Kept, MakesStep}
 use Rattle.tx_graph.proofs.Unchanged.{issued_settled}
 use Rattle.tx_graph.proofs.graph.TxGraph.settle.Goals as goal
 
-pub returns-then-not-is_staged-clause-step : goal.returns-then-not-is_staged-clause-step
-returns-then-not-is_staged-clause-step g c =
+pub returns-in_err-needs_staging-clause-step : goal.returns-in_err-needs_staging-clause-step
+returns-in_err-needs_staging-clause-step g c =
     let kept = kept_of c.self.inside.limits c.self.inside.begun c.self.inside.levels in
-    both_views kept c.args.self.now Settle (Refused NoStaging) c.self.view_is
-    (steps_refused kept Settle NoStaging (unstaged_row kept (sym c.is_staged.ensures ∙ c.if-not-is_staged.true)))
+    subst (λ r. MakesStep c.args.self.now c.args.self.now Settle (settle_reply r))
+    (sym (error_is c.from_residual.result _ c.from_residual.ensures.1 ∙ ap Err c.in_err-needs_staging.ensures.0))
+    (both_views kept c.args.self.now Settle (Refused NoStaging) c.self.view_is
+    (steps_refused kept Settle NoStaging (unstaged_row kept (ap is_some c.in_err-needs_staging.ensures.1))))
 
 pub invariant_of-self : goal.invariant_of-self
 invariant_of-self g c =
@@ -23,7 +26,7 @@ invariant_of-self g c =
     c.self.invariant.in_range
     (picks_settled c.self.inside.levels c.close.new.levels c.compare-verdict.result c.close.ensures.better c.close.ensures.other c.self.invariant.picked)
     (settle_step c.self.inside.limits c.self.inside.begun c.self.inside.levels c.close.new.levels c.compare-verdict.result c.self.invariant.picked
-    c.compare-verdict.ensures.rates c.compare-verdict.ensures.verdict (sym c.is_staged.ensures ∙ c.if-not-is_staged.false)
+    c.compare-verdict.ensures.rates c.compare-verdict.ensures.verdict c.in_ok-needs_staging.ensures
     c.close.ensures.better c.close.ensures.other)
 
 pub returns-clause-step : goal.returns-clause-step
@@ -31,20 +34,20 @@ returns-clause-step g c =
     from_view (kept_of c.self.inside.limits c.self.inside.begun c.self.inside.levels)
     c.args.self.now (kept_of c.self.inside.limits true c.close.new.levels) Settle (Settled c.compare-verdict.result) c.self.view_is
     (settle_step c.self.inside.limits c.self.inside.begun c.self.inside.levels c.close.new.levels c.compare-verdict.result c.self.invariant.picked
-    c.compare-verdict.ensures.rates c.compare-verdict.ensures.verdict (sym c.is_staged.ensures ∙ c.if-not-is_staged.false)
+    c.compare-verdict.ensures.rates c.compare-verdict.ensures.verdict c.in_ok-needs_staging.ensures
     c.close.ensures.better c.close.ensures.other)
 
-pub is_staged-requires : goal.is_staged-requires
-is_staged-requires g c = levels_fit g.row.W assumption
+pub needs_staging-requires : goal.needs_staging-requires
+needs_staging-requires g c = levels_fit g.row.W assumption
 
 pub compare-verdict-requires : goal.compare-verdict-requires
-compare-verdict-requires g c = (levels_fit g.row.W assumption, sym c.is_staged.ensures ∙ c.if-not-is_staged.false)
+compare-verdict-requires g c = (levels_fit g.row.W assumption, c.in_ok-needs_staging.ensures)
 
 pub close-requires : goal.close-requires
-close-requires g c = (levels_fit g.row.W assumption, sym c.is_staged.ensures ∙ c.if-not-is_staged.false)
+close-requires g c = (levels_fit g.row.W assumption, c.in_ok-needs_staging.ensures)
 
-pub returns-then-not-is_staged-clause-additions : goal.returns-then-not-is_staged-clause-additions
-returns-then-not-is_staged-clause-additions g c = refl
+pub returns-in_err-needs_staging-clause-additions : goal.returns-in_err-needs_staging-clause-additions
+returns-in_err-needs_staging-clause-additions g c = refl
 
 pub returns-clause-additions : goal.returns-clause-additions
 returns-clause-additions g c =
