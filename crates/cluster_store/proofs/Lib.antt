@@ -19,6 +19,7 @@ pub mod Kept
 pub mod Lent
 pub mod Unique
 pub mod Changed
+pub mod Counted
 pub mod Single
 pub mod Orders
 pub mod Rates
