@@ -1,5 +1,5 @@
 -- Laws of sums of integers over lists.
-use Rattle.std.proofs.Common.{◌≡◌, ℕ, ◌*◌, ◌≤◌, length, unsigned_abs, List, [], ◌∷◌, ◌++◌, Bool, true, false, not, cond, ℤ, pos, ◌+ℤ◌, ◌-ℤ◌, ◌*ℤ◌, neg_ℤ, ◌≤ℤ◌, refl, sym, ap, ◌∙◌, arith}
+use Rattle.std.proofs.Common.{◌≡◌, ℕ, ◌*◌, ◌≤◌, length, unsigned_abs, List, [], ◌∷◌, ◌++◌, Bool, true, false, not, cond, ◌+◌, ℤ, pos, ◌+ℤ◌, ◌-ℤ◌, ◌*ℤ◌, neg_ℤ, ◌≤ℤ◌, refl, sym, ap, ◌∙◌, arith}
 use Rattle.std.specs.Prelude.{All, Contains, sum_by}
 use Rattle.std.specs.List.{filter}
 use Rattle.std.proofs.lemmas.List.Elements.{All-head, All-tail}
@@ -96,3 +96,17 @@ total-pos-scale f k [] = omega (arith, ints)
 total-pos-scale f k (x ∷ xs) =
     let parts : pos (sum_by f (x ∷ xs)) ≡ pos (f x) +ℤ pos (sum_by f xs) = omega (arith, ints, sum_by-cons f x xs) in
     omega (arith, ints, total-pos-scale f k xs, ap (λ (z : ℤ). k *ℤ z) parts, mul-add_right k (pos (f x)) (pos (sum_by f xs)))
+
+pub sum_by-add : {A : Type 0} (f g : A → ℕ) (xs : List A) → sum_by (λ x. f x + g x) xs ≡ sum_by f xs + sum_by g xs
+sum_by-add f g [] = refl
+sum_by-add f g (x ∷ xs) = omega (arith, sum_by-add f g xs, sum_by-cons f x xs, sum_by-cons g x xs, sum_by-cons (λ y. f y + g y) x xs)
+
+pub sum_by_along : {A : Type 0} (f g : A → ℕ) (xs : List A) → ((x : A) → Contains xs x → f x ≡ g x) → sum_by f xs ≡ sum_by g xs
+sum_by_along f g [] e = refl
+sum_by_along f g (x ∷ xs) e =
+    omega (arith, sum_by-cons f x xs, sum_by-cons g x xs, e x (Contains-head x xs), sum_by_along f g xs (λ y h. e y (Contains-later x y xs h)))
+
+pub sum_by_within : {A : Type 0} (f : A → ℕ) (m : ℕ) (xs : List A) → ((x : A) → Contains xs x → f x ≤ m) → sum_by f xs ≤ m * length xs
+sum_by_within f m [] h = omega arith
+sum_by_within f m (x ∷ xs) h =
+    omega (arith, sum_by-cons f x xs, h x (Contains-head x xs), sum_by_within f m xs (λ y k. h y (Contains-later x y xs k)))

@@ -1,12 +1,13 @@
 -- Lists in which no entry stands twice.
-use Rattle.std.proofs.Common.{◌≡◌, ℕ, zero, suc, ◌+◌, ◌<◌, ◌≤◌, List, [], ◌∷◌, ◌++◌, Bool, true, false, cond, length, get_or, take, refl, sym, ap, ◌∙◌, subst, inl, inr, ◌⊎◌, arith}
-use Rattle.std.specs.Prelude.{Contains, map}
+use Rattle.std.proofs.Common.{◌≡◌, ℕ, zero, suc, ◌<◌, ◌≤◌, List, [], ◌∷◌, ◌++◌, Bool, true, false, cond, length, get_or, take, length-append, sym, ap, ◌∙◌, subst, inl, inr, arith}
+use Rattle.std.specs.Prelude.{Contains, map, sum_by}
 use Rattle.std.specs.List.{filter}
 use Rattle.std.proofs.lemmas.List.Elements.{Contains-append_left, Contains-append_right, Contains-append_cases, Contains-push_cases}
 use Rattle.std.proofs.lemmas.List.{get_or_default, get_or-take, length-take-le}
+use Rattle.std.proofs.lemmas.List.Sums.{sum_by-append, sum_by-cons}
 use Rattle.std.proofs.lemmas.Bool.{cases_eq, cases_lt}
 use Rattle.lists.specs.Distinct.{AreDistinct}
-use Rattle.lists.proofs.Entries.{Contains-head, Contains-later, Contains-cases, none_in_empty, filter-Contains, map-Contains}
+use Rattle.lists.proofs.Entries.{Contains-head, Contains-later, Contains-cases, Contains-between, Contains-splits, none_in_empty, filter-Contains, map-Contains}
 
 pub distinct-append_left : {A : Type 0} (xs ys : List A) → AreDistinct (xs ++ ys) → AreDistinct xs
 distinct-append_left [] ys d = tt
@@ -54,6 +55,29 @@ distinct_without (a ∷ before) after x d =
       | inr later ↦ rest.1 later
     ] in
     ((new, rest.0), other)
+
+-- a list without repeats, of entries of another, is no longer and has no greater sum
+pub distinct_within : {A : Type 0} (f : A → ℕ) (xs ys : List A) → AreDistinct xs → ((x : A) → Contains xs x → Contains ys x)
+    → (length xs ≤ length ys) × (sum_by f xs ≤ sum_by f ys)
+distinct_within f [] ys once inside = (omega arith, omega arith)
+distinct_within f (x ∷ xs) ys once inside =
+    let cut = Contains-splits ys x (inside x (Contains-head x xs)) in
+    let rest = distinct_within f xs (cut.0 ++ cut.1) once.1
+    (λ y here. elim (Contains-between cut.0 cut.1 x y (subst (λ zs. Contains zs y) cut.2 (inside y (Contains-later x y xs here)))) [
+      | inl same ↦ absurd (once.0 (subst (Contains xs) (sym same) here))
+      | inr there ↦ there
+    ]) in (
+      omega (arith, rest.0, ap length cut.2, length-append cut.0 (x ∷ cut.1), length-append cut.0 cut.1),
+      omega (
+        arith,
+        rest.1,
+        ap (sum_by f) cut.2,
+        sum_by-append f cut.0 (x ∷ cut.1),
+        sum_by-append f cut.0 cut.1,
+        sum_by-cons f x cut.1,
+        sum_by-cons f x xs,
+      ),
+    )
 
 -- What stands before an entry of a front stands in that front.
 pub stays_before : {A : Type 0} (before after front rest : List A) (a b : A) → before ++ b ∷ after ≡ front ++ rest

@@ -1,5 +1,5 @@
 -- What lists hold.
-use Rattle.std.proofs.Common.{◌≡◌, ◌<◌, zero, suc, List, [], ◌∷◌, ◌++◌, Bool, true, false, cond, refl, sym, ap, ◌∙◌, subst, inl, inr, ◌⊎◌, arith}
+use Rattle.std.proofs.Common.{◌≡◌, ◌≤◌, zero, suc, List, [], ◌∷◌, ◌++◌, Bool, true, false, cond, length, true≢false, refl, sym, ap, ◌∙◌, subst, inl, inr, ◌⊎◌, arith}
 use Rattle.std.specs.Prelude.{Contains, All, map}
 use Rattle.std.proofs.lemmas.List.Elements.{All-nil, All-cons, All-head, All-tail}
 use Rattle.std.specs.List.{filter}
@@ -16,6 +16,17 @@ Contains-cases x y xs (suc k, below, same) = inr (k, omega arith, same)
 
 pub none_in_empty : {X : Type 0} (x : X) → Contains [] x → ⊥
 none_in_empty x h = omega (arith, h.1)
+
+pub Contains-one : {X : Type 0} (x y : X) → Contains (x ∷ []) y → x ≡ y
+Contains-one x y h = elim (Contains-cases x y [] h) [ inl same ↦ same | inr none ↦ absurd (none_in_empty y none) ]
+
+-- an entry beside one that stands between two lists
+pub Contains-between : {X : Type 0} (xs ys : List X) (x y : X) → Contains (xs ++ x ∷ ys) y → (x ≡ y) ⊎ Contains (xs ++ ys) y
+Contains-between [] ys x y h = Contains-cases x y ys h
+Contains-between (z ∷ xs) ys x y h = elim (Contains-cases z y (xs ++ x ∷ ys) h) [
+  | inl same ↦ inr (subst (Contains (z ∷ xs ++ ys)) same (Contains-head z (xs ++ ys)))
+  | inr later ↦ elim (Contains-between xs ys x y later) [ inl same ↦ inl same | inr there ↦ inr (Contains-later z y (xs ++ ys) there) ]
+]
 
 -- what two lists that begin alike have in common
 pub first_of : {A : Type 0} {x y : A} {xs ys : List A} → x ∷ xs ≡ y ∷ ys → x ≡ y
@@ -78,6 +89,21 @@ Contains-map f (a ∷ xs) x h = elim (Contains-cases a x xs h) [
   | inl same ↦ subst (λ z. Contains (f a ∷ map f xs) (f z)) same (Contains-head (f a) (map f xs))
   | inr later ↦ Contains-later (f a) (f x) (map f xs) (Contains-map f xs x later)
 ]
+
+-- functions that agree at each entry make the same
+pub map_along : {A B : Type 0} (f g : A → B) (xs : List A) → ((x : A) → Contains xs x → f x ≡ g x) → map f xs ≡ map g xs
+map_along f g [] same = refl
+map_along f g (x ∷ xs) same = λ i. same x (Contains-head x xs) i ∷ map_along f g xs (λ y here. same y (Contains-later x y xs here)) i
+
+-- where a mapped list is cut, the list itself is
+pub map_cut : {A B : Type 0} (f : A → B) (xs : List A) (before after : List B) → map f xs ≡ before ++ after
+    → (ys zs : List A) × (xs ≡ ys ++ zs) × (before ≡ map f ys) × (after ≡ map f zs)
+map_cut f xs [] after e = ([], xs, refl, refl, sym e)
+map_cut f [] (b ∷ before) after e = cc
+map_cut f (x ∷ xs) (b ∷ before) after e =
+    let found = map_cut f xs before after (rest_of e) in
+    let head : f x ≡ b = first_of e in
+    (x ∷ found.0, found.1, ap (λ zs. x ∷ zs) found.2, (λ i. sym head i ∷ found.3 i), found.4)
 
 -- ---- what all of two lists together have
 

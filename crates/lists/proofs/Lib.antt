@@ -4,3 +4,8 @@ pub mod Distinct
 pub mod Rising
 pub mod Walks
 pub mod Iterators
+pub mod Told
+pub mod Flats
+pub mod Keys
+pub mod Ranges
+pub mod Follows
