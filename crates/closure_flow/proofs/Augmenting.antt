@@ -1,8 +1,8 @@
 -- Sending along the path to an entry, step by step, and what it uses up.
 use Rattle.std.proofs.Common.{◌≡◌, ℕ, zero, suc, ◌+◌, ◌-◌, ◌<◌, ◌≤◌, ◌⊎◌, inl, inr, List, length, true, false, min}
-use Rattle.std.proofs.Common.{unsigned_abs, Option, Some, None, ℤ, pos, negsuc, neg_ℤ, ◌+ℤ◌, ◌-ℤ◌, ◌<ℤ◌, refl, sym}
+use Rattle.std.proofs.Common.{unsigned_abs, Option, Some, None, ℤ, pos, negsuc, neg_ℤ, ◌<ℤ◌, refl, sym}
 use Rattle.std.proofs.Common.{ap, ◌∙◌, subst, arith}
-use Rattle.std.proofs.lemmas.Bool.{cases_eq, cases_lt}
+use Rattle.std.proofs.lemmas.Bool.{cases_lt}
 use Rattle.std.proofs.lemmas.Int.{ints}
 use Rattle.std.specs.Ordering.{nat_cmp}
 use Rattle.std.specs.FinSet as set
@@ -14,8 +14,7 @@ use Rattle.closure_flow.specs.Networks.{Pushes, Sends}
 use Rattle.closure_flow.specs.Queues.{place_at, from_at, IsSearch}
 use Rattle.closure_flow.proofs.Labellings.{Along, UsesUp}
 use Rattle.closure_flow.proofs.Levels.{back_below}
-use Rattle.closure_flow.proofs.Lists.{only_at-here, only_at-else}
-use Rattle.closure_flow.proofs.Steadiness.{Moves, apart_ends}
+use Rattle.closure_flow.proofs.Steadiness.{Moves, at_start, at_end, over, short}
 
 -- ---- positions back along a path
 pub back_step : (es : List Entry) (at k i j : ℕ) → i ≡ back es at k → from_at es i ≡ Some j → j ≡ back es at (suc k)
@@ -234,50 +233,28 @@ exact_lack (negsuc k) m e h = omega (arith, ints, e)
 -- ---- all of it
 module _ (n : ℕ) (parents : List (set.FinSet nat_cmp)) (within : set.FinSet nat_cmp) (F G : ℕ → ℕ → ℕ) (r s : ℕ → ℤ) (start end amount : ℕ)
     (m : Moves n parents within F G r s start end amount) where
-  apart : start ≡ end → ⊥
-  apart = apart_ends r start end amount m.some m.enough m.lacks
-
-  at_start : s start ≡ r start -ℤ pos amount
-  at_start = omega (arith, ints, m.rests start (m.below _ m.first), only_at-here start (pos amount), only_at-else end start (pos amount) apart)
-
-  at_end : s end ≡ r end +ℤ pos amount
-  at_end = omega (arith, ints, m.rests end (m.below _ m.last), only_at-here end (pos amount), only_at-else start end (pos amount) (λ e. apart (sym e)))
-
-  else_where : (t : ℕ) → set.contains within t ≡ true → (t ≡ start → ⊥) → (t ≡ end → ⊥) → s t ≡ r t
-  else_where t h a b = omega (arith, ints, m.rests t (m.below t h), only_at-else start t (pos amount) a, only_at-else end t (pos amount) b)
-
-  over : (t : ℕ) → set.contains within t ≡ true → pos 0 <ℤ s t → pos 0 <ℤ r t
-  over t h o = elim (cases_eq t start) as (λ _. pos 0 <ℤ r t) [
-    | inl e ↦ omega (arith, ints, o, ap s e, ap r e, at_start)
-    | inr other ↦ elim (cases_eq t end) as (λ _. pos 0 <ℤ r t) [
-      | inl e ↦ absurd (omega (arith, ints, o, ap s e, at_end, m.lacks))
-      | inr neither ↦ omega (arith, ints, o, else_where t h other neither)
-    ]
-  ]
-
-  short : (t : ℕ) → set.contains within t ≡ true → s t <ℤ pos 0 → r t <ℤ pos 0
-  short t h l = elim (cases_eq t end) as (λ _. r t <ℤ pos 0) [
-    | inl e ↦ omega (arith, ints, l, ap s e, ap r e, at_end)
-    | inr other ↦ elim (cases_eq t start) as (λ _. r t <ℤ pos 0) [
-      | inl e ↦ absurd (omega (arith, ints, l, ap s e, at_start, m.enough))
-      | inr neither ↦ omega (arith, ints, l, else_where t h neither other)
-    ]
-  ]
-
   pub along : (es : List Entry) (at : ℕ) →
       ((c p : ℕ) → set.contains within c ≡ true → set.contains within p ≡ true → F c p < G c p → IsStep es at c p) → Along n parents within F G r s es at
-  along es at grown = record { below = m.below; grown = grown; over = over; short = short }
+  along es at grown = record {
+    below = m.below;
+    grown = grown;
+    over = over n parents within F G r s start end amount m;
+    short = short n parents within F G r s start end amount m;
+  }
 
   pub uses_up : (es : List Entry) (at limit : ℕ) → IsSearch n parents within F r es → at < length es
       → ((i : ℕ) × IsStart es at i × (start ≡ place_at es i))
       → ((u v : ℕ) → IsStep es at u v → set.contains (parents_at parents u) v ≡ false → G v u + amount ≡ F v u)
       → r end ≡ neg_ℤ (pos limit) → IsNarrowest parents F r es at limit amount → UsesUp parents within F G r s es at
   uses_up es at limit search inside begins taken lack narrow = elim narrow as (λ _. UsesUp parents within F G r s es at) [
-    | inl all ↦ inl (end, m.last, omega (arith, ints, all, lack, at_end), inr (omega (arith, ints, m.lacks, m.some)))
+    | inl all ↦
+        let sent = at_end n parents within F G r s start end amount m in
+        inl (end, m.last, omega (arith, ints, all, lack, sent), inr (omega (arith, ints, m.lacks, m.some)))
     | inr some ↦ elim some as (λ _. UsesUp parents within F G r s es at) [
       | inl first ↦
           let same : start ≡ place_at es first.0 = begins.2 ∙ ap (place_at es) (one_start es at begins.0 first.0 begins.1 first.1) in
-          inl (start, m.first, omega (arith, ints, at_start, ap r same, first.2), inl (omega (arith, ints, m.enough, m.some)))
+          let sent = at_start n parents within F G r s start end amount m in
+          inl (start, m.first, omega (arith, ints, sent, ap r same, first.2), inl (omega (arith, ints, m.enough, m.some)))
       | inr step ↦
           let both = step_in n parents within F r es at search inside step.0 step.1 step.2 in
           let gone = taken step.0 step.1 step.2 step.3 in

@@ -1,25 +1,18 @@
 -- How many searches there can be: each augmentation uses something up, and what can be used up is counted.
 use Rattle.std.proofs.Common.{◌≡◌, ℕ, suc, ◌+◌, ◌-◌, ◌*◌, ◌<◌, ◌≤◌, inl, inr, List, length, Bool, true, false, cond}
-use Rattle.std.proofs.Common.{◌&&◌, ◌||◌, nat_lt, ℤ, pos, ◌<ℤ◌, refl, ◌∙◌, subst, arith}
+use Rattle.std.proofs.Common.{◌&&◌, ◌||◌, nat_lt, ℤ, pos, ◌<ℤ◌, refl, subst, arith}
 use Rattle.std.proofs.Math.Nat.{mul-le-mul_right}
 use Rattle.std.proofs.lemmas.Bool.{cases_eq}
-use Rattle.std.proofs.lemmas.List.Sums.{count_by-le-length, length-filter}
-use Rattle.std.specs.List.{count_by, range_with_len}
+use Rattle.std.proofs.lemmas.List.Sums.{count_by-le-length}
+use Rattle.std.specs.List.{count_by}
 use Rattle.std.specs.Ordering.{nat_cmp}
 use Rattle.std.specs.FinSet as set
-use Rattle.bitset.specs.Places.{IsWithin, places}
-use Rattle.bitset.specs.Sets.{len-places}
+use Rattle.bitset.specs.Places.{places}
 use Rattle.closure_flow.specs.declared.queue.Entry.{Entry}
 use Rattle.closure_flow.specs.Labels.{Climbs, IsLabelling, IsShortest, Spends, is_some_left, is_uphill, unsettled, uphill}
 use Rattle.closure_flow.specs.Queues.{place_at, IsSearch}
-use Rattle.closure_flow.proofs.Counts.{count_mono, sum_bound, sum_none}
+use Rattle.closure_flow.proofs.Counts.{sum_bound, sum_none}
 use Rattle.closure_flow.proofs.Labellings.{climbs_too, not_lower, short_way}
-
-pub len_mono : (n : ℕ) (a s : set.FinSet nat_cmp) → IsWithin n s → ((t : ℕ) → set.contains a t ≡ true → set.contains s t ≡ true) → set.len a ≤ set.len s
-len_mono n a s below inside =
-    let first = len-places n a (λ t m. below t (inside t m)) ∙ length-filter (set.contains a) (range_with_len 0 n) in
-    let second = len-places n s below ∙ length-filter (set.contains s) (range_with_len 0 n) in
-    omega (arith, first, second, count_mono (set.contains a) (set.contains s) (range_with_len 0 n) (λ t h m. inside t m))
 
 -- ---- how much there is to be used up
 most_unsettled : (rest : ℕ → ℤ) (ts : List ℕ) → unsettled rest ts ≤ length ts

@@ -1,34 +1,20 @@
 -- The first places as a set to solve: its sums are those of the whole lists.
-use Rattle.std.proofs.Common.{◌≡◌, ℕ, zero, suc, ◌+◌, ◌<◌, ◌≤◌, List, [], ◌∷◌, length, get_or, Bool, true, false}
-use Rattle.std.proofs.Common.{cond, nat_lt, ℤ, pos, unsigned_abs, refl, sym, ap, ◌∙◌, arith, lt-ltb, le-ltb}
+use Rattle.std.proofs.Common.{◌≡◌, ℕ, suc, ◌+◌, ◌<◌, ◌≤◌, List, [], ◌∷◌, length, get_or, true}
+use Rattle.std.proofs.Common.{nat_lt, ℤ, pos, unsigned_abs, refl, sym, ap, ◌∙◌, arith}
 use Rattle.std.proofs.lemmas.Bool.Decides.{nat_tests}
 use Rattle.std.proofs.lemmas.Int.{ints}
 use Rattle.std.proofs.lemmas.List.Sums.{sum_by-cons}
-use Rattle.std.specs.List.{filter, range_with_len, sum_by}
+use Rattle.std.specs.List.{range_with_len, sum_by}
 use Rattle.std.specs.FinSet as set
+use Rattle.lists.proofs.Ranges.{first_pass}
 use Rattle.arithmetic.specs.Sums.{total}
 use Rattle.bitset.specs.Places.{first_places, places}
-use Rattle.bitset.specs.Sets.{contains-first_places, filter_agree_from}
+use Rattle.bitset.specs.Sets.{contains-first_places}
 use Rattle.closure_flow.specs.Closures.{weight_at, weight_of}
-
-none_pass : (p : ℕ → Bool) (a n : ℕ) → ((q : ℕ) → a ≤ q → p q ≡ false) → filter p (range_with_len a n) ≡ []
-none_pass p a zero h = refl
-none_pass p a (suc n) h =
-    ap (λ (b : Bool). cond b (a ∷ filter p (range_with_len (a + 1) n)) (filter p (range_with_len (a + 1) n))) (h a (omega arith))
-    ∙ none_pass p (a + 1) n (λ q k. h q (omega arith))
-
-first_pass : (a k n end : ℕ) → a + k ≡ end → k ≤ n → filter (λ q. nat_lt q end) (range_with_len a n) ≡ range_with_len a k
-first_pass a zero n end e h = none_pass (λ q. nat_lt q end) a n (λ q l. le-ltb q end (omega arith))
-first_pass a (suc k) zero end e h = absurd (omega arith)
-first_pass a (suc k) (suc n) end e h =
-    ap (λ (b : Bool). cond b (a ∷ filter (λ q. nat_lt q end) (range_with_len (a + 1) n)) (filter (λ q. nat_lt q end) (range_with_len (a + 1) n)))
-    (lt-ltb a end (omega arith))
-    ∙ ap (λ xs. a ∷ xs) (first_pass (a + 1) k n end (omega arith) (omega arith))
 
 pub places-first : (n k : ℕ) → k ≤ n → places n (first_places k) ≡ range_with_len 0 k
 places-first n k h =
-    filter_agree_from (set.contains (first_places k)) (λ q. nat_lt q k) 0 n (λ q l. contains-first_places k q)
-    ∙ first_pass 0 k n k (omega arith) h
+    first_pass (set.contains (first_places k)) 0 k n k (omega arith) h (λ q l. contains-first_places k q)
 
 pub total_read : (ws : List ℤ) (f : ℕ → ℤ) (a : ℕ) → ((i : ℕ) → i < length ws → f (a + i) ≡ get_or ws i (pos 0))
     → total f (range_with_len a (length ws)) ≡ total (λ z. z) ws

@@ -1,19 +1,20 @@
 -- The first flow: amounts that go from a place to parents of it, each place in its turn.
 use Rattle.std.proofs.Common.{◌≡◌, ℕ, ◌+◌, ◌-◌, ◌^◌, ◌<◌, ◌≤◌, ◌⊎◌, inl, inr, List, Bool, true, false, cond, nat_eq}
-use Rattle.std.proofs.Common.{ℤ, pos, negsuc, ◌+ℤ◌, ◌-ℤ◌, ◌<ℤ◌, refl, sym, ap, ◌∙◌, subst, arith, eq-eqb, ne_eqb}
+use Rattle.std.proofs.Common.{ℤ, pos, negsuc, ◌+ℤ◌, ◌-ℤ◌, ◌<ℤ◌, refl, sym, ap, ◌∙◌, subst, arith}
 use Rattle.std.proofs.lemmas.Bool.{cases_eq}
 use Rattle.std.proofs.lemmas.Int.{ints}
 use Rattle.std.specs.Ordering.{nat_cmp}
 use Rattle.std.specs.FinSet as set
 use Rattle.bitset.specs.Members.{from_remove}
 use Rattle.lists.proofs.Cases.{clash}
+use Rattle.lists.proofs.Told.{cases_two}
 use Rattle.lists.specs.Rising.{IsRising}
 use Rattle.bitset.specs.Places.{IsWithin, places}
 use Rattle.bitset.specs.Sets.{IsRising-places}
 use Rattle.closure_flow.specs.Closures.{parents_at}
 use Rattle.closure_flow.specs.Flows.{Among, net, only_at, surplus}
 use Rattle.closure_flow.specs.Networks.{Arranges, Gives, Hands, IsFirst, Improves, Keeps}
-use Rattle.closure_flow.proofs.Lists.{net_bump, only_at-else, only_at-here, surplus_bump, up_within}
+use Rattle.closure_flow.proofs.Lists.{net_bump, only_at-else, only_at-here, surplus_two, up_within}
 use Rattle.closure_flow.proofs.Paths.{among_places, places_among}
 use borrow.Author.Differences.{up, down}
 
@@ -47,19 +48,10 @@ surplus_given : (f g : ℕ → ℤ) (a b x : ℕ) (ts : List ℕ) → IsRising t
     → ((s : ℕ) → Among s ts → (s ≡ a → ⊥) → (s ≡ b → ⊥) → g s ≡ f s)
     → surplus g ts ≤ surplus f ts
 surplus_given f g a b x ts r ha hb apart enough ga gb same =
-    let h : ℕ → ℤ = λ s. cond (nat_eq s a) (g a) (f s) in
-    let here : h a ≡ g a = ap (λ (t : Bool). cond t (g a) (f a)) (eq-eqb a a refl) in
-    let elsewhere : (s : ℕ) → (s ≡ a → ⊥) → h s ≡ f s = λ s ne. ap (λ (t : Bool). cond t (g a) (f s)) (ne_eqb s a ne) in
-    let first : surplus h ts + up (f a) ≡ surplus f ts + up (h a) = surplus_bump f h a ts r ha (λ s m ne. elsewhere s ne) in
-    let second : surplus g ts + up (h b) ≡ surplus h ts + up (g b) =
-    surplus_bump h g b ts r hb (λ s m ne.
-    elim (cases_eq s a) as (λ _. g s ≡ h s) [
-      | inl e ↦ subst (λ (n : ℕ). g n ≡ h n) (sym e) (sym here)
-      | inr other ↦ same s m other ne ∙ sym (elsewhere s other)
-    ]) in
+    let both = surplus_two f g a b ts r ha hb apart same in
     let less : up (g a) + x ≡ up (f a) = ap (λ (z : ℤ). up z + x) ga ∙ up_left (f a) x enough in
     let more : up (g b) ≤ up (f b) + x = subst (λ (z : ℤ). up z ≤ up (f b) + x) (sym gb) (up_more (f b) x) in
-    omega (arith, first, second, ap up here, ap up (elsewhere b apart), less, more)
+    omega (arith, both, less, more)
 
 -- ---- an amount handed from a place to a parent of it, which has its turn later or lacks as much
 pub record IsHanding (n : ℕ) (parents : List (set.FinSet nat_cmp)) (within to_come : set.FinSet nat_cmp) (rest : ℕ → ℤ) (from to amount : ℕ) : Type 0 where
@@ -95,12 +87,6 @@ hands_short n parents within to_come F G r s from to amount h k =
     (rest_from n parents within to_come F G r s from to amount h k) (rest_to n parents within to_come F G r s from to amount h k)
     (λ t m a b. rest_other n F G r s from to amount t k (places_among n within t m).0 a b)
 
-this_or_not : (c p a b : ℕ) → ((c ≡ a) × (p ≡ b)) ⊎ ((c ≡ a) × (p ≡ b) → ⊥)
-this_or_not c p a b = elim (cases_eq c a) as (λ _. ((c ≡ a) × (p ≡ b)) ⊎ ((c ≡ a) × (p ≡ b) → ⊥)) [
-  | inl e ↦ elim (cases_eq p b) as (λ _. ((c ≡ a) × (p ≡ b)) ⊎ ((c ≡ a) × (p ≡ b) → ⊥)) [ inl f ↦ inl (e, f) | inr ne ↦ inr (λ q. ne q.1) ]
-  | inr ne ↦ inr (λ q. ne q.0)
-]
-
 first_hand : (n : ℕ) (parents : List (set.FinSet nat_cmp)) (within to_come : set.FinSet nat_cmp) (F G : ℕ → ℕ → ℕ) (r s : ℕ → ℤ) (from to amount : ℕ)
     → IsHanding n parents within to_come r from to amount → Hands n F r G s from to amount → IsFirst n parents within to_come F r
     → IsFirst n parents within to_come G s
@@ -111,7 +97,7 @@ first_hand n parents within to_come F G r s from to amount h k old =
     lower = hands_short n parents within to_come F G r s from to amount h k
 
     allowed : (c p : ℕ) → c < n → set.contains within p ≡ true → 0 < G c p → (set.contains within c ≡ true) × (set.contains (parents_at parents c) p ≡ true)
-    allowed c p hc m f = elim (this_or_not c p from to) as (λ _. (set.contains within c ≡ true) × (set.contains (parents_at parents c) p ≡ true)) [
+    allowed c p hc m f = elim (cases_two c p from to) as (λ _. (set.contains within c ≡ true) × (set.contains (parents_at parents c) p ≡ true)) [
       | inl e ↦ (
         ap (λ (x : ℕ). set.contains within x) e.0 ∙ h.from_in,
         subst (λ (x : ℕ). set.contains (parents_at parents x) p ≡ true) (sym e.0)

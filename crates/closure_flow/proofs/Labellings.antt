@@ -1,9 +1,9 @@
 -- What sending along a shortest path does to a labelling: it stays one, no pair of places is new where it rises, and a
 -- pair or a place that was unsettled is used up.
-use Rattle.std.proofs.Common.{◌≡◌, ℕ, zero, suc, ◌+◌, ◌<◌, ◌≤◌, ◌⊎◌, inl, inr, List, length, Bool, true, false, ◌&&◌}
+use Rattle.std.proofs.Common.{◌≡◌, ℕ, zero, suc, ◌+◌, ◌<◌, ◌≤◌, ◌⊎◌, inl, inr, List, length, true, false}
 use Rattle.std.proofs.Common.{◌||◌, nat_eq, nat_lt, Option, Some, None, ℤ, pos, negsuc, ◌<ℤ◌, refl, sym, ap, ◌∙◌}
 use Rattle.std.proofs.Common.{subst, arith, eq-eqb, ne_eqb}
-use Rattle.std.proofs.lemmas.Bool.{cases_eq, cases_lt, lt-ltb, ltb-true, false_from_ne_true}
+use Rattle.std.proofs.lemmas.Bool.{cases_eq, cases_lt, lt-ltb, ltb-true, false_from_ne_true, and_parts, and_from, or_cases, or_left, or_right}
 use Rattle.std.proofs.lemmas.Int.{ints}
 use Rattle.std.specs.List.{count_by}
 use Rattle.std.specs.Ordering.{nat_cmp}
@@ -19,31 +19,12 @@ use Rattle.closure_flow.proofs.Counts.{count_mono, count_strict, sum_mono, sum_s
 use Rattle.closure_flow.proofs.Levels.{back_below}
 use Rattle.closure_flow.proofs.Paths.{among_places, places_among}
 
--- ---- tests
-both_of : (a b : Bool) → (a && b) ≡ true → (a ≡ true) × (b ≡ true)
-both_of true b e = (refl, e)
-both_of false b e = absurd (let f : false ≡ true = e in cc)
-
-to_both : (a b : Bool) → a ≡ true → b ≡ true → (a && b) ≡ true
-to_both a b e f = ap (λ (x : Bool). x && b) e ∙ f
-
-either_of : (a b : Bool) → (a || b) ≡ true → (a ≡ true) ⊎ (b ≡ true)
-either_of true b e = inl refl
-either_of false b e = inr e
-
-left_of : (a b : Bool) → a ≡ true → (a || b) ≡ true
-left_of a b e = ap (λ (x : Bool). x || b) e
-
-right_of : (a b : Bool) → b ≡ true → (a || b) ≡ true
-right_of true b e = refl
-right_of false b e = e
-
 -- ---- what is uphill
 leads_of : (parents : List (set.FinSet nat_cmp)) (flow : ℕ → ℕ → ℕ) (label : ℕ → ℕ) (u v : ℕ) → is_uphill parents flow label u v ≡ true
     → Leads parents flow u v × (label v ≡ label u + 1)
 leads_of parents flow label u v e =
-    let both = both_of (set.contains (parents_at parents u) v || nat_lt 0 (flow v u)) (nat_eq (label v) (label u + 1)) e in (
-      elim (either_of (set.contains (parents_at parents u) v) (nat_lt 0 (flow v u)) both.0) as (λ _. Leads parents flow u v) [
+    let both = and_parts (set.contains (parents_at parents u) v || nat_lt 0 (flow v u)) (nat_eq (label v) (label u + 1)) e in (
+      elim (or_cases (set.contains (parents_at parents u) v) (nat_lt 0 (flow v u)) both.0) as (λ _. Leads parents flow u v) [
         | inl p ↦ inl p
         | inr f ↦ inr (ltb-true 0 (flow v u) f)
       ],
@@ -52,8 +33,8 @@ leads_of parents flow label u v e =
 
 of_leads : (parents : List (set.FinSet nat_cmp)) (flow : ℕ → ℕ → ℕ) (label : ℕ → ℕ) (u v : ℕ) → Leads parents flow u v → label v ≡ label u + 1
     → is_uphill parents flow label u v ≡ true
-of_leads parents flow label u v (inl p) e = to_both _ _ (left_of _ _ p) (eq-eqb _ _ e)
-of_leads parents flow label u v (inr f) e = to_both _ _ (right_of _ _ (lt-ltb 0 (flow v u) f)) (eq-eqb _ _ e)
+of_leads parents flow label u v (inl p) e = and_from _ _ (or_left _ _ p) (eq-eqb _ _ e)
+of_leads parents flow label u v (inr f) e = and_from _ _ (or_right _ _ (lt-ltb 0 (flow v u) f)) (eq-eqb _ _ e)
 
 -- ---- what is unsettled
 some_left : (z : ℤ) → is_some_left z ≡ true → (pos 0 <ℤ z) ⊎ (z <ℤ pos 0)

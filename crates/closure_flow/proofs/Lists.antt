@@ -120,6 +120,23 @@ surplus_bump f g k (x ∷ xs) r (inr h) same =
     let tail : surplus g xs + up (f k) ≡ surplus f xs + up (g k) = surplus_bump f g k xs r.1 h (λ s m. same s (inr m)) in
     omega arith
 
+-- two entries change
+pub surplus_two : (f g : ℕ → ℤ) (a b : ℕ) (ts : List ℕ) → IsRising ts → Among a ts → Among b ts → (b ≡ a → ⊥)
+    → ((s : ℕ) → Among s ts → (s ≡ a → ⊥) → (s ≡ b → ⊥) → g s ≡ f s)
+    → surplus g ts + up (f a) + up (f b) ≡ surplus f ts + up (g a) + up (g b)
+surplus_two f g a b ts r ha hb apart same =
+    let h : ℕ → ℤ = λ s. cond (nat_eq s a) (g a) (f s) in
+    let here : h a ≡ g a = ap (λ (t : Bool). cond t (g a) (f a)) (eq-eqb a a refl) in
+    let elsewhere : (s : ℕ) → (s ≡ a → ⊥) → h s ≡ f s = λ s ne. ap (λ (t : Bool). cond t (g a) (f s)) (ne_eqb s a ne) in
+    let first : surplus h ts + up (f a) ≡ surplus f ts + up (h a) = surplus_bump f h a ts r ha (λ s m ne. elsewhere s ne) in
+    let second : surplus g ts + up (h b) ≡ surplus h ts + up (g b) =
+    surplus_bump h g b ts r hb (λ s m ne.
+    elim (cases_eq s a) as (λ _. g s ≡ h s) [
+      | inl e ↦ subst (λ (n : ℕ). g n ≡ h n) (sym e) (sym here)
+      | inr other ↦ same s m other ne ∙ sym (elsewhere s other)
+    ]) in
+    omega (arith, first, second, ap up here, ap up (elsewhere b apart))
+
 up_less : (z : ℤ) (x : ℕ) → pos x ≤ℤ z → up (z -ℤ pos x) + x ≡ up z
 up_less (pos n) x h =
     let is : pos n -ℤ pos x ≡ pos (n - x) = omega (arith, ints, h) in
@@ -137,17 +154,8 @@ pub surplus_moved : (f g : ℕ → ℤ) (a b : ℕ) (x : ℕ) (ts : List ℕ) �
     → surplus g ts + x ≡ surplus f ts
 surplus_moved f g a b x ts r ha hb enough lacking some ga gb same =
     let apart : b ≡ a → ⊥ = λ q. omega (arith, ints, enough, lacking, some, ap f q) in
-    let h : ℕ → ℤ = λ s. cond (nat_eq s a) (g a) (f s) in
-    let here : h a ≡ g a = ap (λ (t : Bool). cond t (g a) (f a)) (eq-eqb a a refl) in
-    let elsewhere : (s : ℕ) → (s ≡ a → ⊥) → h s ≡ f s = λ s ne. ap (λ (t : Bool). cond t (g a) (f s)) (ne_eqb s a ne) in
-    let first : surplus h ts + up (f a) ≡ surplus f ts + up (h a) = surplus_bump f h a ts r ha (λ s m ne. elsewhere s ne) in
-    let second : surplus g ts + up (h b) ≡ surplus h ts + up (g b) =
-    surplus_bump h g b ts r hb (λ s m ne.
-    elim (cases_eq s a) as (λ _. g s ≡ h s) [
-      | inl e ↦ subst (λ (n : ℕ). g n ≡ h n) (sym e) (sym here)
-      | inr other ↦ same s m other ne ∙ sym (elsewhere s other)
-    ]) in
+    let both = surplus_two f g a b ts r ha hb apart same in
     let less : up (g a) + x ≡ up (f a) = ap (λ (z : ℤ). up z + x) ga ∙ up_less (f a) x enough in
     let none : up (f b) ≡ 0 = up_none (f b) (omega (arith, ints, lacking)) in
     let still : up (g b) ≡ 0 = up_none (g b) (omega (arith, ints, lacking, gb)) in
-    omega (arith, first, second, ap up here, ap up (elsewhere b apart), less, none, still)
+    omega (arith, both, less, none, still)

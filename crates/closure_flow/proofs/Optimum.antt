@@ -1,9 +1,9 @@
 -- When no search goes on: the places reached are a closed set of greatest weight, and none is reached exactly where the flow is balanced.
-use Rattle.std.proofs.Common.{◌≡◌, ℕ, ◌^◌, ◌<◌, ◌≤◌, inl, inr, List, [], ◌∷◌, length, Bool, true, false, not, cond}
+use Rattle.std.proofs.Common.{◌≡◌, ℕ, ◌^◌, ◌<◌, ◌≤◌, inl, inr, List, [], ◌∷◌, Bool, true, false, not, cond}
 use Rattle.std.proofs.Common.{Option, Some, None, MatchOption, is_some, ℤ, pos, negsuc, ◌+ℤ◌, ◌-ℤ◌, ◌<ℤ◌}
 use Rattle.std.proofs.Common.{unsigned_abs, refl, sym, ap, ◌∙◌, subst, arith}
 use Rattle.std.proofs.lemmas.Int.{ints}
-use Rattle.std.proofs.lemmas.List.Sums.{sum_by-cons}
+use Rattle.std.proofs.lemmas.List.Sums.{count_by-le-length, sum_by-cons}
 use Rattle.std.specs.List.{count_by, range_with_len, sum_by}
 use Rattle.std.specs.Ordering.{nat_cmp}
 use Rattle.std.specs.FinSet as set
@@ -243,16 +243,8 @@ greatest_where_sealed n weights parents within flow rest s e sealed =
     (none_heavier n weights parents within flow rest e)
 
 -- ---- counting
-count_le : (p : ℕ → Bool) (xs : List ℕ) → count_by p xs ≤ length xs
-count_le p [] = omega arith
-count_le p (x ∷ xs) = omega (arith, sum_by-cons (λ y. cond (p y) 1 0) x xs, count_le p xs, one (p x))
-  where
-    one : (b : Bool) → cond b 1 0 ≤ 1
-    one true = omega arith
-    one false = omega arith
-
 pub count_within : (n : ℕ) (p : ℕ → Bool) (s : set.FinSet nat_cmp) → IsWithin n s → count_by p (places n s) ≤ set.len s
-count_within n p s w = omega (arith, count_le p (places n s), len-places n s w)
+count_within n p s w = omega (arith, count_by-le-length p (places n s), len-places n s w)
 
 -- more steps than before were counted, where each place of a set with a member was one
 pub counted_some : (s : set.FinSet nat_cmp) (t : ℕ) → set.contains s t ≡ true → 0 < set.len s

@@ -8,6 +8,7 @@ use Rattle.std.specs.List.{filter, range_with_len}
 use Rattle.std.specs.Ordering.{nat_cmp}
 use Rattle.std.specs.FinSet as set
 use Rattle.lists.proofs.Cases.{clash}
+use Rattle.lists.proofs.Told.{cases_two}
 use Rattle.bitset.specs.Places.{IsWithin, places}
 use Rattle.bitset.specs.Sets.{IsRising-places}
 use Rattle.closure_flow.specs.declared.queue.Entry.{Entry}
@@ -128,14 +129,8 @@ pushes n parents within G H from to amount a b d below old u_in v_in other way h
         smaller : (x y : ℕ) (e : ℤ) → pos x ≡ pos y +ℤ e → e ≡ neg_ℤ (pos amount) → x ≤ y + amount
         smaller x y e k q = omega (arith, ints, k, q)
 
-    this_or_not : (c p : ℕ) → ((c ≡ a) × (p ≡ b)) ⊎ ((c ≡ a) × (p ≡ b) → ⊥)
-    this_or_not c p = elim (cases_eq c a) as (λ _. ((c ≡ a) × (p ≡ b)) ⊎ ((c ≡ a) × (p ≡ b) → ⊥)) [
-      | inl e ↦ elim (cases_eq p b) as (λ _. ((c ≡ a) × (p ≡ b)) ⊎ ((c ≡ a) × (p ≡ b) → ⊥)) [ inl f ↦ inl (e, f) | inr ne ↦ inr (λ q. ne q.1) ]
-      | inr ne ↦ inr (λ q. ne q.0)
-    ]
-
     more : (c p : ℕ) → c < n → p < n → H c p ≤ G c p + amount
-    more c p m k = elim (this_or_not c p) as (λ _. H c p ≤ G c p + amount) [
+    more c p m k = elim (cases_two c p a b) as (λ _. H c p ≤ G c p + amount) [
       | inl e ↦ subst (λ (x : ℕ). H x p ≤ G x p + amount) (sym e.0) (subst (λ (y : ℕ). H a y ≤ G a y + amount) (sym e.1) grown)
       | inr ne ↦ omega (arith, others c p m k ne)
     ]
@@ -144,7 +139,7 @@ pushes n parents within G H from to amount a b d below old u_in v_in other way h
     apart c p m k x y = others c p m k (λ q. elim way as (λ _. ⊥) [ inl f ↦ x (q.0 ∙ f.0, q.1 ∙ f.1) | inr f ↦ y (q.0 ∙ f.0, q.1 ∙ f.1) ])
 
     allowed : IsAllowed n parents within H
-    allowed c p m k f = elim (this_or_not c p) as (λ _. (set.contains within c ≡ true) × (set.contains (parents_at parents c) p ≡ true)) [
+    allowed c p m k f = elim (cases_two c p a b) as (λ _. (set.contains within c ≡ true) × (set.contains (parents_at parents c) p ≡ true)) [
       | inl e ↦ (
         ap (λ (x : ℕ). set.contains within x) e.0 ∙ a_in,
         subst (λ (x : ℕ). set.contains (parents_at parents x) p ≡ true) (sym e.0)
@@ -197,21 +192,15 @@ sends_step n parents within F G H rest es at here before amount below s h lt sen
         (λ q. omega (arith, s.once j here lj h q.1, hj, lt)) (λ q. omega (arith, s.once i here li h q.0, hi, lt))
         ∙ sent.still i j (omega (arith, hi, lt)) (omega (arith, hj, lt))
 
-    this_or_not : (c p x y : ℕ) → ((c ≡ x) × (p ≡ y)) ⊎ ((c ≡ x) × (p ≡ y) → ⊥)
-    this_or_not c p x y = elim (cases_eq c x) as (λ _. ((c ≡ x) × (p ≡ y)) ⊎ ((c ≡ x) × (p ≡ y) → ⊥)) [
-      | inl e ↦ elim (cases_eq p y) as (λ _. ((c ≡ x) × (p ≡ y)) ⊎ ((c ≡ x) × (p ≡ y) → ⊥)) [ inl f ↦ inl (e, f) | inr ne ↦ inr (λ q. ne q.1) ]
-      | inr ne ↦ inr (λ q. ne q.0)
-    ]
-
     at_pair : (i j : ℕ) → i ≤ here → j ≤ here → H (place_at es i) (place_at es j) ≤ F (place_at es i) (place_at es j) + amount
     at_pair i j hi hj =
         omega (arith, push.more (place_at es i) (place_at es j) (s.below i (omega (arith, hi, h))) (s.below j (omega (arith, hj, h))), sent.still i j hi hj)
 
     more : (c p : ℕ) → set.contains within c ≡ true → set.contains within p ≡ true → H c p ≤ F c p + amount
-    more c p m k = elim (this_or_not c p (place_at es before) (place_at es here)) as (λ _. H c p ≤ F c p + amount) [
+    more c p m k = elim (cases_two c p (place_at es before) (place_at es here)) as (λ _. H c p ≤ F c p + amount) [
       | inl e ↦ subst (λ (x : ℕ). H x p ≤ F x p + amount) (sym e.0)
           (subst (λ (y : ℕ). H (place_at es before) y ≤ F (place_at es before) y + amount) (sym e.1) (at_pair before here (omega (arith, lt)) (omega arith)))
-      | inr ne ↦ elim (this_or_not c p (place_at es here) (place_at es before)) as (λ _. H c p ≤ F c p + amount) [
+      | inr ne ↦ elim (cases_two c p (place_at es here) (place_at es before)) as (λ _. H c p ≤ F c p + amount) [
         | inl e ↦ subst (λ (x : ℕ). H x p ≤ F x p + amount) (sym e.0)
             (subst (λ (y : ℕ). H (place_at es here) y ≤ F (place_at es here) y + amount) (sym e.1) (at_pair here before (omega arith) (omega (arith, lt))))
         | inr nf ↦ omega (arith, push.others c p (below c m) (below p k) ne nf, sent.more c p m k)

@@ -6,9 +6,10 @@ use Rattle.std.proofs.lemmas.List.{get_or_push, get_or_append_left}
 use Rattle.std.specs.Ordering.{nat_cmp}
 use Rattle.std.specs.FinSet as set
 use Rattle.lists.proofs.Cases.{clash}
-use Rattle.bitset.specs.Members.{insert_here, insert_other, from_insert, to_insert, from_remove, remove_other, remove_here, len_insert, room_for}
+use Rattle.lists.proofs.Keys.{set_drop}
+use Rattle.bitset.specs.Members.{insert_here, insert_other, from_insert, to_insert, from_remove, remove_other, len_insert, room_for}
 use Rattle.bitset.specs.Places.{IsWithin}
-use Rattle.bitset.specs.Sets.{contains-empty, same_members}
+use Rattle.bitset.specs.Sets.{contains-empty}
 use Rattle.closure_flow.specs.declared.queue.Entry.{Entry}
 use Rattle.closure_flow.specs.Queues.{place_at, from_at, Lists, Grows}
 
@@ -141,16 +142,6 @@ pub putting_room : (n : ℕ) (before es : List Entry) (first seen next left : se
 putting_room n before es first seen next left from t p m h =
     omega (arith, p.lists.count, room_for n seen t p.within h (p.apart t m))
 
--- a member taken out is one member fewer
-pub taken_out : (left : set.FinSet nat_cmp) (t : ℕ) → set.contains left t ≡ true → set.len (set.remove left t) + 1 ≡ set.len left
-taken_out left t m =
-    let back : set.insert (set.remove left t) t ≡ left = same_members _ left (λ q.
-    elim (cases_eq q t) as (λ _. set.contains (set.insert (set.remove left t) t) q ≡ set.contains left q) [
-      | inl e ↦ subst (λ (x : ℕ). set.contains (set.insert (set.remove left t) t) x ≡ set.contains left x) (sym e) (insert_here (set.remove left t) t ∙ sym m)
-      | inr ne ↦ insert_other (set.remove left t) t q ne ∙ remove_other left t q ne
-    ]) in
-    omega (arith, len_insert (set.remove left t) t (remove_here left t), ap (λ (x : set.FinSet nat_cmp). set.len x) back)
-
 -- the work left gets less
 pub fewer : (left : set.FinSet nat_cmp) (t : ℕ) → set.contains left t ≡ true → set.len (set.remove left t) < set.len left
-fewer left t m = omega (arith, taken_out left t m)
+fewer left t m = omega (arith, set_drop left t m)

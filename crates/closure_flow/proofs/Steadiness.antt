@@ -1,6 +1,7 @@
 -- What an amount that went from one place to another leaves.
-use Rattle.std.proofs.Common.{◌≡◌, ℕ, ◌+◌, ◌^◌, ◌<◌, ◌≤◌, List, true, min, ℤ, pos, negsuc, ◌+ℤ◌, ◌-ℤ◌, neg_ℤ, ◌≤ℤ◌}
+use Rattle.std.proofs.Common.{◌≡◌, ℕ, ◌+◌, ◌^◌, ◌<◌, ◌≤◌, inl, inr, List, true, min, ℤ, pos, negsuc, ◌+ℤ◌, ◌-ℤ◌, neg_ℤ, ◌≤ℤ◌}
 use Rattle.std.proofs.Common.{◌<ℤ◌, unsigned_abs, SFits, to_z, of_z, get_or, refl, sym, ap, ◌∙◌, subst, arith}
+use Rattle.std.proofs.lemmas.Bool.{cases_eq}
 use Rattle.std.proofs.lemmas.Int.{ints, to_z-of_z}
 use Rattle.std.specs.Int.{w128}
 use Rattle.std.specs.Ordering.{nat_cmp}
@@ -8,7 +9,7 @@ use Rattle.std.specs.FinSet as set
 use Rattle.bitset.specs.Places.{IsWithin, places}
 use Rattle.bitset.specs.Sets.{IsRising-places}
 use Rattle.closure_flow.specs.Closures.{weight_at}
-use Rattle.closure_flow.specs.Flows.{Among, net, surplus, only_at}
+use Rattle.closure_flow.specs.Flows.{net, surplus, only_at}
 use Rattle.closure_flow.specs.Networks.{IsSized, sent, Improves, IsAllowed, IsSteady, Keeps}
 use Rattle.closure_flow.proofs.Lists.{surplus_moved, only_at-here, only_at-else}
 use Rattle.closure_flow.proofs.Networks.{read_rest}
@@ -32,24 +33,43 @@ pub record Moves (n : ℕ) (parents : List (set.FinSet nat_cmp)) (within : set.F
 pub apart_ends : (r : ℕ → ℤ) (start end amount : ℕ) → 0 < amount → pos amount ≤ℤ r start → r end ≤ℤ neg_ℤ (pos amount) → start ≡ end → ⊥
 apart_ends r start end amount some enough lacks e = omega (arith, ints, some, enough, lacks, ap r e)
 
-pub moves_falls : (n : ℕ) (parents : List (set.FinSet nat_cmp)) (within : set.FinSet nat_cmp) (F G : ℕ → ℕ → ℕ) (r s : ℕ → ℤ) (start end amount : ℕ)
-    → Moves n parents within F G r s start end amount → surplus s (places n within) + amount ≡ surplus r (places n within)
-moves_falls n parents within F G r s start end amount m =
-    surplus_moved r s start end amount (places n within) (IsRising-places n within)
-    (among_places n within start (m.below _ m.first) m.first) (among_places n within end (m.below _ m.last) m.last)
-    m.enough m.lacks m.some at_start at_end at_others
-  where
-    apart : start ≡ end → ⊥
-    apart = apart_ends r start end amount m.some m.enough m.lacks
+module _ (n : ℕ) (parents : List (set.FinSet nat_cmp)) (within : set.FinSet nat_cmp) (F G : ℕ → ℕ → ℕ) (r s : ℕ → ℤ) (start end amount : ℕ)
+    (m : Moves n parents within F G r s start end amount) where
+  apart : start ≡ end → ⊥
+  apart = apart_ends r start end amount m.some m.enough m.lacks
 
-    at_start : s start ≡ r start -ℤ pos amount
-    at_start = omega (arith, ints, m.rests start (m.below _ m.first), only_at-here start (pos amount), only_at-else end start (pos amount) apart)
+  pub at_start : s start ≡ r start -ℤ pos amount
+  at_start = omega (arith, ints, m.rests start (m.below _ m.first), only_at-here start (pos amount), only_at-else end start (pos amount) apart)
 
-    at_end : s end ≡ r end +ℤ pos amount
-    at_end = omega (arith, ints, m.rests end (m.below _ m.last), only_at-here end (pos amount), only_at-else start end (pos amount) (λ e. apart (sym e)))
+  pub at_end : s end ≡ r end +ℤ pos amount
+  at_end = omega (arith, ints, m.rests end (m.below _ m.last), only_at-here end (pos amount), only_at-else start end (pos amount) (λ e. apart (sym e)))
 
-    at_others : (t : ℕ) → Among t (places n within) → (t ≡ start → ⊥) → (t ≡ end → ⊥) → s t ≡ r t
-    at_others t h a b = omega (arith, ints, m.rests t (places_among n within t h).0, only_at-else start t (pos amount) a, only_at-else end t (pos amount) b)
+  else_where : (t : ℕ) → t < n → (t ≡ start → ⊥) → (t ≡ end → ⊥) → s t ≡ r t
+  else_where t h a b = omega (arith, ints, m.rests t h, only_at-else start t (pos amount) a, only_at-else end t (pos amount) b)
+
+  pub over : (t : ℕ) → set.contains within t ≡ true → pos 0 <ℤ s t → pos 0 <ℤ r t
+  over t h o = elim (cases_eq t start) as (λ _. pos 0 <ℤ r t) [
+    | inl e ↦ omega (arith, ints, o, ap s e, ap r e, at_start)
+    | inr other ↦ elim (cases_eq t end) as (λ _. pos 0 <ℤ r t) [
+      | inl e ↦ absurd (omega (arith, ints, o, ap s e, at_end, m.lacks))
+      | inr neither ↦ omega (arith, ints, o, else_where t (m.below t h) other neither)
+    ]
+  ]
+
+  pub short : (t : ℕ) → set.contains within t ≡ true → s t <ℤ pos 0 → r t <ℤ pos 0
+  short t h l = elim (cases_eq t end) as (λ _. r t <ℤ pos 0) [
+    | inl e ↦ omega (arith, ints, l, ap s e, ap r e, at_end)
+    | inr other ↦ elim (cases_eq t start) as (λ _. r t <ℤ pos 0) [
+      | inl e ↦ absurd (omega (arith, ints, l, ap s e, at_start, m.enough))
+      | inr neither ↦ omega (arith, ints, l, else_where t (m.below t h) neither other)
+    ]
+  ]
+
+  pub moves_falls : surplus s (places n within) + amount ≡ surplus r (places n within)
+  moves_falls =
+      surplus_moved r s start end amount (places n within) (IsRising-places n within)
+      (among_places n within start (m.below _ m.first) m.first) (among_places n within end (m.below _ m.last) m.last)
+      m.enough m.lacks m.some at_start at_end (λ t h a b. else_where t (places_among n within t h).0 a b)
 
 pub moves_steady : (n : ℕ) (parents : List (set.FinSet nat_cmp)) (within : set.FinSet nat_cmp) (F G : ℕ → ℕ → ℕ) (r s : ℕ → ℤ) (start end amount : ℕ)
     → Moves n parents within F G r s start end amount → IsSteady n parents within F r → IsSteady n parents within G s

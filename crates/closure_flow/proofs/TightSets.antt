@@ -1,27 +1,24 @@
 -- Tight sets are those that a search finds: closed, with all that send flow to them.
-use Rattle.std.proofs.Common.{◌≡◌, ℕ, ◌+◌, ◌*◌, ◌^◌, ◌<◌, ◌≤◌, ◌⊎◌, inl, inr, List, [], ◌∷◌, length, Bool, true}
+use Rattle.std.proofs.Common.{◌≡◌, ℕ, ◌+◌, ◌*◌, ◌^◌, ◌<◌, ◌≤◌, ◌⊎◌, inl, inr, List, length, Bool, true}
 use Rattle.std.proofs.Common.{false, cond, Option, Some, None, MatchOption, is_some, not}
-use Rattle.std.proofs.Common.{ℤ, pos, refl, sym, ap, ◌∙◌, subst, arith}
-use Rattle.std.specs.Prelude.{Contains}
+use Rattle.std.proofs.Common.{ℤ, pos, sym, ap, ◌∙◌, subst, arith}
 use Rattle.std.proofs.lemmas.Bool.{cases_Bool, cases_eq, cases_lt, false_from_ne_true}
 use Rattle.std.proofs.lemmas.Int.{ints}
 use Rattle.std.proofs.Math.Nat.{mul-le-mul, mul-le-mul_right}
 use Rattle.std.specs.Ordering.{nat_cmp}
 use Rattle.std.specs.FinSet as set
 use Rattle.lists.proofs.Cases.{clash}
-use Rattle.lists.proofs.Entries.{Contains-head}
+use Rattle.lists.proofs.Keys.{set_within, set_some}
 use Rattle.arithmetic.specs.Sums.{total}
-use Rattle.bitset.specs.Members.{empty_has_none, from_insert, len_bound, insert_here, from_remove, remove_other}
-use Rattle.bitset.specs.Members.{minus_parts, from_meet, to_meet, to_union_right}
+use Rattle.bitset.specs.Members.{empty_has_none, from_insert, len_bound, insert_here, from_remove, remove_other, minus_parts, from_meet, to_meet, to_union_right}
 use Rattle.bitset.specs.Places.{IsLeast, IsWithin, places}
-use Rattle.bitset.specs.Sets.{contains-empty, len-places, places-Contains}
+use Rattle.bitset.specs.Sets.{contains-empty}
 use Rattle.closure_flow.specs.declared.queue.Entry.{Entry}
 use Rattle.closure_flow.specs.Closures.{IsBalanced, IsClosed, parents_at, weight_at, weight_of}
 use Rattle.closure_flow.specs.Flows.{Among, net}
 use Rattle.closure_flow.specs.Networks.{IsAllowed, IsSized}
 use Rattle.closure_flow.specs.Queues.{Grows, IsBeyond, Lists, place_at}
 use Rattle.closure_flow.specs.Tight.{AreApart, IsDrawn, IsDrawnBy, IsFewestDrawn, IsLeastTight, IsSmallestTight, IsTight}
-use Rattle.closure_flow.proofs.Budgets.{len_mono}
 use Rattle.closure_flow.proofs.Cuts.{inside, net_of_entered, net_of_sealed}
 use Rattle.closure_flow.proofs.Lists.{total_along}
 use Rattle.closure_flow.proofs.Optimum.{counted_some, out_and_in, weight_inside}
@@ -185,7 +182,7 @@ module _ (n : ℕ) (parents : List (set.FinSet nat_cmp)) (within : set.FinSet na
   -- no more was seen than there is
   pub drawing_few : (es : List Entry) (k : ℕ) (seen : set.FinSet nat_cmp) → IsWithin n within → Drawing n parents within flow place es k seen
       → length es ≤ set.len within
-  drawing_few es k seen below s = omega (arith, s.lists.count, len_mono n seen within below s.inside)
+  drawing_few es k seen below s = omega (arith, s.lists.count, set_within seen within s.inside)
 
 -- a place that is answered is the least of a set
 pub met_some : (o : Option ℕ) (b : Bool) (s : set.FinSet nat_cmp) → is_some o ≡ b → b ≡ true → MatchOption o (s ≡ set.empty) (IsLeast s)
@@ -214,14 +211,6 @@ pub record Seeking (n : ℕ) (parents : List (set.FinSet nat_cmp)) (within : set
   pub inside : (t : ℕ) → set.contains left t ≡ true → set.contains within t ≡ true
   pub past : (t : ℕ) (x : set.FinSet nat_cmp) → set.contains within t ≡ true → set.contains left t ≡ false
       → IsDrawn n parents within flow x → set.contains x t ≡ true → set.len best ≤ set.len x
-
--- a set of numbers below n that isn't empty has a member
-some_member : (n : ℕ) (s : set.FinSet nat_cmp) → IsWithin n s → 0 < set.len s → (t : ℕ) × (set.contains s t ≡ true)
-some_member n s below some = first (places n s) refl
-  where
-    first : (xs : List ℕ) → places n s ≡ xs → (t : ℕ) × (set.contains s t ≡ true)
-    first [] e = absurd (omega (arith, some, len-places n s below, ap length e))
-    first (x ∷ xs) e = (x, (places-Contains n s x (subst (λ ys. Contains ys x) (sym e) (Contains-head x xs))).1)
 
 module _ (n : ℕ) (parents : List (set.FinSet nat_cmp)) (within : set.FinSet nat_cmp) (flow : ℕ → ℕ → ℕ) (below : IsWithin n within) where
   pub seeking_start : 0 < set.len within → IsAllowed n parents within flow → Seeking n parents within flow within within
@@ -261,7 +250,7 @@ module _ (n : ℕ) (parents : List (set.FinSet nat_cmp)) (within : set.FinSet na
       this : (x : set.FinSet nat_cmp) → IsDrawn n parents within flow x → set.contains x place ≡ true → set.len best' ≤ set.len x
       this x x_drawn k = elim second as (λ _. set.len best' ≤ set.len x) [
         | inl less ↦
-            let most = len_mono n found x (λ q h. below q (x_drawn.inside q h)) (by x x_drawn k) in
+            let most = set_within found x (by x x_drawn k) in
             omega (arith, less, most)
         | inr met ↦
             let both = minus_parts within left met.0 (subst (λ q. set.contains q met.0 ≡ true) is met.2) in
@@ -274,9 +263,10 @@ module _ (n : ℕ) (parents : List (set.FinSet nat_cmp)) (within : set.FinSet na
   seeking_end best left s none = record {
     drawn = s.drawn;
     some = s.some;
-    fewest = λ x drawn some.
-        let found = some_member n x (λ q h. below q (drawn.inside q h)) some in
-        s.past found.0 x (drawn.inside found.0 found.1) (ap (λ q. set.contains q found.0) none ∙ contains-empty found.0) drawn found.1;
+    fewest = λ x drawn some. elim (set_some x) [
+      | inl empty ↦ absurd (omega (arith, empty, some))
+      | inr found ↦ s.past found.0 x (drawn.inside found.0 found.1) (ap (λ q. set.contains q found.0) none ∙ contains-empty found.0) drawn found.1
+    ];
   }
 
   -- none has fewer than one

@@ -9,7 +9,7 @@ use Rattle.closure_flow.specs.Networks.{sent}
 use Rattle.closure_flow.specs.declared.queue.Entry.{Entry}
 use Rattle.closure_flow.proofs.Networks.{words_fit}
 use Rattle.closure_flow.proofs.Queues.{lists_none}
-use Rattle.closure_flow.proofs.Budgets.{len_mono}
+use Rattle.lists.proofs.Keys.{set_within}
 use Rattle.closure_flow.proofs.Levels.{Levels, levels_start, levels_step, shortest}
 use Rattle.closure_flow.proofs.Searches.{Searching, not_short, searching_step, searching_end, some_left}
 use Rattle.closure_flow.proofs.search.search.Goals as goal
@@ -101,7 +101,7 @@ returns-then-has-clause-few g c =
       arith,
       ap length c.in-Some.ensures.entries,
       i.lists.count,
-      len_mono (64 * g.row.W) c.loop-place.seen c.args.network.now.within c.args.network.now.inside i.inside,
+      set_within c.loop-place.seen c.args.network.now.within i.inside,
     )
 
 pub returns-clause-few : goal.returns-clause-few
@@ -111,5 +111,5 @@ returns-clause-few g c =
       arith,
       ap length c.in_default.ensures.entries,
       i.lists.count,
-      len_mono (64 * g.row.W) c.loop-place.seen c.args.network.now.within c.args.network.now.inside i.inside,
+      set_within c.loop-place.seen c.args.network.now.within i.inside,
     )

@@ -3,8 +3,9 @@ use Rattle.std.proofs.lemmas.Int.{to_z-of_z}
 use Rattle.std.specs.Int.{w128}
 use Rattle.std.specs.FinSet as set
 use Rattle.std.specs.Ordering.{nat_cmp}
+use Rattle.lists.proofs.Keys.{set_drop}
 use Rattle.closure_flow.specs.Closures.{weight_at}
-use Rattle.closure_flow.proofs.Queues.{fewer, taken_out}
+use Rattle.closure_flow.proofs.Queues.{fewer}
 use Rattle.closure_flow.proofs.Loads.{loads_none, loads_step, loads_all, loads_whole}
 use Rattle.closure_flow.proofs.solver.load.Goals as goal
 
@@ -26,7 +27,7 @@ loop-place-preserved g c =
           rw (c.remove.ensures, c.begin.ensures.within, c.begin.ensures.into, c.begin.ensures.rest)
           (loads_step n _ _ _ _ _ c.loop-place.network.amounts.items _ c.in-Some.place _ c.loop-place.network.sized here below
           (to_z-of_z w128 (weight_at c.args.weights.now c.in-Some.place) fine) i.loads);
-      steps = omega (arith, i.steps, c.tick.ensures, ap (λ s. set.len s) c.remove.ensures, taken_out _ c.in-Some.place here);
+      steps = omega (arith, i.steps, c.tick.ensures, ap (λ s. set.len s) c.remove.ensures, set_drop _ c.in-Some.place here);
     }
 
 pub returns-clause-within : goal.returns-clause-within
