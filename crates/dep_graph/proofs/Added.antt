@@ -1,5 +1,5 @@
 -- Room for one more member.
-use Rattle.std.proofs.Common.{◌≡◌, ℕ, zero, suc, ◌+◌, ◌<◌, ◌≤◌, Bool, true, cond, ◌||◌, nat_eq, ◌∷◌, length, filter, Result, Ok, Err, OnErr, inl, inr, refl}
+use Rattle.std.proofs.Common.{◌≡◌, ℕ, zero, suc, ◌+◌, ◌<◌, ◌≤◌, Bool, true, cond, ◌||◌, nat_eq, ◌∷◌, length, filter, inl, inr, refl}
 use Rattle.std.proofs.Common.{ap, ◌∙◌, arith}
 use Rattle.std.proofs.lemmas.Bool.{cases_lt}
 use Rattle.std.specs.List.{range_with_len}
@@ -32,10 +32,6 @@ pub reached : (place : ℕ) (members : fin.FinSet nat_cmp) (len k : ℕ) → ((p
     → IsWithin k members → len ≡ k → place ≤ len
 reached zero members len k least within e = omega arith
 reached (suc q) members len k least within e = let low : q < k = within q (least q (omega arith)) in omega arith
-
-pub on_err : {A E : Type 0} {P : Type 0} (r : Result A E) → P → OnErr r P
-on_err (Ok x) p = tt
-on_err (Err e) p = p
 
 -- the set of one place
 pub contains-only : (place q : ℕ) → fin.contains {R = nat_cmp} (fin.insert fin.empty place) q ≡ nat_eq q place

@@ -1,15 +1,13 @@
 -- The loop that leaves the covering parents.
-use Rattle.std.proofs.Common.{◌≡◌, ℕ, ◌-◌, ◌<◌, ◌≤◌, Bool, true, false, cond, not, ◌&&◌, ◌⊎◌, ◌↔◌, nat_eq, List, [], ◌∷◌, length, filter}
-use Rattle.std.proofs.Common.{Option, Some, None, MatchOption, inl, inr, refl, sym, ap, ap₂, ◌∙◌, arith, ne_eqb, true≢false, subst, ◌≢◌}
-use Rattle.std.proofs.lemmas.Bool.{cases_eq, cases_Bool, and_parts, and_from}
-use Rattle.std.specs.List.{range_with_len}
+use Rattle.std.proofs.Common.{◌≡◌, ℕ, ◌<◌, Bool, true, false, not, ◌&&◌, ◌⊎◌, ◌↔◌, nat_eq}
+use Rattle.std.proofs.Common.{Option, Some, None, MatchOption, inl, inr, refl, sym, ap, ap₂, ◌∙◌, ne_eqb, true≢false, subst, ◌≢◌}
+use Rattle.std.proofs.lemmas.Bool.{cases_eq, cases_Bool, and_parts, and_from, and_left, and_right}
 use Rattle.std.specs.Ordering.{nat_cmp}
-use Rattle.std.specs.Cmp.{nat_cmp_total}
 use Rattle.std.specs.FinSet as fin
-use Rattle.lists.proofs.Cases.{differs, false_from_not}
+use Rattle.lists.proofs.Keys.{set_smaller}
+use Rattle.lists.proofs.Cases.{differs}
 use Rattle.graphs.specs.Closures.{Closure, is_member, is_ancestor, ancestors_of, IsCover, IsClosed}
-use Rattle.bitset.specs.Places.{places, IsWithin}
-use Rattle.bitset.specs.Sets.{contains-remove, contains-difference, contains-empty, len-places}
+use Rattle.bitset.specs.Sets.{contains-remove, contains-difference, contains-empty}
 
 -- whether a is an ancestor of m, and not m
 abbrev pub proper : Closure → ℕ → ℕ → Bool
@@ -20,48 +18,16 @@ not_kept true true e h = refl
 not_kept true false e h = absurd (true≢false e)
 not_kept false y e h = absurd (true≢false (sym h))
 
-stays_out : (x y : Bool) → x ≡ false → (x && y) ≡ false
-stays_out true y e = absurd (true≢false e)
-stays_out false y e = refl
-
 taken_out : (x y : Bool) → y ≡ true → (x && not y) ≡ false
 taken_out true true e = refl
 taken_out false true e = refl
 taken_out x false e = absurd (true≢false (sym e))
 
-fewer_pass : (f h : ℕ → Bool) → ((k : ℕ) → h k ≡ true → f k ≡ true) → (xs : List ℕ) → length (filter h xs) ≤ length (filter f xs)
-fewer_pass f h imp [] = omega arith
-fewer_pass f h imp (x ∷ xs) = step (f x) (h x) (imp x) (fewer_pass f h imp xs)
-  where
-    step : (a b : Bool) → (b ≡ true → a ≡ true) → length (filter h xs) ≤ length (filter f xs)
-        → length (cond b (x ∷ filter h xs) (filter h xs)) ≤ length (cond a (x ∷ filter f xs) (filter f xs))
-    step true true i p = omega arith
-    step true false i p = omega arith
-    step false true i p = absurd (true≢false (sym (i refl)))
-    step false false i p = p
-
 -- what has a place of a set takes it from the set
-pub fewer_come : (n : ℕ) (s t : fin.FinSet nat_cmp) (m : ℕ) → IsWithin n s → fin.contains s m ≡ true → fin.contains t m ≡ true
-    → fin.len (fin.difference s t) < fin.len s
-fewer_come n s t m within here taken =
-    let parts : (k : ℕ) → fin.contains (fin.difference s t) k ≡ true → (fin.contains s k ≡ true) × (not (fin.contains t k) ≡ true) =
-    λ k e. and_parts (fin.contains s k) (not (fin.contains t k)) (sym (contains-difference s t k) ∙ e) in
-    let imp : (k : ℕ) → fin.contains (fin.difference s t) k ≡ true → fin.contains (fin.remove s m) k ≡ true =
-    λ k e. contains-remove s m k ∙ and_from (not (nat_eq k m)) (fin.contains s k)
-    (ap not (ne_eqb k m (λ same. true≢false (sym taken ∙ ap (fin.contains t) (sym same) ∙ false_from_not (fin.contains t k) (parts k e).1)))) (parts k e).0 in
-    let short : length (places n (fin.difference s t)) ≤ length (places n (fin.remove s m)) =
-    fewer_pass (fin.contains (fin.remove s m)) (fin.contains (fin.difference s t)) imp (range_with_len 0 n) in
-    let first : fin.len (fin.difference s t) ≡ length (places n (fin.difference s t)) =
-    len-places n (fin.difference s t) (λ k e. within k (parts k e).0) in
-    let second : fin.len (fin.remove s m) ≡ length (places n (fin.remove s m)) =
-    len-places n (fin.remove s m)
-    (λ k e. within k (and_parts (not (nat_eq k m)) (fin.contains s k) (sym (contains-remove s m k) ∙ e)).1) in
-    let less : fin.len (fin.remove s m) ≡ fin.len s - 1 =
-    fin.len-remove nat_cmp_total s m ∙ ap (λ b. cond b (fin.len s - 1) (fin.len s)) here in
-    elim (cases_eq (fin.len s) 0) as (λ _. fin.len (fin.difference s t) < fin.len s) [
-      | inl none ↦ absurd (true≢false (sym here ∙ ap (λ s. fin.contains s m) (fin.empty_of_len s none) ∙ contains-empty m))
-      | inr some ↦ omega (arith, short, first, second, less, some)
-    ]
+pub fewer_come : (s t : fin.FinSet nat_cmp) (m : ℕ) → fin.contains s m ≡ true → fin.contains t m ≡ true → fin.len (fin.difference s t) < fin.len s
+fewer_come s t m here taken =
+    set_smaller (fin.difference s t) s m (λ k e. (and_parts (fin.contains s k) (not (fin.contains t k)) (sym (contains-difference s t k) ∙ e)).0) here
+    (contains-difference s t m ∙ and_right (fin.contains s m) (not (fin.contains t m)) (ap not taken))
 
 -- of the proper ancestors, which are left as covers, and which are to come: one that isn't left is above another, and what is above
 -- one that isn't to come isn't left
@@ -105,7 +71,7 @@ module _ {n : ℕ} {g : Closure} (closed : IsClosed n g) {ups covers come : fin.
               taken_out (fin.contains covers a) (proper g a m) (and_from (not (nat_eq a m)) (is_ancestor g a m)
               (ap not (ne_eqb a m (λ same. differs a k apart.0
               (closed.order.antisymmetric a k apart.1 (subst (λ x. is_ancestor g k x ≡ true) (sym same) above))))) higher)
-          | inr out ↦ stays_out (fin.contains covers a) (not (proper g a m)) (h.done k a u out p)
+          | inr out ↦ and_left (fin.contains covers a) (not (proper g a m)) (h.done k a u out p)
         ];
       }
 

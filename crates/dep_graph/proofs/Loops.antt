@@ -7,7 +7,8 @@ use Rattle.std.specs.List.{range_with_len}
 use Rattle.std.specs.Ordering.{nat_cmp}
 use Rattle.std.specs.FinSet as fin
 use Rattle.lists.proofs.Cases.{or_swap}
-use Rattle.lists.specs.Rising.{IsRising, AllAbove}
+use Rattle.lists.specs.Rising.{IsRising}
+use Rattle.lists.proofs.Rising.{above_at}
 use Rattle.bitset.specs.Places.{places, IsWithin}
 use Rattle.bitset.specs.Sets.{IsRising-places, places-here}
 use Rattle.dep_graph.specs.declared.rows.Row.{Row}
@@ -27,12 +28,8 @@ among-push (y ∷ ys) p q = ap (λ b. nat_eq q y || b) (among-push ys p q) ∙ o
 pub among-before : (ys zs : List ℕ) (p : ℕ) → IsRising (ys ++ p ∷ zs) → among ys p ≡ false
 among-before [] zs p h = refl
 among-before (y ∷ ys) zs p h =
-    let low : y < p = reached y ys zs p h.0 in
+    let low : y < p = above_at y ys zs p h.0 in
     ap (λ b. b || among ys p) (ne_eqb p y (λ e. omega arith)) ∙ among-before ys zs p h.1
-  where
-    reached : (x : ℕ) (ys zs : List ℕ) (p : ℕ) → AllAbove x (ys ++ p ∷ zs) → x < p
-    reached x [] zs p h = h.0
-    reached x (y ∷ ys) zs p h = reached x ys zs p h.1
 
 among_in : (f : ℕ → Bool) (a n q : ℕ) → f q ≡ true → a ≤ q → q < a + n → among (filter f (range_with_len a n)) q ≡ true
 among_in f a zero q passes low high = absurd (omega arith)

@@ -13,8 +13,7 @@ use Rattle.lists.proofs.Rising.{distinct_rising}
 use Rattle.graphs.specs.Graphs.{Graph}
 use Rattle.graphs.specs.Closures.{Closure, is_member, is_ancestor, members_of, IsClosed, IsCopy, IsMerged, HoldsMembers}
 use Rattle.graphs.specs.Closing.{Closes, IsClosureOf, with_name, with_pair, joined, within}
-use Rattle.graphs.proofs.ClosingLemmas.{closes_like, closes_added, closes_pair, closes_without, closes_without_all, closes_within, closes_both}
-use Rattle.graphs.proofs.ClosingLemmas.{closes_renamed, renamed_is}
+use Rattle.graphs.proofs.ClosingLemmas.{closes_like, closes_added, closes_pair, closes_without, closes_without_all, closes_within, closes_both, closes_renamed, renamed_is}
 use Rattle.bitset.specs.Places.{places, IsWithin}
 use Rattle.bitset.specs.Sets.{IsRising-places, Contains-places, places-Contains, contains-difference}
 use Rattle.dep_graph.specs.Numbers.{number_in, renumbered}
@@ -45,7 +44,7 @@ pairs_are_bridged place g h old new c without drops =
 
 -- ---- places numbered anew
 
-place_at : (xs : List ℕ) (p : ℕ) → Contains xs p → (number_in xs p < length xs) × (slice_index xs (number_in xs p) ≡ p)
+pub place_at : (xs : List ℕ) (p : ℕ) → Contains xs p → (number_in xs p < length xs) × (slice_index xs (number_in xs p) ≡ p)
 place_at [] p h = absurd (none_in_empty p h)
 place_at (x ∷ xs) p h = cases (nat_eq p x) refl (λ k. place_at xs p k)
   where

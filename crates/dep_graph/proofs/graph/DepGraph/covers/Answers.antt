@@ -1,4 +1,4 @@
-use Rattle.std.proofs.Common.{◌≡◌, ◌*◌, ◌<◌, true, rules, ap, ◌∙◌, sym, subst}
+use Rattle.std.proofs.Common.{◌≡◌, ◌<◌, true, rules, ap, ◌∙◌, sym, subst}
 use Rattle.std.specs.FinSet as fin
 use Rattle.dep_graph.proofs.Covers.{CoversSoFar-start, CoversSoFar-more, middle_member, covers_are, fewer_come, none_come}
 use Rattle.dep_graph.proofs.graph.DepGraph.covers.Goals as goal
@@ -31,7 +31,7 @@ loop-middle-smaller g c =
     let own : fin.contains c.ancestors-further.result c.in-Some.middle ≡ true =
     ap (λ s. fin.contains s c.in-Some.middle) c.ancestors-further.ensures ∙ c.row.ensures.closed.order.reflexive c.in-Some.middle member in
     subst (λ s. fin.len s < fin.len c.loop-middle.to_come) (sym c.minus-to_come.ensures)
-    (fewer_come (64 * g.row.W) c.loop-middle.to_come c.ancestors-further.result c.in-Some.middle c.in-Some.ensures.within c.in-Some.ensures.there own)
+    (fewer_come c.loop-middle.to_come c.ancestors-further.result c.in-Some.middle c.in-Some.ensures.there own)
 
 pub loop-middle-preserved : goal.loop-middle-preserved
 loop-middle-preserved g c =
