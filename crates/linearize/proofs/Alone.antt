@@ -10,6 +10,7 @@ use Rattle.bitset.specs.Places.{places, IsWithin}
 use Rattle.bitset.specs.Sets.{contains-empty}
 use Rattle.lists.proofs.Cases.{clash}
 use Rattle.lists.proofs.Entries.{Contains-cases, Contains-head, none_in_empty}
+use Rattle.lists.proofs.Keys.{set_drop}
 use Rattle.graphs.specs.Closures.{Closure, IsClosed, HoldsMembers}
 use Rattle.fee_rate.specs.declared.rates.Sum.{Sum}
 use Rattle.graphs.specs.declared.names.Flow.{Flow}
@@ -21,14 +22,13 @@ use Rattle.linearize.specs.Orders.{AreCovers, Balances, IsOrderOf, flows_from, f
 use Rattle.linearize.specs.Splits.{Adds, IsUncut}
 use Rattle.linearize.proofs.FlowLists.{from_append, from_none, from_nil, of_append, of_nil, of_one}
 use Rattle.linearize.proofs.Parts.{one_added, sums_of_order}
-use Rattle.linearize.proofs.Sets.{len_remove}
 
 -- a set of one place has no other
 pub no_other : (n : ℕ) (s : fin.FinSet nat_cmp) (p : ℕ) → IsWithin n s → fin.contains s p ≡ true → fin.len s ≡ 1 → (q : ℕ) → fin.contains s q ≡ true → q ≡ p
 no_other n s p within here one q m = elim (cases_eq q p) as (λ _. q ≡ p) [
   | inl same ↦ same
   | inr other ↦
-      let none : fin.len (fin.remove s p) ≡ 0 = omega (arith, len_remove n s p within here, one) in
+      let none : fin.len (fin.remove s p) ≡ 0 = omega (arith, set_drop s p here, one) in
       absurd (empty_has_none (fin.remove s p) q (to_remove s p q other m) (fin.empty_of_len (fin.remove s p) none))
 ]
 

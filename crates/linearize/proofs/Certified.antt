@@ -14,7 +14,7 @@ use Rattle.bitset.specs.Members.{from_meet, to_meet}
 use Rattle.lists.proofs.Entries.{map-Contains, Contains-head, Contains-later, Contains-cases, none_in_empty}
 use Rattle.lists.proofs.Distinct.{distinct_joined}
 use Rattle.lists.specs.Distinct.{AreDistinct}
-use Rattle.arithmetic.proofs.Sums.{total-filter_cond, total_same, total-pos}
+use Rattle.arithmetic.proofs.Sums.{sum_by_along, total-filter_cond, total_same, total-pos}
 use Rattle.bitset.specs.Places.{places, IsWithin}
 use Rattle.bitset.specs.Sets.{Contains-places, places-Contains}
 use Rattle.closure_flow.specs.Closures.{parents_at}
@@ -125,10 +125,6 @@ module _ (n : ℕ) (parents : List (fin.FinSet nat_cmp)) (s : fin.FinSet nat_cmp
               ∙ sym (zero_else c id m out)
         ]
 
-    same_sums : (f g : ℕ → ℕ) (xs : List ℕ) → ((x : ℕ) → f x ≡ g x) → sum_by f xs ≡ sum_by g xs
-    same_sums f g [] e = refl
-    same_sums f g (x ∷ xs) e = omega (arith, sum_by-cons f x xs, sum_by-cons g x xs, e x, same_sums f g xs e)
-
     pub given_is : (id : ℕ) → fin.contains s id ≡ true → given (flows_of n parents s flow (places n s)) id ≡ sum_by (flow id) (places n s)
     given_is id m =
         given_of id (places n s)
@@ -137,7 +133,7 @@ module _ (n : ℕ) (parents : List (fin.FinSet nat_cmp)) (s : fin.FinSet nat_cmp
 
     pub gotten_is : (id : ℕ) → fin.contains s id ≡ true → gotten (flows_of n parents s flow (places n s)) id ≡ sum_by (λ c. flow c id) (places n s)
     gotten_is id m = gotten_of id (places n s)
-        ∙ same_sums (λ c. sum_by (pick id (flow c)) (parents_within n parents s c)) (λ c. flow c id) (places n s) (λ c. got_from c id m)
+        ∙ sum_by_along (λ c. sum_by (pick id (flow c)) (parents_within n parents s c)) (λ c. flow c id) (places n s) (λ c _. got_from c id m)
 
   -- ---- what is in the list
   pub record Sent (cs : List ℕ) (f : Flow) : Type 0 where

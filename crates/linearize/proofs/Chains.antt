@@ -6,16 +6,16 @@ use Rattle.std.proofs.lemmas.Bool.{cases_eq, cases_Bool}
 use Rattle.std.specs.FinSet as fin
 use Rattle.graphs.proofs.Members.{contains-members_of}
 use Rattle.graphs.proofs.AlikeLemmas.{stands_trans}
-use Rattle.bitset.specs.Members.{to_remove, from_remove}
+use Rattle.bitset.specs.Members.{to_remove}
 use Rattle.lists.proofs.Cases.{clash}
 use Rattle.graphs.specs.Closures.{Closure, is_member, is_ancestor, ancestors_of, members_of, IsCover, IsClosed}
 use Rattle.lists.proofs.Entries.{Contains-cases, none_in_empty}
 use Rattle.lists.specs.Distinct.{AreDistinct}
+use Rattle.lists.proofs.Keys.{set_drop, set_within}
 use Rattle.bitset.specs.Places.{places, IsWithin}
 use Rattle.bitset.specs.Sets.{Contains-places}
 use Rattle.graphs.specs.Linearizations.{StandsBefore}
 use Rattle.linearize.specs.Orders.{IsOrderOf}
-use Rattle.linearize.proofs.Sets.{len_remove, len_within}
 
 module _ (n : ℕ) (dep : Closure) (closed : IsClosed n dep) where
   above_within : (d : ℕ) → IsWithin n (ancestors_of dep d)
@@ -26,10 +26,9 @@ module _ (n : ℕ) (dep : Closure) (closed : IsClosed n dep) where
   fewer_above a d e ne =
       let own : is_ancestor dep d d ≡ true = closed.order.reflexive d (closed.order.among a d e).1 in
       let inside : fin.len (ancestors_of dep a) ≤ fin.len (fin.remove (ancestors_of dep d) d) =
-      len_within n _ _ (λ k m. above_within d k (from_remove (ancestors_of dep d) d k m).1)
-      (λ k m. to_remove (ancestors_of dep d) d k
+      set_within _ _ (λ k m. to_remove (ancestors_of dep d) d k
       (λ same. ne (closed.order.antisymmetric a d e (subst (λ (j : ℕ). is_ancestor dep j a ≡ true) same m))) (closed.order.transitive k a d m e)) in
-      omega (arith, inside, len_remove n (ancestors_of dep d) d (above_within d) own)
+      omega (arith, inside, set_drop (ancestors_of dep d) d own)
 
   -- a third place between two
   abbrev Between : ℕ → ℕ → ℕ → Type 0

@@ -1,19 +1,17 @@
 -- Weights of sets, what the solver asks of them, and what its answers say: what a set may be cut on, and that it can't be cut.
-use Rattle.std.proofs.Common.{◌≡◌, ℕ, zero, suc, ◌*◌, ◌^◌, ◌<◌, ◌≤◌, inl, inr, true, List, [], ◌∷◌, length, sum_by, ℤ, pos, ◌+ℤ◌}
-use Rattle.std.proofs.Common.{◌≤ℤ◌, ◌<ℤ◌, unsigned_abs, refl, sym, ap, ◌∙◌, subst, arith}
-use Rattle.std.specs.Prelude.{Contains}
+use Rattle.std.proofs.Common.{◌≡◌, ℕ, zero, suc, ◌^◌, ◌<◌, ◌≤◌, inl, inr, true, List, sum_by, ℤ, pos, ◌+ℤ◌}
+use Rattle.std.proofs.Common.{◌≤ℤ◌, ◌<ℤ◌, unsigned_abs, refl, sym, ap, ◌∙◌, subst, arith, le_of_lt}
 use Rattle.std.proofs.lemmas.Bool.{cases_Bool}
 use Rattle.std.proofs.lemmas.Int.{ints}
-use Rattle.std.proofs.lemmas.List.Sums.{sum_by-cons}
 use Rattle.std.specs.Ordering.{nat_cmp}
 use Rattle.std.specs.FinSet as fin
 use Rattle.arithmetic.specs.Sums.{total}
-use Rattle.arithmetic.proofs.Sums.{total_along}
-use Rattle.bitset.specs.Members.{in_minus, minus_parts}
+use Rattle.arithmetic.proofs.Sums.{total_along, sum_by_within}
+use Rattle.bitset.specs.Members.{in_minus}
 use Rattle.bitset.specs.Places.{places, IsWithin}
 use Rattle.bitset.specs.Sets.{places-Contains, places-empty, len-places}
 use Rattle.lists.proofs.Cases.{clash}
-use Rattle.lists.proofs.Entries.{Contains-head, Contains-later}
+use Rattle.lists.proofs.Keys.{set_drop}
 use Rattle.closure_flow.specs.Closures as closure
 use Rattle.closure_flow.specs.Closures.{weight_at, weight_of, IsNoneHeavier}
 use Rattle.closure_flow.specs.Tight.{IsSmallestTight}
@@ -24,7 +22,7 @@ use Rattle.graphs.specs.Certificates.{weight_in}
 use Rattle.linearize.specs.Graphs.{sum_at}
 use Rattle.linearize.specs.Orders.{AreCovers, Balances, sums_in}
 use Rattle.linearize.specs.Splits.{IsCut, IsUncut, IsUpper}
-use Rattle.linearize.proofs.Sets.{IsSplit, split_minus, total_split, len_remove, len_split}
+use Rattle.linearize.proofs.Sets.{IsSplit, split_minus, total_split, len_split}
 
 -- ---- weights
 
@@ -126,21 +124,15 @@ module _ (n : ℕ) (dep : Closure) (parents : List (fin.FinSet nat_cmp)) (weight
               let left = fin.difference s x in
               let p_left : fin.contains left p ≡ true = in_minus s x p m (λ here. clash (fin.contains x p) here out) in
               let lens = len_split n s x left within (split_minus s x upper.inside) in
-              let one = len_remove n left p (λ k h. within k (minus_parts s x k h).0) p_left in
+              let one = set_drop left p p_left in
               omega (arith, lens, one, most, all))
         ]
 
 -- ---- the sum of the weights is small
-small_sum : (f : ℕ → ℕ) (xs : List ℕ) → ((x : ℕ) → Contains xs x → f x < 2 ^ 99) → sum_by f xs ≤ length xs * 2 ^ 99
-small_sum f [] h = omega arith
-small_sum f (x ∷ xs) h =
-    let a = h x (Contains-head x xs) in
-    omega (arith, sum_by-cons f x xs, small_sum f xs (λ y k. h y (Contains-later x y xs k)), a)
-
 pub weights_small : (n : ℕ) (weights : List ℤ) (s : fin.FinSet nat_cmp) → IsWithin n s → fin.len s ≤ 4096
     → ((t : ℕ) → fin.contains s t ≡ true → unsigned_abs (weight_at weights t) < 2 ^ 99)
     → sum_by (λ t. unsigned_abs (weight_at weights t)) (places n s) < 2 ^ 126
 weights_small n weights s within few small =
-    let a = small_sum (λ t. unsigned_abs (weight_at weights t)) (places n s) (λ t h. small t (places-Contains n s t h).1) in
+    let a = sum_by_within (λ t. unsigned_abs (weight_at weights t)) (2 ^ 99) (places n s) (λ t h. le_of_lt (small t (places-Contains n s t h).1)) in
     let long = len-places n s within in
     omega (arith, a, long, few)

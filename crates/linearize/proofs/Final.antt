@@ -28,9 +28,9 @@ use Rattle.linearize.specs.Orders.{sums_in}
 use Rattle.linearize.specs.Near.{AreParts}
 use Rattle.linearize.specs.Splits.{IsUpperIn, Linearizes}
 use Rattle.linearize.proofs.Lists.{sum_any_order, total_any_order}
-use Rattle.linearize.proofs.Sets.{len_remove}
 use Rattle.linearize.proofs.Chains.{ancestors_first}
-use Rattle.std.proofs.lemmas.List.Elements.{Contains-append_left, Contains-append_right}
+use Rattle.lists.proofs.Keys.{set_drop}
+use Rattle.lists.proofs.Flats.{flat_has}
 
 -- ---- a list as a set
 to_set : (xs : List ℕ) (q : ℕ) → Contains xs q → fin.contains (fin.from_list {R = nat_cmp} xs) q ≡ true
@@ -50,7 +50,7 @@ from_set (x ∷ xs) q m = elim (from_insert (fin.from_list xs) x q m) [
 list_some : (n : ℕ) (xs : List ℕ) → IsWithin n (fin.from_list xs) → xs ≢ [] → 0 < fin.len (fin.from_list {R = nat_cmp} xs)
 list_some n [] below some = absurd (some refl)
 list_some n (x ∷ xs) below some =
-    let one = len_remove n (fin.from_list (x ∷ xs)) x below (to_set (x ∷ xs) x (Contains-head x xs)) in
+    let one = set_drop (fin.from_list (x ∷ xs)) x (to_set (x ∷ xs) x (Contains-head x xs)) in
     omega (arith, one)
 
 sums_of_list : (n : ℕ) (dep : Closure) (xs : List ℕ) → IsWithin n (fin.from_list xs) → AreDistinct xs
@@ -75,15 +75,8 @@ module _ (n : ℕ) (dep : Closure) (graph : model.Graph) (closed : IsClosed n de
   has_sizes rates p h = (rates p ((stands.names p).0 h)).some
 
   module _ (parts : List Part) (component : IsComponent dep) (linear : AreParts n dep (members_of dep) parts) where
-    in_part : (ps : List Part) (part : Part) (p : ℕ) → Contains ps part → Contains part.ids p → Contains (placed ps) p
-    in_part [] part p h k = absurd (none_in_empty part h)
-    in_part (x ∷ ps) part p h k = elim (Contains-cases x part ps h) [
-      | inl same ↦ Contains-append_left x.ids (placed ps) p (subst (λ (q : Part). Contains q.ids p) (sym same) k)
-      | inr later ↦ Contains-append_right x.ids (placed ps) p (in_part ps part p later k)
-    ]
-
     member_of : (part : Part) (p : ℕ) → Contains parts part → Contains part.ids p → is_member dep p ≡ true
-    member_of part p h k = sym (contains-members_of dep p) ∙ (linear.order.exact p).0 (in_part parts part p h k)
+    member_of part p h k = sym (contains-members_of dep p) ∙ (linear.order.exact p).0 (flat_has (λ (q : Part). q.ids) parts part p h k)
 
     topological : IsTopological graph (placed parts)
     topological = record {

@@ -16,7 +16,7 @@ use Rattle.bitset.specs.Members.{minus_parts, in_minus, from_union, to_union_lef
 use Rattle.lists.proofs.Cases.{clash}
 use Rattle.graphs.proofs.BestLemmas.{stands-append_right, stands-append_left, stands_across}
 use Rattle.graphs.specs.Closures.{Closure, IsCover, IsClosed, HoldsMembers, rate_of}
-use Rattle.lists.proofs.Entries.{Contains-head, Contains-later, Contains-cases, none_in_empty}
+use Rattle.lists.proofs.Entries.{Contains-head, Contains-later}
 use Rattle.lists.proofs.Distinct.{distinct_joined}
 use Rattle.bitset.specs.Places.{places, IsWithin}
 use Rattle.bitset.specs.Sets.{places-Contains, len-places}
@@ -44,13 +44,6 @@ falls_joined [] ys f g low = g
 falls_joined (x ∷ []) [] f g low = tt
 falls_joined (x ∷ []) (y ∷ ys) f g low = (low x y (Contains-head x []) (Contains-head y ys), g)
 falls_joined (x ∷ z ∷ xs) ys f g low = (f.0, falls_joined (z ∷ xs) ys f.1 g (λ a b h k. low a b (Contains-later x a (z ∷ xs) h) k))
-
-splits_at : (xs : List ℕ) (x : ℕ) → Contains xs x → (before after : List ℕ) × (xs ≡ before ++ x ∷ after)
-splits_at [] x h = absurd (none_in_empty x h)
-splits_at (a ∷ xs) x h = elim (Contains-cases a x xs h) [
-  | inl same ↦ ([], xs, ap (λ z. z ∷ xs) same)
-  | inr later ↦ let found = splits_at xs x later in (a ∷ found.0, found.1, ap (λ zs. a ∷ zs) found.2)
-]
 
 pub either_part : (P : Part → Type 0) (xs ys : List Part) → ((q : Part) → Contains xs q → P q) → ((q : Part) → Contains ys q → P q) → (q : Part)
     → Contains (xs ++ ys) q → P q

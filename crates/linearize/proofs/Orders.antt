@@ -10,10 +10,10 @@ use Rattle.lists.proofs.Distinct.{distinct_push}
 use Rattle.graphs.specs.Closures.{Closure, is_ancestor, ancestors_of, IsClosed}
 use Rattle.lists.proofs.Entries.{Contains-cases, none_in_empty}
 use Rattle.lists.specs.Distinct.{AreDistinct}
+use Rattle.lists.proofs.Keys.{set_drop, set_within}
 use Rattle.bitset.specs.Places.{IsWithin}
 use Rattle.graphs.specs.Linearizations.{StandsBefore}
 use Rattle.linearize.specs.Orders.{IsOrderOf}
-use Rattle.linearize.proofs.Sets.{len_remove, len_within}
 
 -- another ancestor in a set has fewer ancestors in it
 pub higher : (n : ℕ) (dep : Closure) (left : fin.FinSet nat_cmp) (p q : ℕ) → IsClosed n dep → fin.contains left p ≡ true
@@ -27,11 +27,10 @@ higher n dep left p q closed here m =
     let within : IsWithin n (fin.intersection (ancestors_of dep p) left) =
     λ k h. closed.within k (order.among k p (from_meet (ancestors_of dep p) left k h).0).0 in
     let fewer : fin.len (fin.intersection (ancestors_of dep q) left) ≤ fin.len (fin.remove (fin.intersection (ancestors_of dep p) left) p) =
-    len_within n _ _ (λ k h. within k (from_remove (fin.intersection (ancestors_of dep p) left) p k h).1)
-    (λ k h. (let part : (is_ancestor dep k q ≡ true) × (fin.contains left k ≡ true) = from_meet (ancestors_of dep q) left k h in
+    set_within _ _ (λ k h. (let part : (is_ancestor dep k q ≡ true) × (fin.contains left k ≡ true) = from_meet (ancestors_of dep q) left k h in
     to_remove _ p k (λ e. r.0 (order.antisymmetric q p both.0 (subst (λ (j : ℕ). is_ancestor dep j q ≡ true) e part.0)))
     (to_meet _ _ k (order.transitive k q p part.0 both.0) part.1))) in
-    omega (arith, fewer, len_remove n _ p within own)
+    omega (arith, fewer, set_drop _ p own)
 
 -- where nothing else is above it in a set
 pub is_top : (dep : Closure) (left above : fin.FinSet nat_cmp) (p : ℕ) → above ≡ fin.remove (fin.intersection (ancestors_of dep p) left) p → above ≡ fin.empty
@@ -97,7 +96,7 @@ placing_more n dep s left rest ids p within h m top is =
           | inr none ↦ absurd (none_in_empty k none)
         ]
       ];
-      count = (let long = length-append ids (p ∷ []) in let one = len_remove n left p (λ k l. within k (h.inside k l)) m in let len_ =
+      count = (let long = length-append ids (p ∷ []) in let one = set_drop left p m in let len_ =
           ap (λ t. fin.len t) is in omega (arith, long, one, len_, h.count));
     }
 

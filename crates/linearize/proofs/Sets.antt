@@ -1,6 +1,6 @@
 -- Sets of places: members of changed sets, and sums over a set that is two others side by side.
-use Rattle.std.proofs.Common.{◌≡◌, ℕ, ◌+◌, ◌<◌, ◌≤◌, ◌⊎◌, inl, inr, Bool, true, false, cond, not, ◌||◌}
-use Rattle.std.proofs.Common.{List, [], ◌∷◌, length, sum_by, ℤ, pos, ◌+ℤ◌, refl, sym, ap, ◌∙◌, subst, arith, eq-eqb}
+use Rattle.std.proofs.Common.{◌≡◌, ℕ, ◌+◌, ◌<◌, ◌⊎◌, inl, inr, Bool, true, false, cond, not, ◌||◌}
+use Rattle.std.proofs.Common.{List, [], ◌∷◌, length, sum_by, ℤ, pos, ◌+ℤ◌, refl, sym, ap, ◌∙◌, arith, eq-eqb}
 use Rattle.std.proofs.Common.{ne_eqb}
 use Rattle.std.proofs.lemmas.Int.{ints}
 use Rattle.std.proofs.lemmas.Bool.{cases_eq, false_from_ne_true, cases_Bool}
@@ -13,9 +13,7 @@ use Rattle.bitset.specs.Members.{from_remove, to_remove, from_union, to_union_le
 use Rattle.arithmetic.specs.Sums.{total}
 use Rattle.arithmetic.proofs.Sums.{total-add, total-filter_cond, total_same, total-pos}
 use Rattle.bitset.specs.Places.{places, IsWithin, IsLeast}
-use Rattle.bitset.specs.Sets.{contains-insert}
-use Rattle.bitset.specs.Sets.{contains-empty, len-places, places-least, places-empty}
-use Rattle.bitset.specs.Sets.{same_members}
+use Rattle.bitset.specs.Sets.{contains-insert, contains-empty, len-places, places-least, places-empty, same_members}
 
 not_is : (b : Bool) → not b ≡ true → b ≡ true → ⊥
 not_is true e f = let g : false ≡ true = e in cc
@@ -130,14 +128,3 @@ total_remove f n s p inside m =
     let all = total_split f n s (single p) (fin.remove s p) (split_remove s p m) in
     let one : total f (places n (single p)) ≡ f p +ℤ pos 0 = ap (total f) (places_single n p inside) in
     omega (arith, ints, all, one)
-
-pub len_remove : (n : ℕ) (s : fin.FinSet nat_cmp) (p : ℕ) → IsWithin n s → fin.contains s p ≡ true → fin.len s ≡ 1 + fin.len (fin.remove s p)
-len_remove n s p within m =
-    let all = len_split n s (single p) (fin.remove s p) within (split_remove s p m) in
-    let one : fin.len (single p) ≡ 1 = len-places n (single p) (λ q h. subst (λ (k : ℕ). k < n) (sym (in_single p q h)) (within p m))
-    ∙ ap length (places_single n p (within p m)) in
-    omega (arith, all, one)
-
--- a set within another has no more members
-pub len_within : (n : ℕ) (s a : fin.FinSet nat_cmp) → IsWithin n s → ((k : ℕ) → fin.contains a k ≡ true → fin.contains s k ≡ true) → fin.len a ≤ fin.len s
-len_within n s a within inside = let all = len_split n s a (fin.difference s a) within (split_minus s a inside) in omega (arith, all)

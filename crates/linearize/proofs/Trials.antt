@@ -20,6 +20,7 @@ use Rattle.bitset.specs.Sets.{contains-empty, same_members}
 use Rattle.lists.proofs.Cases.{clash}
 use Rattle.lists.proofs.Entries.{none_in_empty}
 use Rattle.lists.proofs.Distinct.{distinct_joined}
+use Rattle.lists.proofs.Keys.{set_within}
 use Rattle.linearize.specs.declared.draft.LinearPart.{LinearPart}
 use Rattle.linearize.specs.Drafts.{AreShown, Written, placed, flows_in}
 use Rattle.linearize.specs.Graphs.{sum_at, sum_from, most_members}
@@ -29,7 +30,7 @@ use Rattle.linearize.specs.Splits.{Adds, HasRoom, IsUncutPart}
 use Rattle.linearize.specs.Steps.{AreOfOne}
 use Rattle.linearize.proofs.Joined.{either_part}
 use Rattle.linearize.proofs.Nexts.{inside}
-use Rattle.linearize.proofs.Sets.{split_union, len_split, len_within}
+use Rattle.linearize.proofs.Sets.{split_union, len_split}
 
 third : (x : ℕ) → x ^ 3 ≡ x * x * x
 third x = pow-suc x 2 ∙ ap (λ (y : ℕ). y * x) (pow-suc x 1 ∙ ap (λ (y : ℕ). y * x) (pow-suc x 0 ∙ ap (λ (y : ℕ). y * x) (pow-zero x) ∙ omega arith))
@@ -189,13 +190,13 @@ module _ (n : ℕ) (dep : Closure) (parents : List (fin.FinSet nat_cmp)) (member
 
     pub few_members : fin.len members ≤ most_members → fin.len group ≤ most_members
     few_members few =
-        let less = len_within n members group (λ k m. closed.within k (held k m)) next.inside in
+        let less = set_within group members next.inside in
         omega (arith, less, few)
 
     most_next : (later : ℕ) → later ≤ now + most_tried (fin.len group) * fin.len group
         → later ≤ before + most_tried (fin.len members) * fin.len (fin.union done group)
     most_next later grew =
-        let low = len_within n members group (λ k m. closed.within k (held k m)) next.inside in
+        let low = set_within group members next.inside in
         let base : fin.len group + 2 ≤ fin.len members + 2 = omega (arith, low) in
         let more : (fin.len group + 2) ^ 3 ≤ (fin.len members + 2) ^ 3 = pow-le-pow_left base 3 in
         let wide : most_tried (fin.len group) * fin.len group ≤ most_tried (fin.len members) * fin.len group =
@@ -207,8 +208,7 @@ module _ (n : ℕ) (dep : Closure) (parents : List (fin.FinSet nat_cmp)) (member
     pub tried : (later : ℕ) → later ≤ now + most_tried (fin.len group) * fin.len group
         → later ≤ before + most_tried (fin.len members) * fin.len members
     tried later grew =
-        let less = len_within n members (fin.union done group) (λ k m. closed.within k (held k m))
-        (λ k m. elim (from_union done group k m) [ inl a ↦ stands.inside k a | inr b ↦ next.inside k b ]) in
+        let less = set_within (fin.union done group) members (λ k m. elim (from_union done group k m) [ inl a ↦ stands.inside k a | inr b ↦ next.inside k b ]) in
         omega (arith, most_next later grew, mul-le-mul_left (most_tried (fin.len members)) less)
 
     module _ (new : Written) (adds : Adds n dep group old new) where
@@ -287,7 +287,7 @@ module _ (n : ℕ) (dep : Closure) (members done : fin.FinSet nat_cmp) (closed :
     (before now : ℕ) (stands : Stands n dep members done draft before now) where
   pub so_far : now ≤ before + most_tried (fin.len members) * fin.len members
   so_far =
-      let less = len_within n members done (λ k m. closed.within k (held k m)) stands.inside in
+      let less = set_within done members stands.inside in
       omega (arith, stands.most, mul-le-mul_left (most_tried (fin.len members)) less)
 
   module _ (whole : fin.is_subset members done ≡ true) where

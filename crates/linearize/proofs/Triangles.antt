@@ -14,8 +14,8 @@ use Rattle.lists.proofs.Distinct.{distinct-filter, distinct_map}
 use Rattle.graphs.specs.Closures.{Closure, IsCover, IsClosed}
 use Rattle.lists.proofs.Entries.{map-Contains, Contains-head, Contains-later, filter-Contains}
 use Rattle.lists.specs.Distinct.{AreDistinct}
+use Rattle.lists.proofs.Keys.{set_drop}
 use Rattle.bitset.specs.Places.{IsWithin}
-use Rattle.linearize.proofs.Sets.{len_remove}
 
 -- distinct members of a set are at most as many as it has
 length_inside : (n : ℕ) (s : fin.FinSet nat_cmp) (xs : List ℕ) → IsWithin n s → AreDistinct xs → ((x : ℕ) → Contains xs x → fin.contains s x ≡ true)
@@ -25,7 +25,7 @@ length_inside n s (x ∷ xs) within d inside =
     let rest : length xs ≤ fin.len (fin.remove s x) =
     length_inside n (fin.remove s x) xs (λ k m. within k (from_remove s x k m).1) d.1
     (λ y h. to_remove s x y (λ e. d.0 (subst (λ (k : ℕ). Contains xs k) e h)) (inside y (Contains-later x y xs h))) in
-    omega (arith, rest, len_remove n s x within (inside x (Contains-head x xs)))
+    omega (arith, rest, set_drop s x (inside x (Contains-head x xs)))
 
 -- ---- entries that pass a test
 
@@ -188,7 +188,7 @@ module _ (n : ℕ) (dep : Closure) (closed : IsClosed n dep) where
       two_more =
           let a_in : fin.contains s a ≡ true = pairs.child a b (Contains-head (a, b) es) in
           let b_in : fin.contains (fin.remove s a) b ≡ true = to_remove s a b first.other (pairs.parent a b (Contains-head (a, b) es)) in
-          omega (arith, len_remove n s a within a_in, len_remove n (fin.remove s a) b (λ k m. within k (from_remove s a k m).1) b_in)
+          omega (arith, set_drop s a a_in, set_drop (fin.remove s a) b b_in)
 
       of_tail : (e : ℕ × ℕ) → Contains es e → (e ≡ (a, b) → ⊥) × IsCover dep e.1 e.0
       of_tail e h = (λ same. pairs.once.0 (subst (λ (d : ℕ × ℕ). Contains es d) same h), pairs.cover e.0 e.1 (Contains-later (a, b) e es h))

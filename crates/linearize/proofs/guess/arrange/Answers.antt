@@ -1,4 +1,4 @@
-use Rattle.std.proofs.Common.{◌≡◌, ◌*◌, ◌≤◌, ap, sym, subst, arith, vec_capacity}
+use Rattle.std.proofs.Common.{ap, sym, subst, arith, vec_capacity}
 use Rattle.graphs.specs.Closures.{HoldsMembers}
 use Rattle.linearize.proofs.guess.arrange.Goals as goal
 use Rattle.linearize.proofs.guess.arrange.Goals.{then-entry, else-entry+then-entry-2, else-entry+else-entry-2}

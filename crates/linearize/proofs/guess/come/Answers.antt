@@ -1,8 +1,8 @@
-use Rattle.std.proofs.Common.{rules, ◌≡◌, ℕ, ◌*◌, true, ap, subst, arith}
+use Rattle.std.proofs.Common.{rules, ◌≡◌, ◌*◌, true, ap, subst, arith}
 use Rattle.std.specs.FinSet as set
+use Rattle.lists.proofs.Keys.{set_drop}
 use Rattle.bitset.specs.Places.{IsWithin}
 use Rattle.bitset.specs.Members.{from_meet, from_remove, minus_parts}
-use Rattle.linearize.proofs.Sets.{len_remove}
 use Rattle.linearize.proofs.Sizes.{words_fit, group_fits}
 use Rattle.linearize.proofs.guess.come.Goals as goal
 
@@ -56,7 +56,7 @@ loop-first-init g c = (
 pub loop-first-smaller : goal.loop-first-smaller
 loop-first-smaller g c =
     let within : IsWithin (64 * g.row.W) c.loop-first.above = λ k m. c.requires.closed.within k (c.loop-first.invariant.1 k m) in
-    let some = len_remove (64 * g.row.W) c.loop-first.above c.top-next.result within c.top-next.ensures.there in
+    let some = set_drop c.loop-first.above c.top-next.result c.top-next.ensures.there in
     let is = ap (λ s. set.len s) c.remove.ensures in
     omega (arith, some, is)
 

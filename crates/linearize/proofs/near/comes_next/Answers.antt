@@ -3,11 +3,11 @@ use Rattle.std.proofs.lemmas.Bool.{cases_eq}
 use Rattle.std.proofs.lemmas.List.{get_or_read_under}
 use Rattle.std.specs.FinSet as set
 use Rattle.lists.proofs.Cases.{clash}
+use Rattle.lists.proofs.Keys.{set_drop}
 use Rattle.bitset.specs.Sets.{contains-empty}
 use Rattle.closure_flow.specs.Closures.{parents_at}
 use Rattle.bitset.specs.Members.{from_remove, to_remove, minus_parts, from_union}
 use Rattle.linearize.proofs.Nexts.{inside, some_of}
-use Rattle.linearize.proofs.Sets.{len_remove}
 use Rattle.linearize.proofs.near.comes_next.Goals as goal
 
 pub offset_bounds-parents-place : goal.offset_bounds-parents-place
@@ -27,7 +27,7 @@ bounds-parents-place g c =
 
 pub loop-place-smaller : goal.loop-place-smaller
 loop-place-smaller g c =
-    let one = len_remove (64 * g.row.W) c.loop-place.left c.in-Some.place c.in-Some.ensures.within c.in-Some.ensures.least.member in
+    let one = set_drop c.loop-place.left c.in-Some.place c.in-Some.ensures.least.member in
     let is = ap (λ s. set.len s) c.remove.ensures in
     omega (arith, one, is)
 

@@ -1,16 +1,16 @@
 use Rattle.std.proofs.Common.{◌*◌, ◌∙◌, ap, sym, subst, arith, length, length-append, lit<}
 use Rattle.std.specs.FinSet as fin
+use Rattle.lists.proofs.Keys.{set_drop}
 use Rattle.bitset.specs.Places.{IsWithin}
 use Rattle.linearize.specs.Drafts.{placed}
 use Rattle.linearize.proofs.Orders.{Placing, placing_more, placing_all}
-use Rattle.linearize.proofs.Sets.{len_remove}
 use Rattle.linearize.proofs.part.put_places.Goals as goal
 
 pub put-requires : goal.put-requires
 put-requires g c =
     let i = c.loop-first.invariant in
     let within : IsWithin (64 * g.row.W) c.loop-first.left = λ k m. c.requires.closed.within k (c.requires.members k (i.0.inside k m)) in
-    let some = len_remove (64 * g.row.W) c.loop-first.left c.top-place.result within c.top-place.ensures.there in
+    let some = set_drop c.loop-first.left c.top-place.result c.top-place.ensures.there in
     let parts = ap (λ ps. length (placed ps)) i.1 in
     let long = length-append (placed c.loop-first.draft.parts) c.loop-first.draft.ids in (
       lit< tt,
@@ -21,7 +21,7 @@ pub loop-first-smaller : goal.loop-first-smaller
 loop-first-smaller g c =
     let i = c.loop-first.invariant in
     let within : IsWithin (64 * g.row.W) c.loop-first.left = λ k m. c.requires.closed.within k (c.requires.members k (i.0.inside k m)) in
-    let some = len_remove (64 * g.row.W) c.loop-first.left c.top-place.result within c.top-place.ensures.there in
+    let some = set_drop c.loop-first.left c.top-place.result c.top-place.ensures.there in
     let is = ap (λ s. fin.len s) c.remove.ensures in
     omega (arith, some, is)
 

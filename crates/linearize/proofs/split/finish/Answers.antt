@@ -1,9 +1,9 @@
 use Rattle.std.proofs.Common.{rules, ◌<◌, ◌≤◌, ◌*◌, ℕ, sym, subst, arith, lit<}
 use Rattle.std.specs.FinSet as fin
+use Rattle.lists.proofs.Keys.{set_within}
 use Rattle.closure_flow.specs.Scratches.{Flow, flow_of}
 use Rattle.linearize.specs.Orders.{Balances}
 use Rattle.linearize.proofs.Cuts.{balances_of, cut_on, uncut_of}
-use Rattle.linearize.proofs.Sets.{len_within}
 use Rattle.linearize.proofs.Sizes.{words_fit, scratch_fits}
 use Rattle.linearize.proofs.split.finish.Goals as goal
 
@@ -27,7 +27,7 @@ emit-requires g c =
     let tight = c.smallest_tight-first.ensures.smallest s.weights s.balanced in
     let all : fin.len c.args.within.now ≤ fin.len first =
     (let few = r.few in
-    let inside = len_within n c.args.within.now first c.count-2.ensures.within tight.tight.closed.inside in
+    let inside = set_within first c.args.within.now tight.tight.closed.inside in
     omega (arith, few, inside, c.count.ensures.exact, c.count-2.ensures.exact, c.if-count.false)) in
     let balanced : Balances n c.args.dep.now c.args.parents.now c.args.within.now (flow_of c.smallest_tight-first.new.scratch) =
     subst (λ (f : Flow). Balances n c.args.dep.now c.args.parents.now c.args.within.now (flow_of f)) (sym c.smallest_tight-first.ensures.flow)
