@@ -6,36 +6,12 @@ use Rattle.std.proofs.lemmas.List.{get_or-set_same, get_or-set_other, length-set
 use Rattle.std.proofs.lemmas.List.Elements.{All-append, All-map, Contains-append_cases, Contains-append_left, Contains-append_right, Contains-push, Contains-push_cases}
 use Rattle.std.proofs.lemmas.List.Sums.{sum_by-set}
 use Rattle.lists.proofs.Cases.{swap}
-use Rattle.graphs.proofs.WalkLemmas.{connected_trans}
+use Rattle.lists.proofs.Entries.{Contains-head, Contains-later, Contains-cases, none_in_empty}
+use Rattle.graphs.proofs.WalkLemmas.{connected_trans, AreConnected-sym}
 use Rattle.graphs.specs.Graphs.{Trail, AreConnected}
 use Rattle.certificate.specs.Chains.{pair_at, IsLast}
 use Rattle.certificate.specs.Groups.{AreWithin, AreGroups, turned, GoBothWays, HasGroup, AreOfGroup, IsGrouping, GoesOn, work_of}
 use Rattle.certificate.proofs.Searching.{contains_at, position_of}
-
--- ---- lists
-first_or_later : (x y : ℕ) (xs : List ℕ) → Contains (x ∷ xs) y → (x ≡ y) ⊎ Contains xs y
-first_or_later x y xs (zero, in', e) = inl e
-first_or_later x y xs (suc k, in', e) = inr (k, omega arith, e)
-
-first_in : (x : ℕ) (xs : List ℕ) → Contains (x ∷ xs) x
-first_in x xs = (0, omega arith, refl)
-
-later_in : (x y : ℕ) (xs : List ℕ) → Contains xs y → Contains (x ∷ xs) y
-later_in x y xs (k, in', e) = (suc k, omega arith, e)
-
-none_in : (x : ℕ) → Contains {X = ℕ} [] x → ⊥
-none_in x (k, in', e) = omega arith
-
--- ---- trails
-
-connected_back : (pairs : List (ℕ × ℕ)) (a b n : ℕ) → Trail pairs a b n → AreConnected pairs b a
-connected_back pairs a b zero t = (0, sym t)
-connected_back pairs a b (suc n) (c, t, inl last) =
-    let (m, u) = connected_back pairs a c n t in
-    connected_trans pairs b c a (1, (b, refl, inr last)) m u
-connected_back pairs a b (suc n) (c, t, inr last) =
-    let (m, u) = connected_back pairs a c n t in
-    connected_trans pairs b c a (1, (b, refl, inl last)) m u
 
 -- ---- a place gets a group
 here : (groups : List ℕ) (p own : ℕ) → p < length groups → get_or (set groups p own) p 0 ≡ own
@@ -119,7 +95,7 @@ pub around_first : (steps : List (ℕ × ℕ)) (count from group left : ℕ) (gr
     → IsAround steps count from group left groups waiting groups waiting
 around_first steps count from group left groups waiting in' is some g all last = record {
   grouping = g;
-  together = λ x c. elim (first_or_later from x waiting c)
+  together = λ x c. elim (Contains-cases from x waiting c)
       [ inl e ↦ subst (λ y. (y < count) × (get_or groups y 0 ≡ group)) e (in', is) | inr later ↦ all x later ];
   some = some;
   kept = λ x has. refl;
@@ -160,7 +136,7 @@ same_group steps count from group left groups waiting groups' waiting' both a ne
       | inl waits ↦ (a.together near (subst (λ x. Contains (from ∷ waiting') x) there' waits)).1
       | inr same ↦
           ap (λ x. get_or groups' x 0) (sym there') ∙ sym same ∙ ap (λ x. get_or groups' x 0) back
-          ∙ (a.together from (first_in from waiting')).1
+          ∙ (a.together from (Contains-head from waiting')).1
     ]
 
 -- one pair more was looked at
@@ -208,7 +184,7 @@ around_reached steps count from group left before groups waiting groups' waiting
     let near = (pair_at steps (left - 1)).0 in
     let size = a.grouping.sized in
     let near_in : near < length groups' = let n = next.near in omega arith in
-    let first = a.together from (first_in from waiting') in
+    let first = a.together from (Contains-head from waiting') in
     let edge : Contains {X = ℕ × ℕ} steps (near, from) =
     subst (λ x. Contains {X = ℕ × ℕ} steps (near, x)) next.into (contains_at steps (left - 1) next.within)
     in
@@ -284,17 +260,17 @@ around_all steps count from group left groups waiting groups' waiting' a done = 
         λ k less has.
         elim (cases_eq (pair_at steps k).1 from) [
           | inl e ↦
-              (let is = (a.together from (first_in from waiting')).1 in
+              (let is = (a.together from (Contains-head from waiting')).1 in
               inr (a.looked k (omega arith) less e ∙ sym (ap (λ x. get_or groups' x 0) e ∙ is)))
           | inr ne ↦
               elim (a.grouping.closed k less has) [
-                | inl waits ↦ elim (first_or_later from _ waiting' waits)
+                | inl waits ↦ elim (Contains-cases from _ waiting' waits)
                     [ inl e ↦ absurd (ne (sym e)) | inr later ↦ inl later ]
                 | inr same ↦ inr same
               ]
         ];
   };
-  together = λ x c. a.together x (later_in from x waiting' c);
+  together = λ x c. a.together x (Contains-later from x waiting' c);
   kept = a.kept;
 }
 
@@ -325,8 +301,8 @@ taken steps count group groups groups' waiting' rest from g e =
             elim (g.grouping.closed k less has) [
               | inl waits ↦
                   elim (Contains-push_cases rest from _ (subst (λ l. Contains l (pair_at steps k).1) e waits)) [
-                    | inl old ↦ inl (later_in from _ rest old)
-                    | inr same ↦ inl (subst (λ x. Contains (from ∷ rest) x) same (first_in from rest))
+                    | inl old ↦ inl (Contains-later from _ rest old)
+                    | inr same ↦ inl (subst (λ x. Contains (from ∷ rest) x) same (Contains-head from rest))
                   ]
               | inr same ↦ inr same
             ];
@@ -370,7 +346,7 @@ ends_same steps count groups a b w c =
     let (k, in', e) = position_of steps a b c in
     let ends = w.within k (0, 0) in' in
     let same : get_or groups (pair_at steps k).0 0 ≡ get_or groups (pair_at steps k).1 0 =
-    elim (w.grouping.closed k in' (w.all _ ends.1)) [ inl waits ↦ absurd (none_in _ waits) | inr same ↦ same ]
+    elim (w.grouping.closed k in' (w.all _ ends.1)) [ inl waits ↦ absurd (none_in_empty _ waits) | inr same ↦ same ]
     in
     subst (λ (x : ℕ × ℕ). (x.0 < count) × (x.1 < count) × (get_or groups x.0 0 ≡ get_or groups x.1 0)) e
     (ends.0, ends.1, same)
@@ -392,7 +368,7 @@ whole_groups steps count groups w = record {
       let to_a = w.grouping.sound a (omega arith) (w.all a (omega arith)) in
       let to_b = w.grouping.sound b (omega arith) (w.all b (omega arith)) in (
         (λ e.
-            let (m, back) = connected_back steps (get_or groups a 0) a to_a.0 to_a.1 in
+            let (m, back) = AreConnected-sym steps (get_or groups a 0) a to_a in
             connected_trans steps a (get_or groups b 0) b (m, subst (λ x. Trail steps a x m) e back) to_b.0 to_b.1),
         (λ c. trail_same steps count groups a b c.0 w c.1),
       );

@@ -1,9 +1,9 @@
 -- Fees and sizes of names, and their sums.
-use Rattle.std.proofs.Common.{◌≡◌, ◌≢◌, ℕ, ◌+◌, ◌<◌, ◌≤◌, zero, suc, List, [], ◌∷◌, ◌++◌, length, refl, sym, ap, ◌∙◌, subst, arith, get_or, take, Option, Some, cond, eqb, true, false, Bool, ℤ, pos, ◌+ℤ◌, unsigned_abs, to_z, of_z}
+use Rattle.std.proofs.Common.{◌≡◌, ◌≢◌, ℕ, ◌+◌, ◌<◌, ◌≤◌, zero, suc, List, [], ◌∷◌, ◌++◌, length, refl, sym, ap, ◌∙◌, subst, arith, get_or, take, Option, Some, eqb, ℤ, pos, ◌+ℤ◌, unsigned_abs, to_z, of_z}
 use Rattle.std.specs.Prelude.{Contains, All}
 use Rattle.std.proofs.lemmas.Int.{ints, to_z-of_z, fits_signed_from_abs}
 use mir.Syntax.{w64}
-use Rattle.std.proofs.lemmas.Bool.{ne_eqb}
+use Rattle.std.proofs.lemmas.Bool.{cond-true, cond-false, ne_eqb}
 use Rattle.std.proofs.lemmas.List.{length-map, get_or_default, take_more, length-take-le}
 use Rattle.std.proofs.lemmas.List.Sums.{sum_by-append, sum_by-le, sum_by-cons}
 use Rattle.std.proofs.lemmas.List.Elements.{Contains-get_or, All-take}
@@ -13,9 +13,8 @@ use Rattle.lists.specs.Distinct.{AreDistinct}
 use Rattle.arithmetic.proofs.Sums.{total-append, total_within}
 use Rattle.fee_rate.specs.declared.rates.Sum.{Sum}
 use Rattle.fee_rate.specs.Limits.{IsSum}
-use Rattle.fee_rate.specs.declared.limits.TheConstants.{MAX_FEE, MAX_SIZE, MAX_TOTAL}
+use Rattle.fee_rate.specs.declared.limits.TheConstants.{MAX_FEE, MAX_SIZE, MAX_TOTAL, }
 use Rattle.fee_rate.specs.Rates.{AtMost}
-use Rattle.fee_rate.specs.declared.limits.TheConstants.{}
 use Rattle.graphs.specs.Rates.{sums, Falls}
 use Rattle.graphs.specs.Certificates.{Txs, rate_in}
 use Rattle.certificate.specs.Places.{ArePlaces}
@@ -26,24 +25,16 @@ use Rattle.certificate.proofs.PlaceLemmas.{places_distinct, name_at}
 abbrev pub rate_here : Txs → ℕ → Sum
 rate_here txs p = record { fee = (get_or txs p (0, pos 0, 0)).1; size = (get_or txs p (0, pos 0, 0)).2 }
 
-same_true : {A : Type 0} (b : Bool) (x y : A) → b ≡ true → cond b x y ≡ x
-same_true true x y e = refl
-same_true false x y e = cc
-
-same_false : {A : Type 0} (b : Bool) (x y : A) → b ≡ false → cond b x y ≡ y
-same_false true x y e = cc
-same_false false x y e = refl
-
 -- the rate of a name is that of the transaction at its place
 rate_first : (txs : Txs) (id p : ℕ) → AreDistinct (names_of txs) → p < length txs → (get_or txs p (0, pos 0, 0)).0 ≡ id → rate_in txs id ≡ rate_here txs p
 rate_first [] id p d in' e = absurd (omega arith)
-rate_first (tx ∷ txs) id zero d in' e = same_true (eqb tx.0 id) record { fee = tx.1; size = tx.2 } (rate_in txs id) (eq-eqb tx.0 id e)
+rate_first (tx ∷ txs) id zero d in' e = cond-true (eqb tx.0 id) record { fee = tx.1; size = tx.2 } (rate_in txs id) (eq-eqb tx.0 id e)
 rate_first (tx ∷ txs) id (suc p) d in' e =
     let p_in : p < length txs = omega arith in
     let long : p < length (names_of txs) = subst (λ n. p < n) (sym (length-map txs (λ (t : ℕ × ℤ × ℕ). t.0))) p_in in
     let there : Contains (names_of txs) id = (p, long, get_or_default (names_of txs) p id 0 long ∙ name_at txs p p_in ∙ e) in
     let other : tx.0 ≢ id = λ same. d.0 (subst (λ x. Contains (names_of txs) x) (sym same) there) in
-    same_false (eqb tx.0 id) record { fee = tx.1; size = tx.2 } (rate_in txs id) (ne_eqb tx.0 id other) ∙ rate_first txs id p d.1 p_in e
+    cond-false (eqb tx.0 id) record { fee = tx.1; size = tx.2 } (rate_in txs id) (ne_eqb tx.0 id other) ∙ rate_first txs id p d.1 p_in e
 
 pub rate_found : (txs : Txs) (find : ℕ → Option ℕ) (id p : ℕ) → ArePlaces (names_of txs) find
     → find id ≡ Some p → (p < length txs) × (rate_in txs id ≡ rate_here txs p)

@@ -4,6 +4,7 @@ use Rattle.std.specs.Prelude.{Contains, sum_by}
 use Rattle.std.proofs.lemmas.Bool.{cases_eq, cases_lt}
 use Rattle.std.proofs.lemmas.List.{get_or-set_same, get_or-set_other, length-set, get_or_append_left, get_or_push, length_push, get_or_default, get_or-take, length-take-le, get_or_read, get_or-replicate, length-replicate, get_or_past}
 use Rattle.std.proofs.lemmas.List.Sums.{sum_by-set}
+use Rattle.graphs.proofs.WalkLemmas.{walk_cons}
 use Rattle.graphs.specs.Graphs.{Walk, IsAncestor, HasNoCycle}
 use Rattle.certificate.specs.declared.cycles.Visit.{Visit}
 use Rattle.certificate.specs.declared.cycles.Visit.TheVariants.{New, Open, Done}
@@ -43,10 +44,6 @@ left_falls : (left : List ℕ) (p n : ℕ) → p < length left → n < get_or le
 left_falls left p n in' less = omega (arith, sum_by-set (λ (x : ℕ). x) left p n 0 in')
 
 -- ---- walks
-pub walk_front : (pairs : List (ℕ × ℕ)) (a b c n : ℕ) → Contains {X = ℕ × ℕ} pairs (a, b) → Walk pairs b c n → Walk pairs a c (suc n)
-walk_front pairs a b c zero h e = (a, refl, subst (λ y. Contains {X = ℕ × ℕ} pairs (a, y)) e h)
-walk_front pairs a b c (suc n) h (d, w, last) = (d, walk_front pairs a b d n h w, last)
-
 pub contains_at : (pairs : List (ℕ × ℕ)) (k : ℕ) → k < length pairs → Contains {X = ℕ × ℕ} pairs (pair_at pairs k)
 contains_at pairs k in' = (k, in', get_or_default pairs k (pair_at pairs k) (0, 0) in')
 
@@ -378,7 +375,7 @@ above_way pairs left visits way n top l s t next i in' =
     let w' : Walk pairs top (get_or way i 0) m = subst (λ x. Walk pairs x (get_or way i 0) m) t.here w in
     let edge : Contains {X = ℕ × ℕ} pairs ((pair_at pairs (l - 1)).0, top) =
     subst (λ x. Contains {X = ℕ × ℕ} pairs ((pair_at pairs (l - 1)).0, x)) next.into (contains_at pairs (l - 1) next.within) in
-    (suc m, walk_front pairs (pair_at pairs (l - 1)).0 top (get_or way i 0) m edge w')
+    (suc m, walk_cons pairs (pair_at pairs (l - 1)).0 top (get_or way i 0) m edge w')
 
 -- the state that `open` leaves
 pub goes_on_same : (pairs : List (ℕ × ℕ)) (visits : List Visit) (left left' : List ℕ) (visits' visits'' : List Visit) (way' way'' : List ℕ)

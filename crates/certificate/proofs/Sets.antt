@@ -1,6 +1,6 @@
 -- Sets of pairs of numbers.
 use Rattle.std.proofs.Common.{◌≡◌, ℕ, zero, suc, eq-eqb, ◌+◌, ◌<◌, List, [], ◌∷◌, ◌++◌, length, refl, sym, ap, inl, inr, ◌⊎◌, cond, ◌∙◌, subst, arith, get_or, take, Bool, true, false, nat_eq}
-use Rattle.std.specs.Prelude.{Contains, ◌&&◌, ◌||◌, not}
+use Rattle.std.specs.Prelude.{Contains, ◌&&◌, not}
 use Rattle.std.specs.List.{list_any}
 use Rattle.std.proofs.lemmas.Map.Views.{Contains-from_any}
 use Rattle.std.proofs.lemmas.Bool.{eqb-true, and_parts, and_from, or_left, or_right, true≢false}
