@@ -1,5 +1,5 @@
 -- The corners that a walk gives, as a list: rising, and in range.
-use Rattle.std.proofs.Common.{◌≡◌, ◌≢◌, ◌⊎◌, ℕ, zero, suc, ◌≤◌, List, [], ◌∷◌, map, Option, ℤ, refl, sym, ap, ◌∙◌, subst, arith, inl, inr}
+use Rattle.std.proofs.Common.{◌≡◌, ◌≢◌, ℕ, suc, ◌≤◌, List, [], ◌∷◌, map, Option, ℤ, refl, sym, ap, ◌∙◌, subst, arith, inl, inr}
 use Rattle.std.specs.Prelude.{Contains, flat_map, pos}
 use Rattle.std.specs.Iterator.{AlwaysYields, Count, IsFinite}
 use Rattle.std.proofs.lemmas.Int.{ints}

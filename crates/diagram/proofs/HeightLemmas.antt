@@ -1,12 +1,11 @@
 -- Heights are straight between corners, so it is enough to compare them at corners.
-use Rattle.std.proofs.Common.{◌≡◌, ℕ, ◌-◌, ◌<◌, ◌≤◌, Bool, List, [], ◌∷◌, ℤ, ◌+ℤ◌, ◌-ℤ◌, ◌*ℤ◌, ◌≤ℤ◌, ◌<ℤ◌, refl, sym, ap, ◌∙◌, subst, inl, inr, arith}
-use Rattle.std.specs.Prelude.{pos, if◌then◌else◌}
-use Rattle.std.proofs.lemmas.Bool.{cases_lt, le-leb, lt-leb}
+use Rattle.std.proofs.Common.{◌≡◌, ℕ, ◌-◌, ◌<◌, ◌≤◌, List, [], ◌∷◌, ℤ, ◌+ℤ◌, ◌-ℤ◌, ◌*ℤ◌, ◌≤ℤ◌, ◌<ℤ◌, refl, sym, ap, ◌∙◌, subst, inl, inr, arith}
+use Rattle.std.specs.Prelude.{pos}
+use Rattle.std.proofs.lemmas.Bool.{cases_lt}
 use Rattle.std.proofs.lemmas.Int.{ints, by_lt_z}
 use Rattle.graphs.proofs.HeightLemmas.{height_early, height_late}
-use Rattle.fee_rate.proofs.Orders.{at_most_chains, same_at_most, same_back, same_chains, same_sum}
+use Rattle.fee_rate.proofs.Orders.{same_back, same_chains, same_sum}
 use Rattle.arithmetic.proofs.Products.{mul-add_left, mul-add_right, mul-sub_left, mul-sub_right, mul_swap_ℤ, scale_keeps}
-use Rattle.arithmetic.proofs.Rates.{cross_trans}
 use Rattle.fee_rate.specs.declared.rates.Sum.{Sum}
 use Rattle.std.proofs.lemmas.Cmp.{int_ranked}
 use Rattle.std.specs.Ordering.{MatchOrdering, int_cmp}

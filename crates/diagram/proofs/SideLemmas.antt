@@ -6,7 +6,8 @@ use Rattle.std.specs.Ordering.{ordering_reverse}
 use Rattle.std.specs.declared.cmp.Ordering.{Ordering}
 use Rattle.std.specs.declared.cmp.Ordering.TheVariants.{Less, Equal, Greater}
 use Rattle.graphs.proofs.HeightLemmas.{height_early}
-use Rattle.lists.proofs.Entries.{not_empty, first_of, rest_of}
+use Rattle.lists.proofs.Entries.{not_empty, first_of, rest_of, Contains-head, Contains-later}
+use Rattle.std.proofs.lemmas.Option.{same_Some}
 use Rattle.fee_rate.proofs.Orders.{same_at_most, same_back, same_chains}
 use Rattle.arithmetic.proofs.Rates.{cross_trans_strict_left, cross_trans_strict_right}
 use Rattle.fee_rate.specs.declared.rates.Sum.{Sum}
@@ -46,12 +47,6 @@ pub never_empty : {S : Type 0} (steps : S → Option (ℕ × ℤ) → S → Type
 never_empty steps s t points step corners = not_empty (sym corners.level.begins.1 ∙ step_none steps (λ corner. corner) s t points corners.yields step)
 
 -- ---- ranges
-Contains-head : (p : ℕ × ℤ) (points : List (ℕ × ℤ)) → Contains (p ∷ points) p
-Contains-head p points = (0, omega arith, refl)
-
-Contains-next : (p q : ℕ × ℤ) (points : List (ℕ × ℤ)) → Contains (p ∷ q ∷ points) q
-Contains-next p q points = (1, omega arith, refl)
-
 first_in_range : (from : ℕ × ℤ) (to : Option (ℕ × ℤ)) (Behind : List (ℕ × ℤ) → Type 0) (points : List (ℕ × ℤ)) (x : ℕ)
     → ArePoints from to Behind points → StandAt points x → InRange from.1 from.0
 first_in_range from None Behind points x are stands = stands.ranged from (subst (λ zs. Contains zs from) (sym are) (Contains-head from []))
@@ -61,11 +56,8 @@ next_in_range : (from next : ℕ × ℤ) (to : Option (ℕ × ℤ)) (Behind : Li
     → to ≡ Some next → ArePoints from to Behind points → StandAt points x → InRange next.1 next.0
 next_in_range from next None Behind points x e are stands = cc
 next_in_range from next (Some other) Behind points x e are stands =
-    let same : other ≡ next = some_same e in
-    subst (λ (p : ℕ × ℤ). InRange p.1 p.0) same (stands.ranged other (subst (λ zs. Contains zs other) (sym are.1) (Contains-next from other are.0)))
-  where
-    some_same : {A : Type 0} {a b : A} → Some a ≡ Some b → a ≡ b
-    some_same e = cc
+    let same : other ≡ next = same_Some other next e in
+    subst (λ (p : ℕ × ℤ). InRange p.1 p.0) same (stands.ranged other (subst (λ zs. Contains zs other) (sym are.1) (Contains-later from other (other ∷ are.0) (Contains-head other are.0))))
 
 pub side_in_range : {S : Type 0} (steps : S → Option (ℕ × ℤ) → S → Type 0) (side : Side S) (points : List (ℕ × ℤ)) (x : ℕ)
     → HasPoints steps side points → StandAt points x → IsInRange side.line
@@ -108,10 +100,7 @@ rest_stands p next rest points x whole stands =
     }
   where
     to_next : (zs : List (ℕ × ℤ)) → Rises (next ∷ zs) → (q r : ℕ × ℤ) (others : List (ℕ × ℤ)) → next ∷ zs ≡ q ∷ r ∷ others → next.0 ≤ r.0
-    to_next [] rises q r others e = absurd (none (rest_of e))
-      where
-        none : {A : Type 0} {x : A} {xs : List A} → [] ≡ x ∷ xs → ⊥
-        none e = cc
+    to_next [] rises q r others e = absurd (not_empty (sym (rest_of e)))
     to_next (z ∷ zs) rises q r others e = subst (λ (k : ℕ × ℤ). next.0 ≤ k.0) (first_of (rest_of e)) (omega (arith, rises.0))
 
 still_stands : (points : List (ℕ × ℤ)) (x y : ℕ) → x ≤ y → StandAt points x
@@ -127,14 +116,8 @@ still_stands points x y later stands near = record {
 near_next : (from : ℕ × ℤ) (to : Option (ℕ × ℤ)) (Behind : List (ℕ × ℤ) → Type 0) (points : List (ℕ × ℤ)) (y : ℕ)
     → ArePoints from to Behind points → ((next : ℕ × ℤ) → to ≡ Some next → y ≤ next.0)
     → (p q : ℕ × ℤ) (rest : List (ℕ × ℤ)) → points ≡ p ∷ q ∷ rest → y ≤ q.0
-near_next from None Behind points y are near p q rest e = absurd (one (sym are ∙ e))
-  where
-    one : {A : Type 0} {a b c : A} {xs : List A} → a ∷ [] ≡ b ∷ c ∷ xs → ⊥
-    one e = cc
-near_next from (Some next) Behind points y are near p q rest e = subst (λ (k : ℕ × ℤ). y ≤ k.0) (seconds (sym are.1 ∙ e)) (near next refl)
-  where
-    seconds : {A : Type 0} {a b c d : A} {xs ys : List A} → a ∷ b ∷ xs ≡ c ∷ d ∷ ys → b ≡ d
-    seconds e = cc
+near_next from None Behind points y are near p q rest e = absurd (not_empty (sym (rest_of (sym are ∙ e))))
+near_next from (Some next) Behind points y are near p q rest e = subst (λ (k : ℕ × ℤ). y ≤ k.0) (first_of (rest_of (sym are.1 ∙ e))) (near next refl)
 
 -- the first walk goes on to its next corner
 pub first_moves : {S : Type 0} (steps : S → Option (ℕ × ℤ) → S → Type 0) (other : Side S) (cs ds rest : List (ℕ × ℤ)) (x : ℕ) (p next : ℕ × ℤ) (o : Ordering)

@@ -1,5 +1,5 @@
 -- One call of an iterator whose items are known.
-use Rattle.std.proofs.Common.{◌≡◌, List, [], ◌∷◌, map, Option, Some, None, refl, sym, ap}
+use Rattle.std.proofs.Common.{◌≡◌, List, [], ◌∷◌, Option, Some, None, refl, sym}
 use Rattle.std.specs.Iterator.{AlwaysYields}
 
 pub step_some : {S A B : Type 0} (steps : S → Option A → S → Type 0) (v : A → B) (s t : S) (x : A) (rest : List B)

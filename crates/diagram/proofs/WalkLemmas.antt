@@ -3,7 +3,6 @@ use Rattle.std.proofs.Common.{◌≡◌, ◌≢◌, ◌⊎◌, ℕ, zero, suc, �
 use Rattle.std.specs.Prelude.{Contains, flat_map}
 use Rattle.std.specs.Iterator.{AlwaysYields, Count, IsFinite, IsNearerEnd, size}
 use Rattle.graphs.proofs.CornerLemmas.{falls-after, joins_first_segment}
-use Rattle.graphs.proofs.TangentLemmas.{falls-tail}
 use Rattle.fee_rate.proofs.Orders.{same_sum}
 use Rattle.lists.proofs.Entries.{not_empty, Contains-head}
 use Rattle.fee_rate.specs.declared.rates.FeeRate.{FeeRate}
@@ -18,7 +17,7 @@ use Rattle.arithmetic.proofs.Sums.{total-append}
 use Rattle.fee_rate.specs.Rates.{AtMost, ComparesRates}
 use Rattle.fee_rate.specs.Limits.{IsSum}
 use Rattle.graphs.specs.Diagrams.{ends_from, JoinsEqualRates}
-use Rattle.graphs.specs.Rates.{sum_of, Falls}
+use Rattle.graphs.specs.Rates.{sum_of}
 use Rattle.diagram.specs.Parts.{rate_of}
 use Rattle.diagram.specs.Walks.{FitBehind, TakesSegment, AreAhead, AreLeft, UnlessEnded, WhereTaken, HasCorners, CanGoOn, corners_from, corners_count}
 use Rattle.diagram.specs.declared.segments.Ahead.{Ahead}
