@@ -5,31 +5,16 @@ use Rattle.std.specs.List.{flat_map, AllPairs}
 use Rattle.std.proofs.lemmas.List.Sums.{sum_by-append}
 use Rattle.std.proofs.lemmas.List.Elements.{Contains-append_cases, Contains-append_left, Contains-append_right, Contains-push_cases}
 use Rattle.std.proofs.lemmas.List.{map_push}
-use Rattle.lists.proofs.Distinct.{distinct_joined, distinct-append_left, distinct-append_right}
+use Rattle.lists.proofs.Distinct.{distinct_within, distinct_joined}
 use Rattle.lists.proofs.Entries.{Contains-cases, Contains-head, Contains-later, none_in_empty, Contains-splits, map-Contains}
 use Rattle.lists.proofs.Walks.{Walk-keeps}
 use Rattle.lists.specs.Distinct.{AreDistinct}
 use Rattle.lists.specs.Walks.{Walk}
+use Rattle.lists.proofs.Flats.{flat_has, flat_of, flat_part_once}
 use Rattle.graphs.specs.Closures.{Closure}
 use Rattle.cluster.specs.Changes.{AreComponents, AreNearLeft, IsLeft}
 use Rattle.cluster.specs.Clusters.{Cluster, AreApart}
 use Rattle.cluster.specs.Steps.{most_steps, least_steps, most_steps_of, least_steps_of, GrowsWithin}
-
--- ---- lists with the same entries
-
-no_longer : (xs ys : List ℕ) → AreDistinct xs → ((x : ℕ) → Contains xs x → Contains ys x) → length xs ≤ length ys
-no_longer [] ys once within = omega arith
-no_longer (x ∷ xs) ys once within =
-    let cut = Contains-splits ys x (within x (Contains-head x xs)) in
-    let rest : length xs ≤ length (cut.0 ++ cut.1) = no_longer xs (cut.0 ++ cut.1) once.1
-    (λ y here. elim (Contains-append_cases cut.0 (x ∷ cut.1) y (subst (λ (zs : List ℕ). Contains zs y) cut.2 (within y (Contains-later x y xs here)))) [
-      | inl before ↦ Contains-append_left cut.0 cut.1 y before
-      | inr after ↦ elim (Contains-cases x y cut.1 after) [
-        | inl same ↦ absurd (once.0 (subst (Contains xs) (sym same) here))
-        | inr later ↦ Contains-append_right cut.0 cut.1 y later
-      ]
-    ]) in
-    omega (arith, ap length cut.2, length-append cut.0 (x ∷ cut.1), length-append cut.0 cut.1)
 
 -- ---- lists apart
 
@@ -62,33 +47,12 @@ apart_push (m ∷ ms) k apart other = (
   apart_push ms k apart.1 (λ j here. other j (Contains-later m j ms here)),
 )
 
-in_flat : (ms : List (List ℕ)) (x : ℕ) → Contains (flat_map (λ ids. ids) ms) x → (m : List ℕ) × Contains ms m × Contains m x
-in_flat [] x here = absurd (none_in_empty x here)
-in_flat (m ∷ ms) x here = elim (Contains-append_cases m (flat_map (λ ids. ids) ms) x here) [
-  | inl first ↦ (m, Contains-head m ms, first)
-  | inr later ↦ let rest = in_flat ms x later in (rest.0, Contains-later m rest.0 ms rest.1, rest.2)
-]
-
-flat_in : (ms : List (List ℕ)) (m : List ℕ) (x : ℕ) → Contains ms m → Contains m x → Contains (flat_map (λ ids. ids) ms) x
-flat_in [] m x here there = absurd (none_in_empty m here)
-flat_in (k ∷ ms) m x here there = elim (Contains-cases k m ms here) [
-  | inl same ↦ Contains-append_left k (flat_map (λ ids. ids) ms) x (subst (λ (ys : List ℕ). Contains ys x) (sym same) there)
-  | inr later ↦ Contains-append_right k (flat_map (λ ids. ids) ms) x (flat_in ms m x later there)
-]
-
-once_in_flat : (ms : List (List ℕ)) (m : List ℕ) → AreDistinct (flat_map (λ ids. ids) ms) → Contains ms m → AreDistinct m
-once_in_flat [] m once here = absurd (none_in_empty m here)
-once_in_flat (k ∷ ms) m once here = elim (Contains-cases k m ms here) [
-  | inl same ↦ subst AreDistinct same (distinct-append_left k (flat_map (λ ids. ids) ms) once)
-  | inr later ↦ once_in_flat ms m (distinct-append_right k (flat_map (λ ids. ids) ms) once) later
-]
-
 flat_once : (ms : List (List ℕ)) → ((m : List ℕ) → Contains ms m → AreDistinct m) → AreApartLists ms → AreDistinct (flat_map (λ ids. ids) ms)
 unfolding AreApartLists
 flat_once [] each apart = tt
 flat_once (m ∷ ms) each apart =
     distinct_joined m (flat_map (λ ids. ids) ms) (each m (Contains-head m ms)) (flat_once ms (λ k here. each k (Contains-later m k ms here)) apart.1)
-    (λ x one two. let at = in_flat ms x two in apart.0 at.0 at.1 x one at.2)
+    (λ x one two. let at = flat_of (λ (ids : List ℕ). ids) ms x two in apart.0 at.0 at.1 x one at.2)
 
 -- ---- components
 
@@ -111,13 +75,13 @@ matched : (g : Closure) (gone : List ℕ) (lists : List (List ℕ)) (m : List �
 matched g gone lists m all one =
     let x : ℕ = one.some.0 in
     let here : Contains m x = one.some.1 in
-    let at = in_flat lists x ((all.exact x).1 (one.left x here)) in
+    let at = flat_of (λ (ids : List ℕ). ids) lists x ((all.exact x).1 (one.left x here)) in
     let into : (y : ℕ) → Contains m y → Contains at.0 y =
     λ y held. Walk-keeps (AreNearLeft g gone) (Contains at.0) (λ a b step there. all.alone at.0 at.1 a b there step) x y (one.whole x y here held) at.2 in
     let from : (y : ℕ) → Contains at.0 y → Contains m y =
     λ y held. Walk-keeps (AreNearLeft g gone) (Contains m) (λ a b step there. one.alone a b there step) x y (all.whole at.0 at.1 x y at.2 held) here in
-    let up : length m ≤ length at.0 = no_longer m at.0 one.once into in
-    let down : length at.0 ≤ length m = no_longer at.0 m (once_in_flat lists at.0 all.once at.1) from in
+    let up : length m ≤ length at.0 = (distinct_within (λ (x : ℕ). x) m at.0 one.once into).0 in
+    let down : length at.0 ≤ length m = (distinct_within (λ (x : ℕ). x) at.0 m (flat_part_once (λ (ids : List ℕ). ids) lists at.0 all.once at.1) from).0 in
     record { list = at.0; there = at.1; same = λ y. (into y, from y); long = omega arith }
 
 module _ (w : ℕ → ℕ) where
@@ -171,8 +135,8 @@ pub are_components : (g : Closure) (gone : List ℕ) (done : List (List ℕ)) �
 are_components g gone done apart each holds = record {
   once = flat_once done (λ m here. (each m here).once) apart;
   exact = λ id. (
-    λ here. (let at = in_flat done id here in (each at.0 at.1).left id at.2),
-    λ left. (let at = holds id left in flat_in done at.0 id at.1 at.2),
+    λ here. (let at = flat_of (λ (ids : List ℕ). ids) done id here in (each at.0 at.1).left id at.2),
+    λ left. (let at = holds id left in flat_has (λ (ids : List ℕ). ids) done at.0 id at.1 at.2),
   );
   whole = λ ids here. (each ids here).whole;
   alone = λ ids here. (each ids here).alone;

@@ -7,6 +7,7 @@ use Rattle.std.proofs.Math.Seq.{drop-cons}
 use Rattle.lists.proofs.Distinct.{one_place, places_apart}
 use Rattle.lists.proofs.Entries.{Contains-cases, Contains-head, Contains-later, none_in_empty, Contains-map}
 use Rattle.lists.specs.Distinct.{AreDistinct}
+use Rattle.std.proofs.lemmas.Simd.{map-map}
 use Rattle.fee_rate.specs.declared.rates.Sum.{Sum}
 use Rattle.graphs.specs.declared.names.Flow.{Flow}
 use Rattle.graphs.specs.Graphs.{Graph, IsCover}
@@ -20,7 +21,7 @@ use Rattle.linearize.specs.declared.draft.PlaceFlow.{PlaceFlow}
 use Rattle.linearize.specs.Drafts.{placed}
 use Rattle.cluster.specs.Orders.{named_at, renamed_flow, AreRead, IsReadPart}
 use Rattle.cluster.proofs.Moves.{Certifies-moved}
-use Rattle.cluster.proofs.Reading.{map_map, rates_read, placed_read}
+use Rattle.cluster.proofs.Reading.{rates_read, placed_read}
 
 pub matched : (f : ℕ → ℕ) (order : List ℕ) (ps qs : List Part) → AreRead f order ps qs
     → (q : Part) → Contains qs q → (p : Part) × Contains ps p × IsReadPart f order p q
@@ -45,7 +46,7 @@ module _ (rate : ℕ → Sum) (graph : Graph) (IsLink : ℕ → ℕ → Type 0) 
   renamed_there p here = Contains-map (renamed_part f) ps p here
 
   rates : map (λ (part : Part). part.rate) qs ≡ map (λ (part : Part). part.rate) (map (renamed_part f) ps)
-  rates = rates_read names order ps qs read ∙ sym (map_map (renamed_part f) (λ (part : Part). part.rate) ps)
+  rates = rates_read names order ps qs read ∙ sym (map-map (λ (part : Part). part.rate) (renamed_part f) ps)
 
   certifies : (q : Part) → Contains qs q → Certifies rate IsLink q.ids q.flows
   certifies q here =

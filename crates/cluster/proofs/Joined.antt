@@ -1,5 +1,5 @@
 -- Two clusters in one, with a dependency from the one to the other.
-use Rattle.std.proofs.Common.{◌≡◌, ℕ, zero, suc, ◌+◌, ◌-◌, ◌<◌, ◌≤◌, Bool, true, false, cond, ◌&&◌, ◌||◌, nat_lt, List, [], ◌∷◌, ◌++◌, length, filter, slice_index, Contains, inl, inr, ◌⊎◌, refl, sym, ap, ap₂, ◌∙◌, subst, subst₂, arith, zero-add, length-append, lt-ltb, le-ltb}
+use Rattle.std.proofs.Common.{◌≡◌, ℕ, ◌+◌, ◌-◌, ◌<◌, ◌≤◌, Bool, true, false, ◌&&◌, ◌||◌, nat_lt, List, ◌++◌, length, slice_index, Contains, inl, inr, ◌⊎◌, refl, sym, ap, ap₂, ◌∙◌, subst, subst₂, arith, zero-add, length-append, lt-ltb}
 use Rattle.std.proofs.lemmas.Bool.{cases_lt, false_from_ne_true, or_cases, and_parts, ltb-true}
 use Rattle.std.proofs.lemmas.List.{get_or_append_left, get_or-append_right}
 use Rattle.std.proofs.lemmas.List.FromFn.{length-range_with_len, get_or-range_with_len}
@@ -12,6 +12,7 @@ use Rattle.fee_rate.specs.Limits.{IsRate}
 use Rattle.graphs.specs.Closures.{Closure, is_member, is_ancestor, rate_of, members_of, IsClosed, IsMerged, AddsPair, IsRelated}
 use Rattle.lists.proofs.Walks.{Walk-trans, Walk-back, Walk-push, Walk-map}
 use Rattle.lists.specs.Walks.{Walk}
+use Rattle.lists.proofs.Ranges.{first_pass}
 use Rattle.bitset.specs.Places.{places, IsWithin}
 use Rattle.bitset.specs.Sets.{len-places}
 use Rattle.fee_rate.specs.declared.rates.FeeRate.{FeeRate}
@@ -23,19 +24,6 @@ use Rattle.cluster.proofs.Listings.{contains-members_of}
 
 -- ---- places without a gap
 
-none_from : (f : ℕ → Bool) (a n : ℕ) → ((p : ℕ) → a ≤ p → f p ≡ false) → filter f (range_with_len a n) ≡ []
-none_from f a zero none = refl
-none_from f a (suc n) none = ap (λ b. cond b (a ∷ filter f (range_with_len (a + 1) n)) (filter f (range_with_len (a + 1) n))) (none a (omega arith))
-    ∙ none_from f (a + 1) n (λ p low. none p (omega arith))
-
-dense : (f : ℕ → Bool) (a k n : ℕ) → k ≤ n → ((p : ℕ) → a ≤ p → f p ≡ nat_lt p (a + k)) → filter f (range_with_len a n) ≡ range_with_len a k
-dense f a zero n few tells = none_from f a n (λ p low. tells p low ∙ le-ltb p (a + 0) (omega arith))
-dense f a (suc k) zero few tells = absurd (omega arith)
-dense f a (suc k) (suc n) few tells =
-    ap (λ b. cond b (a ∷ filter f (range_with_len (a + 1) n)) (filter f (range_with_len (a + 1) n)))
-    (tells a (omega arith) ∙ lt-ltb a (a + suc k) (omega arith))
-    ∙ ap (λ xs. a ∷ xs) (dense f (a + 1) k n (omega arith) (λ p low. tells p (omega arith) ∙ ap (nat_lt p) (let e : a + suc k ≡ a + 1 + k = omega arith in e)))
-
 member_bound : (n : ℕ) (names : List ℕ) (g : Closure) → IsNamed n names g → IsWithin n (members_of g)
 member_bound n names g kept p here =
     let low : p < length names = ltb-true p (length names) (sym (contains-members_of g p ∙ kept.members p) ∙ here) in
@@ -43,8 +31,9 @@ member_bound n names g kept p here =
 
 -- the places of a cluster are the numbers from 0 on
 pub dense_places : (n : ℕ) (names : List ℕ) (g : Closure) → IsNamed n names g → places n (members_of g) ≡ range_with_len 0 (length names)
-dense_places n names g kept = dense (set.contains (members_of g)) 0 (length names) n kept.few
-    (λ p low. contains-members_of g p ∙ kept.members p ∙ ap (nat_lt p) (sym (zero-add (length names))))
+dense_places n names g kept =
+    first_pass (set.contains (members_of g)) 0 (length names) n (length names) (zero-add (length names)) kept.few
+    (λ p low. contains-members_of g p ∙ kept.members p)
 
 pub dense_long : (n : ℕ) (names : List ℕ) (g : Closure) → IsNamed n names g → length (places n (members_of g)) ≡ length names
 dense_long n names g kept = ap length (dense_places n names g kept) ∙ length-range_with_len 0 (length names)

@@ -1,7 +1,7 @@
 -- The order of a name alone.
-use Rattle.std.proofs.Common.{◌≡◌, ◌≢◌, ℕ, ℤ, ◌+◌, ◌<◌, ◌≤◌, Bool, true, List, [], ◌∷◌, ◌++◌, length, map, slice_index, Contains, refl, sym, ap, ap₂, ◌∙◌, subst, arith, pos, ◌-ℤ◌, ◌*ℤ◌, ◌+ℤ◌, ltb-true}
+use Rattle.std.proofs.Common.{◌≡◌, ◌≢◌, ℕ, true, List, [], ◌∷◌, ◌++◌, length, map, slice_index, Contains, refl, sym, ap, ◌∙◌, subst, arith, pos, ◌-ℤ◌, ◌*ℤ◌}
 use Rattle.std.proofs.lemmas.Int.{ints}
-use Rattle.lists.proofs.Entries.{Contains-cases, Contains-head, none_in_empty}
+use Rattle.lists.proofs.Entries.{Contains-one, Contains-cases, Contains-head, none_in_empty}
 use Rattle.fee_rate.specs.declared.rates.FeeRate.{FeeRate}
 use Rattle.fee_rate.specs.declared.rates.Sum.{Sum}
 use Rattle.graphs.specs.declared.names.Flow.{Flow}
@@ -22,14 +22,6 @@ use Rattle.cluster.specs.Kept.{IsOrdered, AreCut, cut, sum_in}
 use Rattle.cluster.specs.Named.{named, IsNamed}
 use Rattle.cluster.proofs.Cuts.{cut_whole}
 use Rattle.cluster.proofs.Names.{named-member, member-stands, named-rate}
-
-only : (x y : ℕ) → Contains (x ∷ []) y → x ≡ y
-only x y here = elim (Contains-cases x y [] here)
-    as (λ _. x ≡ y) [ Rattle.std.proofs.Common.inl same ↦ same | Rattle.std.proofs.Common.inr later ↦ absurd (none_in_empty y later) ]
-
-only_part : (p q : Part) → Contains (p ∷ []) q → p ≡ q
-only_part p q here = elim (Contains-cases p q [] here)
-    as (λ _. p ≡ q) [ Rattle.std.proofs.Common.inl same ↦ same | Rattle.std.proofs.Common.inr later ↦ absurd (none_in_empty q later) ]
 
 module _ (n : ℕ) (id : ℕ) (g : Closure) (kept : IsNamed n (id ∷ []) g) where
   abbrev whole : Closure
@@ -59,7 +51,7 @@ module _ (n : ℕ) (id : ℕ) (g : Closure) (kept : IsNamed n (id ∷ []) g) whe
     topological = record {
       once = kept.once;
       names = λ x. (
-        λ here. (closes.names x).1 (subst (λ (y : ℕ). is_member whole y ≡ true) (only id x here) (named-member (id ∷ []) g kept.once 0 (omega arith))),
+        λ here. (closes.names x).1 (subst (λ (y : ℕ). is_member whole y ≡ true) (Contains-one id x here) (named-member (id ∷ []) g kept.once 0 (omega arith))),
         λ here. subst (Contains (id ∷ [])) (member_is x ((closes.names x).0 here)) (Contains-head id []),
       );
       parents_first = λ parent child pair.
@@ -74,23 +66,23 @@ module _ (n : ℕ) (id : ℕ) (g : Closure) (kept : IsNamed n (id ∷ []) g) whe
       links = λ flow here. absurd (none_in_empty flow here);
       inside = λ flow here. absurd (none_in_empty flow here);
       some = λ flow here. absurd (none_in_empty flow here);
-      balanced = λ x here. subst (λ (y : ℕ). weight_in (sums (sum_at whole) (id ∷ [])) (sum_at whole y) ≡ pos 0 -ℤ pos 0) (only id x here) even;
+      balanced = λ x here. subst (λ (y : ℕ). weight_in (sums (sum_at whole) (id ∷ [])) (sum_at whole y) ≡ pos 0 -ℤ pos 0) (Contains-one id x here) even;
     }
 
     pub lone_pick : IsPick (sum_at whole) graph (part ∷ [])
     lone_pick = record {
       certificate = record {
-        filled = λ p here empty. Rattle.lists.proofs.Entries.not_empty (ap (λ (q : Part). q.ids) (only_part part p here) ∙ empty);
+        filled = λ p here empty. Rattle.lists.proofs.Entries.not_empty (ap (λ (q : Part). q.ids) (Contains-one part p here) ∙ empty);
         order = record {
           topological = topological;
           together = λ p here.
-              subst (λ (q : Part). IsTogether graph.pairs q.ids) (only_part part p here) (λ a b first second. (0, sym (only id a first) ∙ only id b second));
+              subst (λ (q : Part). IsTogether graph.pairs q.ids) (Contains-one part p here) (λ a b first second. (0, sym (Contains-one id a first) ∙ Contains-one id b second));
         };
-        falling = record { summed = λ p here. subst (λ (q : Part). q.rate ≡ sums (sum_at whole) q.ids) (only_part part p here) summed; falling = tt };
-        flows = λ p here. subst (λ (q : Part). Certifies (sum_at whole) (IsCover graph.pairs) q.ids q.flows) (only_part part p here) certifies;
+        falling = record { summed = λ p here. subst (λ (q : Part). q.rate ≡ sums (sum_at whole) q.ids) (Contains-one part p here) summed; falling = tt };
+        flows = λ p here. subst (λ (q : Part). Certifies (sum_at whole) (IsCover graph.pairs) q.ids q.flows) (Contains-one part p here) certifies;
       };
       flows_in_order = λ p here. subst (λ (q : Part). FollowOrder q.ids (links_of q.flows))
-          (only_part part p here) (λ a b precedes. absurd (no_flow precedes.0 precedes.1 b precedes.2));
+          (Contains-one part p here) (λ a b precedes. absurd (no_flow precedes.0 precedes.1 b precedes.2));
     }
       where
         no_flow : (front rest : List (ℕ × ℕ)) (b : ℕ × ℕ) → [] ≡ front ++ b ∷ rest → ⊥
@@ -99,11 +91,11 @@ module _ (n : ℕ) (id : ℕ) (g : Closure) (kept : IsNamed n (id ∷ []) g) whe
 
   lone_uncut : (pairs : List (ℕ × ℕ)) → AreMinimal (sum_at whole) pairs (part ∷ [])
   lone_uncut pairs p here = subst (λ (q : Part). IsMinimal (sum_at whole) pairs q.ids)
-      (only_part part p here) (λ set closed some same x in_part. holds set closed some x (only id x in_part))
+      (Contains-one part p here) (λ set closed some same x in_part. holds set closed some x (Contains-one id x in_part))
     where
       holds : (set : List ℕ) → IsClosedWithin pairs (id ∷ []) set → set ≢ [] → (x : ℕ) → id ≡ x → Contains set x
       holds [] closed some x is = absurd (some refl)
-      holds (y ∷ set) closed some x is = subst (Contains (y ∷ set)) (sym (only id y (closed.inside y (Contains-head y set))) ∙ is) (Contains-head y set)
+      holds (y ∷ set) closed some x is = subst (Contains (y ∷ set)) (sym (Contains-one id y (closed.inside y (Contains-head y set))) ∙ is) (Contains-head y set)
 
   pub lone_ordered : (ends : List PartEnd) (order : List ℕ) (flows : List Flow) (rate : FeeRate) → rate ≡ rate_of g 0
       → ends ≡ record { fee = rate.fee; size = rate.size; end = 1; flow_end = 0 } ∷ [] → order ≡ id ∷ [] → flows ≡ []

@@ -1,8 +1,10 @@
 -- What certifies an order of places is a pick by their names.
-use Rattle.std.proofs.Common.{◌≡◌, ◌↔◌, ℕ, suc, ◌<◌, Bool, true, false, cond, nat_eq, List, [], ◌∷◌, length, map, slice_index, Contains, inl, inr, refl, sym, ap, ap₂, ◌∙◌, subst, subst₂, arith, eqb-true, eq-eqb, true≢false}
+use Rattle.std.proofs.Common.{◌≡◌, ◌↔◌, ℕ, ◌<◌, true, List, length, map, slice_index, Contains, refl, sym, ap, ap₂, ◌∙◌, subst, subst₂}
 use Rattle.std.proofs.lemmas.List.Elements.{Contains-get_or}
 use Rattle.lists.proofs.Distinct.{one_place}
-use Rattle.lists.proofs.Entries.{Contains-cases, none_in_empty, map-Contains, Contains-map}
+use Rattle.lists.proofs.Entries.{map-Contains, Contains-map}
+use Rattle.dep_graph.specs.Numbers.{number_in}
+use Rattle.dep_graph.proofs.Pairs.{place_at}
 use Rattle.fee_rate.specs.declared.rates.FeeRate.{FeeRate}
 use Rattle.graphs.specs.Graphs.{Graph, IsCover}
 use Rattle.graphs.specs.Certificates.{Part, IsCertificate}
@@ -18,23 +20,6 @@ use Rattle.cluster.proofs.Kept.{place_member, member_place}
 
 -- ---- the place of a name
 
-pub place_in : List ℕ → ℕ → ℕ
-place_in [] id = 0
-place_in (x ∷ xs) id = cond (nat_eq id x) 0 (suc (place_in xs id))
-
-place_there : (xs : List ℕ) (id : ℕ) → Contains xs id → (place_in xs id < length xs) × (slice_index xs (place_in xs id) ≡ id)
-unfolding place_in
-place_there [] id here = absurd (none_in_empty id here)
-place_there (x ∷ xs) id here = one (nat_eq id x) refl (place_there xs id)
-  where
-    one : (b : Bool) → nat_eq id x ≡ b → (Contains xs id → (place_in xs id < length xs) × (slice_index xs (place_in xs id) ≡ id))
-        → (cond b 0 (suc (place_in xs id)) < length (x ∷ xs)) × (slice_index (x ∷ xs) (cond b 0 (suc (place_in xs id))) ≡ id)
-    one true e rest = (omega arith, sym (eqb-true id x e))
-    one false e rest = elim (Contains-cases x id xs here) [
-      | inl same ↦ absurd (true≢false (sym (eq-eqb id x (sym same)) ∙ e))
-      | inr later ↦ let at = rest later in (omega (arith, at.0), at.1)
-    ]
-
 -- the fee and the size of a place are those of its name
 pub named_sum : (n : ℕ) (names : List ℕ) (g : Closure) → IsNamed n names g → (p : ℕ)
     → p < length names → sum_at (named names g) (slice_index names p) ≡ linear.sum_at g p
@@ -44,7 +29,7 @@ named_sum n names g kept p low = ap (λ (r : FeeRate). record { fee = r.fee; siz
 
 module _ (n : ℕ) (names : List ℕ) (g : Closure) (kept : IsNamed n names g) (graph : Graph) (closes : IsClosureOf (named names g) graph) where
   abbrev place : ℕ → ℕ
-  place id = place_in names id
+  place id = number_in names id
 
   abbrev by_places : Graph
   by_places = renamed place graph
@@ -53,13 +38,13 @@ module _ (n : ℕ) (names : List ℕ) (g : Closure) (kept : IsNamed n names g) (
   in_names id here = Stands-contains names id (member-stands names g kept.once id ((closes.names id).0 here))
 
   pub at_place : (id : ℕ) → Contains graph.names id → (place id < length names) × (slice_index names (place id) ≡ id)
-  at_place id here = place_there names id (in_names id here)
+  at_place id here = place_at names id (in_names id here)
 
   member_at : (id : ℕ) → is_member (named names g) id ≡ true → (place id < length names) × (slice_index names (place id) ≡ id)
-  member_at id member = place_there names id (Stands-contains names id (member-stands names g kept.once id member))
+  member_at id member = place_at names id (Stands-contains names id (member-stands names g kept.once id member))
 
   pub place_of_name : (p : ℕ) → p < length names → place (slice_index names p) ≡ p
-  place_of_name p low = let at = place_there names (slice_index names p) (Contains-get_or names p 0 low) in
+  place_of_name p low = let at = place_at names (slice_index names p) (Contains-get_or names p 0 low) in
       one_place names (place (slice_index names p)) p 0 kept.once at.0 low at.1
 
   keeps_apart : KeepsApart place graph.names

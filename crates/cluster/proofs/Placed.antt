@@ -1,8 +1,7 @@
 -- The names of a cluster are those of its order.
-use Rattle.std.proofs.Common.{ℕ, suc, ◌+◌, ◌<◌, List, [], ◌∷◌, flat_map, Contains, inl, inr, subst, arith}
-use Rattle.std.proofs.lemmas.List.Elements.{Contains-append_cases}
-use Rattle.std.proofs.lemmas.List.Concat.{flat_map-cons}
-use Rattle.lists.proofs.Entries.{Contains-cases, Contains-later, Contains-head, none_in_empty}
+use Rattle.std.proofs.Common.{ℕ, suc, ◌+◌, ◌<◌, List, [], ◌∷◌, flat_map, Contains, inl, inr, arith}
+use Rattle.lists.proofs.Entries.{Contains-cases, none_in_empty}
+use Rattle.lists.proofs.Flats.{flat_of}
 use Rattle.graphs.specs.Closures.{IsClosed}
 use Rattle.graphs.specs.Certificates.{Part}
 use Rattle.graphs.proofs.ClosureGraphs.{closures_have_graphs}
@@ -36,10 +35,4 @@ in_names most k is id here =
 
 -- a name of some parts is of one of them
 pub in_a_part : (parts : List Part) (id : ℕ) → Contains (flat_map (λ part. part.ids) parts) id → (part : Part) × Contains parts part × Contains part.ids id
-in_a_part [] id here = absurd (none_in_empty id here)
-in_a_part (p ∷ ps) id here =
-    elim (Contains-append_cases p.ids (flat_map (λ part. part.ids) ps) id
-    (subst (λ (xs : List ℕ). Contains xs id) (flat_map-cons (λ (part : Part). part.ids) p ps) here)) [
-      | inl first ↦ (p, Contains-head p ps, first)
-      | inr later ↦ let rest = in_a_part ps id later in (rest.0, Contains-later p rest.0 ps rest.1, rest.2)
-    ]
+in_a_part = flat_of (λ part. part.ids)

@@ -1,12 +1,14 @@
 -- An order of places, read part by part.
 use Rattle.std.proofs.Common.{◌≡◌, ℕ, zero, suc, ◌+◌, ◌-◌, ◌<◌, ◌≤◌, List, [], ◌∷◌, ◌++◌, length, map, take, drop, get_or, slice_index, slice_index_or, Contains, inl, inr, refl, sym, ap, ap₂, ◌∙◌, subst, subst₂, arith, length-append, append-nil}
 use Rattle.std.proofs.lemmas.List.{map-append, length-map, get_or-map, take_more, take-map, drop-map, map_push, get_or_default, take_all}
-use Rattle.std.proofs.lemmas.List.Elements.{AllZip-push, Contains-get_or, Contains-append_left, Contains-append_right}
+use Rattle.std.proofs.lemmas.List.Elements.{AllZip-push, Contains-get_or}
 use Rattle.std.proofs.lemmas.List.Concat.{flat_map-append}
 use Rattle.std.proofs.lemmas.List.Sorted.{IsPermutation-map, IsPermutation-sym, Contains-permutation, length_permutation}
 use Rattle.std.specs.List.{flat_map}
 use Rattle.std.specs.List.Sorted.{IsPermutation}
-use Rattle.lists.proofs.Entries.{Contains-cases, Contains-head, Contains-later, none_in_empty, map-Contains, Contains-map}
+use Rattle.std.proofs.lemmas.Simd.{map-map}
+use Rattle.lists.proofs.Entries.{map_along, map-Contains, Contains-map}
+use Rattle.lists.proofs.Flats.{flat_has}
 use Rattle.graphs.specs.declared.names.Flow.{Flow}
 use Rattle.graphs.specs.Certificates.{Part}
 use Rattle.fee_rate.specs.declared.rates.Sum.{Sum}
@@ -18,23 +20,6 @@ use Rattle.cluster.specs.declared.order.PartEnd.{PartEnd}
 use Rattle.cluster.specs.Kept.{end_of, sum_in}
 use Rattle.cluster.specs.Orders.{at_positions, named_at, renamed_flow, AreBelow, AddsFlows, AreRead, IsPlaced, IsRead, IsReadPart, StandAt}
 use Rattle.cluster.proofs.Cuts.{reach, reach_more, reach_within, segment, at_reach, ended}
-
--- tests on the entries of a list decide of what they are mapped to
-pub map_same : {A B : Type 0} (f g : A → B) (xs : List A) → ((x : A) → Contains xs x → f x ≡ g x) → map f xs ≡ map g xs
-map_same f g [] same = refl
-map_same {A} {B} f g (x ∷ xs) same =
-    ap₂ {A = B} {B = List B} (λ y ys. y ∷ ys) (same x (Contains-head x xs)) (map_same f g xs (λ y here. same y (Contains-later x y xs here)))
-
-pub map_map : {A B C : Type 0} (f : A → B) (g : B → C) (xs : List A) → map g (map f xs) ≡ map (λ x. g (f x)) xs
-map_map f g [] = refl
-map_map f g (x ∷ xs) = ap (λ ys. g (f x) ∷ ys) (map_map f g xs)
-
-pub in_placed : (ps : List Part) (part : Part) (p : ℕ) → Contains ps part → Contains part.ids p → Contains (placed ps) p
-in_placed [] part p h k = absurd (none_in_empty part h)
-in_placed (x ∷ ps) part p h k = elim (Contains-cases x part ps h) [
-  | inl same ↦ Contains-append_left x.ids (placed ps) p (subst (λ (q : Part). Contains q.ids p) (sym same) k)
-  | inr later ↦ Contains-append_right x.ids (placed ps) p (in_placed ps part p later k)
-]
 
 abbrev pub no_part : Part
 no_part = record { rate = record { fee = Rattle.std.specs.Prelude.pos 0; size = 0 }; ids = []; flows = [] }
@@ -62,7 +47,7 @@ module _ (names positions : List ℕ) (qs : List Part) (n : ℕ) (is_placed : Is
     ends_in : (flow : PlaceFlow) → Contains own flow → Contains (placed qs) flow.child × Contains (placed qs) flow.parent
     ends_in flow here =
         let both = is_placed.inside part there (named flow) (subst (λ (fs : List Flow). Contains fs (named flow)) are (Contains-map named own flow here)) in
-        (in_placed qs part flow.child there both.0, in_placed qs part flow.parent there both.1)
+        (flat_has (λ (part : Part). part.ids) qs part flow.child there both.0, flat_has (λ (part : Part). part.ids) qs part flow.parent there both.1)
 
     pub own_below : n ≤ length positions → AreBelow (length positions) own
     own_below room flow here =
@@ -87,9 +72,9 @@ module _ (names positions : List ℕ) (qs : List Part) (n : ℕ) (is_placed : Is
 
     pub all_named : map (named_at order) (map (at_positions positions) own) ≡ map (renamed_flow (slice_index names)) part.flows
     all_named =
-        map_map (at_positions positions) (named_at order) own
-        ∙ map_same (λ flow. named_at order (at_positions positions flow)) (λ flow. renamed_flow (slice_index names) (named flow)) own one_named
-        ∙ sym (map_map named (renamed_flow (slice_index names)) own) ∙ ap (map (renamed_flow (slice_index names))) are
+        map-map (named_at order) (at_positions positions) own
+        ∙ map_along (λ flow. named_at order (at_positions positions flow)) (λ flow. renamed_flow (slice_index names) (named flow)) own one_named
+        ∙ sym (map-map (renamed_flow (slice_index names)) named own) ∙ ap (map (renamed_flow (slice_index names))) are
 
   -- the k-th part was read
   module _ (own : List PlaceFlow) (k : ℕ) (low : k < length qs) (are : map named own ≡ (get_or qs k no_part).flows)
@@ -270,10 +255,10 @@ module _ (qs : List Part) (shown : List LinearPart) (all : List PlaceFlow) (is_s
         parts = so.done;
         read = read;
         ends = record {
-          rates_are = ap (map sum_in) ends ∙ map_map end_of sum_in shown ∙ is_shown.rates ∙ sym (rates_read names order qs so.done read);
-          ends_are = ap (map (λ (e : PartEnd). e.end)) ends ∙ map_map end_of (λ (e : PartEnd). e.end) shown
+          rates_are = ap (map sum_in) ends ∙ map-map sum_in end_of shown ∙ is_shown.rates ∙ sym (rates_read names order qs so.done read);
+          ends_are = ap (map (λ (e : PartEnd). e.end)) ends ∙ map-map (λ (e : PartEnd). e.end) end_of shown
               ∙ is_shown.ends ∙ ap (totals 0) (sym (ids_long names order qs so.done read));
-          flow_ends_are = ap (map (λ (e : PartEnd). e.flow_end)) ends ∙ map_map end_of (λ (e : PartEnd). e.flow_end) shown
+          flow_ends_are = ap (map (λ (e : PartEnd). e.flow_end)) ends ∙ map-map (λ (e : PartEnd). e.flow_end) end_of shown
               ∙ is_shown.flow_ends ∙ ap (totals 0) (sym (flows_read_long names order qs so.done read));
           order_is = placed_read names order qs so.done read ∙ sym order_is;
           flows_are = so.flows_are;

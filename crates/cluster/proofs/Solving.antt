@@ -4,6 +4,8 @@ use Rattle.std.specs.FinSet as set
 use Rattle.lists.proofs.Distinct.{distinct_map, one_place}
 use Rattle.lists.proofs.Walks.{Walk-map}
 use Rattle.lists.specs.Distinct.{AreDistinct}
+use Rattle.lists.proofs.Flats.{flat_has}
+use Rattle.dep_graph.specs.Numbers.{number_in}
 use Rattle.graphs.specs.Graphs.{Graph, IsCover}
 use Rattle.graphs.specs.Certificates.{Part, IsCertificate}
 use Rattle.graphs.specs.Closures.{Closure, members_of, IsNear, IsRelated}
@@ -24,8 +26,8 @@ use Rattle.cluster.proofs.Cuts.{cut_whole}
 use Rattle.cluster.proofs.Following.{pick_read}
 use Rattle.cluster.proofs.Kept.{member_place}
 use Rattle.cluster.proofs.Listings.{contains-members_of}
-use Rattle.cluster.proofs.Picking.{place_in, closes_places, certificate_by_names}
-use Rattle.cluster.proofs.Reading.{in_placed, placed_read}
+use Rattle.cluster.proofs.Picking.{closes_places, certificate_by_names}
+use Rattle.cluster.proofs.Reading.{placed_read}
 use Rattle.cluster.proofs.Uncut.{uncut_read}
 
 pub within_most : (n m before after : ℕ) → n ≡ m → after ≤ before + 2 * (n + 2) ^ 5 → before + n ≤ after → GrowsWithin (most_steps m) before after
@@ -72,12 +74,12 @@ module _ (n : ℕ) (names : List ℕ) (g : Closure) (kept : IsNamed n names g) w
       let pick : (graph : Graph) → IsClosureOf (named names g) graph → IsPick (sum_at (named names g)) graph read.parts =
       λ graph closes. pick_read (sum_at (named names g)) graph names order parts read.parts once read.read
       (certificate_by_names n names g kept graph closes parts
-      (certified (renamed (place_in names) graph) (closes_places n names g kept graph closes))) in
+      (certified (renamed (number_in names) graph) (closes_places n names g kept graph closes))) in
       record {
         ends = subst (λ (ps : List Part). AreCut ends order flows ps) (sym whole) read.ends;
         picked = subst (ArePicked (named names g)) (sym whole) pick;
         uncut = subst (AreUncut (named names g)) (sym whole) (λ graph closes.
             uncut_read n names g kept graph closes parts read.parts order placed_are read.read
-            (minimal (renamed (place_in names) graph) (closes_places n names g kept graph closes))
-            (λ q here id there. ((pick graph closes).certificate.order.topological.names id).0 (in_placed read.parts q id here there)));
+            (minimal (renamed (number_in names) graph) (closes_places n names g kept graph closes))
+            (λ q here id there. ((pick graph closes).certificate.order.topological.names id).0 (flat_has (λ (p : Part). p.ids) read.parts q id here there)));
       }

@@ -1,5 +1,5 @@
 -- The loop that takes one component after another out of a cluster without a place.
-use Rattle.std.proofs.Common.{◌≡◌, ◌≢◌, ℕ, ◌<◌, ◌≤◌, Bool, true, false, not, ◌&&◌, cond, List, [], ◌∷◌, ◌++◌, length, filter, slice_index, get_or, Contains, All, zero-add, inl, inr, ◌⊎◌, ◌↔◌, refl, sym, ap, ap₂, ◌∙◌, subst, subst₂, arith, lt-ltb, ltb-true, true≢false}
+use Rattle.std.proofs.Common.{◌≡◌, ◌≢◌, ℕ, ◌<◌, true, false, not, ◌&&◌, List, [], ◌∷◌, ◌++◌, length, slice_index, get_or, Contains, All, inl, inr, ◌⊎◌, ◌↔◌, refl, sym, ap, ap₂, ◌∙◌, subst, subst₂, arith, lt-ltb, ltb-true, true≢false}
 use Rattle.std.proofs.Common.{Option, Some, None, MatchOption}
 use Rattle.std.proofs.lemmas.Bool.{cases_eq, cases_Bool, and_parts, and_from, false_from_ne_true}
 use Rattle.std.proofs.lemmas.List.Elements.{Contains-append_left, Contains-push, Contains-push_cases, All-push, Contains-get_or}
@@ -7,15 +7,13 @@ use Rattle.std.proofs.lemmas.List.Quantifiers.{all_pairs_push}
 use Rattle.std.specs.List.{AllPairs}
 use Rattle.std.specs.Ordering.{nat_cmp}
 use Rattle.std.specs.FinSet as set
-use Rattle.std.specs.List.{range_with_len}
-use Rattle.std.proofs.lemmas.List.FromFn.{length-range_with_len, get_or-range_with_len}
 use Rattle.lists.proofs.Distinct.{one_place}
 use Rattle.graphs.specs.Closures.{Closure, is_ancestor, rate_of, HoldsMembers, IsNear, IsRelated}
 use Rattle.lists.proofs.Walks.{Walk-push, Walk-trans, Walk-back}
 use Rattle.lists.specs.Walks.{Walk, IsWalk}
-use Rattle.lists.proofs.Entries.{Contains-cases}
-use Rattle.bitset.specs.Places.{places, first_places, IsLeast, IsWithin}
-use Rattle.bitset.specs.Sets.{contains-first_places, contains-difference, contains-empty, len-places}
+use Rattle.lists.proofs.Keys.{set_smaller}
+use Rattle.bitset.specs.Places.{first_places, IsLeast}
+use Rattle.bitset.specs.Sets.{contains-first_places, contains-difference, contains-empty}
 use Rattle.cluster.specs.Clusters.{Cluster, IsCluster, AreApart}
 use Rattle.cluster.specs.Changes.{IsChosen, IsPartOf, IsAncestorIn, IsSplit}
 use Rattle.cluster.specs.Named.{named, IsNamed}
@@ -52,44 +50,6 @@ component_inside g s t first there is p here = let walk = (is p).0 here in last 
     last : (a b : ℕ) (vs : List ℕ) → set.contains s a ≡ true → IsWalk (IsNear g s) a vs b → set.contains s b ≡ true
     last a b [] held same = subst (λ x. set.contains s x ≡ true) same held
     last a b (v ∷ vs) held walk = last v b vs walk.0.to_within walk.1
-
--- ---- sets that shrink
-
--- a test that passes less keeps no more
-keeps_no_more : (f g : ℕ → Bool) → ((p : ℕ) → f p ≡ true → g p ≡ true) → (xs : List ℕ) → length (filter f xs) ≤ length (filter g xs)
-keeps_no_more f g less [] = omega arith
-keeps_no_more f g less (x ∷ xs) = one (f x) (g x) (less x) (keeps_no_more f g less xs)
-  where
-    one : (a b : Bool) → (a ≡ true → b ≡ true) → length (filter f xs) ≤ length (filter g xs)
-        → length (cond a (x ∷ filter f xs) (filter f xs)) ≤ length (cond b (x ∷ filter g xs) (filter g xs))
-    one true true e rest = omega arith
-    one true false e rest = absurd (true≢false (sym (e refl)))
-    one false true e rest = omega arith
-    one false false e rest = rest
-
-keeps_fewer : (f g : ℕ → Bool) → ((p : ℕ) → f p ≡ true → g p ≡ true) → (p : ℕ) (xs : List ℕ)
-    → Contains xs p → g p ≡ true → f p ≡ false → length (filter f xs) < length (filter g xs)
-keeps_fewer f g less p [] here passes fails = omega (arith, here.1)
-keeps_fewer f g less p (x ∷ xs) here passes fails = elim (Contains-cases x p xs here) [
-  | inl same ↦ at_head (f x) (g x) (ap f same ∙ fails) (ap g same ∙ passes) (keeps_no_more f g less xs)
-  | inr later ↦ one (f x) (g x) (less x) (keeps_fewer f g less p xs later passes fails)
-]
-  where
-    at_head : (a b : Bool) → a ≡ false → b ≡ true → length (filter f xs) ≤ length (filter g xs)
-        → length (cond a (x ∷ filter f xs) (filter f xs)) < length (cond b (x ∷ filter g xs) (filter g xs))
-    at_head true b e i rest = absurd (true≢false e)
-    at_head false true e i rest = omega arith
-    at_head false false e i rest = absurd (true≢false (sym i))
-
-    one : (a b : Bool) → (a ≡ true → b ≡ true) → length (filter f xs) < length (filter g xs)
-        → length (cond a (x ∷ filter f xs) (filter f xs)) < length (cond b (x ∷ filter g xs) (filter g xs))
-    one true true e rest = omega arith
-    one true false e rest = absurd (true≢false (sym (e refl)))
-    one false true e rest = omega arith
-    one false false e rest = rest
-
-in_range : (n p : ℕ) → p < n → Contains (range_with_len 0 n) p
-in_range n p low = (p, subst (λ m. p < m) (sym (length-range_with_len 0 n)) low, get_or-range_with_len 0 n p p low ∙ zero-add p)
 
 -- ---- the loop
 
@@ -323,16 +283,9 @@ module _ (n : ℕ) (names : List ℕ) (g : Closure) (kept : IsNamed n names g) (
     -- fewer places are left
     pub fewer : set.len next < set.len rest
     fewer =
-        let rest_bound : IsWithin n rest =
-        λ p here. (let low : p < length names = (so.among p here).0 in let few : length names ≤ n = kept.few in omega arith) in
-        let next_bound : IsWithin n next = λ p here. rest_bound p (next_rest p here).0 in
         let held : set.contains chosen first ≡ true = (is first).1 ([], refl) in
         let out : set.contains next first ≡ false = next_tells first ∙ ap₂ (λ x y. x && not y) least.member held in
-        let less : length (places n next) < length (places n rest) = keeps_fewer (set.contains next) (set.contains rest)
-        (λ p here. (next_rest p here).0) first (range_with_len 0 n) (in_range n first (rest_bound first least.member)) least.member out in
-        let one : set.len next ≡ length (places n next) = len-places n next next_bound in
-        let two : set.len rest ≡ length (places n rest) = len-places n rest rest_bound in
-        omega arith
+        set_smaller next rest first (λ p here. (next_rest p here).0) least.member out
 
   module _ (rest : set.FinSet nat_cmp) (parts : List Cluster) (so : Splitting n names g gone rest parts) where
     pub holds_members : HoldsMembers g rest

@@ -2,6 +2,8 @@
 use Rattle.std.proofs.Common.{◌≡◌, ◌≢◌, ℕ, ◌<◌, List, [], ◌∷◌, length, map, slice_index, Contains, refl, sym, ap, ◌∙◌, subst, subst₂}
 use Rattle.lists.proofs.Distinct.{distinct_map}
 use Rattle.lists.proofs.Entries.{map-Contains, Contains-map, not_empty}
+use Rattle.lists.proofs.Flats.{flat_has}
+use Rattle.dep_graph.specs.Numbers.{number_in}
 use Rattle.fee_rate.specs.Rates.{Same}
 use Rattle.fee_rate.specs.declared.rates.Sum.{Sum}
 use Rattle.graphs.specs.Graphs.{Graph}
@@ -17,8 +19,7 @@ use Rattle.cluster.specs.Clusters.{sum_at}
 use Rattle.cluster.specs.Named.{named, IsNamed}
 use Rattle.cluster.specs.Orders.{AreRead, IsReadPart, IsPlaced}
 use Rattle.cluster.proofs.Following.{matched}
-use Rattle.cluster.proofs.Picking.{place_in, place_of_name, at_place, is_renamed, named_sum}
-use Rattle.cluster.proofs.Reading.{in_placed}
+use Rattle.cluster.proofs.Picking.{place_of_name, at_place, is_renamed, named_sum}
 
 sums_mapped : (h : ℕ → ℕ) (rate rate' : ℕ → Sum) (xs : List ℕ) → ((x : ℕ) → Contains xs x → rate' (h x) ≡ rate x) → sums rate' (map h xs) ≡ sums rate xs
 sums_mapped h rate rate' xs same =
@@ -28,7 +29,7 @@ sums_mapped h rate rate' xs same =
 
 module _ (n : ℕ) (names : List ℕ) (g : Closure) (kept : IsNamed n names g) (graph : Graph) (closes : IsClosureOf (named names g) graph) where
   abbrev place : ℕ → ℕ
-  place id = place_in names id
+  place id = number_in names id
 
   abbrev by_places : Graph
   by_places = renamed place graph
@@ -97,4 +98,4 @@ module _ (n : ℕ) (names : List ℕ) (g : Closure) (kept : IsNamed n names g) (
       → ((q : Part) → Contains qs q → (id : ℕ) → Contains q.ids id → Contains graph.names id) → AreMinimal (sum_at (named names g)) graph.pairs qs
   uncut_read ps qs order placed read minimal known q here =
       let at = matched (slice_index names) order ps qs read q here in
-      uncut_part at.0 q order at.2 (λ x there. placed.below x (in_placed ps at.0 x at.1 there)) (known q here) (minimal at.0 at.1)
+      uncut_part at.0 q order at.2 (λ x there. placed.below x (flat_has (λ (p : Part). p.ids) ps at.0 x at.1 there)) (known q here) (minimal at.0 at.1)
