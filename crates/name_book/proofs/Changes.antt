@@ -1,5 +1,6 @@
 -- What each change of nodes and keys does to a ring of names.
 use Rattle.std.proofs.Common.{◌≡◌, ◌≢◌, ◌↔◌, ℕ, ◌<◌, cond, nat_eq, List, Some, None, refl, sym, ap, subst, ◌∙◌, inl, inr}
+use Rattle.std.proofs.lemmas.Option.{none-some}
 use Rattle.node_pool.specs.declared.pool.Key.{Key}
 use Rattle.node_pool.specs.Nodes.{Nodes, value_at, next_key, Updates, SameValues, SameOrder, ExchangesNext, PassesOver, PartsFrom, UnitesRings}
 use Rattle.node_pool.specs.Laws.{RingsGoRound}
@@ -14,9 +15,6 @@ use Rattle.name_book.proofs.KeyRings.{list-round}
 use Rattle.name_book.proofs.Steps.{after-kept, after-passed, after-exchanged, after-gained}
 use Rattle.name_book.proofs.Rungs.{cut-rungs, gained-rungs, lost-rungs, united-rungs}
 use Rattle.name_book.proofs.Kept.{key-here, key-there, put-differs, drop-differs, drop-values}
-
-none_some : {A : Type 0} (x : A) → None ≡ Some x → ⊥
-none_some x e = cc
 
 -- a ring that passes over a name, where what shares a ring with another name is another
 passing : (old new : Book) (r id : ℕ) → ((a : ℕ) → IsNamed old a → IsRing old r a (ring_of old r a)) → IsNamed old id
@@ -43,7 +41,7 @@ module _ (nodes new : Nodes ℕ) (es now : List (ℕ × Key)) (own : AreKeys nod
   was-named : key_of es id ≡ None → (x : ℕ) → IsNamed old_book x → x ≢ id
   was-named none x named same =
       let has = named-key nodes es spare x named in
-      none_some has.0 (sym none ∙ ap (key_of es) (sym same) ∙ has.1)
+      none-some has.0 (sym none ∙ ap (key_of es) (sym same) ∙ has.1)
 
   old_round : (a : ℕ) → IsNamed old_book a → IsRing old_book r a (ring_of old_book r a)
   old_round a named = list-round nodes es own rings spare r below a named

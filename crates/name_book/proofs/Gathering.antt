@@ -4,7 +4,8 @@ use Rattle.std.specs.Prelude.{Contains}
 use Rattle.std.proofs.lemmas.Bool.{cases_eq}
 use Rattle.std.proofs.lemmas.List.{take_more}
 use Rattle.std.proofs.lemmas.List.Elements.{Contains-append_left, Contains-append_right, Contains-append_cases}
-use Rattle.lists.proofs.Entries.{Contains-head, Contains-later, Contains-cases, none_in_empty}
+use Rattle.lists.proofs.Entries.{Contains-head, Contains-later, Contains-cases, Contains-one, none_in_empty}
+use Rattle.lists.proofs.Told.{told_number}
 use Rattle.name_book.specs.Books.{Book, IsNamed, AreRung}
 use Rattle.name_book.specs.Changes.{ComesTo, Gathers, MakesRing, JoinsAll}
 use Rattle.name_book.proofs.Rings.{rung-itself, rung-turned, rung-linked}
@@ -12,21 +13,14 @@ use Rattle.name_book.proofs.Rings.{rung-itself, rung-turned, rung-linked}
 -- ---- one name
 
 one-is : (q x : ℕ) → Contains (q ∷ []) x → x ≡ q
-one-is q x here = elim (Contains-cases q x [] here) [ inl same ↦ sym same | inr none ↦ absurd (none_in_empty x none) ]
+one-is q x here = sym (Contains-one q x here)
 
 is-one : (q x : ℕ) → x ≡ q → Contains (q ∷ []) x
 is-one q x same = subst (Contains (q ∷ [])) (sym same) (Contains-head q [])
 
 -- a name is in a list or not
 decide_in : (xs : List ℕ) (id : ℕ) → Contains xs id ⊎ (Contains xs id → ⊥)
-decide_in [] id = inr (none_in_empty id)
-decide_in (x ∷ xs) id = elim (cases_eq x id) [
-  | inl same ↦ inl (subst (Contains (x ∷ xs)) same (Contains-head x xs))
-  | inr other ↦ elim (decide_in xs id) [
-    | inl later ↦ inl (Contains-later x id xs later)
-    | inr none ↦ inr (λ here. elim (Contains-cases x id xs here) [ inl same ↦ other same | inr later ↦ none later ])
-  ]
-]
+decide_in = told_number
 
 -- A name is cut out of its ring, and joins that of another.
 module _ (old cut new : Book) (r to q : ℕ) (apart : to ≢ q)

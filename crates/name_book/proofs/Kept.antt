@@ -6,13 +6,11 @@ use Rattle.std.specs.Map.{keys_of}
 use Rattle.std.specs.FinSet as set
 use Rattle.std.proofs.lemmas.Bool.{cases_eq}
 use Rattle.std.proofs.lemmas.Bool.Decides.{eqb_tells}
+use Rattle.std.proofs.lemmas.Option.{none-some}
 use Rattle.node_pool.specs.declared.pool.Key.{Key}
 use Rattle.node_pool.specs.Nodes.{Nodes, value_at, IsLive, Updates}
 use Rattle.name_book.specs.Tables.{key_of, AreKeys}
 use Rattle.name_book.proofs.Entries.{same_some, keys_eq, names-keys}
-
-none_some : {A : Type 0} (x : A) → None ≡ Some x → ⊥
-none_some x e = cc
 
 -- what one name has after a change of its key, and what another has
 pub key-here : (now es : List (ℕ × Key)) (id : ℕ) (given : Option Key) → ((q : ℕ) → key_of now q ≡ cond (nat_eq id q) given (key_of es q))
@@ -31,7 +29,7 @@ key-there now es id given keys q differs =
 module _ (nodes new : Nodes ℕ) (es now : List (ℕ × Key)) (id : ℕ) (key : Key) (own : AreKeys nodes es) (updates : Updates nodes new key (Some id))
     (fresh : value_at nodes key ≡ None) (none : key_of es id ≡ None) (keys : (q : ℕ) → key_of now q ≡ cond (nat_eq id q) (Some key) (key_of es q)) where
   pub put-differs : (q : ℕ) (other : Key) → q ≢ id → key_of es q ≡ Some other → other ≢ key
-  put-differs q other _ has same = none_some q (sym fresh ∙ ap (value_at nodes) (sym same) ∙ (own q other).0 has)
+  put-differs q other _ has same = none-some q (sym fresh ∙ ap (value_at nodes) (sym same) ∙ (own q other).0 has)
 
   pub put-own : AreKeys new now
   put-own q k = (forth (cases_eq q id), back (cases_eq q id) (keys_eq k key))
@@ -46,7 +44,7 @@ module _ (nodes new : Nodes ℕ) (es now : List (ℕ × Key)) (id : ℕ) (key : 
 
       back : (q ≡ id) ⊎ (q ≢ id) → (k ≡ key) ⊎ (k ≢ key) → value_at new k ≡ Some q → key_of now q ≡ Some k
       back (inl same) (inl is) value = ap (key_of now) same ∙ key-here now es id (Some key) keys ∙ ap Some (sym is)
-      back (inl same) (inr apart) value = absurd (none_some k (sym none ∙ ap (key_of es) (sym same) ∙ (own q k).1 (sym (updates.others k apart) ∙ value)))
+      back (inl same) (inr apart) value = absurd (none-some k (sym none ∙ ap (key_of es) (sym same) ∙ (own q k).1 (sym (updates.others k apart) ∙ value)))
       back (inr other) (inl is) value = absurd (other (same_some q id (sym value ∙ ap (value_at new) is ∙ updates.changed)))
       back (inr other) (inr apart) value = key-there now es id (Some key) keys q other ∙ (own q k).1 (sym (updates.others k apart) ∙ value)
 
@@ -60,13 +58,13 @@ module _ (nodes new : Nodes ℕ) (es now : List (ℕ × Key)) (id : ℕ) (key : 
   drop-own q k = (forth (cases_eq q id), back (cases_eq q id) (keys_eq k key))
     where
       forth : (q ≡ id) ⊎ (q ≢ id) → key_of now q ≡ Some k → value_at new k ≡ Some q
-      forth (inl same) at_q = absurd (none_some k (sym (key-here now es id None keys) ∙ ap (key_of now) (sym same) ∙ at_q))
+      forth (inl same) at_q = absurd (none-some k (sym (key-here now es id None keys) ∙ ap (key_of now) (sym same) ∙ at_q))
       forth (inr other) at_q =
           let before = sym (key-there now es id None keys q other) ∙ at_q in
           updates.others k (drop-differs q k other before) ∙ (own q k).0 before
 
       back : (q ≡ id) ⊎ (q ≢ id) → (k ≡ key) ⊎ (k ≢ key) → value_at new k ≡ Some q → key_of now q ≡ Some k
-      back place (inl is) value = absurd (none_some q (sym updates.changed ∙ ap (value_at new) (sym is) ∙ value))
+      back place (inl is) value = absurd (none-some q (sym updates.changed ∙ ap (value_at new) (sym is) ∙ value))
       back (inl same) (inr apart) value =
           let before = (own q k).1 (sym (updates.others k apart) ∙ value) in
           absurd (apart (same_some k key (sym before ∙ ap (key_of es) same ∙ has)))

@@ -6,10 +6,11 @@ use Rattle.std.proofs.lemmas.Bool.Decides.{eqb_tells}
 use Rattle.lists.specs.Distinct.{AreDistinct}
 use Rattle.lists.proofs.Distinct.{distinct-filter}
 use Rattle.lists.proofs.Entries.{Contains-head, Contains-later, Contains-cases, Contains-filter, filter-Contains}
+use Rattle.std.proofs.lemmas.Option.{none-some}
 use Rattle.node_pool.specs.Cycles.{GoesAlong}
 use Rattle.name_book.specs.Books.{Book, after, AreRung, IsRing, ring_of}
 use Rattle.name_book.specs.Changes.{without, passed_over}
-use Rattle.name_book.proofs.Rings.{none_some, is_same, is_other, rung-turned, rung-linked, ring-unique}
+use Rattle.name_book.proofs.Rings.{is_same, is_other, rung-turned, rung-linked, ring-unique}
 
 pub passed-yes : (book : Book) (r id x : ℕ) → after book r x ≡ id → passed_over book r id x ≡ after book r id
 passed-yes book r id x here =
@@ -136,7 +137,7 @@ module _ (old new : Book) (r id : ℕ) (others : (x : ℕ) → x ≢ id → afte
   list-without a apart ring = sym (ring-unique new r a (without id (ring_of old r a)) (ring-without a (ring_of old r a) apart ring))
 
   pub list-rest : (ids : List ℕ) → f id ≢ id → IsRing old r id ids → ids ≡ id ∷ ring_of new r (f id)
-  list-rest [] on ring = absurd (none_some id ring.first)
+  list-rest [] on ring = absurd (none-some id ring.first)
   list-rest (x ∷ []) on ring = absurd (on ring.along.1)
   list-rest (x ∷ b ∷ ids) on ring =
       let here : x ≡ id = sym ring.along.0 in

@@ -1,23 +1,20 @@
 -- To share a ring is an equivalence among the live names, a ring is one list, and steps go round it. Where its steps stay, so does
 -- the list.
-use Rattle.std.proofs.Common.{◌≡◌, ◌≢◌, ◌↔◌, ◌==◌, ℕ, zero, suc, ◌-◌, ◌≤◌, true, false, cond, not, ◌&&◌, List, [], ◌∷◌, length, if◌then◌else◌, slice_get, Some, None, refl, sym, ap, subst, ◌∙◌, inl, inr, arith, true≢false}
+use Rattle.std.proofs.Common.{◌≡◌, ◌≢◌, ◌↔◌, ◌==◌, ℕ, zero, suc, ◌≤◌, true, false, cond, not, List, [], ◌∷◌, length, if◌then◌else◌, slice_get, Some, None, refl, sym, ap, subst, ◌∙◌, inl, inr, arith}
 use Rattle.std.specs.Prelude.{Contains}
 use Rattle.std.specs.Option.{unwrap_or}
 use Rattle.std.specs.Ordering.{nat_cmp}
-use Rattle.std.specs.Cmp.{nat_cmp_total, unsigned_tied}
 use Rattle.std.specs.FinMap as finmap
 use Rattle.std.specs.FinSet as set
 use Rattle.std.proofs.lemmas.Bool.{eq-eqb}
 use Rattle.std.proofs.lemmas.Bool.Decides.{eqb_tells}
-use Rattle.lists.specs.Distinct.{AreDistinct}
 use Rattle.lists.proofs.Entries.{Contains-head, Contains-later, Contains-cases}
+use Rattle.std.proofs.lemmas.Option.{none-some}
+use Rattle.lists.proofs.Keys.{set_has}
 use Rattle.node_pool.specs.Cycles.{walked, Reaches, GoesAlong}
 use Rattle.node_pool.proofs.Cycles.{Reaches-trans}
 use Rattle.name_book.specs.Books.{Book, IsNamed, steps_in, after, other_after, AreRung, IsRing, names_from, names_until, ring_of}
 use Rattle.name_book.specs.Changes.{KeepsRing}
-
-pub none_some : {A : Type 0} (x : A) → None ≡ Some x → ⊥
-none_some x e = cc
 
 pub is_same : (x id : ℕ) → x ≡ id → not (x == id) ≡ false
 is_same x id here = elim (eqb_tells x id) [ inl same ↦ ap not same.0 | inr other ↦ absurd (other.1 here) ]
@@ -92,21 +89,6 @@ along-alike f g (x ∷ ids) a b alike goes =
     let step : g a ≡ f a = alike a (subst (Contains (x ∷ ids)) (sym goes.0) (Contains-head x ids)) in
     (goes.0, subst (λ z. GoesAlong g z ids b) (sym step) (along-alike f g ids (f a) b (λ y listed. alike y (Contains-later x y ids listed)) goes.1))
 
--- as many different names as a list has are at most those of the set that has them
-few-names : (s : set.FinSet nat_cmp) (ids : List ℕ) → AreDistinct ids → ((x : ℕ) → Contains ids x → set.contains s x ≡ true) → length ids ≤ set.len s
-few-names s [] once all = omega arith
-few-names s (x ∷ ids) once all =
-    let here : set.contains s x ≡ true = all x (Contains-head x ids) in
-    let rest : length ids ≤ set.len (set.remove s x) = few-names (set.remove s x) ids once.1 (λ y listed.
-    let other : y ≢ x = λ same. once.0 (subst (Contains ids) same listed) in
-    set.contains-remove nat_cmp_total s x y
-    ∙ ap (λ b. not b && set.contains s y) (unsigned_tied y x)
-    ∙ ap (λ b. b && set.contains s y) (is_other y x other)
-    ∙ all y (Contains-later x y ids listed)) in
-    let less : set.len (set.remove s x) ≡ set.len s - 1 = set.len-remove nat_cmp_total s x ∙ ap (λ b. cond b (set.len s - 1) (set.len s)) here in
-    let some : set.len s ≢ 0 = λ none. true≢false (sym here ∙ ap (λ t. set.contains t x) (set.empty_of_len s none) ∙ set.contains-empty nat_cmp x) in
-    omega (arith, rest, less, some)
-
 -- steps that come back through a list are the names from its first on
 names_from-along : (next : ℕ → ℕ) (first : ℕ) (ids : List ℕ) (left at x : ℕ) → (Contains ids first → ⊥) → suc (length ids) ≤ left
     → GoesAlong next at (x ∷ ids) first → names_from next first left at ≡ x ∷ ids
@@ -127,10 +109,10 @@ names_from-along next first (y ∷ ids) (suc left) at x absent enough goes =
 
 -- a name's ring is one list
 pub ring-unique : (book : Book) (r a : ℕ) (ids : List ℕ) → IsRing book r a ids → ids ≡ ring_of book r a
-ring-unique book r a [] ring = absurd (none_some a ring.first)
+ring-unique book r a [] ring = absurd (none-some a ring.first)
 ring-unique book r a (x ∷ ids) ring =
     let first : x ≡ a = let e = ring.first in cc in
-    let few = few-names book.names (x ∷ ids) ring.once (λ y listed. ((ring.members y).0 listed).to) in
+    let few = set_has book.names (x ∷ ids) ring.once (λ y listed. ((ring.members y).0 listed).to) in
     sym (names_from-along (after book r) a ids (set.len book.names) a x (subst (λ z. Contains ids z → ⊥) first ring.once.0) few ring.along)
 
 -- where the steps of a ring's names and the names that they share a ring with stay, so does the ring
@@ -183,9 +165,9 @@ onward-from next last left at (y ∷ rest) absent enough goes =
 -- a walk that goes round has one name more to come than it has from the name after
 pub goes-onward : (book : Book) (r last at : ℕ) (ids : List ℕ) → IsRing book r last ids → AreRung book r last at
     → names_until book r last at ≡ at ∷ (if after book r at == last then [] else names_until book r last (after book r at))
-goes-onward book r last at [] ring rung = absurd (none_some last ring.first)
+goes-onward book r last at [] ring rung = absurd (none-some last ring.first)
 goes-onward book r last at (x ∷ ids) ring rung =
-    let few = few-names book.names (x ∷ ids) ring.once (λ y listed. ((ring.members y).0 listed).to) in
+    let few = set_has book.names (x ∷ ids) ring.once (λ y listed. ((ring.members y).0 listed).to) in
     let absent : Contains ids last → ⊥ = λ listed. ring.once.0 (subst (Contains ids) ring.along.0 listed) in
     elim (Contains-cases x at ids ((ring.members at).1 rung)) [
       | inl here ↦
@@ -200,14 +182,14 @@ goes-onward book r last at (x ∷ ids) ring rung =
 
 -- the name after one shares its ring
 pub ring-next : (book : Book) (r a : ℕ) (ids : List ℕ) → IsNamed book a → IsRing book r a ids → AreRung book r a (after book r a)
-ring-next book r a [] named ring = absurd (none_some a ring.first)
+ring-next book r a [] named ring = absurd (none-some a ring.first)
 ring-next book r a (x ∷ []) named ring = subst (AreRung book r a) (sym ring.along.1) (rung-itself book r a named)
 ring-next book r a (x ∷ y ∷ ids) named ring =
     subst (AreRung book r a) (sym ring.along.1.0) ((ring.members y).0 (Contains-later x y (y ∷ ids) (Contains-head y ids)))
 
 -- the second of a ring's names is the one after the first
 pub ring-second : (book : Book) (r a : ℕ) (ids : List ℕ) → IsRing book r a ids → slice_get ids 1 ≡ other_after book r a
-ring-second book r a [] ring = absurd (none_some a ring.first)
+ring-second book r a [] ring = absurd (none-some a ring.first)
 ring-second book r a (x ∷ []) ring = sym (ap (λ b. cond b None (Some (after book r a))) (eq-eqb (after book r a) a ring.along.1))
 ring-second book r a (x ∷ y ∷ ids) ring =
     let on : after book r a ≢ a = λ back. ring.once.0 (subst (Contains (y ∷ ids)) (sym ring.along.1.0 ∙ back ∙ ring.along.0) (Contains-head y ids)) in

@@ -1,6 +1,7 @@
 -- Which names share a ring, once nodes and keys have changed.
 use Rattle.std.proofs.Common.{◌≡◌, ◌≢◌, ◌⊎◌, ◌↔◌, ℕ, ◌<◌, List, Some, None, sym, ap, subst, ◌∙◌, inl, inr}
 use Rattle.std.proofs.lemmas.Bool.{cases_eq}
+use Rattle.std.proofs.lemmas.Option.{none-some}
 use Rattle.node_pool.specs.declared.pool.Key.{Key}
 use Rattle.node_pool.specs.Nodes.{Nodes, SameRing, PartsFrom, UnitesRings}
 use Rattle.node_pool.specs.Laws.{RingsGoRound}
@@ -8,9 +9,6 @@ use Rattle.node_pool.proofs.Callers.{SameRing-refl}
 use Rattle.name_book.specs.Books.{Book, AreRung}
 use Rattle.name_book.specs.Tables.{key_of, book_of, AreKeys}
 use Rattle.name_book.proofs.TableLemmas.{named-key, live-own, one_name, rung-keys, keys-rung}
-
-none_some : {A : Type 0} (x : A) → None ≡ Some x → ⊥
-none_some x e = cc
 
 module _ (nodes new : Nodes ℕ) (es now : List (ℕ × Key)) (own : AreKeys nodes es) (owned : AreKeys new now) (rings : RingsGoRound 2 nodes)
     (round : RingsGoRound 2 new)
@@ -89,7 +87,7 @@ module _ (nodes new : Nodes ℕ) (es now : List (ℕ × Key)) (own : AreKeys nod
       gained-rungs none x y = (λ rung. first (parted x y rung), together)
         where
           named : (z : ℕ) (other : Key) → key_of es z ≡ Some other → z ≢ id
-          named z other has same = none_some other (sym none ∙ ap (key_of es) (sym same) ∙ has)
+          named z other has same = none-some other (sym none ∙ ap (key_of es) (sym same) ∙ has)
 
           first : (AreRung old r x y × x ≢ id × y ≢ id) ⊎ ((x ≡ id) × (y ≡ id)) → AreRung old r x y ⊎ ((x ≡ id) × (y ≡ id))
           first (inl (rung, _, _)) = inl rung
@@ -112,7 +110,7 @@ module _ (nodes new : Nodes ℕ) (es now : List (ℕ × Key)) (own : AreKeys nod
     )
       where
         named : (z : ℕ) (other : Key) → key_of now z ≡ Some other → z ≢ id
-        named z other has same = none_some other (sym none ∙ ap (key_of now) (sym same) ∙ has)
+        named z other has same = none-some other (sym none ∙ ap (key_of now) (sym same) ∙ has)
 
 -- Two rings of keys are one, where each name keeps its key.
 module _ (nodes new : Nodes ℕ) (es : List (ℕ × Key)) (own : AreKeys nodes es) (owned : AreKeys new es) (rings : RingsGoRound 2 nodes)
