@@ -3,19 +3,9 @@ use Rattle.std.proofs.Common.{◌≡◌, ℕ, ◌+◌, ◌<◌, ◌≤◌, List,
 use Rattle.std.proofs.lemmas.List.{take_more, take_all}
 use Rattle.std.proofs.lemmas.List.Elements.{Contains-push_cases, Contains-append_left, Contains-push}
 use Rattle.std.specs.Prelude.{Contains}
-use Rattle.lists.proofs.Entries.{Contains-head, Contains-later, none_in_empty}
-use Rattle.lists.specs.Distinct.{AreDistinct}
+use Rattle.lists.proofs.Entries.{none_in_empty}
+use Rattle.lists.proofs.Distinct.{distinct_push}
 use Rattle.plain_graph.specs.Rests.{Puts, IsPair, IsToChild, IsLeft, ArePairsWithout}
-
-pub AreDistinct-push : {A : Type 0} (xs : List A) (x : A) → AreDistinct xs → (Contains xs x → ⊥) → AreDistinct (xs ++ x ∷ [])
-AreDistinct-push [] x apart outside = (none_in_empty x, tt)
-AreDistinct-push (y ∷ xs) x apart outside = (
-  λ again. elim (Contains-push_cases xs x y again) [
-    | inl before ↦ apart.0 before
-    | inr same ↦ outside (subst (Contains (y ∷ xs)) (sym same) (Contains-head y xs))
-  ],
-  AreDistinct-push xs x apart.1 (λ later. outside (Contains-later y x xs later)),
-)
 
 pub puts_nothing : (P : ℕ → ℕ → Type 0) (list : List (ℕ × ℕ)) → ((a b : ℕ) → P a b → Contains list (a, b)) → Puts P list list
 puts_nothing P list there =
@@ -67,7 +57,7 @@ puts_pushed list parent child absent = record {
       | inr same ↦ pair_same (list ++ (parent, child) ∷ []) a b parent child same.0 same.1 (Contains-push list (parent, child))
     ],
   );
-  once = λ apart. AreDistinct-push list (parent, child) apart absent;
+  once = λ apart. distinct_push list (parent, child) apart absent;
 }
 
 pub on_ok : {T E : Type 0} (result : Result T E) {P Q : Type 0} → (P → Q) → OnOk result P → OnOk result Q

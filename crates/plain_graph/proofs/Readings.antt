@@ -19,7 +19,7 @@ use Rattle.graph_model.specs.Replies.{names_reply}
 use Rattle.plain_graph.specs.Plain.{Kept, StandsFor, Steps, entry_in}
 use Rattle.plain_graph.specs.Sound.{names_of, IsSound}
 use Rattle.plain_graph.specs.Walks.{Reaches}
-use Rattle.plain_graph.proofs.Puts.{AreDistinct-push}
+use Rattle.lists.proofs.Distinct.{distinct_push}
 use Rattle.plain_graph.proofs.Standing.{IsSameGraph, HasTable, state_of, of_states, stands_for, stands_still, level-main, steps_refused, steps_accepted}
 
 pub same_but_found : (old new : Kept) (ids : List ℕ) → new ≡ record old { found = ids } → IsSameGraph old new
@@ -75,7 +75,7 @@ sound_paired set txs pairs places a b sound absent one other = record {
   in_range = sound.in_range;
   small = sound.small;
   names_once = sound.names_once;
-  pairs_once = AreDistinct-push pairs (a, b) sound.pairs_once absent;
+  pairs_once = distinct_push pairs (a, b) sound.pairs_once absent;
   ends = λ parent child pair. elim (Contains-push_cases pairs (a, b) (parent, child) pair) [
     | inl before ↦ sound.ends parent child before
     | inr same ↦ same_ends (names_of txs) a b (parent, child) same one other

@@ -26,7 +26,7 @@ use Rattle.plain_graph.specs.declared.tx.Tx.{Tx}
 use Rattle.plain_graph.specs.Plain.{Kept, StandsFor, Steps, entry_in}
 use Rattle.plain_graph.specs.Sound.{names_of, IsSound}
 use Rattle.plain_graph.proofs.Entries.{entry_of, entry-push, Contains-entry, none_of_true}
-use Rattle.plain_graph.proofs.Puts.{AreDistinct-push}
+use Rattle.lists.proofs.Distinct.{distinct_push}
 
 -- the table has the entries of the transactions
 pub record HasTable (txs : List Tx) (table : Table) : Type 0 where
@@ -207,7 +207,7 @@ sound_added set txs tx pairs places more sound none small room = record {
   in_range = sound.in_range;
   small = All-push (λ (tx : Tx). tx.size ≤ MAX_SIZE) txs tx sound.small small;
   names_once = subst (AreDistinct {A = ℕ}) (sym (map_push (λ (tx : Tx). tx.id) txs tx))
-      (AreDistinct-push (names_of txs) tx.id sound.names_once (λ here. no_entry (entry_in txs tx.id) none (Contains-entry txs tx.id here)));
+      (distinct_push (names_of txs) tx.id sound.names_once (λ here. no_entry (entry_in txs tx.id) none (Contains-entry txs tx.id here)));
   pairs_once = sound.pairs_once;
   ends = λ parent child pair. let ends = sound.ends parent child pair in (among_more txs tx parent ends.0, among_more txs tx child ends.1);
   enough = subst (λ (n : ℕ). n ≤ more) (sym (length_push txs tx)) room;
