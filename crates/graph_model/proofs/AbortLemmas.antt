@@ -1,12 +1,11 @@
 -- While a staging is open, main stays as it is: no command but `commit`, `settle` and `fee` changes it.
-use Rattle.std.proofs.Common.{◌≡◌, ◌≢◌, ℕ, ℤ, true, List, [], ◌∷◌, Option, None, Some, is_some, cond, sym, refl, ap, subst, ◌∙◌, inl, inr, ◌⊎◌, ne_eqb}
+use Rattle.std.proofs.Common.{◌≡◌, ℕ, ℤ, true, List, [], ◌∷◌, Option, None, Some, is_some, sym, refl, ap, subst, ◌∙◌, inl, inr, ◌⊎◌}
 use Rattle.std.specs.Prelude.{Contains}
-use Rattle.std.specs.Cmp.{nat_cmp_total, unsigned_tied}
 use Rattle.std.specs.FinMap as finmap
 use Rattle.lists.proofs.Cases.{some_none}
 use Rattle.graphs.specs.Graphs.{Graph}
 use Rattle.graph_model.specs.declared.names.Refusal.{Refusal}
-use Rattle.graph_model.specs.States.{PlainState, State, Table, Entry, with_top, rate_of, sum_in, IsLive, IsStaged}
+use Rattle.graph_model.specs.States.{PlainState, State, with_top, rate_of, sum_in, IsLive, IsStaged}
 use Rattle.graph_model.specs.Commands.{Command, SetLimits, Add, Dep, SetFee, Remove, Mine, Evict, Stage, Commit, Abort, Settle, Compare, Order, Diagram, Proof, Cluster, Ancestors, Descendants, Chunk, Before, Block, Count}
 use Rattle.graph_model.specs.Replies.{Reply, Done}
 use Rattle.graph_model.specs.Refusals.{RefusalIs}
@@ -15,6 +14,7 @@ use Rattle.graph_model.specs.Steps.{Step, Accepts, KeepsPicks, HaveSameRates}
 use Rattle.graph_model.specs.Validity.{IsValidState}
 use Rattle.graph_model.specs.Runs.{CommandsRun}
 use Rattle.graph_model.specs.StagingLaws.{LeavesMain, AllLeaveMain, HasSameMain, AbortLeavesMain}
+use Rattle.graph_model.proofs.ValidLemmas.{get-put_other}
 
 -- what stays as it was while a staging is open
 record IsAside (first now : State) : Type 0 where
@@ -50,10 +50,6 @@ module _ (first old new : State) (aside : IsAside first old) (graph : Graph) whe
         live = λ id here. ap is_some (table id here) ∙ aside.live id here;
       }
 
-get-added : (table : Table) (id q : ℕ) (entry : Entry) → q ≢ id → finmap.get (finmap.insert table id entry) q ≡ finmap.get table q
-get-added table id q entry other =
-    finmap.get-insert nat_cmp_total table id entry q ∙ ap (λ b. cond b (Some entry) (finmap.get table q)) (unsigned_tied q id ∙ ne_eqb q id other)
-
 module _ (first old new : State) (aside : IsAside first old) where
   -- the plain state after a change of top alone
   set_top : (base : PlainState) (top : Graph) → base.staging ≡ old.plain.staging → base.main ≡ old.plain.main → base.begun ≡ true
@@ -81,7 +77,7 @@ module _ (first old new : State) (aside : IsAside first old) where
   adds : (id : ℕ) (fee : ℤ) (size : ℕ) → (IsLive old.plain id → ⊥) → new.plain ≡ added old.plain id fee size → KeepsPicks old new → IsAside first new
   adds id fee size absent is picks =
       set_top (record (begun old.plain) { table = finmap.insert old.plain.table id (record { fee = fee; size = size }) }) _ refl refl refl
-      (λ q here. get-added old.plain.table id q (record { fee = fee; size = size }) (λ e. absent (subst (IsLive old.plain) e (aside.live q here)))) is picks
+      (λ q here. get-put_other old.plain.table id q (record { fee = fee; size = size }) (λ e. absent (subst (IsLive old.plain) e (aside.live q here)))) is picks
 
   removes : (top : Graph) → Forgets (with_top (begun old.plain) top) new.plain → KeepsPicks old new → IsAside first new
   removes top forgets picks =

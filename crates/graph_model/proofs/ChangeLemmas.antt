@@ -17,8 +17,9 @@ use Rattle.graph_model.specs.Commands.{Add, Dep}
 use Rattle.graph_model.specs.Refusals.{RefusalIs}
 use Rattle.graph_model.specs.Changes.{added, begun, AddsPair, IsKept}
 use Rattle.graph_model.specs.Validity.{IsLevel, IsStaging, IsValid}
+use Rattle.lists.proofs.Told.{told_number}
 use Rattle.graph_model.proofs.LevelLemmas.{same_level, level_joined}
-use Rattle.graph_model.proofs.ValidLemmas.{told_member, row_on, row_at_on, le_stable, get-put_same, get-put_other, level_added, with_more, top_level, staging_along}
+use Rattle.graph_model.proofs.ValidLemmas.{row_on, row_at_on, le_stable, get-put_same, get-put_other, level_added, with_more, top_level, staging_along}
 
 -- ---- the state with another top
 
@@ -250,4 +251,4 @@ valid_paired old new parent child valid row adds = elim adds [
 ]
   where
     stable : (names : List ℕ) (id : ℕ) → ((Contains names id → ⊥) → ⊥) → Contains names id
-    stable names id nn = elim (told_member names id) [ inl here ↦ here | inr none ↦ absurd (nn none) ]
+    stable names id nn = elim (told_number names id) [ inl here ↦ here | inr none ↦ absurd (nn none) ]

@@ -1,18 +1,18 @@
 -- The covering pairs of a graph, listed along an order, make a graph with the same ancestors and components.
-use Rattle.std.proofs.Common.{◌≡◌, ℕ, suc, zero, ◌+◌, ◌<◌, ◌≤◌, cond, nat_eq, List, [], ◌∷◌, ◌++◌, map, length, sym, refl, ap, subst, ◌∙◌, inl, inr, ◌⊎◌, arith, eq-eqb, ne_eqb}
+use Rattle.std.proofs.Common.{◌≡◌, ℕ, suc, zero, ◌+◌, ◌<◌, ◌≤◌, cond, nat_eq, List, [], ◌∷◌, ◌++◌, length, sym, refl, ap, subst, ◌∙◌, inl, inr, ◌⊎◌, arith, eq-eqb, ne_eqb}
 use Rattle.std.specs.Prelude.{Contains}
 use Rattle.std.proofs.lemmas.Bool.{cases_eq}
 use Rattle.lists.specs.Distinct.{AreDistinct}
 use Rattle.lists.proofs.Distinct.{distinct_apart}
-use Rattle.lists.proofs.Entries.{Contains-head, Contains-later, Contains-cases, Contains-splits, Contains-map, none_in_empty}
+use Rattle.lists.proofs.Entries.{Contains-head, Contains-later, Contains-cases, Contains-splits, none_in_empty}
 use Rattle.graphs.specs.Graphs.{Graph, Walk, IsAncestor, AreConnected, IsCover, IsGraph}
 use Rattle.graphs.specs.Linearizations.{StandsBefore, IsTopological}
 use Rattle.graphs.specs.Merges.{Precedes}
-use Rattle.graphs.proofs.OrderLemmas.{map-append}
 use Rattle.graphs.proofs.PairLemmas.{ancestors_through}
 use Rattle.graphs.proofs.WalkLemmas.{walk_within, walk_of_pair, IsAncestor-trans, walk_connects}
 use Rattle.graphs.proofs.BestLemmas.{covers_are_pairs}
 use Rattle.graphs.proofs.AlikeLemmas.{stands_trans}
+use Rattle.graphs.proofs.MergeLemmas.{precedes_later, precedes_map}
 use Rattle.graph_model.specs.Answers.{ListsCovers}
 use Rattle.graph_model.proofs.LevelLemmas.{IsTold, both_told, either_told, told_along, turn_first, turn_last, connects}
 
@@ -56,18 +56,12 @@ not_before_itself order a once stands = let below : place order a < place order 
 
 -- ---- lists whose entries differ from those before them
 
-precedes_later : {A : Type 0} (x : A) (xs : List A) (a b : A) → Precedes xs a b → Precedes (x ∷ xs) a b
-precedes_later x xs a b (front, rest, cut, here) = (x ∷ front, rest, ap (λ ys. x ∷ ys) cut, Contains-later x a front here)
-
 distinct_from : {A : Type 0} (xs : List A) → ((a : A) → Precedes xs a a → ⊥) → AreDistinct xs
 distinct_from [] apart = tt
 distinct_from (x ∷ xs) apart = (
   λ again. let cut = Contains-splits xs x again in apart x (x ∷ cut.0, cut.1, ap (λ ys. x ∷ ys) cut.2, Contains-head x cut.0),
   distinct_from xs (λ a stands. apart a (precedes_later x xs a a stands)),
 )
-
-precedes_map : {A B : Type 0} (f : A → B) (xs : List A) (a b : A) → Precedes xs a b → Precedes (map f xs) (f a) (f b)
-precedes_map f xs a b (front, rest, cut, here) = (map f front, map f rest, ap (map f) cut ∙ map-append f front (b ∷ rest), Contains-map f front a here)
 
 -- ---- whether a name is an ancestor can be told
 

@@ -1,58 +1,23 @@
 -- Components within the limits: what becomes of them when a graph changes.
-use Rattle.std.proofs.Common.{◌≡◌, ℕ, suc, zero, ◌+◌, ◌^◌, ◌<◌, ◌≤◌, Bool, true, false, List, [], ◌∷◌, ◌++◌, length, sym, refl, ap, subst, ◌∙◌, inl, inr, ◌⊎◌, arith, true≢false}
+use Rattle.std.proofs.Common.{◌≡◌, ℕ, suc, zero, ◌+◌, ◌^◌, ◌<◌, ◌≤◌, Bool, true, false, List, [], ◌∷◌, ◌++◌, length, sym, refl, subst, inl, inr, ◌⊎◌, arith, true≢false}
 use Rattle.std.specs.Prelude.{Contains, sum_by, filter}
 use Rattle.std.specs.List.{range_with_len}
 use Rattle.std.specs.List.Sorted.{IsStrictlyIncreasing}
 use Rattle.std.proofs.Math.ListN.{get_or}
 use Rattle.std.proofs.lemmas.Bool.{cases_eq}
 use Rattle.std.proofs.lemmas.List.FromFn.{length-range_with_len, get_or-range_with_len}
-use Rattle.std.proofs.lemmas.List.Sums.{sum_by-append, sum_by-cons}
 use Rattle.std.proofs.lemmas.List.Kept.{IsStrictlyIncreasing-filter}
 use Rattle.std.proofs.lemmas.List.Elements.{Contains-append_left, Contains-push, Contains-push_cases}
-use Rattle.lists.specs.Distinct.{AreDistinct}
-use Rattle.lists.proofs.Entries.{Contains-head, Contains-later, Contains-cases, Contains-filter, filter-Contains, Contains-splits, none_in_empty}
+use Rattle.lists.proofs.Distinct.{distinct_within}
+use Rattle.lists.proofs.Ranges.{Contains-range}
+use Rattle.arithmetic.proofs.Sums.{sum_by_along}
+use Rattle.lists.proofs.Entries.{Contains-head, Contains-later, Contains-cases, Contains-filter, filter-Contains, none_in_empty}
 use Rattle.graphs.specs.Graphs.{Graph, Trail, AreConnected, IsGraph, Lists}
 use Rattle.graphs.specs.Closing.{with_pair}
 use Rattle.graphs.proofs.PairLemmas.{connected_across}
 use Rattle.graph_model.specs.States.{PlainState, size_of}
 use Rattle.graph_model.specs.Refusals.{JoinsTo}
 use Rattle.graph_model.specs.Validity.{AreOfOneComponent, IsLevel}
-
--- ---- lists within lists
-
-sum_middle : (f : ℕ → ℕ) (xs ys : List ℕ) (x : ℕ) → sum_by f (xs ++ x ∷ ys) ≡ f x + sum_by f (xs ++ ys)
-sum_middle f xs ys x = omega (arith, sum_by-append f xs (x ∷ ys), sum_by-append f xs ys, sum_by-cons f x ys)
-
-length_middle : (xs ys : List ℕ) (x : ℕ) → length (xs ++ x ∷ ys) ≡ suc (length (xs ++ ys))
-length_middle [] ys x = refl
-length_middle (z ∷ xs) ys x = ap suc (length_middle xs ys x)
-
-other_than : (xs ys : List ℕ) (x q : ℕ) → Contains (xs ++ x ∷ ys) q → (q ≡ x) ⊎ Contains (xs ++ ys) q
-other_than [] ys x q here = elim (Contains-cases x q ys here) [ inl same ↦ inl (sym same) | inr later ↦ inr later ]
-other_than (z ∷ xs) ys x q here = elim (Contains-cases z q (xs ++ x ∷ ys) here) [
-  | inl same ↦ inr (subst (Contains (z ∷ xs ++ ys)) same (Contains-head z (xs ++ ys)))
-  | inr later ↦ elim (other_than xs ys x q later) [ inl is ↦ inl is | inr rest ↦ inr (Contains-later z q (xs ++ ys) rest) ]
-]
-
--- a list without repeats, of entries of another, is no longer and has no greater sum
-pub within : (f : ℕ → ℕ) (xs ys : List ℕ) → AreDistinct xs → ((q : ℕ) → Contains xs q → Contains ys q) → (length xs ≤ length ys) × (sum_by f xs ≤ sum_by f ys)
-within f [] ys once inside = (omega arith, omega arith)
-within f (x ∷ xs) ys once inside =
-    let cut = Contains-splits ys x (inside x (Contains-head x xs)) in
-    let rest = within f xs (cut.0 ++ cut.1) once.1
-    (λ q here. elim (other_than cut.0 cut.1 x q (subst (λ zs. Contains zs q) cut.2 (inside q (Contains-later x q xs here)))) [
-      | inl same ↦ absurd (once.0 (subst (Contains xs) same here))
-      | inr there ↦ there
-    ]) in
-    let long : length ys ≡ suc (length (cut.0 ++ cut.1)) = ap length cut.2 ∙ length_middle cut.0 cut.1 x in
-    let total : sum_by f ys ≡ f x + sum_by f (cut.0 ++ cut.1) = ap (sum_by f) cut.2 ∙ sum_middle f cut.0 cut.1 x in
-    (omega (arith, rest.0), omega (arith, rest.1, sum_by-cons f x xs))
-
--- sums over names of equal sizes
-pub same_sum : (f g : ℕ → ℕ) (xs : List ℕ) → ((q : ℕ) → Contains xs q → f q ≡ g q) → sum_by f xs ≡ sum_by g xs
-same_sum f g [] same = refl
-same_sum f g (x ∷ xs) same =
-    omega (arith, sum_by-cons f x xs, sum_by-cons g x xs, same x (Contains-head x xs), same_sum f g xs (λ q here. same q (Contains-later x q xs here)))
 
 -- ---- trails
 
@@ -98,6 +63,10 @@ named graph whole a b (suc n) trail here = named graph whole a trail.0 n trail.1
 
 abbrev pub IsTold : Type 0 → Type 0
 IsTold P = P ⊎ (P → ⊥)
+
+pub test_told : (b : Bool) → IsTold (b ≡ true)
+test_told true = inl refl
+test_told false = inr (λ is. true≢false (sym is))
 
 pub both_told : (P Q : Type 0) → IsTold P → IsTold Q → IsTold (P × Q)
 both_told P Q (inl p) (inl q) = inl (p, q)
@@ -161,13 +130,6 @@ rising_range n k below =
     let two : get_or (range_with_len 0 n) (k + 1) 0 ≡ 0 + (k + 1) = get_or-range_with_len 0 n (k + 1) 0 (omega arith) in
     omega arith
 
-in_range : (n q : ℕ) → q < n → Contains (range_with_len 0 n) q
-in_range n q below = (
-  q,
-  (let long : length (range_with_len 0 n) ≡ n = length-range_with_len 0 n in omega arith),
-  (let at : get_or (range_with_len 0 n) q q ≡ 0 + q = get_or-range_with_len 0 n q q below in omega arith),
-)
-
 pub some_list : (P : ℕ → Type 0) → ((q : ℕ) → IsTold (P q)) → (bound : ℕ) → ((q : ℕ) → P q → q < bound) → (ids : List ℕ) × Lists P ids
 some_list P told bound small =
     let keep : ℕ → Bool = λ q. is_first (told q) in (
@@ -176,7 +138,7 @@ some_list P told bound small =
         rising = IsStrictlyIncreasing-filter keep (range_with_len 0 bound) (rising_range bound);
         exact = λ q. (
           λ here. first_holds (told q) (filter-Contains keep (range_with_len 0 bound) q here).0,
-          λ holds. Contains-filter keep (range_with_len 0 bound) q (holds_first (told q) holds) (in_range bound q (small q holds)),
+          λ holds. Contains-filter keep (range_with_len 0 bound) q (holds_first (told q) holds) (Contains-range bound q (small q holds)),
         );
       },
     )
@@ -198,7 +160,7 @@ level_within was is old new limits whole inside connected sizes level =
       names = λ id here. level.names id (inside id here);
       count = λ ids of. subst (λ l. length ids ≤ l.count) (sym limits) (level.count ids (same ids of));
       size = λ ids of. subst (λ l. sum_by (size_of is.table) ids ≤ l.size) (sym limits)
-          (subst (λ n. n ≤ was.limits.size) (sym (same_sum (size_of is.table) (size_of was.table) ids (λ q here. sizes q (of.inside q here))))
+          (subst (λ n. n ≤ was.limits.size) (sym (sum_by_along (size_of is.table) (size_of was.table) ids (λ q here. sizes q (of.inside q here))))
           (level.size ids (same ids of)));
     }
 
@@ -292,7 +254,7 @@ module _ (state : PlainState) (graph : Graph) (parent child : ℕ) (level : IsLe
       | inl old ↦ (level.count ids old, level.size ids old)
       | inr joint ↦
           let list = some_list Joint (λ q. either_told _ _ (connected_told graph.pairs q parent) (connected_told graph.pairs q child)) (2 ^ 64) joint_named in
-          let fits = within (size_of state.table) ids list.0 of.once (λ q here. (list.1.exact q).1 (joint q here)) in
+          let fits = distinct_within (size_of state.table) ids list.0 of.once (λ q here. (list.1.exact q).1 (joint q here)) in
           let count : length list.0 ≤ state.limits.count = few list.0 (none, list.1) in
           let size : sum_by (size_of state.table) list.0 ≤ state.limits.size = small list.0 (none, list.1) in
           (omega (arith, fits.0), omega (arith, fits.1))

@@ -10,7 +10,7 @@ use Rattle.std.proofs.lemmas.List.Concat.{flat_map-cons}
 use Rattle.std.proofs.lemmas.List.Elements.{Contains-push, Contains-push_cases, Contains-append_cases}
 use Rattle.lists.specs.Distinct.{AreDistinct}
 use Rattle.lists.proofs.Distinct.{distinct-append_left, distinct_apart}
-use Rattle.lists.proofs.Entries.{Contains-head, Contains-later, Contains-cases, Contains-splits, map-Contains, none_in_empty}
+use Rattle.lists.proofs.Entries.{Contains-head, Contains-later, Contains-cases, Contains-splits, map-Contains, none_in_empty, Contains-map}
 use Rattle.fee_rate.specs.declared.rates.Sum.{Sum}
 use Rattle.fee_rate.specs.Limits.{IsFee, IsSize}
 use Rattle.graphs.specs.declared.names.Level.TheVariants.{Main, Top}
@@ -21,10 +21,9 @@ use Rattle.graphs.specs.Linearizations.{IsTopological, IsClosedWithin}
 use Rattle.graphs.specs.Certificates.{Part, Txs, graph_of, rate_in, weight_in, HasGraph, HasOrder, HasFalling, HasFlows, Certified}
 use Rattle.graphs.specs.Picks.{IsPick}
 use Rattle.graphs.proofs.TangentLemmas.{joined}
-use Rattle.graphs.proofs.MergeLemmas.{flat_has}
+use Rattle.lists.proofs.Flats.{flat_has}
 use Rattle.graphs.proofs.AlikeLemmas.{sums_along}
-use Rattle.graphs.proofs.BestLemmas.{covers_are_pairs, joined_distinct, part_front_closed}
-use Rattle.lists.proofs.Entries.{Contains-map}
+use Rattle.graphs.proofs.BestLemmas.{covers_are_pairs, joined_distinct, joined_ids, part_front_closed}
 use Rattle.graph_model.specs.States.{PlainState, State, Entry, level_of, pick_of, top_of, rate_of, sum_in, IsLive}
 use Rattle.graph_model.specs.Changes.{IsKept}
 use Rattle.graph_model.specs.Answers.{order_of, ProvesOrder, ListsCovers}
@@ -32,7 +31,7 @@ use Rattle.graph_model.specs.Lines.{max_line}
 use Rattle.graph_model.specs.Texts.{Text, tx_line, edge_line, flow_line, chunk_line, part_lines, text_lines, HasPartTypes, HasTextTypes, IsText, Found, Verifies}
 use Rattle.graph_model.specs.Validity.{IsLevel, IsValid, IsPickOf, IsValidState}
 use Rattle.graph_model.specs.ProofLaws.{ProofsAreCertificates}
-use Rattle.graph_model.proofs.TableLemmas.{names-within}
+use Rattle.lists.proofs.Keys.{names-within}
 use Rattle.graph_model.proofs.ValidLemmas.{top_level}
 use Rattle.graph_model.proofs.EdgeLemmas.{edge_graph, edge_order, edge_connected}
 use Rattle.graph_model.proofs.AmountLemmas.{IsSmallSum, small_sum, amount_small, all_of}
@@ -70,10 +69,6 @@ all_mapped f xs plain line here = let found = map-Contains f xs line here in sub
 
 all_appended : (xs ys : List (List ℕ)) → AllPlain xs → AllPlain ys → AllPlain (xs ++ ys)
 all_appended xs ys one two line here = elim (Contains-append_cases xs ys line here) [ inl first ↦ one line first | inr later ↦ two line later ]
-
-joined_ids : (parts : List Part) → flat_map (λ part. part.ids) parts ≡ joined (map (λ part. part.ids) parts)
-joined_ids [] = refl
-joined_ids (p ∷ parts) = ap (λ ids. p.ids ++ ids) (joined_ids parts)
 
 module _ (plain : PlainState) (graph : Graph) (pick : List Part) (edges : List (ℕ × ℕ)) (valid : IsValid plain) (level : IsLevel plain graph)
     (inside : (id : ℕ) → Contains graph.names id → IsKept plain id)

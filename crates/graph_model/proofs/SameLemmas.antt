@@ -24,7 +24,8 @@ use Rattle.graph_model.specs.Verdicts.{VerdictIs}
 use Rattle.graph_model.specs.Steps.{AcceptsPlainly}
 use Rattle.graph_model.specs.Validity.{IsValid}
 use Rattle.graph_model.specs.SameLaws.{IsSameGraph, IsSameStaging, IsSameState, ReadsNoPick, StepsAreFunctions}
-use Rattle.graph_model.proofs.LevelLemmas.{within, one_pair, connects}
+use Rattle.lists.proofs.Distinct.{distinct_within}
+use Rattle.graph_model.proofs.LevelLemmas.{one_pair, connects}
 use Rattle.graph_model.proofs.ValidLemmas.{told_kept, get-put, top_level}
 use Rattle.graph_model.proofs.ChangeLemmas.{of_top}
 
@@ -183,8 +184,8 @@ module _ (a b : PlainState) (valid_a : IsValid a) (valid_b : IsValid b) (same : 
   same_count : (level : Level) → length (level_of a level).names ≡ length (level_of b level).names
   same_count level =
       let graphs = level_same a b level same in
-      let one = within (λ x. x) (level_of a level).names (level_of b level).names (whole a level valid_a).names (λ q here. (graphs.names q).0 here) in
-      let two = within (λ x. x) (level_of b level).names (level_of a level).names (whole b level valid_b).names (λ q here. (graphs.names q).1 here) in
+      let one = distinct_within (λ x. x) (level_of a level).names (level_of b level).names (whole a level valid_a).names (λ q here. (graphs.names q).0 here) in
+      let two = distinct_within (λ x. x) (level_of b level).names (level_of a level).names (whole b level valid_b).names (λ q here. (graphs.names q).1 here) in
       omega (arith, one.0, two.0)
 
   module _ (pa pb : Picks) (a' b' : PlainState) (ra rb : Reply) where

@@ -1,14 +1,16 @@
 -- Steps keep valid states.
-use Rattle.std.proofs.Common.{◌≡◌, ◌≢◌, ℕ, suc, zero, ◌^◌, ◌<◌, ◌≤◌, Bool, true, false, cond, List, [], ◌∷◌, ◌++◌, length, Option, None, Some, is_some, sym, refl, ap, subst, ◌∙◌, inl, inr, ◌⊎◌, arith, true≢false, nat_eq, eq-eqb, ne_eqb}
+use Rattle.std.proofs.Common.{◌≡◌, ◌≢◌, ℕ, suc, zero, ◌^◌, ◌<◌, ◌≤◌, true, cond, List, [], ◌∷◌, ◌++◌, length, Option, None, Some, is_some, sym, refl, ap, subst, ◌∙◌, inl, inr, ◌⊎◌, arith, true≢false, nat_eq, eq-eqb, ne_eqb}
 use Rattle.std.specs.Prelude.{Contains, sum_by}
 use Rattle.std.specs.Ordering.{nat_cmp}
 use Rattle.std.specs.Cmp.{nat_cmp_total, unsigned_tied}
 use Rattle.std.specs.FinMap as finmap
-use Rattle.std.proofs.lemmas.Bool.{cases_eq, cases_lt}
+use Rattle.std.proofs.lemmas.Bool.{cases_lt, false_from_ne_true}
 use Rattle.std.proofs.lemmas.List.Elements.{Contains-append_left, Contains-push_cases}
 use Rattle.lists.proofs.Cases.{some_none}
-use Rattle.lists.proofs.Distinct.{distinct_push}
-use Rattle.lists.proofs.Entries.{Contains-head, Contains-later, Contains-cases, none_in_empty}
+use Rattle.lists.proofs.Distinct.{distinct_push, distinct_within}
+use Rattle.lists.proofs.Keys.{len-within}
+use Rattle.lists.proofs.Told.{told_number}
+use Rattle.lists.proofs.Entries.{Contains-head, none_in_empty}
 use Rattle.graphs.specs.declared.names.Level.TheVariants.{Top}
 use Rattle.graph_model.specs.declared.names.Limits.{Limits}
 use Rattle.graph_model.specs.declared.names.Refusal.{Refusal}
@@ -19,25 +21,14 @@ use Rattle.graph_model.specs.Commands.{SetLimits}
 use Rattle.graph_model.specs.Refusals.{RefusalIs}
 use Rattle.graph_model.specs.Changes.{limited, IsKept, Forgets}
 use Rattle.graph_model.specs.Validity.{AreOfOneComponent, IsLevel, IsStaging, IsValid}
-use Rattle.graph_model.proofs.TableLemmas.{len-within}
-use Rattle.graph_model.proofs.LevelLemmas.{within, same_level}
+use Rattle.graph_model.proofs.LevelLemmas.{same_level}
 
 -- ---- what can be told
 
-pub told_member : (xs : List ℕ) (q : ℕ) → Contains xs q ⊎ (Contains xs q → ⊥)
-told_member [] q = inr (none_in_empty q)
-told_member (x ∷ xs) q = elim (cases_eq x q) [
-  | inl same ↦ inl (subst (Contains (x ∷ xs)) same (Contains-head x xs))
-  | inr other ↦ elim (told_member xs q) [
-    | inl here ↦ inl (Contains-later x q xs here)
-    | inr none ↦ inr (λ here. elim (Contains-cases x q xs here) [ inl same ↦ other same | inr later ↦ none later ])
-  ]
-]
-
 pub told_kept : (state : PlainState) (q : ℕ) → IsKept state q ⊎ (IsKept state q → ⊥)
-told_kept state q = elim (told_member state.main.names q) [
+told_kept state q = elim (told_number state.main.names q) [
   | inl main ↦ inl (inl main)
-  | inr none ↦ elim (told_member (level_of state Top).names q) [
+  | inr none ↦ elim (told_number (level_of state Top).names q) [
     | inl top ↦ inl (inr top)
     | inr neither ↦ inr (λ kept. elim kept [ inl main ↦ none main | inr top ↦ neither top ])
   ]
@@ -158,7 +149,7 @@ pub valid_limited : (old : PlainState) (limits : Limits) → IsValid old
 valid_limited old limits valid row =
     let early = row_on row in
     let in_range : AreInRange old.most limits = range_stable old.most limits (row_on early.1).0 in
-    let fresh = valid.fresh (false_unless old.begun early.0) in
+    let fresh = valid.fresh (false_from_ne_true old.begun early.0) in
     let new : PlainState = limited old limits in
     let none_live : finmap.len old.table ≤ finmap.len {X = Entry} {R = nat_cmp} finmap.empty =
     len-within old.table finmap.empty (λ q live. absurd (nothing_live old valid fresh.0 fresh.1 q live)) in
@@ -178,10 +169,6 @@ valid_limited old limits valid row =
       rates = valid.rates;
       fresh = λ not_yet. absurd (true≢false not_yet);
     }
-  where
-    false_unless : (b : Bool) → (b ≡ true → ⊥) → b ≡ false
-    false_unless true none = absurd (none refl)
-    false_unless false none = refl
 
 -- ---- one more name
 
@@ -226,10 +213,10 @@ level_added was is graph id limits some fits small absent sizes level =
     fits_is = subst (λ (l : Limits). size_of is.table id ≤ l.size) (sym limits) fits
 
     bounds : (ids : List ℕ) → AreOfOneComponent (with_more graph id) ids → (length ids ≤ is.limits.count) × (sum_by (size_of is.table) ids ≤ is.limits.size)
-    bounds ids of = elim (told_member ids id) [
+    bounds ids of = elim (told_number ids id) [
       | inl here ↦
           let all : (length ids ≤ length (id ∷ [])) × (sum_by (size_of is.table) ids ≤ sum_by (size_of is.table) (id ∷ [])) =
-          within (size_of is.table) ids (id ∷ []) of.once
+          distinct_within (size_of is.table) ids (id ∷ []) of.once
           (λ q there. let trail = of.together q id there here in
           subst (Contains (id ∷ [])) (sym (lone graph id level.whole absent q trail.0 trail.1)) (Contains-head id [])) in
           (omega (arith, all.0, some_is), omega (arith, all.1, fits_is))

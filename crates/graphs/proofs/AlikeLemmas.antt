@@ -2,11 +2,12 @@
 use Rattle.std.proofs.Common.{◌≡◌, ℕ, suc, zero, List, [], ◌∷◌, ◌++◌, map, inl, inr, ℤ, pos, ◌-ℤ◌, refl, sym, ap, ◌∙◌, subst, arith}
 use Rattle.std.specs.Prelude.{Contains, flat_map}
 use Rattle.std.proofs.lemmas.Int.{ints}
-use Rattle.std.proofs.lemmas.List.Elements.{Contains-append_left, Contains-append_right}
+use Rattle.std.proofs.lemmas.List.Elements.{Contains-append_left}
 use Rattle.arithmetic.proofs.Sums.{total_along, total-pos}
 use Rattle.fee_rate.proofs.Orders.{same_sum}
+use Rattle.lists.proofs.Flats.{flat_has}
 use Rattle.lists.proofs.Distinct.{stays_before}
-use Rattle.lists.proofs.Entries.{Contains-head, Contains-later, Contains-cases, none_in_empty}
+use Rattle.lists.proofs.Entries.{Contains-head, Contains-later}
 use Rattle.lists.specs.Distinct.{AreDistinct}
 use Rattle.fee_rate.specs.declared.rates.Sum.{Sum}
 use Rattle.fee_rate.specs.Rates.{AtMost}
@@ -164,13 +165,6 @@ optimal_to ra rb a b alike one other parts optimal = record {
       subst (λ zs. IsUnderDiagram zs (sums rb front)) lists (subst (λ (s : Sum). IsUnderDiagram (map (sums ra) parts) s) fronts (optimal.best front rest here));
 }
 
-part-Contains : (parts : List Part) (part : Part) (id : ℕ) → Contains parts part → Contains part.ids id → Contains (flat_map (λ p. p.ids) parts) id
-part-Contains [] part id h there = absurd (none_in_empty part h)
-part-Contains (p ∷ parts) part id h there = elim (Contains-cases p part parts h) [
-  | inl same ↦ Contains-append_left p.ids (flat_map (λ q. q.ids) parts) id (subst (λ (q : Part). Contains q.ids id) (sym same) there)
-  | inr later ↦ Contains-append_right p.ids (flat_map (λ q. q.ids) parts) id (part-Contains parts part id later there)
-]
-
 certifies_to : (ra rb : ℕ → Sum) (a b : Graph) → AreAlike ra a rb b → (ids : List ℕ) (flows : List Flow) → ((id : ℕ) → Contains ids id → Contains a.names id)
     → Certifies ra (IsCover a.pairs) ids flows → Certifies rb (IsCover b.pairs) ids flows
 certifies_to ra rb a b alike ids flows inside certified = record {
@@ -188,7 +182,7 @@ pub certificate_to : (ra rb : ℕ → Sum) (a b : Graph) → AreAlike ra a rb b 
     → IsCertificate ra a (IsCover a.pairs) parts → IsCertificate rb b (IsCover b.pairs) parts
 certificate_to ra rb a b alike other parts certificate =
     let member : (part : Part) → Contains parts part → (id : ℕ) → Contains part.ids id → Contains a.names id =
-    λ part h id there. (certificate.order.topological.names id).0 (part-Contains parts part id h there) in
+    λ part h id there. (certificate.order.topological.names id).0 (flat_has (λ (p : Part). p.ids) parts part id h there) in
     record {
       filled = certificate.filled;
       order = record {

@@ -1,15 +1,17 @@
 -- Flat parts of falling rate are optimal, and an optimal order bounds every closed set.
-use Rattle.std.proofs.Common.{◌≡◌, ◌≢◌, ℕ, suc, zero, ◌≤◌, List, [], ◌∷◌, ◌++◌, map, Bool, true, false, not, cond, nat_eq, inl, inr, ◌↔◌, ℤ, pos, ◌≤ℤ◌, refl, sym, ap, ◌∙◌, subst, arith}
+use Rattle.std.proofs.Common.{◌≡◌, ◌≢◌, ℕ, suc, zero, ◌≤◌, List, [], ◌∷◌, ◌++◌, map, Bool, true, not, nat_eq, inl, inr, ◌↔◌, ℤ, pos, ◌≤ℤ◌, refl, sym, ap, ◌∙◌, subst, arith, append_assoc}
 use Rattle.std.specs.Prelude.{Contains, flat_map}
 use Rattle.std.specs.List.{filter}
 use Rattle.std.specs.Set.{is_member}
-use Rattle.std.proofs.lemmas.Bool.{cases_Bool, not-true, both_ways}
+use Rattle.std.proofs.lemmas.Bool.{cases_Bool, not-true, both_ways, not_from_false}
 use Rattle.std.proofs.lemmas.Bool.Decides.{Decides-eqb}
 use Rattle.std.proofs.lemmas.Map.Made.{is_member-Decides}
 use Rattle.std.proofs.lemmas.Int.{ints}
 use Rattle.std.proofs.lemmas.List.Sums.{sum_by-cons}
-use Rattle.std.proofs.lemmas.List.Elements.{Contains-append_left, Contains-append_right, Contains-append_cases, filter-append}
-use Rattle.lists.proofs.Distinct.{distinct-append_left, distinct-append_right, distinct_apart, distinct_joined, distinct-filter, distinct_without, stays_before}
+use Rattle.std.proofs.lemmas.List.Concat.{flat_map-append}
+use Rattle.std.proofs.lemmas.List.Elements.{Contains-append_left, Contains-append_right, Contains-append_cases}
+use Rattle.lists.proofs.Distinct.{distinct-append_left, distinct_apart, distinct_joined, distinct-filter, distinct_without, stays_before}
+use Rattle.lists.proofs.Flats.{flat_has, flat_part_once}
 use Rattle.lists.proofs.Entries.{Contains-head, Contains-later, Contains-cases, none_in_empty, Contains-filter, filter-Contains, Contains-splits, rest_of, first_of}
 use Rattle.lists.specs.Distinct.{AreDistinct}
 use Rattle.arithmetic.specs.Sums.{total}
@@ -21,6 +23,7 @@ use Rattle.graphs.specs.Rates.{sum_of, sums, Falls, HasSizes}
 use Rattle.graphs.specs.Linearizations.{IsClosedWithin, IsTopological, StandsBefore, IsTogether, AreChunks, IsFlat, IsUnderLine, IsUnderDiagram, IsOptimal}
 use Rattle.graphs.specs.Certificates.{Part, IsCertificate}
 use Rattle.graphs.proofs.FlowLemmas.{flow_bounds}
+use Rattle.graphs.proofs.MergeLemmas.{precedes_filter}
 use Rattle.graphs.proofs.TangentLemmas.{joined, sizes-append, tangent}
 
 -- ---- sums over lists of the same names
@@ -66,25 +69,14 @@ sums_same_members rate xs ys d e same =
 
 -- ---- parts and their names
 pub joined-part : (parts : List (List ℕ)) (part : List ℕ) → Contains parts part → (before after : List ℕ) × (joined parts ≡ before ++ (part ++ after))
-joined-part [] part h = absurd (none_in_empty part h)
-joined-part (p ∷ parts) part h = elim (Contains-cases p part parts h) [
-  | inl same ↦ ([], joined parts, ap (λ ids. ids ++ joined parts) same)
-  | inr later ↦ let found = joined-part parts part later in (p ++ found.0, found.1, ap (λ ids. p ++ ids) found.2 ∙ sym (assoc p found.0 (part ++ found.1)))
-]
-  where
-    assoc : (xs ys zs : List ℕ) → (xs ++ ys) ++ zs ≡ xs ++ (ys ++ zs)
-    assoc [] ys zs = refl
-    assoc (x ∷ xs) ys zs = ap (λ ws. x ∷ ws) (assoc xs ys zs)
+joined-part parts part h =
+    let cut = Contains-splits parts part h in (joined cut.0, joined cut.1, ap joined cut.2 ∙ flat_map-append (λ ids. ids) cut.0 (part ∷ cut.1))
 
 pub joined-Contains : (parts : List (List ℕ)) (part : List ℕ) (id : ℕ) → Contains parts part → Contains part id → Contains (joined parts) id
-joined-Contains parts part id h there =
-    let found = joined-part parts part h in
-    subst (λ (zs : List ℕ). Contains zs id) (sym found.2) (Contains-append_right found.0 (part ++ found.1) id (Contains-append_left part found.1 id there))
+joined-Contains = flat_has (λ ids. ids)
 
 pub joined_distinct : (parts : List (List ℕ)) (part : List ℕ) → Contains parts part → AreDistinct (joined parts) → AreDistinct part
-joined_distinct parts part h d =
-    let found = joined-part parts part h in
-    distinct-append_left part found.1 (distinct-append_right found.0 (part ++ found.1) (subst AreDistinct found.2 d))
+joined_distinct parts part h d = flat_part_once (λ ids. ids) parts part d h
 
 pub sum_of-joined : (rate : ℕ → Sum) (parts : List (List ℕ)) → sum_of (map (sums rate) parts) ≡ sums rate (joined parts)
 unfolding sum_parts
@@ -202,12 +194,8 @@ flat_optimal rate graph parts some order chunks flat = record {
   best = λ front rest other. flat_bounds rate graph parts front some order chunks flat (front_closed graph front rest other);
 }
 
-assoc : (xs ys zs : List ℕ) → (xs ++ ys) ++ zs ≡ xs ++ (ys ++ zs)
-assoc [] ys zs = refl
-assoc (x ∷ xs) ys zs = ap (λ ws. x ∷ ws) (assoc xs ys zs)
-
 regrouped : (a b c d : List ℕ) → a ++ ((b ++ c) ++ d) ≡ (a ++ b) ++ (c ++ d)
-regrouped a b c d = ap (λ zs. a ++ zs) (assoc b c d) ∙ sym (assoc a b (c ++ d))
+regrouped a b c d = ap (λ zs. a ++ zs) (append_assoc b c d) ∙ sym (append_assoc a b (c ++ d))
 
 -- a front of a part is closed within the part
 pub part_front_closed : (graph : Graph) (parts : List (List ℕ)) (part front rest : List ℕ)
@@ -237,11 +225,12 @@ part_of_ids (p ∷ parts) ids h = elim (Contains-cases p.ids ids (map (λ part. 
   | inr later ↦ let found = part_of_ids parts ids later in (found.0, Contains-later p found.0 parts found.1, found.2)
 ]
 
-joined_ids : (parts : List Part) → flat_map (λ part. part.ids) parts ≡ joined (map (λ part. part.ids) parts)
+pub joined_ids : (parts : List Part) → flat_map (λ part. part.ids) parts ≡ joined (map (λ part. part.ids) parts)
 joined_ids [] = refl
 joined_ids (p ∷ parts) = ap (λ ids. p.ids ++ ids) (joined_ids parts)
 
-rates_are_sums : (rate : ℕ → Sum) (parts : List Part) → ((part : Part) → Contains parts part → part.rate ≡ sums rate part.ids)
+-- parts have the sums over their names
+pub rates_are_sums : (rate : ℕ → Sum) (parts : List Part) → ((part : Part) → Contains parts part → part.rate ≡ sums rate part.ids)
     → map (λ part. part.rate) parts ≡ map (sums rate) (map (λ part. part.ids) parts)
 rates_are_sums rate [] e = refl
 rates_are_sums rate (p ∷ parts) e = λ i. e p (Contains-head p parts) i ∷ rates_are_sums rate parts (λ q h. e q (Contains-later p q parts h)) i
@@ -279,36 +268,20 @@ pub covers_are_pairs : (pairs : List (ℕ × ℕ)) (a b : ℕ) → IsCover pairs
 covers_are_pairs pairs a b cover = cover_on_walk pairs a b cover cover.ancestor.0 b cover.ancestor.1 refl
 
 -- ---- an optimal order bounds closed sets
-kept : Bool → ℕ → List ℕ → List ℕ
-kept t x xs = cond t (x ∷ xs) xs
-
-moved_before : (m : ℕ → Bool) (order : List ℕ) (a b : ℕ) → StandsBefore order a b → m a ≡ true → m b ≡ true → StandsBefore (filter m order) a b
-unfolding kept
-moved_before m order a b stands here there = (
-  filter m stands.0,
-  filter m stands.1,
-  ap (filter m) stands.2 ∙ filter-append m stands.0 (b ∷ stands.1) ∙ ap (λ (t : Bool). filter m stands.0 ++ kept t b (filter m stands.1)) there,
-  Contains-filter m stands.0 a here stands.3,
-)
-
 stands_in : (order : List ℕ) (a b : ℕ) → StandsBefore order a b → Contains order a
 stands_in order a b stands = subst (λ (zs : List ℕ). Contains zs a) (sym stands.2) (Contains-append_left stands.0 (b ∷ stands.1) a stands.3)
 
 pub stands-append_right : (xs ys : List ℕ) (a b : ℕ) → StandsBefore xs a b → StandsBefore (xs ++ ys) a b
-stands-append_right xs ys a b stands = (stands.0, stands.1 ++ ys, ap (λ zs. zs ++ ys) stands.2 ∙ assoc stands.0 (b ∷ stands.1) ys, stands.3)
+stands-append_right xs ys a b stands = (stands.0, stands.1 ++ ys, ap (λ zs. zs ++ ys) stands.2 ∙ append_assoc stands.0 (b ∷ stands.1) ys, stands.3)
 
 pub stands-append_left : (xs ys : List ℕ) (a b : ℕ) → StandsBefore ys a b → StandsBefore (xs ++ ys) a b
 stands-append_left xs ys a b stands =
-    (xs ++ stands.0, stands.1, ap (λ zs. xs ++ zs) stands.2 ∙ sym (assoc xs stands.0 (b ∷ stands.1)), Contains-append_right xs stands.0 a stands.3)
+    (xs ++ stands.0, stands.1, ap (λ zs. xs ++ zs) stands.2 ∙ sym (append_assoc xs stands.0 (b ∷ stands.1)), Contains-append_right xs stands.0 a stands.3)
 
 pub stands_across : (xs ys : List ℕ) (a b : ℕ) → Contains xs a → Contains ys b → StandsBefore (xs ++ ys) a b
 stands_across xs ys a b here there =
     let cut = Contains-splits ys b there in
-    (xs ++ cut.0, cut.1, ap (λ zs. xs ++ zs) cut.2 ∙ sym (assoc xs cut.0 (b ∷ cut.1)), Contains-append_left xs cut.0 a here)
-
-not_from_false : (b : Bool) → b ≡ false → not b ≡ true
-not_from_false true e = cc
-not_from_false false e = refl
+    (xs ++ cut.0, cut.1, ap (λ zs. xs ++ zs) cut.2 ∙ sym (append_assoc xs cut.0 (b ∷ cut.1)), Contains-append_left xs cut.0 a here)
 
 -- a closed set first, in the order that it has in a linearization, and then the rest, is a linearization
 pub set_first : (graph : Graph) (order set : List ℕ) → IsTopological graph order → IsClosedWithin graph.pairs graph.names set
@@ -336,7 +309,7 @@ set_first graph order set topological closed =
           elim (cases_Bool (among set child)) [
             | inl inside ↦
                 let above = among_is set parent (closed.parents parent child pair ((topological.names parent).0 there) (among_yes set child inside)) in
-                stands-append_right (filter m order) (filter out order) parent child (moved_before m order parent child stands above inside)
+                stands-append_right (filter m order) (filter out order) parent child (precedes_filter m order parent child above inside stands)
             | inr beyond ↦
                 let last = not_from_false (among set child) beyond in
                 elim (cases_Bool (among set parent)) [
@@ -344,7 +317,7 @@ set_first graph order set topological closed =
                       (Contains-filter out order child last (subst (λ (zs : List ℕ). Contains zs child) (sym stands.2)
                       (Contains-append_right stands.0 (child ∷ stands.1) child (Contains-head child stands.1))))
                   | inr outside ↦ stands-append_left (filter m order) (filter out order) parent child
-                      (moved_before out order parent child stands (not_from_false (among set parent) outside) last)
+                      (precedes_filter out order parent child (not_from_false (among set parent) outside) last stands)
                 ]
           ];
     }

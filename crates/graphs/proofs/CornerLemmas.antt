@@ -7,7 +7,8 @@ use Rattle.std.proofs.lemmas.List.Sums.{sum_by-cons, sum_by-append}
 use Rattle.std.proofs.lemmas.List.Concat.{flat_map-append}
 use Rattle.std.proofs.lemmas.List.Elements.{Contains-append_left, Contains-append_right}
 use Rattle.fee_rate.proofs.Orders.{at_most_chains, same_sum, below_at_most, same_at_most, same_back, same_chains, below_at_most_chains, at_most_below}
-use Rattle.lists.proofs.Entries.{Contains-head, Contains-later, Contains-cases, none_in_empty, rest_of, first_of, map-Contains}
+use Rattle.lists.proofs.Entries.{Contains-head, Contains-later, Contains-cases, none_in_empty, rest_of, first_of, map-Contains, map_cut}
+use Rattle.lists.proofs.Flats.{flat_has}
 use Rattle.lists.specs.Distinct.{AreDistinct}
 use Rattle.arithmetic.proofs.Sums.{total-append}
 use Rattle.arithmetic.proofs.Products.{mul-sub_left, mul-sub_right, scale_reflects}
@@ -231,22 +232,8 @@ sum_of-groups (g ∷ gs) =
     (omega (arith, ints, total-append (λ (part : Sum). part.fee) g (flat gs)))
     (omega (arith, size_of-cons (sum_of g) (map sum_of gs), sum_by-append (λ (part : Sum). part.size) g (flat gs)))
 
--- where a mapped list is cut, the list itself is
-map_cut : {A B : Type 0} (f : A → B) (xs : List A) (before after : List B) → map f xs ≡ before ++ after
-    → (ys zs : List A) × (xs ≡ ys ++ zs) × (before ≡ map f ys) × (after ≡ map f zs)
-map_cut f xs [] after e = ([], xs, refl, refl, sym e)
-map_cut f [] (b ∷ before) after e = cc
-map_cut f (x ∷ xs) (b ∷ before) after e =
-    let found = map_cut f xs before after (rest_of e) in
-    let head : f x ≡ b = first_of e in
-    (x ∷ found.0, found.1, ap (λ zs. x ∷ zs) found.2, (λ i. sym head i ∷ found.3 i), found.4)
-
 flat-Contains : (groups : List (List Sum)) (group : List Sum) (part : Sum) → Contains groups group → Contains group part → Contains (flat groups) part
-flat-Contains [] group part h there = absurd (none_in_empty group h)
-flat-Contains (g ∷ gs) group part h there = elim (Contains-cases g group gs h) [
-  | inl same ↦ Contains-append_left g (flat gs) part (subst (λ zs. Contains zs part) (sym same) there)
-  | inr later ↦ Contains-append_right g (flat gs) part (flat-Contains gs group part later there)
-]
+flat-Contains = flat_has (λ group. group)
 
 group_some : (group : List Sum) → group ≢ [] → HaveSizes group → 1 ≤ (sum_of group).size
 group_some [] filled some = absurd (filled refl)

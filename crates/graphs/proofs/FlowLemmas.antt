@@ -7,17 +7,13 @@ use Rattle.std.proofs.lemmas.List.Sums.{sum_by-cons}
 use Rattle.lists.proofs.Entries.{Contains-head, Contains-later, Contains-cases}
 use Rattle.lists.specs.Distinct.{AreDistinct}
 use Rattle.arithmetic.specs.Sums.{total}
-use Rattle.arithmetic.proofs.Sums.{total-sub, total-scale, total_along, total-pos, total-pos-scale}
+use Rattle.arithmetic.proofs.Sums.{sum_by-add, total-sub, total-scale, total_along, total-pos, total-pos-scale}
 use Rattle.fee_rate.specs.declared.rates.Sum.{Sum}
 use Rattle.fee_rate.specs.Rates.{AtMost}
 use Rattle.graphs.specs.declared.names.Flow.{Flow}
 use Rattle.graphs.specs.Rates.{sums}
 use Rattle.graphs.specs.Linearizations.{IsClosedWithin}
 use Rattle.graphs.specs.Certificates.{given, gotten, weight_in, Certifies}
-
-sum_by-add : {A : Type 0} (f g : A → ℕ) (xs : List A) → sum_by (λ x. f x + g x) xs ≡ sum_by f xs + sum_by g xs
-sum_by-add f g [] = refl
-sum_by-add f g (x ∷ xs) = omega (arith, sum_by-add f g xs, sum_by-cons f x xs, sum_by-cons g x xs, sum_by-cons (λ y. f y + g y) x xs)
 
 -- what one name's amount adds at a name, and over a list
 abbrev hit : ℕ → ℕ → ℕ → ℕ
@@ -61,20 +57,59 @@ hits_most id amount (x ∷ xs) d = elim (cases_eq id x) [
       ]
 ]
 
--- A set that holds the parent of each flow whose child it holds gives no more than it gets.
-given_at_most : (set : List ℕ) (flows : List Flow) → AreDistinct set
-    → ((flow : Flow) → Contains flows flow → Contains set flow.child → Contains set flow.parent) → sum_by (given flows) set ≤ sum_by (gotten flows) set
-given_at_most set [] d stays = omega arith
-given_at_most set (flow ∷ flows) d stays =
-    let rest = given_at_most set flows d (λ other h. stays other (Contains-later flow other flows h)) in
-    let out : sum_by (given (flow ∷ flows)) set ≡ hits flow.child flow.amount set + sum_by (given flows) set =
-    (λ i. sum_by (λ id. sum_by-cons (λ f. hit f.child f.amount id) flow flows i) set) ∙ sum_by-add (hit flow.child flow.amount) (given flows) set in
-    let in' : sum_by (gotten (flow ∷ flows)) set ≡ hits flow.parent flow.amount set + sum_by (gotten flows) set =
-    (λ i. sum_by (λ id. sum_by-cons (λ f. hit f.parent f.amount id) flow flows i) set) ∙ sum_by-add (hit flow.parent flow.amount) (gotten flows) set in
-    elim (hits_most flow.child flow.amount set d) [
-      | inl none ↦ omega arith
-      | inr some ↦ let there = hits_some flow.parent flow.amount set (stays flow (Contains-head flow flows) some.1) in omega (arith, some.0)
-    ]
+module _ (set : List ℕ) (once : AreDistinct set) where
+  given_more : (flow : Flow) (flows : List Flow) → sum_by (given (flow ∷ flows)) set ≡ hits flow.child flow.amount set + sum_by (given flows) set
+  given_more flow flows = (λ i. sum_by (λ id. sum_by-cons (λ f. hit f.child f.amount id) flow flows i) set)
+      ∙ sum_by-add (hit flow.child flow.amount) (given flows) set
+
+  gotten_more : (flow : Flow) (flows : List Flow) → sum_by (gotten (flow ∷ flows)) set ≡ hits flow.parent flow.amount set + sum_by (gotten flows) set
+  gotten_more flow flows = (λ i. sum_by (λ id. sum_by-cons (λ f. hit f.parent f.amount id) flow flows i) set)
+      ∙ sum_by-add (hit flow.parent flow.amount) (gotten flows) set
+
+  one_flow : (flow : Flow) → (Contains set flow.child → Contains set flow.parent) → hits flow.child flow.amount set ≤ hits flow.parent flow.amount set
+  one_flow flow stays = elim (hits_most flow.child flow.amount set once) [
+    | inl none ↦ omega (arith, none)
+    | inr some ↦ omega (arith, some.0, hits_some flow.parent flow.amount set (stays some.1))
+  ]
+
+  -- A set that holds the parent of each flow whose child it holds gives no more than it gets.
+  abbrev pub Stays : List Flow → Type 0
+  Stays flows = (flow : Flow) → Contains flows flow → Contains set flow.child → Contains set flow.parent
+
+  pub given_at_most : (flows : List Flow) → Stays flows → sum_by (given flows) set ≤ sum_by (gotten flows) set
+  given_at_most [] stays = omega arith
+  given_at_most (flow ∷ flows) stays = omega (
+    arith,
+    given_more flow flows,
+    gotten_more flow flows,
+    one_flow flow (stays flow (Contains-head flow flows)),
+    given_at_most flows (λ other here. stays other (Contains-later flow other flows here)),
+  )
+
+  -- a flow that comes in from outside is lacking inside
+  pub lacks : (flows : List Flow) (into : Flow) → Contains flows into → Stays flows → Contains set into.parent
+      → (Contains set into.child → ⊥) → sum_by (given flows) set + into.amount ≤ sum_by (gotten flows) set
+  lacks [] into here stays parent child = absurd (omega (arith, here.1))
+  lacks (flow ∷ flows) into here stays parent child =
+      let later : Stays flows = λ other there. stays other (Contains-later flow other flows there) in
+      elim (Contains-cases flow into flows here) [
+        | inl same ↦ omega (
+          arith,
+          given_more flow flows,
+          gotten_more flow flows,
+          given_at_most flows later,
+          hits_none flow.child flow.amount set (subst (λ (f : Flow). Contains set f.child → ⊥) (sym same) child),
+          hits_some flow.parent flow.amount set (subst (λ (f : Flow). Contains set f.parent) (sym same) parent),
+          ap (λ (f : Flow). f.amount) same,
+        )
+        | inr there ↦ omega (
+          arith,
+          given_more flow flows,
+          gotten_more flow flows,
+          one_flow flow (stays flow (Contains-head flow flows)),
+          lacks flows into there later parent child,
+        )
+      ]
 
 -- the weight of a list of names is the sum of their weights
 pub weight_of_sums : (whole : Sum) (rate : ℕ → Sum) (ids : List ℕ) → total (λ id. weight_in whole (rate id)) ids ≡ weight_in whole (sums rate ids)
@@ -84,18 +119,26 @@ weight_of_sums whole rate ids =
     let b = total-pos-scale (λ id. (rate id).size) whole.fee ids in
     omega (arith, ints, a, b))
 
+-- what names of a certified part weigh is what they give but don't get
+pub weight_of_flows : (rate : ℕ → Sum) (IsLink : ℕ → ℕ → Type 0) (ids set : List ℕ) (flows : List Flow)
+    → Certifies rate IsLink ids flows → ((id : ℕ) → Contains set id → Contains ids id)
+    → weight_in (sums rate ids) (sums rate set) ≡ pos (sum_by (given flows) set) -ℤ pos (sum_by (gotten flows) set)
+weight_of_flows rate IsLink ids set flows certified inside =
+    let balance : total (λ id. weight_in (sums rate ids) (rate id)) set ≡ total (λ id. pos (given flows id) -ℤ pos (gotten flows id)) set =
+    total_along (λ id. weight_in (sums rate ids) (rate id)) (λ id. pos (given flows id) -ℤ pos (gotten flows id)) set
+    (λ id h. certified.balanced id (inside id h)) in
+    let apart = total-sub (λ id. pos (given flows id)) (λ id. pos (gotten flows id)) set in
+    let out = total-pos (given flows) set in
+    let in' = total-pos (gotten flows) set in
+    let whole = weight_of_sums (sums rate ids) rate set in
+    omega (arith, ints, balance, apart, out, in', whole)
+
 -- no closed set within a certified part has a greater rate than the part
 pub flow_bounds : (rate : ℕ → Sum) (IsLink : ℕ → ℕ → Type 0) (pairs : List (ℕ × ℕ)) (ids set : List ℕ) (flows : List Flow)
     → ((parent child : ℕ) → IsLink parent child → Contains pairs (parent, child))
     → Certifies rate IsLink ids flows → IsClosedWithin pairs ids set → AtMost (sums rate set) (sums rate ids)
 flow_bounds rate IsLink pairs ids set flows linked certified closed =
-    let fewer = given_at_most set flows closed.once
+    let fewer = given_at_most set closed.once flows
     (λ flow h child. closed.parents flow.parent flow.child (linked flow.parent flow.child (certified.links flow h)) (certified.inside flow h).1 child) in
-    let balance : total (λ id. weight_in (sums rate ids) (rate id)) set ≡ total (λ id. pos (given flows id) -ℤ pos (gotten flows id)) set =
-    total_along (λ id. weight_in (sums rate ids) (rate id)) (λ id. pos (given flows id) -ℤ pos (gotten flows id)) set
-    (λ id h. certified.balanced id (closed.inside id h)) in
-    let apart = total-sub (λ id. pos (given flows id)) (λ id. pos (gotten flows id)) set in
-    let out = total-pos (given flows) set in
-    let in' = total-pos (gotten flows) set in
-    let whole = weight_of_sums (sums rate ids) rate set in
-    record { crossed = omega (arith, ints, fewer, balance, apart, out, in', whole) }
+    let weight = weight_of_flows rate IsLink ids set flows certified closed.inside in
+    record { crossed = omega (arith, ints, fewer, weight) }

@@ -1,10 +1,11 @@
 -- Merged lists, and what is made of their entries.
-use Rattle.std.proofs.Common.{◌≡◌, ℕ, Bool, true, List, [], ◌∷◌, ◌++◌, map, sym, refl, subst, ap, ◌∙◌, inl, inr, ◌⊎◌, ◌↔◌, append_assoc}
+use Rattle.std.proofs.Common.{◌≡◌, ℕ, Bool, true, List, [], ◌∷◌, ◌++◌, map, sym, refl, subst, ap, ◌∙◌, inl, inr, ◌⊎◌, ◌↔◌, append_assoc, cond, filter}
 use Rattle.std.specs.Prelude.{Contains, flat_map}
 use Rattle.std.proofs.lemmas.List.Concat.{flat_map-append}
-use Rattle.std.proofs.lemmas.List.Elements.{Contains-append_left, Contains-append_right, Contains-append_cases}
-use Rattle.lists.proofs.Distinct.{distinct_joined, distinct_apart, distinct-append_left, distinct-append_right}
-use Rattle.lists.proofs.Entries.{Contains-head, Contains-later, Contains-cases, none_in_empty, Contains-splits, first_of, rest_of}
+use Rattle.std.proofs.lemmas.List.{map-append}
+use Rattle.std.proofs.lemmas.List.Elements.{Contains-append_left, Contains-append_right, Contains-append_cases, filter-append}
+use Rattle.lists.proofs.Flats.{flat_has, flat_of}
+use Rattle.lists.proofs.Entries.{Contains-filter, Contains-map, Contains-head, Contains-later, Contains-cases, none_in_empty, Contains-splits, first_of, rest_of}
 use Rattle.lists.specs.Distinct.{AreDistinct}
 use Rattle.fee_rate.specs.declared.rates.Sum.{Sum}
 use Rattle.fee_rate.specs.Rates.{AtMost}
@@ -24,60 +25,23 @@ cut_cases (x ∷ xs) ys (f ∷ front) rest b e =
       | inr found ↦ inr (found.0, (λ i. sym head i ∷ found.1 i), found.2)
     ]
 
-precedes_later : {A : Type 0} (z x y : A) (xs : List A) → Precedes xs x y → Precedes (z ∷ xs) x y
-precedes_later z x y xs p = (z ∷ p.0, p.1, ap (λ zs. z ∷ zs) p.2, Contains-later z x p.0 p.3)
+-- ---- what stands before what
+pub precedes_later : {A : Type 0} (z : A) (xs : List A) (x y : A) → Precedes xs x y → Precedes (z ∷ xs) x y
+precedes_later z xs x y p = (z ∷ p.0, p.1, ap (λ zs. z ∷ zs) p.2, Contains-later z x p.0 p.3)
 
--- ---- lists that are made of entries
-pub flat_has : {A B : Type 0} (f : A → List B) (xs : List A) (x : A) (y : B) → Contains xs x → Contains (f x) y → Contains (flat_map f xs) y
-flat_has f [] x y h there = absurd (none_in_empty x h)
-flat_has {A = A} f (z ∷ zs) x y h there = elim (Contains-cases z x zs h) [
-  | inl same ↦ Contains-append_left (f z) (flat_map f zs) y (subst (λ (w : A). Contains (f w) y) (sym same) there)
-  | inr later ↦ Contains-append_right (f z) (flat_map f zs) y (flat_has f zs x y later there)
-]
+pub precedes_filter : {A : Type 0} (f : A → Bool) (xs : List A) (x y : A) → f x ≡ true → f y ≡ true → Precedes xs x y → Precedes (filter f xs) x y
+precedes_filter f xs x y x_kept y_kept p = (
+  filter f p.0,
+  filter f p.1,
+  ap (filter f) p.2 ∙ filter-append f p.0 (y ∷ p.1) ∙ ap (λ b. filter f p.0 ++ cond b (y ∷ filter f p.1) (filter f p.1)) y_kept,
+  Contains-filter f p.0 x x_kept p.3,
+)
 
-pub flat_of : {A B : Type 0} (f : A → List B) (xs : List A) (y : B) → Contains (flat_map f xs) y → (x : A) × Contains xs x × Contains (f x) y
-flat_of f [] y h = absurd (none_in_empty y h)
-flat_of f (z ∷ zs) y h = elim (Contains-append_cases (f z) (flat_map f zs) y h) [
-  | inl here ↦ (z, Contains-head z zs, here)
-  | inr later ↦ let found = flat_of f zs y later in (found.0, Contains-later z found.0 zs found.1, found.2)
-]
+pub precedes_map : {A B : Type 0} (f : A → B) (xs : List A) (x y : A) → Precedes xs x y → Precedes (map f xs) (f x) (f y)
+precedes_map f xs x y p = (map f p.0, map f p.1, ap (map f) p.2 ∙ map-append f p.0 (y ∷ p.1), Contains-map f p.0 x p.3)
 
 -- ---- lists of names that are made of entries
 module _ {A : Type 0} (f : A → List ℕ) where
-  pub flat_part_once : (xs : List A) (x : A) → AreDistinct (flat_map f xs) → Contains xs x → AreDistinct (f x)
-  flat_part_once [] x once h = absurd (none_in_empty x h)
-  flat_part_once (y ∷ ys) x once h = elim (Contains-cases y x ys h) [
-    | inl same ↦ subst (λ (z : A). AreDistinct (f z)) same (distinct-append_left (f y) (flat_map f ys) once)
-    | inr later ↦ flat_part_once ys x (distinct-append_right (f y) (flat_map f ys) once) later
-  ]
-
-  -- a name that stands once has one entry
-  pub one_holder : (xs : List A) (x y : A) (id : ℕ) → AreDistinct (flat_map f xs) → Contains xs x → Contains xs y → Contains (f x) id
-      → Contains (f y) id → x ≡ y
-  one_holder [] x y id once h k here there = absurd (none_in_empty x h)
-  one_holder (z ∷ zs) x y id once h k here there = elim (Contains-cases z x zs h) [
-    | inl first ↦ elim (Contains-cases z y zs k) [
-      | inl second ↦ sym first ∙ second
-      | inr later ↦
-          absurd (distinct_apart (f z) (flat_map f zs) id once (subst (λ (w : A). Contains (f w) id) (sym first) here) (flat_has f zs y id later there))
-    ]
-    | inr early ↦ elim (Contains-cases z y zs k) [
-      | inl second ↦
-          absurd (distinct_apart (f z) (flat_map f zs) id once (subst (λ (w : A). Contains (f w) id) (sym second) there) (flat_has f zs x id early here))
-      | inr later ↦ one_holder zs x y id (distinct-append_right (f z) (flat_map f zs) once) early later here there
-    ]
-  ]
-
-  pub flat_once : (xs : List A) → AreDistinct xs → ((x : A) → Contains xs x → AreDistinct (f x))
-      → ((x y : A) (id : ℕ) → Contains xs x → Contains xs y → Contains (f x) id → Contains (f y) id → x ≡ y) → AreDistinct (flat_map f xs)
-  flat_once [] once each one = tt
-  flat_once (x ∷ xs) once each one =
-      distinct_joined (f x) (flat_map f xs) (each x (Contains-head x xs))
-      (flat_once xs once.1 (λ y h. each y (Contains-later x y xs h)) (λ y z id h k. one y z id (Contains-later x y xs h) (Contains-later x z xs k)))
-      (λ id here there.
-      let found = flat_of f xs id there in
-      once.0 (subst (Contains xs) (sym (one x found.0 id (Contains-head x xs) (Contains-later x found.0 xs found.1) here found.2)) found.1))
-
   -- a name before another: in one entry's list, or in an earlier one's
   pub flat_stands : (xs : List A) (a b : ℕ) → StandsBefore (flat_map f xs) a b
       → ((x : A) × Contains xs x × StandsBefore (f x) a b) ⊎ ((x : A) × (y : A) × Precedes xs x y × Contains (f x) a × Contains (f y) b)
@@ -92,7 +56,7 @@ module _ {A : Type 0} (f : A → List ℕ) where
           inr (x, found.0, (x ∷ cut.0, cut.1, ap (λ zs. x ∷ zs) cut.2, Contains-head x cut.0), first, found.2)
       | inr behind ↦ elim (flat_stands xs a b (later.0, stands.1, later.2, behind)) [
         | inl one ↦ inl (one.0, Contains-later x one.0 xs one.1, one.2)
-        | inr two ↦ inr (two.0, two.1, precedes_later x two.0 two.1 xs two.2, two.3, two.4)
+        | inr two ↦ inr (two.0, two.1, precedes_later x xs two.0 two.1 two.2, two.3, two.4)
       ]
     ]
   ]

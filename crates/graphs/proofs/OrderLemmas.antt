@@ -1,9 +1,10 @@
 -- The parts of an optimal order are flat, so each closed set is under the line of each: what is the same in all optimal orders.
-use Rattle.std.proofs.Common.{◌≡◌, ◌≢◌, ℕ, ◌+◌, ◌-◌, ◌≤◌, List, [], ◌∷◌, ◌++◌, map, Bool, not, inl, inr, ℤ, pos, ◌+ℤ◌, ◌-ℤ◌, ◌*ℤ◌, ◌≤ℤ◌, refl, sym, ap, ◌∙◌, subst, arith}
+use Rattle.std.proofs.Common.{◌≡◌, ◌≢◌, ℕ, ◌+◌, ◌-◌, ◌≤◌, List, [], ◌∷◌, ◌++◌, map, Bool, not, inl, inr, ℤ, pos, ◌+ℤ◌, ◌-ℤ◌, ◌*ℤ◌, ◌≤ℤ◌, sym, ap, ◌∙◌, subst, arith, append_assoc, append-nil}
 use Rattle.std.specs.Prelude.{Contains}
 use Rattle.std.specs.List.{filter}
 use Rattle.std.proofs.lemmas.Bool.{cases_Bool, not-true, both_ways}
 use Rattle.std.proofs.lemmas.Int.{ints}
+use Rattle.std.proofs.lemmas.List.{map-append}
 use Rattle.std.proofs.lemmas.List.Concat.{flat_map-append}
 use Rattle.std.proofs.lemmas.List.Elements.{Contains-append_left, Contains-append_right, Contains-append_cases, filter-append}
 use Rattle.fee_rate.proofs.Orders.{at_most_chains}
@@ -19,20 +20,6 @@ use Rattle.graphs.specs.Linearizations.{IsClosedWithin, IsTopological, IsFlat, I
 use Rattle.graphs.specs.Drops.{IsDescendantSet}
 use Rattle.graphs.proofs.TangentLemmas.{joined, falls_behind, sizes-filter, fees-filter, fees-append, sizes-append, share_at_most}
 use Rattle.graphs.proofs.BestLemmas.{sums_same_members, joined-Contains, joined_distinct, sum_of-joined, among, among_yes, among_is, share_closed, share_is, sizes_some, flat_tangent, front_closed, optimal_bounds}
-
--- ---- lists
-
-part_assoc : (xs ys zs : List (List ℕ)) → (xs ++ ys) ++ zs ≡ xs ++ (ys ++ zs)
-part_assoc [] ys zs = refl
-part_assoc (x ∷ xs) ys zs = ap (λ ws. x ∷ ws) (part_assoc xs ys zs)
-
-pub map-append : {A B : Type 0} (f : A → B) (xs ys : List A) → map f (xs ++ ys) ≡ map f xs ++ map f ys
-map-append f [] ys = refl
-map-append f (x ∷ xs) ys = ap (λ zs. f x ∷ zs) (map-append f xs ys)
-
-append_nil : (xs : List ℕ) → xs ++ [] ≡ xs
-append_nil [] = refl
-append_nil (x ∷ xs) = ap (λ zs. x ∷ zs) (append_nil xs)
 
 -- ---- closed sets
 
@@ -62,7 +49,7 @@ next_closed graph before after part set order closed =
     let cut : joined (before ++ part ∷ after) ≡ joined before ++ (part ++ joined after) = flat_map-append (λ ids. ids) before (part ∷ after) in
     let once : AreDistinct (joined before ++ (part ++ joined after)) = subst AreDistinct cut order.once in
     let early = first_closed graph before (part ∷ after) order in
-    let longer : before ++ part ∷ after ≡ (before ++ part ∷ []) ++ after = sym (part_assoc before (part ∷ []) after) in
+    let longer : before ++ part ∷ after ≡ (before ++ part ∷ []) ++ after = sym (append_assoc before (part ∷ []) after) in
     let late = first_closed graph (before ++ part ∷ []) after (subst (λ zs. IsTopological graph (joined zs)) longer order) in
     let both : joined (before ++ part ∷ []) ≡ joined before ++ (part ++ []) = flat_map-append (λ ids. ids) before (part ∷ []) in
     let within : (id : ℕ) → Contains set id → Contains (joined (before ++ part ∷ [])) id = λ id h. subst (λ zs. Contains zs id) (sym both)
@@ -143,13 +130,13 @@ one_more_fee : (rate : ℕ → Sum) (first : List (List ℕ)) (part : List ℕ)
     → (sums rate (joined (first ++ part ∷ []))).fee ≡ (sums rate (joined first)).fee +ℤ (sums rate part).fee
 one_more_fee rate first part =
     ap (λ zs. (sums rate zs).fee) (flat_map-append (λ ids. ids) first (part ∷ [])) ∙ fees-append rate (joined first) (part ++ [])
-    ∙ ap (λ zs. (sums rate (joined first)).fee +ℤ (sums rate zs).fee) (append_nil part)
+    ∙ ap (λ zs. (sums rate (joined first)).fee +ℤ (sums rate zs).fee) (append-nil part)
 
 one_more_size : (rate : ℕ → Sum) (first : List (List ℕ)) (part : List ℕ)
     → (sums rate (joined (first ++ part ∷ []))).size ≡ (sums rate (joined first)).size + (sums rate part).size
 one_more_size rate first part =
     ap (λ zs. (sums rate zs).size) (flat_map-append (λ ids. ids) first (part ∷ [])) ∙ sizes-append rate (joined first) (part ++ [])
-    ∙ ap (λ zs. (sums rate (joined first)).size + (sums rate zs).size) (append_nil part)
+    ∙ ap (λ zs. (sums rate (joined first)).size + (sums rate zs).size) (append-nil part)
 
 -- the numbers: a line that rises, at its end or before it
 at_end : (f F cf : ℤ) (s S cs : ℕ) → pos 0 ≤ℤ f → 1 ≤ s → cs ≤ S + s → ((cf -ℤ F) *ℤ pos s) ≤ℤ (f *ℤ (pos cs -ℤ pos S)) → cf ≤ℤ (F +ℤ f)
@@ -165,7 +152,7 @@ pub first_best : (rate : ℕ → Sum) (graph : Graph) (first after : List (List 
     → IsOptimal rate graph ((first ++ part ∷ []) ++ after) → pos 0 ≤ℤ (sums rate part).fee → IsClosedWithin graph.pairs graph.names set
     → (sums rate set).size ≤ (sums rate (joined (first ++ part ∷ []))).size → (sums rate set).fee ≤ℤ (sums rate (joined (first ++ part ∷ []))).fee
 first_best rate graph first after part set some optimal rises closed small =
-    let optimal' = subst (IsOptimal rate graph) (part_assoc first (part ∷ []) after) optimal in
+    let optimal' = subst (IsOptimal rate graph) (append_assoc first (part ∷ []) after) optimal in
     let line = optimal_tangent rate graph first after part set some optimal' closed in
     let there : Contains (first ++ part ∷ after) part = Contains-append_right first (part ∷ after) part (Contains-head part after) in
     let size : 1 ≤ (sums rate part).size = parts_some rate graph (first ++ part ∷ after) some optimal' part there in
@@ -237,7 +224,7 @@ last_is_one rate graph before last optimal =
             elim (Contains-append_cases (joined before) (last ++ []) child (subst (λ zs. Contains zs child) cut child_in)) [
               | inl earlier ↦ absurd (distinct_apart (joined before) (last ++ []) parent once
                   (early.parents parent child pair above earlier) (Contains-append_left last [] parent h))
-              | inr here ↦ subst (λ zs. Contains zs child) (append_nil last) here
+              | inr here ↦ subst (λ zs. Contains zs child) (append-nil last) here
             ];
       },
       optimal.chunks.filled last there,
@@ -282,7 +269,7 @@ rate_at_most rate graph a1 a2 b1 b2 p q id some one other here there =
     let m : ℕ → Bool = among first in
     let order = joined (b1 ++ q ∷ b2) in
     let rest = joined (q ∷ b2) in
-    let longer : a1 ++ p ∷ a2 ≡ (a1 ++ p ∷ []) ++ a2 = sym (part_assoc a1 (p ∷ []) a2) in
+    let longer : a1 ++ p ∷ a2 ≡ (a1 ++ p ∷ []) ++ a2 = sym (append_assoc a1 (p ∷ []) a2) in
     let closed = first_closed graph (a1 ++ p ∷ []) a2 (subst (λ zs. IsTopological graph (joined zs)) longer one.order) in
     let common = both_closed graph first (joined b1) closed (first_closed graph b1 (q ∷ b2) other.order) in
     let line = optimal_tangent rate graph a1 a2 p (filter m (joined b1)) some one common in

@@ -12,7 +12,8 @@ use Rattle.graphs.specs.Certificates.{Part, IsCertificate}
 use Rattle.graphs.specs.Drops.{IsDescendantSet}
 use Rattle.graphs.proofs.TangentLemmas.{joined}
 use Rattle.graphs.proofs.BestLemmas.{certified_optimal, covers_are_pairs, sum_of-joined}
-use Rattle.graphs.proofs.OrderLemmas.{map-append, one_rate, lowest_last, first_best}
+use Rattle.std.proofs.lemmas.List.{map-append}
+use Rattle.graphs.proofs.OrderLemmas.{one_rate, lowest_last, first_best}
 
 ids_of : Part → List ℕ
 ids_of part = part.ids

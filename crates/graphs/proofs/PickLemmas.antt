@@ -1,5 +1,5 @@
 -- Picks: what is said of their certificates, with the order in which flows are listed.
-use Rattle.std.proofs.Common.{◌≡◌, ℕ, List, [], ◌∷◌, ◌++◌, map, sym, subst, subst₂, ap, refl, inl, inr, ◌⊎◌, ◌∙◌}
+use Rattle.std.proofs.Common.{◌≡◌, ℕ, List, [], ◌∷◌, ◌++◌, map, sym, subst, subst₂, ap, refl, inl, inr, ◌⊎◌}
 use Rattle.std.specs.Prelude.{Contains}
 use Rattle.lists.proofs.Entries.{map-Contains, Contains-map, first_of, rest_of, not_empty}
 use Rattle.fee_rate.specs.declared.rates.Sum.{Sum}
@@ -11,7 +11,7 @@ use Rattle.graphs.specs.Alikes.{AreAlike}
 use Rattle.graphs.specs.Closing.{KeepsApart, IsRenamed, renamed_part}
 use Rattle.graphs.specs.Merges.{Precedes, IsMerge}
 use Rattle.graphs.specs.Picks.{FollowOrder, links_of, IsPick, PicksAreKept}
-use Rattle.graphs.proofs.OrderLemmas.{map-append}
+use Rattle.graphs.proofs.MergeLemmas.{precedes_map}
 use Rattle.graphs.proofs.BestLemmas.{certified_optimal, covers_are_pairs}
 use Rattle.graphs.proofs.UnionLemmas.{merged_certificate}
 use Rattle.graphs.proofs.RenamingLemmas.{certificates_are_renamed}
@@ -30,15 +30,11 @@ split_map f (x ∷ xs) (z ∷ front) y rest e =
     (x ∷ later.0, later.1, later.2, ap (λ zs. x ∷ zs) later.3, (λ i. first_of e i ∷ later.4 i), later.5)
 
 -- so entries that stand one before the other come from two that do
-precedes_back : {A B : Type 0} (f : A → B) (xs : List A) (a b : B) → Precedes (map f xs) a b → (x y : A) × Precedes xs x y × (f x ≡ a) × (f y ≡ b)
+pub precedes_back : {A B : Type 0} (f : A → B) (xs : List A) (a b : B) → Precedes (map f xs) a b → (x y : A) × Precedes xs x y × (f x ≡ a) × (f y ≡ b)
 precedes_back f xs a b stands =
     let cut = split_map f xs stands.0 b stands.1 stands.2 in
     let held = map-Contains f cut.0 a (subst (λ zs. Contains zs a) (sym cut.4) stands.3) in
     (held.0, cut.1, (cut.0, cut.2, cut.3, held.1), held.2, cut.5)
-
-stands_renamed : (f : ℕ → ℕ) (order : List ℕ) (a b : ℕ) → StandsBefore order a b → StandsBefore (map f order) (f a) (f b)
-stands_renamed f order a b stands =
-    (map f stands.0, map f stands.1, ap (map f) stands.2 ∙ map-append f stands.0 (b ∷ stands.1), Contains-map f stands.0 a stands.3)
 
 -- the ends of flows by other names
 abbrev ends : (ℕ → ℕ) → ℕ × ℕ → ℕ × ℕ
@@ -54,8 +50,8 @@ follow_renamed f order links follow a b stands =
     let old = precedes_back (ends f) links a b stands in
     subst₂ (λ (x y : ℕ × ℕ). StandsBefore (map f order) x.0 y.0 ⊎ ((x.0 ≡ y.0) × StandsBefore (map f order) x.1 y.1)) old.3 old.4
     (elim (follow old.0 old.1 old.2) [
-      | inl child ↦ inl (stands_renamed f order old.0.0 old.1.0 child)
-      | inr same ↦ inr (ap f same.0, stands_renamed f order old.0.1 old.1.1 same.1)
+      | inl child ↦ inl (precedes_map f order old.0.0 old.1.0 child)
+      | inr same ↦ inr (ap f same.0, precedes_map f order old.0.1 old.1.1 same.1)
     ])
 
 pick_renamed : (f : ℕ → ℕ) (rate rate' : ℕ → Sum) (old new : Graph) (parts : List Part)

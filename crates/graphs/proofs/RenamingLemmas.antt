@@ -4,10 +4,10 @@ use Rattle.std.specs.Prelude.{Contains, map, flat_map}
 use Rattle.std.proofs.lemmas.Bool.{cases_eq}
 use Rattle.std.proofs.lemmas.List.{map-append}
 use Rattle.std.proofs.lemmas.List.Sums.{sum_by-cons}
-use Rattle.std.proofs.lemmas.List.Elements.{Contains-append_left, Contains-append_right}
 use Rattle.lists.proofs.Distinct.{distinct_map}
 use Rattle.lists.specs.Distinct.{AreDistinct}
-use Rattle.lists.proofs.Entries.{Contains-head, Contains-later, Contains-cases, none_in_empty, map-Contains, Contains-map}
+use Rattle.lists.proofs.Flats.{flat_has}
+use Rattle.lists.proofs.Entries.{Contains-head, Contains-later, map-Contains, Contains-map}
 use Rattle.arithmetic.specs.Sums.{total}
 use Rattle.fee_rate.specs.declared.rates.Sum.{Sum}
 use Rattle.graphs.specs.declared.names.Flow.{Flow}
@@ -35,13 +35,6 @@ sum_by-map f g h (x ∷ xs) same = omega (
 pub total-map : {A B : Type 0} (f : A → B) (g : B → ℤ) (h : A → ℤ) (xs : List A) → ((x : A) → Contains xs x → g (f x) ≡ h x) → total g (map f xs) ≡ total h xs
 total-map f g h [] same = refl
 total-map f g h (x ∷ xs) same = ap₂ (λ a b. a +ℤ b) (same x (Contains-head x xs)) (total-map f g h xs (λ y here. same y (Contains-later x y xs here)))
-
-ids_in : (parts : List Part) (part : Part) (id : ℕ) → Contains parts part → Contains part.ids id → Contains (flat_map (λ part. part.ids) parts) id
-ids_in [] part id here held = absurd (none_in_empty part here)
-ids_in (p ∷ parts) part id here held = elim (Contains-cases p part parts here) [
-  | inl same ↦ Contains-append_left p.ids (flat_map (λ part. part.ids) parts) id (subst (λ (q : Part). Contains q.ids id) (sym same) held)
-  | inr later ↦ Contains-append_right p.ids (flat_map (λ part. part.ids) parts) id (ids_in parts part id later held)
-]
 
 renamed_ids : (f : ℕ → ℕ) (parts : List Part) → flat_map (λ part. part.ids) (map (renamed_part f) parts) ≡ map f (flat_map (λ part. part.ids) parts)
 renamed_ids f [] = refl
@@ -77,7 +70,7 @@ module _ (f : ℕ → ℕ) (rate rate' : ℕ → Sum) (old new : Graph) (parts :
   order = flat_map (λ part. part.ids) parts
 
   name_in : (part : Part) (id : ℕ) → Contains parts part → Contains part.ids id → Contains old.names id
-  name_in part id here held = (c.order.topological.names id).0 (ids_in parts part id here held)
+  name_in part id here held = (c.order.topological.names id).0 (flat_has (λ (p : Part). p.ids) parts part id here held)
 
   new_trail : (a b n : ℕ) → Trail old.pairs a b n → Trail new.pairs (f a) (f b) n
   new_trail a b zero same = ap f same

@@ -1,8 +1,11 @@
 -- A graph that is made of components: its walks stay in one, and merged certificates of the components certify it.
-use Rattle.std.proofs.Common.{◌≡◌, ℕ, suc, zero, List, [], ◌∷◌, map, sym, refl, subst, ap, inl, inr}
+use Rattle.std.proofs.Common.{◌≡◌, ℕ, suc, zero, List, map, sym, subst, inl, inr}
 use Rattle.std.specs.Prelude.{Contains, flat_map}
+use Rattle.std.proofs.lemmas.List.{map-id}
 use Rattle.std.proofs.lemmas.List.Folds.{flat_map-map}
+use Rattle.std.proofs.lemmas.Simd.{map-map}
 use Rattle.lists.proofs.Entries.{map-Contains, Contains-map}
+use Rattle.lists.proofs.Flats.{flat_has, flat_of, flat_part_once, one_holder, flat_once}
 use Rattle.lists.specs.Distinct.{AreDistinct}
 use Rattle.fee_rate.specs.declared.rates.Sum.{Sum}
 use Rattle.graphs.specs.Graphs.{Graph, Walk, IsAncestor, Trail, AreConnected, IsCover, HasNoCycle, IsGraph}
@@ -10,13 +13,10 @@ use Rattle.graphs.specs.Rates.{Falls}
 use Rattle.graphs.specs.Linearizations.{IsTopological, StandsBefore}
 use Rattle.graphs.specs.Certificates.{Part, HasFlows, IsCertificate}
 use Rattle.graphs.specs.Merges.{IsMerge, IsUnion, KeepsComponents}
-use Rattle.graphs.proofs.MergeLemmas.{flat_has, flat_of, flat_part_once, one_holder, flat_once, flat_stands, stands_within, stands_apart}
+use Rattle.graphs.proofs.MergeLemmas.{flat_stands, stands_within, stands_apart}
+use Rattle.graphs.proofs.WalkLemmas as walks
 
 -- ---- walks
-walk_into : (some all : List (ℕ × ℕ)) → ((x y : ℕ) → Contains some (x, y) → Contains all (x, y)) → (a b n : ℕ) → Walk some a b n → Walk all a b n
-walk_into some all into a b zero same = same
-walk_into some all into a b (suc n) walk = (walk.0, walk_into some all into a walk.0 n walk.1, into walk.0 b walk.2)
-
 trail_into : (some all : List (ℕ × ℕ)) → ((x y : ℕ) → Contains some (x, y) → Contains all (x, y)) → (a b n : ℕ) → Trail some a b n → Trail all a b n
 trail_into some all into a b zero same = same
 trail_into some all into a b (suc n) trail =
@@ -60,7 +60,7 @@ module _ {A : Type 0} (components : List (Graph × A)) (whole : Graph) (union : 
   ancestor_within a b here walk = (walk.0, walk_within a b walk.0 walk.1 here)
 
   pub ancestor_into : (a b : ℕ) → IsAncestor c.0.pairs a b → IsAncestor whole.pairs a b
-  ancestor_into a b walk = (walk.0, walk_into c.0.pairs whole.pairs pair_into a b walk.0 walk.1)
+  ancestor_into a b walk = (walk.0, walks.walk_within c.0.pairs whole.pairs pair_into a b walk.0 walk.1)
 
   pub connected_within : (a b : ℕ) → Contains c.0.names b → AreConnected whole.pairs a b → AreConnected c.0.pairs a b
   connected_within a b here trail = (trail.0, trail_within a b trail.0 trail.1 here)
@@ -135,10 +135,6 @@ keeps_components = record {
 }
 
 -- ---- certificates
-
-map-map : {A B C : Type 0} (g : B → C) (f : A → B) (xs : List A) → map g (map f xs) ≡ map (λ x. g (f x)) xs
-map-map g f [] = refl
-map-map g f (x ∷ xs) = ap (λ zs. g (f x) ∷ zs) (map-map g f xs)
 
 module _ {K : Type 0} (rate : ℕ → Sum) (part : K → Part) (components : List (Graph × List K)) (whole : Graph) (keys : List K) (union : IsUnion components whole)
     (each : (c : Graph × List K) → Contains components c → IsCertificate rate c.0 (IsCover c.0.pairs) (map part c.1))
@@ -234,14 +230,10 @@ module _ {K : Type 0} (rate : ℕ → Sum) (part : K → Part) (components : Lis
     flows = part_flows;
   }
 
-map_itself : {A : Type 0} (xs : List A) → map (λ x. x) xs ≡ xs
-map_itself [] = refl
-map_itself (x ∷ xs) = ap (λ zs. x ∷ zs) (map_itself xs)
-
 pub merged_parts : (rate : ℕ → Sum) (components : List (Graph × List Part)) (whole : Graph) (parts : List Part) → IsUnion components whole
     → ((c : Graph × List Part) → Contains components c → IsCertificate rate c.0 (IsCover c.0.pairs) c.1)
     → IsMerge (map (λ c. c.1) components) parts → Falls (map (λ part. part.rate) parts) → IsCertificate rate whole (IsCover whole.pairs) parts
 merged_parts rate components whole parts union each merge falls =
-    subst (IsCertificate rate whole (IsCover whole.pairs)) (map_itself parts)
+    subst (IsCertificate rate whole (IsCover whole.pairs)) (map-id parts)
     (merged_certificate rate (λ p. p) components whole parts union
-    (λ c h. subst (IsCertificate rate c.0 (IsCover c.0.pairs)) (sym (map_itself c.1)) (each c h)) merge falls)
+    (λ c h. subst (IsCertificate rate c.0 (IsCover c.0.pairs)) (sym (map-id c.1)) (each c h)) merge falls)

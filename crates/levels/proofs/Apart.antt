@@ -8,6 +8,7 @@ use Rattle.std.specs.FinMap as finmap
 use Rattle.lists.specs.Distinct.{AreDistinct}
 use Rattle.lists.proofs.Distinct.{distinct_push}
 use Rattle.lists.proofs.Entries.{Contains-head, none_in_empty}
+use Rattle.lists.proofs.Told.{told_number}
 use Rattle.graphs.specs.declared.names.Level.TheVariants.{Main, Top}
 use Rattle.chunk_index.specs.declared.entry.Tag.{Tag}
 use Rattle.chunk_index.specs.declared.entry.Tag.TheVariants.{Both, MainOnly, TopOnly}
@@ -20,7 +21,7 @@ use Rattle.levels.specs.Changes.{AreAt}
 use Rattle.levels.specs.Shelves.{AllHave, StandsInTop, left_of, seen_in, seen_at, tag_at, top_tag}
 use Rattle.levels.specs.Tops.{ComesApart}
 use Rattle.levels.proofs.Coming.{leaves, only_one, other_one, tag_told}
-use Rattle.levels.proofs.Lookups.{decide_in, place_of}
+use Rattle.levels.proofs.Lookups.{place_of}
 use Rattle.levels.proofs.Seen.{InTop, both_of_new, free_unseen, in_new_tag, in_top, main_of_new, same_seen, seen_stored}
 use Rattle.levels.proofs.Ends.{at_push, contains_front, contains_last, contains_cases}
 
@@ -94,7 +95,7 @@ module _ (number : ℕ) (left : List Cluster) (made : List ℕ) (old new : Numbe
       cleared = λ n here free. ap (seen_at Top new) (only_one number n here) ∙ ap (seen_in Top) moved;
       elsewhere = λ n out free. same_seen Top old new n (change.others n free out);
     };
-    main = λ _ n. elim (decide_in made n) [
+    main = λ _ n. elim (told_number made n) [
       | inl here ↦
           ap (seen_in Main) (added_at TopOnly left made new n change.adds.count change.adds.stand here).1 ∙ sym (free_unseen Main old n (made_free n here))
       | inr out ↦ elim (cases_eq n number) [
@@ -132,7 +133,7 @@ module _ (staged : Bool) (number : ℕ) (last : Cluster) (rest : List Cluster) (
   others n out other = change.others n out (λ here. other (only_one number n here))
 
   main_at : staged ≡ true → (n : ℕ) → seen_at Main new n ≡ seen_at Main old n
-  main_at opened n = elim (decide_in made n) [
+  main_at opened n = elim (told_number made n) [
     | inl here ↦
         let at = added_at (top_tag staged) rest made new n change.adds.count change.adds.stand here in
         ap (seen_in Main) at.1 ∙ main_of_new staged at.0 opened ∙ sym (free_unseen Main old n (free_made n here))
@@ -146,7 +147,7 @@ module _ (staged : Bool) (number : ℕ) (last : Cluster) (rest : List Cluster) (
   ]
 
   both_at : staged ≡ false → AllHave Both new
-  both_at shut n s is = elim (decide_in made n) [
+  both_at shut n s is = elim (told_number made n) [
     | inl here ↦
         let at = added_at (top_tag staged) rest made new n change.adds.count change.adds.stand here in
         ap (λ (x : Stored). x.tag) (sym (same_Some (tagged (top_tag staged) at.0) s (sym at.1 ∙ is))) ∙ both_of_new staged shut

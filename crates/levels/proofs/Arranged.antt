@@ -121,14 +121,3 @@ pub arranged_length : (xs : List ℕ) → length (arranged xs) ≡ length xs
 unfolding arranged
 arranged_length [] = refl
 arranged_length (x ∷ xs) = put_length x (arranged xs) ∙ ap suc (arranged_length xs)
-
--- ---- lists without a number twice
-
-pub sum_same : (f g : ℕ → ℕ) (xs : List ℕ) → ((x : ℕ) → Contains xs x → f x ≡ g x) → sum_by f xs ≡ sum_by g xs
-sum_same f g [] same = refl
-sum_same f g (x ∷ xs) same =
-    let first : f x ≡ g x = same x (Contains-head x xs) in
-    let rest : sum_by f xs ≡ sum_by g xs = sum_same f g xs (λ y here. same y (Contains-later x y xs here)) in
-    let left : sum_by f (x ∷ xs) ≡ f x + sum_by f xs = sum_by-cons f x xs in
-    let right : sum_by g (x ∷ xs) ≡ g x + sum_by g xs = sum_by-cons g x xs in
-    omega arith

@@ -6,6 +6,7 @@ use Rattle.std.specs.FinSet as set
 use Rattle.std.specs.Ordering.{nat_cmp}
 use Rattle.lists.proofs.Cases.{or_false}
 use Rattle.lists.proofs.Entries.{Contains-head, Contains-cases, none_in_empty}
+use Rattle.lists.proofs.Told.{told_number}
 use Rattle.fee_rate.specs.declared.rates.FeeRate.{FeeRate}
 use Rattle.graphs.specs.Closures.{Closure, Node, is_member, is_ancestor, ancestors_of, ancestors_in, rate_of, rate_in, AddsPair, SetsFee}
 use Rattle.cluster.specs.Clusters.{Cluster}
@@ -13,7 +14,6 @@ use Rattle.cluster.specs.Changes.{IsSingle}
 use Rattle.levels.specs.Changes.{IsNamed, IsRebuilt}
 use Rattle.levels.specs.Levels.{AddsName}
 use Rattle.levels.specs.Views.{IsClusterOf}
-use Rattle.levels.proofs.Lookups.{decide_in}
 
 -- ---- what a node says
 
@@ -75,7 +75,7 @@ module _ (a b : Cluster) (g h : Closure) (r : IsRebuilt (a ∷ []) (b ∷ []) []
   elsewhere q out = r.others q (named_only a q out refl) (named_only b q out names)
 
   same_members : (q : ℕ) → is_member h q ≡ is_member g q
-  same_members q = elim (decide_in a.names q) [
+  same_members q = elim (told_number a.names q) [
     | inl here ↦ (new_of q here).1 ∙ sym (old_of q here).1
     | inr out ↦ member_same g h q (elsewhere q out)
   ]
@@ -96,11 +96,11 @@ module _ (a b : Cluster) (g h : Closure) (r : IsRebuilt (a ∷ []) (b ∷ []) []
   sets_fee id fee here sets = record {
     members = same_members;
     rate_is = new_rate id here ∙ sets.rate_is ∙ ap (λ (rate : FeeRate). record { fee = fee; size = rate.size }) (sym (old_rate id here));
-    rates = λ q other. elim (decide_in a.names q) [
+    rates = λ q other. elim (told_number a.names q) [
       | inl in_it ↦ new_rate q in_it ∙ sets.rates q other ∙ sym (old_rate q in_it)
       | inr out ↦ rate_same g h q (elsewhere q out)
     ];
-    ancestors = λ x d. elim (decide_in a.names d) [
+    ancestors = λ x d. elim (told_number a.names d) [
       | inl in_it ↦ new_above x d in_it ∙ sets.ancestors x d ∙ sym (old_above x d in_it)
       | inr out ↦ above_same g h d (elsewhere d out) x
     ];
@@ -109,11 +109,11 @@ module _ (a b : Cluster) (g h : Closure) (r : IsRebuilt (a ∷ []) (b ∷ []) []
   pub adds_pair : (p q : ℕ) → Contains a.names p → Contains a.names q → AddsPair a.graph b.graph p q → AddsPair g h p q
   adds_pair p q first second pair = record {
     members = same_members;
-    rates = λ id. elim (decide_in a.names id) [
+    rates = λ id. elim (told_number a.names id) [
       | inl in_it ↦ new_rate id in_it ∙ pair.rates id ∙ sym (old_rate id in_it)
       | inr out ↦ rate_same g h id (elsewhere id out)
     ];
-    ancestors = λ x d. elim (decide_in a.names d) [
+    ancestors = λ x d. elim (told_number a.names d) [
       | inl in_it ↦ new_above x d in_it ∙ pair.ancestors x d ∙ sym (λ i. old_above x d in_it i || (old_above x p first i && old_above q d in_it i))
       | inr out ↦
           above_same g h d (elsewhere d out) x

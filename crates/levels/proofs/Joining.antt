@@ -5,13 +5,13 @@ use Rattle.std.proofs.lemmas.List.Elements.{Contains-append_left, Contains-appen
 use Rattle.std.specs.FinMap as finmap
 use Rattle.lists.proofs.Cases.{or_false}
 use Rattle.lists.proofs.Entries.{Contains-head, Contains-later, Contains-cases, none_in_empty}
+use Rattle.lists.proofs.Told.{told_number}
 use Rattle.graphs.specs.Closures.{Closure, is_member, is_ancestor, rate_of, AddsPair}
 use Rattle.cluster.specs.Clusters.{Cluster, IsCluster, AreApart}
 use Rattle.cluster.specs.Changes.{Joins, is_above, AreAcross}
 use Rattle.levels.specs.Changes.{IsRebuilt}
 use Rattle.levels.specs.Views.{IsClusterOf}
 use Rattle.levels.proofs.Closing.{member_same, rate_same, above_same, not_below}
-use Rattle.levels.proofs.Lookups.{decide_in}
 
 -- a cluster says nothing of other names
 pub silent : (most : ℕ) (c : Cluster) (x d : ℕ) → IsCluster most c → (Contains c.names d → ⊥) → is_ancestor c.graph x d ≡ false
@@ -91,15 +91,15 @@ module _ (most p q : ℕ) (a b c : Cluster) (g h : Closure) (r : IsRebuilt (a �
 
   pub adds_joined : AddsPair g h p q
   adds_joined = record {
-    members = λ d. elim (decide_in c.names d) [
+    members = λ d. elim (told_number c.names d) [
       | inl here ↦ (c_of d here).1 ∙ sym (was_member d here)
       | inr out ↦ member_same g h d (elsewhere d out)
     ];
-    rates = λ d. elim (decide_in c.names d) [
+    rates = λ d. elim (told_number c.names d) [
       | inl here ↦ (c_of d here).0.rates d here ∙ rate_was d here
       | inr out ↦ rate_same g h d (elsewhere d out)
     ];
-    ancestors = λ x d. elim (decide_in c.names d) [
+    ancestors = λ x d. elim (told_number c.names d) [
       | inl here ↦
           (c_of d here).0.above x d here ∙ j.joins.ancestors x d
           ∙ (λ i. above_was x d here i || (above_was x p p_in i && above_was q d here i))

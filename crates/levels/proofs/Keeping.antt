@@ -1,5 +1,5 @@
 -- What is kept of the levels, seen from the levels.
-use Rattle.std.proofs.Common.{◌≡◌, ◌↔◌, ℕ, ◌≤◌, false, List, length, Option, Some, None, is_some, IsSome, inl, inr, refl, sym, ap, ◌∙◌, subst, arith, true≢false}
+use Rattle.std.proofs.Common.{◌≡◌, ◌↔◌, ℕ, ◌≤◌, List, length, Option, Some, None, is_some, IsSome, inl, inr, refl, sym, ap, ◌∙◌, subst, arith, true≢false}
 use Rattle.std.specs.Prelude.{option_map, MatchOption}
 use Rattle.std.proofs.lemmas.Option.{none-some}
 use Rattle.std.specs.Ordering.{nat_cmp}
@@ -8,6 +8,8 @@ use Rattle.std.specs.FinMap as finmap
 use Rattle.std.specs.FinSet as set
 use Rattle.lists.specs.Distinct.{AreDistinct}
 use Rattle.lists.proofs.Distinct.{distinct_from_places}
+use Rattle.lists.proofs.Keys.{set_len}
+use Rattle.lists.proofs.Cases.{none_of}
 use Rattle.graphs.specs.Closures.{Closure}
 use Rattle.graphs.specs.Graphs.{Lists}
 use Rattle.graphs.specs.declared.names.Level.{Level}
@@ -20,7 +22,7 @@ use Rattle.levels.specs.Levels.{Levels, IsLive, level_at, no_names}
 use Rattle.levels.specs.Rings.{Ringed, AreRight}
 use Rattle.levels.specs.Shelves.{Shelf, IsInOrder, levels_of, seen_at, no_clusters, numbers_at, one_of, view_of}
 use Rattle.levels.specs.Views.{Numbers, graph_of}
-use Rattle.levels.proofs.Counts.{graph_len, set_len, set_listed}
+use Rattle.levels.proofs.Counts.{graph_len, set_listed}
 use Rattle.levels.proofs.Fewer.{few_at}
 use Rattle.levels.proofs.Finds.{alike, graph_is, level_is, member_is}
 use Rattle.levels.proofs.Unmoved.{same_one}
@@ -115,11 +117,7 @@ shelf_staged shelf issued now view = from shelf.staging ∙ ap (λ (l : Levels).
     from (Some m) = refl
 
 pub shelf_alone : (shelf : Shelf) (issued : ℕ) (now : Levels) → levels_of shelf issued ≡ now → now.staging ≡ None → shelf.staging ≡ None
-shelf_alone shelf issued now view none = from shelf.staging (shelf_staged shelf issued now view ∙ ap is_some none)
-  where
-    from : (o : Option Numbers) → is_some o ≡ false → o ≡ None
-    from None is = refl
-    from (Some m) is = absurd (true≢false is)
+shelf_alone shelf issued now view none = none_of shelf.staging (shelf_staged shelf issued now view ∙ ap is_some none)
 
 pub levels_begun : (w issued : ℕ) (shelf new : Shelf) (now : Levels) → IsInOrder w shelf → levels_of shelf issued ≡ now → now.staging ≡ None
     → new ≡ record shelf { staging = Some shelf.main } → levels_of new issued ≡ record now { staging = Some now.main }

@@ -3,6 +3,7 @@ use Rattle.std.proofs.Common.{◌≡◌, ℕ, ◌*◌, true, List, [], ◌∷◌
 use Rattle.std.proofs.lemmas.Option.{none-some, same_Some}
 use Rattle.std.specs.FinMap as finmap
 use Rattle.lists.proofs.Entries.{none_in_empty}
+use Rattle.lists.proofs.Told.{told_number}
 use Rattle.graphs.specs.declared.names.Level.TheVariants.{Main, Top}
 use Rattle.chunk_index.specs.declared.entry.Tag.{Tag}
 use Rattle.chunk_index.specs.declared.entry.Tag.TheVariants.{Both, MainOnly, TopOnly}
@@ -15,7 +16,6 @@ use Rattle.levels.specs.Rings.{Ringed, AreOfOne, AreRight, LeftMain}
 use Rattle.levels.specs.Shelves.{AllHave, Shelf, seen_at, view_of}
 use Rattle.levels.specs.Tops.{TopRebuilds}
 use Rattle.levels.specs.Views.{View, IsIndexed}
-use Rattle.levels.proofs.Lookups.{decide_in}
 use Rattle.levels.proofs.Making.{named_one}
 use Rattle.levels.proofs.Rejoining.{right_names}
 use Rattle.levels.proofs.Seen.{seen_stored}
@@ -31,7 +31,7 @@ module _ (w : ℕ) (outs made : List ℕ) (olds news : List Cluster) (gone : Lis
     (staged : IsSome old.staging) (r : TopRebuilds w outs made olds news gone old new) where
   not_in_top : (n : ℕ) (c : Cluster) (s : Stored) → Contains outs n → seen_at Main new.store.clusters n ≡ Some c → finmap.get new.store.clusters n ≡ Some s
       → is_in Top s.tag ≡ true → ⊥
-  not_in_top n c s out main is top = elim (decide_in made n) [
+  not_in_top n c s out main is top = elim (told_number made n) [
     | inl here ↦ none-some c (sym (r.fresh staged n here) ∙ main)
     | inr free ↦ none-some s.cluster (sym (r.top.exchanges.cleared n out free) ∙ seen_stored Top new.store.clusters n s is top)
   ]
@@ -86,7 +86,7 @@ module _ (most number made : ℕ) (a c : Cluster) (old new : View) (indexed : Is
       subst (λ (e : Cluster). Contains e.names y) (same_Some stands.cluster d (sym stands.there ∙ at)) stands.here
 
   one_still : (x y : ℕ) → AreOfOne old.numbers x y → AreOfOne new.numbers x y
-  one_still x y of = elim (decide_in c.names x) [
+  one_still x y of = elim (told_number c.names x) [
     | inl x_in ↦
         let n : of.0 ≡ number = same_Some of.0 number (sym of.1 ∙ was x x_in) in
         let y_in = forth y (mate old indexed number y a (r.taken.stand 0 a refl) (of.2 ∙ ap Some n)) in
@@ -99,7 +99,7 @@ module _ (most number made : ℕ) (a c : Cluster) (old new : View) (indexed : Is
   ]
 
   one_before : (x y : ℕ) → AreOfOne new.numbers x y → AreOfOne old.numbers x y
-  one_before x y of = elim (decide_in c.names x) [
+  one_before x y of = elim (told_number c.names x) [
     | inl x_in ↦
         let n : of.0 ≡ made = same_Some of.0 made (sym of.1 ∙ is_now x x_in) in
         let y_in = mate new now made y c (r.exchanges.stand.stand 0 c refl) (of.2 ∙ ap Some n) in
@@ -112,7 +112,7 @@ module _ (most number made : ℕ) (a c : Cluster) (old new : View) (indexed : Is
   ]
 
   some_still : (x : ℕ) → IsSome (finmap.get new.numbers x) ↔ IsSome (finmap.get old.numbers x)
-  some_still x = elim (decide_in c.names x) [
+  some_still x = elim (told_number c.names x) [
     | inl x_in ↦ (λ _. ap is_some (was x x_in), λ _. ap is_some (is_now x x_in))
     | inr out ↦ (λ some. ap is_some (sym (away x out)) ∙ some, λ some. ap is_some (away x out) ∙ some)
   ]

@@ -1,27 +1,17 @@
 -- Which names a list has, which clusters have a name, and where a number stands in a list.
-use Rattle.std.proofs.Common.{◌≡◌, ℕ, zero, suc, ◌<◌, List, [], ◌∷◌, length, get_or, Contains, Option, Some, inl, inr, ◌⊎◌, sym, ap, ◌∙◌, subst, arith}
+use Rattle.std.proofs.Common.{◌≡◌, ℕ, suc, ◌<◌, List, [], ◌∷◌, length, get_or, Contains, Option, Some, inl, inr, ◌⊎◌, sym, ap, ◌∙◌, subst, arith}
 use Rattle.std.specs.Prelude.{slice_get, slice_index}
-use Rattle.std.proofs.lemmas.Bool.{cases_eq}
 use Rattle.std.proofs.lemmas.Option.{same_Some, slice_get-get_or}
 use Rattle.lists.proofs.Entries.{Contains-head, Contains-later, Contains-cases, none_in_empty}
+use Rattle.std.proofs.lemmas.List.Elements.{Contains-get_or}
+use Rattle.lists.proofs.Told.{told_number}
 use Rattle.cluster.specs.Clusters.{Cluster}
 use Rattle.levels.specs.Changes.{AreAt, IsNamed}
-
--- a name is in a list or not
-pub decide_in : (xs : List ℕ) (id : ℕ) → Contains xs id ⊎ (Contains xs id → ⊥)
-decide_in [] id = inr (none_in_empty id)
-decide_in (x ∷ xs) id = elim (cases_eq x id) [
-  | inl same ↦ inl (subst (Contains (x ∷ xs)) same (Contains-head x xs))
-  | inr other ↦ elim (decide_in xs id) [
-    | inl later ↦ inl (Contains-later x id xs later)
-    | inr none ↦ inr (λ here. elim (Contains-cases x id xs here) [ inl same ↦ other same | inr later ↦ none later ])
-  ]
-]
 
 -- one of some clusters has a name, or none has
 pub decide_named : (cs : List Cluster) (id : ℕ) → IsNamed cs id ⊎ (IsNamed cs id → ⊥)
 decide_named [] id = inr (λ named. none_in_empty named.0 named.1)
-decide_named (c ∷ cs) id = elim (decide_in c.names id) [
+decide_named (c ∷ cs) id = elim (told_number c.names id) [
   | inl here ↦ inl (c, Contains-head c cs, here)
   | inr out ↦ elim (decide_named cs id) [
     | inl later ↦ inl (later.0, Contains-later c later.0 cs later.1, later.2)
@@ -40,12 +30,6 @@ place_of (x ∷ xs) n here = elim (Contains-cases x n xs here) [
   | inr later ↦ let at = place_of xs n later in (suc at.0, omega (arith, at.1), at.2)
 ]
 
--- the number at a place is one of the list
-pub at_place : (list : List ℕ) (i : ℕ) → i < length list → Contains list (slice_index list i)
-at_place [] i low = absurd (omega arith)
-at_place (x ∷ xs) zero low = Contains-head x xs
-at_place (x ∷ xs) (suc i) low = Contains-later x (slice_index xs i) xs (at_place xs i (omega arith))
-
 -- where a cluster stands among some
 pub record IsPlaced (at : ℕ → Option Cluster) (list : List ℕ) (found : List Cluster) (c : Cluster) : Type 0 where
   pub place : ℕ
@@ -58,7 +42,7 @@ pub placed_of : (at : ℕ → Option Cluster) (list : List ℕ) (found : List Cl
     → AreAt at list found → Contains found c → IsPlaced at list found c
 placed_of at list found c are here =
     let is : slice_get found here.0 ≡ Some c = slice_get-get_or found here.0 c here.1 ∙ ap Some here.2 in
-    record { place = here.0; listed = is; number = at_place list here.0 (omega (arith, are.count, here.1)); stands = are.stand here.0 c is }
+    record { place = here.0; listed = is; number = Contains-get_or list here.0 0 (omega (arith, are.count, here.1)); stands = are.stand here.0 c is }
 
 -- what stands under one of the numbers is one of the clusters
 pub found_of : (at : ℕ → Option Cluster) (list : List ℕ) (found : List Cluster) (n : ℕ) (c : Cluster) → AreAt at list found → Contains list n → at n ≡ Some c

@@ -1,10 +1,10 @@
 -- What becomes of the touched names, where the table of names changes.
-use Rattle.std.proofs.Common.{◌≡◌, ◌≢◌, ◌⊎◌, ◌↔◌, ◌==◌, ℕ, zero, suc, List, [], ◌∷◌, length, Contains, ◌+◌, ◌-◌, Bool, true, false, cond, not, ◌&&◌, ◌||◌, nat_eq, Option, Some, None, refl, sym, ap, subst, ◌∙◌, inl, inr, true≢false, arith}
+use Rattle.std.proofs.Common.{◌≡◌, ◌≢◌, ◌⊎◌, ◌↔◌, ◌==◌, ℕ, zero, suc, List, [], ◌∷◌, length, Contains, ◌+◌, ◌-◌, true, false, cond, not, ◌&&◌, ◌||◌, nat_eq, Option, Some, None, refl, sym, ap, subst, ◌∙◌, inl, inr, true≢false, arith}
 use Rattle.std.specs.Ordering.{nat_cmp}
 use Rattle.std.specs.Cmp.{nat_cmp_total, nat_eq_equiv, unsigned_tied}
 use Rattle.std.specs.Option.{option_eq}
 use Rattle.std.specs.FinSet as set
-use Rattle.std.proofs.lemmas.Bool.{cases_eq, eqb-true}
+use Rattle.std.proofs.lemmas.Bool.{cases_eq, eqb-true, false_from_ne_true}
 use Rattle.std.proofs.lemmas.Bool.Decides.{eqb_tells}
 use Rattle.std.proofs.lemmas.Option.{none-some, same_Some}
 use Rattle.lists.proofs.Entries.{Contains-head, Contains-later, Contains-cases}
@@ -53,11 +53,7 @@ module _ (old new : Book) (id : ℕ) where
     pub len-more : (IsNamed old id → ⊥) → set.len new.names ≡ set.len old.names + 1
     len-more absent =
         ap (λ (s : set.FinSet nat_cmp). set.len s) names ∙ set.len-insert nat_cmp_total old.names id
-        ∙ ap (λ b. cond b (set.len old.names) (set.len old.names + 1)) (missing (set.contains old.names id) absent)
-      where
-        missing : (b : Bool) → (b ≡ true → ⊥) → b ≡ false
-        missing true out = absurd (out refl)
-        missing false out = refl
+        ∙ ap (λ b. cond b (set.len old.names) (set.len old.names + 1)) (false_from_ne_true (set.contains old.names id) absent)
 
   module _ (names : new.names ≡ set.remove old.names id) where
     less : (x : ℕ) → set.contains new.names x ≡ (not (nat_eq x id) && set.contains old.names x)

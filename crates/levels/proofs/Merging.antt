@@ -5,13 +5,12 @@ use Rattle.std.specs.FinMap as finmap
 use Rattle.std.specs.Iterator.{AlwaysYields, YieldsFirstBy}
 use Rattle.std.specs.List.{filter}
 use Rattle.std.proofs.lemmas.Bool.Decides.{nat_tests}
-use Rattle.std.proofs.lemmas.Option.{slice_get-get_or, get_or_from_slice_get}
 use Rattle.lists.proofs.Entries.{Contains-map, filter-Contains, map-Contains, not_empty, first_of, rest_of}
+use Rattle.std.proofs.lemmas.List.Elements.{Contains-get_or}
 use Rattle.fee_rate.specs.declared.rates.FeeRate.{FeeRate}
 use Rattle.fee_rate.specs.declared.rates.Sum.{Sum}
 use Rattle.graphs.specs.declared.names.Level.{Level}
 use Rattle.graphs.specs.declared.names.Level.TheVariants.{Main, Top}
-use Rattle.graphs.specs.Certificates.{Part}
 use Rattle.graphs.specs.Rates.{Falls}
 use Rattle.graphs.proofs.ClosureGraphs.{closures_have_graphs}
 use Rattle.graphs.proofs.MergeLemmas.{sorted_falls}
@@ -95,16 +94,13 @@ tested test store = rates_of_places store.clusters (filter (test_at test store.c
 size_real : (n : ℕ) → 1 ≤ n → nat_lt 0 n ≡ true
 size_real n e = grind (arith, nat_tests)
 
-listed : (ps : List Part) (i : ℕ) → i < length ps → Contains ps (get_or ps i no_part)
-listed ps i low = (i, low, get_or_from_slice_get ps i (get_or ps i no_part) (get_or ps i no_part) (slice_get-get_or ps i no_part low))
-
 module _ (most : ℕ) (store : Store) (is : IsStore most store) where
   sized_in : (place : ℕ × ℕ) (o : Option Stored) → finmap.get store.clusters place.0 ≡ o → place.1 < length (parts_in o) → 1 ≤ (part_in o place.1).rate.size
   sized_in place None there low = absurd (omega (arith, low))
   sized_in place (Some s) there low =
       let whole : IsCluster most s.cluster = is.whole place.0 s there in
       let graph = closures_have_graphs (beyond s.cluster.names) s.cluster.graph (closed most s.cluster whole) in
-      part_sizes most s.cluster whole graph.0 graph.2 (get_or s.cluster.parts place.1 no_part) (listed s.cluster.parts place.1 low)
+      part_sizes most s.cluster whole graph.0 graph.2 (get_or s.cluster.parts place.1 no_part) (Contains-get_or s.cluster.parts place.1 no_part low)
 
   sized : (place : ℕ × ℕ) → Contains store.order place → 1 ≤ (rate_at store.clusters place).size
   sized place here = sized_in place (finmap.get store.clusters place.0) refl ((is.ordered.exact place).0 here)

@@ -6,6 +6,7 @@ use Rattle.std.proofs.lemmas.List.Elements.{Contains-append_left, Contains-appen
 use Rattle.lists.proofs.Distinct.{distinct_joined}
 use Rattle.lists.specs.Distinct.{AreDistinct}
 use Rattle.lists.proofs.Walks.{Walk-trans}
+use Rattle.arithmetic.proofs.Sums.{sum_by_along}
 use Rattle.graphs.proofs.ClosingLemmas.{linked_back}
 use Rattle.graphs.specs.Closures.{Closure, is_member, is_ancestor, rate_of, IsRelated, AreLinked}
 use Rattle.graph_model.specs.declared.names.Limits.{Limits}
@@ -18,7 +19,7 @@ use Rattle.fee_rate.specs.declared.rates.FeeRate.{FeeRate}
 use Rattle.cluster.specs.Clusters.{Cluster}
 use Rattle.levels.specs.Views.{IsClusterOf}
 use Rattle.levels.specs.Joins.{JoinsTo, JoinsTooMany, JoinsTooLarge, DepRefusalIs, SumRefusalIs}
-use Rattle.levels.proofs.Arranged.{arranged, arranged_is, arranged_increasing, arranged_sum, arranged_length, sum_same}
+use Rattle.levels.proofs.Arranged.{arranged, arranged_is, arranged_increasing, arranged_sum, arranged_length}
 
 -- the names that are linked to the one name or the other
 abbrev pub IsLinkedToEither : Closure → ℕ → ℕ → ℕ → Type 0
@@ -117,8 +118,8 @@ module _ (g : Closure) (p q : ℕ) (a b : Cluster) (t : AreBetween g p q a b) wh
   size_is =
       arranged_sum size_in_graph (a.names ++ b.names) ∙ sum_by-append size_in_graph a.names b.names
       ∙ ap₂ (λ m n. m + n)
-      (sum_same size_in_graph (λ id. (rate_of a.graph id).size) a.names (λ id here. ap (λ (r : FeeRate). r.size) (t.first.rates id here)))
-      (sum_same size_in_graph (λ id. (rate_of b.graph id).size) b.names (λ id here. ap (λ (r : FeeRate). r.size) (t.second.rates id here)))
+      (sum_by_along size_in_graph (λ id. (rate_of a.graph id).size) a.names (λ id here. ap (λ (r : FeeRate). r.size) (t.first.rates id here)))
+      (sum_by_along size_in_graph (λ id. (rate_of b.graph id).size) b.names (λ id here. ap (λ (r : FeeRate). r.size) (t.second.rates id here)))
 
   same_members : (others : List ℕ) → JoinsTo g p q others → others ≡ members
   same_members others so = Lists-same (IsLinkedToEither g p q) others members so.1 both_listed

@@ -8,7 +8,7 @@ use Rattle.lists.proofs.Entries.{filter-Contains, map-Contains}
 use Rattle.graphs.specs.declared.names.Level.{Level}
 use Rattle.graphs.specs.Certificates.{Part}
 use Rattle.graphs.specs.Merges.{Precedes}
-use Rattle.graphs.proofs.MergeLemmas.{flat_has}
+use Rattle.lists.proofs.Flats.{flat_has}
 use Rattle.chunk_index.specs.Items.{is_in}
 use Rattle.cluster.specs.Clusters.{Cluster, IsCluster}
 use Rattle.cluster.proofs.Placed.{in_names}

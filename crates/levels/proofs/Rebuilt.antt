@@ -3,12 +3,13 @@ use Rattle.std.proofs.Common.{◌≡◌, ℕ, List, Contains, Some, inl, inr, sy
 use Rattle.std.specs.Prelude.{slice_index}
 use Rattle.std.proofs.lemmas.Option.{none-some, same_Some}
 use Rattle.std.specs.FinMap as finmap
+use Rattle.lists.proofs.Told.{told_number}
 use Rattle.cluster.specs.Clusters.{Cluster}
 use Rattle.levels.specs.Changes.{IsNamed, Rebuilds, IsRebuilt}
 use Rattle.levels.specs.Views.{View, StandsAt, IsIndexed, graph_of}
 use Rattle.levels.proofs.Graphs.{get-graph-same, get-none, in_live}
 use Rattle.levels.proofs.Found.{cluster_of}
-use Rattle.levels.proofs.Lookups.{decide_in, decide_named, found_of, placed_of}
+use Rattle.levels.proofs.Lookups.{decide_named, found_of, placed_of}
 
 module _ (most : ℕ) (outs made : List ℕ) (olds news : List Cluster) (gone : List ℕ) (old new : View) (indexed : IsIndexed most old)
     (r : Rebuilds most outs made olds news gone old new) where
@@ -72,19 +73,19 @@ module _ (most : ℕ) (outs made : List ℕ) (olds news : List Cluster) (gone : 
       | inl named ↦
           let at = number_in id named.0 named.1 named.2 in
           record { cluster = named.0; there = ap new.at (same_Some n at.0 (sym is ∙ at.3)) ∙ at.2; here = named.2 }
-      | inr none ↦ elim (decide_in gone id) [
+      | inr none ↦ elim (told_number gone id) [
         | inl lost ↦ absurd (none-some n (sym (r.points.lost id lost) ∙ is))
         | inr kept ↦ stands_still id n none kept (sym (r.points.others id none kept) ∙ is)
       ]
     ];
-    listed = λ n id c is here. elim (decide_in made n) [
+    listed = λ n id c is here. elim (told_number made n) [
       | inl one ↦ let at = found_of new.at made news n c r.exchanges.stand one is in r.points.pointed at.0 id c at.1 here ∙ ap Some at.2
       | inr free ↦
           let was = stayed n c free is in
           r.points.others id (not_new n id c was.0 was.1 here) (λ lost. not_named n id c was.0 was.1 here (r.covers.lose id lost).0)
           ∙ indexed.listed n id c was.1 here
     ];
-    whole = λ n c is. elim (decide_in made n) [
+    whole = λ n c is. elim (told_number made n) [
       | inl one ↦ r.covers.whole c (found_of new.at made news n c r.exchanges.stand one is).3
       | inr free ↦ indexed.whole n c (stayed n c free is).1
     ];

@@ -4,13 +4,13 @@ use Rattle.std.proofs.lemmas.Option.{same_Some}
 use Rattle.std.proofs.lemmas.List.Elements.{Contains-append_left, Contains-append_right, Contains-append_cases}
 use Rattle.std.specs.FinMap as finmap
 use Rattle.lists.proofs.Entries.{none_in_empty}
+use Rattle.lists.proofs.Told.{told_number}
 use Rattle.cluster.specs.Clusters.{Cluster}
 use Rattle.cluster.specs.Changes.{AreAcross}
 use Rattle.name_book.specs.Books.{IsNamed}
 use Rattle.levels.specs.Changes.{Rebuilds}
 use Rattle.levels.specs.Rings.{Ringed, AreOfOne, AreRight, IsMarked, ShareMain}
 use Rattle.levels.specs.Views.{View, IsIndexed, Numbers}
-use Rattle.levels.proofs.Lookups.{decide_in}
 use Rattle.levels.proofs.Making.{named_one}
 
 -- what is right where both levels have the same numbers
@@ -69,7 +69,7 @@ module _ (most first second made p q : ℕ) (a b c : Cluster) (old new : View) (
       let x_at = indexed.stands x n x_is in
       let y_at = indexed.stands y n y_is in
       let same : x_at.cluster ≡ y_at.cluster = same_Some x_at.cluster y_at.cluster (sym x_at.there ∙ y_at.there) in
-      elim (decide_in c.names x) [
+      elim (told_number c.names x) [
         | inl x_in ↦ elim (either x x_in) [
           | inl in_first ↦
               let is : n ≡ first = same_Some n first (sym x_is ∙ in_a x in_first) in
@@ -80,7 +80,7 @@ module _ (most first second made p q : ℕ) (a b c : Cluster) (old new : View) (
               let d : y_at.cluster ≡ b = same_Some y_at.cluster b (sym y_at.there ∙ ap old.at is ∙ b_at) in
               (made, in_c x x_in, in_c y (from_b y (subst (λ (e : Cluster). Contains e.names y) d y_at.here)))
         ]
-        | inr x_out ↦ elim (decide_in c.names y) [
+        | inr x_out ↦ elim (told_number c.names y) [
           | inl y_in ↦ elim (either y y_in) [
             | inl in_first ↦
                 let is : n ≡ first = same_Some n first (sym y_is ∙ in_a y in_first) in
@@ -100,7 +100,7 @@ module _ (most first second made p q : ℕ) (a b c : Cluster) (old new : View) (
     shares_in : (x z : ℕ) → Contains c.names z → ShareMain before x z → Contains c.names x
     shares_in x z z_in share = elim ((right.zero x z).0 share) [
       | inl one ↦ subst (Contains c.names) (sym one.1) z_in
-      | inr two ↦ elim (decide_in c.names x) [
+      | inr two ↦ elim (told_number c.names x) [
         | inl x_in ↦ x_in
         | inr x_out ↦
             let still = one_still x z two.0 two.1 two.2 in
@@ -155,7 +155,7 @@ module _ (most first second made p q : ℕ) (a b c : Cluster) (old new : View) (
     ])
 
     some_still : (x : ℕ) → IsSome (finmap.get new.numbers x) ↔ IsSome (finmap.get old.numbers x)
-    some_still x = elim (decide_in c.names x) [
+    some_still x = elim (told_number c.names x) [
       | inl x_in ↦ (
         λ _. elim (either x x_in) [ inl one ↦ ap is_some (in_a x one) | inr two ↦ ap is_some (in_b x two) ],
         λ _. ap is_some (in_c x x_in),
@@ -180,7 +180,7 @@ module _ (most first second made p q : ℕ) (a b c : Cluster) (old new : View) (
         ],
         λ is. elim is [
           | inl one ↦ (joined.main x y).1 (inl ((right.zero x y).1 (inl ((joined.names x).0 one.0, one.1))))
-          | inr two ↦ elim (decide_in c.names x) [
+          | inr two ↦ elim (told_number c.names x) [
             | inl x_in ↦
                 let same : two.0 ≡ made = same_Some two.0 made (sym two.1 ∙ in_c x x_in) in
                 let at = now.stands y two.0 two.2 in

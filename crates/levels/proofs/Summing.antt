@@ -1,17 +1,16 @@
 -- The parts of a level: an optimal order, by falling rate, with sums in range where the level has no more names than are added up.
-use Rattle.std.proofs.Common.{◌≡◌, ◌≢◌, ℕ, suc, ◌+◌, ◌-◌, ◌*◌, ◌<◌, ◌≤◌, Bool, true, false, cond, not, ◌&&◌, ◌||◌, ne_eqb, unsigned_abs, IsSome, List, [], ◌∷◌, ◌++◌, length, map, Contains, get_or, refl, sym, ap, ◌∙◌, subst, arith, length-append, true≢false, eqb-true}
+use Rattle.std.proofs.Common.{◌≡◌, ℕ, suc, ◌+◌, ◌*◌, ◌<◌, ◌≤◌, Bool, true, false, ◌||◌, unsigned_abs, IsSome, List, [], ◌∷◌, ◌++◌, length, map, Contains, get_or, refl, sym, ap, ◌∙◌, subst, arith, length-append, true≢false, eqb-true}
 use Rattle.std.specs.Prelude.{sum_by}
 use Rattle.std.specs.List.{list_any}
 use Rattle.std.specs.Ordering.{nat_cmp, eq_by_cmp}
-use Rattle.std.specs.Cmp.{nat_cmp_total, unsigned_tied}
+use Rattle.std.specs.Cmp.{unsigned_tied}
 use Rattle.std.specs.FinMap as finmap
 use Rattle.std.specs.FinSet as set
 use Rattle.std.proofs.lemmas.Int.{ints}
 use Rattle.std.proofs.lemmas.List.Concat.{flat_map-append}
 use Rattle.std.proofs.lemmas.List.Elements.{Contains-append_left, Contains-append_right, Contains-get_or}
 use Rattle.std.proofs.lemmas.List.Sums.{sum_by-cons, sum_by-le}
-use Rattle.lists.specs.Distinct.{AreDistinct}
-use Rattle.lists.proofs.Entries.{Contains-head, Contains-later, Contains-splits, map-Contains, first_of, rest_of}
+use Rattle.lists.proofs.Entries.{Contains-head, Contains-later, Contains-splits, map-Contains, map_cut}
 use Rattle.arithmetic.proofs.Sums.{total_within}
 use Rattle.fee_rate.specs.declared.limits.TheConstants.{MAX_FEE, MAX_SIZE, MAX_TOTAL}
 use Rattle.fee_rate.specs.declared.rates.FeeRate.{FeeRate}
@@ -23,12 +22,11 @@ use Rattle.graphs.specs.Closures.{Closure, is_member, rate_of, IsClosed}
 use Rattle.graphs.specs.Closing.{IsClosureOf}
 use Rattle.graphs.specs.Graphs.{Graph, IsGraph, IsCover}
 use Rattle.graphs.specs.Rates.{sum_of, sums, HasSizes}
-use Rattle.graphs.proofs.BestLemmas.{sizes_some, sum_of-joined}
+use Rattle.graphs.proofs.BestLemmas.{sizes_some, sum_of-joined, joined_ids, rates_are_sums}
 use Rattle.graphs.proofs.ClosureGraphs.{closures_have_graphs}
 use Rattle.graphs.proofs.CornerLemmas.{size_of-cons}
 use Rattle.graphs.proofs.PickLemmas.{picks_are_kept}
-use Rattle.graphs.proofs.TangentLemmas.{joined}
-use Rattle.graph_model.proofs.TableLemmas.{len-names}
+use Rattle.lists.proofs.Keys.{len-names, set_has}
 use Rattle.graph_model.specs.Answers.{order_of}
 use Rattle.cluster.specs.Clusters.{sum_at}
 use Rattle.diagram.specs.Parts.{AreLevelParts}
@@ -43,31 +41,10 @@ use Rattle.levels.proofs.Graphs as graphs
 
 -- ---- lists
 
--- a front of what a list becomes comes of a front of the list
-map_front : {A B : Type 0} (f : A → B) (xs : List A) (front rest : List B) → map f xs ≡ front ++ rest
-    → (ys zs : List A) × (xs ≡ ys ++ zs) × (front ≡ map f ys)
-map_front f xs [] rest is = ([], xs, refl, refl)
-map_front f [] (y ∷ front) rest is = cc
-map_front f (x ∷ xs) (y ∷ front) rest is =
-    let more = map_front f xs front rest (rest_of is) in
-    let head : f x ≡ y = first_of is in
-    (x ∷ more.0, more.1, ap (λ zs. x ∷ zs) more.2, (λ i. sym head i ∷ more.3 i))
-
-joined_ids : (parts : List Part) → joined (map (λ part. part.ids) parts) ≡ order_of parts
-joined_ids [] = refl
-joined_ids (p ∷ parts) = ap (λ ids. p.ids ++ ids) (joined_ids parts)
-
--- parts have the sums over their names
-rates_told : (rate : ℕ → Sum) (parts : List Part) → ((part : Part) → Contains parts part → part.rate ≡ sums rate part.ids)
-    → sums_of parts ≡ map (sums rate) (map (λ part. part.ids) parts)
-rates_told rate [] summed = refl
-rates_told rate (p ∷ parts) summed =
-    λ i. summed p (Contains-head p parts) i ∷ rates_told rate parts (λ q here. summed q (Contains-later p q parts here)) i
-
 sum_told : (rate : ℕ → Sum) (parts : List Part) → ((part : Part) → Contains parts part → part.rate ≡ sums rate part.ids)
     → sum_of (sums_of parts) ≡ sums rate (order_of parts)
 sum_told rate parts summed =
-    ap sum_of (rates_told rate parts summed) ∙ sum_of-joined rate (map (λ part. part.ids) parts) ∙ ap (sums rate) (joined_ids parts)
+    ap sum_of (rates_are_sums rate parts summed) ∙ sum_of-joined rate (map (λ part. part.ids) parts) ∙ ap (sums rate) (sym (joined_ids parts))
 
 -- names with fees and sizes in range: what they pay, and what they measure, is at most so much for each
 names_pay : (g : Closure) (ids : List ℕ) → ((id : ℕ) → Contains ids id → IsRate (rate_of g id))
@@ -99,19 +76,6 @@ parts_pay g (p ∷ parts) summed rates =
       omega (arith, ints, fee, rest.0, names, sum_by-cons (λ (s : Sum). unsigned_abs s.fee) p.rate (sums_of parts)),
       omega (arith, ints, size, rest.1, names, size_of-cons p.rate (sums_of parts)),
     )
-
--- as many different names as a list has are at most those of a set that has them
-few_names : (s : set.FinSet nat_cmp) (ids : List ℕ) → AreDistinct ids → ((x : ℕ) → Contains ids x → set.contains s x ≡ true) → length ids ≤ set.len s
-few_names s [] once all = omega arith
-few_names s (x ∷ ids) once all =
-    let here : set.contains s x ≡ true = all x (Contains-head x ids) in
-    let rest : length ids ≤ set.len (set.remove s x) = few_names (set.remove s x) ids once.1 (λ y listed.
-    set.contains-remove nat_cmp_total s x y
-    ∙ ap (λ b. not b && set.contains s y) (unsigned_tied y x ∙ ne_eqb y x (λ same. once.0 (subst (Contains ids) same listed)))
-    ∙ all y (Contains-later x y ids listed)) in
-    let less : set.len (set.remove s x) ≡ set.len s - 1 = set.len-remove nat_cmp_total s x ∙ ap (λ b. cond b (set.len s - 1) (set.len s)) here in
-    let some : set.len s ≢ 0 = λ none. true≢false (sym here ∙ ap (λ t. set.contains t x) (set.empty_of_len s none) ∙ set.contains-empty nat_cmp x) in
-    omega (arith, rest, less, some)
 
 -- a number that no entry of a list reaches
 past : List ℕ → ℕ
@@ -186,7 +150,7 @@ module _ (w : ℕ) (shelf : Shelf) (order : IsInOrder w shelf) (level : Level) w
     within : (names : set.FinSet nat_cmp) → ((id : ℕ) → IsSome (finmap.get (numbers_at level shelf) id) → set.contains names id ≡ true)
         → finmap.len (numbers_at level shelf) ≤ set.len names
     within names all =
-        let few = few_names names (order_of parts) certificate.order.topological.once
+        let few = set_has names (order_of parts) certificate.order.topological.once
         (λ id here. all id (sym (member-number (view_of level shelf) id) ∙ live id here)) in
         omega (arith, counted, few)
 
@@ -245,7 +209,7 @@ module _ (w : ℕ) (shelf : Shelf) (order : IsInOrder w shelf) (level : Level) w
             let found = map-Contains (λ (part : Part). part.rate) parts rate here in
             subst (λ (s : Sum). IsSum s) found.2 (part_fits found.0 found.1);
         fits = λ front rest is.
-            let cut = map_front (λ (part : Part). part.rate) parts front rest is in
+            let cut = map_cut (λ (part : Part). part.rate) parts front rest is in
             subst (λ (ss : List Sum). IsSum (sum_of ss)) (sym cut.3) (front_fits cut.0 cut.1 cut.2);
       }
 

@@ -2,13 +2,15 @@
 use Rattle.std.proofs.Common.{◌≡◌, ℕ, ◌+◌, Bool, true, false, cond, not, ◌&&◌, ◌||◌, nat_eq, Option, Some, None, is_some, IsSome, refl, sym, ap, ◌∙◌, subst₂, true≢false}
 use Rattle.std.specs.Prelude.{option_map, unwrap_or}
 use Rattle.std.specs.FinMap as finmap
+use Rattle.lists.proofs.Keys.{same_len}
+use Rattle.lists.proofs.Cases.{none_of}
 use Rattle.fee_rate.specs.declared.rates.FeeRate.{FeeRate}
 use Rattle.graphs.specs.Closures.{Closure, is_member, AddsPair, DropsPlace}
 use Rattle.graphs.specs.declared.names.Level.TheVariants.{Main, Top}
 use Rattle.levels.specs.Levels.{OneLevel, Levels, AddsName, ChangesTop, level_at, with_top}
 use Rattle.levels.specs.Shelves.{Shelf, IsInOrder, levels_of, numbers_at, one_of, view_of}
 use Rattle.levels.specs.Views.{Numbers, graph_of}
-use Rattle.levels.proofs.Counts.{graph_len, len_less, len_more, same_len}
+use Rattle.levels.proofs.Counts.{graph_len, len_less, len_more}
 use Rattle.levels.proofs.Finds.{graph_is, level_is}
 use Rattle.levels.proofs.Graphs.{member-number}
 
@@ -80,8 +82,4 @@ pub mains_counted : (old new : Shelf) (staged : Bool) (mains tops : ℕ) → sta
     → mains ≡ finmap.len old.main → (IsSome old.staging → finmap.len new.main ≡ finmap.len old.main) → tops ≡ finmap.len (numbers_at Top new)
     → cond staged mains tops ≡ finmap.len new.main
 mains_counted old new true mains tops is same counted kept top = counted ∙ sym (kept (sym same ∙ sym is))
-mains_counted old new false mains tops is same counted kept top = top ∙ sym (mains_are_tops new (none_staged new.staging (sym is)))
-  where
-    none_staged : (o : Option Numbers) → is_some o ≡ false → o ≡ None
-    none_staged None is = refl
-    none_staged (Some m) is = absurd (true≢false is)
+mains_counted old new false mains tops is same counted kept top = top ∙ sym (mains_are_tops new (none_of new.staging (sym is)))

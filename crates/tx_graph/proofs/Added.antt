@@ -18,7 +18,7 @@ use Rattle.levels.specs.Levels.{OneLevel, HavePicks, AddsName, level_at, IsLive}
 use Rattle.tx_graph.specs.Kept.{Kept, HasRates, IsGraphOf, MakesStep, entry_of}
 use Rattle.tx_graph.proofs.Standing.{Meets, graph_at}
 use Rattle.tx_graph.proofs.Picked.{AreSameLevel, AcceptsAll, steps_accepted}
-use Rattle.tx_graph.proofs.Tables.{put_same, put_other}
+use Rattle.graph_model.proofs.ValidLemmas.{get-put_same, get-put_other}
 use Rattle.tx_graph.proofs.Tops.{AreTopped, live_in, live_stays, rates_topped, keeps_topped, stands_topped}
 
 module _ (was top : OneLevel) (id : ℕ) (rate : FeeRate) (absent : is_member was.graph id ≡ false) (adds : AddsName was.graph top.graph id rate) where
@@ -67,23 +67,23 @@ module _ (old new : Kept) (id : ℕ) (fee : ℤ) (size : ℕ) (limits : new.limi
   module _ (table : Table) (rates : HasRates old.levels table) where
     in_top : (q : ℕ) → is_member top.graph q ≡ true → finmap.get (finmap.insert table id (entry_of rate)) q ≡ Some (entry_of (rate_of top.graph q))
     in_top q member = elim (cases_eq q id) [
-      | inl same ↦ put_same table id q (entry_of rate) same ∙ ap (λ r. Some (entry_of r)) (sym (ap (rate_of top.graph) same ∙ adds.rate_is))
+      | inl same ↦ get-put_same table id q (entry_of rate) same ∙ ap (λ r. Some (entry_of r)) (sym (ap (rate_of top.graph) same ∙ adds.rate_is))
       | inr other ↦
-          put_other table id q (entry_of rate) other ∙ rates.names Top q (was_before was top id rate none_before adds q other member)
+          get-put_other table id q (entry_of rate) other ∙ rates.names Top q (was_before was top id rate none_before adds q other member)
           ∙ ap (λ r. Some (entry_of r)) (sym (adds.rates q other))
     ]
 
     in_main : (q : ℕ) → is_member old.levels.main.graph q ≡ true
         → finmap.get (finmap.insert table id (entry_of rate)) q ≡ Some (entry_of (rate_of old.levels.main.graph q))
     in_main q member =
-        put_other table id q (entry_of rate) (λ same. absent (inl (subst (λ x. is_member old.levels.main.graph x ≡ true) same member)))
+        get-put_other table id q (entry_of rate) (λ same. absent (inl (subst (λ x. is_member old.levels.main.graph x ≡ true) same member)))
         ∙ rates.names Main q member
 
     rates_added : HasRates new.levels (finmap.insert table id (entry_of rate))
     rates_added = record {
       names = rates_topped old.levels new.levels top topped (finmap.insert table id (entry_of rate)) in_top (λ _ _. in_main);
       none = λ q gone.
-          put_other table id q (entry_of rate) (λ same. gone (live_in old.levels new.levels top topped q
+          get-put_other table id q (entry_of rate) (λ same. gone (live_in old.levels new.levels top topped q
           (subst (λ x. is_member top.graph x ≡ true) (sym same) (is_added was top id rate none_before adds))))
           ∙ rates.none q (λ live. gone (live_stays old.levels new.levels top topped q (added_to was top id rate none_before adds q) live));
     }

@@ -17,9 +17,9 @@ use Rattle.graph_model.specs.declared.names.Limits.{Limits}
 use Rattle.graph_model.specs.declared.names.Refusal.{Refusal}
 use Rattle.graph_model.specs.Commands.{Add}
 use Rattle.graph_model.specs.States.{Table}
-use Rattle.graph_model.proofs.LevelLemmas.{IsTold, some_list}
+use Rattle.graph_model.proofs.LevelLemmas.{test_told, some_list}
 use Rattle.graph_model.proofs.RowLemmas.{add_row_along}
-use Rattle.graph_model.proofs.TableLemmas.{len-names}
+use Rattle.lists.proofs.Keys.{len-names}
 use Rattle.tx_graph.specs.Additions.{AddRefusalIs, CountsLive}
 use Rattle.levels.specs.Levels.{Levels, level_at, IsLive}
 use Rattle.tx_graph.specs.Kept.{Kept, HasRates}
@@ -35,10 +35,6 @@ rising_once [] rising = tt
 rising_once (x ∷ xs) rising = (later_apart x xs rising, rising_once xs (λ i j d before below. rising (suc i) (suc j) d (omega arith) (omega arith)))
 
 -- ---- the keys of a map, in rising order
-
-told_key : (b : Bool) → IsTold (b ≡ true)
-told_key true = inl refl
-told_key false = inr (λ is. true≢false (sym is))
 
 module _ {X : Type 0} where
   all_keys : List (ℕ × X) → ℕ
@@ -58,7 +54,7 @@ module _ {X : Type 0} where
 
   keys_listed : (m : finmap.FinMap nat_cmp X) → (ids : List ℕ) × Lists (λ q. finmap.contains_key m q ≡ true) ids
   keys_listed m =
-      some_list (λ q. finmap.contains_key m q ≡ true) (λ q. told_key (finmap.contains_key m q)) (suc (all_keys (finmap.entries m)))
+      some_list (λ q. finmap.contains_key m q ≡ true) (λ q. test_told (finmap.contains_key m q)) (suc (all_keys (finmap.entries m)))
       (λ q has. let low = key_small q (finmap.entries m) (sym (ap is_some (finmap.get-entries m q)) ∙ has) in omega arith)
 
   keys_counted : (m : finmap.FinMap nat_cmp X) (ids : List ℕ) → Lists (λ q. finmap.contains_key m q ≡ true) ids → length ids ≡ finmap.len m

@@ -1,18 +1,17 @@
 -- The corners of a level: the ends of its parts, where equal rates are joined.
-use Rattle.std.proofs.Common.{◌≡◌, ℕ, ◌≤◌, true, List, [], ◌∷◌, map, Contains, sym, refl, subst, inl, inr}
+use Rattle.std.proofs.Common.{◌≡◌, ℕ, ◌≤◌, true, List, map, Contains, sym, refl, subst}
 use Rattle.fee_rate.specs.declared.rates.Sum.{Sum}
 use Rattle.fee_rate.specs.Limits.{IsRate}
-use Rattle.std.specs.Prelude.{flat_map}
-use Rattle.std.proofs.lemmas.List.Elements.{Contains-append_left, Contains-append_right}
-use Rattle.lists.proofs.Entries.{Contains-head, Contains-later, Contains-cases, map-Contains, none_in_empty}
+use Rattle.lists.proofs.Entries.{map-Contains}
+use Rattle.lists.proofs.Flats.{flat_has}
+use Rattle.graphs.proofs.BestLemmas.{rates_are_sums, sizes_some}
 use Rattle.graphs.specs.declared.names.Level.{Level}
 use Rattle.graphs.specs.Certificates.{Part}
 use Rattle.graphs.specs.Closures.{is_member, rate_of}
 use Rattle.graphs.specs.Diagrams.{corners_of, AreCorners, JoinsEqualRates}
 use Rattle.graphs.specs.Graphs.{Graph, IsGraph}
 use Rattle.graphs.specs.Picks.{IsPick}
-use Rattle.graphs.specs.Rates.{sums, HasSizes}
-use Rattle.graphs.proofs.BestLemmas.{sizes_some}
+use Rattle.graphs.specs.Rates.{HasSizes}
 use Rattle.graphs.proofs.CornerLemmas.{optimal_ends, joins_some}
 use Rattle.graphs.proofs.PickLemmas.{picks_are_kept}
 use Rattle.graph_model.specs.Commands.{Diagram}
@@ -33,26 +32,12 @@ IsRated level = (id : ℕ) → is_member level.graph id ≡ true → IsRate (rat
 abbrev pub AreRated : Levels → Type 0
 AreRated levels = (level : Level) → IsRated (level_at levels level)
 
--- the fee and size of a part are those of its names
-sums_told : (rate : ℕ → Sum) (parts : List Part) → ((part : Part) → Contains parts part → part.rate ≡ sums rate part.ids)
-    → sums_of parts ≡ map (sums rate) (map (λ part. part.ids) parts)
-sums_told rate [] same = refl
-sums_told rate (p ∷ parts) same = λ i. same p (Contains-head p parts) i ∷ sums_told rate parts (λ part here. same part (Contains-later p part parts here)) i
-
--- a name of a part is one of the order
-part_in : (parts : List Part) (part : Part) (id : ℕ) → Contains parts part → Contains part.ids id → Contains (flat_map (λ p. p.ids) parts) id
-part_in [] part id here there = absurd (none_in_empty part here)
-part_in (p ∷ parts) part id here there = elim (Contains-cases p part parts here) [
-  | inl same ↦ Contains-append_left p.ids (flat_map (λ q. q.ids) parts) id (subst (λ (q : Part). Contains q.ids id) (sym same) there)
-  | inr later ↦ Contains-append_right p.ids (flat_map (λ q. q.ids) parts) id (part_in parts part id later there)
-]
-
 module _ (rate : ℕ → Sum) (graph : Graph) (parts : List Part) (pick : IsPick rate graph parts) (sized : HasSizes rate graph.names) where
   part_sized : (part : Part) → Contains parts part → 1 ≤ part.rate.size
   part_sized part here =
       subst (λ (s : Sum). 1 ≤ s.size) (sym (pick.certificate.falling.summed part here))
       (sizes_some rate part.ids (pick.certificate.filled part here)
-      (λ id there. sized id ((pick.certificate.order.topological.names id).0 (part_in parts part id here there))))
+      (λ id there. sized id ((pick.certificate.order.topological.names id).0 (flat_has (λ (p : Part). p.ids) parts part id here there))))
 
   -- the parts have their segments
   some_segments : (segments : List Sum) × JoinsEqualRates (sums_of parts) segments
@@ -63,7 +48,7 @@ module _ (rate : ℕ → Sum) (graph : Graph) (parts : List Part) (pick : IsPick
   corners_here : (segments : List Sum) → IsGraph graph → JoinsEqualRates (sums_of parts) segments → AreCorners rate graph (corners_of segments)
   corners_here segments valid joins =
       optimal_ends rate graph (map (λ part. part.ids) parts) segments valid.names sized (picks_are_kept.optimal rate graph parts sized pick)
-      (subst (λ sums. JoinsEqualRates sums segments) (sums_told rate parts pick.certificate.falling.summed) joins)
+      (subst (λ sums. JoinsEqualRates sums segments) (rates_are_sums rate parts pick.certificate.falling.summed) joins)
 
 -- ---- a level of a state
 

@@ -1,5 +1,6 @@
 -- Other limits.
-use Rattle.std.proofs.Common.{◌≡◌, true, sym, refl, ap, subst, ◌∙◌, None, Some}
+use Rattle.std.proofs.Common.{◌≡◌, true, sym, refl, ap, subst, ◌∙◌, None}
+use Rattle.std.proofs.lemmas.Option.{same_Some}
 use Rattle.graph_model.specs.declared.names.Limits.{Limits}
 use Rattle.graph_model.specs.Changes.{limited}
 use Rattle.graph_model.specs.Commands.{SetLimits}
@@ -14,11 +15,8 @@ keeps_still : (old new : Levels) → new ≡ old → HavePicks new → KeepsPart
 keeps_still old new same picked = record {
   picked = picked;
   main = λ _. ap (λ (l : Levels). l.main.parts) same;
-  staging = λ a b was is _. ap (λ (l : OneLevel). l.parts) (one_of b a (sym is ∙ ap (λ (l : Levels). l.staging) same ∙ was));
+  staging = λ a b was is _. ap (λ (l : OneLevel). l.parts) (same_Some b a (sym is ∙ ap (λ (l : Levels). l.staging) same ∙ was));
 }
-  where
-    one_of : (x y : OneLevel) → Some x ≡ Some y → x ≡ y
-    one_of x y same = cc
 
 module _ (old new : Kept) (set : Limits) (limits : new.limits ≡ set) (begins : new.begun ≡ true) (levels : new.levels ≡ old.levels) where
   accepts_limited : AcceptsAll old new (SetLimits set.count set.size set.total) Done

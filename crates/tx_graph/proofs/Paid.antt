@@ -16,7 +16,7 @@ use Rattle.levels.specs.Levels.{OneLevel, Levels, HavePicks, SetsFeeOf, SetsFeeI
 use Rattle.tx_graph.specs.Kept.{Kept, HasRates, IsGraphOf, IsStagingOf, MakesStep, entry_of}
 use Rattle.tx_graph.proofs.Standing.{Meets}
 use Rattle.tx_graph.proofs.Picked.{AreSameLevel, KeepsParts, AcceptsAll, picks_follow, steps_made}
-use Rattle.tx_graph.proofs.Tables.{put_same, put_other}
+use Rattle.graph_model.proofs.ValidLemmas.{get-put_same, get-put_other}
 
 member_or_not : (g : Closure) (id : ℕ) → (is_member g id ≡ true) ⊎ (is_member g id ≡ false)
 member_or_not g id = by (is_member g id)
@@ -108,11 +108,11 @@ module _ (old new : Kept) (id : ℕ) (fee : ℤ) (limits : new.limits ≡ old.li
           | inl same ↦
               let here : is_member was.graph id ≡ true = subst (λ x. is_member was.graph x ≡ true) same before in
               let size : size_of table id ≡ (rate_of was.graph id).size = ap size_in (rates.names level id here) in
-              put_same table id q (record { fee = fee; size = size_of table id }) same
+              get-put_same table id q (record { fee = fee; size = size_of table id }) same
               ∙ ap (λ n. Some (record { fee = fee; size = n })) size
               ∙ ap (λ r. Some (entry_of r)) (sym (ap (rate_of now.graph) same ∙ rate_paid id fee was now (sets_at level) here))
           | inr other ↦
-              put_other table id q (record { fee = fee; size = size_of table id }) other ∙ rates.names level q before
+              get-put_other table id q (record { fee = fee; size = size_of table id }) other ∙ rates.names level q before
               ∙ ap (λ r. Some (entry_of r)) (sym (rates_other id fee was now (sets_at level) q other))
         ]
 
@@ -120,7 +120,7 @@ module _ (old new : Kept) (id : ℕ) (fee : ℤ) (limits : new.limits ≡ old.li
     rates_paid = record {
       names = names_paid;
       none = λ q gone.
-          put_other table id q (record { fee = fee; size = size_of table id }) (λ same. gone (still_live q (subst (IsLive old.levels) (sym same) live)))
+          get-put_other table id q (record { fee = fee; size = size_of table id }) (λ same. gone (still_live q (subst (IsLive old.levels) (sym same) live)))
           ∙ rates.none q (λ was. gone (still_live q was));
     }
 

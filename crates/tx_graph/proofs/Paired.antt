@@ -1,9 +1,9 @@
 -- One more pair.
-use Rattle.std.proofs.Common.{◌≡◌, ℕ, true, false, ◌&&◌, ◌||◌, List, [], ◌∷◌, sym, refl, ap, subst, ◌∙◌, inl, inr, ◌⊎◌, None, Some, arith}
+use Rattle.std.proofs.Common.{◌≡◌, ℕ, true, false, ◌&&◌, ◌||◌, sym, refl, ap, subst, ◌∙◌, inl, inr, None, Some}
 use Rattle.std.specs.Prelude.{Contains}
-use Rattle.std.proofs.lemmas.Bool.{cases_eq, or_cases, or_right, and_parts, and_from}
+use Rattle.std.proofs.lemmas.Bool.{or_cases, or_right, and_parts, and_from}
 use Rattle.lists.proofs.Distinct.{distinct_push}
-use Rattle.lists.proofs.Entries.{Contains-head, Contains-later, Contains-cases}
+use Rattle.lists.proofs.Told.{told_in, cases_pair}
 use Rattle.graphs.specs.declared.names.Level.TheVariants.{Main, Top}
 use Rattle.graphs.specs.Closures.{is_member, is_ancestor, IsOrder, AddsPair}
 use Rattle.graphs.specs.Closing.{IsClosureOf, with_pair}
@@ -18,23 +18,6 @@ use Rattle.tx_graph.specs.Kept.{Kept, HasRates, IsGraphOf, IsStagingOf, StandsPl
 use Rattle.tx_graph.proofs.Standing.{Meets, graph_at}
 use Rattle.tx_graph.proofs.Picked.{AreSameLevel, AcceptsAll, steps_accepted}
 use Rattle.tx_graph.proofs.Tops.{AreTopped, top_is, live_stays, rates_topped, keeps_topped, stands_topped}
-
--- whether a pair is listed
-decide_pair : (ps : List (ℕ × ℕ)) (a b : ℕ) → Contains ps (a, b) ⊎ (Contains ps (a, b) → ⊥)
-decide_pair [] a b = inr (λ here. omega (arith, here.1))
-decide_pair (p ∷ ps) a b = elim (cases_eq p.0 a) [
-  | inr other ↦ later (λ same. other (ap (λ (q : ℕ × ℕ). q.0) same)) (decide_pair ps a b)
-  | inl one ↦ elim (cases_eq p.1 b) [
-    | inr other ↦ later (λ same. other (ap (λ (q : ℕ × ℕ). q.1) same)) (decide_pair ps a b)
-    | inl two ↦ inl (subst (Contains (p ∷ ps)) (λ i. (one i, two i)) (Contains-head p ps))
-  ]
-]
-  where
-    later : (◌≡◌ {A = ℕ × ℕ} p (a, b) → ⊥) → Contains ps (a, b) ⊎ (Contains ps (a, b) → ⊥) → Contains (p ∷ ps) (a, b) ⊎ (Contains (p ∷ ps) (a, b) → ⊥)
-    later other found = elim found [
-      | inl here ↦ inl (Contains-later p (a, b) ps here)
-      | inr none ↦ inr (λ here. elim (Contains-cases p (a, b) ps here) [ inl same ↦ other same | inr there ↦ none there ])
-    ]
 
 module _ (was top : OneLevel) (parent child : ℕ) (above : is_member was.graph parent ≡ true) (below : is_member was.graph child ≡ true)
     (no_way : is_ancestor was.graph child parent ≡ false) (pair : AddsPair was.graph top.graph parent child) where
@@ -115,7 +98,7 @@ module _ (old new : Kept) (parent child : ℕ) (limits : new.limits ≡ old.limi
       (graph_paired was top parent child above below no_way pair (level_of state Top) (graph_at old state stands Top) none) (rates_paired state stands)
 
   accepts_paired : AcceptsAll old new (Dep parent child) Done
-  accepts_paired state stands = elim (decide_pair (level_of state Top).pairs parent child) [
+  accepts_paired state stands = elim (told_in cases_pair (level_of state Top).pairs (parent, child)) [
     | inl here ↦ (begun state, there_next state stands here, λ picks. record { answer = refl; change = inl (here, refl) })
     | inr none ↦ (
       with_top (begun state) (with_pair (level_of state Top) parent child),

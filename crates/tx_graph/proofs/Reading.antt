@@ -10,7 +10,7 @@ use Rattle.graph_model.specs.Replies.{Reply, Ids, Number}
 use Rattle.graph_model.specs.States.{State, level_of}
 use Rattle.graph_model.specs.Steps.{AcceptsPlainly, KeepsPicks}
 use Rattle.graph_model.specs.Validity.{ArePicks}
-use Rattle.graph_model.proofs.TableLemmas.{len-names}
+use Rattle.lists.proofs.Keys.{len-names}
 use Rattle.levels.specs.Levels.{OneLevel, HavePicks, level_at}
 use Rattle.tx_graph.specs.Kept.{Kept, IsGraphOf, StandsFor, MakesStep}
 use Rattle.tx_graph.proofs.Standing.{Meets, graph_at, order_kept, told, connected-linked}

@@ -18,7 +18,7 @@ use Rattle.graph_model.specs.Limits.{AreInRange}
 use Rattle.graph_model.specs.States.{PlainState, level_of, size_of, IsStaged}
 use Rattle.graph_model.specs.Commands.{SetLimits, Dep, SetFee, Before}
 use Rattle.graph_model.specs.Refusals.{RefusalIs, First, NoRefusal, OverCount, OverSize}
-use Rattle.graph_model.proofs.LevelLemmas.{same_sum}
+use Rattle.arithmetic.proofs.Sums.{sum_by_along}
 use Rattle.graph_model.proofs.RowLemmas.{first_along, first_at_along}
 use Rattle.levels.specs.Levels.{OneLevel, level_at, IsLive}
 use Rattle.levels.specs.Joins.{JoinsTo, JoinsTooMany, JoinsTooLarge, DepRefusalIs}
@@ -170,7 +170,7 @@ module _ (kept : Kept) (state : PlainState) (stands : StandsPlainly kept state) 
     sizes : (members : List ℕ) → JoinsTo top.graph parent child members
         → sum_by (size_of state.table) members ≡ sum_by (λ id. (rate_of top.graph id).size) members
     sizes members joins =
-        same_sum (size_of state.table) (λ id. (rate_of top.graph id).size) members
+        sum_by_along (size_of state.table) (λ id. (rate_of top.graph id).size) members
         (λ id here. size_kept kept.levels state.table stands.table Top id (members_here members joins id here))
 
     too_large : (n : ℕ) → JoinsTooLarge kept.limits top.graph parent child n ↔ OverSize state parent child n

@@ -2,7 +2,7 @@
 use Rattle.std.proofs.Common.{◌≡◌, ℕ, true, false, sym, refl, ap, subst, ◌∙◌, inl, inr, None, Some, Option, is_some, true≢false}
 use Rattle.std.specs.Prelude.{option_map}
 use Rattle.std.specs.FinMap as finmap
-use Rattle.lists.proofs.Cases.{some_none}
+use Rattle.lists.proofs.Cases.{some_none, none_of}
 use Rattle.graphs.specs.declared.names.Level.{Level}
 use Rattle.graphs.specs.declared.names.Level.TheVariants.{Main, Top}
 use Rattle.graphs.specs.Closures.{is_member, rate_of}
@@ -29,10 +29,6 @@ committed levels = record levels { main = level_at levels Top; staging = None }
 abbrev pub aborted : Levels → Levels
 aborted levels = record levels { staging = None }
 
-none_staged : (staging : Option OneLevel) → is_some staging ≡ false → staging ≡ None
-none_staged None is = refl
-none_staged (Some one) is = absurd (true≢false is)
-
 some_staged : (staging : Option OneLevel) → is_some staging ≡ true → (one : OneLevel) × (staging ≡ Some one)
 some_staged None is = absurd (true≢false (sym is))
 some_staged (Some one) is = (one, refl)
@@ -42,7 +38,7 @@ some_staged (Some one) is = (one, refl)
 module _ (old new : Kept) (limits : new.limits ≡ old.limits) (begins : new.begun ≡ true) (alone : is_some old.levels.staging ≡ false)
     (levels : new.levels ≡ opened old.levels) where
   top_main : level_at old.levels Top ≡ old.levels.main
-  top_main = ap (top_of old.levels.main) (none_staged old.levels.staging alone)
+  top_main = ap (top_of old.levels.main) (none_of old.levels.staging alone)
 
   main_of : (q : ℕ) → IsLive old.levels q → IsLive (opened old.levels) q
   main_of q live = elim live [ inl one ↦ inl one | inr two ↦ inl (subst (λ (l : OneLevel). is_member l.graph q ≡ true) top_main two) ]

@@ -1,28 +1,16 @@
 -- Tables in which one name changes, and tables without the names that are in no level.
-use Rattle.std.proofs.Common.{◌≡◌, ◌≢◌, ℕ, Bool, true, cond, ◌||◌, nat_eq, sym, refl, ap, ◌∙◌, inl, inr, ◌↔◌, None, Some, eq-eqb, ne_eqb}
-use Rattle.std.specs.Cmp.{nat_cmp_total, unsigned_tied}
+use Rattle.std.proofs.Common.{◌≡◌, ℕ, Bool, true, cond, ◌||◌, sym, refl, ap, ◌∙◌, inl, inr, ◌↔◌, None, Some}
 use Rattle.std.specs.FinMap as finmap
 use Rattle.std.proofs.lemmas.Bool.{false_from_ne_true, or_cases, or_left, or_right}
 use Rattle.graphs.specs.declared.names.Level.{Level}
 use Rattle.graphs.specs.declared.names.Level.TheVariants.{Top}
 use Rattle.graphs.specs.Closures.{is_member, rate_of}
-use Rattle.graph_model.specs.States.{PlainState, Table, Entry}
+use Rattle.graph_model.specs.States.{PlainState, Table}
 use Rattle.graph_model.specs.Changes.{IsKept, Forgets}
 use Rattle.levels.specs.Levels.{Levels, level_at, IsLive}
 use Rattle.tx_graph.specs.Kept.{Kept, HasRates, StandsPlainly, entry_of}
 use Rattle.tx_graph.proofs.Standing.{live_at, graph_at}
 use Rattle.tx_graph.proofs.Tops.{HasGraphs, with_rates}
-
--- ---- one name changes
-
-get-put : (table : Table) (id q : ℕ) (entry : Entry) → finmap.get (finmap.insert table id entry) q ≡ cond (nat_eq q id) (Some entry) (finmap.get table q)
-get-put table id q entry = finmap.get-insert nat_cmp_total table id entry q ∙ ap (λ b. cond b (Some entry) (finmap.get table q)) (unsigned_tied q id)
-
-pub put_same : (table : Table) (id q : ℕ) (entry : Entry) → q ≡ id → finmap.get (finmap.insert table id entry) q ≡ Some entry
-put_same table id q entry same = get-put table id q entry ∙ ap (λ b. cond b (Some entry) (finmap.get table q)) (eq-eqb q id same)
-
-pub put_other : (table : Table) (id q : ℕ) (entry : Entry) → q ≢ id → finmap.get (finmap.insert table id entry) q ≡ finmap.get table q
-put_other table id q entry other = get-put table id q entry ∙ ap (λ b. cond b (Some entry) (finmap.get table q)) (ne_eqb q id other)
 
 -- ---- names in no level are forgotten
 

@@ -1,7 +1,7 @@
 -- The steps of the readings of an order, which tell of the picks.
-use Rattle.std.proofs.Common.{◌≡◌, ℕ, ℤ, true, List, [], ◌∷◌, map, Contains, ◌↔◌, sym, refl, ap, subst, ◌∙◌}
+use Rattle.std.proofs.Common.{◌≡◌, ℕ, ℤ, true, List, map, Contains, ◌↔◌, sym, refl, ap, subst, ◌∙◌}
 use Rattle.fee_rate.specs.declared.rates.Sum.{Sum}
-use Rattle.lists.proofs.Entries.{Contains-head, Contains-later}
+use Rattle.lists.proofs.Entries.{map_along}
 use Rattle.graphs.specs.declared.names.Level.{Level}
 use Rattle.graphs.specs.declared.names.Level.TheVariants.{Main}
 use Rattle.graphs.specs.Certificates.{Part}
@@ -84,10 +84,6 @@ steps_placed kept a b place picked a_live b_live told =
 
 -- ---- a text
 
-map_same : {A : Type 0} (f g : ℕ → A) (ids : List ℕ) → ((id : ℕ) → Contains ids id → f id ≡ g id) → map f ids ≡ map g ids
-map_same f g [] same = refl
-map_same f g (x ∷ ids) same = λ i. same x (Contains-head x ids) i ∷ map_same f g ids (λ id here. same id (Contains-later x id ids here)) i
-
 -- a line of a name
 abbrev line_of : Sum → ℕ → ℕ × ℤ × ℕ
 line_of sum id = (id, sum.fee, sum.size)
@@ -123,7 +119,7 @@ module _ (kept : Kept) (level : Level) (text : Text) (picked : HavePicks kept.le
   txs_are : text.txs ≡ map (λ id. line_of (states.rate_of state.plain.table id) id) (order_of (pick_of state.picks level))
   txs_are =
       is.txs
-      ∙ map_same (λ id. line_of (sum_at at.graph id) id) (λ id. line_of (states.rate_of state.plain.table id) id) (order_of at.parts)
+      ∙ map_along (λ id. line_of (sum_at at.graph id) id) (λ id. line_of (states.rate_of state.plain.table id) id) (order_of at.parts)
       (λ id here. ap (λ s. line_of s id) (sym (sum_kept kept.levels state.plain.table stands.plain.table level id (ordered id here))))
       ∙ ap (map (λ id. line_of (states.rate_of state.plain.table id) id)) names_are
 

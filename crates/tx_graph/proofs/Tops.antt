@@ -2,6 +2,7 @@
 use Rattle.std.proofs.Common.{◌≡◌, ℕ, true, sym, refl, ap, subst, subst₂, ◌∙◌, inl, inr, Option, None, Some}
 use Rattle.std.specs.FinMap as finmap
 use Rattle.lists.proofs.Cases.{some_none}
+use Rattle.std.proofs.lemmas.Option.{same_Some}
 use Rattle.graphs.specs.declared.names.Level.{Level}
 use Rattle.graphs.specs.declared.names.Level.TheVariants.{Main, Top}
 use Rattle.graphs.specs.Closures.{is_member, rate_of}
@@ -93,12 +94,9 @@ module _ (old new : Levels) (top : OneLevel) (topped : AreTopped old top new) wh
     main = keeps_alone picked keeps old.staging refl;
     staging = λ a b was is same.
         let first : level_at old Top ≡ a = ap (top_of old.main) was in
-        let second : top ≡ b = one_of top b (sym (topped.staged a was).1 ∙ is) in
+        let second : top ≡ b = same_Some top b (sym (topped.staged a was).1 ∙ is) in
         subst₂ (λ (x y : OneLevel). AreSameLevel x.graph y.graph → y.parts ≡ x.parts) first second keeps same;
   }
-    where
-      one_of : (x y : OneLevel) → Some x ≡ Some y → x ≡ y
-      one_of x y same = cc
 
 -- ---- states
 

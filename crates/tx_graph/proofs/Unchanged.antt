@@ -1,5 +1,5 @@
 -- What a call that changes nothing keeps.
-use Rattle.std.proofs.Common.{◌≡◌, ◌≢◌, ℕ, ◌+◌, ◌≤◌, false, List, length, Option, None, Some, is_some, refl, ap, ◌∙◌, true≢false, arith}
+use Rattle.std.proofs.Common.{◌≡◌, ◌≢◌, ℕ, ◌+◌, ◌≤◌, List, length, Option, None, Some, refl, ap, ◌∙◌, arith}
 use Rattle.graphs.specs.Closures.{AreLinked}
 use Rattle.graphs.specs.Graphs.{Lists}
 use Rattle.graphs.specs.declared.names.Level.TheVariants.{Top}
@@ -28,10 +28,6 @@ plus_none n = omega arith
 
 pub not_larger : (steps : ℕ) → steps ≤ steps
 not_larger steps = omega arith
-
-pub is_closed : (staging : Option OneLevel) → is_some staging ≡ false → staging ≡ None
-is_closed None is = refl
-is_closed (Some one) is = absurd (true≢false is)
 
 -- the steps of a call that makes the clusters of a name in both levels anew
 abbrev pub GrowsForBoth : ℕ → ℕ → ℕ → Levels → Type 0

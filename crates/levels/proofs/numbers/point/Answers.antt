@@ -2,7 +2,7 @@
 use Rattle.std.proofs.Common.{◌<◌, length, slice_index_or, arith, ◌≡◌, ◌∙◌, subst}
 use Rattle.std.proofs.lemmas.List.{get_or_default}
 use Rattle.staging.specs.Maps.{top_of}
-use Rattle.levels.proofs.Lookups.{at_place}
+use Rattle.std.proofs.lemmas.List.Elements.{Contains-get_or}
 use Rattle.levels.proofs.Pointing.{PointsTo, base_more, points_more, points_one_of}
 use Rattle.levels.proofs.numbers.point.Goals as goal
 
@@ -13,7 +13,7 @@ loop-id-preserved c =
     let id = slice_index_or names c.loop-id.id-index 0 in
     record {
       points = points_more c.loop-id.id-index c.args.number names (top_of c.args.numbers.now) (top_of c.loop-id.numbers) (top_of c.put.new.self) id
-          c.loop-id.invariant.points (at_place names c.loop-id.id-index low) (λ d. get_or_default names c.loop-id.id-index d 0 low) c.put.ensures.top;
+          c.loop-id.invariant.points (Contains-get_or names c.loop-id.id-index 0 low) (λ d. get_or_default names c.loop-id.id-index d 0 low) c.put.ensures.top;
       staged = c.put.ensures.staged ∙ c.loop-id.invariant.staged;
       base = base_more c.args.numbers.now c.loop-id.numbers c.put.new.self c.loop-id.invariant.staged c.loop-id.invariant.base c.put.ensures.base;
       room = omega (arith, c.loop-id.invariant.room, c.put.ensures.spare);

@@ -8,7 +8,7 @@ use Rattle.tx_graph.proofs.Standing.{steps_refused}
 use Rattle.tx_graph.proofs.Rooms.{levels_fit}
 use Rattle.tx_graph.specs.Kept.{Kept}
 use Rattle.levels.specs.Levels.{Levels}
-use Rattle.tx_graph.proofs.Unchanged.{is_closed}
+use Rattle.lists.proofs.Cases.{none_of}
 use Rattle.tx_graph.proofs.graph.TxGraph.stage.Goals as goal
 
 pub returns-then-is_staged-clause-step : goal.returns-then-is_staged-clause-step
@@ -42,4 +42,4 @@ pub returns-clause-additions : goal.returns-clause-additions
 returns-clause-additions g c = ap (λ (l : Levels). l.issued) c.stage.ensures ∙ ap (λ (k : Kept). k.levels.issued) c.self.view_is
 
 pub stage-requires : goal.stage-requires
-stage-requires g c = (levels_fit g.row.W assumption, is_closed c.self.inside.levels.staging (sym c.is_staged.ensures ∙ c.if-is_staged.false))
+stage-requires g c = (levels_fit g.row.W assumption, none_of c.self.inside.levels.staging (sym c.is_staged.ensures ∙ c.if-is_staged.false))
