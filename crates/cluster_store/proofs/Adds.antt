@@ -1,33 +1,17 @@
 -- One cluster more under a number of its own.
-use Rattle.std.proofs.Common.{false, true, zero, suc, ◌≡◌, ℕ, ◌+◌, ◌<◌, ◌≤◌, List, [], ◌∷◌, ◌++◌, length, get_or, Option, None, Some, is_some, IsSome, Contains, inl, inr, ◌⊎◌, refl, sym, ap, ◌∙◌, subst, arith}
-use Rattle.std.proofs.lemmas.Bool.{cases_lt, cases_eq}
-use Rattle.std.proofs.lemmas.List.{length_push, get_or_append_left, get_or_push}
-use Rattle.std.proofs.lemmas.List.Elements.{Contains-append_left, Contains-push, Contains-push_cases}
-use Rattle.std.proofs.lemmas.Option.{none-some, same_Some, slice_get_cases, slice_get-get_or, slice_get_within}
+use Rattle.std.proofs.Common.{zero, suc, ◌≡◌, ℕ, ◌+◌, ◌<◌, ◌≤◌, List, [], ◌∷◌, ◌++◌, length, get_or, None, Some, is_some, IsSome, Contains, inl, inr, ◌⊎◌, refl, sym, ap, ◌∙◌, subst, arith}
+use Rattle.std.proofs.lemmas.Bool.{cases_lt}
+use Rattle.std.proofs.lemmas.List.{length_push, get_or_append_left, get_or_push, get_or_default, map-id}
+use Rattle.std.proofs.lemmas.List.Elements.{Contains-append_left, Contains-push, Contains-push_cases, Contains-get_or}
+use Rattle.std.proofs.lemmas.Option.{none-some, slice_get_cases, slice_get_within}
 use Rattle.std.specs.List.{slice_get, slice_index}
 use Rattle.lists.proofs.Distinct.{distinct_push}
-use Rattle.lists.proofs.Entries.{Contains-head, Contains-later, Contains-cases, none_in_empty}
+use Rattle.lists.proofs.Told.{told_number}
+use Rattle.lists.proofs.Entries.{none_in_empty}
 use Rattle.cluster_store.specs.Stores.{Stored}
 use Rattle.cluster_store.specs.Kept.{Slots, at}
 use Rattle.cluster_store.specs.Slots.{AreStored, AreOut, AddsTo, AddsOne}
-use Rattle.cluster_store.proofs.Done.{map_same}
-
--- a number is in a list or not
-pub decide_in : (xs : List ℕ) (n : ℕ) → Contains xs n ⊎ (Contains xs n → ⊥)
-decide_in [] n = inr (none_in_empty n)
-decide_in (x ∷ xs) n = elim (cases_eq x n) [
-  | inl same ↦ inl (subst (Contains (x ∷ xs)) same (Contains-head x xs))
-  | inr other ↦ elim (decide_in xs n) [
-    | inl later ↦ inl (Contains-later x n xs later)
-    | inr none ↦ inr (λ here. elim (Contains-cases x n xs here) [ inl same ↦ other same | inr later ↦ none later ])
-  ]
-]
-
-pub any_default : (xs : List ℕ) (i d e : ℕ) → i < length xs → get_or xs i d ≡ get_or xs i e
-any_default xs i d e below = same_Some (get_or xs i d) (get_or xs i e) (sym (slice_get-get_or xs i d below) ∙ slice_get-get_or xs i e below)
-
-pub listed_at : (xs : List ℕ) (i : ℕ) → i < length xs → Contains xs (slice_index xs i)
-listed_at xs i below = (i, below, any_default xs i (slice_index xs i) 0 below)
+use Rattle.cluster_store.proofs.Missing.{none_there}
 
 pub adds_none : (old : Slots) (numbers : List ℕ) → numbers ≡ [] → AddsTo [] numbers old old
 adds_none old numbers none = subst (λ (ns : List ℕ). AddsTo [] ns old old) (sym none) (record {
@@ -45,7 +29,7 @@ module _ (added : List Stored) (numbers : List ℕ) (old cur : Slots) (adds : Ad
       by : ((s : Stored) × (here.0 < length added) × (slice_get added here.0 ≡ Some s) × (get_or added here.0 s ≡ s))
           ⊎ ((length added ≤ here.0) × (slice_get added here.0 ≡ None))
           → IsSome (at cur n)
-      by (inl some) = ap is_some (ap (at cur) (sym (any_default numbers here.0 0 n here.1 ∙ here.2)) ∙ adds.stand here.0 some.0 some.2)
+      by (inl some) = ap is_some (ap (at cur) (sym (get_or_default numbers here.0 0 n here.1 ∙ here.2)) ∙ adds.stand here.0 some.0 some.2)
       by (inr none) = absurd (omega (arith, adds.count, here.1, none.0))
 
   pub adds_stored : AreStored numbers cur
@@ -62,27 +46,20 @@ module _ (added : List Stored) (numbers : List ℕ) (old cur : Slots) (adds : Ad
 
   -- taken out again
   pub adds_undone : (new : Slots) → AreOut numbers cur new → (n : ℕ) → at new n ≡ at old n
-  adds_undone new out n = elim (decide_in numbers n) [
+  adds_undone new out n = elim (told_number numbers n) [
     | inl here ↦ out.each n here ∙ sym (adds.free n here)
-    | inr none ↦ out.others n (λ here. none (subst (λ (ns : List ℕ). Contains ns n) (map_same numbers) here)) ∙ adds.others n none
+    | inr none ↦ out.others n (λ here. none (subst (λ (ns : List ℕ). Contains ns n) (map-id numbers) here)) ∙ adds.others n none
   ]
 
   module _ (s : Stored) (after : List ℕ) (new : Slots) (one : AddsOne s numbers after cur new) where
     fresh_number : Contains numbers one.number → ⊥
-    fresh_number here = no_some (at cur one.number) one.free (adds_there one.number here)
-      where
-        no_some : (o : Option Stored) → o ≡ None → IsSome o → ⊥
-        no_some None is some = apart some
-          where
-            apart : false ≡ true → ⊥
-            apart e = cc
-        no_some (Some t) is some = none-some t (sym is)
+    fresh_number here = none_there one.free (adds_there one.number here)
 
     low_stands : (i : ℕ) (t : Stored) → i < length added → slice_get added i ≡ Some t → at new (slice_index (numbers ++ one.number ∷ []) i) ≡ Some t
     low_stands i t below is =
         let there : i < length numbers = omega (arith, adds.count) in
         ap (at new) (get_or_append_left numbers (one.number ∷ []) 0 i there)
-        ∙ one.writes.others (slice_index numbers i) (λ e. fresh_number (subst (Contains numbers) e (listed_at numbers i there)))
+        ∙ one.writes.others (slice_index numbers i) (λ e. fresh_number (subst (Contains numbers) e (Contains-get_or numbers i 0 there)))
         ∙ adds.stand i t is
 
     front_get : (xs : List Stored) (i : ℕ) → i < length xs → slice_get (xs ++ s ∷ []) i ≡ slice_get xs i

@@ -1,21 +1,21 @@
 -- Which of two parts walks show first, and where the parts and the names of a cluster stand among those of a level.
-use Rattle.std.proofs.Common.{◌≡◌, ◌↔◌, ◌⊎◌, ℕ, ◌+◌, ◌<◌, Bool, true, cond, List, ◌++◌, ◌∷◌, map, flat_map, length, get_or, Contains, Option, arith, inl, inr, sym, ap, ap₂, ◌∙◌, subst}
-use Rattle.std.proofs.lemmas.List.{map-append, append_assoc}
-use Rattle.std.proofs.lemmas.List.Elements.{Contains-append_cases, Contains-append_left, Contains-append_right, filter-append}
+use Rattle.std.proofs.Common.{◌≡◌, ◌↔◌, ◌⊎◌, ℕ, ◌+◌, ◌<◌, Bool, true, List, ◌++◌, ◌∷◌, map, flat_map, length, get_or, Contains, Option, arith, inl, inr, sym, ap, ap₂, ◌∙◌, subst}
+use Rattle.std.proofs.lemmas.List.{append_assoc}
+use Rattle.std.proofs.lemmas.List.Elements.{Contains-append_cases, Contains-append_left, Contains-append_right}
 use Rattle.std.proofs.lemmas.List.Folds.{flat_map-map}
 use Rattle.std.proofs.lemmas.Option.{get_or_from_slice_get, slice_get_within}
 use Rattle.std.proofs.lemmas.Simd.{map-map}
 use Rattle.std.specs.declared.cmp.Ordering.TheVariants.{Less}
-use Rattle.std.specs.List.{filter, slice_index_or}
+use Rattle.std.specs.List.{slice_index_or}
 use Rattle.std.specs.FinMap as finmap
 use Rattle.lists.proofs.Entries.{Contains-head, Contains-cases, Contains-filter, Contains-map, Contains-splits}
+use Rattle.graphs.proofs.MergeLemmas.{precedes_filter, flat_stands, stands_within, stands_apart}
 use Rattle.graphs.specs.declared.names.Level.{Level}
 use Rattle.graphs.specs.Certificates.{Part}
 use Rattle.graphs.specs.Linearizations.{StandsBefore}
 use Rattle.graphs.specs.Merges.{Precedes}
 use Rattle.graphs.specs.Rates.{Falls}
 use Rattle.graphs.proofs.ClosureGraphs.{closures_have_graphs}
-use Rattle.graphs.proofs.MergeLemmas.{flat_stands, stands_within, stands_apart}
 use Rattle.chunk_index.specs.declared.key.Key.{Key}
 use Rattle.chunk_index.specs.Items.{Items, is_in}
 use Rattle.chunk_index.specs.KeyOrder.{key_cmp}
@@ -51,17 +51,6 @@ module _ (slots : Slots) (items : Items) (shown : IsShown slots items) (x y : �
       )
 
 -- ---- the names of a level
-
-precedes_filter : {A : Type 0} (f : A → Bool) (xs : List A) (x y : A) → f x ≡ true → f y ≡ true → Precedes xs x y → Precedes (filter f xs) x y
-precedes_filter {A} f xs x y x_kept y_kept before = (
-  filter f before.0,
-  filter f before.1,
-  ap (filter f) before.2 ∙ filter-append f before.0 (y ∷ before.1) ∙ ap (λ b. filter f before.0 ++ cond b (y ∷ filter f before.1) (filter f before.1)) y_kept,
-  Contains-filter f before.0 x x_kept before.3,
-)
-
-precedes_map : {A B : Type 0} (f : A → B) (xs : List A) (x y : A) → Precedes xs x y → Precedes (map f xs) (f x) (f y)
-precedes_map f xs x y before = (map f before.0, map f before.1, ap (map f) before.2 ∙ map-append f before.0 (y ∷ before.1), Contains-map f before.0 x before.3)
 
 -- of two entries one stands before the other, or they are the same
 pub either_way : {A : Type 0} (xs : List A) (x y : A) → Contains xs x → Contains xs y → (x ≡ y) ⊎ (Precedes xs x y ⊎ Precedes xs y x)

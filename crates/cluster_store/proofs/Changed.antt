@@ -1,11 +1,13 @@
 -- A whole change of the slots.
-use Rattle.std.proofs.Common.{false, true, ◌≡◌, ℕ, ◌*◌, ◌<◌, ◌≤◌, length, get_or, List, [], ◌∷◌, map, min, Option, Some, None, is_some, IsSome, Contains, inl, inr, ◌⊎◌, sym, ap, ◌∙◌, subst, arith}
+use Rattle.std.proofs.Common.{◌≡◌, ℕ, ◌*◌, ◌<◌, ◌≤◌, length, get_or, List, [], ◌∷◌, map, min, Option, Some, None, is_some, IsSome, Contains, inl, inr, ◌⊎◌, sym, ap, ◌∙◌, subst, arith}
 use Rattle.std.proofs.lemmas.Option.{none-some, same_Some, slice_get_cases, slice_get_within}
-use Rattle.std.proofs.lemmas.List.Elements.{Contains-append_left, Contains-append_right, Contains-append_cases}
+use Rattle.std.proofs.lemmas.List.Elements.{Contains-append_left, Contains-append_right, Contains-append_cases, Contains-get_or}
 use Rattle.std.specs.List.{slice_get, slice_index}
 use Rattle.std.specs.FinMap as finmap
 use Rattle.lists.proofs.Distinct.{distinct-append_left, distinct-append_right, distinct_apart}
 use Rattle.lists.proofs.Entries.{map-Contains, Contains-map, Contains-cases, none_in_empty}
+use Rattle.lists.proofs.Told.{told_number}
+use Rattle.std.proofs.lemmas.List.{get_or_default}
 use Rattle.graphs.specs.Closures.{rate_of}
 use Rattle.chunk_index.specs.Items.{Items}
 use Rattle.cluster.specs.Clusters.{Cluster, IsCluster}
@@ -14,7 +16,7 @@ use Rattle.cluster_store.specs.Stores.{Stored, Exchange, Store, Numbered, IsOrde
 use Rattle.cluster_store.specs.Changes.{moved_to, with_cluster, changing, lowest, lowest_in, MakesChange, AreThere}
 use Rattle.cluster_store.specs.Slots.{AreStored, AddsTo, ExchangesAll, MovesAll}
 use Rattle.cluster_store.specs.Kept.{Slots, at, shelved, place_of, IsShown, IsKept}
-use Rattle.cluster_store.proofs.Adds.{decide_in, listed_at, any_default}
+use Rattle.cluster_store.proofs.Missing.{none_there}
 use Rattle.cluster_store.proofs.Kept.{moved_cluster}
 use Rattle.cluster_store.proofs.Shelves.{get_shelved, same_shelved}
 use Rattle.cluster_store.proofs.Unique.{one_order}
@@ -47,14 +49,7 @@ store_same slots slots' items items' least shown shown' same =
 
 module _ (added : List Stored) (numbers : List ℕ) (old cur : Slots) (adds : AddsTo added numbers old cur) where
   pub not_added : (n : ℕ) → IsSome (at old n) → Contains numbers n → ⊥
-  not_added n there here = no_some (at old n) (adds.free n here) there
-    where
-      no_some : (o : Option Stored) → o ≡ None → IsSome o → ⊥
-      no_some None is some = apart some
-        where
-          apart : false ≡ true → ⊥
-          apart e = cc
-      no_some (Some t) is some = none-some t (sym is)
+  not_added n there here = none_there (adds.free n here) there
 
   pub added_keeps : (n : ℕ) → IsSome (at old n) → at cur n ≡ at old n
   added_keeps n there = adds.others n (not_added n there)
@@ -117,7 +112,7 @@ module _ (exchanged : List Exchange) (moves : List Move) (old : Slots) (clusters
             ∙ adds.others n new_one
 
         listed_number : (i : ℕ) (s : Stored) → slice_get added i ≡ Some s → Contains numbers (slice_index numbers i)
-        listed_number i s here = listed_at numbers i (omega (arith, adds.count, slice_get_within added i s here))
+        listed_number i s here = Contains-get_or numbers i 0 (omega (arith, adds.count, slice_get_within added i s here))
 
         pub makes_change : (after : Numbered) → shelved new ≡ after → MakesChange exchanged added moves numbers clusters after
         makes_change after is' = subst (λ (m : Numbered). MakesChange exchanged added moves numbers m after) is
@@ -137,9 +132,9 @@ module _ (exchanged : List Exchange) (moves : List Move) (old : Slots) (clusters
         -- what stands there came with the change, or stood there
         pub origin : (P : Cluster → Type 0) → ((x : Exchange) → Contains exchanged x → P x.cluster) → ((a : Stored) → Contains added a → P a.cluster)
             → ((n : ℕ) (t : Stored) → at old n ≡ Some t → P t.cluster) → (n : ℕ) (s : Stored) → at new n ≡ Some s → P s.cluster
-        origin P of_exchanged of_added of_old n s here = elim (decide_in numbers n) [
+        origin P of_exchanged of_added of_old n s here = elim (told_number numbers n) [
           | inl listed ↦ added_from listed (slice_get_cases added listed.0).1
-          | inr not_listed ↦ elim (decide_in (changing exchanged moves) n) [
+          | inr not_listed ↦ elim (told_number (changing exchanged moves) n) [
             | inr stays ↦ of_old n s (sym (others_now n not_listed stays) ∙ here)
             | inl changes ↦ elim (Contains-append_cases (map (λ (x : Exchange). x.number) exchanged) (map (λ (m : Move). m.number) moves) n changes) [
               | inl x_listed ↦
@@ -157,7 +152,7 @@ module _ (exchanged : List Exchange) (moves : List Move) (old : Slots) (clusters
                 → ((a : Stored) × (listed.0 < length added) × (slice_get added listed.0 ≡ Some a) × (get_or added listed.0 a ≡ a))
                 ⊎ ((length added ≤ listed.0) × (slice_get added listed.0 ≡ None)) → P s.cluster
             added_from listed (inl some) =
-                let number : slice_index numbers listed.0 ≡ n = any_default numbers listed.0 0 n listed.1 ∙ listed.2 in
+                let number : slice_index numbers listed.0 ≡ n = get_or_default numbers listed.0 0 n listed.1 ∙ listed.2 in
                 let is : s ≡ some.0 = same_Some s some.0 (sym here ∙ added_now n listed ∙ ap (at cur) (sym number) ∙ adds.stand listed.0 some.0 some.2) in
                 subst (λ (t : Stored). P t.cluster) (sym is) (of_added some.0 (listed.0, some.1, some.3))
             added_from listed (inr none) = absurd (omega (arith, adds.count, listed.1, none.0))

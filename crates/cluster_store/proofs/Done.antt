@@ -2,7 +2,7 @@
 use Rattle.std.proofs.Common.{false, true, ◌<◌, ◌↔◌, length, suc, get_or, take, drop, arith, ◌≡◌, ℕ, List, [], ◌∷◌, ◌++◌, map, Option, None, Some, IsSome, is_some, Contains, inl, inr, refl, sym, ap, ◌∙◌, subst, append_assoc}
 use Rattle.std.proofs.lemmas.Bool.{cases_eq}
 use Rattle.std.proofs.Math.Seq.{take-suc}
-use Rattle.std.proofs.lemmas.List.{map-append, append-nil, take-append-drop}
+use Rattle.std.proofs.lemmas.List.{map-append, append-nil, take-append-drop, map-id}
 use Rattle.std.proofs.lemmas.List.Elements.{Contains-append_left, Contains-push}
 use Rattle.lists.specs.Distinct.{AreDistinct}
 use Rattle.lists.proofs.Distinct.{distinct-append_left, distinct_apart}
@@ -105,12 +105,8 @@ stored_part number xs ys all slots split stored =
       there = λ m here. stored.there m (subst (λ (ns : List ℕ). Contains ns m) (sym whole) (Contains-append_left (map number xs) (map number ys) m here));
     }
 
-pub map_same : (xs : List ℕ) → map (λ n. n) xs ≡ xs
-map_same [] = refl
-map_same (x ∷ xs) = ap (λ (ns : List ℕ). x ∷ ns) (map_same xs)
-
 pub stored_same : (numbers : List ℕ) (slots : Slots) → AreStored numbers slots → AreStored (map (λ n. n) numbers) slots
-stored_same numbers slots stored = subst (λ (ns : List ℕ). AreStored ns slots) (sym (map_same numbers)) stored
+stored_same numbers slots stored = subst (λ (ns : List ℕ). AreStored ns slots) (sym (map-id numbers)) stored
 
 pub no_items : {X : Type 0} (xs : List X) → length xs ≡ 0 → xs ≡ []
 no_items [] none = refl

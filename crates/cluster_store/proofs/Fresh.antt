@@ -1,9 +1,10 @@
 -- Which keys are fresh, position by position.
 use Rattle.std.proofs.Common.{◌≡◌, ℕ, ℤ, zero, suc, ◌+◌, ◌<◌, ◌≤◌, Bool, true, false, not, ◌&&◌, ◌||◌, List, [], ◌∷◌, take, nat_eq, Some, None, inl, inr, refl, sym, ap, ◌∙◌, arith}
-use Rattle.std.proofs.lemmas.Bool.{cases_eq, cases_lt, false_from_ne_true}
+use Rattle.std.proofs.lemmas.Bool.{cases_eq, cases_lt, false_from_ne_true, and_parts}
 use Rattle.std.specs.List.{slice_get}
 use Rattle.std.specs.Ordering.{int_eq}
 use Rattle.std.specs.Cmp.{signed_Decides, unsigned_Decides}
+use Rattle.lists.proofs.Cases.{or_false}
 use Rattle.graphs.specs.Certificates.{Part}
 use Rattle.chunk_index.specs.declared.key.Key.{Key}
 use Rattle.cluster_store.specs.Keys.{key_part}
@@ -24,13 +25,6 @@ take_past (x ∷ ps) zero p past = refl
 take_past (x ∷ ps) (suc j) zero past = absurd (omega arith)
 take_past (x ∷ ps) (suc j) (suc p) past = take_past ps j p (omega arith)
 
-pub both_true : (a b : Bool) → (a && b) ≡ true → (a ≡ true) × (b ≡ true)
-both_true true b e = (refl, e)
-both_true false b e = absurd (apart e)
-  where
-    apart : false ≡ true → ⊥
-    apart e = cc
-
 -- the key of a part has its rate, and no other key under its number and position does
 pub rate_here : (part : Part) → is_rate (record { fee = part.rate.fee; size = part.rate.size }) (Some part) ≡ true
 rate_here part =
@@ -44,7 +38,7 @@ pub key_here : (number position : ℕ) (part : Part) (k : Key) → k.serial ≡ 
     → k.position ≡ position → is_rate k.rate (Some part) ≡ true → key_part number position part ≡ k
 unfolding of_fields
 key_here number position part k serial at is =
-    let both = both_true (int_eq part.rate.fee k.rate.fee) (nat_eq part.rate.size k.rate.size) is in
+    let both = and_parts (int_eq part.rate.fee k.rate.fee) (nat_eq part.rate.size k.rate.size) is in
     let fee : part.rate.fee ≡ k.rate.fee = (signed_Decides part.rate.fee k.rate.fee).0 both.0 in
     let size : part.rate.size ≡ k.rate.size = (unsigned_Decides part.rate.size k.rate.size).0 both.1 in
     let same : of_fields part.rate.fee part.rate.size number position ≡ of_fields k.rate.fee k.rate.size k.serial k.position =
@@ -67,10 +61,6 @@ has_rate-more n i ps part k here serial = elim (cases_eq k.position i) [
       ap (is_rate k.rate) more ∙ rw apart (sym (or_false (is_rate k.rate (slice_get (take i ps) k.position))))
 ]
   where
-    or_false : (b : Bool) → (b || false) ≡ b
-    or_false true = refl
-    or_false false = refl
-
     around : (p : ℕ) → (p ≡ i → ⊥) → slice_get (take (i + 1) ps) p ≡ slice_get (take i ps) p
     around p other = elim (cases_lt p i) [
       | inl low ↦ take_below ps (i + 1) p (omega arith) ∙ sym (take_below ps i p low)

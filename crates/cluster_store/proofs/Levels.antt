@@ -1,14 +1,14 @@
 -- The parts of a level, merged, are a pick of a graph that is made of graphs with the closures of its clusters.
-use Rattle.std.proofs.Common.{◌≡◌, ℕ, ◌+◌, ◌<◌, ◌≤◌, Bool, true, false, ◌&&◌, List, [], ◌∷◌, map, flat_map, length, get_or, sum_by, nat_lt, Option, Some, None, Contains, inl, inr, refl, sym, ap, ◌∙◌, subst, arith}
+use Rattle.std.proofs.Common.{◌≡◌, ℕ, ◌+◌, ◌<◌, ◌≤◌, Bool, true, false, ◌&&◌, List, [], ◌∷◌, map, length, get_or, sum_by, nat_lt, Option, Some, None, Contains, refl, sym, ap, ◌∙◌, subst, arith}
 use Rattle.std.proofs.lemmas.Bool.Decides.{nat_tests}
-use Rattle.std.proofs.lemmas.Option.{slice_get-get_or, get_or_from_slice_get}
 use Rattle.std.proofs.lemmas.List.Sums.{sum_by-cons}
-use Rattle.std.proofs.lemmas.List.Concat.{flat_map-cons}
-use Rattle.std.proofs.lemmas.List.Elements.{Contains-append_left, Contains-append_right}
+use Rattle.std.proofs.lemmas.List.Elements.{Contains-get_or}
 use Rattle.std.specs.declared.cmp.Ordering.TheVariants.{Less}
 use Rattle.std.specs.Ordering.{is_lt}
 use Rattle.std.specs.FinMap as finmap
-use Rattle.lists.proofs.Entries.{Contains-head, Contains-later, Contains-cases, none_in_empty, Contains-filter, filter-Contains, map-Contains, Contains-map}
+use Rattle.lists.proofs.Entries.{Contains-head, Contains-later, Contains-filter, filter-Contains, map-Contains, Contains-map}
+use Rattle.std.proofs.lemmas.Bool.{and_parts}
+use Rattle.lists.proofs.Flats.{flat_has}
 use Rattle.fee_rate.specs.declared.rates.Sum.{Sum}
 use Rattle.fee_rate.specs.Rates.{AtMost}
 use Rattle.graphs.specs.Graphs.{Graph, IsGraph}
@@ -26,8 +26,8 @@ use Rattle.chunk_index.specs.Items.{is_in}
 use Rattle.cluster.specs.Clusters.{Cluster, IsCluster, sum_at}
 use Rattle.cluster_store.specs.Stores.{Stored, Numbered, Store, Shown, IsOrdered, no_part, parts_in, part_at, key_at, passes, places_by, places_in, shown_at, parts_of_level}
 use Rattle.cluster_store.specs.Laws.{Stands}
-use Rattle.cluster_store.proofs.Fresh.{both_true}
-use Rattle.cluster_store.proofs.Sorted.{less_of, filter_in_order}
+use Rattle.chunk_index.proofs.Lists.{filter_in_order}
+use Rattle.cluster_store.proofs.Sorted.{less_of}
 use Rattle.cluster_store.proofs.Unique.{both_before, behind_first, rest_order}
 use Rattle.cluster_store.proofs.Rates.{before_rates, places_from, places_listed, listed_places, places_parts, places_in_order}
 
@@ -51,17 +51,17 @@ size_real n e = grind (arith, nat_tests)
 module _ (clusters : Numbered) where
   pub before_less : (x y : ℕ × ℕ) → comes_before clusters x y ≡ true → key_cmp (key_at clusters x) (key_at clusters y) ≡ Less
   before_less x y e =
-      let rest = (both_true (is_real clusters x) (is_real clusters y && is_lt (key_cmp (key_at clusters x) (key_at clusters y))) e).1 in
+      let rest = (and_parts (is_real clusters x) (is_real clusters y && is_lt (key_cmp (key_at clusters x) (key_at clusters y))) e).1 in
       less_of (key_cmp (key_at clusters x) (key_at clusters y))
-      (both_true (is_real clusters y) (is_lt (key_cmp (key_at clusters x) (key_at clusters y))) rest).1
+      (and_parts (is_real clusters y) (is_lt (key_cmp (key_at clusters x) (key_at clusters y))) rest).1
 
   pub never_both : (x y : ℕ × ℕ) → comes_before clusters x y ≡ true → comes_before clusters y x ≡ true → ⊥
   never_both x y a b = both_before (key_at clusters) x y (before_less x y a) (before_less y x b)
 
   pub before_falls : (x y : ℕ × ℕ) → comes_before clusters x y ≡ true → AtMost (part_at clusters y).rate (part_at clusters x).rate
   before_falls x y e =
-      let first = both_true (is_real clusters x) (is_real clusters y && is_lt (key_cmp (key_at clusters x) (key_at clusters y))) e in
-      let second = both_true (is_real clusters y) (is_lt (key_cmp (key_at clusters x) (key_at clusters y))) first.1 in
+      let first = and_parts (is_real clusters x) (is_real clusters y && is_lt (key_cmp (key_at clusters x) (key_at clusters y))) e in
+      let second = and_parts (is_real clusters y) (is_lt (key_cmp (key_at clusters x) (key_at clusters y))) first.1 in
       record {
         crossed = before_rates (key_at clusters x) (key_at clusters y) (before_less x y e) (real_size (part_at clusters x).rate.size first.0)
             (real_size (part_at clusters y).rate.size second.0);
@@ -81,17 +81,6 @@ module _ (clusters : Numbered) where
 
 -- ---- one cluster
 
-in_part : (parts : List Part) (p : Part) (id : ℕ) → Contains parts p → Contains p.ids id → Contains (flat_map (λ part. part.ids) parts) id
-in_part [] p id here listed = absurd (none_in_empty p here)
-in_part (q ∷ parts) p id here listed = elim (Contains-cases q p parts here) [
-  | inl same ↦
-      subst (λ (xs : List ℕ). Contains xs id) (sym (flat_map-cons (λ (part : Part). part.ids) q parts))
-      (Contains-append_left q.ids (flat_map (λ (part : Part). part.ids) parts) id (subst (λ (r : Part). Contains r.ids id) (sym same) listed))
-  | inr later ↦
-      subst (λ (xs : List ℕ). Contains xs id) (sym (flat_map-cons (λ (part : Part). part.ids) q parts))
-      (Contains-append_right q.ids (flat_map (λ (part : Part). part.ids) parts) id (in_part parts p id later listed))
-]
-
 some_name : (ids : List ℕ) → (ids ≡ [] → ⊥) → (f : ℕ → ℕ) → ((id : ℕ) → Contains ids id → 1 ≤ f id) → 1 ≤ sum_by f ids
 some_name [] some f sizes = absurd (some refl)
 some_name (id ∷ ids) some f sizes =
@@ -105,7 +94,7 @@ module _ (most : ℕ) (c : Cluster) (is : IsCluster most c) (graph : Graph) (clo
   part_sizes p here =
       let total : p.rate ≡ sums (sum_at c.graph) p.ids = own.certificate.falling.summed p here in
       let some = some_name p.ids (own.certificate.filled p here) (λ id. (sum_at c.graph id).size) (λ id listed.
-      (is.rates id ((closes.names id).0 ((own.certificate.order.topological.names id).0 (in_part c.parts p id here listed)))).some) in
+      (is.rates id ((closes.names id).0 ((own.certificate.order.topological.names id).0 (flat_has (λ (q : Part). q.ids) c.parts p id here listed)))).some) in
       let size : p.rate.size ≡ sum_by (λ id. (sum_at c.graph id).size) p.ids = ap (λ (s : Sum). s.size) total in
       omega (arith, some, size)
 
@@ -128,9 +117,6 @@ pub record AreGraphs (level : Level) (clusters : Numbered) (rate : ℕ → Sum) 
   pub stand : (g : Graph × ℕ) → Contains graphs g
       → (c : Cluster) × Stands level clusters g.1 c × IsClosureOf c.graph g.0 × ((id : ℕ) → Contains c.names id → sum_at c.graph id ≡ rate id)
   pub all : (number : ℕ) (c : Cluster) → Stands level clusters number c → (g : Graph) × Contains graphs (g, number)
-
-listed : (ps : List Part) (i : ℕ) → i < length ps → Contains ps (get_or ps i no_part)
-listed ps i low = (i, low, get_or_from_slice_get ps i (get_or ps i no_part) (get_or ps i no_part) (slice_get-get_or ps i no_part low))
 
 fused : (clusters : Numbered) (ks : List (ℕ × ℕ)) → map (λ (s : Shown). s.part) (map (shown_at clusters) ks) ≡ map (part_at clusters) ks
 fused clusters [] = refl
@@ -167,7 +153,7 @@ module _ (most : ℕ) (store : Store) (level : Level) (rate : ℕ → Sum) (grap
     own_real x number low =
         size_real (part_at store.clusters x).rate.size
         (subst (λ n. 1 ≤ (part_at store.clusters (n, x.1)).rate.size) (sym number)
-        (own_sizes (get_or (parts_in (finmap.get store.clusters g.1)) x.1 no_part) (listed (parts_in (finmap.get store.clusters g.1)) x.1 low)))
+        (own_sizes (get_or (parts_in (finmap.get store.clusters g.1)) x.1 no_part) (Contains-get_or (parts_in (finmap.get store.clusters g.1)) x.1 no_part low)))
 
     own_sorted : IsSorted (comes_before store.clusters) (component g).1
     unfolding component

@@ -1,8 +1,8 @@
 -- Lists with each entry once.
-use Rattle.std.proofs.Common.{◌≡◌, ◌↔◌, ℕ, List, [], ◌∷◌, Contains, inl, inr, ◌⊎◌, ap, subst}
-use Rattle.std.proofs.lemmas.Bool.{cases_eq}
+use Rattle.std.proofs.Common.{◌≡◌, ◌↔◌, List, [], ◌∷◌, Contains, inl, inr, ◌⊎◌, subst}
 use Rattle.lists.specs.Distinct.{AreDistinct}
-use Rattle.lists.proofs.Entries.{Contains-head, Contains-later, Contains-cases, none_in_empty}
+use Rattle.lists.proofs.Entries.{Contains-head, Contains-later, Contains-cases}
+use Rattle.lists.proofs.Told.{told_in}
 
 -- the entries of a list, each once
 pub record IsOnce {A : Type 0} (xs list : List A) : Type 0 where
@@ -10,16 +10,6 @@ pub record IsOnce {A : Type 0} (xs list : List A) : Type 0 where
   pub same : (x : A) → Contains list x ↔ Contains xs x
 
 module _ {A : Type 0} (decide : (x y : A) → (x ≡ y) ⊎ (x ≡ y → ⊥)) where
-  among : (xs : List A) (x : A) → Contains xs x ⊎ (Contains xs x → ⊥)
-  among [] x = inr (none_in_empty x)
-  among (y ∷ xs) x = elim (decide y x) [
-    | inl same ↦ inl (subst (Contains (y ∷ xs)) same (Contains-head y xs))
-    | inr other ↦ elim (among xs x) [
-      | inl later ↦ inl (Contains-later y x xs later)
-      | inr none ↦ inr (λ here. elim (Contains-cases y x xs here) [ inl same ↦ other same | inr later ↦ none later ])
-    ]
-  ]
-
   one_more : (x : A) (xs list : List A) → IsOnce xs list → Contains list x ⊎ (Contains list x → ⊥) → (more : List A) × IsOnce (x ∷ xs) more
   one_more x xs list is (inl there) = (
     list,
@@ -50,13 +40,4 @@ module _ {A : Type 0} (decide : (x y : A) → (x ≡ y) ⊎ (x ≡ y → ⊥)) w
 
   pub listed_once : (xs : List A) → (list : List A) × IsOnce xs list
   listed_once [] = ([], record { once = tt; same = λ y. ((λ h. h), (λ h. h)) })
-  listed_once (x ∷ xs) = let rest = listed_once xs in one_more x xs rest.0 rest.1 (among rest.0 x)
-
-pub decide_pair : (p q : ℕ × ℕ) → (p ≡ q) ⊎ (p ≡ q → ⊥)
-decide_pair p q = elim (cases_eq p.0 q.0) [
-  | inr other ↦ inr (λ e. other (ap (λ (r : ℕ × ℕ). r.0) e))
-  | inl first ↦ elim (cases_eq p.1 q.1) [
-    | inr other ↦ inr (λ e. other (ap (λ (r : ℕ × ℕ). r.1) e))
-    | inl second ↦ inl (λ i. (first i, second i))
-  ]
-]
+  listed_once (x ∷ xs) = let rest = listed_once xs in one_more x xs rest.0 rest.1 (told_in decide rest.0 x)

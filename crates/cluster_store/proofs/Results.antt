@@ -1,5 +1,5 @@
 -- Equal things for equal things.
-use Rattle.std.proofs.Common.{◌≡◌, ℕ, List, true, OnOk, OnErr, Ok, Err, subst}
+use Rattle.std.proofs.Common.{◌≡◌, ℕ, List, true, OnOk, Ok, Err, subst}
 use Rattle.std.specs.declared.result.Result.{Result}
 use Rattle.graphs.specs.Certificates.{Part}
 use Rattle.chunk_index.specs.declared.entry.Tag.{Tag}
@@ -10,10 +10,6 @@ use Rattle.cluster_store.specs.Kept.{fresh, Enters, Leaves}
 pub on_ok : {X E : Type 0} {P Q : Type 0} (r : Result X E) → OnOk r P → (P → Q) → OnOk r Q
 on_ok (Ok x) h f = f h
 on_ok (Err e) h f = tt
-
-pub on_err : {X E : Type 0} {Q : Type 0} (r : Result X E) → Q → OnErr r Q
-on_err (Ok x) q = tt
-on_err (Err e) q = q
 
 pub fresh_same : (n m : ℕ) (ps ps' qs qs' : List Part) (k : Key) → n ≡ m → ps ≡ ps' → qs ≡ qs' → fresh n ps qs k ≡ true → fresh m ps' qs' k ≡ true
 fresh_same n m ps ps' qs qs' k a b c f =

@@ -2,13 +2,14 @@
 use Rattle.std.proofs.Common.{◌≡◌, ℕ, ◌*◌, ◌<◌, Bool, true, false, cond, List, [], ◌∷◌, ◌++◌, map, length, get_or, filter, nat_eq, Option, Some, None, is_some, Contains, inl, inr, refl, sym, ap, ◌∙◌, subst, arith}
 use Rattle.std.proofs.lemmas.Bool.{cases_eq, false_from_ne_true}
 use Rattle.std.proofs.lemmas.List.{append-nil}
-use Rattle.std.proofs.lemmas.List.Elements.{Contains-append_left, Contains-push, Contains-push_cases, filter-append}
+use Rattle.std.proofs.lemmas.List.Elements.{Contains-append_left, Contains-push, Contains-push_cases, filter-append, Contains-get_or}
 use Rattle.std.proofs.lemmas.Option.{none-some, same_Some, slice_get-get_or}
 use Rattle.std.specs.Cmp.{unsigned_Decides}
 use Rattle.std.specs.List.{AllByRecursion, slice_get}
 use Rattle.std.specs.Ordering.{is_eq}
 use Rattle.std.specs.declared.cmp.Ordering.TheVariants.{Less}
 use Rattle.lists.proofs.Entries.{Contains-filter, filter-Contains, map-Contains, Contains-map}
+use Rattle.lists.proofs.Told.{told_number}
 use Rattle.graphs.specs.declared.names.Level.{Level}
 use Rattle.graphs.specs.declared.names.Level.TheVariants.{Main, Top}
 use Rattle.chunk_index.specs.declared.entry.Entry.{Entry}
@@ -27,7 +28,6 @@ use Rattle.cluster_store.specs.Changes.{moved_to, settled_to, settled}
 use Rattle.cluster_store.specs.Slots.{Done, MovesIn, MovesFirsts, HaveParts, firsts, other_tag}
 use Rattle.chunk_index.specs.Settling.{alone}
 use Rattle.cluster_store.specs.Kept.{Slots, at, same_key, found, has_rate, is_rate, tag_for, AreNumbered, IsShown, IsKept}
-use Rattle.cluster_store.proofs.Adds.{decide_in, listed_at}
 use Rattle.cluster_store.proofs.Done.{done_none}
 use Rattle.cluster_store.proofs.Founds.{same_is, same_turned}
 use Rattle.cluster_store.proofs.Fresh.{rate_here}
@@ -50,7 +50,7 @@ module _ (to : Option Tag) where
       (moves : MovesIn cur new x.number to) where
     -- it moved before, or stands as it stood
     moved_once : moved_to to (at cur x.number) ≡ moved_to to (at old x.number)
-    moved_once = elim (decide_in (map (λ (e : Entry). e.number) xs) x.number) [
+    moved_once = elim (told_number (map (λ (e : Entry). e.number) xs) x.number) [
       | inl listed ↦
           let y = map-Contains (λ (e : Entry). e.number) xs x.number listed in
           ap (moved_to to) (ap (at cur) (sym y.2) ∙ done.each y.0 y.1 ∙ ap (λ n. moved_to to (at old n)) y.2) ∙ moved_twice (at old x.number)
@@ -332,7 +332,7 @@ shown_settled stays slots new items items' shown now is = subst (IsShown new) (s
 has_part : (most : ℕ) (c : Cluster) → IsCluster most c → 0 < length c.parts
 has_part most c is =
     let some = is.some in
-    let name = listed_at c.names 0 (omega (arith, some)) in
+    let name = Contains-get_or c.names 0 0 (omega (arith, some)) in
     let part = in_a_part c.parts _ (in_order most c is _ name) in
     omega (arith, part.1.1)
 

@@ -1,6 +1,6 @@
 -- Which tags the index has under the keys of a number, where what is stored there changes.
 use Rattle.std.proofs.Common.{◌≡◌, ◌≢◌, ℕ, Bool, true, false, cond, not, ◌&&◌, List, [], Option, Some, None, nat_eq, inl, inr, refl, sym, ap, ◌∙◌}
-use Rattle.std.proofs.lemmas.Bool.{cases_eq, false_from_ne_true}
+use Rattle.std.proofs.lemmas.Bool.{cases_eq, false_from_ne_true, and_parts}
 use Rattle.std.specs.Cmp.{unsigned_Decides}
 use Rattle.graphs.specs.Certificates.{Part}
 use Rattle.chunk_index.specs.declared.entry.Tag.{Tag}
@@ -8,18 +8,17 @@ use Rattle.chunk_index.specs.declared.key.Key.{Key}
 use Rattle.chunk_index.specs.Items.{Items}
 use Rattle.cluster_store.specs.Stores.{Stored}
 use Rattle.cluster_store.specs.Kept.{Slots, at, found, has_rate, tag_for, fresh, IsShown, Enters, Leaves}
-use Rattle.cluster_store.proofs.Fresh.{both_true}
 
 -- ---- by the number of a key
 
 pub fresh_serial : (n : ℕ) (ps qs : List Part) (k : Key) → fresh n ps qs k ≡ true → k.serial ≡ n
 unfolding fresh
-fresh_serial n ps qs k f = (unsigned_Decides k.serial n).0 (both_true (nat_eq k.serial n) (has_rate ps k && not (has_rate qs k)) f).0
+fresh_serial n ps qs k f = (unsigned_Decides k.serial n).0 (and_parts (nat_eq k.serial n) (has_rate ps k && not (has_rate qs k)) f).0
 
 pub fresh_has : (n : ℕ) (ps qs : List Part) (k : Key) → fresh n ps qs k ≡ true → has_rate ps k ≡ true
 unfolding fresh
 fresh_has n ps qs k f =
-    (both_true (has_rate ps k) (not (has_rate qs k)) (both_true (nat_eq k.serial n) (has_rate ps k && not (has_rate qs k)) f).1).0
+    (and_parts (has_rate ps k) (not (has_rate qs k)) (and_parts (nat_eq k.serial n) (has_rate ps k && not (has_rate qs k)) f).1).0
 
 pub fresh_here : (n : ℕ) (ps qs : List Part) (k : Key) → k.serial ≡ n → fresh n ps qs k ≡ (has_rate ps k && not (has_rate qs k))
 unfolding fresh

@@ -4,6 +4,7 @@ use Rattle.std.proofs.lemmas.Bool.{cases_lt}
 use Rattle.std.proofs.Math.Seq.{take-length}
 use Rattle.std.specs.List.{slice_get}
 use Rattle.std.specs.Cmp.{unsigned_Decides}
+use Rattle.lists.proofs.Cases.{and_false, and_true, or_false}
 use Rattle.graphs.specs.Certificates.{Part}
 use Rattle.chunk_index.specs.declared.entry.Entry.{Entry}
 use Rattle.chunk_index.specs.declared.entry.Tag.{Tag}
@@ -17,16 +18,12 @@ use Rattle.cluster_store.proofs.Founds.{same_is, found-put, found-without, found
 use Rattle.cluster_store.proofs.Sorted.{entry_listed, less_listed, tag_listed}
 use Rattle.cluster_store.proofs.Fresh.{take_below, take_past, rate_here, fresh-more}
 
-and_false : (b c : Bool) → (b && (false && c)) ≡ false
-and_false true c = refl
-and_false false c = refl
-
 -- the position itself is not among those before it
 pub fresh_not_yet : (n i : ℕ) (ps qs : List Part) (part : Part) → fresh n (take i ps) qs (key_part n i part) ≡ false
 unfolding fresh has_rate
 fresh_not_yet n i ps qs part =
     ap (λ o. nat_eq n n && (is_rate (key_part n i part).rate o && not (has_rate qs (key_part n i part)))) (take_past ps i i (omega arith))
-    ∙ and_false (nat_eq n n) (not (has_rate qs (key_part n i part)))
+    ∙ and_false (nat_eq n n)
 
 pub fresh_there : (n i count : ℕ) (ps qs : List Part) (part : Part) → slice_get ps i ≡ Some part → i < count → has_rate qs (key_part n i part) ≡ false
     → fresh n (take count ps) qs (key_part n i part) ≡ true
@@ -35,30 +32,18 @@ fresh_there n i count ps qs part here below lacks =
     ap (λ o. nat_eq n n && (is_rate (key_part n i part).rate o && not (has_rate qs (key_part n i part)))) (take_below ps count i below ∙ here)
     ∙ rw ((unsigned_Decides n n).1 refl, rate_here part, lacks) refl
 
-more_plain : (b : Bool) → (b || false) ≡ b
-more_plain true = refl
-more_plain false = refl
-
-and_no : (b : Bool) → (b && false) ≡ false
-and_no true = refl
-and_no false = refl
-
-and_yes : (b : Bool) → (b && true) ≡ b
-and_yes true = refl
-and_yes false = refl
-
 module _ (n i : ℕ) (ps qs : List Part) (part : Part) (here : slice_get ps i ≡ Some part) where
   -- where the others have the part, nothing more is fresh
   pub fresh_passed : (k : Key) → has_rate qs (key_part n i part) ≡ true → fresh n (take (i + 1) ps) qs k ≡ fresh n (take i ps) qs k
   fresh_passed k stays =
       fresh-more n i ps qs part k here ∙ ap (λ b. fresh n (take i ps) qs k || (same_key (key_part n i part) k && not b)) stays
-      ∙ ap (λ b. fresh n (take i ps) qs k || b) (and_no (same_key (key_part n i part) k)) ∙ more_plain (fresh n (take i ps) qs k)
+      ∙ ap (λ b. fresh n (take i ps) qs k || b) (and_false (same_key (key_part n i part) k)) ∙ or_false (fresh n (take i ps) qs k)
 
   pub fresh_next : (k : Key) → has_rate qs (key_part n i part) ≡ false
       → fresh n (take (i + 1) ps) qs k ≡ (fresh n (take i ps) qs k || same_key (key_part n i part) k)
   fresh_next k differs =
       fresh-more n i ps qs part k here ∙ ap (λ b. fresh n (take i ps) qs k || (same_key (key_part n i part) k && not b)) differs
-      ∙ ap (λ b. fresh n (take i ps) qs k || b) (and_yes (same_key (key_part n i part) k))
+      ∙ ap (λ b. fresh n (take i ps) qs k || b) (and_true (same_key (key_part n i part) k))
 
 or_cond : {A : Type 0} (a b : Bool) (x y : A) → cond b x (cond a x y) ≡ cond (a || b) x y
 or_cond true true x y = refl
@@ -159,7 +144,7 @@ pub fresh_none : (n : ℕ) (ps qs : List Part) (k : Key) → fresh n (take 0 ps)
 unfolding fresh has_rate
 fresh_none n ps qs k =
     ap (λ o. nat_eq k.serial n && (is_rate k.rate o && not (has_rate qs k))) (take_past ps 0 k.position (omega arith))
-    ∙ and_false (nat_eq k.serial n) (not (has_rate qs k))
+    ∙ and_false (nat_eq k.serial n)
 
 pub leave_begins : (n : ℕ) (ps qs : List Part) (old : Items) → Leaves n (take 0 ps) qs old old
 leave_begins n ps qs old = record { sorted = λ order. order; tags = λ k. sym (ap (λ b. cond b None (found old k)) (fresh_none n ps qs k)) }
@@ -193,7 +178,7 @@ fresh_all n i ps qs k f = elim (cases_lt k.position i) [
   | inl low ↦ sym (ap (λ o. nat_eq k.serial n && (is_rate k.rate o && not (is_rate k.rate (slice_get qs k.position)))) (take_below ps i k.position low)) ∙ f
   | inr high ↦
       absurd (apart (sym (ap (λ o. nat_eq k.serial n && (is_rate k.rate o && not (is_rate k.rate (slice_get qs k.position)))) (take_past ps i k.position high)
-      ∙ and_false (nat_eq k.serial n) (not (is_rate k.rate (slice_get qs k.position)))) ∙ f))
+      ∙ and_false (nat_eq k.serial n)) ∙ f))
 ]
   where
     apart : false ≡ true → ⊥

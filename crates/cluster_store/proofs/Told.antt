@@ -3,7 +3,7 @@ use Rattle.std.proofs.Common.{◌≡◌, ℕ, ◌<◌, Bool, true, false, List, 
 use Rattle.std.specs.declared.cmp.Ordering.TheVariants.{Less}
 use Rattle.std.specs.List.{AllByRecursion, slice_index_or}
 use Rattle.std.specs.FinMap as finmap
-use Rattle.lists.proofs.Entries.{Contains-head, Contains-later, Contains-filter, filter-Contains}
+use Rattle.lists.proofs.Entries.{Contains-head, Contains-later, Contains-filter, filter-Contains, map_along}
 use Rattle.graphs.specs.Certificates.{Part}
 use Rattle.graphs.specs.declared.names.Level.{Level}
 use Rattle.chunk_index.specs.declared.key.Key.{Key}
@@ -14,16 +14,11 @@ use Rattle.cluster.specs.Clusters.{Cluster}
 use Rattle.cluster_store.specs.Keys.{key_part}
 use Rattle.cluster_store.specs.Laws.{HaveSameClusters, PartsAreToldByClusters}
 use Rattle.cluster_store.specs.Stores.{Stored, Store, Shown, IsOrdered, no_part, parts_in, key_at, passes, places_by, places_in, shown_at, shown_in}
-use Rattle.cluster_store.proofs.Sorted.{filter_in_order}
+use Rattle.chunk_index.proofs.Lists.{filter_in_order}
 use Rattle.cluster_store.proofs.Unique.{ordered_once}
 
 false_true : false ≡ true → ⊥
 false_true e = cc
-
-same_map : {A B : Type 0} (f g : A → B) (xs : List A) → ((x : A) → Contains xs x → f x ≡ g x) → map f xs ≡ map g xs
-same_map f g [] same = refl
-same_map {A} {B} f g (x ∷ xs) same =
-    ap₂ {A = B} {B = List B} (λ y ys. y ∷ ys) (same x (Contains-head x xs)) (same_map f g xs (λ y here. same y (Contains-later x y xs here)))
 
 -- a list that stands in order by one key does so by another that is the same on its entries
 module _ {A : Type 0} (k l : A → Key) where
@@ -92,7 +87,7 @@ module _ (a b : Level) (one two : Store) (first : IsOrdered one.clusters one.ord
 
   pub shown_told : shown_in a one ≡ shown_in b two
   shown_told =
-      same_map (shown_at one.clusters) (shown_at two.clusters) (places_in a one) (same_shown a b one two first second same)
+      map_along (shown_at one.clusters) (shown_at two.clusters) (places_in a one) (same_shown a b one two first second same)
       ∙ ap (map (shown_at two.clusters)) places_told
 
 pub parts_are_told_by_clusters : PartsAreToldByClusters

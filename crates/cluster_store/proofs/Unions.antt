@@ -1,7 +1,7 @@
 -- The parts of a level are a pick of every graph whose closure is the graph of the level: what each cluster has of such a graph has the cluster's
 -- closure, and these make the graph.
 use Rattle.std.proofs.Common.{◌≡◌, ℕ, suc, Bool, true, false, ◌&&◌, ◌||◌, List, [], ◌∷◌, map, Option, Some, None, is_some, Contains, refl, sym, ap, ◌∙◌, subst}
-use Rattle.std.proofs.lemmas.Bool.{cases_eq}
+use Rattle.std.proofs.lemmas.Bool.{cases_eq, and_from, and_parts}
 use Rattle.std.proofs.lemmas.Option.{same_Some}
 use Rattle.std.specs.List.{filter, list_any}
 use Rattle.std.specs.Ordering.{nat_cmp, eq_by_cmp}
@@ -9,6 +9,8 @@ use Rattle.std.specs.Cmp.{Equal-is}
 use Rattle.std.specs.FinMap as finmap
 use Rattle.lists.proofs.Distinct.{distinct-filter}
 use Rattle.lists.proofs.Entries.{Contains-head, Contains-later, Contains-filter, filter-Contains, map-Contains, Contains-map}
+use Rattle.lists.proofs.Told.{cases_pair}
+use Rattle.std.proofs.lemmas.List.{map-id}
 use Rattle.fee_rate.specs.declared.rates.FeeRate.{FeeRate}
 use Rattle.fee_rate.specs.declared.rates.Sum.{Sum}
 use Rattle.graphs.specs.declared.names.Flow.{Flow}
@@ -26,17 +28,11 @@ use Rattle.chunk_index.specs.Items.{is_in}
 use Rattle.cluster.specs.Clusters.{Cluster, IsCluster, sum_at}
 use Rattle.cluster_store.specs.Stores.{Stored, Numbered, Store, IsOrdered, passes, parts_of_level}
 use Rattle.cluster_store.specs.Laws.{Stands, IsLevel, LevelsArePicked}
-use Rattle.cluster_store.proofs.Fresh.{both_true}
 use Rattle.cluster_store.proofs.Levels.{AreGraphs, level_picked}
-use Rattle.cluster_store.proofs.Once.{IsOnce, listed_once, decide_pair}
+use Rattle.cluster_store.proofs.Once.{IsOnce, listed_once}
 
 false_true : false ≡ true → ⊥
 false_true e = cc
-
-both_hold : (a b : Bool) → a ≡ true → b ≡ true → (a && b) ≡ true
-both_hold true true p q = refl
-both_hold true false p q = q
-both_hold false b p q = p
 
 -- ---- the numbers of the clusters of a level
 
@@ -111,16 +107,16 @@ module _ (most : ℕ) (store : Store) (level : Level) (g : Closure) (ordered : I
         let inner = closes_within (is_member g) (is_member c.graph) (is_ancestor g) graph closes between in
         record {
           names = λ id. (
-            λ here. (both_true (is_member c.graph id) (is_member g id) ((inner.names id).0 here)).0,
-            λ e. (inner.names id).1 (both_hold (is_member c.graph id) (is_member g id) e (member_of id e)),
+            λ here. (and_parts (is_member c.graph id) (is_member g id) ((inner.names id).0 here)).0,
+            λ e. (inner.names id).1 (and_from (is_member c.graph id) (is_member g id) e (member_of id e)),
           );
           ends = λ a d pair.
               let both = inner.ends a d pair in
-              ((both_true (is_member c.graph a) (is_member g a) both.0).0, (both_true (is_member c.graph d) (is_member g d) both.1).0);
+              ((and_parts (is_member c.graph a) (is_member g a) both.0).0, (and_parts (is_member c.graph d) (is_member g d) both.1).0);
           acyclic = inner.acyclic;
           ancestors = λ a d a_in d_in.
-              let up = inner.ancestors a d (both_hold (is_member c.graph a) (is_member g a) a_in (member_of a a_in))
-              (both_hold (is_member c.graph d) (is_member g d) d_in (member_of d d_in)) in
+              let up = inner.ancestors a d (and_from (is_member c.graph a) (is_member g a) a_in (member_of a a_in))
+              (and_from (is_member c.graph d) (is_member g d) d_in (member_of d d_in)) in
               ((λ walk. above_in a d d_in (up.0 walk)), (λ e. up.1 (above_of a d e)));
         }
 
@@ -179,7 +175,7 @@ module _ (most : ℕ) (store : Store) (level : Level) (g : Closure) (ordered : I
       pairs = distinct-filter (λ (pair : ℕ × ℕ). keep pair.0 && keep pair.1) graph.pairs single.pairs;
       ends = λ a d pair.
           let found = filter-Contains (λ (p : ℕ × ℕ). keep p.0 && keep p.1) graph.pairs (a, d) pair in
-          let kept = both_true (keep a) (keep d) found.0 in
+          let kept = and_parts (keep a) (keep d) found.0 in
           let both = single.ends a d found.1 in
           (Contains-filter keep graph.names a kept.0 both.0, Contains-filter keep graph.names d kept.1 both.1);
       acyclic = λ a n walk.
@@ -205,7 +201,7 @@ module _ (most : ℕ) (store : Store) (level : Level) (g : Closure) (ordered : I
           (within (is_member home.1.graph) graph, home.0),
           part_listed home.0 home.1 home.2,
           Contains-filter (λ (p : ℕ × ℕ). is_member home.1.graph p.0 && is_member home.1.graph p.1) graph.pairs (a, d)
-              (both_hold (is_member home.1.graph a) (is_member home.1.graph d) among.0 among.1) pair,
+              (and_from (is_member home.1.graph a) (is_member home.1.graph d) among.0 among.1) pair,
         )
 
     name_home : (id : ℕ) → Contains graph.names id → (h : Graph × ℕ) × Contains graphs h × Contains h.0.names id
@@ -241,17 +237,13 @@ module _ (most : ℕ) (store : Store) (level : Level) (g : Closure) (ordered : I
 
 -- ---- a graph may list names and pairs more than once
 
-same_ids : (ids : List ℕ) → map (λ id. id) ids ≡ ids
-same_ids [] = refl
-same_ids (id ∷ ids) = ap (λ (xs : List ℕ). id ∷ xs) (same_ids ids)
-
 same_flows : (flows : List Flow) → map (λ flow. record { child = flow.child; parent = flow.parent; amount = flow.amount }) flows ≡ flows
 same_flows [] = refl
 same_flows (flow ∷ flows) = ap (λ (xs : List Flow). flow ∷ xs) (same_flows flows)
 
 same_part : (part : Part) → renamed_part (λ id. id) part ≡ part
 same_part part =
-    ap (λ (ids : List ℕ). record { rate = part.rate; ids = ids; flows = (renamed_part (λ id. id) part).flows }) (same_ids part.ids)
+    ap (λ (ids : List ℕ). record { rate = part.rate; ids = ids; flows = (renamed_part (λ id. id) part).flows }) (map-id part.ids)
     ∙ ap (λ (flows : List Flow). record { rate = part.rate; ids = part.ids; flows = flows }) (same_flows part.flows)
 
 same_parts : (parts : List Part) → map (renamed_part (λ id. id)) parts ≡ parts
@@ -315,7 +307,7 @@ module _ (g : Closure) (graph : Graph) (closes : IsClosureOf g graph) (names : L
 pub levels_are_picked : LevelsArePicked
 levels_are_picked most store level g ordered clusters_are is graph closes =
     let names = listed_once cases_eq graph.names in
-    let pairs = listed_once decide_pair graph.pairs in
+    let pairs = listed_once cases_pair graph.pairs in
     from_single g graph closes names.0 names.1 pairs.0 pairs.1 (sum_at g) (parts_of_level level store)
     (single_picked most store level g ordered clusters_are is (single g graph closes names.0 names.1 pairs.0 pairs.1)
     (single_graph g graph closes names.0 names.1 pairs.0 pairs.1) (single_closes g graph closes names.0 names.1 pairs.0 pairs.1))

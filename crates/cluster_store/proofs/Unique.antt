@@ -1,9 +1,9 @@
 -- There is one order of the parts of clusters.
-use Rattle.std.proofs.Common.{◌≡◌, ℕ, List, [], ◌∷◌, Contains, inl, inr, refl, sym, ap, ◌∙◌, subst}
+use Rattle.std.proofs.Common.{◌≡◌, ℕ, List, [], ◌∷◌, Contains, sym, ap, ◌∙◌}
 use Rattle.std.specs.declared.cmp.Ordering.TheVariants.{Less, Equal, Greater}
 use Rattle.std.specs.Ordering.{ordering_reverse}
 use Rattle.std.specs.Cmp.{tied_itself}
-use Rattle.lists.proofs.Entries.{Contains-head, Contains-later, Contains-cases, none_in_empty}
+use Rattle.lists.proofs.Follows.{Follow, follow_once}
 use Rattle.chunk_index.specs.declared.key.Key.{Key}
 use Rattle.chunk_index.specs.KeyOrder.{key_cmp}
 use Rattle.chunk_index.specs.KeyLaws.{key_cmp_total}
@@ -32,33 +32,13 @@ module _ {A : Type 0} (key : A → Key) where
   unfolding IsInOrder
   rest_order x xs order = order.1
 
-  first_same : (x y : A) (xs ys : List A) → IsInOrder key (x ∷ xs) → IsInOrder key (y ∷ ys) → Contains (y ∷ ys) x → Contains (x ∷ xs) y → x ≡ y
-  first_same x y xs ys first second x_in y_in = elim (Contains-cases y x ys x_in) [
-    | inl same ↦ sym same
-    | inr later ↦ elim (Contains-cases x y xs y_in) [
-      | inl same ↦ same
-      | inr behind ↦ absurd (both_before x y (behind_first x y xs first behind) (behind_first y x ys second later))
-    ]
-  ]
-
-  rest_inside : (x y : A) (xs ys : List A) → IsInOrder key (x ∷ xs) → x ≡ y
-      → ((z : A) → Contains (x ∷ xs) z → Contains (y ∷ ys) z) → (z : A) → Contains xs z → Contains ys z
-  rest_inside x y xs ys order same inside z here = elim (Contains-cases y z ys (inside z (Contains-later x z xs here))) [
-    | inl first ↦ absurd (before_itself x (behind_first x x xs order (subst (Contains xs) (sym (same ∙ first)) here)))
-    | inr later ↦ later
-  ]
+  follows : (xs : List A) → IsInOrder key xs → Follow (λ x y. key_cmp (key x) (key y) ≡ Less) xs
+  follows [] order = tt
+  follows (x ∷ xs) order = ((λ y here. behind_first x y xs order here), follows xs (rest_order x xs order))
 
   pub ordered_once : (xs ys : List A) → IsInOrder key xs → IsInOrder key ys
       → ((z : A) → Contains xs z → Contains ys z) → ((z : A) → Contains ys z → Contains xs z) → xs ≡ ys
-  ordered_once [] [] first second there back = refl
-  ordered_once [] (y ∷ ys) first second there back = absurd (none_in_empty y (back y (Contains-head y ys)))
-  ordered_once (x ∷ xs) [] first second there back = absurd (none_in_empty x (there x (Contains-head x xs)))
-  ordered_once (x ∷ xs) (y ∷ ys) first second there back =
-      let same : x ≡ y = first_same x y xs ys first second (there x (Contains-head x xs)) (back y (Contains-head y ys)) in
-      let rest : xs ≡ ys =
-      ordered_once xs ys (rest_order x xs first) (rest_order y ys second)
-      (rest_inside x y xs ys first same there) (rest_inside y x ys xs second (sym same) back) in
-      ap (λ (z : A). z ∷ xs) same ∙ ap (λ (zs : List A). y ∷ zs) rest
+  ordered_once xs ys first second = follow_once (λ x y. key_cmp (key x) (key y) ≡ Less) both_before xs ys (follows xs first) (follows ys second)
 
 pub one_order : (clusters : Numbered) (a b : List (ℕ × ℕ)) → IsOrdered clusters a → IsOrdered clusters b → a ≡ b
 one_order clusters a b first second =

@@ -7,7 +7,7 @@ use Rattle.cluster_store.specs.Changes.{lowest_in, EndsAt}
 use Rattle.cluster_store.specs.Kept.{IsKept, shelved}
 use Rattle.cluster_store.proofs.Shelves.{get_shelved}
 use Rattle.cluster_store.proofs.Kept.{kept_store, shelved_at, shelved_written}
-use Rattle.cluster_store.proofs.Results.{on_err}
+use Rattle.lists.proofs.Cases.{on_err}
 use Rattle.cluster_store.proofs.Changed.{kept_same, store_same}
 use Rattle.cluster_store.proofs.Single.{added_cluster, ends_there, kept_written, lowest_alike}
 use Rattle.cluster_store.proofs.Sizes.{cluster_fits, cluster_in_stored, stored_fits}

@@ -5,7 +5,7 @@ use Rattle.cluster_store.specs.Stores.{Store, Stored, Exchange}
 use Rattle.cluster_store.specs.Changes.{lowest_in}
 use Rattle.cluster_store.specs.Kept.{IsKept}
 use Rattle.cluster_store.proofs.Kept.{kept_store}
-use Rattle.cluster_store.proofs.Results.{on_err}
+use Rattle.lists.proofs.Cases.{on_err}
 use Rattle.cluster_store.proofs.Adds.{adds_stored, adds_same, adds_undone}
 use Rattle.cluster_store.proofs.Changed.{kept_same, kept_changed, store_same, exchanged_stored, moves_stored, makes_change}
 use Rattle.cluster_store.proofs.Sizes.{exchange_fits, stored_fits}

@@ -7,7 +7,7 @@ use Rattle.cluster_store.specs.Changes.{lowest_in, with_cluster, EndsAt}
 use Rattle.cluster_store.specs.Slots.{Places}
 use Rattle.cluster_store.specs.Kept.{IsKept, at, shelved}
 use Rattle.cluster_store.proofs.Kept.{kept_store, shelved_there}
-use Rattle.cluster_store.proofs.Results.{on_err}
+use Rattle.lists.proofs.Cases.{on_err}
 use Rattle.cluster_store.proofs.Changed.{kept_same, store_same}
 use Rattle.cluster_store.proofs.Single.{ends_there, kept_written, placed_cluster, placed_some, shelved_placed}
 use Rattle.cluster_store.proofs.Sizes.{cluster_fits, exchange_fits, stored_fits}
