@@ -1,11 +1,9 @@
 -- The text that proves an order.
-use Rattle.std.proofs.Common.{◌≡◌, ℕ, ℤ, true, List, [], ◌∷◌, ◌++◌, map, codes, Contains, ◌↔◌, Option, None, Some, refl, sym, ap, ap₂, subst, subst₂, ◌∙◌, append_assoc, append-nil, inl, inr, ◌⊎◌}
+use Rattle.std.proofs.Common.{◌≡◌, ℕ, ℤ, true, List, [], ◌∷◌, ◌++◌, map, codes, Contains, ◌↔◌, refl, sym, ap, ap₂, subst, subst₂, ◌∙◌, append_assoc, append-nil, inl, inr, ◌⊎◌}
 use Rattle.std.specs.Prelude.{flat_map}
 use Rattle.std.proofs.lemmas.List.{map-append}
 use Rattle.std.proofs.lemmas.List.Elements.{Contains-append_left, Contains-append_right, Contains-append_cases}
-use Rattle.lists.proofs.Entries.{Contains-head, Contains-later, Contains-cases, Contains-map, map-Contains, none_in_empty, not_empty, first_of, rest_of}
-use Rattle.graphs.specs.declared.names.Level.{Level}
-use Rattle.graphs.specs.declared.names.Level.TheVariants.{Main, Top}
+use Rattle.lists.proofs.Entries.{Contains-head, Contains-later, Contains-cases, Contains-map, map-Contains, none_in_empty, not_empty, first_of, rest_of, Contains-splits}
 use Rattle.graphs.specs.Certificates.{Part}
 use Rattle.graphs.specs.Closures.{Closure, is_member, rate_of, IsCover}
 use Rattle.graphs.specs.Graphs.{Graph}
@@ -13,14 +11,13 @@ use Rattle.graphs.specs.Linearizations.{StandsBefore}
 use Rattle.graphs.specs.Merges.{Precedes}
 use Rattle.graphs.specs.Picks.{FollowOrder}
 use Rattle.graph_model.specs.Answers.{order_of}
-use Rattle.graph_model.specs.States.{PlainState, level_of, top_of}
 use Rattle.graph_model.specs.Texts.{Text, text_lines, part_lines, tx_line}
-use Rattle.levels.specs.Levels.{OneLevel, level_at}
+use Rattle.levels.specs.Levels.{OneLevel}
 use Rattle.levels.specs.Orders.{ListsCovers}
-use Rattle.tx_graph.specs.Kept.{Kept, IsGraphOf, IsStagingOf, StandsPlainly}
+use Rattle.tx_graph.specs.Kept.{IsGraphOf}
 use Rattle.tx_graph.specs.Readings.{IsTextOf}
 use Rattle.replay.specs.Writings.{ListsEach, tx_line_of, edges_lines}
-use Rattle.replay.proofs.WritingLemmas.{map_twice}
+use Rattle.std.proofs.lemmas.Simd.{map-map}
 
 -- ---- edges child by child
 pub each_append : (graph : Closure) (order xs ys : List ℕ) (one two : List (ℕ × ℕ)) → ListsEach graph order xs one → ListsEach graph order ys two
@@ -90,20 +87,12 @@ each_joined R (x ∷ xs) ys one two across = (
   each_joined R xs ys one.1 two (λ z y there here. across z y (Contains-later x z xs there) here),
 )
 
--- what stands before another is cut off before it
-cut_at : {A : Type 0} (xs : List A) (b : A) → Contains xs b → (front rest : List A) × (xs ≡ front ++ b ∷ rest)
-cut_at [] b here = absurd (none_in_empty b here)
-cut_at {A} (x ∷ xs) b here = elim (Contains-cases x b xs here) [
-  | inl same ↦ ([], xs, ap (λ (z : A). z ∷ xs) same)
-  | inr far ↦ let later = cut_at xs b far in (x ∷ later.0, later.1, ap (λ (zs : List A). x ∷ zs) later.2)
-]
-
 each_mapped : {A B : Type 0} (R : B → B → Type 0) (f : A → B) (xs : List A) → ((a b : A) → Precedes xs a b → R (f a) (f b)) → EachLater R (map f xs)
 each_mapped R f [] follows = tt
 each_mapped {A} {B} R f (x ∷ xs) follows = (
   λ y here.
       let found = map-Contains f xs y here in
-      let cut = cut_at xs found.0 found.1 in
+      let cut = Contains-splits xs found.0 found.1 in
       subst (λ (z : B). R (f x) z) found.2 (follows x found.0 (x ∷ cut.0, cut.1, ap (λ (zs : List A). x ∷ zs) cut.2, Contains-head x cut.0)),
   each_mapped R f xs (λ a b before. follows a b (x ∷ before.0, before.1, ap (λ (zs : List A). x ∷ zs) before.2, Contains-later x a before.0 before.3)),
 )
@@ -124,14 +113,14 @@ each_follows graph order front (x ∷ xs) edges cut each =
     let on : map swapped edges ≡ links ++ map swapped each.1 =
     ap (map swapped) each.4
     ∙ map-append swapped own each.1
-    ∙ ap (λ (ls : List (ℕ × ℕ)). ls ++ map swapped each.1) (map_twice swapped (λ (parent : ℕ). (parent, x)) each.0) in
+    ∙ ap (λ (ls : List (ℕ × ℕ)). ls ++ map swapped each.1) (map-map swapped (λ (parent : ℕ). (parent, x)) each.0) in
     let mine = each_mapped (Before order) (λ (parent : ℕ). (x, parent)) each.0 (λ a b before. inr (refl, each.2.in_order a b before)) in
     let others = each_follows graph order (front ++ x ∷ []) xs each.1 (cut ∙ sym (append_assoc front (x ∷ []) xs)) each.3 in
     subst (EachLater (Before order)) (sym on) (each_joined (Before order) links (map swapped each.1) mine others (λ a b there here.
     let first = map-Contains (λ (parent : ℕ). (x, parent)) each.0 a there in
     let second = map-Contains swapped each.1 b here in
     let child = ((each_exact graph order xs each.1 each.3 second.0.0 second.0.1).0 second.1).0 in
-    let at = cut_at xs second.0.1 child in
+    let at = Contains-splits xs second.0.1 child in
     let stands : StandsBefore order x second.0.1 = (
       front ++ x ∷ at.0,
       at.1,
@@ -144,18 +133,6 @@ pub edges_follow : (graph : Closure) (order : List ℕ) (edges : List (ℕ × �
     → FollowOrder order (map (λ edge. (edge.1, edge.0)) edges)
 edges_follow graph order edges each a b before = later_of (Before order) (map swapped edges) before.0 before.1 a b
     (each_follows graph order [] order edges refl each) before.2 before.3
-
--- ---- the graph of a level
-top_graph : (main : OneLevel) (graph : Graph) (staging : Option OneLevel) (staged : Option Graph) → IsGraphOf main graph → IsStagingOf staging staged
-    → IsGraphOf (top_of main staging) (top_of graph staged)
-top_graph main graph None None one of = one
-top_graph main graph None (Some other) one of = absurd of
-top_graph main graph (Some level) None one of = absurd of
-top_graph main graph (Some level) (Some other) one of = of
-
-pub graph_at : (kept : Kept) (state : PlainState) (level : Level) → StandsPlainly kept state → IsGraphOf (level_at kept.levels level) (level_of state level)
-graph_at kept state Main stands = stands.main
-graph_at kept state Top stands = top_graph kept.levels.main state.main kept.levels.staging state.staging stands.main stands.staging
 
 -- ---- the text
 abbrev pub text_with : OneLevel → List (ℕ × ℕ) → Text
@@ -181,7 +158,7 @@ pub text_lines_are : (level : OneLevel) (edges : List (ℕ × ℕ)) (first last 
     → text_lines (text_with level edges)
     ≡ map (tx_line_of level.graph) (order_of first) ++ edges_lines edges ++ flat_map part_lines last ++ codes "end" ∷ []
 text_lines_are level edges first last one two =
-    let txs = map_twice (λ (tx : ℕ × ℤ × ℕ). tx_line tx.0 tx.1 tx.2) (λ id. (id, (rate_of level.graph id).fee, (rate_of level.graph id).size))
+    let txs = map-map (λ (tx : ℕ × ℤ × ℕ). tx_line tx.0 tx.1 tx.2) (λ id. (id, (rate_of level.graph id).fee, (rate_of level.graph id).size))
     (order_of level.parts) in
     ap₂ (λ (lines : List (List ℕ)) (parts : List Part). lines ++ edges_lines edges ++ flat_map part_lines parts ++ codes "end" ∷ [])
     (txs ∙ ap (λ (parts : List Part). map (tx_line_of level.graph) (order_of parts)) (sym one)) (sym two)

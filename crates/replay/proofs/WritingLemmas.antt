@@ -65,10 +65,6 @@ held_by g all front now next x is step y here =
 pub map_take : {A B : Type 0} (f : A → B) (xs : List A) (i : ℕ) (d : A) → i < length xs → map f (take (i + 1) xs) ≡ map f (take i xs) ++ f (get_or xs i d) ∷ []
 map_take f xs i d below = ap (map f) (take_more xs i d below) ∙ map-append f (take i xs) (get_or xs i d ∷ [])
 
-pub map_twice : {A B C : Type 0} (g : B → C) (f : A → B) (xs : List A) → map g (map f xs) ≡ map (λ (x : A). g (f x)) xs
-map_twice g f [] = refl
-map_twice g f (x ∷ xs) = ap (λ (ys : List _). g (f x) ∷ ys) (map_twice g f xs)
-
 -- the line of a part that is lent
 pub chunk_writes : {T E : Type 0} (a b : Option (List ℕ)) (p q : ℕ) (r : Result T E) (part : PartRef) (rate : Sum) → rate.fee ≡ part.rate.fee
     → rate.size ≡ part.rate.size

@@ -1,4 +1,4 @@
-mod Standing
+pub mod Standing
 mod Picked
 mod Tops
 mod Rows

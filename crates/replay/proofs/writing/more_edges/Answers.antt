@@ -1,11 +1,12 @@
 use Rattle.std.proofs.Common.{rules, List, ℕ, map, take, get_or, ◌∷◌, [], ◌++◌, sym, ap, subst, ◌∙◌}
 use Rattle.std.proofs.lemmas.List.{map-append, take_more}
+use Rattle.std.proofs.lemmas.Simd.{map-map}
 use Rattle.graph_model.specs.Answers.{order_of}
 use Rattle.graph_model.specs.Texts.{edge_line}
 use Rattle.levels.specs.Levels.{level_at}
 use Rattle.replay.specs.Writings.{ListsEach, edges_lines}
 use Rattle.replay.proofs.TextLemmas.{each_append, each_one}
-use Rattle.replay.proofs.WritingLemmas.{lines_on, map_twice}
+use Rattle.replay.proofs.WritingLemmas.{lines_on}
 use Rattle.replay.proofs.writing.more_edges.Goals as goal
 
 pub loop-id-preserved : goal.loop-id-preserved
@@ -20,7 +21,7 @@ loop-id-preserved g c =
     let own = map (λ (parent : ℕ). (parent, id)) parents in
     let each = each_append graph order before (id ∷ []) edges own c.loop-id.invariant.1 (each_one graph order id parents c.covers.ensures) in
     let lines = map-append (λ (edge : ℕ × ℕ). edge_line edge.0 edge.1) edges own ∙ ap (λ (more : List (List ℕ)). edges_lines edges ++ more)
-    (map_twice (λ (edge : ℕ × ℕ). edge_line edge.0 edge.1) (λ (parent : ℕ). (parent, id)) parents) in (
+    (map-map (λ (edge : ℕ × ℕ). edge_line edge.0 edge.1) (λ (parent : ℕ). (parent, id)) parents) in (
       edges ++ own,
       subst (λ (ids : List ℕ). ListsEach graph order ids (edges ++ own)) (sym (take_more c.args.ids.now c.loop-id.id-index 0 c.loop-id-test.true)) each,
       lines_on _ _ _ _ _ _ _ _ _ (edges_lines edges)

@@ -9,9 +9,10 @@ use Rattle.graph_model.specs.Texts.{part_lines}
 use Rattle.levels.specs.Levels.{level_at}
 use Rattle.replay.specs.Writings.{ListsEach, tx_line_of, edges_lines}
 use Rattle.replay.proofs.Rooms.{graph_room, stored_fits}
-use Rattle.replay.proofs.TextLemmas.{graph_at, text_with, text_is, text_lines_are}
+use Rattle.replay.proofs.TextLemmas.{text_with, text_is, text_lines_are}
 use Rattle.replay.proofs.WritingLemmas.{lines_on}
 use Rattle.replay.proofs.writing.write_proof.Goals as goal
+use Rattle.tx_graph.proofs.Standing.{graph_at}
 
 -- that the graph fits in memory is asked of the caller too
 pub order-requires : goal.order-requires
@@ -60,7 +61,7 @@ returns g c =
       (
         Proves text,
         λ state stands.
-            let graph = graph_at kept state.plain c.args.level stands.plain in
+            let graph = graph_at kept state.plain stands.plain c.args.level in
             c.order.ensures.proof text (text_is level (level_of state.plain c.args.level) edges graph names each) state stands,
         refl,
       ),
