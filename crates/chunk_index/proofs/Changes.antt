@@ -5,6 +5,7 @@ use Rattle.std.specs.declared.cmp.Ordering.{Ordering}
 use Rattle.std.specs.declared.cmp.Ordering.TheVariants.{Less, Equal, Greater}
 use Rattle.std.specs.Ordering.{is_lt, is_eq, is_ne, is_gt, ordering_reverse}
 use Rattle.std.specs.Cmp.{Equal-is, tied_itself}
+use Rattle.lists.proofs.Cases.{and_false}
 use Rattle.chunk_index.specs.declared.entry.Entry.{Entry}
 use Rattle.chunk_index.specs.declared.entry.Tag.{Tag}
 use Rattle.chunk_index.specs.declared.key.Key.{Key}
@@ -33,11 +34,7 @@ module _ {A : Type 0} (key : A → Key) where
   -- a test of what keys are to k keeps those of the key q, or none of them
   pub has-kept : (f : Ordering → Bool) (k q : Key) (xs : List A) → has_key key (kept_by key f k xs) q ≡ (f (key_cmp q k) && has_key key xs q)
   unfolding has_key
-  has-kept f k q [] = sym (and-false (f (key_cmp q k)))
-    where
-      and-false : (b : Bool) → (b && false) ≡ false
-      and-false true = refl
-      and-false false = refl
+  has-kept f k q [] = sym (and_false (f (key_cmp q k)))
   has-kept f k q (x ∷ xs) = by (f (key_cmp (key x) k)) refl (is_eq (key_cmp (key x) q)) refl (has-kept f k q xs)
     where
       answer : is_eq (key_cmp (key x) q) ≡ true → f (key_cmp q k) ≡ f (key_cmp (key x) k)

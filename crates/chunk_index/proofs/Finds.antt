@@ -2,12 +2,13 @@
 use Rattle.std.proofs.Common.{◌≡◌, ℕ, Bool, true, false, List, [], ◌∷◌, ◌++◌, Option, Some, None, is_some, refl, subst, sym, ap, ◌∙◌}
 use Rattle.std.specs.declared.cmp.Ordering.TheVariants.{Less, Equal, Greater}
 use Rattle.std.specs.Ordering.{is_eq}
+use Rattle.std.proofs.lemmas.Bool.{or_parts}
 use Rattle.chunk_index.specs.declared.entry.Entry.{Entry}
 use Rattle.chunk_index.specs.declared.key.Key.{Key}
 use Rattle.chunk_index.specs.KeyOrder.{key_cmp}
 use Rattle.chunk_index.specs.KeyLaws.{level_keys}
 use Rattle.chunk_index.specs.Keys.{key_of, has_key, number_at}
-use Rattle.chunk_index.proofs.Lists.{turned, neither, AllStand, IsCut, any-none, all-less, all-greater}
+use Rattle.chunk_index.proofs.Lists.{turned, AllStand, IsCut, any-none, all-less, all-greater}
 use Rattle.chunk_index.proofs.Merges.{either, either-none}
 
 pub number-append : (xs ys : List Entry) (k : Key) → number_at (xs ++ ys) k ≡ either (number_at xs k) (number_at ys k)
@@ -24,7 +25,7 @@ pub number-lacks : (xs : List Entry) (k : Key) → has_key key_of xs k ≡ false
 unfolding number_at has_key
 number-lacks [] k lacks = refl
 number-lacks (x ∷ xs) k lacks =
-    let both = neither (is_eq (key_cmp (key_of x) k)) (has_key key_of xs k) lacks in
+    let both = or_parts (is_eq (key_cmp (key_of x) k)) (has_key key_of xs k) lacks in
     rw both.0 (number-lacks xs k both.1)
 
 pub number-has : (xs : List Entry) (k : Key) → has_key key_of xs k ≡ is_some (number_at xs k)

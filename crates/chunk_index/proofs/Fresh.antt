@@ -4,6 +4,8 @@ use Rattle.std.specs.List.{AllByRecursion}
 use Rattle.std.specs.declared.cmp.Ordering.TheVariants.{Equal}
 use Rattle.std.specs.Ordering.{is_eq}
 use Rattle.std.specs.Cmp.{Equal-is, tied_itself}
+use Rattle.lists.proofs.Cases.{and_false, or_true}
+use Rattle.std.proofs.lemmas.Bool.{or_parts}
 use Rattle.chunk_index.specs.declared.entry.Entry.{Entry}
 use Rattle.chunk_index.specs.declared.entry.Tag.{Tag}
 use Rattle.chunk_index.specs.declared.entry.Tag.TheVariants.{Both, TopOnly}
@@ -15,7 +17,7 @@ use Rattle.chunk_index.specs.Items.{Items, item_key, AreInOrder, found, tag_set,
 use Rattle.chunk_index.specs.Merges.{put_all}
 use Rattle.chunk_index.specs.Pairs.{pair_key}
 use Rattle.chunk_index.specs.Fresh.{fresh_item, with_fresh}
-use Rattle.chunk_index.proofs.Lists.{around, IsCut, cut, neither, lacks-level, without_absent, put-without, turned, lacks_without}
+use Rattle.chunk_index.proofs.Lists.{around, IsCut, cut, lacks-level, without_absent, put-without, turned, lacks_without}
 use Rattle.chunk_index.proofs.Changes.{has-put, has-without}
 use Rattle.chunk_index.proofs.Finds.{number-has}
 use Rattle.chunk_index.proofs.Items.{tag-none, tag-moves}
@@ -106,7 +108,7 @@ module _ (os : Items) (f : List Entry) (order : AreInOrder os) (fresh : IsInOrde
       has-all item_key os (map fresh_item f) k fresh_order ∙ ap (λ b. b || has_key item_key os k) (map-has key_of item_key fresh_item same f k)
 
   pub view_lacks : (k : Key) → has_key item_key (with_fresh os f) k ≡ false → (has_key key_of f k ≡ false) × (has_key item_key os k ≡ false)
-  view_lacks k lacks = neither (has_key key_of f k) (has_key item_key os k) (sym (view-has k) ∙ lacks)
+  view_lacks k lacks = or_parts (has_key key_of f k) (has_key item_key os k) (sym (view-has k) ∙ lacks)
 
   pub view-found : (k : Key) → found (with_fresh os f) k ≡ either (option_map fresh_of (number_at f k)) (found os k)
   view-found k =
@@ -195,11 +197,7 @@ module _ (es : Numbers) (f : List Entry) (apart : (k : Key) → has_key key_of f
       by false s = rw s (apart q has)
 
   pub apart-leave : (k : Key) (q : Key) → has_key key_of f q ≡ true → has_key pair_key (without pair_key es k) q ≡ false
-  apart-leave k q has = has-without pair_key es k q ∙ ap (λ b. not (is_eq (key_cmp q k)) && b) (apart q has) ∙ and-false (not (is_eq (key_cmp q k)))
-    where
-      and-false : (b : Bool) → (b && false) ≡ false
-      and-false true = refl
-      and-false false = refl
+  apart-leave k q has = has-without pair_key es k q ∙ ap (λ b. not (is_eq (key_cmp q k)) && b) (apart q has) ∙ and_false (not (is_eq (key_cmp q k)))
 
   pub apart-begin : (e : Entry) → has_key pair_key es (key_of e) ≡ false → (q : Key) → has_key key_of (put key_of f e) q ≡ true → has_key pair_key es q ≡ false
   apart-begin e lacks q has = by (is_eq (key_cmp q (key_of e))) refl
@@ -252,9 +250,5 @@ unfolding has_key
 all_apart lacks [] apart = tt
 all_apart lacks (e ∷ f) apart = (
   apart (key_of e) (rw (ap is_eq (tied_itself key_cmp_total (key_of e))) refl),
-  all_apart lacks f (λ k has. apart k (ap (λ b. is_eq (key_cmp (key_of e) k) || b) has ∙ or-true (is_eq (key_cmp (key_of e) k)))),
+  all_apart lacks f (λ k has. apart k (ap (λ b. is_eq (key_cmp (key_of e) k) || b) has ∙ or_true (is_eq (key_cmp (key_of e) k)))),
 )
-  where
-    or-true : (b : Bool) → (b || true) ≡ true
-    or-true true = refl
-    or-true false = refl

@@ -5,6 +5,7 @@ use Rattle.std.specs.declared.cmp.Ordering.{Ordering}
 use Rattle.std.specs.declared.cmp.Ordering.TheVariants.{Less, Equal, Greater}
 use Rattle.std.specs.Ordering.{is_eq, is_ne, is_lt, is_gt}
 use Rattle.std.specs.Cmp.{tied_itself}
+use Rattle.std.proofs.lemmas.Bool.{or_parts}
 use Rattle.chunk_index.specs.declared.entry.Entry.{Entry}
 use Rattle.chunk_index.specs.declared.entry.Tag.{Tag}
 use Rattle.chunk_index.specs.declared.entry.Tag.TheVariants.{Both, MainOnly, TopOnly}
@@ -13,7 +14,7 @@ use Rattle.chunk_index.specs.KeyOrder.{key_cmp}
 use Rattle.chunk_index.specs.KeyLaws.{key_cmp_total, level_keys}
 use Rattle.chunk_index.specs.Keys.{key_of, has_key, before, behind, put, without}
 use Rattle.chunk_index.specs.Items.{Items, item_key, AreInOrder, found, tag_set, same_tag, entries_by}
-use Rattle.chunk_index.proofs.Lists.{kept_by, IsCut, cut, neither, put-level, put-high, has-low, lacks-level, length_without}
+use Rattle.chunk_index.proofs.Lists.{kept_by, IsCut, cut, put-level, put-high, has-low, lacks-level, length_without}
 use Rattle.chunk_index.proofs.Changes.{has-kept}
 use Rattle.chunk_index.proofs.Maps.{same_test}
 use Rattle.chunk_index.proofs.Tags.{entries-without, entries-set}
@@ -29,14 +30,14 @@ pub tag-none : (xs : Items) (k : Key) (t : Tag) → has_key item_key xs k ≡ fa
 unfolding tag_set has_key
 tag-none [] k t lacks = refl
 tag-none (x ∷ xs) k t lacks =
-    let both = neither (is_eq (key_cmp (item_key x) k)) (has_key item_key xs k) lacks in
+    let both = or_parts (is_eq (key_cmp (item_key x) k)) (has_key item_key xs k) lacks in
     rw both.0 (ap (λ (s : Items). x ∷ s) (tag-none xs k t both.1))
 
 found-past : (xs ys : Items) (k : Key) → has_key item_key xs k ≡ false → found (xs ++ ys) k ≡ found ys k
 unfolding found has_key
 found-past [] ys k lacks = refl
 found-past (x ∷ xs) ys k lacks =
-    let both = neither (is_eq (key_cmp (item_key x) k)) (has_key item_key xs k) lacks in
+    let both = or_parts (is_eq (key_cmp (item_key x) k)) (has_key item_key xs k) lacks in
     rw both.0 (found-past xs ys k both.1)
 
 -- ---- a tag that is set twice

@@ -7,6 +7,8 @@ use Rattle.std.specs.List.{filter, list_any, AllByRecursion}
 use Rattle.std.specs.declared.cmp.Ordering.{Ordering}
 use Rattle.std.specs.declared.cmp.Ordering.TheVariants.{Less, Equal, Greater}
 use Rattle.std.specs.Ordering.{is_lt, is_eq, is_ne, is_gt, ordering_reverse}
+use Rattle.lists.proofs.Cases.{or_false, or_true}
+use Rattle.std.proofs.lemmas.Bool.{or_parts}
 use Rattle.chunk_index.specs.declared.key.Key.{Key}
 use Rattle.chunk_index.specs.KeyOrder.{key_cmp}
 use Rattle.chunk_index.specs.KeyLaws.{key_cmp_total, level_keys}
@@ -19,21 +21,6 @@ turned a b o e = key_cmp_total.antisymm b a ∙ ap ordering_reverse e
 -- what stands behind what stands behind k stands behind k
 pub chain_greater : (a b k : Key) → key_cmp a b ≡ Greater → key_cmp b k ≡ Greater → key_cmp a k ≡ Greater
 chain_greater a b k p q = turned k a Less (key_cmp_total.trans k b a (turned b k Greater q) (turned a b Greater p))
-
-or-false : (b : Bool) → (b || false) ≡ b
-or-false true = refl
-or-false false = refl
-
-pub or-true : (b : Bool) → (b || true) ≡ true
-or-true true = refl
-or-true false = refl
-
-pub neither : (a b : Bool) → (a || b) ≡ false → (a ≡ false) × (b ≡ false)
-neither true b e = absurd (apart (sym e))
-  where
-    apart : false ≡ true → ⊥
-    apart e = cc
-neither false b e = (refl, e)
 
 pub unequal : (o : Ordering) → is_eq o ≡ false → is_ne o ≡ true
 unequal Less e = refl
@@ -80,7 +67,7 @@ module _ {A : Type 0} (key : A → Key) where
   unfolding has_key without
   without_absent [] k lacks = refl
   without_absent (x ∷ xs) k lacks =
-      let both = neither (is_eq (key_cmp (key x) k)) (list_any (λ y. is_eq (key_cmp (key y) k)) xs) lacks in
+      let both = or_parts (is_eq (key_cmp (key x) k)) (list_any (λ y. is_eq (key_cmp (key y) k)) xs) lacks in
       let stays = unequal (key_cmp (key x) k) both.0 in
       rw stays (ap (λ (t : List A). x ∷ t) (without_absent xs k both.1))
 
@@ -219,7 +206,7 @@ module _ {A : Type 0} (key : A → Key) where
         let here = turned k (key h) Less e in
         list_any-append (λ x. is_eq (key_cmp (key x) k)) l (h ∷ r)
         ∙ ap (λ b. has_key key l k || b) (any-none k Greater (h ∷ r) refl (here, all-greater r (key h) k c.greater here))
-        ∙ or-false (has_key key l k)
+        ∙ or_false (has_key key l k)
 
     pub has-high : key_cmp k (key h) ≡ Greater → has_key key (l ++ h ∷ r) k ≡ has_key key r k
     unfolding has_key
@@ -234,7 +221,7 @@ module _ {A : Type 0} (key : A → Key) where
     unfolding has_key
     has-level e =
         let same = ap is_eq (turned k (key h) Equal e) in
-        list_any-append (λ x. is_eq (key_cmp (key x) k)) l (h ∷ r) ∙ rw same (or-true (has_key key l k))
+        list_any-append (λ x. is_eq (key_cmp (key x) k)) l (h ∷ r) ∙ rw same (or_true (has_key key l k))
 
     pub before-level : key_cmp k (key h) ≡ Equal → before key (l ++ h ∷ r) k ≡ l
     unfolding before

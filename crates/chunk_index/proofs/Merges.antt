@@ -6,6 +6,7 @@ use Rattle.std.specs.declared.cmp.Ordering.{Ordering}
 use Rattle.std.specs.declared.cmp.Ordering.TheVariants.{Less, Equal, Greater}
 use Rattle.std.specs.Ordering.{is_lt, is_eq, is_ne, is_gt, ordering_reverse}
 use Rattle.std.specs.Cmp.{Equal-is, tied_itself}
+use Rattle.std.proofs.lemmas.Bool.{or_parts}
 use Rattle.chunk_index.specs.declared.key.Key.{Key}
 use Rattle.chunk_index.specs.KeyOrder.{key_cmp}
 use Rattle.chunk_index.specs.KeyLaws.{key_cmp_total, level_keys}
@@ -14,7 +15,7 @@ use Rattle.chunk_index.specs.declared.ends.End.{End}
 use Rattle.chunk_index.specs.declared.ends.End.TheVariants.{First, Last}
 use Rattle.chunk_index.specs.Ends.{at_end, seen_from, Takes}
 use Rattle.chunk_index.specs.Merges.{put_all, ComesAt}
-use Rattle.chunk_index.proofs.Lists.{turned, kept_by, kept-all, kept-none, all-filter, all-turned, all-less, filter_in_order, AllStand, neither, IsCut, cut, put-low, put-high, put-level, around, length_without}
+use Rattle.chunk_index.proofs.Lists.{turned, kept_by, kept-all, kept-none, all-filter, all-turned, all-less, filter_in_order, AllStand, IsCut, cut, put-low, put-high, put-level, around, length_without}
 
 -- the first of two that is there
 abbrev pub either : {A : Type 0} → Option A → Option A → Option A
@@ -103,7 +104,7 @@ module _ {A : Type 0} (key : A → Key) where
   unfolding has_key
   at-lacks [] k lacks = refl
   at-lacks (x ∷ xs) k lacks =
-      let both = neither (is_eq (key_cmp (key x) k)) (has_key key xs k) lacks in
+      let both = or_parts (is_eq (key_cmp (key x) k)) (has_key key xs k) lacks in
       rw both.0 (at-lacks xs k both.1)
 
   same_item : (x : A) → is_eq (key_cmp (key x) (key x)) ≡ true

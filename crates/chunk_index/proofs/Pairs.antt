@@ -10,6 +10,7 @@ use Rattle.std.specs.Ordering.{is_eq, is_le, is_ge, ordering_reverse}
 use Rattle.std.specs.declared.cmp.Ordering.{Ordering}
 use Rattle.std.specs.declared.cmp.Ordering.TheVariants.{Less, Equal, Greater}
 use Rattle.std.specs.declared.ops.Bound.TheVariants.{Included, Unbounded}
+use Rattle.std.proofs.lemmas.Bool.{or_parts}
 use Rattle.chunk_index.specs.declared.entry.Entry.{Entry}
 use Rattle.chunk_index.specs.declared.key.Key.{Key}
 use Rattle.chunk_index.specs.KeyOrder.{key_cmp}
@@ -21,7 +22,7 @@ use Rattle.chunk_index.specs.declared.ends.End.TheVariants.{First, Last}
 use Rattle.chunk_index.specs.Ends.{at_end, seen_from, Takes}
 use Rattle.chunk_index.specs.Merges.{put_all, ComesAt}
 use Rattle.chunk_index.specs.Pairs.{pair_key, pair_of, all_numbers}
-use Rattle.chunk_index.proofs.Lists.{turned, IsCut, cut, put-low, put-high, without-level, has-level, has-high, put-level, put-without, lacks_without, without_in_order, has-low, unequal, neither}
+use Rattle.chunk_index.proofs.Lists.{turned, IsCut, cut, put-low, put-high, without-level, has-level, has-high, put-level, put-without, lacks_without, without_in_order, has-low, unequal}
 use Rattle.chunk_index.proofs.Finds.{number-has}
 use Rattle.chunk_index.proofs.Maps.{Numbers, test, same_test, false_true}
 use Rattle.chunk_index.proofs.Merges.{map-put, map-without, map-order, map-has, all-put, put-all, all-without, all-kept, all_order, has-all, map-kept, step_nearer, step_second, step_alone, either, item_at, at-all, all_length}
@@ -137,7 +138,7 @@ module _ (es : Numbers) (late : List Entry) (map_order : IsInOrder pair_key es) 
   lacks : (k : Key) → has_key pair_key (all_numbers es late) k ≡ false
       → (has_key pair_key es k ≡ false) × (has_key key_of late k ≡ false)
   lacks k none =
-      let both = neither (has_key pair_key (map pair_of late) k) (has_key pair_key es k) (sym (has-all pair_key es (map pair_of late) k late_pairs) ∙ none) in
+      let both = or_parts (has_key pair_key (map pair_of late) k) (has_key pair_key es k) (sym (has-all pair_key es (map pair_of late) k late_pairs) ∙ none) in
       (both.1, sym (map-has key_of pair_key pair_of same late k) ∙ both.0)
 
   pub lacks_map : (k : Key) → has_key pair_key (all_numbers es late) k ≡ false → has_key pair_key es k ≡ false

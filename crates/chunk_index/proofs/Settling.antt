@@ -6,6 +6,7 @@ use Rattle.std.specs.declared.cmp.Ordering.TheVariants.{Less, Equal, Greater}
 use Rattle.std.specs.Ordering.{is_eq}
 use Rattle.std.specs.Cmp.{tied_itself}
 use Rattle.graphs.specs.declared.names.Level.TheVariants.{Main, Top}
+use Rattle.lists.proofs.Cases.{or_true}
 use Rattle.chunk_index.specs.declared.entry.Entry.{Entry}
 use Rattle.chunk_index.specs.declared.entry.Tag.{Tag}
 use Rattle.chunk_index.specs.declared.entry.Tag.TheVariants.{Both, MainOnly, TopOnly}
@@ -20,7 +21,7 @@ use Rattle.chunk_index.specs.Merges.{put_all}
 use Rattle.chunk_index.specs.Pairs.{pair_key, pair_of, clear_of}
 use Rattle.chunk_index.proofs.Changes.{has-put}
 use Rattle.chunk_index.proofs.Kept.{apart}
-use Rattle.chunk_index.proofs.Lists.{turned, or-true, IsCut, cut, all-less, all-greater, any-none, lacks-level}
+use Rattle.chunk_index.proofs.Lists.{turned, IsCut, cut, all-less, all-greater, any-none, lacks-level}
 use Rattle.chunk_index.proofs.Maps.{Numbers, false_true}
 use Rattle.chunk_index.proofs.Merges.{has-all, map-put, map-has, map-order, none_order}
 use Rattle.chunk_index.proofs.Whole.{entries_with, entries_without}
@@ -38,13 +39,13 @@ pub has_right : (l : List Entry) (e : Entry) (r : List Entry) (k : Key) → has_
 has_right l e r k there =
     has_parts l e r k
     ∙ ap (λ b. has_key key_of l k || (is_eq (key_cmp (key_of e) k) || b)) there
-    ∙ ap (λ b. has_key key_of l k || b) (or-true (is_eq (key_cmp (key_of e) k))) ∙ or-true (has_key key_of l k)
+    ∙ ap (λ b. has_key key_of l k || b) (or_true (is_eq (key_cmp (key_of e) k))) ∙ or_true (has_key key_of l k)
 
 pub has_node : (l : List Entry) (e : Entry) (r : List Entry) → has_key key_of (l ++ e ∷ r) (key_of e) ≡ true
 has_node l e r =
     has_parts l e r (key_of e)
     ∙ ap (λ b. has_key key_of l (key_of e) || (b || has_key key_of r (key_of e))) (ap is_eq (tied_itself key_cmp_total (key_of e)))
-    ∙ or-true (has_key key_of l (key_of e))
+    ∙ or_true (has_key key_of l (key_of e))
 
 -- ---- a tree's keys go out
 pub clear_none : (es : Numbers) → clear_of [] es ≡ es

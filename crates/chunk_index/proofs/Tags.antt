@@ -4,6 +4,7 @@ use Rattle.std.specs.List.{AllByRecursion}
 use Rattle.std.specs.declared.cmp.Ordering.{Ordering}
 use Rattle.std.specs.declared.cmp.Ordering.TheVariants.{Less, Equal, Greater}
 use Rattle.std.specs.Ordering.{is_eq, is_ne, is_lt, is_gt}
+use Rattle.std.proofs.lemmas.Bool.{or_parts}
 use Rattle.chunk_index.specs.declared.entry.Entry.{Entry}
 use Rattle.chunk_index.specs.declared.entry.Tag.{Tag}
 use Rattle.chunk_index.specs.declared.key.Key.{Key}
@@ -11,7 +12,7 @@ use Rattle.chunk_index.specs.KeyOrder.{key_cmp}
 use Rattle.chunk_index.specs.Keys.{key_of, IsInOrder, has_key, before, behind, put, without}
 use Rattle.chunk_index.specs.Items.{Items, item_key, AreInOrder, entries_by, tag_set}
 use Rattle.chunk_index.specs.Kept.{moved}
-use Rattle.chunk_index.proofs.Lists.{kept_by, neither, without_absent, around, put-without}
+use Rattle.chunk_index.proofs.Lists.{kept_by, without_absent, around, put-without}
 
 module _ (p : Tag → Bool) where
   -- a test of keys may come before or after the test of tags
@@ -97,7 +98,7 @@ module _ (p : Tag → Bool) where
   lacks-entries (x ∷ xs) k lacks = by (p x.1) refl (both.0) (lacks-entries xs k both.1)
     where
       both : (is_eq (key_cmp (item_key x) k) ≡ false) × (has_key item_key xs k ≡ false)
-      both = neither (is_eq (key_cmp (item_key x) k)) (has_key item_key xs k) lacks
+      both = or_parts (is_eq (key_cmp (item_key x) k)) (has_key item_key xs k) lacks
 
       by : (tagged : Bool) → p x.1 ≡ tagged → is_eq (key_cmp (item_key x) k) ≡ false → has_key key_of (entries_by p xs) k ≡ false
           → has_key key_of (entries_by p (x ∷ xs)) k ≡ false

@@ -2,6 +2,7 @@
 use Rattle.std.proofs.Common.{◌≡◌, ℕ, Bool, true, false, cond, not, ◌&&◌, ◌||◌, List, [], ◌∷◌, Option, None, Some, unwrap_or, refl, sym, ap, ◌∙◌}
 use Rattle.std.specs.Ordering.{is_eq}
 use Rattle.std.specs.Cmp.{Equal-is}
+use Rattle.lists.proofs.Cases.{and_false}
 use Rattle.chunk_index.specs.declared.entry.Entry.{Entry}
 use Rattle.chunk_index.specs.declared.entry.Tag.{Tag}
 use Rattle.chunk_index.specs.declared.entry.Tag.TheVariants.{Both, MainOnly, TopOnly}
@@ -91,11 +92,7 @@ module _ (m t : List Entry) where
   pub has-tagged : (p : Tag → Bool) (es : Numbers) (k : Key) → has_key key_of (entries_by p (items_of es m t)) k
       ≡ (p (tag_in m t k) && has_key item_key (items_of es m t) k)
   unfolding entries_by has_key
-  has-tagged p [] k = sym (and-false (p (tag_in m t k)))
-    where
-      and-false : (b : Bool) → (b && false) ≡ false
-      and-false true = refl
-      and-false false = refl
+  has-tagged p [] k = sym (and_false (p (tag_in m t k)))
   has-tagged p (e ∷ es) k = by (p (tag_in m t e.0)) refl (is_eq (key_cmp e.0 k)) refl (has-tagged p es k)
     where
       there : is_eq (key_cmp e.0 k) ≡ true → p (tag_in m t k) ≡ p (tag_in m t e.0)

@@ -15,7 +15,8 @@ use Rattle.cluster.proofs.Placed.{in_names}
 use Rattle.cluster_store.specs.Laws.{Stands, StandsAt}
 use Rattle.cluster_store.specs.Stores.{Stored, Store, Shown, IsStore, no_part, parts_in, part_at, parts_of_level, passes, places_by, places_in, shown_at}
 use Rattle.cluster_store.proofs.Before.{parts_stand_in_order}
-use Rattle.levels.proofs.Preceding.{precedes_both, unfiltered, filtered, mapped, unmapped}
+use Rattle.graphs.proofs.MergeLemmas.{precedes_filter, precedes_map}
+use Rattle.levels.proofs.Preceding.{precedes_both, unfiltered, unmapped}
 
 module _ (most : ℕ) (level : Level) (store : Store) (is : IsStore most store) where
   passing : ℕ × ℕ → Bool
@@ -76,8 +77,8 @@ module _ (most : ℕ) (level : Level) (store : Store) (is : IsStore most store) 
       → Precedes (parts_of_level level store) p q
   unfolding passing places_by
   parts_before x y p q first second before =
-      let in_level : Precedes (places_in level store) x y = filtered passing store.order x y (passed_at x p first) (passed_at y q second) before in
-      let of_places = mapped (part_at store.clusters) (places_in level store) x y in_level in
+      let in_level : Precedes (places_in level store) x y = precedes_filter passing store.order x y (passed_at x p first) (passed_at y q second) before in
+      let of_places = precedes_map (part_at store.clusters) (places_in level store) x y in_level in
       subst (λ (ps : List Part). Precedes ps p q) by_places
       (subst₂ (λ (a b : Part). Precedes (map (part_at store.clusters) (places_in level store)) a b) (part_is x p first) (part_is y q second) of_places)
 

@@ -5,9 +5,7 @@ use Rattle.std.proofs.lemmas.List.Elements.{Contains-append_left, Contains-appen
 use Rattle.std.specs.List.{filter}
 use Rattle.lists.proofs.Entries.{Contains-head, Contains-later, Contains-cases, Contains-splits, Contains-filter, filter-Contains, Contains-map, map-Contains, first_of, rest_of, none_in_empty}
 use Rattle.graphs.specs.Merges.{Precedes}
-
-precedes_later : {A : Type 0} (z : A) (xs : List A) (x y : A) → Precedes xs x y → Precedes (z ∷ xs) x y
-precedes_later z xs x y there = (z ∷ there.0, there.1, ap (λ zs. z ∷ zs) there.2, Contains-later z x there.0 there.3)
+use Rattle.graphs.proofs.MergeLemmas.{precedes_later}
 
 -- both are entries
 pub precedes_both : {A : Type 0} (xs : List A) (x y : A) → Precedes xs x y → Contains xs x × Contains xs y
@@ -45,24 +43,7 @@ pub unfiltered : {A : Type 0} (f : A → Bool) (xs : List A) (x y : A) → Prece
 unfiltered f [] x y before = absurd (none_in_empty y (precedes_both [] x y before).1)
 unfiltered f (z ∷ xs) x y before = passed_by f z xs x y (f z) (unfiltered f xs x y) before
 
--- and the other way round
-pub filtered : {A : Type 0} (f : A → Bool) (xs : List A) (x y : A) → f x ≡ true → f y ≡ true → Precedes xs x y → Precedes (filter f xs) x y
-filtered f xs x y x_kept y_kept before = (
-  filter f before.0,
-  filter f before.1,
-  ap (filter f) before.2 ∙ filter-append f before.0 (y ∷ before.1) ∙ ap (λ b. filter f before.0 ++ cond b (y ∷ filter f before.1) (filter f before.1)) y_kept,
-  Contains-filter f before.0 x x_kept before.3,
-)
-
 -- ---- what is made of entries
-
-pub mapped : {A B : Type 0} (f : A → B) (xs : List A) (x y : A) → Precedes xs x y → Precedes (map f xs) (f x) (f y)
-mapped f xs x y before = (
-  map f before.0,
-  map f before.1,
-  ap (map f) before.2 ∙ map-append f before.0 (y ∷ before.1),
-  Contains-map f before.0 x before.3,
-)
 
 -- they are made of two of which the one stands before the other
 pub record AreMade {A B : Type 0} (f : A → B) (xs : List A) (p q : B) : Type 0 where

@@ -18,10 +18,6 @@ one-is q x here = sym (Contains-one q x here)
 is-one : (q x : ℕ) → x ≡ q → Contains (q ∷ []) x
 is-one q x same = subst (Contains (q ∷ [])) (sym same) (Contains-head q [])
 
--- a name is in a list or not
-decide_in : (xs : List ℕ) (id : ℕ) → Contains xs id ⊎ (Contains xs id → ⊥)
-decide_in = told_number
-
 -- A name is cut out of its ring, and joins that of another.
 module _ (old cut new : Book) (r to q : ℕ) (apart : to ≢ q)
     (cuts : (x y : ℕ) → AreRung cut r x y ↔ ((AreRung old r x y × x ≢ q × y ≢ q) ⊎ ((x ≡ q) × (y ≡ q))))
@@ -140,9 +136,9 @@ pub joins-all : (old new : Book) (r to : ℕ) (ids : List ℕ) → ((x y : ℕ) 
 joins-all old new r to ids alone gathers x y = (
   λ rung. elim ((gathers x y).0 rung) [ inl all ↦ inl all.0 | inr both ↦ inr both ],
   λ h. (gathers x y).1 (elim h [
-    | inl rung ↦ elim (decide_in ids x) [
+    | inl rung ↦ elim (told_number ids x) [
       | inl here ↦ inr (inr here, inr (subst (Contains ids) (alone x y here rung) here))
-      | inr not_x ↦ elim (decide_in ids y) [
+      | inr not_x ↦ elim (told_number ids y) [
         | inl here ↦ absurd (not_x (subst (Contains ids) (alone y x here (rung-turned old r x y rung)) here))
         | inr not_y ↦ inl (rung, not_x, not_y)
       ]
