@@ -1,10 +1,11 @@
 -- Answers as the session keeps them.
-use Rattle.std.specs.Prelude.{◌≡◌, ℕ, List, IfOk}
+use Rattle.std.specs.Prelude.{◌≡◌, ℕ, List, IfOk, Ok, Err}
 use Rattle.std.specs.declared.option.Option.{Option}
 use Rattle.std.specs.declared.result.Result.{Result}
 use Rattle.outside.specs.Transfers.{Writes}
 use Rattle.graph_model.specs.Commands.{Command}
 use Rattle.graph_model.specs.Lines.{Meaning, Quiet, NoForm, Says}
+use Rattle.graph_model.specs.declared.names.Refusal.{Refusal}
 use Rattle.graph_model.specs.Refusals.{number_of}
 use Rattle.graph_model.specs.Replies.{Reply, Refused, Done, Ids, Number, Stands, Compared, Settled}
 use Rattle.graph_model.specs.Runs.{answer_text}
@@ -43,6 +44,11 @@ Tells graph (kept.Stands place) found answer = answer ≡ runs.Replies (Stands p
 Tells graph (kept.Compared verdict) found answer = answer ≡ runs.Replies (Compared verdict)
 Tells graph (kept.Settled verdict) found answer = answer ≡ runs.Replies (Settled verdict)
 Tells graph (kept.Reads reading) found answer = IsReadOf graph (reading_command reading) answer
+
+-- the answer where a request may be refused
+abbrev pub answer_of : Result Answer Refusal → Answer
+answer_of (Ok answer) = answer
+answer_of (Err why) = kept.Refused why
 
 -- whatever the answer is, this is so of it
 abbrev pub MayTell : Kept → Answer → List ℕ → (runs.Answer → Type 0) → Type 0

@@ -1,11 +1,8 @@
 ghost use Rattle.std.specs.Prelude.{◌≡◌, ℕ, ◌+◌, ◌-◌, ◌^◌, ◌<◌, ◌≤◌, List, length};
-ghost use Rattle.graph_model.specs.Runs as runs;
 ghost use Rattle.wire.specs.Readings.{meaning_of};
-ghost use Rattle.graph_model.specs.Replies.{change_reply, names_reply};
 ghost use Rattle.tx_graph.specs.Kept.{Kept};
-ghost use Rattle.tx_graph.specs.Readings.{place_reply, compare_reply, settle_reply};
-ghost use Rattle.replay.specs.Answers.{AnswersMeaning, MayTell, IsReadOf, WritesAnswer};
-ghost use Rattle.replay.specs.Requests.{reading_command};
+ghost use Rattle.replay.specs.Answers.{AnswersMeaning, MayTell, answer_of, IsReadOf, WritesAnswer};
+ghost use Rattle.replay.specs.Requests.{asked, reading_command};
 ghost use Rattle.replay.specs.Sessions.{IsLine, Answers, HasRoom, Suits};
 
 use crate::answer::{Answer, Outcome};
@@ -13,7 +10,7 @@ use crate::reading::Reading;
 use crate::request::Request;
 use crate::session::Piece;
 use crate::writing::{write_diagram, write_order, write_part, write_proof};
-use graph_model::{IdBuf, MAX_LINE, Place, Refusal, Verdict};
+use graph_model::{IdBuf, MAX_LINE, Refusal};
 use outside::{Failed, Sink};
 use std::marker::Brand;
 use std::sync::ledger;
@@ -89,16 +86,9 @@ impl<const W: usize> Obeys for TxGraph<W> {
     ghost words = { W };
 
     fn obey<L: Ledger>(&mut self, ids: &mut IdBuf, line: Line, steps: &mut Steps<L>) -> Answer {
-        match Request::from(line) {
-            Request::Silence => Answer::Silence,
-            Request::Unread => Answer::Unread,
-            Request::Change(change) => changed(change.make(self, steps)),
-            Request::Search(search) => named(search.find(self, ids)),
-            Request::Count(level) => Answer::Number(self.count(level) as u64),
-            Request::Before(a, b) => placed(self.before(a, b)),
-            Request::Compare => compared(self.compare()),
-            Request::Settle => settled(self.settle()),
-            Request::Read(reading) => Answer::Reads(reading),
+        match answer_request(self, ids, Request::from(line), steps) {
+            Ok(answer) => answer,
+            Err(why) => Answer::Refused(why),
         }
     }
 
@@ -133,55 +123,35 @@ fn obey_unpaid<K: ledger::Ledger, G: Obeys>(
     graph.obey(ids, line, &mut steps)
 }
 
-/// The answer to a change.
-fn changed(done: Result<(), Refusal>) -> Answer
-    ensures { (graph : Kept) (found : List ℕ) → MayTell graph result found (λ answer. answer ≡ runs.Replies (change_reply done)) }
+/// The answer to a request, or why it is refused.
+fn answer_request<const W: usize, L: Ledger>(
+    graph: &mut TxGraph<W>,
+    ids: &mut IdBuf,
+    request: Request,
+    steps: &mut Steps<L>,
+) -> Result<Answer, Refusal>
+    requires few { graph.old.levels.issued < 2 ^ 64 - 1 }
+    requires room { HasRoom W ids.old }
+    ensures answers { MayTell graph.new (answer_of result) ids.new.ids
+        (AnswersMeaning (asked request) graph.old graph.new) }
+    ensures additions { graph.new.levels.issued ≤ graph.old.levels.issued + 1 }
+    ensures room { HasRoom W ids.new }
 {
-    match done {
-        Ok(()) => Answer::Done,
-        Err(why) => Answer::Refused(why),
-    }
-}
-
-/// The answer to a reading of names.
-fn named(done: Result<(), Refusal>) -> Answer
-    ensures { (graph : Kept) (found : List ℕ) → MayTell graph result found (λ answer. answer ≡ runs.Replies (names_reply done found)) }
-{
-    match done {
-        Ok(()) => Answer::Names,
-        Err(why) => Answer::Refused(why),
-    }
-}
-
-/// The answer to where one name stands to another.
-fn placed(found: Result<Place, Refusal>) -> Answer
-    ensures { (graph : Kept) (names : List ℕ)
-        → MayTell graph result names (λ answer. answer ≡ runs.Replies (place_reply found)) }
-{
-    match found {
-        Ok(place) => Answer::Stands(place),
-        Err(why) => Answer::Refused(why),
-    }
-}
-
-/// The answer to how staging stands to main.
-fn compared(found: Result<Verdict, Refusal>) -> Answer
-    ensures { (graph : Kept) (names : List ℕ)
-        → MayTell graph result names (λ answer. answer ≡ runs.Replies (compare_reply found)) }
-{
-    match found {
-        Ok(verdict) => Answer::Compared(verdict),
-        Err(why) => Answer::Refused(why),
-    }
-}
-
-/// The answer to a settlement.
-fn settled(done: Result<Verdict, Refusal>) -> Answer
-    ensures { (graph : Kept) (names : List ℕ)
-        → MayTell graph result names (λ answer. answer ≡ runs.Replies (settle_reply done)) }
-{
-    match done {
-        Ok(verdict) => Answer::Settled(verdict),
-        Err(why) => Answer::Refused(why),
-    }
+    Ok(match request {
+        Request::Silence => Answer::Silence,
+        Request::Unread => Answer::Unread,
+        Request::Change(change) => {
+            change.make(graph, steps)?;
+            Answer::Done
+        }
+        Request::Search(search) => {
+            search.find(graph, ids)?;
+            Answer::Names
+        }
+        Request::Count(level) => Answer::Number(graph.count(level) as u64),
+        Request::Before(a, b) => Answer::Stands(graph.before(a, b)?),
+        Request::Compare => Answer::Compared(graph.compare()?),
+        Request::Settle => Answer::Settled(graph.settle()?),
+        Request::Read(reading) => Answer::Reads(reading),
+    })
 }
