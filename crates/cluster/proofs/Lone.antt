@@ -76,7 +76,8 @@ module _ (n : ℕ) (id : ℕ) (g : Closure) (kept : IsNamed n (id ∷ []) g) whe
         order = record {
           topological = topological;
           together = λ p here.
-              subst (λ (q : Part). IsTogether graph.pairs q.ids) (Contains-one part p here) (λ a b first second. (0, sym (Contains-one id a first) ∙ Contains-one id b second));
+              subst (λ (q : Part). IsTogether graph.pairs q.ids) (Contains-one part p here)
+              (λ a b first second. (0, sym (Contains-one id a first) ∙ Contains-one id b second));
         };
         falling = record { summed = λ p here. subst (λ (q : Part). q.rate ≡ sums (sum_at whole) q.ids) (Contains-one part p here) summed; falling = tt };
         flows = λ p here. subst (λ (q : Part). Certifies (sum_at whole) (IsCover graph.pairs) q.ids q.flows) (Contains-one part p here) certifies;

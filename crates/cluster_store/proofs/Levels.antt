@@ -153,7 +153,8 @@ module _ (most : ℕ) (store : Store) (level : Level) (rate : ℕ → Sum) (grap
     own_real x number low =
         size_real (part_at store.clusters x).rate.size
         (subst (λ n. 1 ≤ (part_at store.clusters (n, x.1)).rate.size) (sym number)
-        (own_sizes (get_or (parts_in (finmap.get store.clusters g.1)) x.1 no_part) (Contains-get_or (parts_in (finmap.get store.clusters g.1)) x.1 no_part low)))
+        (own_sizes (get_or (parts_in (finmap.get store.clusters g.1)) x.1 no_part)
+        (Contains-get_or (parts_in (finmap.get store.clusters g.1)) x.1 no_part low)))
 
     own_sorted : IsSorted (comes_before store.clusters) (component g).1
     unfolding component

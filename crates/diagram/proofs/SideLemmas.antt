@@ -57,7 +57,8 @@ next_in_range : (from next : ℕ × ℤ) (to : Option (ℕ × ℤ)) (Behind : Li
 next_in_range from next None Behind points x e are stands = cc
 next_in_range from next (Some other) Behind points x e are stands =
     let same : other ≡ next = same_Some other next e in
-    subst (λ (p : ℕ × ℤ). InRange p.1 p.0) same (stands.ranged other (subst (λ zs. Contains zs other) (sym are.1) (Contains-later from other (other ∷ are.0) (Contains-head other are.0))))
+    subst (λ (p : ℕ × ℤ). InRange p.1 p.0) same
+    (stands.ranged other (subst (λ zs. Contains zs other) (sym are.1) (Contains-later from other (other ∷ are.0) (Contains-head other are.0))))
 
 pub side_in_range : {S : Type 0} (steps : S → Option (ℕ × ℤ) → S → Type 0) (side : Side S) (points : List (ℕ × ℤ)) (x : ℕ)
     → HasPoints steps side points → StandAt points x → IsInRange side.line

@@ -208,7 +208,8 @@ module _ (n : ℕ) (dep : Closure) (parents : List (fin.FinSet nat_cmp)) (member
     pub tried : (later : ℕ) → later ≤ now + most_tried (fin.len group) * fin.len group
         → later ≤ before + most_tried (fin.len members) * fin.len members
     tried later grew =
-        let less = set_within (fin.union done group) members (λ k m. elim (from_union done group k m) [ inl a ↦ stands.inside k a | inr b ↦ next.inside k b ]) in
+        let less = set_within (fin.union done group) members
+        (λ k m. elim (from_union done group k m) [ inl a ↦ stands.inside k a | inr b ↦ next.inside k b ]) in
         omega (arith, most_next later grew, mul-le-mul_left (most_tried (fin.len members)) less)
 
     module _ (new : Written) (adds : Adds n dep group old new) where

@@ -20,11 +20,13 @@ loop-at-preserved g c =
 
 pub returns-clause-least : goal.returns-clause-least
 returns-clause-least g c =
-    counted-least (64 * g.row.W) (λ (s : Stored). s.cluster) c.args.added.now c.args.least c.loop-at.at c.loop-at.lowest c.loop-at-test.false c.loop-at.invariant
+    counted-least (64 * g.row.W) (λ (s : Stored). s.cluster) c.args.added.now c.args.least c.loop-at.at c.loop-at.lowest
+    c.loop-at-test.false c.loop-at.invariant
 
 pub returns-clause-whole : goal.returns-clause-whole
 returns-clause-whole g c =
-    counted-whole (64 * g.row.W) (λ (s : Stored). s.cluster) c.args.added.now c.args.least c.loop-at.at c.loop-at.lowest c.loop-at-test.false c.loop-at.invariant
+    counted-whole (64 * g.row.W) (λ (s : Stored). s.cluster) c.args.added.now c.args.least c.loop-at.at c.loop-at.lowest
+    c.loop-at-test.false c.loop-at.invariant
 
 pub cluster-requires : goal.cluster-requires
 cluster-requires g c = (search, search cluster_in_stored)
