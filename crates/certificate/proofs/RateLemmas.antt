@@ -13,7 +13,7 @@ use Rattle.lists.specs.Distinct.{AreDistinct}
 use Rattle.arithmetic.proofs.Sums.{total-append, total_within}
 use Rattle.fee_rate.specs.declared.rates.Sum.{Sum}
 use Rattle.fee_rate.specs.Limits.{IsSum}
-use Rattle.fee_rate.specs.declared.limits.TheConstants.{MAX_FEE, MAX_SIZE, MAX_TOTAL, }
+use Rattle.fee_rate.specs.declared.limits.TheConstants.{MAX_FEE, MAX_SIZE, MAX_TOTAL}
 use Rattle.fee_rate.specs.Rates.{AtMost}
 use Rattle.graphs.specs.Rates.{sums, Falls}
 use Rattle.graphs.specs.Certificates.{Txs, rate_in}
