@@ -1,15 +1,18 @@
 -- What an accepted command changes of the plain state.
-use Rattle.std.specs.Prelude.{◌≡◌, ℕ, ℤ, true, List, [], ◌∷◌, ◌++◌, Contains, ◌⊎◌, None, Some}
+use Rattle.std.specs.Prelude.{◌≡◌, ◌≢◌, ◌↔◌, ℕ, ℤ, true, List, [], ◌∷◌, ◌++◌, map, take, Contains, ◌⊎◌, None, Some}
 use Rattle.std.specs.FinMap as finmap
-use Rattle.graph_model.specs.declared.names.Limits.{Limits}
-use Rattle.graphs.specs.declared.names.Level.TheVariants.{Top}
+use Rattle.lists.specs.Distinct.{AreDistinct}
+use Rattle.graphs.specs.declared.names.Level.TheVariants.{Main, Top}
 use Rattle.graphs.specs.declared.names.Verdict.TheVariants.{Better}
-use Rattle.graphs.specs.Graphs.{Graph}
+use Rattle.graphs.specs.Graphs.{Graph, IsAncestor}
 use Rattle.graphs.specs.Removals.{IsWithout}
 use Rattle.graphs.specs.Drops.{DropsNames}
-use Rattle.graphs.specs.Certificates.{Part}
-use Rattle.graph_model.specs.Commands.{Command, SetLimits, Add, Dep, SetFee, Remove, Mine, Evict, Stage, Commit, Abort, Settle}
-use Rattle.graph_model.specs.States.{PlainState, Picks, level_of, with_top, size_of}
+use Rattle.graphs.specs.Certificates.{Part, Txs}
+use Rattle.graph_model.specs.declared.limits.TheConstants.{MAX_BLOCKS}
+use Rattle.graph_model.specs.Limits.{Bounds}
+use Rattle.graph_model.specs.Commands.{Command, SetLimits, Add, Dep, SetFee, Remove, Mine, Evict, Stage, Commit, Abort, Settle, Trim, Unmine}
+use Rattle.graph_model.specs.States.{PlainState, Picks, MinedBlock, level_of, pick_of, with_top, size_of, rate_of}
+use Rattle.graph_model.specs.Trims.{IsTrimmed}
 use Rattle.graph_model.specs.Verdicts.{VerdictIs}
 
 -- a changing command was accepted
@@ -17,7 +20,7 @@ abbrev pub begun : PlainState → PlainState
 begun state = record state { begun = true }
 
 -- `limits` sets the limits
-abbrev pub limited : PlainState → Limits → PlainState
+abbrev pub limited : PlainState → Bounds → PlainState
 limited state limits = record (begun state) { limits = limits }
 
 -- `add` puts the name into the table and into top, without pairs
@@ -56,6 +59,51 @@ Removes old id new = (graph : Graph) × IsWithout (level_of old Top) id graph ×
 abbrev pub DropsFromMain : PlainState → List ℕ → PlainState → Type 0
 DropsFromMain old ids new = (graph : Graph) × DropsNames old.main ids graph × Forgets (record (begun old) { main = graph }) new
 
+-- Names are dropped with their pairs from top. Where there are none to drop the level stays.
+abbrev pub DropsFromTop : PlainState → List ℕ → PlainState → Type 0
+DropsFromTop old [] new = new ≡ begun old
+DropsFromTop old (id ∷ ids) new = (graph : Graph) × DropsNames (level_of old Top) (id ∷ ids) graph × Forgets (with_top (begun old) graph) new
+
+-- What a block keeps of names that it takes out of main: the names as they are listed, with their fees and sizes, and each with each of its
+-- descendants as a pair.
+pub record IsMinedBlock (state : PlainState) (ids : List ℕ) (block : MinedBlock) : Type 0 where
+  pub txs : block.txs ≡ map (λ id. (id, (rate_of state.table id).fee, (rate_of state.table id).size)) ids
+  pub pairs : (m d : ℕ) → Contains block.pairs (m, d) ↔ (Contains ids m × IsAncestor state.main.pairs m d × (m ≢ d))
+
+-- `mine` also puts a block in front; of more blocks than are kept the oldest goes
+abbrev pub Mines : PlainState → List ℕ → PlainState → Type 0
+Mines old ids new =
+    (block : MinedBlock) × IsMinedBlock old ids block × DropsFromMain (record old { blocks = take MAX_BLOCKS (block ∷ old.blocks) }) ids new
+
+-- the names of transactions
+abbrev pub ids_of : Txs → List ℕ
+ids_of txs = map (λ tx. tx.0) txs
+
+-- A graph with more names, and with those of more pairs (parent, child) whose child is in it then. In which order names and pairs are
+-- listed is left open.
+pub record PutsNames (old : Graph) (ids : List ℕ) (more : List (ℕ × ℕ)) (new : Graph) : Type 0 where
+  pub names : (id : ℕ) → Contains new.names id ↔ (Contains old.names id ⊎ Contains ids id)
+  pub names_once : AreDistinct new.names
+  pub pairs : (a b : ℕ) → Contains new.pairs (a, b) ↔ (Contains old.pairs (a, b) ⊎ (Contains more (a, b) × Contains new.names b))
+  pub pairs_once : AreDistinct new.pairs
+
+-- transactions come into main with their fees and sizes, and with those of more pairs whose child is in main then
+pub record Restores (old : PlainState) (txs : Txs) (pairs : List (ℕ × ℕ)) (new : PlainState) : Type 0 where
+  pub same : new ≡ record (begun old) { table = new.table; main = new.main }
+  pub graph : PutsNames old.main (ids_of txs) pairs new.main
+  pub listed : (id : ℕ) (fee : ℤ) (size : ℕ) → Contains txs (id, fee, size) → finmap.get new.table id ≡ Some (record { fee = fee; size = size })
+  pub others : (id : ℕ) → (Contains (ids_of txs) id → ⊥) → finmap.get new.table id ≡ finmap.get old.table id
+
+-- `unmine` takes the latest block off, and puts what it keeps back into main
+abbrev pub Unmines : PlainState → PlainState → Type 0
+Unmines old new =
+    (block : MinedBlock) × (earlier : List MinedBlock) × (old.blocks ≡ block ∷ earlier)
+    × Restores (record old { blocks = earlier }) block.txs block.pairs new
+
+-- `trim` drops from top the names that trimming drops
+abbrev pub Trims : PlainState → PlainState → Type 0
+Trims old new = (ids : List ℕ) × IsTrimmed old.limits (rate_of old.table) (level_of old Top) ids × DropsFromTop old ids new
+
 -- the part is the last one
 abbrev pub IsLast : List Part → Part → Type 0
 IsLast parts part = (before : List Part) × (parts ≡ before ++ part ∷ [])
@@ -74,15 +122,17 @@ Aborts old new = Forgets (record (begun old) { staging = None }) new
 
 -- What an accepted command changes, where the levels have these picks. Readings change nothing.
 abbrev pub Changes : Picks → PlainState → Command → PlainState → Type 0
-Changes picks old (SetLimits count size total) new = new ≡ limited old (record { count = count; size = size; total = total })
+Changes picks old (SetLimits limits) new = new ≡ limited old limits
 Changes picks old (Add id fee size) new = new ≡ added old id fee size
 Changes picks old (Dep parent child) new = AddsPair old parent child new
 Changes picks old (SetFee id fee) new = new ≡ with_fee old id fee
 Changes picks old (Remove id) new = Removes old id new
-Changes picks old (Mine ids) new = DropsFromMain old ids new
-Changes picks old Evict new = (part : Part) × IsLast picks.main part × DropsFromMain old part.ids new
+Changes picks old (Mine ids) new = Mines old ids new
+Changes picks old Evict new = (pick : List Part) × (part : Part) × (pick_of picks Main ≡ Some pick) × IsLast pick part × DropsFromMain old part.ids new
 Changes picks old Stage new = new ≡ staged old
 Changes picks old Commit new = Commits old new
 Changes picks old Abort new = Aborts old new
 Changes picks old Settle new = (VerdictIs old Better × Commits old new) ⊎ ((VerdictIs old Better → ⊥) × Aborts old new)
+Changes picks old Trim new = Trims old new
+Changes picks old Unmine new = Unmines old new
 Changes picks old reading new = new ≡ old

@@ -1,13 +1,14 @@
 -- Commands, and how each is spelled. A command has one spelling: its words with one space between
 -- them, and each number without leading zeros.
-use Rattle.std.specs.Prelude.{◌≢◌, ℕ, ℤ, ◌^◌, ◌<◌, List, [], ◌∷◌, map, codes, decimal, FitsSigned, All}
+use Rattle.std.specs.Prelude.{◌≡◌, ◌≢◌, ℕ, ℤ, ◌^◌, ◌<◌, Bool, true, false, List, [], ◌∷◌, map, codes, decimal, FitsSigned, All}
 use Rattle.std.specs.Fmt.{signed_decimal}
 use Rattle.std.specs.Int.{w64}
 use Rattle.graphs.specs.declared.names.Level.{Level}
+use Rattle.graph_model.specs.Limits.{Bounds}
 use Rattle.graph_model.specs.Words.{level_word}
 
 pub data Command : Type 0 where
-  SetLimits : (count size total : ℕ) → Command
+  SetLimits : (limits : Bounds) → Command
   Add : (id : ℕ) (fee : ℤ) (size : ℕ) → Command
   Dep : (parent child : ℕ) → Command
   SetFee : (id : ℕ) (fee : ℤ) → Command
@@ -18,6 +19,8 @@ pub data Command : Type 0 where
   Commit : Command
   Abort : Command
   Settle : Command
+  Trim : Command
+  Unmine : Command
   Compare : Command
   Order : (level : Level) → Command
   Diagram : (level : Level) → Command
@@ -29,9 +32,15 @@ pub data Command : Type 0 where
   Before : (a b : ℕ) → Command
   Block : (size : ℕ) → Command
   Count : (level : Level) → Command
+  Dump : Command
+
+-- the last word of `limits`, where dependencies may pass them
+abbrev pub defer_words : Bool → List (List ℕ)
+defer_words true = codes "defer" ∷ []
+defer_words false = []
 
 abbrev pub words_of : Command → List (List ℕ)
-words_of (SetLimits count size total) = codes "limits" ∷ decimal count ∷ decimal size ∷ decimal total ∷ []
+words_of (SetLimits limits) = codes "limits" ∷ decimal limits.count ∷ decimal limits.size ∷ decimal limits.total ∷ defer_words limits.defer
 words_of (Add id fee size) = codes "add" ∷ decimal id ∷ signed_decimal fee ∷ decimal size ∷ []
 words_of (Dep parent child) = codes "dep" ∷ decimal parent ∷ decimal child ∷ []
 words_of (SetFee id fee) = codes "fee" ∷ decimal id ∷ signed_decimal fee ∷ []
@@ -42,6 +51,8 @@ words_of Stage = codes "stage" ∷ []
 words_of Commit = codes "commit" ∷ []
 words_of Abort = codes "abort" ∷ []
 words_of Settle = codes "settle" ∷ []
+words_of Trim = codes "trim" ∷ []
+words_of Unmine = codes "unmine" ∷ []
 words_of Compare = codes "compare" ∷ []
 words_of (Order level) = codes "order" ∷ level_word level ∷ []
 words_of (Diagram level) = codes "diagram" ∷ level_word level ∷ []
@@ -53,10 +64,11 @@ words_of (Chunk id) = codes "chunk" ∷ decimal id ∷ []
 words_of (Before a b) = codes "before" ∷ decimal a ∷ decimal b ∷ []
 words_of (Block size) = codes "block" ∷ decimal size ∷ []
 words_of (Count level) = codes "count" ∷ level_word level ∷ []
+words_of Dump = codes "dump" ∷ []
 
 -- A command's numbers are of their types: names and sizes of 64 bits, fees of 64 bits with a sign. A list of names to mine has one or more.
 abbrev pub HasTypes : Command → Type 0
-HasTypes (SetLimits count size total) = (count < 2 ^ 64) × (size < 2 ^ 64) × (total < 2 ^ 64)
+HasTypes (SetLimits limits) = (limits.count < 2 ^ 64) × (limits.size < 2 ^ 64) × (limits.total < 2 ^ 64)
 HasTypes (Add id fee size) = (id < 2 ^ 64) × FitsSigned w64 fee × (size < 2 ^ 64)
 HasTypes (Dep parent child) = (parent < 2 ^ 64) × (child < 2 ^ 64)
 HasTypes (SetFee id fee) = (id < 2 ^ 64) × FitsSigned w64 fee
@@ -72,7 +84,11 @@ HasTypes command = Unit {0}
 
 -- The program does the command already. A line that spells another one is in no form, until its body is there.
 abbrev pub IsBuilt : Command → Type 0
+IsBuilt (SetLimits limits) = limits.defer ≡ false
 IsBuilt (Mine ids) = ⊥
 IsBuilt Evict = ⊥
 IsBuilt (Block size) = ⊥
+IsBuilt Trim = ⊥
+IsBuilt Unmine = ⊥
+IsBuilt Dump = ⊥
 IsBuilt command = Unit {0}

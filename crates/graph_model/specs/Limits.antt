@@ -1,18 +1,34 @@
 -- The limits within which a transaction graph works. Sizes are in virtual bytes.
-use Rattle.std.specs.Prelude.{ℕ, ◌≤◌}
+use Rattle.std.specs.Prelude.{ℕ, ◌<◌, ◌≤◌, ◌⊎◌, Bool, false, List, length, sum_by}
 use Rattle.fee_rate.specs.declared.limits.TheConstants.{MAX_TOTAL}
 use Rattle.graph_model.specs.declared.names.Limits.{Limits}
 use Rattle.graph_model.specs.declared.limits.TheConstants.{MAX_CLUSTER_SIZE, DEFAULT_LIMITS}
 
--- The limits that may be set where a cluster may be allowed so many names: names of a cluster, total size of a cluster, live names.
-pub record AreInRange (most : ℕ) (limits : Limits) : Type 0 where
-  pub count_low : 1 ≤ limits.count
-  pub count_high : limits.count ≤ most
-  pub size_low : 1 ≤ limits.size
-  pub size_high : limits.size ≤ MAX_CLUSTER_SIZE
-  pub total_low : 1 ≤ limits.total
-  pub total_high : limits.total ≤ MAX_TOTAL
+-- What is in force: the most names and the greatest total size of a cluster, the most live names, and whether a dependency may bring a
+-- cluster over the first two for a while.
+pub record Bounds : Type 0 where
+  pub count : ℕ
+  pub size : ℕ
+  pub total : ℕ
+  pub defer : Bool
+
+-- limits that no dependency may pass
+abbrev pub bounds_of : Limits → Bounds
+bounds_of limits = record { count = limits.count; size = limits.size; total = limits.total; defer = false }
+
+-- the limits that may be set where a cluster may be allowed so many names
+pub record AreInRange (most : ℕ) (bounds : Bounds) : Type 0 where
+  pub count_low : 1 ≤ bounds.count
+  pub count_high : bounds.count ≤ most
+  pub size_low : 1 ≤ bounds.size
+  pub size_high : bounds.size ≤ MAX_CLUSTER_SIZE
+  pub total_low : 1 ≤ bounds.total
+  pub total_high : bounds.total ≤ MAX_TOTAL
+
+-- these names are more, or larger together, than those of a cluster may be
+abbrev pub AreOver : Bounds → (ℕ → ℕ) → List ℕ → Type 0
+AreOver bounds size ids = (bounds.count < length ids) ⊎ (bounds.size < sum_by size ids)
 
 -- the limits at the start
-abbrev pub default_limits : Limits
-default_limits = DEFAULT_LIMITS
+abbrev pub default_limits : Bounds
+default_limits = bounds_of DEFAULT_LIMITS

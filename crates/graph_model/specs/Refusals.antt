@@ -1,14 +1,16 @@
 -- Which refusal a command meets: the first of its row whose cause holds, and none where no cause does.
-use Rattle.std.specs.Prelude.{◌≡◌, ℕ, true, ◌<◌, ◌≤◌, List, [], ◌∷◌, ◌++◌, length, sum_by, Contains, ◌⊎◌, Option, None, Some, codes}
+use Rattle.std.specs.Prelude.{◌≡◌, ℕ, true, false, ◌+◌, ◌<◌, ◌≤◌, List, [], ◌∷◌, ◌++◌, length, sum_by, Contains, ◌⊎◌, Option, None, Some, codes}
 use Rattle.std.specs.FinMap as finmap
 use Rattle.graph_model.specs.declared.names.Refusal.{Refusal}
-use Rattle.graph_model.specs.declared.names.Refusal.TheVariants.{Late, Range, Fee, Size, Taken, ClusterSize, Full, Unknown, Cycle, Count, Staging, Twice, Parent, Empty, NoStaging, Memory}
+use Rattle.graph_model.specs.declared.names.Refusal.TheVariants.{Late, Range, Fee, Size, Taken, ClusterSize, Full, Unknown, Cycle, Count, Staging, Twice, Parent, Empty, NoStaging, Memory, Oversized, NoBlock, Back}
 use Rattle.graphs.specs.declared.names.Level.{Level}
 use Rattle.graphs.specs.declared.names.Level.TheVariants.{Main, Top}
 use Rattle.fee_rate.specs.Limits.{IsFee, IsSize}
-use Rattle.graph_model.specs.Limits.{AreInRange}
+use Rattle.graph_model.specs.Limits.{Bounds, AreInRange}
 use Rattle.graphs.specs.Graphs.{IsAncestor, AreConnected, Lists}
-use Rattle.graph_model.specs.States.{PlainState, level_of, IsStaged, IsLive, size_of}
+use Rattle.graph_model.specs.States.{PlainState, MinedBlock, level_of, IsStaged, IsLive, size_of}
+use Rattle.graph_model.specs.Oversize.{IsOversized}
+use Rattle.graph_model.specs.Changes.{ids_of, Unmines}
 use Rattle.graph_model.specs.Commands.{Command}
 use Rattle.graph_model.specs.Commands as commands
 
@@ -38,6 +40,9 @@ told_as (Parent id) = told 15 (codes "parent") (Some id)
 told_as Empty = told 16 (codes "empty") None
 told_as NoStaging = told 17 (codes "nostaging") None
 told_as Memory = told 18 (codes "memory") None
+told_as Oversized = told 19 (codes "oversized") None
+told_as NoBlock = told 20 (codes "noblock") None
+told_as (Back id) = told 21 (codes "back") (Some id)
 
 abbrev pub number_of : Refusal → ℕ
 number_of why = (told_as why).number
@@ -49,6 +54,10 @@ First cause why later found = (cause × (found ≡ Some why)) ⊎ ((cause → �
 -- the same for a cause that fixes a number, which the refusal keeps
 abbrev pub FirstAt : (ℕ → Type 0) → (ℕ → Refusal) → (Option Refusal → Type 0) → Option Refusal → Type 0
 FirstAt cause why later found = ((n : ℕ) × cause n × (found ≡ Some (why n))) ⊎ (((n : ℕ) → cause n → ⊥) × later found)
+
+-- the same for a cause that fixes the whole refusal
+abbrev pub FirstOf : (Refusal → Type 0) → (Option Refusal → Type 0) → Option Refusal → Type 0
+FirstOf cause later found = ((why : Refusal) × cause why × (found ≡ Some why)) ⊎ (((why : Refusal) → cause why → ⊥) × later found)
 
 -- the end of a row
 abbrev pub NoRefusal : Option Refusal → Type 0
@@ -73,15 +82,17 @@ abbrev pub JoinsTo : List (ℕ × ℕ) → ℕ → ℕ → List ℕ → Type 0
 JoinsTo pairs parent child members =
     (AreConnected pairs parent child → ⊥) × Lists (λ id. AreConnected pairs id parent ⊎ AreConnected pairs id child) members
 
--- a pair would make a component of n names, more than may be
+-- a pair would make a component of n names, more than may be, where no dependency may pass the limits
 abbrev pub OverCount : PlainState → ℕ → ℕ → ℕ → Type 0
 OverCount state parent child n =
-    (members : List ℕ) × JoinsTo (level_of state Top).pairs parent child members × (n ≡ length members) × (state.limits.count < n)
+    (members : List ℕ) × (state.limits.defer ≡ false) × JoinsTo (level_of state Top).pairs parent child members × (n ≡ length members)
+    × (state.limits.count < n)
 
--- a pair would make a component of this total size, larger than may be
+-- a pair would make a component of this total size, larger than may be, where no dependency may pass the limits
 abbrev pub OverSize : PlainState → ℕ → ℕ → ℕ → Type 0
 OverSize state parent child n =
-    (members : List ℕ) × JoinsTo (level_of state Top).pairs parent child members × (n ≡ sum_by (size_of state.table) members) × (state.limits.size < n)
+    (members : List ℕ) × (state.limits.defer ≡ false) × JoinsTo (level_of state Top).pairs parent child members
+    × (n ≡ sum_by (size_of state.table) members) × (state.limits.size < n)
 
 -- The first entry of a list with a property, which may ask for what stands before the entry.
 pub record IsFirst (P : List ℕ → ℕ → Type 0) (ids : List ℕ) (id : ℕ) : Type 0 where
@@ -99,11 +110,42 @@ StandsTwice before id = Contains before id
 abbrev pub LacksAncestor : PlainState → List ℕ → ℕ → Type 0
 LacksAncestor state ids id = (a : ℕ) × IsAncestor state.main.pairs a id × (Contains ids a → ⊥)
 
+-- the names of the latest block
+abbrev pub latest_ids : List MinedBlock → List ℕ
+latest_ids [] = []
+latest_ids (block ∷ earlier) = ids_of block.txs
+
+-- how names that are over the limits are told: by their number where that is over, else by their total size
+abbrev pub ToldOver : Bounds → (ℕ → ℕ) → List ℕ → Refusal → Type 0
+ToldOver bounds size ids why =
+    ((bounds.count < length ids) × (why ≡ Count (length ids)))
+    ⊎ ((length ids ≤ bounds.count) × (bounds.size < sum_by size ids) × (why ≡ ClusterSize (sum_by size ids)))
+
+-- the name's component in main is over the limits, and told so
+abbrev pub IsInOver : PlainState → ℕ → Refusal → Type 0
+IsInOver state id why =
+    (ids : List ℕ) × Lists (AreConnected state.main.pairs id) ids × ToldOver state.limits (size_of state.table) ids why
+
+-- Where no dependency may pass the limits: of the names that would come back, the first whose component in main then is over them, told so.
+pub record BringsOver (state : PlainState) (why : Refusal) : Type 0 where
+  pub strict : state.limits.defer ≡ false
+  pub next : PlainState
+  pub unmines : Unmines state next
+  pub id : ℕ
+  pub first : IsFirst (λ before id. (any : Refusal) × IsInOver next id any) (latest_ids state.blocks) id
+  pub over : IsInOver next id why
+
+-- the row of a reading of names
+abbrev pub NameRow : (unknown oversized : Type 0) → ℕ → Option Refusal → Type 0
+NameRow unknown oversized id = First unknown (Unknown id) (First oversized Oversized NoRefusal)
+
+-- the row of what needs a staging, and both orders
+abbrev pub CompareRow : (alone oversized : Type 0) → Option Refusal → Type 0
+CompareRow alone oversized = First alone NoStaging (First oversized Oversized NoRefusal)
+
 -- the refusal that a command meets in a state
 abbrev pub RefusalIs : PlainState → Command → Option Refusal → Type 0
-RefusalIs state (commands.SetLimits count size total) =
-    First (state.begun ≡ true) Late
-    (First (AreInRange state.most (record { count = count; size = size; total = total }) → ⊥) Range NoRefusal)
+RefusalIs state (commands.SetLimits limits) = First (state.begun ≡ true) Late (First (AreInRange state.most limits → ⊥) Range NoRefusal)
 RefusalIs state (commands.Add id fee size) =
     AddRow (IsFee fee → ⊥) (IsSize size → ⊥) (IsLive state id) (state.limits.size < size) (state.limits.total ≤ finmap.len state.table) size
 RefusalIs state (commands.Dep parent child) =
@@ -116,19 +158,28 @@ RefusalIs state (commands.Mine ids) =
     (FirstAt (IsFirst StandsTwice ids) Twice
     (FirstAt (IsFirst (λ before id. IsAbsent state Main id) ids) Unknown
     (FirstAt (IsFirst (λ before id. LacksAncestor state ids id) ids) Parent NoRefusal)))
-RefusalIs state commands.Evict = First (IsStaged state) Staging (First (state.main.names ≡ []) Empty NoRefusal)
+RefusalIs state commands.Evict =
+    First (IsStaged state) Staging (First (state.main.names ≡ []) Empty (First (IsOversized state Main) Oversized NoRefusal))
 RefusalIs state commands.Stage = First (IsStaged state) Staging NoRefusal
 RefusalIs state commands.Commit = First (IsStaged state → ⊥) NoStaging NoRefusal
 RefusalIs state commands.Abort = First (IsStaged state → ⊥) NoStaging NoRefusal
-RefusalIs state commands.Settle = First (IsStaged state → ⊥) NoStaging NoRefusal
-RefusalIs state commands.Compare = First (IsStaged state → ⊥) NoStaging NoRefusal
-RefusalIs state (commands.Cluster id level) = First (IsAbsent state level id) (Unknown id) NoRefusal
-RefusalIs state (commands.Ancestors id level) = First (IsAbsent state level id) (Unknown id) NoRefusal
-RefusalIs state (commands.Descendants id level) = First (IsAbsent state level id) (Unknown id) NoRefusal
-RefusalIs state (commands.Chunk id) = First (IsAbsent state Main id) (Unknown id) NoRefusal
-RefusalIs state (commands.Before a b) = First (IsAbsent state Main a) (Unknown a) (First (IsAbsent state Main b) (Unknown b) NoRefusal)
-RefusalIs state (commands.Order level) = NoRefusal
-RefusalIs state (commands.Diagram level) = NoRefusal
-RefusalIs state (commands.Proof level) = NoRefusal
-RefusalIs state (commands.Block size) = NoRefusal
+RefusalIs state commands.Settle = CompareRow (IsStaged state → ⊥) (IsOversized state Main ⊎ IsOversized state Top)
+RefusalIs state commands.Compare = CompareRow (IsStaged state → ⊥) (IsOversized state Main ⊎ IsOversized state Top)
+RefusalIs state commands.Trim = NoRefusal
+RefusalIs state commands.Unmine =
+    First (IsStaged state) Staging
+    (First (state.blocks ≡ []) NoBlock
+    (FirstAt (IsFirst (λ before id. IsLive state id) (latest_ids state.blocks)) Back
+    (First (state.limits.total < finmap.len state.table + length (latest_ids state.blocks)) Full
+    (FirstOf (BringsOver state) NoRefusal))))
+RefusalIs state (commands.Cluster id level) = NameRow (IsAbsent state level id) (IsOversized state level) id
+RefusalIs state (commands.Ancestors id level) = NameRow (IsAbsent state level id) (IsOversized state level) id
+RefusalIs state (commands.Descendants id level) = NameRow (IsAbsent state level id) (IsOversized state level) id
+RefusalIs state (commands.Chunk id) = NameRow (IsAbsent state Main id) (IsOversized state Main) id
+RefusalIs state (commands.Before a b) = First (IsAbsent state Main a) (Unknown a) (NameRow (IsAbsent state Main b) (IsOversized state Main) b)
+RefusalIs state (commands.Order level) = First (IsOversized state level) Oversized NoRefusal
+RefusalIs state (commands.Diagram level) = First (IsOversized state level) Oversized NoRefusal
+RefusalIs state (commands.Proof level) = First (IsOversized state level) Oversized NoRefusal
+RefusalIs state (commands.Block size) = First (IsOversized state Main) Oversized NoRefusal
 RefusalIs state (commands.Count level) = NoRefusal
+RefusalIs state commands.Dump = First (IsOversized state Main) Oversized NoRefusal

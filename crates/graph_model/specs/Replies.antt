@@ -11,6 +11,7 @@ use Rattle.graphs.specs.Certificates.{Part}
 use Rattle.graph_model.specs.Refusals.{told_as}
 use Rattle.graph_model.specs.Words.{spaced, line_text}
 use Rattle.graph_model.specs.Texts.{Text, text_lines, chunk_line}
+use Rattle.graph_model.specs.Dumps.{DumpText, dump_lines}
 
 pub data Reply : Type 0 where
   Refused : (why : Refusal) → Reply
@@ -29,6 +30,10 @@ pub data Reply : Type 0 where
   -- the part that was dropped, and the sum and the names of a block
   Evicted : (part : Part) → Reply
   Built : (sum : Sum) (ids : List ℕ) → Reply
+  -- the names that were trimmed, with their sum; the names that came back; and the text of a graph
+  Trimmed : (sum : Sum) (ids : List ℕ) → Reply
+  Unmined : (ids : List ℕ) → Reply
+  Dumped : (text : DumpText) → Reply
 
 -- a number that is kept, as words
 abbrev pub kept_words : Option ℕ → List (List ℕ)
@@ -80,6 +85,9 @@ lines_of (Compared verdict) = verdict_word verdict ∷ []
 lines_of (Settled verdict) = spaced (settled_words verdict) ∷ []
 lines_of (Evicted part) = sum_line (codes "evicted") part.rate part.ids ∷ []
 lines_of (Built sum ids) = sum_line (codes "block") sum ids ∷ []
+lines_of (Trimmed sum ids) = sum_line (codes "trimmed") sum ids ∷ []
+lines_of (Unmined ids) = spaced (codes "unmined" ∷ map decimal ids) ∷ []
+lines_of (Dumped text) = dump_lines text
 
 abbrev pub text_of : Reply → List ℕ
 text_of reply = flat_map line_text (lines_of reply)

@@ -6,7 +6,6 @@ use Rattle.graph_model.specs.Commands.{Command}
 use Rattle.graph_model.specs.Replies.{Reply, text_of}
 use Rattle.graph_model.specs.Steps.{PlainStep, Step}
 use Rattle.graph_model.specs.Lines.{Quiet, Says, NoForm, Means, max_line}
-use Rattle.graph_model.specs.declared.limits.TheConstants.{MAX_COUNT}
 
 -- from old, these inputs may get these outputs, one each in their order, by steps that lead to new
 abbrev pub RunBy : {S I O : Type 0} → (S → I → O → S → Type 0) → S → List I → List O → S → Type 0
@@ -49,6 +48,6 @@ answer_text (Replies reply) = text_of reply
 abbrev pub Run : State → List (List ℕ) → List Answer → State → Type 0
 Run = RunBy LineStep
 
--- the text may be the output of a run over these lines, from the start
-abbrev pub MayWrite : List (List ℕ) → List ℕ → Type 0
-MayWrite lines text = (answers : List Answer) × (end : State) × Run (start MAX_COUNT) lines answers end × (text ≡ flat_map answer_text answers)
+-- the text may be the output of a run over these lines, from the start, where a cluster may be allowed so many names
+abbrev pub MayWrite : ℕ → List (List ℕ) → List ℕ → Type 0
+MayWrite most lines text = (answers : List Answer) × (end : State) × Run (start most) lines answers end × (text ≡ flat_map answer_text answers)

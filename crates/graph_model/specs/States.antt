@@ -4,12 +4,11 @@ use Rattle.std.specs.Prelude.{ℕ, ℤ, pos, Bool, false, List, [], Option, None
 use Rattle.std.specs.Ordering.{nat_cmp}
 use Rattle.std.specs.FinMap as finmap
 use Rattle.fee_rate.specs.declared.rates.Sum.{Sum}
-use Rattle.graph_model.specs.declared.names.Limits.{Limits}
 use Rattle.graphs.specs.declared.names.Level.{Level}
 use Rattle.graphs.specs.declared.names.Level.TheVariants.{Main, Top}
-use Rattle.graph_model.specs.Limits.{default_limits}
+use Rattle.graph_model.specs.Limits.{Bounds, default_limits}
 use Rattle.graphs.specs.Graphs.{Graph}
-use Rattle.graphs.specs.Certificates.{Part}
+use Rattle.graphs.specs.Certificates.{Part, Txs}
 
 -- what the table has of a name
 pub record Entry : Type 0 where
@@ -20,8 +19,14 @@ pub record Entry : Type 0 where
 abbrev pub Table : Type 0
 Table = finmap.FinMap nat_cmp Entry
 
+-- What a mined block took out of main: its names with their fees and sizes, in the listed order, and pairs (parent, child) that give its
+-- names back to their descendants. In which order the pairs are listed says nothing.
+pub record MinedBlock : Type 0 where
+  pub txs : Txs
+  pub pairs : List (ℕ × ℕ)
+
 pub record PlainState : Type 0 where
-  pub limits : Limits
+  pub limits : Bounds
   -- the most names that the limit of a cluster may allow
   pub most : ℕ
   -- whether a changing command was accepted
@@ -29,11 +34,13 @@ pub record PlainState : Type 0 where
   pub table : Table
   pub main : Graph
   pub staging : Option Graph
+  -- the mined blocks that can be taken back, the latest first
+  pub blocks : List MinedBlock
 
--- the pick of each level, the parts of its order with their flows
+-- the pick of each level, the parts of its order with their flows; none where the level is over a limit
 pub record Picks : Type 0 where
-  pub main : List Part
-  pub staging : Option (List Part)
+  pub main : Option (List Part)
+  pub staging : Option (Option (List Part))
 
 pub record State : Type 0 where
   pub plain : PlainState
@@ -45,22 +52,30 @@ empty_graph = record { names = []; pairs = [] }
 
 -- the state at the start, where a cluster may be allowed so many names
 abbrev pub plain_start : ℕ → PlainState
-plain_start most = record { limits = default_limits; most = most; begun = false; table = finmap.empty; main = empty_graph; staging = None }
+plain_start most = record {
+  limits = default_limits;
+  most = most;
+  begun = false;
+  table = finmap.empty;
+  main = empty_graph;
+  staging = None;
+  blocks = [];
+}
 
 abbrev pub start : ℕ → State
-start most = record { plain = plain_start most; picks = record { main = []; staging = None } }
+start most = record { plain = plain_start most; picks = record { main = Some []; staging = None } }
 
 -- what staging has where there is one, else what main has
 abbrev pub top_of : {A : Type 0} → A → Option A → A
 top_of main None = main
 top_of main (Some staging) = staging
 
--- of a level: its graph, and its pick
+-- of a level: its graph, and its pick where it has one
 abbrev pub level_of : PlainState → Level → Graph
 level_of state Main = state.main
 level_of state Top = top_of state.main state.staging
 
-abbrev pub pick_of : Picks → Level → List Part
+abbrev pub pick_of : Picks → Level → Option (List Part)
 pick_of picks Main = picks.main
 pick_of picks Top = top_of picks.main picks.staging
 

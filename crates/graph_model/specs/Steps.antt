@@ -1,11 +1,11 @@
 -- One command: which reply it may get in a state, and which state may follow.
-use Rattle.std.specs.Prelude.{◌≡◌, ℕ, Option, None, Some, ◌⊎◌, Contains}
+use Rattle.std.specs.Prelude.{◌≡◌, ℕ, List, Option, None, Some, ◌⊎◌, Contains}
 use Rattle.graphs.specs.declared.names.Verdict.TheVariants.{Better}
 use Rattle.graph_model.specs.declared.names.Refusal.{Refusal}
-use Rattle.graph_model.specs.declared.names.Refusal.TheVariants.{Memory}
+use Rattle.graph_model.specs.declared.names.Refusal.TheVariants.{Memory, Count, ClusterSize}
 use Rattle.graphs.specs.Graphs.{Graph}
 use Rattle.graph_model.specs.States.{PlainState, Picks, State, Table, rate_of}
-use Rattle.graph_model.specs.Commands.{Command, Add, Dep, SetFee, Remove, Mine, Evict, Block, Stage, Commit, Settle}
+use Rattle.graph_model.specs.Commands.{Command, Add, Dep, SetFee, Remove, Mine, Evict, Block, Trim, Unmine, Dump, Stage, Commit, Settle}
 use Rattle.graph_model.specs.Refusals.{RefusalIs}
 use Rattle.graph_model.specs.Changes.{Changes}
 use Rattle.graph_model.specs.Answers.{Answers}
@@ -22,7 +22,16 @@ MayLackMemory (Remove id) = Unit {0}
 MayLackMemory (Mine ids) = Unit {0}
 MayLackMemory Evict = Unit {0}
 MayLackMemory (Block size) = Unit {0}
+MayLackMemory Trim = Unit {0}
+MayLackMemory Unmine = Unit {0}
+MayLackMemory Dump = Unit {0}
 MayLackMemory command = ⊥
+
+-- what may be answered by want of memory in its place: that `unmine` would bring a component over a limit
+abbrev pub MayGiveWay : Command → Refusal → Type 0
+MayGiveWay Unmine (Count n) = Unit {0}
+MayGiveWay Unmine (ClusterSize n) = Unit {0}
+MayGiveWay command why = ⊥
 
 -- a refused command changes nothing
 pub record IsRefused {S : Type 0} (refuses : S → Command → Option Refusal → Type 0) (old : S) (command : Command) (reply : Reply) (new : S) : Type 0 where
@@ -31,10 +40,18 @@ pub record IsRefused {S : Type 0} (refuses : S → Command → Option Refusal �
   pub told : reply ≡ Refused why
   pub same : new ≡ old
 
--- nor does one that finds no memory, which comes after every other refusal
+-- nor does one that finds no memory, where nothing else refuses it
 pub record LacksMemory {S : Type 0} (refuses : S → Command → Option Refusal → Type 0) (old : S) (command : Command) (reply : Reply) (new : S) : Type 0 where
   pub none : refuses old command None
   pub may : MayLackMemory command
+  pub told : reply ≡ Refused Memory
+  pub same : new ≡ old
+
+-- nor does one that finds no memory in place of a refusal that gives way to it
+pub record GivesWay {S : Type 0} (refuses : S → Command → Option Refusal → Type 0) (old : S) (command : Command) (reply : Reply) (new : S) : Type 0 where
+  pub why : Refusal
+  pub first : refuses old command (Some why)
+  pub may : MayGiveWay command why
   pub told : reply ≡ Refused Memory
   pub same : new ≡ old
 
@@ -46,7 +63,8 @@ pub record IsAccepted {S : Type 0} (refuses : S → Command → Option Refusal �
 -- A step of a machine, by the refusals of its commands and by what may follow an accepted one.
 abbrev pub StepBy : {S : Type 0} → (S → Command → Option Refusal → Type 0) → (S → Command → Reply → S → Type 0) → S → Command → Reply → S → Type 0
 StepBy refuses Accepts old command reply new =
-    IsRefused refuses old command reply new ⊎ (LacksMemory refuses old command reply new ⊎ IsAccepted refuses Accepts old command reply new)
+    IsRefused refuses old command reply new
+    ⊎ ((LacksMemory refuses old command reply new ⊎ GivesWay refuses old command reply new) ⊎ IsAccepted refuses Accepts old command reply new)
 
 -- the plain part of an accepted command, where the levels have these picks: what it is answered, and what it changes
 pub record AcceptsPlainly (picks : Picks) (old : PlainState) (command : Command) (reply : Reply) (new : PlainState) : Type 0 where
@@ -61,7 +79,8 @@ PlainStep picks = StepBy RefusalIs (AcceptsPlainly picks)
 abbrev pub HaveSameRates : Table → Table → Graph → Type 0
 HaveSameRates old new graph = (id : ℕ) → Contains graph.names id → rate_of new id ≡ rate_of old id
 
--- A level whose graph is as it was, and the fees and sizes of its names too, keeps its pick; any other has any pick there is.
+-- A level whose graph is as it was, and the fees and sizes of its names too, keeps its pick, or its lack of one; any other has any pick
+-- there is, or none where it is oversized.
 pub record KeepsPicks (old new : State) : Type 0 where
   pub picks : ArePicks new.plain new.picks
   pub main : new.plain.main ≡ old.plain.main → HaveSameRates old.plain.table new.plain.table new.plain.main → new.picks.main ≡ old.picks.main

@@ -2,6 +2,11 @@
 ghost use Rattle.graph_model.specs.Laws.{AnswersAreInOrder, ReadingsLackNoMemory, RefusedChangesNothing, RowsAreFunctions, StepsKeepValid};
 ghost use Rattle.graph_model.specs.ProofLaws.{ProofsAreCertificates};
 ghost use Rattle.graph_model.specs.SameLaws.{StepsAreFunctions};
+ghost use Rattle.graph_model.specs.TrimLaws.{TrimDropsOneSet};
+ghost use Rattle.graph_model.specs.UnmineLaws.{MinedComesBack};
+ghost use Rattle.graph_model.specs.DumpLaws.{DumpsLoad};
+ghost use Rattle.graph_model.specs.BlockLaws.{BlocksBeginBest};
+ghost use Rattle.graph_model.specs.RunLaws.{RunsAreSound};
 ghost use Rattle.graph_model.specs.StagingLaws.{AbortLeavesMain};
 
 /// No answer is lost or out of order: a run over lines that come one after the other is the run over
@@ -43,4 +48,29 @@ pub fn proofs_are_certificates()
 /// The same accepted command makes the same of states that differ in the order of names and pairs, and in picks, at most.
 pub fn steps_are_functions()
     ensures { StepsAreFunctions }
+{}
+
+/// Trimming drops one set of names, after which no component is over the limits.
+pub fn trim_drops_one_set()
+    ensures { TrimDropsOneSet }
+{}
+
+/// A block that is taken back directly after it was mined restores names, sums and ancestors.
+pub fn mined_comes_back()
+    ensures { MinedComesBack }
+{}
+
+/// The text of a graph can be loaded, and makes a graph that agrees with it.
+pub fn dumps_load()
+    ensures { DumpsLoad }
+{}
+
+/// What a block takes before it leaves a part out is the front of the order, and the best of its size.
+pub fn blocks_begin_best()
+    ensures { BlocksBeginBest }
+{}
+
+/// Each state of a run is valid, and each order that a run reports is optimal.
+pub fn runs_are_sound()
+    ensures { RunsAreSound }
 {}

@@ -20,8 +20,9 @@ pub use graphs::{
     unions_keep_components, verdicts_are_unique,
 };
 pub use laws::{
-    abort_leaves_main, answers_are_in_order, proofs_are_certificates, readings_lack_no_memory,
-    refused_changes_nothing, rows_are_functions, steps_are_functions, steps_keep_valid,
+    abort_leaves_main, answers_are_in_order, blocks_begin_best, dumps_load, mined_comes_back,
+    proofs_are_certificates, readings_lack_no_memory, refused_changes_nothing, rows_are_functions,
+    runs_are_sound, steps_are_functions, steps_keep_valid, trim_drops_one_set,
 };
-pub use limits::{DEFAULT_LIMITS, MAX_CLUSTER_SIZE, MAX_COUNT, MAX_INPUT, MAX_LINE};
+pub use limits::{DEFAULT_LIMITS, MAX_BLOCKS, MAX_CLUSTER_SIZE, MAX_COUNT, MAX_INPUT, MAX_LINE};
 pub use names::{Limits, Place, Refusal};

@@ -5,7 +5,7 @@ use graphs::TxId;
 /// The limits of a graph.
 #[derive(Clone, Copy, Debug, PartialEq, Eq)]
 pub struct Limits {
-    /// The most names that a cluster may have: 1 to 64.
+    /// The most names that a cluster may have: 1 to 64 for each word of the graph's sets.
     pub count: u64,
     /// The greatest total size of a cluster, in virtual bytes: 1 to 256,000,000.
     pub size: u64,
@@ -57,6 +57,12 @@ pub enum Refusal {
     Empty,
     /// No staging is open.
     NoStaging,
+    /// A component of the level that is spoken of is over a limit, so that the level has no order.
+    Oversized,
+    /// No mined block is left to take back.
+    NoBlock,
+    /// The name of the block is live again.
+    Back(TxId),
     /// There was no memory.
     Memory,
 }
@@ -64,7 +70,7 @@ pub enum Refusal {
 impl Refusal {
     ghost use Rattle.graph_model.specs.Refusals.{number_of, told_as};
 
-    /// The number of the refusal, from 3 to 18; 1 and 2 are of lines that are no command.
+    /// The number of the refusal, from 3 to 21; 1 and 2 are of lines that are no command.
     pub fn number(&self) -> u8
         ensures { result ≡ number_of self.now }
     {
@@ -108,6 +114,9 @@ impl Refusal {
             Refusal::Empty => (16, "empty", None),
             Refusal::NoStaging => (17, "nostaging", None),
             Refusal::Memory => (18, "memory", None),
+            Refusal::Oversized => (19, "oversized", None),
+            Refusal::NoBlock => (20, "noblock", None),
+            Refusal::Back(id) => (21, "back", Some(*id)),
         }
     }
 }
