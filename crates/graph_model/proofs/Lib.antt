@@ -8,6 +8,9 @@ pub mod StepLemmas
 pub mod EdgeLemmas
 pub mod SpellingLemmas
 pub mod AmountLemmas
+pub mod TxLemmas
 pub mod ProofLemmas
 pub mod SameLemmas
 pub mod BlockLemmas
+pub mod ReadingLemmas
+pub mod DumpLemmas
