@@ -1,12 +1,16 @@
 pub mod RowLemmas
+pub mod OverLemmas
+pub mod OneRefusal
 pub mod RunLemmas
 pub mod AbortLemmas
 pub mod LevelLemmas
 pub mod ValidLemmas
 pub mod ChangeLemmas
+pub mod MinedLemmas
 pub mod StepLemmas
 pub mod EdgeLemmas
 pub mod SpellingLemmas
 pub mod AmountLemmas
 pub mod ProofLemmas
 pub mod SameLemmas
+pub mod FunctionLemmas
