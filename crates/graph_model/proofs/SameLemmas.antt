@@ -89,7 +89,7 @@ same_top a b x y same graphs = of_top a x (λ p. IsSameState p (with_top b y))
     (λ h other. record { limits = same.limits; most = same.most; begun = same.begun; table = same.table; main = same.main; staging = graphs; blocks = same.blocks }))
 
 pub same_begun : (a b : PlainState) → IsSameState a b → IsSameState (begun a) (begun b)
-same_begun a b same = record { limits = same.limits; most = same.most; begun = refl; table = same.table; main = same.main; staging = same.staging }
+same_begun a b same = record { limits = same.limits; most = same.most; begun = refl; table = same.table; main = same.main; staging = same.staging; blocks = same.blocks }
 
 -- tables that forget the names that are in no level
 pub same_left : (a b a' b' : PlainState) → IsSameState a b → Forgets a a' → Forgets b b' → IsSameState a' b'
