@@ -99,7 +99,7 @@ same_left a b a' b' same one two =
       | inr gone ↦ one.dropped id gone ∙ sym (two.dropped id (λ kept. gone (kept_to b a id (state_back a b same) kept)))
     ] in
     let all : IsSameState (record a { table = a'.table }) (record b { table = b'.table }) =
-    record { limits = same.limits; most = same.most; begun = same.begun; table = entry; main = same.main; staging = same.staging } in
+    record { limits = same.limits; most = same.most; begun = same.begun; table = entry; main = same.main; staging = same.staging; blocks = same.blocks } in
     subst (λ (p : PlainState). IsSameState p b') (sym one.same) (subst (IsSameState (record a { table = a'.table })) (sym two.same) all)
 
 pub same_put : (ta tb : Table) (id : ℕ) (ea eb : Entry) → ea ≡ eb → ((q : ℕ) → finmap.get ta q ≡ finmap.get tb q)
