@@ -1,9 +1,12 @@
 pub mod RowLemmas
+pub mod OverLemmas
+pub mod OneRefusal
 pub mod RunLemmas
 pub mod AbortLemmas
 pub mod LevelLemmas
 pub mod ValidLemmas
 pub mod ChangeLemmas
+pub mod MinedLemmas
 pub mod StepLemmas
 pub mod EdgeLemmas
 pub mod SpellingLemmas
@@ -14,3 +17,4 @@ pub mod SameLemmas
 pub mod BlockLemmas
 pub mod ReadingLemmas
 pub mod DumpLemmas
+pub mod FunctionLemmas
