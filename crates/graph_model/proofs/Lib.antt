@@ -17,4 +17,5 @@ pub mod SameLemmas
 pub mod BlockLemmas
 pub mod ReadingLemmas
 pub mod DumpLemmas
+pub mod PickReplies
 pub mod FunctionLemmas
