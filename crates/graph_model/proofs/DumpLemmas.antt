@@ -9,18 +9,18 @@ use Rattle.std.proofs.lemmas.List.{length-map}
 use Rattle.std.proofs.lemmas.List.Kept.{AllPairs-from_increasing}
 use Rattle.lists.specs.Distinct.{AreDistinct}
 use Rattle.lists.proofs.Distinct.{distinct_from_places}
-use Rattle.lists.proofs.Entries.{Contains-map}
+use Rattle.lists.proofs.Entries.{map_along}
 use Rattle.lists.proofs.Follows.{Follow, follow_once}
 use Rattle.lists.proofs.Keys.{names-within}
 use Rattle.fee_rate.specs.declared.rates.Sum.{Sum}
 use Rattle.fee_rate.specs.Limits.{IsFee, IsSize}
-use Rattle.graphs.specs.Graphs.{Graph, AreConnected, IsGraph, IsCover}
+use Rattle.graphs.specs.Graphs.{Graph, AreConnected, IsGraph, IsCover, Lists}
 use Rattle.graphs.specs.Alikes.{AreAlike}
 use Rattle.graphs.specs.Certificates.{Txs, rate_in}
 use Rattle.graphs.specs.Diagrams.{AreCorners}
 use Rattle.graphs.specs.Merges.{Precedes}
 use Rattle.graphs.proofs.AlikeLemmas.{alike_back, connected_to, cover_to, corners_to}
-use Rattle.graphs.proofs.ListLemmas.{Lists-same}
+use Rattle.graphs.proofs.ListLemmas.{Lists-same, Lists-for}
 use Rattle.graphs.proofs.WalkLemmas.{walk_within}
 use Rattle.graphs.proofs.BestLemmas.{covers_are_pairs}
 use Rattle.graph_model.specs.States.{PlainState, Table, Entry, size_in, sum_in, size_of, rate_of, IsLive}
@@ -61,13 +61,25 @@ edges_same a b one other same =
 
 -- ---- a graph has one text
 
-one_text : (table : Table) (graph : Graph) (a b : DumpText) → IsDump table graph a → IsDump table graph b → a ≡ b
-one_text table graph a b one other =
-    let ids : ids_of a.txs ≡ ids_of b.txs = Lists-same (Contains graph.names) (ids_of a.txs) (ids_of b.txs) one.names other.names in
-    let txs : a.txs ≡ b.txs = one.sums ∙ ap (map (tx_of (rate_of table))) ids ∙ sym other.sums in
-    let edges : a.edges ≡ b.edges = edges_same a.edges b.edges one.rising other.rising (λ x.
-        (λ here. (other.covers x.0 x.1).1 ((one.covers x.0 x.1).0 here), λ here. (one.covers x.0 x.1).1 ((other.covers x.0 x.1).0 here))) in
+-- graphs with the same names, fees, sizes and covering pairs have the same text
+pub texts_same : (ta tb : Table) (a b : Graph) (s t : DumpText) → ((id : ℕ) → Contains a.names id ↔ Contains b.names id)
+    → ((id : ℕ) → rate_of ta id ≡ rate_of tb id) → ((x y : ℕ) → IsCover a.pairs x y ↔ IsCover b.pairs x y) → IsDump ta a s → IsDump tb b t → s ≡ t
+texts_same ta tb a b s t names rates covers one other =
+    let listed : Lists (Contains a.names) (ids_of t.txs) =
+    Lists-for (Contains b.names) (Contains a.names) (ids_of t.txs) (λ id. (names id).1) (λ id. (names id).0) other.names in
+    let ids : ids_of s.txs ≡ ids_of t.txs = Lists-same (Contains a.names) (ids_of s.txs) (ids_of t.txs) one.names listed in
+    let told : map (tx_of (rate_of ta)) (ids_of s.txs) ≡ map (tx_of (rate_of tb)) (ids_of s.txs) =
+    map_along (tx_of (rate_of ta)) (tx_of (rate_of tb)) (ids_of s.txs) (λ id here. ap (λ (sum : Sum). (id, sum.fee, sum.size)) (rates id)) in
+    let txs : s.txs ≡ t.txs = one.sums ∙ told ∙ ap (map (tx_of (rate_of tb))) ids ∙ sym other.sums in
+    let edges : s.edges ≡ t.edges = edges_same s.edges t.edges one.rising other.rising (λ e.
+        (
+          λ here. (other.covers e.0 e.1).1 ((covers e.0 e.1).0 ((one.covers e.0 e.1).0 here)),
+          λ here. (one.covers e.0 e.1).1 ((covers e.0 e.1).1 ((other.covers e.0 e.1).0 here)),
+        )) in
     λ i. record { txs = txs i; edges = edges i }
+
+one_text : (table : Table) (graph : Graph) (a b : DumpText) → IsDump table graph a → IsDump table graph b → a ≡ b
+one_text table graph a b = texts_same table table graph graph a b (λ id. (λ h. h, λ h. h)) (λ id. refl) (λ x y. (λ h. h, λ h. h))
 
 -- ---- the text of main
 

@@ -23,12 +23,14 @@ use Rattle.graph_model.specs.Changes.{IsLast}
 use Rattle.graph_model.specs.Answers.{order_of, ListsCovers, ProvesOrder, StandsTo, Answers}
 use Rattle.graph_model.specs.Blocks.{IsBlock, taken_of, ShareComponent}
 use Rattle.graph_model.specs.Texts.{Text}
+use Rattle.graph_model.specs.Dumps.{DumpText, IsDump}
 use Rattle.graph_model.specs.Replies.{Reply, Parts, Proves, OnePart, Stands, Evicted, Built}
 use Rattle.graph_model.specs.Commands.{Command, Evict, Order, Proof, Chunk, Before, Block}
 use Rattle.graph_model.specs.Validity.{IsValid, ArePicks}
 use Rattle.graph_model.specs.SameLaws.{IsSameGraph, IsSameState, ReadsNoPick}
 use Rattle.graph_model.proofs.EdgeLemmas.{not_before_itself, followed}
 use Rattle.graph_model.proofs.TxLemmas.{tx_of}
+use Rattle.graph_model.proofs.DumpLemmas.{texts_same}
 use Rattle.graph_model.proofs.SameLemmas.{back, up_to, linked_to, level_same}
 use Rattle.graph_model.proofs.ProofLemmas.{level_pick}
 
@@ -158,14 +160,13 @@ proof_same ta tb a b pick one other rates covers once first second =
     let parts : one.parts ≡ other.parts = first.parts ∙ sym second.parts in
     λ i. record { txs = txs i; edges = edges i; parts = parts i }
 
--- ---- replies
+-- ---- states that are the same
 
-module _ (picks : Picks) (a b : PlainState) (valid_a : IsValid a) (valid_b : IsValid b) (picks_a : ArePicks a picks) (picks_b : ArePicks b picks)
-    (same : IsSameState a b) where
+module _ (a b : PlainState) (same : IsSameState a b) where
   rates_same : (id : ℕ) → rate_of a.table id ≡ rate_of b.table id
   rates_same id = ap sum_in (same.table id)
 
-  level_alike : (level : Level) → AreAlike (rate_of a.table) (level_of a level) (rate_of b.table) (level_of b level)
+  pub level_alike : (level : Level) → AreAlike (rate_of a.table) (level_of a level) (rate_of b.table) (level_of b level)
   level_alike level =
       let graphs = level_same a b level same in
       record {
@@ -175,7 +176,7 @@ module _ (picks : Picks) (a b : PlainState) (valid_a : IsValid a) (valid_b : IsV
             (up_to (level_of a level) (level_of b level) graphs x y, up_to (level_of b level) (level_of a level) (back (level_of a level) (level_of b level) graphs) x y);
       }
 
-  level_covers : (level : Level) (x y : ℕ) → IsCover (level_of a level).pairs x y ↔ IsCover (level_of b level).pairs x y
+  pub level_covers : (level : Level) (x y : ℕ) → IsCover (level_of a level).pairs x y ↔ IsCover (level_of b level).pairs x y
   level_covers level x y =
       let alike = level_alike level in
       (
@@ -184,6 +185,14 @@ module _ (picks : Picks) (a b : PlainState) (valid_a : IsValid a) (valid_b : IsV
         (alike_back (rate_of a.table) (rate_of b.table) (level_of a level) (level_of b level) alike) x y,
       )
 
+  -- their main graphs have one text
+  pub dumps_same : (s t : DumpText) → IsDump a.table a.main s → IsDump b.table b.main t → s ≡ t
+  dumps_same s t = texts_same a.table b.table a.main b.main s t same.main.names rates_same (level_covers Main)
+
+-- ---- replies
+
+module _ (picks : Picks) (a b : PlainState) (valid_a : IsValid a) (valid_b : IsValid b) (picks_a : ArePicks a picks) (picks_b : ArePicks b picks)
+    (same : IsSameState a b) where
   main_linked : (x y : ℕ) → AreConnected a.main.pairs x y ↔ AreConnected b.main.pairs x y
   main_linked x y = (linked_to a.main b.main same.main x y, linked_to b.main a.main (back a.main b.main same.main) x y)
 
@@ -202,7 +211,7 @@ module _ (picks : Picks) (a b : PlainState) (valid_a : IsValid a) (valid_b : IsV
   proofs_same : (level : Level) (p q : List Part) (s t : Text) → pick_of picks level ≡ Some p → ProvesOrder a.table (level_of a level) p s
       → pick_of picks level ≡ Some q → ProvesOrder b.table (level_of b level) q t → s ≡ t
   proofs_same level p q s t one first other second =
-      proof_same a.table b.table (level_of a level) (level_of b level) p s t rates_same (level_covers level) (pick_once level p one) first
+      proof_same a.table b.table (level_of a level) (level_of b level) p s t (rates_same a b same) (level_covers a b same level) (pick_once level p one) first
       (subst (λ (ps : List Part). ProvesOrder b.table (level_of b level) ps t) (picks_same level p q one other) second)
 
   holders_same : (p q : List Part) (x y : Part) (id : ℕ) → pick_of picks Main ≡ Some p → Contains p x → Contains x.ids id
