@@ -10,3 +10,4 @@ pub mod SpellingLemmas
 pub mod AmountLemmas
 pub mod ProofLemmas
 pub mod SameLemmas
+pub mod TrimLemmas
