@@ -11,3 +11,4 @@ pub mod AmountLemmas
 pub mod ProofLemmas
 pub mod SameLemmas
 pub mod TrimLemmas
+pub mod TrimmedLemmas

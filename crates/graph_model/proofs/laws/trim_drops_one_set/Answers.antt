@@ -1,11 +1,12 @@
-use Rattle.graph_model.proofs.TrimLemmas.{trimmed_once}
+use Rattle.graph_model.proofs.TrimLemmas.{trimmed_once, trimmed_descendants, trimmed_nothing}
+use Rattle.graph_model.proofs.TrimmedLemmas.{trimmed_within}
 use Rattle.graph_model.proofs.laws.trim_drops_one_set.Goals as goal
 
 pub returns : goal.returns
 returns c = record {
   some = ?some;
   one = trimmed_once;
-  descendants = ?descendants;
-  within = ?within;
-  nothing = ?nothing;
+  descendants = trimmed_descendants;
+  within = trimmed_within;
+  nothing = trimmed_nothing;
 }
