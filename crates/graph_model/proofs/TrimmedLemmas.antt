@@ -214,3 +214,205 @@ module _ (bounds : Bounds) (rate : ℕ → Sum) (old new : Graph) (ids : List �
 pub trimmed_within : (bounds : Bounds) (rate : ℕ → Sum) (old new : Graph) (ids : List ℕ) → IsGraph old → IsTrimmed bounds rate old ids
     → DropsNames old ids new → HasOver bounds (λ id. (rate id).size) new → ⊥
 trimmed_within bounds rate old new ids whole trimmed drops over = over_none bounds rate old new ids whole trimmed drops over.0 over.1 over.2
+
+-- ---- the first of the candidates, where each has a size of at least 1
+
+goes_total : (rate : ℕ → Sum) (x y : ℕ) → x ≢ y → GoesFirst rate x y ⊎ GoesFirst rate y x
+goes_total rate x y other = elim (total (rate x) (rate y)) [
+  | inr above ↦ inl (inl above)
+  | inl low ↦ elim (total (rate y) (rate x)) [
+    | inr below ↦ inr (inl below)
+    | inl high ↦
+        let same : Same (rate x) (rate y) = record { crossed = omega (arith, ints, low.crossed, high.crossed) } in
+        elim (cases_order x y) [
+          | inl is ↦ absurd (other is)
+          | inr differ ↦ elim differ [ inl less ↦ inl (inr (same, less)) | inr more ↦ inr (inr (same_back (rate x) (rate y) same, more)) ]
+        ]
+  ]
+]
+
+goes_chains : (rate : ℕ → Sum) (x y z : ℕ) → 1 ≤ (rate x).size → 1 ≤ (rate y).size → 1 ≤ (rate z).size
+    → GoesFirst rate x y → GoesFirst rate y z → GoesFirst rate x z
+goes_chains rate x y z p q r (inl one) (inl two) = inl (below_at_most_chains (rate z) (rate y) (rate x) q p two (below_at_most (rate y) (rate x) one))
+goes_chains rate x y z p q r (inl one) (inr two) =
+    inl (at_most_below (rate z) (rate y) (rate x) r q (same_at_most (rate z) (rate y) (same_back (rate y) (rate z) two.0)) one)
+goes_chains rate x y z p q r (inr one) (inl two) =
+    inl (below_at_most_chains (rate z) (rate y) (rate x) q p two (same_at_most (rate y) (rate x) (same_back (rate x) (rate y) one.0)))
+goes_chains rate x y z p q r (inr one) (inr two) = inr (same_chains (rate x) (rate y) (rate z) q one.0 two.0, omega (arith, one.1, two.1))
+
+module _ (rate : ℕ → Sum) (P : ℕ → Type 0) (told : (q : ℕ) → IsTold (P q)) (sized : (q : ℕ) → P q → 1 ≤ (rate q).size) where
+  abbrev IsFirstOf : List ℕ → ℕ → Type 0
+  IsFirstOf xs x = P x × ((y : ℕ) → Contains xs y → P y → y ≢ x → GoesFirst rate x y)
+
+  first_of_two : (x z : ℕ) (xs : List ℕ) → P x → IsFirstOf xs z → (first : ℕ) × IsFirstOf (x ∷ xs) first
+  first_of_two x z xs is best = elim (cases_eq x z) [
+    | inl same ↦ (z, (best.0, λ y here holds other. elim (Contains-cases x y xs here) [
+      | inl head ↦ absurd (other (sym head ∙ same))
+      | inr later ↦ best.1 y later holds other
+    ]))
+    | inr differ ↦ elim (goes_total rate x z differ) [
+      | inl before ↦ (x, (is, λ y here holds other. elim (Contains-cases x y xs here) [
+        | inl head ↦ absurd (other (sym head))
+        | inr later ↦ elim (cases_eq y z) [
+          | inl same ↦ subst (GoesFirst rate x) (sym same) before
+          | inr apart ↦ goes_chains rate x z y (sized x is) (sized z best.0) (sized y holds) before (best.1 y later holds apart)
+        ]
+      ]))
+      | inr after ↦ (z, (best.0, λ y here holds other. elim (Contains-cases x y xs here) [
+        | inl head ↦ subst (GoesFirst rate z) head after
+        | inr later ↦ best.1 y later holds other
+      ]))
+    ]
+  ]
+
+  some_best : (xs : List ℕ) → ((first : ℕ) × IsFirstOf xs first) ⊎ ((y : ℕ) → Contains xs y → P y → ⊥)
+  some_best [] = inr (λ y here. absurd (none_in_empty y here))
+  some_best (x ∷ xs) = elim (told x) [
+    | inl is ↦ elim (some_best xs) [
+      | inl found ↦ inl (first_of_two x found.0 xs is found.1)
+      | inr none ↦ inl (x, (is, λ y here holds other. elim (Contains-cases x y xs here) [
+        | inl head ↦ absurd (other (sym head))
+        | inr later ↦ absurd (none y later holds)
+      ]))
+    ]
+    | inr isnt ↦ elim (some_best xs) [
+      | inl found ↦ inl (found.0, (found.1.0, λ y here holds other. elim (Contains-cases x y xs here) [
+        | inl head ↦ absurd (isnt (subst P (sym head) holds))
+        | inr later ↦ found.1.1 y later holds other
+      ]))
+      | inr none ↦ inr (λ y here holds. elim (Contains-cases x y xs here) [
+        | inl head ↦ isnt (subst P (sym head) holds)
+        | inr later ↦ none y later holds
+      ])
+    ]
+  ]
+
+-- ---- there is a marking
+
+-- where a list with one more entry is cut at an entry: at the new one, or within the list
+push_cases : {A : Type 0} (xs : List A) (x y : A) (before after : List A) → xs ++ x ∷ [] ≡ before ++ y ∷ after
+    → ((before ≡ xs) × (x ≡ y)) ⊎ ((rest : List A) × (xs ≡ before ++ y ∷ rest))
+push_cases [] x y [] after e = inl (refl, first_of e)
+push_cases [] x y (b ∷ before) after e = absurd (omega (arith, ap length (rest_of e), length-append before (y ∷ after)))
+push_cases (a ∷ xs) x y [] after e = inr (xs, ap (λ z. z ∷ xs) (first_of e))
+push_cases (a ∷ xs) x y (b ∷ before) after e =
+    let head : a ≡ b = first_of e in
+    elim (push_cases xs x y before after (rest_of e)) [
+      | inl found ↦ inl (λ i. sym head i ∷ found.0 i, found.1)
+      | inr found ↦ inr (found.0, λ i. head i ∷ found.1 i)
+    ]
+
+over_told : (bounds : Bounds) (size : ℕ → ℕ) (ids : List ℕ) → IsTold (AreOver bounds size ids)
+over_told bounds size ids = either_told _ _ (less_told bounds.count (length ids)) (less_told bounds.size (sum_by size ids))
+
+module _ (bounds : Bounds) (rate : ℕ → Sum) (graph : Graph) (sizes : HasSizes rate graph.names) where
+  candidate_told : (marked : Marks) (id : ℕ) → IsTold (IsCandidate graph marked id)
+  candidate_told marked id =
+      let Lacks : (ℕ × ℕ) → Type 0 = λ pair. (pair.1 ≡ id) × (Contains (kept_of marked) pair.0 → ⊥) in
+      let lacks_told : (pair : ℕ × ℕ) → IsTold (Lacks pair) =
+      λ pair. both_told (pair.1 ≡ id) (Contains (kept_of marked) pair.0 → ⊥) (cases_eq pair.1 id) (not_told _ (told_number (kept_of marked) pair.0)) in
+      elim (told_number graph.names id) [
+        | inr none ↦ inr (λ is. none is.named)
+        | inl named ↦ elim (told_number (looked_at marked) id) [
+          | inl seen ↦ inr (λ is. is.fresh seen)
+          | inr fresh ↦ elim (told_some Lacks lacks_told graph.pairs) [
+            | inl found ↦ inr (λ is. found.2.1 (is.parents (found.0).0
+                (subst (Contains graph.pairs) (let same : ◌≡◌ {A = ℕ × ℕ} found.0 ((found.0).0, id) = λ i. ((found.0).0, found.2.0 i) in same) found.1)))
+            | inr none ↦ inl (record {
+              named = named;
+              fresh = fresh;
+              parents = λ parent pair. elim (told_number (kept_of marked) parent) [
+                | inl is ↦ is
+                | inr isnt ↦ absurd (none (parent, id) pair (refl, isnt))
+              ];
+            })
+          ]
+        ]
+      ]
+
+  stays_told : (kept : List ℕ) (id : ℕ) → IsTold (StaysWithin bounds rate graph kept id)
+  stays_told kept id =
+      let among = some_among graph.pairs (id ∷ kept) in
+      let list = some_component among.0 id in
+      elim (over_told bounds (λ q. (rate q).size) list.0) [
+        | inl over ↦ inr (λ stays. stays among.0 list.0 among.1 list.1 over)
+        | inr fits ↦ inl (λ pairs ids others lists over.
+            let there : (x y : ℕ) → Contains pairs (x, y) → Contains among.0 (x, y) = λ x y here. (among.1 x y).1 ((others x y).0 here) in
+            let back : (x y : ℕ) → Contains among.0 (x, y) → Contains pairs (x, y) = λ x y here. (others x y).1 ((among.1 x y).0 here) in
+            let same : ids ≡ list.0 =
+            Lists-same (AreConnected among.0 id) ids list.0
+            (Lists-for (AreConnected pairs id) (AreConnected among.0 id) ids (connected_more pairs among.0 there id) (connected_more among.0 pairs back id) lists)
+            list.1 in
+            fits (subst (AreOver bounds (λ q. (rate q).size)) same over))
+      ]
+
+  some_mark : (kept : List ℕ) (id : ℕ) → (mark : Bool) × ((mark ≡ true) ↔ StaysWithin bounds rate graph kept id)
+  some_mark kept id = elim (stays_told kept id) [
+    | inl stays ↦ (true, (λ is. stays, λ holds. refl))
+    | inr over ↦ (false, (λ is. absurd (true≢false (sym is)), λ stays. absurd (over stays)))
+  ]
+
+  abbrev AreTurns : Marks → Type 0
+  AreTurns marked = (before after : Marks) (id : ℕ) (mark : Bool) → marked ≡ before ++ (id, mark) ∷ after → IsCandidate graph before id
+      × ((other : ℕ) → IsCandidate graph before other → other ≢ id → GoesFirst rate id other)
+      × ((mark ≡ true) ↔ StaysWithin bounds rate graph (kept_of before) id)
+
+  one_more : (marked : Marks) → AreTurns marked → (id : ℕ) (mark : Bool) → IsCandidate graph marked id
+      → ((other : ℕ) → IsCandidate graph marked other → other ≢ id → GoesFirst rate id other)
+      → ((mark ≡ true) ↔ StaysWithin bounds rate graph (kept_of marked) id) → AreTurns (marked ++ (id, mark) ∷ [])
+  one_more marked turns id mark is first stays before after other its e = elim (push_cases {A = ℕ × Bool} marked (id, mark) (other, its) before after e) [
+    | inr found ↦ turns before found.0 other its found.1
+    | inl found ↦
+        let name : id ≡ other = ap (λ (entry : ℕ × Bool). entry.0) found.1 in
+        let same : mark ≡ its = ap (λ (entry : ℕ × Bool). entry.1) found.1 in
+        let front : marked ≡ before = sym found.0 in (
+          subst (λ zs. IsCandidate graph zs other) front (subst (IsCandidate graph marked) name is),
+          subst (λ zs. (q : ℕ) → IsCandidate graph zs q → q ≢ other → GoesFirst rate other q) front
+          (subst (λ n. (q : ℕ) → IsCandidate graph marked q → q ≢ n → GoesFirst rate n q) name first),
+          subst (λ zs. (its ≡ true) ↔ StaysWithin bounds rate graph (kept_of zs) other) front
+          (subst (λ n. (its ≡ true) ↔ StaysWithin bounds rate graph (kept_of marked) n) name
+              (subst (λ m. (m ≡ true) ↔ StaysWithin bounds rate graph (kept_of marked) id) same stays)),
+        )
+  ]
+
+  best : (marked : Marks) → ((first : ℕ) × IsFirstOf rate (IsCandidate graph marked) (candidate_told marked) (λ q is. sizes q is.named) graph.names first)
+      ⊎ ((q : ℕ) → Contains graph.names q → IsCandidate graph marked q → ⊥)
+  best marked = some_best rate (IsCandidate graph marked) (candidate_told marked) (λ q is. sizes q is.named) graph.names
+
+  -- turn by turn, until no name is a candidate
+  all_marked : (fuel : ℕ) (marked : Marks) → AreTurns marked → AreDistinct (looked_at marked)
+      → ((q : ℕ) → Contains (looked_at marked) q → Contains graph.names q) → length graph.names < fuel + length (looked_at marked)
+      → (all : Marks) × AreMarked bounds rate graph all
+  all_marked zero marked turns once inside long =
+      let fits = distinct_within (λ q. q) (looked_at marked) graph.names once inside in absurd (omega (arith, fits.0, long))
+  all_marked (suc fuel) marked turns once inside long = elim (best marked) [
+    | inr none ↦ (marked, record { turns = turns; ended = λ q is. none q is.named is })
+    | inl found ↦
+        let id : ℕ = found.0 in
+        let is : IsCandidate graph marked id = found.1.0 in
+        let mark = some_mark (kept_of marked) id in
+        let more : looked_at (marked ++ (id, mark.0) ∷ []) ≡ looked_at marked ++ id ∷ [] =
+        map-append (λ (entry : ℕ × Bool). entry.0) marked ((id, mark.0) ∷ []) in
+        all_marked fuel (marked ++ (id, mark.0) ∷ [])
+        (one_more marked turns id mark.0 is (λ other candidate differ. found.1.1 other candidate.named candidate differ) mark.1)
+        (subst AreDistinct (sym more) (distinct_push (looked_at marked) id once is.fresh))
+        (λ q here. elim (Contains-push_cases (looked_at marked) id q (subst (λ zs. Contains zs q) more here)) [
+          | inl before ↦ inside q before
+          | inr same ↦ subst (Contains graph.names) same is.named
+        ])
+        (omega (arith, long, ap length more, length-append (looked_at marked) (id ∷ [])))
+  ]
+
+  pub marked_some : (marked : Marks) × AreMarked bounds rate graph marked
+  marked_some = all_marked (suc (length graph.names)) []
+      (λ before after id mark e. absurd (omega (arith, ap length e, length-append before ((id, mark) ∷ after)))) tt (λ q here. absurd (none_in_empty q here))
+      (omega arith)
+
+-- there is a set of names that trimming drops, where each name has a size
+pub trimmed_some : (bounds : Bounds) (rate : ℕ → Sum) (graph : Graph) → HasSizes rate graph.names → (ids : List ℕ) × IsTrimmed bounds rate graph ids
+trimmed_some bounds rate graph sizes =
+    let marks = marked_some bounds rate graph sizes in
+    let bound = above_all graph.names in
+    let list = some_list (λ id. Contains graph.names id × (Contains (kept_of marks.0) id → ⊥))
+    (λ id. both_told _ _ (told_number graph.names id) (not_told _ (told_number (kept_of marks.0) id))) bound.0 (λ id is. bound.1 id is.0) in
+    (list.0, record { marked = marks.0; marks = marks.1; rest = list.1 })
