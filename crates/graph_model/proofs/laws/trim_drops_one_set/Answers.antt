@@ -4,7 +4,7 @@ use Rattle.graph_model.proofs.laws.trim_drops_one_set.Goals as goal
 
 pub returns : goal.returns
 returns c = record {
-  some = (λ bounds rate graph whole. trimmed_some bounds rate graph ?sizes);
+  some = λ bounds rate graph whole. trimmed_some bounds rate graph;
   one = trimmed_once;
   descendants = trimmed_descendants;
   within = trimmed_within;
