@@ -211,7 +211,8 @@ module _ (graph : Graph) (whole : IsGraph graph) (P : ℕ → Type 0) (told : (i
   ]
 
   -- up from child to parent, each with the property: no name is met twice
-  climb : (fuel : ℕ) (path : List ℕ) (id : ℕ) → AreDistinct (id ∷ path) → ((q : ℕ) → Contains (id ∷ path) q → Contains graph.names q × IsAncestor graph.pairs id q)
+  climb : (fuel : ℕ) (path : List ℕ) (id : ℕ) → AreDistinct (id ∷ path)
+      → ((q : ℕ) → Contains (id ∷ path) q → Contains graph.names q × IsAncestor graph.pairs id q)
       → P id → length graph.names ≤ fuel + length path → (first : ℕ) × IsFirst first
   climb zero path id once above is long =
       let fits = distinct_within (λ q. q) (id ∷ path) graph.names once (λ q here. (above q here).0) in absurd (omega (arith, fits.0, long))

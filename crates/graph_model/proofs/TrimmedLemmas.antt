@@ -140,7 +140,8 @@ none_over_none : (bounds : Bounds) (size : ℕ → ℕ) → AreOver bounds size 
 none_over_none bounds size (inl many) = omega (arith, many)
 none_over_none bounds size (inr large) = omega (arith, large)
 
-more_over : (bounds : Bounds) (size : ℕ → ℕ) (xs ys : List ℕ) → AreDistinct xs → ((q : ℕ) → Contains xs q → Contains ys q) → AreOver bounds size xs → AreOver bounds size ys
+more_over : (bounds : Bounds) (size : ℕ → ℕ) (xs ys : List ℕ) → AreDistinct xs → ((q : ℕ) → Contains xs q → Contains ys q)
+    → AreOver bounds size xs → AreOver bounds size ys
 more_over bounds size xs ys once inside over =
     let fits = distinct_within size xs ys once inside in
     elim over [ inl many ↦ inl (omega (arith, many, fits.0)) | inr large ↦ inr (omega (arith, large, fits.1)) ]
@@ -341,7 +342,8 @@ module _ (bounds : Bounds) (rate : ℕ → Sum) (graph : Graph) (sizes : HasSize
             let back : (x y : ℕ) → Contains among.0 (x, y) → Contains pairs (x, y) = λ x y here. (others x y).1 ((among.1 x y).0 here) in
             let same : ids ≡ list.0 =
             Lists-same (AreConnected among.0 id) ids list.0
-            (Lists-for (AreConnected pairs id) (AreConnected among.0 id) ids (connected_more pairs among.0 there id) (connected_more among.0 pairs back id) lists)
+            (Lists-for (AreConnected pairs id) (AreConnected among.0 id) ids
+                (connected_more pairs among.0 there id) (connected_more among.0 pairs back id) lists)
             list.1 in
             fits (subst (AreOver bounds (λ q. (rate q).size)) same over))
       ]
