@@ -1,25 +1,24 @@
 -- Trimming: that there is one set of names which it drops, and that it drops nothing where no component is over the limits.
-use Rattle.std.proofs.Common.{◌≡◌, ◌≢◌, ◌↔◌, ◌⊎◌, ℕ, suc, zero, ◌+◌, ◌<◌, ◌≤◌, length, get_or, Bool, true, false, List, [], ◌∷◌, ◌++◌, map, inl, inr, refl, sym, ap, ◌∙◌, subst, append_assoc, append-nil, arith, true≢false}
-use Rattle.std.specs.Prelude.{Contains, filter, sum_by}
+use Rattle.std.proofs.Common.{◌≡◌, ◌⊎◌, ℕ, suc, zero, ◌+◌, ◌<◌, ◌≤◌, length, get_or, Bool, true, false, List, [], ◌∷◌, ◌++◌, map, inl, inr, refl, sym, ap, ◌∙◌, subst, append_assoc, append-nil, arith}
+use Rattle.std.specs.Prelude.{Contains, filter}
 use Rattle.std.specs.List.Sorted.{IsStrictlyIncreasing}
 use Rattle.std.proofs.lemmas.Bool.{cases_eq}
 use Rattle.std.proofs.lemmas.List.Kept.{AllPairs-from_increasing}
-use Rattle.std.proofs.lemmas.List.Elements.{Contains-append_left, Contains-append_right, Contains-append_cases}
+use Rattle.std.proofs.lemmas.List.Elements.{Contains-append_left}
 use Rattle.lists.specs.Distinct.{AreDistinct}
 use Rattle.lists.proofs.Distinct.{distinct_from_places, distinct_within}
 use Rattle.lists.proofs.Told.{told_number}
-use Rattle.lists.proofs.Entries.{Contains-head, Contains-later, Contains-cases, Contains-filter, filter-Contains, Contains-map, map-Contains, Contains-splits, none_in_empty, not_empty, first_of, rest_of}
+use Rattle.lists.proofs.Entries.{Contains-head, Contains-later, Contains-cases, Contains-filter, filter-Contains, Contains-map, map-Contains, Contains-splits, none_in_empty}
 use Rattle.fee_rate.specs.declared.rates.Sum.{Sum}
-use Rattle.fee_rate.specs.Rates.{Below, Same}
 use Rattle.fee_rate.proofs.Orders.{apart, below_at_most, same_at_most, same_back}
-use Rattle.graphs.specs.Graphs.{Graph, IsGraph, IsAncestor, Trail, AreConnected, Lists}
+use Rattle.graphs.specs.Graphs.{Graph, IsGraph, IsAncestor, Trail, AreConnected}
 use Rattle.graphs.specs.Drops.{IsDescendantSet}
 use Rattle.graphs.proofs.ListLemmas.{Lists-same, Lists-for}
 use Rattle.graphs.proofs.WalkLemmas.{walk_cons, AreConnected-sym, AreConnected-trans}
-use Rattle.graph_model.specs.Limits.{Bounds, AreOver}
+use Rattle.graph_model.specs.Limits.{Bounds}
 use Rattle.graph_model.specs.Oversize.{HasOver}
 use Rattle.graph_model.specs.SameLaws.{IsSameGraph}
-use Rattle.graph_model.specs.Trims.{kept_of, IsCandidate, GoesFirst, PairsAmong, StaysWithin, AreMarked, IsTrimmed}
+use Rattle.graph_model.specs.Trims.{kept_of, IsCandidate, GoesFirst, StaysWithin, AreMarked, IsTrimmed}
 
 -- ---- names that were looked at, and those that are kept
 
@@ -121,7 +120,7 @@ module _ (bounds : Bounds) (rate : ℕ → Sum) (a b : Graph) (same : IsSameGrap
       let mark : x.1 ≡ y.1 = same_mark x.1 y.1
       (λ is. two.2.1 (subst (StaysWithin bounds rate b (kept_of front)) name (within_to bounds rate a b same (kept_of front) x.0 (one.2.0 is))))
       (λ is. one.2.1 (subst (StaysWithin bounds rate a (kept_of front)) (sym name)
-          (within_to bounds rate b a (same_graph_back a b same) (kept_of front) y.0 (two.2.0 is)))) in
+      (within_to bounds rate b a (same_graph_back a b same) (kept_of front) y.0 (two.2.0 is)))) in
       λ i. (name i, mark i)
 
   same_rest : (front xs ys : Marks) → ms ≡ front ++ xs → ns ≡ front ++ ys → xs ≡ ys
@@ -129,7 +128,7 @@ module _ (bounds : Bounds) (rate : ℕ → Sum) (a b : Graph) (same : IsSameGrap
   same_rest front [] (y ∷ ys) e f =
       let whole : ms ≡ front = e ∙ append-nil front in
       absurd (marks.ended y.0 (subst (λ zs. IsCandidate a zs y.0) (sym whole)
-          (candidate_to b a (same_graph_back a b same) front y.0 (others.turns front ys y.0 y.1 f).0)))
+      (candidate_to b a (same_graph_back a b same) front y.0 (others.turns front ys y.0 y.1 f).0)))
   same_rest front (x ∷ xs) [] e f =
       let whole : ns ≡ front = f ∙ append-nil front in
       absurd (others.ended x.0 (subst (λ zs. IsCandidate b zs x.0) (sym whole) (candidate_to a b same front x.0 (marks.turns front xs x.0 x.1 e).0)))
@@ -163,7 +162,7 @@ trimmed_once bounds rate a b xs ys same one other =
 pub rising_once : (ids : List ℕ) → IsStrictlyIncreasing ids → AreDistinct ids
 rising_once ids rising =
     distinct_from_places ids (λ i j d before low e.
-        let below : get_or ids i d < get_or ids j d = AllPairs-from_increasing ids rising i j d before low in omega (arith, below, e))
+    let below : get_or ids i d < get_or ids j d = AllPairs-from_increasing ids rising i j d before low in omega (arith, below, e))
 
 -- the parents of a kept name are kept
 pub kept_parent : (bounds : Bounds) (rate : ℕ → Sum) (graph : Graph) (marked : Marks) → AreMarked bounds rate graph marked → (parent child : ℕ)
@@ -296,10 +295,10 @@ trimmed_nothing bounds rate graph [] whole none trimmed = refl
 trimmed_nothing bounds rate graph (x ∷ xs) whole none trimmed =
     let left = (trimmed.rest.exact x).0 (Contains-head x xs) in
     absurd (none_left bounds rate graph whole trimmed.marked trimmed.marks
-        (λ id here.
-            let entry = looked_entry trimmed.marked id here in
-            let cut = Contains-splits trimmed.marked (id, entry.0) entry.1 in
-            let turn = trimmed.marks.turns cut.0 cut.1 id entry.0 cut.2 in
-            let kept : entry.0 ≡ true = turn.2.1 (within_all bounds rate graph whole none (kept_of cut.0) id turn.0.named) in
-            entry_kept trimmed.marked id (subst (λ (m : Bool). Contains trimmed.marked (id, m)) kept entry.1))
-        x left.0 left.1)
+    (λ id here.
+    let entry = looked_entry trimmed.marked id here in
+    let cut = Contains-splits trimmed.marked (id, entry.0) entry.1 in
+    let turn = trimmed.marks.turns cut.0 cut.1 id entry.0 cut.2 in
+    let kept : entry.0 ≡ true = turn.2.1 (within_all bounds rate graph whole none (kept_of cut.0) id turn.0.named) in
+    entry_kept trimmed.marked id (subst (λ (m : Bool). Contains trimmed.marked (id, m)) kept entry.1))
+    x left.0 left.1)

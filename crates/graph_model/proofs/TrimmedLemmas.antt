@@ -1,6 +1,6 @@
 -- Trimming: that no component of what is left is over the limits, and that there is a set of names which it drops.
-use Rattle.std.proofs.Common.{◌≡◌, ◌≢◌, ◌↔◌, ◌⊎◌, ℕ, suc, zero, ◌+◌, ◌<◌, ◌≤◌, length, length-append, Bool, true, false, List, [], ◌∷◌, ◌++◌, map, inl, inr, refl, sym, ap, ◌∙◌, subst, arith, true≢false}
-use Rattle.std.specs.Prelude.{Contains, filter, sum_by}
+use Rattle.std.proofs.Common.{◌≡◌, ◌≢◌, ◌↔◌, ◌⊎◌, ℕ, suc, zero, ◌+◌, ◌<◌, ◌≤◌, length, length-append, Bool, true, false, List, [], ◌∷◌, ◌++◌, inl, inr, refl, sym, ap, ◌∙◌, subst, arith, true≢false}
+use Rattle.std.specs.Prelude.{Contains, sum_by}
 use Rattle.std.proofs.lemmas.Bool.{cases_eq, cases_lt, cases_order}
 use Rattle.std.proofs.lemmas.Int.{ints}
 use Rattle.std.proofs.lemmas.List.{map-append}
@@ -10,7 +10,7 @@ use Rattle.lists.proofs.Distinct.{distinct_within, distinct_push}
 use Rattle.lists.proofs.Told.{told_number}
 use Rattle.lists.proofs.Entries.{Contains-head, Contains-later, Contains-cases, none_in_empty, first_of, rest_of}
 use Rattle.fee_rate.specs.declared.rates.Sum.{Sum}
-use Rattle.fee_rate.specs.Rates.{AtMost, Below, Same}
+use Rattle.fee_rate.specs.Rates.{Same}
 use Rattle.fee_rate.proofs.Orders.{total, below_at_most, same_at_most, same_back, at_most_below, below_at_most_chains, same_chains}
 use Rattle.graphs.specs.Graphs.{Graph, IsGraph, Trail, AreConnected, Lists}
 use Rattle.graphs.specs.Drops.{DropsNames}
@@ -20,7 +20,7 @@ use Rattle.graphs.proofs.WalkLemmas.{AreConnected-sym, AreConnected-trans}
 use Rattle.graph_model.specs.Limits.{Bounds, AreOver}
 use Rattle.graph_model.specs.Oversize.{HasOver, AreOfOneComponent}
 use Rattle.graph_model.specs.Trims.{kept_of, IsCandidate, GoesFirst, PairsAmong, StaysWithin, AreMarked, IsTrimmed}
-use Rattle.graph_model.proofs.LevelLemmas.{IsTold, both_told, either_told, told_along, connected_told, some_list}
+use Rattle.graph_model.proofs.LevelLemmas.{IsTold, both_told, either_told, connected_told, some_list}
 use Rattle.graph_model.proofs.TrimLemmas.{Marks, looked_at, kept_entry, entry_kept, told_some, along_trail, connected_more}
 
 -- ---- lists that there are
@@ -202,8 +202,8 @@ module _ (bounds : Bounds) (rate : ℕ → Sum) (old new : Graph) (ids : List �
         stays among.0 list.0 among.1 list.1
         (more_over bounds (λ id. (rate id).size) cs list.0 once
         (λ q here.
-            let trail = AreConnected-trans new.pairs id c q (AreConnected-sym new.pairs c id at) (joined q here) in
-            (list.1.exact q).1 (trail.0, inside_trail new.pairs among.0 id along q trail.0 trail.1))
+        let trail = AreConnected-trans new.pairs id c q (AreConnected-sym new.pairs c id at) (joined q here) in
+        (list.1.exact q).1 (trail.0, inside_trail new.pairs among.0 id along q trail.0 trail.1))
         over)
 
   over_none : (cs : List ℕ) → AreOfOneComponent new cs → AreOver bounds (λ id. (rate id).size) cs → ⊥
@@ -247,22 +247,40 @@ module _ (rate : ℕ → Sum) (P : ℕ → Type 0) (told : (q : ℕ) → IsTold 
 
   first_of_two : (x z : ℕ) (xs : List ℕ) → P x → IsFirstOf xs z → (first : ℕ) × IsFirstOf (x ∷ xs) first
   first_of_two x z xs is best = elim (cases_eq x z) [
-    | inl same ↦ (z, (best.0, λ y here holds other. elim (Contains-cases x y xs here) [
-      | inl head ↦ absurd (other (sym head ∙ same))
-      | inr later ↦ best.1 y later holds other
-    ]))
+    | inl same ↦ (
+      z,
+      (
+        best.0,
+        λ y here holds other. elim (Contains-cases x y xs here) [
+          | inl head ↦ absurd (other (sym head ∙ same))
+          | inr later ↦ best.1 y later holds other
+        ],
+      ),
+    )
     | inr differ ↦ elim (goes_total rate x z differ) [
-      | inl before ↦ (x, (is, λ y here holds other. elim (Contains-cases x y xs here) [
-        | inl head ↦ absurd (other (sym head))
-        | inr later ↦ elim (cases_eq y z) [
-          | inl same ↦ subst (GoesFirst rate x) (sym same) before
-          | inr apart ↦ goes_chains rate x z y (sized x is) (sized z best.0) (sized y holds) before (best.1 y later holds apart)
-        ]
-      ]))
-      | inr after ↦ (z, (best.0, λ y here holds other. elim (Contains-cases x y xs here) [
-        | inl head ↦ subst (GoesFirst rate z) head after
-        | inr later ↦ best.1 y later holds other
-      ]))
+      | inl before ↦ (
+        x,
+        (
+          is,
+          λ y here holds other. elim (Contains-cases x y xs here) [
+            | inl head ↦ absurd (other (sym head))
+            | inr later ↦ elim (cases_eq y z) [
+              | inl same ↦ subst (GoesFirst rate x) (sym same) before
+              | inr apart ↦ goes_chains rate x z y (sized x is) (sized z best.0) (sized y holds) before (best.1 y later holds apart)
+            ]
+          ],
+        ),
+      )
+      | inr after ↦ (
+        z,
+        (
+          best.0,
+          λ y here holds other. elim (Contains-cases x y xs here) [
+            | inl head ↦ subst (GoesFirst rate z) head after
+            | inr later ↦ best.1 y later holds other
+          ],
+        ),
+      )
     ]
   ]
 
@@ -271,16 +289,28 @@ module _ (rate : ℕ → Sum) (P : ℕ → Type 0) (told : (q : ℕ) → IsTold 
   some_best (x ∷ xs) = elim (told x) [
     | inl is ↦ elim (some_best xs) [
       | inl found ↦ inl (first_of_two x found.0 xs is found.1)
-      | inr none ↦ inl (x, (is, λ y here holds other. elim (Contains-cases x y xs here) [
-        | inl head ↦ absurd (other (sym head))
-        | inr later ↦ absurd (none y later holds)
-      ]))
+      | inr none ↦ inl (
+        x,
+        (
+          is,
+          λ y here holds other. elim (Contains-cases x y xs here) [
+            | inl head ↦ absurd (other (sym head))
+            | inr later ↦ absurd (none y later holds)
+          ],
+        ),
+      )
     ]
     | inr isnt ↦ elim (some_best xs) [
-      | inl found ↦ inl (found.0, (found.1.0, λ y here holds other. elim (Contains-cases x y xs here) [
-        | inl head ↦ absurd (isnt (subst P (sym head) holds))
-        | inr later ↦ found.1.1 y later holds other
-      ]))
+      | inl found ↦ inl (
+        found.0,
+        (
+          found.1.0,
+          λ y here holds other. elim (Contains-cases x y xs here) [
+            | inl head ↦ absurd (isnt (subst P (sym head) holds))
+            | inr later ↦ found.1.1 y later holds other
+          ],
+        ),
+      )
       | inr none ↦ inr (λ y here holds. elim (Contains-cases x y xs here) [
         | inl head ↦ isnt (subst P (sym head) holds)
         | inr later ↦ none y later holds
@@ -343,7 +373,7 @@ module _ (bounds : Bounds) (rate : ℕ → Sum) (graph : Graph) (sizes : HasSize
             let same : ids ≡ list.0 =
             Lists-same (AreConnected among.0 id) ids list.0
             (Lists-for (AreConnected pairs id) (AreConnected among.0 id) ids
-                (connected_more pairs among.0 there id) (connected_more among.0 pairs back id) lists)
+            (connected_more pairs among.0 there id) (connected_more among.0 pairs back id) lists)
             list.1 in
             fits (subst (AreOver bounds (λ q. (rate q).size)) same over))
       ]
@@ -370,9 +400,9 @@ module _ (bounds : Bounds) (rate : ℕ → Sum) (graph : Graph) (sizes : HasSize
         let front : marked ≡ before = sym found.0 in (
           subst (λ zs. IsCandidate graph zs other) front (subst (IsCandidate graph marked) name is),
           subst (λ zs. (q : ℕ) → IsCandidate graph zs q → q ≢ other → GoesFirst rate other q) front
-          (subst (λ n. (q : ℕ) → IsCandidate graph marked q → q ≢ n → GoesFirst rate n q) name first),
+              (subst (λ n. (q : ℕ) → IsCandidate graph marked q → q ≢ n → GoesFirst rate n q) name first),
           subst (λ zs. (its ≡ true) ↔ StaysWithin bounds rate graph (kept_of zs) other) front
-          (subst (λ n. (its ≡ true) ↔ StaysWithin bounds rate graph (kept_of marked) n) name
+              (subst (λ n. (its ≡ true) ↔ StaysWithin bounds rate graph (kept_of marked) n) name
               (subst (λ m. (m ≡ true) ↔ StaysWithin bounds rate graph (kept_of marked) id) same stays)),
         )
   ]
