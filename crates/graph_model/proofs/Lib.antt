@@ -10,3 +10,5 @@ pub mod SpellingLemmas
 pub mod AmountLemmas
 pub mod ProofLemmas
 pub mod SameLemmas
+pub mod BackLemmas
+pub mod FirstLemmas
