@@ -12,3 +12,4 @@ pub mod ProofLemmas
 pub mod SameLemmas
 pub mod BackLemmas
 pub mod FirstLemmas
+pub mod SameStateLemmas
