@@ -13,3 +13,4 @@ pub mod SameLemmas
 pub mod BackLemmas
 pub mod FirstLemmas
 pub mod SameStateLemmas
+pub mod MinedLemmas
