@@ -6,10 +6,10 @@ use Rattle.lists.proofs.Cases.{some_none}
 use Rattle.graphs.specs.Graphs.{Graph}
 use Rattle.graph_model.specs.declared.names.Refusal.{Refusal}
 use Rattle.graph_model.specs.States.{PlainState, State, with_top, rate_of, sum_in, IsLive, IsStaged}
-use Rattle.graph_model.specs.Commands.{Command, SetLimits, Add, Dep, SetFee, Remove, Mine, Evict, Stage, Commit, Abort, Settle, Compare, Order, Diagram, Proof, Cluster, Ancestors, Descendants, Chunk, Before, Block, Count}
+use Rattle.graph_model.specs.Commands.{Command, SetLimits, Add, Dep, SetFee, Remove, Mine, Evict, Stage, Commit, Abort, Settle, Trim, Unmine, Dump, Compare, Order, Diagram, Proof, Cluster, Ancestors, Descendants, Chunk, Before, Block, Count}
 use Rattle.graph_model.specs.Replies.{Reply, Done}
 use Rattle.graph_model.specs.Refusals.{RefusalIs}
-use Rattle.graph_model.specs.Changes.{added, begun, staged, Forgets}
+use Rattle.graph_model.specs.Changes.{added, begun, staged, Forgets, DropsFromTop}
 use Rattle.graph_model.specs.Steps.{Step, Accepts, KeepsPicks, HaveSameRates}
 use Rattle.graph_model.specs.Validity.{IsValidState}
 use Rattle.graph_model.specs.Runs.{CommandsRun}
@@ -90,6 +90,12 @@ module _ (first old new : State) (aside : IsAside first old) where
       (ap (λ (p : PlainState). p.staging) forgets.same ∙ ap (λ (p : PlainState). p.staging) mid)
       (ap (λ (p : PlainState). p.begun) forgets.same ∙ ap (λ (p : PlainState). p.begun) mid) picks
 
+  lessens : (ids : List ℕ) → DropsFromTop old.plain ids new.plain → KeepsPicks old new → IsAside first new
+  lessens [] same picks =
+      goes_on first old new aside aside.graph (ap (λ (p : PlainState). p.main) same) (λ id here. ap (λ (p : PlainState). finmap.get p.table id) same)
+      (ap (λ (p : PlainState). p.staging) same ∙ aside.open_is) (ap (λ (p : PlainState). p.begun) same) picks
+  lessens (id ∷ ids) drops picks = removes drops.0 drops.2 picks
+
 -- an addition that isn't refused is of a name that isn't live
 not_taken : (p : PlainState) (id : ℕ) (fee : ℤ) (size : ℕ) → RefusalIs p (Add id fee size) None → IsLive p id → ⊥
 not_taken p id fee size row live = elim row [
@@ -103,7 +109,7 @@ refused_by why holds row = elim row [ inl here ↦ some_none _ (sym here.1) | in
 
 accepted : (first old new : State) (command : Command) (reply : Reply) → IsAside first old → LeavesMain command reply → RefusalIs old.plain command None
     → Accepts old command reply new → IsAside first new
-accepted first old new (SetLimits count size total) reply aside leaves row accepts = absurd (refused_by _ aside.begins row)
+accepted first old new (SetLimits limits) reply aside leaves row accepts = absurd (refused_by _ aside.begins row)
 accepted first old new (Add id fee size) reply aside leaves row accepts =
     adds first old new aside id fee size (not_taken old.plain id fee size row) accepts.plain.change accepts.picks
 accepted first old new (Dep parent child) reply aside leaves row accepts =
@@ -117,6 +123,9 @@ accepted first old new Stage reply aside leaves row accepts = absurd (refused_by
 accepted first old new Commit reply aside leaves row accepts = absurd leaves
 accepted first old new Abort reply aside leaves row accepts = absurd (leaves accepts.plain.answer)
 accepted first old new Settle reply aside leaves row accepts = absurd leaves
+accepted first old new Trim reply aside leaves row accepts = let change = accepts.plain.change in lessens first old new aside change.0 change.2 accepts.picks
+accepted first old new Unmine reply aside leaves row accepts = absurd (refused_by _ (is_staged old.plain aside.graph aside.open_is) row)
+accepted first old new Dump reply aside leaves row accepts = reads first old new aside accepts.plain.change accepts.picks
 accepted first old new Compare reply aside leaves row accepts = reads first old new aside accepts.plain.change accepts.picks
 accepted first old new (Order level) reply aside leaves row accepts = reads first old new aside accepts.plain.change accepts.picks
 accepted first old new (Diagram level) reply aside leaves row accepts = reads first old new aside accepts.plain.change accepts.picks
@@ -134,7 +143,7 @@ one_step : (first old new : State) (command : Command) (reply : Reply) → IsAsi
 one_step first old new command reply aside leaves step = elim step [
   | inl refused ↦ subst (IsAside first) (sym refused.same) aside
   | inr rest ↦ elim rest [
-    | inl lacks ↦ subst (IsAside first) (sym lacks.same) aside
+    | inl want ↦ elim want [ inl lacks ↦ subst (IsAside first) (sym lacks.same) aside | inr gives ↦ subst (IsAside first) (sym gives.same) aside ]
     | inr fine ↦ accepted first old new command reply aside leaves fine.none fine.accepts
   ]
 ]
@@ -151,7 +160,10 @@ all_steps first old new (command ∷ commands) (reply ∷ replies) aside leaves 
 was_accepted : (old new : State) (command : Command) → Step old command Done new → RefusalIs old.plain command None × Accepts old command Done new
 was_accepted old new command step = elim step [
   | inl refused ↦ let e = refused.told in cc
-  | inr rest ↦ elim rest [ inl lacks ↦ (let e = lacks.told in cc) | inr fine ↦ (fine.none, fine.accepts) ]
+  | inr rest ↦ elim rest [
+    | inl want ↦ elim want [ inl lacks ↦ (let e = lacks.told in cc) | inr gives ↦ (let e = gives.told in cc) ]
+    | inr fine ↦ (fine.none, fine.accepts)
+  ]
 ]
 
 opens : (old new : State) → IsValidState old → Step old Stage Done new → IsAside old new

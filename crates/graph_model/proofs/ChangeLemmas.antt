@@ -154,6 +154,8 @@ module _ (old : PlainState) (id : ℕ) (fee : ℤ) (size : ℕ) (valid : IsValid
             ));
         few = few;
         rates = rates;
+        blocks = valid.blocks;
+        block_count = valid.block_count;
         fresh = λ not_yet. absurd (true≢false not_yet);
       })
       (λ graph open_is. record {
@@ -173,6 +175,8 @@ module _ (old : PlainState) (id : ℕ) (fee : ℤ) (size : ℕ) (valid : IsValid
         ));
         few = few;
         rates = rates;
+        blocks = valid.blocks;
+        block_count = valid.block_count;
         fresh = λ not_yet. absurd (true≢false not_yet);
       })
 
@@ -195,6 +199,8 @@ retopped old top valid level same = of_top (begun old) top IsValid
           );
       few = valid.few;
       rates = valid.rates;
+      blocks = valid.blocks;
+      block_count = valid.block_count;
       fresh = λ not_yet. absurd (true≢false not_yet);
     })
     (λ graph open_is. record {
@@ -208,10 +214,12 @@ retopped old top valid level same = of_top (begun old) top IsValid
       );
       few = valid.few;
       rates = valid.rates;
+      blocks = valid.blocks;
+      block_count = valid.block_count;
       fresh = λ not_yet. absurd (true≢false not_yet);
     })
 
-valid_begun : (old : PlainState) → IsValid old → IsValid (begun old)
+pub valid_begun : (old : PlainState) → IsValid old → IsValid (begun old)
 valid_begun old valid = record {
   limits = valid.limits;
   most = valid.most;
@@ -220,6 +228,8 @@ valid_begun old valid = record {
   live = valid.live;
   few = valid.few;
   rates = valid.rates;
+  blocks = valid.blocks;
+  block_count = valid.block_count;
   fresh = λ not_yet. absurd (true≢false not_yet);
 }
 
@@ -244,9 +254,11 @@ valid_paired old new parent child valid row adds = elim adds [
         acyclic = (no_cycle_with_pair graph.pairs parent child level.whole.acyclic).1 three.0;
       } in
       let joint : IsLevel old (with_pair graph parent child) = level_joined old graph parent child level parent_in child_in
-      (λ members joins. not_less old.limits.count (length members) (λ over. four.0 (length members) (members, joins, refl, over)))
-      (λ members joins. not_less old.limits.size (sum_by (size_of old.table) members)
-      (λ over. five.0 (sum_by (size_of old.table) members) (members, joins, refl, over))) whole in
+      (λ strict members joins. (
+        not_less old.limits.count (length members) (λ over. four.0 (length members) (members, strict, joins, refl, over)),
+        not_less old.limits.size (sum_by (size_of old.table) members)
+            (λ over. five.0 (sum_by (size_of old.table) members) (members, strict, joins, refl, over)),
+      )) whole in
       subst IsValid (sym fresh.1) (retopped old (with_pair graph parent child) valid joint (λ q. (λ here. here, λ here. here)))
 ]
   where

@@ -5,29 +5,6 @@ use Rattle.lists.proofs.Entries.{first_of, rest_of, Contains-head, Contains-late
 use Rattle.lists.specs.Distinct.{AreDistinct}
 use Rattle.graph_model.specs.Refusals.{IsFirst}
 
--- two cuts of one list: the same, or one begins within the other's front
-cuts : {A : Type 0} (xs ys us vs : List A) (a b : A) → xs ++ a ∷ us ≡ ys ++ b ∷ vs
-    → ((xs ≡ ys) × (a ≡ b)) ⊎ (((rest : List A) × (ys ≡ xs ++ a ∷ rest)) ⊎ ((rest : List A) × (xs ≡ ys ++ b ∷ rest)))
-cuts [] [] us vs a b e = inl (refl, first_of e)
-cuts [] (y ∷ ys) us vs a b e = inr (inl (ys, λ i. sym (first_of e) i ∷ ys))
-cuts (x ∷ xs) [] us vs a b e = inr (inr (xs, λ i. first_of e i ∷ xs))
-cuts (x ∷ xs) (y ∷ ys) us vs a b e = elim (cuts xs ys us vs a b (rest_of e)) [
-  | inl same ↦ inl (λ i. first_of e i ∷ same.0 i, same.1)
-  | inr apart ↦ elim apart [
-    | inl later ↦ inr (inl (later.0, λ i. sym (first_of e) i ∷ later.1 i))
-    | inr sooner ↦ inr (inr (sooner.0, λ i. first_of e i ∷ sooner.1 i))
-  ]
-]
-
-pub first_entry : (P : List ℕ → ℕ → Type 0) (ids : List ℕ) (m n : ℕ) → IsFirst P ids m → IsFirst P ids n → m ≡ n
-first_entry P ids m n one other = elim (cuts one.before other.before one.after other.after m n (sym one.cut ∙ other.cut)) [
-  | inl same ↦ same.1
-  | inr apart ↦ elim apart [
-    | inl later ↦ absurd (other.earlier one.before later.0 m later.1 one.has)
-    | inr sooner ↦ absurd (one.earlier other.before sooner.0 n sooner.1 other.has)
-  ]
-]
-
 -- the first with a property is the first with each that the same entries have
 pub first_along : (P Q : List ℕ → ℕ → Type 0) (ids : List ℕ) (id : ℕ) → ((before : List ℕ) (n : ℕ) → P before n → Q before n)
     → ((before : List ℕ) (n : ℕ) → Q before n → P before n) → IsFirst P ids id → IsFirst Q ids id

@@ -4,7 +4,7 @@ use Rattle.std.specs.Prelude.{Contains, sum_by, filter}
 use Rattle.std.specs.List.{range_with_len}
 use Rattle.std.specs.List.Sorted.{IsStrictlyIncreasing}
 use Rattle.std.proofs.Math.ListN.{get_or}
-use Rattle.std.proofs.lemmas.Bool.{cases_eq}
+use Rattle.std.proofs.lemmas.Bool.{cases_eq, cases_lt}
 use Rattle.std.proofs.lemmas.List.FromFn.{length-range_with_len, get_or-range_with_len}
 use Rattle.std.proofs.lemmas.List.Kept.{IsStrictlyIncreasing-filter}
 use Rattle.std.proofs.lemmas.List.Elements.{Contains-append_left, Contains-push, Contains-push_cases}
@@ -17,7 +17,9 @@ use Rattle.graphs.specs.Closing.{with_pair}
 use Rattle.graphs.proofs.PairLemmas.{connected_across}
 use Rattle.graph_model.specs.States.{PlainState, size_of}
 use Rattle.graph_model.specs.Refusals.{JoinsTo}
-use Rattle.graph_model.specs.Validity.{AreOfOneComponent, IsLevel}
+use Rattle.graph_model.specs.Limits.{Bounds, AreOver}
+use Rattle.graph_model.specs.Oversize.{AreOfOneComponent, HasOver}
+use Rattle.graph_model.specs.Validity.{IsLevel}
 
 -- ---- trails
 
@@ -145,24 +147,59 @@ some_list P told bound small =
 
 -- ---- levels
 
+-- names of one component are within the limits
+abbrev pub AreWithin : Bounds → (ℕ → ℕ) → List ℕ → Type 0
+AreWithin bounds size ids = (length ids ≤ bounds.count) × (sum_by size ids ≤ bounds.size)
+
+not_less : (a b : ℕ) → (a < b → ⊥) → b ≤ a
+not_less a b none = elim (cases_lt a b) [ inl less ↦ absurd (none less) | inr past ↦ past ]
+
+pub within_limits : (bounds : Bounds) (size : ℕ → ℕ) (graph : Graph) → (HasOver bounds size graph → ⊥)
+    → (ids : List ℕ) → AreOfOneComponent graph ids → AreWithin bounds size ids
+within_limits bounds size graph none ids of = (
+  not_less bounds.count (length ids) (λ over. none (ids, of, inl over)),
+  not_less bounds.size (sum_by size ids) (λ over. none (ids, of, inr over)),
+)
+
+pub none_over : (bounds : Bounds) (size : ℕ → ℕ) (graph : Graph) → ((ids : List ℕ) → AreOfOneComponent graph ids → AreWithin bounds size ids)
+    → HasOver bounds size graph → ⊥
+none_over bounds size graph within over =
+    let fits = within over.0 over.1 in
+    elim over.2 [ inl many ↦ (let none : ⊥ = omega (arith, fits.0, many) in none) | inr large ↦ (let none : ⊥ = omega (arith, fits.1, large) in none) ]
+
+-- names of one component of a graph of names of another, whose connections are there too, are of one component of that
+of_one_within : (old new : Graph) → ((id : ℕ) → Contains new.names id → Contains old.names id)
+    → ((a b : ℕ) → AreConnected new.pairs a b → AreConnected old.pairs a b) → (ids : List ℕ) → AreOfOneComponent new ids → AreOfOneComponent old ids
+of_one_within old new inside connected ids of = record {
+  once = of.once;
+  inside = λ id here. inside id (of.inside id here);
+  together = λ a b here there. connected a b (of.together a b here there);
+}
+
+-- what is over the limits in such a graph is so in the other, where the names keep their sizes
+pub over_along : (was is : Bounds) (old_size new_size : ℕ → ℕ) (old new : Graph) → is ≡ was → ((id : ℕ) → Contains new.names id → Contains old.names id)
+    → ((a b : ℕ) → AreConnected new.pairs a b → AreConnected old.pairs a b) → ((id : ℕ) → Contains new.names id → new_size id ≡ old_size id)
+    → HasOver is new_size new → HasOver was old_size old
+over_along was is old_size new_size old new limits inside connected sizes over = (
+  over.0,
+  of_one_within old new inside connected over.0 over.1,
+  elim over.2 [
+    | inl many ↦ inl (subst (λ (l : Bounds). l.count < length over.0) limits many)
+    | inr large ↦ inr (subst (λ (l : Bounds). l.size < sum_by old_size over.0) limits
+        (subst (λ n. is.size < n) (sum_by_along new_size old_size over.0 (λ q here. sizes q (over.1.inside q here))) large))
+  ],
+)
+
 -- a graph of names of another, whose connections are there too
 pub level_within : (was is : PlainState) (old new : Graph) → is.limits ≡ was.limits → IsGraph new → ((id : ℕ) → Contains new.names id → Contains old.names id)
     → ((a b : ℕ) → AreConnected new.pairs a b → AreConnected old.pairs a b) → ((id : ℕ) → Contains new.names id → size_of is.table id ≡ size_of was.table id)
     → IsLevel was old → IsLevel is new
-level_within was is old new limits whole inside connected sizes level =
-    let same : (ids : List ℕ) → AreOfOneComponent new ids → AreOfOneComponent old ids = λ ids of. record {
-      once = of.once;
-      inside = λ id here. inside id (of.inside id here);
-      together = λ a b here there. connected a b (of.together a b here there);
-    } in
-    record {
-      whole = whole;
-      names = λ id here. level.names id (inside id here);
-      count = λ ids of. subst (λ l. length ids ≤ l.count) (sym limits) (level.count ids (same ids of));
-      size = λ ids of. subst (λ l. sum_by (size_of is.table) ids ≤ l.size) (sym limits)
-          (subst (λ n. n ≤ was.limits.size) (sym (sum_by_along (size_of is.table) (size_of was.table) ids (λ q here. sizes q (of.inside q here))))
-          (level.size ids (same ids of)));
-    }
+level_within was is old new limits whole inside connected sizes level = record {
+  whole = whole;
+  names = λ id here. level.names id (inside id here);
+  within = λ strict over. level.within (subst (λ (l : Bounds). l.defer ≡ false) limits strict)
+      (over_along was.limits is.limits (size_of was.table) (size_of is.table) old new limits inside connected sizes over);
+}
 
 pub same_level : (was is : PlainState) (graph : Graph) → is.limits ≡ was.limits
     → ((id : ℕ) → Contains graph.names id → size_of is.table id ≡ size_of was.table id) → IsLevel was graph → IsLevel is graph
@@ -171,8 +208,8 @@ same_level was is graph limits sizes level = level_within was is graph graph lim
 -- One more pair: what was apart makes one component within the limits, or nothing new is connected.
 module _ (state : PlainState) (graph : Graph) (parent child : ℕ) (level : IsLevel state graph)
     (parent_in : Contains graph.names parent) (child_in : Contains graph.names child)
-    (few : (members : List ℕ) → JoinsTo graph.pairs parent child members → length members ≤ state.limits.count)
-    (small : (members : List ℕ) → JoinsTo graph.pairs parent child members → sum_by (size_of state.table) members ≤ state.limits.size) where
+    (joins : state.limits.defer ≡ false → (members : List ℕ) → JoinsTo graph.pairs parent child members
+        → AreWithin state.limits (size_of state.table) members) where
   abbrev Joint : ℕ → Type 0
   Joint id = AreConnected graph.pairs id parent ⊎ AreConnected graph.pairs id child
 
@@ -243,28 +280,29 @@ module _ (state : PlainState) (graph : Graph) (parent child : ℕ) (level : IsLe
     ]
   ]
 
-  bounded : (ids : List ℕ) → AreOfOneComponent (with_pair graph parent child) ids
-      → (length ids ≤ state.limits.count) × (sum_by (size_of state.table) ids ≤ state.limits.size)
-  bounded ids of = elim (connected_told graph.pairs parent child) [
+  bounded : state.limits.defer ≡ false → (ids : List ℕ) → AreOfOneComponent (with_pair graph parent child) ids
+      → AreWithin state.limits (size_of state.table) ids
+  bounded strict ids of = elim (connected_told graph.pairs parent child) [
     | inl there ↦
         let old : AreOfOneComponent graph ids =
         record { once = of.once; inside = of.inside; together = λ a b one two. no_more there a b (of.together a b one two) } in
-        (level.count ids old, level.size ids old)
+        was ids old
     | inr none ↦ elim (apart ids of none) [
-      | inl old ↦ (level.count ids old, level.size ids old)
+      | inl old ↦ was ids old
       | inr joint ↦
           let list = some_list Joint (λ q. either_told _ _ (connected_told graph.pairs q parent) (connected_told graph.pairs q child)) (2 ^ 64) joint_named in
           let fits = distinct_within (size_of state.table) ids list.0 of.once (λ q here. (list.1.exact q).1 (joint q here)) in
-          let count : length list.0 ≤ state.limits.count = few list.0 (none, list.1) in
-          let size : sum_by (size_of state.table) list.0 ≤ state.limits.size = small list.0 (none, list.1) in
-          (omega (arith, fits.0), omega (arith, fits.1))
+          let both = joins strict list.0 (none, list.1) in
+          (omega (arith, fits.0, both.0), omega (arith, fits.1, both.1))
     ]
   ]
+    where
+      was : (ids : List ℕ) → AreOfOneComponent graph ids → AreWithin state.limits (size_of state.table) ids
+      was = within_limits state.limits (size_of state.table) graph (level.within strict)
 
   pub level_joined : IsGraph (with_pair graph parent child) → IsLevel state (with_pair graph parent child)
   level_joined whole = record {
     whole = whole;
     names = level.names;
-    count = λ ids of. (bounded ids of).0;
-    size = λ ids of. (bounded ids of).1;
+    within = λ strict. none_over state.limits (size_of state.table) (with_pair graph parent child) (bounded strict);
   }

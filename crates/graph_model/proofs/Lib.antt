@@ -1,9 +1,12 @@
 pub mod RowLemmas
+pub mod OverLemmas
+pub mod OneRefusal
 pub mod RunLemmas
 pub mod AbortLemmas
 pub mod LevelLemmas
 pub mod ValidLemmas
 pub mod ChangeLemmas
+pub mod MinedLemmas
 pub mod StepLemmas
 pub mod EdgeLemmas
 pub mod SpellingLemmas
@@ -12,5 +15,5 @@ pub mod ProofLemmas
 pub mod SameLemmas
 pub mod BackLemmas
 pub mod FirstLemmas
-pub mod SameStateLemmas
-pub mod MinedLemmas
+pub mod SameMinedLemmas
+pub mod FunctionLemmas

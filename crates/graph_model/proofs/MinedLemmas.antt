@@ -32,7 +32,7 @@ use Rattle.graph_model.proofs.LevelLemmas.{one_pair, connects, connected_told, s
 use Rattle.graph_model.proofs.ValidLemmas.{row_on, row_at_on, forgets_valid}
 use Rattle.graph_model.proofs.FirstLemmas.{none_first, none_with, none_twice}
 use Rattle.graph_model.proofs.BackLemmas.{no_cycle_along, graph_put}
-use Rattle.graph_model.proofs.SameStateLemmas.{tx_of, listed_tx}
+use Rattle.graph_model.proofs.SameMinedLemmas.{tx_of, listed_tx}
 
 -- ---- lists and tables
 

@@ -13,6 +13,7 @@ use Rattle.lists.proofs.Distinct.{distinct-append_left, distinct_apart}
 use Rattle.lists.proofs.Entries.{Contains-head, Contains-later, Contains-cases, Contains-splits, map-Contains, none_in_empty, Contains-map}
 use Rattle.fee_rate.specs.declared.rates.Sum.{Sum}
 use Rattle.fee_rate.specs.Limits.{IsFee, IsSize}
+use Rattle.graphs.specs.declared.names.Level.{Level}
 use Rattle.graphs.specs.declared.names.Level.TheVariants.{Main, Top}
 use Rattle.graphs.specs.declared.names.Flow.{Flow}
 use Rattle.graphs.specs.Graphs.{Graph, IsCover, IsGraph}
@@ -24,12 +25,14 @@ use Rattle.graphs.proofs.TangentLemmas.{joined}
 use Rattle.lists.proofs.Flats.{flat_has}
 use Rattle.graphs.proofs.AlikeLemmas.{sums_along}
 use Rattle.graphs.proofs.BestLemmas.{covers_are_pairs, joined_distinct, joined_ids, part_front_closed}
-use Rattle.graph_model.specs.States.{PlainState, State, Entry, level_of, pick_of, top_of, rate_of, sum_in, IsLive}
+use Rattle.graph_model.specs.States.{PlainState, State, Entry, level_of, pick_of, top_of, size_of, rate_of, sum_in, IsLive}
 use Rattle.graph_model.specs.Changes.{IsKept}
 use Rattle.graph_model.specs.Answers.{order_of, ProvesOrder, ListsCovers}
 use Rattle.graph_model.specs.Lines.{max_line}
 use Rattle.graph_model.specs.Texts.{Text, tx_line, edge_line, flow_line, chunk_line, part_lines, text_lines, HasPartTypes, HasTextTypes, IsText, Found, Verifies}
-use Rattle.graph_model.specs.Validity.{IsLevel, IsValid, IsPickOf, IsValidState}
+use Rattle.graph_model.specs.Oversize.{HasOver}
+use Rattle.graph_model.specs.Validity.{IsLevel, IsValid, IsPickOf, IsStagingPick, IsValidState}
+use Rattle.graph_model.proofs.LevelLemmas.{within_limits}
 use Rattle.graph_model.specs.ProofLaws.{ProofsAreCertificates}
 use Rattle.lists.proofs.Keys.{names-within}
 use Rattle.graph_model.proofs.ValidLemmas.{top_level}
@@ -71,6 +74,7 @@ all_appended : (xs ys : List (List ℕ)) → AllPlain xs → AllPlain ys → All
 all_appended xs ys one two line here = elim (Contains-append_cases xs ys line here) [ inl first ↦ one line first | inr later ↦ two line later ]
 
 module _ (plain : PlainState) (graph : Graph) (pick : List Part) (edges : List (ℕ × ℕ)) (valid : IsValid plain) (level : IsLevel plain graph)
+    (none : HasOver plain.limits (size_of plain.table) graph → ⊥)
     (inside : (id : ℕ) → Contains graph.names id → IsKept plain id)
     (picked : IsPick (rate_of plain.table) graph pick) (covers : ListsCovers graph (order_of pick) edges) where
   abbrev rate : ℕ → Sum
@@ -116,11 +120,11 @@ module _ (plain : PlainState) (graph : Graph) (pick : List Part) (edges : List (
 
   few_names : (part : Part) → Contains pick part → length part.ids ≤ 128
   few_names part here =
-      let count : length part.ids ≤ plain.limits.count = level.count part.ids (record {
+      let fits = within_limits plain.limits (size_of plain.table) graph none part.ids (record {
         once = part_once part here;
         inside = λ id there. (sorted.names id).0 (in_order part id here there);
         together = picked.certificate.order.together part here;
-      }) in omega (arith, count, valid.limits.count_high, valid.most)
+      }) in omega (arith, fits.0, valid.limits.count_high, valid.most)
 
   part_sum : (part : Part) → Contains pick part → IsSmallSum (sums rate part.ids)
   part_sum part here = small_sum rate part.ids (few_names part here) (λ id there. in_range id (in_order part id here there))
@@ -279,27 +283,35 @@ module _ (plain : PlainState) (graph : Graph) (pick : List Part) (edges : List (
 
 -- ---- both levels
 
-top_pick : (state : State) → IsValidState state → IsPick (rate_of state.plain.table) (level_of state.plain Top) (pick_of state.picks Top)
+top_pick : (state : State) → IsValidState state
+    → IsPickOf state.plain.limits state.plain.table (level_of state.plain Top) (pick_of state.picks Top)
 top_pick state valid = both state.plain.staging state.picks.staging valid.picks.staging
   where
-    both : (staging : Option Graph) (pick : Option (List Part)) → IsPickOf state.plain.table staging pick
-        → IsPick (rate_of state.plain.table) (top_of state.plain.main staging) (top_of state.picks.main pick)
+    both : (staging : Option Graph) (pick : Option (Option (List Part))) → IsStagingPick state.plain.limits state.plain.table staging pick
+        → IsPickOf state.plain.limits state.plain.table (top_of state.plain.main staging) (top_of state.picks.main pick)
     both None None none = valid.picks.main
     both (Some graph) (Some pick) picked = picked
     both None (Some pick) none = absurd none
     both (Some graph) None none = absurd none
 
+pub level_pick : (state : State) (level : Level) (pick : List Part) → IsValidState state → pick_of state.picks level ≡ Some pick
+    → (HasOver state.plain.limits (size_of state.plain.table) (level_of state.plain level) → ⊥)
+    × IsPick (rate_of state.plain.table) (level_of state.plain level) pick
+level_pick state Main pick valid is = subst (IsPickOf state.plain.limits state.plain.table state.plain.main) is valid.picks.main
+level_pick state Top pick valid is = subst (IsPickOf state.plain.limits state.plain.table (level_of state.plain Top)) is (top_pick state valid)
+
 of_level : (plain : PlainState) (graph : Graph) (pick : List Part) (text : Text) → IsValid plain
-    → IsLevel plain graph → ((id : ℕ) → Contains graph.names id → IsKept plain id)
+    → IsLevel plain graph → (HasOver plain.limits (size_of plain.table) graph → ⊥) → ((id : ℕ) → Contains graph.names id → IsKept plain id)
     → IsPick (rate_of plain.table) graph pick → ProvesOrder plain.table graph pick text → Verifies (text_lines text) (Found Certified)
-of_level plain graph pick text valid level inside picked proves =
+of_level plain graph pick text valid level none inside picked proves =
     let same : record { txs = map (tx_of (rate_of plain.table)) (order_of pick); edges = text.edges; parts = pick } ≡ text =
     λ i. record { txs = sym proves.txs i; edges = text.edges; parts = sym proves.parts i } in
-    subst (λ (t : Text). Verifies (text_lines t) (Found Certified)) same (verified plain graph pick text.edges valid level inside picked proves.edges)
+    subst (λ (t : Text). Verifies (text_lines t) (Found Certified)) same (verified plain graph pick text.edges valid level none inside picked proves.edges)
 
 pub proofs_are_certificates : ProofsAreCertificates
-proofs_are_certificates state Main text valid proves =
-    of_level state.plain state.plain.main state.picks.main text valid.plain valid.plain.main (λ id here. inl here) valid.picks.main proves
-proofs_are_certificates state Top text valid proves =
-    of_level state.plain (level_of state.plain Top) (pick_of state.picks Top) text valid.plain
-    (top_level state.plain valid.plain) (λ id here. inr here) (top_pick state valid) proves
+proofs_are_certificates state Main pick text valid is proves =
+    let picked = level_pick state Main pick valid is in
+    of_level state.plain state.plain.main pick text valid.plain valid.plain.main picked.0 (λ id here. inl here) picked.1 proves
+proofs_are_certificates state Top pick text valid is proves =
+    let picked = level_pick state Top pick valid is in
+    of_level state.plain (level_of state.plain Top) pick text valid.plain (top_level state.plain valid.plain) picked.0 (λ id here. inr here) picked.1 proves

@@ -1,15 +1,15 @@
 -- Rows of refusals: a row has one answer, none has `memory`, and equivalent causes give the same row.
-use Rattle.std.proofs.Common.{◌≡◌, ℕ, List, [], ◌∷◌, ◌++◌, Option, Some, sym, refl, ap, ◌∙◌, inl, inr, ◌⊎◌, ◌↔◌, length}
+use Rattle.std.proofs.Common.{◌≡◌, ℕ, List, [], ◌∷◌, ◌++◌, Option, Some, subst, sym, refl, ap, ◌∙◌, inl, inr, ◌⊎◌, ◌↔◌, length}
 use Rattle.std.specs.Prelude.{sum_by}
 use Rattle.lists.proofs.Entries.{first_of, rest_of}
 use Rattle.graphs.specs.Graphs.{AreConnected}
 use Rattle.graphs.proofs.ListLemmas.{Lists-same}
 use Rattle.graph_model.specs.declared.names.Refusal.{Refusal}
-use Rattle.graph_model.specs.declared.names.Refusal.TheVariants.{Late, Range, Fee, Size, Taken, ClusterSize, Full, Unknown, Cycle, Count, Staging, Twice, Parent, Empty, NoStaging, Memory}
+use Rattle.graph_model.specs.declared.names.Refusal.TheVariants.{Late, Range, Fee, Size, Taken, ClusterSize, Full, Unknown, Cycle, Count, Staging, Twice, Parent, Empty, NoStaging, Memory, Oversized, NoBlock, Back}
 use Rattle.graph_model.specs.States.{PlainState}
-use Rattle.graph_model.specs.Commands.{Command, SetLimits, Add, Dep, SetFee, Remove, Mine, Evict, Stage, Commit, Abort, Settle, Compare, Order, Diagram, Proof, Cluster, Ancestors, Descendants, Chunk, Before, Block}
+use Rattle.graph_model.specs.Commands.{Command, SetLimits, Add, Dep, SetFee, Remove, Mine, Evict, Stage, Commit, Abort, Settle, Trim, Unmine, Dump, Compare, Order, Diagram, Proof, Cluster, Ancestors, Descendants, Chunk, Before, Block}
 use Rattle.graph_model.specs.Commands as commands
-use Rattle.graph_model.specs.Refusals.{First, FirstAt, NoRefusal, AddRow, DepRow, IsFirst, JoinsTo, OverCount, OverSize, RefusalIs}
+use Rattle.graph_model.specs.Refusals.{First, FirstAt, FirstOf, NoRefusal, AddRow, DepRow, NameRow, CompareRow, IsFirst, JoinsTo, OverCount, OverSize, BringsOver, RefusalIs}
 
 -- ---- equivalent causes
 
@@ -57,11 +57,21 @@ first_at_lacks : {C : ℕ → Type 0} {L : Type 0} (why : ℕ → Refusal) → (
     → ((n : ℕ) × C n × (Some Memory ≡ Some (why n))) ⊎ (((n : ℕ) → C n → ⊥) × L) → ⊥
 first_at_lacks why other more row = elim row [ inl here ↦ other here.0 (sym here.2) | inr on ↦ more on.1 ]
 
+first_of_lacks : {C : Refusal → Type 0} {L : Type 0} → (C Memory → ⊥) → (L → ⊥)
+    → ((why : Refusal) × C why × (Some Memory ≡ Some why)) ⊎ (((why : Refusal) → C why → ⊥) × L) → ⊥
+first_of_lacks {C} other more row = elim row [
+  | inl here ↦ other (subst C (one_why here.0 (sym here.2)) here.1)
+  | inr on ↦ more on.1
+]
+  where
+    one_why : (why : Refusal) → Some why ≡ Some Memory → why ≡ Memory
+    one_why why is = cc
+
 end_lacks : NoRefusal (Some Memory) → ⊥
 end_lacks none = cc
 
 pub no_memory_in_row : (state : PlainState) (command : Command) → RefusalIs state command (Some Memory) → ⊥
-no_memory_in_row state (SetLimits count size total) = first_lacks Late (λ e. cc) (first_lacks Range (λ e. cc) end_lacks)
+no_memory_in_row state (SetLimits limits) = first_lacks Late (λ e. cc) (first_lacks Range (λ e. cc) end_lacks)
 no_memory_in_row state (Add id fee size) =
     first_lacks Fee (λ e. cc)
     (first_lacks Size (λ e. cc) (first_lacks Taken (λ e. cc) (first_lacks (ClusterSize size) (λ e. cc) (first_lacks Full (λ e. cc) end_lacks))))
@@ -72,45 +82,60 @@ no_memory_in_row state (SetFee id fee) = first_lacks Fee (λ e. cc) (first_lacks
 no_memory_in_row state (Remove id) = first_lacks (Unknown id) (λ e. cc) end_lacks
 no_memory_in_row state (Mine ids) =
     first_lacks Staging (λ e. cc) (first_at_lacks Twice (λ n e. cc) (first_at_lacks Unknown (λ n e. cc) (first_at_lacks Parent (λ n e. cc) end_lacks)))
-no_memory_in_row state Evict = first_lacks Staging (λ e. cc) (first_lacks Empty (λ e. cc) end_lacks)
+no_memory_in_row state Evict = first_lacks Staging (λ e. cc) (first_lacks Empty (λ e. cc) (first_lacks Oversized (λ e. cc) end_lacks))
 no_memory_in_row state Stage = first_lacks Staging (λ e. cc) end_lacks
 no_memory_in_row state Commit = first_lacks NoStaging (λ e. cc) end_lacks
 no_memory_in_row state Abort = first_lacks NoStaging (λ e. cc) end_lacks
-no_memory_in_row state Settle = first_lacks NoStaging (λ e. cc) end_lacks
-no_memory_in_row state Compare = first_lacks NoStaging (λ e. cc) end_lacks
-no_memory_in_row state (Order level) = end_lacks
-no_memory_in_row state (Diagram level) = end_lacks
-no_memory_in_row state (Proof level) = end_lacks
-no_memory_in_row state (Cluster id level) = first_lacks (Unknown id) (λ e. cc) end_lacks
-no_memory_in_row state (Ancestors id level) = first_lacks (Unknown id) (λ e. cc) end_lacks
-no_memory_in_row state (Descendants id level) = first_lacks (Unknown id) (λ e. cc) end_lacks
-no_memory_in_row state (Chunk id) = first_lacks (Unknown id) (λ e. cc) end_lacks
-no_memory_in_row state (Before a b) = first_lacks (Unknown a) (λ e. cc) (first_lacks (Unknown b) (λ e. cc) end_lacks)
-no_memory_in_row state (Block size) = end_lacks
+no_memory_in_row state Settle = first_lacks NoStaging (λ e. cc) (first_lacks Oversized (λ e. cc) end_lacks)
+no_memory_in_row state Compare = first_lacks NoStaging (λ e. cc) (first_lacks Oversized (λ e. cc) end_lacks)
+no_memory_in_row state Trim = end_lacks
+no_memory_in_row state Unmine =
+    first_lacks Staging (λ e. cc) (first_lacks NoBlock (λ e. cc) (first_at_lacks Back (λ n e. cc)
+    (first_lacks Full (λ e. cc) (first_of_lacks (λ over. told_other over.over.2) end_lacks))))
+  where
+    told_other : {A B C : Type 0} {m n : ℕ} → (A × (Memory ≡ Count m)) ⊎ (B × C × (Memory ≡ ClusterSize n)) → ⊥
+    told_other told = elim told [ inl many ↦ (let e = many.1 in cc) | inr large ↦ (let e = large.2 in cc) ]
+no_memory_in_row state (Order level) = first_lacks Oversized (λ e. cc) end_lacks
+no_memory_in_row state (Diagram level) = first_lacks Oversized (λ e. cc) end_lacks
+no_memory_in_row state (Proof level) = first_lacks Oversized (λ e. cc) end_lacks
+no_memory_in_row state (Cluster id level) = first_lacks (Unknown id) (λ e. cc) (first_lacks Oversized (λ e. cc) end_lacks)
+no_memory_in_row state (Ancestors id level) = first_lacks (Unknown id) (λ e. cc) (first_lacks Oversized (λ e. cc) end_lacks)
+no_memory_in_row state (Descendants id level) = first_lacks (Unknown id) (λ e. cc) (first_lacks Oversized (λ e. cc) end_lacks)
+no_memory_in_row state (Chunk id) = first_lacks (Unknown id) (λ e. cc) (first_lacks Oversized (λ e. cc) end_lacks)
+no_memory_in_row state (Before a b) = first_lacks (Unknown a) (λ e. cc) (first_lacks (Unknown b) (λ e. cc) (first_lacks Oversized (λ e. cc) end_lacks))
+no_memory_in_row state (Block size) = first_lacks Oversized (λ e. cc) end_lacks
 no_memory_in_row state (commands.Count level) = end_lacks
+no_memory_in_row state Dump = first_lacks Oversized (λ e. cc) end_lacks
 
 -- ---- a row has one answer
 
-abbrev IsOne : (Option Refusal → Type 0) → Type 0
+abbrev pub IsOne : (Option Refusal → Type 0) → Type 0
 IsOne row = (one other : Option Refusal) → row one → row other → one ≡ other
 
-end_one : IsOne NoRefusal
+pub end_one : IsOne NoRefusal
 end_one one other here there = here ∙ sym there
 
-first_one : (cause : Type 0) (why : Refusal) (later : Option Refusal → Type 0) → IsOne later → IsOne (First cause why later)
+pub first_one : (cause : Type 0) (why : Refusal) (later : Option Refusal → Type 0) → IsOne later → IsOne (First cause why later)
 first_one cause why later more one other here there = elim here [
   | inl a ↦ elim there [ inl b ↦ a.1 ∙ sym b.1 | inr b ↦ absurd (b.0 a.0) ]
   | inr a ↦ elim there [ inl b ↦ absurd (a.0 b.0) | inr b ↦ more one other a.1 b.1 ]
 ]
 
-first_at_one : (cause : ℕ → Type 0) (why : ℕ → Refusal) (later : Option Refusal → Type 0)
+pub first_at_one : (cause : ℕ → Type 0) (why : ℕ → Refusal) (later : Option Refusal → Type 0)
     → ((m n : ℕ) → cause m → cause n → m ≡ n) → IsOne later → IsOne (FirstAt cause why later)
 first_at_one cause why later same more one other here there = elim here [
   | inl a ↦ elim there [ inl b ↦ a.2 ∙ ap (λ n. Some (why n)) (same a.0 b.0 a.1 b.1) ∙ sym b.2 | inr b ↦ absurd (b.0 a.0 a.1) ]
   | inr a ↦ elim there [ inl b ↦ absurd (a.0 b.0 b.1) | inr b ↦ more one other a.1 b.1 ]
 ]
 
-joins_once : (pairs : List (ℕ × ℕ)) (parent child : ℕ) (xs ys : List ℕ) → JoinsTo pairs parent child xs → JoinsTo pairs parent child ys → xs ≡ ys
+pub first_of_one : (cause : Refusal → Type 0) (later : Option Refusal → Type 0)
+    → ((a b : Refusal) → cause a → cause b → a ≡ b) → IsOne later → IsOne (FirstOf cause later)
+first_of_one cause later same more one other here there = elim here [
+  | inl a ↦ elim there [ inl b ↦ a.2 ∙ ap (λ why. Some why) (same a.0 b.0 a.1 b.1) ∙ sym b.2 | inr b ↦ absurd (b.0 a.0 a.1) ]
+  | inr a ↦ elim there [ inl b ↦ absurd (a.0 b.0 b.1) | inr b ↦ more one other a.1 b.1 ]
+]
+
+pub joins_once : (pairs : List (ℕ × ℕ)) (parent child : ℕ) (xs ys : List ℕ) → JoinsTo pairs parent child xs → JoinsTo pairs parent child ys → xs ≡ ys
 joins_once pairs parent child xs ys one other = Lists-same (λ id. AreConnected pairs id parent ⊎ AreConnected pairs id child) xs ys one.1 other.1
 
 -- two cuts of one list: the same, or one begins within the other's front
@@ -127,7 +152,7 @@ cuts (x ∷ xs) (y ∷ ys) us vs a b e = elim (cuts xs ys us vs a b (rest_of e))
   ]
 ]
 
-first_entry : (P : List ℕ → ℕ → Type 0) (ids : List ℕ) (m n : ℕ) → IsFirst P ids m → IsFirst P ids n → m ≡ n
+pub first_entry : (P : List ℕ → ℕ → Type 0) (ids : List ℕ) (m n : ℕ) → IsFirst P ids m → IsFirst P ids n → m ≡ n
 first_entry P ids m n one other = elim (cuts one.before other.before one.after other.after m n (sym one.cut ∙ other.cut)) [
   | inl same ↦ same.1
   | inr apart ↦ elim apart [
@@ -135,35 +160,3 @@ first_entry P ids m n one other = elim (cuts one.before other.before one.after o
     | inr sooner ↦ absurd (one.earlier other.before sooner.0 n sooner.1 other.has)
   ]
 ]
-
-pub one_refusal : (state : PlainState) (command : Command) → IsOne (RefusalIs state command)
-one_refusal state (SetLimits count size total) = first_one _ Late _ (first_one _ Range _ end_one)
-one_refusal state (Add id fee size) =
-    first_one _ Fee _ (first_one _ Size _ (first_one _ Taken _ (first_one _ (ClusterSize size) _ (first_one _ Full _ end_one))))
-one_refusal state (Dep parent child) =
-    first_one _ (Unknown parent) _ (first_one _ (Unknown child) _ (first_one _ Cycle _
-    (first_at_one (OverCount state parent child) Count _
-    (λ m n one other. one.2 ∙ ap length (joins_once _ parent child one.0 other.0 one.1 other.1) ∙ sym other.2)
-    (first_at_one (OverSize state parent child) ClusterSize _
-    (λ m n one other. one.2 ∙ ap (sum_by _) (joins_once _ parent child one.0 other.0 one.1 other.1) ∙ sym other.2) end_one))))
-one_refusal state (SetFee id fee) = first_one _ Fee _ (first_one _ (Unknown id) _ end_one)
-one_refusal state (Remove id) = first_one _ (Unknown id) _ end_one
-one_refusal state (Mine ids) =
-    first_one _ Staging _ (first_at_one (IsFirst _ ids) Twice _ (first_entry _ ids)
-    (first_at_one (IsFirst _ ids) Unknown _ (first_entry _ ids) (first_at_one (IsFirst _ ids) Parent _ (first_entry _ ids) end_one)))
-one_refusal state Evict = first_one _ Staging _ (first_one _ Empty _ end_one)
-one_refusal state Stage = first_one _ Staging _ end_one
-one_refusal state Commit = first_one _ NoStaging _ end_one
-one_refusal state Abort = first_one _ NoStaging _ end_one
-one_refusal state Settle = first_one _ NoStaging _ end_one
-one_refusal state Compare = first_one _ NoStaging _ end_one
-one_refusal state (Order level) = end_one
-one_refusal state (Diagram level) = end_one
-one_refusal state (Proof level) = end_one
-one_refusal state (Cluster id level) = first_one _ (Unknown id) _ end_one
-one_refusal state (Ancestors id level) = first_one _ (Unknown id) _ end_one
-one_refusal state (Descendants id level) = first_one _ (Unknown id) _ end_one
-one_refusal state (Chunk id) = first_one _ (Unknown id) _ end_one
-one_refusal state (Before a b) = first_one _ (Unknown a) _ (first_one _ (Unknown b) _ end_one)
-one_refusal state (Block size) = end_one
-one_refusal state (commands.Count level) = end_one

@@ -16,18 +16,21 @@ use Rattle.graphs.specs.Picks.{IsPick}
 use Rattle.graphs.proofs.RemovalLemmas.{graph_left}
 use Rattle.graphs.proofs.DropLemmas as drops
 use Rattle.graphs.proofs.PickLemmas.{picks_are_kept}
-use Rattle.graph_model.specs.Limits.{default_limits}
+use Rattle.graph_model.specs.Limits.{Bounds, default_limits}
 use Rattle.graph_model.specs.States.{PlainState, Picks, State, Table, Entry, start, empty_graph, level_of, top_of, IsLive, size_in, size_of, sum_in, rate_of}
-use Rattle.graph_model.specs.Commands.{Command, HasTypes, SetLimits, Add, Dep, SetFee, Remove, Mine, Evict, Stage, Commit, Abort, Settle, Compare, Order, Diagram, Proof, Cluster, Ancestors, Descendants, Chunk, Before, Block, Count}
+use Rattle.graph_model.specs.Commands.{Command, HasTypes, SetLimits, Add, Dep, SetFee, Remove, Mine, Evict, Stage, Commit, Abort, Settle, Trim, Unmine, Dump, Compare, Order, Diagram, Proof, Cluster, Ancestors, Descendants, Chunk, Before, Block, Count}
 use Rattle.graph_model.specs.Refusals.{RefusalIs}
 use Rattle.graph_model.specs.Replies.{Reply}
-use Rattle.graph_model.specs.Changes.{begun, with_fee, staged, Forgets, Removes, DropsFromMain, Commits, Aborts, Changes}
+use Rattle.graph_model.specs.Changes.{begun, with_fee, staged, Forgets, Removes, DropsFromMain, DropsFromTop, Commits, Aborts, Changes}
 use Rattle.graph_model.specs.Steps.{Step, PicksFollow, CommitsPick}
-use Rattle.graph_model.specs.Validity.{AreOfOneComponent, IsLevel, IsStaging, IsValid, IsPickOf, ArePicks, IsValidState}
+use Rattle.graph_model.specs.declared.limits.TheConstants.{MAX_COUNT}
+use Rattle.graph_model.specs.Oversize.{AreOfOneComponent, HasOver}
+use Rattle.graph_model.specs.Validity.{IsLevel, IsStaging, IsValid, IsPickOf, IsStagingPick, ArePicks, IsValidState}
 use Rattle.graph_model.specs.Laws.{StepsKeepValid}
-use Rattle.graph_model.proofs.LevelLemmas.{same_level, level_within, connects, one_pair, two_pairs}
+use Rattle.graph_model.proofs.LevelLemmas.{same_level, level_within, over_along, none_over, connects, one_pair, two_pairs}
 use Rattle.graph_model.proofs.ValidLemmas.{row_on, get-put_same, get-put_other, top_level, staging_along, forgets_valid, valid_limited}
-use Rattle.graph_model.proofs.ChangeLemmas.{of_top, top_main, top_is, fee_stable, valid_added, valid_paired}
+use Rattle.graph_model.proofs.ChangeLemmas.{of_top, top_main, top_is, fee_stable, valid_begun, valid_added, valid_paired}
+use Rattle.graph_model.proofs.MinedLemmas.{valid_mined, valid_unmined}
 
 -- ---- `fee`
 
@@ -81,6 +84,8 @@ module _ (old : PlainState) (id : ℕ) (fee : ℤ) (valid : IsValid old) (row : 
           (good_fee, good_size (finmap.get old.table id) live (λ e is. valid.rates id e is))
       | inr other ↦ valid.rates q e (sym (get-put_other old.table id q entry other) ∙ is)
     ];
+    blocks = valid.blocks;
+    block_count = valid.block_count;
     fresh = λ not_yet. absurd (true≢false not_yet);
   }
 
@@ -101,11 +106,13 @@ valid_removed old new id valid (graph, without, forgets) =
     (λ q kept. inr (elim kept [
       | inl here ↦ ((without.names q).0 here).0
       | inr here ↦ ((without.names q).0 (subst (λ (g : Graph). Contains g.names q) (ap (top_of graph) alone) here)).0
-    ])))
+    ]))
+    valid.blocks valid.block_count)
     (λ was open_is. forgets_valid old (record (begun old) { staging = Some graph }) new valid refl refl refl refl
     (same_level old (record (begun old) { staging = Some graph }) old.main refl (λ q here. refl) valid.main)
     (same_level old (record (begun old) { staging = Some graph }) graph refl (λ q here. refl) level)
-    (λ q kept. elim kept [ inl here ↦ inl here | inr here ↦ inr ((without.names q).0 here).0 ]))
+    (λ q kept. elim kept [ inl here ↦ inl here | inr here ↦ inr ((without.names q).0 here).0 ])
+    valid.blocks valid.block_count)
     forgets
 
 -- ---- `mine` and `evict`
@@ -122,6 +129,31 @@ valid_dropped old new ids valid alone (graph, without, forgets) =
       | inl here ↦ ((without.names q).0 here).0
       | inr here ↦ ((without.names q).0 (subst (λ (g : Graph). Contains g.names q) (ap (top_of graph) alone) here)).0
     ]))
+    valid.blocks valid.block_count forgets
+
+-- ---- `trim`
+
+valid_lessened : (old new : PlainState) (ids : List ℕ) → IsValid old → DropsFromTop old ids new → IsValid new
+valid_lessened old new [] valid same = subst IsValid (sym same) (valid_begun old valid)
+valid_lessened old new (id ∷ ids) valid (graph, without, forgets) =
+    let top : Graph = level_of old Top in
+    let level : IsLevel old graph =
+    level_within old old top graph refl (drops.graph_left top graph (id ∷ ids) without (top_level old valid).whole) (λ q here. ((without.names q).0 here).0)
+    (connects graph.pairs top.pairs (λ a b pair. one_pair top.pairs a b ((without.pairs a b).0 pair).2)) (λ q here. refl) (top_level old valid) in
+    of_top (begun old) graph (λ mid. Forgets mid new → IsValid new)
+    (λ alone. forgets_valid old (record (begun old) { main = graph }) new valid refl refl refl refl
+    (same_level old (record (begun old) { main = graph }) graph refl (λ q here. refl) level)
+    (subst (IsStaging (record (begun old) { main = graph })) (sym alone) tt)
+    (λ q kept. inr (elim kept [
+      | inl here ↦ ((without.names q).0 here).0
+      | inr here ↦ ((without.names q).0 (subst (λ (g : Graph). Contains g.names q) (ap (top_of graph) alone) here)).0
+    ]))
+    valid.blocks valid.block_count)
+    (λ was open_is. forgets_valid old (record (begun old) { staging = Some graph }) new valid refl refl refl refl
+    (same_level old (record (begun old) { staging = Some graph }) old.main refl (λ q here. refl) valid.main)
+    (same_level old (record (begun old) { staging = Some graph }) graph refl (λ q here. refl) level)
+    (λ q kept. elim kept [ inl here ↦ inl here | inr here ↦ inr ((without.names q).0 here).0 ])
+    valid.blocks valid.block_count)
     forgets
 
 -- ---- `stage`, `commit`, `abort`
@@ -138,6 +170,8 @@ valid_staged old valid alone = record {
   );
   few = valid.few;
   rates = valid.rates;
+  blocks = valid.blocks;
+  block_count = valid.block_count;
   fresh = λ not_yet. absurd (true≢false not_yet);
 }
 
@@ -145,13 +179,13 @@ valid_committed : (old new : PlainState) → IsValid old → Commits old new →
 valid_committed old new valid =
     forgets_valid old (record (begun old) { main = level_of old Top; staging = None }) new valid refl refl refl refl
     (same_level old (record (begun old) { main = level_of old Top; staging = None }) (level_of old Top) refl (λ q here. refl) (top_level old valid)) tt
-    (λ q kept. inr (elim kept [ inl here ↦ here | inr here ↦ here ]))
+    (λ q kept. inr (elim kept [ inl here ↦ here | inr here ↦ here ])) valid.blocks valid.block_count
 
 valid_aborted : (old new : PlainState) → IsValid old → Aborts old new → IsValid new
 valid_aborted old new valid =
     forgets_valid old (record (begun old) { staging = None }) new valid refl refl refl refl
     (same_level old (record (begun old) { staging = None }) old.main refl (λ q here. refl) valid.main) tt
-    (λ q kept. inl (elim kept [ inl here ↦ here | inr here ↦ here ]))
+    (λ q kept. inl (elim kept [ inl here ↦ here | inr here ↦ here ])) valid.blocks valid.block_count
 
 -- ---- rows
 
@@ -163,14 +197,15 @@ not_staged (Some graph) none = absurd (none refl)
 
 valid_plain : (picks : Picks) (old new : PlainState) (command : Command) → HasTypes command
     → IsValid old → RefusalIs old command None → Changes picks old command new → IsValid new
-valid_plain picks old new (SetLimits count size total) types valid row change =
-    subst IsValid (sym change) (valid_limited old (record { count = count; size = size; total = total }) valid row)
+valid_plain picks old new (SetLimits limits) types valid row change = subst IsValid (sym change) (valid_limited old limits valid row)
 valid_plain picks old new (Add id fee size) types valid row change = subst IsValid (sym change) (valid_added old id fee size valid types.0 row)
 valid_plain picks old new (Dep parent child) types valid row change = valid_paired old new parent child valid row change
 valid_plain picks old new (SetFee id fee) types valid row change = subst IsValid (sym change) (valid_paid old id fee valid row)
 valid_plain picks old new (Remove id) types valid row change = valid_removed old new id valid change
-valid_plain picks old new (Mine ids) types valid row change = valid_dropped old new ids valid (not_staged old.staging (row_on row).0) change
-valid_plain picks old new Evict types valid row change = valid_dropped old new change.0.ids valid (not_staged old.staging (row_on row).0) change.2
+valid_plain picks old new (Mine ids) types valid row change = valid_mined old new ids types valid row change
+valid_plain picks old new Evict types valid row change = valid_dropped old new change.1.ids valid (not_staged old.staging (row_on row).0) change.4
+valid_plain picks old new Trim types valid row change = valid_lessened old new change.0 valid change.2
+valid_plain picks old new Unmine types valid row change = valid_unmined old new valid row change
 valid_plain picks old new Stage types valid row change = subst IsValid (sym change) (valid_staged old valid (not_staged old.staging (row_on row).0))
 valid_plain picks old new Commit types valid row change = valid_committed old new valid change
 valid_plain picks old new Abort types valid row change = valid_aborted old new valid change
@@ -187,17 +222,24 @@ valid_plain picks old new (Chunk id) types valid row change = subst IsValid (sym
 valid_plain picks old new (Before a b) types valid row change = subst IsValid (sym change) valid
 valid_plain picks old new (Block size) types valid row change = subst IsValid (sym change) valid
 valid_plain picks old new (Count level) types valid row change = subst IsValid (sym change) valid
+valid_plain picks old new Dump types valid row change = subst IsValid (sym change) valid
 
 -- ---- the picks
 
--- a pick stays one where the names keep their fees and sizes
-pick_along : (ra rb : ℕ → Sum) (graph : Graph) (parts : List Part) → IsGraph graph
-    → ((id : ℕ) → Contains graph.names id → ra id ≡ rb id) → IsPick ra graph parts → IsPick rb graph parts
-pick_along ra rb graph parts whole same = (picks_are_kept.alike ra rb graph graph (record {
-  names = λ id. (λ here. here, λ here. here);
-  sums = same;
-  ancestors = λ x y. (λ walk. walk, λ walk. walk);
-}) whole whole parts).0
+-- a pick, or its lack, stays one where the names keep their fees and sizes
+pick_along : (bounds : Bounds) (was is : Table) (graph : Graph) (pick : Option (List Part)) → IsGraph graph
+    → ((id : ℕ) → Contains graph.names id → finmap.get was id ≡ finmap.get is id) → IsPickOf bounds was graph pick → IsPickOf bounds is graph pick
+pick_along bounds was is graph None whole same over =
+    over_along bounds bounds (size_of is) (size_of was) graph graph refl (λ id here. here) (λ a b trail. trail) (λ id here. ap size_in (same id here)) over
+pick_along bounds was is graph (Some parts) whole same (none, picked) = (
+  λ over. none (over_along bounds bounds (size_of was) (size_of is) graph graph refl (λ id here. here) (λ a b trail. trail)
+      (λ id here. ap size_in (sym (same id here))) over),
+  (picks_are_kept.alike (rate_of was) (rate_of is) graph graph (record {
+    names = λ id. (λ here. here, λ here. here);
+    sums = λ id here. ap sum_in (same id here);
+    ancestors = λ x y. (λ walk. walk, λ walk. walk);
+  }) whole whole parts).0 picked,
+)
 
 picks_staged : (old new : State) → IsValidState old → new.plain ≡ staged old.plain
     → new.picks ≡ record { main = old.picks.main; staging = Some old.picks.main } → ArePicks new.plain new.picks
@@ -207,26 +249,27 @@ picks_staged old new valid plain picks =
     subst (λ (s : State). ArePicks s.plain s.picks) (λ i. record { plain = sym plain i; picks = sym picks i }) all
 
 module _ (old new : State) (valid : IsValidState old) (commits : Commits old.plain new.plain) (pick : CommitsPick old.picks new.picks) where
-  -- with a pick of staging there is a staging
-  staging_pick : (staging : Option Graph) → IsPickOf old.plain.table staging (Some new.picks.main)
-      → old.plain.staging ≡ staging → IsPick (rate_of old.plain.table) (level_of old.plain Top) new.picks.main
+  -- with a pick of staging, or its lack, there is a staging
+  staging_pick : (staging : Option Graph) → IsStagingPick old.plain.limits old.plain.table staging (Some new.picks.main)
+      → old.plain.staging ≡ staging → IsPickOf old.plain.limits old.plain.table (level_of old.plain Top) new.picks.main
   staging_pick None none is = absurd none
-  staging_pick (Some graph) has is = subst (λ (g : Graph). IsPick (rate_of old.plain.table) g new.picks.main) (sym (top_is old.plain graph is)) has
+  staging_pick (Some graph) has is =
+      subst (λ (g : Graph). IsPickOf old.plain.limits old.plain.table g new.picks.main) (sym (top_is old.plain graph is)) has
 
-  had : IsPick (rate_of old.plain.table) (level_of old.plain Top) new.picks.main
-  had = staging_pick old.plain.staging (subst (IsPickOf old.plain.table old.plain.staging) pick.0 valid.picks.staging) refl
+  had : IsPickOf old.plain.limits old.plain.table (level_of old.plain Top) new.picks.main
+  had = staging_pick old.plain.staging (subst (IsStagingPick old.plain.limits old.plain.table old.plain.staging) pick.0 valid.picks.staging) refl
 
-  main_is : new.plain.main ≡ level_of old.plain Top
-  main_is = ap (λ (p : PlainState). p.main) commits.same
+  abbrev left : PlainState
+  left = record (begun old.plain) { main = level_of old.plain Top; staging = None; table = new.plain.table }
 
   picks_committed : ArePicks new.plain new.picks
-  picks_committed = record {
-    main = subst (λ (g : Graph). IsPick (rate_of new.plain.table) g new.picks.main) (sym main_is)
-        (pick_along (rate_of old.plain.table) (rate_of new.plain.table) (level_of old.plain Top) new.picks.main (top_level old.plain valid.plain).whole
-        (λ id here. sym (ap sum_in (commits.kept id (inl here)))) had);
-    staging = subst (λ (s : PlainState). IsPickOf new.plain.table s.staging new.picks.staging)
-        (sym commits.same) (subst (IsPickOf new.plain.table None) (sym pick.1) tt);
-  }
+  picks_committed =
+      let all : ArePicks left new.picks = record {
+        main = pick_along old.plain.limits old.plain.table new.plain.table (level_of old.plain Top) new.picks.main (top_level old.plain valid.plain).whole
+            (λ id here. sym (commits.kept id (inl here))) had;
+        staging = subst (IsStagingPick old.plain.limits new.plain.table None) (sym pick.1) tt;
+      } in
+      subst (λ (p : PlainState). ArePicks p new.picks) (sym commits.same) all
 
 valid_picks : (old new : State) (command : Command) → IsValidState old
     → Changes old.picks old.plain command new.plain → PicksFollow old command new → ArePicks new.plain new.picks
@@ -236,7 +279,9 @@ valid_picks old new Settle valid change follow = elim follow [
   | inl better ↦ elim change [ inl commits ↦ picks_committed old new valid commits.1 better.1 | inr aborts ↦ absurd (aborts.0 better.0) ]
   | inr worse ↦ worse.1.picks
 ]
-valid_picks old new (SetLimits count size total) valid change follow = follow.picks
+valid_picks old new (SetLimits limits) valid change follow = follow.picks
+valid_picks old new Trim valid change follow = follow.picks
+valid_picks old new Unmine valid change follow = follow.picks
 valid_picks old new (Add id fee size) valid change follow = follow.picks
 valid_picks old new (Dep parent child) valid change follow = follow.picks
 valid_picks old new (SetFee id fee) valid change follow = follow.picks
@@ -255,12 +300,13 @@ valid_picks old new (Chunk id) valid change follow = follow.picks
 valid_picks old new (Before a b) valid change follow = follow.picks
 valid_picks old new (Block size) valid change follow = follow.picks
 valid_picks old new (Count level) valid change follow = follow.picks
+valid_picks old new Dump valid change follow = follow.picks
 
 step_valid : (old new : State) (command : Command) (reply : Reply) → HasTypes command → IsValidState old → Step old command reply new → IsValidState new
 step_valid old new command reply types valid step = elim step [
   | inl refused ↦ subst IsValidState (sym refused.same) valid
   | inr rest ↦ elim rest [
-    | inl lacks ↦ subst IsValidState (sym lacks.same) valid
+    | inl want ↦ elim want [ inl lacks ↦ subst IsValidState (sym lacks.same) valid | inr gives ↦ subst IsValidState (sym gives.same) valid ]
     | inr fine ↦ record {
       plain = valid_plain old.picks old.plain new.plain command types valid.plain fine.none fine.accepts.plain.change;
       picks = valid_picks old new command valid fine.accepts.plain.change fine.accepts.picks;
@@ -270,7 +316,7 @@ step_valid old new command reply types valid step = elim step [
 
 -- ---- the start
 
-start_valid : (most : ℕ) → default_limits.count ≤ most → most ≤ 128 → IsValidState (start most)
+start_valid : (most : ℕ) → default_limits.count ≤ most → most ≤ MAX_COUNT → IsValidState (start most)
 start_valid most low high =
     let empty : IsLevel (start most).plain (start most).plain.main = record {
       whole = record {
@@ -281,8 +327,7 @@ start_valid most low high =
         acyclic = λ a n walk. none_in_empty (walk.0, a) walk.2;
       };
       names = λ id here. absurd (none_in_empty id here);
-      count = λ ids of. no_more ids of;
-      size = λ ids of. no_size ids of;
+      within = λ strict. nothing_over;
     } in
     record {
       plain = record {
@@ -303,10 +348,12 @@ start_valid most low high =
         );
         few = let none : finmap.len {X = Entry} {R = nat_cmp} finmap.empty ≡ 0 = finmap.len-empty nat_cmp Entry in omega arith;
         rates = λ id entry is. absurd (some_none entry (sym is ∙ finmap.get-empty nat_cmp id));
-        fresh = λ not_yet. (refl, refl);
+        blocks = λ block here. absurd (none_in_empty block here);
+        block_count = omega arith;
+        fresh = λ not_yet. (refl, refl, refl);
       };
       picks = record {
-        main = record {
+        main = (nothing_over, record {
           certificate = record {
             filled = λ part here. absurd (none_in_empty part here);
             order = record {
@@ -321,7 +368,7 @@ start_valid most low high =
             flows = λ part here. absurd (none_in_empty part here);
           };
           flows_in_order = λ part here. absurd (none_in_empty part here);
-        };
+        });
         staging = tt;
       };
     }
@@ -333,6 +380,9 @@ start_valid most low high =
     no_size : (ids : List ℕ) → AreOfOneComponent empty_graph ids → sum_by (size_of finmap.empty) ids ≤ default_limits.size
     no_size [] of = omega arith
     no_size (x ∷ xs) of = absurd (none_in_empty x (of.inside x (Contains-head x xs)))
+
+    nothing_over : HasOver default_limits (size_of finmap.empty) empty_graph → ⊥
+    nothing_over = none_over default_limits (size_of finmap.empty) empty_graph (λ ids of. (no_more ids of, no_size ids of))
 
 pub steps_keep_valid : StepsKeepValid
 steps_keep_valid = record { begins = start_valid; goes_on = step_valid }

@@ -1,5 +1,5 @@
 -- Steps keep valid states.
-use Rattle.std.proofs.Common.{◌≡◌, ◌≢◌, ℕ, suc, zero, ◌^◌, ◌<◌, ◌≤◌, true, cond, List, [], ◌∷◌, ◌++◌, length, Option, None, Some, is_some, sym, refl, ap, subst, ◌∙◌, inl, inr, ◌⊎◌, arith, true≢false, nat_eq, eq-eqb, ne_eqb}
+use Rattle.std.proofs.Common.{◌≡◌, ◌≢◌, ℕ, suc, zero, ◌^◌, ◌<◌, ◌≤◌, true, false, cond, List, [], ◌∷◌, ◌++◌, length, Option, None, Some, is_some, sym, refl, ap, subst, ◌∙◌, inl, inr, ◌⊎◌, arith, true≢false, nat_eq, eq-eqb, ne_eqb}
 use Rattle.std.specs.Prelude.{Contains, sum_by}
 use Rattle.std.specs.Ordering.{nat_cmp}
 use Rattle.std.specs.Cmp.{nat_cmp_total, unsigned_tied}
@@ -12,16 +12,17 @@ use Rattle.lists.proofs.Keys.{len-within}
 use Rattle.lists.proofs.Told.{told_number}
 use Rattle.lists.proofs.Entries.{Contains-head, none_in_empty}
 use Rattle.graphs.specs.declared.names.Level.TheVariants.{Top}
-use Rattle.graph_model.specs.declared.names.Limits.{Limits}
+use Rattle.graph_model.specs.declared.limits.TheConstants.{MAX_BLOCKS, MAX_COUNT}
 use Rattle.graph_model.specs.declared.names.Refusal.{Refusal}
 use Rattle.graphs.specs.Graphs.{Graph, Trail, IsGraph}
-use Rattle.graph_model.specs.Limits.{AreInRange}
-use Rattle.graph_model.specs.States.{PlainState, Table, Entry, level_of, top_of, IsLive, size_in, size_of}
+use Rattle.graph_model.specs.Limits.{Bounds, AreInRange}
+use Rattle.graph_model.specs.States.{PlainState, MinedBlock, Table, Entry, level_of, top_of, IsLive, size_in, size_of}
 use Rattle.graph_model.specs.Commands.{SetLimits}
 use Rattle.graph_model.specs.Refusals.{RefusalIs}
 use Rattle.graph_model.specs.Changes.{limited, IsKept, Forgets}
-use Rattle.graph_model.specs.Validity.{AreOfOneComponent, IsLevel, IsStaging, IsValid}
-use Rattle.graph_model.proofs.LevelLemmas.{same_level}
+use Rattle.graph_model.specs.Oversize.{AreOfOneComponent}
+use Rattle.graph_model.specs.Validity.{IsLevel, IsStaging, IsKeptBlock, IsValid}
+use Rattle.graph_model.proofs.LevelLemmas.{same_level, AreWithin, within_limits, none_over}
 
 -- ---- what can be told
 
@@ -75,7 +76,9 @@ top_level state valid = of_staging state.staging valid.staging
 
 module _ (old mid new : PlainState) (valid : IsValid old) (table : mid.table ≡ old.table)
     (limits : mid.limits ≡ old.limits) (most : mid.most ≡ old.most) (begins : mid.begun ≡ true)
-    (main : IsLevel mid mid.main) (staging : IsStaging mid mid.staging) (inside : (id : ℕ) → IsKept mid id → IsKept old id) (forgets : Forgets mid new) where
+    (main : IsLevel mid mid.main) (staging : IsStaging mid mid.staging) (inside : (id : ℕ) → IsKept mid id → IsKept old id)
+    (blocks : (block : MinedBlock) → Contains mid.blocks block → IsKeptBlock block) (block_count : length mid.blocks ≤ MAX_BLOCKS)
+    (forgets : Forgets mid new) where
   abbrev left : PlainState
   left = record mid { table = new.table }
 
@@ -93,15 +96,17 @@ module _ (old mid new : PlainState) (valid : IsValid old) (table : mid.table ≡
 
   valid_left : IsValid left
   valid_left = record {
-    limits = subst (λ (l : Limits). AreInRange mid.most l) (sym limits) (subst (λ m. AreInRange m old.limits) (sym most) valid.limits);
-    most = subst (λ m. m ≤ 128) (sym most) valid.most;
+    limits = subst (λ (l : Bounds). AreInRange mid.most l) (sym limits) (subst (λ m. AreInRange m old.limits) (sym most) valid.limits);
+    most = subst (λ m. m ≤ MAX_COUNT) (sym most) valid.most;
     main = same_level mid left mid.main refl (λ id here. sizes id (inl here)) main;
     staging = staging_along mid left mid.staging refl (λ graph is id here. sizes id (inr (in_top mid graph id is here))) staging;
     live = λ id. (live_kept id, λ kept. ap is_some (same_entry id kept) ∙ (valid.live id).1 (inside id kept));
     few = let le : finmap.len new.table ≤ finmap.len old.table =
         len-within new.table old.table (λ q live. sym (ap is_some (same_entry q (live_kept q live))) ∙ live) in
-        let all : finmap.len old.table ≤ mid.limits.total = subst (λ (l : Limits). finmap.len old.table ≤ l.total) (sym limits) valid.few in omega arith;
+        let all : finmap.len old.table ≤ mid.limits.total = subst (λ (l : Bounds). finmap.len old.table ≤ l.total) (sym limits) valid.few in omega arith;
     rates = λ id entry is. valid.rates id entry (sym (same_entry id (was_kept id entry is)) ∙ is);
+    blocks = blocks;
+    block_count = block_count;
     fresh = λ not_yet. absurd (true≢false (sym begins ∙ not_yet));
   }
 
@@ -120,7 +125,7 @@ row_at_on row = elim row [ inl here ↦ absurd (some_none _ (sym here.2)) | inr 
 pub le_stable : (a b : ℕ) → ((a ≤ b → ⊥) → ⊥) → a ≤ b
 le_stable a b not_not = elim (cases_lt b a) [ inl over ↦ absurd (not_not (λ le. omega arith)) | inr fits ↦ fits ]
 
-range_stable : (most : ℕ) (limits : Limits) → ((AreInRange most limits → ⊥) → ⊥) → AreInRange most limits
+range_stable : (most : ℕ) (limits : Bounds) → ((AreInRange most limits → ⊥) → ⊥) → AreInRange most limits
 range_stable most limits nn = record {
   count_low = le_stable 1 limits.count (λ none. nn (λ is. none is.count_low));
   count_high = le_stable limits.count most (λ none. nn (λ is. none is.count_high));
@@ -144,8 +149,7 @@ no_names : (graph : Graph) (ids : List ℕ) → graph.names ≡ [] → AreOfOneC
 no_names graph [] none of = refl
 no_names graph (x ∷ xs) none of = absurd (none_in_empty x (subst (λ ns. Contains ns x) none (of.inside x (Contains-head x xs))))
 
-pub valid_limited : (old : PlainState) (limits : Limits) → IsValid old
-    → RefusalIs old (SetLimits limits.count limits.size limits.total) None → IsValid (limited old limits)
+pub valid_limited : (old : PlainState) (limits : Bounds) → IsValid old → RefusalIs old (SetLimits limits) None → IsValid (limited old limits)
 valid_limited old limits valid row =
     let early = row_on row in
     let in_range : AreInRange old.most limits = range_stable old.most limits (row_on early.1).0 in
@@ -160,13 +164,17 @@ valid_limited old limits valid row =
       main = record {
         whole = valid.main.whole;
         names = valid.main.names;
-        count = λ ids of. let none : length ids ≡ 0 = ap length (no_names old.main ids fresh.0 of) in omega arith;
-        size = λ ids of. let none : sum_by (size_of old.table) ids ≡ 0 = ap (sum_by (size_of old.table)) (no_names old.main ids fresh.0 of) in omega arith;
+        within = λ strict. none_over limits (size_of old.table) old.main (λ ids of.
+            let none : length ids ≡ 0 = ap length (no_names old.main ids fresh.0 of) in
+            let zero : sum_by (size_of old.table) ids ≡ 0 = ap (sum_by (size_of old.table)) (no_names old.main ids fresh.0 of) in
+            (omega arith, omega arith));
       };
       staging = subst (IsStaging new) (sym fresh.1) tt;
       live = valid.live;
       few = omega arith;
       rates = valid.rates;
+      blocks = valid.blocks;
+      block_count = valid.block_count;
       fresh = λ not_yet. absurd (true≢false not_yet);
     }
 
@@ -188,8 +196,6 @@ pub level_added : (was is : PlainState) (graph : Graph) (id : ℕ) → is.limits
     → (Contains graph.names id → ⊥) → ((q : ℕ) → Contains graph.names q → size_of is.table q ≡ size_of was.table q)
     → IsLevel was graph → IsLevel is (with_more graph id)
 level_added was is graph id limits some fits small absent sizes level =
-    let bounded : (ids : List ℕ) → AreOfOneComponent (with_more graph id) ids
-    → (length ids ≤ is.limits.count) × (sum_by (size_of is.table) ids ≤ is.limits.size) = bounds in
     record {
       whole = record {
         names = distinct_push graph.names id level.whole.names absent;
@@ -199,21 +205,20 @@ level_added was is graph id limits some fits small absent sizes level =
         acyclic = level.whole.acyclic;
       };
       names = λ q here. elim (Contains-push_cases graph.names id q here) [ inl was ↦ level.names q was | inr same ↦ subst (λ n. n < 2 ^ 64) same small ];
-      count = λ ids of. (bounded ids of).0;
-      size = λ ids of. (bounded ids of).1;
+      within = λ strict. none_over is.limits (size_of is.table) (with_more graph id) (bounds strict);
     }
   where
     kept : IsLevel is graph
     kept = same_level was is graph limits sizes level
 
     some_is : 1 ≤ is.limits.count
-    some_is = subst (λ (l : Limits). 1 ≤ l.count) (sym limits) some
+    some_is = subst (λ (l : Bounds). 1 ≤ l.count) (sym limits) some
 
     fits_is : size_of is.table id ≤ is.limits.size
-    fits_is = subst (λ (l : Limits). size_of is.table id ≤ l.size) (sym limits) fits
+    fits_is = subst (λ (l : Bounds). size_of is.table id ≤ l.size) (sym limits) fits
 
-    bounds : (ids : List ℕ) → AreOfOneComponent (with_more graph id) ids → (length ids ≤ is.limits.count) × (sum_by (size_of is.table) ids ≤ is.limits.size)
-    bounds ids of = elim (told_number ids id) [
+    bounds : is.limits.defer ≡ false → (ids : List ℕ) → AreOfOneComponent (with_more graph id) ids → AreWithin is.limits (size_of is.table) ids
+    bounds strict ids of = elim (told_number ids id) [
       | inl here ↦
           let all : (length ids ≤ length (id ∷ [])) × (sum_by (size_of is.table) ids ≤ sum_by (size_of is.table) (id ∷ [])) =
           distinct_within (size_of is.table) ids (id ∷ []) of.once
@@ -227,5 +232,5 @@ level_added was is graph id limits some fits small absent sizes level =
                 (of.inside q there)) [ inl was ↦ was | inr same ↦ absurd (none (subst (Contains ids) (sym same) there)) ];
             together = of.together;
           } in
-          (kept.count ids old, kept.size ids old)
+          within_limits is.limits (size_of is.table) graph (kept.within strict) ids old
     ]

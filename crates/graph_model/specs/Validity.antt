@@ -7,8 +7,8 @@ use Rattle.graphs.specs.Graphs.{Graph, HasNoCycle, IsGraph}
 use Rattle.graphs.specs.Certificates.{Part}
 use Rattle.graphs.specs.Picks.{IsPick}
 use Rattle.graph_model.specs.declared.limits.TheConstants.{MAX_BLOCKS, MAX_COUNT}
-use Rattle.graph_model.specs.Limits.{AreInRange}
-use Rattle.graph_model.specs.States.{PlainState, Picks, MinedBlock, State, Entry, IsLive, size_of, rate_of}
+use Rattle.graph_model.specs.Limits.{Bounds, AreInRange}
+use Rattle.graph_model.specs.States.{PlainState, Picks, MinedBlock, State, Table, Entry, IsLive, size_of, rate_of}
 use Rattle.graph_model.specs.Oversize.{HasOver}
 use Rattle.graph_model.specs.Changes.{IsKept, ids_of}
 
@@ -49,21 +49,21 @@ pub record IsValid (state : PlainState) : Type 0 where
   pub fresh : state.begun ≡ false → (state.main.names ≡ []) × (state.staging ≡ None) × (state.blocks ≡ [])
 
 -- a graph has a pick exactly where none of its components is over the limits
-abbrev pub IsPickOf : PlainState → Graph → Option (List Part) → Type 0
-IsPickOf state graph None = HasOver state.limits (size_of state.table) graph
-IsPickOf state graph (Some pick) = (HasOver state.limits (size_of state.table) graph → ⊥) × IsPick (rate_of state.table) graph pick
+abbrev pub IsPickOf : Bounds → Table → Graph → Option (List Part) → Type 0
+IsPickOf bounds table graph None = HasOver bounds (size_of table) graph
+IsPickOf bounds table graph (Some pick) = (HasOver bounds (size_of table) graph → ⊥) × IsPick (rate_of table) graph pick
 
 -- the same of a staging, where there is one
-abbrev pub IsStagingPick : PlainState → Option Graph → Option (Option (List Part)) → Type 0
-IsStagingPick state None None = Unit {0}
-IsStagingPick state (Some graph) (Some pick) = IsPickOf state graph pick
-IsStagingPick state None (Some pick) = ⊥
-IsStagingPick state (Some graph) None = ⊥
+abbrev pub IsStagingPick : Bounds → Table → Option Graph → Option (Option (List Part)) → Type 0
+IsStagingPick bounds table None None = Unit {0}
+IsStagingPick bounds table (Some graph) (Some pick) = IsPickOf bounds table graph pick
+IsStagingPick bounds table None (Some pick) = ⊥
+IsStagingPick bounds table (Some graph) None = ⊥
 
 -- each level that isn't oversized has a pick, and no other level
 pub record ArePicks (state : PlainState) (picks : Picks) : Type 0 where
-  pub main : IsPickOf state state.main picks.main
-  pub staging : IsStagingPick state state.staging picks.staging
+  pub main : IsPickOf state.limits state.table state.main picks.main
+  pub staging : IsStagingPick state.limits state.table state.staging picks.staging
 
 pub record IsValidState (state : State) : Type 0 where
   pub plain : IsValid state.plain

@@ -1,4 +1,4 @@
-use Rattle.graph_model.proofs.RowLemmas.{one_refusal}
+use Rattle.graph_model.proofs.OneRefusal.{one_refusal}
 use Rattle.graph_model.proofs.laws.rows_are_functions.Goals as goal
 
 pub returns : goal.returns
