@@ -15,4 +15,7 @@ pub mod SpellingLemmas
 pub mod AmountLemmas
 pub mod ProofLemmas
 pub mod SameLemmas
+pub mod BackLemmas
+pub mod FirstLemmas
+pub mod SameMinedLemmas
 pub mod FunctionLemmas
