@@ -13,9 +13,13 @@ pub mod TrimLemmas
 pub mod TrimmedLemmas
 pub mod SpellingLemmas
 pub mod AmountLemmas
+pub mod TxLemmas
 pub mod ProofLemmas
 pub mod SameLemmas
 pub mod BackLemmas
 pub mod FirstLemmas
 pub mod SameMinedLemmas
+pub mod BlockLemmas
+pub mod ReadingLemmas
+pub mod DumpLemmas
 pub mod FunctionLemmas
