@@ -9,11 +9,16 @@ pub mod ChangeLemmas
 pub mod MinedLemmas
 pub mod StepLemmas
 pub mod EdgeLemmas
+pub mod TrimLemmas
+pub mod TrimmedLemmas
 pub mod SpellingLemmas
 pub mod AmountLemmas
 pub mod TxLemmas
 pub mod ProofLemmas
 pub mod SameLemmas
+pub mod BackLemmas
+pub mod FirstLemmas
+pub mod SameMinedLemmas
 pub mod BlockLemmas
 pub mod ReadingLemmas
 pub mod DumpLemmas
