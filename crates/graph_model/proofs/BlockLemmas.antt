@@ -1,10 +1,10 @@
 -- What a block takes before it leaves a part out is the front of the order, and the best of its size.
-use Rattle.std.proofs.Common.{◌≡◌, ℕ, ◌+◌, ◌<◌, ◌≤◌, pos, ◌≤ℤ◌, ◌⊎◌, inl, inr, Bool, true, false, true≢false, List, [], ◌∷◌, ◌++◌, map, refl, sym, ap, ap₂, subst, ◌∙◌, arith}
+use Rattle.std.proofs.Common.{◌≡◌, ℕ, ◌+◌, ◌<◌, ◌≤◌, pos, ◌≤ℤ◌, ◌⊎◌, inl, inr, Bool, true, false, true≢false, List, [], ◌∷◌, ◌++◌, map, refl, sym, ap, subst, ◌∙◌, arith}
 use Rattle.std.specs.Prelude.{Contains, sum_by}
 use Rattle.std.proofs.lemmas.Bool.{cases_lt}
 use Rattle.std.proofs.lemmas.List.{map-append}
 use Rattle.std.proofs.lemmas.List.Sums.{sum_by-cons}
-use Rattle.lists.proofs.Entries.{Contains-head, Contains-later, Contains-cases, none_in_empty, map-Contains}
+use Rattle.lists.proofs.Entries.{map-Contains}
 use Rattle.fee_rate.specs.declared.rates.Sum.{Sum}
 use Rattle.graphs.specs.Graphs.{Graph, IsCover}
 use Rattle.graphs.specs.Rates.{sum_of, sums, HasSizes}
@@ -75,23 +75,25 @@ module _ (graph : Graph) (parts taken : List Part) (size : ℕ) (block : IsBlock
   takes_first : (first : List Part) × TakesFirst parts size first taken
   unfolding Stops part_in
   takes_first =
-      let found = first_marks block.marked in
-      (found.0, record {
-        rest = map (λ entry. entry.0) found.1;
-        later = taken_of found.1;
-        front = sym block.all ∙ ap (map part_in) found.2 ∙ map-append part_in (map with_mark found.0) found.1
-            ∙ ap (λ ps. ps ++ map part_in found.1) (parts_marked found.0);
-        begins = block.result ∙ ap taken_of found.2 ∙ taken_marked found.0 found.1;
-        stops = elim found.3 [
-          | inl none ↦ inl (ap (map part_in) none, ap taken_of none)
-          | inr (part, after, next) ↦ inr (
-            part,
-            map part_in after,
-            ap (map part_in) next,
-            too_large found.0 part after (found.2 ∙ ap (λ es. map with_mark found.0 ++ es) next),
-          )
-        ];
-      })
+      let found = first_marks block.marked in (
+        found.0,
+        record {
+          rest = map (λ entry. entry.0) found.1;
+          later = taken_of found.1;
+          front = sym block.all ∙ ap (map part_in) found.2 ∙ map-append part_in (map with_mark found.0) found.1
+              ∙ ap (λ ps. ps ++ map part_in found.1) (parts_marked found.0);
+          begins = block.result ∙ ap taken_of found.2 ∙ taken_marked found.0 found.1;
+          stops = elim found.3 [
+            | inl none ↦ inl (ap (map part_in) none, ap taken_of none)
+            | inr (part, after, next) ↦ inr (
+              part,
+              map part_in after,
+              ap (map part_in) next,
+              too_large found.0 part after (found.2 ∙ ap (λ es. map with_mark found.0 ++ es) next),
+            )
+          ];
+        },
+      )
 
 block_best : (rate : ℕ → Sum) (graph : Graph) (parts before taken : List Part) (last : Part) (size : ℕ) (set : List ℕ) → HasSizes rate graph.names
     → IsPick rate graph parts → IsBlock graph parts size taken → TakesFirst parts size (before ++ last ∷ []) taken → pos 0 ≤ℤ last.rate.fee

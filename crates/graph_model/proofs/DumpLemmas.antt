@@ -1,6 +1,6 @@
 -- The text of a graph can be loaded, and makes a graph that agrees with it.
-use Rattle.std.proofs.Common.{◌≡◌, ℕ, ℤ, ◌^◌, ◌<◌, ◌≤◌, ◌↔◌, ◌⊎◌, inl, inr, List, [], ◌∷◌, ◌++◌, map, length, Option, None, Some, false, refl, sym, ap, subst, ◌∙◌, arith}
-use Rattle.std.specs.Prelude.{Contains, FitsSigned, All}
+use Rattle.std.proofs.Common.{◌≡◌, ℕ, ℤ, ◌^◌, ◌<◌, ◌≤◌, ◌↔◌, ◌⊎◌, inl, inr, List, map, length, Option, None, Some, refl, sym, ap, subst, ◌∙◌, arith}
+use Rattle.std.specs.Prelude.{Contains, FitsSigned}
 use Rattle.std.specs.Int.{w64}
 use Rattle.std.specs.FinMap as finmap
 use Rattle.std.specs.List.Sorted.{IsStrictlyIncreasing}
@@ -10,7 +10,7 @@ use Rattle.std.proofs.lemmas.List.Kept.{AllPairs-from_increasing}
 use Rattle.lists.specs.Distinct.{AreDistinct}
 use Rattle.lists.proofs.Distinct.{distinct_from_places}
 use Rattle.lists.proofs.Entries.{map_along}
-use Rattle.lists.proofs.Follows.{Follow, follow_once}
+use Rattle.lists.proofs.Follows.{follow_once}
 use Rattle.lists.proofs.Keys.{names-within}
 use Rattle.fee_rate.specs.declared.rates.Sum.{Sum}
 use Rattle.fee_rate.specs.Limits.{IsFee, IsSize}
@@ -18,14 +18,10 @@ use Rattle.graphs.specs.Graphs.{Graph, AreConnected, IsGraph, IsCover, Lists}
 use Rattle.graphs.specs.Alikes.{AreAlike}
 use Rattle.graphs.specs.Certificates.{Txs, rate_in}
 use Rattle.graphs.specs.Diagrams.{AreCorners}
-use Rattle.graphs.specs.Merges.{Precedes}
 use Rattle.graphs.proofs.AlikeLemmas.{alike_back, connected_to, cover_to, corners_to}
 use Rattle.graphs.proofs.ListLemmas.{Lists-same, Lists-for}
-use Rattle.graphs.proofs.WalkLemmas.{walk_within}
-use Rattle.graphs.proofs.BestLemmas.{covers_are_pairs}
-use Rattle.graph_model.specs.States.{PlainState, Table, Entry, size_in, sum_in, size_of, rate_of, IsLive}
+use Rattle.graph_model.specs.States.{PlainState, Table, Entry, size_in, sum_in, size_of, rate_of}
 use Rattle.graph_model.specs.Changes.{ids_of}
-use Rattle.graph_model.specs.Oversize.{HasOver}
 use Rattle.graph_model.specs.Validity.{IsValid}
 use Rattle.graph_model.specs.Limits.{Bounds}
 use Rattle.graph_model.specs.Dumps.{DumpText, EdgesRise, IsDump, HasDumpTypes, IsGraphText, FitsBounds, dump_bytes, LoadFinding, Loads, NoSyntax, NoGraph, NoLimits, FindsLoad, loaded_graph}
@@ -71,11 +67,10 @@ texts_same ta tb a b s t names rates covers one other =
     let told : map (tx_of (rate_of ta)) (ids_of s.txs) ≡ map (tx_of (rate_of tb)) (ids_of s.txs) =
     map_along (tx_of (rate_of ta)) (tx_of (rate_of tb)) (ids_of s.txs) (λ id here. ap (λ (sum : Sum). (id, sum.fee, sum.size)) (rates id)) in
     let txs : s.txs ≡ t.txs = one.sums ∙ told ∙ ap (map (tx_of (rate_of tb))) ids ∙ sym other.sums in
-    let edges : s.edges ≡ t.edges = edges_same s.edges t.edges one.rising other.rising (λ e.
-        (
-          λ here. (other.covers e.0 e.1).1 ((covers e.0 e.1).0 ((one.covers e.0 e.1).0 here)),
-          λ here. (one.covers e.0 e.1).1 ((covers e.0 e.1).1 ((other.covers e.0 e.1).0 here)),
-        )) in
+    let edges : s.edges ≡ t.edges = edges_same s.edges t.edges one.rising other.rising (λ e. (
+      λ here. (other.covers e.0 e.1).1 ((covers e.0 e.1).0 ((one.covers e.0 e.1).0 here)),
+      λ here. (one.covers e.0 e.1).1 ((covers e.0 e.1).1 ((other.covers e.0 e.1).0 here)),
+    )) in
     λ i. record { txs = txs i; edges = edges i }
 
 one_text : (table : Table) (graph : Graph) (a b : DumpText) → IsDump table graph a → IsDump table graph b → a ≡ b

@@ -1,10 +1,10 @@
 -- The covering pairs of a graph make a graph with the same ancestors and components.
-use Rattle.std.proofs.Common.{◌≡◌, ℕ, suc, zero, ◌+◌, ◌<◌, ◌≤◌, Bool, true, false, true≢false, ◌↔◌, List, [], ◌∷◌, ◌++◌, length, sym, refl, ap, subst, ◌∙◌, inl, inr, ◌⊎◌, arith}
+use Rattle.std.proofs.Common.{◌≡◌, ℕ, suc, zero, ◌+◌, ◌<◌, ◌≤◌, Bool, true, false, true≢false, ◌↔◌, List, [], ◌∷◌, ◌++◌, length, sym, refl, ap, subst, inl, inr, ◌⊎◌, arith}
 use Rattle.std.specs.Prelude.{Contains, filter}
 use Rattle.std.proofs.lemmas.Bool.{cases_eq}
 use Rattle.lists.specs.Distinct.{AreDistinct}
 use Rattle.lists.proofs.Distinct.{distinct_apart, distinct-filter, distinct_within}
-use Rattle.lists.proofs.Entries.{Contains-head, Contains-later, Contains-cases, Contains-splits, Contains-filter, filter-Contains, none_in_empty}
+use Rattle.lists.proofs.Entries.{Contains-head, Contains-cases, Contains-splits, Contains-filter, filter-Contains, none_in_empty}
 use Rattle.lists.proofs.Follows.{Follow}
 use Rattle.graphs.specs.Graphs.{Graph, Walk, IsAncestor, AreConnected, IsCover, IsGraph}
 use Rattle.graphs.specs.Linearizations.{StandsBefore, IsTopological}

@@ -1,18 +1,17 @@
 -- Replies that are read off a pick: with the same pick, states that are the same answer the same.
-use Rattle.std.proofs.Common.{◌≡◌, ℕ, ℤ, Bool, true, false, true≢false, ◌+◌, ◌≤◌, ◌↔◌, ◌⊎◌, inl, inr, List, [], ◌∷◌, ◌++◌, map, append_assoc, Option, Some, refl, sym, ap, ap₂, subst, ◌∙◌}
-use Rattle.std.specs.Prelude.{Contains, sum_by}
+use Rattle.std.proofs.Common.{◌≡◌, ℕ, Bool, true, false, ◌↔◌, ◌⊎◌, inl, inr, List, [], ◌∷◌, ◌++◌, map, append_assoc, Some, refl, sym, ap, subst, ◌∙◌}
+use Rattle.std.specs.Prelude.{Contains}
 use Rattle.lists.specs.Distinct.{AreDistinct}
 use Rattle.lists.proofs.Entries.{first_of, rest_of, not_empty, map_along}
 use Rattle.lists.proofs.Flats.{one_holder}
 use Rattle.lists.proofs.Follows.{Follow, follow_once}
 use Rattle.fee_rate.specs.declared.rates.Sum.{Sum}
 use Rattle.graphs.specs.declared.names.Level.{Level}
-use Rattle.graphs.specs.declared.names.Level.TheVariants.{Main, Top}
+use Rattle.graphs.specs.declared.names.Level.TheVariants.{Main}
 use Rattle.graphs.specs.Graphs.{Graph, AreConnected, IsCover}
 use Rattle.graphs.specs.Rates.{sum_of}
 use Rattle.graphs.specs.Linearizations.{StandsBefore}
-use Rattle.graphs.specs.Certificates.{Part, Txs}
-use Rattle.graphs.specs.Picks.{IsPick, FollowOrder}
+use Rattle.graphs.specs.Certificates.{Part}
 use Rattle.graphs.specs.Alikes.{AreAlike}
 use Rattle.graphs.proofs.AlikeLemmas.{stands_trans, cover_to, alike_back}
 use Rattle.graphs.proofs.MergeLemmas.{precedes_map}
@@ -27,7 +26,7 @@ use Rattle.graph_model.specs.Dumps.{DumpText, IsDump}
 use Rattle.graph_model.specs.Replies.{Reply, Parts, Proves, OnePart, Stands, Evicted, Built}
 use Rattle.graph_model.specs.Commands.{Command, Evict, Order, Proof, Chunk, Before, Block}
 use Rattle.graph_model.specs.Validity.{IsValid, ArePicks}
-use Rattle.graph_model.specs.SameLaws.{IsSameGraph, IsSameState, ReadsNoPick}
+use Rattle.graph_model.specs.SameLaws.{IsSameState, ReadsNoPick}
 use Rattle.graph_model.proofs.EdgeLemmas.{not_before_itself, followed}
 use Rattle.graph_model.proofs.TxLemmas.{tx_of}
 use Rattle.graph_model.proofs.DumpLemmas.{texts_same}
@@ -178,11 +177,10 @@ module _ (a b : PlainState) (same : IsSameState a b) where
 
   pub level_covers : (level : Level) (x y : ℕ) → IsCover (level_of a level).pairs x y ↔ IsCover (level_of b level).pairs x y
   level_covers level x y =
-      let alike = level_alike level in
-      (
+      let alike = level_alike level in (
         cover_to (rate_of a.table) (rate_of b.table) (level_of a level) (level_of b level) alike x y,
         cover_to (rate_of b.table) (rate_of a.table) (level_of b level) (level_of a level)
-        (alike_back (rate_of a.table) (rate_of b.table) (level_of a level) (level_of b level) alike) x y,
+            (alike_back (rate_of a.table) (rate_of b.table) (level_of a level) (level_of b level) alike) x y,
       )
 
   -- their main graphs have one text

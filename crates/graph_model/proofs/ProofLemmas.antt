@@ -1,10 +1,9 @@
 -- What `proof` writes is a certificate.
-use Rattle.std.proofs.Common.{◌≡◌, ℕ, ℤ, ◌^◌, ◌<◌, ◌≤◌, true, cond, List, [], ◌∷◌, ◌++◌, map, length, length-append, append_assoc, Option, None, Some, is_some, sym, refl, ap, ap₂, subst, ◌∙◌, inl, inr, arith, true≢false, eq-eqb, ne_eqb}
+use Rattle.std.proofs.Common.{◌≡◌, ℕ, ℤ, ◌^◌, ◌<◌, ◌≤◌, List, [], ◌∷◌, ◌++◌, map, length, length-append, append_assoc, Option, None, Some, sym, ap, ap₂, subst, ◌∙◌, inl, inr, arith}
 use Rattle.std.specs.Prelude.{Contains, codes, flat_map, unsigned_abs, FitsSigned}
 use Rattle.std.specs.Int.{w64}
 use Rattle.std.specs.FinMap as finmap
 use Rattle.std.proofs.lemmas.Int.{fits_signed_from_abs}
-use Rattle.std.proofs.lemmas.Bool.{cases_eq}
 use Rattle.std.proofs.lemmas.List.{length-map}
 use Rattle.std.proofs.lemmas.List.Concat.{flat_map-cons}
 use Rattle.std.proofs.lemmas.List.Elements.{Contains-push, Contains-push_cases, Contains-append_cases}
@@ -25,7 +24,7 @@ use Rattle.graphs.proofs.TangentLemmas.{joined}
 use Rattle.lists.proofs.Flats.{flat_has}
 use Rattle.graphs.proofs.AlikeLemmas.{sums_along}
 use Rattle.graphs.proofs.BestLemmas.{covers_are_pairs, joined_distinct, joined_ids, part_front_closed}
-use Rattle.graph_model.specs.States.{PlainState, State, Entry, level_of, pick_of, top_of, size_of, rate_of, sum_in, IsLive}
+use Rattle.graph_model.specs.States.{PlainState, State, level_of, pick_of, top_of, size_of, rate_of, IsLive}
 use Rattle.graph_model.specs.Changes.{IsKept}
 use Rattle.graph_model.specs.Answers.{order_of, ProvesOrder, ListsCovers}
 use Rattle.graph_model.specs.Lines.{max_line}

@@ -1,5 +1,5 @@
 -- Bytes are the spelling of one dump text at most.
-use Rattle.std.proofs.Common.{◌≡◌, ℕ, ℤ, ◌^◌, ◌<◌, ◌≤◌, List, [], ◌∷◌, ◌++◌, map, decimal, unsigned_abs, refl, sym, ap, subst, ◌∙◌, arith, append_assoc, append-nil}
+use Rattle.std.proofs.Common.{◌≡◌, ℕ, ℤ, ◌^◌, ◌<◌, List, [], ◌∷◌, ◌++◌, map, decimal, refl, sym, ap, ◌∙◌, arith, append_assoc, append-nil}
 use Rattle.std.specs.Prelude.{codes, flat_map, FitsSigned, All}
 use Rattle.std.specs.Int.{w64}
 use Rattle.std.specs.Fmt.{signed_decimal}
@@ -12,7 +12,7 @@ use Rattle.lists.specs.Rising.{AllAbove}
 use Rattle.lists.proofs.Entries.{first_of, rest_of, not_empty}
 use Rattle.graphs.specs.Certificates.{Txs}
 use Rattle.graph_model.specs.Words.{spaced, line_text}
-use Rattle.graph_model.specs.Dumps.{DumpText, dump_lines, dump_bytes, HasDumpTypes, Dumps}
+use Rattle.graph_model.specs.Dumps.{DumpText, dump_lines, HasDumpTypes, Dumps}
 use Rattle.graph_model.proofs.SpellingLemmas.{AreShort, above_less, spaced_above, tx_short, edge_short, end_short}
 
 -- ---- texts that are cut at a byte
