@@ -100,7 +100,8 @@ block_best : (rate : ℕ → Sum) (graph : Graph) (parts before taken : List Par
     → IsClosedWithin graph.pairs graph.names set → (sums rate set).size ≤ (sum_of (map (λ p. p.rate) (before ++ last ∷ []))).size
     → (sums rate set).fee ≤ℤ (sum_of (map (λ p. p.rate) (before ++ last ∷ []))).fee
 block_best rate graph parts before taken last size set some picked block takes rises closed small =
-    parts_best rate graph before takes.rest last set some (subst (IsCertificate rate graph (IsCover graph.pairs)) takes.front picked.certificate) rises closed small
+    parts_best rate graph before takes.rest last set some
+    (subst (IsCertificate rate graph (IsCover graph.pairs)) takes.front picked.certificate) rises closed small
 
 pub blocks_begin_best : BlocksBeginBest
 blocks_begin_best = record { first = λ graph parts taken size block. takes_first graph parts taken size block; best = block_best }

@@ -171,8 +171,10 @@ module _ (a b : PlainState) (same : IsSameState a b) where
       record {
         names = graphs.names;
         sums = λ id here. rates_same id;
-        ancestors = λ x y.
-            (up_to (level_of a level) (level_of b level) graphs x y, up_to (level_of b level) (level_of a level) (back (level_of a level) (level_of b level) graphs) x y);
+        ancestors = λ x y. (
+          up_to (level_of a level) (level_of b level) graphs x y,
+          up_to (level_of b level) (level_of a level) (back (level_of a level) (level_of b level) graphs) x y,
+        );
       }
 
   pub level_covers : (level : Level) (x y : ℕ) → IsCover (level_of a level).pairs x y ↔ IsCover (level_of b level).pairs x y
