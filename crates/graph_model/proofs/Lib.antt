@@ -23,3 +23,4 @@ pub mod BlockLemmas
 pub mod ReadingLemmas
 pub mod DumpLemmas
 pub mod FunctionLemmas
+pub mod SoundLemmas
