@@ -24,3 +24,4 @@ pub mod ReadingLemmas
 pub mod DumpLemmas
 pub mod PickReplies
 pub mod FunctionLemmas
+pub mod SoundLemmas
