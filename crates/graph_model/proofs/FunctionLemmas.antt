@@ -10,6 +10,7 @@ use Rattle.graphs.specs.declared.names.Verdict.TheVariants.{Better}
 use Rattle.graphs.specs.Graphs.{Graph, IsAncestor, AreConnected, IsGraph, Lists}
 use Rattle.graphs.specs.Removals.{IsWithout}
 use Rattle.graphs.specs.Drops.{DropsNames}
+use Rattle.graphs.specs.Certificates.{Part}
 use Rattle.graphs.specs.Alikes.{AreAlike}
 use Rattle.graphs.specs.Diagrams.{AreCorners, Compares}
 use Rattle.graphs.proofs.ListLemmas.{Lists-same, Lists-for}
@@ -23,10 +24,10 @@ use Rattle.graph_model.specs.Replies.{Reply, Ids, Number, Points, Compared, Sett
 use Rattle.graph_model.specs.Limits.{Bounds}
 use Rattle.graph_model.specs.Trims.{IsTrimmed}
 use Rattle.graph_model.specs.Dumps.{DumpText, IsDump}
-use Rattle.graph_model.specs.Changes.{begun, IsKept, Forgets, AddsPair, Removes, DropsFromTop, Commits, Aborts}
+use Rattle.graph_model.specs.Changes.{begun, IsKept, Forgets, AddsPair, Removes, DropsFromMain, DropsFromTop, Commits, Aborts, IsLast}
 use Rattle.graph_model.specs.Verdicts.{VerdictIs}
 use Rattle.graph_model.specs.Steps.{AcceptsPlainly}
-use Rattle.graph_model.specs.Validity.{IsValid}
+use Rattle.graph_model.specs.Validity.{IsValid, ArePicks}
 use Rattle.graph_model.specs.SameLaws.{IsSameGraph, IsSameStaging, AreSameBlocks, IsSameState, ReadsNoPick, StepsAreFunctions}
 use Rattle.lists.proofs.Distinct.{distinct_within}
 use Rattle.graph_model.proofs.LevelLemmas.{one_pair, connects}
@@ -34,7 +35,8 @@ use Rattle.graph_model.proofs.ValidLemmas.{told_kept, get-put, top_level}
 use Rattle.graph_model.proofs.ChangeLemmas.{of_top}
 use Rattle.graph_model.proofs.TrimLemmas.{trimmed_once}
 use Rattle.graph_model.proofs.OverLemmas.{latest_same}
-use Rattle.graph_model.proofs.SameMinedLemmas.{same_mined, same_unmined}
+use Rattle.graph_model.proofs.SameMinedLemmas.{same_dropped, same_mined, same_unmined}
+use Rattle.graph_model.proofs.PickReplies.{some_same, last_same, dumps_same, pick_reply}
 use Rattle.graph_model.proofs.SameLemmas.{back, up_to, linked_to, level_same, same_top, same_begun, same_left, same_put, of_equal, without_same, drops_same, more_names, more_pairs}
 
 -- ---- what is told of both
@@ -214,7 +216,7 @@ module _ (a b : PlainState) (valid_a : IsValid a) (valid_b : IsValid b) (same : 
     states Dump other one two = reads one.change two.change
 
     one_dump : (x y : DumpText) → IsDump a.table a.main x → IsDump b.table b.main y → x ≡ y
-    one_dump x y one two = ?
+    one_dump = dumps_same a b same
 
     done : (r : Reply) → ra ≡ r → rb ≡ r → ra ≡ rb
     done r one two = one ∙ sym two
@@ -264,8 +266,61 @@ module _ (a b : PlainState) (valid_a : IsValid a) (valid_b : IsValid b) (same : 
     replies Dump plain one two =
         let x = one.answer in let y = two.answer in x.2 ∙ ap Dumped (one_dump x.0 y.0 x.1 y.1) ∙ sym y.2
 
+-- ---- with the same picks
+
+module _ (picks : Picks) (a b : PlainState) (valid_a : IsValid a) (valid_b : IsValid b) (same : IsSameState a b) (a' b' : PlainState) (ra rb : Reply) where
+  evicted : AcceptsPlainly picks a Evict ra a' → AcceptsPlainly picks b Evict rb b' → IsSameState a' b'
+  evicted one two =
+      let x = one.change in let y = two.change in
+      let pick : y.0 ≡ x.0 = some_same y.0 x.0 (sym y.2 ∙ x.2) in
+      let part : x.1 ≡ y.1 = last_same x.0 x.1 y.1 x.3 (subst (λ (ps : List Part). IsLast ps y.1) pick y.3) in
+      same_dropped a b a' b' x.1.ids same x.4 (subst (λ (p : Part). DropsFromMain b p.ids b') (sym part) y.4)
+
+  states_by_picks : (command : Command) → (command ≡ Evict) ⊎ (command ≢ Evict) → AcceptsPlainly picks a command ra a'
+      → AcceptsPlainly picks b command rb b' → IsSameState a' b'
+  states_by_picks command (inl is) one two =
+      evicted (subst (λ c. AcceptsPlainly picks a c ra a') is one) (subst (λ c. AcceptsPlainly picks b c rb b') is two)
+  states_by_picks command (inr other) one two = states a b valid_a valid_b same picks picks a' b' ra rb command other one two
+
+  replies_by_picks : (command : Command) → ArePicks a picks → ArePicks b picks → ReadsNoPick command ⊎ (ReadsNoPick command → ⊥)
+      → AcceptsPlainly picks a command ra a' → AcceptsPlainly picks b command rb b' → ra ≡ rb
+  replies_by_picks command picks_a picks_b (inl plain) one two = replies a b valid_a valid_b same picks picks a' b' ra rb command plain one two
+  replies_by_picks command picks_a picks_b (inr reads) one two =
+      pick_reply picks a b valid_a valid_b picks_a picks_b same ra rb command reads one.answer two.answer
+
+told_command : (command : Command) → ((command ≡ Evict) ⊎ (command ≢ Evict)) × (ReadsNoPick command ⊎ (ReadsNoPick command → ⊥))
+told_command Evict = (inl refl, inr (λ none. none))
+told_command (Order level) = (inr (λ e. cc), inr (λ none. none))
+told_command (Proof level) = (inr (λ e. cc), inr (λ none. none))
+told_command (Chunk id) = (inr (λ e. cc), inr (λ none. none))
+told_command (Before x y) = (inr (λ e. cc), inr (λ none. none))
+told_command (Block size) = (inr (λ e. cc), inr (λ none. none))
+told_command (SetLimits limits) = (inr (λ e. cc), inl tt)
+told_command (Add id fee size) = (inr (λ e. cc), inl tt)
+told_command (Dep parent child) = (inr (λ e. cc), inl tt)
+told_command (SetFee id fee) = (inr (λ e. cc), inl tt)
+told_command (Remove id) = (inr (λ e. cc), inl tt)
+told_command (Mine ids) = (inr (λ e. cc), inl tt)
+told_command Stage = (inr (λ e. cc), inl tt)
+told_command Commit = (inr (λ e. cc), inl tt)
+told_command Abort = (inr (λ e. cc), inl tt)
+told_command Settle = (inr (λ e. cc), inl tt)
+told_command Trim = (inr (λ e. cc), inl tt)
+told_command Unmine = (inr (λ e. cc), inl tt)
+told_command Compare = (inr (λ e. cc), inl tt)
+told_command (Diagram level) = (inr (λ e. cc), inl tt)
+told_command (Cluster id level) = (inr (λ e. cc), inl tt)
+told_command (Ancestors id level) = (inr (λ e. cc), inl tt)
+told_command (Descendants id level) = (inr (λ e. cc), inl tt)
+told_command (Count level) = (inr (λ e. cc), inl tt)
+told_command Dump = (inr (λ e. cc), inl tt)
+
 pub steps_are_functions : StepsAreFunctions
 steps_are_functions = record {
   states = λ pa pb a b a' b' command ra rb valid_a valid_b same other. states a b valid_a valid_b same pa pb a' b' ra rb command other;
   replies = λ pa pb a b a' b' command ra rb valid_a valid_b same plain. replies a b valid_a valid_b same pa pb a' b' ra rb command plain;
+  states_by_picks = λ picks a b a' b' command ra rb valid_a valid_b same.
+      states_by_picks picks a b valid_a valid_b same a' b' ra rb command (told_command command).0;
+  replies_by_picks = λ picks a b a' b' command ra rb valid_a valid_b picks_a picks_b same.
+      replies_by_picks picks a b valid_a valid_b same a' b' ra rb command picks_a picks_b (told_command command).1;
 }
