@@ -1,5 +1,5 @@
 -- The covering pairs of a graph make a graph with the same ancestors and components.
-use Rattle.std.proofs.Common.{◌≡◌, ℕ, suc, zero, ◌+◌, ◌<◌, ◌≤◌, Bool, true, false, true≢false, ◌↔◌, List, [], ◌∷◌, ◌++◌, length, sym, refl, ap, subst, inl, inr, ◌⊎◌, arith}
+use Rattle.std.proofs.Common.{◌≡◌, ℕ, suc, zero, ◌+◌, ◌<◌, ◌≤◌, Bool, ◌↔◌, List, [], ◌∷◌, ◌++◌, length, sym, refl, ap, subst, inl, inr, ◌⊎◌, arith}
 use Rattle.std.specs.Prelude.{Contains, filter}
 use Rattle.std.proofs.lemmas.Bool.{cases_eq}
 use Rattle.lists.specs.Distinct.{AreDistinct}
@@ -14,7 +14,7 @@ use Rattle.graphs.proofs.WalkLemmas.{walk_within, walk_of_pair, IsAncestor-trans
 use Rattle.graphs.proofs.BestLemmas.{covers_are_pairs}
 use Rattle.graphs.proofs.MergeLemmas.{precedes_later, precedes_map}
 use Rattle.graph_model.specs.Answers.{ListsCovers}
-use Rattle.graph_model.proofs.LevelLemmas.{IsTold, both_told, either_told, told_along, turn_first, turn_last, connects}
+use Rattle.graph_model.proofs.LevelLemmas.{IsTold, is_first, first_holds, holds_first, both_told, either_told, told_along, turn_first, turn_last, connects}
 
 pub not_before_itself : (order : List ℕ) (a : ℕ) → AreDistinct order → StandsBefore order a a → ⊥
 not_before_itself order a once (front, rest, cut, here) =
@@ -61,19 +61,6 @@ not_told P (inr q) = inl q
 equal_told : (a b : ℕ) → IsTold (a ≡ b)
 equal_told a b = elim (cases_eq a b) [ inl same ↦ inl same | inr other ↦ inr other ]
 
--- the answer alone
-abbrev is_told : {P : Type 0} → IsTold P → Bool
-is_told (inl p) = true
-is_told (inr q) = false
-
-told_is : {P : Type 0} (t : IsTold P) → is_told t ≡ true → P
-told_is (inl p) e = p
-told_is (inr q) e = absurd (true≢false (sym e))
-
-is_of_told : {P : Type 0} (t : IsTold P) → P → is_told t ≡ true
-is_of_told (inl p) h = refl
-is_of_told (inr q) h = absurd (q h)
-
 -- some entry with a property that can be told, or none
 search_told : (P : ℕ → Type 0) → ((x : ℕ) → IsTold (P x)) → (xs : List ℕ) → ((x : ℕ) × P x) ⊎ ((x : ℕ) → Contains xs x → P x → ⊥)
 search_told P told [] = inr (λ x here. absurd (none_in_empty x here))
@@ -113,7 +100,7 @@ module _ (graph : Graph) (whole : IsGraph graph) where
 
   -- how many names are above one, itself among them
   above : ℕ → ℕ → Bool
-  above b a = is_told (ancestor_told graph.pairs a b)
+  above b a = is_first (ancestor_told graph.pairs a b)
 
   rank : ℕ → ℕ
   unfolding above
@@ -123,15 +110,15 @@ module _ (graph : Graph) (whole : IsGraph graph) where
   unfolding rank above
   rank_rises a b up other =
       let once : AreDistinct (b ∷ filter (above a) graph.names) =
-      ((λ here. not_both a b up other (told_is _ (filter-Contains (above a) graph.names b here).0)), distinct-filter (above a) graph.names whole.names) in
+      ((λ here. not_both a b up other (first_holds _ (filter-Contains (above a) graph.names b here).0)), distinct-filter (above a) graph.names whole.names) in
       let inside : (x : ℕ) → Contains (b ∷ filter (above a) graph.names) x → Contains (filter (above b) graph.names) x =
       λ x here. elim (Contains-cases b x (filter (above a) graph.names) here) [
         | inl same ↦ subst (Contains (filter (above b) graph.names)) same
-            (Contains-filter (above b) graph.names b (is_of_told (ancestor_told graph.pairs b b) (0, refl)) (below_named a b up other))
+            (Contains-filter (above b) graph.names b (holds_first (ancestor_told graph.pairs b b) (0, refl)) (below_named a b up other))
         | inr later ↦
             let found = filter-Contains (above a) graph.names x later in
             Contains-filter (above b) graph.names x
-            (is_of_told (ancestor_told graph.pairs x b) (IsAncestor-trans graph.pairs x a b (told_is _ found.0) up)) found.1
+            (holds_first (ancestor_told graph.pairs x b) (IsAncestor-trans graph.pairs x a b (first_holds _ found.0) up)) found.1
       ] in
       (distinct_within (λ x. 0) (b ∷ filter (above a) graph.names) (filter (above b) graph.names) once inside).0
 

@@ -113,15 +113,15 @@ connected_told (pair ∷ pairs) a b =
 
 -- ---- a property that can be told has a list of its numbers
 
-abbrev is_first : {P Q : Type 0} → P ⊎ Q → Bool
+abbrev pub is_first : {P Q : Type 0} → P ⊎ Q → Bool
 is_first (inl p) = true
 is_first (inr q) = false
 
-first_holds : {P : Type 0} (t : P ⊎ (P → ⊥)) → is_first t ≡ true → P
+pub first_holds : {P : Type 0} (t : P ⊎ (P → ⊥)) → is_first t ≡ true → P
 first_holds (inl p) e = p
 first_holds (inr q) e = absurd (true≢false (sym e))
 
-holds_first : {P : Type 0} (t : P ⊎ (P → ⊥)) → P → is_first t ≡ true
+pub holds_first : {P : Type 0} (t : P ⊎ (P → ⊥)) → P → is_first t ≡ true
 holds_first (inl p) h = refl
 holds_first (inr q) h = absurd (q h)
 
@@ -209,7 +209,7 @@ same_level was is graph limits sizes level = level_within was is graph graph lim
 module _ (state : PlainState) (graph : Graph) (parent child : ℕ) (level : IsLevel state graph)
     (parent_in : Contains graph.names parent) (child_in : Contains graph.names child)
     (joins : state.limits.defer ≡ false → (members : List ℕ) → JoinsTo graph.pairs parent child members
-        → AreWithin state.limits (size_of state.table) members) where
+    → AreWithin state.limits (size_of state.table) members) where
   abbrev Joint : ℕ → Type 0
   Joint id = AreConnected graph.pairs id parent ⊎ AreConnected graph.pairs id child
 

@@ -1,5 +1,5 @@
 -- Bytes are the spelling of one dump text at most.
-use Rattle.std.proofs.Common.{◌≡◌, ℕ, ℤ, ◌^◌, ◌<◌, List, [], ◌∷◌, ◌++◌, map, decimal, refl, sym, ap, ◌∙◌, arith, append_assoc, append-nil}
+use Rattle.std.proofs.Common.{◌≡◌, ◌≢◌, ℕ, ℤ, ◌^◌, ◌<◌, List, [], ◌∷◌, ◌++◌, map, decimal, refl, sym, ap, ◌∙◌, arith, append_assoc, append-nil}
 use Rattle.std.specs.Prelude.{codes, flat_map, FitsSigned, All}
 use Rattle.std.specs.Int.{w64}
 use Rattle.std.specs.Fmt.{signed_decimal}
@@ -17,32 +17,37 @@ use Rattle.graph_model.proofs.SpellingLemmas.{AreShort, above_less, spaced_above
 
 -- ---- texts that are cut at a byte
 
--- where all bytes before it are above it, there is one way to cut at the first such byte
-pub cut_same : (at : ℕ) (a b c d : List ℕ) → AllAbove at a → AllAbove at c → a ++ at ∷ b ≡ c ++ at ∷ d → (a ≡ c) × (b ≡ d)
+-- there is one way to cut at the first such byte
+pub cut_same : (at : ℕ) (a b c d : List ℕ) → All (λ byte. byte ≢ at) a → All (λ byte. byte ≢ at) c → a ++ at ∷ b ≡ c ++ at ∷ d → (a ≡ c) × (b ≡ d)
 cut_same at [] b [] d one other is = (refl, rest_of is)
-cut_same at [] b (y ∷ c) d one other is = absurd (let e : at ≡ y = first_of is in let none : ⊥ = omega (arith, e, other.0) in none)
-cut_same at (x ∷ a) b [] d one other is = absurd (let e : x ≡ at = first_of is in let none : ⊥ = omega (arith, e, one.0) in none)
+cut_same at [] b (y ∷ c) d one other is = absurd (All-head (λ byte. byte ≢ at) y c other (sym (first_of is)))
+cut_same at (x ∷ a) b [] d one other is = absurd (All-head (λ byte. byte ≢ at) x a one (first_of is))
 cut_same at (x ∷ a) b (y ∷ c) d one other is =
     let head : x ≡ y = first_of is in
-    let rest = cut_same at a b c d one.1 other.1 (rest_of is) in
+    let rest = cut_same at a b c d (All-tail (λ byte. byte ≢ at) x a one) (All-tail (λ byte. byte ≢ at) y c other) (rest_of is) in
     let front : a ≡ c = rest.0 in
     ((λ i. head i ∷ front i), rest.1)
 
 -- a text without such a byte is none that is cut at one
-pub never_cut : (at : ℕ) (a b c : List ℕ) → AllAbove at a → a ≡ b ++ at ∷ c → ⊥
-never_cut at [] [] c above is = not_empty (sym is)
-never_cut at [] (y ∷ b) c above is = not_empty (sym is)
-never_cut at (x ∷ a) [] c above is = let e : x ≡ at = first_of is in omega (arith, e, above.0)
-never_cut at (x ∷ a) (y ∷ b) c above is = never_cut at a b c above.1 (rest_of is)
+pub never_cut : (at : ℕ) (a b c : List ℕ) → All (λ byte. byte ≢ at) a → a ≡ b ++ at ∷ c → ⊥
+never_cut at [] [] c none is = not_empty (sym is)
+never_cut at [] (y ∷ b) c none is = not_empty (sym is)
+never_cut at (x ∷ a) [] c none is = All-head (λ byte. byte ≢ at) x a none (first_of is)
+never_cut at (x ∷ a) (y ∷ b) c none is = never_cut at a b c (All-tail (λ byte. byte ≢ at) x a none) (rest_of is)
+
+none_of_above : (at : ℕ) (xs : List ℕ) → AllAbove at xs → All (λ byte. byte ≢ at) xs
+none_of_above at [] above = All-nil (λ byte. byte ≢ at)
+none_of_above at (x ∷ xs) above =
+    All-cons (λ byte. byte ≢ at) x xs (λ same. omega (arith, same, above.0)) (none_of_above at xs above.1)
 
 -- words are told from their text
 pub words_same : (w : List ℕ) (ws : List (List ℕ)) (v : List ℕ) (vs : List (List ℕ)) → AreShort (w ∷ ws) → AreShort (v ∷ vs)
     → spaced (w ∷ ws) ≡ spaced (v ∷ vs) → w ∷ ws ≡ v ∷ vs
 words_same w [] v [] one other is = ap (λ (x : List ℕ). x ∷ []) is
-words_same w [] v (y ∷ vs) one other is = absurd (never_cut 32 w v (spaced (y ∷ vs)) one.0.0 is)
-words_same w (x ∷ ws) v [] one other is = absurd (never_cut 32 v w (spaced (x ∷ ws)) other.0.0 (sym is))
+words_same w [] v (y ∷ vs) one other is = absurd (never_cut 32 w v (spaced (y ∷ vs)) (none_of_above 32 w one.0.0) is)
+words_same w (x ∷ ws) v [] one other is = absurd (never_cut 32 v w (spaced (x ∷ ws)) (none_of_above 32 v other.0.0) (sym is))
 words_same w (x ∷ ws) v (y ∷ vs) one other is =
-    let cut = cut_same 32 w (spaced (x ∷ ws)) v (spaced (y ∷ vs)) one.0.0 other.0.0 is in
+    let cut = cut_same 32 w (spaced (x ∷ ws)) v (spaced (y ∷ vs)) (none_of_above 32 w one.0.0) (none_of_above 32 v other.0.0) is in
     let first : w ≡ v = cut.0 in
     let rest : x ∷ ws ≡ y ∷ vs = words_same x ws y vs one.1 other.1 cut.1 in
     λ i. first i ∷ rest i
@@ -112,8 +117,9 @@ row_same a b one other is =
     words_row a b one other (words_same (first_word a) (more_words a) (first_word b) (more_words b) (row_short a one) (row_short b other) is)
 
 -- no line has a line feed
-line_above : (row : Row) → RowFits row → AllAbove 10 (row_line row)
-line_above row fits = above_less 10 31 (row_line row) (omega arith) (spaced_above (first_word row ∷ more_words row) (row_short row fits))
+no_feed : (row : Row) → RowFits row → All (λ byte. byte ≢ 10) (row_line row)
+no_feed row fits = none_of_above 10 (row_line row)
+    (above_less 10 31 (row_line row) (omega arith) (spaced_above (first_word row ∷ more_words row) (row_short row fits)))
 
 rows_text : List Row → List ℕ
 rows_text rows = flat_map line_text (map row_line rows)
@@ -125,12 +131,12 @@ text_begins row rows = append_assoc (row_line row) (10 ∷ []) (rows_text rows)
 rows_same : (xs ys : List Row) → All RowFits xs → All RowFits ys → rows_text xs ≡ rows_text ys → xs ≡ ys
 unfolding rows_text
 rows_same [] [] one other is = refl
-rows_same [] (y ∷ ys) one other is = absurd (never_cut 10 [] (row_line y) (rows_text ys) tt (is ∙ text_begins y ys))
-rows_same (x ∷ xs) [] one other is = absurd (never_cut 10 [] (row_line x) (rows_text xs) tt (sym is ∙ text_begins x xs))
+rows_same [] (y ∷ ys) one other is = absurd (never_cut 10 [] (row_line y) (rows_text ys) (All-nil (λ byte. byte ≢ 10)) (is ∙ text_begins y ys))
+rows_same (x ∷ xs) [] one other is = absurd (never_cut 10 [] (row_line x) (rows_text xs) (All-nil (λ byte. byte ≢ 10)) (sym is ∙ text_begins x xs))
 rows_same (x ∷ xs) (y ∷ ys) one other is =
     let x_fits : RowFits x = All-head RowFits x xs one in
     let y_fits : RowFits y = All-head RowFits y ys other in
-    let cut = cut_same 10 (row_line x) (rows_text xs) (row_line y) (rows_text ys) (line_above x x_fits) (line_above y y_fits)
+    let cut = cut_same 10 (row_line x) (rows_text xs) (row_line y) (rows_text ys) (no_feed x x_fits) (no_feed y y_fits)
     (sym (text_begins x xs) ∙ is ∙ text_begins y ys) in
     let first : x ≡ y = row_same x y x_fits y_fits cut.0 in
     let rest : xs ≡ ys = rows_same xs ys (All-tail RowFits x xs one) (All-tail RowFits y ys other) cut.1 in
