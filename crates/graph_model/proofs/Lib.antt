@@ -17,3 +17,4 @@ pub mod BackLemmas
 pub mod FirstLemmas
 pub mod SameMinedLemmas
 pub mod FunctionLemmas
+pub mod UnmineLemmas

@@ -205,7 +205,7 @@ can_unmine old row =
     not_less a b none = elim (cases_lt a b) [ inl less ↦ absurd (none less) | inr past ↦ past ]
 
 -- a name that is connected with a name of a graph is one
-joined_name : (graph : Graph) → IsGraph graph → (a b n : ℕ) → Trail graph.pairs a b n → Contains graph.names a → Contains graph.names b
+pub joined_name : (graph : Graph) → IsGraph graph → (a b n : ℕ) → Trail graph.pairs a b n → Contains graph.names a → Contains graph.names b
 joined_name graph whole a b zero same here = subst (Contains graph.names) same here
 joined_name graph whole a b (suc n) trail here = elim trail.2 [ inl down ↦ (whole.ends trail.0 b down).1 | inr up ↦ (whole.ends b trail.0 up).0 ]
 
