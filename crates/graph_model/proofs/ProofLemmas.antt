@@ -36,28 +36,10 @@ use Rattle.graph_model.proofs.LevelLemmas.{within_limits}
 use Rattle.graph_model.specs.ProofLaws.{ProofsAreCertificates}
 use Rattle.lists.proofs.Keys.{names-within}
 use Rattle.graph_model.proofs.ValidLemmas.{top_level}
+use Rattle.graph_model.proofs.TxLemmas.{tx_of, names_listed, rate_listed, tx_named, kept_fine}
 use Rattle.graph_model.proofs.EdgeLemmas.{edge_graph, edge_order, edge_connected}
 use Rattle.graph_model.proofs.AmountLemmas.{IsSmallSum, small_sum, amount_small, all_of}
 use Rattle.graph_model.proofs.SpellingLemmas.{IsPlain, AllPlain, tx_plain, edge_plain, flow_plain, chunk_plain, end_plain, told_plain}
-
--- ---- transactions listed along an order
-
-abbrev tx_of : (ℕ → Sum) → ℕ → ℕ × ℤ × ℕ
-tx_of rate id = (id, (rate id).fee, (rate id).size)
-
-names_listed : (rate : ℕ → Sum) (order : List ℕ) → map (λ (tx : ℕ × ℤ × ℕ). tx.0) (map (tx_of rate) order) ≡ order
-names_listed rate [] = refl
-names_listed rate (id ∷ order) = ap (λ ids. id ∷ ids) (names_listed rate order)
-
-rate_listed : (rate : ℕ → Sum) (order : List ℕ) (id : ℕ) → Contains order id → rate_in (map (tx_of rate) order) id ≡ rate id
-rate_listed rate [] id here = absurd (none_in_empty id here)
-rate_listed rate (x ∷ order) id here = elim (cases_eq x id) [
-  | inl same ↦
-      ap (λ b. cond b (record { fee = (rate x).fee; size = (rate x).size }) (rate_in (map (tx_of rate) order) id)) (eq-eqb x id same) ∙ ap rate same
-  | inr other ↦
-      ap (λ b. cond b (record { fee = (rate x).fee; size = (rate x).size }) (rate_in (map (tx_of rate) order) id)) (ne_eqb x id other)
-      ∙ rate_listed rate order id (elim (Contains-cases x id order here) [ inl same ↦ absurd (other same) | inr later ↦ later ])
-]
 
 -- what holds of each line of a list of groups of lines
 all_joined : {A : Type 0} (f : A → List (List ℕ)) (xs : List A) → ((x : A) → Contains xs x → AllPlain (f x)) → AllPlain (flat_map f xs)
@@ -92,16 +74,11 @@ module _ (plain : PlainState) (graph : Graph) (pick : List Part) (edges : List (
   sorted : IsTopological graph order
   sorted = picked.certificate.order.topological
 
-  -- the names have entries in range
-  rate_fine : (o : Option Entry) → is_some o ≡ true → ((e : Entry) → o ≡ Some e → IsFee e.fee × IsSize e.size) → IsFee (sum_in o).fee × IsSize (sum_in o).size
-  rate_fine None none fine = absurd (true≢false (sym none))
-  rate_fine (Some e) some fine = fine e refl
-
   live_name : (id : ℕ) → Contains order id → IsLive plain id
   live_name id here = (valid.live id).1 (inside id ((sorted.names id).0 here))
 
   in_range : (id : ℕ) → Contains order id → IsFee (rate id).fee × IsSize (rate id).size
-  in_range id here = rate_fine (finmap.get plain.table id) (live_name id here) (λ e is. valid.rates id e is)
+  in_range id here = kept_fine plain valid id (inside id ((sorted.names id).0 here))
 
   small_name : (id : ℕ) → Contains order id → id < 2 ^ 64
   small_name id here = level.names id ((sorted.names id).0 here)
@@ -183,13 +160,10 @@ module _ (plain : PlainState) (graph : Graph) (pick : List Part) (edges : List (
   edge_names : (a b : ℕ) → Contains edges (a, b) → Contains order a × Contains order b
   edge_names a b here = (edge_graph graph order edges level.whole sorted covers).ends a b here
 
-  tx_named : (tx : ℕ × ℤ × ℕ) → Contains txs tx → (id : ℕ) × Contains order id × (tx_of rate id ≡ tx)
-  tx_named tx here = map-Contains (tx_of rate) order tx here
-
   text_types : HasTextTypes whole_text
   text_types = record {
     txs = all_of (λ (tx : ℕ × ℤ × ℕ). (tx.0 < 2 ^ 64) × FitsSigned w64 tx.1 × (tx.2 < 2 ^ 64)) txs (λ tx here.
-        let found = tx_named tx here in
+        let found = tx_named rate order tx here in
         let fine = in_range found.0 found.1 in
         subst (λ (t : ℕ × ℤ × ℕ). (t.0 < 2 ^ 64) × FitsSigned w64 t.1 × (t.2 < 2 ^ 64)) found.2
         (small_name found.0 found.1, fits_signed_from_abs w64 (rate found.0).fee (omega (arith, fine.0)), omega (arith, fine.1.1)));
@@ -200,7 +174,7 @@ module _ (plain : PlainState) (graph : Graph) (pick : List Part) (edges : List (
 
   txs_plain : AllPlain (map (λ (tx : ℕ × ℤ × ℕ). tx_line tx.0 tx.1 tx.2) txs)
   txs_plain = all_mapped (λ (tx : ℕ × ℤ × ℕ). tx_line tx.0 tx.1 tx.2) txs (λ tx here.
-      let found = tx_named tx here in
+      let found = tx_named rate order tx here in
       let fine = in_range found.0 found.1 in
       subst (λ (t : ℕ × ℤ × ℕ). IsPlain (tx_line t.0 t.1 t.2)) found.2
       (tx_plain found.0 (rate found.0).fee (rate found.0).size (small_name found.0 found.1) (omega (arith, fine.0)) (omega (arith, fine.1.1))))
@@ -245,7 +219,7 @@ module _ (plain : PlainState) (graph : Graph) (pick : List Part) (edges : List (
         let some : length order ≤ finmap.len plain.table = names-within order plain.table sorted.once live_name in
         omega (arith, valid.few, valid.limits.total_high, long, some);
     limits = λ id fee size here.
-        let found = tx_named (id, fee, size) here in
+        let found = tx_named rate order (id, fee, size) here in
         subst (λ (t : ℕ × ℤ × ℕ). IsFee t.1 × IsSize t.2) found.2 (in_range found.0 found.1);
     graph = subst IsGraph graph_is (edge_graph graph order edges level.whole sorted covers);
   }

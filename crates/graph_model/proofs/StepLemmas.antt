@@ -1,5 +1,5 @@
 -- Steps keep valid states: the other changes, and the picks.
-use Rattle.std.proofs.Common.{◌≡◌, ℕ, ℤ, ◌+◌, ◌≤◌, true, cond, List, [], ◌∷◌, length, Option, None, Some, is_some, sym, refl, ap, subst, ◌∙◌, inl, inr, arith, true≢false}
+use Rattle.std.proofs.Common.{◌≡◌, ℕ, ℤ, ◌+◌, ◌<◌, ◌^◌, ◌≤◌, true, cond, List, [], ◌∷◌, length, Option, None, Some, is_some, sym, refl, ap, subst, ◌∙◌, inl, inr, arith, true≢false}
 use Rattle.std.specs.Prelude.{Contains, sum_by}
 use Rattle.std.specs.Ordering.{nat_cmp}
 use Rattle.std.specs.Cmp.{nat_cmp_total}
@@ -16,8 +16,8 @@ use Rattle.graphs.specs.Picks.{IsPick}
 use Rattle.graphs.proofs.RemovalLemmas.{graph_left}
 use Rattle.graphs.proofs.DropLemmas as drops
 use Rattle.graphs.proofs.PickLemmas.{picks_are_kept}
-use Rattle.graph_model.specs.Limits.{Bounds, default_limits}
-use Rattle.graph_model.specs.States.{PlainState, Picks, State, Table, Entry, start, empty_graph, level_of, top_of, IsLive, size_in, size_of, sum_in, rate_of}
+use Rattle.graph_model.specs.Limits.{Bounds, AreInRange, default_limits}
+use Rattle.graph_model.specs.States.{PlainState, Picks, State, Table, Entry, plain_start, start, empty_graph, level_of, top_of, IsLive, size_in, size_of, sum_in, rate_of}
 use Rattle.graph_model.specs.Commands.{Command, HasTypes, SetLimits, Add, Dep, SetFee, Remove, Mine, Evict, Stage, Commit, Abort, Settle, Trim, Unmine, Dump, Compare, Order, Diagram, Proof, Cluster, Ancestors, Descendants, Chunk, Before, Block, Count}
 use Rattle.graph_model.specs.Refusals.{RefusalIs}
 use Rattle.graph_model.specs.Replies.{Reply}
@@ -27,7 +27,7 @@ use Rattle.graph_model.specs.declared.limits.TheConstants.{MAX_COUNT}
 use Rattle.graph_model.specs.Oversize.{AreOfOneComponent, HasOver}
 use Rattle.graph_model.specs.Validity.{IsLevel, IsStaging, IsValid, IsPickOf, IsStagingPick, ArePicks, IsValidState}
 use Rattle.graph_model.specs.Laws.{StepsKeepValid}
-use Rattle.graph_model.proofs.LevelLemmas.{same_level, level_within, over_along, none_over, connects, one_pair, two_pairs}
+use Rattle.graph_model.proofs.LevelLemmas.{same_level, level_within, over_along, AreWithin, none_over, connects, one_pair, two_pairs}
 use Rattle.graph_model.proofs.ValidLemmas.{row_on, get-put_same, get-put_other, top_level, staging_along, forgets_valid, valid_limited}
 use Rattle.graph_model.proofs.ChangeLemmas.{of_top, top_main, top_is, fee_stable, valid_begun, valid_added, valid_paired}
 use Rattle.graph_model.proofs.MinedLemmas.{valid_mined, valid_unmined}
@@ -195,10 +195,43 @@ not_staged (Some graph) none = absurd (none refl)
 
 -- ---- the plain state
 
-valid_plain : (picks : Picks) (old new : PlainState) (command : Command) → HasTypes command
+-- the names that a command brings are of 64 bits
+abbrev pub AddsSmall : Command → Type 0
+AddsSmall (Add id fee size) = id < 2 ^ 64
+AddsSmall (Mine ids) = HasTypes (Mine ids)
+AddsSmall command = Unit {0}
+
+adds_small : (command : Command) → HasTypes command → AddsSmall command
+adds_small (Add id fee size) types = types.0
+adds_small (Mine ids) types = types
+adds_small (SetLimits limits) types = tt
+adds_small (Dep parent child) types = tt
+adds_small (SetFee id fee) types = tt
+adds_small (Remove id) types = tt
+adds_small Evict types = tt
+adds_small Stage types = tt
+adds_small Commit types = tt
+adds_small Abort types = tt
+adds_small Settle types = tt
+adds_small Trim types = tt
+adds_small Unmine types = tt
+adds_small Dump types = tt
+adds_small Compare types = tt
+adds_small (Order level) types = tt
+adds_small (Diagram level) types = tt
+adds_small (Proof level) types = tt
+adds_small (Cluster id level) types = tt
+adds_small (Ancestors id level) types = tt
+adds_small (Descendants id level) types = tt
+adds_small (Chunk id) types = tt
+adds_small (Before a b) types = tt
+adds_small (Block size) types = tt
+adds_small (Count level) types = tt
+
+pub valid_plain : (picks : Picks) (old new : PlainState) (command : Command) → AddsSmall command
     → IsValid old → RefusalIs old command None → Changes picks old command new → IsValid new
 valid_plain picks old new (SetLimits limits) types valid row change = subst IsValid (sym change) (valid_limited old limits valid row)
-valid_plain picks old new (Add id fee size) types valid row change = subst IsValid (sym change) (valid_added old id fee size valid types.0 row)
+valid_plain picks old new (Add id fee size) types valid row change = subst IsValid (sym change) (valid_added old id fee size valid types row)
 valid_plain picks old new (Dep parent child) types valid row change = valid_paired old new parent child valid row change
 valid_plain picks old new (SetFee id fee) types valid row change = subst IsValid (sym change) (valid_paid old id fee valid row)
 valid_plain picks old new (Remove id) types valid row change = valid_removed old new id valid change
@@ -308,7 +341,7 @@ step_valid old new command reply types valid step = elim step [
   | inr rest ↦ elim rest [
     | inl want ↦ elim want [ inl lacks ↦ subst IsValidState (sym lacks.same) valid | inr gives ↦ subst IsValidState (sym gives.same) valid ]
     | inr fine ↦ record {
-      plain = valid_plain old.picks old.plain new.plain command types valid.plain fine.none fine.accepts.plain.change;
+      plain = valid_plain old.picks old.plain new.plain command (adds_small command types) valid.plain fine.none fine.accepts.plain.change;
       picks = valid_picks old new command valid fine.accepts.plain.change fine.accepts.picks;
     }
   ]
@@ -316,73 +349,76 @@ step_valid old new command reply types valid step = elim step [
 
 -- ---- the start
 
-start_valid : (most : ℕ) → default_limits.count ≤ most → most ≤ MAX_COUNT → IsValidState (start most)
-start_valid most low high =
-    let empty : IsLevel (start most).plain (start most).plain.main = record {
+-- a state without names under limits that are in range
+module _ (most : ℕ) (limits : Bounds) (wide : most ≤ MAX_COUNT) (in_range : AreInRange most limits) where
+  abbrev first : PlainState
+  first = record (plain_start most) { limits = limits }
+
+  no_more : (ids : List ℕ) → AreOfOneComponent empty_graph ids → AreWithin limits (size_of finmap.empty) ids
+  no_more [] of = (omega arith, omega arith)
+  no_more (x ∷ xs) of = absurd (none_in_empty x (of.inside x (Contains-head x xs)))
+
+  nothing_over : HasOver limits (size_of finmap.empty) empty_graph → ⊥
+  nothing_over = none_over limits (size_of finmap.empty) empty_graph no_more
+
+  pub valid_at_start : IsValid first
+  valid_at_start = record {
+    limits = in_range;
+    most = wide;
+    main = record {
       whole = record {
         names = tt;
         pairs = tt;
-        ends = λ parent child here. absurd
-            (none_in_empty (parent, child) here);
+        ends = λ parent child here. absurd (none_in_empty (parent, child) here);
         acyclic = λ a n walk. none_in_empty (walk.0, a) walk.2;
       };
       names = λ id here. absurd (none_in_empty id here);
       within = λ strict. nothing_over;
-    } in
-    record {
-      plain = record {
-        limits = record {
-          count_low = omega arith;
-          count_high = low;
-          size_low = omega arith;
-          size_high = omega arith;
-          total_low = omega arith;
-          total_high = omega arith;
-        };
-        most = high;
-        main = empty;
-        staging = tt;
-        live = λ id. (
-          λ live. absurd (true≢false (sym live ∙ ap is_some (finmap.get-empty nat_cmp id))),
-          λ kept. absurd (elim kept [ inl here ↦ none_in_empty id here | inr here ↦ none_in_empty id here ]),
-        );
-        few = let none : finmap.len {X = Entry} {R = nat_cmp} finmap.empty ≡ 0 = finmap.len-empty nat_cmp Entry in omega arith;
-        rates = λ id entry is. absurd (some_none entry (sym is ∙ finmap.get-empty nat_cmp id));
-        blocks = λ block here. absurd (none_in_empty block here);
-        block_count = omega arith;
-        fresh = λ not_yet. (refl, refl, refl);
-      };
-      picks = record {
-        main = (nothing_over, record {
-          certificate = record {
-            filled = λ part here. absurd (none_in_empty part here);
-            order = record {
-              topological = record {
-                once = tt;
-                names = λ id. (λ here. here, λ here. here);
-                parents_first = λ parent child here. absurd (none_in_empty (parent, child) here);
-              };
-              together = λ part here. absurd (none_in_empty part here);
-            };
-            falling = record { summed = λ part here. absurd (none_in_empty part here); falling = tt };
-            flows = λ part here. absurd (none_in_empty part here);
+    };
+    staging = tt;
+    live = λ id. (
+      λ live. absurd (true≢false (sym live ∙ ap is_some (finmap.get-empty nat_cmp id))),
+      λ kept. absurd (elim kept [ inl here ↦ none_in_empty id here | inr here ↦ none_in_empty id here ]),
+    );
+    few = let none : finmap.len {X = Entry} {R = nat_cmp} finmap.empty ≡ 0 = finmap.len-empty nat_cmp Entry in omega arith;
+    rates = λ id entry is. absurd (some_none entry (sym is ∙ finmap.get-empty nat_cmp id));
+    blocks = λ block here. absurd (none_in_empty block here);
+    block_count = omega arith;
+    fresh = λ not_yet. (refl, refl, refl);
+  }
+
+  picks_at_start : ArePicks first (record { main = Some []; staging = None })
+  picks_at_start = record {
+    main = (nothing_over, record {
+      certificate = record {
+        filled = λ part here. absurd (none_in_empty part here);
+        order = record {
+          topological = record {
+            once = tt;
+            names = λ id. (λ here. here, λ here. here);
+            parents_first = λ parent child here. absurd (none_in_empty (parent, child) here);
           };
-          flows_in_order = λ part here. absurd (none_in_empty part here);
-        });
-        staging = tt;
+          together = λ part here. absurd (none_in_empty part here);
+        };
+        falling = record { summed = λ part here. absurd (none_in_empty part here); falling = tt };
+        flows = λ part here. absurd (none_in_empty part here);
       };
-    }
-  where
-    no_more : (ids : List ℕ) → AreOfOneComponent empty_graph ids → length ids ≤ default_limits.count
-    no_more [] of = omega arith
-    no_more (x ∷ xs) of = absurd (none_in_empty x (of.inside x (Contains-head x xs)))
+      flows_in_order = λ part here. absurd (none_in_empty part here);
+    });
+    staging = tt;
+  }
 
-    no_size : (ids : List ℕ) → AreOfOneComponent empty_graph ids → sum_by (size_of finmap.empty) ids ≤ default_limits.size
-    no_size [] of = omega arith
-    no_size (x ∷ xs) of = absurd (none_in_empty x (of.inside x (Contains-head x xs)))
-
-    nothing_over : HasOver default_limits (size_of finmap.empty) empty_graph → ⊥
-    nothing_over = none_over default_limits (size_of finmap.empty) empty_graph (λ ids of. (no_more ids of, no_size ids of))
+start_valid : (most : ℕ) → default_limits.count ≤ most → most ≤ MAX_COUNT → IsValidState (start most)
+start_valid most low high =
+    let in_range : AreInRange most default_limits = record {
+      count_low = omega arith;
+      count_high = low;
+      size_low = omega arith;
+      size_high = omega arith;
+      total_low = omega arith;
+      total_high = omega arith;
+    } in
+    record { plain = valid_at_start most default_limits high in_range; picks = picks_at_start most default_limits high in_range }
 
 pub steps_keep_valid : StepsKeepValid
 steps_keep_valid = record { begins = start_valid; goes_on = step_valid }
