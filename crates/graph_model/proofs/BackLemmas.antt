@@ -1,8 +1,6 @@
 -- Names that come into a graph with pairs of their own, and names that come back into the graph that they were dropped from.
-use Rattle.std.proofs.Common.{◌≡◌, ◌≢◌, ℕ, suc, zero, List, sym, refl, subst, inl, inr, ◌⊎◌, ◌↔◌}
+use Rattle.std.proofs.Common.{◌≢◌, ℕ, suc, zero, List, subst, inl, inr, ◌↔◌}
 use Rattle.std.specs.Prelude.{Contains}
-use Rattle.std.proofs.lemmas.Bool.{cases_eq}
-use Rattle.lists.specs.Distinct.{AreDistinct}
 use Rattle.lists.proofs.Told.{told_number}
 use Rattle.graphs.specs.Graphs.{Graph, Walk, IsAncestor, HasNoCycle, IsGraph}
 use Rattle.graphs.specs.Drops.{HasParents, DropsNames}

@@ -1,7 +1,6 @@
 -- Valid states stay valid when a block is mined, and when it is taken back.
-use Rattle.std.proofs.Common.{◌≡◌, ◌≢◌, ℕ, ℤ, suc, zero, ◌+◌, ◌^◌, ◌<◌, ◌≤◌, Bool, true, false, List, [], ◌∷◌, ◌++◌, map, length, Option, None, Some, is_some, sym, refl, ap, subst, ◌∙◌, inl, inr, ◌⊎◌, ◌↔◌, arith, true≢false, not, ◌&&◌, nat_eq, ne_eqb}
-use Rattle.std.specs.Prelude.{Contains, take, sum_by, All}
-use Rattle.std.specs.Ordering.{nat_cmp}
+use Rattle.std.proofs.Common.{◌≡◌, ◌≢◌, ℕ, ℤ, suc, zero, ◌+◌, ◌^◌, ◌<◌, ◌≤◌, true, false, List, [], ◌∷◌, map, length, Option, None, Some, is_some, sym, refl, ap, subst, ◌∙◌, inl, inr, ◌⊎◌, arith, true≢false, not, ◌&&◌, nat_eq, ne_eqb}
+use Rattle.std.specs.Prelude.{Contains, take, sum_by}
 use Rattle.std.specs.FinMap as finmap
 use Rattle.std.proofs.lemmas.Bool.{cases_Bool, cases_lt, and_parts}
 use Rattle.lists.specs.Distinct.{AreDistinct}
@@ -9,12 +8,11 @@ use Rattle.lists.proofs.Cases.{some_none, differs}
 use Rattle.lists.proofs.Distinct.{distinct_within}
 use Rattle.lists.proofs.Keys.{len-within, len-drop, contains-drop}
 use Rattle.lists.proofs.Told.{told_number}
-use Rattle.lists.proofs.Entries.{Contains-head, Contains-later, Contains-cases, Contains-splits, none_in_empty, map-Contains, not_empty}
+use Rattle.lists.proofs.Entries.{Contains-head, Contains-later, Contains-cases, none_in_empty, map-Contains}
 use Rattle.arithmetic.proofs.Sums.{sum_by_along}
 use Rattle.fee_rate.specs.Limits.{IsFee, IsSize}
 use Rattle.graphs.specs.declared.names.Level.TheVariants.{Main, Top}
-use Rattle.graphs.specs.Graphs.{Graph, Trail, AreConnected, IsGraph, Lists}
-use Rattle.graphs.specs.Certificates.{Txs}
+use Rattle.graphs.specs.Graphs.{Graph, Trail, AreConnected, IsGraph}
 use Rattle.graphs.specs.Drops.{HasParents}
 use Rattle.graphs.proofs.WalkLemmas.{walk_of_pair, AreConnected-sym, AreConnected-trans}
 use Rattle.graphs.proofs.DropLemmas as drops
@@ -23,10 +21,10 @@ use Rattle.graph_model.specs.declared.names.Refusal.{Refusal}
 use Rattle.graph_model.specs.declared.names.Refusal.TheVariants.{Count, ClusterSize}
 use Rattle.graph_model.specs.Limits.{Bounds, AreOver}
 use Rattle.graph_model.specs.Oversize.{AreOfOneComponent, HasOver}
-use Rattle.graph_model.specs.States.{PlainState, MinedBlock, Table, Entry, level_of, top_of, IsLive, IsStaged, rate_of, sum_in, size_in, size_of}
+use Rattle.graph_model.specs.States.{PlainState, MinedBlock, Table, Entry, level_of, top_of, IsLive, sum_in, size_in, size_of}
 use Rattle.graph_model.specs.Commands.{HasTypes, Mine, Unmine}
-use Rattle.graph_model.specs.Changes.{begun, IsKept, Forgets, DropsFromMain, IsMinedBlock, Mines, ids_of, PutsNames, Restores, Unmines}
-use Rattle.graph_model.specs.Refusals.{RefusalIs, IsFirst, StandsTwice, LacksAncestor, IsAbsent, ToldOver, IsInOver, BringsOver, latest_ids}
+use Rattle.graph_model.specs.Changes.{begun, IsKept, DropsFromMain, IsMinedBlock, Mines, ids_of, Restores, Unmines}
+use Rattle.graph_model.specs.Refusals.{RefusalIs, StandsTwice, LacksAncestor, IsAbsent, ToldOver, IsInOver, BringsOver, latest_ids}
 use Rattle.graph_model.specs.Validity.{IsLevel, IsStaging, IsKeptBlock, IsValid}
 use Rattle.graph_model.proofs.LevelLemmas.{one_pair, connects, connected_told, some_list, level_within, same_level}
 use Rattle.graph_model.proofs.ValidLemmas.{row_on, row_at_on, forgets_valid}

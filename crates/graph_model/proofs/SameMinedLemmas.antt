@@ -1,5 +1,5 @@
 -- What mining and taking a block back make of states that are the same but for the order of names and pairs.
-use Rattle.std.proofs.Common.{◌≡◌, ℕ, ℤ, suc, zero, List, [], ◌∷◌, map, sym, refl, ap, subst, ◌∙◌, inl, inr, ◌⊎◌}
+use Rattle.std.proofs.Common.{◌≡◌, ℕ, ℤ, suc, zero, List, [], ◌∷◌, sym, refl, subst, ◌∙◌, inl, inr}
 use Rattle.std.specs.Prelude.{Contains, take}
 use Rattle.std.specs.FinMap as finmap
 use Rattle.lists.proofs.Told.{told_number}

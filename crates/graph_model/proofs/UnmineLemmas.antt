@@ -1,5 +1,5 @@
 -- A block that is taken back directly after it was mined.
-use Rattle.std.proofs.Common.{◌≡◌, ◌≢◌, ℕ, ℤ, suc, ◌+◌, ◌<◌, ◌≤◌, true, false, List, [], ◌∷◌, length, Option, None, Some, is_some, sym, refl, ap, subst, ◌∙◌, inl, inr, ◌⊎◌, ◌↔◌, arith, true≢false}
+use Rattle.std.proofs.Common.{◌≡◌, ℕ, ◌+◌, ◌<◌, ◌≤◌, false, List, ◌∷◌, length, Option, None, Some, is_some, sym, refl, ap, subst, ◌∙◌, inl, inr, ◌⊎◌, arith, true≢false}
 use Rattle.std.specs.Prelude.{Contains, take, sum_by}
 use Rattle.std.specs.FinMap as finmap
 use Rattle.std.proofs.Math.ListN.{get_or}
@@ -11,22 +11,21 @@ use Rattle.lists.proofs.Told.{told_number}
 use Rattle.lists.proofs.Entries.{Contains-map, first_of, not_empty}
 use Rattle.arithmetic.proofs.Sums.{sum_by_along}
 use Rattle.fee_rate.specs.declared.rates.Sum.{Sum}
-use Rattle.graphs.specs.declared.names.Level.TheVariants.{Main, Top}
-use Rattle.graphs.specs.Graphs.{Graph, AreConnected, IsGraph, Lists}
+use Rattle.graphs.specs.Graphs.{Graph, AreConnected, Lists}
 use Rattle.graphs.specs.Drops.{DropsNames}
 use Rattle.graphs.specs.Alikes.{AreAlike}
 use Rattle.graphs.proofs.AlikeLemmas.{alike_back, connected_to}
 use Rattle.graphs.proofs.WalkLemmas.{AreConnected-sym, AreConnected-trans}
 use Rattle.graph_model.specs.declared.limits.TheConstants.{MAX_BLOCKS}
 use Rattle.graph_model.specs.declared.names.Refusal.{Refusal}
-use Rattle.graph_model.specs.declared.names.Refusal.TheVariants.{Staging, NoBlock, Back, Full, Memory}
+use Rattle.graph_model.specs.declared.names.Refusal.TheVariants.{Memory}
 use Rattle.graph_model.specs.Limits.{Bounds, AreOver}
 use Rattle.graph_model.specs.Oversize.{AreOfOneComponent}
-use Rattle.graph_model.specs.States.{PlainState, MinedBlock, State, Table, Entry, level_of, top_of, IsLive, IsStaged, rate_of, sum_in, size_in, size_of}
-use Rattle.graph_model.specs.Commands.{Command, HasTypes, Mine, Unmine}
+use Rattle.graph_model.specs.States.{PlainState, MinedBlock, State, Table, Entry, top_of, IsLive, rate_of, sum_in, size_in, size_of}
+use Rattle.graph_model.specs.Commands.{Mine, Unmine}
 use Rattle.graph_model.specs.Replies.{Reply, Done, Refused, Unmined}
-use Rattle.graph_model.specs.Refusals.{RefusalIs, IsFirst, ToldOver, IsInOver, BringsOver, latest_ids}
-use Rattle.graph_model.specs.Changes.{begun, IsKept, Forgets, IsMinedBlock, Mines, ids_of, PutsNames, Restores, Unmines}
+use Rattle.graph_model.specs.Refusals.{RefusalIs, IsInOver, BringsOver, latest_ids}
+use Rattle.graph_model.specs.Changes.{begun, IsKept, Forgets, IsMinedBlock, Mines, PutsNames, Restores, Unmines}
 use Rattle.graph_model.specs.Steps.{Step}
 use Rattle.graph_model.specs.Validity.{IsValid, IsValidState}
 use Rattle.graph_model.specs.UnmineLaws.{MinedComesBack}
