@@ -30,7 +30,8 @@ proper_after pairs a b c n first walk =
     let most : IsAncestor pairs a walk.0 = IsAncestor-trans pairs a b walk.0 first (n, walk.1) in (most.0, (walk.0, most.1, walk.2))
 
 -- pairs that lead to other descendants make no cycle
-pub no_cycle_along : (pairs others : List (ℕ × ℕ)) → HasNoCycle others → ((a b : ℕ) → Contains pairs (a, b) → IsAncestor others a b × (a ≢ b)) → HasNoCycle pairs
+pub no_cycle_along : (pairs others : List (ℕ × ℕ)) → HasNoCycle others → ((a b : ℕ) → Contains pairs (a, b) → IsAncestor others a b × (a ≢ b))
+    → HasNoCycle pairs
 no_cycle_along pairs others none each a n walk =
     let before : IsAncestor others a walk.0 = ancestors_along pairs others (λ x y here. (each x y here).0) a walk.0 n walk.1 in
     let last = each walk.0 a walk.2 in

@@ -18,8 +18,12 @@ use Rattle.graphs.proofs.AlikeLemmas.{corners_to}
 use Rattle.graphs.proofs.CornerLemmas.{corners_unique, one_verdict}
 use Rattle.graph_model.specs.States.{PlainState, MinedBlock, Picks, Table, Entry, level_of, top_of, with_top, rate_of, sum_in, size_in}
 use Rattle.graph_model.specs.Commands.{Command, SetLimits, Add, Dep, SetFee, Remove, Mine, Evict, Stage, Commit, Abort, Settle, Trim, Unmine, Dump, Compare, Order, Diagram, Proof, Cluster, Ancestors, Descendants, Chunk, Before, Block, Count}
-use Rattle.graph_model.specs.Replies.{Reply, Ids, Number, Points, Compared, Settled}
-use Rattle.graph_model.specs.Changes.{begun, IsKept, Forgets, AddsPair, Removes, DropsFromMain, Commits, Aborts}
+use Rattle.graphs.specs.Rates.{sums}
+use Rattle.graph_model.specs.Replies.{Reply, Ids, Number, Points, Compared, Settled, Trimmed, Unmined, Dumped}
+use Rattle.graph_model.specs.Limits.{Bounds}
+use Rattle.graph_model.specs.Trims.{IsTrimmed}
+use Rattle.graph_model.specs.Dumps.{DumpText, IsDump}
+use Rattle.graph_model.specs.Changes.{begun, IsKept, Forgets, AddsPair, Removes, DropsFromTop, Commits, Aborts}
 use Rattle.graph_model.specs.Verdicts.{VerdictIs}
 use Rattle.graph_model.specs.Steps.{AcceptsPlainly}
 use Rattle.graph_model.specs.Validity.{IsValid}
@@ -28,6 +32,9 @@ use Rattle.lists.proofs.Distinct.{distinct_within}
 use Rattle.graph_model.proofs.LevelLemmas.{one_pair, connects}
 use Rattle.graph_model.proofs.ValidLemmas.{told_kept, get-put, top_level}
 use Rattle.graph_model.proofs.ChangeLemmas.{of_top}
+use Rattle.graph_model.proofs.TrimLemmas.{trimmed_once}
+use Rattle.graph_model.proofs.OverLemmas.{latest_same}
+use Rattle.graph_model.proofs.SameMinedLemmas.{same_mined, same_unmined}
 use Rattle.graph_model.proofs.SameLemmas.{back, up_to, linked_to, level_same, same_top, same_begun, same_left, same_put, of_equal, without_same, drops_same, more_names, more_pairs}
 
 -- ---- what is told of both
@@ -96,19 +103,23 @@ module _ (a b : PlainState) (valid_a : IsValid a) (valid_b : IsValid b) (same : 
           ]
         ]
 
-    dropped : (ids : List ℕ) → DropsFromMain a ids a' → DropsFromMain b ids b' → IsSameState a' b'
-    dropped ids one two = same_left (record (begun a) { main = one.0 }) (record (begun b) { main = two.0 }) a' b'
-        (record {
-          limits = same.limits;
-          most = same.most;
-          begun = refl;
-          table = same.table;
-          main = drops_same a.main b.main one.0 two.0 ids same.main
-              one.1 two.1;
-          staging = same.staging;
-          blocks = same.blocks;
-        })
-        one.2 two.2
+    -- a level that trimming drops names from, or none
+    lessened : (xs ys : List ℕ) → xs ≡ ys → DropsFromTop a xs a' → DropsFromTop b ys b' → IsSameState a' b'
+    lessened xs ys is one two = by xs one (subst (λ ids. DropsFromTop b ids b') (sym is) two)
+      where
+        by : (ids : List ℕ) → DropsFromTop a ids a' → DropsFromTop b ids b' → IsSameState a' b'
+        by [] one two = of_equal (begun a) (begun b) a' b' one two (same_begun a b same)
+        by (id ∷ ids) one two = same_left (with_top (begun a) one.0) (with_top (begun b) two.0) a' b'
+            (same_top (begun a) (begun b) one.0 two.0 (same_begun a b same)
+            (drops_same (level_of a Top) (level_of b Top) one.0 two.0 (id ∷ ids) (level_same a b Top same) one.1 two.1)) one.2 two.2
+
+    -- two valid states that are the same drop the same names
+    one_trim : (xs ys : List ℕ) → IsTrimmed a.limits (rate_of a.table) (level_of a Top) xs → IsTrimmed b.limits (rate_of b.table) (level_of b Top) ys → xs ≡ ys
+    one_trim xs ys one two =
+        let rates : rate_of a.table ≡ rate_of b.table = λ i id. sum_in (same.table id i) in
+        trimmed_once b.limits (rate_of b.table) (level_of a Top) (level_of b Top) xs ys (level_same a b Top same)
+        (subst (λ (l : Bounds). IsTrimmed l (rate_of b.table) (level_of a Top) xs) same.limits
+        (subst (λ rate. IsTrimmed a.limits rate (level_of a Top) xs) rates one)) two
 
     removed : (id : ℕ) → Removes a id a' → Removes b id b' → IsSameState a' b'
     removed id one two = same_left (with_top (begun a) one.0) (with_top (begun b) two.0) a' b'
@@ -179,13 +190,16 @@ module _ (a b : PlainState) (valid_a : IsValid a) (valid_b : IsValid b) (same : 
           blocks = same.blocks;
         })
     states (Remove id) other one two = removed id one.change two.change
-    states (Mine ids) other one two = dropped ids one.change two.change
+    states (Mine ids) other one two = same_mined a b a' b' ids same one.change two.change
     states Evict other one two = absurd (other refl)
     states Stage other one two = of_equal _ _ a' b' one.change two.change
         (record { limits = same.limits; most = same.most; begun = refl; table = same.table; main = same.main; staging = same.main; blocks = same.blocks })
     states Commit other one two = committed one.change two.change
     states Abort other one two = aborted one.change two.change
     states Settle other one two = settled one.change two.change
+    states Trim other one two =
+        let x = one.change in let y = two.change in lessened x.0 y.0 (one_trim x.0 y.0 x.1 y.1) x.2 y.2
+    states Unmine other one two = same_unmined a b a' b' same one.change two.change
     states Compare other one two = reads one.change two.change
     states (Order level) other one two = reads one.change two.change
     states (Diagram level) other one two = reads one.change two.change
@@ -197,6 +211,10 @@ module _ (a b : PlainState) (valid_a : IsValid a) (valid_b : IsValid b) (same : 
     states (Before x y) other one two = reads one.change two.change
     states (Block size) other one two = reads one.change two.change
     states (Count level) other one two = reads one.change two.change
+    states Dump other one two = reads one.change two.change
+
+    one_dump : (x y : DumpText) → IsDump a.table a.main x → IsDump b.table b.main y → x ≡ y
+    one_dump x y one two = ?
 
     done : (r : Reply) → ra ≡ r → rb ≡ r → ra ≡ rb
     done r one two = one ∙ sym two
@@ -214,6 +232,10 @@ module _ (a b : PlainState) (valid_a : IsValid a) (valid_b : IsValid b) (same : 
     replies Abort plain one two = done _ one.answer two.answer
     replies Settle plain one two =
         let x = one.answer in let y = two.answer in x.2 ∙ ap Settled (same_verdict x.0 y.0 x.1 y.1) ∙ sym y.2
+    replies Trim plain one two =
+        let x = one.answer in let y = two.answer in
+        x.2 ∙ ap₂ (λ rate ids. Trimmed (sums rate ids) ids) (λ i id. sum_in (same.table id i)) (one_trim x.0 y.0 x.1 y.1) ∙ sym y.2
+    replies Unmine plain one two = one.answer ∙ ap Unmined (latest_same a.blocks b.blocks same.blocks) ∙ sym two.answer
     replies Compare plain one two =
         let x = one.answer in let y = two.answer in x.2 ∙ ap Compared (same_verdict x.0 y.0 x.1 y.1) ∙ sym y.2
     replies (Order level) plain one two = absurd plain
@@ -239,6 +261,8 @@ module _ (a b : PlainState) (valid_a : IsValid a) (valid_b : IsValid b) (same : 
     replies (Before x y) plain one two = absurd plain
     replies (Block size) plain one two = absurd plain
     replies (Count level) plain one two = one.answer ∙ ap Number (same_count level) ∙ sym two.answer
+    replies Dump plain one two =
+        let x = one.answer in let y = two.answer in x.2 ∙ ap Dumped (one_dump x.0 y.0 x.1 y.1) ∙ sym y.2
 
 pub steps_are_functions : StepsAreFunctions
 steps_are_functions = record {

@@ -24,3 +24,4 @@ pub mod ReadingLemmas
 pub mod DumpLemmas
 pub mod FunctionLemmas
 pub mod UnmineLemmas
+pub mod SoundLemmas

@@ -133,7 +133,8 @@ kept_block old ids block some valid can is =
       some = λ none. some (sym same ∙ ap ids_of none);
       once = subst AreDistinct (sym same) can.once;
       names = λ id here. valid.main.names id (can.inside id (subst (λ ns. Contains ns id) same here));
-      rates = λ id fee size here. rated id fee size (map-Contains (tx_of old.table) ids (id, fee, size) (subst (λ txs. Contains txs (id, fee, size)) is.txs here));
+      rates = λ id fee size here. rated id fee size
+          (map-Contains (tx_of old.table) ids (id, fee, size) (subst (λ txs. Contains txs (id, fee, size)) is.txs here));
       parents = λ a b pair. subst (λ ns. Contains ns a) (sym same) ((is.pairs a b).0 pair).0;
       acyclic = no_cycle_along block.pairs old.main.pairs valid.main.whole.acyclic (λ a b pair. let kept = (is.pairs a b).0 pair in (kept.1, kept.2));
     }
@@ -310,7 +311,8 @@ module _ (old new : PlainState) (valid : IsValid old) (can : CanUnmine old) (blo
   top_is_main : level_of next Top ≡ new.main
   top_is_main = ap (top_of new.main) can.alone
 
-  entry_of : (id : ℕ) → Contains ids id → (fee : ℤ) × (size : ℕ) × (finmap.get new.table id ≡ Some (record { fee = fee; size = size })) × IsFee fee × IsSize size
+  entry_of : (id : ℕ) → Contains ids id → (fee : ℤ) × (size : ℕ) × (finmap.get new.table id ≡ Some (record { fee = fee; size = size }))
+      × IsFee fee × IsSize size
   entry_of id here =
       let tx = listed_tx block.txs id here in
       let rates = kept.rates id tx.0 tx.1 tx.2 in (tx.0, tx.1, back.listed id tx.0 tx.1 tx.2, rates.0, rates.1)
