@@ -2,16 +2,12 @@
 use Rattle.std.proofs.Common.{◌≡◌, ℕ, ◌+◌, ◌<◌, ◌≤◌, false, List, ◌∷◌, length, Option, None, Some, is_some, sym, refl, ap, subst, ◌∙◌, inl, inr, ◌⊎◌, arith, true≢false}
 use Rattle.std.specs.Prelude.{Contains, take, sum_by}
 use Rattle.std.specs.FinMap as finmap
-use Rattle.std.proofs.Math.ListN.{get_or}
-use Rattle.std.proofs.lemmas.List.Kept.{AllPairs-from_increasing}
-use Rattle.lists.specs.Distinct.{AreDistinct}
 use Rattle.lists.proofs.Cases.{some_none}
-use Rattle.lists.proofs.Distinct.{distinct_from_places}
 use Rattle.lists.proofs.Told.{told_number}
 use Rattle.lists.proofs.Entries.{Contains-map, first_of, not_empty}
 use Rattle.arithmetic.proofs.Sums.{sum_by_along}
 use Rattle.fee_rate.specs.declared.rates.Sum.{Sum}
-use Rattle.graphs.specs.Graphs.{Graph, AreConnected, Lists}
+use Rattle.graphs.specs.Graphs.{Graph, AreConnected}
 use Rattle.graphs.specs.Drops.{DropsNames}
 use Rattle.graphs.specs.Alikes.{AreAlike}
 use Rattle.graphs.proofs.AlikeLemmas.{alike_back, connected_to}
@@ -30,15 +26,11 @@ use Rattle.graph_model.specs.Steps.{Step}
 use Rattle.graph_model.specs.Validity.{IsValid, IsValidState}
 use Rattle.graph_model.specs.UnmineLaws.{MinedComesBack}
 use Rattle.graph_model.proofs.ValidLemmas.{told_kept}
+use Rattle.graph_model.proofs.TrimLemmas.{rising_once}
 use Rattle.graph_model.proofs.FirstLemmas.{first_in}
 use Rattle.graph_model.proofs.BackLemmas.{names_back, ancestors_back}
 use Rattle.graph_model.proofs.SameMinedLemmas.{tx_of}
 use Rattle.graph_model.proofs.MinedLemmas.{CanMine, can_mine, mined_ids, len_fewer, joined_name}
-
--- names in rising order stand once each
-once_listed : (P : ℕ → Type 0) (ids : List ℕ) → Lists P ids → AreDistinct ids
-once_listed P ids lists = distinct_from_places ids (λ i j d before below same.
-    let less : get_or ids i d < get_or ids j d = AllPairs-from_increasing ids lists.rising i j d before below in omega (arith, less, same))
 
 size_in_sum : (o : Option Entry) → (sum_in o).size ≡ size_in o
 size_in_sum None = refl
@@ -120,7 +112,7 @@ module _ (old : PlainState) (ids : List ℕ) (valid : IsValid old) (can : CanMin
           let inside : (q : ℕ) → Contains xs q → Contains old.main.names q = λ q here.
           let trail = to_old q here in joined_name old.main valid.main.whole id q trail.0 trail.1 (can.inside id listed) in
           let of : AreOfOneComponent old.main xs = record {
-            once = once_listed (AreConnected new.main.pairs id) xs lists;
+            once = rising_once xs lists.rising;
             inside = inside;
             together = λ a b here there. AreConnected-trans old.main.pairs a id b (AreConnected-sym old.main.pairs id a (to_old a here)) (to_old b there);
           } in
