@@ -1,18 +1,16 @@
 -- Steps keep valid states: the other changes, and the picks.
-use Rattle.std.proofs.Common.{◌≡◌, ℕ, ℤ, ◌+◌, ◌<◌, ◌^◌, ◌≤◌, true, cond, List, [], ◌∷◌, length, Option, None, Some, is_some, sym, refl, ap, subst, ◌∙◌, inl, inr, arith, true≢false}
-use Rattle.std.specs.Prelude.{Contains, sum_by}
+use Rattle.std.proofs.Common.{◌≡◌, ℕ, ℤ, ◌+◌, ◌<◌, ◌^◌, ◌≤◌, true, cond, List, [], ◌∷◌, Option, None, Some, is_some, sym, refl, ap, subst, ◌∙◌, inl, inr, arith, true≢false}
+use Rattle.std.specs.Prelude.{Contains}
 use Rattle.std.specs.Ordering.{nat_cmp}
 use Rattle.std.specs.Cmp.{nat_cmp_total}
 use Rattle.std.specs.FinMap as finmap
 use Rattle.std.proofs.lemmas.Bool.{cases_eq}
 use Rattle.lists.proofs.Cases.{some_none}
 use Rattle.lists.proofs.Entries.{Contains-head, none_in_empty}
-use Rattle.fee_rate.specs.declared.rates.Sum.{Sum}
 use Rattle.fee_rate.specs.Limits.{IsFee, IsSize}
 use Rattle.graphs.specs.declared.names.Level.TheVariants.{Top}
 use Rattle.graphs.specs.Graphs.{Graph, IsGraph}
 use Rattle.graphs.specs.Certificates.{Part}
-use Rattle.graphs.specs.Picks.{IsPick}
 use Rattle.graphs.proofs.RemovalLemmas.{graph_left}
 use Rattle.graphs.proofs.DropLemmas as drops
 use Rattle.graphs.proofs.PickLemmas.{picks_are_kept}
@@ -368,22 +366,25 @@ module _ (most : ℕ) (limits : Bounds) (wide : most ≤ MAX_COUNT) (in_range : 
 
   picks_at_start : ArePicks first (record { main = Some []; staging = None })
   picks_at_start = record {
-    main = (nothing_over, record {
-      certificate = record {
-        filled = λ part here. absurd (none_in_empty part here);
-        order = record {
-          topological = record {
-            once = tt;
-            names = λ id. (λ here. here, λ here. here);
-            parents_first = λ parent child here. absurd (none_in_empty (parent, child) here);
+    main = (
+      nothing_over,
+      record {
+        certificate = record {
+          filled = λ part here. absurd (none_in_empty part here);
+          order = record {
+            topological = record {
+              once = tt;
+              names = λ id. (λ here. here, λ here. here);
+              parents_first = λ parent child here. absurd (none_in_empty (parent, child) here);
+            };
+            together = λ part here. absurd (none_in_empty part here);
           };
-          together = λ part here. absurd (none_in_empty part here);
+          falling = record { summed = λ part here. absurd (none_in_empty part here); falling = tt };
+          flows = λ part here. absurd (none_in_empty part here);
         };
-        falling = record { summed = λ part here. absurd (none_in_empty part here); falling = tt };
-        flows = λ part here. absurd (none_in_empty part here);
-      };
-      flows_in_order = λ part here. absurd (none_in_empty part here);
-    });
+        flows_in_order = λ part here. absurd (none_in_empty part here);
+      },
+    );
     staging = tt;
   }
 
