@@ -77,7 +77,15 @@ module _ (a b : PlainState) (valid_a : IsValid a) (valid_b : IsValid b) (same : 
   module _ (pa pb : Picks) (a' b' : PlainState) (ra rb : Reply) where
     committed : Commits a a' → Commits b b' → IsSameState a' b'
     committed = same_left (record (begun a) { main = level_of a Top; staging = None }) (record (begun b) { main = level_of b Top; staging = None }) a' b'
-        (record { limits = same.limits; most = same.most; begun = refl; table = same.table; main = level_same a b Top same; staging = tt; blocks = same.blocks })
+        (record {
+          limits = same.limits;
+          most = same.most;
+          begun = refl;
+          table = same.table;
+          main = level_same a b Top same;
+          staging = tt;
+          blocks = same.blocks;
+        })
 
     aborted : Aborts a a' → Aborts b b' → IsSameState a' b'
     aborted = same_left (record (begun a) { staging = None }) (record (begun b) { staging = None }) a' b'

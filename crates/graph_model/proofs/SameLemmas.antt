@@ -69,14 +69,31 @@ state_back a b same = record {
 pub same_top : (a b : PlainState) (x y : Graph) → IsSameState a b → IsSameGraph x y → IsSameState (with_top a x) (with_top b y)
 same_top a b x y same graphs = of_top a x (λ p. IsSameState p (with_top b y))
     (λ alone. of_top b y (IsSameState (record a { main = x }))
-    (λ other. record { limits = same.limits; most = same.most; begun = same.begun; table = same.table; main = graphs; staging = same.staging; blocks = same.blocks })
+    (λ other. record {
+      limits = same.limits;
+      most = same.most;
+      begun = same.begun;
+      table = same.table;
+      main = graphs;
+      staging = same.staging;
+      blocks = same.blocks;
+    })
     (λ g is. absurd (subst (IsSameStaging None) is (subst (λ s. IsSameStaging s b.staging) alone same.staging))))
     (λ g is. of_top b y (IsSameState (record a { staging = Some x }))
     (λ other. absurd (subst (IsSameStaging (Some g)) other (subst (λ s. IsSameStaging s b.staging) is same.staging)))
-    (λ h other. record { limits = same.limits; most = same.most; begun = same.begun; table = same.table; main = same.main; staging = graphs; blocks = same.blocks }))
+    (λ h other. record {
+      limits = same.limits;
+      most = same.most;
+      begun = same.begun;
+      table = same.table;
+      main = same.main;
+      staging = graphs;
+      blocks = same.blocks;
+    }))
 
 pub same_begun : (a b : PlainState) → IsSameState a b → IsSameState (begun a) (begun b)
-same_begun a b same = record { limits = same.limits; most = same.most; begun = refl; table = same.table; main = same.main; staging = same.staging; blocks = same.blocks }
+same_begun a b same =
+    record { limits = same.limits; most = same.most; begun = refl; table = same.table; main = same.main; staging = same.staging; blocks = same.blocks }
 
 -- tables that forget the names that are in no level
 pub same_left : (a b a' b' : PlainState) → IsSameState a b → Forgets a a' → Forgets b b' → IsSameState a' b'
