@@ -1,4 +1,4 @@
-ghost use Rattle.std.specs.Prelude.{◌≡◌, ℕ, ◌+◌, ◌-◌, ◌^◌, ◌<◌, ◌≤◌, List, IfOk};
+ghost use Rattle.std.specs.Prelude.{◌≡◌, ℕ, ◌+◌, ◌-◌, ◌*◌, ◌^◌, ◌<◌, ◌≤◌, List, IfOk};
 ghost use Rattle.graph_model.specs.Runs.{answer_text};
 ghost use Rattle.graph_model.specs.Runs as runs;
 ghost use Rattle.outside.specs.Faults.{CountsFaults};
