@@ -73,9 +73,9 @@ whole_read bytes input (Some rest) read = sym (read.0 ∙ ap (λ (xs : List ℕ)
 
 -- past the limit there are more bytes than may be read
 past_limit : (bytes input : List ℕ) (left : Option (List ℕ)) → ReadsTo Limit (Some bytes) left input → max_input < length bytes
-past_limit bytes input None read = absurd read.2
+past_limit bytes input None read = absurd read.3
 past_limit bytes input (Some rest) read =
-    omega (arith, read.1, read.3, ap length read.2, length-append (input ++ read.0) rest, length-append input read.0)
+    omega (arith, read.1, read.4, ap length read.3, length-append (input ++ read.0) rest, length-append input read.0)
 
 module _ {K : Type 0} (written : K → Option (List ℕ)) (bytes : List ℕ) (said : (s : Verification) → IsVerified bytes s ↔ (s ≡ Found Certified))
     (short : length bytes ≤ max_input) where

@@ -65,7 +65,7 @@ takes_of Ended old new came more past taken parts read end counts = (
   subst (Consumes old new) (parts ∙ ap (λ (xs : List ℕ). more ++ xs) counts.2 ∙ append-nil more) read,
   end (omega (arith, ap length parts, length-append more past, ap length counts.1, ap length counts.2)),
 )
-takes_of Past old new came more past taken parts read end counts = (past, counts.1, subst (Consumes old new) parts read, counts.0)
+takes_of Past old new came more past taken parts read end counts = (past, counts.1, counts.2, subst (Consumes old new) parts read, counts.0)
 
 pub counts_within : (stage : Stage) (taken : ℕ) (more past : List ℕ) → CountsWithin stage taken more past → taken ≤ max_input
 counts_within Open taken more past counts = counts.0
@@ -122,7 +122,7 @@ takes_on : (first mid last : Stage) (a b c : Option (List ℕ)) (m n : List ℕ)
 takes_on Open Open Open a b c m n t u one is two = Consumes-trans a b c m n one two
 takes_on Open Open Ended a b c m n t u one is two = (Consumes-trans a b c m n one two.0, two.1)
 takes_on Open Open Past a b c m n t u one is two =
-    (two.0, two.1, subst (Consumes a c) (sym (append_assoc m n two.0)) (Consumes-trans a b c m (n ++ two.0) one two.2), two.3)
+    (two.0, two.1, two.2, subst (Consumes a c) (sym (append_assoc m n two.0)) (Consumes-trans a b c m (n ++ two.0) one two.3), two.4)
 takes_on Open Ended last a b c m n t u one is two = absurd (cc)
 takes_on Open Past last a b c m n t u one is two = absurd (cc)
 takes_on Ended mid last a b c m n t u one is two = absurd (let e = one.0 in cc)
@@ -172,7 +172,8 @@ read_more Past new a b c input more t u one two sum =
     subst (λ (s : Stage). TakesTo Open s a c (input ++ more) u) (sym two.0) (
       one.0,
       one.1,
+      one.2,
       subst (λ (xs : List ℕ). Consumes a c (xs ++ one.0)) (sym (ap (λ (xs : List ℕ). input ++ xs) two.2 ∙ append-nil input))
-          (subst (λ (o : Option (List ℕ)). Consumes a o (input ++ one.0)) (sym two.1) one.2),
-      omega (arith, sum, ap length two.2, one.3),
+          (subst (λ (o : Option (List ℕ)). Consumes a o (input ++ one.0)) (sym two.1) one.3),
+      omega (arith, sum, ap length two.2, one.4),
     )

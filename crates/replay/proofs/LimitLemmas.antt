@@ -22,7 +22,7 @@ pub within_limit : (left_old left_new : Option (List ℕ)) (end : End) (input : 
 within_limit None left_new end input status read is = tt
 within_limit (Some all) left_new Told input status read is = λ few e. absurd (cc)
 within_limit (Some all) left_new Fault input status read is = λ few e. absurd (cc)
-within_limit (Some all) left_new Limit input status read is = λ few e. not_past all input read.0 left_new few read.1 read.3 read.2
+within_limit (Some all) left_new Limit input status read is = λ few e. not_past all input read.0 left_new few read.1 read.4 read.3
 
 -- what is told of the end of the reading is said of its status
 pub told_replays : {K : Type 0} (end : End) (status : Status) (left_old left_new : Option (List ℕ)) (written : K → Option (List ℕ)) (old new : K)

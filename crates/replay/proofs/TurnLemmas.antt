@@ -263,7 +263,7 @@ cut_off Ended left now first written got front = record {
 cut_off Past left now first written got front = record {
   end = Limit;
   input = got.input;
-  read = (got.read.0, got.read.1, got.read.2, omega (arith, got.taken, got.read.3));
+  read = (got.read.0, got.read.1, got.read.2, got.read.3, omega (arith, got.taken, got.read.4));
   output = record {
     lines = got.lines;
     first = begins got.input got.rest got.lines got.given (λ last. let e = last.0 in cc);
@@ -310,7 +310,7 @@ limited Open left now first written got is one out = absurd (cc)
 limited Ended left now first written got is one out = absurd (cc)
 limited Past left now first written got is one out = record {
   input = got.input;
-  read = (got.read.0, got.read.1, got.read.2, omega (arith, got.taken, got.read.3));
+  read = (got.read.0, got.read.1, got.read.2, got.read.3, omega (arith, got.taken, got.read.4));
   output = record {
     text = flat_map answer_text got.answers;
     output = record {

@@ -13,6 +13,7 @@ use Rattle.replay.specs.declared.lines.Found.{Found}
 use Rattle.replay.specs.declared.lines.Found.TheVariants as found
 use Rattle.replay.specs.declared.session.Piece.{Piece}
 use Rattle.replay.specs.declared.session.Piece.TheVariants.{Whole, TooLong}
+use Rattle.replay.specs.declared.window.TheConstants.{MAX_READ}
 use Rattle.replay.specs.Cutters.{Cutter}
 
 -- the bytes begin with a line and its line feed
@@ -34,11 +35,11 @@ abbrev pub Leaves : Cutter → List ℕ → Type 0
 Leaves cutter rest = EndsIn cutter.long cutter.held rest
 
 -- What was taken leads from a stage to a stage: to the end where the source answered it, and past the limit where a byte past it
--- came. Nothing is taken where reading has ended.
+-- came, and no more than one read brings. Nothing is taken where reading has ended.
 abbrev pub TakesTo : Stage → Stage → Option (List ℕ) → Option (List ℕ) → List ℕ → ℕ → Type 0
 TakesTo Open Open old new more taken = Consumes old new more
 TakesTo Open Ended old new more taken = Consumes old new more × IsAtEnd new
-TakesTo Open Past old new more taken = (past : List ℕ) × (0 < length past) × Consumes old new (more ++ past) × (taken ≡ max_input)
+TakesTo Open Past old new more taken = (past : List ℕ) × (0 < length past) × (length past ≤ MAX_READ) × Consumes old new (more ++ past) × (taken ≡ max_input)
 TakesTo Ended stage old new more taken = (stage ≡ Ended) × (new ≡ old) × (more ≡ [])
 TakesTo Past stage old new more taken = (stage ≡ Past) × (new ≡ old) × (more ≡ [])
 
@@ -116,11 +117,12 @@ IsFound found.End = ⊥
 IsFound found.Limit = ⊥
 IsFound found.Fault = ⊥
 
--- How a read stands to the limit: it ended the reading where it gave nothing, and went past the limit where some of it is past it.
+-- How a read stands to the limit: it ended the reading where it gave nothing, and went past the limit where some of it is past it,
+-- which is no more than one read brings.
 abbrev pub CountsWithin : Stage → ℕ → List ℕ → List ℕ → Type 0
 CountsWithin Open taken more past = (taken ≤ max_input) × (0 < length more) × (past ≡ [])
 CountsWithin Ended taken more past = (taken ≤ max_input) × (more ≡ []) × (past ≡ [])
-CountsWithin Past taken more past = (taken ≡ max_input) × (0 < length past)
+CountsWithin Past taken more past = (taken ≡ max_input) × (0 < length past) × (length past ≤ MAX_READ)
 
 -- how many bytes are held, and one for those that were dropped
 abbrev pub weight : Bool → List ℕ → ℕ

@@ -1,6 +1,7 @@
 ghost use Rattle.std.specs.Prelude.{◌≡◌, IfOk, OnErr};
 ghost use Rattle.replay.specs.Inputs.{ReadsTo, ReadFaults};
 
+use crate::window::MAX_READ;
 use graph_model::MAX_INPUT;
 use outside::{NoMemory, Source};
 use std::alloc::Global;
@@ -31,7 +32,7 @@ pub(crate) fn read_input<S: Source>(alloc: Global, source: &mut S) -> Result<Inp
     ensures memory { OnErr result (S.faults source.new ≡ S.faults source.old) }
 {
     let mut bytes = Vec::new(alloc);
-    let mut chunk = [0; 65_536];
+    let mut chunk = [0; MAX_READ];
     while bytes.len() <= MAX_INPUT {
         match source.read(&mut chunk) {
             Ok(0) => return Ok(read(bytes, End::Told)),

@@ -23,3 +23,4 @@ pub use laws::check_accepts_proofs;
 pub use lines::{Lines, Next};
 pub use session::{MOST_NAMES, Piece, Session};
 pub use top::{Status, run};
+pub use window::MAX_READ;

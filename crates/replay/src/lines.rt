@@ -5,7 +5,7 @@ ghost use Rattle.outside.specs.Faults.{CountsFaults, Rose};
 ghost use Rattle.replay.specs.Cuts.{EndsIn, HasFeed, HasLine, Leaves, Reads, GivesNext, FindsNext, FaultsOf, FoundFaults, IsGiven, IsFound, CountsWithin, weight, ahead, reads_left};
 
 use crate::session::Piece;
-use crate::window::{ROOM, Window};
+use crate::window::{MAX_READ, Window};
 use graph_model::{MAX_INPUT, MAX_LINE};
 use outside::{Failed, NoMemory, Source};
 use std::alloc::Global;
@@ -247,7 +247,7 @@ fn make_room(window: &mut Window, long: bool) -> bool
         window.clear();
         return true;
     }
-    if window.held().len() < ROOM {
+    if window.held().len() < MAX_READ {
         window.settle();
         return false;
     }
@@ -257,7 +257,8 @@ fn make_room(window: &mut Window, long: bool) -> bool
 
 /// Drops what came past the limit on the input, and tells how many bytes were taken within it, and the stage.
 fn count_within(window: &mut Window, before: usize, count: usize, taken: usize) -> (usize, Stage)
-    requires before { before ≤ ROOM }
+    requires before { before ≤ MAX_READ }
+    requires most { count ≤ MAX_READ }
     requires taken { taken ≤ max_input }
     requires held { before + count ≡ length window.old.held }
     ensures { (shown came : List ℕ) → window.old.held ≡ shown ++ came → length came ≡ count

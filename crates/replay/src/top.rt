@@ -31,7 +31,7 @@ pub enum Status {
     ReadFault = 3,
     /// A write failed; a front of the output was written.
     WriteFault = 4,
-    /// There was no memory; nothing was written.
+    /// There was no memory; nothing was written, and by `replay` nothing was read.
     NoMemory = 5,
     /// A byte past the limit of 268,435,456 came; the complete lines before it were answered.
     InputLimit = 6,
@@ -60,7 +60,9 @@ pub fn run<S: Source, K: Sink>(
         → Checks result (S.left source.old) (S.left source.new) K.written sink.old sink.new }
     ensures refuses { AreRefused (map string_bytes words.now) → (source.new ≡ source.old)
         × Refuses result K.written sink.old sink.new }
-    ensures no_memory { result ≡ Status.NoMemory → sink.new ≡ sink.old }
+    // Nothing was written then, and with `replay` nothing was read: it takes its memory before it reads.
+    ensures no_memory { result ≡ Status.NoMemory → (sink.new ≡ sink.old)
+        × (AreReplay (map string_bytes words.now) → source.new ≡ source.old) }
 
     // The cause of each status: the words, or a read or a write that failed. A fault always shows in the status.
     ensures words { SuitsWords result (map string_bytes words.now) }
@@ -90,7 +92,7 @@ enum Command {
 /// Reads lines of commands to the end, and answers them.
 fn replay_lines<S: Source, K: Sink>(alloc: Global, source: &mut S, sink: &mut K) -> Status
     ensures replays { Replays result (S.left source.old) (S.left source.new) K.written sink.old sink.new }
-    ensures no_memory { result ≡ Status.NoMemory → sink.new ≡ sink.old }
+    ensures no_memory { result ≡ Status.NoMemory → (sink.new ≡ sink.old) × (source.new ≡ source.old) }
     ensures faults { StatusFaults result (S.faults source.old) (S.faults source.new) (K.faults sink.old)
         (K.faults sink.new) }
     ensures within_limit { IfSome (S.left source.old) (λ bytes. length bytes ≤ max_input → result ≢ Status.InputLimit) }
@@ -125,7 +127,7 @@ fn replay_in<S: Source, K: Sink>(
     requires going { lines.old.stage ≡ Stage.Open }
     requires no_replies { replies.old ≡ [] }
     ensures replays { Replays result (S.left source.old) (S.left source.new) K.written sink.old sink.new }
-    ensures no_memory { result ≡ Status.NoMemory → sink.new ≡ sink.old }
+    ensures no_memory { result ≡ Status.NoMemory → (sink.new ≡ sink.old) × (source.new ≡ source.old) }
     ensures faults { StatusFaults result (S.faults source.old) (S.faults source.new) (K.faults sink.old)
         (K.faults sink.new) }
     ensures within_limit { IfSome (S.left source.old) (λ bytes. length bytes ≤ max_input → result ≢ Status.InputLimit) }

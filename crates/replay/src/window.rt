@@ -7,8 +7,8 @@ use outside::{Failed, NoMemory, Source};
 use std::alloc::Global;
 use std::marker::Model;
 
-/// How many bytes a window has room for: those of the longest line, and its line feed.
-pub(crate) const ROOM: usize = MAX_LINE + 1;
+/// The most bytes that one read brings, and that a window has room for: those of the longest line, and its line feed.
+pub const MAX_READ: usize = MAX_LINE + 1;
 
 /// Bytes that a source gave and that weren't given on yet, and the line that was cut off them last. They lie in one
 /// buffer, which is taken once.
@@ -25,13 +25,13 @@ pub(crate) struct Window {
 impl Model for Window {
     ghost use Rattle.std.specs.Prelude.{◌≡◌, ◌-◌, ◌≤◌, length, slice_range};
     ghost use Rattle.replay.specs.Windows.{Sight};
-    ghost use Rattle.replay.specs.declared.window.TheConstants.{ROOM};
+    ghost use Rattle.replay.specs.declared.window.TheConstants.{MAX_READ};
 
     ghost Value = { Sight };
 
-    ghost view = { λ a. record { line = slice_range a.buffer.items a.from a.to; held = slice_range a.buffer.items a.start a.end; room = ROOM - a.end } };
+    ghost view = { λ a. record { line = slice_range a.buffer.items a.from a.to; held = slice_range a.buffer.items a.start a.end; room = MAX_READ - a.end } };
 
-    ghost invariant = { λ a. (length a.buffer.items ≡ ROOM) × (a.from ≤ a.to) × (a.to ≤ ROOM) × (a.start ≤ a.end) × (a.end ≤ ROOM) };
+    ghost invariant = { λ a. (length a.buffer.items ≡ MAX_READ) × (a.from ≤ a.to) × (a.to ≤ MAX_READ) × (a.start ≤ a.end) × (a.end ≤ MAX_READ) };
 }
 
 impl Window {
@@ -40,7 +40,7 @@ impl Window {
         ensures { IfOk result (λ window. window.held ≡ []) }
     {
         Ok(Window {
-            buffer: vec![in alloc; 0; ROOM]?,
+            buffer: vec![in alloc; 0; MAX_READ]?,
             from: 0,
             to: 0,
             start: 0,
@@ -51,7 +51,7 @@ impl Window {
     /// The bytes that are held.
     pub(crate) fn held(&self) -> &[u8]
         ensures value { result.now ≡ self.now.held }
-        ensures fits { length result.now ≤ ROOM }
+        ensures fits { length result.now ≤ MAX_READ }
     {
         &self.buffer[self.start..self.end]
     }
@@ -68,7 +68,7 @@ impl Window {
         requires { count < length self.old.held }
         ensures line { self.new.line ≡ take count self.old.held }
         ensures held { self.new.held ≡ drop (count + 1) self.old.held }
-        ensures fits { length self.old.held ≤ ROOM }
+        ensures fits { length self.old.held ≤ MAX_READ }
     {
         self.from = self.start;
         self.to = self.start + count;
@@ -96,7 +96,7 @@ impl Window {
     /// Drops all bytes.
     pub(crate) fn clear(&mut self)
         ensures held { self.new.held ≡ [] }
-        ensures room { self.new.room ≡ ROOM }
+        ensures room { self.new.room ≡ MAX_READ }
     {
         self.start = 0;
         self.end = 0;
@@ -105,7 +105,7 @@ impl Window {
     /// Moves the bytes to the front of the buffer, so that all room lies behind them.
     pub(crate) fn settle(&mut self)
         ensures held { self.new.held ≡ self.old.held }
-        ensures room { self.new.room + length self.new.held ≡ ROOM }
+        ensures room { self.new.room + length self.new.held ≡ MAX_READ }
     {
         let (start, end) = (self.start, self.end);
         if start > 0 {
@@ -122,6 +122,7 @@ impl Window {
         ensures ok { IfOk result (λ count. (more : List ℕ) × (length more ≡ count)
             × (self.new.held ≡ self.old.held ++ more) × Consumes (S.left source.old) (S.left source.new) more) }
         ensures end { IfOk result (λ count. count ≡ 0 → IsAtEnd (S.left source.new)) }
+        ensures most { IfOk result (λ count. count ≤ MAX_READ) }
         ensures err { OnErr result ((self.new.held ≡ self.old.held) × Keeps (S.left source.old) (S.left source.new)) }
         ensures cause { CountsFaults (S.faults source.old) (S.faults source.new) result }
     {

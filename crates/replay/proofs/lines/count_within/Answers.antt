@@ -12,5 +12,5 @@ returns-then-count-left c shown came held long =
       sym (take-append-drop left came),
       c.keep.ensures ∙ ap (take (c.args.before + left)) held ∙ ap (λ n. take (n + left) (shown ++ came)) sum ∙ split_past shown came left within,
       omega (arith, length-take-le left came within, c.requires.taken),
-      (refl, omega (arith, length-drop left came)),
+      (refl, omega (arith, length-drop left came), omega (arith, length-drop left came, long, c.requires.most)),
     )

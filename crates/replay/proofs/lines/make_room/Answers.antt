@@ -8,4 +8,4 @@ returns-then-long-clause-kept c rest ends =
 
 pub returns-clause-kept : goal.returns-clause-kept
 returns-clause-kept c rest ends = dropped c.args.long c.args.window.now.held c.clear-2.new.self.held rest c.clear-2.ensures.held c.requires
-    (inr (omega (arith, ap length c.held.ensures.value, c.if-held-lt-ROOM.false))) ends
+    (inr (omega (arith, ap length c.held.ensures.value, c.if-held-lt-MAX_READ.false))) ends
