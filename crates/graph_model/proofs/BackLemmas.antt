@@ -1,8 +1,6 @@
 -- Names that come into a graph with pairs of their own, and names that come back into the graph that they were dropped from.
-use Rattle.std.proofs.Common.{◌≡◌, ◌≢◌, ℕ, suc, zero, List, sym, refl, subst, inl, inr, ◌⊎◌, ◌↔◌}
+use Rattle.std.proofs.Common.{◌≢◌, ℕ, suc, zero, List, subst, inl, inr, ◌↔◌}
 use Rattle.std.specs.Prelude.{Contains}
-use Rattle.std.proofs.lemmas.Bool.{cases_eq}
-use Rattle.lists.specs.Distinct.{AreDistinct}
 use Rattle.lists.proofs.Told.{told_number}
 use Rattle.graphs.specs.Graphs.{Graph, Walk, IsAncestor, HasNoCycle, IsGraph}
 use Rattle.graphs.specs.Drops.{HasParents, DropsNames}
@@ -32,7 +30,8 @@ proper_after pairs a b c n first walk =
     let most : IsAncestor pairs a walk.0 = IsAncestor-trans pairs a b walk.0 first (n, walk.1) in (most.0, (walk.0, most.1, walk.2))
 
 -- pairs that lead to other descendants make no cycle
-pub no_cycle_along : (pairs others : List (ℕ × ℕ)) → HasNoCycle others → ((a b : ℕ) → Contains pairs (a, b) → IsAncestor others a b × (a ≢ b)) → HasNoCycle pairs
+pub no_cycle_along : (pairs others : List (ℕ × ℕ)) → HasNoCycle others → ((a b : ℕ) → Contains pairs (a, b) → IsAncestor others a b × (a ≢ b))
+    → HasNoCycle pairs
 no_cycle_along pairs others none each a n walk =
     let before : IsAncestor others a walk.0 = ancestors_along pairs others (λ x y here. (each x y here).0) a walk.0 n walk.1 in
     let last = each walk.0 a walk.2 in

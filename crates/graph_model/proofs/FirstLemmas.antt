@@ -1,6 +1,7 @@
 -- The first entry of a list with a property.
-use Rattle.std.proofs.Common.{◌≡◌, ℕ, List, [], ◌∷◌, ◌++◌, sym, refl, ap, subst, ◌∙◌, inl, inr, ◌⊎◌}
+use Rattle.std.proofs.Common.{◌≡◌, ℕ, List, [], ◌∷◌, ◌++◌, sym, refl, ap, subst}
 use Rattle.std.specs.Prelude.{Contains}
+use Rattle.std.proofs.lemmas.List.Elements.{Contains-append_right}
 use Rattle.lists.proofs.Entries.{first_of, rest_of, Contains-head, Contains-later, Contains-splits}
 use Rattle.lists.specs.Distinct.{AreDistinct}
 use Rattle.graph_model.specs.Refusals.{IsFirst}
@@ -15,6 +16,10 @@ first_along P Q ids id to from first = record {
   has = to first.before id first.has;
   earlier = λ front rest other at holds. first.earlier front rest other at (from front other holds);
 }
+
+pub first_in : (P : List ℕ → ℕ → Type 0) (ids : List ℕ) (id : ℕ) → IsFirst P ids id → Contains ids id
+first_in P ids id first =
+    subst (λ ns. Contains ns id) (sym first.cut) (Contains-append_right first.before (id ∷ first.after) id (Contains-head id first.after))
 
 -- where a list has no first entry with a property, no entry has it
 pub none_first : (P : List ℕ → ℕ → Type 0) (ids : List ℕ) → ((n : ℕ) → IsFirst P ids n → ⊥) → (before after : List ℕ) (n : ℕ)

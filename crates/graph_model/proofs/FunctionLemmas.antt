@@ -1,38 +1,31 @@
 -- The plain part of a step is a function of the state, up to the order in which names and pairs are listed.
-use Rattle.std.proofs.Common.{◌≡◌, ◌≢◌, ℕ, ℤ, cond, List, [], ◌∷◌, ◌++◌, length, Option, None, Some, sym, refl, ap, ap₂, subst, ◌∙◌, inl, inr, ◌⊎◌, arith, nat_eq}
-use Rattle.std.specs.Prelude.{Contains}
+use Rattle.std.proofs.Common.{◌≡◌, ◌≢◌, ℕ, ℤ, List, [], ◌∷◌, length, Option, None, sym, refl, ap, ap₂, subst, ◌∙◌, inl, inr, ◌⊎◌, arith}
 use Rattle.std.specs.FinMap as finmap
-use Rattle.std.proofs.lemmas.List.Elements.{Contains-append_left, Contains-push, Contains-push_cases}
 use Rattle.graphs.specs.declared.names.Level.{Level}
 use Rattle.graphs.specs.declared.names.Level.TheVariants.{Main, Top}
 use Rattle.graphs.specs.declared.names.Verdict.{Verdict}
 use Rattle.graphs.specs.declared.names.Verdict.TheVariants.{Better}
-use Rattle.graphs.specs.Graphs.{Graph, IsAncestor, AreConnected, IsGraph, Lists}
-use Rattle.graphs.specs.Removals.{IsWithout}
-use Rattle.graphs.specs.Drops.{DropsNames}
+use Rattle.graphs.specs.Graphs.{IsAncestor, AreConnected, IsGraph, Lists}
 use Rattle.graphs.specs.Certificates.{Part}
 use Rattle.graphs.specs.Alikes.{AreAlike}
 use Rattle.graphs.specs.Diagrams.{AreCorners, Compares}
 use Rattle.graphs.proofs.ListLemmas.{Lists-same, Lists-for}
-use Rattle.graphs.proofs.WalkLemmas.{walk_within}
 use Rattle.graphs.proofs.AlikeLemmas.{corners_to}
 use Rattle.graphs.proofs.CornerLemmas.{corners_unique, one_verdict}
-use Rattle.graph_model.specs.States.{PlainState, MinedBlock, Picks, Table, Entry, level_of, top_of, with_top, rate_of, sum_in, size_in}
+use Rattle.graph_model.specs.States.{PlainState, Picks, Entry, level_of, with_top, rate_of, sum_in, size_in}
 use Rattle.graph_model.specs.Commands.{Command, SetLimits, Add, Dep, SetFee, Remove, Mine, Evict, Stage, Commit, Abort, Settle, Trim, Unmine, Dump, Compare, Order, Diagram, Proof, Cluster, Ancestors, Descendants, Chunk, Before, Block, Count}
 use Rattle.graphs.specs.Rates.{sums}
 use Rattle.graph_model.specs.Replies.{Reply, Ids, Number, Points, Compared, Settled, Trimmed, Unmined, Dumped}
 use Rattle.graph_model.specs.Limits.{Bounds}
 use Rattle.graph_model.specs.Trims.{IsTrimmed}
 use Rattle.graph_model.specs.Dumps.{DumpText, IsDump}
-use Rattle.graph_model.specs.Changes.{begun, IsKept, Forgets, AddsPair, Removes, DropsFromMain, DropsFromTop, Commits, Aborts, IsLast}
+use Rattle.graph_model.specs.Changes.{begun, AddsPair, Removes, DropsFromMain, DropsFromTop, Commits, Aborts, IsLast}
 use Rattle.graph_model.specs.Verdicts.{VerdictIs}
 use Rattle.graph_model.specs.Steps.{AcceptsPlainly}
 use Rattle.graph_model.specs.Validity.{IsValid, ArePicks}
-use Rattle.graph_model.specs.SameLaws.{IsSameGraph, IsSameStaging, AreSameBlocks, IsSameState, ReadsNoPick, StepsAreFunctions}
+use Rattle.graph_model.specs.SameLaws.{IsSameState, ReadsNoPick, StepsAreFunctions}
 use Rattle.lists.proofs.Distinct.{distinct_within}
-use Rattle.graph_model.proofs.LevelLemmas.{one_pair, connects}
-use Rattle.graph_model.proofs.ValidLemmas.{told_kept, get-put, top_level}
-use Rattle.graph_model.proofs.ChangeLemmas.{of_top}
+use Rattle.graph_model.proofs.ValidLemmas.{top_level}
 use Rattle.graph_model.proofs.TrimLemmas.{trimmed_once}
 use Rattle.graph_model.proofs.OverLemmas.{latest_same}
 use Rattle.graph_model.proofs.SameMinedLemmas.{same_dropped, same_mined, same_unmined}
@@ -84,7 +77,15 @@ module _ (a b : PlainState) (valid_a : IsValid a) (valid_b : IsValid b) (same : 
   module _ (pa pb : Picks) (a' b' : PlainState) (ra rb : Reply) where
     committed : Commits a a' → Commits b b' → IsSameState a' b'
     committed = same_left (record (begun a) { main = level_of a Top; staging = None }) (record (begun b) { main = level_of b Top; staging = None }) a' b'
-        (record { limits = same.limits; most = same.most; begun = refl; table = same.table; main = level_same a b Top same; staging = tt; blocks = same.blocks })
+        (record {
+          limits = same.limits;
+          most = same.most;
+          begun = refl;
+          table = same.table;
+          main = level_same a b Top same;
+          staging = tt;
+          blocks = same.blocks;
+        })
 
     aborted : Aborts a a' → Aborts b b' → IsSameState a' b'
     aborted = same_left (record (begun a) { staging = None }) (record (begun b) { staging = None }) a' b'

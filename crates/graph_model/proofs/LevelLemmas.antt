@@ -17,7 +17,7 @@ use Rattle.graphs.specs.Closing.{with_pair}
 use Rattle.graphs.proofs.PairLemmas.{connected_across}
 use Rattle.graph_model.specs.States.{PlainState, size_of}
 use Rattle.graph_model.specs.Refusals.{JoinsTo}
-use Rattle.graph_model.specs.Limits.{Bounds, AreOver}
+use Rattle.graph_model.specs.Limits.{Bounds}
 use Rattle.graph_model.specs.Oversize.{AreOfOneComponent, HasOver}
 use Rattle.graph_model.specs.Validity.{IsLevel}
 

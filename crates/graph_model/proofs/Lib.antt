@@ -24,4 +24,5 @@ pub mod ReadingLemmas
 pub mod DumpLemmas
 pub mod PickReplies
 pub mod FunctionLemmas
+pub mod UnmineLemmas
 pub mod SoundLemmas

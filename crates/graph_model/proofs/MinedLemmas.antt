@@ -1,7 +1,6 @@
 -- Valid states stay valid when a block is mined, and when it is taken back.
-use Rattle.std.proofs.Common.{◌≡◌, ◌≢◌, ℕ, ℤ, suc, zero, ◌+◌, ◌^◌, ◌<◌, ◌≤◌, Bool, true, false, List, [], ◌∷◌, ◌++◌, map, length, Option, None, Some, is_some, sym, refl, ap, subst, ◌∙◌, inl, inr, ◌⊎◌, ◌↔◌, arith, true≢false, not, ◌&&◌, nat_eq, ne_eqb}
-use Rattle.std.specs.Prelude.{Contains, take, sum_by, All}
-use Rattle.std.specs.Ordering.{nat_cmp}
+use Rattle.std.proofs.Common.{◌≡◌, ◌≢◌, ℕ, ℤ, suc, zero, ◌+◌, ◌^◌, ◌<◌, ◌≤◌, true, false, List, [], ◌∷◌, map, length, Option, None, Some, is_some, sym, refl, ap, subst, ◌∙◌, inl, inr, ◌⊎◌, arith, true≢false, not, ◌&&◌, nat_eq, ne_eqb}
+use Rattle.std.specs.Prelude.{Contains, take, sum_by}
 use Rattle.std.specs.FinMap as finmap
 use Rattle.std.proofs.lemmas.Bool.{cases_Bool, cases_lt, and_parts}
 use Rattle.lists.specs.Distinct.{AreDistinct}
@@ -9,12 +8,11 @@ use Rattle.lists.proofs.Cases.{some_none, differs}
 use Rattle.lists.proofs.Distinct.{distinct_within}
 use Rattle.lists.proofs.Keys.{len-within, len-drop, contains-drop}
 use Rattle.lists.proofs.Told.{told_number}
-use Rattle.lists.proofs.Entries.{Contains-head, Contains-later, Contains-cases, Contains-splits, none_in_empty, map-Contains, not_empty}
+use Rattle.lists.proofs.Entries.{Contains-head, Contains-later, Contains-cases, none_in_empty, map-Contains}
 use Rattle.arithmetic.proofs.Sums.{sum_by_along}
 use Rattle.fee_rate.specs.Limits.{IsFee, IsSize}
 use Rattle.graphs.specs.declared.names.Level.TheVariants.{Main, Top}
-use Rattle.graphs.specs.Graphs.{Graph, Trail, AreConnected, IsGraph, Lists}
-use Rattle.graphs.specs.Certificates.{Txs}
+use Rattle.graphs.specs.Graphs.{Graph, Trail, AreConnected, IsGraph}
 use Rattle.graphs.specs.Drops.{HasParents}
 use Rattle.graphs.proofs.WalkLemmas.{walk_of_pair, AreConnected-sym, AreConnected-trans}
 use Rattle.graphs.proofs.DropLemmas as drops
@@ -23,10 +21,10 @@ use Rattle.graph_model.specs.declared.names.Refusal.{Refusal}
 use Rattle.graph_model.specs.declared.names.Refusal.TheVariants.{Count, ClusterSize}
 use Rattle.graph_model.specs.Limits.{Bounds, AreOver}
 use Rattle.graph_model.specs.Oversize.{AreOfOneComponent, HasOver}
-use Rattle.graph_model.specs.States.{PlainState, MinedBlock, Table, Entry, level_of, top_of, IsLive, IsStaged, rate_of, sum_in, size_in, size_of}
+use Rattle.graph_model.specs.States.{PlainState, MinedBlock, Table, Entry, level_of, top_of, IsLive, sum_in, size_in, size_of}
 use Rattle.graph_model.specs.Commands.{HasTypes, Mine, Unmine}
-use Rattle.graph_model.specs.Changes.{begun, IsKept, Forgets, DropsFromMain, IsMinedBlock, Mines, ids_of, PutsNames, Restores, Unmines}
-use Rattle.graph_model.specs.Refusals.{RefusalIs, IsFirst, StandsTwice, LacksAncestor, IsAbsent, ToldOver, IsInOver, BringsOver, latest_ids}
+use Rattle.graph_model.specs.Changes.{begun, IsKept, DropsFromMain, IsMinedBlock, Mines, ids_of, Restores, Unmines}
+use Rattle.graph_model.specs.Refusals.{RefusalIs, StandsTwice, LacksAncestor, IsAbsent, ToldOver, IsInOver, BringsOver, latest_ids}
 use Rattle.graph_model.specs.Validity.{IsLevel, IsStaging, IsKeptBlock, IsValid}
 use Rattle.graph_model.proofs.LevelLemmas.{one_pair, connects, connected_told, some_list, level_within, same_level}
 use Rattle.graph_model.proofs.ValidLemmas.{row_on, row_at_on, forgets_valid}
@@ -135,7 +133,8 @@ kept_block old ids block some valid can is =
       some = λ none. some (sym same ∙ ap ids_of none);
       once = subst AreDistinct (sym same) can.once;
       names = λ id here. valid.main.names id (can.inside id (subst (λ ns. Contains ns id) same here));
-      rates = λ id fee size here. rated id fee size (map-Contains (tx_of old.table) ids (id, fee, size) (subst (λ txs. Contains txs (id, fee, size)) is.txs here));
+      rates = λ id fee size here. rated id fee size
+          (map-Contains (tx_of old.table) ids (id, fee, size) (subst (λ txs. Contains txs (id, fee, size)) is.txs here));
       parents = λ a b pair. subst (λ ns. Contains ns a) (sym same) ((is.pairs a b).0 pair).0;
       acyclic = no_cycle_along block.pairs old.main.pairs valid.main.whole.acyclic (λ a b pair. let kept = (is.pairs a b).0 pair in (kept.1, kept.2));
     }
@@ -205,7 +204,7 @@ can_unmine old row =
     not_less a b none = elim (cases_lt a b) [ inl less ↦ absurd (none less) | inr past ↦ past ]
 
 -- a name that is connected with a name of a graph is one
-joined_name : (graph : Graph) → IsGraph graph → (a b n : ℕ) → Trail graph.pairs a b n → Contains graph.names a → Contains graph.names b
+pub joined_name : (graph : Graph) → IsGraph graph → (a b n : ℕ) → Trail graph.pairs a b n → Contains graph.names a → Contains graph.names b
 joined_name graph whole a b zero same here = subst (Contains graph.names) same here
 joined_name graph whole a b (suc n) trail here = elim trail.2 [ inl down ↦ (whole.ends trail.0 b down).1 | inr up ↦ (whole.ends b trail.0 up).0 ]
 
@@ -312,7 +311,8 @@ module _ (old new : PlainState) (valid : IsValid old) (can : CanUnmine old) (blo
   top_is_main : level_of next Top ≡ new.main
   top_is_main = ap (top_of new.main) can.alone
 
-  entry_of : (id : ℕ) → Contains ids id → (fee : ℤ) × (size : ℕ) × (finmap.get new.table id ≡ Some (record { fee = fee; size = size })) × IsFee fee × IsSize size
+  entry_of : (id : ℕ) → Contains ids id → (fee : ℤ) × (size : ℕ) × (finmap.get new.table id ≡ Some (record { fee = fee; size = size }))
+      × IsFee fee × IsSize size
   entry_of id here =
       let tx = listed_tx block.txs id here in
       let rates = kept.rates id tx.0 tx.1 tx.2 in (tx.0, tx.1, back.listed id tx.0 tx.1 tx.2, rates.0, rates.1)

@@ -1,6 +1,5 @@
 -- Rows of refusals: a row has one answer, none has `memory`, and equivalent causes give the same row.
-use Rattle.std.proofs.Common.{◌≡◌, ℕ, List, [], ◌∷◌, ◌++◌, Option, Some, subst, sym, refl, ap, ◌∙◌, inl, inr, ◌⊎◌, ◌↔◌, length}
-use Rattle.std.specs.Prelude.{sum_by}
+use Rattle.std.proofs.Common.{◌≡◌, ℕ, List, [], ◌∷◌, ◌++◌, Option, Some, subst, sym, refl, ap, ◌∙◌, inl, inr, ◌⊎◌, ◌↔◌}
 use Rattle.lists.proofs.Entries.{first_of, rest_of}
 use Rattle.graphs.specs.Graphs.{AreConnected}
 use Rattle.graphs.proofs.ListLemmas.{Lists-same}
@@ -9,7 +8,7 @@ use Rattle.graph_model.specs.declared.names.Refusal.TheVariants.{Late, Range, Fe
 use Rattle.graph_model.specs.States.{PlainState}
 use Rattle.graph_model.specs.Commands.{Command, SetLimits, Add, Dep, SetFee, Remove, Mine, Evict, Stage, Commit, Abort, Settle, Trim, Unmine, Dump, Compare, Order, Diagram, Proof, Cluster, Ancestors, Descendants, Chunk, Before, Block}
 use Rattle.graph_model.specs.Commands as commands
-use Rattle.graph_model.specs.Refusals.{First, FirstAt, FirstOf, NoRefusal, AddRow, DepRow, NameRow, CompareRow, IsFirst, JoinsTo, OverCount, OverSize, BringsOver, RefusalIs}
+use Rattle.graph_model.specs.Refusals.{First, FirstAt, FirstOf, NoRefusal, AddRow, DepRow, IsFirst, JoinsTo, RefusalIs}
 
 -- ---- equivalent causes
 

@@ -1,32 +1,19 @@
 -- States that are the same up to the order in which names and pairs are listed, and what is made of them.
-use Rattle.std.proofs.Common.{◌≡◌, ◌≢◌, ℕ, ℤ, cond, List, [], ◌∷◌, ◌++◌, length, Option, None, Some, sym, refl, ap, ap₂, subst, ◌∙◌, inl, inr, ◌⊎◌, arith, nat_eq}
+use Rattle.std.proofs.Common.{◌≡◌, ℕ, cond, List, [], ◌∷◌, ◌++◌, Option, None, Some, sym, refl, ap₂, subst, ◌∙◌, inl, inr, nat_eq}
 use Rattle.std.specs.Prelude.{Contains}
 use Rattle.std.specs.FinMap as finmap
 use Rattle.std.proofs.lemmas.List.Elements.{Contains-append_left, Contains-push, Contains-push_cases}
 use Rattle.graphs.specs.declared.names.Level.{Level}
 use Rattle.graphs.specs.declared.names.Level.TheVariants.{Main, Top}
-use Rattle.graphs.specs.declared.names.Verdict.{Verdict}
-use Rattle.graphs.specs.declared.names.Verdict.TheVariants.{Better}
-use Rattle.graphs.specs.Graphs.{Graph, IsAncestor, AreConnected, IsGraph, Lists}
+use Rattle.graphs.specs.Graphs.{Graph, IsAncestor, AreConnected}
 use Rattle.graphs.specs.Removals.{IsWithout}
 use Rattle.graphs.specs.Drops.{DropsNames}
-use Rattle.graphs.specs.Alikes.{AreAlike}
-use Rattle.graphs.specs.Diagrams.{AreCorners, Compares}
-use Rattle.graphs.proofs.ListLemmas.{Lists-same, Lists-for}
 use Rattle.graphs.proofs.WalkLemmas.{walk_within}
-use Rattle.graphs.proofs.AlikeLemmas.{corners_to}
-use Rattle.graphs.proofs.CornerLemmas.{corners_unique, one_verdict}
-use Rattle.graph_model.specs.States.{PlainState, MinedBlock, Picks, Table, Entry, level_of, top_of, with_top, rate_of, sum_in, size_in}
-use Rattle.graph_model.specs.Commands.{Command, SetLimits, Add, Dep, SetFee, Remove, Mine, Evict, Stage, Commit, Abort, Settle, Trim, Unmine, Dump, Compare, Order, Diagram, Proof, Cluster, Ancestors, Descendants, Chunk, Before, Block, Count}
-use Rattle.graph_model.specs.Replies.{Reply, Ids, Number, Points, Compared, Settled}
-use Rattle.graph_model.specs.Changes.{begun, IsKept, Forgets, AddsPair, Removes, DropsFromMain, Commits, Aborts}
-use Rattle.graph_model.specs.Verdicts.{VerdictIs}
-use Rattle.graph_model.specs.Steps.{AcceptsPlainly}
-use Rattle.graph_model.specs.Validity.{IsValid}
-use Rattle.graph_model.specs.SameLaws.{IsSameGraph, IsSameStaging, AreSameBlocks, IsSameState, ReadsNoPick, StepsAreFunctions}
-use Rattle.lists.proofs.Distinct.{distinct_within}
+use Rattle.graph_model.specs.States.{PlainState, MinedBlock, Table, Entry, level_of, top_of, with_top}
+use Rattle.graph_model.specs.Changes.{begun, IsKept, Forgets}
+use Rattle.graph_model.specs.SameLaws.{IsSameGraph, IsSameStaging, AreSameBlocks, IsSameState}
 use Rattle.graph_model.proofs.LevelLemmas.{one_pair, connects}
-use Rattle.graph_model.proofs.ValidLemmas.{told_kept, get-put, top_level}
+use Rattle.graph_model.proofs.ValidLemmas.{told_kept, get-put}
 use Rattle.graph_model.proofs.ChangeLemmas.{of_top}
 
 -- ---- graphs
@@ -82,14 +69,31 @@ state_back a b same = record {
 pub same_top : (a b : PlainState) (x y : Graph) → IsSameState a b → IsSameGraph x y → IsSameState (with_top a x) (with_top b y)
 same_top a b x y same graphs = of_top a x (λ p. IsSameState p (with_top b y))
     (λ alone. of_top b y (IsSameState (record a { main = x }))
-    (λ other. record { limits = same.limits; most = same.most; begun = same.begun; table = same.table; main = graphs; staging = same.staging; blocks = same.blocks })
+    (λ other. record {
+      limits = same.limits;
+      most = same.most;
+      begun = same.begun;
+      table = same.table;
+      main = graphs;
+      staging = same.staging;
+      blocks = same.blocks;
+    })
     (λ g is. absurd (subst (IsSameStaging None) is (subst (λ s. IsSameStaging s b.staging) alone same.staging))))
     (λ g is. of_top b y (IsSameState (record a { staging = Some x }))
     (λ other. absurd (subst (IsSameStaging (Some g)) other (subst (λ s. IsSameStaging s b.staging) is same.staging)))
-    (λ h other. record { limits = same.limits; most = same.most; begun = same.begun; table = same.table; main = same.main; staging = graphs; blocks = same.blocks }))
+    (λ h other. record {
+      limits = same.limits;
+      most = same.most;
+      begun = same.begun;
+      table = same.table;
+      main = same.main;
+      staging = graphs;
+      blocks = same.blocks;
+    }))
 
 pub same_begun : (a b : PlainState) → IsSameState a b → IsSameState (begun a) (begun b)
-same_begun a b same = record { limits = same.limits; most = same.most; begun = refl; table = same.table; main = same.main; staging = same.staging; blocks = same.blocks }
+same_begun a b same =
+    record { limits = same.limits; most = same.most; begun = refl; table = same.table; main = same.main; staging = same.staging; blocks = same.blocks }
 
 -- tables that forget the names that are in no level
 pub same_left : (a b a' b' : PlainState) → IsSameState a b → Forgets a a' → Forgets b b' → IsSameState a' b'

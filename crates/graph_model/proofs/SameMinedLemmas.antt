@@ -1,5 +1,5 @@
 -- What mining and taking a block back make of states that are the same but for the order of names and pairs.
-use Rattle.std.proofs.Common.{◌≡◌, ℕ, ℤ, suc, zero, List, [], ◌∷◌, map, sym, refl, ap, subst, ◌∙◌, inl, inr, ◌⊎◌}
+use Rattle.std.proofs.Common.{◌≡◌, ℕ, ℤ, suc, zero, List, [], ◌∷◌, sym, refl, subst, ◌∙◌, inl, inr}
 use Rattle.std.specs.Prelude.{Contains, take}
 use Rattle.std.specs.FinMap as finmap
 use Rattle.lists.proofs.Told.{told_number}
@@ -40,7 +40,8 @@ tx_of table id = (id, (rate_of table id).fee, (rate_of table id).size)
 
 mined_same : (a b : PlainState) (ids : List ℕ) (x y : MinedBlock) → IsSameState a b → IsMinedBlock a ids x → IsMinedBlock b ids y → IsSameBlock x y
 mined_same a b ids x y same one two = record {
-  txs = one.txs ∙ map_along (tx_of a.table) (tx_of b.table) ids (λ id here i. (id, (sum_in (same.table id i)).fee, (sum_in (same.table id i)).size)) ∙ sym two.txs;
+  txs = one.txs
+      ∙ map_along (tx_of a.table) (tx_of b.table) ids (λ id here i. (id, (sum_in (same.table id i)).fee, (sum_in (same.table id i)).size)) ∙ sym two.txs;
   pairs = λ m d. (
     λ here. let is = (one.pairs m d).0 here in (two.pairs m d).1 (is.0, up_to a.main b.main same.main m d is.1, is.2),
     λ here. let is = (two.pairs m d).0 here in (one.pairs m d).1

@@ -1,5 +1,5 @@
 -- What holds all along a run: states are valid, and what is told of an order is told of an optimal one.
-use Rattle.std.proofs.Common.{◌≡◌, ℕ, ◌≤◌, true, List, [], ◌∷◌, map, Option, None, Some, is_some, sym, refl, subst, inl, inr, true≢false}
+use Rattle.std.proofs.Common.{◌≡◌, ℕ, ◌≤◌, true, List, [], ◌∷◌, Option, None, Some, is_some, sym, refl, subst, inl, inr, true≢false}
 use Rattle.std.specs.Prelude.{Contains}
 use Rattle.std.specs.FinMap as finmap
 use Rattle.fee_rate.specs.Limits.{IsFee, IsSize}
@@ -8,10 +8,8 @@ use Rattle.graphs.specs.declared.names.Level.TheVariants.{Main, Top}
 use Rattle.graphs.specs.Certificates.{Part}
 use Rattle.graphs.specs.Rates.{HasSizes}
 use Rattle.graphs.proofs.PickLemmas.{picks_are_kept}
-use Rattle.graph_model.specs.declared.limits.TheConstants.{MAX_COUNT}
 use Rattle.graph_model.specs.declared.names.Refusal.{Refusal}
-use Rattle.graph_model.specs.Limits.{default_limits}
-use Rattle.graph_model.specs.States.{PlainState, State, Entry, start, level_of, pick_of, sum_in, rate_of, IsLive}
+use Rattle.graph_model.specs.States.{PlainState, State, Entry, start, level_of, pick_of, sum_in, rate_of}
 use Rattle.graph_model.specs.Commands.{Command, SetLimits, Add, Dep, SetFee, Remove, Mine, Evict, Stage, Commit, Abort, Settle, Trim, Unmine, Dump, Compare, Order, Diagram, Proof, Cluster, Ancestors, Descendants, Chunk, Before, Block, Count}
 use Rattle.graph_model.specs.Changes.{IsKept}
 use Rattle.graph_model.specs.Replies.{Reply, Refused}

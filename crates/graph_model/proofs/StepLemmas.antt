@@ -1,18 +1,16 @@
 -- Steps keep valid states: the other changes, and the picks.
-use Rattle.std.proofs.Common.{◌≡◌, ℕ, ℤ, ◌+◌, ◌<◌, ◌^◌, ◌≤◌, true, cond, List, [], ◌∷◌, length, Option, None, Some, is_some, sym, refl, ap, subst, ◌∙◌, inl, inr, arith, true≢false}
-use Rattle.std.specs.Prelude.{Contains, sum_by}
+use Rattle.std.proofs.Common.{◌≡◌, ℕ, ℤ, ◌+◌, ◌<◌, ◌^◌, ◌≤◌, true, cond, List, [], ◌∷◌, Option, None, Some, is_some, sym, refl, ap, subst, ◌∙◌, inl, inr, arith, true≢false}
+use Rattle.std.specs.Prelude.{Contains}
 use Rattle.std.specs.Ordering.{nat_cmp}
 use Rattle.std.specs.Cmp.{nat_cmp_total}
 use Rattle.std.specs.FinMap as finmap
 use Rattle.std.proofs.lemmas.Bool.{cases_eq}
 use Rattle.lists.proofs.Cases.{some_none}
 use Rattle.lists.proofs.Entries.{Contains-head, none_in_empty}
-use Rattle.fee_rate.specs.declared.rates.Sum.{Sum}
 use Rattle.fee_rate.specs.Limits.{IsFee, IsSize}
 use Rattle.graphs.specs.declared.names.Level.TheVariants.{Top}
 use Rattle.graphs.specs.Graphs.{Graph, IsGraph}
 use Rattle.graphs.specs.Certificates.{Part}
-use Rattle.graphs.specs.Picks.{IsPick}
 use Rattle.graphs.proofs.RemovalLemmas.{graph_left}
 use Rattle.graphs.proofs.DropLemmas as drops
 use Rattle.graphs.proofs.PickLemmas.{picks_are_kept}
@@ -21,7 +19,7 @@ use Rattle.graph_model.specs.States.{PlainState, Picks, State, Table, Entry, pla
 use Rattle.graph_model.specs.Commands.{Command, HasTypes, SetLimits, Add, Dep, SetFee, Remove, Mine, Evict, Stage, Commit, Abort, Settle, Trim, Unmine, Dump, Compare, Order, Diagram, Proof, Cluster, Ancestors, Descendants, Chunk, Before, Block, Count}
 use Rattle.graph_model.specs.Refusals.{RefusalIs}
 use Rattle.graph_model.specs.Replies.{Reply}
-use Rattle.graph_model.specs.Changes.{begun, with_fee, staged, Forgets, Removes, DropsFromMain, DropsFromTop, Commits, Aborts, Changes}
+use Rattle.graph_model.specs.Changes.{begun, with_fee, staged, Forgets, Removes, DropsFromTop, Commits, Aborts, Changes}
 use Rattle.graph_model.specs.Steps.{Step, PicksFollow, CommitsPick}
 use Rattle.graph_model.specs.declared.limits.TheConstants.{MAX_COUNT}
 use Rattle.graph_model.specs.Oversize.{AreOfOneComponent, HasOver}
@@ -30,7 +28,7 @@ use Rattle.graph_model.specs.Laws.{StepsKeepValid}
 use Rattle.graph_model.proofs.LevelLemmas.{same_level, level_within, over_along, AreWithin, none_over, connects, one_pair, two_pairs}
 use Rattle.graph_model.proofs.ValidLemmas.{row_on, get-put_same, get-put_other, top_level, staging_along, forgets_valid, valid_limited}
 use Rattle.graph_model.proofs.ChangeLemmas.{of_top, top_main, top_is, fee_stable, valid_begun, valid_added, valid_paired}
-use Rattle.graph_model.proofs.MinedLemmas.{valid_mined, valid_unmined}
+use Rattle.graph_model.proofs.MinedLemmas.{not_staged, valid_dropped, valid_mined, valid_unmined}
 
 -- ---- `fee`
 
@@ -115,22 +113,6 @@ valid_removed old new id valid (graph, without, forgets) =
     valid.blocks valid.block_count)
     forgets
 
--- ---- `mine` and `evict`
-
-valid_dropped : (old new : PlainState) (ids : List ℕ) → IsValid old → old.staging ≡ None → DropsFromMain old ids new → IsValid new
-valid_dropped old new ids valid alone (graph, without, forgets) =
-    let level : IsLevel old graph =
-    level_within old old old.main graph refl (drops.graph_left old.main graph ids without valid.main.whole) (λ q here. ((without.names q).0 here).0)
-    (connects graph.pairs old.main.pairs (λ a b pair. one_pair old.main.pairs a b ((without.pairs a b).0 pair).2)) (λ q here. refl) valid.main in
-    forgets_valid old (record (begun old) { main = graph }) new valid refl refl refl refl
-    (same_level old (record (begun old) { main = graph }) graph refl (λ q here. refl) level)
-    (subst (IsStaging (record (begun old) { main = graph })) (sym alone) tt)
-    (λ q kept. inl (elim kept [
-      | inl here ↦ ((without.names q).0 here).0
-      | inr here ↦ ((without.names q).0 (subst (λ (g : Graph). Contains g.names q) (ap (top_of graph) alone) here)).0
-    ]))
-    valid.blocks valid.block_count forgets
-
 -- ---- `trim`
 
 valid_lessened : (old new : PlainState) (ids : List ℕ) → IsValid old → DropsFromTop old ids new → IsValid new
@@ -187,12 +169,6 @@ valid_aborted old new valid =
     (same_level old (record (begun old) { staging = None }) old.main refl (λ q here. refl) valid.main) tt
     (λ q kept. inl (elim kept [ inl here ↦ here | inr here ↦ here ])) valid.blocks valid.block_count
 
--- ---- rows
-
-not_staged : (staging : Option Graph) → (is_some staging ≡ true → ⊥) → staging ≡ None
-not_staged None none = refl
-not_staged (Some graph) none = absurd (none refl)
-
 -- ---- the plain state
 
 -- the names that a command brings are of 64 bits
@@ -236,7 +212,8 @@ valid_plain picks old new (Dep parent child) types valid row change = valid_pair
 valid_plain picks old new (SetFee id fee) types valid row change = subst IsValid (sym change) (valid_paid old id fee valid row)
 valid_plain picks old new (Remove id) types valid row change = valid_removed old new id valid change
 valid_plain picks old new (Mine ids) types valid row change = valid_mined old new ids types valid row change
-valid_plain picks old new Evict types valid row change = valid_dropped old new change.1.ids valid (not_staged old.staging (row_on row).0) change.4
+valid_plain picks old new Evict types valid row change =
+    valid_dropped old new change.1.ids old.blocks valid (not_staged old.staging (row_on row).0) valid.blocks valid.block_count change.4
 valid_plain picks old new Trim types valid row change = valid_lessened old new change.0 valid change.2
 valid_plain picks old new Unmine types valid row change = valid_unmined old new valid row change
 valid_plain picks old new Stage types valid row change = subst IsValid (sym change) (valid_staged old valid (not_staged old.staging (row_on row).0))
@@ -389,22 +366,25 @@ module _ (most : ℕ) (limits : Bounds) (wide : most ≤ MAX_COUNT) (in_range : 
 
   picks_at_start : ArePicks first (record { main = Some []; staging = None })
   picks_at_start = record {
-    main = (nothing_over, record {
-      certificate = record {
-        filled = λ part here. absurd (none_in_empty part here);
-        order = record {
-          topological = record {
-            once = tt;
-            names = λ id. (λ here. here, λ here. here);
-            parents_first = λ parent child here. absurd (none_in_empty (parent, child) here);
+    main = (
+      nothing_over,
+      record {
+        certificate = record {
+          filled = λ part here. absurd (none_in_empty part here);
+          order = record {
+            topological = record {
+              once = tt;
+              names = λ id. (λ here. here, λ here. here);
+              parents_first = λ parent child here. absurd (none_in_empty (parent, child) here);
+            };
+            together = λ part here. absurd (none_in_empty part here);
           };
-          together = λ part here. absurd (none_in_empty part here);
+          falling = record { summed = λ part here. absurd (none_in_empty part here); falling = tt };
+          flows = λ part here. absurd (none_in_empty part here);
         };
-        falling = record { summed = λ part here. absurd (none_in_empty part here); falling = tt };
-        flows = λ part here. absurd (none_in_empty part here);
-      };
-      flows_in_order = λ part here. absurd (none_in_empty part here);
-    });
+        flows_in_order = λ part here. absurd (none_in_empty part here);
+      },
+    );
     staging = tt;
   }
 

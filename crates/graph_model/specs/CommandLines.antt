@@ -21,10 +21,14 @@ HasRange asked = Unit {0}
 
 -- the words are the program's name, and then just those that ask for this
 abbrev pub Ask : List (List ℕ) → Asked → Type 0
-Ask words asked = (name : List ℕ) × (words ≡ name ∷ asked_words asked) × HasRange asked
+Ask words asked = (name : List ℕ) × (words ≡ name ∷ asked_words asked)
 
--- the program does it already; words that ask for anything else are refused
+-- the program does it already
 abbrev pub IsOffered : Asked → Type 0
 IsOffered Loads = ⊥
 IsOffered (Generates seed count) = ⊥
 IsOffered asked = Unit {0}
+
+-- the words are refused: they ask for nothing that is in range and offered
+abbrev pub AskForNothing : List (List ℕ) → Type 0
+AskForNothing words = (asked : Asked) → Ask words asked → HasRange asked → IsOffered asked → ⊥

@@ -2,7 +2,6 @@
 use Rattle.std.specs.Prelude.{◌≡◌, ℕ, ◌+◌, ◌-◌, ◌*◌, ◌/◌, ◌%◌, ◌^◌, suc, zero, ℤ, pos, ◌-ℤ◌, min, ltb, ◌==◌, if◌then◌else◌, Bool, true, false, not, List, [], ◌∷◌, filter, length, codes, decimal}
 use Rattle.std.specs.Fmt.{signed_decimal}
 use Rattle.fee_rate.specs.declared.rates.Sum.{Sum}
-use Rattle.graph_model.specs.declared.names.Refusal.{Refusal}
 use Rattle.graph_model.specs.declared.names.Refusal.TheVariants.{Memory}
 use Rattle.graphs.specs.Rates.{sums}
 use Rattle.graphs.specs.Diagrams.{AreCorners}

@@ -1,5 +1,5 @@
 -- One command: which reply it may get in a state, and which state may follow.
-use Rattle.std.specs.Prelude.{◌≡◌, ℕ, List, Option, None, Some, ◌⊎◌, Contains}
+use Rattle.std.specs.Prelude.{◌≡◌, ℕ, Option, None, Some, ◌⊎◌, Contains}
 use Rattle.graphs.specs.declared.names.Verdict.TheVariants.{Better}
 use Rattle.graph_model.specs.declared.names.Refusal.{Refusal}
 use Rattle.graph_model.specs.declared.names.Refusal.TheVariants.{Memory, Count, ClusterSize}

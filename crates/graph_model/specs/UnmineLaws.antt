@@ -3,7 +3,7 @@ use Rattle.std.specs.Prelude.{◌≡◌, ◌⊎◌, ℕ, List}
 use Rattle.graphs.specs.Alikes.{AreAlike}
 use Rattle.graph_model.specs.declared.names.Refusal.TheVariants.{Memory}
 use Rattle.graph_model.specs.States.{State, rate_of}
-use Rattle.graph_model.specs.Commands.{Command, HasTypes, Mine, Unmine}
+use Rattle.graph_model.specs.Commands.{HasTypes, Mine, Unmine}
 use Rattle.graph_model.specs.Replies.{Reply, Done, Refused, Unmined}
 use Rattle.graph_model.specs.Steps.{Step}
 use Rattle.graph_model.specs.Validity.{IsValidState}

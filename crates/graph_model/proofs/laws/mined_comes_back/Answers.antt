@@ -1,6 +1,5 @@
-use Rattle.graph_model.proofs.MinedLemmas.{valid_mined, valid_unmined}
-use Rattle.graph_model.proofs.OneRefusal.{one_refusal}
+use Rattle.graph_model.proofs.UnmineLemmas.{mined_comes_back}
 use Rattle.graph_model.proofs.laws.mined_comes_back.Goals as goal
 
 pub returns : goal.returns
-returns c = ?
+returns c = mined_comes_back
