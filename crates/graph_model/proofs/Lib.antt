@@ -8,6 +8,7 @@ pub mod ValidLemmas
 pub mod ChangeLemmas
 pub mod MinedLemmas
 pub mod StepLemmas
+pub mod LimitLemmas
 pub mod EdgeLemmas
 pub mod TrimLemmas
 pub mod TrimmedLemmas

@@ -17,9 +17,12 @@ use Rattle.graph_model.specs.Replies.{Reply, Proves, text_of}
 use Rattle.graph_model.specs.Steps.{Step}
 use Rattle.graph_model.specs.Runs.{Answer, Silence, TooLong, Unread, Replies, answer_text, LineStep, Run}
 use Rattle.graph_model.specs.Texts.{Text, Verification, NoSyntax, Found, Verifies, text_lines, verification_text}
-use Rattle.graph_model.specs.declared.limits.TheConstants.{MAX_COUNT}
+use Rattle.replay.specs.declared.session.TheConstants.{MOST_NAMES}
 use Rattle.graph_model.proofs.ProofLemmas.{proofs_are_certificates}
 use Rattle.graph_model.proofs.StepLemmas.{steps_keep_valid}
+use Rattle.graph_model.proofs.LimitLemmas.{line_strict}
+use Rattle.graph_model.proofs.ValidLemmas.{top_level}
+use Rattle.graph_model.specs.Oversize.{IsOversized}
 use Rattle.wire.proofs.CommandLemmas.{one_command}
 use Rattle.wire.proofs.CutLemmas.{one_cut}
 use Rattle.wire.proofs.TextLemmas.{text_same}
@@ -116,22 +119,27 @@ accepted written text certified =
 
 -- ---- one step
 
--- `proof` is never refused, and its reply is a text that proves the level's order
-proof_reply : (old new : State) (level : Level) (reply : Reply) → Step old (Proof level) reply new
-    → (text : Text) × ProvesOrder old.plain.table (level_of old.plain level) (pick_of old.picks level) text × (reply ≡ Proves text)
-proof_reply old new level reply step = elim step [
-  | inl refused ↦ absurd (let none : Some refused.why ≡ None = refused.first in cc)
+-- where the level isn't oversized `proof` is never refused, and its reply is a text that proves the level's order
+proof_reply : (old new : State) (level : Level) (reply : Reply) → (IsOversized old.plain level → ⊥) → Step old (Proof level) reply new
+    → (pick : List Part) × (text : Text) × (pick_of old.picks level ≡ Some pick)
+    × ProvesOrder old.plain.table (level_of old.plain level) pick text × (reply ≡ Proves text)
+proof_reply old new level reply fits step = elim step [
+  | inl refused ↦ absurd (elim refused.first [
+    | inl over ↦ fits over.0
+    | inr rest ↦ (let none : Some refused.why ≡ None = rest.1 in cc)
+  ])
   | inr rest ↦ elim rest [
-    | inl lacks ↦ absurd lacks.may
+    | inl want ↦ elim want [ inl lacks ↦ absurd lacks.may | inr gives ↦ absurd gives.may ]
     | inr fine ↦ fine.accepts.plain.answer
   ]
 ]
 
 step_accepted : {K : Type 0} (written : K → Option (List ℕ)) (old new : State) (level : Level) (reply : Reply) → IsValidState old
-    → Step old (Proof level) reply new → AreAccepted written (text_of reply)
-step_accepted written old new level reply valid step =
-    let (text, proves, is) = proof_reply old new level reply step in
-    subst (λ (r : Reply). AreAccepted written (text_of r)) (sym is) (accepted written text (proofs_are_certificates old level text valid proves))
+    → (IsOversized old.plain level → ⊥) → Step old (Proof level) reply new → AreAccepted written (text_of reply)
+step_accepted written old new level reply valid fits step =
+    let (pick, text, picked, proves, is) = proof_reply old new level reply fits step in
+    subst (λ (r : Reply). AreAccepted written (text_of r)) (sym is)
+    (accepted written text (proofs_are_certificates old level pick text valid picked proves))
 
 -- ---- runs
 
@@ -156,34 +164,39 @@ proof_short : (level : Level) → length (spaced (words_of (Proof level))) ≤ 1
 proof_short Main = omega arith
 proof_short Top = omega arith
 
+-- where no dependency may pass the limits no level is oversized
+none_over : (state : State) (level : Level) → IsValidState state → state.plain.limits.defer ≡ false → IsOversized state.plain level → ⊥
+none_over state Main valid strict = valid.plain.main.within strict
+none_over state Top valid strict = (top_level state.plain valid.plain).within strict
+
 line_accepted : {K : Type 0} (written : K → Option (List ℕ)) (old new : State) (line : List ℕ) (level : Level) (answer : Answer) → IsValidState old
-    → Means line (Says (Proof level)) → LineStep old line answer new → AreAccepted written (answer_text answer)
-line_accepted written old new line level Silence valid means step = absurd (true≢false (sym step.1 ∙ means.0))
-line_accepted written old new line level TooLong valid means step =
+    → old.plain.limits.defer ≡ false → Means line (Says (Proof level)) → LineStep old line answer new → AreAccepted written (answer_text answer)
+line_accepted written old new line level Silence valid strict means step = absurd (true≢false (sym step.1 ∙ means.0))
+line_accepted written old new line level TooLong valid strict means step =
     absurd (omega (arith, step.0, one_longer line, ap length means.1.0, proof_short level))
-line_accepted written old new line level Unread valid means step = absurd (step.1.1 (Proof level) means.1 means.2)
-line_accepted written old new line level (Replies reply) valid means (short, command, others, step) =
+line_accepted written old new line level Unread valid strict means step = absurd (step.1.1 (Proof level) means.1 means.2)
+line_accepted written old new line level (Replies reply) valid strict means (short, command, others, step) =
     let same : command ≡ Proof level = one_command (without_return line) command (Proof level) others.1 means.1 in
-    step_accepted written old new level reply valid (subst (λ (c : Command). Step old c reply new) same step)
+    step_accepted written old new level reply valid (none_over old level valid strict) (subst (λ (c : Command). Step old c reply new) same step)
 
 -- each line of a run with its answer is a step from a valid state
 accepted_in : {K : Type 0} (written : K → Option (List ℕ)) (old end : State) (lines : List (List ℕ)) (answers : List Answer) → IsValidState old
-    → Run old lines answers end → (line : List ℕ) (level : Level) (answer : Answer) → Contains (zip lines answers) (line, answer)
+    → old.plain.limits.defer ≡ false → Run old lines answers end → (line : List ℕ) (level : Level) (answer : Answer) → Contains (zip lines answers) (line, answer)
     → Means line (Says (Proof level)) → AreAccepted written (answer_text answer)
-accepted_in written old end [] answers valid run line level answer here means = absurd (none_in_empty (line, answer) here)
-accepted_in written old end (first ∷ lines) [] valid run line level answer here means = absurd run
-accepted_in written old end (first ∷ lines) (reply ∷ answers) valid (next, step, run) line level answer here means =
+accepted_in written old end [] answers valid strict run line level answer here means = absurd (none_in_empty (line, answer) here)
+accepted_in written old end (first ∷ lines) [] valid strict run line level answer here means = absurd run
+accepted_in written old end (first ∷ lines) (reply ∷ answers) valid strict (next, step, run) line level answer here means =
     elim (Contains-cases (first, reply) (line, answer) (zip lines answers) here) [
       | inl same ↦
           let is : first ≡ line = ap (λ (pair : List ℕ × Answer). pair.0) same in
           let gets : reply ≡ answer = ap (λ (pair : List ℕ × Answer). pair.1) same in
-          line_accepted written old next line level answer valid means (subst₂ (λ (l : List ℕ) (a : Answer). LineStep old l a next) is gets step)
-      | inr later ↦ accepted_in written next end lines answers (line_valid old next first reply valid step) run line level answer later means
+          line_accepted written old next line level answer valid strict means (subst₂ (λ (l : List ℕ) (a : Answer). LineStep old l a next) is gets step)
+      | inr later ↦ accepted_in written next end lines answers (line_valid old next first reply valid step) (line_strict old next first reply step strict) run line level answer later means
     ]
 
 pub check_accepts_proofs : {K : Type 0} (written : K → Option (List ℕ)) → CheckAcceptsProofs written
 check_accepts_proofs written = record {
   steps = step_accepted written;
   runs = λ lines answers end run.
-      accepted_in written (start MAX_COUNT) end lines answers (steps_keep_valid.begins MAX_COUNT (omega arith) (omega arith)) run;
+      accepted_in written (start MOST_NAMES) end lines answers (steps_keep_valid.begins MOST_NAMES (omega arith) (omega arith)) refl run;
 }

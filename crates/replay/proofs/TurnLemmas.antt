@@ -6,7 +6,7 @@ use Rattle.std.specs.Io.KnownBytes.{Appends}
 use Rattle.std.proofs.KnownBytes.{Consumes-nil, Appends-nil}
 use Rattle.outside.specs.Transfers.{AppendsFront}
 use Rattle.graph_model.specs.States.{State, start}
-use Rattle.graph_model.specs.declared.limits.TheConstants.{MAX_COUNT}
+use Rattle.replay.specs.declared.session.TheConstants.{MOST_NAMES}
 use Rattle.graph_model.specs.Words.{line_text}
 use Rattle.graph_model.specs.Lines.{IsOneLine, Cut, with_last, max_input}
 use Rattle.graph_model.specs.Runs.{Answer, Run, LineStep, MayWrite, answer_text}
@@ -41,7 +41,7 @@ pub record Played (kept : Kept) (cutter : Cutter) (held : List ℕ) (left now fi
   pub answers : List Answer
   pub state : State
   pub stands : StandsFor kept state
-  pub run : Run (start MAX_COUNT) lines answers state
+  pub run : Run (start MOST_NAMES) lines answers state
   pub read : TakesTo Open cutter.stage left now input cutter.taken
   pub taken : cutter.taken ≡ length input
   pub leaves : Leaves cutter rest
@@ -50,14 +50,14 @@ pub record Played (kept : Kept) (cutter : Cutter) (held : List ℕ) (left now fi
   pub few : kept.levels.issued + length rest ≤ length input
 
 -- before the first line
-pub played_nothing : (kept : Kept) (cutter : Cutter) (held : List ℕ) (left first : Option (List ℕ)) → StandsFor kept (start MAX_COUNT) → kept.levels.issued ≡ 0
+pub played_nothing : (kept : Kept) (cutter : Cutter) (held : List ℕ) (left first : Option (List ℕ)) → StandsFor kept (start MOST_NAMES) → kept.levels.issued ≡ 0
     → cutter.held ≡ [] → cutter.long ≡ false → cutter.taken ≡ 0 → cutter.stage ≡ Open → held ≡ [] → Played kept cutter held left left first first
 played_nothing kept cutter held left first stands added none short taken going empty = record {
   input = [];
   rest = [];
   lines = [];
   answers = [];
-  state = start MAX_COUNT;
+  state = start MOST_NAMES;
   stands = stands;
   run = refl;
   read = subst (λ (s : Stage). TakesTo Open s left left [] cutter.taken) (sym going) (Consumes-nil left);
@@ -154,9 +154,9 @@ behind new input rest lines line (inr given) (one, inr last) = absurd (last.2 (s
 
 -- the run goes on by one line
 one_more : (lines : List (List ℕ)) (answers : List Answer) (state next : State) (line : List ℕ) (answer : Answer)
-    → Run (start MAX_COUNT) lines answers state → LineStep state line answer next → Run (start MAX_COUNT) (lines ++ line ∷ []) (answers ++ answer ∷ []) next
+    → Run (start MOST_NAMES) lines answers state → LineStep state line answer next → Run (start MOST_NAMES) (lines ++ line ∷ []) (answers ++ answer ∷ []) next
 one_more lines answers state next line answer run step =
-    run-append LineStep (start MAX_COUNT) state next lines (line ∷ []) answers (answer ∷ []) run (next, step, refl)
+    run-append LineStep (start MOST_NAMES) state next lines (line ∷ []) answers (answer ∷ []) run (next, step, refl)
 
 -- a line was given behind those that were answered
 pub record Turn (kept : Kept) (cutter new : Cutter) (held : List ℕ) (left before now first written : Option (List ℕ)) (line : List ℕ) : Type 0 where
@@ -202,7 +202,7 @@ pub record Got (stage : Stage) (left now : Option (List ℕ)) : Type 0 where
   pub answers : List Answer
   pub state : State
   pub count : ℕ
-  pub run : Run (start MAX_COUNT) lines answers state
+  pub run : Run (start MOST_NAMES) lines answers state
   pub read : TakesTo Open stage left now input count
   pub taken : count ≡ length input
   pub within : count ≤ max_input
@@ -279,7 +279,7 @@ cut_of input rest lines (inl given) none one = record { whole = given.0; each = 
 cut_of input rest lines (inr given) none one = absurd (none given)
 
 output_at_end : (input rest text : List ℕ) (lines : List (List ℕ))
-    → AreGiven Ended input lines rest → rest ≡ [] → MayWrite lines text → IsOutput true input text
+    → AreGiven Ended input lines rest → rest ≡ [] → MayWrite MOST_NAMES lines text → IsOutput true input text
 output_at_end input rest text lines (inl given) none run = record {
   lines = lines;
   rest = [];
@@ -287,7 +287,7 @@ output_at_end input rest text lines (inl given) none run = record {
   run = run;
 }
 output_at_end input rest text lines (inr given) none run =
-    record { lines = given.2; rest = given.3; cut = given.4; run = subst (λ (all : List (List ℕ)). MayWrite all text) given.5 run }
+    record { lines = given.2; rest = given.3; cut = given.4; run = subst (λ (all : List (List ℕ)). MayWrite MOST_NAMES all text) given.5 run }
 
 -- all went out
 pub ended : (stage : Stage) (left now first written : Option (List ℕ)) → (got : Got stage left now) → stage ≡ Ended

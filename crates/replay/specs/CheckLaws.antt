@@ -9,12 +9,13 @@ use Rattle.graph_model.specs.Words.{line_text}
 use Rattle.graph_model.specs.Lines.{Means, Says, max_input}
 use Rattle.graph_model.specs.Commands.{Proof}
 use Rattle.graph_model.specs.States.{State, start}
+use Rattle.graph_model.specs.Oversize.{IsOversized}
 use Rattle.graph_model.specs.Validity.{IsValidState}
 use Rattle.graph_model.specs.Replies.{Reply, text_of}
 use Rattle.graph_model.specs.Steps.{Step}
 use Rattle.graph_model.specs.Runs.{Answer, answer_text, Run}
 use Rattle.graph_model.specs.Texts.{Verification, Found}
-use Rattle.graph_model.specs.declared.limits.TheConstants.{MAX_COUNT}
+use Rattle.replay.specs.declared.session.TheConstants.{MOST_NAMES}
 use Rattle.replay.specs.declared.top.Status.{Status}
 use Rattle.replay.specs.declared.top.Status.TheVariants as statuses
 use Rattle.replay.specs.Statuses.{EndsWell}
@@ -42,11 +43,11 @@ pub record AreAccepted {K : Type 0} (written : K → Option (List ℕ)) (bytes :
   pub answered : length bytes ≤ max_input → (status : Status) (left : Option (List ℕ)) (old new : K) → Checks status (Some bytes) left written old new
       → SaysYes status written old new × (EndsWell status → (status ≡ statuses.Done) ⊎ (status ≡ statuses.NoMemory))
 
--- In a valid state the text of the reply to `proof` is accepted. So in every run from the start, whatever lines come before it, the bytes
--- that answer a line which says `proof` are accepted.
+-- In a valid state, where the level isn't oversized, the text of the reply to `proof` is accepted. So in every run from the start, whatever
+-- lines come before it, the bytes that answer a line which says `proof` are accepted.
 pub record CheckAcceptsProofs {K : Type 0} (written : K → Option (List ℕ)) : Type 0 where
-  pub steps : (old new : State) (level : Level) (reply : Reply) → IsValidState old → Step old (Proof level) reply new
+  pub steps : (old new : State) (level : Level) (reply : Reply) → IsValidState old → (IsOversized old.plain level → ⊥) → Step old (Proof level) reply new
       → AreAccepted written (text_of reply)
-  pub runs : (lines : List (List ℕ)) (answers : List Answer) (end : State) → Run (start MAX_COUNT) lines answers end
+  pub runs : (lines : List (List ℕ)) (answers : List Answer) (end : State) → Run (start MOST_NAMES) lines answers end
       → (line : List ℕ) (level : Level) (answer : Answer) → Contains (zip lines answers) (line, answer) → Means line (Says (Proof level))
       → AreAccepted written (answer_text answer)

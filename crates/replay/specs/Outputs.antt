@@ -6,6 +6,7 @@ use Rattle.outside.specs.Transfers.{AppendsFront}
 use Rattle.graph_model.specs.Words.{line_text}
 use Rattle.graph_model.specs.Lines.{Cut, IsOneLine, with_last}
 use Rattle.graph_model.specs.Runs.{MayWrite}
+use Rattle.replay.specs.declared.session.TheConstants.{MOST_NAMES}
 
 -- the lines of an input: the complete ones, and at the end of the source what follows the last line feed
 abbrev pub lines_read : Bool → List (List ℕ) → List ℕ → List (List ℕ)
@@ -17,7 +18,7 @@ pub record IsOutput (ended : Bool) (input text : List ℕ) : Type 0 where
   pub lines : List (List ℕ)
   pub rest : List ℕ
   pub cut : Cut input lines rest
-  pub run : MayWrite (lines_read ended lines rest) text
+  pub run : MayWrite MOST_NAMES (lines_read ended lines rest) text
 
 -- the input begins with these lines, each ended by a line feed
 pub record BeginsWith (input : List ℕ) (lines : List (List ℕ)) : Type 0 where
@@ -35,7 +36,7 @@ pub record WritesFront (ended : Bool) (input : List ℕ) (old new : Option (List
   pub lines : List (List ℕ)
   pub first : AreFirst ended input lines
   pub text : List ℕ
-  pub run : MayWrite lines text
+  pub run : MayWrite MOST_NAMES lines text
   pub front : AppendsFront old new text
 
 -- What was written is the output of a run over all lines of the input.

@@ -1,4 +1,5 @@
 -- What lines ask for, as commands.
+use Rattle.graph_model.specs.Limits.{bounds_of}
 use Rattle.graph_model.specs.Commands.{Command}
 use Rattle.graph_model.specs.Commands as commands
 use Rattle.graph_model.specs.Lines.{Meaning, Quiet, NoForm, Says}
@@ -12,7 +13,7 @@ use Rattle.replay.specs.declared.request.Search.{Search}
 use Rattle.replay.specs.declared.request.Search.TheVariants as searches
 
 abbrev pub change_command : Change → Command
-change_command (changes.Limits set) = commands.SetLimits set.count set.size set.total
+change_command (changes.Limits set) = commands.SetLimits (bounds_of set)
 change_command (changes.Add id fee size) = commands.Add id fee size
 change_command (changes.Dep parent child) = commands.Dep parent child
 change_command (changes.Fee id fee) = commands.SetFee id fee

@@ -5,6 +5,8 @@ use Rattle.std.specs.declared.option.Option.{Option}
 use Rattle.outside.specs.Faults.{Rose}
 use Rattle.outside.specs.Transfers.{AppendsFront}
 use Rattle.graph_model.specs.Words.{line_text}
+use Rattle.graph_model.specs.CommandLines.{Ask}
+use Rattle.graph_model.specs.CommandLines as commands
 use Rattle.replay.specs.declared.input.End.{End}
 use Rattle.replay.specs.declared.input.End.TheVariants.{Told, Fault, Limit}
 use Rattle.replay.specs.declared.top.Status.{Status}
@@ -14,11 +16,11 @@ use Rattle.replay.specs.Outputs.{WritesOutput, WritesFront}
 
 -- the words are the program's name and `replay`, and nothing else
 abbrev pub AreReplay : List (List ℕ) → Type 0
-AreReplay words = (name : List ℕ) × (words ≡ name ∷ codes "replay" ∷ [])
+AreReplay words = Ask words commands.Replays
 
 -- the words are the program's name and `check`, and nothing else
 abbrev pub AreCheck : List (List ℕ) → Type 0
-AreCheck words = (name : List ℕ) × (words ≡ name ∷ codes "check" ∷ [])
+AreCheck words = Ask words commands.Checks
 
 -- the words are no command
 abbrev pub AreRefused : List (List ℕ) → Type 0

@@ -2,7 +2,7 @@
 ghost use Rattle.std.specs.Prelude.{◌≡◌, ◌≢◌, ℕ, ◌≤◌, ◌⊎◌, List, [], false, IfOk, OnOk, OnErr, MatchResult};
 ghost use Rattle.std.specs.Io.KnownBytes.{Appends};
 ghost use Rattle.graph_model.specs.States.{start};
-ghost use Rattle.graph_model.specs.declared.limits.TheConstants.{MAX_COUNT};
+ghost use Rattle.replay.specs.declared.session.TheConstants.{MOST_NAMES};
 ghost use Rattle.outside.specs.Faults.{CountsFaults};
 ghost use Rattle.outside.specs.Transfers.{AppendsFront};
 ghost use Rattle.tx_graph.specs.Kept.{StandsFor};
@@ -26,7 +26,7 @@ pub(crate) fn answer_lines<S: Source, K: Sink>(
     source: &mut S,
     sink: &mut K,
 ) -> Result<End, Failed>
-    requires fresh { StandsFor session.old (start MAX_COUNT) }
+    requires fresh { StandsFor session.old (start MOST_NAMES) }
     requires none_added { session.old.levels.issued ≡ 0 }
     requires none_held { lines.old.held ≡ [] }
     requires none_dropped { lines.old.long ≡ false }

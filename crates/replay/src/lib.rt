@@ -21,5 +21,5 @@ mod writing;
 pub use answer::Outcome;
 pub use laws::check_accepts_proofs;
 pub use lines::{Lines, Next};
-pub use session::{Piece, Session};
+pub use session::{MOST_NAMES, Piece, Session};
 pub use top::{Status, run};

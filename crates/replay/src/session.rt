@@ -1,4 +1,4 @@
-ghost use Rattle.std.specs.Prelude.{◌≡◌, ℕ, ◌+◌, ◌-◌, ◌^◌, ◌<◌, ◌≤◌, List, IfOk};
+ghost use Rattle.std.specs.Prelude.{◌≡◌, ℕ, ◌+◌, ◌-◌, ◌*◌, ◌^◌, ◌<◌, ◌≤◌, List, IfOk};
 ghost use Rattle.graph_model.specs.Runs.{answer_text};
 ghost use Rattle.graph_model.specs.Runs as runs;
 ghost use Rattle.outside.specs.Faults.{CountsFaults};
@@ -12,6 +12,9 @@ use outside::{Failed, NoMemory, Sink};
 use std::alloc::Global;
 use std::marker::Model;
 use tx_graph::TxGraph;
+
+/// The most names that the program can allow a cluster: 64 for each word of its graph's sets, which have one.
+pub const MOST_NAMES: u64 = 64;
 
 /// How many names a line may list.
 const MAX_NAMES: usize = 32_766;
@@ -50,7 +53,6 @@ impl<const W: usize> Model for Session<W> {
 impl<const W: usize> Session<W> {
     ghost use Rattle.tx_graph.specs.Kept.{Kept, StandsFor};
     ghost use Rattle.graph_model.specs.States.{State, start};
-    ghost use Rattle.graph_model.specs.declared.limits.TheConstants.{MAX_COUNT};
     ghost use Rattle.replay.specs.Answers.{outcome_of};
     ghost use Rattle.replay.specs.Gatherings.{Gathers};
     ghost use Rattle.replay.specs.Sessions.{IsLine, Answers, Suits};
@@ -59,7 +61,7 @@ impl<const W: usize> Session<W> {
     pub fn new(alloc: Global) -> Result<Session<W>, NoMemory>
         requires wide { 1 ≤ W }
         requires narrow { W ≤ 2 }
-        ensures start { IfOk result (λ session. StandsFor session (start MAX_COUNT)) }
+        ensures start { IfOk result (λ session. StandsFor session (start (64 * W))) }
         ensures additions { IfOk result (λ session. session.levels.issued ≡ 0) }
     {
         Ok(Session {

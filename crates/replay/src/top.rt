@@ -1,6 +1,6 @@
 ghost use Rattle.std.specs.Prelude.{◌≡◌, ◌≢◌, ℕ, ◌≤◌, [], false, IfSome, length, MatchOption, codes, map, string_bytes};
 ghost use Rattle.graph_model.specs.States.{start};
-ghost use Rattle.graph_model.specs.declared.limits.TheConstants.{MAX_COUNT};
+ghost use Rattle.replay.specs.declared.session.TheConstants.{MOST_NAMES};
 ghost use Rattle.graph_model.specs.Lines.{max_input};
 ghost use Rattle.outside.specs.Faults.{Rose};
 ghost use Rattle.tx_graph.specs.Kept.{StandsFor};
@@ -117,7 +117,7 @@ fn replay_in<S: Source, K: Sink>(
     source: &mut S,
     sink: &mut K,
 ) -> Status
-    requires fresh { StandsFor session.old (start MAX_COUNT) }
+    requires fresh { StandsFor session.old (start MOST_NAMES) }
     requires none_added { session.old.levels.issued ≡ 0 }
     requires none_held { lines.old.held ≡ [] }
     requires none_dropped { lines.old.long ≡ false }

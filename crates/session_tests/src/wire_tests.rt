@@ -23,17 +23,30 @@ fn read(rt: &impl Abort, ids: &mut IdBuf, line: &[u8]) -> Line {
 /// A line, and what it says.
 type Reading = (&'static str, Line);
 
-const LIMITS: Line = Line::Limits(Limits {
+const BOUNDS: Limits = Limits {
     count: 0,
     size: 1,
     total: 18_446_744_073_709_551_615,
-});
+};
 
-const READINGS: [Reading; 26] = [
+const READINGS: [Reading; 33] = [
     ("", Line::Quiet),
     ("\r", Line::Quiet),
     ("#add 1 1 1", Line::Quiet),
-    ("limits 0 1 18446744073709551615", LIMITS),
+    (
+        "limits 0 1 18446744073709551615",
+        Line::Limits(BOUNDS, false),
+    ),
+    (
+        "limits 0 1 18446744073709551615 defer",
+        Line::Limits(BOUNDS, true),
+    ),
+    ("limits 1 1 1  defer", Line::Syntax),
+    ("limits 1 1 defer", Line::Syntax),
+    ("trim", Line::Trim),
+    ("unmine\r", Line::Unmine),
+    ("unmine 1", Line::Syntax),
+    ("dump", Line::Dump),
     ("add 1 -2 3\r", Line::Add(1, -2, 3)),
     ("dep 1 2", Line::Dep(1, 2)),
     ("fee 1 -2", Line::Fee(1, -2)),
