@@ -20,7 +20,7 @@ pub fn refused_changes_nothing()
     ensures { RefusedChangesNothing }
 {}
 
-/// A reading is never refused for want of memory.
+/// A command that may not lack memory is never refused for it: no reading but `block` and `dump` is.
 pub fn readings_lack_no_memory()
     ensures { ReadingsLackNoMemory }
 {}
@@ -45,7 +45,8 @@ pub fn proofs_are_certificates()
     ensures { ProofsAreCertificates }
 {}
 
-/// The same accepted command makes the same of states that differ in the order of names and pairs, and in picks, at most.
+/// The same accepted command makes the same of states that differ in the order of names and pairs at most; and where it reads no
+/// pick, also of states that differ in picks.
 pub fn steps_are_functions()
     ensures { StepsAreFunctions }
 {}
