@@ -27,7 +27,7 @@ impl<const W: usize> Shelves<W> {
     /// Why a name of the top level can't become a parent of another, other than for want of memory; or how the two stand.
     pub fn refused_dep(&self, limits: &Limits, parent: TxId, child: TxId) -> Result<Link, Refusal>
         requires order { IsInOrder W self.now }
-        requires limit { limits.now.count ≤ 64 }
+        requires limit { limits.now.count ≤ 64 * W }
         ensures row { MatchResult result (λ _. DepRefusalIs limits.now (graph_of (view_of Top self.now)) parent child None)
             (λ why. DepRefusalIs limits.now (graph_of (view_of Top self.now)) parent child (Some why)) }
         ensures link { IfOk result (IsLink W self.now parent child) }

@@ -183,7 +183,7 @@ impl<const W: usize> Levels<W> {
         child: TxId,
         steps: &mut Steps<L>,
     ) -> Result<(), Refusal>
-        requires { limits.now.count ≤ 64 }
+        requires { limits.now.count ≤ 64 * W }
         ensures row { MatchResult result (λ _. DepRefusalIs limits.now (level_at self.old Top).graph parent child None)
             (λ why. ((why ≡ Memory) × DepRefusalIs limits.now (level_at self.old Top).graph parent child None)
             ⊎ ((why ≢ Memory) × DepRefusalIs limits.now (level_at self.old Top).graph parent child (Some why))) }

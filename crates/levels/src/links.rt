@@ -1,4 +1,5 @@
 ghost use Rattle.std.specs.Prelude.{◌≡◌, ◌≢◌, ◌⊎◌, ℕ, ◌+◌, ◌≤◌, false, true, None, length, sum_by, Contains};
+ghost use Rattle.fee_rate.specs.declared.limits.TheConstants.{MAX_TOTAL};
 ghost use Rattle.graphs.specs.Closures.{rate_of};
 ghost use Rattle.levels.specs.Joins.{SumRefusalIs};
 ghost use Rattle.levels.specs.Links.{IsWithin};
@@ -43,7 +44,7 @@ pub(crate) fn refused_sum<const W: usize>(
     first: &Cluster<W>,
     second: &Cluster<W>,
 ) -> Option<Refusal>
-    requires { limits.now.count ≤ 64 }
+    requires { limits.now.count ≤ MAX_TOTAL }
     ensures row { SumRefusalIs limits.now (length first.now.names + length second.now.names)
         (sum_by (λ id. (rate_of first.now.graph id).size) first.now.names + sum_by
         (λ id. (rate_of second.now.graph id).size) second.now.names) result }

@@ -1,5 +1,5 @@
 -- One more name.
-use Rattle.std.proofs.Common.{◌≡◌, ◌≢◌, ℕ, ℤ, true, false, ◌&&◌, ◌||◌, nat_eq, [], ◌∷◌, sym, refl, ap, subst, ◌∙◌, inl, inr, eq-eqb, ne_eqb, None, Some, true≢false}
+use Rattle.std.proofs.Common.{◌≡◌, ◌≢◌, ℕ, ℤ, ◌<◌, ◌^◌, true, false, ◌&&◌, ◌||◌, nat_eq, [], ◌∷◌, sym, refl, ap, subst, ◌∙◌, inl, inr, eq-eqb, ne_eqb, None, Some, true≢false}
 use Rattle.std.specs.FinMap as finmap
 use Rattle.std.proofs.lemmas.Bool.{cases_eq, false_from_ne_true, or_cases, or_left, or_right, and_parts}
 use Rattle.std.proofs.lemmas.List.Elements.{Contains-append_left}
@@ -52,7 +52,7 @@ module _ (was top : OneLevel) (id : ℕ) (rate : FeeRate) (absent : is_member wa
     };
   }
 
-module _ (old new : Kept) (id : ℕ) (fee : ℤ) (size : ℕ) (limits : new.limits ≡ old.limits) (begins : new.begun ≡ true)
+module _ (old new : Kept) (id : ℕ) (fee : ℤ) (size : ℕ) (limits : new.limits ≡ old.limits) (most : new.most ≡ old.most) (begins : new.begun ≡ true)
     (absent : IsLive old.levels id → ⊥) (top : OneLevel) (adds : AddsName (level_at old.levels Top).graph top.graph id (record { fee = fee; size = size }))
     (topped : AreTopped old.levels top new.levels) where
   abbrev was : OneLevel
@@ -93,7 +93,7 @@ module _ (old new : Kept) (id : ℕ) (fee : ℤ) (size : ℕ) (limits : new.limi
       let table : Table = finmap.insert state.table id (entry_of rate) in
       let graph : Graph = level_of state Top in (
         added state id fee size,
-        stands_topped old new top limits begins topped state stands table (with_name graph id)
+        stands_topped old new top limits most begins topped state stands table (with_name graph id)
             (graph_added was top id rate none_before adds graph (graph_at old state stands Top)) (rates_added state.table stands.table),
         λ picks. record { answer = refl; change = refl },
       )
@@ -102,7 +102,7 @@ module _ (old new : Kept) (id : ℕ) (fee : ℤ) (size : ℕ) (limits : new.limi
   other_added : AreSameLevel was.graph top.graph → top.parts ≡ was.parts
   other_added same = absurd (true≢false (sym (is_added was top id rate none_before adds) ∙ same.members id ∙ none_before))
 
-  pub steps_added : Meets old (Add id fee size) None → HavePicks new.levels → MakesStep old new (Add id fee size) Done
-  steps_added none picked =
-      steps_accepted old new (Add id fee size) Done none accepts_added (λ a b kept. kept)
+  pub steps_added : id < 2 ^ 64 → Meets old (Add id fee size) None → HavePicks new.levels → MakesStep old new (Add id fee size) Done
+  steps_added small none picked =
+      steps_accepted old new (Add id fee size) Done small none accepts_added (λ a b kept. kept)
       (keeps_topped old.levels new.levels top topped picked other_added)

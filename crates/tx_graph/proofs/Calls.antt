@@ -1,5 +1,5 @@
 -- What the calls of a graph need of its parts.
-use Rattle.std.proofs.Common.{◌≡◌, ◌≢◌, ℕ, ℤ, ◌<◌, ◌≤◌, ◌+◌, Bool, true, false, List, [], ◌∷◌, length, sym, refl, ap, subst, ◌∙◌, inl, inr, ◌⊎◌, Option, None, Some, true≢false, arith, Result, Ok, Err, OnOk, OnErr, is_err, IsErrAnd, is_some}
+use Rattle.std.proofs.Common.{◌≡◌, ◌≢◌, ℕ, ℤ, ◌^◌, ◌<◌, ◌≤◌, ◌+◌, ◌*◌, Bool, true, false, List, [], ◌∷◌, length, sym, refl, ap, subst, ◌∙◌, inl, inr, ◌⊎◌, Option, None, Some, true≢false, arith, Result, Ok, Err, OnOk, OnErr, is_err, IsErrAnd, is_some}
 use Rattle.std.specs.Prelude.{Contains, unsigned_abs}
 use Rattle.std.proofs.lemmas.Bool.{cases_lt, false_from_ne_true, true_from_ne_false}
 use Rattle.std.proofs.lemmas.Option.{none-some}
@@ -17,11 +17,10 @@ use Rattle.graphs.proofs.ListLemmas.{Lists-for}
 use Rattle.cluster.specs.Clusters.{Cluster}
 use Rattle.cluster.specs.Changes.{AreComponents}
 use Rattle.cluster.specs.Steps.{GrowsWithin, most_steps, most_steps_of}
-use Rattle.graph_model.specs.declared.limits.TheConstants.{MAX_COUNT}
 use Rattle.graph_model.specs.declared.names.Limits.{Limits}
 use Rattle.graph_model.specs.declared.names.Refusal.{Refusal}
 use Rattle.graph_model.specs.declared.names.Refusal.TheVariants.{Fee, Size, Taken, Full, Count, ClusterSize, Unknown, Cycle, Memory}
-use Rattle.graph_model.specs.Limits.{AreInRange}
+use Rattle.graph_model.specs.Limits.{AreInRange, bounds_of}
 use Rattle.graph_model.specs.States.{Entry, State}
 use Rattle.graph_model.specs.Commands.{Command, SetLimits, Add, Dep, SetFee, Remove, Stage, Commit, Abort, Settle}
 use Rattle.graph_model.specs.Refusals.{First, FirstAt, NoRefusal}
@@ -48,8 +47,8 @@ use Rattle.tx_graph.proofs.Standing.{Meets, graph_at, order_kept, steps_refused,
 use Rattle.tx_graph.proofs.Tops.{AreTopped, topped_from, topped_with}
 
 -- what a graph keeps, by its fields
-abbrev pub kept_of : Limits → Bool → Levels → Kept
-kept_of limits begun levels = record { limits = limits; begun = begun; levels = levels }
+abbrev pub kept_of : ℕ → Limits → Bool → Levels → Kept
+kept_of most limits begun levels = record { most = most; limits = limits; begun = begun; levels = levels }
 
 -- a step from the fields is one from the value
 pub from_view : (old value new : Kept) (command : Command) (reply : Reply) → old ≡ value → MakesStep old new command reply
@@ -61,23 +60,27 @@ pub both_views : (kept value : Kept) (command : Command) (reply : Reply) → kep
 both_views kept value command reply is step = subst (λ (k : Kept). MakesStep k k command reply) is step
 
 -- a step that leaves levels as they were
-pub same_levels : (limits : Limits) (begun : Bool) (old new : Levels) (value : Kept) (command : Command) (reply : Reply) → new ≡ old
-    → kept_of limits begun old ≡ value → MakesStep (kept_of limits begun old) (kept_of limits begun old) command reply
-    → MakesStep value (kept_of limits begun new) command reply
-same_levels limits begun old new value command reply same is step =
-    from_view (kept_of limits begun old) value (kept_of limits begun new) command reply is
-    (subst (λ (l : Levels). MakesStep (kept_of limits begun old) (kept_of limits begun l) command reply) (sym same) step)
+pub same_levels : (most : ℕ) (limits : Limits) (begun : Bool) (old new : Levels) (value : Kept) (command : Command) (reply : Reply) → new ≡ old
+    → kept_of most limits begun old ≡ value → MakesStep (kept_of most limits begun old) (kept_of most limits begun old) command reply
+    → MakesStep value (kept_of most limits begun new) command reply
+same_levels most limits begun old new value command reply same is step =
+    from_view (kept_of most limits begun old) value (kept_of most limits begun new) command reply is
+    (subst (λ (l : Levels). MakesStep (kept_of most limits begun old) (kept_of most limits begun l) command reply) (sym same) step)
 
 -- a graph after a step is sound
-pub sound_after : (old new : Kept) (command : Command) (reply : Reply) → IsSound old → AreInRange MAX_COUNT new.limits → HavePicks new.levels
+pub sound_after : (old new : Kept) (command : Command) (reply : Reply) → IsSound old → AreInRange new.most (bounds_of new.limits) → HavePicks new.levels
     → MakesStep old new command reply → IsSound new
 sound_after old new command reply sound in_range picked step =
     let next = step sound.stands.0 sound.stands.1 in
     record { in_range = in_range; picked = picked; stands = (next.0, next.1) }
 
+-- the words of a graph's sets are two at most
+pub at_most_two : (w : ℕ) (kept : Kept) → IsSound kept → kept.most ≡ 64 * w → w ≤ 2
+at_most_two w kept sound is = omega (arith, is, sound.stands.1.plain.most, sound.stands.1.plain.valid.most)
+
 -- and one that stays
-pub sound_still : (limits : Limits) (begun : Bool) (old new : Levels) → new ≡ old → IsSound (kept_of limits begun old) → IsSound (kept_of limits begun new)
-sound_still limits begun old new same = subst (λ (l : Levels). IsSound (kept_of limits begun l)) (sym same)
+pub sound_still : (most : ℕ) (limits : Limits) (begun : Bool) (old new : Levels) → new ≡ old → IsSound (kept_of most limits begun old) → IsSound (kept_of most limits begun new)
+sound_still most limits begun old new same = subst (λ (l : Levels). IsSound (kept_of most limits begun l)) (sym same)
 
 order_sound : (kept : Kept) → IsSound kept → (level : Level)
     → IsOrder (is_member (level_at kept.levels level).graph) (is_ancestor (level_at kept.levels level).graph)
@@ -203,48 +206,48 @@ topped_added : (old mid new : Levels) (top : OneLevel) (n : ℕ) → mid ≡ lev
 topped_added old mid new top n is made =
     subst (AreTopped old top) (sym (made ∙ ap (λ (l : Levels). record l { issued = n }) is)) (topped_with old top n)
 
-module _ (limits : Limits) (begun : Bool) (old new : Levels) (picked : HavePicks new) where
+module _ (most : ℕ) (limits : Limits) (begun : Bool) (old new : Levels) (picked : HavePicks new) where
   abbrev before : Kept
-  before = kept_of limits begun old
+  before = kept_of most limits begun old
 
   abbrev after : Kept
-  after = kept_of limits true new
+  after = kept_of most limits true new
 
-  pub add_step : (id : ℕ) (fee : ℤ) (size : ℕ) → AddRowIs before id fee size None → IsAddedTo id fee size old new
+  pub add_step : (id : ℕ) (fee : ℤ) (size : ℕ) → id < 2 ^ 64 → AddRowIs before id fee size None → IsAddedTo id fee size old new
       → MakesStep before after (Add id fee size) Done
-  add_step id fee size row added =
+  add_step id fee size small row added =
       let change = added.1 in
       let names = live_listed old in
       let may = may_add limits old (length names.0) id fee size (row (length names.0) (counted old names.0 names.1)) in
-      steps_added before after id fee size refl refl may.absent change.0 change.1
-      (topped_added old added.0 new change.0 (old.issued + 1) change.2 added.2) (add_met before id fee size None row) picked
+      steps_added before after id fee size refl refl refl may.absent change.0 change.1
+      (topped_added old added.0 new change.0 (old.issued + 1) change.2 added.2) small (add_met before id fee size None row) picked
 
   pub dep_step : IsSound before → (parent child : ℕ) → DepRefusalIs limits (level_at old Top).graph parent child None
       → ChangesTop (λ a b. AddsPair a b parent child) old new → (is_ancestor (level_at old Top).graph parent child ≡ true → new ≡ old)
       → MakesStep before after (Dep parent child) Done
   dep_step sound parent child row change still =
       let may = may_pair limits (level_at old Top).graph parent child row in
-      steps_paired before after parent child refl refl may.above may.below may.no_way change.0 change.1 (topped_same old new change.0 change.2) still
+      steps_paired before after parent child refl refl refl may.above may.below may.no_way change.0 change.1 (topped_same old new change.0 change.2) still
       (order_sound before sound Top) (dep_row before parent child None row) picked
 
   pub remove_step : (id : ℕ) → is_member (level_at old Top).graph id ≡ true → ChangesTop (λ a b. DropsPlace a b id) old new
       → MakesStep before after (Remove id) Done
   remove_step id live change =
-      steps_dropped before after id refl refl live change.0 change.1 (topped_same old new change.0 change.2) (known_here before Top id live) picked
+      steps_dropped before after id refl refl refl live change.0 change.1 (topped_same old new change.0 change.2) (known_here before Top id live) picked
 
   pub fee_step : (id : ℕ) (fee : ℤ) → IsFee fee → IsLive old id → SetsFeeIn id fee old new
       → (((level : Level) → is_member (level_at old level).graph id ≡ true → (rate_of (level_at old level).graph id).fee ≡ fee) → new ≡ old)
       → MakesStep before after (SetFee id fee) Done
   fee_step id fee in_range live sets still =
-      steps_paid before after id fee refl refl live sets still (fee_row before id fee in_range live) picked
+      steps_paid before after id fee refl refl refl live sets still (fee_row before id fee in_range live) picked
 
 -- ---- other limits
 
-pub limits_step : (limits set : Limits) (begun : Bool) (levels : Levels) → HavePicks levels → begun ≡ false → AreInRange MAX_COUNT set
-    → MakesStep (kept_of limits begun levels) (kept_of set true levels) (SetLimits set.count set.size set.total) Done
-limits_step limits set begun levels picked not_yet in_range =
-    steps_limited (kept_of limits begun levels) (kept_of set true levels) set refl refl refl
-    (limits_row (kept_of limits begun levels) set not_yet in_range) picked
+pub limits_step : (most : ℕ) (limits set : Limits) (begun : Bool) (levels : Levels) → HavePicks levels → begun ≡ false → AreInRange most (bounds_of set)
+    → MakesStep (kept_of most limits begun levels) (kept_of most set true levels) (SetLimits (bounds_of set)) Done
+limits_step most limits set begun levels picked not_yet in_range =
+    steps_limited (kept_of most limits begun levels) (kept_of most set true levels) set refl refl refl refl
+    (limits_row (kept_of most limits begun levels) set not_yet in_range) picked
 
 -- ---- staging
 
@@ -270,28 +273,28 @@ picks_settled old new verdict better other picked = elim (better_or_not verdict)
   | inr not ↦ picks_aborted old new (other not) picked
 ]
 
-module _ (limits : Limits) (begun : Bool) (old new : Levels) where
+module _ (most : ℕ) (limits : Limits) (begun : Bool) (old new : Levels) where
   abbrev first : Kept
-  first = kept_of limits begun old
+  first = kept_of most limits begun old
 
   abbrev last : Kept
-  last = kept_of limits true new
+  last = kept_of most limits true new
 
   pub stage_step : is_some old.staging ≡ false → new ≡ opened old → MakesStep first last Stage Done
-  stage_step alone is = steps_opened first last refl refl alone is (closed_row first alone)
+  stage_step alone is = steps_opened first last refl refl refl alone is (closed_row first alone)
 
   pub commit_step : HavePicks old → is_some old.staging ≡ true → new ≡ committed old → MakesStep first last Commit Done
-  commit_step picked open_is is = steps_committed first last refl refl is open_is (open_row first open_is)
+  commit_step picked open_is is = steps_committed first last refl refl refl is open_is (open_row first open_is)
 
   pub abort_step : HavePicks old → is_some old.staging ≡ true → new ≡ aborted old → MakesStep first last Abort Done
-  abort_step picked open_is is = steps_aborted first last refl refl is picked (open_row first open_is)
+  abort_step picked open_is is = steps_aborted first last refl refl refl is picked (open_row first open_is)
 
   pub settle_step : (verdict : Verdict) → HavePicks old → AreRated old → ComparesParts old.main.parts (level_at old Top).parts verdict
       → is_some old.staging ≡ true → (verdict ≡ Better → new ≡ committed old) → (verdict ≢ Better → new ≡ aborted old)
       → MakesStep first last Settle (Settled verdict)
   settle_step verdict picked rated compares open_is better other = elim (better_or_not verdict) [
-    | inl is ↦ steps_settled first last verdict picked rated compares open_is refl refl is (better is)
-    | inr not ↦ steps_unsettled first last verdict picked rated compares open_is refl refl not (other not)
+    | inl is ↦ steps_settled first last verdict picked rated compares open_is refl refl refl is (better is)
+    | inr not ↦ steps_unsettled first last verdict picked rated compares open_is refl refl refl not (other not)
   ]
 
 -- ---- readings

@@ -24,6 +24,7 @@ use Rattle.levels.specs.Orders.{sums_of}
 use Rattle.tx_graph.proofs.Standing.{graph_at, sum_kept}
 use Rattle.tx_graph.proofs.Picked.{pick_at, pick_here}
 use Rattle.tx_graph.proofs.Reading.{steps_told}
+use Rattle.tx_graph.proofs.Rows.{ordered_row}
 
 -- fees and sizes of the names of a level are in range
 abbrev pub IsRated : OneLevel → Type 0
@@ -84,7 +85,7 @@ module _ (kept : Kept) (picked : HavePicks kept.levels) (level : Level) (rated :
 pub steps_drawn : (kept : Kept) (level : Level) (segments : List Sum) → HavePicks kept.levels → IsRated (level_at kept.levels level)
     → JoinsEqualRates (sums_of (level_at kept.levels level).parts) segments → MakesStep kept kept (Diagram level) (Points (corners_of segments))
 steps_drawn kept level segments picked rated joins =
-    steps_told kept (Diagram level) (Points (corners_of segments)) picked (λ a b keeps. keeps) (λ state stands. refl) (λ state stands. record {
+    steps_told kept (Diagram level) (Points (corners_of segments)) picked (λ a b keeps. keeps) (ordered_row kept level) (λ state stands. record {
       answer = (corners_of segments, corners_at kept picked level rated state.plain stands.plain segments joins, refl);
       change = refl;
     })

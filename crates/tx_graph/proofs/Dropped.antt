@@ -53,8 +53,8 @@ module _ (was top : OneLevel) (id : ℕ) (drops : DropsPlace was.graph top.graph
   other_dropped live same = absurd (true≢false
       (sym live ∙ sym (same.members id) ∙ drops.members id ∙ ap (λ b. not b && is_member was.graph id) (eq-eqb id id refl)))
 
-module _ (old new : Kept) (id : ℕ) (limits : new.limits ≡ old.limits) (begins : new.begun ≡ true) (live : is_member (level_at old.levels Top).graph id ≡ true)
-    (top : OneLevel) (drops : DropsPlace (level_at old.levels Top).graph top.graph id) (topped : AreTopped old.levels top new.levels) where
+module _ (old new : Kept) (id : ℕ) (limits : new.limits ≡ old.limits) (most : new.most ≡ old.most) (begins : new.begun ≡ true)
+    (live : is_member (level_at old.levels Top).graph id ≡ true) (top : OneLevel) (drops : DropsPlace (level_at old.levels Top).graph top.graph id) (topped : AreTopped old.levels top new.levels) where
   abbrev was : OneLevel
   was = level_at old.levels Top
 
@@ -73,11 +73,11 @@ module _ (old new : Kept) (id : ℕ) (limits : new.limits ≡ old.limits) (begin
       mid = with_top (begun state) rest
 
       graphs_left : HasGraphs new mid
-      graphs_left = graphs_topped old new top limits begins topped state stands state.table rest
+      graphs_left = graphs_topped old new top limits most begins topped state stands state.table rest
           (graph_dropped was top id drops (level_of state Top) rest (graph_at old state stands Top) without)
 
       same_table : mid.table ≡ state.table
-      same_table = table_is old new top limits begins topped state stands state.table rest
+      same_table = table_is old new top limits most begins topped state stands state.table rest
           (graph_dropped was top id drops (level_of state Top) rest (graph_at old state stands Top) without)
 
       names_mid : (level : Level) (q : ℕ) → is_member (level_at new.levels level).graph q ≡ true
@@ -96,5 +96,5 @@ module _ (old new : Kept) (id : ℕ) (limits : new.limits ≡ old.limits) (begin
 
   pub steps_dropped : Meets old (Remove id) None → HavePicks new.levels → MakesStep old new (Remove id) Done
   steps_dropped none picked =
-      steps_accepted old new (Remove id) Done none accepts_dropped (λ a b kept. kept)
+      steps_accepted old new (Remove id) Done tt none accepts_dropped (λ a b kept. kept)
       (keeps_topped old.levels new.levels top topped picked (other_dropped was top id drops live))

@@ -9,6 +9,7 @@ use Rattle.graphs.specs.Closures.{Closure, is_member, is_ancestor, rate_of}
 use Rattle.graphs.specs.Graphs.{Graph}
 use Rattle.graphs.proofs.ClosingLemmas.{closes_like}
 use Rattle.graph_model.specs.Commands.{SetFee}
+use Rattle.graph_model.specs.Limits.{bounds_of}
 use Rattle.graph_model.specs.Changes.{with_fee}
 use Rattle.graph_model.specs.Replies.{Done}
 use Rattle.graph_model.specs.States.{Table, Entry, size_of, size_in, top_of}
@@ -79,7 +80,8 @@ staging_paid id fee a b (Some was) None staging alike sets of = absurd (true≢f
 staging_paid id fee a b (Some was) (Some now) None alike sets of = absurd of
 staging_paid id fee a b (Some was) (Some now) (Some graph) alike sets of = graph_paid id fee was now sets graph of
 
-module _ (old new : Kept) (id : ℕ) (fee : ℤ) (limits : new.limits ≡ old.limits) (begins : new.begun ≡ true) (live : IsLive old.levels id)
+module _ (old new : Kept) (id : ℕ) (fee : ℤ) (limits : new.limits ≡ old.limits) (most : new.most ≡ old.most) (begins : new.begun ≡ true)
+    (live : IsLive old.levels id)
     (sets : SetsFeeIn id fee old.levels new.levels)
     (still : ((level : Level) → is_member (level_at old.levels level).graph id ≡ true → (rate_of (level_at old.levels level).graph id).fee ≡ fee)
     → new.levels ≡ old.levels) where
@@ -128,8 +130,8 @@ module _ (old new : Kept) (id : ℕ) (fee : ℤ) (limits : new.limits ≡ old.li
   accepts_paid state stands = (
     with_fee state id fee,
     record {
-      limits = stands.limits ∙ sym limits;
-      most = stands.most;
+      limits = stands.limits ∙ ap bounds_of (sym limits);
+      most = stands.most ∙ sym most;
       begun = sym begins;
       table = rates_paid state.table stands.table;
       main = graph_paid id fee old.levels.main new.levels.main sets.main state.main stands.main;
@@ -162,5 +164,5 @@ module _ (old new : Kept) (id : ℕ) (fee : ℤ) (limits : new.limits ≡ old.li
 
   pub steps_paid : Meets old (SetFee id fee) None → HavePicks new.levels → MakesStep old new (SetFee id fee) Done
   steps_paid none picked =
-      steps_made old new (SetFee id fee) Done none accepts_paid
+      steps_made old new (SetFee id fee) Done tt none accepts_paid
       (λ state next stood stands. picks_follow old new state next stood stands (keeps_paid picked state.plain.table stood.plain.table))

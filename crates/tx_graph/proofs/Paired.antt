@@ -10,12 +10,13 @@ use Rattle.graphs.specs.Closing.{IsClosureOf, with_pair}
 use Rattle.graphs.specs.Graphs.{Graph}
 use Rattle.graphs.proofs.ClosingLemmas.{closes_like, closes_pair}
 use Rattle.graph_model.specs.Commands.{Dep}
+use Rattle.graph_model.specs.Limits.{bounds_of}
 use Rattle.graph_model.specs.Changes.{begun}
 use Rattle.graph_model.specs.Replies.{Done}
 use Rattle.graph_model.specs.States.{PlainState, level_of, with_top}
 use Rattle.levels.specs.Levels.{OneLevel, Levels, HavePicks, level_at}
 use Rattle.tx_graph.specs.Kept.{Kept, HasRates, IsGraphOf, IsStagingOf, StandsPlainly, MakesStep, entry_of}
-use Rattle.tx_graph.proofs.Standing.{Meets, graph_at}
+use Rattle.tx_graph.proofs.Standing.{StandsBarely, Meets, graph_at}
 use Rattle.tx_graph.proofs.Picked.{AreSameLevel, AcceptsAll, steps_accepted}
 use Rattle.tx_graph.proofs.Tops.{AreTopped, top_is, live_stays, rates_topped, keeps_topped, stands_topped}
 
@@ -61,7 +62,7 @@ module _ (was top : OneLevel) (parent child : ℕ) (above : is_member was.graph 
       sym (same.above parent child) ∙ pair.ancestors parent child
       ∙ or_right (is_ancestor was.graph parent child) (is_ancestor was.graph parent parent && is_ancestor was.graph child child) across
 
-module _ (old new : Kept) (parent child : ℕ) (limits : new.limits ≡ old.limits) (begins : new.begun ≡ true)
+module _ (old new : Kept) (parent child : ℕ) (limits : new.limits ≡ old.limits) (most : new.most ≡ old.most) (begins : new.begun ≡ true)
     (above : is_member (level_at old.levels Top).graph parent ≡ true) (below : is_member (level_at old.levels Top).graph child ≡ true)
     (no_way : is_ancestor (level_at old.levels Top).graph child parent ≡ false) (top : OneLevel)
     (pair : AddsPair (level_at old.levels Top).graph top.graph parent child) (topped : AreTopped old.levels top new.levels)
@@ -78,13 +79,13 @@ module _ (old new : Kept) (parent child : ℕ) (limits : new.limits ≡ old.limi
   }
 
   -- the pair is there: the parent is an ancestor, and the levels stay
-  there_next : (state : PlainState) → StandsPlainly old state → Contains (level_of state Top).pairs (parent, child) → StandsPlainly new (begun state)
+  there_next : (state : PlainState) → StandsPlainly old state → Contains (level_of state Top).pairs (parent, child) → StandsBarely new (begun state)
   there_next state stands here =
       let of = graph_at old state stands Top in
       let same = still ((of.closure.ancestors parent child above below).0 (1, (parent, refl, here))) in
       record {
-        limits = stands.limits ∙ sym limits;
-        most = stands.most;
+        limits = stands.limits ∙ ap bounds_of (sym limits);
+        most = stands.most ∙ sym most;
         begun = sym begins;
         table = subst (λ (l : Levels). HasRates l state.table) (sym same) stands.table;
         main = subst (λ (l : Levels). IsGraphOf l.main state.main) (sym same) stands.main;
@@ -92,9 +93,9 @@ module _ (old new : Kept) (parent child : ℕ) (limits : new.limits ≡ old.limi
       }
 
   new_next : (state : PlainState) → StandsPlainly old state → (Contains (level_of state Top).pairs (parent, child) → ⊥)
-      → StandsPlainly new (with_top (begun state) (with_pair (level_of state Top) parent child))
+      → StandsBarely new (with_top (begun state) (with_pair (level_of state Top) parent child))
   new_next state stands none =
-      stands_topped old new top limits begins topped state stands state.table (with_pair (level_of state Top) parent child)
+      stands_topped old new top limits most begins topped state stands state.table (with_pair (level_of state Top) parent child)
       (graph_paired was top parent child above below no_way pair (level_of state Top) (graph_at old state stands Top) none) (rates_paired state stands)
 
   accepts_paired : AcceptsAll old new (Dep parent child) Done
@@ -113,6 +114,6 @@ module _ (old new : Kept) (parent child : ℕ) (limits : new.limits ≡ old.limi
   pub steps_paired : IsOrder (is_member was.graph) (is_ancestor was.graph) → Meets old (Dep parent child) None → HavePicks new.levels
       → MakesStep old new (Dep parent child) Done
   steps_paired order none picked =
-      steps_accepted old new (Dep parent child) Done none accepts_paired (λ a b kept. kept)
+      steps_accepted old new (Dep parent child) Done tt none accepts_paired (λ a b kept. kept)
       (keeps_topped old.levels new.levels top topped picked
       (λ same. parts_still (still (was_above was top parent child above below no_way pair order same))))

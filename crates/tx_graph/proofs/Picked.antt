@@ -12,13 +12,17 @@ use Rattle.graphs.proofs.PickLemmas.{picks_are_kept}
 use Rattle.cluster.specs.Clusters.{sum_at}
 use Rattle.graph_model.specs.States.{PlainState, Picks, State, Table}
 use Rattle.graph_model.specs.States as states
-use Rattle.graph_model.specs.Validity.{ArePicks, IsPickOf}
+use Rattle.graph_model.specs.Limits.{Bounds}
+use Rattle.graph_model.specs.Oversize.{HasOver}
+use Rattle.graph_model.specs.Validity.{ArePicks, IsStagingPick}
+use Rattle.graph_model.proofs.ChangeLemmas.{top_is}
+use Rattle.graph_model.proofs.StepLemmas.{AddsSmall, valid_plain}
 use Rattle.graph_model.specs.Commands.{Command}
 use Rattle.graph_model.specs.Replies.{Reply}
 use Rattle.graph_model.specs.Steps.{AcceptsPlainly, HaveSameRates, KeepsPicks, PicksFollow}
 use Rattle.levels.specs.Levels.{OneLevel, Levels, HasPick, HavePicks, level_at}
 use Rattle.tx_graph.specs.Kept.{Kept, HasRates, IsGraphOf, IsStagingOf, StandsPlainly, StandsFor, MakesStep, picks_of}
-use Rattle.tx_graph.proofs.Standing.{Meets, open_level, sum_kept}
+use Rattle.tx_graph.proofs.Standing.{StandsBarely, made_valid, none_oversized, Meets, open_level, sum_kept}
 
 -- the same names with the same ancestors, fees and sizes
 pub record AreSameLevel (old new : Closure) : Type 0 where
@@ -52,13 +56,15 @@ pick_here level graph rate pick of same =
       ancestors = λ x y. (λ walk. walk, λ walk. walk);
     }) of.valid of.valid level.parts).0 (pick graph of.closure)
 
-staging_picked : (table : Table) (level : Option OneLevel) (staging : Option Graph) → IfSome level HasPick → IsStagingOf level staging
+staging_picked : (bounds : Bounds) (table : Table) (level : Option OneLevel) (staging : Option Graph) → IfSome level HasPick → IsStagingOf level staging
+    → ((graph : Graph) → staging ≡ Some graph → HasOver bounds (states.size_of table) graph → ⊥)
     → ((one : OneLevel) → level ≡ Some one → (id : ℕ) → is_member one.graph id ≡ true → states.rate_of table id ≡ sum_at one.graph id)
-    → IsPickOf table staging (option_map (λ (one : OneLevel). one.parts) level)
-staging_picked table None None pick of same = tt
-staging_picked table None (Some graph) pick of same = absurd of
-staging_picked table (Some level) None pick of same = absurd of
-staging_picked table (Some level) (Some graph) pick of same = pick_here level graph (states.rate_of table) pick of (same level refl)
+    → IsStagingPick bounds table staging (option_map (λ (one : OneLevel). Some one.parts) level)
+staging_picked bounds table None None pick of none same = tt
+staging_picked bounds table None (Some graph) pick of none same = absurd of
+staging_picked bounds table (Some level) None pick of none same = absurd of
+staging_picked bounds table (Some level) (Some graph) pick of none same =
+    (none graph refl, pick_here level graph (states.rate_of table) pick of (same level refl))
 
 -- the top level is the staging that there is
 staging_sums : (levels : Levels) (table : Table) → HasRates levels table → (one : OneLevel) → levels.staging ≡ Some one
@@ -69,8 +75,13 @@ staging_sums levels table rates one is =
 
 pub are_picks : (kept : Kept) (state : PlainState) → HavePicks kept.levels → StandsPlainly kept state → ArePicks state (picks_of kept.levels)
 are_picks kept state picked stands = record {
-  main = pick_here kept.levels.main state.main (states.rate_of state.table) picked.0 stands.main (sum_kept kept.levels state.table stands.table Main);
-  staging = staging_picked state.table kept.levels.staging state.staging picked.1 stands.staging (staging_sums kept.levels state.table stands.table);
+  main = (
+    none_oversized kept state stands Main,
+    pick_here kept.levels.main state.main (states.rate_of state.table) picked.0 stands.main (sum_kept kept.levels state.table stands.table Main),
+  );
+  staging = staging_picked state.limits state.table kept.levels.staging state.staging picked.1 stands.staging
+      (λ graph is. subst (λ (g : Graph). HasOver state.limits (states.size_of state.table) g → ⊥) (top_is state graph is)
+      (none_oversized kept state stands Top)) (staging_sums kept.levels state.table stands.table);
 }
 
 -- ---- which levels are the same
@@ -119,12 +130,12 @@ module _ (old new : Kept) (state : State) (next : PlainState) (stood : StandsFor
       let same = keeps.staging a.0 b.0 a.1 b.1 (same_level a.0 b.0 graph a.2 b.2 (λ q here.
       sym (staging_sums new.levels next.table stands.table b.0 b.1 q ((b.2.closure.names q).0 here)) ∙ rates q here
       ∙ staging_sums old.levels state.plain.table stood.plain.table a.0 a.1 q ((a.2.closure.names q).0 here))) in
-      ap (option_map (λ (one : OneLevel). one.parts)) b.1 ∙ ap Some same ∙ sym (ap (option_map (λ (one : OneLevel). one.parts)) a.1)
+      ap (option_map (λ (one : OneLevel). Some one.parts)) b.1 ∙ ap (λ ps. Some (Some ps)) same ∙ sym (ap (option_map (λ (one : OneLevel). Some one.parts)) a.1)
 
   pub picks_follow : KeepsPicks state (record { plain = next; picks = picks_of new.levels })
   picks_follow = record {
     picks = are_picks new next keeps.picked stands;
-    main = λ is rates. main_kept is rates ∙ sym (ap (λ (p : Picks). p.main) stood.picks);
+    main = λ is rates. ap Some (main_kept is rates) ∙ sym (ap (λ (p : Picks). p.main) stood.picks);
     staging = λ graph was is rates. staging_kept graph was is rates ∙ sym (ap (λ (p : Picks). p.staging) stood.picks);
   }
 
@@ -133,27 +144,30 @@ module _ (old new : Kept) (state : State) (next : PlainState) (stood : StandsFor
 -- the plain part of an accepted command, from every plain state that the graph stood for
 abbrev pub AcceptsAll : Kept → Kept → Command → Reply → Type 0
 AcceptsAll old new command reply = (state : PlainState) → StandsPlainly old state
-    → (next : PlainState) × StandsPlainly new next × ((picks : Picks) → AcceptsPlainly picks state command reply next)
+    → (next : PlainState) × StandsBarely new next × ((picks : Picks) → AcceptsPlainly picks state command reply next)
 
 -- the picks that follow it are the parts
 abbrev pub Follows : Kept → Kept → Command → Type 0
 Follows old new command = (state : State) (next : PlainState) → StandsFor old state → StandsPlainly new next
     → PicksFollow state command (record { plain = next; picks = picks_of new.levels })
 
-pub steps_made : (old new : Kept) (command : Command) (reply : Reply) → Meets old command None → AcceptsAll old new command reply
+pub steps_made : (old new : Kept) (command : Command) (reply : Reply) → AddsSmall command → Meets old command None → AcceptsAll old new command reply
     → Follows old new command → MakesStep old new command reply
-steps_made old new command reply none accepts follow state stands =
-    let made = accepts state.plain stands.plain in (
+steps_made old new command reply small none accepts follow state stands =
+    let made = accepts state.plain stands.plain in
+    let row = none state.plain stands.plain in
+    let stood = made_valid new made.0 made.1
+    (valid_plain state.picks state.plain made.0 command small stands.plain.valid row (made.2 state.picks).change) in (
       record { plain = made.0; picks = picks_of new.levels },
-      record { plain = made.1; picks = refl },
+      record { plain = stood; picks = refl },
       inr (inr (record {
-        none = none state.plain stands.plain;
-        accepts = record { plain = made.2 state.picks; picks = follow state made.0 stands made.1 };
+        none = row;
+        accepts = record { plain = made.2 state.picks; picks = follow state made.0 stands stood };
       })),
     )
 
-pub steps_accepted : (old new : Kept) (command : Command) (reply : Reply) → Meets old command None → AcceptsAll old new command reply
+pub steps_accepted : (old new : Kept) (command : Command) (reply : Reply) → AddsSmall command → Meets old command None → AcceptsAll old new command reply
     → KeepsCommand command → KeepsParts old.levels new.levels → MakesStep old new command reply
-steps_accepted old new command reply none accepts follow keeps =
-    steps_made old new command reply none accepts
+steps_accepted old new command reply small none accepts follow keeps =
+    steps_made old new command reply small none accepts
     (λ state next stood stands. follow state (record { plain = next; picks = picks_of new.levels }) (picks_follow old new state next stood stands keeps))

@@ -15,7 +15,7 @@ use Rattle.levels.specs.Levels.{OneLevel, HavePicks, level_at}
 use Rattle.tx_graph.specs.Kept.{Kept, IsGraphOf, StandsFor, MakesStep}
 use Rattle.tx_graph.proofs.Standing.{Meets, graph_at, order_kept, told, connected-linked}
 use Rattle.tx_graph.proofs.Picked.{KeepsCommand, are_picks}
-use Rattle.tx_graph.proofs.Rows.{known_here}
+use Rattle.tx_graph.proofs.Rows.{name_row}
 
 -- a state keeps its picks where nothing changes
 keeps_itself : (kept : Kept) (state : State) → HavePicks kept.levels → StandsFor kept state → KeepsPicks state state
@@ -83,21 +83,21 @@ module _ (kept : Kept) (level : Level) (id : ℕ) (ids : List ℕ) (picked : Hav
 
   pub steps_clustered : Lists (λ q. AreLinked at.graph id q) ids → MakesStep kept kept (Cluster id level) (Ids ids)
   steps_clustered lists =
-      steps_told kept (Cluster id level) (Ids ids) picked (λ a b kept. kept) (known_here kept level id live) (λ state stands. record {
+      steps_told kept (Cluster id level) (Ids ids) picked (λ a b kept. kept) (name_row kept level id live) (λ state stands. record {
         answer = (ids, names_linked at (level_of state.plain level) (graph_at kept state.plain stands.plain level) id ids live lists, refl);
         change = refl;
       })
 
   pub steps_ascended : Lists (λ q. is_ancestor at.graph q id ≡ true) ids → MakesStep kept kept (Ancestors id level) (Ids ids)
   steps_ascended lists =
-      steps_told kept (Ancestors id level) (Ids ids) picked (λ a b kept. kept) (known_here kept level id live) (λ state stands. record {
+      steps_told kept (Ancestors id level) (Ids ids) picked (λ a b kept. kept) (name_row kept level id live) (λ state stands. record {
         answer = (ids, names_above at (level_of state.plain level) (graph_at kept state.plain stands.plain level) id ids live lists, refl);
         change = refl;
       })
 
   pub steps_descended : Lists (λ q. is_ancestor at.graph id q ≡ true) ids → MakesStep kept kept (Descendants id level) (Ids ids)
   steps_descended lists =
-      steps_told kept (Descendants id level) (Ids ids) picked (λ a b kept. kept) (known_here kept level id live) (λ state stands. record {
+      steps_told kept (Descendants id level) (Ids ids) picked (λ a b kept. kept) (name_row kept level id live) (λ state stands. record {
         answer = (ids, names_below at (level_of state.plain level) (graph_at kept state.plain stands.plain level) id ids live lists, refl);
         change = refl;
       })

@@ -1,5 +1,5 @@
 -- The rows of refusals, by the levels that are kept.
-use Rattle.std.proofs.Common.{◌≡◌, ℕ, ℤ, ◌<◌, true, false, List, sym, refl, subst, ◌∙◌, inl, inr, ◌⊎◌, ◌↔◌, Option, None, Some, is_some, true≢false}
+use Rattle.std.proofs.Common.{◌≡◌, ℕ, ℤ, ◌<◌, true, false, List, sym, refl, ap, subst, ◌∙◌, inl, inr, ◌⊎◌, ◌↔◌, Option, None, Some, is_some, true≢false}
 use Rattle.std.specs.Prelude.{Contains, sum_by}
 use Rattle.std.proofs.lemmas.Bool.{true_from_ne_false}
 use Rattle.lists.proofs.Walks.{Walk-keeps}
@@ -10,38 +10,38 @@ use Rattle.graphs.specs.Closures.{is_member, is_ancestor, rate_of, IsRelated, Ar
 use Rattle.graphs.specs.Graphs.{Graph, IsAncestor, AreConnected, Lists}
 use Rattle.graphs.proofs.ClosingLemmas.{linked_back}
 use Rattle.graphs.proofs.ListLemmas.{Lists-for}
-use Rattle.graph_model.specs.declared.limits.TheConstants.{MAX_COUNT}
 use Rattle.graph_model.specs.declared.names.Limits.{Limits}
 use Rattle.graph_model.specs.declared.names.Refusal.{Refusal}
-use Rattle.graph_model.specs.declared.names.Refusal.TheVariants.{Late, Range, Fee, Unknown, Cycle, Count, ClusterSize, Staging, NoStaging}
-use Rattle.graph_model.specs.Limits.{AreInRange}
+use Rattle.graph_model.specs.declared.names.Refusal.TheVariants.{Late, Range, Fee, Unknown, Cycle, Count, ClusterSize, Staging, NoStaging, Oversized}
+use Rattle.graph_model.specs.Limits.{Bounds, AreInRange, bounds_of}
 use Rattle.graph_model.specs.States.{PlainState, level_of, size_of, IsStaged}
 use Rattle.graph_model.specs.Commands.{SetLimits, Dep, SetFee, Before}
-use Rattle.graph_model.specs.Refusals.{RefusalIs, First, NoRefusal, OverCount, OverSize}
+use Rattle.graph_model.specs.Oversize.{IsOversized}
+use Rattle.graph_model.specs.Refusals.{RefusalIs, First, NoRefusal, NameRow, CompareRow, IsAbsent, OverCount, OverSize}
 use Rattle.arithmetic.proofs.Sums.{sum_by_along}
 use Rattle.graph_model.proofs.RowLemmas.{first_along, first_at_along}
 use Rattle.levels.specs.Levels.{OneLevel, level_at, IsLive}
 use Rattle.levels.specs.Joins.{JoinsTo, JoinsTooMany, JoinsTooLarge, DepRefusalIs}
 use Rattle.tx_graph.specs.Kept.{Kept, IsGraphOf, StandsPlainly}
-use Rattle.tx_graph.proofs.Standing.{order_kept, told, connected-linked, graph_at, named, staged, live_told, size_kept, Meets}
+use Rattle.tx_graph.proofs.Standing.{none_oversized, order_kept, told, connected-linked, graph_at, named, staged, live_told, size_kept, Meets}
 
 -- ---- limits
 
-pub late_row : (kept : Kept) (set : Limits) → kept.begun ≡ true → Meets kept (SetLimits set.count set.size set.total) (Some Late)
+pub late_row : (kept : Kept) (set : Limits) → kept.begun ≡ true → Meets kept (SetLimits (bounds_of set)) (Some Late)
 late_row kept set begun state stands = inl (stands.begun ∙ begun, refl)
 
 early : (kept : Kept) → kept.begun ≡ false → (state : PlainState) → StandsPlainly kept state → state.begun ≡ true → ⊥
 early kept not_yet state stands is = true≢false (sym is ∙ stands.begun ∙ not_yet)
 
-pub range_row : (kept : Kept) (set : Limits) → kept.begun ≡ false → (AreInRange MAX_COUNT set → ⊥)
-    → Meets kept (SetLimits set.count set.size set.total) (Some Range)
+pub range_row : (kept : Kept) (set : Limits) → kept.begun ≡ false → (AreInRange kept.most (bounds_of set) → ⊥)
+    → Meets kept (SetLimits (bounds_of set)) (Some Range)
 range_row kept set not_yet out state stands =
-    inr (early kept not_yet state stands, inl ((λ is. out (subst (λ most. AreInRange most set) stands.most is)), refl))
+    inr (early kept not_yet state stands, inl ((λ is. out (subst (λ most. AreInRange most (bounds_of set)) stands.most is)), refl))
 
-pub limits_row : (kept : Kept) (set : Limits) → kept.begun ≡ false → AreInRange MAX_COUNT set
-    → Meets kept (SetLimits set.count set.size set.total) None
+pub limits_row : (kept : Kept) (set : Limits) → kept.begun ≡ false → AreInRange kept.most (bounds_of set)
+    → Meets kept (SetLimits (bounds_of set)) None
 limits_row kept set not_yet in_range state stands =
-    inr (early kept not_yet state stands, inr (λ out. out (subst (λ most. AreInRange most set) (sym stands.most) in_range), refl))
+    inr (early kept not_yet state stands, inr (λ out. out (subst (λ most. AreInRange most (bounds_of set)) (sym stands.most) in_range), refl))
 
 -- ---- fees
 
@@ -58,17 +58,33 @@ fee_row kept id fee in_range live state stands =
 
 -- ---- a name that must be in a level
 
--- the row of every command whose only refusal is an unknown name
-abbrev pub NameRow : Level → ℕ → PlainState → Option Refusal → Type 0
-NameRow level id state found = First (Contains (level_of state level).names id → ⊥) (Unknown id) NoRefusal found
+-- a row that begins with an unknown name
+pub unknown_first : (kept : Kept) (level : Level) (id : ℕ) (later : Option Refusal → Type 0) → is_member (level_at kept.levels level).graph id ≡ false
+    → (state : PlainState) → StandsPlainly kept state → First (IsAbsent state level id) (Unknown id) later (Some (Unknown id))
+unknown_first kept level id later fails state stands = inl (λ here. true≢false (sym ((named kept state stands level id).0 here) ∙ fails), refl)
+
+-- of a reading of a name, and of the other commands
+pub unread_here : (kept : Kept) (level : Level) (id : ℕ) → is_member (level_at kept.levels level).graph id ≡ false
+    → (state : PlainState) → StandsPlainly kept state → NameRow (IsAbsent state level id) (IsOversized state level) id (Some (Unknown id))
+unread_here kept level id fails state stands =
+    unknown_first kept level id (First (IsOversized state level) Oversized NoRefusal) fails state stands
 
 pub unknown_here : (kept : Kept) (level : Level) (id : ℕ) → is_member (level_at kept.levels level).graph id ≡ false
-    → (state : PlainState) → StandsPlainly kept state → NameRow level id state (Some (Unknown id))
-unknown_here kept level id fails state stands = inl (λ here. true≢false (sym ((named kept state stands level id).0 here) ∙ fails), refl)
+    → (state : PlainState) → StandsPlainly kept state → First (IsAbsent state level id) (Unknown id) NoRefusal (Some (Unknown id))
+unknown_here kept level id = unknown_first kept level id NoRefusal
 
 pub known_here : (kept : Kept) (level : Level) (id : ℕ) → is_member (level_at kept.levels level).graph id ≡ true
-    → (state : PlainState) → StandsPlainly kept state → NameRow level id state None
+    → (state : PlainState) → StandsPlainly kept state → First (IsAbsent state level id) (Unknown id) NoRefusal None
 known_here kept level id holds state stands = inr (λ none. none ((named kept state stands level id).1 holds), refl)
+
+-- the row of a reading of an order
+pub ordered_row : (kept : Kept) (level : Level) (state : PlainState) → StandsPlainly kept state → First (IsOversized state level) Oversized NoRefusal None
+ordered_row kept level state stands = inr (none_oversized kept state stands level, refl)
+
+-- the row of a reading of a name
+pub name_row : (kept : Kept) (level : Level) (id : ℕ) → is_member (level_at kept.levels level).graph id ≡ true
+    → (state : PlainState) → StandsPlainly kept state → NameRow (IsAbsent state level id) (IsOversized state level) id None
+name_row kept level id holds state stands = inr (λ none. none ((named kept state stands level id).1 holds), ordered_row kept level state stands)
 
 pub no_first_row : (kept : Kept) (a b : ℕ) → is_member kept.levels.main.graph a ≡ false → Meets kept (Before a b) (Some (Unknown a))
 no_first_row kept a b fails state stands = inl (λ here. true≢false (sym ((named kept state stands Main a).0 here) ∙ fails), refl)
@@ -81,7 +97,7 @@ no_second_row kept a b holds fails state stands =
 pub both_row : (kept : Kept) (a b : ℕ) → is_member kept.levels.main.graph a ≡ true → is_member kept.levels.main.graph b ≡ true
     → Meets kept (Before a b) None
 both_row kept a b one two state stands =
-    inr (λ none. none ((named kept state stands Main a).1 one), inr (λ none. none ((named kept state stands Main b).1 two), refl))
+    inr (λ none. none ((named kept state stands Main a).1 one), name_row kept Main b two state stands)
 
 -- ---- a staging that must be open, or closed
 
@@ -103,6 +119,20 @@ unstaged_row kept is state stands = inl (λ there. true≢false (sym there ∙ s
 
 pub open_row : (kept : Kept) → is_some kept.levels.staging ≡ true → (state : PlainState) → StandsPlainly kept state → NoStagingRow state None
 open_row kept is state stands = inr (λ none. none (staged kept state stands ∙ is), refl)
+
+-- the row of what reads the orders of both levels
+abbrev pub BothRow : PlainState → Option Refusal → Type 0
+BothRow state = CompareRow (IsStaged state → ⊥) (IsOversized state Main ⊎ IsOversized state Top)
+
+pub alone_row : (kept : Kept) → is_some kept.levels.staging ≡ false → (state : PlainState) → StandsPlainly kept state → BothRow state (Some NoStaging)
+alone_row kept is state stands = inl (λ there. true≢false (sym there ∙ staged kept state stands ∙ is), refl)
+
+pub compare_row : (kept : Kept) → is_some kept.levels.staging ≡ true → (state : PlainState) → StandsPlainly kept state → BothRow state None
+compare_row kept is state stands =
+    inr (λ none. none (staged kept state stands ∙ is), inr (λ over. elim over [
+      | inl main ↦ none_oversized kept state stands Main main
+      | inr top ↦ none_oversized kept state stands Top top
+    ], refl))
 
 -- ---- pairs
 
@@ -147,10 +177,13 @@ module _ (kept : Kept) (state : PlainState) (stands : StandsPlainly kept state) 
     ),
   )
 
+  strict : state.limits.defer ≡ false
+  strict = ap (λ (b : Bounds). b.defer) stands.limits
+
   too_many : (n : ℕ) → JoinsTooMany kept.limits top.graph parent child n ↔ OverCount state parent child n
   too_many n = (
-    λ many. (many.0, (joins_to many.0).0 many.1, many.2, subst (λ (l : Limits). l.count < n) (sym stands.limits) many.3),
-    λ many. (many.0, (joins_to many.0).1 many.1, many.2, subst (λ (l : Limits). l.count < n) stands.limits many.3),
+    λ many. (many.0, strict, (joins_to many.0).0 many.1, many.2, subst (λ (l : Bounds). l.count < n) (sym stands.limits) many.3),
+    λ many. (many.0, (joins_to many.0).1 many.2, many.3, subst (λ (l : Bounds). l.count < n) stands.limits many.4),
   )
 
   -- what is linked to a name of the level is one
@@ -177,13 +210,14 @@ module _ (kept : Kept) (state : PlainState) (stands : StandsPlainly kept state) 
     too_large n = (
       λ large. (
         large.0,
+        strict,
         (joins_to large.0).0 large.1,
         large.2 ∙ sym (sizes large.0 large.1),
-        subst (λ (l : Limits). l.size < n) (sym stands.limits) large.3,
+        subst (λ (l : Bounds). l.size < n) (sym stands.limits) large.3,
       ),
       λ large.
-          let joins = (joins_to large.0).1 large.1 in
-          (large.0, joins, large.2 ∙ sizes large.0 joins, subst (λ (l : Limits). l.size < n) stands.limits large.3),
+          let joins = (joins_to large.0).1 large.2 in
+          (large.0, joins, large.3 ∙ sizes large.0 joins, subst (λ (l : Bounds). l.size < n) stands.limits large.4),
     )
 
     -- a name of the level is an ancestor of itself

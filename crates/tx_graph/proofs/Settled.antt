@@ -16,7 +16,7 @@ use Rattle.levels.specs.Orders.{ComparesParts}
 use Rattle.tx_graph.proofs.Picked.{steps_made, picks_follow}
 use Rattle.tx_graph.proofs.Drawn.{AreRated, segments_at, corners_at}
 use Rattle.tx_graph.proofs.Reading.{steps_told}
-use Rattle.tx_graph.proofs.Rows.{open_row}
+use Rattle.tx_graph.proofs.Rows.{compare_row}
 use Rattle.tx_graph.proofs.Staged.{committed, aborted, after_commit, stands_committed, commits, commits_pick, after_abort, stands_aborted, aborts, keeps_aborted}
 
 -- a state has one verdict
@@ -43,14 +43,14 @@ module _ (kept : Kept) (verdict : Verdict) (picked : HavePicks kept.levels) (rat
 
   pub steps_compared : is_some kept.levels.staging ≡ true → MakesStep kept kept Compare (Compared verdict)
   steps_compared open_is =
-      steps_told kept Compare (Compared verdict) picked (λ a b keeps. keeps) (open_row kept open_is) (λ state stands. record {
+      steps_told kept Compare (Compared verdict) picked (λ a b keeps. keeps) (compare_row kept open_is) (λ state stands. record {
         answer = (verdict, verdict_here state.plain stands.plain, refl);
         change = refl;
       })
 
 module _ (old new : Kept) (verdict : Verdict) (picked : HavePicks old.levels) (rated : AreRated old.levels)
     (compares : ComparesParts old.levels.main.parts (level_at old.levels Top).parts verdict) (open_is : is_some old.levels.staging ≡ true)
-    (limits : new.limits ≡ old.limits) (begins : new.begun ≡ true) where
+    (limits : new.limits ≡ old.limits) (most : new.most ≡ old.most) (begins : new.begun ≡ true) where
   here : (state : PlainState) → StandsPlainly old state → VerdictIs state verdict
   here = verdict_here old verdict picked rated compares
 
@@ -59,24 +59,30 @@ module _ (old new : Kept) (verdict : Verdict) (picked : HavePicks old.levels) (r
   steps_settled better levels =
       let found : (state : PlainState) → StandsPlainly old state → VerdictIs state Better =
       λ state stands. subst (VerdictIs state) better (here state stands) in
-      steps_made old new Settle (Settled verdict) (open_row old open_is)
+      steps_made old new Settle (Settled verdict) tt (compare_row old open_is)
       (λ state stands. (
-        after_commit old new limits begins levels state stands,
-        stands_committed old new limits begins levels state stands,
-        λ picks. record { answer = (verdict, here state stands, refl); change = inl (found state stands, commits old new limits begins levels state stands) },
+        after_commit old new limits most begins levels state stands,
+        stands_committed old new limits most begins levels state stands,
+        λ picks. record {
+          answer = (verdict, here state stands, refl);
+          change = inl (found state stands, commits old new limits most begins levels state stands);
+        },
       ))
-      (λ state next stood stands. inl (found state.plain stood.plain, commits_pick old new limits begins levels open_is state stood))
+      (λ state next stood stands. inl (found state.plain stood.plain, commits_pick old new limits most begins levels open_is state stood))
 
   -- any other is closed
   pub steps_unsettled : verdict ≢ Better → new.levels ≡ aborted old.levels → MakesStep old new Settle (Settled verdict)
   steps_unsettled other levels =
       let none : (state : PlainState) → StandsPlainly old state → VerdictIs state Better → ⊥ = λ state stands better.
       other (verdict_once state verdict Better (here state stands) better) in
-      steps_made old new Settle (Settled verdict) (open_row old open_is)
+      steps_made old new Settle (Settled verdict) tt (compare_row old open_is)
       (λ state stands. (
-        after_abort old new limits begins levels state stands,
-        stands_aborted old new limits begins levels state stands,
-        λ picks. record { answer = (verdict, here state stands, refl); change = inr (none state stands, aborts old new limits begins levels state stands) },
+        after_abort old new limits most begins levels state stands,
+        stands_aborted old new limits most begins levels state stands,
+        λ picks. record {
+          answer = (verdict, here state stands, refl);
+          change = inr (none state stands, aborts old new limits most begins levels state stands);
+        },
       ))
       (λ state next stood stands.
-      inr (none state.plain stood.plain, picks_follow old new state next stood stands (keeps_aborted old new limits begins levels picked)))
+      inr (none state.plain stood.plain, picks_follow old new state next stood stands (keeps_aborted old new limits most begins levels picked)))

@@ -6,6 +6,7 @@ use Rattle.lists.proofs.Cases.{some_none, none_of}
 use Rattle.graphs.specs.declared.names.Level.{Level}
 use Rattle.graphs.specs.declared.names.Level.TheVariants.{Main, Top}
 use Rattle.graphs.specs.Closures.{is_member, rate_of}
+use Rattle.graph_model.specs.Limits.{bounds_of}
 use Rattle.graph_model.specs.Changes.{begun, staged, Commits, Aborts}
 use Rattle.graph_model.specs.Commands.{Stage, Commit, Abort}
 use Rattle.graph_model.specs.Replies.{Done}
@@ -13,7 +14,7 @@ use Rattle.graph_model.specs.States.{PlainState, Picks, State, level_of, top_of}
 use Rattle.graph_model.specs.Steps.{CommitsPick}
 use Rattle.levels.specs.Levels.{OneLevel, Levels, HavePicks, level_at, IsLive}
 use Rattle.tx_graph.specs.Kept.{Kept, HasRates, IsGraphOf, IsStagingOf, StandsPlainly, StandsFor, MakesStep, entry_of, picks_of}
-use Rattle.tx_graph.proofs.Standing.{Meets, graph_at}
+use Rattle.tx_graph.proofs.Standing.{StandsBarely, Meets, graph_at}
 use Rattle.tx_graph.proofs.Picked.{KeepsParts, pick_at, AcceptsAll, Follows, steps_made, steps_accepted}
 use Rattle.tx_graph.proofs.Tables.{forgotten, stands_forgotten, forgets}
 use Rattle.tx_graph.proofs.Tops.{HasGraphs}
@@ -35,8 +36,8 @@ some_staged (Some one) is = (one, refl)
 
 -- ---- `stage`
 
-module _ (old new : Kept) (limits : new.limits ≡ old.limits) (begins : new.begun ≡ true) (alone : is_some old.levels.staging ≡ false)
-    (levels : new.levels ≡ opened old.levels) where
+module _ (old new : Kept) (limits : new.limits ≡ old.limits) (most : new.most ≡ old.most) (begins : new.begun ≡ true)
+    (alone : is_some old.levels.staging ≡ false) (levels : new.levels ≡ opened old.levels) where
   top_main : level_at old.levels Top ≡ old.levels.main
   top_main = ap (top_of old.levels.main) (none_of old.levels.staging alone)
 
@@ -53,8 +54,8 @@ module _ (old new : Kept) (limits : new.limits ≡ old.limits) (begins : new.beg
   accepts_opened state stands = (
     staged state,
     record {
-      limits = stands.limits ∙ sym limits;
-      most = stands.most;
+      limits = stands.limits ∙ ap bounds_of (sym limits);
+      most = stands.most ∙ sym most;
       begun = sym begins;
       table = subst (λ (l : Levels). HasRates l state.table) (sym levels) (rates_opened state stands);
       main = subst (λ (l : Levels). IsGraphOf l.main state.main) (sym levels) stands.main;
@@ -68,22 +69,23 @@ module _ (old new : Kept) (limits : new.limits ≡ old.limits) (begins : new.beg
   picks_opened state next stood stands = ap picks_of levels ∙ ap (λ (p : Picks). record { main = p.main; staging = Some p.main }) (sym stood.picks)
 
   pub steps_opened : Meets old Stage None → MakesStep old new Stage Done
-  steps_opened none = steps_made old new Stage Done none accepts_opened picks_opened
+  steps_opened none = steps_made old new Stage Done tt none accepts_opened picks_opened
 
 pub picks_of_opened : (levels : Levels) → HavePicks levels → HavePicks (opened levels)
 picks_of_opened levels picked = (picked.0, picked.0)
 
 -- ---- `commit`
 
-module _ (old new : Kept) (limits : new.limits ≡ old.limits) (begins : new.begun ≡ true) (levels : new.levels ≡ committed old.levels) where
+module _ (old new : Kept) (limits : new.limits ≡ old.limits) (most : new.most ≡ old.most) (begins : new.begun ≡ true)
+    (levels : new.levels ≡ committed old.levels) where
   module _ (state : PlainState) (stands : StandsPlainly old state) where
     abbrev pub main_next : PlainState
     main_next = record (begun state) { main = level_of state Top; staging = None }
 
     pub graphs_committed : HasGraphs new main_next
     graphs_committed = record {
-      limits = stands.limits ∙ sym limits;
-      most = stands.most;
+      limits = stands.limits ∙ ap bounds_of (sym limits);
+      most = stands.most ∙ sym most;
       begun = sym begins;
       main = subst (λ (l : Levels). IsGraphOf l.main (level_of state Top)) (sym levels) (graph_at old state stands Top);
       staging = subst (λ (l : Levels). IsStagingOf l.staging None) (sym levels) tt;
@@ -99,7 +101,7 @@ module _ (old new : Kept) (limits : new.limits ≡ old.limits) (begins : new.beg
     abbrev pub after_commit : PlainState
     after_commit = forgotten new main_next graphs_committed names_committed
 
-    pub stands_committed : StandsPlainly new after_commit
+    pub stands_committed : StandsBarely new after_commit
     stands_committed = stands_forgotten new main_next graphs_committed names_committed
 
     pub commits : Commits state after_commit
@@ -117,27 +119,28 @@ module _ (old new : Kept) (limits : new.limits ≡ old.limits) (begins : new.beg
   commits_pick open_is state stands =
       let one = some_staged old.levels.staging open_is in
       let main : new.levels.main ≡ one.0 = ap (λ (l : Levels). l.main) levels ∙ ap (top_of old.levels.main) one.1 in (
-        ap (λ (p : Picks). p.staging) stands.picks ∙ ap (option_map (λ (l : OneLevel). l.parts)) one.1 ∙ ap (λ (l : OneLevel). Some l.parts) (sym main),
+        ap (λ (p : Picks). p.staging) stands.picks ∙ ap (option_map (λ (l : OneLevel). Some l.parts)) one.1 ∙ ap (λ (l : OneLevel). Some (Some l.parts)) (sym main),
         ap (λ (l : Levels). (picks_of l).staging) levels,
       )
 
   pub steps_committed : is_some old.levels.staging ≡ true → Meets old Commit None → MakesStep old new Commit Done
-  steps_committed open_is none = steps_made old new Commit Done none accepts_committed (λ state next stood stands. commits_pick open_is state stood)
+  steps_committed open_is none = steps_made old new Commit Done tt none accepts_committed (λ state next stood stands. commits_pick open_is state stood)
 
 pub picks_of_committed : (levels : Levels) → HavePicks levels → HavePicks (committed levels)
 picks_of_committed levels picked = (pick_at levels Top picked, tt)
 
 -- ---- `abort`
 
-module _ (old new : Kept) (limits : new.limits ≡ old.limits) (begins : new.begun ≡ true) (levels : new.levels ≡ aborted old.levels) where
+module _ (old new : Kept) (limits : new.limits ≡ old.limits) (most : new.most ≡ old.most) (begins : new.begun ≡ true)
+    (levels : new.levels ≡ aborted old.levels) where
   module _ (state : PlainState) (stands : StandsPlainly old state) where
     abbrev pub main_left : PlainState
     main_left = record (begun state) { staging = None }
 
     pub graphs_aborted : HasGraphs new main_left
     graphs_aborted = record {
-      limits = stands.limits ∙ sym limits;
-      most = stands.most;
+      limits = stands.limits ∙ ap bounds_of (sym limits);
+      most = stands.most ∙ sym most;
       begun = sym begins;
       main = subst (λ (l : Levels). IsGraphOf l.main state.main) (sym levels) stands.main;
       staging = subst (λ (l : Levels). IsStagingOf l.staging None) (sym levels) tt;
@@ -153,7 +156,7 @@ module _ (old new : Kept) (limits : new.limits ≡ old.limits) (begins : new.beg
     abbrev pub after_abort : PlainState
     after_abort = forgotten new main_left graphs_aborted names_aborted
 
-    pub stands_aborted : StandsPlainly new after_abort
+    pub stands_aborted : StandsBarely new after_abort
     stands_aborted = stands_forgotten new main_left graphs_aborted names_aborted
 
     pub aborts : Aborts state after_abort
@@ -175,7 +178,7 @@ module _ (old new : Kept) (limits : new.limits ≡ old.limits) (begins : new.beg
   }
 
   pub steps_aborted : HavePicks old.levels → Meets old Abort None → MakesStep old new Abort Done
-  steps_aborted picked none = steps_accepted old new Abort Done none accepts_aborted (λ a b kept. kept) (keeps_aborted picked)
+  steps_aborted picked none = steps_accepted old new Abort Done tt none accepts_aborted (λ a b kept. kept) (keeps_aborted picked)
 
 pub picks_of_aborted : (levels : Levels) → HavePicks levels → HavePicks (aborted levels)
 picks_of_aborted levels picked = (picked.0, tt)

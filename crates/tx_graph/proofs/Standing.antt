@@ -11,6 +11,10 @@ use Rattle.graphs.proofs.ClosingLemmas.{order_from, ancestors_told, connected_li
 use Rattle.cluster.specs.Clusters.{sum_at}
 use Rattle.graph_model.specs.declared.names.Refusal.{Refusal}
 use Rattle.graph_model.specs.declared.names.Refusal.TheVariants.{Memory}
+use Rattle.graph_model.specs.Limits.{Bounds, bounds_of}
+use Rattle.graph_model.specs.Oversize.{IsOversized}
+use Rattle.graph_model.specs.Validity.{IsValid}
+use Rattle.graph_model.proofs.ValidLemmas.{top_level}
 use Rattle.graph_model.specs.States.{PlainState, Picks, Table, level_of, pick_of, top_of, sum_in, size_of, IsStaged}
 use Rattle.graph_model.specs.States as states
 use Rattle.graph_model.specs.Commands.{Command}
@@ -33,6 +37,35 @@ module _ (level : OneLevel) (graph : Graph) (of : IsGraphOf level graph) where
   pub connected-linked : (a b : ℕ) → AreConnected graph.pairs a b ↔ AreLinked level.graph a b
   connected-linked = connected_linked level.graph graph order_kept of.closure
 
+-- ---- what is shown of a state before it is known to be valid
+
+-- A graph stands for a plain state, but that this is valid.
+pub record StandsBarely (kept : Kept) (state : PlainState) : Type 0 where
+  pub limits : state.limits ≡ bounds_of kept.limits
+  pub most : state.most ≡ kept.most
+  pub begun : state.begun ≡ kept.begun
+  pub table : HasRates kept.levels state.table
+  pub main : IsGraphOf kept.levels.main state.main
+  pub staging : IsStagingOf kept.levels.staging state.staging
+
+pub made_valid : (kept : Kept) (state : PlainState) → StandsBarely kept state → IsValid state → StandsPlainly kept state
+made_valid kept state stands valid = record {
+  limits = stands.limits;
+  most = stands.most;
+  begun = stands.begun;
+  table = stands.table;
+  main = stands.main;
+  staging = stands.staging;
+  valid = valid;
+}
+
+-- no dependency may pass the limits of a graph, so no level is over them
+pub none_oversized : (kept : Kept) (state : PlainState) → StandsPlainly kept state → (level : Level) → IsOversized state level → ⊥
+none_oversized kept state stands = elim [ Main ↦ stands.valid.main.within strict | Top ↦ (top_level state stands.valid).within strict ]
+  where
+    strict : state.limits.defer ≡ false
+    strict = ap (λ (b : Bounds). b.defer) stands.limits
+
 -- ---- both levels
 
 staged_alike : (level : Option OneLevel) (staging : Option Graph) → IsStagingOf level staging → is_some staging ≡ is_some level
@@ -41,7 +74,7 @@ staged_alike None (Some graph) of = absurd of
 staged_alike (Some level) None of = absurd of
 staged_alike (Some level) (Some graph) of = refl
 
-top_graph : (main : OneLevel) (graph : Graph) (level : Option OneLevel) (staging : Option Graph) → IsGraphOf main graph → IsStagingOf level staging
+pub top_graph : (main : OneLevel) (graph : Graph) (level : Option OneLevel) (staging : Option Graph) → IsGraphOf main graph → IsStagingOf level staging
     → IsGraphOf (top_of main level) (top_of graph staging)
 top_graph main graph None None one of = one
 top_graph main graph None (Some staging) one of = absurd of
@@ -76,12 +109,12 @@ module _ (kept : Kept) (state : PlainState) (stands : StandsPlainly kept state) 
   pub staged : is_some state.staging ≡ is_some kept.levels.staging
   staged = staged_alike kept.levels.staging state.staging stands.staging
 
-pub picks_at : (levels : Levels) (level : Level) → pick_of (picks_of levels) level ≡ (level_at levels level).parts
+pub picks_at : (levels : Levels) (level : Level) → pick_of (picks_of levels) level ≡ Some (level_at levels level).parts
 picks_at levels Main = refl
 picks_at levels Top = by levels.staging
   where
     by : (staging : Option OneLevel)
-        → pick_of (picks_of (record levels { staging = staging })) Top ≡ (level_at (record levels { staging = staging }) Top).parts
+        → pick_of (picks_of (record levels { staging = staging })) Top ≡ Some (level_at (record levels { staging = staging }) Top).parts
     by None = refl
     by (Some one) = refl
 
@@ -131,4 +164,4 @@ steps_refused kept command why refused state stands =
 
 pub steps_without_memory : (kept : Kept) (command : Command) → MayLackMemory command → Meets kept command None → MakesStep kept kept command (Refused Memory)
 steps_without_memory kept command may none state stands =
-    (state, stands, inr (inl (record { none = none state.plain stands.plain; may = may; told = refl; same = refl })))
+    (state, stands, inr (inl (inl (record { none = none state.plain stands.plain; may = may; told = refl; same = refl }))))

@@ -1,5 +1,5 @@
 -- A graph without names stands for the start.
-use Rattle.std.proofs.Common.{◌≡◌, ℕ, true, false, [], sym, refl, ap, subst, ◌∙◌, is_some, true≢false}
+use Rattle.std.proofs.Common.{◌≡◌, ◌≤◌, ℕ, true, false, [], sym, refl, ap, subst, ◌∙◌, is_some, true≢false}
 use Rattle.std.specs.FinMap as finmap
 use Rattle.std.specs.FinSet as set
 use Rattle.std.specs.Ordering.{nat_cmp}
@@ -8,6 +8,9 @@ use Rattle.graphs.specs.declared.names.Level.TheVariants.{Main, Top}
 use Rattle.graphs.specs.Closures.{is_member, is_ancestor, ancestors_in, ancestors_of}
 use Rattle.cluster.specs.Clusters.{ArePicked}
 use Rattle.graph_model.specs.declared.names.Limits.{Limits}
+use Rattle.graph_model.specs.declared.limits.TheConstants.{MAX_COUNT}
+use Rattle.graph_model.specs.Limits.{AreInRange, bounds_of}
+use Rattle.graph_model.proofs.StepLemmas.{valid_at_start}
 use Rattle.graph_model.specs.States.{empty_graph}
 use Rattle.tx_graph.specs.Kept.{IsGraphOf, StandsFor, start_within}
 use Rattle.levels.specs.Levels.{Levels, HavePicks, empty_level, no_names}
@@ -63,8 +66,8 @@ graph_of_none = record {
 pub picks_none : (levels : Levels) → levels ≡ no_names → HavePicks levels
 picks_none levels is = subst HavePicks (sym is) (no_parts_picked, tt)
 
-module _ (limits : Limits) where
-  none_stands : StandsFor (kept_of limits false no_names) (start_within limits)
+module _ (most : ℕ) (limits : Limits) (wide : most ≤ MAX_COUNT) (in_range : AreInRange most (bounds_of limits)) where
+  none_stands : StandsFor (kept_of most limits false no_names) (start_within most limits)
   none_stands = record {
     plain = record {
       most = refl;
@@ -76,9 +79,10 @@ module _ (limits : Limits) where
       };
       main = graph_of_none;
       staging = tt;
+      valid = valid_at_start most (bounds_of limits) wide in_range;
     };
     picks = refl;
   }
 
-  pub stands_start : (levels : Levels) → levels ≡ no_names → StandsFor (kept_of limits false levels) (start_within limits)
-  stands_start levels is = subst (λ (l : Levels). StandsFor (kept_of limits false l) (start_within limits)) (sym is) none_stands
+  pub stands_start : (levels : Levels) → levels ≡ no_names → StandsFor (kept_of most limits false levels) (start_within most limits)
+  stands_start levels is = subst (λ (l : Levels). StandsFor (kept_of most limits false l) (start_within most limits)) (sym is) none_stands

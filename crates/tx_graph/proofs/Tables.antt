@@ -9,7 +9,7 @@ use Rattle.graph_model.specs.States.{PlainState, Table}
 use Rattle.graph_model.specs.Changes.{IsKept, Forgets}
 use Rattle.levels.specs.Levels.{Levels, level_at, IsLive}
 use Rattle.tx_graph.specs.Kept.{Kept, HasRates, StandsPlainly, entry_of}
-use Rattle.tx_graph.proofs.Standing.{live_at, graph_at}
+use Rattle.tx_graph.proofs.Standing.{StandsBarely, top_graph, live_at}
 use Rattle.tx_graph.proofs.Tops.{HasGraphs, with_rates}
 
 -- ---- names in no level are forgotten
@@ -55,7 +55,7 @@ module _ (kept : Kept) (state : PlainState)
   abbrev pub forgotten : PlainState
   forgotten = record state { table = left_in kept.levels state.table }
 
-  pub stands_forgotten : StandsPlainly kept forgotten
+  pub stands_forgotten : StandsBarely kept forgotten
   stands_forgotten = with_rates kept forgotten
       (record { limits = has.limits; most = has.most; begun = has.begun; main = has.main; staging = has.staging })
       (rates_left kept.levels state.table names)
@@ -64,11 +64,11 @@ module _ (kept : Kept) (state : PlainState)
   kept_live q = (
     λ here. elim here [
       | inl one ↦ inl ((has.main.closure.names q).0 one)
-      | inr two ↦ inr (((graph_at kept forgotten stands_forgotten Top).closure.names q).0 two)
+      | inr two ↦ inr (((top_graph kept.levels.main state.main kept.levels.staging state.staging has.main has.staging).closure.names q).0 two)
     ],
     λ live. elim live [
       | inl one ↦ inl ((has.main.closure.names q).1 one)
-      | inr two ↦ inr (((graph_at kept forgotten stands_forgotten Top).closure.names q).1 two)
+      | inr two ↦ inr (((top_graph kept.levels.main state.main kept.levels.staging state.staging has.main has.staging).closure.names q).1 two)
     ],
   )
 

@@ -1,5 +1,5 @@
 -- The steps of the readings of an order, which tell of the picks.
-use Rattle.std.proofs.Common.{◌≡◌, ℕ, ℤ, true, List, map, Contains, ◌↔◌, sym, refl, ap, subst, ◌∙◌}
+use Rattle.std.proofs.Common.{◌≡◌, ℕ, ℤ, true, Some, List, map, Contains, ◌↔◌, sym, refl, ap, subst, ◌∙◌}
 use Rattle.fee_rate.specs.declared.rates.Sum.{Sum}
 use Rattle.lists.proofs.Entries.{map_along}
 use Rattle.graphs.specs.declared.names.Level.{Level}
@@ -24,15 +24,15 @@ use Rattle.tx_graph.specs.Readings.{IsBestOrder, IsTextOf}
 use Rattle.tx_graph.proofs.Standing.{graph_at, order_kept, picks_at, sum_kept}
 use Rattle.tx_graph.proofs.Picked.{pick_here, pick_at}
 use Rattle.tx_graph.proofs.Reading.{steps_told}
-use Rattle.tx_graph.proofs.Rows.{known_here, both_row}
+use Rattle.tx_graph.proofs.Rows.{ordered_row, name_row, both_row}
 
-pick_is : (kept : Kept) (state : State) (level : Level) → StandsFor kept state → pick_of state.picks level ≡ (level_at kept.levels level).parts
+pick_is : (kept : Kept) (state : State) (level : Level) → StandsFor kept state → pick_of state.picks level ≡ Some (level_at kept.levels level).parts
 pick_is kept state level stands = ap (λ (p : Picks). pick_of p level) stands.picks ∙ picks_at kept.levels level
 
 pub steps_ordered : (kept : Kept) (level : Level) → HavePicks kept.levels → MakesStep kept kept (Order level) (Parts (level_at kept.levels level).parts)
 steps_ordered kept level picked =
-    steps_told kept (Order level) (Parts (level_at kept.levels level).parts) picked (λ a b keeps. keeps) (λ state stands. refl) (λ state stands. record {
-      answer = ap Parts (sym (pick_is kept state level stands));
+    steps_told kept (Order level) (Parts (level_at kept.levels level).parts) picked (λ a b keeps. keeps) (ordered_row kept level) (λ state stands. record {
+      answer = ((level_at kept.levels level).parts, pick_is kept state level stands, refl);
       change = refl;
     })
 
@@ -45,7 +45,7 @@ best_order kept level picked best state stands =
     let of = graph_at kept state.plain stands.plain level in
     let sums = sum_kept kept.levels state.plain.table stands.plain.table level in
     record {
-      pick = sym (pick_is kept state level stands);
+      pick = pick_is kept state level stands;
       certified = pick_here at graph (states.rate_of state.plain.table) (pick_at kept.levels level picked) of sums;
       optimal = optimal_to (sum_at at.graph) (states.rate_of state.plain.table) graph graph (record {
         names = λ id. (λ here. here, λ here. here);
@@ -69,8 +69,8 @@ names_ordered kept level picked best some id =
 pub steps_parted : (kept : Kept) (id : ℕ) (part : Part) → HavePicks kept.levels → is_member kept.levels.main.graph id ≡ true
     → Contains kept.levels.main.parts part → Contains part.ids id → MakesStep kept kept (Chunk id) (OnePart part)
 steps_parted kept id part picked live here there =
-    steps_told kept (Chunk id) (OnePart part) picked (λ a b keeps. keeps) (known_here kept Main id live) (λ state stands. record {
-      answer = (part, subst (λ (ps : List Part). Contains ps part) (sym (pick_is kept state Main stands)) here, there, refl);
+    steps_told kept (Chunk id) (OnePart part) picked (λ a b keeps. keeps) (name_row kept Main id live) (λ state stands. record {
+      answer = (kept.levels.main.parts, part, pick_is kept state Main stands, here, there, refl);
       change = refl;
     })
 
@@ -78,7 +78,7 @@ pub steps_placed : (kept : Kept) (a b : ℕ) (place : Place) → HavePicks kept.
     → is_member kept.levels.main.graph b ≡ true → StandsTo (order_of kept.levels.main.parts) a b place → MakesStep kept kept (Before a b) (Stands place)
 steps_placed kept a b place picked a_live b_live told =
     steps_told kept (Before a b) (Stands place) picked (λ a b keeps. keeps) (both_row kept a b a_live b_live) (λ state stands. record {
-      answer = (place, subst (λ (ps : List Part). StandsTo (order_of ps) a b place) (sym (pick_is kept state Main stands)) told, refl);
+      answer = (kept.levels.main.parts, place, pick_is kept state Main stands, told, refl);
       change = refl;
     })
 
@@ -99,40 +99,38 @@ module _ (kept : Kept) (level : Level) (text : Text) (picked : HavePicks kept.le
   of : IsGraphOf at graph
   of = graph_at kept state.plain stands.plain level
 
-  names_are : order_of at.parts ≡ order_of (pick_of state.picks level)
-  names_are = ap order_of (sym (pick_is kept state level stands))
-
   -- the names of the order are the level's
   ordered : (id : ℕ) → Contains (order_of at.parts) id → is_member at.graph id ≡ true
   ordered id here =
       let pick = pick_at kept.levels level picked graph of.closure in
       (of.closure.names id).0 ((pick.certificate.order.topological.names id).0 here)
 
-  covers_are : ListsCovers graph (order_of (pick_of state.picks level)) text.edges
+  covers_are : ListsCovers graph (order_of at.parts) text.edges
   covers_are = record {
     exact = λ a d.
         let agree = covers_agree at.graph graph (order_kept at graph of) of.closure a d in
         (λ here. agree.1 ((is.exact a d).0 here), λ cover. (is.exact a d).1 (agree.0 cover));
-    in_order = subst (λ (ids : List ℕ). FollowOrder ids (map (λ edge. (edge.1, edge.0)) text.edges)) names_are is.in_order;
+    in_order = is.in_order;
   }
 
-  txs_are : text.txs ≡ map (λ id. line_of (states.rate_of state.plain.table id) id) (order_of (pick_of state.picks level))
+  txs_are : text.txs ≡ map (λ id. line_of (states.rate_of state.plain.table id) id) (order_of at.parts)
   txs_are =
       is.txs
       ∙ map_along (λ id. line_of (sum_at at.graph id) id) (λ id. line_of (states.rate_of state.plain.table id) id) (order_of at.parts)
       (λ id here. ap (λ s. line_of s id) (sym (sum_kept kept.levels state.plain.table stands.plain.table level id (ordered id here))))
-      ∙ ap (map (λ id. line_of (states.rate_of state.plain.table id) id)) names_are
 
 pub steps_proved : (kept : Kept) (level : Level) (text : Text) → HavePicks kept.levels → IsTextOf (level_at kept.levels level) text
     → MakesStep kept kept (Proof level) (Proves text)
 steps_proved kept level text picked is =
-    steps_told kept (Proof level) (Proves text) picked (λ a b keeps. keeps) (λ state stands. refl) (λ state stands. record {
+    steps_told kept (Proof level) (Proves text) picked (λ a b keeps. keeps) (ordered_row kept level) (λ state stands. record {
       answer = (
+        (level_at kept.levels level).parts,
         text,
+        pick_is kept state level stands,
         record {
           txs = txs_are kept level text picked is state stands;
           edges = covers_are kept level text picked is state stands;
-          parts = is.parts ∙ sym (pick_is kept state level stands);
+          parts = is.parts;
         },
         refl,
       );

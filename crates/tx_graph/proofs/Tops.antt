@@ -7,14 +7,14 @@ use Rattle.graphs.specs.declared.names.Level.{Level}
 use Rattle.graphs.specs.declared.names.Level.TheVariants.{Main, Top}
 use Rattle.graphs.specs.Closures.{is_member, rate_of}
 use Rattle.graphs.specs.Graphs.{Graph}
-use Rattle.graph_model.specs.declared.limits.TheConstants.{MAX_COUNT}
+use Rattle.graph_model.specs.Limits.{bounds_of}
 use Rattle.graph_model.specs.States.{PlainState, Table, with_top, top_of}
 use Rattle.graph_model.specs.Changes.{begun}
 use Rattle.graph_model.proofs.ChangeLemmas.{of_top}
 use Rattle.levels.specs.Levels as levels
 use Rattle.levels.specs.Levels.{OneLevel, Levels, HavePicks, level_at, IsLive}
 use Rattle.tx_graph.specs.Kept.{Kept, HasRates, IsGraphOf, IsStagingOf, StandsPlainly, entry_of}
-use Rattle.tx_graph.proofs.Standing.{open_level, closed_level}
+use Rattle.tx_graph.proofs.Standing.{StandsBarely, open_level, closed_level}
 use Rattle.tx_graph.proofs.Picked.{AreSameLevel, KeepsParts}
 
 -- the levels after a change that leaves this top level
@@ -102,13 +102,13 @@ module _ (old new : Levels) (top : OneLevel) (topped : AreTopped old top new) wh
 
 -- A graph stands for a state but for what the table has of names.
 pub record HasGraphs (kept : Kept) (state : PlainState) : Type 0 where
-  pub limits : state.limits ≡ kept.limits
-  pub most : state.most ≡ MAX_COUNT
+  pub limits : state.limits ≡ bounds_of kept.limits
+  pub most : state.most ≡ kept.most
   pub begun : state.begun ≡ kept.begun
   pub main : IsGraphOf kept.levels.main state.main
   pub staging : IsStagingOf kept.levels.staging state.staging
 
-pub with_rates : (kept : Kept) (state : PlainState) → HasGraphs kept state → HasRates kept.levels state.table → StandsPlainly kept state
+pub with_rates : (kept : Kept) (state : PlainState) → HasGraphs kept state → HasRates kept.levels state.table → StandsBarely kept state
 with_rates kept state has rates = record {
   limits = has.limits;
   most = has.most;
@@ -118,7 +118,8 @@ with_rates kept state has rates = record {
   staging = has.staging;
 }
 
-module _ (old new : Kept) (top : OneLevel) (limits : new.limits ≡ old.limits) (begins : new.begun ≡ true) (topped : AreTopped old.levels top new.levels)
+module _ (old new : Kept) (top : OneLevel) (limits : new.limits ≡ old.limits) (most : new.most ≡ old.most) (begins : new.begun ≡ true)
+    (topped : AreTopped old.levels top new.levels)
     (state : PlainState) (stands : StandsPlainly old state) (table : Table) (graph : Graph) (of : IsGraphOf top graph) where
   abbrev base : PlainState
   base = record (begun state) { table = table }
@@ -128,8 +129,8 @@ module _ (old new : Kept) (top : OneLevel) (limits : new.limits ≡ old.limits) 
       (λ alone.
       let made = topped.alone (closed_level old.levels.staging state.staging stands.staging alone) in
       record {
-        limits = stands.limits ∙ sym limits;
-        most = stands.most;
+        limits = stands.limits ∙ ap bounds_of (sym limits);
+        most = stands.most ∙ sym most;
         begun = sym begins;
         main = subst (λ (l : OneLevel). IsGraphOf l graph) (sym made.0) of;
         staging = subst₂ IsStagingOf (sym made.1) (sym alone) tt;
@@ -138,8 +139,8 @@ module _ (old new : Kept) (top : OneLevel) (limits : new.limits ≡ old.limits) 
       let was = open_level old.levels.staging state.staging other stands.staging open_is in
       let made = topped.staged was.0 was.1 in
       record {
-        limits = stands.limits ∙ sym limits;
-        most = stands.most;
+        limits = stands.limits ∙ ap bounds_of (sym limits);
+        most = stands.most ∙ sym most;
         begun = sym begins;
         main = subst (λ (l : OneLevel). IsGraphOf l state.main) (sym made.0) stands.main;
         staging = subst (λ (l : Option OneLevel). IsStagingOf l (Some graph)) (sym made.1) of;
@@ -148,5 +149,5 @@ module _ (old new : Kept) (top : OneLevel) (limits : new.limits ≡ old.limits) 
   pub table_is : (with_top base graph).table ≡ table
   table_is = of_top base graph (λ (p : PlainState). p.table ≡ table) (λ alone. refl) (λ other open_is. refl)
 
-  pub stands_topped : HasRates new.levels table → StandsPlainly new (with_top base graph)
+  pub stands_topped : HasRates new.levels table → StandsBarely new (with_top base graph)
   stands_topped rates = with_rates new (with_top base graph) graphs_topped (subst (HasRates new.levels) (sym table_is) rates)

@@ -1,5 +1,5 @@
 -- What the readings of a level find.
-use Rattle.std.specs.Prelude.{◌≡◌, ◌↔◌, ℕ, List, map, Contains, Result, Ok, Err}
+use Rattle.std.specs.Prelude.{◌≡◌, ◌↔◌, ℕ, List, map, Contains, Option, Some, Result, Ok, Err}
 use Rattle.graphs.specs.declared.names.Level.{Level}
 use Rattle.graphs.specs.declared.names.Verdict.{Verdict}
 use Rattle.graphs.specs.Certificates.{Part}
@@ -19,7 +19,7 @@ use Rattle.levels.specs.Levels.{OneLevel}
 
 -- The parts are a level's pick: an order with flows that certify it, and so an optimal one.
 pub record IsBestOrder (state : State) (level : Level) (parts : List Part) : Type 0 where
-  pub pick : parts ≡ pick_of state.picks level
+  pub pick : pick_of state.picks level ≡ Some parts
   pub certified : IsPick (states.rate_of state.plain.table) (level_of state.plain level) parts
   pub optimal : IsOptimal (states.rate_of state.plain.table) (level_of state.plain level) (map (λ part. part.ids) parts)
 

@@ -7,8 +7,7 @@ ghost use Rattle.graphs.specs.declared.names.Level as words;
 ghost use Rattle.graphs.specs.declared.names.Level.TheVariants.{Top};
 ghost use Rattle.graphs.specs.declared.names.Verdict.TheVariants.{Better};
 ghost use Rattle.graphs.specs.Graphs.{Lists};
-ghost use Rattle.graph_model.specs.Limits.{AreInRange};
-ghost use Rattle.graph_model.specs.declared.limits.TheConstants.{MAX_COUNT};
+ghost use Rattle.graph_model.specs.Limits.{AreInRange, bounds_of};
 ghost use Rattle.graph_model.specs.declared.names.Refusal.TheVariants.{Memory, NoStaging};
 ghost use Rattle.graph_model.specs.States.{State, level_of, IsStaged};
 ghost use Rattle.graph_model.specs.Answers.{order_of};
@@ -57,6 +56,7 @@ pub struct TxGraph<const W: usize> {
 
 // Clauses see the graph by names. Every value stands for some state.
 impl<const W: usize> Model for TxGraph<W> {
+    ghost use Rattle.std.specs.Prelude.{◌*◌};
     ghost use Rattle.tx_graph.specs.Kept.{Kept, kept_code};
     ghost use Rattle.tx_graph.specs.Sound.{IsSound};
 
@@ -64,9 +64,9 @@ impl<const W: usize> Model for TxGraph<W> {
 
     ghost coded = { kept_code };
 
-    ghost view = { λ a. record { limits = a.limits; begun = a.begun; levels = a.levels } };
+    ghost view = { λ a. record { most = 64 * W; limits = a.limits; begun = a.begun; levels = a.levels } };
 
-    ghost invariant = { λ a. IsSound (record { limits = a.limits; begun = a.begun; levels = a.levels }) };
+    ghost invariant = { λ a. IsSound (record { most = 64 * W; limits = a.limits; begun = a.begun; levels = a.levels }) };
 }
 
 /// Whether a name is in main or in staging.
@@ -128,13 +128,21 @@ fn close<const W: usize>(levels: &mut Levels<W>, verdict: Verdict)
     }
 }
 
+/// The most names that the limit of a cluster may allow.
+fn most_names<const W: usize>() -> u64
+    requires { W ≤ 2 }
+    ensures { result ≡ 64 * W }
+{
+    64 * W as u64
+}
+
 impl<const W: usize> TxGraph<W> {
     /// A graph without names under these limits, which are in range. Takes the room in which orders are made.
     pub fn new(alloc: Global, limits: Limits) -> Result<Self, NoMemory>
-        requires in_range { AreInRange MAX_COUNT limits }
+        requires in_range { AreInRange (64 * W) (bounds_of limits) }
         requires wide { 1 ≤ W }
         requires narrow { W ≤ 2 }
-        ensures start { IfOk result (λ graph. StandsFor graph (start_within limits)) }
+        ensures start { IfOk result (λ graph. StandsFor graph (start_within (64 * W) limits)) }
         ensures additions { IfOk result (λ graph. graph.levels.issued ≡ 0) }
     {
         Ok(TxGraph {
@@ -157,14 +165,13 @@ impl<const W: usize> TxGraph<W> {
     /// Refused with `Late` where a change was accepted before, limits among them, and else with `Range` where a limit
     /// is outside its range. The graph stays as it was then.
     pub fn set_limits(&mut self, limits: Limits) -> Result<(), Refusal>
-        ensures step { MakesStep self.old self.new (SetLimits limits.count limits.size limits.total)
-            (change_reply result) }
+        ensures step { MakesStep self.old self.new (SetLimits (bounds_of limits)) (change_reply result) }
         ensures additions { self.new.levels.issued ≡ self.old.levels.issued }
     {
         if self.begun {
             return Err(Refusal::Late);
         }
-        if !limits.are_in_range() {
+        if !limits.are_in_range(most_names::<W>()) {
             return Err(Refusal::Range);
         }
         self.limits = limits;

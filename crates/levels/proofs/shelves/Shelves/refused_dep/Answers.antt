@@ -40,7 +40,7 @@ returns-in-None-clause-row g c =
     c.at-first.ensures c.at.ensures c.in-None.ensures.row
 
 pub refused_sum-requires : goal.refused_sum-requires
-refused_sum-requires g c = (cluster_fits g.row.W c.requires.order.narrow, c.requires.limit)
+refused_sum-requires g c = (cluster_fits g.row.W c.requires.order.narrow, omega (arith, c.requires.limit, c.requires.order.narrow))
 
 pub way_within-requires : goal.way_within-requires
 way_within-requires g c = (cluster_fits g.row.W c.requires.order.narrow, search rules)

@@ -1,4 +1,4 @@
-use Rattle.std.proofs.Common.{◌≤◌, ◌<◌, ◌+◌, true, None, Some, sym, ap, ◌∙◌, subst, length, arith, refl, ◌^◌, ◌-◌}
+use Rattle.std.proofs.Common.{◌*◌, ◌≤◌, ◌<◌, ◌+◌, true, None, Some, sym, ap, ◌∙◌, subst, length, arith, refl, ◌^◌, ◌-◌}
 use Rattle.std.proofs.lemmas.Int.{to_z-of_z}
 use Rattle.std.specs.Int.{w64}
 use Rattle.fee_rate.specs.Limits.{IsRate}
@@ -17,7 +17,7 @@ use Rattle.tx_graph.proofs.graph.TxGraph.add.Goals as goal
 
 pub returns-in-Some-clause-step : goal.returns-in-Some-clause-step
 returns-in-Some-clause-step g c =
-    let kept = kept_of c.self.inside.limits c.self.inside.begun c.self.inside.levels in
+    let kept = kept_of (64 * g.row.W) c.self.inside.limits c.self.inside.begun c.self.inside.levels in
     both_views kept c.args.self.now (Add c.args.id c.args.fee c.args.size) (Refused c.in-Some.why) c.self.view_is
     (steps_refused kept (Add c.args.id c.args.fee c.args.size) c.in-Some.why
     (add_met kept c.args.id c.args.fee c.args.size (Some c.in-Some.why)
@@ -25,7 +25,7 @@ returns-in-Some-clause-step g c =
 
 pub add-requires : goal.add-requires
 add-requires g c =
-    let kept = kept_of c.self.inside.limits c.self.inside.begun c.self.inside.levels in
+    let kept = kept_of (64 * g.row.W) c.self.inside.limits c.self.inside.begun c.self.inside.levels in
     let fee = to_z-of_z w64 c.args.fee c.ranges.fee in
     let names = live_listed c.self.inside.levels in
     let row = subst (λ fee. AddRowIs kept c.args.id fee c.args.size None) fee c.in_default.ensures.row in
@@ -46,13 +46,13 @@ add-requires g c =
 
 pub invariant_of-self : goal.invariant_of-self
 invariant_of-self g c =
-    sound_still c.self.inside.limits c.self.inside.begun c.self.inside.levels c.add.new.self
+    sound_still (64 * g.row.W) c.self.inside.limits c.self.inside.begun c.self.inside.levels c.add.new.self
     (when_err c.add.result (sym c.is_err.ensures.value ∙ c.if-is_err.true) c.add.ensures.err) c.self.invariant
 
 pub returns-then-is_err-clause-step : goal.returns-then-is_err-clause-step
 returns-then-is_err-clause-step g c =
-    let kept = kept_of c.self.inside.limits c.self.inside.begun c.self.inside.levels in
-    same_levels c.self.inside.limits c.self.inside.begun c.self.inside.levels c.add.new.self c.args.self.now
+    let kept = kept_of (64 * g.row.W) c.self.inside.limits c.self.inside.begun c.self.inside.levels in
+    same_levels (64 * g.row.W) c.self.inside.limits c.self.inside.begun c.self.inside.levels c.add.new.self c.args.self.now
     (Add c.args.id c.args.fee c.args.size) (Refused Memory)
     (when_err c.add.result (sym c.is_err.ensures.value ∙ c.if-is_err.true) c.add.ensures.err) c.self.view_is
     (steps_without_memory kept (Add c.args.id c.args.fee c.args.size) tt
@@ -61,23 +61,23 @@ returns-then-is_err-clause-step g c =
 
 pub invariant_of-self-2 : goal.invariant_of-self-2
 invariant_of-self-2 g c =
-    let kept = kept_of c.self.inside.limits c.self.inside.begun c.self.inside.levels in
+    let kept = kept_of (64 * g.row.W) c.self.inside.limits c.self.inside.begun c.self.inside.levels in
     let done = sym c.is_err.ensures.value ∙ c.if-is_err.false in
-    sound_after kept (kept_of c.self.inside.limits true c.add.new.self)
+    sound_after kept (kept_of (64 * g.row.W) c.self.inside.limits true c.add.new.self)
     (Add c.args.id c.args.fee c.args.size) Done c.self.invariant c.self.invariant.in_range c.add.ensures.picks
-    (add_step c.self.inside.limits c.self.inside.begun c.self.inside.levels c.add.new.self c.add.ensures.picks
-    c.args.id c.args.fee c.args.size
+    (add_step (64 * g.row.W) c.self.inside.limits c.self.inside.begun c.self.inside.levels c.add.new.self c.add.ensures.picks
+    c.args.id c.args.fee c.args.size c.ranges.id
     (subst (λ fee. AddRowIs kept c.args.id fee c.args.size None) (to_z-of_z w64 c.args.fee c.ranges.fee) c.in_default.ensures.row)
     (subst (λ fee. IsAddedTo c.args.id fee c.args.size c.self.inside.levels c.add.new.self) (to_z-of_z w64 c.args.fee c.ranges.fee)
     (when_ok c.add.result done c.add.ensures.added)))
 
 pub returns-clause-step : goal.returns-clause-step
 returns-clause-step g c =
-    let kept = kept_of c.self.inside.limits c.self.inside.begun c.self.inside.levels in
+    let kept = kept_of (64 * g.row.W) c.self.inside.limits c.self.inside.begun c.self.inside.levels in
     let done = sym c.is_err.ensures.value ∙ c.if-is_err.false in
-    from_view kept c.args.self.now (kept_of c.self.inside.limits true c.add.new.self) (Add c.args.id c.args.fee c.args.size) Done c.self.view_is
-    (add_step c.self.inside.limits c.self.inside.begun c.self.inside.levels c.add.new.self c.add.ensures.picks
-    c.args.id c.args.fee c.args.size
+    from_view kept c.args.self.now (kept_of (64 * g.row.W) c.self.inside.limits true c.add.new.self) (Add c.args.id c.args.fee c.args.size) Done c.self.view_is
+    (add_step (64 * g.row.W) c.self.inside.limits c.self.inside.begun c.self.inside.levels c.add.new.self c.add.ensures.picks
+    c.args.id c.args.fee c.args.size c.ranges.id
     (subst (λ fee. AddRowIs kept c.args.id fee c.args.size None) (to_z-of_z w64 c.args.fee c.ranges.fee) c.in_default.ensures.row)
     (subst (λ fee. IsAddedTo c.args.id fee c.args.size c.self.inside.levels c.add.new.self) (to_z-of_z w64 c.args.fee c.ranges.fee)
     (when_ok c.add.result done c.add.ensures.added)))

@@ -1,4 +1,4 @@
-use Rattle.std.proofs.Common.{sym, ◌∙◌}
+use Rattle.std.proofs.Common.{◌*◌, sym, ◌∙◌}
 use Rattle.graph_model.specs.declared.names.Refusal.TheVariants.{Unknown}
 use Rattle.graph_model.specs.Commands.{Before}
 use Rattle.graph_model.specs.Replies.{Refused, Stands}
@@ -11,7 +11,7 @@ use Rattle.tx_graph.proofs.graph.TxGraph.before.Goals as goal
 
 pub returns-then-not-has : goal.returns-then-not-has
 returns-then-not-has g c =
-    let kept = kept_of c.self.inside.limits c.self.inside.begun c.self.inside.levels in
+    let kept = kept_of (64 * g.row.W) c.self.inside.limits c.self.inside.begun c.self.inside.levels in
     record {
       step = both_views kept c.args.self.now (Before c.args.a c.args.b) (Refused (Unknown c.args.a)) c.self.view_is
           (steps_refused kept (Before c.args.a c.args.b) (Unknown c.args.a)
@@ -20,7 +20,7 @@ returns-then-not-has g c =
 
 pub returns-then-not-has-2 : goal.returns-then-not-has-2
 returns-then-not-has-2 g c =
-    let kept = kept_of c.self.inside.limits c.self.inside.begun c.self.inside.levels in
+    let kept = kept_of (64 * g.row.W) c.self.inside.limits c.self.inside.begun c.self.inside.levels in
     record {
       step = both_views kept c.args.self.now (Before c.args.a c.args.b) (Refused (Unknown c.args.b)) c.self.view_is
           (steps_refused kept (Before c.args.a c.args.b) (Unknown c.args.b)
@@ -29,7 +29,7 @@ returns-then-not-has-2 g c =
 
 pub returns : goal.returns
 returns g c =
-    let kept = kept_of c.self.inside.limits c.self.inside.begun c.self.inside.levels in
+    let kept = kept_of (64 * g.row.W) c.self.inside.limits c.self.inside.begun c.self.inside.levels in
     record {
       step = both_views kept c.args.self.now (Before c.args.a c.args.b) (Stands c.place.result) c.self.view_is
           (steps_placed kept c.args.a c.args.b c.place.result c.self.invariant.picked (sym c.has.ensures ∙ c.if-not-has.false)

@@ -1,3 +1,4 @@
+use Rattle.std.proofs.Common.{◌*◌}
 -- The part of a name is one of main's order.
 use Rattle.graph_model.specs.declared.names.Refusal.TheVariants.{Unknown}
 use Rattle.graph_model.specs.Commands.{Chunk}
@@ -5,7 +6,7 @@ use Rattle.graph_model.specs.Replies.{Refused, OnePart}
 use Rattle.graphs.specs.declared.names.Level.TheVariants.{Main}
 use Rattle.cluster_store.specs.Lent.{lent}
 use Rattle.tx_graph.proofs.Calls.{kept_of, both_views}
-use Rattle.tx_graph.proofs.Rows.{unknown_here}
+use Rattle.tx_graph.proofs.Rows.{unread_here}
 use Rattle.tx_graph.proofs.Standing.{steps_refused}
 use Rattle.tx_graph.proofs.Telling.{steps_parted}
 use Rattle.tx_graph.proofs.Rooms.{levels_fit}
@@ -13,7 +14,7 @@ use Rattle.tx_graph.proofs.graph.TxGraph.chunk.Goals as goal
 
 pub returns-in-Some : goal.returns-in-Some
 returns-in-Some g c =
-    let kept = kept_of c.self.inside.limits c.self.inside.begun c.self.inside.levels in
+    let kept = kept_of (64 * g.row.W) c.self.inside.limits c.self.inside.begun c.self.inside.levels in
     let found = c.in-Some.ensures in
     record {
       step = both_views kept c.args.self.now (Chunk c.args.id) (OnePart (lent c.in-Some.part)) c.self.view_is
@@ -22,10 +23,10 @@ returns-in-Some g c =
 
 pub returns-in-None : goal.returns-in-None
 returns-in-None g c =
-    let kept = kept_of c.self.inside.limits c.self.inside.begun c.self.inside.levels in
+    let kept = kept_of (64 * g.row.W) c.self.inside.limits c.self.inside.begun c.self.inside.levels in
     record {
       step = both_views kept c.args.self.now (Chunk c.args.id) (Refused (Unknown c.args.id)) c.self.view_is
-          (steps_refused kept (Chunk c.args.id) (Unknown c.args.id) (unknown_here kept Main c.args.id c.in-None.ensures));
+          (steps_refused kept (Chunk c.args.id) (Unknown c.args.id) (unread_here kept Main c.args.id c.in-None.ensures));
     }
 
 pub chunk-requires : goal.chunk-requires

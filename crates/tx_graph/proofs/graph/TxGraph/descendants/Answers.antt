@@ -1,24 +1,24 @@
-use Rattle.std.proofs.Common.{refl}
+use Rattle.std.proofs.Common.{◌*◌, refl}
 use Rattle.graph_model.specs.Commands.{Descendants}
 use Rattle.graph_model.specs.declared.names.Refusal.TheVariants.{Unknown}
 use Rattle.graph_model.specs.Replies.{Refused, Ids}
 use Rattle.levels.specs.Levels.{level_at}
 use Rattle.tx_graph.proofs.Calls.{kept_of, both_views, descendants_list}
 use Rattle.tx_graph.proofs.Reading.{steps_descended}
-use Rattle.tx_graph.proofs.Rows.{unknown_here}
+use Rattle.tx_graph.proofs.Rows.{unread_here}
 use Rattle.tx_graph.proofs.Standing.{steps_refused}
 use Rattle.tx_graph.proofs.Rooms.{levels_fit, cluster_fits}
 use Rattle.tx_graph.proofs.graph.TxGraph.descendants.Goals as goal
 
 pub returns-in_default-clause-step : goal.returns-in_default-clause-step
 returns-in_default-clause-step g c =
-    let kept = kept_of c.self.inside.limits c.self.inside.begun c.self.inside.levels in
+    let kept = kept_of (64 * g.row.W) c.self.inside.limits c.self.inside.begun c.self.inside.levels in
     both_views kept c.args.self.now (Descendants c.args.id c.args.level) (Refused (Unknown c.args.id)) c.self.view_is
-    (steps_refused kept (Descendants c.args.id c.args.level) (Unknown c.args.id) (unknown_here kept c.args.level c.args.id c.in_default.ensures))
+    (steps_refused kept (Descendants c.args.id c.args.level) (Unknown c.args.id) (unread_here kept c.args.level c.args.id c.in_default.ensures))
 
 pub returns-clause-step : goal.returns-clause-step
 returns-clause-step g c =
-    let kept = kept_of c.self.inside.limits c.self.inside.begun c.self.inside.levels in
+    let kept = kept_of (64 * g.row.W) c.self.inside.limits c.self.inside.begun c.self.inside.levels in
     let found = c.in-Some.ensures in
     let ids = c.list_descendants.new.out.ids in
     both_views kept c.args.self.now (Descendants c.args.id c.args.level) (Ids ids) c.self.view_is

@@ -1,3 +1,4 @@
+use Rattle.std.proofs.Common.{◌*◌}
 -- The walk over the rates of the parts gives the corners of every state's graph.
 use Rattle.graphs.specs.Diagrams.{corners_of}
 use Rattle.graphs.proofs.CornerLemmas.{joins_some}
@@ -15,7 +16,7 @@ corners-requires-clause-level g c = (sums_of (level_at c.self.inside.levels c.ar
 
 pub returns-clause-step : goal.returns-clause-step
 returns-clause-step g c =
-    let kept = kept_of c.self.inside.limits c.self.inside.begun c.self.inside.levels in
+    let kept = kept_of (64 * g.row.W) c.self.inside.limits c.self.inside.begun c.self.inside.levels in
     let parts = sums_of (level_at kept.levels c.args.level).parts in
     let level = c.rates.ensures.yields.level in
     let segments = joins_some parts level.some level.falling in (

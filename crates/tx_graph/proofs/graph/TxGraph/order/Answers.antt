@@ -1,5 +1,5 @@
 -- The parts are the pick of every state.
-use Rattle.std.proofs.Common.{◌≡◌, ℕ, true, List, Contains, ◌↔◌, sym, ap, ◌∙◌, subst}
+use Rattle.std.proofs.Common.{◌*◌, ◌≡◌, ℕ, true, List, Contains, ◌↔◌, sym, ap, ◌∙◌, subst}
 use Rattle.graphs.specs.Certificates.{Part}
 use Rattle.graphs.specs.Closures.{is_member}
 use Rattle.graph_model.specs.Answers.{order_of}
@@ -19,21 +19,21 @@ returns-clause-parts g c = c.new.ensures ∙ c.parts.ensures.parts ∙ ap (λ (k
 
 pub returns-clause-step : goal.returns-clause-step
 returns-clause-step g c =
-    let kept = kept_of c.self.inside.limits c.self.inside.begun c.self.inside.levels in
+    let kept = kept_of (64 * g.row.W) c.self.inside.limits c.self.inside.begun c.self.inside.levels in
     subst (λ (parts : List Part). MakesStep c.args.self.now c.args.self.now (Order c.args.level) (Parts parts)) (sym (returns-clause-parts g c))
     (subst (λ (k : Kept). MakesStep k k (Order c.args.level) (Parts (level_at k.levels c.args.level).parts)) c.self.view_is
     (steps_ordered kept c.args.level c.self.invariant.picked))
 
 pub returns-clause-best : goal.returns-clause-best
 returns-clause-best g c =
-    let kept = kept_of c.self.inside.limits c.self.inside.begun c.self.inside.levels in
+    let kept = kept_of (64 * g.row.W) c.self.inside.limits c.self.inside.begun c.self.inside.levels in
     subst (λ (parts : List Part). (state : State) → StandsFor c.args.self.now state → IsBestOrder state c.args.level parts) (sym (returns-clause-parts g c))
     (subst (λ (k : Kept). (state : State) → StandsFor k state → IsBestOrder state c.args.level (level_at k.levels c.args.level).parts) c.self.view_is
     (best_order kept c.args.level c.self.invariant.picked c.parts.ensures.best))
 
 pub returns-clause-names : goal.returns-clause-names
 returns-clause-names g c =
-    let kept = kept_of c.self.inside.limits c.self.inside.begun c.self.inside.levels in
+    let kept = kept_of (64 * g.row.W) c.self.inside.limits c.self.inside.begun c.self.inside.levels in
     let named = names_ordered kept c.args.level c.self.invariant.picked c.parts.ensures.best c.self.invariant.stands in
     subst (λ (parts : List Part). (id : ℕ) → Contains (order_of parts) id ↔ (is_member (level_at c.args.self.now.levels c.args.level).graph id ≡ true))
     (sym (returns-clause-parts g c))
@@ -42,7 +42,7 @@ returns-clause-names g c =
 
 pub returns-clause-proof : goal.returns-clause-proof
 returns-clause-proof g c text is =
-    let kept = kept_of c.self.inside.limits c.self.inside.begun c.self.inside.levels in
+    let kept = kept_of (64 * g.row.W) c.self.inside.limits c.self.inside.begun c.self.inside.levels in
     subst (λ (k : Kept). IsTextOf (level_at k.levels c.args.level) text → MakesStep k k (Proof c.args.level) (Proves text)) c.self.view_is
     (steps_proved kept c.args.level text c.self.invariant.picked) is
 

@@ -1,4 +1,4 @@
-use Rattle.std.proofs.Common.{true, sym, ◌∙◌, subst, refl, ap}
+use Rattle.std.proofs.Common.{◌*◌, true, sym, ◌∙◌, subst, refl, ap}
 use Rattle.graphs.specs.declared.names.Level.TheVariants.{Top}
 use Rattle.graph_model.specs.declared.names.Refusal.TheVariants.{Memory, Unknown}
 use Rattle.graph_model.specs.Commands.{Remove}
@@ -15,19 +15,19 @@ use Rattle.tx_graph.proofs.graph.TxGraph.remove.Goals as goal
 
 pub returns-then-not-has-clause-step : goal.returns-then-not-has-clause-step
 returns-then-not-has-clause-step g c =
-    let kept = kept_of c.self.inside.limits c.self.inside.begun c.self.inside.levels in
+    let kept = kept_of (64 * g.row.W) c.self.inside.limits c.self.inside.begun c.self.inside.levels in
     both_views kept c.args.self.now (Remove c.args.id) (Refused (Unknown c.args.id)) c.self.view_is
     (steps_refused kept (Remove c.args.id) (Unknown c.args.id) (unknown_here kept Top c.args.id (sym c.has.ensures ∙ c.if-not-has.true)))
 
 pub invariant_of-self : goal.invariant_of-self
 invariant_of-self g c =
-    sound_still c.self.inside.limits c.self.inside.begun c.self.inside.levels c.remove.new.self
+    sound_still (64 * g.row.W) c.self.inside.limits c.self.inside.begun c.self.inside.levels c.remove.new.self
     (when_err c.remove.result (sym c.is_err.ensures.value ∙ c.if-is_err.true) c.remove.ensures.err) c.self.invariant
 
 pub returns-then-is_err-clause-step : goal.returns-then-is_err-clause-step
 returns-then-is_err-clause-step g c =
-    let kept = kept_of c.self.inside.limits c.self.inside.begun c.self.inside.levels in
-    same_levels c.self.inside.limits c.self.inside.begun c.self.inside.levels c.remove.new.self c.args.self.now (Remove c.args.id) (Refused Memory)
+    let kept = kept_of (64 * g.row.W) c.self.inside.limits c.self.inside.begun c.self.inside.levels in
+    same_levels (64 * g.row.W) c.self.inside.limits c.self.inside.begun c.self.inside.levels c.remove.new.self c.args.self.now (Remove c.args.id) (Refused Memory)
     (when_err c.remove.result (sym c.is_err.ensures.value ∙ c.if-is_err.true) c.remove.ensures.err) c.self.view_is
     (steps_without_memory kept (Remove c.args.id) tt (known_here kept Top c.args.id (sym c.has.ensures ∙ c.if-not-has.false)))
 
@@ -38,18 +38,18 @@ returns-then-is_err-clause-steps g c =
 pub invariant_of-self-2 : goal.invariant_of-self-2
 invariant_of-self-2 g c =
     let done = sym c.is_err.ensures.value ∙ c.if-is_err.false in
-    sound_after (kept_of c.self.inside.limits c.self.inside.begun c.self.inside.levels)
-    (kept_of c.self.inside.limits true c.remove.new.self) (Remove c.args.id) Done
+    sound_after (kept_of (64 * g.row.W) c.self.inside.limits c.self.inside.begun c.self.inside.levels)
+    (kept_of (64 * g.row.W) c.self.inside.limits true c.remove.new.self) (Remove c.args.id) Done
     c.self.invariant c.self.invariant.in_range c.remove.ensures.picks
-    (remove_step c.self.inside.limits c.self.inside.begun c.self.inside.levels c.remove.new.self c.remove.ensures.picks
+    (remove_step (64 * g.row.W) c.self.inside.limits c.self.inside.begun c.self.inside.levels c.remove.new.self c.remove.ensures.picks
     c.args.id (sym c.has.ensures ∙ c.if-not-has.false) (when_ok c.remove.result done c.remove.ensures.dropped))
 
 pub returns-clause-step : goal.returns-clause-step
 returns-clause-step g c =
     let done = sym c.is_err.ensures.value ∙ c.if-is_err.false in
-    from_view (kept_of c.self.inside.limits c.self.inside.begun c.self.inside.levels)
-    c.args.self.now (kept_of c.self.inside.limits true c.remove.new.self) (Remove c.args.id) Done c.self.view_is
-    (remove_step c.self.inside.limits c.self.inside.begun c.self.inside.levels c.remove.new.self c.remove.ensures.picks
+    from_view (kept_of (64 * g.row.W) c.self.inside.limits c.self.inside.begun c.self.inside.levels)
+    c.args.self.now (kept_of (64 * g.row.W) c.self.inside.limits true c.remove.new.self) (Remove c.args.id) Done c.self.view_is
+    (remove_step (64 * g.row.W) c.self.inside.limits c.self.inside.begun c.self.inside.levels c.remove.new.self c.remove.ensures.picks
     c.args.id (sym c.has.ensures ∙ c.if-not-has.false) (when_ok c.remove.result done c.remove.ensures.dropped))
 
 pub returns-clause-steps : goal.returns-clause-steps

@@ -1,8 +1,9 @@
-use Rattle.std.proofs.Common.{true, sym, refl, ◌∙◌, true≢false, ap}
+use Rattle.std.proofs.Common.{◌*◌, true, sym, refl, ◌∙◌, true≢false, ap}
+use Rattle.graph_model.specs.Limits.{bounds_of}
 use Rattle.graph_model.specs.Commands.{SetLimits}
 use Rattle.graph_model.specs.declared.names.Refusal.TheVariants.{Late, Range}
 use Rattle.graph_model.specs.Replies.{Done, Refused}
-use Rattle.tx_graph.proofs.Calls.{kept_of, from_view, both_views, sound_after, limits_step}
+use Rattle.tx_graph.proofs.Calls.{kept_of, from_view, both_views, sound_after, at_most_two, limits_step}
 use Rattle.tx_graph.proofs.Rows.{late_row, range_row}
 use Rattle.tx_graph.proofs.Standing.{steps_refused}
 use Rattle.tx_graph.specs.Kept.{Kept}
@@ -10,15 +11,15 @@ use Rattle.tx_graph.proofs.graph.TxGraph.set_limits.Goals as goal
 
 pub returns-then-self-clause-step : goal.returns-then-self-clause-step
 returns-then-self-clause-step g c =
-    let kept = kept_of c.self.inside.limits c.self.inside.begun c.self.inside.levels in
-    let command = SetLimits c.args.limits.count c.args.limits.size c.args.limits.total in
+    let kept = kept_of (64 * g.row.W) c.self.inside.limits c.self.inside.begun c.self.inside.levels in
+    let command = SetLimits (bounds_of c.args.limits) in
     both_views kept c.args.self.now command (Refused Late) c.self.view_is
     (steps_refused kept command Late (late_row kept c.args.limits c.if-self.true))
 
 pub returns-then-not-are_in_range-clause-step : goal.returns-then-not-are_in_range-clause-step
 returns-then-not-are_in_range-clause-step g c =
-    let kept = kept_of c.self.inside.limits c.self.inside.begun c.self.inside.levels in
-    let command = SetLimits c.args.limits.count c.args.limits.size c.args.limits.total in
+    let kept = kept_of (64 * g.row.W) c.self.inside.limits c.self.inside.begun c.self.inside.levels in
+    let command = SetLimits (bounds_of c.args.limits) in
     both_views kept c.args.self.now command (Refused Range) c.self.view_is
     (steps_refused kept command Range
     (range_row kept c.args.limits c.if-self.false (λ fine. true≢false (sym (c.are_in_range.ensures.1 fine) ∙ c.if-not-are_in_range.true))))
@@ -26,15 +27,15 @@ returns-then-not-are_in_range-clause-step g c =
 pub invariant_of-self : goal.invariant_of-self
 invariant_of-self g c =
     let in_range = c.are_in_range.ensures.0 c.if-not-are_in_range.false in
-    sound_after (kept_of c.self.inside.limits c.self.inside.begun c.self.inside.levels) (kept_of c.args.limits true c.self.inside.levels)
-    (SetLimits c.args.limits.count c.args.limits.size c.args.limits.total) Done c.self.invariant in_range c.self.invariant.picked
-    (limits_step c.self.inside.limits c.args.limits c.self.inside.begun c.self.inside.levels c.self.invariant.picked c.if-self.false in_range)
+    sound_after (kept_of (64 * g.row.W) c.self.inside.limits c.self.inside.begun c.self.inside.levels) (kept_of (64 * g.row.W) c.args.limits true c.self.inside.levels)
+    (SetLimits (bounds_of c.args.limits)) Done c.self.invariant in_range c.self.invariant.picked
+    (limits_step (64 * g.row.W) c.self.inside.limits c.args.limits c.self.inside.begun c.self.inside.levels c.self.invariant.picked c.if-self.false in_range)
 
 pub returns-clause-step : goal.returns-clause-step
 returns-clause-step g c =
-    from_view (kept_of c.self.inside.limits c.self.inside.begun c.self.inside.levels) c.args.self.now (kept_of c.args.limits true c.self.inside.levels)
-    (SetLimits c.args.limits.count c.args.limits.size c.args.limits.total) Done c.self.view_is
-    (limits_step c.self.inside.limits c.args.limits c.self.inside.begun c.self.inside.levels c.self.invariant.picked c.if-self.false
+    from_view (kept_of (64 * g.row.W) c.self.inside.limits c.self.inside.begun c.self.inside.levels) c.args.self.now (kept_of (64 * g.row.W) c.args.limits true c.self.inside.levels)
+    (SetLimits (bounds_of c.args.limits)) Done c.self.view_is
+    (limits_step (64 * g.row.W) c.self.inside.limits c.args.limits c.self.inside.begun c.self.inside.levels c.self.invariant.picked c.if-self.false
     (c.are_in_range.ensures.0 c.if-not-are_in_range.false))
 
 pub returns-then-self-clause-additions : goal.returns-then-self-clause-additions
@@ -45,3 +46,7 @@ returns-then-not-are_in_range-clause-additions g c = refl
 
 pub returns-clause-additions : goal.returns-clause-additions
 returns-clause-additions g c = ap (λ (k : Kept). k.levels.issued) c.self.view_is
+
+pub most_names-requires : goal.most_names-requires
+most_names-requires g c =
+    at_most_two g.row.W (kept_of (64 * g.row.W) c.self.inside.limits c.self.inside.begun c.self.inside.levels) c.self.invariant refl

@@ -1,9 +1,9 @@
-use Rattle.std.proofs.Common.{true, sym, ◌∙◌, ap, refl, subst, is_some, Err}
+use Rattle.std.proofs.Common.{◌*◌, true, sym, ◌∙◌, ap, refl, subst, is_some, Err}
 use Rattle.graph_model.specs.Commands.{Settle}
 use Rattle.graph_model.specs.declared.names.Refusal.TheVariants.{NoStaging}
 use Rattle.graph_model.specs.Replies.{Settled, Refused}
 use Rattle.tx_graph.proofs.Calls.{error_is, kept_of, from_view, both_views, sound_after, settle_step, picks_settled}
-use Rattle.tx_graph.proofs.Rows.{unstaged_row}
+use Rattle.tx_graph.proofs.Rows.{alone_row}
 use Rattle.tx_graph.proofs.Standing.{steps_refused}
 use Rattle.tx_graph.specs.Readings.{settle_reply}
 use Rattle.tx_graph.proofs.Rooms.{levels_fit}
@@ -13,27 +13,27 @@ use Rattle.tx_graph.proofs.graph.TxGraph.settle.Goals as goal
 
 pub returns-in_err-needs_staging-clause-step : goal.returns-in_err-needs_staging-clause-step
 returns-in_err-needs_staging-clause-step g c =
-    let kept = kept_of c.self.inside.limits c.self.inside.begun c.self.inside.levels in
+    let kept = kept_of (64 * g.row.W) c.self.inside.limits c.self.inside.begun c.self.inside.levels in
     subst (λ r. MakesStep c.args.self.now c.args.self.now Settle (settle_reply r))
     (sym (error_is c.from_residual.result _ c.from_residual.ensures.1 ∙ ap Err c.in_err-needs_staging.ensures.0))
     (both_views kept c.args.self.now Settle (Refused NoStaging) c.self.view_is
-    (steps_refused kept Settle NoStaging (unstaged_row kept (ap is_some c.in_err-needs_staging.ensures.1))))
+    (steps_refused kept Settle NoStaging (alone_row kept (ap is_some c.in_err-needs_staging.ensures.1))))
 
 pub invariant_of-self : goal.invariant_of-self
 invariant_of-self g c =
-    sound_after (kept_of c.self.inside.limits c.self.inside.begun c.self.inside.levels)
-    (kept_of c.self.inside.limits true c.close.new.levels) Settle (Settled c.compare-verdict.result) c.self.invariant
+    sound_after (kept_of (64 * g.row.W) c.self.inside.limits c.self.inside.begun c.self.inside.levels)
+    (kept_of (64 * g.row.W) c.self.inside.limits true c.close.new.levels) Settle (Settled c.compare-verdict.result) c.self.invariant
     c.self.invariant.in_range
     (picks_settled c.self.inside.levels c.close.new.levels c.compare-verdict.result c.close.ensures.better c.close.ensures.other c.self.invariant.picked)
-    (settle_step c.self.inside.limits c.self.inside.begun c.self.inside.levels c.close.new.levels c.compare-verdict.result c.self.invariant.picked
+    (settle_step (64 * g.row.W) c.self.inside.limits c.self.inside.begun c.self.inside.levels c.close.new.levels c.compare-verdict.result c.self.invariant.picked
     c.compare-verdict.ensures.rates c.compare-verdict.ensures.verdict c.in_ok-needs_staging.ensures
     c.close.ensures.better c.close.ensures.other)
 
 pub returns-clause-step : goal.returns-clause-step
 returns-clause-step g c =
-    from_view (kept_of c.self.inside.limits c.self.inside.begun c.self.inside.levels)
-    c.args.self.now (kept_of c.self.inside.limits true c.close.new.levels) Settle (Settled c.compare-verdict.result) c.self.view_is
-    (settle_step c.self.inside.limits c.self.inside.begun c.self.inside.levels c.close.new.levels c.compare-verdict.result c.self.invariant.picked
+    from_view (kept_of (64 * g.row.W) c.self.inside.limits c.self.inside.begun c.self.inside.levels)
+    c.args.self.now (kept_of (64 * g.row.W) c.self.inside.limits true c.close.new.levels) Settle (Settled c.compare-verdict.result) c.self.view_is
+    (settle_step (64 * g.row.W) c.self.inside.limits c.self.inside.begun c.self.inside.levels c.close.new.levels c.compare-verdict.result c.self.invariant.picked
     c.compare-verdict.ensures.rates c.compare-verdict.ensures.verdict c.in_ok-needs_staging.ensures
     c.close.ensures.better c.close.ensures.other)
 
