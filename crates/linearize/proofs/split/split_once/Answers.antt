@@ -19,7 +19,7 @@ pub minus-rest-requires : goal.minus-rest-requires
 minus-rest-requires g c = words_fit g.row.W c.requires.narrow
 
 pub returns-in_default-clause-most : goal.returns-in_default-clause-most
-returns-in_default-clause-most g c = once_most _ _ _ c.requires.ready.some c.best.ensures.solve
+returns-in_default-clause-most g c = once_most _ _ _ _ _ c.requires.ready.some c.best.ensures.solve
 
 pub best-requires-2 : goal.best-requires-2
 best-requires-2 g c =
@@ -120,10 +120,10 @@ returns-then-one-clause-most g c =
     let cut = c.in-Some.ensures.cut in
     let s = c.args.within.now in
     let first = c.in-Some.first in
-    cut_most (fin.len s) (fin.len first) (fin.len (fin.difference s first)) _ c.best.new.steps c.best-2.new.steps _
+    cut_most (fin.len s) (fin.len first) (fin.len (fin.difference s first)) _ _ _ _ c.best.new.steps c.best-2.new.steps _
     (both_lens (64 * g.row.W) c.args.dep.now s first r.closed r.members r.rates cut) cut.some cut.others c.best.ensures.solve
     c.best-2.ensures.solve
-    (solve_most _ _ _ (subst (λ x. AreOfOne (fin.len x) c.best-2.new.steps c.best-then-one.new.steps)
+    (solve_most _ _ _ _ _ (subst (λ x. AreOfOne (fin.len x) c.best-2.new.scratch c.best-then-one.new.scratch c.best-2.new.steps c.best-then-one.new.steps)
     {y = fin.difference s first} c.minus-rest.ensures c.best-then-one.ensures.solve))
 
 pub returns-else-one-clause-most : goal.returns-else-one-clause-most
@@ -132,6 +132,6 @@ returns-else-one-clause-most g c =
     let cut = c.in-Some.ensures.cut in
     let s = c.args.within.now in
     let first = c.in-Some.first in
-    cut_most (fin.len s) (fin.len first) (fin.len (fin.difference s first)) _ c.best.new.steps c.best-2.new.steps _
+    cut_most (fin.len s) (fin.len first) (fin.len (fin.difference s first)) _ _ _ _ c.best.new.steps c.best-2.new.steps _
     (both_lens (64 * g.row.W) c.args.dep.now s first r.closed r.members r.rates cut) cut.some cut.others c.best.ensures.solve
     c.best-2.ensures.solve (omega arith)
