@@ -12,7 +12,7 @@ use Rattle.closure_flow.specs.Scratches.{Room, TakesSteps}
 use Rattle.graphs.specs.Certificates.{Part}
 use Rattle.linearize.specs.Drafts.{Written}
 use Rattle.linearize.specs.Splits.{AddsOne}
-use Rattle.linearize.specs.Steps.{AddsBySolves, AreOfOne, AreOfSolves, Cut, Cuts, IsSolve, Solve, Uncut, begun_by, parts_of, steps_of}
+use Rattle.linearize.specs.Steps.{AddsBySolves, AreAtLeast, AreOfOne, AreOfSolves, Cut, Cuts, IsSolve, Solve, Uncut, begun_by, parts_of, places_of, steps_of}
 
 -- ---- sums of what each entry of a list gives
 each_most : (f : Solve → ℕ) (xs : List Solve) (most : ℕ) → ((x : Solve) → Contains xs x → f x ≤ most) → sum_by f xs ≤ length xs * most
@@ -118,6 +118,29 @@ two_solves n a b front middle all r0 r1 r2 r3 one two three four lens own (ps, i
         omega (arith, lens, counted, first.whole, second.whole, first.counted, second.counted));
   },
 )
+
+-- ---- what they are at least
+pub at_least_one : (n : ℕ) (old new : Room) (before after : ℕ) → AreOfOne n old new before after → AreAtLeast n old new before after
+at_least_one n old new before after one = record { gave = one.gave; least = (let counted = one.counted in omega (arith, counted)) }
+
+pub at_least_any : (n : ℕ) (old new : Room) (before after : ℕ) → AreAtLeast n old new before after → AreAtLeast 0 old new before after
+at_least_any n old new before after s = record { gave = s.gave; least = omega (arith, s.least) }
+
+pub at_least_both : (n a b : ℕ) (r0 r1 r2 : Room) (one two three : ℕ) → n ≤ a + b → AreAtLeast a r0 r1 one two → AreAtLeast b r1 r2 two three
+    → AreAtLeast n r0 r2 one three
+at_least_both n a b r0 r1 r2 one two three few first then = record {
+  gave = omega (arith, first.gave, then.gave);
+  least = omega (arith, few, first.least, then.least);
+}
+
+begun_least : (cuts : Cuts) → places_of cuts ≤ begun_by cuts
+begun_least (Uncut part) = omega arith
+begun_least (Cut first rest) = omega (arith, begun_least first, begun_least rest)
+
+pub at_least_all : (n : ℕ) (parts : List Part) (old new : Room) (before after : ℕ) → AreOfSolves n parts old new before after
+    → AreAtLeast n old new before after
+at_least_all n parts old new before after s =
+    record { gave = s.gave; least = omega (arith, s.counted, s.whole, begun_least s.cuts) }
 
 -- ---- all of them
 pub least_of : (n : ℕ) (parts : List Part) (old new : Room) (before after : ℕ) → AreOfSolves n parts old new before after → before + n ≤ after

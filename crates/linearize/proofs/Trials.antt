@@ -172,7 +172,7 @@ module _ (n : ℕ) (dep : Closure) (parents : List (fin.FinSet nat_cmp)) (member
     within : IsWithin n (fin.union done group)
     within k m = closed.within k (held k (elim (from_union done group k m) [ inl a ↦ stands.inside k a | inr b ↦ next.inside k b ]))
 
-    lens : fin.len (fin.union done group) ≡ fin.len done + fin.len group
+    pub lens : fin.len (fin.union done group) ≡ fin.len done + fin.len group
     lens = len_split n (fin.union done group) done group within (split_union done group apart)
 
     most : fin.len (fin.union done group) ≤ n
@@ -300,8 +300,8 @@ module _ (n : ℕ) (dep : Closure) (members done : fin.FinSet nat_cmp) (closed :
       | inr out ↦ out ∙ sym (false_from_ne_true _ (λ m. clash _ (inside members done whole k m) out))
     ])
 
-    pub all_least : before + fin.len members ≤ now
-    all_least = let e = ap (λ s. fin.len s) same in omega (arith, stands.least, e)
+    pub all_done : fin.len done ≡ fin.len members
+    all_done = ap (λ s. fin.len s) same
 
     pub all_parts : (shown : List LinearPart) → AreShown shown draft.parts → Falls (map (λ part. sum_from part.rate) shown)
         → AreParts n dep members draft.parts

@@ -32,6 +32,12 @@ pub record AreOfOne (n : ℕ) (old new : Room) (before after : ℕ) : Type 0 whe
   pub gave : old.given ≤ new.given
   pub counted : after + old.given ≡ before + n + new.given
 
+-- The steps grew by one at least for each place that the queue gave, and beside these for each of n places that solves
+-- began with.
+pub record AreAtLeast (n : ℕ) (old new : Room) (before after : ℕ) : Type 0 where
+  pub gave : old.given ≤ new.given
+  pub least : before + n + new.given ≤ after + old.given
+
 -- how a set came to be parts: it is one, or it was cut in two
 pub data Cuts : Type 0 where
   Uncut : (part : Part) → Cuts

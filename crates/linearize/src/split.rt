@@ -12,7 +12,7 @@ ghost use Rattle.linearize.specs.Graphs.{HasRates, most_members, sum_at, sum_fro
 ghost use Rattle.linearize.specs.Near.{most_tried};
 ghost use Rattle.linearize.specs.Orders.{AreCovers, sums_in};
 ghost use Rattle.linearize.specs.Splits.{Adds, AddsOne, HasRoom, IsCut, IsReady, IsSolved};
-ghost use Rattle.linearize.specs.Steps.{AddsBySolves, AreOfOne};
+ghost use Rattle.linearize.specs.Steps.{AddsBySolves, AreAtLeast, AreOfOne};
 
 use crate::draft::Draft;
 use crate::part::emit;
@@ -94,7 +94,7 @@ pub(crate) fn split_once<L: Ledger, const W: usize>(
     requires weights { 64 * W ≤ length weights.old }
     ensures adds { result ≡ true → Adds (64 * W) dep.now within.now draft.old draft.new }
     ensures open { (draft.new.ids ≡ []) × (draft.new.flows ≡ []) }
-    ensures least { steps.old + set.len within.now ≤ steps.new }
+    ensures least { AreAtLeast (set.len within.now) scratch.old scratch.new steps.old steps.new }
     ensures most { steps.new ≤ steps.old + most_tried (set.len within.now) * set.len within.now }
 {
     let Some(first) = best(scratch, dep, parents, weights, within, draft, steps) else {
