@@ -6,10 +6,11 @@ use Rattle.std.specs.FinSet as set
 use Rattle.closure_flow.specs.declared.queue.Entry.{Entry}
 use Rattle.closure_flow.specs.Closures.{parents_at}
 
--- the entries of a queue, and how many were taken
+-- the entries of a queue, how many of them were taken, and how many places it ever gave
 pub record Line : Type 0 where
   pub entries : List Entry
   pub taken : ℕ
+  pub given : ℕ
 
 -- the place of an entry, and the position of the entry from which it was found
 abbrev pub place_at : List Entry → ℕ → ℕ

@@ -7,6 +7,7 @@
 
 mod first;
 mod network;
+mod past;
 mod path;
 mod queue;
 mod scratch;

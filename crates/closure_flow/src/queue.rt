@@ -1,6 +1,7 @@
 ghost use Rattle.std.specs.Prelude.{◌≡◌, ◌+◌, ◌*◌, ◌<◌, ◌≤◌, ◌++◌, ◌∷◌, [], length, IfOk, MatchOption};
 ghost use Rattle.closure_flow.specs.Queues.{from_at, place_at};
 
+use crate::past::Past;
 use bitset::Bits;
 use outside::NoMemory;
 use std::alloc::Global;
@@ -22,16 +23,18 @@ pub struct Entry {
 pub struct Queue<const W: usize> {
     entries: Vec<Entry>,
     taken: usize,
+    past: Past,
 }
 
-// Clauses see the entries and how many of them were taken.
+// Clauses see the entries, how many of them were taken, and how many places the queue ever gave: those of before it was
+// cleared last, and those that were taken since.
 impl<const W: usize> Model for Queue<W> {
-    ghost use Rattle.std.specs.Prelude.{◌*◌, ◌≤◌, vec_len, vec_capacity};
+    ghost use Rattle.std.specs.Prelude.{◌+◌, ◌*◌, ◌≤◌, vec_len, vec_capacity};
     ghost use Rattle.closure_flow.specs.Queues.{Line};
 
     ghost Value = { Line };
 
-    ghost view = { λ q. record { entries = q.entries.items; taken = q.taken } };
+    ghost view = { λ q. record { entries = q.entries.items; taken = q.taken; given = q.past.places + q.taken } };
 
     ghost invariant = { λ q. (q.taken ≤ vec_len q.entries) × (64 * W ≤ vec_capacity q.entries) };
 }
@@ -42,10 +45,12 @@ impl<const W: usize> Queue<W> {
         requires { room ≡ 64 * W }
         ensures entries { IfOk result (λ q. q.entries ≡ []) }
         ensures taken { IfOk result (λ q. q.taken ≡ 0) }
+        ensures given { IfOk result (λ q. q.given ≡ 0) }
     {
         Ok(Queue {
             entries: Vec::with_capacity(alloc, room)?,
             taken: 0,
+            past: Past::none(),
         })
     }
 
@@ -57,6 +62,8 @@ impl<const W: usize> Queue<W> {
         ensures entries { self.new.entries ≡ self.old.entries }
         ensures taken { MatchOption result (self.new.taken ≡ self.old.taken)
             (λ _. self.new.taken ≡ self.old.taken + 1) }
+        ensures given { MatchOption result (self.new.given ≡ self.old.given)
+            (λ _. self.new.given ≡ self.old.given + 1) }
         ensures step { MatchOption result (steps.new ≡ steps.old) (λ _. steps.new ≡ steps.old + 1) }
     {
         if self.taken == self.entries.len() {
@@ -89,7 +96,9 @@ impl<const W: usize> Queue<W> {
     pub fn clear(&mut self)
         ensures entries { self.new.entries ≡ [] }
         ensures taken { self.new.taken ≡ 0 }
+        ensures given { self.new.given ≡ self.old.given }
     {
+        self.past = self.past.and(self.taken);
         self.taken = 0;
         self.entries.clear();
     }
@@ -99,6 +108,7 @@ impl<const W: usize> Queue<W> {
         requires { length self.old.entries < 64 * W }
         ensures entries { self.new.entries ≡ self.old.entries ++ entry ∷ [] }
         ensures taken { self.new.taken ≡ self.old.taken }
+        ensures given { self.new.given ≡ self.old.given }
     {
         let pushed = self.entries.push(entry);
         prove!(pushed.is_ok());

@@ -14,14 +14,17 @@ pub struct Scratch<const W: usize> {
     pub(crate) queue: Queue<W>,
 }
 
-// Clauses see what each child sends to each parent.
+// Clauses see what each child sends to each parent, and how many places the queue ever gave.
 impl<const W: usize> Model for Scratch<W> {
     ghost use Rattle.std.specs.Prelude.{◌*◌};
-    ghost use Rattle.closure_flow.specs.Scratches.{Flow, rows, shown};
+    ghost use Rattle.closure_flow.specs.Scratches.{Room, rows, shown};
 
-    ghost Value = { Flow };
+    ghost Value = { Room };
 
-    ghost view = { λ s. rows (64 * W) (shown (64 * W) s.network.within s.network.into.items s.network.amounts.items) };
+    ghost view = { λ s. record {
+      flow = rows (64 * W) (shown (64 * W) s.network.within s.network.into.items s.network.amounts.items);
+      given = s.queue.given;
+    } };
 }
 
 impl<const W: usize> Scratch<W> {
@@ -30,7 +33,8 @@ impl<const W: usize> Scratch<W> {
 
     /// Room for 64·W places, in which nothing flows.
     pub fn new(alloc: Global) -> Result<Self, NoMemory>
-        ensures { IfOk result (λ s. (c p : ℕ) → flow_of s c p ≡ 0) }
+        ensures flow { IfOk result (λ s. (c p : ℕ) → flow_of s c p ≡ 0) }
+        ensures given { IfOk result (λ s. s.given ≡ 0) }
     {
         let network = Network::new(alloc)?;
         let queue = Queue::new(alloc, network.rest.len())?;

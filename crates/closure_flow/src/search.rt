@@ -29,6 +29,7 @@ pub(crate) fn put_all<const W: usize>(
     ensures only { (t : ℕ) → set.contains result t ≡ true
         → (set.contains first.now t ≡ true) ⊎ (set.contains next.now t ≡ true) }
     ensures taken { queue.new.taken ≡ queue.old.taken }
+    ensures given { queue.new.given ≡ queue.old.given }
 {
     let mut seen = *first;
     let mut left = *next;
@@ -66,6 +67,7 @@ pub(crate) fn search<L: Ledger, const W: usize>(
     ensures few { length queue.new.entries ≤ set.len network.now.within }
     ensures search { IsSearchIn parents.now network.now queue.new.entries }
     ensures shortest { MatchOption result.end (Unit {0}) (IsShortestIn parents.now network.now queue.new.entries) }
+    ensures given { queue.new.given ≡ queue.old.given + queue.new.taken }
     ensures steps { steps.new ≡ steps.old + queue.new.taken }
 {
     queue.clear();

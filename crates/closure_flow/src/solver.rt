@@ -9,7 +9,7 @@ ghost use Rattle.closure_flow.specs.Labels.{Climbs};
 ghost use Rattle.closure_flow.specs.Networks.{IsShort};
 ghost use Rattle.closure_flow.specs.Outcomes.{IfBetter, OnBalanced};
 ghost use Rattle.closure_flow.specs.Queues.{place_at};
-ghost use Rattle.closure_flow.specs.Scratches.{flow_of};
+ghost use Rattle.closure_flow.specs.Scratches.{TakesSteps, flow_of};
 ghost use Rattle.closure_flow.specs.Views.{ImprovesTo, IsLabellingIn, IsSealedIn, IsSearchIn, IsSteadyIn, SpendsTo};
 ghost use Rattle.closure_flow.specs.Views.{flow_in, rest_in};
 
@@ -56,12 +56,14 @@ pub fn solve<L: Ledger, const W: usize>(
     ensures none { OnBalanced result (IsNoneHeavier (64 * W) weights.now parents.now within.entry (pos 0)) }
     ensures flow { OnBalanced result (IsBalanced (64 * W) weights.now parents.now within.entry (flow_of scratch.new)) }
 
-    // Each place is begun with, so each of negative weight is. However large the weights are, n places take at most
-    // (n + 2)^4 + (n + 2) steps in all.
+    // A step is one of the places that it begins with, or one that its queue gave, and no other. Each place is begun
+    // with, so each of negative weight is. However large the weights are, n places take at most (n + 2)^4 + (n + 2)
+    // steps in all.
+    ensures steps { TakesSteps (set.len within.entry) (most_steps (set.len within.entry))
+        scratch.old scratch.new steps.old steps.new }
     ensures steps_better { IfBetter result (λ _. steps.old < steps.new) }
     ensures steps_balanced { OnBalanced result (steps.old + negatives (64 * W) weights.now within.entry ≤ steps.new) }
     ensures steps_least { steps.old + set.len within.entry ≤ steps.new }
-    ensures steps_most { steps.new ≤ steps.old + most_steps (set.len within.entry) }
 {
     load(&mut scratch.network, weights, &within, steps);
     first_flow(&mut scratch.network, parents);
@@ -106,6 +108,7 @@ fn complete<L: Ledger, const W: usize>(
     ensures improves { ImprovesTo parents.now network.old network.new }
     ensures sealed { IsSealedIn parents.now network.new result }
     ensures steps { steps.old ≤ steps.new }
+    ensures counted { steps.new + queue.old.given ≡ steps.old + queue.new.given }
     ensures most { steps.new ≤ steps.old + most_searched (set.len network.old.within) }
     ensures within { network.new.within ≡ network.old.within }
 {

@@ -4,7 +4,7 @@ ghost use Rattle.bitset.specs.Places.{IsWithin};
 ghost use Rattle.closure_flow.specs.Closures.{HasEach, IsBalanced};
 ghost use Rattle.closure_flow.specs.Networks.{IsAllowed};
 ghost use Rattle.closure_flow.specs.Queues.{IsBeyond};
-ghost use Rattle.closure_flow.specs.Scratches.{flow_of};
+ghost use Rattle.closure_flow.specs.Scratches.{TakesSteps, flow_of};
 ghost use Rattle.closure_flow.specs.Tight.{AreApart, IsBalancing, IsDrawn, IsDrawnBy, IsFewestDrawn};
 ghost use Rattle.closure_flow.specs.Tight.{IsLeastTight, IsSmallestTight};
 ghost use Rattle.closure_flow.specs.Views.{shown_in};
@@ -19,7 +19,7 @@ use step_count::{Ledger, Steps};
 ///
 /// The last call of [`solve`](crate::solve) on this scratch had these parents and this set, and answered
 /// [`Balanced`](crate::Outcome::Balanced): weights and weight are those of that call. The flow that it left stays. It
-/// takes no memory, and each place of the set that it answers is a step.
+/// takes no memory, and each place of the set that it answers is a step, as the queue gives it.
 pub fn tight<L: Ledger, const W: usize>(
     scratch: &mut Scratch<W>,
     parents: &[Bits<W>],
@@ -32,9 +32,9 @@ pub fn tight<L: Ledger, const W: usize>(
     requires place { set.contains within place ≡ true }
     ensures least { (weights : List ℤ) → IsBalanced (64 * W) weights parents.now within.entry (flow_of scratch.old)
         → IsLeastTight (64 * W) weights parents.now within.entry place result }
-    ensures flow { scratch.new ≡ scratch.old }
+    ensures flow { scratch.new.flow ≡ scratch.old.flow }
     ensures steps { steps.new ≡ steps.old + set.len result }
-    ensures steps_most { steps.new ≤ steps.old + set.len within.entry }
+    ensures counted { TakesSteps 0 (set.len within.entry) scratch.old scratch.new steps.old steps.new }
 {
     // It tells that the places are below 64·W.
     let _places = within.count();
@@ -51,7 +51,8 @@ pub fn tight<L: Ledger, const W: usize>(
 
 /// The smallest set that is closed within a set, has at least one place and has weight 0.
 ///
-/// What holds before and after it is as of [`tight`], but that of n places at most n² are steps.
+/// What holds before and after it is as of [`tight`], but that of n places at most n² are steps. Each place that the queue
+/// gives is one, and no other.
 pub fn smallest_tight<L: Ledger, const W: usize>(
     scratch: &mut Scratch<W>,
     parents: &[Bits<W>],
@@ -63,9 +64,8 @@ pub fn smallest_tight<L: Ledger, const W: usize>(
     requires balanced { IsBalancing (64 * W) parents.now within (flow_of scratch.old) }
     ensures smallest { (weights : List ℤ) → IsBalanced (64 * W) weights parents.now within.entry (flow_of scratch.old)
         → IsSmallestTight (64 * W) weights parents.now within.entry result }
-    ensures flow { scratch.new ≡ scratch.old }
-    ensures steps { steps.old ≤ steps.new }
-    ensures steps_most { steps.new ≤ steps.old + set.len within.entry * set.len within.entry }
+    ensures flow { scratch.new.flow ≡ scratch.old.flow }
+    ensures steps { TakesSteps 0 (set.len within.entry * set.len within.entry) scratch.old scratch.new steps.old steps.new }
 {
     if within.count() == 1 {
         return within;
@@ -94,6 +94,7 @@ fn fewest<L: Ledger, const W: usize>(
     requires allowed { IsAllowed (64 * W) parents.now within.now (shown_in network.now) }
     ensures fewest { IsFewestDrawn (64 * W) parents.now within.now (shown_in network.now) result }
     ensures steps { steps.old ≤ steps.new }
+    ensures counted { steps.new + queue.old.given ≡ steps.old + queue.new.given }
     ensures steps_most { steps.new ≤ steps.old + set.len within.now * set.len within.now }
 {
     let mut best = *within;
@@ -145,6 +146,7 @@ fn draw<L: Ledger, const W: usize>(
     ensures holds { set.contains result place ≡ true }
     ensures least { IsDrawnBy (64 * W) parents.now within.now (shown_in network.now) place result }
     ensures steps { steps.old ≤ steps.new }
+    ensures counted { steps.new + queue.old.given ≡ steps.old + queue.new.given }
     ensures steps_most { steps.new ≤ steps.old + set.len within.now }
 {
     queue.clear();

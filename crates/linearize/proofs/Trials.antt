@@ -27,6 +27,7 @@ use Rattle.linearize.specs.Graphs.{sum_at, sum_from, most_members}
 use Rattle.linearize.specs.Near.{AreParts, ComesNext, most_tried}
 use Rattle.linearize.specs.Orders.{AreCovers, IsOrderOf}
 use Rattle.linearize.specs.Splits.{Adds, HasRoom, IsUncutPart}
+use Rattle.closure_flow.specs.Scratches.{Room}
 use Rattle.linearize.specs.Steps.{AreOfOne}
 use Rattle.linearize.proofs.Joined.{either_part}
 use Rattle.linearize.proofs.Nexts.{inside}
@@ -85,24 +86,25 @@ cut_steps d f r all some others =
         omega (arith, small f4 r4 d4 (d3 * (d + 2)) _ _ _ _ _ _ (f * f) (r * r) first second fourths both squares most polynomial all)
 
 -- one solve takes so many steps
-pub solve_most : (n before after : ℕ) → AreOfOne n before after → after ≤ before + (most_steps n + n * n)
-solve_most n before after one =
+pub solve_most : (n : ℕ) (old new : Room) (before after : ℕ) → AreOfOne n old new before after → after ≤ before + (most_steps n + n * n)
+solve_most n old new before after one =
     let solve = subst (λ (k : ℕ). one.solve.steps ≤ most_steps k) one.all one.is.most in
     let searched = subst (λ (k : ℕ). one.solve.searched ≤ k * k) one.all one.is.most_searched in
     omega (arith, one.sum, solve, searched)
 
-pub once_most : (n before after : ℕ) → 0 < n → AreOfOne n before after → after ≤ before + most_tried n * n
-once_most n before after some one = omega (arith, solve_most n before after one, solve_steps n some)
+pub once_most : (n : ℕ) (old new : Room) (before after : ℕ) → 0 < n → AreOfOne n old new before after → after ≤ before + most_tried n * n
+once_most n old new before after some one = omega (arith, solve_most n old new before after one, solve_steps n some)
 
 -- and so do one and those of the two sets that it is cut into
-pub cut_most : (n f r before middle later after : ℕ) → n ≡ f + r → 0 < f → 0 < r → AreOfOne n before middle → AreOfOne f middle later
+pub cut_most : (n f r : ℕ) (one two three : Room) (before middle later after : ℕ) → n ≡ f + r → 0 < f → 0 < r → AreOfOne n one two before middle
+    → AreOfOne f two three middle later
     → after ≤ later + (most_steps r + r * r) → after ≤ before + most_tried n * n
-cut_most n f r before middle later after all some others first second last =
+cut_most n f r one two three before middle later after all some others first second last =
     let d : ℕ = n - 2 in
     let is : d + 2 ≡ n = omega (arith, all, some, others) in
     let sum = subst (λ (k : ℕ). (most_steps k + k * k) + (most_steps f + f * f) + (most_steps r + r * r) ≤ most_tried k * k) is
     (cut_steps d f r (is ∙ all) some others) in
-    omega (arith, solve_most n before middle first, solve_most f middle later second, last, sum)
+    omega (arith, solve_most n one two before middle first, solve_most f two three middle later second, last, sum)
 
 -- the parts of some members, with each covering parent of them, and the steps that they took
 pub record Stands (n : ℕ) (dep : Closure) (members done : fin.FinSet nat_cmp) (draft : Written) (before now : ℕ) : Type 0 where
@@ -170,7 +172,7 @@ module _ (n : ℕ) (dep : Closure) (parents : List (fin.FinSet nat_cmp)) (member
     within : IsWithin n (fin.union done group)
     within k m = closed.within k (held k (elim (from_union done group k m) [ inl a ↦ stands.inside k a | inr b ↦ next.inside k b ]))
 
-    lens : fin.len (fin.union done group) ≡ fin.len done + fin.len group
+    pub lens : fin.len (fin.union done group) ≡ fin.len done + fin.len group
     lens = len_split n (fin.union done group) done group within (split_union done group apart)
 
     most : fin.len (fin.union done group) ≤ n
@@ -298,8 +300,8 @@ module _ (n : ℕ) (dep : Closure) (members done : fin.FinSet nat_cmp) (closed :
       | inr out ↦ out ∙ sym (false_from_ne_true _ (λ m. clash _ (inside members done whole k m) out))
     ])
 
-    pub all_least : before + fin.len members ≤ now
-    all_least = let e = ap (λ s. fin.len s) same in omega (arith, stands.least, e)
+    pub all_done : fin.len done ≡ fin.len members
+    all_done = ap (λ s. fin.len s) same
 
     pub all_parts : (shown : List LinearPart) → AreShown shown draft.parts → Falls (map (λ part. sum_from part.rate) shown)
         → AreParts n dep members draft.parts

@@ -1,5 +1,5 @@
 -- What a set of places is linearized to.
-use Rattle.std.specs.Prelude.{◌≡◌, ◌≢◌, ℕ, ◌+◌, ◌*◌, ◌<◌, ◌≤◌, ℤ, pos, ◌≤ℤ◌, true, List, [], ◌++◌, length, Contains}
+use Rattle.std.specs.Prelude.{◌≡◌, ◌≢◌, ℕ, ◌+◌, ◌*◌, ◌<◌, ◌≤◌, ℤ, pos, ◌≤ℤ◌, true, List, [], ◌∷◌, ◌++◌, length, Contains}
 use Rattle.std.specs.Ordering.{nat_cmp}
 use Rattle.std.specs.FinSet as set
 use Rattle.graphs.specs.Closures.{Closure, IsCover, IsClosed, HoldsMembers}
@@ -78,6 +78,12 @@ pub record Adds (n : ℕ) (dep : Closure) (s : set.FinSet nat_cmp) (old new : Wr
   pub places : length (placed parts) ≡ set.len s
   pub few : length parts ≤ set.len s
   pub few_flows : 4 * length (flows_in parts) ≤ set.len s * set.len s
+
+-- one part behind others, with so many places
+pub record AddsOne (n : ℕ) (old new : Written) : Type 0 where
+  pub part : Part
+  pub is : new.parts ≡ old.parts ++ part ∷ []
+  pub places : length part.ids ≡ n
 
 -- no part is open, and there is room for the places of a set, for as many parts, and for their flows
 pub record HasRoom (n : ℕ) (s : set.FinSet nat_cmp) (written : Written) : Type 0 where

@@ -119,8 +119,9 @@ pub fn optimal<L: Ledger, const W: usize>(
     ensures minimal { (graph : model.Graph) → IsClosureOf dep.now graph
         → AreMinimal (sum_at dep.now) graph.pairs out.new }
 
-    // The steps are those of its solves. Of n members they are n at least, and at most 2 · (n + 2)^5 − 4 · (n + 2)^4.
-    ensures solves { AreOfSolves (set.len (members_of dep.now)) steps.old steps.new }
+    // The steps are those of its solves, and no other: each place that a solve began with, and each that the queue gave.
+    // Of n members they are n at least, and at most 2 · (n + 2)^5 − 4 · (n + 2)^4.
+    ensures solves { AreOfSolves (set.len (members_of dep.now)) out.new scratch.old scratch.new steps.old steps.new }
     ensures steps_least { steps.old + set.len (members_of dep.now) ≤ steps.new }
     ensures steps_most { steps.new + 4 * (set.len (members_of dep.now) + 2) ^ 4
         ≤ steps.old + 2 * (set.len (members_of dep.now) + 2) ^ 5 }

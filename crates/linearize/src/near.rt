@@ -12,6 +12,7 @@ ghost use Rattle.linearize.specs.Graphs.{sum_from};
 ghost use Rattle.linearize.specs.Minimal.{AreMinimal};
 ghost use Rattle.linearize.specs.Near.{AreParts, ComesNext, most_tried};
 ghost use Rattle.linearize.specs.Splits.{IsReady};
+ghost use Rattle.linearize.specs.Steps.{AreAtLeast};
 
 use crate::draft::{Draft, LinearPart};
 use crate::guess::{Group, arrange};
@@ -50,8 +51,9 @@ pub fn optimal_near<L: Ledger, const W: usize>(
     ensures minimal { (graph : model.Graph) → IsClosureOf dep.now graph
         → AreMinimal (sum_at dep.now) graph.pairs out.new }
 
-    // Of n members the steps are n at least, and at most 2 · (n + 2)^5, with those of a guess that wasn't right.
-    ensures steps_least { steps.old + set.len (members_of dep.now) ≤ steps.new }
+    // Of n members the steps are n at least, beside the places that the queue gave, and at most 2 · (n + 2)^5, with those of
+    // a guess that wasn't right.
+    ensures steps_least { AreAtLeast (set.len (members_of dep.now)) scratch.old scratch.new steps.old steps.new }
     ensures steps_most { steps.new ≤ steps.old + 2 * (set.len (members_of dep.now) + 2) ^ 5 }
 {
     let members = dep.members();
@@ -93,8 +95,8 @@ fn are_parts<L: Ledger, const W: usize>(
     requires weights { 64 * W ≤ length weights.old }
     ensures open { (draft.new.ids ≡ []) × (draft.new.flows ≡ []) }
     ensures parts { result ≡ true → AreParts (64 * W) dep.now members.now draft.new.parts }
-    ensures least { result ≡ true → steps.old + set.len members.now ≤ steps.new }
-    ensures grew { steps.old ≤ steps.new }
+    ensures least { result ≡ true → AreAtLeast (set.len members.now) scratch.old scratch.new steps.old steps.new }
+    ensures grew { AreAtLeast 0 scratch.old scratch.new steps.old steps.new }
     ensures most { steps.new ≤ steps.old + most_tried (set.len members.now) * set.len members.now }
 {
     let mut done = Bits::empty();

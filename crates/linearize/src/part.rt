@@ -6,7 +6,7 @@ ghost use Rattle.closure_flow.specs.Scratches.{flow_of};
 ghost use Rattle.linearize.specs.Graphs.{sum_from};
 ghost use Rattle.linearize.specs.Drafts.{Takes, placed, with_flows};
 ghost use Rattle.linearize.specs.Orders.{AreCovers, Balances, IsOrderOf, flows_from, flows_in_set, sums_in};
-ghost use Rattle.linearize.specs.Splits.{Adds, HasRoom, IsUncut};
+ghost use Rattle.linearize.specs.Splits.{Adds, AddsOne, HasRoom, IsUncut};
 
 use crate::draft::{Draft, PlaceFlow};
 use bitset::Bits;
@@ -32,7 +32,8 @@ pub(crate) fn emit<const W: usize>(
     requires balanced { Balances (64 * W) dep.now parents.now within.now (flow_of scratch.now) }
     requires uncut { IsUncut (64 * W) dep.now within.now }
     requires room { HasRoom (64 * W) within.now draft.old }
-    ensures { Adds (64 * W) dep.now within.now draft.old draft.new }
+    ensures adds { Adds (64 * W) dep.now within.now draft.old draft.new }
+    ensures one { AddsOne (set.len within.now) draft.old draft.new }
 {
     put_places(dep, within, draft);
     send_all(scratch, parents, within, draft);

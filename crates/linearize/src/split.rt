@@ -4,15 +4,15 @@ ghost use Rattle.std.specs.Ordering.{nat_cmp};
 ghost use Rattle.std.specs.FinSet as set;
 ghost use Rattle.graphs.specs.Closures.{HoldsMembers, IsClosed};
 ghost use Rattle.closure_flow.specs.Closures.{weight_at};
-ghost use Rattle.closure_flow.specs.Scratches.{flow_of};
+ghost use Rattle.closure_flow.specs.Scratches.{TakesSteps, flow_of};
 ghost use Rattle.fee_rate.specs.Limits.{IsRate};
 ghost use Rattle.fee_rate.specs.declared.limits.TheConstants.{MAX_SIZE};
 ghost use Rattle.graphs.specs.Certificates.{weight_in};
 ghost use Rattle.linearize.specs.Graphs.{HasRates, most_members, sum_at, sum_from};
 ghost use Rattle.linearize.specs.Near.{most_tried};
 ghost use Rattle.linearize.specs.Orders.{AreCovers, sums_in};
-ghost use Rattle.linearize.specs.Splits.{Adds, HasRoom, IsCut, IsReady, IsSolved};
-ghost use Rattle.linearize.specs.Steps.{AreOfOne, AreOfSolves};
+ghost use Rattle.linearize.specs.Splits.{Adds, AddsOne, HasRoom, IsCut, IsReady, IsSolved};
+ghost use Rattle.linearize.specs.Steps.{AddsBySolves, AreAtLeast, AreOfOne};
 
 use crate::draft::Draft;
 use crate::part::emit;
@@ -36,7 +36,8 @@ pub(crate) fn split<L: Ledger, const W: usize>(
     requires ready { IsReady (64 * W) dep.now parents.now within.now draft.old }
     requires weights { 64 * W ≤ length weights.old }
     ensures adds { Adds (64 * W) dep.now within.now draft.old draft.new }
-    ensures solves { AreOfSolves (set.len within.now) steps.old steps.new }
+    ensures solves { AddsBySolves (set.len within.now) draft.old.parts draft.new.parts
+        scratch.old scratch.new steps.old steps.new }
 {
     if let Some(first) = best(scratch, dep, parents, weights, within, draft, steps) {
         let rest = within.minus(&first);
@@ -62,7 +63,8 @@ pub(crate) fn best<L: Ledger, const W: usize>(
     ensures draft { MatchOption result
         (Adds (64 * W) dep.now within.now draft.old draft.new)
         (λ _. draft.new ≡ draft.old) }
-    ensures solve { AreOfOne (set.len within.now) steps.old steps.new }
+    ensures one { MatchOption result (AddsOne (set.len within.now) draft.old draft.new) (λ _. Unit {0}) }
+    ensures solve { AreOfOne (set.len within.now) scratch.old scratch.new steps.old steps.new }
 {
     if within.count() == 1 {
         alone(dep, within, draft, steps);
@@ -92,7 +94,7 @@ pub(crate) fn split_once<L: Ledger, const W: usize>(
     requires weights { 64 * W ≤ length weights.old }
     ensures adds { result ≡ true → Adds (64 * W) dep.now within.now draft.old draft.new }
     ensures open { (draft.new.ids ≡ []) × (draft.new.flows ≡ []) }
-    ensures least { steps.old + set.len within.now ≤ steps.new }
+    ensures least { AreAtLeast (set.len within.now) scratch.old scratch.new steps.old steps.new }
     ensures most { steps.new ≤ steps.old + most_tried (set.len within.now) * set.len within.now }
 {
     let Some(first) = best(scratch, dep, parents, weights, within, draft, steps) else {
@@ -118,6 +120,7 @@ fn alone<L: Ledger, const W: usize>(
     requires room { HasRoom (64 * W) within.now draft.old }
     requires one { set.len within.now ≡ 1 }
     ensures adds { Adds (64 * W) dep.now within.now draft.old draft.new }
+    ensures one { AddsOne 1 draft.old draft.new }
     ensures step { steps.new ≡ steps.old + 1 }
 {
     steps.tick();
@@ -146,8 +149,8 @@ fn finish<L: Ledger, const W: usize>(
     ensures draft { MatchOption result
         (Adds (64 * W) dep.now within.now draft.old draft.new)
         (λ _. draft.new ≡ draft.old) }
-    ensures steps { steps.old ≤ steps.new }
-    ensures most { steps.new ≤ steps.old + set.len within.now * set.len within.now }
+    ensures one { MatchOption result (AddsOne (set.len within.now) draft.old draft.new) (λ _. Unit {0}) }
+    ensures steps { TakesSteps 0 (set.len within.now * set.len within.now) scratch.old scratch.new steps.old steps.new }
 {
     let first = smallest_tight(scratch, parents, *within, steps);
     if first.count() < within.count() {

@@ -20,6 +20,7 @@ loop-place-preserved g c =
       putting_push (64 * g.row.W) _ _ _ _ _ _ _ _ c.loop-place.invariant.0 member (c.in-Some.ensures.within _ member) refl,
       c.push.ensures.taken
           ∙ c.loop-place.invariant.1,
+      c.push.ensures.given ∙ c.loop-place.invariant.2,
     )
 
 pub returns-clause-new : goal.returns-clause-new

@@ -69,6 +69,7 @@ loop-place-preserved g c =
           k.place c.beyond-next.ensures)
           a.lists grows a.old a.new c.args.network.now.inside),
       omega (arith, k.step, k.taken, a.taken, c.loop-place.invariant.2),
+      omega (arith, k.given, k.taken, a.given, a.taken, c.loop-place.invariant.3),
     )
 
 pub loop-place-init : goal.loop-place-init
@@ -77,6 +78,7 @@ loop-place-init g c = (
   levels_start _ _ _ _ _ _ c.args.network.now.over _ c.put_all-seen.ensures.grows c.clear.ensures.entries
       (c.put_all-seen.ensures.taken ∙ c.clear.ensures.taken),
   omega (arith, c.put_all-seen.ensures.taken, c.clear.ensures.taken),
+  omega (arith, c.put_all-seen.ensures.given, c.put_all-seen.ensures.taken, c.clear.ensures.given, c.clear.ensures.taken),
 )
 
 pub returns-then-has-clause-shortest : goal.returns-then-has-clause-shortest

@@ -12,6 +12,7 @@ invariant-loop-place g l =
     × Levels l.parents l.network.within (sent (64 * g.row.W) l.network.into.items l.network.amounts.items) (weight_at l.network.rest.items)
     l.queue.entries l.queue.taken
     × (l.steps ≡ l.fn.steps + l.queue.taken)
+    × (l.queue.given ≡ l.fn.queue.given + l.queue.taken)
 
 abbrev pub decreases-loop-place : goal.decreases-loop-place
 decreases-loop-place g l = 64 * g.row.W - l.queue.taken

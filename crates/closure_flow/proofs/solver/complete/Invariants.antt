@@ -1,4 +1,4 @@
-use Rattle.std.proofs.Common.{◌≡◌, ◌*◌, ◌≤◌}
+use Rattle.std.proofs.Common.{◌≡◌, ◌+◌, ◌*◌, ◌≤◌}
 use Rattle.std.specs.FinSet as set
 use Rattle.bitset.specs.Places.{places}
 use Rattle.closure_flow.specs.Closures.{weight_at}
@@ -13,6 +13,7 @@ invariant-loop-at g l =
     (weight_at l.fn.network.rest.items) (sent (64 * g.row.W) l.network.into.items l.network.amounts.items) (weight_at l.network.rest.items)
     × (l.network.within ≡ l.fn.network.within)
     × (l.fn.steps ≤ l.steps)
+    × (l.steps + l.fn.queue.given ≡ l.fn.steps + l.queue.given)
     × Budget l.parents l.fn.network.within (places (64 * g.row.W) l.fn.network.within)
     (sent (64 * g.row.W) l.network.into.items l.network.amounts.items) (weight_at l.network.rest.items) (set.len l.fn.network.within) l.fn.steps l.steps
 

@@ -2,6 +2,7 @@ use Rattle.std.proofs.Common.{◌≡◌, ℕ, ◌*◌, ◌<◌, ◌∙◌, sym, 
 use Rattle.std.specs.FinSet as set
 use Rattle.closure_flow.specs.Bounds.{most_searched}
 use Rattle.closure_flow.specs.Closures.{IsBalanced, weight_at}
+use Rattle.closure_flow.specs.Scratches.{Room}
 use Rattle.closure_flow.proofs.Networks.{network_fits, shown_only, shown_within, words_fit}
 use Rattle.closure_flow.proofs.Optimum.{balanced_flow, count_within, counted_some, greatest_where_sealed}
 use Rattle.closure_flow.proofs.Optimum.{none_is_empty, none_where_sealed, nothing_over, positive_where_some, run_of}
@@ -91,12 +92,22 @@ returns-then-is_none-clause-steps_balanced g c =
       c.complete-reached.ensures.steps,
     )
 
-pub returns-then-is_none-clause-steps_most : goal.returns-then-is_none-clause-steps_most
-returns-then-is_none-clause-steps_most g c =
+pub returns-then-is_none-clause-steps : goal.returns-then-is_none-clause-steps
+returns-then-is_none-clause-steps g c =
     let same = ap (λ s. most_searched (set.len s)) (c.first_flow.ensures.within ∙ c.load.ensures.within) in
-    omega (arith, c.load.ensures.steps, c.complete-reached.ensures.most, same, below_fourth (set.len c.args.within))
+    let was : c.scratch.inside.queue.given ≡ c.args.scratch.now.given = ap (λ (room : Room). room.given) c.scratch.view_is in
+    record {
+      gave = omega (arith, was, c.complete-reached.ensures.steps, c.complete-reached.ensures.counted);
+      counted = omega (arith, was, c.load.ensures.steps, c.complete-reached.ensures.counted);
+      few = omega (arith, c.load.ensures.steps, c.complete-reached.ensures.most, same, below_fourth (set.len c.args.within));
+    }
 
-pub returns-clause-steps_most : goal.returns-clause-steps_most
-returns-clause-steps_most g c =
+pub returns-clause-steps : goal.returns-clause-steps
+returns-clause-steps g c =
     let same = ap (λ s. most_searched (set.len s)) (c.first_flow.ensures.within ∙ c.load.ensures.within) in
-    omega (arith, c.load.ensures.steps, c.complete-reached.ensures.most, same, below_fourth (set.len c.args.within))
+    let was : c.scratch.inside.queue.given ≡ c.args.scratch.now.given = ap (λ (room : Room). room.given) c.scratch.view_is in
+    record {
+      gave = omega (arith, was, c.complete-reached.ensures.steps, c.complete-reached.ensures.counted);
+      counted = omega (arith, was, c.load.ensures.steps, c.complete-reached.ensures.counted);
+      few = omega (arith, c.load.ensures.steps, c.complete-reached.ensures.most, same, below_fourth (set.len c.args.within));
+    }

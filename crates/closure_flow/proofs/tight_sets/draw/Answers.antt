@@ -41,6 +41,7 @@ loop-at-init g c =
           a.lists a.within a.new
           (λ t m. subst (λ s. (set.contains s t ≡ true) ⊎ (set.contains c.insert.new.self t ≡ true)) c.empty.ensures (a.only t m))),
       omega (arith, none),
+      omega (arith, none, a.given, c.clear.ensures.given),
     )
 
 pub loop-at-preserved : goal.loop-at-preserved
@@ -60,6 +61,7 @@ loop-at-preserved g c =
           c.toward-next.ensures)
           a.lists a.within grows a.old a.new a.only),
       omega (arith, k.step, k.taken, a.taken, c.loop-at.invariant.1),
+      omega (arith, k.given, k.taken, a.given, a.taken, c.loop-at.invariant.2),
     )
 
 pub loop-at-smaller : goal.loop-at-smaller

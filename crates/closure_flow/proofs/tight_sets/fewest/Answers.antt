@@ -1,4 +1,4 @@
-use Rattle.std.proofs.Common.{◌<◌, ℕ, ◌*◌, sym, subst, arith}
+use Rattle.std.proofs.Common.{◌<◌, ℕ, ◌*◌, refl, sym, subst, arith}
 use Rattle.std.specs.FinSet as set
 use Rattle.closure_flow.specs.Views.{shown_in}
 use Rattle.closure_flow.proofs.Networks.{words_fit}
@@ -8,7 +8,7 @@ use Rattle.closure_flow.proofs.tight_sets.fewest.Goals as goal
 
 pub loop-place-init : goal.loop-place-init
 loop-place-init g c =
-    (seeking_start (64 * g.row.W) _ _ (shown_in c.args.network.now) c.requires.below c.requires.some c.requires.allowed, omega arith, omega arith)
+    (seeking_start (64 * g.row.W) _ _ (shown_in c.args.network.now) c.requires.below c.requires.some c.requires.allowed, omega arith, refl, omega arith)
 
 pub loop-place-preserved : goal.loop-place-preserved
 loop-place-preserved g c =
@@ -20,7 +20,8 @@ loop-place-preserved g c =
           (seeking_step n _ _ (shown_in c.args.network.now) c.requires.below _ c.smaller-best.result c.loop-place.left c.minus-past.result c.draw-found.result
           c.in-Some.place c.loop-place.invariant.0 m c.minus-past.ensures d.drawn d.holds d.least e.one e.first e.second),
       (let before = c.loop-place.invariant.1 in omega (arith, before, d.steps)),
-      steps_left (set.len c.args.within.now) c.args.steps.now _ _ (set.len c.loop-place.left) _ c.loop-place.invariant.2
+      (let before = c.loop-place.invariant.2 in omega (arith, before, d.counted)),
+      steps_left (set.len c.args.within.now) c.args.steps.now _ _ (set.len c.loop-place.left) _ c.loop-place.invariant.3
           (subst (λ s. set.len s < set.len c.loop-place.left) (sym c.remove.ensures) (fewer c.loop-place.left c.in-Some.place m)) d.steps_most,
     )
 

@@ -11,7 +11,7 @@ returns-clause-smallest g c weights balances =
     let n : ℕ = 64 * g.row.W in
     let net = c.scratch.inside.network in
     smallest_tight n weights _ _ (shown_in net) c.count.ensures.within
-    (balanced_shown n weights _ _ net.within net.into.items net.amounts.items _ net.lean net.inside c.scratch.view_is balances)
+    (balanced_shown n weights _ _ net.within net.into.items net.amounts.items _ _ net.lean net.inside c.scratch.view_is balances)
     c.fewest.result c.fewest.ensures.fewest
 
 pub fewest-requires : goal.fewest-requires
@@ -19,7 +19,7 @@ fewest-requires g c =
     let n : ℕ = 64 * g.row.W in
     let net = c.scratch.inside.network in
     let weights = c.requires.balanced.0 in
-    let balanced = balanced_shown n weights _ _ net.within net.into.items net.amounts.items _ net.lean net.inside c.scratch.view_is
+    let balanced = balanced_shown n weights _ _ net.within net.into.items net.amounts.items _ _ net.lean net.inside c.scratch.view_is
     c.requires.balanced.1 in (
       network_fits g.row.W _ _ _ net.sized,
       (

@@ -10,7 +10,7 @@ draw-requires g c =
     let n : ℕ = 64 * g.row.W in
     let net = c.scratch.inside.network in
     let weights = c.requires.balanced.0 in
-    let balanced = balanced_shown n weights _ _ net.within net.into.items net.amounts.items _ net.lean net.inside c.scratch.view_is
+    let balanced = balanced_shown n weights _ _ net.within net.into.items net.amounts.items _ _ net.lean net.inside c.scratch.view_is
     c.requires.balanced.1 in (
       network_fits g.row.W _ _ _ net.sized,
       (
@@ -34,7 +34,7 @@ returns-clause-least g c weights balances =
     let net = c.scratch.inside.network in
     let d = c.draw.ensures in
     least_tight n weights _ _ (shown_in net) c.count-places.ensures.within
-    (balanced_shown n weights _ _ net.within net.into.items net.amounts.items _ net.lean net.inside c.scratch.view_is balances)
+    (balanced_shown n weights _ _ net.within net.into.items net.amounts.items _ _ net.lean net.inside c.scratch.view_is balances)
     c.args.place c.draw.result
     (d.drawn (apart_of_empty c.draw.result c.empty.result c.empty.ensures))
     d.holds d.least

@@ -52,12 +52,13 @@ returns-clause-order g c =
 pub returns-clause-steps : goal.returns-clause-steps
 returns-clause-steps g c =
     within_most (set.len (members_of c.args.dep.now)) (length c.args.names.now) c.args.steps.now c.optimal_near.new.steps
-    (members_long (64 * g.row.W) c.args.names.now c.args.dep.now c.requires) c.optimal_near.ensures.steps_most c.optimal_near.ensures.steps_least
+    (members_long (64 * g.row.W) c.args.names.now c.args.dep.now c.requires) c.optimal_near.ensures.steps_most
+    (let least = c.optimal_near.ensures.steps_least in omega (arith, least.gave, least.least))
 
 pub returns-clause-least : goal.returns-clause-least
 returns-clause-least g c =
     let long : set.len (members_of c.args.dep.now) ≡ length c.args.names.now = members_long (64 * g.row.W) c.args.names.now c.args.dep.now c.requires in
-    omega (arith, c.optimal_near.ensures.steps_least)
+    (let least = c.optimal_near.ensures.steps_least in omega (arith, long, least.gave, least.least))
 
 pub invariant_of-work : goal.invariant_of-work
 invariant_of-work g c = c.work.invariant

@@ -93,10 +93,16 @@ returns-clause-minimal g c = λ graph stands.
     (minimal n dep graph c.members-members.ensures.closed stands adds.parts c.requires.component (as_parts n dep (members_of dep) adds.parts adds.linear)))
 
 pub returns-clause-solves : goal.returns-clause-solves
-returns-clause-solves g c = subst (λ s. AreOfSolves (fin.len s) c.args.steps.now c.split.new.steps) c.members-members.ensures.members c.split.ensures.solves
+returns-clause-solves g c =
+    let own = c.split.ensures.solves in
+    let n : ℕ = fin.len (members_of c.args.dep.now) in
+    let parts : c.split.new.draft.parts ≡ own.0 = own.1 ∙ ap (λ (w : Written). w.parts ++ own.0) c.clear.ensures in
+    subst (λ (ps : List Part). AreOfSolves n ps c.args.scratch.now c.split.new.scratch c.args.steps.now c.split.new.steps) (sym parts)
+    (subst (λ s. AreOfSolves (fin.len s) own.0 c.args.scratch.now c.split.new.scratch c.args.steps.now c.split.new.steps)
+    c.members-members.ensures.members own.2)
 
 pub returns-clause-steps_least : goal.returns-clause-steps_least
-returns-clause-steps_least g c = least_of _ _ _ (returns-clause-solves g c)
+returns-clause-steps_least g c = least_of _ _ _ _ _ _ (returns-clause-solves g c)
 
 pub returns-clause-steps_most : goal.returns-clause-steps_most
-returns-clause-steps_most g c = most_of _ _ _ (returns-clause-solves g c)
+returns-clause-steps_most g c = most_of _ _ _ _ _ _ (returns-clause-solves g c)

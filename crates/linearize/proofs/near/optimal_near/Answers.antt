@@ -11,6 +11,8 @@ use Rattle.linearize.proofs.Final.{certificate, has_sizes, minimal}
 use Rattle.linearize.proofs.Joined.{start_room}
 use Rattle.graphs.proofs.ClosureGraphs.{closures_have_graphs}
 use Rattle.linearize.proofs.Sizes.{words_fit, scratch_fits, group_fits}
+use Rattle.linearize.specs.Steps.{AreAtLeast}
+use Rattle.linearize.proofs.Solves.{at_least_all, at_least_both}
 use Rattle.linearize.proofs.Trials.{one_trial, both_trials}
 use Rattle.linearize.proofs.near.optimal_near.Goals as goal
 
@@ -102,7 +104,13 @@ returns-else-not-are_parts-clause-minimal g c = λ graph stands.
 
 pub returns-else-not-are_parts-clause-steps_least : goal.returns-else-not-are_parts-clause-steps_least
 returns-else-not-are_parts-clause-steps_least g c =
-    subst (λ s. c.args.steps.now + fin.len s ≤ c.are_parts.new.steps) c.members-members.ensures.members (c.are_parts.ensures.least c.if-not-are_parts.false)
+    subst (λ s. AreAtLeast (fin.len s) c.args.scratch.now c.are_parts.new.scratch c.args.steps.now c.are_parts.new.steps)
+    c.members-members.ensures.members (c.are_parts.ensures.least c.if-not-are_parts.false)
+
+pub returns-then-not-are_parts-clause-steps_least : goal.returns-then-not-are_parts-clause-steps_least
+returns-then-not-are_parts-clause-steps_least g c =
+    at_least_both _ _ _ _ _ _ c.args.steps.now c.are_parts.new.steps c.optimal.new.steps (omega arith) c.are_parts.ensures.grew
+    (at_least_all _ _ _ _ _ _ c.optimal.ensures.solves)
 
 pub returns-else-not-are_parts-clause-steps_most : goal.returns-else-not-are_parts-clause-steps_most
 returns-else-not-are_parts-clause-steps_most g c =

@@ -25,8 +25,8 @@ send_all-requires g c =
       (words_fit g.row.W c.requires.narrow, (lit< tt, (c.requires.narrow, (λ t m. c.requires.covers.there t (c.requires.members t m), room)))),
     )
 
-pub returns : goal.returns
-returns g c =
+pub returns-clause-adds : goal.returns-clause-adds
+returns-clause-adds g c =
     let n : ℕ = 64 * g.row.W in
     let list : List Flow = flows_of n c.args.parents.now c.args.within.now (flow_of c.args.scratch.now) (places n c.args.within.now) in
     let ids : List ℕ = c.put_places.new.draft.ids in
@@ -54,3 +54,14 @@ returns g c =
       flows = [];
     })
     (c.put_places.ensures.flows ∙ c.requires.room.flows))
+
+pub returns-clause-one : goal.returns-clause-one
+returns-clause-one g c =
+    let flows : List Flow = c.send_all.new.draft.flows in
+    record {
+      part = record { rate = sum_from c.args.whole; ids = c.send_all.new.draft.ids; flows = flows };
+      is = ap (λ (w : Written). w.parts) c.close.ensures
+          ∙ ap (λ (w : Written). w.parts ++ record { rate = sum_from c.args.whole; ids = c.send_all.new.draft.ids; flows = flows } ∷ []) c.send_all.ensures
+          ∙ ap (λ (ps : List Part). ps ++ record { rate = sum_from c.args.whole; ids = c.send_all.new.draft.ids; flows = flows } ∷ []) c.put_places.ensures.parts;
+      places = ap (λ (w : Written). length w.ids) c.send_all.ensures ∙ c.put_places.ensures.count;
+    }

@@ -2,7 +2,8 @@ use Rattle.std.proofs.Common.{◌≡◌, ◌<◌, ◌+◌, ◌*◌, ℕ, ap, sym
 use Rattle.std.specs.FinSet as fin
 use Rattle.bitset.specs.Members.{minus_parts}
 use Rattle.linearize.specs.Splits.{Adds, HasRoom}
-use Rattle.linearize.specs.Steps.{AreOfSolves}
+use Rattle.linearize.specs.Drafts.{Written}
+use Rattle.linearize.specs.Steps.{AddsBySolves}
 use Rattle.linearize.proofs.Joined.{both_lens, first_room, second_room, both_added}
 use Rattle.linearize.proofs.Sizes.{words_fit, scratch_fits}
 use Rattle.linearize.proofs.Solves.{one_solve, two_solves}
@@ -127,10 +128,13 @@ returns-in-Some-clause-solves g t c =
     let s = c.args.within.now in
     let first = c.in-Some.first in
     let lens = both_lens (64 * g.row.W) c.args.dep.now s first r.closed r.members r.rates c.in-Some.ensures.cut in
-    two_solves (fin.len s) (fin.len first) (fin.len (fin.difference s first)) _ c.best.new.steps c.split.new.steps _ lens c.best.ensures.solve
-    c.split.ensures.solves
-    (subst (λ x. AreOfSolves (fin.len x) c.split.new.steps c.split-in-Some.new.steps)
-    {y = fin.difference s first} c.minus-rest.ensures c.split-in-Some.ensures.solves)
+    two_solves (fin.len s) (fin.len first) (fin.len (fin.difference s first)) c.args.draft.now.parts c.split.new.draft.parts _ _ _ _ _ _
+    c.best.new.steps c.split.new.steps _ lens c.best.ensures.solve
+    (subst (λ (w : Written). AddsBySolves (fin.len first) w.parts c.split.new.draft.parts c.best.new.scratch c.split.new.scratch c.best.new.steps
+    c.split.new.steps) c.in-Some.ensures.draft c.split.ensures.solves)
+    (subst (λ x. AddsBySolves (fin.len x) c.split.new.draft.parts c.split-in-Some.new.draft.parts c.split.new.scratch c.split-in-Some.new.scratch
+    c.split.new.steps c.split-in-Some.new.steps) {y = fin.difference s first} c.minus-rest.ensures c.split-in-Some.ensures.solves)
 
 pub returns-in_default-clause-solves : goal.returns-in_default-clause-solves
-returns-in_default-clause-solves g t c = one_solve _ _ _ c.requires.ready.some c.best.ensures.solve
+returns-in_default-clause-solves g t c =
+    one_solve _ c.args.draft.now _ _ _ _ _ c.requires.ready.some c.in_default.ensures.one c.best.ensures.solve

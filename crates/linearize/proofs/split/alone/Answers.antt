@@ -1,8 +1,9 @@
-use Rattle.std.proofs.Common.{◌≡◌, ℕ, ◌*◌, ◌∷◌, [], ◌++◌, ◌∙◌, ap, arith, List}
+use Rattle.std.proofs.Common.{◌≡◌, ℕ, ◌*◌, ◌∷◌, [], ◌++◌, ◌∙◌, ap, arith, length, List}
 use Rattle.std.specs.Ordering.{nat_cmp}
 use Rattle.std.specs.FinSet as fin
 use Rattle.fee_rate.specs.declared.rates.FeeRate.{FeeRate}
 use Rattle.graphs.specs.declared.names.Flow.{Flow}
+use Rattle.graphs.specs.Certificates.{Part}
 use Rattle.linearize.specs.Graphs.{sum_at, sum_from}
 use Rattle.linearize.specs.Drafts.{Written}
 use Rattle.linearize.proofs.Alone.{alone_added}
@@ -44,4 +45,18 @@ returns-in-Some-clause-adds g c =
 
 pub returns-in_default-clause-adds : goal.returns-in_default-clause-adds
 returns-in_default-clause-adds g c =
+    absurd (omega (arith, c.requires.one, ap (λ s. fin.len s) c.in_default.ensures.least, fin.len-empty nat_cmp))
+
+pub returns-in-Some-clause-one : goal.returns-in-Some-clause-one
+returns-in-Some-clause-one g c =
+    let p : ℕ = c.in-Some.place in
+    let own : Part = record { rate = sum_from c.rate.result; ids = c.put.new.self.ids; flows = c.put.new.self.flows } in
+    record {
+      part = own;
+      is = ap (λ (w : Written). w.parts) c.close.ensures ∙ ap (λ (w : Written). w.parts ++ own ∷ []) c.put.ensures;
+      places = ap (λ (w : Written). length w.ids) c.put.ensures ∙ ap (λ (xs : List ℕ). length (xs ++ p ∷ [])) c.requires.room.ids;
+    }
+
+pub returns-in_default-clause-one : goal.returns-in_default-clause-one
+returns-in_default-clause-one g c =
     absurd (omega (arith, c.requires.one, ap (λ s. fin.len s) c.in_default.ensures.least, fin.len-empty nat_cmp))

@@ -1,12 +1,13 @@
-use Rattle.std.proofs.Common.{rules, ◌≡◌, ◌<◌, ◌*◌, ◌∙◌, ℕ, ap, arith, lit<, true}
+use Rattle.std.proofs.Common.{rules, ◌≡◌, ◌<◌, ◌*◌, ◌∙◌, ℕ, ap, sym, subst, arith, lit<, true}
 use Rattle.std.specs.FinSet as fin
 use Rattle.bitset.specs.Places.{IsWithin}
 use Rattle.closure_flow.specs.Closures.{weight_at}
 use Rattle.graphs.specs.Certificates.{weight_in}
 use Rattle.linearize.specs.Graphs.{sum_at}
 use Rattle.linearize.specs.Orders.{sums_in}
+use Rattle.linearize.specs.Splits.{AddsOne}
 use Rattle.linearize.proofs.Cuts.{best_of, weights_even, weights_small}
-use Rattle.linearize.proofs.Solves.{of_one}
+use Rattle.linearize.proofs.Solves.{nothing_taken, of_one}
 use Rattle.linearize.proofs.Sizes.{words_fit, scratch_fits, answer_fits}
 use Rattle.linearize.proofs.split.best.Goals as goal
 
@@ -73,15 +74,27 @@ returns-in-Better-clause-cut g c =
 
 pub returns-in-Better-clause-solve : goal.returns-in-Better-clause-solve
 returns-in-Better-clause-solve g c =
-    of_one _ _ c.solve.new.steps _ c.in-Better.ensures.steps_least c.in-Better.ensures.steps_most (omega arith) (omega arith)
+    of_one _ _ _ _ _ _ _ c.in-Better.ensures.steps_least c.in-Better.ensures.steps (nothing_taken _ _ _)
 
 pub returns-in-Balanced-clause-solve : goal.returns-in-Balanced-clause-solve
 returns-in-Balanced-clause-solve g c =
-    of_one _ _ c.solve.new.steps _ c.in-Balanced.ensures.steps_least c.in-Balanced.ensures.steps_most c.finish.ensures.steps c.finish.ensures.most
+    of_one _ _ _ _ _ _ _ c.in-Balanced.ensures.steps_least c.in-Balanced.ensures.steps c.finish.ensures.steps
 
 pub returns-then-count-eq1-clause-solve : goal.returns-then-count-eq1-clause-solve
 returns-then-count-eq1-clause-solve g c =
     let few = c.requires.ready.few in
     let one : fin.len c.args.within.now ≡ 1 = omega (arith, few, c.count.ensures.exact, c.if-count-eq1.true) in
-    of_one (fin.len c.args.within.now) c.args.steps.now c.alone.new.steps c.alone.new.steps
-    (omega (arith, one, c.alone.ensures.step)) (omega (arith, c.alone.ensures.step)) (omega arith) (omega arith)
+    of_one (fin.len c.args.within.now) c.args.scratch.now c.args.scratch.now c.args.scratch.now c.args.steps.now c.alone.new.steps c.alone.new.steps
+    (omega (arith, one, c.alone.ensures.step))
+    (record {
+      gave = omega arith;
+      counted = omega (arith, one, c.alone.ensures.step);
+      few = omega (arith, c.alone.ensures.step);
+    })
+    (nothing_taken _ _ _)
+
+pub returns-then-count-eq1-clause-one : goal.returns-then-count-eq1-clause-one
+returns-then-count-eq1-clause-one g c =
+    let few = c.requires.ready.few in
+    let one : fin.len c.args.within.now ≡ 1 = omega (arith, few, c.count.ensures.exact, c.if-count-eq1.true) in
+    subst (λ (n : ℕ). AddsOne n c.args.draft.now c.alone.new.draft) (sym one) c.alone.ensures.one

@@ -1,4 +1,4 @@
-use Rattle.std.proofs.Common.{rules, ◌<◌, ◌≤◌, ◌*◌, ℕ, sym, subst, arith, lit<}
+use Rattle.std.proofs.Common.{rules, ◌<◌, ◌≤◌, ◌*◌, ℕ, [], get_or, sym, subst, arith, lit<}
 use Rattle.std.specs.FinSet as fin
 use Rattle.lists.proofs.Keys.{set_within}
 use Rattle.closure_flow.specs.Scratches.{Flow, flow_of}
@@ -30,7 +30,8 @@ emit-requires g c =
     let inside = set_within first c.args.within.now tight.tight.closed.inside in
     omega (arith, few, inside, c.count.ensures.exact, c.count-2.ensures.exact, c.if-count.false)) in
     let balanced : Balances n c.args.dep.now c.args.parents.now c.args.within.now (flow_of c.smallest_tight-first.new.scratch) =
-    subst (λ (f : Flow). Balances n c.args.dep.now c.args.parents.now c.args.within.now (flow_of f)) (sym c.smallest_tight-first.ensures.flow)
+    subst (λ (f : Flow). Balances n c.args.dep.now c.args.parents.now c.args.within.now (λ d p. get_or (get_or f d []) p 0))
+    (sym c.smallest_tight-first.ensures.flow)
     (balances_of n c.args.dep.now c.args.parents.now s.weights c.args.within.now s.are (flow_of c.args.scratch.now) s.balanced) in (
       scratch_fits g.row.W c.requires.narrow,
       (

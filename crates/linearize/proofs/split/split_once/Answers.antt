@@ -6,6 +6,7 @@ use Rattle.linearize.specs.Steps.{AreOfOne}
 use Rattle.linearize.proofs.Joined.{both_lens, first_room, second_room, both_added}
 use Rattle.linearize.proofs.Nexts.{when_none}
 use Rattle.linearize.proofs.Sizes.{words_fit, scratch_fits}
+use Rattle.linearize.proofs.Solves.{at_least_both, at_least_one}
 use Rattle.linearize.proofs.Trials.{once_most, solve_most, cut_most}
 use Rattle.linearize.proofs.split.split_once.Goals as goal
 
@@ -19,7 +20,7 @@ pub minus-rest-requires : goal.minus-rest-requires
 minus-rest-requires g c = words_fit g.row.W c.requires.narrow
 
 pub returns-in_default-clause-most : goal.returns-in_default-clause-most
-returns-in_default-clause-most g c = once_most _ _ _ c.requires.ready.some c.best.ensures.solve
+returns-in_default-clause-most g c = once_most _ _ _ _ _ c.requires.ready.some c.best.ensures.solve
 
 pub best-requires-2 : goal.best-requires-2
 best-requires-2 g c =
@@ -120,10 +121,10 @@ returns-then-one-clause-most g c =
     let cut = c.in-Some.ensures.cut in
     let s = c.args.within.now in
     let first = c.in-Some.first in
-    cut_most (fin.len s) (fin.len first) (fin.len (fin.difference s first)) _ c.best.new.steps c.best-2.new.steps _
+    cut_most (fin.len s) (fin.len first) (fin.len (fin.difference s first)) _ _ _ _ c.best.new.steps c.best-2.new.steps _
     (both_lens (64 * g.row.W) c.args.dep.now s first r.closed r.members r.rates cut) cut.some cut.others c.best.ensures.solve
     c.best-2.ensures.solve
-    (solve_most _ _ _ (subst (λ x. AreOfOne (fin.len x) c.best-2.new.steps c.best-then-one.new.steps)
+    (solve_most _ _ _ _ _ (subst (λ x. AreOfOne (fin.len x) c.best-2.new.scratch c.best-then-one.new.scratch c.best-2.new.steps c.best-then-one.new.steps)
     {y = fin.difference s first} c.minus-rest.ensures c.best-then-one.ensures.solve))
 
 pub returns-else-one-clause-most : goal.returns-else-one-clause-most
@@ -132,6 +133,22 @@ returns-else-one-clause-most g c =
     let cut = c.in-Some.ensures.cut in
     let s = c.args.within.now in
     let first = c.in-Some.first in
-    cut_most (fin.len s) (fin.len first) (fin.len (fin.difference s first)) _ c.best.new.steps c.best-2.new.steps _
+    cut_most (fin.len s) (fin.len first) (fin.len (fin.difference s first)) _ _ _ _ c.best.new.steps c.best-2.new.steps _
     (both_lens (64 * g.row.W) c.args.dep.now s first r.closed r.members r.rates cut) cut.some cut.others c.best.ensures.solve
     c.best-2.ensures.solve (omega arith)
+
+pub returns-in_default-clause-least : goal.returns-in_default-clause-least
+returns-in_default-clause-least g c = at_least_one _ _ _ _ _ c.best.ensures.solve
+
+pub returns-then-one-clause-least : goal.returns-then-one-clause-least
+returns-then-one-clause-least g c =
+    let own = at_least_one _ _ _ _ _ c.best.ensures.solve in
+    let first = at_least_one _ _ _ _ _ c.best-2.ensures.solve in
+    at_least_both (fin.len c.args.within.now) _ _ _ _ _ c.args.steps.now c.best-2.new.steps c.best-then-one.new.steps (omega arith)
+    (at_least_both (fin.len c.args.within.now) _ _ _ _ _ c.args.steps.now c.best.new.steps c.best-2.new.steps (omega arith) own first)
+    (at_least_one _ _ _ _ _ c.best-then-one.ensures.solve)
+
+pub returns-else-one-clause-least : goal.returns-else-one-clause-least
+returns-else-one-clause-least g c =
+    at_least_both (fin.len c.args.within.now) _ _ _ _ _ c.args.steps.now c.best.new.steps c.best-2.new.steps (omega arith)
+    (at_least_one _ _ _ _ _ c.best.ensures.solve) (at_least_one _ _ _ _ _ c.best-2.ensures.solve)

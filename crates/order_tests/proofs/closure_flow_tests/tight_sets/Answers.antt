@@ -1,5 +1,5 @@
 -- The first places are a set to solve.
-use Rattle.std.proofs.Common.{◌≡◌, ℕ, ◌*◌, ◌<◌, ◌∙◌, sym, ap, subst, true, arith, length, lt-ltb, unsigned_abs}
+use Rattle.std.proofs.Common.{◌≡◌, ℕ, ◌*◌, ◌<◌, ◌∙◌, sym, ap, subst, true, [], get_or, arith, length, lt-ltb, unsigned_abs}
 use Rattle.std.specs.List.{sum_by}
 use Rattle.std.specs.FinSet as set
 use Rattle.bitset.specs.Places.{places}
@@ -66,7 +66,8 @@ smallest_tight-smallest-requires g c =
     let here : set.contains all c.args.place ≡ true =
     ap (λ s. set.contains s c.args.place) e ∙ contains-first_places (length ws) c.args.place ∙ lt-ltb c.args.place (length ws) c.requires.place in
     let balanced : IsBalanced n ws c.args.parents.now all (flow_of c.tight-least.new.scratch) =
-    subst (λ (f : Flow). IsBalanced n ws c.args.parents.now all (flow_of f)) (sym c.tight-least.ensures.flow) c.in-Balanced.ensures.flow in (
+    subst (λ (f : Flow). IsBalanced n ws c.args.parents.now all (λ d p. get_or (get_or f d []) p 0)) (sym c.tight-least.ensures.flow)
+    c.in-Balanced.ensures.flow in (
       omega arith,
       (
         omega arith,
