@@ -1,6 +1,7 @@
 -- The first test, put together.
-use Rattle.std.proofs.Common.{◌≡◌, ℕ, ◌<◌, ◌≤◌, List, length, sym, ◌∙◌, subst, get_or, ℤ, pos, Option}
-use Rattle.std.specs.Prelude.{Contains}
+use Rattle.std.proofs.Common.{◌≡◌, ℕ, ◌<◌, ◌≤◌, List, length, sym, ◌∙◌, subst, get_or, ℤ, pos, Option, Bool, true, false}
+use Rattle.std.specs.Prelude.{Contains, MatchBool}
+use Rattle.std.proofs.lemmas.Bool.{true≢false}
 use Rattle.std.proofs.lemmas.List.{get_or_default}
 use Rattle.std.proofs.lemmas.List.Elements.{Contains-get_or}
 use Rattle.lists.specs.Distinct.{AreDistinct}
@@ -8,35 +9,21 @@ use Rattle.fee_rate.specs.declared.limits.TheConstants.{MAX_TOTAL}
 use Rattle.fee_rate.specs.Limits.{IsFee, IsSize}
 use Rattle.graphs.specs.Graphs.{HasNoCycle}
 use Rattle.graphs.specs.Certificates.{Txs, HasGraph}
-use Rattle.certificate.specs.declared.fault.CheckFault.{CheckFault}
-use Rattle.certificate.specs.declared.fault.CheckFault.TheVariants.{Order, Falling, Flow, Graph, Memory}
-use Rattle.certificate.specs.Faults.{Says, Fails}
 use Rattle.certificate.specs.Places.{ArePlaces, ArePairs, AreOf}
 use Rattle.certificate.specs.Tables.{names_of, AreInLimits}
 use Rattle.certificate.proofs.PlaceLemmas.{places_distinct}
 use Rattle.certificate.proofs.Labels.{Labels, no_cycle_named, no_cycle_placed, ends_named}
 
--- what fails of a part fails of the whole
-pub fails_whole : (mine : CheckFault) (Part Whole : Type 0) (fault : CheckFault) → (Whole → Part) → Fails mine Part fault → Fails mine Whole fault
-fails_whole mine Part Whole fault part fails = (fails.0, λ whole. fails.1 (part whole))
+-- a test's answer says as much of whatever holds where it says yes, and doesn't where it says no
+pub same_answer : (answer : Bool) (Yes No Other : Type 0) → (Yes → Other) → (Other → No)
+    → MatchBool answer Yes (No → ⊥) → MatchBool answer Other (Other → ⊥)
+same_answer true Yes No Other f g h = f h
+same_answer false Yes No Other f g h = λ o. h (g o)
 
-says_mine : (mine fault : CheckFault) (Whole : Type 0) → fault ≡ mine → (Whole → ⊥) → Says mine Whole fault
-says_mine mine Memory Whole is never = tt
-says_mine mine Order Whole is never = (sym is, never)
-says_mine mine Falling Whole is never = (sym is, never)
-says_mine mine Flow Whole is never = (sym is, never)
-says_mine mine Graph Whole is never = (sym is, never)
-
--- and is said of it where the test of the whole may lack memory
-pub fails_says : (mine : CheckFault) (Part Whole : Type 0) (fault : CheckFault) → (Whole → Part) → Fails mine Part fault → Says mine Whole fault
-fails_says mine Part Whole fault part fails = says_mine mine fault Whole fails.0 (λ whole. fails.1 (part whole))
-
-pub says_whole : (mine : CheckFault) (Part Whole : Type 0) (fault : CheckFault) → (Whole → Part) → Says mine Part fault → Says mine Whole fault
-says_whole mine Part Whole Memory f h = tt
-says_whole mine Part Whole Order f h = (h.0, (λ w. h.1 (f w)))
-says_whole mine Part Whole Falling f h = (h.0, (λ w. h.1 (f w)))
-says_whole mine Part Whole Flow f h = (h.0, (λ w. h.1 (f w)))
-says_whole mine Part Whole Graph f h = (h.0, (λ w. h.1 (f w)))
+-- where an answer is no, what was tested doesn't hold
+pub no_answer : (answer : Bool) (Yes No : Type 0) → answer ≡ false → No → MatchBool answer Yes No
+no_answer true Yes No is never = absurd (true≢false is)
+no_answer false Yes No is never = never
 
 pub labels_of : (names : List ℕ) (find : ℕ → Option ℕ) (edges pairs : List (ℕ × ℕ)) → ArePlaces names find → ArePairs names edges pairs → Labels names pairs
 labels_of names find edges pairs h p = record { distinct = places_distinct names find h; within = p.within }

@@ -1,9 +1,12 @@
 -- One step of a search by depth.
-use Rattle.std.proofs.Common.{◌≡◌, ◌≢◌, ℕ, ◌+◌, ◌-◌, ◌<◌, ◌≤◌, zero, suc, List, [], ◌∷◌, ◌++◌, length, inl, inr, refl, sym, ap, ◌∙◌, subst, arith, get_or, set, take, sum, replicate}
+use Rattle.std.proofs.Common.{◌≡◌, ◌≢◌, ℕ, ◌+◌, ◌-◌, ◌<◌, ◌≤◌, zero, suc, List, [], ◌∷◌, ◌++◌, length, inl, inr, refl, sym, ap, ◌∙◌, subst, arith, get_or, set, take, sum, replicate, nat_eq}
 use Rattle.std.specs.Prelude.{Contains, sum_by}
-use Rattle.std.proofs.lemmas.Bool.{cases_eq, cases_lt}
+use Rattle.std.proofs.lemmas.Bool.{cases_eq, cases_lt, ne_eqb, eqb-true}
 use Rattle.std.proofs.lemmas.List.{get_or-set_same, get_or-set_other, length-set, get_or_append_left, get_or_push, length_push, get_or_default, get_or-take, length-take-le, get_or_read, get_or-replicate, length-replicate, get_or_past}
 use Rattle.std.proofs.lemmas.List.Sums.{sum_by-set}
+use Rattle.std.proofs.lemmas.Map.Keys.{IsDistinct-from_apart}
+use Rattle.std.proofs.lemmas.Map.Steps.{length-le_from_distinct_below}
+use Rattle.std.proofs.lemmas.Map.Views.{Contains-from_any}
 use Rattle.graphs.proofs.WalkLemmas.{walk_cons}
 use Rattle.graphs.specs.Graphs.{Walk, IsAncestor, HasNoCycle}
 use Rattle.certificate.specs.declared.cycles.Visit.{Visit}
@@ -305,6 +308,22 @@ opened pairs left visits way p s in' new above =
       done = keep;
       reached = λ x r. reached_stays visits p x Open in' (λ e. cc) r;
     }
+
+-- a way has places below the number of all, each once, so one more has room in a list of that length
+way_fits : (pairs : List (ℕ × ℕ)) (visits : List Visit) (way : List ℕ) → IsWay pairs visits way → length way ≤ length visits
+way_fits pairs visits way w =
+    length-le_from_distinct_below way (length visits)
+    (IsDistinct-from_apart nat_eq way (λ i j d less in'. ne_eqb (get_or way i d) (get_or way j d)
+    (λ e. w.once i j less in' (get_or_default way i 0 d (omega arith) ∙ e ∙ get_or_default way j d 0 in'))))
+    (λ x t. let (k, in', e) = Contains-from_any {eq = nat_eq} eqb-true x way t in
+    subst (λ y. y < length visits) (get_or_default way k 0 x in' ∙ e) (w.within k in'))
+
+pub way_short : (pairs : List (ℕ × ℕ)) (left : List ℕ) (visits : List Visit) (way : List ℕ) (p : ℕ)
+    → IsSearch pairs left visits way → p < length visits → visit_at visits p ≡ New
+    → ((i : ℕ) → i < length way → IsAncestor pairs p (get_or way i 0)) → length way < length visits
+way_short pairs left visits way p s in' new above =
+    let w = way_fits pairs (set visits p Open) (way ++ (p ∷ [])) (longer_way pairs visits way p s.open_way in' new above) in
+    omega (arith, w, length_push way p, length-set visits p Open)
 
 pub opened_less : (left : List ℕ) (visits : List Visit) (p : ℕ) → p < length visits
     → visit_at visits p ≡ New → work_of left (set visits p Open) < work_of left visits

@@ -1,8 +1,8 @@
 -- Seats of names in an order.
-use Rattle.std.proofs.Common.{◌≡◌, ◌≢◌, ℕ, ◌+◌, ◌<◌, ◌≤◌, zero, suc, List, [], ◌∷◌, ◌++◌, length, inl, inr, refl, sym, ap, ◌∙◌, subst, arith, get_or, set, take, drop, map, replicate, Option, Some, None, cond}
+use Rattle.std.proofs.Common.{◌≡◌, ◌≢◌, ℕ, ◌+◌, ◌<◌, ◌≤◌, zero, suc, List, [], ◌∷◌, ◌++◌, length, inl, inr, refl, sym, ap, ◌∙◌, subst, arith, get_or, set, take, drop, replicate, Option, Some, None, cond}
 use Rattle.std.specs.Prelude.{Contains, is_some, IsSome, count_by}
 use Rattle.std.proofs.lemmas.Bool.{cases_eq, cases_lt}
-use Rattle.std.proofs.lemmas.List.{get_or-set_same, get_or-set_other, length-set, length-take-le, get_or-take, get_or_default, get_or-map, length-map, get_or-replicate, length-replicate, get_or_past, take-append-drop, drop_more, length-append, get_or_at, get_or_append_left, take_at}
+use Rattle.std.proofs.lemmas.List.{get_or-set_same, get_or-set_other, length-set, length-take-le, get_or-take, get_or_default, get_or-replicate, length-replicate, get_or_past, take-append-drop, drop_more, length-append, get_or_at, get_or_append_left, take_at}
 use Rattle.std.proofs.lemmas.List.Sums.{sum_by-set, count_by-le-length}
 use Rattle.std.proofs.lemmas.List.Elements.{Contains-get_or}
 use Rattle.std.proofs.lemmas.Option.{same_Some}
@@ -11,7 +11,7 @@ use Rattle.lists.proofs.Distinct.{repeated, distinct_from_places, one_place}
 use Rattle.lists.specs.Distinct.{AreDistinct}
 use Rattle.graphs.specs.Linearizations.{StandsBefore}
 use Rattle.certificate.specs.Places.{ArePlaces}
-use Rattle.certificate.specs.Orders.{IsOrderOf, seat_at, AreSeats, AreRanks, AreOfOneGroup}
+use Rattle.certificate.specs.Orders.{IsOrderOf, seat_at, AreSeats, AreRanks, AreTaken, AreOfOneGroup}
 use Rattle.certificate.proofs.PlaceLemmas.{not_found, places_distinct}
 
 no_seat : (n x : ℕ) → seat_at (replicate n None) x ≡ None
@@ -96,23 +96,18 @@ seated_again names order find seats k p r in' h some s seat o =
     repeated order k (get_or order k 0) 0 in' refl (r, t.0, get_or_default (take k order) r (get_or order k 0) 0 t.0 ∙ t.1 ∙ place.1) o.once
 
 -- ---- all are seated
-pub ranks_all : (names order ranks : List ℕ) (seats : List (Option ℕ)) → AreSeats names order seats → seats ≡ map Some ranks → AreRanks names order ranks
-ranks_all names order ranks seats s e =
-    let long : length ranks ≡ length seats = sym (length-map ranks Some) ∙ ap length (sym e) in
+pub ranks_all : (names order ranks : List ℕ) (seats : List (Option ℕ)) → AreSeats names order seats → AreTaken seats ranks → AreRanks names order ranks
+ranks_all names order ranks seats s t =
     let size = s.sized in
     let c = s.count in
     record {
-      sized = long ∙ size;
+      sized = t.sized ∙ size;
       few = omega (arith, count_by-le-length {X = Option ℕ} is_some seats);
-      stands =
-          λ p p_in.
-          let r_in : p < length ranks = omega arith in
-          let seat : seat_at seats p ≡ Some (get_or ranks p 0) = ap (λ l. seat_at l p) e ∙ get_or-map Some ranks p 0 None r_in in
-          s.sound p (get_or ranks p 0) p_in seat;
+      stands = λ p p_in. s.sound p (get_or ranks p 0) p_in (t.taken p (omega arith));
     }
 
 pub order_all : (names order ranks : List ℕ) (find : ℕ → Option ℕ) (seats : List (Option ℕ))
-    → ArePlaces names find → AreSeats names order seats → seats ≡ map Some ranks → IsOrderOf names order
+    → ArePlaces names find → AreSeats names order seats → AreTaken seats ranks → IsOrderOf names order
 order_all names order ranks find seats h s e =
     let d = places_distinct names find h in
     let r = ranks_all names order ranks seats s e in

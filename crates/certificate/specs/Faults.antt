@@ -10,7 +10,3 @@ Says mine Tested Order = (mine ≡ Order) × (Tested → ⊥)
 Says mine Tested Falling = (mine ≡ Falling) × (Tested → ⊥)
 Says mine Tested Flow = (mine ≡ Flow) × (Tested → ⊥)
 Says mine Tested Graph = (mine ≡ Graph) × (Tested → ⊥)
-
--- a fault is this one, and what was tested doesn't hold: the answer of a test that takes no memory
-abbrev pub Fails : CheckFault → Type 0 → CheckFault → Type 0
-Fails mine Tested fault = (fault ≡ mine) × (Tested → ⊥)

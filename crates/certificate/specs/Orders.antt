@@ -1,7 +1,9 @@
 -- Orders as ranks: for each place where its name stands in the order.
-use Rattle.std.specs.Prelude.{◌≡◌, ◌↔◌, ℕ, ◌<◌, ◌≤◌, List, length, Contains, Option, Some, None, slice_index, slice_index_or, is_some, count_by}
+use Rattle.std.specs.Prelude.{◌≡◌, ◌↔◌, ℕ, ◌<◌, ◌≤◌, List, length, Contains, Option, Some, None, slice_index, slice_index_or, is_some, count_by, replicate}
 use Rattle.lists.specs.Distinct.{AreDistinct}
+use Rattle.certificate.specs.declared.order.Desk.{Desk}
 use Rattle.certificate.specs.Chains.{pair_at}
+use Rattle.certificate.specs.Groups.{AreGroups}
 
 -- the order is of the names, each once
 pub record IsOrderOf (names order : List ℕ) : Type 0 where
@@ -20,6 +22,11 @@ pub record AreSeats (names order : List ℕ) (seats : List (Option ℕ)) : Type 
       → (place : ℕ) × (place < length names) × (slice_index names place ≡ slice_index order rank) × (seat_at seats place ≡ Some rank)
   pub count : length order ≡ count_by is_some seats
 
+-- all seats are taken, by these ranks
+pub record AreTaken (seats : List (Option ℕ)) (ranks : List ℕ) : Type 0 where
+  pub sized : length ranks ≡ length seats
+  pub taken : (place : ℕ) → place < length seats → seat_at seats place ≡ Some (slice_index ranks place)
+
 -- each place has its rank
 pub record AreRanks (names order ranks : List ℕ) : Type 0 where
   pub sized : length ranks ≡ length names
@@ -35,3 +42,11 @@ Rise ranks pairs = (k : ℕ) → k < length pairs → slice_index ranks (pair_at
 abbrev pub AreOfOneGroup : (ℕ → Option ℕ) → List ℕ → List ℕ → Type 0
 AreOfOneGroup find groups ids =
     (a b p q : ℕ) → Contains ids a → Contains ids b → find a ≡ Some p → find b ≡ Some q → slice_index groups p ≡ slice_index groups q
+
+-- what the test of an order looks into, before it: the order, and for each place its group, no seat and room for its rank
+pub record IsLaid (count : ℕ) (pairs : List (ℕ × ℕ)) (ids : List ℕ) (desk : Desk) : Type 0 where
+  pub order : desk.order.items ≡ ids
+  pub sized : length desk.groups.items ≡ count
+  pub groups : AreGroups pairs desk.groups.items
+  pub seats : desk.seats.items ≡ replicate count None
+  pub ranks : length desk.ranks.items ≡ count

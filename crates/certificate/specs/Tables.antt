@@ -1,5 +1,5 @@
 -- What is looked up after the first test, and what it stands for.
-use Rattle.std.specs.Prelude.{◌↔◌, ℕ, ℤ, ◌≤◌, List, length, map, nat_eq, Contains, IsTrue, ◌&&◌}
+use Rattle.std.specs.Prelude.{◌≡◌, ◌↔◌, ℕ, ℤ, ◌≤◌, List, [], length, map, nat_eq, Contains, IsTrue, ◌&&◌, vec_capacity}
 use Rattle.std.specs.HashMap as hash
 use Rattle.std.specs.HashSet as bag
 use Rattle.fee_rate.specs.declared.limits.TheConstants.{MAX_TOTAL}
@@ -22,3 +22,12 @@ pub record AreTables (txs : Txs) (edges : List (ℕ × ℕ)) (tables : Tables) :
   pub places : ArePlaces (names_of txs) (hash.get nat_eq tables.names)
   pub pairs : ArePairs (names_of txs) edges tables.pairs.items
   pub set : (edge : ℕ × ℕ) → IsTrue (bag.contains (λ x y. nat_eq x.0 y.0 && nat_eq x.1 y.1) tables.edges edge) ↔ Contains edges edge
+
+-- the tables are empty, and have room for so many transactions and edges
+pub record HaveRoom (many many_edges : ℕ) (tables : Tables) : Type 0 where
+  pub no_names : hash.IsEmpty tables.names
+  pub names : many ≤ hash.spare tables.names
+  pub no_edges : bag.IsEmpty tables.edges
+  pub edges : many_edges ≤ bag.spare tables.edges
+  pub no_pairs : tables.pairs.items ≡ []
+  pub pairs : many_edges ≤ vec_capacity tables.pairs

@@ -4,7 +4,7 @@ ghost use Rattle.graphs.specs.Linearizations.{IsOptimal};
 ghost use Rattle.certificate.specs.Answers.{AreClaims};
 ghost use Rattle.certificate.specs.Parts.{parts_of};
 
-use crate::falling::check_falling;
+use crate::falling::is_falling;
 use crate::flows::check_flows;
 use crate::graph::check_graph;
 use crate::order::check_order;
@@ -54,7 +54,9 @@ fn check_lists(
 {
     let tables = check_graph(alloc, txs, edges)?;
     check_order(alloc, txs, &tables, parts)?;
-    check_falling(txs, &tables.names, parts)?;
+    if !is_falling(txs, &tables.names, parts) {
+        return Err(CheckFault::Falling);
+    }
     check_flows(alloc, txs, &tables, parts)?;
     Ok(())
 }

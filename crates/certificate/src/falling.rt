@@ -1,68 +1,59 @@
-ghost use Rattle.std.specs.Prelude.{◌≡◌, ◌≢◌, ℕ, ◌<◌, ◌≤◌, [], length, nat_eq, Contains, MatchBool, MatchResult, Some};
+ghost use Rattle.std.specs.Prelude.{◌≡◌, ◌≢◌, ℕ, ◌<◌, ◌≤◌, [], length, nat_eq, Contains, MatchBool, Some};
 ghost use Rattle.std.specs.HashMap as hash;
 ghost use Rattle.fee_rate.specs.Limits.{IsRate};
 ghost use Rattle.graphs.specs.Rates.{Falls, sums};
 ghost use Rattle.graphs.specs.Certificates.{HasFalling, rate_in};
-ghost use Rattle.certificate.specs.declared.fault.CheckFault.TheVariants.{Falling};
 ghost use Rattle.certificate.specs.Fallings.{AreRates, AreSummed, rates_of};
-ghost use Rattle.certificate.specs.Faults.{Fails};
 ghost use Rattle.certificate.specs.Parts.{ids_at, order_of, parts_of};
 ghost use Rattle.certificate.specs.Places.{ArePlaces};
 ghost use Rattle.certificate.specs.Tables.{AreInLimits, names_of};
 
+use crate::Part;
 use crate::names::{Names, find};
-use crate::{CheckFault, Part};
 use fee_rate::{FeeRate, MAX_TOTAL, Sum, add, is_below};
 use graphs::TxId;
 
 /// Whether the parts have the fees and sizes of their names, and rates that fall.
-pub(crate) fn check_falling(
-    txs: &[(TxId, i64, u64)],
-    names: &Names,
-    parts: &[Part],
-) -> Result<(), CheckFault>
+pub(crate) fn is_falling(txs: &[(TxId, i64, u64)], names: &Names, parts: &[Part]) -> bool
     requires places { ArePlaces (names_of txs.now) (hash.get nat_eq names.now) }
     requires limits { AreInLimits txs.now }
     requires members { (id : ℕ) → Contains (order_of parts.now) id → Contains (names_of txs.now) id }
     requires few { length (order_of parts.now) ≤ MAX_TOTAL }
     requires filled { (k : ℕ) → k < length parts.now → ids_at parts.now k ≢ [] }
-    ensures { MatchResult result
-        (λ _. HasFalling (rate_in txs.now) (parts_of parts.now))
-        (Fails Falling (HasFalling (rate_in txs.now) (parts_of parts.now))) }
+    ensures { MatchBool result (HasFalling (rate_in txs.now) (parts_of parts.now))
+        (HasFalling (rate_in txs.now) (parts_of parts.now) → ⊥) }
 {
-    check_sums(txs, names, parts)?;
-    check_rates(parts)?;
-    Ok(())
+    are_summed(txs, names, parts) && rates_fall(parts)
 }
 
 /// Whether the parts have the fees and sizes of their names.
-fn check_sums(txs: &[(TxId, i64, u64)], names: &Names, parts: &[Part]) -> Result<(), CheckFault>
+fn are_summed(txs: &[(TxId, i64, u64)], names: &Names, parts: &[Part]) -> bool
     requires places { ArePlaces (names_of txs.now) (hash.get nat_eq names.now) }
     requires limits { AreInLimits txs.now }
     requires members { (id : ℕ) → Contains (order_of parts.now) id → Contains (names_of txs.now) id }
     requires few { length (order_of parts.now) ≤ MAX_TOTAL }
-    ensures { MatchResult result (λ _. AreSummed txs.now parts.now) (Fails Falling (AreSummed txs.now parts.now)) }
+    ensures { MatchBool result (AreSummed txs.now parts.now) (AreSummed txs.now parts.now → ⊥) }
 {
     for part in parts {
         let sum = total(txs, names, part.ids.as_slice());
         if !is_same(sum, part.rate) {
-            return Err(CheckFault::Falling);
+            return false;
         }
     }
-    Ok(())
+    true
 }
 
 /// Whether no part has a greater rate than the one before it.
-fn check_rates(parts: &[Part]) -> Result<(), CheckFault>
+fn rates_fall(parts: &[Part]) -> bool
     requires { AreRates parts.now }
-    ensures { MatchResult result (λ _. Falls (rates_of parts.now)) (Fails Falling (Falls (rates_of parts.now))) }
+    ensures { MatchBool result (Falls (rates_of parts.now)) (Falls (rates_of parts.now) → ⊥) }
 {
     for at in 1..parts.len() {
         if is_below(parts[at - 1].rate, parts[at].rate) {
-            return Err(CheckFault::Falling);
+            return false;
         }
     }
-    Ok(())
+    true
 }
 
 /// Whether two sums are equal.

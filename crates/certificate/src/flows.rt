@@ -1,13 +1,14 @@
 ghost use Rattle.std.specs.Prelude.{◌≡◌, ℕ, ◌*◌, ◌^◌, ◌<◌, ◌≤◌, pos, length, nat_eq, Contains, MatchBool, MatchResult, FitsSigned, slice_set, ◌+ℤ◌, ◌-ℤ◌};
 ghost use Rattle.std.specs.Int.{w128};
 ghost use Rattle.std.specs.HashMap as hash;
+ghost use Rattle.std.specs.HashSet as bag;
 ghost use Rattle.lists.specs.Distinct.{AreDistinct};
 ghost use Rattle.fee_rate.specs.Limits.{IsRate, IsSum};
 ghost use Rattle.graphs.specs.Certificates.{Certifies, HasFlows, rate_in, weight_in};
 ghost use Rattle.certificate.specs.declared.fault.CheckFault.TheVariants as faults;
 ghost use Rattle.certificate.specs.Accounts.{ArePayable, AreBalanced, AreInside, AreNet, AreOpen, IsEdge, IsOpen, KeepParts, account_at, amount_of, ends_of};
 ghost use Rattle.certificate.specs.Fallings.{AreRates, AreSummed};
-ghost use Rattle.certificate.specs.Faults.{Fails, Says};
+ghost use Rattle.certificate.specs.Faults.{Says};
 ghost use Rattle.certificate.specs.Parts.{order_of, parts_of};
 ghost use Rattle.graphs.specs.declared.names.Flow.{Flow};
 ghost use Rattle.graphs.specs.Rates.{sums};
@@ -16,7 +17,7 @@ ghost use Rattle.certificate.specs.Tables.{AreInLimits, names_of};
 
 use crate::falling::rate_of;
 use crate::graph::Tables;
-use crate::names::{Names, find};
+use crate::names::{Edges, Names, find, put_pair};
 use crate::{CheckFault, Part};
 use fee_rate::{FeeRate, Sum, product};
 use graphs::{Flow, TxId};
@@ -75,22 +76,34 @@ fn check_parts(
     for (at, part) in parts.iter().enumerate() {
         let ids = part.ids.as_slice();
         let flows = part.flows.as_slice();
-        check_part(alloc, accounts, txs, tables, at + 1, part.rate, ids, flows)?;
+        let mut seen = HashSet::with_capacity(alloc, flows.len())?;
+        if !is_certified(
+            accounts,
+            &mut seen,
+            txs,
+            tables,
+            at + 1,
+            part.rate,
+            ids,
+            flows,
+        ) {
+            return Err(CheckFault::Flow);
+        }
     }
     Ok(())
 }
 
-/// Whether flows certify a part.
-fn check_part(
-    alloc: Global,
+/// Whether flows certify a part, with an empty set that has room for their ends.
+fn is_certified(
     accounts: &mut [Account],
+    seen: &mut Edges,
     txs: &[(TxId, i64, u64)],
     tables: &Tables,
     part: usize,
     rate: Sum,
     ids: &[TxId],
     flows: &[Flow],
-) -> Result<(), CheckFault>
+) -> bool
     requires places { ArePlaces (names_of txs.now) (hash.get nat_eq tables.now.names) }
     requires limits { AreInLimits txs.now }
     requires members { (id : ℕ) → Contains ids.now id → Contains (names_of txs.now) id }
@@ -100,17 +113,22 @@ fn check_part(
     requires summed { rate ≡ sums (rate_in txs.now) ids.now }
     requires some { (flow : Flow) → Contains flows.now flow → 1 ≤ flow.amount }
     requires total { amount_of flows.now < 2 ^ 127 }
+    requires empty { bag.IsEmpty seen.old }
+    requires spare { length flows.now ≤ bag.spare seen.old }
     ensures bound { (place : ℕ) → (account_at accounts.new place).part ≤ part }
-    ensures certified { MatchResult result
-        (λ _. Certifies (rate_in txs.now) (IsEdge tables.now) ids.now flows.now)
-        (Says faults.Flow (Certifies (rate_in txs.now) (IsEdge tables.now) ids.now flows.now)) }
+    ensures certified { MatchBool result
+        (Certifies (rate_in txs.now) (IsEdge tables.now) ids.now flows.now)
+        (Certifies (rate_in txs.now) (IsEdge tables.now) ids.now flows.now → ⊥) }
 {
     open(accounts, &tables.names, part, ids);
-    flows_once(alloc, flows)?;
-    flows_inside(accounts, tables, part, flows)?;
+    if !flows_once(seen, flows) {
+        return false;
+    }
+    if !flows_inside(accounts, tables, part, flows) {
+        return false;
+    }
     book(accounts, &tables.names, part, flows);
-    balanced(accounts, txs, &tables.names, rate, ids)?;
-    Ok(())
+    is_balanced(accounts, txs, &tables.names, rate, ids)
 }
 
 /// Opens the accounts of a part's names.
@@ -139,46 +157,39 @@ fn place_of(names: &Names, id: TxId) -> usize
     }
 }
 
-/// Whether no two flows have the same ends.
-fn flows_once(alloc: Global, flows: &[Flow]) -> Result<(), CheckFault>
-    ensures { MatchResult result
-        (λ _. AreDistinct (ends_of flows.now)) (Says faults.Flow (AreDistinct (ends_of flows.now))) }
+/// Whether no two flows have the same ends, with an empty set that has room for these.
+fn flows_once(seen: &mut Edges, flows: &[Flow]) -> bool
+    requires empty { bag.IsEmpty seen.old }
+    requires room { length flows.now ≤ bag.spare seen.old }
+    ensures { MatchBool result (AreDistinct (ends_of flows.now)) (AreDistinct (ends_of flows.now) → ⊥) }
 {
-    let mut seen = HashSet::new(alloc);
     for flow in flows {
-        let new = seen.insert((flow.child, flow.parent))?;
-        if !new {
-            return Err(CheckFault::Flow);
+        if !put_pair(seen, (flow.child, flow.parent)) {
+            return false;
         }
     }
-    Ok(())
+    true
 }
 
 /// Whether each flow is on an edge, and its ends have accounts of the part.
-fn flows_inside(
-    accounts: &[Account],
-    tables: &Tables,
-    part: usize,
-    flows: &[Flow],
-) -> Result<(), CheckFault>
+fn flows_inside(accounts: &[Account], tables: &Tables, part: usize, flows: &[Flow]) -> bool
     requires { (id place : ℕ) → hash.get nat_eq tables.now.names id ≡ Some place → place < length accounts.now }
-    ensures { MatchResult result
-        (λ _. AreInside (hash.get nat_eq tables.now.names) (IsEdge tables.now) accounts.now part flows.now)
-        (Fails faults.Flow (AreInside (hash.get nat_eq tables.now.names)
-        (IsEdge tables.now) accounts.now part flows.now)) }
+    ensures { MatchBool result
+        (AreInside (hash.get nat_eq tables.now.names) (IsEdge tables.now) accounts.now part flows.now)
+        (AreInside (hash.get nat_eq tables.now.names) (IsEdge tables.now) accounts.now part flows.now → ⊥) }
 {
     for flow in flows {
         if !tables.edges.contains(&(flow.parent, flow.child)) {
-            return Err(CheckFault::Flow);
+            return false;
         }
         if !is_open(accounts, &tables.names, part, flow.child) {
-            return Err(CheckFault::Flow);
+            return false;
         }
         if !is_open(accounts, &tables.names, part, flow.parent) {
-            return Err(CheckFault::Flow);
+            return false;
         }
     }
-    Ok(())
+    true
 }
 
 /// Whether a number is a name whose account is of the part.
@@ -237,30 +248,30 @@ fn draw(accounts: &mut [Account], place: usize, amount: u128)
 }
 
 /// Whether each name of a part gives, less what it gets, its weight in the part.
-fn balanced(
+fn is_balanced(
     accounts: &[Account],
     txs: &[(TxId, i64, u64)],
     names: &Names,
     rate: Sum,
     ids: &[TxId],
-) -> Result<(), CheckFault>
+) -> bool
     requires places { ArePlaces (names_of txs.now) (hash.get nat_eq names.now) }
     requires limits { AreInLimits txs.now }
     requires rate { IsSum rate }
     requires members { (id : ℕ) → Contains ids.now id → Contains (names_of txs.now) id }
     requires room { length (names_of txs.now) ≡ length accounts.now }
-    ensures { MatchResult result
-        (λ _. AreBalanced (hash.get nat_eq names.now) (rate_in txs.now) rate ids.now accounts.now)
-        (Fails faults.Flow (AreBalanced (hash.get nat_eq names.now) (rate_in txs.now) rate ids.now accounts.now)) }
+    ensures { MatchBool result
+        (AreBalanced (hash.get nat_eq names.now) (rate_in txs.now) rate ids.now accounts.now)
+        (AreBalanced (hash.get nat_eq names.now) (rate_in txs.now) rate ids.now accounts.now → ⊥) }
 {
     for id in ids {
         let own = rate_of(txs, names, *id);
         let place = place_of(names, *id);
         if weight(rate, own) != accounts[place].net {
-            return Err(CheckFault::Flow);
+            return false;
         }
     }
-    Ok(())
+    true
 }
 
 /// How far a rate is above that of a whole, times both sizes. Below 2^95 in absolute value.

@@ -1,16 +1,18 @@
-ghost use Rattle.std.specs.Prelude.{IfOk, IfErr, MatchBool};
+ghost use Rattle.std.specs.Prelude.{length, IfOk, IfErr, MatchBool};
+ghost use Rattle.lists.specs.Distinct.{AreDistinct};
 ghost use Rattle.graphs.specs.Certificates.{HasGraph};
 ghost use Rattle.fee_rate.specs.Limits.{IsFee, IsSize};
 ghost use Rattle.certificate.specs.declared.fault.CheckFault.TheVariants.{Graph};
 ghost use Rattle.certificate.specs.Faults.{Says};
-ghost use Rattle.certificate.specs.Tables.{AreInLimits, AreTables};
+ghost use Rattle.certificate.specs.Tables.{AreInLimits, AreTables, HaveRoom};
 
 use crate::CheckFault;
-use crate::cycles::no_cycle;
-use crate::names::{Edges, Names, edge_set, ends, positions};
+use crate::cycles::is_acyclic;
+use crate::names::{Edges, Names, take_edges, take_ends, take_places};
 use fee_rate::{MAX_TOTAL, is_fee, is_size};
 use graphs::TxId;
-use std::alloc::Global;
+use std::alloc::{AllocError, Global};
+use std::collections::{HashMap, HashSet};
 
 /// What the later tests look up.
 #[derive(Drop)]
@@ -19,6 +21,19 @@ pub(crate) struct Tables {
     pub(crate) edges: Edges,
     /// The places of the ends of each edge.
     pub(crate) pairs: Vec<(usize, usize)>,
+}
+
+impl Tables {
+    /// Empty tables with room for so many transactions and edges.
+    fn with_room(alloc: Global, txs: usize, edges: usize) -> Result<Tables, AllocError>
+        ensures { IfOk result (HaveRoom txs edges) }
+    {
+        Ok(Tables {
+            names: HashMap::with_capacity(alloc, txs)?,
+            edges: HashSet::with_capacity(alloc, edges)?,
+            pairs: Vec::with_capacity(alloc, edges)?,
+        })
+    }
 }
 
 /// Whether what is written is a graph within the limits.
@@ -34,15 +49,26 @@ pub(crate) fn check_graph(
     if !are_in_limits(txs) {
         return Err(CheckFault::Graph);
     }
-    let names = positions(alloc, txs)?;
-    let pairs = ends(alloc, &names, edges)?;
-    let set = edge_set(alloc, edges)?;
-    no_cycle(alloc, txs.len(), pairs.as_slice())?;
-    Ok(Tables {
-        names,
-        edges: set,
-        pairs,
-    })
+    let mut tables = Tables::with_room(alloc, txs.len(), edges.len())?;
+    if !are_listed(&mut tables, txs, edges) {
+        return Err(CheckFault::Graph);
+    }
+    let acyclic = is_acyclic(alloc, txs.len(), tables.pairs.as_slice())?;
+    if !acyclic {
+        return Err(CheckFault::Graph);
+    }
+    Ok(tables)
+}
+
+/// Fills empty tables that have the room. Whether names and edges stand once, and edges are of transactions.
+fn are_listed(tables: &mut Tables, txs: &[(TxId, i64, u64)], edges: &[(TxId, TxId)]) -> bool
+    requires { HaveRoom (length txs.now) (length edges.now) tables.old }
+    ensures { MatchBool result (AreDistinct edges.now × AreTables txs.now edges.now tables.new)
+        (HasGraph txs.now edges.now → ⊥) }
+{
+    take_places(&mut tables.names, txs)
+        && take_ends(&mut tables.pairs, &tables.names, edges)
+        && take_edges(&mut tables.edges, edges)
 }
 
 /// Whether there are few enough transactions, and fees and sizes are within the limits.

@@ -344,7 +344,7 @@ fn statuses_have_their_numbers(rt: HostRuntime) -> Result<(), Fail> {
 }
 
 /// Texts of `check` with what is said of them.
-const TEXTS: [Row; 30] = [
+const TEXTS: [Row; 72] = [
     (
         "tx 1 100 200\ntx 2 900 200\nedge 1 2\nchunk 1000 400 1 2\nflow 2 1 160000\nend\n",
         "yes\n",
@@ -435,6 +435,60 @@ const TEXTS: [Row; 30] = [
         "tx 1 5 1\ntx 2 3 1\nchunk 5 1 1\nchunk 3 1 2\nend\n",
         "yes\n",
     ),
+    ("tx 1 1 1\ntx 1 1 1\nchunk 1 1 1\nend\n", "no graph\n"),
+    ("tx 1 -2100000000000001 1\nchunk -2100000000000001 1 1\nend\n", "no graph\n"),
+    ("tx 1 1 0\nchunk 1 0 1\nend\n", "no graph\n"),
+    ("tx 1 1 4000001\nchunk 1 4000001 1\nend\n", "no graph\n"),
+    ("tx 1 1 4000000\nchunk 1 4000000 1\nend\n", "yes\n"),
+    ("tx 1 1 1\nedge 9 1\nchunk 1 1 1\nend\n", "no graph\n"),
+    ("tx 1 1 1\nedge 1 9\nchunk 1 1 1\nend\n", "no graph\n"),
+    ("tx 1 1 1\nchunk 1 1 1\nchunk 1 1 9\nend\n", "no order\n"),
+    ("tx 1 1 1\nchunk 2 2 1 1\nend\n", "no order\n"),
+    ("tx 1 1 1\nchunk 1 1 1\nchunk 1 1 1\nend\n", "no order\n"),
+    ("tx 1 1 1\ntx 2 1 1\nchunk 1 1 1\nend\n", "no order\n"),
+    ("tx 1 1 1\ntx 2 2 1\nedge 1 2\nchunk 2 1 2\nchunk 1 1 1\nend\n", "no order\n"),
+    ("tx 1 1 1\nchunk 1 2 1\nend\n", "no falling\n"),
+    (
+        "tx 1 0 1\ntx 2 0 1\ntx 3 3 1\nedge 1 2\nedge 2 3\nchunk 3 3 1 2 3\nflow 3 1 3\nflow 3 2 3\nend\n",
+        "no flow\n",
+    ),
+    (
+        "tx 1 900 200\ntx 2 100 200\nedge 1 2\nchunk 1000 400 1 2\nflow 1 2 160000\nend\n",
+        "no flow\n",
+    ),
+    (
+        "tx 1 900 200\ntx 2 100 200\nedge 1 2\nchunk 900 200 1\nflow 2 1 1\nchunk 100 200 2\nend\n",
+        "no flow\n",
+    ),
+    (
+        "tx 1 100 200\ntx 2 900 200\ntx 3 1 1\nedge 1 2\nchunk 1000 400 1 2\nchunk 1 1 3\nflow 2 1 160000\nend\n",
+        "no flow\n",
+    ),
+    ("tx 1 1 1\nTX 2 1 1\nchunk 1 1 1\nend\n", "no syntax\n"),
+    ("tx 1 1\nend\n", "no syntax\n"),
+    ("tx 1 1 1 1\nend\n", "no syntax\n"),
+    ("tx 1 1 1\nedge 1\nend\n", "no syntax\n"),
+    ("tx 1 1 1\nchunk 1 1\nend\n", "no syntax\n"),
+    ("tx 1 1 1\nchunk 1 1 1\nflow 1 1\nend\n", "no syntax\n"),
+    ("end 1\n", "no syntax\n"),
+    ("tx  1 1 1\nend\n", "no syntax\n"),
+    ("tx 1 1 1 \nend\n", "no syntax\n"),
+    (" tx 1 1 1\nend\n", "no syntax\n"),
+    ("end\r\r\n", "no syntax\n"),
+    ("tx 01 1 1\nend\n", "no syntax\n"),
+    ("tx 1 -0 1\nend\n", "no syntax\n"),
+    ("tx 1 +1 1\nend\n", "no syntax\n"),
+    ("tx x 1 1\nend\n", "no syntax\n"),
+    ("tx 18446744073709551616 1 1\nend\n", "no syntax\n"),
+    ("tx 1 9223372036854775808 1\nend\n", "no syntax\n"),
+    ("tx 1 1 1\nchunk 1 18446744073709551616 1\nend\n", "no syntax\n"),
+    ("tx 1 1 1\nchunk -1000000000000000000000000000001 1 1\nend\n", "no syntax\n"),
+    ("tx 1 1 1\nchunk 1 1 1 18446744073709551616\nend\n", "no syntax\n"),
+    ("tx 1 1 1\nchunk 1 1 1\nflow 1 1 1000000000000000000000000000001\nend\n", "no syntax\n"),
+    ("tx 1 1 1\nflow 1 1 1\nchunk 1 1 1\nend\n", "no syntax\n"),
+    ("tx 1 1 1\nchunk 1 1 1\ntx 2 1 1\nchunk 1 1 2\nend\n", "no syntax\n"),
+    ("tx 1 1 1\ntx 2 1 1\nchunk 2 2 1 2\nedge 1 2\nend\n", "no syntax\n"),
+    ("tx 1 1 1\nchunk 1 1 1\n", "no syntax\n"),
 ];
 
 fn texts() -> &'static [Row] {

@@ -1,4 +1,4 @@
-use Rattle.std.proofs.Common.{arith, refl, subst, sym, ◌∙◌, inl, inr, nat_eq}
+use Rattle.std.proofs.Common.{arith, subst, sym, ◌∙◌, inl, inr, nat_eq}
 use Rattle.std.proofs.lemmas.Bool.{cases_eq, true≢false}
 use Rattle.std.specs.HashMap as hash
 use Rattle.graphs.specs.declared.names.Flow.{Flow}
@@ -7,17 +7,15 @@ use Rattle.certificate.proofs.Bookings.{flow_at, flow_here, flow_of}
 use Rattle.certificate.proofs.flows.flows_inside.Goals as goal
 
 pub returns-then-not-contains : goal.returns-then-not-contains
-returns-then-not-contains c = (
-  refl,
-  λ all. let i = all _ (flow_here c.args.flows.now c.loop-flow.flow-index c.loop-flow-test.true) in true≢false
-      (sym i.0 ∙ sym c.if-not-contains.ensures),
-)
+returns-then-not-contains c =
+    λ all. let i = all _ (flow_here c.args.flows.now c.loop-flow.flow-index c.loop-flow-test.true) in true≢false
+    (sym i.0 ∙ sym c.if-not-contains.ensures)
 
 pub returns-then-not-is_open : goal.returns-then-not-is_open
-returns-then-not-is_open c = (refl, λ all. c.if-not-is_open.ensures (all _ (flow_here c.args.flows.now c.loop-flow.flow-index c.loop-flow-test.true)).1)
+returns-then-not-is_open c = λ all. c.if-not-is_open.ensures (all _ (flow_here c.args.flows.now c.loop-flow.flow-index c.loop-flow-test.true)).1
 
 pub returns-then-not-is_open-2 : goal.returns-then-not-is_open-2
-returns-then-not-is_open-2 c = (refl, λ all. c.if-not-is_open-2.ensures (all _ (flow_here c.args.flows.now c.loop-flow.flow-index c.loop-flow-test.true)).2)
+returns-then-not-is_open-2 c = λ all. c.if-not-is_open-2.ensures (all _ (flow_here c.args.flows.now c.loop-flow.flow-index c.loop-flow-test.true)).2
 
 pub loop-flow-preserved : goal.loop-flow-preserved
 loop-flow-preserved c k less =

@@ -1,7 +1,0 @@
-use Rattle.std.proofs.Common.{take, map, nat_eq}
-use Rattle.std.specs.HashMap as hash
-use Rattle.certificate.specs.Places.{ArePlaces}
-use Rattle.certificate.proofs.names.positions.Given as goal
-
-abbrev pub invariant-loop-at : goal.invariant-loop-at
-invariant-loop-at l = ArePlaces (take l.at (map (λ tx. tx.0) l.txs)) (hash.get nat_eq l.names)

@@ -1,6 +1,0 @@
-use Rattle.std.proofs.Common.{ℕ, ◌<◌, slice_index}
-use Rattle.certificate.specs.Chains.{pair_at}
-use Rattle.certificate.proofs.order.parents_first.Given as goal
-
-abbrev pub invariant-loop-pair : goal.invariant-loop-pair
-invariant-loop-pair l = (k : ℕ) → k < l.pair-index → slice_index l.ranks (pair_at l.pairs k).0 < slice_index l.ranks (pair_at l.pairs k).1
