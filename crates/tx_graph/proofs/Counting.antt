@@ -13,7 +13,7 @@ use Rattle.graphs.specs.declared.names.Level.TheVariants.{Top}
 use Rattle.graphs.specs.Closures.{is_member}
 use Rattle.graphs.specs.Graphs.{Lists}
 use Rattle.graphs.proofs.ListLemmas.{Lists-for, Lists-same}
-use Rattle.graph_model.specs.declared.names.Limits.{Limits}
+use Rattle.graph_model.specs.Limits.{Bounds}
 use Rattle.graph_model.specs.declared.names.Refusal.{Refusal}
 use Rattle.graph_model.specs.Commands.{Add}
 use Rattle.graph_model.specs.States.{Table}
@@ -96,9 +96,9 @@ pub add_row : (kept : Kept) (live id : ℕ) (fee : ℤ) (size : ℕ) (found : Op
     → AddRefusalIs kept.limits kept.levels live id fee size found → Meets kept (Add id fee size) found
 add_row kept live id fee size found counts row state stands =
     add_row_along _ _ _ _ _ _ _ _ _ _ size found (λ h. h, λ h. h) (λ h. h, λ h. h) (live_told kept.levels state.table stands.table id) (
-      λ over. subst (λ (l : Limits). l.size < size) (sym stands.limits) over,
-      λ over. subst (λ (l : Limits). l.size < size) stands.limits over,
+      λ over. subst (λ (l : Bounds). l.size < size) (sym stands.limits) over,
+      λ over. subst (λ (l : Bounds). l.size < size) stands.limits over,
     ) (
-      λ full. subst₂ (λ (l : Limits) n. l.total ≤ n) (sym stands.limits) (live_count kept.levels state.table live stands.table counts) full,
-      λ full. subst₂ (λ (l : Limits) n. l.total ≤ n) stands.limits (sym (live_count kept.levels state.table live stands.table counts)) full,
+      λ full. subst₂ (λ (l : Bounds) n. l.total ≤ n) (sym stands.limits) (live_count kept.levels state.table live stands.table counts) full,
+      λ full. subst₂ (λ (l : Bounds) n. l.total ≤ n) stands.limits (sym (live_count kept.levels state.table live stands.table counts)) full,
     ) row

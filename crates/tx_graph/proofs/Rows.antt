@@ -129,10 +129,16 @@ alone_row kept is state stands = inl (λ there. true≢false (sym there ∙ stag
 
 pub compare_row : (kept : Kept) → is_some kept.levels.staging ≡ true → (state : PlainState) → StandsPlainly kept state → BothRow state None
 compare_row kept is state stands =
-    inr (λ none. none (staged kept state stands ∙ is), inr (λ over. elim over [
-      | inl main ↦ none_oversized kept state stands Main main
-      | inr top ↦ none_oversized kept state stands Top top
-    ], refl))
+    inr (
+      λ none. none (staged kept state stands ∙ is),
+      inr (
+        λ over. elim over [
+          | inl main ↦ none_oversized kept state stands Main main
+          | inr top ↦ none_oversized kept state stands Top top
+        ],
+        refl,
+      ),
+    )
 
 -- ---- pairs
 

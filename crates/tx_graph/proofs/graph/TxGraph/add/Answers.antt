@@ -66,7 +66,7 @@ invariant_of-self-2 g c =
     sound_after kept (kept_of (64 * g.row.W) c.self.inside.limits true c.add.new.self)
     (Add c.args.id c.args.fee c.args.size) Done c.self.invariant c.self.invariant.in_range c.add.ensures.picks
     (add_step (64 * g.row.W) c.self.inside.limits c.self.inside.begun c.self.inside.levels c.add.new.self c.add.ensures.picks
-    c.args.id c.args.fee c.args.size c.ranges.id
+    c.args.id c.args.fee c.args.size c.ranges.id.fits
     (subst (λ fee. AddRowIs kept c.args.id fee c.args.size None) (to_z-of_z w64 c.args.fee c.ranges.fee) c.in_default.ensures.row)
     (subst (λ fee. IsAddedTo c.args.id fee c.args.size c.self.inside.levels c.add.new.self) (to_z-of_z w64 c.args.fee c.ranges.fee)
     (when_ok c.add.result done c.add.ensures.added)))
@@ -77,7 +77,7 @@ returns-clause-step g c =
     let done = sym c.is_err.ensures.value ∙ c.if-is_err.false in
     from_view kept c.args.self.now (kept_of (64 * g.row.W) c.self.inside.limits true c.add.new.self) (Add c.args.id c.args.fee c.args.size) Done c.self.view_is
     (add_step (64 * g.row.W) c.self.inside.limits c.self.inside.begun c.self.inside.levels c.add.new.self c.add.ensures.picks
-    c.args.id c.args.fee c.args.size c.ranges.id
+    c.args.id c.args.fee c.args.size c.ranges.id.fits
     (subst (λ fee. AddRowIs kept c.args.id fee c.args.size None) (to_z-of_z w64 c.args.fee c.ranges.fee) c.in_default.ensures.row)
     (subst (λ fee. IsAddedTo c.args.id fee c.args.size c.self.inside.levels c.add.new.self) (to_z-of_z w64 c.args.fee c.ranges.fee)
     (when_ok c.add.result done c.add.ensures.added)))

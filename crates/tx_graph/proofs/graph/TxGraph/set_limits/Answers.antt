@@ -1,5 +1,5 @@
-use Rattle.std.proofs.Common.{◌*◌, true, sym, refl, ◌∙◌, true≢false, ap}
-use Rattle.graph_model.specs.Limits.{bounds_of}
+use Rattle.std.proofs.Common.{◌*◌, subst, true, sym, refl, ◌∙◌, true≢false, ap}
+use Rattle.graph_model.specs.Limits.{AreInRange, bounds_of}
 use Rattle.graph_model.specs.Commands.{SetLimits}
 use Rattle.graph_model.specs.declared.names.Refusal.TheVariants.{Late, Range}
 use Rattle.graph_model.specs.Replies.{Done, Refused}
@@ -22,11 +22,12 @@ returns-then-not-are_in_range-clause-step g c =
     let command = SetLimits (bounds_of c.args.limits) in
     both_views kept c.args.self.now command (Refused Range) c.self.view_is
     (steps_refused kept command Range
-    (range_row kept c.args.limits c.if-self.false (λ fine. true≢false (sym (c.are_in_range.ensures.1 fine) ∙ c.if-not-are_in_range.true))))
+    (range_row kept c.args.limits c.if-self.false (λ fine. true≢false
+    (sym (c.are_in_range.ensures.1 (subst (λ n. AreInRange n (bounds_of c.args.limits)) (sym c.most_names.ensures) fine)) ∙ c.if-not-are_in_range.true))))
 
 pub invariant_of-self : goal.invariant_of-self
 invariant_of-self g c =
-    let in_range = c.are_in_range.ensures.0 c.if-not-are_in_range.false in
+    let in_range = subst (λ n. AreInRange n (bounds_of c.args.limits)) c.most_names.ensures (c.are_in_range.ensures.0 c.if-not-are_in_range.false) in
     sound_after (kept_of (64 * g.row.W) c.self.inside.limits c.self.inside.begun c.self.inside.levels) (kept_of (64 * g.row.W) c.args.limits true c.self.inside.levels)
     (SetLimits (bounds_of c.args.limits)) Done c.self.invariant in_range c.self.invariant.picked
     (limits_step (64 * g.row.W) c.self.inside.limits c.args.limits c.self.inside.begun c.self.inside.levels c.self.invariant.picked c.if-self.false in_range)
@@ -36,7 +37,7 @@ returns-clause-step g c =
     from_view (kept_of (64 * g.row.W) c.self.inside.limits c.self.inside.begun c.self.inside.levels) c.args.self.now (kept_of (64 * g.row.W) c.args.limits true c.self.inside.levels)
     (SetLimits (bounds_of c.args.limits)) Done c.self.view_is
     (limits_step (64 * g.row.W) c.self.inside.limits c.args.limits c.self.inside.begun c.self.inside.levels c.self.invariant.picked c.if-self.false
-    (c.are_in_range.ensures.0 c.if-not-are_in_range.false))
+    (subst (λ n. AreInRange n (bounds_of c.args.limits)) c.most_names.ensures (c.are_in_range.ensures.0 c.if-not-are_in_range.false)))
 
 pub returns-then-self-clause-additions : goal.returns-then-self-clause-additions
 returns-then-self-clause-additions g c = refl
