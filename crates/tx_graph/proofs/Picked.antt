@@ -50,7 +50,7 @@ pick_here level graph rate pick of same =
       names = λ id. (λ here. here, λ here. here);
       sums = λ id here. sym (same id ((of.closure.names id).0 here));
       ancestors = λ x y. (λ walk. walk, λ walk. walk);
-    }) of.valid of.valid level.parts).0 (pick graph of.closure)
+    }) of.valid of.valid level.parts).0 (pick.picked graph of.closure)
 
 staging_picked : (table : Table) (level : Option OneLevel) (staging : Option Graph) → IfSome level HasPick → IsStagingOf level staging
     → ((one : OneLevel) → level ≡ Some one → (id : ℕ) → is_member one.graph id ≡ true → states.rate_of table id ≡ sum_at one.graph id)

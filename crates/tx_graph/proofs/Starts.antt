@@ -61,7 +61,8 @@ graph_of_none = record {
 }
 
 pub picks_none : (levels : Levels) → levels ≡ no_names → HavePicks levels
-picks_none levels is = subst HavePicks (sym is) (no_parts_picked, tt)
+picks_none levels is =
+    subst HavePicks (sym is) (record { picked = no_parts_picked; uncut = λ graph closes part here. absurd (none_in_empty part here) }, tt)
 
 module _ (limits : Limits) where
   none_stands : StandsFor (kept_of limits false no_names) (start_within limits)
