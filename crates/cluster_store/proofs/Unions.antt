@@ -1,6 +1,6 @@
 -- The parts of a level are a pick of every graph whose closure is the graph of the level: what each cluster has of such a graph has the cluster's
 -- closure, and these make the graph.
-use Rattle.std.proofs.Common.{◌≡◌, ℕ, suc, Bool, true, false, ◌&&◌, ◌||◌, List, [], ◌∷◌, map, Option, Some, None, is_some, Contains, refl, sym, ap, ◌∙◌, subst}
+use Rattle.std.proofs.Common.{◌≡◌, ℕ, suc, ◌<◌, Bool, true, false, ◌&&◌, ◌||◌, List, [], ◌∷◌, length, map, Option, Some, None, is_some, Contains, refl, sym, ap, ◌∙◌, subst}
 use Rattle.std.proofs.lemmas.Bool.{cases_eq, and_from, and_parts}
 use Rattle.std.proofs.lemmas.Option.{same_Some}
 use Rattle.std.specs.List.{filter, list_any}
@@ -9,8 +9,10 @@ use Rattle.std.specs.Cmp.{Equal-is}
 use Rattle.std.specs.FinMap as finmap
 use Rattle.lists.proofs.Distinct.{distinct-filter}
 use Rattle.lists.proofs.Entries.{Contains-head, Contains-later, Contains-filter, filter-Contains, map-Contains, Contains-map}
+use Rattle.lists.proofs.Flats.{flat_has}
 use Rattle.lists.proofs.Told.{cases_pair}
 use Rattle.std.proofs.lemmas.List.{map-id}
+use Rattle.std.proofs.lemmas.List.Elements.{Contains-get_or}
 use Rattle.fee_rate.specs.declared.rates.FeeRate.{FeeRate}
 use Rattle.fee_rate.specs.declared.rates.Sum.{Sum}
 use Rattle.graphs.specs.declared.names.Flow.{Flow}
@@ -25,11 +27,12 @@ use Rattle.graphs.proofs.WalkLemmas.{walk_of_pair, walk_within}
 use Rattle.graphs.proofs.ClosingLemmas.{closes_within}
 use Rattle.graphs.proofs.PickLemmas.{picks_are_kept}
 use Rattle.chunk_index.specs.Items.{is_in}
-use Rattle.cluster.specs.Clusters.{Cluster, IsCluster, sum_at}
-use Rattle.cluster_store.specs.Stores.{Stored, Numbered, Store, IsOrdered, passes, parts_of_level}
+use Rattle.cluster.specs.Clusters.{Cluster, IsCluster, ArePicked, AreUncut, sum_at}
+use Rattle.cluster_store.specs.Stores.{Stored, Numbered, Store, Shown, IsOrdered, no_part, part_in, parts_in, passes, places_by, places_in, shown_at, shown_in, parts_of_level}
 use Rattle.cluster_store.specs.Laws.{Stands, IsLevel, LevelsArePicked}
 use Rattle.cluster_store.proofs.Levels.{AreGraphs, level_picked}
 use Rattle.cluster_store.proofs.Once.{IsOnce, listed_once}
+use Rattle.cluster_store.proofs.Uncut.{uncut_with}
 
 false_true : false ≡ true → ⊥
 false_true e = cc
@@ -122,6 +125,38 @@ module _ (most : ℕ) (store : Store) (level : Level) (g : Closure) (ordered : I
 
     own_sum : (id : ℕ) → Contains c.names id → sum_at c.graph id ≡ sum_at g id
     own_sum id here = ap (λ (r : FeeRate). record { fee = r.fee; size = r.size }) (sym (is.rates n id c stands here))
+
+  -- ---- its parts are those of its clusters, none of which can be cut further
+
+  -- a part of the level is one of a cluster
+  part_home : (part : Part) → Contains (parts_of_level level store) part
+      → (n : ℕ) × (c : Cluster) × Stands level store.clusters n c × Contains c.parts part
+  unfolding places_by
+  part_home part here =
+      let shown = map-Contains (λ (s : Shown). s.part) (shown_in level store) part here in
+      let at = map-Contains (shown_at store.clusters) (places_in level store) shown.0 shown.1 in
+      let kept = filter-Contains (λ (place : ℕ × ℕ). passes (is_in level) (finmap.get store.clusters place.0)) store.order at.0 at.1 in
+      let low = (ordered.exact at.0).0 kept.1 in
+      let home = of at.0 (finmap.get store.clusters at.0.0) refl kept.0 low in
+      (at.0.0, home.0, home.1, subst (Contains home.0.parts) (ap (λ (s : Shown). s.part) at.2 ∙ shown.2) home.2)
+    where
+      of : (place : ℕ × ℕ) (o : Option Stored) → finmap.get store.clusters place.0 ≡ o → passes (is_in level) o ≡ true → place.1 < length (parts_in o)
+          → (c : Cluster) × Stands level store.clusters place.0 c × Contains c.parts (part_in o place.1)
+      of place None there pass low = absurd (false_true pass)
+      of place (Some s) there pass low = (s.cluster, (s, there, refl, pass), Contains-get_or s.cluster.parts place.1 no_part low)
+
+  none_cut : AreUncut g (parts_of_level level store)
+  none_cut graph closes part here =
+      let home = part_home part here in
+      let c = home.1 in
+      let whole = own home.0 c home.2 in
+      let mine = own_closes home.0 c home.2 graph closes in
+      let order = (whole.picked (within (is_member c.graph) graph) mine).certificate.order.topological in
+      uncut_with (sum_at c.graph) (sum_at g) (within (is_member c.graph) graph).pairs graph.pairs part.ids
+      (λ a d pair. (filter-Contains (λ (p : ℕ × ℕ). is_member c.graph p.0 && is_member c.graph p.1) graph.pairs (a, d) pair).1)
+      (λ id in_part. own_sum home.0 c home.2 id ((whole.members id).0 ((mine.names id).0
+      ((order.names id).0 (flat_has (λ (p : Part). p.ids) c.parts part id home.3 in_part)))))
+      (whole.uncut (within (is_member c.graph) graph) mine part home.3)
 
   -- ---- a graph with this closure is made of these
 
@@ -304,10 +339,15 @@ module _ (g : Closure) (graph : Graph) (closes : IsClosureOf g graph) (names : L
       subst (IsPick rate graph) (same_parts parts)
       (picks_are_kept.renamed (λ id. id) rate rate single graph parts single_ends (λ a b a_in b_in same. same) single_renamed (λ id here. refl) picked)
 
-pub levels_are_picked : LevelsArePicked
-levels_are_picked most store level g ordered clusters_are is graph closes =
+level_is_picked : (most : ℕ) (store : Store) (level : Level) (g : Closure) → IsOrdered store.clusters store.order
+    → ((n : ℕ) (c : Cluster) → Stands level store.clusters n c → IsCluster most c) → IsLevel level store.clusters g → ArePicked g (parts_of_level level store)
+level_is_picked most store level g ordered clusters_are is graph closes =
     let names = listed_once cases_eq graph.names in
     let pairs = listed_once cases_pair graph.pairs in
     from_single g graph closes names.0 names.1 pairs.0 pairs.1 (sum_at g) (parts_of_level level store)
     (single_picked most store level g ordered clusters_are is (single g graph closes names.0 names.1 pairs.0 pairs.1)
     (single_graph g graph closes names.0 names.1 pairs.0 pairs.1) (single_closes g graph closes names.0 names.1 pairs.0 pairs.1))
+
+pub levels_are_picked : LevelsArePicked
+levels_are_picked most store level g ordered clusters_are is =
+    (level_is_picked most store level g ordered clusters_are is, none_cut most store level g ordered clusters_are is)

@@ -7,7 +7,7 @@ use Rattle.graphs.specs.Linearizations.{StandsBefore}
 use Rattle.graphs.specs.Merges.{Precedes}
 use Rattle.graphs.specs.declared.names.Level.{Level}
 use Rattle.chunk_index.specs.Items.{is_in}
-use Rattle.cluster.specs.Clusters.{Cluster, IsCluster, ArePicked}
+use Rattle.cluster.specs.Clusters.{Cluster, IsCluster, ArePicked, AreUncut}
 use Rattle.cluster_store.specs.Stores.{Stored, Numbered, Store, IsOrdered, IsStore, shown_in, parts_of_level}
 
 -- the cluster stands under the number, in the level
@@ -21,12 +21,13 @@ pub record IsLevel (level : Level) (clusters : Numbered) (g : Closure) : Type 0 
   pub ancestors : (a d : ℕ) → (is_ancestor g a d ≡ true) ↔ ((n : ℕ) × (c : Cluster) × Stands level clusters n c × (is_ancestor c.graph a d ≡ true))
   pub rates : (n id : ℕ) (c : Cluster) → Stands level clusters n c → Contains c.names id → rate_of g id ≡ rate_of c.graph id
 
--- Where each cluster of a level is one of at most so many names, the level's parts are a pick of the graph of the level. Of clusters that don't
--- stand there nothing is asked.
+-- Where each cluster of a level is one of at most so many names, the level's parts are a pick of the graph of the level, and none of them can
+-- be cut further. Of clusters that don't stand there nothing is asked.
 abbrev pub LevelsArePicked : Type 0
 LevelsArePicked =
     (most : ℕ) (store : Store) (level : Level) (g : Closure) → IsOrdered store.clusters store.order
-    → ((n : ℕ) (c : Cluster) → Stands level store.clusters n c → IsCluster most c) → IsLevel level store.clusters g → ArePicked g (parts_of_level level store)
+    → ((n : ℕ) (c : Cluster) → Stands level store.clusters n c → IsCluster most c) → IsLevel level store.clusters g
+    → ArePicked g (parts_of_level level store) × AreUncut g (parts_of_level level store)
 
 -- the cluster of a number, if it has one, stands under it still, whatever the levels
 abbrev pub Stays : Numbered → Numbered → ℕ → Type 0

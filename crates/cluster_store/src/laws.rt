@@ -1,7 +1,8 @@
 //! Laws over the definitions, each the contract of a function that does nothing.
 ghost use Rattle.cluster_store.specs.Laws.{LevelsArePicked, OrdersAreKept, AllStandInOrder, PartsAreToldByClusters};
 
-/// Where the clusters of a level have no name in common, the level's parts are a pick of its graph, and so an optimal order.
+/// Where the clusters of a level have no name in common, the level's parts are a pick of its graph, and so an optimal order, and none of
+/// them can be cut further.
 pub fn levels_are_picked()
     ensures { LevelsArePicked }
 {}

@@ -151,7 +151,7 @@ const RUNS: [Row; 15] = [
 ];
 
 /// Inputs of `replay` that ask for the order, with their outputs.
-const ORDERS: [Row; 10] = [
+const ORDERS: [Row; 12] = [
     (
         "add 1 1000 200\norder main\n",
         "ok\nchunk 1000 200 1\nend\n",
@@ -192,6 +192,14 @@ const ORDERS: [Row; 10] = [
     (
         "order bottom\norder main\nproof top\ndiagram bottom\ndiagram main\n",
         "refused syntax\nend\nend\nrefused syntax\npoint 0 0\nend\n",
+    ),
+    (
+        "add 1 1 1\nadd 2 1 1\ndep 1 2\norder main\n",
+        "ok\nok\nok\nchunk 1 1 1\nchunk 1 1 2\nend\n",
+    ),
+    (
+        "add 1 0 1\nadd 2 2 1\nadd 3 0 1\nadd 4 2 1\ndep 1 2\ndep 1 4\ndep 3 4\norder main\n",
+        "ok\nok\nok\nok\nok\nok\nok\nchunk 2 2 1 2\nchunk 2 2 3 4\nend\n",
     ),
 ];
 

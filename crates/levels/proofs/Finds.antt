@@ -38,7 +38,9 @@ module _ (most : ℕ) (level : Level) (shelf : Shelf) (indexed : IsIndexed most 
   }
 
   pub picked : HasPick (one_of level shelf)
-  picked = levels_are_picked most shelf.store level (graph_of (view_of level shelf)) store.ordered (λ n c is. indexed.whole n c (seen n c is)) is_level
+  picked =
+      let both = levels_are_picked most shelf.store level (graph_of (view_of level shelf)) store.ordered (λ n c is. indexed.whole n c (seen n c is)) is_level in
+      record { picked = both.0; uncut = both.1 }
 
 module _ (w : ℕ) (shelf : Shelf) (order : IsInOrder w shelf) where
   pub indexed_at : (level : Level) → IsIndexed (64 * w) (view_of level shelf)

@@ -119,7 +119,10 @@ module _ (w : ℕ) (shelf : Shelf) (order : IsInOrder w shelf) (level : Level) w
 
   -- the parts are an optimal order of every graph with that closure
   pub best : IsBest (one_of level shelf)
-  best graph closes = picks_are_kept.optimal (sum_at known) graph parts (sizes graph closes) (its_pick graph closes)
+  best = record {
+    pick = its_pick;
+    optimal = λ graph closes. picks_are_kept.optimal (sum_at known) graph parts (sizes graph closes) (its_pick.picked graph closes);
+  }
 
   -- and there is one
   closed : IsClosed (past (finmap.keys known)) known
@@ -134,7 +137,7 @@ module _ (w : ℕ) (shelf : Shelf) (order : IsInOrder w shelf) (level : Level) w
 
   module _ (graph : Graph) (closes : IsClosureOf known graph) where
     certificate : IsCertificate (sum_at known) graph (IsCover graph.pairs) parts
-    certificate = (its_pick graph closes).certificate
+    certificate = (its_pick.picked graph closes).certificate
 
     live : (id : ℕ) → Contains (order_of parts) id → is_member known id ≡ true
     live id here = (closes.names id).0 ((certificate.order.topological.names id).0 here)

@@ -11,7 +11,7 @@ use Rattle.graphs.specs.Certificates.{Part}
 use Rattle.graphs.specs.Graphs.{Graph}
 use Rattle.graphs.specs.Linearizations.{IsOptimal}
 use Rattle.graph_model.specs.States.{top_of}
-use Rattle.cluster.specs.Clusters.{part_code, sum_at, ArePicked}
+use Rattle.cluster.specs.Clusters.{part_code, sum_at, ArePicked, AreUncut}
 
 -- of a level: each name with its fee, its size and its ancestors, and the parts of its order
 pub record OneLevel : Type 0 where
@@ -57,16 +57,18 @@ ChangesTop Changes old new = (top : OneLevel) × Changes (level_at old Top).grap
 abbrev pub IsLive : Levels → ℕ → Type 0
 IsLive levels id = (is_member levels.main.graph id ≡ true) ⊎ (is_member (level_at levels Top).graph id ≡ true)
 
--- the parts of a level are a pick of it
-abbrev pub HasPick : OneLevel → Type 0
-HasPick level = ArePicked level.graph level.parts
+-- The parts of a level are a pick of it, and none of them can be cut further.
+pub record HasPick (level : OneLevel) : Type 0 where
+  pub picked : ArePicked level.graph level.parts
+  pub uncut : AreUncut level.graph level.parts
 
 abbrev pub HavePicks : Levels → Type 0
 HavePicks levels = HasPick levels.main × IfSome levels.staging HasPick
 
--- and an optimal order of every graph that the level is the closure of
-abbrev pub IsBest : OneLevel → Type 0
-IsBest level = (graph : Graph) → IsClosureOf level.graph graph → IsOptimal (sum_at level.graph) graph (map (λ part. part.ids) level.parts)
+-- They are, and so an optimal order of every graph that the level is the closure of.
+pub record IsBest (level : OneLevel) : Type 0 where
+  pub pick : HasPick level
+  pub optimal : (graph : Graph) → IsClosureOf level.graph graph → IsOptimal (sum_at level.graph) graph (map (λ part. part.ids) level.parts)
 
 -- one more name, in no relation to the others
 pub record AddsName (old new : Closure) (id : ℕ) (rate : FeeRate) : Type 0 where

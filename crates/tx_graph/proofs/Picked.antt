@@ -54,7 +54,7 @@ pick_here level graph rate pick of same =
       names = λ id. (λ here. here, λ here. here);
       sums = λ id here. sym (same id ((of.closure.names id).0 here));
       ancestors = λ x y. (λ walk. walk, λ walk. walk);
-    }) of.valid of.valid level.parts).0 (pick graph of.closure)
+    }) of.valid of.valid level.parts).0 (pick.picked graph of.closure)
 
 staging_picked : (bounds : Bounds) (table : Table) (level : Option OneLevel) (staging : Option Graph) → IfSome level HasPick → IsStagingOf level staging
     → ((graph : Graph) → staging ≡ Some graph → HasOver bounds (states.size_of table) graph → ⊥)

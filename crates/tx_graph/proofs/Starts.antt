@@ -64,7 +64,8 @@ graph_of_none = record {
 }
 
 pub picks_none : (levels : Levels) → levels ≡ no_names → HavePicks levels
-picks_none levels is = subst HavePicks (sym is) (no_parts_picked, tt)
+picks_none levels is =
+    subst HavePicks (sym is) (record { picked = no_parts_picked; uncut = λ graph closes part here. absurd (none_in_empty part here) }, tt)
 
 module _ (most : ℕ) (limits : Limits) (wide : most ≤ MAX_COUNT) (in_range : AreInRange most (bounds_of limits)) where
   none_stands : StandsFor (kept_of most limits false no_names) (start_within most limits)

@@ -6,6 +6,7 @@ use Rattle.graphs.specs.Certificates.{Part}
 use Rattle.graphs.specs.Closures.{rate_of, IsCover}
 use Rattle.graphs.specs.Linearizations.{IsOptimal}
 use Rattle.graphs.specs.Picks.{FollowOrder, IsPick}
+use Rattle.linearize.specs.Minimal.{AreMinimal}
 use Rattle.cluster.specs.declared.cluster.PartRef.{PartRef}
 use Rattle.cluster_store.specs.Lent.{lent}
 use Rattle.graph_model.specs.declared.names.Place.{Place}
@@ -22,6 +23,10 @@ pub record IsBestOrder (state : State) (level : Level) (parts : List Part) : Typ
   pub pick : pick_of state.picks level ≡ Some parts
   pub certified : IsPick (states.rate_of state.plain.table) (level_of state.plain level) parts
   pub optimal : IsOptimal (states.rate_of state.plain.table) (level_of state.plain level) (map (λ part. part.ids) parts)
+
+-- None of the parts of a level can be cut further: no proper set of a part's names, closed within the part, has its rate.
+abbrev pub AreMinimalIn : State → Level → List Part → Type 0
+AreMinimalIn state level parts = AreMinimal (states.rate_of state.plain.table) (level_of state.plain level).pairs parts
 
 -- A text of an order: its names with their fees and sizes, the covering pairs by child, then by parent, and the parts.
 pub record IsTextOf (level : OneLevel) (text : Text) : Type 0 where

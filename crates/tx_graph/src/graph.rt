@@ -23,7 +23,7 @@ ghost use Rattle.tx_graph.specs.Additions.{AddRefusalIs, CountsLive};
 ghost use Rattle.tx_graph.specs.Kept.{Kept, StandsFor, MakesStep, start_within};
 ghost use Rattle.levels.specs.Levels.{IsLive, level_at};
 ghost use Rattle.levels.specs.Orders.{ListsCovers};
-ghost use Rattle.tx_graph.specs.Readings.{IsBestOrder, IsTextOf, part_reply, place_reply, compare_reply, settle_reply};
+ghost use Rattle.tx_graph.specs.Readings.{AreMinimalIn, IsBestOrder, IsTextOf, part_reply, place_reply, compare_reply, settle_reply};
 ghost use Rattle.levels.specs.Stays.{AllStay};
 ghost use Rattle.levels.specs.Views.{IsClusterOf};
 
@@ -424,12 +424,14 @@ impl<const W: usize> TxGraph<W> {
 
     /// The parts of a level in its order, each with its names and the flows that certify it. Takes no memory.
     ///
-    /// They are the pick of every state that the graph stands for, an optimal order of the whole level. A text of it that
-    /// lists its covering pairs proves so.
+    /// They are the pick of every state that the graph stands for, an optimal order of the whole level, and none of them can be
+    /// cut further: no proper set of its names, closed within it, has its rate. A text of it that lists its covering pairs proves
+    /// that it is optimal.
     pub fn order(&self, level: Level) -> Order<'_, W>
         ensures parts { result ≡ (level_at self.now.levels level).parts }
         ensures step { MakesStep self.now self.now (commands.Order level) (Parts result) }
         ensures best { (state : State) → StandsFor self.now state → IsBestOrder state level result }
+        ensures minimal { (state : State) → StandsFor self.now state → AreMinimalIn state level result }
         ensures names { (id : ℕ) → Contains (order_of result) id
             ↔ (is_member (level_at self.now.levels level).graph id ≡ true) }
         ensures proof { (text : Text) → IsTextOf (level_at self.now.levels level) text

@@ -8,9 +8,9 @@ use Rattle.graph_model.specs.Replies.{Parts, Proves}
 use Rattle.graph_model.specs.States.{State}
 use Rattle.tx_graph.specs.Kept.{Kept, StandsFor, MakesStep}
 use Rattle.levels.specs.Levels.{level_at}
-use Rattle.tx_graph.specs.Readings.{IsBestOrder, IsTextOf}
+use Rattle.tx_graph.specs.Readings.{AreMinimalIn, IsBestOrder, IsTextOf}
 use Rattle.tx_graph.proofs.Calls.{kept_of}
-use Rattle.tx_graph.proofs.Telling.{steps_ordered, steps_proved, best_order, names_ordered}
+use Rattle.tx_graph.proofs.Telling.{steps_ordered, steps_proved, best_order, names_ordered, none_cut}
 use Rattle.tx_graph.proofs.Rooms.{levels_fit}
 use Rattle.tx_graph.proofs.graph.TxGraph.order.Goals as goal
 
@@ -30,6 +30,13 @@ returns-clause-best g c =
     subst (λ (parts : List Part). (state : State) → StandsFor c.args.self.now state → IsBestOrder state c.args.level parts) (sym (returns-clause-parts g c))
     (subst (λ (k : Kept). (state : State) → StandsFor k state → IsBestOrder state c.args.level (level_at k.levels c.args.level).parts) c.self.view_is
     (best_order kept c.args.level c.self.invariant.picked c.parts.ensures.best))
+
+pub returns-clause-minimal : goal.returns-clause-minimal
+returns-clause-minimal g c =
+    let kept = kept_of c.self.inside.limits c.self.inside.begun c.self.inside.levels in
+    subst (λ (parts : List Part). (state : State) → StandsFor c.args.self.now state → AreMinimalIn state c.args.level parts) (sym (returns-clause-parts g c))
+    (subst (λ (k : Kept). (state : State) → StandsFor k state → AreMinimalIn state c.args.level (level_at k.levels c.args.level).parts) c.self.view_is
+    (none_cut kept c.args.level c.parts.ensures.best))
 
 pub returns-clause-names : goal.returns-clause-names
 returns-clause-names g c =
