@@ -40,7 +40,8 @@ shown_is n within into amounts lean below =
 -- what a network's rows balance, the network balances
 pub balanced_shown : (n : ℕ) (weights : List ℤ) (parents : List (set.FinSet nat_cmp)) (among within : set.FinSet nat_cmp)
     (into : List (set.FinSet nat_cmp)) (amounts : List ℕ) (given : ℕ) (view : Room) → IsLean n into amounts → IsWithin n within
-    → (let room : Room = record { flow = rows n (shown n within into amounts); given = given } in room ≡ view) → IsBalanced n weights parents among (flow_of view)
+    → (let room : Room = record { flow = rows n (shown n within into amounts); given = given } in room ≡ view)
+    → IsBalanced n weights parents among (flow_of view)
     → IsBalanced n weights parents among (shown n within into amounts)
 balanced_shown n weights parents among within into amounts given view lean below is balanced =
     let same : flow_of view ≡ shown n within into amounts =

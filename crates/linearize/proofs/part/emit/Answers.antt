@@ -57,11 +57,10 @@ returns-clause-adds g c =
 
 pub returns-clause-one : goal.returns-clause-one
 returns-clause-one g c =
-    let flows : List Flow = c.send_all.new.draft.flows in
+    let own : Part = record { rate = sum_from c.args.whole; ids = c.send_all.new.draft.ids; flows = c.send_all.new.draft.flows } in
     record {
-      part = record { rate = sum_from c.args.whole; ids = c.send_all.new.draft.ids; flows = flows };
-      is = ap (λ (w : Written). w.parts) c.close.ensures
-          ∙ ap (λ (w : Written). w.parts ++ record { rate = sum_from c.args.whole; ids = c.send_all.new.draft.ids; flows = flows } ∷ []) c.send_all.ensures
-          ∙ ap (λ (ps : List Part). ps ++ record { rate = sum_from c.args.whole; ids = c.send_all.new.draft.ids; flows = flows } ∷ []) c.put_places.ensures.parts;
+      part = own;
+      is = ap (λ (w : Written). w.parts) c.close.ensures ∙ ap (λ (w : Written). w.parts ++ own ∷ []) c.send_all.ensures
+          ∙ ap (λ (ps : List Part). ps ++ own ∷ []) c.put_places.ensures.parts;
       places = ap (λ (w : Written). length w.ids) c.send_all.ensures ∙ c.put_places.ensures.count;
     }

@@ -1,3 +1,4 @@
+-- `and` picks the number of the new `Past`: the old one and what is added.
 use mathlib.Core.Path.{refl}
 use mathlib.Core.List.{[], ◌∷◌}
 use seplogic.Ra.Ura.{Ura}
@@ -52,6 +53,9 @@ module _ {M : Type 1} {𝓤 : Ura M} (𝓛 : Logic 𝓤) (mem : Memory → SProp
     abbrev bound : (walk_of 𝓛 f.ended stayed (f.clauses 𝓛 mem run)).Ghost
     bound = ((κs, qs, tt, a, (before ∷ [], (more ∷ [], tt))), tt)
 
+    abbrev sum : (past.the_row).Denot
+    sum = record { places = a.0.now.places + a.1.0 }
+
     abbrev passed : Fml
     passed = owns (types_at f.signature.params κs) a (before ∷ [], (more ∷ [], tt))
 
@@ -61,8 +65,8 @@ module _ {M : Type 1} {𝓤 : Ura M} (𝓛 : Logic 𝓤) (mem : Memory → SProp
         qed 𝓛 (raw (alive 𝓛 f.signature κs qs) ∷ ‵ passed ∷ []) ∵ enter ! C Λ code.function (before ∷ more ∷ []) _ $
         alloc_all ! (λ l. pass_all ! refl ((tt, tt), ((tt, record { fits = fits }), tt)) $ sets ! (agg ! (no_more !)) refl (tt, tt) $
         returns ! (look_at ! 0 refl) $ free_all ! refl $
-        suffices ! _ (ends_at 𝓛 f.ended stayed (f.clauses 𝓛 mem run) bound (vstruct vnil) (record { places = a.0.now.places + a.1.0 }) (tt, (tt, tt)) (tt, (tt, tt))) $
-        says ! refl $ pure_i ! (past.the_row.own_val (record { places = a.0.now.places + a.1.0 }) (vstruct vnil ∷ [])) ((λ vss. (tt, tt)), tt) ((tt, (refl, tt)), tt) $
+        suffices ! _ (ends_at 𝓛 f.ended stayed (f.clauses 𝓛 mem run) bound (vstruct vnil) sum (tt, (tt, tt)) (tt, (tt, tt))) $
+        says ! refl $ pure_i ! (past.the_row.own_val sum (vstruct vnil ∷ [])) ((λ vss. (tt, tt)), tt) ((tt, (refl, tt)), tt) $
         move ! (2 ∷ []) $ fsplit ! $ move ! (1 ∷ []) $ drop ! $ nothing ! $ nothing ! $ fjoin ! $ move ! (1 ∷ 0 ∷ []) $ fjoin ! $
         move ! (2 ∷ 0 ∷ 1 ∷ []) $ done !)
 
@@ -75,7 +79,9 @@ module _ {M : Type 1} {𝓤 : Ura M} (𝓛 : Logic 𝓤) (mem : Memory → SProp
 meets : {M : Type 1} {𝓤 : Ura M} (𝓛 : Logic 𝓤) (mem : Memory → SProp 𝓤) (run : Routine → Fun 𝓤) (𝓣 : Tables 𝓤 𝓛.H)
     → Meets 𝓛 f.signature (WpFn 𝓤 𝓛.H 𝓣.C 𝓣.Λ code.function) (f.spec 𝓛 mem run)
 meets {𝓤 = 𝓤} 𝓛 mem run 𝓣 =
-    walk_Meets 𝓛 f.ended stayed (Goes-none_ref 𝓛 1 (0 ∷ []) tt (plain (λ _. past.the_row)) yes, (Goes-dropped 𝓛 1 (plain (λ _. u64)) yes (λ κs x w. refl), tt)) (f.clauses 𝓛 mem run) (WpFn 𝓤 𝓛.H 𝓣.C 𝓣.Λ code.function)
+    walk_Meets 𝓛 f.ended stayed
+    (Goes-none_ref 𝓛 1 (0 ∷ []) tt (plain (λ _. past.the_row)) yes, (Goes-dropped 𝓛 1 (plain (λ _. u64)) yes (λ κs x w. refl), tt))
+    (f.clauses 𝓛 mem run) (WpFn 𝓤 𝓛.H 𝓣.C 𝓣.Λ code.function)
     (WpFn-mono 𝓤 𝓛.H 𝓛.laws 𝓣 code.function) (walks 𝓛 mem run 𝓣.C 𝓣.Λ)
 
 pub and_spec : {M : Type 1} → stated.statement M

@@ -1,3 +1,4 @@
+-- `none` picks the number of the new `Past`, 0.
 use mathlib.Core.Path.{refl}
 use mathlib.Core.List.{[], ◌∷◌}
 use seplogic.Ra.Ura.{Ura}
