@@ -10,6 +10,7 @@ use Rattle.lists.specs.Distinct.{AreDistinct}
 use Rattle.fee_rate.specs.declared.limits.TheConstants.{MAX_SIZE}
 use Rattle.graph_model.specs.declared.names.Limits.{Limits}
 use Rattle.graph_model.specs.declared.names.Refusal.{Refusal}
+use Rattle.graph_model.specs.Limits.{bounds_of}
 use Rattle.graph_model.specs.States.{PlainState, Entry, Table, size_of, size_in}
 use Rattle.graph_model.specs.Changes.{with_fee}
 use Rattle.graph_model.specs.Commands.{SetFee}
@@ -97,12 +98,12 @@ pub steps_paid : (old new : Kept) (id : ℕ) (fee : ℤ) → new.limits ≡ old.
     → new.pairs ≡ old.pairs → IsSome (entry_in old.txs id) → ((state : PlainState) → StandsFor old state → RefusalIs state (SetFee id fee) None)
     → Steps old new (SetFee id fee) Done
 steps_paid old new id fee limits begun txs pairs some none =
-    steps_accepted old new (SetFee id fee) Done none
+    steps_accepted old new (SetFee id fee) Done tt none
     (λ table has.
     let paid = has_paid old.txs table id fee some has in (
       with_fee (state_of old table) id fee,
-      record {
-        limits = sym limits;
+      λ valid. record {
+        limits = ap bounds_of (sym limits);
         most = refl;
         begun = sym begun;
         table = λ q. paid.gets q ∙ ap (λ txs. entry_in txs q) (sym txs);
@@ -110,6 +111,8 @@ steps_paid old new id fee limits begun txs pairs some none =
         names = sym (ap names_of txs ∙ names-paying id fee old.txs);
         pairs = sym pairs;
         staging = refl;
+        blocks = refl;
+        valid = valid;
       },
       λ picks. record { answer = refl; change = refl },
     ))

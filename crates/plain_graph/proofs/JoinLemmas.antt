@@ -1,5 +1,5 @@
 -- Refusals of a pair: the rows in which they come.
-use Rattle.std.proofs.Common.{◌≡◌, ℕ, ◌<◌, ◌≤◌, List, length, sym, refl, subst, ap, inl, inr, ◌⊎◌, arith, Option, None, Some}
+use Rattle.std.proofs.Common.{◌≡◌, ℕ, ◌<◌, ◌≤◌, List, length, sym, refl, ap, inl, inr, ◌⊎◌, ◌↔◌, ◌∙◌, arith, Option, None, Some}
 use Rattle.std.specs.Prelude.{Contains, sum_by}
 use Rattle.graph_model.specs.declared.names.Limits.{Limits}
 use Rattle.graph_model.specs.declared.names.Refusal.{Refusal}
@@ -7,13 +7,14 @@ use Rattle.graph_model.specs.declared.names.Refusal.TheVariants.{Unknown, Cycle,
 use Rattle.graphs.specs.Graphs.{IsAncestor, AreConnected}
 use Rattle.graph_model.specs.States.{PlainState, Table, size_of, size_in}
 use Rattle.graph_model.specs.Commands.{Dep}
-use Rattle.graph_model.specs.Refusals.{RefusalIs, JoinsTo, NoRefusal, FirstAt}
+use Rattle.graph_model.specs.Refusals.{RefusalIs, JoinsTo, OverCount, OverSize}
+use Rattle.graph_model.proofs.RowLemmas.{first_at_along}
 use Rattle.graphs.proofs.ListLemmas.{Lists-same}
 use Rattle.plain_graph.specs.declared.tx.Tx.{Tx}
 use Rattle.plain_graph.specs.Plain.{Kept, StandsFor, entry_in}
 use Rattle.plain_graph.specs.Sound.{names_of}
 use Rattle.plain_graph.specs.Joins.{JoinsTooMany, JoinsTooLarge, JoinRefusalIs}
-use Rattle.plain_graph.proofs.Standing.{HasTable, of_states}
+use Rattle.plain_graph.proofs.Standing.{HasTable, state_of, of_states}
 
 -- two lists of a joined component are equal
 same_members : (pairs : List (ℕ × ℕ)) (a b : ℕ) (one other : List ℕ) → JoinsTo pairs a b one → JoinsTo pairs a b other → one ≡ other
@@ -61,8 +62,16 @@ same_sizes txs table has id = ap size_in (has.gets id)
 same_totals : (txs : List Tx) (table : Table) → HasTable txs table → (ids : List ℕ) → sum_by (size_of table) ids ≡ sum_by (λ id. size_in (entry_in txs id)) ids
 same_totals txs table has ids = λ i. sum_by (λ id. same_sizes txs table has id i) ids
 
-same_total_of : (txs : List Tx) (table : Table) → HasTable txs table → ◌≡◌ {A = List ℕ → ℕ} (sum_by (size_of table)) (sum_by (λ id. size_in (entry_in txs id)))
-same_total_of txs table has = λ i ids. same_totals txs table has ids i
+-- a component is over the limits of a state exactly where it is over those of the graph
+over_count : (kept : Kept) (table : Table) (a b n : ℕ) → JoinsTooMany kept.limits kept.pairs a b n ↔ OverCount (state_of kept table) a b n
+over_count kept table a b n = (λ many. (many.0, refl, many.1, many.2, many.3), λ over. (over.0, over.2, over.3, over.4))
+
+over_size : (kept : Kept) (table : Table) → HasTable kept.txs table → (a b n : ℕ)
+    → JoinsTooLarge kept.limits kept.txs kept.pairs a b n ↔ OverSize (state_of kept table) a b n
+over_size kept table has a b n = (
+  λ large. (large.0, refl, large.1, large.2 ∙ sym (same_totals kept.txs table has large.0), large.3),
+  λ over. (over.0, over.2, over.3 ∙ same_totals kept.txs table has over.0, over.4),
+)
 
 -- the row of `dep`, of names that are live and no cycle, ends with the joined component's
 pub dep_join : (kept : Kept) (a b : ℕ) (found : Option Refusal) → Contains (names_of kept.txs) a
@@ -70,15 +79,13 @@ pub dep_join : (kept : Kept) (a b : ℕ) (found : Option Refusal) → Contains (
     → (state : PlainState) → StandsFor kept state → RefusalIs state (Dep a b) found
 dep_join kept a b found here there no_cycle join =
     of_states kept (λ (state : PlainState). RefusalIs state (Dep a b) found)
-    (λ table has. inr (
+    (λ table has valid. inr (
       λ absent. absent here,
       inr (
         λ absent. absent there,
         inr (
           no_cycle,
-          subst (λ (total : List ℕ → ℕ). FirstAt (JoinsTooMany kept.limits kept.pairs a b) Count
-              (FirstAt (λ n. (members : List ℕ) × JoinsTo kept.pairs a b members × (n ≡ total members) × (kept.limits.size < n)) ClusterSize NoRefusal) found)
-              (sym (same_total_of kept.txs table has)) join,
+          first_at_along Count (over_count kept table a b) (first_at_along ClusterSize (over_size kept table has a b) (λ none. none)) join,
         ),
       ),
     ))
@@ -87,13 +94,13 @@ pub dep_cycle : (kept : Kept) (a b : ℕ) → Contains (names_of kept.txs) a →
     → IsAncestor kept.pairs b a → (state : PlainState) → StandsFor kept state → RefusalIs state (Dep a b) (Some Cycle)
 dep_cycle kept a b here there cycle =
     of_states kept (λ (state : PlainState). RefusalIs state (Dep a b) (Some Cycle))
-    (λ table has. inr (λ absent. absent here, inr (λ absent. absent there, inl (cycle, refl))))
+    (λ table has valid. inr (λ absent. absent here, inr (λ absent. absent there, inl (cycle, refl))))
 
 pub dep_no_parent : (kept : Kept) (a b : ℕ) → (Contains (names_of kept.txs) a → ⊥)
     → (state : PlainState) → StandsFor kept state → RefusalIs state (Dep a b) (Some (Unknown a))
-dep_no_parent kept a b absent = of_states kept (λ (state : PlainState). RefusalIs state (Dep a b) (Some (Unknown a))) (λ table has. inl (absent, refl))
+dep_no_parent kept a b absent = of_states kept (λ (state : PlainState). RefusalIs state (Dep a b) (Some (Unknown a))) (λ table has valid. inl (absent, refl))
 
 pub dep_no_child : (kept : Kept) (a b : ℕ) → Contains (names_of kept.txs) a → (Contains (names_of kept.txs) b → ⊥)
     → (state : PlainState) → StandsFor kept state → RefusalIs state (Dep a b) (Some (Unknown b))
 dep_no_child kept a b here absent =
-    of_states kept (λ (state : PlainState). RefusalIs state (Dep a b) (Some (Unknown b))) (λ table has. inr (λ missing. missing here, inl (absent, refl)))
+    of_states kept (λ (state : PlainState). RefusalIs state (Dep a b) (Some (Unknown b))) (λ table has valid. inr (λ missing. missing here, inl (absent, refl)))

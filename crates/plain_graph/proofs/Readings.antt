@@ -8,6 +8,8 @@ use Rattle.graph_model.specs.declared.names.Refusal.{Refusal}
 use Rattle.graph_model.specs.declared.names.Refusal.TheVariants.{Unknown}
 use Rattle.graphs.specs.Graphs.{Graph, IsAncestor, AreConnected, Lists}
 use Rattle.graph_model.specs.States.{PlainState, Table, level_of, with_top}
+use Rattle.graph_model.specs.Limits.{bounds_of}
+use Rattle.graph_model.specs.Validity.{IsValid}
 use Rattle.graph_model.specs.Changes.{begun}
 use Rattle.graph_model.specs.Commands.{Dep, Cluster, Ancestors, Descendants}
 use Rattle.graph_model.specs.Refusals.{RefusalIs}
@@ -20,7 +22,7 @@ use Rattle.plain_graph.specs.Plain.{Kept, StandsFor, Steps, entry_in}
 use Rattle.plain_graph.specs.Sound.{names_of, IsSound}
 use Rattle.plain_graph.specs.Walks.{Reaches}
 use Rattle.lists.proofs.Distinct.{distinct_push}
-use Rattle.plain_graph.proofs.Standing.{IsSameGraph, HasTable, state_of, of_states, stands_for, stands_still, level-main, steps_refused, steps_accepted}
+use Rattle.plain_graph.proofs.Standing.{IsSameGraph, HasTable, state_of, of_states, stands_for, stands_still, level-main, not_over, steps_refused, steps_accepted}
 
 pub same_but_found : (old new : Kept) (ids : List ℕ) → new ≡ record old { found = ids } → IsSameGraph old new
 same_but_found old new ids same = record {
@@ -31,10 +33,11 @@ same_but_found old new ids same = record {
 }
 
 -- the new graph stands for the state with these pairs, after a change
-stands_changed : (old new : Kept) (table : Table) (pairs : List (ℕ × ℕ)) → HasTable old.txs table → new.limits ≡ old.limits → new.begun ≡ true → new.txs
-    ≡ old.txs → new.pairs ≡ pairs → StandsFor new (record (state_of old table) { begun = true; main = record { names = names_of old.txs; pairs = pairs } })
-stands_changed old new table pairs has limits begun txs same = record {
-  limits = sym limits;
+stands_changed : (old new : Kept) (table : Table) (pairs : List (ℕ × ℕ)) → HasTable old.txs table → new.limits ≡ old.limits → new.begun ≡ true
+    → new.txs ≡ old.txs → new.pairs ≡ pairs → IsValid (record (state_of old table) { begun = true; main = record { names = names_of old.txs; pairs = pairs } })
+    → StandsFor new (record (state_of old table) { begun = true; main = record { names = names_of old.txs; pairs = pairs } })
+stands_changed old new table pairs has limits begun txs same valid = record {
+  limits = ap bounds_of (sym limits);
   most = refl;
   begun = sym begun;
   table = λ id. has.gets id ∙ ap (λ (txs : List Tx). entry_in txs id) (sym txs);
@@ -42,25 +45,27 @@ stands_changed old new table pairs has limits begun txs same = record {
   names = ap names_of (sym txs);
   pairs = sym same;
   staging = refl;
+  blocks = refl;
+  valid = valid;
 }
 
 pub steps_paired_again : (old new : Kept) (a b : ℕ) → new.limits ≡ old.limits → new.begun ≡ true → new.txs ≡ old.txs → new.pairs ≡ old.pairs
     → Contains old.pairs (a, b) → ((state : PlainState) → StandsFor old state → RefusalIs state (Dep a b) None) → Steps old new (Dep a b) Done
 steps_paired_again old new a b limits begins txs pairs here none =
-    steps_accepted old new (Dep a b) Done none
+    steps_accepted old new (Dep a b) Done tt none
     (λ table has. (
       begun (state_of old table),
-      stands_changed old new table old.pairs has limits begins txs pairs,
+      λ valid. stands_changed old new table old.pairs has limits begins txs pairs valid,
       λ picks. record { answer = refl; change = inl (here, refl) },
     ))
 
 pub steps_paired : (old new : Kept) (a b : ℕ) → new.limits ≡ old.limits → new.begun ≡ true → new.txs ≡ old.txs → new.pairs ≡ old.pairs ++ (a, b) ∷ []
     → (Contains old.pairs (a, b) → ⊥) → ((state : PlainState) → StandsFor old state → RefusalIs state (Dep a b) None) → Steps old new (Dep a b) Done
 steps_paired old new a b limits begins txs pairs absent none =
-    steps_accepted old new (Dep a b) Done none
+    steps_accepted old new (Dep a b) Done tt none
     (λ table has. (
       with_top (begun (state_of old table)) (record { names = names_of old.txs; pairs = old.pairs ++ (a, b) ∷ [] }),
-      stands_changed old new table (old.pairs ++ (a, b) ∷ []) has limits begins txs pairs,
+      λ valid. stands_changed old new table (old.pairs ++ (a, b) ∷ []) has limits begins txs pairs valid,
       λ picks. record { answer = refl; change = inr (absent, refl) },
     ))
 
@@ -95,11 +100,11 @@ is_read kept level id table here absent = subst (λ (at : Graph). Contains at.na
 steps_up : (old new : Kept) (level : Level) (id : ℕ) → IsSameGraph old new → Contains (names_of old.txs) id
     → Lists (λ a. IsAncestor old.pairs a id) new.found → Steps old new (Ancestors id level) (Ids new.found)
 steps_up old new level id same here lists =
-    steps_accepted old new (Ancestors id level) (Ids new.found)
-    (of_states old (λ (state : PlainState). RefusalIs state (Ancestors id level) None) (λ table has. inr (is_read old level id table here, refl)))
+    steps_accepted old new (Ancestors id level) (Ids new.found) tt
+    (of_states old (λ (state : PlainState). RefusalIs state (Ancestors id level) None) (λ table has valid. inr (is_read old level id table here, inr (not_over old table level valid, refl))))
     (λ table has. (
       state_of old table,
-      stands_still old new same (state_of old table) (stands_for old table has),
+      λ valid. stands_still old new same (state_of old table) (stands_for old table has valid),
       λ picks.
           record {
             answer = (new.found, subst (λ (at : Graph). Lists (λ a. IsAncestor at.pairs a id) new.found) (sym (level-main old table level)) lists, refl);
@@ -110,11 +115,11 @@ steps_up old new level id same here lists =
 steps_down : (old new : Kept) (level : Level) (id : ℕ) → IsSameGraph old new → Contains (names_of old.txs) id
     → Lists (λ d. IsAncestor old.pairs id d) new.found → Steps old new (Descendants id level) (Ids new.found)
 steps_down old new level id same here lists =
-    steps_accepted old new (Descendants id level) (Ids new.found)
-    (of_states old (λ (state : PlainState). RefusalIs state (Descendants id level) None) (λ table has. inr (is_read old level id table here, refl)))
+    steps_accepted old new (Descendants id level) (Ids new.found) tt
+    (of_states old (λ (state : PlainState). RefusalIs state (Descendants id level) None) (λ table has valid. inr (is_read old level id table here, inr (not_over old table level valid, refl))))
     (λ table has. (
       state_of old table,
-      stands_still old new same (state_of old table) (stands_for old table has),
+      λ valid. stands_still old new same (state_of old table) (stands_for old table has valid),
       λ picks.
           record {
             answer = (new.found, subst (λ (at : Graph). Lists (λ d. IsAncestor at.pairs id d) new.found) (sym (level-main old table level)) lists, refl);
@@ -125,11 +130,11 @@ steps_down old new level id same here lists =
 steps_around : (old new : Kept) (level : Level) (id : ℕ) → IsSameGraph old new → Contains (names_of old.txs) id
     → Lists (AreConnected old.pairs id) new.found → Steps old new (Cluster id level) (Ids new.found)
 steps_around old new level id same here lists =
-    steps_accepted old new (Cluster id level) (Ids new.found)
-    (of_states old (λ (state : PlainState). RefusalIs state (Cluster id level) None) (λ table has. inr (is_read old level id table here, refl)))
+    steps_accepted old new (Cluster id level) (Ids new.found) tt
+    (of_states old (λ (state : PlainState). RefusalIs state (Cluster id level) None) (λ table has valid. inr (is_read old level id table here, inr (not_over old table level valid, refl))))
     (λ table has. (
       state_of old table,
-      stands_still old new same (state_of old table) (stands_for old table has),
+      λ valid. stands_still old new same (state_of old table) (stands_for old table has valid),
       λ picks.
           record {
             answer = (new.found, subst (λ (at : Graph). Lists (AreConnected at.pairs id) new.found) (sym (level-main old table level)) lists, refl);
@@ -149,7 +154,7 @@ steps_ancestors old new level id (Ok done) same reads = steps_up old new level i
 steps_ancestors old new level id (Err why) same reads =
     steps_refused old new (Ancestors id level) why same
     (of_states old (λ (state : PlainState). RefusalIs state (Ancestors id level) (Some why))
-    (λ table has. inl (unread old level id table reads.0, ap Some reads.1)))
+    (λ table has valid. inl (unread old level id table reads.0, ap Some reads.1)))
 
 pub steps_descendants : {T : Type 0} (old new : Kept) (level : Level) (id : ℕ) (result : Result T Refusal)
     → IsSameGraph old new → Reads Down old new id result → Steps old new (Descendants id level) (names_reply result new.found)
@@ -157,7 +162,7 @@ steps_descendants old new level id (Ok done) same reads = steps_down old new lev
 steps_descendants old new level id (Err why) same reads =
     steps_refused old new (Descendants id level) why same
     (of_states old (λ (state : PlainState). RefusalIs state (Descendants id level) (Some why))
-    (λ table has. inl (unread old level id table reads.0, ap Some reads.1)))
+    (λ table has valid. inl (unread old level id table reads.0, ap Some reads.1)))
 
 pub steps_cluster : {T : Type 0} (old new : Kept) (level : Level) (id : ℕ) (result : Result T Refusal) → IsSameGraph old new
     → Reads Either old new id result → Steps old new (Cluster id level) (names_reply result new.found)
@@ -165,4 +170,4 @@ steps_cluster old new level id (Ok done) same reads = steps_around old new level
 steps_cluster old new level id (Err why) same reads =
     steps_refused old new (Cluster id level) why same
     (of_states old (λ (state : PlainState). RefusalIs state (Cluster id level) (Some why))
-    (λ table has. inl (unread old level id table reads.0, ap Some reads.1)))
+    (λ table has valid. inl (unread old level id table reads.0, ap Some reads.1)))

@@ -11,6 +11,7 @@ use Rattle.fee_rate.specs.declared.limits.TheConstants.{MAX_SIZE}
 use Rattle.graph_model.specs.declared.names.Limits.{Limits}
 use Rattle.graph_model.specs.declared.names.Refusal.TheVariants.{Unknown}
 use Rattle.graphs.specs.Graphs.{Graph}
+use Rattle.graph_model.specs.Limits.{bounds_of}
 use Rattle.graph_model.specs.States.{PlainState, Entry, Table, with_top}
 use Rattle.graphs.specs.Removals.{IsWithout}
 use Rattle.graph_model.specs.Changes.{begun, Forgets}
@@ -153,10 +154,10 @@ is_without id txs old new once pairs = record {
 
 pub remove_unknown : (kept : Kept) (id : ℕ) → (Contains (names_of kept.txs) id → ⊥)
     → (state : PlainState) → StandsFor kept state → RefusalIs state (Remove id) (Some (Unknown id))
-remove_unknown kept id absent = of_states kept (λ (state : PlainState). RefusalIs state (Remove id) (Some (Unknown id))) (λ table has. inl (absent, refl))
+remove_unknown kept id absent = of_states kept (λ (state : PlainState). RefusalIs state (Remove id) (Some (Unknown id))) (λ table has valid. inl (absent, refl))
 
 pub remove_unrefused : (kept : Kept) (id : ℕ) → Contains (names_of kept.txs) id → (state : PlainState) → StandsFor kept state → RefusalIs state (Remove id) None
-remove_unrefused kept id here = of_states kept (λ (state : PlainState). RefusalIs state (Remove id) None) (λ table has. inr (λ absent. absent here, refl))
+remove_unrefused kept id here = of_states kept (λ (state : PlainState). RefusalIs state (Remove id) None) (λ table has valid. inr (λ absent. absent here, refl))
 
 no_entry_of : (txs : List Tx) (q : ℕ) → (Contains (names_of txs) q → ⊥) → entry_in txs q ≡ None
 no_entry_of txs q absent = none_from (entry_in txs q) (λ some. absent (entry-Contains txs q some))
@@ -182,15 +183,15 @@ forgets old table id pairs dropped has =
 pub steps_removed : (old new : Kept) (id : ℕ) → new.limits ≡ old.limits → new.begun ≡ true → new.txs ≡ without_name id old.txs
     → ArePairsWithout old.pairs id new.pairs → AreDistinct (names_of old.txs) → Contains (names_of old.txs) id → Steps old new (Remove id) Done
 steps_removed old new id limits begins txs pairs once here =
-    steps_accepted old new (Remove id) Done
+    steps_accepted old new (Remove id) Done tt
     (remove_unrefused old id here)
     (λ table has.
     let dropped = has_dropped old.txs table id once here has in
     let graph : Graph = graph_without id old.txs new.pairs in
     let left : PlainState = with_top (begun (state_of old table)) graph in (
       record left { table = finmap.remove table id },
-      record {
-        limits = sym limits;
+      λ valid. record {
+        limits = ap bounds_of (sym limits);
         most = refl;
         begun = sym begins;
         table = λ q. dropped.gets q ∙ ap (λ txs. entry_in txs q) (sym txs);
@@ -198,6 +199,8 @@ steps_removed old new id limits begins txs pairs once here =
         names = sym (ap names_of txs);
         pairs = refl;
         staging = refl;
+        blocks = refl;
+        valid = valid;
       },
       λ picks. record { answer = refl; change = (graph, is_without id old.txs old.pairs new.pairs once pairs, forgets old table id new.pairs dropped has) },
     ))

@@ -1,5 +1,5 @@
 -- Which states a plain graph stands for, and the steps of the machine that its calls are.
-use Rattle.std.proofs.Common.{◌≡◌, ℕ, ℤ, ◌+◌, ◌≤◌, true, false, cond, eqb, List, [], ◌∷◌, ◌++◌, length, sym, refl, ap, subst, ◌∙◌, inl, inr, Option, None, Some}
+use Rattle.std.proofs.Common.{◌≡◌, ℕ, ℤ, ◌+◌, ◌^◌, ◌<◌, ◌≤◌, arith, true, false, cond, eqb, List, [], ◌∷◌, ◌++◌, length, sym, refl, ap, subst, ◌∙◌, inl, inr, Option, None, Some}
 use Rattle.std.proofs.lemmas.List.Elements.{All-push, Contains-append_left}
 use Rattle.lists.specs.Distinct.{AreDistinct}
 use Rattle.fee_rate.specs.declared.limits.TheConstants.{MAX_SIZE}
@@ -13,15 +13,19 @@ use Rattle.graph_model.specs.declared.names.Refusal.{Refusal}
 use Rattle.graph_model.specs.declared.names.Refusal.TheVariants.{Memory}
 use Rattle.graphs.specs.Graphs.{Graph}
 use Rattle.graph_model.specs.States.{PlainState, Picks, Table, Entry, level_of, plain_start}
-use Rattle.graph_model.specs.declared.limits.TheConstants.{MAX_COUNT}
 use Rattle.graph_model.specs.Changes.{added, limited}
 use Rattle.graph_model.specs.Commands.{Command, SetLimits, Add, Count}
-use Rattle.graph_model.specs.Limits.{default_limits}
+use Rattle.graph_model.specs.declared.limits.TheConstants.{DEFAULT_LIMITS}
+use Rattle.graph_model.specs.Limits.{bounds_of}
+use Rattle.graph_model.specs.Oversize.{IsOversized}
+use Rattle.graph_model.specs.Validity.{IsValid}
 use Rattle.graphs.specs.declared.names.Level.{Level}
 use Rattle.graphs.specs.declared.names.Level.TheVariants.{Main, Top}
 use Rattle.graph_model.specs.Refusals.{RefusalIs}
 use Rattle.graph_model.specs.Replies.{Reply, Refused, Done, Number}
 use Rattle.graph_model.specs.Steps.{AcceptsPlainly, MayLackMemory}
+use Rattle.graph_model.proofs.StepLemmas.{AddsSmall, valid_plain, steps_keep_valid}
+use Rattle.plain_graph.specs.declared.limits.TheConstants.{MAX_NAMES}
 use Rattle.plain_graph.specs.declared.tx.Tx.{Tx}
 use Rattle.plain_graph.specs.Plain.{Kept, StandsFor, Steps, entry_in}
 use Rattle.plain_graph.specs.Sound.{names_of, IsSound}
@@ -37,19 +41,31 @@ pub record HasTable (txs : List Tx) (table : Table) : Type 0 where
 abbrev pub state_of : Kept → Table → PlainState
 state_of kept table =
     record {
-      limits = kept.limits;
-      most = MAX_COUNT;
+      limits = bounds_of kept.limits;
+      most = MAX_NAMES;
       begun = kept.begun;
       table = table;
       main = record { names = names_of kept.txs; pairs = kept.pairs };
       staging = None;
+      blocks = [];
     }
 
-pub stands_for : (kept : Kept) (table : Table) → HasTable kept.txs table → StandsFor kept (state_of kept table)
-stands_for kept table has = record { limits = refl; most = refl; begun = refl; table = has.gets; live = has.live; names = refl; pairs = refl; staging = refl }
+pub stands_for : (kept : Kept) (table : Table) → HasTable kept.txs table → IsValid (state_of kept table) → StandsFor kept (state_of kept table)
+stands_for kept table has valid = record {
+  limits = refl;
+  most = refl;
+  begun = refl;
+  table = has.gets;
+  live = has.live;
+  names = refl;
+  pairs = refl;
+  staging = refl;
+  blocks = refl;
+  valid = valid;
+}
 
--- What holds of each state that has the graph's parts holds of each that it stands for.
-pub of_states : (kept : Kept) (P : PlainState → Type 0) → ((table : Table) → HasTable kept.txs table → P (state_of kept table))
+-- What holds of each valid state that has the graph's parts holds of each that it stands for.
+pub of_states : (kept : Kept) (P : PlainState → Type 0) → ((table : Table) → HasTable kept.txs table → IsValid (state_of kept table) → P (state_of kept table))
     → (state : PlainState) → StandsFor kept state → P state
 of_states kept P holds state stands =
     let same : state_of kept state.table ≡ state =
@@ -60,8 +76,9 @@ of_states kept P holds state stands =
       table = state.table;
       main = record { names = sym stands.names i; pairs = sym stands.pairs i };
       staging = sym stands.staging i;
+      blocks = sym stands.blocks i;
     } in
-    subst P same (holds state.table (record { gets = stands.table; live = stands.live }))
+    subst P same (holds state.table (record { gets = stands.table; live = stands.live }) (subst IsValid (sym same) stands.valid))
 
 -- two graphs that differ at most in what the last reading found and in the count of additions
 pub record IsSameGraph (old new : Kept) : Type 0 where
@@ -78,7 +95,7 @@ itself kept = record { limits = refl; begun = refl; txs = refl; pairs = refl }
 
 pub stands_still : (old new : Kept) → IsSameGraph old new → (state : PlainState) → StandsFor old state → StandsFor new state
 stands_still old new same state stands = record {
-  limits = stands.limits ∙ sym same.limits;
+  limits = stands.limits ∙ ap bounds_of (sym same.limits);
   most = stands.most;
   begun = stands.begun ∙ sym same.begun;
   table = λ id. stands.table id ∙ ap (λ txs. entry_in txs id) (sym same.txs);
@@ -86,6 +103,8 @@ stands_still old new same state stands = record {
   names = stands.names ∙ ap names_of (sym same.txs);
   pairs = stands.pairs ∙ sym same.pairs;
   staging = stands.staging;
+  blocks = stands.blocks;
+  valid = stands.valid;
 }
 
 pub steps_refused : (old new : Kept) (command : Command) (why : Refusal) → IsSameGraph old new
@@ -96,16 +115,20 @@ steps_refused old new command why same refused state stands =
 pub steps_without_memory : (old new : Kept) (command : Command) → IsSameGraph old new → MayLackMemory command
     → ((state : PlainState) → StandsFor old state → RefusalIs state command None) → Steps old new command (Refused Memory)
 steps_without_memory old new command same may none state stands =
-    (state, stands_still old new same state stands, λ picks. inr (inl (record { none = none state stands; may = may; told = refl; same = refl })))
+    (state, stands_still old new same state stands, λ picks. inr (inl (inl (record { none = none state stands; may = may; told = refl; same = refl }))))
 
-pub steps_accepted : (old new : Kept) (command : Command) (reply : Reply) → ((state : PlainState) → StandsFor old state → RefusalIs state command None)
-    → ((table : Table) → HasTable old.txs table
-    → (next : PlainState) × StandsFor new next × ((picks : Picks) → AcceptsPlainly picks (state_of old table) command reply next)) → Steps old new command reply
-steps_accepted old new command reply none accepts state stands =
+-- what follows an accepted command is valid, whatever the picks are
+pub steps_accepted : (old new : Kept) (command : Command) (reply : Reply) → AddsSmall command
+    → ((state : PlainState) → StandsFor old state → RefusalIs state command None) → ((table : Table) → HasTable old.txs table
+    → (next : PlainState) × (IsValid next → StandsFor new next) × ((picks : Picks) → AcceptsPlainly picks (state_of old table) command reply next))
+    → Steps old new command reply
+steps_accepted old new command reply small none accepts state stands =
     let P : PlainState → Type 0 =
-    λ (state : PlainState). (next : PlainState) × StandsFor new next × ((picks : Picks) → AcceptsPlainly picks state command reply next) in
-    let next : P state = of_states old P accepts state stands in
-    (next.0, next.1, λ picks. inr (inr (record { none = none state stands; accepts = next.2 picks })))
+    λ (state : PlainState). (next : PlainState) × (IsValid next → StandsFor new next) × ((picks : Picks) → AcceptsPlainly picks state command reply next) in
+    let next : P state = of_states old P (λ table has valid. accepts table has) state stands in
+    let any : Picks = record { main = None; staging = None } in
+    let valid : IsValid next.0 = valid_plain any state next.0 command small stands.valid (none state stands) (next.2 any).change in
+    (next.0, next.1 valid, λ picks. inr (inr (record { none = none state stands; accepts = next.2 picks })))
 
 -- the table with one more name
 has_one_more : (txs : List Tx) (tx : Tx) (table : Table) → entry_in txs tx.id ≡ None
@@ -122,15 +145,15 @@ has_one_more txs tx table none has = record {
 }
 
 pub steps_added : (old new : Kept) (tx : Tx) → new.limits ≡ old.limits → new.begun ≡ true
-    → new.txs ≡ old.txs ++ tx ∷ [] → new.pairs ≡ old.pairs → entry_in old.txs tx.id ≡ None
+    → new.txs ≡ old.txs ++ tx ∷ [] → new.pairs ≡ old.pairs → entry_in old.txs tx.id ≡ None → tx.id < 2 ^ 64
     → ((state : PlainState) → StandsFor old state → RefusalIs state (Add tx.id tx.fee tx.size) None) → Steps old new (Add tx.id tx.fee tx.size) Done
-steps_added old new tx limits begun txs pairs none unrefused =
-    steps_accepted old new (Add tx.id tx.fee tx.size) Done unrefused
+steps_added old new tx limits begun txs pairs none small unrefused =
+    steps_accepted old new (Add tx.id tx.fee tx.size) Done small unrefused
     (λ table has.
     let more : HasTable (old.txs ++ tx ∷ []) (finmap.insert table tx.id (entry_of tx)) = has_one_more old.txs tx table none has in (
       added (state_of old table) tx.id tx.fee tx.size,
-      record {
-        limits = sym limits;
+      λ valid. record {
+        limits = ap bounds_of (sym limits);
         most = refl;
         begun = sym begun;
         table = λ id. more.gets id ∙ ap (λ txs. entry_in txs id) (sym txs);
@@ -138,19 +161,20 @@ steps_added old new tx limits begun txs pairs none unrefused =
         names = sym (ap names_of txs ∙ map_push (λ (tx : Tx). tx.id) old.txs tx);
         pairs = sym pairs;
         staging = refl;
+        blocks = refl;
+        valid = valid;
       },
       λ picks. record { answer = refl; change = refl },
     ))
 
 pub steps_limited : (old new : Kept) (limits : Limits) → new.limits ≡ limits → new.begun ≡ true → new.txs ≡ old.txs → new.pairs ≡ old.pairs
-    → ((state : PlainState) → StandsFor old state → RefusalIs state (SetLimits limits.count limits.size limits.total) None)
-    → Steps old new (SetLimits limits.count limits.size limits.total) Done
+    → ((state : PlainState) → StandsFor old state → RefusalIs state (SetLimits (bounds_of limits)) None) → Steps old new (SetLimits (bounds_of limits)) Done
 steps_limited old new limits is begun txs pairs none =
-    steps_accepted old new (SetLimits limits.count limits.size limits.total) Done none
+    steps_accepted old new (SetLimits (bounds_of limits)) Done tt none
     (λ table has. (
-      limited (state_of old table) limits,
-      record {
-        limits = sym is;
+      limited (state_of old table) (bounds_of limits),
+      λ valid. record {
+        limits = ap bounds_of (sym is);
         most = refl;
         begun = sym begun;
         table = λ id. has.gets id ∙ ap (λ txs. entry_in txs id) (sym txs);
@@ -158,21 +182,25 @@ steps_limited old new limits is begun txs pairs none =
         names = ap names_of (sym txs);
         pairs = sym pairs;
         staging = refl;
+        blocks = refl;
+        valid = valid;
       },
       λ picks. record { answer = refl; change = refl },
     ))
 
-pub stands_at_start : (kept : Kept) → kept.limits ≡ default_limits → kept.begun ≡ false
-    → kept.txs ≡ [] → kept.pairs ≡ [] → StandsFor kept (plain_start MAX_COUNT)
+pub stands_at_start : (kept : Kept) → kept.limits ≡ DEFAULT_LIMITS → kept.begun ≡ false
+    → kept.txs ≡ [] → kept.pairs ≡ [] → StandsFor kept (plain_start MAX_NAMES)
 stands_at_start kept limits begun txs pairs = record {
   most = refl;
-  limits = sym limits;
+  limits = ap bounds_of (sym limits);
   begun = sym begun;
   table = λ id. finmap.get-empty nat_cmp id ∙ ap (λ txs. entry_in txs id) (sym txs);
   live = finmap.len-empty nat_cmp Entry ∙ ap length (sym txs);
   names = ap names_of (sym txs);
   pairs = sym pairs;
   staging = refl;
+  blocks = refl;
+  valid = (steps_keep_valid.begins MAX_NAMES (omega arith) (omega arith)).plain;
 }
 
 -- without a staging level both words speak of main
@@ -180,12 +208,17 @@ pub level-main : (kept : Kept) (table : Table) (level : Level) → level_of (sta
 level-main kept table Main = refl
 level-main kept table Top = refl
 
+-- no component is over the limits, which no dependency may pass
+pub not_over : (kept : Kept) (table : Table) (level : Level) → IsValid (state_of kept table) → IsOversized (state_of kept table) level → ⊥
+not_over kept table Main valid over = valid.main.within refl over
+not_over kept table Top valid over = valid.main.within refl over
+
 pub steps_counted : (kept : Kept) (level : Level) (n : ℕ) → n ≡ length kept.txs → Steps kept kept (Count level) (Number n)
 steps_counted kept level n same =
-    steps_accepted kept kept (Count level) (Number n) (λ state stands. refl)
+    steps_accepted kept kept (Count level) (Number n) tt (λ state stands. refl)
     (λ table has. (
       state_of kept table,
-      stands_for kept table has,
+      λ valid. stands_for kept table has valid,
       λ picks. record {
         answer = ap Number (same ∙ sym (length-map kept.txs (λ (tx : Tx). tx.id)) ∙ ap (λ (of : Graph). length of.names) (sym (level-main kept table level)));
         change = refl;

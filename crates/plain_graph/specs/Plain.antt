@@ -3,11 +3,13 @@
 use Rattle.std.specs.Prelude.{◌≡◌, ℕ, Bool, List, [], ◌∷◌, map, length, Option, None, Some, ◌==◌, if◌then◌else◌}
 use Rattle.std.specs.FinMap as finmap
 use Rattle.graph_model.specs.declared.names.Limits.{Limits}
+use Rattle.graph_model.specs.Limits.{bounds_of}
 use Rattle.graph_model.specs.States.{PlainState, Entry}
 use Rattle.graph_model.specs.Commands.{Command}
 use Rattle.graph_model.specs.Replies.{Reply}
 use Rattle.graph_model.specs.Runs.{BuiltStep}
-use Rattle.graph_model.specs.declared.limits.TheConstants.{MAX_COUNT}
+use Rattle.graph_model.specs.Validity.{IsValid}
+use Rattle.plain_graph.specs.declared.limits.TheConstants.{MAX_NAMES}
 use Rattle.plain_graph.specs.declared.tx.Tx.{Tx}
 
 -- what the plain graph keeps
@@ -26,16 +28,18 @@ abbrev pub entry_in : List Tx → ℕ → Option Entry
 entry_in [] id = None
 entry_in (tx ∷ txs) id = if tx.id == id then Some (record { fee = tx.fee; size = tx.size }) else entry_in txs id
 
--- a plain graph stands for the state with its names in their order, its pairs and its table
+-- A plain graph stands for the valid state with its names in their order, its pairs and its table. No block of it was mined.
 pub record StandsFor (kept : Kept) (state : PlainState) : Type 0 where
-  pub limits : state.limits ≡ kept.limits
-  pub most : state.most ≡ MAX_COUNT
+  pub limits : state.limits ≡ bounds_of kept.limits
+  pub most : state.most ≡ MAX_NAMES
   pub begun : state.begun ≡ kept.begun
   pub table : (id : ℕ) → finmap.get state.table id ≡ entry_in kept.txs id
   pub live : finmap.len state.table ≡ length kept.txs
   pub names : state.main.names ≡ map (λ tx. tx.id) kept.txs
   pub pairs : state.main.pairs ≡ kept.pairs
   pub staging : state.staging ≡ None
+  pub blocks : state.blocks ≡ []
+  pub valid : IsValid state
 
 -- From every state that the graph stood for, the call is a step of the machine to one that it stands for now.
 abbrev pub Steps : Kept → Kept → Command → Reply → Type 0

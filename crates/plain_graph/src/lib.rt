@@ -2,10 +2,12 @@
 //! program that the definitions name, beside which every faster one is tested.
 #![tactic(auto)]
 
+mod limits;
 mod pairs;
 mod plain;
 mod tx;
 mod txs;
 mod walk;
 
+pub use limits::MAX_NAMES;
 pub use plain::Plain;

@@ -1,7 +1,7 @@
 ghost use Rattle.std.specs.Prelude.{◌≡◌, ◌+◌, ◌-◌, ◌*◌, ◌^◌, ◌<◌, ◌≤◌, false, [], ◌∷◌, length, IfOk, OnOk, if◌then◌else◌, is_ok, MatchResult, Contains, IsSome};
 ghost use Rattle.fee_rate.specs.declared.limits.TheConstants.{MAX_SIZE};
-ghost use Rattle.graph_model.specs.Limits.{AreInRange};
-ghost use Rattle.graph_model.specs.declared.limits.TheConstants.{MAX_COUNT};
+ghost use Rattle.graph_model.specs.Limits.{AreInRange, bounds_of};
+ghost use Rattle.plain_graph.specs.declared.limits.TheConstants.{MAX_NAMES};
 ghost use Rattle.graphs.specs.Graphs.{AreConnected};
 ghost use Rattle.plain_graph.specs.Walks.{HoldsAll};
 ghost use Rattle.plain_graph.specs.Sound.{AreSmall};
@@ -9,6 +9,7 @@ ghost use Rattle.plain_graph.specs.Joins.{JoinRefusalIs};
 ghost use Rattle.graph_model.specs.Commands.{SetLimits, Add, Dep, SetFee, Remove, Cluster, Ancestors, Descendants, Count};
 ghost use Rattle.graph_model.specs.Replies.{Number};
 
+use crate::limits::MAX_NAMES;
 use crate::pairs::without;
 use crate::tx::Tx;
 use crate::txs::{drop_name, is_live, set_fee, total_size};
@@ -63,7 +64,7 @@ fn refused_join(
     parent: TxId,
     child: TxId,
 ) -> Option<Refusal>
-    requires in_range { AreInRange MAX_COUNT limits.now }
+    requires in_range { AreInRange MAX_NAMES (bounds_of limits.now) }
     requires small { AreSmall txs.now }
     requires apart { AreConnected pairs.now parent child → ⊥ }
     requires room { HoldsAll pairs.now (parent ∷ child ∷ []) (length found.old.ids + found.old.room) }
@@ -94,7 +95,7 @@ impl Plain {
     /// An empty graph with the default limits: clusters of at most 64 names and 404,000 virtual
     /// bytes, and 1,048,576 live names. Fails where there is no memory for its first room.
     pub fn new(alloc: Global) -> Result<Plain, NoMemory>
-        ensures start { IfOk result (λ graph. StandsFor graph (plain_start MAX_COUNT)) }
+        ensures start { IfOk result (λ graph. StandsFor graph (plain_start MAX_NAMES)) }
         ensures additions { IfOk result (λ graph. graph.additions ≡ 0) }
     {
         Ok(Plain {
@@ -137,13 +138,13 @@ impl Plain {
     /// Why `set_limits` is refused.
     fn refused_limits(&self, limits: &Limits) -> Option<Refusal>
         ensures first { (state : PlainState) → StandsFor self.now state
-            → RefusalIs state (SetLimits limits.now.count limits.now.size limits.now.total) result }
-        ensures in_range { result ≡ None → AreInRange MAX_COUNT limits.now }
+            → RefusalIs state (SetLimits (bounds_of limits.now)) result }
+        ensures in_range { result ≡ None → AreInRange MAX_NAMES (bounds_of limits.now) }
     {
         if self.begun {
             return Some(Refusal::Late);
         }
-        if !limits.are_in_range() {
+        if !limits.are_in_range(MAX_NAMES) {
             return Some(Refusal::Range);
         }
         None
@@ -154,7 +155,7 @@ impl Plain {
     /// Refused with `Late` where a change was accepted before, limits among them, and else with
     /// `Range` where a limit is outside its range. The graph stays as it was then.
     pub fn set_limits(&mut self, limits: Limits) -> Result<(), Refusal>
-        ensures step { Steps self.old self.new (SetLimits limits.count limits.size limits.total) (change_reply result) }
+        ensures step { Steps self.old self.new (SetLimits (bounds_of limits)) (change_reply result) }
         ensures additions { self.new.additions ≡ self.old.additions }
     {
         if let Some(why) = self.refused_limits(&limits) {

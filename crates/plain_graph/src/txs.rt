@@ -1,5 +1,6 @@
 ghost use Rattle.std.specs.Prelude.{◌≡◌, ◌≤◌, ◌↔◌, map, is_some, sum_by, length, IsTrue, Contains};
 ghost use Rattle.graph_model.specs.States.{size_in};
+ghost use Rattle.plain_graph.specs.declared.limits.TheConstants.{MAX_NAMES};
 ghost use Rattle.plain_graph.specs.Plain.{entry_in};
 ghost use Rattle.plain_graph.specs.Sound.{names_of, AreSmall};
 ghost use Rattle.plain_graph.specs.Rests.{paying, without_name};
@@ -34,7 +35,7 @@ pub fn size_of(txs: &[Tx], id: TxId) -> u64
 
 /// The total size of names, in virtual bytes.
 pub fn total_size(txs: &[Tx], ids: &[TxId]) -> u64
-    requires few { length ids.now ≤ 64 }
+    requires few { length ids.now ≤ MAX_NAMES }
     requires small { AreSmall txs.now }
     ensures { result ≡ sum_by (λ id. size_in (entry_in txs.now id)) ids.now }
 {

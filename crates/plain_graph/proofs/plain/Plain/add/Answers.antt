@@ -48,5 +48,5 @@ returns-clause-step c =
     let tx : Tx = record { id = c.args.id; fee = c.args.fee; size = c.args.size } in
     let pushed : c.push.new.self.items ≡ c.self.inside.txs.items ++ record { id = c.args.id; fee = c.args.fee; size = c.args.size } ∷ [] = search rules in
     steps_added c.args.self.now _ tx (ap (λ (kept : Kept). kept.limits) c.self.view_is) refl
-    (pushed ∙ ap (λ (kept : Kept). kept.txs ++ tx ∷ []) c.self.view_is) (ap (λ (kept : Kept). kept.pairs) c.self.view_is) (c.in_default.ensures.new_name refl)
+    (pushed ∙ ap (λ (kept : Kept). kept.txs ++ tx ∷ []) c.self.view_is) (ap (λ (kept : Kept). kept.pairs) c.self.view_is) (c.in_default.ensures.new_name refl) (search rules)
     (at_fee c.args.self.now c.args.id _ c.args.fee c.args.size _ (to_z-of_z c.ranges.fee) c.in_default.ensures.first)

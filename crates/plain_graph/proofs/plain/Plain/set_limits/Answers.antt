@@ -1,4 +1,5 @@
 use Rattle.std.proofs.Common.{refl, ap}
+use Rattle.graph_model.specs.Limits.{bounds_of}
 use Rattle.graph_model.specs.Commands.{SetLimits}
 use Rattle.plain_graph.specs.Plain.{Kept}
 use Rattle.plain_graph.proofs.Standing.{itself, steps_refused, steps_limited}
@@ -6,7 +7,7 @@ use Rattle.plain_graph.proofs.plain.Plain.set_limits.Goals as goal
 
 pub returns-in-Some-clause-step : goal.returns-in-Some-clause-step
 returns-in-Some-clause-step c = steps_refused c.args.self.now c.args.self.now
-    (SetLimits c.args.limits.count c.args.limits.size c.args.limits.total) c.in-Some.why (itself c.args.self.now) c.in-Some.ensures.first
+    (SetLimits (bounds_of c.args.limits)) c.in-Some.why (itself c.args.self.now) c.in-Some.ensures.first
 
 pub returns-clause-step : goal.returns-clause-step
 returns-clause-step c = steps_limited c.args.self.now _ c.args.limits refl refl (ap (λ (kept : Kept). kept.txs) c.self.view_is)
