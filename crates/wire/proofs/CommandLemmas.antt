@@ -9,10 +9,11 @@ use Rattle.graph_model.specs.Words.{level_word}
 use Rattle.graph_model.specs.Commands.{Command}
 use Rattle.graph_model.specs.Lines.{Spells}
 use Rattle.wire.specs.declared.form.Form.{Form}
-use Rattle.wire.specs.Fields.{IsWide, IsOneWord}
-use Rattle.wire.specs.Forms.{Kind, Wide, Signed, LevelName, Shape, Bare, Last, Then, Names, Field, field_text, FieldFits, Fields, fields_text, FieldsFit, names_text, AreNames, row_of, form_word, rest_text}
+use Rattle.wire.specs.Fields.{IsWide, IsOneWord, deferrable_text}
+use Rattle.wire.specs.Forms.{Kind, Wide, Signed, LevelName, Shape, Bare, Last, Then, Names, Deferrable, Field, field_text, FieldFits, Fields, fields_text, FieldsFit, names_text, AreNames, row_of, form_word, rest_text}
 use Rattle.wire.specs.OneWord.{decimal_word, signed_word}
 use Rattle.wire.proofs.ReadLemmas.{same_split}
+use Rattle.wire.proofs.DeferLemmas.{deferrable_same}
 use Rattle.wire.proofs.FormLemmas.{differ_apart, one_word, form_one_word, form_same, row, same_line}
 use Rattle.wire.proofs.RowLemmas.{spaced_same, names_same}
 
@@ -50,6 +51,7 @@ fields_same (Then kind shape) x y one other is =
     let rest : x.1 ≡ y.1 = fields_same shape x.1 y.1 one.1 other.1 cut.1 in
     λ i. (first i, rest i)
 fields_same Names x y one other is = names_text_same x y one other is
+fields_same Deferrable x y one other is = deferrable_same x y one other is
 
 some_same : (a b : List ℕ) → Some a ≡ Some b → a ≡ b
 some_same a b is = cc
@@ -60,6 +62,7 @@ rest_same (Last kind) x y one other is = fields_same (Last kind) x y one other (
 rest_same (Then kind shape) x y one other is =
     fields_same (Then kind shape) x y one other (some_same (fields_text (Then kind shape) x) (fields_text (Then kind shape) y) is)
 rest_same Names x y one other is = fields_same Names x y one other (some_same (names_text x) (names_text y) is)
+rest_same Deferrable x y one other is = fields_same Deferrable x y one other (some_same (deferrable_text x) (deferrable_text y) is)
 
 command_same : (f g : Form) → f ≡ g → (x : Fields (row_of f).shape) (y : Fields (row_of g).shape) → FieldsFit (row_of f).shape x → FieldsFit (row_of g).shape y
     → rest_text (row_of f).shape x ≡ rest_text (row_of g).shape y → (row_of f).command x ≡ (row_of g).command y

@@ -54,8 +54,8 @@ find (form ∷ more) word = cond (same word (form_word form)) (Some form) (find 
 abbrev all_forms : List Form
 all_forms =
     forms.Limits ∷ forms.Add ∷ forms.Dep ∷ forms.Fee ∷ forms.Remove ∷ forms.Mine ∷ forms.Evict ∷ forms.Stage
-    ∷ forms.Commit ∷ forms.Abort ∷ forms.Settle ∷ forms.Compare ∷ forms.Order ∷ forms.Diagram ∷ forms.Proof
-    ∷ forms.Cluster ∷ forms.Ancestors ∷ forms.Descendants ∷ forms.Chunk ∷ forms.Before ∷ forms.Block ∷ forms.Count ∷ []
+    ∷ forms.Commit ∷ forms.Abort ∷ forms.Settle ∷ forms.Trim ∷ forms.Unmine ∷ forms.Compare ∷ forms.Order ∷ forms.Diagram ∷ forms.Proof
+    ∷ forms.Cluster ∷ forms.Ancestors ∷ forms.Descendants ∷ forms.Chunk ∷ forms.Before ∷ forms.Block ∷ forms.Count ∷ forms.Dump ∷ []
 
 -- a form's first word is one word, and no other form's
 known : (form : Form) → (has_space (form_word form) ≡ false) × (find all_forms (form_word form) ≡ Some form)
@@ -70,6 +70,8 @@ known forms.Stage = (refl, refl)
 known forms.Commit = (refl, refl)
 known forms.Abort = (refl, refl)
 known forms.Settle = (refl, refl)
+known forms.Trim = (refl, refl)
+known forms.Unmine = (refl, refl)
 known forms.Compare = (refl, refl)
 known forms.Order = (refl, refl)
 known forms.Diagram = (refl, refl)
@@ -81,6 +83,7 @@ known forms.Chunk = (refl, refl)
 known forms.Before = (refl, refl)
 known forms.Block = (refl, refl)
 known forms.Count = (refl, refl)
+known forms.Dump = (refl, refl)
 
 pub form_one_word : (form : Form) → IsOneWord (form_word form)
 form_one_word form = one_word (form_word form) (known form).0
@@ -97,8 +100,13 @@ pub record Row (command : Command) : Type 0 where
   pub text : spaced (words_of command) ≡ form_word form ++ behind (rest_text (row_of form).shape fields)
 
 pub row : (command : Command) → HasTypes command → Row command
-row (commands.SetLimits count size total) types =
-    record { form = forms.Limits; fields = (count, (size, total)); is = refl; fits = (types.0, (types.1, types.2)); text = refl }
+row (commands.SetLimits limits) types = record {
+  form = forms.Limits;
+  fields = (limits.count, (limits.size, record { n = limits.total; defer = limits.defer }));
+  is = refl;
+  fits = (types.0, (types.1, types.2));
+  text = refl;
+}
 row (commands.Add id fee size) types = record { form = forms.Add; fields = (id, (fee, size)); is = refl; fits = (types.0, (types.1, types.2)); text = refl }
 row (commands.Dep parent child) types = record { form = forms.Dep; fields = (parent, child); is = refl; fits = types; text = refl }
 row (commands.SetFee id fee) types = record { form = forms.Fee; fields = (id, fee); is = refl; fits = types; text = refl }
@@ -110,6 +118,8 @@ row commands.Stage types = record { form = forms.Stage; fields = tt; is = refl; 
 row commands.Commit types = record { form = forms.Commit; fields = tt; is = refl; fits = tt; text = refl }
 row commands.Abort types = record { form = forms.Abort; fields = tt; is = refl; fits = tt; text = refl }
 row commands.Settle types = record { form = forms.Settle; fields = tt; is = refl; fits = tt; text = refl }
+row commands.Trim types = record { form = forms.Trim; fields = tt; is = refl; fits = tt; text = refl }
+row commands.Unmine types = record { form = forms.Unmine; fields = tt; is = refl; fits = tt; text = refl }
 row commands.Compare types = record { form = forms.Compare; fields = tt; is = refl; fits = tt; text = refl }
 row (commands.Order level) types = record { form = forms.Order; fields = level; is = refl; fits = tt; text = refl }
 row (commands.Diagram level) types = record { form = forms.Diagram; fields = level; is = refl; fits = tt; text = refl }
@@ -121,6 +131,7 @@ row (commands.Chunk id) types = record { form = forms.Chunk; fields = id; is = r
 row (commands.Before a b) types = record { form = forms.Before; fields = (a, b); is = refl; fits = types; text = refl }
 row (commands.Block size) types = record { form = forms.Block; fields = size; is = refl; fits = types; text = refl }
 row (commands.Count level) types = record { form = forms.Count; fields = level; is = refl; fits = tt; text = refl }
+row commands.Dump types = record { form = forms.Dump; fields = tt; is = refl; fits = tt; text = refl }
 
 -- there is one way to cut at the first space, if there is one
 pub same_line : (a c : List ℕ) (b d : Option (List ℕ)) → IsOneWord a → IsOneWord c → a ++ behind b ≡ c ++ behind d → (a ≡ c) × (b ≡ d)

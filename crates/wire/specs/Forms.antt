@@ -5,9 +5,10 @@ use Rattle.std.specs.Fmt.{signed_decimal}
 use Rattle.graphs.specs.declared.names.Level.{Level}
 use Rattle.graph_model.specs.Words.{spaced, level_word}
 use Rattle.graph_model.specs.Commands as commands
+use Rattle.wire.specs.declared.field.Deferrable as endings
 use Rattle.wire.specs.declared.form.Form.{Form}
 use Rattle.wire.specs.declared.form.Form.TheVariants as forms
-use Rattle.wire.specs.Fields.{IsWide, Always, pair_spelling, BothFit}
+use Rattle.wire.specs.Fields.{IsWide, Always, pair_spelling, BothFit, deferrable_text, IsDeferrable}
 
 -- a number of 64 bits, one with a sign, or a level
 pub data Kind : Type 0 where
@@ -15,12 +16,13 @@ pub data Kind : Type 0 where
   Signed : Kind
   LevelName : Kind
 
--- no field, one or more of these kinds, or one name or more
+-- no field, one or more of these kinds, one name or more, or a number behind which a last word may stand
 pub data Shape : Type 0 where
   Bare : Shape
   Last : (kind : Kind) → Shape
   Then : (kind : Kind) (shape : Shape) → Shape
   Names : Shape
+  Deferrable : Shape
 
 -- one name or more, with a space between them
 abbrev pub names_text : List ℕ → List ℕ
@@ -51,18 +53,21 @@ Fields Bare = Unit {0}
 Fields (Last kind) = Field kind
 Fields (Then kind shape) = Field kind × Fields shape
 Fields Names = List ℕ
+Fields Deferrable = endings.Deferrable
 
 abbrev pub fields_text : (shape : Shape) → Fields shape → List ℕ
 fields_text Bare = λ none. []
 fields_text (Last kind) = field_text kind
 fields_text (Then kind shape) = pair_spelling (field_text kind) (fields_text shape)
 fields_text Names = names_text
+fields_text Deferrable = deferrable_text
 
 abbrev pub FieldsFit : (shape : Shape) → Fields shape → Type 0
 FieldsFit Bare = λ none. Unit {0}
 FieldsFit (Last kind) = FieldFits kind
 FieldsFit (Then kind shape) = BothFit (FieldFits kind) (FieldsFit shape)
 FieldsFit Names = AreNames
+FieldsFit Deferrable = IsDeferrable
 
 pub record Row : Type 0 where
   pub word : List ℕ
@@ -70,7 +75,11 @@ pub record Row : Type 0 where
   pub command : Fields shape → commands.Command
 
 abbrev pub row_of : Form → Row
-row_of forms.Limits = record { word = codes "limits"; shape = Then Wide (Then Wide (Last Wide)); command = λ v. commands.SetLimits v.0 v.1.0 v.1.1 }
+row_of forms.Limits = record {
+  word = codes "limits";
+  shape = Then Wide (Then Wide Deferrable);
+  command = λ v. commands.SetLimits (record { count = v.0; size = v.1.0; total = v.1.1.n; defer = v.1.1.defer });
+}
 row_of forms.Add = record { word = codes "add"; shape = Then Wide (Then Signed (Last Wide)); command = λ v. commands.Add v.0 v.1.0 v.1.1 }
 row_of forms.Dep = record { word = codes "dep"; shape = Then Wide (Last Wide); command = λ v. commands.Dep v.0 v.1 }
 row_of forms.Fee = record { word = codes "fee"; shape = Then Wide (Last Signed); command = λ v. commands.SetFee v.0 v.1 }
@@ -81,6 +90,8 @@ row_of forms.Stage = record { word = codes "stage"; shape = Bare; command = λ v
 row_of forms.Commit = record { word = codes "commit"; shape = Bare; command = λ v. commands.Commit }
 row_of forms.Abort = record { word = codes "abort"; shape = Bare; command = λ v. commands.Abort }
 row_of forms.Settle = record { word = codes "settle"; shape = Bare; command = λ v. commands.Settle }
+row_of forms.Trim = record { word = codes "trim"; shape = Bare; command = λ v. commands.Trim }
+row_of forms.Unmine = record { word = codes "unmine"; shape = Bare; command = λ v. commands.Unmine }
 row_of forms.Compare = record { word = codes "compare"; shape = Bare; command = λ v. commands.Compare }
 row_of forms.Order = record { word = codes "order"; shape = Last LevelName; command = λ v. commands.Order v }
 row_of forms.Diagram = record { word = codes "diagram"; shape = Last LevelName; command = λ v. commands.Diagram v }
@@ -92,6 +103,7 @@ row_of forms.Chunk = record { word = codes "chunk"; shape = Last Wide; command =
 row_of forms.Before = record { word = codes "before"; shape = Then Wide (Last Wide); command = λ v. commands.Before v.0 v.1 }
 row_of forms.Block = record { word = codes "block"; shape = Last Wide; command = λ v. commands.Block v }
 row_of forms.Count = record { word = codes "count"; shape = Last LevelName; command = λ v. commands.Count v }
+row_of forms.Dump = record { word = codes "dump"; shape = Bare; command = λ v. commands.Dump }
 
 abbrev pub form_word : Form → List ℕ
 form_word form = (row_of form).word
@@ -106,3 +118,4 @@ rest_text Bare fields = None
 rest_text (Last kind) fields = Some (fields_text (Last kind) fields)
 rest_text (Then kind shape) fields = Some (fields_text (Then kind shape) fields)
 rest_text Names fields = Some (names_text fields)
+rest_text Deferrable fields = Some (deferrable_text fields)

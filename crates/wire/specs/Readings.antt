@@ -9,7 +9,7 @@ use Rattle.graph_model.specs.Lines.{Meaning, Quiet, Says, NoForm, Spells, withou
 abbrev pub said_by : Line → List ℕ → Meaning
 said_by lines.Quiet ids = Quiet
 said_by lines.Syntax ids = NoForm
-said_by (lines.Limits set) ids = Says (commands.SetLimits set.count set.size set.total)
+said_by (lines.Limits set defer) ids = Says (commands.SetLimits (record { count = set.count; size = set.size; total = set.total; defer = defer }))
 said_by (lines.Add id fee size) ids = Says (commands.Add id fee size)
 said_by (lines.Dep parent child) ids = Says (commands.Dep parent child)
 said_by (lines.Fee id fee) ids = Says (commands.SetFee id fee)
@@ -20,6 +20,8 @@ said_by lines.Stage ids = Says commands.Stage
 said_by lines.Commit ids = Says commands.Commit
 said_by lines.Abort ids = Says commands.Abort
 said_by lines.Settle ids = Says commands.Settle
+said_by lines.Trim ids = Says commands.Trim
+said_by lines.Unmine ids = Says commands.Unmine
 said_by lines.Compare ids = Says commands.Compare
 said_by (lines.Order level) ids = Says (commands.Order level)
 said_by (lines.Diagram level) ids = Says (commands.Diagram level)
@@ -31,12 +33,17 @@ said_by (lines.Chunk id) ids = Says (commands.Chunk id)
 said_by (lines.Before a b) ids = Says (commands.Before a b)
 said_by (lines.Block size) ids = Says (commands.Block size)
 said_by (lines.Count level) ids = Says (commands.Count level)
+said_by lines.Dump ids = Says commands.Dump
 
 -- The meaning as far as the program does commands: a line of one that isn't built yet is in no form. These rows go with the bodies.
 abbrev pub meaning_of : Line → List ℕ → Meaning
+meaning_of (lines.Limits set true) ids = NoForm
 meaning_of lines.Mine ids = NoForm
 meaning_of lines.Evict ids = NoForm
+meaning_of lines.Trim ids = NoForm
+meaning_of lines.Unmine ids = NoForm
 meaning_of (lines.Block size) ids = NoForm
+meaning_of lines.Dump ids = NoForm
 meaning_of line ids = said_by line ids
 
 -- a text that isn't quiet says this, also where the command isn't built

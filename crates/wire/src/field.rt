@@ -1,8 +1,8 @@
-ghost use Rattle.std.specs.Prelude.{◌≡◌, ℕ, List, ◌∷◌, ◌++◌, IfSome, IfNone, decimal, FitsSigned};
+ghost use Rattle.std.specs.Prelude.{◌≡◌, ◌↔◌, ℕ, List, ◌∷◌, ◌++◌, IfSome, IfNone, IsTrue, codes, decimal, FitsSigned};
 ghost use Rattle.std.specs.Int.{w64};
 ghost use Rattle.std.specs.Fmt.{signed_decimal};
 ghost use Rattle.graph_model.specs.Words.{level_word};
-ghost use Rattle.wire.specs.Fields.{ReadsAs, IsOneWord, IsWide, IsAmount, IsBigFee, Always, pair_spelling, BothFit};
+ghost use Rattle.wire.specs.Fields.{ReadsAs, IsOneWord, IsWide, IsAmount, IsBigFee, Always, pair_spelling, BothFit, deferrable_text, IsDeferrable};
 ghost use Rattle.wire.specs.OneWord.{decimal_word, signed_word, big_fee_word};
 
 use crate::numbers::{number, signed_number};
@@ -99,6 +99,50 @@ impl Field for Level {
             _ => None,
         }
     }
+}
+
+/// A number, and whether the word `defer` stands behind it.
+#[derive(Clone, Copy)]
+pub(crate) struct Deferrable {
+    pub(crate) n: u64,
+    pub(crate) defer: bool,
+}
+
+impl Field for Deferrable {
+    ghost spelling = { deferrable_text };
+
+    ghost fits = { IsDeferrable };
+
+    fn read(text: &[u8]) -> Option<Deferrable> {
+        match split_at_byte(text, b' ') {
+            Some((word, rest)) => deferred(word, rest),
+            None => Some(Deferrable {
+                n: number(text)?,
+                defer: false,
+            }),
+        }
+    }
+}
+
+/// A number before a space and the word `defer`.
+fn deferred(word: &[u8], rest: &[u8]) -> Option<Deferrable>
+    requires { IsOneWord word.now }
+    ensures { ReadsAs deferrable_text IsDeferrable (word.now ++ 32 ∷ rest.now) result }
+{
+    if !is_defer(rest) {
+        return None;
+    }
+    Some(Deferrable {
+        n: number(word)?,
+        defer: true,
+    })
+}
+
+/// Whether it is the word `defer`.
+fn is_defer(word: &[u8]) -> bool
+    ensures { IsTrue result ↔ (word.now ≡ codes "defer") }
+{
+    matches!(word, b"defer")
 }
 
 /// A word, and what follows it.

@@ -15,6 +15,8 @@ pub(crate) enum Form {
     Commit,
     Abort,
     Settle,
+    Trim,
+    Unmine,
     Compare,
     Order,
     Diagram,
@@ -26,6 +28,7 @@ pub(crate) enum Form {
     Before,
     Block,
     Count,
+    Dump,
 }
 
 /// The command whose first word this is.
@@ -44,6 +47,8 @@ pub(crate) fn form_of(word: &[u8]) -> Option<Form>
         b"commit" => Some(Form::Commit),
         b"abort" => Some(Form::Abort),
         b"settle" => Some(Form::Settle),
+        b"trim" => Some(Form::Trim),
+        b"unmine" => Some(Form::Unmine),
         b"compare" => Some(Form::Compare),
         b"order" => Some(Form::Order),
         b"diagram" => Some(Form::Diagram),
@@ -55,6 +60,7 @@ pub(crate) fn form_of(word: &[u8]) -> Option<Form>
         b"before" => Some(Form::Before),
         b"block" => Some(Form::Block),
         b"count" => Some(Form::Count),
+        b"dump" => Some(Form::Dump),
         _ => None,
     }
 }

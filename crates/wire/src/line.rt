@@ -4,7 +4,7 @@ ghost use Rattle.wire.specs.Fields.{IsOneWord};
 ghost use Rattle.wire.specs.Forms.{form_word, names_text, AreNames};
 ghost use Rattle.wire.specs.Readings.{said_by, meaning_of, LineSays, TextSays, FormSays};
 
-use crate::field::Field;
+use crate::field::{Deferrable, Field};
 use crate::form::{Form, form_of};
 use crate::numbers::number;
 use crate::words::split_at_byte;
@@ -17,8 +17,9 @@ pub enum Line {
     Quiet,
     /// A line that is no command.
     Syntax,
-    /// `limits N N N`: the names of a cluster, its size, the live names
-    Limits(Limits),
+    /// `limits N N N`: the names of a cluster, its size, the live names. True where a last word `defer` lets dependencies bring a
+    /// cluster over the first two for a while.
+    Limits(Limits, bool),
     /// `add ID FEE SIZE`
     Add(TxId, i64, u64),
     /// `dep ID ID`, the parent first
@@ -39,6 +40,10 @@ pub enum Line {
     Abort,
     /// `settle`
     Settle,
+    /// `trim`
+    Trim,
+    /// `unmine`
+    Unmine,
     /// `compare`
     Compare,
     /// `order L`
@@ -61,6 +66,8 @@ pub enum Line {
     Block(u64),
     /// `count L`
     Count(Level),
+    /// `dump`
+    Dump,
 }
 
 /// What a line says, without its line feed: of at most 65,536 bytes, with a carriage return at its end, which is
@@ -140,7 +147,10 @@ fn bare(form: Form) -> Line
         Form::Commit => Line::Commit,
         Form::Abort => Line::Abort,
         Form::Settle => Line::Settle,
+        Form::Trim => Line::Trim,
+        Form::Unmine => Line::Unmine,
         Form::Compare => Line::Compare,
+        Form::Dump => Line::Dump,
         _ => Line::Syntax,
     }
 }
@@ -180,8 +190,8 @@ fn fields(form: Form, rest: &[u8]) -> Option<Line>
 {
     match form {
         Form::Limits => {
-            let (count, (size, total)) = Field::read(rest)?;
-            Some(Line::Limits(Limits { count, size, total }))
+            let (count, (size, Deferrable { n: total, defer })) = Field::read(rest)?;
+            Some(Line::Limits(Limits { count, size, total }, defer))
         }
         Form::Add => {
             let (id, (fee, size)) = Field::read(rest)?;
