@@ -1,5 +1,5 @@
 -- A name's fee in both levels, by the numbers that they have for it.
-use Rattle.std.proofs.Common.{◌≡◌, ◌≢◌, ℕ, ℤ, ◌+◌, ◌≤◌, List, length, Contains, Option, Some, None, inl, inr, ◌⊎◌, sym, ◌∙◌, subst, subst₂, arith, Result, OnOk}
+use Rattle.std.proofs.Common.{◌≡◌, ◌≢◌, ℕ, ℤ, ◌+◌, ◌≤◌, List, length, Contains, Option, Some, None, is_some, inl, inr, ◌⊎◌, sym, ap, ◌∙◌, subst, subst₂, arith, Result, OnOk}
 use Rattle.std.proofs.lemmas.Option.{none-some, same_Some}
 use Rattle.std.proofs.lemmas.Result.{on_ok_weaker}
 use Rattle.std.specs.FinMap as finmap
@@ -9,6 +9,7 @@ use Rattle.graphs.specs.Closures.{rate_of, AreLinked}
 use Rattle.graphs.specs.Graphs.{Lists}
 use Rattle.cluster.specs.Clusters.{Cluster}
 use Rattle.cluster.specs.Steps.{GrowsWithin, most_steps}
+use Rattle.levels.specs.Levels.{steps_where}
 use Rattle.levels.specs.Moves.{SetsFees, SetsFeeUnder}
 use Rattle.levels.specs.Shelves.{Shelf, IsInOrder, numbers_at, seen_at, stored_at, view_of}
 use Rattle.levels.specs.Views.{StandsAt, graph_of}
@@ -32,11 +33,15 @@ HasFee id fee shelf =
     (level : Level) (n : ℕ) (c : Cluster) → finmap.get (numbers_at level shelf) id ≡ Some n → seen_at level shelf.store.clusters n ≡ Some c
     → (rate_of c.graph id).fee ≡ fee
 
+-- the most steps for a level in which these are linked to the name, and none where the level hasn't the name
+abbrev most_in : ℕ → Shelf → Level → List ℕ → ℕ
+most_in id shelf level ids = steps_where (is_some (finmap.get (numbers_at level shelf) id)) (length ids)
+
 -- what the steps are counted by
 abbrev pub IsCounted : ℕ → Shelf → ℕ → ℕ → Type 0
 IsCounted id shelf before after =
     (mains tops : List ℕ) → Lists (AreLinked (graph_of (view_of Main shelf)) id) mains → Lists (AreLinked (graph_of (view_of Top shelf)) id) tops
-    → after ≤ before + most_steps (length mains) + most_steps (length tops)
+    → after ≤ before + most_in id shelf Main mains + most_in id shelf Top tops
 
 -- ---- one number for each level that has the name
 
@@ -97,21 +102,20 @@ module _ (w number id : ℕ) (old : Shelf) (only : IsOnly w number id old) where
       → IsCounted id old before after
   only_counted before after grows mains tops first second = from only.level only.is it.there
     where
-      few : after ≤ before + most_steps (length it.cluster.names)
-      few = (grows it.cluster stored).few
-
-      by_main : length mains ≡ length it.cluster.names → after ≤ before + most_steps (length mains) + most_steps (length tops)
-      by_main same =
-          let part : after ≤ before + most_steps (length mains) = subst (λ n. after ≤ before + most_steps n) (sym same) few in omega (arith, part)
-
-      by_top : length tops ≡ length it.cluster.names → after ≤ before + most_steps (length mains) + most_steps (length tops)
-      by_top same =
-          let part : after ≤ before + most_steps (length tops) = subst (λ n. after ≤ before + most_steps n) (sym same) few in omega (arith, part)
+      -- one solve is within those of a level that has the number
+      within : (level : Level) (ids : List ℕ) → finmap.get (numbers_at level old) id ≡ Some number → length ids ≡ length it.cluster.names
+          → after ≤ before + most_in id old level ids
+      within level ids is same =
+          subst₂ (λ made n. after ≤ before + steps_where made n) (sym (ap is_some is)) (sym same) (grows it.cluster stored).few
 
       from : (l : Level) → finmap.get (numbers_at l old) id ≡ Some number → seen_at l old.store.clusters number ≡ Some it.cluster
-          → after ≤ before + most_steps (length mains) + most_steps (length tops)
-      from Main is at = by_main (counted w old only.order Main id number it.cluster mains is at first)
-      from Top is at = by_top (counted w old only.order Top id number it.cluster tops is at second)
+          → after ≤ before + most_in id old Main mains + most_in id old Top tops
+      from Main is at =
+          let part : after ≤ before + most_in id old Main mains = within Main mains is (counted w old only.order Main id number it.cluster mains is at first) in
+          omega (arith, part)
+      from Top is at =
+          let part : after ≤ before + most_in id old Top tops = within Top tops is (counted w old only.order Top id number it.cluster tops is at second) in
+          omega (arith, part)
 
   -- where main has the number, the steps are within those of one solve
   pub only_shared : (before after : ℕ)
@@ -146,5 +150,6 @@ module _ (w main top id : ℕ) (old : Shelf) (order : IsInOrder w old) (main_is 
   both_told before after few mains tops first second =
       let one = order.main.stands id main main_is in
       let two = order.top.stands id top top_is in
-      subst₂ (λ m n. after ≤ before + most_steps m + most_steps n) (sym (counted w old order Main id main one.cluster mains main_is one.there first))
-      (sym (counted w old order Top id top two.cluster tops top_is two.there second)) (few one.cluster two.cluster one.there two.there)
+      subst₂ (λ m n. after ≤ before + steps_where m (length mains) + steps_where n (length tops)) (sym (ap is_some main_is)) (sym (ap is_some top_is))
+      (subst₂ (λ m n. after ≤ before + most_steps m + most_steps n) (sym (counted w old order Main id main one.cluster mains main_is one.there first))
+      (sym (counted w old order Top id top two.cluster tops top_is two.there second)) (few one.cluster two.cluster one.there two.there))

@@ -1,17 +1,18 @@
 -- The levels of a graph: main, and staging where there is one.
-use Rattle.std.specs.Prelude.{◌≡◌, ◌≢◌, ◌⊎◌, ℕ, ℤ, true, false, ◌&&◌, ◌||◌, nat_eq, [], List, map, Option, None, Some, IfSome, is_some, refl}
+use Rattle.std.specs.Prelude.{◌≡◌, ◌≢◌, ◌⊎◌, ℕ, ℤ, ◌+◌, Bool, true, false, ◌&&◌, ◌||◌, cond, nat_eq, [], List, length, map, Option, None, Some, IfSome, is_some, refl}
 use Rattle.std.specs.Coded.{Coded, code_by, coded×, coded_list, coded_option, coded_ℕ}
 use Rattle.std.specs.FinMap as finmap
 use Rattle.graphs.specs.declared.names.Level.{Level}
 use Rattle.graphs.specs.declared.names.Level.TheVariants.{Main, Top}
-use Rattle.graphs.specs.Closures.{Closure, closure_code, is_member, is_ancestor, rate_of, SetsFee}
+use Rattle.graphs.specs.Closures.{Closure, closure_code, is_member, is_ancestor, rate_of, AreLinked, SetsFee}
 use Rattle.fee_rate.specs.declared.rates.FeeRate.{FeeRate}
 use Rattle.graphs.specs.Closing.{IsClosureOf}
 use Rattle.graphs.specs.Certificates.{Part}
-use Rattle.graphs.specs.Graphs.{Graph}
+use Rattle.graphs.specs.Graphs.{Graph, Lists}
 use Rattle.graphs.specs.Linearizations.{IsOptimal}
 use Rattle.graph_model.specs.States.{top_of}
 use Rattle.cluster.specs.Clusters.{part_code, sum_at, ArePicked, AreUncut}
+use Rattle.cluster.specs.Steps.{GrowsWithin, most_steps}
 
 -- of a level: each name with its fee, its size and its ancestors, and the parts of its order
 pub record OneLevel : Type 0 where
@@ -88,3 +89,17 @@ pub record SetsFeeIn (id : ℕ) (fee : ℤ) (old new : Levels) : Type 0 where
   pub staged : is_some new.staging ≡ is_some old.staging
   pub top : SetsFeeOf id fee (level_at old Top) (level_at new Top)
   pub issued : new.issued ≡ old.issued
+
+-- ---- the steps of a new fee
+
+-- the most steps of an order of n names, and none where no order is made
+abbrev pub steps_where : Bool → ℕ → ℕ
+steps_where made n = cond made (most_steps n) 0
+
+-- A count grew by at most what the orders of a name's components take: of main's where main has the name, and of staging's where there is a
+-- staging that has it.
+abbrev pub GrowsForFee : ℕ → ℕ → ℕ → Levels → Type 0
+GrowsForFee id before after levels =
+    (mains tops : List ℕ) → Lists (AreLinked levels.main.graph id) mains → Lists (AreLinked (level_at levels Top).graph id) tops
+    → GrowsWithin (steps_where (is_member levels.main.graph id) (length mains)
+    + steps_where (is_some levels.staging && is_member (level_at levels Top).graph id) (length tops)) before after

@@ -1,4 +1,4 @@
-ghost use Rattle.std.specs.Prelude.{◌≡◌, ◌≢◌, ◌⊎◌, ℕ, ◌+◌, ◌*◌, ◌≤◌, true, false, None, Some, List, [], ◌∷◌, ◌++◌, length, Contains, IsSome, IfOk, OnOk, OnErr, MatchResult, All, ◌<◌, slice_index_or};
+ghost use Rattle.std.specs.Prelude.{◌≡◌, ◌≢◌, ◌⊎◌, ℕ, ◌+◌, ◌*◌, ◌≤◌, true, false, None, Some, List, [], ◌∷◌, ◌++◌, length, is_some, Contains, IsSome, IfOk, OnOk, OnErr, MatchResult, All, ◌<◌, slice_index_or};
 ghost use Rattle.std.specs.List.Sorted.{IsPermutation};
 ghost use Rattle.std.specs.FinMap as finmap;
 ghost use Rattle.fee_rate.specs.Limits.{IsFee};
@@ -10,6 +10,7 @@ ghost use Rattle.cluster.specs.Changes.{AreComponents, Joins};
 ghost use Rattle.cluster.specs.Clusters as records;
 ghost use Rattle.cluster.specs.Steps.{GrowsWithin, most_steps, most_steps_of};
 ghost use Rattle.levels.specs.Joins.{DepRefusalIs};
+ghost use Rattle.levels.specs.Levels.{steps_where};
 ghost use Rattle.levels.specs.Links.{IsLink};
 ghost use Rattle.levels.specs.Moves.{DropsName, JoinsTwo, LinksOne, SetsFees, SetsFeeUnder};
 ghost use Rattle.levels.specs.Shelves.{IsInOrder, numbers_at, seen_at, stored_at, view_of};
@@ -153,7 +154,8 @@ impl<const W: usize> Shelves<W> {
             → Lists (AreLinked (graph_of (view_of Main self.old)) id) ids → GrowsWithin (most_steps (length ids)) steps.old steps.new }
         ensures steps { (mains tops : List ℕ) → Lists (AreLinked (graph_of (view_of Main self.old)) id) mains
             → Lists (AreLinked (graph_of (view_of Top self.old)) id) tops
-            → steps.new ≤ steps.old + most_steps (length mains) + most_steps (length tops) }
+            → steps.new ≤ steps.old + steps_where (is_some (finmap.get (numbers_at Main self.old) id)) (length mains)
+            + steps_where (is_some (finmap.get (numbers_at Top self.old) id)) (length tops) }
     {
         match (self.number(Level::Main, id), self.number(Level::Top, id)) {
             (Some(main), Some(top)) => {

@@ -14,7 +14,7 @@ ghost use Rattle.cluster.specs.Steps.{GrowsWithin, most_steps, most_steps_of};
 ghost use Rattle.cluster_store.specs.Lent.{lent};
 ghost use Rattle.diagram.specs.Parts.{AreLevelParts, YieldsParts};
 ghost use Rattle.levels.specs.Orders.{ComparesParts, ListsCovers, sums_of};
-ghost use Rattle.levels.specs.Levels.{AddsName, ChangesTop, HavePicks, IsBest, IsLive, SetsFeeIn, level_at, no_names};
+ghost use Rattle.levels.specs.Levels.{AddsName, ChangesTop, GrowsForFee, HavePicks, IsBest, IsLive, SetsFeeIn, level_at, no_names};
 ghost use Rattle.levels.specs.Joins.{DepRefusalIs};
 ghost use Rattle.levels.specs.Levels as specs_levels;
 ghost use Rattle.levels.specs.Shelves.{numbers_at};
@@ -231,11 +231,7 @@ impl<const W: usize> Levels<W> {
         ensures stays { AllStay self.old self.new }
         ensures err { OnErr result (self.new ≡ self.old) }
         ensures grew { steps.old ≤ steps.new }
-        ensures alone { self.old.staging ≡ None → (ids : List ℕ) → Lists (AreLinked self.old.main.graph id) ids
-            → GrowsWithin (most_steps (length ids)) steps.old steps.new }
-        ensures steps { (mains tops : List ℕ) → Lists (AreLinked self.old.main.graph id) mains
-            → Lists (AreLinked (level_at self.old Top).graph id) tops
-            → steps.new ≤ steps.old + most_steps (length mains) + most_steps (length tops) }
+        ensures steps { GrowsForFee id steps.old steps.new self.old }
     {
         let _count = self.mains;
         self.shelves.set_fee(id, fee, &mut self.work, steps)

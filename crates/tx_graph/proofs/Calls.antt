@@ -325,11 +325,6 @@ GrowsForPair parent child start end kept =
     let graph = (level_at kept.levels Top).graph in
     (ids : List ℕ) → Lists (λ q. AreLinked graph q parent ⊎ AreLinked graph q child) ids → GrowsWithin (most_steps (length ids)) start end
 
--- and of one that makes the cluster of a name anew, where there is no staging
-abbrev pub GrowsForOne : ℕ → ℕ → ℕ → Kept → Type 0
-GrowsForOne id start end kept =
-    kept.levels.staging ≡ None → (ids : List ℕ) → Lists (AreLinked kept.levels.main.graph id) ids → GrowsWithin (most_steps (length ids)) start end
-
 -- and of one that drops a name from its cluster
 abbrev pub GrowsForParts : ℕ → ℕ → ℕ → Kept → Type 0
 GrowsForParts id start end kept =

@@ -1,12 +1,9 @@
 -- What a call that changes nothing keeps.
-use Rattle.std.proofs.Common.{◌≡◌, ◌≢◌, ℕ, ◌+◌, ◌≤◌, List, length, Option, None, Some, refl, ap, ◌∙◌, arith}
-use Rattle.graphs.specs.Closures.{AreLinked}
-use Rattle.graphs.specs.Graphs.{Lists}
-use Rattle.graphs.specs.declared.names.Level.TheVariants.{Top}
+use Rattle.std.proofs.Common.{◌≡◌, ◌≢◌, ℕ, ◌+◌, ◌≤◌, Option, None, Some, refl, ap, ◌∙◌, arith}
 use Rattle.graphs.specs.declared.names.Verdict.{Verdict}
 use Rattle.graphs.specs.declared.names.Verdict.TheVariants.{Better, Worse, Equal, Incomparable}
-use Rattle.cluster.specs.Steps.{GrowsWithin, most_steps}
-use Rattle.levels.specs.Levels.{OneLevel, Levels, level_at}
+use Rattle.cluster.specs.Steps.{GrowsWithin}
+use Rattle.levels.specs.Levels.{OneLevel, Levels}
 use Rattle.levels.specs.Levels as levels
 use Rattle.levels.specs.Stays.{AllStay}
 use Rattle.tx_graph.proofs.Staged.{committed, aborted}
@@ -17,9 +14,6 @@ all_stay levels level = record { parts = λ part same. (λ here. here, λ here. 
 pub grows_by_none : (most steps : ℕ) → GrowsWithin most steps steps
 grows_by_none most steps = record { grew = omega arith; few = omega arith }
 
-pub within_two : (steps a b : ℕ) → steps ≤ steps + a + b
-within_two steps a b = omega arith
-
 pub within_one : (steps a : ℕ) → steps ≤ steps + a
 within_one steps a = omega arith
 
@@ -28,12 +22,6 @@ plus_none n = omega arith
 
 pub not_larger : (steps : ℕ) → steps ≤ steps
 not_larger steps = omega arith
-
--- the steps of a call that makes the clusters of a name in both levels anew
-abbrev pub GrowsForBoth : ℕ → ℕ → ℕ → Levels → Type 0
-GrowsForBoth id start end levels =
-    (mains tops : List ℕ) → Lists (AreLinked levels.main.graph id) mains → Lists (AreLinked (level_at levels Top).graph id) tops
-    → end ≤ start + most_steps (length mains) + most_steps (length tops)
 
 issued_in : (main : OneLevel) (staging : Option OneLevel) (issued : ℕ) (top : OneLevel)
     → (levels.with_top (record { main = main; staging = staging; issued = issued }) top).issued ≡ issued

@@ -21,7 +21,7 @@ ghost use Rattle.cluster.specs.Changes.{AreComponents};
 ghost use Rattle.cluster.specs.Steps.{GrowsWithin, most_steps, most_steps_of};
 ghost use Rattle.tx_graph.specs.Additions.{AddRefusalIs, CountsLive};
 ghost use Rattle.tx_graph.specs.Kept.{Kept, StandsFor, MakesStep, start_within};
-ghost use Rattle.levels.specs.Levels.{IsLive, level_at};
+ghost use Rattle.levels.specs.Levels.{GrowsForFee, IsLive, level_at};
 ghost use Rattle.levels.specs.Orders.{ListsCovers};
 ghost use Rattle.tx_graph.specs.Readings.{AreMinimalIn, IsBestOrder, IsTextOf, part_reply, place_reply, compare_reply, settle_reply};
 ghost use Rattle.levels.specs.Stays.{AllStay};
@@ -241,8 +241,8 @@ impl<const W: usize> TxGraph<W> {
     ///
     /// Refused, by the first of these that holds: `Fee` where the number is out of range, `Unknown` where the name is
     /// neither in main nor in staging, `Memory` where there is none. The graph stays as it was then. The steps grow by at
-    /// most the sum of 2·(n+2)^5 over the clusters of the name, one of each level, where n is the number of names of each,
-    /// and only where they are made anew or memory is lacking for it. Without a staging there is one.
+    /// most the sum of 2·(n+2)^5 over the clusters of the name, one of each level that has it, where n is the number of names
+    /// of each, and only where they are made anew or memory is lacking for it. Without a staging there is one.
     pub fn fee<L: Ledger>(
         &mut self,
         id: TxId,
@@ -256,11 +256,7 @@ impl<const W: usize> TxGraph<W> {
         ensures nothing { ((level : words.Level) → is_member (level_at self.old.levels level).graph id ≡ true
             → (rate_of (level_at self.old.levels level).graph id).fee ≡ fee) → steps.new ≡ steps.old }
         ensures grew { steps.old ≤ steps.new }
-        ensures alone { self.old.levels.staging ≡ None → (ids : List ℕ) → Lists (AreLinked self.old.levels.main.graph id) ids
-            → GrowsWithin (most_steps (length ids)) steps.old steps.new }
-        ensures steps { (mains tops : List ℕ) → Lists (AreLinked self.old.levels.main.graph id) mains
-            → Lists (AreLinked (level_at self.old.levels Top).graph id) tops
-            → steps.new ≤ steps.old + most_steps (length mains) + most_steps (length tops) }
+        ensures steps { GrowsForFee id steps.old steps.new self.old.levels }
     {
         if !is_fee(fee) {
             return Err(Refusal::Fee);

@@ -4,7 +4,7 @@ use Rattle.std.specs.Int.{w64}
 use Rattle.std.proofs.lemmas.Int.{to_z-of_z}
 use Rattle.fee_rate.specs.Limits.{IsFee}
 use Rattle.levels.proofs.Finds.{have_picks}
-use Rattle.levels.proofs.Repriced.{have_fee, kept_repriced, levels_failed, levels_priced, levels_same, levels_stay, live_numbered, one_rate, told_alone, told_counted}
+use Rattle.levels.proofs.Repriced.{have_fee, kept_repriced, levels_failed, levels_priced, levels_same, levels_stay, live_numbered, one_rate, told_fee}
 use Rattle.levels.proofs.Rooms.{work_fits}
 use Rattle.levels.proofs.levels.Levels.set_fee.Goals as goal
 
@@ -62,15 +62,10 @@ returns-clause-err g c =
     levels_failed g.row.W c.self.inside.issued c.args.id c.self.inside.shelves c.set_fee.new.self c.args.self.now c.self.invariant.order
     c.set_fee.ensures.order c.self.view_is c.set_fee.result c.set_fee.ensures.err
 
-pub returns-clause-alone : goal.returns-clause-alone
-returns-clause-alone g c =
-    told_alone g.row.W c.self.inside.issued c.args.id c.self.inside.shelves c.args.self.now c.self.invariant.order c.self.view_is
-    c.args.steps.now c.set_fee.new.steps c.set_fee.ensures.shared
-
 pub returns-clause-steps : goal.returns-clause-steps
 returns-clause-steps g c =
-    told_counted g.row.W c.self.inside.issued c.args.id c.self.inside.shelves c.args.self.now c.self.invariant.order c.self.view_is
-    c.args.steps.now c.set_fee.new.steps c.set_fee.ensures.steps
+    told_fee g.row.W c.self.inside.issued c.args.id c.self.inside.shelves c.args.self.now c.self.invariant.order c.self.view_is
+    c.args.steps.now c.set_fee.new.steps c.requires.live c.set_fee.ensures.shared c.set_fee.ensures.grew c.set_fee.ensures.steps
 
 pub returns-clause-grew : goal.returns-clause-grew
 returns-clause-grew g c = c.set_fee.ensures.grew

@@ -6,13 +6,13 @@ use Rattle.graph_model.specs.declared.names.Refusal.TheVariants.{Fee, Unknown, M
 use Rattle.graph_model.specs.Commands.{SetFee}
 use Rattle.graph_model.specs.Replies.{Done, Refused}
 use Rattle.tx_graph.specs.Kept.{Kept}
-use Rattle.levels.specs.Levels.{Levels, SetsFeeIn}
+use Rattle.levels.specs.Levels.{Levels, GrowsForFee, SetsFeeIn}
 use Rattle.levels.specs.Stays.{AllStay}
-use Rattle.tx_graph.proofs.Calls.{kept_of, same_levels, from_view, both_views, sound_after, sound_still, when_ok, when_err, rates_agree, fee_step, GrowsForOne, FreeForFee}
+use Rattle.tx_graph.proofs.Calls.{kept_of, same_levels, from_view, both_views, sound_after, sound_still, when_ok, when_err, rates_agree, fee_step, FreeForFee}
 use Rattle.tx_graph.proofs.Rows.{fee_out_row, fee_unknown_row, fee_row}
 use Rattle.tx_graph.proofs.Standing.{steps_refused, steps_without_memory}
 use Rattle.tx_graph.proofs.Rooms.{levels_fit}
-use Rattle.tx_graph.proofs.Unchanged.{all_stay, grows_by_none, within_two, not_larger, GrowsForBoth}
+use Rattle.tx_graph.proofs.Unchanged.{all_stay, grows_by_none, not_larger}
 use Rattle.tx_graph.proofs.graph.TxGraph.fee.Goals as goal
 
 pub returns-then-not-is_fee-clause-step : goal.returns-then-not-is_fee-clause-step
@@ -98,14 +98,6 @@ returns-clause-nothing g c =
     subst (FreeForFee c.args.id c.args.fee c.args.steps.now c.set_fee.new.steps) c.self.view_is
     (λ same. (c.set_fee.ensures.still (λ level member. same level member ∙ sym fee)).1)
 
-pub returns-then-is_err-clause-alone : goal.returns-then-is_err-clause-alone
-returns-then-is_err-clause-alone g c =
-    subst (GrowsForOne c.args.id c.args.steps.now c.set_fee.new.steps) c.self.view_is c.set_fee.ensures.alone
-
-pub returns-clause-alone : goal.returns-clause-alone
-returns-clause-alone g c =
-    subst (GrowsForOne c.args.id c.args.steps.now c.set_fee.new.steps) c.self.view_is c.set_fee.ensures.alone
-
 pub returns-then-is_err-clause-stays : goal.returns-then-is_err-clause-stays
 returns-then-is_err-clause-stays g c = subst (λ (k : Kept). AllStay k.levels c.set_fee.new.self) c.self.view_is c.set_fee.ensures.stays
 
@@ -130,11 +122,8 @@ returns-then-not-is_fee-clause-refused g c lacks = refl
 pub returns-then-not-is_fee-clause-grew : goal.returns-then-not-is_fee-clause-grew
 returns-then-not-is_fee-clause-grew g c = not_larger c.args.steps.now
 
-pub returns-then-not-is_fee-clause-alone : goal.returns-then-not-is_fee-clause-alone
-returns-then-not-is_fee-clause-alone g c alone ids lists = grows_by_none _ c.args.steps.now
-
 pub returns-then-not-is_fee-clause-steps : goal.returns-then-not-is_fee-clause-steps
-returns-then-not-is_fee-clause-steps g c mains tops one two = within_two c.args.steps.now _ _
+returns-then-not-is_fee-clause-steps g c mains tops one two = grows_by_none _ c.args.steps.now
 
 pub returns-then-not-is_live-clause-stays : goal.returns-then-not-is_live-clause-stays
 returns-then-not-is_live-clause-stays g c = all_stay c.args.self.now.levels
@@ -151,11 +140,8 @@ returns-then-not-is_live-clause-refused g c lacks = refl
 pub returns-then-not-is_live-clause-grew : goal.returns-then-not-is_live-clause-grew
 returns-then-not-is_live-clause-grew g c = not_larger c.args.steps.now
 
-pub returns-then-not-is_live-clause-alone : goal.returns-then-not-is_live-clause-alone
-returns-then-not-is_live-clause-alone g c alone ids lists = grows_by_none _ c.args.steps.now
-
 pub returns-then-not-is_live-clause-steps : goal.returns-then-not-is_live-clause-steps
-returns-then-not-is_live-clause-steps g c mains tops one two = within_two c.args.steps.now _ _
+returns-then-not-is_live-clause-steps g c mains tops one two = grows_by_none _ c.args.steps.now
 
 pub returns-then-is_err-clause-refused : goal.returns-then-is_err-clause-refused
 returns-then-is_err-clause-refused g c lacks = absurd (lacks refl)
@@ -165,7 +151,7 @@ returns-then-is_err-clause-grew g c = c.set_fee.ensures.grew
 
 pub returns-then-is_err-clause-steps : goal.returns-then-is_err-clause-steps
 returns-then-is_err-clause-steps g c =
-    subst (λ (k : Kept). GrowsForBoth c.args.id c.args.steps.now c.set_fee.new.steps k.levels) c.self.view_is c.set_fee.ensures.steps
+    subst (λ (k : Kept). GrowsForFee c.args.id c.args.steps.now c.set_fee.new.steps k.levels) c.self.view_is c.set_fee.ensures.steps
 
 pub returns-clause-refused : goal.returns-clause-refused
 returns-clause-refused g c = tt
@@ -174,4 +160,4 @@ pub returns-clause-grew : goal.returns-clause-grew
 returns-clause-grew g c = c.set_fee.ensures.grew
 
 pub returns-clause-steps : goal.returns-clause-steps
-returns-clause-steps g c = subst (λ (k : Kept). GrowsForBoth c.args.id c.args.steps.now c.set_fee.new.steps k.levels) c.self.view_is c.set_fee.ensures.steps
+returns-clause-steps g c = subst (λ (k : Kept). GrowsForFee c.args.id c.args.steps.now c.set_fee.new.steps k.levels) c.self.view_is c.set_fee.ensures.steps
