@@ -444,7 +444,10 @@ const TEXTS: [Row; 72] = [
         "yes\n",
     ),
     ("tx 1 1 1\ntx 1 1 1\nchunk 1 1 1\nend\n", "no graph\n"),
-    ("tx 1 -2100000000000001 1\nchunk -2100000000000001 1 1\nend\n", "no graph\n"),
+    (
+        "tx 1 -2100000000000001 1\nchunk -2100000000000001 1 1\nend\n",
+        "no graph\n",
+    ),
     ("tx 1 1 0\nchunk 1 0 1\nend\n", "no graph\n"),
     ("tx 1 1 4000001\nchunk 1 4000001 1\nend\n", "no graph\n"),
     ("tx 1 1 4000000\nchunk 1 4000000 1\nend\n", "yes\n"),
@@ -454,7 +457,10 @@ const TEXTS: [Row; 72] = [
     ("tx 1 1 1\nchunk 2 2 1 1\nend\n", "no order\n"),
     ("tx 1 1 1\nchunk 1 1 1\nchunk 1 1 1\nend\n", "no order\n"),
     ("tx 1 1 1\ntx 2 1 1\nchunk 1 1 1\nend\n", "no order\n"),
-    ("tx 1 1 1\ntx 2 2 1\nedge 1 2\nchunk 2 1 2\nchunk 1 1 1\nend\n", "no order\n"),
+    (
+        "tx 1 1 1\ntx 2 2 1\nedge 1 2\nchunk 2 1 2\nchunk 1 1 1\nend\n",
+        "no order\n",
+    ),
     ("tx 1 1 1\nchunk 1 2 1\nend\n", "no falling\n"),
     (
         "tx 1 0 1\ntx 2 0 1\ntx 3 3 1\nedge 1 2\nedge 2 3\nchunk 3 3 1 2 3\nflow 3 1 3\nflow 3 2 3\nend\n",
@@ -489,13 +495,31 @@ const TEXTS: [Row; 72] = [
     ("tx x 1 1\nend\n", "no syntax\n"),
     ("tx 18446744073709551616 1 1\nend\n", "no syntax\n"),
     ("tx 1 9223372036854775808 1\nend\n", "no syntax\n"),
-    ("tx 1 1 1\nchunk 1 18446744073709551616 1\nend\n", "no syntax\n"),
-    ("tx 1 1 1\nchunk -1000000000000000000000000000001 1 1\nend\n", "no syntax\n"),
-    ("tx 1 1 1\nchunk 1 1 1 18446744073709551616\nend\n", "no syntax\n"),
-    ("tx 1 1 1\nchunk 1 1 1\nflow 1 1 1000000000000000000000000000001\nend\n", "no syntax\n"),
+    (
+        "tx 1 1 1\nchunk 1 18446744073709551616 1\nend\n",
+        "no syntax\n",
+    ),
+    (
+        "tx 1 1 1\nchunk -1000000000000000000000000000001 1 1\nend\n",
+        "no syntax\n",
+    ),
+    (
+        "tx 1 1 1\nchunk 1 1 1 18446744073709551616\nend\n",
+        "no syntax\n",
+    ),
+    (
+        "tx 1 1 1\nchunk 1 1 1\nflow 1 1 1000000000000000000000000000001\nend\n",
+        "no syntax\n",
+    ),
     ("tx 1 1 1\nflow 1 1 1\nchunk 1 1 1\nend\n", "no syntax\n"),
-    ("tx 1 1 1\nchunk 1 1 1\ntx 2 1 1\nchunk 1 1 2\nend\n", "no syntax\n"),
-    ("tx 1 1 1\ntx 2 1 1\nchunk 2 2 1 2\nedge 1 2\nend\n", "no syntax\n"),
+    (
+        "tx 1 1 1\nchunk 1 1 1\ntx 2 1 1\nchunk 1 1 2\nend\n",
+        "no syntax\n",
+    ),
+    (
+        "tx 1 1 1\ntx 2 1 1\nchunk 2 2 1 2\nedge 1 2\nend\n",
+        "no syntax\n",
+    ),
     ("tx 1 1 1\nchunk 1 1 1\n", "no syntax\n"),
 ];
 
