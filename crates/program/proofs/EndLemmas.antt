@@ -10,7 +10,8 @@ use Rattle.program.specs.Endings.{Ending, Runs, IsUnbegun, Given, AreTaken, Ends
 module _ {S K : Type 0} (left : S → Option (List ℕ)) (reads : S → ℕ) (written : K → Option (List ℕ)) (writes : K → ℕ)
     (source : S) (sink : K) (end : Ending S K) where
   pub run_ends : {E : Type 0} (given : Given) (result : Result (Vec (String Global) Global) E) (words : Vec (String Global) Global) → result ≡ Ok words
-      → AreTaken given result → Runs left reads written writes (map string_bytes words.items) source sink end → Ends left reads written writes given source sink end
+      → AreTaken given result → Runs left reads written writes (map string_bytes words.items) source sink end
+      → Ends left reads written writes given source sink end
   run_ends (Ok given) (Ok list) words is taken run =
       let items : words.items ≡ into_iter_items given = cc in
       inl (subst (λ (all : List (String Global)). Runs left reads written writes (map string_bytes all) source sink end) items run)

@@ -14,6 +14,7 @@ none_left [] e = refl
 none_left (x ∷ xs) e = absurd (omega (arith, e))
 
 -- and at its end all of them
-pub all_taken : {X Z : Type 0} (s : IntoIter X Z) (xs : List X) (t u : IntoIter X Z) → Yields into_iter_steps s xs t → into_iter_steps t None u → xs ≡ into_iter_items s
+pub all_taken : {X Z : Type 0} (s : IntoIter X Z) (xs : List X) (t u : IntoIter X Z) → Yields into_iter_steps s xs t → into_iter_steps t None u
+    → xs ≡ into_iter_items s
 all_taken s xs t u y end =
     sym (taken_front s xs t y ∙ ap (λ ys. xs ++ ys) (none_left (into_iter_items t) (sym t.rest.ok.0 ∙ end.0)) ∙ append-nil xs)

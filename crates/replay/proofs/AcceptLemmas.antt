@@ -6,7 +6,7 @@ use Rattle.lists.proofs.Entries.{Contains-cases, none_in_empty}
 use Rattle.outside.specs.Transfers.{AppendsFront}
 use Rattle.graphs.specs.declared.names.Level.{Level}
 use Rattle.graphs.specs.declared.names.Level.TheVariants.{Main, Top}
-use Rattle.graphs.specs.Certificates.{Finding, Certified, NoGraph, NoOrder, NoFalling, NoFlow, Finds}
+use Rattle.graphs.specs.Certificates.{Part, Finding, Certified, NoGraph, NoOrder, NoFalling, NoFlow, Finds}
 use Rattle.graph_model.specs.Words.{spaced}
 use Rattle.graph_model.specs.Lines.{Cut, Means, Says, with_last, without_return, max_input}
 use Rattle.graph_model.specs.Commands.{Command, Proof, words_of}
@@ -181,7 +181,8 @@ line_accepted written old new line level (Replies reply) valid strict means (sho
 
 -- each line of a run with its answer is a step from a valid state
 accepted_in : {K : Type 0} (written : K → Option (List ℕ)) (old end : State) (lines : List (List ℕ)) (answers : List Answer) → IsValidState old
-    → old.plain.limits.defer ≡ false → Run old lines answers end → (line : List ℕ) (level : Level) (answer : Answer) → Contains (zip lines answers) (line, answer)
+    → old.plain.limits.defer ≡ false → Run old lines answers end → (line : List ℕ) (level : Level) (answer : Answer)
+    → Contains (zip lines answers) (line, answer)
     → Means line (Says (Proof level)) → AreAccepted written (answer_text answer)
 accepted_in written old end [] answers valid strict run line level answer here means = absurd (none_in_empty (line, answer) here)
 accepted_in written old end (first ∷ lines) [] valid strict run line level answer here means = absurd run
@@ -191,7 +192,8 @@ accepted_in written old end (first ∷ lines) (reply ∷ answers) valid strict (
           let is : first ≡ line = ap (λ (pair : List ℕ × Answer). pair.0) same in
           let gets : reply ≡ answer = ap (λ (pair : List ℕ × Answer). pair.1) same in
           line_accepted written old next line level answer valid strict means (subst₂ (λ (l : List ℕ) (a : Answer). LineStep old l a next) is gets step)
-      | inr later ↦ accepted_in written next end lines answers (line_valid old next first reply valid step) (line_strict old next first reply step strict) run line level answer later means
+      | inr later ↦ accepted_in written next end lines answers (line_valid old next first reply valid step)
+          (line_strict old next first reply step strict) run line level answer later means
     ]
 
 pub check_accepts_proofs : {K : Type 0} (written : K → Option (List ℕ)) → CheckAcceptsProofs written

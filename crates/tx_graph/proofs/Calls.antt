@@ -79,7 +79,8 @@ pub at_most_two : (w : ℕ) (kept : Kept) → IsSound kept → kept.most ≡ 64 
 at_most_two w kept sound is = omega (arith, is, sound.stands.1.plain.most, sound.stands.1.plain.valid.most)
 
 -- and one that stays
-pub sound_still : (most : ℕ) (limits : Limits) (begun : Bool) (old new : Levels) → new ≡ old → IsSound (kept_of most limits begun old) → IsSound (kept_of most limits begun new)
+pub sound_still : (most : ℕ) (limits : Limits) (begun : Bool) (old new : Levels) → new ≡ old → IsSound (kept_of most limits begun old)
+    → IsSound (kept_of most limits begun new)
 sound_still most limits begun old new same = subst (λ (l : Levels). IsSound (kept_of most limits begun l)) (sym same)
 
 order_sound : (kept : Kept) → IsSound kept → (level : Level)

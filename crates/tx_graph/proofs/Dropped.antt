@@ -54,7 +54,8 @@ module _ (was top : OneLevel) (id : ℕ) (drops : DropsPlace was.graph top.graph
       (sym live ∙ sym (same.members id) ∙ drops.members id ∙ ap (λ b. not b && is_member was.graph id) (eq-eqb id id refl)))
 
 module _ (old new : Kept) (id : ℕ) (limits : new.limits ≡ old.limits) (most : new.most ≡ old.most) (begins : new.begun ≡ true)
-    (live : is_member (level_at old.levels Top).graph id ≡ true) (top : OneLevel) (drops : DropsPlace (level_at old.levels Top).graph top.graph id) (topped : AreTopped old.levels top new.levels) where
+    (live : is_member (level_at old.levels Top).graph id ≡ true) (top : OneLevel) (drops : DropsPlace (level_at old.levels Top).graph top.graph id)
+    (topped : AreTopped old.levels top new.levels) where
   abbrev was : OneLevel
   was = level_at old.levels Top
 

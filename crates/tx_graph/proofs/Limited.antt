@@ -19,7 +19,8 @@ keeps_still old new same picked = record {
   staging = λ a b was is _. ap (λ (l : OneLevel). l.parts) (same_Some b a (sym is ∙ ap (λ (l : Levels). l.staging) same ∙ was));
 }
 
-module _ (old new : Kept) (set : Limits) (limits : new.limits ≡ set) (most : new.most ≡ old.most) (begins : new.begun ≡ true) (levels : new.levels ≡ old.levels) where
+module _ (old new : Kept) (set : Limits) (limits : new.limits ≡ set) (most : new.most ≡ old.most) (begins : new.begun ≡ true)
+    (levels : new.levels ≡ old.levels) where
   accepts_limited : AcceptsAll old new (SetLimits (bounds_of set)) Done
   accepts_limited state stands = (
     limited state (bounds_of set),

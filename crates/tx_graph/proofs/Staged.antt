@@ -119,7 +119,8 @@ module _ (old new : Kept) (limits : new.limits ≡ old.limits) (most : new.most 
   commits_pick open_is state stands =
       let one = some_staged old.levels.staging open_is in
       let main : new.levels.main ≡ one.0 = ap (λ (l : Levels). l.main) levels ∙ ap (top_of old.levels.main) one.1 in (
-        ap (λ (p : Picks). p.staging) stands.picks ∙ ap (option_map (λ (l : OneLevel). Some l.parts)) one.1 ∙ ap (λ (l : OneLevel). Some (Some l.parts)) (sym main),
+        ap (λ (p : Picks). p.staging) stands.picks ∙ ap (option_map (λ (l : OneLevel). Some l.parts)) one.1
+            ∙ ap (λ (l : OneLevel). Some (Some l.parts)) (sym main),
         ap (λ (l : Levels). (picks_of l).staging) levels,
       )
 

@@ -15,11 +15,14 @@ use Rattle.tx_graph.proofs.graph.TxGraph.dep.Goals as goal
 pub returns-in_err-dep-clause-step : goal.returns-in_err-dep-clause-step
 returns-in_err-dep-clause-step g c =
     let why = c.in_err-dep.field-0.0 in
-    subst (λ r. MakesStep c.args.self.now (kept_of (64 * g.row.W) c.self.inside.limits c.self.inside.begun c.dep.new.self) (Dep c.args.parent c.args.child) (change_reply r))
+    subst (λ r. MakesStep c.args.self.now (kept_of (64 * g.row.W) c.self.inside.limits c.self.inside.begun c.dep.new.self)
+    (Dep c.args.parent c.args.child) (change_reply r))
     (sym (error_is c.from_residual.result why c.from_residual.ensures.1))
-    (same_levels (64 * g.row.W) c.self.inside.limits c.self.inside.begun c.self.inside.levels c.dep.new.self c.args.self.now (Dep c.args.parent c.args.child) (Refused why)
+    (same_levels (64 * g.row.W) c.self.inside.limits c.self.inside.begun c.self.inside.levels c.dep.new.self c.args.self.now
+    (Dep c.args.parent c.args.child) (Refused why)
     c.in_err-dep.ensures.err c.self.view_is
-    (dep_refused (kept_of (64 * g.row.W) c.self.inside.limits c.self.inside.begun c.self.inside.levels) c.args.parent c.args.child why c.in_err-dep.ensures.row))
+    (dep_refused
+    (kept_of (64 * g.row.W) c.self.inside.limits c.self.inside.begun c.self.inside.levels) c.args.parent c.args.child why c.in_err-dep.ensures.row))
 
 pub returns-in_err-dep-clause-steps : goal.returns-in_err-dep-clause-steps
 returns-in_err-dep-clause-steps g c =
@@ -27,14 +30,16 @@ returns-in_err-dep-clause-steps g c =
 
 pub invariant_of-self-2 : goal.invariant_of-self-2
 invariant_of-self-2 g c =
-    sound_after (kept_of (64 * g.row.W) c.self.inside.limits c.self.inside.begun c.self.inside.levels) (kept_of (64 * g.row.W) c.self.inside.limits true c.dep.new.self)
+    sound_after (kept_of (64 * g.row.W) c.self.inside.limits c.self.inside.begun c.self.inside.levels)
+    (kept_of (64 * g.row.W) c.self.inside.limits true c.dep.new.self)
     (Dep c.args.parent c.args.child) Done c.self.invariant c.self.invariant.in_range c.dep.ensures.picks
     (dep_step (64 * g.row.W) c.self.inside.limits c.self.inside.begun c.self.inside.levels c.dep.new.self c.dep.ensures.picks c.self.invariant
     c.args.parent c.args.child c.in_ok-dep.ensures.row c.in_ok-dep.ensures.linked (λ there. (c.dep.ensures.still there).0))
 
 pub returns-clause-step : goal.returns-clause-step
 returns-clause-step g c =
-    from_view (kept_of (64 * g.row.W) c.self.inside.limits c.self.inside.begun c.self.inside.levels) c.args.self.now (kept_of (64 * g.row.W) c.self.inside.limits true c.dep.new.self)
+    from_view (kept_of (64 * g.row.W) c.self.inside.limits c.self.inside.begun c.self.inside.levels) c.args.self.now
+    (kept_of (64 * g.row.W) c.self.inside.limits true c.dep.new.self)
     (Dep c.args.parent c.args.child) Done c.self.view_is
     (dep_step (64 * g.row.W) c.self.inside.limits c.self.inside.begun c.self.inside.levels c.dep.new.self c.dep.ensures.picks c.self.invariant
     c.args.parent c.args.child c.in_ok-dep.ensures.row c.in_ok-dep.ensures.linked (λ there. (c.dep.ensures.still there).0))

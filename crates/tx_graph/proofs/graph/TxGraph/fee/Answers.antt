@@ -69,7 +69,8 @@ pub invariant_of-self-2 : goal.invariant_of-self-2
 invariant_of-self-2 g c =
     let fee = to_z-of_z w64 c.args.fee c.ranges.fee in
     let done = sym c.is_err.ensures.value ∙ c.if-is_err.false in
-    sound_after (kept_of (64 * g.row.W) c.self.inside.limits c.self.inside.begun c.self.inside.levels) (kept_of (64 * g.row.W) c.self.inside.limits true c.set_fee.new.self)
+    sound_after (kept_of (64 * g.row.W) c.self.inside.limits c.self.inside.begun c.self.inside.levels)
+    (kept_of (64 * g.row.W) c.self.inside.limits true c.set_fee.new.self)
     (SetFee c.args.id c.args.fee) Done c.self.invariant c.self.invariant.in_range c.set_fee.ensures.picks
     (fee_step (64 * g.row.W) c.self.inside.limits c.self.inside.begun c.self.inside.levels c.set_fee.new.self c.set_fee.ensures.picks
     c.args.id c.args.fee (subst IsFee fee (c.is_fee.ensures.0 c.if-not-is_fee.false)) (c.is_live.ensures.0 c.if-not-is_live.false)

@@ -27,7 +27,8 @@ invariant_of-self g c =
 pub returns-then-is_err-clause-step : goal.returns-then-is_err-clause-step
 returns-then-is_err-clause-step g c =
     let kept = kept_of (64 * g.row.W) c.self.inside.limits c.self.inside.begun c.self.inside.levels in
-    same_levels (64 * g.row.W) c.self.inside.limits c.self.inside.begun c.self.inside.levels c.remove.new.self c.args.self.now (Remove c.args.id) (Refused Memory)
+    same_levels (64 * g.row.W) c.self.inside.limits c.self.inside.begun c.self.inside.levels c.remove.new.self c.args.self.now (Remove c.args.id)
+    (Refused Memory)
     (when_err c.remove.result (sym c.is_err.ensures.value ∙ c.if-is_err.true) c.remove.ensures.err) c.self.view_is
     (steps_without_memory kept (Remove c.args.id) tt (known_here kept Top c.args.id (sym c.has.ensures ∙ c.if-not-has.false)))
 

@@ -28,13 +28,15 @@ returns-then-not-are_in_range-clause-step g c =
 pub invariant_of-self : goal.invariant_of-self
 invariant_of-self g c =
     let in_range = subst (λ n. AreInRange n (bounds_of c.args.limits)) c.most_names.ensures (c.are_in_range.ensures.0 c.if-not-are_in_range.false) in
-    sound_after (kept_of (64 * g.row.W) c.self.inside.limits c.self.inside.begun c.self.inside.levels) (kept_of (64 * g.row.W) c.args.limits true c.self.inside.levels)
+    sound_after (kept_of (64 * g.row.W) c.self.inside.limits c.self.inside.begun c.self.inside.levels)
+    (kept_of (64 * g.row.W) c.args.limits true c.self.inside.levels)
     (SetLimits (bounds_of c.args.limits)) Done c.self.invariant in_range c.self.invariant.picked
     (limits_step (64 * g.row.W) c.self.inside.limits c.args.limits c.self.inside.begun c.self.inside.levels c.self.invariant.picked c.if-self.false in_range)
 
 pub returns-clause-step : goal.returns-clause-step
 returns-clause-step g c =
-    from_view (kept_of (64 * g.row.W) c.self.inside.limits c.self.inside.begun c.self.inside.levels) c.args.self.now (kept_of (64 * g.row.W) c.args.limits true c.self.inside.levels)
+    from_view (kept_of (64 * g.row.W) c.self.inside.limits c.self.inside.begun c.self.inside.levels) c.args.self.now
+    (kept_of (64 * g.row.W) c.args.limits true c.self.inside.levels)
     (SetLimits (bounds_of c.args.limits)) Done c.self.view_is
     (limits_step (64 * g.row.W) c.self.inside.limits c.args.limits c.self.inside.begun c.self.inside.levels c.self.invariant.picked c.if-self.false
     (subst (λ n. AreInRange n (bounds_of c.args.limits)) c.most_names.ensures (c.are_in_range.ensures.0 c.if-not-are_in_range.false)))

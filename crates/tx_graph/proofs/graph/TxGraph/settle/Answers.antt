@@ -25,7 +25,8 @@ invariant_of-self g c =
     (kept_of (64 * g.row.W) c.self.inside.limits true c.close.new.levels) Settle (Settled c.compare-verdict.result) c.self.invariant
     c.self.invariant.in_range
     (picks_settled c.self.inside.levels c.close.new.levels c.compare-verdict.result c.close.ensures.better c.close.ensures.other c.self.invariant.picked)
-    (settle_step (64 * g.row.W) c.self.inside.limits c.self.inside.begun c.self.inside.levels c.close.new.levels c.compare-verdict.result c.self.invariant.picked
+    (settle_step (64 * g.row.W) c.self.inside.limits c.self.inside.begun c.self.inside.levels c.close.new.levels c.compare-verdict.result
+    c.self.invariant.picked
     c.compare-verdict.ensures.rates c.compare-verdict.ensures.verdict c.in_ok-needs_staging.ensures
     c.close.ensures.better c.close.ensures.other)
 
@@ -33,7 +34,8 @@ pub returns-clause-step : goal.returns-clause-step
 returns-clause-step g c =
     from_view (kept_of (64 * g.row.W) c.self.inside.limits c.self.inside.begun c.self.inside.levels)
     c.args.self.now (kept_of (64 * g.row.W) c.self.inside.limits true c.close.new.levels) Settle (Settled c.compare-verdict.result) c.self.view_is
-    (settle_step (64 * g.row.W) c.self.inside.limits c.self.inside.begun c.self.inside.levels c.close.new.levels c.compare-verdict.result c.self.invariant.picked
+    (settle_step (64 * g.row.W) c.self.inside.limits c.self.inside.begun c.self.inside.levels c.close.new.levels c.compare-verdict.result
+    c.self.invariant.picked
     c.compare-verdict.ensures.rates c.compare-verdict.ensures.verdict c.in_ok-needs_staging.ensures
     c.close.ensures.better c.close.ensures.other)
 
