@@ -33,7 +33,7 @@ returns-clause-best g c =
 
 pub returns-clause-minimal : goal.returns-clause-minimal
 returns-clause-minimal g c =
-    let kept = kept_of c.self.inside.limits c.self.inside.begun c.self.inside.levels in
+    let kept = kept_of (64 * g.row.W) c.self.inside.limits c.self.inside.begun c.self.inside.levels in
     subst (λ (parts : List Part). (state : State) → StandsFor c.args.self.now state → AreMinimalIn state c.args.level parts) (sym (returns-clause-parts g c))
     (subst (λ (k : Kept). (state : State) → StandsFor k state → AreMinimalIn state c.args.level (level_at k.levels c.args.level).parts) c.self.view_is
     (none_cut kept c.args.level c.parts.ensures.best))
