@@ -1,5 +1,5 @@
 -- The changes with the worst of what stands in both decide.
-use Rattle.std.proofs.Common.{◌*◌, ◌<◌, ◌^◌, ◌∙◌, List, ap, sym, subst, refl, arith}
+use Rattle.std.proofs.Common.{◌<◌, ◌^◌, ◌∙◌, List, ap, sym, subst, refl, arith}
 use Rattle.fee_rate.specs.declared.rates.Sum.{Sum}
 use Rattle.graphs.specs.Rates.{sum_of}
 use Rattle.graphs.specs.declared.names.Level.TheVariants.{Main, Top}
