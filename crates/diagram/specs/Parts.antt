@@ -1,15 +1,20 @@
 -- Parts of a level, as an iterator gives them.
-use Rattle.std.specs.Prelude.{◌≡◌, ◌+◌, ◌≤◌, ◌+ℤ◌, List, ◌++◌, Contains, Option, IfSome}
+use Rattle.std.specs.Prelude.{◌≡◌, ◌+◌, ◌≤◌, ◌+ℤ◌, List, ◌++◌, map, Contains, Option, IfSome}
 use Rattle.std.specs.Iterator.{AlwaysYields}
 use Rattle.fee_rate.specs.declared.rates.FeeRate.{FeeRate}
 use Rattle.fee_rate.specs.declared.rates.Sum.{Sum}
 use Rattle.fee_rate.specs.Limits.{InRange, IsSum}
 use Rattle.fee_rate.specs.Rates.{AtMost}
+use Rattle.graphs.specs.Certificates.{Part}
 use Rattle.graphs.specs.Rates.{sum_of, Falls}
 
 -- a part's fee and size, as a sum
 abbrev pub rate_of : FeeRate → Sum
 rate_of part = record { fee = part.fee; size = part.size }
+
+-- fee and size of each part of an order
+abbrev pub sums_of : List Part → List Sum
+sums_of parts = map (λ part. part.rate) parts
 
 -- Parts of falling rate, with sizes of at least 1. Each part, and the sum of each front of them, is in the range of a level's sums.
 pub record AreLevelParts (parts : List Sum) : Type 0 where

@@ -29,7 +29,6 @@ mod Lookups
 mod Making
 mod Marks
 mod Most
-mod Merging
 mod Naming
 mod Only
 mod Pairs
@@ -66,4 +65,3 @@ mod Under
 mod Unmoved
 mod Ways
 mod Tagging
-mod Tailed

@@ -8,7 +8,6 @@
 #![tactic(auto)]
 
 mod changes;
-mod comparing;
 mod levels;
 mod links;
 mod moving;

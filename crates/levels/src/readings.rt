@@ -17,7 +17,6 @@ ghost use Rattle.levels.specs.Orders.{ComparesParts, ListsCovers, sums_of};
 ghost use Rattle.levels.specs.Places.{HasPart};
 ghost use Rattle.levels.specs.Shelves.{IsInOrder, numbers_at, one_of};
 
-use crate::comparing::compare_store;
 use crate::shelves::Shelves;
 use cluster::{Covers, PartRef};
 use cluster_store::{PartWalk, RateWalk, Stored};
@@ -121,7 +120,7 @@ impl<const W: usize> Shelves<W> {
         requires few { (level : levels.Level) → finmap.len (numbers_at level self.now) ≤ MAX_TOTAL }
         ensures { ComparesParts (one_of Main self.now).parts (one_of Top self.now).parts result }
     {
-        compare_store(self.store())
+        comparison::compare(self.store())
     }
 
     // The number of the cluster of a name that a level has.

@@ -284,7 +284,7 @@ fits_each parts fit part h =
       },
     )
 
-level_parts : (level : List Sum) → Falls level → FitTogether level → AreLevelParts level
+pub level_parts : (level : List Sum) → Falls level → FitTogether level → AreLevelParts level
 level_parts level falls fit = record {
   falling = falls;
   some = fit.some;

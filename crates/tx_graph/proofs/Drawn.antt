@@ -20,7 +20,7 @@ use Rattle.graph_model.specs.States.{PlainState, level_of}
 use Rattle.graph_model.specs.States as states
 use Rattle.levels.specs.Levels.{OneLevel, Levels, HavePicks, level_at}
 use Rattle.tx_graph.specs.Kept.{Kept, IsGraphOf, StandsPlainly, MakesStep}
-use Rattle.levels.specs.Orders.{sums_of}
+use Rattle.diagram.specs.Parts.{sums_of}
 use Rattle.tx_graph.proofs.Standing.{graph_at, sum_kept}
 use Rattle.tx_graph.proofs.Picked.{pick_at, pick_here}
 use Rattle.tx_graph.proofs.Reading.{steps_told}

@@ -3,12 +3,11 @@ use Rattle.std.proofs.Common.{rules, ◌≡◌, ◌≤◌, ℕ, true, sym, ap, �
 use Rattle.fee_rate.specs.Limits.{IsRate}
 use Rattle.graphs.specs.Closures.{is_member, rate_of}
 use Rattle.fee_rate.specs.declared.rates.FeeRate.{FeeRate}
-use Rattle.diagram.specs.Parts.{AreLevelParts, rate_of as part_rate}
+use Rattle.diagram.specs.Parts.{AreLevelParts, rate_of as part_rate, sums_of}
+use Rattle.diagram.proofs.StepLemmas.{always_first}
 use Rattle.levels.specs.Levels.{OneLevel, level_at}
-use Rattle.levels.specs.Orders.{sums_of}
 use Rattle.levels.proofs.Finds.{level_is}
 use Rattle.levels.proofs.Keeping.{few_kept}
-use Rattle.levels.proofs.Merging.{always_first}
 use Rattle.levels.proofs.Summing.{level_parts, rated}
 use Rattle.levels.proofs.levels.Levels.rates.Goals as goal
 

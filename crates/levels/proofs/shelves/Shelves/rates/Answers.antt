@@ -1,8 +1,8 @@
 -- The rates of what is shown are those of its parts.
 use Rattle.std.proofs.Common.{◌∙◌, ap}
 use Rattle.cluster_store.specs.Stores.{Store, parts_of_level, shown_in}
-use Rattle.levels.specs.Orders.{sums_of}
-use Rattle.levels.proofs.Merging.{rates_shown}
+use Rattle.comparison.proofs.Merging.{rates_shown}
+use Rattle.diagram.specs.Parts.{sums_of}
 use Rattle.levels.proofs.shelves.Shelves.rates.Goals as goal
 
 pub returns : goal.returns

@@ -5,7 +5,7 @@ use Rattle.graphs.proofs.CornerLemmas.{joins_some}
 use Rattle.graph_model.specs.Commands.{Diagram}
 use Rattle.graph_model.specs.Replies.{Points}
 use Rattle.levels.specs.Levels.{level_at}
-use Rattle.levels.specs.Orders.{sums_of}
+use Rattle.diagram.specs.Parts.{sums_of}
 use Rattle.tx_graph.proofs.Calls.{kept_of, both_views}
 use Rattle.tx_graph.proofs.Drawn.{steps_drawn}
 use Rattle.tx_graph.proofs.Rooms.{levels_fit}

@@ -1,49 +1,36 @@
 -- What stands in one level alone merges with what stands in both to the level, told by the tags of the clusters.
-use Rattle.std.proofs.Common.{◌≡◌, ℕ, ◌<◌, ◌≤◌, pos, ◌≤ℤ◌, Bool, true, List, [], ◌∷◌, ◌++◌, map, length, get_or, nat_lt, Option, None, Some, Contains, ◌↔◌, refl, sym, ap, ◌∙◌, subst, subst₂, arith}
+use Rattle.std.proofs.Common.{◌≡◌, ◌⊎◌, ℕ, ◌<◌, ◌≤◌, pos, ◌≤ℤ◌, Bool, true, List, [], ◌∷◌, ◌++◌, map, length, nat_lt, Option, None, Some, Contains, ◌↔◌, inl, inr, refl, sym, ap, ◌∙◌, subst, subst₂, arith}
 use Rattle.std.proofs.lemmas.List.{map-append}
 use Rattle.std.specs.FinMap as finmap
-use Rattle.std.specs.Iterator.{AlwaysYields, YieldsFirstBy}
+use Rattle.std.specs.Iterator.{YieldsFirstBy}
 use Rattle.std.specs.List.{filter}
 use Rattle.std.proofs.lemmas.Bool.Decides.{nat_tests}
-use Rattle.lists.proofs.Entries.{Contains-map, filter-Contains, map-Contains, not_empty, first_of, rest_of}
-use Rattle.std.proofs.lemmas.List.Elements.{Contains-get_or}
+use Rattle.lists.proofs.Entries.{Contains-map, Contains-filter, filter-Contains, map-Contains}
 use Rattle.fee_rate.specs.declared.rates.FeeRate.{FeeRate}
 use Rattle.fee_rate.specs.declared.rates.Sum.{Sum}
 use Rattle.graphs.specs.declared.names.Level.{Level}
 use Rattle.graphs.specs.declared.names.Level.TheVariants.{Main, Top}
 use Rattle.graphs.specs.Rates.{Falls}
-use Rattle.graphs.proofs.ClosureGraphs.{closures_have_graphs}
 use Rattle.graphs.proofs.MergeLemmas.{sorted_falls}
 use Rattle.chunk_index.specs.declared.entry.Tag.{Tag}
 use Rattle.chunk_index.specs.declared.entry.Tag.TheVariants.{Both, MainOnly, TopOnly}
 use Rattle.chunk_index.specs.Items.{is_in, same_tag}
-use Rattle.cluster.specs.Clusters.{IsCluster}
-use Rattle.cluster.proofs.Placed.{beyond, closed}
-use Rattle.cluster_store.specs.Stores.{Stored, Numbered, Store, Shown, IsStore, no_part, parts_in, part_in, part_at, passes, places_by, shown_at, shown_by, shown_in, shown_only, parts_of_level}
-use Rattle.cluster_store.proofs.Levels.{comes_before, before_falls, sorted_places, part_sizes}
-use Rattle.diagram.specs.Parts.{rate_of, AreLevelParts, YieldsParts}
+use Rattle.cluster_store.specs.Stores.{Stored, Numbered, Store, Shown, IsOrdered, parts_in, part_at, passes, places_by, shown_at, shown_by, shown_in, shown_only, parts_of_level}
+use Rattle.cluster_store.proofs.Levels.{comes_before, before_falls, sorted_places}
+use Rattle.diagram.specs.Parts.{rate_of, sums_of, AreLevelParts}
+use Rattle.diagram.proofs.StepLemmas.{always_first}
 use Rattle.replacement.specs.Changes.{EndsNonNegative, AreNonNegative, HaveSizes, IsEither, IsMerged, YieldsChanges}
+use Rattle.replacement.specs.Merging.{FitTogether}
 use Rattle.replacement.proofs.LevelLemmas.{changes_are_level_parts, tested_parts_merge}
+use Rattle.replacement.proofs.MergedWalks.{level_parts}
 use Rattle.replacement.proofs.PartLists.{empty_ends, last_decides}
-use Rattle.levels.specs.Orders.{sums_of}
 
--- ---- what walks show
-
--- an iterator that shows what is left gives it
-pub always_first : {A B : Type 0} (view : A → B) (s list : List B) → s ≡ list
-    → AlwaysYields {S = List B} {A = A} (YieldsFirstBy view (λ rest. rest)) view s list
-always_first view s [] is = λ x t step. not_empty (sym step ∙ is)
-always_first view s (y ∷ ys) is = (
-  λ t step. not_empty (sym is ∙ step.0),
-  λ x t step. let both = sym step ∙ is in (first_of both, always_first view t ys (rest_of both)),
-)
+-- ---- what walks over a level show
 
 -- the rates of what is shown are those of its parts
 pub rates_shown : (shown : List Shown) → map (λ (s : Shown). s.part.rate) shown ≡ sums_of (map (λ (s : Shown). s.part) shown)
 rates_shown [] = refl
 rates_shown (s ∷ shown) = ap (λ (rest : List Sum). s.part.rate ∷ rest) (rates_shown shown)
-
--- ---- what walks over a level show
 
 module _ (level : Level) (store : Store) where
   -- whether its last part has a fee of at least 0
@@ -59,14 +46,6 @@ module _ (level : Level) (store : Store) where
 
   pub none_ends : shown_in level store ≡ [] → EndsNonNegative (sums_of (parts_of_level level store))
   none_ends none = subst EndsNonNegative (ap (λ (shown : List Shown). sums_of (map (λ (s : Shown). s.part) shown)) (sym none)) empty_ends
-
-  -- the fees and sizes of all its parts
-  pub yields_level : (rates : List Sum) → rates ≡ map (λ (s : Shown). s.part.rate) (shown_in level store) → AreLevelParts (sums_of (parts_of_level level store))
-      → YieldsParts {S = List Sum} (YieldsFirstBy rate_of (λ rest. rest)) rates (sums_of (parts_of_level level store))
-  yields_level rates are level_parts = record {
-    yields = always_first {A = FeeRate} rate_of rates (sums_of (parts_of_level level store)) (are ∙ rates_shown (shown_in level store));
-    level = level_parts;
-  }
 
 -- ---- what stands under tags
 
@@ -89,22 +68,40 @@ tested : (test : Tag → Bool) (store : Store) → rates_by test store ≡ map (
 unfolding places_by
 tested test store = rates_of_places store.clusters (filter (test_at test store.clusters) store.order)
 
--- ---- every part that is stored has a size, and rates fall
+-- what has a part stands in main or in the top level
+in_either : (o : Option Stored) (position : ℕ) → position < length (parts_in o) → (passes (is_in Main) o ≡ true) ⊎ (passes (is_in Top) o ≡ true)
+in_either None position low = absurd (omega (arith, low))
+in_either (Some s) position low = by s.tag
+  where
+    by : (t : Tag) → (is_in Main t ≡ true) ⊎ (is_in Top t ≡ true)
+    by Both = inl refl
+    by MainOnly = inl refl
+    by TopOnly = inr refl
 
 size_real : (n : ℕ) → 1 ≤ n → nat_lt 0 n ≡ true
 size_real n e = grind (arith, nat_tests)
 
-module _ (most : ℕ) (store : Store) (is : IsStore most store) where
-  sized_in : (place : ℕ × ℕ) (o : Option Stored) → finmap.get store.clusters place.0 ≡ o → place.1 < length (parts_in o) → 1 ≤ (part_in o place.1).rate.size
-  sized_in place None there low = absurd (omega (arith, low))
-  sized_in place (Some s) there low =
-      let whole : IsCluster most s.cluster = is.whole place.0 s there in
-      let graph = closures_have_graphs (beyond s.cluster.names) s.cluster.graph (closed most s.cluster whole) in
-      part_sizes most s.cluster whole graph.0 graph.2 (get_or s.cluster.parts place.1 no_part) (Contains-get_or s.cluster.parts place.1 no_part low)
+-- ---- a store whose parts fit together, of each level
+
+module _ (store : Store) (ordered : IsOrdered store.clusters store.order)
+    (fits : (level : Level) → FitTogether (sums_of (parts_of_level level store))) where
+  -- a part of a level has a size
+  sized_in : (level : Level) (place : ℕ × ℕ) → Contains store.order place → test_at (is_in level) store.clusters place ≡ true
+      → 1 ≤ (rate_at store.clusters place).size
+  sized_in level place here passed =
+      let told = sym (rates_shown (shown_in level store)) ∙ tested (is_in level) store in
+      (fits level).some (rate_at store.clusters place)
+      (subst (λ (rates : List Sum). Contains rates (rate_at store.clusters place)) (sym told)
+      (Contains-map (rate_at store.clusters) (filter (test_at (is_in level) store.clusters) store.order) place
+      (Contains-filter (test_at (is_in level) store.clusters) store.order place passed here)))
 
   sized : (place : ℕ × ℕ) → Contains store.order place → 1 ≤ (rate_at store.clusters place).size
-  sized place here = sized_in place (finmap.get store.clusters place.0) refl ((is.ordered.exact place).0 here)
+  sized place here = elim (in_either (finmap.get store.clusters place.0) place.1 ((ordered.exact place).0 here)) [
+    | inl main ↦ sized_in Main place here main
+    | inr top ↦ sized_in Top place here top
+  ]
 
+  -- so every part that is stored has one, and rates fall
   all_sized : HaveSizes (map (rate_at store.clusters) store.order)
   all_sized rate here =
       let found = map-Contains (rate_at store.clusters) store.order rate here in
@@ -113,14 +110,15 @@ module _ (most : ℕ) (store : Store) (is : IsStore most store) where
   all_fall : Falls (map (rate_at store.clusters) store.order)
   all_fall =
       sorted_falls (comes_before store.clusters) (rate_at store.clusters) store.order (before_falls store.clusters)
-      (sorted_places store.clusters store.order is.ordered.sorted (λ place here. size_real (rate_at store.clusters place).size (sized place here)))
+      (sorted_places store.clusters store.order ordered.sorted (λ place here. size_real (rate_at store.clusters place).size (sized place here)))
 
+  -- what stands under tags falls
   pub falls_by : (test : Tag → Bool) → Falls (rates_by test store)
   falls_by test =
       subst Falls (sym (tested test store))
       (tested_parts_merge.falling (rate_at store.clusters) (test_at test store.clusters) store.order all_sized all_fall)
 
-  -- what stands under tags has sizes
+  -- and has sizes
   pub sizes_by : (test : Tag → Bool) → HaveSizes (rates_by test store)
   sizes_by test =
       subst HaveSizes (sym (tested test store))
@@ -158,11 +156,14 @@ module _ (most : ℕ) (store : Store) (is : IsStore most store) where
         subst (λ (l : List Sum). IsMerged (rates_by (same_tag tag) store) (rates_by (same_tag Both) store) l) (rates_shown (shown_in level store))
         (merges (same_tag tag) (same_tag Both) (is_in level) alone)
 
-    module _ (are : AreLevelParts (sums_of (parts_of_level level store))) (ends : EndsNonNegative (sums_of (parts_of_level level store))) where
+    module _ (ends : EndsNonNegative (sums_of (parts_of_level level store))) where
+      are_parts : AreLevelParts (sums_of (parts_of_level level store))
+      are_parts = level_parts (sums_of (parts_of_level level store)) level_merges.falling (fits level)
+
       alone_are_parts : AreLevelParts (rates_by (same_tag tag) store) × EndsNonNegative (rates_by (same_tag tag) store)
       alone_are_parts =
-          changes_are_level_parts.alone (rates_by (same_tag tag) store) (rates_by (same_tag Both) store) (sums_of (parts_of_level level store)) are ends
-          level_merges (falls_by (same_tag tag))
+          changes_are_level_parts.alone (rates_by (same_tag tag) store) (rates_by (same_tag Both) store) (sums_of (parts_of_level level store))
+          are_parts ends level_merges (falls_by (same_tag tag))
 
       pub yields_alone : (rates : List Sum) → rates ≡ map (λ (s : Shown). s.part.rate) (shown_only tag store)
           → YieldsChanges {S = List Sum} (YieldsFirstBy rate_of (λ rest. rest)) rates (rates_by (same_tag tag) store)
@@ -176,8 +177,8 @@ module _ (most : ℕ) (store : Store) (is : IsStore most store) where
 
       pub common_pays : AreNonNegative (rates_by (same_tag Both) store)
       common_pays =
-          changes_are_level_parts.common (rates_by (same_tag tag) store) (rates_by (same_tag Both) store) (sums_of (parts_of_level level store)) are ends
-          level_merges
+          changes_are_level_parts.common (rates_by (same_tag tag) store) (rates_by (same_tag Both) store) (sums_of (parts_of_level level store))
+          are_parts ends level_merges
 
 pub main_alone : (t : Tag) → IsEither (same_tag MainOnly t) (same_tag Both t) (is_in Main t)
 main_alone Both = refl

@@ -2,19 +2,19 @@
 use Rattle.std.proofs.Common.{rules, arith, FitsSigned, w64, sym, ◌∙◌}
 use Rattle.std.proofs.lemmas.Int.{ints}
 use Rattle.cluster_store.specs.Walks.{shown_part}
-use Rattle.levels.proofs.Merging.{ends_by_last, none_ends}
-use Rattle.levels.proofs.Rooms.{stored_fits}
-use Rattle.levels.proofs.comparing.ends_well.Goals as goal
+use Rattle.comparison.proofs.Merging.{ends_by_last, none_ends}
+use Rattle.comparison.proofs.Rooms.{stored_fits}
+use Rattle.comparison.proofs.ends_well.Goals as goal
 
-pub returns-in-Some : goal.returns-in-Some
-returns-in-Some g c =
+pub returns-in-Some-clause-last : goal.returns-in-Some-clause-last
+returns-in-Some-clause-last g c =
     let fits : FitsSigned w64 c.in-Some.shown.part.rate.fee = search rules in
     let both = ends_by_last c.args.level c.args.store.now c.next_back.new.self (shown_part c.in-Some.shown)
     (sym c.walk.ensures.parts ∙ c.in-Some.ensures.steps) in
     (λ h. both.0 (grind (arith, ints, h)), λ ends. let pays = both.1 ends in grind (arith, ints, pays))
 
-pub returns-in-None : goal.returns-in-None
-returns-in-None g c =
+pub returns-in-None-clause-last : goal.returns-in-None-clause-last
+returns-in-None-clause-last g c =
     let ends = none_ends c.args.level c.args.store.now (sym c.walk.ensures.parts ∙ c.in-None.ensures.steps.0) in
     ((λ _. ends), (λ _. search rules))
 
