@@ -12,10 +12,10 @@ use Rattle.name_book.proofs.Rings.{rung-itself, rung-turned, rung-linked}
 
 -- ---- one name
 
-one-is : (q x : ℕ) → Contains (q ∷ []) x → x ≡ q
+pub one-is : (q x : ℕ) → Contains (q ∷ []) x → x ≡ q
 one-is q x here = sym (Contains-one q x here)
 
-is-one : (q x : ℕ) → x ≡ q → Contains (q ∷ []) x
+pub is-one : (q x : ℕ) → x ≡ q → Contains (q ∷ []) x
 is-one q x same = subst (Contains (q ∷ [])) (sym same) (Contains-head q [])
 
 -- A name is cut out of its ring, and joins that of another.

@@ -1,5 +1,5 @@
 -- What becomes of the touched names, where the table of names changes.
-use Rattle.std.proofs.Common.{◌≡◌, ◌≢◌, ◌⊎◌, ◌↔◌, ℕ, ◌+◌, ◌<◌, List, ◌∷◌, Contains, Option, Some, None, refl, sym, ap, subst, ◌∙◌, inl, inr, nat_eq, true≢false, true, false, arith}
+use Rattle.std.proofs.Common.{◌≡◌, ◌≢◌, ◌⊎◌, ◌↔◌, ℕ, ◌+◌, ◌<◌, List, [], ◌∷◌, Contains, Option, Some, None, refl, sym, ap, subst, ◌∙◌, inl, inr, nat_eq, true≢false, true, false, arith}
 use Rattle.std.specs.Prelude.{MatchOption}
 use Rattle.std.specs.Option.{option_eq}
 use Rattle.std.proofs.lemmas.Bool.{cases_eq, eqb-true}
@@ -8,8 +8,9 @@ use Rattle.std.specs.FinSet as set
 use Rattle.std.specs.Ordering.{nat_cmp}
 use Rattle.lists.proofs.Entries.{Contains-head, Contains-later, Contains-cases}
 use Rattle.name_book.specs.Books.{Table, IsNamed, AreRung, Ringed, IsMarked, AreMarks}
-use Rattle.name_book.specs.Changes.{GainsAlone, JoinsAll, KeepsRing, Loses, Unites}
+use Rattle.name_book.specs.Changes.{GainsAlone, JoinsAll, KeepsRing, Loses}
 use Rattle.name_book.specs.Calls.{Drops, Gains, Keeps, Releases, Touches}
+use Rattle.name_book.proofs.Gathering.{is-one, one-is}
 use Rattle.name_book.proofs.Named.{len-less, len-more, named-less, named-more, named-same, none-named}
 use Rattle.name_book.proofs.Rings.{rung-itself, rung-turned, rung-linked}
 
@@ -67,50 +68,6 @@ module _ (table : Table) (id : ℕ) (live : IsNamed table id) (marks : AreMarks 
     alone = λ a b rung apart. absurd (marks.alone a b rung apart);
   }
 
-  pub first-marked : (x : ℕ) → AreRung table 1 id x ↔ (⊥ ⊎ (x ≡ id))
-  first-marked x = (
-    λ rung. inr (sym (unmarked-alone (rings_of table None) id x marks (λ none. none) rung)),
-    λ h. elim h [ inl none ↦ absurd none | inr same ↦ subst (AreRung table 1 id) (sym same) (rung-itself table 1 id live) ],
-  )
-
--- one more name is touched
-module _ (old new : Table) (first id : ℕ) (names : new.names ≡ old.names) (unites : Unites old new 1 first id) (live : IsNamed old id)
-    (marks : AreMarks (rings_of old (Some first))) (untouched : AreRung old 1 first id → ⊥) where
-  itself : AreRung old 1 first first
-  itself = rung-itself old 1 first (marks.live first refl)
-
-  alone : (x : ℕ) → AreRung old 1 id x → id ≡ x
-  alone x = unmarked-alone (rings_of old (Some first)) id x marks untouched
-
-  kept : (x : ℕ) → AreRung old 1 first x → AreRung new 1 first x
-  kept x rung = (unites first x).1 (inl rung)
-
-  joined : (a : ℕ) → AreRung old 1 a id → AreRung new 1 first a
-  joined a rung = (unites first a).1 (inr (inl (itself, rung-turned old 1 a id rung)))
-
-  pub touched-marked : (x : ℕ) → AreRung new 1 first x ↔ (AreRung old 1 first x ⊎ (x ≡ id))
-  touched-marked x = (
-    λ rung. elim ((unites first x).0 rung) [
-      | inl was ↦ inl was
-      | inr (inl over) ↦ inr (sym (alone x over.1))
-      | inr (inr over) ↦ absurd (untouched over.0)
-    ],
-    λ h. elim h [
-      | inl was ↦ kept x was
-      | inr same ↦ subst (AreRung new 1 first) (sym same) (joined id (rung-itself old 1 id live))
-    ],
-  )
-
-  pub touched-marks : AreMarks (rings_of new (Some first))
-  touched-marks = record {
-    live = λ t is. named-same old new names t (marks.live t is);
-    alone = λ a b rung apart. elim ((unites a b).0 rung) [
-      | inl was ↦ kept a (marks.alone a b was apart)
-      | inr (inl over) ↦ kept a (rung-turned old 1 a first over.0)
-      | inr (inr over) ↦ joined a over.0
-    ];
-  }
-
 -- more names are touched, beside one
 module _ (old new : Table) (first : ℕ) (ids : List ℕ) (names : new.names ≡ old.names) (joins : JoinsAll old new 1 first ids)
     (marks : AreMarks (rings_of old (Some first))) where
@@ -159,9 +116,9 @@ module _ (old new : Table) (touched : Option ℕ) (id : ℕ) (absent : IsNamed o
   pub gained-unmarked : IsMarked (rings_of new touched) id → ⊥
   gained-unmarked h = absent (marked-named old touched id ((gained-marked id).0 h))
 
-  pub gained-marks : ((x : ℕ) → IsNamed old x → IsNamed new x) → AreMarks (rings_of new touched)
-  gained-marks named = record {
-    live = λ t is. named t (marks.live t is);
+  pub gained-marks : new.names ≡ set.insert old.names id → AreMarks (rings_of new touched)
+  gained-marks names = record {
+    live = λ t is. (named-more old new id names t).1 (inl (marks.live t is));
     alone = λ a b rung apart. elim ((gains a b).0 rung) [
       | inl was ↦ (gained-marked a).1 (marks.alone a b was apart)
       | inr both ↦ absurd (apart (both.0 ∙ sym both.1))
@@ -256,13 +213,13 @@ module _ (old new : Table) (touched : Option ℕ) (id : ℕ) (absent : IsNamed o
     issued = counts.1;
   }
 
-  pub gains-touched : (later : Ringed) → Touches (λ x. x ≡ id) (rings_of new touched) later → Gains true id (rings_of old touched) later
+  pub gains-touched : (later : Ringed) → Touches (Contains (id ∷ [])) (rings_of new touched) later → Gains true id (rings_of old touched) later
   gains-touched later touches = record {
     names = λ x. subst (λ (s : set.FinSet nat_cmp). (set.contains s x ≡ true) ↔ (IsNamed old x ⊎ (x ≡ id))) (sym touches.names) (named-more old new id names x);
     main = λ x y. (λ share. (rings 0 (omega arith) x y).0 ((touches.main x y).0 share), λ h. (touches.main x y).1 ((rings 0 (omega arith) x y).1 h));
     touched = λ x. (
-      λ marked. elim ((touches.touched x).0 marked) [ inl was ↦ inl ((was-marked x).0 was) | inr same ↦ inr (refl, same) ],
-      λ h. (touches.touched x).1 (elim h [ inl was ↦ inl ((was-marked x).1 was) | inr both ↦ inr both.1 ]),
+      λ marked. elim ((touches.touched x).0 marked) [ inl was ↦ inl ((was-marked x).0 was) | inr here ↦ inr (refl, one-is id x here) ],
+      λ h. (touches.touched x).1 (elim h [ inl was ↦ inl ((was-marked x).1 was) | inr both ↦ inr (is-one id x both.1) ]),
     );
     len = ap (λ s. set.len s) touches.names ∙ len-more old new id names absent;
     spare = ap (λ n. n + 1) touches.spare ∙ counts.0;

@@ -2,7 +2,7 @@
 ghost use Rattle.std.specs.Prelude.{◌≡◌, ◌≢◌, ℕ, ◌+◌, ◌-◌, ◌^◌, ◌<◌, ◌≤◌, ◌↔◌, Some, Contains, IsOk, OnOk, MatchOption};
 ghost use Rattle.std.specs.FinSet as set;
 ghost use Rattle.lists.specs.Distinct.{AreDistinct};
-ghost use Rattle.name_book.specs.Books.{AreMarks, has, IsMarked, IsNamed, ShareMain};
+ghost use Rattle.name_book.specs.Books.{has, IsMarked, IsNamed, ShareMain};
 ghost use Rattle.name_book.specs.Calls.{Drops, Gains, HasNone, Joins, Keeps, Parts, Releases, Touches};
 
 use crate::table::RingTable;
@@ -87,7 +87,7 @@ impl NameBook {
     {
         self.table.insert(id);
         if staged {
-            touch(&mut self.table, &mut self.touched, id);
+            self.touch_all(&[id]);
         }
     }
 
@@ -166,19 +166,5 @@ impl NameBook {
     {
         let _table = &self.table;
         self.touched
-    }
-}
-
-// Touches a name that wasn't.
-fn touch(table: &mut RingTable, touched: &mut Option<TxId>, id: TxId)
-    requires live { IsNamed table.old id }
-    requires marks { AreMarks (record { book = table.old; touched = touched.old }) }
-    requires untouched { IsMarked (record { book = table.old; touched = touched.old }) id → ⊥ }
-    ensures marks { AreMarks (record { book = table.new; touched = touched.new }) }
-    ensures touches { Touches (λ x. x ≡ id) (record { book = table.old; touched = touched.old }) (record { book = table.new; touched = touched.new }) }
-{
-    match *touched {
-        None => *touched = Some(id),
-        Some(first) => table.join(TOUCHED, first, id),
     }
 }
