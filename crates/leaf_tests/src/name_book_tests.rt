@@ -1,207 +1,202 @@
-ghost use Rattle.std.specs.Prelude.{◌≡◌, ◌+◌, ◌-◌, ◌<◌, ◌≤◌, ◌^◌, false};
-ghost use Rattle.name_book.specs.Books.{IsNamed, AreRung};
-
-mod rounds;
-mod several;
+ghost use Rattle.std.specs.Prelude.{◌≡◌, ◌+◌, ◌-◌, ◌<◌, ◌≤◌, ◌^◌};
 
 use graphs::TxId;
 use name_book::NameBook;
 use outside::NoMemory;
-use rounds::{cut_each, remove_ring};
-use several::{join_all, make_ring};
 use std::process::Abort;
 use std::test::Fail;
 
-/// What is done to a table.
+/// What is done to a book.
 #[derive(Clone, Copy)]
 enum Step {
-    Insert(TxId),
-    Remove(TxId),
-    Join(usize, TxId, TxId),
-    Cut(usize, TxId),
-    CutEach(TxId),
-    RemoveRing(usize, TxId),
-    MakeRing(usize, [TxId; 3]),
-    JoinAll(usize, TxId, [TxId; 2]),
-    CutNext(usize, TxId),
+    // With whether there is a staging.
+    Add(TxId, bool),
+    Touch(TxId, TxId),
+    Release(TxId),
+    // The second leaves its cluster for that of the first.
+    Move(TxId, TxId),
+    Part(TxId, TxId),
+    Forget(TxId),
 }
 
 // Each call stands in a function that says no more than how many names were issued: no test needs more of the contracts.
 
-fn insert(book: &mut NameBook, id: TxId) -> Result<(), NoMemory>
-    requires { book.old.issued < 2 ^ 64 - 1 }
-    ensures { book.new.issued ≤ book.old.issued + 1 }
+fn add(book: &mut NameBook, id: TxId, staged: bool) -> Result<(), NoMemory>
+    requires { book.old.book.issued < 2 ^ 64 - 1 }
+    ensures { book.new.book.issued ≤ book.old.book.issued + 1 }
 {
     if !book.has(id) && book.len() < 100 {
         book.reserve(1)?;
-        book.insert(id);
+        book.add(id, staged);
     }
     Ok(())
 }
 
-fn remove(book: &mut NameBook, id: TxId)
-    ensures { book.new.issued ≡ book.old.issued }
+fn touch(book: &mut NameBook, a: TxId, b: TxId)
+    ensures { book.new.book.issued ≡ book.old.book.issued }
+{
+    if a != b && book.has(a) && book.has(b) {
+        book.release(a);
+        book.release(b);
+        book.touch_all(&[a, b]);
+    }
+}
+
+fn release(book: &mut NameBook, id: TxId)
+    ensures { book.new.book.issued ≡ book.old.book.issued }
 {
     if book.has(id) {
-        book.remove(id);
+        book.release(id);
     }
 }
 
-// Whether `b` stands in the ring of `a`.
-fn are_rung(book: &NameBook, r: usize, a: TxId, b: TxId) -> bool
-    requires r_in_range { r < 2 }
-    requires live { IsNamed book.now a }
-    ensures apart { result ≡ false → AreRung book.now r a b → ⊥ }
+fn move_to(book: &mut NameBook, to: TxId, id: TxId)
+    ensures { book.new.book.issued ≡ book.old.book.issued }
 {
-    for id in book.ring(r, a) {
-        if id == b {
-            return true;
-        }
+    if to != id && book.has(to) && book.has(id) {
+        book.part(&[id]);
+        book.join(to, id);
     }
-    false
 }
 
-fn join(book: &mut NameBook, r: usize, a: TxId, b: TxId)
-    ensures { book.new.issued ≡ book.old.issued }
+fn part(book: &mut NameBook, a: TxId, b: TxId)
+    ensures { book.new.book.issued ≡ book.old.book.issued }
 {
-    if r < 2 && book.has(a) && book.has(b) && !are_rung(book, r, a, b) {
-        book.join(r, a, b);
+    if a != b && book.has(a) && book.has(b) {
+        book.part(&[a, b]);
     }
 }
 
-fn cut(book: &mut NameBook, r: usize, a: TxId)
-    ensures { book.new.issued ≡ book.old.issued }
-{
-    if r < 2 && book.has(a) {
-        book.cut(r, a);
-    }
-}
-
-fn cut_next(book: &mut NameBook, r: usize, a: TxId) -> Option<TxId>
-    ensures { book.new.issued ≡ book.old.issued }
-{
-    if r < 2 && book.has(a) {
-        return book.cut_next(r, a);
-    }
-    None
-}
-
-fn cut_ring(book: &mut NameBook, id: TxId)
-    ensures { book.new.issued ≡ book.old.issued }
+fn forget(book: &mut NameBook, id: TxId)
+    ensures { book.new.book.issued ≡ book.old.book.issued }
 {
     if book.has(id) {
-        cut_each(book, id);
+        book.forget(id);
     }
 }
 
-fn drop_ring(book: &mut NameBook, r: usize, id: TxId)
-    ensures { book.new.issued ≡ book.old.issued }
-{
-    if r < 2 && book.has(id) {
-        remove_ring(book, r, id);
-    }
-}
-
-// Takes a step where its condition holds, and else none. Answers the name that `cut_next` does.
-fn take(book: &mut NameBook, step: Step) -> Result<Option<TxId>, NoMemory>
-    requires { book.old.issued < 2 ^ 64 - 1 }
-    ensures { book.new.issued ≤ book.old.issued + 1 }
+// Takes a step where its condition holds, and else none.
+fn take(book: &mut NameBook, step: Step) -> Result<(), NoMemory>
+    requires { book.old.book.issued < 2 ^ 64 - 1 }
+    ensures { book.new.book.issued ≤ book.old.book.issued + 1 }
 {
     match step {
-        Step::Insert(id) => insert(book, id)?,
-        Step::Remove(id) => remove(book, id),
-        Step::Join(r, a, b) => join(book, r, a, b),
-        Step::Cut(r, a) => cut(book, r, a),
-        Step::CutEach(id) => cut_ring(book, id),
-        Step::RemoveRing(r, id) => drop_ring(book, r, id),
-        Step::MakeRing(r, names) => make_ring(book, r, names),
-        Step::JoinAll(r, to, names) => join_all(book, r, to, names),
-        Step::CutNext(r, a) => return Ok(cut_next(book, r, a)),
-    }
-    Ok(None)
-}
-
-// Whether these are the names of a ring in their order; none are where the name isn't live.
-fn shows(book: &NameBook, r: usize, id: TxId, names: &[TxId]) -> bool {
-    if r >= 2 || !book.has(id) {
-        return names.is_empty();
-    }
-    book.ring(r, id).eq(names.iter().copied())
-}
-
-/// A step, what it answers, a name, and both rings of that name then.
-type Row = (Step, Option<TxId>, TxId, [&'static [TxId]; 2]);
-
-static RINGS: [Row; 20] = [
-    (Step::Insert(1), None, 1, [&[1], &[1]]),
-    (Step::Insert(2), None, 2, [&[2], &[2]]),
-    (Step::Join(0, 1, 2), None, 1, [&[1, 2], &[1]]),
-    (Step::Insert(3), None, 3, [&[3], &[3]]),
-    (Step::Join(0, 1, 3), None, 1, [&[1, 3, 2], &[1]]),
-    (Step::Insert(4), None, 1, [&[1, 3, 2], &[1]]),
-    (Step::Join(0, 4, 2), None, 1, [&[1, 3, 2, 4], &[1]]),
-    (Step::Join(1, 2, 4), None, 2, [&[2, 4, 1, 3], &[2, 4]]),
-    (Step::Cut(0, 2), None, 1, [&[1, 3, 4], &[1]]),
-    (Step::Cut(1, 1), None, 4, [&[4, 1, 3], &[4, 2]]),
-    (Step::Remove(3), None, 1, [&[1, 4], &[1]]),
-    (Step::Insert(3), None, 3, [&[3], &[3]]),
-    (Step::Join(0, 2, 1), None, 1, [&[1, 2, 4], &[1]]),
-    (Step::Join(1, 3, 4), None, 2, [&[2, 4, 1], &[2, 4, 3]]),
-    (
-        Step::MakeRing(0, [4, 3, 1]),
-        None,
-        4,
-        [&[4, 1, 3], &[4, 3, 2]],
-    ),
-    (Step::CutNext(0, 3), Some(4), 1, [&[1, 4], &[1]]),
-    (
-        Step::JoinAll(0, 4, [2, 3]),
-        None,
-        4,
-        [&[4, 3, 2, 1], &[4, 3, 2]],
-    ),
-    (Step::CutEach(1), None, 2, [&[2, 1, 4, 3], &[2]]),
-    (Step::Cut(0, 3), None, 3, [&[3], &[3]]),
-    (Step::RemoveRing(0, 4), None, 2, [&[], &[]]),
-];
-
-static CUTS: [Row; 5] = [
-    (Step::Insert(1), None, 1, [&[1], &[1]]),
-    (Step::Insert(2), None, 2, [&[2], &[2]]),
-    (Step::Join(0, 1, 2), None, 1, [&[1, 2], &[1]]),
-    (Step::CutNext(0, 1), Some(2), 1, [&[1], &[1]]),
-    (Step::CutNext(0, 1), None, 1, [&[1], &[1]]),
-];
-
-// Takes the steps of rows, and looks at both rings of a name after each.
-fn follow(rt: &impl Abort, book: &mut NameBook, rows: &[Row]) -> Result<(), Fail>
-    requires { book.old.issued ≡ 0 }
-{
-    for (at, row) in rows.iter().enumerate() {
-        let (step, answer, of, [ring_0, ring_1]) = *row;
-        let answered = take(book, step)? == answer;
-        let rung = shows(book, 0, of, ring_0) && shows(book, 1, of, ring_1);
-        assert!(rt; answered && rung, "at row {at}");
+        Step::Add(id, staged) => add(book, id, staged)?,
+        Step::Touch(a, b) => touch(book, a, b),
+        Step::Release(id) => release(book, id),
+        Step::Move(to, id) => move_to(book, to, id),
+        Step::Part(a, b) => part(book, a, b),
+        Step::Forget(id) => forget(book, id),
     }
     Ok(())
 }
 
-#[test]
-fn a_cut_tells_the_name_after(rt: HostRuntime) -> Result<(), Fail> {
-    let mut book = NameBook::new(rt.alloc());
-    follow(&rt, &mut book, &CUTS)
+/// Steps, how many names there are then, and the touched ones of them.
+type Row = (&'static [Step], usize, &'static [TxId]);
+
+static RUNS: [Row; 7] = [
+    (&[Step::Add(1, false), Step::Add(1, true)], 1, &[]),
+    (
+        &[Step::Add(1, true), Step::Add(2, true), Step::Release(1)],
+        2,
+        &[2],
+    ),
+    (
+        &[Step::Add(1, true), Step::Add(2, false), Step::Release(1)],
+        2,
+        &[],
+    ),
+    (
+        &[
+            Step::Add(1, true),
+            Step::Add(2, true),
+            Step::Add(3, true),
+            Step::Forget(1),
+            Step::Release(4),
+        ],
+        2,
+        &[2, 3],
+    ),
+    (
+        &[
+            Step::Add(1, false),
+            Step::Add(2, true),
+            Step::Add(3, false),
+            Step::Touch(3, 1),
+            Step::Forget(2),
+            Step::Touch(1, 2),
+        ],
+        2,
+        &[1, 3],
+    ),
+    (
+        &[
+            Step::Add(1, false),
+            Step::Add(2, false),
+            Step::Move(1, 2),
+            Step::Touch(1, 2),
+            Step::Part(1, 2),
+            Step::Move(2, 1),
+        ],
+        2,
+        &[1, 2],
+    ),
+    (
+        &[
+            Step::Add(3, false),
+            Step::Add(1, false),
+            Step::Touch(1, 3),
+            Step::Forget(1),
+            Step::Add(1, true),
+            Step::Forget(3),
+        ],
+        1,
+        &[1],
+    ),
+];
+
+// Takes steps in turn.
+fn follow(book: &mut NameBook, steps: &[Step]) -> Result<(), NoMemory>
+    requires { book.old.book.issued ≡ 0 }
+{
+    for (at, step) in steps.iter().enumerate() {
+        let _so_far = at;
+        take(book, *step)?;
+    }
+    Ok(())
 }
 
-fn follow_the_table(rt: &impl Abort, book: &mut NameBook) -> Result<(), Fail>
-    requires { book.old.issued ≡ 0 }
+// Whether these are the touched names. They aren't any more then.
+fn shows(book: &mut NameBook, names: &[TxId]) -> bool {
+    for _name in names {
+        match book.first() {
+            Some(id) => {
+                if !names.contains(&id) {
+                    return false;
+                }
+                book.release(id);
+            }
+            None => return false,
+        }
+    }
+    book.first().is_none()
+}
+
+fn follow_row(rt: &impl Abort, book: &mut NameBook, at: usize, row: &Row) -> Result<(), Fail>
+    requires { book.old.book.issued ≡ 0 }
 {
-    follow(rt, book, &RINGS)?;
-    assert!(rt; book.len() == 1 && book.has(3));
+    let (steps, len, touched) = *row;
+    follow(book, steps)?;
+    let told = book.len() == len && shows(book, touched);
+    assert!(rt; told, "at row {at}");
     Ok(())
 }
 
 #[test]
-fn rings_follow_the_table(rt: HostRuntime) -> Result<(), Fail> {
-    let mut book = NameBook::new(rt.alloc());
-    follow_the_table(&rt, &mut book)
+fn names_follow_the_table(rt: HostRuntime) -> Result<(), Fail> {
+    for (at, row) in RUNS.iter().enumerate() {
+        let mut book = NameBook::new(rt.alloc());
+        follow_row(&rt, &mut book, at, row)?;
+    }
+    Ok(())
 }

@@ -6,6 +6,7 @@ use Rattle.std.proofs.lemmas.List.{take_more}
 use Rattle.std.proofs.lemmas.List.Elements.{Contains-append_left, Contains-push, Contains-push_cases}
 use Rattle.lists.proofs.Entries.{none_in_empty}
 use Rattle.cluster.specs.Clusters.{Cluster, AreApart}
+use Rattle.name_book.specs.Calls.{ArePartedOff}
 use Rattle.levels.specs.Changes.{IsNamed as HasName}
 use Rattle.levels.specs.Rings.{Ringed, AreNamedOnce, ShareMain}
 use Rattle.levels.proofs.Ends.{got, pairs_last}
@@ -35,14 +36,8 @@ named_front front c x named = (named.0, Contains-append_left front (c ∷ []) na
 named_last : (front : List Cluster) (c : Cluster) (x : ℕ) → Contains c.names x → HasName (front ++ c ∷ []) x
 named_last front c x here = (c, Contains-push front c, here)
 
--- these names alone became a ring
-abbrev pub IsCutOut : Ringed → List ℕ → Ringed → Type 0
-IsCutOut old names new =
-    (x y : ℕ) → ShareMain new x y
-    ↔ ((ShareMain old x y × (Contains names x → ⊥) × (Contains names y → ⊥)) ⊎ (Contains names x × Contains names y))
-
 pub cut_more : (old mid new : Ringed) (front : List Cluster) (c : Cluster) → AreCut old front mid → ((d : Cluster) → Contains front d → AreApart d c)
-    → IsCutOut mid c.names new → AreCut old (front ++ c ∷ []) new
+    → ArePartedOff c.names mid new → AreCut old (front ++ c ∷ []) new
 cut_more old mid new front c so apart cut x y = (
   λ share. elim ((cut x y).0 share) [
     | inl away ↦ elim ((so x y).0 away.0) [
@@ -94,7 +89,7 @@ module _ (cs : List Cluster) (i : ℕ) (c : Cluster) (is : slice_get cs i ≡ So
   listed = let at = got cs i c is in (i, at.0, at.1 c)
 
   -- the cluster of the next number is cut out
-  pub cut_next : (old mid new : Ringed) → AllPairs AreApart cs → AreCut old (take i cs) mid → IsCutOut mid c.names new → AreCut old (take (i + 1) cs) new
+  pub cut_next : (old mid new : Ringed) → AllPairs AreApart cs → AreCut old (take i cs) mid → ArePartedOff c.names mid new → AreCut old (take (i + 1) cs) new
   cut_next old mid new pairs so cut =
       let apart : (d : Cluster) → Contains (take i cs) d → AreApart d c = λ d here.
       pairs_last (take i cs) c d (subst (AllPairs AreApart) one_more (pairs_taken (i + 1) cs pairs)) here in

@@ -7,7 +7,8 @@ use Rattle.lists.proofs.Entries.{Contains-head, Contains-cases, none_in_empty}
 use Rattle.fee_rate.specs.declared.rates.FeeRate.{FeeRate}
 use Rattle.graphs.specs.declared.names.Level.TheVariants.{Main, Top}
 use Rattle.cluster.specs.Clusters.{Cluster}
-use Rattle.name_book.specs.Books.{Book, AreRung, IsNamed}
+use Rattle.name_book.specs.Books.{IsNamed}
+use Rattle.name_book.specs.Calls.{Gains, Keeps}
 use Rattle.levels.specs.Changes.{PointsOne}
 use Rattle.levels.specs.Changes as changes
 use Rattle.levels.specs.Kept.{SuitsShelf}
@@ -15,38 +16,14 @@ use Rattle.levels.specs.Moves.{AddsOne}
 use Rattle.levels.specs.Rings.{Ringed, AreRight}
 use Rattle.levels.specs.Shelves.{Shelf, IsInOrder, numbers_at}
 use Rattle.levels.specs.Views.{Numbers}
-use Rattle.levels.proofs.Naming.{Gains, right_added, right_added_staged}
+use Rattle.levels.proofs.Naming.{right_added, right_added_staged}
+use Rattle.levels.proofs.Touching.{right_kept, same_named}
 
 -- ---- room that was made
 
-rung_still : (book : Book) (s r a b : ℕ) → AreRung (record book { spare = s }) r a b ↔ AreRung book r a b
-rung_still book s zero a b = (
-  λ rung. record { from = rung.from; to = rung.to; steps = rung.steps; back = rung.back },
-  λ rung. record { from = rung.from; to = rung.to; steps = rung.steps; back = rung.back },
-)
-rung_still book s (suc r) a b = (
-  λ rung. record { from = rung.from; to = rung.to; steps = rung.steps; back = rung.back },
-  λ rung. record { from = rung.from; to = rung.to; steps = rung.steps; back = rung.back },
-)
-
-marked_still : (book : Book) (s x : ℕ) (o : Option ℕ)
-    → MatchOption o ⊥ (λ t. AreRung (record book { spare = s }) 1 t x) ↔ MatchOption o ⊥ (λ t. AreRung book 1 t x)
-marked_still book s x None = (λ h. h, λ h. h)
-marked_still book s x (Some t) = rung_still book s 1 t x
-
-pub right_reserved : (old new : Ringed) (main top : Numbers) → new ≡ record old { book = record old.book { spare = new.book.spare } } → AreRight old main top
-    → AreRight new main top
-right_reserved old new main top same right = subst (λ (r : Ringed). AreRight r main top) (sym same) (record {
-  names = right.names;
-  zero = λ a b. (
-    λ share. (right.zero a b).0 ((rung_still old.book new.book.spare 0 a b).0 share),
-    λ is. (rung_still old.book new.book.spare 0 a b).1 ((right.zero a b).1 is),
-  );
-  touched = λ id. (
-    λ marked. (right.touched id).0 ((marked_still old.book new.book.spare id old.touched).0 marked),
-    λ apart. (marked_still old.book new.book.spare id old.touched).1 ((right.touched id).1 apart),
-  );
-})
+pub right_reserved : (old new : Ringed) (main top : Numbers) → Keeps old new → AreRight old main top → AreRight new main top
+right_reserved old new main top keeps =
+    right_kept old new main top (record { names = same_named old new keeps.names; main = keeps.main; touched = keeps.touched })
 
 -- ---- a name that is in neither level
 

@@ -1,6 +1,6 @@
 -- What is kept of the levels, seen from the levels.
 use Rattle.std.proofs.Common.{◌≡◌, ◌↔◌, ℕ, ◌≤◌, List, length, Option, Some, None, is_some, IsSome, inl, inr, refl, sym, ap, ◌∙◌, subst, arith, true≢false}
-use Rattle.std.specs.Prelude.{option_map, MatchOption}
+use Rattle.std.specs.Prelude.{option_map}
 use Rattle.std.proofs.lemmas.Option.{none-some}
 use Rattle.std.specs.Ordering.{nat_cmp}
 use Rattle.std.proofs.lemmas.List.Kept.{AllPairs-from_increasing}
@@ -15,7 +15,8 @@ use Rattle.graphs.specs.Graphs.{Lists}
 use Rattle.graphs.specs.declared.names.Level.{Level}
 use Rattle.graphs.specs.declared.names.Level.TheVariants.{Main, Top}
 use Rattle.fee_rate.specs.declared.limits.TheConstants.{MAX_TOTAL}
-use Rattle.name_book.specs.Books.{AreRung, IsNamed}
+use Rattle.name_book.specs.Books.{IsNamed}
+use Rattle.name_book.specs.Calls.{HasNone}
 use Rattle.cluster_store.specs.Stores.{parts_of_level, places_by}
 use Rattle.levels.specs.Kept.{IsKept, SuitsShelf}
 use Rattle.levels.specs.Levels.{Levels, IsLive, level_at, no_names}
@@ -76,28 +77,24 @@ module _ (w issued : ℕ) (shelf : Shelf) (now : Levels) (order : IsInOrder w sh
 no_name : (id : ℕ) → IsSome (finmap.get {X = ℕ} (finmap.empty {R = nat_cmp}) id) → ⊥
 no_name id some = true≢false (sym some ∙ ap is_some (finmap.get-empty nat_cmp id))
 
-right_none : (rings : Ringed) → ((id : ℕ) → IsNamed rings.book id → ⊥) → rings.touched ≡ None → AreRight rings finmap.empty finmap.empty
-right_none rings none touched = record {
-  names = λ id. (λ named. absurd (none id named), λ held. absurd (elim held [ inl main ↦ no_name id main | inr top ↦ no_name id top ]));
+right_none : (rings : Ringed) → HasNone rings → AreRight rings finmap.empty finmap.empty
+right_none rings none = record {
+  names = λ id. (λ named. absurd (none.names id named), λ held. absurd (elim held [ inl main ↦ no_name id main | inr top ↦ no_name id top ]));
   zero = λ a b. (
-    λ share. absurd (none a share.from),
-    λ is. absurd (elim is [ inl one ↦ none a one.0 | inr of ↦ none-some of.0 (sym (finmap.get-empty nat_cmp a) ∙ of.1) ]),
+    λ share. absurd (none.names a share.from),
+    λ is. absurd (elim is [ inl one ↦ none.names a one.0 | inr of ↦ none-some of.0 (sym (finmap.get-empty nat_cmp a) ∙ of.1) ]),
   );
-  touched = λ id. (
-    λ marked. absurd (subst (λ (o : Option ℕ). MatchOption o ⊥ (λ t. AreRung rings.book 1 t id)) touched marked),
-    λ apart. absurd (apart refl),
-  );
+  touched = λ id. (λ marked. absurd (none.touched id marked), λ apart. absurd (apart refl));
 }
 
-pub kept_none : (w : ℕ) (shelf : Shelf) (rings : Ringed) → shelf ≡ no_clusters → IsInOrder w shelf → ((id : ℕ) → IsNamed rings.book id → ⊥)
-    → rings.touched ≡ None → rings.book.issued ≡ 0 → set.len rings.book.names ≡ 0 → IsKept w shelf rings 0 0 0
-kept_none w shelf rings empty order none touched issued len = record {
+pub kept_none : (w : ℕ) (shelf : Shelf) (rings : Ringed) → shelf ≡ no_clusters → IsInOrder w shelf → HasNone rings → IsKept w shelf rings 0 0 0
+kept_none w shelf rings empty order none = record {
   order = order;
-  right = subst (λ (s : Shelf). SuitsShelf rings s) (sym empty) (right_none rings none touched);
+  right = subst (λ (s : Shelf). SuitsShelf rings s) (sym empty) (right_none rings none);
   mains = sym (ap (λ (s : Shelf). finmap.len s.main) empty ∙ finmap.len-empty nat_cmp ℕ);
   tops = sym (ap (λ (s : Shelf). finmap.len (numbers_at Top s)) empty ∙ finmap.len-empty nat_cmp ℕ);
-  issued = sym issued;
-  few = subst (λ n. n ≤ MAX_TOTAL) (sym len) (omega arith);
+  issued = sym none.issued;
+  few = subst (λ n. n ≤ MAX_TOTAL) (sym none.len) (omega arith);
 }
 
 pub levels_none : (shelf : Shelf) → shelf ≡ no_clusters → levels_of shelf 0 ≡ no_names

@@ -27,7 +27,6 @@ mod Leaving
 mod Linking
 mod Lookups
 mod Making
-mod Marks
 mod Most
 mod Naming
 mod Only

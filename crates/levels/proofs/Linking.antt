@@ -8,6 +8,7 @@ use Rattle.graphs.specs.Closures.{is_ancestor}
 use Rattle.graphs.specs.declared.names.Level.TheVariants.{Top}
 use Rattle.cluster.specs.Changes.{AreAcross}
 use Rattle.name_book.specs.Books.{IsNamed}
+use Rattle.name_book.specs.Calls.{Joins}
 use Rattle.levels.specs.Changes.{IsNamed as HasName}
 use Rattle.levels.specs.Kept.{SuitsShelf}
 use Rattle.levels.specs.Links.{IsLink}
@@ -19,7 +20,7 @@ use Rattle.levels.specs.declared.links.Link.TheVariants.{Between}
 use Rattle.levels.proofs.Graphs.{in_above, names_of_above}
 use Rattle.levels.proofs.Leaving.{right_exchanged}
 use Rattle.levels.proofs.Making.{named_one, one_named}
-use Rattle.levels.proofs.Rejoining.{Joins, right_joined}
+use Rattle.levels.proofs.Rejoining.{right_joined}
 use Rattle.levels.proofs.Righting.{right_staged}
 use Rattle.levels.proofs.Shelved.{cases_staging, none_of}
 use Rattle.levels.proofs.Touching.{Touches, above_out, in_one, kept_by, left_untouched, marks_one, marks_two, none_left_now, right_kept, same_named, second_untouched}
@@ -54,12 +55,6 @@ module _ (w number p q : ℕ) (old new : Shelf) (order : IsInOrder w old) (now :
   ]
 
 -- ---- names of two clusters
-
--- where the rings of two names of main became one
-pub joins_of : (p q : ℕ) (old new : Ringed) → new.book.names ≡ old.book.names
-    → ((x y : ℕ) → ShareMain new x y ↔ (ShareMain old x y ⊎ (ShareMain old x p × ShareMain old q y) ⊎ (ShareMain old x q × ShareMain old p y)))
-    → ((x : ℕ) → IsMarked new x ↔ IsMarked old x) → Joins p q old new
-joins_of p q old new names main touched = record { names = same_named old new names; main = main; touched = touched }
 
 module _ (w above below p q : ℕ) (old new : Shelf) (order : IsInOrder w old) (now : IsInOrder w new) (link : IsLink w old p q (Between above below))
     (j : JoinsTwo w above below p q old new) (before : Ringed) (right : SuitsShelf before old) where

@@ -5,15 +5,10 @@ use Rattle.std.proofs.lemmas.Option.{none-some, same_Some}
 use Rattle.std.specs.FinMap as finmap
 use Rattle.lists.proofs.Entries.{Contains-head, Contains-cases, none_in_empty}
 use Rattle.name_book.specs.Books.{IsNamed}
+use Rattle.name_book.specs.Calls.{Gains}
 use Rattle.levels.specs.Changes.{PointsOne}
-use Rattle.levels.specs.Rings.{Ringed, AreRight, IsMarked, ShareMain}
+use Rattle.levels.specs.Rings.{Ringed, AreRight}
 use Rattle.levels.specs.Views.{Numbers}
-
--- what the rings have after a name was added
-pub record Gains (staged : Bool) (id : ℕ) (old new : Ringed) : Type 0 where
-  pub names : (x : ℕ) → IsNamed new.book x ↔ (IsNamed old.book x ⊎ (x ≡ id))
-  pub main : (x y : ℕ) → ShareMain new x y ↔ (ShareMain old x y ⊎ ((x ≡ id) × (y ≡ id)))
-  pub touched : (x : ℕ) → IsMarked new x ↔ (IsMarked old x ⊎ ((staged ≡ true) × (x ≡ id)))
 
 module _ (id number : ℕ) (main top later : Numbers) (absent_main : finmap.get main id ≡ None) (absent : finmap.get top id ≡ None)
     (points : PointsOne number (id ∷ []) top later) (before after : Ringed) (right : AreRight before main top) where

@@ -8,6 +8,8 @@ use Rattle.lists.proofs.Told.{told_number}
 use Rattle.cluster.specs.Clusters.{Cluster}
 use Rattle.cluster.specs.Changes.{AreAcross}
 use Rattle.name_book.specs.Books.{IsNamed}
+use Rattle.name_book.specs.Calls.{Joins}
+use Rattle.name_book.proofs.Named.{named-same}
 use Rattle.levels.specs.Changes.{Rebuilds}
 use Rattle.levels.specs.Rings.{Ringed, AreOfOne, AreRight, IsMarked, ShareMain}
 use Rattle.levels.specs.Views.{View, IsIndexed, Numbers}
@@ -16,12 +18,6 @@ use Rattle.levels.proofs.Making.{named_one}
 -- what is right where both levels have the same numbers
 pub right_names : (rings : Ringed) (m : Numbers) (x : ℕ) → AreRight rings m m → IsNamed rings.book x ↔ IsSome (finmap.get m x)
 right_names rings m x right = (λ named. elim ((right.names x).0 named) [ inl one ↦ one | inr two ↦ two ], λ some. (right.names x).1 (inl some))
-
--- what the rings have after two of main became one
-pub record Joins (p q : ℕ) (old new : Ringed) : Type 0 where
-  pub names : (x : ℕ) → IsNamed new.book x ↔ IsNamed old.book x
-  pub main : (x y : ℕ) → ShareMain new x y ↔ (ShareMain old x y ⊎ (ShareMain old x p × ShareMain old q y) ⊎ (ShareMain old x q × ShareMain old p y))
-  pub touched : (x : ℕ) → IsMarked new x ↔ IsMarked old x
 
 module _ (most first second made p q : ℕ) (a b c : Cluster) (old new : View) (indexed : IsIndexed most old) (now : IsIndexed most new)
     (r : Rebuilds most (first ∷ second ∷ []) (made ∷ []) (a ∷ b ∷ []) (c ∷ []) [] old new) (names : c.names ≡ a.names ++ b.names)
@@ -166,20 +162,20 @@ module _ (most first second made p q : ℕ) (a b c : Cluster) (old new : View) (
     pub right_joined : AreRight after new.numbers new.numbers
     right_joined = record {
       names = λ x. (
-        λ named. inl ((some_still x).1 ((right_names before old.numbers x right).0 ((joined.names x).0 named))),
-        λ held. (joined.names x).1 ((right_names before old.numbers x right).1 ((some_still x).0 (elim held [ inl one ↦ one | inr two ↦ two ]))),
+        λ named. inl ((some_still x).1 ((right_names before old.numbers x right).0 (named-same after.book before.book (sym joined.names) x named))),
+        λ held. named-same before.book after.book joined.names x ((right_names before old.numbers x right).1 ((some_still x).0 (elim held [ inl one ↦ one | inr two ↦ two ]))),
       );
       zero = λ x y. (
         λ share. elim ((joined.main x y).0 share) [
           | inl was ↦ elim ((right.zero x y).0 was) [
-            | inl one ↦ inl ((joined.names x).1 one.0, one.1)
+            | inl one ↦ inl (named-same before.book after.book joined.names x one.0, one.1)
             | inr two ↦ inr (one_still x y two.0 two.1 two.2)
           ]
           | inr (inl one) ↦ inr (both_in x y one.0 one.1)
           | inr (inr two) ↦ inr (both_turned x y two.0 two.1)
         ],
         λ is. elim is [
-          | inl one ↦ (joined.main x y).1 (inl ((right.zero x y).1 (inl ((joined.names x).0 one.0, one.1))))
+          | inl one ↦ (joined.main x y).1 (inl ((right.zero x y).1 (inl (named-same after.book before.book (sym joined.names) x one.0, one.1))))
           | inr two ↦ elim (told_number c.names x) [
             | inl x_in ↦
                 let same : two.0 ≡ made = same_Some two.0 made (sym two.1 ∙ in_c x x_in) in

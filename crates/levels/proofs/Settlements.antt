@@ -11,24 +11,21 @@ use Rattle.graphs.specs.declared.names.Level.{Level}
 use Rattle.graphs.specs.declared.names.Level.TheVariants.{Main, Top}
 use Rattle.cluster.specs.Clusters.{Cluster}
 use Rattle.name_book.specs.Books.{IsNamed}
+use Rattle.name_book.specs.Calls.{ArePartedOff}
+use Rattle.name_book.proofs.Marks.{marked-named}
+use Rattle.name_book.proofs.Named.{named-same}
 use Rattle.name_book.proofs.Rings.{rung-itself}
 use Rattle.levels.specs.Rings.{Ringed, AreRight, IsHeld, IsMarked, ShareMain}
 use Rattle.levels.specs.Kept.{SuitsShelf}
 use Rattle.levels.specs.Settling.{AreSettling, IsDone}
 use Rattle.levels.specs.Shelves.{Shelf, IsInOrder, numbers_at, view_of}
 use Rattle.levels.specs.Views.{IsIndexed, View}
-use Rattle.levels.proofs.Marks.{marked-named, named-same}
 use Rattle.levels.proofs.Righting.{same_or, some_is}
 use Rattle.levels.proofs.Seen.{one_seen}
 use Rattle.levels.proofs.Standing.{indexed_at}
 
--- some names are a ring of main's of their own, and the others share rings as they did
-abbrev pub PartsOff : List ℕ → Ringed → Ringed → Type 0
-PartsOff names old new =
-    (x y : ℕ) → ShareMain new x y ↔ ((ShareMain old x y × (Contains names x → ⊥) × (Contains names y → ⊥)) ⊎ (Contains names x × Contains names y))
-
 pub parts_later : (names : List ℕ) (old mid new : Ringed)
-    → ((x y : ℕ) → ShareMain mid x y ↔ ShareMain old x y) → PartsOff names mid new → PartsOff names old new
+    → ((x y : ℕ) → ShareMain mid x y ↔ ShareMain old x y) → ArePartedOff names mid new → ArePartedOff names old new
 parts_later names old mid new same parts x y = (
   λ share. elim ((parts x y).0 share) [ inl all ↦ inl ((same x y).0 all.0, all.1, all.2) | inr both ↦ inr both ],
   λ h. (parts x y).1 (elim h [ inl all ↦ inl ((same x y).1 all.0, all.1, all.2) | inr both ↦ inr both ]),
@@ -145,7 +142,7 @@ module _ (stays : Level) (most : ℕ) (view : View) (indexed : IsIndexed most vi
       }
 
       -- it is the first
-      pub remade : PartsOff c.names old new → AreSettling stays new view
+      pub remade : ArePartedOff c.names old new → AreSettling stays new view
       remade main = record {
         names = live;
         zero = λ n first d at_n is out x y there. elim (cases_eq n number) [

@@ -17,7 +17,7 @@ use Rattle.levels.specs.Tops.{TopRebuilds}
 use Rattle.levels.specs.Views.{Numbers}
 use Rattle.levels.proofs.Leaving.{left_is, none_left}
 use Rattle.levels.proofs.Lookups.{place_of}
-use Rattle.levels.proofs.Marks.{named-same}
+use Rattle.name_book.proofs.Named.{named-same}
 use Rattle.levels.proofs.Pointing.{one_at}
 use Rattle.levels.proofs.Righting.{Leaves, Marks}
 use Rattle.levels.proofs.Seen.{one_seen}

@@ -23,12 +23,12 @@ ghost use Rattle.graphs.specs.declared.names.Level as graph_level;
 ghost use Rattle.levels.specs.Views.{IsClusterOf};
 
 use crate::moving::{add_name, connect, drop_name};
-use crate::rings::Rings;
 use crate::settling::settle_rings;
 use crate::shelves::Shelves;
 use cluster::{Cluster, Covers, PartRef, Work};
 use cluster_store::{PartWalk, RateWalk, Stored};
 use graph_model::{Level, Limits, Place, Refusal, TxId, Verdict};
+use name_book::NameBook;
 use outside::NoMemory;
 use std::alloc::Global;
 use std::marker::Model;
@@ -38,7 +38,7 @@ use step_count::{Ledger, Steps};
 #[derive(Drop)]
 pub struct Levels<const W: usize> {
     shelves: Shelves<W>,
-    rings: Rings,
+    rings: NameBook,
     // how many names main has, how many the top level, and how many were added so far
     mains: usize,
     tops: usize,
@@ -70,7 +70,7 @@ impl<const W: usize> Levels<W> {
         let work = Work::new(alloc)?;
         Ok(Levels {
             shelves: Shelves::new(alloc),
-            rings: Rings::new(alloc),
+            rings: NameBook::new(alloc),
             mains: 0,
             tops: 0,
             issued: 0,

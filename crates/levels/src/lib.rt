@@ -3,8 +3,8 @@
 //! `Shelves` has each cluster under a number, and for each level the number of each name's cluster: contracts see of a level the
 //! clusters that stand in it, the numbers of its names, and the graph that these make. A cluster that serves both levels is kept
 //! once. What changes in the top level leaves main as it is while there is a staging, at the cost of the clusters that change: one
-//! that main keeps isn't changed, another takes its place under a number of its own. `Rings` has the names of both levels, those of
-//! one cluster of main in a ring, and those that staging touched in another.
+//! that main keeps isn't changed, another takes its place under a number of its own. A `NameBook` has the names of both
+//! levels: which share a cluster of main, and which staging touched.
 #![tactic(auto)]
 
 mod changes;
@@ -13,7 +13,6 @@ mod links;
 mod moving;
 mod numbers;
 mod readings;
-mod rings;
 mod settling;
 mod shelves;
 mod stored;

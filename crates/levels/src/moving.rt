@@ -23,10 +23,10 @@ ghost use Rattle.levels.specs.Shelves.{IsInOrder, numbers_at, stored_at, view_of
 ghost use Rattle.levels.specs.Views.{graph_of, IsClusterOf};
 
 use crate::links::Link;
-use crate::rings::Rings;
 use crate::shelves::Shelves;
 use cluster::{Cluster, Work};
 use graph_model::{Level, TxId};
+use name_book::NameBook;
 use outside::NoMemory;
 use step_count::{Ledger, Steps};
 
@@ -34,7 +34,7 @@ use step_count::{Ledger, Steps};
 /// Without memory all stays as it was, but for room that was made.
 pub(crate) fn add_name<const W: usize, L: Ledger>(
     shelves: &mut Shelves<W>,
-    rings: &mut Rings,
+    rings: &mut NameBook,
     id: TxId,
     fee: i64,
     size: u64,
@@ -56,7 +56,7 @@ pub(crate) fn add_name<const W: usize, L: Ledger>(
         × (rings.new.book.issued ≡ rings.old.book.issued)) }
     ensures steps { steps.new ≡ steps.old }
 {
-    rings.reserve()?;
+    rings.reserve(1)?;
     let cluster = Cluster::single(shelves.alloc, id, fee, size, work, steps)?;
     shelves.add(id, cluster)?;
     rings.add(id, shelves.is_staged());
@@ -67,7 +67,7 @@ pub(crate) fn add_name<const W: usize, L: Ledger>(
 /// nothing. Without memory all stays as it was.
 pub(crate) fn connect<const W: usize, L: Ledger>(
     shelves: &mut Shelves<W>,
-    rings: &mut Rings,
+    rings: &mut NameBook,
     link: Link,
     parent: TxId,
     child: TxId,
@@ -112,7 +112,7 @@ pub(crate) fn connect<const W: usize, L: Ledger>(
 /// Drops a name of the top level. The others keep the ancestors that they had among them. Without memory all stays as it was.
 pub(crate) fn drop_name<const W: usize, L: Ledger>(
     shelves: &mut Shelves<W>,
-    rings: &mut Rings,
+    rings: &mut NameBook,
     number: usize,
     id: TxId,
     work: &mut Work<W>,
@@ -143,7 +143,7 @@ pub(crate) fn drop_name<const W: usize, L: Ledger>(
 }
 
 /// Touches the names of a cluster of main that the top level has left.
-fn touch_left<const W: usize>(shelves: &Shelves<W>, rings: &mut Rings, number: usize)
+fn touch_left<const W: usize>(shelves: &Shelves<W>, rings: &mut NameBook, number: usize)
     requires order { IsInOrder W shelves.now }
     requires untouched { (x : ℕ) → LeftMain shelves.now number x → IsNamed rings.old.book x × (IsMarked rings.old x → ⊥) }
     ensures names { rings.new.book.names ≡ rings.old.book.names }
@@ -157,7 +157,7 @@ fn touch_left<const W: usize>(shelves: &Shelves<W>, rings: &mut Rings, number: u
 }
 
 /// Makes rings of main of the names of some clusters, a ring of each.
-fn part_all<const W: usize>(rings: &mut Rings, shelves: &Shelves<W>, list: &[usize])
+fn part_all<const W: usize>(rings: &mut NameBook, shelves: &Shelves<W>, list: &[usize])
     requires order { IsInOrder W shelves.now }
     requires clusters { (clusters : List records.Cluster) × AreAt (stored_at shelves.now.store.clusters) list.now clusters }
     requires live { (clusters : List records.Cluster) (x : ℕ) → AreAt (stored_at shelves.now.store.clusters) list.now clusters

@@ -10,16 +10,16 @@ ghost use Rattle.chunk_index.specs.Settling.{alone};
 ghost use Rattle.levels.specs.Settling.{AreSettling};
 ghost use Rattle.levels.specs.Shelves.{IsInOrder, numbers_at, seen_at, view_of};
 
-use crate::rings::Rings;
 use crate::shelves::Shelves;
 use chunk_index::Tag;
 use graph_model::{Level, TxId};
+use name_book::NameBook;
 
 /// Where a staging is to be closed and a level stays: no name is touched any more, those that the level hasn't are dropped, and main's
 /// rings are those of the level's clusters. Takes no memory.
 ///
 /// It goes over the clusters of the level alone, so that no name is looked up in the levels.
-pub fn settle_rings<const W: usize>(rings: &mut Rings, shelves: &Shelves<W>, stays: Level)
+pub fn settle_rings<const W: usize>(rings: &mut NameBook, shelves: &Shelves<W>, stays: Level)
     requires order { IsInOrder W shelves.now }
     requires suits { SuitsShelf rings.old shelves.now }
     ensures right { AreRight rings.new (numbers_at stays shelves.now) (numbers_at stays shelves.now) }
@@ -41,7 +41,7 @@ fn alone(level: Level) -> Tag
 }
 
 // Settles the names of the clusters that stand in the level alone. Those that are touched then are not in it.
-fn settle_level<const W: usize>(rings: &mut Rings, shelves: &Shelves<W>, stays: Level)
+fn settle_level<const W: usize>(rings: &mut NameBook, shelves: &Shelves<W>, stays: Level)
     requires order { IsInOrder W shelves.now }
     requires suits { SuitsShelf rings.old shelves.now }
     ensures settling { AreSettling stays rings.new (view_of stays shelves.now) }
@@ -56,7 +56,7 @@ fn settle_level<const W: usize>(rings: &mut Rings, shelves: &Shelves<W>, stays: 
 
 // Settles some names of a cluster of the level that stays.
 fn settle_part<const W: usize>(
-    rings: &mut Rings,
+    rings: &mut NameBook,
     shelves: &Shelves<W>,
     stays: Level,
     number: usize,
@@ -79,7 +79,7 @@ fn settle_part<const W: usize>(
 // Takes a name of a cluster of the level that stays out of the touched ones. Where that is staging, and the name is its cluster's first,
 // main's ring of the cluster is made.
 fn settle_name<const W: usize>(
-    rings: &mut Rings,
+    rings: &mut NameBook,
     shelves: &Shelves<W>,
     stays: Level,
     number: usize,
@@ -106,7 +106,7 @@ fn settle_name<const W: usize>(
 }
 
 // Drops the names that are still touched, which the level that stays hasn't.
-fn forget_touched<const W: usize>(rings: &mut Rings, shelves: &Shelves<W>, stays: Level)
+fn forget_touched<const W: usize>(rings: &mut NameBook, shelves: &Shelves<W>, stays: Level)
     requires order { IsInOrder W shelves.now }
     requires settling { AreSettling stays rings.old (view_of stays shelves.now) }
     requires absent { (id : ℕ) → IsMarked rings.old id → finmap.get (numbers_at stays shelves.now) id ≡ None }

@@ -6,20 +6,20 @@ use Rattle.std.proofs.lemmas.List.{take_more}
 use Rattle.std.proofs.lemmas.List.Elements.{Contains-append_left, Contains-append_right, Contains-append_cases}
 use Rattle.lists.proofs.Entries.{Contains-head, Contains-later, Contains-cases, Contains-one, none_in_empty}
 use Rattle.lists.proofs.Told.{told_number}
-use Rattle.name_book.specs.Books.{Book, IsNamed, AreRung}
+use Rattle.name_book.specs.Books.{Table, IsNamed, AreRung}
 use Rattle.name_book.specs.Changes.{ComesTo, Gathers, MakesRing, JoinsAll}
 use Rattle.name_book.proofs.Rings.{rung-itself, rung-turned, rung-linked}
 
 -- ---- one name
 
-one-is : (q x : ℕ) → Contains (q ∷ []) x → x ≡ q
+pub one-is : (q x : ℕ) → Contains (q ∷ []) x → x ≡ q
 one-is q x here = sym (Contains-one q x here)
 
-is-one : (q x : ℕ) → x ≡ q → Contains (q ∷ []) x
+pub is-one : (q x : ℕ) → x ≡ q → Contains (q ∷ []) x
 is-one q x same = subst (Contains (q ∷ [])) (sym same) (Contains-head q [])
 
 -- A name is cut out of its ring, and joins that of another.
-module _ (old cut new : Book) (r to q : ℕ) (apart : to ≢ q)
+module _ (old cut new : Table) (r to q : ℕ) (apart : to ≢ q)
     (cuts : (x y : ℕ) → AreRung cut r x y ↔ ((AreRung old r x y × x ≢ q × y ≢ q) ⊎ ((x ≡ q) × (y ≡ q))))
     (unites : (x y : ℕ) → AreRung new r x y ↔ (AreRung cut r x y ⊎ (AreRung cut r x to × AreRung cut r q y) ⊎ (AreRung cut r x q × AreRung cut r to y))) where
   of_ring : (x : ℕ) → AreRung cut r to x → ComesTo old r to (q ∷ []) x
@@ -63,7 +63,7 @@ module _ (old cut new : Book) (r to q : ℕ) (apart : to ≢ q)
 
 -- ---- one name after the other
 
-pub gathers-none : (book : Book) (r to : ℕ) → Gathers book book r to []
+pub gathers-none : (book : Table) (r to : ℕ) → Gathers book book r to []
 gathers-none book r to x y = (
   λ rung. inl (rung, none_in_empty x, none_in_empty y),
   λ h. elim h [
@@ -76,8 +76,8 @@ gathers-none book r to x y = (
     was z (inl rung) = rung
     was z (inr here) = absurd (none_in_empty z here)
 
-module _ (old mid : Book) (r to : ℕ) (front : List ℕ) (so : Gathers old mid r to front)
-    (new : Book) (next : List ℕ) (live : IsNamed old to) (step : Gathers mid new r to next) where
+module _ (old mid : Table) (r to : ℕ) (front : List ℕ) (so : Gathers old mid r to front)
+    (new : Table) (next : List ℕ) (live : IsNamed old to) (step : Gathers mid new r to next) where
   to_mid : (x : ℕ) → ComesTo old r to front x → AreRung mid r to x
   to_mid x h = (so to x).1 (inr (inl (rung-itself old r to live), h))
 
@@ -123,7 +123,7 @@ module _ (old mid : Book) (r to : ℕ) (front : List ℕ) (so : Gathers old mid 
   )
 
 -- one name more, by the place where it is listed
-pub gathers-more : (old mid : Book) (r to : ℕ) (ids : List ℕ) (i : ℕ) → i < length ids → Gathers old mid r to (take i ids) → (new : Book) → IsNamed old to
+pub gathers-more : (old mid : Table) (r to : ℕ) (ids : List ℕ) (i : ℕ) → i < length ids → Gathers old mid r to (take i ids) → (new : Table) → IsNamed old to
     → Gathers mid new r to (get_or ids i 0 ∷ []) → Gathers old new r to (take (i + 1) ids)
 gathers-more old mid r to ids i low so new live step =
     subst (Gathers old new r to) (sym (take_more ids i 0 low)) (gathers-on old mid r to (take i ids) so new (get_or ids i 0 ∷ []) live step)
@@ -131,7 +131,7 @@ gathers-more old mid r to ids i low so new live step =
 -- ---- all of them
 
 -- names that were alone leave no ring behind
-pub joins-all : (old new : Book) (r to : ℕ) (ids : List ℕ) → ((x y : ℕ) → Contains ids x → AreRung old r x y → x ≡ y) → Gathers old new r to ids
+pub joins-all : (old new : Table) (r to : ℕ) (ids : List ℕ) → ((x y : ℕ) → Contains ids x → AreRung old r x y → x ≡ y) → Gathers old new r to ids
     → JoinsAll old new r to ids
 joins-all old new r to ids alone gathers x y = (
   λ rung. elim ((gathers x y).0 rung) [ inl all ↦ inl all.0 | inr both ↦ inr both ],
@@ -148,7 +148,7 @@ joins-all old new r to ids alone gathers x y = (
 )
 
 -- the first of some names is cut out of its ring, and the others join it
-module _ (old cut new : Book) (r first : ℕ) (rest : List ℕ)
+module _ (old cut new : Table) (r first : ℕ) (rest : List ℕ)
     (cuts : (x y : ℕ) → AreRung cut r x y ↔ ((AreRung old r x y × x ≢ first × y ≢ first) ⊎ ((x ≡ first) × (y ≡ first))))
     (gathers : Gathers cut new r first rest) where
   listed : (x : ℕ) → ComesTo cut r first rest x → Contains (first ∷ rest) x

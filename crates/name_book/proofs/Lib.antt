@@ -1,13 +1,10 @@
-pub mod Changes
 pub mod Changing
 pub mod Entries
 pub mod Gathering
 pub mod Kept
-pub mod PassedOver
+pub mod Marks
+pub mod Named
 pub mod Pieces
-pub mod KeyRings
 pub mod Rings
 pub mod Rungs
-pub mod Steps
 pub mod TableLemmas
-pub mod Unions

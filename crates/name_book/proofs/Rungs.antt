@@ -1,23 +1,24 @@
 -- Which names share a ring, once nodes and keys have changed.
-use Rattle.std.proofs.Common.{◌≡◌, ◌≢◌, ◌⊎◌, ◌↔◌, ℕ, ◌<◌, List, Some, None, sym, ap, subst, ◌∙◌, inl, inr}
+use Rattle.std.proofs.Common.{◌≡◌, ◌≢◌, ◌⊎◌, ◌↔◌, ℕ, ◌<◌, List, Some, None, refl, sym, ap, subst, ◌∙◌, inl, inr}
 use Rattle.std.proofs.lemmas.Bool.{cases_eq}
 use Rattle.std.proofs.lemmas.Option.{none-some}
 use Rattle.node_pool.specs.declared.pool.Key.{Key}
-use Rattle.node_pool.specs.Nodes.{Nodes, SameRing, PartsFrom, UnitesRings}
+use Rattle.node_pool.specs.Nodes.{Nodes, SameRing, SameRings, PartsFrom, UnitesRings}
 use Rattle.node_pool.specs.Laws.{RingsGoRound}
 use Rattle.node_pool.proofs.Callers.{SameRing-refl}
-use Rattle.name_book.specs.Books.{Book, AreRung}
-use Rattle.name_book.specs.Tables.{key_of, book_of, AreKeys}
+use Rattle.name_book.specs.Books.{Table, AreRung}
+use Rattle.name_book.specs.Changes.{KeepsRing}
+use Rattle.name_book.specs.Tables.{key_of, table_of, AreKeys}
 use Rattle.name_book.proofs.TableLemmas.{named-key, live-own, one_name, rung-keys, keys-rung}
 
 module _ (nodes new : Nodes ℕ) (es now : List (ℕ × Key)) (own : AreKeys nodes es) (owned : AreKeys new now) (rings : RingsGoRound 2 nodes)
     (round : RingsGoRound 2 new)
     (spare later r : ℕ) (below : r < 2) where
-  abbrev old : Book
-  old = book_of nodes es spare
+  abbrev old : Table
+  old = table_of nodes es spare
 
-  abbrev fresh : Book
-  fresh = book_of new now later
+  abbrev fresh : Table
+  fresh = table_of new now later
 
   -- where two names keep their keys, they share a ring if the keys do
   forth : (x y : ℕ) → key_of now x ≡ key_of es x → key_of now y ≡ key_of es y
@@ -118,10 +119,10 @@ module _ (nodes new : Nodes ℕ) (es : List (ℕ × Key)) (own : AreKeys nodes e
     (spare later r : ℕ) (below : r < 2) (a b : ℕ) (key_a key_b : Key) (has_a : key_of es a ≡ Some key_a) (has_b : key_of es b ≡ Some key_b)
     (unites : UnitesRings nodes new r key_a key_b) where
   abbrev Old : ℕ → ℕ → Type 0
-  Old p q = AreRung (book_of nodes es spare) r p q
+  Old p q = AreRung (table_of nodes es spare) r p q
 
   abbrev Fresh : ℕ → ℕ → Type 0
-  Fresh p q = AreRung (book_of new es later) r p q
+  Fresh p q = AreRung (table_of new es later) r p q
 
   abbrev AreUnited : ℕ → ℕ → Type 0
   AreUnited x y = Old x y ⊎ (Old x a × Old b y) ⊎ (Old x b × Old a y)
@@ -161,3 +162,12 @@ module _ (nodes new : Nodes ℕ) (es : List (ℕ × Key)) (own : AreKeys nodes e
 
   pub united-rungs : (x y : ℕ) → Fresh x y ↔ AreUnited x y
   united-rungs x y = (apart x y, together x y)
+
+-- where names keep their keys, and the keys their rings, the names keep theirs
+pub kept-rungs : (nodes new : Nodes ℕ) (es : List (ℕ × Key)) (own : AreKeys nodes es) (owned : AreKeys new es) (rings : RingsGoRound 2 nodes)
+    (round : RingsGoRound 2 new)
+    (spare later r : ℕ) → r < 2 → SameRings nodes new r → KeepsRing (table_of nodes es spare) (table_of new es later) r
+kept-rungs nodes new es own owned rings round spare later r below same x y = (
+  forth nodes new es es own owned rings round spare later r below x y refl refl (λ a b _ _. (same a b).0),
+  back nodes new es es own owned rings round spare later r below x y refl refl (λ a b _ _. (same a b).1),
+)

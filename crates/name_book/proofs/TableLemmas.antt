@@ -11,36 +11,36 @@ use Rattle.node_pool.specs.Laws.{RingsGoRound}
 use Rattle.node_pool.proofs.RingLemmas.{key-unique}
 use Rattle.node_pool.proofs.Callers.{next-live}
 use Rattle.name_book.specs.Books.{Steps, IsNamed, steps_in, after, AreRung}
-use Rattle.name_book.specs.Tables.{AreKeysOf, key_of, name_at, next_name, steps_of, book_of, AreKeys}
+use Rattle.name_book.specs.Tables.{AreKeysOf, key_of, name_at, next_name, steps_of, table_of, AreKeys}
 use Rattle.name_book.proofs.Entries.{some_key, same_some, get-keys, names-keys}
 
 -- the ring that a table shows under a number
-pub steps-of : (nodes : Nodes ℕ) (es : List (ℕ × Key)) (spare r : ℕ) → r < 2 → steps_in (book_of nodes es spare) r ≡ steps_of nodes r es
+pub steps-of : (nodes : Nodes ℕ) (es : List (ℕ × Key)) (spare r : ℕ) → r < 2 → steps_in (table_of nodes es spare) r ≡ steps_of nodes r es
 steps-of nodes es spare zero below = refl
 steps-of nodes es spare (suc zero) below = refl
 steps-of nodes es spare (suc (suc r)) below = absurd (omega arith)
 
 -- the name after one is that of the key after its key
 pub after-is : (nodes : Nodes ℕ) (es : List (ℕ × Key)) (spare r : ℕ) → r < 2 → (id : ℕ)
-    → after (book_of nodes es spare) r id ≡ unwrap_or (option_map (next_name nodes r) (key_of es id)) id
+    → after (table_of nodes es spare) r id ≡ unwrap_or (option_map (next_name nodes r) (key_of es id)) id
 after-is nodes es spare r below id =
     ap (λ (m : Steps). unwrap_or (finmap.get m id) id) (steps-of nodes es spare r below)
     ∙ ap (λ o. unwrap_or o id) (get-keys (next_name nodes r) es id)
 
 pub after-key : (nodes : Nodes ℕ) (es : List (ℕ × Key)) (spare r : ℕ) → r < 2 → (id : ℕ) (key : Key) → key_of es id ≡ Some key
-    → after (book_of nodes es spare) r id ≡ next_name nodes r key
+    → after (table_of nodes es spare) r id ≡ next_name nodes r key
 after-key nodes es spare r below id key is =
     after-is nodes es spare r below id ∙ ap (λ o. unwrap_or (option_map (next_name nodes r) o) id) is
 
-pub after-none : (nodes : Nodes ℕ) (es : List (ℕ × Key)) (spare r : ℕ) → r < 2 → (id : ℕ) → key_of es id ≡ None → after (book_of nodes es spare) r id ≡ id
+pub after-none : (nodes : Nodes ℕ) (es : List (ℕ × Key)) (spare r : ℕ) → r < 2 → (id : ℕ) → key_of es id ≡ None → after (table_of nodes es spare) r id ≡ id
 after-none nodes es spare r below id none =
     after-is nodes es spare r below id ∙ ap (λ o. unwrap_or (option_map (next_name nodes r) o) id) none
 
 -- a live name has a key
-pub named-key : (nodes : Nodes ℕ) (es : List (ℕ × Key)) (spare id : ℕ) → IsNamed (book_of nodes es spare) id → (key : Key) × (key_of es id ≡ Some key)
+pub named-key : (nodes : Nodes ℕ) (es : List (ℕ × Key)) (spare id : ℕ) → IsNamed (table_of nodes es spare) id → (key : Key) × (key_of es id ≡ Some key)
 named-key nodes es spare id named = some_key (key_of es id) (sym (names-keys es id) ∙ named)
 
-pub key-named : (nodes : Nodes ℕ) (es : List (ℕ × Key)) (spare id : ℕ) (key : Key) → key_of es id ≡ Some key → IsNamed (book_of nodes es spare) id
+pub key-named : (nodes : Nodes ℕ) (es : List (ℕ × Key)) (spare id : ℕ) (key : Key) → key_of es id ≡ Some key → IsNamed (table_of nodes es spare) id
 key-named nodes es spare id key is = names-keys es id ∙ ap is_some is
 
 module _ (nodes : Nodes ℕ) (es : List (ℕ × Key)) (own : AreKeys nodes es) where
@@ -69,16 +69,16 @@ module _ (nodes : Nodes ℕ) (es : List (ℕ × Key)) (own : AreKeys nodes es) w
 
     -- steps over names go as steps over slots
     walked-own : (k id : ℕ) (key : Key) → key_of es id ≡ Some key
-        → (last : Key) × (key_of es (walked (after (book_of nodes es spare) r) k id) ≡ Some last) × (last.slot ≡ walked (next_slot nodes r) k key.slot)
+        → (last : Key) × (key_of es (walked (after (table_of nodes es spare) r) k id) ≡ Some last) × (last.slot ≡ walked (next_slot nodes r) k key.slot)
     walked-own zero id key is = (key, is, refl)
     walked-own (suc k) id key is =
         let next = next_key nodes r key in
         let live = next-own key (live-own id key is) in
-        let step : after (book_of nodes es spare) r id ≡ name_at nodes next = after-key nodes es spare r below id key is in
+        let step : after (table_of nodes es spare) r id ≡ name_at nodes next = after-key nodes es spare r below id key is in
         let rest = walked-own k (name_at nodes next) next (own-live next live) in
-        (rest.0, ap (λ x. key_of es (walked (after (book_of nodes es spare) r) k x)) step ∙ rest.1, rest.2)
+        (rest.0, ap (λ x. key_of es (walked (after (table_of nodes es spare) r) k x)) step ∙ rest.1, rest.2)
 
-    slots-reach : (a b : ℕ) (key_a key_b : Key) → key_of es a ≡ Some key_a → key_of es b ≡ Some key_b → Reaches (after (book_of nodes es spare) r) a b
+    slots-reach : (a b : ℕ) (key_a key_b : Key) → key_of es a ≡ Some key_a → key_of es b ≡ Some key_b → Reaches (after (table_of nodes es spare) r) a b
         → Reaches (next_slot nodes r) key_a.slot key_b.slot
     slots-reach a b key_a key_b has_a has_b (k, leads) =
         let last = walked-own k a key_a has_a in
@@ -86,15 +86,15 @@ module _ (nodes : Nodes ℕ) (es : List (ℕ × Key)) (own : AreKeys nodes es) w
         (k, sym last.2 ∙ ap (λ (x : Key). x.slot) same)
 
     names-reach : (a b : ℕ) (key_a key_b : Key) → key_of es a ≡ Some key_a → key_of es b ≡ Some key_b
-        → Reaches (next_slot nodes r) key_a.slot key_b.slot → Reaches (after (book_of nodes es spare) r) a b
+        → Reaches (next_slot nodes r) key_a.slot key_b.slot → Reaches (after (table_of nodes es spare) r) a b
     names-reach a b key_a key_b has_a has_b (k, leads) =
-        let there = walked (after (book_of nodes es spare) r) k a in
+        let there = walked (after (table_of nodes es spare) r) k a in
         let last = walked-own k a key_a has_a in
         let same : last.0 ≡ key_b = key-unique nodes last.0 key_b (live-own there last.0 last.1) (live-own b key_b has_b) (last.2 ∙ leads) in
         (k, one_name there b key_b (last.1 ∙ ap Some same) has_b)
 
     -- names share a ring exactly if their keys do
-    pub rung-keys : (a b : ℕ) (key_a key_b : Key) → key_of es a ≡ Some key_a → key_of es b ≡ Some key_b → AreRung (book_of nodes es spare) r a b
+    pub rung-keys : (a b : ℕ) (key_a key_b : Key) → key_of es a ≡ Some key_a → key_of es b ≡ Some key_b → AreRung (table_of nodes es spare) r a b
         → SameRing nodes r key_a key_b
     rung-keys a b key_a key_b has_a has_b rung =
         record {
@@ -105,7 +105,7 @@ module _ (nodes : Nodes ℕ) (es : List (ℕ × Key)) (own : AreKeys nodes es) w
         }
 
     pub keys-rung : (a b : ℕ) (key_a key_b : Key) → key_of es a ≡ Some key_a → key_of es b ≡ Some key_b → SameRing nodes r key_a key_b
-        → AreRung (book_of nodes es spare) r a b
+        → AreRung (table_of nodes es spare) r a b
     keys-rung a b key_a key_b has_a has_b ring =
         record {
           from = key-named nodes es spare a key_a has_a;

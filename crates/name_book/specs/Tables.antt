@@ -5,9 +5,9 @@ use Rattle.std.specs.Map.{keys_of, lookup}
 use Rattle.std.specs.FinMap as finmap
 use Rattle.std.specs.FinSet as set
 use Rattle.node_pool.specs.declared.pool.Key.{Key}
-use Rattle.node_pool.specs.Nodes.{Nodes, value_at, next_key, live_count, SameValues, SameCounts, SameOrder}
+use Rattle.node_pool.specs.Nodes.{Nodes, value_at, next_key, live_count, SameValues, SameCounts, SameRings}
 use Rattle.node_pool.specs.Laws.{RingsGoRound}
-use Rattle.name_book.specs.Books.{Book, Steps}
+use Rattle.name_book.specs.Books.{Table, Steps}
 
 -- the key of a name
 abbrev pub key_of : List (ℕ × Key) → ℕ → Option Key
@@ -33,8 +33,8 @@ abbrev pub AreKeysOf : List (ℕ × Key) → List ℕ → List Key → Type 0
 AreKeysOf entries ids keys = (i : ℕ) → i < length ids → key_of entries (slice_index ids i) ≡ slice_get keys i
 
 -- the table that nodes and an index show
-abbrev pub book_of : Nodes ℕ → List (ℕ × Key) → ℕ → Book
-book_of nodes entries spare = record {
+abbrev pub table_of : Nodes ℕ → List (ℕ × Key) → ℕ → Table
+table_of nodes entries spare = record {
   names = set.from_list (keys_of entries);
   ring_0 = steps_of nodes 0 entries;
   ring_1 = steps_of nodes 1 entries;
@@ -52,8 +52,8 @@ pub record IsTable (nodes : Nodes ℕ) (entries : List (ℕ × Key)) (room spare
   pub index-room : spare ≤ room
   pub node-room : spare ≤ nodes.spare
 
--- Ring r of some nodes changes, and nothing else: the names stay in their nodes, and the rings of the other number in their order.
+-- Ring r of some nodes changes, and nothing else: the names stay in their nodes, and the rings of the other number as they are.
 pub record ChangesRing (old new : Nodes ℕ) (r : ℕ) : Type 0 where
   pub values : SameValues old new
   pub counts : SameCounts old new
-  pub order : (q : ℕ) → q < 2 → q ≢ r → SameOrder old new q
+  pub others : (q : ℕ) → q < 2 → q ≢ r → SameRings old new q

@@ -1,247 +1,170 @@
-ghost use Rattle.std.specs.Prelude.{◌≡◌, ◌≢◌, ◌+◌, ◌-◌, ◌<◌, ◌≤◌, ◌^◌, ℕ, false, Contains, IsOk, OnOk};
-ghost use Rattle.std.specs.FinMap as finmap;
+//! The live names, which share clusters of main and of which some are touched.
+ghost use Rattle.std.specs.Prelude.{◌≡◌, ◌≢◌, ℕ, ◌+◌, ◌-◌, ◌^◌, ◌<◌, ◌≤◌, ◌↔◌, Some, Contains, IsOk, OnOk, MatchOption};
 ghost use Rattle.std.specs.FinSet as set;
 ghost use Rattle.lists.specs.Distinct.{AreDistinct};
-ghost use Rattle.name_book.specs.Books.{has, IsNamed, after, other_after, AreRung, IsRing, ring_of, AreRings};
-ghost use Rattle.name_book.specs.Changes.{KeepsRing, GainsAlone, Loses, CutsOut, Unites, MakesRing, JoinsAll};
+ghost use Rattle.name_book.specs.Books.{has, IsMarked, IsNamed, ShareMain};
+ghost use Rattle.name_book.specs.Calls.{Drops, Gains, HasNone, Joins, Keeps, Parts, Releases, Touches};
 
-use crate::keys::{cut_key, find_key, move_names, name_after};
-use crate::ring::RingNames;
+use crate::table::RingTable;
 use graphs::TxId;
-use indexmap::IndexMap;
-use node_pool::{Key, Pool, PoolFault};
 use outside::NoMemory;
 use std::alloc::Global;
 use std::marker::Model;
 
-/// The live names, with two partitions of them into rings. A ring is told by its number, 0 or 1, and a name in it: the
-/// names that share a ring with that name, one after the other and round again.
+// The ring of the names of one cluster of main, and that of the names that staging touched.
+const MAIN: usize = 0;
+
+const TOUCHED: usize = 1;
+
+/// The live names of a graph: which of them share a cluster of main, and which are touched.
 #[derive(Drop)]
 pub struct NameBook {
-    // The key of each live name's node.
-    names: IndexMap<TxId, Key>,
-    // The names, with their rings.
-    nodes: Pool<TxId, 2>,
-    // How many names can be inserted with the room that was taken.
-    spare: usize,
+    table: RingTable,
+    // One of the touched names.
+    touched: Option<TxId>,
 }
 
 impl Model for NameBook {
-    ghost use Rattle.indexmap.specs.IndexMap.{spare as index_spare};
-    ghost use Rattle.name_book.specs.Books.{Book, book_code};
-    ghost use Rattle.name_book.specs.Tables.{book_of, IsTable};
+    ghost use Rattle.name_book.specs.Books.{Ringed, ringed_code, AreMarks};
 
-    ghost Value = { Book };
+    ghost Value = { Ringed };
 
-    ghost coded = { book_code };
+    ghost coded = { ringed_code };
 
-    ghost view = { λ b. book_of b.nodes b.names.entries b.spare };
+    ghost view = { λ a. record { book = a.table; touched = a.touched } };
 
-    ghost invariant = { λ b. IsTable b.nodes b.names.entries (index_spare b.names) b.spare };
+    ghost invariant = { λ a. AreMarks (record { book = a.table; touched = a.touched }) };
 }
 
 impl NameBook {
-    /// A table of no names. Takes no memory.
-    pub fn new(alloc: Global) -> NameBook
-        ensures { result ≡ record { names = set.empty; ring_0 = finmap.empty; ring_1 = finmap.empty; spare = 0; issued = 0 } }
+    /// No name. Takes no memory.
+    pub fn new(alloc: Global) -> Self
+        ensures { HasNone result }
     {
         NameBook {
-            names: IndexMap::new(alloc),
-            nodes: Pool::new(alloc),
-            spare: 0,
+            table: RingTable::new(alloc),
+            touched: None,
         }
     }
 
-    /// Makes room for `n` more names, so that as many calls of `insert` can't fail.
+    /// How many names there are.
+    pub fn len(&self) -> usize
+        ensures { result ≡ set.len self.now.book.names }
+    {
+        let _touched = self.touched;
+        self.table.len()
+    }
+
+    /// Whether a name is there.
+    pub fn has(&self, id: TxId) -> bool
+        ensures { result ≡ has self.now.book id }
+    {
+        let _touched = self.touched;
+        self.table.has(id)
+    }
+
+    /// Makes room for `n` more names, so that as many calls of `add` can't fail.
     ///
     /// # Errors
-    /// Where there is no memory for them, and the room isn't there already. Names and rings are as they were, and the room is no
-    /// less.
+    /// Where there is no memory for them, and the room isn't there already. All names are as they were, and the room is no less.
     pub fn reserve(&mut self, n: usize) -> Result<(), NoMemory>
-        requires few { set.len self.old.names + n ≤ 2 ^ 32 - 1 }
-        ensures room { OnOk result (n ≤ self.new.spare) }
-        ensures ready { n ≤ self.old.spare → IsOk result }
-        ensures kept { self.old.spare ≤ self.new.spare }
-        ensures same { self.new ≡ record self.old { spare = self.new.spare } }
+        requires few { set.len self.old.book.names + n ≤ 2 ^ 32 - 1 }
+        ensures room { OnOk result (n ≤ self.new.book.spare) }
+        ensures ready { n ≤ self.old.book.spare → IsOk result }
+        ensures kept { self.old.book.spare ≤ self.new.book.spare }
+        ensures same { Keeps self.old self.new }
     {
-        if n <= self.spare {
-            return Ok(());
-        }
-        self.names.reserve(n)?;
-        match self.nodes.reserve(n) {
-            Ok(()) => {}
-            Err(PoolFault::Memory) => return Err(NoMemory),
-            Err(PoolFault::Full) => unreachable!(),
-        }
-        self.spare = n;
-        Ok(())
+        let _touched = self.touched;
+        self.table.reserve(n)
     }
 
-    /// How many names are live.
-    pub fn len(&self) -> usize
-        ensures { result ≡ set.len self.now.names }
+    /// Adds a name, alone in its cluster, and touched where there is a staging. Takes no memory.
+    pub fn add(&mut self, id: TxId, staged: bool)
+        requires absent { IsNamed self.old.book id → ⊥ }
+        requires spare { 1 ≤ self.old.book.spare }
+        requires issued { self.old.book.issued < 2 ^ 64 - 1 }
+        ensures { Gains staged id self.old self.new }
     {
-        self.names.len()
-    }
-
-    /// Whether a name is live.
-    pub fn has(&self, id: TxId) -> bool
-        ensures { result ≡ has self.now id }
-    {
-        self.names.contains_key(&id)
-    }
-
-    /// Adds a name that isn't live, alone in both rings. Takes no memory.
-    pub fn insert(&mut self, id: TxId)
-        requires absent { has self.old id ≡ false }
-        requires spare { 1 ≤ self.old.spare }
-        requires issued { self.old.issued < 2 ^ 64 - 1 }
-        ensures names { self.new.names ≡ set.insert self.old.names id }
-        ensures rings { (r : ℕ) → r < 2 → GainsAlone self.old self.new r id }
-        ensures spare { self.new.spare + 1 ≡ self.old.spare }
-        ensures issued { self.new.issued ≡ self.old.issued + 1 }
-    {
-        let key = self.nodes.insert(id);
-        match self.names.insert(id, key) {
-            Ok(_) => self.spare -= 1,
-            Err(_) => unreachable!(),
+        self.table.insert(id);
+        if staged {
+            self.touch_all(&[id]);
         }
     }
 
-    /// Drops a live name. In both rings the others of its ring stay together, in their order. Takes no memory.
-    pub fn remove(&mut self, id: TxId)
-        requires live { IsNamed self.old id }
-        ensures names { self.new.names ≡ set.remove self.old.names id }
-        ensures rings { (r : ℕ) → r < 2 → Loses self.old self.new r id }
-        ensures spare { self.new.spare ≡ self.old.spare }
-        ensures issued { self.new.issued ≡ self.old.issued }
-    {
-        if let Some(key) = self.names.swap_remove(&id) {
-            self.nodes.take(key);
-        }
-    }
-
-    /// Makes one ring `r` of those of `a` and `b`, which are two: a join within one ring would part it. What came after `b` comes
-    /// after `a` then, and what came after `a` after `b`. The rings of the other number stay, in their order. Takes no memory.
-    pub fn join(&mut self, r: usize, a: TxId, b: TxId)
-        requires r_in_range { r < 2 }
-        requires a { IsNamed self.old a }
-        requires b { IsNamed self.old b }
-        requires apart { AreRung self.old r a b → ⊥ }
-        ensures names { self.new.names ≡ self.old.names }
-        ensures united { Unites self.old self.new r a b }
-        ensures others { (q : ℕ) → q < 2 → q ≢ r → KeepsRing self.old self.new q }
-        ensures spare { self.new.spare ≡ self.old.spare }
-        ensures issued { self.new.issued ≡ self.old.issued }
-    {
-        let key_a = find_key(&self.names, a);
-        let key_b = find_key(&self.names, b);
-        self.nodes.join_rings(r, key_a, key_b);
-    }
-
-    /// Cuts a live name out of its ring `r`: it is alone then, and the others stay together, in their order. The rings of the other
-    /// number stay, in their order. Takes no memory.
-    pub fn cut(&mut self, r: usize, a: TxId)
-        requires r_in_range { r < 2 }
-        requires live { IsNamed self.old a }
-        ensures names { self.new.names ≡ self.old.names }
-        ensures cut { CutsOut self.old self.new r a }
-        ensures others { (q : ℕ) → q < 2 → q ≢ r → KeepsRing self.old self.new q }
-        ensures spare { self.new.spare ≡ self.old.spare }
-        ensures issued { self.new.issued ≡ self.old.issued }
-    {
-        let key = find_key(&self.names, a);
-        self.nodes.cut(r, key);
-    }
-
-    /// Names leave their rings `r` and make one of their own. The others of each ring stay together. The rings of the other number stay,
-    /// in their order. Takes no memory, and looks each name up once.
-    pub fn make_ring(&mut self, r: usize, names: &[TxId])
-        requires r_in_range { r < 2 }
-        requires live { (x : ℕ) → Contains names.now x → IsNamed self.old x }
+    /// Touches names that weren't. Takes no memory, and looks each name up once.
+    pub fn touch_all(&mut self, names: &[TxId])
+        requires live { (x : ℕ) → Contains names.now x → IsNamed self.old.book x }
         requires once { AreDistinct names.now }
-        ensures names { self.new.names ≡ self.old.names }
-        ensures made { MakesRing self.old self.new r names.now }
-        ensures others { (q : ℕ) → q < 2 → q ≢ r → KeepsRing self.old self.new q }
-        ensures spare { self.new.spare ≡ self.old.spare }
-        ensures issued { self.new.issued ≡ self.old.issued }
+        requires untouched { (x : ℕ) → Contains names.now x → IsMarked self.old x → ⊥ }
+        ensures { Touches (Contains names.now) self.old self.new }
     {
-        if let Some((&first, rest)) = names.split_first() {
-            let to = find_key(&self.names, first);
-            cut_key(&mut self.nodes, r, to);
-            move_names(&mut self.nodes, &self.names, r, to, rest);
+        match self.touched {
+            Some(first) => self.table.join_all(TOUCHED, first, names),
+            None => {
+                if let Some((&first, rest)) = names.split_first() {
+                    self.touched = Some(first);
+                    self.table.join_all(TOUCHED, first, rest);
+                }
+            }
         }
     }
 
-    /// Joins names, each alone in its ring `r`, to the ring of `to`, which is none of them. The rings of the other number stay, in
-    /// their order. Takes no memory, and looks each name up once.
-    pub fn join_all(&mut self, r: usize, to: TxId, names: &[TxId])
-        requires r_in_range { r < 2 }
-        requires to { IsNamed self.old to }
-        requires live { (x : ℕ) → Contains names.now x → IsNamed self.old x }
-        requires apart { Contains names.now to → ⊥ }
+    /// Makes one of the clusters of two names of main, which are two. Takes no memory.
+    pub fn join(&mut self, a: TxId, b: TxId)
+        requires a { IsNamed self.old.book a }
+        requires b { IsNamed self.old.book b }
+        requires apart { ShareMain self.old a b → ⊥ }
+        ensures { Joins a b self.old self.new }
+    {
+        let _touched = self.touched;
+        self.table.join(MAIN, a, b);
+    }
+
+    /// Makes a cluster of main of these names alone. Takes no memory, and looks each name up once.
+    pub fn part(&mut self, names: &[TxId])
+        requires live { (x : ℕ) → Contains names.now x → IsNamed self.old.book x }
         requires once { AreDistinct names.now }
-        requires alone { (x y : ℕ) → Contains names.now x → AreRung self.old r x y → x ≡ y }
-        ensures names { self.new.names ≡ self.old.names }
-        ensures joined { JoinsAll self.old self.new r to names.now }
-        ensures others { (q : ℕ) → q < 2 → q ≢ r → KeepsRing self.old self.new q }
-        ensures spare { self.new.spare ≡ self.old.spare }
-        ensures issued { self.new.issued ≡ self.old.issued }
+        ensures { Parts names.now self.old self.new }
     {
-        let key = find_key(&self.names, to);
-        // They are alone: to cut them out of their rings first, as this does, changes nothing.
-        move_names(&mut self.nodes, &self.names, r, key, names);
+        let _touched = self.touched;
+        self.table.make_ring(MAIN, names);
     }
 
-    /// Cuts a live name out of its ring `r` as `cut` does, and answers the name that came after it, or `None` where it was alone. Takes
-    /// no memory, and looks the name up once.
-    pub fn cut_next(&mut self, r: usize, a: TxId) -> Option<TxId>
-        requires r_in_range { r < 2 }
-        requires live { IsNamed self.old a }
-        ensures next { result ≡ other_after self.old r a }
-        ensures rung { AreRung self.old r a (after self.old r a) }
-        ensures names { self.new.names ≡ self.old.names }
-        ensures cut { CutsOut self.old self.new r a }
-        ensures others { (q : ℕ) → q < 2 → q ≢ r → KeepsRing self.old self.new q }
-        ensures spare { self.new.spare ≡ self.old.spare }
-        ensures issued { self.new.issued ≡ self.old.issued }
+    /// Drops a name. Takes no memory.
+    pub fn forget(&mut self, id: TxId)
+        requires live { IsNamed self.old.book id }
+        ensures { Drops id self.old self.new }
     {
-        let key = find_key(&self.names, a);
-        let next = name_after(&self.nodes, r, key);
-        cut_key(&mut self.nodes, r, key);
-        next
+        self.pass_over(id);
+        self.table.remove(id);
     }
 
-    /// The names of the ring `r` of `a`, each once, `a` first, each before the name after it.
-    pub fn ring(&self, r: usize, a: TxId) -> RingNames<'_>
-        requires r_in_range { r < 2 }
-        requires live { IsNamed self.now a }
-        ensures list { result ≡ ring_of self.now r a }
-        ensures ring { IsRing self.now r a result }
+    /// Takes a name out of the touched ones. Takes no memory.
+    pub fn release(&mut self, id: TxId)
+        requires live { IsNamed self.old.book id }
+        ensures { Releases id self.old self.new }
     {
-        let key = find_key(&self.names, a);
-        RingNames::new(&self.nodes, self.nodes.ring(r, key))
+        self.pass_over(id);
+        self.table.cut(TOUCHED, id);
     }
 
-    /// The name after `a` in its ring `r`: `a` itself where it is alone. Going on so passes the names of `ring(r, a)` in their order,
-    /// and comes back to `a`, also while rings of the other number change.
-    pub fn next(&self, r: usize, a: TxId) -> TxId
-        requires r_in_range { r < 2 }
-        requires live { IsNamed self.now a }
-        ensures next { result ≡ after self.now r a }
-        ensures rung { AreRung self.now r a result }
+    // Where this name is the touched one that is kept, another of its ring is kept in its place.
+    fn pass_over(&mut self, id: TxId)
+        requires live { IsNamed self.old.book id }
+        ensures book { self.new.book ≡ self.old.book }
+        ensures touched { (x : ℕ) → x ≢ id → IsMarked self.new x ↔ IsMarked self.old x }
+        ensures other { self.new.touched ≢ Some id }
     {
-        let mut names = self.ring(r, a);
-        let _first = names.next();
-        names.next().unwrap_or(a)
+        if self.touched == Some(id) {
+            self.touched = self.table.other(TOUCHED, id);
+        }
     }
 
-    /// A law: to share a ring is an equivalence among the live names, and steps from a name go over its ring, each name once,
-    /// and come back to it.
-    #[inline]
-    pub fn rings_go_round(&self)
-        ensures { AreRings self.now }
+    /// One of the touched names, or `None` where there is none.
+    pub fn first(&self) -> Option<TxId>
+        ensures marked { MatchOption result ((x : ℕ) → IsMarked self.now x → ⊥) (λ id. IsMarked self.now id × IsNamed self.now.book id) }
     {
-        let _spare = self.spare;
+        let _table = &self.table;
+        self.touched
     }
 }

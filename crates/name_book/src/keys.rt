@@ -1,14 +1,12 @@
 //! Changes of the rings of names by the keys of their nodes. Each name is looked up once.
-ghost use Rattle.std.specs.Prelude.{◌≡◌, ◌≢◌, ◌<◌, ◌≤◌, ℕ, List, [], ◌∷◌, Some, IsSome, Contains, map, length, slice_get};
+ghost use Rattle.std.specs.Prelude.{◌≡◌, ◌≢◌, ◌<◌, ◌≤◌, ℕ, List, Some, IsSome, Contains, length, MatchOption};
 ghost use Rattle.node_pool.specs.declared.pool.Key.{Key as PoolKey};
-ghost use Rattle.node_pool.specs.Nodes.{IsLive};
-ghost use Rattle.node_pool.specs.RingKeys.{IsRing as IsKeyRing};
+ghost use Rattle.node_pool.specs.Nodes.{IsLive, SameRing, value_at};
 ghost use Rattle.node_pool.specs.Laws.{RingsGoRound};
 ghost use Rattle.name_book.specs.Changes.{CutsOut, Gathers};
 ghost use Rattle.name_book.specs.declared.keys.TheConstants.{LOOKED_UP};
-ghost use Rattle.name_book.specs.Tables.{key_of, name_at, book_of, AreKeys, AreKeysOf, ChangesRing};
+ghost use Rattle.name_book.specs.Tables.{key_of, table_of, AreKeys, AreKeysOf, ChangesRing};
 
-use crate::ring::RingNames;
 use graphs::TxId;
 use indexmap::IndexMap;
 use node_pool::{Key, Pool};
@@ -39,15 +37,20 @@ fn look_up(names: &IndexMap<TxId, Key>, ids: &[TxId], keys: &mut [Key; LOOKED_UP
     }
 }
 
-/// The name that comes after that of a key in its ring `r`, if it isn't alone.
+/// The name of the key that comes after another in its ring `r`, if that isn't alone.
 pub(crate) fn name_after(nodes: &Pool<TxId, 2>, r: usize, key: Key) -> Option<TxId>
     requires r_in_range { r < 2 }
     requires live { IsLive nodes.now key }
-    ensures { (keys : List PoolKey) × IsKeyRing nodes.now r key keys × (result ≡ slice_get (map (name_at nodes.now) keys) 1) }
+    ensures { MatchOption result ((other : PoolKey) → SameRing nodes.now r key other → other ≡ key)
+        (λ id. (other : PoolKey) × SameRing nodes.now r key other × (other ≢ key) × (value_at nodes.now other ≡ Some id)) }
 {
-    let mut names = RingNames::new(nodes, nodes.ring(r, key));
-    let _first = names.next();
-    names.next()
+    let mut keys = nodes.ring(r, key);
+    let _first = keys.next();
+    let other = keys.next()?;
+    match nodes.get(other) {
+        Some(&id) => Some(id),
+        None => unreachable!(),
+    }
 }
 
 /// Cuts a key out of its ring `r`.
@@ -56,7 +59,7 @@ pub(crate) fn cut_key(nodes: &mut Pool<TxId, 2>, r: usize, key: Key)
     requires live { IsLive nodes.old key }
     ensures ring { ChangesRing nodes.old nodes.new r }
     ensures cut { (es : List (ℕ × PoolKey)) (spare id : ℕ) → AreKeys nodes.old es → key_of es id ≡ Some key
-        → CutsOut (book_of nodes.old es spare) (book_of nodes.new es spare) r id }
+        → CutsOut (table_of nodes.old es spare) (table_of nodes.new es spare) r id }
     ensures round { RingsGoRound 2 nodes.new }
 {
     nodes.cut(r, key);
@@ -77,7 +80,7 @@ pub(crate) fn move_names(
     requires apart { (x : ℕ) → Contains ids.now x → key_of names.now.entries x ≢ Some to }
     ensures ring { ChangesRing nodes.old nodes.new r }
     ensures gathers { (spare t : ℕ) → key_of names.now.entries t ≡ Some to
-        → Gathers (book_of nodes.old names.now.entries spare) (book_of nodes.new names.now.entries spare) r t ids.now }
+        → Gathers (table_of nodes.old names.now.entries spare) (table_of nodes.new names.now.entries spare) r t ids.now }
     ensures round { RingsGoRound 2 nodes.old → RingsGoRound 2 nodes.new }
 {
     let mut rest = ids;
@@ -98,7 +101,7 @@ fn move_few(nodes: &mut Pool<TxId, 2>, names: &IndexMap<TxId, Key>, r: usize, to
     requires apart { (x : ℕ) → Contains ids.now x → key_of names.now.entries x ≢ Some to }
     ensures ring { ChangesRing nodes.old nodes.new r }
     ensures gathers { (spare t : ℕ) → key_of names.now.entries t ≡ Some to
-        → Gathers (book_of nodes.old names.now.entries spare) (book_of nodes.new names.now.entries spare) r t ids.now }
+        → Gathers (table_of nodes.old names.now.entries spare) (table_of nodes.new names.now.entries spare) r t ids.now }
     ensures round { RingsGoRound 2 nodes.old → RingsGoRound 2 nodes.new }
 {
     let mut keys = [to; LOOKED_UP];

@@ -1,5 +1,5 @@
 -- A cluster of one name comes in, and the rings gain the name.
-use Rattle.std.proofs.Common.{◌≤◌, ℤ, sym, subst, arith, ap}
+use Rattle.std.proofs.Common.{◌≤◌, ℤ, sym, subst, arith}
 use Rattle.std.proofs.lemmas.Int.{to_z-of_z}
 use Rattle.std.specs.Int.{w64}
 use Rattle.graphs.specs.declared.names.Level.TheVariants.{Top}
@@ -11,8 +11,7 @@ use Rattle.levels.proofs.Gaining.{absent_main, absent_top, right_gained, right_r
 use Rattle.levels.proofs.moving.add_name.Given as given
 use Rattle.levels.proofs.Rooms.{cluster_fits, work_fits}
 use Rattle.fee_rate.specs.Limits.{IsRate}
-use Rattle.levels.specs.Rings.{Ringed}
-use Rattle.name_book.specs.Books.{IsNamed}
+use Rattle.name_book.proofs.Named.{named-same}
 use Rattle.levels.proofs.moving.add_name.Goals as goal
 
 pub returns-in_err-reserve-clause-right : goal.returns-in_err-reserve-clause-right
@@ -66,7 +65,7 @@ returns-clause-right g c =
     c.reserve.new.self c.add-2.new.self
     (right_reserved c.args.rings.now c.reserve.new.self c.args.shelves.now.main (numbers_at Top c.args.shelves.now) c.reserve.ensures.same c.requires.right)
     (absent_main c.args.rings.now c.args.shelves.now c.args.id c.requires.right c.requires.absent) c.is_staged.result c.is_staged.ensures
-    (record { names = c.add-2.ensures.names; main = c.add-2.ensures.main; touched = c.add-2.ensures.touched })
+    c.add-2.ensures
 
 pub single-requires : goal.single-requires
 single-requires g c = (
@@ -80,8 +79,8 @@ single-requires g c = (
 
 pub add-requires-2-clause-issued : goal.add-requires-2-clause-issued
 add-requires-2-clause-issued g c =
-    let same = ap (λ (r : Ringed). r.book.issued) c.reserve.ensures.same in omega (arith, same, c.requires.issued)
+    omega (arith, c.reserve.ensures.same.issued, c.requires.issued)
 
 pub add-requires-2-clause-absent : goal.add-requires-2-clause-absent
 add-requires-2-clause-absent g c =
-    subst (λ (r : Ringed). IsNamed r.book c.args.id → ⊥) (sym c.reserve.ensures.same) c.requires.absent
+    λ named. c.requires.absent (named-same c.reserve.new.self.book c.args.rings.now.book (sym c.reserve.ensures.same.names) c.args.id named)

@@ -3,7 +3,7 @@
 use Rattle.std.proofs.Common.{◌≤◌, sym, ◌∙◌, subst, arith}
 use Rattle.levels.specs.Links.{IsLink}
 use Rattle.levels.proofs.Calls.{none_staged}
-use Rattle.levels.proofs.Linking.{first_untouched, joins_of, linked_untouched, not_between, not_shared, other_untouched, right_joined_main, right_joined_staged, right_linked}
+use Rattle.levels.proofs.Linking.{first_untouched, linked_untouched, not_between, not_shared, other_untouched, right_joined_main, right_joined_staged, right_linked}
 use Rattle.levels.proofs.moving.connect.Goals as goal
 
 pub touch_left-requires : goal.touch_left-requires
@@ -73,7 +73,7 @@ returns-else-is_staged-clause-right g c =
     right_joined_main g.row.W c.in-Between.above c.in-Between.below c.args.parent c.args.child c.args.shelves.now c.join.new.self c.requires.order
     found.order way found.joined c.args.rings.now c.requires.right rings.new.self
     (none_staged c.join.new.self.staging c.is_staged.result c.is_staged.ensures c.if-is_staged.false)
-    (joins_of c.args.parent c.args.child c.args.rings.now rings.new.self rings.ensures.names rings.ensures.main rings.ensures.touched)
+    rings.ensures
 
 -- a pair between two clusters makes no ancestor that was one
 pub returns-in_err-join-in-Between-clause-still : goal.returns-in_err-join-in-Between-clause-still

@@ -1,9 +1,10 @@
 -- The cluster of one number more is cut out.
 use Rattle.std.proofs.Common.{◌≤◌, ◌<◌, ℕ, List, Contains, length, is_some, take_all, ap, ◌∙◌, subst, arith}
 use Rattle.cluster.specs.Clusters.{Cluster}
+use Rattle.name_book.specs.Calls.{ArePartedOff}
 use Rattle.levels.specs.Shelves.{stored_at}
-use Rattle.levels.proofs.Cutting.{AreCut, IsCutOut, cut_next, listed}
-use Rattle.levels.proofs.Marks.{named-same}
+use Rattle.levels.proofs.Cutting.{AreCut, cut_next, listed}
+use Rattle.name_book.proofs.Named.{named-same}
 use Rattle.levels.proofs.Pointing.{got_here, one_at}
 use Rattle.levels.proofs.Rooms.{cluster_fits}
 use Rattle.levels.proofs.moving.part_all.Goals as goal
@@ -31,8 +32,8 @@ pub loop-number-preserved : goal.loop-number-preserved
 loop-number-preserved g c =
     let so = c.loop-number.invariant in
     let part = c.part.ensures in
-    let cut : IsCutOut c.loop-number.rings c.at.result.now.names c.part.new.self =
-    subst (λ (xs : List ℕ). IsCutOut c.loop-number.rings xs c.part.new.self) c.names.ensures.names part.main in
+    let cut : ArePartedOff c.at.result.now.names c.loop-number.rings c.part.new.self =
+    subst (λ (xs : List ℕ). ArePartedOff xs c.loop-number.rings c.part.new.self) c.names.ensures.names part.main in
     record {
       names = part.names ∙ so.names;
       main = λ clusters are.

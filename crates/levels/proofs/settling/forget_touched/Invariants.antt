@@ -1,8 +1,8 @@
 -- the level hasn't the names that are left
-use Rattle.std.proofs.Common.{◌≡◌, ◌≤◌, ℕ, None, length}
+use Rattle.std.proofs.Common.{◌≡◌, ◌≤◌, ℕ, None}
 use Rattle.std.specs.FinMap as finmap
 use Rattle.std.specs.FinSet as set
-use Rattle.levels.specs.Rings.{IsMarked, touched_of}
+use Rattle.levels.specs.Rings.{IsMarked}
 use Rattle.levels.specs.Settling.{AreSettling}
 use Rattle.levels.specs.Shelves.{numbers_at, view_of}
 use Rattle.levels.proofs.settling.forget_touched.Given as goal
@@ -16,4 +16,4 @@ invariant-loop-id g l = record {
 }
 
 abbrev pub decreases-loop-id : goal.decreases-loop-id
-decreases-loop-id g l = length (touched_of l.rings)
+decreases-loop-id g l = set.len l.rings.book.names

@@ -1,10 +1,11 @@
 use Rattle.std.proofs.Common.{◌≡◌, ℕ, List, Some, get_or, inl, inr, sym, ap, subst, ◌∙◌}
 use Rattle.std.proofs.lemmas.Option.{same_Some, get_or_from_slice_get}
 use Rattle.cluster.specs.Clusters.{Cluster}
+use Rattle.name_book.specs.Calls.{ArePartedOff}
 use Rattle.graphs.specs.declared.names.Level.{Level}
 use Rattle.levels.specs.Shelves.{Shelf, seen_at, stored_at, view_of}
 use Rattle.levels.proofs.Seen.{seen_is_stored}
-use Rattle.levels.proofs.Settlements.{PartsOff, parts_later, released, remade}
+use Rattle.levels.proofs.Settlements.{parts_later, released, remade}
 use Rattle.levels.proofs.Standing.{indexed_at}
 use Rattle.levels.proofs.settling.settle_name.Goals as goal
 
@@ -29,7 +30,7 @@ returns-then-names-id-clause-settling g c =
     c.args.id c.args.rings.now c.part.new.self c.requires.settling
     (λ x. (λ marked. (release.touched x).0 ((part.touched x).0 marked), λ h. (part.touched x).1 ((release.touched x).1 h)))
     c.args.number cluster at here (part.names ∙ release.names)
-    (subst (λ zs. PartsOff zs c.args.rings.now c.part.new.self) (named c.names-names.result.now c.names-names.ensures.names)
+    (subst (λ zs. ArePartedOff zs c.args.rings.now c.part.new.self) (named c.names-names.result.now c.names-names.ensures.names)
     (parts_later c.names-names.result.now c.args.rings.now c.release.new.self c.part.new.self release.main part.main))
 
 pub returns-else-names-id-clause-settling : goal.returns-else-names-id-clause-settling

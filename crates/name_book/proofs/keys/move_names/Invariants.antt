@@ -2,7 +2,7 @@
 use Rattle.std.proofs.Common.{◌≡◌, ◌++◌, ℕ, List, Some, length}
 use Rattle.node_pool.specs.Laws.{RingsGoRound}
 use Rattle.name_book.specs.Changes.{Gathers}
-use Rattle.name_book.specs.Tables.{key_of, book_of, ChangesRing}
+use Rattle.name_book.specs.Tables.{key_of, table_of, ChangesRing}
 use Rattle.name_book.proofs.keys.move_names.Given as goal
 
 abbrev pub invariant-loop-rest : goal.invariant-loop-rest
@@ -11,7 +11,7 @@ invariant-loop-rest l =
     record {
       ring : ChangesRing l.fn.nodes l.nodes l.r;
       gathers : (front : List ℕ) × (front ++ l.rest ≡ l.ids) × ((spare t : ℕ) → key_of es t ≡ Some l.to
-          → Gathers (book_of l.fn.nodes es spare) (book_of l.nodes es spare) l.r t front);
+          → Gathers (table_of l.fn.nodes es spare) (table_of l.nodes es spare) l.r t front);
       round : RingsGoRound 2 l.fn.nodes → RingsGoRound 2 l.nodes;
     }
 

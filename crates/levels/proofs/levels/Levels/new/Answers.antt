@@ -5,8 +5,7 @@ use Rattle.levels.proofs.levels.Levels.new.Goals as goal
 
 pub invariant_of-result : goal.invariant_of-result
 invariant_of-result g c =
-    kept_none g.row.W c.new-2.result c.new-3.result c.new-2.ensures.empty c.new-2.ensures.order c.new-3.ensures.names c.new-3.ensures.touched
-    c.new-3.ensures.issued c.new-3.ensures.len
+    kept_none g.row.W c.new-2.result c.new-3.result c.new-2.ensures.empty c.new-2.ensures.order c.new-3.ensures
 
 pub returns : goal.returns
 returns g c = levels_none c.new-2.result c.new-2.ensures.empty

@@ -1,25 +1,13 @@
-use Rattle.std.proofs.Common.{Err, ap, ◌∙◌, arith}
-use Rattle.std.specs.FinSet as set
-use Rattle.name_book.specs.Books.{Book}
-use Rattle.name_book.proofs.Entries.{len-names}
-use Rattle.name_book.proofs.Steps.{table-kept}
+use Rattle.std.proofs.Common.{arith}
+use Rattle.name_book.proofs.Marks.{keeps-names, marks-kept}
 use Rattle.name_book.proofs.book.NameBook.reserve.Goals as goal
 
-pub unreachable-requires : goal.unreachable-requires
-unreachable-requires c =
-    let full = (c.reserve-2.ensures.full).0 (c.in-Err-Full.is ∙ ap Err c.in-Err-Full.field-0-is) in
-    let len = len-names c.self.inside.names.entries c.self.invariant.once in
-    let view = ap (λ (b : Book). set.len b.names) c.self.view_is in
-    omega (arith, full, len, view, c.self.invariant.count, c.requires.few)
-
-pub returns-in-Err-Memory-clause-same : goal.returns-in-Err-Memory-clause-same
-returns-in-Err-Memory-clause-same c =
-    let made = c.reserve-2.ensures in
-    rw (c.in_ok-reserve.ensures.entries, ← c.self.view_is) (table-kept c.self.inside.nodes c.reserve-2.new.self c.self.inside.names.entries
-    c.self.invariant.own c.self.invariant.rings c.self.inside.spare c.self.inside.spare made.values made.order made.counts.2)
+pub invariant_of-self : goal.invariant_of-self
+invariant_of-self c =
+    let made = c.reserve.ensures in
+    marks-kept c.self.inside.table c.reserve.new.self c.self.inside.touched (made.rings 1 (omega arith)) made.same.0 c.self.invariant
 
 pub returns-clause-same : goal.returns-clause-same
 returns-clause-same c =
-    let made = c.reserve-2.ensures in
-    rw (c.in_ok-reserve.ensures.entries, ← c.self.view_is) (table-kept c.self.inside.nodes c.reserve-2.new.self c.self.inside.names.entries
-    c.self.invariant.own c.self.invariant.rings c.self.inside.spare c.args.n made.values made.order made.counts.2)
+    let made = c.reserve.ensures in
+    rw (← c.self.view_is) (keeps-names c.self.inside.table c.reserve.new.self c.self.inside.touched made.same.0 made.same.1 made.rings)

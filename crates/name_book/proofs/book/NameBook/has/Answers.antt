@@ -1,8 +1,0 @@
-use Rattle.std.proofs.Common.{sym, ap, ◌∙◌}
-use Rattle.name_book.specs.Books.{Book, has}
-use Rattle.name_book.proofs.Entries.{names-keys}
-use Rattle.name_book.proofs.book.NameBook.has.Goals as goal
-
-pub returns : goal.returns
-returns c =
-    c.contains_key.ensures ∙ sym (names-keys c.self.inside.names.entries c.args.id) ∙ ap (λ (b : Book). has b c.args.id) c.self.view_is

@@ -1,0 +1,19 @@
+use Rattle.std.proofs.Common.{arith}
+use Rattle.name_book.proofs.Marks.{marks-kept, marked-kept}
+use Rattle.name_book.proofs.book.NameBook.part.Goals as goal
+
+pub invariant_of-self : goal.invariant_of-self
+invariant_of-self c =
+    let made = c.make_ring.ensures in
+    marks-kept c.self.inside.table c.make_ring.new.self c.self.inside.touched (made.others 1 (omega arith) (omega arith)) made.same.0 c.self.invariant
+
+pub returns : goal.returns
+returns c =
+    let made = c.make_ring.ensures in
+    rw (← c.self.view_is) (record {
+      names = made.same.0;
+      main = made.made;
+      touched = marked-kept c.self.inside.table c.make_ring.new.self c.self.inside.touched (made.others 1 (omega arith) (omega arith));
+      spare = made.same.1;
+      issued = made.same.2;
+    })
