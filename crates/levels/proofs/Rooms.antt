@@ -1,5 +1,4 @@
 -- How many bytes values of clusters take, at the widths that there are: by its cases, since a search through the sums takes seconds.
-use Prim.Native.Nat.{max}
 use prog.Memory.{up}
 use Rattle.std.proofs.Common.{ℕ, ◌+◌, ◌*◌, ◌<◌, ◌≤◌, arith}
 use Rattle.comparison.proofs.Rooms.{two_cases}
