@@ -1,11 +1,11 @@
-use Rattle.std.proofs.Common.{◌≡◌, ℕ, ◌*◌, ◌+◌, ◌≤◌, ◌++◌, List, length, length-append, arith, OnOk, sym, ap, ap₂, ◌∙◌, subst, subst₂, Contains, ◌<◌}
+use Rattle.std.proofs.Common.{◌≡◌, ℕ, ◌*◌, ◌+◌, ◌≤◌, ◌++◌, List, length, length-append, arith, sym, ap, ap₂, ◌∙◌, subst, subst₂, Contains, ◌<◌}
 use Rattle.std.proofs.lemmas.Result.{IfOk-from_err}
 use Rattle.std.specs.FinSet as set
 use Rattle.graphs.specs.Closures.{members_of}
 use Rattle.cluster.specs.Clusters.{Cluster, AreApart}
 use Rattle.cluster.specs.Changes.{Joins, AreAcross}
 use Rattle.cluster.specs.Named.{named, IsNamed}
-use Rattle.cluster.specs.Steps.{GrowsWithin, least_steps, most_steps}
+use Rattle.cluster.specs.Steps.{GrowsWithin, most_steps}
 use Rattle.cluster.proofs.At.{at_in}
 use Rattle.cluster.proofs.Joined.{members_long}
 use Rattle.cluster.proofs.Joining.{join_asks, join_kept, join_graph, in_both}
@@ -69,7 +69,6 @@ returns-in_err-names g c =
       graph = IfOk-from_err c.from_residual.result _ failed;
       whole = IfOk-from_err c.from_residual.result _ failed;
       steps = no_step _ _;
-      least = IfOk-from_err c.from_residual.result _ failed;
     }
 
 pub returns-in_err-dep : goal.returns-in_err-dep
@@ -80,7 +79,6 @@ returns-in_err-dep g c =
       graph = IfOk-from_err c.from_residual-in_err-dep.result _ failed;
       whole = IfOk-from_err c.from_residual-in_err-dep.result _ failed;
       steps = no_step _ _;
-      least = IfOk-from_err c.from_residual-in_err-dep.result _ failed;
     }
 
 pub certified-requires : goal.certified-requires
@@ -146,10 +144,3 @@ returns-clause-steps g c =
     (both_long c.self.inside.names.items c.other.inside.names.items items (ap (λ (s : Cluster). length s.names) c.self.view_is)
     (ap (λ (s : Cluster). length s.names) c.other.view_is)) c.certified.ensures.steps
 
-pub returns-clause-least : goal.returns-clause-least
-returns-clause-least g c =
-    let items : c.in_ok-names.names.items ≡ c.self.inside.names.items ++ c.other.inside.names.items =
-    c.in_ok-names.ensures ∙ ap₂ {A = List ℕ} {B = List ℕ} (λ xs ys. xs ++ ys) c.as_slice.ensures c.as_slice-2.ensures in
-    subst (λ (n : ℕ). OnOk c.certified.result (c.args.steps.now + least_steps n ≤ c.certified.new.steps))
-    (both_long c.self.inside.names.items c.other.inside.names.items items (ap (λ (s : Cluster). length s.names) c.self.view_is)
-    (ap (λ (s : Cluster). length s.names) c.other.view_is)) c.certified.ensures.least

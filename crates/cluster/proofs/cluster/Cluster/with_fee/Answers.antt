@@ -1,4 +1,4 @@
-use Rattle.std.proofs.Common.{◌≡◌, ℕ, ℤ, ◌*◌, List, length, ◌+◌, ◌≤◌, OnOk, arith, sym, ap, ◌∙◌, subst, subst₂, to_z-of_z, ◌<◌, Contains}
+use Rattle.std.proofs.Common.{◌≡◌, ℕ, ℤ, ◌*◌, List, length, ◌+◌, ◌≤◌, arith, sym, ap, ◌∙◌, subst, subst₂, to_z-of_z, ◌<◌, Contains}
 use Rattle.graphs.specs.Closures.{Closure, SetsFee}
 use Rattle.cluster.specs.Clusters.{Cluster}
 use Rattle.cluster.specs.Named.{named, IsNamed}
@@ -6,7 +6,7 @@ use Rattle.cluster.proofs.At.{at_in}
 use Rattle.cluster.proofs.Linking.{fee_asks, fee_kept, fee_graph}
 use Rattle.cluster.proofs.Oks.{one_ok, no_step}
 use Rattle.std.proofs.lemmas.Result.{IfOk-from_err}
-use Rattle.cluster.specs.Steps.{GrowsWithin, least_steps, most_steps}
+use Rattle.cluster.specs.Steps.{GrowsWithin, most_steps}
 use Rattle.cluster.proofs.Rooms.{cluster_room, dep_in_cluster}
 use Rattle.cluster.proofs.cluster.Cluster.with_fee.Goals as goal
 
@@ -27,7 +27,6 @@ returns-in_err-dep g c =
       graph = IfOk-from_err c.from_residual.result _ failed;
       whole = IfOk-from_err c.from_residual.result _ failed;
       steps = no_step _ _;
-      least = IfOk-from_err c.from_residual.result _ failed;
     }
 
 pub returns-in_err-names : goal.returns-in_err-names
@@ -38,7 +37,6 @@ returns-in_err-names g c =
       graph = IfOk-from_err c.from_residual-in_err-names.result _ failed;
       whole = IfOk-from_err c.from_residual-in_err-names.result _ failed;
       steps = no_step _ _;
-      least = IfOk-from_err c.from_residual-in_err-names.result _ failed;
     }
 
 pub certified-requires : goal.certified-requires
@@ -84,11 +82,6 @@ pub returns-clause-steps : goal.returns-clause-steps
 returns-clause-steps g c =
     subst (λ (xs : List ℕ). GrowsWithin (most_steps (length xs)) c.args.steps.now c.certified.new.steps)
     (c.in_ok-names.ensures.ok ∙ c.as_slice-2.ensures ∙ ap (λ (s : Cluster). s.names) c.self.view_is) c.certified.ensures.steps
-
-pub returns-clause-least : goal.returns-clause-least
-returns-clause-least g c =
-    subst (λ (xs : List ℕ). OnOk c.certified.result (c.args.steps.now + least_steps (length xs) ≤ c.certified.new.steps))
-    (c.in_ok-names.ensures.ok ∙ c.as_slice-2.ensures ∙ ap (λ (s : Cluster). s.names) c.self.view_is) c.certified.ensures.least
 
 pub copied-requires : goal.copied-requires
 copied-requires g c =

@@ -1,7 +1,7 @@
 use Rattle.std.proofs.Common.{arith, ◌*◌, ◌≤◌}
 use Rattle.cluster.proofs.Rooms.{scratch_fits}
 use Rattle.std.proofs.Math.Nat.{mul-le-mul}
-use Rattle.cluster.proofs.work.Work.new.Goals as goal
+use Rattle.cluster.proofs.work.Room.new.Goals as goal
 
 pub new-requires : goal.new-requires
 new-requires g c = scratch_fits g.row.W c.requires.narrow
