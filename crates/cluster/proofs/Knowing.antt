@@ -65,15 +65,9 @@ module _ (n : ℕ) (names : List ℕ) (h : Closure) (parts : List OldPart) (plac
             (part_names n l l_is part here)) (sound n l l_is part here)
       ])
 
-pub part_known : (n : ℕ) (names own : List ℕ) (old h : Closure) (chosen : set.FinSet nat_cmp) (parts : List OldPart) (places : List ℕ)
-    (flows : List PlaceFlow) → IsNamed n own h → IsPartOf names old chosen own (named own h) → AreImages own (IsKnown old) parts places flows
-    → AreKnown h parts places flows
-part_known n names own old h chosen parts places flows kept part images =
-    known_images n own h (IsKnown old) parts places flows kept images (λ p known inside.
-    stays old (named own h) p (left_stays names own old (named own h) chosen part p.ids inside) known)
-
--- the parts of a cluster are known by its names
-pub cluster_known : (n : ℕ) (k : Cluster) (names : List ℕ) (parts : List OldPart) (places : List ℕ) (flows : List PlaceFlow) → IsCluster n k
-    → AreImages names (λ part. Contains k.parts part) parts places flows → AreImages names (IsKnown k.graph) parts places flows
-cluster_known n k names parts places flows is images old here said =
-    let at = images old here said in (at.0, sound n k is at.0 at.1, at.2)
+pub part_known : (n : ℕ) (names own : List ℕ) (old h : Closure) (chosen : set.FinSet nat_cmp) (olds : List Part) (parts : List OldPart) (places : List ℕ)
+    (flows : List PlaceFlow) → IsNamed n own h → IsPartOf names old chosen own (named own h) → ((part : Part) → Contains olds part → IsKnown old part)
+    → AreImages own (λ part. Contains olds part) parts places flows → AreKnown h parts places flows
+part_known n names own old h chosen olds parts places flows kept part known images =
+    known_images n own h (λ p. Contains olds p) parts places flows kept images (λ p here inside.
+    stays old (named own h) p (left_stays names own old (named own h) chosen part p.ids inside) (known p here))

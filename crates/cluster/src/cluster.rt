@@ -12,11 +12,11 @@ ghost use Rattle.cluster.specs.Changes.{IsSingle, Joins, AreAcross, IsSplit, Are
 ghost use Rattle.cluster.specs.Steps.{GrowsWithin, most_steps, most_steps_of};
 
 use crate::covers::Covers;
-use crate::guess::{guess_fee, guess_joined, guess_linked, guess_part, moved_part};
+use crate::guess::{guess_fee, guess_joined, guess_linked, moved_part};
 use crate::list::ClusterList;
 use crate::making::{certified, copied, part};
 use crate::order::{Order, between, end_before, rate_in};
-use crate::places::{both_names, copy_names, list_chosen, place_of, take_out};
+use crate::places::{both_names, list_chosen, place_of, take_out};
 use crate::work::Work;
 use bitset::Bits;
 use dep_graph::DepGraph;
@@ -181,17 +181,13 @@ impl<const W: usize> Cluster<W> {
         let mut clusters = Vec::new(alloc);
         while let Some(first) = rest.least() {
             let chosen = self.dep.component(first, rest);
-            let mut own = SmallVec::new(alloc);
-            copy_names(&mut own, self.names.as_slice(), &chosen)?;
-            guess_part(self, own.as_slice(), &mut work.guess);
             let made = part(
                 alloc,
                 self.names.as_slice(),
                 &self.dep,
-                own,
+                self,
                 chosen,
-                &work.guess,
-                &mut work.room,
+                work,
                 steps,
             )?;
             clusters.push(made)?;

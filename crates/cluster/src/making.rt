@@ -1,4 +1,4 @@
-ghost use Rattle.std.specs.Prelude.{◌≡◌, ℕ, ◌*◌, ◌<◌, ◌≤◌, true, length, slice_index, map, IfOk, OnOk};
+ghost use Rattle.std.specs.Prelude.{◌≡◌, ℕ, ◌*◌, ◌<◌, ◌≤◌, true, length, slice_index, map, Contains, IfOk, OnOk};
 ghost use Rattle.std.specs.FinSet as set;
 ghost use Rattle.lists.specs.Walks.{Walk};
 ghost use Rattle.bitset.specs.Places.{IsWithin, places};
@@ -8,12 +8,14 @@ ghost use Rattle.cluster.specs.Named.{named, IsNamed};
 ghost use Rattle.cluster.specs.Changes.{IsSame, IsPartOf};
 ghost use Rattle.cluster.specs.Kept.{IsOrdered};
 ghost use Rattle.cluster.specs.Steps.{GrowsWithin, most_steps};
-ghost use Rattle.cluster.specs.Guesses.{AreImages};
+ghost use Rattle.graphs.specs.Certificates.{Part};
 ghost use Rattle.linearize.specs.Known.{AreKnown, IsKnown};
 
 use crate::cluster::Cluster;
+use crate::guess::guess_part;
 use crate::order::{Order, lone, read};
-use crate::work::Room;
+use crate::places::copy_names;
+use crate::work::{Room, Work};
 use bitset::Bits;
 use dep_graph::DepGraph;
 use graphs::TxId;
@@ -102,29 +104,30 @@ pub(crate) fn copied<const W: usize>(
     dep.part(alloc, dep.members())
 }
 
-/// The cluster of the places of a component, with their names. The guess has parts that are known by all the names.
+/// The cluster of the places of a component, with their names. What is known of the parts of the old cluster helps to order it.
 pub(crate) fn part<L: Ledger, const W: usize>(
     alloc: Global,
     names: &[TxId],
     dep: &DepGraph<W>,
-    own: SmallVec<TxId, 2>,
+    old: &Cluster<W>,
     chosen: Bits<W>,
-    guess: &Guess,
-    room: &mut Room<W>,
+    work: &mut Work<W>,
     steps: &mut Steps<L>,
 ) -> Result<Cluster<W>, NoMemory>
     requires named { IsNamed (64 * W) names.now dep.now }
-    requires own { own.items ≡ map (slice_index names.now) (places (64 * W) chosen) }
+    requires known { (part : Part) → Contains old.now.parts part → IsKnown (named names.now dep.now) part }
     requires within { IsWithin (length names.now) chosen }
     requires some { (p : ℕ) × (set.contains chosen p ≡ true) }
     requires whole { (p q : ℕ) → set.contains chosen p ≡ true → set.contains chosen q ≡ true
         → Walk (IsNear dep.now chosen) p q }
-    requires known { AreImages own.items (IsKnown (named names.now dep.now)) guess.now.parts.items guess.now.places.items guess.now.flows.items }
     ensures names { IfOk result (λ c. c.names ≡ map (slice_index names.now) (places (64 * W) chosen.entry)) }
     ensures part { IfOk result (λ c. IsPartOf names.now (named names.now dep.now) chosen.entry c.names c.graph) }
     ensures whole { IfOk result (IsCluster (64 * W)) }
     ensures steps { GrowsWithin (most_steps (length (places (64 * W) chosen.entry))) steps.old steps.new }
 {
+    let mut own = SmallVec::new(alloc);
+    copy_names(&mut own, names, &chosen)?;
+    guess_part(old, own.as_slice(), &mut work.guess);
     let dep = dep.part(alloc, chosen)?;
-    certified(alloc, own, dep, guess, room, steps)
+    certified(alloc, own, dep, &work.guess, &mut work.room, steps)
 }
