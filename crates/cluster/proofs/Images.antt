@@ -1,9 +1,11 @@
 -- Parts by the places of their names, and that what is known by names is known by places.
-use Rattle.std.proofs.Common.{◌≡◌, ◌≢◌, ℕ, ◌+◌, ◌-◌, ◌<◌, ◌≤◌, Bool, true, List, [], ◌∷◌, ◌++◌, length, map, take, drop, slice_index, Contains, pos, ◌-ℤ◌, cond, nat_eq, inl, inr, refl, sym, ap, ap₂, ◌∙◌, subst, subst₂, arith, eq-eqb, ne_eqb, length-append, length-drop, append-nil, append_assoc, false, true≢false}
+use Rattle.std.proofs.Common.{◌≡◌, ◌≢◌, ℕ, ◌+◌, ◌-◌, ◌<◌, ◌≤◌, Bool, true, List, [], ◌∷◌, ◌++◌, length, map, take, drop, slice_index, Contains, Some, pos, ◌-ℤ◌, cond, nat_eq, inl, inr, refl, sym, ap, ap₂, ◌∙◌, subst, subst₂, arith, eq-eqb, ne_eqb, length-append, length-drop, append-nil, append_assoc, false, true≢false}
 use Rattle.std.proofs.lemmas.Bool.{cases_eq}
 use Rattle.std.proofs.lemmas.List.{take-append-le, drop-append-le, take_all, map-append}
 use Rattle.std.proofs.lemmas.List.Elements.{Contains-append_cases}
 use Rattle.std.proofs.lemmas.Simd.{map-map}
+use Rattle.std.proofs.lemmas.Option.{get_or_from_slice_get}
+use Rattle.std.specs.Prelude.{slice_get}
 use Rattle.lists.specs.Distinct.{AreDistinct}
 use Rattle.lists.proofs.Distinct.{distinct_map, one_place}
 use Rattle.lists.proofs.Entries.{map-Contains, Contains-map, Contains-one, none_in_empty, not_empty}
@@ -221,8 +223,8 @@ part_put names ids own part known whole sure places places' flows flows' parts p
     | inl before ↦ inl before
     | inr last ↦
         let same : old ≡ o = Contains-one old o last in
-        let yes : sure ≡ true = sym said ∙ ap (λ (x : OldPart). x.known) same ∙ o_said in
-        inr (part, (asked yes).0, refl, subst (λ (x : OldPart). IsImage names places' flows' x part) same (image yes))
+        let sures : sure ≡ true = sym said ∙ ap (λ (x : OldPart). x.known) same ∙ o_said in
+        inr (part, (asked sures).0, refl, subst (λ (x : OldPart). IsImage names places' flows' x part) same (image sures))
   ];
 }
   where
@@ -233,12 +235,12 @@ part_put names ids own part known whole sure places places' flows flows' parts p
     cut_flows = ap (λ s. take (old.flow_end - s) (drop s flows')) flow_start ∙ cut_new flows put_flows.more flows' old.flow_end put_flows.is flow_end
 
     image : sure ≡ true → IsImage names places' flows' old part
-    image yes =
+    image sures =
         let ids_are : map (slice_index names) (take (old.end - old.start) (drop old.start places')) ≡ ids =
-        ap (map (slice_index names)) cut_ids ∙ put_places.named (asked yes).1 in
+        ap (map (slice_index names)) cut_ids ∙ put_places.named (asked sures).1 in
         let flows_are : map (renamed_flow (slice_index names)) (map drafts.named (take (old.flow_end - old.flow_start) (drop old.flow_start flows'))) ≡ own =
         ap (λ fs. map (renamed_flow (slice_index names)) (map drafts.named fs)) cut_flows
-        ∙ map-map (renamed_flow (slice_index names)) drafts.named put_flows.more ∙ put_flows.named yes in
+        ∙ map-map (renamed_flow (slice_index names)) drafts.named put_flows.more ∙ put_flows.named sures in
         let long = ap length put_places.is ∙ length-append places put_places.more in
         let flows_long = ap length put_flows.is ∙ length-append flows put_flows.more in
         record {
@@ -316,17 +318,38 @@ pub flows_stop : (names : List ℕ) (some flows : List Flow) (old new : List Pla
 flows_stop names some flows old new all any puts missed =
     record { more = puts.more; is = puts.is; named = λ e. absurd (true≢false (sym e ∙ missed)); below = puts.below }
 
-pub flows_more : (names : List ℕ) (flows : List Flow) (flow : Flow) (old mid new : List PlaceFlow) (moved : PlaceFlow) → PutsFlows names flows old mid true
-    → new ≡ mid ++ moved ∷ [] → moved.child < length names → moved.parent < length names → slice_index names moved.child ≡ flow.child
-    → slice_index names moved.parent ≡ flow.parent → moved.amount ≡ flow.amount → PutsFlows names (flows ++ flow ∷ []) old new true
-flows_more names flows flow old mid new moved puts is child_low parent_low child parent amount = record {
-  more = puts.more ++ moved ∷ [];
-  is = is ∙ ap (λ xs. xs ++ moved ∷ []) puts.is ∙ append_assoc old puts.more (moved ∷ []);
-  named = λ e. map-append (λ (x : PlaceFlow). renamed_flow (slice_index names) (drafts.named x)) puts.more (moved ∷ [])
-      ∙ ap₂ {A = List Flow} {B = List Flow} (λ xs ys. xs ++ ys) (puts.named e)
-      (λ i. record { child = child i; parent = parent i; amount = amount i } ∷ []);
-  below = λ x here. elim (Contains-append_cases puts.more (moved ∷ []) x here) [
-    | inl a ↦ puts.below x a
-    | inr b ↦ subst (λ (y : PlaceFlow). (y.child < length names) × (y.parent < length names)) (Contains-one moved x b) (child_low, parent_low)
-  ];
+pub flows_more : (names : List ℕ) (flows one : List Flow) (old mid new : List PlaceFlow) (found both : Bool) → PutsFlows names flows old mid true
+    → PutsFlows names one mid new found → (both ≡ true → found ≡ true) → PutsFlows names (flows ++ one) old new both
+flows_more names flows one old mid new found both first second if_both = record {
+  more = first.more ++ second.more;
+  is = second.is ∙ ap (λ xs. xs ++ second.more) first.is ∙ append_assoc old first.more second.more;
+  named = λ e. map-append (λ (x : PlaceFlow). renamed_flow (slice_index names) (drafts.named x)) first.more second.more
+      ∙ ap₂ {A = List Flow} {B = List Flow} (λ xs ys. xs ++ ys) (first.named refl) (second.named (if_both e));
+  below = λ x here. elim (Contains-append_cases first.more second.more x here) [ inl a ↦ first.below x a | inr b ↦ second.below x b ];
+}
+
+-- ---- the parts of a cluster, one by one
+
+pub there_at : (parts : List Part) (at : ℕ) (part : Part) → at < length parts → slice_get parts at ≡ Some part → Contains parts part
+there_at parts at part low there = (at, low, get_or_from_slice_get parts at part part there)
+
+pub puts_wider : (names : List ℕ) (P Q : Part → Type 0) (places : List ℕ) (flows : List PlaceFlow) (parts : List OldPart)
+    (places' : List ℕ) (flows' : List PlaceFlow) (parts' : List OldPart) → PutsPart names Q places flows parts places' flows' parts'
+    → ((part : Part) → Q part → P part) → PutsPart names P places flows parts places' flows' parts'
+puts_wider names P Q places flows parts places' flows' parts' puts into = record {
+  more = puts.more;
+  places_are = puts.places_are;
+  more_flows = puts.more_flows;
+  flows_are = puts.flows_are;
+  each = λ old here said. elim (puts.each old here said) [ inl before ↦ inl before | inr new ↦ inr (new.0, into new.0 new.1, new.2) ];
+}
+
+pub puts_nothing : (names : List ℕ) (P : Part → Type 0) (places : List ℕ) (flows : List PlaceFlow) (parts : List OldPart)
+    → PutsPart names P places flows parts places flows parts
+puts_nothing names P places flows parts = record {
+  more = [];
+  places_are = sym (append-nil places);
+  more_flows = [];
+  flows_are = sym (append-nil flows);
+  each = λ old here said. inl here;
 }

@@ -3,7 +3,7 @@
 //! takes the names one by one, and a name that isn't found is left out. That has no say in the answer, which is optimal whatever the
 //! solver tried, only in how soon it comes. So clauses speak of parts that are known, and of no others.
 
-ghost use Rattle.std.specs.Prelude.{◌≡◌, ◌⊎◌, ℕ, ◌*◌, ◌<◌, ◌≤◌, ◌∷◌, [], true, false, length, slice_index, Contains};
+ghost use Rattle.std.specs.Prelude.{◌≡◌, ◌⊎◌, ℕ, ◌*◌, ◌<◌, ◌≤◌, ◌∷◌, ◌++◌, [], true, false, length, slice_index, Contains};
 ghost use Rattle.std.specs.FinSet as set;
 ghost use Rattle.lists.specs.Distinct.{AreDistinct};
 ghost use Rattle.linearize.specs.Graphs.{sum_from};
@@ -260,15 +260,15 @@ fn is_apart<const W: usize>(
 }
 
 // Whether a name of a part may be at a place of a set.
-fn has_some<const W: usize>(ids: &[TxId], names: &[TxId], slots: &Slots, set: &Bits<W>) -> bool
+fn has_some<const W: usize>(ids: &[TxId], names: &[TxId], slots: &Slots, chosen: &Bits<W>) -> bool
     requires narrow { length names.now ≤ 64 * W }
     requires once { AreDistinct names.now }
     ensures { result ≡ false → (p : ℕ) → p < length names.now → Contains ids.now (slice_index names.now p)
-        → set.contains set.now p ≡ true → ⊥ }
+        → set.contains chosen.now p ≡ true → ⊥ }
 {
     for at in 0..ids.len() {
         let place = slots.find(names, ids[at]);
-        if place >= names.len() || set.has(place) {
+        if place >= names.len() || chosen.has(place) {
             return true;
         }
     }
@@ -278,7 +278,7 @@ fn has_some<const W: usize>(ids: &[TxId], names: &[TxId], slots: &Slots, set: &B
 // Puts a part behind the others, with its places. Where it is known and all its names are found, it has its flows as well.
 fn put_part(part: PartRef<'_>, known: bool, names: &[TxId], slots: &Slots, guess: &mut Guess)
     ensures { PutsPart names.now
-        (λ old. (known ≡ true) × (old ≡ record { rate = sum_from part.rate; ids = part.ids.now; flows = part.flows.now }))
+        (λ old. (known ≡ true) × (old ≡ record { rate = sum_from part.entry.rate; ids = part.entry.ids.now; flows = part.entry.flows.now }))
         guess.old.places.items guess.old.flows.items guess.old.parts.items
         guess.new.places.items guess.new.flows.items guess.new.parts.items }
 {
@@ -294,7 +294,18 @@ fn put_part(part: PartRef<'_>, known: bool, names: &[TxId], slots: &Slots, guess
         flow_end: guess.flows.len(),
         known: sure,
     };
-    let _pushed = guess.parts.push(old);
+    let _pushed = push_part(old, &mut guess.parts);
+}
+
+// Puts a part behind others, where there is memory for it.
+fn push_part(old: OldPart, parts: &mut Vec<OldPart>) -> bool
+    ensures put { result ≡ true → parts.new.items ≡ parts.old.items ++ old ∷ [] }
+    ensures none { result ≡ false → parts.new.items ≡ parts.old.items }
+{
+    match parts.push(old) {
+        Ok(()) => true,
+        Err(_) => false,
+    }
 }
 
 // Puts the places of names behind others, and tells whether all names were found.
@@ -347,22 +358,31 @@ fn put_flows(flows: &[Flow], names: &[TxId], slots: &Slots, out: &mut Vec<PlaceF
     ensures { PutsFlows names.now flows.now out.old.items out.new.items result }
 {
     for at in 0..flows.len() {
-        let flow = flows[at];
-        let child = slots.find(names, flow.child);
-        let parent = slots.find(names, flow.parent);
-        if child >= names.len() || parent >= names.len() {
-            return false;
-        }
-        let moved = PlaceFlow {
-            child,
-            parent,
-            amount: flow.amount,
-        };
-        if out.push(moved).is_err() {
+        if !put_flow(flows[at], names, slots, out) {
             return false;
         }
     }
     true
+}
+
+// Puts a flow by the places of its names behind others, where both are found.
+fn put_flow(flow: Flow, names: &[TxId], slots: &Slots, out: &mut Vec<PlaceFlow>) -> bool
+    ensures { PutsFlows names.now (flow ∷ []) out.old.items out.new.items result }
+{
+    let child = slots.find(names, flow.child);
+    let parent = slots.find(names, flow.parent);
+    if child >= names.len() || parent >= names.len() {
+        return false;
+    }
+    let moved = PlaceFlow {
+        child,
+        parent,
+        amount: flow.amount,
+    };
+    match out.push(moved) {
+        Ok(()) => true,
+        Err(_) => false,
+    }
 }
 
 /// Where names may stand, so that few of them are looked for. Each name has a slot, by its last digits. A slot has the place of

@@ -1,0 +1,13 @@
+use Rattle.std.proofs.Common.{◌≡◌, ℕ, ◌*◌, ◌<◌, ◌∙◌, ◌⊎◌, true, false, not, length, slice_index, Contains, inl, inr, sym, subst, ap, true≢false}
+use Rattle.std.specs.FinSet as set
+use Rattle.graphs.specs.Certificates.{Part}
+use Rattle.linearize.specs.Graphs.{sum_from}
+use Rattle.cluster.proofs.Images.{images_more, images_none, there_at, puts_wider, puts_nothing}
+use Rattle.cluster.proofs.guess.Side.put_next.Goals as goal
+
+pub returns : goal.returns
+returns g c =
+    let own : Part = record { rate = sum_from c.part.result.rate; ids = c.part.result.ids.now; flows = c.part.result.flows.now } in
+    puts_wider c.args.names.now (λ (part : Part). Contains c.args.cluster.now.parts part) _ _ _ _ _ _ _ c.put_part.ensures (λ p so.
+    subst (λ (q : Part). Contains c.args.cluster.now.parts q) (sym so.1)
+    (there_at c.args.cluster.now.parts c.args.self.now.next own ? c.part.ensures))
