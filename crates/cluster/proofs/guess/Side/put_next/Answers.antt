@@ -7,7 +7,7 @@ use Rattle.cluster.proofs.guess.Side.put_next.Goals as goal
 
 pub returns : goal.returns
 returns g c =
-    let own : Part = record { rate = sum_from c.part.result.rate; ids = c.part.result.ids.now; flows = c.part.result.flows.now } in
+    let own : Part = record { rate = sum_from c.part-part.result.rate; ids = c.part-part.result.ids.now; flows = c.part-part.result.flows.now } in
     puts_wider c.args.names.now (λ (part : Part). Contains c.args.cluster.now.parts part) _ _ _ _ _ _ _ c.put_part.ensures (λ p so.
     subst (λ (q : Part). Contains c.args.cluster.now.parts q) (sym so.1)
-    (there_at c.args.cluster.now.parts c.args.self.now.next own ? c.part.ensures))
+    (there_at c.args.cluster.now.parts c.args.self.now.next own ? c.part-part.ensures))
