@@ -224,7 +224,7 @@ part_put names ids own part known whole sure places places' flows flows' parts p
     | inr last ↦
         let same : old ≡ o = Contains-one old o last in
         let sures : sure ≡ true = sym said ∙ ap (λ (x : OldPart). x.known) same ∙ o_said in
-        inr (part, (asked sures).0, refl, subst (λ (x : OldPart). IsImage names places' flows' x part) same (image sures))
+        inr (part, ((asked sures).0, refl), subst (λ (x : OldPart). IsImage names places' flows' x part) same (image sures))
   ];
 }
   where

@@ -18,14 +18,14 @@ returns c =
       flow_end = c.len-2.result;
       known = c.put_flows_if-sure.result;
     } in
-    let pushed : (o : OldPart) → Contains c.push_part-_pushed.new.parts.items o → Contains (c.args.guess.now.parts.items ++ old ∷ []) o = λ o here.
-    elim (cases_Bool c.push_part-_pushed.result) as (λ _. Contains (c.args.guess.now.parts.items ++ old ∷ []) o) [
-      | inl put ↦ subst (λ (ps : List OldPart). Contains ps o) (c.push_part-_pushed.ensures.put put) here
+    let pushed : (o : OldPart) → Contains c.push_part-pushed.new.parts.items o → Contains (c.args.guess.now.parts.items ++ old ∷ []) o = λ o here.
+    elim (cases_Bool c.push_part-pushed.result) as (λ _. Contains (c.args.guess.now.parts.items ++ old ∷ []) o) [
+      | inl put ↦ subst (λ (ps : List OldPart). Contains ps o) (c.push_part-pushed.ensures.put put) here
       | inr none ↦ Contains-append_left c.args.guess.now.parts.items (old ∷ []) o
-          (subst (λ (ps : List OldPart). Contains ps o) (c.push_part-_pushed.ensures.none none) here)
+          (subst (λ (ps : List OldPart). Contains ps o) (c.push_part-pushed.ensures.none none) here)
     ] in
     part_put c.args.names.now c.args.part.ids.now c.args.part.flows.now own c.args.known c.put_places-whole.result c.put_flows_if-sure.result
     c.args.guess.now.places.items c.put_places-whole.new.places.items c.args.guess.now.flows.items c.put_flows_if-sure.new.out.items
-    c.args.guess.now.parts.items c.push_part-_pushed.new.parts.items old refl c.put_places-whole.ensures c.put_flows_if-sure.ensures.puts
+    c.args.guess.now.parts.items c.push_part-pushed.new.parts.items old refl c.put_places-whole.ensures c.put_flows_if-sure.ensures.puts
     c.put_flows_if-sure.ensures.asked (omega (arith, c.len-start.ensures)) (omega (arith, c.len.ensures)) (omega (arith, c.len-flow_start.ensures))
     (omega (arith, c.len-2.ensures)) refl pushed
