@@ -32,7 +32,7 @@ pub(crate) fn guess_fee<const W: usize>(
     let slots = Slots::new(names);
     for at in 0..old.part_count() {
         let part = old.part(at);
-        let known = !part.ids.contains(&changed);
+        let known = is_without(part.ids, changed);
         put_part(part, known, names, &slots, guess);
     }
 }
@@ -105,12 +105,30 @@ pub(crate) fn guess_joined<const W: usize>(
     );
     // each part has a name, so that there are no more parts than names
     for _ in 0..names.len() {
-        if one.is_before(&other) {
-            one.put_next(first, waits, names, &slots, guess);
-        } else {
-            other.put_next(second, waits, names, &slots, guess);
-        }
+        put_either(first, &mut one, second, &mut other, waits, names, &slots, guess);
     }
+}
+
+// Puts the part that comes next of two clusters, where there is one.
+fn put_either<const W: usize>(
+    first: &Cluster<W>,
+    one: &mut Side,
+    second: &Cluster<W>,
+    other: &mut Side,
+    waits: bool,
+    names: &[TxId],
+    slots: &Slots,
+    guess: &mut Guess,
+)
+    ensures { PutsPart names.now (λ part. Contains first.now.parts part ⊎ Contains second.now.parts part)
+        guess.old.places.items guess.old.flows.items guess.old.parts.items
+        guess.new.places.items guess.new.flows.items guess.new.parts.items }
+{
+    if one.is_before(other) {
+        one.put_next(first, waits, names, slots, guess);
+        return;
+    }
+    other.put_next(second, waits, names, slots, guess);
 }
 
 /// How far the parts of one of two clusters are merged with those of the other.
@@ -233,6 +251,13 @@ fn is_lower_of(a: Option<FeeRate>, b: Option<FeeRate>) -> bool {
 // part's rate is owed here.
 fn is_lower(a: FeeRate, b: FeeRate) -> bool {
     i128::from(a.fee) * i128::from(b.size) < i128::from(b.fee) * i128::from(a.size)
+}
+
+// Whether a name is not one of some.
+fn is_without(ids: &[TxId], id: TxId) -> bool
+    ensures { result ≡ true → Contains ids.now id → ⊥ }
+{
+    !ids.contains(&id)
 }
 
 // Whether a part has no name above or none below, and is not to be tried anyway.

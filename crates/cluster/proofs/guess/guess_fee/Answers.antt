@@ -15,4 +15,4 @@ loop-at-preserved g c =
     (subst (λ (m : ℕ). c.loop-at.at < m) c.part_count-at-end.ensures c.loop-at-test.true) c.part-part.ensures in
     images_more c.args.names.now (λ (part : Part). Contains c.args.old.now.parts part × (Contains part.ids c.args.changed → ⊥)) _ c.loop-at.guess.places.items c.loop-at.guess.flows.items c.loop-at.guess.parts.items
     c.put_part.new.guess.places.items c.put_part.new.guess.flows.items c.put_part.new.guess.parts.items c.loop-at.invariant c.put_part.ensures
-    (λ p so. (subst (λ (q : Part). Contains c.args.old.now.parts q) (sym so.1) there, λ held. ?))
+    (λ p so. (subst (λ (q : Part). Contains c.args.old.now.parts q) (sym so.1) there, λ held. c.is_without-known.ensures so.0 (subst (λ (q : Part). Contains q.ids c.args.changed) so.1 held)))

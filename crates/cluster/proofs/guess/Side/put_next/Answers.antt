@@ -10,4 +10,8 @@ returns g c =
     let own : Part = record { rate = sum_from c.part-part.result.rate; ids = c.part-part.result.ids.now; flows = c.part-part.result.flows.now } in
     puts_wider c.args.names.now (λ (part : Part). Contains c.args.cluster.now.parts part) _ _ _ _ _ _ _ c.put_part.ensures (λ p so.
     subst (λ (q : Part). Contains c.args.cluster.now.parts q) (sym so.1)
-    (there_at c.args.cluster.now.parts c.args.self.now.next own ? c.part-part.ensures))
+    (there_at c.args.cluster.now.parts c.args.self.now.next own
+    (subst (λ (m : ℕ). c.args.self.now.next < m) c.part_count.ensures c.if-self-part_count.false) c.part-part.ensures))
+
+pub returns-then-self-part_count : goal.returns-then-self-part_count
+returns-then-self-part_count g c = puts_nothing c.args.names.now (λ (part : Part). Contains c.args.cluster.now.parts part) _ _ _
