@@ -11,4 +11,4 @@ returns-then-is_before g c =
 pub returns : goal.returns
 returns g c =
     puts_wider c.args.names.now (λ (part : Part). Contains c.args.first.now.parts part ⊎ Contains c.args.second.now.parts part)
-    (λ (part : Part). Contains c.args.second.now.parts part) _ _ _ _ _ _ c.put_next.ensures (λ p here. inr here)
+    (λ (part : Part). Contains c.args.second.now.parts part) _ _ _ _ _ _ c.put_next-2.ensures (λ p here. inr here)
