@@ -9,6 +9,7 @@ use Rattle.graphs.specs.Closures.{Closure}
 use Rattle.cluster.proofs.Oks.{both_ok, no_step, from_none}
 use Rattle.cluster.proofs.Parts.{IsNamed-part, IsPartOf-named}
 use Rattle.cluster.proofs.Knowing.{part_known}
+use Rattle.cluster.proofs.Rooms.{room_fits}
 use Rattle.cluster.proofs.Kept.{place_member}
 use Rattle.cluster.specs.Guesses.{AreImages}
 use Rattle.cluster.proofs.making.part.Goals as goal
@@ -51,7 +52,7 @@ certified-requires g c =
     c.requires.within c.requires.some c.in_ok-dep.ensures.part c.in_ok-dep.ensures.closed c.requires.whole) in (
       search,
       (
-        search,
+        room_fits g.row.W c.work.invariant.1,
         (
           assumption,
           (

@@ -15,7 +15,7 @@ use Rattle.cluster.proofs.At.{at_in}
 use Rattle.cluster.proofs.Joined.{members_long}
 use Rattle.cluster.proofs.Joining.{join_asks, join_kept, join_graph, in_both}
 use Rattle.cluster.proofs.Oks.{one_ok, no_step}
-use Rattle.cluster.proofs.Rooms.{cluster_room, dep_in_cluster}
+use Rattle.cluster.proofs.Rooms.{cluster_fits, cluster_room, dep_in_cluster, room_fits}
 use Rattle.cluster.proofs.cluster.Cluster.joined.Goals as goal
 
 -- how many names two lists have together
@@ -117,11 +117,11 @@ certified-requires g c =
     let images = subst (λ (xs : List ℕ). AreImages xs (λ (part : Part). Contains c.args.self.now.parts part ⊎ Contains c.args.other.now.parts part)
     c.guess_joined.new.guess.parts.items c.guess_joined.new.guess.places.items c.guess_joined.new.guess.flows.items)
     (c.as_slice-5.ensures ∙ items) c.guess_joined.ensures in (
-      search,
+      dep_in_cluster g.row.W (cluster_fits g.row.W c.work.invariant.1),
       (
-        search,
+        room_fits g.row.W c.work.invariant.1,
         (
-          search,
+          cluster_fits g.row.W c.work.invariant.1,
           (
             subst (λ (xs : List ℕ). IsNamed n xs c.add_dep.new.self) (sym items) kept,
             join_known n both c.add_dep.new.self c.guess_joined.new.guess.parts.items c.guess_joined.new.guess.places.items

@@ -16,7 +16,7 @@ use Rattle.cluster.proofs.Linking.{link_asks, link_kept, link_graph}
 use Rattle.cluster.proofs.Oks.{one_ok, no_step}
 use Rattle.std.proofs.lemmas.Result.{IfOk-from_err}
 use Rattle.cluster.specs.Steps.{GrowsWithin, most_steps}
-use Rattle.cluster.proofs.Rooms.{cluster_room, dep_in_cluster, words_in_cluster}
+use Rattle.cluster.proofs.Rooms.{cluster_fits, cluster_room, dep_in_cluster, room_fits, words_in_cluster}
 use Rattle.cluster.proofs.cluster.Cluster.linked.Goals as goal
 
 pub add_dep-requires : goal.add_dep-requires
@@ -30,7 +30,7 @@ add_dep-requires g c =
     (at_in c.as_slice-4.result.now c.self.inside.names.items c.place_of-below.result c.args.child
     (c.as_slice-4.ensures ∙ items) c.place_of-below.ensures.within c.place_of-below.ensures.here)
     (subst (λ (s : Cluster). is_ancestor s.graph c.args.child c.args.parent ≡ false) (sym c.self.view_is) c.requires.no_cycle) in
-    ((let fits : cluster_room g.row.W < 9223372036854775808 = search in dep_in_cluster g.row.W fits), (asks.0, (asks.1, asks.2)))
+    (dep_in_cluster g.row.W (cluster_fits g.row.W c.work.invariant.1), (asks.0, (asks.1, asks.2)))
 
 pub returns-in_err-dep : goal.returns-in_err-dep
 returns-in_err-dep g c =
@@ -81,11 +81,11 @@ certified-requires g c =
     link_known n c.self.inside.names.items c.add_dep.new.self c.guess_linked.new.guess.parts.items c.guess_linked.new.guess.places.items
     c.guess_linked.new.guess.flows.items kept c.args.self.now c.self.inside.dep c.place_of-above.result c.place_of-below.result c.args.parent c.args.child
     c.ancestors.result c.descendants.result is graph c.self.invariant.place one two c.ancestors.ensures c.descendants.ensures pair images in (
-      (let fits : cluster_room g.row.W < 9223372036854775808 = search in dep_in_cluster g.row.W fits),
+      dep_in_cluster g.row.W (cluster_fits g.row.W c.work.invariant.1),
       (
-        search,
+        room_fits g.row.W c.work.invariant.1,
         (
-          search,
+          cluster_fits g.row.W c.work.invariant.1,
           (
             subst (λ (xs : List ℕ). IsNamed n xs c.add_dep.new.self) (sym items) kept,
             known,
@@ -101,16 +101,22 @@ pub ancestors-requires : goal.ancestors-requires
 ancestors-requires g c =
     let items : c.in_ok-names.names.items ≡ c.self.inside.names.items = c.in_ok-names.ensures.ok ∙ c.as_slice-2.ensures in (
       (let fits : cluster_room g.row.W < 9223372036854775808 = search in dep_in_cluster g.row.W fits),
+      (
+      (let fits : cluster_room g.row.W < 9223372036854775808 = search in words_in_cluster g.row.W fits),
       member_below (64 * g.row.W) c.as_slice-3.result.now c.self.inside.names.items c.self.inside.dep c.place_of-above.result c.self.invariant.place
           (c.as_slice-3.ensures ∙ items) c.place_of-above.ensures.within,
+      ),
     )
 
 pub descendants-requires : goal.descendants-requires
 descendants-requires g c =
     let items : c.in_ok-names.names.items ≡ c.self.inside.names.items = c.in_ok-names.ensures.ok ∙ c.as_slice-2.ensures in (
       (let fits : cluster_room g.row.W < 9223372036854775808 = search in dep_in_cluster g.row.W fits),
+      (
+      (let fits : cluster_room g.row.W < 9223372036854775808 = search in words_in_cluster g.row.W fits),
       member_below (64 * g.row.W) c.as_slice-4.result.now c.self.inside.names.items c.self.inside.dep c.place_of-below.result c.self.invariant.place
           (c.as_slice-4.ensures ∙ items) c.place_of-below.ensures.within,
+      ),
     )
 
 pub guess_linked-requires : goal.guess_linked-requires

@@ -12,7 +12,7 @@ use Rattle.cluster.proofs.Linking.{fee_asks, fee_kept, fee_graph}
 use Rattle.cluster.proofs.Oks.{one_ok, no_step}
 use Rattle.std.proofs.lemmas.Result.{IfOk-from_err}
 use Rattle.cluster.specs.Steps.{GrowsWithin, most_steps}
-use Rattle.cluster.proofs.Rooms.{cluster_room, dep_in_cluster}
+use Rattle.cluster.proofs.Rooms.{cluster_room, dep_in_cluster, room_fits}
 use Rattle.cluster.proofs.cluster.Cluster.with_fee.Goals as goal
 
 pub set_fee-requires : goal.set_fee-requires
@@ -66,7 +66,7 @@ certified-requires g c =
     c.guess_fee.new.guess.parts.items c.guess_fee.new.guess.places.items c.guess_fee.new.guess.flows.items) c.as_slice-3.ensures c.guess_fee.ensures in (
       (let fits : cluster_room g.row.W < 9223372036854775808 = search in dep_in_cluster g.row.W fits),
       (
-        search,
+        room_fits g.row.W c.work.invariant.1,
         (
           search,
           (

@@ -70,9 +70,9 @@ part-requires g c =
     λ part here. subst (λ (w : Closure). IsKnown w part) (sym graph) (sound n c.args.self.now is part here) in (
   (let fits : cluster_room g.row.W < 9223372036854775808 = search in dep_in_cluster g.row.W fits),
   (
-    (let fits : cluster_room g.row.W < 9223372036854775808 = search in words_in_cluster g.row.W fits),
+    (let fits : cluster_room g.row.W < 9223372036854775808 = search in fits),
     (
-      search,
+      (let fits : cluster_room g.row.W < 9223372036854775808 = search in words_in_cluster g.row.W fits),
       (
         search,
         (
