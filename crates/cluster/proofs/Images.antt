@@ -1,5 +1,5 @@
 -- Parts by the places of their names, and that what is known by names is known by places.
-use Rattle.std.proofs.Common.{◌≡◌, ◌≢◌, ℕ, ◌+◌, ◌-◌, ◌<◌, ◌≤◌, Bool, true, List, [], ◌∷◌, ◌++◌, length, map, take, drop, slice_index, Contains, Some, pos, ◌-ℤ◌, cond, nat_eq, inl, inr, refl, sym, ap, ap₂, ◌∙◌, subst, subst₂, arith, eq-eqb, ne_eqb, length-append, length-drop, append-nil, append_assoc, false, true≢false}
+use Rattle.std.proofs.Common.{◌≡◌, ◌≢◌, ℕ, ◌-◌, ◌<◌, ◌≤◌, Bool, true, List, [], ◌∷◌, ◌++◌, length, map, take, drop, slice_index, Contains, Some, pos, ◌-ℤ◌, cond, nat_eq, inl, inr, refl, sym, ap, ap₂, ◌∙◌, subst, subst₂, arith, eq-eqb, ne_eqb, length-append, length-drop, append-nil, append_assoc, false, true≢false}
 use Rattle.std.proofs.lemmas.Bool.{cases_eq}
 use Rattle.std.proofs.lemmas.List.{take-append-le, drop-append-le, take_all, map-append}
 use Rattle.std.proofs.lemmas.List.Elements.{Contains-append_cases}
@@ -132,9 +132,9 @@ module _ (n : ℕ) (names : List ℕ) (h : Closure) (kept : IsNamed n names h) (
               other = λ same. link.other (ap f same);
               direct = λ m m_in over under. elim (link.direct (f m) (Contains-map f q.ids m m_in) (above flow.parent m low.1 (below m m_in) ∙ over)
                   (above m flow.child (below m m_in) low.0 ∙ under)) [
-                | inl same ↦ inl (one m flow.parent (below m m_in) low.1 same)
-                | inr same ↦ inr (one m flow.child (below m m_in) low.0 same)
-              ];
+                    | inl same ↦ inl (one m flow.parent (below m m_in) low.1 same)
+                    | inr same ↦ inr (one m flow.child (below m m_in) low.0 same)
+                  ];
             });
         inside = inside;
         some = λ flow held. known.flows.some (renamed_flow f flow) (moved flow held);

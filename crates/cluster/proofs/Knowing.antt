@@ -1,6 +1,5 @@
 -- What is known of the parts of a cluster that is made of others.
-use Rattle.std.proofs.Common.{◌≡◌, ℕ, ℤ, ◌<◌, ◌⊎◌, true, List, ◌++◌, length, slice_index, Contains, inl, inr, refl, sym, ap, ◌∙◌, subst}
-use Rattle.std.proofs.lemmas.List.Elements.{Contains-append_left, Contains-append_right}
+use Rattle.std.proofs.Common.{◌≡◌, ℕ, ℤ, ◌<◌, ◌⊎◌, true, List, length, slice_index, Contains, inl, inr, subst}
 use Rattle.std.specs.Ordering.{nat_cmp}
 use Rattle.std.specs.FinSet as set
 use Rattle.graphs.specs.Closures.{Closure, is_ancestor, ancestors_of, descendants_of, AddsPair, SetsFee}

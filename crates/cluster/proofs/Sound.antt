@@ -1,5 +1,5 @@
 -- What is known of a cluster's parts, and that it stays known where their names stay as they are.
-use Rattle.std.proofs.Common.{◌≡◌, ℕ, true, List, Contains, refl, sym, ap, ap₂, ◌∙◌, subst, inl, inr}
+use Rattle.std.proofs.Common.{◌≡◌, ℕ, true, List, Contains, refl, sym, ap, ap₂, ◌∙◌, subst}
 use Rattle.arithmetic.proofs.Sums.{total_along, sum_by_along}
 use Rattle.fee_rate.specs.declared.rates.Sum.{Sum}
 use Rattle.fee_rate.specs.Rates.{Same}

@@ -1,18 +1,17 @@
 -- The names that a change leaves as they are.
-use Rattle.std.proofs.Common.{◌≡◌, ◌≢◌, ℕ, ℤ, ◌<◌, Bool, true, false, ◌&&◌, ◌||◌, List, ◌++◌, length, slice_index, Contains, inl, inr, refl, sym, ap, ap₂, ◌∙◌, subst, subst₂, true≢false}
+use Rattle.std.proofs.Common.{◌≡◌, ℕ, ℤ, ◌<◌, Bool, true, false, ◌&&◌, ◌||◌, List, length, slice_index, Contains, inl, inr, refl, sym, ap, ap₂, ◌∙◌, subst, true≢false}
 use Rattle.std.proofs.lemmas.Bool.{cases_Bool, and_parts, or_cases, false_from_ne_true}
 use Rattle.std.specs.Ordering.{nat_cmp}
 use Rattle.std.specs.FinSet as set
 use Rattle.lists.proofs.Distinct.{one_place}
-use Rattle.graphs.specs.Closures.{Closure, is_member, is_ancestor, ancestors_of, descendants_of, rate_of, AddsPair, SetsFee, IsOrder}
-use Rattle.graphs.specs.Certificates.{Part}
-use Rattle.cluster.specs.Changes.{Joins, AreAcross, IsChosen, IsPartOf, is_above}
+use Rattle.graphs.specs.Closures.{Closure, is_member, is_ancestor, ancestors_of, descendants_of, AddsPair, SetsFee, IsOrder}
+use Rattle.cluster.specs.Changes.{Joins, AreAcross, IsPartOf, is_above}
 use Rattle.cluster.specs.Guesses.{Stay}
 use Rattle.cluster.specs.Named.{named, IsNamed}
 use Rattle.cluster.proofs.At.{IsAt}
 use Rattle.cluster.proofs.Kept.{place_member}
 use Rattle.cluster.proofs.Listings.{contains-descendants_of}
-use Rattle.cluster.proofs.Names.{Stands-contains, member-stands, ancestor-stands}
+use Rattle.cluster.proofs.Names.{ancestor-stands}
 
 -- another fee of a name that isn't there
 pub fee_stays : (old new : Closure) (id : ℕ) (fee : ℤ) (ids : List ℕ) → SetsFee old new id fee → (Contains ids id → ⊥) → Stay old new ids

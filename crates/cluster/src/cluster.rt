@@ -153,7 +153,14 @@ impl<const W: usize> Cluster<W> {
         let mut dep = self.dep.merge(alloc, &other.dep)?;
         let above = place_of(names.as_slice(), parent);
         let below = place_of(names.as_slice(), child);
-        guess_joined(self, other, parent, child, names.as_slice(), &mut work.guess);
+        guess_joined(
+            self,
+            other,
+            parent,
+            child,
+            names.as_slice(),
+            &mut work.guess,
+        );
         dep.add_dep(above, below);
         certified(alloc, names, dep, &work.guess, &mut work.room, steps)
     }

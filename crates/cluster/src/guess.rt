@@ -66,7 +66,11 @@ pub(crate) fn guess_linked<const W: usize>(
 /// The part that a new pair in a cluster moves: the child's, where it stands before the parent's. Else there is none at the position.
 pub(crate) fn moved_part<const W: usize>(old: &Cluster<W>, parent: TxId, child: TxId) -> usize {
     let at = find_part(old, child);
-    if at < find_part(old, parent) { at } else { usize::MAX }
+    if at < find_part(old, parent) {
+        at
+    } else {
+        usize::MAX
+    }
 }
 
 /// Guesses the order of a cluster that has some of the names of another. Of that each part is known that has all its names still.
@@ -105,7 +109,9 @@ pub(crate) fn guess_joined<const W: usize>(
     );
     // each part has a name, so that there are no more parts than names
     for _ in 0..names.len() {
-        put_either(first, &mut one, second, &mut other, waits, names, &slots, guess);
+        put_either(
+            first, &mut one, second, &mut other, waits, names, &slots, guess,
+        );
     }
 }
 

@@ -6,7 +6,7 @@ use Rattle.lists.specs.Distinct.{AreDistinct}
 use Rattle.graphs.specs.Closures.{Closure, is_ancestor, IsClosed, IsCover, HoldsMembers}
 use Rattle.graphs.specs.Linearizations.{StandsBefore}
 use Rattle.graphs.specs.Rates.{sums}
-use Rattle.graphs.specs.Certificates.{Part, Certifies, HasFalling, HasFlows}
+use Rattle.graphs.specs.Certificates.{Part, HasFalling, HasFlows}
 use Rattle.closure_flow.specs.Closures.{parents_at}
 use Rattle.linearize.specs.Drafts.{Written, placed, flows_in}
 use Rattle.linearize.specs.Graphs.{HasRates, most_members, sum_at}

@@ -107,16 +107,7 @@ fn are_parts<L: Ledger, const W: usize>(
     let mut done = Bits::empty();
     for group in groups {
         match put_next(
-            scratch,
-            dep,
-            parents,
-            weights,
-            members,
-            &done,
-            guess,
-            group,
-            draft,
-            steps,
+            scratch, dep, parents, weights, members, &done, guess, group, draft, steps,
         ) {
             Some(all) => done = all,
             None => return false,

@@ -1,8 +1,7 @@
-use Rattle.std.proofs.Common.{◌≡◌, ℕ, ◌*◌, ◌<◌, ◌∙◌, ◌⊎◌, true, false, not, length, slice_index, Contains, inl, inr, sym, subst, ap, true≢false}
-use Rattle.std.specs.FinSet as set
+use Rattle.std.proofs.Common.{ℕ, ◌<◌, Contains, sym, subst}
 use Rattle.graphs.specs.Certificates.{Part}
 use Rattle.linearize.specs.Graphs.{sum_from}
-use Rattle.cluster.proofs.Images.{images_more, images_none, there_at, puts_wider, puts_nothing}
+use Rattle.cluster.proofs.Images.{images_more, images_none, there_at}
 use Rattle.cluster.proofs.guess.guess_fee.Goals as goal
 
 pub loop-at-init : goal.loop-at-init

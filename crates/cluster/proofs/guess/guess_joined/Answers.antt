@@ -1,4 +1,4 @@
-use Rattle.std.proofs.Common.{◌≡◌, ◌⊎◌, Contains}
+use Rattle.std.proofs.Common.{◌⊎◌, Contains}
 use Rattle.graphs.specs.Certificates.{Part}
 use Rattle.cluster.proofs.Images.{images_more, images_none}
 use Rattle.cluster.proofs.guess.guess_joined.Goals as goal

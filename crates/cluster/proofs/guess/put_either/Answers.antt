@@ -1,4 +1,4 @@
-use Rattle.std.proofs.Common.{◌≡◌, ◌⊎◌, Contains, inl, inr}
+use Rattle.std.proofs.Common.{◌⊎◌, Contains, inl, inr}
 use Rattle.graphs.specs.Certificates.{Part}
 use Rattle.cluster.proofs.Images.{puts_wider}
 use Rattle.cluster.proofs.guess.put_either.Goals as goal

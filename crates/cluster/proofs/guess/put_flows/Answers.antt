@@ -1,4 +1,4 @@
-use Rattle.std.proofs.Common.{◌≡◌, ℕ, ◌+◌, ◌∷◌, [], ◌++◌, ◌∙◌, List, true, false, take, slice_index_or, sym, subst, refl, true≢false}
+use Rattle.std.proofs.Common.{ℕ, ◌∷◌, [], ◌++◌, List, true, false, take, slice_index_or, sym, subst, refl, true≢false}
 use Rattle.std.proofs.lemmas.List.{take_more}
 use Rattle.graphs.specs.declared.names.Flow.{Flow}
 use Rattle.cluster.specs.Guesses.{PutsFlows}

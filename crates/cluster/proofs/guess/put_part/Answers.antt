@@ -1,4 +1,4 @@
-use Rattle.std.proofs.Common.{◌≡◌, ℕ, ◌∷◌, [], ◌++◌, ◌∙◌, List, true, false, length, Contains, inl, inr, refl, sym, subst, arith}
+use Rattle.std.proofs.Common.{◌∷◌, [], ◌++◌, List, Contains, inl, inr, refl, subst, arith}
 use Rattle.std.proofs.lemmas.Bool.{cases_Bool}
 use Rattle.std.proofs.lemmas.List.Elements.{Contains-append_left}
 use Rattle.graphs.specs.Certificates.{Part}

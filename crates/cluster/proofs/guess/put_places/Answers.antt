@@ -1,4 +1,4 @@
-use Rattle.std.proofs.Common.{◌≡◌, ℕ, ◌+◌, ◌∷◌, [], ◌∙◌, List, take, slice_index, sym, subst, true≢false}
+use Rattle.std.proofs.Common.{ℕ, ◌∷◌, [], ◌∙◌, List, take, slice_index, sym, subst, true≢false}
 use Rattle.std.proofs.lemmas.List.{take_more}
 use Rattle.cluster.specs.Guesses.{PutsPlaces}
 use Rattle.cluster.proofs.Images.{places_more}

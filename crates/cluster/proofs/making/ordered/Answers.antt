@@ -1,4 +1,4 @@
-use Rattle.std.proofs.Common.{◌*◌, ◌+◌, ◌≤◌, ℕ, Bool, true, false, cond, nat_lt, length, arith, sym, subst}
+use Rattle.std.proofs.Common.{◌*◌}
 use Rattle.cluster.proofs.Lone.{lone_made}
 use Rattle.cluster.proofs.Kept.{place_member}
 use Rattle.cluster.proofs.making.ordered.Goals as goal

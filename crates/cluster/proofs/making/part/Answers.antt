@@ -1,4 +1,4 @@
-use Rattle.std.proofs.Common.{◌≡◌, ◌+◌, ◌≤◌, ◌*◌, List, ℕ, length, map, slice_index, ap, ◌∙◌, sym, subst, subst₂, IfOk, Contains}
+use Rattle.std.proofs.Common.{◌≡◌, ◌*◌, List, ℕ, length, map, slice_index, ap, ◌∙◌, sym, subst, subst₂, IfOk, Contains}
 use Rattle.std.proofs.lemmas.List.{length-map}
 use Rattle.std.proofs.lemmas.Result.{IfOk-from_err}
 use Rattle.bitset.specs.Places.{places}

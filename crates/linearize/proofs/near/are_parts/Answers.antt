@@ -1,5 +1,4 @@
-use Rattle.std.proofs.Common.{rules, ◌≡◌, ℕ, ◌+◌, ◌*◌, ◌≤◌, ap, subst, ◌∙◌, sym, lit<, arith}
-use Rattle.std.specs.FinSet as fin
+use Rattle.std.proofs.Common.{rules, ◌*◌, ◌∙◌, sym, lit<, arith}
 use Rattle.linearize.proofs.Solves.{at_least_both}
 use Rattle.linearize.proofs.Trials.{begun, stands_next, stands_none, so_far, tried, all_parts}
 use Rattle.linearize.proofs.Sizes.{words_fit, scratch_fits, group_fits}

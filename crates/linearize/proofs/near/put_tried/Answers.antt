@@ -1,10 +1,9 @@
-use Rattle.std.proofs.Common.{rules, ◌≡◌, ℕ, ◌+◌, ◌*◌, ◌≤◌, ap, ◌∙◌, sym, subst, arith, lit<}
+use Rattle.std.proofs.Common.{rules, ℕ, ◌+◌, ◌*◌, ◌≤◌, sym, subst, arith, lit<}
 use Rattle.std.specs.FinSet as fin
 use Rattle.std.proofs.Math.Nat.{mul-le-mul_left}
 use Rattle.lists.proofs.Keys.{set_within}
 use Rattle.linearize.specs.Near.{Extends, most_tried}
 use Rattle.linearize.proofs.Trials.{ready, both_lens, both_fit, solved_behind, tried_steps}
-use Rattle.linearize.proofs.Solves.{at_least_any}
 use Rattle.linearize.proofs.Sizes.{words_fit, scratch_fits}
 use Rattle.linearize.proofs.near.put_tried.Goals as goal
 

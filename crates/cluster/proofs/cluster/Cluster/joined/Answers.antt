@@ -1,4 +1,4 @@
-use Rattle.std.proofs.Common.{◌≡◌, ℕ, ◌*◌, ◌+◌, ◌≤◌, ◌++◌, List, length, length-append, arith, sym, ap, ap₂, ◌∙◌, subst, subst₂, Contains, ◌<◌, ◌⊎◌}
+use Rattle.std.proofs.Common.{◌≡◌, ℕ, ◌*◌, ◌+◌, ◌≤◌, ◌++◌, List, length, length-append, sym, ap, ap₂, ◌∙◌, subst, subst₂, Contains, ◌<◌, ◌⊎◌}
 use Rattle.std.proofs.lemmas.Result.{IfOk-from_err}
 use Rattle.std.specs.FinSet as set
 use Rattle.graphs.specs.Closures.{members_of}
@@ -169,4 +169,3 @@ returns-clause-steps g c =
     subst (λ (n : ℕ). GrowsWithin (most_steps n) c.args.steps.now c.certified.new.steps)
     (both_long c.self.inside.names.items c.other.inside.names.items items (ap (λ (s : Cluster). length s.names) c.self.view_is)
     (ap (λ (s : Cluster). length s.names) c.other.view_is)) c.certified.ensures.steps
-

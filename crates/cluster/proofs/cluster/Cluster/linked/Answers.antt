@@ -1,4 +1,4 @@
-use Rattle.std.proofs.Common.{◌≡◌, ℕ, ◌*◌, List, true, false, length, slice_index, ◌+◌, ◌≤◌, ◌<◌, arith, sym, ap, ◌∙◌, subst, subst₂, Contains}
+use Rattle.std.proofs.Common.{◌≡◌, ℕ, ◌*◌, List, true, false, length, slice_index, ◌≤◌, ◌<◌, sym, ap, ◌∙◌, subst, subst₂, Contains}
 use Rattle.graphs.specs.Closures.{Closure, is_ancestor, is_member, AddsPair}
 use Rattle.cluster.specs.Clusters.{Cluster, IsCluster}
 use Rattle.cluster.specs.Guesses.{AreImages}
@@ -102,9 +102,9 @@ ancestors-requires g c =
     let items : c.in_ok-names.names.items ≡ c.self.inside.names.items = c.in_ok-names.ensures.ok ∙ c.as_slice-2.ensures in (
       (let fits : cluster_room g.row.W < 9223372036854775808 = search in dep_in_cluster g.row.W fits),
       (
-      (let fits : cluster_room g.row.W < 9223372036854775808 = search in words_in_cluster g.row.W fits),
-      member_below (64 * g.row.W) c.as_slice-3.result.now c.self.inside.names.items c.self.inside.dep c.place_of-above.result c.self.invariant.place
-          (c.as_slice-3.ensures ∙ items) c.place_of-above.ensures.within,
+        (let fits : cluster_room g.row.W < 9223372036854775808 = search in words_in_cluster g.row.W fits),
+        member_below (64 * g.row.W) c.as_slice-3.result.now c.self.inside.names.items c.self.inside.dep c.place_of-above.result c.self.invariant.place
+            (c.as_slice-3.ensures ∙ items) c.place_of-above.ensures.within,
       ),
     )
 
@@ -113,9 +113,9 @@ descendants-requires g c =
     let items : c.in_ok-names.names.items ≡ c.self.inside.names.items = c.in_ok-names.ensures.ok ∙ c.as_slice-2.ensures in (
       (let fits : cluster_room g.row.W < 9223372036854775808 = search in dep_in_cluster g.row.W fits),
       (
-      (let fits : cluster_room g.row.W < 9223372036854775808 = search in words_in_cluster g.row.W fits),
-      member_below (64 * g.row.W) c.as_slice-4.result.now c.self.inside.names.items c.self.inside.dep c.place_of-below.result c.self.invariant.place
-          (c.as_slice-4.ensures ∙ items) c.place_of-below.ensures.within,
+        (let fits : cluster_room g.row.W < 9223372036854775808 = search in words_in_cluster g.row.W fits),
+        member_below (64 * g.row.W) c.as_slice-4.result.now c.self.inside.names.items c.self.inside.dep c.place_of-below.result c.self.invariant.place
+            (c.as_slice-4.ensures ∙ items) c.place_of-below.ensures.within,
       ),
     )
 

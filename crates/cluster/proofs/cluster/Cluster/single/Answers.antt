@@ -47,12 +47,12 @@ certified-requires g c =
         (
           search,
           (
-          subst (λ (xs : List ℕ). IsNamed (64 * g.row.W) xs c.add.new.self) (sym items)
-              (IsNamed-single (64 * g.row.W) c.new-dep.result c.add.new.self c.args.id
-              (record { fee = c.args.fee; size = c.args.size }) c.in_ok-_place._place c.new-dep.ensures
-              (subst (λ (z : ℤ). AddsPlace c.new-dep.result c.add.new.self (record { fee = z; size = c.args.size }) c.in_ok-_place._place)
-              (to_z-of_z c.ranges.fee) c.in_ok-_place.ensures.ok) (room_for_one refl c.work.invariant.0) c.requires c.add.ensures.closed),
-          λ old here said. absurd (none_in_empty old (subst (λ (ps : List OldPart). Contains ps old) c.clear.ensures here)),
+            subst (λ (xs : List ℕ). IsNamed (64 * g.row.W) xs c.add.new.self) (sym items)
+                (IsNamed-single (64 * g.row.W) c.new-dep.result c.add.new.self c.args.id
+                (record { fee = c.args.fee; size = c.args.size }) c.in_ok-_place._place c.new-dep.ensures
+                (subst (λ (z : ℤ). AddsPlace c.new-dep.result c.add.new.self (record { fee = z; size = c.args.size }) c.in_ok-_place._place)
+                (to_z-of_z c.ranges.fee) c.in_ok-_place.ensures.ok) (room_for_one refl c.work.invariant.0) c.requires c.add.ensures.closed),
+            λ old here said. absurd (none_in_empty old (subst (λ (ps : List OldPart). Contains ps old) c.clear.ensures here)),
           ),
         ),
       ),

@@ -1,4 +1,4 @@
-use Rattle.std.proofs.Common.{◌≡◌, ℕ, ℤ, ◌*◌, List, length, ◌+◌, ◌≤◌, arith, sym, ap, ◌∙◌, subst, subst₂, to_z-of_z, ◌<◌, Contains}
+use Rattle.std.proofs.Common.{◌≡◌, ℕ, ℤ, ◌*◌, List, length, sym, ap, ◌∙◌, subst, subst₂, to_z-of_z, ◌<◌, Contains}
 use Rattle.graphs.specs.Closures.{Closure, SetsFee}
 use Rattle.cluster.specs.Clusters.{Cluster, IsCluster}
 use Rattle.cluster.specs.Guesses.{AreImages}

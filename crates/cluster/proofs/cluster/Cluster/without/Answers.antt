@@ -68,34 +68,34 @@ part-requires g c =
     ap (λ (xs : List ℕ). named xs c.self.inside.dep) c.as_slice-in-Some.ensures ∙ ap (λ (s : Cluster). s.graph) c.self.view_is in
     let known : (part : Part) → Contains c.args.self.now.parts part → IsKnown (named c.as_slice-in-Some.result.now c.self.inside.dep) part =
     λ part here. subst (λ (w : Closure). IsKnown w part) (sym graph) (sound n c.args.self.now is part here) in (
-  (let fits : cluster_room g.row.W < 9223372036854775808 = search in dep_in_cluster g.row.W fits),
-  (
-    (let fits : cluster_room g.row.W < 9223372036854775808 = search in fits),
-    (
-      (let fits : cluster_room g.row.W < 9223372036854775808 = search in words_in_cluster g.row.W fits),
+      (let fits : cluster_room g.row.W < 9223372036854775808 = search in dep_in_cluster g.row.W fits),
       (
-        search,
+        (let fits : cluster_room g.row.W < 9223372036854775808 = search in fits),
         (
-          subst (λ (xs : List ℕ). IsNamed (64 * g.row.W) xs c.self.inside.dep) (sym c.as_slice-in-Some.ensures) c.self.invariant.place,
+          (let fits : cluster_room g.row.W < 9223372036854775808 = search in words_in_cluster g.row.W fits),
           (
-            known,
+            search,
             (
-            subst (λ (xs : List ℕ). IsWithin (length xs) c.component-chosen.result) (sym c.as_slice-in-Some.ensures) (chosen_within (64 * g.row.W)
-                c.self.inside.names.items c.self.inside.dep c.self.invariant.place c.args.names.now c.loop-first.rest c.component-chosen.result
-                c.loop-first.clusters.items c.in-Some.first c.loop-first.invariant.splitting c.in-Some.ensures.least c.component-chosen.ensures),
-            (
-              chosen_some (64 * g.row.W) c.self.inside.names.items c.self.inside.dep c.self.invariant.place
-                  c.args.names.now c.loop-first.rest c.component-chosen.result c.loop-first.clusters.items
-                  c.in-Some.first c.loop-first.invariant.splitting c.in-Some.ensures.least c.component-chosen.ensures,
-              component_whole c.self.inside.dep c.loop-first.rest c.component-chosen.result c.in-Some.first c.component-chosen.ensures,
-            ),
+              subst (λ (xs : List ℕ). IsNamed (64 * g.row.W) xs c.self.inside.dep) (sym c.as_slice-in-Some.ensures) c.self.invariant.place,
+              (
+                known,
+                (
+                  subst (λ (xs : List ℕ). IsWithin (length xs) c.component-chosen.result) (sym c.as_slice-in-Some.ensures) (chosen_within (64 * g.row.W)
+                      c.self.inside.names.items c.self.inside.dep c.self.invariant.place c.args.names.now c.loop-first.rest c.component-chosen.result
+                      c.loop-first.clusters.items c.in-Some.first c.loop-first.invariant.splitting c.in-Some.ensures.least c.component-chosen.ensures),
+                  (
+                    chosen_some (64 * g.row.W) c.self.inside.names.items c.self.inside.dep c.self.invariant.place
+                        c.args.names.now c.loop-first.rest c.component-chosen.result c.loop-first.clusters.items
+                        c.in-Some.first c.loop-first.invariant.splitting c.in-Some.ensures.least c.component-chosen.ensures,
+                    component_whole c.self.inside.dep c.loop-first.rest c.component-chosen.result c.in-Some.first c.component-chosen.ensures,
+                  ),
+                ),
+              ),
             ),
           ),
         ),
       ),
-    ),
-  ),
-)
+    )
 
 pub returns-in_err-made-clause-steps : goal.returns-in_err-made-clause-steps
 returns-in_err-made-clause-steps g c =
