@@ -14,7 +14,7 @@ use Rattle.lists.proofs.Flats.{flat_has, flat_of, flat_part_once}
 use Rattle.graphs.specs.Closures.{Closure}
 use Rattle.cluster.specs.Changes.{AreComponents, AreNearLeft, IsLeft}
 use Rattle.cluster.specs.Clusters.{Cluster, AreApart}
-use Rattle.cluster.specs.Steps.{most_steps, least_steps, most_steps_of, least_steps_of, GrowsWithin}
+use Rattle.cluster.specs.Steps.{most_steps, most_steps_of, GrowsWithin}
 
 -- ---- lists apart
 
@@ -149,11 +149,10 @@ pub record IsCounted (g : Closure) (gone : List ℕ) (parts : List Cluster) (bef
   pub each : (m : List ℕ) → Contains (map (λ c. c.names) parts) m → IsOneOf g gone m
   pub grew : before ≤ now
   pub most : now ≤ before + most_steps_of (map (λ c. c.names) parts)
-  pub least : before + least_steps_of (map (λ c. c.names) parts) ≤ now
 
 pub IsCounted-start : (g : Closure) (gone : List ℕ) (parts : List Cluster) (before : ℕ) → parts ≡ [] → IsCounted g gone parts before before
 IsCounted-start g gone parts before none = subst (λ (cs : List Cluster). IsCounted g gone cs before before) (sym none)
-    (record { each = λ m here. absurd (none_in_empty m here); grew = omega arith; most = omega arith; least = omega arith })
+    (record { each = λ m here. absurd (none_in_empty m here); grew = omega arith; most = omega arith })
 
 module _ (g : Closure) (gone : List ℕ) (parts : List Cluster) (before now next : ℕ) (ids : List ℕ)
     (so : IsCounted g gone parts before now) (one : IsOneOf g gone ids) (grows : GrowsWithin (most_steps (length ids)) now next) where
@@ -176,17 +175,11 @@ module _ (g : Closure) (gone : List ℕ) (parts : List Cluster) (before now next
       let most : now ≤ before + most_steps_of (map (λ (c : Cluster). c.names) parts) = so.most in
       omega arith
 
-  pub IsCounted-more : (part : Cluster) → part.names ≡ ids → now + least_steps (length ids) ≤ next → IsCounted g gone (parts ++ part ∷ []) before next
-  IsCounted-more part is enough = record {
+  pub IsCounted-more : (part : Cluster) → part.names ≡ ids → IsCounted g gone (parts ++ part ∷ []) before next
+  IsCounted-more part is = record {
     each = λ m here. each_more m (subst (λ (ms : List (List ℕ)). Contains ms m) (names_more part is) here);
     grew = (let first : before ≤ now = so.grew in let then : now ≤ next = grows.grew in omega arith);
     most = subst (λ (ms : List (List ℕ)). next ≤ before + most_steps_of ms) (sym (names_more part is)) most_more;
-    least = subst (λ (ms : List (List ℕ)). before + least_steps_of ms ≤ next) (sym (names_more part is))
-        (let split : least_steps_of (map (λ (c : Cluster). c.names) parts ++ ids ∷ []) ≡ least_steps_of (map (λ (c : Cluster). c.names) parts)
-        + least_steps_of (ids ∷ []) = sum_by-append (λ (ys : List ℕ). least_steps (length ys)) (map (λ (c : Cluster). c.names) parts) (ids ∷ []) in
-        let last : least_steps_of (ids ∷ []) ≡ least_steps (length ids) = omega arith in
-        let some : before + least_steps_of (map (λ (c : Cluster). c.names) parts) ≤ now = so.least in
-        omega arith);
   }
 
   -- what is bound where one more part is not finished

@@ -18,6 +18,10 @@ mod Solving
 mod Lone
 mod Oks
 mod At
+mod Sound
+mod Staying
+mod Images
+mod Knowing
 mod Copied
 mod Linking
 mod Joining

@@ -30,7 +30,7 @@ use Rattle.cluster.proofs.Picking.{closes_places, certificate_by_names}
 use Rattle.cluster.proofs.Reading.{placed_read}
 use Rattle.cluster.proofs.Uncut.{uncut_read}
 
-pub within_most : (n m before after : ℕ) → n ≡ m → after ≤ before + 2 * (n + 2) ^ 5 → before + n ≤ after → GrowsWithin (most_steps m) before after
+pub within_most : (n m before after : ℕ) → n ≡ m → after ≤ before + 2 * (n + 2) ^ 5 → before ≤ after → GrowsWithin (most_steps m) before after
 within_most n m before after same most least =
     subst (λ (k : ℕ). GrowsWithin (most_steps k) before after) same (record { grew = omega arith; few = omega arith })
 

@@ -21,7 +21,7 @@ use Rattle.cluster.specs.Orders.{AreRead, IsReadPart, IsPlaced}
 use Rattle.cluster.proofs.Following.{matched}
 use Rattle.cluster.proofs.Picking.{place_of_name, at_place, is_renamed, named_sum}
 
-sums_mapped : (h : ℕ → ℕ) (rate rate' : ℕ → Sum) (xs : List ℕ) → ((x : ℕ) → Contains xs x → rate' (h x) ≡ rate x) → sums rate' (map h xs) ≡ sums rate xs
+pub sums_mapped : (h : ℕ → ℕ) (rate rate' : ℕ → Sum) (xs : List ℕ) → ((x : ℕ) → Contains xs x → rate' (h x) ≡ rate x) → sums rate' (map h xs) ≡ sums rate xs
 sums_mapped h rate rate' xs same =
     let fee = total-map h (λ x. (rate' x).fee) (λ x. (rate x).fee) xs (λ x here. ap (λ (s : Sum). s.fee) (same x here)) in
     let size = sum_by-map h (λ x. (rate' x).size) (λ x. (rate x).size) xs (λ x here. ap (λ (s : Sum). s.size) (same x here)) in

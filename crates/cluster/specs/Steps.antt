@@ -1,13 +1,9 @@
 -- The steps of the orders that are made.
-use Rattle.std.specs.Prelude.{ℕ, ◌+◌, ◌*◌, ◌^◌, ◌≤◌, cond, nat_lt, List, length, sum_by}
+use Rattle.std.specs.Prelude.{ℕ, ◌+◌, ◌*◌, ◌^◌, ◌≤◌, List, length, sum_by}
 
 -- an order of n names takes at most so many steps
 abbrev pub most_steps : ℕ → ℕ
 most_steps n = 2 * (n + 2) ^ 5
-
--- and at least so many: a name alone has one order, and of several each is taken once
-abbrev pub least_steps : ℕ → ℕ
-least_steps n = cond (nat_lt 1 n) n 0
 
 -- a count grew, and by no more than this
 pub record GrowsWithin (most before after : ℕ) : Type 0 where
@@ -17,6 +13,3 @@ pub record GrowsWithin (most before after : ℕ) : Type 0 where
 -- what the orders of lists of names take together
 abbrev pub most_steps_of : List (List ℕ) → ℕ
 most_steps_of lists = sum_by (λ ids. most_steps (length ids)) lists
-
-abbrev pub least_steps_of : List (List ℕ) → ℕ
-least_steps_of lists = sum_by (λ ids. least_steps (length ids)) lists

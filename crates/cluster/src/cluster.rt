@@ -9,10 +9,10 @@ ghost use Rattle.cluster.specs.Clusters.{IsCluster, AreApart};
 ghost use Rattle.cluster.specs.Named.{named, IsNamed};
 ghost use Rattle.cluster.specs.Covers.{ListsInOrder};
 ghost use Rattle.cluster.specs.Changes.{IsSingle, Joins, AreAcross, IsSplit, AreComponents};
-ghost use Rattle.cluster.specs.Steps.{GrowsWithin, least_steps, most_steps, least_steps_of, most_steps_of};
+ghost use Rattle.cluster.specs.Steps.{GrowsWithin, most_steps, most_steps_of};
 
 use crate::covers::Covers;
-use crate::guess::{guess_joined, guess_same};
+use crate::guess::{guess_fee, guess_joined, guess_linked, moved_part};
 use crate::list::ClusterList;
 use crate::making::{certified, copied, part};
 use crate::order::{Order, between, end_before, rate_in};
@@ -84,12 +84,13 @@ impl<const W: usize> Cluster<W> {
         ensures whole { IfOk result (IsCluster (64 * W)) }
         ensures steps { steps.new ≡ steps.old }
     {
-        let _room = &work.positions;
+        let _room = &work.room;
+        work.guess.clear();
         let mut dep = DepGraph::new(alloc);
         let _place = dep.add(fee, size)?;
         let mut names = SmallVec::new(alloc);
         names.push(id)?;
-        certified(alloc, names, dep, work, steps)
+        certified(alloc, names, dep, &work.guess, &mut work.room, steps)
     }
 
     /// The cluster in which `child` depends on `parent`, both names of this one. This one stays as it is.
@@ -108,16 +109,22 @@ impl<const W: usize> Cluster<W> {
         ensures graph { IfOk result (λ c. AddsPair self.now.graph c.graph parent child) }
         ensures whole { IfOk result (IsCluster (64 * W)) }
         ensures steps { GrowsWithin (most_steps (length self.now.names)) steps.old steps.new }
-        ensures least { OnOk result (steps.old + least_steps (length self.now.names) ≤ steps.new) }
     {
         let mut dep = copied(alloc, self.names.as_slice(), &self.dep)?;
         let _order = &self.order;
         let names = SmallVec::from_slice(alloc, self.names.as_slice())?;
         let above = place_of(names.as_slice(), parent);
         let below = place_of(names.as_slice(), child);
-        guess_same(self, child, work);
+        guess_linked(
+            self,
+            names.as_slice(),
+            &self.dep.ancestors(above),
+            &self.dep.descendants(below),
+            moved_part(self, parent, child),
+            &mut work.guess,
+        );
         dep.add_dep(above, below);
-        certified(alloc, names, dep, work, steps)
+        certified(alloc, names, dep, &work.guess, &mut work.room, steps)
     }
 
     /// The cluster of the names of both, where `child` depends on `parent`, the one a name of this, the other of the other.
@@ -139,8 +146,6 @@ impl<const W: usize> Cluster<W> {
         ensures whole { IfOk result (IsCluster (64 * W)) }
         ensures steps { GrowsWithin (most_steps (length self.now.names + length other.now.names)) steps.old
             steps.new }
-        ensures least { OnOk result
-            (steps.old + least_steps (length self.now.names + length other.now.names) ≤ steps.new) }
     {
         let _order = &self.order;
         let _order = &other.order;
@@ -148,9 +153,16 @@ impl<const W: usize> Cluster<W> {
         let mut dep = self.dep.merge(alloc, &other.dep)?;
         let above = place_of(names.as_slice(), parent);
         let below = place_of(names.as_slice(), child);
-        guess_joined(self, other, parent, child, names.as_slice(), work);
+        guess_joined(
+            self,
+            other,
+            parent,
+            child,
+            names.as_slice(),
+            &mut work.guess,
+        );
         dep.add_dep(above, below);
-        certified(alloc, names, dep, work, steps)
+        certified(alloc, names, dep, &work.guess, &mut work.room, steps)
     }
 
     /// The clusters that are left without some names: one for each component of the other names, which keep the ancestors
@@ -169,7 +181,6 @@ impl<const W: usize> Cluster<W> {
         ensures grew { steps.old ≤ steps.new }
         ensures steps { (lists : List (List ℕ)) → AreComponents self.now.graph names.now lists
             → steps.new ≤ steps.old + most_steps_of lists }
-        ensures least { IfOk result (λ left. steps.old + least_steps_of (map (λ c. c.names) left) ≤ steps.new) }
     {
         let _order = &self.order;
         let mut rest = Bits::first_n(self.names.len());
@@ -181,7 +192,7 @@ impl<const W: usize> Cluster<W> {
                 alloc,
                 self.names.as_slice(),
                 &self.dep,
-                &self.order,
+                self,
                 chosen,
                 work,
                 steps,
@@ -207,14 +218,13 @@ impl<const W: usize> Cluster<W> {
         ensures graph { IfOk result (λ c. SetsFee self.now.graph c.graph id fee) }
         ensures whole { IfOk result (IsCluster (64 * W)) }
         ensures steps { GrowsWithin (most_steps (length self.now.names)) steps.old steps.new }
-        ensures least { OnOk result (steps.old + least_steps (length self.now.names) ≤ steps.new) }
     {
         let mut dep = copied(alloc, self.names.as_slice(), &self.dep)?;
         let _order = &self.order;
         let names = SmallVec::from_slice(alloc, self.names.as_slice())?;
-        guess_same(self, id, work);
+        guess_fee(self, names.as_slice(), id, &mut work.guess);
         dep.set_fee(place_of(names.as_slice(), id), fee);
-        certified(alloc, names, dep, work, steps)
+        certified(alloc, names, dep, &work.guess, &mut work.room, steps)
     }
 
     /// Whether the one name is an ancestor of the other, both names of this cluster.

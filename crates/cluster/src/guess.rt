@@ -1,80 +1,140 @@
-//! The order that the solver tries first: the one that stood before the change, since a change leaves most of an order as it
-//! was. A guess has no say in the answer, which the solver proves optimal whatever it tried, only in how soon it comes. So
-//! no clause speaks of what is written here, and a name that isn't found is left out.
-//!
-//! A guess stands at the head of [`Work`]'s positions: as many places as the new cluster has names. The parts of the old order
-//! are tried as they were, each place but the first of one told by its complement. Only of a part that has changed each place
-//! stands for itself.
+//! The order that stood before a change, by the places that its names have now: most of it stays as it was, and isn't solved again. A
+//! part is known where its names keep their fees, their sizes and the relation among themselves. Of a part that has changed the solver
+//! takes the names one by one, and a name that isn't found is left out. That has no say in the answer, which is optimal whatever the
+//! solver tried, only in how soon it comes. So clauses speak of parts that are known, and of no others.
 
-ghost use Rattle.std.specs.Prelude.{◌≤◌};
+ghost use Rattle.std.specs.Prelude.{◌≡◌, ◌⊎◌, ℕ, ◌*◌, ◌<◌, ◌≤◌, ◌∷◌, ◌++◌, [], true, false, length, slice_index, Contains};
+ghost use Rattle.std.specs.FinSet as set;
+ghost use Rattle.lists.specs.Distinct.{AreDistinct};
+ghost use Rattle.linearize.specs.Graphs.{sum_from};
+ghost use Rattle.cluster.specs.Guesses.{AreImages, PutsPlaces, PutsFlows, PutsPart};
 
-use crate::cluster::Cluster;
-use crate::order::{Order, between};
-use crate::work::Work;
+use crate::cluster::{Cluster, PartRef};
+use bitset::Bits;
 use fee_rate::FeeRate;
-use graphs::TxId;
+use graphs::{Flow, TxId};
+use linearize::{Guess, OldPart, PlaceFlow};
 
 /// How many slots there are for places. Where names are numbers that follow one another, so many of them have slots of their own.
 const SLOTS: u64 = 512;
 
-/// Guesses the order of a cluster whose names keep their places, where a name has another fee or another parent.
-pub(crate) fn guess_same<const W: usize>(old: &Cluster<W>, changed: TxId, work: &mut Work<W>) {
-    let names = old.names();
+/// Guesses the order of a cluster whose names keep their places, where a name has another fee: parts without it are known.
+pub(crate) fn guess_fee<const W: usize>(
+    old: &Cluster<W>,
+    names: &[TxId],
+    changed: TxId,
+    guess: &mut Guess,
+)
+    ensures { AreImages names.now (λ part. Contains old.now.parts part × (Contains part.ids changed → ⊥))
+        guess.new.parts.items guess.new.places.items guess.new.flows.items }
+{
+    guess.clear();
     let slots = Slots::new(names);
-    let guess = work.positions.as_mut_slice();
-    let mut end = 0;
     for at in 0..old.part_count() {
-        let ids = old.part(at).ids;
-        let whole = !ids.contains(&changed);
-        end = write_places(ids, names, &slots, whole, end, guess);
+        let part = old.part(at);
+        let known = is_without(part.ids, changed);
+        put_part(part, known, names, &slots, guess);
     }
 }
 
-/// Guesses the order of a cluster that has some of the names of an order: what is left of it. The names stand each at its
-/// place. A part that lost a name has changed as a whole.
-pub(crate) fn guess_part<const W: usize>(order: &Order, names: &[TxId], work: &mut Work<W>) {
+/// Guesses the order of a cluster whose names keep their places, where what is above a new pair comes to be above what is below
+/// it: parts without a name above or without one below are known. The part at `moved` is to be tried anyway.
+pub(crate) fn guess_linked<const W: usize>(
+    old: &Cluster<W>,
+    names: &[TxId],
+    above: &Bits<W>,
+    below: &Bits<W>,
+    moved: usize,
+    guess: &mut Guess,
+)
+    requires narrow { length names.now ≤ 64 * W }
+    requires once { AreDistinct names.now }
+    ensures { AreImages names.now (λ part. Contains old.now.parts part × ((p q : ℕ) → p < length names.now → q < length names.now
+        → Contains part.ids (slice_index names.now p) → Contains part.ids (slice_index names.now q)
+        → set.contains above.now p ≡ true → set.contains below.now q ≡ true → ⊥))
+        guess.new.parts.items guess.new.places.items guess.new.flows.items }
+{
+    guess.clear();
     let slots = Slots::new(names);
-    let guess = work.positions.as_mut_slice();
-    let old_names = order.names.as_slice();
-    let mut from = 0;
-    let mut end = 0;
-    for at in 0..order.parts.len() {
-        // the ends rise up to the number of names, of which nothing is known here
-        let to = order.parts[at].end.min(old_names.len());
-        let ids = between(old_names, from.min(to), to);
-        let whole_end = write_places(ids, names, &slots, true, end, guess);
-        end = if whole_end - end == ids.len() {
-            whole_end
-        } else {
-            write_places(ids, names, &slots, false, end, guess)
-        };
-        from = to;
+    for at in 0..old.part_count() {
+        let part = old.part(at);
+        let known = is_apart(at == moved, part.ids, names, &slots, above, below);
+        put_part(part, known, names, &slots, guess);
+    }
+}
+
+/// The part that a new pair in a cluster moves: the child's, where it stands before the parent's. Else there is none at the position.
+pub(crate) fn moved_part<const W: usize>(old: &Cluster<W>, parent: TxId, child: TxId) -> usize {
+    let at = find_part(old, child);
+    if at < find_part(old, parent) {
+        at
+    } else {
+        usize::MAX
+    }
+}
+
+/// Guesses the order of a cluster that has some of the names of another. Of that each part is known that has all its names still.
+pub(crate) fn guess_part<const W: usize>(old: &Cluster<W>, names: &[TxId], guess: &mut Guess)
+    ensures { AreImages names.now (λ part. Contains old.now.parts part)
+        guess.new.parts.items guess.new.places.items guess.new.flows.items }
+{
+    guess.clear();
+    let slots = Slots::new(names);
+    for at in 0..old.part_count() {
+        put_part(old.part(at), true, names, &slots, guess);
     }
 }
 
 /// Guesses the order of two clusters together, where `child` of the one comes to depend on `parent` of the other: the parts of
-/// both by rate, the higher first, but the child's part behind the parent's. The names are those of both, each at its place.
+/// both by rate, the higher first, but the child's part behind the parent's. The names are those of both, each at its place. All
+/// parts are known. But the child's is tried name by name where it had to wait.
 pub(crate) fn guess_joined<const W: usize>(
     first: &Cluster<W>,
     second: &Cluster<W>,
     parent: TxId,
     child: TxId,
     names: &[TxId],
-    work: &mut Work<W>,
-) {
+    guess: &mut Guess,
+)
+    ensures { AreImages names.now (λ part. Contains first.now.parts part ⊎ Contains second.now.parts part)
+        guess.new.parts.items guess.new.places.items guess.new.flows.items }
+{
+    guess.clear();
     let slots = Slots::new(names);
-    let guess = work.positions.as_mut_slice();
     let mut one = Side::new(first, parent, child);
     let mut other = Side::new(second, parent, child);
-    let mut end = 0;
+    let waits = is_lower_of(
+        rate_of_either(first, one.parent, second, other.parent),
+        rate_of_either(first, one.child, second, other.child),
+    );
     // each part has a name, so that there are no more parts than names
     for _ in 0..names.len() {
-        end = if one.is_before(&other) {
-            one.write_next(first, names, &slots, end, guess)
-        } else {
-            other.write_next(second, names, &slots, end, guess)
-        };
+        put_either(
+            first, &mut one, second, &mut other, waits, names, &slots, guess,
+        );
     }
+}
+
+// Puts the part that comes next of two clusters, where there is one.
+fn put_either<const W: usize>(
+    first: &Cluster<W>,
+    one: &mut Side,
+    second: &Cluster<W>,
+    other: &mut Side,
+    waits: bool,
+    names: &[TxId],
+    slots: &Slots,
+    guess: &mut Guess,
+)
+    ensures { PutsPart names.now (λ part. Contains first.now.parts part ⊎ Contains second.now.parts part)
+        guess.old.places.items guess.old.flows.items guess.old.parts.items
+        guess.new.places.items guess.new.flows.items guess.new.parts.items }
+{
+    if one.is_before(other) {
+        one.put_next(first, waits, names, slots, guess);
+        return;
+    }
+    other.put_next(second, waits, names, slots, guess);
 }
 
 /// How far the parts of one of two clusters are merged with those of the other.
@@ -115,23 +175,27 @@ impl Side {
         self.next == self.child && other.next <= other.parent
     }
 
-    // Writes the places of the names of the next part from a position on, and gives where they end.
-    fn write_next<const W: usize>(
+    // Puts the next part, where there is one.
+    fn put_next<const W: usize>(
         &mut self,
         cluster: &Cluster<W>,
+        waits: bool,
         names: &[TxId],
         slots: &Slots,
-        from: usize,
-        guess: &mut [usize],
-    ) -> usize {
+        guess: &mut Guess,
+    )
+        ensures { PutsPart names.now (λ part. Contains cluster.now.parts part)
+            guess.old.places.items guess.old.flows.items guess.old.parts.items
+            guess.new.places.items guess.new.flows.items guess.new.parts.items }
+    {
         if self.next >= cluster.part_count() {
-            return from;
+            return;
         }
         let part = cluster.part(self.next);
-        let whole = self.next != self.child;
+        let known = !waits || self.next != self.child;
         self.next += 1;
         self.rate = rate_at(cluster, self.next);
-        write_places(part.ids, names, slots, whole, from, guess)
+        put_part(part, known, names, slots, guess);
     }
 }
 
@@ -157,7 +221,9 @@ fn find_part<const W: usize>(cluster: &Cluster<W>, id: TxId) -> usize {
 }
 
 // Where a name stands among others, or how many these are where it isn't there.
-fn position_of(names: &[TxId], id: TxId) -> usize {
+fn position_of(names: &[TxId], id: TxId) -> usize
+    ensures { result < length names.now → slice_index names.now result ≡ id }
+{
     for at in 0..names.len() {
         if names[at] == id {
             return at;
@@ -166,33 +232,188 @@ fn position_of(names: &[TxId], id: TxId) -> usize {
     names.len()
 }
 
+// The rate of a part of the one cluster, or else of one of the other.
+fn rate_of_either<const W: usize>(
+    first: &Cluster<W>,
+    at: usize,
+    second: &Cluster<W>,
+    other_at: usize,
+) -> Option<FeeRate> {
+    match rate_at(first, at) {
+        Some(rate) => Some(rate),
+        None => rate_at(second, other_at),
+    }
+}
+
+// Whether there are both rates, and the first is the lower one.
+fn is_lower_of(a: Option<FeeRate>, b: Option<FeeRate>) -> bool {
+    match (a, b) {
+        (Some(first), Some(second)) => is_lower(first, second),
+        _ => false,
+    }
+}
+
 // Whether the first rate is the lower one, fee over size. The products are exact for any numbers, so that no limit of a
 // part's rate is owed here.
 fn is_lower(a: FeeRate, b: FeeRate) -> bool {
     i128::from(a.fee) * i128::from(b.size) < i128::from(b.fee) * i128::from(a.size)
 }
 
-// Writes the places of those names of a part that are among `names`, from a position on, as far as there is room: of a part that
-// is tried as a whole all but the first by their complements. Gives where they end.
-fn write_places(
-    part: &[TxId],
+// Whether a name is not one of some.
+fn is_without(ids: &[TxId], id: TxId) -> bool
+    ensures { result ≡ true → Contains ids.now id → ⊥ }
+{
+    !ids.contains(&id)
+}
+
+// Whether a part has no name above or none below, and is not to be tried anyway.
+fn is_apart<const W: usize>(
+    tried: bool,
+    ids: &[TxId],
     names: &[TxId],
     slots: &Slots,
-    whole: bool,
-    from: usize,
-    guess: &mut [usize],
-) -> usize
-    ensures { from ≤ result }
+    above: &Bits<W>,
+    below: &Bits<W>,
+) -> bool
+    requires narrow { length names.now ≤ 64 * W }
+    requires once { AreDistinct names.now }
+    ensures { result ≡ true → (p q : ℕ) → p < length names.now → q < length names.now
+        → Contains ids.now (slice_index names.now p) → Contains ids.now (slice_index names.now q)
+        → set.contains above.now p ≡ true → set.contains below.now q ≡ true → ⊥ }
 {
-    let mut end = from;
-    for at in 0..part.len() {
-        let place = slots.find(names, part[at]);
-        if place < names.len() && end < guess.len() {
-            guess[end] = if whole && end > from { !place } else { place };
-            end += 1;
+    if tried {
+        return false;
+    }
+    if !has_some(ids, names, slots, above) {
+        return true;
+    }
+    !has_some(ids, names, slots, below)
+}
+
+// Whether a name of a part may be at a place of a set.
+fn has_some<const W: usize>(ids: &[TxId], names: &[TxId], slots: &Slots, chosen: &Bits<W>) -> bool
+    requires narrow { length names.now ≤ 64 * W }
+    requires once { AreDistinct names.now }
+    ensures { result ≡ false → (p : ℕ) → p < length names.now → Contains ids.now (slice_index names.now p)
+        → set.contains chosen.now p ≡ true → ⊥ }
+{
+    for at in 0..ids.len() {
+        let place = slots.find(names, ids[at]);
+        if place >= names.len() || chosen.has(place) {
+            return true;
         }
     }
-    end
+    false
+}
+
+// Puts a part behind the others, with its places. Where it is known and all its names are found, it has its flows as well.
+fn put_part(part: PartRef<'_>, known: bool, names: &[TxId], slots: &Slots, guess: &mut Guess)
+    ensures { PutsPart names.now
+        (λ old. (known ≡ true) × (old ≡ record { rate = sum_from part.entry.rate; ids = part.entry.ids.now; flows = part.entry.flows.now }))
+        guess.old.places.items guess.old.flows.items guess.old.parts.items
+        guess.new.places.items guess.new.flows.items guess.new.parts.items }
+{
+    let start = guess.places.len();
+    let flow_start = guess.flows.len();
+    let whole = put_places(part.ids, names, slots, &mut guess.places);
+    let sure = put_flows_if(known, whole, part.flows, names, slots, &mut guess.flows);
+    let old = OldPart {
+        rate: part.rate,
+        start,
+        end: guess.places.len(),
+        flow_start,
+        flow_end: guess.flows.len(),
+        known: sure,
+    };
+    let _pushed = push_part(old, &mut guess.parts);
+}
+
+// Puts a part behind others, where there is memory for it.
+fn push_part(old: OldPart, parts: &mut Vec<OldPart>) -> bool
+    ensures put { result ≡ true → parts.new.items ≡ parts.old.items ++ old ∷ [] }
+    ensures none { result ≡ false → parts.new.items ≡ parts.old.items }
+{
+    match parts.push(old) {
+        Ok(()) => true,
+        Err(_) => false,
+    }
+}
+
+// Puts the places of names behind others, and tells whether all names were found.
+fn put_places(ids: &[TxId], names: &[TxId], slots: &Slots, places: &mut Vec<usize>) -> bool
+    ensures { PutsPlaces names.now ids.now places.old.items places.new.items result }
+{
+    let mut all = true;
+    for at in 0..ids.len() {
+        if !put_place(ids[at], names, slots, places) {
+            all = false;
+        }
+    }
+    all
+}
+
+// Puts the place of a name behind others, where it is found.
+fn put_place(id: TxId, names: &[TxId], slots: &Slots, places: &mut Vec<usize>) -> bool
+    ensures { PutsPlaces names.now (id ∷ []) places.old.items places.new.items result }
+{
+    let place = slots.find(names, id);
+    if place >= names.len() {
+        return false;
+    }
+    match places.push(place) {
+        Ok(()) => true,
+        Err(_) => false,
+    }
+}
+
+// Puts flows behind others where it is asked for, and tells whether all of them were put.
+fn put_flows_if(
+    known: bool,
+    whole: bool,
+    flows: &[Flow],
+    names: &[TxId],
+    slots: &Slots,
+    out: &mut Vec<PlaceFlow>,
+) -> bool
+    ensures puts { PutsFlows names.now flows.now out.old.items out.new.items result }
+    ensures asked { result ≡ true → (known ≡ true) × (whole ≡ true) }
+{
+    if !known || !whole {
+        return false;
+    }
+    put_flows(flows, names, slots, out)
+}
+
+// Puts flows by the places of their names behind others, and tells whether all names were found.
+fn put_flows(flows: &[Flow], names: &[TxId], slots: &Slots, out: &mut Vec<PlaceFlow>) -> bool
+    ensures { PutsFlows names.now flows.now out.old.items out.new.items result }
+{
+    for at in 0..flows.len() {
+        if !put_flow(flows[at], names, slots, out) {
+            return false;
+        }
+    }
+    true
+}
+
+// Puts a flow by the places of its names behind others, where both are found.
+fn put_flow(flow: Flow, names: &[TxId], slots: &Slots, out: &mut Vec<PlaceFlow>) -> bool
+    ensures { PutsFlows names.now (flow ∷ []) out.old.items out.new.items result }
+{
+    let child = slots.find(names, flow.child);
+    let parent = slots.find(names, flow.parent);
+    if child >= names.len() || parent >= names.len() {
+        return false;
+    }
+    let moved = PlaceFlow {
+        child,
+        parent,
+        amount: flow.amount,
+    };
+    match out.push(moved) {
+        Ok(()) => true,
+        Err(_) => false,
+    }
 }
 
 /// Where names may stand, so that few of them are looked for. Each name has a slot, by its last digits. A slot has the place of
@@ -213,7 +434,9 @@ impl Slots {
     }
 
     // Where one of the names stands, or how many they are where it isn't there.
-    fn find(&self, names: &[TxId], id: TxId) -> usize {
+    fn find(&self, names: &[TxId], id: TxId) -> usize
+        ensures { result < length names.now → slice_index names.now result ≡ id }
+    {
         let place = usize::from(self.places[(id % SLOTS) as usize]);
         if place == 0 {
             return names.len();

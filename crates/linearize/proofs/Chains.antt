@@ -106,3 +106,22 @@ module _ (n : ℕ) (dep : Closure) (closed : IsClosed n dep) where
       by_steps order h.once
       (λ p c cover. (let both = closed.order.among p c cover.ancestor in h.parents_first p c cover (member p both.0) (member c both.1)))
       (fin.len (ancestors_of dep d)) a d e ne (omega arith)
+
+  -- A set that holds the covering parents of its places, as far as these are some places, holds their ancestors as far, where what
+  -- lies between two of these is one.
+  module _ (K X : ℕ → Type 0) (convex : (a p d : ℕ) → K a → X d → is_ancestor dep a p ≡ true → is_ancestor dep p d ≡ true → K p)
+      (step : (p c : ℕ) → IsCover dep p c → X c → K p → X p) where
+    by_climbing : (fuel a d : ℕ) → is_ancestor dep a d ≡ true → fin.len (ancestors_of dep d) ≤ fuel → K a → X d → X a
+    by_climbing zero a d e short ka xd =
+        let own : is_ancestor dep d d ≡ true = closed.order.reflexive d (closed.order.among a d e).1 in
+        absurd (omega (arith, short, set_drop (ancestors_of dep d) d own))
+    by_climbing (suc fuel) a d e short ka xd = elim (cases_eq a d) as (λ _. X a) [
+      | inl same ↦ subst X (sym same) xd
+      | inr other ↦
+          let up = last_step (fin.len (ancestors_of dep d)) a d e other (omega arith) in
+          let less = fewer_above up.0 d up.2.ancestor up.2.other in
+          by_climbing fuel a up.0 up.1 (omega (arith, less, short)) ka (step up.0 d up.2 xd (convex a up.0 d ka xd up.1 up.2.ancestor))
+    ]
+
+    pub climbs : (a d : ℕ) → is_ancestor dep a d ≡ true → K a → X d → X a
+    climbs a d e = by_climbing (fin.len (ancestors_of dep d)) a d e (omega arith)

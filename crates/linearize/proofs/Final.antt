@@ -33,14 +33,14 @@ use Rattle.lists.proofs.Keys.{set_drop}
 use Rattle.lists.proofs.Flats.{flat_has}
 
 -- ---- a list as a set
-to_set : (xs : List ℕ) (q : ℕ) → Contains xs q → fin.contains (fin.from_list {R = nat_cmp} xs) q ≡ true
+pub to_set : (xs : List ℕ) (q : ℕ) → Contains xs q → fin.contains (fin.from_list {R = nat_cmp} xs) q ≡ true
 to_set [] q h = absurd (none_in_empty q h)
 to_set (x ∷ xs) q h = elim (Contains-cases x q xs h) [
   | inl same ↦ subst (λ (k : ℕ). fin.contains (fin.from_list {R = nat_cmp} (x ∷ xs)) k ≡ true) same (insert_here (fin.from_list xs) x)
   | inr later ↦ to_insert (fin.from_list xs) x q (to_set xs q later)
 ]
 
-from_set : (xs : List ℕ) (q : ℕ) → fin.contains (fin.from_list {R = nat_cmp} xs) q ≡ true → Contains xs q
+pub from_set : (xs : List ℕ) (q : ℕ) → fin.contains (fin.from_list {R = nat_cmp} xs) q ≡ true → Contains xs q
 from_set [] q m = clash _ m (contains-empty q)
 from_set (x ∷ xs) q m = elim (from_insert (fin.from_list xs) x q m) [
   | inl same ↦ subst (λ (k : ℕ). Contains (x ∷ xs) k) (sym same) (Contains-head x xs)

@@ -7,6 +7,7 @@ mod Falling
 mod Final
 mod FlowLists
 mod Joined
+mod KnownParts
 mod Lists
 mod Nexts
 mod Orders

@@ -58,7 +58,7 @@ placing_start n dep s ids none = subst (λ xs. Placing n dep s s xs) (sym none) 
   count = omega arith;
 })
 
-before_push : (xs : List ℕ) (x a b : ℕ) → StandsBefore xs a b → StandsBefore (xs ++ x ∷ []) a b
+pub before_push : (xs : List ℕ) (x a b : ℕ) → StandsBefore xs a b → StandsBefore (xs ++ x ∷ []) a b
 before_push xs x a b h = (h.0, h.1 ++ x ∷ [], ap (λ ys. ys ++ x ∷ []) h.2 ∙ append_assoc h.0 (b ∷ h.1) (x ∷ []), h.3)
 
 pub placing_more : (n : ℕ) (dep : Closure) (s left rest : fin.FinSet nat_cmp) (ids : List ℕ) (p : ℕ) → IsWithin n s → Placing n dep s left ids

@@ -23,10 +23,10 @@ use Rattle.lists.proofs.Distinct.{distinct_joined}
 use Rattle.lists.proofs.Keys.{set_within}
 use Rattle.linearize.specs.declared.draft.LinearPart.{LinearPart}
 use Rattle.linearize.specs.Drafts.{AreShown, Written, placed, flows_in}
-use Rattle.linearize.specs.Graphs.{sum_at, sum_from, most_members}
-use Rattle.linearize.specs.Near.{AreParts, ComesNext, most_tried}
+use Rattle.linearize.specs.Graphs.{sum_at, sum_from, most_members, HasRates}
+use Rattle.linearize.specs.Near.{AreParts, ComesNext, Extends, IsBegun, most_tried}
 use Rattle.linearize.specs.Orders.{AreCovers, IsOrderOf}
-use Rattle.linearize.specs.Splits.{Adds, HasRoom, IsUncutPart}
+use Rattle.linearize.specs.Splits.{Adds, HasRoom, IsReady, IsUncutPart}
 use Rattle.closure_flow.specs.Scratches.{Room}
 use Rattle.linearize.specs.Steps.{AreOfOne}
 use Rattle.linearize.proofs.Joined.{either_part}
@@ -117,14 +117,10 @@ pub record Stands (n : ℕ) (dep : Closure) (members done : fin.FinSet nat_cmp) 
   pub summed : (part : Part) → Contains draft.parts part → part.rate ≡ sums (sum_at dep) part.ids
   pub certified : (part : Part) → Contains draft.parts part → Certifies (sum_at dep) (IsCover dep) part.ids part.flows
   pub uncut : (part : Part) → Contains draft.parts part → IsUncutPart n dep part
-  pub places : length (placed draft.parts) ≡ fin.len done
+  pub places : length (placed draft.parts) ≤ fin.len done
   pub few : length draft.parts ≤ fin.len done
   pub few_flows : 4 * length (flows_in draft.parts) ≤ fin.len done * fin.len done
-  pub least : before + fin.len done ≤ now
   pub most : now ≤ before + most_tried (fin.len members) * fin.len done
-
-spent : (before now later most a b c : ℕ) → c ≡ a + b → now ≤ before + most * a → later ≤ now + most * b → later ≤ before + most * c
-spent before now later most a b c lens old new = omega (arith, ap (λ (k : ℕ). most * k) lens, old, new)
 
 -- nothing was written so far
 pub stands_none : (n : ℕ) (dep : Closure) (members done : fin.FinSet nat_cmp) (draft : Written) (k : ℕ) → done ≡ fin.empty
@@ -134,9 +130,6 @@ stands_none n dep members done draft k none empty =
   where
     no : (p : ℕ) → fin.contains {R = nat_cmp} fin.empty p ≡ true → ⊥
     no p m = clash _ m (contains-empty p)
-
-    zero_ : fin.len {R = nat_cmp} fin.empty ≡ 0
-    zero_ = fin.len-empty nat_cmp
 
     start : Stands n dep members fin.empty (record { parts = []; ids = []; flows = [] }) k k
     start = record {
@@ -153,141 +146,164 @@ stands_none n dep members done draft k none empty =
       summed = λ part h. absurd (none_in_empty part h);
       certified = λ part h. absurd (none_in_empty part h);
       uncut = λ part h. absurd (none_in_empty part h);
-      places = sym zero_;
+      places = omega arith;
       few = omega arith;
       few_flows = omega arith;
-      least = omega (arith, zero_);
       most = omega arith;
     }
 
-module _ (n : ℕ) (dep : Closure) (parents : List (fin.FinSet nat_cmp)) (members done group : fin.FinSet nat_cmp) (closed : IsClosed n dep)
-    (held : HoldsMembers dep members) (covers : AreCovers dep parents) (next : ComesNext parents members done group) where
-  all : fin.FinSet nat_cmp
-  all = fin.union done group
+-- ---- what may come behind others
 
-  apart : (k : ℕ) → fin.contains done k ≡ true → fin.contains group k ≡ true → ⊥
-  apart k a b = next.apart k b a
+module _ (n : ℕ) (dep : Closure) (members done : fin.FinSet nat_cmp) (closed : IsClosed n dep) (held : HoldsMembers dep members)
+    (inside_members : (p : ℕ) → fin.contains done p ≡ true → fin.contains members p ≡ true) (group : fin.FinSet nat_cmp)
+    (inside_group : (p : ℕ) → fin.contains group p ≡ true → fin.contains members p ≡ true)
+    (apart : (p : ℕ) → fin.contains group p ≡ true → fin.contains done p ≡ true → ⊥) where
+  both_inside : (p : ℕ) → fin.contains (fin.union done group) p ≡ true → fin.contains members p ≡ true
+  both_inside p m = elim (from_union done group p m) [ inl a ↦ inside_members p a | inr b ↦ inside_group p b ]
 
-  module _ (old : Written) (before now : ℕ) (stands : Stands n dep members done old before now) where
-    within : IsWithin n (fin.union done group)
-    within k m = closed.within k (held k (elim (from_union done group k m) [ inl a ↦ stands.inside k a | inr b ↦ next.inside k b ]))
+  within : IsWithin n (fin.union done group)
+  within k m = closed.within k (held k (both_inside k m))
 
-    pub lens : fin.len (fin.union done group) ≡ fin.len done + fin.len group
-    lens = len_split n (fin.union done group) done group within (split_union done group apart)
+  pub lens : fin.len (fin.union done group) ≡ fin.len done + fin.len group
+  lens = len_split n (fin.union done group) done group within (split_union done group (λ k a b. apart k b a))
 
-    most : fin.len (fin.union done group) ≤ n
-    most = len_bound n (fin.union done group) within
+  pub fits : fin.len (fin.union done group) ≤ n
+  fits = len_bound n (fin.union done group) within
 
-    pub room : HasRoom n group old
-    room =
-        let square = mul-le-mul most most in
-        let double = ap (λ (k : ℕ). k * k) lens in
-        record {
-          ids = stands.ids;
-          flows = stands.flows;
-          for_places = (let p = stands.places in omega (arith, lens, most, p));
-          for_parts = (let p = stands.few in omega (arith, lens, most, p));
-          for_flows = (let p = stands.few_flows in omega (arith, square, double, p));
-        }
+  pub fits_members : fin.len (fin.union done group) ≤ fin.len members
+  fits_members = set_within (fin.union done group) members both_inside
 
-    pub few_members : fin.len members ≤ most_members → fin.len group ≤ most_members
-    few_members few =
-        let less = set_within group members next.inside in
-        omega (arith, less, few)
+-- the steps of a trial of some of the members, together with what others may take
+pub tried_steps : (members done group all now later : ℕ) → all ≡ done + group → all ≤ members → later ≤ now + most_tried group * group
+    → (later + most_tried members * done ≤ now + most_tried members * all) × (later + most_tried members * done ≤ now + most_tried members * members)
+tried_steps members done group all now later sum few grew =
+    let base : group + 2 ≤ members + 2 = omega (arith, sum, few) in
+    let more : (group + 2) ^ 3 ≤ (members + 2) ^ 3 = pow-le-pow_left base 3 in
+    let wide : most_tried group * group ≤ most_tried members * group = mul-le-mul_right group (omega (arith, more)) in
+    let less : most_tried members * all ≤ most_tried members * members = mul-le-mul_left (most_tried members) few in
+    let split = ap (λ (k : ℕ). most_tried members * k) sum in
+    added now later (most_tried members) (most_tried group * group) done group all members split grew wide less
+  where
+    added : (now later m t a b c d : ℕ) → m * c ≡ m * (a + b) → later ≤ now + t → t ≤ m * b → m * c ≤ m * d
+        → (later + m * a ≤ now + m * c) × (later + m * a ≤ now + m * d)
+    added now later m t a b c d split grew wide less = (omega (arith, split, grew, wide), omega (arith, split, grew, wide, less))
 
-    most_next : (later : ℕ) → later ≤ now + most_tried (fin.len group) * fin.len group
-        → later ≤ before + most_tried (fin.len members) * fin.len (fin.union done group)
-    most_next later grew =
-        let low = set_within group members next.inside in
-        let base : fin.len group + 2 ≤ fin.len members + 2 = omega (arith, low) in
-        let more : (fin.len group + 2) ^ 3 ≤ (fin.len members + 2) ^ 3 = pow-le-pow_left base 3 in
-        let wide : most_tried (fin.len group) * fin.len group ≤ most_tried (fin.len members) * fin.len group =
-        mul-le-mul_right (fin.len group) (omega (arith, more)) in
-        spent before now later (most_tried (fin.len members)) (fin.len done) (fin.len group) (fin.len (fin.union done group)) lens
-        stands.most (omega (arith, grew, wide))
-
-    -- also where the group is no part
-    pub tried : (later : ℕ) → later ≤ now + most_tried (fin.len group) * fin.len group
-        → later ≤ before + most_tried (fin.len members) * fin.len members
-    tried later grew =
-        let less = set_within (fin.union done group) members
-        (λ k m. elim (from_union done group k m) [ inl a ↦ stands.inside k a | inr b ↦ next.inside k b ]) in
-        omega (arith, most_next later grew, mul-le-mul_left (most_tried (fin.len members)) less)
-
-    module _ (new : Written) (adds : Adds n dep group old new) where
-      parts : new.parts ≡ old.parts ++ adds.parts
-      parts = ap (λ (w : Written). w.parts) adds.is
-
-      each : (P : Part → Type 0) → ((q : Part) → Contains old.parts q → P q) → ((q : Part) → Contains adds.parts q → P q) → (q : Part)
-          → Contains new.parts q → P q
-      each P f g q h = either_part P old.parts adds.parts f g q (subst (λ ps. Contains ps q) parts h)
-
-      all_placed : placed new.parts ≡ placed old.parts ++ placed adds.parts
-      all_placed = ap placed parts ∙ flat_map-append (λ part. part.ids) old.parts adds.parts
-
-      all_flows : flows_in new.parts ≡ flows_in old.parts ++ flows_in adds.parts
-      all_flows = ap flows_in parts ∙ flat_map-append (λ part. part.flows) old.parts adds.parts
-
-      -- a covering parent of a place of both is in both
-      upper : (p c : ℕ) → IsCover dep p c → fin.contains (fin.union done group) c ≡ true → fin.contains (fin.union done group) p ≡ true
-      upper p c cover m = elim (from_union done group c m) [
-        | inl a ↦ to_union_left done group p (stands.upper p c cover a)
-        | inr b ↦ elim (next.parents_known p c b ((covers.exact p c (held c (next.inside c b))).1 cover)) [
-          | inl left ↦ to_union_left done group p left
-          | inr right ↦ to_union_right done group p right
-        ]
-      ]
-
-      order : IsOrderOf dep (fin.union done group) (placed old.parts ++ placed adds.parts)
-      order = record {
-        once = distinct_joined (placed old.parts) (placed adds.parts) stands.order.once adds.linear.order.once
-            (λ p a b. apart p ((stands.order.exact p).0 a) ((adds.linear.order.exact p).0 b));
-        exact = λ p. (
-          λ h. elim (Contains-append_cases (placed old.parts) (placed adds.parts) p h) [
-            | inl a ↦ to_union_left done group p ((stands.order.exact p).0 a)
-            | inr b ↦ to_union_right done group p ((adds.linear.order.exact p).0 b)
-          ],
-          λ m. elim (from_union done group p m) [
-            | inl a ↦ Contains-append_left (placed old.parts) (placed adds.parts) p ((stands.order.exact p).1 a)
-            | inr b ↦ Contains-append_right (placed old.parts) (placed adds.parts) p ((adds.linear.order.exact p).1 b)
-          ],
-        );
-        parents_first = λ p c cover p_in c_in. elim (from_union done group c c_in) [
-          | inl c_done ↦ stands-append_right (placed old.parts) (placed adds.parts) p c
-              (stands.order.parents_first p c cover (stands.upper p c cover c_done) c_done)
-          | inr c_new ↦ elim (from_union done group p p_in) [
-            | inl p_done ↦ stands_across (placed old.parts) (placed adds.parts) p c ((stands.order.exact p).1 p_done) ((adds.linear.order.exact c).1 c_new)
-            | inr p_new ↦ stands-append_left (placed old.parts) (placed adds.parts) p c (adds.linear.order.parents_first p c cover p_new c_new)
-          ]
-        ];
+module _ (n : ℕ) (dep : Closure) (members done : fin.FinSet nat_cmp) (closed : IsClosed n dep) (held : HoldsMembers dep members) (old : Written)
+    (before now : ℕ) (stands : Stands n dep members done old before now) where
+  room : (s : fin.FinSet nat_cmp) → ((t : ℕ) → fin.contains s t ≡ true → fin.contains members t ≡ true)
+      → ((t : ℕ) → fin.contains s t ≡ true → fin.contains done t ≡ true → ⊥) → HasRoom n s old
+  room s inside_s apart =
+      let sum = lens n dep members done closed held stands.inside s inside_s apart in
+      let most = fits n dep members done closed held stands.inside s inside_s apart in
+      let square = mul-le-mul most most in
+      let double = ap (λ (k : ℕ). k * k) sum in
+      record {
+        ids = stands.ids;
+        flows = stands.flows;
+        for_places = (let p = stands.places in omega (arith, sum, most, p));
+        for_parts = (let p = stands.few in omega (arith, sum, most, p));
+        for_flows = (let p = stands.few_flows in omega (arith, square, double, p));
       }
 
-      pub stands_next : (later : ℕ) → now + fin.len group ≤ later → later ≤ now + most_tried (fin.len group) * fin.len group
-          → Stands n dep members (fin.union done group) new before later
-      stands_next later all grew =
-          let double = ap (λ (k : ℕ). k * k) lens in
-          let a = ap length all_placed ∙ length-append (placed old.parts) (placed adds.parts) in
-          let b = ap length parts ∙ length-append old.parts adds.parts in
-          let d = ap length all_flows ∙ length-append (flows_in old.parts) (flows_in adds.parts) in
-          record {
-            ids = ap (λ (w : Written). w.ids) adds.is;
-            flows = ap (λ (w : Written). w.flows) adds.is;
-            inside = λ p m. elim (from_union done group p m) [ inl x ↦ stands.inside p x | inr y ↦ next.inside p y ];
-            upper = upper;
-            order = subst (λ xs. IsOrderOf dep (fin.union done group) xs) (sym all_placed) order;
-            filled = each (λ q. q.ids ≢ []) stands.filled adds.linear.filled;
-            summed = each (λ q. q.rate ≡ sums (sum_at dep) q.ids) stands.summed adds.linear.falling.summed;
-            certified = each (λ q. Certifies (sum_at dep) (IsCover dep) q.ids q.flows) stands.certified adds.linear.flows;
-            uncut = each (IsUncutPart n dep) stands.uncut adds.linear.uncut;
-            places = (let p = stands.places in let q = adds.places in omega (arith, lens, a, p, q));
-            few = (let p = stands.few in let q = adds.few in omega (arith, lens, b, p, q));
-            few_flows = (let p = stands.few_flows in let q = adds.few_flows in omega (arith, double, d, p, q));
-            least = (let q = stands.least in omega (arith, lens, all, q));
-            most = most_next later grew;
-          }
+  pub begun : (parents : List (fin.FinSet nat_cmp)) → AreCovers dep parents → fin.len members ≤ most_members → HasRates dep
+      → IsBegun n dep parents members done old
+  begun parents covers few rates = record {
+    closed = closed;
+    held = held;
+    few = few;
+    rates = rates;
+    covers = covers;
+    inside = stands.inside;
+    upper = stands.upper;
+    room = room;
+  }
 
-module _ (n : ℕ) (dep : Closure) (members done : fin.FinSet nat_cmp) (closed : IsClosed n dep) (held : HoldsMembers dep members) (draft : Written)
-    (before now : ℕ) (stands : Stands n dep members done draft before now) where
+  module _ (new : Written) (all_done : fin.FinSet nat_cmp) (more : Extends n dep members done old new all_done) where
+    parts : new.parts ≡ old.parts ++ more.parts
+    parts = ap (λ (w : Written). w.parts) more.is
+
+    each : (P : Part → Type 0) → ((q : Part) → Contains old.parts q → P q) → ((q : Part) → Contains more.parts q → P q) → (q : Part)
+        → Contains new.parts q → P q
+    each P f g q h = either_part P old.parts more.parts f g q (subst (λ ps. Contains ps q) parts h)
+
+    all_placed : placed new.parts ≡ placed old.parts ++ placed more.parts
+    all_placed = ap placed parts ∙ flat_map-append (λ part. part.ids) old.parts more.parts
+
+    all_flows : flows_in new.parts ≡ flows_in old.parts ++ flows_in more.parts
+    all_flows = ap flows_in parts ∙ flat_map-append (λ part. part.flows) old.parts more.parts
+
+    -- a covering parent of a place of both is in both
+    upper : (p c : ℕ) → IsCover dep p c → fin.contains (fin.union done more.group) c ≡ true → fin.contains (fin.union done more.group) p ≡ true
+    upper p c cover m = elim (from_union done more.group c m) [
+      | inl a ↦ to_union_left done more.group p (stands.upper p c cover a)
+      | inr b ↦ elim (more.upper p c cover b) [
+        | inl left ↦ to_union_left done more.group p left
+        | inr right ↦ to_union_right done more.group p right
+      ]
+    ]
+
+    order : IsOrderOf dep (fin.union done more.group) (placed old.parts ++ placed more.parts)
+    order = record {
+      once = distinct_joined (placed old.parts) (placed more.parts) stands.order.once more.order.once
+          (λ p a b. more.apart p ((more.order.exact p).0 b) ((stands.order.exact p).0 a));
+      exact = λ p. (
+        λ h. elim (Contains-append_cases (placed old.parts) (placed more.parts) p h) [
+          | inl a ↦ to_union_left done more.group p ((stands.order.exact p).0 a)
+          | inr b ↦ to_union_right done more.group p ((more.order.exact p).0 b)
+        ],
+        λ m. elim (from_union done more.group p m) [
+          | inl a ↦ Contains-append_left (placed old.parts) (placed more.parts) p ((stands.order.exact p).1 a)
+          | inr b ↦ Contains-append_right (placed old.parts) (placed more.parts) p ((more.order.exact p).1 b)
+        ],
+      );
+      parents_first = λ p c cover p_in c_in. elim (from_union done more.group c c_in) [
+        | inl c_done ↦ stands-append_right (placed old.parts) (placed more.parts) p c
+            (stands.order.parents_first p c cover (stands.upper p c cover c_done) c_done)
+        | inr c_new ↦ elim (from_union done more.group p p_in) [
+          | inl p_done ↦ stands_across (placed old.parts) (placed more.parts) p c ((stands.order.exact p).1 p_done) ((more.order.exact c).1 c_new)
+          | inr p_new ↦ stands-append_left (placed old.parts) (placed more.parts) p c (more.order.parents_first p c cover p_new c_new)
+        ]
+      ];
+    }
+
+    pub stands_next : (later : ℕ)
+        → later + most_tried (fin.len members) * fin.len done ≤ now + most_tried (fin.len members) * fin.len all_done
+        → Stands n dep members all_done new before later
+    stands_next later grew =
+        let sum = lens n dep members done closed held stands.inside more.group more.inside more.apart in
+        let double = ap (λ (k : ℕ). k * k) sum in
+        let a = ap length all_placed ∙ length-append (placed old.parts) (placed more.parts) in
+        let b = ap length parts ∙ length-append old.parts more.parts in
+        let d = ap length all_flows ∙ length-append (flows_in old.parts) (flows_in more.parts) in
+        let same = ap (λ (s : fin.FinSet nat_cmp). most_tried (fin.len members) * fin.len s) more.both in
+        subst (λ (s : fin.FinSet nat_cmp). Stands n dep members s new before later) (sym more.both) (record {
+          ids = ap (λ (w : Written). w.ids) more.is;
+          flows = ap (λ (w : Written). w.flows) more.is;
+          inside = both_inside n dep members done closed held stands.inside more.group more.inside more.apart;
+          upper = upper;
+          order = subst (λ xs. IsOrderOf dep (fin.union done more.group) xs) (sym all_placed) order;
+          filled = each (λ q. q.ids ≢ []) stands.filled more.filled;
+          summed = each (λ q. q.rate ≡ sums (sum_at dep) q.ids) stands.summed more.summed;
+          certified = each (λ q. Certifies (sum_at dep) (IsCover dep) q.ids q.flows) stands.certified more.flows;
+          uncut = each (IsUncutPart n dep) stands.uncut more.uncut;
+          places = (let p = stands.places in let q = more.places in omega (arith, sum, a, p, q));
+          few = (let p = stands.few in let q = more.few in omega (arith, sum, b, p, q));
+          few_flows = (let p = stands.few_flows in let q = more.few_flows in omega (arith, double, d, p, q));
+          most = spent before now later (most_tried (fin.len members) * fin.len done) (most_tried (fin.len members) * fin.len all_done)
+              (most_tried (fin.len members) * fin.len (fin.union done more.group)) stands.most grew same;
+        })
+      where
+        spent : (before now later a b c : ℕ) → now ≤ before + a → later + a ≤ now + b → b ≡ c → later ≤ before + c
+        spent before now later a b c old grew same = omega arith
+
+  -- also where what was tried is no part
+  pub tried : (later : ℕ) → later + most_tried (fin.len members) * fin.len done ≤ now + most_tried (fin.len members) * fin.len members
+      → later ≤ before + most_tried (fin.len members) * fin.len members
+  tried later grew = spent before now later (most_tried (fin.len members) * fin.len done) (most_tried (fin.len members) * fin.len members) stands.most grew
+    where
+      spent : (before now later a b : ℕ) → now ≤ before + a → later + a ≤ now + b → later ≤ before + b
+      spent before now later a b old grew = omega arith
+
   pub so_far : now ≤ before + most_tried (fin.len members) * fin.len members
   so_far =
       let less = set_within done members stands.inside in
@@ -300,18 +316,61 @@ module _ (n : ℕ) (dep : Closure) (members done : fin.FinSet nat_cmp) (closed :
       | inr out ↦ out ∙ sym (false_from_ne_true _ (λ m. clash _ (inside members done whole k m) out))
     ])
 
-    pub all_done : fin.len done ≡ fin.len members
-    all_done = ap (λ s. fin.len s) same
-
-    pub all_parts : (shown : List LinearPart) → AreShown shown draft.parts → Falls (map (λ part. sum_from part.rate) shown)
-        → AreParts n dep members draft.parts
+    pub all_parts : (shown : List LinearPart) → AreShown shown old.parts → Falls (map (λ part. sum_from part.rate) shown)
+        → AreParts n dep members old.parts
     all_parts shown are falls = record {
-      order = subst (λ s. IsOrderOf dep s (placed draft.parts)) same stands.order;
+      order = subst (λ s. IsOrderOf dep s (placed old.parts)) same stands.order;
       filled = stands.filled;
       falling = record { summed = stands.summed; falling = subst Falls are.rates falls };
       flows = stands.certified;
       uncut = stands.uncut;
     }
+
+-- ---- what was solved
+
+module _ (n : ℕ) (dep : Closure) (parents : List (fin.FinSet nat_cmp)) (members done group : fin.FinSet nat_cmp) (old new : Written)
+    (start : IsBegun n dep parents members done old) (next : ComesNext parents members done group) where
+  pub few_members : fin.len group ≤ most_members
+  few_members =
+      let less = set_within group members next.inside in
+      let few = start.few in
+      omega (arith, less, few)
+
+  pub ready : IsReady n dep parents group old
+  ready = record {
+    closed = start.closed;
+    members = λ k m. start.held k (next.inside k m);
+    some = next.some;
+    few = few_members;
+    rates = start.rates;
+    covers = start.covers;
+    room = start.room group next.inside next.apart;
+  }
+
+  pub both_lens : fin.len (fin.union done group) ≡ fin.len done + fin.len group
+  both_lens = lens n dep members done start.closed start.held start.inside group next.inside next.apart
+
+  pub both_fit : fin.len (fin.union done group) ≤ fin.len members
+  both_fit = fits_members n dep members done start.closed start.held start.inside group next.inside next.apart
+
+  pub solved_behind : Adds n dep group old new → Extends n dep members done old new (fin.union done group)
+  solved_behind adds = record {
+    parts = adds.parts;
+    is = adds.is;
+    group = group;
+    both = refl;
+    inside = next.inside;
+    apart = next.apart;
+    upper = λ p c cover m. next.parents_known p c m ((start.covers.exact p c (start.held c (next.inside c m))).1 cover);
+    order = adds.linear.order;
+    filled = adds.linear.filled;
+    summed = adds.linear.falling.summed;
+    flows = adds.linear.flows;
+    uncut = adds.linear.uncut;
+    places = (let p = adds.places in omega (arith, p));
+    few = adds.few;
+    few_flows = adds.few_flows;
+  }
 
 -- ---- the steps of a trial, alone and before the solves of an order from nothing
 trial_most : (n : ℕ) → most_tried n * n ≤ 4 * (n + 2) ^ 4

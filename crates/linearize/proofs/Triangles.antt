@@ -18,7 +18,7 @@ use Rattle.lists.proofs.Keys.{set_drop}
 use Rattle.bitset.specs.Places.{IsWithin}
 
 -- distinct members of a set are at most as many as it has
-length_inside : (n : ℕ) (s : fin.FinSet nat_cmp) (xs : List ℕ) → IsWithin n s → AreDistinct xs → ((x : ℕ) → Contains xs x → fin.contains s x ≡ true)
+pub length_inside : (n : ℕ) (s : fin.FinSet nat_cmp) (xs : List ℕ) → IsWithin n s → AreDistinct xs → ((x : ℕ) → Contains xs x → fin.contains s x ≡ true)
     → length xs ≤ fin.len s
 length_inside n s [] within d inside = omega arith
 length_inside n s (x ∷ xs) within d inside =

@@ -1,14 +1,17 @@
 -- Sets of members, one after the other, that are tried as the parts of an order.
-use Rattle.std.specs.Prelude.{◌≡◌, ◌≢◌, ℕ, ◌+◌, ◌*◌, ◌<◌, ◌^◌, ◌⊎◌, true, List, [], Contains}
+use Rattle.std.specs.Prelude.{◌≡◌, ◌≢◌, ◌↔◌, ℕ, ◌+◌, ◌*◌, ◌<◌, ◌≤◌, ◌^◌, ◌⊎◌, true, List, [], ◌++◌, length, Contains}
 use Rattle.std.specs.Ordering.{nat_cmp}
 use Rattle.std.specs.FinSet as set
-use Rattle.graphs.specs.Closures.{Closure, IsCover}
+use Rattle.lists.specs.Distinct.{AreDistinct}
+use Rattle.graphs.specs.Closures.{Closure, is_ancestor, IsClosed, IsCover, HoldsMembers}
+use Rattle.graphs.specs.Linearizations.{StandsBefore}
+use Rattle.graphs.specs.Rates.{sums}
 use Rattle.graphs.specs.Certificates.{Part, HasFalling, HasFlows}
 use Rattle.closure_flow.specs.Closures.{parents_at}
-use Rattle.linearize.specs.Drafts.{placed}
-use Rattle.linearize.specs.Graphs.{sum_at}
-use Rattle.linearize.specs.Orders.{IsOrderOf}
-use Rattle.linearize.specs.Splits.{IsUncutPart}
+use Rattle.linearize.specs.Drafts.{Written, placed, flows_in}
+use Rattle.linearize.specs.Graphs.{HasRates, most_members, sum_at}
+use Rattle.linearize.specs.Orders.{AreCovers, IsOrderOf}
+use Rattle.linearize.specs.Splits.{HasRoom, IsUncutPart}
 
 -- certified parts of a set, of falling rate, parents first, none of which can be cut further
 pub record AreParts (n : ℕ) (dep : Closure) (s : set.FinSet nat_cmp) (parts : List Part) : Type 0 where
@@ -26,6 +29,47 @@ pub record ComesNext (parents : List (set.FinSet nat_cmp)) (members done group :
   pub apart : (t : ℕ) → set.contains group t ≡ true → set.contains done t ≡ true → ⊥
   pub parents_known : (p c : ℕ) → set.contains group c ≡ true → set.contains (parents_at parents c) p ≡ true
       → (set.contains done p ≡ true) ⊎ (set.contains group p ≡ true)
+
+-- Members in a list follow others: none of these, each once, and each behind all its ancestors. `all` are both.
+pub record Follow (dep : Closure) (members done : set.FinSet nat_cmp) (ids : List ℕ) (all : set.FinSet nat_cmp) : Type 0 where
+  pub once : AreDistinct ids
+  pub inside : (p : ℕ) → Contains ids p → set.contains members p ≡ true
+  pub apart : (p : ℕ) → Contains ids p → set.contains done p ≡ true → ⊥
+  pub both : (p : ℕ) → (set.contains all p ≡ true) ↔ ((set.contains done p ≡ true) ⊎ Contains ids p)
+  pub behind : (a d : ℕ) → Contains ids d → is_ancestor dep a d ≡ true
+      → (set.contains done a ≡ true) ⊎ ((a ≡ d) ⊎ StandsBefore ids a d)
+
+-- Members of which some are written, and the others are to come: these have no ancestor among the others, and wherever more of them may come next there is room
+pub record IsBegun (n : ℕ) (dep : Closure) (parents : List (set.FinSet nat_cmp)) (members done : set.FinSet nat_cmp)
+    (written : Written) : Type 0 where
+  pub closed : IsClosed n dep
+  pub held : HoldsMembers dep members
+  pub few : set.len members ≤ most_members
+  pub rates : HasRates dep
+  pub covers : AreCovers dep parents
+  pub inside : (t : ℕ) → set.contains done t ≡ true → set.contains members t ≡ true
+  pub upper : (p c : ℕ) → IsCover dep p c → set.contains done c ≡ true → set.contains done p ≡ true
+  pub room : (s : set.FinSet nat_cmp) → ((t : ℕ) → set.contains s t ≡ true → set.contains members t ≡ true)
+      → ((t : ℕ) → set.contains s t ≡ true → set.contains done t ≡ true → ⊥) → HasRoom n s written
+
+-- Certified parts of some members came behind others, parents first, none of which can be cut further: no more of them than members, and four times their
+-- flows are at most the number of members squared.
+pub record Extends (n : ℕ) (dep : Closure) (members done : set.FinSet nat_cmp) (old new : Written) (all : set.FinSet nat_cmp) : Type 0 where
+  pub parts : List Part
+  pub is : new ≡ record { parts = old.parts ++ parts; ids = []; flows = [] }
+  pub group : set.FinSet nat_cmp
+  pub both : all ≡ set.union done group
+  pub inside : (t : ℕ) → set.contains group t ≡ true → set.contains members t ≡ true
+  pub apart : (t : ℕ) → set.contains group t ≡ true → set.contains done t ≡ true → ⊥
+  pub upper : (p c : ℕ) → IsCover dep p c → set.contains group c ≡ true → (set.contains done p ≡ true) ⊎ (set.contains group p ≡ true)
+  pub order : IsOrderOf dep group (placed parts)
+  pub filled : (part : Part) → Contains parts part → part.ids ≢ []
+  pub summed : (part : Part) → Contains parts part → part.rate ≡ sums (sum_at dep) part.ids
+  pub flows : HasFlows (sum_at dep) (IsCover dep) parts
+  pub uncut : (part : Part) → Contains parts part → IsUncutPart n dep part
+  pub places : length (placed parts) ≤ set.len group
+  pub few : length parts ≤ set.len group
+  pub few_flows : 4 * length (flows_in parts) ≤ set.len group * set.len group
 
 -- so many steps a trial may take for each of n places
 abbrev pub most_tried : ℕ → ℕ

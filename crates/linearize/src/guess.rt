@@ -6,25 +6,31 @@ ghost use Rattle.std.specs.Prelude.{◌≡◌, ℕ, ◌*◌, ◌^◌, ◌<◌, �
 ghost use Rattle.std.specs.FinSet as set;
 ghost use Rattle.graphs.specs.Closures.{HoldsMembers, IsClosed, is_member};
 
+use crate::old::{Guess, OldPart};
 use crate::part::top;
 use bitset::Bits;
 use dep_graph::DepGraph;
 
-/// Some members, what stands above any of them, and their fee and size together, as far as 64 bits hold these.
+/// Some members, what stands above any of them, and their fee and size together, as far as 64 bits hold these. Where they are one
+/// part of the old order, its position in that.
 #[derive(Clone, Copy)]
 pub(crate) struct Group<const W: usize> {
     pub(crate) places: Bits<W>,
     above: Bits<W>,
     fee: i64,
     size: u64,
+    pub(crate) part: usize,
 }
 
-/// Puts all members into groups, by a list that may be any: places that begin a set, and by their complements those that belong
-/// to the set begun last. What isn't listed comes last, as one set.
+// no part of the old order
+const NO_PART: usize = usize::MAX;
+
+/// Puts all members into groups, by an old order that may be any: each part that is known as one, and the places of the others one
+/// by one. What isn't there comes last, as one set.
 pub(crate) fn arrange<const W: usize>(
     dep: &DepGraph<W>,
     members: &Bits<W>,
-    guess: &[usize],
+    guess: &Guess,
     groups: &mut Vec<Group<W>>,
 )
     requires narrow { 64 * W < 2 ^ 32 }
@@ -35,25 +41,67 @@ pub(crate) fn arrange<const W: usize>(
 {
     groups.clear();
     let mut left = *members;
-    let mut set = Bits::empty();
-    for entry in guess {
-        if *entry < 64 * W {
-            come(dep, &set, &mut left, groups);
-            set = Bits::empty();
-            set.insert(*entry);
-        } else if !*entry < 64 * W {
-            set.insert(!*entry);
+    for at in 0..guess.parts.len() {
+        let part = guess.parts[at];
+        let places = places_of(part, guess.places.as_slice());
+        if part.known {
+            come(dep, &set_of(places), at, &mut left, groups);
+        } else {
+            come_apart(dep, places, &mut left, groups);
         }
     }
-    come(dep, &set, &mut left, groups);
-    set = left;
-    come(dep, &set, &mut left, groups);
+    let rest = left;
+    come(dep, &rest, NO_PART, &mut left, groups);
 }
 
-// Takes a set out of what is left, and puts what was there of it into the groups as one, behind what is left of its ancestors.
+// The places of an old part, none where it ends before it begins or past the end.
+fn places_of(part: OldPart, places: &[usize]) -> &[usize] {
+    if part.start <= part.end && part.end <= places.len() {
+        &places[part.start..part.end]
+    } else {
+        &places[..0]
+    }
+}
+
+// The places as a set, but for what is no place.
+fn set_of<const W: usize>(places: &[usize]) -> Bits<W>
+    requires narrow { 64 * W < 2 ^ 32 }
+{
+    let mut set = Bits::empty();
+    for at in 0..places.len() {
+        let place = places[at];
+        if place < 64 * W {
+            set.insert(place);
+        }
+    }
+    set
+}
+
+// Takes places out of what is left, one by one.
+fn come_apart<const W: usize>(
+    dep: &DepGraph<W>,
+    places: &[usize],
+    left: &mut Bits<W>,
+    groups: &mut Vec<Group<W>>,
+)
+    requires narrow { 64 * W < 2 ^ 32 }
+    requires closed { IsClosed (64 * W) dep.now }
+    requires members { HoldsMembers dep.now left.old }
+    requires room { 64 * W ≤ vec_capacity groups.old }
+    ensures members { HoldsMembers dep.now left.new }
+    ensures room { 64 * W ≤ vec_capacity groups.new }
+{
+    for at in 0..places.len() {
+        come(dep, &set_of(&places[at..at + 1]), NO_PART, left, groups);
+    }
+}
+
+// Takes a set out of what is left, and puts what was there of it into the groups as one, behind what is left of its ancestors. It
+// is an old part only as a whole.
 fn come<const W: usize>(
     dep: &DepGraph<W>,
     set: &Bits<W>,
+    part: usize,
     left: &mut Bits<W>,
     groups: &mut Vec<Group<W>>,
 )
@@ -68,7 +116,8 @@ fn come<const W: usize>(
     if places.least().is_none() {
         return;
     }
-    let group = group_of(dep, &places);
+    let part = if set.is_subset(left) { part } else { NO_PART };
+    let group = group_of(dep, &places, part);
     *left = left.minus(&places);
     let mut above = group.above.meet(left);
     while let Some(first) = above.least() {
@@ -81,7 +130,7 @@ fn come<const W: usize>(
 }
 
 // The group of some members.
-fn group_of<const W: usize>(dep: &DepGraph<W>, places: &Bits<W>) -> Group<W>
+fn group_of<const W: usize>(dep: &DepGraph<W>, places: &Bits<W>, part: usize) -> Group<W>
     requires narrow { 64 * W < 2 ^ 32 }
     requires closed { IsClosed (64 * W) dep.now }
     requires members { HoldsMembers dep.now places.now }
@@ -102,6 +151,7 @@ fn group_of<const W: usize>(dep: &DepGraph<W>, places: &Bits<W>) -> Group<W>
         above,
         fee,
         size,
+        part,
     }
 }
 
@@ -119,6 +169,7 @@ fn alone<const W: usize>(dep: &DepGraph<W>, place: usize) -> Group<W>
         above: dep.ancestors(place),
         fee: rate.fee,
         size: rate.size,
+        part: NO_PART,
     }
 }
 
@@ -154,5 +205,6 @@ fn together<const W: usize>(a: &Group<W>, b: &Group<W>) -> Group<W> {
         above: a.above.union(&b.above),
         fee: a.fee.saturating_add(b.fee),
         size: a.size.saturating_add(b.size),
+        part: NO_PART,
     }
 }

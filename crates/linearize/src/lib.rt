@@ -8,8 +8,10 @@
 mod draft;
 mod fit;
 mod guess;
+mod known;
 mod linear;
 mod near;
+mod old;
 mod part;
 mod split;
 
@@ -17,3 +19,4 @@ pub use draft::{LinearPart, PlaceFlow};
 pub use fit::{has_rates, is_component};
 pub use linear::{Linear, optimal};
 pub use near::optimal_near;
+pub use old::{Guess, OldPart};

@@ -1,4 +1,4 @@
-ghost use Rattle.std.specs.Prelude.{◌≡◌, ℕ, ◌+◌, ◌*◌, ◌^◌, ◌<◌, ◌≤◌, true, [], length, map};
+ghost use Rattle.std.specs.Prelude.{◌≡◌, ℕ, ◌+◌, ◌*◌, ◌^◌, ◌<◌, ◌≤◌, true, [], length, map, IfSome};
 ghost use Rattle.std.specs.FinSet as set;
 ghost use Rattle.graphs.specs.Closing.{IsClosureOf};
 ghost use Rattle.graphs.specs.Closures.{members_of};
@@ -10,13 +10,16 @@ ghost use Rattle.fee_rate.specs.Rates.{AtMost};
 ghost use Rattle.graphs.specs.Rates.{Falls};
 ghost use Rattle.linearize.specs.Graphs.{sum_from};
 ghost use Rattle.linearize.specs.Minimal.{AreMinimal};
-ghost use Rattle.linearize.specs.Near.{AreParts, ComesNext, most_tried};
+ghost use Rattle.linearize.specs.Known.{AreKnown};
+ghost use Rattle.linearize.specs.Near.{AreParts, ComesNext, Extends, IsBegun, most_tried};
 ghost use Rattle.linearize.specs.Splits.{IsReady};
 ghost use Rattle.linearize.specs.Steps.{AreAtLeast};
 
 use crate::draft::{Draft, LinearPart};
 use crate::guess::{Group, arrange};
+use crate::known::{known_part, put_known};
 use crate::linear::{Linear, link, optimal};
+use crate::old::Guess;
 use crate::split::split_once;
 use bitset::Bits;
 use closure_flow::Scratch;
@@ -24,13 +27,12 @@ use dep_graph::DepGraph;
 use fee_rate::FeeRate;
 use step_count::{Ledger, Steps};
 
-/// As [`optimal`], where an order is at hand that may be near to an optimal one, as that before a change is. A place in the
-/// list begins a set, which may be a part, and the complement of a place (`!place`) puts one to the set begun last. What is
-/// handed in may be any list: it has no say in what is answered, only in how soon.
+/// As [`optimal`], where the order before a change is at hand. What is handed in may be any order: it has no say in what is
+/// answered, only in how soon. But a part that it calls known has to be so, and then it isn't solved again.
 pub fn optimal_near<L: Ledger, const W: usize>(
     scratch: &mut Scratch<W>,
     dep: &DepGraph<W>,
-    guess: &[usize],
+    guess: &Guess,
     out: &mut Linear<W>,
     steps: &mut Steps<L>,
 )
@@ -38,6 +40,7 @@ pub fn optimal_near<L: Ledger, const W: usize>(
     requires few { set.len (members_of dep.now) ≤ most_members }
     requires rates { HasRates dep.now }
     requires component { IsComponent dep.now }
+    requires known { AreKnown dep.now guess.now.parts.items guess.now.places.items guess.now.flows.items }
 
     // There is a plain graph that the members stand for. The parts certify each one over its covering pairs, and are
     // optimal.
@@ -51,9 +54,9 @@ pub fn optimal_near<L: Ledger, const W: usize>(
     ensures minimal { (graph : model.Graph) → IsClosureOf dep.now graph
         → AreMinimal (sum_at dep.now) graph.pairs out.new }
 
-    // Of n members the steps are n at least, beside the places that the queue gave, and at most 2 · (n + 2)^5, with those of
-    // a guess that wasn't right.
-    ensures steps_least { AreAtLeast (set.len (members_of dep.now)) scratch.old scratch.new steps.old steps.new }
+    // Each place that the queue gave is a step. Of n members the steps are at most 2 · (n + 2)^5, with those of a guess that
+    // wasn't right.
+    ensures steps_counted { AreAtLeast 0 scratch.old scratch.new steps.old steps.new }
     ensures steps_most { steps.new ≤ steps.old + 2 * (set.len (members_of dep.now) + 2) ^ 5 }
 {
     let members = dep.members();
@@ -69,6 +72,7 @@ pub fn optimal_near<L: Ledger, const W: usize>(
         parents,
         weights,
         &members,
+        guess,
         groups,
         &mut out.draft,
         steps,
@@ -85,31 +89,110 @@ fn are_parts<L: Ledger, const W: usize>(
     parents: &[Bits<W>],
     weights: &mut [i128],
     members: &Bits<W>,
+    guess: &Guess,
     groups: &[Group<W>],
     draft: &mut Draft<W>,
     steps: &mut Steps<L>,
 ) -> bool
     requires narrow { 64 * W < 2 ^ 32 }
     requires ready { IsReady (64 * W) dep.now parents.now members.now draft.old }
+    requires known { AreKnown dep.now guess.now.parts.items guess.now.places.items guess.now.flows.items }
     requires empty { draft.old ≡ record { parts = []; ids = []; flows = [] } }
     requires weights { 64 * W ≤ length weights.old }
     ensures open { (draft.new.ids ≡ []) × (draft.new.flows ≡ []) }
     ensures parts { result ≡ true → AreParts (64 * W) dep.now members.now draft.new.parts }
-    ensures least { result ≡ true → AreAtLeast (set.len members.now) scratch.old scratch.new steps.old steps.new }
-    ensures grew { AreAtLeast 0 scratch.old scratch.new steps.old steps.new }
+    ensures counted { AreAtLeast 0 scratch.old scratch.new steps.old steps.new }
     ensures most { steps.new ≤ steps.old + most_tried (set.len members.now) * set.len members.now }
 {
     let mut done = Bits::empty();
     for group in groups {
-        if !comes_next(parents, &group.places, &done, members) {
-            return false;
+        match put_next(
+            scratch, dep, parents, weights, members, &done, guess, group, draft, steps,
+        ) {
+            Some(all) => done = all,
+            None => return false,
         }
-        if !split_once(scratch, dep, parents, weights, &group.places, draft, steps) {
-            return false;
-        }
-        done = done.union(&group.places);
     }
     members.is_subset(&done) && fall(draft.parts())
+}
+
+// Writes a group behind what is done, without a solve where it is a part that is known. Gives the places of both.
+fn put_next<L: Ledger, const W: usize>(
+    scratch: &mut Scratch<W>,
+    dep: &DepGraph<W>,
+    parents: &[Bits<W>],
+    weights: &mut [i128],
+    members: &Bits<W>,
+    done: &Bits<W>,
+    guess: &Guess,
+    group: &Group<W>,
+    draft: &mut Draft<W>,
+    steps: &mut Steps<L>,
+) -> Option<Bits<W>>
+    requires narrow { 64 * W < 2 ^ 32 }
+    requires begun { IsBegun (64 * W) dep.now parents.now members.now done.now draft.old }
+    requires known { AreKnown dep.now guess.now.parts.items guess.now.places.items guess.now.flows.items }
+    requires open { (draft.old.ids ≡ []) × (draft.old.flows ≡ []) }
+    requires weights { 64 * W ≤ length weights.old }
+    ensures extends { IfSome result (Extends (64 * W) dep.now members.now done.now draft.old draft.new) }
+    ensures open { (draft.new.ids ≡ []) × (draft.new.flows ≡ []) }
+    ensures counted { AreAtLeast 0 scratch.old scratch.new steps.old steps.new }
+    ensures some { IfSome result (λ all. steps.new + most_tried (set.len members.now) * set.len done.now
+        ≤ steps.old + most_tried (set.len members.now) * set.len all) }
+    ensures none { steps.new + most_tried (set.len members.now) * set.len done.now
+        ≤ steps.old + most_tried (set.len members.now) * set.len members.now }
+{
+    let places = guess.places.as_slice();
+    let flows = guess.flows.as_slice();
+    if let Some(part) = known_part(guess.parts.as_slice(), places, flows, group.part) {
+        let own_places = &places[part.start..part.end];
+        let own_flows = &flows[part.flow_start..part.flow_end];
+        return put_known(dep, members, done, part.rate, own_places, own_flows, draft);
+    }
+    put_tried(
+        scratch,
+        dep,
+        parents,
+        weights,
+        members,
+        done,
+        &group.places,
+        draft,
+        steps,
+    )
+}
+
+// Solves some members and writes them behind what is done, as one part or as two. Gives the places of both.
+fn put_tried<L: Ledger, const W: usize>(
+    scratch: &mut Scratch<W>,
+    dep: &DepGraph<W>,
+    parents: &[Bits<W>],
+    weights: &mut [i128],
+    members: &Bits<W>,
+    done: &Bits<W>,
+    group: &Bits<W>,
+    draft: &mut Draft<W>,
+    steps: &mut Steps<L>,
+) -> Option<Bits<W>>
+    requires narrow { 64 * W < 2 ^ 32 }
+    requires begun { IsBegun (64 * W) dep.now parents.now members.now done.now draft.old }
+    requires open { (draft.old.ids ≡ []) × (draft.old.flows ≡ []) }
+    requires weights { 64 * W ≤ length weights.old }
+    ensures extends { IfSome result (Extends (64 * W) dep.now members.now done.now draft.old draft.new) }
+    ensures open { (draft.new.ids ≡ []) × (draft.new.flows ≡ []) }
+    ensures counted { AreAtLeast 0 scratch.old scratch.new steps.old steps.new }
+    ensures some { IfSome result (λ all. steps.new + most_tried (set.len members.now) * set.len done.now
+        ≤ steps.old + most_tried (set.len members.now) * set.len all) }
+    ensures none { steps.new + most_tried (set.len members.now) * set.len done.now
+        ≤ steps.old + most_tried (set.len members.now) * set.len members.now }
+{
+    if !comes_next(parents, group, done, members) {
+        return None;
+    }
+    if !split_once(scratch, dep, parents, weights, group, draft, steps) {
+        return None;
+    }
+    Some(done.union(group))
 }
 
 // Whether some members may come behind others in an order: they are at least one, none of the others, and their parents are

@@ -9,10 +9,10 @@ use Rattle.cluster.proofs.making.solved.Goals as goal
 
 pub optimal_near-requires : goal.optimal_near-requires
 optimal_near-requires g c =
-    let long : set.len (members_of c.args.dep.now) ≡ length c.args.names.now = members_long (64 * g.row.W) c.args.names.now c.args.dep.now c.requires in
-    let some : 1 ≤ length c.args.names.now = c.requires.some in
-    let few : length c.args.names.now ≤ 64 * g.row.W = c.requires.few in
-    let narrow : g.row.W ≤ 64 = c.work.invariant.2 in (
+    let long : set.len (members_of c.args.dep.now) ≡ length c.args.names.now = members_long (64 * g.row.W) c.args.names.now c.args.dep.now c.requires.named in
+    let some : 1 ≤ length c.args.names.now = c.requires.named.some in
+    let few : length c.args.names.now ≤ 64 * g.row.W = c.requires.named.few in
+    let narrow : g.row.W ≤ 64 = c.room.invariant.2 in (
       search rules,
       (
         search rules,
@@ -22,7 +22,7 @@ optimal_near-requires g c =
             omega arith,
             (
               omega arith,
-              (has_rates (64 * g.row.W) c.args.names.now c.args.dep.now c.requires, is_component (64 * g.row.W) c.args.names.now c.args.dep.now c.requires),
+              (has_rates (64 * g.row.W) c.args.names.now c.args.dep.now c.requires.named, (is_component (64 * g.row.W) c.args.names.now c.args.dep.now c.requires.named, c.requires.known)),
             ),
           ),
         ),
@@ -31,11 +31,11 @@ optimal_near-requires g c =
 
 pub read-requires : goal.read-requires
 read-requires g c =
-    let few : length c.args.names.now ≤ 64 * g.row.W = c.requires.few in (
+    let few : length c.args.names.now ≤ 64 * g.row.W = c.requires.named.few in (
       search rules,
       (
-        omega (arith, c.work.invariant.0, c.as_mut_slice.ensures.len),
-        is_placed (64 * g.row.W) c.args.names.now c.args.dep.now c.requires
+        omega (arith, c.room.invariant.0, c.as_mut_slice.ensures.len),
+        is_placed (64 * g.row.W) c.args.names.now c.args.dep.now c.requires.named
             c.optimal_near.ensures.stands.0 c.optimal_near.new.out c.optimal_near.ensures.stands.1
             (c.optimal_near.ensures.certificate c.optimal_near.ensures.stands.0 c.optimal_near.ensures.stands.1),
       ),
@@ -43,22 +43,17 @@ read-requires g c =
 
 pub returns-clause-order : goal.returns-clause-order
 returns-clause-order g c =
-    IfOk-weaker c.read.result _ _ (λ (o : Order) read. is_ordered (64 * g.row.W) c.args.names.now c.args.dep.now c.requires
+    IfOk-weaker c.read.result _ _ (λ (o : Order) read. is_ordered (64 * g.row.W) c.args.names.now c.args.dep.now c.requires.named
     c.optimal_near.new.out c.optimal_near.ensures.certificate c.optimal_near.ensures.minimal
-    (is_placed (64 * g.row.W) c.args.names.now c.args.dep.now c.requires c.optimal_near.ensures.stands.0 c.optimal_near.new.out c.optimal_near.ensures.stands.1
+    (is_placed (64 * g.row.W) c.args.names.now c.args.dep.now c.requires.named c.optimal_near.ensures.stands.0 c.optimal_near.new.out c.optimal_near.ensures.stands.1
     (c.optimal_near.ensures.certificate c.optimal_near.ensures.stands.0 c.optimal_near.ensures.stands.1))
     o.parts.items o.names.items o.flows.items read) c.read.ensures
 
 pub returns-clause-steps : goal.returns-clause-steps
 returns-clause-steps g c =
     within_most (set.len (members_of c.args.dep.now)) (length c.args.names.now) c.args.steps.now c.optimal_near.new.steps
-    (members_long (64 * g.row.W) c.args.names.now c.args.dep.now c.requires) c.optimal_near.ensures.steps_most
-    (let least = c.optimal_near.ensures.steps_least in omega (arith, least.gave, least.least))
+    (members_long (64 * g.row.W) c.args.names.now c.args.dep.now c.requires.named) c.optimal_near.ensures.steps_most
+    (let least = c.optimal_near.ensures.steps_counted in omega (arith, least.gave, least.least))
 
-pub returns-clause-least : goal.returns-clause-least
-returns-clause-least g c =
-    let long : set.len (members_of c.args.dep.now) ≡ length c.args.names.now = members_long (64 * g.row.W) c.args.names.now c.args.dep.now c.requires in
-    (let least = c.optimal_near.ensures.steps_least in omega (arith, long, least.gave, least.least))
-
-pub invariant_of-work : goal.invariant_of-work
-invariant_of-work g c = c.work.invariant
+pub invariant_of-room : goal.invariant_of-room
+invariant_of-room g c = c.room.invariant

@@ -1,20 +1,16 @@
 use Rattle.std.proofs.Common.{ap, sym, subst, arith, vec_capacity}
 use Rattle.graphs.specs.Closures.{HoldsMembers}
 use Rattle.linearize.proofs.guess.arrange.Goals as goal
-use Rattle.linearize.proofs.guess.arrange.Goals.{then-entry, else-entry+then-entry-2, else-entry+else-entry-2}
+use Rattle.linearize.proofs.guess.arrange.Goals.{then-part, else-part}
 
-pub loop-entry-preserved : goal.loop-entry-preserved
-loop-entry-preserved g c = elim c.if-entry.branch [
-  | then-entry w ↦ (
+pub loop-at-preserved : goal.loop-at-preserved
+loop-at-preserved g c = elim c.if-part.branch [
+  | then-part w ↦ (
     subst (HoldsMembers c.args.dep.now) (sym w.left-is) w.come.ensures.members,
     omega (arith, ap (λ v. vec_capacity v) w.groups-is, w.come.ensures.room),
   )
-  | else-entry+then-entry-2 w ↦ (
-    subst (HoldsMembers c.args.dep.now) (sym w.left-is) c.loop-entry.invariant.0,
-    omega (arith, ap (λ v. vec_capacity v) w.groups-is, c.loop-entry.invariant.1),
-  )
-  | else-entry+else-entry-2 w ↦ (
-    subst (HoldsMembers c.args.dep.now) (sym w.left-is) c.loop-entry.invariant.0,
-    omega (arith, ap (λ v. vec_capacity v) w.groups-is, c.loop-entry.invariant.1),
+  | else-part w ↦ (
+    subst (HoldsMembers c.args.dep.now) (sym w.left-is) w.come_apart.ensures.members,
+    omega (arith, ap (λ v. vec_capacity v) w.groups-is, w.come_apart.ensures.room),
   )
 ]

@@ -1,5 +1,4 @@
 use Rattle.std.proofs.Common.{◌*◌}
-use Rattle.std.specs.FinSet as fin
 use Rattle.linearize.specs.Steps.{AreAtLeast}
 use Rattle.linearize.proofs.Trials.{Stands}
 use Rattle.linearize.proofs.near.are_parts.Given as goal
@@ -7,4 +6,4 @@ use Rattle.linearize.proofs.near.are_parts.Given as goal
 abbrev pub invariant-loop-group : goal.invariant-loop-group
 invariant-loop-group g l =
     Stands (64 * g.row.W) l.dep l.members l.done l.draft l.fn.steps l.steps
-    × AreAtLeast (fin.len l.done) l.fn.scratch l.scratch l.fn.steps l.steps
+    × AreAtLeast 0 l.fn.scratch l.scratch l.fn.steps l.steps

@@ -11,7 +11,6 @@ use Rattle.linearize.proofs.Final.{certificate, has_sizes, minimal}
 use Rattle.linearize.proofs.Joined.{start_room}
 use Rattle.graphs.proofs.ClosureGraphs.{closures_have_graphs}
 use Rattle.linearize.proofs.Sizes.{words_fit, scratch_fits, group_fits}
-use Rattle.linearize.specs.Steps.{AreAtLeast}
 use Rattle.linearize.proofs.Solves.{at_least_all, at_least_both}
 use Rattle.linearize.proofs.Trials.{one_trial, both_trials}
 use Rattle.linearize.proofs.near.optimal_near.Goals as goal
@@ -71,7 +70,7 @@ are_parts-requires g c =
                     covers = c.link.ensures;
                     room = start_room n c.members-members.result c.clear.new.self within c.clear.ensures;
                   },
-                  (c.clear.ensures, (let room = c.out.invariant.3 in omega (arith, room, c.as_mut_slice-weights.ensures.len))),
+                  (c.requires.known, (c.clear.ensures, (let room = c.out.invariant.3 in omega (arith, room, c.as_mut_slice-weights.ensures.len)))),
                 ),
               ),
             ),
@@ -102,14 +101,12 @@ returns-else-not-are_parts-clause-minimal g c = λ graph stands.
     (subst (λ s. AreParts (64 * g.row.W) c.args.dep.now s c.are_parts.new.draft.parts) c.members-members.ensures.members
     (c.are_parts.ensures.parts c.if-not-are_parts.false))
 
-pub returns-else-not-are_parts-clause-steps_least : goal.returns-else-not-are_parts-clause-steps_least
-returns-else-not-are_parts-clause-steps_least g c =
-    subst (λ s. AreAtLeast (fin.len s) c.args.scratch.now c.are_parts.new.scratch c.args.steps.now c.are_parts.new.steps)
-    c.members-members.ensures.members (c.are_parts.ensures.least c.if-not-are_parts.false)
+pub returns-else-not-are_parts-clause-steps_counted : goal.returns-else-not-are_parts-clause-steps_counted
+returns-else-not-are_parts-clause-steps_counted g c = c.are_parts.ensures.counted
 
-pub returns-then-not-are_parts-clause-steps_least : goal.returns-then-not-are_parts-clause-steps_least
-returns-then-not-are_parts-clause-steps_least g c =
-    at_least_both _ _ _ _ _ _ c.args.steps.now c.are_parts.new.steps c.optimal.new.steps (omega arith) c.are_parts.ensures.grew
+pub returns-then-not-are_parts-clause-steps_counted : goal.returns-then-not-are_parts-clause-steps_counted
+returns-then-not-are_parts-clause-steps_counted g c =
+    at_least_both _ _ _ _ _ _ c.args.steps.now c.are_parts.new.steps c.optimal.new.steps (omega arith) c.are_parts.ensures.counted
     (at_least_all _ _ _ _ _ _ c.optimal.ensures.solves)
 
 pub returns-else-not-are_parts-clause-steps_most : goal.returns-else-not-are_parts-clause-steps_most

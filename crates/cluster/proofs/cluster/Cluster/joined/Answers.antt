@@ -1,16 +1,21 @@
-use Rattle.std.proofs.Common.{◌≡◌, ℕ, ◌*◌, ◌+◌, ◌≤◌, ◌++◌, List, length, length-append, arith, OnOk, sym, ap, ap₂, ◌∙◌, subst, subst₂, Contains, ◌<◌}
+use Rattle.std.proofs.Common.{◌≡◌, ℕ, ◌*◌, ◌+◌, ◌≤◌, ◌++◌, List, length, length-append, sym, ap, ap₂, ◌∙◌, subst, subst₂, Contains, ◌<◌, ◌⊎◌}
 use Rattle.std.proofs.lemmas.Result.{IfOk-from_err}
 use Rattle.std.specs.FinSet as set
 use Rattle.graphs.specs.Closures.{members_of}
-use Rattle.cluster.specs.Clusters.{Cluster, AreApart}
+use Rattle.cluster.specs.Clusters.{Cluster, IsCluster, AreApart}
+use Rattle.cluster.specs.Guesses.{AreImages}
+use Rattle.cluster.specs.Kept.{cut}
+use Rattle.cluster.proofs.Kept.{IsCluster-named}
+use Rattle.graphs.specs.Certificates.{Part}
+use Rattle.cluster.proofs.Knowing.{join_known}
 use Rattle.cluster.specs.Changes.{Joins, AreAcross}
 use Rattle.cluster.specs.Named.{named, IsNamed}
-use Rattle.cluster.specs.Steps.{GrowsWithin, least_steps, most_steps}
+use Rattle.cluster.specs.Steps.{GrowsWithin, most_steps}
 use Rattle.cluster.proofs.At.{at_in}
 use Rattle.cluster.proofs.Joined.{members_long}
 use Rattle.cluster.proofs.Joining.{join_asks, join_kept, join_graph, in_both}
 use Rattle.cluster.proofs.Oks.{one_ok, no_step}
-use Rattle.cluster.proofs.Rooms.{cluster_room, dep_in_cluster}
+use Rattle.cluster.proofs.Rooms.{cluster_fits, cluster_room, dep_in_cluster, room_fits}
 use Rattle.cluster.proofs.cluster.Cluster.joined.Goals as goal
 
 -- how many names two lists have together
@@ -69,7 +74,6 @@ returns-in_err-names g c =
       graph = IfOk-from_err c.from_residual.result _ failed;
       whole = IfOk-from_err c.from_residual.result _ failed;
       steps = no_step _ _;
-      least = IfOk-from_err c.from_residual.result _ failed;
     }
 
 pub returns-in_err-dep : goal.returns-in_err-dep
@@ -80,30 +84,50 @@ returns-in_err-dep g c =
       graph = IfOk-from_err c.from_residual-in_err-dep.result _ failed;
       whole = IfOk-from_err c.from_residual-in_err-dep.result _ failed;
       steps = no_step _ _;
-      least = IfOk-from_err c.from_residual-in_err-dep.result _ failed;
     }
 
 pub certified-requires : goal.certified-requires
 certified-requires g c =
+    let n : ℕ = 64 * g.row.W in
     let items : c.in_ok-names.names.items ≡ c.self.inside.names.items ++ c.other.inside.names.items =
-    c.in_ok-names.ensures ∙ ap₂ {A = List ℕ} {B = List ℕ} (λ xs ys. xs ++ ys) c.as_slice.ensures c.as_slice-2.ensures in (
-      grind arith,
+    c.in_ok-names.ensures ∙ ap₂ {A = List ℕ} {B = List ℕ} (λ xs ys. xs ++ ys) c.as_slice.ensures c.as_slice-2.ensures in
+    let few = subst₂ (λ (s t : Cluster). length s.names + length t.names ≤ n) (sym c.self.view_is) (sym c.other.view_is) c.requires.few in
+    let apart = subst₂ AreApart (sym c.self.view_is) (sym c.other.view_is) c.requires.apart in
+    let one = at_in c.as_slice-3.result.now (c.self.inside.names.items ++ c.other.inside.names.items) c.place_of-above.result c.args.parent
+    (c.as_slice-3.ensures ∙ items) c.place_of-above.ensures.within c.place_of-above.ensures.here in
+    let two = at_in c.as_slice-4.result.now (c.self.inside.names.items ++ c.other.inside.names.items) c.place_of-below.result c.args.child
+    (c.as_slice-4.ensures ∙ items) c.place_of-below.ensures.within c.place_of-below.ensures.here in
+    let sides = subst₂ (λ (s t : Cluster). AreAcross s.names t.names c.args.parent c.args.child) (sym c.self.view_is) (sym c.other.view_is) c.requires.across in
+    let both : List ℕ = c.self.inside.names.items ++ c.other.inside.names.items in
+    let kept : IsNamed n both c.add_dep.new.self =
+    join_kept n c.self.inside.names.items c.other.inside.names.items c.self.inside.dep c.other.inside.dep c.in_ok-dep.dep c.self.invariant.place
+    c.other.invariant.place few apart c.in_ok-dep.ensures.merged c.place_of-above.result c.place_of-below.result c.args.parent c.args.child one two sides
+    c.add_dep.new.self c.add_dep.ensures.pair c.add_dep.ensures.closed in
+    let made = join_graph n c.self.inside.names.items c.other.inside.names.items c.self.inside.dep c.other.inside.dep c.in_ok-dep.dep c.self.invariant.place
+    c.other.invariant.place few apart c.in_ok-dep.ensures.merged c.place_of-above.result c.place_of-below.result c.args.parent c.args.child one two sides
+    c.add_dep.new.self c.add_dep.ensures.pair in
+    let joins : Joins c.args.self.now.graph c.args.other.now.graph c.args.parent c.args.child (named both c.add_dep.new.self) =
+    subst₂ (λ (s t : Cluster). Joins s.graph t.graph c.args.parent c.args.child (named both c.add_dep.new.self)) c.self.view_is c.other.view_is made in
+    let is : IsCluster n c.args.self.now = subst (λ (s : Cluster). IsCluster n s) c.self.view_is
+    (IsCluster-named n c.self.inside.names.items c.self.inside.dep c.self.invariant.place (cut c.self.inside.order.parts.items
+    c.self.inside.order.names.items c.self.inside.order.flows.items) c.self.invariant.ordered.picked c.self.invariant.ordered.uncut) in
+    let other_is : IsCluster n c.args.other.now = subst (λ (s : Cluster). IsCluster n s) c.other.view_is
+    (IsCluster-named n c.other.inside.names.items c.other.inside.dep c.other.invariant.place (cut c.other.inside.order.parts.items
+    c.other.inside.order.names.items c.other.inside.order.flows.items) c.other.invariant.ordered.picked c.other.invariant.ordered.uncut) in
+    let images = subst (λ (xs : List ℕ). AreImages xs (λ (part : Part). Contains c.args.self.now.parts part ⊎ Contains c.args.other.now.parts part)
+    c.guess_joined.new.guess.parts.items c.guess_joined.new.guess.places.items c.guess_joined.new.guess.flows.items)
+    (c.as_slice-5.ensures ∙ items) c.guess_joined.ensures in (
+      dep_in_cluster g.row.W (cluster_fits g.row.W c.work.invariant.1),
       (
-        grind arith,
+        room_fits g.row.W c.work.invariant.1,
         (
-          grind arith,
-          subst (λ (xs : List ℕ). IsNamed (64 * g.row.W) xs c.add_dep.new.self) (sym items)
-              (join_kept (64 * g.row.W) c.self.inside.names.items c.other.inside.names.items c.self.inside.dep
-              c.other.inside.dep c.in_ok-dep.dep c.self.invariant.place c.other.invariant.place
-              (subst₂ (λ (s t : Cluster). length s.names + length t.names ≤ 64 * g.row.W) (sym c.self.view_is) (sym c.other.view_is) c.requires.few)
-              (subst₂ AreApart (sym c.self.view_is) (sym c.other.view_is) c.requires.apart) c.in_ok-dep.ensures.merged
-              c.place_of-above.result c.place_of-below.result c.args.parent c.args.child
-              (at_in c.as_slice-3.result.now (c.self.inside.names.items ++ c.other.inside.names.items) c.place_of-above.result c.args.parent
-              (c.as_slice-3.ensures ∙ items) c.place_of-above.ensures.within c.place_of-above.ensures.here)
-              (at_in c.as_slice-4.result.now (c.self.inside.names.items ++ c.other.inside.names.items) c.place_of-below.result c.args.child
-              (c.as_slice-4.ensures ∙ items) c.place_of-below.ensures.within c.place_of-below.ensures.here)
-              (subst₂ (λ (s t : Cluster). AreAcross s.names t.names c.args.parent c.args.child) (sym c.self.view_is) (sym c.other.view_is) c.requires.across)
-              c.add_dep.new.self c.add_dep.ensures.pair c.add_dep.ensures.closed),
+          cluster_fits g.row.W c.work.invariant.1,
+          (
+            subst (λ (xs : List ℕ). IsNamed n xs c.add_dep.new.self) (sym items) kept,
+            join_known n both c.add_dep.new.self c.guess_joined.new.guess.parts.items c.guess_joined.new.guess.places.items
+                c.guess_joined.new.guess.flows.items kept c.args.self.now c.args.other.now c.args.parent c.args.child is other_is c.requires.apart
+                c.requires.across joins images,
+          ),
         ),
       ),
     )
@@ -145,11 +169,3 @@ returns-clause-steps g c =
     subst (λ (n : ℕ). GrowsWithin (most_steps n) c.args.steps.now c.certified.new.steps)
     (both_long c.self.inside.names.items c.other.inside.names.items items (ap (λ (s : Cluster). length s.names) c.self.view_is)
     (ap (λ (s : Cluster). length s.names) c.other.view_is)) c.certified.ensures.steps
-
-pub returns-clause-least : goal.returns-clause-least
-returns-clause-least g c =
-    let items : c.in_ok-names.names.items ≡ c.self.inside.names.items ++ c.other.inside.names.items =
-    c.in_ok-names.ensures ∙ ap₂ {A = List ℕ} {B = List ℕ} (λ xs ys. xs ++ ys) c.as_slice.ensures c.as_slice-2.ensures in
-    subst (λ (n : ℕ). OnOk c.certified.result (c.args.steps.now + least_steps n ≤ c.certified.new.steps))
-    (both_long c.self.inside.names.items c.other.inside.names.items items (ap (λ (s : Cluster). length s.names) c.self.view_is)
-    (ap (λ (s : Cluster). length s.names) c.other.view_is)) c.certified.ensures.least

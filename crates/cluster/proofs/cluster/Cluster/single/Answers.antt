@@ -1,7 +1,9 @@
-use Rattle.std.proofs.Common.{◌≡◌, ℕ, ℤ, ◌*◌, ◌≤◌, ◌<◌, List, [], ◌∷◌, ◌++◌, length, refl, sym, ap, ◌∙◌, subst, arith, to_z-of_z}
+use Rattle.std.proofs.Common.{◌≡◌, ℕ, ℤ, ◌*◌, ◌≤◌, ◌<◌, List, [], ◌∷◌, ◌++◌, length, refl, sym, ap, ◌∙◌, subst, arith, to_z-of_z, Contains}
 use Rattle.std.proofs.lemmas.Result.{IfOk-from_err}
 use Rattle.std.specs.FinSet as set
 use Rattle.graphs.specs.Closures.{Closure, members_of, AddsPlace}
+use Rattle.lists.proofs.Entries.{none_in_empty}
+use Rattle.linearize.specs.declared.old.OldPart.{OldPart}
 use Rattle.cluster.specs.Clusters.{Cluster}
 use Rattle.cluster.specs.Changes.{IsSingle}
 use Rattle.cluster.specs.Named.{named, IsNamed}
@@ -16,7 +18,7 @@ room_for_one none some = omega arith
 pub add-requires : goal.add-requires
 add-requires g c =
     let none : set.len (members_of c.new-dep.result) ≡ 0 = ap (λ g. set.len (members_of g)) c.new-dep.ensures ∙ len-none in
-    (grind arith, room_for_one none c.work.invariant.1)
+    (grind arith, room_for_one none c.work.invariant.0)
 
 pub returns-in_err-_place-clause-single : goal.returns-in_err-_place-clause-single
 returns-in_err-_place-clause-single g c = IfOk-from_err c.from_residual.result _ c.from_residual.ensures.0
@@ -44,11 +46,14 @@ certified-requires g c =
         grind arith,
         (
           search,
-          subst (λ (xs : List ℕ). IsNamed (64 * g.row.W) xs c.add.new.self) (sym items)
-              (IsNamed-single (64 * g.row.W) c.new-dep.result c.add.new.self c.args.id
-              (record { fee = c.args.fee; size = c.args.size }) c.in_ok-_place._place c.new-dep.ensures
-              (subst (λ (z : ℤ). AddsPlace c.new-dep.result c.add.new.self (record { fee = z; size = c.args.size }) c.in_ok-_place._place)
-              (to_z-of_z c.ranges.fee) c.in_ok-_place.ensures.ok) (room_for_one refl c.work.invariant.1) c.requires c.add.ensures.closed),
+          (
+            subst (λ (xs : List ℕ). IsNamed (64 * g.row.W) xs c.add.new.self) (sym items)
+                (IsNamed-single (64 * g.row.W) c.new-dep.result c.add.new.self c.args.id
+                (record { fee = c.args.fee; size = c.args.size }) c.in_ok-_place._place c.new-dep.ensures
+                (subst (λ (z : ℤ). AddsPlace c.new-dep.result c.add.new.self (record { fee = z; size = c.args.size }) c.in_ok-_place._place)
+                (to_z-of_z c.ranges.fee) c.in_ok-_place.ensures.ok) (room_for_one refl c.work.invariant.0) c.requires c.add.ensures.closed),
+            λ old here said. absurd (none_in_empty old (subst (λ (ps : List OldPart). Contains ps old) c.clear.ensures here)),
+          ),
         ),
       ),
     )
@@ -74,4 +79,4 @@ returns-clause-steps g c =
     c.certified.ensures.alone (ap length (c.in_ok-push.ensures.ok ∙ ap (λ (xs : List ℕ). xs ++ c.args.id ∷ []) c.new-names.ensures.items))
 
 pub new-dep-requires : goal.new-dep-requires
-new-dep-requires g c = dep_fits g.row.W c.work.invariant.2
+new-dep-requires g c = dep_fits g.row.W c.work.invariant.1

@@ -4,10 +4,16 @@ use Rattle.std.proofs.lemmas.Result.{IfOk-from_err}
 use Rattle.std.specs.FinSet as set
 use Rattle.lists.specs.Distinct.{AreDistinct}
 use Rattle.bitset.specs.Places.{first_places, places, IsWithin}
-use Rattle.cluster.specs.Clusters.{Cluster}
+use Rattle.graphs.specs.Closures.{Closure}
+use Rattle.graphs.specs.Certificates.{Part}
+use Rattle.linearize.specs.Known.{IsKnown}
+use Rattle.cluster.specs.Clusters.{Cluster, IsCluster}
+use Rattle.cluster.specs.Kept.{cut}
+use Rattle.cluster.proofs.Kept.{IsCluster-named}
+use Rattle.cluster.proofs.Sound.{sound}
 use Rattle.cluster.specs.Changes.{AreComponents, IsPartOf, IsSplit}
 use Rattle.cluster.specs.Named.{named, IsNamed}
-use Rattle.cluster.specs.Steps.{GrowsWithin, least_steps, most_steps, most_steps_of}
+use Rattle.cluster.specs.Steps.{GrowsWithin, most_steps, most_steps_of}
 use Rattle.cluster.proofs.Bounds.{IsCounted, IsCounted-start, IsCounted-more, stopped, finished, are_components, apart_names}
 use Rattle.cluster.proofs.Chosen.{chosen_within, chosen_some, chosen_one, chosen_apart, part_whole, held_all}
 use Rattle.cluster.proofs.Splits.{Splitting, Splitting-start, Splitting-more, Splitting-all, component_whole, fewer, holds_members, none_left}
@@ -53,32 +59,43 @@ component-chosen-requires g c = (
 )
 
 pub part-requires : goal.part-requires
-part-requires g c = (
-  (let fits : cluster_room g.row.W < 9223372036854775808 = search in dep_in_cluster g.row.W fits),
-  (
-    (let fits : cluster_room g.row.W < 9223372036854775808 = search in words_in_cluster g.row.W fits),
-    (
-      search,
+part-requires g c =
+    let n : ℕ = 64 * g.row.W in
+    let is : IsCluster n c.args.self.now = subst (λ (s : Cluster). IsCluster n s) c.self.view_is
+    (IsCluster-named n c.self.inside.names.items c.self.inside.dep c.self.invariant.place (cut c.self.inside.order.parts.items
+    c.self.inside.order.names.items c.self.inside.order.flows.items) c.self.invariant.ordered.picked c.self.invariant.ordered.uncut) in
+    let graph : named c.as_slice-in-Some.result.now c.self.inside.dep ≡ c.args.self.now.graph =
+    ap (λ (xs : List ℕ). named xs c.self.inside.dep) c.as_slice-in-Some.ensures ∙ ap (λ (s : Cluster). s.graph) c.self.view_is in
+    let known : (part : Part) → Contains c.args.self.now.parts part → IsKnown (named c.as_slice-in-Some.result.now c.self.inside.dep) part =
+    λ part here. subst (λ (w : Closure). IsKnown w part) (sym graph) (sound n c.args.self.now is part here) in (
+      (let fits : cluster_room g.row.W < 9223372036854775808 = search in dep_in_cluster g.row.W fits),
       (
-        search,
+        (let fits : cluster_room g.row.W < 9223372036854775808 = search in fits),
         (
-          subst (λ (xs : List ℕ). IsNamed (64 * g.row.W) xs c.self.inside.dep) (sym c.as_slice-in-Some.ensures) c.self.invariant.place,
+          (let fits : cluster_room g.row.W < 9223372036854775808 = search in words_in_cluster g.row.W fits),
           (
-            subst (λ (xs : List ℕ). IsWithin (length xs) c.component-chosen.result) (sym c.as_slice-in-Some.ensures) (chosen_within (64 * g.row.W)
-                c.self.inside.names.items c.self.inside.dep c.self.invariant.place c.args.names.now c.loop-first.rest c.component-chosen.result
-                c.loop-first.clusters.items c.in-Some.first c.loop-first.invariant.splitting c.in-Some.ensures.least c.component-chosen.ensures),
+            search,
             (
-              chosen_some (64 * g.row.W) c.self.inside.names.items c.self.inside.dep c.self.invariant.place
-                  c.args.names.now c.loop-first.rest c.component-chosen.result c.loop-first.clusters.items
-                  c.in-Some.first c.loop-first.invariant.splitting c.in-Some.ensures.least c.component-chosen.ensures,
-              component_whole c.self.inside.dep c.loop-first.rest c.component-chosen.result c.in-Some.first c.component-chosen.ensures,
+              subst (λ (xs : List ℕ). IsNamed (64 * g.row.W) xs c.self.inside.dep) (sym c.as_slice-in-Some.ensures) c.self.invariant.place,
+              (
+                known,
+                (
+                  subst (λ (xs : List ℕ). IsWithin (length xs) c.component-chosen.result) (sym c.as_slice-in-Some.ensures) (chosen_within (64 * g.row.W)
+                      c.self.inside.names.items c.self.inside.dep c.self.invariant.place c.args.names.now c.loop-first.rest c.component-chosen.result
+                      c.loop-first.clusters.items c.in-Some.first c.loop-first.invariant.splitting c.in-Some.ensures.least c.component-chosen.ensures),
+                  (
+                    chosen_some (64 * g.row.W) c.self.inside.names.items c.self.inside.dep c.self.invariant.place
+                        c.args.names.now c.loop-first.rest c.component-chosen.result c.loop-first.clusters.items
+                        c.in-Some.first c.loop-first.invariant.splitting c.in-Some.ensures.least c.component-chosen.ensures,
+                    component_whole c.self.inside.dep c.loop-first.rest c.component-chosen.result c.in-Some.first c.component-chosen.ensures,
+                  ),
+                ),
+              ),
             ),
           ),
         ),
       ),
-    ),
-  ),
-)
+    )
 
 pub returns-in_err-made-clause-steps : goal.returns-in_err-made-clause-steps
 returns-in_err-made-clause-steps g c =
@@ -119,9 +136,6 @@ returns-in_err-made-clause-whole g c = IfOk-from_err c.from_residual.result _ c.
 pub returns-in_err-made-clause-components : goal.returns-in_err-made-clause-components
 returns-in_err-made-clause-components g c = IfOk-from_err c.from_residual.result _ c.from_residual.ensures.0
 
-pub returns-in_err-made-clause-least : goal.returns-in_err-made-clause-least
-returns-in_err-made-clause-least g c = IfOk-from_err c.from_residual.result _ c.from_residual.ensures.0
-
 pub returns-in_err-made-clause-grew : goal.returns-in_err-made-clause-grew
 returns-in_err-made-clause-grew g c = le_trans c.loop-first.invariant.counted.grew c.part.ensures.steps.grew
 
@@ -134,9 +148,6 @@ returns-in_err-push-clause-whole g c = IfOk-from_err c.from_residual-in_err-push
 pub returns-in_err-push-clause-components : goal.returns-in_err-push-clause-components
 returns-in_err-push-clause-components g c = IfOk-from_err c.from_residual-in_err-push.result _ c.from_residual-in_err-push.ensures.0
 
-pub returns-in_err-push-clause-least : goal.returns-in_err-push-clause-least
-returns-in_err-push-clause-least g c = IfOk-from_err c.from_residual-in_err-push.result _ c.from_residual-in_err-push.ensures.0
-
 pub returns-in_err-push-clause-grew : goal.returns-in_err-push-clause-grew
 returns-in_err-push-clause-grew g c = le_trans c.loop-first.invariant.counted.grew c.part.ensures.steps.grew
 
@@ -145,9 +156,6 @@ returns-clause-whole g c = c.loop-first.invariant.splitting.whole
 
 pub returns-clause-grew : goal.returns-clause-grew
 returns-clause-grew g c = c.loop-first.invariant.counted.grew
-
-pub returns-clause-least : goal.returns-clause-least
-returns-clause-least g c = c.loop-first.invariant.counted.least
 
 pub loop-first-smaller : goal.loop-first-smaller
 loop-first-smaller g c =
@@ -183,9 +191,7 @@ loop-first-preserved g c =
           c.loop-first.rest c.component-chosen.result c.loop-first.clusters.items c.in-Some.first c.loop-first.invariant.splitting
           c.in-Some.ensures.least c.component-chosen.ensures) (subst (λ (m : ℕ). GrowsWithin (most_steps m) c.loop-first.steps c.part.new.steps)
           (sym (length-map (places (64 * g.row.W) c.component-chosen.result) (slice_index c.self.inside.names.items))) c.part.ensures.steps)
-          c.in_ok-made.made own
-          (subst (λ (m : ℕ). c.loop-first.steps + least_steps m ≤ c.part.new.steps)
-          (sym (length-map (places (64 * g.row.W) c.component-chosen.result) (slice_index c.self.inside.names.items))) c.in_ok-made.ensures.least));
+          c.in_ok-made.made own);
     }
 
 pub returns-clause-split : goal.returns-clause-split

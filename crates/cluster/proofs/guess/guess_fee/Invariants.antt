@@ -1,0 +1,6 @@
+use Rattle.std.proofs.Common.{Contains}
+use Rattle.cluster.specs.Guesses.{AreImages}
+use Rattle.cluster.proofs.guess.guess_fee.Given as goal
+
+abbrev pub invariant-loop-at : goal.invariant-loop-at
+invariant-loop-at g l = AreImages l.names (λ part. Contains l.old.parts part × (Contains part.ids l.changed → ⊥)) l.guess.parts.items l.guess.places.items l.guess.flows.items
