@@ -1,14 +1,16 @@
 -- A name comes into the top level.
-use Rattle.std.proofs.Common.{rules, ◌+◌, ◌≤◌, ℤ, sym, subst, of_z, to_z, arith, ap}
+use Rattle.std.proofs.Common.{rules, ◌+◌, ◌≤◌, ℤ, sym, subst, of_z, to_z, arith, ap, ◌∙◌}
 use Rattle.std.proofs.lemmas.Int.{to_z-of_z}
 use Rattle.std.specs.Int.{w64}
 use Rattle.fee_rate.specs.Limits.{IsRate}
 use Rattle.graphs.specs.declared.names.Level.TheVariants.{Top}
 use Rattle.levels.specs.Levels.{AddsName, level_at, Levels}
+use Rattle.levels.specs.Shelves.{Shelf, levels_of}
 use Rattle.levels.proofs.Adding.{absent_named, few_named, kept_added, kept_still, levels_added, name_stays}
 use Rattle.levels.proofs.Finds.{have_picks}
 use Rattle.levels.proofs.Keeping.{tops_few}
 use Rattle.levels.proofs.Rooms.{work_fits}
+use Rattle.levels.proofs.Unmoved.{same_all_stay}
 use Rattle.levels.proofs.levels.Levels.add.Goals as goal
 
 pub add_name-requires : goal.add_name-requires
@@ -49,6 +51,11 @@ invariant_of-self g c =
 
 pub returns-in_err-add_name-clause-picks : goal.returns-in_err-add_name-clause-picks
 returns-in_err-add_name-clause-picks g c = have_picks g.row.W c.add_name.new.shelves c.add_name.ensures.order c.self.inside.issued
+
+pub returns-in_err-add_name-clause-stays : goal.returns-in_err-add_name-clause-stays
+returns-in_err-add_name-clause-stays g c =
+    same_all_stay c.args.self.now (levels_of c.add_name.new.shelves c.self.inside.issued)
+    (ap (λ (s : Shelf). levels_of s c.self.inside.issued) c.in_err-add_name.ensures.err.0 ∙ c.self.view_is)
 
 pub overflow_add-self-2 : goal.overflow_add-self-2
 overflow_add-self-2 g c =
