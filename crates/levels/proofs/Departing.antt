@@ -21,11 +21,10 @@ use Rattle.levels.proofs.Forgetting.{right_forgotten}
 use Rattle.levels.proofs.Leaving.{left_is}
 use Rattle.levels.proofs.Lookups.{placed_of}
 use Rattle.levels.proofs.Making.{one_named}
-use Rattle.levels.proofs.Parting.{at_stored}
 use Rattle.levels.proofs.Pointing.{one_list}
 use Rattle.levels.proofs.Reparting.{Parts, right_parted}
 use Rattle.levels.proofs.Righting.{Drops, Leaves, right_staged}
-use Rattle.levels.proofs.Seen.{one_seen}
+use Rattle.levels.proofs.Seen.{at_stored, one_seen}
 use Rattle.levels.proofs.Shelved.{none_of}
 use Rattle.levels.proofs.Splitting.{IsParted, in_left, left_in}
 use Rattle.levels.proofs.Touching.{KeepsAll, Touches, in_one, kept_by, left_untouched, marks_one, none_left_now, same_named}
@@ -168,21 +167,21 @@ module _ (w number id : ℕ) (made : List ℕ) (old new : Shelf) (order : IsInOr
     }
     | inr but ↦
         let last = but.1 in
-        let both : AreAt (seen_at Top new.store.clusters) (made ++ number ∷ []) (but.0 ++ last ∷ []) =
-        subst (λ (cs : List Cluster). AreAt (seen_at Top new.store.clusters) (made ++ number ∷ []) cs) but.2
-        (subst (λ (ns : List ℕ). AreAt (seen_at Top new.store.clusters) ns d.left) but.3 stand) in
-        let last_in : Contains d.left last = subst (λ (cs : List Cluster). Contains cs last) (sym but.2) (Contains-push but.0 last) in
+        let both : AreAt (seen_at Top new.store.clusters) (made ++ but.2 ∷ []) (but.0 ++ last ∷ []) =
+        subst (λ (cs : List Cluster). AreAt (seen_at Top new.store.clusters) (made ++ but.2 ∷ []) cs) but.3
+        (subst (λ (ns : List ℕ). AreAt (seen_at Top new.store.clusters) ns d.left) but.4 stand) in
+        let last_in : Contains d.left last = subst (λ (cs : List Cluster). Contains cs last) (sym but.3) (Contains-push but.0 last) in
         let place = placed_of (seen_at Top new.store.clusters) d.all d.left last stand last_in in
         let last_has : (x : ℕ) → HasName d.left x → (HasName but.0 x → ⊥) → Contains last.names x = λ x named out.
-        elim (Contains-push_cases but.0 last named.0 (subst (λ (cs : List Cluster). Contains cs named.0) but.2 named.1)) [
+        elim (Contains-push_cases but.0 last named.0 (subst (λ (cs : List Cluster). Contains cs named.0) but.3 named.1)) [
           | inl before ↦ absurd (out (named.0, before, named.2))
           | inr same ↦ subst (λ (c : Cluster). Contains c.names x) (sym same) named.2
         ] in
         record {
           clusters = but.0;
-          at = at_front (seen_at Top new.store.clusters) made but.0 number last both;
-          among = λ c here. subst (λ (cs : List Cluster). Contains cs c) (sym but.2) (Contains-append_left but.0 (last ∷ []) c here);
-          apart = pairs_front but.0 last (subst (AllPairs AreApart) but.2 d.rebuilds.top.covers.apart);
+          at = at_front (seen_at Top new.store.clusters) made but.0 but.2 last both;
+          among = λ c here. subst (λ (cs : List Cluster). Contains cs c) (sym but.3) (Contains-append_left but.0 (last ∷ []) c here);
+          apart = pairs_front but.0 last (subst (AllPairs AreApart) but.3 d.rebuilds.top.covers.apart);
           one = λ x y x_in x_out y_in y_out.
               d.rebuilds.top.points.pointed place.place x last place.listed (last_has x x_in x_out)
               ∙ sym (d.rebuilds.top.points.pointed place.place y last place.listed (last_has y y_in y_out));

@@ -88,7 +88,7 @@ module _ (w number id : ℕ) (c : Cluster) (left held_in all : List Cluster) (sh
 
   pub drops_name : (new : Shelf) (made : List ℕ)
       → (x : Cluster) × (numbers : List ℕ) × (seen_at Top shelf.store.clusters number ≡ Some x)
-      × TopRebuilds w (number ∷ []) numbers (x ∷ []) all (id ∷ []) shelf new × AreTold number all numbers made
+      × TopRebuilds w (number ∷ []) numbers (x ∷ []) all (id ∷ []) shelf new × AreTold all numbers made
       → DropsName w number id made shelf new
   drops_name new made parts =
       let one : c ≡ parts.0 = same_Some c parts.0 (sym seen ∙ parts.2) in

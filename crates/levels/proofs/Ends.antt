@@ -1,13 +1,35 @@
 -- Lists with one more entry at their end.
-use Rattle.std.proofs.Common.{◌≡◌, ℕ, ◌+◌, ◌<◌, List, [], ◌∷◌, ◌++◌, length, get_or, Contains, Option, Some, inl, inr, ◌⊎◌, refl, sym, ap, ◌∙◌, subst₂, arith, length-append}
+use Rattle.std.proofs.Common.{◌≡◌, ◌≢◌, ℕ, zero, suc, ◌+◌, ◌<◌, List, [], ◌∷◌, ◌++◌, length, get_or, Contains, Option, Some, inl, inr, ◌⊎◌, refl, sym, ap, ◌∙◌, subst, subst₂, arith, length-append}
 use Rattle.std.specs.Prelude.{slice_get, slice_index}
 use Rattle.std.proofs.lemmas.Bool.{cases_eq}
 use Rattle.std.proofs.lemmas.List.{get_or_append_left, get_or_push}
 use Rattle.std.proofs.lemmas.List.Elements.{Contains-append_left, Contains-push, Contains-push_cases}
 use Rattle.std.proofs.lemmas.Option.{none-some, same_Some, slice_get-get_or, slice_get_cases}
 use Rattle.std.specs.List.{AllPairs}
+use Rattle.lists.proofs.Entries.{Contains-head, Contains-cases, none_in_empty}
 use Rattle.cluster.specs.Clusters.{Cluster, AreApart}
 use Rattle.levels.specs.Changes.{AreAt}
+
+-- ---- one number, and one cluster
+
+pub only_one : (x y : ℕ) → Contains (x ∷ []) y → y ≡ x
+only_one x y here = elim (Contains-cases x y [] here) [ inl same ↦ sym same | inr none ↦ absurd (none_in_empty y none) ]
+
+pub other_one : (x y : ℕ) → (Contains (x ∷ []) y → ⊥) → y ≢ x
+other_one x y none same = none (subst (Contains (x ∷ [])) (sym same) (Contains-head x []))
+
+pub at_none : (at : ℕ → Option Cluster) → AreAt at [] []
+at_none at = record { count = refl; stand = λ i c is. absurd (none-some c is) }
+
+-- one cluster under one number
+pub at_one : (at : ℕ → Option Cluster) (n : ℕ) (c : Cluster) → at n ≡ Some c → AreAt at (n ∷ []) (c ∷ [])
+at_one at n c is = record { count = refl; stand = λ i d got. stand i d got }
+  where
+    stand : (i : ℕ) (d : Cluster) → slice_get (c ∷ []) i ≡ Some d → at (slice_index (n ∷ []) i) ≡ Some d
+    stand zero d got = is ∙ got
+    stand (suc i) d got = absurd (none-some d got)
+
+-- ---- one more
 
 pub contains_front : (xs : List ℕ) (x y : ℕ) → Contains xs y → Contains (xs ++ x ∷ []) y
 contains_front xs x y here = Contains-append_left xs (x ∷ []) y here

@@ -1,11 +1,9 @@
 mod Adding
 mod Alike
 mod Alone
-mod Apart
 mod Arranged
 mod Calls
 mod Closing
-mod Coming
 mod Connecting
 mod Counts
 mod Cutting
@@ -31,7 +29,6 @@ mod Most
 mod Naming
 mod Only
 mod Pairs
-mod Parting
 mod Places
 mod Placing
 mod Pointing
@@ -63,4 +60,4 @@ mod Turning
 mod Under
 mod Unmoved
 mod Ways
-mod Tagging
+mod Rebuilding

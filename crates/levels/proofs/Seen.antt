@@ -1,6 +1,6 @@
 -- What is seen of each level when one number changes.
-use Rattle.std.proofs.Common.{◌≡◌, ℕ, Bool, true, false, cond, Option, Some, None, IsSome, inl, inr, refl, sym, ap, ◌∙◌, true≢false}
-use Rattle.std.specs.Prelude.{option_map}
+use Rattle.std.proofs.Common.{◌≡◌, ℕ, Bool, true, false, cond, List, Option, Some, None, IsSome, inl, inr, refl, sym, ap, ◌∙◌, true≢false}
+use Rattle.std.specs.Prelude.{option_map, slice_index}
 use Rattle.std.proofs.lemmas.Bool.{cases_eq}
 use Rattle.std.proofs.lemmas.Option.{none-some, same_Some}
 use Rattle.std.specs.FinMap as finmap
@@ -12,6 +12,7 @@ use Rattle.chunk_index.specs.Items.{is_in}
 use Rattle.cluster.specs.Clusters.{Cluster}
 use Rattle.cluster_store.specs.Stores.{Stored, Numbered}
 use Rattle.cluster_store.specs.Changes.{Sets, moved_to}
+use Rattle.levels.specs.Changes.{AreAt}
 use Rattle.levels.specs.Shelves.{AllHave, StandsInTop, left_of, seen_in, seen_at, stored_at, tag_at, top_tag}
 
 -- what is stored under a number that has something
@@ -137,3 +138,10 @@ pub one_seen : (a b : Level) (clusters : Numbered) (number : ℕ) (c d : Cluster
     → seen_at a clusters number ≡ Some c → seen_at b clusters number ≡ Some d → c ≡ d
 one_seen a b clusters number c d one two =
     same_Some c d (sym (seen_is_stored a clusters number c one) ∙ seen_is_stored b clusters number d two)
+
+-- what is seen is stored
+pub at_stored : (clusters : Numbered) (list : List ℕ) (found : List Cluster) → AreAt (seen_at Top clusters) list found → AreAt (stored_at clusters) list found
+at_stored clusters list found are = record {
+  count = are.count;
+  stand = λ i c is. seen_is_stored Top clusters (slice_index list i) c (are.stand i c is);
+}

@@ -12,14 +12,14 @@ use Rattle.chunk_index.specs.declared.entry.Tag.TheVariants.{Both}
 use Rattle.chunk_index.specs.Items.{is_in}
 use Rattle.cluster.specs.Clusters.{Cluster, IsCluster}
 use Rattle.cluster_store.specs.Stores.{Stored, Exchange, Numbered, Store, IsStore}
-use Rattle.cluster_store.specs.Changes.{AreThere, MakesChange, Sets, with_cluster}
+use Rattle.cluster_store.specs.Changes.{AreHeld, ExchangesEach, Sets, with_cluster}
 use Rattle.staging.specs.Maps.{Maps}
 use Rattle.levels.specs.Changes.{Rebuilds}
 use Rattle.levels.specs.Shelves.{AllHave, IsInOrder, Shelf, numbers_at, seen_at, seen_in, stored_at, tag_at, view_of}
 use Rattle.levels.specs.Tops.{ExchangedAt}
 use Rattle.levels.specs.Views.{IsIndexed, Numbers, View}
 use Rattle.levels.proofs.Calls.{shelf_of}
-use Rattle.levels.proofs.Coming.{at_one, only_one, other_one}
+use Rattle.levels.proofs.Ends.{at_one, only_one, other_one}
 use Rattle.levels.proofs.Making.{named_one, one_named, pairs_one, points_one, whole_one}
 use Rattle.levels.proofs.Rebuilt.{indexed_rebuilt}
 use Rattle.levels.proofs.Seen.{same_seen, seen_is_stored, some_stored}
@@ -165,6 +165,24 @@ module _ (w number : ℕ) (cluster a : Cluster) (numbers : Maps ℕ) (s t : Stor
       let indexed = λ (level : Level). indexed_swapped w number cluster level (shelf_of numbers s) (shelf_of numbers t) order (swaps level) in
       order_swapped w (shelf_of numbers s) (shelf_of numbers t) order (indexed Main) (indexed Top) store refl tags
 
+-- one cluster, as the store exchanges a list
+pub one_there : (number : ℕ) (c : Cluster) (old : Numbered) → IsSome (finmap.get old number)
+    → AreHeld (record { number = number; cluster = c } ∷ []) old
+one_there number c old there = record {
+  once = ((λ here. none_in_empty number here), tt);
+  there = λ n here. subst (λ (m : ℕ). IsSome (finmap.get old m)) (sym (only_one number n here)) there;
+}
+
+pub one_exchanged : (number : ℕ) (c : Cluster) (old new : Numbered) → IsSome (finmap.get old number)
+    → ExchangesEach (record { number = number; cluster = c } ∷ []) old new → Sets number (with_cluster c (finmap.get old number)) old new
+one_exchanged number c old new there change =
+    let s = some_stored (finmap.get old number) there in
+    let x : Exchange = record { number = number; cluster = c } in
+    record {
+      changed = change.exchanges x s.0 (Contains-head x []) s.1 ∙ ap (with_cluster c) (sym s.1);
+      others = λ n other. change.others n (λ here. other (only_one number n here));
+    }
+
 -- ---- two clusters, each of one level
 
 abbrev pub two_exchanges : ℕ → Cluster → ℕ → Cluster → List Exchange
@@ -186,7 +204,7 @@ is_there level clusters n c seen = ap is_some (seen_of level (finmap.get cluster
 
 -- both are there
 pub there_two : (one two : ℕ) (c d : Cluster) (old : Numbered) → one ≢ two → IsSome (finmap.get old one) → IsSome (finmap.get old two)
-    → AreThere (two_exchanges one c two d) [] old
+    → AreHeld (two_exchanges one c two d) old
 there_two one two c d old apart first second = record {
   once = ((λ here. apart (only_one two one here)), ((λ here. none_in_empty two here), tt));
   there = λ n here. elim (two_cases one two n here) [
@@ -195,9 +213,9 @@ there_two one two c d old apart first second = record {
   ];
 }
 
-pub two_exchanged : (one two : ℕ) (c d : Cluster) (made : List ℕ) (old new : Numbered) → IsSome (finmap.get old one) → IsSome (finmap.get old two)
-    → MakesChange (two_exchanges one c two d) [] [] made old new → ExchangesTwo one two c d old new
-two_exchanged one two c d made old new first second change =
+pub two_exchanged : (one two : ℕ) (c d : Cluster) (old new : Numbered) → IsSome (finmap.get old one) → IsSome (finmap.get old two)
+    → ExchangesEach (two_exchanges one c two d) old new → ExchangesTwo one two c d old new
+two_exchanged one two c d old new first second change =
     let s = some_stored (finmap.get old one) first in
     let t = some_stored (finmap.get old two) second in
     let x : Exchange = record { number = one; cluster = c } in
@@ -205,8 +223,7 @@ two_exchanged one two c d made old new first second change =
     record {
       first = change.exchanges x s.0 (Contains-head x (y ∷ [])) s.1 ∙ ap (with_cluster c) (sym s.1);
       second = change.exchanges y t.0 (Contains-later x y (y ∷ []) (Contains-head y [])) t.1 ∙ ap (with_cluster d) (sym t.1);
-      others = λ n a b. change.others n (λ here. absurd (omega (arith, here.1, change.adds.count)))
-          (λ here. elim (two_cases one two n here) [ inl same ↦ a same | inr same ↦ b same ]);
+      others = λ n a b. change.others n (λ here. elim (two_cases one two n here) [ inl same ↦ a same | inr same ↦ b same ]);
     }
 
 -- the first of them, in a level that hasn't the second

@@ -63,7 +63,7 @@ pub record DropsName (w number id : ℕ) (made : List ℕ) (old new : Shelf) : T
   pub split : IsSplit was.graph (id ∷ []) left
   pub whole : (c : Cluster) → Contains left c → IsCluster (64 * w) c
   pub rebuilds : TopRebuilds w (number ∷ []) all (was ∷ []) left (id ∷ []) old new
-  pub told : AreTold number left all made
+  pub told : AreTold left all made
 
 -- In a level that has the name its cluster has another fee for it; of a level that hasn't all that is seen stays.
 pub record SetsFeeAt (w id : ℕ) (fee : ℤ) (level : Level) (old new : Shelf) : Type 0 where
