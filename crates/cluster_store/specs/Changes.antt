@@ -73,6 +73,16 @@ pub record AreThere (exchanged : List Exchange) (moves : List Move) (clusters : 
   pub once : AreDistinct (changing exchanged moves)
   pub there : (number : ℕ) → Contains (changing exchanged moves) number → IsSome (finmap.get clusters number)
 
+-- the clusters that are exchanged are there, each once
+pub record AreHeld (exchanged : List Exchange) (clusters : Numbered) : Type 0 where
+  pub once : AreDistinct (map (λ x. x.number) exchanged)
+  pub there : (number : ℕ) → Contains (map (λ x. x.number) exchanged) number → IsSome (finmap.get clusters number)
+
+-- clusters are exchanged under their numbers, and all else stays
+pub record ExchangesEach (exchanged : List Exchange) (old new : Numbered) : Type 0 where
+  pub exchanges : Exchanges exchanged old new
+  pub others : (number : ℕ) → (Contains (map (λ x. x.number) exchanged) number → ⊥) → finmap.get new number ≡ finmap.get old number
+
 -- ---- the bound of sizes
 
 -- the bound of no sizes

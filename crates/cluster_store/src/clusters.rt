@@ -167,6 +167,34 @@ pub fn add_all<const W: usize>(
     Ok(numbers)
 }
 
+/// Adds clusters that are to stand in the levels of a tag under numbers that were free, and answers these.
+///
+/// # Errors
+/// Where there is no memory for all of them. Those that went in are out again.
+pub fn add_clusters<const W: usize>(
+    alloc: Global,
+    slots: &mut Slab<Stored<W>>,
+    index: &mut ChunkIndex,
+    clusters: Vec<Cluster<W>>,
+    tag: Tag,
+) -> Result<Vec<usize>, NoMemory>
+    requires { IsShown slots.old.slots index.old }
+    ensures ok { IfOk result (λ numbers. AddsTo (map (λ c. record { cluster = c; tag = tag }) clusters.entry.items) numbers.items
+        slots.old.slots slots.new.slots) }
+    ensures err { OnErr result (SameValues slots.old slots.new) }
+    ensures shown { IsShown slots.new.slots index.new }
+{
+    let mut numbers = Vec::new(alloc);
+    for cluster in clusters {
+        let stored = Stored::new(cluster, tag);
+        if let Err(error) = add_next(slots, index, stored, &mut numbers) {
+            take_all(slots, index, numbers);
+            return Err(error);
+        }
+    }
+    Ok(numbers)
+}
+
 // Adds a cluster under a number that was free, and puts the number behind others.
 fn add_next<const W: usize>(
     slots: &mut Slab<Stored<W>>,

@@ -11,6 +11,7 @@ mod entries;
 mod laws;
 mod least;
 mod rate_walk;
+mod rebuilding;
 mod settling;
 mod store;
 mod stored;
@@ -22,5 +23,5 @@ pub use laws::{
 };
 pub use rate_walk::RateWalk;
 pub use store::ClusterStore;
-pub use stored::{Exchange, Move, Stored};
+pub use stored::{Exchange, Made, Move, Stored};
 pub use walk::{PartWalk, Parts, ShownPart};

@@ -1,20 +1,22 @@
-ghost use Rattle.std.specs.Prelude.{◌≡◌, ◌≢◌, ◌↔◌, ◌≤◌, ◌*◌, ◌++◌, ℕ, false, true, None, Some, [], ◌∷◌, map, Contains, IsSome, IfOk, IfSome, OnOk, OnErr, MatchOption};
+ghost use Rattle.std.specs.Prelude.{◌≡◌, ◌≢◌, ◌↔◌, ◌≤◌, ◌*◌, ◌++◌, ℕ, false, true, None, Some, [], ◌∷◌, map, Contains, IsSome, IfOk, IfSome, OnOk, OnErr, MatchOption, option_to_list};
 ghost use Rattle.std.specs.FinMap as finmap;
 ghost use Rattle.graphs.specs.Merges.{Precedes};
 ghost use Rattle.cluster.specs.Clusters.{IsCluster};
 ghost use Rattle.cluster_store.specs.Stores.{Stored as Kept, IsStore, AreWhole, IsLeast, IsOrdered, shown_in, shown_only};
 ghost use Rattle.chunk_index.specs.declared.entry.Tag.TheVariants.{Both};
 ghost use Rattle.cluster_store.specs.Rates.{IsTail};
-ghost use Rattle.cluster_store.specs.Changes.{AreThere, EndsAt, MakesChange, Sets, lowest_in, moved_to, most_least, settled, with_cluster};
+ghost use Rattle.cluster_store.specs.Changes.{AreHeld, AreThere, EndsAt, ExchangesEach, MakesChange, Sets, lowest_in, moved_to, most_least, settled, with_cluster};
+ghost use Rattle.cluster_store.specs.Tops.{MayLeave, TopChanges};
 
 use crate::clusters::{
     add, add_all, cluster_of, entry_at, exchange, exchange_all, make_move, move_all, tag_of,
     take_all,
 };
-use crate::least::{lowest_added, lowest_exchanged, lowest_of};
+use crate::least::{lowest_added, lowest_exchanged, lowest_of, lowest_of_all, lowest_of_last};
 use crate::rate_walk::RateWalk;
+use crate::rebuilding::rebuild;
 use crate::settling::settle;
-use crate::stored::{Exchange, Move, Stored};
+use crate::stored::{Exchange, Made, Move, Stored};
 use crate::tail::first_of_tail;
 use crate::walk::PartWalk;
 use chunk_index::{ChunkIndex, Tag};
@@ -152,6 +154,66 @@ impl<const W: usize> ClusterStore<W> {
         ensures behind { a ≢ b → result ≡ false → Precedes self.now.order b a }
     {
         entry_at(&self.slots, a).is_before(&entry_at(&self.slots, b))
+    }
+
+    /// Clusters of the top level go out, and others come in. Where there is a staging, main stays as it is: what it has too
+    /// stays there, in main alone, and what comes in stands in staging alone; where there is none, all that stands there stands
+    /// in both levels.
+    ///
+    /// The last of those that come in takes the number of the first that goes out, where main doesn't keep that one. Answers
+    /// the numbers of the others, which were free, and that of the last. Takes no memory but for what comes in.
+    ///
+    /// # Errors
+    /// Where there is no memory for it. All is as it was.
+    pub fn rebuild(
+        &mut self,
+        staged: bool,
+        outs: &[usize],
+        rest: Vec<Cluster<W>>,
+        last: Option<Cluster<W>>,
+    ) -> Result<Made, NoMemory>
+        requires { MayLeave staged outs.now self.old.clusters }
+        ensures rebuilt { IfOk result (λ made. TopChanges staged outs.now made.rest.items made.last rest.entry.items last.entry
+            self.old.clusters self.new.clusters) }
+        ensures least { OnOk result (EndsAt self.new.clusters
+            (lowest_in (rest.entry.items ++ option_to_list last.entry) self.old.least) self.new.least) }
+        ensures err { OnErr result (self.new ≡ self.old) }
+        ensures store { IsStore (64 * W) self.new }
+    {
+        let least = lowest_of_all(self.least, rest.as_slice());
+        let least = lowest_of_last(least, &last);
+        let made = rebuild(
+            self.alloc,
+            &mut self.slots,
+            &mut self.index,
+            staged,
+            outs,
+            rest,
+            last,
+        )?;
+        self.least = least;
+        self.begin_anew();
+        Ok(made)
+    }
+
+    /// Puts clusters in the places of others under their numbers, in the same levels. Entries of the index that are the same
+    /// for a cluster and the one in its place stay.
+    ///
+    /// # Errors
+    /// Where there is no memory for it. All is as it was.
+    pub fn exchange_list(&mut self, exchanged: Vec<Exchange<W>>) -> Result<(), NoMemory>
+        requires { AreHeld exchanged.items self.old.clusters }
+        ensures exchanged { OnOk result (ExchangesEach exchanged.entry.items self.old.clusters self.new.clusters) }
+        ensures least { OnOk result (EndsAt self.new.clusters
+            (lowest_in (map (λ x. x.cluster) exchanged.entry.items) self.old.least) self.new.least) }
+        ensures err { OnErr result (self.new ≡ self.old) }
+        ensures store { IsStore (64 * W) self.new }
+    {
+        let least = lowest_exchanged(self.least, exchanged.as_slice());
+        exchange_all(&mut self.slots, &mut self.index, exchanged)?;
+        self.least = least;
+        self.begin_anew();
+        Ok(())
     }
 
     /// Makes a whole change: clusters take the place of others under their numbers, in the same levels; others are added

@@ -70,6 +70,15 @@ pub struct Move {
     pub to: Option<Tag>,
 }
 
+/// The numbers of clusters that came into the top level.
+#[derive(Drop)]
+pub struct Made {
+    /// Those of all but the last one, in their order.
+    pub rest: Vec<usize>,
+    /// That of the last one, where there is one.
+    pub last: Option<usize>,
+}
+
 /// A cluster that is to take the place of the one that stands under a number, in the same levels.
 #[derive(Drop)]
 pub struct Exchange<const W: usize> {

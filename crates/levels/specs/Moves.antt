@@ -1,69 +1,71 @@
 -- What the changes of a shelf make of clusters.
-use Rattle.std.specs.Prelude.{◌≡◌, ◌⊎◌, ℕ, ℤ, ◌*◌, true, List, [], ◌∷◌, ◌++◌, Contains, None, Some}
+use Rattle.std.specs.Prelude.{◌≡◌, ◌⊎◌, ◌↔◌, ℕ, ℤ, ◌*◌, true, false, List, [], ◌∷◌, ◌++◌, Contains, slice_get, Option, None, Some, option_to_list}
 use Rattle.std.specs.FinMap as finmap
 use Rattle.graphs.specs.declared.names.Level.{Level}
 use Rattle.graphs.specs.declared.names.Level.TheVariants.{Main, Top}
 use Rattle.fee_rate.specs.declared.rates.FeeRate.{FeeRate}
-use Rattle.graphs.specs.Closures.{is_ancestor, AddsPair, SetsFee}
-use Rattle.cluster.specs.Clusters.{Cluster, IsCluster}
-use Rattle.cluster.specs.Changes.{IsSingle, IsSplit, Joins}
-use Rattle.levels.specs.Changes.{Rebuilds}
-use Rattle.levels.specs.Links.{IsLink}
-use Rattle.levels.specs.declared.links.Link.TheVariants.{Within, Between}
+use Rattle.graphs.specs.Closures.{is_ancestor, rate_of, SetsFee}
+use Rattle.cluster.specs.Clusters.{Cluster}
+use Rattle.cluster.specs.Changes.{IsAncestorIn, IsSingle}
+use Rattle.levels.specs.Changes.{IsNamed, Rebuilds}
 use Rattle.levels.specs.Shelves.{Shelf, numbers_at, seen_at, stored_at, view_of}
+use Rattle.levels.specs.Tops.{ExchangedAt, IsMade, TopRebuilds}
 use Rattle.levels.specs.Views.{graph_of}
-use Rattle.levels.specs.Tops.{AreTold, ExchangedAt, TopRebuilds}
+
+-- a name that clusters have before and after has the same rate in both
+abbrev pub KeepRates : List Cluster → List Cluster → Type 0
+KeepRates olds news =
+    (c : Cluster) → Contains news c → (id : ℕ) → Contains c.names id → (b : Cluster) → Contains olds b → Contains b.names id
+    → rate_of c.graph id ≡ rate_of b.graph id
+
+-- The clusters that come in have the names of those that go out, with one more pair between two of these; and each that goes out has one of the
+-- two.
+pub record AddsPairIn (olds news : List Cluster) (parent child : ℕ) : Type 0 where
+  pub parent : IsNamed olds parent
+  pub child : IsNamed olds child
+  pub each : (c : Cluster) → Contains olds c → Contains c.names parent ⊎ Contains c.names child
+  pub names : (id : ℕ) → IsNamed news id ↔ IsNamed olds id
+  pub rates : KeepRates olds news
+  pub ancestors : (a d : ℕ) → IsAncestorIn news a d ↔ (IsAncestorIn olds a d ⊎ (IsAncestorIn olds a parent × IsAncestorIn olds child d))
+
+-- The clusters that come in have the names of those that go out but for some, and the relation among them; and each that goes out loses a name.
+pub record DropsIn (olds news : List Cluster) (gone : List ℕ) : Type 0 where
+  pub each : (c : Cluster) → Contains olds c → (id : ℕ) × Contains gone id × Contains c.names id
+  pub names : (id : ℕ) → IsNamed news id ↔ (IsNamed olds id × (Contains gone id → ⊥))
+  pub rates : KeepRates olds news
+  pub ancestors : (a d : ℕ) → IsAncestorIn news a d ↔ ((Contains gone a → ⊥) × (Contains gone d → ⊥) × IsAncestorIn olds a d)
 
 -- A name came in, alone in a cluster, which was in neither level.
-pub record AddsOne (w id : ℕ) (rate : FeeRate) (old new : Shelf) : Type 0 where
-  pub now : Cluster
+pub record AddsTop (w id : ℕ) (rate : FeeRate) (old new : Shelf) : Type 0 where
   pub made : ℕ
+  pub now : Cluster
   pub single : IsSingle id rate now
   pub absent : finmap.get (numbers_at Top old) id ≡ None
   pub rebuilds : TopRebuilds w [] (made ∷ []) [] (now ∷ []) [] old new
 
--- A name became a parent of another of its cluster.
-pub record LinksOne (w number parent child : ℕ) (old new : Shelf) : Type 0 where
-  pub was : Cluster
-  pub now : Cluster
+-- A name of the top level became a parent of another: the clusters of these numbers went out, and one came in.
+pub record PairsTop (w : ℕ) (outs : List ℕ) (parent child : ℕ) (old new : Shelf) : Type 0 where
   pub made : ℕ
-  pub at : seen_at Top old.store.clusters number ≡ Some was
-  pub names : now.names ≡ was.names
-  pub pair : AddsPair was.graph now.graph parent child
-  pub rebuilds : TopRebuilds w (number ∷ []) (made ∷ []) (was ∷ []) (now ∷ []) [] old new
-
--- A name became a parent of another of another cluster.
-pub record JoinsTwo (w above below parent child : ℕ) (old new : Shelf) : Type 0 where
-  pub first : ℕ
-  pub second : ℕ
-  pub turned : ((first ≡ above) × (second ≡ below)) ⊎ ((first ≡ below) × (second ≡ above))
-  pub one : Cluster
-  pub other : Cluster
+  pub olds : List Cluster
   pub now : Cluster
-  pub made : ℕ
-  pub one_at : seen_at Top old.store.clusters first ≡ Some one
-  pub other_at : seen_at Top old.store.clusters second ≡ Some other
-  pub names : now.names ≡ one.names ++ other.names
-  pub joins : Joins one.graph other.graph parent child now.graph
-  pub rebuilds : TopRebuilds w (first ∷ second ∷ []) (made ∷ []) (one ∷ other ∷ []) (now ∷ []) [] old new
+  pub rebuilds : TopRebuilds w outs (made ∷ []) olds (now ∷ []) [] old new
+  pub pair : AddsPairIn olds (now ∷ []) parent child
 
--- A name became a parent of another, as the two stood, or was an ancestor already.
+-- the same, or that it was an ancestor already
 abbrev pub Connects : ℕ → ℕ → ℕ → Shelf → Shelf → Type 0
 Connects w parent child old new =
     (is_ancestor (graph_of (view_of Top old)) parent child ≡ true × (new ≡ old))
-    ⊎ (((number : ℕ) × IsLink w old parent child (Within number) × LinksOne w number parent child old new)
-    ⊎ ((above below : ℕ) × IsLink w old parent child (Between above below) × JoinsTwo w above below parent child old new))
+    ⊎ ((is_ancestor (graph_of (view_of Top old)) parent child ≡ false) × ((outs : List ℕ) × PairsTop w outs parent child old new))
 
--- A name left its cluster; these are the numbers of what is left, but for one that may stand under the old number.
-pub record DropsName (w number id : ℕ) (made : List ℕ) (old new : Shelf) : Type 0 where
-  pub was : Cluster
-  pub left : List Cluster
-  pub all : List ℕ
-  pub at : seen_at Top old.store.clusters number ≡ Some was
-  pub split : IsSplit was.graph (id ∷ []) left
-  pub whole : (c : Cluster) → Contains left c → IsCluster (64 * w) c
-  pub rebuilds : TopRebuilds w (number ∷ []) all (was ∷ []) left (id ∷ []) old new
-  pub told : AreTold number left all made
+-- Names left the top level: the clusters of these numbers went out, and what was left of them came in, under these numbers and, one of the
+-- first of them, under another.
+pub record DropsTop (w : ℕ) (outs made : List ℕ) (gone : List ℕ) (old new : Shelf) : Type 0 where
+  pub number : Option ℕ
+  pub rest : List Cluster
+  pub last : Option Cluster
+  pub is : IsMade w outs made number rest last gone old new
+  pub drops : DropsIn is.olds (rest ++ option_to_list last) gone
+  pub own : (c d : Cluster) → last ≡ Some c → slice_get is.olds 0 ≡ Some d → (id : ℕ) → Contains c.names id → Contains d.names id
 
 -- In a level that has the name its cluster has another fee for it; of a level that hasn't all that is seen stays.
 pub record SetsFeeAt (w id : ℕ) (fee : ℤ) (level : Level) (old new : Shelf) : Type 0 where
