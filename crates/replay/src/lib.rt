@@ -7,6 +7,7 @@ mod answering;
 mod check;
 mod commands;
 mod gathered;
+mod generated;
 mod input;
 mod laws;
 mod lines;
@@ -14,7 +15,9 @@ mod reading;
 mod replies;
 mod request;
 mod session;
+mod tally;
 mod top;
+mod totals;
 mod window;
 mod writing;
 

@@ -16,3 +16,4 @@ pub mod LineLemmas
 pub mod AmountLemmas
 pub mod CertificateLemmas
 pub mod CutLemmas
+pub mod GeneratorLemmas
