@@ -32,3 +32,5 @@ pub mod Told
 pub mod RateWalks
 pub mod Tails
 pub mod Settled
+pub mod Placing
+pub mod Preceding

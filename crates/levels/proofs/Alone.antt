@@ -1,22 +1,20 @@
 -- The parts of the clusters that stand in one level alone: each is shown with its cluster, and each name that is touched is of one.
-use Rattle.std.proofs.Common.{◌≡◌, ◌≢◌, ◌↔◌, ℕ, ◌*◌, ◌<◌, Bool, true, false, cond, List, [], ◌∷◌, ◌++◌, append_assoc, length, map, Contains, Option, Some, None, inl, inr, refl, sym, ap, ◌∙◌, subst, true≢false}
-use Rattle.std.specs.List.{slice_index_or}
+use Rattle.std.proofs.Common.{◌≡◌, ◌≢◌, ◌↔◌, ℕ, ◌*◌, Bool, true, false, cond, List, [], ◌∷◌, ◌++◌, append_assoc, map, Contains, Option, Some, None, inl, inr, refl, sym, ap, ◌∙◌, subst, true≢false}
 use Rattle.std.specs.FinMap as finmap
-use Rattle.std.proofs.lemmas.List.{get_or_default, append-nil, map-append}
-use Rattle.std.proofs.lemmas.Option.{none-some, same_Some, slice_get-get_or, slice_get_within, get_or_from_slice_get}
+use Rattle.std.proofs.lemmas.List.{append-nil, map-append}
+use Rattle.std.proofs.lemmas.Option.{none-some, same_Some}
 use Rattle.std.proofs.lemmas.List.Elements.{Contains-append_cases, Contains-append_right}
-use Rattle.lists.proofs.Entries.{Contains-cases, Contains-head, none_in_empty, filter-Contains, map-Contains, Contains-filter, Contains-map}
+use Rattle.lists.proofs.Entries.{Contains-cases, Contains-head, none_in_empty}
 use Rattle.graphs.specs.declared.names.Level.{Level}
 use Rattle.graphs.specs.declared.names.Level.TheVariants.{Main, Top}
 use Rattle.graphs.specs.Certificates.{Part}
-use Rattle.lists.proofs.Flats.{flat_has}
 use Rattle.chunk_index.specs.declared.entry.Tag.{Tag}
 use Rattle.chunk_index.specs.declared.entry.Tag.TheVariants.{Both, MainOnly, TopOnly}
 use Rattle.chunk_index.specs.Items.{is_in, same_tag}
 use Rattle.chunk_index.specs.Settling.{alone}
 use Rattle.cluster.specs.Clusters.{Cluster}
-use Rattle.cluster.proofs.Placed.{in_a_part, in_names, in_order}
-use Rattle.cluster_store.specs.Stores.{Stored, Store, Shown, IsStore, no_part, parts_in, part_at, passes, places_by, shown_at, shown_only}
+use Rattle.cluster_store.specs.Stores.{Stored, Store, Shown, IsStore, shown_only}
+use Rattle.cluster_store.proofs.Placing.{name_shown, part_names, shown_stands}
 use Rattle.levels.specs.Kept.{SuitsShelf}
 use Rattle.levels.specs.Rings.{Ringed, IsMarked}
 use Rattle.levels.specs.Shelves.{Shelf, IsInOrder, numbers_at, seen_at, seen_in}
@@ -37,54 +35,18 @@ itself Main = refl
 itself Top = refl
 
 module _ (most : ℕ) (level : Level) (store : Store) (is : IsStore most store) where
-  passing : ℕ × ℕ → Bool
-  passing place = passes (same_tag (alone level)) (finmap.get store.clusters place.0)
-
   -- a cluster that is seen under a number, with the names of a part
   abbrev pub ShownOf : ℕ → Part → Type 0
   ShownOf number part =
       (c : Cluster) × (seen_at level store.clusters number ≡ Some c) × ((id : ℕ) → Contains part.ids id → Contains c.names id)
 
-  shown_in_slot : (place : ℕ × ℕ) (o : Option Stored) → finmap.get store.clusters place.0 ≡ o → passes (same_tag (alone level)) o ≡ true
-      → place.1 < length (parts_in o) → ShownOf place.0 (part_at store.clusters place)
-  shown_in_slot place None there passed low = absurd (true≢false (sym passed))
-  shown_in_slot place (Some s) there passed low =
-      let part = slice_index_or s.cluster.parts place.1 no_part in
-      let same : part_at store.clusters place ≡ part = ap (λ o. slice_index_or (parts_in o) place.1 no_part) there in
-      let got = slice_get-get_or s.cluster.parts place.1 no_part low in
-      let listed : Contains s.cluster.parts part =
-      (place.1, slice_get_within s.cluster.parts place.1 part got, get_or_from_slice_get s.cluster.parts place.1 part part got) in (
-        s.cluster,
-        seen_stored level store.clusters place.0 s there (in_level level s.tag passed),
-        λ id here. in_names most s.cluster (is.whole place.0 s there) id (flat_has (λ (p : Part). p.ids) s.cluster.parts part id listed
-            (subst (λ (p : Part). Contains p.ids id) same here)),
-      )
-
   pub shown_there : (s : Shown) → Contains (shown_only (alone level) store) s → ShownOf s.number s.part
-  unfolding places_by passing
   shown_there s here =
-      let place = map-Contains (shown_at store.clusters) (places_by (same_tag (alone level)) store) s here in
-      let kept = filter-Contains passing store.order place.0 place.1 in
-      subst (λ (t : Shown). ShownOf t.number t.part) place.2
-      (shown_in_slot place.0 (finmap.get store.clusters place.0.0) refl kept.0 ((is.ordered.exact place.0).0 kept.1))
-
-  -- each name of such a cluster is of a part that is shown
-  pub name_shown : (n : ℕ) (s : Stored) → finmap.get store.clusters n ≡ Some s → s.tag ≡ alone level → (id : ℕ) → Contains s.cluster.names id
-      → (shown : Shown) × Contains (shown_only (alone level) store) shown × Contains shown.part.ids id
-  unfolding places_by passing
-  name_shown n s there tag id here =
-      let whole = is.whole n s there in
-      let found = in_a_part s.cluster.parts id (in_order most s.cluster whole id here) in
-      let k = found.1.0 in
-      let low : k < length s.cluster.parts = found.1.1 in
-      let part : part_at store.clusters (n, k) ≡ found.0 =
-      ap (λ o. slice_index_or (parts_in o) k no_part) there ∙ get_or_default s.cluster.parts k no_part found.0 low ∙ found.1.2 in
-      let listed = (is.ordered.exact (n, k)).1 (subst (λ o. k < length (parts_in o)) (sym there) low) in
-      let passes : passing (n, k) ≡ true = ap (passes (same_tag (alone level))) there ∙ ap (same_tag (alone level)) tag ∙ itself level in (
-        shown_at store.clusters (n, k),
-        Contains-map (shown_at store.clusters) (places_by (same_tag (alone level)) store) (n, k)
-            (Contains-filter passing store.order (n, k) passes listed),
-        subst (λ (p : Part). Contains p.ids id) (sym part) found.2,
+      let at = shown_stands most (same_tag (alone level)) store is s here in
+      let stored = at.1.0 in (
+        stored.cluster,
+        seen_stored level store.clusters s.number stored at.1.1 (in_level level stored.tag at.1.2),
+        part_names most stored.cluster (is.whole s.number stored at.1.1) at.0 s.part at.1.3,
       )
 
 -- ---- of a shelf
@@ -118,7 +80,8 @@ module _ (w : ℕ) (stays : Level) (shelf : Shelf) (order : IsInOrder w shelf) (
       by : (b : Bool) → is_in stays s.tag ≡ b → cond b (Some s.cluster) None ≡ Some c → IsShownOnce
       by true is same =
           let own : Contains s.cluster.names id = subst (λ (d : Cluster). Contains d.names id) (sym (same_Some s.cluster c same)) here in
-          name_shown (64 * w) stays shelf.store order.store n s there (own_tag stays s.tag is (one_number n s there own)) id own
+          let tag = own_tag stays s.tag is (one_number n s there own) in
+          name_shown (64 * w) (same_tag (alone stays)) shelf.store order.store n s there (ap (same_tag (alone stays)) tag ∙ itself stays) id own
       by false is same = absurd (none-some c same)
 
   -- a touched name of the level is of a part that is shown

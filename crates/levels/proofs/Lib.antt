@@ -34,9 +34,7 @@ mod Only
 mod Pairs
 mod Parting
 mod Places
-mod Placing
 mod Pointing
-mod Preceding
 mod Rebuilt
 mod Rejoining
 mod Remaking

@@ -20,7 +20,7 @@ use Rattle.levels.specs.Places.{HasPart}
 use Rattle.levels.specs.Shelves.{Shelf, IsInOrder, one_of, seen_at, stored_at, view_of}
 use Rattle.levels.specs.Views.{IsClusterOf, graph_of}
 use Rattle.levels.proofs.Finds.{indexed_at}
-use Rattle.levels.proofs.Preceding.{unfiltered}
+use Rattle.cluster_store.proofs.Preceding.{unfiltered}
 use Rattle.levels.proofs.Found.{cluster_of}
 use Rattle.levels.proofs.Seen.{seen_is_stored}
 use Rattle.levels.proofs.Shelved.{stands_seen}

@@ -19,7 +19,7 @@ use Rattle.levels.specs.Stays.{IsComponent, IsSameComponent, IsOfSameComponent, 
 use Rattle.levels.specs.Views.{View, IsIndexed, graph_of}
 use Rattle.levels.proofs.Finds.{indexed_at}
 use Rattle.levels.proofs.Graphs.{live_in, one_number}
-use Rattle.levels.proofs.Placing.{placed, shown, in_cluster, parts_before, places_before}
+use Rattle.cluster_store.proofs.Placing.{placed, shown, in_cluster, parts_before, places_before}
 use Rattle.levels.proofs.Rebuilt.{named_out, stays}
 use Rattle.levels.proofs.Shelved.{stands_seen}
 

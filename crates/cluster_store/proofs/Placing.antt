@@ -1,0 +1,153 @@
+-- The parts that walks show and the places that they stand at: each part has one, and of two the one stands first that does so by its place.
+use Rattle.std.proofs.Common.{◌≡◌, ℕ, ◌<◌, Bool, true, List, length, map, Contains, Option, Some, None, refl, sym, ap, ◌∙◌, subst, subst₂, true≢false}
+use Rattle.std.specs.Prelude.{slice_get}
+use Rattle.std.specs.List.{slice_index_or}
+use Rattle.std.specs.FinMap as finmap
+use Rattle.std.proofs.lemmas.List.{get_or_default}
+use Rattle.std.proofs.lemmas.Option.{slice_get-get_or, slice_get_within, get_or_from_slice_get}
+use Rattle.std.proofs.lemmas.Simd.{map-map}
+use Rattle.lists.proofs.Entries.{filter-Contains, map-Contains, Contains-filter, Contains-map}
+use Rattle.lists.proofs.Flats.{flat_has}
+use Rattle.graphs.specs.declared.names.Level.{Level}
+use Rattle.graphs.specs.Certificates.{Part}
+use Rattle.graphs.specs.Merges.{Precedes}
+use Rattle.graphs.proofs.MergeLemmas.{precedes_filter, precedes_map}
+use Rattle.chunk_index.specs.declared.entry.Tag.{Tag}
+use Rattle.chunk_index.specs.Items.{is_in}
+use Rattle.cluster.specs.Clusters.{Cluster, IsCluster}
+use Rattle.cluster.proofs.Placed.{in_a_part, in_names, in_order}
+use Rattle.cluster_store.specs.Laws.{Stands, StandsAt}
+use Rattle.cluster_store.specs.Stores.{Stored, Store, Shown, IsStore, no_part, parts_in, part_at, parts_of_level, passes, places_by, places_in, shown_at, shown_by}
+use Rattle.cluster_store.proofs.Before.{parts_stand_in_order}
+use Rattle.cluster_store.proofs.Preceding.{precedes_both, unfiltered, unmapped}
+
+-- a part's names are its cluster's
+pub part_names : (most : ℕ) (c : Cluster) → IsCluster most c → (position : ℕ) (part : Part) → slice_get c.parts position ≡ Some part
+    → (id : ℕ) → Contains part.ids id → Contains c.names id
+part_names most c whole position part is id here =
+    let listed : Contains c.parts part =
+    (position, slice_get_within c.parts position part is, get_or_from_slice_get c.parts position part part is) in
+    in_names most c whole id (flat_has (λ (p : Part). p.ids) c.parts part id listed here)
+
+-- ---- by the tags of the clusters
+
+module _ (most : ℕ) (test : Tag → Bool) (store : Store) (is : IsStore most store) where
+  passing : ℕ × ℕ → Bool
+  passing place = passes test (finmap.get store.clusters place.0)
+
+  -- the part of a cluster whose tag passes stands at the place
+  abbrev pub StandsBy : ℕ × ℕ → Part → Type 0
+  StandsBy place part =
+      (s : Stored) × (finmap.get store.clusters place.0 ≡ Some s) × (test s.tag ≡ true) × (slice_get s.cluster.parts place.1 ≡ Some part)
+
+  stood_in : (place : ℕ × ℕ) (o : Option Stored) → finmap.get store.clusters place.0 ≡ o → passes test o ≡ true → place.1 < length (parts_in o)
+      → StandsBy place (part_at store.clusters place)
+  stood_in place None there passed low = absurd (true≢false (sym passed))
+  stood_in place (Some s) there passed low = (
+    s,
+    there,
+    passed,
+    slice_get-get_or s.cluster.parts place.1 no_part low ∙ ap (λ (o : Option Stored). Some (slice_index_or (parts_in o) place.1 no_part)) (sym there),
+  )
+
+  -- a place of those that walks go over has its part
+  stood : (place : ℕ × ℕ) → Contains (places_by test store) place → StandsBy place (part_at store.clusters place)
+  unfolding passing places_by
+  stood place here =
+      let kept = filter-Contains passing store.order place here in
+      stood_in place (finmap.get store.clusters place.0) refl kept.0 ((is.ordered.exact place).0 kept.1)
+
+  -- and what is shown stands at a place
+  pub shown_stands : (s : Shown) → Contains (shown_by test store) s → (position : ℕ) × StandsBy (s.number, position) s.part
+  shown_stands s here =
+      let place = map-Contains (shown_at store.clusters) (places_by test store) s here in
+      (place.0.1, subst (λ (t : Shown). StandsBy (t.number, place.0.1) t.part) place.2 (stood place.0 place.1))
+
+  -- each name of such a cluster is of a part that is shown
+  pub name_shown : (n : ℕ) (s : Stored) → finmap.get store.clusters n ≡ Some s → test s.tag ≡ true → (id : ℕ) → Contains s.cluster.names id
+      → (shown : Shown) × Contains (shown_by test store) shown × Contains shown.part.ids id
+  unfolding places_by passing
+  name_shown n s there passed id here =
+      let whole = is.whole n s there in
+      let found = in_a_part s.cluster.parts id (in_order most s.cluster whole id here) in
+      let k = found.1.0 in
+      let low : k < length s.cluster.parts = found.1.1 in
+      let part : part_at store.clusters (n, k) ≡ found.0 =
+      ap (λ o. slice_index_or (parts_in o) k no_part) there ∙ get_or_default s.cluster.parts k no_part found.0 low ∙ found.1.2 in
+      let listed = (is.ordered.exact (n, k)).1 (subst (λ o. k < length (parts_in o)) (sym there) low) in (
+        shown_at store.clusters (n, k),
+        Contains-map (shown_at store.clusters) (places_by test store) (n, k)
+            (Contains-filter passing store.order (n, k) (ap (passes test) there ∙ passed) listed),
+        subst (λ (p : Part). Contains p.ids id) (sym part) found.2,
+      )
+
+-- ---- in a level
+
+module _ (most : ℕ) (level : Level) (store : Store) (is : IsStore most store) where
+  at_level : ℕ × ℕ → Bool
+  at_level place = passes (is_in level) (finmap.get store.clusters place.0)
+
+  by_places : map (part_at store.clusters) (places_in level store) ≡ parts_of_level level store
+  by_places = sym (map-map (λ (s : Shown). s.part) (shown_at store.clusters) (places_in level store))
+
+  -- a place of the level has its part
+  level_stood : (place : ℕ × ℕ) → Contains (places_in level store) place → StandsAt level store.clusters place (part_at store.clusters place)
+  level_stood place here = let at = stood most (is_in level) store is place here in (at.0.cluster, (at.0, at.1, refl, at.2), at.3)
+
+  -- and each part of the level a place
+  pub placed : (part : Part) → Contains (parts_of_level level store) part → (place : ℕ × ℕ) × StandsAt level store.clusters place part
+  placed part here =
+      let place = map-Contains (part_at store.clusters) (places_in level store) part (subst (λ (ps : List Part). Contains ps part) (sym by_places) here) in
+      (place.0, subst (StandsAt level store.clusters place.0) place.2 (level_stood place.0 place.1))
+
+  pub shown : (place : ℕ × ℕ) (part : Part) → StandsAt level store.clusters place part → Contains (parts_of_level level store) part
+  shown = (parts_stand_in_order most level store is).shown
+
+  pub whole : (n : ℕ) (c : Cluster) → Stands level store.clusters n c → IsCluster most c
+  whole n c stands = subst (IsCluster most) stands.2 (is.whole n stands.0 stands.1)
+
+  -- a part's names are its cluster's
+  pub in_cluster : (place : ℕ × ℕ) (part : Part) (stands : StandsAt level store.clusters place part) (id : ℕ) → Contains part.ids id
+      → Contains stands.0.names id
+  in_cluster place part stands id here = part_names most stands.0 (whole place.0 stands.0 stands.1) place.1 part stands.2 id here
+
+  part_is : (place : ℕ × ℕ) (part : Part) → StandsAt level store.clusters place part → part_at store.clusters place ≡ part
+  part_is place part stands =
+      ap (λ (o : Option Stored). slice_index_or (parts_in o) place.1 no_part) stands.1.1
+      ∙ ap (λ (c : Cluster). slice_index_or c.parts place.1 no_part) stands.1.2
+      ∙ get_or_from_slice_get stands.0.parts place.1 part no_part stands.2
+
+  passed_at : (place : ℕ × ℕ) (part : Part) → StandsAt level store.clusters place part → at_level place ≡ true
+  unfolding at_level
+  passed_at place part stands = ap (passes (is_in level)) stands.1.1 ∙ stands.1.3
+
+  -- two parts of the level stand as their places do
+  pub parts_before : (x y : ℕ × ℕ) (p q : Part) → StandsAt level store.clusters x p → StandsAt level store.clusters y q → Precedes store.order x y
+      → Precedes (parts_of_level level store) p q
+  unfolding at_level places_by
+  parts_before x y p q first second before =
+      let here : Precedes (places_in level store) x y = precedes_filter at_level store.order x y (passed_at x p first) (passed_at y q second) before in
+      let of_places = precedes_map (part_at store.clusters) (places_in level store) x y here in
+      subst (λ (ps : List Part). Precedes ps p q) by_places
+      (subst₂ (λ (a b : Part). Precedes (map (part_at store.clusters) (places_in level store)) a b) (part_is x p first) (part_is y q second) of_places)
+
+  -- two places of the order with these parts
+  pub record HavePlaces (p q : Part) : Type 0 where
+    pub x : ℕ × ℕ
+    pub y : ℕ × ℕ
+    pub first : StandsAt level store.clusters x p
+    pub second : StandsAt level store.clusters y q
+    pub before : Precedes store.order x y
+
+  pub places_before : (p q : Part) → Precedes (parts_of_level level store) p q → HavePlaces p q
+  unfolding at_level places_by
+  places_before p q before =
+      let m = unmapped (part_at store.clusters) (places_in level store) p q (subst (λ (ps : List Part). Precedes ps p q) (sym by_places) before) in
+      let both = precedes_both (places_in level store) m.x m.y m.before in
+      record {
+        x = m.x;
+        y = m.y;
+        first = subst (StandsAt level store.clusters m.x) m.first (level_stood m.x both.0);
+        second = subst (StandsAt level store.clusters m.y) m.second (level_stood m.y both.1);
+        before = unfiltered at_level store.order m.x m.y m.before;
+      }
