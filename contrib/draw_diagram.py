@@ -12,6 +12,7 @@ from xml.sax.saxutils import escape
 WIDTH, HEIGHT = 760, 420
 LEFT, RIGHT, TOP, BOTTOM = 92, 36, 52, 60
 COLOURS = ["#5b6770", "#c2410c"]
+MOST_DOTS = 60  # of a diagram with more corners the line alone is drawn
 UNITS = ["", "thousand ", "million ", "billion ", "trillion ", "quadrillion "]
 FONT = "font-family='Helvetica, Arial, sans-serif'"
 
@@ -102,9 +103,10 @@ def svg(diagrams, labels, title):
             flat = f"x1='{x(size)}' y1='{y(fee)}' x2='{x(max(sizes))}' y2='{y(fee)}'"
             out.append(f"<line {flat} stroke='{colour}' stroke-width='2' stroke-dasharray='6 5'/>")
         out.append(f"<polyline points='{path}' fill='none' stroke='{colour}' stroke-width='2.5' stroke-linejoin='round'/>")
-        out += [f"<circle cx='{x(size)}' cy='{y(fee)}' r='4' fill='{colour}'/>" for size, fee in points]
+        shown = points if len(points) <= MOST_DOTS else []
+        out += [f"<circle cx='{x(size)}' cy='{y(fee)}' r='4' fill='{colour}'/>" for size, fee in shown]
     for i, (label, colour) in enumerate(zip(labels, COLOURS)):
-        to = HEIGHT - BOTTOM - 20 * (len(labels) - i) + 6
+        to = 20 + 20 * i
         out.append(f"<line x1='{WIDTH - RIGHT - 196}' y1='{to - 4}' x2='{WIDTH - RIGHT - 168}' y2='{to - 4}' stroke='{colour}' stroke-width='3'/>")
         out.append(text(WIDTH - RIGHT - 160, to, label, "start", 13))
     return "\n".join(out + ["</svg>", ""])

@@ -52,6 +52,12 @@ def claims():
                 yield crates, line
 
 
+def layers():
+    """The crates in the order of ARCHITECTURE's table."""
+    table = (ROOT / "docs" / "ARCHITECTURE.md").read_text().split("## The crates, by layer")[1].split("\n## ")[0]
+    return re.findall(r"`(\w+)`", " ".join(re.findall(r"^\|([^|]*)\|", table, re.M)))
+
+
 class Documents(unittest.TestCase):
     def test_links_lead_somewhere(self):
         for path in DOCUMENTS:
@@ -68,6 +74,14 @@ class Documents(unittest.TestCase):
             with self.subTest(path.name):
                 self.assertEqual([i for i, line in enumerate(lines, 1) if len(line) > 160], [])
                 self.assertLessEqual(len(lines), MOST_LINES.get(str(path.relative_to(ROOT)), len(lines)))
+
+    def test_crates_are_listed_by_layer_and_stand_on_earlier_ones(self):
+        lines = [line.split() for line in (ROOT / "crates.txt").read_text().splitlines() if line and not line.startswith("#")]
+        order = [words[0].rstrip(":") for words in lines]
+        self.assertEqual(order, layers())
+        for i, words in enumerate(lines):
+            with self.subTest(order[i]):
+                self.assertLessEqual({word for word in words[1:] if word in order}, set(order[:i]))
 
     def test_each_clause_that_is_named_stands_in_the_code(self):
         group = re.compile(r"((?:`\w+`(?: of `\w+`)?(?:, )?)+): ((?:`\w+`(?:, )?)+)")

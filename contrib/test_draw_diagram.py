@@ -43,6 +43,11 @@ class Pictures(unittest.TestCase):
                     self.assertEqual(points[a][1] < points[b][1], dots[a][1] > dots[b][1])
                     self.assertLess(dots[a][0], dots[b][0])
 
+    def test_a_long_diagram_has_a_line_and_no_dots(self):
+        picture = drawn([(i, 3 * i - i * i // 1000) for i in range(1000)])
+        self.assertEqual(len(list(picture.iter(SVG + "circle"))), 0)
+        self.assertEqual(len(next(picture.iter(SVG + "polyline")).get("points").split()), 1000)
+
     def test_long_numbers_are_told_in_thousands_and_more(self):
         self.assertEqual(draw_diagram.unit_of([0, 200, 400]), (1, ""))
         self.assertEqual(draw_diagram.unit_of([0, 500_000, 1_000_000]), (1_000, "thousand "))

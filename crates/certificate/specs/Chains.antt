@@ -10,7 +10,7 @@ pub record IsLast (pairs : List (ℕ × ℕ)) (child count last : ℕ) : Type 0 
   pub into : 0 < last → (pair_at pairs (last - 1)).1 ≡ child
   pub later : (k : ℕ) → last ≤ k → k < count → (pair_at pairs k).1 ≢ child
 
--- the last pair into each place, and for each pair the one before it into the same place
+-- The last pair into each place, and for each pair the one before it into the same place.
 pub record AreChains (pairs : List (ℕ × ℕ)) (last before : List ℕ) : Type 0 where
   pub sized : length before ≡ length pairs
   pub ends : (place : ℕ) → place < length last → IsLast pairs place (length pairs) (slice_index last place)

@@ -3,20 +3,20 @@ use Rattle.std.specs.Prelude.{◌≡◌, ◌≢◌, ◌⊎◌, ◌↔◌, ℕ, �
 use Rattle.graphs.specs.Graphs.{AreConnected}
 use Rattle.certificate.specs.Chains.{pair_at}
 
--- both ends of each pair are among so many places
+-- Both ends of each pair are among so many places.
 abbrev pub AreWithin : ℕ → List (ℕ × ℕ) → Type 0
 AreWithin count pairs = All (λ pair. (pair.0 < count) × (pair.1 < count)) pairs
 
--- two places have one group exactly where they are in one component
+-- Two places have one group exactly where they are in one component.
 pub record AreGroups (pairs : List (ℕ × ℕ)) (groups : List ℕ) : Type 0 where
   pub exact : (a b : ℕ) → a < length groups → b < length groups
       → (slice_index groups a ≡ slice_index groups b) ↔ AreConnected pairs a b
 
--- the pair the other way round
+-- The pair the other way round.
 abbrev pub turned : ℕ × ℕ → ℕ × ℕ
 turned pair = (pair.1, pair.0)
 
--- each pair stands there the other way round too
+-- Each pair stands there the other way round too.
 abbrev pub GoBothWays : List (ℕ × ℕ) → Type 0
 GoBothWays steps = (a b : ℕ) → Contains {X = ℕ × ℕ} steps (a, b) → Contains {X = ℕ × ℕ} steps (b, a)
 
@@ -24,7 +24,7 @@ GoBothWays steps = (a b : ℕ) → Contains {X = ℕ × ℕ} steps (a, b) → Co
 abbrev pub HasGroup : ℕ → List ℕ → ℕ → Type 0
 HasGroup count groups place = slice_index groups place ≢ count
 
--- these are places, and of this group
+-- These are places, and of this group.
 abbrev pub AreOfGroup : ℕ → List ℕ → ℕ → List ℕ → Type 0
 AreOfGroup count groups group places =
     (place : ℕ) → Contains places place → (place < count) × (slice_index groups place ≡ group)
@@ -39,12 +39,12 @@ pub record IsGrouping (steps : List (ℕ × ℕ)) (count : ℕ) (groups waiting 
       → Contains waiting (pair_at steps k).1
       ⊎ (slice_index groups (pair_at steps k).0 ≡ slice_index groups (pair_at steps k).1)
 
--- a walk of one group went on: all that waits is of that group, and each place that had a group keeps it
+-- A walk of one group went on: all that waits is of that group, and each place that had a group keeps it.
 pub record GoesOn (steps : List (ℕ × ℕ)) (count group : ℕ) (groups groups' waiting' : List ℕ) : Type 0 where
   pub grouping : IsGrouping steps count groups' waiting'
   pub together : AreOfGroup count groups' group waiting'
   pub kept : (place : ℕ) → HasGroup count groups place → slice_index groups' place ≡ slice_index groups place
 
--- what is still to be done: twice for a place without a group, once for one that waits
+-- The work that is left: two for a place without a group, one for a place that waits.
 abbrev pub work_of : ℕ → List ℕ → List ℕ → ℕ
 work_of count groups waiting = sum_by (λ group. cond (nat_eq group count) 2 0) groups + length waiting

@@ -10,14 +10,14 @@ part_of part = record { rate = part.rate; ids = part.ids; flows = part.flows }
 abbrev pub parts_of : List Part → List model.Part
 parts_of parts = map part_of parts
 
--- the names of all parts, in their order
+-- The names of all parts, in their order.
 abbrev pub order_of : List Part → List ℕ
 order_of parts = flat_map (λ part. part.ids) parts
 
--- the names of the part at a position
+-- The names of the part at a position.
 abbrev pub ids_at : List Part → ℕ → List ℕ
 ids_at parts k = slice_index_or (map (λ part. part.ids) parts) k []
 
--- the flows of the part at a position
+-- The flows of the part at a position.
 abbrev pub flows_at : List Part → ℕ → List Flow
 flows_at parts k = slice_index_or (map (λ part. part.flows) parts) k []

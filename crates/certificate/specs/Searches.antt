@@ -15,14 +15,14 @@ pub record IsLooked (pairs : List (ℕ × ℕ)) (visits : List Visit) (place lef
   pub into : 0 < left → (pair_at pairs (left - 1)).1 ≡ place
   pub looked : (k : ℕ) → left ≤ k → k < length pairs → (pair_at pairs k).1 ≡ place → visit_at visits (pair_at pairs k).0 ≡ Done
 
--- the way is of open places, each once, and each later one is an ancestor of each earlier one
+-- The way is of open places, each once, and each later one is an ancestor of each earlier one.
 pub record IsWay (pairs : List (ℕ × ℕ)) (visits : List Visit) (way : List ℕ) : Type 0 where
   pub within : (i : ℕ) → i < length way → slice_index way i < length visits
   pub is_open : (i : ℕ) → i < length way → visit_at visits (slice_index way i) ≡ Open
   pub once : (i j : ℕ) → i < j → j < length way → slice_index way i ≢ slice_index way j
   pub upward : (i j : ℕ) → i ≤ j → j < length way → IsAncestor pairs (slice_index way j) (slice_index way i)
 
--- the state of a search: open places are on the way, parents of done places are done, and no cycle goes through one that is done
+-- The state of a search: open places are on the way, parents of done places are done, and no cycle goes through one that is done.
 pub record IsSearch (pairs : List (ℕ × ℕ)) (left : List ℕ) (visits : List Visit) (way : List ℕ) : Type 0 where
   pub sized : length left ≡ length visits
   pub looking : (place : ℕ) → place < length visits → IsLooked pairs visits place (slice_index left place)
@@ -31,23 +31,23 @@ pub record IsSearch (pairs : List (ℕ × ℕ)) (left : List ℕ) (visits : List
   pub parents : (k : ℕ) → k < length pairs → visit_at visits (pair_at pairs k).1 ≡ Done → visit_at visits (pair_at pairs k).0 ≡ Done
   pub acyclic : (place n : ℕ) → visit_at visits place ≡ Done → Walk pairs place place n → n ≡ 0
 
--- what is still to be done with a place
+-- The work that is left with a place.
 abbrev pub weight_of : Visit → ℕ
 weight_of New = 2
 weight_of Open = 1
 weight_of Done = 0
 
--- what is still to be done
+-- The work that is left.
 abbrev pub work_of : List ℕ → List Visit → ℕ
 work_of left visits = sum left + sum_by weight_of visits
 
--- a search went on from one moment to another
+-- A search went on from one moment to another.
 pub record GoesOn (pairs : List (ℕ × ℕ)) (visits : List Visit) (left' : List ℕ) (visits' : List Visit) (way' : List ℕ) : Type 0 where
   pub search : IsSearch pairs left' visits' way'
   pub sized : length visits' ≡ length visits
   pub done : (place : ℕ) → visit_at visits place ≡ Done → visit_at visits' place ≡ Done
   pub reached : (place : ℕ) → visit_at visits place ≢ New → visit_at visits' place ≢ New
 
--- each pair leads on to the one before it with the same child
+-- Each pair leads on to the one before it with the same child.
 abbrev pub LeadBack : List (ℕ × ℕ) → List ℕ → Type 0
 LeadBack pairs before = (k : ℕ) → k < length pairs → IsLast pairs (pair_at pairs k).1 k (slice_index before k)

@@ -12,13 +12,20 @@ use crate::{CheckFault, Part, Written};
 use graphs::TxId;
 use std::alloc::Global;
 
-/// Whether parts with flows are a certificate of the graph that is written.
+/// Checks that parts with flows are a certificate of the written graph.
 ///
-/// Each part has a name, each amount is at least 1, and the amounts sum to less than 2^127. The tests come
-/// in the order Graph, Order, Falling, Flow (see `CheckFault`), and the first that fails is answered. Ok
-/// says that all pass, and so that the parts, in their order, are optimal for the whole graph: no closed
-/// set of transactions has a fee above their diagram. Want of memory may be answered before any fault;
-/// the arguments stay as they were. The time is near-linear in what is written.
+/// Fees are in satoshis, sizes in virtual bytes, and amounts in satoshis times virtual bytes. Each part has a
+/// name, each amount is at least 1, and the amounts sum to less than 2^127.
+///
+/// `Ok` says that all tests pass. Then the parts, in their order, are optimal for the whole graph: no closed
+/// set of transactions pays more than their diagram at its size. The time is near-linear in the length of what
+/// is written.
+///
+/// # Errors
+///
+/// Answers the first test that fails, in the order [`Graph`](CheckFault::Graph), [`Order`](CheckFault::Order),
+/// [`Falling`](CheckFault::Falling), [`Flow`](CheckFault::Flow). [`Memory`](CheckFault::Memory) may come before
+/// any of them.
 pub fn check(alloc: Global, graph: &Written, parts: &[Part]) -> Result<(), CheckFault>
     requires { AreClaims parts.now }
     ensures yes { OnOk result (Finds graph.now.txs graph.now.edges (parts_of parts.now) Certified) }

@@ -13,7 +13,7 @@ pub enum CheckFault {
     /// A part's fee or size isn't the sum over its names, or a part has a greater rate than the one before it.
     #[error("the rates of the parts do not fall")]
     Falling = 2,
-    /// The flows certify some part not.
+    /// The flows of some part don't certify it.
     #[error("the flows do not certify the parts")]
     Flow = 3,
     /// The transactions and edges are no graph within the limits.

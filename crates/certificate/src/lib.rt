@@ -1,8 +1,8 @@
-//! Certificates: parts of an order, with flows that show by themselves that the order is optimal.
+//! The checker of certificates: parts of an order, with flows that show by themselves that the order is optimal.
 //!
-//! `check` trusts nobody. It is handed transactions, edges and parts as they were written, and answers
-//! whether they are a graph, whether the parts are an order of it, whether their rates fall, and whether
-//! the flows certify each part. Its Ok says that the parts are optimal for the whole graph.
+//! [`check`] trusts nobody. The caller hands in transactions, edges and parts as they were written. `check` tests that
+//! the transactions and edges are a graph, that the parts are an order of this graph, that rates fall, and that the flows
+//! certify each part. `Ok` says that the parts are optimal for the whole graph.
 #![tactic(auto)]
 
 mod chains;

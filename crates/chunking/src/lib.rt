@@ -1,4 +1,4 @@
-//! Chunking: what a given order of transactions is worth, as parts of falling fee rate.
+//! Chunking: the parts (chunks) of falling feerate of a given order of transactions.
 //!
 //! Each transaction is put behind the parts so far as a part of its own; while the last part's rate is
 //! greater than that of the part before it, the two are joined. An order has exactly one list of parts in

@@ -5,9 +5,9 @@ use outside::NoMemory;
 use std::alloc::Global;
 use std::marker::Model;
 
-/// The room that a solver works in, and the flow that the last call left there.
+/// The memory that a solver works in, and the flow that the last call left there.
 ///
-/// All memory is taken when it is made. It has room for 64·W places.
+/// [`new`](Scratch::new) takes all of it, for at most 64·W places.
 #[derive(Drop)]
 pub struct Scratch<const W: usize> {
     pub(crate) network: Network<W>,
@@ -31,7 +31,7 @@ impl<const W: usize> Scratch<W> {
     ghost use Rattle.std.specs.Prelude.{◌≡◌, ℕ, IfOk};
     ghost use Rattle.closure_flow.specs.Scratches.{flow_of};
 
-    /// Room for 64·W places, in which nothing flows.
+    /// Makes room for 64·W places, in which nothing flows. Fails where there is no memory.
     pub fn new(alloc: Global) -> Result<Self, NoMemory>
         ensures flow { IfOk result (λ s. (c p : ℕ) → flow_of s c p ≡ 0) }
         ensures given { IfOk result (λ s. s.given ≡ 0) }
@@ -41,7 +41,7 @@ impl<const W: usize> Scratch<W> {
         Ok(Scratch { network, queue })
     }
 
-    /// What a child sends to a parent. It is 0 where one of them is not of the set that was solved last.
+    /// The amount that a child sends to a parent: 0 where one of them is not of the set that was solved last.
     pub fn flow(&self, child: usize, parent: usize) -> u128
         ensures { result ≡ flow_of self.now child parent }
     {

@@ -30,12 +30,18 @@ pub enum Outcome<const W: usize> {
     Balanced,
 }
 
-/// Finds a closed set of greatest weight among the places of a set, or a balanced flow that shows that none has
+/// Finds a closed set of greatest weight among the places of `within`, or a balanced flow that shows that no closed set has
 /// positive weight.
 ///
-/// Weights and parents are given by place. The weights of the set sum to 0, and their absolute values to less than
-/// 2^126. It takes no memory: it works in `scratch`, where a balanced flow is left. Each place that it begins with, and
-/// each that it takes from a queue, is a step.
+/// Weights and parents are given by place. The weights of the set sum to 0, and their absolute values to less than 2^126: for
+/// transactions they are satoshis times virtual bytes.
+///
+/// Takes no memory: the call works in `scratch`, and leaves a balanced flow there. Counts as a step each place that the solve
+/// begins with, and each that it takes from its queue: for n places at least n steps, and at most (n+2)^4 + (n+2), whatever the
+/// weights are.
+///
+/// This is the maximum closure problem. A closed set of greatest weight is the source's side of a minimum cut, and the solver
+/// augments along shortest paths, as Edmonds and Karp do.
 pub fn solve<L: Ledger, const W: usize>(
     scratch: &mut Scratch<W>,
     weights: &[i128],

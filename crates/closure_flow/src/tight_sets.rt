@@ -15,11 +15,11 @@ use crate::{Queue, Scratch};
 use bitset::Bits;
 use step_count::{Ledger, Steps};
 
-/// The least set that is closed within a set, holds one of its places and has weight 0.
+/// The least set that is closed within `within`, holds `place` and has weight 0.
 ///
 /// The last call of [`solve`](crate::solve) on this scratch had these parents and this set, and answered
-/// [`Balanced`](crate::Outcome::Balanced): weights and weight are those of that call. The flow that it left stays. It
-/// takes no memory, and each place of the set that it answers is a step, as the queue gives it.
+/// [`Balanced`](crate::Outcome::Balanced). The weights are those of that call, and the flow that it left stays. Takes no memory,
+/// and counts as a step each place of the set that is answered.
 pub fn tight<L: Ledger, const W: usize>(
     scratch: &mut Scratch<W>,
     parents: &[Bits<W>],
@@ -49,10 +49,10 @@ pub fn tight<L: Ledger, const W: usize>(
     )
 }
 
-/// The smallest set that is closed within a set, has at least one place and has weight 0.
+/// The smallest set that is closed within `within`, has at least one place and has weight 0.
 ///
-/// What holds before and after it is as of [`tight`], but that of n places at most n² are steps. Each place that the queue
-/// gives is one, and no other.
+/// The same holds before and after the call as of [`tight`], but for the steps: of n places the call takes at most n². Each place
+/// that the queue gives is a step, and no other.
 pub fn smallest_tight<L: Ledger, const W: usize>(
     scratch: &mut Scratch<W>,
     parents: &[Bits<W>],

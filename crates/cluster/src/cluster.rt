@@ -28,9 +28,11 @@ use std::alloc::Global;
 use std::marker::Model;
 use step_count::{Ledger, Steps};
 
-/// A part of a cluster's order, lent: its total fee in satoshis and its total size in virtual bytes, its names in their
-/// order, and the flows that show that no closed set within it has a greater rate. Amounts are satoshis times virtual
-/// bytes. The flows stand by child, then by parent, in the order of the names.
+/// A part (chunk) of a cluster's order, lent.
+///
+/// The part has its total fee in satoshis and its total size in virtual bytes, its names in their order, and the flows that
+/// show that no closed set within it has a greater feerate. Amounts are satoshis times virtual bytes. Flows are listed by child,
+/// then by parent, in the order of the names.
 #[derive(Clone, Copy)]
 pub struct PartRef<'a> {
     pub rate: FeeRate,
@@ -38,8 +40,13 @@ pub struct PartRef<'a> {
     pub flows: &'a [Flow],
 }
 
-/// A cluster: transactions that dependencies join, each with its name, its fee in satoshis and its size in virtual bytes,
-/// the ancestor relation between them, and an optimal order of them, in parts with the flows that certify it.
+/// A cluster: transactions that dependencies connect, and an optimal order of them.
+///
+/// Each transaction has a name, a fee in satoshis and a size in virtual bytes. The cluster keeps who is an ancestor of whom, and
+/// not the dependencies that this came from. The order stands in parts of falling feerate, each with the flows that certify it,
+/// and no part can be split into two of the same feerate.
+///
+/// A call that makes a cluster fails only where there is no memory.
 #[derive(Drop)]
 pub struct Cluster<const W: usize> {
     // the name of each place of the graph; the places are the numbers from 0 on
@@ -70,7 +77,7 @@ impl<const W: usize> Model for Cluster<W> {
 }
 
 impl<const W: usize> Cluster<W> {
-    /// The cluster of one name, with its fee in satoshis and its size in virtual bytes. Its order takes no step.
+    /// Makes the cluster of one name, with its fee in satoshis and its size in virtual bytes. The solver takes no step.
     pub fn single<L: Ledger>(
         alloc: Global,
         id: TxId,
@@ -93,7 +100,8 @@ impl<const W: usize> Cluster<W> {
         certified(alloc, names, dep, &work.guess, &mut work.room, steps)
     }
 
-    /// The cluster in which `child` depends on `parent`, both names of this one. This one stays as it is.
+    /// Makes the cluster in which `child` depends on `parent`. Both are names of this cluster, which stays as it is. For n names
+    /// the solver takes at most 2·(n+2)^5 steps.
     pub fn linked<L: Ledger>(
         &self,
         alloc: Global,
@@ -127,8 +135,9 @@ impl<const W: usize> Cluster<W> {
         certified(alloc, names, dep, &work.guess, &mut work.room, steps)
     }
 
-    /// The cluster of the names of both, where `child` depends on `parent`, the one a name of this, the other of the other.
-    /// The names of this come first. Both clusters stay as they are.
+    /// Makes one cluster of two, in which `child` depends on `parent`: one of them is a name of this cluster, the other one of
+    /// `other`. The names of this cluster come first. Both clusters stay as they are. For n names together the solver takes at
+    /// most 2·(n+2)^5 steps.
     pub fn joined<L: Ledger>(
         &self,
         alloc: Global,
@@ -165,8 +174,9 @@ impl<const W: usize> Cluster<W> {
         certified(alloc, names, dep, &work.guess, &mut work.room, steps)
     }
 
-    /// The clusters that are left without some names: one for each component of the other names, which keep the ancestors
-    /// that they had among them. This cluster stays as it is.
+    /// Makes the clusters that are left without some names: one for each component of the other names, which keep the ancestors
+    /// that they had among them. This cluster stays as it is. The solver takes at most the sum of 2·(n+2)^5 steps over the
+    /// components of n names.
     pub fn without<L: Ledger>(
         &self,
         alloc: Global,
@@ -203,7 +213,8 @@ impl<const W: usize> Cluster<W> {
         Ok(ClusterList { clusters })
     }
 
-    /// The cluster in which a name of this one has another fee, in satoshis. This one stays as it is.
+    /// Makes the cluster in which a name of this one has this fee, in satoshis. This cluster stays as it is. For n names the solver
+    /// takes at most 2·(n+2)^5 steps.
     pub fn with_fee<L: Ledger>(
         &self,
         alloc: Global,
@@ -227,7 +238,7 @@ impl<const W: usize> Cluster<W> {
         certified(alloc, names, dep, &work.guess, &mut work.room, steps)
     }
 
-    /// Whether the one name is an ancestor of the other, both names of this cluster.
+    /// Whether `a` is an ancestor of `b`. Both are names of this cluster, and each is an ancestor of itself.
     pub fn reaches(&self, a: TxId, b: TxId) -> bool
         requires a_in { Contains self.now.names a }
         requires b_in { Contains self.now.names b }
@@ -323,7 +334,7 @@ impl<const W: usize> Cluster<W> {
         unreachable!()
     }
 
-    /// The parents of a name of the cluster with nothing between, in the cluster's order. Takes no memory.
+    /// The parents of a name with no third name between, in the cluster's order. Takes no memory.
     pub fn covers(&self, id: TxId) -> Covers<'_, W>
         requires { Contains self.now.names id }
         ensures { ListsInOrder (λ a. IsCover self.now.graph a id) (flat_map (λ part. part.ids) self.now.parts) result }
@@ -336,7 +347,7 @@ impl<const W: usize> Cluster<W> {
         )
     }
 
-    /// Fee and size of a name of the cluster.
+    /// The fee of a name, in satoshis, and its size, in virtual bytes.
     pub fn rate(&self, id: TxId) -> FeeRate
         requires { Contains self.now.names id }
         ensures { result ≡ rate_of self.now.graph id }
@@ -345,7 +356,7 @@ impl<const W: usize> Cluster<W> {
         self.dep.rate(place_of(self.names.as_slice(), id))
     }
 
-    /// Fee and size of the name at a position of `names`. It costs no search for the name.
+    /// The fee and the size of the name at a position of `names`, without a search for the name.
     pub fn rate_at(&self, at: usize) -> FeeRate
         requires { at < length self.now.names }
         ensures { result ≡ rate_of self.now.graph (slice_index self.now.names at) }
@@ -355,7 +366,7 @@ impl<const W: usize> Cluster<W> {
         self.dep.rate(at)
     }
 
-    /// The total size of its names, in virtual bytes.
+    /// The total size of the names, in virtual bytes.
     pub fn size(&self) -> u64
         requires { length self.now.names ≤ MAX_TOTAL }
         ensures sum { result ≡ sum_by (λ id. (rate_of self.now.graph id).size) self.now.names }
@@ -381,7 +392,7 @@ impl<const W: usize> Cluster<W> {
         list_chosen(self.names.as_slice(), &all, out);
     }
 
-    /// Leaves the ancestors of a name of the cluster in `out`, in rising order, itself among them. Takes no memory.
+    /// Leaves the ancestors of a name in `out`, itself among them, in rising order. Takes no memory.
     pub fn list_ancestors(&self, id: TxId, out: &mut IdBuf)
         requires id { Contains self.now.names id }
         requires room { 64 * W ≤ length out.old.ids + out.old.room }
@@ -393,7 +404,7 @@ impl<const W: usize> Cluster<W> {
         list_chosen(self.names.as_slice(), &self.dep.ancestors(place), out);
     }
 
-    /// Leaves the descendants of a name of the cluster in `out`, in rising order, itself among them. Takes no memory.
+    /// Leaves the descendants of a name in `out`, itself among them, in rising order. Takes no memory.
     pub fn list_descendants(&self, id: TxId, out: &mut IdBuf)
         requires id { Contains self.now.names id }
         requires room { 64 * W ≤ length out.old.ids + out.old.room }

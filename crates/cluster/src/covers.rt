@@ -7,7 +7,7 @@ use bitset::Bits;
 use graphs::TxId;
 use std::marker::Model;
 
-/// Parents of a name with nothing between, in the order of their cluster. Contracts see those that are still to come.
+/// The parents of a name with no third name between, in the order of their cluster. Contracts see those that are still to come.
 #[derive(Drop)]
 pub struct Covers<'a, const W: usize> {
     names: &'a [TxId],

@@ -1,7 +1,8 @@
-//! The order that stood before a change, by the places that its names have now: most of it stays as it was, and isn't solved again. A
-//! part is known where its names keep their fees, their sizes and the relation among themselves. Of a part that has changed the solver
-//! takes the names one by one, and a name that isn't found is left out. That has no say in the answer, which is optimal whatever the
-//! solver tried, only in how soon it comes. So clauses speak of parts that are known, and of no others.
+//! The order that stood before a change, by the places that its names have now. Most parts stay as they were and aren't solved again.
+//!
+//! A part is known where its names keep their fees, their sizes and the relation among themselves. Of a part that has changed the solver
+//! takes the names one by one, and a name that isn't found is left out. The guess has no say in the answer, which is optimal whatever the
+//! solver tried, only in how soon the answer comes. So clauses speak of parts that are known, and of no others.
 
 ghost use Rattle.std.specs.Prelude.{◌≡◌, ◌⊎◌, ℕ, ◌*◌, ◌<◌, ◌≤◌, ◌∷◌, ◌++◌, [], true, false, length, slice_index, Contains};
 ghost use Rattle.std.specs.FinSet as set;
@@ -101,14 +102,18 @@ pub(crate) fn guess_joined<const W: usize>(
 {
     guess.clear();
     let slots = Slots::new(names);
-    let mut one = Side::new(first, parent, child);
-    let mut other = Side::new(second, parent, child);
+    let is_first = slots.find(names, parent) < first.names().len();
+    let mut one = Side::new(first, parent, child, is_first);
+    let mut other = Side::new(second, parent, child, !is_first);
     let waits = is_lower_of(
         rate_of_either(first, one.parent, second, other.parent),
         rate_of_either(first, one.child, second, other.child),
     );
     // each part has a name, so that there are no more parts than names
     for _ in 0..names.len() {
+        if one.rate.is_none() && other.rate.is_none() {
+            break;
+        }
         put_either(
             first, &mut one, second, &mut other, waits, names, &slots, guess,
         );
@@ -149,13 +154,22 @@ struct Side {
 }
 
 impl Side {
-    // Before the first part.
-    fn new<const W: usize>(cluster: &Cluster<W>, parent: TxId, child: TxId) -> Self {
+    // Before the first part of the cluster that has the parent, or else the child.
+    fn new<const W: usize>(cluster: &Cluster<W>, parent: TxId, child: TxId, above: bool) -> Self {
+        let count = cluster.part_count();
         Side {
             next: 0,
             rate: rate_at(cluster, 0),
-            parent: find_part(cluster, parent),
-            child: find_part(cluster, child),
+            parent: if above {
+                find_part(cluster, parent)
+            } else {
+                count
+            },
+            child: if above {
+                count
+            } else {
+                find_part(cluster, child)
+            },
         }
     }
 

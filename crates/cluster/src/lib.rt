@@ -1,9 +1,20 @@
 //! Clusters that always hold an optimal order.
 //!
 //! A [`Cluster<W>`] is one component of the transaction graph, told by names: its transactions, who is an ancestor of whom,
-//! and an order of them in parts of falling rate, each with the flow that shows that no order is better. Five calls make
-//! clusters out of others, which stay as they are; each solves the clusters that it makes, once. The solver first tries the
-//! order that was there before, which has no say in what it finds.
+//! and an optimal order in parts of falling feerate, each with the flow that certifies it. A *part* is what Bitcoin Core calls a
+//! chunk.
+//!
+//! # How it works
+//!
+//! Five calls make clusters: [`single`](Cluster::single) of one transaction, and `linked`, `joined`, `without` and `with_fee` of
+//! other clusters, which stay as they are. Each solves the clusters that it makes, once. The solver is handed the order that
+//! was there before. That order has no say in what the solver finds, only in how soon.
+//!
+//! A part of the old order whose names keep their fees, their sizes and the relation among themselves is *known*, and isn't
+//! solved again. With another fee, the parts without that name are known. With a new dependency, those that have no name
+//! above it or none below it are known, but not the child's part where it stands before the parent's. Where two clusters join,
+//! all parts are known, but not the child's where it had to wait for the parent's. Where names go, the parts that keep all
+//! their names are known.
 #![tactic(auto)]
 
 mod cluster;

@@ -1,7 +1,7 @@
-ghost use Rattle.std.specs.Prelude.{◌≡◌, ℕ, ◌*◌, ◌+◌, ◌<◌, ◌≤◌, ◌++◌, [], ◌∷◌, length, get_or, slice_index, map, take, drop, ◌-◌, Contains, IfOk, OnOk};
+ghost use Rattle.std.specs.Prelude.{◌≡◌, ℕ, ◌*◌, ◌+◌, ◌<◌, ◌≤◌, ◌++◌, [], ◌∷◌, true, length, get_or, slice_index, map, take, drop, ◌-◌, Contains, IfOk, OnOk};
 ghost use Rattle.std.specs.List.Sorted.{IsPermutation};
 ghost use Rattle.lists.specs.Distinct.{AreDistinct};
-ghost use Rattle.cluster.specs.Orders.{at_positions, named_at, AreRising, AreBelow, AddsFlows, IsPlaced, IsRead, StandAt};
+ghost use Rattle.cluster.specs.Orders.{at_positions, named_at, AreRising, AreBelow, IsNoLater, AddsFlows, IsPlaced, IsRead, StandAt};
 ghost use Rattle.cluster.specs.Kept.{end_of, no_end, sum_in};
 ghost use Rattle.linearize.specs.Graphs.{sum_from};
 
@@ -174,9 +174,62 @@ fn add_flows(
     requires within { AreBelow (length order.now) (map (at_positions positions.now) own.now) }
     ensures { OnOk result (AddsFlows own.now positions.now order.now flows.old.items flows.new.items) }
 {
+    if rise(own, positions) {
+        name_risen(own, positions, order, flows)?;
+        return Ok(());
+    }
     move_flows(own, positions, moved)?;
     sort_flows(moved);
     name_flows(moved.as_slice(), order, flows)
+}
+
+// Whether flows stand by child and then by parent in the order's positions, as those of a part that was known do.
+fn rise(own: &[PlaceFlow], positions: &[usize]) -> bool
+    requires { AreBelow (length positions.now) own.now }
+    ensures { result ≡ true → AreRising (map (at_positions positions.now) own.now) }
+{
+    for at in 1..own.len() {
+        if !is_no_later(own[at - 1], own[at], positions) {
+            return false;
+        }
+    }
+    true
+}
+
+// Whether a flow stands no later than another, by child and then by parent in the order's positions.
+fn is_no_later(a: PlaceFlow, b: PlaceFlow, positions: &[usize]) -> bool
+    requires a { (a.child < length positions.now) × (a.parent < length positions.now) }
+    requires b { (b.child < length positions.now) × (b.parent < length positions.now) }
+    ensures { result ≡ true → IsNoLater (at_positions positions.now a) (at_positions positions.now b) }
+{
+    let child = positions[a.child];
+    let other = positions[b.child];
+    if child != other {
+        return child < other;
+    }
+    positions[a.parent] <= positions[b.parent]
+}
+
+// Adds flows by the names of their places, which stand at positions.
+fn name_risen(
+    own: &[PlaceFlow],
+    positions: &[usize],
+    order: &[TxId],
+    flows: &mut Vec<Flow>,
+) -> Result<(), NoMemory>
+    requires there { AreBelow (length positions.now) own.now }
+    requires within { AreBelow (length order.now) (map (at_positions positions.now) own.now) }
+    ensures { OnOk result (flows.new.items ≡ flows.old.items ++ map (named_at order.now) (map (at_positions positions.now) own.now)) }
+{
+    for at in 0..own.len() {
+        let flow = own[at];
+        flows.push(Flow {
+            child: order[positions[flow.child]],
+            parent: order[positions[flow.parent]],
+            amount: flow.amount,
+        })?;
+    }
+    Ok(())
 }
 
 // Leaves flows by the positions of their places.

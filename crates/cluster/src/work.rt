@@ -6,7 +6,7 @@ use outside::NoMemory;
 use std::alloc::Global;
 use std::marker::Model;
 
-/// The room in which the orders of clusters of at most 64·W names are made.
+/// The memory in which the orders of clusters of at most 64·W names are made. One value serves all clusters.
 #[derive(Drop)]
 pub struct Work<const W: usize> {
     // the order before a change

@@ -1,6 +1,5 @@
 -- What is kept where clusters change.
-use Rattle.std.proofs.Common.{◌≡◌, ℕ, ◌*◌, ◌≤◌, ◌==◌, true, count_by, map, Option, Some, None, IsSome, is_some, Contains, inl, inr, refl, sym, ap, ◌∙◌, subst}
-use Rattle.std.proofs.lemmas.Bool.{cases_eq}
+use Rattle.std.proofs.Common.{◌≡◌, ℕ, ◌*◌, ◌≤◌, ◌==◌, true, count_by, map, Option, Some, None, IsSome, is_some, Contains, refl, sym, ap, ◌∙◌, subst}
 use Rattle.std.proofs.lemmas.Option.{none-some, same_Some}
 use Rattle.std.specs.Cmp.{unsigned_Decides}
 use Rattle.std.specs.FinMap as finmap
@@ -65,23 +64,12 @@ module _ (slots slots' : Slots) (stood : (m : ℕ) (s : Stored) → at slots' m 
         subst (λ c. least ≤ (rate_of c.graph id).size) old.2 (kept.floor m old.0 old.1 id (subst (λ c. Contains c.names id) (sym old.2) here));
   }
 
--- a cluster that stands where one moved stood under the same number before
-module _ (slots slots' : Slots) (n : ℕ) (to : Option Tag) (moves : MovesIn slots slots' n to) where
-  pub stood : (m : ℕ) (s : Stored) → at slots' m ≡ Some s → (t : Stored) × (at slots m ≡ Some t) × (t.cluster ≡ s.cluster)
-  stood m s is = elim (cases_eq m n) [
-    | inl same ↦
-        let old = moved_cluster to (at slots n) s (sym moves.changed ∙ ap (at slots') (sym same) ∙ is) in
-        (old.0, ap (at slots) same ∙ old.1, old.2)
-    | inr other ↦ (s, sym (moves.others m other) ∙ is, refl)
-  ]
-
-  pub kept_moved : (w : ℕ) (items items' : Items) (least : ℕ) → IsKept w slots items least → IsShown slots' items' → IsKept w slots' items' least
-  kept_moved = kept_stood slots slots' stood
-
-  pub shelved_moved : (old new : Numbered) → shelved slots ≡ old → shelved slots' ≡ new → Sets n (moved_to to (finmap.get old n)) old new
-  shelved_moved old new is is' =
-      subst (λ (o : Option Stored). Sets n (moved_to to o) old new) (shelved_at slots n old is)
-      (shelved_written slots slots' n (moved_to to (at slots n)) moves old new is is')
+-- one cluster moved, and so one number has another content
+pub shelved_moved : (slots slots' : Slots) (n : ℕ) (to : Option Tag) → MovesIn slots slots' n to → (old new : Numbered) → shelved slots ≡ old → shelved slots' ≡ new
+    → Sets n (moved_to to (finmap.get old n)) old new
+shelved_moved slots slots' n to moves old new is is' =
+    subst (λ (o : Option Stored). Sets n (moved_to to o) old new) (shelved_at slots n old is)
+    (shelved_written slots slots' n (moved_to to (at slots n)) moves old new is is')
 
 pub shelved_there : (slots : Slots) (n : ℕ) (clusters : Numbered) → shelved slots ≡ clusters → IsSome (finmap.get clusters n) → IsSome (at slots n)
 shelved_there slots n clusters is there = ap is_some (shelved_at slots n clusters is) ∙ there

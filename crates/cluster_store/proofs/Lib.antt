@@ -32,3 +32,12 @@ pub mod Told
 pub mod RateWalks
 pub mod Tails
 pub mod Settled
+pub mod Listed
+pub mod Seen
+pub mod Coming
+pub mod Following
+pub mod Arriving
+pub mod Origins
+pub mod Turning
+pub mod Listing
+pub mod Callers

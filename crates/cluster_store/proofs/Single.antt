@@ -1,70 +1,15 @@
--- One cluster comes in, or takes the place of another.
-use Rattle.std.proofs.Common.{false, true, ◌≡◌, ℕ, ◌*◌, ◌≤◌, [], ◌∷◌, Option, Some, None, is_some, IsSome, Contains, inl, inr, refl, sym, ap, ◌∙◌, subst, arith}
-use Rattle.std.proofs.lemmas.Bool.{cases_eq}
-use Rattle.std.proofs.lemmas.Option.{none-some, same_Some}
+-- One cluster takes the place of another.
+use Rattle.std.proofs.Common.{◌≡◌, ℕ, [], Option, Contains, subst}
 use Rattle.std.specs.FinMap as finmap
-use Rattle.lists.proofs.Entries.{Contains-head, none_in_empty}
-use Rattle.graphs.specs.Closures.{rate_of}
+use Rattle.lists.proofs.Entries.{none_in_empty}
 use Rattle.chunk_index.specs.Items.{Items}
-use Rattle.cluster.specs.Clusters.{Cluster, IsCluster}
+use Rattle.cluster.specs.Clusters.{Cluster}
 use Rattle.cluster_store.specs.Stores.{Stored, Exchange, Numbered}
-use Rattle.cluster_store.specs.Changes.{with_cluster, lowest_in, EndsAt, Sets}
-use Rattle.cluster_store.specs.Slots.{Places, Writes, IsBeside, KeepsElsewhere}
-use Rattle.cluster_store.specs.Kept.{Slots, at, shelved, IsShown, IsKept}
+use Rattle.cluster_store.specs.Changes.{with_cluster, Sets}
+use Rattle.cluster_store.specs.Slots.{Places, IsBeside, KeepsElsewhere}
+use Rattle.cluster_store.specs.Kept.{Slots, at, shelved, IsShown}
 use Rattle.cluster_store.proofs.Wide.{beside_before, wide_begins, wide_ends, wide_more, wide_fewer}
 use Rattle.cluster_store.proofs.Kept.{shelved_at, shelved_written}
-use Rattle.cluster_store.proofs.Changed.{lowest_in_le, lowest_in_each}
-
-pub some_now : (o : Option Stored) (s : Stored) → o ≡ Some s → IsSome o
-some_now o s is = ap is_some is
-
-pub placed_cluster : (c : Cluster) (o : Option Stored) (s : Stored) → with_cluster c o ≡ Some s → s.cluster ≡ c
-placed_cluster c None s is = absurd (none-some s is)
-placed_cluster c (Some t) s is = sym (ap (λ (u : Stored). u.cluster) (same_Some (record { cluster = c; tag = t.tag }) s is))
-
-pub placed_some : (c : Cluster) (o : Option Stored) → IsSome o → IsSome (with_cluster c o)
-placed_some c None some = some
-placed_some c (Some t) some = refl
-
-pub added_cluster : (s t : Stored) → ◌≡◌ {A = Option Stored} (Some s) (Some t) → t.cluster ≡ s.cluster
-added_cluster s t is = sym (ap (λ (u : Stored). u.cluster) (same_Some s t is))
-
--- the least size, of a cluster that is told by another word
-pub lowest_alike : (least from : ℕ) (c d : Cluster) → c ≡ d → least ≡ lowest_in (c ∷ []) from → least ≡ lowest_in (d ∷ []) from
-lowest_alike least from c d same e = e ∙ ap (λ (x : Cluster). lowest_in (x ∷ []) from) same
-
--- where a cluster stands, the bound of sizes is the one that was found
-pub ends_there : (clusters : Numbered) (n least : ℕ) → IsSome (finmap.get clusters n) → EndsAt clusters least least
-ends_there clusters n least some = record {
-  none = λ none. absurd (apart (sym (ap is_some (none n)) ∙ some));
-  some = λ m s is. refl;
-}
-  where
-    apart : false ≡ true → ⊥
-    apart e = cc
-
-module _ (slots slots' : Slots) (n : ℕ) (o : Option Stored) (writes : Writes slots slots' n o) where
-  -- what stands there came with the change, or stood there
-  came : (P : Cluster → Type 0) → ((s : Stored) → o ≡ Some s → P s.cluster) → ((m : ℕ) (s : Stored) → at slots m ≡ Some s → P s.cluster)
-      → (m : ℕ) (s : Stored) → at slots' m ≡ Some s → P s.cluster
-  came P now before m s is = elim (cases_eq m n) [
-    | inl same ↦ now s (sym writes.changed ∙ ap (at slots') (sym same) ∙ is)
-    | inr other ↦ before m s (sym (writes.others m other) ∙ is)
-  ]
-
-  -- what is kept where the one that comes is this cluster
-  pub kept_written : (w : ℕ) (c : Cluster) (items items' : Items) (least : ℕ)
-      → ((s : Stored) → o ≡ Some s → s.cluster ≡ c) → IsCluster (64 * w) c → IsKept w slots items least
-      → IsShown slots' items' → IsKept w slots' items' (lowest_in (c ∷ []) least)
-  kept_written w c items items' least is whole kept shown = record {
-    narrow = kept.narrow;
-    shown = shown;
-    whole = came (IsCluster (64 * w)) (λ s there. subst (IsCluster (64 * w)) (sym (is s there)) whole) kept.whole;
-    floor = came (λ d. (id : ℕ) → Contains d.names id → lowest_in (c ∷ []) least ≤ (rate_of d.graph id).size)
-        (λ s there. subst (λ (d : Cluster). (id : ℕ) → Contains d.names id → lowest_in (c ∷ []) least ≤ (rate_of d.graph id).size) (sym (is s there))
-        (λ id named. lowest_in_each (c ∷ []) least c id (Contains-head c []) named))
-        (λ m s there id named. let one = kept.floor m s there id named in let two = lowest_in_le (c ∷ []) least in omega (arith, one, two));
-  }
 
 pub shelved_placed : (slots slots' : Slots) (n : ℕ) (c : Cluster) → Places slots slots' n c → (old new : Numbered) → shelved slots ≡ old → shelved slots' ≡ new
     → Sets n (with_cluster c (finmap.get old n)) old new

@@ -1,5 +1,5 @@
 -- Entries taken from the end of a walk, one after another.
-use Rattle.std.proofs.Common.{◌≡◌, ◌⊎◌, ℕ, ◌+◌, ◌≤◌, pos, ◌≤ℤ◌, true, false, List, [], ◌∷◌, ◌++◌, map, Option, None, Some, inl, inr, refl, sym, ap, ◌∙◌, subst, append_assoc, arith}
+use Rattle.std.proofs.Common.{◌≡◌, ◌⊎◌, ℕ, ◌+◌, ◌≤◌, true, false, List, [], ◌∷◌, ◌++◌, map, Option, None, Some, inl, inr, refl, sym, ap, ◌∙◌, subst, append_assoc, arith}
 use Rattle.std.proofs.lemmas.List.{append-nil, map-append}
 use Rattle.std.proofs.lemmas.List.Elements.{Contains-append_right}
 use Rattle.std.specs.Cmp.{tied_itself}
@@ -49,14 +49,6 @@ taken_enough size short all left first taken why = record {
   starts = taken.starts;
   enough = elim why [ inl none ↦ inr (omega (arith, taken.sizes, none)) | inr paid ↦ inl paid ];
 }
-
--- a list that ends with a fee of at least 0 ends so
-pub last_paid : (all front : List Entry) (entry : Entry) → all ≡ front ++ entry ∷ [] → pos 0 ≤ℤ entry.rate.fee → EndPaid (map entry_rate all)
-last_paid all front entry is paid =
-    inr (map entry_rate front, entry_rate entry, ap (map entry_rate) is ∙ map-append entry_rate front (entry ∷ []), paid)
-
-pub none_paid : (all : List Entry) → all ≡ [] → EndPaid (map entry_rate all)
-none_paid all none = inl (ap (map entry_rate) none)
 
 -- ---- a walk from the first of them on
 

@@ -7,3 +7,4 @@ pub mod Changes
 pub mod Keys
 pub mod Kept
 pub mod Rates
+pub mod Tops

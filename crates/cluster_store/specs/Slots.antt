@@ -11,7 +11,6 @@ use Rattle.chunk_index.specs.declared.entry.Tag.TheVariants.{MainOnly, TopOnly}
 use Rattle.chunk_index.specs.declared.key.Key.{Key}
 use Rattle.chunk_index.specs.Items.{Items}
 use Rattle.cluster.specs.Clusters.{Cluster}
-use Rattle.cluster_store.specs.declared.stored.Move.{Move}
 use Rattle.cluster_store.specs.Stores.{Stored, Exchange}
 use Rattle.cluster_store.specs.Changes.{moved_to, with_cluster}
 use Rattle.cluster_store.specs.Kept.{Slots, at, found, tag_wide, StaysSorted}
@@ -47,10 +46,6 @@ pub record AddsTo (added : List Stored) (numbers : List ℕ) (old new : Slots) :
   pub free : (number : ℕ) → Contains numbers number → at old number ≡ None
   pub stand : (i : ℕ) (s : Stored) → slice_get added i ≡ Some s → at new (slice_index numbers i) ≡ Some s
   pub others : (number : ℕ) → (Contains numbers number → ⊥) → at new number ≡ at old number
-
--- each of these moved
-abbrev pub MovesAll : List Move → Slots → Slots → Type 0
-MovesAll = Done (λ m. m.number) (λ m. moved_to m.to)
 
 abbrev pub Places : Slots → Slots → ℕ → Cluster → Type 0
 Places old new number c = Writes old new number (with_cluster c (at old number))

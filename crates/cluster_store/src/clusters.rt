@@ -5,10 +5,10 @@ ghost use Rattle.slab.specs.Slab.{get, Updates, SameValues};
 ghost use Rattle.chunk_index.specs.Keys.{key_of};
 ghost use Rattle.cluster_store.specs.Stores.{Stored as Kept, key_in, parts_in};
 ghost use Rattle.cluster_store.specs.Kept.{IsSameIndex, IsShown, IsWide};
-ghost use Rattle.cluster_store.specs.Slots.{AddsOne, AddsTo, AreOut, AreStored, ExchangesAll, IsBeside, KeepsElsewhere, MovesAll, MovesIn, Places};
+ghost use Rattle.cluster_store.specs.Slots.{AddsOne, AddsTo, AreOut, AreStored, ExchangesAll, IsBeside, KeepsElsewhere, MovesIn, Places};
 
 use crate::entries::{enter, entry_of, leave, retag};
-use crate::stored::{Exchange, Move, Stored};
+use crate::stored::{Exchange, Stored};
 use chunk_index::{ChunkIndex, Entry, Tag};
 use cluster::Cluster;
 use outside::NoMemory;
@@ -142,23 +142,26 @@ pub fn make_move<const W: usize>(
     }
 }
 
-/// Adds clusters under numbers that were free, and answers these.
+/// Adds clusters that are to stand in the levels of a tag under numbers that were free, and answers these.
 ///
 /// # Errors
 /// Where there is no memory for all of them. Those that went in are out again.
-pub fn add_all<const W: usize>(
+pub fn add_clusters<const W: usize>(
     alloc: Global,
     slots: &mut Slab<Stored<W>>,
     index: &mut ChunkIndex,
-    added: Vec<Stored<W>>,
+    clusters: Vec<Cluster<W>>,
+    tag: Tag,
 ) -> Result<Vec<usize>, NoMemory>
     requires { IsShown slots.old.slots index.old }
-    ensures ok { IfOk result (λ numbers. AddsTo added.entry.items numbers.items slots.old.slots slots.new.slots) }
+    ensures ok { IfOk result (λ numbers. AddsTo (map (λ c. record { cluster = c; tag = tag }) clusters.entry.items) numbers.items
+        slots.old.slots slots.new.slots) }
     ensures err { OnErr result (SameValues slots.old slots.new) }
     ensures shown { IsShown slots.new.slots index.new }
 {
     let mut numbers = Vec::new(alloc);
-    for stored in added {
+    for cluster in clusters {
+        let stored = Stored::new(cluster, tag);
         if let Err(error) = add_next(slots, index, stored, &mut numbers) {
             take_all(slots, index, numbers);
             return Err(error);
@@ -199,20 +202,6 @@ pub fn take_all<const W: usize>(
 {
     while let Some(number) = numbers.pop() {
         take_out(slots, index, number);
-    }
-}
-
-/// Takes clusters out, or gives them other tags.
-pub fn move_all<const W: usize>(slots: &mut Slab<Stored<W>>, index: &mut ChunkIndex, moves: &[Move])
-    requires shown { IsShown slots.old.slots index.old }
-    requires there { AreStored (map (λ m. m.number) moves.now) slots.old.slots }
-    ensures moved { MovesAll moves.now slots.old.slots slots.new.slots }
-    ensures shown { IsShown slots.new.slots index.new }
-{
-    let mut left = moves;
-    while let Some((last, rest)) = left.split_last() {
-        make_move(slots, index, last.number, last.to);
-        left = rest;
     }
 }
 

@@ -1,11 +1,11 @@
 //! A bound on sizes that only falls.
-ghost use Rattle.std.specs.Prelude.{◌≡◌, ◌≤◌, ◌++◌, ◌*◌, ◌^◌, ◌-◌, map, min, Contains};
+ghost use Rattle.std.specs.Prelude.{◌≡◌, ◌≤◌, ◌++◌, ◌*◌, ◌^◌, ◌-◌, map, min, Contains, Some, option_to_list};
 ghost use Rattle.graphs.specs.Closures.{rate_of};
-ghost use Rattle.cluster.specs.Clusters.{IsCluster};
-ghost use Rattle.cluster_store.specs.Stores.{Exchange as Kept, Stored as Added};
+ghost use Rattle.cluster.specs.Clusters.{Cluster as Record, IsCluster};
+ghost use Rattle.cluster_store.specs.Stores.{Exchange as Kept};
 ghost use Rattle.cluster_store.specs.Changes.{lowest, lowest_in};
 
-use crate::stored::{Exchange, Stored};
+use crate::stored::Exchange;
 use cluster::Cluster;
 
 /// The least of a number and the sizes of the names of a cluster.
@@ -33,14 +33,25 @@ pub fn lowest_exchanged<const W: usize>(least: u64, exchanged: &[Exchange<W>]) -
     lowest
 }
 
-/// The least of a number and the sizes of the names of clusters that are to be added.
-pub fn lowest_added<const W: usize>(least: u64, added: &[Stored<W>]) -> u64
-    ensures least { result ≡ lowest_in (map (λ s. s.cluster) added.now) least }
-    ensures whole { (s : Added) → Contains added.now s → IsCluster (64 * W) s.cluster }
+/// The least of a number and the sizes of the names of clusters.
+pub fn lowest_of_all<const W: usize>(least: u64, clusters: &[Cluster<W>]) -> u64
+    ensures least { result ≡ lowest_in clusters.now least }
+    ensures whole { (c : Record) → Contains clusters.now c → IsCluster (64 * W) c }
 {
     let mut lowest = least;
-    for at in 0..added.len() {
-        lowest = lowest_of(added[at].cluster(), lowest);
+    for at in 0..clusters.len() {
+        lowest = lowest_of(&clusters[at], lowest);
     }
     lowest
+}
+
+/// The least of a number and the sizes of the names of a cluster, where there is one.
+pub fn lowest_of_last<const W: usize>(least: u64, last: &Option<Cluster<W>>) -> u64
+    ensures least { result ≡ lowest_in (option_to_list last.now) least }
+    ensures whole { (c : Record) → last.now ≡ Some c → IsCluster (64 * W) c }
+{
+    match last {
+        Some(cluster) => lowest_of(cluster, least),
+        None => least,
+    }
 }

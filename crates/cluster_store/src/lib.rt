@@ -2,8 +2,8 @@
 //!
 //! Contracts see clusters under numbers, and the parts of all of them in one order; a level's parts are those of the clusters
 //! that stand in it. The clusters are kept in a slab, their parts in an index in which the serial of an entry is the number of
-//! its cluster. One call makes a whole change: first every entry that differs goes in, and where there is no memory for one,
-//! those that went in come out again; only then are clusters exchanged and old entries taken out, which can't fail.
+//! its cluster. One call makes every change of the top level: first what comes in goes in, and where there is no memory for it,
+//! that comes out again; only then go clusters and entries out, which can't fail.
 #![tactic(auto)]
 
 mod clusters;
@@ -11,6 +11,7 @@ mod entries;
 mod laws;
 mod least;
 mod rate_walk;
+mod rebuilding;
 mod settling;
 mod store;
 mod stored;
@@ -22,5 +23,5 @@ pub use laws::{
 };
 pub use rate_walk::RateWalk;
 pub use store::ClusterStore;
-pub use stored::{Exchange, Move, Stored};
+pub use stored::{Exchange, Made, Stored};
 pub use walk::{PartWalk, Parts, ShownPart};

@@ -1,20 +1,19 @@
-ghost use Rattle.std.specs.Prelude.{◌≡◌, ◌≢◌, ◌↔◌, ◌≤◌, ◌*◌, ◌++◌, ℕ, false, true, None, Some, [], ◌∷◌, map, Contains, IsSome, IfOk, IfSome, OnOk, OnErr, MatchOption};
+ghost use Rattle.std.specs.Prelude.{◌≡◌, ◌≢◌, ◌↔◌, ◌≤◌, ◌*◌, ◌++◌, ℕ, false, true, None, Some, [], ◌∷◌, map, Contains, IsSome, IfOk, IfSome, OnOk, OnErr, MatchOption, option_to_list};
 ghost use Rattle.std.specs.FinMap as finmap;
 ghost use Rattle.graphs.specs.Merges.{Precedes};
 ghost use Rattle.cluster.specs.Clusters.{IsCluster};
 ghost use Rattle.cluster_store.specs.Stores.{Stored as Kept, IsStore, AreWhole, IsLeast, IsOrdered, shown_in, shown_only};
 ghost use Rattle.chunk_index.specs.declared.entry.Tag.TheVariants.{Both};
 ghost use Rattle.cluster_store.specs.Rates.{IsTail};
-ghost use Rattle.cluster_store.specs.Changes.{AreThere, EndsAt, MakesChange, Sets, lowest_in, moved_to, most_least, settled, with_cluster};
+ghost use Rattle.cluster_store.specs.Changes.{AreHeld, EndsAt, ExchangesEach, lowest_in, most_least, settled};
+ghost use Rattle.cluster_store.specs.Tops.{MayLeave, TopChanges};
 
-use crate::clusters::{
-    add, add_all, cluster_of, entry_at, exchange, exchange_all, make_move, move_all, tag_of,
-    take_all,
-};
-use crate::least::{lowest_added, lowest_exchanged, lowest_of};
+use crate::clusters::{cluster_of, entry_at, exchange_all, tag_of};
+use crate::least::{lowest_exchanged, lowest_of_all, lowest_of_last};
 use crate::rate_walk::RateWalk;
+use crate::rebuilding::rebuild;
 use crate::settling::settle;
-use crate::stored::{Exchange, Move, Stored};
+use crate::stored::{Exchange, Made, Stored};
 use crate::tail::first_of_tail;
 use crate::walk::PartWalk;
 use chunk_index::{ChunkIndex, Tag};
@@ -154,40 +153,64 @@ impl<const W: usize> ClusterStore<W> {
         entry_at(&self.slots, a).is_before(&entry_at(&self.slots, b))
     }
 
-    /// Makes a whole change: clusters take the place of others under their numbers, in the same levels; others are added
-    /// under numbers that are free; others go out or get other levels. Answers the numbers of those that were added.
+    /// Clusters of the top level go out, and others come in. Where there is a staging, main stays as it is: what it has too
+    /// stays there, in main alone, and what comes in stands in staging alone; where there is none, all that stands there stands
+    /// in both levels.
     ///
-    /// Entries of the index that are the same for a cluster and the one in its place stay.
+    /// The last of those that come in takes the number of the first that goes out, where main doesn't keep that one. Answers
+    /// the numbers of the others, which were free, and that of the last. Takes no memory but for what comes in.
     ///
     /// # Errors
     /// Where there is no memory for it. All is as it was.
-    pub fn change(
+    pub fn rebuild(
         &mut self,
-        exchanged: Vec<Exchange<W>>,
-        added: Vec<Stored<W>>,
-        moves: &[Move],
-    ) -> Result<Vec<usize>, NoMemory>
-        requires { AreThere exchanged.items moves.now self.old.clusters }
-        ensures change { IfOk result
-            (λ numbers. MakesChange exchanged.entry.items added.entry.items moves.now numbers.items
+        staged: bool,
+        outs: &[usize],
+        rest: Vec<Cluster<W>>,
+        last: Option<Cluster<W>>,
+    ) -> Result<Made, NoMemory>
+        requires { MayLeave staged outs.now self.old.clusters }
+        ensures rebuilt { IfOk result (λ made. TopChanges staged outs.now made.rest.items made.last rest.entry.items last.entry
             self.old.clusters self.new.clusters) }
         ensures least { OnOk result (EndsAt self.new.clusters
-            (lowest_in (map (λ s. s.cluster) added.entry.items) (lowest_in (map (λ x. x.cluster) exchanged.entry.items) self.old.least))
-            self.new.least) }
+            (lowest_in (rest.entry.items ++ option_to_list last.entry) self.old.least) self.new.least) }
+        ensures err { OnErr result (self.new ≡ self.old) }
+        ensures store { IsStore (64 * W) self.new }
+    {
+        let least = lowest_of_all(self.least, rest.as_slice());
+        let least = lowest_of_last(least, &last);
+        let made = rebuild(
+            self.alloc,
+            &mut self.slots,
+            &mut self.index,
+            staged,
+            outs,
+            rest,
+            last,
+        )?;
+        self.least = least;
+        self.begin_anew();
+        Ok(made)
+    }
+
+    /// Puts clusters in the places of others under their numbers, in the same levels. Entries of the index that are the same
+    /// for a cluster and the one in its place stay.
+    ///
+    /// # Errors
+    /// Where there is no memory for it. All is as it was.
+    pub fn exchange(&mut self, exchanged: Vec<Exchange<W>>) -> Result<(), NoMemory>
+        requires { AreHeld exchanged.items self.old.clusters }
+        ensures exchanged { OnOk result (ExchangesEach exchanged.entry.items self.old.clusters self.new.clusters) }
+        ensures least { OnOk result (EndsAt self.new.clusters
+            (lowest_in (map (λ x. x.cluster) exchanged.entry.items) self.old.least) self.new.least) }
         ensures err { OnErr result (self.new ≡ self.old) }
         ensures store { IsStore (64 * W) self.new }
     {
         let least = lowest_exchanged(self.least, exchanged.as_slice());
-        let least = lowest_added(least, added.as_slice());
-        let numbers = add_all(self.alloc, &mut self.slots, &mut self.index, added)?;
-        if let Err(error) = exchange_all(&mut self.slots, &mut self.index, exchanged) {
-            take_all(&mut self.slots, &mut self.index, numbers);
-            return Err(error);
-        }
-        move_all(&mut self.slots, &mut self.index, moves);
+        exchange_all(&mut self.slots, &mut self.index, exchanged)?;
         self.least = least;
         self.begin_anew();
-        Ok(numbers)
+        Ok(())
     }
 
     // Where no cluster is left, any number is a bound of sizes.
@@ -199,54 +222,6 @@ impl<const W: usize> ClusterStore<W> {
         if self.slots.is_empty() {
             self.least = u64::MAX;
         }
-    }
-
-    /// Adds one cluster under a number that is free, and answers the number. It does no more than a change of that one alone.
-    ///
-    /// # Errors
-    /// Where there is no memory for it. All is as it was.
-    pub fn add(&mut self, stored: Stored<W>) -> Result<usize, NoMemory>
-        ensures added { IfOk result (λ number. (finmap.get self.old.clusters number ≡ None)
-            × Sets number (Some stored.entry) self.old.clusters self.new.clusters) }
-        ensures least { OnOk result (EndsAt self.new.clusters (lowest_in (stored.entry.cluster ∷ []) self.old.least) self.new.least) }
-        ensures err { OnErr result (self.new ≡ self.old) }
-        ensures store { IsStore (64 * W) self.new }
-    {
-        let least = lowest_of(stored.cluster(), self.least);
-        let number = add(&mut self.slots, &mut self.index, stored)?;
-        self.least = least;
-        Ok(number)
-    }
-
-    /// Puts one cluster in the place of the one that stands under a number, in the same levels. It does no more than a change
-    /// of that one alone: entries of the index that are the same for both stay.
-    ///
-    /// # Errors
-    /// Where there is no memory for it. All is as it was.
-    pub fn exchange(&mut self, number: usize, cluster: Cluster<W>) -> Result<(), NoMemory>
-        requires { IsSome (finmap.get self.old.clusters number) }
-        ensures exchanged { OnOk result (Sets number (with_cluster cluster.entry (finmap.get self.old.clusters number))
-            self.old.clusters self.new.clusters) }
-        ensures least { OnOk result (EndsAt self.new.clusters (lowest_in (cluster.entry ∷ []) self.old.least) self.new.least) }
-        ensures err { OnErr result (self.new ≡ self.old) }
-        ensures store { IsStore (64 * W) self.new }
-    {
-        let least = lowest_of(&cluster, self.least);
-        let exchanged = Exchange::new(number, cluster);
-        exchange(&mut self.slots, &mut self.index, exchanged)?;
-        self.least = least;
-        Ok(())
-    }
-
-    /// Takes the cluster of a number out, or gives it other levels. Takes no memory.
-    pub fn make_move(&mut self, number: usize, to: Option<Tag>)
-        requires { IsSome (finmap.get self.old.clusters number) }
-        ensures moved { Sets number (moved_to to (finmap.get self.old.clusters number)) self.old.clusters self.new.clusters }
-        ensures least { EndsAt self.new.clusters self.old.least self.new.least }
-        ensures store { IsStore (64 * W) self.new }
-    {
-        make_move(&mut self.slots, &mut self.index, number, to);
-        self.begin_anew();
     }
 
     /// Where a staging is closed and a level stays: the clusters of that level stand in both from now on, and the others go out. Takes

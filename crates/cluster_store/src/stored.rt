@@ -25,7 +25,7 @@ impl<const W: usize> Model for Stored<W> {
 
 impl<const W: usize> Stored<W> {
     /// A cluster that is to stand in the levels of a tag.
-    pub fn new(cluster: Cluster<W>, tag: Tag) -> Self
+    pub(crate) fn new(cluster: Cluster<W>, tag: Tag) -> Self
         ensures { result ≡ record { cluster = cluster.entry; tag = tag } }
     {
         Stored { cluster, tag }
@@ -61,13 +61,13 @@ impl<const W: usize> Stored<W> {
     }
 }
 
-/// What becomes of a cluster that is stored.
-#[derive(Clone, Copy, Debug, PartialEq, Eq)]
-pub struct Move {
-    /// The number of the cluster.
-    pub number: usize,
-    /// The levels that it is to stand in, or `None` where it goes out.
-    pub to: Option<Tag>,
+/// The numbers of clusters that came into the top level.
+#[derive(Drop)]
+pub struct Made {
+    /// Those of all but the last one, in their order.
+    pub rest: Vec<usize>,
+    /// That of the last one, where there is one.
+    pub last: Option<usize>,
 }
 
 /// A cluster that is to take the place of the one that stands under a number, in the same levels.

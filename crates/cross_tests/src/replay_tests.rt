@@ -321,10 +321,15 @@ fn faults_give_their_status(rt: HostRuntime) -> Result<(), Fail> {
 }
 
 /// Words that are refused.
-const REFUSED_WORDS: [&[&str]; 3] = [
+const REFUSED_WORDS: [&[&str]; 8] = [
     &["txgraph", "replay", "x"],
     &["txgraph"],
-    &["txgraph", "gen", "1", "4"],
+    &["txgraph", "load"],
+    &["txgraph", "--help"],
+    &["txgraph", "gen", "1"],
+    &["txgraph", "gen", "1", "4", "4"],
+    &["txgraph", "gen", "2147483648", "4"],
+    &["txgraph", "gen", "1", "1000001"],
 ];
 
 fn refused_words() -> &'static [&'static [&'static str]] {
@@ -339,6 +344,51 @@ fn other_words_are_told_the_usage(rt: HostRuntime) -> Result<(), Fail> {
         shows(&rt, rt.alloc(), words, "add 1 1 1\n", even(64), wanted)?;
     }
     Ok(())
+}
+
+/// Words of `gen` with the summaries that they ask for.
+const GENERATED: [(&[&str], &str); 4] = [
+    (
+        &["txgraph", "gen", "1", "4"],
+        "accepted 1\nrefused 3\nmemory 0\ncount 1\ntotal 2010 319\ncorners 2\n",
+    ),
+    (
+        &["txgraph", "gen", "7", "0"],
+        "accepted 0\nrefused 0\nmemory 0\ncount 0\ntotal 0 0\ncorners 1\n",
+    ),
+    (
+        &["txgraph", "gen", "1", "2000"],
+        "accepted 1123\nrefused 877\nmemory 0\ncount 706\ntotal 2630108 378626\ncorners 673\n",
+    ),
+    (
+        &["txgraph", "gen", "2147483647", "300"],
+        "accepted 166\nrefused 134\nmemory 0\ncount 84\ntotal 332705 44436\ncorners 79\n",
+    ),
+];
+
+fn generated() -> &'static [(&'static [&'static str], &'static str)] {
+    &GENERATED
+}
+
+#[test]
+fn generated_commands_are_summed_up(rt: HostRuntime) -> Result<(), Fail> {
+    for (words, summary) in generated() {
+        let wanted = (Status::Done, *summary);
+        shows(&rt, rt.alloc(), words, "add 1 1 1\n", even(64), wanted)?;
+    }
+    Ok(())
+}
+
+/// A sink that is full in the second line of a summary.
+#[test]
+fn a_summary_that_is_cut_off_is_told(rt: HostRuntime) -> Result<(), Fail> {
+    let full = Way {
+        sink_stop: 15,
+        ..even(4)
+    };
+    let wanted = (Status::WriteFault, "accepted 1\nrefu");
+    let words = ["txgraph", "gen", "1", "4"];
+    shows(&rt, rt.alloc(), &words, "", full, wanted)
 }
 
 #[test]

@@ -1,7 +1,12 @@
-//! The dependency graph of a cluster: fees, sizes, and who is an ancestor of whom.
+//! The dependency graph of one cluster: fees, sizes, and who is an ancestor of whom.
 //!
-//! [`DepGraph<W>`] keeps for each place a row: fee and size, the set of its ancestors and that of its descendants. So
-//! each question about them is answered by a few operations on words, and a graph of one member takes no allocation.
+//! # How it works
+//!
+//! [`DepGraph<W>`] keeps a row for each place: a fee, a size, the set of ancestors and the set of descendants. Sets of places are machine
+//! words, so each question takes a few operations on words. A graph of one member takes no allocation.
+//!
+//! Where a graph is made of some members of another, their places are numbered anew in all rows at once, by one step for each power of two up
+//! to the greatest gap: at most six steps for 64 places (`numbering.rt`).
 #![tactic(auto)]
 
 mod graph;

@@ -52,7 +52,7 @@ module _ (a b : PlainState) (valid_a : IsValid a) (valid_b : IsValid b) (same : 
         );
       }
 
-  one_diagram : (level : Level) (p q : List (ℕ × ℤ)) → AreCorners (rate_of a.table) (level_of a level) p
+  pub one_diagram : (level : Level) (p q : List (ℕ × ℤ)) → AreCorners (rate_of a.table) (level_of a level) p
       → AreCorners (rate_of b.table) (level_of b level) q → p ≡ q
   one_diagram level p q one two =
       corners_unique (rate_of b.table) (level_of b level) p q
@@ -67,7 +67,7 @@ module _ (a b : PlainState) (valid_a : IsValid a) (valid_b : IsValid b) (same : 
   lists_same : (P Q : ℕ → Type 0) (xs ys : List ℕ) → ((q : ℕ) → P q → Q q) → ((q : ℕ) → Q q → P q) → Lists P xs → Lists Q ys → xs ≡ ys
   lists_same P Q xs ys to from one two = Lists-same Q xs ys (Lists-for P Q xs to from one) two
 
-  same_count : (level : Level) → length (level_of a level).names ≡ length (level_of b level).names
+  pub same_count : (level : Level) → length (level_of a level).names ≡ length (level_of b level).names
   same_count level =
       let graphs = level_same a b level same in
       let one = distinct_within (λ x. x) (level_of a level).names (level_of b level).names (whole a level valid_a).names (λ q here. (graphs.names q).0 here) in

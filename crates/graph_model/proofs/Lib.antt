@@ -27,3 +27,5 @@ pub mod PickReplies
 pub mod FunctionLemmas
 pub mod UnmineLemmas
 pub mod SoundLemmas
+pub mod DrawnLemmas
+pub mod SummaryLemmas

@@ -1,4 +1,4 @@
--- What an accepted command is answered: a function of the state before it.
+-- The answers of accepted commands, read off the state before the command. Fees are in satoshis, sizes in virtual bytes.
 use Rattle.std.specs.Prelude.{◌≡◌, ◌↔◌, ℕ, ℤ, List, map, flat_map, length, Contains, Some}
 use Rattle.graphs.specs.declared.names.Verdict.{Verdict}
 use Rattle.graph_model.specs.declared.names.Place.{Place}
@@ -22,28 +22,29 @@ use Rattle.graph_model.specs.Blocks.{IsBlock}
 use Rattle.graph_model.specs.Texts.{Text}
 use Rattle.graph_model.specs.Replies.{Reply, Done, Ids, Number, Parts, Points, Proves, OnePart, Stands, Compared, Settled, Evicted, Built, Trimmed, Unmined, Dumped}
 
--- the names of parts, in their order
+-- The names of parts, in their order.
 abbrev pub order_of : List Part → List ℕ
 order_of parts = flat_map (λ part. part.ids) parts
 
--- The covering pairs of a graph (parent, child), for each child in order its covering parents in order.
+-- The covering pairs (parent, child) of a graph: for each child, in the order, its covering parents in the order.
 pub record ListsCovers (graph : Graph) (order : List ℕ) (edges : List (ℕ × ℕ)) : Type 0 where
   pub exact : (parent child : ℕ) → Contains edges (parent, child) ↔ IsCover graph.pairs parent child
   pub in_order : FollowOrder order (map (λ edge. (edge.1, edge.0)) edges)
 
--- The text that proves an order: its names with their fees and sizes, the covering pairs, and the parts with their flows.
+-- The certificate text of an order: the names with their fees and sizes, the covering pairs, and the parts with their flows.
 pub record ProvesOrder (table : Table) (graph : Graph) (pick : List Part) (text : Text) : Type 0 where
   pub txs : text.txs ≡ map (λ id. (id, (rate_of table id).fee, (rate_of table id).size)) (order_of pick)
   pub edges : ListsCovers graph (order_of pick) text.edges
   pub parts : text.parts ≡ pick
 
--- where one name stands to another in an order
+-- Where one name stands to another in an order.
 abbrev pub StandsTo : List ℕ → ℕ → ℕ → Place → Type 0
 StandsTo order a b Before = StandsBefore order a b
 StandsTo order a b Same = a ≡ b
 StandsTo order a b After = StandsBefore order b a
 
--- What an accepted command is answered, where the levels have these picks. A reading of a pick is accepted only where there is one.
+-- The answer of an accepted command, where the levels have these picks. A command that reads a pick is answered only where there is one.
+-- Changes without an answer of their own are answered `Done`.
 abbrev pub Answers : Picks → PlainState → Command → Reply → Type 0
 Answers picks state Evict reply = (pick : List Part) × (part : Part) × (pick_of picks Main ≡ Some pick) × IsLast pick part × (reply ≡ Evicted part)
 Answers picks state Settle reply = (verdict : Verdict) × VerdictIs state verdict × (reply ≡ Settled verdict)

@@ -1,4 +1,4 @@
--- What an accepted command changes of the plain state.
+-- The changes that accepted commands make of the plain state.
 use Rattle.std.specs.Prelude.{◌≡◌, ◌≢◌, ◌↔◌, ℕ, ℤ, true, List, [], ◌∷◌, ◌++◌, map, take, Contains, ◌⊎◌, None, Some}
 use Rattle.std.specs.FinMap as finmap
 use Rattle.lists.specs.Distinct.{AreDistinct}
@@ -15,112 +15,113 @@ use Rattle.graph_model.specs.States.{PlainState, Picks, MinedBlock, level_of, pi
 use Rattle.graph_model.specs.Trims.{IsTrimmed}
 use Rattle.graph_model.specs.Verdicts.{VerdictIs}
 
--- a changing command was accepted
+-- The state in which a command that changes something was accepted: limits can't be set any more.
 abbrev pub begun : PlainState → PlainState
 begun state = record state { begun = true }
 
--- `limits` sets the limits
+-- `limits` sets the limits.
 abbrev pub limited : PlainState → Bounds → PlainState
 limited state limits = record (begun state) { limits = limits }
 
--- `add` puts the name into the table and into top, without pairs
+-- `add` puts the name into the table, with its fee and size, and into the top level, without pairs.
 abbrev pub added : PlainState → ℕ → ℤ → ℕ → PlainState
 added state id fee size =
     let graph = level_of state Top in
     with_top (record (begun state) { table = finmap.insert state.table id (record { fee = fee; size = size }) })
     (record graph { names = graph.names ++ id ∷ [] })
 
--- `dep` puts the pair into top if it isn't there
+-- `dep` puts the pair into the top level, where the level doesn't have the pair already.
 abbrev pub AddsPair : PlainState → ℕ → ℕ → PlainState → Type 0
 AddsPair old parent child new =
     let graph = level_of old Top in
     (Contains graph.pairs (parent, child) × (new ≡ begun old))
     ⊎ ((Contains graph.pairs (parent, child) → ⊥) × (new ≡ with_top (begun old) (record graph { pairs = graph.pairs ++ (parent, child) ∷ [] })))
 
--- `fee` sets the fee in the table, for both levels; the size stays
+-- `fee` sets the fee in the table, for both levels. The size stays.
 abbrev pub with_fee : PlainState → ℕ → ℤ → PlainState
 with_fee state id fee = record (begun state) { table = finmap.insert state.table id (record { fee = fee; size = size_of state.table id }) }
 
--- the name stands in main or in staging
+-- The name is in main or in staging.
 abbrev pub IsKept : PlainState → ℕ → Type 0
 IsKept state id = Contains state.main.names id ⊎ Contains (level_of state Top).names id
 
--- the state whose table has, of the names that are in a level, what the old one has, and no other name
+-- The table forgets the names that are in no level, and keeps the entries of all others.
 pub record Forgets (old new : PlainState) : Type 0 where
   pub same : new ≡ record old { table = new.table }
   pub kept : (id : ℕ) → IsKept old id → finmap.get new.table id ≡ finmap.get old.table id
   pub dropped : (id : ℕ) → (IsKept old id → ⊥) → finmap.get new.table id ≡ None
 
--- `remove` drops the name from top, with its parents and children joined, and from the table where it is in neither level then
+-- `remove` takes the name out of the top level: its parents become parents of its children. The table forgets the name where it is then in
+-- neither level.
 abbrev pub Removes : PlainState → ℕ → PlainState → Type 0
 Removes old id new = (graph : Graph) × IsWithout (level_of old Top) id graph × Forgets (with_top (begun old) graph) new
 
--- `mine` and `evict` drop names with their pairs from main
+-- `mine` and `evict` drop names with their pairs from main.
 abbrev pub DropsFromMain : PlainState → List ℕ → PlainState → Type 0
 DropsFromMain old ids new = (graph : Graph) × DropsNames old.main ids graph × Forgets (record (begun old) { main = graph }) new
 
--- Names are dropped with their pairs from top. Where there are none to drop the level stays.
+-- Names are dropped with their pairs from the top level. Where there are no names to drop, the level stays as it is.
 abbrev pub DropsFromTop : PlainState → List ℕ → PlainState → Type 0
 DropsFromTop old [] new = new ≡ begun old
 DropsFromTop old (id ∷ ids) new = (graph : Graph) × DropsNames (level_of old Top) (id ∷ ids) graph × Forgets (with_top (begun old) graph) new
 
--- What a block keeps of names that it takes out of main: the names as they are listed, with their fees and sizes, and each with each of its
--- descendants as a pair.
+-- A block keeps of the names that it takes out of main: the names as they are listed, with their fees and sizes, and a pair of each with each
+-- of its descendants.
 pub record IsMinedBlock (state : PlainState) (ids : List ℕ) (block : MinedBlock) : Type 0 where
   pub txs : block.txs ≡ map (λ id. (id, (rate_of state.table id).fee, (rate_of state.table id).size)) ids
   pub pairs : (m d : ℕ) → Contains block.pairs (m, d) ↔ (Contains ids m × IsAncestor state.main.pairs m d × (m ≢ d))
 
--- `mine` also puts a block in front; of more blocks than are kept the oldest goes
+-- `mine` also puts a block in front of the mined blocks. Where there are more than are kept, the oldest goes.
 abbrev pub Mines : PlainState → List ℕ → PlainState → Type 0
 Mines old ids new =
     (block : MinedBlock) × IsMinedBlock old ids block × DropsFromMain (record old { blocks = take MAX_BLOCKS (block ∷ old.blocks) }) ids new
 
--- the names of transactions
+-- The names of transactions.
 abbrev pub ids_of : Txs → List ℕ
 ids_of txs = map (λ tx. tx.0) txs
 
--- A graph with more names, and with those of more pairs (parent, child) whose child is in it then. In which order names and pairs are
--- listed is left open.
+-- A graph gets more names, and those of more pairs (parent, child) whose child is then in the graph. The definition leaves open in which order
+-- names and pairs are listed.
 pub record PutsNames (old : Graph) (ids : List ℕ) (more : List (ℕ × ℕ)) (new : Graph) : Type 0 where
   pub names : (id : ℕ) → Contains new.names id ↔ (Contains old.names id ⊎ Contains ids id)
   pub names_once : AreDistinct new.names
   pub pairs : (a b : ℕ) → Contains new.pairs (a, b) ↔ (Contains old.pairs (a, b) ⊎ (Contains more (a, b) × Contains new.names b))
   pub pairs_once : AreDistinct new.pairs
 
--- transactions come into main with their fees and sizes, and with those of more pairs whose child is in main then
+-- Transactions come into main with their fees and sizes, and with those of more pairs whose child is then in main.
 pub record Restores (old : PlainState) (txs : Txs) (pairs : List (ℕ × ℕ)) (new : PlainState) : Type 0 where
   pub same : new ≡ record (begun old) { table = new.table; main = new.main }
   pub graph : PutsNames old.main (ids_of txs) pairs new.main
   pub listed : (id : ℕ) (fee : ℤ) (size : ℕ) → Contains txs (id, fee, size) → finmap.get new.table id ≡ Some (record { fee = fee; size = size })
   pub others : (id : ℕ) → (Contains (ids_of txs) id → ⊥) → finmap.get new.table id ≡ finmap.get old.table id
 
--- `unmine` takes the latest block off, and puts what it keeps back into main
+-- `unmine` takes the latest block off, and puts its transactions back into main.
 abbrev pub Unmines : PlainState → PlainState → Type 0
 Unmines old new =
     (block : MinedBlock) × (earlier : List MinedBlock) × (old.blocks ≡ block ∷ earlier)
     × Restores (record old { blocks = earlier }) block.txs block.pairs new
 
--- `trim` drops from top the names that trimming drops
+-- `trim` drops from the top level the names that trimming drops.
 abbrev pub Trims : PlainState → PlainState → Type 0
 Trims old new = (ids : List ℕ) × IsTrimmed old.limits (rate_of old.table) (level_of old Top) ids × DropsFromTop old ids new
 
--- the part is the last one
+-- The part is the last one.
 abbrev pub IsLast : List Part → Part → Type 0
 IsLast parts part = (before : List Part) × (parts ≡ before ++ part ∷ [])
 
--- `stage` makes staging a copy of main
+-- `stage` makes staging a copy of main.
 abbrev pub staged : PlainState → PlainState
 staged state = record (begun state) { staging = Some state.main }
 
--- `commit` makes main what staging is, and closes it
+-- `commit` makes main what staging is, and closes the staging.
 abbrev pub Commits : PlainState → PlainState → Type 0
 Commits old new = Forgets (record (begun old) { main = level_of old Top; staging = None }) new
 
--- `abort` closes staging
+-- `abort` closes the staging, and main stays.
 abbrev pub Aborts : PlainState → PlainState → Type 0
 Aborts old new = Forgets (record (begun old) { staging = None }) new
 
--- What an accepted command changes, where the levels have these picks. Readings change nothing.
+-- The change that an accepted command makes, where the levels have these picks. Readings change nothing.
 abbrev pub Changes : Picks → PlainState → Command → PlainState → Type 0
 Changes picks old (SetLimits limits) new = new ≡ limited old limits
 Changes picks old (Add id fee size) new = new ≡ added old id fee size

@@ -1,5 +1,5 @@
 -- The words of the command line.
-use Rattle.std.specs.Prelude.{◌≡◌, ℕ, ◌^◌, ◌<◌, ◌≤◌, List, [], ◌∷◌, codes, decimal}
+use Rattle.std.specs.Prelude.{ℕ, ◌^◌, ◌<◌, ◌≤◌, List, [], ◌∷◌, codes, decimal}
 
 -- what the program may be asked for: to answer lines of commands, to check a certificate, to load a graph, or to run generated commands
 pub data Asked : Type 0 where
@@ -8,6 +8,7 @@ pub data Asked : Type 0 where
   Loads : Asked
   Generates : (seed count : ℕ) → Asked
 
+-- the words that ask for it in the plainest way, behind the program's name
 abbrev pub asked_words : Asked → List (List ℕ)
 asked_words Replays = codes "replay" ∷ []
 asked_words Checks = codes "check" ∷ []
@@ -18,17 +19,3 @@ asked_words (Generates seed count) = codes "gen" ∷ decimal seed ∷ decimal co
 abbrev pub HasRange : Asked → Type 0
 HasRange (Generates seed count) = (seed < 2 ^ 31) × (count ≤ 1000000)
 HasRange asked = Unit {0}
-
--- the words are the program's name, and then just those that ask for this
-abbrev pub Ask : List (List ℕ) → Asked → Type 0
-Ask words asked = (name : List ℕ) × (words ≡ name ∷ asked_words asked)
-
--- the program does it already
-abbrev pub IsOffered : Asked → Type 0
-IsOffered Loads = ⊥
-IsOffered (Generates seed count) = ⊥
-IsOffered asked = Unit {0}
-
--- the words are refused: they ask for nothing that is in range and offered
-abbrev pub AskForNothing : List (List ℕ) → Type 0
-AskForNothing words = (asked : Asked) → Ask words asked → HasRange asked → IsOffered asked → ⊥

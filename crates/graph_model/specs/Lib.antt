@@ -27,3 +27,4 @@ pub mod UnmineLaws
 pub mod DumpLaws
 pub mod BlockLaws
 pub mod RunLaws
+pub mod GeneratorLaws

@@ -14,7 +14,7 @@ use Rattle.graph_model.specs.Changes.{ids_of, Unmines}
 use Rattle.graph_model.specs.Commands.{Command}
 use Rattle.graph_model.specs.Commands as commands
 
--- how a refusal is told: its number, the word that names it, and the number that it keeps
+-- How a refusal is told: its number, its word, and the number that follows the word, if one does.
 pub record Told : Type 0 where
   pub number : ℕ
   pub word : List ℕ
@@ -51,50 +51,51 @@ number_of why = (told_as why).number
 abbrev pub First : Type 0 → Refusal → (Option Refusal → Type 0) → Option Refusal → Type 0
 First cause why later found = (cause × (found ≡ Some why)) ⊎ ((cause → ⊥) × later found)
 
--- the same for a cause that fixes a number, which the refusal keeps
+-- The same for a cause that fixes a number, which the refusal tells.
 abbrev pub FirstAt : (ℕ → Type 0) → (ℕ → Refusal) → (Option Refusal → Type 0) → Option Refusal → Type 0
 FirstAt cause why later found = ((n : ℕ) × cause n × (found ≡ Some (why n))) ⊎ (((n : ℕ) → cause n → ⊥) × later found)
 
--- the same for a cause that fixes the whole refusal
+-- The same for a cause that fixes the whole refusal.
 abbrev pub FirstOf : (Refusal → Type 0) → (Option Refusal → Type 0) → Option Refusal → Type 0
 FirstOf cause later found = ((why : Refusal) × cause why × (found ≡ Some why)) ⊎ (((why : Refusal) → cause why → ⊥) × later found)
 
--- the end of a row
+-- The end of a row: the command isn't refused.
 abbrev pub NoRefusal : Option Refusal → Type 0
 NoRefusal found = found ≡ None
 
--- the row of an addition of this size, by its causes
+-- The row of `add`, by its causes: fee out of range, size out of range, name live, size over the limit of a cluster, as many live names as may
+-- be.
 abbrev pub AddRow : (bad_fee bad_size taken large full : Type 0) → ℕ → Option Refusal → Type 0
 AddRow bad_fee bad_size taken large full size =
     First bad_fee Fee (First bad_size Size (First taken Taken (First large (ClusterSize size) (First full Full NoRefusal))))
 
--- the row of a pair, by its causes
+-- The row of `dep`, by its causes: no such parent, no such child, a cycle, a joined cluster of too many names, a joined cluster too large.
 abbrev pub DepRow : (no_parent no_child cycle : Type 0) → (too_many too_large : ℕ → Type 0) → ℕ → ℕ → Option Refusal → Type 0
 DepRow no_parent no_child cycle too_many too_large parent child =
     First no_parent (Unknown parent) (First no_child (Unknown child) (First cycle Cycle (FirstAt too_many Count (FirstAt too_large ClusterSize NoRefusal))))
 
--- the name isn't in the level
+-- The name isn't in the level.
 abbrev pub IsAbsent : PlainState → Level → ℕ → Type 0
 IsAbsent state level id = Contains (level_of state level).names id → ⊥
 
--- the members of the component that a pair would make of two
+-- The pair would join two components, and these are the members of the joined one.
 abbrev pub JoinsTo : List (ℕ × ℕ) → ℕ → ℕ → List ℕ → Type 0
 JoinsTo pairs parent child members =
     (AreConnected pairs parent child → ⊥) × Lists (λ id. AreConnected pairs id parent ⊎ AreConnected pairs id child) members
 
--- a pair would make a component of n names, more than may be, where no dependency may pass the limits
+-- The pair would make a component of n names, more than the limit, and no dependency may pass the limits.
 abbrev pub OverCount : PlainState → ℕ → ℕ → ℕ → Type 0
 OverCount state parent child n =
     (members : List ℕ) × (state.limits.defer ≡ false) × JoinsTo (level_of state Top).pairs parent child members × (n ≡ length members)
     × (state.limits.count < n)
 
--- a pair would make a component of this total size, larger than may be, where no dependency may pass the limits
+-- The pair would make a component of total size n, over the limit, and no dependency may pass the limits.
 abbrev pub OverSize : PlainState → ℕ → ℕ → ℕ → Type 0
 OverSize state parent child n =
     (members : List ℕ) × (state.limits.defer ≡ false) × JoinsTo (level_of state Top).pairs parent child members
     × (n ≡ sum_by (size_of state.table) members) × (state.limits.size < n)
 
--- The first entry of a list with a property, which may ask for what stands before the entry.
+-- The first entry of a list with a property. The property may speak of the entries before.
 pub record IsFirst (P : List ℕ → ℕ → Type 0) (ids : List ℕ) (id : ℕ) : Type 0 where
   pub before : List ℕ
   pub after : List ℕ
@@ -102,31 +103,32 @@ pub record IsFirst (P : List ℕ → ℕ → Type 0) (ids : List ℕ) (id : ℕ)
   pub has : P before id
   pub earlier : (front rest : List ℕ) (other : ℕ) → before ≡ front ++ other ∷ rest → P front other → ⊥
 
--- the name stands earlier in the list too
+-- The name stands earlier in the list too.
 abbrev pub StandsTwice : List ℕ → ℕ → Type 0
 StandsTwice before id = Contains before id
 
--- the name has an ancestor in main that isn't listed
+-- The name has an ancestor in main that isn't listed.
 abbrev pub LacksAncestor : PlainState → List ℕ → ℕ → Type 0
 LacksAncestor state ids id = (a : ℕ) × IsAncestor state.main.pairs a id × (Contains ids a → ⊥)
 
--- the names of the latest block
+-- The names of the latest block.
 abbrev pub latest_ids : List MinedBlock → List ℕ
 latest_ids [] = []
 latest_ids (block ∷ earlier) = ids_of block.txs
 
--- how names that are over the limits are told: by their number where that is over, else by their total size
+-- A refusal tells names that are over the limits: by their number where that is over, else by their total size.
 abbrev pub ToldOver : Bounds → (ℕ → ℕ) → List ℕ → Refusal → Type 0
 ToldOver bounds size ids why =
     ((bounds.count < length ids) × (why ≡ Count (length ids)))
     ⊎ ((length ids ≤ bounds.count) × (bounds.size < sum_by size ids) × (why ≡ ClusterSize (sum_by size ids)))
 
--- the name's component in main is over the limits, and told so
+-- The name's component in main is over the limits, and the refusal tells the component.
 abbrev pub IsInOver : PlainState → ℕ → Refusal → Type 0
 IsInOver state id why =
     (ids : List ℕ) × Lists (AreConnected state.main.pairs id) ids × ToldOver state.limits (size_of state.table) ids why
 
--- Where no dependency may pass the limits: of the names that would come back, the first whose component in main then is over them, told so.
+-- No dependency may pass the limits, and names that would come back would bring a component over them. The refusal tells the component of the
+-- first such name.
 pub record BringsOver (state : PlainState) (why : Refusal) : Type 0 where
   pub strict : state.limits.defer ≡ false
   pub next : PlainState
@@ -135,15 +137,16 @@ pub record BringsOver (state : PlainState) (why : Refusal) : Type 0 where
   pub first : IsFirst (λ before id. (any : Refusal) × IsInOver next id any) (latest_ids state.blocks) id
   pub over : IsInOver next id why
 
--- the row of a reading of names
+-- The row of a reading of names.
 abbrev pub NameRow : (unknown oversized : Type 0) → ℕ → Option Refusal → Type 0
 NameRow unknown oversized id = First unknown (Unknown id) (First oversized Oversized NoRefusal)
 
--- the row of what needs a staging, and both orders
+-- The row of a command that needs a staging and the orders of both levels.
 abbrev pub CompareRow : (alone oversized : Type 0) → Option Refusal → Type 0
 CompareRow alone oversized = First alone NoStaging (First oversized Oversized NoRefusal)
 
--- the refusal that a command meets in a state
+-- The refusal that a command meets in a state, if any. Each row lists its causes in their order, and the first that holds is told. Want of
+-- memory stands in no row: `Step` says when a command may lack memory.
 abbrev pub RefusalIs : PlainState → Command → Option Refusal → Type 0
 RefusalIs state (commands.SetLimits limits) = First (state.begun ≡ true) Late (First (AreInRange state.most limits → ⊥) Range NoRefusal)
 RefusalIs state (commands.Add id fee size) =

@@ -1,4 +1,5 @@
--- One command: which reply it may get in a state, and which state may follow.
+-- A step of the machine: which reply a command may get in a state, and which state may follow. The machine is a relation: of several
+-- optimal orders it doesn't say which one follows, and memory may run short or not.
 use Rattle.std.specs.Prelude.{◌≡◌, ℕ, Option, None, Some, ◌⊎◌, Contains}
 use Rattle.graphs.specs.declared.names.Verdict.TheVariants.{Better}
 use Rattle.graph_model.specs.declared.names.Refusal.{Refusal}
@@ -13,7 +14,7 @@ use Rattle.graph_model.specs.Verdicts.{VerdictIs}
 use Rattle.graph_model.specs.Replies.{Reply, Refused}
 use Rattle.graph_model.specs.Validity.{ArePicks}
 
--- the commands that may be refused for want of memory
+-- The commands that may be refused for want of memory.
 abbrev pub MayLackMemory : Command → Type 0
 MayLackMemory (Add id fee size) = Unit {0}
 MayLackMemory (Dep parent child) = Unit {0}
@@ -27,27 +28,27 @@ MayLackMemory Unmine = Unit {0}
 MayLackMemory Dump = Unit {0}
 MayLackMemory command = ⊥
 
--- what may be answered by want of memory in its place: that `unmine` would bring a component over a limit
+-- The refusals in whose place want of memory may be answered: that `unmine` would bring a component over a limit.
 abbrev pub MayGiveWay : Command → Refusal → Type 0
 MayGiveWay Unmine (Count n) = Unit {0}
 MayGiveWay Unmine (ClusterSize n) = Unit {0}
 MayGiveWay command why = ⊥
 
--- a refused command changes nothing
+-- The command is refused for the first cause of its row that holds. The state stays as it was.
 pub record IsRefused {S : Type 0} (refuses : S → Command → Option Refusal → Type 0) (old : S) (command : Command) (reply : Reply) (new : S) : Type 0 where
   pub why : Refusal
   pub first : refuses old command (Some why)
   pub told : reply ≡ Refused why
   pub same : new ≡ old
 
--- nor does one that finds no memory, where nothing else refuses it
+-- No cause of the row holds, and the command finds no memory. The state stays as it was.
 pub record LacksMemory {S : Type 0} (refuses : S → Command → Option Refusal → Type 0) (old : S) (command : Command) (reply : Reply) (new : S) : Type 0 where
   pub none : refuses old command None
   pub may : MayLackMemory command
   pub told : reply ≡ Refused Memory
   pub same : new ≡ old
 
--- nor does one that finds no memory in place of a refusal that gives way to it
+-- The command finds no memory, and answers so in place of a refusal that may give way. The state stays as it was.
 pub record GivesWay {S : Type 0} (refuses : S → Command → Option Refusal → Type 0) (old : S) (command : Command) (reply : Reply) (new : S) : Type 0 where
   pub why : Refusal
   pub first : refuses old command (Some why)
@@ -60,38 +61,39 @@ pub record IsAccepted {S : Type 0} (refuses : S → Command → Option Refusal �
   pub none : refuses old command None
   pub accepts : Accepts old command reply new
 
--- A step of a machine, by the refusals of its commands and by what may follow an accepted one.
+-- A step of a machine, by the refusals of its commands and by what may follow an accepted one: the command is refused, lacks memory, or is
+-- accepted.
 abbrev pub StepBy : {S : Type 0} → (S → Command → Option Refusal → Type 0) → (S → Command → Reply → S → Type 0) → S → Command → Reply → S → Type 0
 StepBy refuses Accepts old command reply new =
     IsRefused refuses old command reply new
     ⊎ ((LacksMemory refuses old command reply new ⊎ GivesWay refuses old command reply new) ⊎ IsAccepted refuses Accepts old command reply new)
 
--- the plain part of an accepted command, where the levels have these picks: what it is answered, and what it changes
+-- The plain part of an accepted command, where the levels have these picks: its answer, and its change.
 pub record AcceptsPlainly (picks : Picks) (old : PlainState) (command : Command) (reply : Reply) (new : PlainState) : Type 0 where
   pub answer : Answers picks old command reply
   pub change : Changes picks old command new
 
--- the plain part of a step
+-- The plain part of a step.
 abbrev pub PlainStep : Picks → PlainState → Command → Reply → PlainState → Type 0
 PlainStep picks = StepBy RefusalIs (AcceptsPlainly picks)
 
--- these names have the same fees and sizes in both tables
+-- The names of the graph have the same fees and sizes in both tables.
 abbrev pub HaveSameRates : Table → Table → Graph → Type 0
 HaveSameRates old new graph = (id : ℕ) → Contains graph.names id → rate_of new id ≡ rate_of old id
 
--- A level whose graph is as it was, and the fees and sizes of its names too, keeps its pick, or its lack of one; any other has any pick
--- there is, or none where it is oversized.
+-- A level with the same graph, and the same fees and sizes of its names, keeps its pick, or its lack of one. Any other level gets any pick
+-- of its graph, or none where the level is oversized.
 pub record KeepsPicks (old new : State) : Type 0 where
   pub picks : ArePicks new.plain new.picks
   pub main : new.plain.main ≡ old.plain.main → HaveSameRates old.plain.table new.plain.table new.plain.main → new.picks.main ≡ old.picks.main
   pub staging : (graph : Graph) → old.plain.staging ≡ Some graph → new.plain.staging ≡ Some graph → HaveSameRates old.plain.table new.plain.table graph
       → new.picks.staging ≡ old.picks.staging
 
--- main has the pick that staging had
+-- Main has the pick that staging had.
 abbrev pub CommitsPick : Picks → Picks → Type 0
 CommitsPick old new = (old.staging ≡ Some new.main) × (new.staging ≡ None)
 
--- which picks follow an accepted command
+-- The picks that may follow an accepted command.
 abbrev pub PicksFollow : State → Command → State → Type 0
 PicksFollow old Stage new = new.picks ≡ record { main = old.picks.main; staging = Some old.picks.main }
 PicksFollow old Commit new = CommitsPick old.picks new.picks
@@ -99,11 +101,11 @@ PicksFollow old Settle new =
     (VerdictIs old.plain Better × CommitsPick old.picks new.picks) ⊎ ((VerdictIs old.plain Better → ⊥) × KeepsPicks old new)
 PicksFollow old command new = KeepsPicks old new
 
--- an accepted command: its plain part, and which picks follow
+-- An accepted command: its plain part, and the picks that follow.
 pub record Accepts (old : State) (command : Command) (reply : Reply) (new : State) : Type 0 where
   pub plain : AcceptsPlainly old.picks old.plain command reply new.plain
   pub picks : PicksFollow old command new
 
--- from old, the command may get this reply and lead to new
+-- A step: in state `old` the command may get this reply, and lead to state `new`.
 abbrev pub Step : State → Command → Reply → State → Type 0
 Step = StepBy (λ state. RefusalIs state.plain) Accepts

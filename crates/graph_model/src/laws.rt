@@ -8,9 +8,9 @@ ghost use Rattle.graph_model.specs.DumpLaws.{DumpsLoad};
 ghost use Rattle.graph_model.specs.BlockLaws.{BlocksBeginBest};
 ghost use Rattle.graph_model.specs.RunLaws.{RunsAreSound};
 ghost use Rattle.graph_model.specs.StagingLaws.{AbortLeavesMain};
+ghost use Rattle.graph_model.specs.GeneratorLaws.{SummariesAreFunctions};
 
-/// No answer is lost or out of order: a run over lines that come one after the other is the run over
-/// the first of them, and then over the others.
+/// A run goes on where an earlier run ended: the two together are one run, with the answers in their order.
 pub fn answers_are_in_order()
     ensures { AnswersAreInOrder }
 {}
@@ -35,7 +35,7 @@ pub fn abort_leaves_main()
     ensures { AbortLeavesMain }
 {}
 
-/// A start is a valid state, and so is what a step makes of one.
+/// The state at the start is valid, and a step from a valid state leads to a valid one.
 pub fn steps_keep_valid()
     ensures { StepsKeepValid }
 {}
@@ -74,4 +74,10 @@ pub fn blocks_begin_best()
 /// Each state of a run is valid, and each order that a run reports is optimal.
 pub fn runs_are_sound()
     ensures { RunsAreSound }
+{}
+
+/// Each command of a generated run is counted once; and all runs over the commands of a seed in which no command is refused
+/// for want of memory end with one summary, whatever orders are picked.
+pub fn summaries_are_functions()
+    ensures { SummariesAreFunctions }
 {}

@@ -1,5 +1,5 @@
-//! What a transaction graph answers: the definitions of its state, commands and replies, over the graphs and orders of
-//! `graphs`, and the plain types that every layer speaks of.
+//! The machine: the transaction graph as states, commands and replies, over the graphs and orders of `graphs`, and the plain
+//! types that every layer speaks of.
 //!
 //! The definitions stand in `specs/`, one file a subject: limits, commands, states and which of them are valid, refusals, changes,
 //! answers, blocks, replies, steps, lines, runs, the texts of certificates, and laws over them.
@@ -22,7 +22,8 @@ pub use graphs::{
 pub use laws::{
     abort_leaves_main, answers_are_in_order, blocks_begin_best, dumps_load, mined_comes_back,
     proofs_are_certificates, readings_lack_no_memory, refused_changes_nothing, rows_are_functions,
-    runs_are_sound, steps_are_functions, steps_keep_valid, trim_drops_one_set,
+    runs_are_sound, steps_are_functions, steps_keep_valid, summaries_are_functions,
+    trim_drops_one_set,
 };
 pub use limits::{DEFAULT_LIMITS, MAX_BLOCKS, MAX_CLUSTER_SIZE, MAX_COUNT, MAX_INPUT, MAX_LINE};
 pub use names::{Limits, Place, Refusal};

@@ -1,4 +1,4 @@
--- What a reader would expect of the definitions.
+-- Laws that a reader expects of the definitions.
 use Rattle.std.specs.Prelude.{◌≡◌, ◌≢◌, ℕ, ◌≤◌, ℤ, Bool, true, false, ◌&&◌, ◌||◌, not, nat_eq, List, [], ◌∷◌, ◌++◌, ◌⊎◌, ◌↔◌, map, flat_map, Contains}
 use Rattle.lists.specs.Distinct.{AreDistinct}
 use Rattle.graphs.specs.Graphs.{Graph, IsAncestor, AreConnected, IsCover, HasNoCycle, IsGraph}
@@ -26,7 +26,7 @@ ComponentsWithPair =
     (pairs : List (ℕ × ℕ)) (parent child a b : ℕ) → AreConnected (pairs ++ (parent, child) ∷ []) a b
     ↔ (AreConnected pairs a b ⊎ ((AreConnected pairs a parent × AreConnected pairs child b) ⊎ (AreConnected pairs a child × AreConnected pairs parent b)))
 
--- one more pair makes a cycle exactly where its child is an ancestor of its parent
+-- One more pair makes a cycle exactly where its child is an ancestor of its parent.
 abbrev pub StaysWithoutCycle : Type 0
 StaysWithoutCycle =
     (pairs : List (ℕ × ℕ)) (parent child : ℕ) → HasNoCycle pairs → HasNoCycle (pairs ++ (parent, child) ∷ []) ↔ (IsAncestor pairs child parent → ⊥)
@@ -72,15 +72,15 @@ pub record EqualRatesJoinOnce : Type 0 where
       → ((part : Sum) → Contains group part → AtMost first part) → ((part : Sum) (rest : List Sum) → after ≡ part ∷ rest → Below part first)
       → JoinsEqualRates (first ∷ group ++ after) segments → (others : List Sum) × (segments ≡ sum_of (first ∷ group) ∷ others) × JoinsEqualRates after others
 
--- every graph has one without a name
+-- From every graph a name can be removed.
 abbrev pub NamesCanGo : Type 0
 NamesCanGo = (old : Graph) (id : ℕ) → IsGraph old → (new : Graph) × IsWithout old id new
 
--- what is left of a graph without a name is a graph
+-- A graph without a name is a graph.
 abbrev pub StaysGraph : Type 0
 StaysGraph = (old new : Graph) (id : ℕ) → IsWithout old id new → IsGraph old → IsGraph new
 
--- without a name the others keep the ancestors that they had among them
+-- Where a name is removed, the others keep the ancestors that they had among them.
 abbrev pub AncestorsWithoutName : Type 0
 AncestorsWithoutName =
     (old new : Graph) (id : ℕ) → IsWithout old id new → (a b : ℕ) → IsAncestor new.pairs a b
@@ -92,22 +92,21 @@ VerdictsAreUnique = (a b : List (ℕ × ℤ)) (v w : Verdict) → Compares a b v
 
 -- ---- plain graphs and closures
 
--- one more pair, from a member to one that isn't above it
+-- One more pair, whose child isn't above its parent: the closure of the graph with the pair.
 abbrev pub PairIsClosed : Type 0
 PairIsClosed =
     (member : ℕ → Bool) (above : ℕ → ℕ → Bool) (graph : Graph) (parent child : ℕ) → Closes member above graph
     → member parent ≡ true → member child ≡ true → above child parent ≡ false
     → Closes member (λ a d. above a d || (above a parent && above child d)) (with_pair graph parent child)
 
--- one more name, in no relation to the others
+-- One more name, related to no other: the closure of the graph with the name.
 abbrev pub NameIsClosed : Type 0
 NameIsClosed =
     (member : ℕ → Bool) (above : ℕ → ℕ → Bool) (graph : Graph) (id : ℕ) → Closes member above graph → member id ≡ false
     → ((a d : ℕ) → above a d ≡ true → (member a ≡ true) × (member d ≡ true))
     → Closes (λ q. nat_eq q id || member q) (λ a d. (nat_eq a id && nat_eq d id) || above a d) (with_name graph id)
 
--- two graphs of different names, none of the first in relation to one of the second, and then one more pair from the
--- first to the second
+-- Two graphs without a common name: the closure of both together, and of both with one more pair from the first to the second.
 pub record JoinedIsClosed : Type 0 where
   pub both : (one two : ℕ → Bool) (above : ℕ → ℕ → Bool) (first second : Graph) → Closes one above first → Closes two above second
       → ((q : ℕ) → one q ≡ true → two q ≡ true → ⊥) → ((a b : ℕ) → one a ≡ true → two b ≡ true → (above a b ≡ false) × (above b a ≡ false))
@@ -117,8 +116,8 @@ pub record JoinedIsClosed : Type 0 where
       → one parent ≡ true → two child ≡ true
       → Closes (λ q. one q || two q) (λ a d. above a d || (above a parent && above child d)) (with_pair (joined first second) parent child)
 
--- without a name, with some names alone where what lies between them is among them, and without several names one after
--- another, the relation among the others stays
+-- Names go, and the relation among the others stays: one name, several names one after another, or all but some names that have with any
+-- two of them what lies between.
 pub record FewerAreClosed : Type 0 where
   pub one : (member : ℕ → Bool) (above : ℕ → ℕ → Bool) (old new : Graph) (id : ℕ) → Closes member above old → IsWithout old id new
       → Closes (λ q. not (nat_eq q id) && member q) above new
@@ -127,7 +126,7 @@ pub record FewerAreClosed : Type 0 where
   pub within : (member keep : ℕ → Bool) (above : ℕ → ℕ → Bool) (graph : Graph) → Closes member above graph → KeepsBetween keep above
       → Closes (λ q. keep q && member q) above (within keep graph)
 
--- other names for the same
+-- The same graph by other names: the closure is the old one by the new names.
 abbrev pub RenamedIsClosed : Type 0
 RenamedIsClosed =
     (f : ℕ → ℕ) (member member' : ℕ → Bool) (above above' : ℕ → ℕ → Bool) (old new : Graph) → Closes member above old
@@ -146,7 +145,7 @@ pub record ClosureTellsOfGraph : Type 0 where
   pub covers : (g : Closure) (graph : Graph) → IsOrder (is_member g) (is_ancestor g) → IsClosureOf g graph
       → (a d : ℕ) → IsCover graph.pairs a d ↔ closures.IsCover g a d
 
--- each closure is that of a graph
+-- Each closure is the closure of some graph.
 abbrev pub ClosuresHaveGraphs : Type 0
 ClosuresHaveGraphs = (n : ℕ) (g : Closure) → IsClosed n g → (graph : Graph) × IsGraph graph × IsClosureOf g graph
 

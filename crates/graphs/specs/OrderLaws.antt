@@ -1,4 +1,4 @@
--- What is the same in all optimal orders, and what parts of one promise.
+-- Laws of optimal orders: what all optimal orders of a graph have in common, and what the parts of one promise.
 use Rattle.std.specs.Prelude.{◌≢◌, ℕ, ◌≤◌, pos, ◌≤ℤ◌, List, [], ◌∷◌, ◌++◌, map, flat_map, Contains}
 use Rattle.fee_rate.specs.declared.rates.Sum.{Sum}
 use Rattle.fee_rate.specs.Rates.{AtMost, Same}
@@ -38,7 +38,7 @@ FirstPartsAreBest =
     → (sums rate set).size ≤ (sums rate (flat_map (λ ids. ids) (first ++ part ∷ []))).size
     → (sums rate set).fee ≤ℤ (sums rate (flat_map (λ ids. ids) (first ++ part ∷ []))).fee
 
--- The same three, said of the parts of certificates over the covering pairs, with the fees and sizes that the parts tell.
+-- The same three laws of the parts of certificates over the covering pairs, with the fees and sizes that the parts tell.
 pub record CertifiedPartsAgree : Type 0 where
   pub rates : (rate : ℕ → Sum) (graph : Graph) (a b : List Part) (id : ℕ) (p q : Part) → HasSizes rate graph.names
       → IsCertificate rate graph (IsCover graph.pairs) a → IsCertificate rate graph (IsCover graph.pairs) b

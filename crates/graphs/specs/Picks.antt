@@ -1,5 +1,5 @@
--- Picks: the order that a graph keeps, of all that are optimal, with what shows that it is. In which parts of equal rate follow each
--- other, and which amounts flow, is left open; see the posts of Wuille and Daftuar, and `certified_parts_are_optimal`.
+-- Picks: of all optimal orders of a graph the one that a level keeps, with the flows that certify it. The definition leaves open how parts
+-- of equal rate follow each other, and which amounts flow. The law `certified_parts_are_optimal` says why a pick is optimal.
 use Rattle.std.specs.Prelude.{◌≡◌, ℕ, List, map, Contains, ◌⊎◌, ◌↔◌}
 use Rattle.fee_rate.specs.declared.rates.Sum.{Sum}
 use Rattle.graphs.specs.declared.names.Flow.{Flow}
@@ -16,18 +16,17 @@ abbrev pub FollowOrder : List ℕ → List (ℕ × ℕ) → Type 0
 FollowOrder order links = (a b : ℕ × ℕ) → Precedes links a b
     → StandsBefore order a.0 b.0 ⊎ ((a.0 ≡ b.0) × StandsBefore order a.1 b.1)
 
--- the ends of flows
+-- The ends (child, parent) of flows.
 abbrev pub links_of : List Flow → List (ℕ × ℕ)
 links_of flows = map (λ flow. (flow.child, flow.parent)) flows
 
--- The parts of an order with flows that certify it over the graph's covering pairs, each part's flows by child, then by parent. So the
--- order is optimal.
+-- A pick: a certificate over the graph's covering pairs, where each part lists its flows by child, then by parent.
 pub record IsPick (rate : ℕ → Sum) (graph : Graph) (parts : List Part) : Type 0 where
   pub certificate : IsCertificate rate graph (IsCover graph.pairs) parts
   pub flows_in_order : (part : Part) → Contains parts part → FollowOrder part.ids (links_of part.flows)
 
--- A pick is an optimal order. Picks of components, merged so that rates fall, are one of the whole graph; a pick is one by other names,
--- of which no two become one; and it is one of every graph with the same names, sums and ancestors.
+-- A pick is an optimal order. Picks of components that are merged by falling rate are a pick of the whole graph. A pick stays one by other
+-- names, where no two names become one, and is a pick of every graph with the same names, sums and ancestors.
 pub record PicksAreKept : Type 0 where
   pub optimal : (rate : ℕ → Sum) (graph : Graph) (parts : List Part) → HasSizes rate graph.names → IsPick rate graph parts
       → IsOptimal rate graph (map (λ part. part.ids) parts)

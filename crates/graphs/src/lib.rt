@@ -1,5 +1,5 @@
-//! What a graph of transactions is, and what an order of it is worth: names and pairs, rates, linearizations,
-//! certificates, diagrams, with their laws, and the plain types that every layer speaks of. It knows no command.
+//! Graphs of transactions, and the value of their orders: names and pairs, rates, linearizations, certificates and diagrams, with
+//! their laws, and the plain types that every layer speaks of. This crate knows no command.
 #![tactic(auto)]
 
 mod ids;

@@ -1,5 +1,5 @@
 -- A name that came in, seen from the levels; and a call that changed nothing for want of memory.
-use Rattle.std.proofs.Common.{◌≡◌, ℕ, ◌+◌, ◌<◌, Bool, cond, List, [], ◌∷◌, length, is_some, sym, ap, ◌∙◌, subst, arith}
+use Rattle.std.proofs.Common.{◌≡◌, ℕ, ◌+◌, ◌<◌, Bool, cond, List, length, is_some, sym, ap, ◌∙◌, subst, arith}
 use Rattle.std.specs.Prelude.{option_map}
 use Rattle.std.specs.FinMap as finmap
 use Rattle.std.specs.FinSet as set
@@ -10,14 +10,13 @@ use Rattle.graphs.specs.declared.names.Level.TheVariants.{Main, Top}
 use Rattle.name_book.specs.Books.{IsNamed}
 use Rattle.levels.specs.Kept.{IsKept, SuitsShelf}
 use Rattle.levels.specs.Levels.{Levels, AddsName, ChangesTop, IsLive}
-use Rattle.levels.specs.Moves.{AddsOne}
+use Rattle.levels.specs.Moves.{AddsTop}
 use Rattle.levels.specs.Rings.{Ringed}
 use Rattle.levels.specs.Shelves.{Shelf, IsInOrder, levels_of, numbers_at, one_of}
 use Rattle.levels.specs.Stays.{AllStay}
 use Rattle.levels.proofs.Keeping.{live_counted, live_named}
 use Rattle.levels.proofs.Tallies.{mains_counted, mains_kept, top_turned, tops_more}
-use Rattle.levels.proofs.Turning.{added_top}
-use Rattle.levels.proofs.Unmoved.{added_stays}
+use Rattle.levels.proofs.Turning.{added_keeps, added_top}
 
 module _ (w mains tops issued : ℕ) (old : Shelf) (rings : Ringed)
     (kept : IsKept w old rings mains tops issued) (now : Levels) (view : levels_of old issued ≡ now) where
@@ -43,9 +42,9 @@ module _ (w mains tops issued : ℕ) (old : Shelf) (rings : Ringed)
     few = (let low = kept.few in omega (arith, names, low));
   }
 
-  module _ (id : ℕ) (rate : FeeRate) (new : Shelf) (adds : AddsOne w id rate old new) (after : IsInOrder w new) where
+  module _ (id : ℕ) (rate : FeeRate) (new : Shelf) (adds : AddsTop w id rate old new) (after : IsInOrder w new) where
     turns : ChangesTop (λ g h. AddsName g h id rate) (levels_of old issued) (levels_of new issued)
-    turns = added_top w issued old new kept.order after id adds.made rate adds.now adds.single adds.absent adds.rebuilds
+    turns = added_top w issued old new kept.order after id rate adds
 
     pub kept_added : (later : Ringed) → SuitsShelf later new → set.len later.book.names ≡ set.len rings.book.names + 1
         → later.book.issued ≡ rings.book.issued + 1 → set.len rings.book.names < MAX_TOTAL → (staged : Bool) → staged ≡ is_some new.staging → (count : ℕ)
@@ -75,4 +74,4 @@ module _ (w mains tops issued : ℕ) (old : Shelf) (rings : Ringed)
     pub name_stays : AllStay now (levels_of new (issued + 1))
     name_stays =
         subst (λ (l : Levels). AllStay l (levels_of new (issued + 1))) view
-        (added_stays w old new kept.order after issued (issued + 1) (adds.made ∷ []) (adds.now ∷ []) adds.rebuilds)
+        (added_keeps w issued old new kept.order after id rate adds (issued + 1))

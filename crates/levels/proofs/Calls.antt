@@ -1,21 +1,14 @@
 -- What is known of a shelf when a call of it ends: its maps of numbers, its store, and that it is in order.
-use Rattle.std.proofs.Common.{◌≡◌, ℕ, ◌*◌, Bool, false, List, [], ◌∷◌, ◌++◌, length, drop, Option, Some, None, is_some, IsSome, refl, sym, ap, ap₂, ◌∙◌, true≢false}
+use Rattle.std.proofs.Common.{◌≡◌, ℕ, ◌*◌, Bool, false, List, Option, Some, None, is_some, IsSome, refl, sym, ap, ap₂, ◌∙◌, true≢false}
 use Rattle.std.specs.Prelude.{OnSome, unwrap_or}
-use Rattle.std.proofs.lemmas.Option.{same_Some}
-use Rattle.std.proofs.Math.Seq.{drop-append_seam}
-use Rattle.std.specs.FinMap as finmap
-use Rattle.graphs.specs.declared.names.Level.TheVariants.{Top}
 use Rattle.cluster.specs.Clusters.{Cluster}
-use Rattle.cluster_store.specs.Stores.{Numbered, Store, IsStore}
+use Rattle.cluster_store.specs.Stores.{Store, IsStore}
 use Rattle.staging.specs.Maps.{Maps, top_of}
-use Rattle.levels.specs.Changes.{PointsOne}
-use Rattle.levels.specs.Shelves.{Shelf, IsInOrder, seen_at, stored_at}
+use Rattle.levels.specs.Shelves.{Shelf, IsInOrder}
 use Rattle.levels.specs.Tops.{Exchanged, TopRebuilds}
 use Rattle.levels.specs.Views.{Numbers}
-use Rattle.levels.proofs.Coming.{only_one, other_one}
 use Rattle.levels.proofs.Making.{Shifts}
-use Rattle.levels.proofs.Pointing.{on_some, put_here, put_other}
-use Rattle.levels.proofs.Seen.{seen_is_stored}
+use Rattle.levels.proofs.Pointing.{on_some}
 use Rattle.levels.proofs.Shelved.{order_changed}
 
 abbrev pub shelf_of : Maps ℕ → Store → Shelf
@@ -44,26 +37,6 @@ same_top old new base top = ap₂ (λ (o : Option Numbers) (m : Numbers). unwrap
 pub none_staged : (o : Option Numbers) (staged : Bool) → staged ≡ is_some o → staged ≡ false → o ≡ None
 none_staged None staged is shut = refl
 none_staged (Some m) staged is shut = absurd (true≢false (sym is ∙ shut))
-
--- one name gets a number
-pub points_put : (id made : ℕ) (old mid new : Numbers) → mid ≡ old → new ≡ finmap.insert mid id made → PointsOne made (id ∷ []) old new
-points_put id made old mid new same is = record {
-  pointed = λ q here. ap (λ (m : Numbers). finmap.get m q) is ∙ ap (finmap.get (finmap.insert mid id made)) (only_one id q here) ∙ put_here mid id made;
-  others = λ q out.
-      ap (λ (m : Numbers). finmap.get m q) is ∙ put_other mid id made q (other_one id q out) ∙ ap (λ (m : Numbers). finmap.get m q) same;
-}
-
--- ---- names of clusters that are stored
-
--- the names of the cluster that is seen under a number are those of the one that is stored there
-pub names_seen : (clusters : Numbered) (number : ℕ) (a x : Cluster) (names : List ℕ) → seen_at Top clusters number ≡ Some a → stored_at clusters number ≡ Some x
-    → names ≡ x.names → names ≡ a.names
-names_seen clusters number a x names seen stored is =
-    is ∙ ap (λ (e : Cluster). e.names) (same_Some x a (sym stored ∙ seen_is_stored Top clusters number a seen))
-
--- the names behind those of the first of two clusters are those of the second
-pub names_behind : (a b names rest : List ℕ) (from : ℕ) → names ≡ a ++ b → rest ≡ drop from names → from ≡ length a → rest ≡ b
-names_behind a b names rest from is behind at = behind ∙ ap₂ (λ (n : ℕ) (xs : List ℕ). drop n xs) at is ∙ drop-append_seam a b
 
 -- ---- the shelf
 

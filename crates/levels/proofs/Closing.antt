@@ -106,22 +106,6 @@ module _ (a b : Cluster) (g h : Closure) (r : IsRebuilt (a ∷ []) (b ∷ []) []
     ];
   }
 
-  pub adds_pair : (p q : ℕ) → Contains a.names p → Contains a.names q → AddsPair a.graph b.graph p q → AddsPair g h p q
-  adds_pair p q first second pair = record {
-    members = same_members;
-    rates = λ id. elim (told_number a.names id) [
-      | inl in_it ↦ new_rate id in_it ∙ pair.rates id ∙ sym (old_rate id in_it)
-      | inr out ↦ rate_same g h id (elsewhere id out)
-    ];
-    ancestors = λ x d. elim (told_number a.names d) [
-      | inl in_it ↦ new_above x d in_it ∙ pair.ancestors x d ∙ sym (λ i. old_above x d in_it i || (old_above x p first i && old_above q d in_it i))
-      | inr out ↦
-          above_same g h d (elsewhere d out) x
-          ∙ sym (ap (λ b. is_ancestor g x d || b) (and_right (is_ancestor g x p) (is_ancestor g q d) (not_below g q d a (old_of q second).0 out))
-          ∙ or_false (is_ancestor g x d))
-    ];
-  }
-
 -- ---- one more cluster, of one name
 
 module _ (c : Cluster) (g h : Closure) (r : IsRebuilt [] (c ∷ []) [] g h) (id : ℕ) (rate : FeeRate) (single : IsSingle id rate c)

@@ -24,8 +24,8 @@ use Rattle.levels.proofs.Finds.{graph_is}
 use Rattle.levels.proofs.Graphs.{order_of}
 use Rattle.levels.proofs.Tallies.{mains_are_tops, tops_paired, top_turned}
 use Rattle.levels.proofs.Turned.{kept_turned}
-use Rattle.levels.proofs.Turning.{joined_top, linked_top}
-use Rattle.levels.proofs.Unmoved.{joined_stays, linked_stays, same_shelf_stays}
+use Rattle.levels.proofs.Turning.{paired_keeps, paired_top}
+use Rattle.levels.proofs.Unmoved.{same_shelf_stays}
 
 -- ---- a parent that is an ancestor already adds nothing
 
@@ -72,19 +72,13 @@ module _ (w issued : ℕ) (old new : Shelf) (before : IsInOrder w old) (after : 
     | inl there ↦
         subst (λ (s : Shelf). ChangesTop (λ g h. AddsPair g h parent child) (levels_of old issued) (levels_of s issued)) (sym there.1)
         (there_top w issued old before parent child there.0)
-    | inr on ↦ elim on [
-      | inl one ↦ linked_top w issued old new before after one.0 parent child one.1 one.2
-      | inr two ↦ joined_top w issued old new before after two.0 two.1 parent child two.2 two.3
-    ]
+    | inr on ↦ paired_top w issued old new before after on.1.0 parent child on.1.1
   ]
 
   pub connected_stays : AllStay (levels_of old issued) (levels_of new issued)
   connected_stays = elim connects [
     | inl there ↦ same_shelf_stays w old new before after issued issued there.1
-    | inr on ↦ elim on [
-      | inl one ↦ linked_stays w old new before after issued issued one.0 parent child one.1 one.2
-      | inr two ↦ joined_stays w old new before after issued issued two.0 two.1 parent child two.2 two.3
-    ]
+    | inr on ↦ paired_keeps w issued old new before after on.1.0 parent child on.1.1 on.0
   ]
 
 pub stays_on : {T E : Type 0} (result : Result T E) (w issued : ℕ) (old new : Shelf) → IsInOrder w old → IsInOrder w new → (parent child : ℕ)

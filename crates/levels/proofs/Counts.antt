@@ -1,5 +1,6 @@
 -- How many names there are.
-use Rattle.std.proofs.Common.{◌≡◌, ℕ, suc, ◌+◌, ◌≤◌, Bool, true, false, not, ◌&&◌, ◌||◌, nat_eq, List, refl, sym, ap, ◌∙◌, subst, arith, eq-eqb, eqb-true}
+use Rattle.std.proofs.Common.{◌≡◌, ◌≢◌, ◌↔◌, ℕ, suc, ◌+◌, ◌≤◌, Bool, true, false, not, ◌&&◌, ◌||◌, nat_eq, List, [], ◌∷◌, length, inl, inr, refl, sym, ap, ◌∙◌, subst, arith, eq-eqb, eqb-true, ne_eqb, true≢false}
+use Rattle.std.proofs.lemmas.Bool.{and_from, and_parts}
 use Rattle.std.specs.Prelude.{Contains, sum_by}
 use Rattle.std.proofs.lemmas.List.Sums.{get_or-le-sum_by}
 use Rattle.std.proofs.lemmas.Map.Views.{Contains-from_any}
@@ -8,6 +9,9 @@ use Rattle.std.specs.Ordering.{nat_cmp, eq_by_cmp}
 use Rattle.std.specs.Cmp.{unsigned_tied}
 use Rattle.std.specs.FinMap as finmap
 use Rattle.std.specs.FinSet as set
+use Rattle.lists.specs.Distinct.{AreDistinct}
+use Rattle.lists.proofs.Cases.{same_test}
+use Rattle.lists.proofs.Entries.{Contains-head, Contains-later, Contains-cases, none_in_empty}
 use Rattle.lists.proofs.Keys.{contains-drop, len-drop, same_len}
 use Rattle.graphs.specs.Closures.{is_member}
 use Rattle.graphs.specs.Graphs.{Lists}
@@ -20,7 +24,7 @@ pub graph_len : (view : View) → finmap.len (graph_of view) ≡ finmap.len view
 unfolding is_member
 graph_len view = same_len (graph_of view) view.numbers (λ q. member-number view q)
 
--- ---- one name more, or one fewer
+-- ---- one name more, or some fewer
 
 pub len_more : (m n : Numbers) (id : ℕ) → finmap.contains_key m id ≡ false
     → ((q : ℕ) → finmap.contains_key n q ≡ (nat_eq q id || finmap.contains_key m q)) → finmap.len n ≡ finmap.len m + 1
@@ -35,12 +39,39 @@ len_more m n id absent keys =
     rest_is q true is = sym (ap (λ x. finmap.contains_key m x) (eqb-true q id is) ∙ absent)
     rest_is q false is = refl
 
-pub len_less : (m n : Numbers) (id : ℕ) → finmap.contains_key m id ≡ true
-    → ((q : ℕ) → finmap.contains_key n q ≡ (not (nat_eq q id) && finmap.contains_key m q)) → finmap.len n + 1 ≡ finmap.len m
-len_less m n id has keys =
-    let one = len-drop m id has in
-    let rest : finmap.len n ≡ finmap.len (finmap.remove m id) = same_len n (finmap.remove m id) (λ q. keys q ∙ sym (contains-drop m id q)) in
-    omega arith
+-- of which some aren't in the other
+pub len_fewer : (gone : List ℕ) (m n : Numbers) → AreDistinct gone → ((q : ℕ) → Contains gone q → finmap.contains_key m q ≡ true)
+    → ((q : ℕ) → (finmap.contains_key n q ≡ true) ↔ ((Contains gone q → ⊥) × (finmap.contains_key m q ≡ true))) → finmap.len n + length gone ≡ finmap.len m
+len_fewer [] m n once here keys =
+    let same : finmap.len n ≡ finmap.len m = same_len n m (λ q. same_test (finmap.contains_key n q) (finmap.contains_key m q)
+    (λ has. ((keys q).0 has).1) (λ has. (keys q).1 (λ lost. none_in_empty q lost, has))) in
+    omega (arith, same)
+len_fewer (x ∷ gone) m n once here keys =
+    let one = len-drop m x (here x (Contains-head x gone)) in
+    let less = finmap.remove m x in
+    let has : (q : ℕ) → (finmap.contains_key less q ≡ true) ↔ ((q ≢ x) × (finmap.contains_key m q ≡ true)) = λ q. removed m x q in
+    let rest : finmap.len n + length gone ≡ finmap.len less = len_fewer gone less n once.1
+    (λ q lost. (has q).1 (λ same. once.0 (subst (Contains gone) same lost), here q (Contains-later x q gone lost)))
+    (λ q. (
+      λ there. let was = (keys q).0 there in
+          (λ lost. was.0 (Contains-later x q gone lost), (has q).1 (λ same. was.0 (subst (Contains (x ∷ gone)) (sym same) (Contains-head x gone)), was.1)),
+      λ both. let was = (has q).0 both.1 in (keys q).1 (
+        λ lost. elim (Contains-cases x q gone lost) [
+          | inl same ↦ was.0 (sym same)
+          | inr later ↦ both.0 later
+        ],
+        was.1,
+      ),
+    )) in
+    omega (arith, one, rest)
+  where
+    removed : (m : Numbers) (x q : ℕ) → (finmap.contains_key (finmap.remove m x) q ≡ true) ↔ ((q ≢ x) × (finmap.contains_key m q ≡ true))
+    removed m x q = (
+      λ there.
+          let parts = and_parts (not (nat_eq q x)) (finmap.contains_key m q) (sym (contains-drop m x q) ∙ there) in
+          (λ same. true≢false (sym parts.0 ∙ ap not (eq-eqb q x same)), parts.1),
+      λ both. contains-drop m x q ∙ and_from (not (nat_eq q x)) (finmap.contains_key m q) (ap not (ne_eqb q x both.0)) both.1,
+    )
 
 -- ---- the names of a set
 

@@ -8,7 +8,7 @@ use Rattle.lists.proofs.Entries.{none_in_empty}
 use Rattle.cluster.specs.Clusters.{Cluster, AreApart}
 use Rattle.name_book.specs.Calls.{ArePartedOff}
 use Rattle.levels.specs.Changes.{IsNamed as HasName}
-use Rattle.levels.specs.Rings.{Ringed, AreNamedOnce, ShareMain}
+use Rattle.levels.specs.Rings.{Ringed, AreNamedOnce, IsMarked, ShareMain}
 use Rattle.levels.proofs.Ends.{got, pairs_last}
 
 -- main's rings, where these clusters were cut out of them
@@ -16,6 +16,12 @@ abbrev pub AreCut : Ringed → List Cluster → Ringed → Type 0
 AreCut old clusters new =
     (x y : ℕ) → ShareMain new x y
     ↔ ((ShareMain old x y × (HasName clusters x → ⊥) × (HasName clusters y → ⊥)) ⊎ AreNamedOnce clusters x y)
+
+-- what cutting some clusters out of main's rings makes of the rings
+pub record Cuts (clusters : List Cluster) (old new : Ringed) : Type 0 where
+  pub names : new.book.names ≡ old.book.names
+  pub main : AreCut old clusters new
+  pub touched : (x : ℕ) → IsMarked new x ↔ IsMarked old x
 
 pub cut_none : (old : Ringed) → AreCut old [] old
 cut_none old x y = (

@@ -1,112 +1,65 @@
--- A name leaves its cluster: what is left of it, in another order.
-use Rattle.std.proofs.Common.{◌≡◌, ◌≢◌, ℕ, ◌*◌, List, [], ◌∷◌, Contains, All, Some, inl, inr, ◌↔◌, sym, ◌∙◌, subst}
-use Rattle.std.specs.List.{AllPairs}
-use Rattle.std.specs.List.Sorted.{IsPermutation}
-use Rattle.std.proofs.lemmas.List.Elements.{All-contains}
-use Rattle.std.proofs.lemmas.List.Sorted.{IsPermutation-sym, Contains-permutation}
-use Rattle.std.proofs.lemmas.Option.{same_Some}
+-- Names leave their clusters: what is left of these may come in, and what is made of it.
+use Rattle.std.proofs.Common.{◌≡◌, ℕ, ◌*◌, ◌<◌, List, [], ◌∷◌, ◌++◌, length, Contains, Option, Some, None, inl, inr, refl, sym, ap, ◌∙◌, subst, subst₂, arith}
+use Rattle.std.specs.Prelude.{slice_get, slice_index, option_to_list, IfSome, sum_by}
+use Rattle.std.proofs.lemmas.List.{get_or_default}
+use Rattle.std.proofs.lemmas.Option.{none-some, same_Some}
 use Rattle.std.specs.FinMap as finmap
-use Rattle.lists.proofs.Entries.{Contains-cases, none_in_empty}
+use Rattle.lists.proofs.Told.{told_number}
 use Rattle.graphs.specs.declared.names.Level.TheVariants.{Top}
-use Rattle.graphs.specs.Closures.{Closure}
-use Rattle.cluster.specs.Clusters.{Cluster, IsCluster, AreApart}
-use Rattle.cluster.specs.Changes.{IsSplit, AreComponents}
-use Rattle.levels.specs.Changes.{IsNamed}
-use Rattle.levels.specs.Moves.{DropsName}
-use Rattle.levels.specs.Shelves.{Shelf, IsInOrder, numbers_at, seen_at, stored_at, view_of}
-use Rattle.levels.specs.Tops.{AreTold, TopRebuilds}
-use Rattle.levels.specs.Views.{IsClusterOf, graph_of}
-use Rattle.levels.proofs.Alike.{components_alike}
-use Rattle.levels.proofs.Splitting.{IsParted, left_in, in_left}
-use Rattle.levels.proofs.Swaps.{all_pairs_permuted}
-use Rattle.levels.proofs.Under.{held, its_cluster, seen_there}
+use Rattle.cluster.specs.Clusters.{Cluster}
+use Rattle.levels.specs.Changes.{AreAt, Covers, IsNamed}
+use Rattle.levels.specs.Lefts.{AreLeft}
+use Rattle.levels.specs.Moves.{DropsIn, DropsTop}
+use Rattle.levels.specs.Shelves.{IsInOrder, Shelf, numbers_at, seen_at}
+use Rattle.levels.specs.Tops.{HasFront, IsMade}
+use Rattle.levels.proofs.Ends.{got}
+use Rattle.levels.proofs.Pointing.{names_in, one_at, one_list}
 
--- a list of one name has no other
-pub only_name : (names : List ℕ) (id : ℕ) → Contains names id → (q : ℕ) → Contains (id ∷ []) q → Contains names q
-only_name names id here q one = elim (Contains-cases id q [] one) [
-  | inl same ↦ subst (Contains names) same here
-  | inr none ↦ absurd (none_in_empty q none)
-]
-
--- the clusters that are left, in another order
-split_permuted : (graph : Closure) (gone : List ℕ) (left all : List Cluster) → IsPermutation left all → IsSplit graph gone left → IsSplit graph gone all
-split_permuted graph gone left all order split = record {
-  ancestors = λ a d. (
-    λ up. (split.ancestors a d).0 (up.0, back up.0 up.1, up.2),
-    λ both. let up = (split.ancestors a d).1 both in (up.0, Contains-permutation left all up.0 order up.1, up.2),
-  );
-  rates = λ c here. split.rates c (back c here);
-  apart = all_pairs_permuted AreApart (λ x y apart id one two. apart id two one) left all order split.apart;
-  filled = λ c here. split.filled c (back c here);
-}
-  where
-    back : (c : Cluster) → Contains all c → Contains left c
-    back c here = Contains-permutation all left c (IsPermutation-sym left all order) here
-
--- what is known before the shelf takes them: the cluster of the name, what is left of it, the same as a vector, and in another order
-pub record AreLeft (w number id : ℕ) (c : Cluster) (left held all : List Cluster) (shelf : Shelf) : Type 0 where
-  pub order : IsInOrder w shelf
-  pub is : finmap.get (numbers_at Top shelf) id ≡ Some number
-  pub at : stored_at shelf.store.clusters number ≡ Some c
-  pub split : IsSplit c.graph (id ∷ []) left
-  pub whole : All (IsCluster (64 * w)) left
-  pub same : held ≡ left
-  pub permuted : IsPermutation held all
-
-module _ (w number id : ℕ) (c : Cluster) (left held_in all : List Cluster) (shelf : Shelf) (l : AreLeft w number id c left held_in all shelf) where
-  seen : seen_at Top shelf.store.clusters number ≡ Some c
-  seen = seen_there w shelf l.order Top id number l.is c l.at
-
-  permuted : IsPermutation left all
-  permuted = subst (λ (xs : List Cluster). IsPermutation xs all) l.same l.permuted
-
-  whole : (d : Cluster) → Contains all d → IsCluster (64 * w) d
-  whole d here = All-contains (IsCluster (64 * w)) left d l.whole (Contains-permutation all left d (IsPermutation-sym left all permuted) here)
-
-  parted : IsParted (64 * w) id c all
-  parted = record {
-    cluster = l.order.top.whole number c seen;
-    held = held w shelf l.order Top id number l.is c seen;
-    split = split_permuted c.graph (id ∷ []) left all permuted l.split;
-    whole = whole;
+module _ (w : ℕ) (gone outs : List ℕ) (rest : List Cluster) (last : Option Cluster) (shelf : Shelf) (order : IsInOrder w shelf)
+    (left : AreLeft w gone outs rest last shelf) where
+  pub covers_left : Covers (64 * w) left.olds (rest ++ option_to_list last) gone (numbers_at Top shelf)
+  covers_left = record {
+    whole = left.whole;
+    apart = left.apart;
+    from = λ id named. inl ((left.drops.names id).0 named).0;
+    kept = λ id named. elim (told_number gone id) [
+      | inl lost ↦ inr lost
+      | inr kept ↦ inl ((left.drops.names id).1 (named, kept))
+    ];
+    lose = λ id lost. (left.all id lost, λ named. ((left.drops.names id).0 named).1 lost);
   }
 
-  abbrev pub CanSplit : Type 0
-  CanSplit =
-      ((d : Cluster) → Contains all d → IsCluster (64 * w) d) × (AllPairs AreApart all
-      × ((x : Cluster) × (seen_at Top shelf.store.clusters number ≡ Some x) × Contains x.names id
-      × ((q : ℕ) → IsNamed all q ↔ (Contains x.names q × (q ≢ id)))))
+  -- the last has names of the first cluster alone, which have its number
+  front_of : (c : Cluster) → last ≡ Some c → HasFront (length c.names) outs c.names (numbers_at Top shelf)
+  front_of c is = record { low = omega arith; there = λ number i got_first below. there_at number i got_first below }
+    where
+      there_at : (number i : ℕ) → slice_get outs 0 ≡ Some number → i < length c.names → finmap.get (numbers_at Top shelf) (slice_index c.names i) ≡ Some number
+      there_at number i got_first below =
+          let first = got outs 0 number got_first in
+          let at = one_at (seen_at Top shelf.store.clusters) outs left.olds 0 left.at first.0 in
+          let id = slice_index c.names i in
+          let here : Contains at.0.names id = left.own c at.0 is at.1 id (i, below, get_or_default c.names i id 0 below) in
+          let seen : seen_at Top shelf.store.clusters number ≡ Some at.0 = ap (seen_at Top shelf.store.clusters) (sym (first.1 0)) ∙ at.2 in
+          order.top.listed number id at.0 seen here
 
-  pub can_split : CanSplit
-  can_split = (
-    whole,
-    (
-      parted.split.apart,
-      (c, seen, parted.held, λ q. (λ named. left_in (64 * w) id c all parted q named, λ kept. in_left (64 * w) id c all parted q kept.0 kept.1)),
-    ),
-  )
+  pub has_own : (kept : ℕ) → kept ≡ names_in (option_to_list last) → IfSome last (λ c. HasFront kept outs c.names (numbers_at Top shelf))
+  has_own kept count = from last refl
+    where
+      from : (o : Option Cluster) → last ≡ o → IfSome o (λ c. HasFront kept outs c.names (numbers_at Top shelf))
+      from None is = tt
+      from (Some c) is =
+          let all : length c.names ≡ kept = omega (arith, count ∙ ap (λ o. names_in (option_to_list o)) is) in
+          subst (λ n. HasFront n outs c.names (numbers_at Top shelf)) all (front_of c is)
 
-  pub drops_name : (new : Shelf) (made : List ℕ)
-      → (x : Cluster) × (numbers : List ℕ) × (seen_at Top shelf.store.clusters number ≡ Some x)
-      × TopRebuilds w (number ∷ []) numbers (x ∷ []) all (id ∷ []) shelf new × AreTold number all numbers made
-      → DropsName w number id made shelf new
-  drops_name new made parts =
-      let one : c ≡ parts.0 = same_Some c parts.0 (sym seen ∙ parts.2) in
+  pub drops_top : (made : List ℕ) (number : Option ℕ) (new : Shelf) → IsMade w outs made number rest last gone shelf new → DropsTop w outs made gone shelf new
+  drops_top made number new is =
+      let same : left.olds ≡ is.olds = one_list (seen_at Top shelf.store.clusters) outs left.olds is.olds left.at is.rebuilds.top.taken in
       record {
-        was = parts.0;
-        left = all;
-        all = parts.1;
-        at = parts.2;
-        split = subst (λ (x : Cluster). IsSplit x.graph (id ∷ []) all) one parted.split;
-        whole = whole;
-        rebuilds = parts.3;
-        told = parts.4;
+        number = number;
+        rest = rest;
+        last = last;
+        once = left.once;
+        is = is;
+        drops = subst (λ (olds : List Cluster). DropsIn olds (rest ++ option_to_list last) gone) same left.drops;
+        own = λ c d last_is first. left.own c d last_is (ap (λ (olds : List Cluster). slice_get olds 0) same ∙ first);
       }
-
--- the components of the cluster that the graph tells are those of what stands under the number
-pub components_there : (w : ℕ) (shelf : Shelf) (id number : ℕ) (c d : Cluster) (lists : List (List ℕ)) → IsInOrder w shelf
-    → finmap.get (numbers_at Top shelf) id ≡ Some number → stored_at shelf.store.clusters number ≡ Some c
-    → IsClusterOf (graph_of (view_of Top shelf)) id d → AreComponents d.graph (id ∷ []) lists → AreComponents c.graph (id ∷ []) lists
-components_there w shelf id number c d lists order is at told components =
-    components_alike (graph_of (view_of Top shelf)) id (id ∷ []) d c lists told
-    (its_cluster w shelf order Top id number is c (seen_there w shelf order Top id number is c at)) components

@@ -1,23 +1,27 @@
 -- A name gets another fee in the clusters that the levels have of it.
-use Rattle.std.proofs.Common.{◌≡◌, ℕ, ℤ, ◌+◌, ◌*◌, ◌≤◌, [], ◌∷◌, length, Contains, Option, Some, None, inl, inr, ◌⊎◌, refl, sym, ap, ◌∙◌, subst, subst₂, arith, Result, Ok, Err, OnOk, SFits, w64, of_z, to_z}
+use Rattle.std.proofs.Common.{◌≡◌, ◌≢◌, ℕ, ℤ, ◌*◌, List, [], ◌∷◌, map, Contains, Option, Some, None, IsSome, is_some, inl, inr, ◌⊎◌, refl, sym, ap, ◌∙◌, subst, true≢false, SFits, w64, of_z, to_z}
+use Rattle.std.specs.Prelude.{option_map, option_to_list}
 use Rattle.std.proofs.lemmas.Int.{to_z-of_z}
+use Rattle.std.proofs.lemmas.Bool.{cases_eq}
 use Rattle.std.proofs.lemmas.Option.{none-some, same_Some}
 use Rattle.std.specs.FinMap as finmap
+use Rattle.lists.specs.Distinct.{AreDistinct}
+use Rattle.lists.proofs.Entries.{map-Contains, Contains-cases, Contains-head, Contains-later, none_in_empty}
 use Rattle.fee_rate.specs.declared.rates.FeeRate.{FeeRate}
 use Rattle.graphs.specs.declared.names.Level.{Level}
 use Rattle.graphs.specs.declared.names.Level.TheVariants.{Main, Top}
 use Rattle.graphs.specs.Closures.{Closure, rate_of, SetsFee}
 use Rattle.cluster.specs.Clusters.{Cluster}
-use Rattle.cluster.specs.Steps.{GrowsWithin, most_steps}
-use Rattle.levels.specs.Changes.{Rebuilds}
-use Rattle.levels.specs.Moves.{SetsFeeAt, SetsFees, SetsFeeUnder}
+use Rattle.cluster_store.specs.Changes.{AreHeld, ExchangesEach}
+use Rattle.cluster_store.specs.Stores.{Exchange, Stored}
+use Rattle.levels.specs.Moves.{AreNumbersOf, ArePriced, IsPriced, SetsFeeAt, SetsFees}
 use Rattle.levels.specs.Shelves.{Shelf, IsInOrder, numbers_at, seen_at, stored_at, view_of}
-use Rattle.levels.specs.Tops.{ExchangedAt}
-use Rattle.levels.specs.Views.{IsIndexed, View}
+use Rattle.levels.specs.Tops.{HaveSameNames}
+use Rattle.cluster_store.proofs.Listed.{only_one}
+use Rattle.levels.proofs.Exchanging.{IsExchanged, by_number, cases_cluster, exchanged_at, rebuilds_swapped}
 use Rattle.levels.proofs.Finds.{indexed_at}
-use Rattle.levels.proofs.Seen.{seen_is_stored}
-use Rattle.levels.proofs.Swapping.{rebuilds_swapped}
-use Rattle.levels.proofs.Under.{held, seen_there}
+use Rattle.levels.proofs.Seen.{same_seen, seen_is_stored}
+use Rattle.levels.proofs.Under.{held, is_stored}
 
 -- two numbers with the same bits are the same
 same_reading : (x y : ℤ) → SFits w64 x → SFits w64 y → of_z w64 x ≡ of_z w64 y → x ≡ y
@@ -32,7 +36,7 @@ module _ (rate : FeeRate) (c : Cluster) (id : ℕ) (fee : ℤ) (told : rate ≡ 
   same_fee one two same = ap (λ (r : FeeRate). r.fee) (sym told) ∙ same_reading rate.fee fee one two same
 
 -- a fee that is the same
-pub sets_same : (g : Closure) (id : ℕ) (fee : ℤ) → (rate_of g id).fee ≡ fee → SetsFee g g id fee
+sets_same : (g : Closure) (id : ℕ) (fee : ℤ) → (rate_of g id).fee ≡ fee → SetsFee g g id fee
 sets_same g id fee same = record {
   members = λ p. refl;
   rate_is = λ i. record { fee = same i; size = (rate_of g id).size };
@@ -40,141 +44,220 @@ sets_same g id fee same = record {
   ancestors = λ a d. refl;
 }
 
--- a level that stays as it is, told as a change
-rebuilds_same : (most number : ℕ) (c : Cluster) (view : View) → IsIndexed most view → view.at number ≡ Some c
-    → Rebuilds most (number ∷ []) (number ∷ []) (c ∷ []) (c ∷ []) [] view view
-rebuilds_same most number c view indexed is =
-    rebuilds_swapped most number c c view view indexed refl (indexed.whole number c is) refl is is (λ n other. refl)
+-- ---- the clusters that have the name
 
--- what was made of the cluster of a number
-pub record IsPriced (number id : ℕ) (fee : ℤ) (was now : Cluster) (shelf : Shelf) : Type 0 where
-  pub at : stored_at shelf.store.clusters number ≡ Some was
-  pub names : now.names ≡ was.names
-  pub sets : SetsFee was.graph now.graph id fee
+-- each level that has the name has this fee for it
+abbrev pub HaveFee : ℕ → ℤ → Shelf → Type 0
+HaveFee id fee shelf =
+    (level : Level) (n : ℕ) (c : Cluster) → finmap.get (numbers_at level shelf) id ≡ Some n → seen_at level shelf.store.clusters n ≡ Some c
+    → (rate_of c.graph id).fee ≡ fee
 
-pub priced_same : (number id : ℕ) (fee : ℤ) (c : Cluster) (shelf : Shelf) → stored_at shelf.store.clusters number ≡ Some c → (rate_of c.graph id).fee ≡ fee
-    → IsPriced number id fee c c shelf
-priced_same number id fee c shelf at same = record { at = at; names = refl; sets = sets_same c.graph id fee same }
+-- the name has one rate in both levels
+abbrev pub HasOneRate : ℕ → Shelf → Type 0
+HasOneRate id shelf =
+    (n m : ℕ) (c d : Cluster) → finmap.get (numbers_at Main shelf) id ≡ Some n → finmap.get (numbers_at Top shelf) id ≡ Some m
+    → seen_at Main shelf.store.clusters n ≡ Some c → seen_at Top shelf.store.clusters m ≡ Some d → rate_of c.graph id ≡ rate_of d.graph id
 
-module _ (w : ℕ) (shelf : Shelf) (order : IsInOrder w shelf) (number : ℕ) (c : Cluster) (at : stored_at shelf.store.clusters number ≡ Some c) where
-  -- the cluster is its own exchange
-  pub exchanged_same : (level : Level) → ExchangedAt w number c level shelf shelf
-  exchanged_same level = (
-    λ d seen. let one : c ≡ d = same_Some c d (sym at ∙ seen_is_stored level shelf.store.clusters number d seen) in
-        subst (λ (x : Cluster). Rebuilds (64 * w) (number ∷ []) (number ∷ []) (d ∷ []) (x ∷ []) [] (view_of level shelf) (view_of level shelf)) (sym one)
-        (rebuilds_same (64 * w) number d (view_of level shelf) (indexed_at w shelf order level) seen),
-    λ none n. refl,
-  )
-
-  -- it is seen in no level where one of its names has another number, or none
-  pub unseen : (level : Level) (id : ℕ) → Contains c.names id → (finmap.get (numbers_at level shelf) id ≡ Some number → ⊥)
-      → seen_at level shelf.store.clusters number ≡ None
-  unseen level id held away = from (seen_at level shelf.store.clusters number) refl
-    where
-      from : (o : Option Cluster) → seen_at level shelf.store.clusters number ≡ o → seen_at level shelf.store.clusters number ≡ None
-      from None is = is
-      from (Some d) is =
-          let one : c ≡ d = same_Some c d (sym at ∙ seen_is_stored level shelf.store.clusters number d is) in
-          absurd (away ((indexed_at w shelf order level).listed number id d is (subst (λ (x : Cluster). Contains x.names id) one held)))
-
--- ---- one level
-
--- The cluster of the number is exchanged for one with another fee, and the number is the name's where the level has the name.
-pub fee_at : (w number id : ℕ) (fee : ℤ) (was now : Cluster) (level : Level) (old new : Shelf) → IsInOrder w old → IsPriced number id fee was now old
-    → Contains was.names id → ExchangedAt w number now level old new
-    → (finmap.get (numbers_at level old) id ≡ None) ⊎ (finmap.get (numbers_at level old) id ≡ Some number) → SetsFeeAt w id fee level old new
-fee_at w number id fee was now level old new order priced held exchanged place = record {
-  here = λ n c is seen.
-      let same : number ≡ n = elim place [
-        | inl none ↦ absurd (none-some n (sym none ∙ is))
-        | inr some ↦ same_Some number n (sym some ∙ is)
-      ] in
-      let there : seen_at level old.store.clusters number ≡ Some c = ap (seen_at level old.store.clusters) same ∙ seen in
-      let one : was ≡ c = same_Some was c (sym priced.at ∙ seen_is_stored level old.store.clusters number c there) in (
-        now,
-        priced.names ∙ ap (λ (x : Cluster). x.names) one,
-        subst (λ (x : Cluster). SetsFee x.graph now.graph id fee) one priced.sets,
-        subst (λ k. Rebuilds (64 * w) (k ∷ []) (k ∷ []) (c ∷ []) (now ∷ []) [] (view_of level old) (view_of level new)) same (exchanged.0 c there),
+-- a shelf that stays as it is where the fee is the same
+pub fees_same : (w id : ℕ) (fee : ℤ) (shelf : Shelf) → IsInOrder w shelf → HaveFee id fee shelf → SetsFees w id fee shelf shelf
+fees_same w id fee shelf order have = record { main = at Main; top = at Top; numbers = refl; staging = refl }
+  where
+    at : (level : Level) → SetsFeeAt w id fee level shelf shelf
+    at level = record {
+      here = λ number was is seen. let indexed = indexed_at w shelf order level in (
+        was,
+        refl,
+        sets_same was.graph id fee (have level number was is seen),
+        rebuilds_swapped (64 * w) number was was (view_of level shelf) (view_of level shelf) indexed refl (indexed.whole number was seen) refl seen seen
+            (λ n other. refl),
       );
-  away = λ none. exchanged.1 (unseen w old order number was priced.at level id held (λ some. none-some number (sym none ∙ some)));
+      away = λ none n. refl;
+    }
+
+-- the numbers that the levels have for the name
+pub numbers_one : (id first : ℕ) (shelf : Shelf) (level : Level) → finmap.get (numbers_at level shelf) id ≡ Some first
+    → (finmap.get (numbers_at Main shelf) id ≡ None) ⊎ (finmap.get (numbers_at Main shelf) id ≡ Some first)
+    → (finmap.get (numbers_at Top shelf) id ≡ None) ⊎ (finmap.get (numbers_at Top shelf) id ≡ Some first) → AreNumbersOf id first None shelf
+numbers_one id first shelf level is main top = record {
+  level = level;
+  first_is = is;
+  one = λ none l. from l;
+  two = λ number some. absurd (none-some number some);
+}
+  where
+    from : (l : Level) → (finmap.get (numbers_at l shelf) id ≡ None) ⊎ (finmap.get (numbers_at l shelf) id ≡ Some first)
+    from Main = main
+    from Top = top
+
+pub numbers_apart : (id main top : ℕ) (shelf : Shelf) → finmap.get (numbers_at Main shelf) id ≡ Some main → finmap.get (numbers_at Top shelf) id ≡ Some top
+    → main ≢ top → AreNumbersOf id main (Some top) shelf
+numbers_apart id main top shelf one two apart = record {
+  level = Main;
+  first_is = one;
+  one = λ none. absurd (none-some top (sym none));
+  two = λ number is. let same = same_Some top number is in (one, two ∙ ap Some same, λ e. apart (e ∙ sym same));
 }
 
--- ---- the cluster of one number
+pub numbers_none : (id : ℕ) (shelf : Shelf) → finmap.get (numbers_at Main shelf) id ≡ None → finmap.get (numbers_at Top shelf) id ≡ None
+    → (IsSome (finmap.get (numbers_at Main shelf) id) ⊎ IsSome (finmap.get (numbers_at Top shelf) id)) → ⊥
+numbers_none id shelf main top live = elim live [
+  | inl some ↦ true≢false (sym some ∙ ap is_some main)
+  | inr some ↦ true≢false (sym some ∙ ap is_some top)
+]
 
-pub under_same : (w number id : ℕ) (fee : ℤ) (c : Cluster) (shelf : Shelf) → IsInOrder w shelf → stored_at shelf.store.clusters number ≡ Some c
-    → (rate_of c.graph id).fee ≡ fee → SetsFeeUnder w number id fee shelf shelf
-under_same w number id fee c shelf order at same = record {
-  was = c;
-  now = c;
-  at = at;
-  names = refl;
-  sets = sets_same c.graph id fee same;
-  levels = exchanged_same w shelf order number c at;
-  numbers = refl;
-  staging = refl;
-}
+module _ (w id first : ℕ) (second : Option ℕ) (shelf : Shelf) (order : IsInOrder w shelf) (are : AreNumbersOf id first second shelf) where
+  pub first_there : (c : Cluster) × (stored_at shelf.store.clusters first ≡ Some c) × Contains c.names id
+  first_there =
+      let at = (indexed_at w shelf order are.level).stands id first are.first_is in
+      (at.cluster, seen_is_stored are.level shelf.store.clusters first at.cluster at.there, at.here)
 
-pub under_changed : {T E : Type 0} (w number id : ℕ) (fee : ℤ) (was now : Cluster) (old new : Shelf) (result : Result T E) → IsPriced number id fee was now old
-    → ((level : Level) → OnOk result (ExchangedAt w number now level old new)) → (new.main ≡ old.main) × (new.staging ≡ old.staging)
-    → OnOk result (SetsFeeUnder w number id fee old new)
-under_changed w number id fee was now old new (Ok x) priced levels numbers = record {
-  was = was;
-  now = now;
-  at = priced.at;
-  names = priced.names;
-  sets = priced.sets;
-  levels = levels;
-  numbers = numbers.0;
-  staging = numbers.1;
-}
-under_changed w number id fee was now old new (Err e) priced levels numbers = tt
+  pub second_there : (number : ℕ) → second ≡ Some number → (c : Cluster) × (stored_at shelf.store.clusters number ≡ Some c) × Contains c.names id
+  second_there number is =
+      let at = order.top.stands id number (are.two number is).1 in
+      (at.cluster, seen_is_stored Top shelf.store.clusters number at.cluster at.there, at.here)
 
--- ---- the clusters of two numbers, one of each level
-
-module _ (w main top id : ℕ) (fee : ℤ) (old : Shelf) (order : IsInOrder w old) (main_is : finmap.get (numbers_at Main old) id ≡ Some main)
-    (top_is : finmap.get (numbers_at Top old) id ≡ Some top) where
-  -- the name's rate is the same in both
-  abbrev HasOneRate : Type 0
-  HasOneRate = (c d : Cluster) → seen_at Main old.store.clusters main ≡ Some c → seen_at Top old.store.clusters top ≡ Some d
-      → rate_of c.graph id ≡ rate_of d.graph id
-
-  pub both_same : (c : Cluster) → HasOneRate → stored_at old.store.clusters main ≡ Some c → (rate_of c.graph id).fee ≡ fee → SetsFees w id fee old old
-  both_same c one at same =
-      let seen = seen_there w old order Main id main main_is c at in
-      let other = order.top.stands id top top_is in
-      let other_at = seen_is_stored Top old.store.clusters top other.cluster other.there in
-      let alike : (rate_of other.cluster.graph id).fee ≡ fee = ap (λ (r : FeeRate). r.fee) (sym (one c other.cluster seen other.there)) ∙ same in
-      record {
-        main = fee_at w main id fee c c Main old old order (priced_same main id fee c old at same) (held w old order Main id main main_is c seen)
-            (exchanged_same w old order main c at Main) (inr main_is);
-        top = fee_at w top id fee other.cluster other.cluster Top old old order (priced_same top id fee other.cluster old other_at alike) other.here
-            (exchanged_same w old order top other.cluster other_at Top) (inr top_is);
-        numbers = refl;
-        staging = refl;
-      }
-
-  pub both_changed : {T E : Type 0} (c c' d d' : Cluster) (new : Shelf) (result : Result T E) → IsPriced main id fee c c' old → IsPriced top id fee d d' old
-      → OnOk result (ExchangedAt w main c' Main old new) → OnOk result (ExchangedAt w top d' Top old new)
-      → (new.main ≡ old.main) × (new.staging ≡ old.staging) → OnOk result (SetsFees w id fee old new)
-  both_changed c c' d d' new (Ok x) first second one two numbers = record {
-    main = fee_at w main id fee c c' Main old new order first
-        (held w old order Main id main main_is c (seen_there w old order Main id main main_is c first.at)) one (inr main_is);
-    top = fee_at w top id fee d d' Top old new order second
-        (held w old order Top id top top_is d (seen_there w old order Top id top top_is d second.at)) two (inr top_is);
-    numbers = numbers.0;
-    staging = numbers.1;
-  }
-  both_changed c c' d d' new (Err e) first second one two numbers = tt
-
-  pub both_counted : (c d : Cluster) (before mid after : ℕ) → stored_at old.store.clusters main ≡ Some c → stored_at old.store.clusters top ≡ Some d
-      → GrowsWithin (most_steps (length c.names)) before mid → GrowsWithin (most_steps (length d.names)) mid after
-      → (a b : Cluster) → seen_at Main old.store.clusters main ≡ Some a → seen_at Top old.store.clusters top ≡ Some b
-      → after ≤ before + most_steps (length a.names) + most_steps (length b.names)
-  both_counted c d before mid after at there one two a b a_at b_at =
-      let first : c ≡ a = same_Some c a (sym at ∙ seen_is_stored Main old.store.clusters main a a_at) in
-      let second : d ≡ b = same_Some d b (sym there ∙ seen_is_stored Top old.store.clusters top b b_at) in
-      subst₂ (λ (x y : Cluster). after ≤ before + most_steps (length x.names) + most_steps (length y.names)) first second
-      (sum_of before mid after (most_steps (length c.names)) (most_steps (length d.names)) one two)
+  -- a level that has the name has one of the numbers for it
+  pub all_numbers : (level : Level) (n : ℕ) → finmap.get (numbers_at level shelf) id ≡ Some n → Contains (first ∷ option_to_list second) n
+  all_numbers level n is = from second refl
     where
-      sum_of : (k l m s t : ℕ) → GrowsWithin s k l → GrowsWithin t l m → m ≤ k + s + t
-      sum_of k l m s t one two = let first = one.few in let second = two.few in omega (arith, first, second)
+      as_two : (number : ℕ) → second ≡ Some number → (l : Level) → finmap.get (numbers_at l shelf) id ≡ Some n → (n ≡ first) ⊎ (n ≡ number)
+      as_two number two Main at = inl (same_Some n first (sym at ∙ (are.two number two).0))
+      as_two number two Top at = inr (same_Some n number (sym at ∙ (are.two number two).1))
+
+      from : (o : Option ℕ) → second ≡ o → Contains (first ∷ option_to_list second) n
+      from None one = subst (λ o. Contains (first ∷ option_to_list o) n) (sym one) (elim (are.one one level) [
+        | inl none ↦ absurd (none-some n (sym none ∙ is))
+        | inr some ↦ subst (Contains (first ∷ [])) (same_Some first n (sym some ∙ is)) (Contains-head first [])
+      ])
+      from (Some number) two = subst (λ o. Contains (first ∷ option_to_list o) n) (sym two) (elim (as_two number two level is) [
+        | inl same ↦ subst (Contains (first ∷ number ∷ [])) (sym same) (Contains-head first (number ∷ []))
+        | inr same ↦ subst (Contains (first ∷ number ∷ [])) (sym same) (Contains-later first number (number ∷ []) (Contains-head number []))
+      ])
+
+  -- where every level has this fee of it the first has
+  pub first_fee : (c : Cluster) → stored_at shelf.store.clusters first ≡ Some c → (fee : ℤ) → HaveFee id fee shelf → (rate_of c.graph id).fee ≡ fee
+  first_fee c at fee have =
+      let s = (indexed_at w shelf order are.level).stands id first are.first_is in
+      let same = same_Some s.cluster c (sym (seen_is_stored are.level shelf.store.clusters first s.cluster s.there) ∙ at) in
+      have are.level first c are.first_is (s.there ∙ ap Some same)
+
+  -- the fee of the first is that of every level
+  pub one_fee : HasOneRate id shelf → (c : Cluster) → stored_at shelf.store.clusters first ≡ Some c → (fee : ℤ) → (rate_of c.graph id).fee ≡ fee
+      → HaveFee id fee shelf
+  one_fee one c at fee same level n d is seen = ap (λ (r : FeeRate). r.fee) (from are.level are.first_is level n d is seen) ∙ same
+    where
+      stored : (l : Level) (e : Cluster) → seen_at l shelf.store.clusters first ≡ Some e → e ≡ c
+      stored l e there = same_Some e c (sym (seen_is_stored l shelf.store.clusters first e there) ∙ at)
+
+      -- it is seen in its own level
+      there : (l : Level) → finmap.get (numbers_at l shelf) id ≡ Some first → seen_at l shelf.store.clusters first ≡ Some c
+      there l is_first =
+          let s = (indexed_at w shelf order l).stands id first is_first in s.there ∙ ap Some (stored l s.cluster s.there)
+
+      alike : (l : Level) → finmap.get (numbers_at l shelf) id ≡ Some first → (m : ℕ) (e : Cluster) → finmap.get (numbers_at l shelf) id ≡ Some m
+          → seen_at l shelf.store.clusters m ≡ Some e → rate_of e.graph id ≡ rate_of c.graph id
+      alike l is_first m e number at_m =
+          let same_number : m ≡ first = same_Some m first (sym number ∙ is_first) in
+          ap (λ (z : Cluster). rate_of z.graph id) (stored l e (ap (seen_at l shelf.store.clusters) (sym same_number) ∙ at_m))
+
+      from : (l : Level) → finmap.get (numbers_at l shelf) id ≡ Some first → (k : Level) (m : ℕ) (e : Cluster)
+          → finmap.get (numbers_at k shelf) id ≡ Some m → seen_at k shelf.store.clusters m ≡ Some e → rate_of e.graph id ≡ rate_of c.graph id
+      from Main is_first Main m e number at_m = alike Main is_first m e number at_m
+      from Top is_first Top m e number at_m = alike Top is_first m e number at_m
+      from Main is_first Top m e number at_m = sym (one first m c e is_first number (there Main is_first) at_m)
+      from Top is_first Main m e number at_m = one m first e c number is_first at_m (there Top is_first)
+
+-- ---- one cluster with another fee, and two
+
+module _ (w id : ℕ) (fee : ℤ) (shelf : Shelf) (x : Exchange) (one : IsPriced w id fee x shelf) where
+  pub priced_one : ArePriced w id fee (x ∷ []) shelf
+  priced_one z here = elim (Contains-cases x z [] here) [
+    | inl same ↦ subst (λ (y : Exchange). IsPriced w id fee y shelf) same one
+    | inr none ↦ absurd (none_in_empty z none)
+  ]
+
+  pub priced_two : (y : Exchange) → IsPriced w id fee y shelf → ArePriced w id fee (x ∷ y ∷ []) shelf
+  priced_two y two z here = elim (Contains-cases x z (y ∷ []) here) [
+    | inl same ↦ subst (λ (e : Exchange). IsPriced w id fee e shelf) same one
+    | inr later ↦ elim (Contains-cases y z [] later) [
+      | inl same ↦ subst (λ (e : Exchange). IsPriced w id fee e shelf) same two
+      | inr none ↦ absurd (none_in_empty z none)
+    ]
+  ]
+
+-- ---- what the store makes of it
+
+module _ (w id first : ℕ) (second : Option ℕ) (fee : ℤ) (list : List Exchange) (old : Shelf) (order : IsInOrder w old)
+    (are : AreNumbersOf id first second old) (priced : ArePriced w id fee list old) (told : map (λ x. x.number) list ≡ first ∷ option_to_list second) where
+  its_number : (n : ℕ) → Contains (map (λ x. x.number) list) n → (x : Exchange) × Contains list x × (x.number ≡ n)
+  its_number n here = map-Contains (λ (x : Exchange). x.number) list n here
+
+  two_numbers : (o : Option ℕ) → second ≡ o → AreDistinct (first ∷ option_to_list o)
+  two_numbers None is = ((λ here. none_in_empty first here), tt)
+  two_numbers (Some number) is = ((λ here. (are.two number is).2 (only_one number first here)), ((λ here. none_in_empty number here), tt))
+
+  stored_some : (c : Cluster) (o : Option Stored) → option_map (λ (s : Stored). s.cluster) o ≡ Some c → IsSome o
+  stored_some c None is = absurd (none-some c is)
+  stored_some c (Some s) is = refl
+
+  pub same_names : HaveSameNames w list old
+  same_names = record {
+    held = record {
+      once = subst AreDistinct (sym told) (two_numbers second refl);
+      there = λ n here.
+          let x = its_number n here in
+          let p = priced x.0 x.1 in
+          subst (λ m. IsSome (finmap.get old.store.clusters m)) x.2 (stored_some p.was (finmap.get old.store.clusters x.0.number) p.at);
+    };
+    whole = λ x here. (priced x here).whole;
+    names = λ x c here at.
+        let p = priced x here in p.names ∙ ap (λ (d : Cluster). d.names) (same_Some p.was c (sym p.at ∙ at));
+  }
+
+  module _ (new : Shelf) (x : ExchangesEach list old.store.clusters new.store.clusters) (numbers : (new.main ≡ old.main) × (new.staging ≡ old.staging)) where
+    level_numbers : (level : Level) → numbers_at level new ≡ numbers_at level old
+    level_numbers Main = numbers.0
+    level_numbers Top = λ i. numbers_at Top (record { main = numbers.0 i; staging = numbers.1 i; store = new.store })
+
+    -- what was seen under a number whose cluster is exchanged
+    was_is : (level : Level) (n : ℕ) (c : Cluster) (e : IsExchanged list old new n) → seen_at level old.store.clusters n ≡ Some c
+        → (priced e.by e.in_list).was ≡ c
+    was_is level n c e seen =
+        let p = priced e.by e.in_list in
+        same_Some p.was c (sym p.at ∙ ap (stored_at old.store.clusters) e.number_is ∙ seen_is_stored level old.store.clusters n c seen)
+
+    -- under a number that the name hasn't all that is seen stays
+    unseen : (level : Level) (n : ℕ) → (finmap.get (numbers_at level old) id ≡ Some n → ⊥)
+        → seen_at level new.store.clusters n ≡ seen_at level old.store.clusters n
+    unseen level n away = elim (by_number w list old new order same_names x level_numbers n) [
+      | inl stays ↦ same_seen level old.store.clusters new.store.clusters n stays
+      | inr e ↦
+          let none : seen_at level old.store.clusters n ≡ None = elim (cases_cluster (seen_at level old.store.clusters n)) [
+            | inl none ↦ none
+            | inr some ↦
+                let held = subst (λ (c : Cluster). Contains c.names id) (was_is level n some.0 e some.1) (priced e.by e.in_list).held in
+                absurd (away ((indexed_at w old order level).listed n id some.0 some.1 held))
+          ] in
+          e.seen level ∙ ap (option_map (λ _. e.by.cluster)) none ∙ sym none
+    ]
+
+    fee_at : (level : Level) → SetsFeeAt w id fee level old new
+    fee_at level = record {
+      here = λ number was is seen.
+          let e = exchanged_at w list old new order same_names x level_numbers number
+          (subst (λ (ns : List ℕ). Contains ns number) (sym told) (all_numbers w id first second old order are level number is)) in
+          let p = priced e.by e.in_list in
+          let one : p.was ≡ was = was_is level number was e seen in
+          let names : e.by.cluster.names ≡ was.names = p.names ∙ ap (λ (c : Cluster). c.names) one in (
+            e.by.cluster,
+            names,
+            subst (λ (c : Cluster). SetsFee c.graph e.by.cluster.graph id fee) one p.sets,
+            rebuilds_swapped (64 * w) number was e.by.cluster (view_of level old) (view_of level new) (indexed_at w old order level) (level_numbers level)
+                p.whole names seen (e.seen level ∙ ap (option_map (λ _. e.by.cluster)) seen)
+                (λ n other. unseen level n (λ same. other (same_Some n number (sym same ∙ is)))),
+          );
+      away = λ none n. unseen level n (λ some. none-some n (sym none ∙ some));
+    }
+
+    pub fees_exchanged : SetsFees w id fee old new
+    fees_exchanged = record { main = fee_at Main; top = fee_at Top; numbers = numbers.0; staging = numbers.1 }

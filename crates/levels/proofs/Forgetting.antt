@@ -1,104 +1,131 @@
--- The rings are right again where a name went that staging alone had.
-use Rattle.std.proofs.Common.{◌≡◌, ◌≢◌, ℕ, ◌*◌, List, [], ◌∷◌, None, is_some, IsSome, inl, inr, ◌⊎◌, ◌↔◌, sym, ap, ◌∙◌, true≢false}
-use Rattle.std.proofs.lemmas.Option.{none-some}
+-- Names go out of the rings, one after another.
+use Rattle.std.proofs.Common.{◌≡◌, ◌≢◌, ℕ, ◌+◌, ◌<◌, List, [], ◌∷◌, ◌++◌, length, slice_index_or, take, Contains, Option, Some, None, is_some, Bool, true, false, not, inl, inr, ◌⊎◌, ◌↔◌, refl, sym, ap, ◌∙◌, subst, true≢false}
+use Rattle.std.proofs.lemmas.List.{take_more}
+use Rattle.std.proofs.lemmas.List.Elements.{Contains-append_left, Contains-get_or, Contains-push, Contains-push_cases}
 use Rattle.std.specs.FinMap as finmap
-use Rattle.lists.proofs.Entries.{Contains-head, Contains-cases, none_in_empty}
-use Rattle.graphs.specs.declared.names.Level.TheVariants.{Main, Top}
-use Rattle.cluster.specs.Clusters.{Cluster}
-use Rattle.levels.specs.Changes.{IsNamed as HasName}
-use Rattle.levels.specs.Rings.{Ringed, AreRight, IsHeld}
-use Rattle.levels.specs.Shelves.{Shelf, numbers_at, seen_at, view_of}
-use Rattle.levels.specs.Tops.{TopRebuilds}
-use Rattle.levels.specs.Views.{IsIndexed, Numbers}
-use Rattle.levels.proofs.Righting.{Drops, Leaves, new_apart, number_out, out_apart}
-use Rattle.levels.proofs.Lookups.{decide_named, placed_of}
+use Rattle.lists.specs.Distinct.{AreDistinct}
+use Rattle.lists.proofs.Distinct.{repeated}
+use Rattle.name_book.specs.Calls.{Drops}
+use Rattle.levels.specs.Rings.{Forgets, Ringed}
+use Rattle.levels.specs.Views.{Numbers}
+use Rattle.levels.proofs.Righting.{AreLost}
 
-module _ (w id : ℕ) (outs made : List ℕ) (olds news : List Cluster) (old new : Shelf) (main_indexed : IsIndexed (64 * w) (view_of Main old))
-    (top_indexed : IsIndexed (64 * w) (view_of Top old)) (staged : IsSome old.staging) (r : TopRebuilds w outs made olds news (id ∷ []) old new)
-    (known : (x : ℕ) → HasName news x → HasName olds x) (lacks : finmap.get old.main id ≡ None) (own : (x : ℕ) → Leaves outs old.main x → ⊥) where
-  abbrev main : Numbers
-  main = old.main
+pub forgets_none : (These : ℕ → Type 0) (rings : Ringed) → ((x : ℕ) → These x → ⊥) → Forgets These rings rings
+forgets_none These rings none = record {
+  names = λ x. (λ named. (named, none x), λ both. both.0);
+  main = λ x y. (λ share. (share, none x, none y), λ both. both.0);
+  touched = λ x. (λ marked. (marked, none x), λ both. both.0);
+}
 
-  abbrev top : Numbers
-  top = numbers_at Top old
+-- other words for the names that go
+pub forgets_alike : (These Those : ℕ → Type 0) (old new : Ringed) → ((x : ℕ) → These x ↔ Those x) → Forgets These old new → Forgets Those old new
+forgets_alike These Those old new same forgets = record {
+  names = λ x. (
+    λ named. let was = (forgets.names x).0 named in (was.0, λ here. was.1 ((same x).1 here)),
+    λ both. (forgets.names x).1 (both.0, λ here. both.1 ((same x).0 here)),
+  );
+  main = λ x y. (
+    λ share. let was = (forgets.main x y).0 share in (was.0, λ here. was.1 ((same x).1 here), λ here. was.2 ((same y).1 here)),
+    λ both. (forgets.main x y).1 (both.0, λ here. both.1 ((same x).0 here), λ here. both.2 ((same y).0 here)),
+  );
+  touched = λ x. (
+    λ marked. let was = (forgets.touched x).0 marked in (was.0, λ here. was.1 ((same x).1 here)),
+    λ both. (forgets.touched x).1 (both.0, λ here. both.1 ((same x).0 here)),
+  );
+}
 
-  abbrev later : Numbers
-  later = numbers_at Top new
+-- one name more
+pub forgets_one : (These : ℕ → Type 0) (id : ℕ) (old mid new : Ringed) → Forgets These old mid → Drops id mid new
+    → Forgets (λ x. These x ⊎ (x ≡ id)) old new
+forgets_one These id old mid new so drops = record {
+  names = λ x. (
+    λ named. let last = (drops.names x).0 named in let was = (so.names x).0 last.0 in (was.0, neither x was.1 last.1),
+    λ both. (drops.names x).1 ((so.names x).1 (both.0, λ here. both.1 (inl here)), λ same. both.1 (inr same)),
+  );
+  main = λ x y. (
+    λ share.
+        let last = (drops.main x y).0 share in
+        let was = (so.main x y).0 last.0 in
+        (was.0, neither x was.1 last.1, neither y was.2 last.2),
+    λ both. (drops.main x y).1 (
+      (so.main x y).1 (both.0, λ here. both.1 (inl here), λ here. both.2 (inl here)),
+      λ same. both.1 (inr same),
+      λ same. both.2 (inr same),
+    ),
+  );
+  touched = λ x. (
+    λ marked. let last = (drops.touched x).0 marked in let was = (so.touched x).0 last.0 in (was.0, neither x was.1 last.1),
+    λ both. (drops.touched x).1 ((so.touched x).1 (both.0, λ here. both.1 (inl here)), λ same. both.1 (inr same)),
+  );
+}
+  where
+    neither : (x : ℕ) → (These x → ⊥) → (x ≢ id) → These x ⊎ (x ≡ id) → ⊥
+    neither x stays other either = elim either [ inl here ↦ stays here | inr same ↦ other same ]
 
-  gone_none : finmap.get later id ≡ None
-  gone_none = r.top.points.lost id (Contains-head id [])
+-- whether main has a name, as a test of its number tells
+pub lacks_number : (o p : Option ℕ) (b : Bool) → is_some o ≡ not b → b ≡ true → o ≡ p → p ≡ None
+lacks_number None p b is holds same = sym same
+lacks_number (Some n) p b is holds same = absurd (true≢false (is ∙ ap not holds))
 
-  was_named : HasName olds id
-  was_named = (r.top.covers.lose id (Contains-head id [])).0
+pub has_number : (o p : Option ℕ) (b : Bool) → is_some o ≡ not b → b ≡ false → o ≡ p → p ≢ None
+has_number o p b is shut same none = true≢false (sym (is ∙ ap not shut) ∙ ap is_some (same ∙ none))
 
-  stays_or : (x : ℕ) → x ≢ id → (HasName news x ⊎ (finmap.get later x ≡ finmap.get top x))
-  stays_or x other = elim (decide_named news x) [
-    | inl named ↦ inl named
-    | inr none ↦
-        inr (r.top.points.others x none (λ here. elim (Contains-cases id x [] here) [ inl same ↦ other (sym same) | inr nothing ↦ none_in_empty x nothing ]))
-  ]
+-- ---- the names of a list
 
-  touched_other : (x : ℕ) → x ≢ id → (finmap.get main x ≢ finmap.get later x) ↔ (finmap.get main x ≢ finmap.get top x)
-  touched_other x other = elim (stays_or x other) [
-    | inl named ↦ (
-      λ _. out_apart w outs made olds news (id ∷ []) old new main_indexed top_indexed staged r known x (known x named) (own x),
-      λ _. new_apart w outs made olds news (id ∷ []) old new main_indexed top_indexed staged r known x named,
-    )
-    | inr same ↦ (λ apart is. apart (is ∙ sym same), λ apart is. apart (is ∙ same))
-  ]
+module _ (ids : List ℕ) (i : ℕ) (low : i < length ids) where
+  abbrev next : ℕ
+  next = slice_index_or ids i 0
 
-  held_other : (x : ℕ) → IsHeld main later x ↔ (IsHeld main top x × (x ≢ id))
-  held_other x = (
-    λ held.
-        let other : x ≢ id = λ same. elim held [
-          | inl one ↦ true≢false (sym one ∙ ap is_some (ap (finmap.get main) same ∙ lacks))
-          | inr two ↦ true≢false (sym two ∙ ap is_some (ap (finmap.get later) same ∙ gone_none))
-        ] in (
-          elim held [
-            | inl one ↦ inl one
-            | inr two ↦ inr (elim (stays_or x other) [
-              | inl named ↦ ap is_some (number_out w outs made olds news (id ∷ []) old new main_indexed top_indexed staged r known x (known x named)).2
-              | inr same ↦ ap is_some (sym same) ∙ two
-            ])
-          ],
-          other,
-        ),
-    λ held. elim held.0 [
-      | inl one ↦ inl one
-      | inr two ↦ elim (stays_or x held.1) [
-        | inl named ↦
-            let at = placed_of (seen_at Top new.store.clusters) made news named.0 r.top.exchanges.stand named.1 in
-            inr (ap is_some (r.top.points.pointed at.place x named.0 at.listed named.2))
-        | inr same ↦ inr (ap is_some same ∙ two)
-      ]
+  more : take (i + 1) ids ≡ take i ids ++ next ∷ []
+  more = take_more ids i 0 low
+
+  pub in_list : Contains ids next
+  in_list = Contains-get_or ids i 0 low
+
+  in_more : (x : ℕ) → (Contains (take i ids) x ⊎ (x ≡ next)) ↔ Contains (take (i + 1) ids) x
+  in_more x = (
+    λ either. subst (λ (xs : List ℕ). Contains xs x) (sym more) (elim either [
+      | inl before ↦ Contains-append_left (take i ids) (next ∷ []) x before
+      | inr same ↦ subst (Contains (take i ids ++ next ∷ [])) (sym same) (Contains-push (take i ids) next)
+    ]),
+    λ here. elim (Contains-push_cases (take i ids) next x (subst (λ (xs : List ℕ). Contains xs x) more here)) [
+      | inl before ↦ inl before
+      | inr same ↦ inr (sym same)
     ],
   )
 
-  pub right_forgotten : (before after : Ringed) → AreRight before main top → Drops id before after → AreRight after main later
-  right_forgotten before after right drops = record {
-    names = λ x. (
-      λ named. let was = (drops.names x).0 named in (held_other x).1 ((right.names x).0 was.0, was.1),
-      λ held. let was = (held_other x).0 held in (drops.names x).1 ((right.names x).1 was.0, was.1),
-    );
-    zero = λ a b. (
-      λ share.
-          let was = (drops.main a b).0 share in
-          elim ((right.zero a b).0 was.0) [ inl one ↦ inl ((drops.names a).1 (one.0, was.1), one.1) | inr two ↦ inr two ],
-      λ either. elim either [
-        | inl one ↦
-            let was = (drops.names a).0 one.0 in
-            (drops.main a b).1 ((right.zero a b).1 (inl (was.0, one.1)), was.1, λ same. was.1 (one.1 ∙ same))
-        | inr two ↦ (drops.main a b).1 (
-          (right.zero a b).1 (inr two),
-          λ same. none-some two.0 (sym (ap (finmap.get main) same ∙ lacks) ∙ two.1),
-          λ same. none-some two.0 (sym (ap (finmap.get main) same ∙ lacks) ∙ two.2),
-        )
-      ],
-    );
-    touched = λ x. (
-      λ marked. let was = (drops.touched x).0 marked in (touched_other x was.1).1 ((right.touched x).0 was.0),
-      λ apart.
-          let other : x ≢ id = λ same. apart (ap (finmap.get main) same ∙ lacks ∙ sym gone_none ∙ ap (finmap.get later) (sym same)) in
-          (drops.touched x).1 ((right.touched x).1 ((touched_other x other).0 apart), other),
-    );
-  }
+  -- the next name isn't among those before it
+  pub not_before : AreDistinct ids → Contains (take i ids) next → ⊥
+  not_before once before = repeated ids i next 0 low refl before once
+
+  -- all of them go
+  pub forgets_next : (old mid new : Ringed) → Forgets (Contains (take i ids)) old mid → Drops next mid new → Forgets (Contains (take (i + 1) ids)) old new
+  forgets_next old mid new so drops =
+      forgets_alike (λ x. Contains (take i ids) x ⊎ (x ≡ next)) (Contains (take (i + 1) ids)) old new in_more
+      (forgets_one (Contains (take i ids)) next old mid new so drops)
+
+  -- those go that main hasn't
+  module _ (main : Numbers) (old mid : Ringed) (so : Forgets (AreLost (take i ids) main) old mid) where
+    pub forgets_lost : (new : Ringed) → finmap.get main next ≡ None → Drops next mid new → Forgets (AreLost (take (i + 1) ids) main) old new
+    forgets_lost new lacks drops =
+        forgets_alike (λ x. AreLost (take i ids) main x ⊎ (x ≡ next)) (AreLost (take (i + 1) ids) main) old new
+        (λ x. (
+          λ either. elim either [
+            | inl before ↦ ((in_more x).0 (inl before.0), before.1)
+            | inr same ↦ ((in_more x).0 (inr same), subst (λ k. finmap.get main k ≡ None) (sym same) lacks)
+          ],
+          λ lost. elim ((in_more x).1 lost.0) [ inl before ↦ inl (before, lost.1) | inr same ↦ inr same ],
+        ))
+        (forgets_one (AreLost (take i ids) main) next old mid new so drops)
+
+    pub forgets_kept : finmap.get main next ≢ None → Forgets (AreLost (take (i + 1) ids) main) old mid
+    forgets_kept has =
+        forgets_alike (AreLost (take i ids) main) (AreLost (take (i + 1) ids) main) old mid
+        (λ x. (
+          λ lost. ((in_more x).0 (inl lost.0), lost.1),
+          λ lost. elim ((in_more x).1 lost.0) [
+            | inl before ↦ (before, lost.1)
+            | inr same ↦ absurd (has (subst (λ k. finmap.get main k ≡ None) same lost.1))
+          ],
+        ))
+        so

@@ -1,21 +1,25 @@
 -- The rings are right again where a name came in, and where room was made.
-use Rattle.std.proofs.Common.{◌≡◌, ◌≢◌, ◌↔◌, ℕ, zero, suc, Bool, true, false, [], ◌∷◌, Option, Some, None, is_some, IsSome, Contains, inl, inr, refl, sym, ap, ◌∙◌, subst, true≢false}
+use Rattle.std.proofs.Common.{◌≡◌, ◌≢◌, ◌↔◌, ℕ, zero, suc, ◌*◌, ◌<◌, ◌≤◌, Bool, true, false, List, [], ◌∷◌, Option, Some, None, is_some, IsSome, Contains, inl, inr, refl, sym, ap, ◌∙◌, subst, true≢false, arith}
 use Rattle.std.specs.Prelude.{unwrap_or, MatchOption}
 use Rattle.std.proofs.lemmas.Option.{none-some}
 use Rattle.std.specs.FinMap as finmap
 use Rattle.lists.proofs.Entries.{Contains-head, Contains-cases, none_in_empty}
 use Rattle.fee_rate.specs.declared.rates.FeeRate.{FeeRate}
 use Rattle.graphs.specs.declared.names.Level.TheVariants.{Main, Top}
-use Rattle.cluster.specs.Clusters.{Cluster}
+use Rattle.cluster.specs.Clusters.{Cluster, IsCluster}
+use Rattle.cluster.specs.Changes.{IsSingle}
 use Rattle.name_book.specs.Books.{IsNamed}
 use Rattle.name_book.specs.Calls.{Gains, Keeps}
-use Rattle.levels.specs.Changes.{PointsOne}
+use Rattle.levels.specs.Changes.{AreAt, Covers, PointsOne}
 use Rattle.levels.specs.Changes as changes
 use Rattle.levels.specs.Kept.{SuitsShelf}
-use Rattle.levels.specs.Moves.{AddsOne}
+use Rattle.levels.specs.Moves.{AddsTop}
 use Rattle.levels.specs.Rings.{Ringed, AreRight}
-use Rattle.levels.specs.Shelves.{Shelf, IsInOrder, numbers_at}
+use Rattle.levels.specs.Shelves.{Shelf, IsInOrder, numbers_at, seen_at}
+use Rattle.levels.specs.Tops.{HasFront, IsMade}
 use Rattle.levels.specs.Views.{Numbers}
+use Rattle.cluster_store.proofs.Listed.{at_none}
+use Rattle.levels.proofs.Making.{covers_new, olds_are, one_made}
 use Rattle.levels.proofs.Naming.{right_added, right_added_staged}
 use Rattle.levels.proofs.Touching.{right_kept, same_named}
 
@@ -38,13 +42,35 @@ absent_main rings shelf id right absent = no_number (finmap.get shelf.main id) (
 pub absent_top : (rings : Ringed) (shelf : Shelf) (id : ℕ) → SuitsShelf rings shelf → (IsNamed rings.book id → ⊥) → finmap.get (numbers_at Top shelf) id ≡ None
 absent_top rings shelf id right absent = no_number (finmap.get (numbers_at Top shelf) id) (λ some. absent ((right.names id).1 (inr some)))
 
+-- ---- what comes in is a cluster of its own
+
+pub comes_new : (w id : ℕ) (c : Cluster) (shelf : Shelf) → IsCluster (64 * w) c → c.names ≡ id ∷ [] → finmap.get (numbers_at Top shelf) id ≡ None
+    → (olds : List Cluster) × AreAt (seen_at Top shelf.store.clusters) [] olds × Covers (64 * w) olds (c ∷ []) [] (numbers_at Top shelf)
+comes_new w id c shelf whole names absent =
+    ([], at_none (seen_at Top shelf.store.clusters), covers_new w id c (numbers_at Top shelf) whole names absent)
+
+pub none_kept : (names : List ℕ) (numbers : Numbers) → HasFront 0 [] names numbers
+none_kept names numbers = record { low = omega arith; there = λ number i is low. absurd (omega (arith, low)) }
+
+pub adds_made : (w id : ℕ) (rate : FeeRate) (made : List ℕ) (number : Option ℕ) (c : Cluster) (old new : Shelf) → IsSingle id rate c
+    → finmap.get (numbers_at Top old) id ≡ None → IsMade w [] made number [] (Some c) [] old new → AddsTop w id rate old new
+adds_made w id rate made number c old new single absent is =
+    let one = one_made w [] made number c [] old new is in
+    record {
+      made = one.0;
+      now = c;
+      single = single;
+      absent = absent;
+      rebuilds = olds_are w [] (one.0 ∷ []) (c ∷ []) is.olds [] [] old new (at_none (seen_at Top old.store.clusters)) one.1;
+    }
+
 -- ---- where it came in
 
 none_staged : (o : Option Numbers) → false ≡ is_some o → o ≡ None
 none_staged None is = refl
 none_staged (Some m) is = absurd (true≢false (sym is))
 
-module _ (w id : ℕ) (rate : FeeRate) (old new : Shelf) (before : IsInOrder w old) (adds : AddsOne w id rate old new) where
+module _ (w id : ℕ) (rate : FeeRate) (old new : Shelf) (before : IsInOrder w old) (adds : AddsTop w id rate old new) where
   points : PointsOne adds.made (id ∷ []) (numbers_at Top old) (numbers_at Top new)
   points = record {
     pointed = λ q here. adds.rebuilds.top.points.pointed 0 q adds.now refl (subst (λ xs. Contains xs q) (sym adds.single.names) here);

@@ -40,10 +40,10 @@ most_of_all xs i best all most k d low =
     let here = most k (get_or xs k d) (omega (arith, low, all)) in
     omega (arith, here, ap count (get_or_default xs k d (get_or xs k d) low))
 
-pub more_names : (xs : List Cluster) (i : ℕ) (x : Cluster) (names : List ℕ) (before after : ℕ) → i < length xs → x ≡ get_or xs i x → names ≡ x.names
-    → before ≡ sum_by (λ (c : Cluster). length c.names) (take i xs) + 1 → after ≡ before + length names
-    → after ≡ sum_by (λ (c : Cluster). length c.names) (take (i + 1) xs) + 1
-more_names xs i x names before after low is named was told =
+pub more_names : (more : ℕ) (xs : List Cluster) (i : ℕ) (x : Cluster) (names : List ℕ) (before after : ℕ) → i < length xs → x ≡ get_or xs i x → names ≡ x.names
+    → before ≡ sum_by (λ (c : Cluster). length c.names) (take i xs) + more → after ≡ before + length names
+    → after ≡ sum_by (λ (c : Cluster). length c.names) (take (i + 1) xs) + more
+more_names more xs i x names before after low is named was told =
     omega (arith, was, told, ap (λ (ids : List ℕ). length ids) named, ap count is, sum_by_more count xs i x low)
 
 -- what isn't empty has an item

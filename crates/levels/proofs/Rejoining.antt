@@ -1,196 +1,109 @@
--- The rings are right again without a staging, where two clusters became one, or a name left its cluster.
-use Rattle.std.proofs.Common.{◌≡◌, ℕ, List, [], ◌∷◌, ◌++◌, Contains, Some, is_some, IsSome, inl, inr, ◌⊎◌, ◌↔◌, refl, sym, ap, ◌∙◌, subst}
-use Rattle.std.proofs.lemmas.Option.{same_Some}
-use Rattle.std.proofs.lemmas.List.Elements.{Contains-append_left, Contains-append_right, Contains-append_cases}
-use Rattle.std.specs.FinMap as finmap
-use Rattle.lists.proofs.Entries.{none_in_empty}
-use Rattle.lists.proofs.Told.{told_number}
+-- The rings follow where clusters became one, or one stands in the place of another of the same names, and both levels are one.
+use Rattle.std.proofs.Common.{ℕ, List, [], ◌∷◌, Contains, inl, inr, ◌⊎◌, sym}
+use Rattle.lists.proofs.Entries.{Contains-head}
 use Rattle.cluster.specs.Clusters.{Cluster}
-use Rattle.cluster.specs.Changes.{AreAcross}
 use Rattle.name_book.specs.Books.{IsNamed}
 use Rattle.name_book.specs.Calls.{Joins}
 use Rattle.name_book.proofs.Named.{named-same}
 use Rattle.levels.specs.Changes.{Rebuilds}
-use Rattle.levels.specs.Rings.{Ringed, AreOfOne, AreRight, IsMarked, ShareMain}
-use Rattle.levels.specs.Views.{View, IsIndexed, Numbers}
+use Rattle.levels.specs.Changes.{IsNamed as HasName}
+use Rattle.levels.specs.Moves.{AddsPairIn}
+use Rattle.levels.specs.Rings.{Ringed, AreNamedOnce, AreRight, ShareMain}
+use Rattle.levels.specs.Views.{View, IsIndexed}
+use Rattle.levels.proofs.Lookups.{decide_named}
 use Rattle.levels.proofs.Making.{named_one}
+use Rattle.levels.proofs.Regrouping.{Regroups, named_olds, olds_share, share_olds, share_out, share_through, share_turned}
 
--- what is right where both levels have the same numbers
-pub right_names : (rings : Ringed) (m : Numbers) (x : ℕ) → AreRight rings m m → IsNamed rings.book x ↔ IsSome (finmap.get m x)
-right_names rings m x right = (λ named. elim ((right.names x).0 named) [ inl one ↦ one | inr two ↦ two ], λ some. (right.names x).1 (inl some))
+module _ (most : ℕ) (outs : List ℕ) (made : ℕ) (olds : List Cluster) (c : Cluster) (p q : ℕ) (old new : View) (indexed : IsIndexed most old)
+    (now : IsIndexed most new) (r : Rebuilds most outs (made ∷ []) olds (c ∷ []) [] old new) (pair : AddsPairIn olds (c ∷ []) p q)
+    (before : Ringed) (right : AreRight before old.numbers old.numbers) where
+  live : (x : ℕ) → HasName olds x → HasName (c ∷ []) x
+  live x named = (pair.names x).1 named
 
-module _ (most first second made p q : ℕ) (a b c : Cluster) (old new : View) (indexed : IsIndexed most old) (now : IsIndexed most new)
-    (r : Rebuilds most (first ∷ second ∷ []) (made ∷ []) (a ∷ b ∷ []) (c ∷ []) [] old new) (names : c.names ≡ a.names ++ b.names)
-    (across : AreAcross a.names b.names p q) where
-  a_at : old.at first ≡ Some a
-  a_at = r.taken.stand 0 a refl
+  both_now : (x y : ℕ) → HasName olds x → HasName olds y → AreNamedOnce (c ∷ []) x y
+  both_now x y x_in y_in = (c, Contains-head c [], named_one c x (live x x_in), named_one c y (live y y_in))
 
-  b_at : old.at second ≡ Some b
-  b_at = r.taken.stand 1 b refl
+  back : (x y : ℕ) → AreNamedOnce (c ∷ []) x y → HasName olds x × HasName olds y
+  back x y once = ((pair.names x).0 (once.0, once.1, once.2), (pair.names y).0 (once.0, once.1, once.3))
 
-  c_at : new.at made ≡ Some c
-  c_at = r.exchanges.stand.stand 0 c refl
+  was_live : (x : ℕ) → HasName olds x → IsNamed before.book x
+  was_live = named_olds most outs (made ∷ []) olds (c ∷ []) [] old new indexed now r before right
 
-  in_a : (x : ℕ) → Contains a.names x → finmap.get old.numbers x ≡ Some first
-  in_a x here = indexed.listed first x a a_at here
+  was_once : (x y : ℕ) → HasName olds x → ShareMain before x y → AreNamedOnce olds x y
+  was_once = share_olds most outs (made ∷ []) olds (c ∷ []) [] old new indexed now r before right
 
-  in_b : (x : ℕ) → Contains b.names x → finmap.get old.numbers x ≡ Some second
-  in_b x here = indexed.listed second x b b_at here
+  once_was : (x y : ℕ) → AreNamedOnce olds x y → ShareMain before x y
+  once_was = olds_share most outs (made ∷ []) olds (c ∷ []) [] old new indexed now r before right
 
-  in_c : (x : ℕ) → Contains c.names x → finmap.get new.numbers x ≡ Some made
-  in_c x here = r.points.pointed 0 x c refl here
+  turned : (x y : ℕ) → ShareMain before x y → ShareMain before y x
+  turned x y share = share_turned before old.numbers old.numbers x y right share
 
-  from_a : (x : ℕ) → Contains a.names x → Contains c.names x
-  from_a x here = subst (λ (xs : List ℕ). Contains xs x) (sym names) (Contains-append_left a.names b.names x here)
+  through : (x z y : ℕ) → ShareMain before x z → ShareMain before z y → ShareMain before x y
+  through x z y one two = share_through before old.numbers old.numbers x z y right one two
 
-  from_b : (x : ℕ) → Contains b.names x → Contains c.names x
-  from_b x here = subst (λ (xs : List ℕ). Contains xs x) (sym names) (Contains-append_right a.names b.names x here)
-
-  either : (x : ℕ) → Contains c.names x → Contains a.names x ⊎ Contains b.names x
-  either x here = Contains-append_cases a.names b.names x (subst (λ (xs : List ℕ). Contains xs x) names here)
-
-  away : (x : ℕ) → (Contains c.names x → ⊥) → finmap.get new.numbers x ≡ finmap.get old.numbers x
-  away x out = r.points.others x (λ named. out (named_one c x named)) (none_in_empty x)
-
-  -- a name whose number was that of one of the two is a name of the cluster now
-  of_two : (x n : ℕ) (d : Cluster) → old.at n ≡ Some d → Contains d.names x → (d ≡ a) ⊎ (d ≡ b) → Contains c.names x
-  of_two x n d at here one = elim one [
-    | inl same ↦ from_a x (subst (λ (e : Cluster). Contains e.names x) same here)
-    | inr same ↦ from_b x (subst (λ (e : Cluster). Contains e.names x) same here)
+  -- names that share are of what came in, or none of what went out
+  follows : (x y : ℕ) → ShareMain before x y
+      → (ShareMain before x y × (HasName olds x → ⊥) × (HasName olds y → ⊥)) ⊎ AreNamedOnce (c ∷ []) x y
+  follows x y share = elim (decide_named olds x) [
+    | inl named ↦ let once = was_once x y named share in inr (both_now x y named (once.0, once.1, once.3))
+    | inr out ↦
+        inl (share, out, share_out most outs (made ∷ []) olds (c ∷ []) [] old new indexed now r before right x y share out)
   ]
 
-  -- names with one number before have one number now
-  one_still : (x y n : ℕ) → finmap.get old.numbers x ≡ Some n → finmap.get old.numbers y ≡ Some n → AreOfOne new.numbers x y
-  one_still x y n x_is y_is =
-      let x_at = indexed.stands x n x_is in
-      let y_at = indexed.stands y n y_is in
-      let same : x_at.cluster ≡ y_at.cluster = same_Some x_at.cluster y_at.cluster (sym x_at.there ∙ y_at.there) in
-      elim (told_number c.names x) [
-        | inl x_in ↦ elim (either x x_in) [
-          | inl in_first ↦
-              let is : n ≡ first = same_Some n first (sym x_is ∙ in_a x in_first) in
-              let d : y_at.cluster ≡ a = same_Some y_at.cluster a (sym y_at.there ∙ ap old.at is ∙ a_at) in
-              (made, in_c x x_in, in_c y (from_a y (subst (λ (e : Cluster). Contains e.names y) d y_at.here)))
-          | inr in_second ↦
-              let is : n ≡ second = same_Some n second (sym x_is ∙ in_b x in_second) in
-              let d : y_at.cluster ≡ b = same_Some y_at.cluster b (sym y_at.there ∙ ap old.at is ∙ b_at) in
-              (made, in_c x x_in, in_c y (from_b y (subst (λ (e : Cluster). Contains e.names y) d y_at.here)))
-        ]
-        | inr x_out ↦ elim (told_number c.names y) [
-          | inl y_in ↦ elim (either y y_in) [
-            | inl in_first ↦
-                let is : n ≡ first = same_Some n first (sym y_is ∙ in_a y in_first) in
-                let d : x_at.cluster ≡ a = same_Some x_at.cluster a (sym x_at.there ∙ ap old.at is ∙ a_at) in
-                absurd (x_out (from_a x (subst (λ (e : Cluster). Contains e.names x) d x_at.here)))
-            | inr in_second ↦
-                let is : n ≡ second = same_Some n second (sym y_is ∙ in_b y in_second) in
-                let d : x_at.cluster ≡ b = same_Some x_at.cluster b (sym x_at.there ∙ ap old.at is ∙ b_at) in
-                absurd (x_out (from_b x (subst (λ (e : Cluster). Contains e.names x) d x_at.here)))
-          ]
-          | inr y_out ↦ (n, away x x_out ∙ x_is, away y y_out ∙ y_is)
-        ]
-      ]
+  -- ---- the rings become one
 
-  module _ (before after : Ringed) (right : AreRight before old.numbers old.numbers) (joined : Joins p q before after) where
-    -- a name that shares with one of the cluster's is one of the cluster's
-    shares_in : (x z : ℕ) → Contains c.names z → ShareMain before x z → Contains c.names x
-    shares_in x z z_in share = elim ((right.zero x z).0 share) [
-      | inl one ↦ subst (Contains c.names) (sym one.1) z_in
-      | inr two ↦ elim (told_number c.names x) [
-        | inl x_in ↦ x_in
-        | inr x_out ↦
-            let still = one_still x z two.0 two.1 two.2 in
-            let is : still.0 ≡ made = same_Some still.0 made (sym still.2 ∙ in_c z z_in) in
-            let at = now.stands x still.0 still.1 in
-            let d : at.cluster ≡ c = same_Some at.cluster c (sym at.there ∙ ap new.at is ∙ c_at) in
-            absurd (x_out (subst (λ (e : Cluster). Contains e.names x) d at.here))
-      ]
-    ]
+  -- what shares with a name of what went out is of it
+  in_with : (x z : ℕ) → HasName olds z → ShareMain before x z → HasName olds x
+  in_with x z named share = let once = was_once z x named (turned x z share) in (once.0, once.1, once.3)
 
-    shares_back : (x z : ℕ) → ShareMain before x z → ShareMain before z x
-    shares_back x z share = (right.zero z x).1 (elim ((right.zero x z).0 share) [
-      | inl one ↦ inl (subst (λ k. IsNamed before.book k) one.1 one.0, sym one.1)
-      | inr two ↦ inr (two.0, two.2, two.1)
-    ])
+  -- each name of what went out shares with the one or the other
+  either : (x : ℕ) → HasName olds x → ShareMain before x p ⊎ ShareMain before x q
+  either x named = elim (pair.each named.0 named.1) [
+    | inl here ↦ inl (once_was x p (named.0, named.1, named.2, here))
+    | inr here ↦ inr (once_was x q (named.0, named.1, named.2, here))
+  ]
 
-    p_in : Contains c.names p
-    p_in = elim across [ inl one ↦ from_a p one.0 | inr two ↦ from_b p two.0 ]
+  share_joined : (x y : ℕ) → HasName olds x → HasName olds y
+      → ShareMain before x y ⊎ (ShareMain before x p × ShareMain before q y) ⊎ (ShareMain before x q × ShareMain before p y)
+  share_joined x y x_in y_in = elim (either x x_in) [
+    | inl x_p ↦ elim (either y y_in) [ inl y_p ↦ inl (through x p y x_p (turned y p y_p)) | inr y_q ↦ inr (inl (x_p, turned y q y_q)) ]
+    | inr x_q ↦ elim (either y y_in) [ inl y_p ↦ inr (inr (x_q, turned y p y_p)) | inr y_q ↦ inl (through x q y x_q (turned y q y_q)) ]
+  ]
 
-    q_in : Contains c.names q
-    q_in = elim across [ inl one ↦ from_b q one.1 | inr two ↦ from_a q two.1 ]
+  pub regroups_joined : (after : Ringed) → Joins p q before after → Regroups olds (c ∷ []) before after
+  regroups_joined after joins = record {
+    names = λ x. (
+      λ named. elim (decide_named olds x) [
+        | inl here ↦ inr (live x here)
+        | inr out ↦ inl (named-same after.book before.book (sym joins.names) x named, out)
+      ],
+      λ is. named-same before.book after.book joins.names x (elim is [ inl was ↦ was.0 | inr here ↦ was_live x ((pair.names x).0 here) ]),
+    );
+    main = λ x y. (
+      λ share. elim ((joins.main x y).0 share) [
+        | inl was ↦ follows x y was
+        | inr (inl one) ↦ inr (both_now x y (in_with x p pair.parent one.0) (in_with y q pair.child (turned q y one.1)))
+        | inr (inr two) ↦ inr (both_now x y (in_with x q pair.child two.0) (in_with y p pair.parent (turned p y two.1)))
+      ],
+      λ is. (joins.main x y).1 (elim is [
+        | inl was ↦ inl was.0
+        | inr once ↦ let ends = back x y once in share_joined x y ends.0 ends.1
+      ]),
+    );
+    touched = λ x marked. (joins.touched x).0 marked;
+  }
 
-    both_in : (x y : ℕ) → ShareMain before x p → ShareMain before q y → AreOfOne new.numbers x y
-    both_in x y one two = (made, in_c x (shares_in x p p_in one), in_c y (shares_in y q q_in (shares_back q y two)))
+  -- ---- or they stay, where one cluster went out
 
-    both_turned : (x y : ℕ) → ShareMain before x q → ShareMain before p y → AreOfOne new.numbers x y
-    both_turned x y one two = (made, in_c x (shares_in x q q_in one), in_c y (shares_in y p p_in (shares_back p y two)))
-
-    share_a : (x y : ℕ) → Contains a.names x → Contains a.names y → ShareMain before x y
-    share_a x y one two = (right.zero x y).1 (inr (first, in_a x one, in_a y two))
-
-    share_b : (x y : ℕ) → Contains b.names x → Contains b.names y → ShareMain before x y
-    share_b x y one two = (right.zero x y).1 (inr (second, in_b x one, in_b y two))
-
-    -- two names of the cluster share a ring now
-    share_now : (x y : ℕ) → Contains c.names x → Contains c.names y → ShareMain after x y
-    share_now x y x_in y_in = (joined.main x y).1 (elim (either x x_in) [
-      | inl x_a ↦ elim (either y y_in) [
-        | inl y_a ↦ inl (share_a x y x_a y_a)
-        | inr y_b ↦ elim across [
-          | inl is ↦ inr (inl (share_a x p x_a is.0, share_b q y is.1 y_b))
-          | inr is ↦ inr (inr (share_a x q x_a is.1, share_b p y is.0 y_b))
-        ]
-      ]
-      | inr x_b ↦ elim (either y y_in) [
-        | inr y_b ↦ inl (share_b x y x_b y_b)
-        | inl y_a ↦ elim across [
-          | inl is ↦ inr (inr (share_b x q x_b is.1, share_a p y is.0 y_a))
-          | inr is ↦ inr (inl (share_b x p x_b is.0, share_a q y is.1 y_a))
-        ]
-      ]
-    ])
-
-    some_still : (x : ℕ) → IsSome (finmap.get new.numbers x) ↔ IsSome (finmap.get old.numbers x)
-    some_still x = elim (told_number c.names x) [
-      | inl x_in ↦ (
-        λ _. elim (either x x_in) [ inl one ↦ ap is_some (in_a x one) | inr two ↦ ap is_some (in_b x two) ],
-        λ _. ap is_some (in_c x x_in),
-      )
-      | inr out ↦ (λ some. ap is_some (sym (away x out)) ∙ some, λ some. ap is_some (away x out) ∙ some)
-    ]
-
-    pub right_joined : AreRight after new.numbers new.numbers
-    right_joined = record {
-      names = λ x. (
-        λ named. inl ((some_still x).1 ((right_names before old.numbers x right).0 (named-same after.book before.book (sym joined.names) x named))),
-        λ held. named-same before.book after.book joined.names x ((right_names before old.numbers x right).1 ((some_still x).0 (elim held [ inl one ↦ one | inr two ↦ two ]))),
-      );
-      zero = λ x y. (
-        λ share. elim ((joined.main x y).0 share) [
-          | inl was ↦ elim ((right.zero x y).0 was) [
-            | inl one ↦ inl (named-same before.book after.book joined.names x one.0, one.1)
-            | inr two ↦ inr (one_still x y two.0 two.1 two.2)
-          ]
-          | inr (inl one) ↦ inr (both_in x y one.0 one.1)
-          | inr (inr two) ↦ inr (both_turned x y two.0 two.1)
-        ],
-        λ is. elim is [
-          | inl one ↦ (joined.main x y).1 (inl ((right.zero x y).1 (inl (named-same after.book before.book (sym joined.names) x one.0, one.1))))
-          | inr two ↦ elim (told_number c.names x) [
-            | inl x_in ↦
-                let same : two.0 ≡ made = same_Some two.0 made (sym two.1 ∙ in_c x x_in) in
-                let at = now.stands y two.0 two.2 in
-                let d : at.cluster ≡ c = same_Some at.cluster c (sym at.there ∙ ap new.at same ∙ c_at) in
-                share_now x y x_in (subst (λ (e : Cluster). Contains e.names y) d at.here)
-            | inr x_out ↦
-                let y_out : Contains c.names y → ⊥ = λ y_in.
-                let same : two.0 ≡ made = same_Some two.0 made (sym two.2 ∙ in_c y y_in) in
-                let at = now.stands x two.0 two.1 in
-                let d : at.cluster ≡ c = same_Some at.cluster c (sym at.there ∙ ap new.at same ∙ c_at) in
-                x_out (subst (λ (e : Cluster). Contains e.names x) d at.here) in
-                (joined.main x y).1 (inl ((right.zero x y).1 (inr (two.0, sym (away x x_out) ∙ two.1, sym (away y y_out) ∙ two.2))))
-          ]
-        ],
-      );
-      touched = λ x. (λ marked is. (right.touched x).0 ((joined.touched x).0 marked) refl, λ apart. absurd (apart refl));
-    }
+  pub regroups_linked : ((x y : ℕ) → HasName olds x → HasName olds y → AreNamedOnce olds x y) → Regroups olds (c ∷ []) before before
+  regroups_linked one = record {
+    names = λ x. (
+      λ named. elim (decide_named olds x) [ inl here ↦ inr (live x here) | inr out ↦ inl (named, out) ],
+      λ is. elim is [ inl was ↦ was.0 | inr here ↦ was_live x ((pair.names x).0 here) ],
+    );
+    main = λ x y. (
+      follows x y,
+      λ is. elim is [ inl was ↦ was.0 | inr once ↦ let ends = back x y once in once_was x y (one x y ends.0 ends.1) ],
+    );
+    touched = λ x marked. marked;
+  }

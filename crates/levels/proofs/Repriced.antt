@@ -20,8 +20,9 @@ use Rattle.levels.specs.Views.{Numbers, graph_of}
 use Rattle.levels.proofs.Finds.{graph_is, member_is}
 use Rattle.levels.proofs.Graphs.{rate-at}
 use Rattle.levels.proofs.Keeping.{shelf_alone}
-use Rattle.levels.proofs.Only.{IsCounted}
-use Rattle.levels.proofs.Repricing.{HasOneRate, HaveFee, fees_stay_told}
+use Rattle.levels.proofs.Counting.{IsCounted}
+use Rattle.levels.proofs.Fees.{HasOneRate, HaveFee}
+use Rattle.levels.proofs.Repricing.{fees_stay_told}
 use Rattle.levels.proofs.Turning.{fees_set}
 use Rattle.levels.proofs.Unmoved.{same_shelf_stays}
 

@@ -16,6 +16,7 @@ use Rattle.levels.specs.Moves.{SetsFeeAt, SetsFees}
 use Rattle.levels.specs.Shelves.{Shelf, IsInOrder, levels_of, numbers_at, one_of, seen_at, view_of}
 use Rattle.levels.specs.Stays.{AllStay}
 use Rattle.levels.specs.Views.{graph_of}
+use Rattle.levels.proofs.Fees.{HasOneRate, HaveFee}
 use Rattle.levels.proofs.Finds.{indexed_at}
 use Rattle.levels.proofs.Graphs.{cases_number, member-number, rate-at}
 use Rattle.levels.proofs.Rebuilt.{is_rebuilt}
@@ -29,18 +30,6 @@ HasOtherFee id fee level shelf = is_member (graph_of (view_of level shelf)) id �
 -- the cluster of a name in a level
 abbrev pub IsItsCluster : ℕ → Level → Shelf → ℕ → Cluster → Type 0
 IsItsCluster id level shelf number c = (finmap.get (numbers_at level shelf) id ≡ Some number) × (seen_at level shelf.store.clusters number ≡ Some c)
-
--- the name has one rate in both levels
-abbrev pub HasOneRate : ℕ → Shelf → Type 0
-HasOneRate id shelf =
-    (n m : ℕ) (c d : Cluster) → finmap.get (numbers_at Main shelf) id ≡ Some n → finmap.get (numbers_at Top shelf) id ≡ Some m
-    → seen_at Main shelf.store.clusters n ≡ Some c → seen_at Top shelf.store.clusters m ≡ Some d → rate_of c.graph id ≡ rate_of d.graph id
-
--- every level that has the name has this fee of it
-abbrev pub HaveFee : ℕ → ℤ → Shelf → Type 0
-HaveFee id fee shelf =
-    (level : Level) (n : ℕ) (c : Cluster) → finmap.get (numbers_at level shelf) id ≡ Some n → seen_at level shelf.store.clusters n ≡ Some c
-    → (rate_of c.graph id).fee ≡ fee
 
 decide_fee : (x y : ℤ) → (x ≡ y) ⊎ (x ≢ y)
 decide_fee x y = elim (cases_Bool (int_eq x y)) [

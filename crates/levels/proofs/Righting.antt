@@ -26,20 +26,19 @@ pub some_is : (o : Option ℕ) → IsSome o → (n : ℕ) × (o ≡ Some n)
 some_is None some = absurd (true≢false (sym some))
 some_is (Some n) some = (n, refl)
 
--- what the rings have after names were touched or dropped, and main's rings stay
-pub record Marks (Leaves : ℕ → Type 0) (old new : Ringed) : Type 0 where
-  pub names : (x : ℕ) → IsNamed new.book x ↔ IsNamed old.book x
-  pub main : (x y : ℕ) → ShareMain new x y ↔ ShareMain old x y
-  pub touched : (x : ℕ) → IsMarked new x ↔ (IsMarked old x ⊎ Leaves x)
-
-pub record Drops (id : ℕ) (old new : Ringed) : Type 0 where
-  pub names : (x : ℕ) → IsNamed new.book x ↔ (IsNamed old.book x × (x ≢ id))
-  pub main : (x y : ℕ) → ShareMain new x y ↔ (ShareMain old x y × (x ≢ id) × (y ≢ id))
-  pub touched : (x : ℕ) → IsMarked new x ↔ (IsMarked old x × (x ≢ id))
+-- What the rings have after names were touched, and others went.
+pub record Marks (Leaves Lost : ℕ → Type 0) (old new : Ringed) : Type 0 where
+  pub names : (x : ℕ) → IsNamed new.book x ↔ (IsNamed old.book x × (Lost x → ⊥))
+  pub main : (x y : ℕ) → ShareMain new x y ↔ (ShareMain old x y × (Lost x → ⊥) × (Lost y → ⊥))
+  pub touched : (x : ℕ) → IsMarked new x ↔ ((IsMarked old x ⊎ Leaves x) × (Lost x → ⊥))
 
 -- a name of a cluster of main that leaves the top level
 abbrev pub Leaves : List ℕ → Numbers → ℕ → Type 0
 Leaves outs main x = (n : ℕ) × Contains outs n × (finmap.get main x ≡ Some n)
+
+-- a name that goes, and that main hasn't
+abbrev pub AreLost : List ℕ → Numbers → ℕ → Type 0
+AreLost gone main x = Contains gone x × (finmap.get main x ≡ None)
 
 -- ---- with a staging
 
@@ -89,74 +88,112 @@ module _ (w : ℕ) (outs made : List ℕ) (olds news : List Cluster) (gone : Lis
   pub out_apart : (x : ℕ) → HasName olds x → (Leaves outs main x → ⊥) → finmap.get main x ≢ finmap.get top x
   out_apart x named stays same = let at = number_out x named in stays (at.0, at.1, same ∙ at.2)
 
-  module _ (lost : (x : ℕ) → Contains gone x → IsSome (finmap.get main x)) where
-    lost_apart : (x : ℕ) → Contains gone x → finmap.get main x ≢ finmap.get later x
-    lost_apart x here same = let at = some_is (finmap.get main x) (lost x here) in none-some at.0 (sym (same ∙ r.top.points.lost x here) ∙ at.1)
+  decide_leaves : (x : ℕ) → HasName olds x → Leaves outs main x ⊎ (Leaves outs main x → ⊥)
+  decide_leaves x named =
+      let at = number_out x named in
+      elim (same_or (finmap.get main x) (finmap.get top x)) [
+        | inl same ↦ inl (at.0, at.1, same ∙ at.2)
+        | inr other ↦ inr (λ leaves.
+            let out = out_seen leaves.0 leaves.1 in
+            let stands = main_indexed.stands x leaves.0 leaves.2 in
+            let one : stands.cluster ≡ out.0 = one_seen Main Top old.store.clusters leaves.0 stands.cluster out.0 stands.there out.1 in
+            other (leaves.2 ∙ sym (top_indexed.listed leaves.0 x out.0 out.1 (subst (λ (c : Cluster). Contains c.names x) one stands.here))))
+      ]
 
-    -- a name of what goes out differs afterwards
-    named_apart : (x : ℕ) → HasName olds x → finmap.get main x ≢ finmap.get later x
-    named_apart x named = elim (r.top.covers.kept x named) [ inl one ↦ new_apart x one | inr two ↦ lost_apart x two ]
+  abbrev Lost : ℕ → Type 0
+  Lost = AreLost gone main
 
-    touched_later : (x : ℕ) → (finmap.get main x ≢ finmap.get later x) ↔ ((finmap.get main x ≢ finmap.get top x) ⊎ Leaves outs main x)
-    touched_later x = elim (decide_named olds x) [
-      | inl named ↦ (
-        λ apart. elim (decide_leaves x named) [ inl leaves ↦ inr leaves | inr stays ↦ inl (out_apart x named stays) ],
-        λ either. named_apart x named,
-      )
-      | inr none ↦
-          let same : finmap.get later x ≡ finmap.get top x =
-          r.top.points.others x (λ named. none (known x named)) (λ here. none (r.top.covers.lose x here).0) in (
-            λ apart. inl (λ is. apart (is ∙ sym same)),
-            λ either. elim either [ inl apart ↦ (λ is. apart (is ∙ same)) | inr leaves ↦ absurd (none (left_named x leaves)) ],
-          )
-    ]
-      where
-        decide_leaves : (x : ℕ) → HasName olds x → Leaves outs main x ⊎ (Leaves outs main x → ⊥)
-        decide_leaves x named =
-            let at = number_out x named in
-            elim (same_or (finmap.get main x) (finmap.get top x)) [
-              | inl same ↦ inl (at.0, at.1, same ∙ at.2)
-              | inr other ↦ inr (λ leaves.
-                  let out = out_seen leaves.0 leaves.1 in
-                  let stands = main_indexed.stands x leaves.0 leaves.2 in
-                  let one : stands.cluster ≡ out.0 = one_seen Main Top old.store.clusters leaves.0 stands.cluster out.0 stands.there out.1 in
-                  other (leaves.2 ∙ sym (top_indexed.listed leaves.0 x out.0 out.1 (subst (λ (c : Cluster). Contains c.names x) one stands.here))))
-            ]
+  -- a name of what goes out that stays in main, or in the top level, has another number there than here
+  gone_apart : (x : ℕ) → Contains gone x → (Lost x → ⊥) → finmap.get main x ≢ finmap.get later x
+  gone_apart x here stays same = stays (here, same ∙ r.top.points.lost x here)
 
-    held_later : (x : ℕ) → IsHeld main later x ↔ IsHeld main top x
-    held_later x = elim (decide_named olds x) [
-      | inl named ↦ (
-        λ _. inr (ap is_some (number_out x named).2),
-        λ _. elim (r.top.covers.kept x named) [
-          | inl one ↦
-              let at = placed_of (seen_at Top new.store.clusters) made news one.0 r.top.exchanges.stand one.1 in
-              inr (ap is_some (r.top.points.pointed at.place x one.0 at.listed one.2))
-          | inr two ↦ inl (lost x two)
+  named_apart : (x : ℕ) → HasName olds x → (Lost x → ⊥) → finmap.get main x ≢ finmap.get later x
+  named_apart x named stays = elim (r.top.covers.kept x named) [ inl one ↦ new_apart x one | inr two ↦ gone_apart x two stays ]
+
+  lost_same : (x : ℕ) → Lost x → finmap.get main x ≡ finmap.get later x
+  lost_same x lost = lost.1 ∙ sym (r.top.points.lost x lost.0)
+
+  -- a name of none of them has the number that it had
+  away : (x : ℕ) → (HasName olds x → ⊥) → finmap.get later x ≡ finmap.get top x
+  away x none = r.top.points.others x (λ named. none (known x named)) (λ here. none (r.top.covers.lose x here).0)
+
+  not_lost : (x : ℕ) → (HasName olds x → ⊥) → Lost x → ⊥
+  not_lost x none lost = none (r.top.covers.lose x lost.0).0
+
+  touched_later : (x : ℕ) → (finmap.get main x ≢ finmap.get later x)
+      ↔ (((finmap.get main x ≢ finmap.get top x) ⊎ Leaves outs main x) × (Lost x → ⊥))
+  touched_later x = elim (decide_named olds x) [
+    | inl named ↦ (
+      λ apart. (
+        elim (decide_leaves x named) [ inl leaves ↦ inr leaves | inr stays ↦ inl (out_apart x named stays) ],
+        λ lost. apart (lost_same x lost),
+      ),
+      λ both. named_apart x named both.1,
+    )
+    | inr none ↦ (
+      λ apart. (inl (λ is. apart (is ∙ sym (away x none))), not_lost x none),
+      λ both. elim both.0 [ inl apart ↦ (λ is. apart (is ∙ away x none)) | inr leaves ↦ absurd (none (left_named x leaves)) ],
+    )
+  ]
+
+  -- a name of what goes out is in main, is lost, or is of what comes in
+  held_named : (x : ℕ) → HasName olds x → (Lost x → ⊥) → IsHeld main later x
+  held_named x named stays = elim (r.top.covers.kept x named) [
+    | inl one ↦
+        let at = placed_of (seen_at Top new.store.clusters) made news one.0 r.top.exchanges.stand one.1 in
+        inr (ap is_some (r.top.points.pointed at.place x one.0 at.listed one.2))
+    | inr two ↦ inl (some_or (finmap.get main x) (λ none. stays (two, none)))
+  ]
+    where
+      some_or : (o : Option ℕ) → (o ≡ None → ⊥) → IsSome o
+      some_or None some = absurd (some refl)
+      some_or (Some n) some = refl
+
+  held_later : (x : ℕ) → IsHeld main later x ↔ (IsHeld main top x × (Lost x → ⊥))
+  held_later x = elim (decide_named olds x) [
+    | inl named ↦ (
+      λ held. (
+        inr (ap is_some (number_out x named).2),
+        λ lost. elim held [
+          | inl one ↦ true≢false (sym one ∙ ap is_some lost.1)
+          | inr two ↦ true≢false (sym two ∙ ap is_some (r.top.points.lost x lost.0))
         ],
-      )
-      | inr none ↦
-          let same : finmap.get later x ≡ finmap.get top x =
-          r.top.points.others x (λ named. none (known x named)) (λ here. none (r.top.covers.lose x here).0) in (
-            λ held. elim held [ inl one ↦ inl one | inr two ↦ inr (ap is_some (sym same) ∙ two) ],
-            λ held. elim held [ inl one ↦ inl one | inr two ↦ inr (ap is_some same ∙ two) ],
-          )
-    ]
+      ),
+      λ both. held_named x named both.1,
+    )
+    | inr none ↦ (
+      λ held. (elim held [ inl one ↦ inl one | inr two ↦ inr (ap is_some (sym (away x none)) ∙ two) ], not_lost x none),
+      λ both. elim both.0 [ inl one ↦ inl one | inr two ↦ inr (ap is_some (away x none) ∙ two) ],
+    )
+  ]
 
-    pub right_staged : (before after : Ringed) → AreRight before main top → Marks (Leaves outs main) before after → AreRight after main later
-    right_staged before after right marks = record {
-      names = λ x. (
-        λ named. (held_later x).1 ((right.names x).0 ((marks.names x).0 named)),
-        λ held. (marks.names x).1 ((right.names x).1 ((held_later x).0 held)),
-      );
-      zero = λ a b. (
-        λ share. elim ((right.zero a b).0 ((marks.main a b).0 share)) [
-          | inl one ↦ inl ((marks.names a).1 one.0, one.1)
-          | inr two ↦ inr two
-        ],
-        λ either. (marks.main a b).1 ((right.zero a b).1 (elim either [ inl one ↦ inl ((marks.names a).0 one.0, one.1) | inr two ↦ inr two ])),
-      );
-      touched = λ x. (
-        λ marked. (touched_later x).1 (elim ((marks.touched x).0 marked) [ inl one ↦ inl ((right.touched x).0 one) | inr two ↦ inr two ]),
-        λ apart. (marks.touched x).1 (elim ((touched_later x).0 apart) [ inl one ↦ inl ((right.touched x).1 one) | inr two ↦ inr two ]),
-      );
-    }
+  -- names of one cluster of main aren't lost
+  one_kept : (x n : ℕ) → finmap.get main x ≡ Some n → Lost x → ⊥
+  one_kept x n is lost = none-some n (sym lost.1 ∙ is)
+
+  pub right_staged : (before after : Ringed) → AreRight before main top → Marks (Leaves outs main) Lost before after → AreRight after main later
+  right_staged before after right marks = record {
+    names = λ x. (
+      λ named. let was = (marks.names x).0 named in (held_later x).1 ((right.names x).0 was.0, was.1),
+      λ held. let was = (held_later x).0 held in (marks.names x).1 ((right.names x).1 was.0, was.1),
+    );
+    zero = λ a b. (
+      λ share.
+          let was = (marks.main a b).0 share in
+          elim ((right.zero a b).0 was.0) [ inl one ↦ inl ((marks.names a).1 (one.0, was.1), one.1) | inr two ↦ inr two ],
+      λ either. (marks.main a b).1 (elim either [
+        | inl one ↦
+            let was = (marks.names a).0 one.0 in
+            ((right.zero a b).1 (inl (was.0, one.1)), was.1, λ lost. was.1 (subst Lost (sym one.1) lost))
+        | inr two ↦ ((right.zero a b).1 (inr two), one_kept a two.0 two.1, one_kept b two.0 two.2)
+      ]),
+    );
+    touched = λ x. (
+      λ marked.
+          let was = (marks.touched x).0 marked in
+          (touched_later x).1 (elim was.0 [ inl one ↦ inl ((right.touched x).0 one) | inr two ↦ inr two ], was.1),
+      λ apart.
+          let was = (touched_later x).0 apart in
+          (marks.touched x).1 (elim was.0 [ inl one ↦ inl ((right.touched x).1 one) | inr two ↦ inr two ], was.1),
+    );
+  }

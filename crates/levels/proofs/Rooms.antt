@@ -1,4 +1,5 @@
 -- How many bytes values of clusters take, at the widths that there are: by its cases, since a search through the sums takes seconds.
+use Prim.Native.Nat.{max}
 use prog.Memory.{up}
 use Rattle.std.proofs.Common.{ℕ, ◌+◌, ◌*◌, ◌<◌, ◌≤◌, arith}
 use Rattle.comparison.proofs.Rooms.{two_cases}
@@ -20,3 +21,7 @@ work_fits = two_cases (λ w. work_room w < 9223372036854775808) (omega arith) (o
 
 pub covers_fits : (w : ℕ) → w ≤ 2 → up 8 (32 + up 8 (0 + w * 8)) < 9223372036854775808
 covers_fits = two_cases (λ w. up 8 (32 + up 8 (0 + w * 8)) < 9223372036854775808) (omega arith) (omega arith) (omega arith)
+
+-- what is left of some clusters
+pub left_fits : (w : ℕ) → w ≤ 2 → up 8 (48 + up 8 (max 1 (max (8 + cluster_room w) 1))) < 9223372036854775808
+left_fits = two_cases (λ w. up 8 (48 + up 8 (max 1 (max (8 + cluster_room w) 1))) < 9223372036854775808) (omega arith) (omega arith) (omega arith)

@@ -16,10 +16,6 @@ use Rattle.levels.proofs.Pairs.{IsLinkedToEither, AreTogether, AreBetween}
 use Rattle.levels.proofs.Sizes.{either_count, both_count}
 use Rattle.levels.proofs.Under.{live, held, is_stored, its_cluster, seen_there}
 
--- the one number and the other, in this order or turned round
-abbrev pub AreTurned : ℕ → ℕ → ℕ → ℕ → Type 0
-AreTurned above below first second = ((first ≡ above) × (second ≡ below)) ⊎ ((first ≡ below) × (second ≡ above))
-
 module _ (w : ℕ) (shelf : Shelf) (order : IsInOrder w shelf) (p q : ℕ) where
   abbrev graph : Closure
   graph = graph_of (view_of Top shelf)
@@ -74,17 +70,19 @@ module _ (w : ℕ) (shelf : Shelf) (order : IsInOrder w shelf) (p q : ℕ) where
     pub alone : AreApart one other
     pub count : (ids : List ℕ) → Lists (IsLinkedToEither graph p q) ids → length ids ≡ length one.names + length other.names
 
-  sides_in_order : (above below : ℕ) (a b : Cluster) → IsLink w shelf p q (Between above below) → IsKept above a → IsKept below b → Sides above below a b
-  sides_in_order above below a b link one two =
-      let one_at = seen_there w shelf order Top p above link.0 a one in
-      let other_at = seen_there w shelf order Top q below link.1 b two in
-      let between = between above below a b link.0 link.1 link.2 one_at other_at in
+  sides_in_order : (above below : ℕ) (a b : Cluster) → HasNumber p above → HasNumber q below → above ≢ below
+      → ((c d : Cluster) → StandsUnder above c → StandsUnder below d → length c.names + length d.names ≤ 64 * w)
+      → IsKept above a → IsKept below b → Sides above below a b
+  sides_in_order above below a b p_is q_is apart few one two =
+      let one_at = seen_there w shelf order Top p above p_is a one in
+      let other_at = seen_there w shelf order Top q below q_is b two in
+      let between = between above below a b p_is q_is apart one_at other_at in
       record {
-        apart = link.2;
+        apart = apart;
         one_at = one_at;
         other_at = other_at;
         across = inl (between.first.here, between.second.here);
-        few = link.3 a b one_at other_at;
+        few = few a b one_at other_at;
         alone = between.apart;
         count = λ ids lists. both_count graph p q a b ids between lists;
       }
@@ -102,29 +100,22 @@ module _ (w : ℕ) (shelf : Shelf) (order : IsInOrder w shelf) (p q : ℕ) where
         count = λ ids lists. let sum = is.count ids lists in omega (arith, sum);
       }
 
-  pub sides : (above below first second : ℕ) (one other : Cluster) → IsLink w shelf p q (Between above below) → AreTurned above below first second
-      → IsKept first one → IsKept second other → Sides first second one other
-  sides above below first second one other link turned here there = elim turned [
-    | inl same ↦
-        subst₂ (λ s t. Sides s t one other) (sym same.0) (sym same.1) (sides_in_order above below one other link
-        (ap (stored_at shelf.store.clusters) (sym same.0) ∙ here) (ap (stored_at shelf.store.clusters) (sym same.1) ∙ there))
-    | inr same ↦
-        subst₂ (λ s t. Sides s t one other) (sym same.0) (sym same.1)
-        (turned_round above below other one (sides_in_order above below other one link
-        (ap (stored_at shelf.store.clusters) (sym same.1) ∙ there) (ap (stored_at shelf.store.clusters) (sym same.0) ∙ here)))
+  pub sides : (first second : ℕ) (one other : Cluster) → IsLink w shelf p q (Between first second) → IsKept first one → IsKept second other
+      → Sides first second one other
+  sides first second one other link here there = elim link.0 [
+    | inl both ↦ sides_in_order first second one other both.0 both.1 link.1 link.2 here there
+    | inr both ↦
+        turned_round second first other one (sides_in_order second first other one both.0 both.1 (λ same. link.1 (sym same))
+        (λ c d c_at d_at. let few = link.2 d c d_at c_at in omega (arith, few)) there here)
   ]
 
-  -- both numbers have clusters, in whichever order they stand
-  pub turned_there : (above below first second : ℕ) → IsLink w shelf p q (Between above below) → AreTurned above below first second
+  -- both numbers have clusters
+  pub both_there : (first second : ℕ) → IsLink w shelf p q (Between first second)
       → IsSome (stored_at shelf.store.clusters first) × IsSome (stored_at shelf.store.clusters second)
-  turned_there above below first second link turned =
-      let one = is_stored w shelf order Top p above link.0 in
-      let two = is_stored w shelf order Top q below link.1 in
-      let there : ℕ → Type 0 = λ n. IsSome (stored_at shelf.store.clusters n) in
-      elim turned [
-        | inl same ↦ (subst there (sym same.0) one, subst there (sym same.1) two)
-        | inr same ↦ (subst there (sym same.0) two, subst there (sym same.1) one)
-      ]
+  both_there first second link = elim link.0 [
+    | inl both ↦ (is_stored w shelf order Top p first both.0, is_stored w shelf order Top q second both.1)
+    | inr both ↦ (is_stored w shelf order Top q first both.1, is_stored w shelf order Top p second both.0)
+  ]
 
   -- the steps of an order of both
   pub count_between : (first second : ℕ) (one other : Cluster) (ids : List ℕ) {before after : ℕ} → Sides first second one other

@@ -122,10 +122,6 @@ module _ (olds news : List Cluster) (gone : List ℕ) (g h : Closure) (r : IsReb
   pub whole_before : IsComponent g ids → (c : Cluster) → Contains olds c → (a b : ℕ) → Contains c.names a → Contains c.names b → Contains ids a → Contains ids b
   whole_before component c listed a b a_in b_in here = component.alone a b here ((r.was c a listed a_in).0.linked b b_in)
 
-  -- and so of one that comes in
-  pub whole_after : IsComponent h ids → (c : Cluster) → Contains news c → (a b : ℕ) → Contains c.names a → Contains c.names b → Contains ids a → Contains ids b
-  whole_after component c listed a b a_in b_in here = component.alone a b here ((r.now c a listed a_in).0.linked b b_in)
-
 -- a cluster has a name that no component that stays has
 pub one_away : (c : Cluster) (news : List Cluster) (gone : List ℕ) (g h : Closure) → IsRebuilt (c ∷ []) news gone g h → (id : ℕ) → Contains c.names id
     → ((ids : List ℕ) → IsSameComponent g h ids → Contains ids id → ⊥) → AreAway (c ∷ []) g h
@@ -135,32 +131,3 @@ one_away c news gone g h r id held none ids q same here named = elim (Contains-c
       none ids same (whole_before (c ∷ []) news gone g h r ids same.before c (Contains-head c []) q id q_in held here)
   | inr later ↦ none_in_empty named.0 later
 ]
-
--- two clusters with no name in common become one
-module _ (one other now : Cluster) (g h : Closure) (r : IsRebuilt (one ∷ other ∷ []) (now ∷ []) [] g h) (names : now.names ≡ one.names ++ other.names)
-    (apart : AreApart one other) (a b : ℕ) (a_in : Contains one.names a) (b_in : Contains other.names b) where
-  in_now : (q : ℕ) → Contains (one.names ++ other.names) q → Contains now.names q
-  in_now q here = subst (λ (xs : List ℕ). Contains xs q) (sym names) here
-
-  from_first : (q : ℕ) → Contains one.names q → Contains now.names q
-  from_first q here = in_now q (Contains-append_left one.names other.names q here)
-
-  from_second : (q : ℕ) → Contains other.names q → Contains now.names q
-  from_second q here = in_now q (Contains-append_right one.names other.names q here)
-
-  -- a component that stays has a name of neither: it would have those of both
-  not_joined : (ids : List ℕ) (q : ℕ) → IsSameComponent g h ids → Contains ids q → Contains now.names q → ⊥
-  not_joined ids q same here q_in =
-      let joined : (x : ℕ) → Contains now.names x → Contains ids x = λ x x_in.
-      whole_after (one ∷ other ∷ []) (now ∷ []) [] g h r ids same.after now (Contains-head now []) q x q_in x_in here in
-      let linked : AreLinked g a b = same.before.linked a b (joined a (from_first a a_in)) (joined b (from_second b b_in)) in
-      apart b ((r.was one a (Contains-head one (other ∷ [])) a_in).0.alone b linked) b_in
-
-  pub two_away : AreAway (one ∷ other ∷ []) g h
-  two_away ids q same here named = elim (Contains-cases one named.0 (other ∷ []) named.1) [
-    | inl first ↦ not_joined ids q same here (from_first q (subst (λ (d : Cluster). Contains d.names q) (sym first) named.2))
-    | inr later ↦ elim (Contains-cases other named.0 [] later) [
-      | inl second ↦ not_joined ids q same here (from_second q (subst (λ (d : Cluster). Contains d.names q) (sym second) named.2))
-      | inr none ↦ none_in_empty named.0 none
-    ]
-  ]

@@ -1,16 +1,17 @@
 -- How many names the levels have after a change of the top level.
-use Rattle.std.proofs.Common.{◌≡◌, ℕ, ◌+◌, Bool, true, false, cond, not, ◌&&◌, ◌||◌, nat_eq, Option, Some, None, is_some, IsSome, refl, sym, ap, ◌∙◌, subst₂, true≢false}
+use Rattle.std.proofs.Common.{◌≡◌, ℕ, ◌+◌, Bool, true, false, cond, ◌||◌, nat_eq, List, length, Contains, Option, Some, None, is_some, IsSome, refl, sym, ap, ◌∙◌, subst₂, true≢false}
 use Rattle.std.specs.Prelude.{option_map, unwrap_or}
 use Rattle.std.specs.FinMap as finmap
+use Rattle.lists.specs.Distinct.{AreDistinct}
 use Rattle.lists.proofs.Keys.{same_len}
 use Rattle.lists.proofs.Cases.{none_of}
 use Rattle.fee_rate.specs.declared.rates.FeeRate.{FeeRate}
-use Rattle.graphs.specs.Closures.{Closure, is_member, AddsPair, DropsPlace}
+use Rattle.graphs.specs.Closures.{Closure, is_member, AddsPair}
 use Rattle.graphs.specs.declared.names.Level.TheVariants.{Main, Top}
-use Rattle.levels.specs.Levels.{OneLevel, Levels, AddsName, ChangesTop, level_at, with_top}
+use Rattle.levels.specs.Levels.{OneLevel, Levels, AddsName, ChangesTop, LosesNames, level_at, with_top}
 use Rattle.levels.specs.Shelves.{Shelf, IsInOrder, levels_of, numbers_at, one_of, view_of}
 use Rattle.levels.specs.Views.{Numbers, graph_of}
-use Rattle.levels.proofs.Counts.{graph_len, len_less, len_more}
+use Rattle.levels.proofs.Counts.{graph_len, len_fewer, len_more}
 use Rattle.levels.proofs.Finds.{graph_is, level_is}
 use Rattle.levels.proofs.Graphs.{member-number}
 
@@ -71,11 +72,14 @@ module _ (old new : Shelf) where
       len_more (numbers_at Top old) (numbers_at Top new) id (ap is_some absent)
       (λ q. key_of new q ∙ adds.members q ∙ ap (λ b. nat_eq q id || b) (sym (key_of old q)))
 
-  pub tops_less : (id : ℕ) → DropsPlace (graph_of (view_of Top old)) (graph_of (view_of Top new)) id
-      → is_some (finmap.get (numbers_at Top old) id) ≡ true → finmap.len (numbers_at Top new) + 1 ≡ finmap.len (numbers_at Top old)
-  tops_less id drops here =
-      len_less (numbers_at Top old) (numbers_at Top new) id here
-      (λ q. key_of new q ∙ drops.members q ∙ ap (λ b. not (nat_eq q id) && b) (sym (key_of old q)))
+  pub tops_less : (gone : List ℕ) → LosesNames (graph_of (view_of Top old)) (graph_of (view_of Top new)) gone → AreDistinct gone
+      → ((id : ℕ) → Contains gone id → IsSome (finmap.get (numbers_at Top old) id))
+      → finmap.len (numbers_at Top new) + length gone ≡ finmap.len (numbers_at Top old)
+  tops_less gone drops once here =
+      len_fewer gone (numbers_at Top old) (numbers_at Top new) once here (λ q. (
+        λ there. let was = (drops.members q).0 (sym (key_of new q) ∙ there) in (was.0, key_of old q ∙ was.1),
+        λ both. key_of new q ∙ (drops.members q).1 (both.0, sym (key_of old q) ∙ both.1),
+      ))
 
 -- main's names are counted by those of the top level where there is no staging
 pub mains_counted : (old new : Shelf) (staged : Bool) (mains tops : ℕ) → staged ≡ is_some new.staging → is_some new.staging ≡ is_some old.staging

@@ -1,17 +1,21 @@
--- The names of a cluster of main that the top level left are touched.
-use Rattle.std.proofs.Common.{◌≡◌, ◌≢◌, ℕ, List, [], ◌∷◌, Contains, Option, Some, None, is_some, IsSome, inl, inr, ◌⊎◌, ◌↔◌, refl, sym, ap, ◌∙◌, subst}
+-- The names of clusters of main that the top level left are touched.
+use Rattle.std.proofs.Common.{◌≡◌, ℕ, ◌+◌, ◌<◌, List, [], ◌∷◌, ◌++◌, length, slice_index_or, take, Contains, Option, Some, None, is_some, IsSome, inl, inr, ◌⊎◌, ◌↔◌, refl, sym, ap, ◌∙◌, subst}
 use Rattle.std.specs.Prelude.{option_map, unwrap_or}
+use Rattle.std.proofs.lemmas.List.{take_more}
+use Rattle.std.proofs.lemmas.List.Elements.{Contains-append_left, Contains-get_or, Contains-push, Contains-push_cases}
 use Rattle.std.proofs.lemmas.Option.{none-some, same_Some}
 use Rattle.std.specs.FinMap as finmap
-use Rattle.lists.proofs.Entries.{Contains-head, Contains-cases, Contains-later, none_in_empty}
+use Rattle.lists.specs.Distinct.{AreDistinct}
+use Rattle.lists.proofs.Distinct.{repeated}
 use Rattle.graphs.specs.declared.names.Level.TheVariants.{Main, Top}
 use Rattle.chunk_index.specs.declared.entry.Tag.{Tag}
 use Rattle.chunk_index.specs.declared.entry.Tag.TheVariants.{MainOnly}
 use Rattle.cluster.specs.Clusters.{Cluster}
 use Rattle.cluster_store.specs.Stores.{Numbered, Stored}
 use Rattle.name_book.specs.Books.{IsNamed}
+use Rattle.name_book.specs.Calls.{Touches}
 use Rattle.levels.specs.Kept.{SuitsShelf}
-use Rattle.levels.specs.Rings.{Ringed, AreRight, IsMarked, LeftMain, ShareMain}
+use Rattle.levels.specs.Rings.{Ringed, AreRight, IsMarked, LeftMain, LeftOf, ShareMain}
 use Rattle.levels.specs.Shelves.{Shelf, IsInOrder, numbers_at, seen_at, stored_at, tag_at}
 use Rattle.levels.specs.Tops.{TopRebuilds}
 use Rattle.levels.specs.Views.{Numbers}
@@ -19,10 +23,8 @@ use Rattle.levels.proofs.Leaving.{left_is, none_left}
 use Rattle.levels.proofs.Lookups.{place_of}
 use Rattle.name_book.proofs.Named.{named-same}
 use Rattle.levels.proofs.Pointing.{one_at}
-use Rattle.levels.proofs.Righting.{Leaves, Marks}
-use Rattle.levels.proofs.Seen.{one_seen}
+use Rattle.levels.proofs.Seen.{one_seen, seen_stored}
 use Rattle.levels.proofs.Shelved.{cases_staging, none_of}
-use Rattle.levels.proofs.Sides.{AreTurned}
 
 -- ---- the names of a number
 
@@ -63,12 +65,6 @@ not_left shelf number x other left = other (ap (option_map (λ (s : Stored). s.t
 
 -- ---- rings
 
--- what becomes of the rings, where the names of a number that the top level left are touched
-pub record Touches (shelf : Shelf) (number : ℕ) (old new : Ringed) : Type 0 where
-  pub names : new.book.names ≡ old.book.names
-  pub main : (x y : ℕ) → ShareMain new x y ↔ ShareMain old x y
-  pub touched : (x : ℕ) → IsMarked new x ↔ (IsMarked old x ⊎ LeftMain shelf number x)
-
 -- the same names, in the same rings
 pub record KeepsAll (old new : Ringed) : Type 0 where
   pub names : (x : ℕ) → IsNamed new.book x ↔ IsNamed old.book x
@@ -78,14 +74,37 @@ pub record KeepsAll (old new : Ringed) : Type 0 where
 pub same_named : (old new : Ringed) → new.book.names ≡ old.book.names → (x : ℕ) → IsNamed new.book x ↔ IsNamed old.book x
 same_named old new names x = (named-same new.book old.book (sym names) x, named-same old.book new.book names x)
 
-pub kept_by : (shelf : Shelf) (number : ℕ) (old new : Ringed) → Touches shelf number old new → ((x : ℕ) → LeftMain shelf number x → ⊥) → KeepsAll old new
-kept_by shelf number old new touches none = record {
+-- where none is touched
+pub kept_by : (These : ℕ → Type 0) (old new : Ringed) → Touches These old new → ((x : ℕ) → These x → ⊥) → KeepsAll old new
+kept_by These old new touches none = record {
   names = same_named old new touches.names;
   main = touches.main;
   touched = λ x. (
     λ marked. elim ((touches.touched x).0 marked) [ inl was ↦ was | inr left ↦ absurd (none x left) ],
     λ was. (touches.touched x).1 (inl was),
   );
+}
+
+-- other words for the names that are touched
+pub touches_alike : (These Those : ℕ → Type 0) (old new : Ringed) → ((x : ℕ) → These x ↔ Those x) → Touches These old new → Touches Those old new
+touches_alike These Those old new same touches = record {
+  names = touches.names;
+  main = touches.main;
+  touched = λ x. (
+    λ marked. elim ((touches.touched x).0 marked) [ inl was ↦ inl was | inr here ↦ inr ((same x).0 here) ],
+    λ either. (touches.touched x).1 (elim either [ inl was ↦ inl was | inr here ↦ inr ((same x).1 here) ]),
+  );
+  spare = touches.spare;
+  issued = touches.issued;
+}
+
+pub touches_none : (These : ℕ → Type 0) (rings : Ringed) → ((x : ℕ) → These x → ⊥) → Touches These rings rings
+touches_none These rings none = record {
+  names = refl;
+  main = λ x y. (λ share. share, λ share. share);
+  touched = λ x. (λ marked. inl marked, λ either. elim either [ inl was ↦ was | inr here ↦ absurd (none x here) ]);
+  spare = refl;
+  issued = refl;
 }
 
 pub right_kept : (old new : Ringed) (main top : Numbers) → KeepsAll old new → AreRight old main top → AreRight new main top
@@ -136,93 +155,68 @@ module _ (w : ℕ) (outs made : List ℕ) (olds news : List Cluster) (gone : Lis
       let is = left_number n x out left in
       ((right.names x).1 (inl (ap is_some is)), λ marked. (right.touched x).0 marked (is ∙ sym (top_number n x out is)))
 
--- what is touched where one cluster went out
-pub marks_one : (w number : ℕ) (made : List ℕ) (olds news : List Cluster) (gone : List ℕ) (old new : Shelf) → IsInOrder w old → IsSome old.staging
-    → TopRebuilds w (number ∷ []) made olds news gone old new → (before after : Ringed) → Touches new number before after
-    → Marks (Leaves (number ∷ []) old.main) before after
-marks_one w number made olds news gone old new order some r before after touches =
-    let is : (x : ℕ) → LeftMain new number x ↔ (finmap.get old.main x ≡ Some number) = λ x.
-    left_is w (number ∷ []) made olds news gone old new order.main some r number x (Contains-head number []) in
-    record {
-      names = same_named before after touches.names;
-      main = touches.main;
-      touched = λ x. (
-        λ marked. elim ((touches.touched x).0 marked) [
-          | inl was ↦ inl was
-          | inr left ↦ inr (number, Contains-head number [], (is x).0 left)
+-- ---- one number after another
+
+-- main alone has a name under one number
+pub left_one : (w : ℕ) (shelf : Shelf) → IsInOrder w shelf → (n m x : ℕ) → LeftMain shelf n x → LeftMain shelf m x → n ≡ m
+left_one w shelf order n m x one two = same_Some n m (sym (at n one) ∙ at m two)
+  where
+    at : (k : ℕ) → LeftMain shelf k x → finmap.get shelf.main x ≡ Some k
+    at k left =
+        order.main.listed k x left.0 (seen_stored Main shelf.store.clusters k (record { cluster = left.0; tag = MainOnly }) left.1 refl) left.2
+
+module _ (shelf : Shelf) (outs : List ℕ) (i : ℕ) (low : i < length outs) where
+  abbrev next : ℕ
+  next = slice_index_or outs i 0
+
+  more : take (i + 1) outs ≡ take i outs ++ next ∷ []
+  more = take_more outs i 0 low
+
+  of_next : (x : ℕ) → LeftOf shelf (take (i + 1) outs) x ↔ (LeftOf shelf (take i outs) x ⊎ LeftMain shelf next x)
+  of_next x = (
+    λ left. elim (Contains-push_cases (take i outs) next left.0 (subst (λ (ns : List ℕ). Contains ns left.0) more left.1)) [
+      | inl before ↦ inl (left.0, before, left.2)
+      | inr same ↦ inr (subst (λ n. LeftMain shelf n x) (sym same) left.2)
+    ],
+    λ either. elim either [
+      | inl before ↦
+          (before.0, subst (λ (ns : List ℕ). Contains ns before.0) (sym more) (Contains-append_left (take i outs) (next ∷ []) before.0 before.1), before.2)
+      | inr here ↦ (next, subst (λ (ns : List ℕ). Contains ns next) (sym more) (Contains-push (take i outs) next), here)
+    ],
+  )
+
+  pub touches_more : (old mid new : Ringed) → Touches (LeftOf shelf (take i outs)) old mid → Touches (LeftMain shelf next) mid new
+      → Touches (LeftOf shelf (take (i + 1) outs)) old new
+  touches_more old mid new so one = record {
+    names = one.names ∙ so.names;
+    main = λ x y. (λ share. (so.main x y).0 ((one.main x y).0 share), λ share. (one.main x y).1 ((so.main x y).1 share));
+    touched = λ x. (
+      λ marked. elim ((one.touched x).0 marked) [
+        | inl then ↦ elim ((so.touched x).0 then) [ inl was ↦ inl was | inr before ↦ inr ((of_next x).1 (inl before)) ]
+        | inr here ↦ inr ((of_next x).1 (inr here))
+      ],
+      λ either. (one.touched x).1 (elim either [
+        | inl was ↦ inl ((so.touched x).1 (inl was))
+        | inr left ↦ elim ((of_next x).0 left) [ inl before ↦ inl ((so.touched x).1 (inr before)) | inr here ↦ inr here ]
+      ]),
+    );
+    spare = one.spare ∙ so.spare;
+    issued = one.issued ∙ so.issued;
+  }
+
+  -- the names of the next number weren't touched with those before
+  pub next_untouched : (w : ℕ) → IsInOrder w shelf → AreDistinct outs
+      → (old mid : Ringed) → ((n x : ℕ) → Contains outs n → LeftMain shelf n x → IsNamed old.book x × (IsMarked old x → ⊥))
+      → Touches (LeftOf shelf (take i outs)) old mid
+      → (x : ℕ) → LeftMain shelf next x → IsNamed mid.book x × (IsMarked mid x → ⊥)
+  next_untouched w order once old mid untouched so x left =
+      let here : Contains outs next = Contains-get_or outs i 0 low in
+      let was = untouched next x here left in (
+        (same_named old mid so.names x).1 was.0,
+        λ marked. elim ((so.touched x).0 marked) [
+          | inl marked_then ↦ was.1 marked_then
+          | inr before ↦
+              repeated outs i next 0 low refl
+              (subst (Contains (take i outs)) (left_one w shelf order before.0 next x before.2 left) before.1) once
         ],
-        λ either. (touches.touched x).1 (elim either [
-          | inl was ↦ inl was
-          | inr leaves ↦ elim (Contains-cases number leaves.0 [] leaves.1) [
-            | inl same ↦ inr ((is x).1 (leaves.2 ∙ ap Some (sym same)))
-            | inr none ↦ absurd (none_in_empty leaves.0 none)
-          ]
-        ]),
-      );
-    }
-
--- ---- where two clusters went out
-
-module _ (w above below first second : ℕ) (turned : AreTurned above below first second) where
-  pub above_out : Contains (first ∷ second ∷ []) above
-  above_out = elim turned [
-    | inl same ↦ subst (Contains (first ∷ second ∷ [])) same.0 (Contains-head first (second ∷ []))
-    | inr same ↦ subst (Contains (first ∷ second ∷ [])) same.1 (Contains-later first second (second ∷ []) (Contains-head second []))
-  ]
-
-  pub below_out : Contains (first ∷ second ∷ []) below
-  below_out = elim turned [
-    | inl same ↦ subst (Contains (first ∷ second ∷ [])) same.1 (Contains-later first second (second ∷ []) (Contains-head second []))
-    | inr same ↦ subst (Contains (first ∷ second ∷ [])) same.0 (Contains-head first (second ∷ []))
-  ]
-
-  out_is : (n : ℕ) → Contains (first ∷ second ∷ []) n → (n ≡ above) ⊎ (n ≡ below)
-  out_is n here = elim (Contains-cases first n (second ∷ []) here) [
-    | inl is ↦ elim turned [ inl same ↦ inl (sym is ∙ same.0) | inr same ↦ inr (sym is ∙ same.0) ]
-    | inr later ↦ elim (Contains-cases second n [] later) [
-      | inl is ↦ elim turned [ inl same ↦ inr (sym is ∙ same.1) | inr same ↦ inl (sym is ∙ same.1) ]
-      | inr none ↦ absurd (none_in_empty n none)
-    ]
-  ]
-
-  module _ (made : List ℕ) (olds news : List Cluster) (gone : List ℕ) (old new : Shelf) (order : IsInOrder w old) (now : IsInOrder w new)
-      (r : TopRebuilds w (first ∷ second ∷ []) made olds news gone old new) (before mid : Ringed) (one : Touches new above before mid) where
-    -- what is left under the other number isn't touched with that under the one
-    pub second_untouched : above ≢ below → SuitsShelf before old → (x : ℕ) → LeftMain new below x → IsNamed mid.book x × (IsMarked mid x → ⊥)
-    second_untouched apart right x left =
-        let outs = first ∷ second ∷ [] in
-        let was = left_untouched w outs made olds news gone old new order now r before right below x below_out left in (
-          (same_named before mid one.names x).1 was.0,
-          λ marked. elim ((one.touched x).0 marked) [
-            | inl marked_then ↦ was.1 marked_then
-            | inr other ↦
-                apart (same_Some above below (sym (left_number w outs made olds news gone old new order now r above x above_out other)
-                ∙ left_number w outs made olds news gone old new order now r below x below_out left))
-          ],
-        )
-
-    pub marks_two : (after : Ringed) → IsSome old.staging → Touches new below mid after → Marks (Leaves (first ∷ second ∷ []) old.main) before after
-    marks_two after some two =
-        let outs = first ∷ second ∷ [] in
-        let is : (n x : ℕ) → Contains outs n → LeftMain new n x ↔ (finmap.get old.main x ≡ Some n) =
-        left_is w outs made olds news gone old new order.main some r in
-        record {
-          names = same_named before after (two.names ∙ one.names);
-          main = λ x y. (λ share. (one.main x y).0 ((two.main x y).0 share), λ share. (two.main x y).1 ((one.main x y).1 share));
-          touched = λ x. (
-            λ marked. elim ((two.touched x).0 marked) [
-              | inl then ↦ elim ((one.touched x).0 then) [
-                | inl was ↦ inl was
-                | inr left ↦ inr (above, above_out, (is above x above_out).0 left)
-              ]
-              | inr left ↦ inr (below, below_out, (is below x below_out).0 left)
-            ],
-            λ either. (two.touched x).1 (elim either [
-              | inl was ↦ inl ((one.touched x).1 (inl was))
-              | inr leaves ↦ elim (out_is leaves.0 leaves.1) [
-                | inl same ↦ inl ((one.touched x).1 (inr ((is above x above_out).1 (leaves.2 ∙ ap Some same))))
-                | inr same ↦ inr ((is below x below_out).1 (leaves.2 ∙ ap Some same))
-              ]
-            ]),
-          );
-        }
+      )

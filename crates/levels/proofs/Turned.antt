@@ -1,12 +1,13 @@
 -- What a change of the top level of a shelf makes of the levels over it: the change that they see, and what is kept of them.
-use Rattle.std.proofs.Common.{◌≡◌, ℕ, ◌-◌, ◌≤◌, Bool, cond, is_some, IsSome, sym, ◌∙◌, subst, arith}
+use Rattle.std.proofs.Common.{◌≡◌, ℕ, ◌-◌, ◌≤◌, Bool, cond, List, length, Contains, is_some, IsSome, sym, ◌∙◌, subst, arith}
 use Rattle.std.specs.FinMap as finmap
 use Rattle.std.specs.FinSet as set
 use Rattle.fee_rate.specs.declared.limits.TheConstants.{MAX_TOTAL}
-use Rattle.graphs.specs.Closures.{Closure, DropsPlace}
+use Rattle.lists.specs.Distinct.{AreDistinct}
+use Rattle.graphs.specs.Closures.{Closure}
 use Rattle.graphs.specs.declared.names.Level.TheVariants.{Top}
 use Rattle.levels.specs.Kept.{IsKept, SuitsShelf}
-use Rattle.levels.specs.Levels.{Levels, ChangesTop}
+use Rattle.levels.specs.Levels.{Levels, ChangesTop, LosesNames}
 use Rattle.levels.specs.Rings.{Ringed}
 use Rattle.levels.specs.Shelves.{Shelf, IsInOrder, levels_of, numbers_at}
 use Rattle.levels.specs.Stays.{AllStay}
@@ -39,13 +40,14 @@ module _ (w mains tops issued : ℕ) (old new : Shelf) (before after : Ringed) (
     few = few;
   }
 
-  pub kept_dropped : (id : ℕ) → IsSome (finmap.get (numbers_at Top old) id)
-      → ChangesTop (λ g h. DropsPlace g h id) (levels_of old issued) (levels_of new issued)
-      → (staged : Bool) (main_count : ℕ) → staged ≡ is_some new.staging → main_count ≡ cond staged mains (tops - 1)
+  pub kept_dropped : (gone : List ℕ) → AreDistinct gone → ((id : ℕ) → Contains gone id → IsSome (finmap.get (numbers_at Top old) id))
+      → ChangesTop (λ g h. LosesNames g h gone) (levels_of old issued) (levels_of new issued)
+      → (staged : Bool) (main_count : ℕ) → staged ≡ is_some new.staging → main_count ≡ cond staged mains (tops - length gone)
       → set.len after.book.names ≤ set.len before.book.names → after.book.issued ≡ before.book.issued
-      → IsKept w new after main_count (tops - 1) issued
-  kept_dropped id here turns staged main_count is main fewer issues =
-      let less = tops_less old new id (top_turned w issued old new kept.order order (λ g h. DropsPlace g h id) turns) here in
+      → IsKept w new after main_count (tops - length gone) issued
+  kept_dropped gone once here turns staged main_count is main fewer issues =
+      let less = tops_less old new gone (top_turned w issued old new kept.order order (λ g h. LosesNames g h gone) turns) once here in
       let few = kept.few in
-      let top : tops - 1 ≡ finmap.len (numbers_at Top new) = let counted = kept.tops in omega (arith, less, counted) in
-      kept_turned (λ g h. DropsPlace g h id) turns staged main_count (tops - 1) issued is top main (kept.issued ∙ sym issues) (omega (arith, fewer, few))
+      let top : tops - length gone ≡ finmap.len (numbers_at Top new) = let counted = kept.tops in omega (arith, less, counted) in
+      kept_turned (λ g h. LosesNames g h gone) turns staged main_count (tops - length gone) issued is top main (kept.issued ∙ sym issues)
+      (omega (arith, fewer, few))

@@ -1,29 +1,18 @@
 -- What a change of the top level leaves as it was: components that stay keep their parts and flows, in their order, in both levels.
 use Rattle.std.proofs.Common.{◌≡◌, ℕ, ◌*◌, ◌&&◌, true, List, [], ◌∷◌, Contains, Some, inl, inr, sym, ap, ◌∙◌, subst, subst₂, true≢false, Result, Ok, Err, OnOk, OnErr}
-use Rattle.std.proofs.lemmas.Bool.{and_from, or_right}
 use Rattle.std.specs.FinMap as finmap
 use Rattle.lists.proofs.Entries.{Contains-head, none_in_empty}
 use Rattle.graphs.specs.declared.names.Level.{Level}
 use Rattle.graphs.specs.declared.names.Level.TheVariants.{Main, Top}
-use Rattle.graphs.specs.Closures.{is_ancestor}
-use Rattle.cluster.specs.Clusters.{Cluster, IsCluster}
-use Rattle.levels.specs.Changes.{IsRebuilt}
+use Rattle.cluster.specs.Clusters.{Cluster}
 use Rattle.levels.specs.Levels.{Levels, OneLevel, level_at}
-use Rattle.levels.specs.Links.{IsLink}
-use Rattle.levels.specs.declared.links.Link.TheVariants.{Within, Between}
-use Rattle.levels.specs.Moves.{DropsName, JoinsTwo, LinksOne}
 use Rattle.levels.specs.Shelves.{Shelf, IsInOrder, levels_of, numbers_at, one_of, seen_at, view_of}
 use Rattle.levels.specs.Stays.{AllStay}
 use Rattle.levels.specs.Tops.{TopRebuilds}
 use Rattle.levels.specs.Views.{graph_of}
-use Rattle.levels.proofs.Closing.{member_absent}
 use Rattle.levels.proofs.Finds.{alike}
-use Rattle.levels.proofs.Rebuilt.{is_rebuilt}
-use Rattle.levels.proofs.Seen.{seen_is_stored}
 use Rattle.levels.proofs.Shelved.{cases_staging, level_of_shelf, none_of, same_level, same_view}
-use Rattle.levels.proofs.Sides.{Sides, sides}
-use Rattle.levels.proofs.Staying.{AreAway, LevelKeeps, one_away, rebuilt_stays, two_away, whole_before}
-use Rattle.levels.proofs.Under.{held}
+use Rattle.levels.proofs.Staying.{AreAway, LevelKeeps, rebuilt_stays}
 
 -- ---- levels that stay
 
@@ -84,72 +73,3 @@ module _ (w : ℕ) (old new : Shelf) (before : IsInOrder w old) (after : IsInOrd
     -- clusters come in, and none goes out
     pub added_stays : (made : List ℕ) (news : List Cluster) → TopRebuilds w [] made [] news [] old new → AllStay (levels_of old issued) (levels_of new later)
     added_stays made news r = top_stays [] made [] news [] r (λ ids id same here named. none_in_empty named.0 named.1)
-
-    -- ---- a pair within a cluster
-
-    pub linked_stays : (number parent child : ℕ) → IsLink w old parent child (Within number) → LinksOne w number parent child old new
-        → AllStay (levels_of old issued) (levels_of new later)
-    linked_stays number parent child link l =
-        top_stays (number ∷ []) (l.made ∷ []) (l.was ∷ []) (l.now ∷ []) [] l.rebuilds
-        (one_away l.was (l.now ∷ []) [] (graph_of (view_of Top old)) (graph_of (view_of Top new)) r parent parent_in (λ ids same here.
-        let there : Contains ids child =
-        whole_before (l.was ∷ []) (l.now ∷ []) [] (graph_of (view_of Top old)) (graph_of (view_of Top new)) r ids same.before l.was (Contains-head l.was [])
-        parent child parent_in child_in here in
-        true≢false (sym up ∙ same.ancestors parent child here there ∙ link.2)))
-      where
-        r : IsRebuilt (l.was ∷ []) (l.now ∷ []) [] (graph_of (view_of Top old)) (graph_of (view_of Top new))
-        r = is_rebuilt (64 * w) (number ∷ []) (l.made ∷ []) (l.was ∷ []) (l.now ∷ []) [] (view_of Top old) (view_of Top new) before.top l.rebuilds.top
-
-        parent_in : Contains l.was.names parent
-        parent_in = held w old before Top parent number link.0 l.was l.at
-
-        child_in : Contains l.was.names child
-        child_in = held w old before Top child number link.1 l.was l.at
-
-        child_now : Contains l.now.names child
-        child_now = subst (λ (xs : List ℕ). Contains xs child) (sym l.names) child_in
-
-        whole : IsCluster (64 * w) l.was
-        whole = before.top.whole number l.was l.at
-
-        across : (is_ancestor l.was.graph parent parent && is_ancestor l.was.graph child child) ≡ true
-        across =
-            and_from (is_ancestor l.was.graph parent parent) (is_ancestor l.was.graph child child)
-            (whole.order.reflexive parent ((whole.members parent).1 parent_in)) (whole.order.reflexive child ((whole.members child).1 child_in))
-
-        -- it is an ancestor now, which it wasn't
-        up : is_ancestor (graph_of (view_of Top new)) parent child ≡ true
-        up =
-            (r.now l.now child (Contains-head l.now []) child_now).0.above parent child child_now ∙ l.pair.ancestors parent child
-            ∙ or_right (is_ancestor l.was.graph parent child) (is_ancestor l.was.graph parent parent && is_ancestor l.was.graph child child) across
-
-    -- ---- a pair between two clusters
-
-    pub joined_stays : (above below parent child : ℕ) → IsLink w old parent child (Between above below) → JoinsTwo w above below parent child old new
-        → AllStay (levels_of old issued) (levels_of new later)
-    joined_stays above below parent child link l =
-        top_stays (l.first ∷ l.second ∷ []) (l.made ∷ []) (l.one ∷ l.other ∷ []) (l.now ∷ []) [] l.rebuilds (elim both.across [
-          | inl straight ↦ away parent child straight.0 straight.1
-          | inr turned ↦ away child parent turned.1 turned.0
-        ])
-      where
-        both : Sides w old before parent child l.first l.second l.one l.other
-        both = sides w old before parent child above below l.first l.second l.one l.other link l.turned
-            (seen_is_stored Top old.store.clusters l.first l.one l.one_at) (seen_is_stored Top old.store.clusters l.second l.other l.other_at)
-
-        away : (a b : ℕ) → Contains l.one.names a → Contains l.other.names b
-            → AreAway (l.one ∷ l.other ∷ []) (graph_of (view_of Top old)) (graph_of (view_of Top new))
-        away = two_away l.one l.other l.now (graph_of (view_of Top old)) (graph_of (view_of Top new))
-            (is_rebuilt (64 * w) (l.first ∷ l.second ∷ []) (l.made ∷ []) (l.one ∷ l.other ∷ []) (l.now ∷ []) [] (view_of Top old) (view_of Top new) before.top
-            l.rebuilds.top) l.names both.alone
-
-    -- ---- a name fewer
-
-    pub dropped_stays : (number id : ℕ) (made : List ℕ) → finmap.get (numbers_at Top old) id ≡ Some number → DropsName w number id made old new
-        → AllStay (levels_of old issued) (levels_of new later)
-    dropped_stays number id made is d =
-        let r = is_rebuilt (64 * w) (number ∷ []) d.all (d.was ∷ []) d.left (id ∷ []) (view_of Top old) (view_of Top new) before.top d.rebuilds.top in
-        top_stays (number ∷ []) d.all (d.was ∷ []) d.left (id ∷ []) d.rebuilds
-        (one_away d.was d.left (id ∷ []) (graph_of (view_of Top old)) (graph_of (view_of Top new)) r id (held w old before Top id number is d.was d.at)
-        (λ ids same here.
-        true≢false (sym (same.after.members id here) ∙ member_absent (graph_of (view_of Top new)) id (r.lost id (Contains-head id [])))))

@@ -1,33 +1,25 @@
 -- What a change leaves of a level: some clusters go out and others come in, and names get the numbers of these.
-use Rattle.std.specs.Prelude.{◌≡◌, ◌⊎◌, ℕ, true, List, length, slice_get, slice_index, Contains, Option, Some, None}
+use Rattle.std.specs.Prelude.{◌≡◌, ◌⊎◌, ℕ, true, List, slice_get, slice_index, Contains, Option, Some, None}
 use Rattle.std.specs.List.{AllPairs}
 use Rattle.std.specs.FinMap as finmap
-use Rattle.lists.specs.Distinct.{AreDistinct}
 use Rattle.graphs.specs.Closures.{Closure, is_member}
 use Rattle.cluster.specs.Clusters.{Cluster, IsCluster, AreApart}
+pub use Rattle.cluster_store.specs.Tops.{AreAt, Replaces}
 use Rattle.levels.specs.Views.{View, Numbers, IsClusterOf}
 
 -- one of the clusters has the name
 abbrev pub IsNamed : List Cluster → ℕ → Type 0
 IsNamed clusters id = (c : Cluster) × Contains clusters c × Contains c.names id
 
--- these clusters stand under these numbers, one for one
-pub record AreAt (at : ℕ → Option Cluster) (list : List ℕ) (found : List Cluster) : Type 0 where
-  pub count : length list ≡ length found
-  pub stand : (i : ℕ) (c : Cluster) → slice_get found i ≡ Some c → at (slice_index list i) ≡ Some c
-
--- The clusters of some numbers go out, and others stand under these numbers or under such as were free. All else stays.
-pub record Exchanges (outs made : List ℕ) (news : List Cluster) (old new : ℕ → Option Cluster) : Type 0 where
-  pub once : AreDistinct made
-  pub stand : AreAt new made news
-  pub room : (n : ℕ) → Contains made n → Contains outs n ⊎ (old n ≡ None)
-  pub cleared : (n : ℕ) → Contains outs n → (Contains made n → ⊥) → new n ≡ None
-  pub elsewhere : (n : ℕ) → (Contains outs n → ⊥) → (Contains made n → ⊥) → new n ≡ old n
-
 -- these names have the number, and the others what they had
 pub record PointsOne (number : ℕ) (names : List ℕ) (old new : Numbers) : Type 0 where
   pub pointed : (id : ℕ) → Contains names id → finmap.get new id ≡ Some number
   pub others : (id : ℕ) → (Contains names id → ⊥) → finmap.get new id ≡ finmap.get old id
+
+-- these names have no number, and the others what they had
+pub record Loses (gone : List ℕ) (old new : Numbers) : Type 0 where
+  pub lost : (id : ℕ) → Contains gone id → finmap.get new id ≡ None
+  pub others : (id : ℕ) → (Contains gone id → ⊥) → finmap.get new id ≡ finmap.get old id
 
 -- The names of clusters have the numbers of these, some names have none, and all others what they had.
 pub record Points (made : List ℕ) (news : List Cluster) (gone : List ℕ) (old new : Numbers) : Type 0 where
@@ -47,7 +39,7 @@ pub record Covers (most : ℕ) (olds news : List Cluster) (gone : List ℕ) (num
 -- A whole change of a level.
 pub record Rebuilds (most : ℕ) (outs made : List ℕ) (olds news : List Cluster) (gone : List ℕ) (old new : View) : Type 0 where
   pub taken : AreAt old.at outs olds
-  pub exchanges : Exchanges outs made news old.at new.at
+  pub exchanges : Replaces outs made news old.at new.at
   pub points : Points made news gone old.numbers new.numbers
   pub covers : Covers most olds news gone old.numbers
 

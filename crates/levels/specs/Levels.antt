@@ -1,5 +1,5 @@
 -- The levels of a graph: main, and staging where there is one.
-use Rattle.std.specs.Prelude.{◌≡◌, ◌≢◌, ◌⊎◌, ℕ, ℤ, ◌+◌, Bool, true, false, ◌&&◌, ◌||◌, cond, nat_eq, [], List, length, map, Option, None, Some, IfSome, is_some, refl}
+use Rattle.std.specs.Prelude.{◌≡◌, ◌≢◌, ◌⊎◌, ◌↔◌, ℕ, ℤ, ◌+◌, Bool, true, false, ◌&&◌, ◌||◌, cond, nat_eq, [], List, length, map, Contains, Option, None, Some, IfSome, is_some, refl}
 use Rattle.std.specs.Coded.{Coded, code_by, coded×, coded_list, coded_option, coded_ℕ}
 use Rattle.std.specs.FinMap as finmap
 use Rattle.graphs.specs.declared.names.Level.{Level}
@@ -77,6 +77,12 @@ pub record AddsName (old new : Closure) (id : ℕ) (rate : FeeRate) : Type 0 whe
   pub rate_is : rate_of new id ≡ rate
   pub rates : (q : ℕ) → q ≢ id → rate_of new q ≡ rate_of old q
   pub ancestors : (a d : ℕ) → is_ancestor new a d ≡ ((nat_eq a id && nat_eq d id) || is_ancestor old a d)
+
+-- some names fewer: the others keep their rates and the relation among themselves
+pub record LosesNames (old new : Closure) (gone : List ℕ) : Type 0 where
+  pub members : (q : ℕ) → (is_member new q ≡ true) ↔ ((Contains gone q → ⊥) × (is_member old q ≡ true))
+  pub rates : (q : ℕ) → (Contains gone q → ⊥) → rate_of new q ≡ rate_of old q
+  pub ancestors : (a d : ℕ) → (is_ancestor new a d ≡ true) ↔ ((Contains gone a → ⊥) × (Contains gone d → ⊥) × (is_ancestor old a d ≡ true))
 
 -- the name has another fee where the level has it, and else the level stays
 abbrev pub SetsFeeOf : ℕ → ℤ → OneLevel → OneLevel → Type 0

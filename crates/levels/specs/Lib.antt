@@ -1,6 +1,7 @@
 pub mod Changes
 pub mod Joins
 pub mod Kept
+pub mod Lefts
 pub mod Levels
 pub mod Links
 pub mod Moves

@@ -18,10 +18,12 @@ IsLink w shelf parent child There = is_ancestor (graph_of (view_of Top shelf)) p
 IsLink w shelf parent child (Within number) =
     (finmap.get (numbers_at Top shelf) parent ≡ Some number) × (finmap.get (numbers_at Top shelf) child ≡ Some number)
     × (is_ancestor (graph_of (view_of Top shelf)) parent child ≡ false) × (is_ancestor (graph_of (view_of Top shelf)) child parent ≡ false)
-IsLink w shelf parent child (Between above below) =
-    (finmap.get (numbers_at Top shelf) parent ≡ Some above) × (finmap.get (numbers_at Top shelf) child ≡ Some below) × (above ≢ below)
-    × ((a b : Cluster) → seen_at Top shelf.store.clusters above ≡ Some a
-    → seen_at Top shelf.store.clusters below ≡ Some b → length a.names + length b.names ≤ 64 * w)
+IsLink w shelf parent child (Between first second) =
+    (((finmap.get (numbers_at Top shelf) parent ≡ Some first) × (finmap.get (numbers_at Top shelf) child ≡ Some second))
+    ⊎ ((finmap.get (numbers_at Top shelf) parent ≡ Some second) × (finmap.get (numbers_at Top shelf) child ≡ Some first)))
+    × (first ≢ second)
+    × ((a b : Cluster) → seen_at Top shelf.store.clusters first ≡ Some a
+    → seen_at Top shelf.store.clusters second ≡ Some b → length a.names + length b.names ≤ 64 * w)
 
 -- how two names of one cluster stand
 abbrev pub IsWithin : Cluster → ℕ → ℕ → ℕ → Result Link Refusal → Type 0

@@ -1,69 +1,75 @@
 -- What the changes of a shelf make of clusters.
-use Rattle.std.specs.Prelude.{◌≡◌, ◌⊎◌, ℕ, ℤ, ◌*◌, true, List, [], ◌∷◌, ◌++◌, Contains, None, Some}
+use Rattle.std.specs.Prelude.{◌≡◌, ◌≢◌, ◌⊎◌, ◌↔◌, ℕ, ℤ, ◌+◌, ◌*◌, length, MatchOption, true, false, List, [], ◌∷◌, ◌++◌, Contains, slice_get, Option, None, Some, option_to_list}
 use Rattle.std.specs.FinMap as finmap
+use Rattle.lists.specs.Distinct.{AreDistinct}
 use Rattle.graphs.specs.declared.names.Level.{Level}
 use Rattle.graphs.specs.declared.names.Level.TheVariants.{Main, Top}
 use Rattle.fee_rate.specs.declared.rates.FeeRate.{FeeRate}
-use Rattle.graphs.specs.Closures.{is_ancestor, AddsPair, SetsFee}
+use Rattle.graphs.specs.Closures.{is_ancestor, rate_of, SetsFee}
 use Rattle.cluster.specs.Clusters.{Cluster, IsCluster}
-use Rattle.cluster.specs.Changes.{IsSingle, IsSplit, Joins}
-use Rattle.levels.specs.Changes.{Rebuilds}
-use Rattle.levels.specs.Links.{IsLink}
-use Rattle.levels.specs.declared.links.Link.TheVariants.{Within, Between}
+use Rattle.cluster_store.specs.Stores.{Exchange}
+use Rattle.cluster.specs.Changes.{IsAncestorIn, IsSingle}
+use Rattle.cluster.specs.Steps.{GrowsWithin, most_steps}
+use Rattle.levels.specs.Changes.{IsNamed, Rebuilds}
 use Rattle.levels.specs.Shelves.{Shelf, numbers_at, seen_at, stored_at, view_of}
+use Rattle.levels.specs.Tops.{IsMade, TopRebuilds}
 use Rattle.levels.specs.Views.{graph_of}
-use Rattle.levels.specs.Tops.{AreTold, ExchangedAt, TopRebuilds}
+
+-- a name that clusters have before and after has the same rate in both
+abbrev pub KeepRates : List Cluster → List Cluster → Type 0
+KeepRates olds news =
+    (c : Cluster) → Contains news c → (id : ℕ) → Contains c.names id → (b : Cluster) → Contains olds b → Contains b.names id
+    → rate_of c.graph id ≡ rate_of b.graph id
+
+-- The clusters that come in have the names of those that go out, with one more pair between two of these; and each that goes out has one of the
+-- two.
+pub record AddsPairIn (olds news : List Cluster) (p q : ℕ) : Type 0 where
+  pub parent : IsNamed olds p
+  pub child : IsNamed olds q
+  pub each : (c : Cluster) → Contains olds c → Contains c.names p ⊎ Contains c.names q
+  pub names : (id : ℕ) → IsNamed news id ↔ IsNamed olds id
+  pub rates : KeepRates olds news
+  pub ancestors : (a d : ℕ) → IsAncestorIn news a d ↔ (IsAncestorIn olds a d ⊎ (IsAncestorIn olds a p × IsAncestorIn olds q d))
+
+-- The clusters that come in have the names of those that go out but for some, and the relation among them; and each that goes out loses a name.
+pub record DropsIn (olds news : List Cluster) (gone : List ℕ) : Type 0 where
+  pub each : (c : Cluster) → Contains olds c → (id : ℕ) × Contains gone id × Contains c.names id
+  pub names : (id : ℕ) → IsNamed news id ↔ (IsNamed olds id × (Contains gone id → ⊥))
+  pub rates : KeepRates olds news
+  pub ancestors : (a d : ℕ) → IsAncestorIn news a d ↔ ((Contains gone a → ⊥) × (Contains gone d → ⊥) × IsAncestorIn olds a d)
 
 -- A name came in, alone in a cluster, which was in neither level.
-pub record AddsOne (w id : ℕ) (rate : FeeRate) (old new : Shelf) : Type 0 where
-  pub now : Cluster
+pub record AddsTop (w id : ℕ) (rate : FeeRate) (old new : Shelf) : Type 0 where
   pub made : ℕ
+  pub now : Cluster
   pub single : IsSingle id rate now
   pub absent : finmap.get (numbers_at Top old) id ≡ None
   pub rebuilds : TopRebuilds w [] (made ∷ []) [] (now ∷ []) [] old new
 
--- A name became a parent of another of its cluster.
-pub record LinksOne (w number parent child : ℕ) (old new : Shelf) : Type 0 where
-  pub was : Cluster
-  pub now : Cluster
+-- A name of the top level became a parent of another: the clusters of these numbers went out, and one came in.
+pub record PairsTop (w : ℕ) (outs : List ℕ) (parent child : ℕ) (old new : Shelf) : Type 0 where
   pub made : ℕ
-  pub at : seen_at Top old.store.clusters number ≡ Some was
-  pub names : now.names ≡ was.names
-  pub pair : AddsPair was.graph now.graph parent child
-  pub rebuilds : TopRebuilds w (number ∷ []) (made ∷ []) (was ∷ []) (now ∷ []) [] old new
-
--- A name became a parent of another of another cluster.
-pub record JoinsTwo (w above below parent child : ℕ) (old new : Shelf) : Type 0 where
-  pub first : ℕ
-  pub second : ℕ
-  pub turned : ((first ≡ above) × (second ≡ below)) ⊎ ((first ≡ below) × (second ≡ above))
-  pub one : Cluster
-  pub other : Cluster
+  pub olds : List Cluster
   pub now : Cluster
-  pub made : ℕ
-  pub one_at : seen_at Top old.store.clusters first ≡ Some one
-  pub other_at : seen_at Top old.store.clusters second ≡ Some other
-  pub names : now.names ≡ one.names ++ other.names
-  pub joins : Joins one.graph other.graph parent child now.graph
-  pub rebuilds : TopRebuilds w (first ∷ second ∷ []) (made ∷ []) (one ∷ other ∷ []) (now ∷ []) [] old new
+  pub rebuilds : TopRebuilds w outs (made ∷ []) olds (now ∷ []) [] old new
+  pub pair : AddsPairIn olds (now ∷ []) parent child
 
--- A name became a parent of another, as the two stood, or was an ancestor already.
+-- the same, or that it was an ancestor already
 abbrev pub Connects : ℕ → ℕ → ℕ → Shelf → Shelf → Type 0
 Connects w parent child old new =
     (is_ancestor (graph_of (view_of Top old)) parent child ≡ true × (new ≡ old))
-    ⊎ (((number : ℕ) × IsLink w old parent child (Within number) × LinksOne w number parent child old new)
-    ⊎ ((above below : ℕ) × IsLink w old parent child (Between above below) × JoinsTwo w above below parent child old new))
+    ⊎ ((is_ancestor (graph_of (view_of Top old)) parent child ≡ false) × ((outs : List ℕ) × PairsTop w outs parent child old new))
 
--- A name left its cluster; these are the numbers of what is left, but for one that may stand under the old number.
-pub record DropsName (w number id : ℕ) (made : List ℕ) (old new : Shelf) : Type 0 where
-  pub was : Cluster
-  pub left : List Cluster
-  pub all : List ℕ
-  pub at : seen_at Top old.store.clusters number ≡ Some was
-  pub split : IsSplit was.graph (id ∷ []) left
-  pub whole : (c : Cluster) → Contains left c → IsCluster (64 * w) c
-  pub rebuilds : TopRebuilds w (number ∷ []) all (was ∷ []) left (id ∷ []) old new
-  pub told : AreTold number left all made
+-- Names left the top level: the clusters of these numbers went out, and what was left of them came in, under these numbers and, one of the
+-- first of them, under another.
+pub record DropsTop (w : ℕ) (outs made : List ℕ) (gone : List ℕ) (old new : Shelf) : Type 0 where
+  pub number : Option ℕ
+  pub rest : List Cluster
+  pub last : Option Cluster
+  pub once : AreDistinct outs
+  pub is : IsMade w outs made number rest last gone old new
+  pub drops : DropsIn is.olds (rest ++ option_to_list last) gone
+  pub own : (c d : Cluster) → last ≡ Some c → slice_get is.olds 0 ≡ Some d → (id : ℕ) → Contains c.names id → Contains d.names id
 
 -- In a level that has the name its cluster has another fee for it; of a level that hasn't all that is seen stays.
 pub record SetsFeeAt (w id : ℕ) (fee : ℤ) (level : Level) (old new : Shelf) : Type 0 where
@@ -72,17 +78,34 @@ pub record SetsFeeAt (w id : ℕ) (fee : ℤ) (level : Level) (old new : Shelf) 
       × Rebuilds (64 * w) (number ∷ []) (number ∷ []) (was ∷ []) (now ∷ []) [] (view_of level old) (view_of level new)
   pub away : finmap.get (numbers_at level old) id ≡ None → (n : ℕ) → seen_at level new.store.clusters n ≡ seen_at level old.store.clusters n
 
--- The cluster of a number has another fee for a name: in each level that it stands in it takes its own place, and of a level that it doesn't
--- stand in all that is seen stays. Names keep their numbers.
-pub record SetsFeeUnder (w number id : ℕ) (fee : ℤ) (old new : Shelf) : Type 0 where
+-- Every level that has a name has one of these numbers for it: the first, or, where main has another than the top level, main's and that one.
+pub record AreNumbersOf (id first : ℕ) (second : Option ℕ) (shelf : Shelf) : Type 0 where
+  pub level : Level
+  pub first_is : finmap.get (numbers_at level shelf) id ≡ Some first
+  pub one : second ≡ None → (l : Level) → (finmap.get (numbers_at l shelf) id ≡ None) ⊎ (finmap.get (numbers_at l shelf) id ≡ Some first)
+  pub two : (top : ℕ) → second ≡ Some top
+      → (finmap.get (numbers_at Main shelf) id ≡ Some first) × (finmap.get (numbers_at Top shelf) id ≡ Some top) × (first ≢ top)
+
+-- The cluster of a number has the name, and the one that is to stand there has another fee for it.
+pub record IsPriced (w id : ℕ) (fee : ℤ) (x : Exchange) (shelf : Shelf) : Type 0 where
   pub was : Cluster
-  pub now : Cluster
-  pub at : stored_at old.store.clusters number ≡ Some was
-  pub names : now.names ≡ was.names
-  pub sets : SetsFee was.graph now.graph id fee
-  pub levels : (level : Level) → ExchangedAt w number now level old new
-  pub numbers : new.main ≡ old.main
-  pub staging : new.staging ≡ old.staging
+  pub at : stored_at shelf.store.clusters x.number ≡ Some was
+  pub held : Contains was.names id
+  pub whole : IsCluster (64 * w) x.cluster
+  pub names : x.cluster.names ≡ was.names
+  pub sets : SetsFee was.graph x.cluster.graph id fee
+
+-- each of them has
+abbrev pub ArePriced : ℕ → ℕ → ℤ → List Exchange → Shelf → Type 0
+ArePriced w id fee list shelf = (x : Exchange) → Contains list x → IsPriced w id fee x shelf
+
+-- A count grew by at most what the orders of the clusters of a number, or of two, take.
+abbrev pub GrowsForBoth : ℕ → Option ℕ → Shelf → ℕ → ℕ → Type 0
+GrowsForBoth first second shelf before after =
+    (c : Cluster) → stored_at shelf.store.clusters first ≡ Some c
+    → MatchOption second (GrowsWithin (most_steps (length c.names)) before after)
+    (λ number. (d : Cluster) → stored_at shelf.store.clusters number ≡ Some d
+    → GrowsWithin (most_steps (length c.names) + most_steps (length d.names)) before after)
 
 -- so it is in both levels, and the names keep their numbers
 pub record SetsFees (w id : ℕ) (fee : ℤ) (old new : Shelf) : Type 0 where

@@ -30,3 +30,13 @@ AreNamedOnce clusters x y = (c : Cluster) × Contains clusters c × Contains c.n
 -- main alone has the cluster of a number, and that has the name
 abbrev pub LeftMain : Shelf → ℕ → ℕ → Type 0
 LeftMain shelf number x = (c : Cluster) × (finmap.get shelf.store.clusters number ≡ Some (record { cluster = c; tag = MainOnly })) × Contains c.names x
+
+-- main alone has one of the clusters of some numbers, and that has the name
+abbrev pub LeftOf : Shelf → List ℕ → ℕ → Type 0
+LeftOf shelf outs x = (n : ℕ) × Contains outs n × LeftMain shelf n x
+
+-- some names went, and the others are as they were
+pub record Forgets (These : ℕ → Type 0) (old new : Ringed) : Type 0 where
+  pub names : (x : ℕ) → IsNamed new.book x ↔ (IsNamed old.book x × (These x → ⊥))
+  pub main : (x y : ℕ) → ShareMain new x y ↔ (ShareMain old x y × (These x → ⊥) × (These y → ⊥))
+  pub touched : (x : ℕ) → IsMarked new x ↔ (IsMarked old x × (These x → ⊥))

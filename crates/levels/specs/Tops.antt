@@ -1,31 +1,14 @@
--- What a change of the top level leaves of the store, and of the shelf.
-use Rattle.std.specs.Prelude.{◌≡◌, ◌⊎◌, ℕ, ◌*◌, Bool, true, false, List, [], ◌∷◌, ◌++◌, Contains, is_some, IsSome, Some, None}
-use Rattle.graphs.specs.declared.names.Level.{Level}
+-- What a change of the top level leaves of a shelf.
+use Rattle.std.specs.Prelude.{◌≡◌, ◌==◌, ℕ, ◌*◌, ◌<◌, ◌≤◌, List, [], ◌∷◌, ◌++◌, length, slice_get, slice_index, Contains, Option, is_some, option_to_list, IsSome, Some, None, if◌then◌else◌}
+use Rattle.std.specs.FinMap as finmap
 use Rattle.graphs.specs.declared.names.Level.TheVariants.{Main, Top}
-use Rattle.chunk_index.specs.declared.entry.Tag.TheVariants.{Both}
-use Rattle.cluster.specs.Clusters.{Cluster}
-use Rattle.cluster_store.specs.Stores.{Numbered}
-use Rattle.levels.specs.Changes.{Exchanges, Rebuilds}
-use Rattle.levels.specs.Shelves.{AllHave, seen_at, Shelf, view_of}
-
--- Clusters of the top level of a store are exchanged. Where there is a staging, what is seen of main stays, and those that come in aren't
--- of it; where there is none, all clusters stand in both.
-pub record Exchanged (staged : Bool) (outs made : List ℕ) (news : List Cluster) (old new : Numbered) : Type 0 where
-  pub top : Exchanges outs made news (seen_at Top old) (seen_at Top new)
-  pub main : staged ≡ true → (n : ℕ) → seen_at Main new n ≡ seen_at Main old n
-  pub fresh : staged ≡ true → (n : ℕ) → Contains made n → seen_at Main new n ≡ None
-  pub both : staged ≡ false → AllHave Both new
-
--- Clusters stand in the place of one: all of them under these numbers, which were free, or the last under its number and the others under these.
-abbrev pub ComesApart : Bool → ℕ → List ℕ → List Cluster → Numbered → Numbered → Type 0
-ComesApart staged number made left old new =
-    Exchanged staged (number ∷ []) made left old new
-    ⊎ ((rest : List Cluster) × (last : Cluster) × (left ≡ rest ++ last ∷ []) × Exchanged staged (number ∷ []) (made ++ number ∷ []) left old new)
-
--- All the numbers of some clusters, by those that were free: the last of the clusters may stand under another.
-abbrev pub AreTold : ℕ → List Cluster → List ℕ → List ℕ → Type 0
-AreTold number left all made =
-    (all ≡ made) ⊎ ((rest : List Cluster) × (last : Cluster) × (left ≡ rest ++ last ∷ []) × (all ≡ made ++ number ∷ []))
+use Rattle.cluster.specs.Clusters.{Cluster, IsCluster}
+use Rattle.cluster_store.specs.Changes.{AreHeld}
+use Rattle.cluster_store.specs.Stores.{Exchange}
+pub use Rattle.cluster_store.specs.Tops.{Exchanged}
+use Rattle.levels.specs.Changes.{Rebuilds}
+use Rattle.levels.specs.Shelves.{seen_at, Shelf, stored_at, view_of}
+use Rattle.levels.specs.Views.{Numbers}
 
 -- A whole change of the top level of a shelf. Where there is a staging, main is seen as before, and what comes in isn't of it.
 pub record TopRebuilds (w : ℕ) (outs made : List ℕ) (olds news : List Cluster) (gone : List ℕ) (old new : Shelf) : Type 0 where
@@ -35,10 +18,24 @@ pub record TopRebuilds (w : ℕ) (outs made : List ℕ) (olds news : List Cluste
   pub main : IsSome old.staging → (n : ℕ) → seen_at Main new.store.clusters n ≡ seen_at Main old.store.clusters n
   pub fresh : IsSome old.staging → (n : ℕ) → Contains made n → seen_at Main new.store.clusters n ≡ None
 
--- Another cluster of the same names stands under the number: in a level that has the one that was there it takes its place, and all that is seen
--- of a level that hasn't stays.
-abbrev pub ExchangedAt : ℕ → ℕ → Cluster → Level → Shelf → Shelf → Type 0
-ExchangedAt w number cluster level old new =
-    ((c : Cluster) → seen_at level old.store.clusters number ≡ Some c
-    → Rebuilds (64 * w) (number ∷ []) (number ∷ []) (c ∷ []) (cluster ∷ []) [] (view_of level old) (view_of level new))
-    × (seen_at level old.store.clusters number ≡ None → (n : ℕ) → seen_at level new.store.clusters n ≡ seen_at level old.store.clusters n)
+-- What is left of a change, by the numbers of what came in, that of the last apart.
+pub record IsMade (w : ℕ) (outs made : List ℕ) (number : Option ℕ) (rest : List Cluster) (last : Option Cluster) (gone : List ℕ) (old new : Shelf) : Type 0 where
+  pub olds : List Cluster
+  pub rebuilds : TopRebuilds w outs (made ++ option_to_list number) olds (rest ++ option_to_list last) gone old new
+  pub count : length made ≡ length rest
+
+-- as many of the names, from the first, have the number of the first cluster that goes out
+pub record HasFront (kept : ℕ) (outs names : List ℕ) (numbers : Numbers) : Type 0 where
+  pub low : kept ≤ length names
+  pub there : (number i : ℕ) → slice_get outs 0 ≡ Some number → i < kept → finmap.get numbers (slice_index names i) ≡ Some number
+
+-- from which name on a cluster's names get its number: where it is that of the first that went out, the first names have it
+abbrev pub fresh_from : ℕ → List ℕ → ℕ → ℕ
+fresh_from kept [] number = 0
+fresh_from kept (first ∷ others) number = if first == number then kept else 0
+
+-- These clusters may stand under their numbers in the places of those that are there: each is told once and has the same names.
+pub record HaveSameNames (w : ℕ) (exchanged : List Exchange) (shelf : Shelf) : Type 0 where
+  pub held : AreHeld exchanged shelf.store.clusters
+  pub whole : (x : Exchange) → Contains exchanged x → IsCluster (64 * w) x.cluster
+  pub names : (x : Exchange) (c : Cluster) → Contains exchanged x → stored_at shelf.store.clusters x.number ≡ Some c → x.cluster.names ≡ c.names

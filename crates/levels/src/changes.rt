@@ -1,25 +1,26 @@
-ghost use Rattle.std.specs.Prelude.{◌≡◌, ◌≢◌, ◌⊎◌, ℕ, ◌+◌, ◌*◌, ◌≤◌, true, false, None, Some, List, [], ◌∷◌, ◌++◌, length, is_some, Contains, IsSome, IfOk, OnOk, OnErr, MatchResult, All, ◌<◌, slice_index_or};
-ghost use Rattle.std.specs.List.Sorted.{IsPermutation};
+ghost use Rattle.std.specs.Prelude.{◌≡◌, ◌≢◌, ◌⊎◌, ℕ, ◌+◌, ◌*◌, ◌≤◌, true, false, None, Some, List, [], ◌∷◌, length, map, option_to_list, is_some, Contains, IsSome, IfOk, OnOk, OnErr, MatchResult};
 ghost use Rattle.std.specs.FinMap as finmap;
 ghost use Rattle.fee_rate.specs.Limits.{IsFee};
 ghost use Rattle.graphs.specs.declared.names.Level as levels;
 ghost use Rattle.graphs.specs.declared.names.Level.TheVariants.{Main, Top};
-ghost use Rattle.graphs.specs.Closures.{rate_of, AddsPair, SetsFee, AreLinked};
+ghost use Rattle.graphs.specs.Closures.{rate_of, AreLinked};
 ghost use Rattle.graphs.specs.Graphs.{Lists};
-ghost use Rattle.cluster.specs.Changes.{AreComponents, Joins};
 ghost use Rattle.cluster.specs.Clusters as records;
 ghost use Rattle.cluster.specs.Steps.{GrowsWithin, most_steps, most_steps_of};
 ghost use Rattle.levels.specs.Joins.{DepRefusalIs};
+ghost use Rattle.levels.specs.Lefts.{DropsWithin};
 ghost use Rattle.levels.specs.Levels.{steps_where};
 ghost use Rattle.levels.specs.Links.{IsLink};
-ghost use Rattle.levels.specs.Moves.{DropsName, JoinsTwo, LinksOne, SetsFees, SetsFeeUnder};
+ghost use Rattle.levels.specs.Moves.{AreNumbersOf, ArePriced, DropsTop, GrowsForBoth, IsPriced, PairsTop, SetsFees};
 ghost use Rattle.levels.specs.Shelves.{IsInOrder, numbers_at, seen_at, stored_at, view_of};
-ghost use Rattle.levels.specs.Views.{graph_of, IsClusterOf};
+ghost use Rattle.levels.specs.Views.{graph_of};
 
+use crate::left::Left;
 use crate::links::{Link, refused_sum, way_within};
-use crate::shelves::Shelves;
-use crate::stored::gives_number;
-use cluster::{Cluster, Work};
+use crate::shelves::{Shelves, last_count};
+use chunk_index::Tag;
+use cluster::Work;
+use cluster_store::Exchange;
 use graph_model::{Level, Limits, Refusal, TxId};
 use outside::NoMemory;
 use step_count::{Ledger, Steps};
@@ -45,8 +46,43 @@ impl<const W: usize> Shelves<W> {
         }
         match refused_sum(limits, first, self.at(below)) {
             Some(why) => Err(why),
-            None => Ok(Link::Between(above, below)),
+            None => Ok(self.between(above, below)),
         }
+    }
+
+    // How two names of the top level stand whose clusters have these numbers, together no more names than may be.
+    fn between(&self, above: usize, below: usize) -> Link
+        requires order { IsInOrder W self.now }
+        requires above { IsSome (stored_at self.now.store.clusters above) }
+        requires below { IsSome (stored_at self.now.store.clusters below) }
+        ensures { (result ≡ Link.Between above below) ⊎ (result ≡ Link.Between below above) }
+    {
+        if self.gives_first(above, below) {
+            Link::Between(above, below)
+        } else {
+            Link::Between(below, above)
+        }
+    }
+
+    // Whether of two clusters of the top level the first had better give its number: one that may be changed under it, and of two such
+    // the one with more names.
+    fn gives_first(&self, above: usize, below: usize) -> bool
+        requires order { IsInOrder W self.now }
+        requires above { IsSome (stored_at self.now.store.clusters above) }
+        requires below { IsSome (stored_at self.now.store.clusters below) }
+    {
+        let above_own = self.is_own(above);
+        if above_own != self.is_own(below) {
+            return above_own;
+        }
+        self.at(above).names().len() >= self.at(below).names().len()
+    }
+
+    // Whether a cluster of the top level may be changed under its number: where there is a staging, one that main has too stays.
+    fn is_own(&self, number: usize) -> bool
+        requires { IsSome (stored_at self.now.store.clusters number) }
+    {
+        !self.is_staged() || self.tag(number) != Tag::Both
     }
 
     /// Makes a name of the top level a parent of another of its cluster. Without memory all stays as it was.
@@ -60,7 +96,7 @@ impl<const W: usize> Shelves<W> {
     ) -> Result<(), NoMemory>
         requires order { IsInOrder W self.old }
         requires link { IsLink W self.old parent child (Link.Within number) }
-        ensures linked { OnOk result (LinksOne W number parent child self.old self.new) }
+        ensures linked { OnOk result (PairsTop W (number ∷ []) parent child self.old self.new) }
         ensures order { IsInOrder W self.new }
         ensures err { OnErr result (self.new ≡ self.old) }
         ensures steps { (ids : List ℕ)
@@ -69,63 +105,40 @@ impl<const W: usize> Shelves<W> {
     {
         let cluster = self.at(number);
         let changed = cluster.linked(self.alloc, parent, child, work, steps)?;
-        self.exchange(number, changed)
+        let all = changed.names().len();
+        let outs = [number];
+        let none = Vec::new(self.alloc);
+        self.rebuild(&outs, none, Some(changed), all, &[])?;
+        Ok(())
     }
 
     /// Makes a name of the top level a parent of another of another cluster, and so one cluster of both. Without memory all stays as
     /// it was.
     pub fn join<L: Ledger>(
         &mut self,
-        above: usize,
-        below: usize,
+        first: usize,
+        second: usize,
         parent: TxId,
         child: TxId,
         work: &mut Work<W>,
         steps: &mut Steps<L>,
     ) -> Result<(), NoMemory>
         requires order { IsInOrder W self.old }
-        requires link { IsLink W self.old parent child (Link.Between above below) }
-        ensures joined { OnOk result (JoinsTwo W above below parent child self.old self.new) }
+        requires link { IsLink W self.old parent child (Link.Between first second) }
+        ensures joined { OnOk result (PairsTop W (first ∷ second ∷ []) parent child self.old self.new) }
         ensures order { IsInOrder W self.new }
         ensures err { OnErr result (self.new ≡ self.old) }
         ensures steps { (ids : List ℕ)
             → Lists (λ q. AreLinked (graph_of (view_of Top self.old)) q parent ⊎ AreLinked (graph_of (view_of Top self.old)) q child) ids
             → GrowsWithin (most_steps (length ids)) steps.old steps.new }
     {
-        let (first, second) = self.own_first(above, below);
         let one = self.at(first);
-        let other = self.at(second);
-        let joined = one.joined(self.alloc, other, parent, child, work, steps)?;
-        self.fuse(first, second, joined)
-    }
-
-    // Two numbers of the top level, first the one whose names had better keep their number: one that may be changed under it, and of
-    // two such the one with more names.
-    fn own_first(&self, above: usize, below: usize) -> (usize, usize)
-        requires order { IsInOrder W self.now }
-        requires above { IsSome (stored_at self.now.store.clusters above) }
-        requires below { IsSome (stored_at self.now.store.clusters below) }
-        ensures { ((result.0 ≡ above) × (result.1 ≡ below)) ⊎ ((result.0 ≡ below) × (result.1 ≡ above)) }
-    {
-        let above_own = self.is_own(above);
-        if above_own != self.is_own(below) {
-            return if above_own {
-                (above, below)
-            } else {
-                (below, above)
-            };
-        }
-        if self.at(above).names().len() < self.at(below).names().len() {
-            return (below, above);
-        }
-        (above, below)
-    }
-
-    // Whether a cluster of the top level may be changed under its number.
-    fn is_own(&self, number: usize) -> bool
-        requires { IsSome (stored_at self.now.store.clusters number) }
-    {
-        gives_number(self.is_staged(), self.tag(number))
+        let kept = one.names().len();
+        let joined = one.joined(self.alloc, self.at(second), parent, child, work, steps)?;
+        let outs = [first, second];
+        let none = Vec::new(self.alloc);
+        self.rebuild(&outs, none, Some(joined), kept, &[])?;
+        Ok(())
     }
 
     /// Gives a name another fee, in satoshis, in each level that has it. A fee that is the same changes nothing. Without memory all
@@ -157,142 +170,93 @@ impl<const W: usize> Shelves<W> {
             → steps.new ≤ steps.old + steps_where (is_some (finmap.get (numbers_at Main self.old) id)) (length mains)
             + steps_where (is_some (finmap.get (numbers_at Top self.old) id)) (length tops) }
     {
+        let (first, second) = self.numbers_of(id);
+        if self.at(first).rate(id).fee == fee {
+            return Ok(());
+        }
+        let exchanged = self.repriced(first, second, id, fee, work, steps)?;
+        self.exchange(exchanged)
+    }
+
+    // The number of the cluster that every level has of a name that has it, or main's and the top level's.
+    fn numbers_of(&self, id: TxId) -> (usize, Option<usize>)
+        requires { IsSome (finmap.get (numbers_at Main self.now) id) ⊎ IsSome (finmap.get (numbers_at Top self.now) id) }
+        ensures { AreNumbersOf id result.0 result.1 self.now }
+    {
         match (self.number(Level::Main, id), self.number(Level::Top, id)) {
-            (Some(main), Some(top)) => {
-                if main == top {
-                    self.set_one(main, id, fee, work, steps)
-                } else {
-                    self.set_both(main, top, id, fee, work, steps)
-                }
-            }
-            (Some(main), None) => self.set_one(main, id, fee, work, steps),
-            (None, Some(top)) => self.set_one(top, id, fee, work, steps),
-            (None, None) => Ok(()),
+            (Some(main), Some(top)) => (main, if main == top { None } else { Some(top) }),
+            (Some(main), None) => (main, None),
+            (None, Some(top)) => (top, None),
+            (None, None) => unreachable!(),
         }
     }
 
-    // Gives a name another fee in the cluster of a number, which is that of every level that has the name.
-    fn set_one<L: Ledger>(
-        &mut self,
+    // The clusters of a number, or of two, with another fee of one of their names.
+    fn repriced<L: Ledger>(
+        &self,
+        first: usize,
+        second: Option<usize>,
+        id: TxId,
+        fee: i64,
+        work: &mut Work<W>,
+        steps: &mut Steps<L>,
+    ) -> Result<Vec<Exchange<W>>, NoMemory>
+        requires order { IsInOrder W self.now }
+        requires fee { IsFee fee }
+        requires numbers { AreNumbersOf id first second self.now }
+        ensures priced { IfOk result (λ list. ArePriced W id fee list.items self.now
+            × (map (λ x. x.number) list.items ≡ first ∷ option_to_list second)) }
+        ensures steps { GrowsForBoth first second self.now steps.old steps.new }
+    {
+        let mut list = Vec::with_capacity(self.alloc, 2)?;
+        list.push_reserved(self.with_fee(first, id, fee, work, steps)?);
+        match second {
+            None => {}
+            Some(number) => list.push_reserved(self.with_fee(number, id, fee, work, steps)?),
+        }
+        Ok(list)
+    }
+
+    // The cluster of a number with another fee of one of its names.
+    fn with_fee<L: Ledger>(
+        &self,
         number: usize,
         id: TxId,
         fee: i64,
         work: &mut Work<W>,
         steps: &mut Steps<L>,
-    ) -> Result<(), NoMemory>
-        requires order { IsInOrder W self.old }
+    ) -> Result<Exchange<W>, NoMemory>
+        requires order { IsInOrder W self.now }
         requires fee { IsFee fee }
-        requires there { (c : records.Cluster) × (stored_at self.old.store.clusters number ≡ Some c) × Contains c.names id }
-        ensures fees { OnOk result (SetsFeeUnder W number id fee self.old self.new) }
-        ensures order { IsInOrder W self.new }
-        ensures still { ((c : records.Cluster) → stored_at self.old.store.clusters number ≡ Some c → (rate_of c.graph id).fee ≡ fee)
-            → (self.new ≡ self.old) × (steps.new ≡ steps.old) }
-        ensures err { OnErr result (self.new ≡ self.old) }
-        ensures grew { steps.old ≤ steps.new }
-        ensures steps { (c : records.Cluster) → stored_at self.old.store.clusters number ≡ Some c
+        requires there { (c : records.Cluster) × (stored_at self.now.store.clusters number ≡ Some c) × Contains c.names id }
+        ensures number { IfOk result (λ x. x.number ≡ number) }
+        ensures priced { IfOk result (λ x. IsPriced W id fee x self.now) }
+        ensures steps { (c : records.Cluster) → stored_at self.now.store.clusters number ≡ Some c
             → GrowsWithin (most_steps (length c.names)) steps.old steps.new }
     {
-        let cluster = self.at(number);
-        if cluster.rate(id).fee == fee {
-            return Ok(());
-        }
-        let changed = cluster.with_fee(self.alloc, id, fee, work, steps)?;
-        self.exchange_shared(number, changed)
+        let changed = self.at(number).with_fee(self.alloc, id, fee, work, steps)?;
+        Ok(Exchange::new(number, changed))
     }
 
-    // Gives a name another fee in the two clusters that it has in the levels.
-    fn set_both<L: Ledger>(
+    /// Drops names of the top level. The others keep the ancestors that they had among them, and each component of those of a cluster
+    /// that are left is a cluster then. Answers the numbers of the clusters that lost a name, and those of what is left but for one, which
+    /// may stand under the first of them. Without memory all stays as it was.
+    pub fn drop_all<L: Ledger>(
         &mut self,
-        main: usize,
-        top: usize,
-        id: TxId,
-        fee: i64,
+        ids: &[TxId],
         work: &mut Work<W>,
         steps: &mut Steps<L>,
-    ) -> Result<(), NoMemory>
+    ) -> Result<(Vec<usize>, Vec<usize>), NoMemory>
         requires order { IsInOrder W self.old }
-        requires fee { IsFee fee }
-        requires apart { main ≢ top }
-        requires main { finmap.get (numbers_at Main self.old) id ≡ Some main }
-        requires top { finmap.get (numbers_at Top self.old) id ≡ Some top }
-        requires one { (c d : records.Cluster) → seen_at Main self.old.store.clusters main ≡ Some c
-            → seen_at Top self.old.store.clusters top ≡ Some d → rate_of c.graph id ≡ rate_of d.graph id }
-        ensures fees { OnOk result (SetsFees W id fee self.old self.new) }
-        ensures order { IsInOrder W self.new }
-        ensures still { ((c : records.Cluster) → seen_at Main self.old.store.clusters main ≡ Some c → (rate_of c.graph id).fee ≡ fee)
-            → (self.new ≡ self.old) × (steps.new ≡ steps.old) }
-        ensures err { OnErr result (self.new ≡ self.old) }
-        ensures grew { steps.old ≤ steps.new }
-        ensures steps { (c d : records.Cluster) → seen_at Main self.old.store.clusters main ≡ Some c
-            → seen_at Top self.old.store.clusters top ≡ Some d
-            → steps.new ≤ steps.old + most_steps (length c.names) + most_steps (length d.names) }
-    {
-        let first = self.at(main);
-        if first.rate(id).fee == fee {
-            return Ok(());
-        }
-        let new_main = first.with_fee(self.alloc, id, fee, work, steps)?;
-        match self.at(top).with_fee(self.alloc, id, fee, work, steps) {
-            Ok(new_top) => self.exchange_both(main, new_main, top, new_top),
-            Err(error) => {
-                drop(new_main);
-                Err(error)
-            }
-        }
-    }
-
-    /// Drops a name of the top level. The others keep the ancestors that they had among them, and each component of those of its
-    /// cluster that are left is a cluster then. Answers the numbers of these, but for the one that stands under the old number, if
-    /// one does. Without memory all stays as it was.
-    pub fn remove<L: Ledger>(
-        &mut self,
-        number: usize,
-        id: TxId,
-        work: &mut Work<W>,
-        steps: &mut Steps<L>,
-    ) -> Result<Vec<usize>, NoMemory>
-        requires order { IsInOrder W self.old }
-        requires number { finmap.get (numbers_at Top self.old) id ≡ Some number }
-        ensures dropped { IfOk result (λ made. DropsName W number id made.items self.old self.new) }
+        requires live { (id : ℕ) → Contains ids.now id → IsSome (finmap.get (numbers_at Top self.old) id) }
+        ensures dropped { IfOk result (λ made. DropsTop W made.0.items made.1.items ids.now self.old self.new) }
         ensures order { IsInOrder W self.new }
         ensures err { OnErr result (self.new ≡ self.old) }
-        ensures grew { steps.old ≤ steps.new }
-        ensures steps { (c : records.Cluster) (lists : List (List ℕ)) → IsClusterOf (graph_of (view_of Top self.old)) id c
-            → AreComponents c.graph (id ∷ []) lists → steps.new ≤ steps.old + most_steps_of lists }
+        ensures steps { DropsWithin ids.now (graph_of (view_of Top self.old)) steps.old steps.new }
     {
-        let names = [id];
-        let left = self.at(number).without(self.alloc, &names, work, steps)?;
-        let mut left = left.into_vec();
-        largest_last(&mut left);
-        self.split(number, id, left)
+        let Left { outs, rest, last } = self.leave(ids, work, steps)?;
+        let kept = last_count(&last);
+        let made = self.rebuild(outs.as_slice(), rest, last, kept, ids)?;
+        Ok((outs, made.rest))
     }
-}
-
-// Puts one of the most names last, so that most names keep their number.
-fn largest_last<const W: usize>(clusters: &mut Vec<Cluster<W>>)
-    requires { W ≤ 2 }
-    ensures { IsPermutation {X = records.Cluster} clusters.old.items clusters.new.items }
-{
-    if clusters.is_empty() {
-        return;
-    }
-    let last = clusters.len() - 1;
-    let place = largest(clusters.as_slice());
-    clusters.swap(place, last);
-}
-
-// The place of one of the most names.
-fn largest<const W: usize>(clusters: &[Cluster<W>]) -> usize
-    requires narrow { W ≤ 2 }
-    requires some { 1 ≤ length clusters.now }
-    ensures place { result < length clusters.now }
-    ensures most { All (λ c. length c.names ≤ length (slice_index_or clusters.now result c).names) clusters.now }
-{
-    let mut best = 0;
-    for i in 0..clusters.len() {
-        if clusters[best].names().len() < clusters[i].names().len() {
-            best = i;
-        }
-    }
-    best
 }

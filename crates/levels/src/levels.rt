@@ -2,27 +2,26 @@ ghost use Rattle.std.specs.Prelude.{◌≡◌, ◌≢◌, ◌⊎◌, ℕ, ◌+�
 ghost use Rattle.std.specs.FinMap as finmap;
 ghost use Rattle.fee_rate.specs.Limits.{IsFee, IsRate};
 ghost use Rattle.fee_rate.specs.declared.limits.TheConstants.{MAX_TOTAL};
-ghost use Rattle.graphs.specs.Closures.{is_member, is_ancestor, rate_of, AddsPair, SetsFee, DropsPlace, AreLinked};
+ghost use Rattle.lists.specs.Distinct.{AreDistinct};
+ghost use Rattle.graphs.specs.Closures.{is_member, is_ancestor, rate_of, AddsPair, AreLinked, DropsPlace};
 ghost use Rattle.graphs.specs.Graphs.{Lists};
 ghost use Rattle.graphs.specs.declared.names.Level.TheVariants.{Main, Top};
 ghost use Rattle.graph_model.specs.declared.names.Refusal.TheVariants.{Memory};
 ghost use Rattle.graph_model.specs.Answers.{order_of, StandsTo};
-ghost use Rattle.cluster.specs.Changes.{AreComponents};
 ghost use Rattle.cluster.specs.Clusters.{IsCluster};
-ghost use Rattle.cluster.specs.Clusters as records;
-ghost use Rattle.cluster.specs.Steps.{GrowsWithin, most_steps, most_steps_of};
+ghost use Rattle.cluster.specs.Steps.{GrowsWithin, most_steps};
 ghost use Rattle.cluster_store.specs.Lent.{lent};
 ghost use Rattle.diagram.specs.Parts.{AreLevelParts, YieldsParts};
 ghost use Rattle.levels.specs.Orders.{ComparesParts, ListsCovers, sums_of};
-ghost use Rattle.levels.specs.Levels.{AddsName, ChangesTop, GrowsForFee, HavePicks, IsBest, IsLive, SetsFeeIn, level_at, no_names};
+ghost use Rattle.levels.specs.Levels.{AddsName, ChangesTop, GrowsForFee, HavePicks, IsBest, IsLive, LosesNames, SetsFeeIn, level_at, no_names};
 ghost use Rattle.levels.specs.Joins.{DepRefusalIs};
+ghost use Rattle.levels.specs.Lefts.{DropsWithin};
 ghost use Rattle.levels.specs.Levels as specs_levels;
-ghost use Rattle.levels.specs.Shelves.{numbers_at};
 ghost use Rattle.levels.specs.Stays.{AllStay};
 ghost use Rattle.graphs.specs.declared.names.Level as graph_level;
 ghost use Rattle.levels.specs.Views.{IsClusterOf};
 
-use crate::moving::{add_name, connect, drop_name};
+use crate::moving::{add_name, connect, drop_names};
 use crate::settling::settle_rings;
 use crate::shelves::Shelves;
 use cluster::{Cluster, Covers, PartRef, Work};
@@ -244,20 +243,34 @@ impl<const W: usize> Levels<W> {
         ensures picks { HavePicks self.new }
         ensures stays { AllStay self.old self.new }
         ensures err { OnErr result (self.new ≡ self.old) }
-        ensures grew { steps.old ≤ steps.new }
-        ensures steps { (c : records.Cluster) (lists : List (List ℕ)) → IsClusterOf (level_at self.old Top).graph id c
-            → AreComponents c.graph (id ∷ []) lists → steps.new ≤ steps.old + most_steps_of lists }
+        ensures steps { DropsWithin (id ∷ []) (level_at self.old Top).graph steps.old steps.new }
     {
-        let number = top_number(&self.shelves, id);
-        drop_name(
+        self.drop_names(&[id], steps)
+    }
+
+    /// Drops names of the top level, each of them once in the list. The others keep the ancestors that they had among them. However many
+    /// names a cluster loses, it costs what is left of it once. Without memory all stays as it was.
+    pub fn drop_names<L: Ledger>(
+        &mut self,
+        ids: &[TxId],
+        steps: &mut Steps<L>,
+    ) -> Result<(), NoMemory>
+        requires live { (id : ℕ) → Contains ids.now id → is_member (level_at self.old Top).graph id ≡ true }
+        requires once { AreDistinct ids.now }
+        ensures dropped { OnOk result (ChangesTop (λ old new. LosesNames old new ids.now) self.old self.new) }
+        ensures picks { HavePicks self.new }
+        ensures stays { AllStay self.old self.new }
+        ensures err { OnErr result (self.new ≡ self.old) }
+        ensures steps { DropsWithin ids.now (level_at self.old Top).graph steps.old steps.new }
+    {
+        drop_names(
             &mut self.shelves,
             &mut self.rings,
-            number,
-            id,
+            ids,
             &mut self.work,
             steps,
         )?;
-        self.tops -= 1;
+        self.tops -= ids.len();
         self.mains = main_count(self.shelves.is_staged(), self.mains, self.tops);
         Ok(())
     }
@@ -364,15 +377,4 @@ fn main_count(staged: bool, mains: usize, tops: usize) -> usize
     ensures { result ≡ cond staged mains tops }
 {
     if staged { mains } else { tops }
-}
-
-// The number of the cluster of a name that the top level has.
-fn top_number<const W: usize>(shelves: &Shelves<W>, id: TxId) -> usize
-    requires { IsSome (finmap.get (numbers_at Top shelves.now) id) }
-    ensures { finmap.get (numbers_at Top shelves.now) id ≡ Some result }
-{
-    match shelves.number(Level::Top, id) {
-        Some(number) => number,
-        None => unreachable!(),
-    }
 }

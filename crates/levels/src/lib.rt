@@ -8,6 +8,7 @@
 #![tactic(auto)]
 
 mod changes;
+mod left;
 mod levels;
 mod links;
 mod moving;

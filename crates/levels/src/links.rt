@@ -14,7 +14,7 @@ pub enum Link {
     There,
     /// Neither is an ancestor of the other, and both are of the cluster of this number.
     Within(usize),
-    /// They are of the clusters of these numbers, the parent's first.
+    /// They are of the clusters of these numbers, the first of which had better give its number to both.
     Between(usize, usize),
 }
 

@@ -1,26 +1,28 @@
 //! Changes of the shelves together with the rings.
-ghost use Rattle.std.specs.Prelude.{◌≡◌, ◌⊎◌, ◌↔◌, ℕ, ◌+◌, ◌-◌, ◌^◌, ◌<◌, ◌≤◌, true, Some, List, ◌∷◌, [], length, is_some, OnOk, OnErr};
+ghost use Rattle.std.specs.Prelude.{◌≡◌, ◌⊎◌, ◌↔◌, ℕ, ◌+◌, ◌-◌, ◌^◌, ◌<◌, ◌≤◌, true, None, Some, List, ◌∷◌, [], length, is_some, Contains, IsSome, OnOk, OnErr};
 ghost use Rattle.std.specs.FinMap as finmap;
 ghost use Rattle.std.specs.FinSet as set;
+ghost use Rattle.lists.specs.Distinct.{AreDistinct};
 ghost use Rattle.fee_rate.specs.Limits.{IsRate};
 ghost use Rattle.fee_rate.specs.declared.limits.TheConstants.{MAX_TOTAL};
 ghost use Rattle.graphs.specs.declared.names.Level.TheVariants.{Main, Top};
 ghost use Rattle.graphs.specs.Closures.{is_ancestor, AreLinked};
 ghost use Rattle.graphs.specs.Graphs.{Lists};
-ghost use Rattle.cluster.specs.Changes.{AreComponents};
 ghost use Rattle.std.specs.List.{AllPairs};
 ghost use Rattle.cluster.specs.Clusters.{AreApart};
 ghost use Rattle.cluster.specs.Clusters as records;
-ghost use Rattle.cluster.specs.Steps.{GrowsWithin, most_steps, most_steps_of};
+ghost use Rattle.cluster.specs.Steps.{GrowsWithin, most_steps};
 ghost use Rattle.name_book.specs.Books.{IsNamed};
+ghost use Rattle.name_book.specs.Calls.{Touches};
 ghost use Rattle.levels.specs.Changes.{AreAt};
 ghost use Rattle.levels.specs.Changes as changes;
 ghost use Rattle.levels.specs.Kept.{SuitsShelf};
+ghost use Rattle.levels.specs.Lefts.{DropsWithin};
 ghost use Rattle.levels.specs.Links.{IsLink};
-ghost use Rattle.levels.specs.Moves.{AddsOne, Connects, DropsName};
-ghost use Rattle.levels.specs.Rings.{AreNamedOnce, IsMarked, LeftMain, ShareMain};
+ghost use Rattle.levels.specs.Moves.{AddsTop, Connects, DropsTop};
+ghost use Rattle.levels.specs.Rings.{AreNamedOnce, Forgets, IsMarked, LeftMain, LeftOf, ShareMain};
 ghost use Rattle.levels.specs.Shelves.{IsInOrder, numbers_at, stored_at, view_of};
-ghost use Rattle.levels.specs.Views.{graph_of, IsClusterOf};
+ghost use Rattle.levels.specs.Views.{graph_of};
 
 use crate::links::Link;
 use crate::shelves::Shelves;
@@ -47,7 +49,7 @@ pub(crate) fn add_name<const W: usize, L: Ledger>(
     requires rate { IsRate (record { fee = fee; size = size }) }
     requires few { set.len rings.old.book.names < MAX_TOTAL }
     requires issued { rings.old.book.issued < 2 ^ 64 - 1 }
-    ensures added { OnOk result (AddsOne W id (record { fee = fee; size = size }) shelves.old shelves.new) }
+    ensures added { OnOk result (AddsTop W id (record { fee = fee; size = size }) shelves.old shelves.new) }
     ensures order { IsInOrder W shelves.new }
     ensures right { SuitsShelf rings.new shelves.new }
     ensures names { OnOk result ((set.len rings.new.book.names ≡ set.len rings.old.book.names + 1)
@@ -57,8 +59,9 @@ pub(crate) fn add_name<const W: usize, L: Ledger>(
     ensures steps { steps.new ≡ steps.old }
 {
     rings.reserve(1)?;
-    let cluster = Cluster::single(shelves.alloc, id, fee, size, work, steps)?;
-    shelves.add(id, cluster)?;
+    let alloc = shelves.alloc;
+    let cluster = Cluster::single(alloc, id, fee, size, work, steps)?;
+    shelves.rebuild(&[], Vec::new(alloc), Some(cluster), 0, &[])?;
     rings.add(id, shelves.is_staged());
     Ok(())
 }
@@ -93,15 +96,13 @@ pub(crate) fn connect<const W: usize, L: Ledger>(
         Link::There => Ok(()),
         Link::Within(number) => {
             shelves.link(number, parent, child, work, steps)?;
-            touch_left(shelves, rings, number);
+            touch_left(shelves, rings, &[number]);
             Ok(())
         }
-        Link::Between(above, below) => {
-            shelves.join(above, below, parent, child, work, steps)?;
-            if shelves.is_staged() {
-                touch_left(shelves, rings, above);
-                touch_left(shelves, rings, below);
-            } else {
+        Link::Between(first, second) => {
+            shelves.join(first, second, parent, child, work, steps)?;
+            touch_left(shelves, rings, &[first, second]);
+            if !shelves.is_staged() {
                 rings.join(parent, child);
             }
             Ok(())
@@ -109,50 +110,84 @@ pub(crate) fn connect<const W: usize, L: Ledger>(
     }
 }
 
-/// Drops a name of the top level. The others keep the ancestors that they had among them. Without memory all stays as it was.
-pub(crate) fn drop_name<const W: usize, L: Ledger>(
+/// Drops names of the top level. The others keep the ancestors that they had among them. Without memory all stays as it was.
+pub(crate) fn drop_names<const W: usize, L: Ledger>(
     shelves: &mut Shelves<W>,
     rings: &mut NameBook,
-    number: usize,
-    id: TxId,
+    ids: &[TxId],
     work: &mut Work<W>,
     steps: &mut Steps<L>,
 ) -> Result<(), NoMemory>
     requires order { IsInOrder W shelves.old }
     requires right { SuitsShelf rings.old shelves.old }
-    requires number { finmap.get (numbers_at Top shelves.old) id ≡ Some number }
-    ensures dropped { OnOk result ((made : List ℕ) × DropsName W number id made shelves.old shelves.new) }
+    requires live { (id : ℕ) → Contains ids.now id → IsSome (finmap.get (numbers_at Top shelves.old) id) }
+    requires once { AreDistinct ids.now }
+    ensures dropped { OnOk result ((outs made : List ℕ) × DropsTop W outs made ids.now shelves.old shelves.new) }
     ensures order { IsInOrder W shelves.new }
     ensures right { SuitsShelf rings.new shelves.new }
-    ensures staged { is_some shelves.new.staging ≡ is_some shelves.old.staging }
     ensures names { (set.len rings.new.book.names ≤ set.len rings.old.book.names) × (rings.new.book.issued ≡ rings.old.book.issued) }
     ensures err { OnErr result ((shelves.new ≡ shelves.old) × (rings.new ≡ rings.old)) }
-    ensures grew { steps.old ≤ steps.new }
-    ensures steps { (c : records.Cluster) (lists : List (List ℕ)) → IsClusterOf (graph_of (view_of Top shelves.old)) id c
-        → AreComponents c.graph (id ∷ []) lists → steps.new ≤ steps.old + most_steps_of lists }
+    ensures steps { DropsWithin ids.now (graph_of (view_of Top shelves.old)) steps.old steps.new }
 {
-    let made = shelves.remove(number, id, work, steps)?;
-    touch_left(shelves, rings, number);
-    if !shelves.is_staged() {
-        rings.forget(id);
+    let (outs, made) = shelves.drop_all(ids, work, steps)?;
+    touch_left(shelves, rings, outs.as_slice());
+    if shelves.is_staged() {
+        forget_lost(shelves, rings, ids);
+    } else {
+        forget_all(rings, ids);
         part_all(rings, shelves, made.as_slice());
-    } else if shelves.number(Level::Main, id).is_none() {
-        rings.forget(id);
     }
     Ok(())
 }
 
-/// Touches the names of a cluster of main that the top level has left.
-fn touch_left<const W: usize>(shelves: &Shelves<W>, rings: &mut NameBook, number: usize)
+/// Touches the names of clusters of main that the top level has left.
+fn touch_left<const W: usize>(shelves: &Shelves<W>, rings: &mut NameBook, outs: &[usize])
+    requires order { IsInOrder W shelves.now }
+    requires once { AreDistinct outs.now }
+    requires untouched { (n x : ℕ) → Contains outs.now n → LeftMain shelves.now n x → IsNamed rings.old.book x × (IsMarked rings.old x → ⊥) }
+    ensures { Touches (LeftOf shelves.now outs.now) rings.old rings.new }
+{
+    for number in outs {
+        touch_one(shelves, rings, *number);
+    }
+}
+
+// Touches the names of a cluster of main, if the top level has left it.
+fn touch_one<const W: usize>(shelves: &Shelves<W>, rings: &mut NameBook, number: usize)
     requires order { IsInOrder W shelves.now }
     requires untouched { (x : ℕ) → LeftMain shelves.now number x → IsNamed rings.old.book x × (IsMarked rings.old x → ⊥) }
-    ensures names { rings.new.book.names ≡ rings.old.book.names }
-    ensures main { (x y : ℕ) → ShareMain rings.new x y ↔ ShareMain rings.old x y }
-    ensures touched { (x : ℕ) → IsMarked rings.new x ↔ (IsMarked rings.old x ⊎ LeftMain shelves.now number x) }
-    ensures issued { rings.new.book.issued ≡ rings.old.book.issued }
+    ensures { Touches (LeftMain shelves.now number) rings.old rings.new }
 {
     if shelves.is_left(number) {
         rings.touch_all(shelves.at(number).names());
+    }
+}
+
+// Drops names of the rings.
+fn forget_all(rings: &mut NameBook, ids: &[TxId])
+    requires live { (id : ℕ) → Contains ids.now id → IsNamed rings.old.book id }
+    requires once { AreDistinct ids.now }
+    ensures forgets { Forgets (Contains ids.now) rings.old rings.new }
+    ensures few { set.len rings.new.book.names ≤ set.len rings.old.book.names }
+    ensures issued { rings.new.book.issued ≡ rings.old.book.issued }
+{
+    for id in ids {
+        rings.forget(*id);
+    }
+}
+
+// Drops those of some names that main hasn't of the rings.
+fn forget_lost<const W: usize>(shelves: &Shelves<W>, rings: &mut NameBook, ids: &[TxId])
+    requires live { (id : ℕ) → Contains ids.now id → IsNamed rings.old.book id }
+    requires once { AreDistinct ids.now }
+    ensures forgets { Forgets (λ x. Contains ids.now x × (finmap.get shelves.now.main x ≡ None)) rings.old rings.new }
+    ensures few { set.len rings.new.book.names ≤ set.len rings.old.book.names }
+    ensures issued { rings.new.book.issued ≡ rings.old.book.issued }
+{
+    for id in ids {
+        if shelves.number(Level::Main, *id).is_none() {
+            rings.forget(*id);
+        }
     }
 }
 

@@ -1,23 +1,20 @@
-ghost use Rattle.std.specs.Prelude.{◌≡◌, ◌≢◌, ◌++◌, ℕ, ◌+◌, ◌*◌, ◌^◌, ◌<◌, ◌≤◌, true, false, None, Some, List, [], ◌∷◌, length, is_some, Contains, IsSome, IfOk, OnOk, OnErr, MatchOption, IfSome, IsTrue, sum_by, ◌↔◌};
-ghost use Rattle.std.specs.List.{AllPairs};
+ghost use Rattle.std.specs.Prelude.{◌≡◌, ◌≢◌, ◌++◌, ℕ, ◌+◌, ◌*◌, ◌^◌, ◌<◌, ◌≤◌, true, false, None, Some, List, [], ◌∷◌, length, is_some, option_to_list, Contains, IsSome, IfOk, OnOk, OnErr, MatchOption, IfSome, IsTrue, sum_by, ◌↔◌};
 ghost use Rattle.std.specs.FinMap as finmap;
+ghost use Rattle.lists.specs.Distinct.{AreDistinct};
 ghost use Rattle.graphs.specs.declared.names.Level as levels;
 ghost use Rattle.graphs.specs.declared.names.Level.TheVariants.{Main, Top};
 ghost use Rattle.chunk_index.specs.declared.entry.Tag.TheVariants.{MainOnly};
-ghost use Rattle.graphs.specs.Closures.{is_member};
-ghost use Rattle.cluster.specs.Clusters.{IsCluster, AreApart};
-ghost use Rattle.cluster_store.specs.Stores.{IsStore};
 ghost use Rattle.cluster.specs.Clusters as records;
-ghost use Rattle.levels.specs.Changes.{IsNamed};
-ghost use Rattle.levels.specs.Tops.{AreTold, ExchangedAt, TopRebuilds};
-ghost use Rattle.levels.specs.Shelves.{IsInOrder, no_clusters, numbers_at, seen_at, stored_at, tag_at, view_of};
-ghost use Rattle.levels.specs.Views.{graph_of, IsClusterOf};
+ghost use Rattle.levels.specs.Changes.{AreAt, Covers};
+ghost use Rattle.cluster_store.specs.Changes.{ExchangesEach};
+ghost use Rattle.levels.specs.Tops.{HasFront, HaveSameNames, IsMade};
+ghost use Rattle.levels.specs.Shelves.{IsInOrder, no_clusters, numbers_at, seen_at, stored_at, tag_at};
 
-use crate::numbers::{live_number, number_of, point, point_all};
-use crate::stored::{at, come_in, come_together, new_tag, put_apart, tag_of, two_exchanges};
+use crate::numbers::{number_of, point_all, point_last, unpoint};
+use crate::stored::{at, tag_of};
 use chunk_index::Tag;
 use cluster::Cluster;
-use cluster_store::{ClusterStore, Stored};
+use cluster_store::{ClusterStore, Exchange, Made};
 use graph_model::{Level, TxId};
 use outside::NoMemory;
 use staging::Overlay;
@@ -111,153 +108,48 @@ impl<const W: usize> Shelves<W> {
         self.store.tag(number) == Some(Tag::MainOnly)
     }
 
-    /// Puts the cluster of a new name into the top level. Without memory all stays as it was.
-    pub fn add(&mut self, id: TxId, cluster: Cluster<W>) -> Result<(), NoMemory>
-        requires name { cluster.names ≡ id ∷ [] }
-        requires whole { IsCluster (64 * W) cluster }
-        requires main { finmap.get (numbers_at Main self.old) id ≡ None }
-        requires top { finmap.get (numbers_at Top self.old) id ≡ None }
-        ensures top { OnOk result ((made : ℕ) × TopRebuilds W [] (made ∷ []) [] (cluster.entry ∷ []) [] self.old self.new) }
-        ensures err { OnErr result (self.new ≡ self.old) }
-        ensures order { IsInOrder W self.new }
-    {
-        if let Err(error) = self.numbers.reserve(1) {
-            drop(cluster);
-            return Err(error);
-        }
-        let tag = new_tag(self.numbers.staged());
-        let number = self.store.add(Stored::new(cluster, tag))?;
-        self.numbers.put(id, number);
-        Ok(())
-    }
-
-    /// Puts a cluster of the same names in the place of the one of a number in the top level. Without memory all stays as it was.
-    pub(crate) fn exchange(&mut self, number: usize, cluster: Cluster<W>) -> Result<(), NoMemory>
-        requires whole { IsCluster (64 * W) cluster }
-        requires there { (c : records.Cluster) × (seen_at Top self.old.store.clusters number ≡ Some c) × (cluster.names ≡ c.names) }
-        ensures top { OnOk result ((c : records.Cluster) × (made : ℕ) × (seen_at Top self.old.store.clusters number ≡ Some c)
-            × TopRebuilds W (number ∷ []) (made ∷ []) (c ∷ []) (cluster.entry ∷ []) [] self.old self.new) }
-        ensures err { OnErr result (self.new ≡ self.old) }
-        ensures order { IsInOrder W self.new }
-    {
-        let staged = self.numbers.staged();
-        if let Err(error) = self.numbers.reserve(cluster.names().len()) {
-            drop(cluster);
-            return Err(error);
-        }
-        let made = come_in(&mut self.store, staged, number, cluster)?;
-        if made != number {
-            point(&mut self.numbers, at(&self.store, made).names(), made);
-        }
-        Ok(())
-    }
-
-    /// Puts one cluster in the place of two of the top level; its names are those of the first and then those of the second.
-    /// Without memory all stays as it was.
-    pub(crate) fn fuse(
+    /// Clusters of the top level go out, and others come in, each under a number of its own. The last of these takes the number of the
+    /// first that goes out where main doesn't keep that one; as many of its names as `kept`, from the first, stand under that number
+    /// already. Some names go. Answers the numbers of what came in. Without memory all stays as it was.
+    pub(crate) fn rebuild(
         &mut self,
-        first: usize,
-        second: usize,
-        joined: Cluster<W>,
-    ) -> Result<(), NoMemory>
-        requires whole { IsCluster (64 * W) joined }
-        requires apart { first ≢ second }
-        requires there { (a b : records.Cluster) × (seen_at Top self.old.store.clusters first ≡ Some a)
-            × (seen_at Top self.old.store.clusters second ≡ Some b) × (joined.names ≡ a.names ++ b.names) }
-        ensures top { OnOk result ((a b : records.Cluster) × (made : ℕ) × (seen_at Top self.old.store.clusters first ≡ Some a)
-            × (seen_at Top self.old.store.clusters second ≡ Some b)
-            × TopRebuilds W (first ∷ second ∷ []) (made ∷ []) (a ∷ b ∷ []) (joined.entry ∷ []) [] self.old self.new) }
+        outs: &[usize],
+        rest: Vec<Cluster<W>>,
+        last: Option<Cluster<W>>,
+        kept: usize,
+        gone: &[TxId],
+    ) -> Result<Made, NoMemory>
+        requires once { AreDistinct outs.now }
+        requires comes { (olds : List records.Cluster) × AreAt (seen_at Top self.old.store.clusters) outs.now olds
+            × Covers (64 * W) olds (rest.items ++ option_to_list last) gone.now (numbers_at Top self.old) }
+        requires kept { IfSome last (λ c. HasFront kept outs.now c.names (numbers_at Top self.old)) }
+        requires order { IsInOrder W self.old }
+        ensures rebuilt { IfOk result (λ made. IsMade W outs.now made.rest.items made.last rest.entry.items last.entry gone.now self.old self.new) }
         ensures err { OnErr result (self.new ≡ self.old) }
         ensures order { IsInOrder W self.new }
     {
         let staged = self.numbers.staged();
-        let behind = at(&self.store, first).names().len();
-        if let Err(error) = self.numbers.reserve(joined.names().len()) {
-            drop(joined);
-            return Err(error);
-        }
-        let made = come_together(&mut self.store, staged, first, second, joined)?;
-        let from = if made == first { behind } else { 0 };
-        point(
-            &mut self.numbers,
-            at(&self.store, made).names().split_at(from).1,
-            made,
-        );
-        Ok(())
-    }
-
-    /// Takes a name out of the top level and puts what is left of its cluster in the place of that one, the last under its number
-    /// where that may be. Answers the numbers of the others, which were free. Without memory all stays as it was.
-    pub(crate) fn split(
-        &mut self,
-        number: usize,
-        id: TxId,
-        left: Vec<Cluster<W>>,
-    ) -> Result<Vec<usize>, NoMemory>
-        requires whole { (c : records.Cluster) → Contains left.items c → IsCluster (64 * W) c }
-        requires apart { AllPairs AreApart left.items }
-        requires there { (c : records.Cluster) × (seen_at Top self.old.store.clusters number ≡ Some c) × Contains c.names id
-            × ((q : ℕ) → IsNamed left.items q ↔ (Contains c.names q × (q ≢ id))) }
-        ensures top { IfOk result (λ made. (c : records.Cluster) × (all : List ℕ) × (seen_at Top self.old.store.clusters number ≡ Some c)
-            × TopRebuilds W (number ∷ []) all (c ∷ []) left.entry.items (id ∷ []) self.old self.new
-            × AreTold number left.entry.items all made.items) }
-        ensures err { OnErr result (self.new ≡ self.old) }
-        ensures order { IsInOrder W self.new }
-    {
-        let staged = self.numbers.staged();
-        make_room(&mut self.numbers, left.as_slice())?;
-        let made = put_apart(self.alloc, &mut self.store, staged, number, left)?;
-        self.numbers.remove(id);
-        point_all(&mut self.numbers, &self.store, made.as_slice());
+        make_room(&mut self.numbers, rest.as_slice(), &last, gone.len())?;
+        let made = self.store.rebuild(staged, outs, rest, last)?;
+        unpoint(&mut self.numbers, gone);
+        point_all(&mut self.numbers, &self.store, made.rest.as_slice());
+        point_last(&mut self.numbers, &self.store, outs, made.last, kept);
         Ok(made)
     }
 }
 
 impl<const W: usize> Shelves<W> {
-    /// Gives a cluster that serves the levels under one number another of the same names. Without memory all stays as it was.
-    pub(crate) fn exchange_shared(
-        &mut self,
-        number: usize,
-        cluster: Cluster<W>,
-    ) -> Result<(), NoMemory>
-        requires whole { IsCluster (64 * W) cluster }
-        requires there { (c : records.Cluster) × (stored_at self.old.store.clusters number ≡ Some c) × (cluster.names ≡ c.names) }
-        ensures levels { (level : levels.Level) → OnOk result (ExchangedAt W number cluster.entry level self.old self.new) }
+    /// Gives clusters others of the same names, each under its number and in the levels that it stands in. Without memory all stays as it
+    /// was.
+    pub(crate) fn exchange(&mut self, exchanged: Vec<Exchange<W>>) -> Result<(), NoMemory>
+        requires same { HaveSameNames W exchanged.items self.old }
+        ensures exchanged { OnOk result (ExchangesEach exchanged.entry.items self.old.store.clusters self.new.store.clusters) }
         ensures numbers { (self.new.main ≡ self.old.main) × (self.new.staging ≡ self.old.staging) }
         ensures err { OnErr result (self.new ≡ self.old) }
         ensures order { IsInOrder W self.new }
     {
         let _numbers = &self.numbers;
-        self.store.exchange(number, cluster)
-    }
-
-    /// Gives two clusters, the one of main alone and the other of the top level alone, others of the same names. Without memory all
-    /// stays as it was.
-    pub(crate) fn exchange_both(
-        &mut self,
-        main: usize,
-        new_main: Cluster<W>,
-        top: usize,
-        new_top: Cluster<W>,
-    ) -> Result<(), NoMemory>
-        requires narrow { W ≤ 2 }
-        requires apart { main ≢ top }
-        requires whole_main { IsCluster (64 * W) new_main }
-        requires whole_top { IsCluster (64 * W) new_top }
-        requires main { (c : records.Cluster) × (seen_at Main self.old.store.clusters main ≡ Some c)
-            × (seen_at Top self.old.store.clusters main ≡ None) × (new_main.names ≡ c.names) }
-        requires top { (c : records.Cluster) × (seen_at Top self.old.store.clusters top ≡ Some c)
-            × (seen_at Main self.old.store.clusters top ≡ None) × (new_top.names ≡ c.names) }
-        ensures main { OnOk result (ExchangedAt W main new_main.entry Main self.old self.new) }
-        ensures top { OnOk result (ExchangedAt W top new_top.entry Top self.old self.new) }
-        ensures numbers { (self.new.main ≡ self.old.main) × (self.new.staging ≡ self.old.staging) }
-        ensures err { OnErr result (self.new ≡ self.old) }
-        ensures order { IsInOrder W self.new }
-    {
-        let _numbers = &self.numbers;
-        let exchanged = two_exchanges(self.alloc, main, new_main, top, new_top)?;
-        self.store.change(exchanged, Vec::new(self.alloc), &[])?;
-        Ok(())
+        self.store.exchange(exchanged)
     }
 
     /// Opens a staging that is as main is. Takes no memory.
@@ -289,28 +181,44 @@ impl<const W: usize> Shelves<W> {
     }
 }
 
-/// Makes room, so that the names of some clusters can get a number and one more name can go.
+/// Makes room, so that the names of some clusters can get a number and as many names as `gone` can go.
 fn make_room<const W: usize>(
     numbers: &mut Overlay<usize>,
-    clusters: &[Cluster<W>],
+    rest: &[Cluster<W>],
+    last: &Option<Cluster<W>>,
+    gone: usize,
 ) -> Result<(), NoMemory>
     requires { W ≤ 2 }
-    ensures room { OnOk result (sum_by (λ c. length c.names) clusters.now + 1 ≤ numbers.new.spare) }
+    ensures room { OnOk result (sum_by (λ c. length c.names) rest.now + sum_by (λ c. length c.names) (option_to_list last.now) + gone
+        ≤ numbers.new.spare) }
     ensures base { numbers.new.base ≡ numbers.old.base }
     ensures top { numbers.new.top ≡ numbers.old.top }
 {
-    let few = name_count(clusters)?;
-    numbers.reserve(few)
+    let few = name_count(rest, gone)?;
+    let more = last_count(last);
+    let all = few.checked_add(more).ok_or(NoMemory)?;
+    numbers.reserve(all)
 }
 
-/// How many names some clusters have, and one more.
-fn name_count<const W: usize>(clusters: &[Cluster<W>]) -> Result<usize, NoMemory>
+/// How many names some clusters have, and so many more.
+fn name_count<const W: usize>(clusters: &[Cluster<W>], more: usize) -> Result<usize, NoMemory>
     requires { W ≤ 2 }
-    ensures { IfOk result (λ n. n ≡ sum_by (λ c. length c.names) clusters.now + 1) }
+    ensures { IfOk result (λ n. n ≡ sum_by (λ c. length c.names) clusters.now + more) }
 {
-    let mut count: usize = 1;
+    let mut count = more;
     for cluster in clusters {
         count = count.checked_add(cluster.names().len()).ok_or(NoMemory)?;
     }
     Ok(count)
+}
+
+/// How many names a cluster has, where there is one.
+pub(crate) fn last_count<const W: usize>(last: &Option<Cluster<W>>) -> usize
+    requires { W ≤ 2 }
+    ensures { result ≡ sum_by (λ c. length c.names) (option_to_list last.now) }
+{
+    match last {
+        Some(cluster) => cluster.names().len(),
+        None => 0,
+    }
 }

@@ -100,7 +100,7 @@ module _ (n : ℕ) (dep : Closure) (s : fin.FinSet nat_cmp) (p : ℕ) (closed : 
             absurd (omega (arith, some, ap (λ (y : fin.FinSet nat_cmp). fin.len y) none, fin.len-empty nat_cmp))
       ]
 
-  pub alone_added : (parents : List (fin.FinSet nat_cmp)) → AreCovers dep parents → (old new : Written)
+  pub alone_added : (parents : List (fin.FinSet nat_cmp)) → AreCovers dep s parents → (old new : Written)
       → new ≡ record { parts = old.parts ++ record { rate = sum_at dep p; ids = p ∷ []; flows = [] } ∷ []; ids = []; flows = [] }
       → Adds n dep s old new
   alone_added parents covers old new made =

@@ -17,7 +17,7 @@ use Rattle.closure_flow.specs.Closures.{weight_at, weight_of, IsNoneHeavier}
 use Rattle.closure_flow.specs.Tight.{IsSmallestTight}
 use Rattle.fee_rate.specs.declared.rates.Sum.{Sum}
 use Rattle.graphs.proofs.FlowLemmas.{weight_of_sums}
-use Rattle.graphs.specs.Closures.{Closure, HoldsMembers}
+use Rattle.graphs.specs.Closures.{Closure}
 use Rattle.graphs.specs.Certificates.{weight_in}
 use Rattle.linearize.specs.Graphs.{sum_at}
 use Rattle.linearize.specs.Orders.{AreCovers, Balances, sums_in}
@@ -70,17 +70,17 @@ module _ (n : ℕ) (dep : Closure) (parents : List (fin.FinSet nat_cmp)) (weight
   balances_of flow balanced = record { even = λ t m. sym (are t m) ∙ balanced.even t m; pair = balanced.pair }
 
   -- ---- what its answers say
-  module _ (members : HoldsMembers dep s) (covers : AreCovers dep parents) where
+  module _ (covers : AreCovers dep s parents) where
     to_upper : (x : fin.FinSet nat_cmp) → closure.IsClosed parents s x → IsUpper dep s x
     to_upper x closed = record {
       inside = closed.inside;
-      parents = λ p d cover m p_in. closed.upward d p m ((covers.exact p d (members d (closed.inside d m))).1 cover) p_in;
+      parents = λ p d cover m p_in. closed.upward d p m ((covers.exact p d (closed.inside d m)).1 cover) p_in;
     }
 
     to_closed : (x : fin.FinSet nat_cmp) → IsUpper dep s x → closure.IsClosed parents s x
     to_closed x upper = record {
       inside = upper.inside;
-      upward = λ t p m e p_in. upper.parents p t ((covers.exact p t (members t (upper.inside t m))).0 e) m p_in;
+      upward = λ t p m e p_in. upper.parents p t ((covers.exact p t (upper.inside t m)).0 e) m p_in;
     }
 
     greatest_of : (c : fin.FinSet nat_cmp) → closure.IsClosed parents s c → IsNoneHeavier n weights parents s (weight_of n weights c)

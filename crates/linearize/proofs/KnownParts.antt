@@ -96,8 +96,8 @@ module _ (dep : Closure) (members done all next : fin.FinSet nat_cmp) (ids : Lis
 
 -- ---- a part that follows others
 
-module _ (n : ℕ) (dep : Closure) (parents : List (fin.FinSet nat_cmp)) (members done all : fin.FinSet nat_cmp) (old : Written)
-    (start : IsBegun n dep parents members done old) (part : Part) (follow : Follow dep members done part.ids all)
+module _ (n : ℕ) (dep : Closure) (members done all : fin.FinSet nat_cmp) (old : Written)
+    (start : IsBegun n dep members done old) (part : Part) (follow : Follow dep members done part.ids all)
     (known : IsKnown dep part) (some : 0 < length part.ids) where
   abbrev group : fin.FinSet nat_cmp
   group = fin.from_list part.ids

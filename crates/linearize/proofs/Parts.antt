@@ -32,7 +32,7 @@ sums_of_order n dep s ids within order =
     λ i. record { fee = fee i; size = size i }
 
 module _ (n : ℕ) (dep : Closure) (parents : List (fin.FinSet nat_cmp)) (s : fin.FinSet nat_cmp) (flow : ℕ → ℕ → ℕ) (closed : IsClosed n dep)
-    (members : HoldsMembers dep s) (covers : AreCovers dep parents) where
+    (members : HoldsMembers dep s) (covers : AreCovers dep s parents) where
   within : IsWithin n s
   within k m = closed.within k (members k m)
 
@@ -46,7 +46,7 @@ module _ (n : ℕ) (dep : Closure) (parents : List (fin.FinSet nat_cmp)) (s : fi
       let child : fin.contains s f.child ≡ true = (places-Contains n s f.child sent.child).1 in
       let both : (fin.contains (parents_at parents f.child) f.parent ≡ true) × (fin.contains s f.parent ≡ true) =
       from_meet _ s f.parent (places-Contains n _ f.parent sent.parent).1 in
-      (child, both.1, (covers.exact f.parent f.child (members f.child child)).0 both.0, sent.some)
+      (child, both.1, (covers.exact f.parent f.child child).0 both.0, sent.some)
 
   pub few_flows : 4 * length (flows_of n parents s flow (places n s)) ≤ fin.len s * fin.len s
   unfolding flows

@@ -69,13 +69,19 @@ linked_more n dep s parents ys ws zs c covers h e inside are = record {
 }
 
 pub linked_all : (n : ℕ) (dep : Closure) (s : fin.FinSet nat_cmp) (parents : List (fin.FinSet nat_cmp)) (ys ws : List ℕ)
-    → s ≡ members_of dep → IsWithin n s → n ≤ length parents → Linked n dep s parents ys ws → ws ≡ [] → AreCovers dep parents
-linked_all n dep s parents ys ws is within room h e =
-    let member : (c : ℕ) → is_member dep c ≡ true → fin.contains s c ≡ true = λ c m. ap (λ t. fin.contains t c) is ∙ contains-members_of dep c ∙ m in
-    record {
-      there = λ c m. (let low : c < n = within c (member c m) in omega arith);
-      exact = λ p c m. h.done c p (subst (λ xs. Contains xs c) (sym (gone n s ys ws h.goes e)) (Contains-places n s c (within c (member c m)) (member c m)));
-    }
+    → IsWithin n s → n ≤ length parents → Linked n dep s parents ys ws → ws ≡ [] → AreCovers dep s parents
+linked_all n dep s parents ys ws within room h e = record {
+  there = λ c m. (let low : c < n = within c m in omega arith);
+  exact = λ p c m. h.done c p (subst (λ xs. Contains xs c) (sym (gone n s ys ws h.goes e)) (Contains-places n s c (within c m) m));
+}
+
+-- and those of the places of a smaller set
+pub covers_within : (dep : Closure) (s x : fin.FinSet nat_cmp) (parents : List (fin.FinSet nat_cmp)) → AreCovers dep s parents
+    → ((p : ℕ) → fin.contains x p ≡ true → fin.contains s p ≡ true) → AreCovers dep x parents
+covers_within dep s x parents covers inside = record {
+  there = λ c m. covers.there c (inside c m);
+  exact = λ p c m. covers.exact p c (inside c m);
+}
 
 -- ---- a loop that tests each place of a set
 pub record Tested (n : ℕ) (s : fin.FinSet nat_cmp) (P : ℕ → Type 0) (ys zs : List ℕ) : Type 0 where

@@ -205,14 +205,12 @@ module _ (n : ℕ) (dep : Closure) (members done : fin.FinSet nat_cmp) (closed :
         for_flows = (let p = stands.few_flows in omega (arith, square, double, p));
       }
 
-  pub begun : (parents : List (fin.FinSet nat_cmp)) → AreCovers dep parents → fin.len members ≤ most_members → HasRates dep
-      → IsBegun n dep parents members done old
-  begun parents covers few rates = record {
+  pub begun : fin.len members ≤ most_members → HasRates dep → IsBegun n dep members done old
+  begun few rates = record {
     closed = closed;
     held = held;
     few = few;
     rates = rates;
-    covers = covers;
     inside = stands.inside;
     upper = stands.upper;
     room = room;
@@ -329,21 +327,21 @@ module _ (n : ℕ) (dep : Closure) (members done : fin.FinSet nat_cmp) (closed :
 -- ---- what was solved
 
 module _ (n : ℕ) (dep : Closure) (parents : List (fin.FinSet nat_cmp)) (members done group : fin.FinSet nat_cmp) (old new : Written)
-    (start : IsBegun n dep parents members done old) (next : ComesNext parents members done group) where
+    (start : IsBegun n dep members done old) (next : ComesNext dep members done group) where
   pub few_members : fin.len group ≤ most_members
   few_members =
       let less = set_within group members next.inside in
       let few = start.few in
       omega (arith, less, few)
 
-  pub ready : IsReady n dep parents group old
-  ready = record {
+  pub ready : AreCovers dep group parents → IsReady n dep parents group old
+  ready covers = record {
     closed = start.closed;
     members = λ k m. start.held k (next.inside k m);
     some = next.some;
     few = few_members;
     rates = start.rates;
-    covers = start.covers;
+    covers = covers;
     room = start.room group next.inside next.apart;
   }
 
@@ -361,7 +359,7 @@ module _ (n : ℕ) (dep : Closure) (parents : List (fin.FinSet nat_cmp)) (member
     both = refl;
     inside = next.inside;
     apart = next.apart;
-    upper = λ p c cover m. next.parents_known p c m ((start.covers.exact p c (start.held c (next.inside c m))).1 cover);
+    upper = λ p c cover m. next.parents_known p c m cover;
     order = adds.linear.order;
     filled = adds.linear.filled;
     summed = adds.linear.falling.summed;

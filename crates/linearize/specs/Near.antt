@@ -7,10 +7,9 @@ use Rattle.graphs.specs.Closures.{Closure, is_ancestor, IsClosed, IsCover, Holds
 use Rattle.graphs.specs.Linearizations.{StandsBefore}
 use Rattle.graphs.specs.Rates.{sums}
 use Rattle.graphs.specs.Certificates.{Part, HasFalling, HasFlows}
-use Rattle.closure_flow.specs.Closures.{parents_at}
 use Rattle.linearize.specs.Drafts.{Written, placed, flows_in}
 use Rattle.linearize.specs.Graphs.{HasRates, most_members, sum_at}
-use Rattle.linearize.specs.Orders.{AreCovers, IsOrderOf}
+use Rattle.linearize.specs.Orders.{IsOrderOf}
 use Rattle.linearize.specs.Splits.{HasRoom, IsUncutPart}
 
 -- certified parts of a set, of falling rate, parents first, none of which can be cut further
@@ -23,11 +22,11 @@ pub record AreParts (n : ℕ) (dep : Closure) (s : set.FinSet nat_cmp) (parts : 
 
 -- some members may come behind others: they are at least one and none of the others, and each covering parent of one is
 -- among them and the others
-pub record ComesNext (parents : List (set.FinSet nat_cmp)) (members done group : set.FinSet nat_cmp) : Type 0 where
+pub record ComesNext (dep : Closure) (members done group : set.FinSet nat_cmp) : Type 0 where
   pub some : 0 < set.len group
   pub inside : (t : ℕ) → set.contains group t ≡ true → set.contains members t ≡ true
   pub apart : (t : ℕ) → set.contains group t ≡ true → set.contains done t ≡ true → ⊥
-  pub parents_known : (p c : ℕ) → set.contains group c ≡ true → set.contains (parents_at parents c) p ≡ true
+  pub parents_known : (p c : ℕ) → set.contains group c ≡ true → IsCover dep p c
       → (set.contains done p ≡ true) ⊎ (set.contains group p ≡ true)
 
 -- Members in a list follow others: none of these, each once, and each behind all its ancestors. `all` are both.
@@ -39,14 +38,19 @@ pub record Follow (dep : Closure) (members done : set.FinSet nat_cmp) (ids : Lis
   pub behind : (a d : ℕ) → Contains ids d → is_ancestor dep a d ≡ true
       → (set.contains done a ≡ true) ⊎ ((a ≡ d) ⊎ StandsBefore ids a d)
 
--- Members of which some are written, and the others are to come: these have no ancestor among the others, and wherever more of them may come next there is room
-pub record IsBegun (n : ℕ) (dep : Closure) (parents : List (set.FinSet nat_cmp)) (members done : set.FinSet nat_cmp)
-    (written : Written) : Type 0 where
+-- members that may be put into an order
+pub record MayBePut (n : ℕ) (dep : Closure) (members : set.FinSet nat_cmp) : Type 0 where
   pub closed : IsClosed n dep
   pub held : HoldsMembers dep members
   pub few : set.len members ≤ most_members
   pub rates : HasRates dep
-  pub covers : AreCovers dep parents
+
+-- Members of which some are written, and the others are to come: these have no ancestor among the others, and wherever more of them may come next there is room
+pub record IsBegun (n : ℕ) (dep : Closure) (members done : set.FinSet nat_cmp) (written : Written) : Type 0 where
+  pub closed : IsClosed n dep
+  pub held : HoldsMembers dep members
+  pub few : set.len members ≤ most_members
+  pub rates : HasRates dep
   pub inside : (t : ℕ) → set.contains done t ≡ true → set.contains members t ≡ true
   pub upper : (p c : ℕ) → IsCover dep p c → set.contains done c ≡ true → set.contains done p ≡ true
   pub room : (s : set.FinSet nat_cmp) → ((t : ℕ) → set.contains s t ≡ true → set.contains members t ≡ true)

@@ -3,7 +3,7 @@ use Rattle.std.specs.Prelude.{◌≡◌, ◌↔◌, ℕ, ◌<◌, true, nat_lt, 
 use Rattle.std.specs.Prelude.{List, length, map, filter, flat_map, sum_by, Contains}
 use Rattle.std.specs.Ordering.{nat_cmp}
 use Rattle.std.specs.FinSet as set
-use Rattle.graphs.specs.Closures.{Closure, is_member, IsCover}
+use Rattle.graphs.specs.Closures.{Closure, IsCover}
 use Rattle.lists.specs.Distinct.{AreDistinct}
 use Rattle.bitset.specs.Places.{places}
 use Rattle.closure_flow.specs.Closures.{parents_at}
@@ -14,10 +14,10 @@ use Rattle.graphs.specs.Linearizations.{StandsBefore}
 use Rattle.graphs.specs.Certificates.{weight_in}
 use Rattle.linearize.specs.Graphs.{sum_at}
 
--- for each member a list has the set of its covering parents
-pub record AreCovers (dep : Closure) (parents : List (set.FinSet nat_cmp)) : Type 0 where
-  pub there : (c : ℕ) → is_member dep c ≡ true → c < length parents
-  pub exact : (p c : ℕ) → is_member dep c ≡ true → (set.contains (parents_at parents c) p ≡ true) ↔ IsCover dep p c
+-- for each place of a set a list has the set of its covering parents
+pub record AreCovers (dep : Closure) (s : set.FinSet nat_cmp) (parents : List (set.FinSet nat_cmp)) : Type 0 where
+  pub there : (c : ℕ) → set.contains s c ≡ true → c < length parents
+  pub exact : (p c : ℕ) → set.contains s c ≡ true → (set.contains (parents_at parents c) p ≡ true) ↔ IsCover dep p c
 
 -- the places of a set, each once, and each covering parent of the set before its children
 pub record IsOrderOf (dep : Closure) (s : set.FinSet nat_cmp) (ids : List ℕ) : Type 0 where

@@ -93,7 +93,7 @@ pub record HasRoom (n : ℕ) (s : set.FinSet nat_cmp) (written : Written) : Type
   pub for_parts : length written.parts + set.len s ≤ n
   pub for_flows : 4 * length (flows_in written.parts) + set.len s * set.len s ≤ n * n
 
--- a set of members that may be linearized, with the covering parents of each member at hand
+-- a set of members that may be linearized, with the covering parents of each of them at hand
 pub record IsReady (n : ℕ) (dep : Closure) (parents : List (set.FinSet nat_cmp)) (s : set.FinSet nat_cmp)
     (written : Written) : Type 0 where
   pub closed : IsClosed n dep
@@ -101,5 +101,5 @@ pub record IsReady (n : ℕ) (dep : Closure) (parents : List (set.FinSet nat_cmp
   pub some : 0 < set.len s
   pub few : set.len s ≤ most_members
   pub rates : HasRates dep
-  pub covers : AreCovers dep parents
+  pub covers : AreCovers dep s parents
   pub room : HasRoom n s written

@@ -7,8 +7,10 @@ use outside::NoMemory;
 use std::alloc::Global;
 use std::marker::Model;
 
-/// A part of an order: its total fee in satoshis and its total size in virtual bytes, and the positions before which
-/// its places end in the order and its flows end in the flows. They begin where those of the part before it end.
+/// A part of an order: its total fee in satoshis and its total size in virtual bytes, and where its places and its flows end.
+///
+/// Its places stand in the list of places before position `end`, its flows in the list of flows before `flow_end`. Both begin where
+/// those of the part before end.
 #[derive(Clone, Copy, Debug, PartialEq, Eq)]
 pub struct LinearPart {
     pub rate: FeeRate,

@@ -44,14 +44,12 @@ pub(crate) fn arrange<const W: usize>(
     for at in 0..guess.parts.len() {
         let part = guess.parts[at];
         let places = places_of(part, guess.places.as_slice());
-        if part.known {
-            come(dep, &set_of(places), at, &mut left, groups);
-        } else {
-            come_apart(dep, places, &mut left, groups);
+        if !come_whole(dep, part, places, at, &mut left, groups) {
+            come_left(dep, part.known, places, &mut left, groups);
         }
     }
     let rest = left;
-    come(dep, &rest, NO_PART, &mut left, groups);
+    come(dep, &rest, &mut left, groups);
 }
 
 // The places of an old part, none where it ends before it begins or past the end.
@@ -61,6 +59,81 @@ fn places_of(part: OldPart, places: &[usize]) -> &[usize] {
     } else {
         &places[..0]
     }
+}
+
+// Takes an old part that is known out of what is left, and puts it into the groups behind what is left of its ancestors. It does
+// nothing where not all of the part is left.
+fn come_whole<const W: usize>(
+    dep: &DepGraph<W>,
+    part: OldPart,
+    places: &[usize],
+    at: usize,
+    left: &mut Bits<W>,
+    groups: &mut Vec<Group<W>>,
+) -> bool
+    requires narrow { 64 * W < 2 ^ 32 }
+    requires closed { IsClosed (64 * W) dep.now }
+    requires members { HoldsMembers dep.now left.old }
+    requires room { 64 * W ≤ vec_capacity groups.old }
+    ensures members { HoldsMembers dep.now left.new }
+    ensures room { 64 * W ≤ vec_capacity groups.new }
+{
+    let mut group = Group {
+        places: Bits::empty(),
+        above: Bits::empty(),
+        fee: part.rate.fee,
+        size: part.rate.size,
+        part: at,
+    };
+    if !part.known || !gather(dep, places, left, &mut group) {
+        return false;
+    }
+    *left = left.minus(&group.places);
+    come_behind(dep, &group, left, groups);
+    true
+}
+
+// Adds places to a group, where all of them are left, and tells whether they are.
+fn gather<const W: usize>(
+    dep: &DepGraph<W>,
+    places: &[usize],
+    left: &Bits<W>,
+    group: &mut Group<W>,
+) -> bool
+    requires narrow { 64 * W < 2 ^ 32 }
+    requires members { HoldsMembers dep.now left.now }
+{
+    for at in 0..places.len() {
+        let place = places[at];
+        if place >= 64 * W || !left.has(place) {
+            return false;
+        }
+        group.places.insert(place);
+        group.above = group.above.union(&dep.ancestors(place));
+    }
+    true
+}
+
+// Takes places out of what is left, together or one by one.
+fn come_left<const W: usize>(
+    dep: &DepGraph<W>,
+    together: bool,
+    places: &[usize],
+    left: &mut Bits<W>,
+    groups: &mut Vec<Group<W>>,
+)
+    requires narrow { 64 * W < 2 ^ 32 }
+    requires closed { IsClosed (64 * W) dep.now }
+    requires members { HoldsMembers dep.now left.old }
+    requires room { 64 * W ≤ vec_capacity groups.old }
+    ensures members { HoldsMembers dep.now left.new }
+    ensures room { 64 * W ≤ vec_capacity groups.new }
+{
+    if together {
+        come(dep, &set_of(places), left, groups);
+        return;
+    }
+    come_apart(dep, places, left, groups);
 }
 
 // The places as a set, but for what is no place.
@@ -92,16 +165,14 @@ fn come_apart<const W: usize>(
     ensures room { 64 * W ≤ vec_capacity groups.new }
 {
     for at in 0..places.len() {
-        come(dep, &set_of(&places[at..at + 1]), NO_PART, left, groups);
+        come(dep, &set_of(&places[at..at + 1]), left, groups);
     }
 }
 
-// Takes a set out of what is left, and puts what was there of it into the groups as one, behind what is left of its ancestors. It
-// is an old part only as a whole.
+// Takes a set out of what is left, and puts what was there of it into the groups as one, behind what is left of its ancestors.
 fn come<const W: usize>(
     dep: &DepGraph<W>,
     set: &Bits<W>,
-    part: usize,
     left: &mut Bits<W>,
     groups: &mut Vec<Group<W>>,
 )
@@ -116,21 +187,37 @@ fn come<const W: usize>(
     if places.least().is_none() {
         return;
     }
-    let part = if set.is_subset(left) { part } else { NO_PART };
-    let group = group_of(dep, &places, part);
+    let group = group_of(dep, &places);
     *left = left.minus(&places);
+    come_behind(dep, &group, left, groups);
+}
+
+// Takes what is left of a group's ancestors out of that, and puts these into the groups, and then the group.
+fn come_behind<const W: usize>(
+    dep: &DepGraph<W>,
+    group: &Group<W>,
+    left: &mut Bits<W>,
+    groups: &mut Vec<Group<W>>,
+)
+    requires narrow { 64 * W < 2 ^ 32 }
+    requires closed { IsClosed (64 * W) dep.now }
+    requires members { HoldsMembers dep.now left.old }
+    requires room { 64 * W ≤ vec_capacity groups.old }
+    ensures members { HoldsMembers dep.now left.new }
+    ensures room { 64 * W ≤ vec_capacity groups.new }
+{
     let mut above = group.above.meet(left);
     while let Some(first) = above.least() {
         let next = top(dep, &above, first);
         above.remove(next);
         left.remove(next);
-        settle(alone(dep, next), groups);
+        settle(&alone(dep, next), groups);
     }
     settle(group, groups);
 }
 
 // The group of some members.
-fn group_of<const W: usize>(dep: &DepGraph<W>, places: &Bits<W>, part: usize) -> Group<W>
+fn group_of<const W: usize>(dep: &DepGraph<W>, places: &Bits<W>) -> Group<W>
     requires narrow { 64 * W < 2 ^ 32 }
     requires closed { IsClosed (64 * W) dep.now }
     requires members { HoldsMembers dep.now places.now }
@@ -151,7 +238,7 @@ fn group_of<const W: usize>(dep: &DepGraph<W>, places: &Bits<W>, part: usize) ->
         above,
         fee,
         size,
-        part,
+        part: NO_PART,
     }
 }
 
@@ -173,8 +260,23 @@ fn alone<const W: usize>(dep: &DepGraph<W>, place: usize) -> Group<W>
     }
 }
 
+// Puts a group behind those of no lower rate. Mostly these are all.
+fn settle<const W: usize>(group: &Group<W>, groups: &mut Vec<Group<W>>)
+    requires room { 64 * W ≤ vec_capacity groups.old }
+    ensures room { 64 * W ≤ vec_capacity groups.new }
+{
+    if groups.len() > 0 && is_below(&groups[groups.len() - 1], group) {
+        settle_among(*group, groups);
+        return;
+    }
+    if groups.len() < 64 * W {
+        let pushed = groups.push(*group);
+        prove!(pushed.is_ok());
+    }
+}
+
 // Puts a group behind those of no lower rate. Of the lower ones those that it depends on are taken into it on the way.
-fn settle<const W: usize>(mut group: Group<W>, groups: &mut Vec<Group<W>>)
+fn settle_among<const W: usize>(mut group: Group<W>, groups: &mut Vec<Group<W>>)
     requires room { 64 * W ≤ vec_capacity groups.old }
     ensures room { 64 * W ≤ vec_capacity groups.new }
 {

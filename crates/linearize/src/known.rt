@@ -1,7 +1,6 @@
 //! Parts of an old order that are known to be parts still, written without a solve.
 
-ghost use Rattle.std.specs.Prelude.{◌≡◌, ℕ, ◌*◌, ◌+◌, ◌<◌, ◌≤◌, ◌^◌, [], ◌∷◌, ◌++◌, length, map, true, Contains, IfSome, List};
-ghost use Rattle.std.specs.Ordering.{nat_cmp};
+ghost use Rattle.std.specs.Prelude.{◌≡◌, ℕ, ◌*◌, ◌+◌, ◌<◌, ◌≤◌, ◌^◌, [], ◌∷◌, ◌++◌, length, map, true, Contains, IfSome};
 ghost use Rattle.std.specs.FinSet as set;
 ghost use Rattle.graphs.specs.Closures.{HoldsMembers};
 ghost use Rattle.linearize.specs.Drafts.{Takes, all_placed, named, with_flows};
@@ -51,7 +50,7 @@ pub(crate) fn put_known<const W: usize>(
     draft: &mut Draft<W>,
 ) -> Option<Bits<W>>
     requires narrow { 64 * W < 2 ^ 32 }
-    requires begun { (parents : List (set.FinSet nat_cmp)) × IsBegun (64 * W) dep.now parents members.now done.now draft.old }
+    requires begun { IsBegun (64 * W) dep.now members.now done.now draft.old }
     requires known { IsKnown dep.now (record { rate = sum_from rate; ids = places.now; flows = map named flows.now }) }
     requires open { (draft.old.ids ≡ []) × (draft.old.flows ≡ []) }
     ensures extends { IfSome result (Extends (64 * W) dep.now members.now done.now draft.old draft.new) }

@@ -1,7 +1,7 @@
 ghost use Rattle.std.specs.Prelude.{◌≡◌, ◌+◌, ◌*◌, ◌^◌, ◌<◌, ◌≤◌, [], length, map, IfOk};
 ghost use Rattle.std.specs.FinSet as set;
 ghost use Rattle.graphs.specs.Closing.{IsClosureOf};
-ghost use Rattle.graphs.specs.Closures.{members_of, IsCover};
+ghost use Rattle.graphs.specs.Closures.{members_of, HoldsMembers, IsCover};
 ghost use Rattle.graphs.specs.Graphs as model;
 ghost use Rattle.graphs.specs.Certificates.{IsCertificate};
 ghost use Rattle.graphs.specs.Linearizations.{IsOptimal};
@@ -22,9 +22,9 @@ use std::alloc::Global;
 use std::marker::Model;
 use step_count::{Ledger, Steps};
 
-/// An order of the members of a dependency graph, cut into parts, with a flow for each part.
+/// An order of the members of a dependency graph, cut into parts (chunks), with the flows that certify each part.
 ///
-/// It has room for 64·W places, as many parts and 1,024·W² flows, all taken when it is made.
+/// [`new`](Linear::new) takes all its memory: room for 64·W places, as many parts and 1,024·W² flows.
 #[derive(Drop)]
 pub struct Linear<const W: usize> {
     pub(crate) draft: Draft<W>,
@@ -54,7 +54,7 @@ impl<const W: usize> Model for Linear<W> {
 }
 
 impl<const W: usize> Linear<W> {
-    /// An order without parts.
+    /// Makes an order without parts. Fails where there is no memory, or where a `usize` doesn't hold the room.
     pub fn new(alloc: Global) -> Result<Self, NoMemory>
         ensures { IfOk result (λ l. l ≡ []) }
     {
@@ -90,12 +90,17 @@ impl<const W: usize> Linear<W> {
     }
 }
 
-/// Leaves an optimal order of the members, its parts and a flow for each part that certifies it. No part can be cut
-/// further: no smaller set that is closed within it has its rate.
+/// Leaves in `out` an optimal order of the members, in parts of falling feerate, with the flows that certify each part. No part can
+/// be cut further: no smaller set that is closed within a part has the part's feerate.
 ///
-/// The members are one component, and at least one. Fees and sizes are those of transactions, and the members at
-/// most 4,096, so that 64 bits hold the fee of each part. It takes no memory, and counts as a step each place that a
-/// solve begins with or a search takes.
+/// The members are one component of 1 to 4,096 transactions, with fees in satoshis and sizes in virtual bytes as transactions may
+/// have them. So 64 bits hold the fee of each part.
+///
+/// Takes no memory. Counts as a step each place that a solve begins with or a search takes: for n members at least n steps, and
+/// at most 2·(n+2)^5.
+///
+/// The order is the linearization that Bitcoin Core's `cluster_linearize.h` searches for. The certificate is a flow as in the
+/// maximum closure problem, solved for each part at the part's own feerate.
 pub fn optimal<L: Ledger, const W: usize>(
     scratch: &mut Scratch<W>,
     dep: &DepGraph<W>,
@@ -130,7 +135,7 @@ pub fn optimal<L: Ledger, const W: usize>(
     let parents = out.parents.as_mut_slice();
     let weights = out.weights.as_mut_slice();
     out.draft.clear();
-    link(dep, parents);
+    link(dep, &members, parents);
     split(
         scratch,
         dep,
@@ -142,13 +147,13 @@ pub fn optimal<L: Ledger, const W: usize>(
     );
 }
 
-/// Keeps the covering parents of each member.
-pub(crate) fn link<const W: usize>(dep: &DepGraph<W>, parents: &mut [Bits<W>])
+/// Keeps the covering parents of some members.
+pub(crate) fn link<const W: usize>(dep: &DepGraph<W>, members: &Bits<W>, parents: &mut [Bits<W>])
     requires narrow { 64 * W < 2 ^ 32 }
+    requires members { HoldsMembers dep.now members.now }
     requires room { 64 * W ≤ length parents.old }
-    ensures { AreCovers dep.now parents.new }
+    ensures { AreCovers dep.now members.now parents.new }
 {
-    let members = dep.members();
     for place in members.iter() {
         parents[place] = dep.covers(place);
     }

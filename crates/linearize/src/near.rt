@@ -1,7 +1,7 @@
-ghost use Rattle.std.specs.Prelude.{◌≡◌, ℕ, ◌+◌, ◌*◌, ◌^◌, ◌<◌, ◌≤◌, true, [], length, map, IfSome};
+ghost use Rattle.std.specs.Prelude.{◌≡◌, ℕ, ◌+◌, ◌*◌, ◌^◌, ◌<◌, ◌≤◌, ◌*ℤ◌, pos, true, [], length, map, IfSome};
 ghost use Rattle.std.specs.FinSet as set;
 ghost use Rattle.graphs.specs.Closing.{IsClosureOf};
-ghost use Rattle.graphs.specs.Closures.{members_of};
+ghost use Rattle.graphs.specs.Closures.{HoldsMembers, members_of};
 ghost use Rattle.graphs.specs.Graphs as model;
 ghost use Rattle.graphs.specs.Certificates.{IsCertificate};
 ghost use Rattle.graphs.specs.Linearizations.{IsOptimal};
@@ -11,8 +11,7 @@ ghost use Rattle.graphs.specs.Rates.{Falls};
 ghost use Rattle.linearize.specs.Graphs.{sum_from};
 ghost use Rattle.linearize.specs.Minimal.{AreMinimal};
 ghost use Rattle.linearize.specs.Known.{AreKnown};
-ghost use Rattle.linearize.specs.Near.{AreParts, ComesNext, Extends, IsBegun, most_tried};
-ghost use Rattle.linearize.specs.Splits.{IsReady};
+ghost use Rattle.linearize.specs.Near.{AreParts, ComesNext, Extends, IsBegun, MayBePut, most_tried};
 ghost use Rattle.linearize.specs.Steps.{AreAtLeast};
 
 use crate::draft::{Draft, LinearPart};
@@ -27,8 +26,11 @@ use dep_graph::DepGraph;
 use fee_rate::FeeRate;
 use step_count::{Ledger, Steps};
 
-/// As [`optimal`], where the order before a change is at hand. What is handed in may be any order: it has no say in what is
-/// answered, only in how soon. But a part that it calls known has to be so, and then it isn't solved again.
+/// As [`optimal`], where the order before a change is at hand.
+///
+/// The guess may be any order: it has no say in what is answered, only in how soon. But a part that the guess calls known must
+/// still certify itself, and have no smaller set of its feerate, closed within it (clause `known`). Such a part isn't solved
+/// again where the guess fits. For n members the call takes at most 2·(n+2)^5 steps, with those of a guess that didn't fit.
 pub fn optimal_near<L: Ledger, const W: usize>(
     scratch: &mut Scratch<W>,
     dep: &DepGraph<W>,
@@ -63,7 +65,6 @@ pub fn optimal_near<L: Ledger, const W: usize>(
     let parents = out.parents.as_mut_slice();
     let weights = out.weights.as_mut_slice();
     out.draft.clear();
-    link(dep, parents);
     arrange(dep, &members, guess, &mut out.groups);
     let groups = out.groups.as_slice();
     if !are_parts(
@@ -86,7 +87,7 @@ pub fn optimal_near<L: Ledger, const W: usize>(
 fn are_parts<L: Ledger, const W: usize>(
     scratch: &mut Scratch<W>,
     dep: &DepGraph<W>,
-    parents: &[Bits<W>],
+    parents: &mut [Bits<W>],
     weights: &mut [i128],
     members: &Bits<W>,
     guess: &Guess,
@@ -95,10 +96,10 @@ fn are_parts<L: Ledger, const W: usize>(
     steps: &mut Steps<L>,
 ) -> bool
     requires narrow { 64 * W < 2 ^ 32 }
-    requires ready { IsReady (64 * W) dep.now parents.now members.now draft.old }
+    requires members { MayBePut (64 * W) dep.now members.now }
     requires known { AreKnown dep.now guess.now.parts.items guess.now.places.items guess.now.flows.items }
     requires empty { draft.old ≡ record { parts = []; ids = []; flows = [] } }
-    requires weights { 64 * W ≤ length weights.old }
+    requires room { (64 * W ≤ length parents.old) × (64 * W ≤ length weights.old) }
     ensures open { (draft.new.ids ≡ []) × (draft.new.flows ≡ []) }
     ensures parts { result ≡ true → AreParts (64 * W) dep.now members.now draft.new.parts }
     ensures counted { AreAtLeast 0 scratch.old scratch.new steps.old steps.new }
@@ -120,7 +121,7 @@ fn are_parts<L: Ledger, const W: usize>(
 fn put_next<L: Ledger, const W: usize>(
     scratch: &mut Scratch<W>,
     dep: &DepGraph<W>,
-    parents: &[Bits<W>],
+    parents: &mut [Bits<W>],
     weights: &mut [i128],
     members: &Bits<W>,
     done: &Bits<W>,
@@ -130,10 +131,10 @@ fn put_next<L: Ledger, const W: usize>(
     steps: &mut Steps<L>,
 ) -> Option<Bits<W>>
     requires narrow { 64 * W < 2 ^ 32 }
-    requires begun { IsBegun (64 * W) dep.now parents.now members.now done.now draft.old }
+    requires begun { IsBegun (64 * W) dep.now members.now done.now draft.old }
     requires known { AreKnown dep.now guess.now.parts.items guess.now.places.items guess.now.flows.items }
     requires open { (draft.old.ids ≡ []) × (draft.old.flows ≡ []) }
-    requires weights { 64 * W ≤ length weights.old }
+    requires room { (64 * W ≤ length parents.old) × (64 * W ≤ length weights.old) }
     ensures extends { IfSome result (Extends (64 * W) dep.now members.now done.now draft.old draft.new) }
     ensures open { (draft.new.ids ≡ []) × (draft.new.flows ≡ []) }
     ensures counted { AreAtLeast 0 scratch.old scratch.new steps.old steps.new }
@@ -166,7 +167,7 @@ fn put_next<L: Ledger, const W: usize>(
 fn put_tried<L: Ledger, const W: usize>(
     scratch: &mut Scratch<W>,
     dep: &DepGraph<W>,
-    parents: &[Bits<W>],
+    parents: &mut [Bits<W>],
     weights: &mut [i128],
     members: &Bits<W>,
     done: &Bits<W>,
@@ -175,9 +176,9 @@ fn put_tried<L: Ledger, const W: usize>(
     steps: &mut Steps<L>,
 ) -> Option<Bits<W>>
     requires narrow { 64 * W < 2 ^ 32 }
-    requires begun { IsBegun (64 * W) dep.now parents.now members.now done.now draft.old }
+    requires begun { IsBegun (64 * W) dep.now members.now done.now draft.old }
     requires open { (draft.old.ids ≡ []) × (draft.old.flows ≡ []) }
-    requires weights { 64 * W ≤ length weights.old }
+    requires room { (64 * W ≤ length parents.old) × (64 * W ≤ length weights.old) }
     ensures extends { IfSome result (Extends (64 * W) dep.now members.now done.now draft.old draft.new) }
     ensures open { (draft.new.ids ≡ []) × (draft.new.flows ≡ []) }
     ensures counted { AreAtLeast 0 scratch.old scratch.new steps.old steps.new }
@@ -186,9 +187,10 @@ fn put_tried<L: Ledger, const W: usize>(
     ensures none { steps.new + most_tried (set.len members.now) * set.len done.now
         ≤ steps.old + most_tried (set.len members.now) * set.len members.now }
 {
-    if !comes_next(parents, group, done, members) {
+    if !comes_next(dep, group, done, members) {
         return None;
     }
+    link(dep, group, parents);
     if !split_once(scratch, dep, parents, weights, group, draft, steps) {
         return None;
     }
@@ -198,13 +200,14 @@ fn put_tried<L: Ledger, const W: usize>(
 // Whether some members may come behind others in an order: they are at least one, none of the others, and their parents are
 // among them and the others.
 fn comes_next<const W: usize>(
-    parents: &[Bits<W>],
+    dep: &DepGraph<W>,
     group: &Bits<W>,
     done: &Bits<W>,
     members: &Bits<W>,
 ) -> bool
-    requires there { (t : ℕ) → set.contains members.now t ≡ true → t < length parents.now }
-    ensures { result ≡ true → ComesNext parents.now members.now done.now group.now }
+    requires narrow { 64 * W < 2 ^ 32 }
+    requires members { HoldsMembers dep.now members.now }
+    ensures { result ≡ true → ComesNext dep.now members.now done.now group.now }
 {
     if group.least().is_none() || !group.is_subset(&members.minus(done)) {
         return false;
@@ -213,7 +216,7 @@ fn comes_next<const W: usize>(
     let mut left = *group;
     while let Some(place) = left.least() {
         left.remove(place);
-        if !parents[place].is_subset(&known) {
+        if !dep.ancestors(place).is_subset(&known) {
             return false;
         }
     }
@@ -238,10 +241,12 @@ fn fall(parts: &[LinearPart]) -> bool
 fn is_at_most(a: FeeRate, b: FeeRate) -> bool
     ensures { result ≡ true → AtMost (sum_from a) (sum_from b) }
 {
-    let own = i128::from(a.fee).checked_mul(i128::from(b.size));
-    let other = i128::from(b.fee).checked_mul(i128::from(a.size));
-    match (own, other) {
-        (Some(own), Some(other)) => own <= other,
-        _ => false,
-    }
+    times(a.fee, b.size) <= times(b.fee, a.size)
+}
+
+// A fee times a size, which 128 bits hold whatever both are.
+fn times(fee: i64, size: u64) -> i128
+    ensures { result ≡ fee *ℤ pos size }
+{
+    i128::from(fee) * i128::from(size)
 }

@@ -5,9 +5,11 @@ use fee_rate::FeeRate;
 use outside::NoMemory;
 use std::alloc::Global;
 
-/// A part of the order that stood before a change: where the places of its members now stand in a list, and its flows in another.
-/// Its rate, a fee in satoshis and a size in virtual bytes, is told of a part that is known: one whose members have the fees and
-/// sizes that they had, and the relation among themselves. Of any other part the flows say nothing.
+/// A part of the order that stood before a change: where the places of its members stand in one list, and its flows in another.
+///
+/// A part is `known` where its members have the fees, the sizes and the relation among themselves that they had. Then `rate` is
+/// its total fee in satoshis and its total size in virtual bytes, and its flows certify it. Of any other part rate and flows say
+/// nothing.
 #[derive(Clone, Copy, Debug)]
 pub struct OldPart {
     pub rate: FeeRate,
@@ -27,7 +29,7 @@ pub struct Guess {
 }
 
 impl Guess {
-    /// Nothing, with room for so many parts and places, and for so many flows.
+    /// Makes an empty guess, with room for so many parts and places, and for so many flows. Fails where there is no memory.
     pub fn new(alloc: Global, places: usize, flows: usize) -> Result<Self, NoMemory>
         ensures { IfOk result (λ guess. guess.parts.items ≡ []) }
     {

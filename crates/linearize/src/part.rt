@@ -27,7 +27,7 @@ pub(crate) fn emit<const W: usize>(
     requires closed { IsClosed (64 * W) dep.now }
     requires members { HoldsMembers dep.now within.now }
     requires some { 0 < set.len within.now }
-    requires covers { AreCovers dep.now parents.now }
+    requires covers { AreCovers dep.now within.now parents.now }
     requires whole { sum_from whole ≡ sums_in (64 * W) dep.now within.now }
     requires balanced { Balances (64 * W) dep.now parents.now within.now (flow_of scratch.now) }
     requires uncut { IsUncut (64 * W) dep.now within.now }

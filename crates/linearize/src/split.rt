@@ -116,7 +116,7 @@ fn alone<L: Ledger, const W: usize>(
     requires narrow { 64 * W < 2 ^ 32 }
     requires closed { IsClosed (64 * W) dep.now }
     requires members { HoldsMembers dep.now within.now }
-    requires covers { (parents : List (set.FinSet nat_cmp)) × AreCovers dep.now parents }
+    requires covers { (parents : List (set.FinSet nat_cmp)) × AreCovers dep.now within.now parents }
     requires room { HasRoom (64 * W) within.now draft.old }
     requires one { set.len within.now ≡ 1 }
     ensures adds { Adds (64 * W) dep.now within.now draft.old draft.new }

@@ -1,7 +1,15 @@
-//! The live names of a transaction graph: which of them share a cluster of main, and which staging touched.
+//! The live names of a transaction graph: which of them share a cluster of main, and which of them staging touched.
 //!
-//! `NameBook` is what callers see: names, a relation among them and a set of them. It keeps each cluster of main as one ring of a table, and
-//! the touched names as another. In the table each name has a node of its own in a pool, and an index finds the node's key.
+//! Contracts see of a [`NameBook`] the names, a relation among them and a set of them.
+//!
+//! # How it works
+//!
+//! A pool has a node for each live name, and a hash table the key of each node. Two links in each node make two rings: one of the names
+//! that share its cluster of main, and one of the touched names. To join two clusters or to take a name out of its ring writes a few links.
+//!
+//! The book looks each name that it is told up once in the hash table, and sixteen names before it links the first: look-ups that follow one
+//! another wait for memory at the same time. Where a name goes, the touched name that the book keeps at hand is looked up once more. `reserve`
+//! alone takes memory. Nothing walks a ring to find who is in it: a caller joins two names only where it knows that they share no cluster.
 #![tactic(auto)]
 
 mod book;

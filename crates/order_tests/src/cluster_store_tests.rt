@@ -1,9 +1,10 @@
 ghost use Rattle.std.specs.Prelude.{◌≡◌, ◌<◌, [], ◌∷◌};
+ghost use Rattle.cluster_store.specs.Tops.{StandsInTop};
 
 use crate::samples::{Room, alone};
 use chunk_index::Tag;
 use cluster::{Cluster, Work};
-use cluster_store::{ClusterStore, Exchange, Move, PartWalk, Stored};
+use cluster_store::{ClusterStore, Exchange, Made, PartWalk, Stored};
 use graphs::{Level, TxId};
 use std::alloc::Global;
 use std::marker::Brand;
@@ -91,15 +92,16 @@ struct Table {
 // What a row does. Clusters are told by when they came.
 #[derive(Clone, Copy)]
 enum Act {
-    // The next cluster is added, in these levels.
-    Add(Tag),
-    // The next cluster takes the place of that one.
+    // So many clusters come into staging, and one more as the last of them.
+    Come(usize),
+    // That one goes out of staging, and as many come.
+    Replace(usize, usize),
+    // The first of these goes out of staging, and the second, and one comes.
+    Join(usize, usize),
+    // That one goes out of staging.
+    Leave(usize),
+    // The next cluster takes the place of that one, in each level that has it.
     Exchange(usize),
-    // That one goes out, or stands in other levels.
-    Move(usize, Option<Tag>),
-    // The next cluster takes the place of the first of these, the one after it is added to staging, and the second of these
-    // goes out, in one change.
-    Change(usize, usize),
     // A staging is closed, and that level stays.
     Settle(Level),
 }
@@ -111,61 +113,102 @@ fn next(rt: &impl Abort, table: &mut Table) -> Cluster<1> {
     }
 }
 
+// So many clusters.
+fn some(rt: &impl Abort, table: &mut Table, count: usize) -> Result<Vec<Cluster<1>>, Fail> {
+    let mut clusters = Vec::new(table.alloc);
+    for _ in 0..count {
+        clusters.push(next(rt, table))?;
+    }
+    Ok(clusters)
+}
+
 fn number(rt: &impl Abort, table: &Table, at: usize) -> usize {
     assert!(rt; at < table.numbers.len());
     table.numbers[at]
 }
 
-fn add(rt: &impl Abort, table: &mut Table, tag: Tag) -> Result<(), Fail> {
-    let cluster = next(rt, table);
-    let number = table.store.add(Stored::new(cluster, tag))?;
-    table.numbers.push(number)?;
+// The numbers of those that came stand behind the others.
+fn note(table: &mut Table, made: Made) -> Result<(), Fail> {
+    for number in made.rest {
+        table.numbers.push(number)?;
+    }
+    if let Some(number) = made.last {
+        table.numbers.push(number)?;
+    }
     Ok(())
 }
 
+// Asserts that a number has a cluster of the top level.
+#[tactic(auto, using(cluster_store::proofs::Callers::stands_by))]
+fn stands(rt: &impl Abort, store: &ClusterStore<1>, number: usize)
+    ensures { StandsInTop store.now.clusters number }
+{
+    match store.tag(number) {
+        Some(Tag::Both) => {}
+        Some(Tag::TopOnly) => {}
+        _ => panic!(rt; "no cluster of the top level"),
+    }
+}
+
+#[tactic(auto, using(cluster_store::proofs::Callers::none_leave))]
+fn come(rt: &impl Abort, table: &mut Table, rest: usize) -> Result<(), Fail> {
+    let coming = some(rt, table, rest)?;
+    let last = next(rt, table);
+    let made = table.store.rebuild(true, &[], coming, Some(last))?;
+    note(table, made)
+}
+
+#[tactic(auto, using(cluster_store::proofs::Callers::one_leaves))]
+fn replace(rt: &impl Abort, table: &mut Table, out: usize, rest: usize) -> Result<(), Fail> {
+    let coming = some(rt, table, rest)?;
+    let last = next(rt, table);
+    let number = number(rt, table, out);
+    stands(rt, &table.store, number);
+    let made = table.store.rebuild(true, &[number], coming, Some(last))?;
+    note(table, made)
+}
+
+#[tactic(auto, using(cluster_store::proofs::Callers::two_leave))]
+fn join(rt: &impl Abort, table: &mut Table, out: usize, other: usize) -> Result<(), Fail> {
+    let last = next(rt, table);
+    let first = number(rt, table, out);
+    let second = number(rt, table, other);
+    assert!(rt; first != second);
+    stands(rt, &table.store, first);
+    stands(rt, &table.store, second);
+    let made = table
+        .store
+        .rebuild(true, &[first, second], Vec::new(table.alloc), Some(last))?;
+    note(table, made)
+}
+
+#[tactic(auto, using(cluster_store::proofs::Callers::one_leaves))]
+fn leave(rt: &impl Abort, table: &mut Table, out: usize) -> Result<(), Fail> {
+    let number = number(rt, table, out);
+    stands(rt, &table.store, number);
+    let made = table
+        .store
+        .rebuild(true, &[number], Vec::new(table.alloc), None)?;
+    note(table, made)
+}
+
+#[tactic(auto, using(cluster_store::proofs::Callers::one_held, cluster_store::proofs::Callers::held_by))]
 fn exchange(rt: &impl Abort, table: &mut Table, at: usize) -> Result<(), Fail> {
-    let cluster = next(rt, table);
-    let number = number(rt, table, at);
-    assert!(rt; table.store.tag(number).is_some());
-    table.store.exchange(number, cluster)?;
-    Ok(())
-}
-
-fn make_move(rt: &impl Abort, table: &mut Table, at: usize, to: Option<Tag>) {
-    let number = number(rt, table, at);
-    assert!(rt; table.store.tag(number).is_some());
-    table.store.make_move(number, to);
-}
-
-fn change(rt: &impl Abort, table: &mut Table, exchanged: usize, out: usize) -> Result<(), Fail> {
     let mut exchanges = Vec::with_capacity(table.alloc, 1)?;
-    let mut added = Vec::with_capacity(table.alloc, 1)?;
-    let at = number(rt, table, exchanged);
-    let gone = number(rt, table, out);
-    exchanges.push_reserved(Exchange::new(at, next(rt, table)));
-    added.push_reserved(Stored::new(next(rt, table), Tag::TopOnly));
-    let moves = [Move {
-        number: gone,
-        to: None,
-    }];
-    assert!(rt; at != gone);
-    assert!(rt; table.store.tag(at).is_some());
-    assert!(rt; table.store.tag(gone).is_some());
-    let numbers = table.store.change(exchanges, added, moves.as_slice())?;
-    assert!(rt; numbers.len() == 1);
-    table.numbers.push(numbers[0])?;
+    let number = number(rt, table, at);
+    exchanges.push_reserved(Exchange::new(number, next(rt, table)));
+    assert!(rt; table.store.tag(number).is_some());
+    table.store.exchange(exchanges)?;
     Ok(())
 }
 
 fn obey(rt: &impl Abort, table: &mut Table, act: Act) -> Result<(), Fail> {
     match act {
-        Act::Add(tag) => add(rt, table, tag),
+        Act::Come(rest) => come(rt, table, rest),
+        Act::Replace(out, rest) => replace(rt, table, out, rest),
+        Act::Join(out, other) => join(rt, table, out, other),
+        Act::Leave(out) => leave(rt, table, out),
         Act::Exchange(at) => exchange(rt, table, at),
-        Act::Move(at, to) => {
-            make_move(rt, table, at, to);
-            Ok(())
-        }
-        Act::Change(at, out) => change(rt, table, at, out),
         Act::Settle(stays) => {
             table.store.settle(stays);
             Ok(())
@@ -231,44 +274,20 @@ fn gives_back(rt: &impl Abort, mut walk: PartWalk<'_, Stored<1>>, names: &[u8]) 
 }
 
 // Rows, and the names that the five walks give after each, a digit a name.
-static ROWS: [(Act, [&str; 5]); 19] = [
-    (Act::Add(Tag::Both), ["1", "1", "1", "", ""]),
-    (Act::Add(Tag::MainOnly), ["12", "1", "1", "2", ""]),
-    (Act::Add(Tag::TopOnly), ["12", "13", "1", "2", "3"]),
-    (Act::Add(Tag::Both), ["124", "134", "14", "2", "3"]),
-    (Act::Add(Tag::Both), ["17248", "17348", "1748", "2", "3"]),
-    (
-        Act::Move(1, Some(Tag::Both)),
-        ["17248", "173248", "17248", "", "3"],
-    ),
-    (
-        Act::Move(4, Some(Tag::MainOnly)),
-        ["17248", "1324", "124", "78", "3"],
-    ),
-    (Act::Exchange(2), ["17248", "3124", "124", "78", "3"]),
-    (Act::Move(0, None), ["7248", "324", "24", "78", "3"]),
-    (Act::Exchange(4), ["7824", "324", "24", "78", "3"]),
-    (
-        Act::Move(2, Some(Tag::Both)),
-        ["37824", "324", "324", "78", ""],
-    ),
-    (Act::Change(1, 4), ["342", "3542", "342", "", "5"]),
-    (
-        Act::Move(1, Some(Tag::MainOnly)),
-        ["342", "354", "34", "2", "5"],
-    ),
-    (Act::Settle(Level::Main), ["342", "342", "342", "", ""]),
-    (
-        Act::Move(1, Some(Tag::TopOnly)),
-        ["34", "342", "34", "", "2"],
-    ),
-    (
-        Act::Move(2, Some(Tag::MainOnly)),
-        ["34", "42", "4", "3", "2"],
-    ),
-    (Act::Settle(Level::Top), ["42", "42", "42", "", ""]),
-    (Act::Move(1, None), ["4", "4", "4", "", ""]),
-    (Act::Move(3, None), ["", "", "", "", ""]),
+static ROWS: [(Act, [&str; 5]); 11] = [
+    (Act::Come(2), ["", "123", "", "", "123"]),
+    (Act::Settle(Level::Top), ["123", "123", "123", "", ""]),
+    (Act::Leave(0), ["123", "23", "23", "1", ""]),
+    // main keeps the second, so that both that come have numbers of their own
+    (Act::Replace(1, 1), ["123", "7348", "3", "12", "748"]),
+    (Act::Exchange(2), ["312", "3748", "3", "12", "748"]),
+    // staging alone has the last, whose number is taken
+    (Act::Replace(4, 0), ["312", "3784", "3", "12", "784"]),
+    (Act::Join(2, 3), ["312", "782", "", "312", "782"]),
+    (Act::Settle(Level::Main), ["312", "312", "312", "", ""]),
+    (Act::Join(0, 1), ["312", "35", "3", "12", "5"]),
+    (Act::Settle(Level::Top), ["35", "35", "35", "", ""]),
+    (Act::Leave(2), ["35", "5", "5", "3", ""]),
 ];
 
 // Asserts that the five walks give these names.
@@ -295,7 +314,7 @@ static CLUSTERS: [((TxId, i64), Option<(TxId, i64)>); 9] = [
     ((3, 50), None),
     ((7, 9), Some((8, 4))),
     ((4, 5), None),
-    ((3, 7), None),
+    ((3, 5), None),
     ((2, 5), None),
     ((1, 10), None),
 ];
@@ -352,7 +371,7 @@ fn rows<K: ledger::Ledger>(rt: &impl Abort, alloc: Global, blank: Blank) -> Resu
     done
 }
 
-// Clusters come, change their levels, are exchanged and go, and each walk shows its parts by rate, equal ones by number.
+// Clusters come, take the places of others and go, stagings are closed, and each walk shows its parts by rate, equal ones by number.
 #[test]
 fn levels_show_their_parts_by_rate(rt: HostRuntime) -> Result<(), Fail> {
     rows::<Brand>(&rt, rt.alloc(), Blank::new(1))

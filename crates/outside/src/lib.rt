@@ -1,7 +1,8 @@
 //! The outside of the program: where bytes come from and where they go.
 //!
-//! A `Source` gives bytes and a `Sink` takes them. Both count their faults, so that a failure
-//! always has a cause that the program can't make up.
+//! A [`Source`] gives bytes and a [`Sink`] takes them. Both count their faults: a call that succeeds leaves the count, and a call that fails
+//! raises it by one (the count stands still at 2^64 − 1). Code that is generic over the two traits can't change a count itself. So its
+//! contract tells, from the counts before and after, how many calls failed, and such code can neither hide a fault nor make one up.
 #![tactic(auto)]
 
 mod errors;

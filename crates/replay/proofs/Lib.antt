@@ -1,7 +1,6 @@
 pub mod SessionLemmas
 pub mod SessionRoom
 pub mod YieldedLemmas
-pub mod WordLemmas
 pub mod CheckLemmas
 pub mod LimitLemmas
 pub mod WindowLemmas
@@ -14,3 +13,7 @@ pub mod FeedLemmas
 pub mod AcceptLemmas
 pub mod AheadLemmas
 pub mod Rooms
+pub mod PlayLemmas
+pub mod CornerLemmas
+pub mod SummaryLemmas
+pub mod AskedLemmas

@@ -4,7 +4,6 @@ pub mod Sessions
 pub mod Inputs
 pub mod Outputs
 pub mod Statuses
-pub mod Words
 pub mod Checks
 pub mod Verdicts
 pub mod Windows
@@ -13,3 +12,4 @@ pub mod Cuts
 pub mod Gatherings
 pub mod Writings
 pub mod CheckLaws
+pub mod Generations

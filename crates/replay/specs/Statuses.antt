@@ -5,8 +5,8 @@ use Rattle.std.specs.declared.option.Option.{Option}
 use Rattle.outside.specs.Faults.{Rose}
 use Rattle.outside.specs.Transfers.{AppendsFront}
 use Rattle.graph_model.specs.Words.{line_text}
-use Rattle.graph_model.specs.CommandLines.{Ask}
 use Rattle.graph_model.specs.CommandLines as commands
+use Rattle.command_line.specs.Words as command_line
 use Rattle.replay.specs.declared.input.End.{End}
 use Rattle.replay.specs.declared.input.End.TheVariants.{Told, Fault, Limit}
 use Rattle.replay.specs.declared.top.Status.{Status}
@@ -14,17 +14,21 @@ use Rattle.replay.specs.declared.top.Status.TheVariants as statuses
 use Rattle.replay.specs.Inputs.{ReadsTo}
 use Rattle.replay.specs.Outputs.{WritesOutput, WritesFront}
 
--- the words are the program's name and `replay`, and nothing else
+-- the command line takes the words, and they ask for `replay`
 abbrev pub AreReplay : List (List ℕ) → Type 0
-AreReplay words = Ask words commands.Replays
+AreReplay words = command_line.AsksFor words commands.Replays
 
--- the words are the program's name and `check`, and nothing else
+-- they ask for `check`
 abbrev pub AreCheck : List (List ℕ) → Type 0
-AreCheck words = Ask words commands.Checks
+AreCheck words = command_line.AsksFor words commands.Checks
 
--- the words are no command
+-- they ask for `gen` with this seed and this number of commands
+abbrev pub AreGen : List (List ℕ) → ℕ → ℕ → Type 0
+AreGen words seed count = command_line.AsksFor words (commands.Generates seed count)
+
+-- they ask for nothing
 abbrev pub AreRefused : List (List ℕ) → Type 0
-AreRefused words = (AreReplay words → ⊥) × (AreCheck words → ⊥)
+AreRefused = command_line.AreRefused
 
 abbrev pub usage_text : List ℕ
 usage_text = line_text (codes "usage: txgraph replay | check | gen SEED COUNT")
@@ -78,14 +82,14 @@ Replays statuses.WriteFault left_old left_new written old new = IsCutOff left_ol
 Replays statuses.NoMemory left_old left_new written old new = new ≡ old
 Replays statuses.InputLimit left_old left_new written old new = IsAnswered Limit left_old left_new (written old) (written new)
 
--- refused words: what was written, by status
+-- refused words: what was written, by status; nothing where there was no memory to parse them
 abbrev pub Refuses : {K : Type 0} → Status → (K → Option (List ℕ)) → K → K → Type 0
 Refuses statuses.Done written old new = ⊥
 Refuses statuses.No written old new = ⊥
 Refuses statuses.Usage written old new = Appends (written old) (written new) usage_text
 Refuses statuses.ReadFault written old new = ⊥
 Refuses statuses.WriteFault written old new = AppendsFront (written old) (written new) usage_text
-Refuses statuses.NoMemory written old new = ⊥
+Refuses statuses.NoMemory written old new = new ≡ old
 Refuses statuses.InputLimit written old new = ⊥
 
 -- Usage comes with refused words alone, and No with `check` alone

@@ -56,6 +56,22 @@ fn read<const W: usize>(graph: &mut TxGraph<W>, ids: &mut IdBuf, bytes: &[u8]) -
     obey_unpaid::<Brand, TxGraph<W>>(graph, ids, line, Blank::new(1))
 }
 
+/// The answer to what a line says that was read before. A `mine` has its names in `ids`.
+pub(crate) fn answer_line<const W: usize>(
+    graph: &mut TxGraph<W>,
+    ids: &mut IdBuf,
+    line: Line,
+) -> Answer
+    requires few { graph.old.levels.issued < 2 ^ 64 - 1 }
+    requires room { HasRoom W ids.old }
+    ensures answers { MayTell graph.new result ids.new.ids
+        (AnswersMeaning (meaning_of line ids.old.ids) graph.old graph.new) }
+    ensures additions { graph.new.levels.issued ≤ graph.old.levels.issued + 1 }
+    ensures room { HasRoom W ids.new }
+{
+    obey_unpaid::<Brand, TxGraph<W>>(graph, ids, line, Blank::new(1))
+}
+
 /// What obeys commands, and is read.
 ///
 /// A graph does so through this trait because a function that is given a token of its own ledger can't have a number of

@@ -1,17 +1,20 @@
-ghost use Rattle.std.specs.Prelude.{◌≡◌, ℕ, ◌+◌, ◌-◌, ◌*◌, ◌^◌, ◌<◌, ◌≤◌, List, IfOk};
+ghost use Rattle.std.specs.Prelude.{◌≡◌, ℕ, ◌+◌, ◌-◌, ◌*◌, ◌^◌, ◌<◌, ◌≤◌, ◌≢◌, List, [], IfOk};
 ghost use Rattle.graph_model.specs.Runs.{answer_text};
 ghost use Rattle.graph_model.specs.Runs as runs;
 ghost use Rattle.outside.specs.Faults.{CountsFaults};
 ghost use Rattle.outside.specs.Transfers.{Writes};
+ghost use Rattle.wire.specs.Readings.{meaning_of};
 
 use crate::answer::Outcome;
-use crate::commands::answer;
+use crate::commands::{answer, answer_line};
 use crate::replies::Replies;
+use crate::totals::{Totals, main_totals};
 use graph_model::{DEFAULT_LIMITS, IdBuf};
 use outside::{Failed, NoMemory, Sink};
 use std::alloc::Global;
 use std::marker::Model;
 use tx_graph::TxGraph;
+use wire::Line;
 
 /// The most names that the program can allow a cluster: 64 for each word of its graph's sets, which have one.
 pub const MOST_NAMES: u64 = 64;
@@ -53,7 +56,8 @@ impl<const W: usize> Model for Session<W> {
 impl<const W: usize> Session<W> {
     ghost use Rattle.tx_graph.specs.Kept.{Kept, StandsFor};
     ghost use Rattle.graph_model.specs.States.{State, start};
-    ghost use Rattle.replay.specs.Answers.{outcome_of};
+    ghost use Rattle.replay.specs.Answers.{AnswersMeaning, outcome_of};
+    ghost use Rattle.replay.specs.Generations.{AreTotals};
     ghost use Rattle.replay.specs.Gatherings.{Gathers};
     ghost use Rattle.replay.specs.Sessions.{IsLine, Answers, Suits};
 
@@ -95,6 +99,29 @@ impl<const W: usize> Session<W> {
     {
         let found = answer(&mut self.graph, &mut self.ids, piece);
         found.tell(&self.graph, self.ids.ids(), sink)
+    }
+
+    /// Answers what a line says that was read before, as `one` answers a line. It is no `mine`, whose names stand beside
+    /// it.
+    pub fn line<K: Sink>(&mut self, line: Line, sink: &mut K) -> Result<Outcome, Failed>
+        requires few { self.old.levels.issued < 2 ^ 64 - 1 }
+        requires not_mine { line ≢ Line.Mine }
+        ensures line { (answer : runs.Answer) × AnswersMeaning (meaning_of line []) self.old self.new answer
+            × Writes (K.written sink.old) (K.written sink.new) (K.faults sink.old) (K.faults sink.new) result
+            (answer_text answer)
+            × IfOk result (λ outcome. outcome ≡ outcome_of answer) }
+        ensures cause { CountsFaults (K.faults sink.old) (K.faults sink.new) result }
+        ensures additions { self.new.levels.issued ≤ self.old.levels.issued + 1 }
+    {
+        let found = answer_line(&mut self.graph, &mut self.ids, line);
+        found.tell(&self.graph, self.ids.ids(), sink)
+    }
+
+    /// How much main has.
+    pub(crate) fn totals(&self) -> Totals
+        ensures { (state : State) → StandsFor self.now state → AreTotals state.plain result }
+    {
+        main_totals(&self.graph)
     }
 
     /// Answers one line as `one` does, where its reply gathers behind others before the sink.

@@ -1,19 +1,21 @@
-ghost use Rattle.std.specs.Prelude.{◌≡◌, ◌≢◌, ℕ, ◌≤◌, [], false, IfSome, length, MatchOption, codes, map, string_bytes};
+ghost use Rattle.std.specs.Prelude.{◌≡◌, ◌≢◌, ℕ, ◌≤◌, [], false, IfSome, length, map, string_bytes};
 ghost use Rattle.graph_model.specs.States.{start};
 ghost use Rattle.replay.specs.declared.session.TheConstants.{MOST_NAMES};
 ghost use Rattle.graph_model.specs.Lines.{max_input};
 ghost use Rattle.outside.specs.Faults.{Rose};
 ghost use Rattle.tx_graph.specs.Kept.{StandsFor};
-ghost use Rattle.replay.specs.Statuses.{AreReplay, AreCheck, AreRefused, Replays, Refuses, SuitsWords, EndsWell, StatusFaults, end_status, status_code};
-ghost use Rattle.replay.specs.Words.{IsCommand, IsName};
+ghost use Rattle.replay.specs.Generations.{Generates};
+ghost use Rattle.replay.specs.Statuses.{AreReplay, AreCheck, AreGen, AreRefused, Replays, Refuses, SuitsWords, EndsWell, StatusFaults, end_status, status_code};
 ghost use Rattle.replay.specs.Checks.{Checks};
 
 use crate::answering::answer_lines;
 use crate::check::check_text;
+use crate::generated::write_generated;
 use crate::input::End;
 use crate::lines::{Lines, Stage};
 use crate::replies::Replies;
 use crate::session::Session;
+use command_line::{Asked, WordsFault, read_words};
 use outside::{Failed, Sink, Source};
 use std::alloc::Global;
 use wire::write_word;
@@ -21,7 +23,7 @@ use wire::write_word;
 /// How the program ended, with its exit status.
 #[derive(Clone, Copy, Debug, PartialEq, Eq)]
 pub enum Status {
-    /// The input was read to its end, and all replies were written.
+    /// The input was read to its end, or for `gen` all commands were run, and everything was written.
     Done = 0,
     /// The text of a `check` is no certificate.
     No = 1,
@@ -31,7 +33,7 @@ pub enum Status {
     ReadFault = 3,
     /// A write failed; a front of the output was written.
     WriteFault = 4,
-    /// There was no memory; nothing was written, and by `replay` nothing was read.
+    /// There was no memory; nothing was written, and by `replay` and `gen` nothing was read.
     NoMemory = 5,
     /// A byte past the limit of 268,435,456 came; the complete lines before it were answered.
     InputLimit = 6,
@@ -46,18 +48,20 @@ impl Status {
     }
 }
 
-/// Runs the program: `words` are its name and the command, `replay` or `check`.
+/// Runs the program: `words` are its name and the command, `replay`, `check` or `gen SEED COUNT`.
 pub fn run<S: Source, K: Sink>(
     alloc: Global,
     words: &[String],
     source: &mut S,
     sink: &mut K,
 ) -> Status
-    // By what the words name: what was read and what was written, by status. With refused words nothing is read.
+    // By what the words ask for: what was read and what was written, by status. Only `replay` and `check` read.
     ensures replays { AreReplay (map string_bytes words.now)
         → Replays result (S.left source.old) (S.left source.new) K.written sink.old sink.new }
     ensures checks { AreCheck (map string_bytes words.now)
         → Checks result (S.left source.old) (S.left source.new) K.written sink.old sink.new }
+    ensures generates { (seed count : ℕ) → AreGen (map string_bytes words.now) seed count
+        → (source.new ≡ source.old) × Generates result seed count K.written sink.old sink.new }
     ensures refuses { AreRefused (map string_bytes words.now) → (source.new ≡ source.old)
         × Refuses result K.written sink.old sink.new }
     // Nothing was written then, and with `replay` nothing was read: it takes its memory before it reads.
@@ -75,18 +79,13 @@ pub fn run<S: Source, K: Sink>(
         → (Rose (K.faults sink.old) (K.faults sink.new) → ⊥) → EndsWell result }
     ensures within_limit { IfSome (S.left source.old) (λ bytes. length bytes ≤ max_input → result ≢ Status.InputLimit) }
 {
-    match command_of(words) {
-        Some(Command::Replay) => replay_lines(alloc, source, sink),
-        Some(Command::Check) => check_text(alloc, source, sink),
-        None => refuse_words(sink),
+    match read_words(alloc, words) {
+        Ok(Asked::Replay) => replay_lines(alloc, source, sink),
+        Ok(Asked::Check) => check_text(alloc, source, sink),
+        Ok(Asked::Gen(seed, count)) => write_generated(alloc, seed, count, sink),
+        Err(WordsFault::Refused) => refuse_words(sink),
+        Err(WordsFault::Memory) => Status::NoMemory,
     }
-}
-
-/// A command that the words of a command line may name.
-#[derive(Clone, Copy)]
-enum Command {
-    Replay,
-    Check,
 }
 
 /// Reads lines of commands to the end, and answers them.
@@ -147,29 +146,6 @@ fn status_of(end: End) -> Status
         End::Fault => Status::ReadFault,
         End::Limit => Status::InputLimit,
     }
-}
-
-/// The command that the words name, where they are the program's name and one.
-fn command_of(words: &[String]) -> Option<Command>
-    ensures { MatchOption result (AreRefused (map string_bytes words.now)) (IsCommand (map string_bytes words.now)) }
-{
-    match words {
-        [_, command] => named(command.as_str()),
-        _ => None,
-    }
-}
-
-/// The command of this name.
-fn named(word: &str) -> Option<Command>
-    ensures { MatchOption result ((word.now ≢ codes "replay") × (word.now ≢ codes "check")) (IsName word.now) }
-{
-    if word == "replay" {
-        return Some(Command::Replay);
-    }
-    if word == "check" {
-        return Some(Command::Check);
-    }
-    None
 }
 
 /// Writes the usage line.

@@ -15,8 +15,7 @@ use Rattle.graphs.specs.declared.names.Verdict.TheVariants.{Better, Worse, Equal
 use Rattle.graphs.specs.Graphs.{Lists}
 use Rattle.graphs.proofs.ListLemmas.{Lists-for}
 use Rattle.cluster.specs.Clusters.{Cluster}
-use Rattle.cluster.specs.Changes.{AreComponents}
-use Rattle.cluster.specs.Steps.{GrowsWithin, most_steps, most_steps_of}
+use Rattle.cluster.specs.Steps.{GrowsWithin, most_steps}
 use Rattle.graph_model.specs.declared.names.Limits.{Limits}
 use Rattle.graph_model.specs.declared.names.Refusal.{Refusal}
 use Rattle.graph_model.specs.declared.names.Refusal.TheVariants.{Fee, Size, Taken, Full, Count, ClusterSize, Unknown, Cycle, Memory}
@@ -32,6 +31,7 @@ use Rattle.levels.specs.Levels.{OneLevel, Levels, HavePicks, AddsName, ChangesTo
 use Rattle.levels.specs.Levels as levels
 use Rattle.tx_graph.specs.Sound.{IsSound}
 use Rattle.levels.specs.Orders.{ComparesParts}
+use Rattle.levels.specs.Lefts.{DropsWithin}
 use Rattle.levels.specs.Views.{IsClusterOf}
 use Rattle.tx_graph.proofs.Added.{steps_added}
 use Rattle.tx_graph.proofs.Counting.{add_row, live_listed, counted}
@@ -326,11 +326,9 @@ GrowsForPair parent child start end kept =
     let graph = (level_at kept.levels Top).graph in
     (ids : List ℕ) → Lists (λ q. AreLinked graph q parent ⊎ AreLinked graph q child) ids → GrowsWithin (most_steps (length ids)) start end
 
--- and of one that drops a name from its cluster
+-- and of one that drops a name
 abbrev pub GrowsForParts : ℕ → ℕ → ℕ → Kept → Type 0
-GrowsForParts id start end kept =
-    (c : Cluster) (lists : List (List ℕ)) → IsClusterOf (level_at kept.levels Top).graph id c → AreComponents c.graph (id ∷ []) lists
-    → end ≤ start + most_steps_of lists
+GrowsForParts id start end kept = DropsWithin (id ∷ []) (level_at kept.levels Top).graph start end
 
 -- a fee that is the same takes no step
 abbrev pub FreeForFee : ℕ → ℤ → ℕ → ℕ → Kept → Type 0

@@ -16,16 +16,14 @@ ghost use Rattle.graph_model.specs.Commands.{SetLimits, Add, Dep, SetFee, Remove
 ghost use Rattle.graph_model.specs.Replies.{Number, Parts, Points, Proves, change_reply, names_reply};
 ghost use Rattle.graph_model.specs.Texts.{Text};
 ghost use Rattle.diagram.specs.Points.{YieldsCorners};
-ghost use Rattle.cluster.specs.Clusters as records;
-ghost use Rattle.cluster.specs.Changes.{AreComponents};
-ghost use Rattle.cluster.specs.Steps.{GrowsWithin, most_steps, most_steps_of};
+ghost use Rattle.cluster.specs.Steps.{GrowsWithin, most_steps};
 ghost use Rattle.tx_graph.specs.Additions.{AddRefusalIs, CountsLive};
 ghost use Rattle.tx_graph.specs.Kept.{Kept, StandsFor, MakesStep, start_within};
+ghost use Rattle.levels.specs.Lefts.{DropsWithin};
 ghost use Rattle.levels.specs.Levels.{GrowsForFee, IsLive, level_at};
 ghost use Rattle.levels.specs.Orders.{ListsCovers};
 ghost use Rattle.tx_graph.specs.Readings.{AreMinimalIn, IsBestOrder, IsTextOf, part_reply, place_reply, compare_reply, settle_reply};
 ghost use Rattle.levels.specs.Stays.{AllStay};
-ghost use Rattle.levels.specs.Views.{IsClusterOf};
 
 use crate::order::{Diagram, Forward, Order, OrderBack};
 use cluster::{Covers, PartRef};
@@ -38,15 +36,18 @@ use std::alloc::Global;
 use std::marker::Model;
 use step_count::{Ledger, Steps};
 
-/// A transaction graph by clusters of at most 64·W names, where W is 1 or 2: main, and a staging copy of it where one is
-/// open.
+/// A transaction graph with clusters of at most 64·W transactions, where W is 1 or 2. It has two levels, as Bitcoin Core's
+/// `txgraph.h` does: main and, where one is open, staging, a copy of main that changes alone.
 ///
-/// It keeps each name's ancestors in each level, and not the pairs that they came from, and an optimal order of each
-/// level. So it stands for every state of the machine with these ancestors and these orders, and each call is a step of the
-/// machine from each such state. A call that changes a level solves the clusters that it makes and no others, and counts
-/// the steps of that in a ledger of the caller's. Whatever it answers, a component of a level that stays, with the same
-/// names, ancestors, fees and sizes, keeps its parts and their flows, in their order. To open, to close and to commit a
-/// staging solves none.
+/// The graph keeps, of each level, who is an ancestor of whom, and an optimal order. It doesn't keep the dependencies that the
+/// ancestors came from. So a value stands for every state of the machine with these ancestors and these orders, and each call
+/// is a step of the machine from each such state (clause `step`). A call that is refused leaves the graph as it was.
+///
+/// A call that changes a level solves the clusters that it makes, and no others. The solver counts its steps in the caller's
+/// ledger. A cluster with the same transactions, ancestors, fees and sizes as before keeps its chunks and their flows, in their
+/// order, whatever the call answers (clause `stays`). To open, commit or drop a staging solves nothing.
+///
+/// Fees are in satoshis, sizes in virtual bytes.
 #[derive(Drop)]
 pub struct TxGraph<const W: usize> {
     limits: Limits,
@@ -137,7 +138,14 @@ fn most_names<const W: usize>() -> u64
 }
 
 impl<const W: usize> TxGraph<W> {
-    /// A graph without names under these limits, which are in range. Takes the room in which orders are made.
+    /// Makes an empty graph under these limits. Takes the memory in which orders are made.
+    ///
+    /// The limits are those of a cluster's transactions, of a cluster's size in virtual bytes, and of live transactions. Each is in
+    /// its range, and a cluster may have at most 64·W transactions.
+    ///
+    /// # Errors
+    ///
+    /// Fails where there is no memory.
     pub fn new(alloc: Global, limits: Limits) -> Result<Self, NoMemory>
         requires in_range { AreInRange (64 * W) (bounds_of limits) }
         requires wide { 1 ≤ W }
@@ -152,7 +160,7 @@ impl<const W: usize> TxGraph<W> {
         })
     }
 
-    /// How many additions were accepted.
+    /// How many calls of [`add`](TxGraph::add) were accepted since the graph was made.
     pub fn additions(&self) -> u64
         ensures additions { result ≡ self.now.levels.issued }
         ensures stands { (state : State) × StandsFor self.now state }
@@ -162,8 +170,12 @@ impl<const W: usize> TxGraph<W> {
 
     /// Sets the limits. Takes no memory.
     ///
-    /// Refused with `Late` where a change was accepted before, limits among them, and else with `Range` where a limit
-    /// is outside its range. The graph stays as it was then.
+    /// # Errors
+    ///
+    /// Answers the first of these that holds, and leaves the graph as it was:
+    ///
+    /// - [`Refusal::Late`]: a change was accepted before, also one of limits.
+    /// - [`Refusal::Range`]: a limit is outside its range.
     pub fn set_limits(&mut self, limits: Limits) -> Result<(), Refusal>
         ensures step { MakesStep self.old self.new (SetLimits (bounds_of limits)) (change_reply result) }
         ensures additions { self.new.levels.issued ≡ self.old.levels.issued }
@@ -179,11 +191,18 @@ impl<const W: usize> TxGraph<W> {
         Ok(())
     }
 
-    /// Adds a name to the top level, with its fee, in satoshis, and its size, in virtual bytes. It has no pairs then.
+    /// Adds a transaction to the top level, with its fee in satoshis and its size in virtual bytes. It has no dependencies
+    /// yet, and its cluster takes no step of the solver.
     ///
-    /// Refused, by the first of these that holds: `Fee` and `Size` where the number is out of range, `Taken` where the
-    /// name is in main or in staging, `ClusterSize` with the size where that is over the limit of a cluster, `Full` where
-    /// as many names are live as may be, `Memory` where there is none. The graph stays as it was then.
+    /// # Errors
+    ///
+    /// Answers the first of these that holds, and leaves the graph as it was:
+    ///
+    /// - [`Refusal::Fee`], [`Refusal::Size`]: the number is out of range.
+    /// - [`Refusal::Taken`]: the transaction is in main or in staging.
+    /// - [`Refusal::ClusterSize`], with the size: the size is over the limit of a cluster.
+    /// - [`Refusal::Full`]: as many transactions are live as may be.
+    /// - [`Refusal::Memory`]: there is no memory.
     pub fn add<L: Ledger>(
         &mut self,
         id: TxId,
@@ -207,14 +226,22 @@ impl<const W: usize> TxGraph<W> {
         Ok(())
     }
 
-    /// Makes one name of the top level a parent of another. Where it is an ancestor already nothing changes, and no step is
-    /// counted.
+    /// Makes `child` depend on `parent` in the top level. Where `parent` is an ancestor of `child` already, clusters and orders
+    /// stay as they are.
     ///
-    /// Refused, by the first of these that holds: `Unknown` with the name where the parent or the child isn't in the top
-    /// level, `Cycle` where the child is an ancestor of the parent, `Count` and `ClusterSize`, with what the cluster would
-    /// have, where the pair would join two to one over a limit, `Memory` where there is none. The graph stays as it was
-    /// then. The steps grow by at most 2·(n+2)^5, where n is the number of names of the cluster that is made, and only
-    /// where it is made or memory is lacking for it.
+    /// A new dependency joins the clusters of the two, where they are in different ones. The solver takes at most 2·(n+2)^5
+    /// steps for a cluster of n transactions that comes of this. It takes none where the parent is an ancestor already, nor
+    /// where the call is refused for another reason than memory.
+    ///
+    /// # Errors
+    ///
+    /// Answers the first of these that holds, and leaves the graph as it was:
+    ///
+    /// - [`Refusal::Unknown`], with the name: the parent isn't in the top level; or the child isn't.
+    /// - [`Refusal::Cycle`]: the child is an ancestor of the parent, or the parent itself.
+    /// - [`Refusal::Count`], [`Refusal::ClusterSize`]: the two clusters are different, and together have more transactions, or a
+    ///   greater size, than a cluster may have. The refusal tells the number or the size that they have together.
+    /// - [`Refusal::Memory`]: there is no memory.
     pub fn dep<L: Ledger>(
         &mut self,
         parent: TxId,
@@ -236,13 +263,20 @@ impl<const W: usize> TxGraph<W> {
         Ok(())
     }
 
-    /// Sets the fee of a name, in satoshis, in main and in staging. Where it has that fee already nothing changes, and no
-    /// step is counted.
+    /// Sets the fee of a transaction, in satoshis, in each level that has it. Where the transaction has that fee already, clusters
+    /// and orders stay as they are.
     ///
-    /// Refused, by the first of these that holds: `Fee` where the number is out of range, `Unknown` where the name is
-    /// neither in main nor in staging, `Memory` where there is none. The graph stays as it was then. The steps grow by at
-    /// most the sum of 2·(n+2)^5 over the clusters of the name, one of each level that has it, where n is the number of names
-    /// of each, and only where they are made anew or memory is lacking for it. Without a staging there is one.
+    /// The solver takes at most 2·(n+2)^5 steps for the transaction's cluster of n transactions, one cluster for each level that
+    /// has the transaction. It takes none where the fee is the same, nor where the call is refused for another reason than
+    /// memory.
+    ///
+    /// # Errors
+    ///
+    /// Answers the first of these that holds, and leaves the graph as it was:
+    ///
+    /// - [`Refusal::Fee`]: the fee is out of range.
+    /// - [`Refusal::Unknown`]: the transaction is neither in main nor in staging.
+    /// - [`Refusal::Memory`]: there is no memory.
     pub fn fee<L: Ledger>(
         &mut self,
         id: TxId,
@@ -271,20 +305,24 @@ impl<const W: usize> TxGraph<W> {
         Ok(())
     }
 
-    /// Removes a name from the top level. The others keep the ancestors that they had among them.
+    /// Removes a transaction from the top level. Its children come to depend on its parents, so the others keep the ancestors
+    /// that they had among them.
     ///
-    /// Refused with `Unknown` where the name isn't in the top level, and else with `Memory` where there is none. The graph
-    /// stays as it was then. The steps grow by at most the sum of 2·(n+2)^5 over the clusters that are left of the name's
-    /// one, where n is the number of names of each.
+    /// The solver takes at most the sum of 2·(n+2)^5 steps over the clusters of n transactions that are left of the
+    /// transaction's cluster. It takes none where the call is refused for another reason than memory.
+    ///
+    /// # Errors
+    ///
+    /// Answers the first of these that holds, and leaves the graph as it was:
+    ///
+    /// - [`Refusal::Unknown`]: the transaction isn't in the top level.
+    /// - [`Refusal::Memory`]: there is no memory.
     pub fn remove<L: Ledger>(&mut self, id: TxId, steps: &mut Steps<L>) -> Result<(), Refusal>
         ensures step { MakesStep self.old self.new (Remove id) (change_reply result) }
         ensures stays { AllStay self.old.levels self.new.levels }
         ensures additions { self.new.levels.issued ≡ self.old.levels.issued }
         ensures refused { IfErr result (λ why. why ≢ Memory → steps.new ≡ steps.old) }
-        ensures grew { steps.old ≤ steps.new }
-        ensures steps { (c : records.Cluster) (lists : List (List ℕ))
-            → IsClusterOf (level_at self.old.levels Top).graph id c → AreComponents c.graph (id ∷ []) lists
-            → steps.new ≤ steps.old + most_steps_of lists }
+        ensures steps { DropsWithin (id ∷ []) (level_at self.old.levels Top).graph steps.old steps.new }
     {
         if !self.levels.has(Level::Top, id) {
             return Err(Refusal::Unknown(id));
@@ -303,9 +341,11 @@ impl<const W: usize> TxGraph<W> {
         self.levels.is_staged()
     }
 
-    /// Opens a staging: a copy of main, with its order. Takes no memory, and solves nothing.
+    /// Opens a staging: a copy of main, with main's order. Takes no memory, and solves nothing.
     ///
-    /// Refused with `Staging` exactly where one is open. The graph stays as it was then.
+    /// # Errors
+    ///
+    /// Answers [`Refusal::Staging`], and leaves the graph as it was, exactly where a staging is open.
     pub fn stage(&mut self) -> Result<(), Refusal>
         ensures step { MakesStep self.old self.new Stage (change_reply result) }
         ensures additions { self.new.levels.issued ≡ self.old.levels.issued }
@@ -318,9 +358,11 @@ impl<const W: usize> TxGraph<W> {
         Ok(())
     }
 
-    /// Makes main what staging is, its order included, and closes it. Takes no memory, and solves nothing.
+    /// Makes main what staging is, with staging's order, and closes the staging. Takes no memory, and solves nothing.
     ///
-    /// Refused with `NoStaging` exactly where no staging is open. The graph stays as it was then.
+    /// # Errors
+    ///
+    /// Answers [`Refusal::NoStaging`], and leaves the graph as it was, exactly where no staging is open.
     pub fn commit(&mut self) -> Result<(), Refusal>
         ensures step { MakesStep self.old self.new Commit (change_reply result) }
         ensures additions { self.new.levels.issued ≡ self.old.levels.issued }
@@ -331,9 +373,11 @@ impl<const W: usize> TxGraph<W> {
         Ok(())
     }
 
-    /// Drops staging; main keeps its order. Takes no memory, and solves nothing.
+    /// Drops the staging. Main keeps its order, and a fee that was set meanwhile stays set. Takes no memory, and solves nothing.
     ///
-    /// Refused with `NoStaging` exactly where no staging is open. The graph stays as it was then.
+    /// # Errors
+    ///
+    /// Answers [`Refusal::NoStaging`], and leaves the graph as it was, exactly where no staging is open.
     pub fn abort(&mut self) -> Result<(), Refusal>
         ensures step { MakesStep self.old self.new Abort (change_reply result) }
         ensures additions { self.new.levels.issued ≡ self.old.levels.issued }
@@ -344,10 +388,12 @@ impl<const W: usize> TxGraph<W> {
         Ok(())
     }
 
-    /// How staging's diagram stands to main's: `Better` where it is at or above main's at every size and not everywhere
-    /// equal. Takes no memory.
+    /// How staging's feerate diagram stands to main's: `Better` where staging's is at or above main's at every size and above it
+    /// at some, `Worse` the other way round, `Equal` where the two are the same, and else `Incomparable`. Takes no memory.
     ///
-    /// Refused with `NoStaging` exactly where no staging is open.
+    /// # Errors
+    ///
+    /// Answers [`Refusal::NoStaging`] exactly where no staging is open.
     pub fn compare(&self) -> Result<Verdict, Refusal>
         ensures step { MakesStep self.now self.now Compare (compare_reply result) }
     {
@@ -356,9 +402,12 @@ impl<const W: usize> TxGraph<W> {
         Ok(found)
     }
 
-    /// Commits staging exactly where it is better than main, and else drops it. Takes no memory, and solves nothing.
+    /// Commits the staging exactly where [`compare`](TxGraph::compare) would answer `Better`, and else drops it. Answers the
+    /// verdict. Takes no memory, and solves nothing.
     ///
-    /// Refused with `NoStaging` exactly where no staging is open. The graph stays as it was then.
+    /// # Errors
+    ///
+    /// Answers [`Refusal::NoStaging`], and leaves the graph as it was, exactly where no staging is open.
     pub fn settle(&mut self) -> Result<Verdict, Refusal>
         ensures step { MakesStep self.old self.new Settle (settle_reply result) }
         ensures additions { self.new.levels.issued ≡ self.old.levels.issued }
@@ -370,9 +419,11 @@ impl<const W: usize> TxGraph<W> {
         Ok(verdict)
     }
 
-    /// Leaves the names of the cluster of a name of a level in `out`, in rising order. Takes no memory.
+    /// Leaves the transactions of a transaction's cluster in `out`, itself among them, in rising order. Takes no memory.
     ///
-    /// Refused with `Unknown` exactly where the name isn't in the level. `out` stays as it was then.
+    /// # Errors
+    ///
+    /// Answers [`Refusal::Unknown`], and leaves `out` as it was, exactly where the transaction isn't in the level.
     pub fn cluster(&self, level: Level, id: TxId, out: &mut IdBuf) -> Result<(), Refusal>
         requires { 64 * W ≤ length out.old.ids + out.old.room }
         ensures step { MakesStep self.now self.now (Cluster id level) (names_reply result out.new.ids) }
@@ -386,9 +437,11 @@ impl<const W: usize> TxGraph<W> {
         Ok(())
     }
 
-    /// Leaves the ancestors of a name of a level in `out`, in rising order, itself among them. Takes no memory.
+    /// Leaves the ancestors of a transaction in `out`, itself among them, in rising order. Takes no memory.
     ///
-    /// Refused with `Unknown` exactly where the name isn't in the level. `out` stays as it was then.
+    /// # Errors
+    ///
+    /// Answers [`Refusal::Unknown`], and leaves `out` as it was, exactly where the transaction isn't in the level.
     pub fn ancestors(&self, level: Level, id: TxId, out: &mut IdBuf) -> Result<(), Refusal>
         requires { 64 * W ≤ length out.old.ids + out.old.room }
         ensures step { MakesStep self.now self.now (Ancestors id level) (names_reply result out.new.ids) }
@@ -402,9 +455,11 @@ impl<const W: usize> TxGraph<W> {
         Ok(())
     }
 
-    /// Leaves the descendants of a name of a level in `out`, in rising order, itself among them. Takes no memory.
+    /// Leaves the descendants of a transaction in `out`, itself among them, in rising order. Takes no memory.
     ///
-    /// Refused with `Unknown` exactly where the name isn't in the level. `out` stays as it was then.
+    /// # Errors
+    ///
+    /// Answers [`Refusal::Unknown`], and leaves `out` as it was, exactly where the transaction isn't in the level.
     pub fn descendants(&self, level: Level, id: TxId, out: &mut IdBuf) -> Result<(), Refusal>
         requires { 64 * W ≤ length out.old.ids + out.old.room }
         ensures step { MakesStep self.now self.now (Descendants id level) (names_reply result out.new.ids) }
@@ -418,11 +473,12 @@ impl<const W: usize> TxGraph<W> {
         Ok(())
     }
 
-    /// The parts of a level in its order, each with its names and the flows that certify it. Takes no memory.
+    /// The chunks of a level in the level's order, each with its fee and size, its transactions, and the flows that certify it.
+    /// Takes no memory.
     ///
-    /// They are the pick of every state that the graph stands for, an optimal order of the whole level, and none of them can be
-    /// cut further: no proper set of its names, closed within it, has its rate. A text of it that lists its covering pairs proves
-    /// that it is optimal.
+    /// The order is an optimal linearization of the whole level: no front of any linearization lies above its feerate diagram. No
+    /// chunk can be split further: no smaller set of its transactions, closed within it, has its feerate. A certificate text that
+    /// lists these chunks is what the machine answers to `proof`.
     pub fn order(&self, level: Level) -> Order<'_, W>
         ensures parts { result ≡ (level_at self.now.levels level).parts }
         ensures step { MakesStep self.now self.now (commands.Order level) (Parts result) }
@@ -436,17 +492,18 @@ impl<const W: usize> TxGraph<W> {
         Forward::new(self.levels.parts(level))
     }
 
-    /// The same parts from the last to the first. Takes no memory.
+    /// The same chunks from the last to the first. Takes no memory.
     pub fn order_back(&self, level: Level) -> OrderBack<'_, W>
         ensures { rev_source result ≡ (level_at self.now.levels level).parts }
     {
         self.order(level).rev()
     }
 
-    /// The corners of a level's diagram, from (0, 0) on: the ends of its parts where equal rates are joined. Takes no
-    /// memory.
+    /// The corners of a level's feerate diagram, from (0, 0) on: sizes in virtual bytes, each with the most that a closed set of
+    /// that size pays, in satoshis. Takes no memory.
     ///
-    /// They are the corners of the graph of every state that the graph stands for, whichever order it has.
+    /// The corners are the ends of the chunks, where chunks of equal feerate count as one. Every optimal order of the level has
+    /// the same corners.
     pub fn diagram(&self, level: Level) -> Diagram<'_, W>
         ensures can { ⟦<Diagram<'static, W> as Iterator>⟧.can_next result }
         ensures ends { IsFinite (⟦<Diagram<'static, W> as Iterator>⟧.remaining result) }
@@ -456,9 +513,11 @@ impl<const W: usize> TxGraph<W> {
         corners(self.levels.rates(level))
     }
 
-    /// The part of main that has a name. Takes no memory.
+    /// The chunk of main's order that has a transaction. Takes no memory.
     ///
-    /// Refused with `Unknown` exactly where the name isn't in main.
+    /// # Errors
+    ///
+    /// Answers [`Refusal::Unknown`] exactly where the transaction isn't in main.
     pub fn chunk(&self, id: TxId) -> Result<PartRef<'_>, Refusal>
         ensures step { MakesStep self.now self.now (Chunk id) (part_reply result) }
     {
@@ -468,9 +527,12 @@ impl<const W: usize> TxGraph<W> {
         }
     }
 
-    /// Where one name stands to another in main's order: `Same` exactly where they are the same. Takes no memory.
+    /// Where `a` stands to `b` in main's order: `Before`, `After`, or `Same` exactly where they are the same transaction. Takes no
+    /// memory.
     ///
-    /// Refused with `Unknown` and the first of the two that isn't in main.
+    /// # Errors
+    ///
+    /// Answers [`Refusal::Unknown`], with the first of the two that isn't in main.
     pub fn before(&self, a: TxId, b: TxId) -> Result<Place, Refusal>
         ensures step { MakesStep self.now self.now (Before a b) (place_reply result) }
     {
@@ -483,7 +545,8 @@ impl<const W: usize> TxGraph<W> {
         Ok(self.levels.place(a, b))
     }
 
-    /// The parents of a name of a level with nothing between, as they stand in its order. Takes no memory.
+    /// The parents of a transaction with no third transaction between, as they stand in the level's order. Takes no memory. The
+    /// transaction is in the level.
     pub fn covers(&self, level: Level, id: TxId) -> Covers<'_, W>
         requires { is_member (level_at self.now.levels level).graph id ≡ true }
         ensures { ListsCovers (level_at self.now.levels level).graph (order_of (level_at self.now.levels level).parts) id
@@ -492,14 +555,14 @@ impl<const W: usize> TxGraph<W> {
         self.levels.covers(level, id)
     }
 
-    /// How many names a level has.
+    /// How many transactions a level has.
     pub fn count(&self, level: Level) -> usize
         ensures { MakesStep self.now self.now (Count level) (Number result) }
     {
         self.levels.count(level)
     }
 
-    /// Whether a level has the name.
+    /// Whether a level has the transaction.
     pub fn exists(&self, level: Level, id: TxId) -> bool
         ensures { (state : State) → StandsFor self.now state → IsTrue result
             ↔ Contains (level_of state.plain level).names id }
@@ -507,7 +570,7 @@ impl<const W: usize> TxGraph<W> {
         self.levels.has(level, id)
     }
 
-    /// The fee of a name of a level, in satoshis, and its size, in virtual bytes.
+    /// The fee of a transaction, in satoshis, and its size, in virtual bytes. The transaction is in the level.
     pub fn rate(&self, level: Level, id: TxId) -> FeeRate
         requires { is_member (level_at self.now.levels level).graph id ≡ true }
         ensures { result ≡ rate_of (level_at self.now.levels level).graph id }
@@ -518,8 +581,7 @@ impl<const W: usize> TxGraph<W> {
         }
     }
 
-    /// The fee of a live name, in satoshis, and its size, in virtual bytes; `None` where the name is neither in main nor in
-    /// staging.
+    /// The fee of a transaction, in satoshis, and its size, in virtual bytes; `None` where it is neither in main nor in staging.
     pub fn sums(&self, id: TxId) -> Option<FeeRate>
         ensures { (state : State) → StandsFor self.now state
             → finmap.get state.plain.table id ≡ option_map (λ rate. record { fee = rate.fee; size = rate.size }) result }

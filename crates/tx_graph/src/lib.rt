@@ -1,7 +1,24 @@
-//! The transaction graph by clusters.
+//! The transaction graph of a cluster mempool.
 //!
-//! A [`TxGraph<W>`] finds a name's cluster by an index and changes that cluster alone. It stands for the states of the
-//! machine that `graph_model` defines, and each call is a step of it.
+//! A [`TxGraph<W>`] stands for states of the machine that `graph_model` defines, and each call is a step of that machine.
+//!
+//! # How it works
+//!
+//! An index finds a transaction's cluster, and a call changes that cluster alone. Nothing walks all live transactions but a reading that tells
+//! of all of them.
+//!
+//! - `add` takes a few look-ups. So do a dependency and a fee that are there already.
+//! - `cluster`, `ancestors` and `descendants` take as many steps as the cluster has members, and a sort.
+//! - `dep`, `fee` and `remove` make the changed clusters anew: they copy the members, with a few word operations for each, solve each new cluster
+//!   once, and put the chunks that differ into the index of all chunks. The names of the smaller of two joined clusters, or of all but the
+//!   largest of those that are left, get another cluster number.
+//! - While a staging is open, a cluster that main keeps isn't changed. Another takes its place in staging, under a number of its own.
+//! - `stage` sets a flag. `commit` and `abort` go over the clusters of one level alone, so they cost what staging changed.
+//! - `compare` and `settle` walk the chunks that stand in one level alone. Where the last chunk of a level has a fee below 0, they also walk the
+//!   worst of the chunks in both levels, from the last one upward while fees are below 0, until these are as large as the difference
+//!   between the sizes of what stands in one level alone.
+//! - `order` and `diagram` walk the index. No reading takes memory.
+//! - A change takes all its memory before it changes anything. So a call that is refused for want of memory leaves the graph as it was.
 #![tactic(auto)]
 
 mod graph;

@@ -1,11 +1,11 @@
 -- The names of one cluster more have its number.
-use Rattle.std.proofs.Common.{◌≡◌, ◌≤◌, ◌<◌, ℕ, List, length, slice_index_or, is_some, ap, ◌∙◌, subst, arith}
+use Rattle.std.proofs.Common.{◌≡◌, ◌≤◌, ◌<◌, ℕ, List, length, drop, slice_index_or, is_some, ap, ◌∙◌, subst, arith}
 use Rattle.std.specs.List.{AllPairs}
 use Rattle.cluster.specs.Clusters.{AreApart}
 use Rattle.staging.specs.Maps.{top_of}
 use Rattle.levels.specs.Changes.{PointsOne}
 use Rattle.levels.specs.Shelves.{stored_at}
-use Rattle.levels.proofs.Pointing.{PointsAllTo, all_more, all_of, base_more, got_here, one_at, one_list, room_at}
+use Rattle.levels.proofs.Pointing.{PointsAllTo, all_more, all_of, base_more, got_here, names_in, one_at, one_list, room_at}
 use Rattle.levels.proofs.Rooms.{cluster_fits}
 use Rattle.levels.proofs.numbers.point_all.Goals as goal
 
@@ -20,7 +20,8 @@ pub point-requires : goal.point-requires
 point-requires g c =
     let low : c.loop-i.i < length c.args.list.now = omega arith in
     let found = c.requires.clusters.0 in
-    let room = c.loop-i.invariant.room found c.requires.clusters.1 c.requires.clusters.3 in
+    let few = c.loop-i.invariant.room found c.requires.clusters.1 in
+    let room : names_in (drop c.loop-i.i found) ≤ c.loop-i.numbers.spare = omega (arith, few, c.requires.clusters.3) in
     let one = got_here (stored_at c.args.store.now.clusters) c.args.list.now found c.loop-i.i c.at.result.now c.requires.clusters.1 low c.at.ensures in
     omega (arith, room_at found c.loop-i.i c.loop-i.numbers.spare c.at.result.now one room, ap length c.names.ensures.names)
 
@@ -37,11 +38,13 @@ loop-i-preserved g c =
           (got_here at c.args.list.now found c.loop-i.i c.at.result.now are low c.at.ensures) points;
       staged = c.point.ensures.staged ∙ c.loop-i.invariant.staged;
       base = base_more c.args.numbers.now c.loop-i.numbers c.point.new.numbers c.loop-i.invariant.staged c.loop-i.invariant.base c.point.ensures.base;
-      room = λ found are few.
+      room = λ found are.
           let one = got_here at c.args.list.now found c.loop-i.i c.at.result.now are low c.at.ensures in
+          let all : names_in (drop c.loop-i.i found) ≤ names_in (drop c.loop-i.i found) = omega arith in
           omega (
             arith,
-            room_at found c.loop-i.i c.loop-i.numbers.spare c.at.result.now one (c.loop-i.invariant.room found are few),
+            room_at found c.loop-i.i (names_in (drop c.loop-i.i found)) c.at.result.now one all,
+            c.loop-i.invariant.room found are,
             ap length c.names.ensures.names,
             c.point.ensures.room,
           );
@@ -58,3 +61,6 @@ returns-clause-points g c found are =
 
 pub names-requires : goal.names-requires
 names-requires g c = cluster_fits g.row.W c.requires.narrow
+
+pub returns-clause-room : goal.returns-clause-room
+returns-clause-room g c found are = omega (arith, c.loop-i.invariant.room found are)

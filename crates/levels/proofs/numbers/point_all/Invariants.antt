@@ -1,5 +1,5 @@
 -- the names of the clusters so far have their numbers
-use Rattle.std.proofs.Common.{◌≡◌, ◌≤◌, List, is_some, length, drop}
+use Rattle.std.proofs.Common.{◌≡◌, ◌+◌, ◌≤◌, List, is_some, length, drop}
 use Rattle.std.specs.Prelude.{sum_by, OnSome}
 use Rattle.std.specs.List.{AllPairs}
 use Rattle.cluster.specs.Clusters.{Cluster, AreApart}
@@ -16,5 +16,5 @@ invariant-loop-i g l = record {
   staged : is_some l.numbers.top ≡ is_some l.fn.numbers.top;
   base : OnSome l.fn.numbers.top (l.numbers.base ≡ l.fn.numbers.base);
   room : (clusters : List Cluster) → AreAt (stored_at l.store.clusters) l.list clusters
-      → sum_by (λ c. length c.names) clusters ≤ l.fn.numbers.spare → sum_by (λ c. length c.names) (drop l.i clusters) ≤ l.numbers.spare;
+      → l.fn.numbers.spare + sum_by (λ c. length c.names) (drop l.i clusters) ≤ l.numbers.spare + sum_by (λ c. length c.names) clusters;
 }

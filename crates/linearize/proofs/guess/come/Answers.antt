@@ -1,8 +1,6 @@
-use Rattle.std.proofs.Common.{rules, ◌≡◌, ◌*◌, true, ap, subst, arith}
+use Rattle.std.proofs.Common.{rules, ◌≡◌, true, subst}
 use Rattle.std.specs.FinSet as set
-use Rattle.lists.proofs.Keys.{set_drop}
-use Rattle.bitset.specs.Places.{IsWithin}
-use Rattle.bitset.specs.Members.{from_meet, from_remove, minus_parts}
+use Rattle.bitset.specs.Members.{from_meet, minus_parts}
 use Rattle.linearize.proofs.Sizes.{words_fit, group_fits}
 use Rattle.linearize.proofs.guess.come.Goals as goal
 
@@ -14,18 +12,6 @@ least-requires g c = words_fit g.row.W c.requires.narrow
 
 pub minus-requires : goal.minus-requires
 minus-requires g c = words_fit g.row.W c.requires.narrow
-
-pub meet-above-requires : goal.meet-above-requires
-meet-above-requires g c = words_fit g.row.W c.requires.narrow
-
-pub least-requires-in-loop-first : goal.least-requires-in-loop-first
-least-requires-in-loop-first g c = words_fit g.row.W c.requires.narrow
-
-pub settle-requires : goal.settle-requires
-settle-requires g c = (group_fits g.row.W c.requires.narrow, c.loop-first.invariant.2)
-
-pub settle-requires-2 : goal.settle-requires-2
-settle-requires-2 g c = (group_fits g.row.W c.requires.narrow, c.loop-first.invariant.2)
 
 pub group_of-group-requires : goal.group_of-group-requires
 group_of-group-requires g c = (
@@ -45,24 +31,23 @@ group_of-group-requires g c = (
   ),
 )
 
-pub loop-first-init : goal.loop-first-init
-loop-first-init g c = (
-  λ p m. c.requires.members p (minus_parts _ _ p (subst (λ s. set.contains s p ≡ true) c.minus.ensures m)).0,
-  λ p m. c.requires.members p (minus_parts _ _ p (subst (λ s. set.contains s p ≡ true) c.minus.ensures
-      (from_meet _ _ p (subst (λ s. set.contains s p ≡ true) c.meet-above.ensures m)).1)).0,
-  c.requires.room,
-)
-
-pub loop-first-smaller : goal.loop-first-smaller
-loop-first-smaller g c =
-    let within : IsWithin (64 * g.row.W) c.loop-first.above = λ k m. c.requires.closed.within k (c.loop-first.invariant.1 k m) in
-    let some = set_drop c.loop-first.above c.top-next.result c.top-next.ensures.there in
-    let is = ap (λ s. set.len s) c.remove.ensures in
-    omega (arith, some, is)
-
-pub loop-first-preserved : goal.loop-first-preserved
-loop-first-preserved g c = (
-  λ p m. c.loop-first.invariant.0 p (from_remove _ _ p (subst (λ s. set.contains s p ≡ true) c.remove-in-Some.ensures m)).1,
-  λ p m. c.loop-first.invariant.1 p (from_remove _ _ p (subst (λ s. set.contains s p ≡ true) c.remove.ensures m)).1,
-  c.settle.ensures.room,
+pub come_behind-requires : goal.come_behind-requires
+come_behind-requires g c = (
+  search rules,
+  (
+    group_fits g.row.W c.requires.narrow,
+    (
+      words_fit g.row.W c.requires.narrow,
+      (
+        c.requires.narrow,
+        (
+          c.requires.closed,
+          (
+            λ p m. c.requires.members p (minus_parts _ _ p (subst (λ s. set.contains s p ≡ true) c.minus.ensures m)).0,
+            c.requires.room,
+          ),
+        ),
+      ),
+    ),
+  ),
 )

@@ -1,7 +1,6 @@
 use Rattle.std.proofs.Common.{◌*◌}
-use Rattle.graphs.specs.Closures.{members_of}
 use Rattle.linearize.proofs.Places.{Linked}
 use Rattle.linearize.proofs.linear.link.Given as goal
 
 abbrev pub invariant-loop-place : goal.invariant-loop-place
-invariant-loop-place g l = Linked (64 * g.row.W) l.dep (members_of l.dep) l.parents l.yielded l.place-iterator
+invariant-loop-place g l = Linked (64 * g.row.W) l.dep l.members l.parents l.yielded l.place-iterator

@@ -19,6 +19,23 @@ use Rattle.linearize.proofs.Sizes.{words_fit, scratch_fits}
 use Rattle.linearize.proofs.Solves.{least_of, most_of}
 use Rattle.linearize.proofs.linear.optimal.Goals as goal
 
+pub link-requires : goal.link-requires
+link-requires g c =
+    let dep = c.args.dep.now in
+    let is : c.members-members.result ≡ members_of dep = c.members-members.ensures.members in (
+      search rules,
+      (
+        words_fit g.row.W c.out.invariant.4,
+        (
+          c.out.invariant.4,
+          (
+            λ p m. sym (contains-members_of dep p) ∙ subst (λ s. fin.contains s p ≡ true) is m,
+            (let room = c.out.invariant.2 in omega (arith, room, c.as_mut_slice-parents.ensures.len)),
+          ),
+        ),
+      ),
+    )
+
 pub split-requires : goal.split-requires
 split-requires g c =
     let n : ℕ = 64 * g.row.W in

@@ -19,7 +19,7 @@ is_subset-requires g c = words_fit g.row.W c.requires.narrow
 
 pub put_next-requires : goal.put_next-requires
 put_next-requires g c =
-    let ready = c.requires.ready in
+    let ready = c.requires.members in
     let stands = c.loop-group.invariant.0 in (
       scratch_fits g.row.W c.requires.narrow,
       (
@@ -33,13 +33,13 @@ put_next-requires g c =
               (
                 c.requires.narrow,
                 (
-                  begun (64 * g.row.W) c.args.dep.now c.args.members.now c.loop-group.done ready.closed ready.members c.loop-group.draft
-                      c.args.steps.now c.loop-group.steps stands c.args.parents.now ready.covers ready.few ready.rates,
+                  begun (64 * g.row.W) c.args.dep.now c.args.members.now c.loop-group.done ready.closed ready.held c.loop-group.draft
+                      c.args.steps.now c.loop-group.steps stands ready.few ready.rates,
                   (
                     c.requires.known,
                     (
                       (stands.ids, stands.flows),
-                      (let long = c.requires.weights in omega (arith, long)),
+                      (let long = c.requires.room in (omega (arith, long.0), omega (arith, long.1))),
                     ),
                   ),
                 ),
@@ -52,8 +52,8 @@ put_next-requires g c =
 
 pub loop-group-preserved : goal.loop-group-preserved
 loop-group-preserved g c =
-    let ready = c.requires.ready in (
-      stands_next (64 * g.row.W) c.args.dep.now c.args.members.now c.loop-group.done ready.closed ready.members c.loop-group.draft
+    let ready = c.requires.members in (
+      stands_next (64 * g.row.W) c.args.dep.now c.args.members.now c.loop-group.done ready.closed ready.held c.loop-group.draft
           c.args.steps.now c.loop-group.steps c.loop-group.invariant.0 c.put_next.new.draft c.in-Some.all c.in-Some.ensures.extends c.put_next.new.steps
           c.in-Some.ensures.some,
       at_least_both _ _ _ _ _ _ c.args.steps.now c.loop-group.steps c.put_next.new.steps (omega arith) c.loop-group.invariant.1
@@ -62,8 +62,8 @@ loop-group-preserved g c =
 
 pub returns-in-None-clause-most : goal.returns-in-None-clause-most
 returns-in-None-clause-most g c =
-    let ready = c.requires.ready in
-    tried (64 * g.row.W) c.args.dep.now c.args.members.now c.loop-group.done ready.closed ready.members c.loop-group.draft
+    let ready = c.requires.members in
+    tried (64 * g.row.W) c.args.dep.now c.args.members.now c.loop-group.done ready.closed ready.held c.loop-group.draft
     c.args.steps.now c.loop-group.steps c.loop-group.invariant.0 c.put_next.new.steps c.put_next.ensures.none
 
 pub returns-in-None-clause-counted : goal.returns-in-None-clause-counted
@@ -73,15 +73,15 @@ returns-in-None-clause-counted g c =
 
 pub returns-then-is_subset-clause-parts : goal.returns-then-is_subset-clause-parts
 returns-then-is_subset-clause-parts g c = λ falls.
-    all_parts (64 * g.row.W) c.args.dep.now c.args.members.now c.loop-group.done c.requires.ready.closed c.requires.ready.members c.loop-group.draft
+    all_parts (64 * g.row.W) c.args.dep.now c.args.members.now c.loop-group.done c.requires.members.closed c.requires.members.held c.loop-group.draft
     c.args.steps.now c.loop-group.steps c.loop-group.invariant.0 (sym c.is_subset.ensures ∙ c.if-is_subset.true) _ c.parts.ensures (c.fall.ensures falls)
 
 pub returns-then-is_subset-clause-most : goal.returns-then-is_subset-clause-most
 returns-then-is_subset-clause-most g c =
-    so_far (64 * g.row.W) c.args.dep.now c.args.members.now c.loop-group.done c.requires.ready.closed c.requires.ready.members c.loop-group.draft
+    so_far (64 * g.row.W) c.args.dep.now c.args.members.now c.loop-group.done c.requires.members.closed c.requires.members.held c.loop-group.draft
     c.args.steps.now c.loop-group.steps c.loop-group.invariant.0
 
 pub returns-else-is_subset-clause-most : goal.returns-else-is_subset-clause-most
 returns-else-is_subset-clause-most g c =
-    so_far (64 * g.row.W) c.args.dep.now c.args.members.now c.loop-group.done c.requires.ready.closed c.requires.ready.members c.loop-group.draft
+    so_far (64 * g.row.W) c.args.dep.now c.args.members.now c.loop-group.done c.requires.members.closed c.requires.members.held c.loop-group.draft
     c.args.steps.now c.loop-group.steps c.loop-group.invariant.0

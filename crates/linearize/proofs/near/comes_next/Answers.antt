@@ -1,29 +1,21 @@
-use Rattle.std.proofs.Common.{◌≡◌, ℕ, ◌*◌, true, inl, inr, ap, subst, ◌∙◌, sym, refl, arith}
+use Rattle.std.proofs.Common.{rules, ◌≡◌, ℕ, ◌*◌, true, inl, inr, ap, subst, ◌∙◌, sym, arith}
 use Rattle.std.proofs.lemmas.Bool.{cases_eq}
-use Rattle.std.proofs.lemmas.List.{get_or_read_under}
 use Rattle.std.specs.FinSet as set
 use Rattle.lists.proofs.Cases.{clash}
 use Rattle.lists.proofs.Keys.{set_drop}
 use Rattle.bitset.specs.Sets.{contains-empty}
-use Rattle.closure_flow.specs.Closures.{parents_at}
+use Rattle.graphs.specs.Closures.{is_ancestor}
 use Rattle.bitset.specs.Members.{from_remove, to_remove, minus_parts, from_union}
 use Rattle.linearize.proofs.Nexts.{inside, some_of}
+use Rattle.linearize.proofs.Sizes.{words_fit}
 use Rattle.linearize.proofs.near.comes_next.Goals as goal
 
-pub offset_bounds-parents-place : goal.offset_bounds-parents-place
-offset_bounds-parents-place g c =
+pub ancestors-requires : goal.ancestors-requires
+ancestors-requires g c =
     let both = minus_parts c.args.members.now c.args.done.now c.in-Some.place (subst (λ s. set.contains s c.in-Some.place ≡ true) c.minus.ensures
     (inside c.args.group.now c.minus.result (sym c.is_subset.ensures ∙ c.if-not-is_subset.false) c.in-Some.place
     (c.loop-place.invariant.0 c.in-Some.place c.in-Some.ensures.least.member))) in
-    let below = c.requires.there c.in-Some.place both.0 in
-    omega (arith, below)
-
-pub bounds-parents-place : goal.bounds-parents-place
-bounds-parents-place g c =
-    let both = minus_parts c.args.members.now c.args.done.now c.in-Some.place (subst (λ s. set.contains s c.in-Some.place ≡ true) c.minus.ensures
-    (inside c.args.group.now c.minus.result (sym c.is_subset.ensures ∙ c.if-not-is_subset.false) c.in-Some.place
-    (c.loop-place.invariant.0 c.in-Some.place c.in-Some.ensures.least.member))) in
-    c.requires.there c.in-Some.place both.0
+    (search rules, (words_fit g.row.W c.requires.narrow, c.requires.members c.in-Some.place both.0))
 
 pub loop-place-smaller : goal.loop-place-smaller
 loop-place-smaller g c =
@@ -34,16 +26,12 @@ loop-place-smaller g c =
 pub loop-place-preserved : goal.loop-place-preserved
 loop-place-preserved g c = (
   λ t m. c.loop-place.invariant.0 t (from_remove _ _ t (subst (λ s. set.contains s t ≡ true) c.remove.ensures m)).1,
-  λ p d in_group gone above. elim (cases_eq d c.in-Some.place) as (λ _. set.contains c.union-known.result p ≡ true) [
+  λ p d in_group gone cover. elim (cases_eq d c.in-Some.place) as (λ _. set.contains c.union-known.result p ≡ true) [
     | inl same ↦ inside _ _ (sym c.is_subset-in-Some.ensures ∙ c.if-not-is_subset-2.false) p
-        (subst (λ s. set.contains s p ≡ true)
-        (sym (get_or_read_under c.args.parents.now c.in-Some.place _ _ set.empty c.index-parents-place.is
-        (c.requires.there _ (minus_parts c.args.members.now c.args.done.now c.in-Some.place (subst (λ s. set.contains s c.in-Some.place ≡ true) c.minus.ensures
-        (inside c.args.group.now c.minus.result (sym c.is_subset.ensures ∙ c.if-not-is_subset.false) c.in-Some.place
-        (c.loop-place.invariant.0 c.in-Some.place c.in-Some.ensures.least.member)))).0) refl))
-        (subst (λ (k : ℕ). set.contains (parents_at c.args.parents.now k) p ≡ true) same above))
+        (subst (λ s. set.contains s p ≡ true) (sym c.ancestors.ensures)
+        (subst (λ (k : ℕ). is_ancestor c.args.dep.now p k ≡ true) same cover.ancestor))
     | inr other ↦ c.loop-place.invariant.1 p d in_group
-        (λ m. gone (subst (λ s. set.contains s d ≡ true) (sym c.remove.ensures) (to_remove _ _ d other m))) above
+        (λ m. gone (subst (λ s. set.contains s d ≡ true) (sym c.remove.ensures) (to_remove _ _ d other m))) cover
   ],
 )
 
@@ -55,6 +43,6 @@ returns g c = λ _. record {
       (inside c.args.group.now c.minus.result (sym c.is_subset.ensures ∙ c.if-not-is_subset.false) t m))).0;
   apart = λ t m. (minus_parts c.args.members.now c.args.done.now t (subst (λ s. set.contains s t ≡ true) c.minus.ensures
       (inside c.args.group.now c.minus.result (sym c.is_subset.ensures ∙ c.if-not-is_subset.false) t m))).1;
-  parents_known = λ p d m above. from_union c.args.done.now c.args.group.now p (subst (λ s. set.contains s p ≡ true) c.union-known.ensures
-      (c.loop-place.invariant.1 p d m (λ l. clash _ l (ap (λ s. set.contains s d) c.in_default.ensures.least ∙ contains-empty d)) above));
+  parents_known = λ p d m cover. from_union c.args.done.now c.args.group.now p (subst (λ s. set.contains s p ≡ true) c.union-known.ensures
+      (c.loop-place.invariant.1 p d m (λ l. clash _ l (ap (λ s. set.contains s d) c.in_default.ensures.least ∙ contains-empty d)) cover));
 }

@@ -8,7 +8,6 @@ use Rattle.bitset.specs.Places.{IsWithin}
 use Rattle.linearize.specs.Graphs.{sum_at}
 use Rattle.linearize.specs.Near.{AreParts, most_tried}
 use Rattle.linearize.proofs.Final.{certificate, has_sizes, minimal}
-use Rattle.linearize.proofs.Joined.{start_room}
 use Rattle.graphs.proofs.ClosureGraphs.{closures_have_graphs}
 use Rattle.linearize.proofs.Sizes.{words_fit, scratch_fits, group_fits}
 use Rattle.linearize.proofs.Solves.{at_least_all, at_least_both}
@@ -61,16 +60,17 @@ are_parts-requires g c =
               (
                 narrow,
                 (
-                  record {
-                    closed = closed;
-                    members = member;
-                    some = (let some = c.requires.some in omega (arith, len, some));
-                    few = (let few = c.requires.few in omega (arith, len, few));
-                    rates = c.requires.rates;
-                    covers = c.link.ensures;
-                    room = start_room n c.members-members.result c.clear.new.self within c.clear.ensures;
-                  },
-                  (c.requires.known, (c.clear.ensures, (let room = c.out.invariant.3 in omega (arith, room, c.as_mut_slice-weights.ensures.len)))),
+                  record { closed = closed; held = member; few = (let few = c.requires.few in omega (arith, len, few)); rates = c.requires.rates },
+                  (
+                    c.requires.known,
+                    (
+                      c.clear.ensures,
+                      (
+                        (let room = c.out.invariant.2 in omega (arith, room, c.as_mut_slice-parents.ensures.len)),
+                        (let room = c.out.invariant.3 in omega (arith, room, c.as_mut_slice-weights.ensures.len)),
+                      ),
+                    ),
+                  ),
                 ),
               ),
             ),

@@ -21,7 +21,7 @@ put_known-requires g c =
       search rules,
       (
         words_fit g.row.W c.requires.narrow,
-        (lit< tt, (c.requires.narrow, ((c.args.parents.now, c.requires.begun), (known, c.requires.open)))),
+        (lit< tt, (c.requires.narrow, (c.requires.begun, (known, c.requires.open)))),
       ),
     )
 

@@ -8,7 +8,20 @@ use Rattle.linearize.proofs.Sizes.{words_fit, scratch_fits}
 use Rattle.linearize.proofs.near.put_tried.Goals as goal
 
 pub comes_next-requires : goal.comes_next-requires
-comes_next-requires g c = (words_fit g.row.W c.requires.narrow, λ t m. c.requires.begun.covers.there t (c.requires.begun.held t m))
+comes_next-requires g c = (search rules, (words_fit g.row.W c.requires.narrow, (c.requires.narrow, c.requires.begun.held)))
+
+pub link-requires : goal.link-requires
+link-requires g c =
+    let next = c.comes_next.ensures c.if-not-comes_next.false in (
+      search rules,
+      (
+        words_fit g.row.W c.requires.narrow,
+        (
+          c.requires.narrow,
+          (λ p m. c.requires.begun.held p (next.inside p m), (let long = c.requires.room.0 in omega (arith, long))),
+        ),
+      ),
+    )
 
 pub union-requires : goal.union-requires
 union-requires g c = words_fit g.row.W c.requires.narrow
@@ -26,9 +39,9 @@ split_once-requires g c =
             (
               c.requires.narrow,
               (
-                ready (64 * g.row.W) c.args.dep.now c.args.parents.now c.args.members.now c.args.done.now c.args.group.now c.args.draft.now
-                    c.args.draft.now c.requires.begun next,
-                (let long = c.requires.weights in omega (arith, long)),
+                ready (64 * g.row.W) c.args.dep.now c.link.new.parents c.args.members.now c.args.done.now c.args.group.now c.args.draft.now
+                    c.args.draft.now c.requires.begun next c.link.ensures,
+                (let long = c.requires.room.1 in omega (arith, long)),
               ),
             ),
           ),
@@ -40,15 +53,15 @@ pub returns-clause-extends : goal.returns-clause-extends
 returns-clause-extends g c =
     let next = c.comes_next.ensures c.if-not-comes_next.false in
     subst (λ s. Extends (64 * g.row.W) c.args.dep.now c.args.members.now c.args.done.now c.args.draft.now c.split_once.new.draft s) (sym c.union.ensures)
-    (solved_behind (64 * g.row.W) c.args.dep.now c.args.parents.now c.args.members.now c.args.done.now c.args.group.now c.args.draft.now
+    (solved_behind (64 * g.row.W) c.args.dep.now c.link.new.parents c.args.members.now c.args.done.now c.args.group.now c.args.draft.now
     c.split_once.new.draft c.requires.begun next (c.split_once.ensures.adds c.if-not-split_once.false))
 
 pub returns-clause-some : goal.returns-clause-some
 returns-clause-some g c =
     let next = c.comes_next.ensures c.if-not-comes_next.false in
     let n : ℕ = 64 * g.row.W in
-    let sum = both_lens n c.args.dep.now c.args.parents.now c.args.members.now c.args.done.now c.args.group.now c.args.draft.now c.args.draft.now c.requires.begun next in
-    let fit = both_fit n c.args.dep.now c.args.parents.now c.args.members.now c.args.done.now c.args.group.now c.args.draft.now c.args.draft.now c.requires.begun next in
+    let sum = both_lens n c.args.dep.now c.link.new.parents c.args.members.now c.args.done.now c.args.group.now c.args.draft.now c.args.draft.now c.requires.begun next in
+    let fit = both_fit n c.args.dep.now c.link.new.parents c.args.members.now c.args.done.now c.args.group.now c.args.draft.now c.args.draft.now c.requires.begun next in
     subst (λ s. c.split_once.new.steps + most_tried (fin.len c.args.members.now) * fin.len c.args.done.now
     ≤ c.args.steps.now + most_tried (fin.len c.args.members.now) * fin.len s) (sym c.union.ensures)
     (tried_steps (fin.len c.args.members.now) (fin.len c.args.done.now) (fin.len c.args.group.now) _ c.args.steps.now c.split_once.new.steps sum fit
@@ -58,8 +71,8 @@ pub returns-then-not-split_once-clause-none : goal.returns-then-not-split_once-c
 returns-then-not-split_once-clause-none g c =
     let next = c.comes_next.ensures c.if-not-comes_next.false in
     let n : ℕ = 64 * g.row.W in
-    let sum = both_lens n c.args.dep.now c.args.parents.now c.args.members.now c.args.done.now c.args.group.now c.args.draft.now c.args.draft.now c.requires.begun next in
-    let fit = both_fit n c.args.dep.now c.args.parents.now c.args.members.now c.args.done.now c.args.group.now c.args.draft.now c.args.draft.now c.requires.begun next in
+    let sum = both_lens n c.args.dep.now c.link.new.parents c.args.members.now c.args.done.now c.args.group.now c.args.draft.now c.args.draft.now c.requires.begun next in
+    let fit = both_fit n c.args.dep.now c.link.new.parents c.args.members.now c.args.done.now c.args.group.now c.args.draft.now c.args.draft.now c.requires.begun next in
     (tried_steps (fin.len c.args.members.now) (fin.len c.args.done.now) (fin.len c.args.group.now) _ c.args.steps.now c.split_once.new.steps sum fit
     c.split_once.ensures.most).1
 
@@ -67,8 +80,8 @@ pub returns-clause-none : goal.returns-clause-none
 returns-clause-none g c =
     let next = c.comes_next.ensures c.if-not-comes_next.false in
     let n : ℕ = 64 * g.row.W in
-    let sum = both_lens n c.args.dep.now c.args.parents.now c.args.members.now c.args.done.now c.args.group.now c.args.draft.now c.args.draft.now c.requires.begun next in
-    let fit = both_fit n c.args.dep.now c.args.parents.now c.args.members.now c.args.done.now c.args.group.now c.args.draft.now c.args.draft.now c.requires.begun next in
+    let sum = both_lens n c.args.dep.now c.link.new.parents c.args.members.now c.args.done.now c.args.group.now c.args.draft.now c.args.draft.now c.requires.begun next in
+    let fit = both_fit n c.args.dep.now c.link.new.parents c.args.members.now c.args.done.now c.args.group.now c.args.draft.now c.args.draft.now c.requires.begun next in
     (tried_steps (fin.len c.args.members.now) (fin.len c.args.done.now) (fin.len c.args.group.now) _ c.args.steps.now c.split_once.new.steps sum fit
     c.split_once.ensures.most).1
 

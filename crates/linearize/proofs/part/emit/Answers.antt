@@ -22,7 +22,7 @@ send_all-requires g c =
     let room : 4 * (length (all_flows c.put_places.new.draft) + length list) ≤ n * n =
     (let r = c.requires.room.for_flows in omega (arith, few, all, parts, none, r)) in (
       scratch_fits g.row.W c.requires.narrow,
-      (words_fit g.row.W c.requires.narrow, (lit< tt, (c.requires.narrow, (λ t m. c.requires.covers.there t (c.requires.members t m), room)))),
+      (words_fit g.row.W c.requires.narrow, (lit< tt, (c.requires.narrow, (c.requires.covers.there, room)))),
     )
 
 pub returns-clause-adds : goal.returns-clause-adds

@@ -5,6 +5,7 @@ use Rattle.linearize.specs.Splits.{Adds, HasRoom}
 use Rattle.linearize.specs.Drafts.{Written}
 use Rattle.linearize.specs.Steps.{AddsBySolves}
 use Rattle.linearize.proofs.Joined.{both_lens, first_room, second_room, both_added}
+use Rattle.linearize.proofs.Places.{covers_within}
 use Rattle.linearize.proofs.Sizes.{words_fit, scratch_fits}
 use Rattle.linearize.proofs.Solves.{one_solve, two_solves}
 use Rattle.linearize.proofs.split.+split.Goals as goal
@@ -42,7 +43,7 @@ split-requires g t c κs within =
                         some = some;
                         few = (let few = r.few in omega (arith, lens, few));
                         rates = r.rates;
-                        covers = r.covers;
+                        covers = covers_within dep s first c.args.parents.now r.covers best.upper.inside;
                         room = subst (HasRoom n first) (sym c.in-Some.ensures.draft)
                             (first_room n dep s first r.closed r.members r.rates best c.args.draft.now r.room);
                       },
@@ -94,7 +95,7 @@ split-requires-in-Some g t c κs within =
                         some = omega (arith, same, others);
                         few = (let few = r.few in omega (arith, same, lens, few));
                         rates = r.rates;
-                        covers = r.covers;
+                        covers = covers_within dep s c.minus-rest.result c.args.parents.now r.covers (λ p m. (minus_parts s first p (subst (λ x. fin.contains x p ≡ true) is m)).0);
                         room = subst (λ x. HasRoom n x c.split.new.draft) (sym is)
                             (second_room n dep s first r.closed r.members r.rates best c.args.draft.now c.split.new.draft r.room one);
                       },

@@ -26,7 +26,7 @@ solve-requires g c =
           (
             λ t m. (let low : t < n = within t m in let room = c.requires.weights in omega (arith, low, room, c.weigh.auto.weights)),
             (
-              λ t m. c.requires.ready.covers.there t (c.requires.ready.members t m),
+              c.requires.ready.covers.there,
               (
                 weights_even n c.args.dep.now c.args.parents.now c.weigh.new.weights c.args.within.now are,
                 weights_small n c.weigh.new.weights c.args.within.now within c.requires.ready.few c.weigh.ensures.small,
@@ -69,7 +69,7 @@ pub returns-in-Better-clause-cut : goal.returns-in-Better-clause-cut
 returns-in-Better-clause-cut g c =
     best_of (64 * g.row.W) c.args.dep.now c.args.parents.now c.weigh.new.weights c.args.within.now
     (λ t m. c.weigh.ensures.are t m ∙ ap (λ w. weight_in w (sum_at c.args.dep.now t)) c.sum-whole.ensures.is)
-    c.requires.ready.members c.requires.ready.covers c.in-Better.first
+    c.requires.ready.covers c.in-Better.first
     c.in-Better.ensures.closed c.in-Better.ensures.positive c.in-Better.ensures.greatest
 
 pub returns-in-Better-clause-solve : goal.returns-in-Better-clause-solve

@@ -15,7 +15,7 @@ returns-then-count-clause-cut g c =
     let tight = c.smallest_tight-first.ensures.smallest s.weights s.balanced in
     let less : fin.len first < fin.len c.args.within.now =
     (let few = c.requires.ready.few in omega (arith, few, c.count.ensures.exact, c.count-2.ensures.exact, c.if-count.true)) in
-    cut_on n c.args.dep.now c.args.parents.now s.weights c.args.within.now s.are c.requires.ready.members c.requires.ready.covers first
+    cut_on n c.args.dep.now c.args.parents.now s.weights c.args.within.now s.are c.requires.ready.covers first
     c.count-2.ensures.within s.none tight less
 
 pub emit-requires : goal.emit-requires
@@ -55,7 +55,7 @@ emit-requires g c =
                         (
                           balanced,
                           (
-                            uncut_of n c.args.dep.now c.args.parents.now s.weights c.args.within.now s.are r.members r.covers first
+                            uncut_of n c.args.dep.now c.args.parents.now s.weights c.args.within.now s.are r.covers first
                                 c.count-2.ensures.within tight all,
                             r.room,
                           ),

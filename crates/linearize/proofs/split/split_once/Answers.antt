@@ -5,6 +5,7 @@ use Rattle.linearize.specs.Splits.{Adds, HasRoom}
 use Rattle.linearize.specs.Steps.{AreOfOne}
 use Rattle.linearize.proofs.Joined.{both_lens, first_room, second_room, both_added}
 use Rattle.linearize.proofs.Nexts.{when_none}
+use Rattle.linearize.proofs.Places.{covers_within}
 use Rattle.linearize.proofs.Sizes.{words_fit, scratch_fits}
 use Rattle.linearize.proofs.Solves.{at_least_both, at_least_one}
 use Rattle.linearize.proofs.Trials.{once_most, solve_most, cut_most}
@@ -47,7 +48,7 @@ best-requires-2 g c =
                   some = cut.some;
                   few = (let few = r.few in omega (arith, lens, few));
                   rates = r.rates;
-                  covers = r.covers;
+                  covers = covers_within dep s first c.args.parents.now r.covers cut.upper.inside;
                   room = subst (HasRoom n first) (sym c.in-Some.ensures.draft)
                       (first_room n dep s first r.closed r.members r.rates cut c.args.draft.now r.room);
                 },
@@ -90,7 +91,7 @@ best-requires-then-one g c =
                   some = omega (arith, same, others);
                   few = (let few = r.few in omega (arith, same, lens, few));
                   rates = r.rates;
-                  covers = r.covers;
+                  covers = covers_within dep s c.minus-rest.result c.args.parents.now r.covers (λ p m. (minus_parts s first p (subst (λ x. fin.contains x p ≡ true) is m)).0);
                   room = subst (λ x. HasRoom n x c.best-2.new.draft) (sym is)
                       (second_room n dep s first r.closed r.members r.rates cut c.args.draft.now c.best-2.new.draft r.room one);
                 },

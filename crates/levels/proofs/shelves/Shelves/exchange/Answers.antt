@@ -1,146 +1,51 @@
--- The cluster stands under the number, or under another that its names have.
-use Rattle.std.proofs.Common.{rules, ◌≡◌, ℕ, List, [], ◌∷◌, inl, inr, ap, ◌∙◌, sym, subst, subst₂, arith, is_some, Option}
-use Rattle.std.proofs.lemmas.Option.{same_Some}
-use Rattle.graphs.specs.declared.names.Level.TheVariants.{Top}
-use Rattle.cluster.specs.Clusters.{Cluster}
-use Rattle.staging.specs.Maps.{top_of}
-use Rattle.levels.specs.Changes.{PointsOne}
-use Rattle.levels.specs.Shelves.{Shelf, seen_at, IsInOrder}
-use Rattle.levels.specs.Tops.{TopRebuilds}
-use Rattle.levels.specs.Views.{Numbers}
-use Rattle.levels.proofs.Calls.{order_shifted, same_top, shelf_of, shifted, turns_by, turns_same, turns_then, none_staged}
-use Rattle.levels.proofs.Making.{Shifts, made_same}
-use Rattle.levels.proofs.shelves.Shelves.exchange.Given as given
-use Rattle.levels.proofs.Rooms.{cluster_fits}
+-- Clusters take the places of others of the same names.
+use Rattle.std.proofs.Common.{◌≤◌, List, sym, ap, ◌∙◌, subst, arith, refl}
+use Rattle.std.proofs.lemmas.Result.{on_ok_weaker}
+use Rattle.cluster_store.specs.Changes.{ExchangesEach}
 use Rattle.cluster_store.specs.Stores.{Store}
+use Rattle.levels.specs.Shelves.{IsInOrder, Shelf}
+use Rattle.levels.specs.Tops.{HaveSameNames}
+use Rattle.levels.proofs.Calls.{shelf_of}
+use Rattle.levels.proofs.Exchanging.{by_result, order_exchanged, same_numbers}
+use Rattle.levels.proofs.Rooms.{cluster_fits, exchange_fits}
+use Rattle.levels.proofs.shelves.Shelves.exchange.Given as given
 use Rattle.levels.proofs.shelves.Shelves.exchange.Goals as goal
 
--- under another number
-module _ (g : given.Over) (c : goal.After-point g) where
+pub exchange-requires : goal.exchange-requires
+exchange-requires g c =
+    let narrow : g.row.W ≤ 2 = c.self.invariant.narrow in (
+      omega arith,
+      (exchange_fits g.row.W narrow, (subst (λ (s : Shelf). HaveSameNames g.row.W c.args.exchanged.items s) (sym c.self.view_is) c.requires.same).held),
+    )
+
+module _ (g : given.Over) (c : goal.After-exchange g) where
   abbrev old : Shelf
   old = shelf_of c.self.inside.numbers c.self.inside.store
 
   abbrev new : Shelf
-  new = shelf_of c.point.new.numbers c.come_in.new.store
+  new = shelf_of c.self.inside.numbers c.exchange.new.self
 
-  shifts : Shifts c.staged-staged.result (c.args.number ∷ []) (c.in_ok-made.made ∷ []) (c.args.cluster ∷ []) old new
-  shifts =
-      shifted c.staged-staged.result (c.args.number ∷ []) (c.in_ok-made.made ∷ []) (c.args.cluster ∷ []) c.self.inside.numbers c.point.new.numbers
-      c.self.inside.store c.come_in.new.store
-      (turns_then c.self.inside.numbers c.reserve.new.self c.point.new.numbers
-      (turns_same c.self.inside.numbers c.reserve.new.self c.reserve.ensures.base c.reserve.ensures.top)
-      (turns_by c.reserve.new.self c.point.new.numbers c.point.ensures.staged c.point.ensures.base))
-      c.staged-staged.ensures c.in_ok-made.ensures.comes
+  same : HaveSameNames g.row.W c.args.exchanged.items old
+  same = subst (λ (s : Shelf). HaveSameNames g.row.W c.args.exchanged.items s) (sym c.self.view_is) c.requires.same
 
-  points : PointsOne c.in_ok-made.made c.args.cluster.names (top_of c.self.inside.numbers) (top_of c.point.new.numbers)
-  points =
-      let names : c.names-then-made-number.result.now ≡ c.args.cluster.names =
-      c.names-then-made-number.ensures.names
-      ∙ ap (λ (x : Cluster). x.names) (same_Some c.at.result.now c.args.cluster (sym c.at.ensures ∙ c.in_ok-made.ensures.at)) in
-      subst₂ (λ (xs : List ℕ) (m : Numbers). PointsOne c.in_ok-made.made xs m (top_of c.point.new.numbers)) names
-      (same_top c.self.inside.numbers c.reserve.new.self c.reserve.ensures.base c.reserve.ensures.top) c.point.ensures.points
-
-  rebuilds : TopRebuilds g.row.W (c.args.number ∷ []) (c.in_ok-made.made ∷ []) (c.requires.there.0 ∷ []) (c.args.cluster ∷ []) [] old new
-  rebuilds =
-      made_same g.row.W c.args.number c.in_ok-made.made c.requires.there.0 c.args.cluster c.staged-staged.result old new c.self.invariant.top shifts
-      (ap (λ (s : Shelf). seen_at Top s.store.clusters c.args.number) c.self.view_is ∙ c.requires.there.1) c.requires.whole c.requires.there.2 (inr points)
-
-pub invariant_of-self-then-made-number : goal.invariant_of-self-then-made-number
-invariant_of-self-then-made-number g c =
-    order_shifted g.row.W c.staged-staged.result (c.args.number ∷ []) (c.in_ok-made.made ∷ []) (c.requires.there.0 ∷ []) (c.args.cluster ∷ []) []
-    (old g c) (new g c) c.self.invariant (shifts g c) (rebuilds g c) c.in_ok-made.ensures.store
-
-pub returns-then-made-number-clause-top : goal.returns-then-made-number-clause-top
-returns-then-made-number-clause-top g c = (
-  c.requires.there.0,
-  c.in_ok-made.made,
-  c.requires.there.1,
-  subst (λ (s : Shelf). TopRebuilds g.row.W (c.args.number ∷ []) (c.in_ok-made.made ∷ []) (c.requires.there.0 ∷ []) (c.args.cluster ∷ []) [] s (new g c))
-      c.self.view_is (rebuilds g c),
-)
-
--- under the same number
-module _ (g : given.Over) (c : goal.Else-made-number g) where
-  abbrev same_old : Shelf
-  same_old = shelf_of c.self.inside.numbers c.self.inside.store
-
-  abbrev same_new : Shelf
-  same_new = shelf_of c.reserve.new.self c.come_in.new.store
-
-  same_shifts : Shifts c.staged-staged.result (c.args.number ∷ []) (c.in_ok-made.made ∷ []) (c.args.cluster ∷ []) same_old same_new
-  same_shifts =
-      shifted c.staged-staged.result (c.args.number ∷ []) (c.in_ok-made.made ∷ []) (c.args.cluster ∷ []) c.self.inside.numbers c.reserve.new.self
-      c.self.inside.store c.come_in.new.store
-      (turns_same c.self.inside.numbers c.reserve.new.self c.reserve.ensures.base c.reserve.ensures.top)
-      c.staged-staged.ensures c.in_ok-made.ensures.comes
-
-  same_rebuilds : TopRebuilds g.row.W (c.args.number ∷ []) (c.in_ok-made.made ∷ []) (c.requires.there.0 ∷ []) (c.args.cluster ∷ []) [] same_old same_new
-  same_rebuilds =
-      made_same g.row.W c.args.number c.in_ok-made.made c.requires.there.0 c.args.cluster c.staged-staged.result same_old same_new c.self.invariant.top
-      same_shifts (ap (λ (s : Shelf). seen_at Top s.store.clusters c.args.number) c.self.view_is ∙ c.requires.there.1) c.requires.whole c.requires.there.2
-      (inl (c.if-made-number.false, same_top c.self.inside.numbers c.reserve.new.self c.reserve.ensures.base c.reserve.ensures.top))
-
-pub invariant_of-self-else-made-number : goal.invariant_of-self-else-made-number
-invariant_of-self-else-made-number g c =
-    order_shifted g.row.W c.staged-staged.result (c.args.number ∷ []) (c.in_ok-made.made ∷ []) (c.requires.there.0 ∷ []) (c.args.cluster ∷ []) []
-    (same_old g c) (same_new g c) c.self.invariant (same_shifts g c) (same_rebuilds g c) c.in_ok-made.ensures.store
-
-pub returns-else-made-number-clause-top : goal.returns-else-made-number-clause-top
-returns-else-made-number-clause-top g c = (
-  c.requires.there.0,
-  c.in_ok-made.made,
-  c.requires.there.1,
-  subst (λ (s : Shelf). TopRebuilds g.row.W (c.args.number ∷ []) (c.in_ok-made.made ∷ []) (c.requires.there.0 ∷ []) (c.args.cluster ∷ []) [] s (same_new g c))
-      c.self.view_is (same_rebuilds g c),
-)
-
-pub returns-then-made-number-clause-order : goal.returns-then-made-number-clause-order
-returns-then-made-number-clause-order g c =
-    order_shifted g.row.W c.staged-staged.result (c.args.number ∷ []) (c.in_ok-made.made ∷ []) (c.requires.there.0 ∷ []) (c.args.cluster ∷ []) []
-    (old g c) (new g c) c.self.invariant (shifts g c) (rebuilds g c) c.in_ok-made.ensures.store
-
-pub returns-else-made-number-clause-order : goal.returns-else-made-number-clause-order
-returns-else-made-number-clause-order g c =
-    order_shifted g.row.W c.staged-staged.result (c.args.number ∷ []) (c.in_ok-made.made ∷ []) (c.requires.there.0 ∷ []) (c.args.cluster ∷ []) []
-    (same_old g c) (same_new g c) c.self.invariant (same_shifts g c) (same_rebuilds g c) c.in_ok-made.ensures.store
-
-pub names-requires-then-made-number : goal.names-requires-then-made-number
-names-requires-then-made-number g c = cluster_fits g.row.W c.self.invariant.narrow
-
-pub names-requires : goal.names-requires
-names-requires g c = cluster_fits g.row.W c.self.invariant.narrow
-
-pub come_in-requires : goal.come_in-requires
-come_in-requires g c = (
-  omega arith,
-  (
-    cluster_fits g.row.W c.self.invariant.narrow,
-    (
-      c.self.invariant.narrow,
-      (
-        ap is_some (ap (λ (s : Shelf). seen_at Top s.store.clusters c.args.number) c.self.view_is ∙ c.requires.there.1),
-        λ shut. c.self.invariant.both (none_staged c.self.inside.numbers.top c.staged-staged.result c.staged-staged.ensures shut),
-      ),
-    ),
-  ),
-)
+  in_order : IsInOrder g.row.W new
+  in_order =
+      by_result c.exchange.result c.exchange.ensures.exchanged c.exchange.ensures.err
+      (λ x. order_exchanged g.row.W c.args.exchanged.items old new c.self.invariant same x
+      (λ level. same_numbers level c.self.inside.numbers c.self.inside.store c.exchange.new.self) c.exchange.ensures.store refl)
+      (λ still. subst (λ (s : Store). IsInOrder g.row.W (shelf_of c.self.inside.numbers s)) (sym still) c.self.invariant)
 
 pub invariant_of-self : goal.invariant_of-self
-invariant_of-self g c =
-    subst₂ (λ (base : Numbers) (top : Option Numbers). IsInOrder g.row.W (record { main = base; staging = top; store = c.self.inside.store }))
-    (sym c.reserve.ensures.base) (sym c.reserve.ensures.top) c.self.invariant
+invariant_of-self g c = in_order g c
 
-pub invariant_of-self-in_err-made : goal.invariant_of-self-in_err-made
-invariant_of-self-in_err-made g c =
-    subst (λ (store : Store). IsInOrder g.row.W (record { main = c.reserve.new.self.base; staging = c.reserve.new.self.top; store = store }))
-    (sym c.in_err-made.ensures.err) (
-    subst₂ (λ (base : Numbers) (top : Option Numbers). IsInOrder g.row.W (record { main = base; staging = top; store = c.self.inside.store }))
-    (sym c.reserve.ensures.base) (sym c.reserve.ensures.top) c.self.invariant)
+pub returns-clause-exchanged : goal.returns-clause-exchanged
+returns-clause-exchanged g c =
+    on_ok_weaker c.exchange.result
+    (subst (λ (s : Shelf). ExchangesEach c.args.exchanged.items s.store.clusters c.exchange.new.self.clusters) c.self.view_is)
+    c.exchange.ensures.exchanged
 
-pub drop-requires : goal.drop-requires
-drop-requires g c κs = ((cluster_fits g.row.W c.self.invariant.narrow, tt), search rules)
+pub returns-clause-numbers : goal.returns-clause-numbers
+returns-clause-numbers g c = (ap (λ (s : Shelf). s.main) c.self.view_is, ap (λ (s : Shelf). s.staging) c.self.view_is)
 
-pub returns-in-Err-clause-order : goal.returns-in-Err-clause-order
-returns-in-Err-clause-order g c =
-    subst₂ (λ (base : Numbers) (top : Option Numbers). IsInOrder g.row.W (record { main = base; staging = top; store = c.self.inside.store }))
-    (sym c.reserve.ensures.base) (sym c.reserve.ensures.top) c.self.invariant
+pub returns-clause-order : goal.returns-clause-order
+returns-clause-order g c = in_order g c

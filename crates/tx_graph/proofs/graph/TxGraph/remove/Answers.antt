@@ -9,6 +9,7 @@ use Rattle.tx_graph.proofs.Standing.{steps_refused, steps_without_memory}
 use Rattle.tx_graph.proofs.Rooms.{levels_fit}
 use Rattle.tx_graph.proofs.Unchanged.{all_stay, within_one, not_larger, issued_topped}
 use Rattle.tx_graph.specs.Kept.{Kept}
+use Rattle.cluster.specs.Steps.{most_steps_of}
 use Rattle.levels.specs.Levels.{Levels}
 use Rattle.levels.specs.Stays.{AllStay}
 use Rattle.tx_graph.proofs.graph.TxGraph.remove.Goals as goal
@@ -72,11 +73,9 @@ returns-then-not-has-clause-additions g c = refl
 pub returns-then-not-has-clause-refused : goal.returns-then-not-has-clause-refused
 returns-then-not-has-clause-refused g c lacks = refl
 
-pub returns-then-not-has-clause-grew : goal.returns-then-not-has-clause-grew
-returns-then-not-has-clause-grew g c = not_larger c.args.steps.now
-
 pub returns-then-not-has-clause-steps : goal.returns-then-not-has-clause-steps
-returns-then-not-has-clause-steps g c cluster lists one two = within_one c.args.steps.now _
+returns-then-not-has-clause-steps g c =
+    record { grew = not_larger c.args.steps.now; few = λ lists are. within_one c.args.steps.now (most_steps_of lists) }
 
 pub returns-then-is_err-clause-stays : goal.returns-then-is_err-clause-stays
 returns-then-is_err-clause-stays g c = subst (λ (k : Kept). AllStay k.levels c.remove.new.self) c.self.view_is c.remove.ensures.stays
@@ -89,9 +88,6 @@ returns-then-is_err-clause-additions g c =
 pub returns-then-is_err-clause-refused : goal.returns-then-is_err-clause-refused
 returns-then-is_err-clause-refused g c lacks = absurd (lacks refl)
 
-pub returns-then-is_err-clause-grew : goal.returns-then-is_err-clause-grew
-returns-then-is_err-clause-grew g c = c.remove.ensures.grew
-
 pub returns-clause-stays : goal.returns-clause-stays
 returns-clause-stays g c = subst (λ (k : Kept). AllStay k.levels c.remove.new.self) c.self.view_is c.remove.ensures.stays
 
@@ -102,6 +98,3 @@ returns-clause-additions g c =
 
 pub returns-clause-refused : goal.returns-clause-refused
 returns-clause-refused g c = tt
-
-pub returns-clause-grew : goal.returns-clause-grew
-returns-clause-grew g c = c.remove.ensures.grew

@@ -1,7 +1,0 @@
-use Rattle.std.proofs.Common.{◌*◌}
-use Rattle.cluster_store.specs.Stores.{Stored}
-use Rattle.cluster_store.proofs.Counted.{AreCounted}
-use Rattle.cluster_store.proofs.least.lowest_added.Given as goal
-
-abbrev pub invariant-loop-at : goal.invariant-loop-at
-invariant-loop-at g l = AreCounted (64 * g.row.W) (λ (s : Stored). s.cluster) l.added l.fn.least l.at l.lowest

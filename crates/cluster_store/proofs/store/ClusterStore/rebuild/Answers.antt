@@ -1,0 +1,87 @@
+-- The top level of the slots changes; where there is no memory for it, every slot has what it had.
+use Rattle.std.proofs.Common.{◌≡◌, ℕ, ◌*◌, ◌++◌, List, Contains, sym, ap, ◌∙◌, subst, subst₂}
+use Rattle.std.specs.Prelude.{option_to_list}
+use Rattle.std.proofs.lemmas.Result.{IfOk-from_err}
+use Rattle.lists.proofs.Cases.{on_err}
+use Rattle.cluster.specs.Clusters.{Cluster}
+use Rattle.cluster_store.specs.Stores.{Store, Numbered}
+use Rattle.cluster_store.specs.Changes.{EndsAt, lowest_in}
+use Rattle.cluster_store.specs.Kept.{IsKept}
+use Rattle.cluster_store.specs.Tops.{MayLeave, TopChanges}
+use Rattle.cluster_store.proofs.Changed.{kept_same, store_same}
+use Rattle.cluster_store.proofs.Kept.{kept_store}
+use Rattle.cluster_store.proofs.Origins.{joined_whole, kept_came, lowest_told, slots_from}
+use Rattle.cluster_store.proofs.Sizes.{cluster_fits, stored_fits}
+use Rattle.cluster_store.proofs.store.ClusterStore.rebuild.Goals as goal
+
+pub lowest_of_all-least-requires : goal.lowest_of_all-least-requires
+lowest_of_all-least-requires g c = cluster_fits g.row.W c.self.invariant.narrow
+
+pub lowest_of_last-least-requires : goal.lowest_of_last-least-requires
+lowest_of_last-least-requires g c = cluster_fits g.row.W c.self.invariant.narrow
+
+pub rebuild-requires : goal.rebuild-requires
+rebuild-requires g c = (
+  stored_fits g.row.W c.self.invariant.narrow,
+  (
+    cluster_fits g.row.W c.self.invariant.narrow,
+    (
+      c.self.invariant.narrow,
+      (
+        c.self.invariant.shown,
+        subst (MayLeave c.args.staged c.args.outs.now) (ap (λ (s : Store). s.clusters) (sym c.self.view_is)) c.requires,
+      ),
+    ),
+  ),
+)
+
+pub invariant_of-self : goal.invariant_of-self
+invariant_of-self g c =
+    kept_same g.row.W c.self.inside.slots.slots c.rebuild.new.slots.slots c.self.inside.index c.rebuild.new.index c.self.inside.least c.self.invariant
+    c.in_err-made.ensures.err c.in_err-made.ensures.shown
+
+pub returns-in_err-made-clause-err : goal.returns-in_err-made-clause-err
+returns-in_err-made-clause-err g c =
+    on_err c.from_residual.result (store_same c.self.inside.slots.slots c.rebuild.new.slots.slots c.self.inside.index c.rebuild.new.index c.self.inside.least
+    c.self.invariant.shown c.in_err-made.ensures.shown c.in_err-made.ensures.err ∙ c.self.view_is)
+
+pub returns-in_err-made-clause-store : goal.returns-in_err-made-clause-store
+returns-in_err-made-clause-store g c = kept_store g.row.W c.rebuild.new.slots.slots c.rebuild.new.index c.self.inside.least (invariant_of-self g c)
+
+pub invariant_of-self-2 : goal.invariant_of-self-2
+invariant_of-self-2 g c =
+    let slots = c.self.inside.slots.slots in
+    let news = c.args.rest.items ++ option_to_list c.args.last in
+    let made = c.in_ok-made.made in
+    let least : c.lowest_of_last-least.result ≡ lowest_in news c.self.inside.least =
+    lowest_told c.lowest_of_all-least.result c.lowest_of_last-least.result c.self.inside.least c.as_slice.result.now c.args.rest.items c.args.last
+    c.lowest_of_all-least.ensures.least c.as_slice.ensures.value c.lowest_of_last-least.ensures.least in
+    subst (IsKept g.row.W c.rebuild.new.slots.slots c.rebuild.new.index) (sym least)
+    (kept_came g.row.W news slots c.rebuild.new.slots.slots c.self.inside.index c.rebuild.new.index c.self.inside.least c.self.invariant
+    c.in_ok-made.ensures.shown
+    (joined_whole (64 * g.row.W) c.args.rest.items c.args.last
+    (λ d here. c.lowest_of_all-least.ensures.whole d (subst (λ (cs : List Cluster). Contains cs d) (sym c.as_slice.ensures.value) here))
+    c.lowest_of_last-least.ensures.whole)
+    (slots_from c.args.staged c.args.outs.now (made.rest.items ++ option_to_list made.last) news slots c.rebuild.new.slots.slots
+    c.in_ok-made.ensures.rebuilt.exchanged))
+
+pub returns-clause-rebuilt : goal.returns-clause-rebuilt
+returns-clause-rebuilt g c =
+    let made = c.in_ok-made.made in
+    subst₂ (λ (old new : Numbered). TopChanges c.args.staged c.args.outs.now made.rest.items made.last c.args.rest.items c.args.last old new)
+    (ap (λ (s : Store). s.clusters) c.self.view_is) (sym c.begin_anew.ensures.clusters) c.in_ok-made.ensures.rebuilt
+
+pub returns-clause-least : goal.returns-clause-least
+returns-clause-least g c =
+    let news = c.args.rest.items ++ option_to_list c.args.last in
+    let least : c.lowest_of_last-least.result ≡ lowest_in news c.args.self.now.least =
+    lowest_told c.lowest_of_all-least.result c.lowest_of_last-least.result c.self.inside.least c.as_slice.result.now c.args.rest.items c.args.last
+    c.lowest_of_all-least.ensures.least c.as_slice.ensures.value c.lowest_of_last-least.ensures.least
+    ∙ ap (λ (s : Store). lowest_in news s.least) c.self.view_is in
+    subst (λ (n : ℕ). EndsAt c.begin_anew.new.self.clusters n c.begin_anew.new.self.least) least c.begin_anew.ensures.least
+
+pub returns-in_err-made-clause-rebuilt : goal.returns-in_err-made-clause-rebuilt
+returns-in_err-made-clause-rebuilt g c = IfOk-from_err c.from_residual.result _ c.from_residual.ensures.0
+
+pub returns-in_err-made-clause-least : goal.returns-in_err-made-clause-least
+returns-in_err-made-clause-least g c = IfOk-from_err c.from_residual.result _ c.from_residual.ensures.0

@@ -1,0 +1,1 @@
+use Rattle.levels.proofs.left.Left.take.Goals as goal
