@@ -318,6 +318,14 @@ impl<const W: usize> Levels<W> {
         self.shelves.parts(level)
     }
 
+    /// A size, in virtual bytes, that no name of main is below. Takes no memory.
+    pub fn least(&self) -> u64
+        ensures { (id : ℕ) → is_member self.now.main.graph id ≡ true → result ≤ (rate_of self.now.main.graph id).size }
+    {
+        let _count = self.mains;
+        self.shelves.least()
+    }
+
     /// The fees and sizes of the parts of a level in its order, in satoshis and virtual bytes. Takes no memory, and looks at no
     /// cluster.
     pub fn rates(&self, level: Level) -> RateWalk<'_>

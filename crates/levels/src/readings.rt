@@ -37,6 +37,14 @@ impl<const W: usize> Shelves<W> {
         self.store().walk(level)
     }
 
+    /// A size, in virtual bytes, that no name of main is below.
+    pub(crate) fn least(&self) -> u64
+        requires order { IsInOrder W self.now }
+        ensures { (id : ℕ) → is_member (one_of Main self.now).graph id ≡ true → result ≤ (rate_of (one_of Main self.now).graph id).size }
+    {
+        self.store().least()
+    }
+
     /// The fees and sizes of the parts of a level in its order.
     pub(crate) fn rates(&self, level: Level) -> RateWalk<'_>
         requires order { IsInOrder W self.now }

@@ -1,4 +1,4 @@
-ghost use Rattle.std.specs.Prelude.{◌≡◌, ◌≢◌, ℕ, ℤ, ◌+◌, ◌-◌, ◌*◌, ◌^◌, ◌<◌, ◌≤◌, ◌⊎◌, ◌↔◌, true, None, Some, List, [], ◌∷◌, length, option_map, is_ok, if◌then◌else◌, IsSome, IsTrue, IfOk, IfErr, OnErr, MatchResult, Contains};
+ghost use Rattle.std.specs.Prelude.{◌≡◌, ◌≢◌, ℕ, ℤ, ◌+◌, ◌-◌, ◌*◌, ◌^◌, ◌<◌, ◌≤◌, ◌⊎◌, ◌↔◌, true, None, Some, List, [], ◌∷◌, length, map, option_map, is_ok, if◌then◌else◌, IsSome, IsTrue, IfOk, IfErr, OnErr, MatchResult, Contains};
 ghost use Rattle.std.specs.FinMap as finmap;
 ghost use Rattle.std.specs.Iterator.{IsFinite};
 ghost use Rattle.std.specs.Iterator.Adapters.{rev_source};
@@ -8,11 +8,13 @@ ghost use Rattle.graphs.specs.declared.names.Level.TheVariants.{Top};
 ghost use Rattle.graphs.specs.declared.names.Verdict.TheVariants.{Better};
 ghost use Rattle.graphs.specs.Graphs.{Lists};
 ghost use Rattle.graph_model.specs.Limits.{AreInRange, bounds_of};
-ghost use Rattle.graph_model.specs.declared.names.Refusal.TheVariants.{Memory, NoStaging};
+ghost use Rattle.graph_model.specs.declared.names.Refusal.TheVariants.{Memory, Empty, NoStaging};
 ghost use Rattle.graph_model.specs.States.{State, level_of, IsStaged};
 ghost use Rattle.graph_model.specs.Answers.{order_of};
+ghost use Rattle.graph_model.specs.Changes.{IsLast};
+ghost use Rattle.graphs.specs.Certificates.{Part};
 ghost use Rattle.graph_model.specs.Commands as commands;
-ghost use Rattle.graph_model.specs.Commands.{SetLimits, Add, Dep, SetFee, Remove, Stage, Commit, Abort, Settle, Compare, Cluster, Ancestors, Descendants, Chunk, Before, Proof, Count};
+ghost use Rattle.graph_model.specs.Commands.{SetLimits, Add, Dep, SetFee, Remove, Mine, Evict, Stage, Commit, Abort, Settle, Compare, Cluster, Ancestors, Descendants, Chunk, Before, Proof, Count};
 ghost use Rattle.graph_model.specs.Replies.{Number, Parts, Points, Proves, change_reply, names_reply};
 ghost use Rattle.graph_model.specs.Texts.{Text};
 ghost use Rattle.diagram.specs.Points.{YieldsCorners};
@@ -22,14 +24,17 @@ ghost use Rattle.tx_graph.specs.Kept.{Kept, StandsFor, MakesStep, start_within};
 ghost use Rattle.levels.specs.Lefts.{DropsWithin};
 ghost use Rattle.levels.specs.Levels.{GrowsForFee, IsLive, level_at};
 ghost use Rattle.levels.specs.Orders.{ListsCovers};
+ghost use Rattle.tx_graph.specs.Dropped.{AreOfClusters, IsEvicted, IsPicked};
 ghost use Rattle.tx_graph.specs.Readings.{AreMinimalIn, IsBestOrder, IsTextOf, part_reply, place_reply, compare_reply, settle_reply};
 ghost use Rattle.levels.specs.Stays.{AllStay};
 
-use crate::order::{Diagram, Forward, Order, OrderBack};
+use crate::order::{Diagram, Forward, Numbered, Order, OrderBack};
 use cluster::{Covers, PartRef};
 use diagram::corners;
 use fee_rate::FeeRate;
-use graph_model::{IdBuf, Level, Limits, Place, Refusal, TxId, Verdict, is_fee, is_size};
+use graph_model::{
+    IdBuf, IdList, Level, Limits, Picked, Place, Refusal, TxId, Verdict, is_fee, is_size,
+};
 use levels::Levels;
 use outside::NoMemory;
 use std::alloc::Global;
@@ -53,6 +58,7 @@ pub struct TxGraph<const W: usize> {
     limits: Limits,
     begun: bool,
     levels: Levels<W>,
+    alloc: Global,
 }
 
 // Clauses see the graph by names. Every value stands for some state.
@@ -129,6 +135,24 @@ fn close<const W: usize>(levels: &mut Levels<W>, verdict: Verdict)
     }
 }
 
+/// The last part of main's order, with its names in a list of their own. Refuses where main is empty.
+fn last_part<const W: usize>(alloc: Global, levels: &Levels<W>) -> Result<Picked, Refusal>
+    ensures row { MatchResult result (λ picked. (part : Part) × IsLast levels.now.main.parts part × IsPicked part picked)
+        (λ why. ((why ≡ Memory) × (levels.now.main.parts ≢ [])) ⊎ ((why ≡ Empty) × (levels.now.main.parts ≡ []))) }
+{
+    let Some(shown) = levels.parts(Level::Main).next_back() else {
+        return Err(Refusal::Empty);
+    };
+    match shown.part.ids.to_vec(alloc) {
+        Ok(ids) => Ok(Picked {
+            fee: shown.part.rate.fee as i128,
+            size: shown.part.rate.size,
+            ids: IdList::from_vec(ids),
+        }),
+        Err(_) => Err(Refusal::Memory),
+    }
+}
+
 /// The most names that the limit of a cluster may allow.
 fn most_names<const W: usize>() -> u64
     requires { W ≤ 2 }
@@ -157,6 +181,7 @@ impl<const W: usize> TxGraph<W> {
             limits,
             begun: false,
             levels: Levels::new(alloc)?,
+            alloc,
         })
     }
 
@@ -334,6 +359,74 @@ impl<const W: usize> TxGraph<W> {
         Ok(())
     }
 
+    /// Takes transactions that were mined out of main, in any order, with their dependencies. The others keep the ancestors that they
+    /// have among them. The list isn't empty.
+    ///
+    /// The solver takes at most the sum of 2·(n+2)^5 steps over the clusters of n transactions that are left of the listed
+    /// transactions' clusters, each cluster once. It takes none where the call is refused for another reason than memory.
+    ///
+    /// # Errors
+    ///
+    /// Answers the first of these that holds, and leaves the graph as it was:
+    ///
+    /// - [`Refusal::Staging`]: a staging is open.
+    /// - [`Refusal::Twice`], with the first listed transaction that stands earlier in the list too.
+    /// - [`Refusal::Unknown`], with the first listed transaction that main hasn't.
+    /// - [`Refusal::Parent`], with the first listed transaction that has an ancestor in main which isn't listed.
+    /// - [`Refusal::Memory`]: there is no memory. Nothing before takes any.
+    pub fn mine<L: Ledger>(&mut self, ids: &[TxId], steps: &mut Steps<L>) -> Result<(), Refusal>
+        requires { ids.now ≢ [] }
+        ensures step { MakesStep self.old self.new (Mine ids.now) (change_reply result) }
+        ensures stays { AllStay self.old.levels self.new.levels }
+        ensures additions { self.new.levels.issued ≡ self.old.levels.issued }
+        ensures refused { IfErr result (λ why. why ≢ Memory → steps.new ≡ steps.old) }
+        ensures steps { DropsWithin ids.now self.old.levels.main.graph steps.old steps.new }
+    {
+        if self.levels.is_staged() {
+            return Err(Refusal::Staging);
+        }
+        if let Some(why) = self.levels.refused_mine(ids) {
+            return Err(why);
+        }
+        if self.levels.drop_names(ids, steps).is_err() {
+            return Err(Refusal::Memory);
+        }
+        self.begun = true;
+        Ok(())
+    }
+
+    /// Drops the last chunk of main's order, which is the first to go where a mempool is full, and tells its transactions with their
+    /// fee and size. No set of transactions that has all its descendants has a lower feerate.
+    ///
+    /// The solver takes at most the sum of 2·(n+2)^5 steps over the clusters of n transactions that are left of the chunk's
+    /// cluster. It takes none where the call is refused for another reason than memory.
+    ///
+    /// # Errors
+    ///
+    /// Answers the first of these that holds, and leaves the graph as it was:
+    ///
+    /// - [`Refusal::Staging`]: a staging is open.
+    /// - [`Refusal::Empty`]: main has no transaction.
+    /// - [`Refusal::Memory`]: there is no memory.
+    pub fn drop_last<L: Ledger>(&mut self, steps: &mut Steps<L>) -> Result<Picked, Refusal>
+        ensures step { (reply : Reply) × IsEvicted self.old.levels result reply × MakesStep self.old self.new Evict reply }
+        ensures stays { AllStay self.old.levels self.new.levels }
+        ensures additions { self.new.levels.issued ≡ self.old.levels.issued }
+        ensures refused { IfErr result (λ why. why ≢ Memory → steps.new ≡ steps.old) }
+        ensures steps { (part : Part) → IsLast self.old.levels.main.parts part
+            → DropsWithin part.ids self.old.levels.main.graph steps.old steps.new }
+    {
+        if self.levels.is_staged() {
+            return Err(Refusal::Staging);
+        }
+        let picked = last_part(self.alloc, &self.levels)?;
+        if self.levels.drop_names(picked.ids.as_slice(), steps).is_err() {
+            return Err(Refusal::Memory);
+        }
+        self.begun = true;
+        Ok(picked)
+    }
+
     /// Whether a staging is open.
     pub fn staged(&self) -> bool
         ensures { (state : State) → StandsFor self.now state → IsTrue result ↔ IsStaged state.plain }
@@ -497,6 +590,23 @@ impl<const W: usize> TxGraph<W> {
         ensures { rev_source result ≡ (level_at self.now.levels level).parts }
     {
         self.order(level).rev()
+    }
+
+    /// The chunks of main in main's order, each with the number of its cluster. Two chunks have one number exactly where they are of
+    /// one cluster. Takes no memory.
+    pub fn numbered(&self) -> Numbered<'_, W>
+        ensures parts { map (λ s. s.part) result ≡ self.now.levels.main.parts }
+        ensures numbers { (state : State) → StandsFor self.now state → AreOfClusters state.plain.main result }
+    {
+        self.levels.parts(Level::Main)
+    }
+
+    /// A size, in virtual bytes, that no transaction of the graph is below. Takes no memory.
+    pub fn least(&self) -> u64
+        ensures { (id : ℕ) → is_member self.now.levels.main.graph id ≡ true
+            → result ≤ (rate_of self.now.levels.main.graph id).size }
+    {
+        self.levels.least()
     }
 
     /// The corners of a level's feerate diagram, from (0, 0) on: sizes in virtual bytes, each with the most that a closed set of

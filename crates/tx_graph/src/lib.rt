@@ -26,4 +26,4 @@ mod order;
 
 pub use cluster::{Covers, PartRef};
 pub use graph::TxGraph;
-pub use order::{Diagram, Forward, Order, OrderBack};
+pub use order::{Diagram, Forward, Numbered, Order, OrderBack};

@@ -1,0 +1,26 @@
+-- Parts that are dropped, and parts with the numbers of their clusters.
+use Rattle.std.specs.Prelude.{◌≡◌, ◌↔◌, ℕ, List, Contains, Result, Ok, Err}
+use Rattle.graphs.specs.Graphs.{Graph}
+use Rattle.graphs.specs.Certificates.{Part}
+use Rattle.graph_model.specs.declared.names.Picked.{Picked}
+use Rattle.graph_model.specs.declared.names.Refusal.{Refusal}
+use Rattle.graph_model.specs.Blocks.{ShareComponent}
+use Rattle.graph_model.specs.Changes.{IsLast}
+use Rattle.graph_model.specs.Replies.{Reply, Refused, Evicted}
+use Rattle.cluster_store.specs.Stores.{Shown}
+use Rattle.levels.specs.Levels.{Levels}
+
+-- what is told of a part: its names in their order, with their fee and size
+pub record IsPicked (part : Part) (picked : Picked) : Type 0 where
+  pub fee : picked.fee ≡ part.rate.fee
+  pub size : picked.size ≡ part.rate.size
+  pub ids : picked.ids ≡ part.ids
+
+-- the reply of an eviction: main's last part, of which the names, fee and size are answered
+abbrev pub IsEvicted : Levels → Result Picked Refusal → Reply → Type 0
+IsEvicted levels (Ok picked) reply = (part : Part) × IsLast levels.main.parts part × IsPicked part picked × (reply ≡ Evicted part)
+IsEvicted levels (Err why) reply = reply ≡ Refused why
+
+-- two parts have one number exactly where they are of one component
+abbrev pub AreOfClusters : Graph → List Shown → Type 0
+AreOfClusters graph parts = (s t : Shown) → Contains parts s → Contains parts t → (s.number ≡ t.number) ↔ ShareComponent graph s.part t.part
