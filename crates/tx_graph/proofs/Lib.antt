@@ -8,6 +8,7 @@ mod Added
 mod Paired
 mod Paid
 mod Dropped
+mod Lost
 mod Limited
 mod Staged
 mod Unchanged
@@ -16,5 +17,6 @@ mod Telling
 mod Drawn
 mod Settled
 mod Calls
+mod Mined
 mod Rooms
 mod Starts

@@ -15,14 +15,14 @@ ghost use Rattle.graph_model.specs.Changes.{IsLast};
 ghost use Rattle.graphs.specs.Certificates.{Part};
 ghost use Rattle.graph_model.specs.Commands as commands;
 ghost use Rattle.graph_model.specs.Commands.{SetLimits, Add, Dep, SetFee, Remove, Mine, Evict, Stage, Commit, Abort, Settle, Compare, Cluster, Ancestors, Descendants, Chunk, Before, Proof, Count};
-ghost use Rattle.graph_model.specs.Replies.{Number, Parts, Points, Proves, change_reply, names_reply};
+ghost use Rattle.graph_model.specs.Replies.{Reply, Number, Parts, Points, Proves, change_reply, names_reply};
 ghost use Rattle.graph_model.specs.Texts.{Text};
 ghost use Rattle.diagram.specs.Points.{YieldsCorners};
 ghost use Rattle.cluster.specs.Steps.{GrowsWithin, most_steps};
 ghost use Rattle.tx_graph.specs.Additions.{AddRefusalIs, CountsLive};
 ghost use Rattle.tx_graph.specs.Kept.{Kept, StandsFor, MakesStep, start_within};
 ghost use Rattle.levels.specs.Lefts.{DropsWithin};
-ghost use Rattle.levels.specs.Levels.{GrowsForFee, IsLive, level_at};
+ghost use Rattle.levels.specs.Levels.{GrowsForFee, IsBest, IsLive, level_at};
 ghost use Rattle.levels.specs.Orders.{ListsCovers};
 ghost use Rattle.tx_graph.specs.Dropped.{AreOfClusters, IsEvicted, IsPicked};
 ghost use Rattle.tx_graph.specs.Readings.{AreMinimalIn, IsBestOrder, IsTextOf, part_reply, place_reply, compare_reply, settle_reply};
@@ -31,7 +31,7 @@ ghost use Rattle.levels.specs.Stays.{AllStay};
 use crate::order::{Diagram, Forward, Numbered, Order, OrderBack};
 use cluster::{Covers, PartRef};
 use diagram::corners;
-use fee_rate::FeeRate;
+use fee_rate::{FeeRate, Sum};
 use graph_model::{
     IdBuf, IdList, Level, Limits, Picked, Place, Refusal, TxId, Verdict, is_fee, is_size,
 };
@@ -57,8 +57,8 @@ use step_count::{Ledger, Steps};
 pub struct TxGraph<const W: usize> {
     limits: Limits,
     begun: bool,
-    levels: Levels<W>,
     alloc: Global,
+    levels: Levels<W>,
 }
 
 // Clauses see the graph by names. Every value stands for some state.
@@ -138,17 +138,22 @@ fn close<const W: usize>(levels: &mut Levels<W>, verdict: Verdict)
 /// The last part of main's order, with its names in a list of their own. Refuses where main is empty.
 fn last_part<const W: usize>(alloc: Global, levels: &Levels<W>) -> Result<Picked, Refusal>
     ensures row { MatchResult result (λ picked. (part : Part) × IsLast levels.now.main.parts part × IsPicked part picked)
-        (λ why. ((why ≡ Memory) × (levels.now.main.parts ≢ [])) ⊎ ((why ≡ Empty) × (levels.now.main.parts ≡ []))) }
+        (λ why. ((why ≡ Memory) × ((part : Part) × IsLast levels.now.main.parts part))
+        ⊎ ((why ≡ Empty) × (levels.now.main.parts ≡ []))) }
+    ensures best { IsBest levels.now.main }
 {
     let Some(shown) = levels.parts(Level::Main).next_back() else {
         return Err(Refusal::Empty);
     };
     match shown.part.ids.to_vec(alloc) {
-        Ok(ids) => Ok(Picked {
-            fee: shown.part.rate.fee as i128,
-            size: shown.part.rate.size,
-            ids: IdList::from_vec(ids),
-        }),
+        Ok(ids) => {
+            let sum = Sum::from(shown.part.rate);
+            Ok(Picked {
+                fee: sum.fee,
+                size: sum.size,
+                ids: IdList::from_vec(ids),
+            })
+        }
         Err(_) => Err(Refusal::Memory),
     }
 }
@@ -180,8 +185,8 @@ impl<const W: usize> TxGraph<W> {
         Ok(TxGraph {
             limits,
             begun: false,
-            levels: Levels::new(alloc)?,
             alloc,
+            levels: Levels::new(alloc)?,
         })
     }
 

@@ -1,0 +1,24 @@
+use Rattle.std.proofs.Common.{sym, ◌∙◌, refl, inl}
+use Rattle.cluster_store.specs.Lent.{lent}
+use Rattle.cluster_store.specs.Walks.{shown_part}
+use Rattle.tx_graph.proofs.Mined.{shown_last}
+use Rattle.tx_graph.proofs.graph.last_part.Goals as goal
+
+pub returns-in-Ok-clause-row : goal.returns-in-Ok-clause-row
+returns-in-Ok-clause-row g c = (
+  lent c.in-Some.shown.part,
+  shown_last c.args.levels.now.main.parts c.parts.result c.next_back.new.self (shown_part c.in-Some.shown) c.parts.ensures.parts c.in-Some.ensures.steps,
+  record {
+    fee = c.from.ensures.0;
+    size = c.from.ensures.1;
+    ids = c.from_vec.ensures ∙ c.in-Ok.ensures.ok;
+  },
+)
+
+pub returns-in-Err-clause-row : goal.returns-in-Err-clause-row
+returns-in-Err-clause-row g c =
+    inl (
+      refl,
+      lent c.in-Some.shown.part,
+      shown_last c.args.levels.now.main.parts c.parts.result c.next_back.new.self (shown_part c.in-Some.shown) c.parts.ensures.parts c.in-Some.ensures.steps,
+    )
