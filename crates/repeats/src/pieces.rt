@@ -1,4 +1,4 @@
-ghost use Rattle.std.specs.Prelude.{◌≡◌, ◌⊎◌, ℕ, ◌+◌, ◌<◌, ◌≤◌, [], not, true, false, length, nat_eq, slice_index, IfOk, MatchOption};
+ghost use Rattle.std.specs.Prelude.{◌≡◌, ◌⊎◌, ◌↔◌, ℕ, ◌+◌, ◌<◌, ◌≤◌, [], not, true, false, length, nat_eq, slice_index, IfOk, MatchOption};
 ghost use Rattle.indexmap.specs.IndexSet.{contains, index_set_len, keys, spare as room_of};
 ghost use Rattle.lists.specs.Distinct.{AreDistinct};
 ghost use Rattle.graph_model.specs.Refusals.{IsFirst, StandsTwice};
@@ -58,7 +58,10 @@ impl Repeats {
             best = self.pass(ids, start, end, best);
             start = end;
         }
-        ids.get(best).copied()
+        if best == ids.len() {
+            return None;
+        }
+        Some(ids[best])
     }
 
     // The first position below `best`, from the start of a piece on, whose name stands earlier in the piece; or `best`.
