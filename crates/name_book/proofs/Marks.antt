@@ -1,5 +1,5 @@
 -- What becomes of the touched names, where the table of names changes.
-use Rattle.std.proofs.Common.{◌≡◌, ◌≢◌, ◌⊎◌, ◌↔◌, ℕ, ◌+◌, ◌<◌, List, [], ◌∷◌, Contains, Option, Some, None, is_some, refl, sym, ap, subst, ◌∙◌, inl, inr, nat_eq, true≢false, true, false, arith}
+use Rattle.std.proofs.Common.{◌≡◌, ◌≢◌, ◌⊎◌, ◌↔◌, ℕ, ◌+◌, ◌<◌, List, [], ◌∷◌, Contains, Option, Some, None, refl, sym, ap, subst, ◌∙◌, inl, inr, nat_eq, true≢false, true, false, arith}
 use Rattle.std.specs.Prelude.{MatchOption}
 use Rattle.std.specs.Option.{option_eq}
 use Rattle.std.proofs.lemmas.Bool.{cases_eq, eqb-true}
@@ -153,17 +153,6 @@ passed-marks table id (Some b) link marks = record {
 pub passed-other : (table : Table) (id : ℕ) (next : Option ℕ) → IsOther table id next → next ≢ Some id
 passed-other table id None only same = none-some id same
 passed-other table id (Some b) link same = link.1 (same_Some b id same)
-
--- a name is touched where it is the one that is kept, or isn't alone
-pub marked-is-kept : (table : Table) (id : ℕ) → AreMarks (rings_of table (Some id)) → IsMarked (rings_of table (Some id)) id
-marked-is-kept table id marks = rung-itself table 1 id (marks.live id refl)
-
-pub marked-by-other : (table : Table) (touched : Option ℕ) (id : ℕ) (next : Option ℕ) → AreMarks (rings_of table touched) → touched ≢ Some id
-    → IsOther table id next → (is_some next ≡ true) ↔ IsMarked (rings_of table touched) id
-marked-by-other table touched id (Some b) marks other link = (λ _. marks.alone id b link.0 (λ same. link.1 (sym same)), λ _. refl)
-marked-by-other table None id None marks other only = (λ none. absurd (true≢false (sym none)), λ marked. absurd marked)
-marked-by-other table (Some t) id None marks other only =
-    (λ none. absurd (true≢false (sym none)), λ marked. absurd (other (ap Some (only t (rung-turned table 1 t id marked)))))
 
 -- a name that isn't kept goes out of ring 1
 module _ (old new : Table) (touched : Option ℕ) (id : ℕ) (other : touched ≢ Some id)
