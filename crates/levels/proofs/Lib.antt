@@ -28,6 +28,7 @@ mod Listed
 mod Lookups
 mod Losing
 mod Making
+mod Mined
 mod Most
 mod Naming
 mod Pairing
@@ -49,6 +50,7 @@ mod Righting
 mod Rooms
 mod Running
 mod Saying
+mod Seeking
 mod Seen
 mod Settlements
 mod Shelved

@@ -17,10 +17,12 @@ ghost use Rattle.levels.specs.Levels.{AddsName, ChangesTop, GrowsForFee, HavePic
 ghost use Rattle.levels.specs.Joins.{DepRefusalIs};
 ghost use Rattle.levels.specs.Lefts.{DropsWithin};
 ghost use Rattle.levels.specs.Levels as specs_levels;
+ghost use Rattle.levels.specs.Mining.{MineRefusalIs};
 ghost use Rattle.levels.specs.Stays.{AllStay};
 ghost use Rattle.graphs.specs.declared.names.Level as graph_level;
 ghost use Rattle.levels.specs.Views.{IsClusterOf};
 
+use crate::mining::refused_mine;
 use crate::moving::{add_name, connect, drop_names};
 use crate::settling::settle_rings;
 use crate::shelves::Shelves;
@@ -29,6 +31,7 @@ use cluster_store::{PartWalk, RateWalk, Stored};
 use graph_model::{Level, Limits, Place, Refusal, TxId, Verdict};
 use name_book::NameBook;
 use outside::NoMemory;
+use repeats::Repeats;
 use std::alloc::Global;
 use std::marker::Model;
 use step_count::{Ledger, Steps};
@@ -43,6 +46,8 @@ pub struct Levels<const W: usize> {
     tops: usize,
     issued: u64,
     work: Work<W>,
+    // where a list of names is tested for names that stand in it twice
+    repeats: Repeats,
 }
 
 impl<const W: usize> Model for Levels<W> {
@@ -60,13 +65,14 @@ impl<const W: usize> Model for Levels<W> {
 }
 
 impl<const W: usize> Levels<W> {
-    /// No name and no staging, with the room in which orders are made.
+    /// No name and no staging, with the room in which orders are made and lists of names are tested.
     pub fn new(alloc: Global) -> Result<Self, NoMemory>
         requires wide { 1 ≤ W }
         requires narrow { W ≤ 2 }
         ensures { IfOk result (λ levels. levels ≡ no_names) }
     {
         let work = Work::new(alloc)?;
+        let repeats = Repeats::new(alloc)?;
         Ok(Levels {
             shelves: Shelves::new(alloc),
             rings: NameBook::new(alloc),
@@ -74,6 +80,7 @@ impl<const W: usize> Levels<W> {
             tops: 0,
             issued: 0,
             work,
+            repeats,
         })
     }
 
@@ -273,6 +280,18 @@ impl<const W: usize> Levels<W> {
         self.tops -= ids.len();
         self.mains = main_count(self.shelves.is_staged(), self.mains, self.tops);
         Ok(())
+    }
+
+    /// Why names can't be mined, or `None` where they can: `Twice` with the first name that stands earlier in the list too, else `Unknown`
+    /// with the first that main hasn't, else `Parent` with the first that has an ancestor in main that isn't listed. All stays as it was.
+    /// Takes no memory. A list of up to 32,766 names costs some look-ups a name, and one for each of its ancestors.
+    pub fn refused_mine(&mut self, ids: &[TxId]) -> Option<Refusal>
+        requires { self.old.staging ≡ None }
+        ensures row { MineRefusalIs self.old.main.graph ids.now result }
+        ensures same { self.new ≡ self.old }
+    {
+        let _count = self.mains;
+        refused_mine(&self.shelves, &mut self.rings, &mut self.repeats, ids)
     }
 
     /// Opens a staging that is as main is. Takes no memory.

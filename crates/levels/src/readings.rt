@@ -131,8 +131,8 @@ impl<const W: usize> Shelves<W> {
         comparison::compare(self.store())
     }
 
-    // The number of the cluster of a name that a level has.
-    fn its_number(&self, level: Level, id: TxId) -> usize
+    /// The number of the cluster of a name that a level has.
+    pub(crate) fn its_number(&self, level: Level, id: TxId) -> usize
         requires { is_member (one_of level self.now).graph id ≡ true }
         ensures { finmap.get (numbers_at level self.now) id ≡ Some result }
     {
