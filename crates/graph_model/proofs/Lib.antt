@@ -6,6 +6,7 @@ pub mod AbortLemmas
 pub mod LevelLemmas
 pub mod ValidLemmas
 pub mod ChangeLemmas
+pub mod RestoreLemmas
 pub mod MinedLemmas
 pub mod StepLemmas
 pub mod LimitLemmas

@@ -30,7 +30,8 @@ use Rattle.graph_model.proofs.TrimLemmas.{rising_once}
 use Rattle.graph_model.proofs.FirstLemmas.{first_in}
 use Rattle.graph_model.proofs.BackLemmas.{names_back, ancestors_back}
 use Rattle.graph_model.proofs.SameMinedLemmas.{tx_of}
-use Rattle.graph_model.proofs.MinedLemmas.{CanMine, can_mine, mined_ids, len_fewer, joined_name}
+use Rattle.graph_model.proofs.RestoreLemmas.{joined_name}
+use Rattle.graph_model.proofs.MinedLemmas.{CanMine, can_mine, mined_ids, len_fewer}
 
 size_in_sum : (o : Option Entry) → (sum_in o).size ≡ size_in o
 size_in_sum None = refl

@@ -15,6 +15,7 @@ pub mod Dumps
 pub mod Replies
 pub mod Answers
 pub mod Steps
+pub mod Loads
 pub mod Runs
 pub mod Generators
 pub mod CommandLines
