@@ -3,12 +3,9 @@ use Rattle.std.proofs.Common.{◌≡◌, ℕ, ℤ, ◌^◌, ◌<◌, ◌≤◌, 
 use Rattle.std.specs.Prelude.{Contains, FitsSigned}
 use Rattle.std.specs.Int.{w64}
 use Rattle.std.specs.FinMap as finmap
-use Rattle.std.specs.List.Sorted.{IsStrictlyIncreasing}
 use Rattle.std.proofs.lemmas.Int.{fits_signed_from_abs}
 use Rattle.std.proofs.lemmas.List.{length-map}
-use Rattle.std.proofs.lemmas.List.Kept.{AllPairs-from_increasing}
 use Rattle.lists.specs.Distinct.{AreDistinct}
-use Rattle.lists.proofs.Distinct.{distinct_from_places}
 use Rattle.lists.proofs.Entries.{map_along}
 use Rattle.lists.proofs.Follows.{follow_once}
 use Rattle.lists.proofs.Keys.{names-within}
@@ -27,16 +24,13 @@ use Rattle.graph_model.specs.Limits.{Bounds}
 use Rattle.graph_model.specs.Dumps.{DumpText, EdgesRise, IsDump, HasDumpTypes, IsGraphText, FitsBounds, dump_bytes, LoadFinding, Loads, NoSyntax, NoGraph, NoLimits, FindsLoad, loaded_graph}
 use Rattle.graph_model.specs.DumpLaws.{DumpsLoad}
 use Rattle.graph_model.proofs.LevelLemmas.{over_along}
+use Rattle.graph_model.proofs.TrimLemmas.{rising_once}
 use Rattle.graph_model.proofs.EdgeLemmas.{distinct_from, followed, cover_ancestors, cover_graph}
 use Rattle.graph_model.proofs.AmountLemmas.{all_of}
 use Rattle.graph_model.proofs.ReadingLemmas.{one_reading}
 use Rattle.graph_model.proofs.TxLemmas.{tx_of, rate_listed, tx_named, kept_fine}
 
--- ---- lists that rise
-
-rising_once : (ids : List ℕ) → IsStrictlyIncreasing ids → AreDistinct ids
-rising_once ids rising = distinct_from_places ids (λ i j d less below same.
-    let low = AllPairs-from_increasing ids rising i j d less below in omega (arith, low, same))
+-- ---- edges that rise
 
 abbrev EdgeBefore : ℕ × ℕ → ℕ × ℕ → Type 0
 EdgeBefore a b = (a.1 < b.1) ⊎ ((a.1 ≡ b.1) × (a.0 < b.0))
@@ -47,7 +41,7 @@ edges_apart a b (inl one) (inr other) = omega (arith, one, other.0)
 edges_apart a b (inr one) (inl other) = omega (arith, one.0, other)
 edges_apart a b (inr one) (inr other) = omega (arith, one.1, other.1)
 
-edges_once : (edges : List (ℕ × ℕ)) → EdgesRise edges → AreDistinct edges
+pub edges_once : (edges : List (ℕ × ℕ)) → EdgesRise edges → AreDistinct edges
 edges_once edges rising = distinct_from edges (λ a stands. edges_apart a a (rising a a stands) (rising a a stands))
 
 -- edges that rise are told by their members
@@ -82,7 +76,7 @@ size_entry : (o : Option Entry) → (sum_in o).size ≡ size_in o
 size_entry None = refl
 size_entry (Some entry) = refl
 
-size_told : (table : Table) (id : ℕ) → (rate_of table id).size ≡ size_of table id
+pub size_told : (table : Table) (id : ℕ) → (rate_of table id).size ≡ size_of table id
 size_told table id = size_entry (finmap.get table id)
 
 module _ (state : PlainState) (text : DumpText) (valid : IsValid state) (dump : IsDump state.table state.main text) where

@@ -28,5 +28,6 @@ pub mod PickReplies
 pub mod FunctionLemmas
 pub mod UnmineLemmas
 pub mod SoundLemmas
+pub mod LoadLemmas
 pub mod DrawnLemmas
 pub mod SummaryLemmas

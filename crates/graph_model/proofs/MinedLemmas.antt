@@ -1,37 +1,32 @@
 -- Valid states stay valid when a block is mined, and when it is taken back.
-use Rattle.std.proofs.Common.{◌≡◌, ◌≢◌, ℕ, ℤ, suc, zero, ◌+◌, ◌^◌, ◌<◌, ◌≤◌, true, false, List, [], ◌∷◌, map, length, Option, None, Some, is_some, sym, refl, ap, subst, ◌∙◌, inl, inr, ◌⊎◌, arith, true≢false, not, ◌&&◌, nat_eq, ne_eqb}
-use Rattle.std.specs.Prelude.{Contains, take, sum_by}
+use Rattle.std.proofs.Common.{◌≡◌, ◌≢◌, ℕ, ℤ, suc, zero, ◌+◌, ◌<◌, ◌≤◌, true, false, List, [], ◌∷◌, map, length, Option, None, Some, is_some, sym, refl, ap, subst, ◌∙◌, inl, inr, ◌⊎◌, arith, true≢false, not, ◌&&◌, ne_eqb}
+use Rattle.std.specs.Prelude.{Contains, take}
 use Rattle.std.specs.FinMap as finmap
-use Rattle.std.proofs.lemmas.Bool.{cases_Bool, cases_lt, and_parts}
+use Rattle.std.proofs.lemmas.Bool.{cases_lt}
 use Rattle.lists.specs.Distinct.{AreDistinct}
-use Rattle.lists.proofs.Cases.{some_none, differs}
-use Rattle.lists.proofs.Distinct.{distinct_within}
+use Rattle.lists.proofs.Cases.{some_none}
 use Rattle.lists.proofs.Keys.{len-within, len-drop, contains-drop}
 use Rattle.lists.proofs.Told.{told_number}
 use Rattle.lists.proofs.Entries.{Contains-head, Contains-later, Contains-cases, none_in_empty, not_empty, map-Contains}
-use Rattle.arithmetic.proofs.Sums.{sum_by_along}
 use Rattle.fee_rate.specs.Limits.{IsFee, IsSize}
-use Rattle.graphs.specs.declared.names.Level.TheVariants.{Main, Top}
-use Rattle.graphs.specs.Graphs.{Graph, Trail, AreConnected, IsGraph}
+use Rattle.graphs.specs.declared.names.Level.TheVariants.{Main}
+use Rattle.graphs.specs.Graphs.{Graph}
 use Rattle.graphs.specs.Drops.{HasParents}
-use Rattle.graphs.proofs.WalkLemmas.{walk_of_pair, AreConnected-sym, AreConnected-trans}
+use Rattle.graphs.proofs.WalkLemmas.{walk_of_pair}
 use Rattle.graphs.proofs.DropLemmas as drops
 use Rattle.graph_model.specs.declared.limits.TheConstants.{MAX_BLOCKS}
 use Rattle.graph_model.specs.declared.names.Refusal.{Refusal}
-use Rattle.graph_model.specs.declared.names.Refusal.TheVariants.{Count, ClusterSize}
-use Rattle.graph_model.specs.Limits.{Bounds, AreOver}
-use Rattle.graph_model.specs.Oversize.{AreOfOneComponent, HasOver}
-use Rattle.graph_model.specs.States.{PlainState, MinedBlock, Table, Entry, level_of, top_of, IsLive, sum_in, size_in, size_of}
+use Rattle.graph_model.specs.States.{PlainState, MinedBlock, Table, Entry, top_of, IsLive, sum_in}
 use Rattle.graph_model.specs.Commands.{HasTypes, Mine, Unmine}
-use Rattle.graph_model.specs.Changes.{begun, IsKept, DropsFromMain, IsMinedBlock, Mines, ids_of, Restores, Unmines}
-use Rattle.graph_model.specs.Refusals.{RefusalIs, StandsTwice, LacksAncestor, IsAbsent, ToldOver, IsInOver, BringsOver, latest_ids}
+use Rattle.graph_model.specs.Changes.{begun, DropsFromMain, IsMinedBlock, Mines, ids_of, Restores, Unmines}
+use Rattle.graph_model.specs.Refusals.{RefusalIs, StandsTwice, LacksAncestor, IsAbsent, IsInOver, BringsOver, latest_ids}
 use Rattle.graph_model.specs.Validity.{IsLevel, IsStaging, IsKeptBlock, IsValid}
-use Rattle.graph_model.proofs.LevelLemmas.{one_pair, connects, connected_told, some_list, level_within, same_level}
+use Rattle.graph_model.proofs.LevelLemmas.{one_pair, connects, level_within, same_level}
 use Rattle.graph_model.proofs.ValidLemmas.{row_on, row_at_on, forgets_valid}
 use Rattle.graph_model.proofs.FirstLemmas.{none_first, none_with, none_twice}
 use Rattle.graph_model.proofs.BackLemmas.{no_cycle_along}
 use Rattle.graph_model.proofs.RestoreLemmas.{CanCome, none_over, valid_restored}
-use Rattle.graph_model.proofs.SameMinedLemmas.{tx_of, listed_tx}
+use Rattle.graph_model.proofs.SameMinedLemmas.{tx_of}
 
 -- ---- lists and tables
 

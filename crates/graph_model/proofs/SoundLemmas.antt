@@ -49,7 +49,7 @@ sized state level valid id here = of_entry (finmap.get state.table id) ((valid.l
     of_entry None none rates = absurd (true≢false (sym none))
     of_entry (Some e) some rates = (rates e refl).1.0
 
-best : (state : State) (level : Level) (pick : List Part) → IsValidState state → pick_of state.picks level ≡ Some pick → AreBest state.plain level pick
+pub best : (state : State) (level : Level) (pick : List Part) → IsValidState state → pick_of state.picks level ≡ Some pick → AreBest state.plain level pick
 best state level pick valid is =
     picks_are_kept.optimal (rate_of state.plain.table) (level_of state.plain level) pick (sized state.plain level valid.plain)
     (level_pick state level pick valid is).1

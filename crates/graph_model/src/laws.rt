@@ -5,6 +5,7 @@ ghost use Rattle.graph_model.specs.SameLaws.{StepsAreFunctions};
 ghost use Rattle.graph_model.specs.TrimLaws.{TrimDropsOneSet};
 ghost use Rattle.graph_model.specs.UnmineLaws.{MinedComesBack};
 ghost use Rattle.graph_model.specs.DumpLaws.{DumpsLoad};
+ghost use Rattle.graph_model.specs.LoadLaws.{LoadsProve};
 ghost use Rattle.graph_model.specs.BlockLaws.{BlocksBeginBest};
 ghost use Rattle.graph_model.specs.RunLaws.{RunsAreSound};
 ghost use Rattle.graph_model.specs.StagingLaws.{AbortLeavesMain};
@@ -64,6 +65,11 @@ pub fn mined_comes_back()
 /// The text of a graph can be loaded, and makes a graph that agrees with it.
 pub fn dumps_load()
     ensures { DumpsLoad }
+{}
+
+/// A text that passes all tests makes a valid state of the text's graph, and `load` writes a certificate of an optimal order of that graph.
+pub fn loads_prove()
+    ensures { LoadsProve }
 {}
 
 /// What a block takes before it leaves a part out is the front of the order, and the best of its size.
