@@ -1,12 +1,12 @@
 -- The text of a graph can be loaded, and makes a graph that agrees with it.
-use Rattle.std.proofs.Common.{◌≡◌, ℕ, ℤ, ◌^◌, ◌<◌, ◌≤◌, ◌↔◌, ◌⊎◌, inl, inr, List, map, length, Option, None, Some, refl, sym, ap, subst, ◌∙◌, arith}
+use Rattle.std.proofs.Common.{◌≡◌, ℕ, ℤ, ◌^◌, ◌<◌, ◌≤◌, ◌↔◌, ◌⊎◌, inl, inr, List, [], ◌∷◌, map, length, Option, None, Some, refl, sym, ap, subst, ◌∙◌, arith}
 use Rattle.std.specs.Prelude.{Contains, FitsSigned}
 use Rattle.std.specs.Int.{w64}
 use Rattle.std.specs.FinMap as finmap
 use Rattle.std.proofs.lemmas.Int.{fits_signed_from_abs}
 use Rattle.std.proofs.lemmas.List.{length-map}
 use Rattle.lists.specs.Distinct.{AreDistinct}
-use Rattle.lists.proofs.Entries.{map_along}
+use Rattle.lists.proofs.Entries.{Contains-head, Contains-later, map_along}
 use Rattle.lists.proofs.Follows.{follow_once}
 use Rattle.lists.proofs.Keys.{names-within}
 use Rattle.fee_rate.specs.declared.rates.Sum.{Sum}
@@ -16,9 +16,10 @@ use Rattle.graphs.specs.Alikes.{AreAlike}
 use Rattle.graphs.specs.Certificates.{Txs, rate_in}
 use Rattle.graphs.specs.Diagrams.{AreCorners}
 use Rattle.graphs.proofs.AlikeLemmas.{alike_back, connected_to, cover_to, corners_to}
+use Rattle.graphs.proofs.BestLemmas.{covers_are_pairs}
 use Rattle.graphs.proofs.ListLemmas.{Lists-same, Lists-for}
 use Rattle.graph_model.specs.States.{PlainState, Table, Entry, size_in, sum_in, size_of, rate_of}
-use Rattle.graph_model.specs.Changes.{ids_of}
+use Rattle.graph_model.specs.Changes.{HasTxs, ids_of}
 use Rattle.graph_model.specs.Validity.{IsValid}
 use Rattle.graph_model.specs.Limits.{Bounds}
 use Rattle.graph_model.specs.Dumps.{DumpText, EdgesRise, IsDump, HasDumpTypes, IsGraphText, FitsBounds, dump_bytes, LoadFinding, Loads, NoSyntax, NoGraph, NoLimits, FindsLoad, loaded_graph}
@@ -178,6 +179,25 @@ module _ (state : PlainState) (text : DumpText) (valid : IsValid state) (dump : 
   passes : ((id : ℕ) → Contains graph.names id → size_of state.table id ≤ state.limits.size) → FindsLoad state.limits (dump_bytes text) (Loads text)
   passes small = ((refl, types), is_graph, fits small)
 
+-- ---- a text is the text of the graph that it makes
+
+-- transactions that a table has are those of their names
+listed_by : (table : Table) (txs : Txs) → HasTxs table txs → txs ≡ map (tx_of (rate_of table)) (ids_of txs)
+listed_by table [] has = refl
+listed_by table (tx ∷ txs) has =
+    let entry : rate_of table tx.0 ≡ record { fee = tx.1; size = tx.2 } = ap sum_in (has tx.0 tx.1 tx.2 (Contains-head tx txs)) in
+    let rest : txs ≡ map (tx_of (rate_of table)) (ids_of txs) =
+    listed_by table txs (λ id fee size here. has id fee size (Contains-later tx (id, fee, size) txs here)) in
+    λ i. (tx.0, (sym entry i).fee, (sym entry i).size) ∷ rest i
+
+pub text_back : (table : Table) (text : DumpText) → IsGraphText text → HasTxs table text.txs → IsDump table (loaded_graph text) text
+text_back table text is has = record {
+  names = record { rising = is.names; exact = λ id. (λ here. here, λ here. here) };
+  sums = listed_by table text.txs has;
+  covers = λ parent child. (is.covers parent child, covers_are_pairs text.edges parent child);
+  rising = is.rising;
+}
+
 -- ---- one thing is found of bytes
 
 one_finding : (bounds : Bounds) (bytes : List ℕ) (a b : LoadFinding) → FindsLoad bounds bytes a → FindsLoad bounds bytes b → a ≡ b
@@ -204,6 +224,7 @@ dumps_load = record {
   alike = alike;
   components = components;
   corners = corners;
+  back = text_back;
   one_text = one_text;
   one_reading = one_reading;
   one_finding = one_finding;

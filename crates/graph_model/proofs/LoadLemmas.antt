@@ -25,7 +25,7 @@ use Rattle.graph_model.specs.Oversize.{HasOver}
 use Rattle.graph_model.specs.Commands.{Proof}
 use Rattle.graph_model.specs.Changes.{HasTxs, Restores, ids_of}
 use Rattle.graph_model.specs.Texts.{Text}
-use Rattle.graph_model.specs.Dumps.{DumpText, HasDumpTypes, IsGraphText, FitsBounds, loaded_graph}
+use Rattle.graph_model.specs.Dumps.{DumpText, IsDump, HasDumpTypes, IsGraphText, FitsBounds, loaded_graph}
 use Rattle.graph_model.specs.Replies.{Reply, Proves, text_of}
 use Rattle.graph_model.specs.Answers.{order_of, ListsCovers, ProvesOrder}
 use Rattle.graph_model.specs.Steps.{Step}
@@ -37,7 +37,7 @@ use Rattle.graph_model.proofs.RestoreLemmas.{CanCome, valid_restored}
 use Rattle.graph_model.proofs.SameMinedLemmas.{listed_tx}
 use Rattle.graph_model.proofs.TxLemmas.{tx_of}
 use Rattle.graph_model.proofs.TrimLemmas.{rising_once}
-use Rattle.graph_model.proofs.DumpLemmas.{edges_once, size_told}
+use Rattle.graph_model.proofs.DumpLemmas.{edges_once, size_told, text_back}
 use Rattle.graph_model.proofs.StepLemmas.{valid_at_start}
 use Rattle.graph_model.proofs.ProofLemmas.{proofs_are_certificates}
 use Rattle.graph_model.proofs.SoundLemmas.{best}
@@ -105,6 +105,22 @@ module _ (most : ℕ) (bounds : Bounds) (text : DumpText) (types : HasDumpTypes 
       λ walk. (walk.0, walk_within text.edges state.main.pairs pair_in x y walk.0 walk.1),
     );
   }
+
+  abbrev turned : AreAlike rate loaded (rate_of state.table) state.main
+  turned = alike_back (rate_of state.table) rate state.main loaded alike
+
+  pub dumped : IsDump state.table state.main text
+  dumped =
+      let own : IsDump state.table loaded text = text_back state.table text is restores.listed in
+      record {
+        names = record { rising = own.names.rising; exact = λ id. (name_in id, name_is id) };
+        sums = own.sums;
+        covers = λ a b. (
+          λ here. cover_to rate (rate_of state.table) loaded state.main turned a b ((own.covers a b).0 here),
+          λ cover. (own.covers a b).1 (cover_to (rate_of state.table) rate state.main loaded alike a b cover),
+        );
+        rising = own.rising;
+      }
 
   loaded_whole : IsGraph loaded
   loaded_whole = record {
@@ -191,6 +207,7 @@ pub loads_prove : LoadsProve
 loads_prove = record {
   valid = λ most bounds bytes text state wide in_range found to. valid_made most bounds text wide in_range found.0.1 found.1 found.2 state to;
   alike = λ most bounds bytes text state found to. alike most bounds text found.0.1 found.1 found.2 state.plain to.plain;
+  dumped = λ most bounds bytes text state found to. dumped most bounds text found.0.1 found.1 found.2 state.plain to.plain;
   proves = λ most bounds bytes out text wide in_range found none writes.
       let made = written most bounds text wide in_range found.0.1 found.1 found.2 writes.0 writes.2 none writes.1 writes.3 in
       (made.0, writes.4 ∙ ap text_of made.1, made.2);

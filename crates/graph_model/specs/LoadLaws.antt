@@ -8,7 +8,7 @@ use Rattle.graph_model.specs.Limits.{Bounds, AreInRange}
 use Rattle.graph_model.specs.States.{State, rate_of}
 use Rattle.graph_model.specs.Oversize.{HasOver}
 use Rattle.graph_model.specs.Texts.{Text, Found, Verifies, text_lines}
-use Rattle.graph_model.specs.Dumps.{DumpText, Loads, FindsLoad, loaded_graph}
+use Rattle.graph_model.specs.Dumps.{DumpText, IsDump, Loads, FindsLoad, loaded_graph}
 use Rattle.graph_model.specs.Replies.{Proves, text_of}
 use Rattle.graph_model.specs.Answers.{order_of, ListsCovers}
 use Rattle.graph_model.specs.Validity.{IsValidState}
@@ -22,13 +22,16 @@ pub record ProvesLoaded (text : DumpText) (proof : Text) : Type 0 where
   pub optimal : IsOptimal (rate_in text.txs) (loaded_graph text) (map (λ part. part.ids) proof.parts)
   pub certified : Verifies (text_lines proof) (Found Certified)
 
--- The state that an accepted text makes is valid, and main has the names, the sums and the ancestors of the text. Where no component is over the
--- limits, as none is where no dependency may pass them, `load` writes a text that proves an optimal order of that graph.
+-- The state that an accepted text makes is valid, main has the names, the sums and the ancestors of the text, and its dump is the text again.
+-- Where no component is over the limits, as none is where no dependency may pass them, `load` writes a text that proves an optimal order of that
+-- graph.
 pub record LoadsProve : Type 0 where
   pub valid : (most : ℕ) (bounds : Bounds) (bytes : List ℕ) (text : DumpText) (state : State) → most ≤ MAX_COUNT → AreInRange most bounds
       → FindsLoad bounds bytes (Loads text) → LoadsTo most bounds text state → IsValidState state
   pub alike : (most : ℕ) (bounds : Bounds) (bytes : List ℕ) (text : DumpText) (state : State) → FindsLoad bounds bytes (Loads text)
       → LoadsTo most bounds text state → AreAlike (rate_of state.plain.table) state.plain.main (rate_in text.txs) (loaded_graph text)
+  pub dumped : (most : ℕ) (bounds : Bounds) (bytes : List ℕ) (text : DumpText) (state : State) → FindsLoad bounds bytes (Loads text)
+      → LoadsTo most bounds text state → IsDump state.plain.table state.plain.main text
   pub proves : (most : ℕ) (bounds : Bounds) (bytes written : List ℕ) (text : DumpText) → most ≤ MAX_COUNT → AreInRange most bounds
       → FindsLoad bounds bytes (Loads text) → (HasOver bounds (λ id. (rate_in text.txs id).size) (loaded_graph text) → ⊥)
       → LoadWrites most bounds (Loads text) written → (proof : Text) × (written ≡ text_of (Proves proof)) × ProvesLoaded text proof

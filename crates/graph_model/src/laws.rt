@@ -62,12 +62,12 @@ pub fn mined_comes_back()
     ensures { MinedComesBack }
 {}
 
-/// The text of a graph can be loaded, and makes a graph that agrees with it.
+/// The text of a graph can be loaded, and makes a graph that agrees with it; and an accepted text is the text of the graph that it makes.
 pub fn dumps_load()
     ensures { DumpsLoad }
 {}
 
-/// A text that passes all tests makes a valid state of the text's graph, and `load` writes a certificate of an optimal order of that graph.
+/// An accepted text makes a valid state of the text's graph, and `load` writes a certificate of an optimal order of that graph.
 pub fn loads_prove()
     ensures { LoadsProve }
 {}
