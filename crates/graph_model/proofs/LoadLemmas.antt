@@ -175,7 +175,7 @@ module _ (most : ℕ) (bounds : Bounds) (text : DumpText) (wide : most ≤ MAX_C
   proves_pick : (pick : List Part) (proof : Text) → pick_of state.picks Main ≡ Some pick → ProvesOrder state.plain.table state.plain.main pick proof
       → ProvesLoaded text proof
   proves_pick pick proof picked proves =
-      let order : IsOptimal own state.plain.main (map (λ (p : Part). p.ids) pick) = best state Main pick valid_made picked in
+      let order : IsOptimal own state.plain.main (map (λ (p : Part). p.ids) pick) = (best state Main pick valid_made picked).optimal in
       let sorted : (id : ℕ) → Contains (order_of pick) id → Contains state.plain.main.names id =
       λ id here. (order.order.names id).0 (subst (λ ids. Contains ids id) (joined_ids pick) here) in
       record {

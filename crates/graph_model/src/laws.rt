@@ -77,7 +77,7 @@ pub fn blocks_begin_best()
     ensures { BlocksBeginBest }
 {}
 
-/// Each state of a run is valid, and each order that a run reports is optimal.
+/// Each state of a run is valid, and each order that a run reports is optimal, each part with the sum of its names.
 pub fn runs_are_sound()
     ensures { RunsAreSound }
 {}
