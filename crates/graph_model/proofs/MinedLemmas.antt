@@ -1,5 +1,5 @@
 -- Valid states stay valid when a block is mined, and when it is taken back.
-use Rattle.std.proofs.Common.{◌≡◌, ◌≢◌, ℕ, ℤ, suc, zero, ◌+◌, ◌<◌, ◌≤◌, true, false, List, [], ◌∷◌, map, length, Option, None, Some, is_some, sym, refl, ap, subst, ◌∙◌, inl, inr, ◌⊎◌, arith, true≢false, not, ◌&&◌, ne_eqb}
+use Rattle.std.proofs.Common.{◌≡◌, ◌≢◌, ℕ, ℤ, suc, zero, ◌+◌, ◌<◌, ◌≤◌, true, List, [], ◌∷◌, map, length, Option, None, Some, is_some, sym, refl, ap, subst, ◌∙◌, inl, inr, ◌⊎◌, arith, true≢false, not, ◌&&◌, ne_eqb}
 use Rattle.std.specs.Prelude.{Contains, take}
 use Rattle.std.specs.FinMap as finmap
 use Rattle.std.proofs.lemmas.Bool.{cases_lt}
@@ -19,13 +19,13 @@ use Rattle.graph_model.specs.declared.names.Refusal.{Refusal}
 use Rattle.graph_model.specs.States.{PlainState, MinedBlock, Table, Entry, top_of, IsLive, sum_in}
 use Rattle.graph_model.specs.Commands.{HasTypes, Mine, Unmine}
 use Rattle.graph_model.specs.Changes.{begun, DropsFromMain, IsMinedBlock, Mines, ids_of, Restores, Unmines}
-use Rattle.graph_model.specs.Refusals.{RefusalIs, StandsTwice, LacksAncestor, IsAbsent, IsInOver, BringsOver, latest_ids}
+use Rattle.graph_model.specs.Refusals.{RefusalIs, StandsTwice, LacksAncestor, IsAbsent, BringsOver, latest_of, latest_ids}
 use Rattle.graph_model.specs.Validity.{IsLevel, IsStaging, IsKeptBlock, IsValid}
 use Rattle.graph_model.proofs.LevelLemmas.{one_pair, connects, level_within, same_level}
 use Rattle.graph_model.proofs.ValidLemmas.{row_on, row_at_on, forgets_valid}
 use Rattle.graph_model.proofs.FirstLemmas.{none_first, none_with, none_twice}
 use Rattle.graph_model.proofs.BackLemmas.{no_cycle_along}
-use Rattle.graph_model.proofs.RestoreLemmas.{CanCome, none_over, valid_restored}
+use Rattle.graph_model.proofs.RestoreLemmas.{CanCome, over_with, none_brought, valid_restored}
 use Rattle.graph_model.proofs.SameMinedLemmas.{tx_of}
 
 -- ---- lists and tables
@@ -152,7 +152,7 @@ pub record CanUnmine (old : PlainState) : Type 0 where
   pub alone : old.staging ≡ None
   pub gone : (id : ℕ) → Contains (latest_ids old.blocks) id → IsLive old id → ⊥
   pub room : finmap.len old.table + length (latest_ids old.blocks) ≤ old.limits.total
-  pub within : (why : Refusal) → BringsOver old why → ⊥
+  pub within : (why : Refusal) → BringsOver old (latest_of old.blocks).txs (latest_of old.blocks).pairs why → ⊥
 
 row_of_on : {C : Refusal → Type 0} {L : Type 0} → ((why : Refusal) × C why × (None ≡ Some why)) ⊎ (((why : Refusal) → C why → ⊥) × L)
     → ((why : Refusal) → C why → ⊥) × L
@@ -209,21 +209,14 @@ module _ (old new : PlainState) (valid : IsValid old) (can : CanUnmine old) (blo
     acyclic = kept.acyclic;
   }
 
-  none_in_over : old.limits.defer ≡ false → (id : ℕ) → Contains (ids_of block.txs) id → (why : Refusal) → IsInOver new id why → ⊥
-  none_in_over strict id here why over =
-      none_with (λ q. (any : Refusal) × IsInOver new q any) (latest_ids old.blocks)
-      (λ n first. can.within first.has.0 (record {
-        strict = strict;
-        next = new;
-        unmines = (block, earlier, at, back);
-        id = n;
-        first = first;
-        over = first.has.1;
-      })) id (subst (λ ns. Contains ns id) (sym latest) here) (why, over)
+  within : (why : Refusal) → BringsOver taken block.txs block.pairs why → ⊥
+  within why over =
+      subst (λ (b : MinedBlock). BringsOver old b.txs b.pairs why → ⊥) (ap latest_of at) (can.within why)
+      (over_with old earlier block.txs block.pairs why over)
 
   valid_back : IsValid new
   valid_back = valid_restored taken new block.txs block.pairs valid_taken can_come back
-      (λ strict. none_over taken new block.txs block.pairs valid_taken can_come back strict (none_in_over strict))
+      (none_brought taken new block.txs block.pairs valid_taken can_come back within)
 
 pub valid_unmined : (old new : PlainState) → IsValid old → RefusalIs old Unmine None → Unmines old new → IsValid new
 valid_unmined old new valid row (block, earlier, at, back) = valid_back old new valid (can_unmine old row) block earlier at back

@@ -18,11 +18,12 @@ use Rattle.graph_model.specs.declared.names.Refusal.{Refusal}
 use Rattle.graph_model.specs.declared.names.Refusal.TheVariants.{Count, ClusterSize}
 use Rattle.graph_model.specs.Limits.{Bounds, AreOver}
 use Rattle.graph_model.specs.Oversize.{AreOfOneComponent, HasOver}
-use Rattle.graph_model.specs.States.{PlainState, Table, Entry, level_of, top_of, IsLive, size_in, size_of}
+use Rattle.graph_model.specs.States.{PlainState, MinedBlock, Table, Entry, level_of, top_of, IsLive, size_in, size_of}
 use Rattle.graph_model.specs.Changes.{begun, IsKept, ids_of, Restores}
-use Rattle.graph_model.specs.Refusals.{ToldOver, IsInOver}
+use Rattle.graph_model.specs.Refusals.{ToldOver, IsInOver, BringsOver}
 use Rattle.graph_model.specs.Validity.{IsStaging, IsValid}
 use Rattle.graph_model.proofs.LevelLemmas.{connected_told, some_list}
+use Rattle.graph_model.proofs.FirstLemmas.{none_with}
 use Rattle.graph_model.proofs.BackLemmas.{graph_put}
 use Rattle.graph_model.proofs.SameMinedLemmas.{listed_tx}
 
@@ -72,6 +73,23 @@ over_told bounds size ids over = elim (cases_lt bounds.count (length ids)) [
     | inr large ↦ (ClusterSize (sum_by size ids), inr (few, large, refl))
   ]
 ]
+
+-- what is brought over the limits is told without the blocks
+pub over_with : (state : PlainState) (blocks : List MinedBlock) (txs : Txs) (pairs : List (ℕ × ℕ)) (why : Refusal)
+    → BringsOver (record state { blocks = blocks }) txs pairs why → BringsOver state txs pairs why
+over_with state blocks txs pairs why over = record {
+  strict = over.strict;
+  next = record over.next { blocks = state.blocks };
+  restores = record {
+    same = ap (λ (s : PlainState). record s { blocks = state.blocks }) over.restores.same;
+    graph = over.restores.graph;
+    listed = over.restores.listed;
+    others = over.restores.others;
+  };
+  id = over.id;
+  first = over.first;
+  over = over.over;
+}
 
 -- ---- what comes into main
 
@@ -141,7 +159,7 @@ module _ (old new : PlainState) (txs : Txs) (pairs : List (ℕ × ℕ)) (valid :
       ],
     )
 
-    pub none_over : HasOver old.limits (size_of new.table) new.main → ⊥
+    none_over : HasOver old.limits (size_of new.table) new.main → ⊥
     none_over (xs, of, over) =
         let out : (q : ℕ) → Contains xs q → Contains ids q → ⊥ = λ q here listed. far xs of over q q here listed (0, refl) in
         let was : AreOfOneComponent old.main xs = record {
@@ -154,6 +172,18 @@ module _ (old new : PlainState) (txs : Txs) (pairs : List (ℕ × ℕ)) (valid :
         let sizes : sum_by (size_of new.table) xs ≡ sum_by (size_of old.table) xs =
         sum_by_along (size_of new.table) (size_of old.table) xs (λ q here. ap size_in (back.others q (out q here))) in
         valid.main.within strict (xs, was, elim over [ inl many ↦ inl many | inr large ↦ inr (subst (λ n. old.limits.size < n) sizes large) ])
+
+  -- where the row of what is to come in has no refusal, no component is over the limits
+  pub none_brought : ((why : Refusal) → BringsOver old txs pairs why → ⊥) → old.limits.defer ≡ false → HasOver old.limits (size_of new.table) new.main → ⊥
+  none_brought none strict = none_over strict (λ id here why over.
+      none_with (λ q. (any : Refusal) × IsInOver new q any) ids (λ n first. none first.has.0 (record {
+        strict = strict;
+        next = new;
+        restores = back;
+        id = n;
+        first = first;
+        over = first.has.1;
+      })) id here (why, over))
 
   top_is_main : level_of next Top ≡ new.main
   top_is_main = ap (top_of new.main) can.alone
