@@ -1,8 +1,7 @@
 -- The text of a graph can be loaded, and makes a graph that agrees with it.
-use Rattle.std.proofs.Common.{◌≡◌, ℕ, ℤ, ◌^◌, ◌<◌, ◌≤◌, ◌↔◌, ◌⊎◌, inl, inr, List, [], ◌∷◌, map, length, Option, None, Some, refl, sym, ap, subst, ◌∙◌, arith}
+use Rattle.std.proofs.Common.{◌≡◌, ℕ, ℤ, ◌^◌, ◌<◌, ◌≤◌, ◌↔◌, ◌⊎◌, inl, inr, List, [], ◌∷◌, map, length, refl, sym, ap, subst, ◌∙◌, arith}
 use Rattle.std.specs.Prelude.{Contains, FitsSigned}
 use Rattle.std.specs.Int.{w64}
-use Rattle.std.specs.FinMap as finmap
 use Rattle.std.proofs.lemmas.Int.{fits_signed_from_abs}
 use Rattle.std.proofs.lemmas.List.{length-map}
 use Rattle.lists.specs.Distinct.{AreDistinct}
@@ -18,7 +17,7 @@ use Rattle.graphs.specs.Diagrams.{AreCorners}
 use Rattle.graphs.proofs.AlikeLemmas.{alike_back, connected_to, cover_to, corners_to}
 use Rattle.graphs.proofs.BestLemmas.{covers_are_pairs}
 use Rattle.graphs.proofs.ListLemmas.{Lists-same, Lists-for}
-use Rattle.graph_model.specs.States.{PlainState, Table, Entry, size_in, sum_in, size_of, rate_of}
+use Rattle.graph_model.specs.States.{PlainState, Table, sum_in, size_of, rate_of}
 use Rattle.graph_model.specs.Changes.{HasTxs, ids_of}
 use Rattle.graph_model.specs.Validity.{IsValid}
 use Rattle.graph_model.specs.Limits.{Bounds}
@@ -29,7 +28,7 @@ use Rattle.graph_model.proofs.TrimLemmas.{rising_once}
 use Rattle.graph_model.proofs.EdgeLemmas.{distinct_from, followed, cover_ancestors, cover_graph}
 use Rattle.graph_model.proofs.AmountLemmas.{all_of}
 use Rattle.graph_model.proofs.ReadingLemmas.{one_reading}
-use Rattle.graph_model.proofs.TxLemmas.{tx_of, rate_listed, tx_named, kept_fine}
+use Rattle.graph_model.proofs.TxLemmas.{size_told, tx_of, rate_listed, tx_named, kept_fine}
 
 -- ---- edges that rise
 
@@ -72,13 +71,6 @@ one_text : (table : Table) (graph : Graph) (a b : DumpText) → IsDump table gra
 one_text table graph a b = texts_same table table graph graph a b (λ id. (λ h. h, λ h. h)) (λ id. refl) (λ x y. (λ h. h, λ h. h))
 
 -- ---- the text of main
-
-size_entry : (o : Option Entry) → (sum_in o).size ≡ size_in o
-size_entry None = refl
-size_entry (Some entry) = refl
-
-pub size_told : (table : Table) (id : ℕ) → (rate_of table id).size ≡ size_of table id
-size_told table id = size_entry (finmap.get table id)
 
 module _ (state : PlainState) (text : DumpText) (valid : IsValid state) (dump : IsDump state.table state.main text) where
   abbrev rate : ℕ → Sum

@@ -35,9 +35,9 @@ use Rattle.graph_model.specs.LoadLaws.{ProvesLoaded, LoadsProve}
 use Rattle.graph_model.proofs.LevelLemmas.{over_along}
 use Rattle.graph_model.proofs.RestoreLemmas.{CanCome, valid_restored}
 use Rattle.graph_model.proofs.SameMinedLemmas.{listed_tx}
-use Rattle.graph_model.proofs.TxLemmas.{tx_of}
+use Rattle.graph_model.proofs.TxLemmas.{size_told, tx_of}
 use Rattle.graph_model.proofs.TrimLemmas.{rising_once}
-use Rattle.graph_model.proofs.DumpLemmas.{edges_once, size_told, text_back}
+use Rattle.graph_model.proofs.DumpLemmas.{edges_once, text_back}
 use Rattle.graph_model.proofs.StepLemmas.{valid_at_start}
 use Rattle.graph_model.proofs.ProofLemmas.{proofs_are_certificates}
 use Rattle.graph_model.proofs.SoundLemmas.{best}

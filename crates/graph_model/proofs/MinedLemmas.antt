@@ -1,10 +1,8 @@
 -- Valid states stay valid when a block is mined, and when it is taken back.
-use Rattle.std.proofs.Common.{◌≡◌, ◌≢◌, ℕ, ℤ, suc, zero, ◌+◌, ◌<◌, ◌≤◌, true, List, [], ◌∷◌, map, length, Option, None, Some, is_some, sym, refl, ap, subst, ◌∙◌, inl, inr, ◌⊎◌, arith, true≢false, not, ◌&&◌, ne_eqb}
+use Rattle.std.proofs.Common.{◌≡◌, ◌≢◌, ℕ, ℤ, suc, zero, ◌+◌, ◌≤◌, true, List, [], ◌∷◌, map, length, Option, None, Some, is_some, sym, refl, ap, subst, ◌∙◌, inl, inr, arith, true≢false, not, ◌&&◌, ne_eqb}
 use Rattle.std.specs.Prelude.{Contains, take}
 use Rattle.std.specs.FinMap as finmap
-use Rattle.std.proofs.lemmas.Bool.{cases_lt}
 use Rattle.lists.specs.Distinct.{AreDistinct}
-use Rattle.lists.proofs.Cases.{some_none}
 use Rattle.lists.proofs.Keys.{len-within, len-drop, contains-drop}
 use Rattle.lists.proofs.Told.{told_number}
 use Rattle.lists.proofs.Entries.{Contains-head, Contains-later, Contains-cases, none_in_empty, not_empty, map-Contains}
@@ -15,17 +13,16 @@ use Rattle.graphs.specs.Drops.{HasParents}
 use Rattle.graphs.proofs.WalkLemmas.{walk_of_pair}
 use Rattle.graphs.proofs.DropLemmas as drops
 use Rattle.graph_model.specs.declared.limits.TheConstants.{MAX_BLOCKS}
-use Rattle.graph_model.specs.declared.names.Refusal.{Refusal}
-use Rattle.graph_model.specs.States.{PlainState, MinedBlock, Table, Entry, top_of, IsLive, sum_in}
+use Rattle.graph_model.specs.States.{PlainState, MinedBlock, Table, Entry, top_of, sum_in}
 use Rattle.graph_model.specs.Commands.{HasTypes, Mine, Unmine}
 use Rattle.graph_model.specs.Changes.{begun, DropsFromMain, IsMinedBlock, Mines, ids_of, Restores, Unmines}
-use Rattle.graph_model.specs.Refusals.{RefusalIs, StandsTwice, LacksAncestor, IsAbsent, BringsOver, latest_of, latest_ids}
+use Rattle.graph_model.specs.Refusals.{RefusalIs, StandsTwice, LacksAncestor, IsAbsent, latest_of}
 use Rattle.graph_model.specs.Validity.{IsLevel, IsStaging, IsKeptBlock, IsValid}
 use Rattle.graph_model.proofs.LevelLemmas.{one_pair, connects, level_within, same_level}
 use Rattle.graph_model.proofs.ValidLemmas.{row_on, row_at_on, forgets_valid}
 use Rattle.graph_model.proofs.FirstLemmas.{none_first, none_with, none_twice}
 use Rattle.graph_model.proofs.BackLemmas.{no_cycle_along}
-use Rattle.graph_model.proofs.RestoreLemmas.{CanCome, over_with, none_brought, valid_restored}
+use Rattle.graph_model.proofs.RestoreLemmas.{IsFree, free_row, CanCome, over_with, none_brought, valid_restored}
 use Rattle.graph_model.proofs.SameMinedLemmas.{tx_of}
 
 -- ---- lists and tables
@@ -150,26 +147,12 @@ valid_mined old new ids types valid row (block, is, drops) =
 -- what the row of `unmine` says where it has no refusal
 pub record CanUnmine (old : PlainState) : Type 0 where
   pub alone : old.staging ≡ None
-  pub gone : (id : ℕ) → Contains (latest_ids old.blocks) id → IsLive old id → ⊥
-  pub room : finmap.len old.table + length (latest_ids old.blocks) ≤ old.limits.total
-  pub within : (why : Refusal) → BringsOver old (latest_of old.blocks).txs (latest_of old.blocks).pairs why → ⊥
-
-row_of_on : {C : Refusal → Type 0} {L : Type 0} → ((why : Refusal) × C why × (None ≡ Some why)) ⊎ (((why : Refusal) → C why → ⊥) × L)
-    → ((why : Refusal) → C why → ⊥) × L
-row_of_on row = elim row [ inl here ↦ absurd (some_none _ (sym here.2)) | inr on ↦ on ]
+  pub free : IsFree old (latest_of old.blocks).txs (latest_of old.blocks).pairs
 
 pub can_unmine : (old : PlainState) → RefusalIs old Unmine None → CanUnmine old
 can_unmine old row =
-    let one = row_on row in let two = row_on one.1 in let three = row_at_on two.1 in let four = row_on three.1 in let five = row_of_on four.1 in
-    record {
-      alone = not_staged old.staging one.0;
-      gone = none_with (IsLive old) (latest_ids old.blocks) three.0;
-      room = not_less old.limits.total (finmap.len old.table + length (latest_ids old.blocks)) four.0;
-      within = five.0;
-    }
-  where
-    not_less : (a b : ℕ) → (a < b → ⊥) → b ≤ a
-    not_less a b none = elim (cases_lt a b) [ inl less ↦ absurd (none less) | inr past ↦ past ]
+    let one = row_on row in let two = row_on one.1 in
+    record { alone = not_staged old.staging one.0; free = free_row old (latest_of old.blocks).txs (latest_of old.blocks).pairs two.1 }
 
 module _ (old new : PlainState) (valid : IsValid old) (can : CanUnmine old) (block : MinedBlock) (earlier : List MinedBlock)
     (at : old.blocks ≡ block ∷ earlier) (back : Restores (record old { blocks = earlier }) block.txs block.pairs new) where
@@ -177,8 +160,8 @@ module _ (old new : PlainState) (valid : IsValid old) (can : CanUnmine old) (blo
   abbrev taken : PlainState
   taken = record old { blocks = earlier }
 
-  latest : latest_ids old.blocks ≡ ids_of block.txs
-  latest = ap latest_ids at
+  free : IsFree old block.txs block.pairs
+  free = subst (λ (b : MinedBlock). IsFree old b.txs b.pairs) (ap latest_of at) can.free
 
   valid_taken : IsValid taken
   valid_taken = record {
@@ -201,22 +184,17 @@ module _ (old new : PlainState) (valid : IsValid old) (can : CanUnmine old) (blo
   can_come : CanCome taken block.txs block.pairs
   can_come = record {
     alone = can.alone;
-    gone = λ id here. can.gone id (subst (λ ns. Contains ns id) (sym latest) here);
-    room = subst (λ ns. finmap.len old.table + length ns ≤ old.limits.total) latest can.room;
+    gone = free.gone;
+    room = free.room;
     names = kept.names;
     rates = kept.rates;
     parents = kept.parents;
     acyclic = kept.acyclic;
   }
 
-  within : (why : Refusal) → BringsOver taken block.txs block.pairs why → ⊥
-  within why over =
-      subst (λ (b : MinedBlock). BringsOver old b.txs b.pairs why → ⊥) (ap latest_of at) (can.within why)
-      (over_with old earlier block.txs block.pairs why over)
-
   valid_back : IsValid new
-  valid_back = valid_restored taken new block.txs block.pairs valid_taken can_come back
-      (none_brought taken new block.txs block.pairs valid_taken can_come back within)
+  valid_back = valid_restored taken new block.txs block.pairs valid_taken can_come back (none_brought taken new block.txs block.pairs valid_taken can_come back
+      (λ why over. free.within why (over_with old earlier block.txs block.pairs why over)))
 
 pub valid_unmined : (old new : PlainState) → IsValid old → RefusalIs old Unmine None → Unmines old new → IsValid new
 valid_unmined old new valid row (block, earlier, at, back) = valid_back old new valid (can_unmine old row) block earlier at back

@@ -3,7 +3,7 @@ use Rattle.std.proofs.Common.{◌≡◌, ◌≢◌, ℕ, ℤ, suc, zero, ◌+◌
 use Rattle.std.specs.Prelude.{Contains, sum_by}
 use Rattle.std.specs.FinMap as finmap
 use Rattle.std.proofs.lemmas.Bool.{cases_Bool, cases_lt, and_parts}
-use Rattle.lists.proofs.Cases.{differs}
+use Rattle.lists.proofs.Cases.{some_none, differs}
 use Rattle.lists.proofs.Distinct.{distinct_within}
 use Rattle.lists.proofs.Keys.{len-within, len-drop, contains-drop}
 use Rattle.lists.proofs.Told.{told_number}
@@ -20,9 +20,10 @@ use Rattle.graph_model.specs.Limits.{Bounds, AreOver}
 use Rattle.graph_model.specs.Oversize.{AreOfOneComponent, HasOver}
 use Rattle.graph_model.specs.States.{PlainState, MinedBlock, Table, Entry, level_of, top_of, IsLive, size_in, size_of}
 use Rattle.graph_model.specs.Changes.{begun, IsKept, ids_of, Restores}
-use Rattle.graph_model.specs.Refusals.{ToldOver, IsInOver, BringsOver}
+use Rattle.graph_model.specs.Refusals.{ToldOver, IsInOver, BringsOver, RestoreRow}
 use Rattle.graph_model.specs.Validity.{IsStaging, IsValid}
 use Rattle.graph_model.proofs.LevelLemmas.{connected_told, some_list}
+use Rattle.graph_model.proofs.ValidLemmas.{row_on, row_at_on}
 use Rattle.graph_model.proofs.FirstLemmas.{none_with}
 use Rattle.graph_model.proofs.BackLemmas.{graph_put}
 use Rattle.graph_model.proofs.SameMinedLemmas.{listed_tx}
@@ -90,6 +91,30 @@ over_with state blocks txs pairs why over = record {
   first = over.first;
   over = over.over;
 }
+
+-- ---- the row
+
+-- what the row of transactions that are to come into main says where it has no refusal
+pub record IsFree (old : PlainState) (txs : Txs) (pairs : List (ℕ × ℕ)) : Type 0 where
+  pub gone : (id : ℕ) → Contains (ids_of txs) id → IsLive old id → ⊥
+  pub room : finmap.len old.table + length (ids_of txs) ≤ old.limits.total
+  pub within : (why : Refusal) → BringsOver old txs pairs why → ⊥
+
+row_of_on : {C : Refusal → Type 0} {L : Type 0} → ((why : Refusal) × C why × (None ≡ Some why)) ⊎ (((why : Refusal) → C why → ⊥) × L)
+    → ((why : Refusal) → C why → ⊥) × L
+row_of_on row = elim row [ inl here ↦ absurd (some_none _ (sym here.2)) | inr on ↦ on ]
+
+pub free_row : (old : PlainState) (txs : Txs) (pairs : List (ℕ × ℕ)) → RestoreRow old txs pairs None → IsFree old txs pairs
+free_row old txs pairs row =
+    let one = row_at_on row in let two = row_on one.1 in
+    record {
+      gone = none_with (IsLive old) (ids_of txs) one.0;
+      room = not_less old.limits.total (finmap.len old.table + length (ids_of txs)) two.0;
+      within = (row_of_on two.1).0;
+    }
+  where
+    not_less : (a b : ℕ) → (a < b → ⊥) → b ≤ a
+    not_less a b none = elim (cases_lt a b) [ inl less ↦ absurd (none less) | inr past ↦ past ]
 
 -- ---- what comes into main
 

@@ -1,5 +1,5 @@
 -- A block that is taken back directly after it was mined.
-use Rattle.std.proofs.Common.{◌≡◌, ℕ, ◌+◌, ◌<◌, ◌≤◌, false, List, ◌∷◌, length, Option, None, Some, is_some, sym, refl, ap, subst, ◌∙◌, inl, inr, ◌⊎◌, arith, true≢false}
+use Rattle.std.proofs.Common.{◌≡◌, ℕ, ◌+◌, ◌<◌, ◌≤◌, false, List, ◌∷◌, length, Some, is_some, sym, refl, ap, subst, ◌∙◌, inl, inr, ◌⊎◌, arith, true≢false}
 use Rattle.std.specs.Prelude.{Contains, take, sum_by}
 use Rattle.std.specs.FinMap as finmap
 use Rattle.lists.proofs.Cases.{some_none}
@@ -17,7 +17,7 @@ use Rattle.graph_model.specs.declared.names.Refusal.{Refusal}
 use Rattle.graph_model.specs.declared.names.Refusal.TheVariants.{Memory}
 use Rattle.graph_model.specs.Limits.{Bounds, AreOver}
 use Rattle.graph_model.specs.Oversize.{AreOfOneComponent}
-use Rattle.graph_model.specs.States.{PlainState, MinedBlock, State, Table, Entry, top_of, IsLive, rate_of, sum_in, size_in, size_of}
+use Rattle.graph_model.specs.States.{PlainState, MinedBlock, State, Table, top_of, IsLive, rate_of, sum_in, size_of}
 use Rattle.graph_model.specs.Commands.{Mine, Unmine}
 use Rattle.graph_model.specs.Replies.{Reply, Done, Refused, Unmined}
 use Rattle.graph_model.specs.Refusals.{RefusalIs, IsInOver, BringsOver, latest_of, latest_ids}
@@ -26,16 +26,13 @@ use Rattle.graph_model.specs.Steps.{Step}
 use Rattle.graph_model.specs.Validity.{IsValid, IsValidState}
 use Rattle.graph_model.specs.UnmineLaws.{MinedComesBack}
 use Rattle.graph_model.proofs.ValidLemmas.{told_kept}
+use Rattle.graph_model.proofs.TxLemmas.{size_told}
 use Rattle.graph_model.proofs.TrimLemmas.{rising_once}
 use Rattle.graph_model.proofs.FirstLemmas.{first_in}
 use Rattle.graph_model.proofs.BackLemmas.{names_back, ancestors_back}
 use Rattle.graph_model.proofs.SameMinedLemmas.{tx_of}
 use Rattle.graph_model.proofs.RestoreLemmas.{joined_name}
 use Rattle.graph_model.proofs.MinedLemmas.{CanMine, can_mine, mined_ids, len_fewer}
-
-size_in_sum : (o : Option Entry) → (sum_in o).size ≡ size_in o
-size_in_sum None = refl
-size_in_sum (Some entry) = refl
 
 -- ---- the state after `mine`
 
@@ -112,7 +109,7 @@ module _ (old : PlainState) (ids : List ℕ) (valid : IsValid old) (can : CanMin
             together = λ a b here there. AreConnected-trans old.main.pairs a id b (AreConnected-sym old.main.pairs id a (to_old a here)) (to_old b there);
           } in
           let sizes : sum_by (size_of new.table) xs ≡ sum_by (size_of old.table) xs = sum_by_along (size_of new.table) (size_of old.table) xs (λ q here.
-          sym (size_in_sum (finmap.get new.table q)) ∙ ap (λ (s : Sum). s.size) (sym (entry q (inside q here))) ∙ size_in_sum (finmap.get old.table q)) in
+          sym (size_told new.table q) ∙ ap (λ (s : Sum). s.size) (sym (entry q (inside q here))) ∙ size_told old.table q) in
           let over : AreOver old.limits (size_of old.table) xs = elim told [
             | inl many ↦ inl (subst (λ (l : Bounds). l.count < length xs) limits_are many.0)
             | inr large ↦ inr (subst (λ n. old.limits.size < n) sizes (subst (λ (l : Bounds). l.size < sum_by (size_of new.table) xs) limits_are large.1))
