@@ -8,6 +8,7 @@ use Rattle.std.proofs.lemmas.Bool.{cases_eq}
 use Rattle.std.proofs.lemmas.List.{length-map}
 use Rattle.std.proofs.lemmas.List.Elements.{All-contains}
 use Rattle.lists.proofs.Cases.{some_none}
+use Rattle.lists.proofs.Flats.{flat_has}
 use Rattle.lists.proofs.Entries.{Contains-cases, Contains-head, Contains-later, none_in_empty, map_along}
 use Rattle.fee_rate.specs.declared.rates.Sum.{Sum}
 use Rattle.graphs.specs.declared.names.Level.TheVariants.{Main}
@@ -17,7 +18,7 @@ use Rattle.graphs.specs.Certificates.{Part, Txs, rate_in}
 use Rattle.graphs.specs.Linearizations.{IsOptimal}
 use Rattle.graphs.proofs.WalkLemmas.{walk_within}
 use Rattle.graphs.proofs.BestLemmas.{joined_ids}
-use Rattle.graphs.proofs.AlikeLemmas.{alike_back, connected_to, cover_to, optimal_to}
+use Rattle.graphs.proofs.AlikeLemmas.{alike_back, connected_to, cover_to, sums_along, optimal_to}
 use Rattle.graph_model.specs.declared.limits.TheConstants.{MAX_COUNT}
 use Rattle.graph_model.specs.Limits.{Bounds, AreInRange}
 use Rattle.graph_model.specs.States.{PlainState, State, Table, Entry, plain_start, pick_of, sum_in, rate_of, size_of}
@@ -31,6 +32,7 @@ use Rattle.graph_model.specs.Answers.{order_of, ListsCovers, ProvesOrder}
 use Rattle.graph_model.specs.Steps.{Step}
 use Rattle.graph_model.specs.Validity.{IsValid, IsValidState}
 use Rattle.graph_model.specs.Loads.{LoadsTo}
+use Rattle.graph_model.specs.RunLaws.{AreBest}
 use Rattle.graph_model.specs.LoadLaws.{ProvesLoaded, LoadsProve}
 use Rattle.graph_model.proofs.LevelLemmas.{over_along}
 use Rattle.graph_model.proofs.RestoreLemmas.{CanCome, valid_restored}
@@ -175,7 +177,8 @@ module _ (most : ℕ) (bounds : Bounds) (text : DumpText) (wide : most ≤ MAX_C
   proves_pick : (pick : List Part) (proof : Text) → pick_of state.picks Main ≡ Some pick → ProvesOrder state.plain.table state.plain.main pick proof
       → ProvesLoaded text proof
   proves_pick pick proof picked proves =
-      let order : IsOptimal own state.plain.main (map (λ (p : Part). p.ids) pick) = (best state Main pick valid_made picked).optimal in
+      let are : AreBest state.plain Main pick = best state Main pick valid_made picked in
+      let order : IsOptimal own state.plain.main (map (λ (p : Part). p.ids) pick) = are.optimal in
       let sorted : (id : ℕ) → Contains (order_of pick) id → Contains state.plain.main.names id =
       λ id here. (order.order.names id).0 (subst (λ ids. Contains ids id) (joined_ids pick) here) in
       record {
@@ -186,6 +189,10 @@ module _ (most : ℕ) (bounds : Bounds) (text : DumpText) (wide : most ≤ MAX_C
         optimal = subst (λ parts. IsOptimal told (loaded_graph text) (map (λ (p : Part). p.ids) parts)) (sym proves.parts)
             (optimal_to own told state.plain.main (loaded_graph text) agrees valid_made.plain.main.whole
             (loaded_whole most bounds text types is fits state.plain to.plain) (map (λ (p : Part). p.ids) pick) order);
+        summed = λ part listed.
+            let here : Contains pick part = subst (λ parts. Contains parts part) proves.parts listed in
+            are.summed part here ∙ sums_along own told part.ids
+            (λ id inside. agrees.sums id (sorted id (flat_has (λ (p : Part). p.ids) pick part id here inside)));
         certified = proofs_are_certificates state Main pick proof valid_made picked proves;
       }
 

@@ -1,7 +1,8 @@
 -- What an accepted text makes, and what `load` writes of it.
-use Rattle.std.specs.Prelude.{◌≡◌, ℕ, ◌≤◌, List, map}
+use Rattle.std.specs.Prelude.{◌≡◌, ℕ, ◌≤◌, List, map, Contains}
 use Rattle.graphs.specs.Alikes.{AreAlike}
-use Rattle.graphs.specs.Certificates.{rate_in, Certified}
+use Rattle.graphs.specs.Rates.{sums}
+use Rattle.graphs.specs.Certificates.{Part, rate_in, Certified}
 use Rattle.graphs.specs.Linearizations.{IsOptimal}
 use Rattle.graph_model.specs.declared.limits.TheConstants.{MAX_COUNT}
 use Rattle.graph_model.specs.Limits.{Bounds, AreInRange}
@@ -15,16 +16,17 @@ use Rattle.graph_model.specs.Validity.{IsValidState}
 use Rattle.graph_model.specs.Loads.{LoadsTo, LoadWrites}
 
 -- The text proves an optimal order of the graph that a loaded text makes: it has the graph's names along that order, with their fees and sizes,
--- and the graph's covering pairs; and it is answered with yes, told by its lines alone.
+-- the graph's covering pairs, and the parts of the order with their sums; and it is answered with yes, told by its lines alone.
 pub record ProvesLoaded (text : DumpText) (proof : Text) : Type 0 where
   pub txs : proof.txs ≡ map (λ id. (id, (rate_in text.txs id).fee, (rate_in text.txs id).size)) (order_of proof.parts)
   pub edges : ListsCovers (loaded_graph text) (order_of proof.parts) proof.edges
   pub optimal : IsOptimal (rate_in text.txs) (loaded_graph text) (map (λ part. part.ids) proof.parts)
+  pub summed : (part : Part) → Contains proof.parts part → part.rate ≡ sums (rate_in text.txs) part.ids
   pub certified : Verifies (text_lines proof) (Found Certified)
 
 -- The state that an accepted text makes is valid, main has the names, the sums and the ancestors of the text, and its dump is the text again.
 -- Where no component is over the limits, as none is where no dependency may pass them, `load` writes a text that proves an optimal order of that
--- graph.
+-- graph. (That bytes spell one text, of which one thing is found, is part of `DumpsLoad`.)
 pub record LoadsProve : Type 0 where
   pub valid : (most : ℕ) (bounds : Bounds) (bytes : List ℕ) (text : DumpText) (state : State) → most ≤ MAX_COUNT → AreInRange most bounds
       → FindsLoad bounds bytes (Loads text) → LoadsTo most bounds text state → IsValidState state
