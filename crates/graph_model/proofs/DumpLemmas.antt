@@ -1,15 +1,11 @@
 -- The text of a graph can be loaded, and makes a graph that agrees with it.
-use Rattle.std.proofs.Common.{◌≡◌, ℕ, ℤ, ◌^◌, ◌<◌, ◌≤◌, ◌↔◌, ◌⊎◌, inl, inr, List, map, length, Option, None, Some, refl, sym, ap, subst, ◌∙◌, arith}
+use Rattle.std.proofs.Common.{◌≡◌, ℕ, ℤ, ◌^◌, ◌<◌, ◌≤◌, ◌↔◌, ◌⊎◌, inl, inr, List, [], ◌∷◌, map, length, refl, sym, ap, subst, ◌∙◌, arith}
 use Rattle.std.specs.Prelude.{Contains, FitsSigned}
 use Rattle.std.specs.Int.{w64}
-use Rattle.std.specs.FinMap as finmap
-use Rattle.std.specs.List.Sorted.{IsStrictlyIncreasing}
 use Rattle.std.proofs.lemmas.Int.{fits_signed_from_abs}
 use Rattle.std.proofs.lemmas.List.{length-map}
-use Rattle.std.proofs.lemmas.List.Kept.{AllPairs-from_increasing}
 use Rattle.lists.specs.Distinct.{AreDistinct}
-use Rattle.lists.proofs.Distinct.{distinct_from_places}
-use Rattle.lists.proofs.Entries.{map_along}
+use Rattle.lists.proofs.Entries.{Contains-head, Contains-later, map_along}
 use Rattle.lists.proofs.Follows.{follow_once}
 use Rattle.lists.proofs.Keys.{names-within}
 use Rattle.fee_rate.specs.declared.rates.Sum.{Sum}
@@ -19,24 +15,22 @@ use Rattle.graphs.specs.Alikes.{AreAlike}
 use Rattle.graphs.specs.Certificates.{Txs, rate_in}
 use Rattle.graphs.specs.Diagrams.{AreCorners}
 use Rattle.graphs.proofs.AlikeLemmas.{alike_back, connected_to, cover_to, corners_to}
+use Rattle.graphs.proofs.BestLemmas.{covers_are_pairs}
 use Rattle.graphs.proofs.ListLemmas.{Lists-same, Lists-for}
-use Rattle.graph_model.specs.States.{PlainState, Table, Entry, size_in, sum_in, size_of, rate_of}
-use Rattle.graph_model.specs.Changes.{ids_of}
+use Rattle.graph_model.specs.States.{PlainState, Table, sum_in, size_of, rate_of}
+use Rattle.graph_model.specs.Changes.{HasTxs, ids_of}
 use Rattle.graph_model.specs.Validity.{IsValid}
 use Rattle.graph_model.specs.Limits.{Bounds}
 use Rattle.graph_model.specs.Dumps.{DumpText, EdgesRise, IsDump, HasDumpTypes, IsGraphText, FitsBounds, dump_bytes, LoadFinding, Loads, NoSyntax, NoGraph, NoLimits, FindsLoad, loaded_graph}
 use Rattle.graph_model.specs.DumpLaws.{DumpsLoad}
 use Rattle.graph_model.proofs.LevelLemmas.{over_along}
+use Rattle.graph_model.proofs.TrimLemmas.{rising_once}
 use Rattle.graph_model.proofs.EdgeLemmas.{distinct_from, followed, cover_ancestors, cover_graph}
 use Rattle.graph_model.proofs.AmountLemmas.{all_of}
 use Rattle.graph_model.proofs.ReadingLemmas.{one_reading}
-use Rattle.graph_model.proofs.TxLemmas.{tx_of, rate_listed, tx_named, kept_fine}
+use Rattle.graph_model.proofs.TxLemmas.{size_told, tx_of, rate_listed, tx_named, kept_fine}
 
--- ---- lists that rise
-
-rising_once : (ids : List ℕ) → IsStrictlyIncreasing ids → AreDistinct ids
-rising_once ids rising = distinct_from_places ids (λ i j d less below same.
-    let low = AllPairs-from_increasing ids rising i j d less below in omega (arith, low, same))
+-- ---- edges that rise
 
 abbrev EdgeBefore : ℕ × ℕ → ℕ × ℕ → Type 0
 EdgeBefore a b = (a.1 < b.1) ⊎ ((a.1 ≡ b.1) × (a.0 < b.0))
@@ -47,7 +41,7 @@ edges_apart a b (inl one) (inr other) = omega (arith, one, other.0)
 edges_apart a b (inr one) (inl other) = omega (arith, one.0, other)
 edges_apart a b (inr one) (inr other) = omega (arith, one.1, other.1)
 
-edges_once : (edges : List (ℕ × ℕ)) → EdgesRise edges → AreDistinct edges
+pub edges_once : (edges : List (ℕ × ℕ)) → EdgesRise edges → AreDistinct edges
 edges_once edges rising = distinct_from edges (λ a stands. edges_apart a a (rising a a stands) (rising a a stands))
 
 -- edges that rise are told by their members
@@ -77,13 +71,6 @@ one_text : (table : Table) (graph : Graph) (a b : DumpText) → IsDump table gra
 one_text table graph a b = texts_same table table graph graph a b (λ id. (λ h. h, λ h. h)) (λ id. refl) (λ x y. (λ h. h, λ h. h))
 
 -- ---- the text of main
-
-size_entry : (o : Option Entry) → (sum_in o).size ≡ size_in o
-size_entry None = refl
-size_entry (Some entry) = refl
-
-size_told : (table : Table) (id : ℕ) → (rate_of table id).size ≡ size_of table id
-size_told table id = size_entry (finmap.get table id)
 
 module _ (state : PlainState) (text : DumpText) (valid : IsValid state) (dump : IsDump state.table state.main text) where
   abbrev rate : ℕ → Sum
@@ -184,6 +171,25 @@ module _ (state : PlainState) (text : DumpText) (valid : IsValid state) (dump : 
   passes : ((id : ℕ) → Contains graph.names id → size_of state.table id ≤ state.limits.size) → FindsLoad state.limits (dump_bytes text) (Loads text)
   passes small = ((refl, types), is_graph, fits small)
 
+-- ---- a text is the text of the graph that it makes
+
+-- transactions that a table has are those of their names
+listed_by : (table : Table) (txs : Txs) → HasTxs table txs → txs ≡ map (tx_of (rate_of table)) (ids_of txs)
+listed_by table [] has = refl
+listed_by table (tx ∷ txs) has =
+    let entry : rate_of table tx.0 ≡ record { fee = tx.1; size = tx.2 } = ap sum_in (has tx.0 tx.1 tx.2 (Contains-head tx txs)) in
+    let rest : txs ≡ map (tx_of (rate_of table)) (ids_of txs) =
+    listed_by table txs (λ id fee size here. has id fee size (Contains-later tx (id, fee, size) txs here)) in
+    λ i. (tx.0, (sym entry i).fee, (sym entry i).size) ∷ rest i
+
+pub text_back : (table : Table) (text : DumpText) → IsGraphText text → HasTxs table text.txs → IsDump table (loaded_graph text) text
+text_back table text is has = record {
+  names = record { rising = is.names; exact = λ id. (λ here. here, λ here. here) };
+  sums = listed_by table text.txs has;
+  covers = λ parent child. (is.covers parent child, covers_are_pairs text.edges parent child);
+  rising = is.rising;
+}
+
 -- ---- one thing is found of bytes
 
 one_finding : (bounds : Bounds) (bytes : List ℕ) (a b : LoadFinding) → FindsLoad bounds bytes a → FindsLoad bounds bytes b → a ≡ b
@@ -210,6 +216,7 @@ dumps_load = record {
   alike = alike;
   components = components;
   corners = corners;
+  back = text_back;
   one_text = one_text;
   one_reading = one_reading;
   one_finding = one_finding;

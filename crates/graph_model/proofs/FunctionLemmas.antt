@@ -19,7 +19,7 @@ use Rattle.graph_model.specs.Replies.{Reply, Ids, Number, Points, Compared, Sett
 use Rattle.graph_model.specs.Limits.{Bounds}
 use Rattle.graph_model.specs.Trims.{IsTrimmed}
 use Rattle.graph_model.specs.Dumps.{DumpText, IsDump}
-use Rattle.graph_model.specs.Changes.{begun, AddsPair, Removes, DropsFromMain, DropsFromTop, Commits, Aborts, IsLast}
+use Rattle.graph_model.specs.Changes.{begun, AddsPair, Removes, DropsFromMain, DropsFromTop, Commits, Aborts, IsLast, ids_of}
 use Rattle.graph_model.specs.Verdicts.{VerdictIs}
 use Rattle.graph_model.specs.Steps.{AcceptsPlainly}
 use Rattle.graph_model.specs.Validity.{IsValid, ArePicks}
@@ -238,7 +238,7 @@ module _ (a b : PlainState) (valid_a : IsValid a) (valid_b : IsValid b) (same : 
     replies Trim plain one two =
         let x = one.answer in let y = two.answer in
         x.2 ∙ ap₂ (λ rate ids. Trimmed (sums rate ids) ids) (λ i id. sum_in (same.table id i)) (one_trim x.0 y.0 x.1 y.1) ∙ sym y.2
-    replies Unmine plain one two = one.answer ∙ ap Unmined (latest_same a.blocks b.blocks same.blocks) ∙ sym two.answer
+    replies Unmine plain one two = one.answer ∙ ap (λ txs. Unmined (ids_of txs)) (latest_same a.blocks b.blocks same.blocks).txs ∙ sym two.answer
     replies Compare plain one two =
         let x = one.answer in let y = two.answer in x.2 ∙ ap Compared (same_verdict x.0 y.0 x.1 y.1) ∙ sym y.2
     replies (Order level) plain one two = absurd plain

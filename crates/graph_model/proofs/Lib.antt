@@ -6,6 +6,7 @@ pub mod AbortLemmas
 pub mod LevelLemmas
 pub mod ValidLemmas
 pub mod ChangeLemmas
+pub mod RestoreLemmas
 pub mod MinedLemmas
 pub mod StepLemmas
 pub mod LimitLemmas
@@ -27,5 +28,6 @@ pub mod PickReplies
 pub mod FunctionLemmas
 pub mod UnmineLemmas
 pub mod SoundLemmas
+pub mod LoadLemmas
 pub mod DrawnLemmas
 pub mod SummaryLemmas

@@ -1,36 +1,29 @@
 -- Valid states stay valid when a block is mined, and when it is taken back.
-use Rattle.std.proofs.Common.{◌≡◌, ◌≢◌, ℕ, ℤ, suc, zero, ◌+◌, ◌^◌, ◌<◌, ◌≤◌, true, false, List, [], ◌∷◌, map, length, Option, None, Some, is_some, sym, refl, ap, subst, ◌∙◌, inl, inr, ◌⊎◌, arith, true≢false, not, ◌&&◌, nat_eq, ne_eqb}
-use Rattle.std.specs.Prelude.{Contains, take, sum_by}
+use Rattle.std.proofs.Common.{◌≡◌, ◌≢◌, ℕ, ℤ, suc, zero, ◌+◌, ◌≤◌, true, List, [], ◌∷◌, map, length, Option, None, Some, is_some, sym, refl, ap, subst, ◌∙◌, inl, inr, arith, true≢false, not, ◌&&◌, ne_eqb}
+use Rattle.std.specs.Prelude.{Contains, take}
 use Rattle.std.specs.FinMap as finmap
-use Rattle.std.proofs.lemmas.Bool.{cases_Bool, cases_lt, and_parts}
 use Rattle.lists.specs.Distinct.{AreDistinct}
-use Rattle.lists.proofs.Cases.{some_none, differs}
-use Rattle.lists.proofs.Distinct.{distinct_within}
 use Rattle.lists.proofs.Keys.{len-within, len-drop, contains-drop}
 use Rattle.lists.proofs.Told.{told_number}
-use Rattle.lists.proofs.Entries.{Contains-head, Contains-later, Contains-cases, none_in_empty, map-Contains}
-use Rattle.arithmetic.proofs.Sums.{sum_by_along}
+use Rattle.lists.proofs.Entries.{Contains-head, Contains-later, Contains-cases, none_in_empty, not_empty, map-Contains}
 use Rattle.fee_rate.specs.Limits.{IsFee, IsSize}
-use Rattle.graphs.specs.declared.names.Level.TheVariants.{Main, Top}
-use Rattle.graphs.specs.Graphs.{Graph, Trail, AreConnected, IsGraph}
+use Rattle.graphs.specs.declared.names.Level.TheVariants.{Main}
+use Rattle.graphs.specs.Graphs.{Graph}
 use Rattle.graphs.specs.Drops.{HasParents}
-use Rattle.graphs.proofs.WalkLemmas.{walk_of_pair, AreConnected-sym, AreConnected-trans}
+use Rattle.graphs.proofs.WalkLemmas.{walk_of_pair}
 use Rattle.graphs.proofs.DropLemmas as drops
 use Rattle.graph_model.specs.declared.limits.TheConstants.{MAX_BLOCKS}
-use Rattle.graph_model.specs.declared.names.Refusal.{Refusal}
-use Rattle.graph_model.specs.declared.names.Refusal.TheVariants.{Count, ClusterSize}
-use Rattle.graph_model.specs.Limits.{Bounds, AreOver}
-use Rattle.graph_model.specs.Oversize.{AreOfOneComponent, HasOver}
-use Rattle.graph_model.specs.States.{PlainState, MinedBlock, Table, Entry, level_of, top_of, IsLive, sum_in, size_in, size_of}
+use Rattle.graph_model.specs.States.{PlainState, MinedBlock, Table, Entry, top_of, sum_in}
 use Rattle.graph_model.specs.Commands.{HasTypes, Mine, Unmine}
-use Rattle.graph_model.specs.Changes.{begun, IsKept, DropsFromMain, IsMinedBlock, Mines, ids_of, Restores, Unmines}
-use Rattle.graph_model.specs.Refusals.{RefusalIs, StandsTwice, LacksAncestor, IsAbsent, ToldOver, IsInOver, BringsOver, latest_ids}
+use Rattle.graph_model.specs.Changes.{begun, DropsFromMain, IsMinedBlock, Mines, ids_of, Restores, Unmines}
+use Rattle.graph_model.specs.Refusals.{RefusalIs, StandsTwice, LacksAncestor, IsAbsent, latest_of}
 use Rattle.graph_model.specs.Validity.{IsLevel, IsStaging, IsKeptBlock, IsValid}
-use Rattle.graph_model.proofs.LevelLemmas.{one_pair, connects, connected_told, some_list, level_within, same_level}
+use Rattle.graph_model.proofs.LevelLemmas.{one_pair, connects, level_within, same_level}
 use Rattle.graph_model.proofs.ValidLemmas.{row_on, row_at_on, forgets_valid}
 use Rattle.graph_model.proofs.FirstLemmas.{none_first, none_with, none_twice}
-use Rattle.graph_model.proofs.BackLemmas.{no_cycle_along, graph_put}
-use Rattle.graph_model.proofs.SameMinedLemmas.{tx_of, listed_tx}
+use Rattle.graph_model.proofs.BackLemmas.{no_cycle_along}
+use Rattle.graph_model.proofs.RestoreLemmas.{IsFree, free_row, CanCome, over_with, none_brought, valid_restored}
+use Rattle.graph_model.proofs.SameMinedLemmas.{tx_of}
 
 -- ---- lists and tables
 
@@ -47,36 +40,8 @@ front_short zero xs = omega arith
 front_short (suc n) [] = omega arith
 front_short (suc n) (y ∷ ys) = let rest : length (take n ys) ≤ n = front_short n ys in omega arith
 
-stays_other : (m : Table) (k q : ℕ) → finmap.contains_key (finmap.remove m k) q ≡ true → (q ≢ k) × (finmap.contains_key m q ≡ true)
-stays_other m k q left =
-    let both = and_parts (not (nat_eq q k)) (finmap.contains_key m q) (sym (contains-drop m k q) ∙ left) in (differs q k both.0, both.1)
-
 other_stays : (m : Table) (k q : ℕ) → q ≢ k → finmap.contains_key m q ≡ true → finmap.contains_key (finmap.remove m k) q ≡ true
 other_stays m k q other has = contains-drop m k q ∙ ap (λ b. not b && finmap.contains_key m q) (ne_eqb q k other) ∙ has
-
--- a table whose names are those of another, or listed, has at most so many more
-len_more : (xs : List ℕ) (m n : Table) → ((q : ℕ) → finmap.contains_key m q ≡ true → (finmap.contains_key n q ≡ true) ⊎ Contains xs q)
-    → finmap.len m ≤ finmap.len n + length xs
-len_more [] m n inside =
-    let all : finmap.len m ≤ finmap.len n = len-within m n (λ q has. elim (inside q has) [ inl there ↦ there | inr none ↦ absurd (none_in_empty q none) ]) in
-    omega arith
-len_more (x ∷ xs) m n inside = elim (cases_Bool (finmap.contains_key m x)) [
-  | inl has ↦
-      let less = len-drop m x has in
-      let rest : finmap.len (finmap.remove m x) ≤ finmap.len n + length xs =
-      len_more xs (finmap.remove m x) n (λ q left. let is = stays_other m x q left in later q is.0 is.1) in
-      omega arith
-  | inr lacks ↦
-      let rest : finmap.len m ≤ finmap.len n + length xs =
-      len_more xs m n (λ q has. later q (λ same. true≢false (sym has ∙ ap (finmap.contains_key m) same ∙ lacks)) has) in
-      omega arith
-]
-  where
-    later : (q : ℕ) → q ≢ x → finmap.contains_key m q ≡ true → (finmap.contains_key n q ≡ true) ⊎ Contains xs q
-    later q other has = elim (inside q has) [
-      | inl there ↦ inl there
-      | inr listed ↦ elim (Contains-cases x q xs listed) [ inl same ↦ absurd (other (sym same)) | inr here ↦ inr here ]
-    ]
 
 -- a table that has none of the listed names of another, and only names of that, has at least so many fewer
 pub len_fewer : (xs : List ℕ) (m n : Table) → AreDistinct xs → ((q : ℕ) → Contains xs q → finmap.contains_key m q ≡ true)
@@ -182,197 +147,54 @@ valid_mined old new ids types valid row (block, is, drops) =
 -- what the row of `unmine` says where it has no refusal
 pub record CanUnmine (old : PlainState) : Type 0 where
   pub alone : old.staging ≡ None
-  pub gone : (id : ℕ) → Contains (latest_ids old.blocks) id → IsLive old id → ⊥
-  pub room : finmap.len old.table + length (latest_ids old.blocks) ≤ old.limits.total
-  pub within : (why : Refusal) → BringsOver old why → ⊥
-
-row_of_on : {C : Refusal → Type 0} {L : Type 0} → ((why : Refusal) × C why × (None ≡ Some why)) ⊎ (((why : Refusal) → C why → ⊥) × L)
-    → ((why : Refusal) → C why → ⊥) × L
-row_of_on row = elim row [ inl here ↦ absurd (some_none _ (sym here.2)) | inr on ↦ on ]
+  pub free : IsFree old (latest_of old.blocks).txs (latest_of old.blocks).pairs
 
 pub can_unmine : (old : PlainState) → RefusalIs old Unmine None → CanUnmine old
 can_unmine old row =
-    let one = row_on row in let two = row_on one.1 in let three = row_at_on two.1 in let four = row_on three.1 in let five = row_of_on four.1 in
-    record {
-      alone = not_staged old.staging one.0;
-      gone = none_with (IsLive old) (latest_ids old.blocks) three.0;
-      room = not_less old.limits.total (finmap.len old.table + length (latest_ids old.blocks)) four.0;
-      within = five.0;
-    }
-  where
-    not_less : (a b : ℕ) → (a < b → ⊥) → b ≤ a
-    not_less a b none = elim (cases_lt a b) [ inl less ↦ absurd (none less) | inr past ↦ past ]
-
--- a name that is connected with a name of a graph is one
-pub joined_name : (graph : Graph) → IsGraph graph → (a b n : ℕ) → Trail graph.pairs a b n → Contains graph.names a → Contains graph.names b
-joined_name graph whole a b zero same here = subst (Contains graph.names) same here
-joined_name graph whole a b (suc n) trail here = elim trail.2 [ inl down ↦ (whole.ends trail.0 b down).1 | inr up ↦ (whole.ends b trail.0 up).0 ]
-
--- names over the limits can be told so
-over_told : (bounds : Bounds) (size : ℕ → ℕ) (ids : List ℕ) → AreOver bounds size ids → (why : Refusal) × ToldOver bounds size ids why
-over_told bounds size ids over = elim (cases_lt bounds.count (length ids)) [
-  | inl many ↦ (Count (length ids), inl (many, refl))
-  | inr few ↦ elim over [
-    | inl many ↦ (Count (length ids), inl (many, refl))
-    | inr large ↦ (ClusterSize (sum_by size ids), inr (few, large, refl))
-  ]
-]
+    let one = row_on row in let two = row_on one.1 in
+    record { alone = not_staged old.staging one.0; free = free_row old (latest_of old.blocks).txs (latest_of old.blocks).pairs two.1 }
 
 module _ (old new : PlainState) (valid : IsValid old) (can : CanUnmine old) (block : MinedBlock) (earlier : List MinedBlock)
     (at : old.blocks ≡ block ∷ earlier) (back : Restores (record old { blocks = earlier }) block.txs block.pairs new) where
-  abbrev ids : List ℕ
-  ids = ids_of block.txs
+  -- the state without the latest block
+  abbrev taken : PlainState
+  taken = record old { blocks = earlier }
 
-  abbrev next : PlainState
-  next = record (begun (record old { blocks = earlier })) { table = new.table; main = new.main }
+  free : IsFree old block.txs block.pairs
+  free = subst (λ (b : MinedBlock). IsFree old b.txs b.pairs) (ap latest_of at) can.free
+
+  valid_taken : IsValid taken
+  valid_taken = record {
+    limits = valid.limits;
+    most = valid.most;
+    main = same_level old taken old.main refl (λ id here. refl) valid.main;
+    staging = subst (IsStaging taken) (sym can.alone) tt;
+    live = valid.live;
+    few = valid.few;
+    rates = valid.rates;
+    blocks = λ b here. valid.blocks b (subst (λ bs. Contains bs b) (sym at) (Contains-later block b earlier here));
+    block_count = let long : length old.blocks ≡ suc (length earlier) = ap length at in
+        let all : length old.blocks ≤ MAX_BLOCKS = valid.block_count in omega (arith, long, all);
+    fresh = λ not_yet. absurd (not_empty (sym at ∙ (valid.fresh not_yet).2));
+  }
 
   kept : IsKeptBlock block
   kept = valid.blocks block (subst (λ bs. Contains bs block) (sym at) (Contains-head block earlier))
 
-  latest : latest_ids old.blocks ≡ ids
-  latest = ap latest_ids at
-
-  not_live : (id : ℕ) → Contains ids id → IsLive old id → ⊥
-  not_live id here = can.gone id (subst (λ ns. Contains ns id) (sym latest) here)
-
-  apart : (id : ℕ) → Contains ids id → Contains old.main.names id → ⊥
-  apart id here main = not_live id here ((valid.live id).1 (inl main))
-
-  whole : IsGraph new.main
-  whole = graph_put old.main new.main ids block.pairs back.graph valid.main.whole apart kept.parents kept.acyclic
-
-  small : (id : ℕ) → Contains new.main.names id → id < 2 ^ 64
-  small id here = elim ((back.graph.names id).0 here) [ inl was ↦ valid.main.names id was | inr put ↦ kept.names id put ]
-
-  limits_are : new.limits ≡ old.limits
-  limits_are = ap (λ (s : PlainState). s.limits) back.same
-
-  -- no name that comes back is in a component over the limits
-  module _ (strict : old.limits.defer ≡ false) where
-    none_in_over : (id : ℕ) → Contains ids id → (why : Refusal) → IsInOver new id why → ⊥
-    none_in_over id here why over =
-        none_with (λ q. (any : Refusal) × IsInOver new q any) (latest_ids old.blocks)
-        (λ n first. can.within first.has.0 (record {
-          strict = strict;
-          next = new;
-          unmines = (block, earlier, at, back);
-          id = n;
-          first = first;
-          over = first.has.1;
-        })) id (subst (λ ns. Contains ns id) (sym latest) here) (why, over)
-
-    far : (xs : List ℕ) → AreOfOneComponent new.main xs → AreOver old.limits (size_of new.table) xs → (q m : ℕ) → Contains xs q → Contains ids m
-        → AreConnected new.main.pairs m q → ⊥
-    far xs of over q m here listed near =
-        let all = some_list (AreConnected new.main.pairs m) (connected_told new.main.pairs m) (2 ^ 64)
-        (λ n trail. small n (joined_name new.main whole m n trail.0 trail.1 ((back.graph.names m).1 (inr listed)))) in
-        let fits = distinct_within (size_of new.table) xs all.0 of.once
-        (λ n there. (all.1.exact n).1 (AreConnected-trans new.main.pairs m q n near (of.together q n here there))) in
-        let more : AreOver new.limits (size_of new.table) all.0 = subst (λ (l : Bounds). AreOver l (size_of new.table) all.0) (sym limits_are) (elim over [
-          | inl many ↦ inl (omega (arith, many, fits.0))
-          | inr large ↦ inr (omega (arith, large, fits.1))
-        ]) in
-        let told = over_told new.limits (size_of new.table) all.0 more in
-        none_in_over m listed told.0 (all.0, all.1, told.1)
-
-    -- what is connected with no name that comes back was connected before
-    old_trail : (a : ℕ) → ((m : ℕ) → Contains ids m → AreConnected new.main.pairs m a → ⊥) → (b n : ℕ) → Trail new.main.pairs a b n
-        → Trail old.main.pairs a b n
-    old_trail a none b zero same = same
-    old_trail a none b (suc n) trail = (
-      trail.0,
-      old_trail a none trail.0 n trail.1,
-      elim trail.2 [
-        | inl down ↦ elim ((back.graph.pairs trail.0 b).0 down) [
-          | inl was ↦ inl was
-          | inr put ↦ absurd (none trail.0 (kept.parents trail.0 b put.0) (AreConnected-sym new.main.pairs a trail.0 (n, trail.1)))
-        ]
-        | inr up ↦ elim ((back.graph.pairs b trail.0).0 up) [
-          | inl was ↦ inr was
-          | inr put ↦ absurd (none b (kept.parents b trail.0 put.0) (AreConnected-sym new.main.pairs a b (suc n, trail)))
-        ]
-      ],
-    )
-
-    none_over : HasOver old.limits (size_of new.table) new.main → ⊥
-    none_over (xs, of, over) =
-        let out : (q : ℕ) → Contains xs q → Contains ids q → ⊥ = λ q here listed. far xs of over q q here listed (0, refl) in
-        let was : AreOfOneComponent old.main xs = record {
-          once = of.once;
-          inside = λ q here. elim ((back.graph.names q).0 (of.inside q here)) [ inl main ↦ main | inr put ↦ absurd (out q here put) ];
-          together = λ a b here there.
-              let trail = of.together a b here there in
-              (trail.0, old_trail a (λ m listed near. far xs of over a m here listed near) b trail.0 trail.1);
-        } in
-        let sizes : sum_by (size_of new.table) xs ≡ sum_by (size_of old.table) xs =
-        sum_by_along (size_of new.table) (size_of old.table) xs (λ q here. ap size_in (back.others q (out q here))) in
-        valid.main.within strict (xs, was, elim over [ inl many ↦ inl many | inr large ↦ inr (subst (λ n. old.limits.size < n) sizes large) ])
-
-  top_is_main : level_of next Top ≡ new.main
-  top_is_main = ap (top_of new.main) can.alone
-
-  entry_of : (id : ℕ) → Contains ids id → (fee : ℤ) × (size : ℕ) × (finmap.get new.table id ≡ Some (record { fee = fee; size = size }))
-      × IsFee fee × IsSize size
-  entry_of id here =
-      let tx = listed_tx block.txs id here in
-      let rates = kept.rates id tx.0 tx.1 tx.2 in (tx.0, tx.1, back.listed id tx.0 tx.1 tx.2, rates.0, rates.1)
-
-  was_main : (id : ℕ) → IsKept old id → Contains old.main.names id
-  was_main id is = elim is [ inl main ↦ main | inr top ↦ subst (λ (g : Graph). Contains g.names id) (ap (top_of old.main) can.alone) top ]
-
-  live_main : (id : ℕ) → IsLive next id → Contains new.main.names id
-  live_main id live = elim (told_number ids id) [
-    | inl listed ↦ (back.graph.names id).1 (inr listed)
-    | inr none ↦ (back.graph.names id).1 (inl (was_main id ((valid.live id).0 (sym (ap is_some (back.others id none)) ∙ live))))
-  ]
-
-  main_live : (id : ℕ) → Contains new.main.names id → IsLive next id
-  main_live id here = elim (told_number ids id) [
-    | inl listed ↦ ap is_some (entry_of id listed).2
-    | inr none ↦ elim ((back.graph.names id).0 here) [
-      | inl was ↦ ap is_some (back.others id none) ∙ (valid.live id).1 (inl was)
-      | inr listed ↦ absurd (none listed)
-    ]
-  ]
-
-  few : finmap.len new.table ≤ old.limits.total
-  few =
-      let more : finmap.len new.table ≤ finmap.len old.table + length ids = len_more ids new.table old.table (λ q has. elim (told_number ids q) [
-        | inl listed ↦ inr listed
-        | inr none ↦ inl (sym (ap is_some (back.others q none)) ∙ has)
-      ]) in
-      let room : finmap.len old.table + length ids ≤ old.limits.total = subst (λ ns. finmap.len old.table + length ns ≤ old.limits.total) latest can.room in
-      omega (arith, more, room)
-
-  rates : (id : ℕ) (entry : Entry) → finmap.get new.table id ≡ Some entry → IsFee entry.fee × IsSize entry.size
-  rates id entry is = elim (told_number ids id) [
-    | inl listed ↦
-        let put = entry_of id listed in
-        subst (λ (e : Entry). IsFee e.fee × IsSize e.size) (one (record { fee = put.0; size = put.1 }) entry (sym put.2 ∙ is)) (put.3, put.4)
-    | inr none ↦ valid.rates id entry (sym (back.others id none) ∙ is)
-  ]
-    where
-      one : (a b : Entry) → Some a ≡ Some b → a ≡ b
-      one a b same = cc
-
-  valid_next : IsValid next
-  valid_next = record {
-    limits = valid.limits;
-    most = valid.most;
-    main = record { whole = whole; names = small; within = none_over };
-    staging = subst (IsStaging next) (sym can.alone) tt;
-    live = λ id. (
-      λ live. inl (live_main id live),
-      λ is. main_live id (elim is [ inl main ↦ main | inr top ↦ subst (λ (g : Graph). Contains g.names id) top_is_main top ]),
-    );
-    few = few;
-    rates = rates;
-    blocks = λ b here. valid.blocks b (subst (λ bs. Contains bs b) (sym at) (Contains-later block b earlier here));
-    block_count = let long : length old.blocks ≡ suc (length earlier) = ap length at in
-        let all : length old.blocks ≤ MAX_BLOCKS = valid.block_count in omega (arith, long, all);
-    fresh = λ not_yet. absurd (true≢false not_yet);
+  can_come : CanCome taken block.txs block.pairs
+  can_come = record {
+    alone = can.alone;
+    gone = free.gone;
+    room = free.room;
+    names = kept.names;
+    rates = kept.rates;
+    parents = kept.parents;
+    acyclic = kept.acyclic;
   }
 
+  valid_back : IsValid new
+  valid_back = valid_restored taken new block.txs block.pairs valid_taken can_come back (none_brought taken new block.txs block.pairs valid_taken can_come back
+      (λ why over. free.within why (over_with old earlier block.txs block.pairs why over)))
+
 pub valid_unmined : (old new : PlainState) → IsValid old → RefusalIs old Unmine None → Unmines old new → IsValid new
-valid_unmined old new valid row (block, earlier, at, back) =
-    subst IsValid (sym back.same) (valid_next old new valid (can_unmine old row) block earlier at back)
+valid_unmined old new valid row (block, earlier, at, back) = valid_back old new valid (can_unmine old row) block earlier at back

@@ -1,13 +1,13 @@
 -- A command meets one refusal in a state, or none.
 use Rattle.std.proofs.Common.{sym, ap, ◌∙◌, length}
 use Rattle.std.specs.Prelude.{sum_by}
-use Rattle.graph_model.specs.declared.names.Refusal.TheVariants.{Late, Range, Fee, Size, Taken, ClusterSize, Full, Unknown, Cycle, Count, Staging, Twice, Parent, Empty, NoStaging, Oversized, NoBlock, Back}
+use Rattle.graph_model.specs.declared.names.Refusal.TheVariants.{Late, Range, Fee, Size, Taken, ClusterSize, Full, Unknown, Cycle, Count, Staging, Twice, Parent, Empty, NoStaging, Oversized, NoBlock}
 use Rattle.graph_model.specs.States.{PlainState}
 use Rattle.graph_model.specs.Commands.{Command, SetLimits, Add, Dep, SetFee, Remove, Mine, Evict, Stage, Commit, Abort, Settle, Trim, Unmine, Dump, Compare, Order, Diagram, Proof, Cluster, Ancestors, Descendants, Chunk, Before, Block}
 use Rattle.graph_model.specs.Commands as commands
-use Rattle.graph_model.specs.Refusals.{IsFirst, OverCount, OverSize, BringsOver, RefusalIs}
-use Rattle.graph_model.proofs.RowLemmas.{IsOne, end_one, first_one, first_at_one, first_of_one, joins_once, first_entry}
-use Rattle.graph_model.proofs.OverLemmas.{one_over}
+use Rattle.graph_model.specs.Refusals.{IsFirst, OverCount, OverSize, latest_of, RefusalIs}
+use Rattle.graph_model.proofs.RowLemmas.{IsOne, end_one, first_one, first_at_one, joins_once, first_entry}
+use Rattle.graph_model.proofs.OverLemmas.{one_restore}
 
 pub one_refusal : (state : PlainState) (command : Command) → IsOne (RefusalIs state command)
 one_refusal state (SetLimits limits) = first_one _ Late _ (first_one _ Range _ end_one)
@@ -32,8 +32,7 @@ one_refusal state Settle = first_one _ NoStaging _ (first_one _ Oversized _ end_
 one_refusal state Compare = first_one _ NoStaging _ (first_one _ Oversized _ end_one)
 one_refusal state Trim = end_one
 one_refusal state Unmine =
-    first_one _ Staging _ (first_one _ NoBlock _
-    (first_at_one (IsFirst _ _) Back _ (first_entry _ _) (first_one _ Full _ (first_of_one (BringsOver state) _ (one_over state) end_one))))
+    first_one _ Staging _ (first_one _ NoBlock _ (one_restore state (latest_of state.blocks).txs (latest_of state.blocks).pairs))
 one_refusal state (Order level) = first_one _ Oversized _ end_one
 one_refusal state (Diagram level) = first_one _ Oversized _ end_one
 one_refusal state (Proof level) = first_one _ Oversized _ end_one

@@ -7,7 +7,7 @@ use Rattle.lists.proofs.Entries.{map-Contains, map_along}
 use Rattle.graphs.specs.Certificates.{Txs}
 use Rattle.graph_model.specs.declared.limits.TheConstants.{MAX_BLOCKS}
 use Rattle.graph_model.specs.States.{PlainState, MinedBlock, Table, rate_of, sum_in}
-use Rattle.graph_model.specs.Changes.{begun, DropsFromMain, IsMinedBlock, Mines, ids_of, Unmines}
+use Rattle.graph_model.specs.Changes.{begun, DropsFromMain, IsMinedBlock, Mines, ids_of, Restores, Unmines}
 use Rattle.graph_model.specs.SameLaws.{IsSameBlock, AreSameBlocks, IsSameState}
 use Rattle.graph_model.proofs.SameLemmas.{back, up_to, drops_same, same_left, of_equal}
 
@@ -71,10 +71,11 @@ listed_tx txs id here =
     let from = map-Contains (λ (tx : ℕ × ℤ × ℕ). tx.0) txs id here in
     (from.0.1, from.0.2, subst (λ n. Contains txs (n, from.0.1, from.0.2)) from.2 from.1)
 
-pub same_unmined : (a b a' b' : PlainState) → IsSameState a b → Unmines a a' → Unmines b b' → IsSameState a' b'
-same_unmined a b a' b' same (x, xs, at_a, one) (y, ys, at_b, two) =
-    let blocks : AreSameBlocks (x ∷ xs) (y ∷ ys) = subst (AreSameBlocks (x ∷ xs)) at_b (subst (λ zs. AreSameBlocks zs b.blocks) at_a same.blocks) in
-    let txs : x.txs ≡ y.txs = blocks.0.txs in
+-- the same transactions come into main of states that are the same
+pub same_restored : (a b a' b' : PlainState) (x y : MinedBlock) → IsSameState a b → IsSameBlock x y → Restores a x.txs x.pairs a' → Restores b y.txs y.pairs b'
+    → IsSameState a' b'
+same_restored a b a' b' x y same block one two =
+    let txs : x.txs ≡ y.txs = block.txs in
     let listed : (id : ℕ) → Contains (ids_of x.txs) id → Contains (ids_of y.txs) id = λ id here. subst (λ ts. Contains (ids_of ts) id) txs here in
     let listed_back : (id : ℕ) → Contains (ids_of y.txs) id → Contains (ids_of x.txs) id = λ id here. subst (λ ts. Contains (ids_of ts) id) (sym txs) here in
     let entry : (id : ℕ) → finmap.get a'.table id ≡ finmap.get b'.table id = λ id. elim (told_number (ids_of x.txs) id) [
@@ -87,8 +88,7 @@ same_unmined a b a' b' same (x, xs, at_a, one) (y, ys, at_b, two) =
     (elim ((one.graph.names id).0 here) [ inl was ↦ inl ((same.main.names id).0 was) | inr put ↦ inr (listed id put) ]) in
     let names_back : (id : ℕ) → Contains b'.main.names id → Contains a'.main.names id = λ id here. (one.graph.names id).1
     (elim ((two.graph.names id).0 here) [ inl was ↦ inl ((same.main.names id).1 was) | inr put ↦ inr (listed_back id put) ]) in
-    of_equal (record (begun (record a { blocks = xs })) { table = a'.table; main = a'.main })
-    (record (begun (record b { blocks = ys })) { table = b'.table; main = b'.main }) a' b' one.same two.same
+    of_equal (record (begun a) { table = a'.table; main = a'.main }) (record (begun b) { table = b'.table; main = b'.main }) a' b' one.same two.same
     (record {
       limits = same.limits;
       most = same.most;
@@ -99,14 +99,29 @@ same_unmined a b a' b' same (x, xs, at_a, one) (y, ys, at_b, two) =
         pairs = λ p q. (
           λ here. (two.graph.pairs p q).1 (elim ((one.graph.pairs p q).0 here) [
             | inl was ↦ inl ((same.main.pairs p q).0 was)
-            | inr put ↦ inr ((blocks.0.pairs p q).0 put.0, names q put.1)
+            | inr put ↦ inr ((block.pairs p q).0 put.0, names q put.1)
           ]),
           λ here. (one.graph.pairs p q).1 (elim ((two.graph.pairs p q).0 here) [
             | inl was ↦ inl ((same.main.pairs p q).1 was)
-            | inr put ↦ inr ((blocks.0.pairs p q).1 put.0, names_back q put.1)
+            | inr put ↦ inr ((block.pairs p q).1 put.0, names_back q put.1)
           ]),
         );
       };
       staging = same.staging;
+      blocks = same.blocks;
+    })
+
+pub same_unmined : (a b a' b' : PlainState) → IsSameState a b → Unmines a a' → Unmines b b' → IsSameState a' b'
+same_unmined a b a' b' same (x, xs, at_a, one) (y, ys, at_b, two) =
+    let blocks : AreSameBlocks (x ∷ xs) (y ∷ ys) = subst (AreSameBlocks (x ∷ xs)) at_b (subst (λ zs. AreSameBlocks zs b.blocks) at_a same.blocks) in
+    same_restored (record a { blocks = xs }) (record b { blocks = ys }) a' b' x y
+    (record {
+      limits = same.limits;
+      most = same.most;
+      begun = same.begun;
+      table = same.table;
+      main = same.main;
+      staging = same.staging;
       blocks = blocks.1;
     })
+    blocks.0 one two

@@ -1,19 +1,24 @@
 -- What holds all along a run: states are valid, and what is told of an order is told of an optimal one.
-use Rattle.std.proofs.Common.{◌≡◌, ℕ, ◌≤◌, true, List, [], ◌∷◌, Option, None, Some, is_some, sym, refl, subst, inl, inr, true≢false}
-use Rattle.std.specs.Prelude.{Contains}
+use Rattle.std.proofs.Common.{◌≡◌, ℕ, ◌≤◌, Bool, true, List, [], ◌∷◌, map, ap, ◌∙◌, Option, None, Some, is_some, sym, refl, subst, inl, inr, true≢false}
+use Rattle.std.specs.Prelude.{Contains, filter}
 use Rattle.std.specs.FinMap as finmap
+use Rattle.lists.proofs.Entries.{Contains-map, map-Contains, filter-Contains}
+use Rattle.fee_rate.specs.declared.rates.Sum.{Sum}
 use Rattle.fee_rate.specs.Limits.{IsFee, IsSize}
 use Rattle.graphs.specs.declared.names.Level.{Level}
 use Rattle.graphs.specs.declared.names.Level.TheVariants.{Main, Top}
 use Rattle.graphs.specs.Certificates.{Part}
-use Rattle.graphs.specs.Rates.{HasSizes}
+use Rattle.graphs.specs.Rates.{sum_of, sums, HasSizes}
+use Rattle.graphs.specs.Picks.{IsPick}
+use Rattle.graphs.proofs.BestLemmas.{joined_ids, rates_are_sums, sum_of-joined}
 use Rattle.graphs.proofs.PickLemmas.{picks_are_kept}
 use Rattle.graph_model.specs.declared.names.Refusal.{Refusal}
 use Rattle.graph_model.specs.States.{PlainState, State, Entry, start, level_of, pick_of, sum_in, rate_of}
 use Rattle.graph_model.specs.Commands.{Command, SetLimits, Add, Dep, SetFee, Remove, Mine, Evict, Stage, Commit, Abort, Settle, Trim, Unmine, Dump, Compare, Order, Diagram, Proof, Cluster, Ancestors, Descendants, Chunk, Before, Block, Count}
 use Rattle.graph_model.specs.Changes.{IsKept}
 use Rattle.graph_model.specs.Replies.{Reply, Refused}
-use Rattle.graph_model.specs.Answers.{Answers}
+use Rattle.graph_model.specs.Answers.{Answers, order_of}
+use Rattle.graph_model.specs.Blocks.{IsBlock, taken_of}
 use Rattle.graph_model.specs.Steps.{Step}
 use Rattle.graph_model.specs.Validity.{IsValid, IsValidState}
 use Rattle.graph_model.specs.Runs.{Answer, Silence, TooLong, Unread, Replies, LineStep, Run}
@@ -49,10 +54,31 @@ sized state level valid id here = of_entry (finmap.get state.table id) ((valid.l
     of_entry None none rates = absurd (true≢false (sym none))
     of_entry (Some e) some rates = (rates e refl).1.0
 
-best : (state : State) (level : Level) (pick : List Part) → IsValidState state → pick_of state.picks level ≡ Some pick → AreBest state.plain level pick
+pub best : (state : State) (level : Level) (pick : List Part) → IsValidState state → pick_of state.picks level ≡ Some pick → AreBest state.plain level pick
 best state level pick valid is =
-    picks_are_kept.optimal (rate_of state.plain.table) (level_of state.plain level) pick (sized state.plain level valid.plain)
-    (level_pick state level pick valid is).1
+    let picked : IsPick (rate_of state.plain.table) (level_of state.plain level) pick = (level_pick state level pick valid is).1 in
+    record {
+      optimal = picks_are_kept.optimal (rate_of state.plain.table) (level_of state.plain level) pick (sized state.plain level valid.plain) picked;
+      summed = picked.certificate.falling.summed;
+    }
+
+-- the rates of parts with the right sums have the sum of all their names
+rates_summed : (rate : ℕ → Sum) (parts : List Part) → ((part : Part) → Contains parts part → part.rate ≡ sums rate part.ids)
+    → sum_of (map (λ (p : Part). p.rate) parts) ≡ sums rate (order_of parts)
+rates_summed rate parts summed =
+    ap sum_of (rates_are_sums rate parts summed) ∙ sum_of-joined rate (map (λ (p : Part). p.ids) parts) ∙ ap (sums rate) (sym (joined_ids parts))
+
+-- a part that a block takes is one of the order
+taken_in : (marked : List (Part × Bool)) (part : Part) → Contains (taken_of marked) part → Contains (map (λ (e : Part × Bool). e.0) marked) part
+taken_in marked part here =
+    let from = map-Contains (λ (e : Part × Bool). e.0) (filter (λ (e : Part × Bool). e.1) marked) part here in
+    let kept = filter-Contains (λ (e : Part × Bool). e.1) marked from.0 from.1 in
+    subst (Contains (map (λ (e : Part × Bool). e.0) marked)) from.2 (Contains-map (λ (e : Part × Bool). e.0) marked from.0 kept.1)
+
+block_summed : (state : PlainState) (parts taken : List Part) (size : ℕ) → AreBest state Main parts → IsBlock state.main parts size taken
+    → sum_of (map (λ (p : Part). p.rate) taken) ≡ sums (rate_of state.table) (order_of taken)
+block_summed state parts taken size are block = rates_summed (rate_of state.table) taken (λ part here.
+    are.summed part (subst (λ ps. Contains ps part) block.all (taken_in block.marked part (subst (λ ps. Contains ps part) block.result here))))
 
 refused_tells : (state : PlainState) (command : Command) (why : Refusal) → TellsBest state command (Refused why)
 refused_tells state (SetLimits limits) why = tt
@@ -107,7 +133,9 @@ answer_tells state (Ancestors id level) reply valid h = subst (TellsBest state.p
 answer_tells state (Descendants id level) reply valid h = subst (TellsBest state.plain (Descendants id level)) (sym h.2) tt
 answer_tells state (Chunk id) reply valid h = subst (TellsBest state.plain (Chunk id)) (sym h.5) (h.0, best state Main h.0 valid h.2, h.3, h.4)
 answer_tells state (Before a b) reply valid h = subst (TellsBest state.plain (Before a b)) (sym h.4) (h.0, best state Main h.0 valid h.2, h.3)
-answer_tells state (Block size) reply valid h = subst (TellsBest state.plain (Block size)) (sym h.4) (h.0, h.1, best state Main h.0 valid h.2, h.3, refl)
+answer_tells state (Block size) reply valid h =
+    let are : AreBest state.plain Main h.0 = best state Main h.0 valid h.2 in
+    subst (TellsBest state.plain (Block size)) (sym h.4) (h.0, h.1, are, h.3, refl, block_summed state.plain h.0 h.1 size are h.3)
 answer_tells state (Count level) reply valid h = subst (TellsBest state.plain (Count level)) (sym h) tt
 
 step_tells : (old new : State) (command : Command) (reply : Reply) → IsValidState old → Step old command reply new → TellsBest old.plain command reply

@@ -7,9 +7,17 @@ use Rattle.lists.proofs.Entries.{Contains-cases, map-Contains, none_in_empty}
 use Rattle.fee_rate.specs.declared.rates.Sum.{Sum}
 use Rattle.fee_rate.specs.Limits.{IsFee, IsSize}
 use Rattle.graphs.specs.Certificates.{rate_in}
-use Rattle.graph_model.specs.States.{PlainState, Entry, rate_of, sum_in}
+use Rattle.graph_model.specs.States.{PlainState, Table, Entry, rate_of, sum_in, size_in, size_of}
 use Rattle.graph_model.specs.Changes.{IsKept}
 use Rattle.graph_model.specs.Validity.{IsValid}
+
+size_entry : (o : Option Entry) → (sum_in o).size ≡ size_in o
+size_entry None = refl
+size_entry (Some entry) = refl
+
+-- the size of a name, by its fee and size or by its size alone
+pub size_told : (table : Table) (id : ℕ) → (rate_of table id).size ≡ size_of table id
+size_told table id = size_entry (finmap.get table id)
 
 abbrev pub tx_of : (ℕ → Sum) → ℕ → ℕ × ℤ × ℕ
 tx_of rate id = (id, (rate id).fee, (rate id).size)

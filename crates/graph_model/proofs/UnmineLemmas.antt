@@ -1,10 +1,10 @@
 -- A block that is taken back directly after it was mined.
-use Rattle.std.proofs.Common.{◌≡◌, ℕ, ◌+◌, ◌<◌, ◌≤◌, false, List, ◌∷◌, length, Option, None, Some, is_some, sym, refl, ap, subst, ◌∙◌, inl, inr, ◌⊎◌, arith, true≢false}
+use Rattle.std.proofs.Common.{◌≡◌, ℕ, ◌+◌, ◌<◌, ◌≤◌, false, List, ◌∷◌, length, Some, is_some, sym, refl, ap, subst, ◌∙◌, inl, inr, ◌⊎◌, arith, true≢false}
 use Rattle.std.specs.Prelude.{Contains, take, sum_by}
 use Rattle.std.specs.FinMap as finmap
 use Rattle.lists.proofs.Cases.{some_none}
 use Rattle.lists.proofs.Told.{told_number}
-use Rattle.lists.proofs.Entries.{Contains-map, first_of, not_empty}
+use Rattle.lists.proofs.Entries.{Contains-map, not_empty}
 use Rattle.arithmetic.proofs.Sums.{sum_by_along}
 use Rattle.fee_rate.specs.declared.rates.Sum.{Sum}
 use Rattle.graphs.specs.Graphs.{Graph, AreConnected}
@@ -17,24 +17,22 @@ use Rattle.graph_model.specs.declared.names.Refusal.{Refusal}
 use Rattle.graph_model.specs.declared.names.Refusal.TheVariants.{Memory}
 use Rattle.graph_model.specs.Limits.{Bounds, AreOver}
 use Rattle.graph_model.specs.Oversize.{AreOfOneComponent}
-use Rattle.graph_model.specs.States.{PlainState, MinedBlock, State, Table, Entry, top_of, IsLive, rate_of, sum_in, size_in, size_of}
+use Rattle.graph_model.specs.States.{PlainState, MinedBlock, State, Table, top_of, IsLive, rate_of, sum_in, size_of}
 use Rattle.graph_model.specs.Commands.{Mine, Unmine}
 use Rattle.graph_model.specs.Replies.{Reply, Done, Refused, Unmined}
-use Rattle.graph_model.specs.Refusals.{RefusalIs, IsInOver, BringsOver, latest_ids}
+use Rattle.graph_model.specs.Refusals.{RefusalIs, IsInOver, BringsOver, latest_of, latest_ids}
 use Rattle.graph_model.specs.Changes.{begun, IsKept, Forgets, IsMinedBlock, Mines, PutsNames, Restores, Unmines}
 use Rattle.graph_model.specs.Steps.{Step}
 use Rattle.graph_model.specs.Validity.{IsValid, IsValidState}
 use Rattle.graph_model.specs.UnmineLaws.{MinedComesBack}
 use Rattle.graph_model.proofs.ValidLemmas.{told_kept}
+use Rattle.graph_model.proofs.TxLemmas.{size_told}
 use Rattle.graph_model.proofs.TrimLemmas.{rising_once}
 use Rattle.graph_model.proofs.FirstLemmas.{first_in}
 use Rattle.graph_model.proofs.BackLemmas.{names_back, ancestors_back}
 use Rattle.graph_model.proofs.SameMinedLemmas.{tx_of}
-use Rattle.graph_model.proofs.MinedLemmas.{CanMine, can_mine, mined_ids, len_fewer, joined_name}
-
-size_in_sum : (o : Option Entry) → (sum_in o).size ≡ size_in o
-size_in_sum None = refl
-size_in_sum (Some entry) = refl
+use Rattle.graph_model.proofs.RestoreLemmas.{joined_name}
+use Rattle.graph_model.proofs.MinedLemmas.{CanMine, can_mine, mined_ids, len_fewer}
 
 -- ---- the state after `mine`
 
@@ -75,21 +73,15 @@ module _ (old : PlainState) (ids : List ℕ) (valid : IsValid old) (can : CanMin
 
     -- ---- and after `unmine`
 
-    module _ (new : PlainState) (unmines : Unmines mid new) where
-      back : (earlier : List MinedBlock) × Restores (record mid { blocks = earlier }) block.txs block.pairs new
-      back = (
-        unmines.1,
-        subst (λ (b : MinedBlock). Restores (record mid { blocks = unmines.1 }) b.txs b.pairs new) (sym (first_of unmines.2)) unmines.3,
-      )
-
+    module _ (new : PlainState) (blocks : List MinedBlock) (back : Restores (record mid { blocks = blocks }) block.txs block.pairs new) where
       puts : PutsNames graph ids block.pairs new.main
-      puts = subst (λ ns. PutsNames graph ns block.pairs new.main) latest back.1.graph
+      puts = subst (λ ns. PutsNames graph ns block.pairs new.main) latest back.graph
 
       entry : (id : ℕ) → Contains old.main.names id → rate_of old.table id ≡ rate_of new.table id
       entry id here = elim (told_number ids id) [
-        | inl listed ↦ ap sum_in (sym (back.1.listed id (rate_of old.table id).fee (rate_of old.table id).size
+        | inl listed ↦ ap sum_in (sym (back.listed id (rate_of old.table id).fee (rate_of old.table id).size
             (subst (λ txs. Contains txs (tx_of old.table id)) (sym is.txs) (Contains-map (tx_of old.table) ids id listed))))
-        | inr none ↦ ap sum_in (sym (back.1.others id (λ listed. none (subst (λ ns. Contains ns id) latest listed))
+        | inr none ↦ ap sum_in (sym (back.others id (λ listed. none (subst (λ ns. Contains ns id) latest listed))
             ∙ forgets.kept id (inl ((drops.names id).1 (here, none)))))
       ]
 
@@ -101,7 +93,7 @@ module _ (old : PlainState) (ids : List ℕ) (valid : IsValid old) (can : CanMin
       }
 
       limits_are : new.limits ≡ old.limits
-      limits_are = ap (λ (s : PlainState). s.limits) back.1.same
+      limits_are = ap (λ (s : PlainState). s.limits) back.same
 
       -- no component is over the limits then
       none_in_over : old.limits.defer ≡ false → (id : ℕ) → Contains ids id → (why : Refusal) → IsInOver new id why → ⊥
@@ -117,16 +109,16 @@ module _ (old : PlainState) (ids : List ℕ) (valid : IsValid old) (can : CanMin
             together = λ a b here there. AreConnected-trans old.main.pairs a id b (AreConnected-sym old.main.pairs id a (to_old a here)) (to_old b there);
           } in
           let sizes : sum_by (size_of new.table) xs ≡ sum_by (size_of old.table) xs = sum_by_along (size_of new.table) (size_of old.table) xs (λ q here.
-          sym (size_in_sum (finmap.get new.table q)) ∙ ap (λ (s : Sum). s.size) (sym (entry q (inside q here))) ∙ size_in_sum (finmap.get old.table q)) in
+          sym (size_told new.table q) ∙ ap (λ (s : Sum). s.size) (sym (entry q (inside q here))) ∙ size_told old.table q) in
           let over : AreOver old.limits (size_of old.table) xs = elim told [
             | inl many ↦ inl (subst (λ (l : Bounds). l.count < length xs) limits_are many.0)
             | inr large ↦ inr (subst (λ n. old.limits.size < n) sizes (subst (λ (l : Bounds). l.size < sum_by (size_of new.table) xs) limits_are large.1))
           ] in
           valid.main.within strict (xs, of, over)
 
-    none_over : (why : Refusal) → BringsOver mid why → ⊥
+    none_over : (why : Refusal) → BringsOver mid block.txs block.pairs why → ⊥
     none_over why brings =
-        none_in_over brings.next brings.unmines brings.strict brings.id
+        none_in_over brings.next mid.blocks brings.restores brings.strict brings.id
         (subst (λ ns. Contains ns brings.id) latest
         (first_in (λ before id. (any : Refusal) × IsInOver brings.next id any) (latest_ids mid.blocks) brings.id brings.first)) why brings.over
 
@@ -192,8 +184,10 @@ module _ (old mid : PlainState) (ids : List ℕ) (valid : IsValid old) (was : Is
       (subst (λ (s : PlainState). RefusalIs s Unmine (Some why)) was.forgets.same row)
 
   alike_mid : (new : PlainState) → Unmines mid new → AreAlike (rate_of old.table) old.main (rate_of new.table) new.main
-  alike_mid new unmines = alike_again old ids valid was.can was.block was.is was.graph was.drops mid.table shown_forgets new
-      (subst (λ (s : PlainState). Unmines s new) was.forgets.same unmines)
+  alike_mid new unmines =
+      let back : Unmines shown new = subst (λ (s : PlainState). Unmines s new) was.forgets.same unmines in
+      alike_again old ids valid was.can was.block was.is was.graph was.drops mid.table shown_forgets new back.1
+      (subst (λ (b : MinedBlock). Restores (record shown { blocks = back.1 }) b.txs b.pairs new) (sym (ap latest_of back.2)) back.3)
 
   latest_mid : latest_ids mid.blocks ≡ ids
   latest_mid = ap (λ (s : PlainState). latest_ids s.blocks) was.forgets.same ∙ mined_ids old ids was.block was.is

@@ -11,7 +11,7 @@ use Rattle.graphs.specs.Certificates.{Part, Txs}
 use Rattle.graph_model.specs.declared.limits.TheConstants.{MAX_BLOCKS}
 use Rattle.graph_model.specs.Limits.{Bounds}
 use Rattle.graph_model.specs.Commands.{Command, SetLimits, Add, Dep, SetFee, Remove, Mine, Evict, Stage, Commit, Abort, Settle, Trim, Unmine}
-use Rattle.graph_model.specs.States.{PlainState, Picks, MinedBlock, level_of, pick_of, with_top, size_of, rate_of}
+use Rattle.graph_model.specs.States.{PlainState, Picks, MinedBlock, Table, level_of, pick_of, with_top, size_of, rate_of}
 use Rattle.graph_model.specs.Trims.{IsTrimmed}
 use Rattle.graph_model.specs.Verdicts.{VerdictIs}
 
@@ -88,11 +88,15 @@ pub record PutsNames (old : Graph) (ids : List ℕ) (more : List (ℕ × ℕ)) (
   pub pairs : (a b : ℕ) → Contains new.pairs (a, b) ↔ (Contains old.pairs (a, b) ⊎ (Contains more (a, b) × Contains new.names b))
   pub pairs_once : AreDistinct new.pairs
 
+-- The table has these transactions, with their fees and sizes.
+abbrev pub HasTxs : Table → Txs → Type 0
+HasTxs table txs = (id : ℕ) (fee : ℤ) (size : ℕ) → Contains txs (id, fee, size) → finmap.get table id ≡ Some (record { fee = fee; size = size })
+
 -- Transactions come into main with their fees and sizes, and with those of more pairs whose child is then in main.
 pub record Restores (old : PlainState) (txs : Txs) (pairs : List (ℕ × ℕ)) (new : PlainState) : Type 0 where
   pub same : new ≡ record (begun old) { table = new.table; main = new.main }
   pub graph : PutsNames old.main (ids_of txs) pairs new.main
-  pub listed : (id : ℕ) (fee : ℤ) (size : ℕ) → Contains txs (id, fee, size) → finmap.get new.table id ≡ Some (record { fee = fee; size = size })
+  pub listed : HasTxs new.table txs
   pub others : (id : ℕ) → (Contains (ids_of txs) id → ⊥) → finmap.get new.table id ≡ finmap.get old.table id
 
 -- `unmine` takes the latest block off, and puts its transactions back into main.

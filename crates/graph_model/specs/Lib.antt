@@ -26,6 +26,7 @@ pub mod SameLaws
 pub mod TrimLaws
 pub mod UnmineLaws
 pub mod DumpLaws
+pub mod LoadLaws
 pub mod BlockLaws
 pub mod RunLaws
 pub mod GeneratorLaws

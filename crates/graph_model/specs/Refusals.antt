@@ -10,7 +10,8 @@ use Rattle.graph_model.specs.Limits.{Bounds, AreInRange}
 use Rattle.graphs.specs.Graphs.{IsAncestor, AreConnected, Lists}
 use Rattle.graph_model.specs.States.{PlainState, MinedBlock, level_of, IsStaged, IsLive, size_of}
 use Rattle.graph_model.specs.Oversize.{IsOversized}
-use Rattle.graph_model.specs.Changes.{ids_of, Unmines}
+use Rattle.graphs.specs.Certificates.{Txs}
+use Rattle.graph_model.specs.Changes.{ids_of, Restores}
 use Rattle.graph_model.specs.Commands.{Command}
 use Rattle.graph_model.specs.Commands as commands
 
@@ -111,10 +112,14 @@ StandsTwice before id = Contains before id
 abbrev pub LacksAncestor : PlainState → List ℕ → ℕ → Type 0
 LacksAncestor state ids id = (a : ℕ) × IsAncestor state.main.pairs a id × (Contains ids a → ⊥)
 
+-- The latest block. Without blocks it is one of no transaction.
+abbrev pub latest_of : List MinedBlock → MinedBlock
+latest_of [] = record { txs = []; pairs = [] }
+latest_of (block ∷ earlier) = block
+
 -- The names of the latest block.
 abbrev pub latest_ids : List MinedBlock → List ℕ
-latest_ids [] = []
-latest_ids (block ∷ earlier) = ids_of block.txs
+latest_ids blocks = ids_of (latest_of blocks).txs
 
 -- A refusal tells names that are over the limits: by their number where that is over, else by their total size.
 abbrev pub ToldOver : Bounds → (ℕ → ℕ) → List ℕ → Refusal → Type 0
@@ -127,15 +132,22 @@ abbrev pub IsInOver : PlainState → ℕ → Refusal → Type 0
 IsInOver state id why =
     (ids : List ℕ) × Lists (AreConnected state.main.pairs id) ids × ToldOver state.limits (size_of state.table) ids why
 
--- No dependency may pass the limits, and names that would come back would bring a component over them. The refusal tells the component of the
--- first such name.
-pub record BringsOver (state : PlainState) (why : Refusal) : Type 0 where
+-- No dependency may pass the limits, and transactions that would come into main with these pairs would bring a component over them. The refusal
+-- tells the component of the first such transaction.
+pub record BringsOver (state : PlainState) (txs : Txs) (pairs : List (ℕ × ℕ)) (why : Refusal) : Type 0 where
   pub strict : state.limits.defer ≡ false
   pub next : PlainState
-  pub unmines : Unmines state next
+  pub restores : Restores state txs pairs next
   pub id : ℕ
-  pub first : IsFirst (λ before id. (any : Refusal) × IsInOver next id any) (latest_ids state.blocks) id
+  pub first : IsFirst (λ before id. (any : Refusal) × IsInOver next id any) (ids_of txs) id
   pub over : IsInOver next id why
+
+-- The row of transactions that are to come into main with these pairs: a name is live, there would be more live names than may be, a component
+-- would be over the limits.
+abbrev pub RestoreRow : PlainState → Txs → List (ℕ × ℕ) → Option Refusal → Type 0
+RestoreRow state txs pairs =
+    FirstAt (IsFirst (λ before id. IsLive state id) (ids_of txs)) Back
+    (First (state.limits.total < finmap.len state.table + length (ids_of txs)) Full (FirstOf (BringsOver state txs pairs) NoRefusal))
 
 -- The row of a reading of names.
 abbrev pub NameRow : (unknown oversized : Type 0) → ℕ → Option Refusal → Type 0
@@ -174,11 +186,7 @@ RefusalIs state commands.Settle = CompareRow (IsStaged state → ⊥) (IsOversiz
 RefusalIs state commands.Compare = CompareRow (IsStaged state → ⊥) (IsOversized state Main ⊎ IsOversized state Top)
 RefusalIs state commands.Trim = NoRefusal
 RefusalIs state commands.Unmine =
-    First (IsStaged state) Staging
-    (First (state.blocks ≡ []) NoBlock
-    (FirstAt (IsFirst (λ before id. IsLive state id) (latest_ids state.blocks)) Back
-    (First (state.limits.total < finmap.len state.table + length (latest_ids state.blocks)) Full
-    (FirstOf (BringsOver state) NoRefusal))))
+    First (IsStaged state) Staging (First (state.blocks ≡ []) NoBlock (RestoreRow state (latest_of state.blocks).txs (latest_of state.blocks).pairs))
 RefusalIs state (commands.Cluster id level) = NameRow (IsAbsent state level id) (IsOversized state level) id
 RefusalIs state (commands.Ancestors id level) = NameRow (IsAbsent state level id) (IsOversized state level) id
 RefusalIs state (commands.Descendants id level) = NameRow (IsAbsent state level id) (IsOversized state level) id

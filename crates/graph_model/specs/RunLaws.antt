@@ -2,6 +2,7 @@
 use Rattle.std.specs.Prelude.{◌≡◌, ℕ, ◌≤◌, List, map, Contains}
 use Rattle.graphs.specs.declared.names.Level.{Level}
 use Rattle.graphs.specs.declared.names.Level.TheVariants.{Main}
+use Rattle.graphs.specs.Rates.{sums}
 use Rattle.graphs.specs.Certificates.{Part}
 use Rattle.graphs.specs.Linearizations.{IsOptimal}
 use Rattle.graph_model.specs.declared.limits.TheConstants.{MAX_COUNT}
@@ -17,11 +18,12 @@ use Rattle.graph_model.specs.Steps.{Step}
 use Rattle.graph_model.specs.Validity.{IsValidState}
 use Rattle.graph_model.specs.Runs.{Answer, Run}
 
--- the parts are an optimal order of the level
-abbrev pub AreBest : PlainState → Level → List Part → Type 0
-AreBest state level parts = IsOptimal (rate_of state.table) (level_of state level) (map (λ part. part.ids) parts)
+-- The parts are an optimal order of the level, and each part's rate is the total fee and the total size of its names.
+pub record AreBest (state : PlainState) (level : Level) (parts : List Part) : Type 0 where
+  pub optimal : IsOptimal (rate_of state.table) (level_of state level) (map (λ part. part.ids) parts)
+  pub summed : (part : Part) → Contains parts part → part.rate ≡ sums (rate_of state.table) part.ids
 
--- what a reply tells of an order, it tells of an optimal one
+-- What a reply tells of an order, it tells of an optimal one with the right sums; and the sum of a block is that of the names that it tells.
 abbrev pub TellsBest : PlainState → Command → Reply → Type 0
 TellsBest state (Order level) (Parts parts) = AreBest state level parts
 TellsBest state (Proof level) (Proves text) = AreBest state level text.parts
@@ -30,10 +32,12 @@ TellsBest state (commands.Before a b) (Stands place) = (parts : List Part) × Ar
 TellsBest state Evict (Evicted part) = (parts : List Part) × AreBest state Main parts × IsLast parts part
 TellsBest state (Block size) (Built sum ids) =
     (parts taken : List Part) × AreBest state Main parts × IsBlock state.main parts size taken × (ids ≡ order_of taken)
+    × (sum ≡ sums (rate_of state.table) ids)
 TellsBest state command reply = Unit {0}
 
 -- Each state that a run leads to is valid, and so is each on its way, since a front of a run is a run. From a valid state, and so all along
--- a run, whatever a reply tells of an order it tells of an order that is optimal for the graph of that state.
+-- a run, whatever a reply tells of an order it tells of an order that is optimal for the graph of that state, and the rate that it tells of
+-- names is the sum of their fees and sizes in that state.
 pub record RunsAreSound : Type 0 where
   pub valid : (most : ℕ) (lines : List (List ℕ)) (answers : List Answer) (end : State) → default_limits.count ≤ most → most ≤ MAX_COUNT
       → Run (start most) lines answers end → IsValidState end

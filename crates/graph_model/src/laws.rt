@@ -5,6 +5,7 @@ ghost use Rattle.graph_model.specs.SameLaws.{StepsAreFunctions};
 ghost use Rattle.graph_model.specs.TrimLaws.{TrimDropsOneSet};
 ghost use Rattle.graph_model.specs.UnmineLaws.{MinedComesBack};
 ghost use Rattle.graph_model.specs.DumpLaws.{DumpsLoad};
+ghost use Rattle.graph_model.specs.LoadLaws.{LoadsProve};
 ghost use Rattle.graph_model.specs.BlockLaws.{BlocksBeginBest};
 ghost use Rattle.graph_model.specs.RunLaws.{RunsAreSound};
 ghost use Rattle.graph_model.specs.StagingLaws.{AbortLeavesMain};
@@ -61,9 +62,14 @@ pub fn mined_comes_back()
     ensures { MinedComesBack }
 {}
 
-/// The text of a graph can be loaded, and makes a graph that agrees with it.
+/// The text of a graph can be loaded, and makes a graph that agrees with it; and an accepted text is the text of the graph that it makes.
 pub fn dumps_load()
     ensures { DumpsLoad }
+{}
+
+/// An accepted text makes a valid state of the text's graph, and `load` writes a certificate of an optimal order of that graph.
+pub fn loads_prove()
+    ensures { LoadsProve }
 {}
 
 /// What a block takes before it leaves a part out is the front of the order, and the best of its size.
@@ -71,7 +77,7 @@ pub fn blocks_begin_best()
     ensures { BlocksBeginBest }
 {}
 
-/// Each state of a run is valid, and each order that a run reports is optimal.
+/// Each state of a run is valid, and each order that a run reports is optimal, each part with the sum of its names.
 pub fn runs_are_sound()
     ensures { RunsAreSound }
 {}

@@ -43,8 +43,8 @@ module _ (w : ℕ) (outs made ids : List ℕ) (old new : Shelf) (order : IsInOrd
   pub rest_at : AreAt (stored_at new.store.clusters) made d.rest
   rest_at =
       at_stored new.store.clusters made d.rest
-      (at_left (seen_at Top new.store.clusters) made (option_to_list d.number) d.rest (option_to_list d.last) d.is.count
-      d.is.rebuilds.top.exchanges.stand)
+      (at_left (seen_at Top new.store.clusters) made (option_to_list d.number) d.rest (option_to_list d.last) d.is.rebuilds.top.exchanges.stand
+      d.is.count)
 
   same_rest : (clusters : List Cluster) → AreAt (stored_at new.store.clusters) made clusters → d.rest ≡ clusters
   same_rest clusters are = one_list (stored_at new.store.clusters) made d.rest clusters rest_at are
