@@ -1,7 +1,11 @@
 -- The numbers of main's parts, the size that none is below, and the steps of a block.
-use Rattle.std.proofs.Common.{◌≡◌, ◌≢◌, ℕ, ◌≤◌, true, List, [], ◌∷◌, length, Contains, refl, sym, ap, subst, arith, get_or}
-use Rattle.std.specs.Prelude.{sum_by}
+use Rattle.std.proofs.Common.{◌≡◌, ◌≢◌, ℕ, ◌*◌, ◌≤◌, true, List, [], ◌∷◌, length, Contains, refl, sym, subst, arith, get_or}
+use Rattle.std.specs.Prelude.{sum_by, unsigned_abs}
+use Rattle.std.proofs.lemmas.List.Elements.{Contains-get_or}
 use Rattle.std.proofs.lemmas.List.Sums.{sum_by-cons}
+use Rattle.arithmetic.proofs.Sums.{total_within}
+use Rattle.fee_rate.specs.declared.limits.TheConstants.{MAX_FEE}
+use Rattle.fee_rate.specs.Limits.{IsRate}
 use Rattle.lists.proofs.Entries.{Contains-head, Contains-later}
 use Rattle.lists.proofs.Flats.{flat_has}
 use Rattle.fee_rate.specs.declared.rates.Sum.{Sum}
@@ -20,7 +24,7 @@ use Rattle.cluster_store.specs.Stores.{Shown}
 use Rattle.diagram.specs.Parts.{sums_of}
 use Rattle.levels.specs.Levels.{HavePicks}
 use Rattle.levels.specs.Views.{AreOfOneCluster, HaveClusterNumbers}
-use Rattle.tx_graph.specs.Dropped.{AreOfClusters, IsBlockOf}
+use Rattle.tx_graph.specs.Dropped.{AreOfClusters, ArePaidBySize, IsBlockOf}
 use Rattle.tx_graph.specs.Kept.{Kept, StandsFor, MakesStep}
 use Rattle.tx_graph.proofs.Reading.{steps_told}
 use Rattle.tx_graph.proofs.Rows.{ordered_row}
@@ -34,6 +38,15 @@ least_in_sum f least (id ∷ ids) filled low =
     let first : least ≤ f id = low id (Contains-head id ids) in
     let whole = sum_by-cons f id ids in
     omega (arith, first, whole)
+
+-- terms of at least 1 have a sum of at least their number
+length_in_sum : (f : ℕ → ℕ) (ids : List ℕ) → ((id : ℕ) → Contains ids id → 1 ≤ f id) → length ids ≤ sum_by f ids
+length_in_sum f [] some = omega arith
+length_in_sum f (id ∷ ids) some =
+    let first : 1 ≤ f id = some id (Contains-head id ids) in
+    let rest = length_in_sum f ids (λ other here. some other (Contains-later id other ids here)) in
+    let whole = sum_by-cons f id ids in
+    omega (arith, first, rest, whole)
 
 module _ (kept : Kept) where
   module _ (state : State) (stands : StandsFor kept state) where
@@ -50,6 +63,19 @@ module _ (kept : Kept) where
     λ same. shared state stands s.part t.part ((numbers s t first second).0 same),
     λ share. (numbers s t first second).1 (of_one state stands s.part t.part share),
   )
+
+  -- a part's fee is in range for its size
+  pub paid_by_size : HavePicks kept.levels → (state : State) × StandsFor kept state
+      → ((id : ℕ) → is_member kept.levels.main.graph id ≡ true → IsRate (rate_of kept.levels.main.graph id)) → ArePaidBySize kept.levels.main.parts
+  paid_by_size picked some rated part here =
+      let of = some.1.plain.main in
+      let g = kept.levels.main.graph in
+      let certificate = (picked.0.picked some.0.plain.main of.closure).certificate in
+      let live : (id : ℕ) → Contains part.ids id → IsRate (rate_of g id) = λ id there. rated id ((of.closure.names id).0
+      ((certificate.order.topological.names id).0 (flat_has (λ (p : Part). p.ids) kept.levels.main.parts part id here there))) in
+      let most = total_within (λ id. (sum_at g id).fee) MAX_FEE part.ids (λ k d inside. (live (get_or part.ids k d) (Contains-get_or part.ids k d inside)).fee) in
+      let few = length_in_sum (λ id. (sum_at g id).size) part.ids (λ id there. (live id there).some) in
+      subst (λ (s : Sum). unsigned_abs s.fee ≤ MAX_FEE * s.size) (sym (certificate.falling.summed part here)) (omega (arith, most, few))
 
   -- no part is below a size that no name is below
   pub least_part : (least : ℕ) → HavePicks kept.levels → (state : State) × StandsFor kept state

@@ -1,5 +1,6 @@
 -- Parts that are dropped, and parts with the numbers of their clusters.
-use Rattle.std.specs.Prelude.{◌≡◌, ◌↔◌, ℕ, List, Contains, Result, Ok, Err}
+use Rattle.std.specs.Prelude.{◌≡◌, ◌↔◌, ℕ, ◌*◌, ◌≤◌, unsigned_abs, List, Contains, Result, Ok, Err}
+use Rattle.fee_rate.specs.declared.limits.TheConstants.{MAX_FEE}
 use Rattle.graphs.specs.Graphs.{Graph}
 use Rattle.graphs.specs.Certificates.{Part}
 use Rattle.graph_model.specs.declared.names.Picked.{Picked}
@@ -30,3 +31,7 @@ AreOfClusters graph parts = (s t : Shown) → Contains parts s → Contains part
 -- parts that a block of this size takes of main's, whichever of its states the graph stands for
 abbrev pub IsBlockOf : Kept → ℕ → List Part → Type 0
 IsBlockOf kept size taken = (state : State) → StandsFor kept state → IsBlock state.plain.main kept.levels.main.parts size taken
+
+-- no part pays more than MAX_FEE satoshis for each virtual byte, nor less than as many below 0
+abbrev pub ArePaidBySize : List Part → Type 0
+ArePaidBySize parts = (part : Part) → Contains parts part → unsigned_abs part.rate.fee ≤ MAX_FEE * part.rate.size

@@ -17,7 +17,6 @@ ghost use Rattle.graph_model.specs.Commands as commands;
 ghost use Rattle.graph_model.specs.Commands.{SetLimits, Add, Dep, SetFee, Remove, Mine, Evict, Stage, Commit, Abort, Settle, Compare, Cluster, Ancestors, Descendants, Chunk, Before, Block, Proof, Count};
 ghost use Rattle.graph_model.specs.Replies.{Reply, Built, Number, Parts, Points, Proves, Refused, change_reply, names_reply};
 ghost use Rattle.graph_model.specs.Texts.{Text};
-ghost use Rattle.diagram.specs.Parts.{AreLevelParts};
 ghost use Rattle.diagram.specs.Points.{YieldsCorners};
 ghost use Rattle.graphs.specs.Rates.{sum_of};
 ghost use Rattle.cluster.specs.Steps.{GrowsWithin, most_steps};
@@ -26,7 +25,7 @@ ghost use Rattle.tx_graph.specs.Kept.{Kept, StandsFor, MakesStep, start_within};
 ghost use Rattle.levels.specs.Lefts.{DropsWithin};
 ghost use Rattle.levels.specs.Levels.{GrowsForFee, IsLive, level_at};
 ghost use Rattle.levels.specs.Orders.{ListsCovers, sums_of};
-ghost use Rattle.tx_graph.specs.Dropped.{AreOfClusters, IsBlockOf, IsEvicted, IsPicked};
+ghost use Rattle.tx_graph.specs.Dropped.{AreOfClusters, ArePaidBySize, IsBlockOf, IsEvicted, IsPicked};
 ghost use Rattle.tx_graph.specs.Readings.{AreMinimalIn, IsBestOrder, IsTextOf, part_reply, place_reply, compare_reply, settle_reply};
 ghost use Rattle.levels.specs.Stays.{AllStay};
 
@@ -601,7 +600,7 @@ impl<const W: usize> TxGraph<W> {
     pub fn numbered(&self) -> Numbered<'_, W>
         ensures parts { map (λ s. s.part) result ≡ self.now.levels.main.parts }
         ensures numbers { (state : State) → StandsFor self.now state → AreOfClusters state.plain.main result }
-        ensures level { AreLevelParts (sums_of self.now.levels.main.parts) }
+        ensures rates { ArePaidBySize self.now.levels.main.parts }
         ensures block { (size : ℕ) (taken : List Part) → IsBlockOf self.now size taken
             → MakesStep self.now self.now (Block size) (Built (sum_of (sums_of taken)) (order_of taken)) }
         ensures memory { (size : ℕ) → MakesStep self.now self.now (Block size) (Refused Memory) }

@@ -7,10 +7,10 @@ use Rattle.graph_model.specs.Answers.{order_of}
 use Rattle.graph_model.specs.Commands.{Block}
 use Rattle.graph_model.specs.Replies.{Built, Refused}
 use Rattle.graph_model.specs.States.{State}
-use Rattle.diagram.specs.Parts.{AreLevelParts, sums_of}
-use Rattle.tx_graph.specs.Dropped.{AreOfClusters, IsBlockOf}
+use Rattle.diagram.specs.Parts.{sums_of}
+use Rattle.tx_graph.specs.Dropped.{AreOfClusters, ArePaidBySize, IsBlockOf}
 use Rattle.tx_graph.specs.Kept.{Kept, StandsFor, MakesStep}
-use Rattle.tx_graph.proofs.Blocks.{of_clusters, steps_built, steps_unbuilt}
+use Rattle.tx_graph.proofs.Blocks.{of_clusters, paid_by_size, steps_built, steps_unbuilt}
 use Rattle.tx_graph.proofs.Calls.{kept_of}
 use Rattle.tx_graph.proofs.Rooms.{levels_fit}
 use Rattle.tx_graph.proofs.graph.TxGraph.numbered.Goals as goal
@@ -24,8 +24,11 @@ returns-clause-numbers g c =
     subst (λ (k : Kept). (state : State) → StandsFor k state → AreOfClusters state.plain.main c.parts.result) c.self.view_is
     (of_clusters kept c.parts.result c.parts.ensures.numbers)
 
-pub returns-clause-level : goal.returns-clause-level
-returns-clause-level g c = subst (λ (k : Kept). AreLevelParts (sums_of k.levels.main.parts)) c.self.view_is c.parts.ensures.level
+pub returns-clause-rates : goal.returns-clause-rates
+returns-clause-rates g c =
+    let kept = kept_of (64 * g.row.W) c.self.inside.limits c.self.inside.begun c.self.inside.levels in
+    subst (λ (k : Kept). ArePaidBySize k.levels.main.parts) c.self.view_is
+    (paid_by_size kept c.self.invariant.picked c.self.invariant.stands c.parts.ensures.rates)
 
 pub returns-clause-block : goal.returns-clause-block
 returns-clause-block g c =
