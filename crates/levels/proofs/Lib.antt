@@ -3,6 +3,7 @@ mod Alone
 mod Arranged
 mod Calls
 mod Closing
+mod Clustered
 mod Connecting
 mod Counting
 mod Counts

@@ -20,7 +20,7 @@ ghost use Rattle.levels.specs.Levels as specs_levels;
 ghost use Rattle.levels.specs.Mining.{MineRefusalIs};
 ghost use Rattle.levels.specs.Stays.{AllStay};
 ghost use Rattle.graphs.specs.declared.names.Level as graph_level;
-ghost use Rattle.levels.specs.Views.{IsClusterOf};
+ghost use Rattle.levels.specs.Views.{HaveClusterNumbers, IsClusterOf};
 
 use crate::mining::refused_mine;
 use crate::moving::{add_name, connect, drop_names};
@@ -325,9 +325,11 @@ impl<const W: usize> Levels<W> {
 }
 
 impl<const W: usize> Levels<W> {
-    /// The parts of a level in its order, from the first. Takes no memory.
+    /// The parts of a level in its order, from the first, each with the number of its cluster. Two parts have one number exactly
+    /// where they are of one cluster. Takes no memory.
     pub fn parts(&self, level: Level) -> PartWalk<'_, Stored<W>>
         ensures parts { map (λ s. s.part) result ≡ (level_at self.now level).parts }
+        ensures numbers { HaveClusterNumbers (level_at self.now level).graph result }
         ensures best { IsBest (level_at self.now level) }
         ensures rates { (id : ℕ) → is_member (level_at self.now level).graph id ≡ true
             → IsRate (rate_of (level_at self.now level).graph id) }

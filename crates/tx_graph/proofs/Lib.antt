@@ -5,6 +5,7 @@ mod Rows
 mod Counting
 mod Tables
 mod Added
+mod Blocks
 mod Paired
 mod Paid
 mod Dropped

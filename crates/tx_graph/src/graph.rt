@@ -14,17 +14,18 @@ ghost use Rattle.graph_model.specs.Answers.{order_of};
 ghost use Rattle.graph_model.specs.Changes.{IsLast};
 ghost use Rattle.graphs.specs.Certificates.{Part};
 ghost use Rattle.graph_model.specs.Commands as commands;
-ghost use Rattle.graph_model.specs.Commands.{SetLimits, Add, Dep, SetFee, Remove, Mine, Evict, Stage, Commit, Abort, Settle, Compare, Cluster, Ancestors, Descendants, Chunk, Before, Proof, Count};
-ghost use Rattle.graph_model.specs.Replies.{Reply, Number, Parts, Points, Proves, change_reply, names_reply};
+ghost use Rattle.graph_model.specs.Commands.{SetLimits, Add, Dep, SetFee, Remove, Mine, Evict, Stage, Commit, Abort, Settle, Compare, Cluster, Ancestors, Descendants, Chunk, Before, Proof, Count, Block};
+ghost use Rattle.graph_model.specs.Replies.{Reply, Number, Parts, Points, Proves, change_reply, names_reply, Built, Refused};
 ghost use Rattle.graph_model.specs.Texts.{Text};
 ghost use Rattle.diagram.specs.Points.{YieldsCorners};
+ghost use Rattle.graphs.specs.Rates.{sum_of};
 ghost use Rattle.cluster.specs.Steps.{GrowsWithin, most_steps};
 ghost use Rattle.tx_graph.specs.Additions.{AddRefusalIs, CountsLive};
 ghost use Rattle.tx_graph.specs.Kept.{Kept, StandsFor, MakesStep, start_within};
 ghost use Rattle.levels.specs.Lefts.{DropsWithin};
 ghost use Rattle.levels.specs.Levels.{GrowsForFee, IsBest, IsLive, level_at};
-ghost use Rattle.levels.specs.Orders.{ListsCovers};
-ghost use Rattle.tx_graph.specs.Dropped.{AreOfClusters, IsEvicted, IsPicked};
+ghost use Rattle.levels.specs.Orders.{ListsCovers, sums_of};
+ghost use Rattle.tx_graph.specs.Dropped.{AreOfClusters, IsEvicted, IsPicked, ArePaidBySize, IsBlockOf};
 ghost use Rattle.tx_graph.specs.Readings.{AreMinimalIn, IsBestOrder, IsTextOf, part_reply, place_reply, compare_reply, settle_reply};
 ghost use Rattle.levels.specs.Stays.{AllStay};
 
@@ -599,17 +600,24 @@ impl<const W: usize> TxGraph<W> {
 
     /// The chunks of main in main's order, each with the number of its cluster. Two chunks have one number exactly where they are of
     /// one cluster. Takes no memory.
+    ///
+    /// The chunks that a block takes of these are what the machine answers to `block`.
     pub fn numbered(&self) -> Numbered<'_, W>
         ensures parts { map (λ s. s.part) result ≡ self.now.levels.main.parts }
         ensures numbers { (state : State) → StandsFor self.now state → AreOfClusters state.plain.main result }
+        ensures rates { ArePaidBySize self.now.levels.main.parts }
+        ensures block { (size : ℕ) (taken : List Part) → IsBlockOf self.now size taken
+            → MakesStep self.now self.now (Block size) (Built (sum_of (sums_of taken)) (order_of taken)) }
+        ensures memory { (size : ℕ) → MakesStep self.now self.now (Block size) (Refused Memory) }
     {
         self.levels.parts(Level::Main)
     }
 
-    /// A size, in virtual bytes, that no transaction of the graph is below. Takes no memory.
+    /// A size, in virtual bytes, that no transaction of main is below, and so no chunk. Takes no memory.
     pub fn least(&self) -> u64
-        ensures { (id : ℕ) → is_member self.now.levels.main.graph id ≡ true
+        ensures names { (id : ℕ) → is_member self.now.levels.main.graph id ≡ true
             → result ≤ (rate_of self.now.levels.main.graph id).size }
+        ensures parts { (part : Part) → Contains self.now.levels.main.parts part → result ≤ part.rate.size }
     {
         self.levels.least()
     }
