@@ -9,9 +9,9 @@ returns-in-Ok-clause-row g c = (
   lent c.in-Some.shown.part,
   shown_last c.args.levels.now.main.parts c.parts.result c.next_back.new.self (shown_part c.in-Some.shown) c.parts.ensures.parts c.in-Some.ensures.steps,
   record {
-    fee = c.from.ensures.0;
-    size = c.from.ensures.1;
-    ids = c.from_vec.ensures ∙ c.in-Ok.ensures.ok;
+    fee = c.from-sum.ensures.0;
+    size = c.from-sum.ensures.1;
+    ids = c.from_vec.ensures ∙ c.in-Ok.ensures.items_if_clones_equal (λ y e. e);
   },
 )
 
@@ -19,6 +19,9 @@ pub returns-in-Err-clause-row : goal.returns-in-Err-clause-row
 returns-in-Err-clause-row g c =
     inl (
       refl,
-      lent c.in-Some.shown.part,
-      shown_last c.args.levels.now.main.parts c.parts.result c.next_back.new.self (shown_part c.in-Some.shown) c.parts.ensures.parts c.in-Some.ensures.steps,
+      (
+        lent c.in-Some.shown.part,
+        shown_last c.args.levels.now.main.parts c.parts.result c.next_back.new.self (shown_part c.in-Some.shown) c.parts.ensures.parts
+            c.in-Some.ensures.steps,
+      ),
     )
