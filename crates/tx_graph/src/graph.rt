@@ -146,7 +146,7 @@ fn last_part<const W: usize>(alloc: Global, levels: &Levels<W>) -> Result<Picked
     let Some(shown) = levels.parts(Level::Main).next_back() else {
         return Err(Refusal::Empty);
     };
-    match shown.part.ids.to_vec(alloc) {
+    match Vec::from_slice(alloc, shown.part.ids) {
         Ok(ids) => {
             let sum = Sum::from(shown.part.rate);
             Ok(Picked {

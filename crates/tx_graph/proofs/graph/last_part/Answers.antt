@@ -1,4 +1,6 @@
-use Rattle.std.proofs.Common.{sym, ◌∙◌, refl, inl}
+use Rattle.std.proofs.Common.{rules, ◌∙◌, refl, inl}
+use Rattle.std.specs.Int.{w128}
+use Rattle.std.proofs.lemmas.Int.{to_z-of_z}
 use Rattle.cluster_store.specs.Lent.{lent}
 use Rattle.cluster_store.specs.Walks.{shown_part}
 use Rattle.tx_graph.proofs.Mined.{shown_last}
@@ -9,9 +11,9 @@ returns-in-Ok-clause-row g c = (
   lent c.in-Some.shown.part,
   shown_last c.args.levels.now.main.parts c.parts.result c.next_back.new.self (shown_part c.in-Some.shown) c.parts.ensures.parts c.in-Some.ensures.steps,
   record {
-    fee = c.from-sum.ensures.0;
+    fee = to_z-of_z w128 c.from-sum.result.fee (search rules) ∙ c.from-sum.ensures.0;
     size = c.from-sum.ensures.1;
-    ids = c.from_vec.ensures ∙ c.in-Ok.ensures.items_if_clones_equal (λ y e. e);
+    ids = c.from_vec.ensures ∙ c.in-Ok.ensures.items;
   },
 )
 
