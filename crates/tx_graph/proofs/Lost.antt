@@ -203,11 +203,14 @@ module _ (old new : Kept) (part : Part) (limits : new.limits ≡ old.limits) (mo
   accepts_evicted : AcceptsHere old new Evict (Evicted part)
   accepts_evicted state stands =
       let next = after old new part.ids limits most begins alone still loses state stands
-      (inr (last_closed old.levels.main state.main part best stands.main last)) state.blocks in
-      (next.0, next.1, record {
-        answer = (old.levels.main.parts, part, refl, last, refl);
-        change = (old.levels.main.parts, part, refl, last, next.2);
-      })
+      (inr (last_closed old.levels.main state.main part best stands.main last)) state.blocks in (
+        next.0,
+        next.1,
+        record {
+          answer = (old.levels.main.parts, part, refl, last, refl);
+          change = (old.levels.main.parts, part, refl, last, next.2);
+        },
+      )
 
   pub steps_evicted : Meets old Evict None → MakesStep old new Evict (Evicted part)
   steps_evicted none =

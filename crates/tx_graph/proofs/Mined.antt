@@ -126,7 +126,7 @@ evict_empty kept alone picked none state stands =
       λ there. true≢false (sym there ∙ staged kept state stands ∙ alone),
       inl (
         nothing_in state.main.names (λ id here.
-        none_in_empty id (subst (λ ps. Contains (flat_map (λ (p : Part). p.ids) ps) id) none ((order.names id).1 here))),
+            none_in_empty id (subst (λ ps. Contains (flat_map (λ (p : Part). p.ids) ps) id) none ((order.names id).1 here))),
         refl,
       ),
     )

@@ -8,13 +8,12 @@ ghost use Rattle.graphs.specs.declared.names.Level.TheVariants.{Top};
 ghost use Rattle.graphs.specs.declared.names.Verdict.TheVariants.{Better};
 ghost use Rattle.graphs.specs.Graphs.{Lists};
 ghost use Rattle.graph_model.specs.Limits.{AreInRange, bounds_of};
-ghost use Rattle.graph_model.specs.declared.names.Refusal.TheVariants.{Memory, Empty, NoStaging};
+ghost use Rattle.graph_model.specs.declared.names.Refusal.TheVariants.{Memory, NoStaging};
 ghost use Rattle.graph_model.specs.States.{State, level_of, IsStaged};
 ghost use Rattle.graph_model.specs.Answers.{order_of};
-ghost use Rattle.graph_model.specs.Changes.{IsLast};
 ghost use Rattle.graphs.specs.Certificates.{Part};
 ghost use Rattle.graph_model.specs.Commands as commands;
-ghost use Rattle.graph_model.specs.Commands.{SetLimits, Add, Dep, SetFee, Remove, Mine, Evict, Stage, Commit, Abort, Settle, Compare, Cluster, Ancestors, Descendants, Chunk, Before, Proof, Count, Block};
+ghost use Rattle.graph_model.specs.Commands.{SetLimits, Add, Dep, SetFee, Remove, Stage, Commit, Abort, Settle, Compare, Cluster, Ancestors, Descendants, Chunk, Before, Proof, Count, Block};
 ghost use Rattle.graph_model.specs.Replies.{Reply, Number, Parts, Points, Proves, change_reply, names_reply, Built, Refused};
 ghost use Rattle.graph_model.specs.Texts.{Text};
 ghost use Rattle.diagram.specs.Points.{YieldsCorners};
@@ -23,19 +22,17 @@ ghost use Rattle.cluster.specs.Steps.{GrowsWithin, most_steps};
 ghost use Rattle.tx_graph.specs.Additions.{AddRefusalIs, CountsLive};
 ghost use Rattle.tx_graph.specs.Kept.{Kept, StandsFor, MakesStep, start_within};
 ghost use Rattle.levels.specs.Lefts.{DropsWithin};
-ghost use Rattle.levels.specs.Levels.{GrowsForFee, IsBest, IsLive, level_at};
+ghost use Rattle.levels.specs.Levels.{GrowsForFee, IsLive, level_at};
 ghost use Rattle.levels.specs.Orders.{ListsCovers, sums_of};
-ghost use Rattle.tx_graph.specs.Dropped.{AreOfClusters, IsEvicted, IsPicked, ArePaidBySize, IsBlockOf};
+ghost use Rattle.tx_graph.specs.Dropped.{AreOfClusters, ArePaidBySize, IsBlockOf};
 ghost use Rattle.tx_graph.specs.Readings.{AreMinimalIn, IsBestOrder, IsTextOf, part_reply, place_reply, compare_reply, settle_reply};
 ghost use Rattle.levels.specs.Stays.{AllStay};
 
 use crate::order::{Diagram, Forward, Numbered, Order, OrderBack};
 use cluster::{Covers, PartRef};
 use diagram::corners;
-use fee_rate::{FeeRate, Sum};
-use graph_model::{
-    IdBuf, IdList, Level, Limits, Picked, Place, Refusal, TxId, Verdict, is_fee, is_size,
-};
+use fee_rate::FeeRate;
+use graph_model::{IdBuf, Level, Limits, Place, Refusal, TxId, Verdict, is_fee, is_size};
 use levels::Levels;
 use outside::NoMemory;
 use std::alloc::Global;
@@ -57,9 +54,9 @@ use step_count::{Ledger, Steps};
 #[derive(Drop)]
 pub struct TxGraph<const W: usize> {
     limits: Limits,
-    begun: bool,
-    alloc: Global,
-    levels: Levels<W>,
+    pub(crate) begun: bool,
+    pub(crate) alloc: Global,
+    pub(crate) levels: Levels<W>,
 }
 
 // Clauses see the graph by names. Every value stands for some state.
@@ -133,29 +130,6 @@ fn close<const W: usize>(levels: &mut Levels<W>, verdict: Verdict)
     match verdict {
         Verdict::Better => levels.commit(),
         _ => levels.abort(),
-    }
-}
-
-/// The last part of main's order, with its names in a list of their own. Refuses where main is empty.
-fn last_part<const W: usize>(alloc: Global, levels: &Levels<W>) -> Result<Picked, Refusal>
-    ensures row { MatchResult result (λ picked. (part : Part) × IsLast levels.now.main.parts part × IsPicked part picked)
-        (λ why. ((why ≡ Memory) × ((part : Part) × IsLast levels.now.main.parts part))
-        ⊎ ((why ≡ Empty) × (levels.now.main.parts ≡ []))) }
-    ensures best { IsBest levels.now.main }
-{
-    let Some(shown) = levels.parts(Level::Main).next_back() else {
-        return Err(Refusal::Empty);
-    };
-    match Vec::from_slice(alloc, shown.part.ids) {
-        Ok(ids) => {
-            let sum = Sum::from(shown.part.rate);
-            Ok(Picked {
-                fee: sum.fee,
-                size: sum.size,
-                ids: IdList::from_vec(ids),
-            })
-        }
-        Err(_) => Err(Refusal::Memory),
     }
 }
 
@@ -363,74 +337,6 @@ impl<const W: usize> TxGraph<W> {
         }
         self.begun = true;
         Ok(())
-    }
-
-    /// Takes transactions that were mined out of main, in any order, with their dependencies. The others keep the ancestors that they
-    /// have among them. The list isn't empty.
-    ///
-    /// The solver takes at most the sum of 2·(n+2)^5 steps over the clusters of n transactions that are left of the listed
-    /// transactions' clusters, each cluster once. It takes none where the call is refused for another reason than memory.
-    ///
-    /// # Errors
-    ///
-    /// Answers the first of these that holds, and leaves the graph as it was:
-    ///
-    /// - [`Refusal::Staging`]: a staging is open.
-    /// - [`Refusal::Twice`], with the first listed transaction that stands earlier in the list too.
-    /// - [`Refusal::Unknown`], with the first listed transaction that main hasn't.
-    /// - [`Refusal::Parent`], with the first listed transaction that has an ancestor in main which isn't listed.
-    /// - [`Refusal::Memory`]: there is no memory. Nothing before takes any.
-    pub fn mine<L: Ledger>(&mut self, ids: &[TxId], steps: &mut Steps<L>) -> Result<(), Refusal>
-        requires { ids.now ≢ [] }
-        ensures step { MakesStep self.old self.new (Mine ids.now) (change_reply result) }
-        ensures stays { AllStay self.old.levels self.new.levels }
-        ensures additions { self.new.levels.issued ≡ self.old.levels.issued }
-        ensures refused { IfErr result (λ why. why ≢ Memory → steps.new ≡ steps.old) }
-        ensures steps { DropsWithin ids.now self.old.levels.main.graph steps.old steps.new }
-    {
-        if self.levels.is_staged() {
-            return Err(Refusal::Staging);
-        }
-        if let Some(why) = self.levels.refused_mine(ids) {
-            return Err(why);
-        }
-        if self.levels.drop_names(ids, steps).is_err() {
-            return Err(Refusal::Memory);
-        }
-        self.begun = true;
-        Ok(())
-    }
-
-    /// Drops the last chunk of main's order, which is the first to go where a mempool is full, and tells its transactions with their
-    /// fee and size. No set of transactions that has all its descendants has a lower feerate.
-    ///
-    /// The solver takes at most the sum of 2·(n+2)^5 steps over the clusters of n transactions that are left of the chunk's
-    /// cluster. It takes none where the call is refused for another reason than memory.
-    ///
-    /// # Errors
-    ///
-    /// Answers the first of these that holds, and leaves the graph as it was:
-    ///
-    /// - [`Refusal::Staging`]: a staging is open.
-    /// - [`Refusal::Empty`]: main has no transaction.
-    /// - [`Refusal::Memory`]: there is no memory.
-    pub fn drop_last<L: Ledger>(&mut self, steps: &mut Steps<L>) -> Result<Picked, Refusal>
-        ensures step { (reply : Reply) × IsEvicted self.old.levels result reply × MakesStep self.old self.new Evict reply }
-        ensures stays { AllStay self.old.levels self.new.levels }
-        ensures additions { self.new.levels.issued ≡ self.old.levels.issued }
-        ensures refused { IfErr result (λ why. why ≢ Memory → steps.new ≡ steps.old) }
-        ensures steps { (part : Part) → IsLast self.old.levels.main.parts part
-            → DropsWithin part.ids self.old.levels.main.graph steps.old steps.new }
-    {
-        if self.levels.is_staged() {
-            return Err(Refusal::Staging);
-        }
-        let picked = last_part(self.alloc, &self.levels)?;
-        if self.levels.drop_names(picked.ids.as_slice(), steps).is_err() {
-            return Err(Refusal::Memory);
-        }
-        self.begun = true;
-        Ok(picked)
     }
 
     /// Whether a staging is open.

@@ -22,6 +22,7 @@
 #![tactic(auto)]
 
 mod graph;
+mod mining;
 mod order;
 
 pub use cluster::{Covers, PartRef};

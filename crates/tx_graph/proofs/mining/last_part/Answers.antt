@@ -4,7 +4,7 @@ use Rattle.std.proofs.lemmas.Int.{to_z-of_z}
 use Rattle.cluster_store.specs.Lent.{lent}
 use Rattle.cluster_store.specs.Walks.{shown_part}
 use Rattle.tx_graph.proofs.Mined.{shown_last}
-use Rattle.tx_graph.proofs.graph.last_part.Goals as goal
+use Rattle.tx_graph.proofs.mining.last_part.Goals as goal
 
 pub returns-in-Ok-clause-row : goal.returns-in-Ok-clause-row
 returns-in-Ok-clause-row g c = (

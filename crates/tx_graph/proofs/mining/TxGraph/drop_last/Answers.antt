@@ -20,7 +20,7 @@ use Rattle.tx_graph.proofs.Mined.{evict_staged, evict_row, evict_step, last_in, 
 use Rattle.tx_graph.proofs.Standing.{steps_refused, steps_without_memory}
 use Rattle.tx_graph.proofs.Rooms.{levels_fit}
 use Rattle.tx_graph.proofs.Unchanged.{all_stay, within_one, not_larger, issued_topped}
-use Rattle.tx_graph.proofs.graph.TxGraph.drop_last.Goals as goal
+use Rattle.tx_graph.proofs.mining.TxGraph.drop_last.Goals as goal
 
 pub is_staged-requires : goal.is_staged-requires
 is_staged-requires g c = levels_fit g.row.W assumption
@@ -34,7 +34,7 @@ returns-then-is_staged-clause-step g c =
       Refused Staging,
       refl,
       both_views kept c.args.self.now Evict (Refused Staging) c.self.view_is
-      (steps_refused kept Evict Staging (evict_staged kept (sym c.is_staged.ensures ∙ c.if-is_staged.true))),
+          (steps_refused kept Evict Staging (evict_staged kept (sym c.is_staged.ensures ∙ c.if-is_staged.true))),
     )
 
 pub returns-then-is_staged-clause-stays : goal.returns-then-is_staged-clause-stays
@@ -57,7 +57,7 @@ returns-in_err-picked-clause-step g c =
       Refused why,
       subst (λ r. IsEvicted c.args.self.now.levels r (Refused why)) (sym (error_is c.from_residual.result why c.from_residual.ensures.1)) refl,
       both_views kept c.args.self.now Evict (Refused why) c.self.view_is
-      (last_refused kept c.self.invariant (sym c.is_staged.ensures ∙ c.if-is_staged.false) why c.in_err-picked.ensures.row),
+          (last_refused kept c.self.invariant (sym c.is_staged.ensures ∙ c.if-is_staged.false) why c.in_err-picked.ensures.row),
     )
 
 pub returns-in_err-picked-clause-stays : goal.returns-in_err-picked-clause-stays
@@ -98,9 +98,9 @@ returns-then-is_err-clause-step g c =
       Refused Memory,
       refl,
       same_levels (64 * g.row.W) c.self.inside.limits c.self.inside.begun c.self.inside.levels c.drop_names.new.self c.args.self.now Evict (Refused Memory)
-      (when_err c.drop_names.result (sym c.is_err.ensures.value ∙ c.if-is_err.true) c.drop_names.ensures.err) c.self.view_is
-      (steps_without_memory kept Evict tt
-      (evict_row kept in_main.some.0 (sym c.is_staged.ensures ∙ c.if-is_staged.false) (in_main.live in_main.some.0 in_main.some.1))),
+          (when_err c.drop_names.result (sym c.is_err.ensures.value ∙ c.if-is_err.true) c.drop_names.ensures.err) c.self.view_is
+          (steps_without_memory kept Evict tt
+          (evict_row kept in_main.some.0 (sym c.is_staged.ensures ∙ c.if-is_staged.false) (in_main.live in_main.some.0 in_main.some.1))),
     )
 
 pub returns-then-is_err-clause-stays : goal.returns-then-is_err-clause-stays
@@ -143,11 +143,11 @@ returns-clause-step g c =
       Evicted row.0,
       (row.0, subst (λ (k : Kept). IsLast k.levels.main.parts row.0) c.self.view_is row.1, row.2, refl),
       from_view kept c.args.self.now (kept_of (64 * g.row.W) c.self.inside.limits true c.drop_names.new.self) Evict (Evicted row.0) c.self.view_is
-      (evict_step (64 * g.row.W) c.self.inside.limits c.self.inside.begun c.self.inside.levels c.drop_names.new.self c.drop_names.ensures.picks
-      (sym c.is_staged.ensures ∙ c.if-is_staged.false) row.0 c.last_part.ensures.best row.1 in_main.some.0 in_main.some.1
-      (in_main.live in_main.some.0 in_main.some.1)
-      (subst (λ (ns : List ℕ). ChangesTop (λ a b. LosesNames a b ns) c.self.inside.levels c.drop_names.new.self) (c.as_slice.ensures ∙ row.2.ids)
-      (when_ok c.drop_names.result (sym c.is_err.ensures.value ∙ c.if-is_err.false) c.drop_names.ensures.dropped))),
+          (evict_step (64 * g.row.W) c.self.inside.limits c.self.inside.begun c.self.inside.levels c.drop_names.new.self c.drop_names.ensures.picks
+          (sym c.is_staged.ensures ∙ c.if-is_staged.false) row.0 c.last_part.ensures.best row.1 in_main.some.0 in_main.some.1
+          (in_main.live in_main.some.0 in_main.some.1)
+          (subst (λ (ns : List ℕ). ChangesTop (λ a b. LosesNames a b ns) c.self.inside.levels c.drop_names.new.self) (c.as_slice.ensures ∙ row.2.ids)
+          (when_ok c.drop_names.result (sym c.is_err.ensures.value ∙ c.if-is_err.false) c.drop_names.ensures.dropped))),
     )
 
 pub returns-clause-stays : goal.returns-clause-stays
