@@ -16,7 +16,7 @@ use Rattle.tx_graph.proofs.Mined.{all_small, mine_row, mine_staged, may_mine, mi
 use Rattle.tx_graph.proofs.Standing.{steps_refused, steps_without_memory}
 use Rattle.tx_graph.proofs.Rooms.{levels_fit}
 use Rattle.tx_graph.proofs.Unchanged.{all_stay, within_one, not_larger, issued_topped}
-use Rattle.tx_graph.proofs.mining.TxGraph.mine.Goals as goal
+use Rattle.tx_graph.proofs.graph.TxGraph.mine.Goals as goal
 
 pub is_staged-requires : goal.is_staged-requires
 is_staged-requires g c = levels_fit g.row.W assumption

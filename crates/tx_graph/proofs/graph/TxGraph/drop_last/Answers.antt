@@ -20,7 +20,7 @@ use Rattle.tx_graph.proofs.Mined.{evict_staged, evict_row, evict_step, last_in, 
 use Rattle.tx_graph.proofs.Standing.{steps_refused, steps_without_memory}
 use Rattle.tx_graph.proofs.Rooms.{levels_fit}
 use Rattle.tx_graph.proofs.Unchanged.{all_stay, within_one, not_larger, issued_topped}
-use Rattle.tx_graph.proofs.mining.TxGraph.drop_last.Goals as goal
+use Rattle.tx_graph.proofs.graph.TxGraph.drop_last.Goals as goal
 
 pub is_staged-requires : goal.is_staged-requires
 is_staged-requires g c = levels_fit g.row.W assumption
