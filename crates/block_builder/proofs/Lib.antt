@@ -1,0 +1,3 @@
+mod Drafting
+mod Marking
+mod Passing
