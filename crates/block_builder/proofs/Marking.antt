@@ -5,7 +5,7 @@ use Rattle.std.proofs.lemmas.Bool.{or_cases}
 use Rattle.lists.proofs.Cases.{or_true}
 use Rattle.std.proofs.lemmas.List.{map-append, append_assoc, append-nil}
 use Rattle.std.proofs.lemmas.List.Elements.{Contains-append_left, Contains-append_right}
-use Rattle.std.proofs.lemmas.List.Sums.{sum_by-append, sum_by-cons}
+use Rattle.std.proofs.lemmas.List.Sums.{sum_by_push}
 use Rattle.lists.proofs.Entries.{Contains-head, Contains-later, Contains-cases, Contains-one, none_in_empty, first_of, rest_of, not_empty, map-Contains, Contains-map, map_cut}
 use Rattle.graphs.specs.Certificates.{Part}
 use Rattle.graphs.specs.Graphs.{Graph}
@@ -37,7 +37,7 @@ pub record IsCutBefore {X : Type 0} (xs before after : List X) (x y : X) : Type 
 pub cut_last : {X : Type 0} (xs before after : List X) (x y : X) → xs ++ x ∷ [] ≡ before ++ y ∷ after
     → ((xs ≡ before) × (x ≡ y)) ⊎ IsCutBefore xs before after x y
 cut_last [] [] after x y is = inl (refl, first_of is)
-cut_last {X = X} [] (b ∷ before) after x y is = absurd (no_empty {X = X} before after y (rest_of is))
+cut_last [] (b ∷ before) after x y is = absurd (no_empty before after y (rest_of is))
 cut_last (z ∷ xs) [] after x y is = inr (record { more = xs; rest = sym (rest_of is); front = ap (λ w. w ∷ xs) (first_of is) })
 cut_last (z ∷ xs) (b ∷ before) after x y is = elim (cut_last xs before after x y (rest_of is)) [
   | inl (same, last) ↦ inl (ap (λ w. w ∷ xs) (first_of is) ∙ ap (λ ws. b ∷ ws) same, last)
@@ -73,14 +73,14 @@ took_none gone s = took_append gone ((s, false) ∷ []) ∙ append-nil (took gon
 
 pub size_one : (gone : List Entry) (s : Shown) → size_of (took (gone ++ (s, true) ∷ [])) ≡ size_of (took gone) + s.part.rate.size
 size_one gone s =
-    ap size_of (took_one gone s) ∙ sum_by-append (λ (p : Part). p.rate.size) (took gone) (s.part ∷ [])
+    ap size_of (took_one gone s) ∙ sum_by_push (λ (p : Part). p.rate.size) (took gone) s.part
 
 -- ---- marks
 
 pub marked_none : (limit : ℕ) → AreMarked limit []
 marked_none limit before after s mark is = absurd (no_empty before after (s, mark) is)
 
-pub marked_more : (limit : ℕ) (gone : List Entry) (s : Shown) (mark : Bool) → AreMarked limit gone → (mark ≡ true) ↔ MayTake limit gone s
+pub marked_more : (limit : ℕ) (gone : List Entry) (s : Shown) (mark : Bool) → AreMarked limit gone → ((mark ≡ true) ↔ MayTake limit gone s)
     → AreMarked limit (gone ++ (s, mark) ∷ [])
 marked_more limit gone s mark marked last before after t was is = elim (cut_last gone before after (s, mark) (t, was) is) [
   | inl (same, one) ↦
@@ -153,12 +153,12 @@ module _ (marks : List Bool) (gone : List Entry) (tells : TellsLeftOut marks gon
       | inl one ↦ (s, Contains-last gone (s, false), sym (eqb-true n s.number one))
       | inr before ↦ let old = (tells n).0 before in (old.0, Contains-append_left gone ((s, false) ∷ []) (old.0, false) old.1, old.2)
     ],
-    λ (t, here, same). adds n ∙ elim (Contains-push gone (s, false) (t, false) here) [
-      | inl front ↦ ap (λ b. nat_eq n s.number || b) ((tells n).1 (t, front, same)) ∙ or_true (nat_eq n s.number)
-      | inr last ↦
-          ap (λ b. b || is_marked marks n)
-          (eq-eqb n s.number (sym (ap (λ (e : Entry). e.0.number) last ∙ same)))
-    ],
+    λ (t, here, same).
+        let both : (nat_eq n s.number || is_marked marks n) ≡ true = elim (Contains-push gone (s, false) (t, false) here) [
+          | inl front ↦ ap (λ b. nat_eq n s.number || b) ((tells n).1 (t, front, same)) ∙ or_true (nat_eq n s.number)
+          | inr last ↦ ap (λ b. b || is_marked marks n) (eq-eqb n s.number (sym (ap (λ (e : Entry). e.0.number) last ∙ same)))
+        ] in
+        adds n ∙ both,
   )
 
 -- parts of marked clusters that are passed over

@@ -1,11 +1,11 @@
 -- What a step past a part does.
-use Rattle.std.proofs.Common.{◌≡◌, ◌↔◌, ℕ, ◌⊎◌, inl, inr, Bool, true, false, true≢false, List, [], ◌∷◌, ◌++◌, map, Contains, Option, Some, None, refl, sym, ap, ◌∙◌, subst}
+use Rattle.std.proofs.Common.{◌≡◌, ◌≢◌, ◌↔◌, ℕ, ◌⊎◌, inl, inr, Bool, true, false, true≢false, List, [], ◌∷◌, ◌++◌, map, Contains, Option, Some, None, refl, sym, ap, ◌∙◌, subst}
 use Rattle.std.specs.Prelude.{option_map, option_to_list}
 use Rattle.std.proofs.lemmas.List.{map-append, append_assoc}
 use Rattle.std.proofs.lemmas.List.Elements.{Contains-append_left, Contains-append_right}
 use Rattle.std.proofs.lemmas.Option.{same_Some}
 use Rattle.lists.proofs.Cases.{some_none}
-use Rattle.lists.proofs.Entries.{Contains-head, first_of, not_empty, map-Contains, Contains-map}
+use Rattle.lists.proofs.Entries.{Contains-head, none_in_empty, first_of, not_empty, map-Contains, Contains-map}
 use Rattle.graphs.specs.Certificates.{Part}
 use Rattle.graphs.specs.Graphs.{Graph}
 use Rattle.graph_model.specs.Blocks.{ShareComponent}
@@ -13,8 +13,8 @@ use Rattle.graph_model.specs.States.{State}
 use Rattle.cluster_store.specs.Stores.{Shown}
 use Rattle.tx_graph.specs.Dropped.{AreOfClusters}
 use Rattle.tx_graph.specs.Kept.{Kept, StandsFor}
-use Rattle.block_builder.specs.Building.{Building, is_marked, seen, TellsLeftOut, PassesOver, HasPassed, IsOffered, IsOfLeftOut, GoesPast, StepsPast}
-use Rattle.block_builder.proofs.Marking.{Entry, shown_in, left_out, left_all, left_none, shown_left_out}
+use Rattle.block_builder.specs.Building.{Building, is_marked, seen, TellsLeftOut, PassesOver, ahead_of, HasPassed, IsOffered, IsOfLeftOut, GoesPast, StepsPast}
+use Rattle.block_builder.proofs.Marking.{Entry, shown_in, left_out, left_all, left_none, shown_left_out, Contains-push}
 
 abbrev pub part_of : Shown → Part
 part_of s = s.part
@@ -162,4 +162,49 @@ starts_past b whole numbers none = record {
   numbers = numbers;
   left_out = subst (λ (ms : List Bool). TellsLeftOut ms []) (sym none) left_none;
   fresh = λ s rest is. ap (λ (ms : List Bool). is_marked ms s.number) none;
+}
+
+-- ---- the walk
+
+-- of some parts the rest is left, and those before it are of marked clusters
+pub record ArePassed (marks : List Bool) (all rest : List Shown) : Type 0 where
+  pub passed : List Shown
+  pub cut : all ≡ passed ++ rest
+  pub out : (s : Shown) → Contains passed s → is_marked marks s.number ≡ true
+
+pub passed_none : (marks : List Bool) (all : List Shown) → ArePassed marks all all
+passed_none marks all = record { passed = []; cut = refl; out = λ s here. absurd (none_in_empty s here) }
+
+pub passed_more : (marks : List Bool) (all rest behind : List Shown) (s : Shown) → ArePassed marks all rest → rest ≡ s ∷ behind
+    → is_marked marks s.number ≡ true → ArePassed marks all behind
+passed_more marks all rest behind s are is out = record {
+  passed = are.passed ++ s ∷ [];
+  cut = are.cut ∙ ap (λ ss. are.passed ++ ss) is ∙ sym (append_assoc are.passed (s ∷ []) behind);
+  out = λ t here. elim (Contains-push are.passed s t here) [
+    | inl front ↦ are.out t front
+    | inr last ↦ subst (λ (u : Shown). is_marked marks u.number ≡ true) last out
+  ];
+}
+
+-- a walk with a known first part that goes on to another, or to its end
+pub goes_on : (marks : List Bool) (old : List Shown) (first : Option Shown) (behind rest left : List Shown) (s : Shown) → old ≡ ahead_of first behind → old ≢ []
+    → ArePassed marks behind rest → rest ≡ s ∷ left → is_marked marks s.number ≡ false → PassesOver marks old (s ∷ left)
+goes_on marks old None behind rest left s is some are next fresh = absurd (some is)
+goes_on marks old (Some f) behind rest left s is some are next fresh = record {
+  first = f;
+  passed = are.passed;
+  cut = is ∙ ap (λ ss. f ∷ ss) (are.cut ∙ ap (λ ss. are.passed ++ ss) next);
+  out = are.out;
+  fresh = λ t more same. ap (λ (u : Shown). is_marked marks u.number) (sym (first_of same)) ∙ fresh;
+}
+
+pub goes_out : (marks : List Bool) (old : List Shown) (first : Option Shown) (behind rest : List Shown) → old ≡ ahead_of first behind → old ≢ []
+    → ArePassed marks behind rest → rest ≡ [] → PassesOver marks old []
+goes_out marks old None behind rest is some are none = absurd (some is)
+goes_out marks old (Some f) behind rest is some are none = record {
+  first = f;
+  passed = are.passed;
+  cut = is ∙ ap (λ ss. f ∷ ss) (are.cut ∙ ap (λ ss. are.passed ++ ss) none);
+  out = are.out;
+  fresh = λ t more same. absurd (not_empty (sym same));
 }

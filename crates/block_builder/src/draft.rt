@@ -1,5 +1,5 @@
 //! A block that is being filled.
-ghost use Rattle.std.specs.Prelude.{◌≡◌, ◌*◌, ◌≤◌, ◌-◌, Bool, List, [], map, unsigned_abs, Contains, OnOk};
+ghost use Rattle.std.specs.Prelude.{◌≡◌, ◌+ℤ◌, ◌*◌, ◌≤◌, ◌-◌, Bool, List, [], map, unsigned_abs, Contains, OnOk};
 ghost use Rattle.fee_rate.specs.declared.limits.TheConstants.{MAX_FEE};
 ghost use Rattle.cluster_store.specs.Stores.{Shown};
 ghost use Rattle.cluster_store.specs.Walks.{shown_part};
@@ -42,7 +42,7 @@ impl Draft {
     pub fn offer(&mut self, shown: ShownPart<'_>) -> Result<(), NoMemory>
         requires draft { (gone : List (Shown × Bool)) × Drafts self.old gone }
         requires pays { unsigned_abs shown.part.rate.fee ≤ MAX_FEE * shown.part.rate.size }
-        ensures offers { OnOk result (Offers (shown_part shown) self.old self.new) }
+        ensures offers { OnOk result (Offers (shown_part shown.entry) self.old self.new) }
         ensures limit { OnOk result (self.new.limit ≡ self.old.limit) }
     {
         if has_mark(self.marks.as_slice(), shown.number) {
@@ -53,7 +53,7 @@ impl Draft {
             return mark(&mut self.marks, shown.number);
         }
         self.ids.extend_from_slice(shown.part.ids)?;
-        self.fee += rate.fee as i128;
+        self.fee = plus(self.fee, rate.fee, self.limit);
         self.left -= rate.size;
         Ok(())
     }
@@ -99,4 +99,13 @@ impl Draft {
             ids: IdList::from_vec(ids),
         }
     }
+}
+
+// A fee that is in range for a size of at most the limit, and one more, in satoshis.
+fn plus(fee: i128, more: i64, limit: u64) -> i128
+    requires { unsigned_abs fee ≤ MAX_FEE * limit }
+    ensures { result ≡ fee +ℤ more }
+{
+    let _limit = limit;
+    fee + more as i128
 }
