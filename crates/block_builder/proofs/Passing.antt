@@ -86,8 +86,7 @@ module _ (mark : Bool) (old new : Building) (over : PassesOver new.marks old.ahe
         let t_all : Contains all (t, false) =
         Contains-append_right one (left_out over.passed) (t, false) (Contains-map (λ (x : Shown). (x, false)) over.passed t here) in
         let shown : (x : Shown) → Contains all (x, false) → Contains (shown_in all ++ new.ahead) x = λ x there.
-        Contains-append_left (shown_in all) new.ahead x (Contains-map (λ (e : Entry). e.0) all (x, false) there) in
-        (
+        Contains-append_left (shown_in all) new.ahead x (Contains-map (λ (e : Entry). e.0) all (x, false) there) in (
           u.part,
           subst (λ (es : List (Part × Bool)). Contains es (u.part, false)) one_seen (Contains-map seen one (u, false) earlier.1),
           (numbers state stands u t (shown u in_all) (shown t t_all)).0 earlier.2,

@@ -1,5 +1,5 @@
 -- One part more.
-use Rattle.std.proofs.Common.{◌≡◌, ◌<◌, ◌≤◌, ◌+◌, ◌-◌, ◌*◌, ℕ, true, false, List, ◌∷◌, ◌++◌, unsigned_abs, refl, sym, ap, ◌∙◌, arith}
+use Rattle.std.proofs.Common.{◌≡◌, ◌<◌, ◌≤◌, ◌+◌, ◌-◌, ◌*◌, ℕ, true, false, List, ◌∷◌, ◌++◌, unsigned_abs, rules, sym, ap, ◌∙◌, arith}
 use Rattle.cluster_store.specs.Walks.{shown_part}
 use Rattle.block_builder.specs.Building.{is_marked}
 use Rattle.block_builder.specs.Drafts.{Drafts}
@@ -23,8 +23,8 @@ returns-then-rate-self-clause-offers c =
       drafts_large d.limit d.ids.items d.fee d.left gone (shown_part c.args.shown) d.marks.items draft c.mark.new.marks.items adds over,
     ))
 
-pub plus-requires : goal.plus-requires
-plus-requires c =
+pub plus-self-requires : goal.plus-self-requires
+plus-self-requires c =
     let d = c.args.self.now in
     let draft = c.requires.draft.1 in
     fee_within d.limit d.ids.items d.fee d.left d.marks.items c.requires.draft.0 draft
@@ -35,8 +35,8 @@ returns-clause-offers c gone draft =
     let fits : c.args.shown.part.rate.size ≤ d.left = search rules in
     let rest : d.left - c.args.shown.part.rate.size + c.args.shown.part.rate.size ≡ d.left = omega (arith, fits) in (
       true,
-      drafts_taken d.limit d.ids.items d.fee d.left gone (shown_part c.args.shown) d.marks.items draft c.extend_from_slice.new.self.items c.plus.result
+      drafts_taken d.limit d.ids.items d.fee d.left gone (shown_part c.args.shown) d.marks.items draft c.extend_from_slice.new.self.items c.plus-self.result
           (d.left - c.args.shown.part.rate.size)
           (sym (ap (λ marks. is_marked marks c.args.shown.number) c.as_slice.ensures.value) ∙ sym c.has_mark.ensures ∙ c.if-has_mark.false) fits
-          c.requires.pays c.in_ok-extend_from_slice.ensures.items c.plus.ensures rest,
+          c.requires.pays c.in_ok-extend_from_slice.ensures.items c.plus-self.ensures rest,
     )
