@@ -5,6 +5,9 @@
 //! once. What changes in the top level leaves main as it is while there is a staging, at the cost of the clusters that change: one
 //! that main keeps isn't changed, another takes its place under a number of its own. A `NameBook` has the names of both
 //! levels: which share a cluster of main, and which staging touched.
+//!
+//! A list of names that would be mined is tested without memory: `Repeats` tells a name that stands twice, and for the names with an ancestor
+//! that isn't listed the listed ones are touched for a moment. No staging is open then, so no other name is.
 #![tactic(auto)]
 
 mod changes;
