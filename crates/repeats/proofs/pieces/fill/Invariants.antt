@@ -1,5 +1,5 @@
 -- The set has the names so far, and each of them stands once among them.
-use Rattle.std.proofs.Common.{◌≡◌, ◌↔◌, ℕ, ◌+◌, ◌<◌, ◌≤◌, true, nat_eq, slice_index}
+use Rattle.std.proofs.Common.{◌≡◌, ◌↔◌, ℕ, ◌+◌, ◌≤◌, true, nat_eq}
 use Rattle.indexmap.specs.IndexSet.{contains, index_set_len}
 use Rattle.indexmap.specs.IndexSet.{spare as room_of}
 use Rattle.repeats.specs.Places.{NoneAgain, StandsWithin}
