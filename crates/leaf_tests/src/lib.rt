@@ -26,8 +26,6 @@ mod node_pool_tests;
 #[cfg(test)]
 mod outside_tests;
 #[cfg(test)]
-mod repeats_tests;
-#[cfg(test)]
 mod replacement_tests;
 #[cfg(test)]
 mod staging_tests;

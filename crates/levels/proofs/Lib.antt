@@ -3,7 +3,6 @@ mod Alone
 mod Arranged
 mod Calls
 mod Closing
-mod Clustered
 mod Connecting
 mod Counting
 mod Counts
@@ -29,7 +28,6 @@ mod Listed
 mod Lookups
 mod Losing
 mod Making
-mod Mined
 mod Most
 mod Naming
 mod Pairing
@@ -51,7 +49,6 @@ mod Righting
 mod Rooms
 mod Running
 mod Saying
-mod Seeking
 mod Seen
 mod Settlements
 mod Shelved

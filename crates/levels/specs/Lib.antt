@@ -4,7 +4,6 @@ pub mod Kept
 pub mod Lefts
 pub mod Levels
 pub mod Links
-pub mod Mining
 pub mod Moves
 pub mod Orders
 pub mod Places

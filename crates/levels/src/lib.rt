@@ -11,7 +11,6 @@ mod changes;
 mod left;
 mod levels;
 mod links;
-mod mining;
 mod moving;
 mod numbers;
 mod readings;

@@ -5,11 +5,9 @@ mod Rows
 mod Counting
 mod Tables
 mod Added
-mod Blocks
 mod Paired
 mod Paid
 mod Dropped
-mod Lost
 mod Limited
 mod Staged
 mod Unchanged
@@ -18,6 +16,5 @@ mod Telling
 mod Drawn
 mod Settled
 mod Calls
-mod Mined
 mod Rooms
 mod Starts
