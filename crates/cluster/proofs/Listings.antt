@@ -2,7 +2,8 @@
 use Rattle.std.proofs.Common.{◌≡◌, ℕ, ◌+◌, ◌<◌, ◌≤◌, true, ◌&&◌, List, length, take, slice_index, Contains, sym, ap, ◌∙◌, subst, arith, lt-ltb, ltb-true}
 use Rattle.std.proofs.lemmas.Bool.{and_parts, and_from}
 use Rattle.std.proofs.lemmas.List.Sums.{sum_by_more}
-use Rattle.std.specs.Prelude.{sum_by}
+use Rattle.std.specs.Prelude.{sum_by, ◌↔◌}
+use Rattle.std.specs.Prelude.{map as list_map}
 use Rattle.std.specs.Ordering.{nat_cmp}
 use Rattle.std.specs.Cmp.{nat_cmp_total}
 use Rattle.std.specs.FinSet as set
@@ -10,7 +11,7 @@ use Rattle.std.specs.FinMap as map
 use Rattle.lists.proofs.Distinct.{one_place}
 use Rattle.fee_rate.specs.declared.limits.TheConstants.{MAX_SIZE}
 use Rattle.graphs.specs.Closures.{Closure, is_member, is_ancestor, rate_of, ancestors_of, descendants_of, members_of}
-use Rattle.bitset.specs.Places.{first_places, IsWithin}
+use Rattle.bitset.specs.Places.{first_places, places, IsWithin}
 use Rattle.bitset.specs.Sets.{contains-first_places}
 use Rattle.graphs.specs.Graphs.{Lists}
 use Rattle.graphs.proofs.ListLemmas.{Lists-for}
@@ -19,6 +20,7 @@ use Rattle.cluster.specs.Changes.{IsChosen}
 use Rattle.cluster.specs.Named.{named, IsNamed}
 use Rattle.cluster.proofs.Names.{Contains-stands, Stands-contains, named-ancestor, ancestor-stands, named-rate}
 use Rattle.cluster.proofs.Kept.{place_member, member_place}
+use Rattle.cluster.proofs.Lists.{names_chosen}
 
 pub contains-members_of : (g : Closure) (p : ℕ) → set.contains (members_of g) p ≡ is_member g p
 unfolding members_of is_member
@@ -48,16 +50,30 @@ module _ (n : ℕ) (names : List ℕ) (g : Closure) (kept : IsNamed n names g) w
       (at.0, at.1, ap (λ s. set.contains s at.0) is ∙ contains-first_places (length names) at.0 ∙ lt-ltb at.0 (length names) at.1, at.2))
       lists
 
+  -- a name of a place of p's ancestors is one by names
+  chosen_above : (p : ℕ) (chosen : set.FinSet nat_cmp) → p < length names → chosen ≡ ancestors_of g p → (id : ℕ)
+      → IsChosen names chosen id ↔ (is_ancestor (named names g) id (slice_index names p) ≡ true)
+  chosen_above p chosen low is id = (
+    λ at. subst (λ x. is_ancestor (named names g) x (slice_index names p) ≡ true) at.3
+        (named-ancestor names g kept.once at.0 p at.1 low ∙ sym (ap (λ s. set.contains s at.0) is) ∙ at.2),
+    λ up.
+        let at = ancestor-stands names g kept.once id (slice_index names p) up in
+        let same : at.1 ≡ p = one_place names at.1 p 0 kept.once at.3 low at.5 in
+        (at.0, at.2, ap (λ s. set.contains s at.0) is ∙ subst (λ q. is_ancestor g at.0 q ≡ true) same at.6, at.4),
+  )
+
   pub above_listed : (p : ℕ) (chosen : set.FinSet nat_cmp) (ids : List ℕ) → p < length names → chosen ≡ ancestors_of g p
       → Lists (IsChosen names chosen) ids → Lists (λ id. is_ancestor (named names g) id (slice_index names p) ≡ true) ids
   above_listed p chosen ids low is lists = Lists-for (IsChosen names chosen) (λ id. is_ancestor (named names g) id (slice_index names p) ≡ true) ids
-      (λ id at. subst (λ x. is_ancestor (named names g) x (slice_index names p) ≡ true) at.3
-      (named-ancestor names g kept.once at.0 p at.1 low ∙ sym (ap (λ s. set.contains s at.0) is) ∙ at.2))
-      (λ id up.
-      let at = ancestor-stands names g kept.once id (slice_index names p) up in
-      let same : at.1 ≡ p = one_place names at.1 p 0 kept.once at.3 low at.5 in
-      (at.0, at.2, ap (λ s. set.contains s at.0) is ∙ subst (λ q. is_ancestor g at.0 q ≡ true) same at.6, at.4))
-      lists
+      (λ id at. (chosen_above p chosen low is id).0 at) (λ id up. (chosen_above p chosen low is id).1 up) lists
+
+  -- the names of the places of p's ancestors, as they come
+  pub above_named : (p : ℕ) (chosen : set.FinSet nat_cmp) → p < length names → chosen ≡ ancestors_of g p → (a : ℕ)
+      → Contains (list_map (slice_index names) (places n chosen)) a ↔ (is_ancestor (named names g) a (slice_index names p) ≡ true)
+  above_named p chosen low is a =
+      let bound : IsWithin n chosen = λ q here. let below : q < length names = above_within p chosen is q here in omega (arith, below, kept.few) in
+      let both = names_chosen n names chosen (above_within p chosen is) bound a in
+      (λ here. (chosen_above p chosen low is a).0 (both.0 here), λ up. both.1 ((chosen_above p chosen low is a).1 up))
 
   pub below_listed : (p : ℕ) (chosen : set.FinSet nat_cmp) (ids : List ℕ) → p < length names → chosen ≡ descendants_of g p
       → Lists (IsChosen names chosen) ids → Lists (λ id. is_ancestor (named names g) (slice_index names p) id ≡ true) ids

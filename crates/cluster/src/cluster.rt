@@ -1,4 +1,4 @@
-ghost use Rattle.std.specs.Prelude.{◌≡◌, ℕ, ◌+◌, ◌*◌, ◌<◌, ◌≤◌, ◌++◌, true, false, List, length, map, flat_map, slice_get, slice_index, sum_by, Some, All, Contains, IfOk, OnOk};
+ghost use Rattle.std.specs.Prelude.{◌≡◌, ℕ, ◌+◌, ◌*◌, ◌<◌, ◌≤◌, ◌++◌, ◌↔◌, true, false, List, length, map, flat_map, slice_get, slice_index, sum_by, Some, All, Contains, IfOk, OnOk};
 ghost use Rattle.fee_rate.specs.Limits.{IsFee, IsRate};
 ghost use Rattle.fee_rate.specs.declared.limits.TheConstants.{MAX_SIZE, MAX_TOTAL};
 ghost use Rattle.graphs.specs.Closures.{is_ancestor, rate_of, AddsPair, SetsFee, IsCover};
@@ -11,6 +11,7 @@ ghost use Rattle.cluster.specs.Covers.{ListsInOrder};
 ghost use Rattle.cluster.specs.Changes.{IsSingle, Joins, AreAcross, IsSplit, AreComponents};
 ghost use Rattle.cluster.specs.Steps.{GrowsWithin, most_steps, most_steps_of};
 
+use crate::ancestors::Ancestors;
 use crate::covers::Covers;
 use crate::guess::{guess_fee, guess_joined, guess_linked, moved_part};
 use crate::list::ClusterList;
@@ -345,6 +346,16 @@ impl<const W: usize> Cluster<W> {
             self.order.names.as_slice(),
             self.dep.covers(place_of(names, id)),
         )
+    }
+
+    /// The ancestors of a name, itself among them. Looks for the name once, and takes no memory.
+    pub fn ancestors(&self, id: TxId) -> Ancestors<'_, W>
+        requires { Contains self.now.names id }
+        ensures { (a : ℕ) → Contains result a ↔ (is_ancestor self.now.graph a id ≡ true) }
+    {
+        let _order = &self.order;
+        let names = self.names.as_slice();
+        Ancestors::new(names, self.dep.ancestors(place_of(names, id)))
     }
 
     /// The fee of a name, in satoshis, and its size, in virtual bytes.

@@ -17,6 +17,7 @@
 //! their names are known.
 #![tactic(auto)]
 
+mod ancestors;
 mod cluster;
 mod covers;
 mod guess;
@@ -27,6 +28,7 @@ mod order;
 mod places;
 mod work;
 
+pub use ancestors::Ancestors;
 pub use cluster::{Cluster, PartRef};
 pub use covers::Covers;
 pub use laws::clusters_are_optimal;

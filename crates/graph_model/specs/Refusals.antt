@@ -153,6 +153,13 @@ RestoreRow state txs pairs =
 abbrev pub NameRow : (unknown oversized : Type 0) → ℕ → Option Refusal → Type 0
 NameRow unknown oversized id = First unknown (Unknown id) (First oversized Oversized NoRefusal)
 
+-- The row of `mine` behind the test for a staging, by its causes: names that main hasn't, and names with an ancestor that isn't listed. The
+-- first listed name with a cause is told.
+abbrev pub MineRow : (absent lacks : ℕ → Type 0) → List ℕ → Option Refusal → Type 0
+MineRow absent lacks ids =
+    FirstAt (IsFirst StandsTwice ids) Twice
+    (FirstAt (IsFirst (λ before id. absent id) ids) Unknown (FirstAt (IsFirst (λ before id. lacks id) ids) Parent NoRefusal))
+
 -- The row of a command that needs a staging and the orders of both levels.
 abbrev pub CompareRow : (alone oversized : Type 0) → Option Refusal → Type 0
 CompareRow alone oversized = First alone NoStaging (First oversized Oversized NoRefusal)
@@ -169,10 +176,7 @@ RefusalIs state (commands.Dep parent child) =
 RefusalIs state (commands.SetFee id fee) = First (IsFee fee → ⊥) Fee (First (IsLive state id → ⊥) (Unknown id) NoRefusal)
 RefusalIs state (commands.Remove id) = First (IsAbsent state Top id) (Unknown id) NoRefusal
 RefusalIs state (commands.Mine ids) =
-    First (IsStaged state) Staging
-    (FirstAt (IsFirst StandsTwice ids) Twice
-    (FirstAt (IsFirst (λ before id. IsAbsent state Main id) ids) Unknown
-    (FirstAt (IsFirst (λ before id. LacksAncestor state ids id) ids) Parent NoRefusal)))
+    First (IsStaged state) Staging (MineRow (IsAbsent state Main) (LacksAncestor state ids) ids)
 RefusalIs state commands.Evict =
     First (IsStaged state) Staging (First (state.main.names ≡ []) Empty (First (IsOversized state Main) Oversized NoRefusal))
 RefusalIs state commands.Stage = First (IsStaged state) Staging NoRefusal

@@ -26,4 +26,4 @@ pub use laws::{
     trim_drops_one_set,
 };
 pub use limits::{DEFAULT_LIMITS, MAX_BLOCKS, MAX_CLUSTER_SIZE, MAX_COUNT, MAX_INPUT, MAX_LINE};
-pub use names::{Limits, Place, Refusal};
+pub use names::{Limits, Picked, Place, Refusal};

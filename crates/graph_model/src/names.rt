@@ -1,6 +1,6 @@
 ghost use Rattle.std.specs.Prelude.{◌≡◌};
 
-use graphs::TxId;
+use graphs::{IdList, TxId};
 
 /// The limits of a graph.
 #[derive(Clone, Copy, Debug, PartialEq, Eq)]
@@ -11,6 +11,17 @@ pub struct Limits {
     pub size: u64,
     /// The most names that may be live, in main and staging together: 1 to 1,048,576.
     pub total: u64,
+}
+
+/// Transactions that were picked, in their order, with what they pay and take together.
+#[derive(Debug, Drop)]
+pub struct Picked {
+    /// The total fee, in satoshis.
+    pub fee: i128,
+    /// The total size, in virtual bytes.
+    pub size: u64,
+    /// The transactions.
+    pub ids: IdList,
 }
 
 /// Where one name stands to another in an order.

@@ -26,6 +26,8 @@ mod node_pool_tests;
 #[cfg(test)]
 mod outside_tests;
 #[cfg(test)]
+mod repeats_tests;
+#[cfg(test)]
 mod replacement_tests;
 #[cfg(test)]
 mod staging_tests;

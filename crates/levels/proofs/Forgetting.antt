@@ -82,7 +82,7 @@ module _ (ids : List ℕ) (i : ℕ) (low : i < length ids) where
   pub in_list : Contains ids next
   in_list = Contains-get_or ids i 0 low
 
-  in_more : (x : ℕ) → (Contains (take i ids) x ⊎ (x ≡ next)) ↔ Contains (take (i + 1) ids) x
+  pub in_more : (x : ℕ) → (Contains (take i ids) x ⊎ (x ≡ next)) ↔ Contains (take (i + 1) ids) x
   in_more x = (
     λ either. subst (λ (xs : List ℕ). Contains xs x) (sym more) (elim either [
       | inl before ↦ Contains-append_left (take i ids) (next ∷ []) x before

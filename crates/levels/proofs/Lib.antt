@@ -3,6 +3,7 @@ mod Alone
 mod Arranged
 mod Calls
 mod Closing
+mod Clustered
 mod Connecting
 mod Counting
 mod Counts
@@ -28,6 +29,7 @@ mod Listed
 mod Lookups
 mod Losing
 mod Making
+mod Mined
 mod Most
 mod Naming
 mod Pairing
@@ -49,6 +51,7 @@ mod Righting
 mod Rooms
 mod Running
 mod Saying
+mod Seeking
 mod Seen
 mod Settlements
 mod Shelved

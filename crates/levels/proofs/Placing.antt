@@ -13,7 +13,7 @@ use Rattle.chunk_index.specs.Items.{is_in}
 use Rattle.cluster.specs.Clusters.{Cluster, IsCluster}
 use Rattle.cluster.proofs.Placed.{in_names}
 use Rattle.cluster_store.specs.Laws.{Stands, StandsAt}
-use Rattle.cluster_store.specs.Stores.{Stored, Store, Shown, IsStore, no_part, parts_in, part_at, parts_of_level, passes, places_by, places_in, shown_at}
+use Rattle.cluster_store.specs.Stores.{Stored, Store, Shown, IsStore, no_part, parts_in, part_at, parts_of_level, passes, places_by, places_in, shown_at, shown_in}
 use Rattle.cluster_store.proofs.Before.{parts_stand_in_order}
 use Rattle.graphs.proofs.MergeLemmas.{precedes_filter, precedes_map}
 use Rattle.levels.proofs.Preceding.{precedes_both, unfiltered, unmapped}
@@ -46,6 +46,21 @@ module _ (most : ℕ) (level : Level) (store : Store) (is : IsStore most store) 
   placed part here =
       let place = map-Contains (part_at store.clusters) (places_in level store) part (subst (λ (ps : List Part). Contains ps part) (sym by_places) here) in
       (place.0, subst (StandsAt level store.clusters place.0) place.2 (stood place.0 place.1))
+
+  -- what is shown stands at a place of its number
+  pub record IsPlaced (s : Shown) : Type 0 where
+    pub place : ℕ × ℕ
+    pub number : place.0 ≡ s.number
+    pub stands : StandsAt level store.clusters place s.part
+
+  pub shown_placed : (s : Shown) → Contains (shown_in level store) s → IsPlaced s
+  shown_placed s here =
+      let found = map-Contains (shown_at store.clusters) (places_in level store) s here in
+      record {
+        place = found.0;
+        number = ap (λ (t : Shown). t.number) found.2;
+        stands = subst (λ (t : Shown). StandsAt level store.clusters found.0 t.part) found.2 (stood found.0 found.1);
+      }
 
   pub shown : (place : ℕ × ℕ) (part : Part) → StandsAt level store.clusters place part → Contains (parts_of_level level store) part
   shown = (parts_stand_in_order most level store is).shown

@@ -1,5 +1,5 @@
 -- The parts of a level: an optimal order, by falling rate, with sums in range where the level has no more names than are added up.
-use Rattle.std.proofs.Common.{◌≡◌, ℕ, suc, ◌+◌, ◌*◌, ◌<◌, ◌≤◌, Bool, true, false, ◌||◌, unsigned_abs, IsSome, List, [], ◌∷◌, ◌++◌, length, map, Contains, get_or, refl, sym, ap, ◌∙◌, subst, arith, length-append, true≢false, eqb-true}
+use Rattle.std.proofs.Common.{◌≡◌, ◌≢◌, ℕ, suc, ◌+◌, ◌*◌, ◌<◌, ◌≤◌, Bool, true, false, ◌||◌, unsigned_abs, IsSome, List, [], ◌∷◌, ◌++◌, length, map, Contains, get_or, refl, sym, ap, ◌∙◌, subst, arith, length-append, true≢false, eqb-true}
 use Rattle.std.specs.Prelude.{sum_by}
 use Rattle.std.specs.List.{list_any}
 use Rattle.std.specs.Ordering.{nat_cmp, eq_by_cmp}
@@ -215,6 +215,10 @@ module _ (w : ℕ) (shelf : Shelf) (order : IsInOrder w shelf) (level : Level) w
             let cut = map_cut (λ (part : Part). part.rate) parts front rest is in
             subst (λ (ss : List Sum). IsSum (sum_of ss)) (sym cut.3) (front_fits cut.0 cut.1 cut.2);
       }
+
+  -- each part has a name
+  pub part_filled : (part : Part) → Contains parts part → part.ids ≢ []
+  part_filled = (certificate some_graph.0 some_graph.2).filled
 
   pub level_parts : finmap.len (numbers_at level shelf) ≤ MAX_TOTAL → AreLevelParts (sums_of parts)
   level_parts few = parts_of_graph some_graph.0 some_graph.2 few

@@ -4,6 +4,7 @@ pub mod Kept
 pub mod Lefts
 pub mod Levels
 pub mod Links
+pub mod Mining
 pub mod Moves
 pub mod Orders
 pub mod Places

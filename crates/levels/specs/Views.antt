@@ -1,11 +1,13 @@
 -- What is seen of a level: the clusters that stand in it, each under a number, and the number of each name's cluster.
-use Rattle.std.specs.Prelude.{◌≡◌, ◌↔◌, ℕ, true, map, Contains, Option, None, Some}
+use Rattle.std.specs.Prelude.{◌≡◌, ◌↔◌, ℕ, true, List, map, Contains, Option, None, Some}
 use Rattle.std.specs.Coded.{Coded, coded_ℕ}
 use Rattle.std.specs.FinMap as finmap
 use Rattle.std.specs.FinSet as set
+use Rattle.graphs.specs.Certificates.{Part}
 use Rattle.graphs.specs.Closures.{Node, Closure, is_member, is_ancestor, rate_of, ancestors_of, no_rate, AreLinked}
 use Rattle.staging.specs.Maps.{Map}
 use Rattle.cluster.specs.Clusters.{Cluster, IsCluster}
+use Rattle.cluster_store.specs.Stores.{Shown}
 
 -- the number of each name's cluster
 abbrev pub Numbers : Type 0
@@ -48,3 +50,12 @@ pub record IsClusterOf (graph : Closure) (id : ℕ) (c : Cluster) : Type 0 where
   pub above : (a d : ℕ) → Contains c.names d → is_ancestor graph a d ≡ is_ancestor c.graph a d
   pub below : (a d : ℕ) → Contains c.names a → is_ancestor graph a d ≡ is_ancestor c.graph a d
   pub rates : (q : ℕ) → Contains c.names q → rate_of graph q ≡ rate_of c.graph q
+
+-- some names of both parts are linked
+abbrev pub AreOfOneCluster : Closure → Part → Part → Type 0
+AreOfOneCluster graph p q = (a b : ℕ) × Contains p.ids a × Contains q.ids b × AreLinked graph a b
+
+-- Two parts have one number exactly where they are of one cluster.
+abbrev pub HaveClusterNumbers : Closure → List Shown → Type 0
+HaveClusterNumbers graph parts =
+    (s t : Shown) → Contains parts s → Contains parts t → (s.number ≡ t.number) ↔ AreOfOneCluster graph s.part t.part

@@ -17,10 +17,12 @@ ghost use Rattle.levels.specs.Levels.{AddsName, ChangesTop, GrowsForFee, HavePic
 ghost use Rattle.levels.specs.Joins.{DepRefusalIs};
 ghost use Rattle.levels.specs.Lefts.{DropsWithin};
 ghost use Rattle.levels.specs.Levels as specs_levels;
+ghost use Rattle.levels.specs.Mining.{MineRefusalIs};
 ghost use Rattle.levels.specs.Stays.{AllStay};
 ghost use Rattle.graphs.specs.declared.names.Level as graph_level;
-ghost use Rattle.levels.specs.Views.{IsClusterOf};
+ghost use Rattle.levels.specs.Views.{HaveClusterNumbers, IsClusterOf};
 
+use crate::mining::refused_mine;
 use crate::moving::{add_name, connect, drop_names};
 use crate::settling::settle_rings;
 use crate::shelves::Shelves;
@@ -29,6 +31,7 @@ use cluster_store::{PartWalk, RateWalk, Stored};
 use graph_model::{Level, Limits, Place, Refusal, TxId, Verdict};
 use name_book::NameBook;
 use outside::NoMemory;
+use repeats::Repeats;
 use std::alloc::Global;
 use std::marker::Model;
 use step_count::{Ledger, Steps};
@@ -42,6 +45,8 @@ pub struct Levels<const W: usize> {
     mains: usize,
     tops: usize,
     issued: u64,
+    // where a list of names is tested for names that stand in it twice
+    repeats: Repeats,
     work: Work<W>,
 }
 
@@ -60,19 +65,21 @@ impl<const W: usize> Model for Levels<W> {
 }
 
 impl<const W: usize> Levels<W> {
-    /// No name and no staging, with the room in which orders are made.
+    /// No name and no staging, with the room in which orders are made and lists of names are tested.
     pub fn new(alloc: Global) -> Result<Self, NoMemory>
         requires wide { 1 ≤ W }
         requires narrow { W ≤ 2 }
         ensures { IfOk result (λ levels. levels ≡ no_names) }
     {
         let work = Work::new(alloc)?;
+        let repeats = Repeats::new(alloc)?;
         Ok(Levels {
             shelves: Shelves::new(alloc),
             rings: NameBook::new(alloc),
             mains: 0,
             tops: 0,
             issued: 0,
+            repeats,
             work,
         })
     }
@@ -275,6 +282,18 @@ impl<const W: usize> Levels<W> {
         Ok(())
     }
 
+    /// Why names can't be mined, or `None` where they can: `Twice` with the first name that stands earlier in the list too, else `Unknown`
+    /// with the first that main hasn't, else `Parent` with the first that has an ancestor in main that isn't listed. All stays as it was.
+    /// Takes no memory. A list of up to 32,766 names costs some look-ups a name, and one for each of its ancestors.
+    pub fn refused_mine(&mut self, ids: &[TxId]) -> Option<Refusal>
+        requires { self.old.staging ≡ None }
+        ensures row { MineRefusalIs self.old.main.graph ids.now result }
+        ensures same { self.new ≡ self.old }
+    {
+        let _count = self.mains;
+        refused_mine(&self.shelves, &mut self.rings, &mut self.repeats, ids)
+    }
+
     /// Opens a staging that is as main is. Takes no memory.
     pub fn stage(&mut self)
         requires { self.old.staging ≡ None }
@@ -306,9 +325,11 @@ impl<const W: usize> Levels<W> {
 }
 
 impl<const W: usize> Levels<W> {
-    /// The parts of a level in its order, from the first. Takes no memory.
+    /// The parts of a level in its order, from the first, each with the number of its cluster. Two parts have one number exactly
+    /// where they are of one cluster. Takes no memory.
     pub fn parts(&self, level: Level) -> PartWalk<'_, Stored<W>>
         ensures parts { map (λ s. s.part) result ≡ (level_at self.now level).parts }
+        ensures numbers { HaveClusterNumbers (level_at self.now level).graph result }
         ensures best { IsBest (level_at self.now level) }
         ensures rates { (id : ℕ) → is_member (level_at self.now level).graph id ≡ true
             → IsRate (rate_of (level_at self.now level).graph id) }
@@ -316,6 +337,14 @@ impl<const W: usize> Levels<W> {
     {
         let _count = self.mains;
         self.shelves.parts(level)
+    }
+
+    /// A size, in virtual bytes, that no name of main is below. Takes no memory.
+    pub fn least(&self) -> u64
+        ensures { (id : ℕ) → is_member self.now.main.graph id ≡ true → result ≤ (rate_of self.now.main.graph id).size }
+    {
+        let _count = self.mains;
+        self.shelves.least()
     }
 
     /// The fees and sizes of the parts of a level in its order, in satoshis and virtual bytes. Takes no memory, and looks at no

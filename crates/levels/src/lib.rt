@@ -11,6 +11,7 @@ mod changes;
 mod left;
 mod levels;
 mod links;
+mod mining;
 mod moving;
 mod numbers;
 mod readings;

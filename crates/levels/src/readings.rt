@@ -16,6 +16,7 @@ ghost use Rattle.levels.specs.Levels.{IsBest};
 ghost use Rattle.levels.specs.Orders.{ComparesParts, ListsCovers, sums_of};
 ghost use Rattle.levels.specs.Places.{HasPart};
 ghost use Rattle.levels.specs.Shelves.{IsInOrder, numbers_at, one_of};
+ghost use Rattle.levels.specs.Views.{HaveClusterNumbers};
 
 use crate::shelves::Shelves;
 use cluster::{Covers, PartRef};
@@ -24,17 +25,27 @@ use graph_model::{Level, Place, TxId, Verdict};
 
 impl<const W: usize> Shelves<W> {
     /// The parts of a level in its order, which is an optimal one of every graph that the level stands for. Its names have fees and
-    /// sizes in range, and where they are no more than are added up, the parts have falling rates and sums in range.
+    /// sizes in range, and where they are no more than are added up, the parts have falling rates and sums in range. Two parts
+    /// have one number exactly where they are of one cluster.
     pub(crate) fn parts(&self, level: Level) -> PartWalk<'_, Stored<W>>
         requires order { IsInOrder W self.now }
         requires few { finmap.len (numbers_at level self.now) ≤ MAX_TOTAL }
         ensures parts { map (λ s. s.part) result ≡ (one_of level self.now).parts }
+        ensures numbers { HaveClusterNumbers (one_of level self.now).graph result }
         ensures best { IsBest (one_of level self.now) }
         ensures rates { (id : ℕ) → is_member (one_of level self.now).graph id ≡ true
             → IsRate (rate_of (one_of level self.now).graph id) }
         ensures level { AreLevelParts (sums_of (one_of level self.now).parts) }
     {
         self.store().walk(level)
+    }
+
+    /// A size, in virtual bytes, that no name of main is below.
+    pub(crate) fn least(&self) -> u64
+        requires order { IsInOrder W self.now }
+        ensures { (id : ℕ) → is_member (one_of Main self.now).graph id ≡ true → result ≤ (rate_of (one_of Main self.now).graph id).size }
+    {
+        self.store().least()
     }
 
     /// The fees and sizes of the parts of a level in its order.
@@ -123,8 +134,8 @@ impl<const W: usize> Shelves<W> {
         comparison::compare(self.store())
     }
 
-    // The number of the cluster of a name that a level has.
-    fn its_number(&self, level: Level, id: TxId) -> usize
+    /// The number of the cluster of a name that a level has.
+    pub(crate) fn its_number(&self, level: Level, id: TxId) -> usize
         requires { is_member (one_of level self.now).graph id ≡ true }
         ensures { finmap.get (numbers_at level self.now) id ≡ Some result }
     {

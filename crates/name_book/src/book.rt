@@ -1,5 +1,5 @@
 //! The live names, which share clusters of main and of which some are touched.
-ghost use Rattle.std.specs.Prelude.{◌≡◌, ◌≢◌, ℕ, ◌+◌, ◌-◌, ◌^◌, ◌<◌, ◌≤◌, ◌↔◌, Some, Contains, IsOk, OnOk, MatchOption};
+ghost use Rattle.std.specs.Prelude.{◌≡◌, ◌≢◌, ℕ, ◌+◌, ◌-◌, ◌^◌, ◌<◌, ◌≤◌, ◌↔◌, Some, Contains, IsOk, IsTrue, OnOk, MatchOption};
 ghost use Rattle.std.specs.FinSet as set;
 ghost use Rattle.lists.specs.Distinct.{AreDistinct};
 ghost use Rattle.name_book.specs.Books.{has, IsMarked, IsNamed, ShareMain};
@@ -158,6 +158,17 @@ impl NameBook {
         if self.touched == Some(id) {
             self.touched = self.table.other(TOUCHED, id);
         }
+    }
+
+    /// Whether a name is touched. Looks the name up once, unless it is the touched one that is kept.
+    pub fn is_touched(&self, id: TxId) -> bool
+        requires live { IsNamed self.now.book id }
+        ensures { IsTrue result ↔ IsMarked self.now id }
+    {
+        if self.touched == Some(id) {
+            return true;
+        }
+        self.table.other(TOUCHED, id).is_some()
     }
 
     /// One of the touched names, or `None` where there is none.

@@ -22,6 +22,8 @@ pub(crate) enum Call {
     Dep(TxId, TxId),
     Fee(TxId, i64),
     Remove(TxId),
+    Mine(&'static [TxId]),
+    Evict,
     Cluster(TxId),
     Ancestors(TxId),
     Descendants(TxId),
@@ -155,6 +157,31 @@ fn remove<L: Ledger>(graph: &mut Graph, id: TxId, steps: &mut Steps<L>) -> Resul
     }
 }
 
+fn mine<L: Ledger>(
+    rt: &impl Abort,
+    graph: &mut TxGraph<1>,
+    ids: &[TxId],
+    steps: &mut Steps<L>,
+) -> Result<(), Refusal> {
+    assert!(rt; ids.len() > 0);
+    graph.mine(ids, steps)
+}
+
+// Lists the names that were dropped.
+fn evict<L: Ledger>(
+    rt: &impl Abort,
+    graph: &mut TxGraph<1>,
+    out: &mut IdBuf,
+    steps: &mut Steps<L>,
+) -> Result<(), Refusal> {
+    let picked = graph.drop_last(steps)?;
+    for id in picked.ids.as_slice() {
+        assert!(rt; out.ids().len() < out.capacity());
+        out.push(*id);
+    }
+    Ok(())
+}
+
 fn cluster(
     rt: &impl Abort,
     graph: &Graph,
@@ -261,6 +288,8 @@ pub(crate) fn make<L: Ledger>(
         Call::Dep(parent, child) => dep(graph, parent, child, steps),
         Call::Fee(id, paid) => fee(graph, id, paid, steps),
         Call::Remove(id) => remove(graph, id, steps),
+        Call::Mine(ids) => mine(rt, narrow_mut(rt, graph), ids, steps),
+        Call::Evict => evict(rt, narrow_mut(rt, graph), out, steps),
         Call::Cluster(id) => cluster(rt, graph, Level::Main, id, out),
         Call::Ancestors(id) => ancestors(rt, graph, id, out),
         Call::Descendants(id) => descendants(rt, graph, id, out),

@@ -220,6 +220,39 @@ fn implied<L: Ledger>(
     play(rt, alloc, &IMPLIED, out, steps)
 }
 
+// What is mined has its ancestors with it, in any order; what is evicted is the last part.
+const MINED: [Row; 20] = [
+    Row::Refuses(Call::Evict, Refusal::Empty),
+    Row::Does(Call::Add(1, 5, 5)),
+    Row::Does(Call::Add(2, 5, 5)),
+    Row::Does(Call::Add(3, 5, 5)),
+    Row::Does(Call::Add(4, 1, 9)),
+    Row::Does(Call::Dep(1, 2)),
+    Row::Does(Call::Dep(2, 3)),
+    Row::Refuses(Call::Mine(&[9, 3, 9, 3]), Refusal::Twice(9)),
+    Row::Refuses(Call::Mine(&[3, 9]), Refusal::Unknown(9)),
+    Row::Refuses(Call::Mine(&[1, 3, 4]), Refusal::Parent(3)),
+    Row::Does(Call::Mine(&[2, 1])),
+    Row::Lists(Call::Ancestors(3), &[3]),
+    Row::Does(Call::Stage),
+    Row::Refuses(Call::Mine(&[9]), Refusal::Staging),
+    Row::Refuses(Call::Evict, Refusal::Staging),
+    Row::Does(Call::Abort),
+    Row::Lists(Call::Evict, &[4]),
+    Row::Lists(Call::Evict, &[3]),
+    Row::Refuses(Call::Evict, Refusal::Empty),
+    Row::Count(0),
+];
+
+fn mined<L: Ledger>(
+    rt: &impl Abort,
+    alloc: Global,
+    out: &mut IdBuf,
+    steps: &mut Steps<L>,
+) -> Result<(), Fail> {
+    play(rt, alloc, &MINED, out, steps)
+}
+
 // A parent is paid for by its child, in the order and in the diagram, and equal rates are joined in the diagram.
 const DRAWN: [Row; 7] = [
     Row::Does(Call::Add(1, 1, 1)),
@@ -308,6 +341,7 @@ fn each_sequence<L: Ledger>(
     bridged(rt, alloc, out, steps)?;
     limited(rt, alloc, out, steps)?;
     implied(rt, alloc, out, steps)?;
+    mined(rt, alloc, out, steps)?;
     drawn(rt, alloc, out, steps)?;
     staged(rt, alloc, out, steps)?;
     settled(rt, alloc, out, steps)

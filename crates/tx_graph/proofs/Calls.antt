@@ -200,7 +200,7 @@ abbrev pub IsAddedTo : ℕ → ℤ → ℕ → Levels → Levels → Type 0
 IsAddedTo id fee size old new =
     (mid : Levels) × ChangesTop (λ a b. AddsName a b id (record { fee = fee; size = size })) old mid × (new ≡ record mid { issued = old.issued + 1 })
 
-topped_same : (old new : Levels) (top : OneLevel) → new ≡ levels.with_top old top → AreTopped old top new
+pub topped_same : (old new : Levels) (top : OneLevel) → new ≡ levels.with_top old top → AreTopped old top new
 topped_same old new top is = subst (AreTopped old top) (sym is) (topped_from old top)
 
 topped_added : (old mid new : Levels) (top : OneLevel) (n : ℕ) → mid ≡ levels.with_top old top → new ≡ record mid { issued = n } → AreTopped old top new

@@ -5,9 +5,11 @@ mod Rows
 mod Counting
 mod Tables
 mod Added
+mod Blocks
 mod Paired
 mod Paid
 mod Dropped
+mod Lost
 mod Limited
 mod Staged
 mod Unchanged
@@ -16,5 +18,6 @@ mod Telling
 mod Drawn
 mod Settled
 mod Calls
+mod Mined
 mod Rooms
 mod Starts

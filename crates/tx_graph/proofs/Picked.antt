@@ -146,28 +146,40 @@ abbrev pub AcceptsAll : Kept → Kept → Command → Reply → Type 0
 AcceptsAll old new command reply = (state : PlainState) → StandsPlainly old state
     → (next : PlainState) × StandsBarely new next × ((picks : Picks) → AcceptsPlainly picks state command reply next)
 
+-- the same, where the levels have the parts as their picks
+abbrev pub AcceptsHere : Kept → Kept → Command → Reply → Type 0
+AcceptsHere old new command reply = (state : PlainState) → StandsPlainly old state
+    → (next : PlainState) × StandsBarely new next × AcceptsPlainly (picks_of old.levels) state command reply next
+
 -- the picks that follow it are the parts
 abbrev pub Follows : Kept → Kept → Command → Type 0
 Follows old new command = (state : State) (next : PlainState) → StandsFor old state → StandsPlainly new next
     → PicksFollow state command (record { plain = next; picks = picks_of new.levels })
 
-pub steps_made : (old new : Kept) (command : Command) (reply : Reply) → AddsSmall command → Meets old command None → AcceptsAll old new command reply
-    → Follows old new command → MakesStep old new command reply
-steps_made old new command reply small none accepts follow state stands =
-    let made = accepts state.plain stands.plain in
-    let row = none state.plain stands.plain in
-    let stood = made_valid new made.0 made.1
-    (valid_plain state.picks state.plain made.0 command small stands.plain.valid row (made.2 state.picks).change) in (
-      record { plain = made.0; picks = picks_of new.levels },
-      record { plain = stood; picks = refl },
-      inr (inr (record {
-        none = row;
-        accepts = record { plain = made.2 state.picks; picks = follow state made.0 stands stood };
-      })),
-    )
+module _ (old new : Kept) (command : Command) (reply : Reply) (small : AddsSmall command) (none : Meets old command None) where
+  pub steps_here : AcceptsHere old new command reply → Follows old new command → MakesStep old new command reply
+  steps_here accepts follow state stands =
+      let made = accepts state.plain stands.plain in
+      let row = none state.plain stands.plain in
+      let plain = subst (λ (p : Picks). AcceptsPlainly p state.plain command reply made.0) (sym stands.picks) made.2 in
+      let stood = made_valid new made.0 made.1
+      (valid_plain state.picks state.plain made.0 command small stands.plain.valid row plain.change) in (
+        record { plain = made.0; picks = picks_of new.levels },
+        record { plain = stood; picks = refl },
+        inr (inr (record { none = row; accepts = record { plain = plain; picks = follow state made.0 stands stood } })),
+      )
 
-pub steps_accepted : (old new : Kept) (command : Command) (reply : Reply) → AddsSmall command → Meets old command None → AcceptsAll old new command reply
-    → KeepsCommand command → KeepsParts old.levels new.levels → MakesStep old new command reply
-steps_accepted old new command reply small none accepts follow keeps =
-    steps_made old new command reply small none accepts
-    (λ state next stood stands. follow state (record { plain = next; picks = picks_of new.levels }) (picks_follow old new state next stood stands keeps))
+  pub steps_made : AcceptsAll old new command reply → Follows old new command → MakesStep old new command reply
+  steps_made accepts =
+      steps_here (λ state stands. let made = accepts state stands in (made.0, made.1, made.2 (picks_of old.levels)))
+
+  -- each level keeps its pick where it is as it was
+  follow_kept : KeepsCommand command → KeepsParts old.levels new.levels → Follows old new command
+  follow_kept follow keeps state next stood stands =
+      follow state (record { plain = next; picks = picks_of new.levels }) (picks_follow old new state next stood stands keeps)
+
+  pub steps_kept : AcceptsHere old new command reply → KeepsCommand command → KeepsParts old.levels new.levels → MakesStep old new command reply
+  steps_kept accepts follow keeps = steps_here accepts (follow_kept follow keeps)
+
+  pub steps_accepted : AcceptsAll old new command reply → KeepsCommand command → KeepsParts old.levels new.levels → MakesStep old new command reply
+  steps_accepted accepts follow keeps = steps_made accepts (follow_kept follow keeps)

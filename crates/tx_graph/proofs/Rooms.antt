@@ -10,7 +10,7 @@ last_field : (before size pad most : ℕ) → before + size + pad < most → siz
 last_field before size pad most fits = omega arith
 
 pub levels_fit : (w : ℕ) → FitsInMemory (graph.the_row (param 0 (number w))) → FitsInMemory (levels.the_row (param 0 (number w)))
-levels_fit w fits = last_field _ _ _ _ fits
+levels_fit w fits = search rules
 
 pub cluster_fits : (w : ℕ) → FitsInMemory (graph.the_row (param 0 (number w))) → FitsInMemory (cluster.the_row (param 0 (number w)))
 cluster_fits w fits = search rules

@@ -28,7 +28,7 @@ use Rattle.tx_graph.proofs.Picked.{pick_here, pick_at}
 use Rattle.tx_graph.proofs.Reading.{steps_told}
 use Rattle.tx_graph.proofs.Rows.{ordered_row, name_row, both_row}
 
-pick_is : (kept : Kept) (state : State) (level : Level) → StandsFor kept state → pick_of state.picks level ≡ Some (level_at kept.levels level).parts
+pub pick_is : (kept : Kept) (state : State) (level : Level) → StandsFor kept state → pick_of state.picks level ≡ Some (level_at kept.levels level).parts
 pick_is kept state level stands = ap (λ (p : Picks). pick_of p level) stands.picks ∙ picks_at kept.levels level
 
 pub steps_ordered : (kept : Kept) (level : Level) → HavePicks kept.levels → MakesStep kept kept (Order level) (Parts (level_at kept.levels level).parts)

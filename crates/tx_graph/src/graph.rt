@@ -1,4 +1,4 @@
-ghost use Rattle.std.specs.Prelude.{◌≡◌, ◌≢◌, ℕ, ℤ, ◌+◌, ◌-◌, ◌*◌, ◌^◌, ◌<◌, ◌≤◌, ◌⊎◌, ◌↔◌, true, None, Some, List, [], ◌∷◌, length, option_map, is_ok, if◌then◌else◌, IsSome, IsTrue, IfOk, IfErr, OnErr, MatchResult, Contains};
+ghost use Rattle.std.specs.Prelude.{◌≡◌, ◌≢◌, ℕ, ℤ, ◌+◌, ◌-◌, ◌*◌, ◌^◌, ◌<◌, ◌≤◌, ◌⊎◌, ◌↔◌, true, None, Some, List, [], ◌∷◌, length, map, option_map, is_ok, if◌then◌else◌, IsSome, IsTrue, IfOk, IfErr, OnErr, MatchResult, Contains};
 ghost use Rattle.std.specs.FinMap as finmap;
 ghost use Rattle.std.specs.Iterator.{IsFinite};
 ghost use Rattle.std.specs.Iterator.Adapters.{rev_source};
@@ -11,21 +11,24 @@ ghost use Rattle.graph_model.specs.Limits.{AreInRange, bounds_of};
 ghost use Rattle.graph_model.specs.declared.names.Refusal.TheVariants.{Memory, NoStaging};
 ghost use Rattle.graph_model.specs.States.{State, level_of, IsStaged};
 ghost use Rattle.graph_model.specs.Answers.{order_of};
+ghost use Rattle.graphs.specs.Certificates.{Part};
 ghost use Rattle.graph_model.specs.Commands as commands;
-ghost use Rattle.graph_model.specs.Commands.{SetLimits, Add, Dep, SetFee, Remove, Stage, Commit, Abort, Settle, Compare, Cluster, Ancestors, Descendants, Chunk, Before, Proof, Count};
-ghost use Rattle.graph_model.specs.Replies.{Number, Parts, Points, Proves, change_reply, names_reply};
+ghost use Rattle.graph_model.specs.Commands.{SetLimits, Add, Dep, SetFee, Remove, Stage, Commit, Abort, Settle, Compare, Cluster, Ancestors, Descendants, Chunk, Before, Proof, Count, Block};
+ghost use Rattle.graph_model.specs.Replies.{Reply, Number, Parts, Points, Proves, change_reply, names_reply, Built, Refused};
 ghost use Rattle.graph_model.specs.Texts.{Text};
 ghost use Rattle.diagram.specs.Points.{YieldsCorners};
+ghost use Rattle.graphs.specs.Rates.{sum_of};
 ghost use Rattle.cluster.specs.Steps.{GrowsWithin, most_steps};
 ghost use Rattle.tx_graph.specs.Additions.{AddRefusalIs, CountsLive};
 ghost use Rattle.tx_graph.specs.Kept.{Kept, StandsFor, MakesStep, start_within};
 ghost use Rattle.levels.specs.Lefts.{DropsWithin};
 ghost use Rattle.levels.specs.Levels.{GrowsForFee, IsLive, level_at};
-ghost use Rattle.levels.specs.Orders.{ListsCovers};
+ghost use Rattle.levels.specs.Orders.{ListsCovers, sums_of};
+ghost use Rattle.tx_graph.specs.Dropped.{AreOfClusters, ArePaidBySize, IsBlockOf};
 ghost use Rattle.tx_graph.specs.Readings.{AreMinimalIn, IsBestOrder, IsTextOf, part_reply, place_reply, compare_reply, settle_reply};
 ghost use Rattle.levels.specs.Stays.{AllStay};
 
-use crate::order::{Diagram, Forward, Order, OrderBack};
+use crate::order::{Diagram, Forward, Numbered, Order, OrderBack};
 use cluster::{Covers, PartRef};
 use diagram::corners;
 use fee_rate::FeeRate;
@@ -51,8 +54,9 @@ use step_count::{Ledger, Steps};
 #[derive(Drop)]
 pub struct TxGraph<const W: usize> {
     limits: Limits,
-    begun: bool,
-    levels: Levels<W>,
+    pub(crate) begun: bool,
+    pub(crate) alloc: Global,
+    pub(crate) levels: Levels<W>,
 }
 
 // Clauses see the graph by names. Every value stands for some state.
@@ -156,6 +160,7 @@ impl<const W: usize> TxGraph<W> {
         Ok(TxGraph {
             limits,
             begun: false,
+            alloc,
             levels: Levels::new(alloc)?,
         })
     }
@@ -497,6 +502,30 @@ impl<const W: usize> TxGraph<W> {
         ensures { rev_source result ≡ (level_at self.now.levels level).parts }
     {
         self.order(level).rev()
+    }
+
+    /// The chunks of main in main's order, each with the number of its cluster. Two chunks have one number exactly where they are of
+    /// one cluster. Takes no memory.
+    ///
+    /// The chunks that a block takes of these are what the machine answers to `block`.
+    pub fn numbered(&self) -> Numbered<'_, W>
+        ensures parts { map (λ s. s.part) result ≡ self.now.levels.main.parts }
+        ensures numbers { (state : State) → StandsFor self.now state → AreOfClusters state.plain.main result }
+        ensures rates { ArePaidBySize self.now.levels.main.parts }
+        ensures block { (size : ℕ) (taken : List Part) → IsBlockOf self.now size taken
+            → MakesStep self.now self.now (Block size) (Built (sum_of (sums_of taken)) (order_of taken)) }
+        ensures memory { (size : ℕ) → MakesStep self.now self.now (Block size) (Refused Memory) }
+    {
+        self.levels.parts(Level::Main)
+    }
+
+    /// A size, in virtual bytes, that no transaction of main is below, and so no chunk. Takes no memory.
+    pub fn least(&self) -> u64
+        ensures names { (id : ℕ) → is_member self.now.levels.main.graph id ≡ true
+            → result ≤ (rate_of self.now.levels.main.graph id).size }
+        ensures parts { (part : Part) → Contains self.now.levels.main.parts part → result ≤ part.rate.size }
+    {
+        self.levels.least()
     }
 
     /// The corners of a level's feerate diagram, from (0, 0) on: sizes in virtual bytes, each with the most that a closed set of

@@ -22,8 +22,9 @@
 #![tactic(auto)]
 
 mod graph;
+mod mining;
 mod order;
 
 pub use cluster::{Covers, PartRef};
 pub use graph::TxGraph;
-pub use order::{Diagram, Forward, Order, OrderBack};
+pub use order::{Diagram, Forward, Numbered, Order, OrderBack};

@@ -12,6 +12,9 @@ pub type Order<'a, const W: usize> = Forward<'a, Stored<W>>;
 /// The parts of a level from the last to the first, lent.
 pub type OrderBack<'a, const W: usize> = Rev<Order<'a, W>>;
 
+/// The parts of a level in its order, lent, each with the number of its cluster.
+pub type Numbered<'a, const W: usize> = PartWalk<'a, Stored<W>>;
+
 /// The corners of a level's diagram from (0, 0) on, each a size, in virtual bytes, and the fee there, in satoshis.
 pub type Diagram<'a, const W: usize> = Corners<RateWalk<'a>>;
 

@@ -4,6 +4,7 @@ use Rattle.graphs.specs.Closures.{is_member, rate_of}
 use Rattle.diagram.specs.Parts.{AreLevelParts}
 use Rattle.levels.specs.Levels.{OneLevel, IsBest}
 use Rattle.levels.specs.Orders.{sums_of}
+use Rattle.levels.specs.Views.{HaveClusterNumbers}
 use Rattle.levels.proofs.Finds.{level_is}
 use Rattle.levels.proofs.Keeping.{few_kept}
 use Rattle.levels.proofs.Rooms.{stored_fits}
@@ -42,3 +43,9 @@ pub returns-clause-level : goal.returns-clause-level
 returns-clause-level g c =
     subst (λ (l : OneLevel). AreLevelParts (sums_of l.parts))
     (sym (level_is g.row.W c.self.inside.issued c.self.inside.shelves c.args.self.now c.self.invariant.order c.self.view_is c.args.level)) c.parts.ensures.level
+
+pub returns-clause-numbers : goal.returns-clause-numbers
+returns-clause-numbers g c =
+    subst (λ (l : OneLevel). HaveClusterNumbers l.graph c.parts.result)
+    (sym (level_is g.row.W c.self.inside.issued c.self.inside.shelves c.args.self.now c.self.invariant.order c.self.view_is c.args.level))
+    c.parts.ensures.numbers

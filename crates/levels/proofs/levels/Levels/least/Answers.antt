@@ -1,0 +1,11 @@
+use Rattle.std.proofs.Common.{◌≡◌, ◌≤◌, ℕ, true, sym, subst, arith}
+use Rattle.graphs.specs.declared.names.Level.TheVariants.{Main}
+use Rattle.graphs.specs.Closures.{is_member, rate_of}
+use Rattle.levels.specs.Levels.{OneLevel}
+use Rattle.levels.proofs.Finds.{level_is}
+use Rattle.levels.proofs.levels.Levels.least.Goals as goal
+
+pub returns : goal.returns
+returns g c =
+    subst (λ (l : OneLevel). (id : ℕ) → is_member l.graph id ≡ true → c.least.result ≤ (rate_of l.graph id).size)
+    (sym (level_is g.row.W c.self.inside.issued c.self.inside.shelves c.args.self.now c.self.invariant.order c.self.view_is Main)) c.least.ensures

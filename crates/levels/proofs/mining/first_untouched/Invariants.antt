@@ -1,0 +1,10 @@
+-- the ancestors of the names so far are touched
+use Rattle.std.proofs.Common.{ℕ, Contains, take}
+use Rattle.graphs.specs.declared.names.Level.TheVariants.{Main}
+use Rattle.levels.specs.Mining.{LacksTouched}
+use Rattle.levels.specs.Shelves.{view_of}
+use Rattle.levels.specs.Views.{graph_of}
+use Rattle.levels.proofs.mining.first_untouched.Given as goal
+
+abbrev pub invariant-loop-id : goal.invariant-loop-id
+invariant-loop-id g l = (id : ℕ) → Contains (take l.id-index l.ids) id → LacksTouched (graph_of (view_of Main l.shelves)) l.rings id → ⊥

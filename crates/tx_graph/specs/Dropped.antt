@@ -1,0 +1,37 @@
+-- Parts that are dropped, and parts with the numbers of their clusters.
+use Rattle.std.specs.Prelude.{◌≡◌, ◌↔◌, ℕ, ◌*◌, ◌≤◌, unsigned_abs, List, Contains, Result, Ok, Err}
+use Rattle.fee_rate.specs.declared.limits.TheConstants.{MAX_FEE}
+use Rattle.graphs.specs.Graphs.{Graph}
+use Rattle.graphs.specs.Certificates.{Part}
+use Rattle.graph_model.specs.declared.names.Picked.{Picked}
+use Rattle.graph_model.specs.declared.names.Refusal.{Refusal}
+use Rattle.graph_model.specs.Blocks.{IsBlock, ShareComponent}
+use Rattle.graph_model.specs.Changes.{IsLast}
+use Rattle.graph_model.specs.Replies.{Reply, Refused, Evicted}
+use Rattle.graph_model.specs.States.{State}
+use Rattle.cluster_store.specs.Stores.{Shown}
+use Rattle.levels.specs.Levels.{Levels}
+use Rattle.tx_graph.specs.Kept.{Kept, StandsFor}
+
+-- what is told of a part: its names in their order, with their fee and size
+pub record IsPicked (part : Part) (picked : Picked) : Type 0 where
+  pub fee : picked.fee ≡ part.rate.fee
+  pub size : picked.size ≡ part.rate.size
+  pub ids : picked.ids ≡ part.ids
+
+-- the reply of an eviction: main's last part, of which the names, fee and size are answered
+abbrev pub IsEvicted : Levels → Result Picked Refusal → Reply → Type 0
+IsEvicted levels (Ok picked) reply = (part : Part) × IsLast levels.main.parts part × IsPicked part picked × (reply ≡ Evicted part)
+IsEvicted levels (Err why) reply = reply ≡ Refused why
+
+-- two parts have one number exactly where they are of one component
+abbrev pub AreOfClusters : Graph → List Shown → Type 0
+AreOfClusters graph parts = (s t : Shown) → Contains parts s → Contains parts t → (s.number ≡ t.number) ↔ ShareComponent graph s.part t.part
+
+-- parts that a block of this size takes of main's, whichever of its states the graph stands for
+abbrev pub IsBlockOf : Kept → ℕ → List Part → Type 0
+IsBlockOf kept size taken = (state : State) → StandsFor kept state → IsBlock state.plain.main kept.levels.main.parts size taken
+
+-- no part pays more than MAX_FEE satoshis for each virtual byte, nor less than as many below 0
+abbrev pub ArePaidBySize : List Part → Type 0
+ArePaidBySize parts = (part : Part) → Contains parts part → unsigned_abs part.rate.fee ≤ MAX_FEE * part.rate.size

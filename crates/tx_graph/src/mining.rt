@@ -1,0 +1,116 @@
+//! Transactions that leave main: a mined set, and the last chunk.
+ghost use Rattle.std.specs.Prelude.{◌≡◌, ◌≢◌, [], ◌⊎◌, IfErr, MatchResult};
+ghost use Rattle.graphs.specs.Certificates.{Part};
+ghost use Rattle.graph_model.specs.declared.names.Refusal.TheVariants.{Memory, Empty};
+ghost use Rattle.graph_model.specs.Changes.{IsLast};
+ghost use Rattle.graph_model.specs.Commands.{Mine, Evict};
+ghost use Rattle.graph_model.specs.Replies.{Reply, change_reply};
+ghost use Rattle.levels.specs.Lefts.{DropsWithin};
+ghost use Rattle.levels.specs.Levels.{IsBest};
+ghost use Rattle.levels.specs.Stays.{AllStay};
+ghost use Rattle.tx_graph.specs.Dropped.{IsEvicted, IsPicked};
+ghost use Rattle.tx_graph.specs.Kept.{MakesStep};
+
+use crate::graph::TxGraph;
+use fee_rate::Sum;
+use graph_model::{IdList, Level, Picked, Refusal, TxId};
+use levels::Levels;
+use std::alloc::Global;
+use step_count::{Ledger, Steps};
+
+impl<const W: usize> TxGraph<W> {
+    /// Takes transactions that were mined out of main, in any order, with their dependencies. The others keep the ancestors that they
+    /// have among them. The list isn't empty.
+    ///
+    /// The solver takes at most the sum of 2·(n+2)^5 steps over the clusters of n transactions that are left of the listed
+    /// transactions' clusters, each cluster once. It takes none where the call is refused for another reason than memory.
+    ///
+    /// # Errors
+    ///
+    /// Answers the first of these that holds, and leaves the graph as it was:
+    ///
+    /// - [`Refusal::Staging`]: a staging is open.
+    /// - [`Refusal::Twice`], with the first listed transaction that stands earlier in the list too.
+    /// - [`Refusal::Unknown`], with the first listed transaction that main hasn't.
+    /// - [`Refusal::Parent`], with the first listed transaction that has an ancestor in main which isn't listed.
+    /// - [`Refusal::Memory`]: there is no memory. Nothing before takes any.
+    pub fn mine<L: Ledger>(&mut self, ids: &[TxId], steps: &mut Steps<L>) -> Result<(), Refusal>
+        requires { ids.now ≢ [] }
+        ensures step { MakesStep self.old self.new (Mine ids.now) (change_reply result) }
+        ensures stays { AllStay self.old.levels self.new.levels }
+        ensures additions { self.new.levels.issued ≡ self.old.levels.issued }
+        ensures refused { IfErr result (λ why. why ≢ Memory → steps.new ≡ steps.old) }
+        ensures steps { DropsWithin ids.now self.old.levels.main.graph steps.old steps.new }
+    {
+        if self.levels.is_staged() {
+            return Err(Refusal::Staging);
+        }
+        if let Some(why) = self.levels.refused_mine(ids) {
+            return Err(why);
+        }
+        if self.levels.drop_names(ids, steps).is_err() {
+            return Err(Refusal::Memory);
+        }
+        self.begun = true;
+        Ok(())
+    }
+
+    /// Drops the last chunk of main's order, which is the first to go where a mempool is full, and tells its transactions with their
+    /// fee and size. No set of transactions that has all its descendants has a lower feerate.
+    ///
+    /// The solver takes at most the sum of 2·(n+2)^5 steps over the clusters of n transactions that are left of the chunk's
+    /// cluster. It takes none where the call is refused for another reason than memory.
+    ///
+    /// # Errors
+    ///
+    /// Answers the first of these that holds, and leaves the graph as it was:
+    ///
+    /// - [`Refusal::Staging`]: a staging is open.
+    /// - [`Refusal::Empty`]: main has no transaction.
+    /// - [`Refusal::Memory`]: there is no memory.
+    pub fn drop_last<L: Ledger>(&mut self, steps: &mut Steps<L>) -> Result<Picked, Refusal>
+        ensures step { (reply : Reply) × IsEvicted self.old.levels result reply × MakesStep self.old self.new Evict reply }
+        ensures stays { AllStay self.old.levels self.new.levels }
+        ensures additions { self.new.levels.issued ≡ self.old.levels.issued }
+        ensures refused { IfErr result (λ why. why ≢ Memory → steps.new ≡ steps.old) }
+        ensures steps { (part : Part) → IsLast self.old.levels.main.parts part
+            → DropsWithin part.ids self.old.levels.main.graph steps.old steps.new }
+    {
+        if self.levels.is_staged() {
+            return Err(Refusal::Staging);
+        }
+        let picked = last_part(self.alloc, &self.levels)?;
+        if self
+            .levels
+            .drop_names(picked.ids.as_slice(), steps)
+            .is_err()
+        {
+            return Err(Refusal::Memory);
+        }
+        self.begun = true;
+        Ok(picked)
+    }
+}
+
+/// The last part of main's order, with its names in a list of their own. Refuses where main is empty.
+fn last_part<const W: usize>(alloc: Global, levels: &Levels<W>) -> Result<Picked, Refusal>
+    ensures row { MatchResult result (λ picked. (part : Part) × IsLast levels.now.main.parts part × IsPicked part picked)
+        (λ why. ((why ≡ Memory) × ((part : Part) × IsLast levels.now.main.parts part))
+        ⊎ ((why ≡ Empty) × (levels.now.main.parts ≡ []))) }
+    ensures best { IsBest levels.now.main }
+{
+    let Some(shown) = levels.parts(Level::Main).next_back() else {
+        return Err(Refusal::Empty);
+    };
+    match Vec::from_slice(alloc, shown.part.ids) {
+        Ok(ids) => {
+            let sum = Sum::from(shown.part.rate);
+            Ok(Picked {
+                fee: sum.fee,
+                size: sum.size,
+                ids: IdList::from_vec(ids),
+            })
+        }
+        Err(_) => Err(Refusal::Memory),
+    }
+}
