@@ -8,7 +8,7 @@ use Rattle.graphs.specs.declared.names.Flow.{Flow}
 use Rattle.graphs.specs.Graphs.{Graph, IsCover}
 use Rattle.graphs.specs.Rates.{sums}
 use Rattle.graphs.specs.Linearizations.{IsTopological, IsTogether, IsClosedWithin}
-use Rattle.linearize.specs.Minimal.{IsMinimal, AreMinimal}
+use Rattle.graphs.specs.Minimal.{IsMinimal, AreMinimal}
 use Rattle.graphs.specs.Certificates.{Part, Certifies, weight_in}
 use Rattle.graphs.specs.Closures.{Closure, is_member, rate_of}
 use Rattle.graphs.specs.Closing.{IsClosureOf}

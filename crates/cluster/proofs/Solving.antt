@@ -11,7 +11,7 @@ use Rattle.graphs.specs.Certificates.{Part, IsCertificate}
 use Rattle.graphs.specs.Closures.{Closure, members_of, IsNear, IsRelated}
 use Rattle.graphs.specs.Closing.{IsClosureOf, renamed}
 use Rattle.graphs.specs.Picks.{IsPick}
-use Rattle.linearize.specs.Minimal.{AreMinimal}
+use Rattle.graphs.specs.Minimal.{AreMinimal}
 use Rattle.graphs.specs.declared.names.Flow.{Flow}
 use Rattle.linearize.specs.Drafts.{placed}
 use Rattle.linearize.specs.Graphs as linear

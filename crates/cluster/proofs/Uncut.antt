@@ -14,7 +14,7 @@ use Rattle.graphs.specs.Closures.{Closure}
 use Rattle.graphs.specs.Closing.{IsClosureOf, renamed}
 use Rattle.graphs.proofs.RenamingLemmas.{sum_by-map, total-map}
 use Rattle.linearize.specs.Graphs as linear
-use Rattle.linearize.specs.Minimal.{IsMinimal, AreMinimal}
+use Rattle.graphs.specs.Minimal.{IsMinimal, AreMinimal}
 use Rattle.cluster.specs.Clusters.{sum_at}
 use Rattle.cluster.specs.Named.{named, IsNamed}
 use Rattle.cluster.specs.Orders.{AreRead, IsReadPart, IsPlaced}

@@ -10,7 +10,7 @@ use Rattle.graphs.specs.Closures.{Closure, closure_code, is_member, is_ancestor,
 use Rattle.graphs.specs.Closing.{IsClosureOf}
 use Rattle.graphs.specs.Certificates.{Part}
 use Rattle.graphs.specs.Picks.{IsPick}
-use Rattle.linearize.specs.Minimal.{AreMinimal}
+use Rattle.graphs.specs.Minimal.{AreMinimal}
 
 pub record Cluster : Type 0 where
   pub names : List ℕ

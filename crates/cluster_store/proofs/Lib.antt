@@ -25,7 +25,6 @@ pub mod Orders
 pub mod Rates
 pub mod Levels
 pub mod Once
-pub mod Uncut
 pub mod Unions
 pub mod Before
 pub mod Told

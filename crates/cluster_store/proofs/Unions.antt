@@ -32,7 +32,7 @@ use Rattle.cluster_store.specs.Stores.{Stored, Numbered, Store, Shown, IsOrdered
 use Rattle.cluster_store.specs.Laws.{Stands, IsLevel, LevelsArePicked}
 use Rattle.cluster_store.proofs.Levels.{AreGraphs, level_picked}
 use Rattle.cluster_store.proofs.Once.{IsOnce, listed_once}
-use Rattle.cluster_store.proofs.Uncut.{uncut_with}
+use Rattle.graphs.proofs.MinimalLemmas.{uncut_with}
 
 false_true : false ≡ true → ⊥
 false_true e = cc

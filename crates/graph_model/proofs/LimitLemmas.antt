@@ -40,8 +40,8 @@ stays_strict picks old new command built change strict = by command built change
     ]
     by (SetFee id fee) built change = along (kept _ new change)
     by (Remove id) built change = along (forgets_keeps (with_top (begun old) change.0) new change.2 ∙ top_keeps (begun old) change.0)
-    by (Mine ids) built change = absurd built
-    by Evict built change = absurd built
+    by (Mine ids) built change = along (forgets_keeps _ new change.4)
+    by Evict built change = along (forgets_keeps _ new change.6)
     by Stage built change = along (kept _ new change)
     by Commit built change = along (forgets_keeps _ new change)
     by Abort built change = along (forgets_keeps _ new change)
@@ -58,7 +58,7 @@ stays_strict picks old new command built change strict = by command built change
     by (Descendants id level) built change = along (kept old new change)
     by (Chunk id) built change = along (kept old new change)
     by (Before a b) built change = along (kept old new change)
-    by (Block size) built change = absurd built
+    by (Block size) built change = along (kept old new change)
     by (Count level) built change = along (kept old new change)
 
 step_strict : (old new : State) (command : Command) (reply : Reply) → IsBuilt command → Step old command reply new

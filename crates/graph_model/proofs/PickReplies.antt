@@ -207,7 +207,7 @@ module _ (picks : Picks) (a b : PlainState) (valid_a : IsValid a) (valid_b : IsV
 
   pick_once : (level : Level) (pick : List Part) → pick_of picks level ≡ Some pick → AreDistinct (order_of pick)
   pick_once level pick is =
-      (level_pick (record { plain = a; picks = picks }) level pick (record { plain = valid_a; picks = picks_a }) is).1.certificate.order.topological.once
+      (level_pick (record { plain = a; picks = picks }) level pick (record { plain = valid_a; picks = picks_a }) is).1.0.certificate.order.topological.once
 
   picks_same : (level : Level) (p q : List Part) → pick_of picks level ≡ Some p → pick_of picks level ≡ Some q → q ≡ p
   picks_same level p q one other = some_same q p (sym other ∙ one)
@@ -243,7 +243,7 @@ module _ (picks : Picks) (a b : PlainState) (valid_a : IsValid a) (valid_b : IsV
   module _ (ra rb : Reply) where
     pub evict_reply : Answers picks a Evict ra → Answers picks b Evict rb → ra ≡ rb
     evict_reply (p, x, one, last_x, said) (q, y, other, last_y, told) =
-        said ∙ ap Evicted (evicts_same p q x y one last_x other last_y) ∙ sym told
+        said ∙ ap (λ (part : Part). Evicted part.rate part.ids) (evicts_same p q x y one last_x other last_y) ∙ sym told
 
     pub order_reply : (level : Level) → Answers picks a (Order level) ra → Answers picks b (Order level) rb → ra ≡ rb
     order_reply level (p, one, said) (q, other, told) = said ∙ ap Parts (sym (picks_same level p q one other)) ∙ sym told

@@ -19,6 +19,7 @@ use Rattle.graphs.specs.Graphs.{Graph, IsCover, IsGraph}
 use Rattle.graphs.specs.Rates.{sums}
 use Rattle.graphs.specs.Linearizations.{IsTopological, IsClosedWithin}
 use Rattle.graphs.specs.Certificates.{Part, Txs, graph_of, rate_in, weight_in, HasGraph, HasOrder, HasFalling, HasFlows, Certified}
+use Rattle.graphs.specs.Minimal.{AreMinimal}
 use Rattle.graphs.specs.Picks.{IsPick}
 use Rattle.graphs.proofs.TangentLemmas.{joined}
 use Rattle.lists.proofs.Flats.{flat_has}
@@ -269,7 +270,7 @@ top_pick state valid = both state.plain.staging state.picks.staging valid.picks.
 
 pub level_pick : (state : State) (level : Level) (pick : List Part) → IsValidState state → pick_of state.picks level ≡ Some pick
     → (HasOver state.plain.limits (size_of state.plain.table) (level_of state.plain level) → ⊥)
-    × IsPick (rate_of state.plain.table) (level_of state.plain level) pick
+    × IsPick (rate_of state.plain.table) (level_of state.plain level) pick × AreMinimal (rate_of state.plain.table) (level_of state.plain level).pairs pick
 level_pick state Main pick valid is = subst (IsPickOf state.plain.limits state.plain.table state.plain.main) is valid.picks.main
 level_pick state Top pick valid is = subst (IsPickOf state.plain.limits state.plain.table (level_of state.plain Top)) is (top_pick state valid)
 
@@ -284,7 +285,7 @@ of_level plain graph pick text valid level none inside picked proves =
 pub proofs_are_certificates : ProofsAreCertificates
 proofs_are_certificates state Main pick text valid is proves =
     let picked = level_pick state Main pick valid is in
-    of_level state.plain state.plain.main pick text valid.plain valid.plain.main picked.0 (λ id here. inl here) picked.1 proves
+    of_level state.plain state.plain.main pick text valid.plain valid.plain.main picked.0 (λ id here. inl here) picked.1.0 proves
 proofs_are_certificates state Top pick text valid is proves =
     let picked = level_pick state Top pick valid is in
-    of_level state.plain (level_of state.plain Top) pick text valid.plain (top_level state.plain valid.plain) picked.0 (λ id here. inr here) picked.1 proves
+    of_level state.plain (level_of state.plain Top) pick text valid.plain (top_level state.plain valid.plain) picked.0 (λ id here. inr here) picked.1.0 proves

@@ -2,7 +2,8 @@
 use Rattle.std.proofs.Common.{◌≡◌, ℕ, ◌≤◌, Bool, true, List, [], ◌∷◌, map, ap, ◌∙◌, Option, None, Some, is_some, sym, refl, subst, inl, inr, true≢false}
 use Rattle.std.specs.Prelude.{Contains, filter}
 use Rattle.std.specs.FinMap as finmap
-use Rattle.lists.proofs.Entries.{Contains-map, map-Contains, filter-Contains}
+use Rattle.std.proofs.lemmas.List.Elements.{Contains-append_right}
+use Rattle.lists.proofs.Entries.{Contains-head, Contains-map, map-Contains, filter-Contains}
 use Rattle.fee_rate.specs.declared.rates.Sum.{Sum}
 use Rattle.fee_rate.specs.Limits.{IsFee, IsSize}
 use Rattle.graphs.specs.declared.names.Level.{Level}
@@ -56,10 +57,11 @@ sized state level valid id here = of_entry (finmap.get state.table id) ((valid.l
 
 pub best : (state : State) (level : Level) (pick : List Part) → IsValidState state → pick_of state.picks level ≡ Some pick → AreBest state.plain level pick
 best state level pick valid is =
-    let picked : IsPick (rate_of state.plain.table) (level_of state.plain level) pick = (level_pick state level pick valid is).1 in
+    let picked : IsPick (rate_of state.plain.table) (level_of state.plain level) pick = (level_pick state level pick valid is).1.0 in
     record {
       optimal = picks_are_kept.optimal (rate_of state.plain.table) (level_of state.plain level) pick (sized state.plain level valid.plain) picked;
       summed = picked.certificate.falling.summed;
+      minimal = (level_pick state level pick valid is).1.1;
     }
 
 -- the rates of parts with the right sums have the sum of all their names
@@ -115,7 +117,11 @@ answer_tells state (Dep parent child) reply valid h = subst (TellsBest state.pla
 answer_tells state (SetFee id fee) reply valid h = subst (TellsBest state.plain (SetFee id fee)) (sym h) tt
 answer_tells state (Remove id) reply valid h = subst (TellsBest state.plain (Remove id)) (sym h) tt
 answer_tells state (Mine ids) reply valid h = subst (TellsBest state.plain (Mine ids)) (sym h) tt
-answer_tells state Evict reply valid h = subst (TellsBest state.plain Evict) (sym h.4) (h.0, best state Main h.0 valid h.2, h.3)
+answer_tells state Evict reply valid h =
+    let are = best state Main h.0 valid h.2 in
+    let here : Contains h.0 h.1 =
+    subst (λ (ps : List Part). Contains ps h.1) (sym h.3.1) (Contains-append_right h.3.0 (h.1 ∷ []) h.1 (Contains-head h.1 [])) in
+    subst (TellsBest state.plain Evict) (sym h.4) (h.0, h.1, are, h.3, refl, are.summed h.1 here)
 answer_tells state Stage reply valid h = subst (TellsBest state.plain Stage) (sym h) tt
 answer_tells state Commit reply valid h = subst (TellsBest state.plain Commit) (sym h) tt
 answer_tells state Abort reply valid h = subst (TellsBest state.plain Abort) (sym h) tt

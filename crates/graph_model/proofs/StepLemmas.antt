@@ -14,6 +14,8 @@ use Rattle.graphs.specs.Certificates.{Part}
 use Rattle.graphs.proofs.RemovalLemmas.{graph_left}
 use Rattle.graphs.proofs.DropLemmas as drops
 use Rattle.graphs.proofs.PickLemmas.{picks_are_kept}
+use Rattle.graphs.proofs.MinimalLemmas.{uncut_with}
+use Rattle.lists.proofs.Flats.{flat_has}
 use Rattle.graph_model.specs.Limits.{Bounds, AreInRange, default_limits}
 use Rattle.graph_model.specs.States.{PlainState, Picks, State, Table, Entry, plain_start, start, empty_graph, level_of, top_of, IsLive, size_in, size_of, sum_in, rate_of}
 use Rattle.graph_model.specs.Commands.{Command, HasTypes, SetLimits, Add, Dep, SetFee, Remove, Mine, Evict, Stage, Commit, Abort, Settle, Trim, Unmine, Dump, Compare, Order, Diagram, Proof, Cluster, Ancestors, Descendants, Chunk, Before, Block, Count}
@@ -241,7 +243,7 @@ pick_along : (bounds : Bounds) (was is : Table) (graph : Graph) (pick : Option (
     → ((id : ℕ) → Contains graph.names id → finmap.get was id ≡ finmap.get is id) → IsPickOf bounds was graph pick → IsPickOf bounds is graph pick
 pick_along bounds was is graph None whole same over =
     over_along bounds bounds (size_of is) (size_of was) graph graph refl (λ id here. here) (λ a b trail. trail) (λ id here. ap size_in (same id here)) over
-pick_along bounds was is graph (Some parts) whole same (none, picked) = (
+pick_along bounds was is graph (Some parts) whole same (none, picked, minimal) = (
   λ over. none (over_along bounds bounds (size_of was) (size_of is) graph graph refl (λ id here. here) (λ a b trail. trail)
       (λ id here. ap size_in (sym (same id here))) over),
   (picks_are_kept.alike (rate_of was) (rate_of is) graph graph (record {
@@ -249,6 +251,9 @@ pick_along bounds was is graph (Some parts) whole same (none, picked) = (
     sums = λ id here. ap sum_in (same id here);
     ancestors = λ x y. (λ walk. walk, λ walk. walk);
   }) whole whole parts).0 picked,
+  λ part here. uncut_with (rate_of was) (rate_of is) graph.pairs graph.pairs part.ids (λ a d pair. pair)
+      (λ id in_part. ap sum_in (same id ((picked.certificate.order.topological.names id).0 (flat_has (λ (p : Part). p.ids) parts part id here in_part))))
+      (minimal part here),
 )
 
 picks_staged : (old new : State) → IsValidState old → new.plain ≡ staged old.plain
@@ -384,6 +389,7 @@ module _ (most : ℕ) (limits : Bounds) (wide : most ≤ MAX_COUNT) (in_range : 
         };
         flows_in_order = λ part here. absurd (none_in_empty part here);
       },
+      λ part here. absurd (none_in_empty part here),
     );
     staging = tt;
   }

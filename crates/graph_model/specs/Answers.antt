@@ -46,7 +46,8 @@ StandsTo order a b After = StandsBefore order b a
 -- The answer of an accepted command, where the levels have these picks. A command that reads a pick is answered only where there is one.
 -- Changes without an answer of their own are answered `Done`.
 abbrev pub Answers : Picks → PlainState → Command → Reply → Type 0
-Answers picks state Evict reply = (pick : List Part) × (part : Part) × (pick_of picks Main ≡ Some pick) × IsLast pick part × (reply ≡ Evicted part)
+Answers picks state Evict reply =
+    (pick : List Part) × (part : Part) × (pick_of picks Main ≡ Some pick) × IsLast pick part × (reply ≡ Evicted part.rate part.ids)
 Answers picks state Settle reply = (verdict : Verdict) × VerdictIs state verdict × (reply ≡ Settled verdict)
 Answers picks state Compare reply = (verdict : Verdict) × VerdictIs state verdict × (reply ≡ Compared verdict)
 Answers picks state Trim reply =

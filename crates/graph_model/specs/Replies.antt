@@ -27,8 +27,8 @@ pub data Reply : Type 0 where
   Stands : (place : Place) → Reply
   Compared : (verdict : Verdict) → Reply
   Settled : (verdict : Verdict) → Reply
-  -- the part that was dropped, and the sum and the names of a block
-  Evicted : (part : Part) → Reply
+  -- the sum and the names of the part that was dropped, and of a block
+  Evicted : (sum : Sum) (ids : List ℕ) → Reply
   Built : (sum : Sum) (ids : List ℕ) → Reply
   -- the names that were trimmed, with their sum; the names that came back; and the text of a graph
   Trimmed : (sum : Sum) (ids : List ℕ) → Reply
@@ -83,7 +83,7 @@ lines_of (OnePart part) = chunk_line part ∷ []
 lines_of (Stands place) = place_word place ∷ []
 lines_of (Compared verdict) = verdict_word verdict ∷ []
 lines_of (Settled verdict) = spaced (settled_words verdict) ∷ []
-lines_of (Evicted part) = sum_line (codes "evicted") part.rate part.ids ∷ []
+lines_of (Evicted sum ids) = sum_line (codes "evicted") sum ids ∷ []
 lines_of (Built sum ids) = sum_line (codes "block") sum ids ∷ []
 lines_of (Trimmed sum ids) = sum_line (codes "trimmed") sum ids ∷ []
 lines_of (Unmined ids) = spaced (codes "unmined" ∷ map decimal ids) ∷ []

@@ -4,6 +4,7 @@ use Rattle.graphs.specs.declared.names.Level.{Level}
 use Rattle.graphs.specs.declared.names.Level.TheVariants.{Main}
 use Rattle.graphs.specs.Rates.{sums}
 use Rattle.graphs.specs.Certificates.{Part}
+use Rattle.graphs.specs.Minimal.{AreMinimal}
 use Rattle.graphs.specs.Linearizations.{IsOptimal}
 use Rattle.graph_model.specs.declared.limits.TheConstants.{MAX_COUNT}
 use Rattle.graph_model.specs.Limits.{default_limits}
@@ -18,10 +19,12 @@ use Rattle.graph_model.specs.Steps.{Step}
 use Rattle.graph_model.specs.Validity.{IsValidState}
 use Rattle.graph_model.specs.Runs.{Answer, Run}
 
--- The parts are an optimal order of the level, and each part's rate is the total fee and the total size of its names.
+-- The parts are an optimal order of the level, each part's rate is the total fee and the total size of its names, and no part can be cut
+-- further.
 pub record AreBest (state : PlainState) (level : Level) (parts : List Part) : Type 0 where
   pub optimal : IsOptimal (rate_of state.table) (level_of state level) (map (λ part. part.ids) parts)
   pub summed : (part : Part) → Contains parts part → part.rate ≡ sums (rate_of state.table) part.ids
+  pub minimal : AreMinimal (rate_of state.table) (level_of state level).pairs parts
 
 -- What a reply tells of an order, it tells of an optimal one with the right sums; and the sum of a block is that of the names that it tells.
 abbrev pub TellsBest : PlainState → Command → Reply → Type 0
@@ -29,7 +32,8 @@ TellsBest state (Order level) (Parts parts) = AreBest state level parts
 TellsBest state (Proof level) (Proves text) = AreBest state level text.parts
 TellsBest state (Chunk id) (OnePart part) = (parts : List Part) × AreBest state Main parts × Contains parts part × Contains part.ids id
 TellsBest state (commands.Before a b) (Stands place) = (parts : List Part) × AreBest state Main parts × StandsTo (order_of parts) a b place
-TellsBest state Evict (Evicted part) = (parts : List Part) × AreBest state Main parts × IsLast parts part
+TellsBest state Evict (Evicted sum ids) =
+    (parts : List Part) × (part : Part) × AreBest state Main parts × IsLast parts part × (ids ≡ part.ids) × (sum ≡ sums (rate_of state.table) ids)
 TellsBest state (Block size) (Built sum ids) =
     (parts taken : List Part) × AreBest state Main parts × IsBlock state.main parts size taken × (ids ≡ order_of taken)
     × (sum ≡ sums (rate_of state.table) ids)

@@ -6,6 +6,7 @@ use Rattle.lists.specs.Distinct.{AreDistinct}
 use Rattle.graphs.specs.Graphs.{Graph, HasNoCycle, IsGraph}
 use Rattle.graphs.specs.Certificates.{Part}
 use Rattle.graphs.specs.Picks.{IsPick}
+use Rattle.graphs.specs.Minimal.{AreMinimal}
 use Rattle.graph_model.specs.declared.limits.TheConstants.{MAX_BLOCKS, MAX_COUNT}
 use Rattle.graph_model.specs.Limits.{Bounds, AreInRange}
 use Rattle.graph_model.specs.States.{PlainState, Picks, MinedBlock, State, Table, Entry, IsLive, size_of, rate_of}
@@ -48,10 +49,11 @@ pub record IsValid (state : PlainState) : Type 0 where
   pub block_count : length state.blocks ≤ MAX_BLOCKS
   pub fresh : state.begun ≡ false → (state.main.names ≡ []) × (state.staging ≡ None) × (state.blocks ≡ [])
 
--- a graph has a pick exactly where none of its components is over the limits
+-- A graph has a pick exactly where none of its components is over the limits. No part of the pick can be cut further.
 abbrev pub IsPickOf : Bounds → Table → Graph → Option (List Part) → Type 0
 IsPickOf bounds table graph None = HasOver bounds (size_of table) graph
-IsPickOf bounds table graph (Some pick) = (HasOver bounds (size_of table) graph → ⊥) × IsPick (rate_of table) graph pick
+IsPickOf bounds table graph (Some pick) =
+    (HasOver bounds (size_of table) graph → ⊥) × IsPick (rate_of table) graph pick × AreMinimal (rate_of table) graph.pairs pick
 
 -- the same of a staging, where there is one
 abbrev pub IsStagingPick : Bounds → Table → Option Graph → Option (Option (List Part)) → Type 0

@@ -18,3 +18,4 @@ pub mod PartLemmas
 pub mod HeightLemmas
 pub mod Members
 pub mod PickLemmas
+pub mod MinimalLemmas

@@ -13,3 +13,4 @@ pub mod Alikes
 pub mod OrderLaws
 pub mod Merges
 pub mod Picks
+pub mod Minimal

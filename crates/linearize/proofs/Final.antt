@@ -23,7 +23,7 @@ use Rattle.graphs.specs.Certificates.{Part, IsCertificate}
 use Rattle.graphs.specs.Rates.{HasSizes, sums}
 use Rattle.linearize.specs.Graphs.{HasRates, IsComponent, sum_at}
 use Rattle.linearize.specs.Drafts.{placed}
-use Rattle.linearize.specs.Minimal.{AreMinimal}
+use Rattle.graphs.specs.Minimal.{AreMinimal}
 use Rattle.linearize.specs.Orders.{sums_in}
 use Rattle.linearize.specs.Near.{AreParts}
 use Rattle.linearize.specs.Splits.{IsUpperIn, Linearizes}

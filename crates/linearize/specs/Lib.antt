@@ -1,7 +1,6 @@
 pub mod Drafts
 pub mod Graphs
 pub mod Known
-pub mod Minimal
 pub mod Near
 pub mod Orders
 pub mod Splits

@@ -7,7 +7,7 @@ ghost use Rattle.graphs.specs.Certificates.{IsCertificate};
 ghost use Rattle.graphs.specs.Linearizations.{IsOptimal};
 ghost use Rattle.linearize.specs.Graphs.{HasRates, IsComponent, most_members, sum_at};
 ghost use Rattle.linearize.specs.Drafts.{AreShown, flows_in, named, placed};
-ghost use Rattle.linearize.specs.Minimal.{AreMinimal};
+ghost use Rattle.graphs.specs.Minimal.{AreMinimal};
 ghost use Rattle.linearize.specs.Orders.{AreCovers};
 ghost use Rattle.linearize.specs.Steps.{AreOfSolves};
 

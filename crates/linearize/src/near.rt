@@ -9,7 +9,7 @@ ghost use Rattle.linearize.specs.Graphs.{HasRates, IsComponent, most_members, su
 ghost use Rattle.fee_rate.specs.Rates.{AtMost};
 ghost use Rattle.graphs.specs.Rates.{Falls};
 ghost use Rattle.linearize.specs.Graphs.{sum_from};
-ghost use Rattle.linearize.specs.Minimal.{AreMinimal};
+ghost use Rattle.graphs.specs.Minimal.{AreMinimal};
 ghost use Rattle.linearize.specs.Known.{AreKnown};
 ghost use Rattle.linearize.specs.Near.{AreParts, ComesNext, Extends, IsBegun, MayBePut, most_tried};
 ghost use Rattle.linearize.specs.Steps.{AreAtLeast};

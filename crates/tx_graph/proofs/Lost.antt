@@ -200,7 +200,7 @@ module _ (old new : Kept) (part : Part) (limits : new.limits ≡ old.limits) (mo
     (alone : old.levels.staging ≡ None) (still : new.levels.staging ≡ None) (loses : LosesNames old.levels.main.graph new.levels.main.graph part.ids)
     (best : IsBest old.levels.main) (last : IsLast old.levels.main.parts part)
     (id : ℕ) (here : Contains part.ids id) (live : is_member old.levels.main.graph id ≡ true) (picked : HavePicks new.levels) where
-  accepts_evicted : AcceptsHere old new Evict (Evicted part)
+  accepts_evicted : AcceptsHere old new Evict (Evicted part.rate part.ids)
   accepts_evicted state stands =
       let next = after old new part.ids limits most begins alone still loses state stands
       (inr (last_closed old.levels.main state.main part best stands.main last)) state.blocks in (
@@ -212,7 +212,7 @@ module _ (old new : Kept) (part : Part) (limits : new.limits ≡ old.limits) (mo
         },
       )
 
-  pub steps_evicted : Meets old Evict None → MakesStep old new Evict (Evicted part)
+  pub steps_evicted : Meets old Evict None → MakesStep old new Evict (Evicted part.rate part.ids)
   steps_evicted none =
-      steps_kept old new Evict (Evicted part) tt none accepts_evicted (λ a b kept. kept)
+      steps_kept old new Evict (Evicted part.rate part.ids) tt none accepts_evicted (λ a b kept. kept)
       (keeps_lost old new part.ids limits most begins alone still loses id here live picked)

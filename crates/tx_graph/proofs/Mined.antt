@@ -1,6 +1,6 @@
 -- What mining and eviction need of the levels that are kept.
 use Rattle.std.proofs.Common.{◌≡◌, ◌≢◌, ℕ, true, false, List, [], ◌∷◌, ◌++◌, map, flat_map, sym, refl, ap, subst, subst₂, ◌∙◌, inl, inr, ◌⊎◌, ◌↔◌, Option, None, Some, is_some, true≢false}
-use Rattle.std.specs.Prelude.{Contains, Bool, All, slice_index_or, ◌<◌, ◌^◌}
+use Rattle.std.specs.Prelude.{Contains, Bool, All, Ok, slice_index_or, ◌<◌, ◌^◌}
 use Rattle.std.proofs.lemmas.Bool.{false_from_ne_true}
 use Rattle.std.proofs.lemmas.List.{map-append, get_or_default}
 use Rattle.std.proofs.lemmas.List.Elements.{Contains-append_left, Contains-append_right}
@@ -12,6 +12,7 @@ use Rattle.graphs.specs.declared.names.Level.TheVariants.{Main, Top}
 use Rattle.graphs.specs.Closures.{is_member, is_ancestor}
 use Rattle.graphs.specs.Certificates.{Part}
 use Rattle.graph_model.specs.declared.names.Limits.{Limits}
+use Rattle.graph_model.specs.declared.names.Picked.{Picked}
 use Rattle.graph_model.specs.declared.names.Refusal.{Refusal}
 use Rattle.graph_model.specs.declared.names.Refusal.TheVariants.{Twice, Unknown, Parent, Staging, Empty, Memory}
 use Rattle.graph_model.specs.States.{PlainState, top_of}
@@ -27,6 +28,7 @@ use Rattle.cluster_store.specs.Stores.{Shown}
 use Rattle.levels.specs.Levels.{OneLevel, Levels, ChangesTop, LosesNames, HavePicks, IsBest, level_at}
 use Rattle.levels.specs.Lefts.{DropsWithin}
 use Rattle.levels.specs.Mining.{LacksListed, MineRefusalIs}
+use Rattle.tx_graph.specs.Dropped.{IsPicked, evicted_reply}
 use Rattle.tx_graph.specs.Kept.{Kept, StandsPlainly, MakesStep}
 use Rattle.tx_graph.specs.Sound.{IsSound}
 use Rattle.tx_graph.proofs.Calls.{kept_of, topped_same}
@@ -214,11 +216,15 @@ module _ (most : ℕ) (limits : Limits) (begun : Bool) (old new : Levels) (picke
       ((may_mine before ids sound alone row).1 one.0 one.1) picked small (mine_row before ids None alone row)
 
   pub evict_step : (part : Part) → IsBest old.main → IsLast old.main.parts part → (id : ℕ) → Contains part.ids id → is_member old.main.graph id ≡ true
-      → ChangesTop (λ a b. LosesNames a b part.ids) old new → MakesStep before after Evict (Evicted part)
+      → ChangesTop (λ a b. LosesNames a b part.ids) old new → MakesStep before after Evict (Evicted part.rate part.ids)
   evict_step part best last id here live change =
       let lost = lost_main old new part.ids alone change in
       steps_evicted before after part refl refl refl (none_of old.staging alone) lost.1 lost.0 best last id here live picked
       (evict_row before id alone live)
+
+-- what is told of a part is the reply
+pub picked_told : (part : Part) (picked : Picked) → IsPicked part picked → Evicted part.rate part.ids ≡ evicted_reply (Ok picked)
+picked_told part picked is = λ i. Evicted (record { fee = sym is.fee i; size = sym is.size i }) (sym is.ids i)
 
 -- the steps of a call that drops the last part of main
 pub dropped_last : (levels : Levels) (start end : ℕ) (ids : List ℕ) (last : Part) → IsLast levels.main.parts last → is_some levels.staging ≡ false

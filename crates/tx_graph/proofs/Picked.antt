@@ -7,7 +7,11 @@ use Rattle.graphs.specs.declared.names.Level.{Level}
 use Rattle.graphs.specs.declared.names.Level.TheVariants.{Main, Top}
 use Rattle.graphs.specs.Closures.{Closure, is_member, is_ancestor, rate_of}
 use Rattle.graphs.specs.Graphs.{Graph}
+use Rattle.graphs.specs.Certificates.{Part}
 use Rattle.graphs.specs.Picks.{IsPick}
+use Rattle.graphs.specs.Minimal.{AreMinimal}
+use Rattle.graphs.proofs.MinimalLemmas.{uncut_with}
+use Rattle.lists.proofs.Flats.{flat_has}
 use Rattle.graphs.proofs.PickLemmas.{picks_are_kept}
 use Rattle.cluster.specs.Clusters.{sum_at}
 use Rattle.graph_model.specs.States.{PlainState, Picks, State, Table}
@@ -56,6 +60,16 @@ pick_here level graph rate pick of same =
       ancestors = λ x y. (λ walk. walk, λ walk. walk);
     }) of.valid of.valid level.parts).0 (pick.picked graph of.closure)
 
+-- and none of its parts can be cut further
+pub uncut_here : (level : OneLevel) (graph : Graph) (rate : ℕ → Sum) → HasPick level → IsGraphOf level graph
+    → ((id : ℕ) → is_member level.graph id ≡ true → rate id ≡ sum_at level.graph id) → AreMinimal rate graph.pairs level.parts
+uncut_here level graph rate pick of same part here =
+    let listed = (pick.picked graph of.closure).certificate.order.topological in
+    uncut_with (sum_at level.graph) rate graph.pairs graph.pairs part.ids (λ a d pair. pair)
+    (λ id in_part. sym (same id ((of.closure.names id).0
+    ((listed.names id).0 (flat_has (λ (p : Part). p.ids) level.parts part id here in_part)))))
+    (pick.uncut graph of.closure part here)
+
 staging_picked : (bounds : Bounds) (table : Table) (level : Option OneLevel) (staging : Option Graph) → IfSome level HasPick → IsStagingOf level staging
     → ((graph : Graph) → staging ≡ Some graph → HasOver bounds (states.size_of table) graph → ⊥)
     → ((one : OneLevel) → level ≡ Some one → (id : ℕ) → is_member one.graph id ≡ true → states.rate_of table id ≡ sum_at one.graph id)
@@ -64,7 +78,7 @@ staging_picked bounds table None None pick of none same = tt
 staging_picked bounds table None (Some graph) pick of none same = absurd of
 staging_picked bounds table (Some level) None pick of none same = absurd of
 staging_picked bounds table (Some level) (Some graph) pick of none same =
-    (none graph refl, pick_here level graph (states.rate_of table) pick of (same level refl))
+    (none graph refl, pick_here level graph (states.rate_of table) pick of (same level refl), uncut_here level graph (states.rate_of table) pick of (same level refl))
 
 -- the top level is the staging that there is
 staging_sums : (levels : Levels) (table : Table) → HasRates levels table → (one : OneLevel) → levels.staging ≡ Some one
@@ -78,6 +92,7 @@ are_picks kept state picked stands = record {
   main = (
     none_oversized kept state stands Main,
     pick_here kept.levels.main state.main (states.rate_of state.table) picked.0 stands.main (sum_kept kept.levels state.table stands.table Main),
+    uncut_here kept.levels.main state.main (states.rate_of state.table) picked.0 stands.main (sum_kept kept.levels state.table stands.table Main),
   );
   staging = staging_picked state.limits state.table kept.levels.staging state.staging picked.1 stands.staging
       (λ graph is. subst (λ (g : Graph). HasOver state.limits (states.size_of state.table) g → ⊥) (top_is state graph is)

@@ -2,7 +2,6 @@
 use Rattle.std.proofs.Common.{◌≡◌, ℕ, ℤ, true, Some, List, map, Contains, ◌↔◌, sym, refl, ap, subst, ◌∙◌}
 use Rattle.fee_rate.specs.declared.rates.Sum.{Sum}
 use Rattle.lists.proofs.Entries.{map_along}
-use Rattle.lists.proofs.Flats.{flat_has}
 use Rattle.graphs.specs.declared.names.Level.{Level}
 use Rattle.graphs.specs.declared.names.Level.TheVariants.{Main}
 use Rattle.graphs.specs.Certificates.{Part}
@@ -12,7 +11,6 @@ use Rattle.graphs.specs.Picks.{FollowOrder}
 use Rattle.graphs.proofs.AlikeLemmas.{optimal_to}
 use Rattle.graphs.proofs.ClosingLemmas.{covers_agree}
 use Rattle.cluster.specs.Clusters.{sum_at}
-use Rattle.cluster_store.proofs.Uncut.{uncut_with}
 use Rattle.graph_model.specs.declared.names.Place.{Place}
 use Rattle.graph_model.specs.Answers.{order_of, StandsTo, ListsCovers}
 use Rattle.graph_model.specs.Commands.{Chunk, Before, Order, Proof}
@@ -24,7 +22,7 @@ use Rattle.levels.specs.Levels.{OneLevel, HavePicks, IsBest, level_at}
 use Rattle.tx_graph.specs.Kept.{Kept, IsGraphOf, StandsFor, MakesStep}
 use Rattle.tx_graph.specs.Readings.{AreMinimalIn, IsBestOrder, IsTextOf}
 use Rattle.tx_graph.proofs.Standing.{graph_at, order_kept, picks_at, sum_kept}
-use Rattle.tx_graph.proofs.Picked.{pick_here, pick_at}
+use Rattle.tx_graph.proofs.Picked.{pick_here, pick_at, uncut_here}
 use Rattle.tx_graph.proofs.Reading.{steps_told}
 use Rattle.tx_graph.proofs.Rows.{ordered_row, name_row, both_row}
 
@@ -60,15 +58,9 @@ best_order kept level picked best state stands =
 pub none_cut : (kept : Kept) (level : Level) → IsBest (level_at kept.levels level)
     → (state : State) → StandsFor kept state
     → AreMinimalIn state level (level_at kept.levels level).parts
-none_cut kept level best state stands part here =
-    let at = level_at kept.levels level in
-    let graph = level_of state.plain level in
-    let of = graph_at kept state.plain stands.plain level in
-    let listed = (best.pick.picked graph of.closure).certificate.order.topological in
-    uncut_with (sum_at at.graph) (states.rate_of state.plain.table) graph.pairs graph.pairs part.ids (λ a d pair. pair)
-    (λ id in_part. sym (sum_kept kept.levels state.plain.table stands.plain.table level id
-    ((of.closure.names id).0 ((listed.names id).0 (flat_has (λ (p : Part). p.ids) at.parts part id here in_part)))))
-    (best.pick.uncut graph of.closure part here)
+none_cut kept level best state stands =
+    uncut_here (level_at kept.levels level) (level_of state.plain level) (states.rate_of state.plain.table) best.pick
+    (graph_at kept state.plain stands.plain level) (sum_kept kept.levels state.plain.table stands.plain.table level)
 
 -- the names of the parts are those of the level
 pub names_ordered : (kept : Kept) (level : Level) → HavePicks kept.levels → IsBest (level_at kept.levels level)

@@ -6,11 +6,9 @@ use Rattle.graphs.specs.Certificates.{Part}
 use Rattle.graph_model.specs.declared.names.Picked.{Picked}
 use Rattle.graph_model.specs.declared.names.Refusal.{Refusal}
 use Rattle.graph_model.specs.Blocks.{IsBlock, ShareComponent}
-use Rattle.graph_model.specs.Changes.{IsLast}
 use Rattle.graph_model.specs.Replies.{Reply, Refused, Evicted}
 use Rattle.graph_model.specs.States.{State}
 use Rattle.cluster_store.specs.Stores.{Shown}
-use Rattle.levels.specs.Levels.{Levels}
 use Rattle.tx_graph.specs.Kept.{Kept, StandsFor}
 
 -- what is told of a part: its names in their order, with their fee and size
@@ -19,10 +17,10 @@ pub record IsPicked (part : Part) (picked : Picked) : Type 0 where
   pub size : picked.size ≡ part.rate.size
   pub ids : picked.ids ≡ part.ids
 
--- the reply of an eviction: main's last part, of which the names, fee and size are answered
-abbrev pub IsEvicted : Levels → Result Picked Refusal → Reply → Type 0
-IsEvicted levels (Ok picked) reply = (part : Part) × IsLast levels.main.parts part × IsPicked part picked × (reply ≡ Evicted part)
-IsEvicted levels (Err why) reply = reply ≡ Refused why
+-- the reply of an eviction, by what it answers
+abbrev pub evicted_reply : Result Picked Refusal → Reply
+evicted_reply (Ok picked) = Evicted (record { fee = picked.fee; size = picked.size }) picked.ids
+evicted_reply (Err why) = Refused why
 
 -- two parts have one number exactly where they are of one component
 abbrev pub AreOfClusters : Graph → List Shown → Type 0

@@ -6,7 +6,7 @@ use Rattle.graphs.specs.Certificates.{Part}
 use Rattle.graphs.specs.Closures.{rate_of, IsCover}
 use Rattle.graphs.specs.Linearizations.{IsOptimal}
 use Rattle.graphs.specs.Picks.{FollowOrder, IsPick}
-use Rattle.linearize.specs.Minimal.{AreMinimal}
+use Rattle.graphs.specs.Minimal.{AreMinimal}
 use Rattle.cluster.specs.declared.cluster.PartRef.{PartRef}
 use Rattle.cluster_store.specs.Lent.{lent}
 use Rattle.graph_model.specs.declared.names.Place.{Place}

@@ -4,11 +4,11 @@ ghost use Rattle.graphs.specs.Certificates.{Part};
 ghost use Rattle.graph_model.specs.declared.names.Refusal.TheVariants.{Memory, Empty};
 ghost use Rattle.graph_model.specs.Changes.{IsLast};
 ghost use Rattle.graph_model.specs.Commands.{Mine, Evict};
-ghost use Rattle.graph_model.specs.Replies.{Reply, change_reply};
+ghost use Rattle.graph_model.specs.Replies.{change_reply};
 ghost use Rattle.levels.specs.Lefts.{DropsWithin};
 ghost use Rattle.levels.specs.Levels.{IsBest};
 ghost use Rattle.levels.specs.Stays.{AllStay};
-ghost use Rattle.tx_graph.specs.Dropped.{IsEvicted, IsPicked};
+ghost use Rattle.tx_graph.specs.Dropped.{evicted_reply, IsPicked};
 ghost use Rattle.tx_graph.specs.Kept.{MakesStep};
 
 use crate::graph::TxGraph;
@@ -69,7 +69,7 @@ impl<const W: usize> TxGraph<W> {
     /// - [`Refusal::Empty`]: main has no transaction.
     /// - [`Refusal::Memory`]: there is no memory.
     pub fn drop_last<L: Ledger>(&mut self, steps: &mut Steps<L>) -> Result<Picked, Refusal>
-        ensures step { (reply : Reply) × IsEvicted self.old.levels result reply × MakesStep self.old self.new Evict reply }
+        ensures step { MakesStep self.old self.new Evict (evicted_reply result) }
         ensures stays { AllStay self.old.levels self.new.levels }
         ensures additions { self.new.levels.issued ≡ self.old.levels.issued }
         ensures refused { IfErr result (λ why. why ≢ Memory → steps.new ≡ steps.old) }

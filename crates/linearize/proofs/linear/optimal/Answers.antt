@@ -9,7 +9,7 @@ use Rattle.graphs.specs.Certificates.{Part, IsCertificate}
 use Rattle.graphs.specs.Linearizations.{IsOptimal}
 use Rattle.linearize.specs.Drafts.{Written}
 use Rattle.linearize.specs.Graphs.{sum_at}
-use Rattle.linearize.specs.Minimal.{AreMinimal}
+use Rattle.graphs.specs.Minimal.{AreMinimal}
 use Rattle.linearize.specs.Splits.{Adds}
 use Rattle.linearize.specs.Steps.{AreOfSolves}
 use Rattle.linearize.proofs.Final.{as_parts, certificate, has_sizes, minimal}

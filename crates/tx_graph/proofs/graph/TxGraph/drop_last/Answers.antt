@@ -7,16 +7,16 @@ use Rattle.graphs.specs.Certificates.{Part}
 use Rattle.graph_model.specs.declared.names.Refusal.TheVariants.{Memory, Staging}
 use Rattle.graph_model.specs.Changes.{IsLast}
 use Rattle.graph_model.specs.Commands.{Evict}
-use Rattle.graph_model.specs.Replies.{Evicted, Refused}
+use Rattle.graph_model.specs.Replies.{Reply, Evicted, Refused}
 use Rattle.graph_model.proofs.PickReplies.{last_same}
 use Rattle.cluster.specs.Steps.{most_steps_of}
 use Rattle.levels.specs.Levels.{OneLevel, Levels, ChangesTop, LosesNames, level_at}
 use Rattle.levels.specs.Lefts.{DropsWithin}
 use Rattle.levels.specs.Stays.{AllStay}
-use Rattle.tx_graph.specs.Dropped.{IsEvicted}
-use Rattle.tx_graph.specs.Kept.{Kept}
+use Rattle.tx_graph.specs.Dropped.{evicted_reply}
+use Rattle.tx_graph.specs.Kept.{Kept, MakesStep}
 use Rattle.tx_graph.proofs.Calls.{kept_of, same_levels, from_view, both_views, sound_after, sound_still, when_ok, when_err, error_is}
-use Rattle.tx_graph.proofs.Mined.{evict_staged, evict_row, evict_step, last_in, last_refused, top_main, dropped_last}
+use Rattle.tx_graph.proofs.Mined.{picked_told, evict_staged, evict_row, evict_step, last_in, last_refused, top_main, dropped_last}
 use Rattle.tx_graph.proofs.Standing.{steps_refused, steps_without_memory}
 use Rattle.tx_graph.proofs.Rooms.{levels_fit}
 use Rattle.tx_graph.proofs.Unchanged.{all_stay, within_one, not_larger, issued_topped}
@@ -30,12 +30,9 @@ last_part-requires g c = levels_fit g.row.W assumption
 
 pub returns-then-is_staged-clause-step : goal.returns-then-is_staged-clause-step
 returns-then-is_staged-clause-step g c =
-    let kept = kept_of (64 * g.row.W) c.self.inside.limits c.self.inside.begun c.self.inside.levels in (
-      Refused Staging,
-      refl,
-      both_views kept c.args.self.now Evict (Refused Staging) c.self.view_is
-          (steps_refused kept Evict Staging (evict_staged kept (sym c.is_staged.ensures ∙ c.if-is_staged.true))),
-    )
+    let kept = kept_of (64 * g.row.W) c.self.inside.limits c.self.inside.begun c.self.inside.levels in
+    both_views kept c.args.self.now Evict (Refused Staging) c.self.view_is
+    (steps_refused kept Evict Staging (evict_staged kept (sym c.is_staged.ensures ∙ c.if-is_staged.true)))
 
 pub returns-then-is_staged-clause-stays : goal.returns-then-is_staged-clause-stays
 returns-then-is_staged-clause-stays g c = all_stay c.args.self.now.levels
@@ -53,12 +50,10 @@ returns-then-is_staged-clause-steps g c part last =
 pub returns-in_err-picked-clause-step : goal.returns-in_err-picked-clause-step
 returns-in_err-picked-clause-step g c =
     let kept = kept_of (64 * g.row.W) c.self.inside.limits c.self.inside.begun c.self.inside.levels in
-    let why = c.in_err-picked.field-0.0 in (
-      Refused why,
-      subst (λ r. IsEvicted c.args.self.now.levels r (Refused why)) (sym (error_is c.from_residual.result why c.from_residual.ensures.1)) refl,
-      both_views kept c.args.self.now Evict (Refused why) c.self.view_is
-          (last_refused kept c.self.invariant (sym c.is_staged.ensures ∙ c.if-is_staged.false) why c.in_err-picked.ensures.row),
-    )
+    let why = c.in_err-picked.field-0.0 in
+    subst (λ r. MakesStep c.args.self.now c.args.self.now Evict (evicted_reply r)) (sym (error_is c.from_residual.result why c.from_residual.ensures.1))
+    (both_views kept c.args.self.now Evict (Refused why) c.self.view_is
+    (last_refused kept c.self.invariant (sym c.is_staged.ensures ∙ c.if-is_staged.false) why c.in_err-picked.ensures.row))
 
 pub returns-in_err-picked-clause-stays : goal.returns-in_err-picked-clause-stays
 returns-in_err-picked-clause-stays g c = all_stay c.args.self.now.levels
@@ -94,14 +89,11 @@ pub returns-then-is_err-clause-step : goal.returns-then-is_err-clause-step
 returns-then-is_err-clause-step g c =
     let kept = kept_of (64 * g.row.W) c.self.inside.limits c.self.inside.begun c.self.inside.levels in
     let row = c.in_ok-picked.ensures.row in
-    let in_main = last_in kept c.self.invariant row.0 row.1 in (
-      Refused Memory,
-      refl,
-      same_levels (64 * g.row.W) c.self.inside.limits c.self.inside.begun c.self.inside.levels c.drop_names.new.self c.args.self.now Evict (Refused Memory)
-          (when_err c.drop_names.result (sym c.is_err.ensures.value ∙ c.if-is_err.true) c.drop_names.ensures.err) c.self.view_is
-          (steps_without_memory kept Evict tt
-          (evict_row kept in_main.some.0 (sym c.is_staged.ensures ∙ c.if-is_staged.false) (in_main.live in_main.some.0 in_main.some.1))),
-    )
+    let in_main = last_in kept c.self.invariant row.0 row.1 in
+    same_levels (64 * g.row.W) c.self.inside.limits c.self.inside.begun c.self.inside.levels c.drop_names.new.self c.args.self.now Evict (Refused Memory)
+    (when_err c.drop_names.result (sym c.is_err.ensures.value ∙ c.if-is_err.true) c.drop_names.ensures.err) c.self.view_is
+    (steps_without_memory kept Evict tt
+    (evict_row kept in_main.some.0 (sym c.is_staged.ensures ∙ c.if-is_staged.false) (in_main.live in_main.some.0 in_main.some.1)))
 
 pub returns-then-is_err-clause-stays : goal.returns-then-is_err-clause-stays
 returns-then-is_err-clause-stays g c = subst (λ (k : Kept). AllStay k.levels c.drop_names.new.self) c.self.view_is c.drop_names.ensures.stays
@@ -127,7 +119,7 @@ invariant_of-self-2 g c =
     let kept = kept_of (64 * g.row.W) c.self.inside.limits c.self.inside.begun c.self.inside.levels in
     let row = c.in_ok-picked.ensures.row in
     let in_main = last_in kept c.self.invariant row.0 row.1 in
-    sound_after kept (kept_of (64 * g.row.W) c.self.inside.limits true c.drop_names.new.self) Evict (Evicted row.0)
+    sound_after kept (kept_of (64 * g.row.W) c.self.inside.limits true c.drop_names.new.self) Evict (Evicted row.0.rate row.0.ids)
     c.self.invariant c.self.invariant.in_range c.drop_names.ensures.picks
     (evict_step (64 * g.row.W) c.self.inside.limits c.self.inside.begun c.self.inside.levels c.drop_names.new.self c.drop_names.ensures.picks
     (sym c.is_staged.ensures ∙ c.if-is_staged.false) row.0 c.last_part.ensures.best row.1 in_main.some.0 in_main.some.1
@@ -139,16 +131,15 @@ pub returns-clause-step : goal.returns-clause-step
 returns-clause-step g c =
     let kept = kept_of (64 * g.row.W) c.self.inside.limits c.self.inside.begun c.self.inside.levels in
     let row = c.in_ok-picked.ensures.row in
-    let in_main = last_in kept c.self.invariant row.0 row.1 in (
-      Evicted row.0,
-      (row.0, subst (λ (k : Kept). IsLast k.levels.main.parts row.0) c.self.view_is row.1, row.2, refl),
-      from_view kept c.args.self.now (kept_of (64 * g.row.W) c.self.inside.limits true c.drop_names.new.self) Evict (Evicted row.0) c.self.view_is
-          (evict_step (64 * g.row.W) c.self.inside.limits c.self.inside.begun c.self.inside.levels c.drop_names.new.self c.drop_names.ensures.picks
-          (sym c.is_staged.ensures ∙ c.if-is_staged.false) row.0 c.last_part.ensures.best row.1 in_main.some.0 in_main.some.1
-          (in_main.live in_main.some.0 in_main.some.1)
-          (subst (λ (ns : List ℕ). ChangesTop (λ a b. LosesNames a b ns) c.self.inside.levels c.drop_names.new.self) (c.as_slice.ensures ∙ row.2.ids)
-          (when_ok c.drop_names.result (sym c.is_err.ensures.value ∙ c.if-is_err.false) c.drop_names.ensures.dropped))),
-    )
+    let in_main = last_in kept c.self.invariant row.0 row.1 in
+    let new = kept_of (64 * g.row.W) c.self.inside.limits true c.drop_names.new.self in
+    subst (λ (reply : Reply). MakesStep c.args.self.now new Evict reply) (picked_told row.0 _ row.2)
+    (from_view kept c.args.self.now new Evict (Evicted row.0.rate row.0.ids) c.self.view_is
+    (evict_step (64 * g.row.W) c.self.inside.limits c.self.inside.begun c.self.inside.levels c.drop_names.new.self c.drop_names.ensures.picks
+    (sym c.is_staged.ensures ∙ c.if-is_staged.false) row.0 c.last_part.ensures.best row.1 in_main.some.0 in_main.some.1
+    (in_main.live in_main.some.0 in_main.some.1)
+    (subst (λ (ns : List ℕ). ChangesTop (λ a b. LosesNames a b ns) c.self.inside.levels c.drop_names.new.self) (c.as_slice.ensures ∙ row.2.ids)
+    (when_ok c.drop_names.result (sym c.is_err.ensures.value ∙ c.if-is_err.false) c.drop_names.ensures.dropped))))
 
 pub returns-clause-stays : goal.returns-clause-stays
 returns-clause-stays g c = subst (λ (k : Kept). AllStay k.levels c.drop_names.new.self) c.self.view_is c.drop_names.ensures.stays

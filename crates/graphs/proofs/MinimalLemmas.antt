@@ -3,7 +3,7 @@ use Rattle.std.proofs.Common.{◌≡◌, ℕ, List, Contains, sym, subst₂}
 use Rattle.fee_rate.specs.declared.rates.Sum.{Sum}
 use Rattle.fee_rate.specs.Rates.{Same}
 use Rattle.graphs.proofs.AlikeLemmas.{sums_along}
-use Rattle.linearize.specs.Minimal.{IsMinimal}
+use Rattle.graphs.specs.Minimal.{IsMinimal}
 
 -- More pairs leave fewer closed sets, so that a part that couldn't be cut still can't.
 pub uncut_with : (ra rb : ℕ → Sum) (few more : List (ℕ × ℕ)) (part : List ℕ) → ((a d : ℕ) → Contains few (a, d) → Contains more (a, d))
