@@ -6,6 +6,8 @@
 #[cfg(test)]
 mod orders;
 #[cfg(test)]
+mod picked;
+#[cfg(test)]
 mod replay_tests;
 #[cfg(test)]
 mod replies;

@@ -145,8 +145,40 @@ const RUNS: [Row; 15] = [
          refused late\nrefused syntax\nrefused syntax\nrefused syntax\nrefused unknown 9\nrefused syntax\n",
     ),
     (
-        "mine 1\nevict\nblock 1\n",
-        "refused syntax\nrefused syntax\nrefused syntax\n",
+        "mine\ntrim\nunmine\ndump\nlimits 64 1 1 defer\nblock 1 1\nevict 1\n",
+        "refused syntax\nrefused syntax\nrefused syntax\nrefused syntax\nrefused syntax\nrefused syntax\nrefused syntax\n",
+    ),
+];
+
+/// Inputs of `replay` that take transactions out of main, or pick some for a block, with their outputs.
+const BLOCKS: [Row; 7] = [
+    (
+        "evict\nadd 1 10 1\nadd 2 1 1\nevict\ncount main\n",
+        "refused empty\nok\nok\nevicted 1 1 2\ncount 1\n",
+    ),
+    (
+        "add 1 100 100\nadd 2 90 50\nadd 3 30 60\nblock 110\nblock 0\n",
+        "ok\nok\nok\nblock 120 110 2 3\nblock 0 0\n",
+    ),
+    (
+        "add 1 100 100\nadd 2 1 10\ndep 1 2\nblock 50\n",
+        "ok\nok\nok\nblock 0 0\n",
+    ),
+    (
+        "add 1 5 5\nadd 2 5 5\ndep 1 2\nmine 2\nmine 1 1\nmine 1\nancestors 2 main\n",
+        "ok\nok\nok\nrefused parent 2\nrefused twice 1\nok\nids 2\n",
+    ),
+    (
+        "limits 64 10 10\nadd 1 1 6\nadd 2 1 11\nadd 3 1 5\ndep 1 3\nfee 8 1\ndep 9 8\nstage\nevict\nmine 1\n",
+        "ok\nok\nrefused clustersize 11\nok\nrefused clustersize 11\nrefused unknown 8\nrefused unknown 9\nok\nrefused staging\nrefused staging\n",
+    ),
+    (
+        "add 1 5 5\nadd 2 5 5\nadd 3 5 5\ndep 1 2\ndep 2 3\nmine 2 1\nancestors 3 main\nmine 9\nstage\nblock 5\n",
+        "ok\nok\nok\nok\nok\nok\nids 3\nrefused unknown 9\nok\nblock 5 5 3\n",
+    ),
+    (
+        "mine 1 2 1 2\nadd 1 2100000000000000 1\nadd 2 -2100000000000000 1\nadd 3 2100000000000000 1\nblock 2\nevict\nblock 18446744073709551615\nlimits 64 1 1\n",
+        "refused twice 1\nok\nok\nok\nblock 4200000000000000 2 1 3\nevicted -2100000000000000 1 2\nblock 4200000000000000 2 1 3\nrefused late\n",
     ),
 ];
 
@@ -261,6 +293,10 @@ fn runs() -> &'static [Row] {
     &RUNS
 }
 
+fn blocks() -> &'static [Row] {
+    &BLOCKS
+}
+
 fn orders() -> &'static [Row] {
     &ORDERS
 }
@@ -283,6 +319,11 @@ fn replies_are_the_same_whatever_the_pieces(rt: HostRuntime) -> Result<(), Fail>
         replay_all(&rt, rt.alloc(), runs(), piece)?;
     }
     Ok(())
+}
+
+#[test]
+fn blocks_and_evictions_are_told(rt: HostRuntime) -> Result<(), Fail> {
+    replay_all(&rt, rt.alloc(), blocks(), 4096)
 }
 
 #[test]

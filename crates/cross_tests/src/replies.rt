@@ -1,4 +1,5 @@
 //! The session answers lines as the plain lists do, and proves its orders to the checker.
+use crate::picked::{evict, fill};
 use graph_model::{IdBuf, Level, Limits, MAX_LINE, Refusal, TxId};
 use outside::{Failed, MemSink, MemSource, NoMemory, Sink};
 use plain_graph::Plain;
@@ -10,7 +11,7 @@ use wire::{Line, read_line, write_ids, write_refusal, write_word};
 
 /// The plain lists of both levels.
 #[derive(Drop)]
-struct Lists {
+pub struct Lists {
     /// the names that are live, for refusals that ask both levels
     live: Plain,
     main: Plain,
@@ -73,6 +74,41 @@ impl Lists {
         Ok(())
     }
 
+    pub fn is_staged(&self) -> bool {
+        self.staging.is_some()
+    }
+
+    pub fn main(&mut self) -> &mut Plain {
+        &mut self.main
+    }
+
+    /// Names go from main, each behind those that depend on it. No staging is open.
+    pub fn drop_all(&mut self, ids: &[TxId]) -> Result<(), Refusal> {
+        for id in ids.iter().rev() {
+            self.main.remove(*id)?;
+            self.live.remove(*id)?;
+        }
+        Ok(())
+    }
+
+    /// A mined list goes where all its names are main's, and all ancestors of these are listed too.
+    fn mine(&mut self, ids: &[TxId]) -> Result<(), Refusal> {
+        if self.staging.is_some() {
+            return Err(Refusal::Staging);
+        }
+        first_again(ids)?;
+        for id in ids {
+            self.main.ancestors(*id, Level::Main)?;
+        }
+        for id in ids {
+            self.main.ancestors(*id, Level::Main)?;
+            if !all_in(self.main.found(), ids) {
+                return Err(Refusal::Parent(*id));
+            }
+        }
+        self.drop_all(ids)
+    }
+
     /// Closes staging, which becomes main or is dropped.
     fn close(&mut self, commits: bool) -> Result<(), Refusal> {
         let Some(staging) = self.staging.take() else {
@@ -84,6 +120,26 @@ impl Lists {
         self.live = copy(&self.main)?;
         Ok(())
     }
+}
+
+/// Refuses a list with a name that stands earlier in it too.
+fn first_again(ids: &[TxId]) -> Result<(), Refusal> {
+    for (at, id) in ids.iter().enumerate() {
+        if ids.iter().take(at).any(|earlier| earlier == id) {
+            return Err(Refusal::Twice(*id));
+        }
+    }
+    Ok(())
+}
+
+/// Whether all of some names are in a list.
+fn all_in(some: &[TxId], ids: &[TxId]) -> bool {
+    for id in some {
+        if !ids.contains(id) {
+            return false;
+        }
+    }
+    true
 }
 
 /// The same lists once more.
@@ -111,11 +167,12 @@ fn tell_found<K: Sink>(
     }
 }
 
-/// Answers what a line says over the plain lists.
+/// Answers what a line says over the plain lists. A `mine` has its names in `ids`.
 fn reply<K: Sink>(
     rt: &impl Abort,
     lists: &mut Lists,
     line: Line,
+    ids: &[TxId],
     sink: &mut K,
 ) -> Result<(), Failed> {
     match line {
@@ -125,6 +182,7 @@ fn reply<K: Sink>(
         Line::Dep(parent, child) => tell(sink, lists.level(Level::Top).dep(parent, child)),
         Line::Fee(id, fee) => tell(sink, lists.fee(id, fee)),
         Line::Remove(id) => tell(sink, lists.remove(id)),
+        Line::Mine => tell(sink, lists.mine(ids)),
         Line::Stage => tell(sink, lists.stage()),
         Line::Commit => tell(sink, lists.close(true)),
         Line::Abort => tell(sink, lists.close(false)),
@@ -173,7 +231,7 @@ fn line_at(alloc: Global, state: &mut u64, at: u64) -> Result<String, AllocError
     let child = at.saturating_sub(draw(state, at.min(40)));
     let parent = child.saturating_sub(draw(state, child.min(12)));
     let level = if draw(state, 2) == 0 { "main" } else { "top" };
-    match draw(state, 20) {
+    match draw(state, 23) {
         0..7 => {
             let size = 100 + draw(state, 900) % 900;
             let sign = if draw(state, 4) == 0 { "-" } else { "" };
@@ -186,12 +244,15 @@ fn line_at(alloc: Global, state: &mut u64, at: u64) -> Result<String, AllocError
         16 => format!(in alloc; "ancestors {child} {level}"),
         17 => format!(in alloc; "descendants {parent} {level}"),
         18 => format!(in alloc; "count {level}"),
+        19 => format!(in alloc; "mine {child} {parent}"),
+        20 => format!(in alloc; "mine {child}"),
+        21 => String::from_str(alloc, "evict"),
         _ => String::from_str(alloc, staging_line(draw(state, 8))),
     }
 }
 
 /// What a session replies to a line.
-fn said<const W: usize>(
+pub fn said<const W: usize>(
     rt: &impl Abort,
     alloc: Global,
     session: &mut Session<W>,
@@ -218,7 +279,7 @@ fn agree<const W: usize>(
     let mut ids = IdBuf::new(alloc, 32_766)?;
     assert!(rt; line.len() <= MAX_LINE);
     let meant = read_line(line.as_bytes(), &mut ids);
-    reply(rt, lists, meant, &mut slow).expect(rt, "the sink has room");
+    reply(rt, lists, meant, ids.ids(), &mut slow).expect(rt, "the sink has room");
     assert_eq!(rt; fast.written(), slow.written(), "at {line:?}");
     Ok(())
 }
@@ -246,7 +307,7 @@ fn settle<const W: usize>(
 }
 
 /// Room for a reply of a session, in bytes.
-const PROOF: usize = 1_000_000;
+pub const PROOF: usize = 1_000_000;
 
 /// Hands the proof of a level to the checker, which must say `yes`.
 fn prove<const W: usize>(
@@ -288,12 +349,15 @@ fn agree_on_run<const W: usize>(
 ) -> Result<(), Fail> {
     let mut state = seed;
     agree(rt, alloc, session, lists, limits)?;
-    for at in 1..6001 {
+    for at in 1..3001 {
         let line = line_at(alloc, &mut state, at)?;
-        if line.as_str() == "settle" {
-            settle(rt, alloc, session, lists)?;
-        } else {
-            agree(rt, alloc, session, lists, &line)?;
+        match line.as_str() {
+            "settle" => settle(rt, alloc, session, lists)?,
+            "evict" => evict(rt, alloc, session, lists)?,
+            _ => agree(rt, alloc, session, lists, &line)?,
+        }
+        if at % 50 == 0 {
+            fill(rt, alloc, session, lists, draw(&mut state, 5000))?;
         }
         if at % 100 == 0 {
             prove(rt, alloc, session, "proof main")?;

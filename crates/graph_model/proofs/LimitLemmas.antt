@@ -40,8 +40,8 @@ stays_strict picks old new command built change strict = by command built change
     ]
     by (SetFee id fee) built change = along (kept _ new change)
     by (Remove id) built change = along (forgets_keeps (with_top (begun old) change.0) new change.2 ∙ top_keeps (begun old) change.0)
-    by (Mine ids) built change = along (forgets_keeps _ new change.4)
-    by Evict built change = along (forgets_keeps _ new change.6)
+    by (Mine ids) built change = along (forgets_keeps _ new change.2.2)
+    by Evict built change = along (forgets_keeps _ new change.4.2)
     by Stage built change = along (kept _ new change)
     by Commit built change = along (forgets_keeps _ new change)
     by Abort built change = along (forgets_keeps _ new change)

@@ -207,7 +207,7 @@ module _ (picks : Picks) (a b : PlainState) (valid_a : IsValid a) (valid_b : IsV
 
   pick_once : (level : Level) (pick : List Part) → pick_of picks level ≡ Some pick → AreDistinct (order_of pick)
   pick_once level pick is =
-      (level_pick (record { plain = a; picks = picks }) level pick (record { plain = valid_a; picks = picks_a }) is).1.0.certificate.order.topological.once
+      (level_pick (record { plain = a; picks = picks }) level pick (record { plain = valid_a; picks = picks_a }) is).1.certificate.order.topological.once
 
   picks_same : (level : Level) (p q : List Part) → pick_of picks level ≡ Some p → pick_of picks level ≡ Some q → q ≡ p
   picks_same level p q one other = some_same q p (sym other ∙ one)

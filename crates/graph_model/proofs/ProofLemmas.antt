@@ -285,7 +285,7 @@ of_level plain graph pick text valid level none inside picked proves =
 pub proofs_are_certificates : ProofsAreCertificates
 proofs_are_certificates state Main pick text valid is proves =
     let picked = level_pick state Main pick valid is in
-    of_level state.plain state.plain.main pick text valid.plain valid.plain.main picked.0 (λ id here. inl here) picked.1.0 proves
+    of_level state.plain state.plain.main pick text valid.plain valid.plain.main picked.0 (λ id here. inl here) picked.1 proves
 proofs_are_certificates state Top pick text valid is proves =
     let picked = level_pick state Top pick valid is in
-    of_level state.plain (level_of state.plain Top) pick text valid.plain (top_level state.plain valid.plain) picked.0 (λ id here. inr here) picked.1.0 proves
+    of_level state.plain (level_of state.plain Top) pick text valid.plain (top_level state.plain valid.plain) picked.0 (λ id here. inr here) picked.1 proves

@@ -57,11 +57,11 @@ sized state level valid id here = of_entry (finmap.get state.table id) ((valid.l
 
 pub best : (state : State) (level : Level) (pick : List Part) → IsValidState state → pick_of state.picks level ≡ Some pick → AreBest state.plain level pick
 best state level pick valid is =
-    let picked : IsPick (rate_of state.plain.table) (level_of state.plain level) pick = (level_pick state level pick valid is).1.0 in
+    let picked : IsPick (rate_of state.plain.table) (level_of state.plain level) pick = (level_pick state level pick valid is).1 in
     record {
       optimal = picks_are_kept.optimal (rate_of state.plain.table) (level_of state.plain level) pick (sized state.plain level valid.plain) picked;
       summed = picked.certificate.falling.summed;
-      minimal = (level_pick state level pick valid is).1.1;
+      minimal = (level_pick state level pick valid is).2;
     }
 
 -- the rates of parts with the right sums have the sum of all their names

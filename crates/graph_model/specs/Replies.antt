@@ -6,7 +6,9 @@ use Rattle.graphs.specs.declared.names.Verdict.{Verdict}
 use Rattle.graphs.specs.declared.names.Verdict.TheVariants.{Better, Worse, Equal, Incomparable}
 use Rattle.graph_model.specs.declared.names.Place.{Place}
 use Rattle.graph_model.specs.declared.names.Place.TheVariants.{Before, Same, After}
+use Rattle.graph_model.specs.declared.names.Picked.{Picked}
 use Rattle.graph_model.specs.declared.names.Refusal.{Refusal}
+use Rattle.graph_model.specs.declared.names.Refusal.TheVariants.{Memory}
 use Rattle.graphs.specs.Certificates.{Part}
 use Rattle.graph_model.specs.Refusals.{told_as}
 use Rattle.graph_model.specs.Words.{spaced, line_text}
@@ -100,3 +102,16 @@ change_reply (Err why) = Refused why
 abbrev pub names_reply : {T : Type 0} → Result T Refusal → List ℕ → Reply
 names_reply (Ok done) found = Ids found
 names_reply (Err why) found = Refused why
+
+-- the fee and the size of transactions that were picked
+abbrev pub picked_sum : Picked → Sum
+picked_sum picked = record { fee = picked.fee; size = picked.size }
+
+-- the reply of an eviction, and of a block
+abbrev pub evicted_reply : Result Picked Refusal → Reply
+evicted_reply (Ok picked) = Evicted (picked_sum picked) picked.ids
+evicted_reply (Err why) = Refused why
+
+abbrev pub block_reply : {E : Type 0} → Result Picked E → Reply
+block_reply (Ok picked) = Built (picked_sum picked) picked.ids
+block_reply (Err none) = Refused Memory

@@ -1,4 +1,5 @@
 -- What lines ask for, as commands.
+use Rattle.std.specs.Prelude.{◌≢◌, ℕ, List, []}
 use Rattle.graph_model.specs.Limits.{bounds_of}
 use Rattle.graph_model.specs.Commands.{Command}
 use Rattle.graph_model.specs.Commands as commands
@@ -33,14 +34,21 @@ reading_command (readings.Diagram level) = commands.Diagram level
 reading_command (readings.Proof level) = commands.Proof level
 reading_command (readings.Chunk id) = commands.Chunk id
 
--- what a line means that asks for this
-abbrev pub asked : Request → Meaning
-asked requests.Silence = Quiet
-asked requests.Unread = NoForm
-asked (requests.Change change) = Says (change_command change)
-asked (requests.Search search) = Says (search_command search)
-asked (requests.Count level) = Says (commands.Count level)
-asked (requests.Before a b) = Says (commands.Before a b)
-asked requests.Compare = Says commands.Compare
-asked requests.Settle = Says commands.Settle
-asked (requests.Read reading) = Says (reading_command reading)
+-- what a line means that asks for this, where it lists these names
+abbrev pub asked : Request → List ℕ → Meaning
+asked requests.Silence ids = Quiet
+asked requests.Unread ids = NoForm
+asked (requests.Change change) ids = Says (change_command change)
+asked requests.Mine ids = Says (commands.Mine ids)
+asked requests.Evict ids = Says commands.Evict
+asked (requests.Block size) ids = Says (commands.Block size)
+asked (requests.Search search) ids = Says (search_command search)
+asked (requests.Count level) ids = Says (commands.Count level)
+asked (requests.Before a b) ids = Says (commands.Before a b)
+asked requests.Compare ids = Says commands.Compare
+asked requests.Settle ids = Says commands.Settle
+asked (requests.Read reading) ids = Says (reading_command reading)
+
+-- it isn't to mine no transaction
+abbrev pub MinesSome : Meaning → Type 0
+MinesSome meaning = meaning ≢ Says (commands.Mine [])

@@ -1,11 +1,14 @@
 ghost use Rattle.std.specs.Prelude.{◌≡◌, ℕ, List, IfOk};
 ghost use Rattle.std.specs.declared.option.Option.{Option};
 ghost use Rattle.outside.specs.Transfers.{Writes};
+ghost use Rattle.graph_model.specs.Replies.{picked_sum, sum_line};
+ghost use Rattle.graph_model.specs.Words.{line_text};
 ghost use Rattle.replay.specs.Answers.{Tells, WritesAnswer};
 
 use crate::commands::Obeys;
 use crate::reading::Reading;
-use graph_model::{Place, Refusal, TxId, Verdict};
+use fee_rate::Sum;
+use graph_model::{Picked, Place, Refusal, TxId, Verdict};
 use outside::{Failed, Sink};
 use wire::{place_word, settled_words, verdict_word, write_ids, write_refusal, write_word};
 
@@ -22,7 +25,7 @@ pub enum Outcome {
 }
 
 /// The answer to a line, before it is written.
-#[derive(Clone, Copy)]
+#[derive(Drop)]
 pub(crate) enum Answer {
     Silence,
     TooLong,
@@ -37,6 +40,10 @@ pub(crate) enum Answer {
     Compared(Verdict),
     /// how it stood to main when it was closed
     Settled(Verdict),
+    /// what was dropped from the end of main
+    Evicted(Picked),
+    /// what a block of main has
+    Block(Picked),
     /// what the graph is read for as it is written
     Reads(Reading),
 }
@@ -67,9 +74,25 @@ impl Answer {
             Answer::Settled(verdict) => {
                 told(write_word(sink, settled_words(*verdict)), Outcome::Accepted)
             }
+            Answer::Evicted(picked) => {
+                told(write_picked(sink, "evicted", picked), Outcome::Accepted)
+            }
+            Answer::Block(picked) => told(write_picked(sink, "block", picked), Outcome::Accepted),
             Answer::Reads(reading) => graph.read(*reading, sink),
         }
     }
+}
+
+/// Writes a word, and what was picked: the fee, the size, the names in their order.
+fn write_picked<K: Sink>(sink: &mut K, word: &str, picked: &Picked) -> Result<(), Failed>
+    ensures { Writes (K.written sink.old) (K.written sink.new) (K.faults sink.old) (K.faults sink.new) result
+        (line_text (sum_line word.now (picked_sum picked.now) picked.now.ids)) }
+{
+    let sum = Sum {
+        fee: picked.fee,
+        size: picked.size,
+    };
+    write_ids(sink, word, Some(sum), picked.ids.as_slice())
 }
 
 /// The outcome where the text was written.

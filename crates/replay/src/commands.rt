@@ -1,8 +1,11 @@
-ghost use Rattle.std.specs.Prelude.{◌≡◌, ℕ, ◌+◌, ◌-◌, ◌^◌, ◌<◌, ◌≤◌, List, length};
+ghost use Rattle.std.specs.Prelude.{◌≡◌, ℕ, ◌+◌, ◌-◌, ◌^◌, ◌<◌, ◌≤◌, List, length, IfErr};
 ghost use Rattle.wire.specs.Readings.{meaning_of};
-ghost use Rattle.tx_graph.specs.Kept.{Kept};
+ghost use Rattle.graph_model.specs.Commands.{Block};
+ghost use Rattle.graph_model.specs.Replies.{block_reply};
+ghost use Rattle.graph_model.specs.declared.names.Refusal.TheVariants.{Memory};
+ghost use Rattle.tx_graph.specs.Kept.{Kept, MakesStep};
 ghost use Rattle.replay.specs.Answers.{AnswersMeaning, MayTell, answer_of, IsReadOf, WritesAnswer};
-ghost use Rattle.replay.specs.Requests.{asked, reading_command};
+ghost use Rattle.replay.specs.Requests.{MinesSome, asked, reading_command};
 ghost use Rattle.replay.specs.Sessions.{IsLine, Answers, HasRoom, Suits};
 
 use crate::answer::{Answer, Outcome};
@@ -10,8 +13,11 @@ use crate::reading::Reading;
 use crate::request::Request;
 use crate::session::Piece;
 use crate::writing::{write_diagram, write_order, write_part, write_proof};
-use graph_model::{IdBuf, MAX_LINE, Refusal};
+use block_builder::Builder;
+use eviction::evict;
+use graph_model::{IdBuf, MAX_LINE, Picked, Refusal};
 use outside::{Failed, Sink};
+use std::alloc::Global;
 use std::marker::Brand;
 use std::sync::ledger;
 use std::sync::ledger::Blank;
@@ -21,6 +27,7 @@ use wire::{Line, read_line};
 
 /// The answer to a line, after the graph has changed. Names that a reading finds are left in `ids`.
 pub(crate) fn answer<const W: usize>(
+    alloc: Global,
     graph: &mut TxGraph<W>,
     ids: &mut IdBuf,
     piece: Piece<'_>,
@@ -35,13 +42,18 @@ pub(crate) fn answer<const W: usize>(
     ensures room { HasRoom W ids.new }
 {
     match piece {
-        Piece::Whole(bytes) => read(graph, ids, bytes),
+        Piece::Whole(bytes) => read(alloc, graph, ids, bytes),
         Piece::TooLong => Answer::TooLong,
     }
 }
 
 /// The answer to a line of these bytes.
-fn read<const W: usize>(graph: &mut TxGraph<W>, ids: &mut IdBuf, bytes: &[u8]) -> Answer
+fn read<const W: usize>(
+    alloc: Global,
+    graph: &mut TxGraph<W>,
+    ids: &mut IdBuf,
+    bytes: &[u8],
+) -> Answer
     requires few { graph.old.levels.issued < 2 ^ 64 - 1 }
     requires room { HasRoom W ids.old }
     ensures line { MayTell graph.new result ids.new.ids (Answers graph.old graph.new bytes.now) }
@@ -53,23 +65,25 @@ fn read<const W: usize>(graph: &mut TxGraph<W>, ids: &mut IdBuf, bytes: &[u8]) -
         return Answer::TooLong;
     }
     let line = read_line(bytes, ids);
-    obey_unpaid::<Brand, TxGraph<W>>(graph, ids, line, Blank::new(1))
+    obey_unpaid::<Brand, TxGraph<W>>(alloc, graph, ids, line, Blank::new(1))
 }
 
 /// The answer to what a line says that was read before. A `mine` has its names in `ids`.
 pub(crate) fn answer_line<const W: usize>(
+    alloc: Global,
     graph: &mut TxGraph<W>,
     ids: &mut IdBuf,
     line: Line,
 ) -> Answer
     requires few { graph.old.levels.issued < 2 ^ 64 - 1 }
     requires room { HasRoom W ids.old }
+    requires mines { MinesSome (meaning_of line ids.old.ids) }
     ensures answers { MayTell graph.new result ids.new.ids
         (AnswersMeaning (meaning_of line ids.old.ids) graph.old graph.new) }
     ensures additions { graph.new.levels.issued ≤ graph.old.levels.issued + 1 }
     ensures room { HasRoom W ids.new }
 {
-    obey_unpaid::<Brand, TxGraph<W>>(graph, ids, line, Blank::new(1))
+    obey_unpaid::<Brand, TxGraph<W>>(alloc, graph, ids, line, Blank::new(1))
 }
 
 /// What obeys commands, and is read.
@@ -82,9 +96,16 @@ pub(crate) trait Obeys {
     ghost words: { ℕ };
 
     /// The answer to what a line says.
-    fn obey<L: Ledger>(&mut self, ids: &mut IdBuf, line: Line, steps: &mut Steps<L>) -> Answer
+    fn obey<L: Ledger>(
+        &mut self,
+        alloc: Global,
+        ids: &mut IdBuf,
+        line: Line,
+        steps: &mut Steps<L>,
+    ) -> Answer
         requires few { (kept self.old).levels.issued < 2 ^ 64 - 1 }
         requires room { HasRoom words ids.old }
+        requires mines { MinesSome (meaning_of line ids.old.ids) }
         ensures answers { MayTell (kept self.new) result ids.new.ids
             (AnswersMeaning (meaning_of line ids.old.ids) (kept self.old) (kept self.new)) }
         ensures additions { (kept self.new).levels.issued ≤ (kept self.old).levels.issued + 1 }
@@ -101,8 +122,14 @@ impl<const W: usize> Obeys for TxGraph<W> {
 
     ghost words = { W };
 
-    fn obey<L: Ledger>(&mut self, ids: &mut IdBuf, line: Line, steps: &mut Steps<L>) -> Answer {
-        match answer_request(self, ids, Request::from(line), steps) {
+    fn obey<L: Ledger>(
+        &mut self,
+        alloc: Global,
+        ids: &mut IdBuf,
+        line: Line,
+        steps: &mut Steps<L>,
+    ) -> Answer {
+        match answer_request(alloc, self, ids, Request::from(line), steps) {
             Ok(answer) => answer,
             Err(why) => Answer::Refused(why),
         }
@@ -120,6 +147,7 @@ impl<const W: usize> Obeys for TxGraph<W> {
 
 /// The answer to what a line says, where nobody reads the steps: their ledger is a token that keeps nothing.
 fn obey_unpaid<K: ledger::Ledger, G: Obeys>(
+    alloc: Global,
     graph: &mut G,
     ids: &mut IdBuf,
     line: Line,
@@ -130,17 +158,19 @@ fn obey_unpaid<K: ledger::Ledger, G: Obeys>(
     requires some { 0 < blank.parts }
     requires few { (G.kept graph.old).levels.issued < 2 ^ 64 - 1 }
     requires room { HasRoom G.words ids.old }
+    requires mines { MinesSome (meaning_of line ids.old.ids) }
     ensures answers { MayTell (G.kept graph.new) result ids.new.ids
         (AnswersMeaning (meaning_of line ids.old.ids) (G.kept graph.old) (G.kept graph.new)) }
     ensures additions { (G.kept graph.new).levels.issued ≤ (G.kept graph.old).levels.issued + 1 }
     ensures room { HasRoom G.words ids.new }
 {
     let mut steps = Steps::new(NoLedger::<K>::new(blank));
-    graph.obey(ids, line, &mut steps)
+    graph.obey(alloc, ids, line, &mut steps)
 }
 
 /// The answer to a request, or why it is refused.
 fn answer_request<const W: usize, L: Ledger>(
+    alloc: Global,
     graph: &mut TxGraph<W>,
     ids: &mut IdBuf,
     request: Request,
@@ -148,8 +178,9 @@ fn answer_request<const W: usize, L: Ledger>(
 ) -> Result<Answer, Refusal>
     requires few { graph.old.levels.issued < 2 ^ 64 - 1 }
     requires room { HasRoom W ids.old }
+    requires mines { MinesSome (asked request ids.old.ids) }
     ensures answers { MayTell graph.new (answer_of result) ids.new.ids
-        (AnswersMeaning (asked request) graph.old graph.new) }
+        (AnswersMeaning (asked request ids.old.ids) graph.old graph.new) }
     ensures additions { graph.new.levels.issued ≤ graph.old.levels.issued + 1 }
     ensures room { HasRoom W ids.new }
 {
@@ -160,6 +191,12 @@ fn answer_request<const W: usize, L: Ledger>(
             change.make(graph, steps)?;
             Answer::Done
         }
+        Request::Mine => {
+            graph.mine(ids.ids(), steps)?;
+            Answer::Done
+        }
+        Request::Evict => Answer::Evicted(evict(graph, steps)?),
+        Request::Block(size) => Answer::Block(fill_block(alloc, graph, size)?),
         Request::Search(search) => {
             search.find(graph, ids)?;
             Answer::Names
@@ -170,4 +207,19 @@ fn answer_request<const W: usize, L: Ledger>(
         Request::Settle => Answer::Settled(graph.settle()?),
         Request::Read(reading) => Answer::Reads(reading),
     })
+}
+
+/// The block of main of at most so many virtual bytes.
+fn fill_block<const W: usize>(
+    alloc: Global,
+    graph: &TxGraph<W>,
+    size: u64,
+) -> Result<Picked, Refusal>
+    ensures step { MakesStep graph.now graph.now (Block size) (block_reply result) }
+    ensures err { IfErr result (λ why. why ≡ Memory) }
+{
+    match Builder::new(alloc, graph).fill(size) {
+        Ok(picked) => Ok(picked),
+        Err(_) => Err(Refusal::Memory),
+    }
 }

@@ -17,6 +17,12 @@ pub(crate) enum Request {
     /// what is no command, or one that no body does yet
     Unread,
     Change(Change),
+    /// that the names which the line lists go with a block
+    Mine,
+    /// that the last part of main goes
+    Evict,
+    /// a block of main of at most so many virtual bytes
+    Block(u64),
     Search(Search),
     /// how many names a level has
     Count(Level),
@@ -55,18 +61,21 @@ impl From<Line> for Request {
     ghost use Rattle.wire.specs.Readings.{meaning_of};
     ghost use Rattle.replay.specs.Requests.{asked};
 
-    ghost from_gives = { λ line request. (ids : List ℕ) → meaning_of line ids ≡ asked request };
+    ghost from_gives = { λ line request. (ids : List ℕ) → meaning_of line ids ≡ asked request ids };
 
     fn from(line: Line) -> Request {
         match line {
             Line::Quiet => Request::Silence,
-            Line::Syntax | Line::Mine | Line::Evict | Line::Block(_) => Request::Unread,
+            Line::Syntax => Request::Unread,
             Line::Trim | Line::Unmine | Line::Dump | Line::Limits(_, true) => Request::Unread,
             Line::Limits(limits, false) => Request::Change(Change::Limits(limits)),
             Line::Add(id, fee, size) => Request::Change(Change::Add(id, fee, size)),
             Line::Dep(parent, child) => Request::Change(Change::Dep(parent, child)),
             Line::Fee(id, fee) => Request::Change(Change::Fee(id, fee)),
             Line::Remove(id) => Request::Change(Change::Remove(id)),
+            Line::Mine => Request::Mine,
+            Line::Evict => Request::Evict,
+            Line::Block(size) => Request::Block(size),
             Line::Stage => Request::Change(Change::Stage),
             Line::Commit => Request::Change(Change::Commit),
             Line::Abort => Request::Change(Change::Abort),

@@ -35,6 +35,7 @@ pub enum Piece<'a> {
 /// cluster, 1 or 2.
 #[derive(Drop)]
 pub struct Session<const W: usize> {
+    alloc: Global,
     graph: TxGraph<W>,
     // the names that a line lists, and then those that its reading finds
     ids: IdBuf,
@@ -69,6 +70,7 @@ impl<const W: usize> Session<W> {
         ensures additions { IfOk result (λ session. session.levels.issued ≡ 0) }
     {
         Ok(Session {
+            alloc,
             ids: IdBuf::new(alloc, MAX_NAMES)?,
             graph: TxGraph::new(alloc, DEFAULT_LIMITS)?,
         })
@@ -97,7 +99,7 @@ impl<const W: usize> Session<W> {
         ensures cause { CountsFaults (K.faults sink.old) (K.faults sink.new) result }
         ensures additions { self.new.levels.issued ≤ self.old.levels.issued + 1 }
     {
-        let found = answer(&mut self.graph, &mut self.ids, piece);
+        let found = answer(self.alloc, &mut self.graph, &mut self.ids, piece);
         found.tell(&self.graph, self.ids.ids(), sink)
     }
 
@@ -113,7 +115,7 @@ impl<const W: usize> Session<W> {
         ensures cause { CountsFaults (K.faults sink.old) (K.faults sink.new) result }
         ensures additions { self.new.levels.issued ≤ self.old.levels.issued + 1 }
     {
-        let found = answer_line(&mut self.graph, &mut self.ids, line);
+        let found = answer_line(self.alloc, &mut self.graph, &mut self.ids, line);
         found.tell(&self.graph, self.ids.ids(), sink)
     }
 
@@ -138,7 +140,7 @@ impl<const W: usize> Session<W> {
         ensures cause { CountsFaults (K.faults sink.old) (K.faults sink.new) result }
         ensures additions { self.new.levels.issued ≤ self.old.levels.issued + 1 }
     {
-        let found = answer(&mut self.graph, &mut self.ids, piece);
+        let found = answer(self.alloc, &mut self.graph, &mut self.ids, piece);
         replies.tell(&self.graph, &found, self.ids.ids(), sink)
     }
 }

@@ -18,7 +18,7 @@ use Rattle.graph_model.specs.declared.names.Refusal.TheVariants.{Twice, Unknown,
 use Rattle.graph_model.specs.States.{PlainState, top_of}
 use Rattle.graph_model.specs.Commands.{Mine, Evict, HasTypes}
 use Rattle.graph_model.specs.Changes.{IsLast}
-use Rattle.graph_model.specs.Replies.{Done, Evicted, Refused}
+use Rattle.graph_model.specs.Replies.{Done, Evicted, Refused, evicted_reply}
 use Rattle.graph_model.specs.Refusals.{IsFirst, IsAbsent, LacksAncestor, MineRow}
 use Rattle.graph_model.proofs.FirstLemmas.{first_in}
 use Rattle.graph_model.proofs.RowLemmas.{first_at_along}
@@ -28,7 +28,7 @@ use Rattle.cluster_store.specs.Stores.{Shown}
 use Rattle.levels.specs.Levels.{OneLevel, Levels, ChangesTop, LosesNames, HavePicks, IsBest, level_at}
 use Rattle.levels.specs.Lefts.{DropsWithin}
 use Rattle.levels.specs.Mining.{LacksListed, MineRefusalIs}
-use Rattle.tx_graph.specs.Dropped.{IsPicked, evicted_reply}
+use Rattle.tx_graph.specs.Dropped.{IsPicked}
 use Rattle.tx_graph.specs.Kept.{Kept, StandsPlainly, MakesStep}
 use Rattle.tx_graph.specs.Sound.{IsSound}
 use Rattle.tx_graph.proofs.Calls.{kept_of, topped_same}

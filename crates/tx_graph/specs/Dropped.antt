@@ -1,12 +1,10 @@
 -- Parts that are dropped, and parts with the numbers of their clusters.
-use Rattle.std.specs.Prelude.{◌≡◌, ◌↔◌, ℕ, ◌*◌, ◌≤◌, unsigned_abs, List, Contains, Result, Ok, Err}
+use Rattle.std.specs.Prelude.{◌≡◌, ◌↔◌, ℕ, ◌*◌, ◌≤◌, unsigned_abs, List, Contains}
 use Rattle.fee_rate.specs.declared.limits.TheConstants.{MAX_FEE}
 use Rattle.graphs.specs.Graphs.{Graph}
 use Rattle.graphs.specs.Certificates.{Part}
 use Rattle.graph_model.specs.declared.names.Picked.{Picked}
-use Rattle.graph_model.specs.declared.names.Refusal.{Refusal}
 use Rattle.graph_model.specs.Blocks.{IsBlock, ShareComponent}
-use Rattle.graph_model.specs.Replies.{Reply, Refused, Evicted}
 use Rattle.graph_model.specs.States.{State}
 use Rattle.cluster_store.specs.Stores.{Shown}
 use Rattle.tx_graph.specs.Kept.{Kept, StandsFor}
@@ -16,11 +14,6 @@ pub record IsPicked (part : Part) (picked : Picked) : Type 0 where
   pub fee : picked.fee ≡ part.rate.fee
   pub size : picked.size ≡ part.rate.size
   pub ids : picked.ids ≡ part.ids
-
--- the reply of an eviction, by what it answers
-abbrev pub evicted_reply : Result Picked Refusal → Reply
-evicted_reply (Ok picked) = Evicted (record { fee = picked.fee; size = picked.size }) picked.ids
-evicted_reply (Err why) = Refused why
 
 -- two parts have one number exactly where they are of one component
 abbrev pub AreOfClusters : Graph → List Shown → Type 0

@@ -4,11 +4,11 @@ ghost use Rattle.graphs.specs.Certificates.{Part};
 ghost use Rattle.graph_model.specs.declared.names.Refusal.TheVariants.{Memory, Empty};
 ghost use Rattle.graph_model.specs.Changes.{IsLast};
 ghost use Rattle.graph_model.specs.Commands.{Mine, Evict};
-ghost use Rattle.graph_model.specs.Replies.{change_reply};
+ghost use Rattle.graph_model.specs.Replies.{change_reply, evicted_reply};
 ghost use Rattle.levels.specs.Lefts.{DropsWithin};
 ghost use Rattle.levels.specs.Levels.{IsBest};
 ghost use Rattle.levels.specs.Stays.{AllStay};
-ghost use Rattle.tx_graph.specs.Dropped.{evicted_reply, IsPicked};
+ghost use Rattle.tx_graph.specs.Dropped.{IsPicked};
 ghost use Rattle.tx_graph.specs.Kept.{MakesStep};
 
 use crate::graph::TxGraph;

@@ -18,3 +18,9 @@ compare-requires g c = assumption
 
 pub settle-requires : goal.settle-requires
 settle-requires g c = assumption
+
+pub evict-requires : goal.evict-requires
+evict-requires g c = assumption
+
+pub fill_block-requires : goal.fill_block-requires
+fill_block-requires g c = assumption

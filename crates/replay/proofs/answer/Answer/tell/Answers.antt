@@ -1,5 +1,5 @@
 use Rattle.std.proofs.Common.{refl}
-use Rattle.graph_model.specs.Replies.{Refused, Done, Ids, Number, Stands, Compared, Settled}
+use Rattle.graph_model.specs.Replies.{Refused, Done, Ids, Number, Stands, Compared, Settled, Evicted, Built, picked_sum}
 use Rattle.graph_model.specs.Runs as runs
 use Rattle.replay.proofs.WritingLemmas.{one_line}
 use Rattle.replay.proofs.answer.Answer.tell.Goals as goal
@@ -61,4 +61,20 @@ returns-in-Settled g c = (
   rw c.in-Settled.is refl,
   c.told-in-Settled.ensures.writes _ _ _ _ _ (one_line _ _ _ _ _ _ (rw c.settled_words.ensures at c.write_word-in-Settled.ensures)),
   c.told-in-Settled.ensures.told,
+)
+
+pub returns-in-Evicted : goal.returns-in-Evicted
+returns-in-Evicted g c = (
+  runs.Replies (Evicted (picked_sum c.in-Evicted.picked) c.in-Evicted.picked.ids),
+  rw c.in-Evicted.is refl,
+  c.told-in-Evicted.ensures.writes _ _ _ _ _ (one_line _ _ _ _ _ _ c.write_picked.ensures),
+  c.told-in-Evicted.ensures.told,
+)
+
+pub returns-in-Block : goal.returns-in-Block
+returns-in-Block g c = (
+  runs.Replies (Built (picked_sum c.in-Block.picked) c.in-Block.picked.ids),
+  rw c.in-Block.is refl,
+  c.told-in-Block.ensures.writes _ _ _ _ _ (one_line _ _ _ _ _ _ c.write_picked-in-Block.ensures),
+  c.told-in-Block.ensures.told,
 )

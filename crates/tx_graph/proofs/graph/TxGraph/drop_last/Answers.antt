@@ -7,13 +7,12 @@ use Rattle.graphs.specs.Certificates.{Part}
 use Rattle.graph_model.specs.declared.names.Refusal.TheVariants.{Memory, Staging}
 use Rattle.graph_model.specs.Changes.{IsLast}
 use Rattle.graph_model.specs.Commands.{Evict}
-use Rattle.graph_model.specs.Replies.{Reply, Evicted, Refused}
+use Rattle.graph_model.specs.Replies.{Reply, Evicted, Refused, evicted_reply}
 use Rattle.graph_model.proofs.PickReplies.{last_same}
 use Rattle.cluster.specs.Steps.{most_steps_of}
 use Rattle.levels.specs.Levels.{OneLevel, Levels, ChangesTop, LosesNames, level_at}
 use Rattle.levels.specs.Lefts.{DropsWithin}
 use Rattle.levels.specs.Stays.{AllStay}
-use Rattle.tx_graph.specs.Dropped.{evicted_reply}
 use Rattle.tx_graph.specs.Kept.{Kept, MakesStep}
 use Rattle.tx_graph.proofs.Calls.{kept_of, same_levels, from_view, both_views, sound_after, sound_still, when_ok, when_err, error_is}
 use Rattle.tx_graph.proofs.Mined.{picked_told, evict_staged, evict_row, evict_step, last_in, last_refused, top_main, dropped_last}

@@ -1,0 +1,4 @@
+mod Calls
+mod Drafting
+mod Marking
+mod Passing
