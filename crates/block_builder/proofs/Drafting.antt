@@ -1,6 +1,6 @@
 -- What a draft has is what is taken.
 use Rattle.std.proofs.Common.{◌≡◌, ◌↔◌, ℕ, ℤ, pos, ◌+◌, ◌-◌, ◌*◌, ◌+ℤ◌, ◌<◌, ◌≤◌, ◌⊎◌, inl, inr, unsigned_abs, Bool, true, false, true≢false, List, [], ◌∷◌, ◌++◌, map, flat_map, Contains, refl, sym, ap, ◌∙◌, subst, arith}
-use Rattle.std.specs.Prelude.{sum_by, Result, Ok, Err, OnOk}
+use Rattle.std.specs.Prelude.{sum_by, Result, Ok, Err, OnOk, IsErr}
 use Rattle.std.proofs.lemmas.Int.{ints}
 use Rattle.std.proofs.lemmas.List.{map-append, append-nil, append_assoc}
 use Rattle.std.proofs.lemmas.List.Elements.{Contains-append_right}
@@ -15,11 +15,13 @@ use Rattle.graphs.specs.Certificates.{Part}
 use Rattle.graphs.specs.Rates.{sum_of}
 use Rattle.graph_model.specs.Answers.{order_of}
 use Rattle.graph_model.specs.Commands.{Block}
-use Rattle.graph_model.specs.Replies.{Built}
+use Rattle.graph_model.specs.Replies.{Built, Refused, block_reply}
 use Rattle.graph_model.specs.States.{State}
 use Rattle.graph_model.specs.declared.names.Picked.{Picked}
+use Rattle.graph_model.specs.declared.names.Refusal.TheVariants.{Memory}
 use Rattle.cluster_store.specs.Stores.{Shown}
 use Rattle.diagram.specs.Parts.{sums_of}
+use Rattle.outside.specs.declared.errors.NoMemory.{NoMemory}
 use Rattle.tx_graph.specs.Dropped.{AreOfClusters, ArePaidBySize, IsBlockOf}
 use Rattle.tx_graph.specs.Kept.{Kept, StandsFor, MakesStep}
 use Rattle.block_builder.specs.Building.{is_marked, AddsMark, TellsLeftOut}
@@ -171,6 +173,12 @@ pub steps_filled : (kept : Kept) (limit : ℕ) (picked : Picked) → (taken : Li
     → MakesStep kept kept (Block limit) (Built (record { fee = picked.fee; size = picked.size }) picked.ids)
 steps_filled kept limit picked (taken, block, are) steps =
     subst (λ reply. MakesStep kept kept (Block limit) reply) (reply_told taken picked are) (steps limit taken block)
+
+-- and so is one for which there is no memory
+pub steps_unfilled : (kept : Kept) (limit : ℕ) (r : Result Picked NoMemory) → IsErr r → ((size : ℕ) → MakesStep kept kept (Block size) (Refused Memory))
+    → MakesStep kept kept (Block limit) (block_reply r)
+steps_unfilled kept limit (Ok picked) failed steps = absurd (true≢false (sym failed))
+steps_unfilled kept limit (Err why) failed steps = steps limit
 
 -- a filled draft leaves at most the limit
 pub left_within : (draft : Draft) (shown : List Shown) → IsFilled draft shown → draft.left ≤ draft.limit

@@ -1,5 +1,5 @@
 -- What a step past a part does.
-use Rattle.std.proofs.Common.{◌≡◌, ◌≢◌, ◌↔◌, ℕ, ◌⊎◌, inl, inr, Bool, true, false, true≢false, List, [], ◌∷◌, ◌++◌, map, Contains, Option, Some, None, refl, sym, ap, ◌∙◌, subst}
+use Rattle.std.proofs.Common.{◌≡◌, ◌≢◌, ◌↔◌, ℕ, ◌⊎◌, inl, inr, Bool, true, false, true≢false, List, [], ◌∷◌, ◌++◌, map, Contains, Option, Some, None, refl, sym, ap, ◌∙◌, subst, ◌<◌, length, length-append, arith}
 use Rattle.std.specs.Prelude.{option_map, option_to_list}
 use Rattle.std.proofs.lemmas.List.{map-append, append_assoc}
 use Rattle.std.proofs.lemmas.List.Elements.{Contains-append_left, Contains-append_right}
@@ -103,8 +103,14 @@ module _ (mark : Bool) (old new : Building) (over : PassesOver new.marks old.ahe
       after = after;
     }
 
+  fewer : length new.ahead < length old.ahead
+  fewer =
+      let whole = ap length over.cut in
+      let parts = length-append over.passed new.ahead in
+      omega (arith, whole, parts)
+
   pub steps_past : StepsPast mark old new
-  steps_past = (same, goes_past)
+  steps_past = (same, fewer, goes_past)
 
 -- ---- what is offered
 

@@ -1,6 +1,7 @@
 -- What a block builder shows, what it offers, and what a step past a part does. After `BlockBuilder` in Bitcoin Core's `txgraph.h`.
-use Rattle.std.specs.Prelude.{◌≡◌, ◌↔◌, ◌||◌, ℕ, Bool, true, false, nat_eq, Option, Some, None, List, [], ◌∷◌, ◌++◌, map, get_or, Contains, option_to_list, refl}
+use Rattle.std.specs.Prelude.{◌≡◌, ◌↔◌, ◌||◌, ℕ, Bool, true, false, nat_eq, Option, Some, None, List, [], ◌∷◌, ◌++◌, map, get_or, Contains, option_to_list, refl, length, ◌<◌}
 use Rattle.std.specs.Coded.{Coded, code_by, coded×, coded_bool, coded_list}
+use Rattle.std.specs.Mem.{FitsInMemory}
 use Rattle.graphs.specs.Certificates.{Part}
 use Rattle.graphs.specs.Graphs.{Graph}
 use Rattle.graph_model.specs.Blocks.{ShareComponent}
@@ -8,6 +9,8 @@ use Rattle.graph_model.specs.States.{State}
 use Rattle.cluster_store.specs.Stores.{Shown, shown_code}
 use Rattle.tx_graph.specs.Dropped.{AreOfClusters}
 use Rattle.tx_graph.specs.Kept.{Kept, StandsFor, kept_code}
+use Rattle.tx_graph.specs.contracts.graph.TxGraph as graphs
+use denote.Param.{param, number}
 
 -- A builder: its graph, the parts that it hasn't gone past, each with the number of its cluster, and for each number whether a part of the
 -- cluster was left out.
@@ -20,6 +23,10 @@ abbrev pub building_code : Coded Building
 building_code =
     code_by (Kept × (List Shown × List Bool)) (coded× kept_code (coded× (coded_list shown_code) (coded_list coded_bool)))
     (λ b. (b.graph, (b.ahead, b.marks))) (λ p. record { graph = p.0; ahead = p.1.0; marks = p.1.1 }) (λ _. refl)
+
+-- A graph whose sets of names have so many words fits in memory. A builder keeps that of its graph, which it only borrows.
+abbrev pub GraphFits : ℕ → Type 0
+GraphFits words = FitsInMemory (graphs.the_row (param 0 (number words)))
 
 -- ---- numbers that are marked
 
@@ -84,6 +91,8 @@ pub record GoesPast (past : List (Part × Bool)) (mark : Bool) (old new : Buildi
   pub skipped : (state : State) → StandsFor old.graph state → (p : Part) → Contains passed p → IsOfLeftOut state.plain.main (past ++ (part, mark) ∷ []) p
   pub after : HasPassed new ((past ++ (part, mark) ∷ []) ++ map (λ p. (p, false)) passed)
 
--- whatever it has gone past
+-- whatever it has gone past; and fewer parts are ahead
 abbrev pub StepsPast : Bool → Building → Building → Type 0
-StepsPast mark old new = (new.graph ≡ old.graph) × ((past : List (Part × Bool)) → HasPassed old past → GoesPast past mark old new)
+StepsPast mark old new =
+    (new.graph ≡ old.graph) × (length new.ahead < length old.ahead)
+    × ((past : List (Part × Bool)) → HasPassed old past → GoesPast past mark old new)

@@ -39,7 +39,7 @@ pub struct BlockBuilder<'g, T: Parts, const W: usize> {
 }
 
 impl<'g, T: Parts, const W: usize> Model for BlockBuilder<'g, T, W> {
-    ghost use Rattle.block_builder.specs.Building.{Building, building_code};
+    ghost use Rattle.block_builder.specs.Building.{Building, building_code, GraphFits};
 
     ghost Value = { Building };
 
@@ -50,6 +50,8 @@ impl<'g, T: Parts, const W: usize> Model for BlockBuilder<'g, T, W> {
       ahead = a.ahead;
       marks = a.marks.items;
     } };
+
+    ghost invariant = { λ a. GraphFits W };
 }
 
 impl<'g, const W: usize> BlockBuilder<'g, Stored<W>, W> {

@@ -349,7 +349,7 @@ fn agree_on_run<const W: usize>(
 ) -> Result<(), Fail> {
     let mut state = seed;
     agree(rt, alloc, session, lists, limits)?;
-    for at in 1..3001 {
+    for at in 1..4001 {
         let line = line_at(alloc, &mut state, at)?;
         match line.as_str() {
             "settle" => settle(rt, alloc, session, lists)?,

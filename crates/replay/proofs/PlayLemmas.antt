@@ -11,6 +11,7 @@ use Rattle.tx_graph.specs.Kept.{Kept, StandsFor, MakesStep}
 use Rattle.replay.specs.declared.session.TheConstants.{MOST_NAMES}
 use Rattle.replay.specs.declared.tally.Tally.{Tally}
 use Rattle.replay.specs.Generations.{IsTally, IsPlayed}
+use Rattle.replay.specs.Requests.{MinesSome}
 
 -- a line that lists no names says what it says, whatever names stand beside it
 pub meaning_alone : (line : Line) (ids : List ℕ) → line ≢ lines.Mine → meaning_of line ids ≡ meaning_of line []
@@ -42,6 +43,37 @@ meaning_alone (lines.Before a b) ids other = refl
 meaning_alone (lines.Block size) ids other = refl
 meaning_alone (lines.Count level) ids other = refl
 meaning_alone lines.Dump ids other = refl
+
+-- and isn't to mine no transaction
+pub none_mined : (line : Line) (ids : List ℕ) → line ≢ lines.Mine → MinesSome (meaning_of line ids)
+none_mined lines.Mine ids other = absurd (other refl)
+none_mined (lines.Limits set true) ids other = λ e. cc
+none_mined (lines.Limits set false) ids other = λ e. cc
+none_mined lines.Quiet ids other = λ e. cc
+none_mined lines.Syntax ids other = λ e. cc
+none_mined (lines.Add id fee size) ids other = λ e. cc
+none_mined (lines.Dep parent child) ids other = λ e. cc
+none_mined (lines.Fee id fee) ids other = λ e. cc
+none_mined (lines.Remove id) ids other = λ e. cc
+none_mined lines.Evict ids other = λ e. cc
+none_mined lines.Stage ids other = λ e. cc
+none_mined lines.Commit ids other = λ e. cc
+none_mined lines.Abort ids other = λ e. cc
+none_mined lines.Settle ids other = λ e. cc
+none_mined lines.Trim ids other = λ e. cc
+none_mined lines.Unmine ids other = λ e. cc
+none_mined lines.Compare ids other = λ e. cc
+none_mined (lines.Order level) ids other = λ e. cc
+none_mined (lines.Diagram level) ids other = λ e. cc
+none_mined (lines.Proof level) ids other = λ e. cc
+none_mined (lines.Cluster id level) ids other = λ e. cc
+none_mined (lines.Ancestors id level) ids other = λ e. cc
+none_mined (lines.Descendants id level) ids other = λ e. cc
+none_mined (lines.Chunk id) ids other = λ e. cc
+none_mined (lines.Before a b) ids other = λ e. cc
+none_mined (lines.Block size) ids other = λ e. cc
+none_mined (lines.Count level) ids other = λ e. cc
+none_mined lines.Dump ids other = λ e. cc
 
 -- So far k commands of the run were answered, with this tally, and the generator is in state x.
 pub record Playing (seed count : ℕ) (kept : Kept) (tally : Tally) (x k : ℕ) : Type 0 where

@@ -4,6 +4,7 @@ use Rattle.graph_model.specs.Lines.{Meaning, Quiet, Says, NoForm, Means, max_lin
 use Rattle.graph_model.specs.Runs.{Answer}
 use Rattle.tx_graph.specs.Kept.{Kept, StandsFor}
 use Rattle.replay.specs.Answers.{AnswersMeaning}
+use Rattle.replay.specs.Requests.{MinesSome}
 use Rattle.replay.specs.Sessions.{Answers, Suits}
 
 -- what a line means is answered from every state that the graph stood for
@@ -22,3 +23,7 @@ pub meaning_suits : (old new : Kept) (line : List ℕ) (meaning : Meaning) (answ
 meaning_suits old new line Quiet answer short means (is, same) = rw is (short, means)
 meaning_suits old new line NoForm answer short means (is, same) = rw is (short, means)
 meaning_suits old new line (Says command) answer short means (reply, steps, is) = rw is (short, command, means)
+
+-- a line that spells `mine` lists some transaction
+pub some_mined : (line : List ℕ) (meaning : Meaning) → Means line meaning → MinesSome meaning
+some_mined line meaning means is = (subst (Means line) is means).1.1.0 refl

@@ -1,5 +1,5 @@
 use Rattle.std.proofs.Common.{ℕ, ◌*◌, ◌≤◌, refl, sym, subst, arith}
-use Rattle.replay.proofs.SessionLemmas.{meaning_answers, meaning_suits}
+use Rattle.replay.proofs.SessionLemmas.{meaning_answers, meaning_suits, some_mined}
 use Rattle.replay.proofs.commands.read.Goals as goal
 
 pub returns-then-bytes-gt-MAX_LINE-clause-line : goal.returns-then-bytes-gt-MAX_LINE-clause-line
@@ -22,6 +22,7 @@ obey_unpaid-requires g c = record {
   some = omega (arith, c.new.ensures);
   few = c.requires.few;
   room = subst (λ (n : ℕ). (32766 ≤ n) × (64 * g.row.W ≤ n)) (sym c.read_line-line.ensures.room) c.requires.room;
+  mines = some_mined c.args.bytes.now _ c.read_line-line.ensures.meaning;
 }
 
 pub returns-then-bytes-gt-MAX_LINE-clause-suits : goal.returns-then-bytes-gt-MAX_LINE-clause-suits
