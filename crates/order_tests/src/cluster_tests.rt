@@ -19,7 +19,7 @@ use step_count::{Counted, Ledger, Steps};
 const MUCH: u128 = 1_000_000_000_000_000_000_000_000_000_000;
 
 // Whether a name is of a cluster.
-fn has<const W: usize>(cluster: &Cluster<W>, id: TxId) -> bool
+pub(crate) fn has<const W: usize>(cluster: &Cluster<W>, id: TxId) -> bool
     requires { W ≤ 2 }
     ensures { (result ≡ true) ↔ Contains cluster.now.names id }
 {
@@ -27,7 +27,12 @@ fn has<const W: usize>(cluster: &Cluster<W>, id: TxId) -> bool
 }
 
 // Whether the one name is an ancestor of the other, and not it.
-fn is_above<const W: usize>(rt: &impl Abort, cluster: &Cluster<W>, a: TxId, b: TxId) -> bool
+pub(crate) fn is_above<const W: usize>(
+    rt: &impl Abort,
+    cluster: &Cluster<W>,
+    a: TxId,
+    b: TxId,
+) -> bool
     requires { W ≤ 2 }
 {
     assert!(rt; has(cluster, a));
@@ -204,7 +209,7 @@ fn grown<L: Ledger, const W: usize>(
 }
 
 // The cluster with one more dependency.
-fn linked<L: Ledger>(
+pub(crate) fn linked<L: Ledger>(
     rt: &impl Abort,
     room: &mut Room<2>,
     steps: &mut Steps<L>,
@@ -219,7 +224,7 @@ fn linked<L: Ledger>(
 }
 
 // The cluster with another fee of a name.
-fn paying<L: Ledger>(
+pub(crate) fn paying<L: Ledger>(
     rt: &impl Abort,
     room: &mut Room<2>,
     steps: &mut Steps<L>,
@@ -246,7 +251,7 @@ fn rest_of<L: Ledger>(
 }
 
 // The clusters without a name.
-fn left<L: Ledger>(
+pub(crate) fn left<L: Ledger>(
     rt: &impl Abort,
     room: &mut Room<2>,
     steps: &mut Steps<L>,

@@ -14,6 +14,8 @@ mod cluster_tests;
 #[cfg(test)]
 mod dep_graph_tests;
 #[cfg(test)]
+mod drawn_tests;
+#[cfg(test)]
 mod levels_tests;
 #[cfg(test)]
 mod linearize_tests;

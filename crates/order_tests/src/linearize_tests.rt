@@ -14,15 +14,15 @@ use step_count::{Counted, Ledger, Steps};
 
 /// The room of the solver and of the order.
 #[derive(Drop)]
-struct Room<const W: usize> {
-    alloc: Global,
-    scratch: Scratch<W>,
-    out: Linear<W>,
+pub(crate) struct Room<const W: usize> {
+    pub(crate) alloc: Global,
+    pub(crate) scratch: Scratch<W>,
+    pub(crate) out: Linear<W>,
 }
 
 // Leaves an optimal order of a graph. This and the next function have no clause, since callers would pay for it in their
 // proofs.
-fn ordered<L: Ledger, const W: usize>(
+pub(crate) fn ordered<L: Ledger, const W: usize>(
     rt: &impl Abort,
     room: &mut Room<W>,
     steps: &mut Steps<L>,
