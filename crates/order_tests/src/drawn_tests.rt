@@ -4,9 +4,8 @@
 //! No part of either order can be cut further. Then they are equally many, and where parts of one rate are joined, they are the
 //! same.
 
-ghost use Rattle.std.specs.Prelude.{◌≡◌, true};
+ghost use Rattle.std.specs.Prelude.{◌≡◌, ℕ, true, Contains};
 ghost use Rattle.cluster.specs.Changes.{AreAcross};
-ghost use Rattle.cluster.specs.Clusters.{AreApart};
 
 use crate::cluster_tests::{has, is_above, left, linked, paying};
 use crate::linearize_tests::{Room as Solver, ordered};
@@ -28,7 +27,7 @@ use step_count::{Ledger, NoLedger, Steps};
 const MOST_NAMES: usize = 14;
 
 // How many changes a run makes.
-const CHANGES: u64 = 40;
+const CHANGES: u64 = 1300;
 
 // What a run begins to draw from, and how far a name is from the one before. The names of the second and the last run often
 // share a slot.
@@ -67,12 +66,12 @@ fn drawn_name(rt: &impl Abort, cluster: &Cluster<2>, state: &mut usize) -> TxId 
 
 // ---- changes
 
-// Whether two clusters have no name in common.
-fn are_apart(one: &Cluster<2>, other: &Cluster<2>) -> bool
-    ensures { result ≡ true → AreApart one.now other.now }
+// Whether a cluster has none of some names.
+fn has_none_of(cluster: &Cluster<2>, ids: &[TxId]) -> bool
+    ensures { result ≡ true → (id : ℕ) → Contains ids.now id → Contains cluster.now.names id → ⊥ }
 {
-    for at in 0..other.names().len() {
-        if has(one, other.names()[at]) {
+    for at in 0..ids.len() {
+        if has(cluster, ids[at]) {
             return false;
         }
     }
@@ -100,7 +99,7 @@ fn joined<L: Ledger>(
 ) -> Result<Cluster<2>, Fail> {
     assert!(rt; one.names().len() <= 64);
     assert!(rt; other.names().len() <= 64);
-    assert!(rt; are_apart(one, other));
+    assert!(rt; has_none_of(one, other.names()));
     assert!(rt; are_across(one, other, pair.0, pair.1));
     Ok(one.joined(room.alloc, other, pair.0, pair.1, &mut room.work, steps)?)
 }
