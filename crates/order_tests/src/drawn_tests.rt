@@ -4,7 +4,7 @@
 //! No part of either order can be cut further. Then they are equally many, and where parts of one rate are joined, they are the
 //! same.
 
-ghost use Rattle.std.specs.Prelude.{◌≡◌, ℕ, true, Contains};
+ghost use Rattle.std.specs.Prelude.{◌≡◌, ◌<◌, ℕ, true, Contains};
 ghost use Rattle.cluster.specs.Changes.{AreAcross};
 
 use crate::cluster_tests::{has, is_above, left, linked, paying};
