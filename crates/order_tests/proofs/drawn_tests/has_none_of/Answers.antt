@@ -1,5 +1,5 @@
-use Rattle.std.proofs.Common.{ℕ, ◌∷◌, [], List, take, slice_index, Contains, inl, inr, sym, subst}
-use Rattle.std.proofs.lemmas.List.{take_more}
+use Rattle.std.proofs.Common.{arith, ℕ, ◌∷◌, [], List, take, slice_index, Contains, inl, inr, sym, subst}
+use Rattle.std.proofs.lemmas.List.{take_all, take_more}
 use Rattle.std.proofs.lemmas.List.Elements.{Contains-append_cases}
 use Rattle.lists.proofs.Cases.{clash}
 use Rattle.lists.proofs.Entries.{Contains-one}
@@ -16,3 +16,10 @@ loop-at-preserved c = λ id here there.
           let same = sym (Contains-one (slice_index ids at) id last) in
           clash _ (c.has.ensures.1 (subst (λ (x : ℕ). Contains c.args.cluster.now.names x) same there)) c.if-has.false
     ])
+
+pub returns : goal.returns
+returns c = λ _ id here there.
+    (let ids : List ℕ = c.args.ids.now in
+    let end = c.loop-at-test.false in
+    let all = take_all c.loop-at.at ids (omega (arith, end)) in
+    c.loop-at.invariant id (subst (λ (xs : List ℕ). Contains xs id) (sym all) here) there)
