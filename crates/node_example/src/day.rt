@@ -10,9 +10,6 @@ use std::sync::ledger::Blank;
 use step_count::{Counted, Ledger, Steps};
 use tx_graph::TxGraph;
 
-/// The size of a block, in virtual bytes.
-const BLOCK: u64 = 1_000;
-
 /// What the calls of a day answered.
 #[derive(Drop)]
 pub struct Day {
@@ -26,36 +23,55 @@ pub struct Day {
     pub evicted: Picked,
     /// how many transactions are left
     pub left: usize,
-    /// how many steps the solver took
-    pub steps: u64,
 }
 
-/// A day of a mempool whose clusters have at most 64 transactions.
-pub fn live_through<K: ledger::Ledger>(alloc: Global, blank: Blank) -> Result<Day, Refusal>
+/// A day of a mempool whose clusters have at most 64 transactions, and how many steps the solver took.
+pub fn live_through<K: ledger::Ledger>(alloc: Global, blank: Blank) -> (Result<Day, Refusal>, u64)
     requires name { blank.name ≡ K.name }
     requires parts { blank.parts ≡ K.parts }
     requires some { 0 < blank.parts }
 {
     let mut steps = Steps::new(Counted::<K>::new(blank));
-    let Ok(mut graph) = TxGraph::<1>::new(alloc, DEFAULT_LIMITS) else {
-        return Err(Refusal::Memory);
+    let day = match TxGraph::<1>::new(alloc, DEFAULT_LIMITS) {
+        Ok(graph) => spend(alloc, graph, &mut steps),
+        Err(_) => Err(Refusal::Memory),
     };
-    receive(&mut graph, &mut steps)?;
-    let verdict = replace(&mut graph, &mut steps)?;
-    let Ok(by_hand) = fill_by_hand(alloc, &graph) else {
-        return Err(Refusal::Memory);
+    (day, steps.ledger().shown())
+}
+
+/// A day of a graph, which is let go at its end.
+fn spend<L: Ledger>(
+    alloc: Global,
+    mut graph: TxGraph<1>,
+    steps: &mut Steps<L>,
+) -> Result<Day, Refusal>
+    requires { graph.levels.issued ≡ 0 }
+{
+    let day = live(alloc, &mut graph, steps);
+    drop(graph);
+    day
+}
+
+fn live<L: Ledger>(
+    alloc: Global,
+    graph: &mut TxGraph<1>,
+    steps: &mut Steps<L>,
+) -> Result<Day, Refusal>
+    requires { graph.old.levels.issued ≡ 0 }
+{
+    receive(graph, steps)?;
+    let verdict = replace(graph, steps)?;
+    let (by_hand, block) = match fill(alloc, graph) {
+        Ok(blocks) => blocks,
+        Err(_) => return Err(Refusal::Memory),
     };
-    let Ok(block) = Builder::new(alloc, &graph).fill(BLOCK) else {
-        return Err(Refusal::Memory);
-    };
-    let evicted = evict(&mut graph, &mut steps)?;
+    let evicted = evict(graph, steps)?;
     Ok(Day {
         verdict,
         by_hand,
         block,
         evicted,
         left: graph.count(Level::Main),
-        steps: steps.ledger().shown(),
     })
 }
 
@@ -81,10 +97,17 @@ fn replace<L: Ledger>(graph: &mut TxGraph<1>, steps: &mut Steps<L>) -> Result<Ve
     graph.settle()
 }
 
-/// A block as a miner fills it who looks at each chunk: what fits is included.
+/// A block that is filled chunk by chunk, and the same by one call.
+fn fill(alloc: Global, graph: &TxGraph<1>) -> Result<(Vec<TxId>, Picked), NoMemory> {
+    let by_hand = fill_by_hand(alloc, graph)?;
+    let block = Builder::new(alloc, graph).fill(1_000)?;
+    Ok((by_hand, block))
+}
+
+/// A block as a miner fills it who looks at each chunk: what fits into 1,000 virtual bytes is included.
 fn fill_by_hand(alloc: Global, graph: &TxGraph<1>) -> Result<Vec<TxId>, NoMemory> {
     let mut ids = Vec::new(alloc);
-    let mut left = BLOCK;
+    let mut left = 1_000;
     let mut builder = Builder::new(alloc, graph);
     while let Some(chunk) = builder.current() {
         if chunk.rate.size > left {

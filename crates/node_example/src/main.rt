@@ -12,10 +12,12 @@ use std::marker::Brand;
 use std::sync::ledger::Blank;
 
 fn main(rt: HostRuntime) -> io::Result<()> {
-    match live_through::<Brand>(rt.alloc(), Blank::new(1)) {
-        Ok(day) => tell(&rt, &day),
-        Err(why) => println!(rt; "refused {}", why.word()),
+    let (day, steps) = live_through::<Brand>(rt.alloc(), Blank::new(1));
+    match day {
+        Ok(day) => tell(&rt, &day)?,
+        Err(why) => println!(rt; "refused {}", why.word())?,
     }
+    println!(rt; "steps of the solver: {}", steps)
 }
 
 fn tell(rt: &HostRuntime, day: &Day) -> io::Result<()> {
@@ -33,6 +35,5 @@ fn tell(rt: &HostRuntime, day: &Day) -> io::Result<()> {
         day.evicted.fee,
         day.evicted.size
     )?;
-    println!(rt; "left: {} transactions", day.left)?;
-    println!(rt; "steps of the solver: {}", day.steps)
+    println!(rt; "left: {} transactions", day.left)
 }

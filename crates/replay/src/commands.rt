@@ -1,7 +1,7 @@
-ghost use Rattle.std.specs.Prelude.{◌≡◌, ℕ, ◌+◌, ◌-◌, ◌^◌, ◌<◌, ◌≤◌, List, length, IfErr};
+ghost use Rattle.std.specs.Prelude.{◌≡◌, ◌≢◌, [], ℕ, ◌+◌, ◌-◌, ◌^◌, ◌<◌, ◌≤◌, List, length, IfErr};
 ghost use Rattle.wire.specs.Readings.{meaning_of};
-ghost use Rattle.graph_model.specs.Commands.{Block};
-ghost use Rattle.graph_model.specs.Replies.{block_reply};
+ghost use Rattle.graph_model.specs.Commands.{Block, Mine};
+ghost use Rattle.graph_model.specs.Replies.{block_reply, change_reply};
 ghost use Rattle.graph_model.specs.declared.names.Refusal.TheVariants.{Memory};
 ghost use Rattle.tx_graph.specs.Kept.{Kept, MakesStep};
 ghost use Rattle.replay.specs.Answers.{AnswersMeaning, MayTell, answer_of, IsReadOf, WritesAnswer};
@@ -184,29 +184,42 @@ fn answer_request<const W: usize, L: Ledger>(
     ensures additions { graph.new.levels.issued ≤ graph.old.levels.issued + 1 }
     ensures room { HasRoom W ids.new }
 {
-    Ok(match request {
-        Request::Silence => Answer::Silence,
-        Request::Unread => Answer::Unread,
+    match request {
+        Request::Silence => Ok(Answer::Silence),
+        Request::Unread => Ok(Answer::Unread),
         Request::Change(change) => {
             change.make(graph, steps)?;
-            Answer::Done
+            Ok(Answer::Done)
         }
         Request::Mine => {
-            graph.mine(ids.ids(), steps)?;
-            Answer::Done
+            mine_listed(graph, ids, steps)?;
+            Ok(Answer::Done)
         }
-        Request::Evict => Answer::Evicted(evict(graph, steps)?),
-        Request::Block(size) => Answer::Block(fill_block(alloc, graph, size)?),
+        Request::Evict => Ok(Answer::Evicted(evict(graph, steps)?)),
+        Request::Block(size) => Ok(Answer::Block(fill_block(alloc, graph, size)?)),
         Request::Search(search) => {
             search.find(graph, ids)?;
-            Answer::Names
+            Ok(Answer::Names)
         }
-        Request::Count(level) => Answer::Number(graph.count(level) as u64),
-        Request::Before(a, b) => Answer::Stands(graph.before(a, b)?),
-        Request::Compare => Answer::Compared(graph.compare()?),
-        Request::Settle => Answer::Settled(graph.settle()?),
-        Request::Read(reading) => Answer::Reads(reading),
-    })
+        Request::Count(level) => Ok(Answer::Number(graph.count(level) as u64)),
+        Request::Before(a, b) => Ok(Answer::Stands(graph.before(a, b)?)),
+        Request::Compare => Ok(Answer::Compared(graph.compare()?)),
+        Request::Settle => Ok(Answer::Settled(graph.settle()?)),
+        Request::Read(reading) => Ok(Answer::Reads(reading)),
+    }
+}
+
+/// Takes the names that a line lists out of main.
+fn mine_listed<const W: usize, L: Ledger>(
+    graph: &mut TxGraph<W>,
+    ids: &IdBuf,
+    steps: &mut Steps<L>,
+) -> Result<(), Refusal>
+    requires { ids.now.ids ≢ [] }
+    ensures step { MakesStep graph.old graph.new (Mine ids.now.ids) (change_reply result) }
+    ensures additions { graph.new.levels.issued ≡ graph.old.levels.issued }
+{
+    graph.mine(ids.ids(), steps)
 }
 
 /// The block of main of at most so many virtual bytes.

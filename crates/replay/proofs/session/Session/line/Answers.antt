@@ -25,7 +25,7 @@ returns-clause-line g c =
 pub answer_line-found-requires : goal.answer_line-found-requires
 answer_line-found-requires g c =
     let few = subst (λ (k : Kept). k.levels.issued < 18446744073709551615) (sym c.self.view_is) c.requires.few in
-    (graph_in_session g.row.W assumption, (few, c.self.invariant, none_mined c.args.line c.self.inside.ids.ids c.requires.not_mine))
+    (graph_in_session g.row.W assumption, (few, (c.self.invariant, none_mined c.args.line c.self.inside.ids.ids c.requires.not_mine)))
 
 pub returns-clause-cause : goal.returns-clause-cause
 returns-clause-cause g c = c.tell.ensures.2.cause
