@@ -1,14 +1,14 @@
-ghost use Rattle.std.specs.Prelude.{◌≡◌, pos, ◌*ℤ◌, max};
+ghost use Rattle.std.specs.Prelude.{◌≡◌, max};
 ghost use Rattle.std.specs.Ordering.{as_partial_cmp};
 ghost use Rattle.std.specs.Cmp.{partial_order_from_agreeing_total};
 ghost use Rattle.std.proofs.Common.{refl};
-ghost use Rattle.chunk_index.specs.KeyOrder.{key_cmp};
+ghost use Rattle.chunk_index.specs.KeyOrder.{key_cmp, rate_cmp};
 ghost use Rattle.chunk_index.specs.Keys.{key_of};
 ghost use Rattle.chunk_index.specs.Kept.{entry_from};
 ghost use Rattle.chunk_index.specs.KeyLaws.{key_cmp_total, key_ties};
 
 use crate::entry::Entry;
-use fee_rate::FeeRate;
+use fee_rate::{FeeRate, cmp_rates};
 use std::cmp::Ordering;
 
 /// What the index orders entries by: falling rate, then serial, position and at last size, all rising.
@@ -29,9 +29,7 @@ impl Ord for Key {
     ghost matches_eq = { key_ties };
 
     fn cmp(&self, other: &Key) -> Ordering {
-        let ours = crossed(other.rate.fee, self.rate.size);
-        let theirs = crossed(self.rate.fee, other.rate.size);
-        let by_rate = ours.cmp(&theirs);
+        let by_rate = higher_first(self.rate, other.rate);
         if by_rate.is_ne() {
             return by_rate;
         }
@@ -77,10 +75,21 @@ impl Key {
     }
 }
 
-/// A fee times a size, where a size of 0 counts as 1.
+// Which of two rates comes first, the higher one. A size of 0 counts as 1.
 #[inline(always)]
-fn crossed(fee: i64, size: u64) -> i128
-    ensures { result ≡ fee *ℤ pos (max 1 size) }
+fn higher_first(a: FeeRate, b: FeeRate) -> Ordering
+    ensures { result ≡ rate_cmp a b }
 {
-    i128::from(fee) * i128::from(size.max(1))
+    cmp_rates(counted(b), counted(a))
+}
+
+// A rate where a size of 0 counts as 1.
+#[inline(always)]
+fn counted(rate: FeeRate) -> FeeRate
+    ensures { result ≡ record { fee = rate.fee; size = max 1 rate.size } }
+{
+    FeeRate {
+        fee: rate.fee,
+        size: rate.size.max(1),
+    }
 }

@@ -19,7 +19,7 @@ use Rattle.graphs.specs.Merges.{Precedes}
 use Rattle.graphs.specs.Picks.{IsPick, FollowOrder, links_of}
 use Rattle.linearize.specs.declared.draft.PlaceFlow.{PlaceFlow}
 use Rattle.linearize.specs.Drafts.{placed}
-use Rattle.cluster.specs.Orders.{named_at, renamed_flow, AreRead, IsReadPart}
+use Rattle.cluster.specs.Orders.{named_at, renamed_flow, AreRead, IsInOrder, IsReadPart}
 use Rattle.cluster.proofs.Moves.{Certifies-moved}
 use Rattle.cluster.proofs.Reading.{rates_read, placed_read}
 
@@ -101,8 +101,8 @@ precedes_at {A} xs a b d p =
           ∙ ap (λ m. get_or (b ∷ rest) m d) (let e : length front - length front ≡ 0 = omega arith in e),
     )
 
-module _ (f : ℕ → ℕ) (order : List ℕ) (old new : Part) (once : AreDistinct order)
-    (read : IsReadPart f order old new) (once_links : AreDistinct {A = ℕ × ℕ} (links_of new.flows))
+module _ (order : List ℕ) (new : Part) (once : AreDistinct order)
+    (read : IsInOrder order new) (once_links : AreDistinct {A = ℕ × ℕ} (links_of new.flows))
     (inside : (flow : Flow) → Contains new.flows flow → Contains new.ids flow.child × Contains new.ids flow.parent) where
   -- a name of the part by its position in the order
   position : (a : ℕ) → a < length order → Contains new.ids (slice_index order a)
@@ -188,5 +188,8 @@ pick_read rate graph names order ps qs once read certificate =
       certificate = whole;
       flows_in_order = λ q here.
           (let at = matched (slice_index names) order ps qs read q here in
-          flows_follow (slice_index names) order at.0 q once at.2 (whole.flows q here).once (whole.flows q here).inside);
+          elim at.2.in_order [
+            | inl placed_in ↦ flows_follow order q once placed_in (whole.flows q here).once (whole.flows q here).inside
+            | inr so ↦ so
+          ]);
     }

@@ -1,14 +1,14 @@
 -- Parts by the places of their names, and that what is known by names is known by places.
 use Rattle.std.proofs.Common.{◌≡◌, ◌≢◌, ℕ, ◌-◌, ◌<◌, ◌≤◌, Bool, true, List, [], ◌∷◌, ◌++◌, length, map, take, drop, slice_index, Contains, Some, pos, ◌-ℤ◌, cond, nat_eq, inl, inr, refl, sym, ap, ap₂, ◌∙◌, subst, subst₂, arith, eq-eqb, ne_eqb, length-append, length-drop, append-nil, append_assoc, false, true≢false}
 use Rattle.std.proofs.lemmas.Bool.{cases_eq}
-use Rattle.std.proofs.lemmas.List.{take-append-le, drop-append-le, take_all, map-append}
+use Rattle.std.proofs.lemmas.List.{take-append-le, drop-append-le, take_all, map-append, take-map, drop-map}
 use Rattle.std.proofs.lemmas.List.Elements.{Contains-append_cases}
 use Rattle.std.proofs.lemmas.Simd.{map-map}
 use Rattle.std.proofs.lemmas.Option.{get_or_from_slice_get}
 use Rattle.std.specs.Prelude.{slice_get}
 use Rattle.lists.specs.Distinct.{AreDistinct}
 use Rattle.lists.proofs.Distinct.{distinct_map, one_place}
-use Rattle.lists.proofs.Entries.{map-Contains, Contains-map, Contains-one, none_in_empty, not_empty}
+use Rattle.lists.proofs.Entries.{map-Contains, Contains-map, Contains-one, Contains-head, Contains-later, none_in_empty, not_empty}
 use Rattle.fee_rate.specs.declared.rates.Sum.{Sum}
 use Rattle.fee_rate.specs.Rates.{Same}
 use Rattle.graphs.specs.declared.names.Flow.{Flow}
@@ -17,14 +17,16 @@ use Rattle.graphs.specs.Closures.{Closure, is_ancestor}
 use Rattle.graphs.specs.Closing.{renamed_part}
 use Rattle.graphs.specs.Certificates.{Part, given, gotten, weight_in}
 use Rattle.graphs.proofs.RenamingLemmas.{sum_by-map}
-use Rattle.linearize.specs.declared.draft.PlaceFlow.{PlaceFlow}
+use Rattle.dep_graph.specs.Numbers.{number_in}
+use Rattle.dep_graph.proofs.Pairs.{place_at}
+use Rattle.graphs.specs.Picks.{FollowOrder, links_of}
 use Rattle.linearize.specs.declared.old.OldPart.{OldPart}
 use Rattle.linearize.specs.Drafts as drafts
 use Rattle.linearize.specs.Graphs.{sum_at, sum_from}
-use Rattle.linearize.specs.Known.{AreKnown, IsClosedAmong, IsKnown, old_part}
-use Rattle.cluster.specs.Guesses.{AreImages, IsImage, PutsFlows, PutsPart, PutsPlaces}
+use Rattle.linearize.specs.Known.{IsClosedAmong, IsKnown, old_part}
+use Rattle.cluster.specs.Guesses.{AreImages, AreSound, IsImage, PutsFlows, PutsPart, PutsPlaces, at_places, own_places}
 use Rattle.cluster.specs.Named.{named, IsNamed}
-use Rattle.cluster.specs.Orders.{renamed_flow}
+use Rattle.cluster.specs.Orders.{own_flows, renamed_flow}
 use Rattle.std.proofs.Math.Seq.{drop-append_seam}
 use Rattle.cluster.proofs.Names.{named-ancestor, Stands-contains}
 use Rattle.cluster.proofs.Picking.{named_sum}
@@ -143,17 +145,49 @@ module _ (n : ℕ) (names : List ℕ) (h : Closure) (kept : IsNamed n names h) (
       uncut = whole;
     }
 
--- what is known by names is known by places
-pub known_images : (n : ℕ) (names : List ℕ) (h : Closure) (P : Part → Type 0) (parts : List OldPart) (places : List ℕ) (flows : List PlaceFlow)
+same_all : {A : Type 0} (f : A → A) (xs : List A) → ((x : A) → Contains xs x → f x ≡ x) → map f xs ≡ xs
+same_all f [] each = refl
+same_all f (x ∷ xs) each = ap₂ (λ y ys. y ∷ ys) (each x (Contains-head x xs)) (same_all f xs (λ y h. each y (Contains-later x y xs h)))
+
+-- what is known by names is known by places, with flows whose names are those that are kept
+pub sound_images : (n : ℕ) (names : List ℕ) (h : Closure) (P : Part → Type 0) (parts : List OldPart) (places : List ℕ) (flows : List Flow)
     → IsNamed n names h → AreImages names P parts places flows
-    → ((part : Part) → P part → ((id : ℕ) → Contains part.ids id → Contains names id) → IsKnown (named names h) part) → AreKnown h parts places flows
-known_images n names h P parts places flows kept images sound old here said =
+    → ((part : Part) → P part → ((id : ℕ) → Contains part.ids id → Contains names id) → IsKnown (named names h) part)
+    → ((part : Part) → P part → FollowOrder part.ids (links_of part.flows)) → AreSound names h parts places flows
+sound_images n names h P parts places flows kept images sure follows old here said =
     let at = images old here said in
-    let q : Part = old_part places flows old in
-    by_places n names h kept q at.2.below at.2.flows_below
-    (subst (IsKnown (named names h)) (sym at.2.same) (sound at.0 at.1 (λ id held.
-    (let x = map-Contains (slice_index names) q.ids id (subst (λ (p : Part). Contains p.ids id) (sym at.2.same) held) in
-    Stands-contains names id (x.0, at.2.below x.0 x.1, x.2)))))
+    let part : Part = at.0 in
+    let image = at.2 in
+    let q : Part = old_part places (map (at_places names) flows) old in
+    let in_names : (id : ℕ) → Contains part.ids id → Contains names id = λ id held.
+    (let x = map-Contains (slice_index names) (own_places places old) id (subst (λ (xs : List ℕ). Contains xs id) (sym image.ids_are) held) in
+    Stands-contains names id (x.0, image.below x.0 x.1, x.2)) in
+    let known = sure part at.1 in_names in
+    let child : (flow : Flow) → Contains part.flows flow
+    → (number_in names flow.child < length names) × (slice_index names (number_in names flow.child) ≡ flow.child) =
+    λ flow held. place_at names flow.child (in_names flow.child (known.flows.inside flow held).0) in
+    let parent : (flow : Flow) → Contains part.flows flow
+    → (number_in names flow.parent < length names) × (slice_index names (number_in names flow.parent) ≡ flow.parent) =
+    λ flow held. place_at names flow.parent (in_names flow.parent (known.flows.inside flow held).1) in
+    let moved : Flow → Flow = λ flow. drafts.named (at_places names flow) in
+    let cut : q.flows ≡ map moved part.flows =
+    ap (map drafts.named) (ap (take (old.flow_end - old.flow_start)) (drop-map (at_places names) old.flow_start flows)
+    ∙ take-map (at_places names) (old.flow_end - old.flow_start) (drop old.flow_start flows))
+    ∙ map-map drafts.named (at_places names) (own_flows flows old) ∙ ap (map moved) image.flows_are in
+    let same : map (renamed_flow (slice_index names)) q.flows ≡ part.flows =
+    ap (map (renamed_flow (slice_index names))) cut ∙ map-map (renamed_flow (slice_index names)) moved part.flows
+    ∙ same_all (λ (flow : Flow). renamed_flow (slice_index names) (moved flow)) part.flows
+    (λ flow held. (λ i. record { child = (child flow held).1 i; parent = (parent flow held).1 i; amount = flow.amount })) in
+    let flows_low : (flow : Flow) → Contains q.flows flow → (flow.child < length names) × (flow.parent < length names) = λ flow held.
+    (let x = map-Contains moved part.flows flow (subst (λ (fs : List Flow). Contains fs flow) cut held) in
+    (subst (λ (f : Flow). f.child < length names) x.2 (child x.0 x.1).0, subst (λ (f : Flow). f.parent < length names) x.2 (parent x.0 x.1).0)) in
+    let whole : renamed_part (slice_index names) q ≡ part = (λ i. record { rate = image.rate_is i; ids = image.ids_are i; flows = same i }) in
+    record {
+      within = image.within;
+      known = by_places n names h kept q image.below flows_low (subst (IsKnown (named names h)) (sym whole) known);
+      same = same ∙ sym image.flows_are;
+      follow = subst₂ (λ (xs : List ℕ) (fs : List Flow). FollowOrder xs (links_of fs)) (sym image.ids_are) (sym image.flows_are) (follows part at.1);
+    }
 
 -- ---- behind others
 
@@ -167,16 +201,13 @@ cut_new xs ys zs e is end =
     ap (λ ws. take (e - length xs) (drop (length xs) ws)) is ∙ ap (take (e - length xs)) (drop-append_seam xs ys)
     ∙ take_all (e - length xs) ys (let long = ap length is ∙ length-append xs ys in omega (arith, long, end))
 
-image_grows : (names places more : List ℕ) (flows more_flows : List PlaceFlow) (old : OldPart) (part : Part) → IsImage names places flows old part
+image_grows : (names places more : List ℕ) (flows more_flows : List Flow) (old : OldPart) (part : Part) → IsImage names places flows old part
     → IsImage names (places ++ more) (flows ++ more_flows) old part
 image_grows names places more flows more_flows old part image =
     let w = image.within in
-    let ids : take (old.end - old.start) (drop old.start (places ++ more)) ≡ take (old.end - old.start) (drop old.start places) =
-    cut_same old.start old.end places more w.order w.end in
-    let own : take (old.flow_end - old.flow_start) (drop old.flow_start (flows ++ more_flows)) ≡ take (old.flow_end - old.flow_start) (drop old.flow_start flows) =
+    let ids : own_places (places ++ more) old ≡ own_places places old = cut_same old.start old.end places more w.order w.end in
+    let own : own_flows (flows ++ more_flows) old ≡ own_flows flows old =
     cut_same old.flow_start old.flow_end flows more_flows w.flow_order w.flow_end in
-    let is : old_part (places ++ more) (flows ++ more_flows) old ≡ old_part places flows old =
-    (λ i. record { rate = sum_from old.rate; ids = ids i; flows = map drafts.named (own i) }) in
     record {
       within = record {
         order = w.order;
@@ -184,33 +215,34 @@ image_grows names places more flows more_flows old part image =
         flow_order = w.flow_order;
         flow_end = (let long = length-append flows more_flows in let e = w.flow_end in omega (arith, long, e));
       };
-      same = ap (renamed_part (slice_index names)) is ∙ image.same;
-      below = λ p here. image.below p (subst (λ (q : Part). Contains q.ids p) is here);
-      flows_below = λ flow here. image.flows_below flow (subst (λ (q : Part). Contains q.flows flow) is here);
+      rate_is = image.rate_is;
+      ids_are = ap (map (slice_index names)) ids ∙ image.ids_are;
+      flows_are = own ∙ image.flows_are;
+      below = λ p here. image.below p (subst (λ (xs : List ℕ). Contains xs p) ids here);
     }
 
-pub images_none : (names : List ℕ) (P : Part → Type 0) (parts : List OldPart) (places : List ℕ) (flows : List PlaceFlow) → parts ≡ []
+pub images_none : (names : List ℕ) (P : Part → Type 0) (parts : List OldPart) (places : List ℕ) (flows : List Flow) → parts ≡ []
     → AreImages names P parts places flows
 images_none names P parts places flows none old here said = absurd (none_in_empty old (subst (λ ps. Contains ps old) none here))
 
-pub images_more : (names : List ℕ) (P Q : Part → Type 0) (places : List ℕ) (flows : List PlaceFlow) (parts : List OldPart)
-    (places' : List ℕ) (flows' : List PlaceFlow) (parts' : List OldPart) → AreImages names P parts places flows
+pub images_more : (names : List ℕ) (P Q : Part → Type 0) (places : List ℕ) (flows : List Flow) (parts : List OldPart)
+    (places' : List ℕ) (flows' : List Flow) (parts' : List OldPart) → AreImages names P parts places flows
     → PutsPart names Q places flows parts places' flows' parts' → ((part : Part) → Q part → P part) → AreImages names P parts' places' flows'
 images_more names P Q places flows parts places' flows' parts' images puts into old here said = elim (puts.each old here said) [
   | inl before ↦
       let at = images old before said in (
         at.0,
         at.1,
-        subst₂ (λ (xs : List ℕ) (fs : List PlaceFlow). IsImage names xs fs old at.0) (sym puts.places_are) (sym puts.flows_are)
+        subst₂ (λ (xs : List ℕ) (fs : List Flow). IsImage names xs fs old at.0) (sym puts.places_are) (sym puts.flows_are)
             (image_grows names places puts.more flows puts.more_flows old at.0 at.2),
       )
   | inr new ↦ (new.0, into new.0 new.1, new.2)
 ]
 
 -- one part put behind others
-pub part_put : (names ids : List ℕ) (own : List Flow) (part : Part) (known whole sure : Bool) (places places' : List ℕ) (flows flows' : List PlaceFlow)
+pub part_put : (names ids : List ℕ) (own : List Flow) (part : Part) (known whole sure : Bool) (places places' : List ℕ) (flows flows' : List Flow)
     (parts parts' : List OldPart) (old : OldPart) → part ≡ record { rate = sum_from old.rate; ids = ids; flows = own }
-    → PutsPlaces names ids places places' whole → PutsFlows names own flows flows' sure → (sure ≡ true → (known ≡ true) × (whole ≡ true))
+    → PutsPlaces names ids places places' whole → PutsFlows own flows flows' sure → (sure ≡ true → (known ≡ true) × (whole ≡ true))
     → old.start ≡ length places → old.end ≡ length places' → old.flow_start ≡ length flows → old.flow_end ≡ length flows' → old.known ≡ sure
     → ((o : OldPart) → Contains parts' o → Contains (parts ++ old ∷ []) o)
     → PutsPart names (λ p. (known ≡ true) × (p ≡ part)) places flows parts places' flows' parts'
@@ -236,11 +268,6 @@ part_put names ids own part known whole sure places places' flows flows' parts p
 
     image : sure ≡ true → IsImage names places' flows' old part
     image sures =
-        let ids_are : map (slice_index names) (take (old.end - old.start) (drop old.start places')) ≡ ids =
-        ap (map (slice_index names)) cut_ids ∙ put_places.named (asked sures).1 in
-        let flows_are : map (renamed_flow (slice_index names)) (map drafts.named (take (old.flow_end - old.flow_start) (drop old.flow_start flows'))) ≡ own =
-        ap (λ fs. map (renamed_flow (slice_index names)) (map drafts.named fs)) cut_flows
-        ∙ map-map (renamed_flow (slice_index names)) drafts.named put_flows.more ∙ put_flows.named sures in
         let long = ap length put_places.is ∙ length-append places put_places.more in
         let flows_long = ap length put_flows.is ∙ length-append flows put_flows.more in
         record {
@@ -250,12 +277,10 @@ part_put names ids own part known whole sure places places' flows flows' parts p
             flow_order = omega (arith, flows_long, flow_start, flow_end);
             flow_end = omega (arith, flow_end);
           };
-          same = (λ i. record { rate = sum_from old.rate; ids = ids_are i; flows = flows_are i }) ∙ sym is;
+          rate_is = sym (ap (λ (p : Part). p.rate) is);
+          ids_are = ap (map (slice_index names)) cut_ids ∙ put_places.named (asked sures).1 ∙ sym (ap (λ (p : Part). p.ids) is);
+          flows_are = cut_flows ∙ put_flows.all_are sures ∙ sym (ap (λ (p : Part). p.flows) is);
           below = λ p here. put_places.below p (subst (λ xs. Contains xs p) cut_ids here);
-          flows_below = λ flow here.
-              (let at = map-Contains drafts.named (take (old.flow_end - old.flow_start) (drop old.flow_start flows')) flow here in
-              let low = put_flows.below at.0 (subst (λ (fs : List PlaceFlow). Contains fs at.0) cut_flows at.1) in
-              (subst (λ (x : Flow). x.child < length names) at.2 low.0, subst (λ (x : Flow). x.parent < length names) at.2 low.1));
         }
 
 -- ---- places and flows, one by one
@@ -295,46 +320,20 @@ places_more names ids one old mid new all found both first second if_both = reco
   below = λ p here. elim (Contains-append_cases first.more second.more p here) [ inl a ↦ first.below p a | inr b ↦ second.below p b ];
 }
 
-pub flows_none : (names : List ℕ) (flows : List Flow) (old new : List PlaceFlow) (all : Bool) → flows ≡ [] → new ≡ old → PutsFlows names flows old new all
-flows_none names flows old new all none same = record {
-  more = [];
-  is = same ∙ sym (append-nil old);
-  named = λ _. sym none;
-  below = λ flow here. absurd (none_in_empty flow here);
-}
+pub flows_missed : (flows old new : List Flow) (all : Bool) → new ≡ old → all ≡ false → PutsFlows flows old new all
+flows_missed flows old new all same missed =
+    record { more = []; is = same ∙ sym (append-nil old); all_are = λ e. absurd (true≢false (sym e ∙ missed)) }
 
-pub flows_missed : (names : List ℕ) (flows : List Flow) (old new : List PlaceFlow) (all : Bool) → new ≡ old → all ≡ false
-    → PutsFlows names flows old new all
-flows_missed names flows old new all same missed = record {
-  more = [];
-  is = same ∙ sym (append-nil old);
-  named = λ e. absurd (true≢false (sym e ∙ missed));
-  below = λ flow here. absurd (none_in_empty flow here);
-}
-
--- some of them were put, and then one was missed
-pub flows_stop : (names : List ℕ) (some flows : List Flow) (old new : List PlaceFlow) (all any : Bool) → PutsFlows names some old new any
-    → all ≡ false → PutsFlows names flows old new all
-flows_stop names some flows old new all any puts missed =
-    record { more = puts.more; is = puts.is; named = λ e. absurd (true≢false (sym e ∙ missed)); below = puts.below }
-
-pub flows_more : (names : List ℕ) (flows one : List Flow) (old mid new : List PlaceFlow) (found both : Bool) → PutsFlows names flows old mid true
-    → PutsFlows names one mid new found → (both ≡ true → found ≡ true) → PutsFlows names (flows ++ one) old new both
-flows_more names flows one old mid new found both first second if_both = record {
-  more = first.more ++ second.more;
-  is = second.is ∙ ap (λ xs. xs ++ second.more) first.is ∙ append_assoc old first.more second.more;
-  named = λ e. map-append (λ (x : PlaceFlow). renamed_flow (slice_index names) (drafts.named x)) first.more second.more
-      ∙ ap₂ {A = List Flow} {B = List Flow} (λ xs ys. xs ++ ys) (first.named refl) (second.named (if_both e));
-  below = λ x here. elim (Contains-append_cases first.more second.more x here) [ inl a ↦ first.below x a | inr b ↦ second.below x b ];
-}
+pub flows_put : (flows old new : List Flow) (all : Bool) → new ≡ old ++ flows → PutsFlows flows old new all
+flows_put flows old new all is = record { more = flows; is = is; all_are = λ _. refl }
 
 -- ---- the parts of a cluster, one by one
 
 pub there_at : (parts : List Part) (at : ℕ) (part : Part) → at < length parts → slice_get parts at ≡ Some part → Contains parts part
 there_at parts at part low there = (at, low, get_or_from_slice_get parts at part part there)
 
-pub puts_wider : (names : List ℕ) (P Q : Part → Type 0) (places : List ℕ) (flows : List PlaceFlow) (parts : List OldPart)
-    (places' : List ℕ) (flows' : List PlaceFlow) (parts' : List OldPart) → PutsPart names Q places flows parts places' flows' parts'
+pub puts_wider : (names : List ℕ) (P Q : Part → Type 0) (places : List ℕ) (flows : List Flow) (parts : List OldPart)
+    (places' : List ℕ) (flows' : List Flow) (parts' : List OldPart) → PutsPart names Q places flows parts places' flows' parts'
     → ((part : Part) → Q part → P part) → PutsPart names P places flows parts places' flows' parts'
 puts_wider names P Q places flows parts places' flows' parts' puts into = record {
   more = puts.more;
@@ -344,7 +343,7 @@ puts_wider names P Q places flows parts places' flows' parts' puts into = record
   each = λ old here said. elim (puts.each old here said) [ inl before ↦ inl before | inr new ↦ inr (new.0, into new.0 new.1, new.2) ];
 }
 
-pub puts_nothing : (names : List ℕ) (P : Part → Type 0) (places : List ℕ) (flows : List PlaceFlow) (parts : List OldPart)
+pub puts_nothing : (names : List ℕ) (P : Part → Type 0) (places : List ℕ) (flows : List Flow) (parts : List OldPart)
     → PutsPart names P places flows parts places flows parts
 puts_nothing names P places flows parts = record {
   more = [];

@@ -13,6 +13,7 @@ mod Moves
 mod Reading
 mod Picking
 mod Following
+mod Fillings
 mod Uncut
 mod Solving
 mod Lone
@@ -31,4 +32,5 @@ mod Chosen
 mod Parting
 pub mod Placed
 mod Nearest
+mod Firsts
 mod Rooms

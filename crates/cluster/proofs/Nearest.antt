@@ -12,12 +12,12 @@ use Rattle.graphs.specs.declared.names.Flow.{Flow}
 use Rattle.graphs.specs.Closures.{Closure, is_ancestor, IsCover}
 use Rattle.cluster.specs.declared.order.PartEnd.{PartEnd}
 use Rattle.cluster.specs.Clusters.{IsCluster}
-use Rattle.cluster.specs.Covers.{has_chosen, IsNamedBy, ListsInOrder}
+use Rattle.cluster.specs.Covers.{has_chosen, AreToCome, ListsInOrder}
 use Rattle.cluster.specs.Kept.{IsKept, cut}
 use Rattle.cluster.specs.Named.{named, IsNamed}
-use Rattle.cluster.proofs.Names.{Contains-stands, contains-names_where, names_where-contains, named-ancestor, ancestor-stands}
+use Rattle.cluster.proofs.Names.{Contains-stands, Stands-contains, contains-names_where, names_where-contains, named-ancestor, ancestor-stands}
 use Rattle.cluster.proofs.Kept.{member_place, IsCluster-named}
-use Rattle.cluster.proofs.Placed.{in_order, in_names}
+use Rattle.cluster.proofs.Placed.{in_order, in_names, order_once}
 
 true_false : true ≡ false → ⊥
 true_false e = cc
@@ -108,8 +108,19 @@ module _ (n : ℕ) (names : List ℕ) (g : Closure) (shown : List PartEnd) (orde
   more id here = subst (λ (xs : List ℕ). Contains xs id) kept.ordered.ends.order_is
       (in_order n (record { names = names; graph = named names g; parts = cut shown order flows }) whole id here)
 
-  pub order_named : IsNamedBy n names order
-  order_named = record { few = kept.place.few; once = kept.place.once; there = fewer }
+  pub order_to_come : (chosen : set.FinSet nat_cmp) (q : ℕ) → ((p : ℕ) → (set.contains chosen p ≡ true) ↔ IsCover g p q) → AreToCome n names order chosen
+  order_to_come chosen q covers = record {
+    few = kept.place.few;
+    once = kept.place.once;
+    apart = subst (λ (xs : List ℕ). AreDistinct xs) kept.ordered.ends.order_is
+        (order_once n (record { names = names; graph = named names g; parts = cut shown order flows }) whole);
+    there = fewer;
+    within = low;
+    stand = λ p here. more (slice_index names p) (Stands-contains names (slice_index names p) (p, low p here, refl));
+  }
+    where
+      low : (p : ℕ) → set.contains chosen p ≡ true → p < length names
+      low p here = member_place n names g kept.place p (kept.place.order.among p q ((covers p).0 here).ancestor).0
 
   pub order_covers : (chosen : set.FinSet nat_cmp) (q id : ℕ) → q < length names
       → slice_index names q ≡ id → ((p : ℕ) → (set.contains chosen p ≡ true) ↔ IsCover g p q)

@@ -11,7 +11,7 @@ use Rattle.linearize.specs.Drafts.{totals}
 use Rattle.cluster.specs.declared.order.PartEnd.{PartEnd}
 use Rattle.cluster.specs.Kept.{AreCut, no_end, sum_in}
 use Rattle.cluster.proofs.Cuts.{reach, reach_more, reach_within, segment, ended}
-use Rattle.cluster.proofs.Reading.{no_part}
+use Rattle.cluster.specs.Orders.{no_part}
 
 -- Each part has a list of its own, and these lists stand in one, each from where that of the part before ends.
 module _ {A : Type 0} (own : Part → List A) (bound : PartEnd → ℕ) (from_zero : bound no_end ≡ 0)

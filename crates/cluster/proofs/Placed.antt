@@ -2,6 +2,7 @@
 use Rattle.std.proofs.Common.{ℕ, suc, ◌+◌, ◌<◌, List, [], ◌∷◌, flat_map, Contains, inl, inr, arith}
 use Rattle.lists.proofs.Entries.{Contains-cases, none_in_empty}
 use Rattle.lists.proofs.Flats.{flat_of}
+use Rattle.lists.specs.Distinct.{AreDistinct}
 use Rattle.graphs.specs.Closures.{IsClosed}
 use Rattle.graphs.specs.Certificates.{Part}
 use Rattle.graphs.proofs.ClosureGraphs.{closures_have_graphs}
@@ -32,6 +33,11 @@ pub in_names : (most : ℕ) (k : Cluster) → IsCluster most k → (id : ℕ) �
 in_names most k is id here =
     let graph = closures_have_graphs (beyond k.names) k.graph (closed most k is) in
     (is.members id).0 ((graph.2.names id).0 (((is.picked graph.0 graph.2).certificate.order.topological.names id).0 here))
+
+pub order_once : (most : ℕ) (k : Cluster) → IsCluster most k → AreDistinct (flat_map (λ part. part.ids) k.parts)
+order_once most k is =
+    let graph = closures_have_graphs (beyond k.names) k.graph (closed most k is) in
+    (is.picked graph.0 graph.2).certificate.order.topological.once
 
 -- a name of some parts is of one of them
 pub in_a_part : (parts : List Part) (id : ℕ) → Contains (flat_map (λ part. part.ids) parts) id → (part : Part) × Contains parts part × Contains part.ids id

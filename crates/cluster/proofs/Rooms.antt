@@ -70,7 +70,7 @@ scratch_fits w narrow = small (up 8 (0 + w * 8)) (padded (0 + w * 8) 512 (omega 
     small x low = omega arith
 
 abbrev pub room_room : ℕ → ℕ
-room_room w = up 8 (up 8 (up 8 (up 8 (0 + scratch_room w) + 144) + 24) + 24)
+room_room w = up 8 (up 8 (up 8 (up 8 (up 8 (0 + scratch_room w) + 144) + 24) + 24) + 24)
 
 -- a cluster's graph and lists, and the room in which orders are made
 pub cluster_fits : (w : ℕ) → w ≤ 64 → cluster_room w < 9223372036854775808
@@ -107,5 +107,5 @@ room_fits w narrow = whole (scratch_room w) (small (up 8 (0 + w * 8)) (padded (0
     small : (x : ℕ) → x ≤ 520 → up 8 (up 8 (0 + up 8 (up 8 (up 8 (up 8 (up 8 (up 8 (0 + x) + x) + x) + 24) + 24) + 24)) + 32) ≤ 2000
     small x low = omega arith
 
-    whole : (s : ℕ) → s ≤ 2000 → up 8 (up 8 (up 8 (up 8 (0 + s) + 144) + 24) + 24) < 9223372036854775808
+    whole : (s : ℕ) → s ≤ 2000 → up 8 (up 8 (up 8 (up 8 (up 8 (0 + s) + 144) + 24) + 24) + 24) < 9223372036854775808
     whole s low = omega arith

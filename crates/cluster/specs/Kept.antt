@@ -18,9 +18,9 @@ sum_in part = record { fee = part.fee; size = part.size }
 abbrev pub no_end : PartEnd
 no_end = record { fee = pos 0; size = 0; end = 0; flow_end = 0 }
 
--- what is kept of a part that is shown
-abbrev pub end_of : LinearPart → PartEnd
-end_of part = record { fee = part.rate.fee; size = part.rate.size; end = part.end; flow_end = part.flow_end }
+-- what is kept of a part that is shown, whose flows end at some position
+abbrev pub end_of : LinearPart → ℕ → PartEnd
+end_of part flow_end = record { fee = part.rate.fee; size = part.rate.size; end = part.end; flow_end = flow_end }
 
 -- the parts that ends cut off a list of names and one of flows, which begin at positions i and j
 unfoldable pub cut_from : ℕ → ℕ → List PartEnd → List ℕ → List Flow → List Part

@@ -1,8 +1,9 @@
 //! The order that stood before a change, by the places that its names have now. Most parts stay as they were and aren't solved again.
 //!
-//! A part is known where its names keep their fees, their sizes and the relation among themselves. Of a part that has changed the solver
-//! takes the names one by one, and a name that isn't found is left out. The guess has no say in the answer, which is optimal whatever the
-//! solver tried, only in how soon the answer comes. So clauses speak of parts that are known, and of no others.
+//! A part is known where its names keep their fees, their sizes and the relation among themselves. Its flows stay as they are, by
+//! names. Of a part that has changed the solver takes the names one by one, and a name that isn't found is left out. The guess has no
+//! say in the answer, which is optimal whatever the solver tried, only in how soon the answer comes. So clauses speak of parts that are
+//! known, and of no others.
 
 ghost use Rattle.std.specs.Prelude.{◌≡◌, ◌⊎◌, ℕ, ◌*◌, ◌<◌, ◌≤◌, ◌∷◌, ◌++◌, [], true, false, length, slice_index, Contains};
 ghost use Rattle.std.specs.FinSet as set;
@@ -12,9 +13,9 @@ ghost use Rattle.cluster.specs.Guesses.{AreImages, PutsPlaces, PutsFlows, PutsPa
 
 use crate::cluster::{Cluster, PartRef};
 use bitset::Bits;
-use fee_rate::FeeRate;
+use fee_rate::{FeeRate, is_lower};
 use graphs::{Flow, TxId};
-use linearize::{Guess, OldPart, PlaceFlow};
+use linearize::{Guess, OldPart};
 
 /// How many slots there are for places. Where names are numbers that follow one another, so many of them have slots of their own.
 const SLOTS: u64 = 512;
@@ -267,12 +268,6 @@ fn is_lower_of(a: Option<FeeRate>, b: Option<FeeRate>) -> bool {
     }
 }
 
-// Whether the first rate is the lower one, fee over size. The products are exact for any numbers, so that no limit of a
-// part's rate is owed here.
-fn is_lower(a: FeeRate, b: FeeRate) -> bool {
-    i128::from(a.fee) * i128::from(b.size) < i128::from(b.fee) * i128::from(a.size)
-}
-
 // Whether a name is not one of some.
 fn is_without(ids: &[TxId], id: TxId) -> bool
     ensures { result ≡ true → Contains ids.now id → ⊥ }
@@ -330,7 +325,7 @@ fn put_part(part: PartRef<'_>, known: bool, names: &[TxId], slots: &Slots, guess
     let start = guess.places.len();
     let flow_start = guess.flows.len();
     let whole = put_places(part.ids, names, slots, &mut guess.places);
-    let sure = put_flows_if(known, whole, part.flows, names, slots, &mut guess.flows);
+    let sure = put_flows_if(known, whole, part.flows, &mut guess.flows);
     let old = OldPart {
         rate: part.rate,
         start,
@@ -381,50 +376,21 @@ fn put_place(id: TxId, names: &[TxId], slots: &Slots, places: &mut Vec<usize>) -
 }
 
 // Puts flows behind others where it is asked for, and tells whether all of them were put.
-fn put_flows_if(
-    known: bool,
-    whole: bool,
-    flows: &[Flow],
-    names: &[TxId],
-    slots: &Slots,
-    out: &mut Vec<PlaceFlow>,
-) -> bool
-    ensures puts { PutsFlows names.now flows.now out.old.items out.new.items result }
+fn put_flows_if(known: bool, whole: bool, flows: &[Flow], out: &mut Vec<Flow>) -> bool
+    ensures puts { PutsFlows flows.now out.old.items out.new.items result }
     ensures asked { result ≡ true → (known ≡ true) × (whole ≡ true) }
 {
     if !known || !whole {
         return false;
     }
-    put_flows(flows, names, slots, out)
+    put_flows(flows, out)
 }
 
-// Puts flows by the places of their names behind others, and tells whether all names were found.
-fn put_flows(flows: &[Flow], names: &[TxId], slots: &Slots, out: &mut Vec<PlaceFlow>) -> bool
-    ensures { PutsFlows names.now flows.now out.old.items out.new.items result }
+// Puts flows behind others, where there is memory for them.
+fn put_flows(flows: &[Flow], out: &mut Vec<Flow>) -> bool
+    ensures { PutsFlows flows.now out.old.items out.new.items result }
 {
-    for at in 0..flows.len() {
-        if !put_flow(flows[at], names, slots, out) {
-            return false;
-        }
-    }
-    true
-}
-
-// Puts a flow by the places of its names behind others, where both are found.
-fn put_flow(flow: Flow, names: &[TxId], slots: &Slots, out: &mut Vec<PlaceFlow>) -> bool
-    ensures { PutsFlows names.now (flow ∷ []) out.old.items out.new.items result }
-{
-    let child = slots.find(names, flow.child);
-    let parent = slots.find(names, flow.parent);
-    if child >= names.len() || parent >= names.len() {
-        return false;
-    }
-    let moved = PlaceFlow {
-        child,
-        parent,
-        amount: flow.amount,
-    };
-    match out.push(moved) {
+    match out.extend_from_slice(flows) {
         Ok(()) => true,
         Err(_) => false,
     }

@@ -15,6 +15,8 @@
 //! above it or none below it are known, but not the child's part where it stands before the parent's. Where two clusters join,
 //! all parts are known, but not the child's where it had to wait for the parent's. Where names go, the parts that keep all
 //! their names are known.
+//!
+//! The flows of a known part are copied from order to order, by names. Only those that the solver found are named and sorted.
 #![tactic(auto)]
 
 mod ancestors;

@@ -9,7 +9,9 @@ ghost use Rattle.cluster.specs.Changes.{IsSame, IsPartOf};
 ghost use Rattle.cluster.specs.Kept.{IsOrdered};
 ghost use Rattle.cluster.specs.Steps.{GrowsWithin, most_steps};
 ghost use Rattle.graphs.specs.Certificates.{Part};
-ghost use Rattle.linearize.specs.Known.{AreKnown, IsKnown};
+ghost use Rattle.graphs.specs.Picks.{FollowOrder, links_of};
+ghost use Rattle.linearize.specs.Known.{IsKnown};
+ghost use Rattle.cluster.specs.Guesses.{AreSound};
 
 use crate::cluster::Cluster;
 use crate::guess::guess_part;
@@ -35,7 +37,7 @@ pub(crate) fn certified<L: Ledger, const W: usize>(
     steps: &mut Steps<L>,
 ) -> Result<Cluster<W>, NoMemory>
     requires named { IsNamed (64 * W) names.items dep }
-    requires known { AreKnown dep guess.now.parts.items guess.now.places.items guess.now.flows.items }
+    requires known { AreSound names.items dep guess.now.parts.items guess.now.places.items guess.now.flows.items }
     ensures names { IfOk result (λ c. c.names ≡ names.items) }
     ensures graph { IfOk result (λ c. c.graph ≡ named names.items dep.entry) }
     ensures whole { IfOk result (IsCluster (64 * W)) }
@@ -56,7 +58,7 @@ fn ordered<L: Ledger, const W: usize>(
     steps: &mut Steps<L>,
 ) -> Result<Order, NoMemory>
     requires named { IsNamed (64 * W) names.now dep.now }
-    requires known { AreKnown dep.now guess.now.parts.items guess.now.places.items guess.now.flows.items }
+    requires known { AreSound names.now dep.now guess.now.parts.items guess.now.places.items guess.now.flows.items }
     ensures order { IfOk result (λ o. IsOrdered names.now dep.now o.parts.items o.names.items o.flows.items) }
     ensures steps { GrowsWithin (most_steps (length names.now)) steps.old steps.new }
     ensures alone { length names.now ≡ 1 → steps.new ≡ steps.old }
@@ -77,15 +79,24 @@ fn solved<L: Ledger, const W: usize>(
     steps: &mut Steps<L>,
 ) -> Result<Order, NoMemory>
     requires named { IsNamed (64 * W) names.now dep.now }
-    requires known { AreKnown dep.now guess.now.parts.items guess.now.places.items guess.now.flows.items }
+    requires known { AreSound names.now dep.now guess.now.parts.items guess.now.places.items guess.now.flows.items }
     ensures order { IfOk result (λ o. IsOrdered names.now dep.now o.parts.items o.names.items o.flows.items) }
     ensures steps { GrowsWithin (most_steps (length names.now)) steps.old steps.new }
 {
-    optimal_near(&mut room.scratch, dep, guess, &mut room.linear, steps);
+    optimal_near(
+        &mut room.scratch,
+        dep,
+        guess,
+        &mut room.linear,
+        &mut room.froms,
+        steps,
+    );
     read(
         alloc,
         names,
         &room.linear,
+        room.froms.as_slice(),
+        guess.flows.as_slice(),
         room.positions.as_mut_slice(),
         &mut room.flows,
     )
@@ -116,6 +127,7 @@ pub(crate) fn part<L: Ledger, const W: usize>(
 ) -> Result<Cluster<W>, NoMemory>
     requires named { IsNamed (64 * W) names.now dep.now }
     requires known { (part : Part) → Contains old.now.parts part → IsKnown (named names.now dep.now) part }
+    requires follow { (part : Part) → Contains old.now.parts part → FollowOrder part.ids (links_of part.flows) }
     requires within { IsWithin (length names.now) chosen }
     requires some { (p : ℕ) × (set.contains chosen p ≡ true) }
     requires whole { (p q : ℕ) → set.contains chosen p ≡ true → set.contains chosen q ≡ true

@@ -1,13 +1,13 @@
-ghost use Rattle.std.specs.Prelude.{◌≡◌, ℕ, ◌*◌, ◌+◌, ◌<◌, ◌≤◌, ◌++◌, [], ◌∷◌, true, length, get_or, slice_index, map, take, drop, ◌-◌, Contains, IfOk, OnOk};
+ghost use Rattle.std.specs.Prelude.{◌≡◌, ℕ, ◌*◌, ◌+◌, ◌<◌, ◌≤◌, ◌++◌, [], ◌∷◌, None, true, length, get_or, slice_index, map, take, drop, ◌-◌, Contains, IfOk, IfSome, OnOk};
 ghost use Rattle.std.specs.List.Sorted.{IsPermutation};
 ghost use Rattle.lists.specs.Distinct.{AreDistinct};
-ghost use Rattle.cluster.specs.Orders.{at_positions, named_at, AreRising, AreBelow, IsNoLater, AddsFlows, IsPlaced, IsRead, StandAt};
+ghost use Rattle.cluster.specs.Orders.{at_positions, named_at, AreRising, AreBelow, AreWithin, IsNoLater, AddsFlows, AddsPart, IsPlaced, IsReadOf, StandAt};
 ghost use Rattle.cluster.specs.Kept.{end_of, no_end, sum_in};
 ghost use Rattle.linearize.specs.Graphs.{sum_from};
 
 use fee_rate::FeeRate;
 use graphs::{Flow, TxId};
-use linearize::{Linear, LinearPart, PlaceFlow};
+use linearize::{Linear, LinearPart, OldPart, PlaceFlow};
 use outside::NoMemory;
 use smallvec::SmallVec;
 use std::alloc::Global;
@@ -83,17 +83,20 @@ pub(crate) fn lone(alloc: Global, id: TxId, rate: FeeRate) -> Result<Order, NoMe
 }
 
 /// An order of places, by the names of the places. The flows of each part stand by child, then by parent, in the order's
-/// positions.
+/// positions. Those of an old part are copied from where they are kept.
 pub(crate) fn read<const W: usize>(
     alloc: Global,
     names: &[TxId],
     linear: &Linear<W>,
+    froms: &[Option<OldPart>],
+    known: &[Flow],
     positions: &mut [usize],
     moved: &mut Vec<PlaceFlow>,
 ) -> Result<Order, NoMemory>
     requires room { length names.now ≤ length positions.old }
     requires placed { IsPlaced (length names.now) linear.now }
-    ensures { IfOk result (λ o. IsRead names.now linear.now o.parts.items o.names.items o.flows.items) }
+    requires within { AreWithin froms.now known.now }
+    ensures { IfOk result (λ o. IsReadOf names.now froms.now known.now linear.now o.parts.items o.names.items o.flows.items) }
 {
     stand(linear.order(), positions);
     let mut order = SmallVec::new(alloc);
@@ -102,18 +105,20 @@ pub(crate) fn read<const W: usize>(
     let shown = linear.parts();
     let all = linear.flows();
     let mut parts = SmallVec::with_capacity(alloc, shown.len())?;
-    let mut flows = Vec::with_capacity(alloc, all.len())?;
+    let mut flows = Vec::with_capacity(alloc, all.len().saturating_add(count_kept(froms)))?;
     let mut from = 0;
     for at in 0..shown.len() {
         let part = shown[at];
-        add_flows(
+        add_part(
+            from_at(froms, at),
             between(all, from, part.flow_end),
             positions,
             own_names,
+            known,
             moved,
             &mut flows,
         )?;
-        parts.push(end_of(part))?;
+        parts.push(end_of(part, flows.len()))?;
         from = part.flow_end;
     }
     Ok(Order {
@@ -123,15 +128,33 @@ pub(crate) fn read<const W: usize>(
     })
 }
 
+// The old part that the part at a position is, if any.
+fn from_at(froms: &[Option<OldPart>], at: usize) -> Option<OldPart>
+    ensures { result ≡ get_or froms.now at None }
+{
+    if at < froms.len() { froms[at] } else { None }
+}
+
+// How many flows the old parts have. It says only how much room to take.
+fn count_kept(froms: &[Option<OldPart>]) -> usize {
+    let mut count: usize = 0;
+    for at in 0..froms.len() {
+        if let Some(old) = froms[at] {
+            count = count.saturating_add(old.flow_end.saturating_sub(old.flow_start));
+        }
+    }
+    count
+}
+
 // A part's fee and size, and where it ends.
-fn end_of(part: LinearPart) -> PartEnd
-    ensures { result ≡ end_of part }
+fn end_of(part: LinearPart, flow_end: usize) -> PartEnd
+    ensures { result ≡ end_of part flow_end }
 {
     PartEnd {
         fee: part.rate.fee,
         size: part.rate.size,
         end: part.end,
-        flow_end: part.flow_end,
+        flow_end,
     }
 }
 
@@ -160,6 +183,31 @@ fn name_places(
         order.push(names[places[at]])?;
     }
     Ok(())
+}
+
+// Adds the flows of a part by names: those of an old part as they are kept, others by child and then by parent in the order's
+// positions.
+fn add_part(
+    old_part: Option<OldPart>,
+    own: &[PlaceFlow],
+    positions: &[usize],
+    order: &[TxId],
+    known: &[Flow],
+    moved: &mut Vec<PlaceFlow>,
+    flows: &mut Vec<Flow>,
+) -> Result<(), NoMemory>
+    requires there { AreBelow (length positions.now) own.now }
+    requires within { AreBelow (length order.now) (map (at_positions positions.now) own.now) }
+    requires kept { IfSome old_part (λ from. (from.flow_start ≤ from.flow_end) × (from.flow_end ≤ length known.now)) }
+    ensures { OnOk result (AddsPart old_part own.now positions.now order.now known.now flows.old.items flows.new.items) }
+{
+    match old_part {
+        Some(old) => {
+            flows.extend_from_slice(between(known, old.flow_start, old.flow_end))?;
+            Ok(())
+        }
+        None => add_flows(own, positions, order, moved, flows),
+    }
 }
 
 // Adds the flows of a part by names, by child and then by parent in the order's positions.

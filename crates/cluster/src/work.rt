@@ -1,7 +1,7 @@
 ghost use Rattle.std.specs.Prelude.{◌≡◌, ◌*◌, ◌≤◌, IfOk};
 
 use closure_flow::Scratch;
-use linearize::{Guess, Linear, PlaceFlow};
+use linearize::{Guess, Linear, OldPart, PlaceFlow};
 use outside::NoMemory;
 use std::alloc::Global;
 use std::marker::Model;
@@ -44,6 +44,8 @@ impl<const W: usize> Work<W> {
 pub(crate) struct Room<const W: usize> {
     pub(crate) scratch: Scratch<W>,
     pub(crate) linear: Linear<W>,
+    // which of its parts are old ones
+    pub(crate) froms: Vec<Option<OldPart>>,
     // where each place stands in the solver's order
     pub(crate) positions: Vec<usize>,
     // the flows of a part, by these positions
@@ -75,6 +77,7 @@ impl<const W: usize> Room<W> {
         Ok(Room {
             scratch,
             linear: Linear::new(alloc)?,
+            froms: Vec::with_capacity(alloc, places)?,
             positions,
             flows,
         })

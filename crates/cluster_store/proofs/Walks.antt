@@ -8,12 +8,14 @@ use Rattle.std.specs.FinMap as finmap
 use Rattle.fee_rate.specs.declared.rates.FeeRate.{FeeRate}
 use Rattle.graphs.specs.Certificates.{Part}
 use Rattle.lists.proofs.Entries.{Contains-head, Contains-later, Contains-cases, none_in_empty, map-Contains, Contains-map, filter-Contains}
+use Rattle.graphs.specs.declared.names.Level.{Level}
 use Rattle.chunk_index.specs.declared.entry.Entry.{Entry}
 use Rattle.chunk_index.specs.declared.entry.Tag.{Tag}
 use Rattle.chunk_index.specs.declared.key.Key.{Key}
 use Rattle.chunk_index.specs.KeyOrder.{key_cmp}
 use Rattle.chunk_index.specs.Keys.{IsInOrder}
-use Rattle.chunk_index.specs.Items.{Items, item_key, AreInOrder, entries_by}
+use Rattle.chunk_index.specs.Items.{Items, item_key, is_in, AreInOrder, entries_by}
+use Rattle.cluster_store.specs.Held.{cluster_in, held_at, held_at_entry, held_in}
 use Rattle.cluster_store.specs.Keys.{key_part}
 use Rattle.cluster_store.specs.Stores.{Stored, Shown, no_part, parts_by, parts_in, part_in, key_at, key_in, passes, places_by, shown_at, shown_by, IsOrdered}
 use Rattle.cluster_store.specs.Kept.{Slots, at, shelved, place_of, same_key, found, is_rate, has_rate, tag_for, IsShown}
@@ -185,28 +187,40 @@ module _ (slots : Slots) (items : Items) (shown : IsShown slots items) where
   shows : (i : Entry × Tag) → shown_of (λ (s : Stored). s.cluster.parts) slots i.0 ≡ shown_at (shelved slots) (place_of i)
   shows i = ap (λ o. record { number = i.0.serial; part = part_in o i.0.position }) (sym (get_shelved slots i.0.serial))
 
-  walks : (p : Tag → Bool) (xs : Items) → ((i : Entry × Tag) → Contains xs i → Contains items i)
-      → map (shown_of (λ (s : Stored). s.cluster.parts) slots) (entries_by p xs)
-      ≡ map (shown_at (shelved slots)) (filter (λ (place : ℕ × ℕ). passes p (finmap.get (shelved slots) place.0)) (map place_of xs))
+  holds : (i : Entry × Tag) → held_at_entry slots i.0 ≡ held_at (shelved slots) (place_of i)
+  holds i =
+      ap (λ (o : Option Stored). record { shown = record { number = i.0.serial; part = part_in o i.0.position }; cluster = cluster_in o })
+      (sym (get_shelved slots i.0.serial))
+
+  -- what is shown of each entry is what is shown of its place
+  walks : {X : Type 0} (of : Entry → X) (at_place : ℕ × ℕ → X) → ((i : Entry × Tag) → of i.0 ≡ at_place (place_of i))
+      → (p : Tag → Bool) (xs : Items) → ((i : Entry × Tag) → Contains xs i → Contains items i)
+      → map of (entries_by p xs) ≡ map at_place (filter (λ (place : ℕ × ℕ). passes p (finmap.get (shelved slots) place.0)) (map place_of xs))
   unfolding entries_by
-  walks p [] inside = refl
-  walks p (x ∷ xs) inside = by (p x.1) refl (walks p xs (λ i here. inside i (Contains-later x i xs here)))
+  walks of at_place alike p [] inside = refl
+  walks of at_place alike p (x ∷ xs) inside = by (p x.1) refl (walks of at_place alike p xs (λ i here. inside i (Contains-later x i xs here)))
     where
       same : passes p (finmap.get (shelved slots) x.0.serial) ≡ p x.1
       same = passes_at p x (inside x (Contains-head x xs))
 
       by : (b : Bool) → p x.1 ≡ b
-          → map (shown_of (λ (s : Stored). s.cluster.parts) slots) (map (λ i. i.0) (filter (λ i. p i.1) xs))
-          ≡ map (shown_at (shelved slots)) (filter (λ (place : ℕ × ℕ). passes p (finmap.get (shelved slots) place.0)) (map place_of xs))
-          → map (shown_of (λ (s : Stored). s.cluster.parts) slots) (map (λ i. i.0) (filter (λ i. p i.1) (x ∷ xs)))
-          ≡ map (shown_at (shelved slots)) (filter (λ (place : ℕ × ℕ). passes p (finmap.get (shelved slots) place.0)) (map place_of (x ∷ xs)))
+          → map of (map (λ i. i.0) (filter (λ i. p i.1) xs))
+          ≡ map at_place (filter (λ (place : ℕ × ℕ). passes p (finmap.get (shelved slots) place.0)) (map place_of xs))
+          → map of (map (λ i. i.0) (filter (λ i. p i.1) (x ∷ xs)))
+          ≡ map at_place (filter (λ (place : ℕ × ℕ). passes p (finmap.get (shelved slots) place.0)) (map place_of (x ∷ xs)))
       by true is rest = let there = same ∙ is in
-          rw (is, there) (ap (λ (s : Shown). s ∷ map (shown_of (λ (t : Stored). t.cluster.parts) slots) (map (λ i. i.0) (filter (λ i. p i.1) xs))) (shows x)
-          ∙ ap (λ (ys : List Shown). shown_at (shelved slots) (place_of x) ∷ ys) rest)
+          rw (is, there) (ap (λ y. y ∷ map of (map (λ i. i.0) (filter (λ i. p i.1) xs))) (alike x)
+          ∙ ap (λ ys. at_place (place_of x) ∷ ys) rest)
       by false is rest = let there = same ∙ is in rw (is, there) rest
 
   pub walk_shows : (p : Tag → Bool) (least : ℕ)
       → map (shown_of (λ (s : Stored). s.cluster.parts) slots) (entries_by p items)
       ≡ shown_by p (record { clusters = shelved slots; order = map place_of items; least = least })
   unfolding places_by
-  walk_shows p least = walks p items (λ i here. here)
+  walk_shows p least = walks (shown_of (λ (s : Stored). s.cluster.parts) slots) (shown_at (shelved slots)) shows p items (λ i here. here)
+
+  pub walk_holds : (level : Level) (least : ℕ)
+      → map (held_at_entry slots) (entries_by (is_in level) items)
+      ≡ held_in level (record { clusters = shelved slots; order = map place_of items; least = least })
+  unfolding places_by
+  walk_holds level least = walks (held_at_entry slots) (held_at (shelved slots)) holds (is_in level) items (λ i here. here)

@@ -2,6 +2,7 @@ pub mod Laws
 pub mod Lent
 pub mod Stores
 pub mod Walks
+pub mod Held
 pub mod Slots
 pub mod Changes
 pub mod Keys

@@ -1,5 +1,5 @@
 //! Clusters in a slab, and the index of their parts.
-ghost use Rattle.std.specs.Prelude.{◌≡◌, ℕ, ◌+◌, ◌<◌, ◌≤◌, ◌++◌, [], None, Some, IsSome, IfOk, OnOk, OnErr, MatchOption, Contains, length, map, take};
+ghost use Rattle.std.specs.Prelude.{◌≡◌, ◌≢◌, ℕ, ◌+◌, ◌<◌, ◌≤◌, ◌++◌, [], None, Some, IsSome, IfOk, OnOk, OnErr, MatchOption, Contains, length, map, take};
 ghost use Rattle.lists.specs.Distinct.{AreDistinct};
 ghost use Rattle.slab.specs.Slab.{get, Updates, SameValues};
 ghost use Rattle.chunk_index.specs.Keys.{key_of};
@@ -156,6 +156,7 @@ pub fn add_clusters<const W: usize>(
     requires { IsShown slots.old.slots index.old }
     ensures ok { IfOk result (λ numbers. AddsTo (map (λ c. record { cluster = c; tag = tag }) clusters.entry.items) numbers.items
         slots.old.slots slots.new.slots) }
+    ensures comes { OnErr result (clusters.entry.items ≢ []) }
     ensures err { OnErr result (SameValues slots.old slots.new) }
     ensures shown { IsShown slots.new.slots index.new }
 {

@@ -8,6 +8,7 @@
 
 mod clusters;
 mod entries;
+mod held;
 mod laws;
 mod least;
 mod rate_walk;
@@ -18,6 +19,7 @@ mod stored;
 mod tail;
 mod walk;
 
+pub use held::HeldWalk;
 pub use laws::{
     levels_are_picked, orders_are_kept, parts_are_told_by_clusters, parts_stand_in_order,
 };

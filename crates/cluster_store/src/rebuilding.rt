@@ -1,5 +1,5 @@
 //! What becomes of clusters, and of the index of their parts, where the top level changes.
-ghost use Rattle.std.specs.Prelude.{◌≡◌, ◌↔◌, ◌≤◌, ℕ, List, ◌∷◌, [], true, false, Some, IfOk, OnOk, OnErr, MatchOption};
+ghost use Rattle.std.specs.Prelude.{◌≡◌, ◌↔◌, ◌≤◌, ℕ, List, ◌∷◌, [], true, false, Some, IsSome, IfOk, OnOk, OnErr, MatchOption};
 ghost use Rattle.slab.specs.Slab.{SameValues};
 ghost use Rattle.chunk_index.specs.declared.entry.Tag.TheVariants.{Both};
 ghost use Rattle.cluster_store.specs.Kept.{IsShown, shelved};
@@ -31,6 +31,7 @@ pub fn rebuild<const W: usize>(
     requires may { MayLeave staged outs.now (shelved slots.old.slots) }
     ensures rebuilt { IfOk result (λ made. TopChanges staged outs.now made.rest.items made.last rest.entry.items last.entry
         (shelved slots.old.slots) (shelved slots.new.slots)) }
+    ensures comes { OnErr result (rest.entry.items ≡ [] → IsSome last.entry) }
     ensures err { OnErr result (SameValues slots.old slots.new) }
     ensures shown { IsShown slots.new.slots index.new }
 {
@@ -60,6 +61,7 @@ fn put_last<const W: usize>(
     requires may { MayLeave staged outs.now (shelved slots.old.slots) }
     ensures put { IfOk result (λ number. TopChanges staged outs.now [] number [] last.entry
         (shelved slots.old.slots) (shelved slots.new.slots)) }
+    ensures comes { OnErr result (IsSome last.entry) }
     ensures err { OnErr result (SameValues slots.old slots.new) }
     ensures shown { IsShown slots.new.slots index.new }
 {

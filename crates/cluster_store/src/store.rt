@@ -4,11 +4,13 @@ ghost use Rattle.graphs.specs.Merges.{Precedes};
 ghost use Rattle.cluster.specs.Clusters.{IsCluster};
 ghost use Rattle.cluster_store.specs.Stores.{Stored as Kept, IsStore, AreWhole, IsLeast, IsOrdered, shown_in, shown_only};
 ghost use Rattle.chunk_index.specs.declared.entry.Tag.TheVariants.{Both};
+ghost use Rattle.cluster_store.specs.Held.{held_in};
 ghost use Rattle.cluster_store.specs.Rates.{IsTail};
 ghost use Rattle.cluster_store.specs.Changes.{AreHeld, EndsAt, ExchangesEach, lowest_in, most_least, settled};
 ghost use Rattle.cluster_store.specs.Tops.{MayLeave, TopChanges};
 
 use crate::clusters::{cluster_of, entry_at, exchange_all, tag_of};
+use crate::held::HeldWalk;
 use crate::least::{lowest_exchanged, lowest_of_all, lowest_of_last};
 use crate::rate_walk::RateWalk;
 use crate::rebuilding::rebuild;
@@ -99,6 +101,13 @@ impl<const W: usize> ClusterStore<W> {
         PartWalk::new(&self.slots, self.index.walk(level))
     }
 
+    /// The parts of a level in the same order, each with its cluster. Takes no memory.
+    pub fn walk_held(&self, level: Level) -> HeldWalk<'_, W>
+        ensures { result ≡ held_in level self.now }
+    {
+        HeldWalk::new(&self.slots, self.index.walk(level))
+    }
+
     /// The parts of the clusters of one tag, in the same order. Takes no memory.
     ///
     /// Of main alone, no other part is looked at, nor of staging alone while all of its parts came so.
@@ -174,6 +183,7 @@ impl<const W: usize> ClusterStore<W> {
             self.old.clusters self.new.clusters) }
         ensures least { OnOk result (EndsAt self.new.clusters
             (lowest_in (rest.entry.items ++ option_to_list last.entry) self.old.least) self.new.least) }
+        ensures comes { OnErr result (rest.entry.items ≡ [] → IsSome last.entry) }
         ensures err { OnErr result (self.new ≡ self.old) }
         ensures store { IsStore (64 * W) self.new }
     {

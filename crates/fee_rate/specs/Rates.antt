@@ -3,7 +3,12 @@
 use Rattle.std.specs.Prelude.{◌<◌, ◌≡◌, ◌⊎◌, pos, ◌*ℤ◌, ◌≤ℤ◌, ◌<ℤ◌}
 use Rattle.std.specs.declared.cmp.Ordering.{Ordering}
 use Rattle.std.specs.declared.cmp.Ordering.TheVariants.{Less, Equal, Greater}
+use Rattle.fee_rate.specs.declared.rates.FeeRate.{FeeRate}
 use Rattle.fee_rate.specs.declared.rates.Sum.{Sum}
+
+-- a fee and a size, as sums are
+abbrev pub sum_from : FeeRate → Sum
+sum_from rate = record { fee = rate.fee; size = rate.size }
 
 -- the rate of a is at most that of b
 pub record AtMost (a b : Sum) : Type 0 where

@@ -10,4 +10,6 @@ mod rates;
 
 pub use laws::{full_order_is_an_order, rate_order_is_an_order, sums_lie_between};
 pub use limits::{MAX_FEE, MAX_SIZE, MAX_TOTAL, is_fee, is_rate, is_size, is_sum};
-pub use rates::{FeeRate, Sum, add, cmp_full, cmp_rate, is_below, minus, product};
+pub use rates::{
+    FeeRate, Sum, add, cmp_full, cmp_rate, cmp_rates, is_below, is_lower, minus, product,
+};

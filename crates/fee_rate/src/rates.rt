@@ -1,6 +1,6 @@
 ghost use Rattle.std.specs.Prelude.{◌≡◌, ◌+◌, ◌-◌, ◌*◌, ◌^◌, ◌<◌, ◌≤◌, pos, ◌+ℤ◌, ◌-ℤ◌, ◌*ℤ◌, unsigned_abs, MatchBool};
 ghost use Rattle.fee_rate.specs.Limits.{InRange, IsSum};
-ghost use Rattle.fee_rate.specs.Rates.{AtMost, Below, ComparesFully, ComparesRates};
+ghost use Rattle.fee_rate.specs.Rates.{sum_from, AtMost, Below, ComparesFully, ComparesRates};
 
 use crate::limits::{MAX_FEE, MAX_SIZE, MAX_TOTAL};
 use std::cmp::Ordering;
@@ -30,7 +30,32 @@ impl From<FeeRate> for Sum {
     }
 }
 
-/// Which rate is the lower one, fee over size. Both sizes are at least 1.
+/// Which of two rates is the lower one, fee over size. The products are exact whatever both are, so nothing is asked of either;
+/// it is an order where sizes are at least 1.
+#[inline(always)]
+pub fn cmp_rates(a: FeeRate, b: FeeRate) -> Ordering
+    ensures { ComparesRates (sum_from a) (sum_from b) result }
+{
+    times(a.fee, b.size).cmp(&times(b.fee, a.size))
+}
+
+/// Whether the first of two rates is the lower one, fee over size. As [`cmp_rates`], it asks nothing of either.
+#[inline(always)]
+pub fn is_lower(a: FeeRate, b: FeeRate) -> bool
+    ensures { MatchBool result (Below (sum_from a) (sum_from b)) (AtMost (sum_from b) (sum_from a)) }
+{
+    cmp_rates(a, b).is_lt()
+}
+
+// A fee times a size, which 128 bits hold whatever both are.
+#[inline(always)]
+fn times(fee: i64, size: u64) -> i128
+    ensures { result ≡ fee *ℤ pos size }
+{
+    i128::from(fee) * i128::from(size)
+}
+
+/// Which rate of two sums is the lower one, fee over size. Both sizes are at least 1.
 pub fn cmp_rate(a: Sum, b: Sum) -> Ordering
     requires a_in { IsSum a }
     requires b_in { IsSum b }

@@ -20,6 +20,8 @@ mod fee_rate_tests;
 #[cfg(test)]
 mod graphs_tests;
 #[cfg(test)]
+mod links_tests;
+#[cfg(test)]
 mod name_book_tests;
 #[cfg(test)]
 mod node_pool_tests;

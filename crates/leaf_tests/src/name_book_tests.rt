@@ -36,8 +36,7 @@ fn touch(book: &mut NameBook, a: TxId, b: TxId)
     ensures { book.new.book.issued ≡ book.old.book.issued }
 {
     if a != b && book.has(a) && book.has(b) {
-        book.release(a);
-        book.release(b);
+        book.release_all(&[a, b]);
         book.touch_all(&[a, b]);
     }
 }
@@ -46,7 +45,7 @@ fn release(book: &mut NameBook, id: TxId)
     ensures { book.new.book.issued ≡ book.old.book.issued }
 {
     if book.has(id) {
-        book.release(id);
+        book.release_all(&[id]);
     }
 }
 
@@ -54,8 +53,7 @@ fn move_to(book: &mut NameBook, to: TxId, id: TxId)
     ensures { book.new.book.issued ≡ book.old.book.issued }
 {
     if to != id && book.has(to) && book.has(id) {
-        book.part(&[id]);
-        book.join(to, id);
+        book.gather(to, &[id]);
     }
 }
 
@@ -174,7 +172,7 @@ fn shows(book: &mut NameBook, names: &[TxId]) -> bool {
                 if !names.contains(&id) {
                     return false;
                 }
-                book.release(id);
+                book.release_all(&[id]);
             }
             None => return false,
         }

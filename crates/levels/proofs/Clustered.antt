@@ -30,12 +30,12 @@ module _ (w : ℕ) (shelf : Shelf) (order : IsInOrder w shelf) (level : Level) w
   indexed = indexed_at w shelf order level
 
   -- the cluster of a part that is shown is seen under its number, and has its names
-  record IsOf (s : Shown) : Type 0 where
-    cluster : Cluster
-    there : seen_at level shelf.store.clusters s.number ≡ Some cluster
-    names : (id : ℕ) → Contains s.part.ids id → Contains cluster.names id
+  pub record IsOf (s : Shown) : Type 0 where
+    pub cluster : Cluster
+    pub there : seen_at level shelf.store.clusters s.number ≡ Some cluster
+    pub names : (id : ℕ) → Contains s.part.ids id → Contains cluster.names id
 
-  its : (s : Shown) → Contains (shown_in level shelf.store) s → IsOf s
+  pub its : (s : Shown) → Contains (shown_in level shelf.store) s → IsOf s
   its s here =
       let at = shown_placed (64 * w) level shelf.store order.store s here in
       record {

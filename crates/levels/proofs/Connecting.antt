@@ -1,10 +1,10 @@
 -- A name of the top level became a parent of another: what the levels see of it, and what is kept of them.
-use Rattle.std.proofs.Common.{◌≡◌, ◌≢◌, ◌≤◌, ℕ, ◌*◌, ◌&&◌, ◌||◌, Bool, true, false, cond, Option, Some, None, is_some, inl, inr, refl, sym, ◌∙◌, subst, subst₂, ◌⊎◌, Result, Ok, Err, OnOk, OnErr, MatchResult}
+use Rattle.std.proofs.Common.{◌≡◌, ◌≢◌, ◌≤◌, ℕ, ◌*◌, ◌&&◌, ◌||◌, Bool, true, false, cond, Option, Some, None, is_some, inl, inr, refl, sym, ap, arith, ◌∙◌, subst, subst₂, ◌⊎◌, Result, Ok, Err, OnOk, OnErr, MatchResult}
 use Rattle.std.specs.Result.{IsErrAnd}
 use Rattle.std.proofs.lemmas.Bool.{or_cases, or_left, and_parts}
-use Rattle.std.specs.FinSet as set
+use Rattle.std.specs.FinMap as finmap
+use Rattle.std.proofs.lemmas.Option.{same_Some}
 use Rattle.lists.proofs.Cases.{same_test}
-use Rattle.fee_rate.specs.declared.limits.TheConstants.{MAX_TOTAL}
 use Rattle.graphs.specs.Closures.{Closure, is_ancestor, AddsPair}
 use Rattle.graphs.specs.declared.names.Level.TheVariants.{Top}
 use Rattle.graph_model.specs.declared.names.Limits.{Limits}
@@ -14,14 +14,16 @@ use Rattle.graph_model.specs.Refusals.{NoRefusal}
 use Rattle.levels.specs.Joins.{DepRefusalIs}
 use Rattle.levels.specs.Kept.{IsKept, SuitsShelf}
 use Rattle.levels.specs.Levels.{OneLevel, Levels, ChangesTop, level_at, with_top}
+use Rattle.levels.specs.Links.{IsLink}
 use Rattle.levels.specs.Moves.{Connects}
-use Rattle.levels.specs.Rings.{Ringed}
-use Rattle.levels.specs.Shelves.{Shelf, IsInOrder, levels_of, view_of}
+use Rattle.levels.specs.declared.links.Link.TheVariants.{Between}
+use Rattle.levels.specs.Rings.{Fewer, Ringed}
+use Rattle.levels.specs.Shelves.{Shelf, IsInOrder, levels_of, numbers_at, view_of}
 use Rattle.levels.specs.Stays.{AllStay}
 use Rattle.levels.specs.Views.{graph_of}
 use Rattle.levels.proofs.Calls.{none_staged}
 use Rattle.levels.proofs.Finds.{graph_is}
-use Rattle.levels.proofs.Graphs.{order_of}
+use Rattle.levels.proofs.Graphs.{in_above, names_of_above, order_of}
 use Rattle.levels.proofs.Tallies.{mains_are_tops, tops_paired, top_turned}
 use Rattle.levels.proofs.Turned.{kept_turned}
 use Rattle.levels.proofs.Turning.{paired_keeps, paired_top}
@@ -63,6 +65,22 @@ there_top w issued shelf order p q there =
       same_top levels,
     )
 
+-- ---- names of two clusters
+
+module _ (w : ℕ) (shelf : Shelf) (p q first second : ℕ) (link : IsLink w shelf p q (Between first second)) where
+  between_apart : finmap.get (numbers_at Top shelf) p ≢ finmap.get (numbers_at Top shelf) q
+  between_apart same = elim link.0 [
+    | inl is ↦ link.1 (same_Some first second (sym is.0 ∙ same ∙ is.1))
+    | inr is ↦ link.1 (same_Some first second (sym is.1 ∙ sym same ∙ is.0))
+  ]
+
+  -- a name that is an ancestor of another is of its cluster
+  pub not_between : (order : IsInOrder w shelf) → is_ancestor (graph_of (view_of Top shelf)) p q ≡ true → ⊥
+  not_between order up =
+      let at = in_above (64 * w) (view_of Top shelf) order.top p q up in
+      let ends = names_of_above (64 * w) (view_of Top shelf) order.top at.number p q at.cluster at.there at.above in
+      between_apart (order.top.listed at.number p at.cluster at.there ends.0 ∙ sym (order.top.listed at.number q at.cluster at.there ends.1))
+
 -- ---- the change
 
 module _ (w issued : ℕ) (old new : Shelf) (before : IsInOrder w old) (after : IsInOrder w new)
@@ -93,29 +111,36 @@ either_count : (mains tops : ℕ) (staged : Bool) → (staged ≡ false → main
 either_count mains tops true same = refl
 either_count mains tops false same = same refl
 
+staged_on : (w : ℕ) (old new : Shelf) (parent child : ℕ) → Connects w parent child old new → is_some new.staging ≡ is_some old.staging
+staged_on w old new parent child connects = elim connects [
+  | inl there ↦ ap (λ (s : Shelf). is_some s.staging) there.1
+  | inr on ↦ on.1.1.rebuilds.staged
+]
+
 module _ (w mains tops issued : ℕ) (old new : Shelf) (before after : Ringed) (kept : IsKept w old before mains tops issued) where
   -- no level has another number of names
-  pub kept_connected : IsInOrder w new → SuitsShelf after new → is_some new.staging ≡ is_some old.staging → (parent child : ℕ) → Connects w parent child old new
-      → set.len after.book.names ≡ set.len before.book.names → after.book.issued ≡ before.book.issued → IsKept w new after mains tops issued
-  kept_connected order right same parent child connects names issues =
+  kept_connected : IsInOrder w new → SuitsShelf after new → (parent child : ℕ) → Connects w parent child old new → Fewer before after
+      → IsKept w new after mains tops issued
+  kept_connected order right parent child connects fewer =
       let turns = connected_top w issued old new kept.order order parent child connects in
       let paired = top_turned w issued old new kept.order order (λ g h. AddsPair g h parent child) turns in
+      let same = staged_on w old new parent child connects in
       kept_turned w mains tops issued old new before after kept order right same
       (λ g h. AddsPair g h parent child) turns (is_some new.staging) mains tops issued refl
       (kept.tops ∙ sym (tops_paired old new parent child paired))
       (either_count mains tops (is_some new.staging) (λ shut.
-      kept.mains ∙ mains_are_tops old (none_staged old.staging (is_some new.staging) same shut) ∙ sym kept.tops)) (kept.issued ∙ sym issues)
-      (subst (λ n. n ≤ MAX_TOTAL) (sym names) kept.few)
+      kept.mains ∙ mains_are_tops old (none_staged old.staging (is_some new.staging) same shut) ∙ sym kept.tops)) (kept.issued ∙ sym fewer.1)
+      (let few = kept.few in omega (arith, fewer.0, few))
 
   kept_same : new ≡ old → after ≡ before → IsKept w new after mains tops issued
   kept_same shelf rings = subst₂ (λ (s : Shelf) (r : Ringed). IsKept w s r mains tops issued) (sym shelf) (sym rings) kept
 
   -- the same of a call that may fail
-  pub kept_on : {T E : Type 0} (result : Result T E) → IsInOrder w new → SuitsShelf after new → is_some new.staging ≡ is_some old.staging → (parent child : ℕ)
-      → OnOk result (Connects w parent child old new) → (set.len after.book.names ≡ set.len before.book.names) × (after.book.issued ≡ before.book.issued)
+  pub kept_on : {T E : Type 0} (result : Result T E) → IsInOrder w new → SuitsShelf after new → (parent child : ℕ)
+      → OnOk result (Connects w parent child old new) → Fewer before after
       → OnErr result ((new ≡ old) × (after ≡ before)) → IsKept w new after mains tops issued
-  kept_on (Ok x) order right same parent child connects names err = kept_connected order right same parent child connects names.0 names.1
-  kept_on (Err e) order right same parent child connects names err = kept_same err.0 err.1
+  kept_on (Ok x) order right parent child connects fewer err = kept_connected order right parent child connects fewer
+  kept_on (Err e) order right parent child connects fewer err = kept_same err.0 err.1
 
 -- ---- no pair is refused for want of memory by its row
 

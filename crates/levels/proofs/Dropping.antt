@@ -1,17 +1,20 @@
 -- Names leave their clusters: what is left of these may come in, and what is made of it.
-use Rattle.std.proofs.Common.{◌≡◌, ℕ, ◌*◌, ◌<◌, List, [], ◌∷◌, ◌++◌, length, Contains, Option, Some, None, inl, inr, refl, sym, ap, ◌∙◌, subst, subst₂, arith}
+use Rattle.std.proofs.Common.{◌≡◌, ℕ, ◌*◌, ◌<◌, ◌≤◌, IsSome, true≢false, List, [], ◌∷◌, ◌++◌, length, Contains, Option, Some, None, inl, inr, refl, sym, ap, ◌∙◌, subst, subst₂, arith}
 use Rattle.std.specs.Prelude.{slice_get, slice_index, option_to_list, IfSome, sum_by}
 use Rattle.std.proofs.lemmas.List.{get_or_default}
+use Rattle.std.proofs.lemmas.List.Elements.{Contains-append_right}
 use Rattle.std.proofs.lemmas.Option.{none-some, same_Some}
 use Rattle.std.specs.FinMap as finmap
 use Rattle.lists.proofs.Told.{told_number}
 use Rattle.graphs.specs.declared.names.Level.TheVariants.{Top}
-use Rattle.cluster.specs.Clusters.{Cluster}
+use Rattle.lists.specs.Distinct.{AreDistinct}
+use Rattle.lists.proofs.Entries.{Contains-head}
+use Rattle.cluster.specs.Clusters.{Cluster, IsCluster}
 use Rattle.levels.specs.Changes.{AreAt, Covers, IsNamed}
 use Rattle.levels.specs.Lefts.{AreLeft}
 use Rattle.levels.specs.Moves.{DropsIn, DropsTop}
 use Rattle.levels.specs.Shelves.{IsInOrder, Shelf, numbers_at, seen_at}
-use Rattle.levels.specs.Tops.{HasFront, IsMade}
+use Rattle.levels.specs.Tops.{Comes, HasFront, IsMade}
 use Rattle.levels.proofs.Ends.{got}
 use Rattle.levels.proofs.Pointing.{names_in, one_at, one_list}
 
@@ -51,15 +54,31 @@ module _ (w : ℕ) (gone outs : List ℕ) (rest : List Cluster) (last : Option C
           let all : length c.names ≡ kept = omega (arith, count ∙ ap (λ o. names_in (option_to_list o)) is) in
           subst (λ n. HasFront n outs c.names (numbers_at Top shelf)) all (front_of c is)
 
-  pub drops_top : (made : List ℕ) (number : Option ℕ) (new : Shelf) → IsMade w outs made number rest last gone shelf new → DropsTop w outs made gone shelf new
-  drops_top made number new is =
-      let same : left.olds ≡ is.olds = one_list (seen_at Top shelf.store.clusters) outs left.olds is.olds left.at is.rebuilds.top.taken in
-      record {
-        number = number;
-        rest = rest;
-        last = last;
-        once = left.once;
-        is = is;
-        drops = subst (λ (olds : List Cluster). DropsIn olds (rest ++ option_to_list last) gone) same left.drops;
-        own = λ c d last_is first. left.own c d last_is (ap (λ (olds : List Cluster). slice_get olds 0) same ∙ first);
-      }
+  pub drops_top : (made : List ℕ) (number : Option ℕ) (new : Shelf) → IsMade w outs made number rest last gone shelf new → DropsTop w outs gone shelf new
+  drops_top made number new is = record {
+    made = made;
+    number = number;
+    rest = rest;
+    last = last;
+    is = is;
+    drops = subst (λ (olds : List Cluster). DropsIn olds (rest ++ option_to_list last) gone)
+        (one_list (seen_at Top shelf.store.clusters) outs left.olds is.olds left.at is.rebuilds.top.taken) left.drops;
+  }
+
+  some_last : (o : Option Cluster) → ((c : Cluster) → Contains (rest ++ option_to_list o) c → IsCluster (64 * w) c) → IsSome o → 1 ≤ names_in (option_to_list o)
+  some_last None whole some = absurd (true≢false (sym some))
+  some_last (Some c) whole some =
+      let has = (whole c (Contains-append_right rest (c ∷ []) c (Contains-head c []))).some in omega (arith, has)
+
+  -- what is left may come in
+  pub comes_left : AreDistinct gone → (kept : ℕ) → kept ≡ names_in (option_to_list last) → Comes w outs rest last kept gone shelf
+  comes_left lost kept count = record {
+    olds = left.olds;
+    once = left.once;
+    lost = lost;
+    at = left.at;
+    covers = covers_left;
+    known = λ id named. ((left.drops.names id).0 named).0;
+    front = has_own kept count;
+    some = λ some. subst (λ n. 1 ≤ n) (sym count) (some_last last left.whole some);
+  }

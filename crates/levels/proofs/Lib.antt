@@ -1,5 +1,4 @@
 mod Adding
-mod Alone
 mod Arranged
 mod Calls
 mod Closing
@@ -8,7 +7,6 @@ mod Connecting
 mod Counting
 mod Counts
 mod Cutting
-mod Departing
 mod Dropping
 mod Ended
 mod Ends
@@ -22,9 +20,9 @@ mod Forgetting
 mod Found
 mod Gaining
 mod Graphs
+mod Holding
 mod Keeping
 mod Leaving
-mod Linking
 mod Listed
 mod Lookups
 mod Losing
@@ -41,9 +39,9 @@ mod Pointing
 mod Preceding
 mod Rebuilding
 mod Rebuilt
+mod Regathered
+mod Regathering
 mod Regrouping
-mod Rejoining
-mod Reparting
 mod Repriced
 mod Repricing
 mod Rests

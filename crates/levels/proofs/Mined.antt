@@ -17,16 +17,15 @@ use Rattle.graph_model.specs.declared.names.Refusal.TheVariants.{Twice, Unknown,
 use Rattle.graph_model.specs.Refusals.{IsFirst, StandsTwice}
 use Rattle.graph_model.proofs.FirstLemmas.{first_in}
 use Rattle.name_book.specs.Books.{IsNamed}
-use Rattle.name_book.specs.Calls.{Keeps, Releases, Touches}
+use Rattle.name_book.specs.Calls.{Keeps, ReleasesAll, Touches}
 use Rattle.name_book.proofs.Named.{named-same}
 use Rattle.cluster.specs.Clusters.{Cluster}
 use Rattle.levels.specs.Kept.{IsKept, SuitsShelf}
-use Rattle.levels.specs.Mining.{FindsFirst, LacksListed, LacksTouched, MineRefusalIs, ReleasesAll}
+use Rattle.levels.specs.Mining.{FindsFirst, LacksListed, LacksTouched, MineRefusalIs}
 use Rattle.levels.specs.Rings.{Ringed, IsMarked}
 use Rattle.levels.specs.Shelves.{Shelf, IsInOrder, numbers_at, seen_at, view_of}
 use Rattle.levels.specs.Views.{Numbers, graph_of}
 use Rattle.levels.proofs.Finds.{indexed_at}
-use Rattle.levels.proofs.Forgetting.{in_more}
 use Rattle.levels.proofs.Gaining.{right_reserved}
 use Rattle.levels.proofs.Graphs.{above_in, above_from, in_live, member-number, names_of_above}
 use Rattle.levels.proofs.Seeking.{finds_alike}
@@ -98,25 +97,6 @@ module _ (w : ℕ) (shelf : Shelf) (order : IsInOrder w shelf) (rings : Ringed) 
       h.2 (subst (IsMarked rings) (one_name c.names id h.0 one here above) marked)
 
 -- ---- the names that are touched meanwhile
-
--- one name more is released
-pub released_next : (ids : List ℕ) (i : ℕ) (low : i < length ids) (old mid new : Ringed) → ReleasesAll (take i ids) old mid
-    → Releases (slice_index_or ids i 0) mid new → ReleasesAll (take (i + 1) ids) old new
-released_next ids i low old mid new so next = record {
-  names = next.names ∙ so.names;
-  main = λ x y. (λ share. (so.main x y).0 ((next.main x y).0 share), λ share. (next.main x y).1 ((so.main x y).1 share));
-  touched = λ x. (
-    λ marked.
-        let last = (next.touched x).0 marked in
-        let was = (so.touched x).0 last.0 in
-        (was.0, λ there. elim ((in_more ids i low x).1 there) [ inl before ↦ was.1 before | inr same ↦ last.1 same ]),
-    λ both. (next.touched x).1 (
-      (so.touched x).1 (both.0, λ before. both.1 ((in_more ids i low x).0 (inl before))),
-      λ same. both.1 ((in_more ids i low x).0 (inr same)),
-    ),
-  );
-  issued = next.issued ∙ so.issued;
-}
 
 module _ (ids : List ℕ) (old mid : Ringed) (touches : Touches (Contains ids) old mid) (none : (x : ℕ) → IsMarked old x → ⊥) where
   -- the touched names are the listed ones

@@ -1,19 +1,20 @@
 -- One more pair between names of one cluster, or of two, as the clusters tell it that go out and come in.
-use Rattle.std.proofs.Common.{◌≡◌, ℕ, ◌+◌, ◌<◌, ◌≤◌, true, ◌&&◌, ◌||◌, List, [], ◌∷◌, ◌++◌, length, get_or, Contains, Option, Some, inl, inr, ◌⊎◌, sym, ap, ◌∙◌, subst, subst₂, arith, length-append}
-use Rattle.std.specs.Prelude.{slice_get, slice_index}
+use Rattle.std.proofs.Common.{◌≡◌, ℕ, ◌+◌, ◌<◌, ◌≤◌, ◌*◌, true, ◌&&◌, ◌||◌, List, [], ◌∷◌, ◌++◌, length, get_or, Contains, Option, Some, inl, inr, ◌⊎◌, sym, ap, ◌∙◌, subst, subst₂, arith, length-append}
+use Rattle.std.specs.Prelude.{slice_get, slice_index, option_to_list, IfSome}
 use Rattle.std.proofs.lemmas.Bool.{and_from, and_parts, or_cases, or_left, or_right}
 use Rattle.std.proofs.lemmas.List.{get_or_append_left, get_or_default}
 use Rattle.std.proofs.lemmas.List.Elements.{Contains-append_left, Contains-append_right, Contains-append_cases}
 use Rattle.std.proofs.lemmas.Option.{same_Some}
 use Rattle.std.specs.FinMap as finmap
+use Rattle.lists.specs.Distinct.{AreDistinct}
 use Rattle.lists.proofs.Entries.{Contains-head, Contains-later, Contains-cases, none_in_empty}
 use Rattle.graphs.specs.declared.names.Level.TheVariants.{Top}
 use Rattle.graphs.specs.Closures.{is_ancestor, is_member, rate_of, AddsPair}
 use Rattle.cluster.specs.Clusters.{Cluster, IsCluster}
 use Rattle.cluster.specs.Changes.{AreAcross, IsAncestorIn, Joins, is_above}
-use Rattle.levels.specs.Changes.{AreAt, IsNamed}
-use Rattle.levels.specs.Moves.{AddsPairIn, PairsTop}
-use Rattle.levels.specs.Shelves.{Shelf, seen_at}
+use Rattle.levels.specs.Changes.{AreAt, Covers, IsNamed}
+use Rattle.levels.specs.Moves.{AddsPairIn, PairsIn, PairsTop}
+use Rattle.levels.specs.Shelves.{Shelf, numbers_at, seen_at}
 use Rattle.levels.specs.Tops.{HasFront, IsMade}
 use Rattle.levels.specs.Views.{Numbers}
 use Rattle.levels.proofs.Making.{named_one, olds_are, one_made, one_named}
@@ -167,17 +168,40 @@ module _ (most p q : ℕ) (one other now : Cluster) (one_whole : IsCluster most 
 
 -- ---- the change
 
-pub pairs_top : (w : ℕ) (outs made : List ℕ) (number : Option ℕ) (p q : ℕ) (olds : List Cluster) (now : Cluster) (old new : Shelf)
-    → AreAt (seen_at Top old.store.clusters) outs olds → AddsPairIn olds (now ∷ []) p q → IsMade w outs made number [] (Some now) [] old new
-    → PairsTop w outs p q old new
-pairs_top w outs made number p q olds now old new at pair is =
-    let one = one_made w outs made number now [] old new is in record {
+pub pairs_top : (w : ℕ) (outs made : List ℕ) (number : Option ℕ) (p q : ℕ) (rest : List Cluster) (last : Option Cluster) (kept : ℕ) (old new : Shelf)
+    → PairsIn w outs p q rest last kept old → IsMade w outs made number rest last [] old new → PairsTop w outs p q old new
+pairs_top w outs made number p q rest last kept old new pairs is =
+    let told = subst₂ (λ (cs : List Cluster) (o : Option Cluster). IsMade w outs made number cs o [] old new) pairs.none pairs.one is in
+    let one = one_made w outs made number pairs.now [] old new told in record {
       made = one.0;
-      olds = olds;
-      now = now;
-      rebuilds = olds_are w outs (one.0 ∷ []) (now ∷ []) is.olds olds [] old new at one.1;
-      pair = pair;
+      olds = pairs.comes.olds;
+      now = pairs.now;
+      rebuilds = olds_are w outs (one.0 ∷ []) (pairs.now ∷ []) told.olds pairs.comes.olds [] old new pairs.comes.at one.1;
+      pair = pairs.pair;
     }
+
+-- ---- what may come in
+
+pub pairs_in : (w : ℕ) (outs : List ℕ) (p q : ℕ) (olds : List Cluster) (now : Cluster) (rest : List Cluster) (last : Option Cluster) (kept : ℕ) (shelf : Shelf)
+    → rest ≡ [] → last ≡ Some now → AreDistinct outs → AreAt (seen_at Top shelf.store.clusters) outs olds
+    → Covers (64 * w) olds (now ∷ []) [] (numbers_at Top shelf) → HasFront kept outs now.names (numbers_at Top shelf) → 1 ≤ kept
+    → AddsPairIn olds (now ∷ []) p q → PairsIn w outs p q rest last kept shelf
+pairs_in w outs p q olds now rest last kept shelf none one once at covers front some pair = record {
+  now = now;
+  none = none;
+  one = one;
+  comes = record {
+    olds = olds;
+    once = once;
+    lost = tt;
+    at = at;
+    covers = subst₂ (λ (cs : List Cluster) (o : Option Cluster). Covers (64 * w) olds (cs ++ option_to_list o) [] (numbers_at Top shelf)) (sym none) (sym one) covers;
+    known = λ id named. (pair.names id).0 (subst₂ (λ (cs : List Cluster) (o : Option Cluster). IsNamed (cs ++ option_to_list o) id) none one named);
+    front = subst (λ (o : Option Cluster). IfSome o (λ c. HasFront kept outs c.names (numbers_at Top shelf))) (sym one) front;
+    some = λ _. some;
+  };
+  pair = pair;
+}
 
 -- the first names of the cluster that comes in are those of the first that goes out
 pub has_front : (first kept : ℕ) (others front back names : List ℕ) (numbers : Numbers) → names ≡ front ++ back → kept ≡ length front

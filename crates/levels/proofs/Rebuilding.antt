@@ -145,21 +145,30 @@ pairs_left xs ys pairs i j d before low =
     let two : get_or (xs ++ ys) j d ≡ get_or xs j d = get_or_append_left xs ys d j low in
     subst₂ AreApart one two (pairs i j d before (omega (arith, low, length-append xs ys)))
 
-module _ (staged : Bool) (outs made : List ℕ) (number : Option ℕ) (rest : List Cluster) (last : Option Cluster) (s t : Numbered)
-    (changes : TopChanges staged outs made number rest last s t) where
-  abbrev stand : AreAt (seen_at Top t) (made ++ option_to_list number) (rest ++ option_to_list last)
-  stand = changes.exchanged.top.stand
-
+-- what came in stands under its numbers
+module _ (made : List ℕ) (number : Option ℕ) (rest : List Cluster) (last : Option Cluster) (t : Numbered)
+    (stand : AreAt (seen_at Top t) (made ++ option_to_list number) (rest ++ option_to_list last)) (count : length made ≡ length rest) where
   pub rest_stored : AreAt (stored_at t) made rest
-  rest_stored = at_stored t made rest (at_left (seen_at Top t) made (option_to_list number) rest (option_to_list last) stand changes.count)
+  rest_stored = at_stored t made rest (at_left (seen_at Top t) made (option_to_list number) rest (option_to_list last) stand count)
 
   -- there is a last one where it has a number
   last_of : (k : ℕ) (o : Option Cluster) → length (made ++ k ∷ []) ≡ length (rest ++ option_to_list o) → (c : Cluster) × (o ≡ Some c)
-  last_of k None same = absurd (omega (arith, same, changes.count, length-append made (k ∷ []), length-append rest []))
+  last_of k None same = absurd (omega (arith, same, count, length-append made (k ∷ []), length-append rest []))
   last_of k (Some c) same = (c, refl)
 
   pub last_is : (k : ℕ) → number ≡ Some k → (c : Cluster) × (last ≡ Some c)
   last_is k is = last_of k last (subst (λ o. length (made ++ option_to_list o) ≡ length (rest ++ option_to_list last)) is stand.count)
+
+  -- and there is none where it has none
+  pub no_last : number ≡ None → last ≡ None
+  no_last none = from last refl
+    where
+      from : (o : Option Cluster) → last ≡ o → last ≡ None
+      from None is = is
+      from (Some c) is =
+          let same : length (made ++ []) ≡ length (rest ++ c ∷ []) =
+          subst₂ (λ n o. length (made ++ option_to_list n) ≡ length (rest ++ option_to_list o)) none is stand.count in
+          absurd (omega (arith, same, count, length-append made [], length-append rest (c ∷ [])))
 
   pub last_stored : (k : ℕ) (c : Cluster) → number ≡ Some k → last ≡ Some c → stored_at t k ≡ Some c
   last_stored k c one two =
@@ -167,12 +176,12 @@ module _ (staged : Bool) (outs made : List ℕ) (number : Option ℕ) (rest : Li
       subst₂ (λ n o. AreAt (seen_at Top t) (made ++ option_to_list n) (rest ++ option_to_list o)) one two stand in
       let here : slice_get (rest ++ c ∷ []) (length rest) ≡ Some c =
       slice_get-get_or (rest ++ c ∷ []) (length rest) c (omega (arith, length-append rest (c ∷ []))) ∙ ap Some (get_or_push rest c c (length rest) refl) in
-      seen_is_stored Top t k c (ap (seen_at Top t) (sym (index_last made k (length rest) (sym changes.count))) ∙ is.stand (length rest) c here)
+      seen_is_stored Top t k c (ap (seen_at Top t) (sym (index_last made k (length rest) (sym count))) ∙ is.stand (length rest) c here)
 
   -- there is room for the names of the last
-  pub last_there : (kept spare : ℕ) (numbers : Numbers) → IfSome last (λ c. HasFront kept outs c.names numbers) → names_in (option_to_list last) ≤ spare
+  pub last_there : (outs : List ℕ) (kept spare : ℕ) (numbers : Numbers) → IfSome last (λ c. HasFront kept outs c.names numbers) → names_in (option_to_list last) ≤ spare
       → IfSome number (λ k. (c : Cluster) × (stored_at t k ≡ Some c) × (kept ≤ length c.names) × (length c.names ≤ spare))
-  last_there kept spare numbers front room = from number refl
+  last_there outs kept spare numbers front room = from number refl
     where
       from : (o : Option ℕ) → number ≡ o → IfSome o (λ k. (c : Cluster) × (stored_at t k ≡ Some c) × (kept ≤ length c.names) × (length c.names ≤ spare))
       from None none = tt

@@ -124,9 +124,9 @@ module _ (w issued : ℕ) (old new : Shelf) (before : IsInOrder w old) (after : 
         top_stays w old new before after issued issued outs made_of pairs.olds (pairs.now ∷ []) [] pairs.rebuilds
         (pair_away (64 * w) pairs.olds (pairs.now ∷ []) [] was now told olds_in news_in p q pairs.pair apart)
 
-  module _ (outs made gone : List ℕ) (d : DropsTop w outs made gone old new) where
+  module _ (outs gone : List ℕ) (d : DropsTop w outs gone old new) where
     abbrev all : List ℕ
-    all = made ++ option_to_list d.number
+    all = d.made ++ option_to_list d.number
 
     abbrev left : List Cluster
     left = d.rest ++ option_to_list d.last

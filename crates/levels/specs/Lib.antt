@@ -1,4 +1,5 @@
 pub mod Changes
+pub mod Held
 pub mod Joins
 pub mod Kept
 pub mod Lefts

@@ -1,9 +1,9 @@
 -- Why names can't be mined, by the names and ancestors of main.
-use Rattle.std.specs.Prelude.{◌≡◌, ◌↔◌, ℕ, true, false, List, Contains, Option, MatchOption}
+use Rattle.std.specs.Prelude.{◌≡◌, ℕ, true, false, List, Contains, Option, MatchOption}
 use Rattle.graphs.specs.Closures.{Closure, is_member, is_ancestor}
 use Rattle.graph_model.specs.declared.names.Refusal.{Refusal}
 use Rattle.graph_model.specs.Refusals.{IsFirst, MineRow}
-use Rattle.levels.specs.Rings.{Ringed, IsMarked, ShareMain}
+use Rattle.levels.specs.Rings.{Ringed, IsMarked}
 
 -- the name has an ancestor that isn't listed
 abbrev pub LacksListed : Closure → List ℕ → ℕ → Type 0
@@ -20,10 +20,3 @@ FindsFirst P ids found = MatchOption found ((id : ℕ) → Contains ids id → P
 -- the name has an ancestor that isn't touched
 abbrev pub LacksTouched : Closure → Ringed → ℕ → Type 0
 LacksTouched g rings id = (a : ℕ) × (is_ancestor g a id ≡ true) × (IsMarked rings a → ⊥)
-
--- these names aren't touched any more
-pub record ReleasesAll (ids : List ℕ) (old new : Ringed) : Type 0 where
-  pub names : new.book.names ≡ old.book.names
-  pub main : (x y : ℕ) → ShareMain new x y ↔ ShareMain old x y
-  pub touched : (x : ℕ) → IsMarked new x ↔ (IsMarked old x × (Contains ids x → ⊥))
-  pub issued : new.book.issued ≡ old.book.issued

@@ -1,7 +1,6 @@
 -- What the changes of a shelf make of clusters.
-use Rattle.std.specs.Prelude.{◌≡◌, ◌≢◌, ◌⊎◌, ◌↔◌, ℕ, ℤ, ◌+◌, ◌*◌, length, MatchOption, true, false, List, [], ◌∷◌, ◌++◌, Contains, slice_get, Option, None, Some, option_to_list}
+use Rattle.std.specs.Prelude.{◌≡◌, ◌≢◌, ◌⊎◌, ◌↔◌, ℕ, ℤ, ◌+◌, ◌*◌, length, MatchOption, true, false, List, [], ◌∷◌, ◌++◌, Contains, Option, None, Some, option_to_list}
 use Rattle.std.specs.FinMap as finmap
-use Rattle.lists.specs.Distinct.{AreDistinct}
 use Rattle.graphs.specs.declared.names.Level.{Level}
 use Rattle.graphs.specs.declared.names.Level.TheVariants.{Main, Top}
 use Rattle.fee_rate.specs.declared.rates.FeeRate.{FeeRate}
@@ -12,7 +11,7 @@ use Rattle.cluster.specs.Changes.{IsAncestorIn, IsSingle}
 use Rattle.cluster.specs.Steps.{GrowsWithin, most_steps}
 use Rattle.levels.specs.Changes.{IsNamed, Rebuilds}
 use Rattle.levels.specs.Shelves.{Shelf, numbers_at, seen_at, stored_at, view_of}
-use Rattle.levels.specs.Tops.{IsMade, TopRebuilds}
+use Rattle.levels.specs.Tops.{Comes, IsMade, TopRebuilds}
 use Rattle.levels.specs.Views.{graph_of}
 
 -- a name that clusters have before and after has the same rate in both
@@ -60,16 +59,22 @@ Connects w parent child old new =
     (is_ancestor (graph_of (view_of Top old)) parent child ≡ true × (new ≡ old))
     ⊎ ((is_ancestor (graph_of (view_of Top old)) parent child ≡ false) × ((outs : List ℕ) × PairsTop w outs parent child old new))
 
--- Names left the top level: the clusters of these numbers went out, and what was left of them came in, under these numbers and, one of the
--- first of them, under another.
-pub record DropsTop (w : ℕ) (outs made : List ℕ) (gone : List ℕ) (old new : Shelf) : Type 0 where
+-- What may come in in the place of the clusters of some numbers, with one more pair.
+pub record PairsIn (w : ℕ) (outs : List ℕ) (parent child : ℕ) (rest : List Cluster) (last : Option Cluster) (kept : ℕ) (shelf : Shelf) : Type 0 where
+  pub now : Cluster
+  pub none : rest ≡ []
+  pub one : last ≡ Some now
+  pub comes : Comes w outs rest last kept [] shelf
+  pub pair : AddsPairIn comes.olds (now ∷ []) parent child
+
+-- Names left the top level: the clusters of these numbers went out, and what was left of them came in.
+pub record DropsTop (w : ℕ) (outs gone : List ℕ) (old new : Shelf) : Type 0 where
+  pub made : List ℕ
   pub number : Option ℕ
   pub rest : List Cluster
   pub last : Option Cluster
-  pub once : AreDistinct outs
   pub is : IsMade w outs made number rest last gone old new
   pub drops : DropsIn is.olds (rest ++ option_to_list last) gone
-  pub own : (c d : Cluster) → last ≡ Some c → slice_get is.olds 0 ≡ Some d → (id : ℕ) → Contains c.names id → Contains d.names id
 
 -- In a level that has the name its cluster has another fee for it; of a level that hasn't all that is seen stays.
 pub record SetsFeeAt (w id : ℕ) (fee : ℤ) (level : Level) (old new : Shelf) : Type 0 where

@@ -1,7 +1,9 @@
 -- What the names' book is, by the numbers of names in both levels.
-use Rattle.std.specs.Prelude.{◌≡◌, ◌≢◌, ◌⊎◌, ◌↔◌, ℕ, List, Contains, Some, IsSome}
+use Rattle.std.specs.Prelude.{◌≡◌, ◌≢◌, ◌⊎◌, ◌↔◌, ◌≤◌, ℕ, List, drop, slice_index, Contains, Some, IsSome}
 use Rattle.std.specs.FinMap as finmap
+use Rattle.std.specs.FinSet as set
 use Rattle.name_book.specs.Books.{IsNamed}
+use Rattle.name_book.specs.Calls.{AreGathered}
 use Rattle.chunk_index.specs.declared.entry.Tag.TheVariants.{MainOnly}
 use Rattle.cluster.specs.Clusters.{Cluster}
 use Rattle.levels.specs.Shelves.{Shelf}
@@ -40,3 +42,14 @@ pub record Forgets (These : ℕ → Type 0) (old new : Ringed) : Type 0 where
   pub names : (x : ℕ) → IsNamed new.book x ↔ (IsNamed old.book x × (These x → ⊥))
   pub main : (x y : ℕ) → ShareMain new x y ↔ (ShareMain old x y × (These x → ⊥) × (These y → ⊥))
   pub touched : (x : ℕ) → IsMarked new x ↔ (IsMarked old x × (These x → ⊥))
+
+-- the names of a cluster, but for as many as kept from the first, join the ring of the first
+pub record JoinsLast (kept : ℕ) (c : Cluster) (old new : Ringed) : Type 0 where
+  pub names : new.book.names ≡ old.book.names
+  pub main : AreGathered (slice_index c.names 0) (drop kept c.names) old new
+  pub touched : (x : ℕ) → IsMarked new x ↔ IsMarked old x
+  pub issued : new.book.issued ≡ old.book.issued
+
+-- there are no more names than there were, and none was issued
+abbrev pub Fewer : Ringed → Ringed → Type 0
+Fewer old new = (set.len new.book.names ≤ set.len old.book.names) × (new.book.issued ≡ old.book.issued)

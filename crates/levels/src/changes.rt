@@ -8,16 +8,15 @@ ghost use Rattle.graphs.specs.Graphs.{Lists};
 ghost use Rattle.cluster.specs.Clusters as records;
 ghost use Rattle.cluster.specs.Steps.{GrowsWithin, most_steps, most_steps_of};
 ghost use Rattle.levels.specs.Joins.{DepRefusalIs};
-ghost use Rattle.levels.specs.Lefts.{DropsWithin};
 ghost use Rattle.levels.specs.Levels.{steps_where};
 ghost use Rattle.levels.specs.Links.{IsLink};
-ghost use Rattle.levels.specs.Moves.{AreNumbersOf, ArePriced, DropsTop, GrowsForBoth, IsPriced, PairsTop, SetsFees};
+ghost use Rattle.levels.specs.Moves.{AreNumbersOf, ArePriced, GrowsForBoth, IsPriced, PairsIn, SetsFees};
 ghost use Rattle.levels.specs.Shelves.{IsInOrder, numbers_at, seen_at, stored_at, view_of};
 ghost use Rattle.levels.specs.Views.{graph_of};
 
-use crate::left::Left;
+use crate::left::News;
 use crate::links::{Link, refused_sum, way_within};
-use crate::shelves::{Shelves, last_count};
+use crate::shelves::Shelves;
 use chunk_index::Tag;
 use cluster::Work;
 use cluster_store::Exchange;
@@ -85,60 +84,59 @@ impl<const W: usize> Shelves<W> {
         !self.is_staged() || self.tag(number) != Tag::Both
     }
 
-    /// Makes a name of the top level a parent of another of its cluster. Without memory all stays as it was.
-    pub fn link<L: Ledger>(
-        &mut self,
+    /// What comes in where a name of the top level becomes a parent of another of its cluster.
+    pub(crate) fn link<L: Ledger>(
+        &self,
         number: usize,
         parent: TxId,
         child: TxId,
         work: &mut Work<W>,
         steps: &mut Steps<L>,
-    ) -> Result<(), NoMemory>
-        requires order { IsInOrder W self.old }
-        requires link { IsLink W self.old parent child (Link.Within number) }
-        ensures linked { OnOk result (PairsTop W (number ∷ []) parent child self.old self.new) }
-        ensures order { IsInOrder W self.new }
-        ensures err { OnErr result (self.new ≡ self.old) }
+    ) -> Result<News<W>, NoMemory>
+        requires order { IsInOrder W self.now }
+        requires link { IsLink W self.now parent child (Link.Within number) }
+        ensures linked { IfOk result (λ news. PairsIn W (number ∷ []) parent child news.rest.items news.last news.kept self.now) }
         ensures steps { (ids : List ℕ)
-            → Lists (λ q. AreLinked (graph_of (view_of Top self.old)) q parent ⊎ AreLinked (graph_of (view_of Top self.old)) q child) ids
+            → Lists (λ q. AreLinked (graph_of (view_of Top self.now)) q parent ⊎ AreLinked (graph_of (view_of Top self.now)) q child) ids
             → GrowsWithin (most_steps (length ids)) steps.old steps.new }
     {
         let cluster = self.at(number);
         let changed = cluster.linked(self.alloc, parent, child, work, steps)?;
-        let all = changed.names().len();
-        let outs = [number];
-        let none = Vec::new(self.alloc);
-        self.rebuild(&outs, none, Some(changed), all, &[])?;
-        Ok(())
+        let kept = changed.names().len();
+        let rest = Vec::new(self.alloc);
+        Ok(News {
+            rest,
+            last: Some(changed),
+            kept,
+        })
     }
 
-    /// Makes a name of the top level a parent of another of another cluster, and so one cluster of both. Without memory all stays as
-    /// it was.
-    pub fn join<L: Ledger>(
-        &mut self,
+    /// What comes in where a name of the top level becomes a parent of another of another cluster: one cluster of both.
+    pub(crate) fn join<L: Ledger>(
+        &self,
         first: usize,
         second: usize,
         parent: TxId,
         child: TxId,
         work: &mut Work<W>,
         steps: &mut Steps<L>,
-    ) -> Result<(), NoMemory>
-        requires order { IsInOrder W self.old }
-        requires link { IsLink W self.old parent child (Link.Between first second) }
-        ensures joined { OnOk result (PairsTop W (first ∷ second ∷ []) parent child self.old self.new) }
-        ensures order { IsInOrder W self.new }
-        ensures err { OnErr result (self.new ≡ self.old) }
+    ) -> Result<News<W>, NoMemory>
+        requires order { IsInOrder W self.now }
+        requires link { IsLink W self.now parent child (Link.Between first second) }
+        ensures joined { IfOk result (λ news. PairsIn W (first ∷ second ∷ []) parent child news.rest.items news.last news.kept self.now) }
         ensures steps { (ids : List ℕ)
-            → Lists (λ q. AreLinked (graph_of (view_of Top self.old)) q parent ⊎ AreLinked (graph_of (view_of Top self.old)) q child) ids
+            → Lists (λ q. AreLinked (graph_of (view_of Top self.now)) q parent ⊎ AreLinked (graph_of (view_of Top self.now)) q child) ids
             → GrowsWithin (most_steps (length ids)) steps.old steps.new }
     {
         let one = self.at(first);
         let kept = one.names().len();
         let joined = one.joined(self.alloc, self.at(second), parent, child, work, steps)?;
-        let outs = [first, second];
-        let none = Vec::new(self.alloc);
-        self.rebuild(&outs, none, Some(joined), kept, &[])?;
-        Ok(())
+        let rest = Vec::new(self.alloc);
+        Ok(News {
+            rest,
+            last: Some(joined),
+            kept,
+        })
     }
 
     /// Gives a name another fee, in satoshis, in each level that has it. A fee that is the same changes nothing. Without memory all
@@ -236,27 +234,5 @@ impl<const W: usize> Shelves<W> {
     {
         let changed = self.at(number).with_fee(self.alloc, id, fee, work, steps)?;
         Ok(Exchange::new(number, changed))
-    }
-
-    /// Drops names of the top level. The others keep the ancestors that they had among them, and each component of those of a cluster
-    /// that are left is a cluster then. Answers the numbers of the clusters that lost a name, and those of what is left but for one, which
-    /// may stand under the first of them. Without memory all stays as it was.
-    pub fn drop_all<L: Ledger>(
-        &mut self,
-        ids: &[TxId],
-        work: &mut Work<W>,
-        steps: &mut Steps<L>,
-    ) -> Result<(Vec<usize>, Vec<usize>), NoMemory>
-        requires order { IsInOrder W self.old }
-        requires live { (id : ℕ) → Contains ids.now id → IsSome (finmap.get (numbers_at Top self.old) id) }
-        ensures dropped { IfOk result (λ made. DropsTop W made.0.items made.1.items ids.now self.old self.new) }
-        ensures order { IsInOrder W self.new }
-        ensures err { OnErr result (self.new ≡ self.old) }
-        ensures steps { DropsWithin ids.now (graph_of (view_of Top self.old)) steps.old steps.new }
-    {
-        let Left { outs, rest, last } = self.leave(ids, work, steps)?;
-        let kept = last_count(&last);
-        let made = self.rebuild(outs.as_slice(), rest, last, kept, ids)?;
-        Ok((outs, made.rest))
     }
 }

@@ -26,6 +26,15 @@ pub struct Left<const W: usize> {
     pub last: Option<Cluster<W>>,
 }
 
+/// What comes in where clusters go out: the last of it takes the number of the first of those, and has as many of its names as `kept`, from
+/// the first.
+#[derive(Drop)]
+pub struct News<const W: usize> {
+    pub rest: Vec<Cluster<W>>,
+    pub last: Option<Cluster<W>>,
+    pub kept: usize,
+}
+
 impl<const W: usize> Shelves<W> {
     /// What is left of the clusters of some names of the top level without these: each component of the other names of a cluster is one
     /// then.

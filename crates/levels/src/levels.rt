@@ -10,8 +10,10 @@ ghost use Rattle.graph_model.specs.declared.names.Refusal.TheVariants.{Memory};
 ghost use Rattle.graph_model.specs.Answers.{order_of, StandsTo};
 ghost use Rattle.cluster.specs.Clusters.{IsCluster};
 ghost use Rattle.cluster.specs.Steps.{GrowsWithin, most_steps};
+ghost use Rattle.cluster_store.specs.Held.{Held};
 ghost use Rattle.cluster_store.specs.Lent.{lent};
 ghost use Rattle.diagram.specs.Parts.{AreLevelParts, YieldsParts};
+ghost use Rattle.levels.specs.Held.{IsHeldIn};
 ghost use Rattle.levels.specs.Orders.{ComparesParts, ListsCovers, sums_of};
 ghost use Rattle.levels.specs.Levels.{AddsName, ChangesTop, GrowsForFee, HavePicks, IsBest, IsLive, LosesNames, SetsFeeIn, level_at, no_names};
 ghost use Rattle.levels.specs.Joins.{DepRefusalIs};
@@ -27,7 +29,7 @@ use crate::moving::{add_name, connect, drop_names};
 use crate::settling::settle_rings;
 use crate::shelves::Shelves;
 use cluster::{Cluster, Covers, PartRef, Work};
-use cluster_store::{PartWalk, RateWalk, Stored};
+use cluster_store::{HeldWalk, PartWalk, RateWalk, Stored};
 use graph_model::{Level, Limits, Place, Refusal, TxId, Verdict};
 use name_book::NameBook;
 use outside::NoMemory;
@@ -337,6 +339,15 @@ impl<const W: usize> Levels<W> {
     {
         let _count = self.mains;
         self.shelves.parts(level)
+    }
+
+    /// The same parts, each with its cluster. Takes no memory.
+    pub fn held(&self, level: Level) -> HeldWalk<'_, W>
+        ensures parts { map (λ h. h.shown.part) result ≡ (level_at self.now level).parts }
+        ensures clusters { (h : Held) → Contains result h → IsHeldIn (level_at self.now level) h }
+    {
+        let _count = self.mains;
+        self.shelves.held(level)
     }
 
     /// A size, in virtual bytes, that no name of main is below. Takes no memory.

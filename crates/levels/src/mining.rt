@@ -6,7 +6,7 @@ ghost use Rattle.graphs.specs.Closures.{is_member, is_ancestor};
 ghost use Rattle.name_book.specs.Books.{IsNamed};
 ghost use Rattle.name_book.specs.Calls.{Keeps};
 ghost use Rattle.levels.specs.Kept.{SuitsShelf};
-ghost use Rattle.levels.specs.Mining.{FindsFirst, LacksListed, LacksTouched, MineRefusalIs, ReleasesAll};
+ghost use Rattle.levels.specs.Mining.{FindsFirst, LacksListed, LacksTouched, MineRefusalIs};
 ghost use Rattle.levels.specs.Rings.{IsMarked};
 ghost use Rattle.levels.specs.Shelves.{IsInOrder, view_of};
 ghost use Rattle.levels.specs.Views.{graph_of};
@@ -72,7 +72,7 @@ fn first_lacking<const W: usize>(
 {
     rings.touch_all(ids);
     let found = first_untouched(shelves, rings, ids);
-    release_all(rings, ids);
+    rings.release_all(ids);
     found
 }
 
@@ -124,14 +124,4 @@ fn has_untouched<const W: usize>(cluster: &Cluster<W>, rings: &NameBook, id: TxI
         }
     }
     false
-}
-
-// Takes names out of the touched ones.
-fn release_all(rings: &mut NameBook, ids: &[TxId])
-    requires { (id : ℕ) → Contains ids.now id → IsNamed rings.old.book id }
-    ensures { ReleasesAll ids.now rings.old rings.new }
-{
-    for id in ids {
-        rings.release(*id);
-    }
 }

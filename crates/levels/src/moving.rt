@@ -1,5 +1,5 @@
 //! Changes of the shelves together with the rings.
-ghost use Rattle.std.specs.Prelude.{◌≡◌, ◌⊎◌, ◌↔◌, ℕ, ◌+◌, ◌-◌, ◌^◌, ◌<◌, ◌≤◌, true, None, Some, List, ◌∷◌, [], length, is_some, Contains, IsSome, OnOk, OnErr};
+ghost use Rattle.std.specs.Prelude.{◌≡◌, ◌⊎◌, ◌↔◌, ℕ, ◌+◌, ◌-◌, ◌^◌, ◌<◌, ◌≤◌, true, None, Some, List, ◌∷◌, [], length, is_some, Option, Contains, IfSome, IsSome, OnOk, OnErr};
 ghost use Rattle.std.specs.FinMap as finmap;
 ghost use Rattle.std.specs.FinSet as set;
 ghost use Rattle.lists.specs.Distinct.{AreDistinct};
@@ -20,12 +20,14 @@ ghost use Rattle.levels.specs.Kept.{SuitsShelf};
 ghost use Rattle.levels.specs.Lefts.{DropsWithin};
 ghost use Rattle.levels.specs.Links.{IsLink};
 ghost use Rattle.levels.specs.Moves.{AddsTop, Connects, DropsTop};
-ghost use Rattle.levels.specs.Rings.{AreNamedOnce, Forgets, IsMarked, LeftMain, LeftOf, ShareMain};
+ghost use Rattle.levels.specs.Rings.{AreNamedOnce, Fewer, Forgets, IsMarked, JoinsLast, LeftMain, LeftOf, ShareMain};
 ghost use Rattle.levels.specs.Shelves.{IsInOrder, numbers_at, stored_at, view_of};
+ghost use Rattle.levels.specs.Tops.{Comes, IsMade};
 ghost use Rattle.levels.specs.Views.{graph_of};
 
+use crate::left::{Left, News};
 use crate::links::Link;
-use crate::shelves::Shelves;
+use crate::shelves::{Shelves, last_count};
 use cluster::{Cluster, Work};
 use graph_model::{Level, TxId};
 use name_book::NameBook;
@@ -83,10 +85,7 @@ pub(crate) fn connect<const W: usize, L: Ledger>(
     ensures linked { OnOk result (Connects W parent child shelves.old shelves.new) }
     ensures still { is_ancestor (graph_of (view_of Top shelves.old)) parent child ≡ true
         → (shelves.new ≡ shelves.old) × (rings.new ≡ rings.old) × (steps.new ≡ steps.old) }
-    ensures order { IsInOrder W shelves.new }
-    ensures right { SuitsShelf rings.new shelves.new }
-    ensures staged { is_some shelves.new.staging ≡ is_some shelves.old.staging }
-    ensures names { (set.len rings.new.book.names ≡ set.len rings.old.book.names) × (rings.new.book.issued ≡ rings.old.book.issued) }
+    ensures kept { IsInOrder W shelves.new × SuitsShelf rings.new shelves.new × Fewer rings.old rings.new }
     ensures err { OnErr result ((shelves.new ≡ shelves.old) × (rings.new ≡ rings.old)) }
     ensures steps { (ids : List ℕ)
         → Lists (λ q. AreLinked (graph_of (view_of Top shelves.old)) q parent ⊎ AreLinked (graph_of (view_of Top shelves.old)) q child) ids
@@ -95,17 +94,12 @@ pub(crate) fn connect<const W: usize, L: Ledger>(
     match link {
         Link::There => Ok(()),
         Link::Within(number) => {
-            shelves.link(number, parent, child, work, steps)?;
-            touch_left(shelves, rings, &[number]);
-            Ok(())
+            let pair = shelves.link(number, parent, child, work, steps)?;
+            rebuild(shelves, rings, &[number], pair, &[])
         }
         Link::Between(first, second) => {
-            shelves.join(first, second, parent, child, work, steps)?;
-            touch_left(shelves, rings, &[first, second]);
-            if !shelves.is_staged() {
-                rings.join(parent, child);
-            }
-            Ok(())
+            let pair = shelves.join(first, second, parent, child, work, steps)?;
+            rebuild(shelves, rings, &[first, second], pair, &[])
         }
     }
 }
@@ -122,20 +116,48 @@ pub(crate) fn drop_names<const W: usize, L: Ledger>(
     requires right { SuitsShelf rings.old shelves.old }
     requires live { (id : ℕ) → Contains ids.now id → IsSome (finmap.get (numbers_at Top shelves.old) id) }
     requires once { AreDistinct ids.now }
-    ensures dropped { OnOk result ((outs made : List ℕ) × DropsTop W outs made ids.now shelves.old shelves.new) }
-    ensures order { IsInOrder W shelves.new }
-    ensures right { SuitsShelf rings.new shelves.new }
-    ensures names { (set.len rings.new.book.names ≤ set.len rings.old.book.names) × (rings.new.book.issued ≡ rings.old.book.issued) }
+    ensures dropped { OnOk result ((outs : List ℕ) × DropsTop W outs ids.now shelves.old shelves.new) }
+    ensures kept { IsInOrder W shelves.new × SuitsShelf rings.new shelves.new × Fewer rings.old rings.new }
     ensures err { OnErr result ((shelves.new ≡ shelves.old) × (rings.new ≡ rings.old)) }
     ensures steps { DropsWithin ids.now (graph_of (view_of Top shelves.old)) steps.old steps.new }
 {
-    let (outs, made) = shelves.drop_all(ids, work, steps)?;
-    touch_left(shelves, rings, outs.as_slice());
+    let Left { outs, rest, last } = shelves.leave(ids, work, steps)?;
+    let kept = last_count(&last);
+    rebuild(
+        shelves,
+        rings,
+        outs.as_slice(),
+        News { rest, last, kept },
+        ids,
+    )
+}
+
+/// Clusters of the top level go out and others come in, which have their names but for some that go; and the rings follow. Without memory
+/// all stays as it was.
+fn rebuild<const W: usize>(
+    shelves: &mut Shelves<W>,
+    rings: &mut NameBook,
+    outs: &[usize],
+    news: News<W>,
+    gone: &[TxId],
+) -> Result<(), NoMemory>
+    requires order { IsInOrder W shelves.old }
+    requires right { SuitsShelf rings.old shelves.old }
+    requires comes { Comes W outs.now news.rest.items news.last news.kept gone.now shelves.old }
+    ensures rebuilt { OnOk result ((made : List ℕ) × (number : Option ℕ)
+        × IsMade W outs.now made number news.entry.rest.items news.entry.last gone.now shelves.old shelves.new) }
+    ensures kept { IsInOrder W shelves.new × SuitsShelf rings.new shelves.new × Fewer rings.old rings.new }
+    ensures err { OnErr result ((shelves.new ≡ shelves.old) × (rings.new ≡ rings.old)) }
+{
+    let News { rest, last, kept } = news;
+    let made = shelves.rebuild(outs, rest, last, kept, gone)?;
+    touch_left(shelves, rings, outs);
     if shelves.is_staged() {
-        forget_lost(shelves, rings, ids);
+        forget_lost(shelves, rings, gone);
     } else {
-        forget_all(rings, ids);
-        part_all(rings, shelves, made.as_slice());
+        forget_all(rings, gone);
+        part_all(rings, shelves, made.rest.as_slice());
+        gather_last(rings, shelves, made.last, kept);
     }
     Ok(())
 }
@@ -207,5 +229,27 @@ fn part_all<const W: usize>(rings: &mut NameBook, shelves: &Shelves<W>, list: &[
 {
     for number in list {
         rings.part(shelves.at(*number).names());
+    }
+}
+
+// The names of the last cluster that came in, but for as many as are of one ring from the first, join that ring of main.
+fn gather_last<const W: usize>(
+    rings: &mut NameBook,
+    shelves: &Shelves<W>,
+    last: Option<usize>,
+    kept: usize,
+)
+    requires order { IsInOrder W shelves.now }
+    requires there { IfSome last (λ number. (c : records.Cluster) × (stored_at shelves.now.store.clusters number ≡ Some c)
+        × (1 ≤ kept) × (kept ≤ length c.names) × ((x : ℕ) → Contains c.names x → IsNamed rings.old.book x)) }
+    ensures gathers { (c : records.Cluster) (number : ℕ) → last ≡ Some number → stored_at shelves.now.store.clusters number ≡ Some c
+        → JoinsLast kept c rings.old rings.new }
+    ensures none { last ≡ None → rings.new ≡ rings.old }
+{
+    if let Some(number) = last {
+        let names = shelves.at(number).names();
+        if kept < names.len() {
+            rings.gather(names[0], names.split_at(kept).1);
+        }
     }
 }

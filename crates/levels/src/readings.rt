@@ -9,9 +9,11 @@ ghost use Rattle.graphs.specs.Closures.{is_member, rate_of};
 ghost use Rattle.graphs.specs.Certificates.{Part};
 ghost use Rattle.graphs.specs.Linearizations.{StandsBefore};
 ghost use Rattle.graph_model.specs.Answers.{StandsTo, order_of};
+ghost use Rattle.cluster_store.specs.Held.{Held};
 ghost use Rattle.cluster_store.specs.Laws.{StandsAt};
 ghost use Rattle.cluster_store.specs.Lent.{lent};
 ghost use Rattle.diagram.specs.Parts.{AreLevelParts};
+ghost use Rattle.levels.specs.Held.{IsHeldIn};
 ghost use Rattle.levels.specs.Levels.{IsBest};
 ghost use Rattle.levels.specs.Orders.{ComparesParts, ListsCovers, sums_of};
 ghost use Rattle.levels.specs.Places.{HasPart};
@@ -20,7 +22,7 @@ ghost use Rattle.levels.specs.Views.{HaveClusterNumbers};
 
 use crate::shelves::Shelves;
 use cluster::{Covers, PartRef};
-use cluster_store::{PartWalk, RateWalk, Stored};
+use cluster_store::{HeldWalk, PartWalk, RateWalk, Stored};
 use graph_model::{Level, Place, TxId, Verdict};
 
 impl<const W: usize> Shelves<W> {
@@ -38,6 +40,15 @@ impl<const W: usize> Shelves<W> {
         ensures level { AreLevelParts (sums_of (one_of level self.now).parts) }
     {
         self.store().walk(level)
+    }
+
+    /// The same parts, each with its cluster.
+    pub(crate) fn held(&self, level: Level) -> HeldWalk<'_, W>
+        requires order { IsInOrder W self.now }
+        ensures parts { map (λ h. h.shown.part) result ≡ (one_of level self.now).parts }
+        ensures clusters { (h : Held) → Contains result h → IsHeldIn (one_of level self.now) h }
+    {
+        self.store().walk_held(level)
     }
 
     /// A size, in virtual bytes, that no name of main is below.

@@ -1,4 +1,4 @@
--- A draft as it is kept: what one more place, flow or part makes of it, and what its lists are.
+-- A draft as it is kept: what more places, more flows and one more part make of it, and what its lists are.
 use Rattle.std.proofs.Common.{◌≡◌, ℕ, ◌+◌, ◌-◌, ◌≤◌, List, [], ◌∷◌, ◌++◌, length, map, take, drop, refl, sym, ap, ◌∙◌}
 use Rattle.std.proofs.Common.{subst, arith, append_assoc, length-append, length-drop, take-append-drop}
 use Rattle.std.proofs.lemmas.List.{append-nil, take_all, drop_all, take-append-le, drop-append-le, length-take-le, length-map, map-append}
@@ -157,50 +157,49 @@ length_parts i j [] order flows = refl
 length_parts i j (part ∷ parts) order flows = let rest =
     length_parts part.end part.flow_end parts (drop (part.end - i) order) (drop (part.flow_end - j) flows) in omega arith
 
-pub kept_put : (parts : List LinearPart) (order : List ℕ) (flows : List PlaceFlow) (place : ℕ) → IsKept parts order flows
-    → IsKept parts (order ++ place ∷ []) flows
-kept_put parts order flows place kept = record {
-  ends = ends_more 0 (ends_of parts) (length order) (length (order ++ place ∷ [])) (let l = length-append order (place ∷ []) in omega arith) kept.ends;
+pub kept_put_all : (parts : List LinearPart) (order more : List ℕ) (flows : List PlaceFlow) → IsKept parts order flows
+    → IsKept parts (order ++ more) flows
+kept_put_all parts order more flows kept = record {
+  ends = ends_more 0 (ends_of parts) (length order) (length (order ++ more)) (let l = length-append order more in omega arith) kept.ends;
   flow_ends = kept.flow_ends;
 }
 
-pub written_put : (parts : List LinearPart) (order : List ℕ) (flows : List PlaceFlow) (place : ℕ) → IsKept parts order flows
-    → written_of parts (order ++ place ∷ [])
+pub written_put_all : (parts : List LinearPart) (order more : List ℕ) (flows : List PlaceFlow) → IsKept parts order flows
+    → written_of parts (order ++ more)
     flows ≡ record {
       parts = (written_of parts order flows).parts;
-      ids = (written_of parts order flows).ids ++ place ∷ [];
+      ids = (written_of parts order flows).ids ++ more;
       flows =
           (written_of parts order flows).flows;
     }
-written_put parts order flows place kept =
-    let same : parts_from 0 0 parts (order ++ place ∷ []) flows ≡ parts_from 0 0 parts order flows =
-    ap (λ fs. parts_from 0 0 parts (order ++ place ∷ []) fs) (sym (append-nil flows))
-    ∙ parts_more 0 0 parts order (place ∷ []) flows [] kept.ends kept.flow_ends in
-    λ i. record { parts = same i; ids = left_more 0 (ends_of parts) order (place ∷ []) kept.ends i; flows = map named (left_from 0 (flow_ends_of parts) flows) }
+written_put_all parts order more flows kept =
+    let same : parts_from 0 0 parts (order ++ more) flows ≡ parts_from 0 0 parts order flows =
+    ap (λ fs. parts_from 0 0 parts (order ++ more) fs) (sym (append-nil flows))
+    ∙ parts_more 0 0 parts order more flows [] kept.ends kept.flow_ends in
+    λ i. record { parts = same i; ids = left_more 0 (ends_of parts) order more kept.ends i; flows = map named (left_from 0 (flow_ends_of parts) flows) }
 
-pub kept_send : (parts : List LinearPart) (order : List ℕ) (flows : List PlaceFlow) (flow : PlaceFlow) → IsKept parts order flows
-    → IsKept parts order (flows ++ flow ∷ [])
-kept_send parts order flows flow kept = record {
+pub kept_send_all : (parts : List LinearPart) (order : List ℕ) (flows more : List PlaceFlow) → IsKept parts order flows
+    → IsKept parts order (flows ++ more)
+kept_send_all parts order flows more kept = record {
   ends = kept.ends;
-  flow_ends = ends_more 0 (flow_ends_of parts) (length flows) (length (flows ++ flow ∷ [])) (let l = length-append flows (flow ∷ []) in omega arith)
-      kept.flow_ends;
+  flow_ends = ends_more 0 (flow_ends_of parts) (length flows) (length (flows ++ more)) (let l = length-append flows more in omega arith) kept.flow_ends;
 }
 
-pub written_send : (parts : List LinearPart) (order : List ℕ) (flows : List PlaceFlow) (flow : PlaceFlow) → IsKept parts order flows
-    → written_of parts order (flows ++ flow ∷ [])
+pub written_send_all : (parts : List LinearPart) (order : List ℕ) (flows more : List PlaceFlow) → IsKept parts order flows
+    → written_of parts order (flows ++ more)
     ≡ record {
       parts = (written_of parts order flows).parts;
       ids = (written_of parts order flows).ids;
       flows =
-          (written_of parts order flows).flows ++ named flow ∷ [];
+          (written_of parts order flows).flows ++ map named more;
     }
-written_send parts order flows flow kept =
-    let same : parts_from 0 0 parts order (flows ++ flow ∷ []) ≡ parts_from 0 0 parts order flows =
-    ap (λ ys. parts_from 0 0 parts ys (flows ++ flow ∷ [])) (sym (append-nil order))
-    ∙ parts_more 0 0 parts order [] flows (flow ∷ []) kept.ends kept.flow_ends in
-    let left : map named (left_from 0 (flow_ends_of parts) (flows ++ flow ∷ [])) ≡ map named (left_from 0 (flow_ends_of parts) flows) ++ named flow ∷ [] =
-    ap (map named) (left_more 0 (flow_ends_of parts) flows (flow ∷ []) kept.flow_ends)
-    ∙ map-append named (left_from 0 (flow_ends_of parts) flows) (flow ∷ []) in
+written_send_all parts order flows more kept =
+    let same : parts_from 0 0 parts order (flows ++ more) ≡ parts_from 0 0 parts order flows =
+    ap (λ ys. parts_from 0 0 parts ys (flows ++ more)) (sym (append-nil order))
+    ∙ parts_more 0 0 parts order [] flows more kept.ends kept.flow_ends in
+    let left : map named (left_from 0 (flow_ends_of parts) (flows ++ more)) ≡ map named (left_from 0 (flow_ends_of parts) flows) ++ map named more =
+    ap (map named) (left_more 0 (flow_ends_of parts) flows more kept.flow_ends)
+    ∙ map-append named (left_from 0 (flow_ends_of parts) flows) more in
     λ i. record { parts = same i; ids = left_from 0 (ends_of parts) order; flows = left i }
 
 pub kept_close : (parts : List LinearPart) (order : List ℕ) (flows : List PlaceFlow) (last : LinearPart) → last.end ≡ length order

@@ -1,26 +1,25 @@
 -- Parts that are known, written behind others.
-use Rattle.std.proofs.Common.{◌≡◌, ◌≢◌, ℕ, ◌+◌, ◌*◌, ◌<◌, ◌≤◌, ◌⊎◌, inl, inr, true, List, [], ◌∷◌, ◌++◌, length, map, refl, sym, ap, ◌∙◌, subst, arith, append-nil}
-use Rattle.std.specs.Prelude.{Contains}
+use Rattle.std.proofs.Common.{◌≡◌, ◌≢◌, ℕ, ◌+◌, ◌<◌, ◌≤◌, ◌⊎◌, inl, inr, true, List, [], ◌∷◌, ◌++◌, length, refl, sym, ap, ◌∙◌, subst, arith, append-nil}
+use Rattle.std.specs.Prelude.{Contains, Option, Some}
 use Rattle.std.proofs.lemmas.Bool.{cases_Bool, false_from_ne_true}
-use Rattle.std.proofs.lemmas.List.{length-map}
 use Rattle.std.proofs.lemmas.List.Elements.{Contains-append_left, Contains-append_cases, Contains-push}
 use Rattle.std.specs.Ordering.{nat_cmp}
 use Rattle.std.specs.FinSet as fin
 use Rattle.lists.proofs.Cases.{clash}
 use Rattle.lists.proofs.Keys.{set_within}
 use Rattle.lists.proofs.Distinct.{distinct_push}
-use Rattle.lists.proofs.Entries.{map-Contains, Contains-cases, none_in_empty}
+use Rattle.lists.proofs.Entries.{Contains-cases, none_in_empty}
 use Rattle.bitset.specs.Members.{from_union, to_union_left, to_union_right, from_insert, to_insert, insert_here}
 use Rattle.bitset.specs.Places.{IsWithin, places}
 use Rattle.bitset.specs.Sets.{same_members, places-Contains, Contains-places, len-places}
-use Rattle.graphs.specs.declared.names.Flow.{Flow}
 use Rattle.graphs.specs.Closures.{Closure, is_ancestor, IsCover}
 use Rattle.graphs.specs.Rates.{sums}
 use Rattle.graphs.specs.Linearizations.{StandsBefore}
-use Rattle.graphs.specs.Certificates.{Part, Certifies}
+use Rattle.graphs.specs.Certificates.{Part}
 use Rattle.linearize.specs.Drafts.{Written, placed, flows_in}
 use Rattle.linearize.specs.Graphs.{sum_at}
-use Rattle.linearize.specs.Known.{IsClosedAmong, IsCoverAmong, IsKnown}
+use Rattle.linearize.specs.declared.old.OldPart.{OldPart}
+use Rattle.linearize.specs.Known.{IsClosedAmong, IsCoverAmong, IsKnown, IsTaken}
 use Rattle.linearize.specs.Near.{Extends, Follow, IsBegun}
 use Rattle.linearize.specs.Orders.{IsOrderOf}
 use Rattle.linearize.specs.Splits.{HasRoom, IsUncutPart, IsUpperIn}
@@ -28,7 +27,7 @@ use Rattle.linearize.proofs.Lists.{distinct_places}
 use Rattle.linearize.proofs.Chains.{climbs}
 use Rattle.linearize.proofs.Final.{to_set, from_set}
 use Rattle.linearize.proofs.Orders.{before_push}
-use Rattle.linearize.proofs.Triangles.{few_pairs, length_inside}
+use Rattle.linearize.proofs.Triangles.{length_inside}
 
 -- ---- the loop that follows a list
 
@@ -121,17 +120,6 @@ module _ (n : ℕ) (dep : Closure) (members done all : fin.FinSet nat_cmp) (old 
     direct = λ m over under. among.direct m (convex p m c p_in c_in over under) over under;
   }
 
-  certified : Certifies (sum_at dep) (IsCover dep) part.ids part.flows
-  certified =
-      let c = known.flows in
-      record {
-        once = c.once;
-        links = λ f h. cover_of f.parent f.child (c.inside f h).1 (c.inside f h).0 (c.links f h);
-        inside = c.inside;
-        some = c.some;
-        balanced = c.balanced;
-      }
-
   uncut : IsUncutPart n dep part
   uncut x upper some_x same p p_in =
       let list : List ℕ = places n x in
@@ -167,33 +155,11 @@ module _ (n : ℕ) (dep : Closure) (members done all : fin.FinSet nat_cmp) (old 
   pub room : HasRoom n group old
   room = start.room group (λ t m. follow.inside t (of_group t m)) (λ t m. follow.apart t (of_group t m))
 
-  few_flows : 4 * length part.flows ≤ fin.len group * fin.len group
-  few_flows =
-      let c = known.flows in
-      let of_pair : (c p : ℕ) → Contains {X = ℕ × ℕ} (map (λ (f : Flow). (f.child, f.parent)) part.flows) (c, p)
-      → (fin.contains group c ≡ true) × (fin.contains group p ≡ true) × IsCover dep p c = λ c p h.
-      (let found = map-Contains (λ (f : Flow). (f.child, f.parent)) part.flows (c, p) h in
-      let at = known.flows.inside found.0 found.1 in (
-        subst (λ (e : ℕ × ℕ). fin.contains group e.0 ≡ true) found.2 (in_group found.0.child at.0),
-        subst (λ (e : ℕ × ℕ). fin.contains group e.1 ≡ true) found.2 (in_group found.0.parent at.1),
-        subst (λ (e : ℕ × ℕ). IsCover dep e.1 e.0) found.2 (certified.links found.0 found.1),
-      )) in
-      let few = few_pairs n dep start.closed group (map (λ (f : Flow). (f.child, f.parent)) part.flows) within (record {
-        once = c.once;
-        cover = λ c p h. (of_pair c p h).2;
-        child = λ c p h. (of_pair c p h).0;
-        parent = λ c p h. (of_pair c p h).1;
-      }) in
-      omega (arith, few, length-map {B = ℕ × ℕ} part.flows (λ (f : Flow). (f.child, f.parent)))
-
   pub for_places : length (placed old.parts) + length part.ids ≤ n
   for_places = let r = room.for_places in omega (arith, r, long)
 
   pub for_part : length old.parts < n
   for_part = let r = room.for_parts in omega (arith, r, long, some)
-
-  pub for_flows : 4 * (length (flows_in old.parts) + length part.flows) ≤ n * n
-  for_flows = let r = room.for_flows in omega (arith, r, few_flows)
 
   order : IsOrderOf dep group part.ids
   order = record {
@@ -218,13 +184,22 @@ module _ (n : ℕ) (dep : Closure) (members done all : fin.FinSet nat_cmp) (old 
     ]) out))
   ])
 
-  only : (P : Part → Type 0) → P part → (q : Part) → Contains (part ∷ []) q → P q
-  only P here q h = elim (Contains-cases part q [] h) [ inl same ↦ subst P same here | inr none ↦ absurd (none_in_empty q none) ]
+  -- the part without its flows
+  abbrev bare : Part
+  bare = record { rate = part.rate; ids = part.ids; flows = [] }
 
-  pub known_behind : (new : Written) → new ≡ record { parts = old.parts ++ part ∷ []; ids = []; flows = [] } → Extends n dep members done old new all
-  known_behind new is = record {
-    parts = part ∷ [];
+  only : (P : Part → Type 0) → P bare → (q : Part) → Contains (bare ∷ []) q → P q
+  only P here q h = elim (Contains-cases bare q [] h) [ inl same ↦ subst P same here | inr none ↦ absurd (none_in_empty q none) ]
+
+  pub known_behind : (olds : List OldPart) (places : List ℕ) (from : OldPart) (froms froms' : List (Option OldPart)) (new : Written)
+      → IsTaken olds places (Some from) bare → froms' ≡ froms ++ Some from ∷ []
+      → new ≡ record { parts = old.parts ++ bare ∷ []; ids = []; flows = [] } → Extends n dep olds places members done old new froms froms' all
+  known_behind olds places from froms froms' new taken told is = record {
+    parts = bare ∷ [];
     is = is;
+    froms = Some from ∷ [];
+    from = told;
+    held = ((taken, cover_of), tt);
     group = group;
     both = both;
     inside = λ t m. follow.inside t (of_group t m);
@@ -238,11 +213,10 @@ module _ (n : ℕ) (dep : Closure) (members done all : fin.FinSet nat_cmp) (old 
     order = subst (λ xs. IsOrderOf dep group xs) (sym (append-nil part.ids)) order;
     filled = only (λ q. q.ids ≢ []) (λ none. (let zero_ : length part.ids ≡ 0 = ap length none in omega (arith, zero_, some)));
     summed = only (λ q. q.rate ≡ sums (sum_at dep) q.ids) known.summed;
-    flows = only (λ q. Certifies (sum_at dep) (IsCover dep) q.ids q.flows) certified;
     uncut = only (IsUncutPart n dep) uncut;
-    places = (let same = ap length (append-nil part.ids) in omega (arith, same, long));
-    few = (let one : length (part ∷ []) ≡ 1 = refl in omega (arith, one, long, some));
-    few_flows = subst (λ (fs : List Flow). 4 * length fs ≤ fin.len group * fin.len group) (sym (append-nil part.flows)) few_flows;
+    some_places = (let same = ap length (append-nil part.ids) in omega (arith, same, long));
+    few = (let one : length (bare ∷ []) ≡ 1 = refl in omega (arith, one, long, some));
+    few_flows = (let none : length (flows_in (bare ∷ [])) ≡ 0 = refl in omega (arith, none));
   }
 
   pub no_fewer : fin.len done ≤ fin.len all

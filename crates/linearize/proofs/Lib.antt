@@ -4,6 +4,7 @@ mod Chains
 mod Cuts
 mod DraftLemmas
 mod Falling
+mod Fills
 mod Final
 mod FlowLists
 mod Joined

@@ -46,20 +46,19 @@ answer_fits w narrow =
     let c = padded (max (8 + up 8 (0 + w * 8)) 1) (2 ^ 31) b in
     omega arith
 
--- a group: two sets, a fee, a size and a position
+-- a group: two sets, a rate and a position
 pub group_fits : (w : ℕ) → 64 * w < 2 ^ 32
-    → up 8 (up 8 (up 8 (up 8 (up 8 (0 + up 8 (0 + w * 8)) + up 8 (0 + w * 8)) + 8) + 8) + 8) < 2 ^ 63
+    → up 8 (up 8 (up 8 (up 8 (0 + up 8 (0 + w * 8)) + up 8 (0 + w * 8)) + 16) + 8) < 2 ^ 63
 group_fits w narrow =
     let words : ℕ = up 8 (0 + w * 8) in
     let one : ℕ = up 8 (0 + words) in
     let two : ℕ = up 8 (one + words) in
-    let three : ℕ = up 8 (two + 8) in
-    let four : ℕ = up 8 (three + 8) in
-    bounded (w * 8) words one two three four (up 8 (four + 8)) (omega arith) (plain (0 + w * 8)) (plain (0 + words)) (plain (one + words)) (plain (two + 8))
-    (plain (three + 8)) (plain (four + 8))
+    let three : ℕ = up 8 (two + 16) in
+    bounded (w * 8) words one two three (up 8 (three + 8)) (omega arith) (plain (0 + w * 8)) (plain (0 + words)) (plain (one + words)) (plain (two + 16))
+    (plain (three + 8))
   where
     plain : (x : ℕ) → up 8 x ≤ x + 8
     plain x = omega arith
 
-    bounded : (x a b c d e f : ℕ) → x ≤ 2 ^ 30 → a ≤ 0 + x + 8 → b ≤ 0 + a + 8 → c ≤ b + a + 8 → d ≤ c + 8 + 8 → e ≤ d + 8 + 8 → f ≤ e + 8 + 8 → f < 2 ^ 63
-    bounded x a b c d e f small ha hb hc hd he hf = omega arith
+    bounded : (x a b c d e : ℕ) → x ≤ 2 ^ 30 → a ≤ 0 + x + 8 → b ≤ 0 + a + 8 → c ≤ b + a + 8 → d ≤ c + 16 + 8 → e ≤ d + 8 + 8 → e < 2 ^ 63
+    bounded x a b c d e small ha hb hc hd he = omega arith

@@ -1,18 +1,19 @@
 -- Sets that come one after the other, each written as certified parts: what was written so far.
-use Rattle.std.proofs.Common.{◌≡◌, ◌≢◌, ℕ, ◌+◌, ◌-◌, ◌*◌, ◌^◌, ◌<◌, ◌≤◌, inl, inr, true, List, [], ◌++◌, length, map, refl, sym, ap, ◌∙◌, subst, arith}
+use Rattle.std.proofs.Common.{◌≡◌, ◌≢◌, ℕ, ◌+◌, ◌-◌, ◌*◌, ◌^◌, ◌<◌, ◌≤◌, inl, inr, true, List, [], ◌++◌, length, map, refl, sym, ap, ◌∙◌, subst, subst₂, arith}
 use Rattle.std.proofs.Common.{length-append}
 use Rattle.std.proofs.lemmas.Bool.{cases_Bool, false_from_ne_true}
 use Rattle.std.proofs.lemmas.List.Concat.{flat_map-append}
 use Rattle.std.proofs.lemmas.List.Elements.{Contains-append_left, Contains-append_right, Contains-append_cases}
 use Rattle.std.proofs.Math.Nat.{mul-le-mul, mul-le-mul_left, mul-le-mul_right, pow-le-pow_left, pow-suc, pow-zero}
-use Rattle.std.specs.Prelude.{Contains}
+use Rattle.std.specs.Prelude.{Contains, Option}
+use Rattle.std.specs.List.{AllZip}
 use Rattle.std.specs.Ordering.{nat_cmp}
 use Rattle.std.specs.FinSet as fin
 use Rattle.bitset.specs.Members.{from_union, to_union_left, to_union_right, len_bound}
 use Rattle.bitset.specs.Places.{IsWithin}
 use Rattle.graphs.proofs.BestLemmas.{stands-append_right, stands-append_left, stands_across}
 use Rattle.graphs.specs.Closures.{Closure, IsCover, IsClosed, HoldsMembers}
-use Rattle.graphs.specs.Certificates.{Part, Certifies}
+use Rattle.graphs.specs.Certificates.{Part}
 use Rattle.graphs.specs.Rates.{sums, Falls}
 use Rattle.closure_flow.specs.Bounds.{most_steps}
 use Rattle.closure_flow.proofs.Powers.{fourth}
@@ -22,13 +23,16 @@ use Rattle.lists.proofs.Entries.{none_in_empty}
 use Rattle.lists.proofs.Distinct.{distinct_joined}
 use Rattle.lists.proofs.Keys.{set_within}
 use Rattle.linearize.specs.declared.draft.LinearPart.{LinearPart}
+use Rattle.linearize.specs.declared.old.OldPart.{OldPart}
+use Rattle.linearize.specs.Known.{FillsUp, IsHeld}
 use Rattle.linearize.specs.Drafts.{AreShown, Written, placed, flows_in}
 use Rattle.linearize.specs.Graphs.{sum_at, sum_from, most_members, HasRates}
-use Rattle.linearize.specs.Near.{AreParts, ComesNext, Extends, IsBegun, most_tried}
+use Rattle.linearize.specs.Near.{AreHeld, ComesNext, Extends, IsBegun, IsSolvedNext, most_tried}
 use Rattle.linearize.specs.Orders.{AreCovers, IsOrderOf}
-use Rattle.linearize.specs.Splits.{Adds, HasRoom, IsReady, IsUncutPart}
+use Rattle.linearize.specs.Splits.{HasRoom, IsReady, IsUncutPart}
 use Rattle.closure_flow.specs.Scratches.{Room}
 use Rattle.linearize.specs.Steps.{AreOfOne}
+use Rattle.linearize.proofs.Fills.{none_held, zip_joined}
 use Rattle.linearize.proofs.Joined.{either_part}
 use Rattle.linearize.proofs.Nexts.{inside}
 use Rattle.linearize.proofs.Sets.{split_union, len_split}
@@ -107,7 +111,8 @@ cut_most n f r one two three before middle later after all some others first sec
     omega (arith, solve_most n one two before middle first, solve_most f two three middle later second, last, sum)
 
 -- the parts of some members, with each covering parent of them, and the steps that they took
-pub record Stands (n : ℕ) (dep : Closure) (members done : fin.FinSet nat_cmp) (draft : Written) (before now : ℕ) : Type 0 where
+pub record Stands (n : ℕ) (dep : Closure) (olds : List OldPart) (places : List ℕ) (members done : fin.FinSet nat_cmp) (draft : Written)
+    (froms : List (Option OldPart)) (before now : ℕ) : Type 0 where
   pub ids : draft.ids ≡ []
   pub flows : draft.flows ≡ []
   pub inside : (p : ℕ) → fin.contains done p ≡ true → fin.contains members p ≡ true
@@ -115,23 +120,26 @@ pub record Stands (n : ℕ) (dep : Closure) (members done : fin.FinSet nat_cmp) 
   pub order : IsOrderOf dep done (placed draft.parts)
   pub filled : (part : Part) → Contains draft.parts part → part.ids ≢ []
   pub summed : (part : Part) → Contains draft.parts part → part.rate ≡ sums (sum_at dep) part.ids
-  pub certified : (part : Part) → Contains draft.parts part → Certifies (sum_at dep) (IsCover dep) part.ids part.flows
+  pub held : AllZip (IsHeld dep olds places) froms draft.parts
   pub uncut : (part : Part) → Contains draft.parts part → IsUncutPart n dep part
-  pub places : length (placed draft.parts) ≤ fin.len done
+  pub some_places : length (placed draft.parts) ≤ fin.len done
   pub few : length draft.parts ≤ fin.len done
   pub few_flows : 4 * length (flows_in draft.parts) ≤ fin.len done * fin.len done
   pub most : now ≤ before + most_tried (fin.len members) * fin.len done
 
 -- nothing was written so far
-pub stands_none : (n : ℕ) (dep : Closure) (members done : fin.FinSet nat_cmp) (draft : Written) (k : ℕ) → done ≡ fin.empty
-    → draft ≡ record { parts = []; ids = []; flows = [] } → Stands n dep members done draft k k
-stands_none n dep members done draft k none empty =
-    subst (λ d. Stands n dep members d draft k k) (sym none) (subst (λ w. Stands n dep members fin.empty w k k) (sym empty) start)
+pub stands_none : (n : ℕ) (dep : Closure) (olds : List OldPart) (places : List ℕ) (members done : fin.FinSet nat_cmp) (draft : Written)
+    (froms : List (Option OldPart)) (k : ℕ) → done ≡ fin.empty → draft ≡ record { parts = []; ids = []; flows = [] } → froms ≡ []
+    → Stands n dep olds places members done draft froms k k
+stands_none n dep olds places members done draft froms k none empty no_from =
+    subst (λ d. Stands n dep olds places members d draft froms k k) (sym none)
+    (subst (λ w. Stands n dep olds places members fin.empty w froms k k) (sym empty)
+    (subst (λ fs. Stands n dep olds places members fin.empty (record { parts = []; ids = []; flows = [] }) fs k k) (sym no_from) start))
   where
     no : (p : ℕ) → fin.contains {R = nat_cmp} fin.empty p ≡ true → ⊥
     no p m = clash _ m (contains-empty p)
 
-    start : Stands n dep members fin.empty (record { parts = []; ids = []; flows = [] }) k k
+    start : Stands n dep olds places members fin.empty (record { parts = []; ids = []; flows = [] }) [] k k
     start = record {
       ids = refl;
       flows = refl;
@@ -144,9 +152,9 @@ stands_none n dep members done draft k none empty =
       };
       filled = λ part h. absurd (none_in_empty part h);
       summed = λ part h. absurd (none_in_empty part h);
-      certified = λ part h. absurd (none_in_empty part h);
+      held = tt;
       uncut = λ part h. absurd (none_in_empty part h);
-      places = omega arith;
+      some_places = omega arith;
       few = omega arith;
       few_flows = omega arith;
       most = omega arith;
@@ -188,8 +196,9 @@ tried_steps members done group all now later sum few grew =
         → (later + m * a ≤ now + m * c) × (later + m * a ≤ now + m * d)
     added now later m t a b c d split grew wide less = (omega (arith, split, grew, wide), omega (arith, split, grew, wide, less))
 
-module _ (n : ℕ) (dep : Closure) (members done : fin.FinSet nat_cmp) (closed : IsClosed n dep) (held : HoldsMembers dep members) (old : Written)
-    (before now : ℕ) (stands : Stands n dep members done old before now) where
+module _ (n : ℕ) (dep : Closure) (olds : List OldPart) (places : List ℕ) (members done : fin.FinSet nat_cmp) (closed : IsClosed n dep)
+    (held : HoldsMembers dep members) (old : Written) (froms : List (Option OldPart)) (before now : ℕ)
+    (stands : Stands n dep olds places members done old froms before now) where
   room : (s : fin.FinSet nat_cmp) → ((t : ℕ) → fin.contains s t ≡ true → fin.contains members t ≡ true)
       → ((t : ℕ) → fin.contains s t ≡ true → fin.contains done t ≡ true → ⊥) → HasRoom n s old
   room s inside_s apart =
@@ -200,7 +209,7 @@ module _ (n : ℕ) (dep : Closure) (members done : fin.FinSet nat_cmp) (closed :
       record {
         ids = stands.ids;
         flows = stands.flows;
-        for_places = (let p = stands.places in omega (arith, sum, most, p));
+        for_places = (let p = stands.some_places in omega (arith, sum, most, p));
         for_parts = (let p = stands.few in omega (arith, sum, most, p));
         for_flows = (let p = stands.few_flows in omega (arith, square, double, p));
       }
@@ -216,7 +225,8 @@ module _ (n : ℕ) (dep : Closure) (members done : fin.FinSet nat_cmp) (closed :
     room = room;
   }
 
-  module _ (new : Written) (all_done : fin.FinSet nat_cmp) (more : Extends n dep members done old new all_done) where
+  module _ (new : Written) (froms' : List (Option OldPart)) (all_done : fin.FinSet nat_cmp)
+      (more : Extends n dep olds places members done old new froms froms' all_done) where
     parts : new.parts ≡ old.parts ++ more.parts
     parts = ap (λ (w : Written). w.parts) more.is
 
@@ -266,7 +276,7 @@ module _ (n : ℕ) (dep : Closure) (members done : fin.FinSet nat_cmp) (closed :
 
     pub stands_next : (later : ℕ)
         → later + most_tried (fin.len members) * fin.len done ≤ now + most_tried (fin.len members) * fin.len all_done
-        → Stands n dep members all_done new before later
+        → Stands n dep olds places members all_done new froms' before later
     stands_next later grew =
         let sum = lens n dep members done closed held stands.inside more.group more.inside more.apart in
         let double = ap (λ (k : ℕ). k * k) sum in
@@ -274,7 +284,7 @@ module _ (n : ℕ) (dep : Closure) (members done : fin.FinSet nat_cmp) (closed :
         let b = ap length parts ∙ length-append old.parts more.parts in
         let d = ap length all_flows ∙ length-append (flows_in old.parts) (flows_in more.parts) in
         let same = ap (λ (s : fin.FinSet nat_cmp). most_tried (fin.len members) * fin.len s) more.both in
-        subst (λ (s : fin.FinSet nat_cmp). Stands n dep members s new before later) (sym more.both) (record {
+        subst (λ (s : fin.FinSet nat_cmp). Stands n dep olds places members s new froms' before later) (sym more.both) (record {
           ids = ap (λ (w : Written). w.ids) more.is;
           flows = ap (λ (w : Written). w.flows) more.is;
           inside = both_inside n dep members done closed held stands.inside more.group more.inside more.apart;
@@ -282,9 +292,10 @@ module _ (n : ℕ) (dep : Closure) (members done : fin.FinSet nat_cmp) (closed :
           order = subst (λ xs. IsOrderOf dep (fin.union done more.group) xs) (sym all_placed) order;
           filled = each (λ q. q.ids ≢ []) stands.filled more.filled;
           summed = each (λ q. q.rate ≡ sums (sum_at dep) q.ids) stands.summed more.summed;
-          certified = each (λ q. Certifies (sum_at dep) (IsCover dep) q.ids q.flows) stands.certified more.flows;
+          held = subst₂ (AllZip (IsHeld dep olds places)) (sym more.from) (sym parts)
+              (zip_joined (IsHeld dep olds places) froms more.froms old.parts more.parts stands.held more.held);
           uncut = each (IsUncutPart n dep) stands.uncut more.uncut;
-          places = (let p = stands.places in let q = more.places in omega (arith, sum, a, p, q));
+          some_places = (let p = stands.some_places in let q = more.some_places in omega (arith, sum, a, p, q));
           few = (let p = stands.few in let q = more.few in omega (arith, sum, b, p, q));
           few_flows = (let p = stands.few_flows in let q = more.few_flows in omega (arith, double, d, p, q));
           most = spent before now later (most_tried (fin.len members) * fin.len done) (most_tried (fin.len members) * fin.len all_done)
@@ -315,12 +326,12 @@ module _ (n : ℕ) (dep : Closure) (members done : fin.FinSet nat_cmp) (closed :
     ])
 
     pub all_parts : (shown : List LinearPart) → AreShown shown old.parts → Falls (map (λ part. sum_from part.rate) shown)
-        → AreParts n dep members old.parts
+        → AreHeld n dep olds places members froms old.parts
     all_parts shown are falls = record {
       order = subst (λ s. IsOrderOf dep s (placed old.parts)) same stands.order;
       filled = stands.filled;
       falling = record { summed = stands.summed; falling = subst Falls are.rates falls };
-      flows = stands.certified;
+      held = stands.held;
       uncut = stands.uncut;
     }
 
@@ -351,24 +362,34 @@ module _ (n : ℕ) (dep : Closure) (parents : List (fin.FinSet nat_cmp)) (member
   pub both_fit : fin.len (fin.union done group) ≤ fin.len members
   both_fit = fits_members n dep members done start.closed start.held start.inside group next.inside next.apart
 
-  pub solved_behind : Adds n dep group old new → Extends n dep members done old new (fin.union done group)
-  solved_behind adds = record {
-    parts = adds.parts;
-    is = adds.is;
-    group = group;
-    both = refl;
-    inside = next.inside;
-    apart = next.apart;
-    upper = λ p c cover m. next.parents_known p c m cover;
-    order = adds.linear.order;
-    filled = adds.linear.filled;
-    summed = adds.linear.falling.summed;
-    flows = adds.linear.flows;
-    uncut = adds.linear.uncut;
-    places = (let p = adds.places in omega (arith, p));
-    few = adds.few;
-    few_flows = adds.few_flows;
-  }
+-- what was solved extends what is written, where it is told to be none of the old parts
+pub solved_behind : (n : ℕ) (dep : Closure) (olds : List OldPart) (places : List ℕ) (members done group : fin.FinSet nat_cmp) (old new : Written)
+    (froms froms' : List (Option OldPart)) (all : fin.FinSet nat_cmp) → IsSolvedNext n dep members done group old new all
+    → length froms ≡ length old.parts → FillsUp (length new.parts) froms froms' → Extends n dep olds places members done old new froms froms' all
+solved_behind n dep olds places members done group old new froms froms' all solved even fills =
+    let adds = solved.adds in
+    let next = solved.next in
+    let a = ap (λ (w : Written). length w.parts) adds.is ∙ length-append old.parts adds.parts in
+    let b = ap length fills.is ∙ length-append froms fills.more in
+    record {
+      parts = adds.parts;
+      is = adds.is;
+      froms = fills.more;
+      from = fills.is;
+      held = none_held dep olds places fills.more adds.parts (omega (arith, a, b, even, fills.long)) fills.none adds.linear.flows;
+      group = group;
+      both = solved.both;
+      inside = next.inside;
+      apart = next.apart;
+      upper = λ p c cover m. next.parents_known p c m cover;
+      order = adds.linear.order;
+      filled = adds.linear.filled;
+      summed = adds.linear.falling.summed;
+      uncut = adds.linear.uncut;
+      some_places = (let p = adds.places in omega (arith, p));
+      few = adds.few;
+      few_flows = adds.few_flows;
+    }
 
 -- ---- the steps of a trial, alone and before the solves of an order from nothing
 trial_most : (n : ℕ) → most_tried n * n ≤ 4 * (n + 2) ^ 4

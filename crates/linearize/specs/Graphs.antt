@@ -2,13 +2,9 @@
 use Rattle.std.specs.Prelude.{◌≡◌, ℕ, true}
 use Rattle.graphs.specs.Closures.{Closure, is_member, members_of, rate_of, IsNear}
 use Rattle.lists.specs.Walks.{Walk}
-use Rattle.fee_rate.specs.declared.rates.FeeRate.{FeeRate}
 use Rattle.fee_rate.specs.declared.rates.Sum.{Sum}
 use Rattle.fee_rate.specs.Limits.{IsRate}
-
--- a fee and a size, as sums are
-abbrev pub sum_from : FeeRate → Sum
-sum_from rate = record { fee = rate.fee; size = rate.size }
+pub use Rattle.fee_rate.specs.Rates.{sum_from}
 
 -- the fee and the size of a place
 abbrev pub sum_at : Closure → ℕ → Sum

@@ -88,6 +88,19 @@ impl<const W: usize> Draft<W> {
         prove!(pushed.is_ok());
     }
 
+    /// Puts places behind those of the open part.
+    pub(crate) fn put_all(&mut self, places: &[usize])
+        requires { length (all_placed self.old) + length places.now ≤ 64 * W }
+        ensures { self.new ≡ record {
+          parts = self.old.parts;
+          ids = self.old.ids ++ places.now;
+          flows = self.old.flows;
+        } }
+    {
+        let put = self.order.extend_from_slice(places);
+        prove!(put.is_ok());
+    }
+
     /// Puts a flow behind those of the open part.
     pub(crate) fn send(&mut self, flow: PlaceFlow)
         requires { 4 * length (all_flows self.old) + 4 ≤ 64 * W * (64 * W) }

@@ -10,6 +10,7 @@ use crate::old::{Guess, OldPart};
 use crate::part::top;
 use bitset::Bits;
 use dep_graph::DepGraph;
+use fee_rate::{FeeRate, is_lower};
 
 /// Some members, what stands above any of them, and their fee and size together, as far as 64 bits hold these. Where they are one
 /// part of the old order, its position in that.
@@ -17,8 +18,7 @@ use dep_graph::DepGraph;
 pub(crate) struct Group<const W: usize> {
     pub(crate) places: Bits<W>,
     above: Bits<W>,
-    fee: i64,
-    size: u64,
+    rate: FeeRate,
     pub(crate) part: usize,
 }
 
@@ -81,8 +81,7 @@ fn come_whole<const W: usize>(
     let mut group = Group {
         places: Bits::empty(),
         above: Bits::empty(),
-        fee: part.rate.fee,
-        size: part.rate.size,
+        rate: part.rate,
         part: at,
     };
     if !part.known || !gather(dep, places, left, &mut group) {
@@ -236,8 +235,7 @@ fn group_of<const W: usize>(dep: &DepGraph<W>, places: &Bits<W>) -> Group<W>
     Group {
         places: *places,
         above,
-        fee,
-        size,
+        rate: FeeRate { fee, size },
         part: NO_PART,
     }
 }
@@ -248,14 +246,12 @@ fn alone<const W: usize>(dep: &DepGraph<W>, place: usize) -> Group<W>
     requires place { place < 64 * W }
     requires member { is_member dep.now place ≡ true }
 {
-    let rate = dep.rate(place);
     let mut places = Bits::empty();
     places.insert(place);
     Group {
         places,
         above: dep.ancestors(place),
-        fee: rate.fee,
-        size: rate.size,
+        rate: dep.rate(place),
         part: NO_PART,
     }
 }
@@ -265,7 +261,7 @@ fn settle<const W: usize>(group: &Group<W>, groups: &mut Vec<Group<W>>)
     requires room { 64 * W ≤ vec_capacity groups.old }
     ensures room { 64 * W ≤ vec_capacity groups.new }
 {
-    if groups.len() > 0 && is_below(&groups[groups.len() - 1], group) {
+    if groups.len() > 0 && is_lower(groups[groups.len() - 1].rate, group.rate) {
         settle_among(*group, groups);
         return;
     }
@@ -281,7 +277,7 @@ fn settle_among<const W: usize>(mut group: Group<W>, groups: &mut Vec<Group<W>>)
     ensures room { 64 * W ≤ vec_capacity groups.new }
 {
     let mut at = groups.len();
-    while at > 0 && is_below(&groups[at - 1], &group) {
+    while at > 0 && is_lower(groups[at - 1].rate, group.rate) {
         at -= 1;
         if groups[at].places.meet(&group.above).least().is_some() {
             group = together(&groups.remove(at), &group);
@@ -293,20 +289,15 @@ fn settle_among<const W: usize>(mut group: Group<W>, groups: &mut Vec<Group<W>>)
     }
 }
 
-// Whether a group has a lower rate than another.
-fn is_below<const W: usize>(a: &Group<W>, b: &Group<W>) -> bool {
-    let own = i128::from(a.fee).wrapping_mul(i128::from(b.size));
-    let other = i128::from(b.fee).wrapping_mul(i128::from(a.size));
-    own < other
-}
-
 // Two groups as one.
 fn together<const W: usize>(a: &Group<W>, b: &Group<W>) -> Group<W> {
     Group {
         places: a.places.union(&b.places),
         above: a.above.union(&b.above),
-        fee: a.fee.saturating_add(b.fee),
-        size: a.size.saturating_add(b.size),
+        rate: FeeRate {
+            fee: a.rate.fee.saturating_add(b.rate.fee),
+            size: a.rate.size.saturating_add(b.rate.size),
+        },
         part: NO_PART,
     }
 }

@@ -12,10 +12,10 @@
 //! most n² steps, mostly about 2n.
 //!
 //! `optimal_near` first tries groups of places that it makes of the old order. A group comes behind those of no lower feerate, and takes along
-//! the groups among the lower ones that it depends on. A group that is a known chunk is written as it was, with its flows: only
-//! the order of its places is tested, and covering parents are found for the other groups alone. Each other group has to
-//! be balanced, and may be cut in two at most. Where that holds, feerates fall, and parents come first, the groups are the chunks. Else the
-//! members are solved from nothing.
+//! the groups among the lower ones that it depends on. A group that is a known chunk is written as it was: only the order of its places is
+//! tested, and covering parents are found for the other groups alone. Its flows stay with the caller, who is told which old chunk it is. Each
+//! other group has to be balanced, and may be cut in two at most. Where that holds, feerates fall, and parents come first, the groups are the
+//! chunks. Else the members are solved from nothing.
 //!
 //! A chunk is known where its members keep their fees, their sizes and the relation among themselves: the caller shows that such a chunk
 //! still certifies itself and can't be split. A group of one place is a chunk for one step.

@@ -1,60 +1,61 @@
-ghost use Rattle.std.specs.Prelude.{◌≡◌, ℕ, ◌+◌, ◌*◌, ◌^◌, ◌<◌, ◌≤◌, ◌*ℤ◌, pos, true, [], length, map, IfSome};
+ghost use Rattle.std.specs.Prelude.{◌≡◌, ℕ, ◌+◌, ◌*◌, ◌^◌, ◌<◌, ◌≤◌, true, [], length, map, IfSome};
 ghost use Rattle.std.specs.FinSet as set;
 ghost use Rattle.graphs.specs.Closing.{IsClosureOf};
 ghost use Rattle.graphs.specs.Closures.{HoldsMembers, members_of};
 ghost use Rattle.graphs.specs.Graphs as model;
-ghost use Rattle.graphs.specs.Certificates.{IsCertificate};
 ghost use Rattle.graphs.specs.Linearizations.{IsOptimal};
 ghost use Rattle.linearize.specs.Graphs.{HasRates, IsComponent, most_members, sum_at};
-ghost use Rattle.fee_rate.specs.Rates.{AtMost};
 ghost use Rattle.graphs.specs.Rates.{Falls};
 ghost use Rattle.linearize.specs.Graphs.{sum_from};
-ghost use Rattle.graphs.specs.Minimal.{AreMinimal};
-ghost use Rattle.linearize.specs.Known.{AreKnown};
-ghost use Rattle.linearize.specs.Near.{AreParts, ComesNext, Extends, IsBegun, MayBePut, most_tried};
+ghost use Rattle.linearize.specs.Known.{AreAllMinimal, AreCertified, AreTaken, HaveFlows};
+ghost use Rattle.linearize.specs.Near.{AreHeld, ComesNext, Extends, IsBegun, IsSolvedNext, MayBePut, most_tried};
 ghost use Rattle.linearize.specs.Steps.{AreAtLeast};
 
 use crate::draft::{Draft, LinearPart};
 use crate::guess::{Group, arrange};
-use crate::known::{known_part, put_known};
+use crate::known::{fill_up, known_part, put_known};
 use crate::linear::{Linear, link, optimal};
-use crate::old::Guess;
+use crate::old::{Guess, OldPart};
 use crate::split::split_once;
 use bitset::Bits;
 use closure_flow::Scratch;
 use dep_graph::DepGraph;
-use fee_rate::FeeRate;
+use fee_rate::is_lower;
 use step_count::{Ledger, Steps};
 
 /// As [`optimal`], where the order before a change is at hand.
 ///
 /// The guess may be any order: it has no say in what is answered, only in how soon. But a part that the guess calls known must
-/// still certify itself, and have no smaller set of its feerate, closed within it (clause `known`). Such a part isn't solved
-/// again where the guess fits. For n members the call takes at most 2·(n+2)^5 steps, with those of a guess that didn't fit.
+/// still certify itself with its flows, and have no smaller set of its feerate, closed within it (clause `known`). Such a part
+/// isn't solved again where the guess fits. For n members the call takes at most 2·(n+2)^5 steps, with those of a guess that
+/// didn't fit.
+///
+/// A part that is an old one is written without its flows, and `froms` tells which one it is, at the part's position. So flows
+/// that the caller keeps are neither read nor written here. With them the parts certify the order.
 pub fn optimal_near<L: Ledger, const W: usize>(
     scratch: &mut Scratch<W>,
     dep: &DepGraph<W>,
     guess: &Guess,
     out: &mut Linear<W>,
+    froms: &mut Vec<Option<OldPart>>,
     steps: &mut Steps<L>,
 )
     requires some { 0 < set.len (members_of dep.now) }
     requires few { set.len (members_of dep.now) ≤ most_members }
     requires rates { HasRates dep.now }
     requires component { IsComponent dep.now }
-    requires known { AreKnown dep.now guess.now.parts.items guess.now.places.items guess.now.flows.items }
+    requires known { HaveFlows dep.now guess.now.parts.items guess.now.places.items }
 
-    // There is a plain graph that the members stand for. The parts certify each one over its covering pairs, and are
-    // optimal.
+    // There is a plain graph that the members stand for. The parts, each with its flows, certify each one over its covering
+    // pairs, and are optimal. No part can be cut further: none has a smaller set of its rate, closed within it.
     ensures stands { (graph : model.Graph) × IsClosureOf dep.now graph }
-    ensures certificate { (graph : model.Graph) → IsClosureOf dep.now graph
-        → IsCertificate (sum_at dep.now) graph (model.IsCover graph.pairs) out.new }
+    ensures certificate { AreCertified dep.now guess.now.parts.items guess.now.places.items froms.new.items out.new }
     ensures optimal { (graph : model.Graph) → IsClosureOf dep.now graph
         → IsOptimal (sum_at dep.now) graph (map (λ part. part.ids) out.new) }
+    ensures minimal { AreAllMinimal dep.now guess.now.parts.items guess.now.places.items froms.new.items out.new }
 
-    // No part can be cut further: none has a smaller set of its rate, closed within it.
-    ensures minimal { (graph : model.Graph) → IsClosureOf dep.now graph
-        → AreMinimal (sum_at dep.now) graph.pairs out.new }
+    // Which of the parts are old ones.
+    ensures taken { AreTaken guess.now.parts.items guess.now.places.items froms.new.items out.new }
 
     // Each place that the queue gave is a step. Of n members the steps are at most 2 · (n + 2)^5, with those of a guess that
     // wasn't right.
@@ -65,6 +66,7 @@ pub fn optimal_near<L: Ledger, const W: usize>(
     let parents = out.parents.as_mut_slice();
     let weights = out.weights.as_mut_slice();
     out.draft.clear();
+    froms.clear();
     arrange(dep, &members, guess, &mut out.groups);
     let groups = out.groups.as_slice();
     if !are_parts(
@@ -76,8 +78,10 @@ pub fn optimal_near<L: Ledger, const W: usize>(
         guess,
         groups,
         &mut out.draft,
+        froms,
         steps,
     ) {
+        froms.clear();
         optimal(scratch, dep, out, steps);
     }
 }
@@ -93,22 +97,24 @@ fn are_parts<L: Ledger, const W: usize>(
     guess: &Guess,
     groups: &[Group<W>],
     draft: &mut Draft<W>,
+    froms: &mut Vec<Option<OldPart>>,
     steps: &mut Steps<L>,
 ) -> bool
     requires narrow { 64 * W < 2 ^ 32 }
     requires members { MayBePut (64 * W) dep.now members.now }
-    requires known { AreKnown dep.now guess.now.parts.items guess.now.places.items guess.now.flows.items }
-    requires empty { draft.old ≡ record { parts = []; ids = []; flows = [] } }
+    requires known { HaveFlows dep.now guess.now.parts.items guess.now.places.items }
+    requires empty { (draft.old ≡ record { parts = []; ids = []; flows = [] }) × (froms.old.items ≡ []) }
     requires room { (64 * W ≤ length parents.old) × (64 * W ≤ length weights.old) }
     ensures open { (draft.new.ids ≡ []) × (draft.new.flows ≡ []) }
-    ensures parts { result ≡ true → AreParts (64 * W) dep.now members.now draft.new.parts }
+    ensures parts { result ≡ true → AreHeld (64 * W) dep.now guess.now.parts.items guess.now.places.items members.now
+        froms.new.items draft.new.parts }
     ensures counted { AreAtLeast 0 scratch.old scratch.new steps.old steps.new }
     ensures most { steps.new ≤ steps.old + most_tried (set.len members.now) * set.len members.now }
 {
     let mut done = Bits::empty();
     for group in groups {
         match put_next(
-            scratch, dep, parents, weights, members, &done, guess, group, draft, steps,
+            scratch, dep, parents, weights, members, &done, guess, group, draft, froms, steps,
         ) {
             Some(all) => done = all,
             None => return false,
@@ -128,14 +134,17 @@ fn put_next<L: Ledger, const W: usize>(
     guess: &Guess,
     group: &Group<W>,
     draft: &mut Draft<W>,
+    froms: &mut Vec<Option<OldPart>>,
     steps: &mut Steps<L>,
 ) -> Option<Bits<W>>
     requires narrow { 64 * W < 2 ^ 32 }
     requires begun { IsBegun (64 * W) dep.now members.now done.now draft.old }
-    requires known { AreKnown dep.now guess.now.parts.items guess.now.places.items guess.now.flows.items }
+    requires known { HaveFlows dep.now guess.now.parts.items guess.now.places.items }
     requires open { (draft.old.ids ≡ []) × (draft.old.flows ≡ []) }
+    requires even { length froms.old.items ≡ length draft.old.parts }
     requires room { (64 * W ≤ length parents.old) × (64 * W ≤ length weights.old) }
-    ensures extends { IfSome result (Extends (64 * W) dep.now members.now done.now draft.old draft.new) }
+    ensures extends { IfSome result (Extends (64 * W) dep.now guess.now.parts.items guess.now.places.items members.now done.now
+        draft.old draft.new froms.old.items froms.new.items) }
     ensures open { (draft.new.ids ≡ []) × (draft.new.flows ≡ []) }
     ensures counted { AreAtLeast 0 scratch.old scratch.new steps.old steps.new }
     ensures some { IfSome result (λ all. steps.new + most_tried (set.len members.now) * set.len done.now
@@ -143,14 +152,10 @@ fn put_next<L: Ledger, const W: usize>(
     ensures none { steps.new + most_tried (set.len members.now) * set.len done.now
         ≤ steps.old + most_tried (set.len members.now) * set.len members.now }
 {
-    let places = guess.places.as_slice();
-    let flows = guess.flows.as_slice();
-    if let Some(part) = known_part(guess.parts.as_slice(), places, flows, group.part) {
-        let own_places = &places[part.start..part.end];
-        let own_flows = &flows[part.flow_start..part.flow_end];
-        return put_known(dep, members, done, part.rate, own_places, own_flows, draft);
+    if let Some(part) = known_part(guess.parts.as_slice(), guess.places.as_slice(), group.part) {
+        return put_known(dep, members, done, guess, part, draft, froms);
     }
-    put_tried(
+    let all = put_tried(
         scratch,
         dep,
         parents,
@@ -160,7 +165,11 @@ fn put_next<L: Ledger, const W: usize>(
         &group.places,
         draft,
         steps,
-    )
+    )?;
+    if !fill_up(draft.parts().len(), froms) {
+        return None;
+    }
+    Some(all)
 }
 
 // Solves some members and writes them behind what is done, as one part or as two. Gives the places of both.
@@ -179,7 +188,7 @@ fn put_tried<L: Ledger, const W: usize>(
     requires begun { IsBegun (64 * W) dep.now members.now done.now draft.old }
     requires open { (draft.old.ids ≡ []) × (draft.old.flows ≡ []) }
     requires room { (64 * W ≤ length parents.old) × (64 * W ≤ length weights.old) }
-    ensures extends { IfSome result (Extends (64 * W) dep.now members.now done.now draft.old draft.new) }
+    ensures solved { IfSome result (IsSolvedNext (64 * W) dep.now members.now done.now group.now draft.old draft.new) }
     ensures open { (draft.new.ids ≡ []) × (draft.new.flows ≡ []) }
     ensures counted { AreAtLeast 0 scratch.old scratch.new steps.old steps.new }
     ensures some { IfSome result (λ all. steps.new + most_tried (set.len members.now) * set.len done.now
@@ -229,24 +238,10 @@ fn fall(parts: &[LinearPart]) -> bool
 {
     let mut at = 1;
     while at < parts.len() {
-        if !is_at_most(parts[at].rate, parts[at - 1].rate) {
+        if is_lower(parts[at - 1].rate, parts[at].rate) {
             return false;
         }
         at += 1;
     }
     true
-}
-
-// Whether a rate is no higher than another, by exact products.
-fn is_at_most(a: FeeRate, b: FeeRate) -> bool
-    ensures { result ≡ true → AtMost (sum_from a) (sum_from b) }
-{
-    times(a.fee, b.size) <= times(b.fee, a.size)
-}
-
-// A fee times a size, which 128 bits hold whatever both are.
-fn times(fee: i64, size: u64) -> i128
-    ensures { result ≡ fee *ℤ pos size }
-{
-    i128::from(fee) * i128::from(size)
 }

@@ -1,7 +1,7 @@
 ghost use Rattle.std.specs.Prelude.{IfOk, ◌≡◌, []};
 
-use crate::draft::PlaceFlow;
 use fee_rate::FeeRate;
+use graphs::Flow;
 use outside::NoMemory;
 use std::alloc::Global;
 
@@ -9,7 +9,7 @@ use std::alloc::Global;
 ///
 /// A part is `known` where its members have the fees, the sizes and the relation among themselves that they had. Then `rate` is
 /// its total fee in satoshis and its total size in virtual bytes, and its flows certify it. Of any other part rate and flows say
-/// nothing.
+/// nothing. The flows are the caller's own: the solver doesn't look at them.
 #[derive(Clone, Copy, Debug)]
 pub struct OldPart {
     pub rate: FeeRate,
@@ -20,12 +20,13 @@ pub struct OldPart {
     pub known: bool,
 }
 
-/// The order before a change: its parts, and the places and the flows that they lie in.
+/// The order before a change: its parts, and the places and the flows that they lie in. Flows are told by the names that they
+/// had.
 #[derive(Drop)]
 pub struct Guess {
     pub parts: Vec<OldPart>,
     pub places: Vec<usize>,
-    pub flows: Vec<PlaceFlow>,
+    pub flows: Vec<Flow>,
 }
 
 impl Guess {

@@ -1,15 +1,17 @@
 -- What becomes of the touched names, where the table of names changes.
-use Rattle.std.proofs.Common.{◌≡◌, ◌≢◌, ◌⊎◌, ◌↔◌, ℕ, ◌+◌, ◌<◌, List, [], ◌∷◌, Contains, Option, Some, None, refl, sym, ap, subst, ◌∙◌, inl, inr, nat_eq, true≢false, true, false, arith}
-use Rattle.std.specs.Prelude.{MatchOption}
+use Rattle.std.proofs.Common.{◌≡◌, ◌≢◌, ◌⊎◌, ◌↔◌, ℕ, ◌+◌, ◌<◌, List, [], ◌∷◌, ◌++◌, length, take, Contains, Option, Some, None, refl, sym, ap, subst, ◌∙◌, inl, inr, nat_eq, true≢false, true, false, arith}
+use Rattle.std.specs.Prelude.{MatchOption, slice_index_or}
 use Rattle.std.specs.Option.{option_eq}
 use Rattle.std.proofs.lemmas.Bool.{cases_eq, eqb-true}
 use Rattle.std.proofs.lemmas.Option.{none-some, same_Some}
+use Rattle.std.proofs.lemmas.List.{take_more}
+use Rattle.std.proofs.lemmas.List.Elements.{Contains-append_cases, Contains-append_left, Contains-append_right}
 use Rattle.std.specs.FinSet as set
 use Rattle.std.specs.Ordering.{nat_cmp}
 use Rattle.lists.proofs.Entries.{Contains-head, Contains-later, Contains-cases}
 use Rattle.name_book.specs.Books.{Table, IsNamed, AreRung, Ringed, IsMarked, AreMarks}
 use Rattle.name_book.specs.Changes.{GainsAlone, JoinsAll, KeepsRing, Loses}
-use Rattle.name_book.specs.Calls.{Drops, Gains, Keeps, Releases, Touches}
+use Rattle.name_book.specs.Calls.{Drops, Gains, Keeps, Releases, ReleasesAll, Touches}
 use Rattle.name_book.proofs.Gathering.{is-one, one-is}
 use Rattle.name_book.proofs.Named.{len-less, len-more, named-less, named-more, named-same, none-named}
 use Rattle.name_book.proofs.Rings.{rung-itself, rung-turned, rung-linked}
@@ -254,4 +256,41 @@ module _ (before mid after : Ringed) (id : ℕ) (book : mid.book ≡ before.book
     touched = out-marked;
     spare = same.1 ∙ ap (λ (t : Table). t.spare) book;
     issued = same.2 ∙ ap (λ (t : Table). t.issued) book;
+  }
+
+-- ---- names so far, and one more
+
+module _ (ids : List ℕ) (i : ℕ) (low : i < length ids) where
+  more : take (i + 1) ids ≡ take i ids ++ slice_index_or ids i 0 ∷ []
+  more = take_more ids i 0 low
+
+  pub in-more : (x : ℕ) → (Contains (take i ids) x ⊎ (x ≡ slice_index_or ids i 0)) ↔ Contains (take (i + 1) ids) x
+  in-more x = (
+    λ either. subst (λ (xs : List ℕ). Contains xs x) (sym more) (elim either [
+      | inl before ↦ Contains-append_left (take i ids) (slice_index_or ids i 0 ∷ []) x before
+      | inr same ↦ Contains-append_right (take i ids) (slice_index_or ids i 0 ∷ []) x (is-one (slice_index_or ids i 0) x same)
+    ]),
+    λ here. elim (Contains-append_cases (take i ids) (slice_index_or ids i 0 ∷ []) x (subst (λ (xs : List ℕ). Contains xs x) more here)) [
+      | inl before ↦ inl before
+      | inr last ↦ inr (one-is (slice_index_or ids i 0) x last)
+    ],
+  )
+
+  -- one name more is released
+  pub released-next : (old mid new : Ringed) → ReleasesAll (take i ids) old mid → Releases (slice_index_or ids i 0) mid new
+      → ReleasesAll (take (i + 1) ids) old new
+  released-next old mid new so next = record {
+    names = next.names ∙ so.names;
+    main = λ x y. (λ share. (so.main x y).0 ((next.main x y).0 share), λ share. (next.main x y).1 ((so.main x y).1 share));
+    touched = λ x. (
+      λ marked.
+          let last = (next.touched x).0 marked in
+          let was = (so.touched x).0 last.0 in
+          (was.0, λ there. elim ((in-more x).1 there) [ inl before ↦ was.1 before | inr same ↦ last.1 same ]),
+      λ both. (next.touched x).1 (
+        (so.touched x).1 (both.0, λ before. both.1 ((in-more x).0 (inl before))),
+        λ same. both.1 ((in-more x).0 (inr same)),
+      ),
+    );
+    issued = next.issued ∙ so.issued;
   }

@@ -52,14 +52,25 @@ pub record Releases (id : ℕ) (old new : Ringed) : Type 0 where
   pub spare : new.book.spare ≡ old.book.spare
   pub issued : new.book.issued ≡ old.book.issued
 
--- the clusters of two names become one
-abbrev pub AreJoined : ℕ → ℕ → Ringed → Ringed → Type 0
-AreJoined a b old new =
-    (x y : ℕ) → ShareMain new x y ↔ (ShareMain old x y ⊎ (ShareMain old x a × ShareMain old b y) ⊎ (ShareMain old x b × ShareMain old a y))
-
-pub record Joins (a b : ℕ) (old new : Ringed) : Type 0 where
+-- these names aren't touched any more
+pub record ReleasesAll (ids : List ℕ) (old new : Ringed) : Type 0 where
   pub names : new.book.names ≡ old.book.names
-  pub main : AreJoined a b old new
+  pub main : (x y : ℕ) → ShareMain new x y ↔ ShareMain old x y
+  pub touched : (x : ℕ) → IsMarked new x ↔ (IsMarked old x × (Contains ids x → ⊥))
+  pub issued : new.book.issued ≡ old.book.issued
+
+-- these names leave their clusters and join that of another name
+abbrev pub ComesToMain : ℕ → List ℕ → Ringed → ℕ → Type 0
+ComesToMain to ids rings x = ShareMain rings to x ⊎ Contains ids x
+
+abbrev pub AreGathered : ℕ → List ℕ → Ringed → Ringed → Type 0
+AreGathered to ids old new =
+    (x y : ℕ) → ShareMain new x y
+    ↔ ((ShareMain old x y × (Contains ids x → ⊥) × (Contains ids y → ⊥)) ⊎ (ComesToMain to ids old x × ComesToMain to ids old y))
+
+pub record GathersMain (to : ℕ) (ids : List ℕ) (old new : Ringed) : Type 0 where
+  pub names : new.book.names ≡ old.book.names
+  pub main : AreGathered to ids old new
   pub touched : (x : ℕ) → IsMarked new x ↔ IsMarked old x
   pub spare : new.book.spare ≡ old.book.spare
   pub issued : new.book.issued ≡ old.book.issued

@@ -18,11 +18,6 @@ Loses old new r id = (x y : ℕ) → AreRung new r x y ↔ (AreRung old r x y ×
 abbrev pub CutsOut : Table → Table → ℕ → ℕ → Type 0
 CutsOut old new r id = (x y : ℕ) → AreRung new r x y ↔ ((AreRung old r x y × x ≢ id × y ≢ id) ⊎ ((x ≡ id) × (y ≡ id)))
 
--- the rings r of a and b become one
-abbrev pub Unites : Table → Table → ℕ → ℕ → ℕ → Type 0
-Unites old new r a b =
-    (x y : ℕ) → AreRung new r x y ↔ (AreRung old r x y ⊎ (AreRung old r x a × AreRung old r b y) ⊎ (AreRung old r x b × AreRung old r a y))
-
 -- two names share ring r, and neither is one of these
 abbrev pub AreRungBeside : Table → ℕ → List ℕ → ℕ → ℕ → Type 0
 AreRungBeside table r ids x y = AreRung table r x y × (Contains ids x → ⊥) × (Contains ids y → ⊥)

@@ -2,8 +2,8 @@
 ghost use Rattle.std.specs.Prelude.{◌≡◌, ◌≢◌, ℕ, ◌+◌, ◌-◌, ◌^◌, ◌<◌, ◌≤◌, ◌↔◌, Some, Contains, IsOk, IsTrue, OnOk, MatchOption};
 ghost use Rattle.std.specs.FinSet as set;
 ghost use Rattle.lists.specs.Distinct.{AreDistinct};
-ghost use Rattle.name_book.specs.Books.{has, IsMarked, IsNamed, ShareMain};
-ghost use Rattle.name_book.specs.Calls.{Drops, Gains, HasNone, Joins, Keeps, Parts, Releases, Touches};
+ghost use Rattle.name_book.specs.Books.{has, IsMarked, IsNamed};
+ghost use Rattle.name_book.specs.Calls.{Drops, Gains, GathersMain, HasNone, Keeps, Parts, Releases, ReleasesAll, Touches};
 
 use crate::table::RingTable;
 use graphs::TxId;
@@ -99,25 +99,25 @@ impl NameBook {
         ensures { Touches (Contains names.now) self.old self.new }
     {
         match self.touched {
-            Some(first) => self.table.join_all(TOUCHED, first, names),
+            Some(first) => self.table.gather(TOUCHED, first, names),
             None => {
                 if let Some((&first, rest)) = names.split_first() {
                     self.touched = Some(first);
-                    self.table.join_all(TOUCHED, first, rest);
+                    self.table.gather(TOUCHED, first, rest);
                 }
             }
         }
     }
 
-    /// Makes one of the clusters of two names of main, which are two. Takes no memory.
-    pub fn join(&mut self, a: TxId, b: TxId)
-        requires a { IsNamed self.old.book a }
-        requires b { IsNamed self.old.book b }
-        requires apart { ShareMain self.old a b → ⊥ }
-        ensures { Joins a b self.old self.new }
+    /// These names leave their clusters of main and join that of another name, which is none of them. Takes no memory, and looks each name
+    /// up once.
+    pub fn gather(&mut self, to: TxId, names: &[TxId])
+        requires live { IsNamed self.old.book to × ((x : ℕ) → Contains names.now x → IsNamed self.old.book x) }
+        requires apart { Contains names.now to → ⊥ }
+        ensures { GathersMain to names.now self.old self.new }
     {
         let _touched = self.touched;
-        self.table.join(MAIN, a, b);
+        self.table.gather(MAIN, to, names);
     }
 
     /// Makes a cluster of main of these names alone. Takes no memory, and looks each name up once.
@@ -139,8 +139,18 @@ impl NameBook {
         self.table.remove(id);
     }
 
-    /// Takes a name out of the touched ones. Takes no memory.
-    pub fn release(&mut self, id: TxId)
+    /// Takes names out of the touched ones. Takes no memory.
+    pub fn release_all(&mut self, names: &[TxId])
+        requires { (x : ℕ) → Contains names.now x → IsNamed self.old.book x }
+        ensures { ReleasesAll names.now self.old self.new }
+    {
+        for id in names {
+            self.release(*id);
+        }
+    }
+
+    // Takes a name out of the touched ones.
+    fn release(&mut self, id: TxId)
         requires live { IsNamed self.old.book id }
         ensures { Releases id self.old self.new }
     {

@@ -4,7 +4,7 @@ ghost use Rattle.std.specs.FinMap as finmap;
 ghost use Rattle.std.specs.FinSet as set;
 ghost use Rattle.lists.specs.Distinct.{AreDistinct};
 ghost use Rattle.name_book.specs.Books.{has, IsNamed, AreRung};
-ghost use Rattle.name_book.specs.Changes.{KeepsRing, GainsAlone, Loses, CutsOut, Unites, MakesRing, JoinsAll};
+ghost use Rattle.name_book.specs.Changes.{KeepsRing, GainsAlone, Loses, CutsOut, Gathers, MakesRing};
 
 use crate::keys::{cut_key, find_key, move_names, name_after};
 use graphs::TxId;
@@ -119,21 +119,6 @@ impl RingTable {
         }
     }
 
-    /// Makes one ring `r` of those of `a` and `b`, which are two: a join within one ring would part it. The rings of the other number
-    /// stay. Takes no memory.
-    pub fn join(&mut self, r: usize, a: TxId, b: TxId)
-        requires r_in_range { r < 2 }
-        requires live { IsNamed self.old a × IsNamed self.old b }
-        requires apart { AreRung self.old r a b → ⊥ }
-        ensures united { Unites self.old self.new r a b }
-        ensures others { (q : ℕ) → q < 2 → q ≢ r → KeepsRing self.old self.new q }
-        ensures same { (self.new.names ≡ self.old.names) × (self.new.spare ≡ self.old.spare) × (self.new.issued ≡ self.old.issued) }
-    {
-        let key_a = find_key(&self.names, a);
-        let key_b = find_key(&self.names, b);
-        self.nodes.join_rings(r, key_a, key_b);
-    }
-
     /// Cuts a live name out of its ring `r`: it is alone then, and the others stay together. The rings of the other number stay. Takes no
     /// memory.
     pub fn cut(&mut self, r: usize, a: TxId)
@@ -164,18 +149,17 @@ impl RingTable {
         }
     }
 
-    /// Joins names, each alone in its ring `r`, to the ring of `to`, which is none of them. The rings of the other number stay. Takes no
-    /// memory, and looks each name up once.
-    pub fn join_all(&mut self, r: usize, to: TxId, names: &[TxId])
+    /// Names leave their rings `r` and join that of `to`, which is none of them. The rings of the other number stay. Takes no memory, and
+    /// looks each name up once.
+    pub fn gather(&mut self, r: usize, to: TxId, names: &[TxId])
         requires r_in_range { r < 2 }
         requires live { IsNamed self.old to × ((x : ℕ) → Contains names.now x → IsNamed self.old x) }
-        requires alone { (Contains names.now to → ⊥) × ((x y : ℕ) → Contains names.now x → AreRung self.old r x y → x ≡ y) }
-        ensures joined { JoinsAll self.old self.new r to names.now }
+        requires apart { Contains names.now to → ⊥ }
+        ensures gathered { Gathers self.old self.new r to names.now }
         ensures others { (q : ℕ) → q < 2 → q ≢ r → KeepsRing self.old self.new q }
         ensures same { (self.new.names ≡ self.old.names) × (self.new.spare ≡ self.old.spare) × (self.new.issued ≡ self.old.issued) }
     {
         let key = find_key(&self.names, to);
-        // They are alone: to cut them out of their rings first, as this does, changes nothing.
         move_names(&mut self.nodes, &self.names, r, key, names);
     }
 

@@ -26,7 +26,7 @@ cluster_fits (suc (suc zero)) few = lit< tt
 cluster_fits (suc (suc (suc w))) few = absurd (omega (arith, few))
 
 abbrev pub work_room : ℕ → ℕ
-work_room w = up 8 (72 + up 8 (up 8 (up 8 (up 8 (0 + scratch_room w) + 144) + 24) + 24))
+work_room w = up 8 (72 + up 8 (up 8 (up 8 (up 8 (up 8 (0 + scratch_room w) + 144) + 24) + 24) + 24))
 
 pub work_fits : (w : ℕ) → w ≤ 2 → work_room w < 2 ^ 63
 work_fits zero few = lit< tt

@@ -56,6 +56,21 @@ fn drop_name<L: Ledger>(
     Ok(())
 }
 
+// Drops two names of the top level in one call.
+fn drop_two<L: Ledger>(
+    rt: &impl Abort,
+    levels: &mut Levels<1>,
+    steps: &mut Steps<L>,
+    a: TxId,
+    b: TxId,
+) -> Result<(), Fail> {
+    assert!(rt; a != b);
+    assert!(rt; levels.has(Level::Top, a));
+    assert!(rt; levels.has(Level::Top, b));
+    levels.drop_names(&[a, b], steps)?;
+    Ok(())
+}
+
 // Three names of main, of which the first is a parent of the second.
 fn fill<L: Ledger>(
     rt: &impl Abort,
@@ -170,7 +185,10 @@ fn stagings<K: ledger::Ledger>(
     let mut steps = Steps::new(Counted::<K>::new(blank));
     fill(rt, levels, &mut steps)?;
     aborted(rt, levels, &mut steps)?;
-    committed(rt, levels, &mut steps)
+    committed(rt, levels, &mut steps)?;
+    drop_two(rt, levels, &mut steps, 4, 3)?;
+    assert_eq!(rt; seen(levels), [[0, 1, 0, 0], [0, 1, 0, 0]]);
+    Ok(())
 }
 
 #[test]

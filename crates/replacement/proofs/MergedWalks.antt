@@ -15,10 +15,10 @@ use Rattle.fee_rate.specs.declared.rates.Sum.{Sum}
 use Rattle.fee_rate.specs.Rates.{AtMost, Below}
 use Rattle.graphs.specs.Rates.{sum_of, Falls}
 use Rattle.graphs.proofs.TangentLemmas.{falls-tail}
-use Rattle.diagram.specs.Parts.{rate_of, AreLevelParts, IsPartSum, YieldsParts}
+use Rattle.diagram.specs.Parts.{rate_of, AreLevelParts, YieldsParts}
 use Rattle.diagram.proofs.StepLemmas.{step_some, step_none}
 use Rattle.replacement.specs.Changes.{IsMerged}
-use Rattle.replacement.specs.Merging.{AreAhead, AreLeft, ArePartSums, BeginsAtMost, BeginsBelow, CanMerge, FewerFitTogether, FitTogether, IsReady, Takes, YieldBoth, count_ahead, merged_left, merged_steps, peeked_left}
+use Rattle.replacement.specs.Merging.{AreAhead, AreLeft, BeginsAtMost, BeginsBelow, CanMerge, FewerFitTogether, FitTogether, IsReady, Takes, YieldBoth, count_ahead, merged_left, merged_steps, peeked_left}
 use Rattle.replacement.specs.declared.merged.Merged.{Merged}
 use Rattle.replacement.specs.declared.merged.Peeked.{Peeked}
 
@@ -37,12 +37,6 @@ taken steps walk after part parts is advances left =
     let known = subst (λ (o : Option FeeRate). AreAhead o (AlwaysYields steps rate_of walk.rest) parts) is left in
     (known.0, known.1, advances known.0 known.2)
 
-pub next_is_part : (next : Option FeeRate) (Behind : List Sum → Type 0) (parts : List Sum) → AreAhead next Behind parts → ArePartSums parts
-    → IfSome next (λ part. IsPartSum (rate_of part))
-next_is_part None Behind parts left are = tt
-next_is_part (Some part) Behind parts left are =
-    are (rate_of part) (subst (λ zs. Contains zs (rate_of part)) (sym left.1) (Contains-head (rate_of part) left.0))
-
 pub begins_most : (rate : Sum) (next : Option FeeRate) (Behind : List Sum → Type 0) (parts : List Sum) → AreAhead next Behind parts
     → IfSome next (λ part. AtMost (rate_of part) rate) → BeginsAtMost rate parts
 begins_most rate None Behind parts left low = subst (BeginsAtMost rate) (sym left) tt
@@ -52,9 +46,6 @@ pub begins_below : (rate : Sum) (next : Option FeeRate) (Behind : List Sum → T
     → IfSome next (λ part. Below (rate_of part) rate) → BeginsBelow rate parts
 begins_below rate None Behind parts left low = subst (BeginsBelow rate) (sym left) tt
 begins_below rate (Some part) Behind parts left low = subst (BeginsBelow rate) (sym left.1) low
-
-rest_are : (part : Sum) (parts more : List Sum) → parts ≡ part ∷ more → ArePartSums parts → ArePartSums more
-rest_are part parts more is are other h = are other (subst (λ zs. Contains zs other) (sym is) (Contains-later part other more h))
 
 -- ---- how many are left
 finite_ahead : (next : Option FeeRate) (behind : Count) → ((part : FeeRate) → next ≡ Some part → IsFinite behind) → IsFinite (count_ahead next behind)
@@ -95,8 +86,6 @@ module _ {S U : Type 0} (can : S → Type 0) (steps : S → Option FeeRate → S
           others = may.others;
           ones_left = got.2;
           others_left = subst (λ (walk : Peeked U). AreLeft more walk may.others) (sym same) may.others_left;
-          ones_are = rest_are (rate_of part) may.ones got.0 got.1 may.ones_are;
-          others_are = may.others_are;
         }
 
     pub one_goes : MakesProgress (CanMerge can steps left able more behind) (merged_left left behind) s (Some part) t
@@ -124,8 +113,6 @@ module _ {S U : Type 0} (can : S → Type 0) (steps : S → Option FeeRate → S
           others = got.0;
           ones_left = subst (λ (walk : Peeked S). AreLeft steps walk may.ones) (sym same) may.ones_left;
           others_left = got.2;
-          ones_are = may.ones_are;
-          others_are = rest_are (rate_of part) may.others got.0 got.1 may.others_are;
         }
 
     pub other_goes : MakesProgress (CanMerge can steps left able more behind) (merged_left left behind) s (Some part) t
@@ -272,23 +259,21 @@ fits_front front rest fit = record {
   size = omega (arith, fit.sizes, sum_by-append (λ part. part.size) front rest);
 }
 
-pub fits_each : (parts : List Sum) → FitTogether parts → ArePartSums parts
+fits_each : (parts : List Sum) → FitTogether parts → (part : Sum) → Contains parts part → IsSum part
 fits_each parts fit part h =
     let cut = Contains-splits parts part h in
     let fees = ap (sum_by fee_of) cut.2 ∙ sum_by-append fee_of cut.0 (part ∷ cut.1) in
-    let sizes = ap (sum_by (λ (p : Sum). p.size)) cut.2 ∙ sum_by-append (λ (p : Sum). p.size) cut.0 (part ∷ cut.1) in (
-      fit.some part h,
-      record {
-        fee = omega (arith, fit.fees, fees, sum_by-cons fee_of part cut.1);
-        size = omega (arith, fit.sizes, sizes, sum_by-cons (λ (p : Sum). p.size) part cut.1);
-      },
-    )
+    let sizes = ap (sum_by (λ (p : Sum). p.size)) cut.2 ∙ sum_by-append (λ (p : Sum). p.size) cut.0 (part ∷ cut.1) in
+    record {
+      fee = omega (arith, fit.fees, fees, sum_by-cons fee_of part cut.1);
+      size = omega (arith, fit.sizes, sizes, sum_by-cons (λ (p : Sum). p.size) part cut.1);
+    }
 
 pub level_parts : (level : List Sum) → Falls level → FitTogether level → AreLevelParts level
 level_parts level falls fit = record {
   falling = falls;
   some = fit.some;
-  ranged = λ part h. (fits_each level fit part h).1;
+  ranged = λ part h. fits_each level fit part h;
   fits = λ front rest is. fits_front front rest (subst FitTogether is fit);
 }
 

@@ -6,7 +6,7 @@ use Rattle.fee_rate.specs.declared.rates.FeeRate.{FeeRate}
 use Rattle.fee_rate.specs.declared.rates.Sum.{Sum}
 use Rattle.fee_rate.specs.Rates.{AtMost, Below}
 use Rattle.graphs.specs.Rates.{sum_of, Falls}
-use Rattle.diagram.specs.Parts.{rate_of, IsPartSum}
+use Rattle.diagram.specs.Parts.{rate_of}
 use Rattle.replacement.specs.Changes.{HaveSizes, IsMerged}
 use Rattle.replacement.specs.declared.merged.Front.{Front}
 use Rattle.replacement.specs.declared.merged.Front.TheVariants.{One, Other, Neither}
@@ -88,10 +88,6 @@ merged_steps steps more s r t = (ones others : List Sum) → AreLeft steps s.one
     (λ part. (ones_left others_left : List Sum) × Takes (rate_of part) ones others ones_left others_left
     × AreLeft steps t.one ones_left × AreLeft more t.other others_left)
 
--- each part has a size of at least 1 and is in range
-abbrev pub ArePartSums : List Sum → Type 0
-ArePartSums parts = (part : Sum) → Contains parts part → IsPartSum part
-
 -- both walks may go on, and what is left to them is parts
 pub record CanMerge {S T : Type 0} (can : S → Type 0) (steps : S → Option FeeRate → S → Type 0) (left : S → Count)
     (able : T → Type 0) (more : T → Option FeeRate → T → Type 0) (behind : T → Count) (s : Merged S T) : Type 0 where
@@ -101,8 +97,6 @@ pub record CanMerge {S T : Type 0} (can : S → Type 0) (steps : S → Option Fe
   pub others : List Sum
   pub ones_left : AreLeft steps s.one ones
   pub others_left : AreLeft more s.other others
-  pub ones_are : ArePartSums ones
-  pub others_are : ArePartSums others
 
 -- no more parts than are left to both
 abbrev pub merged_left : {S T : Type 0} → (S → Count) → (T → Count) → Merged S T → Count

@@ -1,11 +1,11 @@
 ghost use Rattle.std.specs.Prelude.{◌≡◌, ◌+◌, ◌<◌, List, IfSome};
 ghost use Rattle.std.specs.Iterator.{AlwaysYields, IsFinite, size};
 ghost use Rattle.fee_rate.specs.declared.rates.Sum.{Sum};
-ghost use Rattle.diagram.specs.Parts.{rate_of, IsPartSum, YieldsParts};
+ghost use Rattle.diagram.specs.Parts.{rate_of, YieldsParts};
 ghost use Rattle.replacement.specs.Changes.{IsMerged};
 ghost use Rattle.replacement.specs.Merging.{merged_left, merged_steps, peeked_left, AreLeft, CanMerge, IsHigher, IsReady, YieldBoth};
 
-use fee_rate::{FeeRate, Sum, is_below};
+use fee_rate::{FeeRate, is_lower};
 
 /// A walk over parts, of which the next was taken ahead.
 #[derive(Drop)]
@@ -51,13 +51,11 @@ enum Front {
 
 /// The part of the higher rate, the first where rates are equal.
 fn higher(one: Option<FeeRate>, other: Option<FeeRate>) -> Front
-    requires one { IfSome one (λ part. IsPartSum (rate_of part)) }
-    requires other { IfSome other (λ part. IsPartSum (rate_of part)) }
     ensures { IsHigher one other result }
 {
     match (one, other) {
         (Some(a), Some(b)) => {
-            if is_below(Sum::from(a), Sum::from(b)) {
+            if is_lower(a, b) {
                 Front::Other(b)
             } else {
                 Front::One(a)

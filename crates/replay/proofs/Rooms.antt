@@ -6,14 +6,23 @@ use Rattle.std.proofs.Common.{rules, ℕ, zero, suc, ◌+◌, ◌*◌, ◌<◌, 
 -- how many bytes a graph takes that has so many words a set of names
 abbrev pub graph_room : ℕ → ℕ
 graph_room w =
-    up 8 (32 + up 8 (840 + up 8 (72 + up 8 (up 8 (up 8 (up 8 (0 + up 8 (up 8 (0 + up 8 (up 8 (up 8 (up 8 (up 8 (up 8 (0 + up 8 (0 + w * 8)) + up 8 (0 + w * 8))
-    + up 8 (0 + w * 8)) + 24) + 24) + 24)) + 32)) + 144) + 24) + 24))))
+    up 8 (32 + up 8 (840 + up 8 (72 + up 8 (up 8 (up 8 (up 8 (up 8 (0 + up 8 (up 8 (0 + up 8 (up 8 (up 8 (up 8 (up 8 (up 8 (0 + up 8 (0 + w * 8)) + up 8 (0 + w * 8))
+    + up 8 (0 + w * 8)) + 24) + 24) + 24)) + 32)) + 144) + 24) + 24) + 24))))
 
 -- and one cluster with its tag
 abbrev pub stored_room : ℕ → ℕ
 stored_room w =
     up 8 (up 1 (0 + up 8 (up 8 (32 + up 8 (up 8 (0 + up 8 (0 + w * 8)) + up 8 (0 + up 8 (max (8 + up 8 (up 1 (up 8 (0 + up 8 (0 + 1 * up 8
     (up 8 (16 + up 8 (0 + w * 8)) + up 8 (0 + w * 8)))) + 8) + 0)) 32)))) + 104)) + 1)
+
+-- and the cluster alone
+abbrev pub cluster_room : ℕ → ℕ
+cluster_room w =
+    up 8 (up 8 (32 + up 8 (up 8 (0 + up 8 (0 + w * 8)) + up 8 (0 + up 8 (max (8 + up 8 (up 1 (up 8 (0 + up 8 (0 + 1 * up 8
+    (up 8 (16 + up 8 (0 + w * 8)) + up 8 (0 + w * 8)))) + 8) + 0)) 32)))) + 104)
+
+pub cluster_fits : (w : ℕ) → graph_room w < 9223372036854775808 → cluster_room w < 9223372036854775808
+cluster_fits w fits = search rules
 
 pub stored_fits : (w : ℕ) → graph_room w < 9223372036854775808 → stored_room w < 9223372036854775808
 stored_fits w fits = search rules

@@ -16,24 +16,36 @@ use Rattle.levels.specs.Levels.{OneLevel}
 use Rattle.levels.specs.Orders.{ListsCovers}
 use Rattle.tx_graph.specs.Kept.{IsGraphOf}
 use Rattle.tx_graph.specs.Readings.{IsTextOf}
-use Rattle.replay.specs.Writings.{ListsEach, tx_line_of, edges_lines}
+use Rattle.replay.specs.Writings.{ListsBy, ListsEach, tx_line_of, edges_lines}
 use Rattle.std.proofs.lemmas.Simd.{map-map}
 
 -- ---- edges child by child
-pub each_append : (graph : Closure) (order xs ys : List ℕ) (one two : List (ℕ × ℕ)) → ListsEach graph order xs one → ListsEach graph order ys two
-    → ListsEach graph order (xs ++ ys) (one ++ two)
-each_append graph order [] ys one two first second = rw first second
-each_append graph order (x ∷ xs) ys one two first second = (
+pub each_append : (P : ℕ → List ℕ → Type 0) (xs ys : List ℕ) (one two : List (ℕ × ℕ)) → ListsBy P xs one → ListsBy P ys two
+    → ListsBy P (xs ++ ys) (one ++ two)
+each_append P [] ys one two first second = rw first second
+each_append P (x ∷ xs) ys one two first second = (
   first.0,
   first.1 ++ two,
   first.2,
-  each_append graph order xs ys first.1 two first.3 second,
+  each_append P xs ys first.1 two first.3 second,
   ap (λ (edges : List (ℕ × ℕ)). edges ++ two) first.4 ∙ append_assoc (map (λ (parent : ℕ). (parent, x)) first.0) first.1 two,
 )
 
-pub each_one : (graph : Closure) (order : List ℕ) (child : ℕ) (parents : List ℕ) → ListsCovers graph order child parents
-    → ListsEach graph order (child ∷ []) (map (λ (parent : ℕ). (parent, child)) parents)
-each_one graph order child parents covers = (parents, [], covers, refl, sym (append-nil (map (λ (parent : ℕ). (parent, child)) parents)))
+pub each_one : (P : ℕ → List ℕ → Type 0) (child : ℕ) (parents : List ℕ) → P child parents
+    → ListsBy P (child ∷ []) (map (λ (parent : ℕ). (parent, child)) parents)
+each_one P child parents holds = (parents, [], holds, refl, sym (append-nil (map (λ (parent : ℕ). (parent, child)) parents)))
+
+-- what has one property has another
+pub each_other : (P Q : ℕ → List ℕ → Type 0) (xs : List ℕ) (edges : List (ℕ × ℕ))
+    → ((child : ℕ) (parents : List ℕ) → Contains xs child → P child parents → Q child parents) → ListsBy P xs edges → ListsBy Q xs edges
+each_other P Q [] edges told each = each
+each_other P Q (x ∷ xs) edges told each = (
+  each.0,
+  each.1,
+  told x each.0 (Contains-head x xs) each.2,
+  each_other P Q xs each.1 (λ child parents here holds. told child parents (Contains-later x child xs here) holds) each.3,
+  each.4,
+)
 
 either : {P Q R : Type 0} → P ⊎ Q → (P → R) → (Q → R) → R
 either (inl p) f g = f p

@@ -2,7 +2,9 @@
 use Rattle.std.specs.Prelude.{◌≡◌, ℕ, List, [], ◌∷◌, ◌++◌, map, flat_map, codes}
 use Rattle.std.specs.declared.option.Option.{Option}
 use Rattle.std.specs.declared.result.Result.{Result}
-use Rattle.graphs.specs.Closures.{Closure, rate_of}
+use Rattle.graphs.specs.Closures.{Closure, rate_of, IsCover}
+use Rattle.cluster.specs.Clusters.{Cluster}
+use Rattle.cluster.specs.Covers.{ListsInOrder}
 use Rattle.cluster_store.specs.Lent.{lent}
 use Rattle.graph_model.specs.Replies.{point_line}
 use Rattle.graph_model.specs.Words.{line_text}
@@ -32,9 +34,16 @@ tx_line_of graph id = tx_line id (rate_of graph id).fee (rate_of graph id).size
 abbrev pub edges_lines : List (ℕ × ℕ) → List (List ℕ)
 edges_lines edges = map (λ edge. edge_line edge.0 edge.1) edges
 
--- The edges are, for each of some children in turn, those from its parents with nothing between, as these stand in an order.
+-- The edges are, for each of some children in turn, those from its parents, of which a property holds.
+abbrev pub ListsBy : (ℕ → List ℕ → Type 0) → List ℕ → List (ℕ × ℕ) → Type 0
+ListsBy P [] edges = edges ≡ []
+ListsBy P (child ∷ children) edges =
+    (parents : List ℕ) × (rest : List (ℕ × ℕ)) × P child parents × ListsBy P children rest × (edges ≡ map (λ parent. (parent, child)) parents ++ rest)
+
+-- The parents are those with nothing between, as these stand in an order.
 abbrev pub ListsEach : Closure → List ℕ → List ℕ → List (ℕ × ℕ) → Type 0
-ListsEach graph order [] edges = edges ≡ []
-ListsEach graph order (child ∷ children) edges =
-    (parents : List ℕ) × (rest : List (ℕ × ℕ)) × ListsCovers graph order child parents
-    × ListsEach graph order children rest × (edges ≡ map (λ parent. (parent, child)) parents ++ rest)
+ListsEach graph order = ListsBy (ListsCovers graph order)
+
+-- The same for children of a cluster, in its order.
+abbrev pub ListsOwn : Cluster → List ℕ → List (ℕ × ℕ) → Type 0
+ListsOwn c = ListsBy (λ child parents. ListsInOrder (λ a. IsCover c.graph a child) (flat_map (λ part. part.ids) c.parts) parents)

@@ -1,6 +1,5 @@
 ghost use Rattle.std.specs.Prelude.{◌≡◌, ℕ, ℤ, true, List, [], ◌∷◌, map, flat_map, Contains};
 ghost use Rattle.std.specs.Iterator.{AlwaysYields, IsFinite};
-ghost use Rattle.graphs.specs.Closures.{is_member};
 ghost use Rattle.graph_model.specs.Answers.{order_of};
 ghost use Rattle.graph_model.specs.Commands as commands;
 ghost use Rattle.graph_model.specs.Runs as runs;
@@ -12,13 +11,13 @@ ghost use Rattle.cluster_store.specs.Lent.{lent};
 ghost use Rattle.replay.specs.Answers.{IsReadOf, WritesAnswer};
 ghost use Rattle.levels.specs.Levels.{level_at};
 ghost use Rattle.tx_graph.specs.Readings.{part_reply};
-ghost use Rattle.replay.specs.Writings.{GoesOnLines, ListsEach, line_of, tx_line_of, edges_lines};
+ghost use Rattle.replay.specs.Writings.{GoesOnLines, ListsEach, ListsOwn, line_of, tx_line_of, edges_lines};
 
 use crate::answer::{Outcome, told};
 use fee_rate::{FeeRate, Sum};
 use graph_model::{Flow, Level, Refusal, TxId};
 use outside::{Failed, Sink};
-use tx_graph::{Covers, Order, PartRef, TxGraph};
+use tx_graph::{Cluster, Covers, Order, PartRef, TxGraph};
 use wire::{write_chunk, write_edge, write_flow, write_point, write_refusal, write_tx, write_word};
 
 /// A line of a reply that goes out line by line.
@@ -166,40 +165,37 @@ fn more_parts<const W: usize, K: Sink>(
     so_far
 }
 
-/// Goes on with the lines of the transactions of a part.
+/// Goes on with the lines of some transactions of a cluster.
 fn more_txs<const W: usize, K: Sink>(
     so_far: Result<(), Failed>,
-    graph: &TxGraph<W>,
-    level: Level,
+    cluster: &Cluster<W>,
     ids: &[TxId],
     sink: &mut K,
 ) -> Result<(), Failed>
-    requires { (id : ℕ) → Contains ids.now id → is_member (level_at graph.now.levels level).graph id ≡ true }
+    requires { (id : ℕ) → Contains ids.now id → Contains cluster.now.names id }
     ensures { GoesOnLines so_far (K.written sink.old) (K.written sink.new) (K.faults sink.old)
-        (K.faults sink.new) result (map (tx_line_of (level_at graph.now.levels level).graph) ids.now) }
+        (K.faults sink.new) result (map (tx_line_of cluster.now.graph) ids.now) }
 {
     let mut so_far = so_far;
     for id in ids {
-        so_far = more(so_far, Line::Tx(*id, graph.rate(level, *id)), sink);
+        so_far = more(so_far, Line::Tx(*id, cluster.rate(*id)), sink);
     }
     so_far
 }
 
-/// Goes on with the lines of the transactions of all parts.
+/// Goes on with the lines of the transactions of a level.
 fn more_all_txs<const W: usize, K: Sink>(
     so_far: Result<(), Failed>,
     graph: &TxGraph<W>,
     level: Level,
-    parts: Order<'_, W>,
     sink: &mut K,
 ) -> Result<(), Failed>
-    requires { (id : ℕ) → Contains (order_of parts) id → is_member (level_at graph.now.levels level).graph id ≡ true }
-    ensures { GoesOnLines so_far (K.written sink.old) (K.written sink.new) (K.faults sink.old)
-        (K.faults sink.new) result (map (tx_line_of (level_at graph.now.levels level).graph) (order_of parts.entry)) }
+    ensures { GoesOnLines so_far (K.written sink.old) (K.written sink.new) (K.faults sink.old) (K.faults sink.new) result
+        (map (tx_line_of (level_at graph.now.levels level).graph) (order_of (level_at graph.now.levels level).parts)) }
 {
     let mut so_far = so_far;
-    for part in parts {
-        so_far = more_txs(so_far, graph, level, part.ids, sink);
+    for (shown, cluster) in graph.held(level) {
+        so_far = more_txs(so_far, cluster, shown.part.ids, sink);
     }
     so_far
 }
@@ -221,45 +217,41 @@ fn more_covers<const W: usize, K: Sink>(
     so_far
 }
 
-/// Goes on with the lines of the edges to the transactions of a part.
+/// Goes on with the lines of the edges to some transactions of a cluster.
 fn more_edges<const W: usize, K: Sink>(
     so_far: Result<(), Failed>,
-    graph: &TxGraph<W>,
-    level: Level,
+    cluster: &Cluster<W>,
     ids: &[TxId],
     sink: &mut K,
 ) -> Result<(), Failed>
-    requires { (id : ℕ) → Contains ids.now id → is_member (level_at graph.now.levels level).graph id ≡ true }
-    ensures { (edges : List (ℕ × ℕ)) × ListsEach (level_at graph.now.levels level).graph
-        (order_of (level_at graph.now.levels level).parts) ids.now edges
+    requires { (id : ℕ) → Contains ids.now id → Contains cluster.now.names id }
+    ensures { (edges : List (ℕ × ℕ)) × ListsOwn cluster.now ids.now edges
         × GoesOnLines so_far (K.written sink.old) (K.written sink.new) (K.faults sink.old) (K.faults sink.new) result
         (edges_lines edges) }
 {
     let mut so_far = so_far;
     for id in ids {
-        so_far = more_covers(so_far, graph.covers(level, *id), *id, sink);
+        so_far = more_covers(so_far, cluster.covers(*id), *id, sink);
     }
     so_far
 }
 
-/// Goes on with the lines of the edges to the transactions of all parts.
+/// Goes on with the lines of the edges to the transactions of a level.
 fn more_all_edges<const W: usize, K: Sink>(
     so_far: Result<(), Failed>,
     graph: &TxGraph<W>,
     level: Level,
-    parts: Order<'_, W>,
     sink: &mut K,
 ) -> Result<(), Failed>
-    requires { (id : ℕ) → Contains (order_of parts) id → is_member (level_at graph.now.levels level).graph id ≡ true }
     ensures { (edges : List (ℕ × ℕ))
         × ListsEach (level_at graph.now.levels level).graph (order_of (level_at graph.now.levels level).parts)
-        (order_of parts.entry) edges
+        (order_of (level_at graph.now.levels level).parts) edges
         × GoesOnLines so_far (K.written sink.old) (K.written sink.new) (K.faults sink.old) (K.faults sink.new) result
         (edges_lines edges) }
 {
     let mut so_far = so_far;
-    for part in parts {
-        so_far = more_edges(so_far, graph, level, part.ids, sink);
+    for (shown, cluster) in graph.held(level) {
+        so_far = more_edges(so_far, cluster, shown.part.ids, sink);
     }
     so_far
 }
@@ -274,8 +266,8 @@ pub(crate) fn write_proof<const W: usize, K: Sink>(
     ensures { WritesAnswer (IsReadOf graph.now (commands.Proof level)) (K.written sink.old) (K.written sink.new)
         (K.faults sink.old) (K.faults sink.new) result }
 {
-    let so_far = more_all_txs(Ok(()), graph, level, graph.order(level), sink);
-    let so_far = more_all_edges(so_far, graph, level, graph.order(level), sink);
+    let so_far = more_all_txs(Ok(()), graph, level, sink);
+    let so_far = more_all_edges(so_far, graph, level, sink);
     let so_far = more_parts(so_far, graph.order(level), sink);
     told(more(so_far, Line::End, sink), Outcome::Accepted)
 }

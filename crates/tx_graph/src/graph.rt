@@ -19,6 +19,8 @@ ghost use Rattle.graph_model.specs.Texts.{Text};
 ghost use Rattle.diagram.specs.Points.{YieldsCorners};
 ghost use Rattle.graphs.specs.Rates.{sum_of};
 ghost use Rattle.cluster.specs.Steps.{GrowsWithin, most_steps};
+ghost use Rattle.cluster_store.specs.Held.{Held as HeldPart};
+ghost use Rattle.levels.specs.Held.{IsHeldIn};
 ghost use Rattle.tx_graph.specs.Additions.{AddRefusalIs, CountsLive};
 ghost use Rattle.tx_graph.specs.Kept.{Kept, StandsFor, MakesStep, start_within};
 ghost use Rattle.levels.specs.Lefts.{DropsWithin};
@@ -28,7 +30,7 @@ ghost use Rattle.tx_graph.specs.Dropped.{AreOfClusters, ArePaidBySize, IsBlockOf
 ghost use Rattle.tx_graph.specs.Readings.{AreMinimalIn, IsBestOrder, IsTextOf, part_reply, place_reply, compare_reply, settle_reply};
 ghost use Rattle.levels.specs.Stays.{AllStay};
 
-use crate::order::{Diagram, Forward, Numbered, Order, OrderBack};
+use crate::order::{Diagram, Forward, Held, Numbered, Order, OrderBack};
 use cluster::{Covers, PartRef};
 use diagram::corners;
 use fee_rate::FeeRate;
@@ -502,6 +504,15 @@ impl<const W: usize> TxGraph<W> {
         ensures { rev_source result ≡ (level_at self.now.levels level).parts }
     {
         self.order(level).rev()
+    }
+
+    /// The same chunks, each with its cluster, which knows of its transactions what the level's graph does: the fee and the size of
+    /// each, and its parents with no third transaction between, as they stand in the level's order. Takes no memory.
+    pub fn held(&self, level: Level) -> Held<'_, W>
+        ensures parts { map (λ h. h.shown.part) result ≡ (level_at self.now.levels level).parts }
+        ensures clusters { (h : HeldPart) → Contains result h → IsHeldIn (level_at self.now.levels level) h }
+    {
+        self.levels.held(level)
     }
 
     /// The chunks of main in main's order, each with the number of its cluster. Two chunks have one number exactly where they are of

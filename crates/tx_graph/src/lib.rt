@@ -25,6 +25,6 @@ mod graph;
 mod mining;
 mod order;
 
-pub use cluster::{Covers, PartRef};
+pub use cluster::{Cluster, Covers, PartRef};
 pub use graph::TxGraph;
-pub use order::{Diagram, Forward, Numbered, Order, OrderBack};
+pub use order::{Diagram, Forward, Held, Numbered, Order, OrderBack};

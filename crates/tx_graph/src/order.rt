@@ -1,7 +1,7 @@
 ghost use Rattle.std.specs.Prelude.{◌≡◌, map};
 
 use cluster::PartRef;
-use cluster_store::{PartWalk, Parts, RateWalk, Stored};
+use cluster_store::{HeldWalk, PartWalk, Parts, RateWalk, Stored};
 use diagram::Corners;
 use std::iter::Rev;
 use std::marker::Model;
@@ -14,6 +14,9 @@ pub type OrderBack<'a, const W: usize> = Rev<Order<'a, W>>;
 
 /// The parts of a level in its order, lent, each with the number of its cluster.
 pub type Numbered<'a, const W: usize> = PartWalk<'a, Stored<W>>;
+
+/// The parts of a level in its order, lent, each with its cluster.
+pub type Held<'a, const W: usize> = HeldWalk<'a, W>;
 
 /// The corners of a level's diagram from (0, 0) on, each a size, in virtual bytes, and the fee there, in satoshis.
 pub type Diagram<'a, const W: usize> = Corners<RateWalk<'a>>;

@@ -1,5 +1,6 @@
 use Rattle.std.proofs.Common.{◌≡◌, ◌*◌, ℕ, List, length, sym, subst, refl}
 use Rattle.std.proofs.lemmas.Result.{IfOk-from_err}
+use Rattle.cluster.specs.Guesses.{AreSound}
 use Rattle.cluster.specs.Kept.{IsOrdered, cut}
 use Rattle.cluster.specs.Named.{IsNamed}
 use Rattle.cluster.specs.Steps.{GrowsWithin, most_steps}
@@ -7,7 +8,17 @@ use Rattle.cluster.proofs.Kept.{IsCluster-named}
 use Rattle.cluster.proofs.making.certified.Goals as goal
 
 pub ordered-requires : goal.ordered-requires
-ordered-requires g c = (search, (search, (subst (λ (xs : List ℕ). IsNamed (64 * g.row.W) xs c.args.dep) (sym c.as_slice.ensures) c.requires.named, c.requires.known)))
+ordered-requires g c = (
+  search,
+  (
+    search,
+    (
+      subst (λ (xs : List ℕ). IsNamed (64 * g.row.W) xs c.args.dep) (sym c.as_slice.ensures) c.requires.named,
+      subst (λ (xs : List ℕ). AreSound xs c.args.dep c.args.guess.now.parts.items c.args.guess.now.places.items c.args.guess.now.flows.items)
+          (sym c.as_slice.ensures) c.requires.known,
+    ),
+  ),
+)
 
 pub returns-in_err-order-clause-names : goal.returns-in_err-order-clause-names
 returns-in_err-order-clause-names g c = IfOk-from_err c.from_residual.result _ c.from_residual.ensures.0

@@ -59,7 +59,7 @@ certified-requires g c =
             kept,
             part_known n c.args.names.now c.copy_names.new.names.items (named c.args.names.now c.args.dep.now) c.in_ok-dep.dep c.args.chosen
                 c.args.old.now.parts c.guess_part.new.guess.parts.items c.guess_part.new.guess.places.items c.guess_part.new.guess.flows.items kept left
-                c.requires.known
+                c.requires.known c.requires.follow
                 (subst (λ (xs : List ℕ). AreImages xs (λ part. Contains c.args.old.now.parts part) c.guess_part.new.guess.parts.items
                 c.guess_part.new.guess.places.items c.guess_part.new.guess.flows.items) c.as_slice.ensures c.guess_part.ensures),
           ),

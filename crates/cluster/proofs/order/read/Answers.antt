@@ -1,8 +1,10 @@
-use Rattle.std.proofs.Common.{◌≡◌, ◌≤◌, ◌<◌, ◌+◌, ◌++◌, ℕ, List, [], ◌∷◌, slice_index_or, length, map, slice_index, sym, ap, ◌∙◌, subst, arith}
-use Rattle.std.specs.Prelude.{Contains, pos}
+use Rattle.std.proofs.Common.{◌≡◌, ◌≤◌, ◌<◌, ◌+◌, ◌++◌, ℕ, List, [], ◌∷◌, slice_index_or, length, map, slice_index, sym, ap, ◌∙◌, subst, subst₂, arith}
+use Rattle.std.specs.Prelude.{Contains, pos, get_or, Option, None, IfSome}
 use Rattle.linearize.specs.declared.draft.LinearPart.{LinearPart}
 use Rattle.linearize.specs.Drafts.{placed}
-use Rattle.cluster.specs.Orders.{AddsFlows, StandAt}
+use Rattle.linearize.specs.declared.old.OldPart.{OldPart}
+use Rattle.cluster.specs.Kept.{end_of}
+use Rattle.cluster.specs.Orders.{AddsPart, StandAt}
 use Rattle.cluster.proofs.Reading.{Reading, Reading-more, Reading-all, cut_below, cut_moved, ends_within, flow_end_at}
 use Rattle.cluster.proofs.order.read.Goals as goal
 
@@ -31,8 +33,8 @@ between-requires-clause-end g c =
     (flow_end_at c.args.linear.now c.parts-shown.result.now c.flows-all.result.now
     c.parts-shown.ensures c.flows-all.ensures c.loop-at.at no_end c.loop-at-test.true)).1
 
-pub add_flows-requires-clause-there : goal.add_flows-requires-clause-there
-add_flows-requires-clause-there g c =
+pub add_part-requires-clause-there : goal.add_part-requires-clause-there
+add_part-requires-clause-there g c =
     let room : length c.args.names.now ≤ length c.args.positions.now = c.requires.room in
     let kept : length c.stand.new.positions ≡ length c.args.positions.now = c.stand.auto.positions in
     cut_below c.args.linear.now c.parts-shown.result.now c.flows-all.result.now c.parts-shown.ensures c.flows-all.ensures c.args.names.now c.stand.new.positions
@@ -40,8 +42,8 @@ add_flows-requires-clause-there g c =
     (subst (λ (xs : List ℕ). StandAt xs c.stand.new.positions) c.order.ensures c.stand.ensures) c.loop-at.at c.loop-at.from
     no_end c.between.result.now c.loop-at-test.true c.loop-at.invariant.from_is c.between.ensures (omega arith)
 
-pub add_flows-requires-clause-within : goal.add_flows-requires-clause-within
-add_flows-requires-clause-within g c =
+pub add_part-requires-clause-within : goal.add_part-requires-clause-within
+add_part-requires-clause-within g c =
     cut_moved c.args.linear.now c.parts-shown.result.now c.flows-all.result.now c.parts-shown.ensures c.flows-all.ensures c.args.names.now c.stand.new.positions
     (length c.args.names.now) c.requires.placed
     (subst (λ (xs : List ℕ). StandAt xs c.stand.new.positions) c.order.ensures c.stand.ensures) c.loop-at.at
@@ -50,25 +52,33 @@ add_flows-requires-clause-within g c =
     ∙ ap (λ (xs : List ℕ). xs ++ map (slice_index c.args.names.now) c.order-2.result.now) c.new-order.ensures.items
     ∙ ap (map (slice_index c.args.names.now)) c.order-2.ensures)
 
+pub add_part-requires-clause-kept : goal.add_part-requires-clause-kept
+add_part-requires-clause-kept g c =
+    subst (λ (o : Option OldPart). IfSome o (λ from. (from.flow_start ≤ from.flow_end) × (from.flow_end ≤ length c.args.known.now)))
+    (sym c.from_at.ensures) (c.requires.within c.loop-at.at)
+
 pub loop-at-preserved : goal.loop-at-preserved
 loop-at-preserved g c =
     let names_are : c.as_slice-own_names.result.now ≡ map (slice_index c.args.names.now) (placed c.args.linear.now) =
     c.as_slice-own_names.ensures ∙ c.in_ok-name_places.ensures
     ∙ ap (λ (xs : List ℕ). xs ++ map (slice_index c.args.names.now) c.order-2.result.now) c.new-order.ensures.items
     ∙ ap (map (slice_index c.args.names.now)) c.order-2.ensures in
-    let adds : AddsFlows c.between.result.now c.stand.new.positions
-    (map (slice_index c.args.names.now) (placed c.args.linear.now)) c.loop-at.flows.items c.add_flows.new.flows.items =
-    subst (λ (xs : List ℕ). AddsFlows c.between.result.now c.stand.new.positions xs c.loop-at.flows.items c.add_flows.new.flows.items)
-    names_are c.in_ok-add_flows.ensures in
-    let so = subst (λ (xs : List ℕ). Reading c.args.names.now xs c.args.linear.now c.parts-shown.result.now
+    let adds : AddsPart (get_or c.args.froms.now c.loop-at.at None) c.between.result.now c.stand.new.positions
+    (map (slice_index c.args.names.now) (placed c.args.linear.now)) c.args.known.now c.loop-at.flows.items c.add_part.new.flows.items =
+    subst₂ (λ (o : Option OldPart) (xs : List ℕ). AddsPart o c.between.result.now c.stand.new.positions xs c.args.known.now c.loop-at.flows.items
+    c.add_part.new.flows.items) c.from_at.ensures names_are c.in_ok-add_part.ensures in
+    let so = subst (λ (xs : List ℕ). Reading c.args.names.now xs c.args.linear.now c.args.froms.now c.args.known.now c.parts-shown.result.now
     c.loop-at.at c.loop-at.from c.loop-at.parts.items c.loop-at.flows.items) names_are c.loop-at.invariant in
-    subst (λ (xs : List ℕ). Reading c.args.names.now xs c.args.linear.now c.parts-shown.result.now (c.loop-at.at + 1)
-    (slice_index_or c.parts-shown.result.now c.loop-at.at no_end).flow_end c.push.new.self.items c.add_flows.new.flows.items) (sym names_are)
+    let count : c.len.result ≡ length c.add_part.new.flows.items = omega (arith, c.len.ensures) in
+    subst (λ (xs : List ℕ). Reading c.args.names.now xs c.args.linear.now c.args.froms.now c.args.known.now c.parts-shown.result.now (c.loop-at.at + 1)
+    (slice_index_or c.parts-shown.result.now c.loop-at.at no_end).flow_end c.push.new.self.items c.add_part.new.flows.items) (sym names_are)
     (Reading-more c.args.linear.now c.parts-shown.result.now c.flows-all.result.now c.parts-shown.ensures
     c.flows-all.ensures c.args.names.now c.stand.new.positions (length c.args.names.now) c.requires.placed
-    (subst (λ (xs : List ℕ). StandAt xs c.stand.new.positions) c.order.ensures c.stand.ensures) c.loop-at.at c.loop-at.from
-    no_end c.between.result.now c.loop-at.parts.items c.push.new.self.items c.loop-at.flows.items c.add_flows.new.flows.items
-    c.loop-at-test.true c.between.ensures adds (c.in_ok-push.ensures.ok ∙ ap (λ x. c.loop-at.parts.items ++ x ∷ []) c.end_of.ensures) so)
+    (subst (λ (xs : List ℕ). StandAt xs c.stand.new.positions) c.order.ensures c.stand.ensures) c.args.froms.now c.args.known.now c.loop-at.at c.loop-at.from
+    no_end c.between.result.now c.loop-at.parts.items c.push.new.self.items c.loop-at.flows.items c.add_part.new.flows.items
+    c.loop-at-test.true c.between.ensures adds
+    (c.in_ok-push.ensures.ok ∙ ap (λ x. c.loop-at.parts.items ++ x ∷ []) (c.end_of.ensures
+    ∙ ap (end_of (slice_index_or c.parts-shown.result.now c.loop-at.at no_end)) count)) so)
 
 pub returns : goal.returns
 returns g c =
@@ -76,7 +86,7 @@ returns g c =
     c.in_ok-name_places.ensures ∙ ap (λ (xs : List ℕ). xs ++ map (slice_index c.args.names.now) c.order-2.result.now) c.new-order.ensures.items
     ∙ ap (map (slice_index c.args.names.now)) c.order-2.ensures in
     Reading-all c.args.linear.now c.parts-shown.result.now c.flows-all.result.now c.parts-shown.ensures c.flows-all.ensures
-    c.args.names.now c.name_places.new.order.items c.loop-at.at c.loop-at.from c.loop-at.parts.items c.loop-at.flows.items
+    c.args.names.now c.name_places.new.order.items c.args.froms.now c.args.known.now c.loop-at.at c.loop-at.from c.loop-at.parts.items c.loop-at.flows.items
     c.loop-at-test.false names_are
-    (subst (λ (xs : List ℕ). Reading c.args.names.now xs c.args.linear.now c.parts-shown.result.now c.loop-at.at
+    (subst (λ (xs : List ℕ). Reading c.args.names.now xs c.args.linear.now c.args.froms.now c.args.known.now c.parts-shown.result.now c.loop-at.at
     c.loop-at.from c.loop-at.parts.items c.loop-at.flows.items) c.as_slice-own_names.ensures c.loop-at.invariant)

@@ -35,4 +35,4 @@ returns-clause-first g c =
 pub returns-clause-keeps : goal.returns-clause-keeps
 returns-clause-keeps g c =
     touched_and_released c.args.ids.now c.args.rings.now c.touch_all.new.self c.touch_all.ensures
-    (none_touched c.args.rings.now c.args.shelves.now c.requires.right c.requires.alone) c.release_all.new.rings c.release_all.ensures
+    (none_touched c.args.rings.now c.args.shelves.now c.requires.right c.requires.alone) c.release_all.new.self c.release_all.ensures

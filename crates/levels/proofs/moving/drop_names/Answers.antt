@@ -1,102 +1,40 @@
--- The rings follow names that leave the top level.
-use Rattle.std.proofs.Common.{rules, ◌≡◌, ℕ, List, None, inr, sym, ap, ◌∙◌, subst}
-use Rattle.std.specs.FinMap as finmap
-use Rattle.std.specs.FinSet as set
-use Rattle.levels.specs.Kept.{SuitsShelf}
-use Rattle.levels.specs.Moves.{DropsTop}
-use Rattle.levels.specs.Rings.{Ringed}
-use Rattle.levels.proofs.Calls.{none_staged}
-use Rattle.levels.proofs.Departing.{departed_untouched, rest_apart, rest_at, rest_named, right_cut, right_departed}
-use Rattle.levels.proofs.Shelved.{none_of, some_of}
-use Rattle.levels.proofs.Touching.{same_named}
+-- What is left of the clusters comes in.
+use Rattle.std.proofs.Common.{◌≤◌, ℕ, List, sym, subst, arith}
+use Rattle.cluster_store.proofs.Results.{on_ok}
+use Rattle.levels.specs.Tops.{Comes, IsMade}
+use Rattle.levels.proofs.Dropping.{comes_left, drops_top}
+use Rattle.levels.proofs.Rooms.{news_fits}
 use Rattle.levels.proofs.moving.drop_names.Goals as goal
-use Rattle.levels.proofs.moving.drop_names.Goals.{then-is_staged, else-is_staged}
 
-pub touch_left-requires : goal.touch_left-requires
-touch_left-requires g c =
-    let old = c.args.shelves.now in
-    let new = c.drop_all.new.self in
-    let found = c.in_ok-outs.ensures in
-    let outs = c.as_slice.result.now in
-    let made = c.in_ok-outs.made.items in
-    let dropped : DropsTop g.row.W outs made c.args.ids.now old new =
-    subst (λ (ns : List ℕ). DropsTop g.row.W ns made c.args.ids.now old new) (sym c.as_slice.ensures.value) found.dropped in (
-      search rules,
-      (
-        found.order,
-        (
-          dropped.once,
-          departed_untouched g.row.W outs made c.args.ids.now old new c.requires.order found.order dropped c.args.rings.now c.requires.right,
-        ),
-      ),
-    )
-
-pub forget_lost-requires : goal.forget_lost-requires
-forget_lost-requires g c = (
-  search rules,
-  (
-    (λ id here. (same_named c.args.rings.now c.touch_left.new.rings c.touch_left.ensures.names id).1 ((c.requires.right.names id).1 (inr (c.requires.live id here)))),
-    c.requires.once,
-  ),
-)
-
-pub part_all-requires : goal.part_all-requires
-part_all-requires g c =
-    let old = c.args.shelves.now in
-    let new = c.drop_all.new.self in
+pub rebuild-requires : goal.rebuild-requires
+rebuild-requires g c =
+    let left = c.in_ok-outs.field-0 in
     let ids = c.args.ids.now in
-    let found = c.in_ok-outs.ensures in
-    let outs = c.as_slice.result.now in
-    let list = c.as_slice-else-is_staged.result.now in
-    let first : DropsTop g.row.W outs c.in_ok-outs.made.items ids old new =
-    subst (λ (ns : List ℕ). DropsTop g.row.W ns c.in_ok-outs.made.items ids old new) (sym c.as_slice.ensures.value) found.dropped in
-    let dropped : DropsTop g.row.W outs list ids old new =
-    subst (λ (ns : List ℕ). DropsTop g.row.W outs ns ids old new) (sym c.as_slice-else-is_staged.ensures.value) first in
-    let none : old.staging ≡ None = none_of old.staging new.staging (sym dropped.is.rebuilds.staged)
-    (none_staged new.staging c.is_staged.result c.is_staged.ensures c.if-is_staged.false) in (
-      search rules,
+    let old = c.args.shelves.now in
+    let kept = c.last_count-kept.result in (
+      omega arith,
       (
-        found.order,
+        news_fits g.row.W c.requires.order.narrow,
         (
-          (dropped.rest, rest_at g.row.W outs list ids old new c.requires.order found.order dropped c.args.rings.now c.requires.right),
+          c.requires.order,
           (
-            rest_named g.row.W outs list ids old new c.requires.order found.order dropped c.args.rings.now c.requires.right c.touch_left.new.rings
-                c.touch_left.ensures none c.forget_all.new.rings c.forget_all.ensures.forgets,
-            rest_apart g.row.W outs list ids old new c.requires.order found.order dropped c.args.rings.now c.requires.right,
+            c.requires.right,
+            subst (λ (ns : List ℕ). Comes g.row.W ns left.rest.items left.last kept ids old) (sym c.as_slice.ensures.value)
+                (comes_left g.row.W ids left.outs.items left.rest.items left.last old c.requires.order c.in_ok-outs.ensures.left c.requires.once kept
+                c.last_count-kept.ensures),
           ),
         ),
       ),
     )
 
-pub returns-clause-right : goal.returns-clause-right
-returns-clause-right g c =
-    let old = c.args.shelves.now in
-    let new = c.drop_all.new.self in
+pub returns-clause-dropped : goal.returns-clause-dropped
+returns-clause-dropped g c =
+    let left = c.in_ok-outs.field-0 in
     let ids = c.args.ids.now in
-    let found = c.in_ok-outs.ensures in
-    let outs = c.as_slice.result.now in
-    let mid = c.touch_left.new.rings in
-    let first : DropsTop g.row.W outs c.in_ok-outs.made.items ids old new =
-    subst (λ (ns : List ℕ). DropsTop g.row.W ns c.in_ok-outs.made.items ids old new) (sym c.as_slice.ensures.value) found.dropped in
-    elim c.if-is_staged.branch [
-      | then-is_staged w ↦
-          subst (λ (r : Ringed). SuitsShelf r new) (sym w.rings-is)
-          (right_departed g.row.W outs c.in_ok-outs.made.items ids old new c.requires.order found.order first c.args.rings.now c.requires.right
-          mid c.touch_left.ensures
-          (some_of old.staging new.staging (sym first.is.rebuilds.staged) (sym c.is_staged.ensures ∙ w.if-is_staged.true))
-          w.forget_lost.new.rings w.forget_lost.ensures.forgets)
-      | else-is_staged w ↦
-          let list = w.as_slice-else-is_staged.result.now in
-          let dropped : DropsTop g.row.W outs list ids old new =
-          subst (λ (ns : List ℕ). DropsTop g.row.W outs ns ids old new) (sym w.as_slice-else-is_staged.ensures.value) first in
-          let none : old.staging ≡ None = none_of old.staging new.staging (sym dropped.is.rebuilds.staged)
-          (none_staged new.staging c.is_staged.result c.is_staged.ensures w.if-is_staged.false) in
-          subst (λ (r : Ringed). SuitsShelf r new) (sym w.rings-is)
-          (right_cut g.row.W outs list ids old new c.requires.order found.order dropped c.args.rings.now c.requires.right
-          mid c.touch_left.ensures none w.forget_all.new.rings w.forget_all.ensures.forgets w.part_all.new.rings
-          (λ clusters are. record {
-            names = w.part_all.ensures.names;
-            main = λ x y. w.part_all.ensures.main clusters x y are;
-            touched = w.part_all.ensures.touched;
-          }))
-    ]
+    let old = c.args.shelves.now in
+    let new = c.rebuild.new.shelves in
+    on_ok c.rebuild.result c.rebuild.ensures.rebuilt (λ made. (
+      left.outs.items,
+      drops_top g.row.W ids left.outs.items left.rest.items left.last old c.requires.order c.in_ok-outs.ensures.left made.0 made.1 new
+          (subst (λ (ns : List ℕ). IsMade g.row.W ns made.0 made.1 left.rest.items left.last ids old new) c.as_slice.ensures.value made.2),
+    ))

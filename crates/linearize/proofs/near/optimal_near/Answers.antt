@@ -1,12 +1,19 @@
 use Rattle.std.proofs.Common.{rules, ◌≡◌, ◌+◌, ◌*◌, ◌≤◌, ◌∙◌, ℕ, ap, sym, subst, arith, lit<, true}
 use Rattle.std.specs.FinSet as fin
 use Rattle.graphs.proofs.BestLemmas.{certified_optimal, covers_are_pairs}
+use Rattle.graphs.specs.Certificates.{IsCertificate}
 use Rattle.graphs.specs.Graphs.{IsCover}
+use Rattle.graphs.specs.Minimal.{AreMinimal}
+use Rattle.linearize.specs.declared.old.OldPart.{OldPart}
+use Rattle.std.specs.Prelude.{List, Option}
 use Rattle.graphs.proofs.Members.{contains-members_of}
 use Rattle.graphs.specs.Closures.{is_member, members_of, IsClosed}
 use Rattle.bitset.specs.Places.{IsWithin}
 use Rattle.linearize.specs.Graphs.{sum_at}
-use Rattle.linearize.specs.Near.{AreParts, most_tried}
+use Rattle.graphs.specs.Linearizations.{IsOptimal}
+use Rattle.linearize.specs.Known.{all_filled}
+use Rattle.linearize.specs.Near.{AreHeld, most_tried}
+use Rattle.linearize.proofs.Fills.{all_taken, ids_filled, with_flows_parts}
 use Rattle.linearize.proofs.Final.{certificate, has_sizes, minimal}
 use Rattle.graphs.proofs.ClosureGraphs.{closures_have_graphs}
 use Rattle.linearize.proofs.Sizes.{words_fit, scratch_fits, group_fits}
@@ -64,7 +71,7 @@ are_parts-requires g c =
                   (
                     c.requires.known,
                     (
-                      c.clear.ensures,
+                      (c.clear.ensures, c.clear-2.ensures.items),
                       (
                         (let room = c.out.invariant.2 in omega (arith, room, c.as_mut_slice-parents.ensures.len)),
                         (let room = c.out.invariant.3 in omega (arith, room, c.as_mut_slice-weights.ensures.len)),
@@ -84,22 +91,38 @@ returns-else-not-are_parts-clause-stands g c =
     let made = closures_have_graphs (64 * g.row.W) c.args.dep.now c.members-members.ensures.closed in (made.0, made.2)
 
 pub returns-else-not-are_parts-clause-certificate : goal.returns-else-not-are_parts-clause-certificate
-returns-else-not-are_parts-clause-certificate g c = λ graph stands.
-    certificate (64 * g.row.W) c.args.dep.now graph c.members-members.ensures.closed stands c.are_parts.new.draft.parts c.requires.component
-    (subst (λ s. AreParts (64 * g.row.W) c.args.dep.now s c.are_parts.new.draft.parts) c.members-members.ensures.members
-    (c.are_parts.ensures.parts c.if-not-are_parts.false))
+returns-else-not-are_parts-clause-certificate g c = λ flows known graph stands.
+    certificate (64 * g.row.W) c.args.dep.now graph c.members-members.ensures.closed stands
+    (all_filled c.args.guess.now.places.items flows c.are_parts.new.froms.items c.are_parts.new.draft.parts) c.requires.component
+    (with_flows_parts c.args.dep.now c.args.guess.now.parts.items c.args.guess.now.places.items flows known (64 * g.row.W) (members_of c.args.dep.now)
+    c.are_parts.new.froms.items c.are_parts.new.draft.parts
+    (subst (λ s. AreHeld (64 * g.row.W) c.args.dep.now c.args.guess.now.parts.items c.args.guess.now.places.items s c.are_parts.new.froms.items c.are_parts.new.draft.parts)
+    c.members-members.ensures.members (c.are_parts.ensures.parts c.if-not-are_parts.false)))
 
 pub returns-else-not-are_parts-clause-optimal : goal.returns-else-not-are_parts-clause-optimal
 returns-else-not-are_parts-clause-optimal g c = λ graph stands.
-    certified_optimal (sum_at c.args.dep.now) graph (IsCover graph.pairs) c.are_parts.new.draft.parts
+    (let flows = c.requires.known.0 in
+    let known = c.requires.known.1 in
+    subst (IsOptimal (sum_at c.args.dep.now) graph)
+    (ids_filled c.args.dep.now c.args.guess.now.parts.items c.args.guess.now.places.items flows c.are_parts.new.froms.items c.are_parts.new.draft.parts
+    (c.are_parts.ensures.parts c.if-not-are_parts.false).held)
+    (certified_optimal (sum_at c.args.dep.now) graph (IsCover graph.pairs) (all_filled c.args.guess.now.places.items flows c.are_parts.new.froms.items c.are_parts.new.draft.parts)
     (has_sizes (64 * g.row.W) c.args.dep.now graph c.members-members.ensures.closed stands c.requires.rates) (covers_are_pairs graph.pairs)
-    (returns-else-not-are_parts-clause-certificate g c graph stands)
+    (returns-else-not-are_parts-clause-certificate g c flows known graph stands)))
 
 pub returns-else-not-are_parts-clause-minimal : goal.returns-else-not-are_parts-clause-minimal
-returns-else-not-are_parts-clause-minimal g c = λ graph stands.
-    minimal (64 * g.row.W) c.args.dep.now graph c.members-members.ensures.closed stands c.are_parts.new.draft.parts c.requires.component
-    (subst (λ s. AreParts (64 * g.row.W) c.args.dep.now s c.are_parts.new.draft.parts) c.members-members.ensures.members
-    (c.are_parts.ensures.parts c.if-not-are_parts.false))
+returns-else-not-are_parts-clause-minimal g c = λ flows known graph stands.
+    minimal (64 * g.row.W) c.args.dep.now graph c.members-members.ensures.closed stands
+    (all_filled c.args.guess.now.places.items flows c.are_parts.new.froms.items c.are_parts.new.draft.parts) c.requires.component
+    (with_flows_parts c.args.dep.now c.args.guess.now.parts.items c.args.guess.now.places.items flows known (64 * g.row.W) (members_of c.args.dep.now)
+    c.are_parts.new.froms.items c.are_parts.new.draft.parts
+    (subst (λ s. AreHeld (64 * g.row.W) c.args.dep.now c.args.guess.now.parts.items c.args.guess.now.places.items s c.are_parts.new.froms.items c.are_parts.new.draft.parts)
+    c.members-members.ensures.members (c.are_parts.ensures.parts c.if-not-are_parts.false)))
+
+pub returns-else-not-are_parts-clause-taken : goal.returns-else-not-are_parts-clause-taken
+returns-else-not-are_parts-clause-taken g c =
+    all_taken c.args.dep.now c.args.guess.now.parts.items c.args.guess.now.places.items c.are_parts.new.froms.items c.are_parts.new.draft.parts
+    (c.are_parts.ensures.parts c.if-not-are_parts.false).held
 
 pub returns-else-not-are_parts-clause-steps_counted : goal.returns-else-not-are_parts-clause-steps_counted
 returns-else-not-are_parts-clause-steps_counted g c = c.are_parts.ensures.counted
@@ -119,3 +142,13 @@ returns-then-not-are_parts-clause-steps_most g c =
     both_trials (fin.len (members_of c.args.dep.now)) c.args.steps.now c.are_parts.new.steps c.optimal.new.steps
     (subst (λ s. c.are_parts.new.steps ≤ c.args.steps.now + most_tried (fin.len s) * fin.len s) c.members-members.ensures.members c.are_parts.ensures.most)
     c.optimal.ensures.steps_most
+
+pub returns-then-not-are_parts-clause-certificate : goal.returns-then-not-are_parts-clause-certificate
+returns-then-not-are_parts-clause-certificate g c = λ flows known graph stands.
+    subst (λ (fs : List (Option OldPart)). IsCertificate (sum_at c.args.dep.now) graph (IsCover graph.pairs) (all_filled c.args.guess.now.places.items flows fs c.optimal.new.out))
+    (sym c.clear-then-not-are_parts.ensures.items) (c.optimal.ensures.certificate graph stands)
+
+pub returns-then-not-are_parts-clause-minimal : goal.returns-then-not-are_parts-clause-minimal
+returns-then-not-are_parts-clause-minimal g c = λ flows known graph stands.
+    subst (λ (fs : List (Option OldPart)). AreMinimal (sum_at c.args.dep.now) graph.pairs (all_filled c.args.guess.now.places.items flows fs c.optimal.new.out))
+    (sym c.clear-then-not-are_parts.ensures.items) (c.optimal.ensures.minimal graph stands)

@@ -1,27 +1,41 @@
-use Rattle.std.proofs.Common.{rules, ℕ, ◌+◌, ◌*◌, ◌≤◌, Option, None, Some, List, Contains, sym, subst, subst₂, arith, lit<}
+use Rattle.std.proofs.Common.{rules, ℕ, ◌+◌, ◌*◌, ◌≤◌, ◌≡◌, length, ap, sym, ◌∙◌, Option, None, Some, List, Contains, subst, arith, lit<}
 use Rattle.std.proofs.Math.Nat.{mul-le-mul_left}
 use Rattle.std.specs.Prelude.{IfSome}
 use Rattle.std.specs.Ordering.{nat_cmp}
 use Rattle.std.specs.FinSet as fin
 use Rattle.lists.proofs.Keys.{set_within}
-use Rattle.linearize.specs.declared.draft.PlaceFlow.{PlaceFlow}
 use Rattle.linearize.specs.declared.old.OldPart.{OldPart}
-use Rattle.linearize.specs.Known.{IsKnown, old_part}
+use Rattle.std.proofs.lemmas.List.{length-map}
+use Rattle.graphs.specs.Certificates.{Part}
+use Rattle.linearize.specs.declared.draft.LinearPart.{LinearPart}
+use Rattle.linearize.specs.Graphs.{sum_from}
+use Rattle.linearize.specs.Known.{FillsUp}
 use Rattle.linearize.specs.Near.{most_tried}
+use Rattle.linearize.proofs.Trials.{solved_behind}
 use Rattle.linearize.proofs.Sizes.{words_fit}
 use Rattle.linearize.proofs.near.put_next.Goals as goal
 
 pub put_known-requires : goal.put_known-requires
 put_known-requires g c =
     let part : OldPart = c.in-Some.part in
-    let known : IsKnown c.args.dep.now (old_part c.as_slice-places.result.now c.as_slice-flows.result.now part) =
-    subst₂ (λ (xs : List ℕ) (fs : List PlaceFlow). IsKnown c.args.dep.now (old_part xs fs part)) (sym c.as_slice-places.ensures.value)
-    (sym c.as_slice-flows.ensures.value)
-    (c.requires.known part (subst (λ (ps : List OldPart). Contains ps part) c.as_slice.ensures.value c.in-Some.ensures.there) c.in-Some.ensures.known) in (
+    let there = subst (λ (ps : List OldPart). Contains ps part) c.as_slice.ensures.value c.in-Some.ensures.there in
+    let long : length c.as_slice-2.result.now ≡ length c.args.guess.now.places.items = ap length c.as_slice-2.ensures.value in (
       search rules,
       (
         words_fit g.row.W c.requires.narrow,
-        (lit< tt, (c.requires.narrow, (c.requires.begun, (known, c.requires.open)))),
+        (
+          lit< tt,
+          (
+            c.requires.narrow,
+            (
+              c.requires.begun,
+              (
+                c.requires.known,
+                ((there, c.in-Some.ensures.known), ((c.in-Some.ensures.places.0, (let end = c.in-Some.ensures.places.1 in omega (arith, end, long))), c.requires.open)),
+              ),
+            ),
+          ),
+        ),
       ),
     )
 
@@ -43,3 +57,13 @@ pub returns-in-Some-clause-none : goal.returns-in-Some-clause-none
 returns-in-Some-clause-none g c =
     wider c.args.steps.now (most_tried (fin.len c.args.members.now)) (fin.len c.args.done.now) (fin.len c.args.members.now)
     (set_within c.args.done.now c.args.members.now c.requires.begun.inside)
+
+pub returns-clause-extends : goal.returns-clause-extends
+returns-clause-extends g c =
+    let long : length c.parts.result.now ≡ length c.put_tried.new.draft.parts =
+    sym (length-map c.parts.result.now (λ (part : LinearPart). sum_from part.rate)) ∙ ap length c.parts.ensures.rates
+    ∙ length-map c.put_tried.new.draft.parts (λ (part : Part). part.rate) in
+    solved_behind (64 * g.row.W) c.args.dep.now c.args.guess.now.parts.items c.args.guess.now.places.items c.args.members.now c.args.done.now
+    c.args.group.now.places c.args.draft.now c.put_tried.new.draft c.args.froms.now.items c.fill_up.new.froms.items c.in_ok-all.all
+    c.in_ok-all.ensures.solved c.requires.even
+    (subst (λ (k : ℕ). FillsUp k c.args.froms.now.items c.fill_up.new.froms.items) long (c.fill_up.ensures c.if-not-fill_up.false))

@@ -2,8 +2,8 @@ use Rattle.std.proofs.Common.{rules, ℕ, ◌+◌, ◌*◌, ◌≤◌, sym, subs
 use Rattle.std.specs.FinSet as fin
 use Rattle.std.proofs.Math.Nat.{mul-le-mul_left}
 use Rattle.lists.proofs.Keys.{set_within}
-use Rattle.linearize.specs.Near.{Extends, most_tried}
-use Rattle.linearize.proofs.Trials.{ready, both_lens, both_fit, solved_behind, tried_steps}
+use Rattle.linearize.specs.Near.{most_tried}
+use Rattle.linearize.proofs.Trials.{ready, both_lens, both_fit, tried_steps}
 use Rattle.linearize.proofs.Sizes.{words_fit, scratch_fits}
 use Rattle.linearize.proofs.near.put_tried.Goals as goal
 
@@ -49,12 +49,12 @@ split_once-requires g c =
       ),
     )
 
-pub returns-clause-extends : goal.returns-clause-extends
-returns-clause-extends g c =
-    let next = c.comes_next.ensures c.if-not-comes_next.false in
-    subst (λ s. Extends (64 * g.row.W) c.args.dep.now c.args.members.now c.args.done.now c.args.draft.now c.split_once.new.draft s) (sym c.union.ensures)
-    (solved_behind (64 * g.row.W) c.args.dep.now c.link.new.parents c.args.members.now c.args.done.now c.args.group.now c.args.draft.now
-    c.split_once.new.draft c.requires.begun next (c.split_once.ensures.adds c.if-not-split_once.false))
+pub returns-clause-solved : goal.returns-clause-solved
+returns-clause-solved g c = record {
+  next = c.comes_next.ensures c.if-not-comes_next.false;
+  adds = c.split_once.ensures.adds c.if-not-split_once.false;
+  both = c.union.ensures;
+}
 
 pub returns-clause-some : goal.returns-clause-some
 returns-clause-some g c =

@@ -1,49 +1,69 @@
-use Rattle.std.proofs.Common.{List, [], refl, ℕ, map, ◌++◌, sym, subst}
-use Rattle.cluster_store.specs.Lent.{lent}
+use Rattle.std.proofs.Common.{rules, ℕ, List, [], ◌++◌, map, flat_map, Contains, refl, sym, ap, subst, ◌∙◌}
+use Rattle.std.specs.Borrow.{Bor}
 use Rattle.std.proofs.lemmas.List.{map-append}
+use Rattle.lists.proofs.Entries.{Contains-head, Contains-later}
 use Rattle.graphs.specs.Certificates.{Part}
+use Rattle.graphs.specs.Closures.{IsCover}
 use Rattle.graph_model.specs.Answers.{order_of}
 use Rattle.graph_model.specs.Texts.{edge_line}
+use Rattle.cluster.specs.Covers.{ListsInOrder}
+use Rattle.cluster.specs.Clusters.{Cluster}
+use Rattle.cluster_store.specs.declared.walk.ShownPart.{ShownPart}
+use Rattle.cluster_store.specs.Held.{Held, held_part}
+use Rattle.levels.specs.Held.{IsHeldIn}
 use Rattle.levels.specs.Levels.{level_at}
+use Rattle.levels.specs.Orders.{ListsCovers}
 use Rattle.replay.specs.Writings.{ListsEach, edges_lines}
-use Rattle.replay.proofs.TextLemmas.{each_append}
-use Rattle.replay.proofs.WritingLemmas.{no_lines, lines_on, rest_on, flat_map_push, held_by}
+use Rattle.replay.proofs.Rooms.{cluster_fits}
+use Rattle.replay.proofs.TextLemmas.{each_append, each_other}
+use Rattle.replay.proofs.WritingLemmas.{no_lines, lines_on, rest_on, flat_map_push}
 use Rattle.replay.proofs.YieldedLemmas.{gave_all}
 use Rattle.replay.proofs.writing.more_all_edges.Goals as goal
 
--- that a part's cluster fits in memory is asked of the caller too
-pub next-requires : goal.next-requires
-next-requires g c = assumption
+-- that a graph and its clusters fit in memory is asked of the caller too
+pub held-shown-items-requires : goal.held-shown-items-requires
+held-shown-items-requires g c = (assumption, search rules)
 
 pub more_edges-so_far-requires : goal.more_edges-so_far-requires
 more_edges-so_far-requires g c = (
-  assumption,
-  λ id here. c.requires id (held_by (λ (part : Part). part.ids) c.args.parts (map lent c.loop-part.yielded) c.loop-part.part-iterator c.next.new.self
-      (lent c.in-Some.part) c.loop-part.invariant.rest c.in-Some.ensures.steps id here),
+  cluster_fits g.row.W assumption,
+  let x = held_part (c.in-Some.shown, c.in-Some.cluster) in
+      (c.loop-shown.invariant.held x (subst (λ (hs : List Held). Contains hs x) (sym c.in-Some.ensures.steps) (Contains-head x c.next.new.self))).names,
 )
 
-pub loop-part-init : goal.loop-part-init
-loop-part-init g c = record {
-  rest = search;
+pub loop-shown-init : goal.loop-shown-init
+loop-shown-init g c = record {
+  rest = sym (ap (map (λ (h : Held). h.shown.part)) c.into_iter-shown-iterator.ensures.into_iter_gives ∙ c.held-shown-items.ensures.parts);
+  held = λ h here. c.held-shown-items.ensures.clusters h (subst (λ (hs : List Held). Contains hs h) c.into_iter-shown-iterator.ensures.into_iter_gives here);
   out = ([], refl, no_lines c.args.so_far (g.K.Sink.written c.args.sink.now) (g.K.Sink.faults c.args.sink.now));
 }
 
-pub loop-part-preserved : goal.loop-part-preserved
-loop-part-preserved g c =
+pub loop-shown-preserved : goal.loop-shown-preserved
+loop-shown-preserved g c =
     let level = level_at c.args.graph.now.levels c.args.level in
-    let graph = level.graph in
     let order = order_of level.parts in
-    let before = order_of (map lent c.loop-part.yielded) in
-    let (edges, was, out) = c.loop-part.invariant.out in
-    let (own, is, more) = c.more_edges-so_far.ensures in
-    let each = each_append graph order before c.in-Some.part.ids.now edges own was is in
+    let part : ShownPart × Bor Cluster → Part = λ x. (held_part x).shown.part in
+    let x : ShownPart × Bor Cluster = (c.in-Some.shown, c.in-Some.cluster) in
+    let before = order_of (map part c.loop-shown.yielded) in
+    let ids = c.in-Some.shown.part.ids.now in
+    let cluster = c.in-Some.cluster.now in
+    let was = c.loop-shown.invariant in
+    let step = c.in-Some.ensures.steps in
+    let is : IsHeldIn level (held_part x) =
+    was.held (held_part x) (subst (λ (hs : List Held). Contains hs (held_part x)) (sym step) (Contains-head (held_part x) c.next.new.self)) in
+    let (edges, had, out) = was.out in
+    let (own, each, more) = c.more_edges-so_far.ensures in
+    let told : ListsEach level.graph order ids own =
+    each_other (λ child parents. ListsInOrder (λ a. IsCover cluster.graph a child) (flat_map (λ p. p.ids) cluster.parts) parents)
+    (ListsCovers level.graph order) ids own (λ child parents here listed. is.covers child parents (is.names child here) listed) each in
     record {
-      rest = rest_on lent c.args.parts c.loop-part.yielded c.loop-part.part-iterator
-          c.next.new.self c.in-Some.part c.loop-part.invariant.rest c.in-Some.ensures.steps;
+      rest = rest_on part level.parts c.loop-shown.yielded (map (λ (h : Held). h.shown.part) c.loop-shown.shown-iterator)
+          (map (λ (h : Held). h.shown.part) c.next.new.self) x was.rest (ap (map (λ (h : Held). h.shown.part)) step);
+      held = λ h here. was.held h (subst (λ (hs : List Held). Contains hs h) (sym step) (Contains-later (held_part x) h c.next.new.self here));
       out = (
         edges ++ own,
-        subst (λ (ids : List ℕ). ListsEach graph order ids (edges ++ own))
-            (sym (flat_map_push (λ (part : Part). part.ids) lent c.loop-part.yielded c.in-Some.part)) each,
+        subst (λ (ids : List ℕ). ListsEach level.graph order ids (edges ++ own))
+            (sym (flat_map_push (λ (p : Part). p.ids) part c.loop-shown.yielded x)) (each_append (ListsCovers level.graph order) before ids edges own had told),
         lines_on _ _ _ _ _ _ _ _ _ (edges_lines edges) (edges_lines own) _ out more (map-append (λ (edge : ℕ × ℕ). edge_line edge.0 edge.1) edges own),
       );
     }
@@ -51,6 +71,8 @@ loop-part-preserved g c =
 pub returns : goal.returns
 returns g c =
     let level = level_at c.args.graph.now.levels c.args.level in
-    let (edges, was, out) = c.loop-part.invariant.out in
-    let all = gave_all c.args.parts (map lent c.loop-part.yielded) c.loop-part.part-iterator c.loop-part.invariant.rest c.in-None.ensures.steps.0 in
-    (edges, subst (λ (parts : List Part). ListsEach level.graph (order_of level.parts) (order_of parts) edges) all was, out)
+    let (edges, had, out) = c.loop-shown.invariant.out in
+    let all =
+    gave_all level.parts (map (λ (x : ShownPart × Bor Cluster). (held_part x).shown.part) c.loop-shown.yielded) (map (λ (h : Held). h.shown.part) c.loop-shown.shown-iterator)
+    c.loop-shown.invariant.rest (ap (map (λ (h : Held). h.shown.part)) c.in-None.ensures.steps.0) in
+    (edges, subst (λ (parts : List Part). ListsEach level.graph (order_of level.parts) (order_of parts) edges) all had, out)

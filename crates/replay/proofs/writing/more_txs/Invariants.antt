@@ -1,5 +1,4 @@
 use Rattle.std.proofs.Common.{map, take}
-use Rattle.levels.specs.Levels.{level_at}
 use Rattle.replay.specs.Writings.{GoesOnLines, tx_line_of}
 use Rattle.replay.proofs.writing.more_txs.Given as goal
 
@@ -7,4 +6,4 @@ use Rattle.replay.proofs.writing.more_txs.Given as goal
 abbrev pub invariant-loop-id : goal.invariant-loop-id
 invariant-loop-id g l =
     GoesOnLines l.fn.so_far (g.K.Sink.written l.fn.sink) (g.K.Sink.written l.sink) (g.K.Sink.faults l.fn.sink) (g.K.Sink.faults l.sink) l.so_far
-    (map (tx_line_of (level_at l.fn.graph.levels l.fn.level).graph) (take l.id-index l.ids))
+    (map (tx_line_of l.fn.cluster.graph) (take l.id-index l.ids))

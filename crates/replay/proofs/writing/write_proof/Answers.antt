@@ -18,42 +18,29 @@ use Rattle.tx_graph.proofs.Standing.{graph_at}
 pub order-requires : goal.order-requires
 order-requires g c = let fits : graph_room g.row.W < 9223372036854775808 = assumption in (fits, stored_fits g.row.W fits)
 
-pub order-requires-2 : goal.order-requires-2
-order-requires-2 g c = let fits : graph_room g.row.W < 9223372036854775808 = assumption in (fits, stored_fits g.row.W fits)
-
-pub order-requires-3 : goal.order-requires-3
-order-requires-3 g c = let fits : graph_room g.row.W < 9223372036854775808 = assumption in (fits, stored_fits g.row.W fits)
-
 pub more_parts-so_far-requires : goal.more_parts-so_far-requires
 more_parts-so_far-requires g c = stored_fits g.row.W assumption
 
 pub more_all_txs-so_far-requires : goal.more_all_txs-so_far-requires
-more_all_txs-so_far-requires g c =
-    let fits : graph_room g.row.W < 9223372036854775808 = assumption in
-    (fits, (stored_fits g.row.W fits, λ id here. (c.order.ensures.names id).0 here))
+more_all_txs-so_far-requires g c = assumption
 
 pub more_all_edges-so_far-requires : goal.more_all_edges-so_far-requires
-more_all_edges-so_far-requires g c =
-    let fits : graph_room g.row.W < 9223372036854775808 = assumption in
-    (fits, (stored_fits g.row.W fits, λ id here. (c.order-2.ensures.names id).0 here))
+more_all_edges-so_far-requires g c = assumption
 
 pub returns : goal.returns
 returns g c =
     let kept = c.args.graph.now in
     let level = level_at kept.levels c.args.level in
-    let first = c.order.result in
-    let last = c.order-3.result in
+    let last = c.order.result in
     let edges = c.more_all_edges-so_far.ensures.0 in
-    let each : ListsEach level.graph (order_of level.parts) (order_of level.parts) edges =
-    subst (λ (parts : List Part). ListsEach level.graph (order_of level.parts) (order_of parts) edges)
-    c.order-2.ensures.parts c.more_all_edges-so_far.ensures.1 in
-    let txs = map (tx_line_of level.graph) (order_of first) in
+    let each : ListsEach level.graph (order_of level.parts) (order_of level.parts) edges = c.more_all_edges-so_far.ensures.1 in
+    let txs = map (tx_line_of level.graph) (order_of level.parts) in
     let pairs = edges_lines edges in
     let parts = flat_map part_lines last in
     let one = lines_on _ _ _ _ _ _ (Ok tt) _ _ txs pairs (txs ++ pairs) c.more_all_txs-so_far.ensures c.more_all_edges-so_far.ensures.2 refl in
     let two = lines_on _ _ _ _ _ _ (Ok tt) _ _ (txs ++ pairs) parts (txs ++ pairs ++ parts) one c.more_parts-so_far.ensures refl in
     let written = lines_on _ _ _ _ _ _ (Ok tt) _ _ (txs ++ pairs ++ parts) (codes "end" ∷ []) _ two c.more.ensures
-    (text_lines_are level edges first last c.order.ensures.parts c.order-3.ensures.parts) in
+    (text_lines_are level edges level.parts last refl c.order.ensures.parts) in
     let names : (id : ℕ) → Contains (order_of level.parts) id ↔ (is_member level.graph id ≡ true) =
     subst (λ (ps : List Part). (id : ℕ) → Contains (order_of ps) id ↔ (is_member level.graph id ≡ true)) c.order.ensures.parts c.order.ensures.names in
     let text = text_with level edges in (

@@ -14,9 +14,9 @@ decided Greater s p z differs = refl
 pub returns-then-is_ne : goal.returns-then-is_ne
 unfolding key_cmp
 returns-then-is_ne c =
-    let rate : c.cmp-by_rate.result ≡ rate_cmp c.args.self.now.rate c.args.other.now.rate = search rules in
-    let differs : is_ne c.cmp-by_rate.result ≡ true = search rules in
-    decided c.cmp-by_rate.result (by_serial c.args.self.now c.args.other.now) (by_position c.args.self.now c.args.other.now)
+    let rate : c.higher_first-by_rate.result ≡ rate_cmp c.args.self.now.rate c.args.other.now.rate = search rules in
+    let differs : is_ne c.higher_first-by_rate.result ≡ true = search rules in
+    decided c.higher_first-by_rate.result (by_serial c.args.self.now c.args.other.now) (by_position c.args.self.now c.args.other.now)
     (by_size c.args.self.now c.args.other.now) differs
     ∙ ap (λ r. ordering_then (ordering_then (ordering_then r (by_serial c.args.self.now c.args.other.now)) (by_position c.args.self.now c.args.other.now))
     (by_size c.args.self.now c.args.other.now)) rate

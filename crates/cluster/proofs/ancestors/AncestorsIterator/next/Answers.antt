@@ -1,5 +1,5 @@
 -- The name of the least place comes, and the others are left.
-use Rattle.std.proofs.Common.{rules, ◌≡◌, ◌*◌, ◌<◌, not, [], ◌∷◌, length, map, slice_index, sym, ap, ◌∙◌, arith}
+use Rattle.std.proofs.Common.{rules, ◌≡◌, ◌*◌, ◌<◌, [], ◌∷◌, length, map, slice_index, sym, ap, ◌∙◌, arith}
 use Rattle.std.specs.Cmp.{nat_cmp_total}
 use Rattle.std.specs.FinSet as set
 use Rattle.std.proofs.lemmas.Bool.{and_parts}

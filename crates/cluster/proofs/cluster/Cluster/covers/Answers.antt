@@ -5,19 +5,20 @@ use Rattle.graphs.specs.Certificates.{Part}
 use Rattle.cluster.specs.Clusters.{Cluster}
 use Rattle.cluster.specs.Kept.{cut}
 use Rattle.cluster.specs.Named.{named}
-use Rattle.cluster.specs.Covers.{has_chosen, IsNamedBy, ListsInOrder}
+use Rattle.cluster.specs.Covers.{has_chosen, AreToCome, ListsInOrder}
 use Rattle.cluster.proofs.At.{IsAt, at_in}
-use Rattle.cluster.proofs.Nearest.{order_named, order_covers}
+use Rattle.cluster.proofs.Nearest.{order_to_come, order_covers}
 use Rattle.cluster.proofs.Rooms.{cluster_room, dep_in_cluster, words_in_cluster}
 use Rattle.cluster.proofs.Kept.{place_member}
 use Rattle.cluster.proofs.cluster.Cluster.covers.Goals as goal
 
 pub new-requires : goal.new-requires
 new-requires g c =
-    let named = order_named (64 * g.row.W) c.self.inside.names.items c.self.inside.dep c.self.inside.order.parts.items
-    c.self.inside.order.names.items c.self.inside.order.flows.items c.self.invariant in
-    let here : IsNamedBy (64 * g.row.W) c.as_slice-names.result.now c.as_slice.result.now =
-    subst₂ (λ (names ids : List ℕ). IsNamedBy (64 * g.row.W) names ids) (sym c.as_slice-names.ensures) (sym c.as_slice.ensures) named in
+    let come : AreToCome (64 * g.row.W) c.self.inside.names.items c.self.inside.order.names.items c.covers.result =
+    order_to_come (64 * g.row.W) c.self.inside.names.items c.self.inside.dep c.self.inside.order.parts.items
+    c.self.inside.order.names.items c.self.inside.order.flows.items c.self.invariant c.covers.result c.place_of.result c.covers.ensures in
+    let here : AreToCome (64 * g.row.W) c.as_slice-names.result.now c.as_slice.result.now c.covers.result =
+    subst₂ (λ (names ids : List ℕ). AreToCome (64 * g.row.W) names ids c.covers.result) (sym c.as_slice-names.ensures) (sym c.as_slice.ensures) come in
     (search rules, (search rules, here))
 
 pub returns : goal.returns

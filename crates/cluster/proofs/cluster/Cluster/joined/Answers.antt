@@ -3,7 +3,7 @@ use Rattle.std.proofs.lemmas.Result.{IfOk-from_err}
 use Rattle.std.specs.FinSet as set
 use Rattle.graphs.specs.Closures.{members_of}
 use Rattle.cluster.specs.Clusters.{Cluster, IsCluster, AreApart}
-use Rattle.cluster.specs.Guesses.{AreImages}
+use Rattle.cluster.specs.Guesses.{AreImages, AreSound}
 use Rattle.cluster.specs.Kept.{cut}
 use Rattle.cluster.proofs.Kept.{IsCluster-named}
 use Rattle.graphs.specs.Certificates.{Part}
@@ -124,9 +124,10 @@ certified-requires g c =
           cluster_fits g.row.W c.work.invariant.1,
           (
             subst (λ (xs : List ℕ). IsNamed n xs c.add_dep.new.self) (sym items) kept,
-            join_known n both c.add_dep.new.self c.guess_joined.new.guess.parts.items c.guess_joined.new.guess.places.items
+            subst (λ (xs : List ℕ). AreSound xs c.add_dep.new.self c.guess_joined.new.guess.parts.items c.guess_joined.new.guess.places.items
+                c.guess_joined.new.guess.flows.items) (sym items) (join_known n both c.add_dep.new.self c.guess_joined.new.guess.parts.items c.guess_joined.new.guess.places.items
                 c.guess_joined.new.guess.flows.items kept c.args.self.now c.args.other.now c.args.parent c.args.child is other_is c.requires.apart
-                c.requires.across joins images,
+                c.requires.across joins images),
           ),
         ),
       ),

@@ -1,13 +1,12 @@
 use Rattle.std.proofs.Common.{◌≡◌, ℕ, ◌*◌, List, true, false, length, slice_index, ◌≤◌, ◌<◌, sym, ap, ◌∙◌, subst, subst₂, Contains}
 use Rattle.graphs.specs.Closures.{Closure, is_ancestor, is_member, AddsPair}
 use Rattle.cluster.specs.Clusters.{Cluster, IsCluster}
-use Rattle.cluster.specs.Guesses.{AreImages}
+use Rattle.cluster.specs.Guesses.{AreImages, AreSound}
 use Rattle.cluster.specs.Kept.{cut}
 use Rattle.cluster.proofs.Kept.{IsCluster-named}
 use Rattle.graphs.specs.Certificates.{Part}
 use Rattle.std.specs.FinSet as set
 use Rattle.lists.specs.Distinct.{AreDistinct}
-use Rattle.linearize.specs.Known.{AreKnown}
 use Rattle.cluster.proofs.Kept.{place_member}
 use Rattle.cluster.proofs.Knowing.{link_known}
 use Rattle.cluster.specs.Named.{named, IsNamed}
@@ -77,7 +76,7 @@ certified-requires g c =
     → set.contains c.ancestors.result p ≡ true → set.contains c.descendants.result q ≡ true → ⊥))
     c.guess_linked.new.guess.parts.items c.guess_linked.new.guess.places.items c.guess_linked.new.guess.flows.items)
     (c.as_slice-5.ensures ∙ items) c.guess_linked.ensures in
-    let known : AreKnown c.add_dep.new.self c.guess_linked.new.guess.parts.items c.guess_linked.new.guess.places.items c.guess_linked.new.guess.flows.items =
+    let known : AreSound c.self.inside.names.items c.add_dep.new.self c.guess_linked.new.guess.parts.items c.guess_linked.new.guess.places.items c.guess_linked.new.guess.flows.items =
     link_known n c.self.inside.names.items c.add_dep.new.self c.guess_linked.new.guess.parts.items c.guess_linked.new.guess.places.items
     c.guess_linked.new.guess.flows.items kept c.args.self.now c.self.inside.dep c.place_of-above.result c.place_of-below.result c.args.parent c.args.child
     c.ancestors.result c.descendants.result is graph c.self.invariant.place one two c.ancestors.ensures c.descendants.ensures pair images in (
@@ -88,7 +87,8 @@ certified-requires g c =
           cluster_fits g.row.W c.work.invariant.1,
           (
             subst (λ (xs : List ℕ). IsNamed n xs c.add_dep.new.self) (sym items) kept,
-            known,
+            subst (λ (xs : List ℕ). AreSound xs c.add_dep.new.self c.guess_linked.new.guess.parts.items c.guess_linked.new.guess.places.items
+                c.guess_linked.new.guess.flows.items) (sym items) known,
           ),
         ),
       ),

@@ -10,6 +10,7 @@ use Rattle.linearize.specs.Known.{IsKnown}
 use Rattle.cluster.specs.Clusters.{Cluster, IsCluster}
 use Rattle.cluster.specs.Kept.{cut}
 use Rattle.cluster.proofs.Kept.{IsCluster-named}
+use Rattle.cluster.proofs.Knowing.{follows}
 use Rattle.cluster.proofs.Sound.{sound}
 use Rattle.cluster.specs.Changes.{AreComponents, IsPartOf, IsSplit}
 use Rattle.cluster.specs.Named.{named, IsNamed}
@@ -80,14 +81,17 @@ part-requires g c =
               (
                 known,
                 (
-                  subst (λ (xs : List ℕ). IsWithin (length xs) c.component-chosen.result) (sym c.as_slice-in-Some.ensures) (chosen_within (64 * g.row.W)
-                      c.self.inside.names.items c.self.inside.dep c.self.invariant.place c.args.names.now c.loop-first.rest c.component-chosen.result
-                      c.loop-first.clusters.items c.in-Some.first c.loop-first.invariant.splitting c.in-Some.ensures.least c.component-chosen.ensures),
+                  λ part here. follows n c.args.self.now is part here,
                   (
-                    chosen_some (64 * g.row.W) c.self.inside.names.items c.self.inside.dep c.self.invariant.place
-                        c.args.names.now c.loop-first.rest c.component-chosen.result c.loop-first.clusters.items
-                        c.in-Some.first c.loop-first.invariant.splitting c.in-Some.ensures.least c.component-chosen.ensures,
-                    component_whole c.self.inside.dep c.loop-first.rest c.component-chosen.result c.in-Some.first c.component-chosen.ensures,
+                    subst (λ (xs : List ℕ). IsWithin (length xs) c.component-chosen.result) (sym c.as_slice-in-Some.ensures) (chosen_within (64 * g.row.W)
+                        c.self.inside.names.items c.self.inside.dep c.self.invariant.place c.args.names.now c.loop-first.rest c.component-chosen.result
+                        c.loop-first.clusters.items c.in-Some.first c.loop-first.invariant.splitting c.in-Some.ensures.least c.component-chosen.ensures),
+                    (
+                      chosen_some (64 * g.row.W) c.self.inside.names.items c.self.inside.dep c.self.invariant.place
+                          c.args.names.now c.loop-first.rest c.component-chosen.result c.loop-first.clusters.items
+                          c.in-Some.first c.loop-first.invariant.splitting c.in-Some.ensures.least c.component-chosen.ensures,
+                      component_whole c.self.inside.dep c.loop-first.rest c.component-chosen.result c.in-Some.first c.component-chosen.ensures,
+                    ),
                   ),
                 ),
               ),

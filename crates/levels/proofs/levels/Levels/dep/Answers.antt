@@ -30,7 +30,7 @@ invariant_of-self g c =
     let done = c.connect.ensures in
     kept_on g.row.W c.self.inside.mains c.self.inside.tops c.self.inside.issued
     c.self.inside.shelves c.connect.new.shelves c.self.inside.rings c.connect.new.rings
-    c.self.invariant c.connect.result done.order done.right done.staged c.args.parent c.args.child done.linked done.names done.err
+    c.self.invariant c.connect.result done.kept.0 done.kept.1 c.args.parent c.args.child done.linked done.kept.2 done.err
 
 pub returns-clause-row : goal.returns-clause-row
 returns-clause-row g c =
@@ -52,7 +52,7 @@ returns-clause-linked g c =
       | in-Ok w ↦
           subst (λ r. OnOk r changes) (sym w.result-is)
           (turns_from old issued c.args.self.now (levels_of new issued) c.self.view_is (λ a b. AddsPair a b c.args.parent c.args.child)
-          (connected_top g.row.W issued old new c.self.invariant.order c.connect.ensures.order c.args.parent c.args.child
+          (connected_top g.row.W issued old new c.self.invariant.order c.connect.ensures.kept.0 c.args.parent c.args.child
           (subst (λ r. OnOk r (Connects g.row.W c.args.parent c.args.child old new)) w.in-Ok.is c.connect.ensures.linked)))
       | in-Err w ↦ subst (λ r. OnOk r changes) (sym w.result-is) tt
     ]
@@ -64,7 +64,7 @@ returns-clause-still g c up =
     (ap (λ (s : Shelf). levels_of s c.self.inside.issued) stay.0 ∙ c.self.view_is, stay.2)
 
 pub returns-clause-picks : goal.returns-clause-picks
-returns-clause-picks g c = have_picks g.row.W c.connect.new.shelves c.connect.ensures.order c.self.inside.issued
+returns-clause-picks g c = have_picks g.row.W c.connect.new.shelves c.connect.ensures.kept.0 c.self.inside.issued
 
 pub returns-clause-stays : goal.returns-clause-stays
 returns-clause-stays g c =
@@ -72,7 +72,7 @@ returns-clause-stays g c =
     let new = c.connect.new.shelves in
     let issued = c.self.inside.issued in
     stays_from old issued c.args.self.now (levels_of new issued) c.self.view_is
-    (stays_on c.connect.result g.row.W issued old new c.self.invariant.order c.connect.ensures.order c.args.parent c.args.child c.connect.ensures.linked
+    (stays_on c.connect.result g.row.W issued old new c.self.invariant.order c.connect.ensures.kept.0 c.args.parent c.args.child c.connect.ensures.linked
     (c.connect.new.rings ≡ c.self.inside.rings) c.connect.ensures.err)
 
 pub returns-clause-steps : goal.returns-clause-steps

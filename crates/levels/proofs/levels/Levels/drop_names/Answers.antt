@@ -41,7 +41,7 @@ invariant_of-self g c =
     (sym err.0) (sym err.1) c.self.invariant
 
 pub returns-in_err-drop_names-clause-picks : goal.returns-in_err-drop_names-clause-picks
-returns-in_err-drop_names-clause-picks g c = have_picks g.row.W c.drop_names.new.shelves c.drop_names.ensures.order c.self.inside.issued
+returns-in_err-drop_names-clause-picks g c = have_picks g.row.W c.drop_names.new.shelves c.drop_names.ensures.kept.0 c.self.inside.issued
 
 pub returns-in_err-drop_names-clause-stays : goal.returns-in_err-drop_names-clause-stays
 returns-in_err-drop_names-clause-stays g c =
@@ -59,8 +59,8 @@ overflow_sub-self g c =
     let new = c.drop_names.new.shelves in
     let done = c.in_ok-drop_names.ensures in
     let issued = c.self.inside.issued in
-    let turns = dropped_top g.row.W issued old new c.self.invariant.order done.order done.dropped.0 done.dropped.1 c.args.ids.now done.dropped.2 in
-    let less = tops_less old new c.args.ids.now (top_turned g.row.W issued old new c.self.invariant.order done.order (λ a b. LosesNames a b c.args.ids.now) turns)
+    let turns = dropped_top g.row.W issued old new c.self.invariant.order done.kept.0 done.dropped.0 c.args.ids.now done.dropped.1 in
+    let less = tops_less old new c.args.ids.now (top_turned g.row.W issued old new c.self.invariant.order done.kept.0 (λ a b. LosesNames a b c.args.ids.now) turns)
     c.requires.once
     (λ id here. sym (member_is g.row.W issued old c.args.self.now c.self.invariant.order c.self.view_is Top id) ∙ c.requires.live id here) in
     omega (arith, less, c.self.invariant.tops)
@@ -71,10 +71,10 @@ invariant_of-self-2 g c =
     let new = c.drop_names.new.shelves in
     let done = c.in_ok-drop_names.ensures in
     kept_dropped g.row.W c.self.inside.mains c.self.inside.tops c.self.inside.issued old new c.self.inside.rings
-    c.drop_names.new.rings c.self.invariant done.order done.right done.dropped.2.is.rebuilds.staged c.args.ids.now c.requires.once
+    c.drop_names.new.rings c.self.invariant done.kept.0 done.kept.1 done.dropped.1.is.rebuilds.staged c.args.ids.now c.requires.once
     (λ id here. sym (member_is g.row.W c.self.inside.issued old c.args.self.now c.self.invariant.order c.self.view_is Top id) ∙ c.requires.live id here)
-    (dropped_top g.row.W c.self.inside.issued old new c.self.invariant.order done.order done.dropped.0 done.dropped.1 c.args.ids.now done.dropped.2)
-    c.is_staged.result c.main_count-self-inside.result c.is_staged.ensures c.main_count-self-inside.ensures done.names.0 done.names.1
+    (dropped_top g.row.W c.self.inside.issued old new c.self.invariant.order done.kept.0 done.dropped.0 c.args.ids.now done.dropped.1)
+    c.is_staged.result c.main_count-self-inside.result c.is_staged.ensures c.main_count-self-inside.ensures done.kept.2.0 done.kept.2.1
 
 pub returns-clause-dropped : goal.returns-clause-dropped
 returns-clause-dropped g c =
@@ -82,10 +82,10 @@ returns-clause-dropped g c =
     let new = c.drop_names.new.shelves in
     let done = c.in_ok-drop_names.ensures in
     turns_from old c.self.inside.issued c.args.self.now (levels_of new c.self.inside.issued) c.self.view_is (λ a b. LosesNames a b c.args.ids.now)
-    (dropped_top g.row.W c.self.inside.issued old new c.self.invariant.order done.order done.dropped.0 done.dropped.1 c.args.ids.now done.dropped.2)
+    (dropped_top g.row.W c.self.inside.issued old new c.self.invariant.order done.kept.0 done.dropped.0 c.args.ids.now done.dropped.1)
 
 pub returns-clause-picks : goal.returns-clause-picks
-returns-clause-picks g c = have_picks g.row.W c.drop_names.new.shelves c.drop_names.ensures.order c.self.inside.issued
+returns-clause-picks g c = have_picks g.row.W c.drop_names.new.shelves c.drop_names.ensures.kept.0 c.self.inside.issued
 
 pub returns-clause-stays : goal.returns-clause-stays
 returns-clause-stays g c =
@@ -93,7 +93,7 @@ returns-clause-stays g c =
     let new = c.drop_names.new.shelves in
     let done = c.in_ok-drop_names.ensures in
     stays_from old c.self.inside.issued c.args.self.now (levels_of new c.self.inside.issued) c.self.view_is
-    (dropped_keeps g.row.W c.self.inside.issued old new c.self.invariant.order done.order done.dropped.0 done.dropped.1 c.args.ids.now done.dropped.2)
+    (dropped_keeps g.row.W c.self.inside.issued old new c.self.invariant.order done.kept.0 done.dropped.0 c.args.ids.now done.dropped.1)
 
 pub returns-clause-steps : goal.returns-clause-steps
 returns-clause-steps g c =

@@ -53,8 +53,8 @@ point_all-requires g c =
         (
           rest,
           subst (λ (ns : List ℕ). AreAt (stored_at c.rebuild.new.self.clusters) ns rest) (sym c.as_slice-2.ensures.value)
-              (rest_stored c.staged-staged.result c.args.outs.now made c.in_ok-made.made.last rest c.args.last c.self.inside.store.clusters
-              c.rebuild.new.self.clusters changes),
+              (rest_stored made c.in_ok-made.made.last rest c.args.last c.rebuild.new.self.clusters
+              changes.exchanged.top.stand changes.count),
           pairs_left rest (option_to_list c.args.last) c.requires.comes.2.apart,
           few,
         ),
@@ -71,15 +71,15 @@ point_last-requires g c =
     subst (λ (cs : List Cluster). names_in cs + names_in (option_to_list c.args.last) + length c.args.gone.now ≤ c.make_room.new.numbers.spare)
     c.as_slice.ensures.value c.in_ok-make_room.ensures.room in
     let stored = subst (λ (ns : List ℕ). AreAt (stored_at c.rebuild.new.self.clusters) ns rest) (sym c.as_slice-2.ensures.value)
-    (rest_stored c.staged-staged.result c.args.outs.now made c.in_ok-made.made.last rest c.args.last c.self.inside.store.clusters c.rebuild.new.self.clusters
-    changes) in
+    (rest_stored made c.in_ok-made.made.last rest c.args.last c.rebuild.new.self.clusters changes.exchanged.top.stand
+    changes.count) in
     let left : names_in (option_to_list c.args.last) ≤ c.point_all.new.numbers.spare =
     omega (arith, room, c.unpoint.ensures.room, c.point_all.ensures.room rest stored) in (
       omega arith,
       (
         narrow,
-        last_there c.staged-staged.result c.args.outs.now made c.in_ok-made.made.last rest c.args.last c.self.inside.store.clusters
-            c.rebuild.new.self.clusters changes c.args.kept c.point_all.new.numbers.spare (numbers_at Top c.args.self.now) c.requires.kept left,
+        last_there made c.in_ok-made.made.last rest c.args.last c.rebuild.new.self.clusters
+            changes.exchanged.top.stand changes.count c.args.outs.now c.args.kept c.point_all.new.numbers.spare (numbers_at Top c.args.self.now) c.requires.kept left,
       ),
     )
 
@@ -112,8 +112,8 @@ module _ (g : given.Over) (c : goal.After-point_last g) where
 
   stored : AreAt (stored_at c.rebuild.new.self.clusters) c.as_slice-2.result.now rest
   stored = subst (λ (ns : List ℕ). AreAt (stored_at c.rebuild.new.self.clusters) ns rest) (sym c.as_slice-2.ensures.value)
-      (rest_stored c.staged-staged.result c.args.outs.now made c.in_ok-made.made.last rest c.args.last c.self.inside.store.clusters
-      c.rebuild.new.self.clusters changes)
+      (rest_stored made c.in_ok-made.made.last rest c.args.last c.rebuild.new.self.clusters
+      changes.exchanged.top.stand changes.count)
 
   taken : AreAt (seen_at Top c.self.inside.store.clusters) c.args.outs.now c.requires.comes.0
   taken = subst (λ (s : Shelf). AreAt (seen_at Top s.store.clusters) c.args.outs.now c.requires.comes.0) (sym c.self.view_is) c.requires.comes.1
@@ -135,8 +135,8 @@ module _ (g : given.Over) (c : goal.After-point_last g) where
         c.requires.kept;
     last_points = record {
       points = λ k d one two. c.point_last.ensures.points k d one
-          (last_stored c.staged-staged.result c.args.outs.now made c.in_ok-made.made.last rest c.args.last c.self.inside.store.clusters
-          c.rebuild.new.self.clusters changes k d one two);
+          (last_stored made c.in_ok-made.made.last rest c.args.last c.rebuild.new.self.clusters
+          changes.exchanged.top.stand changes.count k d one two);
       none = c.point_last.ensures.none;
     };
   }

@@ -1,7 +1,7 @@
 use Rattle.std.proofs.Common.{◌≡◌, ◌<◌, ◌∷◌, ◌++◌, [], ◌∙◌, ap, sym, subst, length, arith, rules, vec_len, vec_capacity, true}
 use Rattle.std.specs.Result.{is_ok}
 use Rattle.linearize.specs.Drafts.{Written, all_placed, IsKept, written_of}
-use Rattle.linearize.proofs.DraftLemmas.{length_placed, kept_put, written_put}
+use Rattle.linearize.proofs.DraftLemmas.{length_placed, kept_put_all, written_put_all}
 use Rattle.linearize.proofs.draft.Draft.put.Goals as goal
 
 pub prove-unreachable-requires : goal.prove-unreachable-requires
@@ -17,7 +17,7 @@ invariant_of-self g c =
     let s = c.self.inside in
     let items : c.push-pushed.new.self.items ≡ s.order.items ++ c.args.place ∷ [] = search rules in (
       subst (λ xs. IsKept s.parts.items xs s.flows.items) (sym items)
-          (kept_put s.parts.items s.order.items s.flows.items c.args.place c.self.invariant.0),
+          (kept_put_all s.parts.items s.order.items (c.args.place ∷ []) s.flows.items c.self.invariant.0),
       search rules,
       search rules,
       search rules,
@@ -28,5 +28,5 @@ returns g c =
     let s = c.self.inside in
     let items : c.push-pushed.new.self.items ≡ s.order.items ++ c.args.place ∷ [] = search rules in
     ap (λ xs. written_of s.parts.items xs s.flows.items) items
-    ∙ written_put s.parts.items s.order.items s.flows.items c.args.place c.self.invariant.0
+    ∙ written_put_all s.parts.items s.order.items (c.args.place ∷ []) s.flows.items c.self.invariant.0
     ∙ ap (λ (w : Written). record { parts = w.parts; ids = w.ids ++ c.args.place ∷ []; flows = w.flows }) c.self.view_is

@@ -1,6 +1,4 @@
-use Rattle.std.proofs.Common.{◌++◌}
-use Rattle.std.proofs.lemmas.List.Elements.{Contains-append_left, Contains-append_right}
-use Rattle.replacement.proofs.MergedWalks.{both_end, fits_each, gives_level}
+use Rattle.replacement.proofs.MergedWalks.{both_end, gives_level}
 use Rattle.replacement.proofs.merged.Merged.new.Goals as goal
 
 pub returns-clause-can : goal.returns-clause-can
@@ -8,7 +6,6 @@ returns-clause-can g c =
     let ones = c.requires.both.0 in
     let more = c.requires.both.1 in
     let both = c.requires.both.2 in
-    let are = fits_each (ones ++ more) both.fit in
     record {
       one = c.new.ensures.ready;
       other = c.new-2.ensures.ready;
@@ -16,8 +13,6 @@ returns-clause-can g c =
       others = more;
       ones_left = c.new.ensures.left ones both.one;
       others_left = c.new-2.ensures.left more both.other;
-      ones_are = λ part h. are part (Contains-append_left ones more part h);
-      others_are = λ part h. are part (Contains-append_right ones more part h);
     }
 
 pub returns-clause-ends : goal.returns-clause-ends

@@ -1,18 +1,8 @@
 use Rattle.std.proofs.Common.{refl, inl, inr}
 use Rattle.std.specs.Iterator.{AlwaysYields}
 use Rattle.diagram.specs.Parts.{rate_of}
-use Rattle.replacement.proofs.MergedWalks.{begins_below, begins_most, next_is_part, one_goes, other_goes, taken}
+use Rattle.replacement.proofs.MergedWalks.{begins_below, begins_most, one_goes, other_goes, taken}
 use Rattle.replacement.proofs.merged.MergedIterator.next.Goals as goal
-
-pub higher-requires-clause-one : goal.higher-requires-clause-one
-higher-requires-clause-one g c =
-    let walk = c.args.self.now.one in
-    next_is_part walk.next (AlwaysYields g.I.Iterator.next_gives rate_of walk.rest) c.requires.ones c.requires.ones_left c.requires.ones_are
-
-pub higher-requires-clause-other : goal.higher-requires-clause-other
-higher-requires-clause-other g c =
-    let walk = c.args.self.now.other in
-    next_is_part walk.next (AlwaysYields g.J.Iterator.next_gives rate_of walk.rest) c.requires.others c.requires.others_left c.requires.others_are
 
 pub returns-in-One-clause-steps : goal.returns-in-One-clause-steps
 returns-in-One-clause-steps g c ones others one other =

@@ -33,3 +33,6 @@ returns-clause-cause g c = c.tell.ensures.2.cause
 pub returns-clause-additions : goal.returns-clause-additions
 returns-clause-additions g c =
     subst (λ (k : Kept). c.answer_line-found.new.graph.levels.issued ≤ k.levels.issued + 1) c.self.view_is c.answer_line-found.ensures.additions
+
+pub tell-requires-room-G-Obeys : goal.tell-requires-room-G-Obeys
+tell-requires-room-G-Obeys g c = λ κs below. graph_in_session g.row.W assumption

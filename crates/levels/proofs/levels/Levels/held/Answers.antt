@@ -1,0 +1,18 @@
+use Rattle.std.proofs.Common.{sym, ap, ◌∙◌, subst, Contains}
+use Rattle.cluster_store.specs.Held.{Held}
+use Rattle.levels.specs.Held.{IsHeldIn}
+use Rattle.levels.specs.Levels.{OneLevel}
+use Rattle.levels.proofs.Finds.{level_is}
+use Rattle.levels.proofs.levels.Levels.held.Goals as goal
+
+pub returns-clause-parts : goal.returns-clause-parts
+returns-clause-parts g c =
+    c.held.ensures.parts
+    ∙ ap (λ (l : OneLevel). l.parts)
+    (sym (level_is g.row.W c.self.inside.issued c.self.inside.shelves c.args.self.now c.self.invariant.order c.self.view_is c.args.level))
+
+pub returns-clause-clusters : goal.returns-clause-clusters
+returns-clause-clusters g c =
+    subst (λ (l : OneLevel). (h : Held) → Contains c.held.result h → IsHeldIn l h)
+    (sym (level_is g.row.W c.self.inside.issued c.self.inside.shelves c.args.self.now c.self.invariant.order c.self.view_is c.args.level))
+    c.held.ensures.clusters

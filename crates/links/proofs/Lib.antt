@@ -1,0 +1,13 @@
+pub mod Chaining
+pub mod Marks
+pub mod Around
+pub mod Placing
+pub mod Turning
+pub mod Pairing
+pub mod Walking
+pub mod Composing
+pub mod Joining
+pub mod Bridging
+pub mod Gone
+pub mod Closed
+pub mod Changing

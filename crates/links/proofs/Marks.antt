@@ -1,0 +1,170 @@
+-- Places that were found, each with a mark.
+use Rattle.std.proofs.Common.{length-append, ◌≡◌, ◌≢◌, ℕ, zero, suc, ◌+◌, ◌<◌, ◌≤◌, Bool, true, false, List, [], ◌∷◌, ◌++◌, length, get_or, set, true≢false, refl, sym, ap, ◌∙◌, subst, inl, inr, arith}
+use Rattle.std.specs.Prelude.{Contains}
+use Rattle.std.proofs.lemmas.Bool.{cases_eq}
+use Rattle.std.proofs.lemmas.List.{get_or-set_same, get_or-set_other, length-set, get_or_default, length_push, get_or_append_left}
+use Rattle.std.proofs.lemmas.List.Elements.{Contains-push, Contains-push_cases, Contains-append_left, Contains-append_cases}
+use Rattle.std.proofs.lemmas.List.FromFn.{length-range_with_len}
+use Rattle.std.specs.List.{range_with_len}
+use Rattle.lists.specs.Distinct.{AreDistinct}
+use Rattle.lists.proofs.Distinct.{distinct_push, distinct_within}
+use Rattle.lists.proofs.Entries.{none_in_empty}
+use Rattle.lists.proofs.Ranges.{Contains-range}
+use Rattle.graphs.specs.Graphs.{Walk, IsAncestor}
+use Rattle.graphs.proofs.WalkLemmas.{walk_cons}
+use Rattle.links.specs.Walkers.{mark_at, AreMarked, Finds, FindsAll}
+
+-- places below a count, each once, are no more
+pub few_below : (count : ℕ) (xs : List ℕ) → AreDistinct xs → ((p : ℕ) → Contains xs p → p < count) → length xs ≤ count
+few_below count xs once below =
+    let most = distinct_within (λ (p : ℕ). 0) xs (range_with_len 0 count) once (λ p here. Contains-range count p (below p here)) in
+    omega (arith, most.0, length-range_with_len 0 count)
+
+pub few_found : (count : ℕ) (marks : List Bool) (found : List ℕ) → AreMarked count marks found → length found ≤ count
+few_found count marks found m = few_below count found m.once m.within
+
+-- one more is found
+pub found_more : (count : ℕ) (marks : List Bool) (found : List ℕ) (place : ℕ) → AreMarked count marks found → place < count
+    → mark_at marks place ≡ false → AreMarked count (set marks place true) (found ++ place ∷ [])
+found_more count marks found place m low none =
+    let inside : place < length marks = let s = m.sized in omega arith in
+    record {
+      sized = length-set marks place true ∙ m.sized;
+      once = distinct_push found place m.once (λ there. true≢false (sym ((m.exact place low).1 there) ∙ none));
+      within = λ q here. elim (Contains-push_cases found place q here) [
+        | inl old ↦ m.within q old
+        | inr same ↦ subst (λ (x : ℕ). x < count) same low
+      ];
+      exact = λ q below. elim (cases_eq q place) [
+        | inl same ↦ (
+          (λ _. subst (λ (x : ℕ). Contains (found ++ place ∷ []) x) (sym same) (Contains-push found place)),
+          (λ _. ap (mark_at (set marks place true)) same ∙ get_or-set_same marks place true false inside),
+        )
+        | inr other ↦ (
+          (λ marked. Contains-append_left found (place ∷ []) q ((m.exact q below).0 (sym (get_or-set_other marks place q true false other) ∙ marked))),
+          (λ here. get_or-set_other marks place q true false other ∙ elim (Contains-push_cases found place q here) [
+            | inl old ↦ (m.exact q below).1 old
+            | inr same ↦ absurd (other (sym same))
+          ]),
+        )
+      ];
+    }
+
+-- so there was room for it
+pub room_for : (count : ℕ) (marks : List Bool) (found : List ℕ) (place : ℕ) → AreMarked count marks found → place < count
+    → mark_at marks place ≡ false → length found < count
+room_for count marks found place m low none =
+    let more = few_found count (set marks place true) (found ++ place ∷ []) (found_more count marks found place m low none) in
+    omega (arith, more, length_push found place)
+
+-- where no place has a mark, none was found
+pub none_found : (count : ℕ) (marks : List Bool) (found : List ℕ) → length marks ≡ count
+    → ((p : ℕ) → p < count → mark_at marks p ≡ false) → found ≡ [] → AreMarked count marks found
+none_found count marks found sized clear none =
+    let nothing : (p : ℕ) → Contains found p → ⊥ = λ p here. none_in_empty p (subst (λ (xs : List ℕ). Contains xs p) none here) in
+    record {
+      sized = sized;
+      once = subst AreDistinct (sym none) tt;
+      within = λ p here. absurd (nothing p here);
+      exact = λ p low. ((λ marked. absurd (true≢false (sym marked ∙ clear p low))), (λ here. absurd (nothing p here)));
+    }
+
+-- ---- marks that are taken away
+
+-- the places that still have a mark were found from position `at` on
+abbrev pub AreLeft : ℕ → List Bool → List ℕ → ℕ → Type 0
+AreLeft count marks found at = (p : ℕ) → p < count → mark_at marks p ≡ true → (j : ℕ) × (at ≤ j) × (j < length found) × (get_or found j 0 ≡ p)
+
+pub left_first : (count : ℕ) (marks : List Bool) (found : List ℕ) → AreMarked count marks found → AreLeft count marks found 0
+left_first count marks found m p low marked =
+    let here = (m.exact p low).0 marked in
+    (here.0, omega arith, here.1, get_or_default found here.0 0 p here.1 ∙ here.2)
+
+pub left_next : (count : ℕ) (marks : List Bool) (found : List ℕ) (at place : ℕ) → AreLeft count marks found at → at < length found
+    → get_or found at 0 ≡ place → place < length marks → AreLeft count (set marks place false) found (at + 1)
+left_next count marks found at place left low is inside p below marked = elim (cases_eq p place) [
+  | inl same ↦ absurd (true≢false (sym marked ∙ ap (mark_at (set marks place false)) same ∙ get_or-set_same marks place false false inside))
+  | inr other ↦
+      let (j, from, to, e) = left p below (sym (get_or-set_other marks place p false false other) ∙ marked) in
+      let ne : j ≢ at = λ same. other (sym e ∙ ap (λ k. get_or found k 0) same ∙ is) in
+      (j, omega arith, to, e)
+]
+
+pub none_left : (count : ℕ) (marks : List Bool) (found : List ℕ) (at : ℕ) → AreLeft count marks found at → length found ≤ at
+    → (p : ℕ) → p < count → mark_at marks p ≡ false
+none_left count marks found at left all p low = unmarked (mark_at marks p) refl (λ marked. let here = left p low marked in omega (arith, here.1, here.2))
+  where
+    unmarked : (b : Bool) → mark_at marks p ≡ b → (mark_at marks p ≡ true → ⊥) → mark_at marks p ≡ false
+    unmarked true is other = absurd (other is)
+    unmarked false is other = is
+
+-- ---- a walk
+
+-- a list with what leads to its entries has what leads to them over walks
+pub closed_has : (steps : List (ℕ × ℕ)) (found : List ℕ)
+    → ((j to : ℕ) → j < length found → Contains {X = ℕ × ℕ} steps (to, get_or found j 0) → Contains found to)
+    → (a b n : ℕ) → Walk steps a b n → Contains found b → Contains found a
+closed_has steps found closed a b zero same here = subst (λ (x : ℕ). Contains found x) (sym same) here
+closed_has steps found closed a b (suc n) (c, walk, step) (j, low, at) =
+    let is : get_or found j 0 ≡ b = get_or_default found j 0 b low ∙ at in
+    closed_has steps found closed a c n walk (closed j c low (subst (λ (x : ℕ). Contains {X = ℕ × ℕ} steps (c, x)) (sym is) step))
+
+-- how far a walk has come: the places before `done` were looked around from
+pub record IsOnWay (steps : List (ℕ × ℕ)) (from done : ℕ) (found : List ℕ) : Type 0 where
+  pub done_is : done ≤ length found
+  pub start : Contains found from
+  pub sound : (p : ℕ) → Contains found p → IsAncestor steps p from
+  pub closed : (j to : ℕ) → j < done → Contains {X = ℕ × ℕ} steps (to, get_or found j 0) → Contains found to
+
+pub way_first : (steps : List (ℕ × ℕ)) (from : ℕ) (found : List ℕ) → Finds (λ p. p ≡ from) [] found → Contains found from
+    → IsOnWay steps from 0 found
+way_first steps from found finds here = record {
+  done_is = omega arith;
+  start = here;
+  sound = λ p there. (0, finds.each p (subst (λ (xs : List ℕ). Contains xs p) finds.is there));
+  closed = λ j to low step. absurd (omega arith);
+}
+
+pub found_stays : (P : ℕ → Type 0) (old new : List ℕ) (p : ℕ) → Finds P old new → Contains old p → Contains new p
+found_stays P old new p finds here = subst (λ (xs : List ℕ). Contains xs p) (sym finds.is) (Contains-append_left old finds.more p here)
+
+pub found_longer : (P : ℕ → Type 0) (old new : List ℕ) → Finds P old new → length old ≤ length new
+found_longer P old new finds = omega (arith, ap length finds.is, length-append old finds.more)
+
+pub way_next : (steps : List (ℕ × ℕ)) (from done place : ℕ) (old new : List ℕ) → IsOnWay steps from done old → done < length old
+    → get_or old done 0 ≡ place → Finds (λ to. Contains {X = ℕ × ℕ} steps (to, place)) old new
+    → ((to : ℕ) → Contains {X = ℕ × ℕ} steps (to, place) → Contains new to) → IsOnWay steps from (done + 1) new
+way_next steps from done place old new way low is finds all =
+    let P : ℕ → Type 0 = λ to. Contains {X = ℕ × ℕ} steps (to, place) in
+    let longer : length old ≤ length new = found_longer P old new finds in
+    let kept : (j : ℕ) → j < length old → get_or new j 0 ≡ get_or old j 0 =
+    λ j in'. ap (λ (xs : List ℕ). get_or xs j 0) finds.is ∙ get_or_append_left old finds.more 0 j in' in
+    let place_in : IsAncestor steps place from =
+    way.sound place (done, low, get_or_default old done place 0 low ∙ is) in
+    record {
+      done_is = omega arith;
+      start = found_stays P old new from finds way.start;
+      sound = λ p here. elim (Contains-append_cases old finds.more p (subst (λ (xs : List ℕ). Contains xs p) finds.is here)) [
+        | inl there ↦ way.sound p there
+        | inr fresh ↦ (suc place_in.0, walk_cons steps p place from place_in.0 (finds.each p fresh) place_in.1)
+      ];
+      closed = λ j to below step. elim (cases_eq j done) [
+        | inl same ↦
+            let at : get_or new j 0 ≡ place = ap (λ k. get_or new k 0) same ∙ kept done low ∙ is in
+            all to (subst (λ (x : ℕ). Contains {X = ℕ × ℕ} steps (to, x)) at step)
+        | inr other ↦
+            let less : j < done = omega arith in
+            found_stays P old new to finds (way.closed j to less
+            (subst (λ (x : ℕ). Contains {X = ℕ × ℕ} steps (to, x)) (kept j (omega arith)) step))
+      ];
+    }
+
+pub way_all : (steps : List (ℕ × ℕ)) (from done : ℕ) (found : List ℕ) → IsOnWay steps from done found → length found ≤ done
+    → AreDistinct found → FindsAll steps from found
+way_all steps from done found way all once = record {
+  once = once;
+  exact = λ p. (
+    (λ here. way.sound p here),
+    (λ walk. closed_has steps found (λ j to low step. way.closed j to (omega arith) step) p from walk.0 walk.1 way.start),
+  );
+}

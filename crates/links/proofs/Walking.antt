@@ -1,0 +1,147 @@
+-- Walks between places as walks between names.
+use Rattle.std.proofs.Common.{◌≡◌, ℕ, zero, suc, ◌<◌, List, length, map, get_or, Option, Some, refl, sym, ap, ◌∙◌, subst, arith}
+use Rattle.std.specs.Prelude.{Contains, ◌↔◌}
+use Rattle.std.proofs.lemmas.List.{get_or_default}
+use Rattle.std.proofs.lemmas.List.Elements.{Contains-get_or}
+use Rattle.std.proofs.lemmas.Option.{same_Some}
+use Rattle.lists.specs.Distinct.{AreDistinct}
+use Rattle.lists.proofs.Distinct.{distinct_map}
+use Rattle.lists.proofs.Entries.{Contains-map, map-Contains}
+use Rattle.graphs.specs.Graphs.{Walk, IsAncestor}
+use Rattle.links.specs.Ways.{step_at, AreWithin, turned}
+use Rattle.links.specs.Places.{ArePlaces, AreSteps}
+use Rattle.links.specs.Walkers.{FindsAll}
+use Rattle.links.proofs.Turning.{turned_ancestors}
+
+-- ---- places that are found are among so many
+
+walk_below : (count : ℕ) (steps : List (ℕ × ℕ)) → AreWithin count steps → (a b n : ℕ) → b < count → Walk steps a b n → a < count
+walk_below count steps within a b zero low same = subst (λ (x : ℕ). x < count) (sym same) low
+walk_below count steps within a b (suc n) low (c, walk, (k, inside, at)) =
+    let ends = within k (c, b) inside in
+    walk_below count steps within a c n (subst (λ (s : ℕ × ℕ). s.0 < count) at ends.0) walk
+
+pub found_below : (count : ℕ) (steps : List (ℕ × ℕ)) (from : ℕ) (found : List ℕ) → AreWithin count steps → from < count → FindsAll steps from found
+    → (p : ℕ) → Contains found p → p < count
+found_below count steps from found within low all p here =
+    let walk = (all.exact p).0 here in
+    walk_below count steps within p from walk.0 low walk.1
+
+-- ---- one step and one pair
+
+step_named : (names : List ℕ) (find : ℕ → Option ℕ) (pairs steps : List (ℕ × ℕ)) → ArePlaces names find → AreSteps find pairs steps
+    → (p q : ℕ) → Contains {X = ℕ × ℕ} steps (p, q) → Contains {X = ℕ × ℕ} pairs (get_or names p 0, get_or names q 0)
+step_named names find pairs steps h s p q (k, inside, at) =
+    let size = s.sized in
+    let low : k < length pairs = omega arith in
+    let ends = s.ends k low in
+    let is : ◌≡◌ {A = ℕ × ℕ} (step_at steps k) (p, q) = get_or_default steps k (0, 0) (p, q) inside ∙ at in
+    let first : get_or names p 0 ≡ (step_at pairs k).0 =
+    (h.sound (step_at pairs k).0 p (ends.0 ∙ ap (λ (x : ℕ × ℕ). Some x.0) is)).1 in
+    let second : get_or names q 0 ≡ (step_at pairs k).1 =
+    (h.sound (step_at pairs k).1 q (ends.1 ∙ ap (λ (x : ℕ × ℕ). Some x.1) is)).1 in
+    subst (λ (x : ℕ). Contains {X = ℕ × ℕ} pairs (x, get_or names q 0)) (sym first)
+    (subst (λ (x : ℕ). Contains {X = ℕ × ℕ} pairs ((step_at pairs k).0, x)) (sym second) (Contains-get_or pairs k (0, 0) low))
+
+named_step : (find : ℕ → Option ℕ) (pairs steps : List (ℕ × ℕ)) → AreSteps find pairs steps → (a b : ℕ) → Contains {X = ℕ × ℕ} pairs (a, b)
+    → (p q : ℕ) × Contains {X = ℕ × ℕ} steps (p, q) × (find a ≡ Some p) × (find b ≡ Some q)
+named_step find pairs steps s a b (k, low, at) =
+    let size = s.sized in
+    let ends = s.ends k low in
+    let is : ◌≡◌ {A = ℕ × ℕ} (step_at pairs k) (a, b) = get_or_default pairs k (0, 0) (a, b) low ∙ at in (
+      (step_at steps k).0,
+      (step_at steps k).1,
+      Contains-get_or steps k (0, 0) (omega arith),
+      ap (λ (x : ℕ × ℕ). find x.0) (sym is) ∙ ends.0,
+      ap (λ (x : ℕ × ℕ). find x.1) (sym is) ∙ ends.1,
+    )
+
+-- ---- walks
+
+walk_named : (names : List ℕ) (find : ℕ → Option ℕ) (pairs steps : List (ℕ × ℕ)) → ArePlaces names find → AreSteps find pairs steps
+    → (p q n : ℕ) → Walk steps p q n → Walk pairs (get_or names p 0) (get_or names q 0) n
+walk_named names find pairs steps h s p q zero same = ap (λ x. get_or names x 0) same
+walk_named names find pairs steps h s p q (suc n) (c, walk, step) =
+    (get_or names c 0, walk_named names find pairs steps h s p c n walk, step_named names find pairs steps h s c q step)
+
+-- up from a place
+walk_up : (find : ℕ → Option ℕ) (pairs steps : List (ℕ × ℕ)) → AreSteps find pairs steps → (a b n p : ℕ) → find b ≡ Some p → Walk pairs a b n
+    → (q : ℕ) × (find a ≡ Some q) × Walk steps q p n
+walk_up find pairs steps s a b zero p at same = (p, ap find same ∙ at, refl)
+walk_up find pairs steps s a b (suc n) p at (c, walk, pair) =
+    let (pc, pb, step, first, second) = named_step find pairs steps s c b pair in
+    let rest = walk_up find pairs steps s a c n pc first walk in
+    let same : pb ≡ p = same_Some pb p (sym second ∙ at) in
+    (rest.0, rest.1, (pc, rest.2, subst (λ (x : ℕ). Contains {X = ℕ × ℕ} steps (pc, x)) same step))
+
+-- down from a place
+walk_down : (find : ℕ → Option ℕ) (pairs steps : List (ℕ × ℕ)) → AreSteps find pairs steps → (a b n p : ℕ) → find a ≡ Some p → Walk pairs a b n
+    → (q : ℕ) × (find b ≡ Some q) × Walk steps p q n
+walk_down find pairs steps s a b zero p at same = (p, ap find (sym same) ∙ at, refl)
+walk_down find pairs steps s a b (suc n) p at (c, walk, pair) =
+    let (pc, pb, step, first, second) = named_step find pairs steps s c b pair in
+    let rest = walk_down find pairs steps s a c n p at walk in
+    let same : pc ≡ rest.0 = same_Some pc rest.0 (sym first ∙ rest.1) in
+    (pb, second, (rest.0, rest.2, subst (λ (x : ℕ). Contains {X = ℕ × ℕ} steps (x, pb)) same step))
+
+-- ---- what walks find, by names
+
+pub found_up : (names : List ℕ) (find : ℕ → Option ℕ) (pairs steps : List (ℕ × ℕ)) (id p : ℕ) (found : List ℕ) → ArePlaces names find
+    → AreSteps find pairs steps → find id ≡ Some p → FindsAll steps p found
+    → (a : ℕ) → Contains (map (λ q. get_or names q 0) found) a ↔ IsAncestor pairs a id
+found_up names find pairs steps id p found h s at all a =
+    let nm : ℕ → ℕ = λ q. get_or names q 0 in
+    let own : nm p ≡ id = (h.sound id p at).1 in (
+      (λ here.
+          let (q, there, is) = map-Contains nm found a here in
+          let walk = (all.exact q).0 there in (
+            walk.0,
+            subst (λ (x : ℕ). Walk pairs x id walk.0) is (subst (λ (x : ℕ). Walk pairs (nm q) x walk.0) own
+                (walk_named names find pairs steps h s q p walk.0 walk.1)),
+          )),
+      (λ walk.
+          let (q, found_at, back) = walk_up find pairs steps s a id walk.0 p at walk.1 in
+          subst (λ (x : ℕ). Contains (map nm found) x) (h.sound a q found_at).1
+          (Contains-map nm found q ((all.exact q).1 (walk.0, back)))),
+    )
+
+pub found_down : (names : List ℕ) (find : ℕ → Option ℕ) (pairs steps : List (ℕ × ℕ)) (id p : ℕ) (found : List ℕ) → ArePlaces names find
+    → AreSteps find pairs steps → find id ≡ Some p → FindsAll (map turned steps) p found
+    → (d : ℕ) → Contains (map (λ q. get_or names q 0) found) d ↔ IsAncestor pairs id d
+found_down names find pairs steps id p found h s at all d =
+    let nm : ℕ → ℕ = λ q. get_or names q 0 in
+    let own : nm p ≡ id = (h.sound id p at).1 in (
+      (λ here.
+          let (q, there, is) = map-Contains nm found d here in
+          let walk = (turned_ancestors steps q p).0 ((all.exact q).0 there) in (
+            walk.0,
+            subst (λ (x : ℕ). Walk pairs id x walk.0) is (subst (λ (x : ℕ). Walk pairs x (nm q) walk.0) own
+                (walk_named names find pairs steps h s p q walk.0 walk.1)),
+          )),
+      (λ walk.
+          let (q, found_at, way) = walk_down find pairs steps s id d walk.0 p at walk.1 in
+          subst (λ (x : ℕ). Contains (map nm found) x) (h.sound d q found_at).1
+          (Contains-map nm found q ((all.exact q).1 ((turned_ancestors steps q p).1 (walk.0, way))))),
+    )
+
+-- each name once
+pub names_once : (names : List ℕ) (find : ℕ → Option ℕ) (found : List ℕ) → ArePlaces names find → AreDistinct found
+    → ((p : ℕ) → Contains found p → p < length names) → AreDistinct (map (λ q. get_or names q 0) found)
+names_once names find found h once below =
+    distinct_map (λ (q : ℕ). get_or names q 0) found once
+    (λ x y first second same. same_Some x y (sym (h.complete x (below x first)) ∙ ap find same ∙ h.complete y (below y second)))
+
+-- whether a place is found tells of its name
+pub reaches_up : (names : List ℕ) (find : ℕ → Option ℕ) (pairs steps : List (ℕ × ℕ)) (a b p q : ℕ) (found : List ℕ) → ArePlaces names find
+    → AreSteps find pairs steps → find a ≡ Some p → find b ≡ Some q → FindsAll steps q found → Contains found p ↔ IsAncestor pairs a b
+reaches_up names find pairs steps a b p q found h s first second all = (
+  (λ here.
+      let walk = (all.exact p).0 here in (
+        walk.0,
+        subst (λ (x : ℕ). Walk pairs x b walk.0) (h.sound a p first).1 (subst (λ (x : ℕ). Walk pairs (get_or names p 0) x walk.0) (h.sound b q second).1
+            (walk_named names find pairs steps h s p q walk.0 walk.1)),
+      )),
+  (λ walk.
+      let (r, at, back) = walk_up find pairs steps s a b walk.0 q second walk.1 in
+      subst (λ (x : ℕ). Contains found x) (same_Some r p (sym at ∙ first)) ((all.exact r).1 (walk.0, back))),
+)

@@ -1,0 +1,9 @@
+pub mod Links
+pub mod Ways
+pub mod Walkers
+pub mod Places
+pub mod Pairs
+pub mod Kept
+pub mod Leaving
+pub mod Closing
+pub mod Laws

@@ -1,0 +1,17 @@
+use Rattle.std.proofs.Common.{Contains, ap, ◌∙◌, subst}
+use Rattle.cluster_store.specs.Held.{Held}
+use Rattle.levels.specs.Held.{IsHeldIn}
+use Rattle.levels.specs.Levels.{level_at}
+use Rattle.tx_graph.specs.Kept.{Kept}
+use Rattle.tx_graph.proofs.Rooms.{levels_fit}
+use Rattle.tx_graph.proofs.graph.TxGraph.held.Goals as goal
+
+pub held-requires : goal.held-requires
+held-requires g c = (levels_fit g.row.W assumption, assumption)
+
+pub returns-clause-parts : goal.returns-clause-parts
+returns-clause-parts g c = c.held.ensures.parts ∙ ap (λ (k : Kept). (level_at k.levels c.args.level).parts) c.self.view_is
+
+pub returns-clause-clusters : goal.returns-clause-clusters
+returns-clause-clusters g c =
+    subst (λ (k : Kept). (h : Held) → Contains c.held.result h → IsHeldIn (level_at k.levels c.args.level) h) c.self.view_is c.held.ensures.clusters
