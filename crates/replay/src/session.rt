@@ -36,9 +36,10 @@ pub enum Piece<'a> {
 #[derive(Drop)]
 pub struct Session<const W: usize> {
     alloc: Global,
-    graph: TxGraph<W>,
     // the names that a line lists, and then those that its reading finds
     ids: IdBuf,
+    // last, so that the sizes of the fields before it add to one number where its own is shown to fit
+    graph: TxGraph<W>,
 }
 
 impl<const W: usize> Model for Session<W> {
