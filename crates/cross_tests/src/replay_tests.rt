@@ -767,7 +767,7 @@ fn a_line_has_made_its_step_where_its_reply_failed(rt: HostRuntime) -> Result<()
     let alloc = rt.alloc();
     let mut session = Session::<1>::new(alloc)?;
     let done = adds_and_counts(&rt, alloc, &mut session);
-    drop(session);
+    session.close();
     done
 }
 

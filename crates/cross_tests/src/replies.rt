@@ -372,7 +372,7 @@ fn agree_from_start(rt: &impl Abort, alloc: Global, seed: u64, limits: &str) -> 
     let mut lists = Lists::new(alloc)?;
     let mut session = Session::<1>::new(alloc)?;
     let agreed = agree_on_run(rt, alloc, &mut session, &mut lists, seed, limits);
-    drop(session);
+    session.close();
     agreed
 }
 

@@ -36,10 +36,9 @@ pub enum Piece<'a> {
 #[derive(Drop)]
 pub struct Session<const W: usize> {
     alloc: Global,
+    graph: TxGraph<W>,
     // the names that a line lists, and then those that its reading finds
     ids: IdBuf,
-    // last, so that the sizes of the fields before it add to one number where its own is shown to fit
-    graph: TxGraph<W>,
 }
 
 impl<const W: usize> Model for Session<W> {
@@ -75,6 +74,12 @@ impl<const W: usize> Session<W> {
             ids: IdBuf::new(alloc, MAX_NAMES)?,
             graph: TxGraph::new(alloc, DEFAULT_LIMITS)?,
         })
+    }
+
+    /// Lets the session go, as a drop of it does. What shows that its graph fits in memory stands in this crate, so that another
+    /// crate that owns a session needs no proof of it to end it here.
+    pub fn close(self) {
+        drop(self);
     }
 
     /// How many additions were accepted. The session always stands for some state, so that what the
