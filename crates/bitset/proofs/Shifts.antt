@@ -145,3 +145,18 @@ raised_far w words by fits q far =
             ∙ ap (λ b. nat_lt q (64 * w) && b) (and-false (not (nat_lt q by))) ∙ and-false (nat_lt q (64 * w))
       ]
     ]
+
+-- the places of words that are below 64 v
+abbrev pub kept_below : ℕ → List ℕ → ℕ → Bool
+kept_below v words q = nat_lt q (64 * v) && is_place words q
+
+pub kept_there : (v : ℕ) (words : List ℕ) (i k : ℕ) → i < v → k < 64 → is_place words (64 * i + k) ≡ kept_below v words (64 * i + k)
+kept_there v words i k inside bit = ap (λ b. b && is_place words (64 * i + k)) (sym (lt-ltb (64 * i + k) (64 * v) (omega arith)))
+
+pub kept_past : (v : ℕ) (words : List ℕ) (i : ℕ) → v ≤ i → (q : ℕ) → 64 * i ≤ q → kept_below v words q ≡ false
+kept_past v words i end q far = ap (λ b. b && is_place words q) (le-ltb q (64 * v) (omega arith))
+
+pub kept_far : (v w : ℕ) (words : List ℕ) → AreWords w words → (q : ℕ) → 2 ^ 64 ≤ q → kept_below v words q ≡ false
+kept_far v w words h q far =
+    ap (λ n. nat_lt q (64 * v) && is_set n (q % 64)) (h.empty_behind (q / 64) (omega arith))
+    ∙ ap (λ b. nat_lt q (64 * v) && b) (is_set-zero (q % 64)) ∙ and-false (nat_lt q (64 * v))

@@ -169,6 +169,18 @@ impl<const W: usize> Bits<W> {
         Bits { words }
     }
 
+    /// The places of the set that are below 64·V, in V words.
+    #[must_use]
+    pub fn resized<const V: usize>(&self) -> Bits<V>
+        ensures { (p : ℕ) → set.contains result p ≡ (nat_lt p (64 * V) && set.contains self.now p) }
+    {
+        let mut words = [0; V];
+        for i in 0..V {
+            words[i] = word_or_none(&self.words, i);
+        }
+        Bits { words }
+    }
+
     /// How many places the set has.
     ///
     /// Where they are more than a `usize` holds, which no set in memory reaches, it is the largest `usize`.
@@ -235,6 +247,13 @@ fn low_bits(i: usize, n: usize) -> u64
     } else {
         0
     }
+}
+
+// Word i, or no bit where there are fewer words.
+fn word_or_none(words: &[u64], i: usize) -> u64
+    ensures { (k : ℕ) → k < 64 → is_set result k ≡ is_place words.now (64 * i + k) }
+{
+    if i < words.len() { words[i] } else { 0 }
 }
 
 // The 64 bits that stand `by` places above those of word i, which are of this word and the next.

@@ -204,28 +204,22 @@ words_fit w into amounts rest s =
     ]
 
 pub network_fits : (w : ℕ) (into : List (fin.FinSet nat_cmp)) (amounts : List ℕ) (rest : List ℤ) → IsSized (64 * w) into amounts rest
-    → up 8 (up 8 (up 8 (up 8 (up 8 (up 8 (0 + up 8 (0 + w * 8)) + up 8 (0 + w * 8)) + up 8 (0 + w * 8)) + 24) + 24) + 24) < 2 ^ 63
+    → up 8 (up 8 (up 8 (72 + up 8 (0 + w * 8)) + up 8 (0 + w * 8)) + up 8 (0 + w * 8)) < 2 ^ 63
 network_fits w into amounts rest s =
-    elim (cases_lt w (2 ^ 32)) as (λ _. up 8
-    (up 8 (up 8 (up 8 (up 8 (up 8 (0 + up 8 (0 + w * 8)) + up 8 (0 + w * 8)) + up 8 (0 + w * 8)) + 24) + 24) + 24) < 2 ^ 63) [
+    elim (cases_lt w (2 ^ 32)) as (λ _. up 8 (up 8 (up 8 (72 + up 8 (0 + w * 8)) + up 8 (0 + w * 8)) + up 8 (0 + w * 8)) < 2 ^ 63) [
       | inl few ↦ (
           let u : ℕ = up 8 (0 + w * 8) in
-          let u1 : ℕ = up 8 (0 + u) in
+          let u1 : ℕ = up 8 (72 + u) in
           let u2 : ℕ = up 8 (u1 + u) in
-          let u3 : ℕ = up 8 (u2 + u) in
-          let u4 : ℕ = up 8 (u3 + 24) in
-          let u5 : ℕ = up 8 (u4 + 24) in
-          bounded u u1 u2 u3 u4 u5 (up 8 (u5 + 24)) w few
-          (padded (0 + w * 8)) (padded (0 + u)) (padded (u1 + u)) (padded (u2 + u)) (padded (u3 + 24)) (padded (u4 + 24)) (padded (u5 + 24)))
+          bounded u u1 u2 (up 8 (u2 + u)) w few (padded (0 + w * 8)) (padded (72 + u)) (padded (u1 + u)) (padded (u2 + u)))
       | inr many ↦ absurd (omega (arith, s.small, mul-le-mul many many))
     ]
   where
     padded : (x : ℕ) → up 8 x < x + 8
     padded x = omega arith
 
-    bounded : (a b c d e f k w : ℕ) → w < 2 ^ 32 → a < 0 + w * 8 + 8 → b < 0 + a + 8 → c < b + a + 8 → d < c + a + 8 → e < d + 24 + 8
-        → f < e + 24 + 8 → k < f + 24 + 8 → k < 2 ^ 63
-    bounded a b c d e f k w few ha hb hc hd he hf hk = omega arith
+    bounded : (a b c d w : ℕ) → w < 2 ^ 32 → a < 0 + w * 8 + 8 → b < 72 + a + 8 → c < b + a + 8 → d < c + a + 8 → d < 2 ^ 63
+    bounded a b c d w few ha hb hc hd = omega arith
 
 -- ---- a place begun anew
 pub sized_begin : (n : ℕ) (into : List (fin.FinSet nat_cmp)) (amounts : List ℕ) (rest : List ℤ) (p : ℕ) (z : ℤ) → IsSized n into amounts rest

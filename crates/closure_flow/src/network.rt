@@ -10,18 +10,18 @@ use std::alloc::Global;
 /// Flow along pairs of a child and a parent, and what is left at each place, above 0 to be sent, below 0 to come.
 #[derive(Drop)]
 pub(crate) struct Network<const W: usize> {
-    /// The places between which something may flow.
-    pub(crate) within: Bits<W>,
-    /// Those of them where something is left to be sent.
-    pub(crate) over: Bits<W>,
-    /// Those of them that lack something.
-    pub(crate) short: Bits<W>,
     /// By parent, the children that send it flow.
     pub(crate) into: Vec<Bits<W>>,
     /// By parent and child, the amount. It is read only where the child is in the parent's set.
     pub(crate) amounts: Vec<u128>,
     /// By place, what is left.
     pub(crate) rest: Vec<i128>,
+    /// The places between which something may flow.
+    pub(crate) within: Bits<W>,
+    /// Those of them where something is left to be sent.
+    pub(crate) over: Bits<W>,
+    /// Those of them that lack something.
+    pub(crate) short: Bits<W>,
     ghost sized: { IsSized (64 * W) into.items amounts.items rest.items },
     ghost lean: { IsLean (64 * W) into.items amounts.items },
     ghost inside: { IsWithin (64 * W) within },

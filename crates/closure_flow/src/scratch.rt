@@ -10,8 +10,8 @@ use std::marker::Model;
 /// [`new`](Scratch::new) takes all of it, for at most 64·W places.
 #[derive(Drop)]
 pub struct Scratch<const W: usize> {
-    pub(crate) network: Network<W>,
     pub(crate) queue: Queue<W>,
+    pub(crate) network: Network<W>,
 }
 
 // Clauses see what each child sends to each parent, and how many places the queue ever gave.

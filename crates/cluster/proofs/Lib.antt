@@ -34,3 +34,4 @@ pub mod Placed
 mod Nearest
 mod Firsts
 mod Rooms
+mod Resizing

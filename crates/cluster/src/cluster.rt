@@ -16,7 +16,7 @@ use crate::covers::Covers;
 use crate::guess::{guess_fee, guess_joined, guess_linked, moved_part};
 use crate::list::ClusterList;
 use crate::making::{certified, copied, part};
-use crate::order::{Order, between, end_before, rate_in};
+use crate::order::{Order, between, copied_order, end_before, rate_in};
 use crate::places::{both_names, list_chosen, place_of, take_out};
 use crate::work::Work;
 use bitset::Bits;
@@ -237,6 +237,18 @@ impl<const W: usize> Cluster<W> {
         guess_fee(self, names.as_slice(), id, &mut work.guess);
         dep.set_fee(place_of(names.as_slice(), id), fee);
         certified(alloc, names, dep, &work.guess, &mut work.room, steps)
+    }
+
+    /// Makes the same cluster with sets of V words, which have room for its names. This cluster stays as it is.
+    pub fn resized<const V: usize>(&self, alloc: Global) -> Result<Cluster<V>, NoMemory>
+        requires { length self.now.names ≤ 64 * V }
+        ensures same { IfOk result (λ c. c ≡ self.now) }
+        ensures whole { IfOk result (IsCluster (64 * V)) }
+    {
+        let names = SmallVec::from_slice(alloc, self.names.as_slice())?;
+        let dep = self.dep.resized(alloc)?;
+        let order = copied_order(alloc, &self.order)?;
+        Ok(Cluster { names, dep, order })
     }
 
     /// Whether `a` is an ancestor of `b`. Both are names of this cluster, and each is an ancestor of itself.

@@ -82,6 +82,21 @@ pub(crate) fn lone(alloc: Global, id: TxId, rate: FeeRate) -> Result<Order, NoMe
     })
 }
 
+/// The same order once more.
+pub(crate) fn copied_order(alloc: Global, order: &Order) -> Result<Order, NoMemory>
+    ensures names { IfOk result (λ o. o.names.items ≡ order.now.names.items) }
+    ensures parts { IfOk result (λ o. o.parts.items ≡ order.now.parts.items) }
+    ensures flows { IfOk result (λ o. o.flows.items ≡ order.now.flows.items) }
+{
+    let mut flows = Vec::with_capacity(alloc, order.flows.len())?;
+    flows.extend_from_slice(order.flows.as_slice())?;
+    Ok(Order {
+        names: SmallVec::from_slice(alloc, order.names.as_slice())?,
+        parts: SmallVec::from_slice(alloc, order.parts.as_slice())?,
+        flows,
+    })
+}
+
 /// An order of places, by the names of the places. The flows of each part stand by child, then by parent, in the order's
 /// positions. Those of an old part are copied from where they are kept.
 pub(crate) fn read<const W: usize>(

@@ -131,7 +131,7 @@ const RUNS: [Row; 15] = [
         "ok\nok\nok\nok\nok\nrefused count 3\nok\n",
     ),
     (
-        "limits 65 1 1\nlimits 64 404000 1\nlimits 64 404000 2\nadd 1 1 1\nadd 2 1 1\nremove 1\nadd 2 1 1\n",
+        "limits 129 1 1\nlimits 64 404000 1\nlimits 64 404000 2\nadd 1 1 1\nadd 2 1 1\nremove 1\nadd 2 1 1\n",
         "refused range\nok\nrefused late\nok\nrefused full\nok\nok\n",
     ),
     (
@@ -745,7 +745,7 @@ fn a_source_that_stops_has_its_complete_lines_answered(rt: HostRuntime) -> Resul
 }
 
 /// Adds a name for a sink that takes nothing, and counts the names for one that does.
-fn adds_and_counts(rt: &impl Abort, alloc: Global, session: &mut Session<1>) -> Result<(), Fail>
+fn adds_and_counts(rt: &impl Abort, alloc: Global, session: &mut Session<2>) -> Result<(), Fail>
     requires { session.old.levels.issued ≡ 0 }
 {
     let mut broken = MemSink::new(alloc, 1, &[], 0)?;
@@ -765,7 +765,7 @@ fn adds_and_counts(rt: &impl Abort, alloc: Global, session: &mut Session<1>) -> 
 #[test]
 fn a_line_has_made_its_step_where_its_reply_failed(rt: HostRuntime) -> Result<(), Fail> {
     let alloc = rt.alloc();
-    let mut session = Session::<1>::new(alloc)?;
+    let mut session = Session::<2>::new(alloc)?;
     let done = adds_and_counts(&rt, alloc, &mut session);
     session.close();
     done

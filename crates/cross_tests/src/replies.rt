@@ -327,7 +327,7 @@ fn prove<const W: usize>(
 
 /// Where runs begin, and the line that sets their limits.
 const RUNS: [(u64, &str); 5] = [
-    (1, "limits 64 256000000 1048576"),
+    (1, "limits 128 512000000 1048576"),
     (2, "limits 7 404000 1000"),
     (3, "limits 64 2500 1048576"),
     (4, "limits 3 4000000 50"),
@@ -370,7 +370,7 @@ fn agree_on_run<const W: usize>(
 /// A run of lines from the start.
 fn agree_from_start(rt: &impl Abort, alloc: Global, seed: u64, limits: &str) -> Result<(), Fail> {
     let mut lists = Lists::new(alloc)?;
-    let mut session = Session::<1>::new(alloc)?;
+    let mut session = Session::<2>::new(alloc)?;
     let agreed = agree_on_run(rt, alloc, &mut session, &mut lists, seed, limits);
     session.close();
     agreed

@@ -11,3 +11,4 @@ pub mod Moving
 pub mod Orders
 pub mod Pairs
 pub mod Reading
+pub mod Resized

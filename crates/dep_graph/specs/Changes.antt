@@ -1,5 +1,5 @@
 -- What is done to the rows of several places.
-use Rattle.std.specs.Prelude.{◌≡◌, ◌≢◌, ◌⊎◌, ◌≤◌, ◌<◌, ◌+◌, ℕ, true, cond, List, length, slice_index}
+use Rattle.std.specs.Prelude.{◌≡◌, ◌≢◌, ◌⊎◌, ◌≤◌, ◌<◌, ◌+◌, ◌*◌, ◌&&◌, ℕ, nat_lt, true, cond, List, length, slice_index}
 use Rattle.std.specs.Ordering.{nat_cmp}
 use Rattle.std.specs.FinSet as set
 use Rattle.dep_graph.specs.declared.rows.Row.{Row}
@@ -43,7 +43,7 @@ module _ {W : ℕ} where
     pub made : (i : ℕ) → i < length ps → Made (slice_index ps i) (row_at new (length old + i))
 
   -- the rate stays, and both sets become sets that stand so to them
-  pub record BothBecome (Becomes : set.FinSet nat_cmp → set.FinSet nat_cmp → Type 0) (old new : Row W) : Type 0 where
+  pub record BothBecome {V : ℕ} (Becomes : set.FinSet nat_cmp → set.FinSet nat_cmp → Type 0) (old : Row W) (new : Row V) : Type 0 where
     pub rate : new.rate ≡ old.rate
     pub ancestors : Becomes old.ancestors new.ancestors
     pub descendants : Becomes old.descendants new.descendants
@@ -51,3 +51,12 @@ module _ {W : ℕ} where
   -- copies of the rows of the places ps, with the places in them numbered as they stand
   abbrev pub CopiesRows : List (Row W) → List ℕ → List (Row W) → List (Row W) → Type 0
   CopiesRows from ps old new = Copies (λ p row. BothBecome (IsRenumbered ps (length old)) (row_at from p) row) ps old new
+
+-- t has the places of s that are below n
+abbrev pub IsCutAt : ℕ → set.FinSet nat_cmp → set.FinSet nat_cmp → Type 0
+IsCutAt n s t = (p : ℕ) → set.contains t p ≡ (nat_lt p n && set.contains s p)
+
+-- the first rows of a list, with sets of v words, which keep the places that they have room for
+pub record AreResized {W : ℕ} (v count : ℕ) (old : List (Row W)) (new : List (Row v)) : Type 0 where
+  pub long : length new ≡ count
+  pub rows : (p : ℕ) → p < count → BothBecome (IsCutAt (64 * v)) (row_at old p) (row_at new p)

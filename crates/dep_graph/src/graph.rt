@@ -7,7 +7,8 @@ ghost use Rattle.lists.specs.Walks.{Walk};
 ghost use Rattle.bitset.specs.Places.{IsWithin, places};
 
 use crate::rows::{
-    Row, Rows, copy_rows, give_ancestors, give_descendants, put, take_ancestor, take_descendant,
+    Row, Rows, copy_rows, give_ancestors, give_descendants, put, resized_rows, take_ancestor,
+    take_descendant,
 };
 use bitset::Bits;
 use fee_rate::FeeRate;
@@ -234,6 +235,20 @@ impl<const W: usize> DepGraph<W> {
             rows,
         })
     }
+
+    /// The same graph, with sets of V words, which have room for its members. This graph stays as it is.
+    pub fn resized<const V: usize>(&self, alloc: Global) -> Result<DepGraph<V>, NoMemory>
+        requires { IsWithin (64 * V) (members_of self.now) }
+        ensures same { IfOk result (λ g. g ≡ self.now) }
+        ensures closed { IfOk result (IsClosed (64 * V)) }
+    {
+        let whole = self.rows.as_slice();
+        let rows = resized_rows(alloc, whole, end_of(&self.members, whole.len()))?;
+        Ok(DepGraph {
+            members: self.members.resized(),
+            rows,
+        })
+    }
 }
 
 // The least place that is free, where the members have places below `used`.
@@ -245,4 +260,16 @@ fn free_place<const W: usize>(members: &Bits<W>, used: usize) -> usize
     ensures within { result ≤ used }
 {
     Bits::first_n(used).minus(members).least().unwrap_or(used)
+}
+
+// The place behind the last one of a set whose places are below `most`, or 0 where it has none.
+fn end_of<const W: usize>(set: &Bits<W>, most: usize) -> usize
+    requires { IsWithin most set.now }
+    ensures all { IsWithin result set.now }
+    ensures least { (n : ℕ) → IsWithin n set.now → result ≤ n }
+{
+    match set.greatest() {
+        None => 0,
+        Some(last) => last + 1,
+    }
 }

@@ -3,13 +3,14 @@ ghost use Rattle.std.specs.Prelude.{◌≡◌, ◌+◌, ◌*◌, ◌<◌, ◌≤
 ghost use Rattle.std.specs.FinSet as set;
 ghost use Rattle.bitset.specs.Places.{IsWithin, places};
 ghost use Rattle.smallvec.specs.SmallVec.{small_vec_len, HasRoomFor};
-ghost use Rattle.dep_graph.specs.Changes.{ChangesAt, CopiesRows, PutsAt, gives_ancestors, gives_descendants, takes_ancestor, takes_descendant};
+ghost use Rattle.dep_graph.specs.Changes.{AreResized, ChangesAt, CopiesRows, PutsAt, gives_ancestors, gives_descendants, takes_ancestor, takes_descendant};
 
 use crate::numbering::number_anew;
 use bitset::Bits;
 use fee_rate::FeeRate;
 use outside::NoMemory;
 use smallvec::SmallVec;
+use std::alloc::Global;
 
 /// What is kept of a member.
 #[derive(Clone, Copy)]
@@ -120,4 +121,25 @@ pub(crate) fn copy_rows<const W: usize>(rows: &mut Rows<W>, from: &[Row<W>], wit
         });
     }
     number_anew(rows.as_mut_slice(), first, within);
+}
+
+/// The first of these rows, with sets of V words, which keep the places that they have room for.
+pub(crate) fn resized_rows<const W: usize, const V: usize>(
+    alloc: Global,
+    from: &[Row<W>],
+    count: usize,
+) -> Result<Rows<V>, NoMemory>
+    requires { count ≤ length from.now }
+    ensures { IfOk result (λ rows. AreResized V count from.now rows.items) }
+{
+    let mut rows = SmallVec::with_capacity(alloc, count)?;
+    for place in 0..count {
+        let row = from[place];
+        rows.push_reserved(Row {
+            rate: row.rate,
+            ancestors: row.ancestors.resized(),
+            descendants: row.descendants.resized(),
+        });
+    }
+    Ok(rows)
 }

@@ -127,13 +127,13 @@ pub fn minus(a: Sum, b: Sum) -> Sum
 }
 
 /// A fee, or the difference of two, times a size, exactly. Of sums over a whole level it is below 2^114 in absolute value, of
-/// sums over a cluster of at most 64 transactions below 2^86.
+/// sums over a cluster of at most 128 transactions below 2^88.
 pub fn product(fee: i128, size: u64) -> i128
     requires fee { unsigned_abs fee ≤ 2 * (MAX_FEE * MAX_TOTAL) }
     requires size { size ≤ MAX_SIZE * MAX_TOTAL }
     ensures product { result ≡ fee *ℤ pos size }
     ensures level { unsigned_abs result < 2 ^ 114 }
-    ensures cluster { unsigned_abs fee ≤ 2 * (MAX_FEE * 64) → size ≤ MAX_SIZE * 64 → unsigned_abs result < 2 ^ 86 }
+    ensures cluster { unsigned_abs fee ≤ 2 * (MAX_FEE * 128) → size ≤ MAX_SIZE * 128 → unsigned_abs result < 2 ^ 88 }
 {
     fee * i128::from(size)
 }

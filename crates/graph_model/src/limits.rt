@@ -9,7 +9,7 @@ use fee_rate::MAX_TOTAL;
 pub const MAX_COUNT: u64 = 128;
 
 /// The greatest total size of a cluster that may be set as a limit, in virtual bytes.
-pub const MAX_CLUSTER_SIZE: u64 = 256_000_000;
+pub const MAX_CLUSTER_SIZE: u64 = 512_000_000;
 
 /// The limits at the start.
 pub const DEFAULT_LIMITS: Limits = Limits {

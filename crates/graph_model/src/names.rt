@@ -7,7 +7,7 @@ use graphs::{IdList, TxId};
 pub struct Limits {
     /// The most names that a cluster may have: 1 to 64 for each word of the graph's sets.
     pub count: u64,
-    /// The greatest total size of a cluster, in virtual bytes: 1 to 256,000,000.
+    /// The greatest total size of a cluster, in virtual bytes: 1 to 512,000,000.
     pub size: u64,
     /// The most names that may be live, in main and staging together: 1 to 1,048,576.
     pub total: u64,

@@ -9,27 +9,21 @@ padded x m h = omega arith
 pub words_fit : (w : ℕ) → 64 * w < 2 ^ 32 → up 8 (0 + w * 8) < 2 ^ 63
 words_fit w narrow = let a = padded (0 + w * 8) (2 ^ 30) (omega arith) in omega arith
 
--- three sets, three lists and a queue
-pub scratch_fits : (w : ℕ) → 64 * w < 2 ^ 32
-    → up 8 (up 8 (0 + up 8 (up 8 (up 8 (up 8 (up 8 (up 8 (0 + up 8 (0 + w * 8)) + up 8 (0 + w * 8)) + up 8 (0 + w * 8)) + 24) + 24) + 24)) + 32) < 2 ^ 63
+-- a queue, three lists and three sets
+pub scratch_fits : (w : ℕ) → 64 * w < 2 ^ 32 → up 8 (32 + up 8 (up 8 (up 8 (72 + up 8 (0 + w * 8)) + up 8 (0 + w * 8)) + up 8 (0 + w * 8))) < 2 ^ 63
 scratch_fits w narrow =
     let words : ℕ = up 8 (0 + w * 8) in
-    let one : ℕ = up 8 (0 + words) in
+    let one : ℕ = up 8 (72 + words) in
     let two : ℕ = up 8 (one + words) in
     let three : ℕ = up 8 (two + words) in
-    let four : ℕ = up 8 (three + 24) in
-    let five : ℕ = up 8 (four + 24) in
-    let six : ℕ = up 8 (five + 24) in
-    bounded (w * 8) words one two three four five six (up 8 (0 + six)) (up 8 (up 8 (0 + six) + 32)) (omega arith)
-    (plain (0 + w * 8)) (plain (0 + words)) (plain (one + words)) (plain (two + words)) (plain (three + 24)) (plain (four + 24)) (plain (five + 24))
-    (plain (0 + six)) (plain (up 8 (0 + six) + 32))
+    bounded (w * 8) words one two three (up 8 (32 + three)) (omega arith)
+    (plain (0 + w * 8)) (plain (72 + words)) (plain (one + words)) (plain (two + words)) (plain (32 + three))
   where
     plain : (x : ℕ) → up 8 x ≤ x + 8
     plain x = omega arith
 
-    bounded : (x a b c d e f g h k : ℕ) → x ≤ 2 ^ 30 → a ≤ 0 + x + 8 → b ≤ 0 + a + 8 → c ≤ b + a + 8 → d ≤ c + a + 8 → e ≤ d + 24 + 8
-        → f ≤ e + 24 + 8 → g ≤ f + 24 + 8 → h ≤ 0 + g + 8 → k ≤ h + 32 + 8 → k < 2 ^ 63
-    bounded x a b c d e f g h k small ha hb hc hd he hf hg hh hk = omega arith
+    bounded : (x a b c d e : ℕ) → x ≤ 2 ^ 30 → a ≤ 0 + x + 8 → b ≤ 72 + a + 8 → c ≤ b + a + 8 → d ≤ c + a + 8 → e ≤ 32 + d + 8 → e < 2 ^ 63
+    bounded x a b c d e small ha hb hc hd he = omega arith
 
 pub offset_fits : (w place : ℕ) → 64 * w < 2 ^ 32 → place < 64 * w → place * up 8 (0 + w * 8) < 2 ^ 64
 offset_fits w place narrow inside =

@@ -20,7 +20,7 @@ use outside::{Failed, Sink, Source};
 /// Answers the lines of a source from the start, and tells how reading ended. Replies go out before each read, when their
 /// room is full, and at the end. The first write that fails ends it with `Failed`.
 pub(crate) fn answer_lines<S: Source, K: Sink>(
-    session: &mut Session<1>,
+    session: &mut Session<2>,
     lines: &mut Lines,
     replies: &mut Replies,
     source: &mut S,

@@ -33,7 +33,7 @@ pub(crate) fn write_generated<K: Sink>(alloc: Global, seed: u64, count: u64, sin
     ensures faults { (reads : ℕ) → StatusFaults result reads reads (K.faults sink.old) (K.faults sink.new) }
     ensures told { (result ≡ Status.Done) ⊎ ((result ≡ Status.WriteFault) ⊎ ((result ≡ Status.NoMemory) × (sink.new ≡ sink.old))) }
 {
-    let Ok(mut session) = Session::<1>::new(alloc) else {
+    let Ok(mut session) = Session::<2>::new(alloc) else {
         return Status::NoMemory;
     };
     let tally = play(&mut session, seed, count);
@@ -46,7 +46,7 @@ pub(crate) fn write_generated<K: Sink>(alloc: Global, seed: u64, count: u64, sin
 }
 
 /// Answers the commands in a session that is fresh, and counts the answers.
-fn play(session: &mut Session<1>, seed: u64, count: u64) -> Tally
+fn play(session: &mut Session<2>, seed: u64, count: u64) -> Tally
     requires fresh { StandsFor session.old (start MOST_NAMES) }
     requires none_added { session.old.levels.issued ≡ 0 }
     requires seed { seed < 2 ^ 31 }
@@ -66,7 +66,7 @@ fn play(session: &mut Session<1>, seed: u64, count: u64) -> Tally
 }
 
 /// Answers one command, whose reply goes nowhere.
-fn obey(session: &mut Session<1>, line: Line) -> Outcome
+fn obey(session: &mut Session<2>, line: Line) -> Outcome
     requires few { session.old.levels.issued < 2 ^ 64 - 1 }
     requires not_mine { line ≢ Line.Mine }
     ensures step { (command : Command) → meaning_of line [] ≡ Says command

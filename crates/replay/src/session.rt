@@ -16,8 +16,8 @@ use std::marker::Model;
 use tx_graph::TxGraph;
 use wire::Line;
 
-/// The most names that the program can allow a cluster: 64 for each word of its graph's sets, which have one.
-pub const MOST_NAMES: u64 = 64;
+/// The most names that the program can allow a cluster: 64 for each of the two words of its graph's sets.
+pub const MOST_NAMES: u64 = 128;
 
 /// How many names a line may list.
 const MAX_NAMES: usize = 32_766;

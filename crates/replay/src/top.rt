@@ -102,7 +102,7 @@ fn replay_lines<S: Source, K: Sink>(alloc: Global, source: &mut S, sink: &mut K)
     let Ok(mut replies) = Replies::new(alloc) else {
         return Status::NoMemory;
     };
-    let Ok(mut session) = Session::<1>::new(alloc) else {
+    let Ok(mut session) = Session::<2>::new(alloc) else {
         return Status::NoMemory;
     };
     let status = replay_in(&mut session, &mut lines, &mut replies, source, sink);
@@ -112,7 +112,7 @@ fn replay_lines<S: Source, K: Sink>(alloc: Global, source: &mut S, sink: &mut K)
 
 /// The same in a session, lines and replies that are fresh.
 fn replay_in<S: Source, K: Sink>(
-    session: &mut Session<1>,
+    session: &mut Session<2>,
     lines: &mut Lines,
     replies: &mut Replies,
     source: &mut S,

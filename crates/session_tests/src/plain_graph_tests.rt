@@ -237,14 +237,14 @@ fn names_of_a_pair(rt: HostRuntime) -> Result<(), Fail> {
 
 const LIMITS: [Row; 9] = [
     Row::Refuses(Call::Limits(0, 1, 1), Refusal::Range),
-    Row::Refuses(Call::Limits(65, 1, 1), Refusal::Range),
+    Row::Refuses(Call::Limits(129, 1, 1), Refusal::Range),
     Row::Refuses(Call::Limits(1, 0, 1), Refusal::Range),
-    Row::Refuses(Call::Limits(1, 256_000_001, 1), Refusal::Range),
+    Row::Refuses(Call::Limits(1, 512_000_001, 1), Refusal::Range),
     Row::Refuses(Call::Limits(1, 1, 0), Refusal::Range),
     Row::Refuses(Call::Limits(1, 1, 1_048_577), Refusal::Range),
-    Row::Does(Call::Limits(64, 256_000_000, 1_048_576)),
+    Row::Does(Call::Limits(128, 512_000_000, 1_048_576)),
     Row::Refuses(Call::Limits(1, 1, 1), Refusal::Late),
-    Row::Refuses(Call::Limits(65, 1, 1), Refusal::Late),
+    Row::Refuses(Call::Limits(129, 1, 1), Refusal::Late),
 ];
 
 #[test]

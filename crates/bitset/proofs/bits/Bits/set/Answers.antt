@@ -1,4 +1,4 @@
-use Rattle.std.proofs.Common.{rules, ◌≡◌, ◌<◌, ◌*◌, ◌/◌, length, cond, ap, refl, ◌∙◌, arith}
+use Rattle.std.proofs.Common.{rules, ◌<◌, ◌*◌, ◌/◌, length, cond, ap, refl, ◌∙◌, arith}
 use Rattle.std.proofs.lemmas.Nat.{or_lt}
 use Rattle.std.specs.FinSet as fin
 use Rattle.bitset.proofs.Operations.{bit_is, written_here, written_other, AreWords-set}
